@@ -2,7 +2,6 @@
 -- Invalid (which text), too large (actual, maximum), admission). A host gets a cause as these three numbers; 0 is no cause.
 use Prim.Native.Nat.{ℕ}
 use mathlib.Core.Bool.{Bool, true, false}
-use Rattle.hns_encoding.specs.declared.decoder.DecodeError.{DecodeError}
 use Rattle.hns_encoding.specs.declared.decoder.DecodeError.the-variants.{UnexpectedEnd, TrailingBytes}
 use Rattle.hnsr_body.specs.declared.error.HnsrInvalid.{HnsrInvalid}
 use Rattle.hnsr_body.specs.declared.error.HnsrInvalid.the-variants.{ContextZero, OpenParameters, IncomingParameters, AcceptResponse, CircuitZero, DataSize, WindowCredit, DiagnosticDetail, NotUtf8}

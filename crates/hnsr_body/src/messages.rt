@@ -4,7 +4,7 @@ use crate::fields::put_bytes_at;
 use crate::fields::put_u8_at;
 use crate::fields::put_u16_at;
 ghost use mathlib.Core.Path.{_≡_};
-ghost use Rattle.hnsr_body.specs.Messages.{messageOf, noticeBody, noticeWritten};
+ghost use Rattle.hnsr_body.specs.Messages.{messageOf, noticeWritten};
 
 pub enum Notice {
     PeerDisconnected,

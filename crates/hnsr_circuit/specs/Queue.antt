@@ -14,7 +14,7 @@ use Rattle.hnsr_circuit.specs.declared.records.InflightTally.{InflightTa
 use Rattle.hnsr_circuit.specs.declared.answer.HnsrAnswer.{HnsrAnswer}
 use Rattle.hnsr_circuit.specs.declared.answer.HnsrAnswer.the-variants.{Taken, Refused}
 use Rattle.hnsr_circuit.specs.declared.answer.HnsrRuntimeError.the-variants.{Protocol, GenerationExhausted}
-use Rattle.hnsr_circuit.specs.Table.{any, put}
+use Rattle.hnsr_circuit.specs.Table.{put}
 use Rattle.hnsr_circuit.specs.Answers.{check, _then_}
 use Rattle.hnsr_circuit.specs.declared.records.InflightKind.{InflightKind}
 use Rattle.hnsr_circuit.specs.Inflight.{actionRecord, kindNumber, isAction, actionAt, tallied, capacityAnswer}

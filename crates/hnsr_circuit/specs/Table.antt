@@ -8,7 +8,7 @@
 --     edit p g           the record that the lookup of p finds, changed by g
 --     clear unmark p     the mark cleared of every record that has p, and nothing else
 --     next id p c        of the records with p above the cursor c the one with the least (id, place): a turn of a walk
-use Prim.Native.Nat.{ℕ, suc, _+_}
+use Prim.Native.Nat.{ℕ, suc}
 use mathlib.Core.Bool.{Bool, true, false, cond, not, _&&_, _||_}
 use mathlib.Core.List.{List, [], _∷_, map}
 use lib.Dec.{leb, ltb, eqb}

@@ -16,7 +16,7 @@ ghost use Rattle.hnsr_circuit.specs.Answers.{check, _then_};
 ghost use Rattle.hnsr_circuit.specs.Table.{edit};
 ghost use Rattle.hnsr_circuit.specs.Circuits.{circuitAt, lowered};
 ghost use Rattle.hnsr_circuit.specs.Inflight.{clearAction, kindOf, towardSide};
-ghost use Rattle.hnsr_circuit.specs.Entry.{acknowledgeWords, tooFew};
+ghost use Rattle.hnsr_circuit.specs.Entry.{acknowledgeWords};
 ghost use Rattle.hnsr_circuit.specs.Acknowledge.{generationAnswer, actionAnswer, failIncoming, acknowledgeAction, settled};
 ghost use Rattle.hnsr_circuit.specs.Queue.{send};
 ghost use Rattle.hnsr_circuit.specs.Code.Progress.{messageOf, ending, outcome};

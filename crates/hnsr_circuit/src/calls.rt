@@ -4,7 +4,6 @@ ghost use mathlib.Core.Bool.{cond, _||_};
 ghost use mathlib.Core.List.{List};
 ghost use Prim.Native.Nat.{ℕ};
 ghost use lib.Dec.{eqb};
-ghost use lib.ListN.{length};
 ghost use Rattle.hnsr_circuit.specs.Code.Held.{heldPending, heldCircuits, heldLedger, heldActions, worldSeen, handedSeen};
 ghost use Rattle.hnsr_circuit.specs.declared.records.RelayPending.{RelayPending};
 ghost use Rattle.hnsr_circuit.specs.declared.records.RelayCircuit.{RelayCircuit};
@@ -14,7 +13,6 @@ ghost use Rattle.hnsr_circuit.specs.declared.runtime.OpaqueRelayRuntime.
 ghost use Rattle.hnsr_circuit.specs.declared.answer.HnsrRuntimeError.the-variants.{Short};
 ghost use Rattle.hnsr_circuit.specs.Answers.{check, _then_};
 ghost use Rattle.hnsr_circuit.specs.Config.{validateConfig};
-ghost use Rattle.hnsr_circuit.specs.Entry.{tooFew};
 ghost use Rattle.hnsr_circuit.specs.New.{sessionAnswer};
 ghost use Rattle.hnsr_circuit.specs.Code.Told.{noStatus, statusTold, dueTold, Made};
 ghost use Rattle.hnsr_circuit.specs.Status.{statusFrom};

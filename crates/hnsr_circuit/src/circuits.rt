@@ -1,7 +1,7 @@
 // Circuits: what is asked of one, what is asked of one by side, and what becomes of one.
 ghost use mathlib.Core.Path.{_≡_};
 ghost use Prim.Native.Nat.{_+_, _-_, _<_};
-ghost use Rattle.hnsr_circuit.specs.Circuits.{noCircuit, clearCircuit, charged, raised, lowered, isCircuit, circuitAt, isSide, circuitOf, circuitUnder, circuitOver, sideOf, otherSide, peerAt, creditOf, queuedTo, queuedBytes, queuedIn};
+ghost use Rattle.hnsr_circuit.specs.Circuits.{noCircuit, clearCircuit, charged, raised, lowered, isCircuit, circuitAt, isSide, circuitOf, circuitUnder, circuitOver, sideOf, otherSide, peerAt, creditOf, queuedTo, queuedIn};
 ghost use Rattle.hnsr_circuit.specs.Packet.{receiver};
 use crate::ledger::same_reservation;
 use crate::peer::HnsrPeerId;

@@ -2,7 +2,7 @@
 ghost use mathlib.Core.Path.{_≡_};
 ghost use Rattle.hnsr_circuit.specs.Header.{countOpen, countAccept, countBytes, countRevoked, withClock, withSequence, withCounters, withEnabled, newHeader, noHeader, noCounts};
 ghost use mathlib.Core.Bool.{cond, true};
-ghost use Prim.Native.Nat.{_+_, _<_};
+ghost use Prim.Native.Nat.{_<_};
 use crate::config::OpaqueRelayConfig;
 use crate::runtime::OpaqueRelayRuntime;
 use crate::runtime::RuntimeCounters;

@@ -1,7 +1,7 @@
 -- Numbers to base 256, over the width: a number is the sum of its bytes, each byte of a number, how large a number of so many bytes is,
 -- and that reading and writing undo one another.
 use Prim.Native.Nat.{ℕ, zero, suc, _+_, _*_, _/_, _%_, _^_, _<_, _≤_}
-use native.Mathlib.Nat.{pow-suc, pow-succ', pow-zero, pow-le-pow-right, one-le-pow, mul-le-mul-right, mul-comm, mul-assoc, add-mul, mul-add, add-assoc, mul-one, zero-mul, zero-add, div-one, div-div-eq-div-mul, zero-div, mod-one, mod-eq-of-lt, lt-of-lt-of-le, le-of-suc-le-suc, not-suc-le-zero}
+use native.Mathlib.Nat.{pow-suc, pow-succ', pow-zero, pow-le-pow-right, one-le-pow, mul-le-mul-right, mul-comm, mul-assoc, add-mul, mul-add, zero-mul, div-one, div-div-eq-div-mul, zero-div, mod-one, mod-eq-of-lt, lt-of-lt-of-le, le-of-suc-le-suc, not-suc-le-zero}
 use native.Mathlib.Numerals.{add-one}
 use native.Mathlib.Omega.{arith}
 use mathlib.Core.Path.{_≡_, refl, sym, _∙_, ap, ap₂}

@@ -1,21 +1,20 @@
 -- Reading undoes writing, for every width, position and buffer: what the decoder reads where the encoder wrote.
 use Prim.Native.Nat.{ℕ, _+_, _≤_, _<_, _^_}
 use native.Mathlib.Omega.{arith}
-use mathlib.Core.Path.{_≡_, refl, sym, _∙_, ap, ap₂}
+use mathlib.Core.Path.{_≡_, sym, _∙_, ap, ap₂}
 use mathlib.Core.Bool.{true}
-use mathlib.Core.List.{List, [], _∷_}
-use lib.ListN.{length, getD, take, drop}
-use lib.Dec.{lit<}
+use mathlib.Core.List.{List}
+use lib.ListN.{length, getD}
 use borrow.Author.Tests.{le-leb}
 use Rattle.hns_encoding.specs.declared.decoder.Decoder.{Decoder}
 use Rattle.hns_encoding.specs.declared.decoder.DecodeError.{DecodeError}
-use Rattle.hns_encoding.specs.Bytes.{Below, le, leBytes, be, beBytes}
-use Rattle.hns_encoding.specs.Words.{words, bytesOf, highLow, fromHighLow}
+use Rattle.hns_encoding.specs.Bytes.{le, leBytes, be, beBytes}
+use Rattle.hns_encoding.specs.Words.{highLow, fromHighLow}
 use Rattle.hns_encoding.specs.Cursor.{within, field, writtenAt, written, reads, readsLe, readsBe, readsHighLow, unexpectedEnd}
 use Rattle.hns_encoding.specs.Laws.Tests.{on-true}
 use Rattle.hns_encoding.specs.Laws.Lists.{field-written, written-length}
 use Rattle.hns_encoding.specs.Laws.Bytes.{leBytes-length, le-again, beBytes-length, be-again}
-use Rattle.hns_encoding.specs.Laws.Words.{words-again, high-low-again}
+use Rattle.hns_encoding.specs.Laws.Words.{high-low-again}
 
 -- whatever was written is the field that is read
 pub reads-written : {R : Type 0} (ok : List ℕ → Decoder → R) (err : DecodeError → R) (xs : List ℕ) (position : ℕ) (ys : List ℕ) → position + length ys ≤ length xs

@@ -6,7 +6,7 @@ use mathlib.Core.Path.{_≡_, refl}
 use mathlib.Core.Bool.{Bool}
 use mathlib.Core.List.{List, [], _∷_, _++_, map}
 use lib.ListN.{length, getD, set}
-use Rattle.hns_encoding.specs.Sums.{only, one, non, total, count}
+use Rattle.hns_encoding.specs.Sums.{only, non, total, count}
 use Rattle.hns_encoding.specs.Laws.Tests.{split}
 
 module _ {A : Type 0} where

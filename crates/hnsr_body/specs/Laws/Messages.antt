@@ -8,7 +8,6 @@ use lib.ListN.{length}
 use Rattle.hns_encoding.specs.Bytes.{leBytes, padded}
 use Rattle.hnsr_body.specs.declared.messages.Notice.{Notice}
 use Rattle.hnsr_body.specs.declared.messages.Notice.the-variants.{PeerDisconnected, ReservationRevoked, AcceptanceExpired, TicketExpired, RelayDisabled, EndpointWriteFailed, OuterWriteFailed}
-use Rattle.hnsr_body.specs.declared.messages.NoticeWritten.{NoticeWritten}
 use Rattle.hnsr_body.specs.Utf8.{utf8, utf8-1, utf8-2, utf8-3, utf8-4}
 use Rattle.hnsr_body.specs.Detail.{detailBytes, mostDetail}
 use Rattle.hnsr_body.specs.Messages.{detail, messageOf, noticeBody, noticeWritten}

@@ -1,6 +1,6 @@
 -- Encodings are what the ABNF accepts: each line of it has the ranges of its code points, by linear arithmetic with / and %, and texts go by the definition's clauses.
 
-use Prim.Native.Nat.{ℕ, _+_, _-_, _*_, _/_, _%_, _≤_, _<_}
+use Prim.Native.Nat.{ℕ, _+_, _-_, _*_, _/_, _≤_, _<_}
 use mathlib.Core.Path.{_≡_, refl, ap₂, subst⁻¹, _∙_}
 use mathlib.Core.Bool.{true, _&&_, _||_, false≢true}
 use mathlib.Core.List.{List, [], _∷_, _++_}

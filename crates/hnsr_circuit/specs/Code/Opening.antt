@@ -1,5 +1,5 @@
 -- What the code of ACCEPT and OPEN asks, gathers and decides before it writes.
-use Prim.Native.Nat.{ℕ, _+_, _-_}
+use Prim.Native.Nat.{ℕ, _+_}
 use mathlib.Core.Bool.{Bool, true, false, cond, _||_}
 use mathlib.Core.List.{List}
 use lib.Dec.{ltb, leb}

@@ -1,15 +1,12 @@
 -- What a revoking call hands its walks, and the messages by which the code ends a record.
 use Prim.Native.Nat.{ℕ}
-use mathlib.Core.Bool.{Bool, true, false, cond, not, _&&_}
-use mathlib.Core.List.{List}
-use Rattle.hnsr_body.specs.declared.messages.Notice.{Notice}
+use mathlib.Core.Bool.{Bool, true, cond}
 use Rattle.hnsr_body.specs.declared.messages.Notice.the-variants.{PeerDisconnected}
 use Rattle.hnsr_circuit.specs.declared.peer.HnsrPeerId.{HnsrPeerId}
 use Rattle.hnsr_circuit.specs.declared.records.RelayPending.{RelayPending}
 use Rattle.hnsr_circuit.specs.declared.records.RelayCircuit.{RelayCircuit}
 use Rattle.hnsr_circuit.specs.declared.records.Outgoing.{Outgoing}
 use Rattle.hnsr_circuit.specs.Code.Message.{closeOn}
-use Rattle.hnsr_circuit.specs.declared.records.Question.{Question}
 use Rattle.hnsr_circuit.specs.declared.revocation.Revoking.{Revoking}
 use Rattle.hnsr_circuit.specs.declared.runtime.OpaqueRelayRuntime.{OpaqueRelayRuntime}
 use Rattle.hnsr_circuit.specs.Peer.{samePeer}

@@ -15,7 +15,7 @@ use Rattle.hnsr_circuit.specs.declared.runtime.Relayed.{Relayed}
 use Rattle.hnsr_circuit.specs.Answers.{taken}
 use Rattle.hnsr_circuit.specs.Header.{noHeader}
 use Rattle.hnsr_circuit.specs.Code.Held.{noPlace, everyPlace}
-use Rattle.hnsr_circuit.specs.World.{World, Told, silent, statusIs, dueIs, Outcome, worldOf}
+use Rattle.hnsr_circuit.specs.World.{Told, silent, statusIs, dueIs, Outcome, worldOf}
 
 -- a refusal tells nothing: zeros, and never
 abbrev pub noStatus : HnsrRuntimeStatus

@@ -22,7 +22,7 @@ use Rattle.hnsr_circuit.specs.Pending.{noPending, pendingAt, clearPendin
 use Rattle.hnsr_circuit.specs.Circuits.{circuitAt, lowered}
 use Rattle.hnsr_circuit.specs.Inflight.{noAction, actionAt, clearAction, kindOf, towardSide}
 use Rattle.hnsr_circuit.specs.World.{World, Outcome, done, worldOf}
-use Rattle.hnsr_circuit.specs.Queue.{Message, finished, send}
+use Rattle.hnsr_circuit.specs.Queue.{finished, send}
 use Rattle.hnsr_circuit.specs.Code.Progress.{messageOf, filledTo, placed, result, handedBack, ending}
 use Rattle.hnsr_circuit.specs.Revocation.{withoutPending, errorToRequester, revokeCircuit}
 use Rattle.hnsr_circuit.specs.Acknowledge.{lowerFor, released, failPending, failIncoming, undelivered, settled, acknowledgeAction}

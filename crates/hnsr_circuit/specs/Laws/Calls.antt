@@ -2,7 +2,7 @@
 use Prim.Native.Nat.{ℕ, _+_, _*_, _/_, _≤_, min}
 use native.Mathlib.Omega.{arith}
 use mathlib.Core.Path.{_≡_, refl, sym, ap, _∙_}
-use mathlib.Core.Bool.{Bool, true, false, true≢false, false≢true}
+use mathlib.Core.Bool.{true, false, true≢false, false≢true}
 use mathlib.Core.List.{List}
 use lib.Dec.{ltb}
 use lib.ListN.{length}
@@ -20,7 +20,7 @@ use Rattle.hnsr_circuit.specs.declared.answer.HnsrAnswer.{HnsrAnswer}
 use Rattle.hnsr_circuit.specs.declared.answer.HnsrAnswer.the-variants.{Taken, Refused}
 use Rattle.hnsr_circuit.specs.Answers.{taken}
 use Rattle.hnsr_circuit.specs.World.{World, Outcome, proceed, worldOf}
-use Rattle.hnsr_circuit.specs.Code.Progress.{filledTo, placed, Progress, progress, underway, Result, result, handedBack, ending, outcome}
+use Rattle.hnsr_circuit.specs.Code.Progress.{filledTo, placed, Progress, progress, underway, result, handedBack, ending, outcome}
 use Rattle.hnsr_circuit.specs.Entry.{closingWords}
 use Rattle.hnsr_circuit.specs.Call.{Call, step}
 use Rattle.hnsr_circuit.specs.Laws.StepRoom.{roomOf, routes-fit}

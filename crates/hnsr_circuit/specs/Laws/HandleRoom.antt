@@ -4,15 +4,12 @@ use native.Mathlib.Omega.{arith}
 use mathlib.Core.Path.{_≡_, refl, ap}
 use mathlib.Core.Bool.{Bool, true, false, cond}
 use mathlib.Core.List.{[]}
-use lib.Dec.{eqb}
 use lib.ListN.{length}
 use Rattle.hnsr_body.specs.Data.{mostData}
-use Rattle.hnsr_body.specs.Detail.{decodeDetail}
 use Rattle.hnsr_circuit.specs.declared.records.RelayPending.{RelayPending}
 use Rattle.hnsr_circuit.specs.declared.answer.HnsrAnswer.{HnsrAnswer}
 use Rattle.hnsr_circuit.specs.declared.answer.HnsrAnswer.the-variants.{Taken, Refused}
 use Rattle.hnsr_circuit.specs.Table.{any, pick}
-use Rattle.hnsr_circuit.specs.Answers.{bodyAnswer}
 use Rattle.hnsr_circuit.specs.Laws.Answers.{then-taken}
 use Rattle.hnsr_circuit.specs.Peer.{samePeer}
 use Rattle.hnsr_circuit.specs.Pending.{noPending, namedBy}
@@ -21,7 +18,6 @@ use Rattle.hns_encoding.specs.Words.{wordCount}
 use Rattle.hnsr_circuit.specs.Route.{headWords, outWords}
 use Rattle.hnsr_circuit.specs.World.{World, Outcome, done, proceed}
 use Rattle.hnsr_circuit.specs.Queue.{Message, message, routed, canQueue, send}
-use Rattle.hnsr_circuit.specs.Opcode.{opClose}
 use Rattle.hnsr_circuit.specs.Entry.{handleWords}
 use Rattle.hnsr_circuit.specs.Packet.{Packet, sender, namedCircuit}
 use Rattle.hnsr_circuit.specs.Open.{incomingMessage, openBooked, openGranted, openLapsed, handleOpen}

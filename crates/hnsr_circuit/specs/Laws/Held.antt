@@ -1,19 +1,19 @@
 -- Laws of `held`, over any record type with a used mark: what stands where, the loops that stop at the number, stores, and the number itself
 -- raised by a store and lowered past unused places.
-use Prim.Native.Nat.{ℕ, zero, suc, _+_, _-_, _≤_, _<_, min, max}
+use Prim.Native.Nat.{ℕ, zero, suc, _+_, _-_, _≤_, _<_, min}
 use native.Mathlib.Nat.{not-suc-le-zero, le-of-suc-le-suc}
 use native.Mathlib.Numerals.{add-one}
 use native.Mathlib.Omega.{arith}
 use mathlib.Core.Path.{_≡_, refl, sym, ap, _∙_}
-use mathlib.Core.Bool.{Bool, true, false, cond, not, _&&_, _||_, true≢false, false≢true}
+use mathlib.Core.Bool.{Bool, true, false, cond, _||_}
 use mathlib.Core.List.{List, [], _∷_, _++_, map}
 use lib.Dec.{leb, ltb}
-use borrow.Author.Tests.{ltb-true, ltb-false, leb-true, leb-false, lt-ltb, le-ltb, le-leb, lt-leb}
-use lib.ListN.{length, take, drop, getD, set, length-map, length-drop, take-append-drop, drop-of-length-le}
+use borrow.Author.Tests.{ltb-true, ltb-false, leb-true, leb-false}
+use lib.ListN.{length, take, drop, getD, set, length-drop, take-append-drop}
 use Rattle.hns_encoding.specs.Laws.Tests.{split}
 use Rattle.hns_encoding.specs.Loops.{foldFrom, fold-step}
 use Rattle.hns_encoding.specs.Sums.{one, non, total, count}
-use Rattle.hnsr_circuit.specs.Table.{any, placeOf, pick, put, edit, cleared, clear, nextTurn, next, notYet}
+use Rattle.hnsr_circuit.specs.Table.{any, placeOf, pick, cleared, clear, nextTurn}
 use Rattle.hnsr_circuit.specs.declared.records.Walked.{Walked}
 use Rattle.hnsr_circuit.specs.Code.Held.{held, raisedTo}
 use Rattle.hnsr_circuit.specs.Laws.Scans.{set-past, find-next, find-here, count-next, clear-step}

@@ -16,7 +16,7 @@ use Rattle.hns_encoding.specs.Laws.Tests.{split, choose}
 use Rattle.hns_encoding.specs.Loops.{foldFrom}
 use Rattle.hnsr_circuit.specs.Code.Turns.{noTally, tallyTurn}
 use Rattle.hnsr_circuit.specs.Laws.Folds.{fold-count}
-use Rattle.hns_encoding.specs.Sums.{one, total, count}
+use Rattle.hns_encoding.specs.Sums.{one, count}
 use Rattle.hnsr_circuit.specs.Table.{also, cleared}
 use Rattle.hns_encoding.specs.Laws.Sums.{total-ext, total-map}
 use Rattle.hnsr_circuit.specs.Peer.{samePeer}

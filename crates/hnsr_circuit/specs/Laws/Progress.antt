@@ -3,8 +3,8 @@ use Prim.Native.Nat.{ℕ, _+_, _≤_}
 use native.Mathlib.Omega.{arith}
 use native.Mathlib.Nat.{zero-add}
 use mathlib.Core.Path.{_≡_, refl, sym, ap, ap₂, _∙_}
-use mathlib.Core.Bool.{Bool, true, false}
-use mathlib.Core.List.{List, [], _∷_, _++_, append-assoc, append-nil}
+use mathlib.Core.Bool.{true}
+use mathlib.Core.List.{List, [], _∷_, _++_, append-nil}
 use lib.ListN.{length, length-append, take, drop, take-append-drop}
 use borrow.Author.Tests.{le-leb}
 use Rattle.hns_encoding.specs.Numbers.{top, saturatingAdd}
@@ -13,8 +13,8 @@ use Rattle.hns_encoding.specs.Laws.Tests.{on-true}
 use Rattle.hns_encoding.specs.Laws.Lists.{written-behind, written-length}
 use Rattle.hnsr_circuit.specs.Route.{Route, routeWords, outWords, output}
 use Rattle.hnsr_circuit.specs.World.{World, Outcome}
-use Rattle.hnsr_circuit.specs.Queue.{Sent, andThen, when, silently}
-use Rattle.hnsr_circuit.specs.Code.Progress.{filledTo, placed, Progress, progress, advanced, advance, Result, ending, outcome}
+use Rattle.hnsr_circuit.specs.Queue.{Sent, andThen}
+use Rattle.hnsr_circuit.specs.Code.Progress.{filledTo, placed, Progress, advanced, advance, ending, outcome}
 
 -- ---- one part after the other
 filled-append : (at : ℕ) (rs ss : List Route) → filledTo at (rs ++ ss) ≡ filledTo (filledTo at rs) ss

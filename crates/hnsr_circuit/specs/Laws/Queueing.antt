@@ -2,7 +2,7 @@
 -- what was answered before it, or refuses it, leaves everything as it was.
 use Prim.Native.Nat.{ℕ, _+_}
 use mathlib.Core.Path.{_≡_, refl, sym, ap, ap₂, _∙_}
-use mathlib.Core.Bool.{Bool, true, false, cond, true≢false, false≢true}
+use mathlib.Core.Bool.{Bool, true, false, cond, false≢true}
 use mathlib.Core.List.{List, [], _∷_}
 use lib.Dec.{eqb}
 use lib.ListN.{length, set}
@@ -32,9 +32,9 @@ use Rattle.hnsr_circuit.specs.Answers.{check, taken, _then_}
 use Rattle.hnsr_circuit.specs.Header.{withSequence}
 use Rattle.hnsr_circuit.specs.Route.{routeWords, headWords}
 use Rattle.hnsr_circuit.specs.World.{proceed, done, worldOf}
-use Rattle.hnsr_circuit.specs.Queue.{queueAnswer, actionFor, routeFor, routed, canQueue, queued, send, when, tellIf, tell, silently}
+use Rattle.hnsr_circuit.specs.Queue.{queueAnswer, routeFor, routed, canQueue, queued, send, when, tellIf, tell}
 use Rattle.hnsr_circuit.specs.Code.Turns.{actionsScanned}
-use Rattle.hnsr_circuit.specs.Code.Progress.{messageOf, asking, scanPlace, filledTo, placed, progress, advanced, advance, underway, result, handedBack, ending}
+use Rattle.hnsr_circuit.specs.Code.Progress.{messageOf, asking, filledTo, placed, progress, advanced, advance, underway, result, handedBack, ending}
 use Rattle.hnsr_circuit.specs.Code.Queueing.{Queueing}
 use Rattle.hnsr_circuit.specs.Laws.Answers.{check-taken, then-taken}
 use Rattle.hnsr_circuit.specs.Laws.Route.{route-words, length-words}

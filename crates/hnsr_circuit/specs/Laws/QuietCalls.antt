@@ -3,7 +3,6 @@ use Prim.Native.Nat.{ℕ}
 use mathlib.Core.Path.{_≡_, refl, sym, ap, _∙_, subst}
 use mathlib.Core.Bool.{Bool, true, false, true≢false, false≢true, cond}
 use mathlib.Core.List.{List, []}
-use Rattle.hnsr_circuit.specs.declared.config.OpaqueRelayConfig.{OpaqueRelayConfig}
 use Rattle.hnsr_circuit.specs.declared.records.RelayPending.{RelayPending}
 use Rattle.hnsr_circuit.specs.declared.records.RelayCircuit.{RelayCircuit}
 use Rattle.hnsr_circuit.specs.declared.records.ReservationUsage.{ReservationUsage}
@@ -12,8 +11,6 @@ use Rattle.hnsr_circuit.specs.declared.records.NextDue.{NextDue}
 use Rattle.hnsr_circuit.specs.declared.records.NextDue.the-variants.{Never}
 use Rattle.hnsr_circuit.specs.declared.runtime.OpaqueRelayRuntime.{OpaqueRelayRuntime}
 use Rattle.hnsr_circuit.specs.declared.runtime.HnsrRuntimeStatus.{HnsrRuntimeStatus}
-use Rattle.hnsr_circuit.specs.declared.runtime.StatusTold.{StatusTold}
-use Rattle.hnsr_circuit.specs.declared.runtime.DueTold.{DueTold}
 use Rattle.hnsr_circuit.specs.declared.runtime.Relayed.{Relayed}
 use Rattle.hnsr_circuit.specs.declared.answer.HnsrAnswer.{HnsrAnswer}
 use Rattle.hnsr_circuit.specs.declared.answer.HnsrAnswer.the-variants.{Taken, Refused}
@@ -27,7 +24,7 @@ use Rattle.hnsr_circuit.specs.Inflight.{isAction, clearAction, dropped}
 use Rattle.hnsr_circuit.specs.Header.{withClock, noHeader}
 use Rattle.hnsr_circuit.specs.Code.Held.{noPlace, everyPlace}
 use Rattle.hnsr_circuit.specs.Route.{outWords, output}
-use Rattle.hnsr_circuit.specs.World.{World, statusIs, dueIs, Outcome, done, proceed, telling, atTime, worldOf}
+use Rattle.hnsr_circuit.specs.World.{World, statusIs, dueIs, done, proceed, telling, atTime, worldOf}
 use Rattle.hnsr_circuit.specs.New.{emptied}
 use Rattle.hnsr_circuit.specs.Code.Progress.{result, handedBack, outcome}
 use Rattle.hnsr_circuit.specs.Code.Told.{noStatus, statusTold, dueTold, Made}

@@ -1,7 +1,7 @@
 -- What the code does for a revoking call that is not refused is the definition's.
 use Prim.Native.Nat.{ℕ, _≤_, _<_}
 use native.Mathlib.Omega.{arith}
-use mathlib.Core.Path.{_≡_, refl, sym, ap, _∙_}
+use mathlib.Core.Path.{_≡_, sym, ap, _∙_}
 use mathlib.Core.Bool.{Bool, true, false, cond, not, _&&_, Bool·beq}
 use mathlib.Core.List.{List, []}
 use lib.ListN.{length}
@@ -18,7 +18,7 @@ use Rattle.hnsr_circuit.specs.Answers.{taken, _then_}
 use Rattle.hnsr_circuit.specs.Table.{clear, edit}
 use Rattle.hnsr_circuit.specs.Peer.{peerOf}
 use Rattle.hnsr_circuit.specs.Inflight.{isAction, clearAction, dropped}
-use Rattle.hnsr_circuit.specs.World.{World, Outcome, done, worldOf}
+use Rattle.hnsr_circuit.specs.World.{Outcome, done, worldOf}
 use Rattle.hnsr_circuit.specs.Entry.{roomAnswer, revokingWords, peerAnswer, clockAnswer}
 use Rattle.hnsr_circuit.specs.Code.Question.{used, ofPeer, under, over, pendingAsked, circuitAsked, actionHas, actionAsked}
 use Rattle.hnsr_circuit.specs.Code.Progress.{filledTo, placed, result, handedBack, ending}

@@ -1,6 +1,6 @@
 -- How many words: a route is its head and its body's, the head is 40 for peers of 128 bytes, and what the calls ask for follows from that
 -- (document 01, "Output words"). No notice of the relay's own is longer than was reckoned with.
-use Prim.Native.Nat.{ℕ, zero, suc, _+_, _-_, _≤_, _<_}
+use Prim.Native.Nat.{ℕ, _+_, _-_, _≤_, _<_}
 use native.Mathlib.Omega.{arith}
 use borrow.Author.Tests.{le-leb}
 use Rattle.hns_encoding.specs.Cursor.{within, written, writtenAt}
@@ -8,9 +8,9 @@ use Rattle.hns_encoding.specs.Laws.Tests.{on-true, on-false}
 use Rattle.hns_encoding.specs.Laws.Lists.{written-behind, written-length}
 use mathlib.Core.Path.{_≡_, refl, sym, ap, _∙_}
 use mathlib.Core.Bool.{true, false}
-use mathlib.Core.List.{List, [], _∷_, _++_}
+use mathlib.Core.List.{List, _++_}
 use lib.Seq.{take-at}
-use lib.ListN.{length, take, replicate, length-append, length-take, length-drop, length-replicate}
+use lib.ListN.{length, take, replicate, length-append, length-drop}
 use Rattle.hns_encoding.specs.Bytes.{beBytes, leBytes, padded}
 use Rattle.hns_encoding.specs.Words.{words}
 use Rattle.hns_encoding.specs.Laws.Bytes.{beBytes-length}

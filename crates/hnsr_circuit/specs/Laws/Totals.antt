@@ -1,11 +1,10 @@
 -- Laws of totals and counts, over any record type: pointwise, split by a test, appended, mapped, kept, after `set`.
-use Prim.Native.Nat.{ℕ, zero, suc, _+_, _≤_, _<_}
-use native.Mathlib.Nat.{not-suc-le-zero, le-of-suc-le-suc}
+use Prim.Native.Nat.{ℕ, _≤_}
 use native.Mathlib.Omega.{arith}
 use mathlib.Core.Path.{_≡_, refl, ap}
 use mathlib.Core.Bool.{Bool, true, _&&_}
-use mathlib.Core.List.{List, [], _∷_, _++_, map}
-use lib.ListN.{length, getD, set}
+use mathlib.Core.List.{List, [], _∷_, _++_}
+use lib.ListN.{length}
 use Rattle.hns_encoding.specs.Laws.Tests.{split}
 use Rattle.hns_encoding.specs.Laws.Sums.{total-ext, total-le, total-split}
 use Rattle.hns_encoding.specs.Sums.{only, non, total, count}

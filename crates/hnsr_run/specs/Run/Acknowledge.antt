@@ -22,7 +22,7 @@ use Rattle.hnsr_circuit.specs.declared.records.InflightKind.the-variants.{Incom
 use Rattle.hnsr_circuit.specs.Inflight.{kindOf, noAction, actionAt, clearAction}
 use Rattle.hnsr_circuit.specs.Inflight.{towardSide as towardOf}
 use Rattle.hnsr_circuit.specs.World.{World, configOf}
-use Rattle.hnsr_circuit.specs.Queue.{queued, generationOf, sequenceOf}
+use Rattle.hnsr_circuit.specs.Queue.{generationOf, sequenceOf}
 use Rattle.hnsr_circuit.specs.Acknowledge.{withoutAction, lowerFor, released}
 use Rattle.hnsr_circuit.specs.Laws.Totals.{total-keep}
 use Rattle.hnsr_run.specs.Past.{Action, Past, peerOn, isData, numbered, towardSide, weight, without}

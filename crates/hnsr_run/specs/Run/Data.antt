@@ -19,7 +19,7 @@ use Rattle.hnsr_circuit.specs.declared.records.RelaySide.the-variants.{Requeste
 use Rattle.hnsr_circuit.specs.Table.{pick, edit}
 use Rattle.hnsr_circuit.specs.Peer.{samePeer}
 use Rattle.hnsr_circuit.specs.Circuits.{noCircuit, circuitAt, sideOf, otherSide, peerAt, creditOf, queuedTo, charged}
-use Rattle.hnsr_circuit.specs.Ledger.{usageOf, spent}
+use Rattle.hnsr_circuit.specs.Ledger.{usageOf}
 use Rattle.hnsr_circuit.specs.Inflight.{toEndpoint}
 use Rattle.hnsr_circuit.specs.World.{World, Outcome, configOf, done}
 use Rattle.hnsr_circuit.specs.Queue.{Message, actionFor, routeFor, generationOf, sequenceOf, queued, routed, send}

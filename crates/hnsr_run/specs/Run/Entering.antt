@@ -37,7 +37,7 @@ use Rattle.hnsr_circuit.specs.Laws.Peer.{same-names, names-same}
 use Rattle.hnsr_circuit.specs.Laws.Answers.{taken-then, taken-check}
 use Rattle.hnsr_run.specs.Past.{Known, Action, Past, peerOn, credit}
 use Rattle.hnsr_run.specs.Claim.{Sends}
-use Rattle.hnsr_run.specs.Run.Actions.{actions, inUse}
+use Rattle.hnsr_run.specs.Run.Actions.{inUse}
 use Rattle.hnsr_run.specs.Run.Circuits.{Agrees}
 use Rattle.hnsr_run.specs.Run.Limits.{limits}
 use Rattle.hnsr_run.specs.Run.Rel.{Rel, Places}

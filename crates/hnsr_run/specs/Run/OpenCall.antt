@@ -29,7 +29,6 @@ use Rattle.hnsr_circuit.specs.Draw.{undrawn, draws, idTaken, drawAll, drawn}
 use Rattle.hnsr_circuit.specs.declared.records.Drawing.{Drawing}
 use Rattle.hnsr_circuit.specs.Open.{deadlineFor, Opening, pendingFor, incomingMessage, withOpen, opening, openAdmitted, openPlaced, openBooked, openGranted, openLapsed, handleOpen}
 use Rattle.hnsr_circuit.specs.Laws.Answers.{check-taken}
-use Rattle.hnsr_circuit.specs.Laws.Marks.{room}
 use Rattle.hnsr_circuit.specs.Laws.Peer.{same-comm}
 use Rattle.hnsr_run.specs.Past.{Asked, Book, Past, heard, emit, stood, withBook, lives, remade}
 use Rattle.hnsr_run.specs.History.{taken, drawnIn, askedFor, openIn}
@@ -40,7 +39,7 @@ use Rattle.hnsr_run.specs.Run.Books.{lapse-books, lapsed-lives}
 use Rattle.hnsr_run.specs.Run.Booking.{lives-remade, Free, draw-free}
 use Rattle.hnsr_run.specs.Run.Open.{Admitted, admitted-rows, Placed, placed-rows, never-admitted, never-placed, stays, booked-rel}
 use Rattle.hnsr_run.specs.Run.Rel.{Live, Rel, Places, proceed-cases, if-not, not-taken, reledger}
-use Rattle.hnsr_run.specs.Run.Opening.{j, full, message, can, rel}
+use Rattle.hnsr_run.specs.Run.Opening.{j, message, can, rel}
 
 -- ---- the call
 check-number : (b : Bool) (x e : HnsrRuntimeError) → check b x ≡ Refused e → eqb (errorNumber e) (errorNumber x) ≡ true

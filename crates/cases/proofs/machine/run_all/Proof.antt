@@ -4,7 +4,6 @@ use Prim.Native.Nat.{_≤_, _-_}
 use mathlib.Core.Path.{_≡_}
 use lib.ListN.{length}
 use borrow.Author.Needs.{needs}
-use native.Mathlib.Omega.{arith}
 use Rattle.cases.proofs.machine.run_all.Statement.{statement}
 use Rattle.cases.proofs.machine.run_all.Proof.Tie as tie
 

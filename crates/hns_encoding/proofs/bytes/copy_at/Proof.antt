@@ -1,5 +1,6 @@
 -- `copy_at` meets its contract: the first `i` bytes of the field are written.
-use Prim.Native.Nat.{ℕ, _+_, _*_, _-_, _/_, _%_, _≤_, _<_, _^_}
+mod At
+use Prim.Native.Nat.{_+_, _-_, _≤_}
 use mathlib.Core.Path.{_≡_, refl, sym, _∙_}
 use lib.ListN.{length, getD, length-set}
 use lib.Seq.{paste}
@@ -9,6 +10,7 @@ use borrow.Author.Needs.{needs}
 use native.Mathlib.Omega.{arith}
 use Rattle.hns_encoding.proofs.bytes.copy_at.Statement.{statement}
 use Rattle.hns_encoding.proofs.bytes.copy_at.Tie as tie
+use Rattle.hns_encoding.proofs.bytes.copy_at.Proof.At as at
 
 abbrev Inv-loop : tie.InvT-loop
 Inv-loop out₀ at from start count i₀ out i = (i ≤ count) × (length out ≡ length out₀) × (out ≡ paste out₀ at (field from start count) i)
@@ -41,16 +43,16 @@ loop-less c = search needs
 
 loop-again : tie.Need-loop-again Inv-loop μ-loop
 loop-again c =
-    let l = c .before .before in
-    let a = l .before .args in
-    let i = l .loop .i in
+    let here = at.loop-again Inv-loop μ-loop c in
+    let a = here .start .args in
+    let i = here .loop .i in
     let ys = field (a .from .now) (a .start) (a .count) in (
       search needs,
-      length-set (l .loop .out) (a .at + i) (getD (a .from .now) (a .start + i) 0) ∙ l .loop .inv .1,
-      write-step (a .out .now) (a .at) ys (l .loop .out) i (getD (a .from .now) (a .start + i) 0) (omega arith)
+      length-set (here .loop .out) (a .at + i) (getD (a .from .now) (a .start + i) 0) ∙ here .loop .inv .1,
+      write-step (a .out .now) (a .at) ys (here .loop .out) i (getD (a .from .now) (a .start + i) 0) (omega arith)
           (omega (arith, field-length (a .from .now) (a .start) (a .count) (omega arith)))
           (sym (field-at (a .from .now) (a .start) (a .count) i (omega arith)))
-          (l .loop .inv .2),
+          (here .loop .inv .2),
     )
 
 same-length : tie.Need-same-length Inv-loop μ-loop
@@ -58,10 +60,10 @@ same-length c = search needs
 
 returns : tie.Need-returns Inv-loop μ-loop
 returns c =
-    let l = c .before in
-    let a = l .before .args in
-    l .loop .inv .2
-    ∙ write-done (a .out .now) (a .at) (field (a .from .now) (a .start) (a .count)) (l .loop .i)
+    let here = at.returns Inv-loop μ-loop c in
+    let a = here .start .args in
+    here .loop .inv .2
+    ∙ write-done (a .out .now) (a .at) (field (a .from .now) (a .start) (a .count)) (here .loop .i)
     (omega (arith, field-length (a .from .now) (a .start) (a .count) (omega arith)))
 
 pub copy-at-spec : {M : Type 1} → statement M

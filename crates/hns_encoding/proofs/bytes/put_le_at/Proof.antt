@@ -1,5 +1,6 @@
 -- `put_le_at` meets its contract: the first `i` bytes of the number are written, and `rest` is what is left of it.
-use Prim.Native.Nat.{ℕ, _+_, _*_, _-_, _/_, _%_, _≤_, _<_, _^_}
+mod At
+use Prim.Native.Nat.{ℕ, _+_, _-_, _/_, _%_, _≤_, _^_}
 use native.Mathlib.Nat.{div-one}
 use mathlib.Core.Path.{_≡_, refl, sym, _∙_, ap}
 use lib.ListN.{length, length-set}
@@ -11,6 +12,7 @@ use borrow.Author.Needs.{needs}
 use native.Mathlib.Omega.{arith}
 use Rattle.hns_encoding.proofs.bytes.put_le_at.Statement.{statement}
 use Rattle.hns_encoding.proofs.bytes.put_le_at.Tie as tie
+use Rattle.hns_encoding.proofs.bytes.put_le_at.Proof.At as at
 
 abbrev Inv-loop : tie.InvT-loop
 Inv-loop out₀ at width value rest₀ i₀ out rest i = (i ≤ width) × (length out ≡ length out₀) × (out ≡ paste out₀ at (leBytes width value) i) × (rest ≡ value / 256 ^ i)
@@ -40,17 +42,17 @@ loop-less c = search needs
 
 loop-again : tie.Need-loop-again Inv-loop μ-loop
 loop-again c =
-    let l = c .before in
-    let a = l .before .args in
-    let i = l .loop .i in
+    let here = at.loop-again Inv-loop μ-loop c in
+    let a = here .start .args in
+    let i = here .loop .i in
     let ys = leBytes (a .width) (a .value) in (
       search needs,
-      length-set (l .loop .out) (a .at + i) (l .loop .rest % 256) ∙ l .loop .inv .1,
-      write-step (a .out .now) (a .at) ys (l .loop .out) i (l .loop .rest % 256) (omega arith)
+      length-set (here .loop .out) (a .at + i) (here .loop .rest % 256) ∙ here .loop .inv .1,
+      write-step (a .out .now) (a .at) ys (here .loop .out) i (here .loop .rest % 256) (omega arith)
           (omega (arith, leBytes-length (a .width) (a .value)))
-          (ap (λ (k : ℕ). k % 256) (l .loop .inv .3) ∙ sym (byte-at (a .width) (a .value) i (omega arith)))
-          (l .loop .inv .2),
-      ap (λ (k : ℕ). k / 256) (l .loop .inv .3) ∙ byte-next (a .value) i,
+          (ap (λ (k : ℕ). k % 256) (here .loop .inv .3) ∙ sym (byte-at (a .width) (a .value) i (omega arith)))
+          (here .loop .inv .2),
+      ap (λ (k : ℕ). k / 256) (here .loop .inv .3) ∙ byte-next (a .value) i,
     )
 
 same-length : tie.Need-same-length Inv-loop μ-loop
@@ -58,10 +60,10 @@ same-length c = search needs
 
 returns : tie.Need-returns Inv-loop μ-loop
 returns c =
-    let l = c .before in
-    let a = l .before .args in
-    l .loop .inv .2
-    ∙ write-done (a .out .now) (a .at) (leBytes (a .width) (a .value)) (l .loop .i) (omega (arith, leBytes-length (a .width) (a .value)))
+    let here = at.returns Inv-loop μ-loop c in
+    let a = here .start .args in
+    here .loop .inv .2
+    ∙ write-done (a .out .now) (a .at) (leBytes (a .width) (a .value)) (here .loop .i) (omega (arith, leBytes-length (a .width) (a .value)))
 
 pub put-le-at-spec : {M : Type 1} → statement M
 put-le-at-spec =

@@ -1,33 +1,10 @@
 -- `be_bytes` meets its contract: the eight bytes are written out.
+mod At
 use native.Mathlib.Nat.{div-one}
 use Rattle.hns_encoding.specs.Bytes.{beBytes}
-use borrow.Author.Needs.{needs}
 use Rattle.hns_encoding.proofs.encoder.be_bytes.Statement.{statement}
 use Rattle.hns_encoding.proofs.encoder.be_bytes.Tie as tie
-
-cast-t4 : tie.Need-cast-t4
-cast-t4 c = search needs
-
-cast-t7 : tie.Need-cast-t7
-cast-t7 c = search needs
-
-cast-t10 : tie.Need-cast-t10
-cast-t10 c = search needs
-
-cast-t13 : tie.Need-cast-t13
-cast-t13 c = search needs
-
-cast-t16 : tie.Need-cast-t16
-cast-t16 c = search needs
-
-cast-t19 : tie.Need-cast-t19
-cast-t19 c = search needs
-
-cast-t22 : tie.Need-cast-t22
-cast-t22 c = search needs
-
-cast-t24 : tie.Need-cast-t24
-cast-t24 c = search needs
+use Rattle.hns_encoding.proofs.encoder.be_bytes.Proof.At as at
 
 returns : tie.Need-returns
 unfolding beBytes
@@ -35,5 +12,4 @@ returns c = rw div-one
 
 pub be-bytes-spec : {M : Type 1} → statement M
 be-bytes-spec =
-    tie.close
-    (tie.spec cast-t4 cast-t7 cast-t10 cast-t13 cast-t16 cast-t19 cast-t22 cast-t24 returns)
+    tie.close (at.spec returns)

@@ -1,23 +1,12 @@
 -- `byte_of` meets its contract: each arm divides by its own power.
-use Prim.Native.Nat.{ℕ, _+_, _*_, _-_, _/_, _%_, _≤_, _<_, _^_}
+mod At
+use Prim.Native.Nat.{ℕ, _/_, _%_, _^_}
 use native.Mathlib.Nat.{div-one}
 use mathlib.Core.Path.{_≡_, sym, _∙_, ap}
-use borrow.Author.Needs.{needs}
 use native.Mathlib.Omega.{arith}
 use Rattle.hns_encoding.proofs.words.byte_of.Statement.{statement}
 use Rattle.hns_encoding.proofs.words.byte_of.Tie as tie
-
-cast-result : tie.Need-cast-result
-cast-result c = search needs
-
-cast-result-2 : tie.Need-cast-result-2
-cast-result-2 c = search needs
-
-cast-result-3 : tie.Need-cast-result-3
-cast-result-3 c = search needs
-
-cast-result-4 : tie.Need-cast-result-4
-cast-result-4 c = search needs
+use Rattle.hns_encoding.proofs.words.byte_of.Proof.At as at
 
 returns : tie.Need-returns
 returns c =
@@ -38,13 +27,4 @@ returns-4 c =
 
 pub byte-of-spec : {M : Type 1} → statement M
 byte-of-spec =
-    tie.close
-    (tie.spec
-    cast-result
-    cast-result-2
-    cast-result-3
-    cast-result-4
-    returns
-    returns-2
-    returns-3
-    returns-4)
+    tie.close (at.spec returns returns-2 returns-3 returns-4)

@@ -1,9 +1,10 @@
 -- `copy_bytes_at` meets its contract: the first `i` bytes are written.
-use Prim.Native.Nat.{ℕ, _+_, _*_, _-_, _/_, _%_, _≤_, _<_, _^_}
+mod At
+use Prim.Native.Nat.{ℕ, _+_, _-_, _/_, _%_, _≤_, _^_}
 use native.Mathlib.Nat.{zero-add}
 use mathlib.Core.Path.{_≡_, refl, sym, _∙_, ap}
 use mathlib.Core.List.{List}
-use lib.ListN.{length, getD, take, drop, set, length-set, length-drop}
+use lib.ListN.{length, take, drop, set, length-set, length-drop}
 use lib.Seq.{paste, getD-take, getD-drop, length-take-le}
 use Rattle.hns_encoding.specs.Words.{bytesOf, wordCount}
 use Rattle.hns_encoding.specs.Laws.Lists.{write-start, write-step, write-done, written-whole}
@@ -12,6 +13,7 @@ use borrow.Author.Needs.{needs}
 use native.Mathlib.Omega.{arith}
 use Rattle.hns_encoding.proofs.words.copy_bytes_at.Statement.{statement}
 use Rattle.hns_encoding.proofs.words.copy_bytes_at.Tie as tie
+use Rattle.hns_encoding.proofs.words.copy_bytes_at.Proof.At as at
 
 -- there are as many bytes in the words
 enough : (words : List ℕ) (at n : ℕ) → at + wordCount n ≤ length words → length (take n (bytesOf (drop at words))) ≡ n
@@ -25,7 +27,8 @@ abbrev μ-loop : tie.MeasureT-loop
 
 loop-holds : tie.Need-loop-holds Inv-loop μ-loop
 loop-holds c =
-    let a = c .before .before .args in
+    let here = at.loop-holds Inv-loop μ-loop c in
+    let a = here .start .args in
     (search needs, refl, write-start (a .out .now) 0 (take (length (a .out .now)) (bytesOf (drop (a .at) (a .words .now)))))
 
 add-get-word : tie.Need-add-get-word Inv-loop μ-loop
@@ -48,23 +51,23 @@ loop-less c = search needs
 
 loop-again : tie.Need-loop-again Inv-loop μ-loop
 loop-again c =
-    let l = c .before .before .before in
-    let a = l .before .before .before .args in
-    let i = l .loop .i in
+    let here = at.loop-again Inv-loop μ-loop c in
+    let a = here .start .args in
+    let i = here .loop .i in
     let ws = drop (a .at) (a .words .now) in
     let n = length (a .out .now) in (
       search needs,
-      length-set (l .loop .out) i (c .byte-of .result) ∙ l .loop .inv .1,
-      ap (λ (k : ℕ). set (l .loop .out) k (c .byte-of .result)) (sym (zero-add i))
-          ∙ write-step (a .out .now) 0 (take n (bytesOf ws)) (l .loop .out) i (c .byte-of .result) (omega arith)
+      length-set (here .loop .out) i (here .byte-of .result) ∙ here .loop .inv .1,
+      ap (λ (k : ℕ). set (here .loop .out) k (here .byte-of .result)) (sym (zero-add i))
+          ∙ write-step (a .out .now) 0 (take n (bytesOf ws)) (here .loop .out) i (here .byte-of .result) (omega arith)
           (omega (arith, enough (a .words .now) (a .at) n (omega arith)))
           (
-          c .byte-of .ensures
-          ∙ ap (λ (w : ℕ). w / 256 ^ (i % 4) % 256) (c .before .get-word .ensures ∙ sym (getD-drop (a .at) (a .words .now) (i / 4) 0))
+          here .byte-of .ensures
+          ∙ ap (λ (w : ℕ). w / 256 ^ (i % 4) % 256) (here .get-word .ensures ∙ sym (getD-drop (a .at) (a .words .now) (i / 4) 0))
           ∙ sym (bytesOf-at ws i (omega (arith, length-drop (a .at) (a .words .now))))
           ∙ sym (getD-take n (bytesOf ws) i 0 (omega arith))
           )
-          (l .loop .inv .2),
+          (here .loop .inv .2),
     )
 
 same-length : tie.Need-same-length Inv-loop μ-loop
@@ -72,12 +75,12 @@ same-length c = search needs
 
 returns : tie.Need-returns Inv-loop μ-loop
 returns c =
-    let l = c .before in
-    let a = l .before .before .before .args in
+    let here = at.returns Inv-loop μ-loop c in
+    let a = here .start .args in
     let n = length (a .out .now) in
     let ys = take n (bytesOf (drop (a .at) (a .words .now))) in
     let e = enough (a .words .now) (a .at) n (omega arith) in
-    l .loop .inv .2 ∙ write-done (a .out .now) 0 ys (l .loop .i) (omega (arith, e)) ∙ written-whole (a .out .now) ys (sym e)
+    here .loop .inv .2 ∙ write-done (a .out .now) 0 ys (here .loop .i) (omega (arith, e)) ∙ written-whole (a .out .now) ys (sym e)
 
 pub copy-bytes-at-spec : {M : Type 1} → statement M
 copy-bytes-at-spec =

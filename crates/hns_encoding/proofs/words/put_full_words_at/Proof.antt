@@ -1,5 +1,6 @@
 -- `put_full_words_at` meets its contract: the first `i` words are written.
-use Prim.Native.Nat.{ℕ, _+_, _*_, _-_, _/_, _%_, _≤_, _<_, _^_}
+mod At
+use Prim.Native.Nat.{_+_, _-_, _≤_}
 use mathlib.Core.Path.{_≡_, refl, sym, _∙_, ap}
 use lib.ListN.{length, length-set}
 use lib.Seq.{paste}
@@ -10,6 +11,7 @@ use borrow.Author.Needs.{needs}
 use native.Mathlib.Omega.{arith}
 use Rattle.hns_encoding.proofs.words.put_full_words_at.Statement.{statement}
 use Rattle.hns_encoding.proofs.words.put_full_words_at.Tie as tie
+use Rattle.hns_encoding.proofs.words.put_full_words_at.Proof.At as at
 
 abbrev Inv-loop : tie.InvT-loop
 Inv-loop out₀ at bytes count i₀ out i = (i ≤ count) × (length out ≡ length out₀) × (out ≡ paste out₀ at (wordsOf count bytes) i)
@@ -19,7 +21,8 @@ abbrev μ-loop : tie.MeasureT-loop
 
 loop-holds : tie.Need-loop-holds Inv-loop μ-loop
 loop-holds c =
-    let a = c .before .before .args in
+    let here = at.loop-holds Inv-loop μ-loop c in
+    let a = here .start .args in
     (search needs, refl, write-start (a .out .now) (a .at) (wordsOf (a .count) (a .bytes .now)))
 
 add-set-word : tie.Need-add-set-word Inv-loop μ-loop
@@ -42,19 +45,17 @@ loop-less c = search needs
 
 loop-again : tie.Need-loop-again Inv-loop μ-loop
 loop-again c =
-    let s = c .before .before in
-    let w = s .before in
-    let l = w .before .before .before in
-    let a = l .before .before .before .args in
-    let i = l .loop .i in
+    let here = at.loop-again Inv-loop μ-loop c in
+    let a = here .start .args in
+    let i = here .loop .i in
     let ys = wordsOf (a .count) (a .bytes .now) in (
       search needs,
-      ap length (s .set-word .ensures) ∙ length-set (l .loop .out) (a .at + i) (w .full-word-at .result) ∙ l .loop .inv .1,
-      s .set-word .ensures
-          ∙ write-step (a .out .now) (a .at) ys (l .loop .out) i (w .full-word-at .result) (omega arith)
+      ap length (here .set-word .ensures) ∙ length-set (here .loop .out) (a .at + i) (here .full-word-at .result) ∙ here .loop .inv .1,
+      here .set-word .ensures
+          ∙ write-step (a .out .now) (a .at) ys (here .loop .out) i (here .full-word-at .result) (omega arith)
           (omega (arith, wordsOf-length (a .count) (a .bytes .now)))
-          (w .full-word-at .ensures ∙ sym (wordsOf-at (a .count) (a .bytes .now) i (omega arith)))
-          (l .loop .inv .2),
+          (here .full-word-at .ensures ∙ sym (wordsOf-at (a .count) (a .bytes .now) i (omega arith)))
+          (here .loop .inv .2),
     )
 
 same-length : tie.Need-same-length Inv-loop μ-loop
@@ -62,9 +63,9 @@ same-length c = search needs
 
 returns : tie.Need-returns Inv-loop μ-loop
 returns c =
-    let l = c .before in
-    let a = l .before .before .before .args in
-    l .loop .inv .2 ∙ write-done (a .out .now) (a .at) (wordsOf (a .count) (a .bytes .now)) (l .loop .i) (omega (arith, wordsOf-length (a .count) (a .bytes .now)))
+    let here = at.returns Inv-loop μ-loop c in
+    let a = here .start .args in
+    here .loop .inv .2 ∙ write-done (a .out .now) (a .at) (wordsOf (a .count) (a .bytes .now)) (here .loop .i) (omega (arith, wordsOf-length (a .count) (a .bytes .now)))
 
 pub put-full-words-at-spec : {M : Type 1} → statement M
 put-full-words-at-spec =

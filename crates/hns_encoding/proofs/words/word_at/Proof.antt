@@ -1,7 +1,7 @@
 -- `word_at` meets its contract: past the end there is nothing, and a field that the bytes end in is as wide as what is left.
-use Prim.Native.Nat.{ℕ, _+_, _*_, _-_, _/_, _%_, _≤_, _<_, _^_}
-use mathlib.Core.Path.{_≡_, sym, _∙_, ap}
-use lib.ListN.{length}
+mod At
+use Prim.Native.Nat.{ℕ}
+use mathlib.Core.Path.{_∙_, ap}
 use Rattle.hns_encoding.specs.Bytes.{le}
 use Rattle.hns_encoding.specs.Cursor.{field}
 use Rattle.hns_encoding.specs.Laws.Bytes.{below-more-digits, le-past}
@@ -10,9 +10,12 @@ use borrow.Author.Needs.{needs}
 use native.Mathlib.Omega.{arith}
 use Rattle.hns_encoding.proofs.words.word_at.Statement.{statement}
 use Rattle.hns_encoding.proofs.words.word_at.Tie as tie
+use Rattle.hns_encoding.proofs.words.word_at.Proof.At as at
 
 returns : tie.Need-returns
-returns c = let a = c .before .before .args in le-past (a .bytes .now) (a .at) 4 (c .if1 .taken)
+returns c =
+    let here = at.returns c in
+    let a = here .start .args in le-past (a .bytes .now) (a .at) 4 (here .if1 .taken)
 
 sub-min-usize : tie.Need-sub-min-usize
 sub-min-usize c = search needs
@@ -28,8 +31,9 @@ cast-result c = record { fits = below-more-digits (c .le-at .result) (c .before 
 
 returns-2 : tie.Need-returns-2
 returns-2 c =
-    let a = c .before .before .before .before .args in
-    c .le-at .ensures .0 ∙ ap le (ap (λ (w : ℕ). field (a .bytes .now) (a .at) w) (c .before .min-usize .ensures) ∙ field-short (a .bytes .now) (a .at) 4)
+    let here = at.returns-2 c in
+    let a = here .start .args in
+    here .le-at .ensures .0 ∙ ap le (ap (λ (w : ℕ). field (a .bytes .now) (a .at) w) (here .min-usize .ensures) ∙ field-short (a .bytes .now) (a .at) 4)
 
 pub word-at-spec : {M : Type 1} → statement M
 word-at-spec =

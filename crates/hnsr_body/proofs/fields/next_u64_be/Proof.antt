@@ -1,4 +1,5 @@
 -- `next_u64_be` meets its contract: the answer's step and number are those of the field, or the early end is handed on.
+mod At
 use Prim.Native.Nat.{ℕ}
 use mathlib.Core.Path.{refl, sym, _∙_, ap}
 use Rattle.hns_encoding.specs.declared.decoder.ReadU64.{ReadU64}
@@ -11,6 +12,7 @@ use Rattle.hnsr_body.specs.Laws.Fields.{number-step, number-value}
 use borrow.Author.Needs.{needs}
 use Rattle.hnsr_body.proofs.fields.next_u64_be.Statement.{statement}
 use Rattle.hnsr_body.proofs.fields.next_u64_be.Tie as tie
+use Rattle.hnsr_body.proofs.fields.next_u64_be.Proof.At as at
 
 abbrev value : ReadU64 → ℕ
 value (Ok n next) = n
@@ -20,34 +22,24 @@ abbrev step : ReadU64 → Step
 step (Ok n next) = Step.Ok next
 step (Err error) = Step.Err error
 
-enum-told : tie.Need-enum-told
-enum-told c = search needs
-
-enum-known-step : tie.Need-enum-known-step
-enum-known-step c = search needs
-
 read-u64-be-requires : tie.Need-read-u64-be-requires
 read-u64-be-requires c κs = search needs
-
-enum-known-read : tie.Need-enum-known-read
-enum-known-read c = search needs
-
-enum-known-read-2 : tie.Need-enum-known-read-2
-enum-known-read-2 c = search needs
 
 returns : tie.Need-returns
 unfolding stepped fetched beFrom
 returns c =
-    let input = c .before .before .before .args .input .now in
-    let s = c .enum-told .given .1 in
+    let here = at.returns c in
+    let input = here .start .args .input .now in
+    let s = here .enum-told .given .1 in
     (s ∙ ap (stepped 8 input) (sym s), ap (λ (t : Step). be (fetched 8 input t)) (sym s))
 
 returns-2 : tie.Need-returns-2
 unfolding beFrom
 returns-2 c =
-    let input = c .before .before .before .before .before .before .before .before .args .input .now in
-    let s = c .before .before .before .before .before .step .given .1 in
-    let r = sym (c .before .read .given .1) ∙ c .before .before .before .read-u64-be .ensures in (
+    let here = at.returns-2 c in
+    let input = here .start .args .input .now in
+    let s = here .step .given .1 in
+    let r = sym (here .read .given .1) ∙ here .read-u64-be .ensures in (
       number-step value step Ok Err be 8 input s r (λ n next. refl) (λ error. refl),
       number-value value step Ok Err be 8 input s r (λ n next. refl) (λ error. refl) refl,
     )
@@ -55,22 +47,14 @@ returns-2 c =
 returns-3 : tie.Need-returns-3
 unfolding beFrom
 returns-3 c =
-    let input = c .before .before .before .before .before .before .before .before .args .input .now in
-    let s = c .before .before .before .before .before .step .given .1 in
-    let r = sym (c .before .read2 .given .1) ∙ c .before .before .before .read-u64-be .ensures in (
+    let here = at.returns-3 c in
+    let input = here .start .args .input .now in
+    let s = here .step .given .1 in
+    let r = sym (here .read2 .given .1) ∙ here .read-u64-be .ensures in (
       number-step value step Ok Err be 8 input s r (λ n next. refl) (λ error. refl),
       number-value value step Ok Err be 8 input s r (λ n next. refl) (λ error. refl) refl,
     )
 
 pub next-u64-be-spec : {M : Type 1} → statement M
 next-u64-be-spec =
-    tie.close
-    (tie.spec
-    enum-told
-    enum-known-step
-    read-u64-be-requires
-    enum-known-read
-    enum-known-read-2
-    returns
-    returns-2
-    returns-3)
+    tie.close (at.spec read-u64-be-requires returns returns-2 returns-3)

@@ -1,4 +1,5 @@
 -- `next_u8` meets its contract: the answer's step and number are those of the field, or the early end is handed on.
+mod At
 use Prim.Native.Nat.{ℕ}
 use mathlib.Core.Path.{refl, sym, _∙_, ap}
 use Rattle.hns_encoding.specs.declared.decoder.ReadU8.{ReadU8}
@@ -11,6 +12,7 @@ use Rattle.hnsr_body.specs.Laws.Fields.{number-step, number-value}
 use borrow.Author.Needs.{needs}
 use Rattle.hnsr_body.proofs.fields.next_u8.Statement.{statement}
 use Rattle.hnsr_body.proofs.fields.next_u8.Tie as tie
+use Rattle.hnsr_body.proofs.fields.next_u8.Proof.At as at
 
 abbrev value : ReadU8 → ℕ
 value (Ok n next) = n
@@ -20,34 +22,24 @@ abbrev step : ReadU8 → Step
 step (Ok n next) = Step.Ok next
 step (Err error) = Step.Err error
 
-enum-told : tie.Need-enum-told
-enum-told c = search needs
-
-enum-known-step : tie.Need-enum-known-step
-enum-known-step c = search needs
-
 read-u8-requires : tie.Need-read-u8-requires
 read-u8-requires c κs = search needs
-
-enum-known-read : tie.Need-enum-known-read
-enum-known-read c = search needs
-
-enum-known-read-2 : tie.Need-enum-known-read-2
-enum-known-read-2 c = search needs
 
 returns : tie.Need-returns
 unfolding stepped fetched le
 returns c =
-    let input = c .before .before .before .args .input .now in
-    let s = c .enum-told .given .1 in
+    let here = at.returns c in
+    let input = here .start .args .input .now in
+    let s = here .enum-told .given .1 in
     (s ∙ ap (stepped 1 input) (sym s), ap (λ (t : Step). le (fetched 1 input t)) (sym s))
 
 returns-2 : tie.Need-returns-2
 unfolding le
 returns-2 c =
-    let input = c .before .before .before .before .before .before .before .before .args .input .now in
-    let s = c .before .before .before .before .before .step .given .1 in
-    let r = sym (c .before .read .given .1) ∙ c .before .before .before .read-u8 .ensures in (
+    let here = at.returns-2 c in
+    let input = here .start .args .input .now in
+    let s = here .step .given .1 in
+    let r = sym (here .read .given .1) ∙ here .read-u8 .ensures in (
       number-step value step Ok Err le 1 input s r (λ n next. refl) (λ error. refl),
       number-value value step Ok Err le 1 input s r (λ n next. refl) (λ error. refl) refl,
     )
@@ -55,22 +47,14 @@ returns-2 c =
 returns-3 : tie.Need-returns-3
 unfolding le
 returns-3 c =
-    let input = c .before .before .before .before .before .before .before .before .args .input .now in
-    let s = c .before .before .before .before .before .step .given .1 in
-    let r = sym (c .before .read2 .given .1) ∙ c .before .before .before .read-u8 .ensures in (
+    let here = at.returns-3 c in
+    let input = here .start .args .input .now in
+    let s = here .step .given .1 in
+    let r = sym (here .read2 .given .1) ∙ here .read-u8 .ensures in (
       number-step value step Ok Err le 1 input s r (λ n next. refl) (λ error. refl),
       number-value value step Ok Err le 1 input s r (λ n next. refl) (λ error. refl) refl,
     )
 
 pub next-u8-spec : {M : Type 1} → statement M
 next-u8-spec =
-    tie.close
-    (tie.spec
-    enum-told
-    enum-known-step
-    read-u8-requires
-    enum-known-read
-    enum-known-read-2
-    returns
-    returns-2
-    returns-3)
+    tie.close (at.spec read-u8-requires returns returns-2 returns-3)

@@ -1,5 +1,6 @@
 -- `utf8::after_ascii` meets its contract. The invariant is the contract at the present place: one ASCII byte more is skipped each turn.
 
+mod At
 use Prim.Native.Nat.{_-_}
 use native.Mathlib.Omega.{arith}
 use lib.ListN.{length}
@@ -7,6 +8,7 @@ use Rattle.hnsr_body.specs.Utf8Form.{Skipped}
 use Rattle.hnsr_body.specs.Laws.Utf8Form.{skip-none, skip-ascii}
 use Rattle.hnsr_body.proofs.utf8.after_ascii.Statement.{statement}
 use Rattle.hnsr_body.proofs.utf8.after_ascii.Tie as tie
+use Rattle.hnsr_body.proofs.utf8.after_ascii.Proof.At as at
 
 abbrev Inv-loop : tie.InvT-loop
 Inv-loop text at end₀ end = Skipped text at end
@@ -21,7 +23,9 @@ shared-slice-read-if1 : tie.Need-shared-slice-read-if1 Inv-loop μ-loop
 shared-slice-read-if1 c = omega arith
 
 returns : tie.Need-returns Inv-loop μ-loop
-returns c = c .before .before .before .loop .inv
+returns c =
+    let here = at.returns Inv-loop μ-loop c in
+    here .loop .inv
 
 add-end : tie.Need-add-end Inv-loop μ-loop
 add-end c = omega arith
@@ -30,7 +34,9 @@ loop-less : tie.Need-loop-less Inv-loop μ-loop
 loop-less c = omega arith
 
 loop-again : tie.Need-loop-again Inv-loop μ-loop
-loop-again c = skip-ascii _ _ _ (c .before .before .before .loop .inv) (omega arith) (omega arith)
+loop-again c =
+    let here = at.loop-again Inv-loop μ-loop c in
+    skip-ascii _ _ _ (here .loop .inv) (omega arith) (omega arith)
 
 returns-2 : tie.Need-returns-2 Inv-loop μ-loop
 returns-2 c = c .before .loop .inv

@@ -1,5 +1,6 @@
 -- `utf8::goes_on` meets its contract: each way out has made the tests that decide `goesOn`.
 
+mod At
 use Prim.Native.Nat.{ℕ, _<_}
 use mathlib.Core.Path.{_≡_, _∙_, sym}
 use mathlib.Core.Bool.{Bool, true, false, not}
@@ -12,6 +13,7 @@ use Rattle.hnsr_body.specs.Utf8.{tail}
 use Rattle.hnsr_body.specs.Utf8Form.{second, goesOn}
 use Rattle.hnsr_body.proofs.utf8.goes_on.Statement.{statement}
 use Rattle.hnsr_body.proofs.utf8.goes_on.Tie as tie
+use Rattle.hnsr_body.proofs.utf8.goes_on.Proof.At as at
 
 -- a test `!f(..)` was taken, or was not: `r` is what the call gave, and `t` what it ensures
 failed : {r t : Bool} → r ≡ t → not r ≡ true → t ≡ false
@@ -43,12 +45,6 @@ module _ (text : List ℕ) (n : ℕ) (more : 1 < n) where
       unfolding goesOn
       four t not-three = simp (lt-leb n 1 more, lt-leb n 2 (omega arith), lt-leb n 3 (omega arith), s, t)
 
-shared-slice-read-is-second : tie.Need-shared-slice-read-is-second
-shared-slice-read-is-second c = search needs
-
-shared-slice-read-is-second-2 : tie.Need-shared-slice-read-is-second-2
-shared-slice-read-is-second-2 c = search needs
-
 is-second-requires : tie.Need-is-second-requires
 is-second-requires c κs = search needs
 
@@ -57,56 +53,34 @@ returns c = not-second _ _ (search needs) (failed (c .before .is-second .ensures
 
 returns-2 : tie.Need-returns-2
 returns-2 c =
-    let before = c .before .before in
-    two _ _ (search needs) (passed (before .is-second .ensures) (c .before .if1 .left)) (c .if2 .taken)
-
-shared-slice-read-is-tail : tie.Need-shared-slice-read-is-tail
-shared-slice-read-is-tail c = search needs
+    let here = at.returns-2 c in
+    two _ _ (search needs) (passed (here .is-second .ensures) (here .if1 .left)) (here .if2 .taken)
 
 is-tail-requires : tie.Need-is-tail-requires
 is-tail-requires c κs = search needs
 
 returns-3 : tie.Need-returns-3
 returns-3 c =
-    let a = c .before .before .before in
-    not-third _ _ (search needs) (passed (a .before .before .is-second .ensures) (a .before .if1 .left)) (a .if2 .left)
-    (failed (c .before .is-tail .ensures) (c .if3 .taken))
-
-shared-slice-read-is-tail-2 : tie.Need-shared-slice-read-is-tail-2
-shared-slice-read-is-tail-2 c = search needs
+    let here = at.returns-3 c in
+    not-third _ _ (search needs) (passed (here .is-second .ensures) (here .if1 .left)) (here .if2 .left)
+    (failed (here .is-tail .ensures) (here .if3 .taken))
 
 is-tail-requires-2 : tie.Need-is-tail-requires-2
 is-tail-requires-2 c κs = search needs
 
 returns-4 : tie.Need-returns-4
 returns-4 c =
-    let b = c .before .before in
-    let a = b .before .before in
-    three _ _ (search needs) (passed (a .before .before .is-second .ensures) (a .before .if1 .left)) (a .if2 .left)
-    (passed (b .is-tail .ensures) (c .before .if3 .left)) (c .if4 .taken)
+    let here = at.returns-4 c in
+    three _ _ (search needs) (passed (here .is-second .ensures) (here .if1 .left)) (here .if2 .left)
+    (passed (here .is-tail .ensures) (here .if3 .left)) (here .if4 .taken)
 
 returns-5 : tie.Need-returns-5
 returns-5 c =
-    let e = c .before .before in
-    let b = e .before .before in
-    let a = b .before .before in
-    c .is-tail2 .ensures
-    ∙ four _ _ (search needs) (passed (a .before .before .is-second .ensures) (a .before .if1 .left)) (a .if2 .left)
-    (passed (b .is-tail .ensures) (e .before .if3 .left)) (e .if4 .left)
+    let here = at.returns-5 c in
+    here .is-tail2 .ensures
+    ∙ four _ _ (search needs) (passed (here .is-second .ensures) (here .if1 .left)) (here .if2 .left)
+    (passed (here .is-tail .ensures) (here .if3 .left)) (here .if4 .left)
 
 pub goes-on-spec : {M : Type 1} → statement M
 goes-on-spec =
-    tie.close
-    (tie.spec
-    shared-slice-read-is-second
-    shared-slice-read-is-second-2
-    is-second-requires
-    returns
-    returns-2
-    shared-slice-read-is-tail
-    is-tail-requires
-    returns-3
-    shared-slice-read-is-tail-2
-    is-tail-requires-2
-    returns-4
-    returns-5)
+    tie.close (at.spec is-second-requires returns returns-2 is-tail-requires returns-3 is-tail-requires-2 returns-4 returns-5)

@@ -1,12 +1,10 @@
 -- The row is its tests joined, and its refusal.
+mod At
 use Rattle.hnsr_circuit.specs.Accept.{acceptAnswer}
 use borrow.Author.Needs.{needs}
 use Rattle.hnsr_circuit.proofs.accept.accept_answer.Statement.{statement}
 use Rattle.hnsr_circuit.proofs.accept.accept_answer.Tie as tie
-use Rattle.hnsr_circuit.proofs.accept.accept_answer.Reads as reads
-use Rattle.hnsr_circuit.proofs.accept.accept_answer.Lts as lts
-use Rattle.hnsr_circuit.proofs.answer.check.Reads as check-reads
-use Rattle.hns_encoding.proofs.logic.either.Reads as either-reads
+use Rattle.hnsr_circuit.proofs.accept.accept_answer.Proof.At as at
 
 cast-active : tie.Need-cast-active
 cast-active c = search needs
@@ -22,7 +20,9 @@ check-requires c κs = search needs
 
 returns : tie.Need-returns
 unfolding acceptAnswer
-returns c = rw (c .check .ensures, c .before .either2 .ensures, c .before .before .either .ensures)
+returns c =
+    let here = at.returns c in
+    rw (here .check .ensures, here .either2 .ensures, here .either .ensures)
 
 pub accept-answer-spec : {M : Type 1} → statement M
 accept-answer-spec =

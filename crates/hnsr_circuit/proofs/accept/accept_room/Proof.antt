@@ -1,14 +1,12 @@
 -- The sum stops above every count of a ticket.
+mod At
 use Rattle.hnsr_circuit.specs.Accept.{acceptAnswer}
 use Prim.Native.Nat.{_<_}
 use Rattle.hnsr_circuit.specs.Laws.Opening.{ltb-sum}
 use borrow.Author.Needs.{needs}
 use Rattle.hnsr_circuit.proofs.accept.accept_room.Statement.{statement}
 use Rattle.hnsr_circuit.proofs.accept.accept_room.Tie as tie
-use Rattle.hnsr_circuit.proofs.accept.accept_room.Reads as reads
-use Rattle.hnsr_circuit.proofs.accept.accept_room.Lts as lts
-use Rattle.hnsr_circuit.proofs.scan.reservation_work.Reads as reservation-work-reads
-use Rattle.hnsr_circuit.proofs.accept.accept_answer.Reads as accept-answer-reads
+use Rattle.hnsr_circuit.proofs.accept.accept_room.Proof.At as at
 
 -- a ticket's most is a number of 16 bits
 small : (c : tie.Start) → c .args .pending .ticket .«max_active_circuits» < 65536
@@ -22,7 +20,9 @@ accept-answer-requires c κs = search needs
 
 returns : tie.Need-returns
 unfolding acceptAnswer
-returns c = let s = c .before .before in rw (c .accept-answer .ensures, c .before .reservation-work .ensures, ltb-sum (s .args .pending .ticket .«max_active_circuits») (s .args .waiting) (s .args .running) (small s))
+returns c =
+    let here = at.returns c in
+    let s = here .start in rw (here .accept-answer .ensures, here .reservation-work .ensures, ltb-sum (s .args .pending .ticket .«max_active_circuits») (s .args .waiting) (s .args .running) (small s))
 
 pub accept-room-spec : {M : Type 1} → statement M
 accept-room-spec =

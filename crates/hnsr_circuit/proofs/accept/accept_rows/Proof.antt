@@ -1,14 +1,9 @@
 -- The rows in order.
+mod At
 use borrow.Author.Needs.{needs}
 use Rattle.hnsr_circuit.proofs.accept.accept_rows.Statement.{statement}
 use Rattle.hnsr_circuit.proofs.accept.accept_rows.Tie as tie
-use Rattle.hnsr_circuit.proofs.accept.accept_rows.Reads as reads
-use Rattle.hnsr_circuit.proofs.accept.accept_rows.Lts as lts
-use Rattle.hnsr_circuit.proofs.accept.accept_room.Reads as accept-room-reads
-use Rattle.hnsr_circuit.proofs.accept.request_answer.Reads as request-answer-reads
-use Rattle.hnsr_circuit.proofs.answer.body_answer.Reads as body-answer-reads
-use Rattle.hnsr_circuit.proofs.answer.first_refusal.Reads as first-refusal-reads
-use Rattle.hnsr_circuit.proofs.inflight.capacity_answer.Reads as capacity-answer-reads
+use Rattle.hnsr_circuit.proofs.accept.accept_rows.Proof.At as at
 
 request-answer-requires : tie.Need-request-answer-requires
 request-answer-requires c κs = search needs
@@ -32,7 +27,9 @@ first-refusal-requires-3 : tie.Need-first-refusal-requires-3
 first-refusal-requires-3 c κs = search needs
 
 returns : tie.Need-returns
-returns c = rw (c .first-refusal3 .ensures, c .before .first-refusal2 .ensures, c .before .before .first-refusal .ensures, c .before .before .before .capacity-answer .ensures, c .before .before .before .before .accept-room .ensures, c .before .before .before .before .before .body-answer .ensures, c .before .before .before .before .before .before .request-answer .ensures)
+returns c =
+    let here = at.returns c in
+    rw (here .first-refusal3 .ensures, here .first-refusal2 .ensures, here .first-refusal .ensures, here .capacity-answer .ensures, here .accept-room .ensures, here .body-answer .ensures, here .request-answer .ensures)
 
 pub accept-rows-spec : {M : Type 1} → statement M
 accept-rows-spec =

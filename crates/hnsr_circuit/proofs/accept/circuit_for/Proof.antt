@@ -2,9 +2,6 @@
 use borrow.Author.Needs.{needs}
 use Rattle.hnsr_circuit.proofs.accept.circuit_for.Statement.{statement}
 use Rattle.hnsr_circuit.proofs.accept.circuit_for.Tie as tie
-use Rattle.hnsr_circuit.proofs.accept.circuit_for.Reads as reads
-use Rattle.hnsr_circuit.proofs.accept.circuit_for.Lts as lts
-use Rattle.hns_encoding.proofs.numbers.min_u64.Reads as min-u64-reads
 
 min-u64-requires : tie.Need-min-u64-requires
 min-u64-requires c κs = search needs

@@ -1,15 +1,10 @@
 -- The rows are their tests, in order.
+mod At
 use Rattle.hnsr_circuit.specs.Accept.{requestAnswer}
 use borrow.Author.Needs.{needs}
 use Rattle.hnsr_circuit.proofs.accept.request_answer.Statement.{statement}
 use Rattle.hnsr_circuit.proofs.accept.request_answer.Tie as tie
-use Rattle.hnsr_circuit.proofs.accept.request_answer.Reads as reads
-use Rattle.hnsr_circuit.proofs.accept.request_answer.Lts as lts
-use Rattle.hns_encoding.proofs.logic.no.Reads as no-reads
-use Rattle.hnsr_circuit.proofs.answer.check.Reads as check-reads
-use Rattle.hnsr_circuit.proofs.answer.first_refusal.Reads as first-refusal-reads
-use Rattle.hnsr_circuit.proofs.peer.same_peer.Reads as same-peer-reads
-use Rattle.hnsr_circuit.proofs.pending.overdue.Reads as overdue-reads
+use Rattle.hnsr_circuit.proofs.accept.request_answer.Proof.At as at
 
 no-requires : tie.Need-no-requires
 no-requires c κs = search needs
@@ -40,7 +35,9 @@ first-refusal-requires-2 c κs = search needs
 
 returns : tie.Need-returns
 unfolding requestAnswer
-returns c = rw (c .first-refusal2 .ensures, c .before .first-refusal .ensures, c .before .before .check3 .ensures, c .before .before .before .overdue .ensures, c .before .before .before .before .check2 .ensures, c .before .before .before .before .before .no2 .ensures, c .before .before .before .before .before .before .same-peer .ensures, c .before .before .before .before .before .before .before .check .ensures, c .before .before .before .before .before .before .before .before .no .ensures)
+returns c =
+    let here = at.returns c in
+    rw (here .first-refusal2 .ensures, here .first-refusal .ensures, here .check3 .ensures, here .overdue .ensures, here .check2 .ensures, here .no2 .ensures, here .same-peer .ensures, here .check .ensures, here .no .ensures)
 
 pub request-answer-spec : {M : Type 1} → statement M
 request-answer-spec =

@@ -1,5 +1,6 @@
 -- Turned away by its rows, or gone on with the action that is found.
 mod Tie
+mod At
 use Prim.Native.Nat.{_<_}
 use mathlib.Core.Path.{sym, ap, _∙_}
 use mathlib.Core.Bool.{_||_}
@@ -24,75 +25,47 @@ use Rattle.hnsr_circuit.specs.Code.Held.{heldPending, heldCircuits, held
 use Rattle.hnsr_circuit.specs.Laws.HeldTables.{places-kept, few-held}
 use Rattle.hnsr_circuit.proofs.acknowledge.acknowledge.Statement.{statement}
 use Rattle.hnsr_circuit.proofs.acknowledge.acknowledge.Proof.Tie as tie
+use Rattle.hnsr_circuit.proofs.acknowledge.acknowledge.Proof.At as at
 
 bound : (c : tie.Start) → length (c .args .out .now) < 18446744073709551616
 bound c = search needs
 
-look-up-action-requires : tie.Need-look-up-action-requires
-look-up-action-requires c = search needs
-
-too-few-requires : tie.Need-too-few-requires
-too-few-requires c = search needs
-
-acknowledge-answer-requires : tie.Need-acknowledge-answer-requires
-acknowledge-answer-requires c = search needs
-
-is-taken-requires : tie.Need-is-taken-requires
-is-taken-requires c = search needs
-
-acknowledge-action-requires : tie.Need-acknowledge-action-requires
-acknowledge-action-requires c = search needs
-
-same-length : tie.Need-same-length
-same-length c = search needs
-
-same-length-2 : tie.Need-same-length-2
-same-length-2 c = search needs
-
-same-length-3 : tie.Need-same-length-3
-same-length-3 c = search needs
-
-same-length-4 : tie.Need-same-length-4
-same-length-4 c = search needs
-
 returns : tie.Need-returns
 unfolding step acknowledge acknowledgeTaken roomAnswer tablesShort actionAsked
-returns c = λ l₀.
-    let s = c .before .before .before .before .before .before .before .before .before .before .before .before .before .before .before .before .before .before in
+returns c =
+    let here = at.returns c in
+    λ l₀.
+    let s = here .start in
     let a = s .args in
     let l = heldLedger (a .places) l₀ in
     let w = worldOf (a .runtime) (heldPending (a .places) (a .pending .now)) (heldCircuits (a .places) (a .circuits .now)) l (heldActions (a .places) (a .inflight .now)) in
     let call = callAcknowledge (a .generation) (a .sequence) (a .delivered) (length (a .out .now)) in
-    let ef = c .before .before .before .before .before .before .before .before .before .before .before .before .before .before .look-up-action .ensures in
+    let ef = here .look-up-action .ensures in
     let found = ap (λ (f : ActionFound). f .found) ef in
     let action = ap (λ (f : ActionFound). f .action) ef in
-    let answer = c .before .before .before .before .before .before .before .before .before .before .before .before .acknowledge-answer .ensures ∙ (λ x. check (ltb (length (a .out .now)) acknowledgeWords || (c .before .before .before .before .before .before .before .before .before .before .before .before .before .too-few .ensures ∙ few-held (a .runtime .config) (a .places) (a .pending .now) (a .circuits .now) (a .inflight .now)) x) Short then generationAnswer (a .runtime .generation) (a .generation) then actionAnswer (found x)) in
+    let answer = here .acknowledge-answer .ensures ∙ (λ x. check (ltb (length (a .out .now)) acknowledgeWords || (here .too-few .ensures ∙ few-held (a .runtime .config) (a .places) (a .pending .now) (a .circuits .now) (a .inflight .now)) x) Short then generationAnswer (a .runtime .generation) (a .generation) then actionAnswer (found x)) in
     let small = bound s in
-    c .before .before .before .before .before .acknowledge-action .ensures l₀ (a .generation) (a .sequence) ef
-    ∙ ap (λ (o : Outcome). ending (a .out .now) o) (ap (λ (x : InflightAction). acknowledgeAction w (a .generation) (a .sequence) (a .delivered) x) action ∙ sym (gone-on w (c .before .before .before .before .before .before .before .before .before .before .before .before .acknowledge-answer .result) _ (acknowledgeAction w (a .generation) (a .sequence) (a .delivered) (pick (actionAt (a .generation) (a .sequence)) noAction (heldActions (a .places) (a .inflight .now)))) (sym (c .before .before .before .before .before .before .before .before .before .before .before .is-taken .ensures) ∙ c .before .before .before .before .before .before .before .before .before .before .if1 .taken) answer))
+    here .acknowledge-action .ensures l₀ (a .generation) (a .sequence) ef
+    ∙ ap (λ (o : Outcome). ending (a .out .now) o) (ap (λ (x : InflightAction). acknowledgeAction w (a .generation) (a .sequence) (a .delivered) x) action ∙ sym (gone-on w (here .acknowledge-answer .result) _ (acknowledgeAction w (a .generation) (a .sequence) (a .delivered) (pick (actionAt (a .generation) (a .sequence)) noAction (heldActions (a .places) (a .inflight .now)))) (sym (here .is-taken .ensures) ∙ here .if1 .taken) answer))
     ∙ whole (a .out .now) w call (omega arith) (omega arith)
-
-refused-requires : tie.Need-refused-requires
-refused-requires c = search needs
-
-same-length-5 : tie.Need-same-length-5
-same-length-5 c = search needs
 
 returns-2 : tie.Need-returns-2
 unfolding step acknowledge acknowledgeTaken roomAnswer tablesShort actionAsked
-returns-2 c = λ l₀.
-    let s = c .before .before .before .before .before .before .before .before .before in
+returns-2 c =
+    let here = at.returns-2 c in
+    λ l₀.
+    let s = here .start in
     let a = s .args in
     let l = heldLedger (a .places) l₀ in
     let w = worldOf (a .runtime) (heldPending (a .places) (a .pending .now)) (heldCircuits (a .places) (a .circuits .now)) l (heldActions (a .places) (a .inflight .now)) in
     let call = callAcknowledge (a .generation) (a .sequence) (a .delivered) (length (a .out .now)) in
-    let ef = c .before .before .before .before .before .look-up-action .ensures in
+    let ef = here .look-up-action .ensures in
     let found = ap (λ (f : ActionFound). f .found) ef in
-    let answer = c .before .before .before .acknowledge-answer .ensures ∙ (λ x. check (ltb (length (a .out .now)) acknowledgeWords || (c .before .before .before .before .too-few .ensures ∙ few-held (a .runtime .config) (a .places) (a .pending .now) (a .circuits .now) (a .inflight .now)) x) Short then generationAnswer (a .runtime .generation) (a .generation) then actionAnswer (found x)) in
+    let answer = here .acknowledge-answer .ensures ∙ (λ x. check (ltb (length (a .out .now)) acknowledgeWords || (here .too-few .ensures ∙ few-held (a .runtime .config) (a .places) (a .pending .now) (a .circuits .now) (a .inflight .now)) x) Short then generationAnswer (a .runtime .generation) (a .generation) then actionAnswer (found x)) in
     let small = bound s in
-    places-kept (c .refused .result) (a .pending .now) (a .circuits .now) l₀ (a .inflight .now) (a .out .now) (a .places) (c .refused .ensures .1)
-    ∙ turned-away (a .runtime) (heldPending (a .places) (a .pending .now)) (heldCircuits (a .places) (a .circuits .now)) l (heldActions (a .places) (a .inflight .now)) (a .out .now) (c .refused .result) (c .before .before .before .acknowledge-answer .result) _ (acknowledgeAction w (a .generation) (a .sequence) (a .delivered) (pick (actionAt (a .generation) (a .sequence)) noAction (heldActions (a .places) (a .inflight .now)))) (c .refused .ensures .0) (sym (c .before .before .is-taken .ensures) ∙ c .before .if1 .left) answer
+    places-kept (here .refused .result) (a .pending .now) (a .circuits .now) l₀ (a .inflight .now) (a .out .now) (a .places) (here .refused .ensures .1)
+    ∙ turned-away (a .runtime) (heldPending (a .places) (a .pending .now)) (heldCircuits (a .places) (a .circuits .now)) l (heldActions (a .places) (a .inflight .now)) (a .out .now) (here .refused .result) (here .acknowledge-answer .result) _ (acknowledgeAction w (a .generation) (a .sequence) (a .delivered) (pick (actionAt (a .generation) (a .sequence)) noAction (heldActions (a .places) (a .inflight .now)))) (here .refused .ensures .0) (sym (here .is-taken .ensures) ∙ here .if1 .left) answer
     ∙ whole (a .out .now) w call (omega arith) (omega arith)
 
 pub acknowledge-spec : {M : Type 1} → statement M
-acknowledge-spec = tie.close (tie.spec look-up-action-requires too-few-requires acknowledge-answer-requires is-taken-requires acknowledge-action-requires same-length same-length-2 same-length-3 same-length-4 returns refused-requires same-length-5 returns-2)
+acknowledge-spec = tie.close (at.spec returns returns-2)

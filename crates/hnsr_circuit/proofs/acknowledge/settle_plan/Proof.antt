@@ -1,4 +1,5 @@
 -- What is found, and what its kind says.
+mod At
 use mathlib.Core.Path.{refl, ap, _∙_}
 use mathlib.Core.Bool.{_&&_}
 use Rattle.hnsr_circuit.specs.declared.acknowledge.Settlement.{Settlement}
@@ -6,6 +7,7 @@ use Rattle.hnsr_circuit.specs.Code.Settling.{settlementFor}
 use borrow.Author.Needs.{needs}
 use Rattle.hnsr_circuit.proofs.acknowledge.settle_plan.Statement.{statement}
 use Rattle.hnsr_circuit.proofs.acknowledge.settle_plan.Tie as tie
+use Rattle.hnsr_circuit.proofs.acknowledge.settle_plan.Proof.At as at
 
 kind-of-requires : tie.Need-kind-of-requires
 kind-of-requires c κs = search needs
@@ -27,9 +29,10 @@ both-requires-2 c κs = search needs
 
 returns : tie.Need-returns
 returns c =
-    let asked = c .before .before .before .before .settlement-for .ensures ∙ ap settlementFor (c .before .before .before .before .before .kind-of .ensures) in
-    let lost = c .before .before .before .no .ensures in
-    (refl, refl, ap (λ (s : Settlement). s .lowers) asked, c .before .before .toward-side .ensures, refl, c .before .both .ensures ∙ (λ x. lost x && asked x .fails), c .both2 .ensures ∙ (λ x. lost x && asked x .revokes))
+    let here = at.returns c in
+    let asked = here .settlement-for .ensures ∙ ap settlementFor (here .kind-of .ensures) in
+    let lost = here .no .ensures in
+    (refl, refl, ap (λ (s : Settlement). s .lowers) asked, here .toward-side .ensures, refl, here .both .ensures ∙ (λ x. lost x && asked x .fails), here .both2 .ensures ∙ (λ x. lost x && asked x .revokes))
 
 pub settle-plan-spec : {M : Type 1} → statement M
 settle-plan-spec =

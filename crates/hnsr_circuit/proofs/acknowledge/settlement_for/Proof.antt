@@ -1,22 +1,8 @@
 -- What each kind asks for.
-use borrow.Author.Needs.{needs}
+mod At
 use Rattle.hnsr_circuit.proofs.acknowledge.settlement_for.Statement.{statement}
 use Rattle.hnsr_circuit.proofs.acknowledge.settlement_for.Tie as tie
-
-enum-told : tie.Need-enum-told
-enum-told c = search needs
-
-enum-told-2 : tie.Need-enum-told-2
-enum-told-2 c = search needs
-
-enum-told-3 : tie.Need-enum-told-3
-enum-told-3 c = search needs
-
-enum-told-4 : tie.Need-enum-told-4
-enum-told-4 c = search needs
-
-enum-told-5 : tie.Need-enum-told-5
-enum-told-5 c = search needs
+use Rattle.hnsr_circuit.proofs.acknowledge.settlement_for.Proof.At as at
 
 returns : tie.Need-returns
 returns c = rw (c .enum-told .given .1)
@@ -34,4 +20,4 @@ returns-5 : tie.Need-returns-5
 returns-5 c = rw (c .enum-told5 .given .1)
 
 pub settlement-for-spec : {M : Type 1} → statement M
-settlement-for-spec = tie.close (tie.spec enum-told enum-told-2 enum-told-3 enum-told-4 enum-told-5 returns returns-2 returns-3 returns-4 returns-5)
+settlement-for-spec = tie.close (at.spec returns returns-2 returns-3 returns-4 returns-5)

@@ -1,8 +1,6 @@
 -- The two outcomes of the test.
 use Rattle.hnsr_circuit.proofs.answer.check.Statement.{statement}
 use Rattle.hnsr_circuit.proofs.answer.check.Tie as tie
-use Rattle.hnsr_circuit.proofs.answer.check.Reads as reads
-use Rattle.hnsr_circuit.proofs.answer.check.Lts as lts
 
 returns : tie.Need-returns
 returns c = rw (c .if1 .taken)

@@ -1,153 +1,132 @@
 -- Each refusal's cause is its case of the definition.
+mod At
 use mathlib.Core.Path.{sym, _∙_, ap}
 use borrow.Author.Needs.{needs}
 use Rattle.hnsr_circuit.specs.Answers.{errorCause}
 use Rattle.hnsr_circuit.proofs.answer.error_cause.Statement.{statement}
 use Rattle.hnsr_circuit.proofs.answer.error_cause.Tie as tie
+use Rattle.hnsr_circuit.proofs.answer.error_cause.Proof.At as at
 
 no-cause-requires : tie.Need-no-cause-requires
 no-cause-requires c κs = search needs
 
-enum-known-error : tie.Need-enum-known-error
-enum-known-error c = search needs
-
 cause-requires : tie.Need-cause-requires
 cause-requires c κs = search needs
 
-enum-told : tie.Need-enum-told
-enum-told c = search needs
-
-enum-told-2 : tie.Need-enum-told-2
-enum-told-2 c = search needs
-
-enum-told-3 : tie.Need-enum-told-3
-enum-told-3 c = search needs
-
-enum-told-4 : tie.Need-enum-told-4
-enum-told-4 c = search needs
-
-enum-told-5 : tie.Need-enum-told-5
-enum-told-5 c = search needs
-
-enum-told-6 : tie.Need-enum-told-6
-enum-told-6 c = search needs
-
-enum-told-7 : tie.Need-enum-told-7
-enum-told-7 c = search needs
-
-enum-told-8 : tie.Need-enum-told-8
-enum-told-8 c = search needs
-
-enum-told-9 : tie.Need-enum-told-9
-enum-told-9 c = search needs
-
-enum-told-10 : tie.Need-enum-told-10
-enum-told-10 c = search needs
-
-enum-told-11 : tie.Need-enum-told-11
-enum-told-11 c = search needs
-
-enum-told-12 : tie.Need-enum-told-12
-enum-told-12 c = search needs
-
-enum-told-13 : tie.Need-enum-told-13
-enum-told-13 c = search needs
-
-enum-told-14 : tie.Need-enum-told-14
-enum-told-14 c = search needs
-
-enum-told-15 : tie.Need-enum-told-15
-enum-told-15 c = search needs
-
-enum-told-16 : tie.Need-enum-told-16
-enum-told-16 c = search needs
-
-enum-told-17 : tie.Need-enum-told-17
-enum-told-17 c = search needs
-
-enum-told-18 : tie.Need-enum-told-18
-enum-told-18 c = search needs
-
-enum-told-19 : tie.Need-enum-told-19
-enum-told-19 c = search needs
-
-enum-told-20 : tie.Need-enum-told-20
-enum-told-20 c = search needs
-
-enum-told-21 : tie.Need-enum-told-21
-enum-told-21 c = search needs
-
-enum-told-22 : tie.Need-enum-told-22
-enum-told-22 c = search needs
-
 returns : tie.Need-returns
-returns c = c .cause .ensures ∙ ap errorCause (sym (c .before .before .error .given .1))
+returns c =
+    let here = at.returns c in
+    here .cause .ensures ∙ ap errorCause (sym (here .error .given .1))
 
 returns-2 : tie.Need-returns-2
-returns-2 c = c .before .before .no-cause .ensures ∙ ap errorCause (sym (c .enum-told .given .1))
+returns-2 c =
+    let here = at.returns-2 c in
+    here .no-cause .ensures ∙ ap errorCause (sym (here .enum-told .given .1))
 
 returns-3 : tie.Need-returns-3
-returns-3 c = c .before .before .no-cause .ensures ∙ ap errorCause (sym (c .enum-told2 .given .1))
+returns-3 c =
+    let here = at.returns-3 c in
+    here .no-cause .ensures ∙ ap errorCause (sym (here .enum-told2 .given .1))
 
 returns-4 : tie.Need-returns-4
-returns-4 c = c .before .before .no-cause .ensures ∙ ap errorCause (sym (c .enum-told3 .given .1))
+returns-4 c =
+    let here = at.returns-4 c in
+    here .no-cause .ensures ∙ ap errorCause (sym (here .enum-told3 .given .1))
 
 returns-5 : tie.Need-returns-5
-returns-5 c = c .before .before .no-cause .ensures ∙ ap errorCause (sym (c .enum-told4 .given .1))
+returns-5 c =
+    let here = at.returns-5 c in
+    here .no-cause .ensures ∙ ap errorCause (sym (here .enum-told4 .given .1))
 
 returns-6 : tie.Need-returns-6
-returns-6 c = c .before .before .no-cause .ensures ∙ ap errorCause (sym (c .enum-told5 .given .1))
+returns-6 c =
+    let here = at.returns-6 c in
+    here .no-cause .ensures ∙ ap errorCause (sym (here .enum-told5 .given .1))
 
 returns-7 : tie.Need-returns-7
-returns-7 c = c .before .before .no-cause .ensures ∙ ap errorCause (sym (c .enum-told6 .given .1))
+returns-7 c =
+    let here = at.returns-7 c in
+    here .no-cause .ensures ∙ ap errorCause (sym (here .enum-told6 .given .1))
 
 returns-8 : tie.Need-returns-8
-returns-8 c = c .before .before .no-cause .ensures ∙ ap errorCause (sym (c .enum-told7 .given .1))
+returns-8 c =
+    let here = at.returns-8 c in
+    here .no-cause .ensures ∙ ap errorCause (sym (here .enum-told7 .given .1))
 
 returns-9 : tie.Need-returns-9
-returns-9 c = c .before .before .no-cause .ensures ∙ ap errorCause (sym (c .enum-told8 .given .1))
+returns-9 c =
+    let here = at.returns-9 c in
+    here .no-cause .ensures ∙ ap errorCause (sym (here .enum-told8 .given .1))
 
 returns-10 : tie.Need-returns-10
-returns-10 c = c .before .before .no-cause .ensures ∙ ap errorCause (sym (c .enum-told9 .given .1))
+returns-10 c =
+    let here = at.returns-10 c in
+    here .no-cause .ensures ∙ ap errorCause (sym (here .enum-told9 .given .1))
 
 returns-11 : tie.Need-returns-11
-returns-11 c = c .before .before .no-cause .ensures ∙ ap errorCause (sym (c .enum-told10 .given .1))
+returns-11 c =
+    let here = at.returns-11 c in
+    here .no-cause .ensures ∙ ap errorCause (sym (here .enum-told10 .given .1))
 
 returns-12 : tie.Need-returns-12
-returns-12 c = c .before .before .no-cause .ensures ∙ ap errorCause (sym (c .enum-told11 .given .1))
+returns-12 c =
+    let here = at.returns-12 c in
+    here .no-cause .ensures ∙ ap errorCause (sym (here .enum-told11 .given .1))
 
 returns-13 : tie.Need-returns-13
-returns-13 c = c .before .before .no-cause .ensures ∙ ap errorCause (sym (c .enum-told12 .given .1))
+returns-13 c =
+    let here = at.returns-13 c in
+    here .no-cause .ensures ∙ ap errorCause (sym (here .enum-told12 .given .1))
 
 returns-14 : tie.Need-returns-14
-returns-14 c = c .before .before .no-cause .ensures ∙ ap errorCause (sym (c .enum-told13 .given .1))
+returns-14 c =
+    let here = at.returns-14 c in
+    here .no-cause .ensures ∙ ap errorCause (sym (here .enum-told13 .given .1))
 
 returns-15 : tie.Need-returns-15
-returns-15 c = c .before .before .no-cause .ensures ∙ ap errorCause (sym (c .enum-told14 .given .1))
+returns-15 c =
+    let here = at.returns-15 c in
+    here .no-cause .ensures ∙ ap errorCause (sym (here .enum-told14 .given .1))
 
 returns-16 : tie.Need-returns-16
-returns-16 c = c .before .before .no-cause .ensures ∙ ap errorCause (sym (c .enum-told15 .given .1))
+returns-16 c =
+    let here = at.returns-16 c in
+    here .no-cause .ensures ∙ ap errorCause (sym (here .enum-told15 .given .1))
 
 returns-17 : tie.Need-returns-17
-returns-17 c = c .before .before .no-cause .ensures ∙ ap errorCause (sym (c .enum-told16 .given .1))
+returns-17 c =
+    let here = at.returns-17 c in
+    here .no-cause .ensures ∙ ap errorCause (sym (here .enum-told16 .given .1))
 
 returns-18 : tie.Need-returns-18
-returns-18 c = c .before .before .no-cause .ensures ∙ ap errorCause (sym (c .enum-told17 .given .1))
+returns-18 c =
+    let here = at.returns-18 c in
+    here .no-cause .ensures ∙ ap errorCause (sym (here .enum-told17 .given .1))
 
 returns-19 : tie.Need-returns-19
-returns-19 c = c .before .before .no-cause .ensures ∙ ap errorCause (sym (c .enum-told18 .given .1))
+returns-19 c =
+    let here = at.returns-19 c in
+    here .no-cause .ensures ∙ ap errorCause (sym (here .enum-told18 .given .1))
 
 returns-20 : tie.Need-returns-20
-returns-20 c = c .before .before .no-cause .ensures ∙ ap errorCause (sym (c .enum-told19 .given .1))
+returns-20 c =
+    let here = at.returns-20 c in
+    here .no-cause .ensures ∙ ap errorCause (sym (here .enum-told19 .given .1))
 
 returns-21 : tie.Need-returns-21
-returns-21 c = c .before .before .no-cause .ensures ∙ ap errorCause (sym (c .enum-told20 .given .1))
+returns-21 c =
+    let here = at.returns-21 c in
+    here .no-cause .ensures ∙ ap errorCause (sym (here .enum-told20 .given .1))
 
 returns-22 : tie.Need-returns-22
-returns-22 c = c .before .before .no-cause .ensures ∙ ap errorCause (sym (c .enum-told21 .given .1))
+returns-22 c =
+    let here = at.returns-22 c in
+    here .no-cause .ensures ∙ ap errorCause (sym (here .enum-told21 .given .1))
 
 returns-23 : tie.Need-returns-23
-returns-23 c = c .before .before .no-cause .ensures ∙ ap errorCause (sym (c .enum-told22 .given .1))
+returns-23 c =
+    let here = at.returns-23 c in
+    here .no-cause .ensures ∙ ap errorCause (sym (here .enum-told22 .given .1))
 
 pub error-cause-spec : {M : Type 1} → statement M
-error-cause-spec = tie.close (tie.spec no-cause-requires enum-known-error cause-requires enum-told enum-told-2 enum-told-3 enum-told-4 enum-told-5 enum-told-6 enum-told-7 enum-told-8 enum-told-9 enum-told-10 enum-told-11 enum-told-12 enum-told-13 enum-told-14 enum-told-15 enum-told-16 enum-told-17 enum-told-18 enum-told-19 enum-told-20 enum-told-21 enum-told-22 returns returns-2 returns-3 returns-4 returns-5 returns-6 returns-7 returns-8 returns-9 returns-10 returns-11 returns-12 returns-13 returns-14 returns-15 returns-16 returns-17 returns-18 returns-19 returns-20 returns-21 returns-22 returns-23)
+error-cause-spec = tie.close (at.spec no-cause-requires cause-requires returns returns-2 returns-3 returns-4 returns-5 returns-6 returns-7 returns-8 returns-9 returns-10 returns-11 returns-12 returns-13 returns-14 returns-15 returns-16 returns-17 returns-18 returns-19 returns-20 returns-21 returns-22 returns-23)

@@ -1,14 +1,9 @@
 -- The rows in order.
+mod At
 use borrow.Author.Needs.{needs}
 use Rattle.hnsr_circuit.proofs.calls.new_answer.Statement.{statement}
 use Rattle.hnsr_circuit.proofs.calls.new_answer.Tie as tie
-use Rattle.hnsr_circuit.proofs.calls.new_answer.Reads as reads
-use Rattle.hnsr_circuit.proofs.calls.new_answer.Lts as lts
-use Rattle.hns_encoding.proofs.logic.either.Reads as either-reads
-use Rattle.hnsr_circuit.proofs.answer.check.Reads as check-reads
-use Rattle.hnsr_circuit.proofs.answer.first_refusal.Reads as first-refusal-reads
-use Rattle.hnsr_circuit.proofs.calls.session_answer.Reads as session-answer-reads
-use Rattle.hnsr_circuit.proofs.config.OpaqueRelayConfig.validate.Reads as validate-reads
+use Rattle.hnsr_circuit.proofs.calls.new_answer.Proof.At as at
 
 session-answer-requires : tie.Need-session-answer-requires
 session-answer-requires c κs = search needs
@@ -29,7 +24,9 @@ first-refusal-requires-2 : tie.Need-first-refusal-requires-2
 first-refusal-requires-2 c κs = search needs
 
 returns : tie.Need-returns
-returns c = rw (c .first-refusal2 .ensures, c .before .first-refusal .ensures, c .before .before .check .ensures, c .before .before .before .either .ensures, c .before .before .before .before .validate .ensures, c .before .before .before .before .before .session-answer .ensures)
+returns c =
+    let here = at.returns c in
+    rw (here .first-refusal2 .ensures, here .first-refusal .ensures, here .check .ensures, here .either .ensures, here .validate .ensures, here .session-answer .ensures)
 
 pub new-answer-spec : {M : Type 1} → statement M
 new-answer-spec =

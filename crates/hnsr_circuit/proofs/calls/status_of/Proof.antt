@@ -1,6 +1,5 @@
 -- Each field of the status is the count of its name.
 use mathlib.Core.Path.{refl}
-use borrow.Author.Needs.{needs}
 use Rattle.hnsr_circuit.proofs.calls.status_of.Statement.{statement}
 use Rattle.hnsr_circuit.proofs.calls.status_of.Tie as tie
 

@@ -2,8 +2,6 @@
 use Rattle.hnsr_circuit.specs.Circuits.{circuitAt}
 use Rattle.hnsr_circuit.proofs.circuits.circuit_is.Statement.{statement}
 use Rattle.hnsr_circuit.proofs.circuits.circuit_is.Tie as tie
-use Rattle.hnsr_circuit.proofs.circuits.circuit_is.Reads as reads
-use Rattle.hnsr_circuit.proofs.circuits.circuit_is.Lts as lts
 
 returns : tie.Need-returns
 unfolding circuitAt

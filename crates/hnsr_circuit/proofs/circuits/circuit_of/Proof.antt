@@ -3,9 +3,6 @@ use Rattle.hnsr_circuit.specs.Circuits.{circuitOf}
 use borrow.Author.Needs.{needs}
 use Rattle.hnsr_circuit.proofs.circuits.circuit_of.Statement.{statement}
 use Rattle.hnsr_circuit.proofs.circuits.circuit_of.Tie as tie
-use Rattle.hnsr_circuit.proofs.circuits.circuit_of.Reads as reads
-use Rattle.hnsr_circuit.proofs.circuits.circuit_of.Lts as lts
-use Rattle.hnsr_circuit.proofs.circuits.is_side.Reads as is-side-reads
 
 is-side-requires : tie.Need-is-side-requires
 is-side-requires c κs = search needs

@@ -2,8 +2,6 @@
 use Rattle.hnsr_circuit.specs.Circuits.{circuitOver}
 use Rattle.hnsr_circuit.proofs.circuits.circuit_over.Statement.{statement}
 use Rattle.hnsr_circuit.proofs.circuits.circuit_over.Tie as tie
-use Rattle.hnsr_circuit.proofs.circuits.circuit_over.Reads as reads
-use Rattle.hnsr_circuit.proofs.circuits.circuit_over.Lts as lts
 
 returns : tie.Need-returns
 unfolding circuitOver

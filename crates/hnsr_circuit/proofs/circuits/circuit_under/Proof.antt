@@ -3,9 +3,6 @@ use Rattle.hnsr_circuit.specs.Circuits.{circuitUnder}
 use borrow.Author.Needs.{needs}
 use Rattle.hnsr_circuit.proofs.circuits.circuit_under.Statement.{statement}
 use Rattle.hnsr_circuit.proofs.circuits.circuit_under.Tie as tie
-use Rattle.hnsr_circuit.proofs.circuits.circuit_under.Reads as reads
-use Rattle.hnsr_circuit.proofs.circuits.circuit_under.Lts as lts
-use Rattle.hnsr_circuit.proofs.ledger.same_reservation.Reads as same-reservation-reads
 
 same-reservation-requires : tie.Need-same-reservation-requires
 same-reservation-requires c κs = search needs

@@ -3,8 +3,6 @@ use mathlib.Core.Path.{refl}
 use Rattle.hnsr_circuit.specs.Circuits.{isCircuit}
 use Rattle.hnsr_circuit.proofs.circuits.is_circuit.Statement.{statement}
 use Rattle.hnsr_circuit.proofs.circuits.is_circuit.Tie as tie
-use Rattle.hnsr_circuit.proofs.circuits.is_circuit.Reads as reads
-use Rattle.hnsr_circuit.proofs.circuits.is_circuit.Lts as lts
 
 returns : tie.Need-returns
 unfolding isCircuit

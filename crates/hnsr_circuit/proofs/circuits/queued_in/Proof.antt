@@ -3,9 +3,6 @@ use Rattle.hnsr_circuit.specs.Circuits.{queuedIn}
 use borrow.Author.Needs.{needs}
 use Rattle.hnsr_circuit.proofs.circuits.queued_in.Statement.{statement}
 use Rattle.hnsr_circuit.proofs.circuits.queued_in.Tie as tie
-use Rattle.hnsr_circuit.proofs.circuits.queued_in.Reads as reads
-use Rattle.hnsr_circuit.proofs.circuits.queued_in.Lts as lts
-use Rattle.hns_encoding.proofs.numbers.saturating_add_usize.Reads as saturating-add-usize-reads
 
 saturating-add-usize-requires : tie.Need-saturating-add-usize-requires
 saturating-add-usize-requires c κs = search needs

@@ -1,15 +1,8 @@
 -- One field for each side.
-use borrow.Author.Needs.{needs}
+mod At
 use Rattle.hnsr_circuit.proofs.circuits.queued_to.Statement.{statement}
 use Rattle.hnsr_circuit.proofs.circuits.queued_to.Tie as tie
-use Rattle.hnsr_circuit.proofs.circuits.queued_to.Reads as reads
-use Rattle.hnsr_circuit.proofs.circuits.queued_to.Lts as lts
-
-enum-told : tie.Need-enum-told
-enum-told c = search needs
-
-enum-told-2 : tie.Need-enum-told-2
-enum-told-2 c = search needs
+use Rattle.hnsr_circuit.proofs.circuits.queued_to.Proof.At as at
 
 returns : tie.Need-returns
 returns c = rw (c .enum-told .given .1)
@@ -18,4 +11,4 @@ returns-2 : tie.Need-returns-2
 returns-2 c = rw (c .enum-told2 .given .1)
 
 pub queued-to-spec : {M : Type 1} → statement M
-queued-to-spec = tie.close (tie.spec enum-told enum-told-2 returns returns-2)
+queued-to-spec = tie.close (at.spec returns returns-2)

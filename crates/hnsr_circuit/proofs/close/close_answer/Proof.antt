@@ -1,13 +1,10 @@
 -- The rows are their tests and refusals; the first refusal is the answer.
+mod At
 use Rattle.hnsr_circuit.specs.Close.{closeAnswer}
 use borrow.Author.Needs.{needs}
 use Rattle.hnsr_circuit.proofs.close.close_answer.Statement.{statement}
 use Rattle.hnsr_circuit.proofs.close.close_answer.Tie as tie
-use Rattle.hnsr_circuit.proofs.close.close_answer.Reads as reads
-use Rattle.hnsr_circuit.proofs.close.close_answer.Lts as lts
-use Rattle.hnsr_circuit.proofs.answer.check.Reads as check-reads
-use Rattle.hnsr_circuit.proofs.answer.first_refusal.Reads as first-refusal-reads
-use Rattle.hnsr_circuit.proofs.close.unless_pending.Reads as unless-pending-reads
+use Rattle.hnsr_circuit.proofs.close.close_answer.Proof.At as at
 
 check-requires : tie.Need-check-requires
 check-requires c κs = search needs
@@ -20,7 +17,9 @@ first-refusal-requires c κs = search needs
 
 returns : tie.Need-returns
 unfolding closeAnswer
-returns c = rw (c .first-refusal .ensures, c .before .unless-pending .ensures, c .before .before .check .ensures)
+returns c =
+    let here = at.returns c in
+    rw (here .first-refusal .ensures, here .unless-pending .ensures, here .check .ensures)
 
 pub close-answer-spec : {M : Type 1} → statement M
 close-answer-spec =

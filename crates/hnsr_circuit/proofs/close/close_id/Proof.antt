@@ -1,8 +1,6 @@
 -- By whether there is a pending record.
 use Rattle.hnsr_circuit.proofs.close.close_id.Statement.{statement}
 use Rattle.hnsr_circuit.proofs.close.close_id.Tie as tie
-use Rattle.hnsr_circuit.proofs.close.close_id.Reads as reads
-use Rattle.hnsr_circuit.proofs.close.close_id.Lts as lts
 
 returns : tie.Need-returns
 returns c = rw (c .if1 .taken)

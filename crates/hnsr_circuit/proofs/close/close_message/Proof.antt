@@ -1,13 +1,11 @@
 -- By whether there is a pending record.
+mod At
 use mathlib.Core.Path.{sym, _∙_}
 use Rattle.hns_encoding.specs.Laws.Tests.{on-true, on-false}
 use borrow.Author.Needs.{needs}
 use Rattle.hnsr_circuit.proofs.close.close_message.Statement.{statement}
 use Rattle.hnsr_circuit.proofs.close.close_message.Tie as tie
-use Rattle.hnsr_circuit.proofs.close.close_message.Reads as reads
-use Rattle.hnsr_circuit.proofs.close.close_message.Lts as lts
-use Rattle.hnsr_circuit.proofs.close.translated_on.Reads as translated-on-reads
-use Rattle.hnsr_circuit.proofs.message.passed_on.Reads as passed-on-reads
+use Rattle.hnsr_circuit.proofs.close.close_message.Proof.At as at
 
 translated-on-requires : tie.Need-translated-on-requires
 translated-on-requires c κs = search needs
@@ -16,7 +14,9 @@ passed-on-requires : tie.Need-passed-on-requires
 passed-on-requires c κs = search needs
 
 returns : tie.Need-returns
-returns c = c .before .before .translated-on .ensures ∙ sym (on-true _ _ _ (c .if1 .taken))
+returns c =
+    let here = at.returns c in
+    here .translated-on .ensures ∙ sym (on-true _ _ _ (here .if1 .taken))
 
 returns-2 : tie.Need-returns-2
 returns-2 c = c .before .passed-on .ensures ∙ sym (on-false _ _ _ (c .if1 .left))

@@ -1,16 +1,9 @@
 -- The rows decide; the rest is what was found.
+mod At
 use borrow.Author.Needs.{needs}
 use Rattle.hnsr_circuit.proofs.close.close_plan.Statement.{statement}
 use Rattle.hnsr_circuit.proofs.close.close_plan.Tie as tie
-use Rattle.hnsr_circuit.proofs.close.close_plan.Reads as reads
-use Rattle.hnsr_circuit.proofs.close.close_plan.Lts as lts
-use Rattle.hns_encoding.proofs.logic.both.Reads as both-reads
-use Rattle.hns_encoding.proofs.logic.no.Reads as no-reads
-use Rattle.hnsr_circuit.proofs.answer.is_taken.Reads as is-taken-reads
-use Rattle.hnsr_circuit.proofs.close.close_id.Reads as close-id-reads
-use Rattle.hnsr_circuit.proofs.close.close_message.Reads as close-message-reads
-use Rattle.hnsr_circuit.proofs.close.close_rows.Reads as close-rows-reads
-use Rattle.hnsr_circuit.proofs.header.revoked.Reads as revoked-reads
+use Rattle.hnsr_circuit.proofs.close.close_plan.Proof.At as at
 
 close-rows-requires : tie.Need-close-rows-requires
 close-rows-requires c κs = search needs
@@ -37,7 +30,9 @@ close-message-requires : tie.Need-close-message-requires
 close-message-requires c κs = search needs
 
 returns : tie.Need-returns
-returns c = rw (c .close-message .ensures, c .before .close-id .ensures, c .before .before .both2 .ensures, c .before .before .before .both .ensures, c .before .before .before .before .no .ensures, c .before .before .before .before .before .revoked .ensures, c .before .before .before .before .before .before .is-taken .ensures, c .before .before .before .before .before .before .before .close-rows .ensures)
+returns c =
+    let here = at.returns c in
+    rw (here .close-message .ensures, here .close-id .ensures, here .both2 .ensures, here .both .ensures, here .no .ensures, here .revoked .ensures, here .is-taken .ensures, here .close-rows .ensures)
 
 pub close-plan-spec : {M : Type 1} → statement M
 close-plan-spec =

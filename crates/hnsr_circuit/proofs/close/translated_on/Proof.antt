@@ -1,13 +1,11 @@
 -- By whether the sender is the requester.
+mod At
 use mathlib.Core.Path.{sym, _∙_}
 use Rattle.hns_encoding.specs.Laws.Tests.{on-true, on-false}
 use borrow.Author.Needs.{needs}
 use Rattle.hnsr_circuit.proofs.close.translated_on.Statement.{statement}
 use Rattle.hnsr_circuit.proofs.close.translated_on.Tie as tie
-use Rattle.hnsr_circuit.proofs.close.translated_on.Reads as reads
-use Rattle.hnsr_circuit.proofs.close.translated_on.Lts as lts
-use Rattle.hnsr_circuit.proofs.message.closing.Reads as closing-reads
-use Rattle.hnsr_circuit.proofs.peer.same_peer.Reads as same-peer-reads
+use Rattle.hnsr_circuit.proofs.close.translated_on.Proof.At as at
 
 same-peer-requires : tie.Need-same-peer-requires
 same-peer-requires c κs = search needs
@@ -16,13 +14,17 @@ closing-requires : tie.Need-closing-requires
 closing-requires c κs = search needs
 
 returns : tie.Need-returns
-returns c = c .closing .ensures ∙ sym (on-true _ _ _ (sym (c .before .before .same-peer .ensures) ∙ c .before .if1 .taken))
+returns c =
+    let here = at.returns c in
+    here .closing .ensures ∙ sym (on-true _ _ _ (sym (here .same-peer .ensures) ∙ here .if1 .taken))
 
 closing-requires-2 : tie.Need-closing-requires-2
 closing-requires-2 c κs = search needs
 
 returns-2 : tie.Need-returns-2
-returns-2 c = c .closing2 .ensures ∙ sym (on-false _ _ _ (sym (c .before .before .same-peer .ensures) ∙ c .before .if1 .left))
+returns-2 c =
+    let here = at.returns-2 c in
+    here .closing2 .ensures ∙ sym (on-false _ _ _ (sym (here .same-peer .ensures) ∙ here .if1 .left))
 
 pub translated-on-spec : {M : Type 1} → statement M
 translated-on-spec =

@@ -3,8 +3,6 @@ use borrow.Author.Tests.{lt-leb, le-leb}
 use Rattle.hnsr_circuit.specs.Config.{withinLimits}
 use Rattle.hnsr_circuit.proofs.config.within.Statement.{statement}
 use Rattle.hnsr_circuit.proofs.config.within.Tie as tie
-use Rattle.hnsr_circuit.proofs.config.within.Reads as reads
-use Rattle.hnsr_circuit.proofs.config.within.Lts as lts
 
 returns : tie.Need-returns
 unfolding withinLimits

@@ -1,13 +1,10 @@
 -- The row is its tests joined, and its refusal.
+mod At
 use Rattle.hnsr_circuit.specs.Data.{bytesAnswer}
 use borrow.Author.Needs.{needs}
 use Rattle.hnsr_circuit.proofs.data.bytes_answer.Statement.{statement}
 use Rattle.hnsr_circuit.proofs.data.bytes_answer.Tie as tie
-use Rattle.hnsr_circuit.proofs.data.bytes_answer.Reads as reads
-use Rattle.hnsr_circuit.proofs.data.bytes_answer.Lts as lts
-use Rattle.hns_encoding.proofs.numbers.saturating_add_u64.Reads as saturating-add-u64-reads
-use Rattle.hns_encoding.proofs.logic.either.Reads as either-reads
-use Rattle.hnsr_circuit.proofs.answer.check.Reads as check-reads
+use Rattle.hnsr_circuit.proofs.data.bytes_answer.Proof.At as at
 
 saturating-add-u64-requires : tie.Need-saturating-add-u64-requires
 saturating-add-u64-requires c κs = search needs
@@ -23,7 +20,9 @@ check-requires c κs = search needs
 
 returns : tie.Need-returns
 unfolding bytesAnswer
-returns c = rw (c .check .ensures, c .before .if1 .taken, c .before .before .either .ensures, c .before .before .before .before .before .saturating-add-u642 .ensures, c .before .before .before .before .before .before .saturating-add-u64 .ensures)
+returns c =
+    let here = at.returns c in
+    rw (here .check .ensures, here .if1 .taken, here .either .ensures, here .saturating-add-u642 .ensures, here .saturating-add-u64 .ensures)
 
 returns-2 : tie.Need-returns-2
 unfolding bytesAnswer

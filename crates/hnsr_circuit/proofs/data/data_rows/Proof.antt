@@ -1,17 +1,9 @@
 -- The rows, joined from the last.
+mod At
 use borrow.Author.Needs.{needs}
 use Rattle.hnsr_circuit.proofs.data.data_rows.Statement.{statement}
 use Rattle.hnsr_circuit.proofs.data.data_rows.Tie as tie
-use Rattle.hnsr_circuit.proofs.data.data_rows.Reads as reads
-use Rattle.hnsr_circuit.proofs.data.data_rows.Lts as lts
-use Rattle.hnsr_body.proofs.data_body.DataBody.check.Reads as check-reads
-use Rattle.hnsr_circuit.proofs.answer.body_answer.Reads as body-answer-reads
-use Rattle.hnsr_circuit.proofs.answer.first_refusal.Reads as first-refusal-reads
-use Rattle.hnsr_circuit.proofs.circuits.side_of.Reads as side-of-reads
-use Rattle.hnsr_circuit.proofs.data.bytes_answer.Reads as bytes-answer-reads
-use Rattle.hnsr_circuit.proofs.data.flow_answer.Reads as flow-answer-reads
-use Rattle.hnsr_circuit.proofs.inflight.capacity_answer.Reads as capacity-answer-reads
-use Rattle.hnsr_circuit.proofs.message.circuit_answer.Reads as circuit-answer-reads
+use Rattle.hnsr_circuit.proofs.data.data_rows.Proof.At as at
 
 side-of-requires : tie.Need-side-of-requires
 side-of-requires c κs = search needs
@@ -47,7 +39,9 @@ first-refusal-requires-4 : tie.Need-first-refusal-requires-4
 first-refusal-requires-4 c κs = search needs
 
 returns : tie.Need-returns
-returns c = rw (c .first-refusal4 .ensures, c .before .first-refusal3 .ensures, c .before .before .first-refusal2 .ensures, c .before .before .before .first-refusal .ensures, c .before .before .before .before .flow-answer .ensures, c .before .before .before .before .before .bytes-answer .ensures, c .before .before .before .before .before .before .capacity-answer .ensures, c .before .before .before .before .before .before .before .circuit-answer .ensures, c .before .before .before .before .before .before .before .before .body-answer .ensures, c .before .before .before .before .before .before .before .before .before .check .ensures, c .before .before .before .before .before .before .before .before .before .before .side-of .ensures)
+returns c =
+    let here = at.returns c in
+    rw (here .first-refusal4 .ensures, here .first-refusal3 .ensures, here .first-refusal2 .ensures, here .first-refusal .ensures, here .flow-answer .ensures, here .bytes-answer .ensures, here .capacity-answer .ensures, here .circuit-answer .ensures, here .body-answer .ensures, here .check .ensures, here .side-of .ensures)
 
 pub data-rows-spec : {M : Type 1} → statement M
 data-rows-spec =

@@ -1,4 +1,5 @@
 -- The bytes are there, so that the read gives their number.
+mod At
 use Prim.Native.Nat.{ℕ, _+_, _≤_}
 use mathlib.Core.Path.{_≡_, sym, ap, _∙_}
 use mathlib.Core.List.{List}
@@ -12,9 +13,7 @@ use Rattle.hns_encoding.specs.Laws.Tests.{on-true}
 use borrow.Author.Needs.{needs}
 use Rattle.hnsr_circuit.proofs.draw.draw_at.Statement.{statement}
 use Rattle.hnsr_circuit.proofs.draw.draw_at.Tie as tie
-use Rattle.hnsr_circuit.proofs.draw.draw_at.Reads as reads
-use Rattle.hnsr_circuit.proofs.draw.draw_at.Lts as lts
-use Rattle.hns_encoding.proofs.decoder.Decoder.read_u64_be.Reads as read-u64-be-reads
+use Rattle.hnsr_circuit.proofs.draw.draw_at.Proof.At as at
 
 abbrev value : ReadU64 → ℕ
 value (Ok n next) = n
@@ -26,20 +25,18 @@ number xs at h = ap value (on-true _ (Ok (be (take 8 (drop at xs))) (record { po
 read-u64-be-requires : tie.Need-read-u64-be-requires
 read-u64-be-requires c κs = search needs
 
-enum-known-read : tie.Need-enum-known-read
-enum-known-read c = search needs
-
-enum-told : tie.Need-enum-told
-enum-told c = search needs
-
 returns : tie.Need-returns
-returns c = let s = c .before .before .before .before .before in
-    ap value (sym (c .before .read .given .1) ∙ c .before .before .before .read-u64-be .ensures) ∙ number (s .args .random .now) (s .args .at) (s .pre)
+returns c =
+    let here = at.returns c in
+    let s = here .start in
+    ap value (sym (here .read .given .1) ∙ here .read-u64-be .ensures) ∙ number (s .args .random .now) (s .args .at) (s .pre)
 
 returns-2 : tie.Need-returns-2
-returns-2 c = let s = c .before .before .before .before in
-    ap value (sym (c .enum-told .given .1) ∙ c .before .before .read-u64-be .ensures) ∙ number (s .args .random .now) (s .args .at) (s .pre)
+returns-2 c =
+    let here = at.returns-2 c in
+    let s = here .start in
+    ap value (sym (here .enum-told .given .1) ∙ here .read-u64-be .ensures) ∙ number (s .args .random .now) (s .args .at) (s .pre)
 
 pub draw-at-spec : {M : Type 1} → statement M
 draw-at-spec =
-    tie.close (tie.spec read-u64-be-requires enum-known-read enum-told returns returns-2)
+    tie.close (at.spec read-u64-be-requires returns returns-2)

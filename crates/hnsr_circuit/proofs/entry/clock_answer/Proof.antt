@@ -3,9 +3,6 @@ use Rattle.hnsr_circuit.specs.Entry.{clockAnswer}
 use borrow.Author.Needs.{needs}
 use Rattle.hnsr_circuit.proofs.entry.clock_answer.Statement.{statement}
 use Rattle.hnsr_circuit.proofs.entry.clock_answer.Tie as tie
-use Rattle.hnsr_circuit.proofs.entry.clock_answer.Reads as reads
-use Rattle.hnsr_circuit.proofs.entry.clock_answer.Lts as lts
-use Rattle.hnsr_circuit.proofs.answer.check.Reads as check-reads
 
 check-requires : tie.Need-check-requires
 check-requires c κs = search needs

@@ -1,11 +1,10 @@
 -- Three tests joined.
+mod At
 use Rattle.hnsr_circuit.specs.Entry.{tooFew}
 use borrow.Author.Needs.{needs}
 use Rattle.hnsr_circuit.proofs.entry.too_few.Statement.{statement}
 use Rattle.hnsr_circuit.proofs.entry.too_few.Tie as tie
-use Rattle.hnsr_circuit.proofs.entry.too_few.Reads as reads
-use Rattle.hnsr_circuit.proofs.entry.too_few.Lts as lts
-use Rattle.hns_encoding.proofs.logic.either.Reads as either-reads
+use Rattle.hnsr_circuit.proofs.entry.too_few.Proof.At as at
 
 either-requires : tie.Need-either-requires
 either-requires c κs = search needs
@@ -15,7 +14,9 @@ either-requires-2 c κs = search needs
 
 returns : tie.Need-returns
 unfolding tooFew
-returns c = rw (c .either2 .ensures, c .before .before .either .ensures)
+returns c =
+    let here = at.returns c in
+    rw (here .either2 .ensures, here .either .ensures)
 
 pub too-few-spec : {M : Type 1} → statement M
 too-few-spec = tie.close (tie.spec either-requires either-requires-2 returns)

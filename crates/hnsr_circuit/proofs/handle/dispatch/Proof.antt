@@ -1,5 +1,6 @@
 -- Each arm is the handling that its opcode picks.
 mod Tie
+mod At
 use Prim.Native.Nat.{ℕ}
 use mathlib.Core.Path.{sym, ap, _∙_}
 use mathlib.Core.Logic.{inl, inr, ⊎-elim}
@@ -12,6 +13,7 @@ use Rattle.hnsr_circuit.specs.Code.Held.{heldPending, heldCircuits, held
 use Rattle.hnsr_circuit.specs.Laws.HeldTables.{places-kept}
 use Rattle.hnsr_circuit.proofs.handle.dispatch.Statement.{statement}
 use Rattle.hnsr_circuit.proofs.handle.dispatch.Proof.Tie as tie
+use Rattle.hnsr_circuit.proofs.handle.dispatch.Proof.At as at
 
 handle-open-requires : tie.Need-handle-open-requires
 handle-open-requires c κs = search needs
@@ -20,122 +22,77 @@ handle-accept-requires : tie.Need-handle-accept-requires
 handle-accept-requires c κs = search needs
 
 handle-data-requires : tie.Need-handle-data-requires
-handle-data-requires c κs = c .before .before .before .before .before .before .before .before .before .before .pre
+handle-data-requires c κs =
+    let here = at.handle-data-requires c in
+    here .start .pre
 
 handle-window-requires : tie.Need-handle-window-requires
-handle-window-requires c κs = c .before .before .before .before .before .before .before .before .before .pre
+handle-window-requires c κs =
+    let here = at.handle-window-requires c in
+    here .start .pre
 
 handle-close-requires : tie.Need-handle-close-requires
-handle-close-requires c κs = c .before .before .before .before .before .before .before .before .before .before .before .before .pre
-
-unexpected-requires : tie.Need-unexpected-requires
-unexpected-requires c = search needs
-
-same-length : tie.Need-same-length
-same-length c = search needs
-
-same-length-2 : tie.Need-same-length-2
-same-length-2 c = search needs
-
-same-length-3 : tie.Need-same-length-3
-same-length-3 c = search needs
-
-same-length-4 : tie.Need-same-length-4
-same-length-4 c = search needs
-
-same-length-5 : tie.Need-same-length-5
-same-length-5 c = search needs
+handle-close-requires c κs =
+    let here = at.handle-close-requires c in
+    here .start .pre
 
 returns : tie.Need-returns
 unfolding handlingOf dispatch
-returns c = let a = c .before .before .before .before .before .before .before .before .before .before .before .before .before .before .before .before .before .before .args in
+returns c =
+    let here = at.returns c in
+    let a = here .start .args in
     let w = worldOf (a .relay) (heldPending (a .places) (a .pending .now)) (heldCircuits (a .places) (a .circuits .now)) (heldLedger (a .places) (a .ledger .now)) (heldActions (a .places) (a .inflight .now)) in
     let q = packetOf (a .packet) (a .peer .now) (a .body .now) (a .endpoint .now) (a .random .now) in
-    c .before .before .before .before .before .before .handle-open .ensures ∙ ap (λ (n : ℕ). ending (a .out .now) (dispatch (handlingOf n) w q)) (sym (c .before .before .before .before .before .before .before .before .before .before .before .before .match .keys1))
-
-same-length-6 : tie.Need-same-length-6
-same-length-6 c = search needs
-
-same-length-7 : tie.Need-same-length-7
-same-length-7 c = search needs
-
-same-length-8 : tie.Need-same-length-8
-same-length-8 c = search needs
-
-same-length-9 : tie.Need-same-length-9
-same-length-9 c = search needs
+    here .handle-open .ensures ∙ ap (λ (n : ℕ). ending (a .out .now) (dispatch (handlingOf n) w q)) (sym (here .match .keys1))
 
 returns-2 : tie.Need-returns-2
 unfolding handlingOf dispatch
-returns-2 c = let a = c .before .before .before .before .before .before .before .before .before .before .before .before .before .before .before .before .args in
+returns-2 c =
+    let here = at.returns-2 c in
+    let a = here .start .args in
     let w = worldOf (a .relay) (heldPending (a .places) (a .pending .now)) (heldCircuits (a .places) (a .circuits .now)) (heldLedger (a .places) (a .ledger .now)) (heldActions (a .places) (a .inflight .now)) in
     let q = packetOf (a .packet) (a .peer .now) (a .body .now) (a .endpoint .now) (a .random .now) in
-    c .before .before .before .before .before .handle-accept .ensures (a .ledger .now) (a .endpoint .now) (a .random .now) ∙ ap (λ (n : ℕ). ending (a .out .now) (dispatch (handlingOf n) w q)) (sym (c .before .before .before .before .before .before .before .before .before .before .match .keys2))
-
-same-length-10 : tie.Need-same-length-10
-same-length-10 c = search needs
-
-same-length-11 : tie.Need-same-length-11
-same-length-11 c = search needs
-
-same-length-12 : tie.Need-same-length-12
-same-length-12 c = search needs
-
-same-length-13 : tie.Need-same-length-13
-same-length-13 c = search needs
+    here .handle-accept .ensures (a .ledger .now) (a .endpoint .now) (a .random .now) ∙ ap (λ (n : ℕ). ending (a .out .now) (dispatch (handlingOf n) w q)) (sym (here .match .keys2))
 
 returns-3 : tie.Need-returns-3
 unfolding handlingOf dispatch
-returns-3 c = let a = c .before .before .before .before .before .before .before .before .before .before .before .before .before .before .before .before .args in
+returns-3 c =
+    let here = at.returns-3 c in
+    let a = here .start .args in
     let w = worldOf (a .relay) (heldPending (a .places) (a .pending .now)) (heldCircuits (a .places) (a .circuits .now)) (heldLedger (a .places) (a .ledger .now)) (heldActions (a .places) (a .inflight .now)) in
     let q = packetOf (a .packet) (a .peer .now) (a .body .now) (a .endpoint .now) (a .random .now) in
-    c .before .before .before .before .before .handle-data .ensures (a .pending .now) (a .endpoint .now) (a .random .now) ∙ ap (λ (n : ℕ). ending (a .out .now) (dispatch (handlingOf n) w q)) (sym (c .before .before .before .before .before .before .before .before .before .before .match .keys3))
-
-same-length-14 : tie.Need-same-length-14
-same-length-14 c = search needs
-
-same-length-15 : tie.Need-same-length-15
-same-length-15 c = search needs
-
-same-length-16 : tie.Need-same-length-16
-same-length-16 c = search needs
+    here .handle-data .ensures (a .pending .now) (a .endpoint .now) (a .random .now) ∙ ap (λ (n : ℕ). ending (a .out .now) (dispatch (handlingOf n) w q)) (sym (here .match .keys3))
 
 returns-4 : tie.Need-returns-4
 unfolding handlingOf dispatch
-returns-4 c = let a = c .before .before .before .before .before .before .before .before .before .before .before .before .before .before .args in
+returns-4 c =
+    let here = at.returns-4 c in
+    let a = here .start .args in
     let w = worldOf (a .relay) (heldPending (a .places) (a .pending .now)) (heldCircuits (a .places) (a .circuits .now)) (heldLedger (a .places) (a .ledger .now)) (heldActions (a .places) (a .inflight .now)) in
     let q = packetOf (a .packet) (a .peer .now) (a .body .now) (a .endpoint .now) (a .random .now) in
-    c .before .before .before .before .handle-window .ensures (a .pending .now) (a .ledger .now) (a .endpoint .now) (a .random .now) ∙ ap (λ (n : ℕ). ending (a .out .now) (dispatch (handlingOf n) w q)) (sym (c .before .before .before .before .before .before .before .before .match .keys4))
-
-same-length-17 : tie.Need-same-length-17
-same-length-17 c = search needs
-
-same-length-18 : tie.Need-same-length-18
-same-length-18 c = search needs
-
-same-length-19 : tie.Need-same-length-19
-same-length-19 c = search needs
-
-same-length-20 : tie.Need-same-length-20
-same-length-20 c = search needs
+    here .handle-window .ensures (a .pending .now) (a .ledger .now) (a .endpoint .now) (a .random .now) ∙ ap (λ (n : ℕ). ending (a .out .now) (dispatch (handlingOf n) w q)) (sym (here .match .keys4))
 
 returns-5 : tie.Need-returns-5
-returns-5 c = let a = c .before .before .before .before .before .before .before .before .before .before .before .before .before .before .before .before .before .before .args in
+returns-5 c =
+    let here = at.returns-5 c in
+    let a = here .start .args in
     let w = worldOf (a .relay) (heldPending (a .places) (a .pending .now)) (heldCircuits (a .places) (a .circuits .now)) (heldLedger (a .places) (a .ledger .now)) (heldActions (a .places) (a .inflight .now)) in
     let q = packetOf (a .packet) (a .peer .now) (a .body .now) (a .endpoint .now) (a .random .now) in
-    let rest = c .before .before .before .before .before .before .before .before .before .before .before .before .match .rest in
-    let low = c .before .before .before .before .before .before .before .before .before .before .before .if1 .left in
-    let high = c .before .before .before .before .before .before .before .before .before .before .if2 .taken in
+    let rest = here .match .rest in
+    let low = here .if1 .left in
+    let high = here .if2 .taken in
     let n = a .packet .opcode in
-    c .before .before .before .before .before .handle-close .ensures (a .ledger .now) (a .endpoint .now) (a .random .now) ∙ ap (λ (o : Outcome). ending (a .out .now) o) (closes n w q (at-nineteen n low (rest .0 .0 .0 .0 .1) (λ e. rest .1 (inl e)) (rest .0 .0 .0 .1) (λ e. rest .1 (inr e)) (rest .0 .0 .1) (rest .0 .1)) high)
+    here .handle-close .ensures (a .ledger .now) (a .endpoint .now) (a .random .now) ∙ ap (λ (o : Outcome). ending (a .out .now) o) (closes n w q (at-nineteen n low (rest .0 .0 .0 .0 .1) (λ e. rest .1 (inl e)) (rest .0 .0 .0 .1) (λ e. rest .1 (inr e)) (rest .0 .0 .1) (rest .0 .1)) high)
 
 returns-6 : tie.Need-returns-6
-returns-6 c = let a = c .before .before .before .before .before .before .before .args in
+returns-6 c =
+    let here = at.returns-6 c in
+    let a = here .start .args in
     let n = a .packet .opcode in
     let q = packetOf (a .packet) (a .peer .now) (a .body .now) (a .endpoint .now) (a .random .now) in
-    places-kept (c .unexpected .result) (a .pending .now) (a .circuits .now) (a .ledger .now) (a .inflight .now) (a .out .now) (a .places) (c .unexpected .ensures .1)
-    ∙ left-alone (a .relay) (heldPending (a .places) (a .pending .now)) (heldCircuits (a .places) (a .circuits .now)) (heldLedger (a .places) (a .ledger .now)) (heldActions (a .places) (a .inflight .now)) (c .unexpected .result) n q (a .out .now) (c .unexpected .ensures .0)
-    (⊎-elim (λ k. ⊎-elim (other-incoming n) (other-opened n) (k .keys5)) (⊎-elim (λ k. other-below n (k .1 .taken)) (λ k. other-above n (k .2 .left))) (c .before .match .came))
+    places-kept (here .unexpected .result) (a .pending .now) (a .circuits .now) (a .ledger .now) (a .inflight .now) (a .out .now) (a .places) (here .unexpected .ensures .1)
+    ∙ left-alone (a .relay) (heldPending (a .places) (a .pending .now)) (heldCircuits (a .places) (a .circuits .now)) (heldLedger (a .places) (a .ledger .now)) (heldActions (a .places) (a .inflight .now)) (here .unexpected .result) n q (a .out .now) (here .unexpected .ensures .0)
+    (⊎-elim (λ k. ⊎-elim (other-incoming n) (other-opened n) (k .keys5)) (⊎-elim (λ k. other-below n (k .1 .taken)) (λ k. other-above n (k .2 .left))) (here .match .came))
 
 pub dispatch-spec : {M : Type 1} → statement M
-dispatch-spec = tie.close (tie.spec handle-open-requires handle-accept-requires handle-data-requires handle-window-requires handle-close-requires unexpected-requires same-length same-length-2 same-length-3 same-length-4 same-length-5 returns same-length-6 same-length-7 same-length-8 same-length-9 returns-2 same-length-10 same-length-11 same-length-12 same-length-13 returns-3 same-length-14 same-length-15 same-length-16 returns-4 same-length-17 same-length-18 same-length-19 same-length-20 returns-5 returns-6)
+dispatch-spec = tie.close (at.spec handle-open-requires handle-accept-requires handle-data-requires handle-window-requires handle-close-requires returns returns-2 returns-3 returns-4 returns-5 returns-6)

@@ -1,15 +1,11 @@
 -- The rows in order.
+mod At
 use mathlib.Core.Path.{_∙_}
 use Rattle.hnsr_circuit.specs.Answers.{_then_}
 use borrow.Author.Needs.{needs}
 use Rattle.hnsr_circuit.proofs.handle.entry_answer.Statement.{statement}
 use Rattle.hnsr_circuit.proofs.handle.entry_answer.Tie as tie
-use Rattle.hnsr_circuit.proofs.handle.entry_answer.Reads as reads
-use Rattle.hnsr_circuit.proofs.handle.entry_answer.Lts as lts
-use Rattle.hnsr_circuit.proofs.answer.first_refusal.Reads as first-refusal-reads
-use Rattle.hnsr_circuit.proofs.entry.clock_answer.Reads as clock-answer-reads
-use Rattle.hnsr_circuit.proofs.entry.peer_answer.Reads as peer-answer-reads
-use Rattle.hnsr_circuit.proofs.handle.packet_answer.Reads as packet-answer-reads
+use Rattle.hnsr_circuit.proofs.handle.entry_answer.Proof.At as at
 
 peer-answer-requires : tie.Need-peer-answer-requires
 peer-answer-requires c κs = search needs
@@ -30,10 +26,12 @@ first-refusal-requires-3 : tie.Need-first-refusal-requires-3
 first-refusal-requires-3 c κs = search needs
 
 returns : tie.Need-returns
-returns c = let a = c .before .before .before .before .before .before .args in
-    let rest = c .before .before .before .first-refusal .ensures ∙ (λ x. c .before .before .before .before .before .peer-answer .ensures x then c .before .before .before .before .packet-answer .ensures x) in
-    let entered = c .before .before .first-refusal2 .ensures ∙ (λ x. a .room then rest x) in
-    c .first-refusal3 .ensures ∙ (λ x. entered x then c .before .clock-answer .ensures x)
+returns c =
+    let here = at.returns c in
+    let a = here .start .args in
+    let rest = here .first-refusal .ensures ∙ (λ x. here .peer-answer .ensures x then here .packet-answer .ensures x) in
+    let entered = here .first-refusal2 .ensures ∙ (λ x. a .room then rest x) in
+    here .first-refusal3 .ensures ∙ (λ x. entered x then here .clock-answer .ensures x)
 
 pub entry-answer-spec : {M : Type 1} → statement M
 entry-answer-spec =

@@ -3,10 +3,6 @@ use Rattle.hnsr_circuit.specs.Handle.{gateAnswer}
 use borrow.Author.Needs.{needs}
 use Rattle.hnsr_circuit.proofs.handle.gate_answer.Statement.{statement}
 use Rattle.hnsr_circuit.proofs.handle.gate_answer.Tie as tie
-use Rattle.hnsr_circuit.proofs.handle.gate_answer.Reads as reads
-use Rattle.hnsr_circuit.proofs.handle.gate_answer.Lts as lts
-use Rattle.hns_encoding.proofs.logic.no.Reads as no-reads
-use Rattle.hnsr_circuit.proofs.answer.check.Reads as check-reads
 
 no-requires : tie.Need-no-requires
 no-requires c κs = search needs

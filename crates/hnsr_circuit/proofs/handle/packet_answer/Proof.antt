@@ -5,10 +5,6 @@ use Rattle.hnsr_circuit.specs.Entry.{packetAnswer}
 use borrow.Author.Needs.{needs}
 use Rattle.hnsr_circuit.proofs.handle.packet_answer.Statement.{statement}
 use Rattle.hnsr_circuit.proofs.handle.packet_answer.Tie as tie
-use Rattle.hnsr_circuit.proofs.handle.packet_answer.Reads as reads
-use Rattle.hnsr_circuit.proofs.handle.packet_answer.Lts as lts
-use Rattle.hnsr_body.proofs.envelope.HnsrPacket.validate.Reads as validate-reads
-use Rattle.hnsr_circuit.proofs.answer.body_answer.Reads as body-answer-reads
 
 validate-requires : tie.Need-validate-requires
 validate-requires c κs = search needs

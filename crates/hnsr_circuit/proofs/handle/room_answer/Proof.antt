@@ -2,10 +2,6 @@
 use borrow.Author.Needs.{needs}
 use Rattle.hnsr_circuit.proofs.handle.room_answer.Statement.{statement}
 use Rattle.hnsr_circuit.proofs.handle.room_answer.Tie as tie
-use Rattle.hnsr_circuit.proofs.handle.room_answer.Reads as reads
-use Rattle.hnsr_circuit.proofs.handle.room_answer.Lts as lts
-use Rattle.hns_encoding.proofs.logic.either.Reads as either-reads
-use Rattle.hnsr_circuit.proofs.answer.check.Reads as check-reads
 
 either-requires : tie.Need-either-requires
 either-requires c κs = search needs

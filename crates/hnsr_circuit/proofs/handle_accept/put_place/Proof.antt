@@ -4,8 +4,6 @@ use borrow.Author.Tests.{lt-ltb, le-ltb}
 use Rattle.hns_encoding.specs.Laws.Tests.{on-true, on-false}
 use Rattle.hnsr_circuit.proofs.handle_accept.put_place.Statement.{statement}
 use Rattle.hnsr_circuit.proofs.handle_accept.put_place.Tie as tie
-use Rattle.hnsr_circuit.proofs.handle_accept.put_place.Reads as reads
-use Rattle.hnsr_circuit.proofs.handle_accept.put_place.Lts as lts
 
 returns : tie.Need-returns
 returns c = let a = c .before .args in sym (on-true _ (a .place) (a .spare) (lt-ltb (a .place) (a .places) (c .if1 .taken)))

@@ -1,9 +1,9 @@
 -- Of the id that is known nothing is looked up; else a lookup finds a place below the number of places exactly where a record has what is asked.
 mod Tie
+mod At
 use mathlib.Core.Path.{sym, ap, _∙_}
 use mathlib.Core.Bool.{_||_}
 use lib.Dec.{ltb}
-use borrow.Author.Needs.{needs}
 use Rattle.hnsr_circuit.specs.Pending.{clearPending, pendingAt}
 use Rattle.hnsr_circuit.specs.Circuits.{clearCircuit, circuitAt}
 use Rattle.hnsr_circuit.specs.Code.Held.{heldPending, heldCircuits}
@@ -12,18 +12,12 @@ use Rattle.hnsr_circuit.specs.Code.Opening.{isTaken}
 use Rattle.hnsr_circuit.specs.Laws.Lookups.{place-any}
 use Rattle.hnsr_circuit.proofs.handle_open.id_taken.Statement.{statement}
 use Rattle.hnsr_circuit.proofs.handle_open.id_taken.Proof.Tie as tie
+use Rattle.hnsr_circuit.proofs.handle_open.id_taken.Proof.At as at
 
 returns : tie.Need-returns
-returns c = let a = c .before .args in c .before .pre ∙ ap (isTaken (heldPending (a .places) (a .pending .now)) (heldCircuits (a .places) (a .circuits .now))) (sym (c .if1 .taken))
-
-find-pending-id-requires : tie.Need-find-pending-id-requires
-find-pending-id-requires c = search needs
-
-find-circuit-id-requires : tie.Need-find-circuit-id-requires
-find-circuit-id-requires c = search needs
-
-either-found-requires : tie.Need-either-found-requires
-either-found-requires c = search needs
+returns c =
+    let here = at.returns c in
+    let a = here .start .args in here .start .pre ∙ ap (isTaken (heldPending (a .places) (a .pending .now)) (heldCircuits (a .places) (a .circuits .now))) (sym (here .if1 .taken))
 
 returns-2 : tie.Need-returns-2
 returns-2 c =
@@ -39,4 +33,4 @@ returns-2 c =
     c .either-found .ensures ∙ (λ x. ltb (waiting x) (long x) || ltb (running x) (wide x)) ∙ (λ x. here x || there x)
 
 pub id-taken-spec : {M : Type 1} → statement M
-id-taken-spec = tie.close (tie.spec returns find-pending-id-requires find-circuit-id-requires either-found-requires returns-2)
+id-taken-spec = tie.close (at.spec returns returns-2)

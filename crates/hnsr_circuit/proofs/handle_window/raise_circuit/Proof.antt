@@ -1,11 +1,11 @@
 -- Where the record is stored its credit fits, so that it is the raised one.
 mod Tie
+mod At
 use mathlib.Core.Path.{sym, ap, _∙_, _≡_, refl}
 use Rattle.hns_encoding.specs.Laws.Tests.{split, on-false}
 use lib.ListN.{getD, set}
 use Rattle.hnsr_circuit.specs.declared.records.RelayCircuit.{RelayCircuit}
 use Rattle.hnsr_circuit.specs.Circuits.{noCircuit, raised, isCircuit, clearCircuit}
-use borrow.Author.Needs.{needs}
 use Rattle.hnsr_circuit.specs.declared.records.RelaySide.{RelaySide}
 use Rattle.hnsr_circuit.specs.declared.records.RelaySide.the-variants.{Requester, Endpoint}
 use mathlib.Core.Bool.{cond}
@@ -15,6 +15,7 @@ use Rattle.hnsr_circuit.specs.Laws.HeldTables.{circuit-still}
 use Rattle.hnsr_circuit.specs.Laws.Held.{held-spare, stored-seen}
 use Rattle.hnsr_circuit.proofs.handle_window.raise_circuit.Statement.{statement}
 use Rattle.hnsr_circuit.proofs.handle_window.raise_circuit.Proof.Tie as tie
+use Rattle.hnsr_circuit.proofs.handle_window.raise_circuit.Proof.At as at
 
 -- a side's credit is no mark
 marks : (side : RelaySide) (n : ℕ) (c : RelayCircuit) → isCircuit (raised side n c) ≡ isCircuit c
@@ -22,32 +23,21 @@ unfolding isCircuit
 marks Requester n c = refl
 marks Endpoint n c = refl
 
-circuit-at-requires : tie.Need-circuit-at-requires
-circuit-at-requires c = search needs
-
-circuit-raised-requires : tie.Need-circuit-raised-requires
-circuit-raised-requires c = search needs
-
-set-circuit-requires : tie.Need-set-circuit-requires
-set-circuit-requires c = search needs
-
-same-length : tie.Need-same-length
-same-length c = search needs
-
 returns : tie.Need-returns
 unfolding isCircuit
 returns c =
-    let s = c .before .before .before .before .before .before in
+    let here = at.returns c in
+    let s = here .start in
     let a = s .args in
     let n = a .places .circuits in
     let r = a .circuits .now in
     let t = heldCircuits (a .places) r in
-    let there = c .before .before .before .before .circuit-at .ensures in
+    let there = here .circuit-at .ensures in
     split (a .go)
-    (λ g. let e = c .before .before .before .circuit-raised .ensures (rw there (s .pre g)) ∙ ap (raised (a .side) (a .delta)) there in
-    stored-seen clearCircuit n r _ (a .go) (a .place) (c .before .before .before .circuit-raised .result) (λ h. circuit-still (c .before .before .before .circuit-raised .result) (ap isCircuit e ∙ marks (a .side) (a .delta) (getD t (a .place) noCircuit) ∙ held-spare clearCircuit isCircuit (λ u. refl) n r (a .place) noCircuit refl h)) (c .before .set-circuit .ensures)
+    (λ g. let e = here .circuit-raised .ensures (rw there (s .pre g)) ∙ ap (raised (a .side) (a .delta)) there in
+    stored-seen clearCircuit n r _ (a .go) (a .place) (here .circuit-raised .result) (λ h. circuit-still (here .circuit-raised .result) (ap isCircuit e ∙ marks (a .side) (a .delta) (getD t (a .place) noCircuit) ∙ held-spare clearCircuit isCircuit (λ u. refl) n r (a .place) noCircuit refl h)) (here .set-circuit .ensures)
     ∙ ap (λ (x : RelayCircuit). cond (a .go) (set t (a .place) x) t) e)
-    (λ g. ap (held clearCircuit n) (c .before .set-circuit .ensures ∙ on-false (a .go) _ r g) ∙ sym (on-false (a .go) (set t (a .place) (raised (a .side) (a .delta) (getD t (a .place) noCircuit))) t g))
+    (λ g. ap (held clearCircuit n) (here .set-circuit .ensures ∙ on-false (a .go) _ r g) ∙ sym (on-false (a .go) (set t (a .place) (raised (a .side) (a .delta) (getD t (a .place) noCircuit))) t g))
 
 pub raise-circuit-spec : {M : Type 1} → statement M
-raise-circuit-spec = tie.close (tie.spec circuit-at-requires circuit-raised-requires set-circuit-requires same-length returns)
+raise-circuit-spec = tie.close (at.spec returns)

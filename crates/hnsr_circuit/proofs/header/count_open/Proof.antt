@@ -2,9 +2,6 @@
 use borrow.Author.Needs.{needs}
 use Rattle.hnsr_circuit.proofs.header.count_open.Statement.{statement}
 use Rattle.hnsr_circuit.proofs.header.count_open.Tie as tie
-use Rattle.hnsr_circuit.proofs.header.count_open.Reads as reads
-use Rattle.hnsr_circuit.proofs.header.count_open.Lts as lts
-use Rattle.hns_encoding.proofs.numbers.saturating_add_u64.Reads as saturating-add-u64-reads
 
 saturating-add-u64-requires : tie.Need-saturating-add-u64-requires
 saturating-add-u64-requires c κs = search needs

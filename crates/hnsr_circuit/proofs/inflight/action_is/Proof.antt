@@ -1,18 +1,19 @@
 -- The used mark, then the test.
+mod At
 use Rattle.hnsr_circuit.specs.Inflight.{actionAt}
 use borrow.Author.Needs.{needs}
 use Rattle.hnsr_circuit.proofs.inflight.action_is.Statement.{statement}
 use Rattle.hnsr_circuit.proofs.inflight.action_is.Tie as tie
-use Rattle.hnsr_circuit.proofs.inflight.action_is.Reads as reads
-use Rattle.hnsr_circuit.proofs.inflight.action_is.Lts as lts
-use Rattle.hns_encoding.proofs.logic.both.Reads as both-reads
+use Rattle.hnsr_circuit.proofs.inflight.action_is.Proof.At as at
 
 both-requires : tie.Need-both-requires
 both-requires c κs = search needs
 
 returns : tie.Need-returns
 unfolding actionAt
-returns c = rw (c .before .before .before .if1 .taken) (c .both .ensures)
+returns c =
+    let here = at.returns c in
+    rw (here .if1 .taken) (here .both .ensures)
 
 returns-2 : tie.Need-returns-2
 unfolding actionAt

@@ -3,9 +3,6 @@ use Rattle.hnsr_circuit.specs.Inflight.{actionToward}
 use borrow.Author.Needs.{needs}
 use Rattle.hnsr_circuit.proofs.inflight.action_toward.Statement.{statement}
 use Rattle.hnsr_circuit.proofs.inflight.action_toward.Tie as tie
-use Rattle.hnsr_circuit.proofs.inflight.action_toward.Reads as reads
-use Rattle.hnsr_circuit.proofs.inflight.action_toward.Lts as lts
-use Rattle.hnsr_circuit.proofs.peer.same_peer.Reads as same-peer-reads
 
 same-peer-requires : tie.Need-same-peer-requires
 same-peer-requires c κs = search needs

@@ -2,8 +2,6 @@
 use Rattle.hnsr_circuit.specs.Inflight.{actionUnder}
 use Rattle.hnsr_circuit.proofs.inflight.action_under.Statement.{statement}
 use Rattle.hnsr_circuit.proofs.inflight.action_under.Tie as tie
-use Rattle.hnsr_circuit.proofs.inflight.action_under.Reads as reads
-use Rattle.hnsr_circuit.proofs.inflight.action_under.Lts as lts
 
 returns : tie.Need-returns
 unfolding actionUnder

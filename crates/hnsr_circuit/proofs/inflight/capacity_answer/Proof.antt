@@ -3,10 +3,6 @@ use Rattle.hnsr_circuit.specs.Inflight.{capacityAnswer}
 use borrow.Author.Needs.{needs}
 use Rattle.hnsr_circuit.proofs.inflight.capacity_answer.Statement.{statement}
 use Rattle.hnsr_circuit.proofs.inflight.capacity_answer.Tie as tie
-use Rattle.hnsr_circuit.proofs.inflight.capacity_answer.Reads as reads
-use Rattle.hnsr_circuit.proofs.inflight.capacity_answer.Lts as lts
-use Rattle.hnsr_circuit.proofs.inflight.capacity_left.Reads as capacity-left-reads
-use Rattle.hnsr_circuit.proofs.answer.check.Reads as check-reads
 
 capacity-left-requires : tie.Need-capacity-left-requires
 capacity-left-requires c κs = search needs

@@ -3,10 +3,6 @@ use Rattle.hnsr_circuit.specs.Inflight.{capacityLeft}
 use borrow.Author.Needs.{needs}
 use Rattle.hnsr_circuit.proofs.inflight.capacity_left.Statement.{statement}
 use Rattle.hnsr_circuit.proofs.inflight.capacity_left.Tie as tie
-use Rattle.hnsr_circuit.proofs.inflight.capacity_left.Reads as reads
-use Rattle.hnsr_circuit.proofs.inflight.capacity_left.Lts as lts
-use Rattle.hns_encoding.proofs.numbers.min_usize.Reads as min-usize-reads
-use Rattle.hns_encoding.proofs.numbers.saturating_sub_usize.Reads as saturating-sub-usize-reads
 
 saturating-sub-usize-requires : tie.Need-saturating-sub-usize-requires
 saturating-sub-usize-requires c κs = search needs

@@ -3,8 +3,6 @@ use mathlib.Core.Path.{refl}
 use Rattle.hnsr_circuit.specs.Inflight.{isAction}
 use Rattle.hnsr_circuit.proofs.inflight.is_action.Statement.{statement}
 use Rattle.hnsr_circuit.proofs.inflight.is_action.Tie as tie
-use Rattle.hnsr_circuit.proofs.inflight.is_action.Reads as reads
-use Rattle.hnsr_circuit.proofs.inflight.is_action.Lts as lts
 
 returns : tie.Need-returns
 unfolding isAction

@@ -1,10 +1,10 @@
 -- One test after the other.
+mod At
 use borrow.Author.Tests.{eq-eqb, ne-eqb}
 use Rattle.hnsr_circuit.specs.Inflight.{kindOf}
 use Rattle.hnsr_circuit.proofs.inflight.kind_of.Statement.{statement}
 use Rattle.hnsr_circuit.proofs.inflight.kind_of.Tie as tie
-use Rattle.hnsr_circuit.proofs.inflight.kind_of.Reads as reads
-use Rattle.hnsr_circuit.proofs.inflight.kind_of.Lts as lts
+use Rattle.hnsr_circuit.proofs.inflight.kind_of.Proof.At as at
 
 returns : tie.Need-returns
 unfolding kindOf
@@ -16,15 +16,21 @@ returns-2 c = rw (ne-eqb _ _ (c .before .if1 .left), eq-eqb _ _ (c .if2 .taken))
 
 returns-3 : tie.Need-returns-3
 unfolding kindOf
-returns-3 c = rw (ne-eqb _ _ (c .before .before .if1 .left), ne-eqb _ _ (c .before .if2 .left), eq-eqb _ _ (c .if3 .taken))
+returns-3 c =
+    let here = at.returns-3 c in
+    rw (ne-eqb _ _ (here .if1 .left), ne-eqb _ _ (here .if2 .left), eq-eqb _ _ (here .if3 .taken))
 
 returns-4 : tie.Need-returns-4
 unfolding kindOf
-returns-4 c = rw (ne-eqb _ _ (c .before .before .before .if1 .left), ne-eqb _ _ (c .before .before .if2 .left), ne-eqb _ _ (c .before .if3 .left), eq-eqb _ _ (c .if4 .taken))
+returns-4 c =
+    let here = at.returns-4 c in
+    rw (ne-eqb _ _ (here .if1 .left), ne-eqb _ _ (here .if2 .left), ne-eqb _ _ (here .if3 .left), eq-eqb _ _ (here .if4 .taken))
 
 returns-5 : tie.Need-returns-5
 unfolding kindOf
-returns-5 c = rw (ne-eqb _ _ (c .before .before .before .if1 .left), ne-eqb _ _ (c .before .before .if2 .left), ne-eqb _ _ (c .before .if3 .left), ne-eqb _ _ (c .if4 .left))
+returns-5 c =
+    let here = at.returns-5 c in
+    rw (ne-eqb _ _ (here .if1 .left), ne-eqb _ _ (here .if2 .left), ne-eqb _ _ (here .if3 .left), ne-eqb _ _ (here .if4 .left))
 
 pub kind-of-spec : {M : Type 1} → statement M
 kind-of-spec = tie.close (tie.spec returns returns-2 returns-3 returns-4 returns-5)

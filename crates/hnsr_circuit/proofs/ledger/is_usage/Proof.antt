@@ -3,8 +3,6 @@ use mathlib.Core.Path.{refl}
 use Rattle.hnsr_circuit.specs.Ledger.{isUsage}
 use Rattle.hnsr_circuit.proofs.ledger.is_usage.Statement.{statement}
 use Rattle.hnsr_circuit.proofs.ledger.is_usage.Tie as tie
-use Rattle.hnsr_circuit.proofs.ledger.is_usage.Reads as reads
-use Rattle.hnsr_circuit.proofs.ledger.is_usage.Lts as lts
 
 returns : tie.Need-returns
 unfolding isUsage

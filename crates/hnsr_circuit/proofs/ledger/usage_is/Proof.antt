@@ -3,9 +3,6 @@ use Rattle.hnsr_circuit.specs.Ledger.{usageAt}
 use borrow.Author.Needs.{needs}
 use Rattle.hnsr_circuit.proofs.ledger.usage_is.Statement.{statement}
 use Rattle.hnsr_circuit.proofs.ledger.usage_is.Tie as tie
-use Rattle.hnsr_circuit.proofs.ledger.usage_is.Reads as reads
-use Rattle.hnsr_circuit.proofs.ledger.usage_is.Lts as lts
-use Rattle.hnsr_circuit.proofs.ledger.same_reservation.Reads as same-reservation-reads
 
 same-reservation-requires : tie.Need-same-reservation-requires
 same-reservation-requires c κs = search needs

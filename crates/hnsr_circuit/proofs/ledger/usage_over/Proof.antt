@@ -2,8 +2,6 @@
 use Rattle.hnsr_circuit.specs.Ledger.{usageOver}
 use Rattle.hnsr_circuit.proofs.ledger.usage_over.Statement.{statement}
 use Rattle.hnsr_circuit.proofs.ledger.usage_over.Tie as tie
-use Rattle.hnsr_circuit.proofs.ledger.usage_over.Reads as reads
-use Rattle.hnsr_circuit.proofs.ledger.usage_over.Lts as lts
 
 returns : tie.Need-returns
 unfolding usageOver

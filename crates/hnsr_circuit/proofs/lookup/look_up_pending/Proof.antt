@@ -1,5 +1,6 @@
 -- The place that was found, whether it is one, and the record there.
 mod Tie
+mod At
 use mathlib.Core.Path.{sym, ap, _∙_}
 use Prim.Native.Nat.{ℕ}
 use lib.Dec.{ltb}
@@ -7,32 +8,24 @@ use lib.ListN.{getD}
 use Rattle.hnsr_circuit.specs.Pending.{noPending, clearPending}
 use Rattle.hnsr_circuit.specs.Code.Question.{pendingHas}
 use Rattle.hnsr_circuit.specs.Laws.Lookups.{place-any, pick-at}
-use borrow.Author.Needs.{needs}
 use Rattle.hnsr_circuit.specs.Code.Held.{heldPending}
 use Rattle.hnsr_circuit.specs.Laws.Held.{length-held}
 use Rattle.hnsr_circuit.proofs.lookup.look_up_pending.Statement.{statement}
 use Rattle.hnsr_circuit.proofs.lookup.look_up_pending.Proof.Tie as tie
-
-find-pending-requires : tie.Need-find-pending-requires
-find-pending-requires c = search needs
-
-pending-at-requires : tie.Need-pending-at-requires
-pending-at-requires c = search needs
-
-pending-found-requires : tie.Need-pending-found-requires
-pending-found-requires c = search needs
+use Rattle.hnsr_circuit.proofs.lookup.look_up_pending.Proof.At as at
 
 returns : tie.Need-returns
 returns c =
-    let a = c .before .before .before .args in
+    let here = at.returns c in
+    let a = here .start .args in
     let t = heldPending (a .places) (a .pending .now) in
     let p = pendingHas (a .question) in
-    let place = c .before .before .find-pending .ensures in
-    let e = c .pending-found .ensures in
+    let place = here .find-pending .ensures in
+    let e = here .pending-found .ensures in
     let found = e .0 ∙ (λ i. ltb (place i) (sym (length-held clearPending (a .places .pending) (a .pending .now)) i)) ∙ place-any p t in
-    let row = e .2 ∙ c .before .pending-at .ensures ∙ ap (λ (n : ℕ). getD t n noPending) place ∙ pick-at p noPending t in
+    let row = e .2 ∙ here .pending-at .ensures ∙ ap (λ (n : ℕ). getD t n noPending) place ∙ pick-at p noPending t in
     let at = e .1 ∙ place in
     λ i. record { found = found i; place = at i; pending = row i }
 
 pub look-up-pending-spec : {M : Type 1} → statement M
-look-up-pending-spec = tie.close (tie.spec find-pending-requires pending-at-requires pending-found-requires returns)
+look-up-pending-spec = tie.close (at.spec returns)

@@ -1,14 +1,10 @@
 -- Each row is its test and its refusal; the first refusal is the answer.
+mod At
 use Rattle.hnsr_circuit.specs.Packet.{circuitAnswer}
 use borrow.Author.Needs.{needs}
 use Rattle.hnsr_circuit.proofs.message.circuit_answer.Statement.{statement}
 use Rattle.hnsr_circuit.proofs.message.circuit_answer.Tie as tie
-use Rattle.hnsr_circuit.proofs.message.circuit_answer.Reads as reads
-use Rattle.hnsr_circuit.proofs.message.circuit_answer.Lts as lts
-use Rattle.hns_encoding.proofs.logic.no.Reads as no-reads
-use Rattle.hnsr_circuit.proofs.answer.check.Reads as check-reads
-use Rattle.hnsr_circuit.proofs.answer.first_refusal.Reads as first-refusal-reads
-use Rattle.hnsr_circuit.proofs.circuits.is_side.Reads as is-side-reads
+use Rattle.hnsr_circuit.proofs.message.circuit_answer.Proof.At as at
 
 is-side-requires : tie.Need-is-side-requires
 is-side-requires c κs = search needs
@@ -30,7 +26,9 @@ first-refusal-requires c κs = search needs
 
 returns : tie.Need-returns
 unfolding circuitAnswer
-returns c = rw (c .first-refusal .ensures, c .before .check2 .ensures, c .before .before .check .ensures, c .before .before .before .no2 .ensures, c .before .before .before .before .no .ensures, c .before .before .before .before .before .is-side .ensures)
+returns c =
+    let here = at.returns c in
+    rw (here .first-refusal .ensures, here .check2 .ensures, here .check .ensures, here .no2 .ensures, here .no .ensures, here .is-side .ensures)
 
 pub circuit-answer-spec : {M : Type 1} → statement M
 circuit-answer-spec =

@@ -1,13 +1,9 @@
 -- The other side, and its peer.
+mod At
 use borrow.Author.Needs.{needs}
 use Rattle.hnsr_circuit.proofs.message.data_on.Statement.{statement}
 use Rattle.hnsr_circuit.proofs.message.data_on.Tie as tie
-use Rattle.hnsr_circuit.proofs.message.data_on.Reads as reads
-use Rattle.hnsr_circuit.proofs.message.data_on.Lts as lts
-use Rattle.hnsr_circuit.proofs.circuits.other_side.Reads as other-side-reads
-use Rattle.hnsr_circuit.proofs.circuits.receiver.Reads as receiver-reads
-use Rattle.hnsr_circuit.proofs.circuits.side_of.Reads as side-of-reads
-use Rattle.hnsr_circuit.proofs.inflight.to_endpoint.Reads as to-endpoint-reads
+use Rattle.hnsr_circuit.proofs.message.data_on.Proof.At as at
 
 receiver-requires : tie.Need-receiver-requires
 receiver-requires c κs = search needs
@@ -22,7 +18,9 @@ to-endpoint-requires : tie.Need-to-endpoint-requires
 to-endpoint-requires c κs = search needs
 
 returns : tie.Need-returns
-returns c = rw (c .to-endpoint .ensures, c .before .other-side .ensures, c .before .before .side-of .ensures, c .before .before .before .receiver .ensures)
+returns c =
+    let here = at.returns c in
+    rw (here .to-endpoint .ensures, here .other-side .ensures, here .side-of .ensures, here .receiver .ensures)
 
 pub data-on-spec : {M : Type 1} → statement M
 data-on-spec =

@@ -1,15 +1,12 @@
 -- The sums stop above every count of a peer or a ticket.
+mod At
 use Rattle.hnsr_circuit.specs.Open.{endpointAnswer}
 use Prim.Native.Nat.{_<_}
 use Rattle.hnsr_circuit.specs.Laws.Opening.{leb-sum}
 use borrow.Author.Needs.{needs}
 use Rattle.hnsr_circuit.proofs.open.endpoint_room.Statement.{statement}
 use Rattle.hnsr_circuit.proofs.open.endpoint_room.Tie as tie
-use Rattle.hnsr_circuit.proofs.open.endpoint_room.Reads as reads
-use Rattle.hnsr_circuit.proofs.open.endpoint_room.Lts as lts
-use Rattle.hns_encoding.proofs.numbers.saturating_add_usize.Reads as saturating-add-usize-reads
-use Rattle.hnsr_circuit.proofs.open.endpoint_answer.Reads as endpoint-answer-reads
-use Rattle.hnsr_circuit.proofs.scan.reservation_work.Reads as reservation-work-reads
+use Rattle.hnsr_circuit.proofs.open.endpoint_room.Proof.At as at
 
 -- a peer's and a ticket's most are numbers of 16 bits
 small : (c : tie.Start) → c .args .config .«maximum_circuits_per_peer» < 65536
@@ -29,11 +26,13 @@ endpoint-answer-requires c κs = search needs
 
 returns : tie.Need-returns
 unfolding endpointAnswer
-returns c = let s = c .before .before .before in
+returns c =
+    let here = at.returns c in
+    let s = here .start in
     rw (
-      c .endpoint-answer .ensures,
-      c .before .reservation-work .ensures,
-      c .before .before .saturating-add-usize .ensures,
+      here .endpoint-answer .ensures,
+      here .reservation-work .ensures,
+      here .saturating-add-usize .ensures,
       leb-sum (s .args .config .«maximum_circuits_per_peer») (s .args .waiting .«of_other») (s .args .running .«of_other») (small s),
       leb-sum (s .args .ticket .«max_active_circuits») (s .args .waiting .under) (s .args .running .under) (small-ticket s),
     )

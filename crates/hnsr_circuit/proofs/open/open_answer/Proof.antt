@@ -3,10 +3,6 @@ use Rattle.hnsr_circuit.specs.Open.{openAnswer}
 use borrow.Author.Needs.{needs}
 use Rattle.hnsr_circuit.proofs.open.open_answer.Statement.{statement}
 use Rattle.hnsr_circuit.proofs.open.open_answer.Tie as tie
-use Rattle.hnsr_circuit.proofs.open.open_answer.Reads as reads
-use Rattle.hnsr_circuit.proofs.open.open_answer.Lts as lts
-use Rattle.hns_encoding.proofs.logic.either.Reads as either-reads
-use Rattle.hnsr_circuit.proofs.answer.check.Reads as check-reads
 
 cast-most : tie.Need-cast-most
 cast-most c = search needs

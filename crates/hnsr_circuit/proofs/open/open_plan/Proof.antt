@@ -2,9 +2,6 @@
 use borrow.Author.Needs.{needs}
 use Rattle.hnsr_circuit.proofs.open.open_plan.Statement.{statement}
 use Rattle.hnsr_circuit.proofs.open.open_plan.Tie as tie
-use Rattle.hnsr_circuit.proofs.open.open_plan.Reads as reads
-use Rattle.hnsr_circuit.proofs.open.open_plan.Lts as lts
-use Rattle.hnsr_circuit.proofs.open.deadline_for.Reads as deadline-for-reads
 
 deadline-for-requires : tie.Need-deadline-for-requires
 deadline-for-requires c κs = search needs

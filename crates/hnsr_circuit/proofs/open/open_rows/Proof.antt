@@ -1,13 +1,9 @@
 -- The rows in order.
+mod At
 use borrow.Author.Needs.{needs}
 use Rattle.hnsr_circuit.proofs.open.open_rows.Statement.{statement}
 use Rattle.hnsr_circuit.proofs.open.open_rows.Tie as tie
-use Rattle.hnsr_circuit.proofs.open.open_rows.Reads as reads
-use Rattle.hnsr_circuit.proofs.open.open_rows.Lts as lts
-use Rattle.hnsr_circuit.proofs.answer.body_answer.Reads as body-answer-reads
-use Rattle.hnsr_circuit.proofs.answer.first_refusal.Reads as first-refusal-reads
-use Rattle.hnsr_circuit.proofs.open.admission_answer.Reads as admission-answer-reads
-use Rattle.hnsr_circuit.proofs.open.open_room.Reads as open-room-reads
+use Rattle.hnsr_circuit.proofs.open.open_rows.Proof.At as at
 
 open-room-requires : tie.Need-open-room-requires
 open-room-requires c κs = search needs
@@ -25,7 +21,9 @@ first-refusal-requires-2 : tie.Need-first-refusal-requires-2
 first-refusal-requires-2 c κs = search needs
 
 returns : tie.Need-returns
-returns c = rw (c .first-refusal2 .ensures, c .before .first-refusal .ensures, c .before .before .admission-answer .ensures, c .before .before .before .body-answer .ensures, c .before .before .before .before .open-room .ensures)
+returns c =
+    let here = at.returns c in
+    rw (here .first-refusal2 .ensures, here .first-refusal .ensures, here .admission-answer .ensures, here .body-answer .ensures, here .open-room .ensures)
 
 pub open-rows-spec : {M : Type 1} → statement M
 open-rows-spec =

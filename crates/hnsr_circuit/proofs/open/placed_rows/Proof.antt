@@ -1,17 +1,9 @@
 -- The rows in order.
+mod At
 use borrow.Author.Needs.{needs}
 use Rattle.hnsr_circuit.proofs.open.placed_rows.Statement.{statement}
 use Rattle.hnsr_circuit.proofs.open.placed_rows.Tie as tie
-use Rattle.hnsr_circuit.proofs.open.placed_rows.Reads as reads
-use Rattle.hnsr_circuit.proofs.open.placed_rows.Lts as lts
-use Rattle.hnsr_circuit.proofs.answer.first_refusal.Reads as first-refusal-reads
-use Rattle.hnsr_circuit.proofs.draw.draw_answer.Reads as draw-answer-reads
-use Rattle.hnsr_circuit.proofs.entry.peer_answer.Reads as peer-answer-reads
-use Rattle.hnsr_circuit.proofs.inflight.capacity_answer.Reads as capacity-answer-reads
-use Rattle.hnsr_circuit.proofs.ledger.ledger_answer.Reads as ledger-answer-reads
-use Rattle.hnsr_circuit.proofs.open.deadline_answer.Reads as deadline-answer-reads
-use Rattle.hnsr_circuit.proofs.open.endpoint_room.Reads as endpoint-room-reads
-use Rattle.hnsr_circuit.proofs.peer.same_peer.Reads as same-peer-reads
+use Rattle.hnsr_circuit.proofs.open.placed_rows.Proof.At as at
 
 same-peer-requires : tie.Need-same-peer-requires
 same-peer-requires c κs = search needs
@@ -50,7 +42,9 @@ first-refusal-requires-5 : tie.Need-first-refusal-requires-5
 first-refusal-requires-5 c κs = search needs
 
 returns : tie.Need-returns
-returns c = rw (c .first-refusal5 .ensures, c .before .first-refusal4 .ensures, c .before .before .first-refusal3 .ensures, c .before .before .before .first-refusal2 .ensures, c .before .before .before .before .first-refusal .ensures, c .before .before .before .before .before .ledger-answer .ensures, c .before .before .before .before .before .before .deadline-answer .ensures, c .before .before .before .before .before .before .before .capacity-answer .ensures, c .before .before .before .before .before .before .before .before .draw-answer .ensures, c .before .before .before .before .before .before .before .before .before .endpoint-room .ensures, c .before .before .before .before .before .before .before .before .before .before .peer-answer .ensures, c .before .before .before .before .before .before .before .before .before .before .before .same-peer .ensures)
+returns c =
+    let here = at.returns c in
+    rw (here .first-refusal5 .ensures, here .first-refusal4 .ensures, here .first-refusal3 .ensures, here .first-refusal2 .ensures, here .first-refusal .ensures, here .ledger-answer .ensures, here .deadline-answer .ensures, here .capacity-answer .ensures, here .draw-answer .ensures, here .endpoint-room .ensures, here .peer-answer .ensures, here .same-peer .ensures)
 
 pub placed-rows-spec : {M : Type 1} → statement M
 placed-rows-spec =

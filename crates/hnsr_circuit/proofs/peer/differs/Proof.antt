@@ -1,5 +1,4 @@
 -- Within the names the two bytes are compared; behind them nothing is.
-use borrow.Author.Needs.{needs}
 use borrow.Author.Tests.{lt-ltb, le-ltb}
 use Rattle.hnsr_circuit.proofs.peer.differs.Statement.{statement}
 use Rattle.hnsr_circuit.proofs.peer.differs.Tie as tie

@@ -1,4 +1,5 @@
 -- `peer_of` meets its contract: the first `i` bytes of the name are written over zeros.
+mod At
 use Prim.Native.Nat.{_-_, _≤_, min}
 use mathlib.Core.Path.{_≡_, refl, sym, _∙_}
 use native.Mathlib.Nat.{zero-add}
@@ -10,9 +11,7 @@ use borrow.Author.Needs.{needs}
 use native.Mathlib.Omega.{arith}
 use Rattle.hnsr_circuit.proofs.peer.peer_of.Statement.{statement}
 use Rattle.hnsr_circuit.proofs.peer.peer_of.Tie as tie
-use Rattle.hnsr_circuit.proofs.peer.peer_of.Reads as reads
-use Rattle.hnsr_circuit.proofs.peer.peer_of.Lts as lts
-use Rattle.hns_encoding.proofs.numbers.min_usize.Reads as min-usize-reads
+use Rattle.hnsr_circuit.proofs.peer.peer_of.Proof.At as at
 
 abbrev Inv-loop : tie.InvT-loop
 Inv-loop name bytes₀ most i₀ bytes i = (i ≤ most) × (most ≡ min (length name) maximumPeer) × (length bytes ≡ maximumPeer) × (bytes ≡ paste (replicate maximumPeer 0) 0 (take maximumPeer name) i)
@@ -25,7 +24,8 @@ min-usize-requires c κs = search needs
 
 loop-holds : tie.Need-loop-holds Inv-loop μ-loop
 loop-holds c =
-    (search needs, c .min-usize .ensures, refl, write-start (replicate maximumPeer 0) 0 (take maximumPeer (c .before .before .args .name .now)))
+    let here = at.loop-holds Inv-loop μ-loop c in
+    (search needs, here .min-usize .ensures, refl, write-start (replicate maximumPeer 0) 0 (take maximumPeer (here .start .args .name .now)))
 
 shared-slice-read-bytes : tie.Need-shared-slice-read-bytes Inv-loop μ-loop
 shared-slice-read-bytes c = search needs
@@ -41,26 +41,26 @@ loop-less c = search needs
 
 loop-again : tie.Need-loop-again Inv-loop μ-loop
 loop-again c =
-    let l = c .before .before in
-    let a = l .before .before .before .args in
-    let i = l .loop .i in
+    let here = at.loop-again Inv-loop μ-loop c in
+    let a = here .start .args in
+    let i = here .loop .i in
     let v = getD (a .name .now) i 0 in
     let ys = take maximumPeer (a .name .now) in
     let k : length ys ≡ min maximumPeer (length (a .name .now)) = length-take maximumPeer (a .name .now) in (
       search needs,
-      l .loop .inv .1,
-      length-set (l .loop .bytes) i v ∙ l .loop .inv .2,
-      rw (zero-add i) at (write-step (replicate maximumPeer 0) 0 ys (l .loop .bytes) i v (omega arith) (omega arith) (sym (getD-take maximumPeer (a .name .now) i 0 (omega arith))) (l .loop .inv .3)),
+      here .loop .inv .1,
+      length-set (here .loop .bytes) i v ∙ here .loop .inv .2,
+      rw (zero-add i) at (write-step (replicate maximumPeer 0) 0 ys (here .loop .bytes) i v (omega arith) (omega arith) (sym (getD-take maximumPeer (a .name .now) i 0 (omega arith))) (here .loop .inv .3)),
     )
 
 returns : tie.Need-returns Inv-loop μ-loop
 unfolding peerOf
 returns c =
-    let l = c .before in
-    let a = l .before .before .before .args in
+    let here = at.returns Inv-loop μ-loop c in
+    let a = here .start .args in
     let ys = take maximumPeer (a .name .now) in
     let k : length ys ≡ min maximumPeer (length (a .name .now)) = length-take maximumPeer (a .name .now) in
-    let e = l .loop .inv .3 ∙ write-done (replicate maximumPeer 0) 0 ys (l .loop .i) (omega arith) ∙ written-zeros maximumPeer ys in
+    let e = here .loop .inv .3 ∙ write-done (replicate maximumPeer 0) 0 ys (here .loop .i) (omega arith) ∙ written-zeros maximumPeer ys in
     λ j. record { len = length (a .name .now); bytes = e j }
 
 pub peer-of-spec : {M : Type 1} → statement M

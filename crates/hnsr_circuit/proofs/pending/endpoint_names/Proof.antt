@@ -4,9 +4,6 @@ use mathlib.Core.Bool.{and-true, and-false}
 use borrow.Author.Needs.{needs}
 use Rattle.hnsr_circuit.proofs.pending.endpoint_names.Statement.{statement}
 use Rattle.hnsr_circuit.proofs.pending.endpoint_names.Tie as tie
-use Rattle.hnsr_circuit.proofs.pending.endpoint_names.Reads as reads
-use Rattle.hnsr_circuit.proofs.pending.endpoint_names.Lts as lts
-use Rattle.hnsr_circuit.proofs.peer.same_peer.Reads as same-peer-reads
 
 same-peer-requires : tie.Need-same-peer-requires
 same-peer-requires c κs = search needs

@@ -3,8 +3,6 @@ use mathlib.Core.Path.{refl}
 use Rattle.hnsr_circuit.specs.Pending.{isPending}
 use Rattle.hnsr_circuit.proofs.pending.is_pending.Statement.{statement}
 use Rattle.hnsr_circuit.proofs.pending.is_pending.Tie as tie
-use Rattle.hnsr_circuit.proofs.pending.is_pending.Reads as reads
-use Rattle.hnsr_circuit.proofs.pending.is_pending.Lts as lts
 
 returns : tie.Need-returns
 unfolding isPending

@@ -2,9 +2,6 @@
 use borrow.Author.Needs.{needs}
 use Rattle.hnsr_circuit.proofs.pending.no_pending.Statement.{statement}
 use Rattle.hnsr_circuit.proofs.pending.no_pending.Tie as tie
-use Rattle.hnsr_circuit.proofs.pending.no_pending.Reads as reads
-use Rattle.hnsr_circuit.proofs.pending.no_pending.Lts as lts
-use Rattle.hnsr_circuit.proofs.peer.no_peer.Reads as no-peer-reads
 
 no-peer-requires : tie.Need-no-peer-requires
 no-peer-requires c κs = search needs

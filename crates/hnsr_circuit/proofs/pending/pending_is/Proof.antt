@@ -2,8 +2,6 @@
 use Rattle.hnsr_circuit.specs.Pending.{pendingAt}
 use Rattle.hnsr_circuit.proofs.pending.pending_is.Statement.{statement}
 use Rattle.hnsr_circuit.proofs.pending.pending_is.Tie as tie
-use Rattle.hnsr_circuit.proofs.pending.pending_is.Reads as reads
-use Rattle.hnsr_circuit.proofs.pending.pending_is.Lts as lts
 
 returns : tie.Need-returns
 unfolding pendingAt

@@ -3,9 +3,6 @@ use Rattle.hnsr_circuit.specs.Pending.{pendingOf}
 use borrow.Author.Needs.{needs}
 use Rattle.hnsr_circuit.proofs.pending.pending_of.Statement.{statement}
 use Rattle.hnsr_circuit.proofs.pending.pending_of.Tie as tie
-use Rattle.hnsr_circuit.proofs.pending.pending_of.Reads as reads
-use Rattle.hnsr_circuit.proofs.pending.pending_of.Lts as lts
-use Rattle.hnsr_circuit.proofs.peer.either_is.Reads as either-is-reads
 
 either-is-requires : tie.Need-either-is-requires
 either-is-requires c κs = search needs

@@ -3,9 +3,6 @@ use Rattle.hnsr_circuit.specs.Pending.{pendingOver}
 use borrow.Author.Needs.{needs}
 use Rattle.hnsr_circuit.proofs.pending.pending_over.Statement.{statement}
 use Rattle.hnsr_circuit.proofs.pending.pending_over.Tie as tie
-use Rattle.hnsr_circuit.proofs.pending.pending_over.Reads as reads
-use Rattle.hnsr_circuit.proofs.pending.pending_over.Lts as lts
-use Rattle.hnsr_circuit.proofs.pending.overdue.Reads as overdue-reads
 
 overdue-requires : tie.Need-overdue-requires
 overdue-requires c κs = search needs

@@ -1,18 +1,19 @@
 -- The used mark, then the test.
+mod At
 use Rattle.hnsr_circuit.specs.Pending.{pendingUnder}
 use borrow.Author.Needs.{needs}
 use Rattle.hnsr_circuit.proofs.pending.pending_under.Statement.{statement}
 use Rattle.hnsr_circuit.proofs.pending.pending_under.Tie as tie
-use Rattle.hnsr_circuit.proofs.pending.pending_under.Reads as reads
-use Rattle.hnsr_circuit.proofs.pending.pending_under.Lts as lts
-use Rattle.hnsr_circuit.proofs.ledger.same_reservation.Reads as same-reservation-reads
+use Rattle.hnsr_circuit.proofs.pending.pending_under.Proof.At as at
 
 same-reservation-requires : tie.Need-same-reservation-requires
 same-reservation-requires c κs = search needs
 
 returns : tie.Need-returns
 unfolding pendingUnder
-returns c = rw (c .before .before .if1 .taken) (c .same-reservation .ensures)
+returns c =
+    let here = at.returns c in
+    rw (here .if1 .taken) (here .same-reservation .ensures)
 
 returns-2 : tie.Need-returns-2
 unfolding pendingUnder

@@ -3,9 +3,6 @@ use Rattle.hnsr_circuit.specs.Pending.{requestedBy}
 use borrow.Author.Needs.{needs}
 use Rattle.hnsr_circuit.proofs.pending.requested_by.Statement.{statement}
 use Rattle.hnsr_circuit.proofs.pending.requested_by.Tie as tie
-use Rattle.hnsr_circuit.proofs.pending.requested_by.Reads as reads
-use Rattle.hnsr_circuit.proofs.pending.requested_by.Lts as lts
-use Rattle.hnsr_circuit.proofs.pending.requester_names.Reads as requester-names-reads
 
 requester-names-requires : tie.Need-requester-names-requires
 requester-names-requires c κs = search needs

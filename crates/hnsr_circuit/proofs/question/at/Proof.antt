@@ -2,9 +2,6 @@
 use borrow.Author.Needs.{needs}
 use Rattle.hnsr_circuit.proofs.question.at.Statement.{statement}
 use Rattle.hnsr_circuit.proofs.question.at.Tie as tie
-use Rattle.hnsr_circuit.proofs.question.at.Reads as reads
-use Rattle.hnsr_circuit.proofs.question.at.Lts as lts
-use Rattle.hnsr_circuit.proofs.peer.no_peer.Reads as no-peer-reads
 
 no-peer-requires : tie.Need-no-peer-requires
 no-peer-requires c κs = search needs

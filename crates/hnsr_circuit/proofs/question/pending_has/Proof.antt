@@ -1,20 +1,10 @@
 -- One arm for each question.
+mod At
 use Rattle.hnsr_circuit.specs.Code.Question.{pendingAsked}
 use borrow.Author.Needs.{needs}
 use Rattle.hnsr_circuit.proofs.question.pending_has.Statement.{statement}
 use Rattle.hnsr_circuit.proofs.question.pending_has.Tie as tie
-use Rattle.hnsr_circuit.proofs.question.pending_has.Reads as reads
-use Rattle.hnsr_circuit.proofs.question.pending_has.Lts as lts
-use Rattle.hns_encoding.proofs.logic.no.Reads as no-reads
-use Rattle.hnsr_circuit.proofs.pending.is_pending.Reads as is-pending-reads
-use Rattle.hnsr_circuit.proofs.pending.named_by.Reads as named-by-reads
-use Rattle.hnsr_circuit.proofs.pending.pending_is.Reads as pending-is-reads
-use Rattle.hnsr_circuit.proofs.pending.pending_of.Reads as pending-of-reads
-use Rattle.hnsr_circuit.proofs.pending.pending_over.Reads as pending-over-reads
-use Rattle.hnsr_circuit.proofs.pending.pending_under.Reads as pending-under-reads
-
-enum-told : tie.Need-enum-told
-enum-told c = search needs
+use Rattle.hnsr_circuit.proofs.question.pending_has.Proof.At as at
 
 is-pending-requires : tie.Need-is-pending-requires
 is-pending-requires c κs = search needs
@@ -22,45 +12,29 @@ is-pending-requires c κs = search needs
 no-requires : tie.Need-no-requires
 no-requires c κs = search needs
 
-enum-told-2 : tie.Need-enum-told-2
-enum-told-2 c = search needs
-
 is-pending-requires-2 : tie.Need-is-pending-requires-2
 is-pending-requires-2 c κs = search needs
-
-enum-told-3 : tie.Need-enum-told-3
-enum-told-3 c = search needs
 
 pending-is-requires : tie.Need-pending-is-requires
 pending-is-requires c κs = search needs
 
-enum-told-4 : tie.Need-enum-told-4
-enum-told-4 c = search needs
-
 named-by-requires : tie.Need-named-by-requires
 named-by-requires c κs = search needs
-
-enum-told-5 : tie.Need-enum-told-5
-enum-told-5 c = search needs
 
 pending-of-requires : tie.Need-pending-of-requires
 pending-of-requires c κs = search needs
 
-enum-told-6 : tie.Need-enum-told-6
-enum-told-6 c = search needs
-
 pending-under-requires : tie.Need-pending-under-requires
 pending-under-requires c κs = search needs
-
-enum-told-7 : tie.Need-enum-told-7
-enum-told-7 c = search needs
 
 pending-over-requires : tie.Need-pending-over-requires
 pending-over-requires c κs = search needs
 
 returns : tie.Need-returns
 unfolding pendingAsked
-returns c = rw (c .before .before .enum-told .given .1) (cc)
+returns c =
+    let here = at.returns c in
+    rw (here .enum-told .given .1) (cc)
 
 returns-2 : tie.Need-returns-2
 unfolding pendingAsked
@@ -88,27 +62,4 @@ returns-7 c = rw (c .before .enum-told7 .given .1) (c .pending-over .ensures)
 
 pub pending-has-spec : {M : Type 1} → statement M
 pending-has-spec =
-    tie.close
-    (tie.spec
-    enum-told
-    is-pending-requires
-    no-requires
-    enum-told-2
-    is-pending-requires-2
-    enum-told-3
-    pending-is-requires
-    enum-told-4
-    named-by-requires
-    enum-told-5
-    pending-of-requires
-    enum-told-6
-    pending-under-requires
-    enum-told-7
-    pending-over-requires
-    returns
-    returns-2
-    returns-3
-    returns-4
-    returns-5
-    returns-6
-    returns-7)
+    tie.close (at.spec is-pending-requires no-requires is-pending-requires-2 pending-is-requires named-by-requires pending-of-requires pending-under-requires pending-over-requires returns returns-2 returns-3 returns-4 returns-5 returns-6 returns-7)

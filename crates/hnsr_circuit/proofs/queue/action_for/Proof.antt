@@ -2,9 +2,6 @@
 use borrow.Author.Needs.{needs}
 use Rattle.hnsr_circuit.proofs.queue.action_for.Statement.{statement}
 use Rattle.hnsr_circuit.proofs.queue.action_for.Tie as tie
-use Rattle.hnsr_circuit.proofs.queue.action_for.Reads as reads
-use Rattle.hnsr_circuit.proofs.queue.action_for.Lts as lts
-use Rattle.hnsr_circuit.proofs.inflight.kind_number.Reads as kind-number-reads
 
 kind-number-requires : tie.Need-kind-number-requires
 kind-number-requires c κs = search needs

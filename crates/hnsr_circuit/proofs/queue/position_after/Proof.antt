@@ -1,11 +1,9 @@
 -- The position moves by the route's words where it is queued.
+mod At
 use borrow.Author.Needs.{needs}
 use Rattle.hnsr_circuit.proofs.queue.position_after.Statement.{statement}
 use Rattle.hnsr_circuit.proofs.queue.position_after.Tie as tie
-use Rattle.hnsr_circuit.proofs.queue.position_after.Reads as reads
-use Rattle.hnsr_circuit.proofs.queue.position_after.Lts as lts
-use Rattle.hns_encoding.proofs.numbers.saturating_add_usize.Reads as saturating-add-usize-reads
-use Rattle.hnsr_circuit.proofs.route.route_size.Reads as route-size-reads
+use Rattle.hnsr_circuit.proofs.queue.position_after.Proof.At as at
 
 route-size-requires : tie.Need-route-size-requires
 route-size-requires c κs = search needs
@@ -14,7 +12,9 @@ saturating-add-usize-requires : tie.Need-saturating-add-usize-requires
 saturating-add-usize-requires c κs = search needs
 
 returns : tie.Need-returns
-returns c = rw (c .if1 .taken, c .before .saturating-add-usize .ensures, c .before .before .route-size .ensures)
+returns c =
+    let here = at.returns c in
+    rw (here .if1 .taken, here .saturating-add-usize .ensures, here .route-size .ensures)
 
 returns-2 : tie.Need-returns-2
 returns-2 c = rw (c .if1 .left)

@@ -1,10 +1,9 @@
 -- The route is written where it is queued.
+mod At
 use borrow.Author.Needs.{needs}
 use Rattle.hnsr_circuit.proofs.queue.put_queued.Statement.{statement}
 use Rattle.hnsr_circuit.proofs.queue.put_queued.Tie as tie
-use Rattle.hnsr_circuit.proofs.queue.put_queued.Reads as reads
-use Rattle.hnsr_circuit.proofs.queue.put_queued.Lts as lts
-use Rattle.hnsr_circuit.proofs.route.put_route.Reads as put-route-reads
+use Rattle.hnsr_circuit.proofs.queue.put_queued.Proof.At as at
 
 put-route-requires : tie.Need-put-route-requires
 put-route-requires c κs = search needs
@@ -13,7 +12,9 @@ same-length : tie.Need-same-length
 same-length c = search needs
 
 returns : tie.Need-returns
-returns c = rw (c .before .before .put-route .ensures, c .before .before .before .before .if1 .taken)
+returns c =
+    let here = at.returns c in
+    rw (here .put-route .ensures, here .if1 .taken)
 
 returns-2 : tie.Need-returns-2
 returns-2 c = rw (c .if1 .left)

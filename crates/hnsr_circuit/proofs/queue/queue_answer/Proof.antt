@@ -1,13 +1,10 @@
 -- The row is its three tests in order.
+mod At
 use Rattle.hnsr_circuit.specs.Queue.{queueAnswer}
 use borrow.Author.Needs.{needs}
 use Rattle.hnsr_circuit.proofs.queue.queue_answer.Statement.{statement}
 use Rattle.hnsr_circuit.proofs.queue.queue_answer.Tie as tie
-use Rattle.hnsr_circuit.proofs.queue.queue_answer.Reads as reads
-use Rattle.hnsr_circuit.proofs.queue.queue_answer.Lts as lts
-use Rattle.hnsr_circuit.proofs.answer.check.Reads as check-reads
-use Rattle.hnsr_circuit.proofs.answer.first_refusal.Reads as first-refusal-reads
-use Rattle.hnsr_circuit.proofs.inflight.capacity_answer.Reads as capacity-answer-reads
+use Rattle.hnsr_circuit.proofs.queue.queue_answer.Proof.At as at
 
 check-requires : tie.Need-check-requires
 check-requires c κs = search needs
@@ -26,7 +23,9 @@ first-refusal-requires-2 c κs = search needs
 
 returns : tie.Need-returns
 unfolding queueAnswer
-returns c = rw (c .first-refusal2 .ensures, c .before .first-refusal .ensures, c .before .before .check2 .ensures, c .before .before .before .capacity-answer .ensures, c .before .before .before .before .check .ensures)
+returns c =
+    let here = at.returns c in
+    rw (here .first-refusal2 .ensures, here .first-refusal .ensures, here .check2 .ensures, here .capacity-answer .ensures, here .check .ensures)
 
 pub queue-answer-spec : {M : Type 1} → statement M
 queue-answer-spec =

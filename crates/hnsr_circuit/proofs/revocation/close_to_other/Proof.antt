@@ -1,14 +1,11 @@
 -- The other side hears, under its own context.
-use mathlib.Core.Path.{_≡_, refl, sym, ap, _∙_}
+mod At
+use mathlib.Core.Path.{sym, _∙_}
 use Rattle.hns_encoding.specs.Laws.Tests.{on-true, on-false}
 use borrow.Author.Needs.{needs}
 use Rattle.hnsr_circuit.proofs.revocation.close_to_other.Statement.{statement}
 use Rattle.hnsr_circuit.proofs.revocation.close_to_other.Tie as tie
-use Rattle.hnsr_circuit.proofs.revocation.close_to_other.Reads as reads
-use Rattle.hnsr_circuit.proofs.revocation.close_to_other.Lts as lts
-use Rattle.hnsr_circuit.proofs.peer.same_peer.Reads as same-peer-reads
-use Rattle.hnsr_circuit.proofs.revocation.close_to_endpoint.Reads as close-to-endpoint-reads
-use Rattle.hnsr_circuit.proofs.message.closing.Reads as closing-reads
+use Rattle.hnsr_circuit.proofs.revocation.close_to_other.Proof.At as at
 
 same-peer-requires : tie.Need-same-peer-requires
 same-peer-requires c κs = search needs
@@ -20,10 +17,14 @@ closing-requires : tie.Need-closing-requires
 closing-requires c κs = search needs
 
 returns : tie.Need-returns
-returns c = c .before .before .close-to-endpoint .ensures ∙ sym (on-true _ _ _ (sym (c .before .before .before .same-peer .ensures) ∙ c .if1 .taken))
+returns c =
+    let here = at.returns c in
+    here .close-to-endpoint .ensures ∙ sym (on-true _ _ _ (sym (here .same-peer .ensures) ∙ here .if1 .taken))
 
 returns-2 : tie.Need-returns-2
-returns-2 c = c .before .closing .ensures ∙ sym (on-false _ _ _ (sym (c .before .before .before .same-peer .ensures) ∙ c .if1 .left))
+returns-2 c =
+    let here = at.returns-2 c in
+    here .closing .ensures ∙ sym (on-false _ _ _ (sym (here .same-peer .ensures) ∙ here .if1 .left))
 
 pub close-to-other-spec : {M : Type 1} → statement M
 close-to-other-spec =

@@ -1,10 +1,10 @@
 -- The circuit at the place is unmarked, its actions dropped, its end counted; then both sides are told.
 mod Tie
+mod At
 use mathlib.Core.Path.{sym, ap, _∙_}
 use mathlib.Core.Bool.{true}
 use Prim.Native.Nat.{ℕ}
 use lib.ListN.{set}
-use borrow.Author.Needs.{needs}
 use Rattle.hnsr_body.specs.Messages.{noticeBody}
 use Rattle.hnsr_circuit.specs.declared.records.RelayCircuit.{RelayCircuit}
 use Rattle.hnsr_circuit.specs.declared.records.Outgoing.{Outgoing}
@@ -20,58 +20,34 @@ use Rattle.hnsr_circuit.specs.Code.Held.{heldPending, heldCircuits, held
 use Rattle.hnsr_circuit.specs.declared.places.Places.{Places}
 use Rattle.hnsr_circuit.proofs.revocation.revoke_circuit.Statement.{statement}
 use Rattle.hnsr_circuit.proofs.revocation.revoke_circuit.Proof.Tie as tie
-
-circuit-at-requires : tie.Need-circuit-at-requires
-circuit-at-requires c = search needs
-
-circuit-unmarked-requires : tie.Need-circuit-unmarked-requires
-circuit-unmarked-requires c = search needs
-
-plan-circuit-requires : tie.Need-plan-circuit-requires
-plan-circuit-requires c = search needs
-
-set-circuit-requires : tie.Need-set-circuit-requires
-set-circuit-requires c = search needs
-
-drop-and-tell-requires : tie.Need-drop-and-tell-requires
-drop-and-tell-requires c = search needs
-
-tell-notice-requires : tie.Need-tell-notice-requires
-tell-notice-requires c = search needs
-
-same-length : tie.Need-same-length
-same-length c = search needs
-
-same-length-2 : tie.Need-same-length-2
-same-length-2 c = search needs
-
-same-length-3 : tie.Need-same-length-3
-same-length-3 c = search needs
+use Rattle.hnsr_circuit.proofs.revocation.revoke_circuit.Proof.At as at
 
 returns : tie.Need-returns
-returns c = λ p₀ l₀.
-    let a = c .before .before .before .before .before .before .before .before .before .before .before .before .before .before .before .before .before .before .before .before .before .before .before .before .args in
+returns c =
+    let here = at.returns c in
+    λ p₀ l₀.
+    let a = here .start .args in
     let p = heldPending (a .sending .places) p₀ in
     let l = heldLedger (a .sending .places) l₀ in
     let cs = heldCircuits (a .sending .places) (a .circuits .now) in
     let i = heldActions (a .sending .places) (a .inflight .now) in
     let nb = noticeBody (a .notice) in
-    let row = c .before .before .before .before .before .before .before .before .before .before .before .before .before .before .before .before .before .before .before .before .circuit-at .ensures in
-    let P = c .before .before .before .before .before .before .before .before .before .before .before .before .before .before .before .before .before .before .plan-circuit .result in
-    let e = c .before .before .before .before .before .before .before .before .before .before .before .before .before .before .before .before .before .before .plan-circuit .ensures in
+    let row = here .circuit-at .ensures in
+    let P = here .plan-circuit .result in
+    let e = here .plan-circuit .ensures in
     let id = e .0 ∙ ap (λ (k : RelayCircuit). k .«circuit_id») row in
     let first = ap (λ (m : Outgoing). messageOf m nb) (e .3 ∙ ap (λ (k : RelayCircuit). closeSide k (k .requester)) row) in
     let second = ap (λ (m : Outgoing). messageOf m nb) (e .5 ∙ ap (λ (k : RelayCircuit). closeSide k (k .endpoint)) row) in
-    let r = c .before .before .before .before .before .before .before .before .before .before .before .before .before .before .before .before .before .before .before .circuit-unmarked .ensures in
-    let after = stored-seen clearCircuit (a .sending .places .circuits) (a .circuits .now) _ true (a .place) (c .before .before .before .before .before .before .before .before .before .before .before .before .before .before .before .before .before .before .before .circuit-unmarked .result) (λ h. ap clearCircuit r ∙ sym r) (c .before .before .before .before .before .before .before .before .before .before .before .before .before .set-circuit .ensures) ∙ ap (λ (k : RelayCircuit). set cs (a .place) k) (r ∙ ap clearCircuit row) in
+    let r = here .circuit-unmarked .ensures in
+    let after = stored-seen clearCircuit (a .sending .places .circuits) (a .circuits .now) _ true (a .place) (here .circuit-unmarked .result) (λ h. ap clearCircuit r ∙ sym r) (here .set-circuit .ensures) ∙ ap (λ (k : RelayCircuit). set cs (a .place) k) (r ∙ ap clearCircuit row) in
     let dropping = ap (λ (k : ℕ). dropped (actionUnder k) i) id in
-    let c0 = c .before .before .before .before .before .before .before .before .before .before .before .before .before .set-circuit .last .0 in
+    let c0 = here .set-circuit .last .0 in
     let c1 = heldCircuits (a .sending .places) c0 in
     let i1 = dropped (actionUnder (P .id)) i in
-    c .before .before .before .tell-notice .ensures p₀ c0 l₀
-    ∙ ap (λ (s : Progress). advance (when (P .also) (tell (messageOf (P .second) nb))) s) (c .before .before .before .before .before .before .before .before .before .drop-and-tell .ensures p₀ c0 l₀ ∙ ap (λ (m : Places). advance (when true (tell (messageOf (P .first) nb))) (underway (P .sending) (heldPending m p₀) (heldCircuits m c0) (heldLedger m l₀) (dropped (actionUnder (P .id)) (heldActions m (a .inflight .now))) (a .out .now))) (e .6))
+    here .tell-notice .ensures p₀ c0 l₀
+    ∙ ap (λ (s : Progress). advance (when (P .also) (tell (messageOf (P .second) nb))) s) (here .drop-and-tell .ensures p₀ c0 l₀ ∙ ap (λ (m : Places). advance (when true (tell (messageOf (P .first) nb))) (underway (P .sending) (heldPending m p₀) (heldCircuits m c0) (heldLedger m l₀) (dropped (actionUnder (P .id)) (heldActions m (a .inflight .now))) (a .out .now))) (e .6))
     ∙ (λ x. advance (when (e .4 x) (tell (messageOf (P .second) nb))) (advance (when true (tell (messageOf (P .first) nb))) (progress (worldOf (P .sending .runtime) p c1 l i1) (e .2 x) (a .out .now))))
     ∙ circuit-revoked (a .notice) (a .place) (a .sending .runtime) p cs l i (a .sending .position) (a .out .now) (messageOf (P .first) nb) (messageOf (P .second) nb) c1 i1 (P .sending .runtime) first second after dropping (e .1)
 
 pub revoke-circuit-spec : {M : Type 1} → statement M
-revoke-circuit-spec = tie.close (tie.spec circuit-at-requires circuit-unmarked-requires plan-circuit-requires set-circuit-requires drop-and-tell-requires tell-notice-requires same-length same-length-2 same-length-3 returns)
+revoke-circuit-spec = tie.close (at.spec returns)

@@ -1,5 +1,6 @@
 -- What is left of the walk, from where it has come to, leaves what the whole walk leaves.
 mod Tie
+mod At
 use Prim.Native.Nat.{ℕ, suc, _+_, _-_, _≤_, _<_}
 use native.Mathlib.Nat.{sub-zero}
 use mathlib.Core.Path.{_≡_, sym, ap, _∙_}
@@ -19,6 +20,7 @@ use Rattle.hnsr_circuit.specs.Laws.Held.{length-held}
 use Rattle.hnsr_circuit.specs.Code.Held.{underwaySeen}
 use Rattle.hnsr_circuit.proofs.revocation.walk_circuits.Statement.{statement}
 use Rattle.hnsr_circuit.proofs.revocation.walk_circuits.Proof.Tie as tie
+use Rattle.hnsr_circuit.proofs.revocation.walk_circuits.Proof.At as at
 
 abbrev Inv-loop : tie.InvT-loop
 Inv-loop circuits inflight out question notice most told₀ next₀ turn₀ circuits′ inflight′ out′ told next turn =
@@ -34,16 +36,18 @@ small c = search needs
 
 loop-holds : tie.Need-loop-holds Inv-loop μ-loop
 unfolding walk
-loop-holds c = let a = c .before .before .args in (
-  search needs,
-  search needs,
-  search needs,
-  search needs,
-  search needs,
-  λ p l.
-      walk-on circuitId circuitTable (circuitHas (a .revoking .question)) (revokeCircuitThere (a .revoking .«circuit_notice»)) (underwaySeen (a .sending) p (a .circuits .now) l (a .inflight .now) (a .out .now)) (length (a .circuits .now) - 0) notYet (a .first) (c .before .before .pre .1)
-      ∙ ap (λ (m : ℕ). advance (walkFrom circuitId circuitTable (circuitHas (a .revoking .question)) (revokeCircuitThere (a .revoking .«circuit_notice»)) m notYet) (underwaySeen (a .sending) p (a .circuits .now) l (a .inflight .now) (a .out .now))) (sub-zero (length (a .circuits .now)) ∙ sym (length-held clearCircuit (a .sending .places .circuits) (a .circuits .now))),
-)
+loop-holds c =
+    let here = at.loop-holds Inv-loop μ-loop c in
+    let a = here .start .args in (
+      search needs,
+      search needs,
+      search needs,
+      search needs,
+      search needs,
+      λ p l.
+          walk-on circuitId circuitTable (circuitHas (a .revoking .question)) (revokeCircuitThere (a .revoking .«circuit_notice»)) (underwaySeen (a .sending) p (a .circuits .now) l (a .inflight .now) (a .out .now)) (length (a .circuits .now) - 0) notYet (a .first) (here .start .pre .1)
+          ∙ ap (λ (m : ℕ). advance (walkFrom circuitId circuitTable (circuitHas (a .revoking .question)) (revokeCircuitThere (a .revoking .«circuit_notice»)) m notYet) (underwaySeen (a .sending) p (a .circuits .now) l (a .inflight .now) (a .out .now))) (sub-zero (length (a .circuits .now)) ∙ sym (length-held clearCircuit (a .sending .places .circuits) (a .circuits .now))),
+    )
 
 no-requires : tie.Need-no-requires Inv-loop μ-loop
 no-requires c = search needs
@@ -58,49 +62,55 @@ same-length-3 : tie.Need-same-length-3 Inv-loop μ-loop
 same-length-3 c = search needs
 
 returns : tie.Need-returns Inv-loop μ-loop
-returns c = λ p l.
-    let L = c .before .before .before in
-    let a = c .before .before .before .before .before .before .args in
-    let n = L .loop .next in
-    let k = length (a .circuits .now) - (L .loop .turn + 1) in
-    let less = c .before .before .loop-test .taken in
-    let left : suc k ≡ length (a .circuits .now) - L .loop .turn = omega arith in
-    let stopped = not-true (n .taken) (sym (c .before .no .ensures) ∙ c .if1 .taken) in
-    sym (walk-stops circuitId circuitTable (circuitHas (a .revoking .question)) (revokeCircuitThere (a .revoking .«circuit_notice»)) (underwaySeen (L .loop .told) p (L .loop .circuits) l (L .loop .inflight) (L .loop .out)) k n stopped)
-    ∙ ap (λ (m : ℕ). advance (walkOn circuitId circuitTable (circuitHas (a .revoking .question)) (revokeCircuitThere (a .revoking .«circuit_notice»)) m n) (underwaySeen (L .loop .told) p (L .loop .circuits) l (L .loop .inflight) (L .loop .out))) left
-    ∙ L .loop .inv .5 p l
+returns c =
+    let here = at.returns Inv-loop μ-loop c in
+    λ p l.
+    let a = here .start .args in
+    let n = here .loop .next in
+    let k = length (a .circuits .now) - (here .loop .turn + 1) in
+    let less = here .loop-test .taken in
+    let left : suc k ≡ length (a .circuits .now) - here .loop .turn = omega arith in
+    let stopped = not-true (n .taken) (sym (here .no .ensures) ∙ here .if1 .taken) in
+    sym (walk-stops circuitId circuitTable (circuitHas (a .revoking .question)) (revokeCircuitThere (a .revoking .«circuit_notice»)) (underwaySeen (here .loop .told) p (here .loop .circuits) l (here .loop .inflight) (here .loop .out)) k n stopped)
+    ∙ ap (λ (m : ℕ). advance (walkOn circuitId circuitTable (circuitHas (a .revoking .question)) (revokeCircuitThere (a .revoking .«circuit_notice»)) m n) (underwaySeen (here .loop .told) p (here .loop .circuits) l (here .loop .inflight) (here .loop .out))) left
+    ∙ here .loop .inv .5 p l
 
 revoke-circuit-requires : tie.Need-revoke-circuit-requires Inv-loop μ-loop
 revoke-circuit-requires c = search needs
 
 next-circuit-requires : tie.Need-next-circuit-requires Inv-loop μ-loop
-next-circuit-requires c κs = c .before .before .before .before .before .before .before .before .before .before .before .before .before .before .before .pre .0
+next-circuit-requires c κs =
+    let here = at.next-circuit-requires Inv-loop μ-loop c in
+    here .start .pre .0
 
 add-turn : tie.Need-add-turn Inv-loop μ-loop
-add-turn c = let t = c .before .before .before .before .before .before .before .before .before .before .before .before .loop-test .taken in let i = c .before .before .before .before .before .before .before .before .before .before .before .before .before .loop .inv .1 in let most = small (c .before .before .before .before .before .before .before .before .before .before .before .before .before .before .before .before) in search needs
+add-turn c =
+    let here = at.add-turn Inv-loop μ-loop c in
+    let t = here .loop-test .taken in let i = here .loop .inv .1 in let most = small (here .start) in search needs
 
 loop-less : tie.Need-loop-less Inv-loop μ-loop
 loop-less c = search needs
 
 loop-again : tie.Need-loop-again Inv-loop μ-loop
-loop-again c = let L = c .before .before .before .before .before .before .before .before .before .before .before .before .before in
-    let a = c .before .before .before .before .before .before .before .before .before .before .before .before .before .before .before .before .args in
-    let n = L .loop .next in
-    let k = length (a .circuits .now) - (L .loop .turn + 1) in
-    let less = c .before .before .before .before .before .before .before .before .before .before .before .before .loop-test .taken in
-    let left : suc k ≡ length (a .circuits .now) - L .loop .turn = omega arith in
-    let goes = not-false (n .taken) (sym (c .before .before .before .before .before .before .before .before .before .before .before .no .ensures) ∙ c .before .before .before .before .before .before .before .before .before .before .if1 .left) in (
+loop-again c =
+    let here = at.loop-again Inv-loop μ-loop c in
+    let a = here .start .args in
+    let n = here .loop .next in
+    let k = length (a .circuits .now) - (here .loop .turn + 1) in
+    let less = here .loop-test .taken in
+    let left : suc k ≡ length (a .circuits .now) - here .loop .turn = omega arith in
+    let goes = not-false (n .taken) (sym (here .no .ensures) ∙ here .if1 .left) in (
       search needs,
       search needs,
       search needs,
       search needs,
       search needs,
       λ p l.
-          walk-on circuitId circuitTable (circuitHas (a .revoking .question)) (revokeCircuitThere (a .revoking .«circuit_notice»)) (underwaySeen (c .before .before .before .before .before .before .revoke-circuit .result) p (c .before .before .before .before .before .before .revoke-circuit .last .0) l (c .before .before .before .before .before .before .revoke-circuit .last .1 .0) (c .before .before .before .before .before .before .revoke-circuit .last .1 .1 .0)) k n (c .next-circuit .result) (c .next-circuit .ensures)
-          ∙ ap (λ (s : Progress). advance (walkFrom circuitId circuitTable (circuitHas (a .revoking .question)) (revokeCircuitThere (a .revoking .«circuit_notice»)) k n) s) (c .before .before .before .before .before .before .revoke-circuit .ensures p l)
-          ∙ sym (walk-turn circuitId circuitTable (circuitHas (a .revoking .question)) (revokeCircuitThere (a .revoking .«circuit_notice»)) (underwaySeen (L .loop .told) p (L .loop .circuits) l (L .loop .inflight) (L .loop .out)) k n goes)
-          ∙ ap (λ (m : ℕ). advance (walkOn circuitId circuitTable (circuitHas (a .revoking .question)) (revokeCircuitThere (a .revoking .«circuit_notice»)) m n) (underwaySeen (L .loop .told) p (L .loop .circuits) l (L .loop .inflight) (L .loop .out))) left
-          ∙ L .loop .inv .5 p l,
+          walk-on circuitId circuitTable (circuitHas (a .revoking .question)) (revokeCircuitThere (a .revoking .«circuit_notice»)) (underwaySeen (here .revoke-circuit .result) p (here .revoke-circuit .last .0) l (here .revoke-circuit .last .1 .0) (here .revoke-circuit .last .1 .1 .0)) k n (here .next-circuit .result) (here .next-circuit .ensures)
+          ∙ ap (λ (s : Progress). advance (walkFrom circuitId circuitTable (circuitHas (a .revoking .question)) (revokeCircuitThere (a .revoking .«circuit_notice»)) k n) s) (here .revoke-circuit .ensures p l)
+          ∙ sym (walk-turn circuitId circuitTable (circuitHas (a .revoking .question)) (revokeCircuitThere (a .revoking .«circuit_notice»)) (underwaySeen (here .loop .told) p (here .loop .circuits) l (here .loop .inflight) (here .loop .out)) k n goes)
+          ∙ ap (λ (m : ℕ). advance (walkOn circuitId circuitTable (circuitHas (a .revoking .question)) (revokeCircuitThere (a .revoking .«circuit_notice»)) m n) (underwaySeen (here .loop .told) p (here .loop .circuits) l (here .loop .inflight) (here .loop .out))) left
+          ∙ here .loop .inv .5 p l,
     )
 
 same-length-4 : tie.Need-same-length-4 Inv-loop μ-loop
@@ -113,14 +123,15 @@ same-length-6 : tie.Need-same-length-6 Inv-loop μ-loop
 same-length-6 c = search needs
 
 returns-2 : tie.Need-returns-2 Inv-loop μ-loop
-returns-2 c = λ p l.
-    let L = c .before in
-    let a = c .before .before .before .before .args in
-    let over = c .loop-test .left in
-    let none : 0 ≡ length (a .circuits .now) - L .loop .turn = omega arith in
-    sym (walk-over circuitId circuitTable (circuitHas (a .revoking .question)) (revokeCircuitThere (a .revoking .«circuit_notice»)) (underwaySeen (L .loop .told) p (L .loop .circuits) l (L .loop .inflight) (L .loop .out)) 0 (L .loop .next))
-    ∙ ap (λ (m : ℕ). advance (walkOn circuitId circuitTable (circuitHas (a .revoking .question)) (revokeCircuitThere (a .revoking .«circuit_notice»)) m (L .loop .next)) (underwaySeen (L .loop .told) p (L .loop .circuits) l (L .loop .inflight) (L .loop .out))) none
-    ∙ L .loop .inv .5 p l
+returns-2 c =
+    let here = at.returns-2 Inv-loop μ-loop c in
+    λ p l.
+    let a = here .start .args in
+    let over = here .loop-test .left in
+    let none : 0 ≡ length (a .circuits .now) - here .loop .turn = omega arith in
+    sym (walk-over circuitId circuitTable (circuitHas (a .revoking .question)) (revokeCircuitThere (a .revoking .«circuit_notice»)) (underwaySeen (here .loop .told) p (here .loop .circuits) l (here .loop .inflight) (here .loop .out)) 0 (here .loop .next))
+    ∙ ap (λ (m : ℕ). advance (walkOn circuitId circuitTable (circuitHas (a .revoking .question)) (revokeCircuitThere (a .revoking .«circuit_notice»)) m (here .loop .next)) (underwaySeen (here .loop .told) p (here .loop .circuits) l (here .loop .inflight) (here .loop .out))) none
+    ∙ here .loop .inv .5 p l
 
 pub walk-circuits-spec : {M : Type 1} → statement M
 walk-circuits-spec = tie.close (tie.spec Inv-loop μ-loop loop-holds no-requires same-length same-length-2 same-length-3 returns revoke-circuit-requires next-circuit-requires add-turn loop-less loop-again same-length-4 same-length-5 same-length-6 returns-2)

@@ -1,12 +1,11 @@
 -- A state that is on changes where it is to be off, and the other way round.
+mod At
 use mathlib.Core.Path.{_≡_, refl, _∙_}
 use mathlib.Core.Bool.{Bool, true, false, not, Bool·beq}
 use borrow.Author.Needs.{needs}
 use Rattle.hnsr_circuit.proofs.revoking_calls.changed.Statement.{statement}
 use Rattle.hnsr_circuit.proofs.revoking_calls.changed.Tie as tie
-use Rattle.hnsr_circuit.proofs.revoking_calls.changed.Reads as reads
-use Rattle.hnsr_circuit.proofs.revoking_calls.changed.Lts as lts
-use Rattle.hns_encoding.proofs.logic.no.Reads as no-reads
+use Rattle.hnsr_circuit.proofs.revoking_calls.changed.Proof.At as at
 
 on : (b : Bool) → not b ≡ not (Bool·beq true b)
 on true = refl
@@ -20,7 +19,9 @@ no-requires : tie.Need-no-requires
 no-requires c κs = search needs
 
 returns : tie.Need-returns
-returns c = rw (c .before .if1 .taken) (c .no .ensures ∙ on (c .before .before .args .enabled))
+returns c =
+    let here = at.returns c in
+    rw (here .if1 .taken) (here .no .ensures ∙ on (here .start .args .enabled))
 
 returns-2 : tie.Need-returns-2
 returns-2 c = rw (c .if1 .left) (off (c .before .args .enabled))

@@ -1,15 +1,11 @@
 -- The peer's records, by the notice of a disconnect.
-use mathlib.Core.Path.{_≡_, refl, sym, ap, _∙_}
+use mathlib.Core.Path.{ap}
 use mathlib.Core.Bool.{true}
 use Rattle.hnsr_body.specs.declared.messages.Notice.the-variants.{PeerDisconnected}
 use Rattle.hnsr_circuit.specs.declared.records.Question.{Question}
-use Rattle.hnsr_circuit.specs.declared.revocation.Revoking.{Revoking}
 use borrow.Author.Needs.{needs}
 use Rattle.hnsr_circuit.proofs.revoking_calls.disconnecting.Statement.{statement}
 use Rattle.hnsr_circuit.proofs.revoking_calls.disconnecting.Tie as tie
-use Rattle.hnsr_circuit.proofs.revoking_calls.disconnecting.Reads as reads
-use Rattle.hnsr_circuit.proofs.revoking_calls.disconnecting.Lts as lts
-use Rattle.hnsr_circuit.proofs.question.of_peer.Reads as of-peer-reads
 
 of-peer-requires : tie.Need-of-peer-requires
 of-peer-requires c κs = search needs

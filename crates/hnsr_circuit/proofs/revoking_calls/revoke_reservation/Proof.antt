@@ -1,5 +1,6 @@
 -- Turned away by its row, or gone on: the ledger record dropped, then the records under it revoked.
 mod Tie
+mod At
 use Prim.Native.Nat.{_<_, _*_, _+_}
 use mathlib.Core.Path.{sym, ap, _∙_}
 use lib.ListN.{length}
@@ -25,77 +26,50 @@ use Rattle.hnsr_circuit.specs.Code.Question.{pendingHas, circuitHas}
 use Rattle.hnsr_circuit.specs.Code.Held.{heldPending, heldCircuits, heldLedger, heldActions, asksUnused}
 use Rattle.hnsr_circuit.proofs.revoking_calls.revoke_reservation.Statement.{statement}
 use Rattle.hnsr_circuit.proofs.revoking_calls.revoke_reservation.Proof.Tie as tie
+use Rattle.hnsr_circuit.proofs.revoking_calls.revoke_reservation.Proof.At as at
 
 bound : (c : tie.Start) → length (c .args .out .now) < 18446744073709551616
 bound c = search needs
 
-under-requires : tie.Need-under-requires
-under-requires c = search needs
-
 entry-answer-requires : tie.Need-entry-answer-requires
-entry-answer-requires c κs = ap (λ (x : Question). asksUnused (x .ask)) (c .before .before .under .ensures)
-
-is-taken-requires : tie.Need-is-taken-requires
-is-taken-requires c = search needs
-
-revoking-requires : tie.Need-revoking-requires
-revoking-requires c = search needs
-
-drop-usage-requires : tie.Need-drop-usage-requires
-drop-usage-requires c = search needs
+entry-answer-requires c κs =
+    let here = at.entry-answer-requires c in
+    ap (λ (x : Question). asksUnused (x .ask)) (here .under .ensures)
 
 revoke-all-requires : tie.Need-revoke-all-requires
-revoke-all-requires c κs = let a = c .before .before .before .before .before .before .before .before .before .before .before .before .before .before .before .before .before .args in
-    let same = sym (c .before .before .before .before .before .before .before .revoking .ensures .0) in
-    (ap (λ (x : Question). asksUnused (x .ask)) (c .before .before .before .before .before .before .before .revoking .ensures .0 ∙ c .before .before .before .before .before .before .before .before .before .before .before .before .before .before .under .ensures), c .before .before .before .before .before .before .before .before .before .before .before .entry-answer .ensures .1 ∙ ap (λ (x : Question). next pendingId (pendingHas x) notYet (heldPending (a .places) (a .pending .now))) same, c .before .before .before .before .before .before .before .before .before .before .before .entry-answer .ensures .2 ∙ ap (λ (x : Question). next circuitId (circuitHas x) notYet (heldCircuits (a .places) (a .circuits .now))) same)
-
-same-length : tie.Need-same-length
-same-length c = search needs
-
-same-length-2 : tie.Need-same-length-2
-same-length-2 c = search needs
-
-same-length-3 : tie.Need-same-length-3
-same-length-3 c = search needs
-
-same-length-4 : tie.Need-same-length-4
-same-length-4 c = search needs
-
-same-length-5 : tie.Need-same-length-5
-same-length-5 c = search needs
+revoke-all-requires c κs =
+    let here = at.revoke-all-requires c in
+    let a = here .start .args in
+    let same = sym (here .revoking .ensures .0) in
+    (ap (λ (x : Question). asksUnused (x .ask)) (here .revoking .ensures .0 ∙ here .under .ensures), here .entry-answer .ensures .1 ∙ ap (λ (x : Question). next pendingId (pendingHas x) notYet (heldPending (a .places) (a .pending .now))) same, here .entry-answer .ensures .2 ∙ ap (λ (x : Question). next circuitId (circuitHas x) notYet (heldCircuits (a .places) (a .circuits .now))) same)
 
 returns : tie.Need-returns
 unfolding roomAnswer tablesShort pendingCount circuitCount step
-returns c = let s = c .before .before .before .before .before .before .before .before .before .before .before .before .before .before .before .before .before .before .before .before .before .before .before in
+returns c =
+    let here = at.returns c in
+    let s = here .start in
     let a = s .args in
     let w = worldOf (a .runtime) (heldPending (a .places) (a .pending .now)) (heldCircuits (a .places) (a .circuits .now)) (heldLedger (a .places) (a .ledger .now)) (heldActions (a .places) (a .inflight .now)) in
     let call = callRevokeReservation (a .id) (length (a .out .now)) in
-    let v = c .before .before .before .before .before .before .before .before .before .before .before .before .before .revoking .ensures in
-    let q = v .0 ∙ c .before .before .before .before .before .before .before .before .before .before .before .before .before .before .before .before .before .before .before .before .under .ensures in
+    let v = here .revoking .ensures in
+    let q = v .0 ∙ here .under .ensures in
     let small = bound s in
-    c .before .before .before .before .before .revoke-all .ensures (c .before .before .before .before .before .before .before .before .before .before .before .drop-usage .last .0)
-    ∙ ap (λ (o : Outcome). ending (a .out .now) o) (revoked-under (a .runtime) (heldPending (a .places) (a .pending .now)) (heldCircuits (a .places) (a .circuits .now)) (heldLedger (a .places) (a .ledger .now)) (heldActions (a .places) (a .inflight .now)) (a .id) (length (a .out .now)) (c .before .before .before .before .before .before .before .before .before .before .before .before .before .before .before .before .before .entry-answer .result .answer) (c .before .before .before .before .before .before .before .before .before .before .before .before .before .revoking .result) (heldLedger (a .places) (c .before .before .before .before .before .before .before .before .before .before .before .drop-usage .last .0)) (sym (c .before .before .before .before .before .before .before .before .before .before .before .before .before .before .before .is-taken .ensures) ∙ c .before .before .before .before .before .before .before .before .before .before .before .before .before .before .if1 .taken) (c .before .before .before .before .before .before .before .before .before .before .before .before .before .before .before .before .before .entry-answer .ensures .0 ∙ entry-held (ltb (length (a .out .now)) (closingWords * (count isPending (heldPending (a .places) (a .pending .now)) + count isCircuit (heldCircuits (a .places) (a .circuits .now))))) Short (a .runtime .config) (length (heldPending (a .places) (a .pending .now))) (length (heldCircuits (a .places) (a .circuits .now))) (a .places) (a .inflight .now)) (λ x. record { question = q x; notice = v .1 x; «circuit_notice» = v .2 x; disconnecting = v .3 x }) (c .before .before .before .before .before .before .before .before .before .before .before .drop-usage .ensures))
+    here .revoke-all .ensures (here .drop-usage .last .0)
+    ∙ ap (λ (o : Outcome). ending (a .out .now) o) (revoked-under (a .runtime) (heldPending (a .places) (a .pending .now)) (heldCircuits (a .places) (a .circuits .now)) (heldLedger (a .places) (a .ledger .now)) (heldActions (a .places) (a .inflight .now)) (a .id) (length (a .out .now)) (here .entry-answer .result .answer) (here .revoking .result) (heldLedger (a .places) (here .drop-usage .last .0)) (sym (here .is-taken .ensures) ∙ here .if1 .taken) (here .entry-answer .ensures .0 ∙ entry-held (ltb (length (a .out .now)) (closingWords * (count isPending (heldPending (a .places) (a .pending .now)) + count isCircuit (heldCircuits (a .places) (a .circuits .now))))) Short (a .runtime .config) (length (heldPending (a .places) (a .pending .now))) (length (heldCircuits (a .places) (a .circuits .now))) (a .places) (a .inflight .now)) (λ x. record { question = q x; notice = v .1 x; «circuit_notice» = v .2 x; disconnecting = v .3 x }) (here .drop-usage .ensures))
     ∙ whole (a .out .now) w call (omega arith) (omega arith)
-
-refused-requires : tie.Need-refused-requires
-refused-requires c = search needs
-
-same-length-6 : tie.Need-same-length-6
-same-length-6 c = search needs
-
-same-length-7 : tie.Need-same-length-7
-same-length-7 c = search needs
 
 returns-2 : tie.Need-returns-2
 unfolding roomAnswer tablesShort pendingCount circuitCount step revokeReservation
-returns-2 c = let s = c .before .before .before .before .before .before .before .before .before .before in
+returns-2 c =
+    let here = at.returns-2 c in
+    let s = here .start in
     let a = s .args in
     let w = worldOf (a .runtime) (heldPending (a .places) (a .pending .now)) (heldCircuits (a .places) (a .circuits .now)) (heldLedger (a .places) (a .ledger .now)) (heldActions (a .places) (a .inflight .now)) in
     let call = callRevokeReservation (a .id) (length (a .out .now)) in
     let small = bound s in
-    places-kept (c .refused .result) (a .pending .now) (a .circuits .now) (a .ledger .now) (a .inflight .now) (a .out .now) (a .places) (c .refused .ensures .1)
-    ∙ turned-away (a .runtime) (heldPending (a .places) (a .pending .now)) (heldCircuits (a .places) (a .circuits .now)) (heldLedger (a .places) (a .ledger .now)) (heldActions (a .places) (a .inflight .now)) (a .out .now) (c .refused .result) (c .before .before .before .before .entry-answer .result .answer) _ (revokeUnder w (a .id)) (c .refused .ensures .0) (sym (c .before .before .is-taken .ensures) ∙ c .before .if1 .left) (c .before .before .before .before .entry-answer .ensures .0 ∙ entry-held (ltb (length (a .out .now)) (closingWords * (count isPending (heldPending (a .places) (a .pending .now)) + count isCircuit (heldCircuits (a .places) (a .circuits .now))))) Short (a .runtime .config) (length (heldPending (a .places) (a .pending .now))) (length (heldCircuits (a .places) (a .circuits .now))) (a .places) (a .inflight .now))
+    places-kept (here .refused .result) (a .pending .now) (a .circuits .now) (a .ledger .now) (a .inflight .now) (a .out .now) (a .places) (here .refused .ensures .1)
+    ∙ turned-away (a .runtime) (heldPending (a .places) (a .pending .now)) (heldCircuits (a .places) (a .circuits .now)) (heldLedger (a .places) (a .ledger .now)) (heldActions (a .places) (a .inflight .now)) (a .out .now) (here .refused .result) (here .entry-answer .result .answer) _ (revokeUnder w (a .id)) (here .refused .ensures .0) (sym (here .is-taken .ensures) ∙ here .if1 .left) (here .entry-answer .ensures .0 ∙ entry-held (ltb (length (a .out .now)) (closingWords * (count isPending (heldPending (a .places) (a .pending .now)) + count isCircuit (heldCircuits (a .places) (a .circuits .now))))) Short (a .runtime .config) (length (heldPending (a .places) (a .pending .now))) (length (heldCircuits (a .places) (a .circuits .now))) (a .places) (a .inflight .now))
     ∙ whole (a .out .now) w call (omega arith) (omega arith)
 
 pub revoke-reservation-spec : {M : Type 1} → statement M
-revoke-reservation-spec = tie.close (tie.spec under-requires entry-answer-requires is-taken-requires revoking-requires drop-usage-requires revoke-all-requires same-length same-length-2 same-length-3 same-length-4 same-length-5 returns refused-requires same-length-6 same-length-7 returns-2)
+revoke-reservation-spec = tie.close (at.spec entry-answer-requires revoke-all-requires returns returns-2)

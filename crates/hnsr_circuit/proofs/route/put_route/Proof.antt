@@ -1,9 +1,9 @@
 -- Both parts, one after the other, where the whole route fits; else nothing.
+mod At
 use Prim.Native.Nat.{ℕ, _+_, _≤_}
 use native.Mathlib.Omega.{arith}
 use borrow.Author.Tests.{leb-true}
-use mathlib.Core.Path.{_≡_, refl, sym, ap, _∙_}
-use mathlib.Core.List.{List, []}
+use mathlib.Core.Path.{_≡_, sym, ap, _∙_}
 use lib.ListN.{length}
 use Rattle.hns_encoding.specs.Words.{words, wordCount}
 use Rattle.hns_encoding.specs.Cursor.{within}
@@ -15,12 +15,7 @@ use Rattle.hnsr_circuit.specs.Laws.Route.{Wrote, length-words, route-wor
 use borrow.Author.Needs.{needs}
 use Rattle.hnsr_circuit.proofs.route.put_route.Statement.{statement}
 use Rattle.hnsr_circuit.proofs.route.put_route.Tie as tie
-use Rattle.hnsr_circuit.proofs.route.put_route.Reads as reads
-use Rattle.hnsr_circuit.proofs.route.put_route.Lts as lts
-use Rattle.hns_encoding.proofs.room.fits.Reads as fits-reads
-use Rattle.hnsr_circuit.proofs.route.put_packet_words.Reads as put-packet-words-reads
-use Rattle.hnsr_circuit.proofs.route.put_peer_words.Reads as put-peer-words-reads
-use Rattle.hnsr_circuit.proofs.route.route_size.Reads as route-size-reads
+use Rattle.hnsr_circuit.proofs.route.put_route.Proof.At as at
 
 abbrev st : tie.Then1 → tie.Start
 st c = c .before .before .before .before .before
@@ -65,23 +60,29 @@ add-put-packet-words : tie.Need-add-put-packet-words
 add-put-packet-words c = let r = room (c .before .before .before .before .before) in search needs
 
 put-packet-words-requires : tie.Need-put-packet-words-requires
-put-packet-words-requires c κs = let r = room (c .before .before .before .before .before) in let n = length-words (c .before .before .before .before .before .before .before .before .before .before .args .body .now) in (search needs, omega (arith, long (c .before .before .before)))
+put-packet-words-requires c κs =
+    let here = at.put-packet-words-requires c in
+    let r = room (c .before .before .before .before .before) in let n = length-words (here .start .args .body .now) in (search needs, omega (arith, long (c .before .before .before)))
 
 same-length : tie.Need-same-length
 same-length c = search needs
 
 returns : tie.Need-returns
 unfolding routeWords packetWords
-returns c = let s = c .before .before .before .before .before .before .before .before .before .before .before .before .before in
+returns c =
+    let here = at.returns c in
+    let s = here .start in
     let r = room (c .before .before .before .before .before .before .before .before) in
     let n = length-words (s .args .body .now) in
-    let all = wrote-next (c .before .before .put-packet-words .last .0) (packetWords (the-route s)) (3 + length (words (s .args .body .now))) (first (c .before .before .before .before .before .before)) (packet-words (the-route s)) (omega arith) (c .before .before .put-packet-words .ensures) in
+    let all = wrote-next (here .put-packet-words .last .0) (packetWords (the-route s)) (3 + length (words (s .args .body .now))) (first (c .before .before .before .before .before .before)) (packet-words (the-route s)) (omega arith) (here .put-packet-words .ensures) in
     wrote-all all (omega arith)
 
 returns-2 : tie.Need-returns-2
-returns-2 c = let s = c .before .before .before .before .before in
+returns-2 c =
+    let here = at.returns-2 c in
+    let s = here .start in
     wrote-none (s .args .out .now) (routeWords (the-route s)) (s .args .at)
-    (ap (λ (n : ℕ). within (length (s .args .out .now)) (s .args .at) n) (sym (size s) ∙ sym (c .before .before .route-size .ensures)) ∙ sym (c .before .fits2 .ensures) ∙ c .if1 .left)
+    (ap (λ (n : ℕ). within (length (s .args .out .now)) (s .args .at) n) (sym (size s) ∙ sym (here .route-size .ensures)) ∙ sym (here .fits2 .ensures) ∙ here .if1 .left)
 
 pub put-route-spec : {M : Type 1} → statement M
 put-route-spec =

@@ -2,11 +2,6 @@
 use borrow.Author.Needs.{needs}
 use Rattle.hnsr_circuit.proofs.scan.above.Statement.{statement}
 use Rattle.hnsr_circuit.proofs.scan.above.Tie as tie
-use Rattle.hnsr_circuit.proofs.scan.above.Reads as reads
-use Rattle.hnsr_circuit.proofs.scan.above.Lts as lts
-use Rattle.hns_encoding.proofs.logic.both.Reads as both-reads
-use Rattle.hns_encoding.proofs.logic.either.Reads as either-reads
-use Rattle.hns_encoding.proofs.logic.no.Reads as no-reads
 
 both-requires : tie.Need-both-requires
 both-requires c κs = search needs

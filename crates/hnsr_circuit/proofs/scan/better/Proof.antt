@@ -2,10 +2,6 @@
 use borrow.Author.Needs.{needs}
 use Rattle.hnsr_circuit.proofs.scan.better.Statement.{statement}
 use Rattle.hnsr_circuit.proofs.scan.better.Tie as tie
-use Rattle.hnsr_circuit.proofs.scan.better.Reads as reads
-use Rattle.hnsr_circuit.proofs.scan.better.Lts as lts
-use Rattle.hns_encoding.proofs.logic.either.Reads as either-reads
-use Rattle.hns_encoding.proofs.logic.no.Reads as no-reads
 
 no-requires : tie.Need-no-requires
 no-requires c κs = search needs

@@ -4,9 +4,6 @@ use Rattle.hnsr_circuit.specs.Circuits.{isCircuit}
 use borrow.Author.Needs.{needs}
 use Rattle.hnsr_circuit.proofs.scan.circuit_due_turn.Statement.{statement}
 use Rattle.hnsr_circuit.proofs.scan.circuit_due_turn.Tie as tie
-use Rattle.hnsr_circuit.proofs.scan.circuit_due_turn.Reads as reads
-use Rattle.hnsr_circuit.proofs.scan.circuit_due_turn.Lts as lts
-use Rattle.hnsr_circuit.proofs.scan.earlier.Reads as earlier-reads
 
 earlier-requires : tie.Need-earlier-requires
 earlier-requires c κs = search needs

@@ -3,11 +3,6 @@ use Rattle.hnsr_circuit.specs.Circuits.{isCircuit}
 use borrow.Author.Needs.{needs}
 use Rattle.hnsr_circuit.proofs.scan.circuit_totalled.Statement.{statement}
 use Rattle.hnsr_circuit.proofs.scan.circuit_totalled.Tie as tie
-use Rattle.hnsr_circuit.proofs.scan.circuit_totalled.Reads as reads
-use Rattle.hnsr_circuit.proofs.scan.circuit_totalled.Lts as lts
-use Rattle.hns_encoding.proofs.numbers.saturating_add_usize.Reads as saturating-add-usize-reads
-use Rattle.hnsr_circuit.proofs.circuits.queued_in.Reads as queued-in-reads
-use Rattle.hnsr_circuit.proofs.scan.one_more.Reads as one-more-reads
 
 queued-in-requires : tie.Need-queued-in-requires
 queued-in-requires c κs = search needs

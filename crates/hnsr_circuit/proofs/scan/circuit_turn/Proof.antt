@@ -2,10 +2,6 @@
 use borrow.Author.Needs.{needs}
 use Rattle.hnsr_circuit.proofs.scan.circuit_turn.Statement.{statement}
 use Rattle.hnsr_circuit.proofs.scan.circuit_turn.Tie as tie
-use Rattle.hnsr_circuit.proofs.scan.circuit_turn.Reads as reads
-use Rattle.hnsr_circuit.proofs.scan.circuit_turn.Lts as lts
-use Rattle.hnsr_circuit.proofs.question.circuit_has.Reads as circuit-has-reads
-use Rattle.hnsr_circuit.proofs.scan.walked_on.Reads as walked-on-reads
 
 circuit-has-requires : tie.Need-circuit-has-requires
 circuit-has-requires c κs = search needs

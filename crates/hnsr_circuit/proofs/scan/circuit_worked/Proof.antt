@@ -1,4 +1,5 @@
 -- The questions of a used record.
+mod At
 use Rattle.hnsr_circuit.specs.Laws.Turns.{works}
 use Rattle.hnsr_circuit.specs.Code.Turns.{never}
 use Rattle.hnsr_circuit.specs.Circuits.{circuitAt, circuitOf, circuitUnder, isCircuit}
@@ -7,12 +8,7 @@ use mathlib.Core.Bool.{false}
 use borrow.Author.Needs.{needs}
 use Rattle.hnsr_circuit.proofs.scan.circuit_worked.Statement.{statement}
 use Rattle.hnsr_circuit.proofs.scan.circuit_worked.Tie as tie
-use Rattle.hnsr_circuit.proofs.scan.circuit_worked.Reads as reads
-use Rattle.hnsr_circuit.proofs.scan.circuit_worked.Lts as lts
-use Rattle.hnsr_circuit.proofs.circuits.circuit_is.Reads as circuit-is-reads
-use Rattle.hnsr_circuit.proofs.circuits.circuit_of.Reads as circuit-of-reads
-use Rattle.hnsr_circuit.proofs.circuits.circuit_under.Reads as circuit-under-reads
-use Rattle.hnsr_circuit.proofs.scan.work_on.Reads as work-on-reads
+use Rattle.hnsr_circuit.proofs.scan.circuit_worked.Proof.At as at
 
 circuit-of-requires : tie.Need-circuit-of-requires
 circuit-of-requires c κs = search needs
@@ -32,11 +28,10 @@ work-on-requires c κs = search needs
 returns : tie.Need-returns
 unfolding isCircuit
 returns c =
-    let u = c .before .before in
-    let i = u .before .before .before in
-    let a = i .before .args in
-    works isCircuit (circuitOf (a .question .peer)) (circuitOf (a .question .other)) (circuitUnder (a .question .reservation)) never (circuitAt (a .question .id)) (a .work) (a .row) 0 (i .if1 .taken) (u .before .before .circuit-of .result) (u .before .circuit-of2 .result) (u .circuit-under .result) false (c .before .circuit-is .result)
-    (u .before .before .circuit-of .ensures) (u .before .circuit-of2 .ensures) (u .circuit-under .ensures) refl (c .before .circuit-is .ensures) (c .work-on .result) (c .work-on .ensures)
+    let here = at.returns c in
+    let a = here .start .args in
+    works isCircuit (circuitOf (a .question .peer)) (circuitOf (a .question .other)) (circuitUnder (a .question .reservation)) never (circuitAt (a .question .id)) (a .work) (a .row) 0 (here .if1 .taken) (here .circuit-of .result) (here .circuit-of2 .result) (here .circuit-under .result) false (here .circuit-is .result)
+    (here .circuit-of .ensures) (here .circuit-of2 .ensures) (here .circuit-under .ensures) refl (here .circuit-is .ensures) (here .work-on .result) (here .work-on .ensures)
 
 returns-2 : tie.Need-returns-2
 unfolding isCircuit

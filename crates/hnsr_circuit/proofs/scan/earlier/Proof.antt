@@ -2,9 +2,6 @@
 use borrow.Author.Needs.{needs}
 use Rattle.hnsr_circuit.proofs.scan.earlier.Statement.{statement}
 use Rattle.hnsr_circuit.proofs.scan.earlier.Tie as tie
-use Rattle.hnsr_circuit.proofs.scan.earlier.Reads as reads
-use Rattle.hnsr_circuit.proofs.scan.earlier.Lts as lts
-use Rattle.hns_encoding.proofs.numbers.min_u64.Reads as min-u64-reads
 
 enum-told : tie.Need-enum-told
 enum-told c = search needs

@@ -3,8 +3,6 @@ use native.Mathlib.Omega.{arith}
 use borrow.Author.Needs.{needs}
 use Rattle.hnsr_circuit.proofs.scan.one_more.Statement.{statement}
 use Rattle.hnsr_circuit.proofs.scan.one_more.Tie as tie
-use Rattle.hnsr_circuit.proofs.scan.one_more.Reads as reads
-use Rattle.hnsr_circuit.proofs.scan.one_more.Lts as lts
 
 add-result : tie.Need-add-result
 add-result c = search needs

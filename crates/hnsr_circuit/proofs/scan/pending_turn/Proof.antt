@@ -2,10 +2,6 @@
 use borrow.Author.Needs.{needs}
 use Rattle.hnsr_circuit.proofs.scan.pending_turn.Statement.{statement}
 use Rattle.hnsr_circuit.proofs.scan.pending_turn.Tie as tie
-use Rattle.hnsr_circuit.proofs.scan.pending_turn.Reads as reads
-use Rattle.hnsr_circuit.proofs.scan.pending_turn.Lts as lts
-use Rattle.hnsr_circuit.proofs.question.pending_has.Reads as pending-has-reads
-use Rattle.hnsr_circuit.proofs.scan.walked_on.Reads as walked-on-reads
 
 pending-has-requires : tie.Need-pending-has-requires
 pending-has-requires c κs = search needs

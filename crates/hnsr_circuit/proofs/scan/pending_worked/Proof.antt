@@ -1,16 +1,11 @@
 -- The questions of a used record.
+mod At
 use Rattle.hnsr_circuit.specs.Laws.Turns.{works}
 use Rattle.hnsr_circuit.specs.Pending.{pendingAt, pendingOf, pendingUnder, requestedBy, isPending}
 use borrow.Author.Needs.{needs}
 use Rattle.hnsr_circuit.proofs.scan.pending_worked.Statement.{statement}
 use Rattle.hnsr_circuit.proofs.scan.pending_worked.Tie as tie
-use Rattle.hnsr_circuit.proofs.scan.pending_worked.Reads as reads
-use Rattle.hnsr_circuit.proofs.scan.pending_worked.Lts as lts
-use Rattle.hnsr_circuit.proofs.pending.pending_is.Reads as pending-is-reads
-use Rattle.hnsr_circuit.proofs.pending.pending_of.Reads as pending-of-reads
-use Rattle.hnsr_circuit.proofs.pending.pending_under.Reads as pending-under-reads
-use Rattle.hnsr_circuit.proofs.pending.requested_by.Reads as requested-by-reads
-use Rattle.hnsr_circuit.proofs.scan.work_on.Reads as work-on-reads
+use Rattle.hnsr_circuit.proofs.scan.pending_worked.Proof.At as at
 
 pending-of-requires : tie.Need-pending-of-requires
 pending-of-requires c κs = search needs
@@ -33,11 +28,10 @@ work-on-requires c κs = search needs
 returns : tie.Need-returns
 unfolding isPending
 returns c =
-    let u = c .before .before .before in
-    let i = u .before .before .before in
-    let a = i .before .args in
-    works isPending (pendingOf (a .question .peer)) (pendingOf (a .question .other)) (pendingUnder (a .question .reservation)) (requestedBy (a .question .peer) (a .question .context)) (pendingAt (a .question .id)) (a .work) (a .row) 0 (i .if1 .taken) (u .before .before .pending-of .result) (u .before .pending-of2 .result) (u .pending-under .result) (c .before .before .requested-by .result) (c .before .pending-is .result)
-    (u .before .before .pending-of .ensures) (u .before .pending-of2 .ensures) (u .pending-under .ensures) (c .before .before .requested-by .ensures) (c .before .pending-is .ensures) (c .work-on .result) (c .work-on .ensures)
+    let here = at.returns c in
+    let a = here .start .args in
+    works isPending (pendingOf (a .question .peer)) (pendingOf (a .question .other)) (pendingUnder (a .question .reservation)) (requestedBy (a .question .peer) (a .question .context)) (pendingAt (a .question .id)) (a .work) (a .row) 0 (here .if1 .taken) (here .pending-of .result) (here .pending-of2 .result) (here .pending-under .result) (here .requested-by .result) (here .pending-is .result)
+    (here .pending-of .ensures) (here .pending-of2 .ensures) (here .pending-under .ensures) (here .requested-by .ensures) (here .pending-is .ensures) (here .work-on .result) (here .work-on .ensures)
 
 returns-2 : tie.Need-returns-2
 unfolding isPending

@@ -1,12 +1,9 @@
 -- The three tests joined.
+mod At
 use borrow.Author.Needs.{needs}
 use Rattle.hnsr_circuit.proofs.scan.walked_on.Statement.{statement}
 use Rattle.hnsr_circuit.proofs.scan.walked_on.Tie as tie
-use Rattle.hnsr_circuit.proofs.scan.walked_on.Reads as reads
-use Rattle.hnsr_circuit.proofs.scan.walked_on.Lts as lts
-use Rattle.hns_encoding.proofs.logic.both.Reads as both-reads
-use Rattle.hnsr_circuit.proofs.scan.above.Reads as above-reads
-use Rattle.hnsr_circuit.proofs.scan.better.Reads as better-reads
+use Rattle.hnsr_circuit.proofs.scan.walked_on.Proof.At as at
 
 above-requires : tie.Need-above-requires
 above-requires c κs = search needs
@@ -22,13 +19,13 @@ both-requires-2 c κs = search needs
 
 returns : tie.Need-returns
 returns c =
-    let b = c .before in
-    rw (← (b .before .before .before .above .ensures), ← (b .before .before .both .ensures), ← (b .before .better .ensures), ← (b .both2 .ensures), c .if1 .taken)
+    let here = at.returns c in
+    rw (← (here .above .ensures), ← (here .both .ensures), ← (here .better .ensures), ← (here .both2 .ensures), here .if1 .taken)
 
 returns-2 : tie.Need-returns-2
 returns-2 c =
-    let b = c .before in
-    rw (← (b .before .before .before .above .ensures), ← (b .before .before .both .ensures), ← (b .before .better .ensures), ← (b .both2 .ensures), c .if1 .left)
+    let here = at.returns-2 c in
+    rw (← (here .above .ensures), ← (here .both .ensures), ← (here .better .ensures), ← (here .both2 .ensures), here .if1 .left)
 
 pub walked-on-spec : {M : Type 1} → statement M
 walked-on-spec =

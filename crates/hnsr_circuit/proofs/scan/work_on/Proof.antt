@@ -1,11 +1,9 @@
 -- Four counts and two tests.
+mod At
 use borrow.Author.Needs.{needs}
 use Rattle.hnsr_circuit.proofs.scan.work_on.Statement.{statement}
 use Rattle.hnsr_circuit.proofs.scan.work_on.Tie as tie
-use Rattle.hnsr_circuit.proofs.scan.work_on.Reads as reads
-use Rattle.hnsr_circuit.proofs.scan.work_on.Lts as lts
-use Rattle.hns_encoding.proofs.logic.either.Reads as either-reads
-use Rattle.hnsr_circuit.proofs.scan.one_more.Reads as one-more-reads
+use Rattle.hnsr_circuit.proofs.scan.work_on.Proof.At as at
 
 add-t7 : tie.Need-add-t7
 add-t7 c = search needs
@@ -26,7 +24,9 @@ either-requires-2 : tie.Need-either-requires-2
 either-requires-2 c κs = search needs
 
 returns : tie.Need-returns
-returns c = rw (c .either2 .ensures, c .before .either .ensures, c .before .before .one-more3 .ensures, c .before .before .before .one-more2 .ensures, c .before .before .before .before .one-more .ensures)
+returns c =
+    let here = at.returns c in
+    rw (here .either2 .ensures, here .either .ensures, here .one-more3 .ensures, here .one-more2 .ensures, here .one-more .ensures)
 
 pub work-on-spec : {M : Type 1} → statement M
 work-on-spec =

@@ -1,31 +1,16 @@
 -- `lekchnam::relay::opaque_relay_disconnect` meets its contract.
 mod Tie
-use borrow.Author.Needs.{needs}
+mod At
 use Rattle.lekchnam.specs.Laws.Replies.{in-numbers}
 use Rattle.lekchnam.proofs.relay.opaque_relay_disconnect.Statement.{statement}
 use Rattle.lekchnam.proofs.relay.opaque_relay_disconnect.Proof.Tie as tie
-
-disconnect-requires : tie.Need-disconnect-requires
-disconnect-requires c = search needs
-
-reply-requires : tie.Need-reply-requires
-reply-requires c = search needs
-
-same-length : tie.Need-same-length
-same-length c = search needs
-
-same-length-2 : tie.Need-same-length-2
-same-length-2 c = search needs
-
-same-length-3 : tie.Need-same-length-3
-same-length-3 c = search needs
-
-same-length-4 : tie.Need-same-length-4
-same-length-4 c = search needs
+use Rattle.lekchnam.proofs.relay.opaque_relay_disconnect.Proof.At as at
 
 returns : tie.Need-returns
-returns c l = let d = c .before .before .before .before .before .before .disconnect in
-    in-numbers (d .last .0) (d .last .1 .0) l (d .last .1 .1 .0) (d .last .1 .1 .1 .0) (c .reply .ensures) (d .ensures l)
+returns c l =
+    let here = at.returns c in
+    let d = here .disconnect in
+    in-numbers (d .last .0) (d .last .1 .0) l (d .last .1 .1 .0) (d .last .1 .1 .1 .0) (here .reply .ensures) (d .ensures l)
 
 pub opaque-relay-disconnect-spec : {M : Type 1} → statement M
-opaque-relay-disconnect-spec = tie.close (tie.spec disconnect-requires reply-requires same-length same-length-2 same-length-3 same-length-4 returns)
+opaque-relay-disconnect-spec = tie.close (at.spec returns)

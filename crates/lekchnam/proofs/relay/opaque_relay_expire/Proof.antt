@@ -1,34 +1,16 @@
 -- `lekchnam::relay::opaque_relay_expire` meets its contract.
 mod Tie
-use borrow.Author.Needs.{needs}
+mod At
 use Rattle.lekchnam.specs.Laws.Replies.{in-numbers}
 use Rattle.lekchnam.proofs.relay.opaque_relay_expire.Statement.{statement}
 use Rattle.lekchnam.proofs.relay.opaque_relay_expire.Proof.Tie as tie
-
-expire-requires : tie.Need-expire-requires
-expire-requires c = search needs
-
-reply-requires : tie.Need-reply-requires
-reply-requires c = search needs
-
-same-length : tie.Need-same-length
-same-length c = search needs
-
-same-length-2 : tie.Need-same-length-2
-same-length-2 c = search needs
-
-same-length-3 : tie.Need-same-length-3
-same-length-3 c = search needs
-
-same-length-4 : tie.Need-same-length-4
-same-length-4 c = search needs
-
-same-length-5 : tie.Need-same-length-5
-same-length-5 c = search needs
+use Rattle.lekchnam.proofs.relay.opaque_relay_expire.Proof.At as at
 
 returns : tie.Need-returns
-returns c = let d = c .before .before .before .before .before .before .before .expire in
-    in-numbers (d .last .0) (d .last .1 .0) (d .last .1 .1 .0) (d .last .1 .1 .1 .0) (d .last .1 .1 .1 .1 .0) (c .reply .ensures) (d .ensures)
+returns c =
+    let here = at.returns c in
+    let d = here .expire in
+    in-numbers (d .last .0) (d .last .1 .0) (d .last .1 .1 .0) (d .last .1 .1 .1 .0) (d .last .1 .1 .1 .1 .0) (here .reply .ensures) (d .ensures)
 
 pub opaque-relay-expire-spec : {M : Type 1} → statement M
-opaque-relay-expire-spec = tie.close (tie.spec expire-requires reply-requires same-length same-length-2 same-length-3 same-length-4 same-length-5 returns)
+opaque-relay-expire-spec = tie.close (at.spec returns)

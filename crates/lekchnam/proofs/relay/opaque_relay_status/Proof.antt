@@ -1,19 +1,14 @@
 -- `lekchnam::relay::opaque_relay_status` meets its contract.
 mod Tie
-use borrow.Author.Needs.{needs}
+mod At
 use mathlib.Core.Path.{_∙_, ap}
 use Rattle.lekchnam.specs.Replies.{statusNumbered}
 use Rattle.lekchnam.proofs.relay.opaque_relay_status.Statement.{statement}
 use Rattle.lekchnam.proofs.relay.opaque_relay_status.Proof.Tie as tie
-
-status-requires : tie.Need-status-requires
-status-requires c = search needs
-
-status-reply-requires : tie.Need-status-reply-requires
-status-reply-requires c = search needs
+use Rattle.lekchnam.proofs.relay.opaque_relay_status.Proof.At as at
 
 returns : tie.Need-returns
 returns c l = c .status-reply .ensures ∙ ap statusNumbered (c .before .status .ensures l)
 
 pub opaque-relay-status-spec : {M : Type 1} → statement M
-opaque-relay-status-spec = tie.close (tie.spec status-requires status-reply-requires returns)
+opaque-relay-status-spec = tie.close (at.spec returns)

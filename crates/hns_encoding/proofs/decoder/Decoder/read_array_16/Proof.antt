@@ -1,4 +1,5 @@
 -- `read_array_16` meets its contract: the laws of a field and of an array beside the answer, at 16 bytes.
+mod At
 use Prim.Native.Nat.{ℕ}
 use mathlib.Core.List.{List}
 use lib.Dec.{lit≤}
@@ -10,6 +11,7 @@ use borrow.Author.Needs.{needs}
 use native.Mathlib.Omega.{arith}
 use Rattle.hns_encoding.proofs.decoder.Decoder.read_array_16.Statement.{statement}
 use Rattle.hns_encoding.proofs.decoder.Decoder.read_array_16.Tie as tie
+use Rattle.hns_encoding.proofs.decoder.Decoder.read_array_16.Proof.At as at
 
 fits-requires : tie.Need-fits-requires
 fits-requires c κs = search needs
@@ -19,33 +21,33 @@ slice-aggregate-copy-at c = search needs
 
 copy-at-requires : tie.Need-copy-at-requires
 copy-at-requires c κs =
-    let s = c .before .before in
-    let a = s .before .before .args in
-    (lit≤ tt, there (length (a .input .now)) (a .self .position) 16 (s .fits2 .result) (s .fits2 .ensures) (c .before .if1 .taken))
+    let here = at.copy-at-requires c in
+    let a = here .start .args in
+    (lit≤ tt, there (length (a .input .now)) (a .self .position) 16 (here .fits2 .result) (here .fits2 .ensures) (here .if1 .taken))
 
 add-t11 : tie.Need-add-t11
 add-t11 c =
-    let s = c .before .before .before .before in
-    let a = s .before .before .args in
-    record { fits = omega (arith, there (length (a .input .now)) (a .self .position) 16 (s .fits2 .result) (s .fits2 .ensures) (c .before .before .before .if1 .taken)) }
+    let here = at.add-t11 c in
+    let a = here .start .args in
+    record { fits = omega (arith, there (length (a .input .now)) (a .self .position) 16 (here .fits2 .result) (here .fits2 .ensures) (here .if1 .taken)) }
 
 unexpected-end-requires : tie.Need-unexpected-end-requires
 unexpected-end-requires c κs = search needs
 
 returns : tie.Need-returns
 returns c =
-    let s = c .before .before .before .before in
-    let a = s .before .before .args in (
-      read-ok (λ (bytes : List ℕ) (next : Decoder). Ok next) Err 16 (a .input .now) (a .self) (s .fits2 .result) (s .fits2 .ensures) (c .before .before .before .if1 .taken),
-      array-ok 16 (a .input .now) (a .self) (s .fits2 .result) (s .fits2 .ensures) (c .before .copy-at .last .0) (c .before .before .before .if1 .taken) (c .before .copy-at .ensures),
+    let here = at.returns c in
+    let a = here .start .args in (
+      read-ok (λ (bytes : List ℕ) (next : Decoder). Ok next) Err 16 (a .input .now) (a .self) (here .fits2 .result) (here .fits2 .ensures) (here .if1 .taken),
+      array-ok 16 (a .input .now) (a .self) (here .fits2 .result) (here .fits2 .ensures) (here .copy-at .last .0) (here .if1 .taken) (here .copy-at .ensures),
     )
 
 returns-2 : tie.Need-returns-2
 returns-2 c =
-    let s = c .before .before in
-    let a = s .before .before .args in (
-      read-err (λ (bytes : List ℕ) (next : Decoder). Ok next) Err 16 (a .input .now) (a .self) (s .fits2 .result) (s .fits2 .ensures) (c .unexpected-end .result) (c .before .if1 .left) (c .unexpected-end .ensures),
-      array-err 16 (a .input .now) (a .self) (s .fits2 .result) (s .fits2 .ensures) (c .before .if1 .left),
+    let here = at.returns-2 c in
+    let a = here .start .args in (
+      read-err (λ (bytes : List ℕ) (next : Decoder). Ok next) Err 16 (a .input .now) (a .self) (here .fits2 .result) (here .fits2 .ensures) (here .unexpected-end .result) (here .if1 .left) (here .unexpected-end .ensures),
+      array-err 16 (a .input .now) (a .self) (here .fits2 .result) (here .fits2 .ensures) (here .if1 .left),
     )
 
 pub read-array-16-spec : {M : Type 1} → statement M

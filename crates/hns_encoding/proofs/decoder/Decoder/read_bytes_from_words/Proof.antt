@@ -1,6 +1,7 @@
 -- `read_bytes_from_words` meets its contract: the laws of a field and of bytes filled from it, at as many words as the bytes fill.
+mod At
 use Prim.Native.Nat.{ℕ, _+_}
-use mathlib.Core.Path.{_≡_, sym, _∙_, ap}
+use mathlib.Core.Path.{_∙_, ap}
 use mathlib.Core.List.{List}
 use lib.ListN.{length}
 use Rattle.hns_encoding.specs.declared.decoder.Decoder.{Decoder}
@@ -12,6 +13,7 @@ use borrow.Author.Needs.{needs}
 use native.Mathlib.Omega.{arith}
 use Rattle.hns_encoding.proofs.decoder.Decoder.read_bytes_from_words.Statement.{statement}
 use Rattle.hns_encoding.proofs.decoder.Decoder.read_bytes_from_words.Tie as tie
+use Rattle.hns_encoding.proofs.decoder.Decoder.read_bytes_from_words.Proof.At as at
 
 word-count-requires : tie.Need-word-count-requires
 word-count-requires c κs = search needs
@@ -21,15 +23,15 @@ fits-requires c κs = search needs
 
 copy-bytes-at-requires : tie.Need-copy-bytes-at-requires
 copy-bytes-at-requires c κs =
-    let s = c .before .before in
-    let a = s .before .before .before .before .args in
-    there (length (a .input .now)) (a .self .position) (wordCount (length (a .out .now))) (s .fits2 .result) (s .fits2 .ensures ∙ ap (λ (n : ℕ). within (length (a .input .now)) (a .self .position) n) (s .before .word-count .ensures)) (c .before .if1 .taken)
+    let here = at.copy-bytes-at-requires c in
+    let a = here .start .args in
+    there (length (a .input .now)) (a .self .position) (wordCount (length (a .out .now))) (here .fits2 .result) (here .fits2 .ensures ∙ ap (λ (n : ℕ). within (length (a .input .now)) (a .self .position) n) (here .word-count .ensures)) (here .if1 .taken)
 
 add-t12 : tie.Need-add-t12
 add-t12 c =
-    let s = c .before .before .before .before .before in
-    let a = s .before .before .before .before .args in
-    record { fits = omega (arith, there (length (a .input .now)) (a .self .position) (s .before .word-count .result) (s .fits2 .result) (s .fits2 .ensures) (c .before .before .before .before .if1 .taken)) }
+    let here = at.add-t12 c in
+    let a = here .start .args in
+    record { fits = omega (arith, there (length (a .input .now)) (a .self .position) (here .word-count .result) (here .fits2 .result) (here .fits2 .ensures) (here .if1 .taken)) }
 
 unexpected-end-requires : tie.Need-unexpected-end-requires
 unexpected-end-requires c κs = search needs
@@ -39,22 +41,22 @@ same-length c = search needs
 
 returns : tie.Need-returns
 returns c =
-    let s = c .before .before .before .before .before in
-    let a = s .before .before .before .before .args in
-    let e = s .fits2 .ensures ∙ ap (λ (n : ℕ). within (length (a .input .now)) (a .self .position) n) (s .before .word-count .ensures) in (
-      ap (λ (n : ℕ). Ok (record { position = a .self .position + n })) (s .before .word-count .ensures)
-          ∙ read-ok (λ (ws : List ℕ) (next : Decoder). Ok next) Err (wordCount (length (a .out .now))) (a .input .now) (a .self) (s .fits2 .result) e (c .before .before .before .before .if1 .taken),
-      filled-ok (a .out .now) (a .input .now) (a .self) (s .fits2 .result) e (c .before .before .copy-bytes-at .last .0) (c .before .before .before .before .if1 .taken) (c .before .before .copy-bytes-at .ensures),
+    let here = at.returns c in
+    let a = here .start .args in
+    let e = here .fits2 .ensures ∙ ap (λ (n : ℕ). within (length (a .input .now)) (a .self .position) n) (here .word-count .ensures) in (
+      ap (λ (n : ℕ). Ok (record { position = a .self .position + n })) (here .word-count .ensures)
+          ∙ read-ok (λ (ws : List ℕ) (next : Decoder). Ok next) Err (wordCount (length (a .out .now))) (a .input .now) (a .self) (here .fits2 .result) e (here .if1 .taken),
+      filled-ok (a .out .now) (a .input .now) (a .self) (here .fits2 .result) e (here .copy-bytes-at .last .0) (here .if1 .taken) (here .copy-bytes-at .ensures),
     )
 
 returns-2 : tie.Need-returns-2
 returns-2 c =
-    let s = c .before .before in
-    let a = s .before .before .before .before .args in
-    let e = s .fits2 .ensures ∙ ap (λ (n : ℕ). within (length (a .input .now)) (a .self .position) n) (s .before .word-count .ensures) in (
-      read-err (λ (ws : List ℕ) (next : Decoder). Ok next) Err (wordCount (length (a .out .now))) (a .input .now) (a .self) (s .fits2 .result) e (c .unexpected-end .result) (c .before .if1 .left)
-          (c .unexpected-end .ensures ∙ ap (λ (n : ℕ). unexpectedEnd (length (a .input .now)) (a .self .position) n) (s .before .word-count .ensures)),
-      filled-err (a .out .now) (a .input .now) (a .self) (s .fits2 .result) e (c .before .if1 .left),
+    let here = at.returns-2 c in
+    let a = here .start .args in
+    let e = here .fits2 .ensures ∙ ap (λ (n : ℕ). within (length (a .input .now)) (a .self .position) n) (here .word-count .ensures) in (
+      read-err (λ (ws : List ℕ) (next : Decoder). Ok next) Err (wordCount (length (a .out .now))) (a .input .now) (a .self) (here .fits2 .result) e (here .unexpected-end .result) (here .if1 .left)
+          (here .unexpected-end .ensures ∙ ap (λ (n : ℕ). unexpectedEnd (length (a .input .now)) (a .self .position) n) (here .word-count .ensures)),
+      filled-err (a .out .now) (a .input .now) (a .self) (here .fits2 .result) e (here .if1 .left),
     )
 
 pub read-bytes-from-words-spec : {M : Type 1} → statement M

@@ -1,4 +1,5 @@
 -- `read_u64_le` meets its contract: the law of a field, at 8 bytes.
+mod At
 use Prim.Native.Nat.{ℕ}
 use native.Mathlib.Omega.{arith}
 use mathlib.Core.Path.{_∙_, ap}
@@ -11,40 +12,40 @@ use Rattle.hns_encoding.specs.Bytes.{le}
 use Rattle.hns_encoding.specs.Cursor.{behind}
 use Rattle.hns_encoding.specs.Laws.Cursor.{there, read-ok, read-err}
 use borrow.Author.Needs.{needs}
-use native.Mathlib.Omega.{arith}
 use Rattle.hns_encoding.proofs.decoder.Decoder.read_u64_le.Statement.{statement}
 use Rattle.hns_encoding.proofs.decoder.Decoder.read_u64_le.Tie as tie
+use Rattle.hns_encoding.proofs.decoder.Decoder.read_u64_le.Proof.At as at
 
 fits-requires : tie.Need-fits-requires
 fits-requires c κs = search needs
 
 le-at-requires : tie.Need-le-at-requires
 le-at-requires c κs =
-    let s = c .before in
-    let a = s .before .before .args in
-    (there (length (a .input .now)) (a .self .position) 8 (s .fits2 .result) (s .fits2 .ensures) (c .if1 .taken), lit≤ tt)
+    let here = at.le-at-requires c in
+    let a = here .start .args in
+    (there (length (a .input .now)) (a .self .position) 8 (here .fits2 .result) (here .fits2 .ensures) (here .if1 .taken), lit≤ tt)
 
 add-t8 : tie.Need-add-t8
 add-t8 c =
-    let s = c .before .before in
-    let a = s .before .before .args in
-    record { fits = omega (arith, there (length (a .input .now)) (a .self .position) 8 (s .fits2 .result) (s .fits2 .ensures) (c .before .if1 .taken)) }
+    let here = at.add-t8 c in
+    let a = here .start .args in
+    record { fits = omega (arith, there (length (a .input .now)) (a .self .position) 8 (here .fits2 .result) (here .fits2 .ensures) (here .if1 .taken)) }
 
 unexpected-end-requires : tie.Need-unexpected-end-requires
 unexpected-end-requires c κs = search needs
 
 returns : tie.Need-returns
 returns c =
-    let s = c .before .before in
-    let a = s .before .before .args in
-    ap (λ (n : ℕ). Ok n (behind 8 (a .self))) (c .le-at .ensures .0)
-    ∙ read-ok (λ (bytes : List ℕ) (next : Decoder). Ok (le bytes) next) Err 8 (a .input .now) (a .self) (s .fits2 .result) (s .fits2 .ensures) (c .before .if1 .taken)
+    let here = at.returns c in
+    let a = here .start .args in
+    ap (λ (n : ℕ). Ok n (behind 8 (a .self))) (here .le-at .ensures .0)
+    ∙ read-ok (λ (bytes : List ℕ) (next : Decoder). Ok (le bytes) next) Err 8 (a .input .now) (a .self) (here .fits2 .result) (here .fits2 .ensures) (here .if1 .taken)
 
 returns-2 : tie.Need-returns-2
 returns-2 c =
-    let s = c .before .before in
-    let a = s .before .before .args in
-    read-err (λ (bytes : List ℕ) (next : Decoder). Ok (le bytes) next) Err 8 (a .input .now) (a .self) (s .fits2 .result) (s .fits2 .ensures) (c .unexpected-end .result) (c .before .if1 .left) (c .unexpected-end .ensures)
+    let here = at.returns-2 c in
+    let a = here .start .args in
+    read-err (λ (bytes : List ℕ) (next : Decoder). Ok (le bytes) next) Err 8 (a .input .now) (a .self) (here .fits2 .result) (here .fits2 .ensures) (here .unexpected-end .result) (here .if1 .left) (here .unexpected-end .ensures)
 
 pub read-u64-le-spec : {M : Type 1} → statement M
 read-u64-le-spec =

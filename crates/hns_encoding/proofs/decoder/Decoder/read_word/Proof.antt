@@ -1,5 +1,6 @@
 -- `read_word` meets its contract: the law of a field, at one word.
-use Prim.Native.Nat.{ℕ, _+_}
+mod At
+use Prim.Native.Nat.{ℕ}
 use native.Mathlib.Nat.{add-zero}
 use mathlib.Core.Path.{sym, _∙_, ap}
 use mathlib.Core.List.{List}
@@ -14,39 +15,40 @@ use borrow.Author.Needs.{needs}
 use native.Mathlib.Omega.{arith}
 use Rattle.hns_encoding.proofs.decoder.Decoder.read_word.Statement.{statement}
 use Rattle.hns_encoding.proofs.decoder.Decoder.read_word.Tie as tie
+use Rattle.hns_encoding.proofs.decoder.Decoder.read_word.Proof.At as at
 
 fits-requires : tie.Need-fits-requires
 fits-requires c κs = search needs
 
 get-word-requires : tie.Need-get-word-requires
 get-word-requires c κs =
-    let s = c .before in
-    let a = s .before .before .args in
-    omega (arith, there (length (a .input .now)) (a .self .position) 1 (s .fits2 .result) (s .fits2 .ensures) (c .if1 .taken))
+    let here = at.get-word-requires c in
+    let a = here .start .args in
+    omega (arith, there (length (a .input .now)) (a .self .position) 1 (here .fits2 .result) (here .fits2 .ensures) (here .if1 .taken))
 
 add-t8 : tie.Need-add-t8
 add-t8 c =
-    let s = c .before .before in
-    let a = s .before .before .args in
-    record { fits = omega (arith, there (length (a .input .now)) (a .self .position) 1 (s .fits2 .result) (s .fits2 .ensures) (c .before .if1 .taken)) }
+    let here = at.add-t8 c in
+    let a = here .start .args in
+    record { fits = omega (arith, there (length (a .input .now)) (a .self .position) 1 (here .fits2 .result) (here .fits2 .ensures) (here .if1 .taken)) }
 
 unexpected-end-requires : tie.Need-unexpected-end-requires
 unexpected-end-requires c κs = search needs
 
 returns : tie.Need-returns
 returns c =
-    let s = c .before .before in
-    let a = s .before .before .args in
+    let here = at.returns c in
+    let a = here .start .args in
     let at = a .self .position in
     ap (λ (n : ℕ). Ok n (behind 1 (a .self)))
-    (c .get-word .ensures ∙ ap (λ (k : ℕ). getD (a .input .now) k 0) (sym (add-zero at)) ∙ sym (field-at (a .input .now) at 1 0 (lit< tt)))
-    ∙ read-ok (λ (ws : List ℕ) (next : Decoder). Ok (getD ws 0 0) next) Err 1 (a .input .now) (a .self) (s .fits2 .result) (s .fits2 .ensures) (c .before .if1 .taken)
+    (here .get-word .ensures ∙ ap (λ (k : ℕ). getD (a .input .now) k 0) (sym (add-zero at)) ∙ sym (field-at (a .input .now) at 1 0 (lit< tt)))
+    ∙ read-ok (λ (ws : List ℕ) (next : Decoder). Ok (getD ws 0 0) next) Err 1 (a .input .now) (a .self) (here .fits2 .result) (here .fits2 .ensures) (here .if1 .taken)
 
 returns-2 : tie.Need-returns-2
 returns-2 c =
-    let s = c .before .before in
-    let a = s .before .before .args in
-    read-err (λ (ws : List ℕ) (next : Decoder). Ok (getD ws 0 0) next) Err 1 (a .input .now) (a .self) (s .fits2 .result) (s .fits2 .ensures) (c .unexpected-end .result) (c .before .if1 .left) (c .unexpected-end .ensures)
+    let here = at.returns-2 c in
+    let a = here .start .args in
+    read-err (λ (ws : List ℕ) (next : Decoder). Ok (getD ws 0 0) next) Err 1 (a .input .now) (a .self) (here .fits2 .result) (here .fits2 .ensures) (here .unexpected-end .result) (here .if1 .left) (here .unexpected-end .ensures)
 
 pub read-word-spec : {M : Type 1} → statement M
 read-word-spec =

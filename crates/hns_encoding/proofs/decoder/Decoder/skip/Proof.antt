@@ -1,4 +1,5 @@
 -- `skip` meets its contract: the law of a field, at any width.
+mod At
 use Prim.Native.Nat.{ℕ}
 use mathlib.Core.List.{List}
 use lib.ListN.{length}
@@ -9,30 +10,31 @@ use borrow.Author.Needs.{needs}
 use native.Mathlib.Omega.{arith}
 use Rattle.hns_encoding.proofs.decoder.Decoder.skip.Statement.{statement}
 use Rattle.hns_encoding.proofs.decoder.Decoder.skip.Tie as tie
+use Rattle.hns_encoding.proofs.decoder.Decoder.skip.Proof.At as at
 
 fits-requires : tie.Need-fits-requires
 fits-requires c κs = search needs
 
 add-t8 : tie.Need-add-t8
 add-t8 c =
-    let s = c .before in
-    let a = s .before .before .args in
-    record { fits = omega (arith, there (length (a .input .now)) (a .self .position) (a .width) (s .fits2 .result) (s .fits2 .ensures) (c .if1 .taken)) }
+    let here = at.add-t8 c in
+    let a = here .start .args in
+    record { fits = omega (arith, there (length (a .input .now)) (a .self .position) (a .width) (here .fits2 .result) (here .fits2 .ensures) (here .if1 .taken)) }
 
 unexpected-end-requires : tie.Need-unexpected-end-requires
 unexpected-end-requires c κs = search needs
 
 returns : tie.Need-returns
 returns c =
-    let s = c .before in
-    let a = s .before .before .args in
-    read-ok (λ (bytes : List ℕ) (next : Decoder). Ok next) Err (a .width) (a .input .now) (a .self) (s .fits2 .result) (s .fits2 .ensures) (c .if1 .taken)
+    let here = at.returns c in
+    let a = here .start .args in
+    read-ok (λ (bytes : List ℕ) (next : Decoder). Ok next) Err (a .width) (a .input .now) (a .self) (here .fits2 .result) (here .fits2 .ensures) (here .if1 .taken)
 
 returns-2 : tie.Need-returns-2
 returns-2 c =
-    let s = c .before .before in
-    let a = s .before .before .args in
-    read-err (λ (bytes : List ℕ) (next : Decoder). Ok next) Err (a .width) (a .input .now) (a .self) (s .fits2 .result) (s .fits2 .ensures) (c .unexpected-end .result) (c .before .if1 .left) (c .unexpected-end .ensures)
+    let here = at.returns-2 c in
+    let a = here .start .args in
+    read-err (λ (bytes : List ℕ) (next : Decoder). Ok next) Err (a .width) (a .input .now) (a .self) (here .fits2 .result) (here .fits2 .ensures) (here .unexpected-end .result) (here .if1 .left) (here .unexpected-end .ensures)
 
 pub skip-spec : {M : Type 1} → statement M
 skip-spec = tie.close (tie.spec fits-requires add-t8 unexpected-end-requires returns returns-2)

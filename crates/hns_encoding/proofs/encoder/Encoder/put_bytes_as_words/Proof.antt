@@ -1,4 +1,5 @@
 -- `put_bytes_as_words` meets its contract: it puts as many words as the bytes fill.
+mod At
 use Prim.Native.Nat.{ℕ}
 use mathlib.Core.Path.{subst}
 use Rattle.hns_encoding.specs.Words.{wordsOf}
@@ -6,6 +7,7 @@ use Rattle.hns_encoding.specs.Cursor.{Puts}
 use borrow.Author.Needs.{needs}
 use Rattle.hns_encoding.proofs.encoder.Encoder.put_bytes_as_words.Statement.{statement}
 use Rattle.hns_encoding.proofs.encoder.Encoder.put_bytes_as_words.Tie as tie
+use Rattle.hns_encoding.proofs.encoder.Encoder.put_bytes_as_words.Proof.At as at
 
 word-count-requires : tie.Need-word-count-requires
 word-count-requires c κs = search needs
@@ -18,10 +20,10 @@ same-length c = search needs
 
 returns : tie.Need-returns
 returns c =
-    let p = c .before .before .put-padded-as-words in
-    let s = c .before .before .before in
-    let a = s .before .before .before .before .args in
-    subst (λ (n : ℕ). Puts (p .result) (a .out .now) (p .last .1 .0) (a .self .position) (wordsOf n (a .bytes .now))) (s .word-count .ensures) (p .ensures)
+    let here = at.returns c in
+    let p = here .put-padded-as-words in
+    let a = here .start .args in
+    subst (λ (n : ℕ). Puts (p .result) (a .out .now) (p .last .1 .0) (a .self .position) (wordsOf n (a .bytes .now))) (here .word-count .ensures) (p .ensures)
 
 pub put-bytes-as-words-spec : {M : Type 1} → statement M
 put-bytes-as-words-spec =

@@ -1,15 +1,13 @@
 -- `OpenedBody::encode` meets its contract: the bytes are put where the values are good.
-use Prim.Native.Nat.{ℕ}
-use mathlib.Core.Path.{_≡_, sym, _∙_, ap}
-use mathlib.Core.Bool.{Bool}
-use mathlib.Core.List.{List}
+mod At
+use mathlib.Core.Path.{sym, _∙_}
 use lib.ListN.{replicate}
 use Rattle.hns_encoding.specs.Laws.Tests.{on-true, on-false}
-use Rattle.hnsr_body.specs.declared.error.Checked.the-variants.{Ok}
-use Rattle.hnsr_body.specs.Accept.{encodeOpened, openedGood, openedBytes}
+use Rattle.hnsr_body.specs.Accept.{encodeOpened, openedBytes}
 use borrow.Author.Needs.{needs}
 use Rattle.hnsr_body.proofs.accept_body.OpenedBody.encode.Statement.{statement}
 use Rattle.hnsr_body.proofs.accept_body.OpenedBody.encode.Tie as tie
+use Rattle.hnsr_body.proofs.accept_body.OpenedBody.encode.Proof.At as at
 
 answered-requires : tie.Need-answered-requires
 answered-requires c κs = search needs
@@ -26,15 +24,17 @@ put-requires c κs = search needs
 returns : tie.Need-returns
 unfolding encodeOpened
 returns c =
-    let result = c .before .before .before .before .before .answered .ensures in
-    let bytes = c .before .put .ensures ∙ sym (on-true _ (openedBytes (c .before .before .before .before .before .before .args .self)) (replicate 28 0) (sym (c .before .before .before .before .is-valid .ensures) ∙ c .before .before .before .if1 .taken)) in
+    let here = at.returns c in
+    let result = here .answered .ensures in
+    let bytes = here .put .ensures ∙ sym (on-true _ (openedBytes (here .start .args .self)) (replicate 28 0) (sym (here .is-valid .ensures) ∙ here .if1 .taken)) in
     λ i. record { result = result i; bytes = bytes i }
 
 returns-2 : tie.Need-returns-2
 unfolding encodeOpened
 returns-2 c =
-    let result = c .before .before .answered .ensures in
-    let bytes = sym (on-false _ (openedBytes (c .before .before .before .args .self)) (replicate 28 0) (sym (c .before .is-valid .ensures) ∙ c .if1 .left)) in
+    let here = at.returns-2 c in
+    let result = here .answered .ensures in
+    let bytes = sym (on-false _ (openedBytes (here .start .args .self)) (replicate 28 0) (sym (here .is-valid .ensures) ∙ here .if1 .left)) in
     λ i. record { result = result i; bytes = bytes i }
 
 pub encode-spec : {M : Type 1} → statement M

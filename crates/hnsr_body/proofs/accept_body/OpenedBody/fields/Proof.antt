@@ -1,10 +1,12 @@
 -- `OpenedBody::fields` meets its contract: the law of fields one after the other, at the widths of this body.
+mod At
 use Rattle.hnsr_body.specs.Accept.{openedFields, openedWidths}
 use Rattle.hnsr_body.specs.Layout.{laidOut}
 use Rattle.hnsr_body.specs.Laws.Layout.{through-walked, through-field}
 use borrow.Author.Needs.{needs}
 use Rattle.hnsr_body.proofs.accept_body.OpenedBody.fields.Statement.{statement}
 use Rattle.hnsr_body.proofs.accept_body.OpenedBody.fields.Tie as tie
+use Rattle.hnsr_body.proofs.accept_body.OpenedBody.fields.Proof.At as at
 
 start-requires : tie.Need-start-requires
 start-requires c κs = search needs
@@ -24,7 +26,8 @@ finish-requires c κs = search needs
 returns : tie.Need-returns
 unfolding laidOut openedFields
 returns c =
-    let input = c .before .before .before .before .before .before .before .args .input .now in (
+    let here = at.returns c in
+    let input = here .start .args .input .now in (
       cc (through-walked input openedWidths),
       cc (through-field input openedWidths 0, through-field input openedWidths 1, through-field input openedWidths 2),
     )

@@ -1,7 +1,7 @@
 -- `OpenedBody::put` meets its contract: the fields one after the other fill the body.
-use Prim.Native.Nat.{ℕ}
-use mathlib.Core.Path.{_≡_, refl, sym, _∙_, ap}
-use mathlib.Core.List.{List, _++_, append-assoc}
+mod At
+use mathlib.Core.Path.{_≡_, _∙_}
+use mathlib.Core.List.{append-assoc}
 use lib.ListN.{length}
 use Rattle.hns_encoding.specs.Bytes.{leBytes, beBytes}
 use Rattle.hns_encoding.specs.Laws.Bytes.{leBytes-length, beBytes-length}
@@ -11,6 +11,7 @@ use borrow.Author.Needs.{needs}
 use native.Mathlib.Omega.{arith}
 use Rattle.hnsr_body.proofs.accept_body.OpenedBody.put.Statement.{statement}
 use Rattle.hnsr_body.proofs.accept_body.OpenedBody.put.Tie as tie
+use Rattle.hnsr_body.proofs.accept_body.OpenedBody.put.Proof.At as at
 
 -- how long the arrays are
 long : (c : tie.Start) → (length (c .args .self .«endpoint_nonce») ≡ 16)
@@ -22,35 +23,23 @@ put-u64-be-at-requires c κs = search needs
 put-u32-at-requires : tie.Need-put-u32-at-requires
 put-u32-at-requires c κs = search needs
 
-slice-aggregate-put-bytes-at : tie.Need-slice-aggregate-put-bytes-at
-slice-aggregate-put-bytes-at c = search needs
-
 put-bytes-at-requires : tie.Need-put-bytes-at-requires
 put-bytes-at-requires c κs = search needs
-
-same-length : tie.Need-same-length
-same-length c = search needs
 
 returns : tie.Need-returns
 unfolding openedBytes acceptBytes
 returns c =
-    let s = c .before .before .before .before .before .before .before .before .before .before .before .before .before .before .before in
+    let here = at.returns c in
+    let s = here .start in
     let a = s .args in
     let n = s .pre in
     let l = long s in
-    let w1 = wrote-next (c .before .before .before .before .before .before .before .before .before .before .before .put-u64-be-at .last .0) (beBytes 8 (a .self .«circuit_id»)) 8 (wrote-none (a .out .now)) (beBytes-length 8 (a .self .«circuit_id»)) (omega arith) (c .before .before .before .before .before .before .before .before .before .before .before .put-u64-be-at .ensures) in
-    let w2 = wrote-next (c .before .before .before .before .before .before .before .put-u32-at .last .0) (leBytes 4 (a .self .«accepted_window»)) 4 w1 (leBytes-length 4 (a .self .«accepted_window»)) (omega arith) (c .before .before .before .before .before .before .before .put-u32-at .ensures) in
-    let w3 = wrote-next (c .before .before .put-bytes-at .last .0) (a .self .«endpoint_nonce») 16 w2 (l) (omega arith) (c .before .before .put-bytes-at .ensures) in
+    let w1 = wrote-next (here .put-u64-be-at .last .0) (beBytes 8 (a .self .«circuit_id»)) 8 (wrote-none (a .out .now)) (beBytes-length 8 (a .self .«circuit_id»)) (omega arith) (here .put-u64-be-at .ensures) in
+    let w2 = wrote-next (here .put-u32-at .last .0) (leBytes 4 (a .self .«accepted_window»)) 4 w1 (leBytes-length 4 (a .self .«accepted_window»)) (omega arith) (here .put-u32-at .ensures) in
+    let w3 = wrote-next (here .put-bytes-at .last .0) (a .self .«endpoint_nonce») 16 w2 (l) (omega arith) (here .put-bytes-at .ensures) in
     wrote-all w3 (omega arith)
     ∙ append-assoc (beBytes 8 (a .self .«circuit_id»)) (leBytes 4 (a .self .«accepted_window»)) (a .self .«endpoint_nonce»)
 
 pub put-spec : {M : Type 1} → statement M
 put-spec =
-    tie.close
-    (tie.spec
-    put-u64-be-at-requires
-    put-u32-at-requires
-    slice-aggregate-put-bytes-at
-    put-bytes-at-requires
-    same-length
-    returns)
+    tie.close (at.spec put-u64-be-at-requires put-u32-at-requires put-bytes-at-requires returns)

@@ -1,17 +1,17 @@
 -- `WindowBody::encode` meets its contract: the bytes are put where the values are good.
-use Prim.Native.Nat.{ℕ}
-use mathlib.Core.Path.{_≡_, sym, _∙_, ap}
+mod At
+use mathlib.Core.Path.{sym, _∙_, ap}
 use mathlib.Core.Bool.{Bool}
-use mathlib.Core.List.{List}
 use lib.ListN.{replicate}
 use Rattle.hns_encoding.specs.Laws.Tests.{on-true, on-false}
 use Rattle.hnsr_body.specs.declared.error.Checked.the-variants.{Ok}
 use Rattle.hnsr_body.specs.declared.error.HnsrInvalid.the-variants.{WindowCredit}
 use Rattle.hnsr_body.specs.Causes.{answer}
-use Rattle.hnsr_body.specs.Data.{encodeWindow, deltaGood, windowBytes}
+use Rattle.hnsr_body.specs.Data.{encodeWindow, windowBytes}
 use borrow.Author.Needs.{needs}
 use Rattle.hnsr_body.proofs.data_body.WindowBody.encode.Statement.{statement}
 use Rattle.hnsr_body.proofs.data_body.WindowBody.encode.Tie as tie
+use Rattle.hnsr_body.proofs.data_body.WindowBody.encode.Proof.At as at
 
 is-valid-requires : tie.Need-is-valid-requires
 is-valid-requires c κs = search needs
@@ -28,15 +28,17 @@ put-requires c κs = search needs
 returns : tie.Need-returns
 unfolding encodeWindow
 returns c =
-    let result = c .before .before .before .before .answered .ensures ∙ ap (λ (v : Bool). answer Ok v WindowCredit) (c .before .before .before .before .before .is-valid .ensures) in
-    let bytes = c .before .put .ensures ∙ sym (on-true _ (windowBytes (c .before .before .before .before .before .before .args .self)) (replicate 4 0) (sym (c .before .before .before .before .before .is-valid .ensures) ∙ c .before .before .before .if1 .taken)) in
+    let here = at.returns c in
+    let result = here .answered .ensures ∙ ap (λ (v : Bool). answer Ok v WindowCredit) (here .is-valid .ensures) in
+    let bytes = here .put .ensures ∙ sym (on-true _ (windowBytes (here .start .args .self)) (replicate 4 0) (sym (here .is-valid .ensures) ∙ here .if1 .taken)) in
     λ i. record { result = result i; bytes = bytes i }
 
 returns-2 : tie.Need-returns-2
 unfolding encodeWindow
 returns-2 c =
-    let result = c .before .answered .ensures ∙ ap (λ (v : Bool). answer Ok v WindowCredit) (c .before .before .is-valid .ensures) in
-    let bytes = sym (on-false _ (windowBytes (c .before .before .before .args .self)) (replicate 4 0) (sym (c .before .before .is-valid .ensures) ∙ c .if1 .left)) in
+    let here = at.returns-2 c in
+    let result = here .answered .ensures ∙ ap (λ (v : Bool). answer Ok v WindowCredit) (here .is-valid .ensures) in
+    let bytes = sym (on-false _ (windowBytes (here .start .args .self)) (replicate 4 0) (sym (here .is-valid .ensures) ∙ here .if1 .left)) in
     λ i. record { result = result i; bytes = bytes i }
 
 pub encode-spec : {M : Type 1} → statement M

@@ -1,10 +1,12 @@
 -- `WindowBody::fields` meets its contract: the law of fields one after the other, at the widths of this body.
+mod At
 use Rattle.hnsr_body.specs.Data.{windowFields, windowWidths}
 use Rattle.hnsr_body.specs.Layout.{laidOut}
 use Rattle.hnsr_body.specs.Laws.Layout.{through-walked, through-field}
 use borrow.Author.Needs.{needs}
 use Rattle.hnsr_body.proofs.data_body.WindowBody.fields.Statement.{statement}
 use Rattle.hnsr_body.proofs.data_body.WindowBody.fields.Tie as tie
+use Rattle.hnsr_body.proofs.data_body.WindowBody.fields.Proof.At as at
 
 start-requires : tie.Need-start-requires
 start-requires c κs = search needs
@@ -18,7 +20,8 @@ finish-requires c κs = search needs
 returns : tie.Need-returns
 unfolding laidOut windowFields
 returns c =
-    let input = c .before .before .before .before .args .input .now in (
+    let here = at.returns c in
+    let input = here .start .args .input .now in (
       cc (through-walked input windowWidths),
       cc (through-field input windowWidths 0),
     )

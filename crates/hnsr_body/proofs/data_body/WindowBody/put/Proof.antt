@@ -1,16 +1,14 @@
 -- `WindowBody::put` meets its contract: the field fills the body.
-use Prim.Native.Nat.{ℕ}
-use mathlib.Core.Path.{_≡_, refl, sym, _∙_, ap}
-use mathlib.Core.List.{List, _++_, append-assoc}
-use lib.ListN.{length}
-use Rattle.hns_encoding.specs.Bytes.{leBytes, beBytes}
-use Rattle.hns_encoding.specs.Laws.Bytes.{leBytes-length, beBytes-length}
+mod At
+use Rattle.hns_encoding.specs.Bytes.{leBytes}
+use Rattle.hns_encoding.specs.Laws.Bytes.{leBytes-length}
 use Rattle.hns_encoding.specs.Laws.Cursor.{wrote-none, wrote-next, wrote-all}
 use Rattle.hnsr_body.specs.Data.{windowBytes}
 use borrow.Author.Needs.{needs}
 use native.Mathlib.Omega.{arith}
 use Rattle.hnsr_body.proofs.data_body.WindowBody.put.Statement.{statement}
 use Rattle.hnsr_body.proofs.data_body.WindowBody.put.Tie as tie
+use Rattle.hnsr_body.proofs.data_body.WindowBody.put.Proof.At as at
 
 put-u32-at-requires : tie.Need-put-u32-at-requires
 put-u32-at-requires c κs = search needs
@@ -21,10 +19,11 @@ same-length c = search needs
 returns : tie.Need-returns
 unfolding windowBytes
 returns c =
-    let s = c .before .before .before .before .before in
+    let here = at.returns c in
+    let s = here .start in
     let a = s .args in
     let n = s .pre in
-    let w1 = wrote-next (c .before .before .put-u32-at .last .0) (leBytes 4 (a .self .«credit_delta»)) 4 (wrote-none (a .out .now)) (leBytes-length 4 (a .self .«credit_delta»)) (omega arith) (c .before .before .put-u32-at .ensures) in
+    let w1 = wrote-next (here .put-u32-at .last .0) (leBytes 4 (a .self .«credit_delta»)) 4 (wrote-none (a .out .now)) (leBytes-length 4 (a .self .«credit_delta»)) (omega arith) (here .put-u32-at .ensures) in
     wrote-all w1 (omega arith)
 
 pub put-spec : {M : Type 1} → statement M

@@ -1,4 +1,5 @@
 -- `ReasonDetail::decode` meets its contract: head, length and text are those of the definition.
+mod At
 use Prim.Native.Nat.{ℕ}
 use mathlib.Core.Path.{_∙_, ap, ap₂}
 use mathlib.Core.Bool.{Bool, _&&_}
@@ -15,6 +16,7 @@ use Rattle.hnsr_body.specs.Utf8.{utf8}
 use borrow.Author.Needs.{needs}
 use Rattle.hnsr_body.proofs.detail_body.ReasonDetail.decode.Statement.{statement}
 use Rattle.hnsr_body.proofs.detail_body.ReasonDetail.decode.Tie as tie
+use Rattle.hnsr_body.proofs.detail_body.ReasonDetail.decode.Proof.At as at
 
 head-requires : tie.Need-head-requires
 head-requires c κs = search needs
@@ -40,16 +42,17 @@ answered-requires-2 c κs = search needs
 returns : tie.Need-returns
 unfolding decodeDetail reasonDetail
 returns c =
-    let input = c .before .before .before .before .before .before .before .before .before .args .input .now in
-    let h = c .before .before .before .before .before .before .before .head .ensures in
-    let text = c .before .before .before .before .before .rest .ensures ∙ ap (left input) (h .0) ∙ walked-left input detailWidths in
-    let there = c .before .before .before .before .headed .ensures ∙ ap headed (h .0) in
+    let here = at.returns c in
+    let input = here .start .args .input .now in
+    let h = here .head .ensures in
+    let text = here .rest .ensures ∙ ap (left input) (h .0) ∙ walked-left input detailWidths in
+    let there = here .headed .ensures ∙ ap headed (h .0) in
     let n = ap (λ (b : ReasonDetail). b .«detail_length») (h .1) in
     let size = ap length text ∙ length-drop headSize input in
-    let fits = c .before .before .before .is-length .ensures ∙ ap₂ (λ (n k : ℕ). leb n mostDetail && eqb k n) n size in
-    let sized = c .before .before .answered .ensures ∙ ap₂ (λ (l : Checked) (v : Bool). answer l v DiagnosticDetail) there fits in
-    let good = c .before .is-utf8 .ensures ∙ ap utf8 text in
-    λ i. record { result = (c .answered2 .ensures ∙ ap₂ (λ (l : Checked) (v : Bool). answer l v NotUtf8) sized good) i; body = h .1 i }
+    let fits = here .is-length .ensures ∙ ap₂ (λ (n k : ℕ). leb n mostDetail && eqb k n) n size in
+    let sized = here .answered .ensures ∙ ap₂ (λ (l : Checked) (v : Bool). answer l v DiagnosticDetail) there fits in
+    let good = here .is-utf8 .ensures ∙ ap utf8 text in
+    λ i. record { result = (here .answered2 .ensures ∙ ap₂ (λ (l : Checked) (v : Bool). answer l v NotUtf8) sized good) i; body = h .1 i }
 
 pub decode-spec : {M : Type 1} → statement M
 decode-spec =

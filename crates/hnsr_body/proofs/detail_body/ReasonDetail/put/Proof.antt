@@ -1,7 +1,7 @@
 -- `put` meets its contract: reason, length and text one after the other.
-use Prim.Native.Nat.{ℕ, _%_, _≤_}
-use native.Mathlib.Nat.{mod-eq-of-lt}
-use mathlib.Core.Path.{_≡_, refl, sym, _∙_, ap}
+mod At
+use Prim.Native.Nat.{ℕ, _%_}
+use mathlib.Core.Path.{_≡_, refl, _∙_, ap}
 use mathlib.Core.List.{List, [], _∷_, _++_}
 use lib.ListN.{length}
 use lib.Seq.{append-snoc}
@@ -14,12 +14,10 @@ use borrow.Author.Needs.{needs}
 use native.Mathlib.Omega.{arith}
 use Rattle.hnsr_body.proofs.detail_body.ReasonDetail.put.Statement.{statement}
 use Rattle.hnsr_body.proofs.detail_body.ReasonDetail.put.Tie as tie
+use Rattle.hnsr_body.proofs.detail_body.ReasonDetail.put.Proof.At as at
 
 put-u16-at-requires : tie.Need-put-u16-at-requires
 put-u16-at-requires c κs = search needs
-
-cast-put-u8-at : tie.Need-cast-put-u8-at
-cast-put-u8-at c = search needs
 
 put-u8-at-requires : tie.Need-put-u8-at-requires
 put-u8-at-requires c κs = search needs
@@ -27,18 +25,16 @@ put-u8-at-requires c κs = search needs
 put-bytes-at-requires : tie.Need-put-bytes-at-requires
 put-bytes-at-requires c κs = search needs
 
-same-length : tie.Need-same-length
-same-length c = search needs
-
 returns : tie.Need-returns
 unfolding detailBytes leBytes
 returns c =
-    let a = c .before .before .before .before .before .before .before .before .before .before .before .before .before .before .args in
-    let p = c .before .before .before .before .before .before .before .before .before .before .before .before .before .before .pre in
+    let here = at.returns c in
+    let a = here .start .args in
+    let p = here .start .pre in
     let n = length (a .detail .now) in
-    let w1 = wrote-next (c .before .before .before .before .before .before .before .before .before .before .put-u16-at .last .0) (leBytes 2 (a .reason)) 2 (wrote-none (a .out .now)) (leBytes-length 2 (a .reason)) (omega arith) (c .before .before .before .before .before .before .before .before .before .before .put-u16-at .ensures) in
-    let w2 = wrote-next (c .before .before .before .before .before .before .put-u8-at .last .0) (leBytes 1 n) 1 w1 (leBytes-length 1 n) (omega arith) (c .before .before .before .before .before .before .put-u8-at .ensures) in
-    let w3 = wrote-next (c .before .before .put-bytes-at .last .0) (a .detail .now) n w2 refl (omega arith) (c .before .before .put-bytes-at .ensures) in
+    let w1 = wrote-next (here .put-u16-at .last .0) (leBytes 2 (a .reason)) 2 (wrote-none (a .out .now)) (leBytes-length 2 (a .reason)) (omega arith) (here .put-u16-at .ensures) in
+    let w2 = wrote-next (here .put-u8-at .last .0) (leBytes 1 n) 1 w1 (leBytes-length 1 n) (omega arith) (here .put-u8-at .ensures) in
+    let w3 = wrote-next (here .put-bytes-at .last .0) (a .detail .now) n w2 refl (omega arith) (here .put-bytes-at .ensures) in
     let one : n % 256 ≡ n = omega arith in
     w3 .same
     ∙ ap (λ (l : List ℕ). writtenAt (a .out .now) 0 l)
@@ -46,11 +42,4 @@ returns c =
 
 pub put-spec : {M : Type 1} → statement M
 put-spec =
-    tie.close
-    (tie.spec
-    put-u16-at-requires
-    cast-put-u8-at
-    put-u8-at-requires
-    put-bytes-at-requires
-    same-length
-    returns)
+    tie.close (at.spec put-u16-at-requires put-u8-at-requires put-bytes-at-requires returns)

@@ -1,10 +1,12 @@
 -- `IncomingBody::fields` meets its contract: the law of fields one after the other, at the widths of this body.
+mod At
 use Rattle.hnsr_body.specs.Incoming.{incomingFields, incomingWidths}
 use Rattle.hnsr_body.specs.Layout.{laidOut}
 use Rattle.hnsr_body.specs.Laws.Layout.{through-walked, through-field}
 use borrow.Author.Needs.{needs}
 use Rattle.hnsr_body.proofs.incoming_body.IncomingBody.fields.Statement.{statement}
 use Rattle.hnsr_body.proofs.incoming_body.IncomingBody.fields.Tie as tie
+use Rattle.hnsr_body.proofs.incoming_body.IncomingBody.fields.Proof.At as at
 
 start-requires : tie.Need-start-requires
 start-requires c κs = search needs
@@ -30,7 +32,8 @@ finish-requires c κs = search needs
 returns : tie.Need-returns
 unfolding laidOut incomingFields
 returns c =
-    let input = c .before .before .before .before .before .before .before .before .before .before .args .input .now in (
+    let here = at.returns c in
+    let input = here .start .args .input .now in (
       cc (through-walked input incomingWidths),
       cc (through-field input incomingWidths 0, through-field input incomingWidths 1, through-field input incomingWidths 2, through-field input incomingWidths 3, through-field input incomingWidths 4),
     )

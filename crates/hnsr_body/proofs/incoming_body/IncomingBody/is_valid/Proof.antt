@@ -1,11 +1,10 @@
 -- `IncomingBody::is_valid` meets its contract: each test is one of the definition.
+mod At
 use Rattle.hnsr_body.specs.Incoming.{incomingGood}
 use borrow.Author.Needs.{needs}
 use Rattle.hnsr_body.proofs.incoming_body.IncomingBody.is_valid.Statement.{statement}
 use Rattle.hnsr_body.proofs.incoming_body.IncomingBody.is_valid.Tie as tie
-
-slice-aggregate-is-some : tie.Need-slice-aggregate-is-some
-slice-aggregate-is-some c = search needs
+use Rattle.hnsr_body.proofs.incoming_body.IncomingBody.is_valid.Proof.At as at
 
 is-some-requires : tie.Need-is-some-requires
 is-some-requires c κs = search needs
@@ -16,17 +15,11 @@ is-nonzero-requires c κs = search needs
 both-requires : tie.Need-both-requires
 both-requires c κs = search needs
 
-cast-is-nonzero : tie.Need-cast-is-nonzero
-cast-is-nonzero c = search needs
-
 is-nonzero-requires-2 : tie.Need-is-nonzero-requires-2
 is-nonzero-requires-2 c κs = search needs
 
 both-requires-2 : tie.Need-both-requires-2
 both-requires-2 c κs = search needs
-
-slice-aggregate-is-some-2 : tie.Need-slice-aggregate-is-some-2
-slice-aggregate-is-some-2 c = search needs
 
 is-some-requires-2 : tie.Need-is-some-requires-2
 is-some-requires-2 c κs = search needs
@@ -46,18 +39,4 @@ returns c = cc
 
 pub is-valid-spec : {M : Type 1} → statement M
 is-valid-spec =
-    tie.close
-    (tie.spec
-    slice-aggregate-is-some
-    is-some-requires
-    is-nonzero-requires
-    both-requires
-    cast-is-nonzero
-    is-nonzero-requires-2
-    both-requires-2
-    slice-aggregate-is-some-2
-    is-some-requires-2
-    both-requires-3
-    is-window-requires
-    both-requires-4
-    returns)
+    tie.close (at.spec is-some-requires is-nonzero-requires both-requires is-nonzero-requires-2 both-requires-2 is-some-requires-2 both-requires-3 is-window-requires both-requires-4 returns)

@@ -1,7 +1,6 @@
 -- `IncomingBody::put` meets its contract: the fields one after the other fill the body.
-use Prim.Native.Nat.{ℕ}
-use mathlib.Core.Path.{_≡_, refl, sym, _∙_, ap}
-use mathlib.Core.List.{List, _++_, append-assoc}
+mod At
+use mathlib.Core.Path.{_≡_}
 use lib.ListN.{length}
 use Rattle.hns_encoding.specs.Bytes.{leBytes, beBytes}
 use Rattle.hns_encoding.specs.Laws.Bytes.{leBytes-length, beBytes-length}
@@ -11,13 +10,11 @@ use borrow.Author.Needs.{needs}
 use native.Mathlib.Omega.{arith}
 use Rattle.hnsr_body.proofs.incoming_body.IncomingBody.put.Statement.{statement}
 use Rattle.hnsr_body.proofs.incoming_body.IncomingBody.put.Tie as tie
+use Rattle.hnsr_body.proofs.incoming_body.IncomingBody.put.Proof.At as at
 
 -- how long the arrays are
 long : (c : tie.Start) → (length (c .args .self .«ticket_id») ≡ 32) × (length (c .args .self .«requester_nonce») ≡ 16)
 long c = (search needs, search needs)
-
-slice-aggregate-put-bytes-at : tie.Need-slice-aggregate-put-bytes-at
-slice-aggregate-put-bytes-at c = search needs
 
 put-bytes-at-requires : tie.Need-put-bytes-at-requires
 put-bytes-at-requires c κs = search needs
@@ -28,42 +25,27 @@ put-u64-be-at-requires c κs = search needs
 put-u16-at-requires : tie.Need-put-u16-at-requires
 put-u16-at-requires c κs = search needs
 
-slice-aggregate-put-bytes-at-2 : tie.Need-slice-aggregate-put-bytes-at-2
-slice-aggregate-put-bytes-at-2 c = search needs
-
 put-bytes-at-requires-2 : tie.Need-put-bytes-at-requires-2
 put-bytes-at-requires-2 c κs = search needs
 
 put-u32-at-requires : tie.Need-put-u32-at-requires
 put-u32-at-requires c κs = search needs
 
-same-length : tie.Need-same-length
-same-length c = search needs
-
 returns : tie.Need-returns
 unfolding incomingBytes
 returns c =
-    let s = c .before .before .before .before .before .before .before .before .before .before .before .before .before .before .before .before .before .before .before .before .before .before .before .before .before in
+    let here = at.returns c in
+    let s = here .start in
     let a = s .args in
     let n = s .pre in
     let l = long s in
-    let w1 = wrote-next (c .before .before .before .before .before .before .before .before .before .before .before .before .before .before .before .before .before .before .before .put-bytes-at .last .0) (a .self .«ticket_id») 32 (wrote-none (a .out .now)) (l .0) (omega arith) (c .before .before .before .before .before .before .before .before .before .before .before .before .before .before .before .before .before .before .before .put-bytes-at .ensures) in
-    let w2 = wrote-next (c .before .before .before .before .before .before .before .before .before .before .before .before .before .before .before .put-u64-be-at .last .0) (beBytes 8 (a .self .«open_request_id»)) 8 w1 (beBytes-length 8 (a .self .«open_request_id»)) (omega arith) (c .before .before .before .before .before .before .before .before .before .before .before .before .before .before .before .put-u64-be-at .ensures) in
-    let w3 = wrote-next (c .before .before .before .before .before .before .before .before .before .before .before .put-u16-at .last .0) (leBytes 2 (a .self .profile)) 2 w2 (leBytes-length 2 (a .self .profile)) (omega arith) (c .before .before .before .before .before .before .before .before .before .before .before .put-u16-at .ensures) in
-    let w4 = wrote-next (c .before .before .before .before .before .before .put-bytes-at2 .last .0) (a .self .«requester_nonce») 16 w3 (l .1) (omega arith) (c .before .before .before .before .before .before .put-bytes-at2 .ensures) in
-    let w5 = wrote-next (c .before .before .put-u32-at .last .0) (leBytes 4 (a .self .«initial_window»)) 4 w4 (leBytes-length 4 (a .self .«initial_window»)) (omega arith) (c .before .before .put-u32-at .ensures) in
+    let w1 = wrote-next (here .put-bytes-at .last .0) (a .self .«ticket_id») 32 (wrote-none (a .out .now)) (l .0) (omega arith) (here .put-bytes-at .ensures) in
+    let w2 = wrote-next (here .put-u64-be-at .last .0) (beBytes 8 (a .self .«open_request_id»)) 8 w1 (beBytes-length 8 (a .self .«open_request_id»)) (omega arith) (here .put-u64-be-at .ensures) in
+    let w3 = wrote-next (here .put-u16-at .last .0) (leBytes 2 (a .self .profile)) 2 w2 (leBytes-length 2 (a .self .profile)) (omega arith) (here .put-u16-at .ensures) in
+    let w4 = wrote-next (here .put-bytes-at2 .last .0) (a .self .«requester_nonce») 16 w3 (l .1) (omega arith) (here .put-bytes-at2 .ensures) in
+    let w5 = wrote-next (here .put-u32-at .last .0) (leBytes 4 (a .self .«initial_window»)) 4 w4 (leBytes-length 4 (a .self .«initial_window»)) (omega arith) (here .put-u32-at .ensures) in
     wrote-all w5 (omega arith)
 
 pub put-spec : {M : Type 1} → statement M
 put-spec =
-    tie.close
-    (tie.spec
-    slice-aggregate-put-bytes-at
-    put-bytes-at-requires
-    put-u64-be-at-requires
-    put-u16-at-requires
-    slice-aggregate-put-bytes-at-2
-    put-bytes-at-requires-2
-    put-u32-at-requires
-    same-length
-    returns)
+    tie.close (at.spec put-bytes-at-requires put-u64-be-at-requires put-u16-at-requires put-bytes-at-requires-2 put-u32-at-requires returns)

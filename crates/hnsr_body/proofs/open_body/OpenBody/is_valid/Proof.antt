@@ -1,11 +1,10 @@
 -- `OpenBody::is_valid` meets its contract: each test is one of the definition.
+mod At
 use Rattle.hnsr_body.specs.Open.{openGood}
 use borrow.Author.Needs.{needs}
 use Rattle.hnsr_body.proofs.open_body.OpenBody.is_valid.Statement.{statement}
 use Rattle.hnsr_body.proofs.open_body.OpenBody.is_valid.Tie as tie
-
-slice-aggregate-is-some : tie.Need-slice-aggregate-is-some
-slice-aggregate-is-some c = search needs
+use Rattle.hnsr_body.proofs.open_body.OpenBody.is_valid.Proof.At as at
 
 is-some-requires : tie.Need-is-some-requires
 is-some-requires c κs = search needs
@@ -19,17 +18,11 @@ both-requires c κs = search needs
 both-requires-2 : tie.Need-both-requires-2
 both-requires-2 c κs = search needs
 
-cast-is-nonzero : tie.Need-cast-is-nonzero
-cast-is-nonzero c = search needs
-
 is-nonzero-requires : tie.Need-is-nonzero-requires
 is-nonzero-requires c κs = search needs
 
 both-requires-3 : tie.Need-both-requires-3
 both-requires-3 c κs = search needs
-
-slice-aggregate-is-some-2 : tie.Need-slice-aggregate-is-some-2
-slice-aggregate-is-some-2 c = search needs
 
 is-some-requires-3 : tie.Need-is-some-requires-3
 is-some-requires-3 c κs = search needs
@@ -49,19 +42,4 @@ returns c = cc
 
 pub is-valid-spec : {M : Type 1} → statement M
 is-valid-spec =
-    tie.close
-    (tie.spec
-    slice-aggregate-is-some
-    is-some-requires
-    is-some-requires-2
-    both-requires
-    both-requires-2
-    cast-is-nonzero
-    is-nonzero-requires
-    both-requires-3
-    slice-aggregate-is-some-2
-    is-some-requires-3
-    both-requires-4
-    is-window-requires
-    both-requires-5
-    returns)
+    tie.close (at.spec is-some-requires is-some-requires-2 both-requires both-requires-2 is-nonzero-requires both-requires-3 is-some-requires-3 both-requires-4 is-window-requires both-requires-5 returns)

@@ -1,6 +1,7 @@
 -- `OpenBody::put` meets its contract: the fields one after the other fill the body.
+mod At
 use Prim.Native.Nat.{ℕ}
-use mathlib.Core.Path.{_≡_, refl, sym, _∙_, ap}
+use mathlib.Core.Path.{_≡_, _∙_, ap}
 use mathlib.Core.List.{List, _++_, append-assoc}
 use lib.ListN.{length}
 use Rattle.hns_encoding.specs.Bytes.{leBytes, beBytes}
@@ -11,13 +12,11 @@ use borrow.Author.Needs.{needs}
 use native.Mathlib.Omega.{arith}
 use Rattle.hnsr_body.proofs.open_body.OpenBody.put.Statement.{statement}
 use Rattle.hnsr_body.proofs.open_body.OpenBody.put.Tie as tie
+use Rattle.hnsr_body.proofs.open_body.OpenBody.put.Proof.At as at
 
 -- how long the arrays are
 long : (c : tie.Start) → (length (c .args .self .«ticket_id») ≡ 32) × (length (c .args .self .«endpoint_key») ≡ 33) × (length (c .args .self .«requester_nonce») ≡ 16)
 long c = (search needs, search needs, search needs)
-
-slice-aggregate-put-bytes-at : tie.Need-slice-aggregate-put-bytes-at
-slice-aggregate-put-bytes-at c = search needs
 
 put-bytes-at-requires : tie.Need-put-bytes-at-requires
 put-bytes-at-requires c κs = search needs
@@ -25,14 +24,8 @@ put-bytes-at-requires c κs = search needs
 put-u64-be-at-requires : tie.Need-put-u64-be-at-requires
 put-u64-be-at-requires c κs = search needs
 
-add-put-u64-be-at : tie.Need-add-put-u64-be-at
-add-put-u64-be-at c = search needs
-
 put-u64-be-at-requires-2 : tie.Need-put-u64-be-at-requires-2
 put-u64-be-at-requires-2 c κs = search needs
-
-slice-aggregate-put-bytes-at-2 : tie.Need-slice-aggregate-put-bytes-at-2
-slice-aggregate-put-bytes-at-2 c = search needs
 
 put-bytes-at-requires-2 : tie.Need-put-bytes-at-requires-2
 put-bytes-at-requires-2 c κs = search needs
@@ -41,7 +34,9 @@ put-u16-at-requires : tie.Need-put-u16-at-requires
 put-u16-at-requires c κs = search needs
 
 slice-aggregate-put-bytes-at-3 : tie.Need-slice-aggregate-put-bytes-at-3
-slice-aggregate-put-bytes-at-3 c = let h = long (c .before .before .before .before .before .before .before .before .before .before .before .before .before .before .before .before .before .before .before .before .before .before .before .before .before .before .before .before .before) in search needs
+slice-aggregate-put-bytes-at-3 c =
+    let here = at.slice-aggregate-put-bytes-at-3 c in
+    let h = long (here .start) in search needs
 
 put-bytes-at-requires-3 : tie.Need-put-bytes-at-requires-3
 put-bytes-at-requires-3 c κs = search needs
@@ -49,41 +44,25 @@ put-bytes-at-requires-3 c κs = search needs
 put-u32-at-requires : tie.Need-put-u32-at-requires
 put-u32-at-requires c κs = search needs
 
-same-length : tie.Need-same-length
-same-length c = search needs
-
 returns : tie.Need-returns
 unfolding openBytes
 returns c =
-    let s = c .before .before .before .before .before .before .before .before .before .before .before .before .before .before .before .before .before .before .before .before .before .before .before .before .before .before .before .before .before .before .before .before .before .before .before .before in
+    let here = at.returns c in
+    let s = here .start in
     let a = s .args in
     let n = s .pre in
     let l = long s in
-    let w1 = wrote-next (c .before .before .before .before .before .before .before .before .before .before .before .before .before .before .before .before .before .before .before .before .before .before .before .before .before .before .before .before .put-bytes-at .last .0) (a .self .«ticket_id») 32 (wrote-none (a .out .now)) (l .0) (omega arith) (c .before .before .before .before .before .before .before .before .before .before .before .before .before .before .before .before .before .before .before .before .before .before .before .before .before .before .before .before .put-bytes-at .ensures) in
-    let w2 = wrote-next (c .before .before .before .before .before .before .before .before .before .before .before .before .before .before .before .before .before .before .before .before .before .before .before .before .put-u64-be-at .last .0) (beBytes 8 (a .self .«reservation_id» .high)) 8 w1 (beBytes-length 8 (a .self .«reservation_id» .high)) (omega arith) (c .before .before .before .before .before .before .before .before .before .before .before .before .before .before .before .before .before .before .before .before .before .before .before .before .put-u64-be-at .ensures) in
-    let w3 = wrote-next (c .before .before .before .before .before .before .before .before .before .before .before .before .before .before .before .before .before .before .before .before .put-u64-be-at2 .last .0) (beBytes 8 (a .self .«reservation_id» .low)) 8 w2 (beBytes-length 8 (a .self .«reservation_id» .low)) (omega arith) (c .before .before .before .before .before .before .before .before .before .before .before .before .before .before .before .before .before .before .before .before .put-u64-be-at2 .ensures) in
-    let w4 = wrote-next (c .before .before .before .before .before .before .before .before .before .before .before .before .before .before .before .put-bytes-at2 .last .0) (a .self .«endpoint_key») 33 w3 (l .1) (omega arith) (c .before .before .before .before .before .before .before .before .before .before .before .before .before .before .before .put-bytes-at2 .ensures) in
-    let w5 = wrote-next (c .before .before .before .before .before .before .before .before .before .before .before .put-u16-at .last .0) (leBytes 2 (a .self .profile)) 2 w4 (leBytes-length 2 (a .self .profile)) (omega arith) (c .before .before .before .before .before .before .before .before .before .before .before .put-u16-at .ensures) in
-    let w6 = wrote-next (c .before .before .before .before .before .before .put-bytes-at3 .last .0) (a .self .«requester_nonce») 16 w5 (l .2) (omega arith) (c .before .before .before .before .before .before .put-bytes-at3 .ensures) in
-    let w7 = wrote-next (c .before .before .put-u32-at .last .0) (leBytes 4 (a .self .«initial_window»)) 4 w6 (leBytes-length 4 (a .self .«initial_window»)) (omega arith) (c .before .before .put-u32-at .ensures) in
+    let w1 = wrote-next (here .put-bytes-at .last .0) (a .self .«ticket_id») 32 (wrote-none (a .out .now)) (l .0) (omega arith) (here .put-bytes-at .ensures) in
+    let w2 = wrote-next (here .put-u64-be-at .last .0) (beBytes 8 (a .self .«reservation_id» .high)) 8 w1 (beBytes-length 8 (a .self .«reservation_id» .high)) (omega arith) (here .put-u64-be-at .ensures) in
+    let w3 = wrote-next (here .put-u64-be-at2 .last .0) (beBytes 8 (a .self .«reservation_id» .low)) 8 w2 (beBytes-length 8 (a .self .«reservation_id» .low)) (omega arith) (here .put-u64-be-at2 .ensures) in
+    let w4 = wrote-next (here .put-bytes-at2 .last .0) (a .self .«endpoint_key») 33 w3 (l .1) (omega arith) (here .put-bytes-at2 .ensures) in
+    let w5 = wrote-next (here .put-u16-at .last .0) (leBytes 2 (a .self .profile)) 2 w4 (leBytes-length 2 (a .self .profile)) (omega arith) (here .put-u16-at .ensures) in
+    let w6 = wrote-next (here .put-bytes-at3 .last .0) (a .self .«requester_nonce») 16 w5 (l .2) (omega arith) (here .put-bytes-at3 .ensures) in
+    let w7 = wrote-next (here .put-u32-at .last .0) (leBytes 4 (a .self .«initial_window»)) 4 w6 (leBytes-length 4 (a .self .«initial_window»)) (omega arith) (here .put-u32-at .ensures) in
     wrote-all w7 (omega arith)
     ∙ ap (λ (x : List ℕ). x ++ a .self .«endpoint_key» ++ leBytes 2 (a .self .profile) ++ a .self .«requester_nonce» ++ leBytes 4 (a .self .«initial_window»))
     (append-assoc (a .self .«ticket_id») (beBytes 8 (a .self .«reservation_id» .high)) (beBytes 8 (a .self .«reservation_id» .low)))
 
 pub put-spec : {M : Type 1} → statement M
 put-spec =
-    tie.close
-    (tie.spec
-    slice-aggregate-put-bytes-at
-    put-bytes-at-requires
-    put-u64-be-at-requires
-    add-put-u64-be-at
-    put-u64-be-at-requires-2
-    slice-aggregate-put-bytes-at-2
-    put-bytes-at-requires-2
-    put-u16-at-requires
-    slice-aggregate-put-bytes-at-3
-    put-bytes-at-requires-3
-    put-u32-at-requires
-    same-length
-    returns)
+    tie.close (at.spec put-bytes-at-requires put-u64-be-at-requires put-u64-be-at-requires-2 put-bytes-at-requires-2 put-u16-at-requires slice-aggregate-put-bytes-at-3 put-bytes-at-requires-3 put-u32-at-requires returns)

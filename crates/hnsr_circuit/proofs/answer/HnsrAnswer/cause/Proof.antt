@@ -1,18 +1,14 @@
 -- Taken has no cause, a refusal its own.
+mod At
 use mathlib.Core.Path.{sym, _∙_, ap}
 use borrow.Author.Needs.{needs}
 use Rattle.hnsr_circuit.specs.Answers.{causeOf}
 use Rattle.hnsr_circuit.proofs.answer.HnsrAnswer.cause.Statement.{statement}
 use Rattle.hnsr_circuit.proofs.answer.HnsrAnswer.cause.Tie as tie
-
-enum-told : tie.Need-enum-told
-enum-told c = search needs
+use Rattle.hnsr_circuit.proofs.answer.HnsrAnswer.cause.Proof.At as at
 
 no-cause-requires : tie.Need-no-cause-requires
 no-cause-requires c κs = search needs
-
-enum-known-self : tie.Need-enum-known-self
-enum-known-self c = search needs
 
 error-cause-requires : tie.Need-error-cause-requires
 error-cause-requires c κs = search needs
@@ -21,7 +17,9 @@ returns : tie.Need-returns
 returns c = c .no-cause .ensures ∙ ap causeOf (sym (c .before .enum-told .given .1))
 
 returns-2 : tie.Need-returns-2
-returns-2 c = c .error-cause .ensures ∙ ap causeOf (sym (c .before .before .self .given .1))
+returns-2 c =
+    let here = at.returns-2 c in
+    here .error-cause .ensures ∙ ap causeOf (sym (here .self .given .1))
 
 pub cause-spec : {M : Type 1} → statement M
-cause-spec = tie.close (tie.spec enum-told no-cause-requires enum-known-self error-cause-requires returns returns-2)
+cause-spec = tie.close (at.spec no-cause-requires error-cause-requires returns returns-2)

@@ -1,15 +1,11 @@
 -- Taken is 0, a refusal its number.
+mod At
 use mathlib.Core.Path.{sym, _∙_, ap}
 use borrow.Author.Needs.{needs}
 use Rattle.hnsr_circuit.specs.Answers.{number}
 use Rattle.hnsr_circuit.proofs.answer.HnsrAnswer.number.Statement.{statement}
 use Rattle.hnsr_circuit.proofs.answer.HnsrAnswer.number.Tie as tie
-
-enum-told : tie.Need-enum-told
-enum-told c = search needs
-
-enum-known-self : tie.Need-enum-known-self
-enum-known-self c = search needs
+use Rattle.hnsr_circuit.proofs.answer.HnsrAnswer.number.Proof.At as at
 
 error-number-requires : tie.Need-error-number-requires
 error-number-requires c κs = search needs
@@ -18,7 +14,9 @@ returns : tie.Need-returns
 returns c = ap number (sym (c .enum-told .given .1))
 
 returns-2 : tie.Need-returns-2
-returns-2 c = c .error-number .ensures ∙ ap number (sym (c .before .before .self .given .1))
+returns-2 c =
+    let here = at.returns-2 c in
+    here .error-number .ensures ∙ ap number (sym (here .self .given .1))
 
 pub number-spec : {M : Type 1} → statement M
-number-spec = tie.close (tie.spec enum-told enum-known-self error-number-requires returns returns-2)
+number-spec = tie.close (at.spec error-number-requires returns returns-2)

@@ -3,9 +3,6 @@ use Rattle.hnsr_circuit.specs.Config.{validateConfig}
 use borrow.Author.Needs.{needs}
 use Rattle.hnsr_circuit.proofs.config.OpaqueRelayConfig.validate.Statement.{statement}
 use Rattle.hnsr_circuit.proofs.config.OpaqueRelayConfig.validate.Tie as tie
-use Rattle.hnsr_circuit.proofs.config.OpaqueRelayConfig.validate.Reads as reads
-use Rattle.hnsr_circuit.proofs.config.OpaqueRelayConfig.validate.Lts as lts
-use Rattle.hnsr_circuit.proofs.config.OpaqueRelayConfig.good.Reads as good-reads
 
 good-requires : tie.Need-good-requires
 good-requires c κs = search needs

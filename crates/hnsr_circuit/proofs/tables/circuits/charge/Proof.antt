@@ -1,14 +1,9 @@
 -- `charge` meets its contract: what was lent is the circuit charged.
 mod Tie
-use borrow.Author.Needs.{needs}
+mod At
 use Rattle.hnsr_circuit.proofs.tables.circuits.charge.Statement.{statement}
 use Rattle.hnsr_circuit.proofs.tables.circuits.charge.Proof.Tie as tie
-
-circuit-charged-requires : tie.Need-circuit-charged-requires
-circuit-charged-requires c = search needs
-
-returns : tie.Need-returns
-returns c = search needs
+use Rattle.hnsr_circuit.proofs.tables.circuits.charge.Proof.At as at
 
 pub charge-spec : {M : Type 1} → statement M
-charge-spec = tie.close (tie.spec circuit-charged-requires returns)
+charge-spec = tie.close at.spec

@@ -1,42 +1,33 @@
 -- `circuit_at` meets its contract: a record at or past the number is seen without its mark.
 mod Tie
+mod At
 use mathlib.Core.Path.{sym, _∙_}
 use native.Mathlib.Omega.{arith}
 use lib.Dec.{ltb}
 use lib.ListN.{List·getD-eq-default}
 use borrow.Author.Tests.{ltb-true, ltb-false}
-use borrow.Author.Needs.{needs}
 use Rattle.hns_encoding.specs.Laws.Tests.{split}
 use Rattle.hnsr_circuit.specs.Circuits.{noCircuit, clearCircuit}
 use Rattle.hnsr_circuit.specs.Code.Held.{heldCircuits}
 use Rattle.hnsr_circuit.specs.Laws.Held.{length-held, held-past, held-at}
 use Rattle.hnsr_circuit.proofs.tables.circuits.circuit_at.Statement.{statement}
 use Rattle.hnsr_circuit.proofs.tables.circuits.circuit_at.Proof.Tie as tie
-
-mul-row : tie.Need-mul-row
-mul-row c = search needs
-
-shared-slice-copy-out-row : tie.Need-shared-slice-copy-out-row
-shared-slice-copy-out-row c = search needs
-
-held-circuit-requires : tie.Need-held-circuit-requires
-held-circuit-requires c = search needs
+use Rattle.hnsr_circuit.proofs.tables.circuits.circuit_at.Proof.At as at
 
 returns : tie.Need-returns
 returns c =
-    let a = c .before .before .before .before .args in
+    let here = at.returns c in
+    let a = here .start .args in
     let t = a .circuits .now in
-    c .held-circuit .ensures ∙ split (ltb (a .place) (a .places .circuits))
+    here .held-circuit .ensures ∙ split (ltb (a .place) (a .places .circuits))
     (λ h. rw h (sym (held-at clearCircuit (a .places .circuits) t (a .place) noCircuit (ltb-true (a .place) (a .places .circuits) h))))
     (λ h. rw h (sym (held-past clearCircuit (a .places .circuits) t (a .place) noCircuit (ltb-false (a .place) (a .places .circuits) h) (omega arith))))
 
-no-circuit-requires : tie.Need-no-circuit-requires
-no-circuit-requires c = search needs
-
 returns-2 : tie.Need-returns-2
 returns-2 c =
-    let a = c .before .before .args in
-    c .no-circuit .ensures ∙ sym (List·getD-eq-default (heldCircuits (a .places) (a .circuits .now)) noCircuit (rw (length-held clearCircuit (a .places .circuits) (a .circuits .now)) (omega arith)))
+    let here = at.returns-2 c in
+    let a = here .start .args in
+    here .no-circuit .ensures ∙ sym (List·getD-eq-default (heldCircuits (a .places) (a .circuits .now)) noCircuit (rw (length-held clearCircuit (a .places .circuits) (a .circuits .now)) (omega arith)))
 
 pub circuit-at-spec : {M : Type 1} → statement M
-circuit-at-spec = tie.close (tie.spec mul-row shared-slice-copy-out-row held-circuit-requires returns no-circuit-requires returns-2)
+circuit-at-spec = tie.close (at.spec returns returns-2)

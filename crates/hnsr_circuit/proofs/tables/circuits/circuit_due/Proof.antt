@@ -1,5 +1,6 @@
 -- `circuit_due` meets its contract: what is left, from the earliest so far, gives the earliest of all; past the number nothing is due.
 mod Tie
+mod At
 use mathlib.Core.Path.{_≡_, refl, ap, _∙_}
 use mathlib.Core.List.{List}
 use Prim.Native.Nat.{ℕ, _-_, _≤_}
@@ -15,6 +16,7 @@ use Rattle.hnsr_circuit.specs.Laws.Held.{held-min, fold-rest, held-fold-
 use Rattle.hnsr_circuit.specs.declared.records.RelayCircuit.{RelayCircuit}
 use Rattle.hnsr_circuit.proofs.tables.circuits.circuit_due.Statement.{statement}
 use Rattle.hnsr_circuit.proofs.tables.circuits.circuit_due.Proof.Tie as tie
+use Rattle.hnsr_circuit.proofs.tables.circuits.circuit_due.Proof.At as at
 
 abbrev Inv-loop : tie.InvT-loop
 Inv-loop circuits size₀ end₀ earliest₀ i₀ earliest i = (i ≤ end₀) × (end₀ ≤ length circuits) × (foldFrom (dueTurn isCircuit expiryOf) (drop i (held clearCircuit end₀ circuits)) i earliest ≡ (circuitDue (held clearCircuit end₀ circuits) earliest₀))
@@ -46,23 +48,25 @@ loop-less c = search needs
 loop-again : tie.Need-loop-again Inv-loop μ-loop
 unfolding dueTurn
 loop-again c =
-    let a = c .before .before .before .before .before .args in
+    let here = at.loop-again Inv-loop μ-loop c in
+    let a = here .start .args in
     let t = a .circuits .now in
-    let n = c .before .before .before .before .min-usize .result in
-    let l = c .before .before .before .loop in (
+    let n = here .min-usize .result in
+    let l = here .loop in (
       omega arith,
       l .inv .1,
-      held-fold-step clearCircuit n t noCircuit (l .i) (omega arith) (omega arith) (dueTurn isCircuit expiryOf) (l .earliest) (c .circuit-due-turn .result) (circuitDue (held clearCircuit n t) (a .due)) (c .circuit-due-turn .ensures) (l .inv .2),
+      held-fold-step clearCircuit n t noCircuit (l .i) (omega arith) (omega arith) (dueTurn isCircuit expiryOf) (l .earliest) (here .circuit-due-turn .result) (circuitDue (held clearCircuit n t) (a .due)) (here .circuit-due-turn .ensures) (l .inv .2),
     )
 
 returns : tie.Need-returns Inv-loop μ-loop
 returns c =
-    let a = c .before .before .before .args in
+    let here = at.returns Inv-loop μ-loop c in
+    let a = here .start .args in
     let t = a .circuits .now in
-    let n = c .before .before .min-usize .result in
-    let l = c .before .loop in
+    let n = here .min-usize .result in
+    let l = here .loop in
     fold-rest clearCircuit (dueTurn isCircuit expiryOf) circuit-due-idle n t (l .i) (l .earliest) (circuitDue (held clearCircuit n t) (a .due)) (λ h. omega arith) (l .inv .2)
-    ∙ ap (λ (s : List RelayCircuit). (circuitDue s (a .due))) (ap (λ (m : ℕ). held clearCircuit m t) (c .before .before .min-usize .ensures) ∙ held-min clearCircuit (a .places .circuits) t)
+    ∙ ap (λ (s : List RelayCircuit). (circuitDue s (a .due))) (ap (λ (m : ℕ). held clearCircuit m t) (here .min-usize .ensures) ∙ held-min clearCircuit (a .places .circuits) t)
 
 pub circuit-due-spec : {M : Type 1} → statement M
 circuit-due-spec = tie.close (tie.spec Inv-loop μ-loop min-usize-requires loop-holds mul-row shared-slice-copy-out-row circuit-due-turn-requires add-i loop-less loop-again returns)

@@ -1,5 +1,6 @@
 -- `circuit_totals` meets its contract: what is left, from the totals so far, gives the whole totals; past the number there is nothing to add.
 mod Tie
+mod At
 use mathlib.Core.Path.{_≡_, ap, _∙_}
 use mathlib.Core.List.{List}
 use Prim.Native.Nat.{ℕ, _-_, _≤_}
@@ -20,6 +21,7 @@ use Rattle.hns_encoding.specs.Numbers.{top}
 use Rattle.hnsr_circuit.specs.declared.records.RelayCircuit.{RelayCircuit}
 use Rattle.hnsr_circuit.proofs.tables.circuits.circuit_totals.Statement.{statement}
 use Rattle.hnsr_circuit.proofs.tables.circuits.circuit_totals.Proof.Tie as tie
+use Rattle.hnsr_circuit.proofs.tables.circuits.circuit_totals.Proof.At as at
 
 abbrev Inv-loop : tie.InvT-loop
 Inv-loop circuits size₀ end₀ totals₀ i₀ totals i = (i ≤ end₀) × (end₀ ≤ length circuits) × (totals .used ≤ i) × (totals .«queued_bytes» ≤ top 64) × (foldFrom totalled (drop i (held clearCircuit end₀ circuits)) i totals ≡ (circuitTotals (held clearCircuit end₀ circuits)))
@@ -35,9 +37,10 @@ no-totals-requires c = search needs
 
 loop-holds : tie.Need-loop-holds Inv-loop μ-loop
 loop-holds c =
-    let a = c .before .before .args in
-    let t = held clearCircuit (c .before .min-usize .result) (a .circuits .now) in
-    (omega arith, omega arith, rw (c .no-totals .ensures) (omega arith), rw (c .no-totals .ensures) (omega arith), ap (λ (b : CircuitTotals). foldFrom totalled t 0 b) (c .no-totals .ensures) ∙ totals-fold t)
+    let here = at.loop-holds Inv-loop μ-loop c in
+    let a = here .start .args in
+    let t = held clearCircuit (here .min-usize .result) (a .circuits .now) in
+    (omega arith, omega arith, rw (here .no-totals .ensures) (omega arith), rw (here .no-totals .ensures) (omega arith), ap (λ (b : CircuitTotals). foldFrom totalled t 0 b) (here .no-totals .ensures) ∙ totals-fold t)
 
 mul-row : tie.Need-mul-row Inv-loop μ-loop
 mul-row c = search needs
@@ -56,25 +59,27 @@ loop-less c = search needs
 
 loop-again : tie.Need-loop-again Inv-loop μ-loop
 loop-again c =
-    let a = c .before .before .before .before .before .before .args in
+    let here = at.loop-again Inv-loop μ-loop c in
+    let a = here .start .args in
     let t = a .circuits .now in
-    let n = c .before .before .before .before .before .min-usize .result in
-    let l = c .before .before .before .loop in (
+    let n = here .min-usize .result in
+    let l = here .loop in (
       omega arith,
       l .inv .1,
-      rw (c .circuit-totalled .ensures) (omega (arith, cond-le (isCircuit (getD t (l .i) noCircuit)))),
-      rw (c .circuit-totalled .ensures) (omega arith),
-      held-fold-step clearCircuit n t noCircuit (l .i) (omega arith) (omega arith) totalled (l .totals) (c .circuit-totalled .result) (circuitTotals (held clearCircuit n t)) (c .circuit-totalled .ensures) (l .inv .4),
+      rw (here .circuit-totalled .ensures) (omega (arith, cond-le (isCircuit (getD t (l .i) noCircuit)))),
+      rw (here .circuit-totalled .ensures) (omega arith),
+      held-fold-step clearCircuit n t noCircuit (l .i) (omega arith) (omega arith) totalled (l .totals) (here .circuit-totalled .result) (circuitTotals (held clearCircuit n t)) (here .circuit-totalled .ensures) (l .inv .4),
     )
 
 returns : tie.Need-returns Inv-loop μ-loop
 returns c =
-    let a = c .before .before .before .before .args in
+    let here = at.returns Inv-loop μ-loop c in
+    let a = here .start .args in
     let t = a .circuits .now in
-    let n = c .before .before .before .min-usize .result in
-    let l = c .before .loop in
+    let n = here .min-usize .result in
+    let l = here .loop in
     totals-rest n t (l .i) (l .totals) (circuitTotals (held clearCircuit n t)) (l .inv .3) (λ h. omega arith) (l .inv .4)
-    ∙ ap (λ (s : List RelayCircuit). (circuitTotals s)) (ap (λ (m : ℕ). held clearCircuit m t) (c .before .before .before .min-usize .ensures) ∙ held-min clearCircuit (a .places .circuits) t)
+    ∙ ap (λ (s : List RelayCircuit). (circuitTotals s)) (ap (λ (m : ℕ). held clearCircuit m t) (here .min-usize .ensures) ∙ held-min clearCircuit (a .places .circuits) t)
 
 pub circuit-totals-spec : {M : Type 1} → statement M
 circuit-totals-spec = tie.close (tie.spec Inv-loop μ-loop min-usize-requires no-totals-requires loop-holds mul-row shared-slice-copy-out-row circuit-totalled-requires add-i loop-less loop-again returns)

@@ -1,5 +1,6 @@
 -- `circuit_work` meets its contract: what is left of the work, from what is counted so far, is the whole work; past the number there is none.
 mod Tie
+mod At
 use mathlib.Core.Path.{_≡_, ap, _∙_}
 use mathlib.Core.List.{List}
 use Prim.Native.Nat.{ℕ, _-_, _≤_}
@@ -18,6 +19,7 @@ use Rattle.hnsr_circuit.specs.Laws.Held.{held-min, fold-rest, held-fold-
 use Rattle.hnsr_circuit.specs.declared.records.RelayCircuit.{RelayCircuit}
 use Rattle.hnsr_circuit.proofs.tables.circuits.circuit_work.Statement.{statement}
 use Rattle.hnsr_circuit.proofs.tables.circuits.circuit_work.Proof.Tie as tie
+use Rattle.hnsr_circuit.proofs.tables.circuits.circuit_work.Proof.At as at
 
 abbrev Inv-loop : tie.InvT-loop
 Inv-loop circuits question size₀ end₀ work₀ i₀ work i = (i ≤ end₀) × (end₀ ≤ length circuits) × (WorkAtMost i work) × (foldFrom (circuitWorked question) (drop i (held clearCircuit end₀ circuits)) i work ≡ (circuitWork question (held clearCircuit end₀ circuits)))
@@ -33,9 +35,10 @@ no-work-requires c = search needs
 
 loop-holds : tie.Need-loop-holds Inv-loop μ-loop
 loop-holds c =
-    let a = c .before .before .args in
-    let t = held clearCircuit (c .before .min-usize .result) (a .circuits .now) in
-    (omega arith, omega arith, rw (c .no-work .ensures) (work-none), ap (λ (b : Work). foldFrom (circuitWorked (a .question)) t 0 b) (c .no-work .ensures) ∙ circuit-work (a .question) t)
+    let here = at.loop-holds Inv-loop μ-loop c in
+    let a = here .start .args in
+    let t = held clearCircuit (here .min-usize .result) (a .circuits .now) in
+    (omega arith, omega arith, rw (here .no-work .ensures) (work-none), ap (λ (b : Work). foldFrom (circuitWorked (a .question)) t 0 b) (here .no-work .ensures) ∙ circuit-work (a .question) t)
 
 mul-row : tie.Need-mul-row Inv-loop μ-loop
 mul-row c = search needs
@@ -44,7 +47,9 @@ shared-slice-copy-out-row : tie.Need-shared-slice-copy-out-row Inv-loop μ-loop
 shared-slice-copy-out-row c = search needs
 
 circuit-worked-requires : tie.Need-circuit-worked-requires Inv-loop μ-loop
-circuit-worked-requires c = λ κs. work-more (c .before .before .loop .i) 18446744073709551614 (c .before .before .loop .work) (omega arith) (c .before .before .loop .inv .2)
+circuit-worked-requires c =
+    let here = at.circuit-worked-requires Inv-loop μ-loop c in
+    λ κs. work-more (here .loop .i) 18446744073709551614 (here .loop .work) (omega arith) (here .loop .inv .2)
 
 add-i : tie.Need-add-i Inv-loop μ-loop
 add-i c = search needs
@@ -54,24 +59,26 @@ loop-less c = search needs
 
 loop-again : tie.Need-loop-again Inv-loop μ-loop
 loop-again c =
-    let a = c .before .before .before .before .before .before .args in
+    let here = at.loop-again Inv-loop μ-loop c in
+    let a = here .start .args in
     let t = a .circuits .now in
-    let n = c .before .before .before .before .before .min-usize .result in
-    let l = c .before .before .before .loop in (
+    let n = here .min-usize .result in
+    let l = here .loop in (
       omega arith,
       l .inv .1,
-      rw (c .circuit-worked .ensures) (circuit-most (a .question) (l .i) (l .work) (getD t (l .i) noCircuit) 0 (l .inv .2)),
-      held-fold-step clearCircuit n t noCircuit (l .i) (omega arith) (omega arith) (circuitWorked (a .question)) (l .work) (c .circuit-worked .result) (circuitWork (a .question) (held clearCircuit n t)) (c .circuit-worked .ensures) (l .inv .3),
+      rw (here .circuit-worked .ensures) (circuit-most (a .question) (l .i) (l .work) (getD t (l .i) noCircuit) 0 (l .inv .2)),
+      held-fold-step clearCircuit n t noCircuit (l .i) (omega arith) (omega arith) (circuitWorked (a .question)) (l .work) (here .circuit-worked .result) (circuitWork (a .question) (held clearCircuit n t)) (here .circuit-worked .ensures) (l .inv .3),
     )
 
 returns : tie.Need-returns Inv-loop μ-loop
 returns c =
-    let a = c .before .before .before .before .args in
+    let here = at.returns Inv-loop μ-loop c in
+    let a = here .start .args in
     let t = a .circuits .now in
-    let n = c .before .before .before .min-usize .result in
-    let l = c .before .loop in
+    let n = here .min-usize .result in
+    let l = here .loop in
     fold-rest clearCircuit (circuitWorked (a .question)) (circuit-idle (a .question)) n t (l .i) (l .work) (circuitWork (a .question) (held clearCircuit n t)) (λ h. omega arith) (l .inv .3)
-    ∙ ap (λ (s : List RelayCircuit). (circuitWork (a .question) s)) (ap (λ (m : ℕ). held clearCircuit m t) (c .before .before .before .min-usize .ensures) ∙ held-min clearCircuit (a .places .circuits) t)
+    ∙ ap (λ (s : List RelayCircuit). (circuitWork (a .question) s)) (ap (λ (m : ℕ). held clearCircuit m t) (here .min-usize .ensures) ∙ held-min clearCircuit (a .places .circuits) t)
 
 pub circuit-work-spec : {M : Type 1} → statement M
 circuit-work-spec = tie.close (tie.spec Inv-loop μ-loop min-usize-requires no-work-requires loop-holds mul-row shared-slice-copy-out-row circuit-worked-requires add-i loop-less loop-again returns)

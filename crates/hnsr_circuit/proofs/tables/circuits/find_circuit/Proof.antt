@@ -1,5 +1,6 @@
 -- `find_circuit` meets its contract: the first `i` records have not what is asked, and past the number no record is marked.
 mod Tie
+mod At
 use mathlib.Core.Path.{_≡_, sym, ap, _∙_}
 use mathlib.Core.Bool.{Bool, cond}
 use Prim.Native.Nat.{ℕ, _+_, _-_, _≤_}
@@ -15,6 +16,7 @@ use Rattle.hnsr_circuit.specs.Laws.HeldTables.{circuit-unmarked}
 use Rattle.hnsr_circuit.specs.Laws.Held.{held-min, find-rest, held-find-next, held-find-here}
 use Rattle.hnsr_circuit.proofs.tables.circuits.find_circuit.Statement.{statement}
 use Rattle.hnsr_circuit.proofs.tables.circuits.find_circuit.Proof.Tie as tie
+use Rattle.hnsr_circuit.proofs.tables.circuits.find_circuit.Proof.At as at
 
 abbrev Inv-loop : tie.InvT-loop
 Inv-loop circuits question size₀ end₀ unused₀ i₀ i = (i ≤ end₀) × (end₀ ≤ length circuits) × (i + placeOf (circuitHas question) (drop i (held clearCircuit end₀ circuits)) ≡ placeOf (circuitHas question) (held clearCircuit end₀ circuits))
@@ -29,7 +31,9 @@ asks-unused-requires : tie.Need-asks-unused-requires Inv-loop μ-loop
 asks-unused-requires c = search needs
 
 loop-holds : tie.Need-loop-holds Inv-loop μ-loop
-loop-holds c = (omega arith, omega arith, zero-add (placeOf (circuitHas (c .before .before .args .question)) (held clearCircuit (c .before .min-usize .result) (c .before .before .args .circuits .now))))
+loop-holds c =
+    let here = at.loop-holds Inv-loop μ-loop c in
+    (omega arith, omega arith, zero-add (placeOf (circuitHas (here .start .args .question)) (held clearCircuit (here .min-usize .result) (here .start .args .circuits .now))))
 
 mul-row : tie.Need-mul-row Inv-loop μ-loop
 mul-row c = search needs
@@ -58,24 +62,26 @@ loop-less c = search needs
 
 loop-again : tie.Need-loop-again Inv-loop μ-loop
 loop-again c =
-    let a = c .before .before .before .before .before .before .before .args in
+    let here = at.loop-again Inv-loop μ-loop c in
+    let a = here .start .args in
     let t = a .circuits .now in
-    let n = c .before .before .before .before .before .before .min-usize .result in
-    let l = c .before .before .before .before .loop in
-    (omega arith, l .inv .1, held-find-next clearCircuit n t noCircuit (l .i) (omega arith) (omega arith) (circuitHas (a .question)) (placeOf (circuitHas (a .question)) (held clearCircuit n t)) (sym (c .before .circuit-has .ensures) ∙ c .if1 .left) (l .inv .2))
+    let n = here .min-usize .result in
+    let l = here .loop in
+    (omega arith, l .inv .1, held-find-next clearCircuit n t noCircuit (l .i) (omega arith) (omega arith) (circuitHas (a .question)) (placeOf (circuitHas (a .question)) (held clearCircuit n t)) (sym (here .circuit-has .ensures) ∙ here .if1 .left) (l .inv .2))
 
 or-else-requires : tie.Need-or-else-requires Inv-loop μ-loop
 or-else-requires c = search needs
 
 returns-2 : tie.Need-returns-2 Inv-loop μ-loop
 returns-2 c =
-    let a = c .before .before .before .before .before .args in
+    let here = at.returns-2 Inv-loop μ-loop c in
+    let a = here .start .args in
     let t = a .circuits .now in
-    let n = c .before .before .before .before .min-usize .result in
-    let l = c .before .before .loop in
-    let seen = ap (λ (m : ℕ). held clearCircuit m t) (c .before .before .before .before .min-usize .ensures) ∙ held-min clearCircuit (a .places .circuits) t in
-    c .or-else .ensures
-    ∙ ap (λ (b : Bool). cond b (l .i) (length t)) (c .before .before .before .asks-unused .ensures)
+    let n = here .min-usize .result in
+    let l = here .loop in
+    let seen = ap (λ (m : ℕ). held clearCircuit m t) (here .min-usize .ensures) ∙ held-min clearCircuit (a .places .circuits) t in
+    here .or-else .ensures
+    ∙ ap (λ (b : Bool). cond b (l .i) (length t)) (here .asks-unused .ensures)
     ∙ find-rest clearCircuit (circuitHas (a .question)) (asksUnused (a .question .ask)) (circuit-unmarked (a .question)) n t (l .i) (placeOf (circuitHas (a .question)) (held clearCircuit n t)) (λ h. omega arith) (omega arith) (l .inv .2)
     ∙ ap (placeOf (circuitHas (a .question))) seen
 

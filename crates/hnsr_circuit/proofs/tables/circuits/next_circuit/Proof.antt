@@ -1,5 +1,6 @@
 -- `next_circuit` meets its contract: what is left of the turn, from the best so far, gives the whole; past the number no record is offered.
 mod Tie
+mod At
 use mathlib.Core.Path.{_≡_, ap, _∙_}
 use mathlib.Core.List.{List}
 use Prim.Native.Nat.{ℕ, _-_, _≤_}
@@ -17,6 +18,7 @@ use Rattle.hnsr_circuit.specs.Laws.Held.{held-min, fold-rest, held-fold-
 use Rattle.hnsr_circuit.specs.declared.records.RelayCircuit.{RelayCircuit}
 use Rattle.hnsr_circuit.proofs.tables.circuits.next_circuit.Statement.{statement}
 use Rattle.hnsr_circuit.proofs.tables.circuits.next_circuit.Proof.Tie as tie
+use Rattle.hnsr_circuit.proofs.tables.circuits.next_circuit.Proof.At as at
 
 abbrev Inv-loop : tie.InvT-loop
 Inv-loop circuits question cursor size₀ end₀ best₀ i₀ best i = (i ≤ end₀) × (end₀ ≤ length circuits) × (foldFrom (nextTurn circuitId (circuitHas question) cursor) (drop i (held clearCircuit end₀ circuits)) i best ≡ (next circuitId (circuitHas question) cursor (held clearCircuit end₀ circuits)))
@@ -33,9 +35,10 @@ not-yet-requires c = search needs
 loop-holds : tie.Need-loop-holds Inv-loop μ-loop
 unfolding next
 loop-holds c =
-    let a = c .before .before .args in
-    let t = held clearCircuit (c .before .min-usize .result) (a .circuits .now) in
-    (omega arith, omega arith, ap (λ (b : Walked). foldFrom (nextTurn circuitId (circuitHas (a .question)) (a .cursor)) t 0 b) (c .not-yet .ensures))
+    let here = at.loop-holds Inv-loop μ-loop c in
+    let a = here .start .args in
+    let t = held clearCircuit (here .min-usize .result) (a .circuits .now) in
+    (omega arith, omega arith, ap (λ (b : Walked). foldFrom (nextTurn circuitId (circuitHas (a .question)) (a .cursor)) t 0 b) (here .not-yet .ensures))
 
 mul-row : tie.Need-mul-row Inv-loop μ-loop
 mul-row c = search needs
@@ -54,23 +57,25 @@ loop-less c = search needs
 
 loop-again : tie.Need-loop-again Inv-loop μ-loop
 loop-again c =
-    let a = c .before .before .before .before .before .before .args in
+    let here = at.loop-again Inv-loop μ-loop c in
+    let a = here .start .args in
     let t = a .circuits .now in
-    let n = c .before .before .before .before .before .min-usize .result in
-    let l = c .before .before .before .loop in (
+    let n = here .min-usize .result in
+    let l = here .loop in (
       omega arith,
       l .inv .1,
-      held-fold-step clearCircuit n t noCircuit (l .i) (omega arith) (omega arith) (nextTurn circuitId (circuitHas (a .question)) (a .cursor)) (l .best) (c .circuit-turn .result) (next circuitId (circuitHas (a .question)) (a .cursor) (held clearCircuit n t)) (c .circuit-turn .ensures) (l .inv .2),
+      held-fold-step clearCircuit n t noCircuit (l .i) (omega arith) (omega arith) (nextTurn circuitId (circuitHas (a .question)) (a .cursor)) (l .best) (here .circuit-turn .result) (next circuitId (circuitHas (a .question)) (a .cursor) (held clearCircuit n t)) (here .circuit-turn .ensures) (l .inv .2),
     )
 
 returns : tie.Need-returns Inv-loop μ-loop
 returns c =
-    let a = c .before .before .before .before .args in
+    let here = at.returns Inv-loop μ-loop c in
+    let a = here .start .args in
     let t = a .circuits .now in
-    let n = c .before .before .before .min-usize .result in
-    let l = c .before .loop in
-    fold-rest clearCircuit (nextTurn circuitId (circuitHas (a .question)) (a .cursor)) (next-idle clearCircuit circuitId (circuitHas (a .question)) (λ x. circuit-unmarked (a .question) x ∙ c .before .before .before .before .pre) (a .cursor)) n t (l .i) (l .best) (next circuitId (circuitHas (a .question)) (a .cursor) (held clearCircuit n t)) (λ h. omega arith) (l .inv .2)
-    ∙ ap (λ (s : List RelayCircuit). (next circuitId (circuitHas (a .question)) (a .cursor) s)) (ap (λ (m : ℕ). held clearCircuit m t) (c .before .before .before .min-usize .ensures) ∙ held-min clearCircuit (a .places .circuits) t)
+    let n = here .min-usize .result in
+    let l = here .loop in
+    fold-rest clearCircuit (nextTurn circuitId (circuitHas (a .question)) (a .cursor)) (next-idle clearCircuit circuitId (circuitHas (a .question)) (λ x. circuit-unmarked (a .question) x ∙ here .start .pre) (a .cursor)) n t (l .i) (l .best) (next circuitId (circuitHas (a .question)) (a .cursor) (held clearCircuit n t)) (λ h. omega arith) (l .inv .2)
+    ∙ ap (λ (s : List RelayCircuit). (next circuitId (circuitHas (a .question)) (a .cursor) s)) (ap (λ (m : ℕ). held clearCircuit m t) (here .min-usize .ensures) ∙ held-min clearCircuit (a .places .circuits) t)
 
 pub next-circuit-spec : {M : Type 1} → statement M
 next-circuit-spec = tie.close (tie.spec Inv-loop μ-loop min-usize-requires not-yet-requires loop-holds mul-row shared-slice-copy-out-row circuit-turn-requires add-i loop-less loop-again returns)

@@ -1,5 +1,6 @@
 -- `trim_circuits` meets its contract: the places above the number are unused.
 mod Tie
+mod At
 use mathlib.Core.Path.{_≡_, refl, sym, ap, _∙_}
 use Prim.Native.Nat.{ℕ, _≤_}
 use native.Mathlib.Omega.{arith}
@@ -11,6 +12,7 @@ use Rattle.hnsr_circuit.specs.Laws.HeldTables.{circuit-still}
 use Rattle.hnsr_circuit.specs.Laws.Held.{held-min, lower-step}
 use Rattle.hnsr_circuit.proofs.tables.circuits.trim_circuits.Statement.{statement}
 use Rattle.hnsr_circuit.proofs.tables.circuits.trim_circuits.Proof.Tie as tie
+use Rattle.hnsr_circuit.proofs.tables.circuits.trim_circuits.Proof.At as at
 
 abbrev Inv-loop : tie.InvT-loop
 Inv-loop circuits size₀ n₀ n = (n ≤ length circuits) × (held clearCircuit n circuits ≡ held clearCircuit n₀ circuits)
@@ -38,24 +40,27 @@ is-circuit-requires c = search needs
 
 returns : tie.Need-returns Inv-loop μ-loop
 returns c =
-    let a = c .before .before .before .before .before .before .args in
+    let here = at.returns Inv-loop μ-loop c in
+    let a = here .start .args in
     let t = a .circuits .now in
-    c .before .before .before .before .loop .inv .1 ∙ ap (λ (m : ℕ). held clearCircuit m t) (c .before .before .before .before .before .min-usize .ensures) ∙ held-min clearCircuit (a .places .circuits) t
+    here .loop .inv .1 ∙ ap (λ (m : ℕ). held clearCircuit m t) (here .min-usize .ensures) ∙ held-min clearCircuit (a .places .circuits) t
 
 loop-less : tie.Need-loop-less Inv-loop μ-loop
 loop-less c = search needs
 
 loop-again : tie.Need-loop-again Inv-loop μ-loop
 loop-again c =
-    let t = c .before .before .before .before .before .before .args .circuits .now in
-    let l = c .before .before .before .before .loop in
-    (omega arith, lower-step clearCircuit isCircuit circuit-still (l .n) t noCircuit (held clearCircuit (c .before .before .before .before .before .min-usize .result) t) (omega arith) (sym (c .before .is-circuit .ensures) ∙ c .if1 .left) (l .inv .1))
+    let here = at.loop-again Inv-loop μ-loop c in
+    let t = here .start .args .circuits .now in
+    let l = here .loop in
+    (omega arith, lower-step clearCircuit isCircuit circuit-still (l .n) t noCircuit (held clearCircuit (here .min-usize .result) t) (omega arith) (sym (here .is-circuit .ensures) ∙ here .if1 .left) (l .inv .1))
 
 returns-2 : tie.Need-returns-2 Inv-loop μ-loop
 returns-2 c =
-    let a = c .before .before .before .args in
+    let here = at.returns-2 Inv-loop μ-loop c in
+    let a = here .start .args in
     let t = a .circuits .now in
-    c .before .loop .inv .1 ∙ ap (λ (m : ℕ). held clearCircuit m t) (c .before .before .min-usize .ensures) ∙ held-min clearCircuit (a .places .circuits) t
+    here .loop .inv .1 ∙ ap (λ (m : ℕ). held clearCircuit m t) (here .min-usize .ensures) ∙ held-min clearCircuit (a .places .circuits) t
 
 pub trim-circuits-spec : {M : Type 1} → statement M
 trim-circuits-spec = tie.close (tie.spec Inv-loop μ-loop min-usize-requires loop-holds sub-last mul-row shared-slice-copy-out-row is-circuit-requires returns loop-less loop-again returns-2)

@@ -1,5 +1,6 @@
 -- `clear_action` meets its contract: what is done, with what is left cleared, is the whole table cleared; past the number there is no mark.
 mod Tie
+mod At
 use mathlib.Core.Path.{_≡_, refl, sym, ap, _∙_}
 use mathlib.Core.List.{_++_}
 use Prim.Native.Nat.{ℕ, _-_, _≤_, min}
@@ -13,6 +14,7 @@ use Rattle.hnsr_circuit.specs.Code.Held.{held}
 use Rattle.hnsr_circuit.specs.Laws.Held.{held-min, clear-rest, held-clear-step}
 use Rattle.hnsr_circuit.proofs.tables.inflight.clear_action.Statement.{statement}
 use Rattle.hnsr_circuit.proofs.tables.inflight.clear_action.Proof.Tie as tie
+use Rattle.hnsr_circuit.proofs.tables.inflight.clear_action.Proof.At as at
 
 abbrev Inv-loop : tie.InvT-loop
 Inv-loop inflight question size₀ end₀ i₀ inflight′ i = (i ≤ end₀) × (end₀ ≤ length inflight) × (length inflight′ ≡ length inflight) × (take i (held clearAction end₀ inflight′) ++ clear clearAction (actionHas question) (drop i (held clearAction end₀ inflight′)) ≡ clear clearAction (actionHas question) (held clearAction end₀ inflight))
@@ -46,12 +48,13 @@ loop-less c = let k = c .before .unmark-action .kept .0 in omega arith
 
 loop-again : tie.Need-loop-again Inv-loop μ-loop
 loop-again c =
-    let a = c .before .before .before .before .before .before .before .before .args in
+    let here = at.loop-again Inv-loop μ-loop c in
+    let a = here .start .args in
     let t = a .inflight .now in
-    let n = c .before .before .before .before .before .before .before .min-usize .result in
-    let l = c .before .before .before .before .before .before .loop in
-    let s = c .before .unmark-action in
-    let h = c .before .before .before .action-has in
+    let n = here .min-usize .result in
+    let l = here .loop in
+    let s = here .unmark-action in
+    let h = here .action-has in
     let k = s .kept .0 in (
       omega arith,
       l .inv .1,
@@ -64,13 +67,14 @@ same-length c = search needs
 
 returns : tie.Need-returns Inv-loop μ-loop
 returns c =
-    let a = c .before .before .before .args in
+    let here = at.returns Inv-loop μ-loop c in
+    let a = here .start .args in
     let t = a .inflight .now in
-    let n = c .before .before .min-usize .result in
-    let l = c .before .loop in
-    sym (ap (λ (m : ℕ). held clearAction m (l .inflight)) (c .before .before .min-usize .ensures ∙ ap (min (a .places .actions)) (sym (l .inv .2))) ∙ held-min clearAction (a .places .actions) (l .inflight))
+    let n = here .min-usize .result in
+    let l = here .loop in
+    sym (ap (λ (m : ℕ). held clearAction m (l .inflight)) (here .min-usize .ensures ∙ ap (min (a .places .actions)) (sym (l .inv .2))) ∙ held-min clearAction (a .places .actions) (l .inflight))
     ∙ clear-rest clearAction (actionHas (a .question)) (λ x. refl) n (l .inflight) (l .i) (clear clearAction (actionHas (a .question)) (held clearAction n t)) (λ h. omega arith) (l .inv .3)
-    ∙ ap (clear clearAction (actionHas (a .question))) (ap (λ (m : ℕ). held clearAction m t) (c .before .before .min-usize .ensures) ∙ held-min clearAction (a .places .actions) t)
+    ∙ ap (clear clearAction (actionHas (a .question))) (ap (λ (m : ℕ). held clearAction m t) (here .min-usize .ensures) ∙ held-min clearAction (a .places .actions) t)
 
 pub clear-action-spec : {M : Type 1} → statement M
 clear-action-spec = tie.close (tie.spec Inv-loop μ-loop min-usize-requires loop-holds mul-row slice-copy-out-row action-has-requires unmark-action-requires add-i loop-less loop-again same-length returns)

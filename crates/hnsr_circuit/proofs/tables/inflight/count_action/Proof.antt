@@ -1,5 +1,6 @@
 -- `count_action` meets its contract: what is left, with what is counted so far, is the whole count; past the number no record is marked.
 mod Tie
+mod At
 use mathlib.Core.Path.{_≡_, ap, _∙_}
 use mathlib.Core.Bool.{Bool, cond}
 use Prim.Native.Nat.{ℕ, _+_, _-_, _≤_}
@@ -16,6 +17,7 @@ use Rattle.hnsr_circuit.specs.Laws.HeldTables.{action-unmarked}
 use Rattle.hnsr_circuit.specs.Laws.Held.{held-min, count-rest, held-count-next}
 use Rattle.hnsr_circuit.proofs.tables.inflight.count_action.Statement.{statement}
 use Rattle.hnsr_circuit.proofs.tables.inflight.count_action.Proof.Tie as tie
+use Rattle.hnsr_circuit.proofs.tables.inflight.count_action.Proof.At as at
 
 abbrev Inv-loop : tie.InvT-loop
 Inv-loop inflight question size₀ end₀ counted₀ i₀ counted i = (i ≤ end₀) × (end₀ ≤ length inflight) × (counted ≤ i) × (counted + count (actionHas question) (drop i (held clearAction end₀ inflight)) ≡ count (actionHas question) (held clearAction end₀ inflight))
@@ -27,7 +29,9 @@ min-usize-requires : tie.Need-min-usize-requires Inv-loop μ-loop
 min-usize-requires c = search needs
 
 loop-holds : tie.Need-loop-holds Inv-loop μ-loop
-loop-holds c = (omega arith, omega arith, omega arith, zero-add (count (actionHas (c .before .args .question)) (held clearAction (c .min-usize .result) (c .before .args .inflight .now))))
+loop-holds c =
+    let here = at.loop-holds Inv-loop μ-loop c in
+    (omega arith, omega arith, omega arith, zero-add (count (actionHas (here .start .args .question)) (held clearAction (here .min-usize .result) (here .start .args .inflight .now))))
 
 mul-row : tie.Need-mul-row Inv-loop μ-loop
 mul-row c = search needs
@@ -49,26 +53,28 @@ loop-less c = search needs
 
 loop-again : tie.Need-loop-again Inv-loop μ-loop
 loop-again c =
-    let a = c .before .before .before .before .before .before .args in
+    let here = at.loop-again Inv-loop μ-loop c in
+    let a = here .start .args in
     let t = a .inflight .now in
-    let n = c .before .before .before .before .before .min-usize .result in
-    let l = c .before .before .before .before .loop in
-    let h = c .before .action-has in (
+    let n = here .min-usize .result in
+    let l = here .loop in
+    let h = here .action-has in (
       omega arith,
       l .inv .1,
       omega (arith, cond-le (h .result)),
-      held-count-next clearAction n t noAction (l .i) (omega arith) (omega arith) (actionHas (a .question)) (count (actionHas (a .question)) (held clearAction n t)) (l .counted) (c .one-more .result)
-          (c .one-more .ensures ∙ ap (λ (b : Bool). l .counted + cond b 1 0) (h .ensures)) (l .inv .3),
+      held-count-next clearAction n t noAction (l .i) (omega arith) (omega arith) (actionHas (a .question)) (count (actionHas (a .question)) (held clearAction n t)) (l .counted) (here .one-more .result)
+          (here .one-more .ensures ∙ ap (λ (b : Bool). l .counted + cond b 1 0) (h .ensures)) (l .inv .3),
     )
 
 returns : tie.Need-returns Inv-loop μ-loop
 returns c =
-    let a = c .before .before .before .args in
+    let here = at.returns Inv-loop μ-loop c in
+    let a = here .start .args in
     let t = a .inflight .now in
-    let n = c .before .before .min-usize .result in
-    let l = c .before .loop in
-    let seen = ap (λ (m : ℕ). held clearAction m t) (c .before .before .min-usize .ensures) ∙ held-min clearAction (a .places .actions) t in
-    count-rest clearAction (actionHas (a .question)) (λ x. action-unmarked (a .question) x ∙ c .before .before .before .pre) n t (l .i) (l .counted) (count (actionHas (a .question)) (held clearAction n t)) (λ h. omega arith) (l .inv .3)
+    let n = here .min-usize .result in
+    let l = here .loop in
+    let seen = ap (λ (m : ℕ). held clearAction m t) (here .min-usize .ensures) ∙ held-min clearAction (a .places .actions) t in
+    count-rest clearAction (actionHas (a .question)) (λ x. action-unmarked (a .question) x ∙ here .start .pre) n t (l .i) (l .counted) (count (actionHas (a .question)) (held clearAction n t)) (λ h. omega arith) (l .inv .3)
     ∙ ap (count (actionHas (a .question))) seen
 
 pub count-action-spec : {M : Type 1} → statement M

@@ -1,5 +1,6 @@
 -- `drop_and_scan` meets its contract: what is passed is dropped, and what is left of the scan goes over the table as it will be.
 mod Tie
+mod At
 use mathlib.Core.Path.{_≡_, refl, sym, ap, _∙_}
 use mathlib.Core.Bool.{Bool, cond}
 use mathlib.Core.List.{List, _++_}
@@ -20,6 +21,7 @@ use Rattle.hnsr_circuit.specs.Laws.Scans.{map-here}
 use Rattle.hnsr_circuit.specs.declared.records.InflightAction.{InflightAction}
 use Rattle.hnsr_circuit.proofs.tables.inflight.drop_and_scan.Statement.{statement}
 use Rattle.hnsr_circuit.proofs.tables.inflight.drop_and_scan.Proof.Tie as tie
+use Rattle.hnsr_circuit.proofs.tables.inflight.drop_and_scan.Proof.At as at
 
 abbrev Inv-loop : tie.InvT-loop
 Inv-loop inflight id question size₀ end₀ scan₀ i₀ inflight′ scan i =
@@ -39,16 +41,17 @@ no-scan-requires c = search needs
 loop-holds : tie.Need-loop-holds Inv-loop μ-loop
 unfolding dropped
 loop-holds c =
-    let a = c .before .before .args in
-    let n = c .before .min-usize .result in
+    let here = at.loop-holds Inv-loop μ-loop c in
+    let a = here .start .args in
+    let n = here .min-usize .result in
     let t = held clearAction n (a .inflight .now) in
     let u = dropped (actionUnder (a .id)) t in (
       omega arith,
       omega arith,
       refl,
-      rw (c .no-scan .ensures) (tally-none),
+      rw (here .no-scan .ensures) (tally-none),
       refl,
-      ap (λ (b : ActionScan). foldFrom (scanned (a .question)) u 0 b) (c .no-scan .ensures ∙ ap noScan (sym (length-map t (cleared clearAction (actionUnder (a .id))) ∙ length-held clearAction n (a .inflight .now)))) ∙ scan-fold (a .question) u,
+      ap (λ (b : ActionScan). foldFrom (scanned (a .question)) u 0 b) (here .no-scan .ensures ∙ ap noScan (sym (length-map t (cleared clearAction (actionUnder (a .id))) ∙ length-held clearAction n (a .inflight .now)))) ∙ scan-fold (a .question) u,
     )
 
 mul-row : tie.Need-mul-row Inv-loop μ-loop
@@ -67,13 +70,17 @@ unmark-action-requires : tie.Need-unmark-action-requires Inv-loop μ-loop
 unmark-action-requires c = search needs
 
 action-scanned-requires : tie.Need-action-scanned-requires Inv-loop μ-loop
-action-scanned-requires c = λ κs. tally-more (c .before .before .before .before .before .before .before .loop .i) 18446744073709551614 (c .before .before .before .before .before .before .before .loop .scan .tally) (omega arith) (c .before .before .before .before .before .before .before .loop .inv .3)
+action-scanned-requires c =
+    let here = at.action-scanned-requires Inv-loop μ-loop c in
+    λ κs. tally-more (here .loop .i) 18446744073709551614 (here .loop .scan .tally) (omega arith) (here .loop .inv .3)
 
 add-i : tie.Need-add-i Inv-loop μ-loop
 add-i c = search needs
 
 loop-less : tie.Need-loop-less Inv-loop μ-loop
-loop-less c = let k = c .before .before .unmark-action .kept .0 in omega arith
+loop-less c =
+    let here = at.loop-less Inv-loop μ-loop c in
+    let k = here .unmark-action .kept .0 in omega arith
 
 loop-again : tie.Need-loop-again Inv-loop μ-loop
 unfolding dropped
@@ -114,20 +121,21 @@ same-length c = search needs
 returns : tie.Need-returns Inv-loop μ-loop
 unfolding dropped
 returns c =
-    let a = c .before .before .before .before .before .args in
+    let here = at.returns Inv-loop μ-loop c in
+    let a = here .start .args in
     let q = a .question in
-    let n = c .before .before .before .before .min-usize .result in
-    let l = c .before .before .loop in
+    let n = here .min-usize .result in
+    let l = here .loop in
     let d = actionUnder (a .id) in
     let r = a .inflight .now in
     let t = l .inflight in
     let u = dropped d (held clearAction n r) in
-    let seen = ap (λ (m : ℕ). held clearAction m r) (c .before .before .before .before .min-usize .ensures) ∙ held-min clearAction (a .places .actions) r in
-    let kept = ap (λ (m : ℕ). held clearAction m t) (c .before .before .before .before .min-usize .ensures ∙ ap (min (a .places .actions)) (sym (l .inv .2))) ∙ held-min clearAction (a .places .actions) t in
+    let seen = ap (λ (m : ℕ). held clearAction m r) (here .min-usize .ensures) ∙ held-min clearAction (a .places .actions) r in
+    let kept = ap (λ (m : ℕ). held clearAction m t) (here .min-usize .ensures ∙ ap (min (a .places .actions)) (sym (l .inv .2))) ∙ held-min clearAction (a .places .actions) t in
     let done = clear-rest clearAction d (λ x. refl) n t (l .i) u (λ h. omega arith) (l .inv .4) in
     let same = ap (dropped d) seen in (
       sym kept ∙ done ∙ same,
-      c .spared .ensures
+      here .spared .ensures
           ∙ ap (λ (m : ℕ). scanSpared (l .scan) (l .i) m) (sym (l .inv .2))
           ∙ scan-rest q n t (l .i) (l .scan) (actionsScanned q u) (λ h. omega arith) (omega arith) (ap (λ (x : List InflightAction). foldFrom (scanned q) (drop (l .i) x) (l .i) (l .scan)) done ∙ l .inv .5)
           ∙ ap (actionsScanned q) same,

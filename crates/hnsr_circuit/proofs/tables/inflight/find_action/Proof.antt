@@ -1,5 +1,6 @@
 -- `find_action` meets its contract: the first `i` records have another number, and past the number of places no record is marked.
 mod Tie
+mod At
 use mathlib.Core.Path.{_≡_, refl, sym, ap, _∙_}
 use mathlib.Core.Bool.{false}
 use Prim.Native.Nat.{ℕ, _+_, _-_, _≤_}
@@ -13,6 +14,7 @@ use Rattle.hnsr_circuit.specs.Code.Held.{held}
 use Rattle.hnsr_circuit.specs.Laws.Held.{held-min, find-rest, held-find-next, held-find-here}
 use Rattle.hnsr_circuit.proofs.tables.inflight.find_action.Statement.{statement}
 use Rattle.hnsr_circuit.proofs.tables.inflight.find_action.Proof.Tie as tie
+use Rattle.hnsr_circuit.proofs.tables.inflight.find_action.Proof.At as at
 
 abbrev Inv-loop : tie.InvT-loop
 Inv-loop inflight generation sequence size₀ end₀ i₀ i = (i ≤ end₀) × (end₀ ≤ length inflight) × (i + placeOf (actionAt generation sequence) (drop i (held clearAction end₀ inflight)) ≡ placeOf (actionAt generation sequence) (held clearAction end₀ inflight))
@@ -53,20 +55,22 @@ loop-less c = search needs
 
 loop-again : tie.Need-loop-again Inv-loop μ-loop
 loop-again c =
-    let a = c .before .before .before .before .before .before .args in
+    let here = at.loop-again Inv-loop μ-loop c in
+    let a = here .start .args in
     let t = a .inflight .now in
-    let n = c .before .before .before .before .before .min-usize .result in
-    let l = c .before .before .before .before .loop in
-    (omega arith, l .inv .1, held-find-next clearAction n t noAction (l .i) (omega arith) (omega arith) (actionAt (a .generation) (a .sequence)) (placeOf (actionAt (a .generation) (a .sequence)) (held clearAction n t)) (sym (c .before .action-is .ensures) ∙ c .if1 .left) (l .inv .2))
+    let n = here .min-usize .result in
+    let l = here .loop in
+    (omega arith, l .inv .1, held-find-next clearAction n t noAction (l .i) (omega arith) (omega arith) (actionAt (a .generation) (a .sequence)) (placeOf (actionAt (a .generation) (a .sequence)) (held clearAction n t)) (sym (here .action-is .ensures) ∙ here .if1 .left) (l .inv .2))
 
 returns-2 : tie.Need-returns-2 Inv-loop μ-loop
 unfolding actionAt
 returns-2 c =
-    let a = c .before .before .before .args in
+    let here = at.returns-2 Inv-loop μ-loop c in
+    let a = here .start .args in
     let t = a .inflight .now in
-    let n = c .before .before .min-usize .result in
-    let l = c .before .loop in
-    let seen = ap (λ (m : ℕ). held clearAction m t) (c .before .before .min-usize .ensures) ∙ held-min clearAction (a .places .actions) t in
+    let n = here .min-usize .result in
+    let l = here .loop in
+    let seen = ap (λ (m : ℕ). held clearAction m t) (here .min-usize .ensures) ∙ held-min clearAction (a .places .actions) t in
     find-rest clearAction (actionAt (a .generation) (a .sequence)) false (λ x. refl) n t (l .i) (placeOf (actionAt (a .generation) (a .sequence)) (held clearAction n t)) (λ h. omega arith) (omega arith) (l .inv .2)
     ∙ ap (placeOf (actionAt (a .generation) (a .sequence))) seen
 

@@ -1,5 +1,6 @@
 -- `scan_actions` meets its contract: what is left of the scan, from what is found so far, is the whole scan; past the number there is a spare place.
 mod Tie
+mod At
 use mathlib.Core.Path.{_≡_, sym, ap, _∙_}
 use Prim.Native.Nat.{ℕ, _-_, _≤_}
 use native.Mathlib.Omega.{arith}
@@ -15,6 +16,7 @@ use Rattle.hnsr_circuit.specs.Laws.HeldTables.{scan-rest}
 use Rattle.hnsr_circuit.specs.Laws.Held.{length-held, held-min, held-fold-step}
 use Rattle.hnsr_circuit.proofs.tables.inflight.scan_actions.Statement.{statement}
 use Rattle.hnsr_circuit.proofs.tables.inflight.scan_actions.Proof.Tie as tie
+use Rattle.hnsr_circuit.proofs.tables.inflight.scan_actions.Proof.At as at
 
 abbrev Inv-loop : tie.InvT-loop
 Inv-loop inflight question size₀ end₀ scan₀ i₀ scan i = (i ≤ end₀) × (end₀ ≤ length inflight) × (TallyAtMost i (scan .tally)) × (foldFrom (scanned question) (drop i (held clearAction end₀ inflight)) i scan ≡ actionsScanned question (held clearAction end₀ inflight))
@@ -30,12 +32,13 @@ no-scan-requires c = search needs
 
 loop-holds : tie.Need-loop-holds Inv-loop μ-loop
 loop-holds c =
-    let a = c .before .before .args in
-    let t = held clearAction (c .before .min-usize .result) (a .inflight .now) in (
+    let here = at.loop-holds Inv-loop μ-loop c in
+    let a = here .start .args in
+    let t = held clearAction (here .min-usize .result) (a .inflight .now) in (
       omega arith,
       omega arith,
-      rw (c .no-scan .ensures) (tally-none),
-      ap (λ (b : ActionScan). foldFrom (scanned (a .question)) t 0 b) (c .no-scan .ensures ∙ ap noScan (sym (length-held clearAction (c .before .min-usize .result) (a .inflight .now)))) ∙ scan-fold (a .question) t,
+      rw (here .no-scan .ensures) (tally-none),
+      ap (λ (b : ActionScan). foldFrom (scanned (a .question)) t 0 b) (here .no-scan .ensures ∙ ap noScan (sym (length-held clearAction (here .min-usize .result) (a .inflight .now)))) ∙ scan-fold (a .question) t,
     )
 
 mul-row : tie.Need-mul-row Inv-loop μ-loop
@@ -45,7 +48,9 @@ shared-slice-copy-out-row : tie.Need-shared-slice-copy-out-row Inv-loop μ-loop
 shared-slice-copy-out-row c = search needs
 
 action-scanned-requires : tie.Need-action-scanned-requires Inv-loop μ-loop
-action-scanned-requires c = λ κs. tally-more (c .before .before .loop .i) 18446744073709551614 (c .before .before .loop .scan .tally) (omega arith) (c .before .before .loop .inv .2)
+action-scanned-requires c =
+    let here = at.action-scanned-requires Inv-loop μ-loop c in
+    λ κs. tally-more (here .loop .i) 18446744073709551614 (here .loop .scan .tally) (omega arith) (here .loop .inv .2)
 
 add-i : tie.Need-add-i Inv-loop μ-loop
 add-i c = search needs
@@ -55,14 +60,15 @@ loop-less c = search needs
 
 loop-again : tie.Need-loop-again Inv-loop μ-loop
 loop-again c =
-    let a = c .before .before .before .before .before .before .args in
+    let here = at.loop-again Inv-loop μ-loop c in
+    let a = here .start .args in
     let t = a .inflight .now in
-    let n = c .before .before .before .before .before .min-usize .result in
-    let l = c .before .before .before .loop in (
+    let n = here .min-usize .result in
+    let l = here .loop in (
       omega arith,
       l .inv .1,
-      rw (c .action-scanned .ensures) (tally-most (a .question) (l .i) (l .scan .tally) (getD t (l .i) noAction) (l .i) (l .inv .2)),
-      held-fold-step clearAction n t noAction (l .i) (omega arith) (omega arith) (scanned (a .question)) (l .scan) (c .action-scanned .result) (actionsScanned (a .question) (held clearAction n t)) (c .action-scanned .ensures) (l .inv .3),
+      rw (here .action-scanned .ensures) (tally-most (a .question) (l .i) (l .scan .tally) (getD t (l .i) noAction) (l .i) (l .inv .2)),
+      held-fold-step clearAction n t noAction (l .i) (omega arith) (omega arith) (scanned (a .question)) (l .scan) (here .action-scanned .result) (actionsScanned (a .question) (held clearAction n t)) (here .action-scanned .ensures) (l .inv .3),
     )
 
 spared-requires : tie.Need-spared-requires Inv-loop μ-loop
@@ -70,13 +76,14 @@ spared-requires c = search needs
 
 returns : tie.Need-returns Inv-loop μ-loop
 returns c =
-    let a = c .before .before .before .before .before .args in
+    let here = at.returns Inv-loop μ-loop c in
+    let a = here .start .args in
     let t = a .inflight .now in
-    let n = c .before .before .before .before .min-usize .result in
-    let l = c .before .before .loop in
-    c .spared .ensures
+    let n = here .min-usize .result in
+    let l = here .loop in
+    here .spared .ensures
     ∙ scan-rest (a .question) n t (l .i) (l .scan) (actionsScanned (a .question) (held clearAction n t)) (λ h. omega arith) (omega arith) (l .inv .3)
-    ∙ ap (actionsScanned (a .question)) (ap (λ (m : ℕ). held clearAction m t) (c .before .before .before .before .min-usize .ensures) ∙ held-min clearAction (a .places .actions) t)
+    ∙ ap (actionsScanned (a .question)) (ap (λ (m : ℕ). held clearAction m t) (here .min-usize .ensures) ∙ held-min clearAction (a .places .actions) t)
 
 pub scan-actions-spec : {M : Type 1} → statement M
 scan-actions-spec = tie.close (tie.spec Inv-loop μ-loop min-usize-requires no-scan-requires loop-holds mul-row shared-slice-copy-out-row action-scanned-requires add-i loop-less loop-again spared-requires returns)

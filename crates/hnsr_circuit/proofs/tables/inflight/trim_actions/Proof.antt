@@ -1,5 +1,6 @@
 -- `trim_actions` meets its contract: the places above the number are unused.
 mod Tie
+mod At
 use mathlib.Core.Path.{_≡_, refl, sym, ap, _∙_}
 use Prim.Native.Nat.{ℕ, _≤_}
 use native.Mathlib.Omega.{arith}
@@ -11,6 +12,7 @@ use Rattle.hnsr_circuit.specs.Laws.HeldTables.{action-still}
 use Rattle.hnsr_circuit.specs.Laws.Held.{held-min, lower-step}
 use Rattle.hnsr_circuit.proofs.tables.inflight.trim_actions.Statement.{statement}
 use Rattle.hnsr_circuit.proofs.tables.inflight.trim_actions.Proof.Tie as tie
+use Rattle.hnsr_circuit.proofs.tables.inflight.trim_actions.Proof.At as at
 
 abbrev Inv-loop : tie.InvT-loop
 Inv-loop inflight size₀ n₀ n = (n ≤ length inflight) × (held clearAction n inflight ≡ held clearAction n₀ inflight)
@@ -38,24 +40,27 @@ is-action-requires c = search needs
 
 returns : tie.Need-returns Inv-loop μ-loop
 returns c =
-    let a = c .before .before .before .before .before .before .args in
+    let here = at.returns Inv-loop μ-loop c in
+    let a = here .start .args in
     let t = a .inflight .now in
-    c .before .before .before .before .loop .inv .1 ∙ ap (λ (m : ℕ). held clearAction m t) (c .before .before .before .before .before .min-usize .ensures) ∙ held-min clearAction (a .places .actions) t
+    here .loop .inv .1 ∙ ap (λ (m : ℕ). held clearAction m t) (here .min-usize .ensures) ∙ held-min clearAction (a .places .actions) t
 
 loop-less : tie.Need-loop-less Inv-loop μ-loop
 loop-less c = search needs
 
 loop-again : tie.Need-loop-again Inv-loop μ-loop
 loop-again c =
-    let t = c .before .before .before .before .before .before .args .inflight .now in
-    let l = c .before .before .before .before .loop in
-    (omega arith, lower-step clearAction isAction action-still (l .n) t noAction (held clearAction (c .before .before .before .before .before .min-usize .result) t) (omega arith) (sym (c .before .is-action .ensures) ∙ c .if1 .left) (l .inv .1))
+    let here = at.loop-again Inv-loop μ-loop c in
+    let t = here .start .args .inflight .now in
+    let l = here .loop in
+    (omega arith, lower-step clearAction isAction action-still (l .n) t noAction (held clearAction (here .min-usize .result) t) (omega arith) (sym (here .is-action .ensures) ∙ here .if1 .left) (l .inv .1))
 
 returns-2 : tie.Need-returns-2 Inv-loop μ-loop
 returns-2 c =
-    let a = c .before .before .before .args in
+    let here = at.returns-2 Inv-loop μ-loop c in
+    let a = here .start .args in
     let t = a .inflight .now in
-    c .before .loop .inv .1 ∙ ap (λ (m : ℕ). held clearAction m t) (c .before .before .min-usize .ensures) ∙ held-min clearAction (a .places .actions) t
+    here .loop .inv .1 ∙ ap (λ (m : ℕ). held clearAction m t) (here .min-usize .ensures) ∙ held-min clearAction (a .places .actions) t
 
 pub trim-actions-spec : {M : Type 1} → statement M
 trim-actions-spec = tie.close (tie.spec Inv-loop μ-loop min-usize-requires loop-holds sub-last mul-row shared-slice-copy-out-row is-action-requires returns loop-less loop-again returns-2)

@@ -1,5 +1,6 @@
 -- `clear_usage` meets its contract: what is done, with what is left cleared, is the whole table cleared; past the number there is no mark.
 mod Tie
+mod At
 use mathlib.Core.Path.{_≡_, refl, sym, ap, _∙_}
 use mathlib.Core.List.{_++_}
 use Prim.Native.Nat.{ℕ, _-_, _≤_, min}
@@ -13,6 +14,7 @@ use Rattle.hnsr_circuit.specs.Code.Held.{held}
 use Rattle.hnsr_circuit.specs.Laws.Held.{held-min, clear-rest, held-clear-step}
 use Rattle.hnsr_circuit.proofs.tables.ledger.clear_usage.Statement.{statement}
 use Rattle.hnsr_circuit.proofs.tables.ledger.clear_usage.Proof.Tie as tie
+use Rattle.hnsr_circuit.proofs.tables.ledger.clear_usage.Proof.At as at
 
 abbrev Inv-loop : tie.InvT-loop
 Inv-loop ledger question size₀ end₀ i₀ ledger′ i = (i ≤ end₀) × (end₀ ≤ length ledger) × (length ledger′ ≡ length ledger) × (take i (held clearUsage end₀ ledger′) ++ clear clearUsage (usageHas question) (drop i (held clearUsage end₀ ledger′)) ≡ clear clearUsage (usageHas question) (held clearUsage end₀ ledger))
@@ -46,12 +48,13 @@ loop-less c = let k = c .before .unmark-usage .kept .0 in omega arith
 
 loop-again : tie.Need-loop-again Inv-loop μ-loop
 loop-again c =
-    let a = c .before .before .before .before .before .before .before .before .args in
+    let here = at.loop-again Inv-loop μ-loop c in
+    let a = here .start .args in
     let t = a .ledger .now in
-    let n = c .before .before .before .before .before .before .before .min-usize .result in
-    let l = c .before .before .before .before .before .before .loop in
-    let s = c .before .unmark-usage in
-    let h = c .before .before .before .usage-has in
+    let n = here .min-usize .result in
+    let l = here .loop in
+    let s = here .unmark-usage in
+    let h = here .usage-has in
     let k = s .kept .0 in (
       omega arith,
       l .inv .1,
@@ -64,13 +67,14 @@ same-length c = search needs
 
 returns : tie.Need-returns Inv-loop μ-loop
 returns c =
-    let a = c .before .before .before .args in
+    let here = at.returns Inv-loop μ-loop c in
+    let a = here .start .args in
     let t = a .ledger .now in
-    let n = c .before .before .min-usize .result in
-    let l = c .before .loop in
-    sym (ap (λ (m : ℕ). held clearUsage m (l .ledger)) (c .before .before .min-usize .ensures ∙ ap (min (a .places .ledger)) (sym (l .inv .2))) ∙ held-min clearUsage (a .places .ledger) (l .ledger))
+    let n = here .min-usize .result in
+    let l = here .loop in
+    sym (ap (λ (m : ℕ). held clearUsage m (l .ledger)) (here .min-usize .ensures ∙ ap (min (a .places .ledger)) (sym (l .inv .2))) ∙ held-min clearUsage (a .places .ledger) (l .ledger))
     ∙ clear-rest clearUsage (usageHas (a .question)) (λ x. refl) n (l .ledger) (l .i) (clear clearUsage (usageHas (a .question)) (held clearUsage n t)) (λ h. omega arith) (l .inv .3)
-    ∙ ap (clear clearUsage (usageHas (a .question))) (ap (λ (m : ℕ). held clearUsage m t) (c .before .before .min-usize .ensures) ∙ held-min clearUsage (a .places .ledger) t)
+    ∙ ap (clear clearUsage (usageHas (a .question))) (ap (λ (m : ℕ). held clearUsage m t) (here .min-usize .ensures) ∙ held-min clearUsage (a .places .ledger) t)
 
 pub clear-usage-spec : {M : Type 1} → statement M
 clear-usage-spec = tie.close (tie.spec Inv-loop μ-loop min-usize-requires loop-holds mul-row slice-copy-out-row usage-has-requires unmark-usage-requires add-i loop-less loop-again same-length returns)

@@ -1,5 +1,6 @@
 -- `scan_ledger` meets its contract: what is left of the scan, from what is found so far, is the whole scan; past the number there is a spare place.
 mod Tie
+mod At
 use mathlib.Core.Path.{_≡_, sym, ap, _∙_}
 use Prim.Native.Nat.{ℕ, _-_, _≤_}
 use native.Mathlib.Omega.{arith}
@@ -16,6 +17,7 @@ use Rattle.hnsr_circuit.specs.Laws.Held.{length-held, held-min, held-fol
 use Rattle.hnsr_circuit.specs.declared.records.LedgerRoom.{LedgerRoom}
 use Rattle.hnsr_circuit.proofs.tables.ledger.scan_ledger.Statement.{statement}
 use Rattle.hnsr_circuit.proofs.tables.ledger.scan_ledger.Proof.Tie as tie
+use Rattle.hnsr_circuit.proofs.tables.ledger.scan_ledger.Proof.At as at
 
 abbrev Inv-loop : tie.InvT-loop
 Inv-loop ledger id size₀ end₀ room₀ i₀ room i = (i ≤ end₀) × (end₀ ≤ length ledger) × (room .used ≤ i) × (foldFrom (roomOn id) (drop i (held clearUsage end₀ ledger)) i room ≡ ledgerAsked id (held clearUsage end₀ ledger))
@@ -31,12 +33,13 @@ no-room-requires c = search needs
 
 loop-holds : tie.Need-loop-holds Inv-loop μ-loop
 loop-holds c =
-    let a = c .before .before .args in
-    let t = held clearUsage (c .before .min-usize .result) (a .ledger .now) in (
+    let here = at.loop-holds Inv-loop μ-loop c in
+    let a = here .start .args in
+    let t = held clearUsage (here .min-usize .result) (a .ledger .now) in (
       omega arith,
       omega arith,
-      rw (c .no-room .ensures) (omega arith),
-      ap (λ (b : LedgerRoom). foldFrom (roomOn (a .id)) t 0 b) (c .no-room .ensures ∙ ap noRoom (sym (length-held clearUsage (c .before .min-usize .result) (a .ledger .now)))) ∙ room-fold (a .id) t,
+      rw (here .no-room .ensures) (omega arith),
+      ap (λ (b : LedgerRoom). foldFrom (roomOn (a .id)) t 0 b) (here .no-room .ensures ∙ ap noRoom (sym (length-held clearUsage (here .min-usize .result) (a .ledger .now)))) ∙ room-fold (a .id) t,
     )
 
 mul-row : tie.Need-mul-row Inv-loop μ-loop
@@ -46,7 +49,9 @@ shared-slice-copy-out-row : tie.Need-shared-slice-copy-out-row Inv-loop μ-loop
 shared-slice-copy-out-row c = search needs
 
 room-on-requires : tie.Need-room-on-requires Inv-loop μ-loop
-room-on-requires c = λ κs. let k = c .before .before .loop .inv .2 in omega arith
+room-on-requires c =
+    let here = at.room-on-requires Inv-loop μ-loop c in
+    λ κs. let k = here .loop .inv .2 in omega arith
 
 add-i : tie.Need-add-i Inv-loop μ-loop
 add-i c = search needs
@@ -56,14 +61,15 @@ loop-less c = search needs
 
 loop-again : tie.Need-loop-again Inv-loop μ-loop
 loop-again c =
-    let a = c .before .before .before .before .before .before .args in
+    let here = at.loop-again Inv-loop μ-loop c in
+    let a = here .start .args in
     let t = a .ledger .now in
-    let n = c .before .before .before .before .before .min-usize .result in
-    let l = c .before .before .before .loop in (
+    let n = here .min-usize .result in
+    let l = here .loop in (
       omega arith,
       l .inv .1,
-      rw (c .room-on .ensures) (omega (arith, cond-le (isUsage (getD t (l .i) noUsage)))),
-      held-fold-step clearUsage n t noUsage (l .i) (omega arith) (omega arith) (roomOn (a .id)) (l .room) (c .room-on .result) (ledgerAsked (a .id) (held clearUsage n t)) (c .room-on .ensures) (l .inv .3),
+      rw (here .room-on .ensures) (omega (arith, cond-le (isUsage (getD t (l .i) noUsage)))),
+      held-fold-step clearUsage n t noUsage (l .i) (omega arith) (omega arith) (roomOn (a .id)) (l .room) (here .room-on .result) (ledgerAsked (a .id) (held clearUsage n t)) (here .room-on .ensures) (l .inv .3),
     )
 
 room-spared-requires : tie.Need-room-spared-requires Inv-loop μ-loop
@@ -71,13 +77,14 @@ room-spared-requires c = search needs
 
 returns : tie.Need-returns Inv-loop μ-loop
 returns c =
-    let a = c .before .before .before .before .before .args in
+    let here = at.returns Inv-loop μ-loop c in
+    let a = here .start .args in
     let t = a .ledger .now in
-    let n = c .before .before .before .before .min-usize .result in
-    let l = c .before .before .loop in
-    c .room-spared .ensures
+    let n = here .min-usize .result in
+    let l = here .loop in
+    here .room-spared .ensures
     ∙ room-rest (a .id) n t (l .i) (l .room) (ledgerAsked (a .id) (held clearUsage n t)) (λ h. omega arith) (omega arith) (l .inv .3)
-    ∙ ap (ledgerAsked (a .id)) (ap (λ (m : ℕ). held clearUsage m t) (c .before .before .before .before .min-usize .ensures) ∙ held-min clearUsage (a .places .ledger) t)
+    ∙ ap (ledgerAsked (a .id)) (ap (λ (m : ℕ). held clearUsage m t) (here .min-usize .ensures) ∙ held-min clearUsage (a .places .ledger) t)
 
 pub scan-ledger-spec : {M : Type 1} → statement M
 scan-ledger-spec = tie.close (tie.spec Inv-loop μ-loop min-usize-requires no-room-requires loop-holds mul-row shared-slice-copy-out-row room-on-requires add-i loop-less loop-again room-spared-requires returns)

@@ -1,5 +1,6 @@
 -- `trim_ledger` meets its contract: the places above the number are unused.
 mod Tie
+mod At
 use mathlib.Core.Path.{_≡_, refl, sym, ap, _∙_}
 use Prim.Native.Nat.{ℕ, _≤_}
 use native.Mathlib.Omega.{arith}
@@ -11,6 +12,7 @@ use Rattle.hnsr_circuit.specs.Laws.HeldTables.{usage-still}
 use Rattle.hnsr_circuit.specs.Laws.Held.{held-min, lower-step}
 use Rattle.hnsr_circuit.proofs.tables.ledger.trim_ledger.Statement.{statement}
 use Rattle.hnsr_circuit.proofs.tables.ledger.trim_ledger.Proof.Tie as tie
+use Rattle.hnsr_circuit.proofs.tables.ledger.trim_ledger.Proof.At as at
 
 abbrev Inv-loop : tie.InvT-loop
 Inv-loop ledger size₀ n₀ n = (n ≤ length ledger) × (held clearUsage n ledger ≡ held clearUsage n₀ ledger)
@@ -38,24 +40,27 @@ is-usage-requires c = search needs
 
 returns : tie.Need-returns Inv-loop μ-loop
 returns c =
-    let a = c .before .before .before .before .before .before .args in
+    let here = at.returns Inv-loop μ-loop c in
+    let a = here .start .args in
     let t = a .ledger .now in
-    c .before .before .before .before .loop .inv .1 ∙ ap (λ (m : ℕ). held clearUsage m t) (c .before .before .before .before .before .min-usize .ensures) ∙ held-min clearUsage (a .places .ledger) t
+    here .loop .inv .1 ∙ ap (λ (m : ℕ). held clearUsage m t) (here .min-usize .ensures) ∙ held-min clearUsage (a .places .ledger) t
 
 loop-less : tie.Need-loop-less Inv-loop μ-loop
 loop-less c = search needs
 
 loop-again : tie.Need-loop-again Inv-loop μ-loop
 loop-again c =
-    let t = c .before .before .before .before .before .before .args .ledger .now in
-    let l = c .before .before .before .before .loop in
-    (omega arith, lower-step clearUsage isUsage usage-still (l .n) t noUsage (held clearUsage (c .before .before .before .before .before .min-usize .result) t) (omega arith) (sym (c .before .is-usage .ensures) ∙ c .if1 .left) (l .inv .1))
+    let here = at.loop-again Inv-loop μ-loop c in
+    let t = here .start .args .ledger .now in
+    let l = here .loop in
+    (omega arith, lower-step clearUsage isUsage usage-still (l .n) t noUsage (held clearUsage (here .min-usize .result) t) (omega arith) (sym (here .is-usage .ensures) ∙ here .if1 .left) (l .inv .1))
 
 returns-2 : tie.Need-returns-2 Inv-loop μ-loop
 returns-2 c =
-    let a = c .before .before .before .args in
+    let here = at.returns-2 Inv-loop μ-loop c in
+    let a = here .start .args in
     let t = a .ledger .now in
-    c .before .loop .inv .1 ∙ ap (λ (m : ℕ). held clearUsage m t) (c .before .before .min-usize .ensures) ∙ held-min clearUsage (a .places .ledger) t
+    here .loop .inv .1 ∙ ap (λ (m : ℕ). held clearUsage m t) (here .min-usize .ensures) ∙ held-min clearUsage (a .places .ledger) t
 
 pub trim-ledger-spec : {M : Type 1} → statement M
 trim-ledger-spec = tie.close (tie.spec Inv-loop μ-loop min-usize-requires loop-holds sub-last mul-row shared-slice-copy-out-row is-usage-requires returns loop-less loop-again returns-2)

@@ -1,5 +1,6 @@
 -- `unmark_usage` meets its contract: past the end nothing is stored.
 mod Tie
+mod At
 use mathlib.Core.Path.{_∙_, ap}
 use Prim.Native.Nat.{_<_}
 use lib.ListN.{length, getD, set}
@@ -9,54 +10,46 @@ use Rattle.hnsr_circuit.specs.Laws.Scans.{stores-inside, stored, unstore
 use borrow.Author.Needs.{needs}
 use Rattle.hnsr_circuit.proofs.tables.ledger.unmark_usage.Statement.{statement}
 use Rattle.hnsr_circuit.proofs.tables.ledger.unmark_usage.Proof.Tie as tie
-
-within-requires : tie.Need-within-requires
-within-requires c = search needs
+use Rattle.hnsr_circuit.proofs.tables.ledger.unmark_usage.Proof.At as at
 
 mul-row : tie.Need-mul-row
 mul-row c =
-    let w = c .before in
-    let a = w .before .args in
-    let l : a .place < length (a .ledger .now) = stores-inside (a .ledger .now) (a .go) (w .within .result) (a .place) (w .within .ensures) (c .if1 .taken) in
+    let here = at.mul-row c in
+    let a = here .start .args in
+    let l : a .place < length (a .ledger .now) = stores-inside (a .ledger .now) (a .go) (here .within .result) (a .place) (here .within .ensures) (here .if1 .taken) in
     search needs
 
 slice-copy-out-row : tie.Need-slice-copy-out-row
 slice-copy-out-row c =
-    let w = c .before in
-    let a = w .before .args in
-    stores-inside (a .ledger .now) (a .go) (w .within .result) (a .place) (w .within .ensures) (c .if1 .taken)
-
-usage-unmarked-requires : tie.Need-usage-unmarked-requires
-usage-unmarked-requires c = search needs
+    let here = at.slice-copy-out-row c in
+    let a = here .start .args in
+    stores-inside (a .ledger .now) (a .go) (here .within .result) (a .place) (here .within .ensures) (here .if1 .taken)
 
 mul-after : tie.Need-mul-after
 mul-after c =
-    let w = c .before .before .before in
-    let a = w .before .args in
-    let l : a .place < length (a .ledger .now) = stores-inside (a .ledger .now) (a .go) (w .within .result) (a .place) (w .within .ensures) (c .before .before .if1 .taken) in
+    let here = at.mul-after c in
+    let a = here .start .args in
+    let l : a .place < length (a .ledger .now) = stores-inside (a .ledger .now) (a .go) (here .within .result) (a .place) (here .within .ensures) (here .if1 .taken) in
     search needs
 
 slice-set-from-after : tie.Need-slice-set-from-after
 slice-set-from-after c =
-    let w = c .before .before .before in
-    let a = w .before .args in
-    stores-inside (a .ledger .now) (a .go) (w .within .result) (a .place) (w .within .ensures) (c .before .before .if1 .taken)
-
-same-length : tie.Need-same-length
-same-length c = search needs
+    let here = at.slice-set-from-after c in
+    let a = here .start .args in
+    stores-inside (a .ledger .now) (a .go) (here .within .result) (a .place) (here .within .ensures) (here .if1 .taken)
 
 returns : tie.Need-returns
 returns c =
-    let w = c .before .before .before in
-    let a = w .before .args in
-    ap (λ (x : ReservationUsage). set (a .ledger .now) (a .place) x) (c .usage-unmarked .ensures)
-    ∙ stored (a .ledger .now) (a .go) (w .within .result) (a .place) (w .within .ensures) (set (a .ledger .now) (a .place) (clearUsage (getD (a .ledger .now) (a .place) noUsage))) (c .before .before .if1 .taken)
+    let here = at.returns c in
+    let a = here .start .args in
+    ap (λ (x : ReservationUsage). set (a .ledger .now) (a .place) x) (here .usage-unmarked .ensures)
+    ∙ stored (a .ledger .now) (a .go) (here .within .result) (a .place) (here .within .ensures) (set (a .ledger .now) (a .place) (clearUsage (getD (a .ledger .now) (a .place) noUsage))) (here .if1 .taken)
 
 returns-2 : tie.Need-returns-2
 returns-2 c =
-    let w = c .before in
-    let a = w .before .args in
-    unstored (a .ledger .now) (a .go) (w .within .result) (a .place) (w .within .ensures) (clearUsage (getD (a .ledger .now) (a .place) noUsage)) (c .if1 .left)
+    let here = at.returns-2 c in
+    let a = here .start .args in
+    unstored (a .ledger .now) (a .go) (here .within .result) (a .place) (here .within .ensures) (clearUsage (getD (a .ledger .now) (a .place) noUsage)) (here .if1 .left)
 
 pub unmark-usage-spec : {M : Type 1} → statement M
-unmark-usage-spec = tie.close (tie.spec within-requires mul-row slice-copy-out-row usage-unmarked-requires mul-after slice-set-from-after same-length returns returns-2)
+unmark-usage-spec = tie.close (at.spec mul-row slice-copy-out-row mul-after slice-set-from-after returns returns-2)

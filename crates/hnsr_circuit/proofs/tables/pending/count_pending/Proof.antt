@@ -1,5 +1,6 @@
 -- `count_pending` meets its contract: what is left, with what is counted so far, is the whole count; past the number no record is marked.
 mod Tie
+mod At
 use mathlib.Core.Path.{_≡_, ap, _∙_}
 use mathlib.Core.Bool.{Bool, cond}
 use Prim.Native.Nat.{ℕ, _+_, _-_, _≤_}
@@ -16,6 +17,7 @@ use Rattle.hnsr_circuit.specs.Laws.HeldTables.{pending-unmarked}
 use Rattle.hnsr_circuit.specs.Laws.Held.{held-min, count-rest, held-count-next}
 use Rattle.hnsr_circuit.proofs.tables.pending.count_pending.Statement.{statement}
 use Rattle.hnsr_circuit.proofs.tables.pending.count_pending.Proof.Tie as tie
+use Rattle.hnsr_circuit.proofs.tables.pending.count_pending.Proof.At as at
 
 abbrev Inv-loop : tie.InvT-loop
 Inv-loop pending question size₀ end₀ counted₀ i₀ counted i = (i ≤ end₀) × (end₀ ≤ length pending) × (counted ≤ i) × (counted + count (pendingHas question) (drop i (held clearPending end₀ pending)) ≡ count (pendingHas question) (held clearPending end₀ pending))
@@ -27,7 +29,9 @@ min-usize-requires : tie.Need-min-usize-requires Inv-loop μ-loop
 min-usize-requires c = search needs
 
 loop-holds : tie.Need-loop-holds Inv-loop μ-loop
-loop-holds c = (omega arith, omega arith, omega arith, zero-add (count (pendingHas (c .before .args .question)) (held clearPending (c .min-usize .result) (c .before .args .pending .now))))
+loop-holds c =
+    let here = at.loop-holds Inv-loop μ-loop c in
+    (omega arith, omega arith, omega arith, zero-add (count (pendingHas (here .start .args .question)) (held clearPending (here .min-usize .result) (here .start .args .pending .now))))
 
 mul-row : tie.Need-mul-row Inv-loop μ-loop
 mul-row c = search needs
@@ -49,26 +53,28 @@ loop-less c = search needs
 
 loop-again : tie.Need-loop-again Inv-loop μ-loop
 loop-again c =
-    let a = c .before .before .before .before .before .before .args in
+    let here = at.loop-again Inv-loop μ-loop c in
+    let a = here .start .args in
     let t = a .pending .now in
-    let n = c .before .before .before .before .before .min-usize .result in
-    let l = c .before .before .before .before .loop in
-    let h = c .before .pending-has in (
+    let n = here .min-usize .result in
+    let l = here .loop in
+    let h = here .pending-has in (
       omega arith,
       l .inv .1,
       omega (arith, cond-le (h .result)),
-      held-count-next clearPending n t noPending (l .i) (omega arith) (omega arith) (pendingHas (a .question)) (count (pendingHas (a .question)) (held clearPending n t)) (l .counted) (c .one-more .result)
-          (c .one-more .ensures ∙ ap (λ (b : Bool). l .counted + cond b 1 0) (h .ensures)) (l .inv .3),
+      held-count-next clearPending n t noPending (l .i) (omega arith) (omega arith) (pendingHas (a .question)) (count (pendingHas (a .question)) (held clearPending n t)) (l .counted) (here .one-more .result)
+          (here .one-more .ensures ∙ ap (λ (b : Bool). l .counted + cond b 1 0) (h .ensures)) (l .inv .3),
     )
 
 returns : tie.Need-returns Inv-loop μ-loop
 returns c =
-    let a = c .before .before .before .args in
+    let here = at.returns Inv-loop μ-loop c in
+    let a = here .start .args in
     let t = a .pending .now in
-    let n = c .before .before .min-usize .result in
-    let l = c .before .loop in
-    let seen = ap (λ (m : ℕ). held clearPending m t) (c .before .before .min-usize .ensures) ∙ held-min clearPending (a .places .pending) t in
-    count-rest clearPending (pendingHas (a .question)) (λ x. pending-unmarked (a .question) x ∙ c .before .before .before .pre) n t (l .i) (l .counted) (count (pendingHas (a .question)) (held clearPending n t)) (λ h. omega arith) (l .inv .3)
+    let n = here .min-usize .result in
+    let l = here .loop in
+    let seen = ap (λ (m : ℕ). held clearPending m t) (here .min-usize .ensures) ∙ held-min clearPending (a .places .pending) t in
+    count-rest clearPending (pendingHas (a .question)) (λ x. pending-unmarked (a .question) x ∙ here .start .pre) n t (l .i) (l .counted) (count (pendingHas (a .question)) (held clearPending n t)) (λ h. omega arith) (l .inv .3)
     ∙ ap (count (pendingHas (a .question))) seen
 
 pub count-pending-spec : {M : Type 1} → statement M

@@ -1,5 +1,6 @@
 -- `find_pending` meets its contract: the first `i` records have not what is asked, and past the number no record is marked.
 mod Tie
+mod At
 use mathlib.Core.Path.{_≡_, sym, ap, _∙_}
 use mathlib.Core.Bool.{Bool, cond}
 use Prim.Native.Nat.{ℕ, _+_, _-_, _≤_}
@@ -15,6 +16,7 @@ use Rattle.hnsr_circuit.specs.Laws.HeldTables.{pending-unmarked}
 use Rattle.hnsr_circuit.specs.Laws.Held.{held-min, find-rest, held-find-next, held-find-here}
 use Rattle.hnsr_circuit.proofs.tables.pending.find_pending.Statement.{statement}
 use Rattle.hnsr_circuit.proofs.tables.pending.find_pending.Proof.Tie as tie
+use Rattle.hnsr_circuit.proofs.tables.pending.find_pending.Proof.At as at
 
 abbrev Inv-loop : tie.InvT-loop
 Inv-loop pending question size₀ end₀ unused₀ i₀ i = (i ≤ end₀) × (end₀ ≤ length pending) × (i + placeOf (pendingHas question) (drop i (held clearPending end₀ pending)) ≡ placeOf (pendingHas question) (held clearPending end₀ pending))
@@ -29,7 +31,9 @@ asks-unused-requires : tie.Need-asks-unused-requires Inv-loop μ-loop
 asks-unused-requires c = search needs
 
 loop-holds : tie.Need-loop-holds Inv-loop μ-loop
-loop-holds c = (omega arith, omega arith, zero-add (placeOf (pendingHas (c .before .before .args .question)) (held clearPending (c .before .min-usize .result) (c .before .before .args .pending .now))))
+loop-holds c =
+    let here = at.loop-holds Inv-loop μ-loop c in
+    (omega arith, omega arith, zero-add (placeOf (pendingHas (here .start .args .question)) (held clearPending (here .min-usize .result) (here .start .args .pending .now))))
 
 mul-row : tie.Need-mul-row Inv-loop μ-loop
 mul-row c = search needs
@@ -58,24 +62,26 @@ loop-less c = search needs
 
 loop-again : tie.Need-loop-again Inv-loop μ-loop
 loop-again c =
-    let a = c .before .before .before .before .before .before .before .args in
+    let here = at.loop-again Inv-loop μ-loop c in
+    let a = here .start .args in
     let t = a .pending .now in
-    let n = c .before .before .before .before .before .before .min-usize .result in
-    let l = c .before .before .before .before .loop in
-    (omega arith, l .inv .1, held-find-next clearPending n t noPending (l .i) (omega arith) (omega arith) (pendingHas (a .question)) (placeOf (pendingHas (a .question)) (held clearPending n t)) (sym (c .before .pending-has .ensures) ∙ c .if1 .left) (l .inv .2))
+    let n = here .min-usize .result in
+    let l = here .loop in
+    (omega arith, l .inv .1, held-find-next clearPending n t noPending (l .i) (omega arith) (omega arith) (pendingHas (a .question)) (placeOf (pendingHas (a .question)) (held clearPending n t)) (sym (here .pending-has .ensures) ∙ here .if1 .left) (l .inv .2))
 
 or-else-requires : tie.Need-or-else-requires Inv-loop μ-loop
 or-else-requires c = search needs
 
 returns-2 : tie.Need-returns-2 Inv-loop μ-loop
 returns-2 c =
-    let a = c .before .before .before .before .before .args in
+    let here = at.returns-2 Inv-loop μ-loop c in
+    let a = here .start .args in
     let t = a .pending .now in
-    let n = c .before .before .before .before .min-usize .result in
-    let l = c .before .before .loop in
-    let seen = ap (λ (m : ℕ). held clearPending m t) (c .before .before .before .before .min-usize .ensures) ∙ held-min clearPending (a .places .pending) t in
-    c .or-else .ensures
-    ∙ ap (λ (b : Bool). cond b (l .i) (length t)) (c .before .before .before .asks-unused .ensures)
+    let n = here .min-usize .result in
+    let l = here .loop in
+    let seen = ap (λ (m : ℕ). held clearPending m t) (here .min-usize .ensures) ∙ held-min clearPending (a .places .pending) t in
+    here .or-else .ensures
+    ∙ ap (λ (b : Bool). cond b (l .i) (length t)) (here .asks-unused .ensures)
     ∙ find-rest clearPending (pendingHas (a .question)) (asksUnused (a .question .ask)) (pending-unmarked (a .question)) n t (l .i) (placeOf (pendingHas (a .question)) (held clearPending n t)) (λ h. omega arith) (omega arith) (l .inv .2)
     ∙ ap (placeOf (pendingHas (a .question))) seen
 

@@ -1,5 +1,6 @@
 -- `find_pending_id` meets its contract: the first `i` records have another id, and past the number no record is marked.
 mod Tie
+mod At
 use mathlib.Core.Path.{_≡_, refl, sym, ap, _∙_}
 use mathlib.Core.Bool.{false}
 use Prim.Native.Nat.{ℕ, _+_, _-_, _≤_}
@@ -13,6 +14,7 @@ use Rattle.hnsr_circuit.specs.Code.Held.{held}
 use Rattle.hnsr_circuit.specs.Laws.Held.{held-min, find-rest, held-find-next, held-find-here}
 use Rattle.hnsr_circuit.proofs.tables.pending.find_pending_id.Statement.{statement}
 use Rattle.hnsr_circuit.proofs.tables.pending.find_pending_id.Proof.Tie as tie
+use Rattle.hnsr_circuit.proofs.tables.pending.find_pending_id.Proof.At as at
 
 abbrev Inv-loop : tie.InvT-loop
 Inv-loop pending id size₀ end₀ i₀ i = (i ≤ end₀) × (end₀ ≤ length pending) × (i + placeOf (pendingAt id) (drop i (held clearPending end₀ pending)) ≡ placeOf (pendingAt id) (held clearPending end₀ pending))
@@ -53,20 +55,22 @@ loop-less c = search needs
 
 loop-again : tie.Need-loop-again Inv-loop μ-loop
 loop-again c =
-    let a = c .before .before .before .before .before .before .args in
+    let here = at.loop-again Inv-loop μ-loop c in
+    let a = here .start .args in
     let t = a .pending .now in
-    let n = c .before .before .before .before .before .min-usize .result in
-    let l = c .before .before .before .before .loop in
-    (omega arith, l .inv .1, held-find-next clearPending n t noPending (l .i) (omega arith) (omega arith) (pendingAt (a .id)) (placeOf (pendingAt (a .id)) (held clearPending n t)) (sym (c .before .pending-is .ensures) ∙ c .if1 .left) (l .inv .2))
+    let n = here .min-usize .result in
+    let l = here .loop in
+    (omega arith, l .inv .1, held-find-next clearPending n t noPending (l .i) (omega arith) (omega arith) (pendingAt (a .id)) (placeOf (pendingAt (a .id)) (held clearPending n t)) (sym (here .pending-is .ensures) ∙ here .if1 .left) (l .inv .2))
 
 returns-2 : tie.Need-returns-2 Inv-loop μ-loop
 unfolding pendingAt
 returns-2 c =
-    let a = c .before .before .before .args in
+    let here = at.returns-2 Inv-loop μ-loop c in
+    let a = here .start .args in
     let t = a .pending .now in
-    let n = c .before .before .min-usize .result in
-    let l = c .before .loop in
-    let seen = ap (λ (m : ℕ). held clearPending m t) (c .before .before .min-usize .ensures) ∙ held-min clearPending (a .places .pending) t in
+    let n = here .min-usize .result in
+    let l = here .loop in
+    let seen = ap (λ (m : ℕ). held clearPending m t) (here .min-usize .ensures) ∙ held-min clearPending (a .places .pending) t in
     find-rest clearPending (pendingAt (a .id)) false (λ x. refl) n t (l .i) (placeOf (pendingAt (a .id)) (held clearPending n t)) (λ h. omega arith) (omega arith) (l .inv .2)
     ∙ ap (placeOf (pendingAt (a .id))) seen
 

@@ -1,5 +1,6 @@
 -- `next_pending` meets its contract: what is left of the turn, from the best so far, gives the whole; past the number no record is offered.
 mod Tie
+mod At
 use mathlib.Core.Path.{_≡_, ap, _∙_}
 use mathlib.Core.List.{List}
 use Prim.Native.Nat.{ℕ, _-_, _≤_}
@@ -17,6 +18,7 @@ use Rattle.hnsr_circuit.specs.Laws.Held.{held-min, fold-rest, held-fold-
 use Rattle.hnsr_circuit.specs.declared.records.RelayPending.{RelayPending}
 use Rattle.hnsr_circuit.proofs.tables.pending.next_pending.Statement.{statement}
 use Rattle.hnsr_circuit.proofs.tables.pending.next_pending.Proof.Tie as tie
+use Rattle.hnsr_circuit.proofs.tables.pending.next_pending.Proof.At as at
 
 abbrev Inv-loop : tie.InvT-loop
 Inv-loop pending question cursor size₀ end₀ best₀ i₀ best i = (i ≤ end₀) × (end₀ ≤ length pending) × (foldFrom (nextTurn pendingId (pendingHas question) cursor) (drop i (held clearPending end₀ pending)) i best ≡ (next pendingId (pendingHas question) cursor (held clearPending end₀ pending)))
@@ -33,9 +35,10 @@ not-yet-requires c = search needs
 loop-holds : tie.Need-loop-holds Inv-loop μ-loop
 unfolding next
 loop-holds c =
-    let a = c .before .before .args in
-    let t = held clearPending (c .before .min-usize .result) (a .pending .now) in
-    (omega arith, omega arith, ap (λ (b : Walked). foldFrom (nextTurn pendingId (pendingHas (a .question)) (a .cursor)) t 0 b) (c .not-yet .ensures))
+    let here = at.loop-holds Inv-loop μ-loop c in
+    let a = here .start .args in
+    let t = held clearPending (here .min-usize .result) (a .pending .now) in
+    (omega arith, omega arith, ap (λ (b : Walked). foldFrom (nextTurn pendingId (pendingHas (a .question)) (a .cursor)) t 0 b) (here .not-yet .ensures))
 
 mul-row : tie.Need-mul-row Inv-loop μ-loop
 mul-row c = search needs
@@ -54,23 +57,25 @@ loop-less c = search needs
 
 loop-again : tie.Need-loop-again Inv-loop μ-loop
 loop-again c =
-    let a = c .before .before .before .before .before .before .args in
+    let here = at.loop-again Inv-loop μ-loop c in
+    let a = here .start .args in
     let t = a .pending .now in
-    let n = c .before .before .before .before .before .min-usize .result in
-    let l = c .before .before .before .loop in (
+    let n = here .min-usize .result in
+    let l = here .loop in (
       omega arith,
       l .inv .1,
-      held-fold-step clearPending n t noPending (l .i) (omega arith) (omega arith) (nextTurn pendingId (pendingHas (a .question)) (a .cursor)) (l .best) (c .pending-turn .result) (next pendingId (pendingHas (a .question)) (a .cursor) (held clearPending n t)) (c .pending-turn .ensures) (l .inv .2),
+      held-fold-step clearPending n t noPending (l .i) (omega arith) (omega arith) (nextTurn pendingId (pendingHas (a .question)) (a .cursor)) (l .best) (here .pending-turn .result) (next pendingId (pendingHas (a .question)) (a .cursor) (held clearPending n t)) (here .pending-turn .ensures) (l .inv .2),
     )
 
 returns : tie.Need-returns Inv-loop μ-loop
 returns c =
-    let a = c .before .before .before .before .args in
+    let here = at.returns Inv-loop μ-loop c in
+    let a = here .start .args in
     let t = a .pending .now in
-    let n = c .before .before .before .min-usize .result in
-    let l = c .before .loop in
-    fold-rest clearPending (nextTurn pendingId (pendingHas (a .question)) (a .cursor)) (next-idle clearPending pendingId (pendingHas (a .question)) (λ x. pending-unmarked (a .question) x ∙ c .before .before .before .before .pre) (a .cursor)) n t (l .i) (l .best) (next pendingId (pendingHas (a .question)) (a .cursor) (held clearPending n t)) (λ h. omega arith) (l .inv .2)
-    ∙ ap (λ (s : List RelayPending). (next pendingId (pendingHas (a .question)) (a .cursor) s)) (ap (λ (m : ℕ). held clearPending m t) (c .before .before .before .min-usize .ensures) ∙ held-min clearPending (a .places .pending) t)
+    let n = here .min-usize .result in
+    let l = here .loop in
+    fold-rest clearPending (nextTurn pendingId (pendingHas (a .question)) (a .cursor)) (next-idle clearPending pendingId (pendingHas (a .question)) (λ x. pending-unmarked (a .question) x ∙ here .start .pre) (a .cursor)) n t (l .i) (l .best) (next pendingId (pendingHas (a .question)) (a .cursor) (held clearPending n t)) (λ h. omega arith) (l .inv .2)
+    ∙ ap (λ (s : List RelayPending). (next pendingId (pendingHas (a .question)) (a .cursor) s)) (ap (λ (m : ℕ). held clearPending m t) (here .min-usize .ensures) ∙ held-min clearPending (a .places .pending) t)
 
 pub next-pending-spec : {M : Type 1} → statement M
 next-pending-spec = tie.close (tie.spec Inv-loop μ-loop min-usize-requires not-yet-requires loop-holds mul-row shared-slice-copy-out-row pending-turn-requires add-i loop-less loop-again returns)

@@ -1,5 +1,6 @@
 -- `pending_work` meets its contract: what is left of the work, from what is counted so far, is the whole work; past the number there is none.
 mod Tie
+mod At
 use mathlib.Core.Path.{_≡_, ap, _∙_}
 use mathlib.Core.List.{List}
 use Prim.Native.Nat.{ℕ, _-_, _≤_}
@@ -18,6 +19,7 @@ use Rattle.hnsr_circuit.specs.Laws.Held.{held-min, fold-rest, held-fold-
 use Rattle.hnsr_circuit.specs.declared.records.RelayPending.{RelayPending}
 use Rattle.hnsr_circuit.proofs.tables.pending.pending_work.Statement.{statement}
 use Rattle.hnsr_circuit.proofs.tables.pending.pending_work.Proof.Tie as tie
+use Rattle.hnsr_circuit.proofs.tables.pending.pending_work.Proof.At as at
 
 abbrev Inv-loop : tie.InvT-loop
 Inv-loop pending question size₀ end₀ work₀ i₀ work i = (i ≤ end₀) × (end₀ ≤ length pending) × (WorkAtMost i work) × (foldFrom (pendingWorked question) (drop i (held clearPending end₀ pending)) i work ≡ (pendingWork question (held clearPending end₀ pending)))
@@ -33,9 +35,10 @@ no-work-requires c = search needs
 
 loop-holds : tie.Need-loop-holds Inv-loop μ-loop
 loop-holds c =
-    let a = c .before .before .args in
-    let t = held clearPending (c .before .min-usize .result) (a .pending .now) in
-    (omega arith, omega arith, rw (c .no-work .ensures) (work-none), ap (λ (b : Work). foldFrom (pendingWorked (a .question)) t 0 b) (c .no-work .ensures) ∙ pending-work (a .question) t)
+    let here = at.loop-holds Inv-loop μ-loop c in
+    let a = here .start .args in
+    let t = held clearPending (here .min-usize .result) (a .pending .now) in
+    (omega arith, omega arith, rw (here .no-work .ensures) (work-none), ap (λ (b : Work). foldFrom (pendingWorked (a .question)) t 0 b) (here .no-work .ensures) ∙ pending-work (a .question) t)
 
 mul-row : tie.Need-mul-row Inv-loop μ-loop
 mul-row c = search needs
@@ -44,7 +47,9 @@ shared-slice-copy-out-row : tie.Need-shared-slice-copy-out-row Inv-loop μ-loop
 shared-slice-copy-out-row c = search needs
 
 pending-worked-requires : tie.Need-pending-worked-requires Inv-loop μ-loop
-pending-worked-requires c = λ κs. work-more (c .before .before .loop .i) 18446744073709551614 (c .before .before .loop .work) (omega arith) (c .before .before .loop .inv .2)
+pending-worked-requires c =
+    let here = at.pending-worked-requires Inv-loop μ-loop c in
+    λ κs. work-more (here .loop .i) 18446744073709551614 (here .loop .work) (omega arith) (here .loop .inv .2)
 
 add-i : tie.Need-add-i Inv-loop μ-loop
 add-i c = search needs
@@ -54,24 +59,26 @@ loop-less c = search needs
 
 loop-again : tie.Need-loop-again Inv-loop μ-loop
 loop-again c =
-    let a = c .before .before .before .before .before .before .args in
+    let here = at.loop-again Inv-loop μ-loop c in
+    let a = here .start .args in
     let t = a .pending .now in
-    let n = c .before .before .before .before .before .min-usize .result in
-    let l = c .before .before .before .loop in (
+    let n = here .min-usize .result in
+    let l = here .loop in (
       omega arith,
       l .inv .1,
-      rw (c .pending-worked .ensures) (pending-most (a .question) (l .i) (l .work) (getD t (l .i) noPending) 0 (l .inv .2)),
-      held-fold-step clearPending n t noPending (l .i) (omega arith) (omega arith) (pendingWorked (a .question)) (l .work) (c .pending-worked .result) (pendingWork (a .question) (held clearPending n t)) (c .pending-worked .ensures) (l .inv .3),
+      rw (here .pending-worked .ensures) (pending-most (a .question) (l .i) (l .work) (getD t (l .i) noPending) 0 (l .inv .2)),
+      held-fold-step clearPending n t noPending (l .i) (omega arith) (omega arith) (pendingWorked (a .question)) (l .work) (here .pending-worked .result) (pendingWork (a .question) (held clearPending n t)) (here .pending-worked .ensures) (l .inv .3),
     )
 
 returns : tie.Need-returns Inv-loop μ-loop
 returns c =
-    let a = c .before .before .before .before .args in
+    let here = at.returns Inv-loop μ-loop c in
+    let a = here .start .args in
     let t = a .pending .now in
-    let n = c .before .before .before .min-usize .result in
-    let l = c .before .loop in
+    let n = here .min-usize .result in
+    let l = here .loop in
     fold-rest clearPending (pendingWorked (a .question)) (pending-idle (a .question)) n t (l .i) (l .work) (pendingWork (a .question) (held clearPending n t)) (λ h. omega arith) (l .inv .3)
-    ∙ ap (λ (s : List RelayPending). (pendingWork (a .question) s)) (ap (λ (m : ℕ). held clearPending m t) (c .before .before .before .min-usize .ensures) ∙ held-min clearPending (a .places .pending) t)
+    ∙ ap (λ (s : List RelayPending). (pendingWork (a .question) s)) (ap (λ (m : ℕ). held clearPending m t) (here .min-usize .ensures) ∙ held-min clearPending (a .places .pending) t)
 
 pub pending-work-spec : {M : Type 1} → statement M
 pending-work-spec = tie.close (tie.spec Inv-loop μ-loop min-usize-requires no-work-requires loop-holds mul-row shared-slice-copy-out-row pending-worked-requires add-i loop-less loop-again returns)

@@ -1,42 +1,38 @@
 -- `set_pending` meets its contract: a store past the end stores nothing.
 mod Tie
+mod At
 use Prim.Native.Nat.{_<_}
 use lib.ListN.{length, set}
 use Rattle.hnsr_circuit.specs.Laws.Scans.{stores-inside, stored, unstored}
 use borrow.Author.Needs.{needs}
 use Rattle.hnsr_circuit.proofs.tables.pending.set_pending.Statement.{statement}
 use Rattle.hnsr_circuit.proofs.tables.pending.set_pending.Proof.Tie as tie
-
-within-requires : tie.Need-within-requires
-within-requires c = search needs
+use Rattle.hnsr_circuit.proofs.tables.pending.set_pending.Proof.At as at
 
 mul-row : tie.Need-mul-row
 mul-row c =
-    let w = c .before in
-    let a = w .before .args in
-    let l : a .place < length (a .pending .now) = stores-inside (a .pending .now) (a .go) (w .within .result) (a .place) (w .within .ensures) (c .if1 .taken) in
+    let here = at.mul-row c in
+    let a = here .start .args in
+    let l : a .place < length (a .pending .now) = stores-inside (a .pending .now) (a .go) (here .within .result) (a .place) (here .within .ensures) (here .if1 .taken) in
     search needs
 
 slice-set-from-row : tie.Need-slice-set-from-row
 slice-set-from-row c =
-    let w = c .before in
-    let a = w .before .args in
-    stores-inside (a .pending .now) (a .go) (w .within .result) (a .place) (w .within .ensures) (c .if1 .taken)
-
-same-length : tie.Need-same-length
-same-length c = search needs
+    let here = at.slice-set-from-row c in
+    let a = here .start .args in
+    stores-inside (a .pending .now) (a .go) (here .within .result) (a .place) (here .within .ensures) (here .if1 .taken)
 
 returns : tie.Need-returns
 returns c =
-    let w = c .before in
-    let a = w .before .args in
-    stored (a .pending .now) (a .go) (w .within .result) (a .place) (w .within .ensures) (set (a .pending .now) (a .place) (a .row)) (c .if1 .taken)
+    let here = at.returns c in
+    let a = here .start .args in
+    stored (a .pending .now) (a .go) (here .within .result) (a .place) (here .within .ensures) (set (a .pending .now) (a .place) (a .row)) (here .if1 .taken)
 
 returns-2 : tie.Need-returns-2
 returns-2 c =
-    let w = c .before in
-    let a = w .before .args in
-    unstored (a .pending .now) (a .go) (w .within .result) (a .place) (w .within .ensures) (a .row) (c .if1 .left)
+    let here = at.returns-2 c in
+    let a = here .start .args in
+    unstored (a .pending .now) (a .go) (here .within .result) (a .place) (here .within .ensures) (a .row) (here .if1 .left)
 
 pub set-pending-spec : {M : Type 1} → statement M
-set-pending-spec = tie.close (tie.spec within-requires mul-row slice-set-from-row same-length returns returns-2)
+set-pending-spec = tie.close (at.spec mul-row slice-set-from-row returns returns-2)

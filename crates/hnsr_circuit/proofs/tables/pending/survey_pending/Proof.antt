@@ -1,6 +1,7 @@
 -- `survey_pending` meets its contract: what is left of the count and of the turn, with what is found so far, gives the whole; past the number no
 -- record is marked.
 mod Tie
+mod At
 use Prim.Native.Nat.{ℕ, _+_, _-_, _≤_}
 use native.Mathlib.Nat.{zero-add}
 use mathlib.Core.Path.{_≡_, refl, ap, _∙_}
@@ -20,6 +21,7 @@ use native.Mathlib.Omega.{arith}
 use borrow.Author.Needs.{needs}
 use Rattle.hnsr_circuit.proofs.tables.pending.survey_pending.Statement.{statement}
 use Rattle.hnsr_circuit.proofs.tables.pending.survey_pending.Proof.Tie as tie
+use Rattle.hnsr_circuit.proofs.tables.pending.survey_pending.Proof.At as at
 
 abbrev Inv-loop : tie.InvT-loop
 Inv-loop pending question size₀ end₀ start₀ used₀ first₀ i₀ used first i =
@@ -38,9 +40,10 @@ not-yet-requires c = search needs
 loop-holds : tie.Need-loop-holds Inv-loop μ-loop
 unfolding next
 loop-holds c =
-    let a = c .before .before .args in
-    let t = held clearPending (c .before .min-usize .result) (a .pending .now) in
-    (omega arith, omega arith, omega arith, zero-add (count isPending t), ap (λ (b : Walked). foldFrom (nextTurn pendingId (pendingHas (a .question)) (c .not-yet .result)) t 0 b) (c .not-yet .ensures))
+    let here = at.loop-holds Inv-loop μ-loop c in
+    let a = here .start .args in
+    let t = held clearPending (here .min-usize .result) (a .pending .now) in
+    (omega arith, omega arith, omega arith, zero-add (count isPending t), ap (λ (b : Walked). foldFrom (nextTurn pendingId (pendingHas (a .question)) (here .not-yet .result)) t 0 b) (here .not-yet .ensures))
 
 mul-row : tie.Need-mul-row Inv-loop μ-loop
 mul-row c = search needs
@@ -65,19 +68,20 @@ loop-less c = search needs
 
 loop-again : tie.Need-loop-again Inv-loop μ-loop
 loop-again c =
-    let a = c .before .before .before .before .before .before .before .before .args in
+    let here = at.loop-again Inv-loop μ-loop c in
+    let a = here .start .args in
     let t = a .pending .now in
-    let n = c .before .before .before .before .before .before .before .min-usize .result in
-    let l = c .before .before .before .before .before .loop in
-    let h = c .before .before .is-pending in
-    let start = c .before .before .before .before .before .before .not-yet .result in (
+    let n = here .min-usize .result in
+    let l = here .loop in
+    let h = here .is-pending in
+    let start = here .not-yet .result in (
       omega arith,
       l .inv .1,
       omega (arith, cond-le (h .result)),
-      held-count-next clearPending n t noPending (l .i) (omega arith) (omega arith) isPending (count isPending (held clearPending n t)) (l .used) (c .before .one-more .result)
-          (c .before .one-more .ensures ∙ ap (λ (b : Bool). l .used + cond b 1 0) (h .ensures)) (l .inv .3),
-      held-fold-step clearPending n t noPending (l .i) (omega arith) (omega arith) (nextTurn pendingId (pendingHas (a .question)) start) (l .first) (c .pending-turn .result)
-          (next pendingId (pendingHas (a .question)) start (held clearPending n t)) (c .pending-turn .ensures) (l .inv .4),
+      held-count-next clearPending n t noPending (l .i) (omega arith) (omega arith) isPending (count isPending (held clearPending n t)) (l .used) (here .one-more .result)
+          (here .one-more .ensures ∙ ap (λ (b : Bool). l .used + cond b 1 0) (h .ensures)) (l .inv .3),
+      held-fold-step clearPending n t noPending (l .i) (omega arith) (omega arith) (nextTurn pendingId (pendingHas (a .question)) start) (l .first) (here .pending-turn .result)
+          (next pendingId (pendingHas (a .question)) start (held clearPending n t)) (here .pending-turn .ensures) (l .inv .4),
     )
 
 surveyed-requires : tie.Need-surveyed-requires Inv-loop μ-loop
@@ -86,17 +90,18 @@ surveyed-requires c = search needs
 returns : tie.Need-returns Inv-loop μ-loop
 unfolding isPending
 returns c =
-    let a = c .before .before .before .before .before .args in
+    let here = at.returns Inv-loop μ-loop c in
+    let a = here .start .args in
     let t = a .pending .now in
-    let n = c .before .before .before .before .min-usize .result in
-    let l = c .before .before .loop in
+    let n = here .min-usize .result in
+    let l = here .loop in
     let q = pendingHas (a .question) in
-    let start = c .before .before .before .not-yet .result in
-    let seen = ap (λ (m : ℕ). held clearPending m t) (c .before .before .before .before .min-usize .ensures) ∙ held-min clearPending (a .places .pending) t in (
-      c .surveyed .ensures .0 ∙ count-rest clearPending isPending (λ x. refl) n t (l .i) (l .used) (count isPending (held clearPending n t)) (λ h. omega arith) (l .inv .3) ∙ ap (count isPending) seen,
-      c .surveyed .ensures .1
-          ∙ fold-rest clearPending (nextTurn pendingId q start) (next-idle clearPending pendingId q (λ x. pending-unmarked (a .question) x ∙ c .before .before .before .before .before .pre) start) n t (l .i) (l .first) (next pendingId q start (held clearPending n t)) (λ h. omega arith) (l .inv .4)
-          ∙ (λ x. next pendingId q (c .before .before .before .not-yet .ensures x) (seen x)),
+    let start = here .not-yet .result in
+    let seen = ap (λ (m : ℕ). held clearPending m t) (here .min-usize .ensures) ∙ held-min clearPending (a .places .pending) t in (
+      here .surveyed .ensures .0 ∙ count-rest clearPending isPending (λ x. refl) n t (l .i) (l .used) (count isPending (held clearPending n t)) (λ h. omega arith) (l .inv .3) ∙ ap (count isPending) seen,
+      here .surveyed .ensures .1
+          ∙ fold-rest clearPending (nextTurn pendingId q start) (next-idle clearPending pendingId q (λ x. pending-unmarked (a .question) x ∙ here .start .pre) start) n t (l .i) (l .first) (next pendingId q start (held clearPending n t)) (λ h. omega arith) (l .inv .4)
+          ∙ (λ x. next pendingId q (here .not-yet .ensures x) (seen x)),
     )
 
 pub survey-pending-spec : {M : Type 1} → statement M

@@ -13,14 +13,14 @@ use crate::script::packet;
 use crate::script::script_of;
 use hns_encoding::encoder::Encoder;
 use hns_encoding::numbers::min_usize;
-use hnsr_circuit::acknowledge::acknowledge;
-use hnsr_circuit::calls::new;
-use hnsr_circuit::handle::handle;
+use hnsr_circuit::calls::acknowledge::acknowledge;
+use hnsr_circuit::calls::handle::handle;
+use hnsr_circuit::calls::silent::new;
 use hnsr_circuit::records::InflightAction;
 use hnsr_circuit::records::RelayCircuit;
-use hnsr_circuit::records::RelayPacket;
 use hnsr_circuit::records::RelayPending;
 use hnsr_circuit::records::ReservationUsage;
+use hnsr_circuit::runtime::RelayPacket;
 use hnsr_circuit::runtime::Relayed;
 use libc::STDOUT_FILENO;
 

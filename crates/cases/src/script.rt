@@ -8,10 +8,10 @@ use hnsr_circuit::peer::HnsrPeerId;
 use hnsr_circuit::peer::MAXIMUM_PEER;
 use hnsr_circuit::records::InflightAction;
 use hnsr_circuit::records::RelayCircuit;
-use hnsr_circuit::records::RelayPacket;
 use hnsr_circuit::records::RelayPending;
 use hnsr_circuit::records::RelayTicket;
 use hnsr_circuit::records::ReservationUsage;
+use hnsr_circuit::runtime::RelayPacket;
 
 pub(crate) const OPEN: u8 = 13;
 

@@ -5,7 +5,7 @@ use mathlib.Core.List.{List, [], _∷_}
 use lib.Dec.{eqb, leb}
 use lib.ListN.{length, take, drop}
 use Rattle.hns_encoding.specs.Bytes.{be}
-use Rattle.hnsr_circuit.specs.declared.records.Drawing.{Drawing}
+use Rattle.hnsr_circuit.specs.declared.messages.draw.Drawing.{Drawing}
 use Rattle.hnsr_circuit.specs.declared.answer.HnsrAnswer.{HnsrAnswer}
 use Rattle.hnsr_circuit.specs.declared.answer.HnsrRuntimeError.the-variants.{Randomness}
 use Rattle.hnsr_circuit.specs.Table.{any}

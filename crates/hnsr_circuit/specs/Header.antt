@@ -30,34 +30,42 @@ abbrev pub countRevoked : RuntimeCounters → RuntimeCounters
 countRevoked c = counters (c .«admitted_opens») (c .«opened_circuits») (c .«bytes_sent») (c .«bytes_received») (saturatingAdd 64 (c .«revoked_work») 1)
 
 -- ---- the header
-abbrev pub header : (session : List ℕ) → (generation : ℕ) → (enabled : Bool) → (clock : ℕ) → OpaqueRelayConfig → (next : ℕ) → RuntimeCounters
-    → OpaqueRelayRuntime
-header session generation enabled clock config next counts = record {
+-- what `new` makes
+abbrev pub newHeader : (session : List ℕ) → (generation : ℕ) → OpaqueRelayConfig → (now : ℕ) → OpaqueRelayRuntime
+newHeader session generation config now = record {
   session = session;
+  generation = generation;
+  enabled = true;
+  «trusted_time_high_water» = now;
+  config = config;
+  «next_action_sequence» = 1;
+  counters = noCounts;
+}
+
+-- what calls change, replaced
+abbrev pub headerWith : OpaqueRelayRuntime → (generation : ℕ) → (enabled : Bool) → (clock next : ℕ) → RuntimeCounters → OpaqueRelayRuntime
+headerWith h generation enabled clock next counts = record {
+  session = h .session;
   generation = generation;
   enabled = enabled;
   «trusted_time_high_water» = clock;
-  config = config;
+  config = h .config;
   «next_action_sequence» = next;
   counters = counts;
 }
 
 abbrev pub withClock : OpaqueRelayRuntime → (now : ℕ) → OpaqueRelayRuntime
-withClock h now = header (h .session) (h .generation) (h .enabled) now (h .config) (h .«next_action_sequence») (h .counters)
+withClock h now = headerWith h (h .generation) (h .enabled) now (h .«next_action_sequence») (h .counters)
 
 abbrev pub withSequence : OpaqueRelayRuntime → (next : ℕ) → OpaqueRelayRuntime
-withSequence h next = header (h .session) (h .generation) (h .enabled) (h .«trusted_time_high_water») (h .config) next (h .counters)
+withSequence h next = headerWith h (h .generation) (h .enabled) (h .«trusted_time_high_water») next (h .counters)
 
 abbrev pub withCounters : OpaqueRelayRuntime → RuntimeCounters → OpaqueRelayRuntime
-withCounters h c = header (h .session) (h .generation) (h .enabled) (h .«trusted_time_high_water») (h .config) (h .«next_action_sequence») c
+withCounters h c = headerWith h (h .generation) (h .enabled) (h .«trusted_time_high_water») (h .«next_action_sequence») c
 
 -- a changed enabled state raises the generation and sets the sequence to 1
 abbrev pub withEnabled : OpaqueRelayRuntime → Bool → OpaqueRelayRuntime
-withEnabled h on = header (h .session) (h .generation + 1) on (h .«trusted_time_high_water») (h .config) 1 (h .counters)
-
--- what `new` makes
-abbrev pub newHeader : (session : List ℕ) → (generation : ℕ) → OpaqueRelayConfig → (now : ℕ) → OpaqueRelayRuntime
-newHeader session generation config now = header session generation true now config 1 noCounts
+withEnabled h on = headerWith h (h .generation + 1) on (h .«trusted_time_high_water») 1 (h .counters)
 
 -- what a refused `new` hands back: zeros, and off
 abbrev pub noConfig : OpaqueRelayConfig
@@ -74,4 +82,4 @@ noConfig = record {
 }
 
 abbrev pub noHeader : OpaqueRelayRuntime
-noHeader = header (replicate 16 0) 0 false 0 noConfig 0 noCounts
+noHeader = headerWith (newHeader (replicate 16 0) 0 noConfig 0) 0 false 0 0 noCounts

@@ -6,7 +6,7 @@ use lib.Dec.{eqb}
 use Rattle.hnsr_circuit.specs.declared.peer.HnsrPeerId.{HnsrPeerId}
 use Rattle.hnsr_circuit.specs.declared.config.OpaqueRelayConfig.{OpaqueRelayConfig}
 use Rattle.hnsr_circuit.specs.declared.records.InflightAction.{InflightAction}
-use Rattle.hnsr_circuit.specs.declared.records.InflightTally.{InflightTally}
+use Rattle.hnsr_circuit.specs.declared.tables.scan.InflightTally.{InflightTally}
 use Rattle.hnsr_circuit.specs.declared.records.InflightKind.{InflightKind}
 use Rattle.hnsr_circuit.specs.declared.records.InflightKind.the-variants.{Incoming, Opened, Data, Control, Close}
 use Rattle.hnsr_circuit.specs.declared.records.RelaySide.{RelaySide}
@@ -18,9 +18,10 @@ use Rattle.hnsr_circuit.specs.Table.{also, clear}
 use Rattle.hnsr_circuit.specs.Answers.{check}
 use Rattle.hnsr_circuit.specs.Peer.{noPeer, samePeer}
 
-abbrev pub actionRecord : (used : Bool) → (generation sequence circuit : ℕ) → HnsrPeerId → (kind : ℕ) → (toEndpoint : Bool) → (bytes : ℕ) → InflightAction
-actionRecord used generation sequence circuit destination kind toEndpoint bytes = record {
-  used = used;
+-- a record in use; its mark replaced
+abbrev pub actionRecord : (generation sequence circuit : ℕ) → HnsrPeerId → (kind : ℕ) → (toEndpoint : Bool) → (bytes : ℕ) → InflightAction
+actionRecord generation sequence circuit destination kind toEndpoint bytes = record {
+  used = true;
   generation = generation;
   sequence = sequence;
   «circuit_id» = circuit;
@@ -30,9 +31,21 @@ actionRecord used generation sequence circuit destination kind toEndpoint bytes 
   bytes = bytes;
 }
 
+abbrev pub actionMarked : (used : Bool) → InflightAction → InflightAction
+actionMarked used a = record {
+  used = used;
+  generation = a .generation;
+  sequence = a .sequence;
+  «circuit_id» = a .«circuit_id»;
+  destination = a .destination;
+  kind = a .kind;
+  «to_endpoint» = a .«to_endpoint»;
+  bytes = a .bytes;
+}
+
 -- what a table has past its end
 abbrev pub noAction : InflightAction
-noAction = actionRecord false 0 0 0 noPeer 0 false 0
+noAction = actionMarked false (actionRecord 0 0 0 noPeer 0 false 0)
 
 -- ---- kinds: an action's kind is its message's name, but Control for WINDOW and Close for CLOSE and ERROR. A stored kind is a number
 abbrev pub kindNumber : InflightKind → ℕ
@@ -69,9 +82,6 @@ unfoldable pub actionToward : HnsrPeerId → InflightAction → Bool
 actionToward peer a = a .used && samePeer (a .destination) peer
 
 -- ---- changes
-abbrev pub actionMarked : (used : Bool) → InflightAction → InflightAction
-actionMarked used a = actionRecord used (a .generation) (a .sequence) (a .«circuit_id») (a .destination) (a .kind) (a .«to_endpoint») (a .bytes)
-
 abbrev pub clearAction : InflightAction → InflightAction
 clearAction a = actionMarked false a
 

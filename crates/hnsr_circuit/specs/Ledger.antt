@@ -14,12 +14,16 @@ use Rattle.hnsr_circuit.specs.Table.{any, pick, put, clear}
 use Rattle.hnsr_circuit.specs.Answers.{check}
 use Rattle.hnsr_circuit.specs.Pending.{noReservation}
 
-abbrev pub usageRecord : (used : Bool) → (id : ReservationId) → (bytes expires : ℕ) → ReservationUsage
-usageRecord used id bytes expires = record { used = used; «reservation_id» = id; bytes = bytes; «expires_at» = expires }
+-- a record in use of which nothing is spent; its mark and its bytes replaced
+abbrev pub usageFor : ReservationId → (expires : ℕ) → ReservationUsage
+usageFor id expires = record { used = true; «reservation_id» = id; bytes = 0; «expires_at» = expires }
+
+abbrev pub usageWith : ReservationUsage → (used : Bool) → (bytes : ℕ) → ReservationUsage
+usageWith u used bytes = record { used = used; «reservation_id» = u .«reservation_id»; bytes = bytes; «expires_at» = u .«expires_at» }
 
 -- what a table has past its end
 abbrev pub noUsage : ReservationUsage
-noUsage = usageRecord false noReservation 0 0
+noUsage = usageWith (usageFor noReservation 0) false 0
 
 -- ---- questions
 unfoldable pub isUsage : ReservationUsage → Bool
@@ -34,17 +38,17 @@ usageOver now u = u .used && leb (u .«expires_at») now
 
 -- ---- changes
 abbrev pub usageMarked : (used : Bool) → ReservationUsage → ReservationUsage
-usageMarked used u = usageRecord used (u .«reservation_id») (u .bytes) (u .«expires_at»)
+usageMarked used u = usageWith u used (u .bytes)
 
 abbrev pub clearUsage : ReservationUsage → ReservationUsage
 clearUsage u = usageMarked false u
 
 abbrev pub freshUsage : RelayTicket → ReservationUsage
-freshUsage t = usageRecord true (t .«reservation_id») 0 (t .«expires_at»)
+freshUsage t = usageFor (t .«reservation_id») (t .«expires_at»)
 
 -- DATA of n bytes
 abbrev pub spent : ℕ → ReservationUsage → ReservationUsage
-spent n u = usageRecord (u .used) (u .«reservation_id») (saturatingAdd 64 (u .bytes) n) (u .«expires_at»)
+spent n u = usageWith u (u .used) (saturatingAdd 64 (u .bytes) n)
 
 -- ---- the whole table
 -- ledger records with expiry not after now are dropped

@@ -5,8 +5,8 @@ use mathlib.Core.Bool.{Bool, cond}
 use mathlib.Core.List.{List}
 use Rattle.hnsr_circuit.specs.declared.records.RelayPending.{RelayPending}
 use Rattle.hnsr_circuit.specs.declared.records.RelayCircuit.{RelayCircuit}
-use Rattle.hnsr_circuit.specs.declared.records.NextDue.{NextDue}
-use Rattle.hnsr_circuit.specs.declared.records.NextDue.the-variants.{Never, At}
+use Rattle.hnsr_circuit.specs.declared.runtime.NextDue.{NextDue}
+use Rattle.hnsr_circuit.specs.declared.runtime.NextDue.the-variants.{Never, At}
 use Rattle.hns_encoding.specs.Loops.{foldFrom}
 use Rattle.hnsr_circuit.specs.Pending.{isPending}
 use Rattle.hnsr_circuit.specs.Circuits.{isCircuit}

@@ -2,7 +2,7 @@
 -- as found; ledger records past their expiry dropped; the missing ledger record made. Then all is written and INCOMING is queued.
 -- The row "all written, then 1 context all zero" is left out: the entry refuses such a packet.
 use Prim.Native.Nat.{ℕ, _+_, min}
-use mathlib.Core.Bool.{Bool, true, false, not, _||_}
+use mathlib.Core.Bool.{Bool, false, not, _||_}
 use lib.Dec.{ltb, leb}
 use lib.ListN.{length}
 use Rattle.hns_encoding.specs.Numbers.{top}
@@ -71,7 +71,7 @@ pub record Opening : Type 0 where
   pub deadline : ℕ
 
 abbrev pub pendingFor : Opening → RelayPending
-pendingFor o = pendingRecord true (o .id) (o .requester) (o .endpoint) (o .context) (o .ticket) (o .body .«initial_window») (o .deadline)
+pendingFor o = pendingRecord (o .id) (o .requester) (o .endpoint) (o .context) (o .ticket) (o .body .«initial_window») (o .deadline)
 
 -- ticket, profile, nonce and window are the OPEN's
 abbrev pub incomingFor : Opening → IncomingBody

@@ -1,6 +1,6 @@
 -- Pending records: what is asked of one, and what becomes of one. Every question tests the used mark too, and none more than one record.
 use Prim.Native.Nat.{ℕ}
-use mathlib.Core.Bool.{Bool, false, _&&_, _||_}
+use mathlib.Core.Bool.{Bool, true, false, _&&_, _||_}
 use lib.Dec.{eqb, leb}
 use Rattle.hnsr_body.specs.declared.values.ReservationId.{ReservationId}
 use Rattle.hnsr_body.specs.Values.{sameReservation}
@@ -15,9 +15,10 @@ noReservation = record { high = 0; low = 0 }
 abbrev pub noTicket : RelayTicket
 noTicket = record { «reservation_id» = noReservation; «expires_at» = 0; «max_active_circuits» = 0; «max_bytes_per_circuit» = 0; «max_total_bytes» = 0 }
 
-abbrev pub pendingRecord : (used : Bool) → (id : ℕ) → (requester endpoint : HnsrPeerId) → (context : ℕ) → RelayTicket → (window deadline : ℕ) → RelayPending
-pendingRecord used id requester endpoint context ticket window deadline = record {
-  used = used;
+-- a record in use; its mark replaced
+abbrev pub pendingRecord : (id : ℕ) → (requester endpoint : HnsrPeerId) → (context : ℕ) → RelayTicket → (window deadline : ℕ) → RelayPending
+pendingRecord id requester endpoint context ticket window deadline = record {
+  used = true;
   «circuit_id» = id;
   requester = requester;
   endpoint = endpoint;
@@ -27,9 +28,21 @@ pendingRecord used id requester endpoint context ticket window deadline = record
   deadline = deadline;
 }
 
+abbrev pub pendingMarked : (used : Bool) → RelayPending → RelayPending
+pendingMarked used p = record {
+  used = used;
+  «circuit_id» = p .«circuit_id»;
+  requester = p .requester;
+  endpoint = p .endpoint;
+  «requester_context» = p .«requester_context»;
+  ticket = p .ticket;
+  «initial_window» = p .«initial_window»;
+  deadline = p .deadline;
+}
+
 -- what a table has past its end
 abbrev pub noPending : RelayPending
-noPending = pendingRecord false 0 noPeer noPeer 0 noTicket 0 0
+noPending = pendingMarked false (pendingRecord 0 noPeer noPeer 0 noTicket 0 0)
 
 abbrev pub pendingId : RelayPending → ℕ
 pendingId p = p .«circuit_id»
@@ -71,9 +84,5 @@ unfoldable pub pendingOver : (now : ℕ) → RelayPending → Bool
 pendingOver now p = p .used && overdue now p
 
 -- ---- the mark cleared, and nothing else
-abbrev pub pendingMarked : (used : Bool) → RelayPending → RelayPending
-pendingMarked used p =
-    pendingRecord used (p .«circuit_id») (p .requester) (p .endpoint) (p .«requester_context») (p .ticket) (p .«initial_window») (p .deadline)
-
 abbrev pub clearPending : RelayPending → RelayPending
 clearPending p = pendingMarked false p

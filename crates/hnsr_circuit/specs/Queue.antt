@@ -10,7 +10,7 @@ use Rattle.hnsr_body.specs.declared.error.HnsrProtocolError.the-variants.{Inval
 use Rattle.hnsr_circuit.specs.declared.peer.HnsrPeerId.{HnsrPeerId}
 use Rattle.hnsr_circuit.specs.declared.config.OpaqueRelayConfig.{OpaqueRelayConfig}
 use Rattle.hnsr_circuit.specs.declared.records.InflightAction.{InflightAction}
-use Rattle.hnsr_circuit.specs.declared.records.InflightTally.{InflightTally}
+use Rattle.hnsr_circuit.specs.declared.tables.scan.InflightTally.{InflightTally}
 use Rattle.hnsr_circuit.specs.declared.answer.HnsrAnswer.{HnsrAnswer}
 use Rattle.hnsr_circuit.specs.declared.answer.HnsrAnswer.the-variants.{Taken, Refused}
 use Rattle.hnsr_circuit.specs.declared.answer.HnsrRuntimeError.the-variants.{Protocol, GenerationExhausted}
@@ -45,7 +45,7 @@ queueAnswer c t sequence context =
     check (eqb context 0) (Protocol (Invalid ContextZero)) then capacityAnswer c t then check (eqb sequence (top 64)) GenerationExhausted
 
 abbrev pub actionFor : Message → (generation sequence : ℕ) → InflightAction
-actionFor m generation sequence = actionRecord true generation sequence (m .circuit) (m .destination) (kindNumber (m .kind)) (m .toEndpoint) (m .bytes)
+actionFor m generation sequence = actionRecord generation sequence (m .circuit) (m .destination) (kindNumber (m .kind)) (m .toEndpoint) (m .bytes)
 
 abbrev pub routeFor : Message → (generation sequence : ℕ) → Route
 routeFor m generation sequence = record {

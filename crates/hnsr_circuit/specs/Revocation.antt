@@ -9,7 +9,7 @@ use Rattle.hnsr_body.specs.Messages.{noticeBody}
 use Rattle.hnsr_circuit.specs.declared.peer.HnsrPeerId.{HnsrPeerId}
 use Rattle.hnsr_circuit.specs.declared.records.RelayPending.{RelayPending}
 use Rattle.hnsr_circuit.specs.declared.records.RelayCircuit.{RelayCircuit}
-use Rattle.hnsr_circuit.specs.declared.records.Walked.{Walked}
+use Rattle.hnsr_circuit.specs.declared.tables.scan.Walked.{Walked}
 use Rattle.hnsr_circuit.specs.Table.{any, pick, placeOf, edit, notYet, next}
 use Rattle.hnsr_circuit.specs.Pending.{noPending, pendingId, pendingAt, clearPending}
 use Rattle.hnsr_circuit.specs.Circuits.{noCircuit, circuitId, circuitAt, clearCircuit}

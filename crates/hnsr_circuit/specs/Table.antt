@@ -13,7 +13,7 @@ use mathlib.Core.Bool.{Bool, true, false, cond, not, _&&_, _||_}
 use mathlib.Core.List.{List, [], _∷_, map}
 use lib.Dec.{leb, ltb, eqb}
 use lib.ListN.{set}
-use Rattle.hnsr_circuit.specs.declared.records.Walked.{Walked}
+use Rattle.hnsr_circuit.specs.declared.tables.scan.Walked.{Walked}
 use Rattle.hns_encoding.specs.Sums.{non}
 use Rattle.hns_encoding.specs.Loops.{foldFrom}
 

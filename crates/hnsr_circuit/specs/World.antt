@@ -6,7 +6,7 @@ use Rattle.hnsr_circuit.specs.declared.records.RelayPending.{RelayPendin
 use Rattle.hnsr_circuit.specs.declared.records.RelayCircuit.{RelayCircuit}
 use Rattle.hnsr_circuit.specs.declared.records.ReservationUsage.{ReservationUsage}
 use Rattle.hnsr_circuit.specs.declared.records.InflightAction.{InflightAction}
-use Rattle.hnsr_circuit.specs.declared.records.NextDue.{NextDue}
+use Rattle.hnsr_circuit.specs.declared.runtime.NextDue.{NextDue}
 use Rattle.hnsr_circuit.specs.declared.runtime.OpaqueRelayRuntime.{OpaqueRelayRuntime}
 use Rattle.hnsr_circuit.specs.declared.runtime.RuntimeCounters.{RuntimeCounters}
 use Rattle.hnsr_circuit.specs.declared.runtime.HnsrRuntimeStatus.{HnsrRuntimeStatus}

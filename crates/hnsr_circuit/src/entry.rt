@@ -1,6 +1,7 @@
 // The rows "entry" and "clock" of document 01's table.
 ghost use mathlib.Core.Path.{_≡_};
 ghost use Rattle.hnsr_circuit.specs.Entry.{tooFew, peerAnswer, clockAnswer};
+ghost use Rattle.hnsr_circuit.specs.Acknowledge.{generationAnswer};
 use crate::answer::HnsrAnswer;
 use crate::answer::HnsrRuntimeError;
 use crate::answer::check;
@@ -39,4 +40,11 @@ pub(crate) fn clock_answer(high: u64, now: u64) -> HnsrAnswer
     ensures { λ r. ⌜ r ≡ clockAnswer high now ⌝ }
 {
     check(now < high, HnsrRuntimeError::ClockRollback)
+}
+
+// acknowledge and replace_enabled, 5: generation
+pub(crate) fn generation_answer(current: u64, given: u64) -> HnsrAnswer
+    ensures { λ r. ⌜ r ≡ generationAnswer current given ⌝ }
+{
+    check(no(given == current), HnsrRuntimeError::StaleGeneration)
 }

@@ -1,8 +1,27 @@
-// What a host keeps beside the tables, by value, and what `status` tells.
+// What a host keeps beside the tables, by value, what it hands over with a packet, and what calls hand back.
+ghost use mathlib.Core.Path.{_≡_};
+ghost use Rattle.hnsr_circuit.specs.declared.answer.HnsrAnswer.the-variants.{Taken};
 use crate::answer::HnsrAnswer;
 use crate::config::OpaqueRelayConfig;
-use crate::places::Places;
-use crate::records::NextDue;
+use crate::records::RelayTicket;
+use crate::tables::places::Places;
+
+// The earliest time, if there is one.
+pub enum NextDue {
+    Never,
+    At(u64),
+}
+
+// A packet but for its body, the clock, and what the host says of an OPEN: whether the key is valid, whether it is admitted, and its grant.
+#[repr(C)]
+pub struct RelayPacket {
+    pub opcode: u8,
+    pub context_id: u64,
+    pub now: u64,
+    pub key_valid: bool,
+    pub admitted: bool,
+    pub ticket: RelayTicket,
+}
 
 #[repr(C)]
 pub struct RuntimeCounters {
@@ -64,4 +83,26 @@ pub struct StatusTold {
 pub struct DueTold {
     pub answer: HnsrAnswer,
     pub due: NextDue,
+}
+
+pub(crate) fn refused(runtime: OpaqueRelayRuntime, places: Places, answer: HnsrAnswer) -> Relayed
+    ensures { λ r. ⌜ ((r .runtime ≡ runtime) × (r .answer ≡ answer) × (r .words ≡ 0)) × (r .places ≡ places) ⌝ }
+{
+    Relayed {
+        runtime,
+        answer,
+        words: 0,
+        places,
+    }
+}
+
+pub(crate) fn taken_with(runtime: OpaqueRelayRuntime, places: Places) -> Relayed
+    ensures { λ r. ⌜ ((r .runtime ≡ runtime) × (r .answer ≡ Taken) × (r .words ≡ 0)) × (r .places ≡ places) ⌝ }
+{
+    Relayed {
+        runtime,
+        answer: HnsrAnswer::Taken,
+        words: 0,
+        places,
+    }
 }

@@ -2,4 +2,9 @@
 pub(crate) mod circuits;
 pub(crate) mod inflight;
 pub(crate) mod ledger;
+pub(crate) mod lookup;
 pub(crate) mod pending;
+pub mod places;
+pub(crate) mod question;
+pub(crate) mod scan;
+pub(crate) mod stores;

@@ -12,7 +12,7 @@ use Rattle.hnsr_body.specs.Values.{sameReservation}
 use Rattle.hnsr_circuit.specs.declared.peer.HnsrPeerId.{HnsrPeerId}
 use Rattle.hnsr_circuit.specs.declared.config.OpaqueRelayConfig.{OpaqueRelayConfig}
 use Rattle.hnsr_circuit.specs.declared.records.RelayTicket.{RelayTicket}
-use Rattle.hnsr_circuit.specs.declared.records.InflightTally.{InflightTally}
+use Rattle.hnsr_circuit.specs.declared.tables.scan.InflightTally.{InflightTally}
 use Rattle.hnsr_circuit.specs.declared.records.RelaySide.{RelaySide}
 use Rattle.hnsr_circuit.specs.declared.records.RelaySide.the-variants.{Requester, Endpoint}
 use Rattle.hnsr_circuit.specs.Table.{keep}

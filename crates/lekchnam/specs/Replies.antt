@@ -8,8 +8,8 @@ use Rattle.hnsr_circuit.specs.declared.records.RelayPending.{RelayPending}
 use Rattle.hnsr_circuit.specs.declared.records.RelayCircuit.{RelayCircuit}
 use Rattle.hnsr_circuit.specs.declared.records.ReservationUsage.{ReservationUsage}
 use Rattle.hnsr_circuit.specs.declared.records.InflightAction.{InflightAction}
-use Rattle.hnsr_circuit.specs.declared.records.NextDue.{NextDue}
-use Rattle.hnsr_circuit.specs.declared.records.NextDue.the-variants.{Never, At}
+use Rattle.hnsr_circuit.specs.declared.runtime.NextDue.{NextDue}
+use Rattle.hnsr_circuit.specs.declared.runtime.NextDue.the-variants.{Never, At}
 use Rattle.hnsr_circuit.specs.declared.runtime.Relayed.{Relayed}
 use Rattle.hnsr_circuit.specs.declared.runtime.StatusTold.{StatusTold}
 use Rattle.hnsr_circuit.specs.declared.runtime.DueTold.{DueTold}

@@ -19,29 +19,29 @@ ghost use Rattle.hnsr_circuit.specs.Call.{start, step, callHandle, callAcknowle
 ghost use Rattle.lekchnam.specs.Replies.{replyOf, replied, numbered, MadeReply, statusNumbered, dueSome, dueTime, dueNumbered};
 use hnsr_body::error::Cause;
 use hnsr_body::values::ReservationId;
-use hnsr_circuit::acknowledge::acknowledge;
-use hnsr_circuit::calls::new;
-use hnsr_circuit::calls::next_due;
-use hnsr_circuit::calls::observe_time;
-use hnsr_circuit::calls::status;
+use hnsr_circuit::calls::acknowledge::acknowledge;
+use hnsr_circuit::calls::handle::handle;
+use hnsr_circuit::calls::revoking::disconnect;
+use hnsr_circuit::calls::revoking::expire;
+use hnsr_circuit::calls::revoking::replace_enabled;
+use hnsr_circuit::calls::revoking::revoke_reservation;
+use hnsr_circuit::calls::silent::new;
+use hnsr_circuit::calls::silent::next_due;
+use hnsr_circuit::calls::silent::observe_time;
+use hnsr_circuit::calls::silent::status;
 use hnsr_circuit::config::OpaqueRelayConfig;
-use hnsr_circuit::handle::handle;
-use hnsr_circuit::places::Places;
 use hnsr_circuit::records::InflightAction;
-use hnsr_circuit::records::NextDue;
 use hnsr_circuit::records::RelayCircuit;
-use hnsr_circuit::records::RelayPacket;
 use hnsr_circuit::records::RelayPending;
 use hnsr_circuit::records::ReservationUsage;
-use hnsr_circuit::revoking_calls::disconnect;
-use hnsr_circuit::revoking_calls::expire;
-use hnsr_circuit::revoking_calls::replace_enabled;
-use hnsr_circuit::revoking_calls::revoke_reservation;
 use hnsr_circuit::runtime::DueTold;
 use hnsr_circuit::runtime::HnsrRuntimeStatus;
+use hnsr_circuit::runtime::NextDue;
 use hnsr_circuit::runtime::OpaqueRelayRuntime;
+use hnsr_circuit::runtime::RelayPacket;
 use hnsr_circuit::runtime::Relayed;
 use hnsr_circuit::runtime::StatusTold;
+use hnsr_circuit::tables::places::Places;
 
 // What a call hands back: the answer, how many output words it wrote, and what the host keeps: the runtime and the places in use.
 #[repr(C)]

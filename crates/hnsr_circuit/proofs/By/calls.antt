@@ -1,3 +1,5 @@
-pub mod new
-pub mod next_due
-pub mod status
+pub mod acknowledge
+pub mod handle
+pub mod revocation
+pub mod revoking
+pub mod silent

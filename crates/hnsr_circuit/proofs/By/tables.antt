@@ -1,4 +1,6 @@
 pub mod circuits
 pub mod inflight
 pub mod ledger
+pub mod lookup
 pub mod pending
+pub mod stores

@@ -9,9 +9,9 @@ use Rattle.hnsr_circuit.specs.declared.records.RelayPending.{RelayPendin
 use Rattle.hnsr_circuit.specs.declared.records.RelayCircuit.{RelayCircuit}
 use Rattle.hnsr_circuit.specs.declared.records.ReservationUsage.{ReservationUsage}
 use Rattle.hnsr_circuit.specs.declared.records.InflightAction.{InflightAction}
-use Rattle.hnsr_circuit.specs.declared.records.Ask.{Ask}
-use Rattle.hnsr_circuit.specs.declared.records.Ask.the-variants.{Unused, Used, At, Named, Of, Under, Over}
-use Rattle.hnsr_circuit.specs.declared.places.Places.{Places}
+use Rattle.hnsr_circuit.specs.declared.tables.question.Ask.{Ask}
+use Rattle.hnsr_circuit.specs.declared.tables.question.Ask.the-variants.{Unused, Used, At, Named, Of, Under, Over}
+use Rattle.hnsr_circuit.specs.declared.tables.places.Places.{Places}
 use Rattle.hnsr_circuit.specs.declared.runtime.OpaqueRelayRuntime.{OpaqueRelayRuntime}
 use Rattle.hnsr_circuit.specs.declared.runtime.Relayed.{Relayed}
 use Rattle.hnsr_circuit.specs.declared.runtime.Sending.{Sending}

@@ -1,14 +1,14 @@
 -- What the code keeps of a lookup: whether a record has what is asked, the lowest place that has it, and the record there.
 use mathlib.Core.List.{List}
-use Rattle.hnsr_circuit.specs.declared.records.Question.{Question}
+use Rattle.hnsr_circuit.specs.declared.tables.question.Question.{Question}
 use Rattle.hnsr_circuit.specs.declared.records.RelayPending.{RelayPending}
 use Rattle.hnsr_circuit.specs.declared.records.RelayCircuit.{RelayCircuit}
 use Rattle.hnsr_circuit.specs.declared.records.ReservationUsage.{ReservationUsage}
 use Rattle.hnsr_circuit.specs.declared.records.InflightAction.{InflightAction}
-use Rattle.hnsr_circuit.specs.declared.records.PendingFound.{PendingFound}
-use Rattle.hnsr_circuit.specs.declared.records.CircuitFound.{CircuitFound}
-use Rattle.hnsr_circuit.specs.declared.records.UsageFound.{UsageFound}
-use Rattle.hnsr_circuit.specs.declared.records.ActionFound.{ActionFound}
+use Rattle.hnsr_circuit.specs.declared.tables.lookup.PendingFound.{PendingFound}
+use Rattle.hnsr_circuit.specs.declared.tables.lookup.CircuitFound.{CircuitFound}
+use Rattle.hnsr_circuit.specs.declared.tables.lookup.UsageFound.{UsageFound}
+use Rattle.hnsr_circuit.specs.declared.tables.lookup.ActionFound.{ActionFound}
 use Rattle.hnsr_circuit.specs.Table.{any, pick, placeOf}
 use Rattle.hnsr_circuit.specs.Pending.{noPending}
 use Rattle.hnsr_circuit.specs.Circuits.{noCircuit}

@@ -4,9 +4,9 @@ use mathlib.Core.Bool.{false, cond}
 use Rattle.hnsr_circuit.specs.declared.peer.HnsrPeerId.{HnsrPeerId}
 use Rattle.hnsr_circuit.specs.declared.records.InflightKind.{InflightKind}
 use Rattle.hnsr_circuit.specs.declared.records.InflightKind.the-variants.{Data, Close}
-use Rattle.hnsr_circuit.specs.declared.records.Outgoing.{Outgoing}
+use Rattle.hnsr_circuit.specs.declared.output.queue.Outgoing.{Outgoing}
 use Rattle.hnsr_circuit.specs.declared.records.RelayCircuit.{RelayCircuit}
-use Rattle.hnsr_circuit.specs.declared.records.RelayPacket.{RelayPacket}
+use Rattle.hnsr_circuit.specs.declared.runtime.RelayPacket.{RelayPacket}
 use Rattle.hnsr_circuit.specs.declared.records.RelayPending.{RelayPending}
 use Rattle.hnsr_circuit.specs.Peer.{samePeer}
 use Rattle.hnsr_circuit.specs.Circuits.{sideOf, otherSide}

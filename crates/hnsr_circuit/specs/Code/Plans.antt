@@ -14,17 +14,17 @@ use Rattle.hnsr_circuit.specs.declared.records.RelayPending.{RelayPendin
 use Rattle.hnsr_circuit.specs.declared.records.RelayCircuit.{RelayCircuit}
 use Rattle.hnsr_circuit.specs.declared.records.ReservationUsage.{ReservationUsage}
 use Rattle.hnsr_circuit.specs.declared.records.InflightAction.{InflightAction}
-use Rattle.hnsr_circuit.specs.declared.records.InflightTally.{InflightTally}
-use Rattle.hnsr_circuit.specs.declared.records.ActionScan.{ActionScan}
-use Rattle.hnsr_circuit.specs.declared.records.PendingFound.{PendingFound}
-use Rattle.hnsr_circuit.specs.declared.records.CircuitFound.{CircuitFound}
-use Rattle.hnsr_circuit.specs.declared.records.UsageFound.{UsageFound}
-use Rattle.hnsr_circuit.specs.declared.records.Outgoing.{Outgoing}
-use Rattle.hnsr_circuit.specs.declared.records.RelayPacket.{RelayPacket}
+use Rattle.hnsr_circuit.specs.declared.tables.scan.InflightTally.{InflightTally}
+use Rattle.hnsr_circuit.specs.declared.tables.scan.ActionScan.{ActionScan}
+use Rattle.hnsr_circuit.specs.declared.tables.lookup.PendingFound.{PendingFound}
+use Rattle.hnsr_circuit.specs.declared.tables.lookup.CircuitFound.{CircuitFound}
+use Rattle.hnsr_circuit.specs.declared.tables.lookup.UsageFound.{UsageFound}
+use Rattle.hnsr_circuit.specs.declared.output.queue.Outgoing.{Outgoing}
+use Rattle.hnsr_circuit.specs.declared.runtime.RelayPacket.{RelayPacket}
 use Rattle.hnsr_circuit.specs.declared.records.InflightKind.the-variants.{Control, Close}
-use Rattle.hnsr_circuit.specs.declared.data.DataPlan.{DataPlan}
-use Rattle.hnsr_circuit.specs.declared.window.WindowPlan.{WindowPlan}
-use Rattle.hnsr_circuit.specs.declared.close.ClosePlan.{ClosePlan}
+use Rattle.hnsr_circuit.specs.declared.messages.data.DataPlan.{DataPlan}
+use Rattle.hnsr_circuit.specs.declared.messages.window.WindowPlan.{WindowPlan}
+use Rattle.hnsr_circuit.specs.declared.messages.close.ClosePlan.{ClosePlan}
 use Rattle.hnsr_circuit.specs.declared.answer.HnsrAnswer.{HnsrAnswer}
 use Rattle.hnsr_circuit.specs.Answers.{bodyAnswer, taken, _then_}
 use Rattle.hnsr_circuit.specs.Circuits.{sideOf}

@@ -11,9 +11,9 @@ use Rattle.hnsr_circuit.specs.declared.records.RelayPending.{RelayPendin
 use Rattle.hnsr_circuit.specs.declared.records.RelayCircuit.{RelayCircuit}
 use Rattle.hnsr_circuit.specs.declared.records.ReservationUsage.{ReservationUsage}
 use Rattle.hnsr_circuit.specs.declared.records.InflightAction.{InflightAction}
-use Rattle.hnsr_circuit.specs.declared.records.Outgoing.{Outgoing}
-use Rattle.hnsr_circuit.specs.declared.records.ActionQuestion.{ActionQuestion}
-use Rattle.hnsr_circuit.specs.declared.records.ActionScan.{ActionScan}
+use Rattle.hnsr_circuit.specs.declared.output.queue.Outgoing.{Outgoing}
+use Rattle.hnsr_circuit.specs.declared.tables.scan.ActionQuestion.{ActionQuestion}
+use Rattle.hnsr_circuit.specs.declared.tables.scan.ActionScan.{ActionScan}
 use Rattle.hnsr_circuit.specs.declared.runtime.OpaqueRelayRuntime.{OpaqueRelayRuntime}
 use Rattle.hnsr_circuit.specs.declared.runtime.Relayed.{Relayed}
 use Rattle.hnsr_circuit.specs.declared.runtime.Sending.{Sending}
@@ -22,7 +22,7 @@ use Rattle.hnsr_circuit.specs.Route.{Route, routeWords, outWords, output
 use Rattle.hnsr_circuit.specs.World.{World, Outcome, worldOf}
 use Rattle.hnsr_circuit.specs.Queue.{Message, Sent}
 use Rattle.hnsr_circuit.specs.Packet.{Packet}
-use Rattle.hnsr_circuit.specs.declared.records.RelayPacket.{RelayPacket}
+use Rattle.hnsr_circuit.specs.declared.runtime.RelayPacket.{RelayPacket}
 
 -- the message that the code sends with a body
 abbrev pub messageOf : Outgoing → (body : List ℕ) → Message

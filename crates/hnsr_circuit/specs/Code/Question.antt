@@ -9,11 +9,11 @@ use Rattle.hnsr_circuit.specs.declared.records.RelayPending.{RelayPendin
 use Rattle.hnsr_circuit.specs.declared.records.RelayCircuit.{RelayCircuit}
 use Rattle.hnsr_circuit.specs.declared.records.ReservationUsage.{ReservationUsage}
 use Rattle.hnsr_circuit.specs.declared.records.InflightAction.{InflightAction}
-use Rattle.hnsr_circuit.specs.declared.records.Ask.{Ask}
-use Rattle.hnsr_circuit.specs.declared.records.Ask.the-variants.{Unused, Used, At, Named, Of, Under, Over}
-use Rattle.hnsr_circuit.specs.declared.records.Question.{Question}
-use Rattle.hnsr_circuit.specs.declared.records.Work.{Work}
-use Rattle.hnsr_circuit.specs.declared.records.WorkQuestion.{WorkQuestion}
+use Rattle.hnsr_circuit.specs.declared.tables.question.Ask.{Ask}
+use Rattle.hnsr_circuit.specs.declared.tables.question.Ask.the-variants.{Unused, Used, At, Named, Of, Under, Over}
+use Rattle.hnsr_circuit.specs.declared.tables.question.Question.{Question}
+use Rattle.hnsr_circuit.specs.declared.tables.scan.Work.{Work}
+use Rattle.hnsr_circuit.specs.declared.tables.scan.WorkQuestion.{WorkQuestion}
 use Rattle.hns_encoding.specs.Sums.{count}
 use Rattle.hnsr_circuit.specs.Table.{any}
 use Rattle.hnsr_circuit.specs.Peer.{noPeer}

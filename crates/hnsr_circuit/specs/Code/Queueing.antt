@@ -3,9 +3,9 @@ use Prim.Native.Nat.{_+_}
 use mathlib.Core.Path.{_≡_}
 use mathlib.Core.Bool.{true, false}
 use mathlib.Core.List.{[]}
-use Rattle.hnsr_circuit.specs.declared.records.Outgoing.{Outgoing}
-use Rattle.hnsr_circuit.specs.declared.records.ActionScan.{ActionScan}
-use Rattle.hnsr_circuit.specs.declared.queue.Queued.{Queued}
+use Rattle.hnsr_circuit.specs.declared.output.queue.Outgoing.{Outgoing}
+use Rattle.hnsr_circuit.specs.declared.tables.scan.ActionScan.{ActionScan}
+use Rattle.hnsr_circuit.specs.declared.output.queue.Queued.{Queued}
 use Rattle.hnsr_circuit.specs.declared.runtime.OpaqueRelayRuntime.{OpaqueRelayRuntime}
 use Rattle.hnsr_circuit.specs.declared.answer.HnsrAnswer.{HnsrAnswer}
 use Rattle.hnsr_circuit.specs.Answers.{taken, _then_}

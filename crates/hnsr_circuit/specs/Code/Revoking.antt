@@ -5,9 +5,9 @@ use Rattle.hnsr_body.specs.declared.messages.Notice.the-variants.{PeerDisconnec
 use Rattle.hnsr_circuit.specs.declared.peer.HnsrPeerId.{HnsrPeerId}
 use Rattle.hnsr_circuit.specs.declared.records.RelayPending.{RelayPending}
 use Rattle.hnsr_circuit.specs.declared.records.RelayCircuit.{RelayCircuit}
-use Rattle.hnsr_circuit.specs.declared.records.Outgoing.{Outgoing}
+use Rattle.hnsr_circuit.specs.declared.output.queue.Outgoing.{Outgoing}
 use Rattle.hnsr_circuit.specs.Code.Message.{closeOn}
-use Rattle.hnsr_circuit.specs.declared.revocation.Revoking.{Revoking}
+use Rattle.hnsr_circuit.specs.declared.calls.revocation.Revoking.{Revoking}
 use Rattle.hnsr_circuit.specs.declared.runtime.OpaqueRelayRuntime.{OpaqueRelayRuntime}
 use Rattle.hnsr_circuit.specs.Peer.{samePeer}
 use Rattle.hnsr_circuit.specs.Header.{countRevoked, withCounters}

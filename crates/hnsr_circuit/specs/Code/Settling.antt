@@ -4,8 +4,8 @@ use mathlib.Core.Bool.{Bool, true, false, not, _&&_}
 use Rattle.hnsr_circuit.specs.declared.records.InflightAction.{InflightAction}
 use Rattle.hnsr_circuit.specs.declared.records.InflightKind.{InflightKind}
 use Rattle.hnsr_circuit.specs.declared.records.InflightKind.the-variants.{Incoming, Opened, Data, Control, Close}
-use Rattle.hnsr_circuit.specs.declared.acknowledge.SettlePlan.{SettlePlan}
-use Rattle.hnsr_circuit.specs.declared.acknowledge.Settlement.{Settlement}
+use Rattle.hnsr_circuit.specs.declared.calls.acknowledge.SettlePlan.{SettlePlan}
+use Rattle.hnsr_circuit.specs.declared.calls.acknowledge.Settlement.{Settlement}
 use Rattle.hnsr_circuit.specs.Inflight.{kindOf}
 
 abbrev pub settlement : (lowers fails revokes : Bool) → Settlement

@@ -6,8 +6,8 @@ use Rattle.hnsr_circuit.specs.declared.records.RelayPending.{RelayPendin
 use Rattle.hnsr_circuit.specs.declared.records.RelayCircuit.{RelayCircuit}
 use Rattle.hnsr_circuit.specs.declared.records.ReservationUsage.{ReservationUsage}
 use Rattle.hnsr_circuit.specs.declared.records.InflightAction.{InflightAction}
-use Rattle.hnsr_circuit.specs.declared.records.NextDue.{NextDue}
-use Rattle.hnsr_circuit.specs.declared.records.NextDue.the-variants.{Never}
+use Rattle.hnsr_circuit.specs.declared.runtime.NextDue.{NextDue}
+use Rattle.hnsr_circuit.specs.declared.runtime.NextDue.the-variants.{Never}
 use Rattle.hnsr_circuit.specs.declared.runtime.HnsrRuntimeStatus.{HnsrRuntimeStatus}
 use Rattle.hnsr_circuit.specs.declared.runtime.StatusTold.{StatusTold}
 use Rattle.hnsr_circuit.specs.declared.runtime.DueTold.{DueTold}

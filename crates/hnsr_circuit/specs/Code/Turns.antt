@@ -8,13 +8,13 @@ use Rattle.hnsr_body.specs.declared.values.ReservationId.{ReservationId}
 use Rattle.hnsr_circuit.specs.declared.records.RelayPending.{RelayPending}
 use Rattle.hnsr_circuit.specs.declared.records.RelayCircuit.{RelayCircuit}
 use Rattle.hnsr_circuit.specs.declared.records.InflightAction.{InflightAction}
-use Rattle.hnsr_circuit.specs.declared.records.InflightTally.{InflightTally}
-use Rattle.hnsr_circuit.specs.declared.records.Work.{Work}
-use Rattle.hnsr_circuit.specs.declared.records.WorkQuestion.{WorkQuestion}
-use Rattle.hnsr_circuit.specs.declared.records.ActionQuestion.{ActionQuestion}
-use Rattle.hnsr_circuit.specs.declared.records.ActionScan.{ActionScan}
-use Rattle.hnsr_circuit.specs.declared.records.CircuitTotals.{CircuitTotals}
-use Rattle.hnsr_circuit.specs.declared.records.LedgerRoom.{LedgerRoom}
+use Rattle.hnsr_circuit.specs.declared.tables.scan.InflightTally.{InflightTally}
+use Rattle.hnsr_circuit.specs.declared.tables.scan.Work.{Work}
+use Rattle.hnsr_circuit.specs.declared.tables.scan.WorkQuestion.{WorkQuestion}
+use Rattle.hnsr_circuit.specs.declared.tables.scan.ActionQuestion.{ActionQuestion}
+use Rattle.hnsr_circuit.specs.declared.tables.scan.ActionScan.{ActionScan}
+use Rattle.hnsr_circuit.specs.declared.tables.scan.CircuitTotals.{CircuitTotals}
+use Rattle.hnsr_circuit.specs.declared.tables.scan.LedgerRoom.{LedgerRoom}
 use Rattle.hnsr_circuit.specs.declared.records.ReservationUsage.{ReservationUsage}
 use Rattle.hns_encoding.specs.Numbers.{saturatingAdd}
 use Rattle.hns_encoding.specs.Sums.{non, one, total, count}

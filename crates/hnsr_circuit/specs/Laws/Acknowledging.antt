@@ -13,7 +13,7 @@ use Rattle.hnsr_circuit.specs.declared.records.ReservationUsage.{Reserva
 use Rattle.hnsr_circuit.specs.declared.records.InflightAction.{InflightAction}
 use Rattle.hnsr_circuit.specs.declared.records.InflightKind.{InflightKind}
 use Rattle.hnsr_circuit.specs.declared.records.InflightKind.the-variants.{Incoming, Opened, Data, Control, Close}
-use Rattle.hnsr_circuit.specs.declared.records.Outgoing.{Outgoing}
+use Rattle.hnsr_circuit.specs.declared.output.queue.Outgoing.{Outgoing}
 use Rattle.hnsr_circuit.specs.declared.runtime.OpaqueRelayRuntime.{OpaqueRelayRuntime}
 use Rattle.hnsr_circuit.specs.declared.runtime.Relayed.{Relayed}
 use Rattle.hnsr_circuit.specs.declared.answer.HnsrAnswer.the-variants.{Taken}

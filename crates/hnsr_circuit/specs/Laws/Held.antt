@@ -14,7 +14,7 @@ use Rattle.hns_encoding.specs.Laws.Tests.{split}
 use Rattle.hns_encoding.specs.Loops.{foldFrom, fold-step}
 use Rattle.hns_encoding.specs.Sums.{one, non, total, count}
 use Rattle.hnsr_circuit.specs.Table.{any, placeOf, pick, cleared, clear, nextTurn}
-use Rattle.hnsr_circuit.specs.declared.records.Walked.{Walked}
+use Rattle.hnsr_circuit.specs.declared.tables.scan.Walked.{Walked}
 use Rattle.hnsr_circuit.specs.Code.Held.{held, raisedTo}
 use Rattle.hnsr_circuit.specs.Laws.Scans.{set-past, find-next, find-here, count-next, clear-step}
 

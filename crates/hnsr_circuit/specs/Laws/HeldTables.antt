@@ -14,22 +14,22 @@ use Rattle.hns_encoding.specs.Loops.{foldFrom}
 use Rattle.hns_encoding.specs.Sums.{non}
 use Rattle.hns_encoding.specs.Numbers.{top}
 use Rattle.hnsr_body.specs.declared.values.ReservationId.{ReservationId}
-use Rattle.hnsr_circuit.specs.declared.records.Ask.{Ask}
-use Rattle.hnsr_circuit.specs.declared.records.Ask.the-variants.{Unused, Used, At, Named, Of, Under, Over}
-use Rattle.hnsr_circuit.specs.declared.records.Question.{Question}
-use Rattle.hnsr_circuit.specs.declared.records.ActionQuestion.{ActionQuestion}
-use Rattle.hnsr_circuit.specs.declared.records.ActionScan.{ActionScan}
+use Rattle.hnsr_circuit.specs.declared.tables.question.Ask.{Ask}
+use Rattle.hnsr_circuit.specs.declared.tables.question.Ask.the-variants.{Unused, Used, At, Named, Of, Under, Over}
+use Rattle.hnsr_circuit.specs.declared.tables.question.Question.{Question}
+use Rattle.hnsr_circuit.specs.declared.tables.scan.ActionQuestion.{ActionQuestion}
+use Rattle.hnsr_circuit.specs.declared.tables.scan.ActionScan.{ActionScan}
 use Rattle.hnsr_circuit.specs.declared.records.InflightAction.{InflightAction}
 use Rattle.hnsr_circuit.specs.declared.records.RelayPending.{RelayPending}
 use Rattle.hnsr_circuit.specs.declared.records.RelayCircuit.{RelayCircuit}
 use Rattle.hnsr_circuit.specs.declared.records.ReservationUsage.{ReservationUsage}
-use Rattle.hnsr_circuit.specs.declared.records.LedgerRoom.{LedgerRoom}
-use Rattle.hnsr_circuit.specs.declared.records.Work.{Work}
-use Rattle.hnsr_circuit.specs.declared.records.WorkQuestion.{WorkQuestion}
-use Rattle.hnsr_circuit.specs.declared.records.CircuitTotals.{CircuitTotals}
-use Rattle.hnsr_circuit.specs.declared.records.NextDue.{NextDue}
+use Rattle.hnsr_circuit.specs.declared.tables.scan.LedgerRoom.{LedgerRoom}
+use Rattle.hnsr_circuit.specs.declared.tables.scan.Work.{Work}
+use Rattle.hnsr_circuit.specs.declared.tables.scan.WorkQuestion.{WorkQuestion}
+use Rattle.hnsr_circuit.specs.declared.tables.scan.CircuitTotals.{CircuitTotals}
+use Rattle.hnsr_circuit.specs.declared.runtime.NextDue.{NextDue}
 use Rattle.hnsr_circuit.specs.NextDue.{dueTurn, deadlineOf, expiryOf}
-use Rattle.hnsr_circuit.specs.declared.places.Places.{Places}
+use Rattle.hnsr_circuit.specs.declared.tables.places.Places.{Places}
 use Rattle.hnsr_circuit.specs.declared.runtime.Relayed.{Relayed}
 use Rattle.hnsr_circuit.specs.declared.runtime.Sending.{Sending}
 use Rattle.hnsr_circuit.specs.declared.config.OpaqueRelayConfig.{OpaqueRelayConfig}

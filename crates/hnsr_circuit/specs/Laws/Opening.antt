@@ -21,22 +21,22 @@ use Rattle.hnsr_body.specs.Incoming.{incomingBytes}
 use Rattle.hnsr_circuit.specs.declared.runtime.Relayed.{Relayed}
 use Rattle.hnsr_circuit.specs.Code.Opening.{putPlace, acceptRows, acceptWork, acceptPlan, isTaken, gathering, openRows, openPlan, openingOf, incomingOut, placedEntry, placedRows}
 use Rattle.hnsr_circuit.specs.Laws.Calls.{turned-away, gone-on}
-use Rattle.hnsr_circuit.specs.declared.accept.AcceptPlan.{AcceptPlan}
-use Rattle.hnsr_circuit.specs.declared.open.OpenGathered.{OpenGathered}
-use Rattle.hnsr_circuit.specs.declared.open.OpenPlan.{OpenPlan}
+use Rattle.hnsr_circuit.specs.declared.messages.accept.AcceptPlan.{AcceptPlan}
+use Rattle.hnsr_circuit.specs.declared.messages.open.OpenGathered.{OpenGathered}
+use Rattle.hnsr_circuit.specs.declared.messages.open.OpenPlan.{OpenPlan}
 use Rattle.hnsr_circuit.specs.declared.config.OpaqueRelayConfig.{OpaqueRelayConfig}
 use Rattle.hnsr_circuit.specs.declared.records.RelayTicket.{RelayTicket}
 use Rattle.hnsr_circuit.specs.declared.records.RelayPending.{RelayPending}
 use Rattle.hnsr_circuit.specs.declared.records.RelayCircuit.{RelayCircuit}
 use Rattle.hnsr_circuit.specs.declared.records.ReservationUsage.{ReservationUsage}
 use Rattle.hnsr_circuit.specs.declared.records.InflightAction.{InflightAction}
-use Rattle.hnsr_circuit.specs.declared.records.PendingFound.{PendingFound}
-use Rattle.hnsr_circuit.specs.declared.records.LedgerRoom.{LedgerRoom}
-use Rattle.hnsr_circuit.specs.declared.records.ActionScan.{ActionScan}
-use Rattle.hnsr_circuit.specs.declared.records.Drawing.{Drawing}
-use Rattle.hnsr_circuit.specs.declared.records.Outgoing.{Outgoing}
-use Rattle.hnsr_circuit.specs.declared.records.ActionQuestion.{ActionQuestion}
-use Rattle.hnsr_circuit.specs.declared.records.RelayPacket.{RelayPacket}
+use Rattle.hnsr_circuit.specs.declared.tables.lookup.PendingFound.{PendingFound}
+use Rattle.hnsr_circuit.specs.declared.tables.scan.LedgerRoom.{LedgerRoom}
+use Rattle.hnsr_circuit.specs.declared.tables.scan.ActionScan.{ActionScan}
+use Rattle.hnsr_circuit.specs.declared.messages.draw.Drawing.{Drawing}
+use Rattle.hnsr_circuit.specs.declared.output.queue.Outgoing.{Outgoing}
+use Rattle.hnsr_circuit.specs.declared.tables.scan.ActionQuestion.{ActionQuestion}
+use Rattle.hnsr_circuit.specs.declared.runtime.RelayPacket.{RelayPacket}
 use Rattle.hnsr_circuit.specs.declared.runtime.OpaqueRelayRuntime.{OpaqueRelayRuntime}
 use Rattle.hnsr_circuit.specs.declared.answer.HnsrAnswer.{HnsrAnswer}
 use Rattle.hnsr_circuit.specs.declared.answer.HnsrAnswer.the-variants.{Taken, Refused}

@@ -15,10 +15,10 @@ use Rattle.hnsr_circuit.specs.declared.records.RelayPending.{RelayPendin
 use Rattle.hnsr_circuit.specs.declared.records.RelayCircuit.{RelayCircuit}
 use Rattle.hnsr_circuit.specs.declared.records.ReservationUsage.{ReservationUsage}
 use Rattle.hnsr_circuit.specs.declared.records.InflightAction.{InflightAction}
-use Rattle.hnsr_circuit.specs.declared.records.InflightTally.{InflightTally}
-use Rattle.hnsr_circuit.specs.declared.records.ActionScan.{ActionScan}
-use Rattle.hnsr_circuit.specs.declared.records.Outgoing.{Outgoing}
-use Rattle.hnsr_circuit.specs.declared.queue.Queued.{Queued}
+use Rattle.hnsr_circuit.specs.declared.tables.scan.InflightTally.{InflightTally}
+use Rattle.hnsr_circuit.specs.declared.tables.scan.ActionScan.{ActionScan}
+use Rattle.hnsr_circuit.specs.declared.output.queue.Outgoing.{Outgoing}
+use Rattle.hnsr_circuit.specs.declared.output.queue.Queued.{Queued}
 use Rattle.hnsr_circuit.specs.declared.runtime.OpaqueRelayRuntime.{OpaqueRelayRuntime}
 use Rattle.hnsr_circuit.specs.declared.runtime.Relayed.{Relayed}
 use Rattle.hnsr_circuit.specs.declared.runtime.Sending.{Sending}

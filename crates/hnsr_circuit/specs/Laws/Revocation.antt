@@ -12,8 +12,8 @@ use Rattle.hnsr_circuit.specs.declared.records.RelayPending.{RelayPendin
 use Rattle.hnsr_circuit.specs.declared.records.RelayCircuit.{RelayCircuit}
 use Rattle.hnsr_circuit.specs.declared.records.ReservationUsage.{ReservationUsage}
 use Rattle.hnsr_circuit.specs.declared.records.InflightAction.{InflightAction}
-use Rattle.hnsr_circuit.specs.declared.records.Walked.{Walked}
-use Rattle.hnsr_circuit.specs.declared.revocation.Revoking.{Revoking}
+use Rattle.hnsr_circuit.specs.declared.tables.scan.Walked.{Walked}
+use Rattle.hnsr_circuit.specs.declared.calls.revocation.Revoking.{Revoking}
 use Rattle.hnsr_circuit.specs.declared.runtime.OpaqueRelayRuntime.{OpaqueRelayRuntime}
 use Rattle.hnsr_circuit.specs.Table.{any, placeOf, next}
 use Rattle.hnsr_circuit.specs.Pending.{noPending, clearPending}

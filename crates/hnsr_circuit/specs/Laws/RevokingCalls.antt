@@ -10,8 +10,8 @@ use Rattle.hnsr_circuit.specs.declared.records.RelayPending.{RelayPendin
 use Rattle.hnsr_circuit.specs.declared.records.RelayCircuit.{RelayCircuit}
 use Rattle.hnsr_circuit.specs.declared.records.ReservationUsage.{ReservationUsage}
 use Rattle.hnsr_circuit.specs.declared.records.InflightAction.{InflightAction}
-use Rattle.hnsr_circuit.specs.declared.records.Question.{Question}
-use Rattle.hnsr_circuit.specs.declared.revocation.Revoking.{Revoking}
+use Rattle.hnsr_circuit.specs.declared.tables.question.Question.{Question}
+use Rattle.hnsr_circuit.specs.declared.calls.revocation.Revoking.{Revoking}
 use Rattle.hnsr_circuit.specs.declared.runtime.OpaqueRelayRuntime.{OpaqueRelayRuntime}
 use Rattle.hnsr_circuit.specs.declared.answer.HnsrAnswer.{HnsrAnswer}
 use Rattle.hnsr_circuit.specs.Answers.{taken, _then_}

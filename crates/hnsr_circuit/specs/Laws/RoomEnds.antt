@@ -13,7 +13,7 @@ use Rattle.hnsr_body.specs.Messages.{noticeBody}
 use Rattle.hnsr_circuit.specs.declared.peer.HnsrPeerId.{HnsrPeerId}
 use Rattle.hnsr_circuit.specs.declared.records.RelayPending.{RelayPending}
 use Rattle.hnsr_circuit.specs.declared.records.RelayCircuit.{RelayCircuit}
-use Rattle.hnsr_circuit.specs.declared.records.Walked.{Walked}
+use Rattle.hnsr_circuit.specs.declared.tables.scan.Walked.{Walked}
 use Rattle.hnsr_circuit.specs.declared.answer.HnsrAnswer.{HnsrAnswer}
 use Rattle.hnsr_circuit.specs.declared.answer.HnsrAnswer.the-variants.{Taken, Refused}
 use Rattle.hns_encoding.specs.Sums.{count}
@@ -26,7 +26,7 @@ use Rattle.hnsr_circuit.specs.Queue.{Message, queued, canQueue, Sent, wh
 use Rattle.hnsr_circuit.specs.Entry.{closingWords}
 use Rattle.hnsr_circuit.specs.Revocation.{withoutActions, pendingThere, circuitThere, endPendingThere, endCircuitThere, errorToRequester, closeToRequester, closeToEndpoint, closeTo, revokePending, revokeCircuitThere, revokeCircuit, walkFrom, walk, pendingTable, circuitTable, revokeAll}
 use Rattle.hnsr_circuit.specs.RevokingCalls.{closeToOther, disconnectPending}
-use Rattle.hnsr_circuit.specs.declared.revocation.Revoking.{Revoking}
+use Rattle.hnsr_circuit.specs.declared.calls.revocation.Revoking.{Revoking}
 use Rattle.hnsr_circuit.specs.Code.Revoking.{endingPending}
 use Rattle.hnsr_circuit.specs.Laws.Room.{filled, filled-append, notice-told, two-told, when-fits, one-fewer, walk-fits}
 

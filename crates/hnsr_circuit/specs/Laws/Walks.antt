@@ -9,7 +9,7 @@ use mathlib.Core.List.{List, [], _∷_}
 use lib.Dec.{leb, ltb, eqb}
 use lib.ListN.{length, getD}
 use borrow.Author.Tests.{ltb-true, ltb-false, lt-ltb, le-leb, eq-eqb, eqb-true}
-use Rattle.hnsr_circuit.specs.declared.records.Walked.{Walked}
+use Rattle.hnsr_circuit.specs.declared.tables.scan.Walked.{Walked}
 use Rattle.hns_encoding.specs.Laws.Tests.{split, choose, both, join, neither, clash}
 use Rattle.hns_encoding.specs.Loops.{foldFrom}
 use Rattle.hns_encoding.specs.Sums.{count}

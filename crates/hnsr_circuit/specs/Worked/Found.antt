@@ -12,7 +12,7 @@ use Rattle.hnsr_circuit.specs.Peer.{maximumPeer}
 use Rattle.hnsr_circuit.specs.Pending.{noPending}
 use Rattle.hnsr_circuit.specs.Circuits.{noCircuit}
 use Rattle.hnsr_circuit.specs.Ledger.{noUsage}
-use Rattle.hnsr_circuit.specs.declared.records.NextDue.the-variants.{At}
+use Rattle.hnsr_circuit.specs.declared.runtime.NextDue.the-variants.{At}
 use Rattle.hnsr_circuit.specs.World.{World, dueIs}
 use Rattle.hnsr_circuit.specs.Opcode.{opClose, opError}
 use Rattle.hnsr_circuit.specs.Call.{callStatus, callNextDue, callObserveTime, callAcknowledge, callDisconnect, callExpire, start}

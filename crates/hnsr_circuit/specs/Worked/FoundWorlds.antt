@@ -16,7 +16,7 @@ use Rattle.hnsr_circuit.specs.declared.answer.HnsrAnswer.{HnsrAnswer}
 use Rattle.hnsr_circuit.specs.Peer.{maximumPeer}
 use Rattle.hnsr_circuit.specs.Circuits.{noCircuit}
 use Rattle.hnsr_circuit.specs.Pending.{pendingRecord}
-use Rattle.hnsr_circuit.specs.Ledger.{usageRecord}
+use Rattle.hnsr_circuit.specs.Ledger.{usageFor, usageWith}
 use Rattle.hnsr_circuit.specs.Inflight.{actionRecord, noAction}
 use Rattle.hnsr_circuit.specs.Header.{newHeader, withSequence}
 use Rattle.hnsr_circuit.specs.Route.{Route, outWords, output}
@@ -40,15 +40,16 @@ foundTicket = record {
 
 unfoldable pub pendingBetween : (id context : ℕ) → (requester endpoint : HnsrPeerId) → RelayPending
 unfolding foundTicket
-pendingBetween id context requester endpoint = pendingRecord true id requester endpoint context foundTicket 32768 110
+pendingBetween id context requester endpoint = pendingRecord id requester endpoint context foundTicket 32768 110
 
 unfoldable pub pendingOn : (id context : ℕ) → RelayPending
 unfolding peer pendingBetween
 pendingOn id context = pendingBetween id context (peer 1) (peer 2)
 
+-- another deadline, in use
 unfoldable pub until : (deadline : ℕ) → RelayPending → RelayPending
 until deadline p =
-    pendingRecord (p .used) (p .«circuit_id») (p .requester) (p .endpoint) (p .«requester_context») (p .ticket) (p .«initial_window») deadline
+    pendingRecord (p .«circuit_id») (p .requester) (p .endpoint) (p .«requester_context») (p .ticket) (p .«initial_window») deadline
 
 unfoldable pub circuitOn : (id : ℕ) → (requester endpoint : HnsrPeerId) → (forwarded queued : ℕ) → RelayCircuit
 circuitOn id requester endpoint forwarded queued = record {
@@ -68,11 +69,11 @@ circuitOn id requester endpoint forwarded queued = record {
 }
 
 unfoldable pub usageOn : (low bytes : ℕ) → ReservationUsage
-usageOn low bytes = usageRecord true (record { high = 0; low = low }) bytes 1000
+usageOn low bytes = usageWith (usageFor (record { high = 0; low = low }) 1000) true bytes
 
 unfoldable pub actionOn : (sequence id kind bytes : ℕ) → InflightAction
 unfolding peer
-actionOn sequence id kind bytes = actionRecord true 1 sequence id (peer 2) kind true bytes
+actionOn sequence id kind bytes = actionRecord 1 sequence id (peer 2) kind true bytes
 
 -- ---- worlds
 unfoldable pub found : List RelayPending → List RelayCircuit → List ReservationUsage → List InflightAction → World

@@ -16,7 +16,7 @@ use Rattle.hnsr_circuit.specs.declared.records.RelaySide.the-variants.{Requeste
 use Rattle.hnsr_circuit.specs.Answers.{number, check, bodyAnswer, _then_}
 use Rattle.hnsr_circuit.specs.Table.{edit}
 use Rattle.hnsr_circuit.specs.Circuits.{circuitAt, sideOf, moved, charged}
-use Rattle.hnsr_circuit.specs.Ledger.{usageRecord, usageAt, hasUsage, usageOf, spent}
+use Rattle.hnsr_circuit.specs.Ledger.{usageWith, usageAt, hasUsage, usageOf, spent}
 use Rattle.hnsr_circuit.specs.Inflight.{tallied, capacityAnswer}
 use Rattle.hnsr_circuit.specs.World.{World, Outcome, proceed, withCircuits, withLedger, atTime}
 use Rattle.hnsr_circuit.specs.Queue.{send}
@@ -175,7 +175,7 @@ uncharged-refuted C =
 
 -- ---- every OPEN begins its reservation's count again: 60 bytes are left, and 70 pass (only if; reservation left)
 abbrev zeroed : ReservationUsage → ReservationUsage
-zeroed u = usageRecord (u .used) (u .«reservation_id») 0 (u .«expires_at»)
+zeroed u = usageWith u (u .used) 0
 
 abbrev restarted : Packet → Outcome → Outcome
 restarted q o = record {

@@ -9,7 +9,7 @@ use Rattle.hns_encoding.specs.Sums.{non}
 use Rattle.hnsr_body.specs.declared.values.ReservationId.{ReservationId}
 use Rattle.hnsr_circuit.specs.declared.records.RelayTicket.{RelayTicket}
 use Rattle.hnsr_circuit.specs.declared.records.ReservationUsage.{ReservationUsage}
-use Rattle.hnsr_circuit.specs.declared.records.Drawing.{Drawing}
+use Rattle.hnsr_circuit.specs.declared.messages.draw.Drawing.{Drawing}
 use Rattle.hnsr_circuit.specs.Table.{any, pick, put}
 use Rattle.hnsr_circuit.specs.Ledger.{noUsage, isUsage, usageAt, freshUsage, booked, usageOf}
 use Rattle.hnsr_circuit.specs.Draw.{zeroDrawn, takenDrawn, freshDrawn, drawTurn, drawAll}

@@ -13,7 +13,7 @@ use Rattle.hnsr_circuit.specs.declared.peer.HnsrPeerId.{HnsrPeerId}
 use Rattle.hnsr_circuit.specs.declared.records.RelayPending.{RelayPending}
 use Rattle.hnsr_circuit.specs.declared.records.RelayCircuit.{RelayCircuit}
 use Rattle.hnsr_circuit.specs.declared.records.InflightAction.{InflightAction}
-use Rattle.hnsr_circuit.specs.declared.records.Walked.{Walked}
+use Rattle.hnsr_circuit.specs.declared.tables.scan.Walked.{Walked}
 use Rattle.hnsr_circuit.specs.declared.answer.HnsrAnswer.{HnsrAnswer}
 use Rattle.hnsr_circuit.specs.declared.answer.HnsrAnswer.the-variants.{Taken, Refused}
 use Rattle.hnsr_circuit.specs.Table.{any, pick, notYet, next}

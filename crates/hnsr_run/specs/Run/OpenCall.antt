@@ -26,7 +26,7 @@ use Rattle.hnsr_circuit.specs.Queue.{sequenceOf, queued, routed, send}
 use Rattle.hnsr_circuit.specs.Counts.{pendingCount}
 use Rattle.hnsr_circuit.specs.Packet.{Packet, sender}
 use Rattle.hnsr_circuit.specs.Draw.{undrawn, draws, idTaken, drawAll, drawn}
-use Rattle.hnsr_circuit.specs.declared.records.Drawing.{Drawing}
+use Rattle.hnsr_circuit.specs.declared.messages.draw.Drawing.{Drawing}
 use Rattle.hnsr_circuit.specs.Open.{deadlineFor, Opening, pendingFor, incomingMessage, withOpen, opening, openAdmitted, openPlaced, openBooked, openGranted, openLapsed, handleOpen}
 use Rattle.hnsr_circuit.specs.Laws.Answers.{check-taken}
 use Rattle.hnsr_circuit.specs.Laws.Peer.{same-comm}

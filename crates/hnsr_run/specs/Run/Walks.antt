@@ -12,7 +12,7 @@ use borrow.Author.Tests.{leb-true, lt-ltb, ltb-false, eqb-false}
 use Rattle.hns_encoding.specs.Laws.Tests.{split, both, join, clash}
 use Rattle.hns_encoding.specs.Sums.{count}
 use Rattle.hns_encoding.specs.Laws.Sums.{count-length}
-use Rattle.hnsr_circuit.specs.declared.records.Walked.{Walked}
+use Rattle.hnsr_circuit.specs.declared.tables.scan.Walked.{Walked}
 use Rattle.hnsr_circuit.specs.Table.{any, placeOf, clear, lowest, notYet, next}
 use Rattle.hnsr_circuit.specs.Route.{Route}
 use Rattle.hnsr_circuit.specs.World.{World}

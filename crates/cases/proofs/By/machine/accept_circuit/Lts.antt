@@ -5,8 +5,8 @@ use Rattle.cases.proofs.By.RelayCircuit
 use Rattle.cases.proofs.By.RelayPending
 use Rattle.cases.proofs.By.ReservationUsage
 use Rattle.cases.proofs.StructRow
-use Rattle.hnsr_circuit.proofs.records.RelayPacket
-use Rattle.hnsr_circuit.proofs.records.RelayPacket.Laws
+use Rattle.hnsr_circuit.proofs.runtime.RelayPacket
+use Rattle.hnsr_circuit.proofs.runtime.RelayPacket.Laws
 use Rattle.hnsr_circuit.proofs.runtime.Relayed
 use Rattle.hnsr_circuit.proofs.runtime.Relayed.Laws as Laws'
 use borrow.Author.Called

@@ -7,14 +7,14 @@ use Rattle.cases.proofs.By.ReservationUsage
 use Rattle.cases.proofs.StructRow
 use Rattle.hnsr_circuit.proofs.answer.HnsrAnswer
 use Rattle.hnsr_circuit.proofs.answer.HnsrAnswer.Laws
-use Rattle.hnsr_circuit.proofs.places.Places
-use Rattle.hnsr_circuit.proofs.places.Places.Laws as Laws'
-use Rattle.hnsr_circuit.proofs.records.RelayPacket
-use Rattle.hnsr_circuit.proofs.records.RelayPacket.Laws as Laws''
 use Rattle.hnsr_circuit.proofs.runtime.OpaqueRelayRuntime
-use Rattle.hnsr_circuit.proofs.runtime.OpaqueRelayRuntime.Laws as Laws'''
+use Rattle.hnsr_circuit.proofs.runtime.OpaqueRelayRuntime.Laws as Laws'
+use Rattle.hnsr_circuit.proofs.runtime.RelayPacket
+use Rattle.hnsr_circuit.proofs.runtime.RelayPacket.Laws as Laws''
 use Rattle.hnsr_circuit.proofs.runtime.Relayed
-use Rattle.hnsr_circuit.proofs.runtime.Relayed.Laws as Laws''''
+use Rattle.hnsr_circuit.proofs.runtime.Relayed.Laws as Laws'''
+use Rattle.hnsr_circuit.proofs.tables.places.Places
+use Rattle.hnsr_circuit.proofs.tables.places.Places.Laws as Laws''''
 use borrow.Author.Called
 use borrow.Fn.Any
 use borrow.Fn.Call
@@ -128,16 +128,16 @@ slice4 = Syntax.tyStruct (38 ∷ 91 ∷ 93 ∷ List.[]) (Syntax.tcons ref4
 abbrev pub ps : List.List (Kinds.PK 6)
 ps = (MutSlice.pMutS RelayPending.row 0 tt) ∷ (MutSlice.pMutS RelayCircuit.row 1 tt) ∷
     (MutSlice.pMutS ReservationUsage.row 2 tt) ∷ (MutSlice.pMutS InflightAction.row 3 tt) ∷ (MutSlice.pMutS
-    (Referent.rtF (Referent.fInt Syntax.w32)) 4 tt) ∷ (StructRow.param Relayed.the-type Laws''''.the-laws
-    Laws''''.the-copy Laws''''.the-plain) ∷ (StructRow.param RelayPacket.the-type Laws''.the-laws Laws''.the-copy
+    (Referent.rtF (Referent.fInt Syntax.w32)) 4 tt) ∷ (StructRow.param Relayed.the-type Laws'''.the-laws
+    Laws'''.the-copy Laws'''.the-plain) ∷ (StructRow.param RelayPacket.the-type Laws''.the-laws Laws''.the-copy
     Laws''.the-plain) ∷ (ShrSlice.pShrS (Referent.rtF (Referent.fInt Syntax.w8)) 5 tt) ∷ Bool.pBool ∷ List.[]
 
 abbrev pub r : Kinds.RK 6
 r = Num.rNum Syntax.w64
 
 abbrev pub xs : List.List Syntax.Ty
-xs = Laws'''.mir ∷ Laws'.mir ∷ Laws''''.mir ∷ Laws''''.mir ∷ Laws.mir ∷ Laws''''.mir ∷ Laws.mir ∷ Syntax.tyBool ∷ ref0
-    ∷ slice0 ∷ ref1 ∷ slice1 ∷ ref2 ∷ slice2 ∷ ref3 ∷ slice3 ∷ ref0 ∷ slice0 ∷ ref1 ∷ slice1 ∷ ref4 ∷ slice4 ∷ ref2 ∷
+xs = Laws'.mir ∷ Laws''''.mir ∷ Laws'''.mir ∷ Laws'''.mir ∷ Laws.mir ∷ Laws'''.mir ∷ Laws.mir ∷ Syntax.tyBool ∷ ref0 ∷
+    slice0 ∷ ref1 ∷ slice1 ∷ ref2 ∷ slice2 ∷ ref3 ∷ slice3 ∷ ref0 ∷ slice0 ∷ ref1 ∷ slice1 ∷ ref4 ∷ slice4 ∷ ref2 ∷
     slice2 ∷ ref3 ∷ slice3 ∷ ref0 ∷ slice0 ∷ ref1 ∷ slice1 ∷ ref4 ∷ slice4 ∷ ref2 ∷ slice2 ∷ ref3 ∷ slice3 ∷ List.[]
 
 abbrev pub m : Nat.ℕ
@@ -146,22 +146,22 @@ m = 14
 abbrev pub ps·0 : List.List (Kinds.PK 4)
 ps·0 = (MutSlice.pMutS RelayPending.row 0 tt) ∷ (MutSlice.pMutS RelayCircuit.row 1 tt) ∷
     (MutSlice.pMutS InflightAction.row 2 tt) ∷ (MutSlice.pMutS (Referent.rtF (Referent.fInt Syntax.w32)) 3 tt) ∷ (StructRow.param
-    OpaqueRelayRuntime.the-type Laws'''.the-laws Laws'''.the-copy Laws'''.the-plain) ∷ (StructRow.param Places.the-type
-    Laws'.the-laws Laws'.the-copy Laws'.the-plain) ∷ (Num.pNum Syntax.w64) ∷ (Num.pNum Syntax.w64) ∷ Bool.pBool ∷
-    List.[]
+    OpaqueRelayRuntime.the-type Laws'.the-laws Laws'.the-copy Laws'.the-plain) ∷ (StructRow.param Places.the-type
+    Laws''''.the-laws Laws''''.the-copy Laws''''.the-plain) ∷ (Num.pNum Syntax.w64) ∷ (Num.pNum Syntax.w64) ∷
+    Bool.pBool ∷ List.[]
 
 abbrev pub r·0 : Kinds.RK 4
-r·0 = StructRow.result Relayed.the-type Laws''''.the-laws Laws''''.the-copy Laws''''.the-plain
+r·0 = StructRow.result Relayed.the-type Laws'''.the-laws Laws'''.the-copy Laws'''.the-plain
 
 abbrev pub ps·1 : List.List (Kinds.PK 6)
 ps·1 = (MutSlice.pMutS RelayPending.row 0 tt) ∷ (MutSlice.pMutS RelayCircuit.row 1 tt) ∷
     (MutSlice.pMutS ReservationUsage.row 2 tt) ∷ (MutSlice.pMutS InflightAction.row 3 tt) ∷ (MutSlice.pMutS
-    (Referent.rtF (Referent.fInt Syntax.w32)) 4 tt) ∷ (StructRow.param Relayed.the-type Laws''''.the-laws
-    Laws''''.the-copy Laws''''.the-plain) ∷ (StructRow.param RelayPacket.the-type Laws''.the-laws Laws''.the-copy
+    (Referent.rtF (Referent.fInt Syntax.w32)) 4 tt) ∷ (StructRow.param Relayed.the-type Laws'''.the-laws
+    Laws'''.the-copy Laws'''.the-plain) ∷ (StructRow.param RelayPacket.the-type Laws''.the-laws Laws''.the-copy
     Laws''.the-plain) ∷ (Num.pNum Syntax.w8) ∷ (ShrSlice.pShrS (Referent.rtF (Referent.fInt Syntax.w8)) 5 tt) ∷ List.[]
 
 abbrev pub r·1 : Kinds.RK 6
-r·1 = StructRow.result Relayed.the-type Laws''''.the-laws Laws''''.the-copy Laws''''.the-plain
+r·1 = StructRow.result Relayed.the-type Laws'''.the-laws Laws'''.the-copy Laws'''.the-plain
 
 abbrev pub ps·2 : List.List (Kinds.PK 0)
 ps·2 = (StructRow.enum-param HnsrAnswer.the-type Laws.the-laws Laws.the-copy Laws.the-plain tt) ∷ List.[]
@@ -223,7 +223,7 @@ b10 = Syntax.assign (Syntax.place 25 List.[]) (Syntax.aggregate ((Syntax.copy (S
     (Syntax.copy (Syntax.place 5 ((Syntax.field 1) ∷ List.[]))) ∷ List.[]))
 
 abbrev b11 : Syntax.Body
-b11 = Syntax.call "hnsr_circuit::acknowledge::acknowledge" ((Syntax.copy (Syntax.place 19 List.[])) ∷
+b11 = Syntax.call "hnsr_circuit::calls::acknowledge::acknowledge" ((Syntax.copy (Syntax.place 19 List.[])) ∷
     (Syntax.copy (Syntax.place 21 List.[])) ∷ (Syntax.copy (Syntax.place 23 List.[])) ∷
     (Syntax.copy (Syntax.place 25 List.[])) ∷ (Syntax.copy (Syntax.place 10 List.[])) ∷
     (Syntax.copy (Syntax.place 11 List.[])) ∷ (Syntax.int Syntax.w64 1) ∷ (Syntax.int Syntax.w64 3) ∷ Syntax.opdTrue ∷
@@ -506,22 +506,22 @@ abbrev e9 : Row.Entry
 e9 = (9, Rows.sc-here Row.sBool)
 
 abbrev e10 : Row.Entry
-e10 = (10, Rows.any-gone Laws'''.mir)
+e10 = (10, Rows.any-gone Laws'.mir)
 
 abbrev e11 : Row.Entry
-e11 = (11, Rows.any-gone Laws'.mir)
+e11 = (11, Rows.any-gone Laws''''.mir)
 
 abbrev e12 : Row.Entry
-e12 = (12, Rows.any-gone Laws''''.mir)
+e12 = (12, Rows.any-gone Laws'''.mir)
 
 abbrev e13 : Row.Entry
-e13 = (13, Rows.any-gone Laws''''.mir)
+e13 = (13, Rows.any-gone Laws'''.mir)
 
 abbrev e14 : Row.Entry
 e14 = (14, Rows.any-gone Laws.mir)
 
 abbrev e15 : Row.Entry
-e15 = (15, Rows.any-gone Laws''''.mir)
+e15 = (15, Rows.any-gone Laws'''.mir)
 
 abbrev e16 : Row.Entry
 e16 = (16, Rows.any-gone Laws.mir)
@@ -617,7 +617,7 @@ abbrev e0·1 : Row.Entry
 e0·1 = (0, Rows.sc-here (Row.sInt Syntax.w64))
 
 abbrev e6·1 : Row.Entry
-e6·1 = (6, Rows.any-gone Laws''''.mir)
+e6·1 = (6, Rows.any-gone Laws'''.mir)
 
 abbrev e7·1 : Row.Entry
 e7·1 = (7, Rows.any-gone Laws''.mir)
@@ -1358,7 +1358,7 @@ module _ (claims· : Claims) where
       Unit
 
   abbrev s6 : (bs : List.List Nat.ℕ) → Typed.Mo T8 → Typed.Mo T9
-  s6 = λ bs. Scalar.n-room T8 6 Laws''''.mir
+  s6 = λ bs. Scalar.n-room T8 6 Laws'''.mir
 
   abbrev s8 : (bs : List.List Nat.ℕ) → Typed.Gives T9 T11
   s8 = λ bs. Relend.k-sl-relend RelayPending.row T9 1 18 0 6 ref5 ref0 Row.off λ x. x
@@ -1408,13 +1408,13 @@ module _ (claims· : Claims) where
         ),
       ),
     ),
-  ) 12 (6 ∷ 7 ∷ 8 ∷ 9 ∷ List.[]) Laws''''.mir
+  ) 12 (6 ∷ 7 ∷ 8 ∷ 9 ∷ List.[]) Laws'''.mir
 
   abbrev s20 : (bs : List.List Nat.ℕ) → Typed.Mo T22 → Typed.Mo T23
-  s20 = λ bs. Scalar.n-room T22 10 Laws'''.mir
+  s20 = λ bs. Scalar.n-room T22 10 Laws'.mir
 
   abbrev s21 : (bs : List.List Nat.ℕ) → Typed.Mo T23 → Typed.Mo T24
-  s21 = λ bs. Scalar.n-room T23 11 Laws'.mir
+  s21 = λ bs. Scalar.n-room T23 11 Laws''''.mir
 
   abbrev s23 : (bs : List.List Nat.ℕ) → Typed.Both T24 T26
   s23 = λ bs. Relend.k-back-sl RelayPending.row T24 19 1 0 6 ref5 ref0 Row.off (λ x. x) λ x. x
@@ -1489,13 +1489,13 @@ module _ (claims· : Claims) where
         ),
       ),
     ),
-  ) 13 (10 ∷ 11 ∷ 12 ∷ 13 ∷ 14 ∷ 5 ∷ List.[]) Laws''''.mir
+  ) 13 (10 ∷ 11 ∷ 12 ∷ 13 ∷ 14 ∷ 5 ∷ List.[]) Laws'''.mir
 
   abbrev s51 : (bs : List.List Nat.ℕ) → Typed.Mo T53 → Typed.Mo T54
   s51 = λ bs. Scalar.n-room T53 7 Laws''.mir
 
   abbrev s52 : (bs : List.List Nat.ℕ) → Typed.Mo T54 → Typed.Mo T55
-  s52 = λ bs. Scalar.n-room T54 12 Laws''''.mir
+  s52 = λ bs. Scalar.n-room T54 12 Laws'''.mir
 
   abbrev s54 : (bs : List.List Nat.ℕ) → Typed.Both T55 T57
   s54 = λ bs. Relend.k-back-sl RelayPending.row T55 27 1 0 10 ref5 ref0 Row.off (λ x. x) λ x. x
@@ -1521,7 +1521,7 @@ module _ (claims· : Claims) where
       (m .1 .1 .1 .1 .1 .1 .1 .1 .1 .1 .1 .1 .1 .0) .1 .0
 
   abbrev s70 : (bs : List.List Nat.ℕ) → Typed.Mo T72 → Typed.Mo T73
-  s70 = λ bs. Scalar.n-room T72 13 Laws''''.mir
+  s70 = λ bs. Scalar.n-room T72 13 Laws'''.mir
 
   abbrev s71 : (bs : List.List Nat.ℕ) → Typed.Both T73 T74
   s71 = λ bs. Call.callB ps·2 r·2 (claims· .4) (claims· .5) T73
@@ -1594,10 +1594,10 @@ module _ (claims· : Claims) where
         ),
       ),
     ),
-  ) 15 (15 ∷ 16 ∷ 17 ∷ 18 ∷ 19 ∷ 5 ∷ List.[]) Laws''''.mir
+  ) 15 (15 ∷ 16 ∷ 17 ∷ 18 ∷ 19 ∷ 5 ∷ List.[]) Laws'''.mir
 
   abbrev s91 : (bs : List.List Nat.ℕ) → Typed.Mo T93 → Typed.Mo T94
-  s91 = λ bs. Scalar.n-room T93 6 Laws''''.mir
+  s91 = λ bs. Scalar.n-room T93 6 Laws'''.mir
 
   abbrev s92 : (bs : List.List Nat.ℕ) → Typed.Mo T94 → Typed.Mo T95
   s92 = λ bs. Scalar.n-room T94 7 Laws''.mir
@@ -1626,7 +1626,7 @@ module _ (claims· : Claims) where
       (m .1 .1 .1 .1 .1 .1 .1 .1 .1 .1 .1 .1 .1 .1 .1 .0) .1 .0
 
   abbrev s110 : (bs : List.List Nat.ℕ) → Typed.Mo T112 → Typed.Mo T113
-  s110 = λ bs. Scalar.n-room T112 15 Laws''''.mir
+  s110 = λ bs. Scalar.n-room T112 15 Laws'''.mir
 
   abbrev s111 : (bs : List.List Nat.ℕ) → Typed.Both T113 T114
   s111 = λ bs. Call.callB ps·2 r·2 (claims· .4) (claims· .5) T113
@@ -1643,7 +1643,7 @@ module _ (claims· : Claims) where
     module _ (M : Type 1) where
       abbrev pub Closed : Type 2
       Closed = (𝓤 : URA.URA M) (H : Wp.Heap 𝓤) (A : Atoms.Atoms 𝓤) (W : Kit.Given 𝓤 H A) (𝓣 : Wp.Tables 𝓤 H) (known0 :
-          Plain.Known 𝓤 H A W 𝓣 4 ps·0 r·0 (claims· .0) (claims· .1) "hnsr_circuit::acknowledge::acknowledge") (known1
+          Plain.Known 𝓤 H A W 𝓣 4 ps·0 r·0 (claims· .0) (claims· .1) "hnsr_circuit::calls::acknowledge::acknowledge") (known1
           : Plain.Known 𝓤 H A W 𝓣 6 ps·1 r·1 (claims· .2) (claims· .3) "cases::machine::deliver") (known2 : Plain.Known
           𝓤 H A W 𝓣 0 ps·2 r·2 (claims· .4) (claims· .5) "cases::script::answer_number") → Statement.Triple 𝓤 (Wp.WpFn
           𝓤 H (𝓣 .C) (𝓣 .Λ) (Function.fnOf 6 ps r xs m hs body)) (Function.plainOf 𝓤 H A 6 ps r Pre· Post·)
@@ -2012,9 +2012,10 @@ module _ (claims· : Claims) where
       module _ {M : Type 1} (𝓤 : URA.URA M) (H : Wp.Heap 𝓤) (A : Atoms.Atoms 𝓤) (W : Kit.Given 𝓤 H A)
           (𝓣 : Wp.Tables 𝓤 H) where
         abbrev Knowns : Type 1
-        Knowns = Plain.Known 𝓤 H A W 𝓣 4 ps·0 r·0 (claims· .0) (claims· .1) "hnsr_circuit::acknowledge::acknowledge" ×
-            Plain.Known 𝓤 H A W 𝓣 6 ps·1 r·1 (claims· .2) (claims· .3) "cases::machine::deliver" × Plain.Known 𝓤 H A W
-            𝓣 0 ps·2 r·2 (claims· .4) (claims· .5) "cases::script::answer_number"
+        Knowns = Plain.Known 𝓤 H A W 𝓣 4 ps·0 r·0 (claims· .0) (claims· .1)
+            "hnsr_circuit::calls::acknowledge::acknowledge" × Plain.Known 𝓤 H A W 𝓣 6 ps·1 r·1 (claims· .2)
+            (claims· .3) "cases::machine::deliver" × Plain.Known 𝓤 H A W 𝓣 0 ps·2 r·2 (claims· .4) (claims· .5)
+            "cases::script::answer_number"
 
       module _ (κs : Lifetimes.Lfts 6) (qs : Lifetimes.Shares 6) where
         abbrev life0 : Row.Life
@@ -3092,8 +3093,7 @@ module _ (claims· : Claims) where
 
           d4 : Typed.Typed 𝓤 H A 𝓣 E G72 b26 Δ1 (at4 bs)
           d4 = Typed.g-pre 𝓤 H A W 𝓣 E G72 G73 b26 Δ1 (Typed.pass T72 T73 (s70 bs)) (at3 bs) (Scalar.g-room 𝓤 H A W E
-              G72 13 Laws''''.mir (Local.room-whole 𝓤 H A W (Declared'.row Relayed.the-type) Laws''''.mir Path.refl))
-              d3
+              G72 13 Laws'''.mir (Local.room-whole 𝓤 H A W (Declared'.row Relayed.the-type) Laws'''.mir Path.refl)) d3
 
           d5 : Typed.Typed 𝓤 H A 𝓣 E G71 b27 Δ1 (at5 bs)
           d5 = Typed.s-seq 𝓤 H A W 𝓣 E G71 G72 b23 b26 Δ1 (Typed.pass T70 T72 (s69 bs)) (at4 bs) (CopyOut.t-copy-told 𝓤
@@ -3102,18 +3102,18 @@ module _ (claims· : Claims) where
               G71 14 (Scalar.oFld 13 ((Syntax.field 1) ∷ List.[]) Laws.mir 160 λ x. Laws'''''.val HnsrAnswer.the-type
               Laws.the-laws (Relayed.struct .as-values x .1 .0)) (λ m. Relayed.struct .as-values
               (m .1 .1 .1 .1 .1 .1 .1 .1 .1 .1 .1 .1 .1 .0) .1 .0) (λ m. Laws''''''.Is (Declared'.row Relayed.the-type)
-              (m .1 .1 .1 .1 .1 .1 .1 .1 .1 .1 .1 .1 .1 .0) (Laws'''''''.vals Relayed.the-type Laws''''.the-laws
+              (m .1 .1 .1 .1 .1 .1 .1 .1 .1 .1 .1 .1 .1 .0) (Laws'''''''.vals Relayed.the-type Laws'''.the-laws
               (m .1 .1 .1 .1 .1 .1 .1 .1 .1 .1 .1 .1 .1 .0))) (Reads'.room-gone 𝓤 H A Laws.mir) (
-                Reads.reads-field 𝓤 H A W Relayed.the-type Laws''''.the-laws 1 Laws.mir 160 Path.refl,
+                Reads.reads-field 𝓤 H A W Relayed.the-type Laws'''.the-laws 1 Laws.mir 160 Path.refl,
                 Path.refl,
               ) Path.refl (λ ρ m. Make.tells-row 𝓤 H A W E ρ (Row.out 14 (G71 .locals)) m 13 (Laws''''''.Is
               (Declared'.row Relayed.the-type) (m .1 .1 .1 .1 .1 .1 .1 .1 .1 .1 .1 .1 .1 .0) (Laws'''''''.vals
-              Relayed.the-type Laws''''.the-laws (m .1 .1 .1 .1 .1 .1 .1 .1 .1 .1 .1 .1 .1 .0))) (Make.whole-is 𝓤 H A W
-              E (Declared'.row Relayed.the-type) Path.refl (Laws'''''''.val Relayed.the-type Laws''''.the-laws)
-              (Laws'''''''.tells Relayed.the-type Laws''''.the-laws) ρ 13
-              (m .1 .1 .1 .1 .1 .1 .1 .1 .1 .1 .1 .1 .1 .0))) (λ m k wa. Path.refl) λ m k wa. Laws'''''''.owed
-              Relayed.the-type Laws''''.the-laws (m .1 .1 .1 .1 .1 .1 .1 .1 .1 .1 .1 .1 .1 .0) (Laws'''''''.vals
-              Relayed.the-type Laws''''.the-laws (m .1 .1 .1 .1 .1 .1 .1 .1 .1 .1 .1 .1 .1 .0)) k .1 .0) d4
+              Relayed.the-type Laws'''.the-laws (m .1 .1 .1 .1 .1 .1 .1 .1 .1 .1 .1 .1 .1 .0))) (Make.whole-is 𝓤 H A W
+              E (Declared'.row Relayed.the-type) Path.refl (Laws'''''''.val Relayed.the-type Laws'''.the-laws)
+              (Laws'''''''.tells Relayed.the-type Laws'''.the-laws) ρ 13 (m .1 .1 .1 .1 .1 .1 .1 .1 .1 .1 .1 .1 .1 .0)))
+              (λ m k wa. Path.refl) λ m k wa. Laws'''''''.owed Relayed.the-type Laws'''.the-laws
+              (m .1 .1 .1 .1 .1 .1 .1 .1 .1 .1 .1 .1 .1 .0) (Laws'''''''.vals Relayed.the-type Laws'''.the-laws
+              (m .1 .1 .1 .1 .1 .1 .1 .1 .1 .1 .1 .1 .1 .0)) k .1 .0) d4
 
           d6 : Typed.Typed 𝓤 H A 𝓣 E G70 b27 Δ1 (at6 bs)
           d6 = Typed.g-pre 𝓤 H A W 𝓣 E G70 G71 b27 Δ1 (λ Ψ. Ψ) (at5 bs)
@@ -3191,8 +3191,7 @@ module _ (claims· : Claims) where
 
           d22 : Typed.Typed 𝓤 H A 𝓣 E G54 b27 Δ1 (at22 bs)
           d22 = Typed.g-pre 𝓤 H A W 𝓣 E G54 G55 b27 Δ1 (Typed.pass T54 T55 (s52 bs)) (at21 bs) (Scalar.g-room 𝓤 H A W E
-              G54 12 Laws''''.mir (Local.room-whole 𝓤 H A W (Declared'.row Relayed.the-type) Laws''''.mir Path.refl))
-              d21
+              G54 12 Laws'''.mir (Local.room-whole 𝓤 H A W (Declared'.row Relayed.the-type) Laws'''.mir Path.refl)) d21
 
           d23 : Typed.Typed 𝓤 H A 𝓣 E G53 b27 Δ1 (at23 bs)
           d23 = Typed.g-pre 𝓤 H A W 𝓣 E G53 G54 b27 Δ1 (Typed.pass T53 T54 (s51 bs)) (at22 bs) (Scalar.g-room 𝓤 H A W E
@@ -3245,7 +3244,7 @@ module _ (claims· : Claims) where
                         (
                           (
                             Yields.yields-copy 𝓤 H A W (λ ρ. Unit) (Declared'.row Relayed.the-type) Path.refl (Copies.cStruct
-                                Relayed.the-type Laws''''.the-laws Laws''''.the-copy .copy 𝓤 H A W)
+                                Relayed.the-type Laws'''.the-laws Laws'''.the-copy .copy 𝓤 H A W)
                                 (Rows.whole (Declared'.row Relayed.the-type)) (λ x. x) (λ x. x) (λ ρ told.
                                 Local.mem-whole 𝓤 H A W (Declared'.row Relayed.the-type) ρ) λ ρ told. Local.whole-mem 𝓤
                                 H A W (Declared'.row Relayed.the-type) ρ,
@@ -3275,7 +3274,7 @@ module _ (claims· : Claims) where
                     ),
                   ),
                 ),
-              ) (Reads'.room-gone 𝓤 H A Laws''''.mir) (tt, (tt, (tt, (tt, (tt, (tt, tt)))))) Path.refl) d23
+              ) (Reads'.room-gone 𝓤 H A Laws'''.mir) (tt, (tt, (tt, (tt, (tt, (tt, tt)))))) Path.refl) d23
 
           d25 : Typed.Typed 𝓤 H A 𝓣 E G51 b29 Δ1 (at25 bs)
           d25 = Typed.s-seq 𝓤 H A W 𝓣 E G51 G52 b21 b28 Δ1 (Typed.ask (s49 bs)) (at24 bs) (Relend.t-sl-aggregate 𝓤 H A
@@ -4076,17 +4075,18 @@ module _ (claims· : Claims) where
 
           d53 : Typed.Typed 𝓤 H A 𝓣 E G23 b38 Δ1 (at53 bs)
           d53 = Typed.g-pre 𝓤 H A W 𝓣 E G23 G24 b38 Δ1 (Typed.pass T23 T24 (s21 bs)) (at52 bs) (Scalar.g-room 𝓤 H A W E
-              G23 11 Laws'.mir (Local.room-whole 𝓤 H A W (Declared'.row Places.the-type) Laws'.mir Path.refl)) d52
+              G23 11 Laws''''.mir (Local.room-whole 𝓤 H A W (Declared'.row Places.the-type) Laws''''.mir Path.refl))
+              d52
 
           d54 : Typed.Typed 𝓤 H A 𝓣 E G22 b38 Δ1 (at54 bs)
           d54 = Typed.g-pre 𝓤 H A W 𝓣 E G22 G23 b38 Δ1 (Typed.pass T22 T23 (s20 bs)) (at53 bs) (Scalar.g-room 𝓤 H A W E
-              G22 10 Laws'''.mir (Local.room-whole 𝓤 H A W (Declared'.row OpaqueRelayRuntime.the-type) Laws'''.mir
+              G22 10 Laws'.mir (Local.room-whole 𝓤 H A W (Declared'.row OpaqueRelayRuntime.the-type) Laws'.mir
               Path.refl)) d53
 
           d55 : Typed.Typed 𝓤 H A 𝓣 E G21 b39 Δ1 (at55 bs)
           d55 = Typed.s-seq 𝓤 H A W 𝓣 E G21 G22 b11 b38 Δ1 (Typed.both (s19 bs)) (at54 bs) (Plain.t-call-plain 𝓤 H A W
-              𝓣 4 ps·0 r·0 (claims· .0) (claims· .1) "hnsr_circuit::acknowledge::acknowledge" (known .0) E (λ pos β. β)
-              G21 (
+              𝓣 4 ps·0 r·0 (claims· .0) (claims· .1) "hnsr_circuit::calls::acknowledge::acknowledge" (known .0) E
+              (λ pos β. β) G21 (
                 record { pos = 19; ty = ref0; ref = λ x. x },
                 (
                   record { pos = 21; ty = ref1; ref = λ x. x },
@@ -4123,7 +4123,7 @@ module _ (claims· : Claims) where
                       (
                         (
                           Yields.yields-copy 𝓤 H A W (λ ρ. Unit) (Declared'.row OpaqueRelayRuntime.the-type) Path.refl (Copies.cStruct
-                              OpaqueRelayRuntime.the-type Laws'''.the-laws Laws'''.the-copy .copy 𝓤 H A W)
+                              OpaqueRelayRuntime.the-type Laws'.the-laws Laws'.the-copy .copy 𝓤 H A W)
                               (Rows.whole (Declared'.row OpaqueRelayRuntime.the-type)) (λ x. x) (λ x. x) (λ ρ told.
                               Local.mem-whole 𝓤 H A W (Declared'.row OpaqueRelayRuntime.the-type) ρ) λ ρ told.
                               Local.whole-mem 𝓤 H A W (Declared'.row OpaqueRelayRuntime.the-type) ρ,
@@ -4132,7 +4132,7 @@ module _ (claims· : Claims) where
                         (
                           (
                             Yields.yields-copy 𝓤 H A W (λ ρ. Unit) (Declared'.row Places.the-type) Path.refl (Copies.cStruct
-                                Places.the-type Laws'.the-laws Laws'.the-copy .copy 𝓤 H A W)
+                                Places.the-type Laws''''.the-laws Laws''''.the-copy .copy 𝓤 H A W)
                                 (Rows.whole (Declared'.row Places.the-type)) (λ x. x) (λ x. x) (λ ρ told.
                                 Local.mem-whole 𝓤 H A W (Declared'.row Places.the-type) ρ) λ ρ told. Local.whole-mem 𝓤
                                 H A W (Declared'.row Places.the-type) ρ,
@@ -4144,7 +4144,7 @@ module _ (claims· : Claims) where
                     ),
                   ),
                 ),
-              ) (Reads'.room-gone 𝓤 H A Laws''''.mir) (tt, (tt, (tt, (tt, tt)))) Path.refl) d54
+              ) (Reads'.room-gone 𝓤 H A Laws'''.mir) (tt, (tt, (tt, (tt, tt)))) Path.refl) d54
 
           d56 : Typed.Typed 𝓤 H A 𝓣 E G20 b40 Δ1 (at56 bs)
           d56 = Typed.s-seq 𝓤 H A W 𝓣 E G20 G21 b10 b39 Δ1 (Typed.ask (s18 bs)) (at55 bs) (Relend.t-sl-aggregate 𝓤 H A
@@ -4737,13 +4737,13 @@ module _ (claims· : Claims) where
 
           d68 : Typed.Typed 𝓤 H A 𝓣 E G8 b47 Δ1 (at68 bs)
           d68 = Typed.g-pre 𝓤 H A W 𝓣 E G8 G9 b47 Δ1 (Typed.pass T8 T9 (s6 bs)) (at67 bs) (Scalar.g-room 𝓤 H A W E G8 6
-              Laws''''.mir (Local.room-whole 𝓤 H A W (Declared'.row Relayed.the-type) Laws''''.mir Path.refl)) d67
+              Laws'''.mir (Local.room-whole 𝓤 H A W (Declared'.row Relayed.the-type) Laws'''.mir Path.refl)) d67
 
           d69 : Typed.Typed 𝓤 H A 𝓣 E G7 b48 Δ1 (at69 bs)
           d69 = Typed.s-seq 𝓤 H A W 𝓣 E G7 G8 b2 b47 Δ1 (Typed.both (s5 bs)) (at68 bs) (WayStmt.t-way-copy-out 𝓤 H A W
-              E 𝓣 (Declared'.row Places.the-type) Path.refl (Copies.cStruct Places.the-type Laws'.the-laws
-              Laws'.the-copy .copy 𝓤 H A W) (λ ρ. Unit) G7 (Row.out 6 (G7 .locals)) (λ u. Row.drop 6 (G7 .locals) u)
-              (G7 .slots) 6 (λ t. (Syntax.field 3) ∷ t) Laws'.mir Laws'.mir 11
+              E 𝓣 (Declared'.row Places.the-type) Path.refl (Copies.cStruct Places.the-type Laws''''.the-laws
+              Laws''''.the-copy .copy 𝓤 H A W) (λ ρ. Unit) G7 (Row.out 6 (G7 .locals)) (λ u. Row.drop 6 (G7 .locals) u)
+              (G7 .slots) 6 (λ t. (Syntax.field 3) ∷ t) Laws''''.mir Laws''''.mir 11
               (Rows.whole (Declared'.row Places.the-type)) (λ x. x) (λ u. At.getAt (Relayed.the-type .parts) 3
               (Relayed.struct .as-values (u .1 .1 .1 .1 .1 .1 .0))) (λ u. (
                 Row.hd 0 (Row.tl (Row.tl (Row.tl (Row.tl (Row.tl (Row.tl bs)))))),
@@ -4754,7 +4754,7 @@ module _ (claims· : Claims) where
               }) (λ u T′ m′. Row.set 6 (6, Rows.whole (Declared'.row Relayed.the-type)) (u .1 .1 .1 .1 .1 .1 .0) T′ m′)
               (λ u. Unit) (λ x. Unit) (Own.told-none 𝓤 H A (G7 .slots)) (DerefMove.learns-nothing 𝓤 H A
               (Declared'.row Places.the-type)) (λ ρ told u asked. Way'.w-partˢ 𝓤 H A W E
-              (Declared'.row Relayed.the-type) (Declared'.row Places.the-type) Laws''''.mir Laws'.mir 3 216
+              (Declared'.row Relayed.the-type) (Declared'.row Places.the-type) Laws'''.mir Laws''''.mir 3 216
               (u .1 .1 .1 .1 .1 .1 .0) (At.getAt (Relayed.the-type .parts) 3
               (Relayed.struct .as-values (u .1 .1 .1 .1 .1 .1 .0))) (
                 Row.hd 0 (Row.tl (Row.tl (Row.tl (Row.tl (Row.tl (Row.tl bs)))))),
@@ -4770,19 +4770,19 @@ module _ (claims· : Claims) where
               (Relayed.the-type .parts) 3 (Relayed.struct .as-values (u .1 .1 .1 .1 .1 .1 .0))) (
                 Row.hd 0 (Row.tl (Row.tl (Row.tl (Row.tl (Row.tl (Row.tl bs)))))),
                 0,
-              ) (Behind.look-at 𝓤 H A W q Relayed.the-type Laws''''.the-laws 3 216 Path.refl Path.refl (
+              ) (Behind.look-at 𝓤 H A W q Relayed.the-type Laws'''.the-laws 3 216 Path.refl Path.refl (
                 Row.hd 0 (Row.tl (Row.tl (Row.tl (Row.tl (Row.tl (Row.tl bs)))))),
                 0,
               ) (u .1 .1 .1 .1 .1 .1 .0) (Relayed.struct .as-values (u .1 .1 .1 .1 .1 .1 .0)) Path.refl))
-              (Reads'.room-gone 𝓤 H A Laws'.mir) (Yields.makes-mem 𝓤 H A W (λ ρ. Unit) (Declared'.row Places.the-type)
-              Path.refl (Rows.whole (Declared'.row Places.the-type)) (λ x. x) λ ρ told. Local.whole-mem 𝓤 H A W
-              (Declared'.row Places.the-type) ρ) Path.refl Path.refl Path.refl) d68
+              (Reads'.room-gone 𝓤 H A Laws''''.mir) (Yields.makes-mem 𝓤 H A W (λ ρ. Unit)
+              (Declared'.row Places.the-type) Path.refl (Rows.whole (Declared'.row Places.the-type)) (λ x. x) λ ρ told.
+              Local.whole-mem 𝓤 H A W (Declared'.row Places.the-type) ρ) Path.refl Path.refl Path.refl) d68
 
           d70 : Typed.Typed 𝓤 H A 𝓣 E G6 b49 Δ1 (at70 bs)
           d70 = Typed.s-seq 𝓤 H A W 𝓣 E G6 G7 b1 b48 Δ1 (Typed.both (s4 bs)) (at69 bs) (WayStmt.t-way-copy-out 𝓤 H A W
               E 𝓣 (Declared'.row OpaqueRelayRuntime.the-type) Path.refl (Copies.cStruct OpaqueRelayRuntime.the-type
-              Laws'''.the-laws Laws'''.the-copy .copy 𝓤 H A W) (λ ρ. Unit) G6 (Row.out 6 (G6 .locals))
-              (λ u. Row.drop 6 (G6 .locals) u) (G6 .slots) 6 (λ t. (Syntax.field 0) ∷ t) Laws'''.mir Laws'''.mir 10
+              Laws'.the-laws Laws'.the-copy .copy 𝓤 H A W) (λ ρ. Unit) G6 (Row.out 6 (G6 .locals))
+              (λ u. Row.drop 6 (G6 .locals) u) (G6 .slots) 6 (λ t. (Syntax.field 0) ∷ t) Laws'.mir Laws'.mir 10
               (Rows.whole (Declared'.row OpaqueRelayRuntime.the-type)) (λ x. x) (λ u. At.getAt
               (Relayed.the-type .parts) 0 (Relayed.struct .as-values (u .1 .1 .1 .1 .1 .1 .0))) (λ u. (
                 Row.hd 0 (Row.tl (Row.tl (Row.tl (Row.tl (Row.tl (Row.tl bs)))))),
@@ -4793,7 +4793,7 @@ module _ (claims· : Claims) where
               }) (λ u T′ m′. Row.set 6 (6, Rows.whole (Declared'.row Relayed.the-type)) (u .1 .1 .1 .1 .1 .1 .0) T′ m′)
               (λ u. Unit) (λ x. Unit) (Own.told-none 𝓤 H A (G6 .slots)) (DerefMove.learns-nothing 𝓤 H A
               (Declared'.row OpaqueRelayRuntime.the-type)) (λ ρ told u asked. Way'.w-partˢ 𝓤 H A W E
-              (Declared'.row Relayed.the-type) (Declared'.row OpaqueRelayRuntime.the-type) Laws''''.mir Laws'''.mir 0 0
+              (Declared'.row Relayed.the-type) (Declared'.row OpaqueRelayRuntime.the-type) Laws'''.mir Laws'.mir 0 0
               (u .1 .1 .1 .1 .1 .1 .0) (At.getAt (Relayed.the-type .parts) 0
               (Relayed.struct .as-values (u .1 .1 .1 .1 .1 .1 .0))) (
                 Row.hd 0 (Row.tl (Row.tl (Row.tl (Row.tl (Row.tl (Row.tl bs)))))),
@@ -4810,11 +4810,11 @@ module _ (claims· : Claims) where
               (Relayed.struct .as-values (u .1 .1 .1 .1 .1 .1 .0))) (
                 Row.hd 0 (Row.tl (Row.tl (Row.tl (Row.tl (Row.tl (Row.tl bs)))))),
                 0,
-              ) (Behind.look-at 𝓤 H A W q Relayed.the-type Laws''''.the-laws 0 0 Path.refl Path.refl (
+              ) (Behind.look-at 𝓤 H A W q Relayed.the-type Laws'''.the-laws 0 0 Path.refl Path.refl (
                 Row.hd 0 (Row.tl (Row.tl (Row.tl (Row.tl (Row.tl (Row.tl bs)))))),
                 0,
               ) (u .1 .1 .1 .1 .1 .1 .0) (Relayed.struct .as-values (u .1 .1 .1 .1 .1 .1 .0)) Path.refl))
-              (Reads'.room-gone 𝓤 H A Laws'''.mir) (Yields.makes-mem 𝓤 H A W (λ ρ. Unit)
+              (Reads'.room-gone 𝓤 H A Laws'.mir) (Yields.makes-mem 𝓤 H A W (λ ρ. Unit)
               (Declared'.row OpaqueRelayRuntime.the-type) Path.refl
               (Rows.whole (Declared'.row OpaqueRelayRuntime.the-type)) (λ x. x) λ ρ told. Local.whole-mem 𝓤 H A W
               (Declared'.row OpaqueRelayRuntime.the-type) ρ) Path.refl Path.refl Path.refl) d69
@@ -4863,7 +4863,7 @@ module _ (claims· : Claims) where
 
           d79 : Typed.Typed 𝓤 H A 𝓣 E G112 b66 Δ0 (at79 bs)
           d79 = Typed.g-pre 𝓤 H A W 𝓣 E G112 G113 b66 Δ0 (Typed.pass T112 T113 (s110 bs)) (at78 bs) (Scalar.g-room 𝓤 H
-              A W E G112 15 Laws''''.mir (Local.room-whole 𝓤 H A W (Declared'.row Relayed.the-type) Laws''''.mir
+              A W E G112 15 Laws'''.mir (Local.room-whole 𝓤 H A W (Declared'.row Relayed.the-type) Laws'''.mir
               Path.refl)) d78
 
           d80 : Typed.Typed 𝓤 H A 𝓣 E G111 b67 Δ0 (at80 bs)
@@ -4875,18 +4875,18 @@ module _ (claims· : Claims) where
               (Relayed.struct .as-values x .1 .0)) (λ m. Relayed.struct .as-values
               (m .1 .1 .1 .1 .1 .1 .1 .1 .1 .1 .1 .1 .1 .1 .1 .0) .1 .0) (λ m. Laws''''''.Is
               (Declared'.row Relayed.the-type) (m .1 .1 .1 .1 .1 .1 .1 .1 .1 .1 .1 .1 .1 .1 .1 .0) (Laws'''''''.vals
-              Relayed.the-type Laws''''.the-laws (m .1 .1 .1 .1 .1 .1 .1 .1 .1 .1 .1 .1 .1 .1 .1 .0)))
+              Relayed.the-type Laws'''.the-laws (m .1 .1 .1 .1 .1 .1 .1 .1 .1 .1 .1 .1 .1 .1 .1 .0)))
               (Reads'.room-gone 𝓤 H A Laws.mir) (
-                Reads.reads-field 𝓤 H A W Relayed.the-type Laws''''.the-laws 1 Laws.mir 160 Path.refl,
+                Reads.reads-field 𝓤 H A W Relayed.the-type Laws'''.the-laws 1 Laws.mir 160 Path.refl,
                 Path.refl,
               ) Path.refl (λ ρ m. Make.tells-row 𝓤 H A W E ρ (Row.out 16 (G111 .locals)) m 15 (Laws''''''.Is
               (Declared'.row Relayed.the-type) (m .1 .1 .1 .1 .1 .1 .1 .1 .1 .1 .1 .1 .1 .1 .1 .0) (Laws'''''''.vals
-              Relayed.the-type Laws''''.the-laws (m .1 .1 .1 .1 .1 .1 .1 .1 .1 .1 .1 .1 .1 .1 .1 .0))) (Make.whole-is 𝓤
-              H A W E (Declared'.row Relayed.the-type) Path.refl (Laws'''''''.val Relayed.the-type Laws''''.the-laws)
-              (Laws'''''''.tells Relayed.the-type Laws''''.the-laws) ρ 15
+              Relayed.the-type Laws'''.the-laws (m .1 .1 .1 .1 .1 .1 .1 .1 .1 .1 .1 .1 .1 .1 .1 .0))) (Make.whole-is 𝓤
+              H A W E (Declared'.row Relayed.the-type) Path.refl (Laws'''''''.val Relayed.the-type Laws'''.the-laws)
+              (Laws'''''''.tells Relayed.the-type Laws'''.the-laws) ρ 15
               (m .1 .1 .1 .1 .1 .1 .1 .1 .1 .1 .1 .1 .1 .1 .1 .0))) (λ m k wa. Path.refl) λ m k wa. Laws'''''''.owed
-              Relayed.the-type Laws''''.the-laws (m .1 .1 .1 .1 .1 .1 .1 .1 .1 .1 .1 .1 .1 .1 .1 .0) (Laws'''''''.vals
-              Relayed.the-type Laws''''.the-laws (m .1 .1 .1 .1 .1 .1 .1 .1 .1 .1 .1 .1 .1 .1 .1 .0)) k .1 .0) d79
+              Relayed.the-type Laws'''.the-laws (m .1 .1 .1 .1 .1 .1 .1 .1 .1 .1 .1 .1 .1 .1 .1 .0) (Laws'''''''.vals
+              Relayed.the-type Laws'''.the-laws (m .1 .1 .1 .1 .1 .1 .1 .1 .1 .1 .1 .1 .1 .1 .1 .0)) k .1 .0) d79
 
           d81 : Typed.Typed 𝓤 H A 𝓣 E G110 b67 Δ0 (at81 bs)
           d81 = Typed.g-pre 𝓤 H A W 𝓣 E G110 G111 b67 Δ0 (λ Ψ. Ψ) (at80 bs)
@@ -4970,8 +4970,7 @@ module _ (claims· : Claims) where
 
           d98 : Typed.Typed 𝓤 H A 𝓣 E G93 b67 Δ0 (at98 bs)
           d98 = Typed.g-pre 𝓤 H A W 𝓣 E G93 G94 b67 Δ0 (Typed.pass T93 T94 (s91 bs)) (at97 bs) (Scalar.g-room 𝓤 H A W E
-              G93 6 Laws''''.mir (Local.room-whole 𝓤 H A W (Declared'.row Relayed.the-type) Laws''''.mir Path.refl))
-              d97
+              G93 6 Laws'''.mir (Local.room-whole 𝓤 H A W (Declared'.row Relayed.the-type) Laws'''.mir Path.refl)) d97
 
           d99 : Typed.Typed 𝓤 H A 𝓣 E G92 b68 Δ0 (at99 bs)
           d99 = Typed.s-seq 𝓤 H A W 𝓣 E G92 G93 b62 b67 Δ0 (Typed.both (s90 bs)) (at98 bs) (Plain.t-call-plain 𝓤 H A W
@@ -5019,7 +5018,7 @@ module _ (claims· : Claims) where
                         (
                           (
                             Yields.yields-copy 𝓤 H A W (λ ρ. Unit) (Declared'.row Relayed.the-type) Path.refl (Copies.cStruct
-                                Relayed.the-type Laws''''.the-laws Laws''''.the-copy .copy 𝓤 H A W)
+                                Relayed.the-type Laws'''.the-laws Laws'''.the-copy .copy 𝓤 H A W)
                                 (Rows.whole (Declared'.row Relayed.the-type)) (λ x. x) (λ x. x) (λ ρ told.
                                 Local.mem-whole 𝓤 H A W (Declared'.row Relayed.the-type) ρ) λ ρ told. Local.whole-mem 𝓤
                                 H A W (Declared'.row Relayed.the-type) ρ,
@@ -5049,7 +5048,7 @@ module _ (claims· : Claims) where
                     ),
                   ),
                 ),
-              ) (Reads'.room-gone 𝓤 H A Laws''''.mir) (tt, (tt, (tt, (tt, (tt, (tt, tt)))))) Path.refl) d98
+              ) (Reads'.room-gone 𝓤 H A Laws'''.mir) (tt, (tt, (tt, (tt, (tt, (tt, tt)))))) Path.refl) d98
 
           d100 : Typed.Typed 𝓤 H A 𝓣 E G91 b69 Δ0 (at100 bs)
           d100 = Typed.s-seq 𝓤 H A W 𝓣 E G91 G92 b61 b68 Δ0 (Typed.ask (s89 bs)) (at99 bs) (Relend.t-sl-aggregate 𝓤 H A
@@ -5818,8 +5817,8 @@ module _ (claims· : Claims) where
           pub ledger : Kinds.Den {n = 6} κs (MutSlice.pMutS ReservationUsage.row 2 tt)
           pub inflight : Kinds.Den {n = 6} κs (MutSlice.pMutS InflightAction.row 3 tt)
           pub out : Kinds.Den {n = 6} κs (MutSlice.pMutS (Referent.rtF (Referent.fInt Syntax.w32)) 4 tt)
-          pub kept : Kinds.Den {n = 6} κs (StructRow.param Relayed.the-type Laws''''.the-laws Laws''''.the-copy
-              Laws''''.the-plain)
+          pub kept : Kinds.Den {n = 6} κs (StructRow.param Relayed.the-type Laws'''.the-laws Laws'''.the-copy
+              Laws'''.the-plain)
           pub sent : Kinds.Den {n = 6} κs (StructRow.param RelayPacket.the-type Laws''.the-laws Laws''.the-copy
               Laws''.the-plain)
           pub body : Kinds.Den {n = 6} κs (ShrSlice.pShrS (Referent.rtF (Referent.fInt Syntax.w8)) 5 tt)
@@ -7645,7 +7644,7 @@ module _ (claims· : Claims) where
 
         module _ {M : Type 1} (𝓤 : URA.URA M) (H : Wp.Heap 𝓤) (A : Atoms.Atoms 𝓤) (W : Kit.Given 𝓤 H A)
             (𝓣 : Wp.Tables 𝓤 H) (known0 : Plain.Known 𝓤 H A W 𝓣 4 ps·0 r·0 (claims· .0) (claims· .1)
-            "hnsr_circuit::acknowledge::acknowledge") (known1 : Plain.Known 𝓤 H A W 𝓣 6 ps·1 r·1 (claims· .2)
+            "hnsr_circuit::calls::acknowledge::acknowledge") (known1 : Plain.Known 𝓤 H A W 𝓣 6 ps·1 r·1 (claims· .2)
             (claims· .3) "cases::machine::deliver") (known2 : Plain.Known 𝓤 H A W 𝓣 0 ps·2 r·2 (claims· .4)
             (claims· .5) "cases::script::answer_number") where
           pub spec : Statement.Triple 𝓤 (Wp.WpFn 𝓤 H (𝓣 .C) (𝓣 .Λ) (Function.fnOf 6 ps r xs m hs body))

@@ -107,7 +107,7 @@ abbrev b1 : Syntax.Body
 b1 = Syntax.assign (Syntax.place 7 List.[]) (Syntax.repeat (Syntax.int Syntax.w8 1) 16)
 
 abbrev b2 : Syntax.Body
-b2 = Syntax.call "hnsr_circuit::calls::new" ((Syntax.copy (Syntax.place 1 List.[])) ∷
+b2 = Syntax.call "hnsr_circuit::calls::silent::new" ((Syntax.copy (Syntax.place 1 List.[])) ∷
     (Syntax.copy (Syntax.place 2 List.[])) ∷ (Syntax.copy (Syntax.place 3 List.[])) ∷
     (Syntax.copy (Syntax.place 4 List.[])) ∷ (Syntax.copy (Syntax.place 7 List.[])) ∷ (Syntax.int Syntax.w64 1) ∷
     (Syntax.copy (Syntax.place 6 List.[])) ∷ (Syntax.int Syntax.w64 100) ∷ List.[]) (Syntax.place 0 List.[])
@@ -272,8 +272,8 @@ module _ (claims· : Claims) where
       abbrev pub Closed : Type 2
       Closed = (𝓤 : URA.URA M) (H : Wp.Heap 𝓤) (A : Atoms.Atoms 𝓤) (W : Kit.Given 𝓤 H A) (𝓣 : Wp.Tables 𝓤 H) (known0 :
           Plain.Known 𝓤 H A W 𝓣 0 ps·0 r·0 (claims· .0) (claims· .1) "cases::script::configured") (known1 : Plain.Known
-          𝓤 H A W 𝓣 4 ps·1 r·1 (claims· .2) (claims· .3) "hnsr_circuit::calls::new") → Statement.Triple 𝓤 (Wp.WpFn 𝓤 H
-          (𝓣 .C) (𝓣 .Λ) (Function.fnOf 4 ps r xs m hs body)) (Function.plainOf 𝓤 H A 4 ps r Pre· Post·)
+          𝓤 H A W 𝓣 4 ps·1 r·1 (claims· .2) (claims· .3) "hnsr_circuit::calls::silent::new") → Statement.Triple 𝓤 (Wp.WpFn
+          𝓤 H (𝓣 .C) (𝓣 .Λ) (Function.fnOf 4 ps r xs m hs body)) (Function.plainOf 𝓤 H A 4 ps r Pre· Post·)
 
     module _ where
       abbrev at0 : Typed.TF T8 O0
@@ -307,7 +307,7 @@ module _ (claims· : Claims) where
           (𝓣 : Wp.Tables 𝓤 H) where
         abbrev Knowns : Type 1
         Knowns = Plain.Known 𝓤 H A W 𝓣 0 ps·0 r·0 (claims· .0) (claims· .1) "cases::script::configured" × Plain.Known 𝓤
-            H A W 𝓣 4 ps·1 r·1 (claims· .2) (claims· .3) "hnsr_circuit::calls::new"
+            H A W 𝓣 4 ps·1 r·1 (claims· .2) (claims· .3) "hnsr_circuit::calls::silent::new"
 
       module _ (κs : Lifetimes.Lfts 4) (qs : Lifetimes.Shares 4) where
         abbrev life0 : Row.Life
@@ -376,7 +376,7 @@ module _ (claims· : Claims) where
 
           d4 : Typed.Typed 𝓤 H A 𝓣 E G4 b4 Δ0 at4
           d4 = Typed.s-seq 𝓤 H A W 𝓣 E G4 G5 b2 b3 Δ0 (Typed.both s3) at3 (Plain.t-call-plain 𝓤 H A W 𝓣 4 ps·1 r·1
-              (claims· .2) (claims· .3) "hnsr_circuit::calls::new" (known .1) E (λ pos β. β) G4 (
+              (claims· .2) (claims· .3) "hnsr_circuit::calls::silent::new" (known .1) E (λ pos β. β) G4 (
                 record { pos = 1; ty = ref0; ref = λ x. x },
                 (
                   record { pos = 2; ty = ref1; ref = λ x. x },
@@ -598,7 +598,7 @@ module _ (claims· : Claims) where
         module _ {M : Type 1} (𝓤 : URA.URA M) (H : Wp.Heap 𝓤) (A : Atoms.Atoms 𝓤) (W : Kit.Given 𝓤 H A)
             (𝓣 : Wp.Tables 𝓤 H) (known0 : Plain.Known 𝓤 H A W 𝓣 0 ps·0 r·0 (claims· .0) (claims· .1)
             "cases::script::configured") (known1 : Plain.Known 𝓤 H A W 𝓣 4 ps·1 r·1 (claims· .2) (claims· .3)
-            "hnsr_circuit::calls::new") where
+            "hnsr_circuit::calls::silent::new") where
           pub spec : Statement.Triple 𝓤 (Wp.WpFn 𝓤 H (𝓣 .C) (𝓣 .Λ) (Function.fnOf 4 ps r xs m hs body))
               (Function.plainOf 𝓤 H A 4 ps r Pre· Post·)
           spec = Plain.t-fn-plain 𝓤 H A W 𝓣 4 ps r xs m hs body (λ κs qs bs. Φ) (λ κs qs bs bd. typed κs qs 𝓤 H A W 𝓣

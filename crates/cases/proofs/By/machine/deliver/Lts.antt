@@ -5,14 +5,14 @@ use Rattle.cases.proofs.By.RelayCircuit
 use Rattle.cases.proofs.By.RelayPending
 use Rattle.cases.proofs.By.ReservationUsage
 use Rattle.cases.proofs.StructRow
-use Rattle.hnsr_circuit.proofs.places.Places
-use Rattle.hnsr_circuit.proofs.places.Places.Laws
-use Rattle.hnsr_circuit.proofs.records.RelayPacket
-use Rattle.hnsr_circuit.proofs.records.RelayPacket.Laws as Laws'
 use Rattle.hnsr_circuit.proofs.runtime.OpaqueRelayRuntime
-use Rattle.hnsr_circuit.proofs.runtime.OpaqueRelayRuntime.Laws as Laws''
+use Rattle.hnsr_circuit.proofs.runtime.OpaqueRelayRuntime.Laws
+use Rattle.hnsr_circuit.proofs.runtime.RelayPacket
+use Rattle.hnsr_circuit.proofs.runtime.RelayPacket.Laws as Laws'
 use Rattle.hnsr_circuit.proofs.runtime.Relayed
-use Rattle.hnsr_circuit.proofs.runtime.Relayed.Laws as Laws'''
+use Rattle.hnsr_circuit.proofs.runtime.Relayed.Laws as Laws''
+use Rattle.hnsr_circuit.proofs.tables.places.Places
+use Rattle.hnsr_circuit.proofs.tables.places.Places.Laws as Laws'''
 use borrow.Author.Called
 use borrow.Fn.Any
 use borrow.Fn.Call
@@ -139,15 +139,15 @@ slice6 = Syntax.tyStruct (38 ∷ 91 ∷ 93 ∷ List.[]) (Syntax.tcons ref6
 abbrev pub ps : List.List (Kinds.PK 6)
 ps = (MutSlice.pMutS RelayPending.row 0 tt) ∷ (MutSlice.pMutS RelayCircuit.row 1 tt) ∷
     (MutSlice.pMutS ReservationUsage.row 2 tt) ∷ (MutSlice.pMutS InflightAction.row 3 tt) ∷ (MutSlice.pMutS
-    (Referent.rtF (Referent.fInt Syntax.w32)) 4 tt) ∷ (StructRow.param Relayed.the-type Laws'''.the-laws
-    Laws'''.the-copy Laws'''.the-plain) ∷ (StructRow.param RelayPacket.the-type Laws'.the-laws Laws'.the-copy
-    Laws'.the-plain) ∷ (Num.pNum Syntax.w8) ∷ (ShrSlice.pShrS (Referent.rtF (Referent.fInt Syntax.w8)) 5 tt) ∷ List.[]
+    (Referent.rtF (Referent.fInt Syntax.w32)) 4 tt) ∷ (StructRow.param Relayed.the-type Laws''.the-laws Laws''.the-copy
+    Laws''.the-plain) ∷ (StructRow.param RelayPacket.the-type Laws'.the-laws Laws'.the-copy Laws'.the-plain) ∷
+    (Num.pNum Syntax.w8) ∷ (ShrSlice.pShrS (Referent.rtF (Referent.fInt Syntax.w8)) 5 tt) ∷ List.[]
 
 abbrev pub r : Kinds.RK 6
-r = StructRow.result Relayed.the-type Laws'''.the-laws Laws'''.the-copy Laws'''.the-plain
+r = StructRow.result Relayed.the-type Laws''.the-laws Laws''.the-copy Laws''.the-plain
 
 abbrev pub xs : List.List Syntax.Ty
-xs = (Syntax.tyArray (Syntax.tyInt Syntax.w8) 1) ∷ (Syntax.tyArray (Syntax.tyInt Syntax.w8) 1) ∷ Laws''.mir ∷ Laws.mir
+xs = (Syntax.tyArray (Syntax.tyInt Syntax.w8) 1) ∷ (Syntax.tyArray (Syntax.tyInt Syntax.w8) 1) ∷ Laws.mir ∷ Laws'''.mir
     ∷ ref0 ∷ slice0 ∷ ref1 ∷ slice1 ∷ ref2 ∷ slice2 ∷ ref3 ∷ slice3 ∷ ref4 ∷ slice4 ∷ ref5 ∷ slice6 ∷ ref5 ∷ slice6 ∷
     ref5 ∷ slice6 ∷ List.[]
 
@@ -157,15 +157,15 @@ m = 7
 abbrev pub ps·0 : List.List (Kinds.PK 9)
 ps·0 = (MutSlice.pMutS RelayPending.row 0 tt) ∷ (MutSlice.pMutS RelayCircuit.row 1 tt) ∷
     (MutSlice.pMutS ReservationUsage.row 2 tt) ∷ (MutSlice.pMutS InflightAction.row 3 tt) ∷ (MutSlice.pMutS
-    (Referent.rtF (Referent.fInt Syntax.w32)) 4 tt) ∷ (StructRow.param OpaqueRelayRuntime.the-type Laws''.the-laws
-    Laws''.the-copy Laws''.the-plain) ∷ (StructRow.param Places.the-type Laws.the-laws Laws.the-copy Laws.the-plain) ∷ (StructRow.param
-    RelayPacket.the-type Laws'.the-laws Laws'.the-copy Laws'.the-plain) ∷ (ShrSlice.pShrS
+    (Referent.rtF (Referent.fInt Syntax.w32)) 4 tt) ∷ (StructRow.param OpaqueRelayRuntime.the-type Laws.the-laws
+    Laws.the-copy Laws.the-plain) ∷ (StructRow.param Places.the-type Laws'''.the-laws Laws'''.the-copy
+    Laws'''.the-plain) ∷ (StructRow.param RelayPacket.the-type Laws'.the-laws Laws'.the-copy Laws'.the-plain) ∷ (ShrSlice.pShrS
     (Referent.rtF (Referent.fInt Syntax.w8)) 5 tt) ∷ (ShrSlice.pShrS (Referent.rtF (Referent.fInt Syntax.w8)) 6 tt) ∷ (ShrSlice.pShrS
     (Referent.rtF (Referent.fInt Syntax.w8)) 7 tt) ∷ (ShrSlice.pShrS (Referent.rtF (Referent.fInt Syntax.w8)) 8 tt) ∷
     List.[]
 
 abbrev pub r·0 : Kinds.RK 9
-r·0 = StructRow.result Relayed.the-type Laws'''.the-laws Laws'''.the-copy Laws'''.the-plain
+r·0 = StructRow.result Relayed.the-type Laws''.the-laws Laws''.the-copy Laws''.the-plain
 
 abbrev pub hs : List.List Syntax.Home
 hs = Syntax.valueLocal ∷ Syntax.valueLocal ∷ Syntax.valueLocal ∷ Syntax.valueLocal ∷ Syntax.valueLocal ∷
@@ -249,7 +249,7 @@ b19 = Syntax.assign (Syntax.place 29 List.[]) (Syntax.aggregate ((Syntax.copy (S
     (Syntax.int Syntax.w64 1) ∷ List.[]))
 
 abbrev b20 : Syntax.Body
-b20 = Syntax.call "hnsr_circuit::handle::handle" ((Syntax.copy (Syntax.place 15 List.[])) ∷
+b20 = Syntax.call "hnsr_circuit::calls::handle::handle" ((Syntax.copy (Syntax.place 15 List.[])) ∷
     (Syntax.copy (Syntax.place 17 List.[])) ∷ (Syntax.copy (Syntax.place 19 List.[])) ∷
     (Syntax.copy (Syntax.place 21 List.[])) ∷ (Syntax.copy (Syntax.place 23 List.[])) ∷
     (Syntax.copy (Syntax.place 12 List.[])) ∷ (Syntax.copy (Syntax.place 13 List.[])) ∷
@@ -330,7 +330,7 @@ abbrev pub Claims : Type 1
 Claims = Kinds.In 9 ps·0 × Kinds.Out 9 ps·0 r·0
 
 abbrev e0 : Row.Entry
-e0 = (0, Rows'.any-gone Laws'''.mir)
+e0 = (0, Rows'.any-gone Laws''.mir)
 
 abbrev e1 : Row.Entry
 e1 = (1, Mut.mslice RelayPending.row ref7 0)
@@ -366,10 +366,10 @@ abbrev e11 : Row.Entry
 e11 = (11, Rows'.any-gone (Syntax.tyArray (Syntax.tyInt Syntax.w8) 1))
 
 abbrev e12 : Row.Entry
-e12 = (12, Rows'.any-gone Laws''.mir)
+e12 = (12, Rows'.any-gone Laws.mir)
 
 abbrev e13 : Row.Entry
-e13 = (13, Rows'.any-gone Laws.mir)
+e13 = (13, Rows'.any-gone Laws'''.mir)
 
 abbrev e14 : Row.Entry
 e14 = (14, Rows'.any-gone ref0)
@@ -423,7 +423,7 @@ abbrev e0·1 : Row.Entry
 e0·1 = (0, Rows'.whole (Declared.row Relayed.the-type))
 
 abbrev e6·1 : Row.Entry
-e6·1 = (6, Rows'.any-gone Laws'''.mir)
+e6·1 = (6, Rows'.any-gone Laws''.mir)
 
 abbrev e7·1 : Row.Entry
 e7·1 = (7, Rows'.any-gone Laws'.mir)
@@ -871,7 +871,7 @@ module _ (claims· : Claims) where
       Unit
 
   abbrev s8 : (bs : List.List Nat.ℕ) → Typed.Mo T9 → Typed.Mo T10
-  s8 = λ bs. Scalar.n-room T9 6 Laws'''.mir
+  s8 = λ bs. Scalar.n-room T9 6 Laws''.mir
 
   abbrev s10 : (bs : List.List Nat.ℕ) → Typed.Gives T10 T12
   s10 = λ bs. Relend.k-sl-relend RelayPending.row T10 1 14 0 6 ref7 ref0 Row.off λ x. x
@@ -967,7 +967,7 @@ module _ (claims· : Claims) where
         ),
       ),
     ),
-  ) 0 (6 ∷ 7 ∷ 8 ∷ 9 ∷ 10 ∷ 11 ∷ 5 ∷ 12 ∷ 12 ∷ List.[]) Laws'''.mir
+  ) 0 (6 ∷ 7 ∷ 8 ∷ 9 ∷ 10 ∷ 11 ∷ 5 ∷ 12 ∷ 12 ∷ List.[]) Laws''.mir
 
   abbrev s33 : (bs : List.List Nat.ℕ) → Typed.Mo T34 → Typed.Mo T35
   s33 = λ bs. Scalar.n-room T34 25 slice6
@@ -982,10 +982,10 @@ module _ (claims· : Claims) where
   s36 = λ bs. Scalar.n-room T37 7 Laws'.mir
 
   abbrev s37 : (bs : List.List Nat.ℕ) → Typed.Mo T38 → Typed.Mo T39
-  s37 = λ bs. Scalar.n-room T38 12 Laws''.mir
+  s37 = λ bs. Scalar.n-room T38 12 Laws.mir
 
   abbrev s38 : (bs : List.List Nat.ℕ) → Typed.Mo T39 → Typed.Mo T40
-  s38 = λ bs. Scalar.n-room T39 13 Laws.mir
+  s38 = λ bs. Scalar.n-room T39 13 Laws'''.mir
 
   abbrev s40 : (bs : List.List Nat.ℕ) → Typed.Both T40 T42
   s40 = λ bs. Relend.k-back-sl RelayPending.row T40 15 1 0 6 ref7 ref0 Row.off (λ x. x) λ x. x
@@ -1026,8 +1026,9 @@ module _ (claims· : Claims) where
     module _ (M : Type 1) where
       abbrev pub Closed : Type 2
       Closed = (𝓤 : URA.URA M) (H : Wp.Heap 𝓤) (A : Atoms.Atoms 𝓤) (W : Kit.Given 𝓤 H A) (𝓣 : Wp.Tables 𝓤 H) (known0 :
-          Plain.Known 𝓤 H A W 𝓣 9 ps·0 r·0 (claims· .0) (claims· .1) "hnsr_circuit::handle::handle") → Statement.Triple
-          𝓤 (Wp.WpFn 𝓤 H (𝓣 .C) (𝓣 .Λ) (Function.fnOf 6 ps r xs m hs body)) (Function.plainOf 𝓤 H A 6 ps r Pre· Post·)
+          Plain.Known 𝓤 H A W 𝓣 9 ps·0 r·0 (claims· .0) (claims· .1) "hnsr_circuit::calls::handle::handle") →
+          Statement.Triple 𝓤 (Wp.WpFn 𝓤 H (𝓣 .C) (𝓣 .Λ) (Function.fnOf 6 ps r xs m hs body))
+          (Function.plainOf 𝓤 H A 6 ps r Pre· Post·)
 
     module _ where
       abbrev at0 : (bs : List.List Nat.ℕ) → Typed.TF T65 O0
@@ -1231,7 +1232,7 @@ module _ (claims· : Claims) where
       module _ {M : Type 1} (𝓤 : URA.URA M) (H : Wp.Heap 𝓤) (A : Atoms.Atoms 𝓤) (W : Kit.Given 𝓤 H A)
           (𝓣 : Wp.Tables 𝓤 H) where
         abbrev Knowns : Type 1
-        Knowns = Plain.Known 𝓤 H A W 𝓣 9 ps·0 r·0 (claims· .0) (claims· .1) "hnsr_circuit::handle::handle"
+        Knowns = Plain.Known 𝓤 H A W 𝓣 9 ps·0 r·0 (claims· .0) (claims· .1) "hnsr_circuit::calls::handle::handle"
 
       module _ (κs : Lifetimes.Lfts 6) (qs : Lifetimes.Shares 6) where
         abbrev life0 : Row.Life
@@ -1907,12 +1908,12 @@ module _ (claims· : Claims) where
 
           d26 : Typed.Typed 𝓤 H A 𝓣 E G39 b21 Δ0 (at26 bs)
           d26 = Typed.g-pre 𝓤 H A W 𝓣 E G39 G40 b21 Δ0 (Typed.pass T39 T40 (s38 bs)) (at25 bs) (Scalar.g-room 𝓤 H A W E
-              G39 13 Laws.mir (Local.room-whole 𝓤 H A W (Declared.row Places.the-type) Laws.mir Path.refl)) d25
+              G39 13 Laws'''.mir (Local.room-whole 𝓤 H A W (Declared.row Places.the-type) Laws'''.mir Path.refl)) d25
 
           d27 : Typed.Typed 𝓤 H A 𝓣 E G38 b21 Δ0 (at27 bs)
           d27 = Typed.g-pre 𝓤 H A W 𝓣 E G38 G39 b21 Δ0 (Typed.pass T38 T39 (s37 bs)) (at26 bs) (Scalar.g-room 𝓤 H A W E
-              G38 12 Laws''.mir (Local.room-whole 𝓤 H A W (Declared.row OpaqueRelayRuntime.the-type) Laws''.mir
-              Path.refl)) d26
+              G38 12 Laws.mir (Local.room-whole 𝓤 H A W (Declared.row OpaqueRelayRuntime.the-type) Laws.mir Path.refl))
+              d26
 
           d28 : Typed.Typed 𝓤 H A 𝓣 E G37 b21 Δ0 (at28 bs)
           d28 = Typed.g-pre 𝓤 H A W 𝓣 E G37 G38 b21 Δ0 (Typed.pass T37 T38 (s36 bs)) (at27 bs) (Scalar.g-room 𝓤 H A W E
@@ -1932,7 +1933,7 @@ module _ (claims· : Claims) where
 
           d32 : Typed.Typed 𝓤 H A 𝓣 E G33 b22 Δ0 (at32 bs)
           d32 = Typed.s-seq 𝓤 H A W 𝓣 E G33 G34 b20 b21 Δ0 (Typed.both (s32 bs)) (at31 bs) (Plain.t-call-plain 𝓤 H A W
-              𝓣 9 ps·0 r·0 (claims· .0) (claims· .1) "hnsr_circuit::handle::handle" known E (λ pos β. β) G33 (
+              𝓣 9 ps·0 r·0 (claims· .0) (claims· .1) "hnsr_circuit::calls::handle::handle" known E (λ pos β. β) G33 (
                 record { pos = 15; ty = ref0; ref = λ x. x },
                 (
                   record { pos = 17; ty = ref1; ref = λ x. x },
@@ -1988,7 +1989,7 @@ module _ (claims· : Claims) where
                         (
                           (
                             Yields.yields-copy 𝓤 H A W (λ ρ. Unit) (Declared.row OpaqueRelayRuntime.the-type) Path.refl (Copies.cStruct
-                                OpaqueRelayRuntime.the-type Laws''.the-laws Laws''.the-copy .copy 𝓤 H A W)
+                                OpaqueRelayRuntime.the-type Laws.the-laws Laws.the-copy .copy 𝓤 H A W)
                                 (Rows'.whole (Declared.row OpaqueRelayRuntime.the-type)) (λ x. x) (λ x. x) (λ ρ told.
                                 Local.mem-whole 𝓤 H A W (Declared.row OpaqueRelayRuntime.the-type) ρ) λ ρ told.
                                 Local.whole-mem 𝓤 H A W (Declared.row OpaqueRelayRuntime.the-type) ρ,
@@ -1997,7 +1998,7 @@ module _ (claims· : Claims) where
                           (
                             (
                               Yields.yields-copy 𝓤 H A W (λ ρ. Unit) (Declared.row Places.the-type) Path.refl (Copies.cStruct
-                                  Places.the-type Laws.the-laws Laws.the-copy .copy 𝓤 H A W)
+                                  Places.the-type Laws'''.the-laws Laws'''.the-copy .copy 𝓤 H A W)
                                   (Rows'.whole (Declared.row Places.the-type)) (λ x. x) (λ x. x) (λ ρ told.
                                   Local.mem-whole 𝓤 H A W (Declared.row Places.the-type) ρ) λ ρ told. Local.whole-mem 𝓤
                                   H A W (Declared.row Places.the-type) ρ,
@@ -2040,7 +2041,7 @@ module _ (claims· : Claims) where
                     ),
                   ),
                 ),
-              ) (Reads.room-gone 𝓤 H A Laws'''.mir) (tt, (tt, (tt, (tt, (tt, (tt, (tt, (tt, (tt, tt))))))))) Path.refl)
+              ) (Reads.room-gone 𝓤 H A Laws''.mir) (tt, (tt, (tt, (tt, (tt, (tt, (tt, (tt, (tt, tt))))))))) Path.refl)
               d31
 
           d33 : Typed.Typed 𝓤 H A 𝓣 E G32 b23 Δ0 (at33 bs)
@@ -2579,14 +2580,15 @@ module _ (claims· : Claims) where
 
           d56 : Typed.Typed 𝓤 H A 𝓣 E G9 b38 Δ0 (at56 bs)
           d56 = Typed.g-pre 𝓤 H A W 𝓣 E G9 G10 b38 Δ0 (Typed.pass T9 T10 (s8 bs)) (at55 bs) (Scalar.g-room 𝓤 H A W E G9
-              6 Laws'''.mir (Local.room-whole 𝓤 H A W (Declared.row Relayed.the-type) Laws'''.mir Path.refl)) d55
+              6 Laws''.mir (Local.room-whole 𝓤 H A W (Declared.row Relayed.the-type) Laws''.mir Path.refl)) d55
 
           d57 : Typed.Typed 𝓤 H A 𝓣 E G8 b39 Δ0 (at57 bs)
           d57 = Typed.s-seq 𝓤 H A W 𝓣 E G8 G9 b3 b38 Δ0 (Typed.both (s7 bs)) (at56 bs) (WayStmt.t-way-copy-out 𝓤 H A W
-              E 𝓣 (Declared.row Places.the-type) Path.refl (Copies.cStruct Places.the-type Laws.the-laws Laws.the-copy
-              .copy 𝓤 H A W) (λ ρ. Unit) G8 (Row.out 6 (G8 .locals)) (λ u. Row.drop 6 (G8 .locals) u) (G8 .slots) 6
-              (λ t. (Syntax.field 3) ∷ t) Laws.mir Laws.mir 13 (Rows'.whole (Declared.row Places.the-type)) (λ x. x) (λ
-              u. At.getAt (Relayed.the-type .parts) 3 (Relayed.struct .as-values (u .1 .1 .1 .1 .1 .1 .0))) (λ u. (
+              E 𝓣 (Declared.row Places.the-type) Path.refl (Copies.cStruct Places.the-type Laws'''.the-laws
+              Laws'''.the-copy .copy 𝓤 H A W) (λ ρ. Unit) G8 (Row.out 6 (G8 .locals)) (λ u. Row.drop 6 (G8 .locals) u)
+              (G8 .slots) 6 (λ t. (Syntax.field 3) ∷ t) Laws'''.mir Laws'''.mir 13
+              (Rows'.whole (Declared.row Places.the-type)) (λ x. x) (λ u. At.getAt (Relayed.the-type .parts) 3
+              (Relayed.struct .as-values (u .1 .1 .1 .1 .1 .1 .0))) (λ u. (
                 Row.hd 0 (Row.tl (Row.tl (Row.tl (Row.tl (Row.tl (Row.tl bs)))))),
                 Nat._+_ 0 216,
               )) (λ T′. record {
@@ -2595,7 +2597,7 @@ module _ (claims· : Claims) where
               }) (λ u T′ m′. Row.set 6 (6, Rows'.whole (Declared.row Relayed.the-type)) (u .1 .1 .1 .1 .1 .1 .0) T′ m′)
               (λ u. Unit) (λ x. Unit) (Own.told-none 𝓤 H A (G8 .slots)) (DerefMove.learns-nothing 𝓤 H A
               (Declared.row Places.the-type)) (λ ρ told u asked. Way'.w-partˢ 𝓤 H A W E (Declared.row Relayed.the-type)
-              (Declared.row Places.the-type) Laws'''.mir Laws.mir 3 216 (u .1 .1 .1 .1 .1 .1 .0) (At.getAt
+              (Declared.row Places.the-type) Laws''.mir Laws'''.mir 3 216 (u .1 .1 .1 .1 .1 .1 .0) (At.getAt
               (Relayed.the-type .parts) 3 (Relayed.struct .as-values (u .1 .1 .1 .1 .1 .1 .0))) (
                 Row.hd 0 (Row.tl (Row.tl (Row.tl (Row.tl (Row.tl (Row.tl bs)))))),
                 0,
@@ -2610,19 +2612,19 @@ module _ (claims· : Claims) where
               (Relayed.the-type .parts) 3 (Relayed.struct .as-values (u .1 .1 .1 .1 .1 .1 .0))) (
                 Row.hd 0 (Row.tl (Row.tl (Row.tl (Row.tl (Row.tl (Row.tl bs)))))),
                 0,
-              ) (Behind.look-at 𝓤 H A W q Relayed.the-type Laws'''.the-laws 3 216 Path.refl Path.refl (
+              ) (Behind.look-at 𝓤 H A W q Relayed.the-type Laws''.the-laws 3 216 Path.refl Path.refl (
                 Row.hd 0 (Row.tl (Row.tl (Row.tl (Row.tl (Row.tl (Row.tl bs)))))),
                 0,
               ) (u .1 .1 .1 .1 .1 .1 .0) (Relayed.struct .as-values (u .1 .1 .1 .1 .1 .1 .0)) Path.refl))
-              (Reads.room-gone 𝓤 H A Laws.mir) (Yields.makes-mem 𝓤 H A W (λ ρ. Unit) (Declared.row Places.the-type)
+              (Reads.room-gone 𝓤 H A Laws'''.mir) (Yields.makes-mem 𝓤 H A W (λ ρ. Unit) (Declared.row Places.the-type)
               Path.refl (Rows'.whole (Declared.row Places.the-type)) (λ x. x) λ ρ told. Local.whole-mem 𝓤 H A W
               (Declared.row Places.the-type) ρ) Path.refl Path.refl Path.refl) d56
 
           d58 : Typed.Typed 𝓤 H A 𝓣 E G7 b40 Δ0 (at58 bs)
           d58 = Typed.s-seq 𝓤 H A W 𝓣 E G7 G8 b2 b39 Δ0 (Typed.both (s6 bs)) (at57 bs) (WayStmt.t-way-copy-out 𝓤 H A W
               E 𝓣 (Declared.row OpaqueRelayRuntime.the-type) Path.refl (Copies.cStruct OpaqueRelayRuntime.the-type
-              Laws''.the-laws Laws''.the-copy .copy 𝓤 H A W) (λ ρ. Unit) G7 (Row.out 6 (G7 .locals))
-              (λ u. Row.drop 6 (G7 .locals) u) (G7 .slots) 6 (λ t. (Syntax.field 0) ∷ t) Laws''.mir Laws''.mir 12
+              Laws.the-laws Laws.the-copy .copy 𝓤 H A W) (λ ρ. Unit) G7 (Row.out 6 (G7 .locals))
+              (λ u. Row.drop 6 (G7 .locals) u) (G7 .slots) 6 (λ t. (Syntax.field 0) ∷ t) Laws.mir Laws.mir 12
               (Rows'.whole (Declared.row OpaqueRelayRuntime.the-type)) (λ x. x) (λ u. At.getAt
               (Relayed.the-type .parts) 0 (Relayed.struct .as-values (u .1 .1 .1 .1 .1 .1 .0))) (λ u. (
                 Row.hd 0 (Row.tl (Row.tl (Row.tl (Row.tl (Row.tl (Row.tl bs)))))),
@@ -2633,7 +2635,7 @@ module _ (claims· : Claims) where
               }) (λ u T′ m′. Row.set 6 (6, Rows'.whole (Declared.row Relayed.the-type)) (u .1 .1 .1 .1 .1 .1 .0) T′ m′)
               (λ u. Unit) (λ x. Unit) (Own.told-none 𝓤 H A (G7 .slots)) (DerefMove.learns-nothing 𝓤 H A
               (Declared.row OpaqueRelayRuntime.the-type)) (λ ρ told u asked. Way'.w-partˢ 𝓤 H A W E
-              (Declared.row Relayed.the-type) (Declared.row OpaqueRelayRuntime.the-type) Laws'''.mir Laws''.mir 0 0
+              (Declared.row Relayed.the-type) (Declared.row OpaqueRelayRuntime.the-type) Laws''.mir Laws.mir 0 0
               (u .1 .1 .1 .1 .1 .1 .0) (At.getAt (Relayed.the-type .parts) 0
               (Relayed.struct .as-values (u .1 .1 .1 .1 .1 .1 .0))) (
                 Row.hd 0 (Row.tl (Row.tl (Row.tl (Row.tl (Row.tl (Row.tl bs)))))),
@@ -2650,11 +2652,11 @@ module _ (claims· : Claims) where
               (Relayed.struct .as-values (u .1 .1 .1 .1 .1 .1 .0))) (
                 Row.hd 0 (Row.tl (Row.tl (Row.tl (Row.tl (Row.tl (Row.tl bs)))))),
                 0,
-              ) (Behind.look-at 𝓤 H A W q Relayed.the-type Laws'''.the-laws 0 0 Path.refl Path.refl (
+              ) (Behind.look-at 𝓤 H A W q Relayed.the-type Laws''.the-laws 0 0 Path.refl Path.refl (
                 Row.hd 0 (Row.tl (Row.tl (Row.tl (Row.tl (Row.tl (Row.tl bs)))))),
                 0,
               ) (u .1 .1 .1 .1 .1 .1 .0) (Relayed.struct .as-values (u .1 .1 .1 .1 .1 .1 .0)) Path.refl))
-              (Reads.room-gone 𝓤 H A Laws''.mir) (Yields.makes-mem 𝓤 H A W (λ ρ. Unit)
+              (Reads.room-gone 𝓤 H A Laws.mir) (Yields.makes-mem 𝓤 H A W (λ ρ. Unit)
               (Declared.row OpaqueRelayRuntime.the-type) Path.refl
               (Rows'.whole (Declared.row OpaqueRelayRuntime.the-type)) (λ x. x) λ ρ told. Local.whole-mem 𝓤 H A W
               (Declared.row OpaqueRelayRuntime.the-type) ρ) Path.refl Path.refl Path.refl) d57
@@ -2720,8 +2722,8 @@ module _ (claims· : Claims) where
           pub ledger : Kinds.Den {n = 6} κs (MutSlice.pMutS ReservationUsage.row 2 tt)
           pub inflight : Kinds.Den {n = 6} κs (MutSlice.pMutS InflightAction.row 3 tt)
           pub out : Kinds.Den {n = 6} κs (MutSlice.pMutS (Referent.rtF (Referent.fInt Syntax.w32)) 4 tt)
-          pub kept : Kinds.Den {n = 6} κs (StructRow.param Relayed.the-type Laws'''.the-laws Laws'''.the-copy
-              Laws'''.the-plain)
+          pub kept : Kinds.Den {n = 6} κs (StructRow.param Relayed.the-type Laws''.the-laws Laws''.the-copy
+              Laws''.the-plain)
           pub sent : Kinds.Den {n = 6} κs (StructRow.param RelayPacket.the-type Laws'.the-laws Laws'.the-copy
               Laws'.the-plain)
           pub peer : Kinds.Den {n = 6} κs (Num.pNum Syntax.w8)
@@ -4051,7 +4053,7 @@ module _ (claims· : Claims) where
 
         module _ {M : Type 1} (𝓤 : URA.URA M) (H : Wp.Heap 𝓤) (A : Atoms.Atoms 𝓤) (W : Kit.Given 𝓤 H A)
             (𝓣 : Wp.Tables 𝓤 H) (known0 : Plain.Known 𝓤 H A W 𝓣 9 ps·0 r·0 (claims· .0) (claims· .1)
-            "hnsr_circuit::handle::handle") where
+            "hnsr_circuit::calls::handle::handle") where
           pub spec : Statement.Triple 𝓤 (Wp.WpFn 𝓤 H (𝓣 .C) (𝓣 .Λ) (Function.fnOf 6 ps r xs m hs body))
               (Function.plainOf 𝓤 H A 6 ps r Pre· Post·)
           spec = Plain.t-fn-plain 𝓤 H A W 𝓣 6 ps r xs m hs body (λ κs qs bs. Φ bs)

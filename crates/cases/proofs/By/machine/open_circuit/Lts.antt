@@ -5,14 +5,14 @@ use Rattle.cases.proofs.By.RelayCircuit
 use Rattle.cases.proofs.By.RelayPending
 use Rattle.cases.proofs.By.ReservationUsage
 use Rattle.cases.proofs.StructRow
-use Rattle.hnsr_circuit.proofs.places.Places
-use Rattle.hnsr_circuit.proofs.places.Places.Laws
-use Rattle.hnsr_circuit.proofs.records.RelayPacket
-use Rattle.hnsr_circuit.proofs.records.RelayPacket.Laws as Laws'
 use Rattle.hnsr_circuit.proofs.runtime.OpaqueRelayRuntime
-use Rattle.hnsr_circuit.proofs.runtime.OpaqueRelayRuntime.Laws as Laws''
+use Rattle.hnsr_circuit.proofs.runtime.OpaqueRelayRuntime.Laws
+use Rattle.hnsr_circuit.proofs.runtime.RelayPacket
+use Rattle.hnsr_circuit.proofs.runtime.RelayPacket.Laws as Laws'
 use Rattle.hnsr_circuit.proofs.runtime.Relayed
-use Rattle.hnsr_circuit.proofs.runtime.Relayed.Laws as Laws'''
+use Rattle.hnsr_circuit.proofs.runtime.Relayed.Laws as Laws''
+use Rattle.hnsr_circuit.proofs.tables.places.Places
+use Rattle.hnsr_circuit.proofs.tables.places.Places.Laws as Laws'''
 use borrow.Author.Called
 use borrow.Fn.Any
 use borrow.Fn.Call
@@ -142,16 +142,16 @@ slice6 = Syntax.tyStruct (38 ∷ 91 ∷ 93 ∷ List.[]) (Syntax.tcons ref6
 abbrev pub ps : List.List (Kinds.PK 5)
 ps = (MutSlice.pMutS RelayPending.row 0 tt) ∷ (MutSlice.pMutS RelayCircuit.row 1 tt) ∷
     (MutSlice.pMutS ReservationUsage.row 2 tt) ∷ (MutSlice.pMutS InflightAction.row 3 tt) ∷ (MutSlice.pMutS
-    (Referent.rtF (Referent.fInt Syntax.w32)) 4 tt) ∷ (StructRow.param Relayed.the-type Laws'''.the-laws
-    Laws'''.the-copy Laws'''.the-plain) ∷ List.[]
+    (Referent.rtF (Referent.fInt Syntax.w32)) 4 tt) ∷ (StructRow.param Relayed.the-type Laws''.the-laws Laws''.the-copy
+    Laws''.the-plain) ∷ List.[]
 
 abbrev pub r : Kinds.RK 5
-r = StructRow.result Relayed.the-type Laws'''.the-laws Laws'''.the-copy Laws'''.the-plain
+r = StructRow.result Relayed.the-type Laws''.the-laws Laws''.the-copy Laws''.the-plain
 
 abbrev pub xs : List.List Syntax.Ty
 xs = Laws'.mir ∷ (Syntax.tyArray (Syntax.tyInt Syntax.w8) 103) ∷ (Syntax.tyArray (Syntax.tyInt Syntax.w8) 1) ∷
-    (Syntax.tyArray (Syntax.tyInt Syntax.w8) 1) ∷ (Syntax.tyArray (Syntax.tyInt Syntax.w8) 8) ∷ Laws''.mir ∷ Laws.mir ∷
-    (Syntax.tyArray (Syntax.tyInt Syntax.w8) 103) ∷ ref0 ∷ slice0 ∷ ref1 ∷ slice1 ∷ ref2 ∷ slice2 ∷ ref3 ∷ slice3 ∷
+    (Syntax.tyArray (Syntax.tyInt Syntax.w8) 1) ∷ (Syntax.tyArray (Syntax.tyInt Syntax.w8) 8) ∷ Laws.mir ∷ Laws'''.mir
+    ∷ (Syntax.tyArray (Syntax.tyInt Syntax.w8) 103) ∷ ref0 ∷ slice0 ∷ ref1 ∷ slice1 ∷ ref2 ∷ slice2 ∷ ref3 ∷ slice3 ∷
     ref4 ∷ slice4 ∷ ref5 ∷ slice6 ∷ ref7 ∷ slice6 ∷ ref5 ∷ slice6 ∷ ref8 ∷ slice6 ∷ List.[]
 
 abbrev pub m : Nat.ℕ
@@ -172,15 +172,15 @@ r·1 = Array.rArr (Array.eInt Syntax.w8) (Array.eInt-laws Syntax.w8) 103
 abbrev pub ps·2 : List.List (Kinds.PK 9)
 ps·2 = (MutSlice.pMutS RelayPending.row 0 tt) ∷ (MutSlice.pMutS RelayCircuit.row 1 tt) ∷
     (MutSlice.pMutS ReservationUsage.row 2 tt) ∷ (MutSlice.pMutS InflightAction.row 3 tt) ∷ (MutSlice.pMutS
-    (Referent.rtF (Referent.fInt Syntax.w32)) 4 tt) ∷ (StructRow.param OpaqueRelayRuntime.the-type Laws''.the-laws
-    Laws''.the-copy Laws''.the-plain) ∷ (StructRow.param Places.the-type Laws.the-laws Laws.the-copy Laws.the-plain) ∷ (StructRow.param
-    RelayPacket.the-type Laws'.the-laws Laws'.the-copy Laws'.the-plain) ∷ (ShrSlice.pShrS
+    (Referent.rtF (Referent.fInt Syntax.w32)) 4 tt) ∷ (StructRow.param OpaqueRelayRuntime.the-type Laws.the-laws
+    Laws.the-copy Laws.the-plain) ∷ (StructRow.param Places.the-type Laws'''.the-laws Laws'''.the-copy
+    Laws'''.the-plain) ∷ (StructRow.param RelayPacket.the-type Laws'.the-laws Laws'.the-copy Laws'.the-plain) ∷ (ShrSlice.pShrS
     (Referent.rtF (Referent.fInt Syntax.w8)) 5 tt) ∷ (ShrSlice.pShrS (Referent.rtF (Referent.fInt Syntax.w8)) 6 tt) ∷ (ShrSlice.pShrS
     (Referent.rtF (Referent.fInt Syntax.w8)) 7 tt) ∷ (ShrSlice.pShrS (Referent.rtF (Referent.fInt Syntax.w8)) 8 tt) ∷
     List.[]
 
 abbrev pub r·2 : Kinds.RK 9
-r·2 = StructRow.result Relayed.the-type Laws'''.the-laws Laws'''.the-copy Laws'''.the-plain
+r·2 = StructRow.result Relayed.the-type Laws''.the-laws Laws''.the-copy Laws''.the-plain
 
 abbrev pub hs : List.List Syntax.Home
 hs = Syntax.valueLocal ∷ Syntax.valueLocal ∷ Syntax.valueLocal ∷ Syntax.valueLocal ∷ Syntax.valueLocal ∷
@@ -286,7 +286,7 @@ b25 = Syntax.assign (Syntax.place 32 List.[]) (Syntax.aggregate ((Syntax.copy (S
     (Syntax.int Syntax.w64 8) ∷ List.[]))
 
 abbrev b26 : Syntax.Body
-b26 = Syntax.call "hnsr_circuit::handle::handle" ((Syntax.copy (Syntax.place 16 List.[])) ∷
+b26 = Syntax.call "hnsr_circuit::calls::handle::handle" ((Syntax.copy (Syntax.place 16 List.[])) ∷
     (Syntax.copy (Syntax.place 18 List.[])) ∷ (Syntax.copy (Syntax.place 20 List.[])) ∷
     (Syntax.copy (Syntax.place 22 List.[])) ∷ (Syntax.copy (Syntax.place 24 List.[])) ∷
     (Syntax.copy (Syntax.place 12 List.[])) ∷ (Syntax.copy (Syntax.place 13 List.[])) ∷
@@ -386,7 +386,7 @@ Claims = Kinds.In 0 ps·0 × Kinds.Out 0 ps·0 r·0 × Kinds.In 0 ps·1 × Kinds
     9 ps·2 r·2
 
 abbrev e0 : Row.Entry
-e0 = (0, Rows'.any-gone Laws'''.mir)
+e0 = (0, Rows'.any-gone Laws''.mir)
 
 abbrev e1 : Row.Entry
 e1 = (1, Mut.mslice RelayPending.row ref9 0)
@@ -422,10 +422,10 @@ abbrev e11 : Row.Entry
 e11 = (11, Rows'.any-gone (Syntax.tyArray (Syntax.tyInt Syntax.w8) 8))
 
 abbrev e12 : Row.Entry
-e12 = (12, Rows'.any-gone Laws''.mir)
+e12 = (12, Rows'.any-gone Laws.mir)
 
 abbrev e13 : Row.Entry
-e13 = (13, Rows'.any-gone Laws.mir)
+e13 = (13, Rows'.any-gone Laws'''.mir)
 
 abbrev e14 : Row.Entry
 e14 = (14, Rows'.any-gone (Syntax.tyArray (Syntax.tyInt Syntax.w8) 103))
@@ -488,7 +488,7 @@ abbrev e0·1 : Row.Entry
 e0·1 = (0, Rows'.whole (Declared.row Relayed.the-type))
 
 abbrev e6·1 : Row.Entry
-e6·1 = (6, Rows'.any-gone Laws'''.mir)
+e6·1 = (6, Rows'.any-gone Laws''.mir)
 
 abbrev e7·1 : Row.Entry
 e7·1 = (7, Rows'.whole (Declared.row RelayPacket.the-type))
@@ -1070,7 +1070,7 @@ module _ (claims· : Claims) where
       Unit
 
   abbrev s13 : (bs : List.List Nat.ℕ) → Typed.Mo T14 → Typed.Mo T15
-  s13 = λ bs. Scalar.n-room T14 6 Laws'''.mir
+  s13 = λ bs. Scalar.n-room T14 6 Laws''.mir
 
   abbrev s15 : (bs : List.List Nat.ℕ) → Typed.Gives T15 T17
   s15 = λ bs. Relend.k-sl-relend RelayPending.row T15 1 15 0 5 ref9 ref0 Row.off λ x. x
@@ -1174,7 +1174,7 @@ module _ (claims· : Claims) where
         ),
       ),
     ),
-  ) 0 (5 ∷ 6 ∷ 7 ∷ 8 ∷ 9 ∷ 10 ∷ 11 ∷ 12 ∷ 13 ∷ List.[]) Laws'''.mir
+  ) 0 (5 ∷ 6 ∷ 7 ∷ 8 ∷ 9 ∷ 10 ∷ 11 ∷ 12 ∷ 13 ∷ List.[]) Laws''.mir
 
   abbrev s42 : (bs : List.List Nat.ℕ) → Typed.Mo T43 → Typed.Mo T44
   s42 = λ bs. Scalar.n-room T43 26 slice6
@@ -1192,10 +1192,10 @@ module _ (claims· : Claims) where
   s46 = λ bs. Scalar.n-room T47 7 Laws'.mir
 
   abbrev s47 : (bs : List.List Nat.ℕ) → Typed.Mo T48 → Typed.Mo T49
-  s47 = λ bs. Scalar.n-room T48 12 Laws''.mir
+  s47 = λ bs. Scalar.n-room T48 12 Laws.mir
 
   abbrev s48 : (bs : List.List Nat.ℕ) → Typed.Mo T49 → Typed.Mo T50
-  s48 = λ bs. Scalar.n-room T49 13 Laws.mir
+  s48 = λ bs. Scalar.n-room T49 13 Laws'''.mir
 
   abbrev s50 : (bs : List.List Nat.ℕ) → Typed.Both T50 T52
   s50 = λ bs. Relend.k-back-sl RelayPending.row T50 16 1 0 5 ref9 ref0 Row.off (λ x. x) λ x. x
@@ -1247,7 +1247,7 @@ module _ (claims· : Claims) where
       Closed = (𝓤 : URA.URA M) (H : Wp.Heap 𝓤) (A : Atoms.Atoms 𝓤) (W : Kit.Given 𝓤 H A) (𝓣 : Wp.Tables 𝓤 H) (known0 :
           Plain.Known 𝓤 H A W 𝓣 0 ps·0 r·0 (claims· .0) (claims· .1) "cases::script::open_packet") (known1 :
           Plain.Known 𝓤 H A W 𝓣 0 ps·1 r·1 (claims· .2) (claims· .3) "cases::script::open_body") (known2 : Plain.Known
-          𝓤 H A W 𝓣 9 ps·2 r·2 (claims· .4) (claims· .5) "hnsr_circuit::handle::handle") → Statement.Triple 𝓤 (Wp.WpFn
+          𝓤 H A W 𝓣 9 ps·2 r·2 (claims· .4) (claims· .5) "hnsr_circuit::calls::handle::handle") → Statement.Triple 𝓤 (Wp.WpFn
           𝓤 H (𝓣 .C) (𝓣 .Λ) (Function.fnOf 5 ps r xs m hs body)) (Function.plainOf 𝓤 H A 5 ps r Pre· Post·)
 
     module _ where
@@ -1505,7 +1505,7 @@ module _ (claims· : Claims) where
         abbrev Knowns : Type 1
         Knowns = Plain.Known 𝓤 H A W 𝓣 0 ps·0 r·0 (claims· .0) (claims· .1) "cases::script::open_packet" × Plain.Known
             𝓤 H A W 𝓣 0 ps·1 r·1 (claims· .2) (claims· .3) "cases::script::open_body" × Plain.Known 𝓤 H A W 𝓣 9 ps·2
-            r·2 (claims· .4) (claims· .5) "hnsr_circuit::handle::handle"
+            r·2 (claims· .4) (claims· .5) "hnsr_circuit::calls::handle::handle"
 
       module _ (κs : Lifetimes.Lfts 5) (qs : Lifetimes.Shares 5) where
         abbrev life0 : Row.Life
@@ -2345,12 +2345,12 @@ module _ (claims· : Claims) where
 
           d33 : Typed.Typed 𝓤 H A 𝓣 E G49 b27 Δ0 (at33 bs)
           d33 = Typed.g-pre 𝓤 H A W 𝓣 E G49 G50 b27 Δ0 (Typed.pass T49 T50 (s48 bs)) (at32 bs) (Scalar.g-room 𝓤 H A W E
-              G49 13 Laws.mir (Local.room-whole 𝓤 H A W (Declared.row Places.the-type) Laws.mir Path.refl)) d32
+              G49 13 Laws'''.mir (Local.room-whole 𝓤 H A W (Declared.row Places.the-type) Laws'''.mir Path.refl)) d32
 
           d34 : Typed.Typed 𝓤 H A 𝓣 E G48 b27 Δ0 (at34 bs)
           d34 = Typed.g-pre 𝓤 H A W 𝓣 E G48 G49 b27 Δ0 (Typed.pass T48 T49 (s47 bs)) (at33 bs) (Scalar.g-room 𝓤 H A W E
-              G48 12 Laws''.mir (Local.room-whole 𝓤 H A W (Declared.row OpaqueRelayRuntime.the-type) Laws''.mir
-              Path.refl)) d33
+              G48 12 Laws.mir (Local.room-whole 𝓤 H A W (Declared.row OpaqueRelayRuntime.the-type) Laws.mir Path.refl))
+              d33
 
           d35 : Typed.Typed 𝓤 H A 𝓣 E G47 b27 Δ0 (at35 bs)
           d35 = Typed.g-pre 𝓤 H A W 𝓣 E G47 G48 b27 Δ0 (Typed.pass T47 T48 (s46 bs)) (at34 bs) (Scalar.g-room 𝓤 H A W E
@@ -2374,7 +2374,8 @@ module _ (claims· : Claims) where
 
           d40 : Typed.Typed 𝓤 H A 𝓣 E G42 b28 Δ0 (at40 bs)
           d40 = Typed.s-seq 𝓤 H A W 𝓣 E G42 G43 b26 b27 Δ0 (Typed.both (s41 bs)) (at39 bs) (Plain.t-call-plain 𝓤 H A W
-              𝓣 9 ps·2 r·2 (claims· .4) (claims· .5) "hnsr_circuit::handle::handle" (known .2) E (λ pos β. β) G42 (
+              𝓣 9 ps·2 r·2 (claims· .4) (claims· .5) "hnsr_circuit::calls::handle::handle" (known .2) E (λ pos β. β)
+              G42 (
                 record { pos = 16; ty = ref0; ref = λ x. x },
                 (
                   record { pos = 18; ty = ref1; ref = λ x. x },
@@ -2430,7 +2431,7 @@ module _ (claims· : Claims) where
                         (
                           (
                             Yields.yields-copy 𝓤 H A W (λ ρ. Unit) (Declared.row OpaqueRelayRuntime.the-type) Path.refl (Copies.cStruct
-                                OpaqueRelayRuntime.the-type Laws''.the-laws Laws''.the-copy .copy 𝓤 H A W)
+                                OpaqueRelayRuntime.the-type Laws.the-laws Laws.the-copy .copy 𝓤 H A W)
                                 (Rows'.whole (Declared.row OpaqueRelayRuntime.the-type)) (λ x. x) (λ x. x) (λ ρ told.
                                 Local.mem-whole 𝓤 H A W (Declared.row OpaqueRelayRuntime.the-type) ρ) λ ρ told.
                                 Local.whole-mem 𝓤 H A W (Declared.row OpaqueRelayRuntime.the-type) ρ,
@@ -2439,7 +2440,7 @@ module _ (claims· : Claims) where
                           (
                             (
                               Yields.yields-copy 𝓤 H A W (λ ρ. Unit) (Declared.row Places.the-type) Path.refl (Copies.cStruct
-                                  Places.the-type Laws.the-laws Laws.the-copy .copy 𝓤 H A W)
+                                  Places.the-type Laws'''.the-laws Laws'''.the-copy .copy 𝓤 H A W)
                                   (Rows'.whole (Declared.row Places.the-type)) (λ x. x) (λ x. x) (λ ρ told.
                                   Local.mem-whole 𝓤 H A W (Declared.row Places.the-type) ρ) λ ρ told. Local.whole-mem 𝓤
                                   H A W (Declared.row Places.the-type) ρ,
@@ -2482,7 +2483,7 @@ module _ (claims· : Claims) where
                     ),
                   ),
                 ),
-              ) (Reads.room-gone 𝓤 H A Laws'''.mir) (tt, (tt, (tt, (tt, (tt, (tt, (tt, (tt, (tt, tt))))))))) Path.refl)
+              ) (Reads.room-gone 𝓤 H A Laws''.mir) (tt, (tt, (tt, (tt, (tt, (tt, (tt, (tt, (tt, tt))))))))) Path.refl)
               d39
 
           d41 : Typed.Typed 𝓤 H A 𝓣 E G41 b29 Δ0 (at41 bs)
@@ -3263,13 +3264,13 @@ module _ (claims· : Claims) where
 
           d68 : Typed.Typed 𝓤 H A 𝓣 E G14 b46 Δ0 (at68 bs)
           d68 = Typed.g-pre 𝓤 H A W 𝓣 E G14 G15 b46 Δ0 (Typed.pass T14 T15 (s13 bs)) (at67 bs) (Scalar.g-room 𝓤 H A W E
-              G14 6 Laws'''.mir (Local.room-whole 𝓤 H A W (Declared.row Relayed.the-type) Laws'''.mir Path.refl)) d67
+              G14 6 Laws''.mir (Local.room-whole 𝓤 H A W (Declared.row Relayed.the-type) Laws''.mir Path.refl)) d67
 
           d69 : Typed.Typed 𝓤 H A 𝓣 E G13 b47 Δ0 (at69 bs)
           d69 = Typed.s-seq 𝓤 H A W 𝓣 E G13 G14 b7 b46 Δ0 (Typed.both (s12 bs)) (at68 bs) (WayStmt.t-way-copy-out 𝓤 H A
-              W E 𝓣 (Declared.row Places.the-type) Path.refl (Copies.cStruct Places.the-type Laws.the-laws
-              Laws.the-copy .copy 𝓤 H A W) (λ ρ. Unit) G13 (Row.out 6 (G13 .locals)) (λ u. Row.drop 6 (G13 .locals) u)
-              (G13 .slots) 6 (λ t. (Syntax.field 3) ∷ t) Laws.mir Laws.mir 13
+              W E 𝓣 (Declared.row Places.the-type) Path.refl (Copies.cStruct Places.the-type Laws'''.the-laws
+              Laws'''.the-copy .copy 𝓤 H A W) (λ ρ. Unit) G13 (Row.out 6 (G13 .locals))
+              (λ u. Row.drop 6 (G13 .locals) u) (G13 .slots) 6 (λ t. (Syntax.field 3) ∷ t) Laws'''.mir Laws'''.mir 13
               (Rows'.whole (Declared.row Places.the-type)) (λ x. x) (λ u. At.getAt (Relayed.the-type .parts) 3
               (Relayed.struct .as-values (u .1 .1 .1 .1 .1 .1 .0))) (λ u. (
                 Row.hd 0 (Row.tl (Row.tl (Row.tl (Row.tl (Row.tl (Row.tl bs)))))),
@@ -3280,7 +3281,7 @@ module _ (claims· : Claims) where
               }) (λ u T′ m′. Row.set 6 (6, Rows'.whole (Declared.row Relayed.the-type)) (u .1 .1 .1 .1 .1 .1 .0) T′ m′)
               (λ u. Unit) (λ x. Unit) (Own.told-none 𝓤 H A (G13 .slots)) (DerefMove.learns-nothing 𝓤 H A
               (Declared.row Places.the-type)) (λ ρ told u asked. Way'.w-partˢ 𝓤 H A W E (Declared.row Relayed.the-type)
-              (Declared.row Places.the-type) Laws'''.mir Laws.mir 3 216 (u .1 .1 .1 .1 .1 .1 .0) (At.getAt
+              (Declared.row Places.the-type) Laws''.mir Laws'''.mir 3 216 (u .1 .1 .1 .1 .1 .1 .0) (At.getAt
               (Relayed.the-type .parts) 3 (Relayed.struct .as-values (u .1 .1 .1 .1 .1 .1 .0))) (
                 Row.hd 0 (Row.tl (Row.tl (Row.tl (Row.tl (Row.tl (Row.tl bs)))))),
                 0,
@@ -3295,19 +3296,19 @@ module _ (claims· : Claims) where
               (Relayed.the-type .parts) 3 (Relayed.struct .as-values (u .1 .1 .1 .1 .1 .1 .0))) (
                 Row.hd 0 (Row.tl (Row.tl (Row.tl (Row.tl (Row.tl (Row.tl bs)))))),
                 0,
-              ) (Behind.look-at 𝓤 H A W q Relayed.the-type Laws'''.the-laws 3 216 Path.refl Path.refl (
+              ) (Behind.look-at 𝓤 H A W q Relayed.the-type Laws''.the-laws 3 216 Path.refl Path.refl (
                 Row.hd 0 (Row.tl (Row.tl (Row.tl (Row.tl (Row.tl (Row.tl bs)))))),
                 0,
               ) (u .1 .1 .1 .1 .1 .1 .0) (Relayed.struct .as-values (u .1 .1 .1 .1 .1 .1 .0)) Path.refl))
-              (Reads.room-gone 𝓤 H A Laws.mir) (Yields.makes-mem 𝓤 H A W (λ ρ. Unit) (Declared.row Places.the-type)
+              (Reads.room-gone 𝓤 H A Laws'''.mir) (Yields.makes-mem 𝓤 H A W (λ ρ. Unit) (Declared.row Places.the-type)
               Path.refl (Rows'.whole (Declared.row Places.the-type)) (λ x. x) λ ρ told. Local.whole-mem 𝓤 H A W
               (Declared.row Places.the-type) ρ) Path.refl Path.refl Path.refl) d68
 
           d70 : Typed.Typed 𝓤 H A 𝓣 E G12 b48 Δ0 (at70 bs)
           d70 = Typed.s-seq 𝓤 H A W 𝓣 E G12 G13 b6 b47 Δ0 (Typed.both (s11 bs)) (at69 bs) (WayStmt.t-way-copy-out 𝓤 H A
               W E 𝓣 (Declared.row OpaqueRelayRuntime.the-type) Path.refl (Copies.cStruct OpaqueRelayRuntime.the-type
-              Laws''.the-laws Laws''.the-copy .copy 𝓤 H A W) (λ ρ. Unit) G12 (Row.out 6 (G12 .locals))
-              (λ u. Row.drop 6 (G12 .locals) u) (G12 .slots) 6 (λ t. (Syntax.field 0) ∷ t) Laws''.mir Laws''.mir 12
+              Laws.the-laws Laws.the-copy .copy 𝓤 H A W) (λ ρ. Unit) G12 (Row.out 6 (G12 .locals))
+              (λ u. Row.drop 6 (G12 .locals) u) (G12 .slots) 6 (λ t. (Syntax.field 0) ∷ t) Laws.mir Laws.mir 12
               (Rows'.whole (Declared.row OpaqueRelayRuntime.the-type)) (λ x. x) (λ u. At.getAt
               (Relayed.the-type .parts) 0 (Relayed.struct .as-values (u .1 .1 .1 .1 .1 .1 .0))) (λ u. (
                 Row.hd 0 (Row.tl (Row.tl (Row.tl (Row.tl (Row.tl (Row.tl bs)))))),
@@ -3318,7 +3319,7 @@ module _ (claims· : Claims) where
               }) (λ u T′ m′. Row.set 6 (6, Rows'.whole (Declared.row Relayed.the-type)) (u .1 .1 .1 .1 .1 .1 .0) T′ m′)
               (λ u. Unit) (λ x. Unit) (Own.told-none 𝓤 H A (G12 .slots)) (DerefMove.learns-nothing 𝓤 H A
               (Declared.row OpaqueRelayRuntime.the-type)) (λ ρ told u asked. Way'.w-partˢ 𝓤 H A W E
-              (Declared.row Relayed.the-type) (Declared.row OpaqueRelayRuntime.the-type) Laws'''.mir Laws''.mir 0 0
+              (Declared.row Relayed.the-type) (Declared.row OpaqueRelayRuntime.the-type) Laws''.mir Laws.mir 0 0
               (u .1 .1 .1 .1 .1 .1 .0) (At.getAt (Relayed.the-type .parts) 0
               (Relayed.struct .as-values (u .1 .1 .1 .1 .1 .1 .0))) (
                 Row.hd 0 (Row.tl (Row.tl (Row.tl (Row.tl (Row.tl (Row.tl bs)))))),
@@ -3335,11 +3336,11 @@ module _ (claims· : Claims) where
               (Relayed.struct .as-values (u .1 .1 .1 .1 .1 .1 .0))) (
                 Row.hd 0 (Row.tl (Row.tl (Row.tl (Row.tl (Row.tl (Row.tl bs)))))),
                 0,
-              ) (Behind.look-at 𝓤 H A W q Relayed.the-type Laws'''.the-laws 0 0 Path.refl Path.refl (
+              ) (Behind.look-at 𝓤 H A W q Relayed.the-type Laws''.the-laws 0 0 Path.refl Path.refl (
                 Row.hd 0 (Row.tl (Row.tl (Row.tl (Row.tl (Row.tl (Row.tl bs)))))),
                 0,
               ) (u .1 .1 .1 .1 .1 .1 .0) (Relayed.struct .as-values (u .1 .1 .1 .1 .1 .1 .0)) Path.refl))
-              (Reads.room-gone 𝓤 H A Laws''.mir) (Yields.makes-mem 𝓤 H A W (λ ρ. Unit)
+              (Reads.room-gone 𝓤 H A Laws.mir) (Yields.makes-mem 𝓤 H A W (λ ρ. Unit)
               (Declared.row OpaqueRelayRuntime.the-type) Path.refl
               (Rows'.whole (Declared.row OpaqueRelayRuntime.the-type)) (λ x. x) λ ρ told. Local.whole-mem 𝓤 H A W
               (Declared.row OpaqueRelayRuntime.the-type) ρ) Path.refl Path.refl Path.refl) d69
@@ -3471,8 +3472,8 @@ module _ (claims· : Claims) where
           pub ledger : Kinds.Den {n = 5} κs (MutSlice.pMutS ReservationUsage.row 2 tt)
           pub inflight : Kinds.Den {n = 5} κs (MutSlice.pMutS InflightAction.row 3 tt)
           pub out : Kinds.Den {n = 5} κs (MutSlice.pMutS (Referent.rtF (Referent.fInt Syntax.w32)) 4 tt)
-          pub kept : Kinds.Den {n = 5} κs (StructRow.param Relayed.the-type Laws'''.the-laws Laws'''.the-copy
-              Laws'''.the-plain)
+          pub kept : Kinds.Den {n = 5} κs (StructRow.param Relayed.the-type Laws''.the-laws Laws''.the-copy
+              Laws''.the-plain)
 
         abbrev pub dens : (a : Args) → Kinds.Dens κs ps
         dens = λ a. (a .pending, (a .circuits, (a .ledger, (a .inflight, (a .out, (a .kept, tt))))))
@@ -4538,7 +4539,7 @@ module _ (claims· : Claims) where
             (𝓣 : Wp.Tables 𝓤 H) (known0 : Plain.Known 𝓤 H A W 𝓣 0 ps·0 r·0 (claims· .0) (claims· .1)
             "cases::script::open_packet") (known1 : Plain.Known 𝓤 H A W 𝓣 0 ps·1 r·1 (claims· .2) (claims· .3)
             "cases::script::open_body") (known2 : Plain.Known 𝓤 H A W 𝓣 9 ps·2 r·2 (claims· .4) (claims· .5)
-            "hnsr_circuit::handle::handle") where
+            "hnsr_circuit::calls::handle::handle") where
           pub spec : Statement.Triple 𝓤 (Wp.WpFn 𝓤 H (𝓣 .C) (𝓣 .Λ) (Function.fnOf 5 ps r xs m hs body))
               (Function.plainOf 𝓤 H A 5 ps r Pre· Post·)
           spec = Plain.t-fn-plain 𝓤 H A W 𝓣 5 ps r xs m hs body (λ κs qs bs. Φ bs) (λ κs qs bs bd. typed κs qs 𝓤 H A W

@@ -9,8 +9,8 @@ use Rattle.cases.proofs.script.Script
 use Rattle.cases.proofs.script.Script.Laws
 use Rattle.hnsr_circuit.proofs.answer.HnsrAnswer
 use Rattle.hnsr_circuit.proofs.answer.HnsrAnswer.Laws as Laws'
-use Rattle.hnsr_circuit.proofs.records.RelayPacket
-use Rattle.hnsr_circuit.proofs.records.RelayPacket.Laws as Laws''
+use Rattle.hnsr_circuit.proofs.runtime.RelayPacket
+use Rattle.hnsr_circuit.proofs.runtime.RelayPacket.Laws as Laws''
 use Rattle.hnsr_circuit.proofs.runtime.Relayed
 use Rattle.hnsr_circuit.proofs.runtime.Relayed.Laws as Laws'''
 use borrow.Author.Called

@@ -11,9 +11,9 @@ use Rattle.cases.proofs.machine.deliver.Symbol
 use Rattle.cases.proofs.script.answer_number.Met as Met'
 use Rattle.cases.proofs.script.answer_number.Reads as Reads''
 use Rattle.cases.proofs.script.answer_number.Symbol as Symbol'
-use Rattle.hnsr_circuit.proofs.By.acknowledge.acknowledge.Reads as Reads'''
-use Rattle.hnsr_circuit.proofs.acknowledge.acknowledge.Met as Met''
-use Rattle.hnsr_circuit.proofs.acknowledge.acknowledge.Symbol as Symbol''
+use Rattle.hnsr_circuit.proofs.By.calls.acknowledge.acknowledge.Reads as Reads'''
+use Rattle.hnsr_circuit.proofs.calls.acknowledge.acknowledge.Met as Met''
+use Rattle.hnsr_circuit.proofs.calls.acknowledge.acknowledge.Symbol as Symbol''
 use borrow.Fn.Run
 use borrow.Fn.Written
 use contract.Running
@@ -222,7 +222,7 @@ module _ {M : Type 1} where
       record { M = M; 𝓤 = 𝓤; H = H; 𝓜 = 𝓜; 𝓖 = 𝓖; 𝓡 = 𝓡 }) (Reads.passes
       record { M = M; 𝓤 = 𝓤; H = H; 𝓜 = 𝓜; 𝓖 = 𝓖; 𝓡 = 𝓡 }) λ g. closed 𝓤 H (𝓖 .A) (Running.givenOf 𝓤 H 𝓜 𝓖)
       (Run.Over 𝓤 H 𝓜 𝓖 𝓡 Code.env) (Reads'''.known record { M = M; 𝓤 = 𝓤; H = H; 𝓜 = 𝓜; 𝓖 = 𝓖; 𝓡 = 𝓡 } Code.env
-      Symbol''.name Symbol''.routine Code.calls-hnsr-circuit·acknowledge·acknowledge (Met''.met 𝓤 H 𝓜 𝓖 𝓡)) (Reads'.known
+      Symbol''.name Symbol''.routine Code.calls-hnsr-circuit·calls·acknowledge·acknowledge (Met''.met 𝓤 H 𝓜 𝓖 𝓡)) (Reads'.known
       record { M = M; 𝓤 = 𝓤; H = H; 𝓜 = 𝓜; 𝓖 = 𝓖; 𝓡 = 𝓡 } Code.env Symbol.name Symbol.routine
       Code.calls-cases·machine·deliver (Met.met 𝓤 H 𝓜 𝓖 𝓡)) (Reads''.known
       record { M = M; 𝓤 = 𝓤; H = H; 𝓜 = 𝓜; 𝓖 = 𝓖; 𝓡 = 𝓡 } Code.env Symbol'.name Symbol'.routine

@@ -8,9 +8,9 @@ use Rattle.cases.proofs.machine.begin.Statement
 use Rattle.cases.proofs.script.configured.Met
 use Rattle.cases.proofs.script.configured.Reads as Reads'
 use Rattle.cases.proofs.script.configured.Symbol
-use Rattle.hnsr_circuit.proofs.By.calls.new.Reads as Reads''
-use Rattle.hnsr_circuit.proofs.calls.new.Met as Met'
-use Rattle.hnsr_circuit.proofs.calls.new.Symbol as Symbol'
+use Rattle.hnsr_circuit.proofs.By.calls.silent.new.Reads as Reads''
+use Rattle.hnsr_circuit.proofs.calls.silent.new.Met as Met'
+use Rattle.hnsr_circuit.proofs.calls.silent.new.Symbol as Symbol'
 use borrow.Fn.Run
 use borrow.Fn.Written
 use contract.Running
@@ -51,4 +51,4 @@ module _ {M : Type 1} where
       (Run.Over 𝓤 H 𝓜 𝓖 𝓡 Code.env) (Reads'.known record { M = M; 𝓤 = 𝓤; H = H; 𝓜 = 𝓜; 𝓖 = 𝓖; 𝓡 = 𝓡 } Code.env
       Symbol.name Symbol.routine Code.calls-cases·script·configured (Met.met 𝓤 H 𝓜 𝓖 𝓡)) (Reads''.known
       record { M = M; 𝓤 = 𝓤; H = H; 𝓜 = 𝓜; 𝓖 = 𝓖; 𝓡 = 𝓡 } Code.env Symbol'.name Symbol'.routine
-      Code.calls-hnsr-circuit·calls·new (Met'.met 𝓤 H 𝓜 𝓖 𝓡))
+      Code.calls-hnsr-circuit·calls·silent·new (Met'.met 𝓤 H 𝓜 𝓖 𝓡))

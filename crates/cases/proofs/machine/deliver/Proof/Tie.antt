@@ -5,9 +5,9 @@ use Rattle.cases.proofs.By.machine.deliver.Reads
 use Rattle.cases.proofs.machine.deliver.Code
 use Rattle.cases.proofs.machine.deliver.Key
 use Rattle.cases.proofs.machine.deliver.Statement
-use Rattle.hnsr_circuit.proofs.By.handle.handle.Reads as Reads'
-use Rattle.hnsr_circuit.proofs.handle.handle.Met
-use Rattle.hnsr_circuit.proofs.handle.handle.Symbol
+use Rattle.hnsr_circuit.proofs.By.calls.handle.handle.Reads as Reads'
+use Rattle.hnsr_circuit.proofs.calls.handle.handle.Met
+use Rattle.hnsr_circuit.proofs.calls.handle.handle.Symbol
 use borrow.Fn.Run
 use borrow.Fn.Written
 use contract.Running
@@ -121,4 +121,4 @@ module _ {M : Type 1} where
       record { M = M; 𝓤 = 𝓤; H = H; 𝓜 = 𝓜; 𝓖 = 𝓖; 𝓡 = 𝓡 }) (Reads.passes
       record { M = M; 𝓤 = 𝓤; H = H; 𝓜 = 𝓜; 𝓖 = 𝓖; 𝓡 = 𝓡 }) λ g. closed 𝓤 H (𝓖 .A) (Running.givenOf 𝓤 H 𝓜 𝓖)
       (Run.Over 𝓤 H 𝓜 𝓖 𝓡 Code.env) (Reads'.known record { M = M; 𝓤 = 𝓤; H = H; 𝓜 = 𝓜; 𝓖 = 𝓖; 𝓡 = 𝓡 } Code.env
-      Symbol.name Symbol.routine Code.calls-hnsr-circuit·handle·handle (Met.met 𝓤 H 𝓜 𝓖 𝓡))
+      Symbol.name Symbol.routine Code.calls-hnsr-circuit·calls·handle·handle (Met.met 𝓤 H 𝓜 𝓖 𝓡))

@@ -11,9 +11,9 @@ use Rattle.cases.proofs.script.open_body.Symbol
 use Rattle.cases.proofs.script.open_packet.Met as Met'
 use Rattle.cases.proofs.script.open_packet.Reads as Reads''
 use Rattle.cases.proofs.script.open_packet.Symbol as Symbol'
-use Rattle.hnsr_circuit.proofs.By.handle.handle.Reads as Reads'''
-use Rattle.hnsr_circuit.proofs.handle.handle.Met as Met''
-use Rattle.hnsr_circuit.proofs.handle.handle.Symbol as Symbol''
+use Rattle.hnsr_circuit.proofs.By.calls.handle.handle.Reads as Reads'''
+use Rattle.hnsr_circuit.proofs.calls.handle.handle.Met as Met''
+use Rattle.hnsr_circuit.proofs.calls.handle.handle.Symbol as Symbol''
 use borrow.Fn.Run
 use borrow.Fn.Written
 use contract.Running
@@ -149,4 +149,4 @@ module _ {M : Type 1} where
       record { M = M; 𝓤 = 𝓤; H = H; 𝓜 = 𝓜; 𝓖 = 𝓖; 𝓡 = 𝓡 } Code.env Symbol.name Symbol.routine
       Code.calls-cases·script·open-body (Met.met 𝓤 H 𝓜 𝓖 𝓡)) (Reads'''.known
       record { M = M; 𝓤 = 𝓤; H = H; 𝓜 = 𝓜; 𝓖 = 𝓖; 𝓡 = 𝓡 } Code.env Symbol''.name Symbol''.routine
-      Code.calls-hnsr-circuit·handle·handle (Met''.met 𝓤 H 𝓜 𝓖 𝓡))
+      Code.calls-hnsr-circuit·calls·handle·handle (Met''.met 𝓤 H 𝓜 𝓖 𝓡))

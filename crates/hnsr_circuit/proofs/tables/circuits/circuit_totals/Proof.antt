@@ -12,7 +12,7 @@ use Rattle.hns_encoding.specs.Laws.Tests.{cond-le}
 use Rattle.hnsr_circuit.specs.Circuits.{isCircuit, noCircuit, clearCircuit}
 use Rattle.hnsr_circuit.specs.Status.{circuitTotals}
 use Rattle.hnsr_circuit.specs.Code.Held.{held}
-use Rattle.hnsr_circuit.specs.declared.records.CircuitTotals.{CircuitTotals}
+use Rattle.hnsr_circuit.specs.declared.tables.scan.CircuitTotals.{CircuitTotals}
 use Rattle.hnsr_circuit.specs.Laws.Turns.{totals-fold}
 use Rattle.hnsr_circuit.specs.Code.Turns.{totalled}
 use Rattle.hnsr_circuit.specs.Laws.HeldTables.{totals-rest}

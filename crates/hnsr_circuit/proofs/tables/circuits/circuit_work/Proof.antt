@@ -11,7 +11,7 @@ use Rattle.hns_encoding.specs.Loops.{foldFrom}
 use Rattle.hnsr_circuit.specs.Circuits.{noCircuit, clearCircuit}
 use Rattle.hnsr_circuit.specs.Code.Question.{circuitWork}
 use Rattle.hnsr_circuit.specs.Code.Held.{held}
-use Rattle.hnsr_circuit.specs.declared.records.Work.{Work}
+use Rattle.hnsr_circuit.specs.declared.tables.scan.Work.{Work}
 use Rattle.hnsr_circuit.specs.Laws.Turns.{work-more, work-none, circuit-most, circuit-work}
 use Rattle.hnsr_circuit.specs.Code.Turns.{WorkAtMost, circuitWorked}
 use Rattle.hnsr_circuit.specs.Laws.HeldTables.{circuit-idle}

@@ -10,7 +10,7 @@ use lib.ListN.{length, drop}
 use Rattle.hns_encoding.specs.Loops.{foldFrom}
 use Rattle.hns_encoding.specs.Sums.{count}
 use Rattle.hns_encoding.specs.Laws.Tests.{cond-le}
-use Rattle.hnsr_circuit.specs.declared.records.Walked.{Walked}
+use Rattle.hnsr_circuit.specs.declared.tables.scan.Walked.{Walked}
 use Rattle.hnsr_circuit.specs.Table.{nextTurn, next}
 use Rattle.hnsr_circuit.specs.Circuits.{isCircuit, circuitId, noCircuit, clearCircuit}
 use Rattle.hnsr_circuit.specs.Code.Question.{circuitHas}

@@ -13,7 +13,7 @@ use Rattle.hnsr_circuit.specs.Table.{clear, cleared}
 use Rattle.hnsr_circuit.specs.Inflight.{noAction, clearAction, actionUnder, dropped}
 use Rattle.hnsr_circuit.specs.Code.Turns.{actionsScanned, noScan, TallyAtMost, scanned, scanSpared}
 use Rattle.hnsr_circuit.specs.Code.Held.{held}
-use Rattle.hnsr_circuit.specs.declared.records.ActionScan.{ActionScan}
+use Rattle.hnsr_circuit.specs.declared.tables.scan.ActionScan.{ActionScan}
 use Rattle.hnsr_circuit.specs.Laws.Turns.{tally-more, tally-none, tally-most, scan-fold}
 use Rattle.hnsr_circuit.specs.Laws.HeldTables.{scan-rest}
 use Rattle.hnsr_circuit.specs.Laws.Held.{length-held, held-min, held-at, clear-rest, held-clear-step}

@@ -10,7 +10,7 @@ use Rattle.hns_encoding.specs.Loops.{foldFrom}
 use Rattle.hnsr_circuit.specs.Inflight.{noAction, clearAction}
 use Rattle.hnsr_circuit.specs.Code.Turns.{actionsScanned, noScan, TallyAtMost, scanned}
 use Rattle.hnsr_circuit.specs.Code.Held.{held}
-use Rattle.hnsr_circuit.specs.declared.records.ActionScan.{ActionScan}
+use Rattle.hnsr_circuit.specs.declared.tables.scan.ActionScan.{ActionScan}
 use Rattle.hnsr_circuit.specs.Laws.Turns.{tally-more, tally-none, tally-most, scan-fold}
 use Rattle.hnsr_circuit.specs.Laws.HeldTables.{scan-rest}
 use Rattle.hnsr_circuit.specs.Laws.Held.{length-held, held-min, held-fold-step}

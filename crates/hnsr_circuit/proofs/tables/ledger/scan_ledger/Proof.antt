@@ -14,7 +14,7 @@ use Rattle.hnsr_circuit.specs.Laws.Turns.{room-fold}
 use Rattle.hnsr_circuit.specs.Code.Turns.{noRoom, roomOn, ledgerAsked}
 use Rattle.hnsr_circuit.specs.Laws.HeldTables.{room-rest}
 use Rattle.hnsr_circuit.specs.Laws.Held.{length-held, held-min, held-fold-step}
-use Rattle.hnsr_circuit.specs.declared.records.LedgerRoom.{LedgerRoom}
+use Rattle.hnsr_circuit.specs.declared.tables.scan.LedgerRoom.{LedgerRoom}
 use Rattle.hnsr_circuit.proofs.tables.ledger.scan_ledger.Statement.{statement}
 use Rattle.hnsr_circuit.proofs.tables.ledger.scan_ledger.Proof.Tie as tie
 use Rattle.hnsr_circuit.proofs.tables.ledger.scan_ledger.Proof.At as at

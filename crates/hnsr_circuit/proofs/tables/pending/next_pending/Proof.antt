@@ -12,7 +12,7 @@ use Rattle.hnsr_circuit.specs.Table.{nextTurn, next}
 use Rattle.hnsr_circuit.specs.Pending.{noPending, clearPending, pendingId}
 use Rattle.hnsr_circuit.specs.Code.Question.{pendingHas}
 use Rattle.hnsr_circuit.specs.Code.Held.{held}
-use Rattle.hnsr_circuit.specs.declared.records.Walked.{Walked}
+use Rattle.hnsr_circuit.specs.declared.tables.scan.Walked.{Walked}
 use Rattle.hnsr_circuit.specs.Laws.HeldTables.{pending-unmarked}
 use Rattle.hnsr_circuit.specs.Laws.Held.{held-min, fold-rest, held-fold-step, next-idle}
 use Rattle.hnsr_circuit.specs.declared.records.RelayPending.{RelayPending}

@@ -11,7 +11,7 @@ use Rattle.hns_encoding.specs.Loops.{foldFrom}
 use Rattle.hnsr_circuit.specs.Pending.{noPending, clearPending}
 use Rattle.hnsr_circuit.specs.Code.Question.{pendingWork}
 use Rattle.hnsr_circuit.specs.Code.Held.{held}
-use Rattle.hnsr_circuit.specs.declared.records.Work.{Work}
+use Rattle.hnsr_circuit.specs.declared.tables.scan.Work.{Work}
 use Rattle.hnsr_circuit.specs.Laws.Turns.{work-more, work-none, pending-most, pending-work}
 use Rattle.hnsr_circuit.specs.Code.Turns.{WorkAtMost, pendingWorked}
 use Rattle.hnsr_circuit.specs.Laws.HeldTables.{pending-idle}

@@ -110,7 +110,7 @@ b0 = Syntax.assign (Syntax.place 9 List.[]) (Syntax.rvOpd (Syntax.copy (Syntax.p
     (Syntax.tyArray (Syntax.tyInt Syntax.w8) 16)) ∷ List.[]))))
 
 abbrev b1 : Syntax.Body
-b1 = Syntax.call "hnsr_circuit::calls::new" ((Syntax.copy (Syntax.place 1 List.[])) ∷
+b1 = Syntax.call "hnsr_circuit::calls::silent::new" ((Syntax.copy (Syntax.place 1 List.[])) ∷
     (Syntax.copy (Syntax.place 2 List.[])) ∷ (Syntax.copy (Syntax.place 3 List.[])) ∷
     (Syntax.copy (Syntax.place 4 List.[])) ∷ (Syntax.copy (Syntax.place 9 List.[])) ∷
     (Syntax.copy (Syntax.place 6 List.[])) ∷ (Syntax.copy (Syntax.place 7 List.[])) ∷
@@ -301,9 +301,9 @@ module _ (claims· : Claims) where
     module _ (M : Type 1) where
       abbrev pub Closed : Type 2
       Closed = (𝓤 : URA.URA M) (H : Wp.Heap 𝓤) (A : Atoms.Atoms 𝓤) (W : Kit.Given 𝓤 H A) (𝓣 : Wp.Tables 𝓤 H) (known0 :
-          Plain.Known 𝓤 H A W 𝓣 4 ps·0 r·0 (claims· .0) (claims· .1) "hnsr_circuit::calls::new") (known1 : Plain.Known
-          𝓤 H A W 𝓣 0 ps·1 r·1 (claims· .2) (claims· .3) "lekchnam::relay::reply") → Statement.Triple 𝓤 (Wp.WpFn 𝓤 H
-          (𝓣 .C) (𝓣 .Λ) (Function.fnOf 5 ps r xs m hs body)) (Function.plainOf 𝓤 H A 5 ps r Pre· Post·)
+          Plain.Known 𝓤 H A W 𝓣 4 ps·0 r·0 (claims· .0) (claims· .1) "hnsr_circuit::calls::silent::new") (known1 :
+          Plain.Known 𝓤 H A W 𝓣 0 ps·1 r·1 (claims· .2) (claims· .3) "lekchnam::relay::reply") → Statement.Triple 𝓤 (Wp.WpFn
+          𝓤 H (𝓣 .C) (𝓣 .Λ) (Function.fnOf 5 ps r xs m hs body)) (Function.plainOf 𝓤 H A 5 ps r Pre· Post·)
 
     module _ where
       abbrev at0 : Typed.TF T9 O0
@@ -339,8 +339,8 @@ module _ (claims· : Claims) where
       module _ {M : Type 1} (𝓤 : URA.URA M) (H : Wp.Heap 𝓤) (A : Atoms.Atoms 𝓤) (W : Kit.Given 𝓤 H A)
           (𝓣 : Wp.Tables 𝓤 H) where
         abbrev Knowns : Type 1
-        Knowns = Plain.Known 𝓤 H A W 𝓣 4 ps·0 r·0 (claims· .0) (claims· .1) "hnsr_circuit::calls::new" × Plain.Known 𝓤
-            H A W 𝓣 0 ps·1 r·1 (claims· .2) (claims· .3) "lekchnam::relay::reply"
+        Knowns = Plain.Known 𝓤 H A W 𝓣 4 ps·0 r·0 (claims· .0) (claims· .1) "hnsr_circuit::calls::silent::new" ×
+            Plain.Known 𝓤 H A W 𝓣 0 ps·1 r·1 (claims· .2) (claims· .3) "lekchnam::relay::reply"
 
       module _ (κs : Lifetimes.Lfts 5) (qs : Lifetimes.Shares 5) where
         abbrev life0 : Row.Life
@@ -438,7 +438,7 @@ module _ (claims· : Claims) where
 
           d7 : Typed.Typed 𝓤 H A 𝓣 E G2 b5 Δ0 at7
           d7 = Typed.s-seq 𝓤 H A W 𝓣 E G2 G3 b1 b4 Δ0 (Typed.both s1) at6 (Plain.t-call-plain 𝓤 H A W 𝓣 4 ps·0 r·0
-              (claims· .0) (claims· .1) "hnsr_circuit::calls::new" (known .0) E (λ pos β. β) G2 (
+              (claims· .0) (claims· .1) "hnsr_circuit::calls::silent::new" (known .0) E (λ pos β. β) G2 (
                 record { pos = 1; ty = ref0; ref = λ x. x },
                 (
                   record { pos = 2; ty = ref1; ref = λ x. x },
@@ -684,7 +684,7 @@ module _ (claims· : Claims) where
 
         module _ {M : Type 1} (𝓤 : URA.URA M) (H : Wp.Heap 𝓤) (A : Atoms.Atoms 𝓤) (W : Kit.Given 𝓤 H A)
             (𝓣 : Wp.Tables 𝓤 H) (known0 : Plain.Known 𝓤 H A W 𝓣 4 ps·0 r·0 (claims· .0) (claims· .1)
-            "hnsr_circuit::calls::new") (known1 : Plain.Known 𝓤 H A W 𝓣 0 ps·1 r·1 (claims· .2) (claims· .3)
+            "hnsr_circuit::calls::silent::new") (known1 : Plain.Known 𝓤 H A W 𝓣 0 ps·1 r·1 (claims· .2) (claims· .3)
             "lekchnam::relay::reply") where
           pub spec : Statement.Triple 𝓤 (Wp.WpFn 𝓤 H (𝓣 .C) (𝓣 .Λ) (Function.fnOf 5 ps r xs m hs body))
               (Function.plainOf 𝓤 H A 5 ps r Pre· Post·)

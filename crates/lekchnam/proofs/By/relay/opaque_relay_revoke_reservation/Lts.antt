@@ -2,12 +2,12 @@
 use Prim.Native.Nat
 use Rattle.hnsr_body.proofs.values.ReservationId
 use Rattle.hnsr_body.proofs.values.ReservationId.Laws
-use Rattle.hnsr_circuit.proofs.places.Places
-use Rattle.hnsr_circuit.proofs.places.Places.Laws as Laws'
 use Rattle.hnsr_circuit.proofs.runtime.OpaqueRelayRuntime
-use Rattle.hnsr_circuit.proofs.runtime.OpaqueRelayRuntime.Laws as Laws''
+use Rattle.hnsr_circuit.proofs.runtime.OpaqueRelayRuntime.Laws as Laws'
 use Rattle.hnsr_circuit.proofs.runtime.Relayed
-use Rattle.hnsr_circuit.proofs.runtime.Relayed.Laws as Laws'''
+use Rattle.hnsr_circuit.proofs.runtime.Relayed.Laws as Laws''
+use Rattle.hnsr_circuit.proofs.tables.places.Places
+use Rattle.hnsr_circuit.proofs.tables.places.Places.Laws as Laws'''
 use Rattle.lekchnam.proofs.By.InflightAction
 use Rattle.lekchnam.proofs.By.RelayCircuit
 use Rattle.lekchnam.proofs.By.RelayPending
@@ -107,15 +107,15 @@ slice4 = Syntax.tyStruct (38 ∷ 91 ∷ 93 ∷ List.[]) (Syntax.tcons ref4
 abbrev pub ps : List.List (Kinds.PK 5)
 ps = (MutSlice.pMutS RelayPending.row 0 tt) ∷ (MutSlice.pMutS RelayCircuit.row 1 tt) ∷
     (MutSlice.pMutS ReservationUsage.row 2 tt) ∷ (MutSlice.pMutS InflightAction.row 3 tt) ∷ (MutSlice.pMutS
-    (Referent.rtF (Referent.fInt Syntax.w32)) 4 tt) ∷ (StructRow.param OpaqueRelayRuntime.the-type Laws''.the-laws
-    Laws''.the-copy Laws''.the-plain) ∷ (StructRow.param Places.the-type Laws'.the-laws Laws'.the-copy Laws'.the-plain)
-    ∷ (StructRow.param ReservationId.the-type Laws.the-laws Laws.the-copy Laws.the-plain) ∷ List.[]
+    (Referent.rtF (Referent.fInt Syntax.w32)) 4 tt) ∷ (StructRow.param OpaqueRelayRuntime.the-type Laws'.the-laws
+    Laws'.the-copy Laws'.the-plain) ∷ (StructRow.param Places.the-type Laws'''.the-laws Laws'''.the-copy
+    Laws'''.the-plain) ∷ (StructRow.param ReservationId.the-type Laws.the-laws Laws.the-copy Laws.the-plain) ∷ List.[]
 
 abbrev pub r : Kinds.RK 5
 r = StructRow.result RelayReply.the-type Laws''''.the-laws Laws''''.the-copy Laws''''.the-plain
 
 abbrev pub xs : List.List Syntax.Ty
-xs = Laws'''.mir ∷ ref0 ∷ slice0 ∷ ref1 ∷ slice1 ∷ ref2 ∷ slice2 ∷ ref3 ∷ slice3 ∷ ref4 ∷ slice4 ∷ List.[]
+xs = Laws''.mir ∷ ref0 ∷ slice0 ∷ ref1 ∷ slice1 ∷ ref2 ∷ slice2 ∷ ref3 ∷ slice3 ∷ ref4 ∷ slice4 ∷ List.[]
 
 abbrev pub m : Nat.ℕ
 m = 5
@@ -123,15 +123,15 @@ m = 5
 abbrev pub ps·0 : List.List (Kinds.PK 5)
 ps·0 = (MutSlice.pMutS RelayPending.row 0 tt) ∷ (MutSlice.pMutS RelayCircuit.row 1 tt) ∷
     (MutSlice.pMutS ReservationUsage.row 2 tt) ∷ (MutSlice.pMutS InflightAction.row 3 tt) ∷ (MutSlice.pMutS
-    (Referent.rtF (Referent.fInt Syntax.w32)) 4 tt) ∷ (StructRow.param OpaqueRelayRuntime.the-type Laws''.the-laws
-    Laws''.the-copy Laws''.the-plain) ∷ (StructRow.param Places.the-type Laws'.the-laws Laws'.the-copy Laws'.the-plain)
-    ∷ (StructRow.param ReservationId.the-type Laws.the-laws Laws.the-copy Laws.the-plain) ∷ List.[]
+    (Referent.rtF (Referent.fInt Syntax.w32)) 4 tt) ∷ (StructRow.param OpaqueRelayRuntime.the-type Laws'.the-laws
+    Laws'.the-copy Laws'.the-plain) ∷ (StructRow.param Places.the-type Laws'''.the-laws Laws'''.the-copy
+    Laws'''.the-plain) ∷ (StructRow.param ReservationId.the-type Laws.the-laws Laws.the-copy Laws.the-plain) ∷ List.[]
 
 abbrev pub r·0 : Kinds.RK 5
-r·0 = StructRow.result Relayed.the-type Laws'''.the-laws Laws'''.the-copy Laws'''.the-plain
+r·0 = StructRow.result Relayed.the-type Laws''.the-laws Laws''.the-copy Laws''.the-plain
 
 abbrev pub ps·1 : List.List (Kinds.PK 0)
-ps·1 = (StructRow.param Relayed.the-type Laws'''.the-laws Laws'''.the-copy Laws'''.the-plain) ∷ List.[]
+ps·1 = (StructRow.param Relayed.the-type Laws''.the-laws Laws''.the-copy Laws''.the-plain) ∷ List.[]
 
 abbrev pub r·1 : Kinds.RK 0
 r·1 = StructRow.result RelayReply.the-type Laws''''.the-laws Laws''''.the-copy Laws''''.the-plain
@@ -183,7 +183,7 @@ b9 = Syntax.assign (Syntax.place 19 List.[]) (Syntax.aggregate ((Syntax.copy (Sy
     (Syntax.copy (Syntax.place 5 ((Syntax.field 1) ∷ List.[]))) ∷ List.[]))
 
 abbrev b10 : Syntax.Body
-b10 = Syntax.call "hnsr_circuit::revoking_calls::revoke_reservation" ((Syntax.copy (Syntax.place 11 List.[])) ∷
+b10 = Syntax.call "hnsr_circuit::calls::revoking::revoke_reservation" ((Syntax.copy (Syntax.place 11 List.[])) ∷
     (Syntax.copy (Syntax.place 13 List.[])) ∷ (Syntax.copy (Syntax.place 15 List.[])) ∷
     (Syntax.copy (Syntax.place 17 List.[])) ∷ (Syntax.copy (Syntax.place 19 List.[])) ∷
     (Syntax.copy (Syntax.place 6 List.[])) ∷ (Syntax.copy (Syntax.place 7 List.[])) ∷
@@ -265,7 +265,7 @@ abbrev e8 : Row.Entry
 e8 = (8, Rows.whole (Declared.row ReservationId.the-type))
 
 abbrev e9 : Row.Entry
-e9 = (9, Rows.any-gone Laws'''.mir)
+e9 = (9, Rows.any-gone Laws''.mir)
 
 abbrev e10 : Row.Entry
 e10 = (10, Rows.any-gone ref0)
@@ -301,10 +301,10 @@ abbrev e0·1 : Row.Entry
 e0·1 = (0, Rows.whole (Declared.row RelayReply.the-type))
 
 abbrev e6·1 : Row.Entry
-e6·1 = (6, Rows.any-gone Laws''.mir)
+e6·1 = (6, Rows.any-gone Laws'.mir)
 
 abbrev e7·1 : Row.Entry
-e7·1 = (7, Rows.any-gone Laws'.mir)
+e7·1 = (7, Rows.any-gone Laws'''.mir)
 
 abbrev e8·1 : Row.Entry
 e8·1 = (8, Rows.any-gone Laws.mir)
@@ -598,13 +598,13 @@ module _ (claims· : Claims) where
   )
 
   abbrev s16 : Typed.Both T17 T18
-  s16 = Call.callB ps·0 r·0 (claims· .0) (claims· .1) T17 args16 9 (5 ∷ 6 ∷ 7 ∷ 8 ∷ 9 ∷ List.[]) Laws'''.mir
+  s16 = Call.callB ps·0 r·0 (claims· .0) (claims· .1) T17 args16 9 (5 ∷ 6 ∷ 7 ∷ 8 ∷ 9 ∷ List.[]) Laws''.mir
 
   abbrev s17 : Typed.Mo T18 → Typed.Mo T19
-  s17 = Scalar.n-room T18 6 Laws''.mir
+  s17 = Scalar.n-room T18 6 Laws'.mir
 
   abbrev s18 : Typed.Mo T19 → Typed.Mo T20
-  s18 = Scalar.n-room T19 7 Laws'.mir
+  s18 = Scalar.n-room T19 7 Laws'''.mir
 
   abbrev s19 : Typed.Mo T20 → Typed.Mo T21
   s19 = Scalar.n-room T20 8 Laws.mir
@@ -634,16 +634,17 @@ module _ (claims· : Claims) where
   s36 = Call.callB ps·1 r·1 (claims· .2) (claims· .3) T36 args36 0 List.[] Laws''''.mir
 
   abbrev s37 : Typed.Mo T38 → Typed.Mo T39
-  s37 = Scalar.n-room T38 9 Laws'''.mir
+  s37 = Scalar.n-room T38 9 Laws''.mir
 
   module _ (Pre· : (κs : Lifetimes.Lfts 5) → Kinds.Dens κs ps → Type 0) (Post· : (κs : Lifetimes.Lfts 5) →
       (a : Kinds.Dens κs ps) → Kinds.Plain 5 ps r κs) where
     module _ (M : Type 1) where
       abbrev pub Closed : Type 2
       Closed = (𝓤 : URA.URA M) (H : Wp.Heap 𝓤) (A : Atoms.Atoms 𝓤) (W : Kit.Given 𝓤 H A) (𝓣 : Wp.Tables 𝓤 H) (known0 :
-          Plain.Known 𝓤 H A W 𝓣 5 ps·0 r·0 (claims· .0) (claims· .1) "hnsr_circuit::revoking_calls::revoke_reservation") (known1
-          : Plain.Known 𝓤 H A W 𝓣 0 ps·1 r·1 (claims· .2) (claims· .3) "lekchnam::relay::reply") → Statement.Triple 𝓤 (Wp.WpFn
-          𝓤 H (𝓣 .C) (𝓣 .Λ) (Function.fnOf 5 ps r xs m hs body)) (Function.plainOf 𝓤 H A 5 ps r Pre· Post·)
+          Plain.Known 𝓤 H A W 𝓣 5 ps·0 r·0 (claims· .0) (claims· .1)
+          "hnsr_circuit::calls::revoking::revoke_reservation") (known1 : Plain.Known 𝓤 H A W 𝓣 0 ps·1 r·1 (claims· .2)
+          (claims· .3) "lekchnam::relay::reply") → Statement.Triple 𝓤 (Wp.WpFn 𝓤 H (𝓣 .C) (𝓣 .Λ)
+          (Function.fnOf 5 ps r xs m hs body)) (Function.plainOf 𝓤 H A 5 ps r Pre· Post·)
 
     module _ where
       abbrev at0 : Typed.TF T39 O0
@@ -770,7 +771,7 @@ module _ (claims· : Claims) where
           (𝓣 : Wp.Tables 𝓤 H) where
         abbrev Knowns : Type 1
         Knowns = Plain.Known 𝓤 H A W 𝓣 5 ps·0 r·0 (claims· .0) (claims· .1)
-            "hnsr_circuit::revoking_calls::revoke_reservation" × Plain.Known 𝓤 H A W 𝓣 0 ps·1 r·1 (claims· .2)
+            "hnsr_circuit::calls::revoking::revoke_reservation" × Plain.Known 𝓤 H A W 𝓣 0 ps·1 r·1 (claims· .2)
             (claims· .3) "lekchnam::relay::reply"
 
       module _ (κs : Lifetimes.Lfts 5) (qs : Lifetimes.Shares 5) where
@@ -1134,7 +1135,7 @@ module _ (claims· : Claims) where
 
           d1 : Typed.Typed 𝓤 H A 𝓣 E G38 b12 Δ0 at1
           d1 = Typed.g-pre 𝓤 H A W 𝓣 E G38 G39 b12 Δ0 (Typed.pass T38 T39 s37) at0 (Scalar.g-room 𝓤 H A W E G38 9
-              Laws'''.mir (Local.room-whole 𝓤 H A W (Declared.row Relayed.the-type) Laws'''.mir Path.refl)) d0
+              Laws''.mir (Local.room-whole 𝓤 H A W (Declared.row Relayed.the-type) Laws''.mir Path.refl)) d0
 
           d2 : Typed.Typed 𝓤 H A 𝓣 E G37 b13 Δ0 at2
           d2 = Typed.s-seq 𝓤 H A W 𝓣 E G37 G38 b11 b12 Δ0 (Typed.both s36) at1 (Plain.t-call-plain 𝓤 H A W 𝓣 0 ps·1 r·1
@@ -1142,7 +1143,7 @@ module _ (claims· : Claims) where
               (record { pos = 9; st = List.[]; d = 0; at = λ x. x }, tt) 0 List.[] (Call.sub-id 𝓤 H A W (G37 .slots)) (
                 (
                   Yields.yields-copy 𝓤 H A W (λ ρ. Unit) (Declared.row Relayed.the-type) Path.refl (Copies.cStruct
-                      Relayed.the-type Laws'''.the-laws Laws'''.the-copy .copy 𝓤 H A W)
+                      Relayed.the-type Laws''.the-laws Laws''.the-copy .copy 𝓤 H A W)
                       (Rows.whole (Declared.row Relayed.the-type)) (λ x. x) (λ x. x) (λ ρ told. Local.mem-whole 𝓤 H A W
                       (Declared.row Relayed.the-type) ρ) λ ρ told. Local.whole-mem 𝓤 H A W
                       (Declared.row Relayed.the-type) ρ,
@@ -1227,16 +1228,15 @@ module _ (claims· : Claims) where
 
           d20 : Typed.Typed 𝓤 H A 𝓣 E G19 b13 Δ0 at20
           d20 = Typed.g-pre 𝓤 H A W 𝓣 E G19 G20 b13 Δ0 (Typed.pass T19 T20 s18) at19 (Scalar.g-room 𝓤 H A W E G19 7
-              Laws'.mir (Local.room-whole 𝓤 H A W (Declared.row Places.the-type) Laws'.mir Path.refl)) d19
+              Laws'''.mir (Local.room-whole 𝓤 H A W (Declared.row Places.the-type) Laws'''.mir Path.refl)) d19
 
           d21 : Typed.Typed 𝓤 H A 𝓣 E G18 b13 Δ0 at21
           d21 = Typed.g-pre 𝓤 H A W 𝓣 E G18 G19 b13 Δ0 (Typed.pass T18 T19 s17) at20 (Scalar.g-room 𝓤 H A W E G18 6
-              Laws''.mir (Local.room-whole 𝓤 H A W (Declared.row OpaqueRelayRuntime.the-type) Laws''.mir Path.refl))
-              d20
+              Laws'.mir (Local.room-whole 𝓤 H A W (Declared.row OpaqueRelayRuntime.the-type) Laws'.mir Path.refl)) d20
 
           d22 : Typed.Typed 𝓤 H A 𝓣 E G17 b14 Δ0 at22
           d22 = Typed.s-seq 𝓤 H A W 𝓣 E G17 G18 b10 b13 Δ0 (Typed.both s16) at21 (Plain.t-call-plain 𝓤 H A W 𝓣 5 ps·0
-              r·0 (claims· .0) (claims· .1) "hnsr_circuit::revoking_calls::revoke_reservation" (known .0) E
+              r·0 (claims· .0) (claims· .1) "hnsr_circuit::calls::revoking::revoke_reservation" (known .0) E
               (λ pos β. β) G17 (
                 record { pos = 11; ty = ref0; ref = λ x. x },
                 (
@@ -1281,7 +1281,7 @@ module _ (claims· : Claims) where
                         (
                           (
                             Yields.yields-copy 𝓤 H A W (λ ρ. Unit) (Declared.row OpaqueRelayRuntime.the-type) Path.refl (Copies.cStruct
-                                OpaqueRelayRuntime.the-type Laws''.the-laws Laws''.the-copy .copy 𝓤 H A W)
+                                OpaqueRelayRuntime.the-type Laws'.the-laws Laws'.the-copy .copy 𝓤 H A W)
                                 (Rows.whole (Declared.row OpaqueRelayRuntime.the-type)) (λ x. x) (λ x. x) (λ ρ told.
                                 Local.mem-whole 𝓤 H A W (Declared.row OpaqueRelayRuntime.the-type) ρ) λ ρ told.
                                 Local.whole-mem 𝓤 H A W (Declared.row OpaqueRelayRuntime.the-type) ρ,
@@ -1290,7 +1290,7 @@ module _ (claims· : Claims) where
                           (
                             (
                               Yields.yields-copy 𝓤 H A W (λ ρ. Unit) (Declared.row Places.the-type) Path.refl (Copies.cStruct
-                                  Places.the-type Laws'.the-laws Laws'.the-copy .copy 𝓤 H A W)
+                                  Places.the-type Laws'''.the-laws Laws'''.the-copy .copy 𝓤 H A W)
                                   (Rows.whole (Declared.row Places.the-type)) (λ x. x) (λ x. x) (λ ρ told.
                                   Local.mem-whole 𝓤 H A W (Declared.row Places.the-type) ρ) λ ρ told. Local.whole-mem 𝓤
                                   H A W (Declared.row Places.the-type) ρ,
@@ -1313,7 +1313,7 @@ module _ (claims· : Claims) where
                     ),
                   ),
                 ),
-              ) (Reads.room-gone 𝓤 H A Laws'''.mir) (tt, (tt, (tt, (tt, (tt, tt))))) Path.refl) d21
+              ) (Reads.room-gone 𝓤 H A Laws''.mir) (tt, (tt, (tt, (tt, (tt, tt))))) Path.refl) d21
 
           d23 : Typed.Typed 𝓤 H A 𝓣 E G16 b15 Δ0 at23
           d23 = Typed.s-seq 𝓤 H A W 𝓣 E G16 G17 b9 b14 Δ0 (Typed.ask s15) at22 (Relend.t-sl-aggregate 𝓤 H A W E
@@ -1484,10 +1484,10 @@ module _ (claims· : Claims) where
           pub ledger : Kinds.Den {n = 5} κs (MutSlice.pMutS ReservationUsage.row 2 tt)
           pub inflight : Kinds.Den {n = 5} κs (MutSlice.pMutS InflightAction.row 3 tt)
           pub out : Kinds.Den {n = 5} κs (MutSlice.pMutS (Referent.rtF (Referent.fInt Syntax.w32)) 4 tt)
-          pub runtime : Kinds.Den {n = 5} κs (StructRow.param OpaqueRelayRuntime.the-type Laws''.the-laws
-              Laws''.the-copy Laws''.the-plain)
-          pub places : Kinds.Den {n = 5} κs (StructRow.param Places.the-type Laws'.the-laws Laws'.the-copy
+          pub runtime : Kinds.Den {n = 5} κs (StructRow.param OpaqueRelayRuntime.the-type Laws'.the-laws Laws'.the-copy
               Laws'.the-plain)
+          pub places : Kinds.Den {n = 5} κs (StructRow.param Places.the-type Laws'''.the-laws Laws'''.the-copy
+              Laws'''.the-plain)
           pub id : Kinds.Den {n = 5} κs (StructRow.param ReservationId.the-type Laws.the-laws Laws.the-copy
               Laws.the-plain)
 
@@ -2000,8 +2000,8 @@ module _ (claims· : Claims) where
 
         module _ {M : Type 1} (𝓤 : URA.URA M) (H : Wp.Heap 𝓤) (A : Atoms.Atoms 𝓤) (W : Kit.Given 𝓤 H A)
             (𝓣 : Wp.Tables 𝓤 H) (known0 : Plain.Known 𝓤 H A W 𝓣 5 ps·0 r·0 (claims· .0) (claims· .1)
-            "hnsr_circuit::revoking_calls::revoke_reservation") (known1 : Plain.Known 𝓤 H A W 𝓣 0 ps·1 r·1 (claims· .2)
-            (claims· .3) "lekchnam::relay::reply") where
+            "hnsr_circuit::calls::revoking::revoke_reservation") (known1 : Plain.Known 𝓤 H A W 𝓣 0 ps·1 r·1
+            (claims· .2) (claims· .3) "lekchnam::relay::reply") where
           pub spec : Statement.Triple 𝓤 (Wp.WpFn 𝓤 H (𝓣 .C) (𝓣 .Λ) (Function.fnOf 5 ps r xs m hs body))
               (Function.plainOf 𝓤 H A 5 ps r Pre· Post·)
           spec = Plain.t-fn-plain 𝓤 H A W 𝓣 5 ps r xs m hs body (λ κs qs bs. Φ) (λ κs qs bs bd. typed κs qs 𝓤 H A W 𝓣

@@ -94,7 +94,7 @@ abbrev b0 : Syntax.Body
 b0 = Syntax.assign (Syntax.place 7 List.[]) (Syntax.rvOpd (Syntax.copy (Syntax.place 1 ((Syntax.field 1) ∷ List.[]))))
 
 abbrev b1 : Syntax.Body
-b1 = Syntax.call "hnsr_circuit::scan::within" ((Syntax.copy (Syntax.place 2 List.[])) ∷
+b1 = Syntax.call "hnsr_circuit::tables::scan::within" ((Syntax.copy (Syntax.place 2 List.[])) ∷
     (Syntax.copy (Syntax.place 3 List.[])) ∷ (Syntax.copy (Syntax.place 7 List.[])) ∷ List.[]) (Syntax.place 6 List.[])
 
 abbrev b2 : Syntax.Body
@@ -444,7 +444,7 @@ module _ (claims· : Claims) where
     module _ (M : Type 1) where
       abbrev pub Closed : Type 2
       Closed = (𝓤 : URA.URA M) (H : Wp.Heap 𝓤) (A : Atoms.Atoms 𝓤) (W : Kit.Given 𝓤 H A) (𝓣 : Wp.Tables 𝓤 H) (known0 :
-          Plain.Known 𝓤 H A W 𝓣 0 ps·0 r·0 (claims· .0) (claims· .1) "hnsr_circuit::scan::within") (known1 :
+          Plain.Known 𝓤 H A W 𝓣 0 ps·0 r·0 (claims· .0) (claims· .1) "hnsr_circuit::tables::scan::within") (known1 :
           Plain.Known 𝓤 H A W 𝓣 1 ps·1 r·1 (claims· .2) (claims· .3) "hnsr_circuit::tables::circuits::charge") →
           Statement.Triple 𝓤 (Wp.WpFn 𝓤 H (𝓣 .C) (𝓣 .Λ) (Function.fnOf 1 ps r xs m hs body))
           (Function.plainOf 𝓤 H A 1 ps r Pre· Post·)
@@ -519,8 +519,8 @@ module _ (claims· : Claims) where
       module _ {M : Type 1} (𝓤 : URA.URA M) (H : Wp.Heap 𝓤) (A : Atoms.Atoms 𝓤) (W : Kit.Given 𝓤 H A)
           (𝓣 : Wp.Tables 𝓤 H) where
         abbrev Knowns : Type 1
-        Knowns = Plain.Known 𝓤 H A W 𝓣 0 ps·0 r·0 (claims· .0) (claims· .1) "hnsr_circuit::scan::within" × Plain.Known
-            𝓤 H A W 𝓣 1 ps·1 r·1 (claims· .2) (claims· .3) "hnsr_circuit::tables::circuits::charge"
+        Knowns = Plain.Known 𝓤 H A W 𝓣 0 ps·0 r·0 (claims· .0) (claims· .1) "hnsr_circuit::tables::scan::within" ×
+            Plain.Known 𝓤 H A W 𝓣 1 ps·1 r·1 (claims· .2) (claims· .3) "hnsr_circuit::tables::circuits::charge"
 
       module _ (κs : Lifetimes.Lfts 1) (qs : Lifetimes.Shares 1) where
         abbrev life0 : Row.Life
@@ -778,7 +778,7 @@ module _ (claims· : Claims) where
 
           d19 : Typed.Typed 𝓤 H A 𝓣 E G2 b15 Δ0 at19
           d19 = Typed.s-seq 𝓤 H A W 𝓣 E G2 G3 b1 b14 Δ0 (Typed.both s1) at18 (Plain.t-call-plain 𝓤 H A W 𝓣 0 ps·0 r·0
-              (claims· .0) (claims· .1) "hnsr_circuit::scan::within" (known .0) E (λ pos β. β) G2 (
+              (claims· .0) (claims· .1) "hnsr_circuit::tables::scan::within" (known .0) E (λ pos β. β) G2 (
                 Bool.bAt 2 λ x. x,
                 (Num.vAt 3 λ x. x, (Num.vAt 7 λ x. x, tt)),
               ) 6 List.[] (Call.sub-id 𝓤 H A W (G2 .slots)) (
@@ -1101,7 +1101,7 @@ module _ (claims· : Claims) where
 
         module _ {M : Type 1} (𝓤 : URA.URA M) (H : Wp.Heap 𝓤) (A : Atoms.Atoms 𝓤) (W : Kit.Given 𝓤 H A)
             (𝓣 : Wp.Tables 𝓤 H) (known0 : Plain.Known 𝓤 H A W 𝓣 0 ps·0 r·0 (claims· .0) (claims· .1)
-            "hnsr_circuit::scan::within") (known1 : Plain.Known 𝓤 H A W 𝓣 1 ps·1 r·1 (claims· .2) (claims· .3)
+            "hnsr_circuit::tables::scan::within") (known1 : Plain.Known 𝓤 H A W 𝓣 1 ps·1 r·1 (claims· .2) (claims· .3)
             "hnsr_circuit::tables::circuits::charge") where
           pub spec : Statement.Triple 𝓤 (Wp.WpFn 𝓤 H (𝓣 .C) (𝓣 .Λ) (Function.fnOf 1 ps r xs m hs body))
               (Function.plainOf 𝓤 H A 1 ps r Pre· Post·)

@@ -2,8 +2,8 @@
 use Prim.Native.Nat
 use Rattle.hnsr_circuit.proofs.By.RelayCircuit
 use Rattle.hnsr_circuit.proofs.StructRow
-use Rattle.hnsr_circuit.proofs.places.Places
-use Rattle.hnsr_circuit.proofs.places.Places.Laws
+use Rattle.hnsr_circuit.proofs.tables.places.Places
+use Rattle.hnsr_circuit.proofs.tables.places.Places.Laws
 use borrow.Author.Called
 use borrow.Author.Tests
 use borrow.Fn.Any
@@ -109,7 +109,7 @@ b6 = Syntax.assign (Syntax.place 10 List.[]) (Syntax.op2 (Syntax.lt Syntax.unsig
     (Syntax.copy (Syntax.place 3 List.[])) (Syntax.copy (Syntax.place 2 ((Syntax.field 1) ∷ List.[]))))
 
 abbrev b7 : Syntax.Body
-b7 = Syntax.call "hnsr_circuit::places::held_circuit" ((Syntax.copy (Syntax.place 4 List.[])) ∷
+b7 = Syntax.call "hnsr_circuit::tables::places::held_circuit" ((Syntax.copy (Syntax.place 4 List.[])) ∷
     (Syntax.copy (Syntax.place 10 List.[])) ∷ List.[]) (Syntax.place 0 List.[])
 
 abbrev b8 : Syntax.Body
@@ -140,7 +140,7 @@ abbrev b16 : Syntax.Body
 b16 = Syntax.cond (Syntax.copy (Syntax.place 6 List.[])) b14 b15
 
 abbrev b17 : Syntax.Body
-b17 = Syntax.call "hnsr_circuit::circuits::no_circuit" List.[] (Syntax.place 0 List.[])
+b17 = Syntax.call "hnsr_circuit::records::circuits::no_circuit" List.[] (Syntax.place 0 List.[])
 
 abbrev b18 : Syntax.Body
 b18 = Syntax.return
@@ -448,8 +448,8 @@ module _ (claims· : Claims) where
     module _ (M : Type 1) where
       abbrev pub Closed : Type 2
       Closed = (𝓤 : URA.URA M) (H : Wp.Heap 𝓤) (A : Atoms.Atoms 𝓤) (W : Kit.Given 𝓤 H A) (𝓣 : Wp.Tables 𝓤 H) (known0 :
-          Plain.Known 𝓤 H A W 𝓣 0 ps·0 r·0 (claims· .0) (claims· .1) "hnsr_circuit::places::held_circuit") (known1 :
-          Plain.Known 𝓤 H A W 𝓣 0 ps·1 r·1 (claims· .2) (claims· .3) "hnsr_circuit::circuits::no_circuit") →
+          Plain.Known 𝓤 H A W 𝓣 0 ps·0 r·0 (claims· .0) (claims· .1) "hnsr_circuit::tables::places::held_circuit") (known1
+          : Plain.Known 𝓤 H A W 𝓣 0 ps·1 r·1 (claims· .2) (claims· .3) "hnsr_circuit::records::circuits::no_circuit") →
           Statement.Triple 𝓤 (Wp.WpFn 𝓤 H (𝓣 .C) (𝓣 .Λ) (Function.fnOf 1 ps r xs m hs body))
           (Function.plainOf 𝓤 H A 1 ps r Pre· Post·)
 
@@ -541,8 +541,9 @@ module _ (claims· : Claims) where
       module _ {M : Type 1} (𝓤 : URA.URA M) (H : Wp.Heap 𝓤) (A : Atoms.Atoms 𝓤) (W : Kit.Given 𝓤 H A)
           (𝓣 : Wp.Tables 𝓤 H) where
         abbrev Knowns : Type 1
-        Knowns = Plain.Known 𝓤 H A W 𝓣 0 ps·0 r·0 (claims· .0) (claims· .1) "hnsr_circuit::places::held_circuit" ×
-            Plain.Known 𝓤 H A W 𝓣 0 ps·1 r·1 (claims· .2) (claims· .3) "hnsr_circuit::circuits::no_circuit"
+        Knowns = Plain.Known 𝓤 H A W 𝓣 0 ps·0 r·0 (claims· .0) (claims· .1)
+            "hnsr_circuit::tables::places::held_circuit" × Plain.Known 𝓤 H A W 𝓣 0 ps·1 r·1 (claims· .2) (claims· .3)
+            "hnsr_circuit::records::circuits::no_circuit"
 
       module _ (κs : Lifetimes.Lfts 1) (qs : Lifetimes.Shares 1) where
         abbrev life0 : Row.Life
@@ -652,7 +653,7 @@ module _ (claims· : Claims) where
 
           d4 : Typed.Typed 𝓤 H A 𝓣 E G16 b9 Δ1 at4
           d4 = Typed.s-seq 𝓤 H A W 𝓣 E G16 G17 b7 b8 Δ1 (Typed.both s14) at3 (Plain.t-call-plain 𝓤 H A W 𝓣 0 ps·0 r·0
-              (claims· .0) (claims· .1) "hnsr_circuit::places::held_circuit" (known .0) E (λ pos β. β) G16 (
+              (claims· .0) (claims· .1) "hnsr_circuit::tables::places::held_circuit" (known .0) E (λ pos β. β) G16 (
                 record { pos = 4; st = List.[]; d = 0; at = λ x. x },
                 (Bool.bAt 10 λ x. x, tt),
               ) 0 List.[] (Call.sub-id 𝓤 H A W (G16 .slots)) (
@@ -768,8 +769,9 @@ module _ (claims· : Claims) where
 
           d23 : Typed.Typed 𝓤 H A 𝓣 E G4 b19 Δ0 at23
           d23 = Typed.s-seq 𝓤 H A W 𝓣 E G4 G23 b17 b18 Δ0 (Typed.both s20) at22 (Plain.t-call-plain 𝓤 H A W 𝓣 0 ps·1
-              r·1 (claims· .2) (claims· .3) "hnsr_circuit::circuits::no_circuit" (known .1) E (λ pos β. β) G4 tt 0
-              List.[] (Call.sub-id 𝓤 H A W (G4 .slots)) tt (Reads'.room-gone 𝓤 H A RelayCircuit.ty) tt Path.refl) d22
+              r·1 (claims· .2) (claims· .3) "hnsr_circuit::records::circuits::no_circuit" (known .1) E (λ pos β. β) G4
+              tt 0 List.[] (Call.sub-id 𝓤 H A W (G4 .slots)) tt (Reads'.room-gone 𝓤 H A RelayCircuit.ty) tt Path.refl)
+              d22
 
           d24 : Typed.Typed 𝓤 H A 𝓣 E G3 b20 Δ0 at24
           d24 = Typed.t-seq 𝓤 H A W 𝓣 E G3 G4 b16 b19 Δ0 at20 at23 d20 d23
@@ -1087,8 +1089,8 @@ module _ (claims· : Claims) where
 
         module _ {M : Type 1} (𝓤 : URA.URA M) (H : Wp.Heap 𝓤) (A : Atoms.Atoms 𝓤) (W : Kit.Given 𝓤 H A)
             (𝓣 : Wp.Tables 𝓤 H) (known0 : Plain.Known 𝓤 H A W 𝓣 0 ps·0 r·0 (claims· .0) (claims· .1)
-            "hnsr_circuit::places::held_circuit") (known1 : Plain.Known 𝓤 H A W 𝓣 0 ps·1 r·1 (claims· .2) (claims· .3)
-            "hnsr_circuit::circuits::no_circuit") where
+            "hnsr_circuit::tables::places::held_circuit") (known1 : Plain.Known 𝓤 H A W 𝓣 0 ps·1 r·1 (claims· .2)
+            (claims· .3) "hnsr_circuit::records::circuits::no_circuit") where
           pub spec : Statement.Triple 𝓤 (Wp.WpFn 𝓤 H (𝓣 .C) (𝓣 .Λ) (Function.fnOf 1 ps r xs m hs body))
               (Function.plainOf 𝓤 H A 1 ps r Pre· Post·)
           spec = Plain.t-fn-plain 𝓤 H A W 𝓣 1 ps r xs m hs body (λ κs qs bs. Φ) (λ κs qs bs bd. typed κs qs 𝓤 H A W 𝓣

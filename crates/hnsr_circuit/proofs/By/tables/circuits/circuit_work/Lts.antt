@@ -2,12 +2,12 @@
 use Prim.Native.Nat
 use Rattle.hnsr_circuit.proofs.By.RelayCircuit
 use Rattle.hnsr_circuit.proofs.StructRow
-use Rattle.hnsr_circuit.proofs.places.Places
-use Rattle.hnsr_circuit.proofs.places.Places.Laws
-use Rattle.hnsr_circuit.proofs.records.Work
-use Rattle.hnsr_circuit.proofs.records.Work.Laws as Laws'
-use Rattle.hnsr_circuit.proofs.records.WorkQuestion
-use Rattle.hnsr_circuit.proofs.records.WorkQuestion.Laws as Laws''
+use Rattle.hnsr_circuit.proofs.tables.places.Places
+use Rattle.hnsr_circuit.proofs.tables.places.Places.Laws
+use Rattle.hnsr_circuit.proofs.tables.scan.Work
+use Rattle.hnsr_circuit.proofs.tables.scan.Work.Laws as Laws'
+use Rattle.hnsr_circuit.proofs.tables.scan.WorkQuestion
+use Rattle.hnsr_circuit.proofs.tables.scan.WorkQuestion.Laws as Laws''
 use borrow.Author.Called
 use borrow.Author.Tests
 use borrow.Fn.Any
@@ -99,7 +99,7 @@ b1 = Syntax.call "hns_encoding::numbers::min_usize" ((Syntax.copy (Syntax.place 
     (Syntax.copy (Syntax.place 4 List.[])) ∷ List.[]) (Syntax.place 5 List.[])
 
 abbrev b2 : Syntax.Body
-b2 = Syntax.call "hnsr_circuit::scan::no_work" List.[] (Syntax.place 6 List.[])
+b2 = Syntax.call "hnsr_circuit::tables::scan::no_work" List.[] (Syntax.place 6 List.[])
 
 abbrev b3 : Syntax.Body
 b3 = Syntax.assign (Syntax.place 7 List.[]) (Syntax.rvOpd (Syntax.int Syntax.w64 0))
@@ -133,7 +133,7 @@ abbrev b11 : Syntax.Body
 b11 = Syntax.assign (Syntax.place 8 List.[]) (Syntax.rvOpd (Syntax.copy (Syntax.place 12 List.[])))
 
 abbrev b12 : Syntax.Body
-b12 = Syntax.call "hnsr_circuit::scan::circuit_worked" ((Syntax.copy (Syntax.place 6 List.[])) ∷
+b12 = Syntax.call "hnsr_circuit::tables::scan::circuit_worked" ((Syntax.copy (Syntax.place 6 List.[])) ∷
     (Syntax.copy (Syntax.place 8 List.[])) ∷ (Syntax.copy (Syntax.place 3 List.[])) ∷ List.[]) (Syntax.place 6 List.[])
 
 abbrev b13 : Syntax.Body
@@ -550,8 +550,8 @@ module _ (claims· : Claims) where
       abbrev pub Closed : Type 2
       Closed = (𝓤 : URA.URA M) (H : Wp.Heap 𝓤) (A : Atoms.Atoms 𝓤) (W : Kit.Given 𝓤 H A) (𝓣 : Wp.Tables 𝓤 H) (known0 :
           Plain.Known 𝓤 H A W 𝓣 0 ps·0 r·0 (claims· .0) (claims· .1) "hns_encoding::numbers::min_usize") (known1 :
-          Plain.Known 𝓤 H A W 𝓣 0 ps·1 r·1 (claims· .2) (claims· .3) "hnsr_circuit::scan::no_work") (known2 :
-          Plain.Known 𝓤 H A W 𝓣 0 ps·2 r·2 (claims· .4) (claims· .5) "hnsr_circuit::scan::circuit_worked") →
+          Plain.Known 𝓤 H A W 𝓣 0 ps·1 r·1 (claims· .2) (claims· .3) "hnsr_circuit::tables::scan::no_work") (known2 :
+          Plain.Known 𝓤 H A W 𝓣 0 ps·2 r·2 (claims· .4) (claims· .5) "hnsr_circuit::tables::scan::circuit_worked") →
           Statement.Triple 𝓤 (Wp.WpFn 𝓤 H (𝓣 .C) (𝓣 .Λ) (Function.fnOf 1 ps r xs m hs body))
           (Function.plainOf 𝓤 H A 1 ps r Pre· Post·)
 
@@ -663,8 +663,8 @@ module _ (claims· : Claims) where
           (𝓣 : Wp.Tables 𝓤 H) where
         abbrev Knowns : Type 1
         Knowns = Plain.Known 𝓤 H A W 𝓣 0 ps·0 r·0 (claims· .0) (claims· .1) "hns_encoding::numbers::min_usize" ×
-            Plain.Known 𝓤 H A W 𝓣 0 ps·1 r·1 (claims· .2) (claims· .3) "hnsr_circuit::scan::no_work" × Plain.Known 𝓤 H
-            A W 𝓣 0 ps·2 r·2 (claims· .4) (claims· .5) "hnsr_circuit::scan::circuit_worked"
+            Plain.Known 𝓤 H A W 𝓣 0 ps·1 r·1 (claims· .2) (claims· .3) "hnsr_circuit::tables::scan::no_work" ×
+            Plain.Known 𝓤 H A W 𝓣 0 ps·2 r·2 (claims· .4) (claims· .5) "hnsr_circuit::tables::scan::circuit_worked"
 
       module _ (κs : Lifetimes.Lfts 1) (qs : Lifetimes.Shares 1) where
         abbrev life0 : Row.Life
@@ -812,7 +812,7 @@ module _ (claims· : Claims) where
 
           d8 : Typed.Typed 𝓤 H A 𝓣 E G19 b14 Δ3 at8
           d8 = Typed.s-seq 𝓤 H A W 𝓣 E G19 G20 b12 b13 Δ3 (Typed.both s16) at7 (Plain.t-call-plain 𝓤 H A W 𝓣 0 ps·2 r·2
-              (claims· .4) (claims· .5) "hnsr_circuit::scan::circuit_worked" (known .2) E (λ pos β. β) G19 (
+              (claims· .4) (claims· .5) "hnsr_circuit::tables::scan::circuit_worked" (known .2) E (λ pos β. β) G19 (
                 record { pos = 6; st = List.[]; d = 0; at = λ x. x },
                 (
                   record { pos = 8; st = List.[]; d = 0; at = λ x. x },
@@ -966,7 +966,7 @@ module _ (claims· : Claims) where
 
           d28 : Typed.Typed 𝓤 H A 𝓣 E G4 b28 Δ0 at28
           d28 = Typed.s-seq 𝓤 H A W 𝓣 E G4 G5 b2 b27 Δ0 (Typed.both s3) at27 (Plain.t-call-plain 𝓤 H A W 𝓣 0 ps·1 r·1
-              (claims· .2) (claims· .3) "hnsr_circuit::scan::no_work" (known .1) E (λ pos β. β) G4 tt 6 List.[]
+              (claims· .2) (claims· .3) "hnsr_circuit::tables::scan::no_work" (known .1) E (λ pos β. β) G4 tt 6 List.[]
               (Call.sub-id 𝓤 H A W (G4 .slots)) tt (Reads'.room-gone 𝓤 H A Laws'.mir) tt Path.refl) d27
 
           d29 : Typed.Typed 𝓤 H A 𝓣 E G3 b28 Δ0 at29
@@ -1450,8 +1450,8 @@ module _ (claims· : Claims) where
         module _ {M : Type 1} (𝓤 : URA.URA M) (H : Wp.Heap 𝓤) (A : Atoms.Atoms 𝓤) (W : Kit.Given 𝓤 H A)
             (𝓣 : Wp.Tables 𝓤 H) (known0 : Plain.Known 𝓤 H A W 𝓣 0 ps·0 r·0 (claims· .0) (claims· .1)
             "hns_encoding::numbers::min_usize") (known1 : Plain.Known 𝓤 H A W 𝓣 0 ps·1 r·1 (claims· .2) (claims· .3)
-            "hnsr_circuit::scan::no_work") (known2 : Plain.Known 𝓤 H A W 𝓣 0 ps·2 r·2 (claims· .4) (claims· .5)
-            "hnsr_circuit::scan::circuit_worked") where
+            "hnsr_circuit::tables::scan::no_work") (known2 : Plain.Known 𝓤 H A W 𝓣 0 ps·2 r·2 (claims· .4) (claims· .5)
+            "hnsr_circuit::tables::scan::circuit_worked") where
           pub spec : Statement.Triple 𝓤 (Wp.WpFn 𝓤 H (𝓣 .C) (𝓣 .Λ) (Function.fnOf 1 ps r xs m hs body))
               (Function.plainOf 𝓤 H A 1 ps r Pre· Post·)
           spec = Plain.t-fn-plain 𝓤 H A W 𝓣 1 ps r xs m hs body (λ κs qs bs. Φ) (λ κs qs bs bd. typed κs qs 𝓤 H A W 𝓣

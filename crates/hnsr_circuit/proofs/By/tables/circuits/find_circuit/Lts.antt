@@ -2,10 +2,10 @@
 use Prim.Native.Nat
 use Rattle.hnsr_circuit.proofs.By.RelayCircuit
 use Rattle.hnsr_circuit.proofs.StructRow
-use Rattle.hnsr_circuit.proofs.places.Places
-use Rattle.hnsr_circuit.proofs.places.Places.Laws
-use Rattle.hnsr_circuit.proofs.records.Question
-use Rattle.hnsr_circuit.proofs.records.Question.Laws as Laws'
+use Rattle.hnsr_circuit.proofs.tables.places.Places
+use Rattle.hnsr_circuit.proofs.tables.places.Places.Laws
+use Rattle.hnsr_circuit.proofs.tables.question.Question
+use Rattle.hnsr_circuit.proofs.tables.question.Question.Laws as Laws'
 use borrow.Author.Called
 use borrow.Author.Tests
 use borrow.Fn.Any
@@ -104,7 +104,7 @@ b1 = Syntax.call "hns_encoding::numbers::min_usize" ((Syntax.copy (Syntax.place 
     (Syntax.copy (Syntax.place 4 List.[])) ∷ List.[]) (Syntax.place 5 List.[])
 
 abbrev b2 : Syntax.Body
-b2 = Syntax.call "hnsr_circuit::places::asks_unused" ((Syntax.copy (Syntax.place 3 List.[])) ∷ List.[])
+b2 = Syntax.call "hnsr_circuit::tables::places::asks_unused" ((Syntax.copy (Syntax.place 3 List.[])) ∷ List.[])
     (Syntax.place 6 List.[])
 
 abbrev b3 : Syntax.Body
@@ -139,7 +139,7 @@ abbrev b11 : Syntax.Body
 b11 = Syntax.assign (Syntax.place 8 List.[]) (Syntax.rvOpd (Syntax.copy (Syntax.place 12 List.[])))
 
 abbrev b12 : Syntax.Body
-b12 = Syntax.call "hnsr_circuit::question::circuit_has" ((Syntax.copy (Syntax.place 8 List.[])) ∷
+b12 = Syntax.call "hnsr_circuit::tables::question::circuit_has" ((Syntax.copy (Syntax.place 8 List.[])) ∷
     (Syntax.copy (Syntax.place 3 List.[])) ∷ List.[]) (Syntax.place 13 List.[])
 
 abbrev b13 : Syntax.Body
@@ -192,7 +192,7 @@ abbrev b28 : Syntax.Body
 b28 = Syntax.block b27
 
 abbrev b29 : Syntax.Body
-b29 = Syntax.call "hnsr_circuit::places::or_else" ((Syntax.copy (Syntax.place 6 List.[])) ∷
+b29 = Syntax.call "hnsr_circuit::tables::places::or_else" ((Syntax.copy (Syntax.place 6 List.[])) ∷
     (Syntax.copy (Syntax.place 7 List.[])) ∷ (Syntax.copy (Syntax.place 4 List.[])) ∷ List.[]) (Syntax.place 0 List.[])
 
 abbrev b30 : Syntax.Body
@@ -646,9 +646,9 @@ module _ (claims· : Claims) where
       abbrev pub Closed : Type 2
       Closed = (𝓤 : URA.URA M) (H : Wp.Heap 𝓤) (A : Atoms.Atoms 𝓤) (W : Kit.Given 𝓤 H A) (𝓣 : Wp.Tables 𝓤 H) (known0 :
           Plain.Known 𝓤 H A W 𝓣 0 ps·0 r·0 (claims· .0) (claims· .1) "hns_encoding::numbers::min_usize") (known1 :
-          Plain.Known 𝓤 H A W 𝓣 0 ps·1 r·1 (claims· .2) (claims· .3) "hnsr_circuit::places::asks_unused") (known2 :
-          Plain.Known 𝓤 H A W 𝓣 0 ps·2 r·2 (claims· .4) (claims· .5) "hnsr_circuit::question::circuit_has") (known3 :
-          Plain.Known 𝓤 H A W 𝓣 0 ps·3 r·3 (claims· .6) (claims· .7) "hnsr_circuit::places::or_else") →
+          Plain.Known 𝓤 H A W 𝓣 0 ps·1 r·1 (claims· .2) (claims· .3) "hnsr_circuit::tables::places::asks_unused") (known2
+          : Plain.Known 𝓤 H A W 𝓣 0 ps·2 r·2 (claims· .4) (claims· .5) "hnsr_circuit::tables::question::circuit_has") (known3
+          : Plain.Known 𝓤 H A W 𝓣 0 ps·3 r·3 (claims· .6) (claims· .7) "hnsr_circuit::tables::places::or_else") →
           Statement.Triple 𝓤 (Wp.WpFn 𝓤 H (𝓣 .C) (𝓣 .Λ) (Function.fnOf 1 ps r xs m hs body))
           (Function.plainOf 𝓤 H A 1 ps r Pre· Post·)
 
@@ -795,9 +795,9 @@ module _ (claims· : Claims) where
           (𝓣 : Wp.Tables 𝓤 H) where
         abbrev Knowns : Type 1
         Knowns = Plain.Known 𝓤 H A W 𝓣 0 ps·0 r·0 (claims· .0) (claims· .1) "hns_encoding::numbers::min_usize" ×
-            Plain.Known 𝓤 H A W 𝓣 0 ps·1 r·1 (claims· .2) (claims· .3) "hnsr_circuit::places::asks_unused" ×
-            Plain.Known 𝓤 H A W 𝓣 0 ps·2 r·2 (claims· .4) (claims· .5) "hnsr_circuit::question::circuit_has" ×
-            Plain.Known 𝓤 H A W 𝓣 0 ps·3 r·3 (claims· .6) (claims· .7) "hnsr_circuit::places::or_else"
+            Plain.Known 𝓤 H A W 𝓣 0 ps·1 r·1 (claims· .2) (claims· .3) "hnsr_circuit::tables::places::asks_unused" ×
+            Plain.Known 𝓤 H A W 𝓣 0 ps·2 r·2 (claims· .4) (claims· .5) "hnsr_circuit::tables::question::circuit_has" ×
+            Plain.Known 𝓤 H A W 𝓣 0 ps·3 r·3 (claims· .6) (claims· .7) "hnsr_circuit::tables::places::or_else"
 
       module _ (κs : Lifetimes.Lfts 1) (qs : Lifetimes.Shares 1) where
         abbrev life0 : Row.Life
@@ -1024,7 +1024,7 @@ module _ (claims· : Claims) where
 
           d20 : Typed.Typed 𝓤 H A 𝓣 E G19 b20 Δ3 at20
           d20 = Typed.s-seq 𝓤 H A W 𝓣 E G19 G20 b12 b19 Δ3 (Typed.both s16) at19 (Plain.t-call-plain 𝓤 H A W 𝓣 0 ps·2
-              r·2 (claims· .4) (claims· .5) "hnsr_circuit::question::circuit_has" (known .2) E (λ pos β. β) G19 (
+              r·2 (claims· .4) (claims· .5) "hnsr_circuit::tables::question::circuit_has" (known .2) E (λ pos β. β) G19 (
                 record { pos = 8; st = List.[]; d = 0; at = λ x. x },
                 (record { pos = 3; st = List.[]; d = 0; at = λ x. x }, tt),
               ) 13 List.[] (Call.sub-id 𝓤 H A W (G19 .slots)) (
@@ -1142,7 +1142,7 @@ module _ (claims· : Claims) where
 
           d37 : Typed.Typed 𝓤 H A 𝓣 E G7 b31 Δ0 at37
           d37 = Typed.s-seq 𝓤 H A W 𝓣 E G7 G32 b29 b30 Δ0 (Typed.both s27) at36 (Plain.t-call-plain 𝓤 H A W 𝓣 0 ps·3
-              r·3 (claims· .6) (claims· .7) "hnsr_circuit::places::or_else" (known .3) E (λ pos β. β) G7 (
+              r·3 (claims· .6) (claims· .7) "hnsr_circuit::tables::places::or_else" (known .3) E (λ pos β. β) G7 (
                 Bool.bAt 6 λ x. x,
                 (Num.vAt 7 λ x. x, (Num.vAt 4 λ x. x, tt)),
               ) 0 List.[] (Call.sub-id 𝓤 H A W (G7 .slots)) (
@@ -1165,7 +1165,7 @@ module _ (claims· : Claims) where
 
           d40 : Typed.Typed 𝓤 H A 𝓣 E G4 b34 Δ0 at40
           d40 = Typed.s-seq 𝓤 H A W 𝓣 E G4 G5 b2 b33 Δ0 (Typed.both s3) at39 (Plain.t-call-plain 𝓤 H A W 𝓣 0 ps·1 r·1
-              (claims· .2) (claims· .3) "hnsr_circuit::places::asks_unused" (known .1) E (λ pos β. β) G4
+              (claims· .2) (claims· .3) "hnsr_circuit::tables::places::asks_unused" (known .1) E (λ pos β. β) G4
               (record { pos = 3; st = List.[]; d = 0; at = λ x. x }, tt) 6 List.[] (Call.sub-id 𝓤 H A W (G4 .slots)) (
                 (
                   Yields.yields-copy 𝓤 H A W (λ ρ. Unit) (Declared.row Question.the-type) Path.refl (Copies.cStruct
@@ -1746,9 +1746,9 @@ module _ (claims· : Claims) where
         module _ {M : Type 1} (𝓤 : URA.URA M) (H : Wp.Heap 𝓤) (A : Atoms.Atoms 𝓤) (W : Kit.Given 𝓤 H A)
             (𝓣 : Wp.Tables 𝓤 H) (known0 : Plain.Known 𝓤 H A W 𝓣 0 ps·0 r·0 (claims· .0) (claims· .1)
             "hns_encoding::numbers::min_usize") (known1 : Plain.Known 𝓤 H A W 𝓣 0 ps·1 r·1 (claims· .2) (claims· .3)
-            "hnsr_circuit::places::asks_unused") (known2 : Plain.Known 𝓤 H A W 𝓣 0 ps·2 r·2 (claims· .4) (claims· .5)
-            "hnsr_circuit::question::circuit_has") (known3 : Plain.Known 𝓤 H A W 𝓣 0 ps·3 r·3 (claims· .6) (claims· .7)
-            "hnsr_circuit::places::or_else") where
+            "hnsr_circuit::tables::places::asks_unused") (known2 : Plain.Known 𝓤 H A W 𝓣 0 ps·2 r·2 (claims· .4)
+            (claims· .5) "hnsr_circuit::tables::question::circuit_has") (known3 : Plain.Known 𝓤 H A W 𝓣 0 ps·3 r·3
+            (claims· .6) (claims· .7) "hnsr_circuit::tables::places::or_else") where
           pub spec : Statement.Triple 𝓤 (Wp.WpFn 𝓤 H (𝓣 .C) (𝓣 .Λ) (Function.fnOf 1 ps r xs m hs body))
               (Function.plainOf 𝓤 H A 1 ps r Pre· Post·)
           spec = Plain.t-fn-plain 𝓤 H A W 𝓣 1 ps r xs m hs body (λ κs qs bs. Φ) (λ κs qs bs bd. typed κs qs 𝓤 H A W 𝓣

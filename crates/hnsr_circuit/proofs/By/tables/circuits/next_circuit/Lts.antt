@@ -2,12 +2,12 @@
 use Prim.Native.Nat
 use Rattle.hnsr_circuit.proofs.By.RelayCircuit
 use Rattle.hnsr_circuit.proofs.StructRow
-use Rattle.hnsr_circuit.proofs.places.Places
-use Rattle.hnsr_circuit.proofs.places.Places.Laws
-use Rattle.hnsr_circuit.proofs.records.Question
-use Rattle.hnsr_circuit.proofs.records.Question.Laws as Laws'
-use Rattle.hnsr_circuit.proofs.records.Walked
-use Rattle.hnsr_circuit.proofs.records.Walked.Laws as Laws''
+use Rattle.hnsr_circuit.proofs.tables.places.Places
+use Rattle.hnsr_circuit.proofs.tables.places.Places.Laws
+use Rattle.hnsr_circuit.proofs.tables.question.Question
+use Rattle.hnsr_circuit.proofs.tables.question.Question.Laws as Laws'
+use Rattle.hnsr_circuit.proofs.tables.scan.Walked
+use Rattle.hnsr_circuit.proofs.tables.scan.Walked.Laws as Laws''
 use borrow.Author.Called
 use borrow.Author.Tests
 use borrow.Fn.Any
@@ -100,7 +100,7 @@ b1 = Syntax.call "hns_encoding::numbers::min_usize" ((Syntax.copy (Syntax.place 
     (Syntax.copy (Syntax.place 5 List.[])) ∷ List.[]) (Syntax.place 6 List.[])
 
 abbrev b2 : Syntax.Body
-b2 = Syntax.call "hnsr_circuit::scan::not_yet" List.[] (Syntax.place 7 List.[])
+b2 = Syntax.call "hnsr_circuit::tables::scan::not_yet" List.[] (Syntax.place 7 List.[])
 
 abbrev b3 : Syntax.Body
 b3 = Syntax.assign (Syntax.place 8 List.[]) (Syntax.rvOpd (Syntax.int Syntax.w64 0))
@@ -134,7 +134,7 @@ abbrev b11 : Syntax.Body
 b11 = Syntax.assign (Syntax.place 9 List.[]) (Syntax.rvOpd (Syntax.copy (Syntax.place 13 List.[])))
 
 abbrev b12 : Syntax.Body
-b12 = Syntax.call "hnsr_circuit::scan::circuit_turn" ((Syntax.copy (Syntax.place 3 List.[])) ∷
+b12 = Syntax.call "hnsr_circuit::tables::scan::circuit_turn" ((Syntax.copy (Syntax.place 3 List.[])) ∷
     (Syntax.copy (Syntax.place 4 List.[])) ∷ (Syntax.copy (Syntax.place 7 List.[])) ∷
     (Syntax.copy (Syntax.place 9 List.[])) ∷ (Syntax.copy (Syntax.place 8 List.[])) ∷ List.[]) (Syntax.place 7 List.[])
 
@@ -573,8 +573,8 @@ module _ (claims· : Claims) where
       abbrev pub Closed : Type 2
       Closed = (𝓤 : URA.URA M) (H : Wp.Heap 𝓤) (A : Atoms.Atoms 𝓤) (W : Kit.Given 𝓤 H A) (𝓣 : Wp.Tables 𝓤 H) (known0 :
           Plain.Known 𝓤 H A W 𝓣 0 ps·0 r·0 (claims· .0) (claims· .1) "hns_encoding::numbers::min_usize") (known1 :
-          Plain.Known 𝓤 H A W 𝓣 0 ps·1 r·1 (claims· .2) (claims· .3) "hnsr_circuit::scan::not_yet") (known2 :
-          Plain.Known 𝓤 H A W 𝓣 0 ps·2 r·2 (claims· .4) (claims· .5) "hnsr_circuit::scan::circuit_turn") →
+          Plain.Known 𝓤 H A W 𝓣 0 ps·1 r·1 (claims· .2) (claims· .3) "hnsr_circuit::tables::scan::not_yet") (known2 :
+          Plain.Known 𝓤 H A W 𝓣 0 ps·2 r·2 (claims· .4) (claims· .5) "hnsr_circuit::tables::scan::circuit_turn") →
           Statement.Triple 𝓤 (Wp.WpFn 𝓤 H (𝓣 .C) (𝓣 .Λ) (Function.fnOf 1 ps r xs m hs body))
           (Function.plainOf 𝓤 H A 1 ps r Pre· Post·)
 
@@ -689,8 +689,8 @@ module _ (claims· : Claims) where
           (𝓣 : Wp.Tables 𝓤 H) where
         abbrev Knowns : Type 1
         Knowns = Plain.Known 𝓤 H A W 𝓣 0 ps·0 r·0 (claims· .0) (claims· .1) "hns_encoding::numbers::min_usize" ×
-            Plain.Known 𝓤 H A W 𝓣 0 ps·1 r·1 (claims· .2) (claims· .3) "hnsr_circuit::scan::not_yet" × Plain.Known 𝓤 H
-            A W 𝓣 0 ps·2 r·2 (claims· .4) (claims· .5) "hnsr_circuit::scan::circuit_turn"
+            Plain.Known 𝓤 H A W 𝓣 0 ps·1 r·1 (claims· .2) (claims· .3) "hnsr_circuit::tables::scan::not_yet" ×
+            Plain.Known 𝓤 H A W 𝓣 0 ps·2 r·2 (claims· .4) (claims· .5) "hnsr_circuit::tables::scan::circuit_turn"
 
       module _ (κs : Lifetimes.Lfts 1) (qs : Lifetimes.Shares 1) where
         abbrev life0 : Row.Life
@@ -845,7 +845,7 @@ module _ (claims· : Claims) where
 
           d9 : Typed.Typed 𝓤 H A 𝓣 E G20 b14 Δ3 at9
           d9 = Typed.s-seq 𝓤 H A W 𝓣 E G20 G21 b12 b13 Δ3 (Typed.both s17) at8 (Plain.t-call-plain 𝓤 H A W 𝓣 0 ps·2 r·2
-              (claims· .4) (claims· .5) "hnsr_circuit::scan::circuit_turn" (known .2) E (λ pos β. β) G20 (
+              (claims· .4) (claims· .5) "hnsr_circuit::tables::scan::circuit_turn" (known .2) E (λ pos β. β) G20 (
                 record { pos = 3; st = List.[]; d = 0; at = λ x. x },
                 (
                   record { pos = 4; st = List.[]; d = 0; at = λ x. x },
@@ -1013,7 +1013,7 @@ module _ (claims· : Claims) where
 
           d29 : Typed.Typed 𝓤 H A 𝓣 E G4 b28 Δ0 at29
           d29 = Typed.s-seq 𝓤 H A W 𝓣 E G4 G5 b2 b27 Δ0 (Typed.both s3) at28 (Plain.t-call-plain 𝓤 H A W 𝓣 0 ps·1 r·1
-              (claims· .2) (claims· .3) "hnsr_circuit::scan::not_yet" (known .1) E (λ pos β. β) G4 tt 7 List.[]
+              (claims· .2) (claims· .3) "hnsr_circuit::tables::scan::not_yet" (known .1) E (λ pos β. β) G4 tt 7 List.[]
               (Call.sub-id 𝓤 H A W (G4 .slots)) tt (Reads'.room-gone 𝓤 H A Laws''.mir) tt Path.refl) d28
 
           d30 : Typed.Typed 𝓤 H A 𝓣 E G3 b28 Δ0 at30
@@ -1515,8 +1515,8 @@ module _ (claims· : Claims) where
         module _ {M : Type 1} (𝓤 : URA.URA M) (H : Wp.Heap 𝓤) (A : Atoms.Atoms 𝓤) (W : Kit.Given 𝓤 H A)
             (𝓣 : Wp.Tables 𝓤 H) (known0 : Plain.Known 𝓤 H A W 𝓣 0 ps·0 r·0 (claims· .0) (claims· .1)
             "hns_encoding::numbers::min_usize") (known1 : Plain.Known 𝓤 H A W 𝓣 0 ps·1 r·1 (claims· .2) (claims· .3)
-            "hnsr_circuit::scan::not_yet") (known2 : Plain.Known 𝓤 H A W 𝓣 0 ps·2 r·2 (claims· .4) (claims· .5)
-            "hnsr_circuit::scan::circuit_turn") where
+            "hnsr_circuit::tables::scan::not_yet") (known2 : Plain.Known 𝓤 H A W 𝓣 0 ps·2 r·2 (claims· .4) (claims· .5)
+            "hnsr_circuit::tables::scan::circuit_turn") where
           pub spec : Statement.Triple 𝓤 (Wp.WpFn 𝓤 H (𝓣 .C) (𝓣 .Λ) (Function.fnOf 1 ps r xs m hs body))
               (Function.plainOf 𝓤 H A 1 ps r Pre· Post·)
           spec = Plain.t-fn-plain 𝓤 H A W 𝓣 1 ps r xs m hs body (λ κs qs bs. Φ) (λ κs qs bs bd. typed κs qs 𝓤 H A W 𝓣

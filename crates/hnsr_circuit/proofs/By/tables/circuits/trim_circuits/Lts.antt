@@ -2,8 +2,8 @@
 use Prim.Native.Nat
 use Rattle.hnsr_circuit.proofs.By.RelayCircuit
 use Rattle.hnsr_circuit.proofs.StructRow
-use Rattle.hnsr_circuit.proofs.places.Places
-use Rattle.hnsr_circuit.proofs.places.Places.Laws
+use Rattle.hnsr_circuit.proofs.tables.places.Places
+use Rattle.hnsr_circuit.proofs.tables.places.Places.Laws
 use borrow.Author.Called
 use borrow.Author.Tests
 use borrow.Fn.Any
@@ -121,7 +121,7 @@ abbrev b10 : Syntax.Body
 b10 = Syntax.assign (Syntax.place 6 List.[]) (Syntax.rvOpd (Syntax.copy (Syntax.place 10 List.[])))
 
 abbrev b11 : Syntax.Body
-b11 = Syntax.call "hnsr_circuit::circuits::is_circuit" ((Syntax.copy (Syntax.place 6 List.[])) ∷ List.[])
+b11 = Syntax.call "hnsr_circuit::records::circuits::is_circuit" ((Syntax.copy (Syntax.place 6 List.[])) ∷ List.[])
     (Syntax.place 11 List.[])
 
 abbrev b12 : Syntax.Body
@@ -573,7 +573,7 @@ module _ (claims· : Claims) where
       abbrev pub Closed : Type 2
       Closed = (𝓤 : URA.URA M) (H : Wp.Heap 𝓤) (A : Atoms.Atoms 𝓤) (W : Kit.Given 𝓤 H A) (𝓣 : Wp.Tables 𝓤 H) (known0 :
           Plain.Known 𝓤 H A W 𝓣 0 ps·0 r·0 (claims· .0) (claims· .1) "hns_encoding::numbers::min_usize") (known1 :
-          Plain.Known 𝓤 H A W 𝓣 0 ps·1 r·1 (claims· .2) (claims· .3) "hnsr_circuit::circuits::is_circuit") →
+          Plain.Known 𝓤 H A W 𝓣 0 ps·1 r·1 (claims· .2) (claims· .3) "hnsr_circuit::records::circuits::is_circuit") →
           Statement.Triple 𝓤 (Wp.WpFn 𝓤 H (𝓣 .C) (𝓣 .Λ) (Function.fnOf 1 ps r xs m hs body))
           (Function.plainOf 𝓤 H A 1 ps r Pre· Post·)
 
@@ -704,7 +704,7 @@ module _ (claims· : Claims) where
           (𝓣 : Wp.Tables 𝓤 H) where
         abbrev Knowns : Type 1
         Knowns = Plain.Known 𝓤 H A W 𝓣 0 ps·0 r·0 (claims· .0) (claims· .1) "hns_encoding::numbers::min_usize" ×
-            Plain.Known 𝓤 H A W 𝓣 0 ps·1 r·1 (claims· .2) (claims· .3) "hnsr_circuit::circuits::is_circuit"
+            Plain.Known 𝓤 H A W 𝓣 0 ps·1 r·1 (claims· .2) (claims· .3) "hnsr_circuit::records::circuits::is_circuit"
 
       module _ (κs : Lifetimes.Lfts 1) (qs : Lifetimes.Shares 1) where
         abbrev life0 : Row.Life
@@ -912,7 +912,7 @@ module _ (claims· : Claims) where
 
           d18 : Typed.Typed 𝓤 H A 𝓣 E G17 b19 Δ3 at18
           d18 = Typed.s-seq 𝓤 H A W 𝓣 E G17 G18 b11 b18 Δ3 (Typed.both s14) at17 (Plain.t-call-plain 𝓤 H A W 𝓣 0 ps·1
-              r·1 (claims· .2) (claims· .3) "hnsr_circuit::circuits::is_circuit" (known .1) E (λ pos β. β) G17
+              r·1 (claims· .2) (claims· .3) "hnsr_circuit::records::circuits::is_circuit" (known .1) E (λ pos β. β) G17
               (record { pos = 6; st = List.[]; d = 0; at = λ x. x }, tt) 11 List.[] (Call.sub-id 𝓤 H A W (G17 .slots)) (
                 (
                   Yields.yields-copy 𝓤 H A W (λ ρ. Unit) RelayCircuit.row Path.refl (RelayCircuit.copies .copy 𝓤 H A W)
@@ -1480,7 +1480,7 @@ module _ (claims· : Claims) where
         module _ {M : Type 1} (𝓤 : URA.URA M) (H : Wp.Heap 𝓤) (A : Atoms.Atoms 𝓤) (W : Kit.Given 𝓤 H A)
             (𝓣 : Wp.Tables 𝓤 H) (known0 : Plain.Known 𝓤 H A W 𝓣 0 ps·0 r·0 (claims· .0) (claims· .1)
             "hns_encoding::numbers::min_usize") (known1 : Plain.Known 𝓤 H A W 𝓣 0 ps·1 r·1 (claims· .2) (claims· .3)
-            "hnsr_circuit::circuits::is_circuit") where
+            "hnsr_circuit::records::circuits::is_circuit") where
           pub spec : Statement.Triple 𝓤 (Wp.WpFn 𝓤 H (𝓣 .C) (𝓣 .Λ) (Function.fnOf 1 ps r xs m hs body))
               (Function.plainOf 𝓤 H A 1 ps r Pre· Post·)
           spec = Plain.t-fn-plain 𝓤 H A W 𝓣 1 ps r xs m hs body (λ κs qs bs. Φ) (λ κs qs bs bd. typed κs qs 𝓤 H A W 𝓣

@@ -2,10 +2,10 @@
 use Prim.Native.Nat
 use Rattle.hnsr_circuit.proofs.By.InflightAction
 use Rattle.hnsr_circuit.proofs.StructRow
-use Rattle.hnsr_circuit.proofs.places.Places
-use Rattle.hnsr_circuit.proofs.places.Places.Laws
-use Rattle.hnsr_circuit.proofs.records.Question
-use Rattle.hnsr_circuit.proofs.records.Question.Laws as Laws'
+use Rattle.hnsr_circuit.proofs.tables.places.Places
+use Rattle.hnsr_circuit.proofs.tables.places.Places.Laws
+use Rattle.hnsr_circuit.proofs.tables.question.Question
+use Rattle.hnsr_circuit.proofs.tables.question.Question.Laws as Laws'
 use borrow.Author.Called
 use borrow.Author.Tests
 use borrow.Fn.Any
@@ -132,11 +132,11 @@ abbrev b11 : Syntax.Body
 b11 = Syntax.assign (Syntax.place 8 List.[]) (Syntax.rvOpd (Syntax.copy (Syntax.place 13 List.[])))
 
 abbrev b12 : Syntax.Body
-b12 = Syntax.call "hnsr_circuit::question::action_has" ((Syntax.copy (Syntax.place 8 List.[])) ∷
+b12 = Syntax.call "hnsr_circuit::tables::question::action_has" ((Syntax.copy (Syntax.place 8 List.[])) ∷
     (Syntax.copy (Syntax.place 3 List.[])) ∷ List.[]) (Syntax.place 9 List.[])
 
 abbrev b13 : Syntax.Body
-b13 = Syntax.call "hnsr_circuit::scan::one_more" ((Syntax.copy (Syntax.place 6 List.[])) ∷
+b13 = Syntax.call "hnsr_circuit::tables::scan::one_more" ((Syntax.copy (Syntax.place 6 List.[])) ∷
     (Syntax.copy (Syntax.place 9 List.[])) ∷ List.[]) (Syntax.place 6 List.[])
 
 abbrev b14 : Syntax.Body
@@ -587,9 +587,10 @@ module _ (claims· : Claims) where
       abbrev pub Closed : Type 2
       Closed = (𝓤 : URA.URA M) (H : Wp.Heap 𝓤) (A : Atoms.Atoms 𝓤) (W : Kit.Given 𝓤 H A) (𝓣 : Wp.Tables 𝓤 H) (known0 :
           Plain.Known 𝓤 H A W 𝓣 0 ps·0 r·0 (claims· .0) (claims· .1) "hns_encoding::numbers::min_usize") (known1 :
-          Plain.Known 𝓤 H A W 𝓣 0 ps·1 r·1 (claims· .2) (claims· .3) "hnsr_circuit::question::action_has") (known2 :
-          Plain.Known 𝓤 H A W 𝓣 0 ps·2 r·2 (claims· .4) (claims· .5) "hnsr_circuit::scan::one_more") → Statement.Triple
-          𝓤 (Wp.WpFn 𝓤 H (𝓣 .C) (𝓣 .Λ) (Function.fnOf 1 ps r xs m hs body)) (Function.plainOf 𝓤 H A 1 ps r Pre· Post·)
+          Plain.Known 𝓤 H A W 𝓣 0 ps·1 r·1 (claims· .2) (claims· .3) "hnsr_circuit::tables::question::action_has") (known2
+          : Plain.Known 𝓤 H A W 𝓣 0 ps·2 r·2 (claims· .4) (claims· .5) "hnsr_circuit::tables::scan::one_more") →
+          Statement.Triple 𝓤 (Wp.WpFn 𝓤 H (𝓣 .C) (𝓣 .Λ) (Function.fnOf 1 ps r xs m hs body))
+          (Function.plainOf 𝓤 H A 1 ps r Pre· Post·)
 
     module _ (Inv·0 : InvT-loop) (μ·0 : MeasureT-loop) where
       abbrev at0 : Typed.TF T10 O4
@@ -702,8 +703,8 @@ module _ (claims· : Claims) where
           (𝓣 : Wp.Tables 𝓤 H) where
         abbrev Knowns : Type 1
         Knowns = Plain.Known 𝓤 H A W 𝓣 0 ps·0 r·0 (claims· .0) (claims· .1) "hns_encoding::numbers::min_usize" ×
-            Plain.Known 𝓤 H A W 𝓣 0 ps·1 r·1 (claims· .2) (claims· .3) "hnsr_circuit::question::action_has" ×
-            Plain.Known 𝓤 H A W 𝓣 0 ps·2 r·2 (claims· .4) (claims· .5) "hnsr_circuit::scan::one_more"
+            Plain.Known 𝓤 H A W 𝓣 0 ps·1 r·1 (claims· .2) (claims· .3) "hnsr_circuit::tables::question::action_has" ×
+            Plain.Known 𝓤 H A W 𝓣 0 ps·2 r·2 (claims· .4) (claims· .5) "hnsr_circuit::tables::scan::one_more"
 
       module _ (κs : Lifetimes.Lfts 1) (qs : Lifetimes.Shares 1) where
         abbrev life0 : Row.Life
@@ -855,7 +856,7 @@ module _ (claims· : Claims) where
 
           d7 : Typed.Typed 𝓤 H A 𝓣 E G21 b15 Δ3 at7
           d7 = Typed.s-seq 𝓤 H A W 𝓣 E G21 G22 b13 b14 Δ3 (Typed.both s18) at6 (Plain.t-call-plain 𝓤 H A W 𝓣 0 ps·2 r·2
-              (claims· .4) (claims· .5) "hnsr_circuit::scan::one_more" (known .2) E (λ pos β. β) G21
+              (claims· .4) (claims· .5) "hnsr_circuit::tables::scan::one_more" (known .2) E (λ pos β. β) G21
               (Num.vAt 6 λ x. x, (Bool.bAt 9 λ x. x, tt)) 6 List.[] (Call.sub-id 𝓤 H A W (G21 .slots)) (
                 (Scalar.reads-sc 𝓤 H A W (Row.sInt Syntax.w64), Path.refl),
                 ((Scalar.reads-sc 𝓤 H A W Row.sBool, Path.refl), tt),
@@ -867,7 +868,7 @@ module _ (claims· : Claims) where
 
           d9 : Typed.Typed 𝓤 H A 𝓣 E G19 b16 Δ3 at9
           d9 = Typed.s-seq 𝓤 H A W 𝓣 E G19 G20 b12 b15 Δ3 (Typed.both s16) at8 (Plain.t-call-plain 𝓤 H A W 𝓣 0 ps·1 r·1
-              (claims· .2) (claims· .3) "hnsr_circuit::question::action_has" (known .1) E (λ pos β. β) G19 (
+              (claims· .2) (claims· .3) "hnsr_circuit::tables::question::action_has" (known .1) E (λ pos β. β) G19 (
                 record { pos = 8; st = List.[]; d = 0; at = λ x. x },
                 (record { pos = 3; st = List.[]; d = 0; at = λ x. x }, tt),
               ) 9 List.[] (Call.sub-id 𝓤 H A W (G19 .slots)) (
@@ -1505,8 +1506,8 @@ module _ (claims· : Claims) where
         module _ {M : Type 1} (𝓤 : URA.URA M) (H : Wp.Heap 𝓤) (A : Atoms.Atoms 𝓤) (W : Kit.Given 𝓤 H A)
             (𝓣 : Wp.Tables 𝓤 H) (known0 : Plain.Known 𝓤 H A W 𝓣 0 ps·0 r·0 (claims· .0) (claims· .1)
             "hns_encoding::numbers::min_usize") (known1 : Plain.Known 𝓤 H A W 𝓣 0 ps·1 r·1 (claims· .2) (claims· .3)
-            "hnsr_circuit::question::action_has") (known2 : Plain.Known 𝓤 H A W 𝓣 0 ps·2 r·2 (claims· .4) (claims· .5)
-            "hnsr_circuit::scan::one_more") where
+            "hnsr_circuit::tables::question::action_has") (known2 : Plain.Known 𝓤 H A W 𝓣 0 ps·2 r·2 (claims· .4)
+            (claims· .5) "hnsr_circuit::tables::scan::one_more") where
           pub spec : Statement.Triple 𝓤 (Wp.WpFn 𝓤 H (𝓣 .C) (𝓣 .Λ) (Function.fnOf 1 ps r xs m hs body))
               (Function.plainOf 𝓤 H A 1 ps r Pre· Post·)
           spec = Plain.t-fn-plain 𝓤 H A W 𝓣 1 ps r xs m hs body (λ κs qs bs. Φ) (λ κs qs bs bd. typed κs qs 𝓤 H A W 𝓣

@@ -2,12 +2,12 @@
 use Prim.Native.Nat
 use Rattle.hnsr_circuit.proofs.By.InflightAction
 use Rattle.hnsr_circuit.proofs.StructRow
-use Rattle.hnsr_circuit.proofs.places.Places
-use Rattle.hnsr_circuit.proofs.places.Places.Laws
-use Rattle.hnsr_circuit.proofs.records.ActionQuestion
-use Rattle.hnsr_circuit.proofs.records.ActionQuestion.Laws as Laws'
-use Rattle.hnsr_circuit.proofs.records.ActionScan
-use Rattle.hnsr_circuit.proofs.records.ActionScan.Laws as Laws''
+use Rattle.hnsr_circuit.proofs.tables.places.Places
+use Rattle.hnsr_circuit.proofs.tables.places.Places.Laws
+use Rattle.hnsr_circuit.proofs.tables.scan.ActionQuestion
+use Rattle.hnsr_circuit.proofs.tables.scan.ActionQuestion.Laws as Laws'
+use Rattle.hnsr_circuit.proofs.tables.scan.ActionScan
+use Rattle.hnsr_circuit.proofs.tables.scan.ActionScan.Laws as Laws''
 use borrow.Author.Called
 use borrow.Author.Tests
 use borrow.Fn.Any
@@ -139,7 +139,7 @@ b1 = Syntax.call "hns_encoding::numbers::min_usize" ((Syntax.copy (Syntax.place 
     (Syntax.copy (Syntax.place 5 List.[])) ∷ List.[]) (Syntax.place 6 List.[])
 
 abbrev b2 : Syntax.Body
-b2 = Syntax.call "hnsr_circuit::scan::no_scan" ((Syntax.copy (Syntax.place 5 List.[])) ∷ List.[])
+b2 = Syntax.call "hnsr_circuit::tables::scan::no_scan" ((Syntax.copy (Syntax.place 5 List.[])) ∷ List.[])
     (Syntax.place 7 List.[])
 
 abbrev b3 : Syntax.Body
@@ -174,11 +174,11 @@ abbrev b11 : Syntax.Body
 b11 = Syntax.assign (Syntax.place 9 List.[]) (Syntax.rvOpd (Syntax.copy (Syntax.place 15 List.[])))
 
 abbrev b12 : Syntax.Body
-b12 = Syntax.call "hnsr_circuit::inflight::action_under" ((Syntax.copy (Syntax.place 9 List.[])) ∷
+b12 = Syntax.call "hnsr_circuit::records::inflight::action_under" ((Syntax.copy (Syntax.place 9 List.[])) ∷
     (Syntax.copy (Syntax.place 3 List.[])) ∷ List.[]) (Syntax.place 10 List.[])
 
 abbrev b13 : Syntax.Body
-b13 = Syntax.call "hnsr_circuit::inflight::action_left" ((Syntax.copy (Syntax.place 9 List.[])) ∷
+b13 = Syntax.call "hnsr_circuit::records::inflight::action_left" ((Syntax.copy (Syntax.place 9 List.[])) ∷
     (Syntax.copy (Syntax.place 10 List.[])) ∷ List.[]) (Syntax.place 11 List.[])
 
 abbrev b14 : Syntax.Body
@@ -195,7 +195,7 @@ b16 = Syntax.call "hnsr_circuit::tables::inflight::unmark_action" ((Syntax.copy 
     (Syntax.place 16 List.[])
 
 abbrev b17 : Syntax.Body
-b17 = Syntax.call "hnsr_circuit::scan::action_scanned" ((Syntax.copy (Syntax.place 7 List.[])) ∷
+b17 = Syntax.call "hnsr_circuit::tables::scan::action_scanned" ((Syntax.copy (Syntax.place 7 List.[])) ∷
     (Syntax.copy (Syntax.place 11 List.[])) ∷ (Syntax.copy (Syntax.place 4 List.[])) ∷
     (Syntax.copy (Syntax.place 8 List.[])) ∷ List.[]) (Syntax.place 7 List.[])
 
@@ -246,7 +246,7 @@ abbrev b32 : Syntax.Body
 b32 = Syntax.block b31
 
 abbrev b33 : Syntax.Body
-b33 = Syntax.call "hnsr_circuit::places::spared" ((Syntax.copy (Syntax.place 7 List.[])) ∷
+b33 = Syntax.call "hnsr_circuit::tables::places::spared" ((Syntax.copy (Syntax.place 7 List.[])) ∷
     (Syntax.copy (Syntax.place 8 List.[])) ∷ (Syntax.copy (Syntax.place 5 List.[])) ∷ List.[]) (Syntax.place 0 List.[])
 
 abbrev b34 : Syntax.Body
@@ -794,12 +794,12 @@ module _ (claims· : Claims) where
       abbrev pub Closed : Type 2
       Closed = (𝓤 : URA.URA M) (H : Wp.Heap 𝓤) (A : Atoms.Atoms 𝓤) (W : Kit.Given 𝓤 H A) (𝓣 : Wp.Tables 𝓤 H) (known0 :
           Plain.Known 𝓤 H A W 𝓣 0 ps·0 r·0 (claims· .0) (claims· .1) "hns_encoding::numbers::min_usize") (known1 :
-          Plain.Known 𝓤 H A W 𝓣 0 ps·1 r·1 (claims· .2) (claims· .3) "hnsr_circuit::scan::no_scan") (known2 :
-          Plain.Known 𝓤 H A W 𝓣 0 ps·2 r·2 (claims· .4) (claims· .5) "hnsr_circuit::inflight::action_under") (known3 :
-          Plain.Known 𝓤 H A W 𝓣 0 ps·3 r·3 (claims· .6) (claims· .7) "hnsr_circuit::inflight::action_left") (known4 :
-          Plain.Known 𝓤 H A W 𝓣 1 ps·4 r·4 (claims· .8) (claims· .9) "hnsr_circuit::tables::inflight::unmark_action") (known5
-          : Plain.Known 𝓤 H A W 𝓣 0 ps·5 r·5 (claims· .10) (claims· .11) "hnsr_circuit::scan::action_scanned") (known6
-          : Plain.Known 𝓤 H A W 𝓣 0 ps·6 r·6 (claims· .12) (claims· .13) "hnsr_circuit::places::spared") →
+          Plain.Known 𝓤 H A W 𝓣 0 ps·1 r·1 (claims· .2) (claims· .3) "hnsr_circuit::tables::scan::no_scan") (known2 :
+          Plain.Known 𝓤 H A W 𝓣 0 ps·2 r·2 (claims· .4) (claims· .5) "hnsr_circuit::records::inflight::action_under") (known3
+          : Plain.Known 𝓤 H A W 𝓣 0 ps·3 r·3 (claims· .6) (claims· .7) "hnsr_circuit::records::inflight::action_left") (known4
+          : Plain.Known 𝓤 H A W 𝓣 1 ps·4 r·4 (claims· .8) (claims· .9) "hnsr_circuit::tables::inflight::unmark_action") (known5
+          : Plain.Known 𝓤 H A W 𝓣 0 ps·5 r·5 (claims· .10) (claims· .11) "hnsr_circuit::tables::scan::action_scanned") (known6
+          : Plain.Known 𝓤 H A W 𝓣 0 ps·6 r·6 (claims· .12) (claims· .13) "hnsr_circuit::tables::places::spared") →
           Statement.Triple 𝓤 (Wp.WpFn 𝓤 H (𝓣 .C) (𝓣 .Λ) (Function.fnOf 1 ps r xs m hs body))
           (Function.plainOf 𝓤 H A 1 ps r Pre· Post·)
 
@@ -947,12 +947,13 @@ module _ (claims· : Claims) where
           (𝓣 : Wp.Tables 𝓤 H) where
         abbrev Knowns : Type 1
         Knowns = Plain.Known 𝓤 H A W 𝓣 0 ps·0 r·0 (claims· .0) (claims· .1) "hns_encoding::numbers::min_usize" ×
-            Plain.Known 𝓤 H A W 𝓣 0 ps·1 r·1 (claims· .2) (claims· .3) "hnsr_circuit::scan::no_scan" × Plain.Known 𝓤 H
-            A W 𝓣 0 ps·2 r·2 (claims· .4) (claims· .5) "hnsr_circuit::inflight::action_under" × Plain.Known 𝓤 H A W 𝓣 0
-            ps·3 r·3 (claims· .6) (claims· .7) "hnsr_circuit::inflight::action_left" × Plain.Known 𝓤 H A W 𝓣 1 ps·4 r·4
-            (claims· .8) (claims· .9) "hnsr_circuit::tables::inflight::unmark_action" × Plain.Known 𝓤 H A W 𝓣 0 ps·5
-            r·5 (claims· .10) (claims· .11) "hnsr_circuit::scan::action_scanned" × Plain.Known 𝓤 H A W 𝓣 0 ps·6 r·6
-            (claims· .12) (claims· .13) "hnsr_circuit::places::spared"
+            Plain.Known 𝓤 H A W 𝓣 0 ps·1 r·1 (claims· .2) (claims· .3) "hnsr_circuit::tables::scan::no_scan" ×
+            Plain.Known 𝓤 H A W 𝓣 0 ps·2 r·2 (claims· .4) (claims· .5) "hnsr_circuit::records::inflight::action_under"
+            × Plain.Known 𝓤 H A W 𝓣 0 ps·3 r·3 (claims· .6) (claims· .7) "hnsr_circuit::records::inflight::action_left"
+            × Plain.Known 𝓤 H A W 𝓣 1 ps·4 r·4 (claims· .8) (claims· .9)
+            "hnsr_circuit::tables::inflight::unmark_action" × Plain.Known 𝓤 H A W 𝓣 0 ps·5 r·5 (claims· .10)
+            (claims· .11) "hnsr_circuit::tables::scan::action_scanned" × Plain.Known 𝓤 H A W 𝓣 0 ps·6 r·6 (claims· .12)
+            (claims· .13) "hnsr_circuit::tables::places::spared"
 
       module _ (κs : Lifetimes.Lfts 1) (qs : Lifetimes.Shares 1) where
         abbrev life0 : Row.Life
@@ -1145,7 +1146,7 @@ module _ (claims· : Claims) where
 
           d8 : Typed.Typed 𝓤 H A 𝓣 E G30 b19 Δ3 at8
           d8 = Typed.s-seq 𝓤 H A W 𝓣 E G30 G31 b17 b18 Δ3 (Typed.both s27) at7 (Plain.t-call-plain 𝓤 H A W 𝓣 0 ps·5 r·5
-              (claims· .10) (claims· .11) "hnsr_circuit::scan::action_scanned" (known .5) E (λ pos β. β) G30 (
+              (claims· .10) (claims· .11) "hnsr_circuit::tables::scan::action_scanned" (known .5) E (λ pos β. β) G30 (
                 record { pos = 7; st = List.[]; d = 0; at = λ x. x },
                 (
                   record { pos = 11; st = List.[]; d = 0; at = λ x. x },
@@ -1243,10 +1244,9 @@ module _ (claims· : Claims) where
 
           d18 : Typed.Typed 𝓤 H A 𝓣 E G20 b23 Δ3 at18
           d18 = Typed.s-seq 𝓤 H A W 𝓣 E G20 G21 b13 b22 Δ3 (Typed.both s17) at17 (Plain.t-call-plain 𝓤 H A W 𝓣 0 ps·3
-              r·3 (claims· .6) (claims· .7) "hnsr_circuit::inflight::action_left" (known .3) E (λ pos β. β) G20 (
-                record { pos = 9; st = List.[]; d = 0; at = λ x. x },
-                (Bool.bAt 10 λ x. x, tt),
-              ) 11 List.[] (Call.sub-id 𝓤 H A W (G20 .slots)) (
+              r·3 (claims· .6) (claims· .7) "hnsr_circuit::records::inflight::action_left" (known .3) E (λ pos β. β)
+              G20 (record { pos = 9; st = List.[]; d = 0; at = λ x. x }, (Bool.bAt 10 λ x. x, tt)) 11 List.[]
+              (Call.sub-id 𝓤 H A W (G20 .slots)) (
                 (
                   Yields.yields-copy 𝓤 H A W (λ ρ. Unit) InflightAction.row Path.refl
                       (InflightAction.copies .copy 𝓤 H A W) InflightAction.held (λ x. x) (λ x. x)
@@ -1259,10 +1259,9 @@ module _ (claims· : Claims) where
 
           d19 : Typed.Typed 𝓤 H A 𝓣 E G19 b24 Δ3 at19
           d19 = Typed.s-seq 𝓤 H A W 𝓣 E G19 G20 b12 b23 Δ3 (Typed.both s16) at18 (Plain.t-call-plain 𝓤 H A W 𝓣 0 ps·2
-              r·2 (claims· .4) (claims· .5) "hnsr_circuit::inflight::action_under" (known .2) E (λ pos β. β) G19 (
-                record { pos = 9; st = List.[]; d = 0; at = λ x. x },
-                (Num.vAt 3 λ x. x, tt),
-              ) 10 List.[] (Call.sub-id 𝓤 H A W (G19 .slots)) (
+              r·2 (claims· .4) (claims· .5) "hnsr_circuit::records::inflight::action_under" (known .2) E (λ pos β. β)
+              G19 (record { pos = 9; st = List.[]; d = 0; at = λ x. x }, (Num.vAt 3 λ x. x, tt)) 10 List.[]
+              (Call.sub-id 𝓤 H A W (G19 .slots)) (
                 (
                   Yields.yields-copy 𝓤 H A W (λ ρ. Unit) InflightAction.row Path.refl
                       (InflightAction.copies .copy 𝓤 H A W) InflightAction.held (λ x. x) (λ x. x)
@@ -1373,7 +1372,7 @@ module _ (claims· : Claims) where
 
           d37 : Typed.Typed 𝓤 H A 𝓣 E G7 b35 Δ0 at37
           d37 = Typed.s-seq 𝓤 H A W 𝓣 E G7 G35 b33 b34 Δ0 (Typed.both s31) at36 (Plain.t-call-plain 𝓤 H A W 𝓣 0 ps·6
-              r·6 (claims· .12) (claims· .13) "hnsr_circuit::places::spared" (known .6) E (λ pos β. β) G7 (
+              r·6 (claims· .12) (claims· .13) "hnsr_circuit::tables::places::spared" (known .6) E (λ pos β. β) G7 (
                 record { pos = 7; st = List.[]; d = 0; at = λ x. x },
                 (Num.vAt 8 λ x. x, (Num.vAt 5 λ x. x, tt)),
               ) 0 List.[] (Call.sub-id 𝓤 H A W (G7 .slots)) (
@@ -1403,7 +1402,7 @@ module _ (claims· : Claims) where
 
           d40 : Typed.Typed 𝓤 H A 𝓣 E G4 b38 Δ0 at40
           d40 = Typed.s-seq 𝓤 H A W 𝓣 E G4 G5 b2 b37 Δ0 (Typed.both s3) at39 (Plain.t-call-plain 𝓤 H A W 𝓣 0 ps·1 r·1
-              (claims· .2) (claims· .3) "hnsr_circuit::scan::no_scan" (known .1) E (λ pos β. β) G4
+              (claims· .2) (claims· .3) "hnsr_circuit::tables::scan::no_scan" (known .1) E (λ pos β. β) G4
               (Num.vAt 5 λ x. x, tt) 7 List.[] (Call.sub-id 𝓤 H A W (G4 .slots)) (
                 (Scalar.reads-sc 𝓤 H A W (Row.sInt Syntax.w64), Path.refl),
                 tt,
@@ -2149,12 +2148,12 @@ module _ (claims· : Claims) where
         module _ {M : Type 1} (𝓤 : URA.URA M) (H : Wp.Heap 𝓤) (A : Atoms.Atoms 𝓤) (W : Kit.Given 𝓤 H A)
             (𝓣 : Wp.Tables 𝓤 H) (known0 : Plain.Known 𝓤 H A W 𝓣 0 ps·0 r·0 (claims· .0) (claims· .1)
             "hns_encoding::numbers::min_usize") (known1 : Plain.Known 𝓤 H A W 𝓣 0 ps·1 r·1 (claims· .2) (claims· .3)
-            "hnsr_circuit::scan::no_scan") (known2 : Plain.Known 𝓤 H A W 𝓣 0 ps·2 r·2 (claims· .4) (claims· .5)
-            "hnsr_circuit::inflight::action_under") (known3 : Plain.Known 𝓤 H A W 𝓣 0 ps·3 r·3 (claims· .6)
-            (claims· .7) "hnsr_circuit::inflight::action_left") (known4 : Plain.Known 𝓤 H A W 𝓣 1 ps·4 r·4 (claims· .8)
-            (claims· .9) "hnsr_circuit::tables::inflight::unmark_action") (known5 : Plain.Known 𝓤 H A W 𝓣 0 ps·5 r·5
-            (claims· .10) (claims· .11) "hnsr_circuit::scan::action_scanned") (known6 : Plain.Known 𝓤 H A W 𝓣 0 ps·6
-            r·6 (claims· .12) (claims· .13) "hnsr_circuit::places::spared") where
+            "hnsr_circuit::tables::scan::no_scan") (known2 : Plain.Known 𝓤 H A W 𝓣 0 ps·2 r·2 (claims· .4) (claims· .5)
+            "hnsr_circuit::records::inflight::action_under") (known3 : Plain.Known 𝓤 H A W 𝓣 0 ps·3 r·3 (claims· .6)
+            (claims· .7) "hnsr_circuit::records::inflight::action_left") (known4 : Plain.Known 𝓤 H A W 𝓣 1 ps·4 r·4
+            (claims· .8) (claims· .9) "hnsr_circuit::tables::inflight::unmark_action") (known5 : Plain.Known 𝓤 H A W 𝓣
+            0 ps·5 r·5 (claims· .10) (claims· .11) "hnsr_circuit::tables::scan::action_scanned") (known6 : Plain.Known
+            𝓤 H A W 𝓣 0 ps·6 r·6 (claims· .12) (claims· .13) "hnsr_circuit::tables::places::spared") where
           pub spec : Statement.Triple 𝓤 (Wp.WpFn 𝓤 H (𝓣 .C) (𝓣 .Λ) (Function.fnOf 1 ps r xs m hs body))
               (Function.plainOf 𝓤 H A 1 ps r Pre· Post·)
           spec = Plain.t-fn-plain 𝓤 H A W 𝓣 1 ps r xs m hs body (λ κs qs bs. Φ) (λ κs qs bs bd. typed κs qs 𝓤 H A W 𝓣

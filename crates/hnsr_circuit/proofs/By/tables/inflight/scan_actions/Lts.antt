@@ -2,12 +2,12 @@
 use Prim.Native.Nat
 use Rattle.hnsr_circuit.proofs.By.InflightAction
 use Rattle.hnsr_circuit.proofs.StructRow
-use Rattle.hnsr_circuit.proofs.places.Places
-use Rattle.hnsr_circuit.proofs.places.Places.Laws
-use Rattle.hnsr_circuit.proofs.records.ActionQuestion
-use Rattle.hnsr_circuit.proofs.records.ActionQuestion.Laws as Laws'
-use Rattle.hnsr_circuit.proofs.records.ActionScan
-use Rattle.hnsr_circuit.proofs.records.ActionScan.Laws as Laws''
+use Rattle.hnsr_circuit.proofs.tables.places.Places
+use Rattle.hnsr_circuit.proofs.tables.places.Places.Laws
+use Rattle.hnsr_circuit.proofs.tables.scan.ActionQuestion
+use Rattle.hnsr_circuit.proofs.tables.scan.ActionQuestion.Laws as Laws'
+use Rattle.hnsr_circuit.proofs.tables.scan.ActionScan
+use Rattle.hnsr_circuit.proofs.tables.scan.ActionScan.Laws as Laws''
 use borrow.Author.Called
 use borrow.Author.Tests
 use borrow.Fn.Any
@@ -105,7 +105,7 @@ b1 = Syntax.call "hns_encoding::numbers::min_usize" ((Syntax.copy (Syntax.place 
     (Syntax.copy (Syntax.place 4 List.[])) ∷ List.[]) (Syntax.place 5 List.[])
 
 abbrev b2 : Syntax.Body
-b2 = Syntax.call "hnsr_circuit::scan::no_scan" ((Syntax.copy (Syntax.place 4 List.[])) ∷ List.[])
+b2 = Syntax.call "hnsr_circuit::tables::scan::no_scan" ((Syntax.copy (Syntax.place 4 List.[])) ∷ List.[])
     (Syntax.place 6 List.[])
 
 abbrev b3 : Syntax.Body
@@ -140,7 +140,7 @@ abbrev b11 : Syntax.Body
 b11 = Syntax.assign (Syntax.place 8 List.[]) (Syntax.rvOpd (Syntax.copy (Syntax.place 12 List.[])))
 
 abbrev b12 : Syntax.Body
-b12 = Syntax.call "hnsr_circuit::scan::action_scanned" ((Syntax.copy (Syntax.place 6 List.[])) ∷
+b12 = Syntax.call "hnsr_circuit::tables::scan::action_scanned" ((Syntax.copy (Syntax.place 6 List.[])) ∷
     (Syntax.copy (Syntax.place 8 List.[])) ∷ (Syntax.copy (Syntax.place 3 List.[])) ∷
     (Syntax.copy (Syntax.place 7 List.[])) ∷ List.[]) (Syntax.place 6 List.[])
 
@@ -176,7 +176,7 @@ abbrev b22 : Syntax.Body
 b22 = Syntax.block b21
 
 abbrev b23 : Syntax.Body
-b23 = Syntax.call "hnsr_circuit::places::spared" ((Syntax.copy (Syntax.place 6 List.[])) ∷
+b23 = Syntax.call "hnsr_circuit::tables::places::spared" ((Syntax.copy (Syntax.place 6 List.[])) ∷
     (Syntax.copy (Syntax.place 7 List.[])) ∷ (Syntax.copy (Syntax.place 4 List.[])) ∷ List.[]) (Syntax.place 0 List.[])
 
 abbrev b24 : Syntax.Body
@@ -571,10 +571,11 @@ module _ (claims· : Claims) where
       abbrev pub Closed : Type 2
       Closed = (𝓤 : URA.URA M) (H : Wp.Heap 𝓤) (A : Atoms.Atoms 𝓤) (W : Kit.Given 𝓤 H A) (𝓣 : Wp.Tables 𝓤 H) (known0 :
           Plain.Known 𝓤 H A W 𝓣 0 ps·0 r·0 (claims· .0) (claims· .1) "hns_encoding::numbers::min_usize") (known1 :
-          Plain.Known 𝓤 H A W 𝓣 0 ps·1 r·1 (claims· .2) (claims· .3) "hnsr_circuit::scan::no_scan") (known2 :
-          Plain.Known 𝓤 H A W 𝓣 0 ps·2 r·2 (claims· .4) (claims· .5) "hnsr_circuit::scan::action_scanned") (known3 :
-          Plain.Known 𝓤 H A W 𝓣 0 ps·3 r·3 (claims· .6) (claims· .7) "hnsr_circuit::places::spared") → Statement.Triple
-          𝓤 (Wp.WpFn 𝓤 H (𝓣 .C) (𝓣 .Λ) (Function.fnOf 1 ps r xs m hs body)) (Function.plainOf 𝓤 H A 1 ps r Pre· Post·)
+          Plain.Known 𝓤 H A W 𝓣 0 ps·1 r·1 (claims· .2) (claims· .3) "hnsr_circuit::tables::scan::no_scan") (known2 :
+          Plain.Known 𝓤 H A W 𝓣 0 ps·2 r·2 (claims· .4) (claims· .5) "hnsr_circuit::tables::scan::action_scanned") (known3
+          : Plain.Known 𝓤 H A W 𝓣 0 ps·3 r·3 (claims· .6) (claims· .7) "hnsr_circuit::tables::places::spared") →
+          Statement.Triple 𝓤 (Wp.WpFn 𝓤 H (𝓣 .C) (𝓣 .Λ) (Function.fnOf 1 ps r xs m hs body))
+          (Function.plainOf 𝓤 H A 1 ps r Pre· Post·)
 
     module _ (Inv·0 : InvT-loop) (μ·0 : MeasureT-loop) where
       abbrev at0 : Typed.TF T10 O4
@@ -684,9 +685,9 @@ module _ (claims· : Claims) where
           (𝓣 : Wp.Tables 𝓤 H) where
         abbrev Knowns : Type 1
         Knowns = Plain.Known 𝓤 H A W 𝓣 0 ps·0 r·0 (claims· .0) (claims· .1) "hns_encoding::numbers::min_usize" ×
-            Plain.Known 𝓤 H A W 𝓣 0 ps·1 r·1 (claims· .2) (claims· .3) "hnsr_circuit::scan::no_scan" × Plain.Known 𝓤 H
-            A W 𝓣 0 ps·2 r·2 (claims· .4) (claims· .5) "hnsr_circuit::scan::action_scanned" × Plain.Known 𝓤 H A W 𝓣 0
-            ps·3 r·3 (claims· .6) (claims· .7) "hnsr_circuit::places::spared"
+            Plain.Known 𝓤 H A W 𝓣 0 ps·1 r·1 (claims· .2) (claims· .3) "hnsr_circuit::tables::scan::no_scan" ×
+            Plain.Known 𝓤 H A W 𝓣 0 ps·2 r·2 (claims· .4) (claims· .5) "hnsr_circuit::tables::scan::action_scanned" ×
+            Plain.Known 𝓤 H A W 𝓣 0 ps·3 r·3 (claims· .6) (claims· .7) "hnsr_circuit::tables::places::spared"
 
       module _ (κs : Lifetimes.Lfts 1) (qs : Lifetimes.Shares 1) where
         abbrev life0 : Row.Life
@@ -834,7 +835,7 @@ module _ (claims· : Claims) where
 
           d8 : Typed.Typed 𝓤 H A 𝓣 E G19 b14 Δ3 at8
           d8 = Typed.s-seq 𝓤 H A W 𝓣 E G19 G20 b12 b13 Δ3 (Typed.both s16) at7 (Plain.t-call-plain 𝓤 H A W 𝓣 0 ps·2 r·2
-              (claims· .4) (claims· .5) "hnsr_circuit::scan::action_scanned" (known .2) E (λ pos β. β) G19 (
+              (claims· .4) (claims· .5) "hnsr_circuit::tables::scan::action_scanned" (known .2) E (λ pos β. β) G19 (
                 record { pos = 6; st = List.[]; d = 0; at = λ x. x },
                 (
                   record { pos = 8; st = List.[]; d = 0; at = λ x. x },
@@ -967,7 +968,7 @@ module _ (claims· : Claims) where
 
           d25 : Typed.Typed 𝓤 H A 𝓣 E G7 b25 Δ0 at25
           d25 = Typed.s-seq 𝓤 H A W 𝓣 E G7 G23 b23 b24 Δ0 (Typed.both s19) at24 (Plain.t-call-plain 𝓤 H A W 𝓣 0 ps·3
-              r·3 (claims· .6) (claims· .7) "hnsr_circuit::places::spared" (known .3) E (λ pos β. β) G7 (
+              r·3 (claims· .6) (claims· .7) "hnsr_circuit::tables::places::spared" (known .3) E (λ pos β. β) G7 (
                 record { pos = 6; st = List.[]; d = 0; at = λ x. x },
                 (Num.vAt 7 λ x. x, (Num.vAt 4 λ x. x, tt)),
               ) 0 List.[] (Call.sub-id 𝓤 H A W (G7 .slots)) (
@@ -997,7 +998,7 @@ module _ (claims· : Claims) where
 
           d28 : Typed.Typed 𝓤 H A 𝓣 E G4 b28 Δ0 at28
           d28 = Typed.s-seq 𝓤 H A W 𝓣 E G4 G5 b2 b27 Δ0 (Typed.both s3) at27 (Plain.t-call-plain 𝓤 H A W 𝓣 0 ps·1 r·1
-              (claims· .2) (claims· .3) "hnsr_circuit::scan::no_scan" (known .1) E (λ pos β. β) G4
+              (claims· .2) (claims· .3) "hnsr_circuit::tables::scan::no_scan" (known .1) E (λ pos β. β) G4
               (Num.vAt 4 λ x. x, tt) 6 List.[] (Call.sub-id 𝓤 H A W (G4 .slots)) (
                 (Scalar.reads-sc 𝓤 H A W (Row.sInt Syntax.w64), Path.refl),
                 tt,
@@ -1510,9 +1511,9 @@ module _ (claims· : Claims) where
         module _ {M : Type 1} (𝓤 : URA.URA M) (H : Wp.Heap 𝓤) (A : Atoms.Atoms 𝓤) (W : Kit.Given 𝓤 H A)
             (𝓣 : Wp.Tables 𝓤 H) (known0 : Plain.Known 𝓤 H A W 𝓣 0 ps·0 r·0 (claims· .0) (claims· .1)
             "hns_encoding::numbers::min_usize") (known1 : Plain.Known 𝓤 H A W 𝓣 0 ps·1 r·1 (claims· .2) (claims· .3)
-            "hnsr_circuit::scan::no_scan") (known2 : Plain.Known 𝓤 H A W 𝓣 0 ps·2 r·2 (claims· .4) (claims· .5)
-            "hnsr_circuit::scan::action_scanned") (known3 : Plain.Known 𝓤 H A W 𝓣 0 ps·3 r·3 (claims· .6) (claims· .7)
-            "hnsr_circuit::places::spared") where
+            "hnsr_circuit::tables::scan::no_scan") (known2 : Plain.Known 𝓤 H A W 𝓣 0 ps·2 r·2 (claims· .4) (claims· .5)
+            "hnsr_circuit::tables::scan::action_scanned") (known3 : Plain.Known 𝓤 H A W 𝓣 0 ps·3 r·3 (claims· .6)
+            (claims· .7) "hnsr_circuit::tables::places::spared") where
           pub spec : Statement.Triple 𝓤 (Wp.WpFn 𝓤 H (𝓣 .C) (𝓣 .Λ) (Function.fnOf 1 ps r xs m hs body))
               (Function.plainOf 𝓤 H A 1 ps r Pre· Post·)
           spec = Plain.t-fn-plain 𝓤 H A W 𝓣 1 ps r xs m hs body (λ κs qs bs. Φ) (λ κs qs bs bd. typed κs qs 𝓤 H A W 𝓣

@@ -80,7 +80,7 @@ abbrev b0 : Syntax.Body
 b0 = Syntax.assign (Syntax.place 7 List.[]) (Syntax.rvOpd (Syntax.copy (Syntax.place 1 ((Syntax.field 1) ∷ List.[]))))
 
 abbrev b1 : Syntax.Body
-b1 = Syntax.call "hnsr_circuit::scan::within" ((Syntax.copy (Syntax.place 2 List.[])) ∷
+b1 = Syntax.call "hnsr_circuit::tables::scan::within" ((Syntax.copy (Syntax.place 2 List.[])) ∷
     (Syntax.copy (Syntax.place 3 List.[])) ∷ (Syntax.copy (Syntax.place 7 List.[])) ∷ List.[]) (Syntax.place 6 List.[])
 
 abbrev b2 : Syntax.Body
@@ -99,7 +99,7 @@ abbrev b5 : Syntax.Body
 b5 = Syntax.assign (Syntax.place 4 List.[]) (Syntax.rvOpd (Syntax.copy (Syntax.place 10 List.[])))
 
 abbrev b6 : Syntax.Body
-b6 = Syntax.call "hnsr_circuit::inflight::action_unmarked" ((Syntax.copy (Syntax.place 4 List.[])) ∷ List.[])
+b6 = Syntax.call "hnsr_circuit::records::inflight::action_unmarked" ((Syntax.copy (Syntax.place 4 List.[])) ∷ List.[])
     (Syntax.place 5 List.[])
 
 abbrev b7 : Syntax.Body
@@ -469,9 +469,9 @@ module _ (claims· : Claims) where
     module _ (M : Type 1) where
       abbrev pub Closed : Type 2
       Closed = (𝓤 : URA.URA M) (H : Wp.Heap 𝓤) (A : Atoms.Atoms 𝓤) (W : Kit.Given 𝓤 H A) (𝓣 : Wp.Tables 𝓤 H) (known0 :
-          Plain.Known 𝓤 H A W 𝓣 0 ps·0 r·0 (claims· .0) (claims· .1) "hnsr_circuit::scan::within") (known1 :
-          Plain.Known 𝓤 H A W 𝓣 0 ps·1 r·1 (claims· .2) (claims· .3) "hnsr_circuit::inflight::action_unmarked") →
-          Statement.Triple 𝓤 (Wp.WpFn 𝓤 H (𝓣 .C) (𝓣 .Λ) (Function.fnOf 1 ps r xs m hs body))
+          Plain.Known 𝓤 H A W 𝓣 0 ps·0 r·0 (claims· .0) (claims· .1) "hnsr_circuit::tables::scan::within") (known1 :
+          Plain.Known 𝓤 H A W 𝓣 0 ps·1 r·1 (claims· .2) (claims· .3) "hnsr_circuit::records::inflight::action_unmarked")
+          → Statement.Triple 𝓤 (Wp.WpFn 𝓤 H (𝓣 .C) (𝓣 .Λ) (Function.fnOf 1 ps r xs m hs body))
           (Function.plainOf 𝓤 H A 1 ps r Pre· Post·)
 
     module _ where
@@ -554,8 +554,9 @@ module _ (claims· : Claims) where
       module _ {M : Type 1} (𝓤 : URA.URA M) (H : Wp.Heap 𝓤) (A : Atoms.Atoms 𝓤) (W : Kit.Given 𝓤 H A)
           (𝓣 : Wp.Tables 𝓤 H) where
         abbrev Knowns : Type 1
-        Knowns = Plain.Known 𝓤 H A W 𝓣 0 ps·0 r·0 (claims· .0) (claims· .1) "hnsr_circuit::scan::within" × Plain.Known
-            𝓤 H A W 𝓣 0 ps·1 r·1 (claims· .2) (claims· .3) "hnsr_circuit::inflight::action_unmarked"
+        Knowns = Plain.Known 𝓤 H A W 𝓣 0 ps·0 r·0 (claims· .0) (claims· .1) "hnsr_circuit::tables::scan::within" ×
+            Plain.Known 𝓤 H A W 𝓣 0 ps·1 r·1 (claims· .2) (claims· .3)
+            "hnsr_circuit::records::inflight::action_unmarked"
 
       module _ (κs : Lifetimes.Lfts 1) (qs : Lifetimes.Shares 1) where
         abbrev life0 : Row.Life
@@ -691,8 +692,9 @@ module _ (claims· : Claims) where
 
           d4 : Typed.Typed 𝓤 H A 𝓣 E G13 b12 Δ1 at4
           d4 = Typed.s-seq 𝓤 H A W 𝓣 E G13 G14 b6 b11 Δ1 (Typed.both s11) at3 (Plain.t-call-plain 𝓤 H A W 𝓣 0 ps·1 r·1
-              (claims· .2) (claims· .3) "hnsr_circuit::inflight::action_unmarked" (known .1) E (λ pos β. β) G13
-              (record { pos = 4; st = List.[]; d = 0; at = λ x. x }, tt) 5 List.[] (Call.sub-id 𝓤 H A W (G13 .slots)) (
+              (claims· .2) (claims· .3) "hnsr_circuit::records::inflight::action_unmarked" (known .1) E (λ pos β. β)
+              G13 (record { pos = 4; st = List.[]; d = 0; at = λ x. x }, tt) 5 List.[]
+              (Call.sub-id 𝓤 H A W (G13 .slots)) (
                 (
                   Yields.yields-copy 𝓤 H A W (λ ρ. Unit) InflightAction.row Path.refl
                       (InflightAction.copies .copy 𝓤 H A W) InflightAction.held (λ x. x) (λ x. x)
@@ -794,7 +796,7 @@ module _ (claims· : Claims) where
 
           d22 : Typed.Typed 𝓤 H A 𝓣 E G2 b23 Δ0 at22
           d22 = Typed.s-seq 𝓤 H A W 𝓣 E G2 G3 b1 b22 Δ0 (Typed.both s1) at21 (Plain.t-call-plain 𝓤 H A W 𝓣 0 ps·0 r·0
-              (claims· .0) (claims· .1) "hnsr_circuit::scan::within" (known .0) E (λ pos β. β) G2 (
+              (claims· .0) (claims· .1) "hnsr_circuit::tables::scan::within" (known .0) E (λ pos β. β) G2 (
                 Bool.bAt 2 λ x. x,
                 (Num.vAt 3 λ x. x, (Num.vAt 7 λ x. x, tt)),
               ) 6 List.[] (Call.sub-id 𝓤 H A W (G2 .slots)) (
@@ -1141,8 +1143,8 @@ module _ (claims· : Claims) where
 
         module _ {M : Type 1} (𝓤 : URA.URA M) (H : Wp.Heap 𝓤) (A : Atoms.Atoms 𝓤) (W : Kit.Given 𝓤 H A)
             (𝓣 : Wp.Tables 𝓤 H) (known0 : Plain.Known 𝓤 H A W 𝓣 0 ps·0 r·0 (claims· .0) (claims· .1)
-            "hnsr_circuit::scan::within") (known1 : Plain.Known 𝓤 H A W 𝓣 0 ps·1 r·1 (claims· .2) (claims· .3)
-            "hnsr_circuit::inflight::action_unmarked") where
+            "hnsr_circuit::tables::scan::within") (known1 : Plain.Known 𝓤 H A W 𝓣 0 ps·1 r·1 (claims· .2) (claims· .3)
+            "hnsr_circuit::records::inflight::action_unmarked") where
           pub spec : Statement.Triple 𝓤 (Wp.WpFn 𝓤 H (𝓣 .C) (𝓣 .Λ) (Function.fnOf 1 ps r xs m hs body))
               (Function.plainOf 𝓤 H A 1 ps r Pre· Post·)
           spec = Plain.t-fn-plain 𝓤 H A W 𝓣 1 ps r xs m hs body (λ κs qs bs. Φ) (λ κs qs bs bd. typed κs qs 𝓤 H A W 𝓣

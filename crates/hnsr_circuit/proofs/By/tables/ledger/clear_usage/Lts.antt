@@ -2,10 +2,10 @@
 use Prim.Native.Nat
 use Rattle.hnsr_circuit.proofs.By.ReservationUsage
 use Rattle.hnsr_circuit.proofs.StructRow
-use Rattle.hnsr_circuit.proofs.places.Places
-use Rattle.hnsr_circuit.proofs.places.Places.Laws
-use Rattle.hnsr_circuit.proofs.records.Question
-use Rattle.hnsr_circuit.proofs.records.Question.Laws as Laws'
+use Rattle.hnsr_circuit.proofs.tables.places.Places
+use Rattle.hnsr_circuit.proofs.tables.places.Places.Laws
+use Rattle.hnsr_circuit.proofs.tables.question.Question
+use Rattle.hnsr_circuit.proofs.tables.question.Question.Laws as Laws'
 use borrow.Author.Called
 use borrow.Author.Tests
 use borrow.Fn.Any
@@ -141,7 +141,7 @@ abbrev b10 : Syntax.Body
 b10 = Syntax.assign (Syntax.place 7 List.[]) (Syntax.rvOpd (Syntax.copy (Syntax.place 12 List.[])))
 
 abbrev b11 : Syntax.Body
-b11 = Syntax.call "hnsr_circuit::question::usage_has" ((Syntax.copy (Syntax.place 7 List.[])) ∷
+b11 = Syntax.call "hnsr_circuit::tables::question::usage_has" ((Syntax.copy (Syntax.place 7 List.[])) ∷
     (Syntax.copy (Syntax.place 3 List.[])) ∷ List.[]) (Syntax.place 8 List.[])
 
 abbrev b12 : Syntax.Body
@@ -644,8 +644,8 @@ module _ (claims· : Claims) where
       abbrev pub Closed : Type 2
       Closed = (𝓤 : URA.URA M) (H : Wp.Heap 𝓤) (A : Atoms.Atoms 𝓤) (W : Kit.Given 𝓤 H A) (𝓣 : Wp.Tables 𝓤 H) (known0 :
           Plain.Known 𝓤 H A W 𝓣 0 ps·0 r·0 (claims· .0) (claims· .1) "hns_encoding::numbers::min_usize") (known1 :
-          Plain.Known 𝓤 H A W 𝓣 0 ps·1 r·1 (claims· .2) (claims· .3) "hnsr_circuit::question::usage_has") (known2 :
-          Plain.Known 𝓤 H A W 𝓣 1 ps·2 r·2 (claims· .4) (claims· .5) "hnsr_circuit::tables::ledger::unmark_usage") →
+          Plain.Known 𝓤 H A W 𝓣 0 ps·1 r·1 (claims· .2) (claims· .3) "hnsr_circuit::tables::question::usage_has") (known2
+          : Plain.Known 𝓤 H A W 𝓣 1 ps·2 r·2 (claims· .4) (claims· .5) "hnsr_circuit::tables::ledger::unmark_usage") →
           Statement.Triple 𝓤 (Wp.WpFn 𝓤 H (𝓣 .C) (𝓣 .Λ) (Function.fnOf 1 ps r xs m hs body))
           (Function.plainOf 𝓤 H A 1 ps r Pre· Post·)
 
@@ -774,7 +774,7 @@ module _ (claims· : Claims) where
           (𝓣 : Wp.Tables 𝓤 H) where
         abbrev Knowns : Type 1
         Knowns = Plain.Known 𝓤 H A W 𝓣 0 ps·0 r·0 (claims· .0) (claims· .1) "hns_encoding::numbers::min_usize" ×
-            Plain.Known 𝓤 H A W 𝓣 0 ps·1 r·1 (claims· .2) (claims· .3) "hnsr_circuit::question::usage_has" ×
+            Plain.Known 𝓤 H A W 𝓣 0 ps·1 r·1 (claims· .2) (claims· .3) "hnsr_circuit::tables::question::usage_has" ×
             Plain.Known 𝓤 H A W 𝓣 1 ps·2 r·2 (claims· .4) (claims· .5) "hnsr_circuit::tables::ledger::unmark_usage"
 
       module _ (κs : Lifetimes.Lfts 1) (qs : Lifetimes.Shares 1) where
@@ -1015,7 +1015,7 @@ module _ (claims· : Claims) where
 
           d16 : Typed.Typed 𝓤 H A 𝓣 E G18 b19 Δ3 at16
           d16 = Typed.s-seq 𝓤 H A W 𝓣 E G18 G19 b11 b18 Δ3 (Typed.both s15) at15 (Plain.t-call-plain 𝓤 H A W 𝓣 0 ps·1
-              r·1 (claims· .2) (claims· .3) "hnsr_circuit::question::usage_has" (known .1) E (λ pos β. β) G18 (
+              r·1 (claims· .2) (claims· .3) "hnsr_circuit::tables::question::usage_has" (known .1) E (λ pos β. β) G18 (
                 record { pos = 7; st = List.[]; d = 0; at = λ x. x },
                 (record { pos = 3; st = List.[]; d = 0; at = λ x. x }, tt),
               ) 8 List.[] (Call.sub-id 𝓤 H A W (G18 .slots)) (
@@ -1688,8 +1688,8 @@ module _ (claims· : Claims) where
         module _ {M : Type 1} (𝓤 : URA.URA M) (H : Wp.Heap 𝓤) (A : Atoms.Atoms 𝓤) (W : Kit.Given 𝓤 H A)
             (𝓣 : Wp.Tables 𝓤 H) (known0 : Plain.Known 𝓤 H A W 𝓣 0 ps·0 r·0 (claims· .0) (claims· .1)
             "hns_encoding::numbers::min_usize") (known1 : Plain.Known 𝓤 H A W 𝓣 0 ps·1 r·1 (claims· .2) (claims· .3)
-            "hnsr_circuit::question::usage_has") (known2 : Plain.Known 𝓤 H A W 𝓣 1 ps·2 r·2 (claims· .4) (claims· .5)
-            "hnsr_circuit::tables::ledger::unmark_usage") where
+            "hnsr_circuit::tables::question::usage_has") (known2 : Plain.Known 𝓤 H A W 𝓣 1 ps·2 r·2 (claims· .4)
+            (claims· .5) "hnsr_circuit::tables::ledger::unmark_usage") where
           pub spec : Statement.Triple 𝓤 (Wp.WpFn 𝓤 H (𝓣 .C) (𝓣 .Λ) (Function.fnOf 1 ps r xs m hs body))
               (Function.plainOf 𝓤 H A 1 ps r Pre· Post·)
           spec = Plain.t-fn-plain 𝓤 H A W 𝓣 1 ps r xs m hs body (λ κs qs bs. Φ) (λ κs qs bs bd. typed κs qs 𝓤 H A W 𝓣

@@ -3,10 +3,10 @@ use Rattle.hnsr_body.proofs.values.ReservationId
 use Rattle.hnsr_body.proofs.values.ReservationId.Laws
 use Rattle.hnsr_circuit.proofs.By.ReservationUsage
 use Rattle.hnsr_circuit.proofs.StructRow
-use Rattle.hnsr_circuit.proofs.places.Places
-use Rattle.hnsr_circuit.proofs.places.Places.Laws as Laws'
-use Rattle.hnsr_circuit.proofs.records.LedgerRoom
-use Rattle.hnsr_circuit.proofs.records.LedgerRoom.Laws as Laws''
+use Rattle.hnsr_circuit.proofs.tables.places.Places
+use Rattle.hnsr_circuit.proofs.tables.places.Places.Laws as Laws'
+use Rattle.hnsr_circuit.proofs.tables.scan.LedgerRoom
+use Rattle.hnsr_circuit.proofs.tables.scan.LedgerRoom.Laws as Laws''
 use borrow.Fn.Kinds
 use borrow.Kind.ShrSlice
 use mathlib.Core.List

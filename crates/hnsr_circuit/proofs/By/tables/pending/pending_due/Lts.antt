@@ -2,10 +2,10 @@
 use Prim.Native.Nat
 use Rattle.hnsr_circuit.proofs.By.RelayPending
 use Rattle.hnsr_circuit.proofs.StructRow
-use Rattle.hnsr_circuit.proofs.places.Places
-use Rattle.hnsr_circuit.proofs.places.Places.Laws
-use Rattle.hnsr_circuit.proofs.records.NextDue
-use Rattle.hnsr_circuit.proofs.records.NextDue.Laws as Laws'
+use Rattle.hnsr_circuit.proofs.runtime.NextDue
+use Rattle.hnsr_circuit.proofs.runtime.NextDue.Laws
+use Rattle.hnsr_circuit.proofs.tables.places.Places
+use Rattle.hnsr_circuit.proofs.tables.places.Places.Laws as Laws'
 use borrow.Author.Called
 use borrow.Author.Tests
 use borrow.Fn.Any
@@ -52,15 +52,14 @@ abbrev ref0 : Syntax.Ty
 ref0 = Syntax.tyRef (Syntax.named 0) Syntax.imm RelayPending.to
 
 abbrev pub ps : List.List (Kinds.PK 1)
-ps = (ShrSlice.pShrS RelayPending.row 0 tt) ∷ (StructRow.param Places.the-type Laws.the-laws Laws.the-copy
-    Laws.the-plain) ∷ (StructRow.enum-param NextDue.the-type Laws'.the-laws Laws'.the-copy Laws'.the-plain tt) ∷
-    List.[]
+ps = (ShrSlice.pShrS RelayPending.row 0 tt) ∷ (StructRow.param Places.the-type Laws'.the-laws Laws'.the-copy
+    Laws'.the-plain) ∷ (StructRow.enum-param NextDue.the-type Laws.the-laws Laws.the-copy Laws.the-plain tt) ∷ List.[]
 
 abbrev pub r : Kinds.RK 1
-r = StructRow.enum-result NextDue.the-type Laws'.the-laws Laws'.the-copy Laws'.the-plain tt
+r = StructRow.enum-result NextDue.the-type Laws.the-laws Laws.the-copy Laws.the-plain tt
 
 abbrev pub xs : List.List Syntax.Ty
-xs = (Syntax.tyInt Syntax.w64) ∷ (Syntax.tyInt Syntax.w64) ∷ Laws'.mir ∷ (Syntax.tyInt Syntax.w64) ∷ RelayPending.ty ∷
+xs = (Syntax.tyInt Syntax.w64) ∷ (Syntax.tyInt Syntax.w64) ∷ Laws.mir ∷ (Syntax.tyInt Syntax.w64) ∷ RelayPending.ty ∷
     Syntax.tyBool ∷ (Syntax.tyInt Syntax.w64) ∷ Syntax.tyPtr ∷ RelayPending.ty ∷ List.[]
 
 abbrev pub m : Nat.ℕ
@@ -73,11 +72,11 @@ abbrev pub r·0 : Kinds.RK 0
 r·0 = Num.rNum Syntax.w64
 
 abbrev pub ps·1 : List.List (Kinds.PK 0)
-ps·1 = (StructRow.enum-param NextDue.the-type Laws'.the-laws Laws'.the-copy Laws'.the-plain tt) ∷ RelayPending.param ∷
+ps·1 = (StructRow.enum-param NextDue.the-type Laws.the-laws Laws.the-copy Laws.the-plain tt) ∷ RelayPending.param ∷
     List.[]
 
 abbrev pub r·1 : Kinds.RK 0
-r·1 = StructRow.enum-result NextDue.the-type Laws'.the-laws Laws'.the-copy Laws'.the-plain tt
+r·1 = StructRow.enum-result NextDue.the-type Laws.the-laws Laws.the-copy Laws.the-plain tt
 
 abbrev pub hs : List.List Syntax.Home
 hs = Syntax.valueLocal ∷ Syntax.valueLocal ∷ Syntax.valueLocal ∷ Syntax.valueLocal ∷ Syntax.valueLocal ∷
@@ -126,7 +125,7 @@ abbrev b11 : Syntax.Body
 b11 = Syntax.assign (Syntax.place 8 List.[]) (Syntax.rvOpd (Syntax.copy (Syntax.place 12 List.[])))
 
 abbrev b12 : Syntax.Body
-b12 = Syntax.call "hnsr_circuit::scan::pending_due_turn" ((Syntax.copy (Syntax.place 6 List.[])) ∷
+b12 = Syntax.call "hnsr_circuit::tables::scan::pending_due_turn" ((Syntax.copy (Syntax.place 6 List.[])) ∷
     (Syntax.copy (Syntax.place 8 List.[])) ∷ List.[]) (Syntax.place 6 List.[])
 
 abbrev b13 : Syntax.Body
@@ -191,7 +190,7 @@ abbrev pub Claims : Type 1
 Claims = Kinds.In 0 ps·0 × Kinds.Out 0 ps·0 r·0 × Kinds.In 0 ps·1 × Kinds.Out 0 ps·1 r·1
 
 abbrev e0 : Row.Entry
-e0 = (0, Rows.any-gone Laws'.mir)
+e0 = (0, Rows.any-gone Laws.mir)
 
 abbrev e1 : Row.Entry
 e1 = (1, Rows.sslice RelayPending.row ref0 0)
@@ -209,7 +208,7 @@ abbrev e5 : Row.Entry
 e5 = (5, Rows.any-gone (Syntax.tyInt Syntax.w64))
 
 abbrev e6 : Row.Entry
-e6 = (6, Rows.any-gone Laws'.mir)
+e6 = (6, Rows.any-gone Laws.mir)
 
 abbrev e7 : Row.Entry
 e7 = (7, Rows.any-gone (Syntax.tyInt Syntax.w64))
@@ -233,10 +232,10 @@ abbrev e0·1 : Row.Entry
 e0·1 = (0, Rows.whole (Declared.row NextDue.the-type))
 
 abbrev e2·1 : Row.Entry
-e2·1 = (2, Rows.any-gone Laws.mir)
+e2·1 = (2, Rows.any-gone Laws'.mir)
 
 abbrev e3·1 : Row.Entry
-e3·1 = (3, Rows.any-gone Laws'.mir)
+e3·1 = (3, Rows.any-gone Laws.mir)
 
 abbrev e4·1 : Row.Entry
 e4·1 = (4, Rows.sc-here (Row.sInt Syntax.w64))
@@ -446,14 +445,14 @@ module _ (claims· : Claims) where
   s1 = Call.callB ps·0 r·0 (claims· .0) (claims· .1) T2 args1 5 List.[] (Syntax.tyInt Syntax.w64)
 
   abbrev s2 : Typed.Mo T3 → Typed.Mo T4
-  s2 = Scalar.n-room T3 2 Laws.mir
+  s2 = Scalar.n-room T3 2 Laws'.mir
 
   abbrev s3 : Typed.Mo T4 → Typed.Mo T5
   s3 = LocalCopy.n-val-copy T4 3 6 (Declared.row NextDue.the-type) (Rows.whole (Declared.row NextDue.the-type))
       (Rows.whole (Declared.row NextDue.the-type)) (λ x. x) (λ x. x) λ x. x
 
   abbrev s4 : Typed.Mo T5 → Typed.Mo T6
-  s4 = Scalar.n-room T5 3 Laws'.mir
+  s4 = Scalar.n-room T5 3 Laws.mir
 
   abbrev s5 : Typed.Mo T6 → Typed.Mo T7
   s5 = Scalar.n-use T6 (Scalar.oInt Syntax.w64 0) 7 (Rows.sc-here (Row.sInt Syntax.w64)) (Row.sInt Syntax.w64 .of)
@@ -501,7 +500,7 @@ module _ (claims· : Claims) where
   )
 
   abbrev s16 : Typed.Both T19 T20
-  s16 = Call.callB ps·1 r·1 (claims· .2) (claims· .3) T19 args16 6 List.[] Laws'.mir
+  s16 = Call.callB ps·1 r·1 (claims· .2) (claims· .3) T19 args16 6 List.[] Laws.mir
 
   abbrev s17 : Typed.Mo T20 → Typed.Mo T21
   s17 = Scalar.n-room T20 8 RelayPending.ty
@@ -522,7 +521,7 @@ module _ (claims· : Claims) where
   s21 = Scalar.n-room T24 5 (Syntax.tyInt Syntax.w64)
 
   abbrev s22 : Typed.Mo T25 → Typed.Mo T26
-  s22 = Scalar.n-room T25 6 Laws'.mir
+  s22 = Scalar.n-room T25 6 Laws.mir
 
   abbrev s23 : Typed.Mo T26 → Typed.Mo T27
   s23 = Scalar.n-room T26 7 (Syntax.tyInt Syntax.w64)
@@ -538,7 +537,7 @@ module _ (claims· : Claims) where
       abbrev pub Closed : Type 2
       Closed = (𝓤 : URA.URA M) (H : Wp.Heap 𝓤) (A : Atoms.Atoms 𝓤) (W : Kit.Given 𝓤 H A) (𝓣 : Wp.Tables 𝓤 H) (known0 :
           Plain.Known 𝓤 H A W 𝓣 0 ps·0 r·0 (claims· .0) (claims· .1) "hns_encoding::numbers::min_usize") (known1 :
-          Plain.Known 𝓤 H A W 𝓣 0 ps·1 r·1 (claims· .2) (claims· .3) "hnsr_circuit::scan::pending_due_turn") →
+          Plain.Known 𝓤 H A W 𝓣 0 ps·1 r·1 (claims· .2) (claims· .3) "hnsr_circuit::tables::scan::pending_due_turn") →
           Statement.Triple 𝓤 (Wp.WpFn 𝓤 H (𝓣 .C) (𝓣 .Λ) (Function.fnOf 1 ps r xs m hs body))
           (Function.plainOf 𝓤 H A 1 ps r Pre· Post·)
 
@@ -649,7 +648,7 @@ module _ (claims· : Claims) where
           (𝓣 : Wp.Tables 𝓤 H) where
         abbrev Knowns : Type 1
         Knowns = Plain.Known 𝓤 H A W 𝓣 0 ps·0 r·0 (claims· .0) (claims· .1) "hns_encoding::numbers::min_usize" ×
-            Plain.Known 𝓤 H A W 𝓣 0 ps·1 r·1 (claims· .2) (claims· .3) "hnsr_circuit::scan::pending_due_turn"
+            Plain.Known 𝓤 H A W 𝓣 0 ps·1 r·1 (claims· .2) (claims· .3) "hnsr_circuit::tables::scan::pending_due_turn"
 
       module _ (κs : Lifetimes.Lfts 1) (qs : Lifetimes.Shares 1) where
         abbrev life0 : Row.Life
@@ -793,13 +792,13 @@ module _ (claims· : Claims) where
 
           d7 : Typed.Typed 𝓤 H A 𝓣 E G19 b14 Δ3 at7
           d7 = Typed.s-seq 𝓤 H A W 𝓣 E G19 G20 b12 b13 Δ3 (Typed.both s16) at6 (Plain.t-call-plain 𝓤 H A W 𝓣 0 ps·1 r·1
-              (claims· .2) (claims· .3) "hnsr_circuit::scan::pending_due_turn" (known .1) E (λ pos β. β) G19 (
+              (claims· .2) (claims· .3) "hnsr_circuit::tables::scan::pending_due_turn" (known .1) E (λ pos β. β) G19 (
                 record { pos = 6; st = List.[]; d = 0; at = λ x. x },
                 (record { pos = 8; st = List.[]; d = 0; at = λ x. x }, tt),
               ) 6 List.[] (Call.sub-id 𝓤 H A W (G19 .slots)) (
                 (
                   Yields.yields-copy 𝓤 H A W (λ ρ. Unit) (Declared.row NextDue.the-type) Path.refl (Copies.cEnum
-                      NextDue.the-type Laws'.the-laws Laws'.the-copy .copy 𝓤 H A W)
+                      NextDue.the-type Laws.the-laws Laws.the-copy .copy 𝓤 H A W)
                       (Rows.whole (Declared.row NextDue.the-type)) (λ x. x) (λ x. x) (λ ρ told. Local.mem-whole 𝓤 H A W
                       (Declared.row NextDue.the-type) ρ) λ ρ told. Local.whole-mem 𝓤 H A W
                       (Declared.row NextDue.the-type) ρ,
@@ -815,7 +814,7 @@ module _ (claims· : Claims) where
                   ),
                   tt,
                 ),
-              ) (Local.room-whole 𝓤 H A W (Declared.row NextDue.the-type) Laws'.mir Path.refl) tt Path.refl) d6
+              ) (Local.room-whole 𝓤 H A W (Declared.row NextDue.the-type) Laws.mir Path.refl) tt Path.refl) d6
 
           d8 : Typed.Typed 𝓤 H A 𝓣 E G18 b14 Δ3 at8
           d8 = Typed.g-pre 𝓤 H A W 𝓣 E G18 G19 b14 Δ3 (Typed.pass T18 T19 s15) at7 (Scalar.g-room 𝓤 H A W E G18 12
@@ -900,7 +899,7 @@ module _ (claims· : Claims) where
 
           d21 : Typed.Typed 𝓤 H A 𝓣 E G25 b24 Δ0 at21
           d21 = Typed.g-pre 𝓤 H A W 𝓣 E G25 G26 b24 Δ0 (Typed.pass T25 T26 s22) at20 (Scalar.g-room 𝓤 H A W E G25 6
-              Laws'.mir (Local.room-whole 𝓤 H A W (Declared.row NextDue.the-type) Laws'.mir Path.refl)) d20
+              Laws.mir (Local.room-whole 𝓤 H A W (Declared.row NextDue.the-type) Laws.mir Path.refl)) d20
 
           d22 : Typed.Typed 𝓤 H A 𝓣 E G24 b24 Δ0 at22
           d22 = Typed.g-pre 𝓤 H A W 𝓣 E G24 G25 b24 Δ0 (Typed.pass T24 T25 s21) at21 (Scalar.g-room 𝓤 H A W E G24 5
@@ -912,13 +911,13 @@ module _ (claims· : Claims) where
 
           d24 : Typed.Typed 𝓤 H A 𝓣 E G8 b25 Δ0 at24
           d24 = Typed.s-seq 𝓤 H A W 𝓣 E G8 G23 b23 b24 Δ0 (Typed.pass T8 T23 s19) at23 (LocalCopy.t-val-copy 𝓤 H A W E
-              𝓣 (λ ρ. Unit) G8 6 0 (Declared.row NextDue.the-type) Laws'.mir Laws'.mir
+              𝓣 (λ ρ. Unit) G8 6 0 (Declared.row NextDue.the-type) Laws.mir Laws.mir
               (Rows.whole (Declared.row NextDue.the-type)) (Rows.whole (Declared.row NextDue.the-type)) (λ x. x)
               (λ x. x) (λ x. x) Path.refl (Own.told-none 𝓤 H A (G8 .slots)) (Yields.yields-copy 𝓤 H A W (λ ρ. Unit)
-              (Declared.row NextDue.the-type) Path.refl (Copies.cEnum NextDue.the-type Laws'.the-laws Laws'.the-copy
+              (Declared.row NextDue.the-type) Path.refl (Copies.cEnum NextDue.the-type Laws.the-laws Laws.the-copy
               .copy 𝓤 H A W) (Rows.whole (Declared.row NextDue.the-type)) (λ x. x) (λ x. x) (λ ρ told. Local.mem-whole
               𝓤 H A W (Declared.row NextDue.the-type) ρ) λ ρ told. Local.whole-mem 𝓤 H A W
-              (Declared.row NextDue.the-type) ρ) (Reads'.room-gone 𝓤 H A Laws'.mir) (Yields.makes-mem 𝓤 H A W
+              (Declared.row NextDue.the-type) ρ) (Reads'.room-gone 𝓤 H A Laws.mir) (Yields.makes-mem 𝓤 H A W
               (λ ρ. Unit) (Declared.row NextDue.the-type) Path.refl (Rows.whole (Declared.row NextDue.the-type))
               (λ x. x) λ ρ told. Local.whole-mem 𝓤 H A W (Declared.row NextDue.the-type) ρ) Path.refl Path.refl) d23
 
@@ -933,24 +932,24 @@ module _ (claims· : Claims) where
               Path.refl (λ u. Path.refl) λ u. tt) d25
 
           d27 : Typed.Typed 𝓤 H A 𝓣 E G5 b27 Δ0 at27
-          d27 = Typed.g-pre 𝓤 H A W 𝓣 E G5 G6 b27 Δ0 (Typed.pass T5 T6 s4) at26 (Scalar.g-room 𝓤 H A W E G5 3 Laws'.mir (Local.room-whole
-              𝓤 H A W (Declared.row NextDue.the-type) Laws'.mir Path.refl)) d26
+          d27 = Typed.g-pre 𝓤 H A W 𝓣 E G5 G6 b27 Δ0 (Typed.pass T5 T6 s4) at26 (Scalar.g-room 𝓤 H A W E G5 3 Laws.mir (Local.room-whole
+              𝓤 H A W (Declared.row NextDue.the-type) Laws.mir Path.refl)) d26
 
           d28 : Typed.Typed 𝓤 H A 𝓣 E G4 b28 Δ0 at28
           d28 = Typed.s-seq 𝓤 H A W 𝓣 E G4 G5 b2 b27 Δ0 (Typed.pass T4 T5 s3) at27 (LocalCopy.t-val-copy 𝓤 H A W E 𝓣
-              (λ ρ. Unit) G4 3 6 (Declared.row NextDue.the-type) Laws'.mir Laws'.mir
+              (λ ρ. Unit) G4 3 6 (Declared.row NextDue.the-type) Laws.mir Laws.mir
               (Rows.whole (Declared.row NextDue.the-type)) (Rows.whole (Declared.row NextDue.the-type)) (λ x. x)
               (λ x. x) (λ x. x) Path.refl (Own.told-none 𝓤 H A (G4 .slots)) (Yields.yields-copy 𝓤 H A W (λ ρ. Unit)
-              (Declared.row NextDue.the-type) Path.refl (Copies.cEnum NextDue.the-type Laws'.the-laws Laws'.the-copy
+              (Declared.row NextDue.the-type) Path.refl (Copies.cEnum NextDue.the-type Laws.the-laws Laws.the-copy
               .copy 𝓤 H A W) (Rows.whole (Declared.row NextDue.the-type)) (λ x. x) (λ x. x) (λ ρ told. Local.mem-whole
               𝓤 H A W (Declared.row NextDue.the-type) ρ) λ ρ told. Local.whole-mem 𝓤 H A W
-              (Declared.row NextDue.the-type) ρ) (Reads'.room-gone 𝓤 H A Laws'.mir) (Yields.makes-mem 𝓤 H A W
+              (Declared.row NextDue.the-type) ρ) (Reads'.room-gone 𝓤 H A Laws.mir) (Yields.makes-mem 𝓤 H A W
               (λ ρ. Unit) (Declared.row NextDue.the-type) Path.refl (Rows.whole (Declared.row NextDue.the-type))
               (λ x. x) λ ρ told. Local.whole-mem 𝓤 H A W (Declared.row NextDue.the-type) ρ) Path.refl Path.refl) d27
 
           d29 : Typed.Typed 𝓤 H A 𝓣 E G3 b28 Δ0 at29
-          d29 = Typed.g-pre 𝓤 H A W 𝓣 E G3 G4 b28 Δ0 (Typed.pass T3 T4 s2) at28 (Scalar.g-room 𝓤 H A W E G3 2 Laws.mir (Local.room-whole
-              𝓤 H A W (Declared'.row Places.the-type) Laws.mir Path.refl)) d28
+          d29 = Typed.g-pre 𝓤 H A W 𝓣 E G3 G4 b28 Δ0 (Typed.pass T3 T4 s2) at28 (Scalar.g-room 𝓤 H A W E G3 2 Laws'.mir (Local.room-whole
+              𝓤 H A W (Declared'.row Places.the-type) Laws'.mir Path.refl)) d28
 
           d30 : Typed.Typed 𝓤 H A 𝓣 E G2 b29 Δ0 at30
           d30 = Typed.s-seq 𝓤 H A W 𝓣 E G2 G3 b1 b28 Δ0 (Typed.both s1) at29 (Plain.t-call-plain 𝓤 H A W 𝓣 0 ps·0 r·0
@@ -959,7 +958,7 @@ module _ (claims· : Claims) where
                 (Num.vAt 4 λ x. x, tt),
               ) 5 List.[] (Call.sub-id 𝓤 H A W (G2 .slots)) (
                 (
-                  Reads.reads-field 𝓤 H A W Places.the-type Laws.the-laws 0 (Syntax.tyInt Syntax.w64) 0 Path.refl,
+                  Reads.reads-field 𝓤 H A W Places.the-type Laws'.the-laws 0 (Syntax.tyInt Syntax.w64) 0 Path.refl,
                   Path.refl,
                 ),
                 ((Scalar.reads-sc 𝓤 H A W (Row.sInt Syntax.w64), Path.refl), tt),
@@ -981,9 +980,10 @@ module _ (claims· : Claims) where
       module _ (κs : Lifetimes.Lfts 1) where
         pub record Args : Type 0 where
           pub pending : Kinds.Den {n = 1} κs (ShrSlice.pShrS RelayPending.row 0 tt)
-          pub places : Kinds.Den {n = 1} κs (StructRow.param Places.the-type Laws.the-laws Laws.the-copy Laws.the-plain)
-          pub due : Kinds.Den {n = 1} κs (StructRow.enum-param NextDue.the-type Laws'.the-laws Laws'.the-copy
-              Laws'.the-plain tt)
+          pub places : Kinds.Den {n = 1} κs (StructRow.param Places.the-type Laws'.the-laws Laws'.the-copy
+              Laws'.the-plain)
+          pub due : Kinds.Den {n = 1} κs (StructRow.enum-param NextDue.the-type Laws.the-laws Laws.the-copy
+              Laws.the-plain tt)
 
         abbrev pub dens : (a : Args) → Kinds.Dens κs ps
         dens = λ a. (a .pending, (a .places, (a .due, tt)))
@@ -1387,7 +1387,7 @@ module _ (claims· : Claims) where
         module _ {M : Type 1} (𝓤 : URA.URA M) (H : Wp.Heap 𝓤) (A : Atoms.Atoms 𝓤) (W : Kit.Given 𝓤 H A)
             (𝓣 : Wp.Tables 𝓤 H) (known0 : Plain.Known 𝓤 H A W 𝓣 0 ps·0 r·0 (claims· .0) (claims· .1)
             "hns_encoding::numbers::min_usize") (known1 : Plain.Known 𝓤 H A W 𝓣 0 ps·1 r·1 (claims· .2) (claims· .3)
-            "hnsr_circuit::scan::pending_due_turn") where
+            "hnsr_circuit::tables::scan::pending_due_turn") where
           pub spec : Statement.Triple 𝓤 (Wp.WpFn 𝓤 H (𝓣 .C) (𝓣 .Λ) (Function.fnOf 1 ps r xs m hs body))
               (Function.plainOf 𝓤 H A 1 ps r Pre· Post·)
           spec = Plain.t-fn-plain 𝓤 H A W 𝓣 1 ps r xs m hs body (λ κs qs bs. Φ) (λ κs qs bs bd. typed κs qs 𝓤 H A W 𝓣

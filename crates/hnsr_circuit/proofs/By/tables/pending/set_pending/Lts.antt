@@ -70,7 +70,7 @@ abbrev b0 : Syntax.Body
 b0 = Syntax.assign (Syntax.place 6 List.[]) (Syntax.rvOpd (Syntax.copy (Syntax.place 1 ((Syntax.field 1) ∷ List.[]))))
 
 abbrev b1 : Syntax.Body
-b1 = Syntax.call "hnsr_circuit::scan::within" ((Syntax.copy (Syntax.place 2 List.[])) ∷
+b1 = Syntax.call "hnsr_circuit::tables::scan::within" ((Syntax.copy (Syntax.place 2 List.[])) ∷
     (Syntax.copy (Syntax.place 3 List.[])) ∷ (Syntax.copy (Syntax.place 6 List.[])) ∷ List.[]) (Syntax.place 5 List.[])
 
 abbrev b2 : Syntax.Body
@@ -330,8 +330,9 @@ module _ (claims· : Claims) where
     module _ (M : Type 1) where
       abbrev pub Closed : Type 2
       Closed = (𝓤 : URA.URA M) (H : Wp.Heap 𝓤) (A : Atoms.Atoms 𝓤) (W : Kit.Given 𝓤 H A) (𝓣 : Wp.Tables 𝓤 H) (known0 :
-          Plain.Known 𝓤 H A W 𝓣 0 ps·0 r·0 (claims· .0) (claims· .1) "hnsr_circuit::scan::within") → Statement.Triple 𝓤 (Wp.WpFn
-          𝓤 H (𝓣 .C) (𝓣 .Λ) (Function.fnOf 1 ps r xs m hs body)) (Function.plainOf 𝓤 H A 1 ps r Pre· Post·)
+          Plain.Known 𝓤 H A W 𝓣 0 ps·0 r·0 (claims· .0) (claims· .1) "hnsr_circuit::tables::scan::within") →
+          Statement.Triple 𝓤 (Wp.WpFn 𝓤 H (𝓣 .C) (𝓣 .Λ) (Function.fnOf 1 ps r xs m hs body))
+          (Function.plainOf 𝓤 H A 1 ps r Pre· Post·)
 
     module _ where
       abbrev at0 : Typed.TF T8 O1
@@ -388,7 +389,7 @@ module _ (claims· : Claims) where
       module _ {M : Type 1} (𝓤 : URA.URA M) (H : Wp.Heap 𝓤) (A : Atoms.Atoms 𝓤) (W : Kit.Given 𝓤 H A)
           (𝓣 : Wp.Tables 𝓤 H) where
         abbrev Knowns : Type 1
-        Knowns = Plain.Known 𝓤 H A W 𝓣 0 ps·0 r·0 (claims· .0) (claims· .1) "hnsr_circuit::scan::within"
+        Knowns = Plain.Known 𝓤 H A W 𝓣 0 ps·0 r·0 (claims· .0) (claims· .1) "hnsr_circuit::tables::scan::within"
 
       module _ (κs : Lifetimes.Lfts 1) (qs : Lifetimes.Shares 1) where
         abbrev life0 : Row.Life
@@ -539,7 +540,7 @@ module _ (claims· : Claims) where
 
           d14 : Typed.Typed 𝓤 H A 𝓣 E G2 b13 Δ0 at14
           d14 = Typed.s-seq 𝓤 H A W 𝓣 E G2 G3 b1 b12 Δ0 (Typed.both s1) at13 (Plain.t-call-plain 𝓤 H A W 𝓣 0 ps·0 r·0
-              (claims· .0) (claims· .1) "hnsr_circuit::scan::within" known E (λ pos β. β) G2 (
+              (claims· .0) (claims· .1) "hnsr_circuit::tables::scan::within" known E (λ pos β. β) G2 (
                 Bool.bAt 2 λ x. x,
                 (Num.vAt 3 λ x. x, (Num.vAt 6 λ x. x, tt)),
               ) 5 List.[] (Call.sub-id 𝓤 H A W (G2 .slots)) (
@@ -778,7 +779,7 @@ module _ (claims· : Claims) where
 
         module _ {M : Type 1} (𝓤 : URA.URA M) (H : Wp.Heap 𝓤) (A : Atoms.Atoms 𝓤) (W : Kit.Given 𝓤 H A)
             (𝓣 : Wp.Tables 𝓤 H) (known0 : Plain.Known 𝓤 H A W 𝓣 0 ps·0 r·0 (claims· .0) (claims· .1)
-            "hnsr_circuit::scan::within") where
+            "hnsr_circuit::tables::scan::within") where
           pub spec : Statement.Triple 𝓤 (Wp.WpFn 𝓤 H (𝓣 .C) (𝓣 .Λ) (Function.fnOf 1 ps r xs m hs body))
               (Function.plainOf 𝓤 H A 1 ps r Pre· Post·)
           spec = Plain.t-fn-plain 𝓤 H A W 𝓣 1 ps r xs m hs body (λ κs qs bs. Φ)

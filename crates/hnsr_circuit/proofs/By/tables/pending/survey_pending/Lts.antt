@@ -2,14 +2,14 @@
 use Prim.Native.Nat
 use Rattle.hnsr_circuit.proofs.By.RelayPending
 use Rattle.hnsr_circuit.proofs.StructRow
-use Rattle.hnsr_circuit.proofs.places.Places
-use Rattle.hnsr_circuit.proofs.places.Places.Laws
-use Rattle.hnsr_circuit.proofs.records.Question
-use Rattle.hnsr_circuit.proofs.records.Question.Laws as Laws'
-use Rattle.hnsr_circuit.proofs.records.Survey
-use Rattle.hnsr_circuit.proofs.records.Survey.Laws as Laws''
-use Rattle.hnsr_circuit.proofs.records.Walked
-use Rattle.hnsr_circuit.proofs.records.Walked.Laws as Laws'''
+use Rattle.hnsr_circuit.proofs.tables.places.Places
+use Rattle.hnsr_circuit.proofs.tables.places.Places.Laws
+use Rattle.hnsr_circuit.proofs.tables.question.Question
+use Rattle.hnsr_circuit.proofs.tables.question.Question.Laws as Laws'
+use Rattle.hnsr_circuit.proofs.tables.scan.Survey
+use Rattle.hnsr_circuit.proofs.tables.scan.Survey.Laws as Laws''
+use Rattle.hnsr_circuit.proofs.tables.scan.Walked
+use Rattle.hnsr_circuit.proofs.tables.scan.Walked.Laws as Laws'''
 use borrow.Author.Called
 use borrow.Author.Tests
 use borrow.Fn.Any
@@ -123,7 +123,7 @@ b1 = Syntax.call "hns_encoding::numbers::min_usize" ((Syntax.copy (Syntax.place 
     (Syntax.copy (Syntax.place 4 List.[])) ∷ List.[]) (Syntax.place 5 List.[])
 
 abbrev b2 : Syntax.Body
-b2 = Syntax.call "hnsr_circuit::scan::not_yet" List.[] (Syntax.place 6 List.[])
+b2 = Syntax.call "hnsr_circuit::tables::scan::not_yet" List.[] (Syntax.place 6 List.[])
 
 abbrev b3 : Syntax.Body
 b3 = Syntax.assign (Syntax.place 7 List.[]) (Syntax.rvOpd (Syntax.int Syntax.w64 0))
@@ -163,15 +163,15 @@ abbrev b13 : Syntax.Body
 b13 = Syntax.assign (Syntax.place 10 List.[]) (Syntax.rvOpd (Syntax.copy (Syntax.place 15 List.[])))
 
 abbrev b14 : Syntax.Body
-b14 = Syntax.call "hnsr_circuit::pending::is_pending" ((Syntax.copy (Syntax.place 10 List.[])) ∷ List.[])
+b14 = Syntax.call "hnsr_circuit::records::pending::is_pending" ((Syntax.copy (Syntax.place 10 List.[])) ∷ List.[])
     (Syntax.place 11 List.[])
 
 abbrev b15 : Syntax.Body
-b15 = Syntax.call "hnsr_circuit::scan::one_more" ((Syntax.copy (Syntax.place 7 List.[])) ∷
+b15 = Syntax.call "hnsr_circuit::tables::scan::one_more" ((Syntax.copy (Syntax.place 7 List.[])) ∷
     (Syntax.copy (Syntax.place 11 List.[])) ∷ List.[]) (Syntax.place 7 List.[])
 
 abbrev b16 : Syntax.Body
-b16 = Syntax.call "hnsr_circuit::scan::pending_turn" ((Syntax.copy (Syntax.place 3 List.[])) ∷
+b16 = Syntax.call "hnsr_circuit::tables::scan::pending_turn" ((Syntax.copy (Syntax.place 3 List.[])) ∷
     (Syntax.copy (Syntax.place 6 List.[])) ∷ (Syntax.copy (Syntax.place 8 List.[])) ∷
     (Syntax.copy (Syntax.place 10 List.[])) ∷ (Syntax.copy (Syntax.place 9 List.[])) ∷ List.[])
     (Syntax.place 8 List.[])
@@ -214,7 +214,7 @@ abbrev b28 : Syntax.Body
 b28 = Syntax.block b27
 
 abbrev b29 : Syntax.Body
-b29 = Syntax.call "hnsr_circuit::scan::surveyed" ((Syntax.copy (Syntax.place 7 List.[])) ∷
+b29 = Syntax.call "hnsr_circuit::tables::scan::surveyed" ((Syntax.copy (Syntax.place 7 List.[])) ∷
     (Syntax.copy (Syntax.place 8 List.[])) ∷ List.[]) (Syntax.place 0 List.[])
 
 abbrev b30 : Syntax.Body
@@ -700,11 +700,11 @@ module _ (claims· : Claims) where
       abbrev pub Closed : Type 2
       Closed = (𝓤 : URA.URA M) (H : Wp.Heap 𝓤) (A : Atoms.Atoms 𝓤) (W : Kit.Given 𝓤 H A) (𝓣 : Wp.Tables 𝓤 H) (known0 :
           Plain.Known 𝓤 H A W 𝓣 0 ps·0 r·0 (claims· .0) (claims· .1) "hns_encoding::numbers::min_usize") (known1 :
-          Plain.Known 𝓤 H A W 𝓣 0 ps·1 r·1 (claims· .2) (claims· .3) "hnsr_circuit::scan::not_yet") (known2 :
-          Plain.Known 𝓤 H A W 𝓣 0 ps·2 r·2 (claims· .4) (claims· .5) "hnsr_circuit::pending::is_pending") (known3 :
-          Plain.Known 𝓤 H A W 𝓣 0 ps·3 r·3 (claims· .6) (claims· .7) "hnsr_circuit::scan::one_more") (known4 :
-          Plain.Known 𝓤 H A W 𝓣 0 ps·4 r·4 (claims· .8) (claims· .9) "hnsr_circuit::scan::pending_turn") (known5 :
-          Plain.Known 𝓤 H A W 𝓣 0 ps·5 r·5 (claims· .10) (claims· .11) "hnsr_circuit::scan::surveyed") →
+          Plain.Known 𝓤 H A W 𝓣 0 ps·1 r·1 (claims· .2) (claims· .3) "hnsr_circuit::tables::scan::not_yet") (known2 :
+          Plain.Known 𝓤 H A W 𝓣 0 ps·2 r·2 (claims· .4) (claims· .5) "hnsr_circuit::records::pending::is_pending") (known3
+          : Plain.Known 𝓤 H A W 𝓣 0 ps·3 r·3 (claims· .6) (claims· .7) "hnsr_circuit::tables::scan::one_more") (known4
+          : Plain.Known 𝓤 H A W 𝓣 0 ps·4 r·4 (claims· .8) (claims· .9) "hnsr_circuit::tables::scan::pending_turn") (known5
+          : Plain.Known 𝓤 H A W 𝓣 0 ps·5 r·5 (claims· .10) (claims· .11) "hnsr_circuit::tables::scan::surveyed") →
           Statement.Triple 𝓤 (Wp.WpFn 𝓤 H (𝓣 .C) (𝓣 .Λ) (Function.fnOf 1 ps r xs m hs body))
           (Function.plainOf 𝓤 H A 1 ps r Pre· Post·)
 
@@ -835,11 +835,11 @@ module _ (claims· : Claims) where
           (𝓣 : Wp.Tables 𝓤 H) where
         abbrev Knowns : Type 1
         Knowns = Plain.Known 𝓤 H A W 𝓣 0 ps·0 r·0 (claims· .0) (claims· .1) "hns_encoding::numbers::min_usize" ×
-            Plain.Known 𝓤 H A W 𝓣 0 ps·1 r·1 (claims· .2) (claims· .3) "hnsr_circuit::scan::not_yet" × Plain.Known 𝓤 H
-            A W 𝓣 0 ps·2 r·2 (claims· .4) (claims· .5) "hnsr_circuit::pending::is_pending" × Plain.Known 𝓤 H A W 𝓣 0
-            ps·3 r·3 (claims· .6) (claims· .7) "hnsr_circuit::scan::one_more" × Plain.Known 𝓤 H A W 𝓣 0 ps·4 r·4
-            (claims· .8) (claims· .9) "hnsr_circuit::scan::pending_turn" × Plain.Known 𝓤 H A W 𝓣 0 ps·5 r·5
-            (claims· .10) (claims· .11) "hnsr_circuit::scan::surveyed"
+            Plain.Known 𝓤 H A W 𝓣 0 ps·1 r·1 (claims· .2) (claims· .3) "hnsr_circuit::tables::scan::not_yet" ×
+            Plain.Known 𝓤 H A W 𝓣 0 ps·2 r·2 (claims· .4) (claims· .5) "hnsr_circuit::records::pending::is_pending" ×
+            Plain.Known 𝓤 H A W 𝓣 0 ps·3 r·3 (claims· .6) (claims· .7) "hnsr_circuit::tables::scan::one_more" ×
+            Plain.Known 𝓤 H A W 𝓣 0 ps·4 r·4 (claims· .8) (claims· .9) "hnsr_circuit::tables::scan::pending_turn" ×
+            Plain.Known 𝓤 H A W 𝓣 0 ps·5 r·5 (claims· .10) (claims· .11) "hnsr_circuit::tables::scan::surveyed"
 
       module _ (κs : Lifetimes.Lfts 1) (qs : Lifetimes.Shares 1) where
         abbrev life0 : Row.Life
@@ -1014,7 +1014,7 @@ module _ (claims· : Claims) where
 
           d9 : Typed.Typed 𝓤 H A 𝓣 E G24 b18 Δ3 at9
           d9 = Typed.s-seq 𝓤 H A W 𝓣 E G24 G25 b16 b17 Δ3 (Typed.both s21) at8 (Plain.t-call-plain 𝓤 H A W 𝓣 0 ps·4 r·4
-              (claims· .8) (claims· .9) "hnsr_circuit::scan::pending_turn" (known .4) E (λ pos β. β) G24 (
+              (claims· .8) (claims· .9) "hnsr_circuit::tables::scan::pending_turn" (known .4) E (λ pos β. β) G24 (
                 record { pos = 3; st = List.[]; d = 0; at = λ x. x },
                 (
                   record { pos = 6; st = List.[]; d = 0; at = λ x. x },
@@ -1066,7 +1066,7 @@ module _ (claims· : Claims) where
 
           d10 : Typed.Typed 𝓤 H A 𝓣 E G23 b19 Δ3 at10
           d10 = Typed.s-seq 𝓤 H A W 𝓣 E G23 G24 b15 b18 Δ3 (Typed.both s20) at9 (Plain.t-call-plain 𝓤 H A W 𝓣 0 ps·3
-              r·3 (claims· .6) (claims· .7) "hnsr_circuit::scan::one_more" (known .3) E (λ pos β. β) G23
+              r·3 (claims· .6) (claims· .7) "hnsr_circuit::tables::scan::one_more" (known .3) E (λ pos β. β) G23
               (Num.vAt 7 λ x. x, (Bool.bAt 11 λ x. x, tt)) 7 List.[] (Call.sub-id 𝓤 H A W (G23 .slots)) (
                 (Scalar.reads-sc 𝓤 H A W (Row.sInt Syntax.w64), Path.refl),
                 ((Scalar.reads-sc 𝓤 H A W Row.sBool, Path.refl), tt),
@@ -1074,7 +1074,7 @@ module _ (claims· : Claims) where
 
           d11 : Typed.Typed 𝓤 H A 𝓣 E G22 b20 Δ3 at11
           d11 = Typed.s-seq 𝓤 H A W 𝓣 E G22 G23 b14 b19 Δ3 (Typed.both s19) at10 (Plain.t-call-plain 𝓤 H A W 𝓣 0 ps·2
-              r·2 (claims· .4) (claims· .5) "hnsr_circuit::pending::is_pending" (known .2) E (λ pos β. β) G22
+              r·2 (claims· .4) (claims· .5) "hnsr_circuit::records::pending::is_pending" (known .2) E (λ pos β. β) G22
               (record { pos = 10; st = List.[]; d = 0; at = λ x. x }, tt) 11 List.[] (Call.sub-id 𝓤 H A W (G22 .slots)) (
                 (
                   Yields.yields-copy 𝓤 H A W (λ ρ. Unit) RelayPending.row Path.refl (RelayPending.copies .copy 𝓤 H A W)
@@ -1186,7 +1186,7 @@ module _ (claims· : Claims) where
 
           d29 : Typed.Typed 𝓤 H A 𝓣 E G9 b31 Δ0 at29
           d29 = Typed.s-seq 𝓤 H A W 𝓣 E G9 G29 b29 b30 Δ0 (Typed.both s25) at28 (Plain.t-call-plain 𝓤 H A W 𝓣 0 ps·5
-              r·5 (claims· .10) (claims· .11) "hnsr_circuit::scan::surveyed" (known .5) E (λ pos β. β) G9 (
+              r·5 (claims· .10) (claims· .11) "hnsr_circuit::tables::scan::surveyed" (known .5) E (λ pos β. β) G9 (
                 Num.vAt 7 λ x. x,
                 (record { pos = 8; st = List.[]; d = 0; at = λ x. x }, tt),
               ) 0 List.[] (Call.sub-id 𝓤 H A W (G9 .slots)) (
@@ -1235,7 +1235,7 @@ module _ (claims· : Claims) where
 
           d34 : Typed.Typed 𝓤 H A 𝓣 E G4 b36 Δ0 at34
           d34 = Typed.s-seq 𝓤 H A W 𝓣 E G4 G5 b2 b35 Δ0 (Typed.both s3) at33 (Plain.t-call-plain 𝓤 H A W 𝓣 0 ps·1 r·1
-              (claims· .2) (claims· .3) "hnsr_circuit::scan::not_yet" (known .1) E (λ pos β. β) G4 tt 6 List.[]
+              (claims· .2) (claims· .3) "hnsr_circuit::tables::scan::not_yet" (known .1) E (λ pos β. β) G4 tt 6 List.[]
               (Call.sub-id 𝓤 H A W (G4 .slots)) tt (Reads'.room-gone 𝓤 H A Laws'''.mir) tt Path.refl) d33
 
           d35 : Typed.Typed 𝓤 H A 𝓣 E G3 b36 Δ0 at35
@@ -1888,11 +1888,11 @@ module _ (claims· : Claims) where
         module _ {M : Type 1} (𝓤 : URA.URA M) (H : Wp.Heap 𝓤) (A : Atoms.Atoms 𝓤) (W : Kit.Given 𝓤 H A)
             (𝓣 : Wp.Tables 𝓤 H) (known0 : Plain.Known 𝓤 H A W 𝓣 0 ps·0 r·0 (claims· .0) (claims· .1)
             "hns_encoding::numbers::min_usize") (known1 : Plain.Known 𝓤 H A W 𝓣 0 ps·1 r·1 (claims· .2) (claims· .3)
-            "hnsr_circuit::scan::not_yet") (known2 : Plain.Known 𝓤 H A W 𝓣 0 ps·2 r·2 (claims· .4) (claims· .5)
-            "hnsr_circuit::pending::is_pending") (known3 : Plain.Known 𝓤 H A W 𝓣 0 ps·3 r·3 (claims· .6) (claims· .7)
-            "hnsr_circuit::scan::one_more") (known4 : Plain.Known 𝓤 H A W 𝓣 0 ps·4 r·4 (claims· .8) (claims· .9)
-            "hnsr_circuit::scan::pending_turn") (known5 : Plain.Known 𝓤 H A W 𝓣 0 ps·5 r·5 (claims· .10) (claims· .11)
-            "hnsr_circuit::scan::surveyed") where
+            "hnsr_circuit::tables::scan::not_yet") (known2 : Plain.Known 𝓤 H A W 𝓣 0 ps·2 r·2 (claims· .4) (claims· .5)
+            "hnsr_circuit::records::pending::is_pending") (known3 : Plain.Known 𝓤 H A W 𝓣 0 ps·3 r·3 (claims· .6)
+            (claims· .7) "hnsr_circuit::tables::scan::one_more") (known4 : Plain.Known 𝓤 H A W 𝓣 0 ps·4 r·4
+            (claims· .8) (claims· .9) "hnsr_circuit::tables::scan::pending_turn") (known5 : Plain.Known 𝓤 H A W 𝓣 0
+            ps·5 r·5 (claims· .10) (claims· .11) "hnsr_circuit::tables::scan::surveyed") where
           pub spec : Statement.Triple 𝓤 (Wp.WpFn 𝓤 H (𝓣 .C) (𝓣 .Λ) (Function.fnOf 1 ps r xs m hs body))
               (Function.plainOf 𝓤 H A 1 ps r Pre· Post·)
           spec = Plain.t-fn-plain 𝓤 H A W 𝓣 1 ps r xs m hs body (λ κs qs bs. Φ) (λ κs qs bs bd. typed κs qs 𝓤 H A W 𝓣

@@ -2,9 +2,9 @@
 use Rattle.hnsr_circuit.proofs.By.tables.circuits.charge.Kinds
 use Rattle.hnsr_circuit.proofs.By.tables.circuits.charge.Lts
 use Rattle.hnsr_circuit.proofs.By.tables.circuits.charge.Reads
-use Rattle.hnsr_circuit.proofs.circuits.circuit_charged.Met
-use Rattle.hnsr_circuit.proofs.circuits.circuit_charged.Reads as Reads'
-use Rattle.hnsr_circuit.proofs.circuits.circuit_charged.Symbol
+use Rattle.hnsr_circuit.proofs.records.circuits.circuit_charged.Met
+use Rattle.hnsr_circuit.proofs.records.circuits.circuit_charged.Reads as Reads'
+use Rattle.hnsr_circuit.proofs.records.circuits.circuit_charged.Symbol
 use Rattle.hnsr_circuit.proofs.tables.circuits.charge.Code
 use Rattle.hnsr_circuit.proofs.tables.circuits.charge.Key
 use Rattle.hnsr_circuit.proofs.tables.circuits.charge.Statement
@@ -43,4 +43,4 @@ module _ {M : Type 1} where
       record { M = M; 𝓤 = 𝓤; H = H; 𝓜 = 𝓜; 𝓖 = 𝓖; 𝓡 = 𝓡 }) (Reads.passes
       record { M = M; 𝓤 = 𝓤; H = H; 𝓜 = 𝓜; 𝓖 = 𝓖; 𝓡 = 𝓡 }) λ g. closed 𝓤 H (𝓖 .A) (Running.givenOf 𝓤 H 𝓜 𝓖)
       (Run.Over 𝓤 H 𝓜 𝓖 𝓡 Code.env) (Reads'.known record { M = M; 𝓤 = 𝓤; H = H; 𝓜 = 𝓜; 𝓖 = 𝓖; 𝓡 = 𝓡 } Code.env
-      Symbol.name Symbol.routine Code.calls-hnsr-circuit·circuits·circuit-charged (Met.met 𝓤 H 𝓜 𝓖 𝓡))
+      Symbol.name Symbol.routine Code.calls-hnsr-circuit·records·circuits·circuit-charged (Met.met 𝓤 H 𝓜 𝓖 𝓡))

@@ -5,15 +5,15 @@ use Rattle.hns_encoding.proofs.numbers.min_usize.Symbol
 use Rattle.hnsr_circuit.proofs.By.tables.circuits.circuit_work.Kinds
 use Rattle.hnsr_circuit.proofs.By.tables.circuits.circuit_work.Lts
 use Rattle.hnsr_circuit.proofs.By.tables.circuits.circuit_work.Reads as Reads'
-use Rattle.hnsr_circuit.proofs.scan.circuit_worked.Met as Met'
-use Rattle.hnsr_circuit.proofs.scan.circuit_worked.Reads as Reads''
-use Rattle.hnsr_circuit.proofs.scan.circuit_worked.Symbol as Symbol'
-use Rattle.hnsr_circuit.proofs.scan.no_work.Met as Met''
-use Rattle.hnsr_circuit.proofs.scan.no_work.Reads as Reads'''
-use Rattle.hnsr_circuit.proofs.scan.no_work.Symbol as Symbol''
 use Rattle.hnsr_circuit.proofs.tables.circuits.circuit_work.Code
 use Rattle.hnsr_circuit.proofs.tables.circuits.circuit_work.Key
 use Rattle.hnsr_circuit.proofs.tables.circuits.circuit_work.Statement
+use Rattle.hnsr_circuit.proofs.tables.scan.circuit_worked.Met as Met'
+use Rattle.hnsr_circuit.proofs.tables.scan.circuit_worked.Reads as Reads''
+use Rattle.hnsr_circuit.proofs.tables.scan.circuit_worked.Symbol as Symbol'
+use Rattle.hnsr_circuit.proofs.tables.scan.no_work.Met as Met''
+use Rattle.hnsr_circuit.proofs.tables.scan.no_work.Reads as Reads'''
+use Rattle.hnsr_circuit.proofs.tables.scan.no_work.Symbol as Symbol''
 use borrow.Fn.Run
 use borrow.Fn.Written
 use contract.Running
@@ -101,6 +101,6 @@ module _ {M : Type 1} where
       (Run.Over 𝓤 H 𝓜 𝓖 𝓡 Code.env) (Reads.known record { M = M; 𝓤 = 𝓤; H = H; 𝓜 = 𝓜; 𝓖 = 𝓖; 𝓡 = 𝓡 } Code.env
       Symbol.name Symbol.routine Code.calls-hns-encoding·numbers·min-usize (Met.met 𝓤 H 𝓜 𝓖 𝓡)) (Reads'''.known
       record { M = M; 𝓤 = 𝓤; H = H; 𝓜 = 𝓜; 𝓖 = 𝓖; 𝓡 = 𝓡 } Code.env Symbol''.name Symbol''.routine
-      Code.calls-hnsr-circuit·scan·no-work (Met''.met 𝓤 H 𝓜 𝓖 𝓡)) (Reads''.known
+      Code.calls-hnsr-circuit·tables·scan·no-work (Met''.met 𝓤 H 𝓜 𝓖 𝓡)) (Reads''.known
       record { M = M; 𝓤 = 𝓤; H = H; 𝓜 = 𝓜; 𝓖 = 𝓖; 𝓡 = 𝓡 } Code.env Symbol'.name Symbol'.routine
-      Code.calls-hnsr-circuit·scan·circuit-worked (Met'.met 𝓤 H 𝓜 𝓖 𝓡))
+      Code.calls-hnsr-circuit·tables·scan·circuit-worked (Met'.met 𝓤 H 𝓜 𝓖 𝓡))

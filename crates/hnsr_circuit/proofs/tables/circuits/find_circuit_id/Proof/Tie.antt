@@ -5,9 +5,9 @@ use Rattle.hns_encoding.proofs.numbers.min_usize.Symbol
 use Rattle.hnsr_circuit.proofs.By.tables.circuits.find_circuit_id.Kinds
 use Rattle.hnsr_circuit.proofs.By.tables.circuits.find_circuit_id.Lts
 use Rattle.hnsr_circuit.proofs.By.tables.circuits.find_circuit_id.Reads as Reads'
-use Rattle.hnsr_circuit.proofs.circuits.circuit_is.Met as Met'
-use Rattle.hnsr_circuit.proofs.circuits.circuit_is.Reads as Reads''
-use Rattle.hnsr_circuit.proofs.circuits.circuit_is.Symbol as Symbol'
+use Rattle.hnsr_circuit.proofs.records.circuits.circuit_is.Met as Met'
+use Rattle.hnsr_circuit.proofs.records.circuits.circuit_is.Reads as Reads''
+use Rattle.hnsr_circuit.proofs.records.circuits.circuit_is.Symbol as Symbol'
 use Rattle.hnsr_circuit.proofs.tables.circuits.find_circuit_id.Code
 use Rattle.hnsr_circuit.proofs.tables.circuits.find_circuit_id.Key
 use Rattle.hnsr_circuit.proofs.tables.circuits.find_circuit_id.Statement
@@ -101,4 +101,4 @@ module _ {M : Type 1} where
       (Run.Over 𝓤 H 𝓜 𝓖 𝓡 Code.env) (Reads.known record { M = M; 𝓤 = 𝓤; H = H; 𝓜 = 𝓜; 𝓖 = 𝓖; 𝓡 = 𝓡 } Code.env
       Symbol.name Symbol.routine Code.calls-hns-encoding·numbers·min-usize (Met.met 𝓤 H 𝓜 𝓖 𝓡)) (Reads''.known
       record { M = M; 𝓤 = 𝓤; H = H; 𝓜 = 𝓜; 𝓖 = 𝓖; 𝓡 = 𝓡 } Code.env Symbol'.name Symbol'.routine
-      Code.calls-hnsr-circuit·circuits·circuit-is (Met'.met 𝓤 H 𝓜 𝓖 𝓡))
+      Code.calls-hnsr-circuit·records·circuits·circuit-is (Met'.met 𝓤 H 𝓜 𝓖 𝓡))

@@ -2,12 +2,12 @@
 use Rattle.hnsr_circuit.proofs.By.tables.circuits.set_circuit.Kinds
 use Rattle.hnsr_circuit.proofs.By.tables.circuits.set_circuit.Lts
 use Rattle.hnsr_circuit.proofs.By.tables.circuits.set_circuit.Reads
-use Rattle.hnsr_circuit.proofs.scan.within.Met
-use Rattle.hnsr_circuit.proofs.scan.within.Reads as Reads'
-use Rattle.hnsr_circuit.proofs.scan.within.Symbol
 use Rattle.hnsr_circuit.proofs.tables.circuits.set_circuit.Code
 use Rattle.hnsr_circuit.proofs.tables.circuits.set_circuit.Key
 use Rattle.hnsr_circuit.proofs.tables.circuits.set_circuit.Statement
+use Rattle.hnsr_circuit.proofs.tables.scan.within.Met
+use Rattle.hnsr_circuit.proofs.tables.scan.within.Reads as Reads'
+use Rattle.hnsr_circuit.proofs.tables.scan.within.Symbol
 use borrow.Fn.Run
 use borrow.Fn.Written
 use contract.Running
@@ -60,4 +60,4 @@ module _ {M : Type 1} where
       record { M = M; 𝓤 = 𝓤; H = H; 𝓜 = 𝓜; 𝓖 = 𝓖; 𝓡 = 𝓡 }) (Reads.passes
       record { M = M; 𝓤 = 𝓤; H = H; 𝓜 = 𝓜; 𝓖 = 𝓖; 𝓡 = 𝓡 }) λ g. closed 𝓤 H (𝓖 .A) (Running.givenOf 𝓤 H 𝓜 𝓖)
       (Run.Over 𝓤 H 𝓜 𝓖 𝓡 Code.env) (Reads'.known record { M = M; 𝓤 = 𝓤; H = H; 𝓜 = 𝓜; 𝓖 = 𝓖; 𝓡 = 𝓡 } Code.env
-      Symbol.name Symbol.routine Code.calls-hnsr-circuit·scan·within (Met.met 𝓤 H 𝓜 𝓖 𝓡))
+      Symbol.name Symbol.routine Code.calls-hnsr-circuit·tables·scan·within (Met.met 𝓤 H 𝓜 𝓖 𝓡))

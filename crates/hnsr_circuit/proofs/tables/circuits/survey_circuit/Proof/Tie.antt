@@ -5,24 +5,24 @@ use Rattle.hns_encoding.proofs.numbers.min_usize.Symbol
 use Rattle.hnsr_circuit.proofs.By.tables.circuits.survey_circuit.Kinds
 use Rattle.hnsr_circuit.proofs.By.tables.circuits.survey_circuit.Lts
 use Rattle.hnsr_circuit.proofs.By.tables.circuits.survey_circuit.Reads as Reads'
-use Rattle.hnsr_circuit.proofs.circuits.is_circuit.Met as Met'
-use Rattle.hnsr_circuit.proofs.circuits.is_circuit.Reads as Reads''
-use Rattle.hnsr_circuit.proofs.circuits.is_circuit.Symbol as Symbol'
-use Rattle.hnsr_circuit.proofs.scan.circuit_turn.Met as Met''
-use Rattle.hnsr_circuit.proofs.scan.circuit_turn.Reads as Reads'''
-use Rattle.hnsr_circuit.proofs.scan.circuit_turn.Symbol as Symbol''
-use Rattle.hnsr_circuit.proofs.scan.not_yet.Met as Met'''
-use Rattle.hnsr_circuit.proofs.scan.not_yet.Reads as Reads''''
-use Rattle.hnsr_circuit.proofs.scan.not_yet.Symbol as Symbol'''
-use Rattle.hnsr_circuit.proofs.scan.one_more.Met as Met''''
-use Rattle.hnsr_circuit.proofs.scan.one_more.Reads as Reads'''''
-use Rattle.hnsr_circuit.proofs.scan.one_more.Symbol as Symbol''''
-use Rattle.hnsr_circuit.proofs.scan.surveyed.Met as Met'''''
-use Rattle.hnsr_circuit.proofs.scan.surveyed.Reads as Reads''''''
-use Rattle.hnsr_circuit.proofs.scan.surveyed.Symbol as Symbol'''''
+use Rattle.hnsr_circuit.proofs.records.circuits.is_circuit.Met as Met'
+use Rattle.hnsr_circuit.proofs.records.circuits.is_circuit.Reads as Reads''
+use Rattle.hnsr_circuit.proofs.records.circuits.is_circuit.Symbol as Symbol'
 use Rattle.hnsr_circuit.proofs.tables.circuits.survey_circuit.Code
 use Rattle.hnsr_circuit.proofs.tables.circuits.survey_circuit.Key
 use Rattle.hnsr_circuit.proofs.tables.circuits.survey_circuit.Statement
+use Rattle.hnsr_circuit.proofs.tables.scan.circuit_turn.Met as Met''
+use Rattle.hnsr_circuit.proofs.tables.scan.circuit_turn.Reads as Reads'''
+use Rattle.hnsr_circuit.proofs.tables.scan.circuit_turn.Symbol as Symbol''
+use Rattle.hnsr_circuit.proofs.tables.scan.not_yet.Met as Met'''
+use Rattle.hnsr_circuit.proofs.tables.scan.not_yet.Reads as Reads''''
+use Rattle.hnsr_circuit.proofs.tables.scan.not_yet.Symbol as Symbol'''
+use Rattle.hnsr_circuit.proofs.tables.scan.one_more.Met as Met''''
+use Rattle.hnsr_circuit.proofs.tables.scan.one_more.Reads as Reads'''''
+use Rattle.hnsr_circuit.proofs.tables.scan.one_more.Symbol as Symbol''''
+use Rattle.hnsr_circuit.proofs.tables.scan.surveyed.Met as Met'''''
+use Rattle.hnsr_circuit.proofs.tables.scan.surveyed.Reads as Reads''''''
+use Rattle.hnsr_circuit.proofs.tables.scan.surveyed.Symbol as Symbol'''''
 use borrow.Fn.Run
 use borrow.Fn.Written
 use contract.Running
@@ -143,12 +143,12 @@ module _ {M : Type 1} where
       (Run.Over 𝓤 H 𝓜 𝓖 𝓡 Code.env) (Reads.known record { M = M; 𝓤 = 𝓤; H = H; 𝓜 = 𝓜; 𝓖 = 𝓖; 𝓡 = 𝓡 } Code.env
       Symbol.name Symbol.routine Code.calls-hns-encoding·numbers·min-usize (Met.met 𝓤 H 𝓜 𝓖 𝓡)) (Reads''''.known
       record { M = M; 𝓤 = 𝓤; H = H; 𝓜 = 𝓜; 𝓖 = 𝓖; 𝓡 = 𝓡 } Code.env Symbol'''.name Symbol'''.routine
-      Code.calls-hnsr-circuit·scan·not-yet (Met'''.met 𝓤 H 𝓜 𝓖 𝓡)) (Reads''.known
+      Code.calls-hnsr-circuit·tables·scan·not-yet (Met'''.met 𝓤 H 𝓜 𝓖 𝓡)) (Reads''.known
       record { M = M; 𝓤 = 𝓤; H = H; 𝓜 = 𝓜; 𝓖 = 𝓖; 𝓡 = 𝓡 } Code.env Symbol'.name Symbol'.routine
-      Code.calls-hnsr-circuit·circuits·is-circuit (Met'.met 𝓤 H 𝓜 𝓖 𝓡)) (Reads'''''.known
+      Code.calls-hnsr-circuit·records·circuits·is-circuit (Met'.met 𝓤 H 𝓜 𝓖 𝓡)) (Reads'''''.known
       record { M = M; 𝓤 = 𝓤; H = H; 𝓜 = 𝓜; 𝓖 = 𝓖; 𝓡 = 𝓡 } Code.env Symbol''''.name Symbol''''.routine
-      Code.calls-hnsr-circuit·scan·one-more (Met''''.met 𝓤 H 𝓜 𝓖 𝓡)) (Reads'''.known
+      Code.calls-hnsr-circuit·tables·scan·one-more (Met''''.met 𝓤 H 𝓜 𝓖 𝓡)) (Reads'''.known
       record { M = M; 𝓤 = 𝓤; H = H; 𝓜 = 𝓜; 𝓖 = 𝓖; 𝓡 = 𝓡 } Code.env Symbol''.name Symbol''.routine
-      Code.calls-hnsr-circuit·scan·circuit-turn (Met''.met 𝓤 H 𝓜 𝓖 𝓡)) (Reads''''''.known
+      Code.calls-hnsr-circuit·tables·scan·circuit-turn (Met''.met 𝓤 H 𝓜 𝓖 𝓡)) (Reads''''''.known
       record { M = M; 𝓤 = 𝓤; H = H; 𝓜 = 𝓜; 𝓖 = 𝓖; 𝓡 = 𝓡 } Code.env Symbol'''''.name Symbol'''''.routine
-      Code.calls-hnsr-circuit·scan·surveyed (Met'''''.met 𝓤 H 𝓜 𝓖 𝓡))
+      Code.calls-hnsr-circuit·tables·scan·surveyed (Met'''''.met 𝓤 H 𝓜 𝓖 𝓡))

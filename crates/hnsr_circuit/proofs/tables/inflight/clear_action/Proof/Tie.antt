@@ -6,14 +6,14 @@ use Rattle.hnsr_circuit.proofs.By.tables.inflight.clear_action.Kinds
 use Rattle.hnsr_circuit.proofs.By.tables.inflight.clear_action.Lts
 use Rattle.hnsr_circuit.proofs.By.tables.inflight.clear_action.Reads as Reads'
 use Rattle.hnsr_circuit.proofs.By.tables.inflight.unmark_action.Reads as Reads''
-use Rattle.hnsr_circuit.proofs.question.action_has.Met as Met'
-use Rattle.hnsr_circuit.proofs.question.action_has.Reads as Reads'''
-use Rattle.hnsr_circuit.proofs.question.action_has.Symbol as Symbol'
 use Rattle.hnsr_circuit.proofs.tables.inflight.clear_action.Code
 use Rattle.hnsr_circuit.proofs.tables.inflight.clear_action.Key
 use Rattle.hnsr_circuit.proofs.tables.inflight.clear_action.Statement
-use Rattle.hnsr_circuit.proofs.tables.inflight.unmark_action.Met as Met''
-use Rattle.hnsr_circuit.proofs.tables.inflight.unmark_action.Symbol as Symbol''
+use Rattle.hnsr_circuit.proofs.tables.inflight.unmark_action.Met as Met'
+use Rattle.hnsr_circuit.proofs.tables.inflight.unmark_action.Symbol as Symbol'
+use Rattle.hnsr_circuit.proofs.tables.question.action_has.Met as Met''
+use Rattle.hnsr_circuit.proofs.tables.question.action_has.Reads as Reads'''
+use Rattle.hnsr_circuit.proofs.tables.question.action_has.Symbol as Symbol''
 use borrow.Fn.Run
 use borrow.Fn.Written
 use contract.Running
@@ -109,7 +109,7 @@ module _ {M : Type 1} where
       record { M = M; 𝓤 = 𝓤; H = H; 𝓜 = 𝓜; 𝓖 = 𝓖; 𝓡 = 𝓡 }) λ g. closed 𝓤 H (𝓖 .A) (Running.givenOf 𝓤 H 𝓜 𝓖)
       (Run.Over 𝓤 H 𝓜 𝓖 𝓡 Code.env) (Reads.known record { M = M; 𝓤 = 𝓤; H = H; 𝓜 = 𝓜; 𝓖 = 𝓖; 𝓡 = 𝓡 } Code.env
       Symbol.name Symbol.routine Code.calls-hns-encoding·numbers·min-usize (Met.met 𝓤 H 𝓜 𝓖 𝓡)) (Reads'''.known
-      record { M = M; 𝓤 = 𝓤; H = H; 𝓜 = 𝓜; 𝓖 = 𝓖; 𝓡 = 𝓡 } Code.env Symbol'.name Symbol'.routine
-      Code.calls-hnsr-circuit·question·action-has (Met'.met 𝓤 H 𝓜 𝓖 𝓡)) (Reads''.known
       record { M = M; 𝓤 = 𝓤; H = H; 𝓜 = 𝓜; 𝓖 = 𝓖; 𝓡 = 𝓡 } Code.env Symbol''.name Symbol''.routine
-      Code.calls-hnsr-circuit·tables·inflight·unmark-action (Met''.met 𝓤 H 𝓜 𝓖 𝓡))
+      Code.calls-hnsr-circuit·tables·question·action-has (Met''.met 𝓤 H 𝓜 𝓖 𝓡)) (Reads''.known
+      record { M = M; 𝓤 = 𝓤; H = H; 𝓜 = 𝓜; 𝓖 = 𝓖; 𝓡 = 𝓡 } Code.env Symbol'.name Symbol'.routine
+      Code.calls-hnsr-circuit·tables·inflight·unmark-action (Met'.met 𝓤 H 𝓜 𝓖 𝓡))

@@ -5,15 +5,15 @@ use Rattle.hns_encoding.proofs.numbers.min_usize.Symbol
 use Rattle.hnsr_circuit.proofs.By.tables.inflight.count_action.Kinds
 use Rattle.hnsr_circuit.proofs.By.tables.inflight.count_action.Lts
 use Rattle.hnsr_circuit.proofs.By.tables.inflight.count_action.Reads as Reads'
-use Rattle.hnsr_circuit.proofs.question.action_has.Met as Met'
-use Rattle.hnsr_circuit.proofs.question.action_has.Reads as Reads''
-use Rattle.hnsr_circuit.proofs.question.action_has.Symbol as Symbol'
-use Rattle.hnsr_circuit.proofs.scan.one_more.Met as Met''
-use Rattle.hnsr_circuit.proofs.scan.one_more.Reads as Reads'''
-use Rattle.hnsr_circuit.proofs.scan.one_more.Symbol as Symbol''
 use Rattle.hnsr_circuit.proofs.tables.inflight.count_action.Code
 use Rattle.hnsr_circuit.proofs.tables.inflight.count_action.Key
 use Rattle.hnsr_circuit.proofs.tables.inflight.count_action.Statement
+use Rattle.hnsr_circuit.proofs.tables.question.action_has.Met as Met'
+use Rattle.hnsr_circuit.proofs.tables.question.action_has.Reads as Reads''
+use Rattle.hnsr_circuit.proofs.tables.question.action_has.Symbol as Symbol'
+use Rattle.hnsr_circuit.proofs.tables.scan.one_more.Met as Met''
+use Rattle.hnsr_circuit.proofs.tables.scan.one_more.Reads as Reads'''
+use Rattle.hnsr_circuit.proofs.tables.scan.one_more.Symbol as Symbol''
 use borrow.Fn.Run
 use borrow.Fn.Written
 use contract.Running
@@ -101,6 +101,6 @@ module _ {M : Type 1} where
       (Run.Over 𝓤 H 𝓜 𝓖 𝓡 Code.env) (Reads.known record { M = M; 𝓤 = 𝓤; H = H; 𝓜 = 𝓜; 𝓖 = 𝓖; 𝓡 = 𝓡 } Code.env
       Symbol.name Symbol.routine Code.calls-hns-encoding·numbers·min-usize (Met.met 𝓤 H 𝓜 𝓖 𝓡)) (Reads''.known
       record { M = M; 𝓤 = 𝓤; H = H; 𝓜 = 𝓜; 𝓖 = 𝓖; 𝓡 = 𝓡 } Code.env Symbol'.name Symbol'.routine
-      Code.calls-hnsr-circuit·question·action-has (Met'.met 𝓤 H 𝓜 𝓖 𝓡)) (Reads'''.known
+      Code.calls-hnsr-circuit·tables·question·action-has (Met'.met 𝓤 H 𝓜 𝓖 𝓡)) (Reads'''.known
       record { M = M; 𝓤 = 𝓤; H = H; 𝓜 = 𝓜; 𝓖 = 𝓖; 𝓡 = 𝓡 } Code.env Symbol''.name Symbol''.routine
-      Code.calls-hnsr-circuit·scan·one-more (Met''.met 𝓤 H 𝓜 𝓖 𝓡))
+      Code.calls-hnsr-circuit·tables·scan·one-more (Met''.met 𝓤 H 𝓜 𝓖 𝓡))

@@ -6,26 +6,26 @@ use Rattle.hnsr_circuit.proofs.By.tables.inflight.drop_and_scan.Kinds
 use Rattle.hnsr_circuit.proofs.By.tables.inflight.drop_and_scan.Lts
 use Rattle.hnsr_circuit.proofs.By.tables.inflight.drop_and_scan.Reads as Reads'
 use Rattle.hnsr_circuit.proofs.By.tables.inflight.unmark_action.Reads as Reads''
-use Rattle.hnsr_circuit.proofs.inflight.action_left.Met as Met'
-use Rattle.hnsr_circuit.proofs.inflight.action_left.Reads as Reads'''
-use Rattle.hnsr_circuit.proofs.inflight.action_left.Symbol as Symbol'
-use Rattle.hnsr_circuit.proofs.inflight.action_under.Met as Met''
-use Rattle.hnsr_circuit.proofs.inflight.action_under.Reads as Reads''''
-use Rattle.hnsr_circuit.proofs.inflight.action_under.Symbol as Symbol''
-use Rattle.hnsr_circuit.proofs.places.spared.Met as Met'''
-use Rattle.hnsr_circuit.proofs.places.spared.Reads as Reads'''''
-use Rattle.hnsr_circuit.proofs.places.spared.Symbol as Symbol'''
-use Rattle.hnsr_circuit.proofs.scan.action_scanned.Met as Met''''
-use Rattle.hnsr_circuit.proofs.scan.action_scanned.Reads as Reads''''''
-use Rattle.hnsr_circuit.proofs.scan.action_scanned.Symbol as Symbol''''
-use Rattle.hnsr_circuit.proofs.scan.no_scan.Met as Met'''''
-use Rattle.hnsr_circuit.proofs.scan.no_scan.Reads as Reads'''''''
-use Rattle.hnsr_circuit.proofs.scan.no_scan.Symbol as Symbol'''''
+use Rattle.hnsr_circuit.proofs.records.inflight.action_left.Met as Met'
+use Rattle.hnsr_circuit.proofs.records.inflight.action_left.Reads as Reads'''
+use Rattle.hnsr_circuit.proofs.records.inflight.action_left.Symbol as Symbol'
+use Rattle.hnsr_circuit.proofs.records.inflight.action_under.Met as Met''
+use Rattle.hnsr_circuit.proofs.records.inflight.action_under.Reads as Reads''''
+use Rattle.hnsr_circuit.proofs.records.inflight.action_under.Symbol as Symbol''
 use Rattle.hnsr_circuit.proofs.tables.inflight.drop_and_scan.Code
 use Rattle.hnsr_circuit.proofs.tables.inflight.drop_and_scan.Key
 use Rattle.hnsr_circuit.proofs.tables.inflight.drop_and_scan.Statement
-use Rattle.hnsr_circuit.proofs.tables.inflight.unmark_action.Met as Met''''''
-use Rattle.hnsr_circuit.proofs.tables.inflight.unmark_action.Symbol as Symbol''''''
+use Rattle.hnsr_circuit.proofs.tables.inflight.unmark_action.Met as Met'''
+use Rattle.hnsr_circuit.proofs.tables.inflight.unmark_action.Symbol as Symbol'''
+use Rattle.hnsr_circuit.proofs.tables.places.spared.Met as Met''''
+use Rattle.hnsr_circuit.proofs.tables.places.spared.Reads as Reads'''''
+use Rattle.hnsr_circuit.proofs.tables.places.spared.Symbol as Symbol''''
+use Rattle.hnsr_circuit.proofs.tables.scan.action_scanned.Met as Met'''''
+use Rattle.hnsr_circuit.proofs.tables.scan.action_scanned.Reads as Reads''''''
+use Rattle.hnsr_circuit.proofs.tables.scan.action_scanned.Symbol as Symbol'''''
+use Rattle.hnsr_circuit.proofs.tables.scan.no_scan.Met as Met''''''
+use Rattle.hnsr_circuit.proofs.tables.scan.no_scan.Reads as Reads'''''''
+use Rattle.hnsr_circuit.proofs.tables.scan.no_scan.Symbol as Symbol''''''
 use borrow.Fn.Run
 use borrow.Fn.Written
 use contract.Running
@@ -162,15 +162,15 @@ module _ {M : Type 1} where
       record { M = M; 𝓤 = 𝓤; H = H; 𝓜 = 𝓜; 𝓖 = 𝓖; 𝓡 = 𝓡 }) λ g. closed 𝓤 H (𝓖 .A) (Running.givenOf 𝓤 H 𝓜 𝓖)
       (Run.Over 𝓤 H 𝓜 𝓖 𝓡 Code.env) (Reads.known record { M = M; 𝓤 = 𝓤; H = H; 𝓜 = 𝓜; 𝓖 = 𝓖; 𝓡 = 𝓡 } Code.env
       Symbol.name Symbol.routine Code.calls-hns-encoding·numbers·min-usize (Met.met 𝓤 H 𝓜 𝓖 𝓡)) (Reads'''''''.known
-      record { M = M; 𝓤 = 𝓤; H = H; 𝓜 = 𝓜; 𝓖 = 𝓖; 𝓡 = 𝓡 } Code.env Symbol'''''.name Symbol'''''.routine
-      Code.calls-hnsr-circuit·scan·no-scan (Met'''''.met 𝓤 H 𝓜 𝓖 𝓡)) (Reads''''.known
-      record { M = M; 𝓤 = 𝓤; H = H; 𝓜 = 𝓜; 𝓖 = 𝓖; 𝓡 = 𝓡 } Code.env Symbol''.name Symbol''.routine
-      Code.calls-hnsr-circuit·inflight·action-under (Met''.met 𝓤 H 𝓜 𝓖 𝓡)) (Reads'''.known
-      record { M = M; 𝓤 = 𝓤; H = H; 𝓜 = 𝓜; 𝓖 = 𝓖; 𝓡 = 𝓡 } Code.env Symbol'.name Symbol'.routine
-      Code.calls-hnsr-circuit·inflight·action-left (Met'.met 𝓤 H 𝓜 𝓖 𝓡)) (Reads''.known
       record { M = M; 𝓤 = 𝓤; H = H; 𝓜 = 𝓜; 𝓖 = 𝓖; 𝓡 = 𝓡 } Code.env Symbol''''''.name Symbol''''''.routine
-      Code.calls-hnsr-circuit·tables·inflight·unmark-action (Met''''''.met 𝓤 H 𝓜 𝓖 𝓡)) (Reads''''''.known
-      record { M = M; 𝓤 = 𝓤; H = H; 𝓜 = 𝓜; 𝓖 = 𝓖; 𝓡 = 𝓡 } Code.env Symbol''''.name Symbol''''.routine
-      Code.calls-hnsr-circuit·scan·action-scanned (Met''''.met 𝓤 H 𝓜 𝓖 𝓡)) (Reads'''''.known
+      Code.calls-hnsr-circuit·tables·scan·no-scan (Met''''''.met 𝓤 H 𝓜 𝓖 𝓡)) (Reads''''.known
+      record { M = M; 𝓤 = 𝓤; H = H; 𝓜 = 𝓜; 𝓖 = 𝓖; 𝓡 = 𝓡 } Code.env Symbol''.name Symbol''.routine
+      Code.calls-hnsr-circuit·records·inflight·action-under (Met''.met 𝓤 H 𝓜 𝓖 𝓡)) (Reads'''.known
+      record { M = M; 𝓤 = 𝓤; H = H; 𝓜 = 𝓜; 𝓖 = 𝓖; 𝓡 = 𝓡 } Code.env Symbol'.name Symbol'.routine
+      Code.calls-hnsr-circuit·records·inflight·action-left (Met'.met 𝓤 H 𝓜 𝓖 𝓡)) (Reads''.known
       record { M = M; 𝓤 = 𝓤; H = H; 𝓜 = 𝓜; 𝓖 = 𝓖; 𝓡 = 𝓡 } Code.env Symbol'''.name Symbol'''.routine
-      Code.calls-hnsr-circuit·places·spared (Met'''.met 𝓤 H 𝓜 𝓖 𝓡))
+      Code.calls-hnsr-circuit·tables·inflight·unmark-action (Met'''.met 𝓤 H 𝓜 𝓖 𝓡)) (Reads''''''.known
+      record { M = M; 𝓤 = 𝓤; H = H; 𝓜 = 𝓜; 𝓖 = 𝓖; 𝓡 = 𝓡 } Code.env Symbol'''''.name Symbol'''''.routine
+      Code.calls-hnsr-circuit·tables·scan·action-scanned (Met'''''.met 𝓤 H 𝓜 𝓖 𝓡)) (Reads'''''.known
+      record { M = M; 𝓤 = 𝓤; H = H; 𝓜 = 𝓜; 𝓖 = 𝓖; 𝓡 = 𝓡 } Code.env Symbol''''.name Symbol''''.routine
+      Code.calls-hnsr-circuit·tables·places·spared (Met''''.met 𝓤 H 𝓜 𝓖 𝓡))

@@ -5,9 +5,9 @@ use Rattle.hns_encoding.proofs.numbers.min_usize.Symbol
 use Rattle.hnsr_circuit.proofs.By.tables.inflight.find_action.Kinds
 use Rattle.hnsr_circuit.proofs.By.tables.inflight.find_action.Lts
 use Rattle.hnsr_circuit.proofs.By.tables.inflight.find_action.Reads as Reads'
-use Rattle.hnsr_circuit.proofs.inflight.action_is.Met as Met'
-use Rattle.hnsr_circuit.proofs.inflight.action_is.Reads as Reads''
-use Rattle.hnsr_circuit.proofs.inflight.action_is.Symbol as Symbol'
+use Rattle.hnsr_circuit.proofs.records.inflight.action_is.Met as Met'
+use Rattle.hnsr_circuit.proofs.records.inflight.action_is.Reads as Reads''
+use Rattle.hnsr_circuit.proofs.records.inflight.action_is.Symbol as Symbol'
 use Rattle.hnsr_circuit.proofs.tables.inflight.find_action.Code
 use Rattle.hnsr_circuit.proofs.tables.inflight.find_action.Key
 use Rattle.hnsr_circuit.proofs.tables.inflight.find_action.Statement
@@ -101,4 +101,4 @@ module _ {M : Type 1} where
       (Run.Over 𝓤 H 𝓜 𝓖 𝓡 Code.env) (Reads.known record { M = M; 𝓤 = 𝓤; H = H; 𝓜 = 𝓜; 𝓖 = 𝓖; 𝓡 = 𝓡 } Code.env
       Symbol.name Symbol.routine Code.calls-hns-encoding·numbers·min-usize (Met.met 𝓤 H 𝓜 𝓖 𝓡)) (Reads''.known
       record { M = M; 𝓤 = 𝓤; H = H; 𝓜 = 𝓜; 𝓖 = 𝓖; 𝓡 = 𝓡 } Code.env Symbol'.name Symbol'.routine
-      Code.calls-hnsr-circuit·inflight·action-is (Met'.met 𝓤 H 𝓜 𝓖 𝓡))
+      Code.calls-hnsr-circuit·records·inflight·action-is (Met'.met 𝓤 H 𝓜 𝓖 𝓡))

@@ -5,18 +5,18 @@ use Rattle.hns_encoding.proofs.numbers.min_usize.Symbol
 use Rattle.hnsr_circuit.proofs.By.tables.inflight.scan_actions.Kinds
 use Rattle.hnsr_circuit.proofs.By.tables.inflight.scan_actions.Lts
 use Rattle.hnsr_circuit.proofs.By.tables.inflight.scan_actions.Reads as Reads'
-use Rattle.hnsr_circuit.proofs.places.spared.Met as Met'
-use Rattle.hnsr_circuit.proofs.places.spared.Reads as Reads''
-use Rattle.hnsr_circuit.proofs.places.spared.Symbol as Symbol'
-use Rattle.hnsr_circuit.proofs.scan.action_scanned.Met as Met''
-use Rattle.hnsr_circuit.proofs.scan.action_scanned.Reads as Reads'''
-use Rattle.hnsr_circuit.proofs.scan.action_scanned.Symbol as Symbol''
-use Rattle.hnsr_circuit.proofs.scan.no_scan.Met as Met'''
-use Rattle.hnsr_circuit.proofs.scan.no_scan.Reads as Reads''''
-use Rattle.hnsr_circuit.proofs.scan.no_scan.Symbol as Symbol'''
 use Rattle.hnsr_circuit.proofs.tables.inflight.scan_actions.Code
 use Rattle.hnsr_circuit.proofs.tables.inflight.scan_actions.Key
 use Rattle.hnsr_circuit.proofs.tables.inflight.scan_actions.Statement
+use Rattle.hnsr_circuit.proofs.tables.places.spared.Met as Met'
+use Rattle.hnsr_circuit.proofs.tables.places.spared.Reads as Reads''
+use Rattle.hnsr_circuit.proofs.tables.places.spared.Symbol as Symbol'
+use Rattle.hnsr_circuit.proofs.tables.scan.action_scanned.Met as Met''
+use Rattle.hnsr_circuit.proofs.tables.scan.action_scanned.Reads as Reads'''
+use Rattle.hnsr_circuit.proofs.tables.scan.action_scanned.Symbol as Symbol''
+use Rattle.hnsr_circuit.proofs.tables.scan.no_scan.Met as Met'''
+use Rattle.hnsr_circuit.proofs.tables.scan.no_scan.Reads as Reads''''
+use Rattle.hnsr_circuit.proofs.tables.scan.no_scan.Symbol as Symbol'''
 use borrow.Fn.Run
 use borrow.Fn.Written
 use contract.Running
@@ -120,8 +120,8 @@ module _ {M : Type 1} where
       (Run.Over 𝓤 H 𝓜 𝓖 𝓡 Code.env) (Reads.known record { M = M; 𝓤 = 𝓤; H = H; 𝓜 = 𝓜; 𝓖 = 𝓖; 𝓡 = 𝓡 } Code.env
       Symbol.name Symbol.routine Code.calls-hns-encoding·numbers·min-usize (Met.met 𝓤 H 𝓜 𝓖 𝓡)) (Reads''''.known
       record { M = M; 𝓤 = 𝓤; H = H; 𝓜 = 𝓜; 𝓖 = 𝓖; 𝓡 = 𝓡 } Code.env Symbol'''.name Symbol'''.routine
-      Code.calls-hnsr-circuit·scan·no-scan (Met'''.met 𝓤 H 𝓜 𝓖 𝓡)) (Reads'''.known
+      Code.calls-hnsr-circuit·tables·scan·no-scan (Met'''.met 𝓤 H 𝓜 𝓖 𝓡)) (Reads'''.known
       record { M = M; 𝓤 = 𝓤; H = H; 𝓜 = 𝓜; 𝓖 = 𝓖; 𝓡 = 𝓡 } Code.env Symbol''.name Symbol''.routine
-      Code.calls-hnsr-circuit·scan·action-scanned (Met''.met 𝓤 H 𝓜 𝓖 𝓡)) (Reads''.known
+      Code.calls-hnsr-circuit·tables·scan·action-scanned (Met''.met 𝓤 H 𝓜 𝓖 𝓡)) (Reads''.known
       record { M = M; 𝓤 = 𝓤; H = H; 𝓜 = 𝓜; 𝓖 = 𝓖; 𝓡 = 𝓡 } Code.env Symbol'.name Symbol'.routine
-      Code.calls-hnsr-circuit·places·spared (Met'.met 𝓤 H 𝓜 𝓖 𝓡))
+      Code.calls-hnsr-circuit·tables·places·spared (Met'.met 𝓤 H 𝓜 𝓖 𝓡))

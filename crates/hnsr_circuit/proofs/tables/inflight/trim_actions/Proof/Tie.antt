@@ -5,9 +5,9 @@ use Rattle.hns_encoding.proofs.numbers.min_usize.Symbol
 use Rattle.hnsr_circuit.proofs.By.tables.inflight.trim_actions.Kinds
 use Rattle.hnsr_circuit.proofs.By.tables.inflight.trim_actions.Lts
 use Rattle.hnsr_circuit.proofs.By.tables.inflight.trim_actions.Reads as Reads'
-use Rattle.hnsr_circuit.proofs.inflight.is_action.Met as Met'
-use Rattle.hnsr_circuit.proofs.inflight.is_action.Reads as Reads''
-use Rattle.hnsr_circuit.proofs.inflight.is_action.Symbol as Symbol'
+use Rattle.hnsr_circuit.proofs.records.inflight.is_action.Met as Met'
+use Rattle.hnsr_circuit.proofs.records.inflight.is_action.Reads as Reads''
+use Rattle.hnsr_circuit.proofs.records.inflight.is_action.Symbol as Symbol'
 use Rattle.hnsr_circuit.proofs.tables.inflight.trim_actions.Code
 use Rattle.hnsr_circuit.proofs.tables.inflight.trim_actions.Key
 use Rattle.hnsr_circuit.proofs.tables.inflight.trim_actions.Statement
@@ -101,4 +101,4 @@ module _ {M : Type 1} where
       (Run.Over 𝓤 H 𝓜 𝓖 𝓡 Code.env) (Reads.known record { M = M; 𝓤 = 𝓤; H = H; 𝓜 = 𝓜; 𝓖 = 𝓖; 𝓡 = 𝓡 } Code.env
       Symbol.name Symbol.routine Code.calls-hns-encoding·numbers·min-usize (Met.met 𝓤 H 𝓜 𝓖 𝓡)) (Reads''.known
       record { M = M; 𝓤 = 𝓤; H = H; 𝓜 = 𝓜; 𝓖 = 𝓖; 𝓡 = 𝓡 } Code.env Symbol'.name Symbol'.routine
-      Code.calls-hnsr-circuit·inflight·is-action (Met'.met 𝓤 H 𝓜 𝓖 𝓡))
+      Code.calls-hnsr-circuit·records·inflight·is-action (Met'.met 𝓤 H 𝓜 𝓖 𝓡))

@@ -2,15 +2,15 @@
 use Rattle.hnsr_circuit.proofs.By.tables.inflight.unmark_action.Kinds
 use Rattle.hnsr_circuit.proofs.By.tables.inflight.unmark_action.Lts
 use Rattle.hnsr_circuit.proofs.By.tables.inflight.unmark_action.Reads
-use Rattle.hnsr_circuit.proofs.inflight.action_unmarked.Met
-use Rattle.hnsr_circuit.proofs.inflight.action_unmarked.Reads as Reads'
-use Rattle.hnsr_circuit.proofs.inflight.action_unmarked.Symbol
-use Rattle.hnsr_circuit.proofs.scan.within.Met as Met'
-use Rattle.hnsr_circuit.proofs.scan.within.Reads as Reads''
-use Rattle.hnsr_circuit.proofs.scan.within.Symbol as Symbol'
+use Rattle.hnsr_circuit.proofs.records.inflight.action_unmarked.Met
+use Rattle.hnsr_circuit.proofs.records.inflight.action_unmarked.Reads as Reads'
+use Rattle.hnsr_circuit.proofs.records.inflight.action_unmarked.Symbol
 use Rattle.hnsr_circuit.proofs.tables.inflight.unmark_action.Code
 use Rattle.hnsr_circuit.proofs.tables.inflight.unmark_action.Key
 use Rattle.hnsr_circuit.proofs.tables.inflight.unmark_action.Statement
+use Rattle.hnsr_circuit.proofs.tables.scan.within.Met as Met'
+use Rattle.hnsr_circuit.proofs.tables.scan.within.Reads as Reads''
+use Rattle.hnsr_circuit.proofs.tables.scan.within.Symbol as Symbol'
 use borrow.Fn.Run
 use borrow.Fn.Written
 use contract.Running
@@ -79,6 +79,6 @@ module _ {M : Type 1} where
       record { M = M; 𝓤 = 𝓤; H = H; 𝓜 = 𝓜; 𝓖 = 𝓖; 𝓡 = 𝓡 }) (Reads.passes
       record { M = M; 𝓤 = 𝓤; H = H; 𝓜 = 𝓜; 𝓖 = 𝓖; 𝓡 = 𝓡 }) λ g. closed 𝓤 H (𝓖 .A) (Running.givenOf 𝓤 H 𝓜 𝓖)
       (Run.Over 𝓤 H 𝓜 𝓖 𝓡 Code.env) (Reads''.known record { M = M; 𝓤 = 𝓤; H = H; 𝓜 = 𝓜; 𝓖 = 𝓖; 𝓡 = 𝓡 } Code.env
-      Symbol'.name Symbol'.routine Code.calls-hnsr-circuit·scan·within (Met'.met 𝓤 H 𝓜 𝓖 𝓡)) (Reads'.known
+      Symbol'.name Symbol'.routine Code.calls-hnsr-circuit·tables·scan·within (Met'.met 𝓤 H 𝓜 𝓖 𝓡)) (Reads'.known
       record { M = M; 𝓤 = 𝓤; H = H; 𝓜 = 𝓜; 𝓖 = 𝓖; 𝓡 = 𝓡 } Code.env Symbol.name Symbol.routine
-      Code.calls-hnsr-circuit·inflight·action-unmarked (Met.met 𝓤 H 𝓜 𝓖 𝓡))
+      Code.calls-hnsr-circuit·records·inflight·action-unmarked (Met.met 𝓤 H 𝓜 𝓖 𝓡))

@@ -6,14 +6,14 @@ use Rattle.hnsr_circuit.proofs.By.tables.ledger.clear_usage.Kinds
 use Rattle.hnsr_circuit.proofs.By.tables.ledger.clear_usage.Lts
 use Rattle.hnsr_circuit.proofs.By.tables.ledger.clear_usage.Reads as Reads'
 use Rattle.hnsr_circuit.proofs.By.tables.ledger.unmark_usage.Reads as Reads''
-use Rattle.hnsr_circuit.proofs.question.usage_has.Met as Met'
-use Rattle.hnsr_circuit.proofs.question.usage_has.Reads as Reads'''
-use Rattle.hnsr_circuit.proofs.question.usage_has.Symbol as Symbol'
 use Rattle.hnsr_circuit.proofs.tables.ledger.clear_usage.Code
 use Rattle.hnsr_circuit.proofs.tables.ledger.clear_usage.Key
 use Rattle.hnsr_circuit.proofs.tables.ledger.clear_usage.Statement
-use Rattle.hnsr_circuit.proofs.tables.ledger.unmark_usage.Met as Met''
-use Rattle.hnsr_circuit.proofs.tables.ledger.unmark_usage.Symbol as Symbol''
+use Rattle.hnsr_circuit.proofs.tables.ledger.unmark_usage.Met as Met'
+use Rattle.hnsr_circuit.proofs.tables.ledger.unmark_usage.Symbol as Symbol'
+use Rattle.hnsr_circuit.proofs.tables.question.usage_has.Met as Met''
+use Rattle.hnsr_circuit.proofs.tables.question.usage_has.Reads as Reads'''
+use Rattle.hnsr_circuit.proofs.tables.question.usage_has.Symbol as Symbol''
 use borrow.Fn.Run
 use borrow.Fn.Written
 use contract.Running
@@ -109,7 +109,7 @@ module _ {M : Type 1} where
       record { M = M; 𝓤 = 𝓤; H = H; 𝓜 = 𝓜; 𝓖 = 𝓖; 𝓡 = 𝓡 }) λ g. closed 𝓤 H (𝓖 .A) (Running.givenOf 𝓤 H 𝓜 𝓖)
       (Run.Over 𝓤 H 𝓜 𝓖 𝓡 Code.env) (Reads.known record { M = M; 𝓤 = 𝓤; H = H; 𝓜 = 𝓜; 𝓖 = 𝓖; 𝓡 = 𝓡 } Code.env
       Symbol.name Symbol.routine Code.calls-hns-encoding·numbers·min-usize (Met.met 𝓤 H 𝓜 𝓖 𝓡)) (Reads'''.known
-      record { M = M; 𝓤 = 𝓤; H = H; 𝓜 = 𝓜; 𝓖 = 𝓖; 𝓡 = 𝓡 } Code.env Symbol'.name Symbol'.routine
-      Code.calls-hnsr-circuit·question·usage-has (Met'.met 𝓤 H 𝓜 𝓖 𝓡)) (Reads''.known
       record { M = M; 𝓤 = 𝓤; H = H; 𝓜 = 𝓜; 𝓖 = 𝓖; 𝓡 = 𝓡 } Code.env Symbol''.name Symbol''.routine
-      Code.calls-hnsr-circuit·tables·ledger·unmark-usage (Met''.met 𝓤 H 𝓜 𝓖 𝓡))
+      Code.calls-hnsr-circuit·tables·question·usage-has (Met''.met 𝓤 H 𝓜 𝓖 𝓡)) (Reads''.known
+      record { M = M; 𝓤 = 𝓤; H = H; 𝓜 = 𝓜; 𝓖 = 𝓖; 𝓡 = 𝓡 } Code.env Symbol'.name Symbol'.routine
+      Code.calls-hnsr-circuit·tables·ledger·unmark-usage (Met'.met 𝓤 H 𝓜 𝓖 𝓡))

@@ -5,18 +5,18 @@ use Rattle.hns_encoding.proofs.numbers.min_usize.Symbol
 use Rattle.hnsr_circuit.proofs.By.tables.ledger.scan_ledger.Kinds
 use Rattle.hnsr_circuit.proofs.By.tables.ledger.scan_ledger.Lts
 use Rattle.hnsr_circuit.proofs.By.tables.ledger.scan_ledger.Reads as Reads'
-use Rattle.hnsr_circuit.proofs.places.room_spared.Met as Met'
-use Rattle.hnsr_circuit.proofs.places.room_spared.Reads as Reads''
-use Rattle.hnsr_circuit.proofs.places.room_spared.Symbol as Symbol'
-use Rattle.hnsr_circuit.proofs.scan.no_room.Met as Met''
-use Rattle.hnsr_circuit.proofs.scan.no_room.Reads as Reads'''
-use Rattle.hnsr_circuit.proofs.scan.no_room.Symbol as Symbol''
-use Rattle.hnsr_circuit.proofs.scan.room_on.Met as Met'''
-use Rattle.hnsr_circuit.proofs.scan.room_on.Reads as Reads''''
-use Rattle.hnsr_circuit.proofs.scan.room_on.Symbol as Symbol'''
 use Rattle.hnsr_circuit.proofs.tables.ledger.scan_ledger.Code
 use Rattle.hnsr_circuit.proofs.tables.ledger.scan_ledger.Key
 use Rattle.hnsr_circuit.proofs.tables.ledger.scan_ledger.Statement
+use Rattle.hnsr_circuit.proofs.tables.places.room_spared.Met as Met'
+use Rattle.hnsr_circuit.proofs.tables.places.room_spared.Reads as Reads''
+use Rattle.hnsr_circuit.proofs.tables.places.room_spared.Symbol as Symbol'
+use Rattle.hnsr_circuit.proofs.tables.scan.no_room.Met as Met''
+use Rattle.hnsr_circuit.proofs.tables.scan.no_room.Reads as Reads'''
+use Rattle.hnsr_circuit.proofs.tables.scan.no_room.Symbol as Symbol''
+use Rattle.hnsr_circuit.proofs.tables.scan.room_on.Met as Met'''
+use Rattle.hnsr_circuit.proofs.tables.scan.room_on.Reads as Reads''''
+use Rattle.hnsr_circuit.proofs.tables.scan.room_on.Symbol as Symbol'''
 use borrow.Fn.Run
 use borrow.Fn.Written
 use contract.Running
@@ -120,8 +120,8 @@ module _ {M : Type 1} where
       (Run.Over 𝓤 H 𝓜 𝓖 𝓡 Code.env) (Reads.known record { M = M; 𝓤 = 𝓤; H = H; 𝓜 = 𝓜; 𝓖 = 𝓖; 𝓡 = 𝓡 } Code.env
       Symbol.name Symbol.routine Code.calls-hns-encoding·numbers·min-usize (Met.met 𝓤 H 𝓜 𝓖 𝓡)) (Reads'''.known
       record { M = M; 𝓤 = 𝓤; H = H; 𝓜 = 𝓜; 𝓖 = 𝓖; 𝓡 = 𝓡 } Code.env Symbol''.name Symbol''.routine
-      Code.calls-hnsr-circuit·scan·no-room (Met''.met 𝓤 H 𝓜 𝓖 𝓡)) (Reads''''.known
+      Code.calls-hnsr-circuit·tables·scan·no-room (Met''.met 𝓤 H 𝓜 𝓖 𝓡)) (Reads''''.known
       record { M = M; 𝓤 = 𝓤; H = H; 𝓜 = 𝓜; 𝓖 = 𝓖; 𝓡 = 𝓡 } Code.env Symbol'''.name Symbol'''.routine
-      Code.calls-hnsr-circuit·scan·room-on (Met'''.met 𝓤 H 𝓜 𝓖 𝓡)) (Reads''.known
+      Code.calls-hnsr-circuit·tables·scan·room-on (Met'''.met 𝓤 H 𝓜 𝓖 𝓡)) (Reads''.known
       record { M = M; 𝓤 = 𝓤; H = H; 𝓜 = 𝓜; 𝓖 = 𝓖; 𝓡 = 𝓡 } Code.env Symbol'.name Symbol'.routine
-      Code.calls-hnsr-circuit·places·room-spared (Met'.met 𝓤 H 𝓜 𝓖 𝓡))
+      Code.calls-hnsr-circuit·tables·places·room-spared (Met'.met 𝓤 H 𝓜 𝓖 𝓡))

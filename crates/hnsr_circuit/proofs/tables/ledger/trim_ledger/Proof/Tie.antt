@@ -5,9 +5,9 @@ use Rattle.hns_encoding.proofs.numbers.min_usize.Symbol
 use Rattle.hnsr_circuit.proofs.By.tables.ledger.trim_ledger.Kinds
 use Rattle.hnsr_circuit.proofs.By.tables.ledger.trim_ledger.Lts
 use Rattle.hnsr_circuit.proofs.By.tables.ledger.trim_ledger.Reads as Reads'
-use Rattle.hnsr_circuit.proofs.ledger.is_usage.Met as Met'
-use Rattle.hnsr_circuit.proofs.ledger.is_usage.Reads as Reads''
-use Rattle.hnsr_circuit.proofs.ledger.is_usage.Symbol as Symbol'
+use Rattle.hnsr_circuit.proofs.records.ledger.is_usage.Met as Met'
+use Rattle.hnsr_circuit.proofs.records.ledger.is_usage.Reads as Reads''
+use Rattle.hnsr_circuit.proofs.records.ledger.is_usage.Symbol as Symbol'
 use Rattle.hnsr_circuit.proofs.tables.ledger.trim_ledger.Code
 use Rattle.hnsr_circuit.proofs.tables.ledger.trim_ledger.Key
 use Rattle.hnsr_circuit.proofs.tables.ledger.trim_ledger.Statement
@@ -101,4 +101,4 @@ module _ {M : Type 1} where
       (Run.Over 𝓤 H 𝓜 𝓖 𝓡 Code.env) (Reads.known record { M = M; 𝓤 = 𝓤; H = H; 𝓜 = 𝓜; 𝓖 = 𝓖; 𝓡 = 𝓡 } Code.env
       Symbol.name Symbol.routine Code.calls-hns-encoding·numbers·min-usize (Met.met 𝓤 H 𝓜 𝓖 𝓡)) (Reads''.known
       record { M = M; 𝓤 = 𝓤; H = H; 𝓜 = 𝓜; 𝓖 = 𝓖; 𝓡 = 𝓡 } Code.env Symbol'.name Symbol'.routine
-      Code.calls-hnsr-circuit·ledger·is-usage (Met'.met 𝓤 H 𝓜 𝓖 𝓡))
+      Code.calls-hnsr-circuit·records·ledger·is-usage (Met'.met 𝓤 H 𝓜 𝓖 𝓡))

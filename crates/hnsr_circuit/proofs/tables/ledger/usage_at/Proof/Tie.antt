@@ -2,15 +2,15 @@
 use Rattle.hnsr_circuit.proofs.By.tables.ledger.usage_at.Kinds
 use Rattle.hnsr_circuit.proofs.By.tables.ledger.usage_at.Lts
 use Rattle.hnsr_circuit.proofs.By.tables.ledger.usage_at.Reads
-use Rattle.hnsr_circuit.proofs.ledger.no_usage.Met
-use Rattle.hnsr_circuit.proofs.ledger.no_usage.Reads as Reads'
-use Rattle.hnsr_circuit.proofs.ledger.no_usage.Symbol
-use Rattle.hnsr_circuit.proofs.places.held_usage.Met as Met'
-use Rattle.hnsr_circuit.proofs.places.held_usage.Reads as Reads''
-use Rattle.hnsr_circuit.proofs.places.held_usage.Symbol as Symbol'
+use Rattle.hnsr_circuit.proofs.records.ledger.no_usage.Met
+use Rattle.hnsr_circuit.proofs.records.ledger.no_usage.Reads as Reads'
+use Rattle.hnsr_circuit.proofs.records.ledger.no_usage.Symbol
 use Rattle.hnsr_circuit.proofs.tables.ledger.usage_at.Code
 use Rattle.hnsr_circuit.proofs.tables.ledger.usage_at.Key
 use Rattle.hnsr_circuit.proofs.tables.ledger.usage_at.Statement
+use Rattle.hnsr_circuit.proofs.tables.places.held_usage.Met as Met'
+use Rattle.hnsr_circuit.proofs.tables.places.held_usage.Reads as Reads''
+use Rattle.hnsr_circuit.proofs.tables.places.held_usage.Symbol as Symbol'
 use borrow.Fn.Run
 use borrow.Fn.Written
 use contract.Running
@@ -72,6 +72,6 @@ module _ {M : Type 1} where
       record { M = M; 𝓤 = 𝓤; H = H; 𝓜 = 𝓜; 𝓖 = 𝓖; 𝓡 = 𝓡 }) (Reads.passes
       record { M = M; 𝓤 = 𝓤; H = H; 𝓜 = 𝓜; 𝓖 = 𝓖; 𝓡 = 𝓡 }) λ g. closed 𝓤 H (𝓖 .A) (Running.givenOf 𝓤 H 𝓜 𝓖)
       (Run.Over 𝓤 H 𝓜 𝓖 𝓡 Code.env) (Reads''.known record { M = M; 𝓤 = 𝓤; H = H; 𝓜 = 𝓜; 𝓖 = 𝓖; 𝓡 = 𝓡 } Code.env
-      Symbol'.name Symbol'.routine Code.calls-hnsr-circuit·places·held-usage (Met'.met 𝓤 H 𝓜 𝓖 𝓡)) (Reads'.known
+      Symbol'.name Symbol'.routine Code.calls-hnsr-circuit·tables·places·held-usage (Met'.met 𝓤 H 𝓜 𝓖 𝓡)) (Reads'.known
       record { M = M; 𝓤 = 𝓤; H = H; 𝓜 = 𝓜; 𝓖 = 𝓖; 𝓡 = 𝓡 } Code.env Symbol.name Symbol.routine
-      Code.calls-hnsr-circuit·ledger·no-usage (Met.met 𝓤 H 𝓜 𝓖 𝓡))
+      Code.calls-hnsr-circuit·records·ledger·no-usage (Met.met 𝓤 H 𝓜 𝓖 𝓡))

@@ -5,18 +5,18 @@ use Rattle.hns_encoding.proofs.numbers.min_usize.Symbol
 use Rattle.hnsr_circuit.proofs.By.tables.pending.find_pending.Kinds
 use Rattle.hnsr_circuit.proofs.By.tables.pending.find_pending.Lts
 use Rattle.hnsr_circuit.proofs.By.tables.pending.find_pending.Reads as Reads'
-use Rattle.hnsr_circuit.proofs.places.asks_unused.Met as Met'
-use Rattle.hnsr_circuit.proofs.places.asks_unused.Reads as Reads''
-use Rattle.hnsr_circuit.proofs.places.asks_unused.Symbol as Symbol'
-use Rattle.hnsr_circuit.proofs.places.or_else.Met as Met''
-use Rattle.hnsr_circuit.proofs.places.or_else.Reads as Reads'''
-use Rattle.hnsr_circuit.proofs.places.or_else.Symbol as Symbol''
-use Rattle.hnsr_circuit.proofs.question.pending_has.Met as Met'''
-use Rattle.hnsr_circuit.proofs.question.pending_has.Reads as Reads''''
-use Rattle.hnsr_circuit.proofs.question.pending_has.Symbol as Symbol'''
 use Rattle.hnsr_circuit.proofs.tables.pending.find_pending.Code
 use Rattle.hnsr_circuit.proofs.tables.pending.find_pending.Key
 use Rattle.hnsr_circuit.proofs.tables.pending.find_pending.Statement
+use Rattle.hnsr_circuit.proofs.tables.places.asks_unused.Met as Met'
+use Rattle.hnsr_circuit.proofs.tables.places.asks_unused.Reads as Reads''
+use Rattle.hnsr_circuit.proofs.tables.places.asks_unused.Symbol as Symbol'
+use Rattle.hnsr_circuit.proofs.tables.places.or_else.Met as Met''
+use Rattle.hnsr_circuit.proofs.tables.places.or_else.Reads as Reads'''
+use Rattle.hnsr_circuit.proofs.tables.places.or_else.Symbol as Symbol''
+use Rattle.hnsr_circuit.proofs.tables.question.pending_has.Met as Met'''
+use Rattle.hnsr_circuit.proofs.tables.question.pending_has.Reads as Reads''''
+use Rattle.hnsr_circuit.proofs.tables.question.pending_has.Symbol as Symbol'''
 use borrow.Fn.Run
 use borrow.Fn.Written
 use contract.Running
@@ -129,8 +129,8 @@ module _ {M : Type 1} where
       (Run.Over 𝓤 H 𝓜 𝓖 𝓡 Code.env) (Reads.known record { M = M; 𝓤 = 𝓤; H = H; 𝓜 = 𝓜; 𝓖 = 𝓖; 𝓡 = 𝓡 } Code.env
       Symbol.name Symbol.routine Code.calls-hns-encoding·numbers·min-usize (Met.met 𝓤 H 𝓜 𝓖 𝓡)) (Reads''.known
       record { M = M; 𝓤 = 𝓤; H = H; 𝓜 = 𝓜; 𝓖 = 𝓖; 𝓡 = 𝓡 } Code.env Symbol'.name Symbol'.routine
-      Code.calls-hnsr-circuit·places·asks-unused (Met'.met 𝓤 H 𝓜 𝓖 𝓡)) (Reads''''.known
+      Code.calls-hnsr-circuit·tables·places·asks-unused (Met'.met 𝓤 H 𝓜 𝓖 𝓡)) (Reads''''.known
       record { M = M; 𝓤 = 𝓤; H = H; 𝓜 = 𝓜; 𝓖 = 𝓖; 𝓡 = 𝓡 } Code.env Symbol'''.name Symbol'''.routine
-      Code.calls-hnsr-circuit·question·pending-has (Met'''.met 𝓤 H 𝓜 𝓖 𝓡)) (Reads'''.known
+      Code.calls-hnsr-circuit·tables·question·pending-has (Met'''.met 𝓤 H 𝓜 𝓖 𝓡)) (Reads'''.known
       record { M = M; 𝓤 = 𝓤; H = H; 𝓜 = 𝓜; 𝓖 = 𝓖; 𝓡 = 𝓡 } Code.env Symbol''.name Symbol''.routine
-      Code.calls-hnsr-circuit·places·or-else (Met''.met 𝓤 H 𝓜 𝓖 𝓡))
+      Code.calls-hnsr-circuit·tables·places·or-else (Met''.met 𝓤 H 𝓜 𝓖 𝓡))

@@ -5,15 +5,15 @@ use Rattle.hns_encoding.proofs.numbers.min_usize.Symbol
 use Rattle.hnsr_circuit.proofs.By.tables.pending.next_pending.Kinds
 use Rattle.hnsr_circuit.proofs.By.tables.pending.next_pending.Lts
 use Rattle.hnsr_circuit.proofs.By.tables.pending.next_pending.Reads as Reads'
-use Rattle.hnsr_circuit.proofs.scan.not_yet.Met as Met'
-use Rattle.hnsr_circuit.proofs.scan.not_yet.Reads as Reads''
-use Rattle.hnsr_circuit.proofs.scan.not_yet.Symbol as Symbol'
-use Rattle.hnsr_circuit.proofs.scan.pending_turn.Met as Met''
-use Rattle.hnsr_circuit.proofs.scan.pending_turn.Reads as Reads'''
-use Rattle.hnsr_circuit.proofs.scan.pending_turn.Symbol as Symbol''
 use Rattle.hnsr_circuit.proofs.tables.pending.next_pending.Code
 use Rattle.hnsr_circuit.proofs.tables.pending.next_pending.Key
 use Rattle.hnsr_circuit.proofs.tables.pending.next_pending.Statement
+use Rattle.hnsr_circuit.proofs.tables.scan.not_yet.Met as Met'
+use Rattle.hnsr_circuit.proofs.tables.scan.not_yet.Reads as Reads''
+use Rattle.hnsr_circuit.proofs.tables.scan.not_yet.Symbol as Symbol'
+use Rattle.hnsr_circuit.proofs.tables.scan.pending_turn.Met as Met''
+use Rattle.hnsr_circuit.proofs.tables.scan.pending_turn.Reads as Reads'''
+use Rattle.hnsr_circuit.proofs.tables.scan.pending_turn.Symbol as Symbol''
 use borrow.Fn.Run
 use borrow.Fn.Written
 use contract.Running
@@ -101,6 +101,6 @@ module _ {M : Type 1} where
       (Run.Over 𝓤 H 𝓜 𝓖 𝓡 Code.env) (Reads.known record { M = M; 𝓤 = 𝓤; H = H; 𝓜 = 𝓜; 𝓖 = 𝓖; 𝓡 = 𝓡 } Code.env
       Symbol.name Symbol.routine Code.calls-hns-encoding·numbers·min-usize (Met.met 𝓤 H 𝓜 𝓖 𝓡)) (Reads''.known
       record { M = M; 𝓤 = 𝓤; H = H; 𝓜 = 𝓜; 𝓖 = 𝓖; 𝓡 = 𝓡 } Code.env Symbol'.name Symbol'.routine
-      Code.calls-hnsr-circuit·scan·not-yet (Met'.met 𝓤 H 𝓜 𝓖 𝓡)) (Reads'''.known
+      Code.calls-hnsr-circuit·tables·scan·not-yet (Met'.met 𝓤 H 𝓜 𝓖 𝓡)) (Reads'''.known
       record { M = M; 𝓤 = 𝓤; H = H; 𝓜 = 𝓜; 𝓖 = 𝓖; 𝓡 = 𝓡 } Code.env Symbol''.name Symbol''.routine
-      Code.calls-hnsr-circuit·scan·pending-turn (Met''.met 𝓤 H 𝓜 𝓖 𝓡))
+      Code.calls-hnsr-circuit·tables·scan·pending-turn (Met''.met 𝓤 H 𝓜 𝓖 𝓡))

@@ -5,12 +5,12 @@ use Rattle.hns_encoding.proofs.numbers.min_usize.Symbol
 use Rattle.hnsr_circuit.proofs.By.tables.pending.pending_due.Kinds
 use Rattle.hnsr_circuit.proofs.By.tables.pending.pending_due.Lts
 use Rattle.hnsr_circuit.proofs.By.tables.pending.pending_due.Reads as Reads'
-use Rattle.hnsr_circuit.proofs.scan.pending_due_turn.Met as Met'
-use Rattle.hnsr_circuit.proofs.scan.pending_due_turn.Reads as Reads''
-use Rattle.hnsr_circuit.proofs.scan.pending_due_turn.Symbol as Symbol'
 use Rattle.hnsr_circuit.proofs.tables.pending.pending_due.Code
 use Rattle.hnsr_circuit.proofs.tables.pending.pending_due.Key
 use Rattle.hnsr_circuit.proofs.tables.pending.pending_due.Statement
+use Rattle.hnsr_circuit.proofs.tables.scan.pending_due_turn.Met as Met'
+use Rattle.hnsr_circuit.proofs.tables.scan.pending_due_turn.Reads as Reads''
+use Rattle.hnsr_circuit.proofs.tables.scan.pending_due_turn.Symbol as Symbol'
 use borrow.Fn.Run
 use borrow.Fn.Written
 use contract.Running
@@ -91,4 +91,4 @@ module _ {M : Type 1} where
       (Run.Over 𝓤 H 𝓜 𝓖 𝓡 Code.env) (Reads.known record { M = M; 𝓤 = 𝓤; H = H; 𝓜 = 𝓜; 𝓖 = 𝓖; 𝓡 = 𝓡 } Code.env
       Symbol.name Symbol.routine Code.calls-hns-encoding·numbers·min-usize (Met.met 𝓤 H 𝓜 𝓖 𝓡)) (Reads''.known
       record { M = M; 𝓤 = 𝓤; H = H; 𝓜 = 𝓜; 𝓖 = 𝓖; 𝓡 = 𝓡 } Code.env Symbol'.name Symbol'.routine
-      Code.calls-hnsr-circuit·scan·pending-due-turn (Met'.met 𝓤 H 𝓜 𝓖 𝓡))
+      Code.calls-hnsr-circuit·tables·scan·pending-due-turn (Met'.met 𝓤 H 𝓜 𝓖 𝓡))

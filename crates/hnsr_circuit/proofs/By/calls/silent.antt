@@ -1,0 +1,3 @@
+pub mod new
+pub mod next_due
+pub mod status

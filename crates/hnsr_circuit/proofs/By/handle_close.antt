@@ -1,5 +1,0 @@
-pub mod close_read
-pub mod handle_close
-pub mod plan_close
-pub mod unmark_circuit
-pub mod unmark_pending

@@ -1,9 +1,0 @@
-pub mod circuit_by_id
-pub mod drop_lapsed
-pub mod drop_usage
-pub mod look_up_action
-pub mod look_up_pending
-pub mod look_up_usage
-pub mod pending_by_id
-pub mod spend
-pub mod trim

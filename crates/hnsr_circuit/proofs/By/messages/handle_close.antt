@@ -1,0 +1,3 @@
+pub mod close_read
+pub mod handle_close
+pub mod plan_close

@@ -1,0 +1,3 @@
+pub mod handle_window
+pub mod pass_window
+pub mod plan_window

@@ -1,0 +1,18 @@
+-- The row is its tests joined, and its refusal.
+use Rattle.hnsr_circuit.specs.Handle.{gateAnswer}
+use borrow.Author.Needs.{needs}
+use Rattle.hnsr_circuit.proofs.calls.handle.gate_answer.Statement.{statement}
+use Rattle.hnsr_circuit.proofs.calls.handle.gate_answer.Tie as tie
+
+no-requires : tie.Need-no-requires
+no-requires c κs = search needs
+
+check-requires : tie.Need-check-requires
+check-requires c κs = search needs
+
+returns : tie.Need-returns
+unfolding gateAnswer
+returns c = cc
+
+pub gate-answer-spec : {M : Type 1} → statement M
+gate-answer-spec = tie.close (tie.spec no-requires check-requires returns)

@@ -1,0 +1,26 @@
+-- The first message, by what is done.
+mod At
+use mathlib.Core.Path.{sym, _∙_}
+use Rattle.hns_encoding.specs.Laws.Tests.{on-true, on-false}
+use borrow.Author.Needs.{needs}
+use Rattle.hnsr_circuit.proofs.calls.revocation.first_message.Statement.{statement}
+use Rattle.hnsr_circuit.proofs.calls.revocation.first_message.Tie as tie
+use Rattle.hnsr_circuit.proofs.calls.revocation.first_message.Proof.At as at
+
+close-to-other-requires : tie.Need-close-to-other-requires
+close-to-other-requires c κs = search needs
+
+error-to-requester-requires : tie.Need-error-to-requester-requires
+error-to-requester-requires c κs = search needs
+
+returns : tie.Need-returns
+returns c =
+    let here = at.returns c in
+    here .close-to-other .ensures ∙ sym (on-true _ _ _ (here .if1 .taken))
+
+returns-2 : tie.Need-returns-2
+returns-2 c = c .before .error-to-requester .ensures ∙ sym (on-false _ _ _ (c .if1 .left))
+
+pub first-message-spec : {M : Type 1} → statement M
+first-message-spec =
+    tie.close (tie.spec close-to-other-requires error-to-requester-requires returns returns-2)

@@ -1,0 +1,29 @@
+-- The sum stops above every count of a peer.
+mod At
+use Rattle.hnsr_circuit.specs.Open.{openAnswer}
+use Prim.Native.Nat.{_<_}
+use Rattle.hnsr_circuit.specs.Laws.Opening.{leb-sum}
+use borrow.Author.Needs.{needs}
+use Rattle.hnsr_circuit.proofs.messages.open.open_room.Statement.{statement}
+use Rattle.hnsr_circuit.proofs.messages.open.open_room.Tie as tie
+use Rattle.hnsr_circuit.proofs.messages.open.open_room.Proof.At as at
+
+-- a peer's most is a number of 16 bits
+small : (c : tie.Start) → c .args .config .«maximum_circuits_per_peer» < 65536
+small c = search needs
+
+saturating-add-usize-requires : tie.Need-saturating-add-usize-requires
+saturating-add-usize-requires c κs = search needs
+
+open-answer-requires : tie.Need-open-answer-requires
+open-answer-requires c κs = search needs
+
+returns : tie.Need-returns
+unfolding openAnswer
+returns c =
+    let here = at.returns c in
+    let s = here .start in
+    rw (here .open-answer .ensures, here .saturating-add-usize .ensures, leb-sum (s .args .config .«maximum_circuits_per_peer») (s .args .waiting .«of_peer») (s .args .running .«of_peer») (small s))
+
+pub open-room-spec : {M : Type 1} → statement M
+open-room-spec = tie.close (tie.spec saturating-add-usize-requires open-answer-requires returns)

@@ -1,0 +1,26 @@
+-- One queue lowered on each side.
+mod At
+use borrow.Author.Needs.{needs}
+use Rattle.hnsr_circuit.proofs.records.circuits.circuit_lowered.Statement.{statement}
+use Rattle.hnsr_circuit.proofs.records.circuits.circuit_lowered.Tie as tie
+use Rattle.hnsr_circuit.proofs.records.circuits.circuit_lowered.Proof.At as at
+
+saturating-sub-usize-requires : tie.Need-saturating-sub-usize-requires
+saturating-sub-usize-requires c κs = search needs
+
+saturating-sub-usize-requires-2 : tie.Need-saturating-sub-usize-requires-2
+saturating-sub-usize-requires-2 c κs = search needs
+
+returns : tie.Need-returns
+returns c =
+    let here = at.returns c in
+    rw (here .enum-told .given .1) (cc)
+
+returns-2 : tie.Need-returns-2
+returns-2 c =
+    let here = at.returns-2 c in
+    rw (here .enum-told2 .given .1) (cc)
+
+pub circuit-lowered-spec : {M : Type 1} → statement M
+circuit-lowered-spec =
+    tie.close (at.spec saturating-sub-usize-requires saturating-sub-usize-requires-2 returns returns-2)

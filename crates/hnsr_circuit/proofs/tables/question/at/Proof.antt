@@ -1,0 +1,13 @@
+-- The question, with nobody for its peer.
+use borrow.Author.Needs.{needs}
+use Rattle.hnsr_circuit.proofs.tables.question.at.Statement.{statement}
+use Rattle.hnsr_circuit.proofs.tables.question.at.Tie as tie
+
+no-peer-requires : tie.Need-no-peer-requires
+no-peer-requires c κs = search needs
+
+returns : tie.Need-returns
+returns c = rw (c .no-peer .ensures)
+
+pub at-spec : {M : Type 1} → statement M
+at-spec = tie.close (tie.spec no-peer-requires returns)

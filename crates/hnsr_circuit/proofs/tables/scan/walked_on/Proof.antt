@@ -1,0 +1,33 @@
+-- The three tests joined.
+mod At
+use borrow.Author.Needs.{needs}
+use Rattle.hnsr_circuit.proofs.tables.scan.walked_on.Statement.{statement}
+use Rattle.hnsr_circuit.proofs.tables.scan.walked_on.Tie as tie
+use Rattle.hnsr_circuit.proofs.tables.scan.walked_on.Proof.At as at
+
+above-requires : tie.Need-above-requires
+above-requires c κs = search needs
+
+both-requires : tie.Need-both-requires
+both-requires c κs = search needs
+
+better-requires : tie.Need-better-requires
+better-requires c κs = search needs
+
+both-requires-2 : tie.Need-both-requires-2
+both-requires-2 c κs = search needs
+
+returns : tie.Need-returns
+returns c =
+    let here = at.returns c in
+    rw (← (here .above .ensures), ← (here .both .ensures), ← (here .better .ensures), ← (here .both2 .ensures), here .if1 .taken)
+
+returns-2 : tie.Need-returns-2
+returns-2 c =
+    let here = at.returns-2 c in
+    rw (← (here .above .ensures), ← (here .both .ensures), ← (here .better .ensures), ← (here .both2 .ensures), here .if1 .left)
+
+pub walked-on-spec : {M : Type 1} → statement M
+walked-on-spec =
+    tie.close
+    (tie.spec above-requires both-requires better-requires both-requires-2 returns returns-2)

@@ -1,0 +1,256 @@
+// `handle`: entry, clock, gate, and the opcode picks the handling (document 01, "Down through the call").
+ghost use mathlib.Core.Path.{_≡_};
+ghost use mathlib.Core.Bool.{_||_};
+ghost use Prim.Native.Nat.{_<_};
+ghost use lib.Dec.{ltb};
+ghost use lib.ListN.{length};
+ghost use Rattle.hnsr_circuit.specs.Code.Held.{worldSeen, handedSeen};
+ghost use Rattle.hnsr_circuit.specs.declared.answer.HnsrAnswer.the-variants.{Refused};
+ghost use Rattle.hnsr_circuit.specs.declared.answer.HnsrRuntimeError.the-variants.{Short, UnexpectedOpcode};
+ghost use Rattle.hnsr_circuit.specs.Answers.{check, _then_};
+ghost use Rattle.hnsr_circuit.specs.Entry.{handleWords, peerAnswer, packetAnswer, clockAnswer};
+ghost use Rattle.hnsr_circuit.specs.Handle.{handlingOf, dispatch, gateAnswer, handleGate};
+ghost use Rattle.hnsr_circuit.specs.Call.{step, callHandle};
+ghost use Rattle.hnsr_circuit.specs.Code.Progress.{packetOf, ending, outcome};
+use crate::answer::HnsrAnswer;
+use crate::answer::HnsrRuntimeError;
+use crate::answer::body_answer;
+use crate::answer::check;
+use crate::answer::first_refusal;
+use crate::answer::is_taken;
+use crate::entry::clock_answer;
+use crate::entry::peer_answer;
+use crate::entry::too_few;
+use crate::messages::handle_accept::handle_accept;
+use crate::messages::handle_close::handle_close;
+use crate::messages::handle_data::handle_data;
+use crate::messages::handle_open::handle_open;
+use crate::messages::handle_window::handle_window;
+use crate::output::route::HANDLE_WORDS;
+use crate::records::InflightAction;
+use crate::records::RelayCircuit;
+use crate::records::RelayPending;
+use crate::records::ReservationUsage;
+use crate::records::header::with_clock;
+use crate::runtime::OpaqueRelayRuntime;
+use crate::runtime::RelayPacket;
+use crate::runtime::Relayed;
+use crate::runtime::refused;
+use crate::tables::lookup::trim;
+use crate::tables::places::Places;
+use hns_encoding::logic::either;
+use hns_encoding::logic::no;
+use hnsr_body::envelope::HnsrPacket;
+
+// ---- entry
+
+// 22: output words too few, or a table shorter than its maximum.
+fn room_answer(room: usize, few: bool) -> HnsrAnswer
+    ensures { λ r. ⌜ r ≡ check (ltb room handleWords || few) Short ⌝ }
+{
+    let short = either(room < HANDLE_WORDS, few);
+    check(short, HnsrRuntimeError::Short)
+}
+
+// 1: what `HnsrPacket::validate` refuses
+fn packet_answer(packet: RelayPacket, body_size: usize) -> HnsrAnswer
+    ensures { λ r. ⌜ r ≡ packetAnswer (packet .opcode) (packet .«context_id») «body_size» ⌝ }
+{
+    let envelope = HnsrPacket {
+        opcode: packet.opcode,
+        context_id: packet.context_id,
+        body_length: body_size,
+    };
+    let checked = envelope.validate();
+    body_answer(checked)
+}
+
+// 4, 1 and 7, in this order, behind 22.
+fn entry_answer(
+    room: HnsrAnswer,
+    runtime: OpaqueRelayRuntime,
+    packet: RelayPacket,
+    source: usize,
+    body: usize,
+) -> HnsrAnswer
+    ensures { λ r. ⌜ r ≡ ((room then peerAnswer source then packetAnswer (packet .opcode) (packet .«context_id») body) then clockAnswer (runtime .«trusted_time_high_water») (packet .now)) ⌝ }
+{
+    let named = peer_answer(source);
+    let enveloped = packet_answer(packet, body);
+    let rest = first_refusal(named, enveloped);
+    let entered = first_refusal(room, rest);
+    let clock = clock_answer(runtime.trusted_time_high_water, packet.now);
+    first_refusal(entered, clock)
+}
+
+// 9: disabled
+pub(crate) fn gate_answer(enabled: bool) -> HnsrAnswer
+    ensures { λ r. ⌜ r ≡ gateAnswer enabled ⌝ }
+{
+    check(no(enabled), HnsrRuntimeError::Disabled)
+}
+
+// ---- the opcode picks the handling
+
+// 16: another opcode, 21 up included
+fn unexpected(runtime: OpaqueRelayRuntime, places: Places) -> Relayed
+    ensures { λ r. ⌜ ((r .runtime ≡ runtime) × (r .answer ≡ Refused UnexpectedOpcode) × (r .words ≡ 0)) × (r .places ≡ places) ⌝ }
+{
+    Relayed {
+        runtime,
+        answer: HnsrAnswer::Refused(HnsrRuntimeError::UnexpectedOpcode),
+        words: 0,
+        places,
+    }
+}
+
+// 13 OPEN, 15 ACCEPT, 17 DATA, 18 WINDOW, 19 CLOSE and 20 ERROR
+pub(crate) fn dispatch(
+    pending: &mut [RelayPending],
+    circuits: &mut [RelayCircuit],
+    ledger: &mut [ReservationUsage],
+    inflight: &mut [InflightAction],
+    out: &mut [u32],
+    relay: OpaqueRelayRuntime,
+    places: Places,
+    packet: RelayPacket,
+    peer: &[u8],
+    body: &[u8],
+    endpoint: &[u8],
+    random: &[u8],
+) -> Relayed
+    requires { ⌜ length (now body) < 65536 ⌝ }
+    ensures { λ r. ⌜ handedSeen r (now (pending .exit)) (now (circuits .exit)) (now (ledger .exit)) (now (inflight .exit)) (now (out .exit)) ≡ ending (now (out .entry)) (dispatch (handlingOf (packet .opcode)) (worldSeen relay places (now (pending .entry)) (now (circuits .entry)) (now (ledger .entry)) (now (inflight .entry))) (packetOf packet (now (peer .entry)) (now (body .entry)) (now (endpoint .entry)) (now (random .entry)))) ⌝ }
+{
+    let opcode = packet.opcode;
+    match opcode {
+        13 => handle_open(
+            pending,
+            circuits,
+            ledger,
+            inflight,
+            out,
+            relay,
+            places,
+            packet,
+            peer,
+            body,
+            endpoint,
+            random,
+        ),
+        15 => handle_accept(
+            pending,
+            circuits,
+            inflight,
+            out,
+            relay,
+            places,
+            packet,
+            peer,
+            body,
+        ),
+        17 => handle_data(
+            circuits,
+            ledger,
+            inflight,
+            out,
+            relay,
+            places,
+            packet,
+            peer,
+            body,
+        ),
+        18 => handle_window(circuits, inflight, out, relay, places, packet, peer, body),
+        19..=20 => handle_close(
+            pending,
+            circuits,
+            inflight,
+            out,
+            relay,
+            places,
+            packet,
+            peer,
+            body,
+        ),
+        0..=12 | 14 | 16 | 21..=255 => unexpected(relay, places),
+    }
+}
+
+// From here on the clock has moved.
+pub(crate) fn handle_gate(
+    pending: &mut [RelayPending],
+    circuits: &mut [RelayCircuit],
+    ledger: &mut [ReservationUsage],
+    inflight: &mut [InflightAction],
+    out: &mut [u32],
+    runtime: OpaqueRelayRuntime,
+    places: Places,
+    packet: RelayPacket,
+    source: &[u8],
+    body: &[u8],
+    endpoint: &[u8],
+    random: &[u8],
+) -> Relayed
+    requires { ⌜ length (now body) < 65536 ⌝ }
+    ensures { λ r. ⌜ handedSeen r (now (pending .exit)) (now (circuits .exit)) (now (ledger .exit)) (now (inflight .exit)) (now (out .exit)) ≡ ending (now (out .entry)) (handleGate (worldSeen runtime places (now (pending .entry)) (now (circuits .entry)) (now (ledger .entry)) (now (inflight .entry))) (packetOf packet (now (source .entry)) (now (body .entry)) (now (endpoint .entry)) (now (random .entry)))) ⌝ }
+{
+    let answer = gate_answer(runtime.enabled);
+    if is_taken(answer) {
+        return dispatch(
+            pending,
+            circuits,
+            ledger,
+            inflight,
+            out,
+            runtime,
+            places,
+            packet,
+            source,
+            body,
+            endpoint,
+            random,
+        );
+    }
+    refused(runtime, places, answer)
+}
+
+pub fn handle(
+    pending: &mut [RelayPending],
+    circuits: &mut [RelayCircuit],
+    ledger: &mut [ReservationUsage],
+    inflight: &mut [InflightAction],
+    out: &mut [u32],
+    runtime: OpaqueRelayRuntime,
+    places: Places,
+    packet: RelayPacket,
+    source: &[u8],
+    body: &[u8],
+    endpoint: &[u8],
+    random: &[u8],
+) -> Relayed
+    ensures { λ r. ⌜ handedSeen r (now (pending .exit)) (now (circuits .exit)) (now (ledger .exit)) (now (inflight .exit)) (now (out .exit)) ≡ outcome (now (out .entry)) (step (worldSeen runtime places (now (pending .entry)) (now (circuits .entry)) (now (ledger .entry)) (now (inflight .entry))) (callHandle (packetOf packet (now (source .entry)) (now (body .entry)) (now (endpoint .entry)) (now (random .entry))) (length (now (out .entry))))) ⌝ }
+{
+    let config = runtime.config;
+    let few = too_few(config, pending.len(), circuits.len(), inflight.len());
+    let room = room_answer(out.len(), few);
+    let answer = entry_answer(room, runtime, packet, source.len(), body.len());
+    if is_taken(answer) {
+        let moved = with_clock(runtime, packet.now);
+        let fewer = trim(pending, circuits, ledger, inflight, places);
+        return handle_gate(
+            pending,
+            circuits,
+            ledger,
+            inflight,
+            out,
+            moved,
+            fewer,
+            packet,
+            source,
+            body,
+            endpoint,
+            random,
+        );
+    }
+    refused(runtime, places, answer)
+}

@@ -1,0 +1,380 @@
+// The revoking calls: disconnect, revoke_reservation, expire, replace_enabled (document 01, "Down through the call").
+ghost use mathlib.Core.Path.{_≡_};
+ghost use mathlib.Core.Bool.{Bool·beq, false, not, _||_};
+ghost use mathlib.Core.List.{List};
+ghost use Prim.Native.Nat.{_+_, _*_, _<_};
+ghost use lib.Dec.{ltb};
+ghost use lib.ListN.{length};
+ghost use Rattle.hns_encoding.specs.Sums.{count};
+ghost use Rattle.hnsr_circuit.specs.Code.Held.{heldPending, heldCircuits, asksUnused, worldSeen, handedSeen};
+ghost use Rattle.hnsr_circuit.specs.declared.answer.HnsrRuntimeError.the-variants.{Short};
+ghost use Rattle.hnsr_circuit.specs.declared.records.ReservationUsage.{ReservationUsage};
+ghost use Rattle.hnsr_circuit.specs.Answers.{check};
+ghost use Rattle.hnsr_circuit.specs.Table.{notYet, next};
+ghost use Rattle.hnsr_circuit.specs.Code.Question.{used, pendingHas, circuitHas};
+ghost use Rattle.hnsr_circuit.specs.Pending.{isPending, pendingId};
+ghost use Rattle.hnsr_circuit.specs.Circuits.{isCircuit, circuitId};
+ghost use Rattle.hnsr_circuit.specs.Entry.{closingWords, tooFew};
+ghost use Rattle.hnsr_circuit.specs.Call.{step, callDisconnect, callRevokeReservation, callExpire, callReplaceEnabled};
+ghost use Rattle.hnsr_circuit.specs.Code.Progress.{outcome, ending};
+ghost use Rattle.hnsr_circuit.specs.RevokingCalls.{changeAnswer, switchTo};
+ghost use Rattle.hnsr_circuit.specs.Code.Revoking.{disconnectingAll};
+use crate::answer::HnsrAnswer;
+use crate::answer::HnsrRuntimeError;
+use crate::answer::check;
+use crate::answer::first_refusal;
+use crate::answer::is_taken;
+use crate::calls::revocation::Firsts;
+use crate::calls::revocation::Revoking;
+use crate::calls::revocation::revoke_all;
+use crate::config::OpaqueRelayConfig;
+use crate::entry::clock_answer;
+use crate::entry::generation_answer;
+use crate::entry::peer_answer;
+use crate::entry::too_few;
+use crate::output::route::CLOSING_WORDS;
+use crate::peer::HnsrPeerId;
+use crate::peer::peer_of;
+use crate::records::InflightAction;
+use crate::records::RelayCircuit;
+use crate::records::RelayPending;
+use crate::records::ReservationUsage;
+use crate::records::header::with_clock;
+use crate::records::header::with_enabled;
+use crate::runtime::OpaqueRelayRuntime;
+use crate::runtime::Relayed;
+use crate::runtime::refused;
+use crate::runtime::taken_with;
+use crate::tables::circuits::survey_circuit;
+use crate::tables::inflight::clear_action;
+use crate::tables::pending::survey_pending;
+use crate::tables::places::Places;
+use crate::tables::question::Question;
+use crate::tables::question::of_peer;
+use crate::tables::question::over;
+use crate::tables::question::under;
+use crate::tables::question::used;
+use crate::tables::scan::Survey;
+use crate::tables::stores::drop_lapsed;
+use crate::tables::stores::drop_usage;
+use hns_encoding::logic::both;
+use hns_encoding::logic::either;
+use hns_encoding::logic::no;
+use hns_encoding::numbers::saturating_add_usize;
+use hnsr_body::messages::Notice;
+use hnsr_body::values::ReservationId;
+
+// replace_enabled, 6: generation at 2^64 − 1 and the state would change
+pub(crate) fn change_answer(generation: u64, changes: bool) -> HnsrAnswer
+    ensures { λ r. ⌜ r ≡ changeAnswer generation changes ⌝ }
+{
+    let refused = both(changes, generation == u64::MAX);
+    check(refused, HnsrRuntimeError::GenerationExhausted)
+}
+
+// ---- entry
+
+// Whether the output is too short for so many records.
+fn room_short(room: usize, pending: usize, circuits: usize) -> bool
+    ensures { λ r. ⌜ r ≡ ltb room (closingWords * (pending + circuits)) ⌝ }
+{
+    let records = saturating_add_usize(pending, circuits);
+    room / CLOSING_WORDS < records
+}
+
+fn room_answer(
+    config: OpaqueRelayConfig,
+    pending: usize,
+    circuits: usize,
+    inflight: usize,
+    short: bool,
+) -> HnsrAnswer
+    ensures { λ r. ⌜ r ≡ check (short || tooFew config pending circuits inflight) Short ⌝ }
+{
+    let few = too_few(config, pending, circuits, inflight);
+    let refused = either(short, few);
+    check(refused, HnsrRuntimeError::Short)
+}
+
+// What a revoking call finds at entry: its answer, and the first record that each walk takes.
+pub struct Entered {
+    pub answer: HnsrAnswer,
+    pub first: Firsts,
+}
+
+fn entry_found(answer: HnsrAnswer, waiting: Survey, active: Survey) -> Entered
+    ensures { λ r. ⌜ (r .answer ≡ answer) × (r .first .pending ≡ waiting .first) × (r .first .circuits ≡ active .first) ⌝ }
+{
+    let pending = waiting.first;
+    let circuits = active.first;
+    let first = Firsts { pending, circuits };
+    Entered { answer, first }
+}
+
+// 22: output words too few, or a table shorter than its maximum. One pass over each table.
+pub(crate) fn entry_answer(
+    pending: &[RelayPending],
+    circuits: &[RelayCircuit],
+    places: Places,
+    inflight: usize,
+    room: usize,
+    config: OpaqueRelayConfig,
+    question: Question,
+) -> Entered
+    requires { ⌜ asksUnused (question .ask) ≡ false ⌝ }
+    ensures { λ r. ⌜ (r .answer ≡ check (ltb room (closingWords * (count isPending (heldPending places (now (pending .entry))) + count isCircuit (heldCircuits places (now (circuits .entry))))) || tooFew config (length (heldPending places (now (pending .entry)))) (length (heldCircuits places (now (circuits .entry)))) inflight) Short) × (r .first .pending ≡ next pendingId (pendingHas question) notYet (heldPending places (now (pending .entry)))) × (r .first .circuits ≡ next circuitId (circuitHas question) notYet (heldCircuits places (now (circuits .entry)))) ⌝ }
+{
+    let waiting = survey_pending(pending, places, question);
+    let active = survey_circuit(circuits, places, question);
+    let short = room_short(room, waiting.used, active.used);
+    let answer = room_answer(config, pending.len(), circuits.len(), inflight, short);
+    entry_found(answer, waiting, active)
+}
+
+// ---- what each revokes
+
+fn disconnecting(peer: HnsrPeerId) -> Revoking
+    ensures { λ r. ⌜ r ≡ disconnectingAll peer ⌝ }
+{
+    let question = of_peer(peer);
+    Revoking {
+        question,
+        notice: Notice::PeerDisconnected,
+        circuit_notice: Notice::PeerDisconnected,
+        disconnecting: true,
+    }
+}
+
+fn revoking(question: Question, notice: Notice, circuit_notice: Notice) -> Revoking
+    ensures { λ r. ⌜ (r .question ≡ question) × (r .notice ≡ notice) × (r .«circuit_notice» ≡ «circuit_notice») × (r .disconnecting ≡ false) ⌝ }
+{
+    Revoking {
+        question,
+        notice,
+        circuit_notice,
+        disconnecting: false,
+    }
+}
+
+// ---- the calls
+
+// First drops every action toward that peer, then revokes the records it is a side of.
+pub fn disconnect(
+    pending: &mut [RelayPending],
+    circuits: &mut [RelayCircuit],
+    inflight: &mut [InflightAction],
+    out: &mut [u32],
+    runtime: OpaqueRelayRuntime,
+    places: Places,
+    peer: &[u8],
+) -> Relayed
+    ensures { λ r. ⌜ ((l : List ReservationUsage) → handedSeen r (now (pending .exit)) (now (circuits .exit)) l (now (inflight .exit)) (now (out .exit)) ≡ outcome (now (out .entry)) (step (worldSeen runtime places (now (pending .entry)) (now (circuits .entry)) l (now (inflight .entry))) (callDisconnect (now (peer .entry)) (length (now (out .entry)))))) ⌝ }
+{
+    let config = runtime.config;
+    let name = peer_of(peer);
+    let question = of_peer(name);
+    let entry = entry_answer(
+        pending,
+        circuits,
+        places,
+        inflight.len(),
+        out.len(),
+        config,
+        question,
+    );
+    let room = entry.answer;
+    let first = entry.first;
+    let named = peer_answer(peer.len());
+    let answer = first_refusal(room, named);
+    if is_taken(answer) {
+        let all = disconnecting(name);
+        clear_action(inflight, places, question);
+        return revoke_all(
+            pending,
+            circuits,
+            inflight,
+            out,
+            runtime,
+            places,
+            all,
+            first,
+        );
+    }
+    refused(runtime, places, answer)
+}
+
+// Revokes the records that store the reservation's id and removes its ledger record.
+pub fn revoke_reservation(
+    pending: &mut [RelayPending],
+    circuits: &mut [RelayCircuit],
+    ledger: &mut [ReservationUsage],
+    inflight: &mut [InflightAction],
+    out: &mut [u32],
+    runtime: OpaqueRelayRuntime,
+    places: Places,
+    id: ReservationId,
+) -> Relayed
+    ensures { λ r. ⌜ handedSeen r (now (pending .exit)) (now (circuits .exit)) (now (ledger .exit)) (now (inflight .exit)) (now (out .exit)) ≡ outcome (now (out .entry)) (step (worldSeen runtime places (now (pending .entry)) (now (circuits .entry)) (now (ledger .entry)) (now (inflight .entry))) (callRevokeReservation id (length (now (out .entry))))) ⌝ }
+{
+    let config = runtime.config;
+    let question = under(id);
+    let entry = entry_answer(
+        pending,
+        circuits,
+        places,
+        inflight.len(),
+        out.len(),
+        config,
+        question,
+    );
+    let answer = entry.answer;
+    let first = entry.first;
+    if is_taken(answer) {
+        let all = revoking(
+            question,
+            Notice::ReservationRevoked,
+            Notice::ReservationRevoked,
+        );
+        drop_usage(ledger, places, id);
+        return revoke_all(
+            pending,
+            circuits,
+            inflight,
+            out,
+            runtime,
+            places,
+            all,
+            first,
+        );
+    }
+    refused(runtime, places, answer)
+}
+
+// Drops ledger records as OPEN does, then revokes pending records whose deadline or expiry, and circuits whose expiry, is not after now.
+pub fn expire(
+    pending: &mut [RelayPending],
+    circuits: &mut [RelayCircuit],
+    ledger: &mut [ReservationUsage],
+    inflight: &mut [InflightAction],
+    out: &mut [u32],
+    runtime: OpaqueRelayRuntime,
+    places: Places,
+    time: u64,
+) -> Relayed
+    ensures { λ r. ⌜ handedSeen r (now (pending .exit)) (now (circuits .exit)) (now (ledger .exit)) (now (inflight .exit)) (now (out .exit)) ≡ outcome (now (out .entry)) (step (worldSeen runtime places (now (pending .entry)) (now (circuits .entry)) (now (ledger .entry)) (now (inflight .entry))) (callExpire time (length (now (out .entry))))) ⌝ }
+{
+    let config = runtime.config;
+    let question = over(time);
+    let entry = entry_answer(
+        pending,
+        circuits,
+        places,
+        inflight.len(),
+        out.len(),
+        config,
+        question,
+    );
+    let room = entry.answer;
+    let first = entry.first;
+    let clock = clock_answer(runtime.trusted_time_high_water, time);
+    let answer = first_refusal(room, clock);
+    if is_taken(answer) {
+        let all = revoking(question, Notice::AcceptanceExpired, Notice::TicketExpired);
+        let moved = with_clock(runtime, time);
+        drop_lapsed(ledger, places, time);
+        return revoke_all(pending, circuits, inflight, out, moved, places, all, first);
+    }
+    refused(runtime, places, answer)
+}
+
+// Whether the state would change.
+fn changed(before: bool, enabled: bool) -> bool
+    ensures { λ r. ⌜ r ≡ not (Bool·beq before enabled) ⌝ }
+{
+    if before {
+        return no(enabled);
+    }
+    enabled
+}
+
+// A changed state raises the generation, drops every action, sets the sequence to 1 and, if off, revokes all.
+pub(crate) fn switch_to(
+    pending: &mut [RelayPending],
+    circuits: &mut [RelayCircuit],
+    inflight: &mut [InflightAction],
+    out: &mut [u32],
+    runtime: OpaqueRelayRuntime,
+    places: Places,
+    enabled: bool,
+    first: Firsts,
+) -> Relayed
+    requires { ⌜ (runtime .generation < 18446744073709551615) × (first .pending ≡ next pendingId (pendingHas used) notYet (heldPending places (now pending))) × (first .circuits ≡ next circuitId (circuitHas used) notYet (heldCircuits places (now circuits))) ⌝ }
+    ensures { λ r. ⌜ ((l : List ReservationUsage) → handedSeen r (now (pending .exit)) (now (circuits .exit)) l (now (inflight .exit)) (now (out .exit)) ≡ ending (now (out .entry)) (switchTo (worldSeen runtime places (now (pending .entry)) (now (circuits .entry)) l (now (inflight .entry))) enabled)) ⌝ }
+{
+    let every = used();
+    let switched = with_enabled(runtime, enabled);
+    clear_action(inflight, places, every);
+    if enabled {
+        return taken_with(switched, places);
+    }
+    let all = revoking(every, Notice::RelayDisabled, Notice::RelayDisabled);
+    revoke_all(
+        pending,
+        circuits,
+        inflight,
+        out,
+        switched,
+        places,
+        all,
+        first,
+    )
+}
+
+// The same state changes nothing.
+pub fn replace_enabled(
+    pending: &mut [RelayPending],
+    circuits: &mut [RelayCircuit],
+    inflight: &mut [InflightAction],
+    out: &mut [u32],
+    runtime: OpaqueRelayRuntime,
+    places: Places,
+    expected_generation: u64,
+    enabled: bool,
+) -> Relayed
+    ensures { λ r. ⌜ ((l : List ReservationUsage) → handedSeen r (now (pending .exit)) (now (circuits .exit)) l (now (inflight .exit)) (now (out .exit)) ≡ outcome (now (out .entry)) (step (worldSeen runtime places (now (pending .entry)) (now (circuits .entry)) l (now (inflight .entry))) (callReplaceEnabled «expected_generation» enabled (length (now (out .entry)))))) ⌝ }
+{
+    let config = runtime.config;
+    let every = used();
+    let entry = entry_answer(
+        pending,
+        circuits,
+        places,
+        inflight.len(),
+        out.len(),
+        config,
+        every,
+    );
+    let room = entry.answer;
+    let first = entry.first;
+    let current = generation_answer(runtime.generation, expected_generation);
+    let changes = changed(runtime.enabled, enabled);
+    let exhausted = change_answer(runtime.generation, changes);
+    let rest = first_refusal(current, exhausted);
+    let answer = first_refusal(room, rest);
+    if is_taken(answer) {
+        if changes {
+            return switch_to(
+                pending,
+                circuits,
+                inflight,
+                out,
+                runtime,
+                places,
+                enabled,
+                first,
+            );
+        }
+        return taken_with(runtime, places);
+    }
+    refused(runtime, places, answer)
+}

@@ -1,0 +1,235 @@
+// The calls that send nothing: new, status, next_due, observe_time.
+ghost use mathlib.Core.Path.{_≡_};
+ghost use mathlib.Core.Bool.{cond, _||_};
+ghost use mathlib.Core.List.{List};
+ghost use Prim.Native.Nat.{ℕ};
+ghost use lib.Dec.{eqb};
+ghost use Rattle.hnsr_circuit.specs.Code.Held.{heldPending, heldCircuits, heldLedger, heldActions, worldSeen, handedSeen};
+ghost use Rattle.hnsr_circuit.specs.declared.records.RelayPending.{RelayPending};
+ghost use Rattle.hnsr_circuit.specs.declared.records.RelayCircuit.{RelayCircuit};
+ghost use Rattle.hnsr_circuit.specs.declared.records.ReservationUsage.{ReservationUsage};
+ghost use Rattle.hnsr_circuit.specs.declared.records.InflightAction.{InflightAction};
+ghost use Rattle.hnsr_circuit.specs.declared.runtime.OpaqueRelayRuntime.{OpaqueRelayRuntime};
+ghost use Rattle.hnsr_circuit.specs.declared.answer.HnsrRuntimeError.the-variants.{Short};
+ghost use Rattle.hnsr_circuit.specs.Answers.{check, _then_};
+ghost use Rattle.hnsr_circuit.specs.Config.{validateConfig};
+ghost use Rattle.hnsr_circuit.specs.New.{sessionAnswer};
+ghost use Rattle.hnsr_circuit.specs.Code.Told.{noStatus, statusTold, dueTold, Made};
+ghost use Rattle.hnsr_circuit.specs.Status.{statusFrom};
+ghost use Rattle.hnsr_circuit.specs.declared.runtime.NextDue.the-variants.{Never};
+ghost use Rattle.hnsr_circuit.specs.Code.Progress.{outcome};
+ghost use Rattle.hnsr_circuit.specs.World.{worldOf};
+ghost use Rattle.hnsr_circuit.specs.Call.{start, step, callStatus, callNextDue, callObserveTime};
+use crate::answer::HnsrAnswer;
+use crate::answer::HnsrRuntimeError;
+use crate::answer::check;
+use crate::answer::first_refusal;
+use crate::answer::is_taken;
+use crate::config::OpaqueRelayConfig;
+use crate::entry::clock_answer;
+use crate::entry::too_few;
+use crate::records::InflightAction;
+use crate::records::RelayCircuit;
+use crate::records::RelayPending;
+use crate::records::ReservationUsage;
+use crate::records::header::new_header;
+use crate::records::header::no_runtime;
+use crate::records::header::with_clock;
+use crate::runtime::DueTold;
+use crate::runtime::HnsrRuntimeStatus;
+use crate::runtime::NextDue;
+use crate::runtime::OpaqueRelayRuntime;
+use crate::runtime::Relayed;
+use crate::runtime::StatusTold;
+use crate::runtime::refused;
+use crate::runtime::taken_with;
+use crate::tables::circuits::circuit_due;
+use crate::tables::circuits::circuit_totals;
+use crate::tables::inflight::count_action;
+use crate::tables::pending::count_pending;
+use crate::tables::pending::pending_due;
+use crate::tables::places::Places;
+use crate::tables::places::every_place;
+use crate::tables::places::no_place;
+use crate::tables::question::used;
+use crate::tables::scan::CircuitTotals;
+use hns_encoding::logic::either;
+use hnsr_body::values::is_zero;
+
+// ---- new
+
+// 3: session zero or generation 0
+fn session_answer(session: [u8; 16], generation: u64) -> HnsrAnswer
+    ensures { λ r. ⌜ r ≡ sessionAnswer session generation ⌝ }
+{
+    let zero = is_zero(&session);
+    let refused = either(zero, generation == 0);
+    check(refused, HnsrRuntimeError::InvalidSession)
+}
+
+// 3; 2: what `validate` refuses; 22: a table has fewer places than its maximum, or the ledger none
+fn new_answer(
+    session: [u8; 16],
+    generation: u64,
+    config: OpaqueRelayConfig,
+    few: bool,
+    ledger: usize,
+) -> HnsrAnswer
+    ensures { λ r. ⌜ r ≡ (sessionAnswer session generation then validateConfig config then check (few || eqb ledger 0) Short) ⌝ }
+{
+    let named = session_answer(session, generation);
+    let valid = config.validate();
+    let short = either(few, ledger == 0);
+    let room = check(short, HnsrRuntimeError::Short);
+    let rest = first_refusal(valid, room);
+    first_refusal(named, rest)
+}
+
+// No place is in use, whatever the tables hold: no table is touched. Where it is refused every place stays as found, and the runtime is zeros and off.
+pub fn new(
+    pending: &[RelayPending],
+    circuits: &[RelayCircuit],
+    ledger: &[ReservationUsage],
+    inflight: &[InflightAction],
+    session: [u8; 16],
+    generation: u64,
+    config: OpaqueRelayConfig,
+    time: u64,
+) -> Relayed
+    ensures { λ r. ⌜ ((h : OpaqueRelayRuntime) → Made r (heldPending (r .places) (now (pending .entry))) (heldCircuits (r .places) (now (circuits .entry))) (heldLedger (r .places) (now (ledger .entry))) (heldActions (r .places) (now (inflight .entry))) (start (worldOf h (now (pending .entry)) (now (circuits .entry)) (now (ledger .entry)) (now (inflight .entry))) (record { session = session; generation = generation; config = config; now = time }))) ⌝ }
+{
+    let few = too_few(config, pending.len(), circuits.len(), inflight.len());
+    let answer = new_answer(session, generation, config, few, ledger.len());
+    let runtime = new_header(session, generation, config, time);
+    if is_taken(answer) {
+        let none = no_place();
+        return taken_with(runtime, none);
+    }
+    let off = no_runtime();
+    let every = every_place();
+    refused(off, every, answer)
+}
+
+// ---- status
+
+fn no_status() -> HnsrRuntimeStatus
+    ensures { λ r. ⌜ r ≡ noStatus ⌝ }
+{
+    HnsrRuntimeStatus {
+        generation: 0,
+        enabled: false,
+        pending_circuits: 0,
+        active_circuits: 0,
+        queued_bytes: 0,
+        queued_actions: 0,
+        trusted_time_high_water: 0,
+        admitted_opens: 0,
+        opened_circuits: 0,
+        bytes_sent: 0,
+        bytes_received: 0,
+        revoked_work: 0,
+    }
+}
+
+fn status_of(
+    runtime: OpaqueRelayRuntime,
+    waiting: usize,
+    totals: CircuitTotals,
+    actions: usize,
+) -> HnsrRuntimeStatus
+    ensures { λ r. ⌜ r ≡ statusFrom runtime waiting totals actions ⌝ }
+{
+    let counters = runtime.counters;
+    HnsrRuntimeStatus {
+        generation: runtime.generation,
+        enabled: runtime.enabled,
+        pending_circuits: waiting,
+        active_circuits: totals.used,
+        queued_bytes: totals.queued_bytes,
+        queued_actions: actions,
+        trusted_time_high_water: runtime.trusted_time_high_water,
+        admitted_opens: counters.admitted_opens,
+        opened_circuits: counters.opened_circuits,
+        bytes_sent: counters.bytes_sent,
+        bytes_received: counters.bytes_received,
+        revoked_work: counters.revoked_work,
+    }
+}
+
+fn status_told(few: bool, status: HnsrRuntimeStatus) -> StatusTold
+    ensures { λ r. ⌜ (r .answer ≡ check few Short) × (r .status ≡ cond few noStatus status) ⌝ }
+{
+    let answer = check(few, HnsrRuntimeError::Short);
+    let none = no_status();
+    if few {
+        return StatusTold {
+            answer,
+            status: none,
+        };
+    }
+    StatusTold { answer, status }
+}
+
+pub fn status(
+    pending: &[RelayPending],
+    circuits: &[RelayCircuit],
+    inflight: &[InflightAction],
+    runtime: OpaqueRelayRuntime,
+    places: Places,
+) -> StatusTold
+    ensures { λ r. ⌜ ((l : List ReservationUsage) → r ≡ statusTold (step (worldSeen runtime places (now (pending .entry)) (now (circuits .entry)) l (now (inflight .entry))) callStatus)) ⌝ }
+{
+    let config = runtime.config;
+    let question = used();
+    let waiting = count_pending(pending, places, question);
+    let totals = circuit_totals(circuits, places);
+    let outstanding = count_action(inflight, places, question);
+    let few = too_few(config, pending.len(), circuits.len(), inflight.len());
+    let all = status_of(runtime, waiting, totals, outstanding);
+    status_told(few, all)
+}
+
+// ---- next due
+
+fn due_told(few: bool, due: NextDue) -> DueTold
+    ensures { λ r. ⌜ (r .answer ≡ check few Short) × (r .due ≡ cond few Never due) ⌝ }
+{
+    let answer = check(few, HnsrRuntimeError::Short);
+    if few {
+        return DueTold {
+            answer,
+            due: NextDue::Never,
+        };
+    }
+    DueTold { answer, due }
+}
+
+// The earliest deadline of a pending record or expiry of a circuit.
+pub fn next_due(
+    pending: &[RelayPending],
+    circuits: &[RelayCircuit],
+    inflight: &[InflightAction],
+    runtime: OpaqueRelayRuntime,
+    places: Places,
+) -> DueTold
+    ensures { λ r. ⌜ ((l : List ReservationUsage) → r ≡ dueTold (step (worldSeen runtime places (now (pending .entry)) (now (circuits .entry)) l (now (inflight .entry))) callNextDue)) ⌝ }
+{
+    let config = runtime.config;
+    let first = pending_due(pending, places, NextDue::Never);
+    let second = circuit_due(circuits, places, first);
+    let few = too_few(config, pending.len(), circuits.len(), inflight.len());
+    due_told(few, second)
+}
+
+// ---- observe_time: it is lent no table, and asks no 22
+
+pub fn observe_time(runtime: OpaqueRelayRuntime, places: Places, time: u64) -> Relayed
+    ensures { λ r. ⌜ ((p : List RelayPending) (c : List RelayCircuit) (l : List ReservationUsage) (i : List InflightAction) (out : List ℕ) → handedSeen r p c l i out ≡ outcome out (step (worldSeen runtime places p c l i) (callObserveTime time))) ⌝ }
+{
+    let answer = clock_answer(runtime.trusted_time_high_water, time);
+    let moved = with_clock(runtime, time);
+    if is_taken(answer) {
+        return taken_with(moved, places);
+    }
+    refused(runtime, places, answer)
+}

@@ -1,0 +1,123 @@
+// DATA, as it goes through the tables.
+ghost use mathlib.Core.Path.{_≡_};
+ghost use mathlib.Core.List.{List};
+ghost use Prim.Native.Nat.{ℕ, _<_};
+ghost use lib.ListN.{length};
+ghost use Rattle.hnsr_circuit.specs.Code.Question.{at};
+ghost use Rattle.hnsr_circuit.specs.Code.Lookup.{circuitFound};
+ghost use Rattle.hnsr_circuit.specs.Code.Plans.{dataPlannedOn};
+ghost use Rattle.hnsr_circuit.specs.Code.Held.{heldCircuits, heldLedger, heldActions, worldSeen, handedSeen};
+ghost use Rattle.hnsr_circuit.specs.declared.records.RelayPending.{RelayPending};
+ghost use Rattle.hnsr_circuit.specs.Data.{handleData};
+ghost use Rattle.hnsr_circuit.specs.Code.Progress.{packetOf, ending};
+use crate::answer::is_taken;
+use crate::messages::data::DataPlan;
+use crate::messages::data::data_entry;
+use crate::messages::data::data_plan;
+use crate::messages::message::data_on;
+use crate::messages::message::reservation_of;
+use crate::output::queue::asking;
+use crate::output::queue::send;
+use crate::peer::peer_of;
+use crate::records::InflightAction;
+use crate::records::RelayCircuit;
+use crate::records::ReservationUsage;
+use crate::runtime::OpaqueRelayRuntime;
+use crate::runtime::RelayPacket;
+use crate::runtime::Relayed;
+use crate::runtime::refused;
+use crate::tables::circuits::charge_circuit;
+use crate::tables::inflight::scan_actions;
+use crate::tables::lookup::CircuitFound;
+use crate::tables::lookup::circuit_by_id;
+use crate::tables::lookup::look_up_usage;
+use crate::tables::places::Places;
+use crate::tables::question::at_reservation;
+use crate::tables::stores::spend;
+
+// What a DATA of n bytes does, on the circuit that it names: one pass over each table.
+pub(crate) fn plan_data(
+    ledger: &[ReservationUsage],
+    inflight: &[InflightAction],
+    runtime: OpaqueRelayRuntime,
+    places: Places,
+    packet: RelayPacket,
+    named: CircuitFound,
+    source: &[u8],
+    n: usize,
+) -> DataPlan
+    ensures { λ r. ⌜ r ≡ dataPlannedOn runtime named (heldLedger places (now (ledger .entry))) (heldActions places (now (inflight .entry))) packet (now (source .entry)) n ⌝ }
+{
+    let peer = peer_of(source);
+    let message = data_on(packet, named, peer, n);
+    let asked = asking(runtime, message);
+    let scan = scan_actions(inflight, places, asked);
+    let reservation = reservation_of(named);
+    let under = at_reservation(reservation);
+    let booked = look_up_usage(ledger, places, under);
+    data_plan(runtime, named, booked, scan, peer, message, n)
+}
+
+// A DATA that its circuit takes.
+pub(crate) fn pass_data(
+    circuits: &mut [RelayCircuit],
+    ledger: &mut [ReservationUsage],
+    inflight: &mut [InflightAction],
+    out: &mut [u32],
+    runtime: OpaqueRelayRuntime,
+    places: Places,
+    packet: RelayPacket,
+    named: CircuitFound,
+    source: &[u8],
+    body: &[u8],
+) -> Relayed
+    requires { ⌜ (named ≡ circuitFound (at (packet .«context_id») 0) (heldCircuits places (now circuits))) × (length (now body) < 65536) ⌝ }
+    ensures { λ r. ⌜ ((p : List RelayPending) (e rs : List ℕ) → handedSeen r p (now (circuits .exit)) (now (ledger .exit)) (now (inflight .exit)) (now (out .exit)) ≡ ending (now (out .entry)) (handleData (worldSeen runtime places p (now (circuits .entry)) (now (ledger .entry)) (now (inflight .entry))) (packetOf packet (now (source .entry)) (now (body .entry)) e rs))) ⌝ }
+{
+    let n = body.len();
+    let bytes = n as u64;
+    let plan = plan_data(ledger, inflight, runtime, places, packet, named, source, n);
+    let answer = plan.answer;
+    let side = plan.side;
+    let counted = plan.runtime;
+    let message = plan.message;
+    let scan = plan.scan;
+    charge_circuit(circuits, plan.go, plan.place, side, n);
+    spend(ledger, places, plan.go, plan.usage_place, bytes);
+    send(inflight, out, answer, counted, places, message, scan, body)
+}
+
+// Its circuit decides first: what that refuses costs no pass over the actions.
+pub(crate) fn handle_data(
+    circuits: &mut [RelayCircuit],
+    ledger: &mut [ReservationUsage],
+    inflight: &mut [InflightAction],
+    out: &mut [u32],
+    runtime: OpaqueRelayRuntime,
+    places: Places,
+    packet: RelayPacket,
+    source: &[u8],
+    body: &[u8],
+) -> Relayed
+    requires { ⌜ length (now body) < 65536 ⌝ }
+    ensures { λ r. ⌜ ((p : List RelayPending) (e rs : List ℕ) → handedSeen r p (now (circuits .exit)) (now (ledger .exit)) (now (inflight .exit)) (now (out .exit)) ≡ ending (now (out .entry)) (handleData (worldSeen runtime places p (now (circuits .entry)) (now (ledger .entry)) (now (inflight .entry))) (packetOf packet (now (source .entry)) (now (body .entry)) e rs))) ⌝ }
+{
+    let named = circuit_by_id(circuits, places, packet.context_id);
+    let peer = peer_of(source);
+    let entered = data_entry(named, peer, body.len());
+    if is_taken(entered) {
+        return pass_data(
+            circuits,
+            ledger,
+            inflight,
+            out,
+            runtime,
+            places,
+            packet,
+            named,
+            source,
+            body,
+        );
+    }
+    refused(runtime, places, entered)
+}

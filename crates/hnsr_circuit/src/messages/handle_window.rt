@@ -1,0 +1,117 @@
+// WINDOW, as it goes through the tables.
+ghost use mathlib.Core.Path.{_≡_};
+ghost use Rattle.hnsr_body.specs.Data.{decodeWindow};
+ghost use mathlib.Core.List.{List};
+ghost use Prim.Native.Nat.{ℕ, _<_};
+ghost use lib.ListN.{length};
+ghost use Rattle.hnsr_circuit.specs.Code.Question.{at};
+ghost use Rattle.hnsr_circuit.specs.Code.Lookup.{circuitFound};
+ghost use Rattle.hnsr_circuit.specs.Code.Plans.{windowPlannedOn};
+ghost use Rattle.hnsr_circuit.specs.Code.Held.{heldCircuits, heldActions, worldSeen, handedSeen};
+ghost use Rattle.hnsr_circuit.specs.declared.records.RelayPending.{RelayPending};
+ghost use Rattle.hnsr_circuit.specs.declared.records.ReservationUsage.{ReservationUsage};
+ghost use Rattle.hnsr_circuit.specs.Window.{handleWindow};
+ghost use Rattle.hnsr_circuit.specs.Code.Progress.{packetOf, ending};
+use crate::answer::is_taken;
+use crate::messages::message::passed_on;
+use crate::messages::window::WindowPlan;
+use crate::messages::window::window_entry;
+use crate::messages::window::window_plan;
+use crate::output::queue::asking;
+use crate::output::queue::send;
+use crate::peer::peer_of;
+use crate::records::InflightAction;
+use crate::records::InflightKind;
+use crate::records::RelayCircuit;
+use crate::runtime::OpaqueRelayRuntime;
+use crate::runtime::RelayPacket;
+use crate::runtime::Relayed;
+use crate::runtime::refused;
+use crate::tables::inflight::scan_actions;
+use crate::tables::lookup::CircuitFound;
+use crate::tables::lookup::circuit_by_id;
+use crate::tables::places::Places;
+use crate::tables::stores::raise_circuit;
+use hnsr_body::data_body::WindowBody;
+use hnsr_body::data_body::WindowRead;
+
+// What a WINDOW does, on the circuit that it names: one pass over the actions.
+pub(crate) fn plan_window(
+    inflight: &[InflightAction],
+    runtime: OpaqueRelayRuntime,
+    places: Places,
+    packet: RelayPacket,
+    read: WindowRead,
+    named: CircuitFound,
+    source: &[u8],
+) -> WindowPlan
+    ensures { λ r. ⌜ r ≡ windowPlannedOn runtime read named (heldActions places (now (inflight .entry))) packet (now (source .entry)) ⌝ }
+{
+    let config = runtime.config;
+    let kind = InflightKind::Control;
+    let peer = peer_of(source);
+    let message = passed_on(packet, named, peer, kind);
+    let asked = asking(runtime, message);
+    let scan = scan_actions(inflight, places, asked);
+    window_plan(config, read, named, scan, peer, message)
+}
+
+// A WINDOW that its circuit takes.
+pub(crate) fn pass_window(
+    circuits: &mut [RelayCircuit],
+    inflight: &mut [InflightAction],
+    out: &mut [u32],
+    runtime: OpaqueRelayRuntime,
+    places: Places,
+    packet: RelayPacket,
+    read: WindowRead,
+    named: CircuitFound,
+    source: &[u8],
+    body: &[u8],
+) -> Relayed
+    requires { ⌜ (named ≡ circuitFound (at (packet .«context_id») 0) (heldCircuits places (now circuits))) × (read ≡ decodeWindow (now body)) × (length (now body) < 65536) ⌝ }
+    ensures { λ r. ⌜ ((p : List RelayPending) (l : List ReservationUsage) (e rs : List ℕ) → handedSeen r p (now (circuits .exit)) l (now (inflight .exit)) (now (out .exit)) ≡ ending (now (out .entry)) (handleWindow (worldSeen runtime places p (now (circuits .entry)) l (now (inflight .entry))) (packetOf packet (now (source .entry)) (now (body .entry)) e rs))) ⌝ }
+{
+    let plan = plan_window(inflight, runtime, places, packet, read, named, source);
+    let answer = plan.answer;
+    let side = plan.side;
+    let message = plan.message;
+    let scan = plan.scan;
+    raise_circuit(circuits, places, plan.go, plan.place, side, plan.delta);
+    send(inflight, out, answer, runtime, places, message, scan, body)
+}
+
+// Its body and its circuit decide first: what they refuse costs no pass over the actions.
+pub(crate) fn handle_window(
+    circuits: &mut [RelayCircuit],
+    inflight: &mut [InflightAction],
+    out: &mut [u32],
+    runtime: OpaqueRelayRuntime,
+    places: Places,
+    packet: RelayPacket,
+    source: &[u8],
+    body: &[u8],
+) -> Relayed
+    requires { ⌜ length (now body) < 65536 ⌝ }
+    ensures { λ r. ⌜ ((p : List RelayPending) (l : List ReservationUsage) (e rs : List ℕ) → handedSeen r p (now (circuits .exit)) l (now (inflight .exit)) (now (out .exit)) ≡ ending (now (out .entry)) (handleWindow (worldSeen runtime places p (now (circuits .entry)) l (now (inflight .entry))) (packetOf packet (now (source .entry)) (now (body .entry)) e rs))) ⌝ }
+{
+    let read = WindowBody::decode(body);
+    let named = circuit_by_id(circuits, places, packet.context_id);
+    let peer = peer_of(source);
+    let entered = window_entry(read, named, peer);
+    if is_taken(entered) {
+        return pass_window(
+            circuits,
+            inflight,
+            out,
+            runtime,
+            places,
+            packet,
+            read,
+            named,
+            source,
+            body,
+        );
+    }
+    refused(runtime, places, entered)
+}

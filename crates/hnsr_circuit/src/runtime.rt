@@ -3,6 +3,7 @@ ghost use mathlib.Core.Path.{_≡_};
 ghost use Rattle.hnsr_circuit.specs.declared.answer.HnsrAnswer.the-variants.{Taken};
 use crate::answer::HnsrAnswer;
 use crate::config::OpaqueRelayConfig;
+use crate::peer::HnsrPeerId;
 use crate::records::RelayTicket;
 use crate::tables::places::Places;
 
@@ -57,6 +58,14 @@ pub struct HnsrRuntimeStatus {
     pub bytes_sent: u64,
     pub bytes_received: u64,
     pub revoked_work: u64,
+}
+
+// A packet past entry and gate: the runtime with its clock moved, the places in use, the packet, and the peer that sent it.
+pub struct Request {
+    pub runtime: OpaqueRelayRuntime,
+    pub places: Places,
+    pub packet: RelayPacket,
+    pub peer: HnsrPeerId,
 }
 
 // What a call hands back: the answer, how many output words it wrote, and for the host to keep the runtime and the places in use.

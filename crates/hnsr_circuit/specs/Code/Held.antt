@@ -14,6 +14,7 @@ use Rattle.hnsr_circuit.specs.declared.tables.question.Ask.the-variants.
 use Rattle.hnsr_circuit.specs.declared.tables.places.Places.{Places}
 use Rattle.hnsr_circuit.specs.declared.runtime.OpaqueRelayRuntime.{OpaqueRelayRuntime}
 use Rattle.hnsr_circuit.specs.declared.runtime.Relayed.{Relayed}
+use Rattle.hnsr_circuit.specs.declared.runtime.Request.{Request}
 use Rattle.hnsr_circuit.specs.declared.runtime.Sending.{Sending}
 use Rattle.hnsr_circuit.specs.Pending.{clearPending}
 use Rattle.hnsr_circuit.specs.Circuits.{clearCircuit}
@@ -44,6 +45,9 @@ heldActions n t = held clearAction (n .actions) t
 -- ---- the world as it is seen, handed over and handed back
 abbrev pub worldSeen : OpaqueRelayRuntime → Places → List RelayPending → List RelayCircuit → List ReservationUsage → List InflightAction → World
 worldSeen h n p c l i = worldOf h (heldPending n p) (heldCircuits n c) (heldLedger n l) (heldActions n i)
+
+abbrev pub worldAt : Request → List RelayPending → List RelayCircuit → List ReservationUsage → List InflightAction → World
+worldAt r p c l i = worldSeen (r .runtime) (r .places) p c l i
 
 abbrev pub underwaySeen : Sending → List RelayPending → List RelayCircuit → List ReservationUsage → List InflightAction → (out : List ℕ) → Progress
 underwaySeen s p c l i out =

@@ -102,11 +102,11 @@ abbrev pub openGathering : RelayPacket → (requester endpoint : HnsrPeerId) →
 openGathering q requester endpoint size read waiting running = record
     { packet = q; requester = requester; endpoint = endpoint; size = size; read = read; waiting = waiting; running = running }
 
-abbrev pub gathering : RelayPacket → (source body endpoint random : List ℕ) → List RelayPending → List RelayCircuit → OpenGathered
-gathering q source body endpoint random p c =
+abbrev pub gathering : RelayPacket → (requester : HnsrPeerId) → (body endpoint random : List ℕ) → List RelayPending → List RelayCircuit → OpenGathered
+gathering q requester body endpoint random p c =
     let read = decodeOpen (q .«key_valid») body in
-    let k = openWork q (peerOf source) (peerOf endpoint) read (firstDraw random) in
-    openGathering q (peerOf source) (peerOf endpoint) (length endpoint) read (pendingWork k p) (circuitWork k c)
+    let k = openWork q requester (peerOf endpoint) read (firstDraw random) in
+    openGathering q requester (peerOf endpoint) (length endpoint) read (pendingWork k p) (circuitWork k c)
 
 -- ---- OPEN: the rows
 abbrev pub openRows : OpaqueRelayConfig → OpenGathered → HnsrAnswer

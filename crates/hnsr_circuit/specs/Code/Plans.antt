@@ -30,7 +30,6 @@ use Rattle.hnsr_circuit.specs.Answers.{bodyAnswer, taken, _then_}
 use Rattle.hnsr_circuit.specs.Circuits.{sideOf}
 use Rattle.hnsr_circuit.specs.Inflight.{capacityAnswer}
 use Rattle.hnsr_circuit.specs.Header.{withCounters, countBytes, countRevoked}
-use Rattle.hnsr_circuit.specs.Peer.{peerOf}
 use Rattle.hnsr_circuit.specs.Code.Question.{at, atReservation, named, pendingHas}
 use Rattle.hnsr_circuit.specs.Code.Lookup.{pendingFound, circuitFound, usageFound}
 use Rattle.hnsr_circuit.specs.Code.Turns.{actionsScanned}
@@ -63,14 +62,14 @@ dataPlan h f u s peer m n = let a = dataRows (h .config) f u (s .tally) peer n i
 }
 
 -- on a circuit, from the tables: its reservation's ledger record, the actions
-abbrev pub dataPlannedOn : OpaqueRelayRuntime → CircuitFound → List ReservationUsage → List InflightAction → RelayPacket → (source : List ℕ) → (n : ℕ) → DataPlan
-dataPlannedOn h f l i q source n =
-    let m = dataOn q (f .circuit) (peerOf source) n in
-    dataPlan h f (usageFound (atReservation (f .circuit .«reservation_id»)) l) (actionsScanned (asking h m) i) (peerOf source) m n
+abbrev pub dataPlannedOn : OpaqueRelayRuntime → CircuitFound → List ReservationUsage → List InflightAction → RelayPacket → HnsrPeerId → (n : ℕ) → DataPlan
+dataPlannedOn h f l i q peer n =
+    let m = dataOn q (f .circuit) peer n in
+    dataPlan h f (usageFound (atReservation (f .circuit .«reservation_id»)) l) (actionsScanned (asking h m) i) peer m n
 
 -- on the one that the packet names
-abbrev pub dataPlanned : OpaqueRelayRuntime → List RelayCircuit → List ReservationUsage → List InflightAction → RelayPacket → (source : List ℕ) → (n : ℕ) → DataPlan
-dataPlanned h c l i q source n = dataPlannedOn h (circuitFound (at (q .«context_id») 0) c) l i q source n
+abbrev pub dataPlanned : OpaqueRelayRuntime → List RelayCircuit → List ReservationUsage → List InflightAction → RelayPacket → HnsrPeerId → (n : ℕ) → DataPlan
+dataPlanned h c l i q peer n = dataPlannedOn h (circuitFound (at (q .«context_id») 0) c) l i q peer n
 
 -- ---- WINDOW
 abbrev pub windowRows : OpaqueRelayConfig → WindowRead → CircuitFound → InflightTally → HnsrPeerId → HnsrAnswer
@@ -91,13 +90,13 @@ windowPlan k read f s peer m = let a = windowRows k read f (s .tally) peer in re
   scan = s;
 }
 
-abbrev pub windowPlannedOn : OpaqueRelayRuntime → WindowRead → CircuitFound → List InflightAction → RelayPacket → (source : List ℕ) → WindowPlan
-windowPlannedOn h read f i q source =
-    let m = passedOn q (f .circuit) (peerOf source) Control in
-    windowPlan (h .config) read f (actionsScanned (asking h m) i) (peerOf source) m
+abbrev pub windowPlannedOn : OpaqueRelayRuntime → WindowRead → CircuitFound → List InflightAction → RelayPacket → HnsrPeerId → WindowPlan
+windowPlannedOn h read f i q peer =
+    let m = passedOn q (f .circuit) peer Control in
+    windowPlan (h .config) read f (actionsScanned (asking h m) i) peer m
 
-abbrev pub windowPlanned : OpaqueRelayRuntime → List RelayCircuit → List InflightAction → RelayPacket → (source body : List ℕ) → WindowPlan
-windowPlanned h c i q source body = windowPlannedOn h (decodeWindow body) (circuitFound (at (q .«context_id») 0) c) i q source
+abbrev pub windowPlanned : OpaqueRelayRuntime → List RelayCircuit → List InflightAction → RelayPacket → HnsrPeerId → (body : List ℕ) → WindowPlan
+windowPlanned h c i q peer body = windowPlannedOn h (decodeWindow body) (circuitFound (at (q .«context_id») 0) c) i q peer
 
 -- ---- CLOSE and ERROR
 abbrev pub closeRows : DetailRead → (matches : ℕ) → CircuitFound → HnsrPeerId → HnsrAnswer
@@ -123,10 +122,10 @@ closePlan h q read matches w f peer = let a = closeRows read matches f peer in r
   message = closeMessage q w f peer;
 }
 
-abbrev pub closePlannedOn : OpaqueRelayRuntime → List RelayPending → List RelayCircuit → RelayPacket → DetailRead → (source : List ℕ) → ClosePlan
-closePlannedOn h p c q read source =
-    let naming = named (peerOf source) (q .«context_id») in
-    closePlan h q read (count (pendingHas naming) p) (pendingFound naming p) (circuitFound (at (q .«context_id») 0) c) (peerOf source)
+abbrev pub closePlannedOn : OpaqueRelayRuntime → List RelayPending → List RelayCircuit → RelayPacket → DetailRead → HnsrPeerId → ClosePlan
+closePlannedOn h p c q read peer =
+    let naming = named peer (q .«context_id») in
+    closePlan h q read (count (pendingHas naming) p) (pendingFound naming p) (circuitFound (at (q .«context_id») 0) c) peer
 
-abbrev pub closePlanned : OpaqueRelayRuntime → List RelayPending → List RelayCircuit → RelayPacket → (source body : List ℕ) → ClosePlan
-closePlanned h p c q source body = closePlannedOn h p c q (decodeDetail body) source
+abbrev pub closePlanned : OpaqueRelayRuntime → List RelayPending → List RelayCircuit → RelayPacket → HnsrPeerId → (body : List ℕ) → ClosePlan
+closePlanned h p c q peer body = closePlannedOn h p c q (decodeDetail body) peer

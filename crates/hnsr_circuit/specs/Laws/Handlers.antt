@@ -74,16 +74,18 @@ passes h h1 p c c1 l l1 i m Taken = refl
 passes h h1 p c c1 l l1 i m (Refused e) = refl
 
 -- ---- DATA
-module _ (h : OpaqueRelayRuntime) (c : List RelayCircuit) (l : List ReservationUsage) (i : List InflightAction) (q : RelayPacket) (source body : List ℕ)
-    (plan : DataPlan) (ep : plan ≡ dataPlanned h c l i q source (length body)) where
+module _ (h : OpaqueRelayRuntime) (c : List RelayCircuit) (l : List ReservationUsage) (i : List InflightAction) (q : RelayPacket) (peer : HnsrPeerId) (body : List ℕ)
+    (plan : DataPlan) (ep : plan ≡ dataPlanned h c l i q peer (length body)) where
   -- the actions were asked what the message asks once the bytes are counted
   pub data-scanned : plan .scan ≡ actionsScanned (asking (plan .runtime) (plan .message)) i
   data-scanned =
-      let d = dataPlanned h c l i q source (length body) in
+      let d = dataPlanned h c l i q peer (length body) in
       ap (λ (x : DataPlan). x .scan) ep
       ∙ ap (λ (x : ActionQuestion). actionsScanned x i) (asking-counted (d .go) h (countBytes (length body) (h .counters)) (d .message))
       ∙ sym (λ x. actionsScanned (asking (ep x .runtime) (ep x .message)) i)
 
+module _ (h : OpaqueRelayRuntime) (c : List RelayCircuit) (l : List ReservationUsage) (i : List InflightAction) (q : RelayPacket) (source body : List ℕ)
+    (plan : DataPlan) (ep : plan ≡ dataPlanned h c l i q (peerOf source) (length body)) where
   pub data-handled : (out : List ℕ) (p : List RelayPending) (e rs : List ℕ) (r : Result) (c′ : List RelayCircuit) (l′ : List ReservationUsage)
       → c′ ≡ cond (plan .go) (set c (plan .place) (charged (plan .side) (length body) (getD c (plan .place) noCircuit))) c
       → l′ ≡ cond (plan .go) (set l (plan .«usage_place») (spent (length body) (getD l (plan .«usage_place») noUsage))) l
@@ -92,7 +94,7 @@ module _ (h : OpaqueRelayRuntime) (c : List RelayCircuit) (l : List ReservationU
   unfolding handleData dataWith dataTaken withData dataMessage sender circuitAsked usageAsked actionsScanned
   data-handled out p e rs r c′ l′ ec el es =
       let n = length body in
-      let d = dataPlanned h c l i q source n in
+      let d = dataPlanned h c l i q (peerOf source) n in
       let id = q .«context_id» in
       let reservation = pick (circuitAt id) noCircuit c .«reservation_id» in
       let circuits : c′ ≡ cond (d .go) (edit (circuitAt id) (charged (d .side) n) c) c =
@@ -143,31 +145,33 @@ rows-credit k read f t peer g =
     let two = then-taken (circuitAnswer (f .found) c peer) later one .1 in
     ltb-false mostWindow after (check-taken (ltb mostWindow after) FlowControl (then-taken (capacityAnswer k t) credit two .1))
 
-module _ (h : OpaqueRelayRuntime) (c : List RelayCircuit) (i : List InflightAction) (q : RelayPacket) (source body : List ℕ)
-    (plan : WindowPlan) (ep : plan ≡ windowPlanned h c i q source body) where
+module _ (h : OpaqueRelayRuntime) (c : List RelayCircuit) (i : List InflightAction) (q : RelayPacket) (peer : HnsrPeerId) (body : List ℕ)
+    (plan : WindowPlan) (ep : plan ≡ windowPlanned h c i q peer body) where
   pub window-scanned : plan .scan ≡ actionsScanned (asking h (plan .message)) i
   window-scanned = ap (λ (x : WindowPlan). x .scan) ep ∙ sym (ap (λ (x : WindowPlan). actionsScanned (asking h (x .message)) i) ep)
 
   pub window-fits : plan .go ≡ true → creditOf (otherSide (plan .side)) (getD c (plan .place) noCircuit) + plan .delta < 4294967296
   unfolding circuitAsked
   window-fits g =
-      let d = windowPlanned h c i q source body in
+      let d = windowPlanned h c i q peer body in
       let id = q .«context_id» in
       let found = pick (circuitAt id) noCircuit c in
       let there : creditOf (otherSide (d .side)) found + d .delta ≤ mostWindow =
-      rows-credit (h .config) (decodeWindow body) (record { found = any (circuitAt id) c; place = placeOf (circuitAt id) c; circuit = found }) (d .scan .tally) (peerOf source)
+      rows-credit (h .config) (decodeWindow body) (record { found = any (circuitAt id) c; place = placeOf (circuitAt id) c; circuit = found }) (d .scan .tally) peer
       (sym (ap (λ (x : WindowPlan). x .go) ep) ∙ g) in
       let small : creditOf (otherSide (d .side)) found + d .delta < 4294967296 = omega (arith, there) in
       subst (λ (x : WindowPlan). creditOf (otherSide (x .side)) (getD c (x .place) noCircuit) + x .delta < 4294967296) (sym ep)
       (subst (λ (x : RelayCircuit). creditOf (otherSide (d .side)) x + d .delta < 4294967296) (sym (pick-at (circuitAt id) noCircuit c)) small)
 
+module _ (h : OpaqueRelayRuntime) (c : List RelayCircuit) (i : List InflightAction) (q : RelayPacket) (source body : List ℕ)
+    (plan : WindowPlan) (ep : plan ≡ windowPlanned h c i q (peerOf source) body) where
   pub window-handled : (out : List ℕ) (p : List RelayPending) (l : List ReservationUsage) (e rs : List ℕ) (r : Result) (c′ : List RelayCircuit)
       → c′ ≡ cond (plan .go) (set c (plan .place) (raised (plan .side) (plan .delta) (getD c (plan .place) noCircuit))) c
       → r ≡ ending out (proceed (worldOf h p c′ l i) (plan .answer) (send (worldOf h p c′ l i) (messageOf (plan .message) body)))
       → r ≡ ending out (handleWindow (worldOf h p c l i) (packetOf q source body e rs))
   unfolding handleWindow windowWith windowTaken withWindow sender circuitAsked actionsScanned decodeWindow
   window-handled out p l e rs r c′ ec es =
-      let d = windowPlanned h c i q source body in
+      let d = windowPlanned h c i q (peerOf source) body in
       let id = q .«context_id» in
       let circuits : c′ ≡ cond (d .go) (edit (circuitAt id) (raised (d .side) (d .delta)) c) c =
       ec ∙ (λ x. cond (ep x .go) (set c (ep x .place) (raised (ep x .side) (ep x .delta) (getD c (ep x .place) noCircuit))) c)
@@ -202,7 +206,7 @@ passes-end h h1 p p1 c c1 l i idp idc mp mc body true (Refused e) = refl
 passes-end h h1 p p1 c c1 l i idp idc mp mc body false (Refused e) = refl
 
 module _ (h : OpaqueRelayRuntime) (p : List RelayPending) (c : List RelayCircuit) (i : List InflightAction) (q : RelayPacket) (source body : List ℕ)
-    (plan : ClosePlan) (ep : plan ≡ closePlanned h p c q source body) where
+    (plan : ClosePlan) (ep : plan ≡ closePlanned h p c q (peerOf source) body) where
   pub close-handled : (out : List ℕ) (l : List ReservationUsage) (e rs : List ℕ) (r : Result) (p′ : List RelayPending) (c′ : List RelayCircuit) (i₁ : List InflightAction)
       → p′ ≡ cond (plan .«ends_pending») (set p (plan .«pending_place») (clearPending (getD p (plan .«pending_place») noPending))) p
       → c′ ≡ cond (plan .«ends_circuit») (set c (plan .«circuit_place») (clearCircuit (getD c (plan .«circuit_place») noCircuit))) c
@@ -211,7 +215,7 @@ module _ (h : OpaqueRelayRuntime) (p : List RelayPending) (c : List RelayCircuit
       → r ≡ ending out (handleClose (worldOf h p c l i) (packetOf q source body e rs))
   unfolding handleClose closeTaken detailAnswer closePending closeCircuit translated endPending endCircuit withoutActions withoutPending sender circuitAsked pendingAsked
   close-handled out l e rs r p′ c′ i₁ eq ec ei es =
-      let d = closePlanned h p c q source body in
+      let d = closePlanned h p c q (peerOf source) body in
       let id = q .«context_id» in
       let peer = peerOf source in
       let h₁ = withCounters h (countRevoked (h .counters)) in
@@ -246,7 +250,7 @@ detail-refused h p c l i q source body e rs out read a r er ea t k =
     turned-away h p c l i out r a _ _ k t (b ∙ stop (bodyAnswer (decodeDetail body .result)) _ (ap taken (sym b) ∙ t))
 
 pub close-refused : (h : OpaqueRelayRuntime) (p : List RelayPending) (c : List RelayCircuit) (l : List ReservationUsage) (i : List InflightAction) (q : RelayPacket) (source body e rs out : List ℕ)
-    (plan : ClosePlan) (r : Relayed) → plan ≡ closePlanned h p c q source body → plan .go ≡ false
+    (plan : ClosePlan) (r : Relayed) → plan ≡ closePlanned h p c q (peerOf source) body → plan .go ≡ false
     → (r .runtime ≡ h) × (r .answer ≡ plan .answer) × (r .words ≡ 0) → handedBack r p c l i out ≡ ending out (handleClose (worldOf h p c l i) (packetOf q source body e rs))
 unfolding handleClose closeTaken detailAnswer sender circuitAsked pendingAsked
 close-refused h p c l i q source body e rs out plan r ep t k =

@@ -372,7 +372,7 @@ module _ (h : OpaqueRelayRuntime) (p : List RelayPending) (c : List RelayCircuit
 module _ (h : OpaqueRelayRuntime) (p : List RelayPending) (c : List RelayCircuit) (l : List ReservationUsage) (i : List InflightAction)
     (q : RelayPacket) (source body endpoint rs : List ℕ) where
   -- the rows are the definition's
-  open-admitted : openRows (h .config) (gathering q source body endpoint rs p c) ≡ openAdmitted (worldOf h p c l i) (packetOf q source body endpoint rs)
+  open-admitted : openRows (h .config) (gathering q (peerOf source) body endpoint rs p c) ≡ openAdmitted (worldOf h p c l i) (packetOf q source body endpoint rs)
   unfolding openAdmitted pendingCount circuitCount peerWork pendingWork circuitWork sender
   open-admitted = refl
 
@@ -380,19 +380,19 @@ module _ (h : OpaqueRelayRuntime) (p : List RelayPending) (c : List RelayCircuit
   drawing = drawAll (isTaken p c) undrawn (draws rs)
 
   abbrev plan : OpenPlan
-  plan = openPlan (h .config) (gathering q source body endpoint rs p c) drawing
+  plan = openPlan (h .config) (gathering q (peerOf source) body endpoint rs p c) drawing
 
   open-opening : openingOf plan ≡ opening (worldOf h p c l i) (packetOf q source body endpoint rs)
   unfolding drawn idTaken decodeOpen sender
   open-opening = refl
 
-  open-placed : placedRows (h .config) (gathering q source body endpoint rs p c) plan drawing (actionsScanned (asking h (incomingOut plan)) i) (ledgerAsked (q .ticket .«reservation_id») l)
+  open-placed : placedRows (h .config) (gathering q (peerOf source) body endpoint rs p c) plan drawing (actionsScanned (asking h (incomingOut plan)) i) (ledgerAsked (q .ticket .«reservation_id») l)
       ≡ openPlaced (worldOf h p c l i) (packetOf q source body endpoint rs) (openingOf plan)
   unfolding openPlaced peerWork reservationWork pendingWork circuitWork drawn idTaken decodeOpen actionsScanned sender
   open-placed = refl
 
   module _ (g : OpenGathered) (d : Drawing) (o : OpenPlan) (m : Outgoing) (k : ActionQuestion) (s : ActionScan) (r : LedgerRoom) (a : HnsrAnswer)
-      (eg : g ≡ gathering q source body endpoint rs p c) (ed : d ≡ drawAll (isTaken p c) undrawn (draws rs)) (eo : o ≡ openPlan (h .config) g d)
+      (eg : g ≡ gathering q (peerOf source) body endpoint rs p c) (ed : d ≡ drawAll (isTaken p c) undrawn (draws rs)) (eo : o ≡ openPlan (h .config) g d)
       (em : m ≡ incomingOut o) (ek : k ≡ asking h m) (es : s ≡ actionsScanned k i) (er : r ≡ ledgerAsked (o .ticket .«reservation_id») l)
       (ea : a ≡ placedRows (h .config) g o d s r) where
     rows-placed : a ≡ openPlaced (worldOf h p c l i) (packetOf q source body endpoint rs) (openingOf plan)
@@ -417,7 +417,7 @@ module _ (h : OpaqueRelayRuntime) (p : List RelayPending) (c : List RelayCircuit
         turned-away h p c l i out y a _ _ e t (rows-placed ∙ ap (λ (z : Opening). openPlaced w v z) open-opening)
 
   pub open-ends : (g : OpenGathered) (a : HnsrAnswer) (go : Bool) (l′ : List ReservationUsage)
-      → g ≡ gathering q source body endpoint rs p c → a ≡ openRows (h .config) g → go ≡ taken a → l′ ≡ cond go (lapsed (q .now) l) l
+      → g ≡ gathering q (peerOf source) body endpoint rs p c → a ≡ openRows (h .config) g → go ≡ taken a → l′ ≡ cond go (lapsed (q .now) l) l
       → (let w = worldOf h p c l′ i in proceed w a (openLapsed w (packetOf q source body endpoint rs)))
       ≡ handleOpen (worldOf h p c l i) (packetOf q source body endpoint rs)
   unfolding handleOpen
@@ -432,14 +432,14 @@ module _ (h : OpaqueRelayRuntime) (p : List RelayPending) (c : List RelayCircuit
       ∙ ap (λ (b : HnsrAnswer). proceed w b (openLapsed x v)) a′)
 
   -- refused as found, or once ledger records are dropped
-  pub open-refused : (g : OpenGathered) (a : HnsrAnswer) (r : Relayed) (out : List ℕ) → g ≡ gathering q source body endpoint rs p c → a ≡ openRows (h .config) g
+  pub open-refused : (g : OpenGathered) (a : HnsrAnswer) (r : Relayed) (out : List ℕ) → g ≡ gathering q (peerOf source) body endpoint rs p c → a ≡ openRows (h .config) g
       → taken a ≡ false → (r .runtime ≡ h) × (r .answer ≡ a) × (r .words ≡ 0)
       → handedBack r p c l i out ≡ ending out (handleOpen (worldOf h p c l i) (packetOf q source body endpoint rs))
   unfolding handleOpen
   open-refused g a r out eg ea t k =
       turned-away h p c l i out r a _ _ k t (ea ∙ ap (λ (y : OpenGathered). openRows (h .config) y) eg ∙ open-admitted)
 
-  placed-first : placedEntry (h .config) (gathering q source body endpoint rs p c) plan drawing
+  placed-first : placedEntry (h .config) (gathering q (peerOf source) body endpoint rs p c) plan drawing
       ≡ (peerAnswer (length endpoint)
       then endpointAnswer (h .config) (q .ticket) (samePeer (peerOf endpoint) (peerOf source)) (peerWork (worldOf h p c l i) (peerOf endpoint))
       (reservationWork (worldOf h p c l i) (openFields body .«reservation_id»))
@@ -447,7 +447,7 @@ module _ (h : OpaqueRelayRuntime) (p : List RelayPending) (c : List RelayCircuit
   unfolding peerWork reservationWork pendingWork circuitWork drawn idTaken decodeOpen
   placed-first = refl
 
-  pub placed-refused : (g : OpenGathered) (d : Drawing) (o : OpenPlan) (a : HnsrAnswer) (r : Relayed) (out : List ℕ) → g ≡ gathering q source body endpoint rs p c
+  pub placed-refused : (g : OpenGathered) (d : Drawing) (o : OpenPlan) (a : HnsrAnswer) (r : Relayed) (out : List ℕ) → g ≡ gathering q (peerOf source) body endpoint rs p c
       → d ≡ drawAll (isTaken p c) undrawn (draws rs) → o ≡ openPlan (h .config) g d → a ≡ placedEntry (h .config) g o d
       → taken a ≡ false → (r .runtime ≡ h) × (r .answer ≡ a) × (r .words ≡ 0)
       → handedBack r p c l i out ≡ ending out (openLapsed (worldOf h p c l i) (packetOf q source body endpoint rs))

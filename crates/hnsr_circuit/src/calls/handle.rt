@@ -4,7 +4,10 @@ ghost use mathlib.Core.Bool.{_||_};
 ghost use Prim.Native.Nat.{_<_};
 ghost use lib.Dec.{ltb};
 ghost use lib.ListN.{length};
-ghost use Rattle.hnsr_circuit.specs.Code.Held.{worldSeen, handedSeen};
+ghost use mathlib.Core.List.{List};
+ghost use Prim.Native.Nat.{ℕ};
+ghost use Rattle.hnsr_circuit.specs.Peer.{peerOf};
+ghost use Rattle.hnsr_circuit.specs.Code.Held.{worldSeen, worldAt, handedSeen};
 ghost use Rattle.hnsr_circuit.specs.declared.answer.HnsrAnswer.the-variants.{Refused};
 ghost use Rattle.hnsr_circuit.specs.declared.answer.HnsrRuntimeError.the-variants.{Short, UnexpectedOpcode};
 ghost use Rattle.hnsr_circuit.specs.Answers.{check, _then_};
@@ -27,6 +30,7 @@ use crate::messages::handle_data::handle_data;
 use crate::messages::handle_open::handle_open;
 use crate::messages::handle_window::handle_window;
 use crate::output::route::HANDLE_WORDS;
+use crate::peer::peer_of;
 use crate::records::InflightAction;
 use crate::records::RelayCircuit;
 use crate::records::RelayPending;
@@ -35,6 +39,7 @@ use crate::records::header::with_clock;
 use crate::runtime::OpaqueRelayRuntime;
 use crate::runtime::RelayPacket;
 use crate::runtime::Relayed;
+use crate::runtime::Request;
 use crate::runtime::refused;
 use crate::tables::lookup::trim;
 use crate::tables::places::Places;
@@ -93,15 +98,11 @@ pub(crate) fn gate_answer(enabled: bool) -> HnsrAnswer
 // ---- the opcode picks the handling
 
 // 16: another opcode, 21 up included
-fn unexpected(runtime: OpaqueRelayRuntime, places: Places) -> Relayed
-    ensures { λ r. ⌜ ((r .runtime ≡ runtime) × (r .answer ≡ Refused UnexpectedOpcode) × (r .words ≡ 0)) × (r .places ≡ places) ⌝ }
+fn unexpected(request: Request) -> Relayed
+    ensures { λ r. ⌜ ((r .runtime ≡ request .runtime) × (r .answer ≡ Refused UnexpectedOpcode) × (r .words ≡ 0)) × (r .places ≡ request .places) ⌝ }
 {
-    Relayed {
-        runtime,
-        answer: HnsrAnswer::Refused(HnsrRuntimeError::UnexpectedOpcode),
-        words: 0,
-        places,
-    }
+    let answer = HnsrAnswer::Refused(HnsrRuntimeError::UnexpectedOpcode);
+    refused(request.runtime, request.places, answer)
 }
 
 // 13 OPEN, 15 ACCEPT, 17 DATA, 18 WINDOW, 19 CLOSE and 20 ERROR
@@ -111,17 +112,15 @@ pub(crate) fn dispatch(
     ledger: &mut [ReservationUsage],
     inflight: &mut [InflightAction],
     out: &mut [u32],
-    relay: OpaqueRelayRuntime,
-    places: Places,
-    packet: RelayPacket,
-    peer: &[u8],
+    request: Request,
     body: &[u8],
     endpoint: &[u8],
     random: &[u8],
 ) -> Relayed
     requires { ⌜ length (now body) < 65536 ⌝ }
-    ensures { λ r. ⌜ handedSeen r (now (pending .exit)) (now (circuits .exit)) (now (ledger .exit)) (now (inflight .exit)) (now (out .exit)) ≡ ending (now (out .entry)) (dispatch (handlingOf (packet .opcode)) (worldSeen relay places (now (pending .entry)) (now (circuits .entry)) (now (ledger .entry)) (now (inflight .entry))) (packetOf packet (now (peer .entry)) (now (body .entry)) (now (endpoint .entry)) (now (random .entry)))) ⌝ }
+    ensures { λ r. ⌜ ((source : List ℕ) → request .peer ≡ peerOf source → handedSeen r (now (pending .exit)) (now (circuits .exit)) (now (ledger .exit)) (now (inflight .exit)) (now (out .exit)) ≡ ending (now (out .entry)) (dispatch (handlingOf (request .packet .opcode)) (worldAt request (now (pending .entry)) (now (circuits .entry)) (now (ledger .entry)) (now (inflight .entry))) (packetOf (request .packet) source (now (body .entry)) (now (endpoint .entry)) (now (random .entry))))) ⌝ }
 {
+    let packet = request.packet;
     let opcode = packet.opcode;
     match opcode {
         13 => handle_open(
@@ -130,49 +129,16 @@ pub(crate) fn dispatch(
             ledger,
             inflight,
             out,
-            relay,
-            places,
-            packet,
-            peer,
+            request,
             body,
             endpoint,
             random,
         ),
-        15 => handle_accept(
-            pending,
-            circuits,
-            inflight,
-            out,
-            relay,
-            places,
-            packet,
-            peer,
-            body,
-        ),
-        17 => handle_data(
-            circuits,
-            ledger,
-            inflight,
-            out,
-            relay,
-            places,
-            packet,
-            peer,
-            body,
-        ),
-        18 => handle_window(circuits, inflight, out, relay, places, packet, peer, body),
-        19..=20 => handle_close(
-            pending,
-            circuits,
-            inflight,
-            out,
-            relay,
-            places,
-            packet,
-            peer,
-            body,
-        ),
-        0..=12 | 14 | 16 | 21..=255 => unexpected(relay, places),
+        15 => handle_accept(pending, circuits, inflight, out, request, body),
+        17 => handle_data(circuits, ledger, inflight, out, request, body),
+        18 => handle_window(circuits, inflight, out, request, body),
+        19..=20 => handle_close(pending, circuits, inflight, out, request, body),
+        0..=12 | 14 | 16 | 21..=255 => unexpected(request),
     }
 }
 
@@ -196,16 +162,20 @@ pub(crate) fn handle_gate(
 {
     let answer = gate_answer(runtime.enabled);
     if is_taken(answer) {
+        let peer = peer_of(source);
+        let request = Request {
+            runtime,
+            places,
+            packet,
+            peer,
+        };
         return dispatch(
             pending,
             circuits,
             ledger,
             inflight,
             out,
-            runtime,
-            places,
-            packet,
-            source,
+            request,
             body,
             endpoint,
             random,

@@ -6,20 +6,19 @@ ghost use Prim.Native.Nat.{ℕ};
 ghost use lib.ListN.{set};
 ghost use Rattle.hnsr_body.specs.Accept.{decodeAccept};
 ghost use Rattle.hnsr_circuit.specs.Code.Lookup.{pendingFound};
-ghost use Rattle.hnsr_circuit.specs.Code.Held.{held, heldPending, heldCircuits, heldActions, worldSeen, handedSeen};
+ghost use Rattle.hnsr_circuit.specs.Code.Held.{held, heldPending, heldCircuits, heldActions, worldAt, handedSeen};
 ghost use Rattle.hnsr_circuit.specs.Table.{put};
-ghost use Rattle.hnsr_circuit.specs.Peer.{peerOf};
 ghost use Rattle.hnsr_circuit.specs.Pending.{clearPending};
 ghost use Rattle.hnsr_circuit.specs.Circuits.{isCircuit, circuitAt, clearCircuit};
 ghost use Rattle.hnsr_circuit.specs.Inflight.{tallied};
 ghost use Rattle.hnsr_circuit.specs.Code.Question.{pendingWork, circuitWork, at};
+ghost use Rattle.hnsr_circuit.specs.Peer.{peerOf};
 ghost use Rattle.hnsr_circuit.specs.Code.Progress.{packetOf, ending};
 ghost use Rattle.hnsr_circuit.specs.Accept.{handleAccept};
 ghost use Rattle.hnsr_circuit.specs.Code.Opening.{acceptRows, acceptWork};
 ghost use Rattle.hnsr_circuit.specs.declared.records.ReservationUsage.{ReservationUsage};
 use crate::answer::HnsrAnswer;
 use crate::answer::is_taken;
-use crate::config::OpaqueRelayConfig;
 use crate::messages::accept::AcceptPlan;
 use crate::messages::accept::accept_entry;
 use crate::messages::accept::accept_plan;
@@ -30,13 +29,11 @@ use crate::messages::accept::found_unmarked;
 use crate::messages::accept::replacing;
 use crate::output::queue::asking;
 use crate::output::queue::send;
-use crate::peer::peer_of;
 use crate::records::InflightAction;
 use crate::records::RelayCircuit;
 use crate::records::RelayPending;
-use crate::runtime::OpaqueRelayRuntime;
-use crate::runtime::RelayPacket;
 use crate::runtime::Relayed;
+use crate::runtime::Request;
 use crate::runtime::refused;
 use crate::tables::circuits::circuit_work;
 use crate::tables::inflight::drop_and_scan;
@@ -56,16 +53,17 @@ pub(crate) fn accept_answered(
     pending: &[RelayPending],
     circuits: &[RelayCircuit],
     inflight: &[InflightAction],
-    places: Places,
-    config: OpaqueRelayConfig,
-    packet: RelayPacket,
+    request: Request,
     found: PendingFound,
     read: AcceptRead,
-    source: &[u8],
 ) -> HnsrAnswer
-    ensures { λ r. ⌜ r ≡ acceptRows config found (peerOf (now (source .entry))) (packet .now) read (pendingWork (acceptWork found) (heldPending places (now (pending .entry)))) (circuitWork (acceptWork found) (heldCircuits places (now (circuits .entry)))) (tallied true (packet .«context_id») (found .pending .requester) (heldActions places (now (inflight .entry)))) ⌝ }
+    ensures { λ r. ⌜ r ≡ acceptRows (request .runtime .config) found (request .peer) (request .packet .now) read (pendingWork (acceptWork found) (heldPending (request .places) (now (pending .entry)))) (circuitWork (acceptWork found) (heldCircuits (request .places) (now (circuits .entry)))) (tallied true (request .packet .«context_id») (found .pending .requester) (heldActions (request .places) (now (inflight .entry)))) ⌝ }
 {
-    let peer = peer_of(source);
+    let runtime = request.runtime;
+    let places = request.places;
+    let packet = request.packet;
+    let peer = request.peer;
+    let config = runtime.config;
     let question = accept_work(found);
     let waiting = pending_work(pending, places, question);
     let running = circuit_work(circuits, places, question);
@@ -106,27 +104,16 @@ pub(crate) fn accept_found(
     circuits: &mut [RelayCircuit],
     inflight: &mut [InflightAction],
     out: &mut [u32],
-    runtime: OpaqueRelayRuntime,
-    places: Places,
-    packet: RelayPacket,
+    request: Request,
     found: PendingFound,
     read: AcceptRead,
-    source: &[u8],
 ) -> Relayed
-    ensures { λ r. ⌜ ((l : List ReservationUsage) (body e rs : List ℕ) → found ≡ pendingFound (at (packet .«context_id») 0) (heldPending places (now (pending .entry))) → read ≡ decodeAccept body → handedSeen r (now (pending .exit)) (now (circuits .exit)) l (now (inflight .exit)) (now (out .exit)) ≡ ending (now (out .entry)) (handleAccept (worldSeen runtime places (now (pending .entry)) (now (circuits .entry)) l (now (inflight .entry))) (packetOf packet (now (source .entry)) body e rs))) ⌝ }
+    ensures { λ r. ⌜ ((l : List ReservationUsage) (source body e rs : List ℕ) → request .peer ≡ peerOf source → found ≡ pendingFound (at (request .packet .«context_id») 0) (heldPending (request .places) (now (pending .entry))) → read ≡ decodeAccept body → handedSeen r (now (pending .exit)) (now (circuits .exit)) l (now (inflight .exit)) (now (out .exit)) ≡ ending (now (out .entry)) (handleAccept (worldAt request (now (pending .entry)) (now (circuits .entry)) l (now (inflight .entry))) (packetOf (request .packet) source body e rs))) ⌝ }
 {
+    let runtime = request.runtime;
+    let places = request.places;
     let config = runtime.config;
-    let answer = accept_answered(
-        pending,
-        circuits,
-        inflight,
-        places,
-        config,
-        packet,
-        found,
-        read,
-        source,
-    );
+    let answer = accept_answered(pending, circuits, inflight, request, found, read);
     if is_taken(answer) {
         let plan = accept_plan(answer, runtime, found, read);
         let row = found_unmarked(found);
@@ -149,31 +136,20 @@ pub(crate) fn handle_accept(
     circuits: &mut [RelayCircuit],
     inflight: &mut [InflightAction],
     out: &mut [u32],
-    runtime: OpaqueRelayRuntime,
-    places: Places,
-    packet: RelayPacket,
-    source: &[u8],
+    request: Request,
     body: &[u8],
 ) -> Relayed
-    ensures { λ r. ⌜ ((l : List ReservationUsage) (e rs : List ℕ) → handedSeen r (now (pending .exit)) (now (circuits .exit)) l (now (inflight .exit)) (now (out .exit)) ≡ ending (now (out .entry)) (handleAccept (worldSeen runtime places (now (pending .entry)) (now (circuits .entry)) l (now (inflight .entry))) (packetOf packet (now (source .entry)) (now (body .entry)) e rs))) ⌝ }
+    ensures { λ r. ⌜ ((l : List ReservationUsage) (source e rs : List ℕ) → request .peer ≡ peerOf source → handedSeen r (now (pending .exit)) (now (circuits .exit)) l (now (inflight .exit)) (now (out .exit)) ≡ ending (now (out .entry)) (handleAccept (worldAt request (now (pending .entry)) (now (circuits .entry)) l (now (inflight .entry))) (packetOf (request .packet) source (now (body .entry)) e rs))) ⌝ }
 {
+    let runtime = request.runtime;
+    let places = request.places;
+    let packet = request.packet;
+    let peer = request.peer;
     let found = pending_by_id(pending, places, packet.context_id);
     let read = AcceptBody::decode(body);
-    let peer = peer_of(source);
     let entered = accept_entry(found, peer, packet.now, read);
     if is_taken(entered) {
-        return accept_found(
-            pending,
-            circuits,
-            inflight,
-            out,
-            runtime,
-            places,
-            packet,
-            found,
-            read,
-            source,
-        );
+        return accept_found(pending, circuits, inflight, out, request, found, read);
     }
     refused(runtime, places, entered)
 }

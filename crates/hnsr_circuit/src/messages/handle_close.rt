@@ -5,9 +5,10 @@ ghost use mathlib.Core.List.{List};
 ghost use Prim.Native.Nat.{ℕ, _<_};
 ghost use lib.ListN.{length};
 ghost use Rattle.hnsr_circuit.specs.Code.Plans.{closePlannedOn};
-ghost use Rattle.hnsr_circuit.specs.Code.Held.{heldPending, heldCircuits, worldSeen, handedSeen};
+ghost use Rattle.hnsr_circuit.specs.Code.Held.{heldPending, heldCircuits, worldAt, handedSeen};
 ghost use Rattle.hnsr_circuit.specs.declared.records.ReservationUsage.{ReservationUsage};
 ghost use Rattle.hnsr_circuit.specs.Close.{handleClose};
+ghost use Rattle.hnsr_circuit.specs.Peer.{peerOf};
 ghost use Rattle.hnsr_circuit.specs.Code.Progress.{packetOf, ending};
 use crate::answer::body_answer;
 use crate::answer::is_taken;
@@ -15,19 +16,16 @@ use crate::messages::close::ClosePlan;
 use crate::messages::close::close_plan;
 use crate::output::queue::asking;
 use crate::output::queue::send;
-use crate::peer::peer_of;
 use crate::records::InflightAction;
 use crate::records::RelayCircuit;
 use crate::records::RelayPending;
-use crate::runtime::OpaqueRelayRuntime;
-use crate::runtime::RelayPacket;
 use crate::runtime::Relayed;
+use crate::runtime::Request;
 use crate::runtime::refused;
 use crate::tables::inflight::drop_and_scan;
 use crate::tables::lookup::circuit_by_id;
 use crate::tables::lookup::look_up_pending;
 use crate::tables::pending::count_pending;
-use crate::tables::places::Places;
 use crate::tables::question::named;
 use crate::tables::stores::unmark_circuit;
 use crate::tables::stores::unmark_pending;
@@ -38,15 +36,15 @@ use hnsr_body::detail_body::ReasonDetail;
 pub(crate) fn plan_close(
     pending: &[RelayPending],
     circuits: &[RelayCircuit],
-    runtime: OpaqueRelayRuntime,
-    places: Places,
-    packet: RelayPacket,
+    request: Request,
     read: DetailRead,
-    source: &[u8],
 ) -> ClosePlan
-    ensures { λ r. ⌜ r ≡ closePlannedOn runtime (heldPending places (now (pending .entry))) (heldCircuits places (now (circuits .entry))) packet read (now (source .entry)) ⌝ }
+    ensures { λ r. ⌜ r ≡ closePlannedOn (request .runtime) (heldPending (request .places) (now (pending .entry))) (heldCircuits (request .places) (now (circuits .entry))) (request .packet) read (request .peer) ⌝ }
 {
-    let peer = peer_of(source);
+    let runtime = request.runtime;
+    let places = request.places;
+    let packet = request.packet;
+    let peer = request.peer;
     let naming = named(peer, packet.context_id);
     let matches = count_pending(pending, places, naming);
     let waiting = look_up_pending(pending, places, naming);
@@ -60,17 +58,16 @@ pub(crate) fn close_read(
     circuits: &mut [RelayCircuit],
     inflight: &mut [InflightAction],
     out: &mut [u32],
-    runtime: OpaqueRelayRuntime,
-    places: Places,
-    packet: RelayPacket,
+    request: Request,
     read: DetailRead,
-    source: &[u8],
     body: &[u8],
 ) -> Relayed
     requires { ⌜ (read ≡ decodeDetail (now body)) × (length (now body) < 65536) ⌝ }
-    ensures { λ r. ⌜ ((l : List ReservationUsage) (e rs : List ℕ) → handedSeen r (now (pending .exit)) (now (circuits .exit)) l (now (inflight .exit)) (now (out .exit)) ≡ ending (now (out .entry)) (handleClose (worldSeen runtime places (now (pending .entry)) (now (circuits .entry)) l (now (inflight .entry))) (packetOf packet (now (source .entry)) (now (body .entry)) e rs))) ⌝ }
+    ensures { λ r. ⌜ ((l : List ReservationUsage) (source e rs : List ℕ) → request .peer ≡ peerOf source → handedSeen r (now (pending .exit)) (now (circuits .exit)) l (now (inflight .exit)) (now (out .exit)) ≡ ending (now (out .entry)) (handleClose (worldAt request (now (pending .entry)) (now (circuits .entry)) l (now (inflight .entry))) (packetOf (request .packet) source (now (body .entry)) e rs))) ⌝ }
 {
-    let plan = plan_close(pending, circuits, runtime, places, packet, read, source);
+    let runtime = request.runtime;
+    let places = request.places;
+    let plan = plan_close(pending, circuits, request, read);
     let answer = plan.answer;
     let counted = plan.runtime;
     let message = plan.message;
@@ -89,31 +86,19 @@ pub(crate) fn handle_close(
     circuits: &mut [RelayCircuit],
     inflight: &mut [InflightAction],
     out: &mut [u32],
-    runtime: OpaqueRelayRuntime,
-    places: Places,
-    packet: RelayPacket,
-    source: &[u8],
+    request: Request,
     body: &[u8],
 ) -> Relayed
     requires { ⌜ length (now body) < 65536 ⌝ }
-    ensures { λ r. ⌜ ((l : List ReservationUsage) (e rs : List ℕ) → handedSeen r (now (pending .exit)) (now (circuits .exit)) l (now (inflight .exit)) (now (out .exit)) ≡ ending (now (out .entry)) (handleClose (worldSeen runtime places (now (pending .entry)) (now (circuits .entry)) l (now (inflight .entry))) (packetOf packet (now (source .entry)) (now (body .entry)) e rs))) ⌝ }
+    ensures { λ r. ⌜ ((l : List ReservationUsage) (source e rs : List ℕ) → request .peer ≡ peerOf source → handedSeen r (now (pending .exit)) (now (circuits .exit)) l (now (inflight .exit)) (now (out .exit)) ≡ ending (now (out .entry)) (handleClose (worldAt request (now (pending .entry)) (now (circuits .entry)) l (now (inflight .entry))) (packetOf (request .packet) source (now (body .entry)) e rs))) ⌝ }
 {
+    let runtime = request.runtime;
+    let places = request.places;
     let read = ReasonDetail::decode(body);
     let checked = read.result;
     let entered = body_answer(checked);
     if is_taken(entered) {
-        return close_read(
-            pending,
-            circuits,
-            inflight,
-            out,
-            runtime,
-            places,
-            packet,
-            read,
-            source,
-            body,
-        );
+        return close_read(pending, circuits, inflight, out, request, read, body);
     }
     refused(runtime, places, entered)
 }

@@ -6,9 +6,10 @@ ghost use lib.ListN.{length};
 ghost use Rattle.hnsr_circuit.specs.Code.Question.{at};
 ghost use Rattle.hnsr_circuit.specs.Code.Lookup.{circuitFound};
 ghost use Rattle.hnsr_circuit.specs.Code.Plans.{dataPlannedOn};
-ghost use Rattle.hnsr_circuit.specs.Code.Held.{heldCircuits, heldLedger, heldActions, worldSeen, handedSeen};
+ghost use Rattle.hnsr_circuit.specs.Code.Held.{heldCircuits, heldLedger, heldActions, worldAt, handedSeen};
 ghost use Rattle.hnsr_circuit.specs.declared.records.RelayPending.{RelayPending};
 ghost use Rattle.hnsr_circuit.specs.Data.{handleData};
+ghost use Rattle.hnsr_circuit.specs.Peer.{peerOf};
 ghost use Rattle.hnsr_circuit.specs.Code.Progress.{packetOf, ending};
 use crate::answer::is_taken;
 use crate::messages::data::DataPlan;
@@ -18,20 +19,17 @@ use crate::messages::message::data_on;
 use crate::messages::message::reservation_of;
 use crate::output::queue::asking;
 use crate::output::queue::send;
-use crate::peer::peer_of;
 use crate::records::InflightAction;
 use crate::records::RelayCircuit;
 use crate::records::ReservationUsage;
-use crate::runtime::OpaqueRelayRuntime;
-use crate::runtime::RelayPacket;
 use crate::runtime::Relayed;
+use crate::runtime::Request;
 use crate::runtime::refused;
 use crate::tables::circuits::charge_circuit;
 use crate::tables::inflight::scan_actions;
 use crate::tables::lookup::CircuitFound;
 use crate::tables::lookup::circuit_by_id;
 use crate::tables::lookup::look_up_usage;
-use crate::tables::places::Places;
 use crate::tables::question::at_reservation;
 use crate::tables::stores::spend;
 
@@ -39,16 +37,16 @@ use crate::tables::stores::spend;
 pub(crate) fn plan_data(
     ledger: &[ReservationUsage],
     inflight: &[InflightAction],
-    runtime: OpaqueRelayRuntime,
-    places: Places,
-    packet: RelayPacket,
+    request: Request,
     named: CircuitFound,
-    source: &[u8],
     n: usize,
 ) -> DataPlan
-    ensures { λ r. ⌜ r ≡ dataPlannedOn runtime named (heldLedger places (now (ledger .entry))) (heldActions places (now (inflight .entry))) packet (now (source .entry)) n ⌝ }
+    ensures { λ r. ⌜ r ≡ dataPlannedOn (request .runtime) named (heldLedger (request .places) (now (ledger .entry))) (heldActions (request .places) (now (inflight .entry))) (request .packet) (request .peer) n ⌝ }
 {
-    let peer = peer_of(source);
+    let runtime = request.runtime;
+    let places = request.places;
+    let packet = request.packet;
+    let peer = request.peer;
     let message = data_on(packet, named, peer, n);
     let asked = asking(runtime, message);
     let scan = scan_actions(inflight, places, asked);
@@ -64,19 +62,17 @@ pub(crate) fn pass_data(
     ledger: &mut [ReservationUsage],
     inflight: &mut [InflightAction],
     out: &mut [u32],
-    runtime: OpaqueRelayRuntime,
-    places: Places,
-    packet: RelayPacket,
+    request: Request,
     named: CircuitFound,
-    source: &[u8],
     body: &[u8],
 ) -> Relayed
-    requires { ⌜ (named ≡ circuitFound (at (packet .«context_id») 0) (heldCircuits places (now circuits))) × (length (now body) < 65536) ⌝ }
-    ensures { λ r. ⌜ ((p : List RelayPending) (e rs : List ℕ) → handedSeen r p (now (circuits .exit)) (now (ledger .exit)) (now (inflight .exit)) (now (out .exit)) ≡ ending (now (out .entry)) (handleData (worldSeen runtime places p (now (circuits .entry)) (now (ledger .entry)) (now (inflight .entry))) (packetOf packet (now (source .entry)) (now (body .entry)) e rs))) ⌝ }
+    requires { ⌜ (named ≡ circuitFound (at (request .packet .«context_id») 0) (heldCircuits (request .places) (now circuits))) × (length (now body) < 65536) ⌝ }
+    ensures { λ r. ⌜ ((p : List RelayPending) (source e rs : List ℕ) → request .peer ≡ peerOf source → handedSeen r p (now (circuits .exit)) (now (ledger .exit)) (now (inflight .exit)) (now (out .exit)) ≡ ending (now (out .entry)) (handleData (worldAt request p (now (circuits .entry)) (now (ledger .entry)) (now (inflight .entry))) (packetOf (request .packet) source (now (body .entry)) e rs))) ⌝ }
 {
     let n = body.len();
     let bytes = n as u64;
-    let plan = plan_data(ledger, inflight, runtime, places, packet, named, source, n);
+    let places = request.places;
+    let plan = plan_data(ledger, inflight, request, named, n);
     let answer = plan.answer;
     let side = plan.side;
     let counted = plan.runtime;
@@ -93,31 +89,20 @@ pub(crate) fn handle_data(
     ledger: &mut [ReservationUsage],
     inflight: &mut [InflightAction],
     out: &mut [u32],
-    runtime: OpaqueRelayRuntime,
-    places: Places,
-    packet: RelayPacket,
-    source: &[u8],
+    request: Request,
     body: &[u8],
 ) -> Relayed
     requires { ⌜ length (now body) < 65536 ⌝ }
-    ensures { λ r. ⌜ ((p : List RelayPending) (e rs : List ℕ) → handedSeen r p (now (circuits .exit)) (now (ledger .exit)) (now (inflight .exit)) (now (out .exit)) ≡ ending (now (out .entry)) (handleData (worldSeen runtime places p (now (circuits .entry)) (now (ledger .entry)) (now (inflight .entry))) (packetOf packet (now (source .entry)) (now (body .entry)) e rs))) ⌝ }
+    ensures { λ r. ⌜ ((p : List RelayPending) (source e rs : List ℕ) → request .peer ≡ peerOf source → handedSeen r p (now (circuits .exit)) (now (ledger .exit)) (now (inflight .exit)) (now (out .exit)) ≡ ending (now (out .entry)) (handleData (worldAt request p (now (circuits .entry)) (now (ledger .entry)) (now (inflight .entry))) (packetOf (request .packet) source (now (body .entry)) e rs))) ⌝ }
 {
+    let runtime = request.runtime;
+    let places = request.places;
+    let packet = request.packet;
+    let peer = request.peer;
     let named = circuit_by_id(circuits, places, packet.context_id);
-    let peer = peer_of(source);
     let entered = data_entry(named, peer, body.len());
     if is_taken(entered) {
-        return pass_data(
-            circuits,
-            ledger,
-            inflight,
-            out,
-            runtime,
-            places,
-            packet,
-            named,
-            source,
-            body,
-        );
+        return pass_data(circuits, ledger, inflight, out, request, named, body);
     }
     refused(runtime, places, entered)
 }

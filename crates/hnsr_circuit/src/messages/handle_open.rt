@@ -7,9 +7,10 @@ ghost use Prim.Native.Nat.{ℕ};
 ghost use Rattle.hnsr_circuit.specs.Table.{any};
 ghost use Rattle.hnsr_circuit.specs.Pending.{pendingAt};
 ghost use Rattle.hnsr_circuit.specs.Ledger.{usageOf};
-ghost use Rattle.hnsr_circuit.specs.Code.Held.{heldPending, heldCircuits, heldLedger, heldActions, worldSeen, handedSeen};
+ghost use Rattle.hnsr_circuit.specs.Code.Held.{heldPending, heldCircuits, heldLedger, heldActions, worldSeen, worldAt, handedSeen};
 ghost use Rattle.hnsr_circuit.specs.Code.Turns.{actionsScanned};
 ghost use Rattle.hnsr_circuit.specs.Draw.{undrawn, draws, drawAll};
+ghost use Rattle.hnsr_circuit.specs.Peer.{peerOf};
 ghost use Rattle.hnsr_circuit.specs.Code.Progress.{packetOf, asking, ending};
 ghost use Rattle.hnsr_circuit.specs.Open.{openBooked, openLapsed, handleOpen};
 ghost use Rattle.hnsr_circuit.specs.Code.Opening.{isTaken, firstDraw, gathering, openingOf, incomingOut, openPlan};
@@ -47,8 +48,8 @@ use crate::records::ReservationUsage;
 use crate::records::header::opened;
 use crate::records::ledger::usage_answer;
 use crate::runtime::OpaqueRelayRuntime;
-use crate::runtime::RelayPacket;
 use crate::runtime::Relayed;
+use crate::runtime::Request;
 use crate::runtime::refused;
 use crate::tables::circuits::circuit_work;
 use crate::tables::circuits::find_circuit_id;
@@ -116,16 +117,16 @@ pub(crate) fn draw(
 pub(crate) fn gather(
     pending: &[RelayPending],
     circuits: &[RelayCircuit],
-    places: Places,
-    packet: RelayPacket,
-    source: &[u8],
+    request: Request,
     body: &[u8],
     endpoint: &[u8],
     random: &[u8],
 ) -> OpenGathered
-    ensures { λ r. ⌜ r ≡ gathering packet (now (source .entry)) (now (body .entry)) (now (endpoint .entry)) (now (random .entry)) (heldPending places (now (pending .entry))) (heldCircuits places (now (circuits .entry))) ⌝ }
+    ensures { λ r. ⌜ r ≡ gathering (request .packet) (request .peer) (now (body .entry)) (now (endpoint .entry)) (now (random .entry)) (heldPending (request .places) (now (pending .entry))) (heldCircuits (request .places) (now (circuits .entry))) ⌝ }
 {
-    let requester = peer_of(source);
+    let places = request.places;
+    let packet = request.packet;
+    let requester = request.peer;
     let other = peer_of(endpoint);
     let read = OpenBody::decode(body, packet.key_valid);
     let first = first_draw(random);
@@ -184,7 +185,7 @@ pub(crate) fn open_placed(
     drawing: Drawing,
     plan: OpenPlan,
 ) -> Relayed
-    ensures { λ r. ⌜ ((c : List RelayCircuit) (q : RelayPacket) (source body endpoint rs : List ℕ) → gathered ≡ gathering q source body endpoint rs (heldPending places (now (pending .entry))) (heldCircuits places c) → drawing ≡ drawAll (isTaken (heldPending places (now (pending .entry))) (heldCircuits places c)) undrawn (draws rs) → plan ≡ openPlan (runtime .config) gathered drawing → handedSeen r (now (pending .exit)) c (now (ledger .exit)) (now (inflight .exit)) (now (out .exit)) ≡ ending (now (out .entry)) (openLapsed (worldSeen runtime places (now (pending .entry)) c (now (ledger .entry)) (now (inflight .entry))) (packetOf q source body endpoint rs))) ⌝ }
+    ensures { λ r. ⌜ ((c : List RelayCircuit) (q : RelayPacket) (source body endpoint rs : List ℕ) → gathered ≡ gathering q (peerOf source) body endpoint rs (heldPending places (now (pending .entry))) (heldCircuits places c) → drawing ≡ drawAll (isTaken (heldPending places (now (pending .entry))) (heldCircuits places c)) undrawn (draws rs) → plan ≡ openPlan (runtime .config) gathered drawing → handedSeen r (now (pending .exit)) c (now (ledger .exit)) (now (inflight .exit)) (now (out .exit)) ≡ ending (now (out .entry)) (openLapsed (worldSeen runtime places (now (pending .entry)) c (now (ledger .entry)) (now (inflight .entry))) (packetOf q source body endpoint rs))) ⌝ }
 {
     let size = ledger.len();
     let config = runtime.config;
@@ -219,7 +220,7 @@ pub(crate) fn open_lapsed(
     random: &[u8],
 ) -> Relayed
     requires { ⌜ (gathered .waiting .holds || gathered .running .holds) ≡ isTaken (heldPending places (now pending)) (heldCircuits places (now circuits)) (firstDraw (now random)) ⌝ }
-    ensures { λ r. ⌜ ((q : RelayPacket) (source body endpoint : List ℕ) → gathered ≡ gathering q source body endpoint (now (random .entry)) (heldPending places (now (pending .entry))) (heldCircuits places (now (circuits .entry))) → handedSeen r (now (pending .exit)) (now (circuits .entry)) (now (ledger .exit)) (now (inflight .exit)) (now (out .exit)) ≡ ending (now (out .entry)) (openLapsed (worldSeen runtime places (now (pending .entry)) (now (circuits .entry)) (now (ledger .entry)) (now (inflight .entry))) (packetOf q source body endpoint (now (random .entry))))) ⌝ }
+    ensures { λ r. ⌜ ((q : RelayPacket) (source body endpoint : List ℕ) → gathered ≡ gathering q (peerOf source) body endpoint (now (random .entry)) (heldPending places (now (pending .entry))) (heldCircuits places (now (circuits .entry))) → handedSeen r (now (pending .exit)) (now (circuits .entry)) (now (ledger .exit)) (now (inflight .exit)) (now (out .exit)) ≡ ending (now (out .entry)) (openLapsed (worldSeen runtime places (now (pending .entry)) (now (circuits .entry)) (now (ledger .entry)) (now (inflight .entry))) (packetOf q source body endpoint (now (random .entry))))) ⌝ }
 {
     let config = runtime.config;
     let first = first_draw(random);
@@ -250,27 +251,18 @@ pub(crate) fn handle_open(
     ledger: &mut [ReservationUsage],
     inflight: &mut [InflightAction],
     out: &mut [u32],
-    runtime: OpaqueRelayRuntime,
-    places: Places,
-    packet: RelayPacket,
-    source: &[u8],
+    request: Request,
     body: &[u8],
     endpoint: &[u8],
     random: &[u8],
 ) -> Relayed
-    ensures { λ r. ⌜ handedSeen r (now (pending .exit)) (now (circuits .exit)) (now (ledger .exit)) (now (inflight .exit)) (now (out .exit)) ≡ ending (now (out .entry)) (handleOpen (worldSeen runtime places (now (pending .entry)) (now (circuits .entry)) (now (ledger .entry)) (now (inflight .entry))) (packetOf packet (now (source .entry)) (now (body .entry)) (now (endpoint .entry)) (now (random .entry)))) ⌝ }
+    ensures { λ r. ⌜ ((source : List ℕ) → request .peer ≡ peerOf source → handedSeen r (now (pending .exit)) (now (circuits .exit)) (now (ledger .exit)) (now (inflight .exit)) (now (out .exit)) ≡ ending (now (out .entry)) (handleOpen (worldAt request (now (pending .entry)) (now (circuits .entry)) (now (ledger .entry)) (now (inflight .entry))) (packetOf (request .packet) source (now (body .entry)) (now (endpoint .entry)) (now (random .entry))))) ⌝ }
 {
-    let gathered = gather(
-        pending,
-        circuits,
-        places,
-        packet,
-        source,
-        body,
-        endpoint,
-        random,
-    );
+    let runtime = request.runtime;
+    let places = request.places;
+    let packet = request.packet;
     let config = runtime.config;
+    let gathered = gather(pending, circuits, request, body, endpoint, random);
     let answer = open_rows(config, gathered);
     if is_taken(answer) {
         drop_lapsed(ledger, places, packet.now);

@@ -7,10 +7,11 @@ ghost use lib.ListN.{length};
 ghost use Rattle.hnsr_circuit.specs.Code.Question.{at};
 ghost use Rattle.hnsr_circuit.specs.Code.Lookup.{circuitFound};
 ghost use Rattle.hnsr_circuit.specs.Code.Plans.{windowPlannedOn};
-ghost use Rattle.hnsr_circuit.specs.Code.Held.{heldCircuits, heldActions, worldSeen, handedSeen};
+ghost use Rattle.hnsr_circuit.specs.Code.Held.{heldCircuits, heldActions, worldAt, handedSeen};
 ghost use Rattle.hnsr_circuit.specs.declared.records.RelayPending.{RelayPending};
 ghost use Rattle.hnsr_circuit.specs.declared.records.ReservationUsage.{ReservationUsage};
 ghost use Rattle.hnsr_circuit.specs.Window.{handleWindow};
+ghost use Rattle.hnsr_circuit.specs.Peer.{peerOf};
 ghost use Rattle.hnsr_circuit.specs.Code.Progress.{packetOf, ending};
 use crate::answer::is_taken;
 use crate::messages::message::passed_on;
@@ -19,18 +20,15 @@ use crate::messages::window::window_entry;
 use crate::messages::window::window_plan;
 use crate::output::queue::asking;
 use crate::output::queue::send;
-use crate::peer::peer_of;
 use crate::records::InflightAction;
 use crate::records::InflightKind;
 use crate::records::RelayCircuit;
-use crate::runtime::OpaqueRelayRuntime;
-use crate::runtime::RelayPacket;
 use crate::runtime::Relayed;
+use crate::runtime::Request;
 use crate::runtime::refused;
 use crate::tables::inflight::scan_actions;
 use crate::tables::lookup::CircuitFound;
 use crate::tables::lookup::circuit_by_id;
-use crate::tables::places::Places;
 use crate::tables::stores::raise_circuit;
 use hnsr_body::data_body::WindowBody;
 use hnsr_body::data_body::WindowRead;
@@ -38,18 +36,18 @@ use hnsr_body::data_body::WindowRead;
 // What a WINDOW does, on the circuit that it names: one pass over the actions.
 pub(crate) fn plan_window(
     inflight: &[InflightAction],
-    runtime: OpaqueRelayRuntime,
-    places: Places,
-    packet: RelayPacket,
+    request: Request,
     read: WindowRead,
     named: CircuitFound,
-    source: &[u8],
 ) -> WindowPlan
-    ensures { λ r. ⌜ r ≡ windowPlannedOn runtime read named (heldActions places (now (inflight .entry))) packet (now (source .entry)) ⌝ }
+    ensures { λ r. ⌜ r ≡ windowPlannedOn (request .runtime) read named (heldActions (request .places) (now (inflight .entry))) (request .packet) (request .peer) ⌝ }
 {
+    let runtime = request.runtime;
+    let places = request.places;
+    let packet = request.packet;
+    let peer = request.peer;
     let config = runtime.config;
     let kind = InflightKind::Control;
-    let peer = peer_of(source);
     let message = passed_on(packet, named, peer, kind);
     let asked = asking(runtime, message);
     let scan = scan_actions(inflight, places, asked);
@@ -61,18 +59,17 @@ pub(crate) fn pass_window(
     circuits: &mut [RelayCircuit],
     inflight: &mut [InflightAction],
     out: &mut [u32],
-    runtime: OpaqueRelayRuntime,
-    places: Places,
-    packet: RelayPacket,
+    request: Request,
     read: WindowRead,
     named: CircuitFound,
-    source: &[u8],
     body: &[u8],
 ) -> Relayed
-    requires { ⌜ (named ≡ circuitFound (at (packet .«context_id») 0) (heldCircuits places (now circuits))) × (read ≡ decodeWindow (now body)) × (length (now body) < 65536) ⌝ }
-    ensures { λ r. ⌜ ((p : List RelayPending) (l : List ReservationUsage) (e rs : List ℕ) → handedSeen r p (now (circuits .exit)) l (now (inflight .exit)) (now (out .exit)) ≡ ending (now (out .entry)) (handleWindow (worldSeen runtime places p (now (circuits .entry)) l (now (inflight .entry))) (packetOf packet (now (source .entry)) (now (body .entry)) e rs))) ⌝ }
+    requires { ⌜ (named ≡ circuitFound (at (request .packet .«context_id») 0) (heldCircuits (request .places) (now circuits))) × (read ≡ decodeWindow (now body)) × (length (now body) < 65536) ⌝ }
+    ensures { λ r. ⌜ ((p : List RelayPending) (l : List ReservationUsage) (source e rs : List ℕ) → request .peer ≡ peerOf source → handedSeen r p (now (circuits .exit)) l (now (inflight .exit)) (now (out .exit)) ≡ ending (now (out .entry)) (handleWindow (worldAt request p (now (circuits .entry)) l (now (inflight .entry))) (packetOf (request .packet) source (now (body .entry)) e rs))) ⌝ }
 {
-    let plan = plan_window(inflight, runtime, places, packet, read, named, source);
+    let plan = plan_window(inflight, request, read, named);
+    let runtime = request.runtime;
+    let places = request.places;
     let answer = plan.answer;
     let side = plan.side;
     let message = plan.message;
@@ -86,32 +83,21 @@ pub(crate) fn handle_window(
     circuits: &mut [RelayCircuit],
     inflight: &mut [InflightAction],
     out: &mut [u32],
-    runtime: OpaqueRelayRuntime,
-    places: Places,
-    packet: RelayPacket,
-    source: &[u8],
+    request: Request,
     body: &[u8],
 ) -> Relayed
     requires { ⌜ length (now body) < 65536 ⌝ }
-    ensures { λ r. ⌜ ((p : List RelayPending) (l : List ReservationUsage) (e rs : List ℕ) → handedSeen r p (now (circuits .exit)) l (now (inflight .exit)) (now (out .exit)) ≡ ending (now (out .entry)) (handleWindow (worldSeen runtime places p (now (circuits .entry)) l (now (inflight .entry))) (packetOf packet (now (source .entry)) (now (body .entry)) e rs))) ⌝ }
+    ensures { λ r. ⌜ ((p : List RelayPending) (l : List ReservationUsage) (source e rs : List ℕ) → request .peer ≡ peerOf source → handedSeen r p (now (circuits .exit)) l (now (inflight .exit)) (now (out .exit)) ≡ ending (now (out .entry)) (handleWindow (worldAt request p (now (circuits .entry)) l (now (inflight .entry))) (packetOf (request .packet) source (now (body .entry)) e rs))) ⌝ }
 {
+    let runtime = request.runtime;
+    let places = request.places;
+    let packet = request.packet;
+    let peer = request.peer;
     let read = WindowBody::decode(body);
     let named = circuit_by_id(circuits, places, packet.context_id);
-    let peer = peer_of(source);
     let entered = window_entry(read, named, peer);
     if is_taken(entered) {
-        return pass_window(
-            circuits,
-            inflight,
-            out,
-            runtime,
-            places,
-            packet,
-            read,
-            named,
-            source,
-            body,
-        );
+        return pass_window(circuits, inflight, out, request, read, named, body);
     }
     refused(runtime, places, entered)
 }

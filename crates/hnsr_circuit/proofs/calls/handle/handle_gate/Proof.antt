@@ -25,7 +25,7 @@ returns c =
     let w = worldOf (a .runtime) (heldPending (a .places) (a .pending .now)) (heldCircuits (a .places) (a .circuits .now)) (heldLedger (a .places) (a .ledger .now)) (heldActions (a .places) (a .inflight .now)) in
     let q = packetOf (a .packet) (a .source .now) (a .body .now) (a .endpoint .now) (a .random .now) in
     let answer = here .gate-answer in
-    here .dispatch .ensures
+    here .dispatch .ensures (a .source .now) (here .peer-of .ensures)
     ∙ ap (λ (o : Outcome). ending (a .out .now) o) (sym (gone-on w (answer .result) (gateAnswer (a .runtime .enabled)) (dispatch (handlingOf (q .opcode)) w q) (sym (here .is-taken .ensures) ∙ here .if1 .taken) (answer .ensures)))
 
 returns-2 : tie.Need-returns-2

@@ -15,10 +15,12 @@ use Prim.Native.Nat.{ℕ}
 use Rattle.hns_encoding.specs.Laws.Tests.{on-true}
 use Rattle.hnsr_circuit.specs.Pending.{clearPending}
 use Rattle.hnsr_circuit.specs.Circuits.{clearCircuit}
-use Rattle.hnsr_circuit.specs.Inflight.{actionUnder, dropped}
+use Rattle.hnsr_circuit.specs.Inflight.{actionUnder, dropped, tallied}
 use Rattle.hnsr_circuit.specs.Code.Held.{held, heldPending, heldCircuits, heldLedger, heldActions, worldSeen}
 use Rattle.hnsr_circuit.specs.Laws.HeldTables.{places-kept}
 use Rattle.hnsr_circuit.specs.declared.tables.places.Places.{Places}
+use Rattle.hnsr_circuit.specs.Code.Question.{pendingWork, circuitWork}
+use Rattle.hnsr_circuit.specs.Code.Opening.{acceptRows, acceptWork}
 use Rattle.hnsr_circuit.proofs.messages.handle_accept.accept_found.Statement.{statement}
 use Rattle.hnsr_circuit.proofs.messages.handle_accept.accept_found.Proof.Tie as tie
 use Rattle.hnsr_circuit.proofs.messages.handle_accept.accept_found.Proof.At as at
@@ -41,13 +43,16 @@ send-requires c κs = (
 returns : tie.Need-returns
 returns c =
     let here = at.returns c in
-    λ l₀ body e rs ef er.
+    λ l₀ source body e rs en ef er.
     let a = here .start .args in
-    let n = a .places in
+    let r = a .request in
+    let n = r .places in
     let p = heldPending n (a .pending .now) in
     let cs = heldCircuits n (a .circuits .now) in
     let l = heldLedger n l₀ in
     let i = heldActions n (a .inflight .now) in
+    let k = acceptWork (a .found) in
+    let ea = here .accept-answered .ensures ∙ (λ x. acceptRows (r .runtime .config) (a .found) (en x) (r .packet .now) (a .read) (pendingWork k p) (circuitWork k cs) (tallied true (r .packet .«context_id») (a .found .pending .requester) i)) in
     let wrote = here .accept-written .ensures in
     let plan = here .accept-plan .result in
     let t = sym (here .is-taken .ensures) ∙ here .if1 .taken in
@@ -56,18 +61,24 @@ returns c =
     here .send .ensures (here .accept-written .last .0) (here .accept-written .last .1 .0) l₀
     ∙ ap (λ (m : Places). ending (a .out .now) (let w = worldSeen (plan .runtime) m (here .accept-written .last .0) (here .accept-written .last .1 .0) l₀ (here .drop-and-scan .last .0) in proceed w (here .accept-answered .result) (send w (messageOf (plan .message) (here .to-bytes .result))))) (here .with-circuits .ensures)
     ∙ ap (λ (b : List ℕ). ending (a .out .now) (let w = worldOf (plan .runtime) (heldPending n (here .accept-written .last .0)) (held clearCircuit (here .accept-written .result) (here .accept-written .last .1 .0)) l (heldActions n (here .drop-and-scan .last .0)) in proceed w (here .accept-answered .result) (send w (messageOf (plan .message) b)))) (here .to-bytes .ensures)
-    ∙ ap (λ (o : Outcome). ending (a .out .now) o) (accept-ends (a .runtime) p cs l i (a .packet) (a .source .now) body e rs
+    ∙ ap (λ (o : Outcome). ending (a .out .now) o) (accept-ends (r .runtime) p cs l i (r .packet) source body e rs
     (a .found) (a .read) (here .accept-answered .result) plan (here .found-unmarked .result) (here .circuit-for .result) _ _ _
-    ef er (here .accept-answered .ensures) (here .accept-plan .ensures) (here .found-unmarked .ensures) (here .circuit-for .ensures) (wrote .0) (wrote .1) dropping)
+    ef er ea (here .accept-plan .ensures) (here .found-unmarked .ensures) (here .circuit-for .ensures) (wrote .0) (wrote .1) dropping)
 
 returns-2 : tie.Need-returns-2
 returns-2 c =
     let here = at.returns-2 c in
-    λ l₀ body e rs ef er.
+    λ l₀ source body e rs en ef er.
     let a = here .start .args in
-    let n = a .places in
+    let r = a .request in
+    let n = r .places in
+    let p = heldPending n (a .pending .now) in
+    let cs = heldCircuits n (a .circuits .now) in
+    let i = heldActions n (a .inflight .now) in
+    let k = acceptWork (a .found) in
+    let ea = here .accept-answered .ensures ∙ (λ x. acceptRows (r .runtime .config) (a .found) (en x) (r .packet .now) (a .read) (pendingWork k p) (circuitWork k cs) (tallied true (r .packet .«context_id») (a .found .pending .requester) i)) in
     places-kept (here .refused .result) (a .pending .now) (a .circuits .now) l₀ (a .inflight .now) (a .out .now) n (here .refused .ensures .1)
-    ∙ accept-refused (a .runtime) (heldPending n (a .pending .now)) (heldCircuits n (a .circuits .now)) (heldLedger n l₀) (heldActions n (a .inflight .now)) (a .packet) (a .source .now) body e rs (a .out .now) (a .found) (a .read) (here .accept-answered .result) (here .refused .result) ef er (here .accept-answered .ensures) (sym (here .is-taken .ensures) ∙ here .if1 .left) (here .refused .ensures .0)
+    ∙ accept-refused (r .runtime) p cs (heldLedger n l₀) i (r .packet) source body e rs (a .out .now) (a .found) (a .read) (here .accept-answered .result) (here .refused .result) ef er ea (sym (here .is-taken .ensures) ∙ here .if1 .left) (here .refused .ensures .0)
 
 pub accept-found-spec : {M : Type 1} → statement M
 accept-found-spec = tie.close (at.spec accept-written-requires send-requires returns returns-2)

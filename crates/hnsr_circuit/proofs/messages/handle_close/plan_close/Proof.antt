@@ -3,9 +3,8 @@ mod Tie
 mod At
 use mathlib.Core.Path.{ap, _∙_}
 use Rattle.hns_encoding.specs.Sums.{count}
-use Rattle.hnsr_circuit.specs.declared.peer.HnsrPeerId.{HnsrPeerId}
 use Rattle.hnsr_circuit.specs.declared.tables.question.Question.{Question}
-use Rattle.hnsr_circuit.specs.Code.Question.{named, pendingHas}
+use Rattle.hnsr_circuit.specs.Code.Question.{pendingHas}
 use Rattle.hnsr_circuit.specs.Code.Lookup.{pendingFound}
 use Rattle.hnsr_circuit.specs.Code.Plans.{closePlan}
 use Rattle.hnsr_circuit.specs.Code.Held.{heldPending, asksUnused}
@@ -20,12 +19,12 @@ returns : tie.Need-returns
 returns c =
     let here = at.returns c in
     let a = here .start .args in
-    let peer = here .peer-of .ensures in
-    let naming = here .named .ensures ∙ ap (λ (x : HnsrPeerId). named x (a .packet .«context_id»)) peer in
-    let matches = here .count-pending .ensures ∙ ap (λ (q : Question). count (pendingHas q) (heldPending (a .places) (a .pending .now))) naming in
-    let waiting = here .look-up-pending .ensures ∙ ap (λ (q : Question). pendingFound q (heldPending (a .places) (a .pending .now))) naming in
+    let r = a .request in
+    let naming = here .named .ensures in
+    let matches = here .count-pending .ensures ∙ ap (λ (q : Question). count (pendingHas q) (heldPending (r .places) (a .pending .now))) naming in
+    let waiting = here .look-up-pending .ensures ∙ ap (λ (q : Question). pendingFound q (heldPending (r .places) (a .pending .now))) naming in
     let circuit = here .circuit-by-id .ensures in
-    here .close-plan .ensures ∙ (λ x. closePlan (a .runtime) (a .packet) (a .read) (matches x) (waiting x) (circuit x) (peer x))
+    here .close-plan .ensures ∙ (λ x. closePlan (r .runtime) (r .packet) (a .read) (matches x) (waiting x) (circuit x) (r .peer))
 
 pub plan-close-spec : {M : Type 1} → statement M
 plan-close-spec = tie.close (at.spec count-pending-requires returns)

@@ -6,7 +6,6 @@ use Rattle.hnsr_circuit.specs.Code.Question.{at, circuitHas}
 use Rattle.hnsr_circuit.specs.Circuits.{charged, noCircuit, clearCircuit}
 use Rattle.hnsr_circuit.specs.declared.messages.«data».DataPlan.{DataPlan}
 use Rattle.hnsr_circuit.specs.Code.Plans.{dataPlannedOn}
-use Rattle.hnsr_circuit.specs.declared.tables.lookup.CircuitFound.{CircuitFound}
 use mathlib.Core.Path.{ap, _∙_}
 use lib.ListN.{length}
 use Rattle.hnsr_circuit.specs.Code.Held.{heldPending, heldCircuits, heldLedger, heldActions}
@@ -22,22 +21,28 @@ send-requires c κs =
     let s = here .start in
     let a = s .args in
     let plan = here .plan-data in
-    let ep = plan .ensures ∙ ap (λ (f : CircuitFound). dataPlannedOn (a .runtime) f (heldLedger (a .places) (a .ledger .now)) (heldActions (a .places) (a .inflight .now)) (a .packet) (a .source .now) (length (a .body .now))) (s .pre .0) in
-    (data-scanned (a .runtime) (heldCircuits (a .places) (a .circuits .now)) (heldLedger (a .places) (a .ledger .now)) (heldActions (a .places) (a .inflight .now)) (a .packet) (a .source .now) (a .body .now) (plan .result) ep, s .pre .1)
+    let q = a .request in
+    let l = heldLedger (q .places) (a .ledger .now) in
+    let i = heldActions (q .places) (a .inflight .now) in
+    let ep = plan .ensures ∙ (λ x. dataPlannedOn (q .runtime) (s .pre .0 x) l i (q .packet) (q .peer) (length (a .body .now))) in
+    (data-scanned (q .runtime) (heldCircuits (q .places) (a .circuits .now)) l i (q .packet) (q .peer) (a .body .now) (plan .result) ep, s .pre .1)
 
 returns : tie.Need-returns
 returns c =
     let here = at.returns c in
-    λ p₀ e rs.
+    λ p₀ source e rs en.
     let s = here .start in
     let a = s .args in
-    let p = heldPending (a .places) p₀ in
+    let q = a .request in
+    let cs = heldCircuits (q .places) (a .circuits .now) in
+    let l = heldLedger (q .places) (a .ledger .now) in
+    let i = heldActions (q .places) (a .inflight .now) in
     let plan = here .plan-data in
-    let ep = plan .ensures ∙ ap (λ (f : CircuitFound). dataPlannedOn (a .runtime) f (heldLedger (a .places) (a .ledger .now)) (heldActions (a .places) (a .inflight .now)) (a .packet) (a .source .now) (length (a .body .now))) (s .pre .0) in
-    let named = at (a .packet .«context_id») 0 in
+    let ep = plan .ensures ∙ (λ x. dataPlannedOn (q .runtime) (s .pre .0 x) l i (q .packet) (en x) (length (a .body .now))) in
+    let named = at (q .packet .«context_id») 0 in
     let place = ap (λ (x : DataPlan). x .place) ep in
-    let after = edited-held clearCircuit (a .places .circuits) (a .circuits .now) _ (plan .result .go) (plan .result .place) noCircuit (charged (plan .result .side) (length (a .body .now))) (λ h. rw place (place-below clearCircuit (circuitHas named) (circuit-unmarked named) (a .places .circuits) (a .circuits .now) (rw place at h))) (here .charge-circuit .ensures) in
-    data-handled (a .runtime) (heldCircuits (a .places) (a .circuits .now)) (heldLedger (a .places) (a .ledger .now)) (heldActions (a .places) (a .inflight .now)) (a .packet) (a .source .now) (a .body .now) (plan .result) ep (a .out .now) p e rs _ _ _ after (here .spend .ensures) (here .send .ensures p₀ (here .charge-circuit .last .0) (here .spend .last .0))
+    let after = edited-held clearCircuit (q .places .circuits) (a .circuits .now) _ (plan .result .go) (plan .result .place) noCircuit (charged (plan .result .side) (length (a .body .now))) (λ h. rw place (place-below clearCircuit (circuitHas named) (circuit-unmarked named) (q .places .circuits) (a .circuits .now) (rw place at h))) (here .charge-circuit .ensures) in
+    data-handled (q .runtime) cs l i (q .packet) source (a .body .now) (plan .result) ep (a .out .now) (heldPending (q .places) p₀) e rs _ _ _ after (here .spend .ensures) (here .send .ensures p₀ (here .charge-circuit .last .0) (here .spend .last .0))
 
 pub pass-data-spec : {M : Type 1} → statement M
 pass-data-spec = tie.close (at.spec send-requires returns)

@@ -15,8 +15,10 @@ raise-circuit-requires c κs =
     let s = here .start in
     let a = s .args in
     let plan = here .plan-window in
-    let ep = plan .ensures ∙ (λ x. windowPlannedOn (a .runtime) (s .pre .1 x) (s .pre .0 x) (heldActions (a .places) (a .inflight .now)) (a .packet) (a .source .now)) in
-    window-fits (a .runtime) (heldCircuits (a .places) (a .circuits .now)) (heldActions (a .places) (a .inflight .now)) (a .packet) (a .source .now) (a .body .now) (plan .result) ep
+    let q = a .request in
+    let i = heldActions (q .places) (a .inflight .now) in
+    let ep = plan .ensures ∙ (λ x. windowPlannedOn (q .runtime) (s .pre .1 x) (s .pre .0 x) i (q .packet) (q .peer)) in
+    window-fits (q .runtime) (heldCircuits (q .places) (a .circuits .now)) i (q .packet) (q .peer) (a .body .now) (plan .result) ep
 
 send-requires : tie.Need-send-requires
 send-requires c κs =
@@ -24,20 +26,24 @@ send-requires c κs =
     let s = here .start in
     let a = s .args in
     let plan = here .plan-window in
-    let ep = plan .ensures ∙ (λ x. windowPlannedOn (a .runtime) (s .pre .1 x) (s .pre .0 x) (heldActions (a .places) (a .inflight .now)) (a .packet) (a .source .now)) in
-    (window-scanned (a .runtime) (heldCircuits (a .places) (a .circuits .now)) (heldActions (a .places) (a .inflight .now)) (a .packet) (a .source .now) (a .body .now) (plan .result) ep, s .pre .2)
+    let q = a .request in
+    let i = heldActions (q .places) (a .inflight .now) in
+    let ep = plan .ensures ∙ (λ x. windowPlannedOn (q .runtime) (s .pre .1 x) (s .pre .0 x) i (q .packet) (q .peer)) in
+    (window-scanned (q .runtime) (heldCircuits (q .places) (a .circuits .now)) i (q .packet) (q .peer) (a .body .now) (plan .result) ep, s .pre .2)
 
 returns : tie.Need-returns
 returns c =
     let here = at.returns c in
-    λ p₀ l₀ e rs.
+    λ p₀ l₀ source e rs en.
     let s = here .start in
     let a = s .args in
-    let p = heldPending (a .places) p₀ in
-    let l = heldLedger (a .places) l₀ in
+    let q = a .request in
+    let p = heldPending (q .places) p₀ in
+    let l = heldLedger (q .places) l₀ in
+    let i = heldActions (q .places) (a .inflight .now) in
     let plan = here .plan-window in
-    let ep = plan .ensures ∙ (λ x. windowPlannedOn (a .runtime) (s .pre .1 x) (s .pre .0 x) (heldActions (a .places) (a .inflight .now)) (a .packet) (a .source .now)) in
-    window-handled (a .runtime) (heldCircuits (a .places) (a .circuits .now)) (heldActions (a .places) (a .inflight .now)) (a .packet) (a .source .now) (a .body .now) (plan .result) ep (a .out .now) p l e rs _ _ (here .raise-circuit .ensures) (here .send .ensures p₀ (here .raise-circuit .last .0) l₀)
+    let ep = plan .ensures ∙ (λ x. windowPlannedOn (q .runtime) (s .pre .1 x) (s .pre .0 x) i (q .packet) (en x)) in
+    window-handled (q .runtime) (heldCircuits (q .places) (a .circuits .now)) i (q .packet) source (a .body .now) (plan .result) ep (a .out .now) p l e rs _ _ (here .raise-circuit .ensures) (here .send .ensures p₀ (here .raise-circuit .last .0) l₀)
 
 pub pass-window-spec : {M : Type 1} → statement M
 pass-window-spec = tie.close (at.spec raise-circuit-requires send-requires returns)

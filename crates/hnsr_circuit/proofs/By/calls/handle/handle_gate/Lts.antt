@@ -7,14 +7,18 @@ use Rattle.hnsr_circuit.proofs.By.ReservationUsage
 use Rattle.hnsr_circuit.proofs.StructRow
 use Rattle.hnsr_circuit.proofs.answer.HnsrAnswer
 use Rattle.hnsr_circuit.proofs.answer.HnsrAnswer.Laws
+use Rattle.hnsr_circuit.proofs.peer.HnsrPeerId
+use Rattle.hnsr_circuit.proofs.peer.HnsrPeerId.Laws as Laws'
 use Rattle.hnsr_circuit.proofs.runtime.OpaqueRelayRuntime
-use Rattle.hnsr_circuit.proofs.runtime.OpaqueRelayRuntime.Laws as Laws'
+use Rattle.hnsr_circuit.proofs.runtime.OpaqueRelayRuntime.Laws as Laws''
 use Rattle.hnsr_circuit.proofs.runtime.RelayPacket
-use Rattle.hnsr_circuit.proofs.runtime.RelayPacket.Laws as Laws''
+use Rattle.hnsr_circuit.proofs.runtime.RelayPacket.Laws as Laws'''
 use Rattle.hnsr_circuit.proofs.runtime.Relayed
-use Rattle.hnsr_circuit.proofs.runtime.Relayed.Laws as Laws'''
+use Rattle.hnsr_circuit.proofs.runtime.Relayed.Laws as Laws''''
+use Rattle.hnsr_circuit.proofs.runtime.Request
+use Rattle.hnsr_circuit.proofs.runtime.Request.Laws as Laws'''''
 use Rattle.hnsr_circuit.proofs.tables.places.Places
-use Rattle.hnsr_circuit.proofs.tables.places.Places.Laws as Laws''''
+use Rattle.hnsr_circuit.proofs.tables.places.Places.Laws as Laws''''''
 use borrow.Author.Called
 use borrow.Fn.Any
 use borrow.Fn.Args as Args'
@@ -27,6 +31,7 @@ use borrow.Fn.Plain
 use borrow.Kind.Bool
 use borrow.Kind.MutSlice
 use borrow.Kind.ShrSlice
+use borrow.Rule.AtSlots
 use borrow.Rule.Lifetime
 use borrow.Rule.Local
 use borrow.Rule.Scalar
@@ -35,8 +40,12 @@ use borrow.Rule.Slice.Mut
 use borrow.Rule.Slice.Relend
 use borrow.Rule.Slice.Shared
 use borrow.Rule.Yields
+use borrow.Struct.Apart
+use borrow.Struct.Make
 use borrow.Struct.Reads
+use borrow.Struct.Signed
 use borrow.Table.Copies
+use borrow.Table.Own
 use borrow.Table.Reads as Reads'
 use borrow.Table.Referent
 use borrow.Table.Row
@@ -44,7 +53,9 @@ use borrow.Table.Rows
 use borrow.Table.Typed
 use contract.Lifetimes
 use denote.Enum.Declared
+use denote.Laws as Laws'''''''
 use denote.Struct.Declared as Declared'
+use denote.Struct.Laws as Laws''''''''
 use denote.Triple.Clauses
 use denote.Triple.Statement
 use ghost.Atoms
@@ -124,18 +135,19 @@ slice4 = Syntax.tyStruct (38 ∷ 91 ∷ 93 ∷ List.[]) (Syntax.tcons ref4
 abbrev pub ps : List.List (Kinds.PK 9)
 ps = (MutSlice.pMutS RelayPending.row 0 tt) ∷ (MutSlice.pMutS RelayCircuit.row 1 tt) ∷
     (MutSlice.pMutS ReservationUsage.row 2 tt) ∷ (MutSlice.pMutS InflightAction.row 3 tt) ∷ (MutSlice.pMutS
-    (Referent.rtF (Referent.fInt Syntax.w32)) 4 tt) ∷ (StructRow.param OpaqueRelayRuntime.the-type Laws'.the-laws
-    Laws'.the-copy Laws'.the-plain) ∷ (StructRow.param Places.the-type Laws''''.the-laws Laws''''.the-copy
-    Laws''''.the-plain) ∷ (StructRow.param RelayPacket.the-type Laws''.the-laws Laws''.the-copy Laws''.the-plain) ∷ (ShrSlice.pShrS
-    (Referent.rtF (Referent.fInt Syntax.w8)) 5 tt) ∷ (ShrSlice.pShrS (Referent.rtF (Referent.fInt Syntax.w8)) 6 tt) ∷ (ShrSlice.pShrS
-    (Referent.rtF (Referent.fInt Syntax.w8)) 7 tt) ∷ (ShrSlice.pShrS (Referent.rtF (Referent.fInt Syntax.w8)) 8 tt) ∷
-    List.[]
+    (Referent.rtF (Referent.fInt Syntax.w32)) 4 tt) ∷ (StructRow.param OpaqueRelayRuntime.the-type Laws''.the-laws
+    Laws''.the-copy Laws''.the-plain) ∷ (StructRow.param Places.the-type Laws''''''.the-laws Laws''''''.the-copy
+    Laws''''''.the-plain) ∷ (StructRow.param RelayPacket.the-type Laws'''.the-laws Laws'''.the-copy Laws'''.the-plain)
+    ∷ (ShrSlice.pShrS (Referent.rtF (Referent.fInt Syntax.w8)) 5 tt) ∷ (ShrSlice.pShrS
+    (Referent.rtF (Referent.fInt Syntax.w8)) 6 tt) ∷ (ShrSlice.pShrS (Referent.rtF (Referent.fInt Syntax.w8)) 7 tt) ∷ (ShrSlice.pShrS
+    (Referent.rtF (Referent.fInt Syntax.w8)) 8 tt) ∷ List.[]
 
 abbrev pub r : Kinds.RK 9
-r = StructRow.result Relayed.the-type Laws'''.the-laws Laws'''.the-copy Laws'''.the-plain
+r = StructRow.result Relayed.the-type Laws''''.the-laws Laws''''.the-copy Laws''''.the-plain
 
 abbrev pub xs : List.List Syntax.Ty
-xs = Laws.mir ∷ Syntax.tyBool ∷ ref0 ∷ slice0 ∷ ref1 ∷ slice1 ∷ ref2 ∷ slice2 ∷ ref3 ∷ slice3 ∷ ref4 ∷ slice4 ∷ List.[]
+xs = Laws.mir ∷ Laws'.mir ∷ Laws'''''.mir ∷ Syntax.tyBool ∷ ref0 ∷ slice0 ∷ ref1 ∷ slice1 ∷ ref2 ∷ slice2 ∷ ref3 ∷
+    slice3 ∷ ref4 ∷ slice4 ∷ List.[]
 
 abbrev pub m : Nat.ℕ
 m = 5
@@ -152,33 +164,38 @@ ps·1 = (StructRow.enum-param HnsrAnswer.the-type Laws.the-laws Laws.the-copy La
 abbrev pub r·1 : Kinds.RK 0
 r·1 = Bool.rBool
 
-abbrev pub ps·2 : List.List (Kinds.PK 9)
-ps·2 = (MutSlice.pMutS RelayPending.row 0 tt) ∷ (MutSlice.pMutS RelayCircuit.row 1 tt) ∷
+abbrev pub ps·2 : List.List (Kinds.PK 1)
+ps·2 = (ShrSlice.pShrS (Referent.rtF (Referent.fInt Syntax.w8)) 0 tt) ∷ List.[]
+
+abbrev pub r·2 : Kinds.RK 1
+r·2 = StructRow.result HnsrPeerId.the-type Laws'.the-laws Laws'.the-copy Laws'.the-plain
+
+abbrev pub ps·3 : List.List (Kinds.PK 8)
+ps·3 = (MutSlice.pMutS RelayPending.row 0 tt) ∷ (MutSlice.pMutS RelayCircuit.row 1 tt) ∷
     (MutSlice.pMutS ReservationUsage.row 2 tt) ∷ (MutSlice.pMutS InflightAction.row 3 tt) ∷ (MutSlice.pMutS
-    (Referent.rtF (Referent.fInt Syntax.w32)) 4 tt) ∷ (StructRow.param OpaqueRelayRuntime.the-type Laws'.the-laws
-    Laws'.the-copy Laws'.the-plain) ∷ (StructRow.param Places.the-type Laws''''.the-laws Laws''''.the-copy
-    Laws''''.the-plain) ∷ (StructRow.param RelayPacket.the-type Laws''.the-laws Laws''.the-copy Laws''.the-plain) ∷ (ShrSlice.pShrS
-    (Referent.rtF (Referent.fInt Syntax.w8)) 5 tt) ∷ (ShrSlice.pShrS (Referent.rtF (Referent.fInt Syntax.w8)) 6 tt) ∷ (ShrSlice.pShrS
-    (Referent.rtF (Referent.fInt Syntax.w8)) 7 tt) ∷ (ShrSlice.pShrS (Referent.rtF (Referent.fInt Syntax.w8)) 8 tt) ∷
+    (Referent.rtF (Referent.fInt Syntax.w32)) 4 tt) ∷ (StructRow.param Request.the-type Laws'''''.the-laws
+    Laws'''''.the-copy Laws'''''.the-plain) ∷ (ShrSlice.pShrS (Referent.rtF (Referent.fInt Syntax.w8)) 5 tt) ∷ (ShrSlice.pShrS
+    (Referent.rtF (Referent.fInt Syntax.w8)) 6 tt) ∷ (ShrSlice.pShrS (Referent.rtF (Referent.fInt Syntax.w8)) 7 tt) ∷
     List.[]
 
-abbrev pub r·2 : Kinds.RK 9
-r·2 = StructRow.result Relayed.the-type Laws'''.the-laws Laws'''.the-copy Laws'''.the-plain
+abbrev pub r·3 : Kinds.RK 8
+r·3 = StructRow.result Relayed.the-type Laws''''.the-laws Laws''''.the-copy Laws''''.the-plain
 
-abbrev pub ps·3 : List.List (Kinds.PK 0)
-ps·3 = (StructRow.param OpaqueRelayRuntime.the-type Laws'.the-laws Laws'.the-copy Laws'.the-plain) ∷ (StructRow.param
-    Places.the-type Laws''''.the-laws Laws''''.the-copy Laws''''.the-plain) ∷ (StructRow.enum-param HnsrAnswer.the-type
-    Laws.the-laws Laws.the-copy Laws.the-plain tt) ∷ List.[]
+abbrev pub ps·4 : List.List (Kinds.PK 0)
+ps·4 = (StructRow.param OpaqueRelayRuntime.the-type Laws''.the-laws Laws''.the-copy Laws''.the-plain) ∷ (StructRow.param
+    Places.the-type Laws''''''.the-laws Laws''''''.the-copy Laws''''''.the-plain) ∷ (StructRow.enum-param
+    HnsrAnswer.the-type Laws.the-laws Laws.the-copy Laws.the-plain tt) ∷ List.[]
 
-abbrev pub r·3 : Kinds.RK 0
-r·3 = StructRow.result Relayed.the-type Laws'''.the-laws Laws'''.the-copy Laws'''.the-plain
+abbrev pub r·4 : Kinds.RK 0
+r·4 = StructRow.result Relayed.the-type Laws''''.the-laws Laws''''.the-copy Laws''''.the-plain
 
 abbrev pub hs : List.List Syntax.Home
 hs = Syntax.valueLocal ∷ Syntax.valueLocal ∷ Syntax.valueLocal ∷ Syntax.valueLocal ∷ Syntax.valueLocal ∷
     Syntax.valueLocal ∷ Syntax.valueLocal ∷ Syntax.valueLocal ∷ Syntax.valueLocal ∷ Syntax.valueLocal ∷
     Syntax.valueLocal ∷ Syntax.valueLocal ∷ Syntax.valueLocal ∷ Syntax.valueLocal ∷ Syntax.valueLocal ∷
     Syntax.valueLocal ∷ Syntax.valueLocal ∷ Syntax.valueLocal ∷ Syntax.valueLocal ∷ Syntax.valueLocal ∷
-    Syntax.valueLocal ∷ Syntax.valueLocal ∷ Syntax.valueLocal ∷ Syntax.valueLocal ∷ Syntax.valueLocal ∷ List.[]
+    Syntax.valueLocal ∷ Syntax.valueLocal ∷ Syntax.valueLocal ∷ Syntax.valueLocal ∷ Syntax.valueLocal ∷
+    Syntax.valueLocal ∷ Syntax.valueLocal ∷ List.[]
 
 abbrev b0 : Syntax.Body
 b0 = Syntax.call "hnsr_circuit::calls::handle::gate_answer" ((Syntax.copy (Syntax.place 6 ((Syntax.field 2) ∷ List.[])))
@@ -186,128 +203,142 @@ b0 = Syntax.call "hnsr_circuit::calls::handle::gate_answer" ((Syntax.copy (Synta
 
 abbrev b1 : Syntax.Body
 b1 = Syntax.call "hnsr_circuit::answer::is_taken" ((Syntax.copy (Syntax.place 13 List.[])) ∷ List.[])
-    (Syntax.place 14 List.[])
+    (Syntax.place 16 List.[])
 
 abbrev b2 : Syntax.Body
-b2 = Syntax.assign (Syntax.place 15 List.[]) (Syntax.addrOf (Syntax.place 1 ((Syntax.field 0) ∷
-    (Syntax.deref RelayPending.ty) ∷ List.[])))
+b2 = Syntax.call "hnsr_circuit::peer::peer_of" ((Syntax.copy (Syntax.place 9 List.[])) ∷ List.[])
+    (Syntax.place 14 List.[])
 
 abbrev b3 : Syntax.Body
-b3 = Syntax.assign (Syntax.place 16 List.[]) (Syntax.aggregate ((Syntax.copy (Syntax.place 15 List.[])) ∷
-    (Syntax.copy (Syntax.place 1 ((Syntax.field 1) ∷ List.[]))) ∷ List.[]))
+b3 = Syntax.assign (Syntax.place 15 List.[]) (Syntax.aggregate ((Syntax.copy (Syntax.place 6 List.[])) ∷
+    (Syntax.copy (Syntax.place 7 List.[])) ∷ (Syntax.copy (Syntax.place 8 List.[])) ∷
+    (Syntax.copy (Syntax.place 14 List.[])) ∷ List.[]))
 
 abbrev b4 : Syntax.Body
-b4 = Syntax.assign (Syntax.place 17 List.[]) (Syntax.addrOf (Syntax.place 2 ((Syntax.field 0) ∷
-    (Syntax.deref RelayCircuit.ty) ∷ List.[])))
+b4 = Syntax.assign (Syntax.place 17 List.[]) (Syntax.addrOf (Syntax.place 1 ((Syntax.field 0) ∷
+    (Syntax.deref RelayPending.ty) ∷ List.[])))
 
 abbrev b5 : Syntax.Body
 b5 = Syntax.assign (Syntax.place 18 List.[]) (Syntax.aggregate ((Syntax.copy (Syntax.place 17 List.[])) ∷
-    (Syntax.copy (Syntax.place 2 ((Syntax.field 1) ∷ List.[]))) ∷ List.[]))
+    (Syntax.copy (Syntax.place 1 ((Syntax.field 1) ∷ List.[]))) ∷ List.[]))
 
 abbrev b6 : Syntax.Body
-b6 = Syntax.assign (Syntax.place 19 List.[]) (Syntax.addrOf (Syntax.place 3 ((Syntax.field 0) ∷
-    (Syntax.deref ReservationUsage.ty) ∷ List.[])))
+b6 = Syntax.assign (Syntax.place 19 List.[]) (Syntax.addrOf (Syntax.place 2 ((Syntax.field 0) ∷
+    (Syntax.deref RelayCircuit.ty) ∷ List.[])))
 
 abbrev b7 : Syntax.Body
 b7 = Syntax.assign (Syntax.place 20 List.[]) (Syntax.aggregate ((Syntax.copy (Syntax.place 19 List.[])) ∷
-    (Syntax.copy (Syntax.place 3 ((Syntax.field 1) ∷ List.[]))) ∷ List.[]))
+    (Syntax.copy (Syntax.place 2 ((Syntax.field 1) ∷ List.[]))) ∷ List.[]))
 
 abbrev b8 : Syntax.Body
-b8 = Syntax.assign (Syntax.place 21 List.[]) (Syntax.addrOf (Syntax.place 4 ((Syntax.field 0) ∷
-    (Syntax.deref InflightAction.ty) ∷ List.[])))
+b8 = Syntax.assign (Syntax.place 21 List.[]) (Syntax.addrOf (Syntax.place 3 ((Syntax.field 0) ∷
+    (Syntax.deref ReservationUsage.ty) ∷ List.[])))
 
 abbrev b9 : Syntax.Body
 b9 = Syntax.assign (Syntax.place 22 List.[]) (Syntax.aggregate ((Syntax.copy (Syntax.place 21 List.[])) ∷
-    (Syntax.copy (Syntax.place 4 ((Syntax.field 1) ∷ List.[]))) ∷ List.[]))
+    (Syntax.copy (Syntax.place 3 ((Syntax.field 1) ∷ List.[]))) ∷ List.[]))
 
 abbrev b10 : Syntax.Body
-b10 = Syntax.assign (Syntax.place 23 List.[]) (Syntax.addrOf (Syntax.place 5 ((Syntax.field 0) ∷
-    (Syntax.deref (Syntax.tyInt Syntax.w32)) ∷ List.[])))
+b10 = Syntax.assign (Syntax.place 23 List.[]) (Syntax.addrOf (Syntax.place 4 ((Syntax.field 0) ∷
+    (Syntax.deref InflightAction.ty) ∷ List.[])))
 
 abbrev b11 : Syntax.Body
 b11 = Syntax.assign (Syntax.place 24 List.[]) (Syntax.aggregate ((Syntax.copy (Syntax.place 23 List.[])) ∷
-    (Syntax.copy (Syntax.place 5 ((Syntax.field 1) ∷ List.[]))) ∷ List.[]))
+    (Syntax.copy (Syntax.place 4 ((Syntax.field 1) ∷ List.[]))) ∷ List.[]))
 
 abbrev b12 : Syntax.Body
-b12 = Syntax.call "hnsr_circuit::calls::handle::dispatch" ((Syntax.copy (Syntax.place 16 List.[])) ∷
-    (Syntax.copy (Syntax.place 18 List.[])) ∷ (Syntax.copy (Syntax.place 20 List.[])) ∷
-    (Syntax.copy (Syntax.place 22 List.[])) ∷ (Syntax.copy (Syntax.place 24 List.[])) ∷
-    (Syntax.copy (Syntax.place 6 List.[])) ∷ (Syntax.copy (Syntax.place 7 List.[])) ∷
-    (Syntax.copy (Syntax.place 8 List.[])) ∷ (Syntax.copy (Syntax.place 9 List.[])) ∷
-    (Syntax.copy (Syntax.place 10 List.[])) ∷ (Syntax.copy (Syntax.place 11 List.[])) ∷
-    (Syntax.copy (Syntax.place 12 List.[])) ∷ List.[]) (Syntax.place 0 List.[])
+b12 = Syntax.assign (Syntax.place 25 List.[]) (Syntax.addrOf (Syntax.place 5 ((Syntax.field 0) ∷
+    (Syntax.deref (Syntax.tyInt Syntax.w32)) ∷ List.[])))
 
 abbrev b13 : Syntax.Body
-b13 = Syntax.return
+b13 = Syntax.assign (Syntax.place 26 List.[]) (Syntax.aggregate ((Syntax.copy (Syntax.place 25 List.[])) ∷
+    (Syntax.copy (Syntax.place 5 ((Syntax.field 1) ∷ List.[]))) ∷ List.[]))
 
 abbrev b14 : Syntax.Body
-b14 = Syntax.seq b12 b13
+b14 = Syntax.call "hnsr_circuit::calls::handle::dispatch" ((Syntax.copy (Syntax.place 18 List.[])) ∷
+    (Syntax.copy (Syntax.place 20 List.[])) ∷ (Syntax.copy (Syntax.place 22 List.[])) ∷
+    (Syntax.copy (Syntax.place 24 List.[])) ∷ (Syntax.copy (Syntax.place 26 List.[])) ∷
+    (Syntax.copy (Syntax.place 15 List.[])) ∷ (Syntax.copy (Syntax.place 10 List.[])) ∷
+    (Syntax.copy (Syntax.place 11 List.[])) ∷ (Syntax.copy (Syntax.place 12 List.[])) ∷ List.[])
+    (Syntax.place 0 List.[])
 
 abbrev b15 : Syntax.Body
-b15 = Syntax.seq b11 b14
+b15 = Syntax.return
 
 abbrev b16 : Syntax.Body
-b16 = Syntax.seq b10 b15
+b16 = Syntax.seq b14 b15
 
 abbrev b17 : Syntax.Body
-b17 = Syntax.seq b9 b16
+b17 = Syntax.seq b13 b16
 
 abbrev b18 : Syntax.Body
-b18 = Syntax.seq b8 b17
+b18 = Syntax.seq b12 b17
 
 abbrev b19 : Syntax.Body
-b19 = Syntax.seq b7 b18
+b19 = Syntax.seq b11 b18
 
 abbrev b20 : Syntax.Body
-b20 = Syntax.seq b6 b19
+b20 = Syntax.seq b10 b19
 
 abbrev b21 : Syntax.Body
-b21 = Syntax.seq b5 b20
+b21 = Syntax.seq b9 b20
 
 abbrev b22 : Syntax.Body
-b22 = Syntax.seq b4 b21
+b22 = Syntax.seq b8 b21
 
 abbrev b23 : Syntax.Body
-b23 = Syntax.seq b3 b22
+b23 = Syntax.seq b7 b22
 
 abbrev b24 : Syntax.Body
-b24 = Syntax.seq b2 b23
+b24 = Syntax.seq b6 b23
 
 abbrev b25 : Syntax.Body
-b25 = Syntax.skip
+b25 = Syntax.seq b5 b24
 
 abbrev b26 : Syntax.Body
-b26 = Syntax.cond (Syntax.copy (Syntax.place 14 List.[])) b24 b25
+b26 = Syntax.seq b4 b25
 
 abbrev b27 : Syntax.Body
-b27 = Syntax.call "hnsr_circuit::runtime::refused" ((Syntax.copy (Syntax.place 6 List.[])) ∷
+b27 = Syntax.seq b3 b26
+
+abbrev b28 : Syntax.Body
+b28 = Syntax.seq b2 b27
+
+abbrev b29 : Syntax.Body
+b29 = Syntax.skip
+
+abbrev b30 : Syntax.Body
+b30 = Syntax.cond (Syntax.copy (Syntax.place 16 List.[])) b28 b29
+
+abbrev b31 : Syntax.Body
+b31 = Syntax.call "hnsr_circuit::runtime::refused" ((Syntax.copy (Syntax.place 6 List.[])) ∷
     (Syntax.copy (Syntax.place 7 List.[])) ∷ (Syntax.copy (Syntax.place 13 List.[])) ∷ List.[])
     (Syntax.place 0 List.[])
 
-abbrev b28 : Syntax.Body
-b28 = Syntax.return
-
-abbrev b29 : Syntax.Body
-b29 = Syntax.seq b27 b28
-
-abbrev b30 : Syntax.Body
-b30 = Syntax.seq b26 b29
-
-abbrev b31 : Syntax.Body
-b31 = Syntax.seq b1 b30
-
 abbrev b32 : Syntax.Body
-b32 = Syntax.seq b0 b31
+b32 = Syntax.return
+
+abbrev b33 : Syntax.Body
+b33 = Syntax.seq b31 b32
+
+abbrev b34 : Syntax.Body
+b34 = Syntax.seq b30 b33
+
+abbrev b35 : Syntax.Body
+b35 = Syntax.seq b1 b34
+
+abbrev b36 : Syntax.Body
+b36 = Syntax.seq b0 b35
 
 abbrev pub body : Syntax.Body
-body = b32
+body = b36
 
 abbrev pub Claims : Type 1
-Claims = Kinds.In 0 ps·0 × Kinds.Out 0 ps·0 r·0 × Kinds.In 0 ps·1 × Kinds.Out 0 ps·1 r·1 × Kinds.In 9 ps·2 × Kinds.Out
-    9 ps·2 r·2 × Kinds.In 0 ps·3 × Kinds.Out 0 ps·3 r·3
+Claims = Kinds.In 0 ps·0 × Kinds.Out 0 ps·0 r·0 × Kinds.In 0 ps·1 × Kinds.Out 0 ps·1 r·1 × Kinds.In 1 ps·2 × Kinds.Out
+    1 ps·2 r·2 × Kinds.In 8 ps·3 × Kinds.Out 8 ps·3 r·3 × Kinds.In 0 ps·4 × Kinds.Out 0 ps·4 r·4
 
 abbrev e0 : Row.Entry
-e0 = (0, Rows.any-gone Laws'''.mir)
+e0 = (0, Rows.any-gone Laws''''.mir)
 
 abbrev e1 : Row.Entry
 e1 = (1, Mut.mslice RelayPending.row ref5 0)
@@ -349,121 +380,136 @@ abbrev e13 : Row.Entry
 e13 = (13, Rows.any-gone Laws.mir)
 
 abbrev e14 : Row.Entry
-e14 = (14, Rows.any-gone Syntax.tyBool)
+e14 = (14, Rows.any-gone Laws'.mir)
 
 abbrev e15 : Row.Entry
-e15 = (15, Rows.any-gone ref0)
+e15 = (15, Rows.any-gone Laws'''''.mir)
 
 abbrev e16 : Row.Entry
-e16 = (16, Rows.any-gone slice0)
+e16 = (16, Rows.any-gone Syntax.tyBool)
 
 abbrev e17 : Row.Entry
-e17 = (17, Rows.any-gone ref1)
+e17 = (17, Rows.any-gone ref0)
 
 abbrev e18 : Row.Entry
-e18 = (18, Rows.any-gone slice1)
+e18 = (18, Rows.any-gone slice0)
 
 abbrev e19 : Row.Entry
-e19 = (19, Rows.any-gone ref2)
+e19 = (19, Rows.any-gone ref1)
 
 abbrev e20 : Row.Entry
-e20 = (20, Rows.any-gone slice2)
+e20 = (20, Rows.any-gone slice1)
 
 abbrev e21 : Row.Entry
-e21 = (21, Rows.any-gone ref3)
+e21 = (21, Rows.any-gone ref2)
 
 abbrev e22 : Row.Entry
-e22 = (22, Rows.any-gone slice3)
+e22 = (22, Rows.any-gone slice2)
 
 abbrev e23 : Row.Entry
-e23 = (23, Rows.any-gone ref4)
+e23 = (23, Rows.any-gone ref3)
 
 abbrev e24 : Row.Entry
-e24 = (24, Rows.any-gone slice4)
+e24 = (24, Rows.any-gone slice3)
+
+abbrev e25 : Row.Entry
+e25 = (25, Rows.any-gone ref4)
+
+abbrev e26 : Row.Entry
+e26 = (26, Rows.any-gone slice4)
 
 abbrev e0·1 : Row.Entry
 e0·1 = (0, Rows.whole (Declared'.row Relayed.the-type))
 
 abbrev e6·1 : Row.Entry
-e6·1 = (6, Rows.any-gone Laws'.mir)
+e6·1 = (6, Rows.any-gone Laws''.mir)
 
 abbrev e7·1 : Row.Entry
-e7·1 = (7, Rows.any-gone Laws''''.mir)
+e7·1 = (7, Rows.any-gone Laws''''''.mir)
 
 abbrev e8·1 : Row.Entry
-e8·1 = (8, Rows.any-gone Laws''.mir)
+e8·1 = (8, Rows.any-gone Laws'''.mir)
 
 abbrev e13·1 : Row.Entry
 e13·1 = (13, Rows.whole (Declared.row HnsrAnswer.the-type))
 
+abbrev e16·1 : Row.Entry
+e16·1 = (16, Rows.sc-here Row.sBool)
+
 abbrev e14·1 : Row.Entry
-e14·1 = (14, Rows.sc-here Row.sBool)
+e14·1 = (14, Rows.whole (Declared'.row HnsrPeerId.the-type))
+
+abbrev e15·1 : Row.Entry
+e15·1 = (15, Rows.whole (Declared'.row (Apart.apartT Request.the-type)))
 
 abbrev e1·1 : Row.Entry
 e1·1 = (1, Relend.mslice-owed RelayPending.row ref5 0 9 Row.off)
 
-abbrev e15·1 : Row.Entry
-e15·1 = (15, Relend.msptr RelayPending.row ref0 9)
+abbrev e17·1 : Row.Entry
+e17·1 = (17, Relend.msptr RelayPending.row ref0 9)
 
-abbrev e16·1 : Row.Entry
-e16·1 = (16, Mut.mslice RelayPending.row ref0 9)
+abbrev e18·1 : Row.Entry
+e18·1 = (18, Mut.mslice RelayPending.row ref0 9)
 
 abbrev e2·1 : Row.Entry
 e2·1 = (2, Relend.mslice-owed RelayCircuit.row ref6 1 10 Row.off)
 
-abbrev e17·1 : Row.Entry
-e17·1 = (17, Relend.msptr RelayCircuit.row ref1 10)
+abbrev e19·1 : Row.Entry
+e19·1 = (19, Relend.msptr RelayCircuit.row ref1 10)
 
-abbrev e18·1 : Row.Entry
-e18·1 = (18, Mut.mslice RelayCircuit.row ref1 10)
+abbrev e20·1 : Row.Entry
+e20·1 = (20, Mut.mslice RelayCircuit.row ref1 10)
 
 abbrev e3·1 : Row.Entry
 e3·1 = (3, Relend.mslice-owed ReservationUsage.row ref7 2 11 Row.off)
 
-abbrev e19·1 : Row.Entry
-e19·1 = (19, Relend.msptr ReservationUsage.row ref2 11)
+abbrev e21·1 : Row.Entry
+e21·1 = (21, Relend.msptr ReservationUsage.row ref2 11)
 
-abbrev e20·1 : Row.Entry
-e20·1 = (20, Mut.mslice ReservationUsage.row ref2 11)
+abbrev e22·1 : Row.Entry
+e22·1 = (22, Mut.mslice ReservationUsage.row ref2 11)
 
 abbrev e4·1 : Row.Entry
 e4·1 = (4, Relend.mslice-owed InflightAction.row ref8 3 12 Row.off)
 
-abbrev e21·1 : Row.Entry
-e21·1 = (21, Relend.msptr InflightAction.row ref3 12)
+abbrev e23·1 : Row.Entry
+e23·1 = (23, Relend.msptr InflightAction.row ref3 12)
 
-abbrev e22·1 : Row.Entry
-e22·1 = (22, Mut.mslice InflightAction.row ref3 12)
+abbrev e24·1 : Row.Entry
+e24·1 = (24, Mut.mslice InflightAction.row ref3 12)
 
 abbrev e5·1 : Row.Entry
 e5·1 = (5, Relend.mslice-owed (Referent.rtF (Referent.fInt Syntax.w32)) ref9 4 13 Row.off)
 
-abbrev e23·1 : Row.Entry
-e23·1 = (23, Relend.msptr (Referent.rtF (Referent.fInt Syntax.w32)) ref4 13)
+abbrev e25·1 : Row.Entry
+e25·1 = (25, Relend.msptr (Referent.rtF (Referent.fInt Syntax.w32)) ref4 13)
 
-abbrev e24·1 : Row.Entry
-e24·1 = (24, Mut.mslice (Referent.rtF (Referent.fInt Syntax.w32)) ref4 13)
+abbrev e26·1 : Row.Entry
+e26·1 = (26, Mut.mslice (Referent.rtF (Referent.fInt Syntax.w32)) ref4 13)
 
-abbrev e16·2 : Row.Entry
-e16·2 = (16, Mut.msleft RelayPending.row ref0)
+abbrev e15·2 : Row.Entry
+e15·2 = (15, Rows.whole (Declared'.row Request.the-type))
 
 abbrev e18·2 : Row.Entry
-e18·2 = (18, Mut.msleft RelayCircuit.row ref1)
+e18·2 = (18, Mut.msleft RelayPending.row ref0)
 
 abbrev e20·2 : Row.Entry
-e20·2 = (20, Mut.msleft ReservationUsage.row ref2)
+e20·2 = (20, Mut.msleft RelayCircuit.row ref1)
 
 abbrev e22·2 : Row.Entry
-e22·2 = (22, Mut.msleft InflightAction.row ref3)
+e22·2 = (22, Mut.msleft ReservationUsage.row ref2)
 
 abbrev e24·2 : Row.Entry
-e24·2 = (24, Mut.msleft (Referent.rtF (Referent.fInt Syntax.w32)) ref4)
+e24·2 = (24, Mut.msleft InflightAction.row ref3)
+
+abbrev e26·2 : Row.Entry
+e26·2 = (26, Mut.msleft (Referent.rtF (Referent.fInt Syntax.w32)) ref4)
 
 abbrev pub t0 : List.List Row.Entry
 t0 = e0 ∷ e1 ∷ e2 ∷ e3 ∷ e4 ∷ e5 ∷ e6 ∷ e7 ∷ e8 ∷ e9 ∷ e10 ∷ e11 ∷ e12 ∷ e13 ∷ e14 ∷ e15 ∷ List.[]
 
 abbrev pub t1 : List.List Row.Entry
-t1 = e16 ∷ e17 ∷ e18 ∷ e19 ∷ e20 ∷ e21 ∷ e22 ∷ e23 ∷ e24 ∷ List.[]
+t1 = e16 ∷ e17 ∷ e18 ∷ e19 ∷ e20 ∷ e21 ∷ e22 ∷ e23 ∷ e24 ∷ e25 ∷ e26 ∷ List.[]
 
 abbrev pub t2 : List.List Row.Entry
 t2 = e0·1 ∷ e1 ∷ e2 ∷ e3 ∷ e4 ∷ e5 ∷ e6·1 ∷ e7·1 ∷ e8·1 ∷ e9 ∷ e10 ∷ e11 ∷ e12 ∷ e13 ∷ e14 ∷ e15 ∷ List.[]
@@ -472,7 +518,7 @@ abbrev pub t3 : List.List Row.Entry
 t3 = e0 ∷ e1 ∷ e2 ∷ e3 ∷ e4 ∷ e5 ∷ e6 ∷ e7 ∷ e8 ∷ e9 ∷ e10 ∷ e11 ∷ e12 ∷ e13·1 ∷ e14 ∷ e15 ∷ List.[]
 
 abbrev pub t4 : List.List Row.Entry
-t4 = e0 ∷ e1 ∷ e2 ∷ e3 ∷ e4 ∷ e5 ∷ e6 ∷ e7 ∷ e8 ∷ e9 ∷ e10 ∷ e11 ∷ e12 ∷ e13·1 ∷ e14·1 ∷ e15 ∷ List.[]
+t4 = e16·1 ∷ e17 ∷ e18 ∷ e19 ∷ e20 ∷ e21 ∷ e22 ∷ e23 ∷ e24 ∷ e25 ∷ e26 ∷ List.[]
 
 abbrev pub t5 : List.List Row.Entry
 t5 = e0 ∷ e1 ∷ e2 ∷ e3 ∷ e4 ∷ e5 ∷ e6 ∷ e7 ∷ e8·1 ∷ e9 ∷ e10 ∷ e11 ∷ e12 ∷ e13·1 ∷ e14 ∷ e15 ∷ List.[]
@@ -481,100 +527,109 @@ abbrev pub t6 : List.List Row.Entry
 t6 = e0 ∷ e1 ∷ e2 ∷ e3 ∷ e4 ∷ e5 ∷ e6 ∷ e7 ∷ e8 ∷ e9 ∷ e10 ∷ e11 ∷ e12 ∷ e13 ∷ e14·1 ∷ e15 ∷ List.[]
 
 abbrev pub t7 : List.List Row.Entry
-t7 = e0 ∷ e1·1 ∷ e2 ∷ e3 ∷ e4 ∷ e5 ∷ e6 ∷ e7 ∷ e8 ∷ e9 ∷ e10 ∷ e11 ∷ e12 ∷ e13 ∷ e14 ∷ e15·1 ∷ List.[]
+t7 = e0 ∷ e1 ∷ e2 ∷ e3 ∷ e4 ∷ e5 ∷ e6 ∷ e7 ∷ e8 ∷ e9 ∷ e10 ∷ e11 ∷ e12 ∷ e13 ∷ e14·1 ∷ e15·1 ∷ List.[]
 
 abbrev pub t8 : List.List Row.Entry
-t8 = e0 ∷ e1·1 ∷ e2 ∷ e3 ∷ e4 ∷ e5 ∷ e6 ∷ e7 ∷ e8 ∷ e9 ∷ e10 ∷ e11 ∷ e12 ∷ e13 ∷ e14 ∷ e15 ∷ List.[]
+t8 = e0 ∷ e1 ∷ e2 ∷ e3 ∷ e4 ∷ e5 ∷ e6·1 ∷ e7 ∷ e8 ∷ e9 ∷ e10 ∷ e11 ∷ e12 ∷ e13 ∷ e14·1 ∷ e15·1 ∷ List.[]
 
 abbrev pub t9 : List.List Row.Entry
-t9 = e16·1 ∷ e17 ∷ e18 ∷ e19 ∷ e20 ∷ e21 ∷ e22 ∷ e23 ∷ e24 ∷ List.[]
+t9 = e0 ∷ e1 ∷ e2 ∷ e3 ∷ e4 ∷ e5 ∷ e6·1 ∷ e7·1 ∷ e8 ∷ e9 ∷ e10 ∷ e11 ∷ e12 ∷ e13 ∷ e14·1 ∷ e15·1 ∷ List.[]
 
 abbrev pub t10 : List.List Row.Entry
-t10 = e0 ∷ e1·1 ∷ e2·1 ∷ e3 ∷ e4 ∷ e5 ∷ e6 ∷ e7 ∷ e8 ∷ e9 ∷ e10 ∷ e11 ∷ e12 ∷ e13 ∷ e14 ∷ e15 ∷ List.[]
+t10 = e0 ∷ e1 ∷ e2 ∷ e3 ∷ e4 ∷ e5 ∷ e6·1 ∷ e7·1 ∷ e8·1 ∷ e9 ∷ e10 ∷ e11 ∷ e12 ∷ e13 ∷ e14·1 ∷ e15·1 ∷ List.[]
 
 abbrev pub t11 : List.List Row.Entry
-t11 = e16·1 ∷ e17·1 ∷ e18 ∷ e19 ∷ e20 ∷ e21 ∷ e22 ∷ e23 ∷ e24 ∷ List.[]
+t11 = e0 ∷ e1 ∷ e2 ∷ e3 ∷ e4 ∷ e5 ∷ e6·1 ∷ e7·1 ∷ e8·1 ∷ e9 ∷ e10 ∷ e11 ∷ e12 ∷ e13 ∷ e14 ∷ e15·1 ∷ List.[]
 
 abbrev pub t12 : List.List Row.Entry
-t12 = e16·1 ∷ e17 ∷ e18·1 ∷ e19 ∷ e20 ∷ e21 ∷ e22 ∷ e23 ∷ e24 ∷ List.[]
+t12 = e0 ∷ e1·1 ∷ e2 ∷ e3 ∷ e4 ∷ e5 ∷ e6·1 ∷ e7·1 ∷ e8·1 ∷ e9 ∷ e10 ∷ e11 ∷ e12 ∷ e13 ∷ e14 ∷ e15·1 ∷ List.[]
 
 abbrev pub t13 : List.List Row.Entry
-t13 = e0 ∷ e1·1 ∷ e2·1 ∷ e3·1 ∷ e4 ∷ e5 ∷ e6 ∷ e7 ∷ e8 ∷ e9 ∷ e10 ∷ e11 ∷ e12 ∷ e13 ∷ e14 ∷ e15 ∷ List.[]
+t13 = e16 ∷ e17·1 ∷ e18 ∷ e19 ∷ e20 ∷ e21 ∷ e22 ∷ e23 ∷ e24 ∷ e25 ∷ e26 ∷ List.[]
 
 abbrev pub t14 : List.List Row.Entry
-t14 = e16·1 ∷ e17 ∷ e18·1 ∷ e19·1 ∷ e20 ∷ e21 ∷ e22 ∷ e23 ∷ e24 ∷ List.[]
+t14 = e16 ∷ e17 ∷ e18·1 ∷ e19 ∷ e20 ∷ e21 ∷ e22 ∷ e23 ∷ e24 ∷ e25 ∷ e26 ∷ List.[]
 
 abbrev pub t15 : List.List Row.Entry
-t15 = e16·1 ∷ e17 ∷ e18·1 ∷ e19 ∷ e20·1 ∷ e21 ∷ e22 ∷ e23 ∷ e24 ∷ List.[]
+t15 = e0 ∷ e1·1 ∷ e2·1 ∷ e3 ∷ e4 ∷ e5 ∷ e6·1 ∷ e7·1 ∷ e8·1 ∷ e9 ∷ e10 ∷ e11 ∷ e12 ∷ e13 ∷ e14 ∷ e15·1 ∷ List.[]
 
 abbrev pub t16 : List.List Row.Entry
-t16 = e0 ∷ e1·1 ∷ e2·1 ∷ e3·1 ∷ e4·1 ∷ e5 ∷ e6 ∷ e7 ∷ e8 ∷ e9 ∷ e10 ∷ e11 ∷ e12 ∷ e13 ∷ e14 ∷ e15 ∷ List.[]
+t16 = e16 ∷ e17 ∷ e18·1 ∷ e19·1 ∷ e20 ∷ e21 ∷ e22 ∷ e23 ∷ e24 ∷ e25 ∷ e26 ∷ List.[]
 
 abbrev pub t17 : List.List Row.Entry
-t17 = e16·1 ∷ e17 ∷ e18·1 ∷ e19 ∷ e20·1 ∷ e21·1 ∷ e22 ∷ e23 ∷ e24 ∷ List.[]
+t17 = e16 ∷ e17 ∷ e18·1 ∷ e19 ∷ e20·1 ∷ e21 ∷ e22 ∷ e23 ∷ e24 ∷ e25 ∷ e26 ∷ List.[]
 
 abbrev pub t18 : List.List Row.Entry
-t18 = e16·1 ∷ e17 ∷ e18·1 ∷ e19 ∷ e20·1 ∷ e21 ∷ e22·1 ∷ e23 ∷ e24 ∷ List.[]
+t18 = e0 ∷ e1·1 ∷ e2·1 ∷ e3·1 ∷ e4 ∷ e5 ∷ e6·1 ∷ e7·1 ∷ e8·1 ∷ e9 ∷ e10 ∷ e11 ∷ e12 ∷ e13 ∷ e14 ∷ e15·1 ∷ List.[]
 
 abbrev pub t19 : List.List Row.Entry
-t19 = e0 ∷ e1·1 ∷ e2·1 ∷ e3·1 ∷ e4·1 ∷ e5·1 ∷ e6 ∷ e7 ∷ e8 ∷ e9 ∷ e10 ∷ e11 ∷ e12 ∷ e13 ∷ e14 ∷ e15 ∷ List.[]
+t19 = e16 ∷ e17 ∷ e18·1 ∷ e19 ∷ e20·1 ∷ e21·1 ∷ e22 ∷ e23 ∷ e24 ∷ e25 ∷ e26 ∷ List.[]
 
 abbrev pub t20 : List.List Row.Entry
-t20 = e16·1 ∷ e17 ∷ e18·1 ∷ e19 ∷ e20·1 ∷ e21 ∷ e22·1 ∷ e23·1 ∷ e24 ∷ List.[]
+t20 = e16 ∷ e17 ∷ e18·1 ∷ e19 ∷ e20·1 ∷ e21 ∷ e22·1 ∷ e23 ∷ e24 ∷ e25 ∷ e26 ∷ List.[]
 
 abbrev pub t21 : List.List Row.Entry
-t21 = e16·1 ∷ e17 ∷ e18·1 ∷ e19 ∷ e20·1 ∷ e21 ∷ e22·1 ∷ e23 ∷ e24·1 ∷ List.[]
+t21 = e0 ∷ e1·1 ∷ e2·1 ∷ e3·1 ∷ e4·1 ∷ e5 ∷ e6·1 ∷ e7·1 ∷ e8·1 ∷ e9 ∷ e10 ∷ e11 ∷ e12 ∷ e13 ∷ e14 ∷ e15·1 ∷ List.[]
 
 abbrev pub t22 : List.List Row.Entry
-t22 = e0·1 ∷ e1·1 ∷ e2·1 ∷ e3·1 ∷ e4·1 ∷ e5·1 ∷ e6 ∷ e7 ∷ e8 ∷ e9 ∷ e10 ∷ e11 ∷ e12 ∷ e13 ∷ e14 ∷ e15 ∷ List.[]
+t22 = e16 ∷ e17 ∷ e18·1 ∷ e19 ∷ e20·1 ∷ e21 ∷ e22·1 ∷ e23·1 ∷ e24 ∷ e25 ∷ e26 ∷ List.[]
 
 abbrev pub t23 : List.List Row.Entry
-t23 = e16·2 ∷ e17 ∷ e18·2 ∷ e19 ∷ e20·2 ∷ e21 ∷ e22·2 ∷ e23 ∷ e24·2 ∷ List.[]
+t23 = e16 ∷ e17 ∷ e18·1 ∷ e19 ∷ e20·1 ∷ e21 ∷ e22·1 ∷ e23 ∷ e24·1 ∷ e25 ∷ e26 ∷ List.[]
 
 abbrev pub t24 : List.List Row.Entry
-t24 = e0·1 ∷ e1·1 ∷ e2·1 ∷ e3·1 ∷ e4·1 ∷ e5·1 ∷ e6·1 ∷ e7 ∷ e8 ∷ e9 ∷ e10 ∷ e11 ∷ e12 ∷ e13 ∷ e14 ∷ e15 ∷ List.[]
+t24 = e0 ∷ e1·1 ∷ e2·1 ∷ e3·1 ∷ e4·1 ∷ e5·1 ∷ e6·1 ∷ e7·1 ∷ e8·1 ∷ e9 ∷ e10 ∷ e11 ∷ e12 ∷ e13 ∷ e14 ∷ e15·1 ∷ List.[]
 
 abbrev pub t25 : List.List Row.Entry
-t25 = e0·1 ∷ e1·1 ∷ e2·1 ∷ e3·1 ∷ e4·1 ∷ e5·1 ∷ e6·1 ∷ e7·1 ∷ e8 ∷ e9 ∷ e10 ∷ e11 ∷ e12 ∷ e13 ∷ e14 ∷ e15 ∷ List.[]
+t25 = e16 ∷ e17 ∷ e18·1 ∷ e19 ∷ e20·1 ∷ e21 ∷ e22·1 ∷ e23 ∷ e24·1 ∷ e25·1 ∷ e26 ∷ List.[]
 
 abbrev pub t26 : List.List Row.Entry
-t26 = e0·1 ∷ e1·1 ∷ e2·1 ∷ e3·1 ∷ e4·1 ∷ e5·1 ∷ e6·1 ∷ e7·1 ∷ e8·1 ∷ e9 ∷ e10 ∷ e11 ∷ e12 ∷ e13 ∷ e14 ∷ e15 ∷ List.[]
+t26 = e16 ∷ e17 ∷ e18·1 ∷ e19 ∷ e20·1 ∷ e21 ∷ e22·1 ∷ e23 ∷ e24·1 ∷ e25 ∷ e26·1 ∷ List.[]
 
 abbrev pub t27 : List.List Row.Entry
-t27 = e0·1 ∷ e1 ∷ e2·1 ∷ e3·1 ∷ e4·1 ∷ e5·1 ∷ e6·1 ∷ e7·1 ∷ e8·1 ∷ e9 ∷ e10 ∷ e11 ∷ e12 ∷ e13 ∷ e14 ∷ e15 ∷ List.[]
+t27 = e0 ∷ e1·1 ∷ e2·1 ∷ e3·1 ∷ e4·1 ∷ e5·1 ∷ e6·1 ∷ e7·1 ∷ e8·1 ∷ e9 ∷ e10 ∷ e11 ∷ e12 ∷ e13 ∷ e14 ∷ e15·2 ∷ List.[]
 
 abbrev pub t28 : List.List Row.Entry
-t28 = e16 ∷ e17 ∷ e18·2 ∷ e19 ∷ e20·2 ∷ e21 ∷ e22·2 ∷ e23 ∷ e24·2 ∷ List.[]
+t28 = e0·1 ∷ e1·1 ∷ e2·1 ∷ e3·1 ∷ e4·1 ∷ e5·1 ∷ e6·1 ∷ e7·1 ∷ e8·1 ∷ e9 ∷ e10 ∷ e11 ∷ e12 ∷ e13 ∷ e14 ∷ e15·2 ∷ List.[]
 
 abbrev pub t29 : List.List Row.Entry
-t29 = e0·1 ∷ e1 ∷ e2 ∷ e3·1 ∷ e4·1 ∷ e5·1 ∷ e6·1 ∷ e7·1 ∷ e8·1 ∷ e9 ∷ e10 ∷ e11 ∷ e12 ∷ e13 ∷ e14 ∷ e15 ∷ List.[]
+t29 = e16 ∷ e17 ∷ e18·2 ∷ e19 ∷ e20·2 ∷ e21 ∷ e22·2 ∷ e23 ∷ e24·2 ∷ e25 ∷ e26·2 ∷ List.[]
 
 abbrev pub t30 : List.List Row.Entry
-t30 = e16 ∷ e17 ∷ e18 ∷ e19 ∷ e20·2 ∷ e21 ∷ e22·2 ∷ e23 ∷ e24·2 ∷ List.[]
+t30 = e0·1 ∷ e1·1 ∷ e2·1 ∷ e3·1 ∷ e4·1 ∷ e5·1 ∷ e6·1 ∷ e7·1 ∷ e8·1 ∷ e9 ∷ e10 ∷ e11 ∷ e12 ∷ e13 ∷ e14 ∷ e15 ∷ List.[]
 
 abbrev pub t31 : List.List Row.Entry
-t31 = e0·1 ∷ e1 ∷ e2 ∷ e3 ∷ e4·1 ∷ e5·1 ∷ e6·1 ∷ e7·1 ∷ e8·1 ∷ e9 ∷ e10 ∷ e11 ∷ e12 ∷ e13 ∷ e14 ∷ e15 ∷ List.[]
+t31 = e0·1 ∷ e1 ∷ e2·1 ∷ e3·1 ∷ e4·1 ∷ e5·1 ∷ e6·1 ∷ e7·1 ∷ e8·1 ∷ e9 ∷ e10 ∷ e11 ∷ e12 ∷ e13 ∷ e14 ∷ e15 ∷ List.[]
 
 abbrev pub t32 : List.List Row.Entry
-t32 = e16 ∷ e17 ∷ e18 ∷ e19 ∷ e20 ∷ e21 ∷ e22·2 ∷ e23 ∷ e24·2 ∷ List.[]
+t32 = e16 ∷ e17 ∷ e18 ∷ e19 ∷ e20·2 ∷ e21 ∷ e22·2 ∷ e23 ∷ e24·2 ∷ e25 ∷ e26·2 ∷ List.[]
 
 abbrev pub t33 : List.List Row.Entry
-t33 = e0·1 ∷ e1 ∷ e2 ∷ e3 ∷ e4 ∷ e5·1 ∷ e6·1 ∷ e7·1 ∷ e8·1 ∷ e9 ∷ e10 ∷ e11 ∷ e12 ∷ e13 ∷ e14 ∷ e15 ∷ List.[]
+t33 = e0·1 ∷ e1 ∷ e2 ∷ e3·1 ∷ e4·1 ∷ e5·1 ∷ e6·1 ∷ e7·1 ∷ e8·1 ∷ e9 ∷ e10 ∷ e11 ∷ e12 ∷ e13 ∷ e14 ∷ e15 ∷ List.[]
 
 abbrev pub t34 : List.List Row.Entry
-t34 = e16 ∷ e17 ∷ e18 ∷ e19 ∷ e20 ∷ e21 ∷ e22 ∷ e23 ∷ e24·2 ∷ List.[]
+t34 = e16 ∷ e17 ∷ e18 ∷ e19 ∷ e20 ∷ e21 ∷ e22·2 ∷ e23 ∷ e24·2 ∷ e25 ∷ e26·2 ∷ List.[]
 
 abbrev pub t35 : List.List Row.Entry
-t35 = e0 ∷ e1 ∷ e2 ∷ e3 ∷ e4 ∷ e5 ∷ e6 ∷ e7 ∷ e8·1 ∷ e9 ∷ e10 ∷ e11 ∷ e12 ∷ e13·1 ∷ e14·1 ∷ e15 ∷ List.[]
+t35 = e0·1 ∷ e1 ∷ e2 ∷ e3 ∷ e4·1 ∷ e5·1 ∷ e6·1 ∷ e7·1 ∷ e8·1 ∷ e9 ∷ e10 ∷ e11 ∷ e12 ∷ e13 ∷ e14 ∷ e15 ∷ List.[]
 
 abbrev pub t36 : List.List Row.Entry
-t36 = e0·1 ∷ e1 ∷ e2 ∷ e3 ∷ e4 ∷ e5 ∷ e6 ∷ e7 ∷ e8·1 ∷ e9 ∷ e10 ∷ e11 ∷ e12 ∷ e13·1 ∷ e14 ∷ e15 ∷ List.[]
+t36 = e16 ∷ e17 ∷ e18 ∷ e19 ∷ e20 ∷ e21 ∷ e22 ∷ e23 ∷ e24·2 ∷ e25 ∷ e26·2 ∷ List.[]
 
 abbrev pub t37 : List.List Row.Entry
-t37 = e0·1 ∷ e1 ∷ e2 ∷ e3 ∷ e4 ∷ e5 ∷ e6·1 ∷ e7 ∷ e8·1 ∷ e9 ∷ e10 ∷ e11 ∷ e12 ∷ e13·1 ∷ e14 ∷ e15 ∷ List.[]
+t37 = e0·1 ∷ e1 ∷ e2 ∷ e3 ∷ e4 ∷ e5·1 ∷ e6·1 ∷ e7·1 ∷ e8·1 ∷ e9 ∷ e10 ∷ e11 ∷ e12 ∷ e13 ∷ e14 ∷ e15 ∷ List.[]
 
 abbrev pub t38 : List.List Row.Entry
-t38 = e0·1 ∷ e1 ∷ e2 ∷ e3 ∷ e4 ∷ e5 ∷ e6·1 ∷ e7·1 ∷ e8·1 ∷ e9 ∷ e10 ∷ e11 ∷ e12 ∷ e13·1 ∷ e14 ∷ e15 ∷ List.[]
+t38 = e16 ∷ e17 ∷ e18 ∷ e19 ∷ e20 ∷ e21 ∷ e22 ∷ e23 ∷ e24 ∷ e25 ∷ e26·2 ∷ List.[]
+
+abbrev pub t39 : List.List Row.Entry
+t39 = e0·1 ∷ e1 ∷ e2 ∷ e3 ∷ e4 ∷ e5 ∷ e6 ∷ e7 ∷ e8·1 ∷ e9 ∷ e10 ∷ e11 ∷ e12 ∷ e13·1 ∷ e14 ∷ e15 ∷ List.[]
+
+abbrev pub t40 : List.List Row.Entry
+t40 = e0·1 ∷ e1 ∷ e2 ∷ e3 ∷ e4 ∷ e5 ∷ e6·1 ∷ e7 ∷ e8·1 ∷ e9 ∷ e10 ∷ e11 ∷ e12 ∷ e13·1 ∷ e14 ∷ e15 ∷ List.[]
+
+abbrev pub t41 : List.List Row.Entry
+t41 = e0·1 ∷ e1 ∷ e2 ∷ e3 ∷ e4 ∷ e5 ∷ e6·1 ∷ e7·1 ∷ e8·1 ∷ e9 ∷ e10 ∷ e11 ∷ e12 ∷ e13·1 ∷ e14 ∷ e15 ∷ List.[]
 
 abbrev pub T0 : Row.Cx
 T0 = record { locals = List._++_ t0 t1; slots = List.[] }
@@ -601,94 +656,109 @@ abbrev pub T7 : Row.Cx
 T7 = record { locals = List._++_ t3 t1; slots = List.[] }
 
 abbrev pub T8 : Row.Cx
-T8 = record { locals = List._++_ t4 t1; slots = List.[] }
+T8 = record { locals = List._++_ t3 t4; slots = List.[] }
 
 abbrev pub T9 : Row.Cx
 T9 = record { locals = List._++_ t5 t1; slots = List.[] }
 
 abbrev pub T10 : Row.Cx
-T10 = record { locals = List._++_ t6 t1; slots = List.[] }
+T10 = record { locals = List._++_ t0 t4; slots = List.[] }
 
 abbrev pub T11 : Row.Cx
 T11 = record { locals = List._++_ t0 t1; slots = List.[] }
+
+abbrev pub T12 : Row.Cx
+T12 = record { locals = List._++_ t6 t1; slots = List.[] }
 
 abbrev pub T13 : Row.Cx
 T13 = record { locals = List._++_ t7 t1; slots = List.[] }
 
 abbrev pub T14 : Row.Cx
-T14 = record { locals = List._++_ t8 t9; slots = List.[] }
+T14 = record { locals = List._++_ t8 t1; slots = List.[] }
+
+abbrev pub T15 : Row.Cx
+T15 = record { locals = List._++_ t9 t1; slots = List.[] }
 
 abbrev pub T16 : Row.Cx
-T16 = record { locals = List._++_ t10 t11; slots = List.[] }
+T16 = record { locals = List._++_ t10 t1; slots = List.[] }
 
 abbrev pub T17 : Row.Cx
-T17 = record { locals = List._++_ t10 t12; slots = List.[] }
+T17 = record { locals = List._++_ t11 t1; slots = List.[] }
 
 abbrev pub T19 : Row.Cx
-T19 = record { locals = List._++_ t13 t14; slots = List.[] }
+T19 = record { locals = List._++_ t12 t13; slots = List.[] }
 
 abbrev pub T20 : Row.Cx
-T20 = record { locals = List._++_ t13 t15; slots = List.[] }
+T20 = record { locals = List._++_ t12 t14; slots = List.[] }
 
 abbrev pub T22 : Row.Cx
-T22 = record { locals = List._++_ t16 t17; slots = List.[] }
+T22 = record { locals = List._++_ t15 t16; slots = List.[] }
 
 abbrev pub T23 : Row.Cx
-T23 = record { locals = List._++_ t16 t18; slots = List.[] }
+T23 = record { locals = List._++_ t15 t17; slots = List.[] }
 
 abbrev pub T25 : Row.Cx
-T25 = record { locals = List._++_ t19 t20; slots = List.[] }
+T25 = record { locals = List._++_ t18 t19; slots = List.[] }
 
 abbrev pub T26 : Row.Cx
-T26 = record { locals = List._++_ t19 t21; slots = List.[] }
-
-abbrev pub T27 : Row.Cx
-T27 = record { locals = List._++_ t22 t23; slots = List.[] }
+T26 = record { locals = List._++_ t18 t20; slots = List.[] }
 
 abbrev pub T28 : Row.Cx
-T28 = record { locals = List._++_ t24 t23; slots = List.[] }
+T28 = record { locals = List._++_ t21 t22; slots = List.[] }
 
 abbrev pub T29 : Row.Cx
-T29 = record { locals = List._++_ t25 t23; slots = List.[] }
+T29 = record { locals = List._++_ t21 t23; slots = List.[] }
 
-abbrev pub T30 : Row.Cx
-T30 = record { locals = List._++_ t26 t23; slots = List.[] }
+abbrev pub T31 : Row.Cx
+T31 = record { locals = List._++_ t24 t25; slots = List.[] }
 
 abbrev pub T32 : Row.Cx
-T32 = record { locals = List._++_ t27 t28; slots = List.[] }
+T32 = record { locals = List._++_ t24 t26; slots = List.[] }
+
+abbrev pub T33 : Row.Cx
+T33 = record { locals = List._++_ t27 t26; slots = List.[] }
+
+abbrev pub T34 : Row.Cx
+T34 = record { locals = List._++_ t28 t29; slots = List.[] }
 
 abbrev pub T35 : Row.Cx
-T35 = record { locals = List._++_ t29 t30; slots = List.[] }
+T35 = record { locals = List._++_ t30 t29; slots = List.[] }
 
-abbrev pub T38 : Row.Cx
-T38 = record { locals = List._++_ t31 t32; slots = List.[] }
+abbrev pub T37 : Row.Cx
+T37 = record { locals = List._++_ t31 t32; slots = List.[] }
 
-abbrev pub T41 : Row.Cx
-T41 = record { locals = List._++_ t33 t34; slots = List.[] }
+abbrev pub T40 : Row.Cx
+T40 = record { locals = List._++_ t33 t34; slots = List.[] }
 
-abbrev pub T44 : Row.Cx
-T44 = record { locals = List._++_ t2 t1; slots = List.[] }
+abbrev pub T43 : Row.Cx
+T43 = record { locals = List._++_ t35 t36; slots = List.[] }
 
-abbrev pub T45 : Row.Cx
-T45 = record { locals = List._++_ t2 t1; slots = List.[] }
-
-abbrev pub T47 : Row.Cx
-T47 = record { locals = List._++_ t35 t1; slots = List.[] }
-
-abbrev pub T48 : Row.Cx
-T48 = record { locals = List._++_ t5 t1; slots = List.[] }
+abbrev pub T46 : Row.Cx
+T46 = record { locals = List._++_ t37 t38; slots = List.[] }
 
 abbrev pub T49 : Row.Cx
-T49 = record { locals = List._++_ t36 t1; slots = List.[] }
+T49 = record { locals = List._++_ t2 t1; slots = List.[] }
 
 abbrev pub T50 : Row.Cx
-T50 = record { locals = List._++_ t37 t1; slots = List.[] }
-
-abbrev pub T51 : Row.Cx
-T51 = record { locals = List._++_ t38 t1; slots = List.[] }
+T50 = record { locals = List._++_ t2 t1; slots = List.[] }
 
 abbrev pub T52 : Row.Cx
-T52 = record { locals = List._++_ t2 t1; slots = List.[] }
+T52 = record { locals = List._++_ t5 t4; slots = List.[] }
+
+abbrev pub T53 : Row.Cx
+T53 = record { locals = List._++_ t5 t1; slots = List.[] }
+
+abbrev pub T54 : Row.Cx
+T54 = record { locals = List._++_ t39 t1; slots = List.[] }
+
+abbrev pub T55 : Row.Cx
+T55 = record { locals = List._++_ t40 t1; slots = List.[] }
+
+abbrev pub T56 : Row.Cx
+T56 = record { locals = List._++_ t41 t1; slots = List.[] }
+
+abbrev pub T57 : Row.Cx
+T57 = record { locals = List._++_ t2 t1; slots = List.[] }
 
 abbrev pub O0 : Typed.Outs
 O0 = record { next = Option.none; exits = List.[]; returns = Option.some T1 }
@@ -722,78 +792,93 @@ module _ (claims· : Claims) where
   args6 = (record { pos = 13; st = List.[]; d = 0; at = λ x. x }, tt)
 
   abbrev s6 : Typed.Both T7 T8
-  s6 = Call.callB ps·1 r·1 (claims· .2) (claims· .3) T7 args6 14 List.[] Syntax.tyBool
+  s6 = Call.callB ps·1 r·1 (claims· .2) (claims· .3) T7 args6 16 List.[] Syntax.tyBool
 
   abbrev s7 : Typed.Mo T8 → Typed.Mo T10
   s7 = Scalar.n-room T8 13 Laws.mir
 
   abbrev s8 : Typed.Mo T10 → Typed.Mo T11
-  s8 = Scalar.n-room T10 14 Syntax.tyBool
+  s8 = Scalar.n-room T10 16 Syntax.tyBool
 
-  abbrev s10 : Typed.Gives T11 T13
-  s10 = Relend.k-sl-relend RelayPending.row T11 1 15 0 9 ref5 ref0 Row.off λ x. x
+  abbrev args9 : Args'.ArgsT ps·2 (T11 .locals)
+  args9 = (record { pos = 9; ty = ref10; ref = λ x. x }, tt)
 
-  abbrev s11 : Typed.Asks T13 T14
-  s11 = Relend.k-sl-aggregate RelayPending.row (Relend.asMut RelayPending.row) T13 15 16 9 ref0 ref0 (λ x. x) (Scalar.oFld
-      1 ((Syntax.field 1) ∷ List.[]) (Syntax.tyInt Syntax.w64) 8 λ v. Shared.lenV (v .0))
+  abbrev s9 : Typed.Both T11 T12
+  s9 = Call.callB ps·2 r·2 (claims· .4) (claims· .5) T11 args9 14 (5 ∷ List.[]) Laws'.mir
 
-  abbrev s13 : Typed.Gives T14 T16
-  s13 = Relend.k-sl-relend RelayCircuit.row T14 2 17 1 10 ref6 ref1 Row.off λ x. x
+  abbrev s10 : Typed.Mo T12 → Typed.Mo T13
+  s10 = Make.n-make (Declared'.row (Apart.apartT Request.the-type)) T12 15 λ m. (
+    m .1 .1 .1 .1 .1 .1 .0,
+    (m .1 .1 .1 .1 .1 .1 .1 .0, (m .1 .1 .1 .1 .1 .1 .1 .1 .0, (m .1 .1 .1 .1 .1 .1 .1 .1 .1 .1 .1 .1 .1 .1 .0, tt))),
+  )
 
-  abbrev s14 : Typed.Asks T16 T17
-  s14 = Relend.k-sl-aggregate RelayCircuit.row (Relend.asMut RelayCircuit.row) T16 17 18 10 ref1 ref1 (λ x. x) (Scalar.oFld
-      2 ((Syntax.field 1) ∷ List.[]) (Syntax.tyInt Syntax.w64) 8 λ v. Shared.lenV (v .0))
+  abbrev s11 : Typed.Mo T13 → Typed.Mo T14
+  s11 = Scalar.n-room T13 6 Laws''.mir
+
+  abbrev s12 : Typed.Mo T14 → Typed.Mo T15
+  s12 = Scalar.n-room T14 7 Laws''''''.mir
+
+  abbrev s13 : Typed.Mo T15 → Typed.Mo T16
+  s13 = Scalar.n-room T15 8 Laws'''.mir
+
+  abbrev s14 : Typed.Mo T16 → Typed.Mo T17
+  s14 = Scalar.n-room T16 14 Laws'.mir
 
   abbrev s16 : Typed.Gives T17 T19
-  s16 = Relend.k-sl-relend ReservationUsage.row T17 3 19 2 11 ref7 ref2 Row.off λ x. x
+  s16 = Relend.k-sl-relend RelayPending.row T17 1 17 0 9 ref5 ref0 Row.off λ x. x
 
   abbrev s17 : Typed.Asks T19 T20
-  s17 = Relend.k-sl-aggregate ReservationUsage.row (Relend.asMut ReservationUsage.row) T19 19 20 11 ref2 ref2 (λ x. x) (Scalar.oFld
-      3 ((Syntax.field 1) ∷ List.[]) (Syntax.tyInt Syntax.w64) 8 λ v. Shared.lenV (v .0))
+  s17 = Relend.k-sl-aggregate RelayPending.row (Relend.asMut RelayPending.row) T19 17 18 9 ref0 ref0 (λ x. x) (Scalar.oFld
+      1 ((Syntax.field 1) ∷ List.[]) (Syntax.tyInt Syntax.w64) 8 λ v. Shared.lenV (v .0))
 
   abbrev s19 : Typed.Gives T20 T22
-  s19 = Relend.k-sl-relend InflightAction.row T20 4 21 3 12 ref8 ref3 Row.off λ x. x
+  s19 = Relend.k-sl-relend RelayCircuit.row T20 2 19 1 10 ref6 ref1 Row.off λ x. x
 
   abbrev s20 : Typed.Asks T22 T23
-  s20 = Relend.k-sl-aggregate InflightAction.row (Relend.asMut InflightAction.row) T22 21 22 12 ref3 ref3 (λ x. x) (Scalar.oFld
-      4 ((Syntax.field 1) ∷ List.[]) (Syntax.tyInt Syntax.w64) 8 λ v. Shared.lenV (v .0))
+  s20 = Relend.k-sl-aggregate RelayCircuit.row (Relend.asMut RelayCircuit.row) T22 19 20 10 ref1 ref1 (λ x. x) (Scalar.oFld
+      2 ((Syntax.field 1) ∷ List.[]) (Syntax.tyInt Syntax.w64) 8 λ v. Shared.lenV (v .0))
 
   abbrev s22 : Typed.Gives T23 T25
-  s22 = Relend.k-sl-relend (Referent.rtF (Referent.fInt Syntax.w32)) T23 5 23 4 13 ref9 ref4 Row.off λ x. x
+  s22 = Relend.k-sl-relend ReservationUsage.row T23 3 21 2 11 ref7 ref2 Row.off λ x. x
 
   abbrev s23 : Typed.Asks T25 T26
-  s23 = Relend.k-sl-aggregate (Referent.rtF (Referent.fInt Syntax.w32))
-      (Relend.asMut (Referent.rtF (Referent.fInt Syntax.w32))) T25 23 24 13 ref4 ref4 (λ x. x) (Scalar.oFld 5
+  s23 = Relend.k-sl-aggregate ReservationUsage.row (Relend.asMut ReservationUsage.row) T25 21 22 11 ref2 ref2 (λ x. x) (Scalar.oFld
+      3 ((Syntax.field 1) ∷ List.[]) (Syntax.tyInt Syntax.w64) 8 λ v. Shared.lenV (v .0))
+
+  abbrev s25 : Typed.Gives T26 T28
+  s25 = Relend.k-sl-relend InflightAction.row T26 4 23 3 12 ref8 ref3 Row.off λ x. x
+
+  abbrev s26 : Typed.Asks T28 T29
+  s26 = Relend.k-sl-aggregate InflightAction.row (Relend.asMut InflightAction.row) T28 23 24 12 ref3 ref3 (λ x. x) (Scalar.oFld
+      4 ((Syntax.field 1) ∷ List.[]) (Syntax.tyInt Syntax.w64) 8 λ v. Shared.lenV (v .0))
+
+  abbrev s28 : Typed.Gives T29 T31
+  s28 = Relend.k-sl-relend (Referent.rtF (Referent.fInt Syntax.w32)) T29 5 25 4 13 ref9 ref4 Row.off λ x. x
+
+  abbrev s29 : Typed.Asks T31 T32
+  s29 = Relend.k-sl-aggregate (Referent.rtF (Referent.fInt Syntax.w32))
+      (Relend.asMut (Referent.rtF (Referent.fInt Syntax.w32))) T31 25 26 13 ref4 ref4 (λ x. x) (Scalar.oFld 5
       ((Syntax.field 1) ∷ List.[]) (Syntax.tyInt Syntax.w64) 8 λ v. Shared.lenV (v .0))
 
-  abbrev args24 : Args'.ArgsT ps·2 (T26 .locals)
-  args24 = (
-    record { pos = 16; ty = ref0; ref = λ x. x },
+  abbrev s30 : Typed.Mo T32 → Typed.Mo T33
+  s30 = AtSlots.n-as-by T32 15 (Rows.whole (Declared'.row Request.the-type)) λ v. Request.struct .make v tt
+
+  abbrev args31 : Args'.ArgsT ps·3 (T33 .locals)
+  args31 = (
+    record { pos = 18; ty = ref0; ref = λ x. x },
     (
-      record { pos = 18; ty = ref1; ref = λ x. x },
+      record { pos = 20; ty = ref1; ref = λ x. x },
       (
-        record { pos = 20; ty = ref2; ref = λ x. x },
+        record { pos = 22; ty = ref2; ref = λ x. x },
         (
-          record { pos = 22; ty = ref3; ref = λ x. x },
+          record { pos = 24; ty = ref3; ref = λ x. x },
           (
-            record { pos = 24; ty = ref4; ref = λ x. x },
+            record { pos = 26; ty = ref4; ref = λ x. x },
             (
-              record { pos = 6; st = List.[]; d = 0; at = λ x. x },
+              record { pos = 15; st = List.[]; d = 0; at = λ x. x },
               (
-                record { pos = 7; st = List.[]; d = 0; at = λ x. x },
-                (
-                  record { pos = 8; st = List.[]; d = 0; at = λ x. x },
-                  (
-                    record { pos = 9; ty = ref10; ref = λ x. x },
-                    (
-                      record { pos = 10; ty = ref11; ref = λ x. x },
-                      (
-                        record { pos = 11; ty = ref12; ref = λ x. x },
-                        (record { pos = 12; ty = ref13; ref = λ x. x }, tt),
-                      ),
-                    ),
-                  ),
-                ),
+                record { pos = 10; ty = ref11; ref = λ x. x },
+                (record { pos = 11; ty = ref12; ref = λ x. x }, (record { pos = 12; ty = ref13; ref = λ x. x }, tt)),
               ),
             ),
           ),
@@ -802,45 +887,39 @@ module _ (claims· : Claims) where
     ),
   )
 
-  abbrev s24 : Typed.Both T26 T27
-  s24 = Call.callB ps·2 r·2 (claims· .4) (claims· .5) T26 args24 0 (9 ∷ 10 ∷ 11 ∷ 12 ∷ 13 ∷ 5 ∷ 6 ∷ 7 ∷ 8 ∷ List.[])
-      Laws'''.mir
+  abbrev s31 : Typed.Both T33 T34
+  s31 = Call.callB ps·3 r·3 (claims· .6) (claims· .7) T33 args31 0 (9 ∷ 10 ∷ 11 ∷ 12 ∷ 13 ∷ 6 ∷ 7 ∷ 8 ∷ List.[])
+      Laws''''.mir
 
-  abbrev s25 : Typed.Mo T27 → Typed.Mo T28
-  s25 = Scalar.n-room T27 6 Laws'.mir
+  abbrev s32 : Typed.Mo T34 → Typed.Mo T35
+  s32 = Scalar.n-room T34 15 Laws'''''.mir
 
-  abbrev s26 : Typed.Mo T28 → Typed.Mo T29
-  s26 = Scalar.n-room T28 7 Laws''''.mir
+  abbrev s34 : Typed.Both T35 T37
+  s34 = Relend.k-back-sl RelayPending.row T35 18 1 0 9 ref5 ref0 Row.off (λ x. x) λ x. x
 
-  abbrev s27 : Typed.Mo T29 → Typed.Mo T30
-  s27 = Scalar.n-room T29 8 Laws''.mir
+  abbrev s37 : Typed.Both T37 T40
+  s37 = Relend.k-back-sl RelayCircuit.row T37 20 2 1 10 ref6 ref1 Row.off (λ x. x) λ x. x
 
-  abbrev s29 : Typed.Both T30 T32
-  s29 = Relend.k-back-sl RelayPending.row T30 16 1 0 9 ref5 ref0 Row.off (λ x. x) λ x. x
+  abbrev s40 : Typed.Both T40 T43
+  s40 = Relend.k-back-sl ReservationUsage.row T40 22 3 2 11 ref7 ref2 Row.off (λ x. x) λ x. x
 
-  abbrev s32 : Typed.Both T32 T35
-  s32 = Relend.k-back-sl RelayCircuit.row T32 18 2 1 10 ref6 ref1 Row.off (λ x. x) λ x. x
+  abbrev s43 : Typed.Both T43 T46
+  s43 = Relend.k-back-sl InflightAction.row T43 24 4 3 12 ref8 ref3 Row.off (λ x. x) λ x. x
 
-  abbrev s35 : Typed.Both T35 T38
-  s35 = Relend.k-back-sl ReservationUsage.row T35 20 3 2 11 ref7 ref2 Row.off (λ x. x) λ x. x
+  abbrev s46 : Typed.Both T46 T49
+  s46 = Relend.k-back-sl (Referent.rtF (Referent.fInt Syntax.w32)) T46 26 5 4 13 ref9 ref4 Row.off (λ x. x) λ x. x
 
-  abbrev s38 : Typed.Both T38 T41
-  s38 = Relend.k-back-sl InflightAction.row T38 22 4 3 12 ref8 ref3 Row.off (λ x. x) λ x. x
+  abbrev s47 : Typed.Gives T49 T50
+  s47 = Know.k-sl-known (Referent.fInt Syntax.w32) T49 5 4 ref9 Row.off 0 λ x. x
 
-  abbrev s41 : Typed.Both T41 T44
-  s41 = Relend.k-back-sl (Referent.rtF (Referent.fInt Syntax.w32)) T41 24 5 4 13 ref9 ref4 Row.off (λ x. x) λ x. x
+  abbrev s49 : Typed.Mo T8 → Typed.Mo T52
+  s49 = Scalar.n-room T8 8 Laws'''.mir
 
-  abbrev s42 : Typed.Gives T44 T45
-  s42 = Know.k-sl-known (Referent.fInt Syntax.w32) T44 5 4 ref9 Row.off 0 λ x. x
+  abbrev s50 : Typed.Mo T52 → Typed.Mo T53
+  s50 = Scalar.n-room T52 16 Syntax.tyBool
 
-  abbrev s44 : Typed.Mo T8 → Typed.Mo T47
-  s44 = Scalar.n-room T8 8 Laws''.mir
-
-  abbrev s45 : Typed.Mo T47 → Typed.Mo T48
-  s45 = Scalar.n-room T47 14 Syntax.tyBool
-
-  abbrev args46 : Args'.ArgsT ps·3 (T9 .locals)
-  args46 = (
+  abbrev args51 : Args'.ArgsT ps·4 (T9 .locals)
+  args51 = (
     record { pos = 6; st = List.[]; d = 0; at = λ x. x },
     (
       record { pos = 7; st = List.[]; d = 0; at = λ x. x },
@@ -848,17 +927,17 @@ module _ (claims· : Claims) where
     ),
   )
 
-  abbrev s46 : Typed.Both T9 T49
-  s46 = Call.callB ps·3 r·3 (claims· .6) (claims· .7) T9 args46 0 List.[] Laws'''.mir
+  abbrev s51 : Typed.Both T9 T54
+  s51 = Call.callB ps·4 r·4 (claims· .8) (claims· .9) T9 args51 0 List.[] Laws''''.mir
 
-  abbrev s47 : Typed.Mo T49 → Typed.Mo T50
-  s47 = Scalar.n-room T49 6 Laws'.mir
+  abbrev s52 : Typed.Mo T54 → Typed.Mo T55
+  s52 = Scalar.n-room T54 6 Laws''.mir
 
-  abbrev s48 : Typed.Mo T50 → Typed.Mo T51
-  s48 = Scalar.n-room T50 7 Laws''''.mir
+  abbrev s53 : Typed.Mo T55 → Typed.Mo T56
+  s53 = Scalar.n-room T55 7 Laws''''''.mir
 
-  abbrev s49 : Typed.Mo T51 → Typed.Mo T52
-  s49 = Scalar.n-room T51 13 Laws.mir
+  abbrev s54 : Typed.Mo T56 → Typed.Mo T57
+  s54 = Scalar.n-room T56 13 Laws.mir
 
   module _ (Pre· : (κs : Lifetimes.Lfts 9) → Kinds.Dens κs ps → Type 0) (Post· : (κs : Lifetimes.Lfts 9) →
       (a : Kinds.Dens κs ps) → Kinds.Plain 9 ps r κs) where
@@ -867,187 +946,204 @@ module _ (claims· : Claims) where
       Closed = (𝓤 : URA.URA M) (H : Wp.Heap 𝓤) (A : Atoms.Atoms 𝓤) (W : Kit.Given 𝓤 H A) (𝓣 : Wp.Tables 𝓤 H) (known0 :
           Plain.Known 𝓤 H A W 𝓣 0 ps·0 r·0 (claims· .0) (claims· .1) "hnsr_circuit::calls::handle::gate_answer") (known1
           : Plain.Known 𝓤 H A W 𝓣 0 ps·1 r·1 (claims· .2) (claims· .3) "hnsr_circuit::answer::is_taken") (known2 :
-          Plain.Known 𝓤 H A W 𝓣 9 ps·2 r·2 (claims· .4) (claims· .5) "hnsr_circuit::calls::handle::dispatch") (known3 :
-          Plain.Known 𝓤 H A W 𝓣 0 ps·3 r·3 (claims· .6) (claims· .7) "hnsr_circuit::runtime::refused") →
+          Plain.Known 𝓤 H A W 𝓣 1 ps·2 r·2 (claims· .4) (claims· .5) "hnsr_circuit::peer::peer_of") (known3 :
+          Plain.Known 𝓤 H A W 𝓣 8 ps·3 r·3 (claims· .6) (claims· .7) "hnsr_circuit::calls::handle::dispatch") (known4 :
+          Plain.Known 𝓤 H A W 𝓣 0 ps·4 r·4 (claims· .8) (claims· .9) "hnsr_circuit::runtime::refused") →
           Statement.Triple 𝓤 (Wp.WpFn 𝓤 H (𝓣 .C) (𝓣 .Λ) (Function.fnOf 9 ps r xs m hs body))
           (Function.plainOf 𝓤 H A 9 ps r Pre· Post·)
 
     module _ where
-      abbrev at0 : Typed.TF T45 O1
+      abbrev at0 : Typed.TF T50 O1
       at0 = Typed.atRet O1
 
-      abbrev at1 : Typed.TF T45 O1
+      abbrev at1 : Typed.TF T50 O1
       at1 = λ Ψ. at0 Ψ
 
-      abbrev at2 : Typed.TF T44 O1
-      at2 = λ Ψ. Typed.give s42 (at1 Ψ)
+      abbrev at2 : Typed.TF T49 O1
+      at2 = λ Ψ. Typed.give s47 (at1 Ψ)
 
-      abbrev at3 : Typed.TF T41 O1
-      at3 = λ Ψ. Typed.both s41 (at2 Ψ)
+      abbrev at3 : Typed.TF T46 O1
+      at3 = λ Ψ. Typed.both s46 (at2 Ψ)
 
-      abbrev at4 : Typed.TF T41 O1
+      abbrev at4 : Typed.TF T46 O1
       at4 = λ Ψ. at3 Ψ
 
-      abbrev at5 : Typed.TF T41 O1
+      abbrev at5 : Typed.TF T46 O1
       at5 = λ Ψ. at4 Ψ
 
-      abbrev at6 : Typed.TF T38 O1
-      at6 = λ Ψ. Typed.both s38 (at5 Ψ)
+      abbrev at6 : Typed.TF T43 O1
+      at6 = λ Ψ. Typed.both s43 (at5 Ψ)
 
-      abbrev at7 : Typed.TF T38 O1
+      abbrev at7 : Typed.TF T43 O1
       at7 = λ Ψ. at6 Ψ
 
-      abbrev at8 : Typed.TF T38 O1
+      abbrev at8 : Typed.TF T43 O1
       at8 = λ Ψ. at7 Ψ
 
-      abbrev at9 : Typed.TF T35 O1
-      at9 = λ Ψ. Typed.both s35 (at8 Ψ)
+      abbrev at9 : Typed.TF T40 O1
+      at9 = λ Ψ. Typed.both s40 (at8 Ψ)
 
-      abbrev at10 : Typed.TF T35 O1
+      abbrev at10 : Typed.TF T40 O1
       at10 = λ Ψ. at9 Ψ
 
-      abbrev at11 : Typed.TF T35 O1
+      abbrev at11 : Typed.TF T40 O1
       at11 = λ Ψ. at10 Ψ
 
-      abbrev at12 : Typed.TF T32 O1
-      at12 = λ Ψ. Typed.both s32 (at11 Ψ)
+      abbrev at12 : Typed.TF T37 O1
+      at12 = λ Ψ. Typed.both s37 (at11 Ψ)
 
-      abbrev at13 : Typed.TF T32 O1
+      abbrev at13 : Typed.TF T37 O1
       at13 = λ Ψ. at12 Ψ
 
-      abbrev at14 : Typed.TF T32 O1
+      abbrev at14 : Typed.TF T37 O1
       at14 = λ Ψ. at13 Ψ
 
-      abbrev at15 : Typed.TF T30 O1
-      at15 = λ Ψ. Typed.both s29 (at14 Ψ)
+      abbrev at15 : Typed.TF T35 O1
+      at15 = λ Ψ. Typed.both s34 (at14 Ψ)
 
-      abbrev at16 : Typed.TF T30 O1
+      abbrev at16 : Typed.TF T35 O1
       at16 = λ Ψ. at15 Ψ
 
-      abbrev at17 : Typed.TF T29 O1
-      at17 = λ Ψ. Typed.pass T29 T30 s27 (at16 Ψ)
+      abbrev at17 : Typed.TF T34 O1
+      at17 = λ Ψ. Typed.pass T34 T35 s32 (at16 Ψ)
 
-      abbrev at18 : Typed.TF T28 O1
-      at18 = λ Ψ. Typed.pass T28 T29 s26 (at17 Ψ)
+      abbrev at18 : Typed.TF T33 O1
+      at18 = λ Ψ. Typed.both s31 (at17 Ψ)
 
-      abbrev at19 : Typed.TF T27 O1
-      at19 = λ Ψ. Typed.pass T27 T28 s25 (at18 Ψ)
+      abbrev at19 : Typed.TF T32 O1
+      at19 = λ Ψ. Typed.pass T32 T33 s30 (at18 Ψ)
 
-      abbrev at20 : Typed.TF T26 O1
-      at20 = λ Ψ. Typed.both s24 (at19 Ψ)
+      abbrev at20 : Typed.TF T31 O1
+      at20 = λ Ψ. Typed.ask s29 (at19 Ψ)
 
-      abbrev at21 : Typed.TF T25 O1
-      at21 = λ Ψ. Typed.ask s23 (at20 Ψ)
+      abbrev at21 : Typed.TF T29 O1
+      at21 = λ Ψ. Typed.give s28 (at20 Ψ)
 
-      abbrev at22 : Typed.TF T23 O1
-      at22 = λ Ψ. Typed.give s22 (at21 Ψ)
+      abbrev at22 : Typed.TF T29 O1
+      at22 = λ Ψ. at21 Ψ
 
-      abbrev at23 : Typed.TF T23 O1
-      at23 = λ Ψ. at22 Ψ
+      abbrev at23 : Typed.TF T28 O1
+      at23 = λ Ψ. Typed.ask s26 (at22 Ψ)
 
-      abbrev at24 : Typed.TF T22 O1
-      at24 = λ Ψ. Typed.ask s20 (at23 Ψ)
+      abbrev at24 : Typed.TF T26 O1
+      at24 = λ Ψ. Typed.give s25 (at23 Ψ)
 
-      abbrev at25 : Typed.TF T20 O1
-      at25 = λ Ψ. Typed.give s19 (at24 Ψ)
+      abbrev at25 : Typed.TF T26 O1
+      at25 = λ Ψ. at24 Ψ
 
-      abbrev at26 : Typed.TF T20 O1
-      at26 = λ Ψ. at25 Ψ
+      abbrev at26 : Typed.TF T25 O1
+      at26 = λ Ψ. Typed.ask s23 (at25 Ψ)
 
-      abbrev at27 : Typed.TF T19 O1
-      at27 = λ Ψ. Typed.ask s17 (at26 Ψ)
+      abbrev at27 : Typed.TF T23 O1
+      at27 = λ Ψ. Typed.give s22 (at26 Ψ)
 
-      abbrev at28 : Typed.TF T17 O1
-      at28 = λ Ψ. Typed.give s16 (at27 Ψ)
+      abbrev at28 : Typed.TF T23 O1
+      at28 = λ Ψ. at27 Ψ
 
-      abbrev at29 : Typed.TF T17 O1
-      at29 = λ Ψ. at28 Ψ
+      abbrev at29 : Typed.TF T22 O1
+      at29 = λ Ψ. Typed.ask s20 (at28 Ψ)
 
-      abbrev at30 : Typed.TF T16 O1
-      at30 = λ Ψ. Typed.ask s14 (at29 Ψ)
+      abbrev at30 : Typed.TF T20 O1
+      at30 = λ Ψ. Typed.give s19 (at29 Ψ)
 
-      abbrev at31 : Typed.TF T14 O1
-      at31 = λ Ψ. Typed.give s13 (at30 Ψ)
+      abbrev at31 : Typed.TF T20 O1
+      at31 = λ Ψ. at30 Ψ
 
-      abbrev at32 : Typed.TF T14 O1
-      at32 = λ Ψ. at31 Ψ
+      abbrev at32 : Typed.TF T19 O1
+      at32 = λ Ψ. Typed.ask s17 (at31 Ψ)
 
-      abbrev at33 : Typed.TF T13 O1
-      at33 = λ Ψ. Typed.ask s11 (at32 Ψ)
+      abbrev at33 : Typed.TF T17 O1
+      at33 = λ Ψ. Typed.give s16 (at32 Ψ)
 
-      abbrev at34 : Typed.TF T11 O1
-      at34 = λ Ψ. Typed.give s10 (at33 Ψ)
+      abbrev at34 : Typed.TF T17 O1
+      at34 = λ Ψ. at33 Ψ
 
-      abbrev at35 : Typed.TF T11 O1
-      at35 = λ Ψ. at34 Ψ
+      abbrev at35 : Typed.TF T16 O1
+      at35 = λ Ψ. Typed.pass T16 T17 s14 (at34 Ψ)
 
-      abbrev at36 : Typed.TF T10 O1
-      at36 = λ Ψ. Typed.pass T10 T11 s8 (at35 Ψ)
+      abbrev at36 : Typed.TF T15 O1
+      at36 = λ Ψ. Typed.pass T15 T16 s13 (at35 Ψ)
 
-      abbrev at37 : Typed.TF T8 O1
-      at37 = λ Ψ. Typed.pass T8 T10 s7 (at36 Ψ)
+      abbrev at37 : Typed.TF T14 O1
+      at37 = λ Ψ. Typed.pass T14 T15 s12 (at36 Ψ)
 
-      abbrev at38 : Typed.TF T48 O1
-      at38 = Typed.atNext O1
+      abbrev at38 : Typed.TF T13 O1
+      at38 = λ Ψ. Typed.pass T13 T14 s11 (at37 Ψ)
 
-      abbrev at39 : Typed.TF T47 O1
-      at39 = λ Ψ. Typed.pass T47 T48 s45 (at38 Ψ)
+      abbrev at39 : Typed.TF T12 O1
+      at39 = λ Ψ. Typed.pass T12 T13 s10 (at38 Ψ)
 
-      abbrev at40 : Typed.TF T8 O1
-      at40 = λ Ψ. Typed.pass T8 T47 s44 (at39 Ψ)
+      abbrev at40 : Typed.TF T11 O1
+      at40 = λ Ψ. Typed.both s9 (at39 Ψ)
 
-      abbrev at41 : Typed.TF T8 O1
-      at41 = Scalar.Φcond T8 O1 14 (λ x. x) at37 at40
+      abbrev at41 : Typed.TF T10 O1
+      at41 = λ Ψ. Typed.pass T10 T11 s8 (at40 Ψ)
 
-      abbrev at42 : Typed.TF T52 O0
-      at42 = Typed.atRet O0
+      abbrev at42 : Typed.TF T8 O1
+      at42 = λ Ψ. Typed.pass T8 T10 s7 (at41 Ψ)
 
-      abbrev at43 : Typed.TF T51 O0
-      at43 = λ Ψ. Typed.pass T51 T52 s49 (at42 Ψ)
+      abbrev at43 : Typed.TF T53 O1
+      at43 = Typed.atNext O1
 
-      abbrev at44 : Typed.TF T50 O0
-      at44 = λ Ψ. Typed.pass T50 T51 s48 (at43 Ψ)
+      abbrev at44 : Typed.TF T52 O1
+      at44 = λ Ψ. Typed.pass T52 T53 s50 (at43 Ψ)
 
-      abbrev at45 : Typed.TF T49 O0
-      at45 = λ Ψ. Typed.pass T49 T50 s47 (at44 Ψ)
+      abbrev at45 : Typed.TF T8 O1
+      at45 = λ Ψ. Typed.pass T8 T52 s49 (at44 Ψ)
 
-      abbrev at46 : Typed.TF T9 O0
-      at46 = λ Ψ. Typed.both s46 (at45 Ψ)
+      abbrev at46 : Typed.TF T8 O1
+      at46 = Scalar.Φcond T8 O1 16 (λ x. x) at42 at45
 
-      abbrev at47 : Typed.TF T8 O0
-      at47 = λ Ψ. at41 (Typed.wantNext T9 O0 (at46 Ψ) Ψ)
+      abbrev at47 : Typed.TF T57 O0
+      at47 = Typed.atRet O0
 
-      abbrev at48 : Typed.TF T7 O0
-      at48 = λ Ψ. Typed.both s6 (at47 Ψ)
+      abbrev at48 : Typed.TF T56 O0
+      at48 = λ Ψ. Typed.pass T56 T57 s54 (at47 Ψ)
 
-      abbrev at49 : Typed.TF T6 O0
-      at49 = λ Ψ. Typed.both s5 (at48 Ψ)
+      abbrev at49 : Typed.TF T55 O0
+      at49 = λ Ψ. Typed.pass T55 T56 s53 (at48 Ψ)
 
-      abbrev at50 : Typed.TF T5 O0
-      at50 = λ Ψ. Typed.give s4 (at49 Ψ)
+      abbrev at50 : Typed.TF T54 O0
+      at50 = λ Ψ. Typed.pass T54 T55 s52 (at49 Ψ)
 
-      abbrev at51 : Typed.TF T4 O0
-      at51 = λ Ψ. Typed.give s3 (at50 Ψ)
+      abbrev at51 : Typed.TF T9 O0
+      at51 = λ Ψ. Typed.both s51 (at50 Ψ)
 
-      abbrev at52 : Typed.TF T3 O0
-      at52 = λ Ψ. Typed.give s2 (at51 Ψ)
+      abbrev at52 : Typed.TF T8 O0
+      at52 = λ Ψ. at46 (Typed.wantNext T9 O0 (at51 Ψ) Ψ)
 
-      abbrev at53 : Typed.TF T2 O0
-      at53 = λ Ψ. Typed.give s1 (at52 Ψ)
+      abbrev at53 : Typed.TF T7 O0
+      at53 = λ Ψ. Typed.both s6 (at52 Ψ)
 
-      abbrev at54 : Typed.TF T0 O0
-      at54 = λ Ψ. Typed.give s0 (at53 Ψ)
+      abbrev at54 : Typed.TF T6 O0
+      at54 = λ Ψ. Typed.both s5 (at53 Ψ)
+
+      abbrev at55 : Typed.TF T5 O0
+      at55 = λ Ψ. Typed.give s4 (at54 Ψ)
+
+      abbrev at56 : Typed.TF T4 O0
+      at56 = λ Ψ. Typed.give s3 (at55 Ψ)
+
+      abbrev at57 : Typed.TF T3 O0
+      at57 = λ Ψ. Typed.give s2 (at56 Ψ)
+
+      abbrev at58 : Typed.TF T2 O0
+      at58 = λ Ψ. Typed.give s1 (at57 Ψ)
+
+      abbrev at59 : Typed.TF T0 O0
+      at59 = λ Ψ. Typed.give s0 (at58 Ψ)
 
       abbrev pub Φ : Typed.TF T0 O0
-      Φ = at54
+      Φ = at59
 
       module _ {M : Type 1} (𝓤 : URA.URA M) (H : Wp.Heap 𝓤) (A : Atoms.Atoms 𝓤) (W : Kit.Given 𝓤 H A)
           (𝓣 : Wp.Tables 𝓤 H) where
         abbrev Knowns : Type 1
         Knowns = Plain.Known 𝓤 H A W 𝓣 0 ps·0 r·0 (claims· .0) (claims· .1) "hnsr_circuit::calls::handle::gate_answer"
             × Plain.Known 𝓤 H A W 𝓣 0 ps·1 r·1 (claims· .2) (claims· .3) "hnsr_circuit::answer::is_taken" × Plain.Known
-            𝓤 H A W 𝓣 9 ps·2 r·2 (claims· .4) (claims· .5) "hnsr_circuit::calls::handle::dispatch" × Plain.Known 𝓤 H A
-            W 𝓣 0 ps·3 r·3 (claims· .6) (claims· .7) "hnsr_circuit::runtime::refused"
+            𝓤 H A W 𝓣 1 ps·2 r·2 (claims· .4) (claims· .5) "hnsr_circuit::peer::peer_of" × Plain.Known 𝓤 H A W 𝓣 8 ps·3
+            r·3 (claims· .6) (claims· .7) "hnsr_circuit::calls::handle::dispatch" × Plain.Known 𝓤 H A W 𝓣 0 ps·4 r·4
+            (claims· .8) (claims· .9) "hnsr_circuit::runtime::refused"
 
       module _ (κs : Lifetimes.Lfts 9) (qs : Lifetimes.Shares 9) where
         abbrev life0 : Row.Life
@@ -1092,47 +1188,41 @@ module _ (claims· : Claims) where
         abbrev l5 : Row.Entry
         l5 = (5, Relend.mslice-owed (Referent.rtF (Referent.fInt Syntax.w32)) ref9 4 13 life4)
 
-        abbrev g7 : List.List Row.Entry
-        g7 = e0 ∷ l1 ∷ e2 ∷ e3 ∷ e4 ∷ e5 ∷ e6 ∷ e7 ∷ e8 ∷ e9 ∷ e10 ∷ e11 ∷ e12 ∷ e13 ∷ e14 ∷ e15·1 ∷ List.[]
+        abbrev g12 : List.List Row.Entry
+        g12 = e0 ∷ l1 ∷ e2 ∷ e3 ∷ e4 ∷ e5 ∷ e6·1 ∷ e7·1 ∷ e8·1 ∷ e9 ∷ e10 ∷ e11 ∷ e12 ∷ e13 ∷ e14 ∷ e15·1 ∷ List.[]
 
-        abbrev g8 : List.List Row.Entry
-        g8 = e0 ∷ l1 ∷ e2 ∷ e3 ∷ e4 ∷ e5 ∷ e6 ∷ e7 ∷ e8 ∷ e9 ∷ e10 ∷ e11 ∷ e12 ∷ e13 ∷ e14 ∷ e15 ∷ List.[]
+        abbrev g15 : List.List Row.Entry
+        g15 = e0 ∷ l1 ∷ l2 ∷ e3 ∷ e4 ∷ e5 ∷ e6·1 ∷ e7·1 ∷ e8·1 ∷ e9 ∷ e10 ∷ e11 ∷ e12 ∷ e13 ∷ e14 ∷ e15·1 ∷ List.[]
 
-        abbrev g10 : List.List Row.Entry
-        g10 = e0 ∷ l1 ∷ l2 ∷ e3 ∷ e4 ∷ e5 ∷ e6 ∷ e7 ∷ e8 ∷ e9 ∷ e10 ∷ e11 ∷ e12 ∷ e13 ∷ e14 ∷ e15 ∷ List.[]
+        abbrev g18 : List.List Row.Entry
+        g18 = e0 ∷ l1 ∷ l2 ∷ l3 ∷ e4 ∷ e5 ∷ e6·1 ∷ e7·1 ∷ e8·1 ∷ e9 ∷ e10 ∷ e11 ∷ e12 ∷ e13 ∷ e14 ∷ e15·1 ∷ List.[]
 
-        abbrev g13 : List.List Row.Entry
-        g13 = e0 ∷ l1 ∷ l2 ∷ l3 ∷ e4 ∷ e5 ∷ e6 ∷ e7 ∷ e8 ∷ e9 ∷ e10 ∷ e11 ∷ e12 ∷ e13 ∷ e14 ∷ e15 ∷ List.[]
-
-        abbrev g16 : List.List Row.Entry
-        g16 = e0 ∷ l1 ∷ l2 ∷ l3 ∷ l4 ∷ e5 ∷ e6 ∷ e7 ∷ e8 ∷ e9 ∷ e10 ∷ e11 ∷ e12 ∷ e13 ∷ e14 ∷ e15 ∷ List.[]
-
-        abbrev g19 : List.List Row.Entry
-        g19 = e0 ∷ l1 ∷ l2 ∷ l3 ∷ l4 ∷ l5 ∷ e6 ∷ e7 ∷ e8 ∷ e9 ∷ e10 ∷ e11 ∷ e12 ∷ e13 ∷ e14 ∷ e15 ∷ List.[]
-
-        abbrev g22 : List.List Row.Entry
-        g22 = e0·1 ∷ l1 ∷ l2 ∷ l3 ∷ l4 ∷ l5 ∷ e6 ∷ e7 ∷ e8 ∷ e9 ∷ e10 ∷ e11 ∷ e12 ∷ e13 ∷ e14 ∷ e15 ∷ List.[]
+        abbrev g21 : List.List Row.Entry
+        g21 = e0 ∷ l1 ∷ l2 ∷ l3 ∷ l4 ∷ e5 ∷ e6·1 ∷ e7·1 ∷ e8·1 ∷ e9 ∷ e10 ∷ e11 ∷ e12 ∷ e13 ∷ e14 ∷ e15·1 ∷ List.[]
 
         abbrev g24 : List.List Row.Entry
-        g24 = e0·1 ∷ l1 ∷ l2 ∷ l3 ∷ l4 ∷ l5 ∷ e6·1 ∷ e7 ∷ e8 ∷ e9 ∷ e10 ∷ e11 ∷ e12 ∷ e13 ∷ e14 ∷ e15 ∷ List.[]
-
-        abbrev g25 : List.List Row.Entry
-        g25 = e0·1 ∷ l1 ∷ l2 ∷ l3 ∷ l4 ∷ l5 ∷ e6·1 ∷ e7·1 ∷ e8 ∷ e9 ∷ e10 ∷ e11 ∷ e12 ∷ e13 ∷ e14 ∷ e15 ∷ List.[]
-
-        abbrev g26 : List.List Row.Entry
-        g26 = e0·1 ∷ l1 ∷ l2 ∷ l3 ∷ l4 ∷ l5 ∷ e6·1 ∷ e7·1 ∷ e8·1 ∷ e9 ∷ e10 ∷ e11 ∷ e12 ∷ e13 ∷ e14 ∷ e15 ∷ List.[]
+        g24 = e0 ∷ l1 ∷ l2 ∷ l3 ∷ l4 ∷ l5 ∷ e6·1 ∷ e7·1 ∷ e8·1 ∷ e9 ∷ e10 ∷ e11 ∷ e12 ∷ e13 ∷ e14 ∷ e15·1 ∷ List.[]
 
         abbrev g27 : List.List Row.Entry
-        g27 = e0·1 ∷ e1 ∷ l2 ∷ l3 ∷ l4 ∷ l5 ∷ e6·1 ∷ e7·1 ∷ e8·1 ∷ e9 ∷ e10 ∷ e11 ∷ e12 ∷ e13 ∷ e14 ∷ e15 ∷ List.[]
+        g27 = e0 ∷ l1 ∷ l2 ∷ l3 ∷ l4 ∷ l5 ∷ e6·1 ∷ e7·1 ∷ e8·1 ∷ e9 ∷ e10 ∷ e11 ∷ e12 ∷ e13 ∷ e14 ∷ e15·2 ∷ List.[]
 
-        abbrev g29 : List.List Row.Entry
-        g29 = e0·1 ∷ e1 ∷ e2 ∷ l3 ∷ l4 ∷ l5 ∷ e6·1 ∷ e7·1 ∷ e8·1 ∷ e9 ∷ e10 ∷ e11 ∷ e12 ∷ e13 ∷ e14 ∷ e15 ∷ List.[]
+        abbrev g28 : List.List Row.Entry
+        g28 = e0·1 ∷ l1 ∷ l2 ∷ l3 ∷ l4 ∷ l5 ∷ e6·1 ∷ e7·1 ∷ e8·1 ∷ e9 ∷ e10 ∷ e11 ∷ e12 ∷ e13 ∷ e14 ∷ e15·2 ∷ List.[]
+
+        abbrev g30 : List.List Row.Entry
+        g30 = e0·1 ∷ l1 ∷ l2 ∷ l3 ∷ l4 ∷ l5 ∷ e6·1 ∷ e7·1 ∷ e8·1 ∷ e9 ∷ e10 ∷ e11 ∷ e12 ∷ e13 ∷ e14 ∷ e15 ∷ List.[]
 
         abbrev g31 : List.List Row.Entry
-        g31 = e0·1 ∷ e1 ∷ e2 ∷ e3 ∷ l4 ∷ l5 ∷ e6·1 ∷ e7·1 ∷ e8·1 ∷ e9 ∷ e10 ∷ e11 ∷ e12 ∷ e13 ∷ e14 ∷ e15 ∷ List.[]
+        g31 = e0·1 ∷ e1 ∷ l2 ∷ l3 ∷ l4 ∷ l5 ∷ e6·1 ∷ e7·1 ∷ e8·1 ∷ e9 ∷ e10 ∷ e11 ∷ e12 ∷ e13 ∷ e14 ∷ e15 ∷ List.[]
 
         abbrev g33 : List.List Row.Entry
-        g33 = e0·1 ∷ e1 ∷ e2 ∷ e3 ∷ e4 ∷ l5 ∷ e6·1 ∷ e7·1 ∷ e8·1 ∷ e9 ∷ e10 ∷ e11 ∷ e12 ∷ e13 ∷ e14 ∷ e15 ∷ List.[]
+        g33 = e0·1 ∷ e1 ∷ e2 ∷ l3 ∷ l4 ∷ l5 ∷ e6·1 ∷ e7·1 ∷ e8·1 ∷ e9 ∷ e10 ∷ e11 ∷ e12 ∷ e13 ∷ e14 ∷ e15 ∷ List.[]
+
+        abbrev g35 : List.List Row.Entry
+        g35 = e0·1 ∷ e1 ∷ e2 ∷ e3 ∷ l4 ∷ l5 ∷ e6·1 ∷ e7·1 ∷ e8·1 ∷ e9 ∷ e10 ∷ e11 ∷ e12 ∷ e13 ∷ e14 ∷ e15 ∷ List.[]
+
+        abbrev g37 : List.List Row.Entry
+        g37 = e0·1 ∷ e1 ∷ e2 ∷ e3 ∷ e4 ∷ l5 ∷ e6·1 ∷ e7·1 ∷ e8·1 ∷ e9 ∷ e10 ∷ e11 ∷ e12 ∷ e13 ∷ e14 ∷ e15 ∷ List.[]
 
         abbrev G0 : Row.Cx
         G0 = record {
@@ -1192,7 +1282,7 @@ module _ (claims· : Claims) where
 
         abbrev G8 : Row.Cx
         G8 = record {
-          locals = List._++_ t4 t1;
+          locals = List._++_ t3 t4;
           slots = life0 ∷ life1 ∷ life2 ∷ life3 ∷ life4 ∷ life5 ∷ life6 ∷ life7 ∷ life8 ∷ Row.off ∷ Row.off ∷ Row.off ∷
               Row.off ∷ Row.off ∷ List.[];
         }
@@ -1206,7 +1296,7 @@ module _ (claims· : Claims) where
 
         abbrev G10 : Row.Cx
         G10 = record {
-          locals = List._++_ t6 t1;
+          locals = List._++_ t0 t4;
           slots = life0 ∷ life1 ∷ life2 ∷ life3 ∷ life4 ∷ life5 ∷ life6 ∷ life7 ∷ life8 ∷ Row.off ∷ Row.off ∷ Row.off ∷
               Row.off ∷ Row.off ∷ List.[];
         }
@@ -1220,286 +1310,321 @@ module _ (claims· : Claims) where
 
         abbrev G12 : Row.Cx
         G12 = record {
-          locals = List._++_ t0 t1;
-          slots = life0 ∷ life1 ∷ life2 ∷ life3 ∷ life4 ∷ life5 ∷ life6 ∷ life7 ∷ life8 ∷ Row.alive ∷ Row.off ∷ Row.off
-              ∷ Row.off ∷ Row.off ∷ List.[];
+          locals = List._++_ t6 t1;
+          slots = life0 ∷ life1 ∷ life2 ∷ life3 ∷ life4 ∷ life5 ∷ life6 ∷ life7 ∷ life8 ∷ Row.off ∷ Row.off ∷ Row.off ∷
+              Row.off ∷ Row.off ∷ List.[];
         }
 
         abbrev G13 : Row.Cx
         G13 = record {
-          locals = List._++_ g7 t1;
-          slots = Row.off ∷ life1 ∷ life2 ∷ life3 ∷ life4 ∷ life5 ∷ life6 ∷ life7 ∷ life8 ∷ Row.alive ∷ Row.off ∷
-              Row.off ∷ Row.off ∷ Row.off ∷ List.[];
+          locals = List._++_ t7 t1;
+          slots = life0 ∷ life1 ∷ life2 ∷ life3 ∷ life4 ∷ life5 ∷ life6 ∷ life7 ∷ life8 ∷ Row.off ∷ Row.off ∷ Row.off ∷
+              Row.off ∷ Row.off ∷ List.[];
         }
 
         abbrev G14 : Row.Cx
         G14 = record {
-          locals = List._++_ g8 t9;
-          slots = Row.off ∷ life1 ∷ life2 ∷ life3 ∷ life4 ∷ life5 ∷ life6 ∷ life7 ∷ life8 ∷ Row.alive ∷ Row.off ∷
-              Row.off ∷ Row.off ∷ Row.off ∷ List.[];
+          locals = List._++_ t8 t1;
+          slots = life0 ∷ life1 ∷ life2 ∷ life3 ∷ life4 ∷ life5 ∷ life6 ∷ life7 ∷ life8 ∷ Row.off ∷ Row.off ∷ Row.off ∷
+              Row.off ∷ Row.off ∷ List.[];
         }
 
         abbrev G15 : Row.Cx
         G15 = record {
-          locals = List._++_ g8 t9;
-          slots = Row.off ∷ life1 ∷ life2 ∷ life3 ∷ life4 ∷ life5 ∷ life6 ∷ life7 ∷ life8 ∷ Row.alive ∷ Row.alive ∷
-              Row.off ∷ Row.off ∷ Row.off ∷ List.[];
+          locals = List._++_ t9 t1;
+          slots = life0 ∷ life1 ∷ life2 ∷ life3 ∷ life4 ∷ life5 ∷ life6 ∷ life7 ∷ life8 ∷ Row.off ∷ Row.off ∷ Row.off ∷
+              Row.off ∷ Row.off ∷ List.[];
         }
 
         abbrev G16 : Row.Cx
         G16 = record {
-          locals = List._++_ g10 t11;
-          slots = Row.off ∷ Row.off ∷ life2 ∷ life3 ∷ life4 ∷ life5 ∷ life6 ∷ life7 ∷ life8 ∷ Row.alive ∷ Row.alive ∷
-              Row.off ∷ Row.off ∷ Row.off ∷ List.[];
+          locals = List._++_ t10 t1;
+          slots = life0 ∷ life1 ∷ life2 ∷ life3 ∷ life4 ∷ life5 ∷ life6 ∷ life7 ∷ life8 ∷ Row.off ∷ Row.off ∷ Row.off ∷
+              Row.off ∷ Row.off ∷ List.[];
         }
 
         abbrev G17 : Row.Cx
         G17 = record {
-          locals = List._++_ g10 t12;
-          slots = Row.off ∷ Row.off ∷ life2 ∷ life3 ∷ life4 ∷ life5 ∷ life6 ∷ life7 ∷ life8 ∷ Row.alive ∷ Row.alive ∷
-              Row.off ∷ Row.off ∷ Row.off ∷ List.[];
+          locals = List._++_ t11 t1;
+          slots = life0 ∷ life1 ∷ life2 ∷ life3 ∷ life4 ∷ life5 ∷ life6 ∷ life7 ∷ life8 ∷ Row.off ∷ Row.off ∷ Row.off ∷
+              Row.off ∷ Row.off ∷ List.[];
         }
 
         abbrev G18 : Row.Cx
         G18 = record {
-          locals = List._++_ g10 t12;
-          slots = Row.off ∷ Row.off ∷ life2 ∷ life3 ∷ life4 ∷ life5 ∷ life6 ∷ life7 ∷ life8 ∷ Row.alive ∷ Row.alive ∷
-              Row.alive ∷ Row.off ∷ Row.off ∷ List.[];
+          locals = List._++_ t11 t1;
+          slots = life0 ∷ life1 ∷ life2 ∷ life3 ∷ life4 ∷ life5 ∷ life6 ∷ life7 ∷ life8 ∷ Row.alive ∷ Row.off ∷ Row.off
+              ∷ Row.off ∷ Row.off ∷ List.[];
         }
 
         abbrev G19 : Row.Cx
         G19 = record {
-          locals = List._++_ g13 t14;
-          slots = Row.off ∷ Row.off ∷ Row.off ∷ life3 ∷ life4 ∷ life5 ∷ life6 ∷ life7 ∷ life8 ∷ Row.alive ∷ Row.alive ∷
-              Row.alive ∷ Row.off ∷ Row.off ∷ List.[];
+          locals = List._++_ g12 t13;
+          slots = Row.off ∷ life1 ∷ life2 ∷ life3 ∷ life4 ∷ life5 ∷ life6 ∷ life7 ∷ life8 ∷ Row.alive ∷ Row.off ∷
+              Row.off ∷ Row.off ∷ Row.off ∷ List.[];
         }
 
         abbrev G20 : Row.Cx
         G20 = record {
-          locals = List._++_ g13 t15;
-          slots = Row.off ∷ Row.off ∷ Row.off ∷ life3 ∷ life4 ∷ life5 ∷ life6 ∷ life7 ∷ life8 ∷ Row.alive ∷ Row.alive ∷
-              Row.alive ∷ Row.off ∷ Row.off ∷ List.[];
+          locals = List._++_ g12 t14;
+          slots = Row.off ∷ life1 ∷ life2 ∷ life3 ∷ life4 ∷ life5 ∷ life6 ∷ life7 ∷ life8 ∷ Row.alive ∷ Row.off ∷
+              Row.off ∷ Row.off ∷ Row.off ∷ List.[];
         }
 
         abbrev G21 : Row.Cx
         G21 = record {
-          locals = List._++_ g13 t15;
-          slots = Row.off ∷ Row.off ∷ Row.off ∷ life3 ∷ life4 ∷ life5 ∷ life6 ∷ life7 ∷ life8 ∷ Row.alive ∷ Row.alive ∷
-              Row.alive ∷ Row.alive ∷ Row.off ∷ List.[];
+          locals = List._++_ g12 t14;
+          slots = Row.off ∷ life1 ∷ life2 ∷ life3 ∷ life4 ∷ life5 ∷ life6 ∷ life7 ∷ life8 ∷ Row.alive ∷ Row.alive ∷
+              Row.off ∷ Row.off ∷ Row.off ∷ List.[];
         }
 
         abbrev G22 : Row.Cx
         G22 = record {
-          locals = List._++_ g16 t17;
-          slots = Row.off ∷ Row.off ∷ Row.off ∷ Row.off ∷ life4 ∷ life5 ∷ life6 ∷ life7 ∷ life8 ∷ Row.alive ∷ Row.alive
-              ∷ Row.alive ∷ Row.alive ∷ Row.off ∷ List.[];
+          locals = List._++_ g15 t16;
+          slots = Row.off ∷ Row.off ∷ life2 ∷ life3 ∷ life4 ∷ life5 ∷ life6 ∷ life7 ∷ life8 ∷ Row.alive ∷ Row.alive ∷
+              Row.off ∷ Row.off ∷ Row.off ∷ List.[];
         }
 
         abbrev G23 : Row.Cx
         G23 = record {
-          locals = List._++_ g16 t18;
-          slots = Row.off ∷ Row.off ∷ Row.off ∷ Row.off ∷ life4 ∷ life5 ∷ life6 ∷ life7 ∷ life8 ∷ Row.alive ∷ Row.alive
-              ∷ Row.alive ∷ Row.alive ∷ Row.off ∷ List.[];
+          locals = List._++_ g15 t17;
+          slots = Row.off ∷ Row.off ∷ life2 ∷ life3 ∷ life4 ∷ life5 ∷ life6 ∷ life7 ∷ life8 ∷ Row.alive ∷ Row.alive ∷
+              Row.off ∷ Row.off ∷ Row.off ∷ List.[];
         }
 
         abbrev G24 : Row.Cx
         G24 = record {
-          locals = List._++_ g16 t18;
-          slots = Row.off ∷ Row.off ∷ Row.off ∷ Row.off ∷ life4 ∷ life5 ∷ life6 ∷ life7 ∷ life8 ∷ Row.alive ∷ Row.alive
-              ∷ Row.alive ∷ Row.alive ∷ Row.alive ∷ List.[];
+          locals = List._++_ g15 t17;
+          slots = Row.off ∷ Row.off ∷ life2 ∷ life3 ∷ life4 ∷ life5 ∷ life6 ∷ life7 ∷ life8 ∷ Row.alive ∷ Row.alive ∷
+              Row.alive ∷ Row.off ∷ Row.off ∷ List.[];
         }
 
         abbrev G25 : Row.Cx
         G25 = record {
-          locals = List._++_ g19 t20;
-          slots = Row.off ∷ Row.off ∷ Row.off ∷ Row.off ∷ Row.off ∷ life5 ∷ life6 ∷ life7 ∷ life8 ∷ Row.alive ∷
-              Row.alive ∷ Row.alive ∷ Row.alive ∷ Row.alive ∷ List.[];
+          locals = List._++_ g18 t19;
+          slots = Row.off ∷ Row.off ∷ Row.off ∷ life3 ∷ life4 ∷ life5 ∷ life6 ∷ life7 ∷ life8 ∷ Row.alive ∷ Row.alive ∷
+              Row.alive ∷ Row.off ∷ Row.off ∷ List.[];
         }
 
         abbrev G26 : Row.Cx
         G26 = record {
-          locals = List._++_ g19 t21;
-          slots = Row.off ∷ Row.off ∷ Row.off ∷ Row.off ∷ Row.off ∷ life5 ∷ life6 ∷ life7 ∷ life8 ∷ Row.alive ∷
-              Row.alive ∷ Row.alive ∷ Row.alive ∷ Row.alive ∷ List.[];
+          locals = List._++_ g18 t20;
+          slots = Row.off ∷ Row.off ∷ Row.off ∷ life3 ∷ life4 ∷ life5 ∷ life6 ∷ life7 ∷ life8 ∷ Row.alive ∷ Row.alive ∷
+              Row.alive ∷ Row.off ∷ Row.off ∷ List.[];
         }
 
         abbrev G27 : Row.Cx
         G27 = record {
-          locals = List._++_ g22 t23;
-          slots = Row.off ∷ Row.off ∷ Row.off ∷ Row.off ∷ Row.off ∷ life5 ∷ life6 ∷ life7 ∷ life8 ∷ Row.alive ∷
-              Row.alive ∷ Row.alive ∷ Row.alive ∷ Row.alive ∷ List.[];
+          locals = List._++_ g18 t20;
+          slots = Row.off ∷ Row.off ∷ Row.off ∷ life3 ∷ life4 ∷ life5 ∷ life6 ∷ life7 ∷ life8 ∷ Row.alive ∷ Row.alive ∷
+              Row.alive ∷ Row.alive ∷ Row.off ∷ List.[];
         }
 
         abbrev G28 : Row.Cx
         G28 = record {
-          locals = List._++_ g24 t23;
-          slots = Row.off ∷ Row.off ∷ Row.off ∷ Row.off ∷ Row.off ∷ life5 ∷ life6 ∷ life7 ∷ life8 ∷ Row.alive ∷
-              Row.alive ∷ Row.alive ∷ Row.alive ∷ Row.alive ∷ List.[];
+          locals = List._++_ g21 t22;
+          slots = Row.off ∷ Row.off ∷ Row.off ∷ Row.off ∷ life4 ∷ life5 ∷ life6 ∷ life7 ∷ life8 ∷ Row.alive ∷ Row.alive
+              ∷ Row.alive ∷ Row.alive ∷ Row.off ∷ List.[];
         }
 
         abbrev G29 : Row.Cx
         G29 = record {
-          locals = List._++_ g25 t23;
-          slots = Row.off ∷ Row.off ∷ Row.off ∷ Row.off ∷ Row.off ∷ life5 ∷ life6 ∷ life7 ∷ life8 ∷ Row.alive ∷
-              Row.alive ∷ Row.alive ∷ Row.alive ∷ Row.alive ∷ List.[];
+          locals = List._++_ g21 t23;
+          slots = Row.off ∷ Row.off ∷ Row.off ∷ Row.off ∷ life4 ∷ life5 ∷ life6 ∷ life7 ∷ life8 ∷ Row.alive ∷ Row.alive
+              ∷ Row.alive ∷ Row.alive ∷ Row.off ∷ List.[];
         }
 
         abbrev G30 : Row.Cx
         G30 = record {
-          locals = List._++_ g26 t23;
-          slots = Row.off ∷ Row.off ∷ Row.off ∷ Row.off ∷ Row.off ∷ life5 ∷ life6 ∷ life7 ∷ life8 ∷ Row.alive ∷
-              Row.alive ∷ Row.alive ∷ Row.alive ∷ Row.alive ∷ List.[];
+          locals = List._++_ g21 t23;
+          slots = Row.off ∷ Row.off ∷ Row.off ∷ Row.off ∷ life4 ∷ life5 ∷ life6 ∷ life7 ∷ life8 ∷ Row.alive ∷ Row.alive
+              ∷ Row.alive ∷ Row.alive ∷ Row.alive ∷ List.[];
         }
 
         abbrev G31 : Row.Cx
         G31 = record {
-          locals = List._++_ g26 t23;
-          slots = Row.off ∷ Row.off ∷ Row.off ∷ Row.off ∷ Row.off ∷ life5 ∷ life6 ∷ life7 ∷ life8 ∷ Row.dead ∷
+          locals = List._++_ g24 t25;
+          slots = Row.off ∷ Row.off ∷ Row.off ∷ Row.off ∷ Row.off ∷ life5 ∷ life6 ∷ life7 ∷ life8 ∷ Row.alive ∷
               Row.alive ∷ Row.alive ∷ Row.alive ∷ Row.alive ∷ List.[];
         }
 
         abbrev G32 : Row.Cx
         G32 = record {
-          locals = List._++_ g27 t28;
-          slots = life0 ∷ Row.off ∷ Row.off ∷ Row.off ∷ Row.off ∷ life5 ∷ life6 ∷ life7 ∷ life8 ∷ Row.dead ∷ Row.alive
-              ∷ Row.alive ∷ Row.alive ∷ Row.alive ∷ List.[];
+          locals = List._++_ g24 t26;
+          slots = Row.off ∷ Row.off ∷ Row.off ∷ Row.off ∷ Row.off ∷ life5 ∷ life6 ∷ life7 ∷ life8 ∷ Row.alive ∷
+              Row.alive ∷ Row.alive ∷ Row.alive ∷ Row.alive ∷ List.[];
         }
 
         abbrev G33 : Row.Cx
         G33 = record {
-          locals = List._++_ g27 t28;
-          slots = life0 ∷ Row.off ∷ Row.off ∷ Row.off ∷ Row.off ∷ life5 ∷ life6 ∷ life7 ∷ life8 ∷ Row.off ∷ Row.alive ∷
-              Row.alive ∷ Row.alive ∷ Row.alive ∷ List.[];
+          locals = List._++_ g27 t26;
+          slots = Row.off ∷ Row.off ∷ Row.off ∷ Row.off ∷ Row.off ∷ life5 ∷ life6 ∷ life7 ∷ life8 ∷ Row.alive ∷
+              Row.alive ∷ Row.alive ∷ Row.alive ∷ Row.alive ∷ List.[];
         }
 
         abbrev G34 : Row.Cx
         G34 = record {
-          locals = List._++_ g27 t28;
-          slots = life0 ∷ Row.off ∷ Row.off ∷ Row.off ∷ Row.off ∷ life5 ∷ life6 ∷ life7 ∷ life8 ∷ Row.off ∷ Row.dead ∷
-              Row.alive ∷ Row.alive ∷ Row.alive ∷ List.[];
+          locals = List._++_ g28 t29;
+          slots = Row.off ∷ Row.off ∷ Row.off ∷ Row.off ∷ Row.off ∷ life5 ∷ life6 ∷ life7 ∷ life8 ∷ Row.alive ∷
+              Row.alive ∷ Row.alive ∷ Row.alive ∷ Row.alive ∷ List.[];
         }
 
         abbrev G35 : Row.Cx
         G35 = record {
-          locals = List._++_ g29 t30;
-          slots = life0 ∷ life1 ∷ Row.off ∷ Row.off ∷ Row.off ∷ life5 ∷ life6 ∷ life7 ∷ life8 ∷ Row.off ∷ Row.dead ∷
-              Row.alive ∷ Row.alive ∷ Row.alive ∷ List.[];
+          locals = List._++_ g30 t29;
+          slots = Row.off ∷ Row.off ∷ Row.off ∷ Row.off ∷ Row.off ∷ life5 ∷ life6 ∷ life7 ∷ life8 ∷ Row.alive ∷
+              Row.alive ∷ Row.alive ∷ Row.alive ∷ Row.alive ∷ List.[];
         }
 
         abbrev G36 : Row.Cx
         G36 = record {
-          locals = List._++_ g29 t30;
-          slots = life0 ∷ life1 ∷ Row.off ∷ Row.off ∷ Row.off ∷ life5 ∷ life6 ∷ life7 ∷ life8 ∷ Row.off ∷ Row.off ∷
-              Row.alive ∷ Row.alive ∷ Row.alive ∷ List.[];
+          locals = List._++_ g30 t29;
+          slots = Row.off ∷ Row.off ∷ Row.off ∷ Row.off ∷ Row.off ∷ life5 ∷ life6 ∷ life7 ∷ life8 ∷ Row.dead ∷
+              Row.alive ∷ Row.alive ∷ Row.alive ∷ Row.alive ∷ List.[];
         }
 
         abbrev G37 : Row.Cx
         G37 = record {
-          locals = List._++_ g29 t30;
-          slots = life0 ∷ life1 ∷ Row.off ∷ Row.off ∷ Row.off ∷ life5 ∷ life6 ∷ life7 ∷ life8 ∷ Row.off ∷ Row.off ∷
-              Row.dead ∷ Row.alive ∷ Row.alive ∷ List.[];
+          locals = List._++_ g31 t32;
+          slots = life0 ∷ Row.off ∷ Row.off ∷ Row.off ∷ Row.off ∷ life5 ∷ life6 ∷ life7 ∷ life8 ∷ Row.dead ∷ Row.alive
+              ∷ Row.alive ∷ Row.alive ∷ Row.alive ∷ List.[];
         }
 
         abbrev G38 : Row.Cx
         G38 = record {
           locals = List._++_ g31 t32;
-          slots = life0 ∷ life1 ∷ life2 ∷ Row.off ∷ Row.off ∷ life5 ∷ life6 ∷ life7 ∷ life8 ∷ Row.off ∷ Row.off ∷
-              Row.dead ∷ Row.alive ∷ Row.alive ∷ List.[];
+          slots = life0 ∷ Row.off ∷ Row.off ∷ Row.off ∷ Row.off ∷ life5 ∷ life6 ∷ life7 ∷ life8 ∷ Row.off ∷ Row.alive ∷
+              Row.alive ∷ Row.alive ∷ Row.alive ∷ List.[];
         }
 
         abbrev G39 : Row.Cx
         G39 = record {
           locals = List._++_ g31 t32;
-          slots = life0 ∷ life1 ∷ life2 ∷ Row.off ∷ Row.off ∷ life5 ∷ life6 ∷ life7 ∷ life8 ∷ Row.off ∷ Row.off ∷
-              Row.off ∷ Row.alive ∷ Row.alive ∷ List.[];
+          slots = life0 ∷ Row.off ∷ Row.off ∷ Row.off ∷ Row.off ∷ life5 ∷ life6 ∷ life7 ∷ life8 ∷ Row.off ∷ Row.dead ∷
+              Row.alive ∷ Row.alive ∷ Row.alive ∷ List.[];
         }
 
         abbrev G40 : Row.Cx
         G40 = record {
-          locals = List._++_ g31 t32;
-          slots = life0 ∷ life1 ∷ life2 ∷ Row.off ∷ Row.off ∷ life5 ∷ life6 ∷ life7 ∷ life8 ∷ Row.off ∷ Row.off ∷
-              Row.off ∷ Row.dead ∷ Row.alive ∷ List.[];
+          locals = List._++_ g33 t34;
+          slots = life0 ∷ life1 ∷ Row.off ∷ Row.off ∷ Row.off ∷ life5 ∷ life6 ∷ life7 ∷ life8 ∷ Row.off ∷ Row.dead ∷
+              Row.alive ∷ Row.alive ∷ Row.alive ∷ List.[];
         }
 
         abbrev G41 : Row.Cx
         G41 = record {
           locals = List._++_ g33 t34;
-          slots = life0 ∷ life1 ∷ life2 ∷ life3 ∷ Row.off ∷ life5 ∷ life6 ∷ life7 ∷ life8 ∷ Row.off ∷ Row.off ∷ Row.off
-              ∷ Row.dead ∷ Row.alive ∷ List.[];
+          slots = life0 ∷ life1 ∷ Row.off ∷ Row.off ∷ Row.off ∷ life5 ∷ life6 ∷ life7 ∷ life8 ∷ Row.off ∷ Row.off ∷
+              Row.alive ∷ Row.alive ∷ Row.alive ∷ List.[];
         }
 
         abbrev G42 : Row.Cx
         G42 = record {
           locals = List._++_ g33 t34;
-          slots = life0 ∷ life1 ∷ life2 ∷ life3 ∷ Row.off ∷ life5 ∷ life6 ∷ life7 ∷ life8 ∷ Row.off ∷ Row.off ∷ Row.off
-              ∷ Row.off ∷ Row.alive ∷ List.[];
+          slots = life0 ∷ life1 ∷ Row.off ∷ Row.off ∷ Row.off ∷ life5 ∷ life6 ∷ life7 ∷ life8 ∷ Row.off ∷ Row.off ∷
+              Row.dead ∷ Row.alive ∷ Row.alive ∷ List.[];
         }
 
         abbrev G43 : Row.Cx
         G43 = record {
-          locals = List._++_ g33 t34;
-          slots = life0 ∷ life1 ∷ life2 ∷ life3 ∷ Row.off ∷ life5 ∷ life6 ∷ life7 ∷ life8 ∷ Row.off ∷ Row.off ∷ Row.off
-              ∷ Row.off ∷ Row.dead ∷ List.[];
+          locals = List._++_ g35 t36;
+          slots = life0 ∷ life1 ∷ life2 ∷ Row.off ∷ Row.off ∷ life5 ∷ life6 ∷ life7 ∷ life8 ∷ Row.off ∷ Row.off ∷
+              Row.dead ∷ Row.alive ∷ Row.alive ∷ List.[];
         }
 
         abbrev G44 : Row.Cx
         G44 = record {
-          locals = List._++_ t2 t1;
-          slots = life0 ∷ life1 ∷ life2 ∷ life3 ∷ life4 ∷ life5 ∷ life6 ∷ life7 ∷ life8 ∷ Row.off ∷ Row.off ∷ Row.off ∷
-              Row.off ∷ Row.dead ∷ List.[];
+          locals = List._++_ g35 t36;
+          slots = life0 ∷ life1 ∷ life2 ∷ Row.off ∷ Row.off ∷ life5 ∷ life6 ∷ life7 ∷ life8 ∷ Row.off ∷ Row.off ∷
+              Row.off ∷ Row.alive ∷ Row.alive ∷ List.[];
         }
 
         abbrev G45 : Row.Cx
         G45 = record {
+          locals = List._++_ g35 t36;
+          slots = life0 ∷ life1 ∷ life2 ∷ Row.off ∷ Row.off ∷ life5 ∷ life6 ∷ life7 ∷ life8 ∷ Row.off ∷ Row.off ∷
+              Row.off ∷ Row.dead ∷ Row.alive ∷ List.[];
+        }
+
+        abbrev G46 : Row.Cx
+        G46 = record {
+          locals = List._++_ g37 t38;
+          slots = life0 ∷ life1 ∷ life2 ∷ life3 ∷ Row.off ∷ life5 ∷ life6 ∷ life7 ∷ life8 ∷ Row.off ∷ Row.off ∷ Row.off
+              ∷ Row.dead ∷ Row.alive ∷ List.[];
+        }
+
+        abbrev G47 : Row.Cx
+        G47 = record {
+          locals = List._++_ g37 t38;
+          slots = life0 ∷ life1 ∷ life2 ∷ life3 ∷ Row.off ∷ life5 ∷ life6 ∷ life7 ∷ life8 ∷ Row.off ∷ Row.off ∷ Row.off
+              ∷ Row.off ∷ Row.alive ∷ List.[];
+        }
+
+        abbrev G48 : Row.Cx
+        G48 = record {
+          locals = List._++_ g37 t38;
+          slots = life0 ∷ life1 ∷ life2 ∷ life3 ∷ Row.off ∷ life5 ∷ life6 ∷ life7 ∷ life8 ∷ Row.off ∷ Row.off ∷ Row.off
+              ∷ Row.off ∷ Row.dead ∷ List.[];
+        }
+
+        abbrev G49 : Row.Cx
+        G49 = record {
           locals = List._++_ t2 t1;
           slots = life0 ∷ life1 ∷ life2 ∷ life3 ∷ life4 ∷ life5 ∷ life6 ∷ life7 ∷ life8 ∷ Row.off ∷ Row.off ∷ Row.off ∷
               Row.off ∷ Row.dead ∷ List.[];
         }
 
-        abbrev G46 : Row.Cx
-        G46 = record {
-          locals = List._++_ t2 t1;
-          slots = life0 ∷ life1 ∷ life2 ∷ life3 ∷ life4 ∷ life5 ∷ life6 ∷ life7 ∷ life8 ∷ Row.off ∷ Row.off ∷ Row.off ∷
-              Row.off ∷ Row.off ∷ List.[];
-        }
-
-        abbrev G47 : Row.Cx
-        G47 = record {
-          locals = List._++_ t35 t1;
-          slots = life0 ∷ life1 ∷ life2 ∷ life3 ∷ life4 ∷ life5 ∷ life6 ∷ life7 ∷ life8 ∷ Row.off ∷ Row.off ∷ Row.off ∷
-              Row.off ∷ Row.off ∷ List.[];
-        }
-
-        abbrev G48 : Row.Cx
-        G48 = record {
-          locals = List._++_ t5 t1;
-          slots = life0 ∷ life1 ∷ life2 ∷ life3 ∷ life4 ∷ life5 ∷ life6 ∷ life7 ∷ life8 ∷ Row.off ∷ Row.off ∷ Row.off ∷
-              Row.off ∷ Row.off ∷ List.[];
-        }
-
-        abbrev G49 : Row.Cx
-        G49 = record {
-          locals = List._++_ t36 t1;
-          slots = life0 ∷ life1 ∷ life2 ∷ life3 ∷ life4 ∷ life5 ∷ life6 ∷ life7 ∷ life8 ∷ Row.off ∷ Row.off ∷ Row.off ∷
-              Row.off ∷ Row.off ∷ List.[];
-        }
-
         abbrev G50 : Row.Cx
         G50 = record {
-          locals = List._++_ t37 t1;
+          locals = List._++_ t2 t1;
           slots = life0 ∷ life1 ∷ life2 ∷ life3 ∷ life4 ∷ life5 ∷ life6 ∷ life7 ∷ life8 ∷ Row.off ∷ Row.off ∷ Row.off ∷
-              Row.off ∷ Row.off ∷ List.[];
+              Row.off ∷ Row.dead ∷ List.[];
         }
 
         abbrev G51 : Row.Cx
         G51 = record {
-          locals = List._++_ t38 t1;
+          locals = List._++_ t2 t1;
           slots = life0 ∷ life1 ∷ life2 ∷ life3 ∷ life4 ∷ life5 ∷ life6 ∷ life7 ∷ life8 ∷ Row.off ∷ Row.off ∷ Row.off ∷
               Row.off ∷ Row.off ∷ List.[];
         }
 
         abbrev G52 : Row.Cx
         G52 = record {
+          locals = List._++_ t5 t4;
+          slots = life0 ∷ life1 ∷ life2 ∷ life3 ∷ life4 ∷ life5 ∷ life6 ∷ life7 ∷ life8 ∷ Row.off ∷ Row.off ∷ Row.off ∷
+              Row.off ∷ Row.off ∷ List.[];
+        }
+
+        abbrev G53 : Row.Cx
+        G53 = record {
+          locals = List._++_ t5 t1;
+          slots = life0 ∷ life1 ∷ life2 ∷ life3 ∷ life4 ∷ life5 ∷ life6 ∷ life7 ∷ life8 ∷ Row.off ∷ Row.off ∷ Row.off ∷
+              Row.off ∷ Row.off ∷ List.[];
+        }
+
+        abbrev G54 : Row.Cx
+        G54 = record {
+          locals = List._++_ t39 t1;
+          slots = life0 ∷ life1 ∷ life2 ∷ life3 ∷ life4 ∷ life5 ∷ life6 ∷ life7 ∷ life8 ∷ Row.off ∷ Row.off ∷ Row.off ∷
+              Row.off ∷ Row.off ∷ List.[];
+        }
+
+        abbrev G55 : Row.Cx
+        G55 = record {
+          locals = List._++_ t40 t1;
+          slots = life0 ∷ life1 ∷ life2 ∷ life3 ∷ life4 ∷ life5 ∷ life6 ∷ life7 ∷ life8 ∷ Row.off ∷ Row.off ∷ Row.off ∷
+              Row.off ∷ Row.off ∷ List.[];
+        }
+
+        abbrev G56 : Row.Cx
+        G56 = record {
+          locals = List._++_ t41 t1;
+          slots = life0 ∷ life1 ∷ life2 ∷ life3 ∷ life4 ∷ life5 ∷ life6 ∷ life7 ∷ life8 ∷ Row.off ∷ Row.off ∷ Row.off ∷
+              Row.off ∷ Row.off ∷ List.[];
+        }
+
+        abbrev G57 : Row.Cx
+        G57 = record {
           locals = List._++_ t2 t1;
           slots = life0 ∷ life1 ∷ life2 ∷ life3 ∷ life4 ∷ life5 ∷ life6 ∷ life7 ∷ life8 ∷ Row.off ∷ Row.off ∷ Row.off ∷
               Row.off ∷ Row.off ∷ List.[];
@@ -1517,119 +1642,102 @@ module _ (claims· : Claims) where
           abbrev E : Wp.Env 𝓤 H
           E = Frame.EnvOf 𝓤 H ((Kinds.tyR r) ∷ (Enter.tysP ps xs)) bs
 
-          d0 : Typed.Typed 𝓤 H A 𝓣 E G46 b13 Δ1 at0
+          d0 : Typed.Typed 𝓤 H A 𝓣 E G51 b15 Δ1 at0
           d0 = Typed.t-return 𝓤 H A W 𝓣 E Δ1 tt
 
-          d1 : Typed.Typed 𝓤 H A 𝓣 E G45 b13 Δ1 at1
-          d1 = Typed.g-pre 𝓤 H A W 𝓣 E G45 G46 b13 Δ1 (λ Ψ. Ψ) at0
-              (Lifetime.g-forget 𝓤 H A W E G45 13 Row.dead Path.refl) d0
+          d1 : Typed.Typed 𝓤 H A 𝓣 E G50 b15 Δ1 at1
+          d1 = Typed.g-pre 𝓤 H A W 𝓣 E G50 G51 b15 Δ1 (λ Ψ. Ψ) at0
+              (Lifetime.g-forget 𝓤 H A W E G50 13 Row.dead Path.refl) d0
 
-          d2 : Typed.Typed 𝓤 H A 𝓣 E G44 b13 Δ1 at2
-          d2 = Typed.g-pre 𝓤 H A W 𝓣 E G44 G45 b13 Δ1 (Typed.give s42) at1 (Know.g-sl-known 𝓤 H A W
-              (Referent.fInt Syntax.w32) E G44 5 4 ref9 life4 0 (λ x. x) record { fits = Dec.lit< tt } (Reads'.as-is 𝓤
+          d2 : Typed.Typed 𝓤 H A 𝓣 E G49 b15 Δ1 at2
+          d2 = Typed.g-pre 𝓤 H A W 𝓣 E G49 G50 b15 Δ1 (Typed.give s47) at1 (Know.g-sl-known 𝓤 H A W
+              (Referent.fInt Syntax.w32) E G49 5 4 ref9 life4 0 (λ x. x) record { fits = Dec.lit< tt } (Reads'.as-is 𝓤
               H A (Mut.mslice (Referent.rtF (Referent.fInt Syntax.w32)) ref9 4)) Path.refl tt) d1
 
-          d3 : Typed.Typed 𝓤 H A 𝓣 E G43 b13 Δ1 at3
-          d3 = Typed.g-pre 𝓤 H A W 𝓣 E G43 G44 b13 Δ1 (Typed.both s41) at2 (Relend.g-back-sl 𝓤 H A W E
-              (Referent.rtF (Referent.fInt Syntax.w32)) G43 24 5 4 13 ref9 ref4 life4 (λ x. x) (λ x. x) (Reads'.as-is 𝓤
+          d3 : Typed.Typed 𝓤 H A 𝓣 E G48 b15 Δ1 at3
+          d3 = Typed.g-pre 𝓤 H A W 𝓣 E G48 G49 b15 Δ1 (Typed.both s46) at2 (Relend.g-back-sl 𝓤 H A W E
+              (Referent.rtF (Referent.fInt Syntax.w32)) G48 26 5 4 13 ref9 ref4 life4 (λ x. x) (λ x. x) (Reads'.as-is 𝓤
               H A (Mut.msleft (Referent.rtF (Referent.fInt Syntax.w32)) ref4)) (Reads'.as-is 𝓤 H A (Relend.mslice-owed
               (Referent.rtF (Referent.fInt Syntax.w32)) ref9 4 13 life4)) Path.refl Path.refl) d2
 
-          d4 : Typed.Typed 𝓤 H A 𝓣 E G42 b13 Δ1 at4
-          d4 = Typed.g-pre 𝓤 H A W 𝓣 E G42 G43 b13 Δ1 (λ Ψ. Ψ) at3 (Lifetime.g-end 𝓤 H A W E G42 13 Path.refl) d3
+          d4 : Typed.Typed 𝓤 H A 𝓣 E G47 b15 Δ1 at4
+          d4 = Typed.g-pre 𝓤 H A W 𝓣 E G47 G48 b15 Δ1 (λ Ψ. Ψ) at3 (Lifetime.g-end 𝓤 H A W E G47 13 Path.refl) d3
 
-          d5 : Typed.Typed 𝓤 H A 𝓣 E G41 b13 Δ1 at5
-          d5 = Typed.g-pre 𝓤 H A W 𝓣 E G41 G42 b13 Δ1 (λ Ψ. Ψ) at4
-              (Lifetime.g-forget 𝓤 H A W E G41 12 Row.dead Path.refl) d4
+          d5 : Typed.Typed 𝓤 H A 𝓣 E G46 b15 Δ1 at5
+          d5 = Typed.g-pre 𝓤 H A W 𝓣 E G46 G47 b15 Δ1 (λ Ψ. Ψ) at4
+              (Lifetime.g-forget 𝓤 H A W E G46 12 Row.dead Path.refl) d4
 
-          d6 : Typed.Typed 𝓤 H A 𝓣 E G40 b13 Δ1 at6
-          d6 = Typed.g-pre 𝓤 H A W 𝓣 E G40 G41 b13 Δ1 (Typed.both s38) at5 (Relend.g-back-sl 𝓤 H A W E
-              InflightAction.row G40 22 4 3 12 ref8 ref3 life3 (λ x. x) (λ x. x)
+          d6 : Typed.Typed 𝓤 H A 𝓣 E G45 b15 Δ1 at6
+          d6 = Typed.g-pre 𝓤 H A W 𝓣 E G45 G46 b15 Δ1 (Typed.both s43) at5 (Relend.g-back-sl 𝓤 H A W E
+              InflightAction.row G45 24 4 3 12 ref8 ref3 life3 (λ x. x) (λ x. x)
               (Reads'.as-is 𝓤 H A (Mut.msleft InflightAction.row ref3)) (Reads'.as-is 𝓤 H A
               (Relend.mslice-owed InflightAction.row ref8 3 12 life3)) Path.refl Path.refl) d5
 
-          d7 : Typed.Typed 𝓤 H A 𝓣 E G39 b13 Δ1 at7
-          d7 = Typed.g-pre 𝓤 H A W 𝓣 E G39 G40 b13 Δ1 (λ Ψ. Ψ) at6 (Lifetime.g-end 𝓤 H A W E G39 12 Path.refl) d6
+          d7 : Typed.Typed 𝓤 H A 𝓣 E G44 b15 Δ1 at7
+          d7 = Typed.g-pre 𝓤 H A W 𝓣 E G44 G45 b15 Δ1 (λ Ψ. Ψ) at6 (Lifetime.g-end 𝓤 H A W E G44 12 Path.refl) d6
 
-          d8 : Typed.Typed 𝓤 H A 𝓣 E G38 b13 Δ1 at8
-          d8 = Typed.g-pre 𝓤 H A W 𝓣 E G38 G39 b13 Δ1 (λ Ψ. Ψ) at7
-              (Lifetime.g-forget 𝓤 H A W E G38 11 Row.dead Path.refl) d7
+          d8 : Typed.Typed 𝓤 H A 𝓣 E G43 b15 Δ1 at8
+          d8 = Typed.g-pre 𝓤 H A W 𝓣 E G43 G44 b15 Δ1 (λ Ψ. Ψ) at7
+              (Lifetime.g-forget 𝓤 H A W E G43 11 Row.dead Path.refl) d7
 
-          d9 : Typed.Typed 𝓤 H A 𝓣 E G37 b13 Δ1 at9
-          d9 = Typed.g-pre 𝓤 H A W 𝓣 E G37 G38 b13 Δ1 (Typed.both s35) at8 (Relend.g-back-sl 𝓤 H A W E
-              ReservationUsage.row G37 20 3 2 11 ref7 ref2 life2 (λ x. x) (λ x. x)
+          d9 : Typed.Typed 𝓤 H A 𝓣 E G42 b15 Δ1 at9
+          d9 = Typed.g-pre 𝓤 H A W 𝓣 E G42 G43 b15 Δ1 (Typed.both s40) at8 (Relend.g-back-sl 𝓤 H A W E
+              ReservationUsage.row G42 22 3 2 11 ref7 ref2 life2 (λ x. x) (λ x. x)
               (Reads'.as-is 𝓤 H A (Mut.msleft ReservationUsage.row ref2)) (Reads'.as-is 𝓤 H A
               (Relend.mslice-owed ReservationUsage.row ref7 2 11 life2)) Path.refl Path.refl) d8
 
-          d10 : Typed.Typed 𝓤 H A 𝓣 E G36 b13 Δ1 at10
-          d10 = Typed.g-pre 𝓤 H A W 𝓣 E G36 G37 b13 Δ1 (λ Ψ. Ψ) at9 (Lifetime.g-end 𝓤 H A W E G36 11 Path.refl) d9
+          d10 : Typed.Typed 𝓤 H A 𝓣 E G41 b15 Δ1 at10
+          d10 = Typed.g-pre 𝓤 H A W 𝓣 E G41 G42 b15 Δ1 (λ Ψ. Ψ) at9 (Lifetime.g-end 𝓤 H A W E G41 11 Path.refl) d9
 
-          d11 : Typed.Typed 𝓤 H A 𝓣 E G35 b13 Δ1 at11
-          d11 = Typed.g-pre 𝓤 H A W 𝓣 E G35 G36 b13 Δ1 (λ Ψ. Ψ) at10
-              (Lifetime.g-forget 𝓤 H A W E G35 10 Row.dead Path.refl) d10
+          d11 : Typed.Typed 𝓤 H A 𝓣 E G40 b15 Δ1 at11
+          d11 = Typed.g-pre 𝓤 H A W 𝓣 E G40 G41 b15 Δ1 (λ Ψ. Ψ) at10
+              (Lifetime.g-forget 𝓤 H A W E G40 10 Row.dead Path.refl) d10
 
-          d12 : Typed.Typed 𝓤 H A 𝓣 E G34 b13 Δ1 at12
-          d12 = Typed.g-pre 𝓤 H A W 𝓣 E G34 G35 b13 Δ1 (Typed.both s32) at11 (Relend.g-back-sl 𝓤 H A W E
-              RelayCircuit.row G34 18 2 1 10 ref6 ref1 life1 (λ x. x) (λ x. x)
+          d12 : Typed.Typed 𝓤 H A 𝓣 E G39 b15 Δ1 at12
+          d12 = Typed.g-pre 𝓤 H A W 𝓣 E G39 G40 b15 Δ1 (Typed.both s37) at11 (Relend.g-back-sl 𝓤 H A W E
+              RelayCircuit.row G39 20 2 1 10 ref6 ref1 life1 (λ x. x) (λ x. x)
               (Reads'.as-is 𝓤 H A (Mut.msleft RelayCircuit.row ref1)) (Reads'.as-is 𝓤 H A
               (Relend.mslice-owed RelayCircuit.row ref6 1 10 life1)) Path.refl Path.refl) d11
 
-          d13 : Typed.Typed 𝓤 H A 𝓣 E G33 b13 Δ1 at13
-          d13 = Typed.g-pre 𝓤 H A W 𝓣 E G33 G34 b13 Δ1 (λ Ψ. Ψ) at12 (Lifetime.g-end 𝓤 H A W E G33 10 Path.refl) d12
+          d13 : Typed.Typed 𝓤 H A 𝓣 E G38 b15 Δ1 at13
+          d13 = Typed.g-pre 𝓤 H A W 𝓣 E G38 G39 b15 Δ1 (λ Ψ. Ψ) at12 (Lifetime.g-end 𝓤 H A W E G38 10 Path.refl) d12
 
-          d14 : Typed.Typed 𝓤 H A 𝓣 E G32 b13 Δ1 at14
-          d14 = Typed.g-pre 𝓤 H A W 𝓣 E G32 G33 b13 Δ1 (λ Ψ. Ψ) at13
-              (Lifetime.g-forget 𝓤 H A W E G32 9 Row.dead Path.refl) d13
+          d14 : Typed.Typed 𝓤 H A 𝓣 E G37 b15 Δ1 at14
+          d14 = Typed.g-pre 𝓤 H A W 𝓣 E G37 G38 b15 Δ1 (λ Ψ. Ψ) at13
+              (Lifetime.g-forget 𝓤 H A W E G37 9 Row.dead Path.refl) d13
 
-          d15 : Typed.Typed 𝓤 H A 𝓣 E G31 b13 Δ1 at15
-          d15 = Typed.g-pre 𝓤 H A W 𝓣 E G31 G32 b13 Δ1 (Typed.both s29) at14 (Relend.g-back-sl 𝓤 H A W E
-              RelayPending.row G31 16 1 0 9 ref5 ref0 life0 (λ x. x) (λ x. x)
+          d15 : Typed.Typed 𝓤 H A 𝓣 E G36 b15 Δ1 at15
+          d15 = Typed.g-pre 𝓤 H A W 𝓣 E G36 G37 b15 Δ1 (Typed.both s34) at14 (Relend.g-back-sl 𝓤 H A W E
+              RelayPending.row G36 18 1 0 9 ref5 ref0 life0 (λ x. x) (λ x. x)
               (Reads'.as-is 𝓤 H A (Mut.msleft RelayPending.row ref0)) (Reads'.as-is 𝓤 H A
               (Relend.mslice-owed RelayPending.row ref5 0 9 life0)) Path.refl Path.refl) d14
 
-          d16 : Typed.Typed 𝓤 H A 𝓣 E G30 b13 Δ1 at16
-          d16 = Typed.g-pre 𝓤 H A W 𝓣 E G30 G31 b13 Δ1 (λ Ψ. Ψ) at15 (Lifetime.g-end 𝓤 H A W E G30 9 Path.refl) d15
+          d16 : Typed.Typed 𝓤 H A 𝓣 E G35 b15 Δ1 at16
+          d16 = Typed.g-pre 𝓤 H A W 𝓣 E G35 G36 b15 Δ1 (λ Ψ. Ψ) at15 (Lifetime.g-end 𝓤 H A W E G35 9 Path.refl) d15
 
-          d17 : Typed.Typed 𝓤 H A 𝓣 E G29 b13 Δ1 at17
-          d17 = Typed.g-pre 𝓤 H A W 𝓣 E G29 G30 b13 Δ1 (Typed.pass T29 T30 s27) at16 (Scalar.g-room 𝓤 H A W E G29 8
-              Laws''.mir (Local.room-whole 𝓤 H A W (Declared'.row RelayPacket.the-type) Laws''.mir Path.refl)) d16
+          d17 : Typed.Typed 𝓤 H A 𝓣 E G34 b15 Δ1 at17
+          d17 = Typed.g-pre 𝓤 H A W 𝓣 E G34 G35 b15 Δ1 (Typed.pass T34 T35 s32) at16 (Scalar.g-room 𝓤 H A W E G34 15
+              Laws'''''.mir (Local.room-whole 𝓤 H A W (Declared'.row Request.the-type) Laws'''''.mir Path.refl)) d16
 
-          d18 : Typed.Typed 𝓤 H A 𝓣 E G28 b13 Δ1 at18
-          d18 = Typed.g-pre 𝓤 H A W 𝓣 E G28 G29 b13 Δ1 (Typed.pass T28 T29 s26) at17 (Scalar.g-room 𝓤 H A W E G28 7
-              Laws''''.mir (Local.room-whole 𝓤 H A W (Declared'.row Places.the-type) Laws''''.mir Path.refl)) d17
-
-          d19 : Typed.Typed 𝓤 H A 𝓣 E G27 b13 Δ1 at19
-          d19 = Typed.g-pre 𝓤 H A W 𝓣 E G27 G28 b13 Δ1 (Typed.pass T27 T28 s25) at18 (Scalar.g-room 𝓤 H A W E G27 6
-              Laws'.mir (Local.room-whole 𝓤 H A W (Declared'.row OpaqueRelayRuntime.the-type) Laws'.mir Path.refl)) d18
-
-          d20 : Typed.Typed 𝓤 H A 𝓣 E G26 b14 Δ1 at20
-          d20 = Typed.s-seq 𝓤 H A W 𝓣 E G26 G27 b12 b13 Δ1 (Typed.both s24) at19 (Plain.t-call-plain 𝓤 H A W 𝓣 9 ps·2
-              r·2 (claims· .4) (claims· .5) "hnsr_circuit::calls::handle::dispatch" (known .2) E (λ pos β. β) G26 (
-                record { pos = 16; ty = ref0; ref = λ x. x },
+          d18 : Typed.Typed 𝓤 H A 𝓣 E G33 b16 Δ1 at18
+          d18 = Typed.s-seq 𝓤 H A W 𝓣 E G33 G34 b14 b15 Δ1 (Typed.both s31) at17 (Plain.t-call-plain 𝓤 H A W 𝓣 8 ps·3
+              r·3 (claims· .6) (claims· .7) "hnsr_circuit::calls::handle::dispatch" (known .3) E (λ pos β. β) G33 (
+                record { pos = 18; ty = ref0; ref = λ x. x },
                 (
-                  record { pos = 18; ty = ref1; ref = λ x. x },
+                  record { pos = 20; ty = ref1; ref = λ x. x },
                   (
-                    record { pos = 20; ty = ref2; ref = λ x. x },
+                    record { pos = 22; ty = ref2; ref = λ x. x },
                     (
-                      record { pos = 22; ty = ref3; ref = λ x. x },
+                      record { pos = 24; ty = ref3; ref = λ x. x },
                       (
-                        record { pos = 24; ty = ref4; ref = λ x. x },
+                        record { pos = 26; ty = ref4; ref = λ x. x },
                         (
-                          record { pos = 6; st = List.[]; d = 0; at = λ x. x },
+                          record { pos = 15; st = List.[]; d = 0; at = λ x. x },
                           (
-                            record { pos = 7; st = List.[]; d = 0; at = λ x. x },
+                            record { pos = 10; ty = ref11; ref = λ x. x },
                             (
-                              record { pos = 8; st = List.[]; d = 0; at = λ x. x },
-                              (
-                                record { pos = 9; ty = ref10; ref = λ x. x },
-                                (
-                                  record { pos = 10; ty = ref11; ref = λ x. x },
-                                  (
-                                    record { pos = 11; ty = ref12; ref = λ x. x },
-                                    (record { pos = 12; ty = ref13; ref = λ x. x }, tt),
-                                  ),
-                                ),
-                              ),
+                              record { pos = 11; ty = ref12; ref = λ x. x },
+                              (record { pos = 12; ty = ref13; ref = λ x. x }, tt),
                             ),
                           ),
                         ),
@@ -1637,7 +1745,7 @@ module _ (claims· : Claims) where
                     ),
                   ),
                 ),
-              ) 0 (9 ∷ 10 ∷ 11 ∷ 12 ∷ 13 ∷ 5 ∷ 6 ∷ 7 ∷ 8 ∷ List.[]) (Call.sub-id 𝓤 H A W (G26 .slots)) (
+              ) 0 (9 ∷ 10 ∷ 11 ∷ 12 ∷ 13 ∷ 6 ∷ 7 ∷ 8 ∷ List.[]) (Call.sub-id 𝓤 H A W (G33 .slots)) (
                 Reads'.as-is 𝓤 H A (Mut.mslice RelayPending.row ref0 9),
                 Mut.reads-mslice 𝓤 H A W RelayPending.row ref0 9,
                 Path.refl,
@@ -1659,51 +1767,26 @@ module _ (claims· : Claims) where
                         Path.refl,
                         (
                           (
-                            Yields.yields-copy 𝓤 H A W (λ ρ. Unit) (Declared'.row OpaqueRelayRuntime.the-type)
-                                Path.refl (Copies.cStruct OpaqueRelayRuntime.the-type Laws'.the-laws Laws'.the-copy
-                                .copy 𝓤 H A W) (Rows.whole (Declared'.row OpaqueRelayRuntime.the-type)) (λ x. x)
-                                (λ x. x) (λ ρ told. Local.mem-whole 𝓤 H A W (Declared'.row OpaqueRelayRuntime.the-type)
-                                ρ) λ ρ told. Local.whole-mem 𝓤 H A W (Declared'.row OpaqueRelayRuntime.the-type) ρ,
+                            Yields.yields-copy 𝓤 H A W (λ ρ. Unit) (Declared'.row Request.the-type) Path.refl (Copies.cStruct
+                                Request.the-type Laws'''''.the-laws Laws'''''.the-copy .copy 𝓤 H A W)
+                                (Rows.whole (Declared'.row Request.the-type)) (λ x. x) (λ x. x) (λ ρ told.
+                                Local.mem-whole 𝓤 H A W (Declared'.row Request.the-type) ρ) λ ρ told. Local.whole-mem 𝓤
+                                H A W (Declared'.row Request.the-type) ρ,
                             Path.refl,
                           ),
                           (
+                            ShrSlice.spares-sslice 𝓤 H A W (Referent.rtF (Referent.fInt Syntax.w8)) ref11 6,
+                            Shared.reads-sslice 𝓤 H A W (Referent.rtF (Referent.fInt Syntax.w8)) ref11 6,
+                            Path.refl,
                             (
-                              Yields.yields-copy 𝓤 H A W (λ ρ. Unit) (Declared'.row Places.the-type) Path.refl (Copies.cStruct
-                                  Places.the-type Laws''''.the-laws Laws''''.the-copy .copy 𝓤 H A W)
-                                  (Rows.whole (Declared'.row Places.the-type)) (λ x. x) (λ x. x) (λ ρ told.
-                                  Local.mem-whole 𝓤 H A W (Declared'.row Places.the-type) ρ) λ ρ told. Local.whole-mem
-                                  𝓤 H A W (Declared'.row Places.the-type) ρ,
+                              ShrSlice.spares-sslice 𝓤 H A W (Referent.rtF (Referent.fInt Syntax.w8)) ref12 7,
+                              Shared.reads-sslice 𝓤 H A W (Referent.rtF (Referent.fInt Syntax.w8)) ref12 7,
                               Path.refl,
-                            ),
-                            (
                               (
-                                Yields.yields-copy 𝓤 H A W (λ ρ. Unit) (Declared'.row RelayPacket.the-type) Path.refl (Copies.cStruct
-                                    RelayPacket.the-type Laws''.the-laws Laws''.the-copy .copy 𝓤 H A W)
-                                    (Rows.whole (Declared'.row RelayPacket.the-type)) (λ x. x) (λ x. x) (λ ρ told.
-                                    Local.mem-whole 𝓤 H A W (Declared'.row RelayPacket.the-type) ρ) λ ρ told.
-                                    Local.whole-mem 𝓤 H A W (Declared'.row RelayPacket.the-type) ρ,
+                                ShrSlice.spares-sslice 𝓤 H A W (Referent.rtF (Referent.fInt Syntax.w8)) ref13 8,
+                                Shared.reads-sslice 𝓤 H A W (Referent.rtF (Referent.fInt Syntax.w8)) ref13 8,
                                 Path.refl,
-                              ),
-                              (
-                                ShrSlice.spares-sslice 𝓤 H A W (Referent.rtF (Referent.fInt Syntax.w8)) ref10 5,
-                                Shared.reads-sslice 𝓤 H A W (Referent.rtF (Referent.fInt Syntax.w8)) ref10 5,
-                                Path.refl,
-                                (
-                                  ShrSlice.spares-sslice 𝓤 H A W (Referent.rtF (Referent.fInt Syntax.w8)) ref11 6,
-                                  Shared.reads-sslice 𝓤 H A W (Referent.rtF (Referent.fInt Syntax.w8)) ref11 6,
-                                  Path.refl,
-                                  (
-                                    ShrSlice.spares-sslice 𝓤 H A W (Referent.rtF (Referent.fInt Syntax.w8)) ref12 7,
-                                    Shared.reads-sslice 𝓤 H A W (Referent.rtF (Referent.fInt Syntax.w8)) ref12 7,
-                                    Path.refl,
-                                    (
-                                      ShrSlice.spares-sslice 𝓤 H A W (Referent.rtF (Referent.fInt Syntax.w8)) ref13 8,
-                                      Shared.reads-sslice 𝓤 H A W (Referent.rtF (Referent.fInt Syntax.w8)) ref13 8,
-                                      Path.refl,
-                                      tt,
-                                    ),
-                                  ),
-                                ),
+                                tt,
                               ),
                             ),
                           ),
@@ -1712,27 +1795,32 @@ module _ (claims· : Claims) where
                     ),
                   ),
                 ),
-              ) (Reads'.room-gone 𝓤 H A Laws'''.mir) (tt, (tt, (tt, (tt, (tt, (tt, (tt, (tt, (tt, tt))))))))) Path.refl)
-              d19
+              ) (Reads'.room-gone 𝓤 H A Laws''''.mir) (tt, (tt, (tt, (tt, (tt, (tt, (tt, (tt, tt)))))))) Path.refl) d17
 
-          d21 : Typed.Typed 𝓤 H A 𝓣 E G25 b15 Δ1 at21
-          d21 = Typed.s-seq 𝓤 H A W 𝓣 E G25 G26 b11 b14 Δ1 (Typed.ask s23) at20 (Relend.t-sl-aggregate 𝓤 H A W E
-              (Referent.rtF (Referent.fInt Syntax.w32)) 𝓣 (Relend.asMut (Referent.rtF (Referent.fInt Syntax.w32))) G25
-              23 24 13 ref4 ref4 (λ x. x) (Scalar.oFld 5 ((Syntax.field 1) ∷ List.[]) (Syntax.tyInt Syntax.w64) 8 λ v.
+          d19 : Typed.Typed 𝓤 H A 𝓣 E G32 b16 Δ1 at19
+          d19 = Typed.g-pre 𝓤 H A W 𝓣 E G32 G33 b16 Δ1 (Typed.pass T32 T33 s30) at18 (AtSlots.g-as-by 𝓤 H A W E
+              (λ ρ. Unit) G32 15 (Rows.whole (Declared'.row Request.the-type)) (λ v. Request.struct .make v tt)
+              (Own.told-none 𝓤 H A (G32 .slots)) λ ρ told v b. Apart.folds 𝓤 H A Request.the-type
+              (Request.struct .Ghost) (Request.struct .make) (λ v g. Path.refl) ρ v tt b) d18
+
+          d20 : Typed.Typed 𝓤 H A 𝓣 E G31 b17 Δ1 at20
+          d20 = Typed.s-seq 𝓤 H A W 𝓣 E G31 G32 b13 b16 Δ1 (Typed.ask s29) at19 (Relend.t-sl-aggregate 𝓤 H A W E
+              (Referent.rtF (Referent.fInt Syntax.w32)) 𝓣 (Relend.asMut (Referent.rtF (Referent.fInt Syntax.w32))) G31
+              25 26 13 ref4 ref4 (λ x. x) (Scalar.oFld 5 ((Syntax.field 1) ∷ List.[]) (Syntax.tyInt Syntax.w64) 8 λ v.
               Shared.lenV (v .0)) (Reads'.as-is 𝓤 H A (Relend.msptr (Referent.rtF (Referent.fInt Syntax.w32)) ref4 13))
               (Reads'.room-gone 𝓤 H A slice4) (
                 Relend.reads-owed-len 𝓤 H A W (Referent.rtF (Referent.fInt Syntax.w32)) ref9 4 13 life4 8 Path.refl,
                 Path.refl,
-              ) Path.refl Path.refl λ b o k. tt) d20
+              ) Path.refl Path.refl λ b o k. tt) d19
 
-          d22 : Typed.Typed 𝓤 H A 𝓣 E G24 b16 Δ1 at22
-          d22 = Typed.s-seq 𝓤 H A W 𝓣 E G24 G25 b10 b15 Δ1 (Typed.give s22) at21 (Relend.t-sl-relend 𝓤 H A W E
-              (Referent.rtF (Referent.fInt Syntax.w32)) 𝓣 G24 5 23 4 13 ref9 ref4 life4 0 (λ x. x) (Reads'.as-is 𝓤 H A (Mut.mslice
+          d21 : Typed.Typed 𝓤 H A 𝓣 E G30 b18 Δ1 at21
+          d21 = Typed.s-seq 𝓤 H A W 𝓣 E G30 G31 b12 b17 Δ1 (Typed.give s28) at20 (Relend.t-sl-relend 𝓤 H A W E
+              (Referent.rtF (Referent.fInt Syntax.w32)) 𝓣 G30 5 25 4 13 ref9 ref4 life4 0 (λ x. x) (Reads'.as-is 𝓤 H A (Mut.mslice
               (Referent.rtF (Referent.fInt Syntax.w32)) ref9 4)) (Reads'.room-gone 𝓤 H A ref4) Path.refl tt Path.refl
-              Path.refl Path.refl λ b o. tt) d21
+              Path.refl Path.refl λ b o. tt) d20
 
-          d23 : Typed.Typed 𝓤 H A 𝓣 E G23 b16 Δ1 at23
-          d23 = Typed.g-pre 𝓤 H A W 𝓣 E G23 G24 b16 Δ1 (λ Ψ. Ψ) at22 (Lifetime.g-begin 𝓤 H A W E G23 13 (
+          d22 : Typed.Typed 𝓤 H A 𝓣 E G29 b18 Δ1 at22
+          d22 = Typed.g-pre 𝓤 H A W 𝓣 E G29 G30 b18 Δ1 (λ Ψ. Ψ) at21 (Lifetime.g-begin 𝓤 H A W E G29 13 (
             tt,
             (
               (tt, tt),
@@ -1754,7 +1842,16 @@ module _ (claims· : Claims) where
                               tt,
                               (
                                 tt,
-                                (tt, (tt, (tt, (tt, (tt, (tt, (tt, (tt, (tt, (tt, (tt, (tt, (tt, (tt, tt)))))))))))))),
+                                (
+                                  tt,
+                                  (
+                                    tt,
+                                    (
+                                      tt,
+                                      (tt, (tt, (tt, (tt, (tt, (tt, (tt, (tt, (tt, (tt, (tt, (tt, (tt, tt))))))))))))),
+                                    ),
+                                  ),
+                                ),
                               ),
                             ),
                           ),
@@ -1765,25 +1862,25 @@ module _ (claims· : Claims) where
                 ),
               ),
             ),
-          )) d22
+          )) d21
 
-          d24 : Typed.Typed 𝓤 H A 𝓣 E G22 b17 Δ1 at24
-          d24 = Typed.s-seq 𝓤 H A W 𝓣 E G22 G23 b9 b16 Δ1 (Typed.ask s20) at23 (Relend.t-sl-aggregate 𝓤 H A W E
-              InflightAction.row 𝓣 (Relend.asMut InflightAction.row) G22 21 22 12 ref3 ref3 (λ x. x) (Scalar.oFld 4
+          d23 : Typed.Typed 𝓤 H A 𝓣 E G28 b19 Δ1 at23
+          d23 = Typed.s-seq 𝓤 H A W 𝓣 E G28 G29 b11 b18 Δ1 (Typed.ask s26) at22 (Relend.t-sl-aggregate 𝓤 H A W E
+              InflightAction.row 𝓣 (Relend.asMut InflightAction.row) G28 23 24 12 ref3 ref3 (λ x. x) (Scalar.oFld 4
               ((Syntax.field 1) ∷ List.[]) (Syntax.tyInt Syntax.w64) 8 λ v. Shared.lenV (v .0)) (Reads'.as-is 𝓤 H A
               (Relend.msptr InflightAction.row ref3 12)) (Reads'.room-gone 𝓤 H A slice3) (
                 Relend.reads-owed-len 𝓤 H A W InflightAction.row ref8 3 12 life3 8 Path.refl,
                 Path.refl,
-              ) Path.refl Path.refl λ b o k. tt) d23
+              ) Path.refl Path.refl λ b o k. tt) d22
 
-          d25 : Typed.Typed 𝓤 H A 𝓣 E G21 b18 Δ1 at25
-          d25 = Typed.s-seq 𝓤 H A W 𝓣 E G21 G22 b8 b17 Δ1 (Typed.give s19) at24 (Relend.t-sl-relend 𝓤 H A W E
-              InflightAction.row 𝓣 G21 4 21 3 12 ref8 ref3 life3 0 (λ x. x)
+          d24 : Typed.Typed 𝓤 H A 𝓣 E G27 b20 Δ1 at24
+          d24 = Typed.s-seq 𝓤 H A W 𝓣 E G27 G28 b10 b19 Δ1 (Typed.give s25) at23 (Relend.t-sl-relend 𝓤 H A W E
+              InflightAction.row 𝓣 G27 4 23 3 12 ref8 ref3 life3 0 (λ x. x)
               (Reads'.as-is 𝓤 H A (Mut.mslice InflightAction.row ref8 3)) (Reads'.room-gone 𝓤 H A ref3) Path.refl tt
-              Path.refl Path.refl Path.refl λ b o. tt) d24
+              Path.refl Path.refl Path.refl λ b o. tt) d23
 
-          d26 : Typed.Typed 𝓤 H A 𝓣 E G20 b18 Δ1 at26
-          d26 = Typed.g-pre 𝓤 H A W 𝓣 E G20 G21 b18 Δ1 (λ Ψ. Ψ) at25 (Lifetime.g-begin 𝓤 H A W E G20 12 (
+          d25 : Typed.Typed 𝓤 H A 𝓣 E G26 b20 Δ1 at25
+          d25 = Typed.g-pre 𝓤 H A W 𝓣 E G26 G27 b20 Δ1 (λ Ψ. Ψ) at24 (Lifetime.g-begin 𝓤 H A W E G26 12 (
             tt,
             (
               (tt, tt),
@@ -1805,7 +1902,16 @@ module _ (claims· : Claims) where
                               tt,
                               (
                                 tt,
-                                (tt, (tt, (tt, (tt, (tt, (tt, (tt, (tt, (tt, (tt, (tt, (tt, (tt, (tt, tt)))))))))))))),
+                                (
+                                  tt,
+                                  (
+                                    tt,
+                                    (
+                                      tt,
+                                      (tt, (tt, (tt, (tt, (tt, (tt, (tt, (tt, (tt, (tt, (tt, (tt, (tt, tt))))))))))))),
+                                    ),
+                                  ),
+                                ),
                               ),
                             ),
                           ),
@@ -1816,25 +1922,25 @@ module _ (claims· : Claims) where
                 ),
               ),
             ),
-          )) d25
+          )) d24
 
-          d27 : Typed.Typed 𝓤 H A 𝓣 E G19 b19 Δ1 at27
-          d27 = Typed.s-seq 𝓤 H A W 𝓣 E G19 G20 b7 b18 Δ1 (Typed.ask s17) at26 (Relend.t-sl-aggregate 𝓤 H A W E
-              ReservationUsage.row 𝓣 (Relend.asMut ReservationUsage.row) G19 19 20 11 ref2 ref2 (λ x. x) (Scalar.oFld 3
+          d26 : Typed.Typed 𝓤 H A 𝓣 E G25 b21 Δ1 at26
+          d26 = Typed.s-seq 𝓤 H A W 𝓣 E G25 G26 b9 b20 Δ1 (Typed.ask s23) at25 (Relend.t-sl-aggregate 𝓤 H A W E
+              ReservationUsage.row 𝓣 (Relend.asMut ReservationUsage.row) G25 21 22 11 ref2 ref2 (λ x. x) (Scalar.oFld 3
               ((Syntax.field 1) ∷ List.[]) (Syntax.tyInt Syntax.w64) 8 λ v. Shared.lenV (v .0)) (Reads'.as-is 𝓤 H A
               (Relend.msptr ReservationUsage.row ref2 11)) (Reads'.room-gone 𝓤 H A slice2) (
                 Relend.reads-owed-len 𝓤 H A W ReservationUsage.row ref7 2 11 life2 8 Path.refl,
                 Path.refl,
-              ) Path.refl Path.refl λ b o k. tt) d26
+              ) Path.refl Path.refl λ b o k. tt) d25
 
-          d28 : Typed.Typed 𝓤 H A 𝓣 E G18 b20 Δ1 at28
-          d28 = Typed.s-seq 𝓤 H A W 𝓣 E G18 G19 b6 b19 Δ1 (Typed.give s16) at27 (Relend.t-sl-relend 𝓤 H A W E
-              ReservationUsage.row 𝓣 G18 3 19 2 11 ref7 ref2 life2 0 (λ x. x) (Reads'.as-is 𝓤 H A
+          d27 : Typed.Typed 𝓤 H A 𝓣 E G24 b22 Δ1 at27
+          d27 = Typed.s-seq 𝓤 H A W 𝓣 E G24 G25 b8 b21 Δ1 (Typed.give s22) at26 (Relend.t-sl-relend 𝓤 H A W E
+              ReservationUsage.row 𝓣 G24 3 21 2 11 ref7 ref2 life2 0 (λ x. x) (Reads'.as-is 𝓤 H A
               (Mut.mslice ReservationUsage.row ref7 2)) (Reads'.room-gone 𝓤 H A ref2) Path.refl tt Path.refl Path.refl
-              Path.refl λ b o. tt) d27
+              Path.refl λ b o. tt) d26
 
-          d29 : Typed.Typed 𝓤 H A 𝓣 E G17 b20 Δ1 at29
-          d29 = Typed.g-pre 𝓤 H A W 𝓣 E G17 G18 b20 Δ1 (λ Ψ. Ψ) at28 (Lifetime.g-begin 𝓤 H A W E G17 11 (
+          d28 : Typed.Typed 𝓤 H A 𝓣 E G23 b22 Δ1 at28
+          d28 = Typed.g-pre 𝓤 H A W 𝓣 E G23 G24 b22 Δ1 (λ Ψ. Ψ) at27 (Lifetime.g-begin 𝓤 H A W E G23 11 (
             tt,
             (
               (tt, tt),
@@ -1856,7 +1962,16 @@ module _ (claims· : Claims) where
                               tt,
                               (
                                 tt,
-                                (tt, (tt, (tt, (tt, (tt, (tt, (tt, (tt, (tt, (tt, (tt, (tt, (tt, (tt, tt)))))))))))))),
+                                (
+                                  tt,
+                                  (
+                                    tt,
+                                    (
+                                      tt,
+                                      (tt, (tt, (tt, (tt, (tt, (tt, (tt, (tt, (tt, (tt, (tt, (tt, (tt, tt))))))))))))),
+                                    ),
+                                  ),
+                                ),
                               ),
                             ),
                           ),
@@ -1867,25 +1982,25 @@ module _ (claims· : Claims) where
                 ),
               ),
             ),
-          )) d28
+          )) d27
 
-          d30 : Typed.Typed 𝓤 H A 𝓣 E G16 b21 Δ1 at30
-          d30 = Typed.s-seq 𝓤 H A W 𝓣 E G16 G17 b5 b20 Δ1 (Typed.ask s14) at29 (Relend.t-sl-aggregate 𝓤 H A W E
-              RelayCircuit.row 𝓣 (Relend.asMut RelayCircuit.row) G16 17 18 10 ref1 ref1 (λ x. x) (Scalar.oFld 2
+          d29 : Typed.Typed 𝓤 H A 𝓣 E G22 b23 Δ1 at29
+          d29 = Typed.s-seq 𝓤 H A W 𝓣 E G22 G23 b7 b22 Δ1 (Typed.ask s20) at28 (Relend.t-sl-aggregate 𝓤 H A W E
+              RelayCircuit.row 𝓣 (Relend.asMut RelayCircuit.row) G22 19 20 10 ref1 ref1 (λ x. x) (Scalar.oFld 2
               ((Syntax.field 1) ∷ List.[]) (Syntax.tyInt Syntax.w64) 8 λ v. Shared.lenV (v .0)) (Reads'.as-is 𝓤 H A
               (Relend.msptr RelayCircuit.row ref1 10)) (Reads'.room-gone 𝓤 H A slice1) (
                 Relend.reads-owed-len 𝓤 H A W RelayCircuit.row ref6 1 10 life1 8 Path.refl,
                 Path.refl,
-              ) Path.refl Path.refl λ b o k. tt) d29
+              ) Path.refl Path.refl λ b o k. tt) d28
 
-          d31 : Typed.Typed 𝓤 H A 𝓣 E G15 b22 Δ1 at31
-          d31 = Typed.s-seq 𝓤 H A W 𝓣 E G15 G16 b4 b21 Δ1 (Typed.give s13) at30 (Relend.t-sl-relend 𝓤 H A W E
-              RelayCircuit.row 𝓣 G15 2 17 1 10 ref6 ref1 life1 0 (λ x. x)
+          d30 : Typed.Typed 𝓤 H A 𝓣 E G21 b24 Δ1 at30
+          d30 = Typed.s-seq 𝓤 H A W 𝓣 E G21 G22 b6 b23 Δ1 (Typed.give s19) at29 (Relend.t-sl-relend 𝓤 H A W E
+              RelayCircuit.row 𝓣 G21 2 19 1 10 ref6 ref1 life1 0 (λ x. x)
               (Reads'.as-is 𝓤 H A (Mut.mslice RelayCircuit.row ref6 1)) (Reads'.room-gone 𝓤 H A ref1) Path.refl tt
-              Path.refl Path.refl Path.refl λ b o. tt) d30
+              Path.refl Path.refl Path.refl λ b o. tt) d29
 
-          d32 : Typed.Typed 𝓤 H A 𝓣 E G14 b22 Δ1 at32
-          d32 = Typed.g-pre 𝓤 H A W 𝓣 E G14 G15 b22 Δ1 (λ Ψ. Ψ) at31 (Lifetime.g-begin 𝓤 H A W E G14 10 (
+          d31 : Typed.Typed 𝓤 H A 𝓣 E G20 b24 Δ1 at31
+          d31 = Typed.g-pre 𝓤 H A W 𝓣 E G20 G21 b24 Δ1 (λ Ψ. Ψ) at30 (Lifetime.g-begin 𝓤 H A W E G20 10 (
             tt,
             (
               (tt, tt),
@@ -1907,7 +2022,16 @@ module _ (claims· : Claims) where
                               tt,
                               (
                                 tt,
-                                (tt, (tt, (tt, (tt, (tt, (tt, (tt, (tt, (tt, (tt, (tt, (tt, (tt, (tt, tt)))))))))))))),
+                                (
+                                  tt,
+                                  (
+                                    tt,
+                                    (
+                                      tt,
+                                      (tt, (tt, (tt, (tt, (tt, (tt, (tt, (tt, (tt, (tt, (tt, (tt, (tt, tt))))))))))))),
+                                    ),
+                                  ),
+                                ),
                               ),
                             ),
                           ),
@@ -1918,25 +2042,25 @@ module _ (claims· : Claims) where
                 ),
               ),
             ),
-          )) d31
+          )) d30
 
-          d33 : Typed.Typed 𝓤 H A 𝓣 E G13 b23 Δ1 at33
-          d33 = Typed.s-seq 𝓤 H A W 𝓣 E G13 G14 b3 b22 Δ1 (Typed.ask s11) at32 (Relend.t-sl-aggregate 𝓤 H A W E
-              RelayPending.row 𝓣 (Relend.asMut RelayPending.row) G13 15 16 9 ref0 ref0 (λ x. x) (Scalar.oFld 1
+          d32 : Typed.Typed 𝓤 H A 𝓣 E G19 b25 Δ1 at32
+          d32 = Typed.s-seq 𝓤 H A W 𝓣 E G19 G20 b5 b24 Δ1 (Typed.ask s17) at31 (Relend.t-sl-aggregate 𝓤 H A W E
+              RelayPending.row 𝓣 (Relend.asMut RelayPending.row) G19 17 18 9 ref0 ref0 (λ x. x) (Scalar.oFld 1
               ((Syntax.field 1) ∷ List.[]) (Syntax.tyInt Syntax.w64) 8 λ v. Shared.lenV (v .0))
               (Reads'.as-is 𝓤 H A (Relend.msptr RelayPending.row ref0 9)) (Reads'.room-gone 𝓤 H A slice0) (
                 Relend.reads-owed-len 𝓤 H A W RelayPending.row ref5 0 9 life0 8 Path.refl,
                 Path.refl,
-              ) Path.refl Path.refl λ b o k. tt) d32
+              ) Path.refl Path.refl λ b o k. tt) d31
 
-          d34 : Typed.Typed 𝓤 H A 𝓣 E G12 b24 Δ1 at34
-          d34 = Typed.s-seq 𝓤 H A W 𝓣 E G12 G13 b2 b23 Δ1 (Typed.give s10) at33 (Relend.t-sl-relend 𝓤 H A W E
-              RelayPending.row 𝓣 G12 1 15 0 9 ref5 ref0 life0 0 (λ x. x)
+          d33 : Typed.Typed 𝓤 H A 𝓣 E G18 b26 Δ1 at33
+          d33 = Typed.s-seq 𝓤 H A W 𝓣 E G18 G19 b4 b25 Δ1 (Typed.give s16) at32 (Relend.t-sl-relend 𝓤 H A W E
+              RelayPending.row 𝓣 G18 1 17 0 9 ref5 ref0 life0 0 (λ x. x)
               (Reads'.as-is 𝓤 H A (Mut.mslice RelayPending.row ref5 0)) (Reads'.room-gone 𝓤 H A ref0) Path.refl tt
-              Path.refl Path.refl Path.refl λ b o. tt) d33
+              Path.refl Path.refl Path.refl λ b o. tt) d32
 
-          d35 : Typed.Typed 𝓤 H A 𝓣 E G11 b24 Δ1 at35
-          d35 = Typed.g-pre 𝓤 H A W 𝓣 E G11 G12 b24 Δ1 (λ Ψ. Ψ) at34 (Lifetime.g-begin 𝓤 H A W E G11 9 (
+          d34 : Typed.Typed 𝓤 H A 𝓣 E G17 b26 Δ1 at34
+          d34 = Typed.g-pre 𝓤 H A W 𝓣 E G17 G18 b26 Δ1 (λ Ψ. Ψ) at33 (Lifetime.g-begin 𝓤 H A W E G17 9 (
             tt,
             (
               tt,
@@ -1958,7 +2082,16 @@ module _ (claims· : Claims) where
                               tt,
                               (
                                 tt,
-                                (tt, (tt, (tt, (tt, (tt, (tt, (tt, (tt, (tt, (tt, (tt, (tt, (tt, (tt, tt)))))))))))))),
+                                (
+                                  tt,
+                                  (
+                                    tt,
+                                    (
+                                      tt,
+                                      (tt, (tt, (tt, (tt, (tt, (tt, (tt, (tt, (tt, (tt, (tt, (tt, (tt, tt))))))))))))),
+                                    ),
+                                  ),
+                                ),
                               ),
                             ),
                           ),
@@ -1969,49 +2102,200 @@ module _ (claims· : Claims) where
                 ),
               ),
             ),
-          )) d34
+          )) d33
 
-          d36 : Typed.Typed 𝓤 H A 𝓣 E G10 b24 Δ1 at36
-          d36 = Typed.g-pre 𝓤 H A W 𝓣 E G10 G11 b24 Δ1 (Typed.pass T10 T11 s8) at35 (Scalar.g-room 𝓤 H A W E G10 14
-              Syntax.tyBool (Scalar.room-sc 𝓤 H A W Row.sBool)) d35
+          d35 : Typed.Typed 𝓤 H A 𝓣 E G16 b26 Δ1 at35
+          d35 = Typed.g-pre 𝓤 H A W 𝓣 E G16 G17 b26 Δ1 (Typed.pass T16 T17 s14) at34 (Scalar.g-room 𝓤 H A W E G16 14
+              Laws'.mir (Local.room-whole 𝓤 H A W (Declared'.row HnsrPeerId.the-type) Laws'.mir Path.refl)) d34
 
-          d37 : Typed.Typed 𝓤 H A 𝓣 E G8 b24 Δ1 at37
-          d37 = Typed.g-pre 𝓤 H A W 𝓣 E G8 G10 b24 Δ1 (Typed.pass T8 T10 s7) at36 (Scalar.g-room 𝓤 H A W E G8 13
-              Laws.mir (Local.room-whole 𝓤 H A W (Declared.row HnsrAnswer.the-type) Laws.mir Path.refl)) d36
+          d36 : Typed.Typed 𝓤 H A 𝓣 E G15 b26 Δ1 at36
+          d36 = Typed.g-pre 𝓤 H A W 𝓣 E G15 G16 b26 Δ1 (Typed.pass T15 T16 s13) at35 (Scalar.g-room 𝓤 H A W E G15 8
+              Laws'''.mir (Local.room-whole 𝓤 H A W (Declared'.row RelayPacket.the-type) Laws'''.mir Path.refl)) d35
 
-          d38 : Typed.Typed 𝓤 H A 𝓣 E G48 b25 Δ1 at38
-          d38 = Typed.t-skip 𝓤 H A W 𝓣 E Δ1 tt
+          d37 : Typed.Typed 𝓤 H A 𝓣 E G14 b26 Δ1 at37
+          d37 = Typed.g-pre 𝓤 H A W 𝓣 E G14 G15 b26 Δ1 (Typed.pass T14 T15 s12) at36 (Scalar.g-room 𝓤 H A W E G14 7
+              Laws''''''.mir (Local.room-whole 𝓤 H A W (Declared'.row Places.the-type) Laws''''''.mir Path.refl)) d36
 
-          d39 : Typed.Typed 𝓤 H A 𝓣 E G47 b25 Δ1 at39
-          d39 = Typed.g-pre 𝓤 H A W 𝓣 E G47 G48 b25 Δ1 (Typed.pass T47 T48 s45) at38 (Scalar.g-room 𝓤 H A W E G47 14
-              Syntax.tyBool (Scalar.room-sc 𝓤 H A W Row.sBool)) d38
+          d38 : Typed.Typed 𝓤 H A 𝓣 E G13 b26 Δ1 at38
+          d38 = Typed.g-pre 𝓤 H A W 𝓣 E G13 G14 b26 Δ1 (Typed.pass T13 T14 s11) at37 (Scalar.g-room 𝓤 H A W E G13 6
+              Laws''.mir (Local.room-whole 𝓤 H A W (Declared'.row OpaqueRelayRuntime.the-type) Laws''.mir Path.refl))
+              d37
 
-          d40 : Typed.Typed 𝓤 H A 𝓣 E G8 b25 Δ1 at40
-          d40 = Typed.g-pre 𝓤 H A W 𝓣 E G8 G47 b25 Δ1 (Typed.pass T8 T47 s44) at39 (Scalar.g-room 𝓤 H A W E G8 8
-              Laws''.mir (Local.room-whole 𝓤 H A W (Declared'.row RelayPacket.the-type) Laws''.mir Path.refl)) d39
+          d39 : Typed.Typed 𝓤 H A 𝓣 E G12 b27 Δ1 at39
+          d39 = Typed.s-seq 𝓤 H A W 𝓣 E G12 G13 b3 b26 Δ1 (Typed.pass T12 T13 s10) at38 (Make.t-make-told 𝓤 H A W E 𝓣
+              (Declared'.row (Apart.apartT Request.the-type)) Path.refl (Laws''''''''.val
+              (Apart.apartT Request.the-type) Laws'''''.the-laws) (Laws''''''''.lawful (Apart.apartT Request.the-type)
+              Laws'''''.the-laws 𝓤 H A W) (Laws''''''''.makes (Apart.apartT Request.the-type) Laws'''''.the-plain 𝓤 H A)
+              G12 15 ((Scalar.oAt 6 Laws''.mir (Laws''''''''.val OpaqueRelayRuntime.the-type Laws''.the-laws)) ∷ (Scalar.oAt
+              7 Laws''''''.mir (Laws''''''''.val Places.the-type Laws''''''.the-laws)) ∷ (Scalar.oAt 8 Laws'''.mir
+              (Laws''''''''.val RelayPacket.the-type Laws'''.the-laws)) ∷ (Scalar.oAt 14 Laws'.mir
+              (Laws''''''''.val HnsrPeerId.the-type Laws'.the-laws)) ∷ List.[]) (λ m. (
+                m .1 .1 .1 .1 .1 .1 .0,
+                (
+                  m .1 .1 .1 .1 .1 .1 .1 .0,
+                  (m .1 .1 .1 .1 .1 .1 .1 .1 .0, (m .1 .1 .1 .1 .1 .1 .1 .1 .1 .1 .1 .1 .1 .1 .0, tt)),
+                ),
+              )) (λ m. Laws'''''''.Is (Declared'.row OpaqueRelayRuntime.the-type) (m .1 .1 .1 .1 .1 .1 .0) (Laws''''''''.vals
+              OpaqueRelayRuntime.the-type Laws''.the-laws (m .1 .1 .1 .1 .1 .1 .0)) × (Laws'''''''.Is
+              (Declared'.row Places.the-type) (m .1 .1 .1 .1 .1 .1 .1 .0) (Laws''''''''.vals Places.the-type
+              Laws''''''.the-laws (m .1 .1 .1 .1 .1 .1 .1 .0)) × (Laws'''''''.Is (Declared'.row RelayPacket.the-type)
+              (m .1 .1 .1 .1 .1 .1 .1 .1 .0) (Laws''''''''.vals RelayPacket.the-type Laws'''.the-laws
+              (m .1 .1 .1 .1 .1 .1 .1 .1 .0)) × Laws'''''''.Is (Declared'.row HnsrPeerId.the-type)
+              (m .1 .1 .1 .1 .1 .1 .1 .1 .1 .1 .1 .1 .1 .1 .0) (Laws''''''''.vals HnsrPeerId.the-type Laws'.the-laws
+              (m .1 .1 .1 .1 .1 .1 .1 .1 .1 .1 .1 .1 .1 .1 .0))))) (Reads'.room-gone 𝓤 H A Laws'''''.mir) (
+                (Reads.reads-struct 𝓤 H A W OpaqueRelayRuntime.the-type Laws''.the-laws, Path.refl),
+                (
+                  (Reads.reads-struct 𝓤 H A W Places.the-type Laws''''''.the-laws, Path.refl),
+                  (
+                    (Reads.reads-struct 𝓤 H A W RelayPacket.the-type Laws'''.the-laws, Path.refl),
+                    ((Reads.reads-struct 𝓤 H A W HnsrPeerId.the-type Laws'.the-laws, Path.refl), tt),
+                  ),
+                ),
+              ) Path.refl (λ ρ m. Make.tells-both 𝓤 H A W E ρ (Row.out 15 (G12 .locals)) m (Laws'''''''.Is
+              (Declared'.row OpaqueRelayRuntime.the-type) (m .1 .1 .1 .1 .1 .1 .0) (Laws''''''''.vals
+              OpaqueRelayRuntime.the-type Laws''.the-laws (m .1 .1 .1 .1 .1 .1 .0))) (Laws'''''''.Is
+              (Declared'.row Places.the-type) (m .1 .1 .1 .1 .1 .1 .1 .0) (Laws''''''''.vals Places.the-type
+              Laws''''''.the-laws (m .1 .1 .1 .1 .1 .1 .1 .0)) × (Laws'''''''.Is (Declared'.row RelayPacket.the-type)
+              (m .1 .1 .1 .1 .1 .1 .1 .1 .0) (Laws''''''''.vals RelayPacket.the-type Laws'''.the-laws
+              (m .1 .1 .1 .1 .1 .1 .1 .1 .0)) × Laws'''''''.Is (Declared'.row HnsrPeerId.the-type)
+              (m .1 .1 .1 .1 .1 .1 .1 .1 .1 .1 .1 .1 .1 .1 .0) (Laws''''''''.vals HnsrPeerId.the-type Laws'.the-laws
+              (m .1 .1 .1 .1 .1 .1 .1 .1 .1 .1 .1 .1 .1 .1 .0)))) (Make.tells-row 𝓤 H A W E ρ
+              (Row.out 15 (G12 .locals)) m 6 (Laws'''''''.Is (Declared'.row OpaqueRelayRuntime.the-type)
+              (m .1 .1 .1 .1 .1 .1 .0) (Laws''''''''.vals OpaqueRelayRuntime.the-type Laws''.the-laws
+              (m .1 .1 .1 .1 .1 .1 .0))) (Make.whole-is 𝓤 H A W E (Declared'.row OpaqueRelayRuntime.the-type) Path.refl (Laws''''''''.val
+              OpaqueRelayRuntime.the-type Laws''.the-laws) (Laws''''''''.tells OpaqueRelayRuntime.the-type
+              Laws''.the-laws) ρ 6 (m .1 .1 .1 .1 .1 .1 .0))) (Make.tells-both 𝓤 H A W E ρ (Row.out 15 (G12 .locals)) m (Laws'''''''.Is
+              (Declared'.row Places.the-type) (m .1 .1 .1 .1 .1 .1 .1 .0) (Laws''''''''.vals Places.the-type
+              Laws''''''.the-laws (m .1 .1 .1 .1 .1 .1 .1 .0))) (Laws'''''''.Is (Declared'.row RelayPacket.the-type)
+              (m .1 .1 .1 .1 .1 .1 .1 .1 .0) (Laws''''''''.vals RelayPacket.the-type Laws'''.the-laws
+              (m .1 .1 .1 .1 .1 .1 .1 .1 .0)) × Laws'''''''.Is (Declared'.row HnsrPeerId.the-type)
+              (m .1 .1 .1 .1 .1 .1 .1 .1 .1 .1 .1 .1 .1 .1 .0) (Laws''''''''.vals HnsrPeerId.the-type Laws'.the-laws
+              (m .1 .1 .1 .1 .1 .1 .1 .1 .1 .1 .1 .1 .1 .1 .0))) (Make.tells-row 𝓤 H A W E ρ (Row.out 15 (G12 .locals))
+              m 7 (Laws'''''''.Is (Declared'.row Places.the-type) (m .1 .1 .1 .1 .1 .1 .1 .0) (Laws''''''''.vals
+              Places.the-type Laws''''''.the-laws (m .1 .1 .1 .1 .1 .1 .1 .0))) (Make.whole-is 𝓤 H A W E
+              (Declared'.row Places.the-type) Path.refl (Laws''''''''.val Places.the-type Laws''''''.the-laws)
+              (Laws''''''''.tells Places.the-type Laws''''''.the-laws) ρ 7 (m .1 .1 .1 .1 .1 .1 .1 .0))) (Make.tells-both
+              𝓤 H A W E ρ (Row.out 15 (G12 .locals)) m (Laws'''''''.Is (Declared'.row RelayPacket.the-type)
+              (m .1 .1 .1 .1 .1 .1 .1 .1 .0) (Laws''''''''.vals RelayPacket.the-type Laws'''.the-laws
+              (m .1 .1 .1 .1 .1 .1 .1 .1 .0))) (Laws'''''''.Is (Declared'.row HnsrPeerId.the-type)
+              (m .1 .1 .1 .1 .1 .1 .1 .1 .1 .1 .1 .1 .1 .1 .0) (Laws''''''''.vals HnsrPeerId.the-type Laws'.the-laws
+              (m .1 .1 .1 .1 .1 .1 .1 .1 .1 .1 .1 .1 .1 .1 .0))) (Make.tells-row 𝓤 H A W E ρ (Row.out 15 (G12 .locals))
+              m 8 (Laws'''''''.Is (Declared'.row RelayPacket.the-type) (m .1 .1 .1 .1 .1 .1 .1 .1 .0) (Laws''''''''.vals
+              RelayPacket.the-type Laws'''.the-laws (m .1 .1 .1 .1 .1 .1 .1 .1 .0))) (Make.whole-is 𝓤 H A W E
+              (Declared'.row RelayPacket.the-type) Path.refl (Laws''''''''.val RelayPacket.the-type Laws'''.the-laws)
+              (Laws''''''''.tells RelayPacket.the-type Laws'''.the-laws) ρ 8 (m .1 .1 .1 .1 .1 .1 .1 .1 .0))) (Make.tells-row
+              𝓤 H A W E ρ (Row.out 15 (G12 .locals)) m 14 (Laws'''''''.Is (Declared'.row HnsrPeerId.the-type)
+              (m .1 .1 .1 .1 .1 .1 .1 .1 .1 .1 .1 .1 .1 .1 .0) (Laws''''''''.vals HnsrPeerId.the-type Laws'.the-laws
+              (m .1 .1 .1 .1 .1 .1 .1 .1 .1 .1 .1 .1 .1 .1 .0))) (Make.whole-is 𝓤 H A W E
+              (Declared'.row HnsrPeerId.the-type) Path.refl (Laws''''''''.val HnsrPeerId.the-type Laws'.the-laws)
+              (Laws''''''''.tells HnsrPeerId.the-type Laws'.the-laws) ρ 14
+              (m .1 .1 .1 .1 .1 .1 .1 .1 .1 .1 .1 .1 .1 .1 .0)))))) (λ m q. Signed.made-val
+              (Apart.apartT Request.the-type) Laws'''''.the-laws ((Laws''''''''.val OpaqueRelayRuntime.the-type
+              Laws''.the-laws (m .1 .1 .1 .1 .1 .1 .0)) ∷ (Laws''''''''.val Places.the-type Laws''''''.the-laws
+              (m .1 .1 .1 .1 .1 .1 .1 .0)) ∷ (Laws''''''''.val RelayPacket.the-type Laws'''.the-laws
+              (m .1 .1 .1 .1 .1 .1 .1 .1 .0)) ∷ (Laws''''''''.val HnsrPeerId.the-type Laws'.the-laws
+              (m .1 .1 .1 .1 .1 .1 .1 .1 .1 .1 .1 .1 .1 .1 .0)) ∷ List.[]) (
+                m .1 .1 .1 .1 .1 .1 .0,
+                (
+                  m .1 .1 .1 .1 .1 .1 .1 .0,
+                  (m .1 .1 .1 .1 .1 .1 .1 .1 .0, (m .1 .1 .1 .1 .1 .1 .1 .1 .1 .1 .1 .1 .1 .1 .0, tt)),
+                ),
+              ) (
+                Signed.made-struct OpaqueRelayRuntime.the-type Laws''.the-laws Laws''.lowers (m .1 .1 .1 .1 .1 .1 .0)
+                    (q .0),
+                (
+                  Signed.made-struct Places.the-type Laws''''''.the-laws Laws''''''.lowers (m .1 .1 .1 .1 .1 .1 .1 .0)
+                      (q .1 .0),
+                  (
+                    Signed.made-struct RelayPacket.the-type Laws'''.the-laws Laws'''.lowers
+                        (m .1 .1 .1 .1 .1 .1 .1 .1 .0) (q .1 .1 .0),
+                    (
+                      Signed.made-struct HnsrPeerId.the-type Laws'.the-laws Laws'.lowers
+                          (m .1 .1 .1 .1 .1 .1 .1 .1 .1 .1 .1 .1 .1 .1 .0) (q .1 .1 .1),
+                      tt,
+                    ),
+                  ),
+                ),
+              )) λ m q. Signed.made-is (Apart.apartT Request.the-type) Laws'''''.the-laws ((Laws''''''''.val
+              OpaqueRelayRuntime.the-type Laws''.the-laws (m .1 .1 .1 .1 .1 .1 .0)) ∷ (Laws''''''''.val Places.the-type
+              Laws''''''.the-laws (m .1 .1 .1 .1 .1 .1 .1 .0)) ∷ (Laws''''''''.val RelayPacket.the-type
+              Laws'''.the-laws (m .1 .1 .1 .1 .1 .1 .1 .1 .0)) ∷ (Laws''''''''.val HnsrPeerId.the-type Laws'.the-laws
+              (m .1 .1 .1 .1 .1 .1 .1 .1 .1 .1 .1 .1 .1 .1 .0)) ∷ List.[]) (
+                m .1 .1 .1 .1 .1 .1 .0,
+                (
+                  m .1 .1 .1 .1 .1 .1 .1 .0,
+                  (m .1 .1 .1 .1 .1 .1 .1 .1 .0, (m .1 .1 .1 .1 .1 .1 .1 .1 .1 .1 .1 .1 .1 .1 .0, tt)),
+                ),
+              ) (
+                Signed.made-struct OpaqueRelayRuntime.the-type Laws''.the-laws Laws''.lowers (m .1 .1 .1 .1 .1 .1 .0)
+                    (q .0),
+                (
+                  Signed.made-struct Places.the-type Laws''''''.the-laws Laws''''''.lowers (m .1 .1 .1 .1 .1 .1 .1 .0)
+                      (q .1 .0),
+                  (
+                    Signed.made-struct RelayPacket.the-type Laws'''.the-laws Laws'''.lowers
+                        (m .1 .1 .1 .1 .1 .1 .1 .1 .0) (q .1 .1 .0),
+                    (
+                      Signed.made-struct HnsrPeerId.the-type Laws'.the-laws Laws'.lowers
+                          (m .1 .1 .1 .1 .1 .1 .1 .1 .1 .1 .1 .1 .1 .1 .0) (q .1 .1 .1),
+                      tt,
+                    ),
+                  ),
+                ),
+              )) d38
 
-          d41 : Typed.Typed 𝓤 H A 𝓣 E G8 b26 Δ1 at41
-          d41 = Scalar.t-cond 𝓤 H A W E 𝓣 G8 14 (λ x. x) b24 b25 Δ1 at37 at40 (Scalar.reads-sc 𝓤 H A W Row.sBool)
-              Path.refl d37 d40
+          d40 : Typed.Typed 𝓤 H A 𝓣 E G11 b28 Δ1 at40
+          d40 = Typed.s-seq 𝓤 H A W 𝓣 E G11 G12 b2 b27 Δ1 (Typed.both s9) at39 (Plain.t-call-plain 𝓤 H A W 𝓣 1 ps·2 r·2
+              (claims· .4) (claims· .5) "hnsr_circuit::peer::peer_of" (known .2) E (λ pos β. β) G11
+              (record { pos = 9; ty = ref10; ref = λ x. x }, tt) 14 (5 ∷ List.[]) (Call.sub-id 𝓤 H A W (G11 .slots)) (
+                ShrSlice.spares-sslice 𝓤 H A W (Referent.rtF (Referent.fInt Syntax.w8)) ref10 5,
+                Shared.reads-sslice 𝓤 H A W (Referent.rtF (Referent.fInt Syntax.w8)) ref10 5,
+                Path.refl,
+                tt,
+              ) (Reads'.room-gone 𝓤 H A Laws'.mir) (tt, tt) Path.refl) d39
 
-          d42 : Typed.Typed 𝓤 H A 𝓣 E G52 b28 Δ0 at42
-          d42 = Typed.t-return 𝓤 H A W 𝓣 E Δ0 tt
+          d41 : Typed.Typed 𝓤 H A 𝓣 E G10 b28 Δ1 at41
+          d41 = Typed.g-pre 𝓤 H A W 𝓣 E G10 G11 b28 Δ1 (Typed.pass T10 T11 s8) at40 (Scalar.g-room 𝓤 H A W E G10 16
+              Syntax.tyBool (Scalar.room-sc 𝓤 H A W Row.sBool)) d40
 
-          d43 : Typed.Typed 𝓤 H A 𝓣 E G51 b28 Δ0 at43
-          d43 = Typed.g-pre 𝓤 H A W 𝓣 E G51 G52 b28 Δ0 (Typed.pass T51 T52 s49) at42 (Scalar.g-room 𝓤 H A W E G51 13
-              Laws.mir (Local.room-whole 𝓤 H A W (Declared.row HnsrAnswer.the-type) Laws.mir Path.refl)) d42
+          d42 : Typed.Typed 𝓤 H A 𝓣 E G8 b28 Δ1 at42
+          d42 = Typed.g-pre 𝓤 H A W 𝓣 E G8 G10 b28 Δ1 (Typed.pass T8 T10 s7) at41 (Scalar.g-room 𝓤 H A W E G8 13
+              Laws.mir (Local.room-whole 𝓤 H A W (Declared.row HnsrAnswer.the-type) Laws.mir Path.refl)) d41
 
-          d44 : Typed.Typed 𝓤 H A 𝓣 E G50 b28 Δ0 at44
-          d44 = Typed.g-pre 𝓤 H A W 𝓣 E G50 G51 b28 Δ0 (Typed.pass T50 T51 s48) at43 (Scalar.g-room 𝓤 H A W E G50 7
-              Laws''''.mir (Local.room-whole 𝓤 H A W (Declared'.row Places.the-type) Laws''''.mir Path.refl)) d43
+          d43 : Typed.Typed 𝓤 H A 𝓣 E G53 b29 Δ1 at43
+          d43 = Typed.t-skip 𝓤 H A W 𝓣 E Δ1 tt
 
-          d45 : Typed.Typed 𝓤 H A 𝓣 E G49 b28 Δ0 at45
-          d45 = Typed.g-pre 𝓤 H A W 𝓣 E G49 G50 b28 Δ0 (Typed.pass T49 T50 s47) at44 (Scalar.g-room 𝓤 H A W E G49 6
-              Laws'.mir (Local.room-whole 𝓤 H A W (Declared'.row OpaqueRelayRuntime.the-type) Laws'.mir Path.refl)) d44
+          d44 : Typed.Typed 𝓤 H A 𝓣 E G52 b29 Δ1 at44
+          d44 = Typed.g-pre 𝓤 H A W 𝓣 E G52 G53 b29 Δ1 (Typed.pass T52 T53 s50) at43 (Scalar.g-room 𝓤 H A W E G52 16
+              Syntax.tyBool (Scalar.room-sc 𝓤 H A W Row.sBool)) d43
 
-          d46 : Typed.Typed 𝓤 H A 𝓣 E G9 b29 Δ0 at46
-          d46 = Typed.s-seq 𝓤 H A W 𝓣 E G9 G49 b27 b28 Δ0 (Typed.both s46) at45 (Plain.t-call-plain 𝓤 H A W 𝓣 0 ps·3
-              r·3 (claims· .6) (claims· .7) "hnsr_circuit::runtime::refused" (known .3) E (λ pos β. β) G9 (
+          d45 : Typed.Typed 𝓤 H A 𝓣 E G8 b29 Δ1 at45
+          d45 = Typed.g-pre 𝓤 H A W 𝓣 E G8 G52 b29 Δ1 (Typed.pass T8 T52 s49) at44 (Scalar.g-room 𝓤 H A W E G8 8
+              Laws'''.mir (Local.room-whole 𝓤 H A W (Declared'.row RelayPacket.the-type) Laws'''.mir Path.refl)) d44
+
+          d46 : Typed.Typed 𝓤 H A 𝓣 E G8 b30 Δ1 at46
+          d46 = Scalar.t-cond 𝓤 H A W E 𝓣 G8 16 (λ x. x) b28 b29 Δ1 at42 at45 (Scalar.reads-sc 𝓤 H A W Row.sBool)
+              Path.refl d42 d45
+
+          d47 : Typed.Typed 𝓤 H A 𝓣 E G57 b32 Δ0 at47
+          d47 = Typed.t-return 𝓤 H A W 𝓣 E Δ0 tt
+
+          d48 : Typed.Typed 𝓤 H A 𝓣 E G56 b32 Δ0 at48
+          d48 = Typed.g-pre 𝓤 H A W 𝓣 E G56 G57 b32 Δ0 (Typed.pass T56 T57 s54) at47 (Scalar.g-room 𝓤 H A W E G56 13
+              Laws.mir (Local.room-whole 𝓤 H A W (Declared.row HnsrAnswer.the-type) Laws.mir Path.refl)) d47
+
+          d49 : Typed.Typed 𝓤 H A 𝓣 E G55 b32 Δ0 at49
+          d49 = Typed.g-pre 𝓤 H A W 𝓣 E G55 G56 b32 Δ0 (Typed.pass T55 T56 s53) at48 (Scalar.g-room 𝓤 H A W E G55 7
+              Laws''''''.mir (Local.room-whole 𝓤 H A W (Declared'.row Places.the-type) Laws''''''.mir Path.refl)) d48
+
+          d50 : Typed.Typed 𝓤 H A 𝓣 E G54 b32 Δ0 at50
+          d50 = Typed.g-pre 𝓤 H A W 𝓣 E G54 G55 b32 Δ0 (Typed.pass T54 T55 s52) at49 (Scalar.g-room 𝓤 H A W E G54 6
+              Laws''.mir (Local.room-whole 𝓤 H A W (Declared'.row OpaqueRelayRuntime.the-type) Laws''.mir Path.refl))
+              d49
+
+          d51 : Typed.Typed 𝓤 H A 𝓣 E G9 b33 Δ0 at51
+          d51 = Typed.s-seq 𝓤 H A W 𝓣 E G9 G54 b31 b32 Δ0 (Typed.both s51) at50 (Plain.t-call-plain 𝓤 H A W 𝓣 0 ps·4
+              r·4 (claims· .8) (claims· .9) "hnsr_circuit::runtime::refused" (known .4) E (λ pos β. β) G9 (
                 record { pos = 6; st = List.[]; d = 0; at = λ x. x },
                 (
                   record { pos = 7; st = List.[]; d = 0; at = λ x. x },
@@ -2020,7 +2304,7 @@ module _ (claims· : Claims) where
               ) 0 List.[] (Call.sub-id 𝓤 H A W (G9 .slots)) (
                 (
                   Yields.yields-copy 𝓤 H A W (λ ρ. Unit) (Declared'.row OpaqueRelayRuntime.the-type) Path.refl (Copies.cStruct
-                      OpaqueRelayRuntime.the-type Laws'.the-laws Laws'.the-copy .copy 𝓤 H A W)
+                      OpaqueRelayRuntime.the-type Laws''.the-laws Laws''.the-copy .copy 𝓤 H A W)
                       (Rows.whole (Declared'.row OpaqueRelayRuntime.the-type)) (λ x. x) (λ x. x) (λ ρ told.
                       Local.mem-whole 𝓤 H A W (Declared'.row OpaqueRelayRuntime.the-type) ρ) λ ρ told. Local.whole-mem
                       𝓤 H A W (Declared'.row OpaqueRelayRuntime.the-type) ρ,
@@ -2029,7 +2313,7 @@ module _ (claims· : Claims) where
                 (
                   (
                     Yields.yields-copy 𝓤 H A W (λ ρ. Unit) (Declared'.row Places.the-type) Path.refl (Copies.cStruct
-                        Places.the-type Laws''''.the-laws Laws''''.the-copy .copy 𝓤 H A W)
+                        Places.the-type Laws''''''.the-laws Laws''''''.the-copy .copy 𝓤 H A W)
                         (Rows.whole (Declared'.row Places.the-type)) (λ x. x) (λ x. x) (λ ρ told. Local.mem-whole 𝓤 H A
                         W (Declared'.row Places.the-type) ρ) λ ρ told. Local.whole-mem 𝓤 H A W
                         (Declared'.row Places.the-type) ρ,
@@ -2047,15 +2331,15 @@ module _ (claims· : Claims) where
                     tt,
                   ),
                 ),
-              ) (Reads'.room-gone 𝓤 H A Laws'''.mir) tt Path.refl) d45
+              ) (Reads'.room-gone 𝓤 H A Laws''''.mir) tt Path.refl) d50
 
-          d47 : Typed.Typed 𝓤 H A 𝓣 E G8 b30 Δ0 at47
-          d47 = Typed.t-seq 𝓤 H A W 𝓣 E G8 G9 b26 b29 Δ0 at41 at46 d41 d46
+          d52 : Typed.Typed 𝓤 H A 𝓣 E G8 b34 Δ0 at52
+          d52 = Typed.t-seq 𝓤 H A W 𝓣 E G8 G9 b30 b33 Δ0 at46 at51 d46 d51
 
-          d48 : Typed.Typed 𝓤 H A 𝓣 E G7 b31 Δ0 at48
-          d48 = Typed.s-seq 𝓤 H A W 𝓣 E G7 G8 b1 b30 Δ0 (Typed.both s6) at47 (Plain.t-call-plain 𝓤 H A W 𝓣 0 ps·1 r·1
+          d53 : Typed.Typed 𝓤 H A 𝓣 E G7 b35 Δ0 at53
+          d53 = Typed.s-seq 𝓤 H A W 𝓣 E G7 G8 b1 b34 Δ0 (Typed.both s6) at52 (Plain.t-call-plain 𝓤 H A W 𝓣 0 ps·1 r·1
               (claims· .2) (claims· .3) "hnsr_circuit::answer::is_taken" (known .1) E (λ pos β. β) G7
-              (record { pos = 13; st = List.[]; d = 0; at = λ x. x }, tt) 14 List.[] (Call.sub-id 𝓤 H A W (G7 .slots)) (
+              (record { pos = 13; st = List.[]; d = 0; at = λ x. x }, tt) 16 List.[] (Call.sub-id 𝓤 H A W (G7 .slots)) (
                 (
                   Yields.yields-copy 𝓤 H A W (λ ρ. Unit) (Declared.row HnsrAnswer.the-type) Path.refl (Copies.cEnum
                       HnsrAnswer.the-type Laws.the-laws Laws.the-copy .copy 𝓤 H A W)
@@ -2065,48 +2349,48 @@ module _ (claims· : Claims) where
                   Path.refl,
                 ),
                 tt,
-              ) (Reads'.room-gone 𝓤 H A Syntax.tyBool) tt Path.refl) d47
+              ) (Reads'.room-gone 𝓤 H A Syntax.tyBool) tt Path.refl) d52
 
-          d49 : Typed.Typed 𝓤 H A 𝓣 E G6 b32 Δ0 at49
-          d49 = Typed.s-seq 𝓤 H A W 𝓣 E G6 G7 b0 b31 Δ0 (Typed.both s5) at48 (Plain.t-call-plain 𝓤 H A W 𝓣 0 ps·0 r·0
+          d54 : Typed.Typed 𝓤 H A 𝓣 E G6 b36 Δ0 at54
+          d54 = Typed.s-seq 𝓤 H A W 𝓣 E G6 G7 b0 b35 Δ0 (Typed.both s5) at53 (Plain.t-call-plain 𝓤 H A W 𝓣 0 ps·0 r·0
               (claims· .0) (claims· .1) "hnsr_circuit::calls::handle::gate_answer" (known .0) E (λ pos β. β) G6 (
                 Bool.bFld 6 ((Syntax.field 2) ∷ List.[]) 24 λ x. OpaqueRelayRuntime.struct .as-values x .1 .1 .0,
                 tt,
               ) 13 List.[] (Call.sub-id 𝓤 H A W (G6 .slots)) (
                 (
-                  Reads.reads-field 𝓤 H A W OpaqueRelayRuntime.the-type Laws'.the-laws 2 Syntax.tyBool 24 Path.refl,
+                  Reads.reads-field 𝓤 H A W OpaqueRelayRuntime.the-type Laws''.the-laws 2 Syntax.tyBool 24 Path.refl,
                   Path.refl,
                 ),
                 tt,
-              ) (Reads'.room-gone 𝓤 H A Laws.mir) tt Path.refl) d48
+              ) (Reads'.room-gone 𝓤 H A Laws.mir) tt Path.refl) d53
 
-          d50 : Typed.Typed 𝓤 H A 𝓣 E G5 b32 Δ0 at50
-          d50 = Typed.g-pre 𝓤 H A W 𝓣 E G5 G6 b32 Δ0 (Typed.give s4) at49 (Know.g-shs-known 𝓤 H A W
+          d55 : Typed.Typed 𝓤 H A 𝓣 E G5 b36 Δ0 at55
+          d55 = Typed.g-pre 𝓤 H A W 𝓣 E G5 G6 b36 Δ0 (Typed.give s4) at54 (Know.g-shs-known 𝓤 H A W
               (Referent.fInt Syntax.w8) E G5 12 8 ref13 life8 0 (λ x. x) record { fits = Dec.lit< tt } (Reads'.as-is 𝓤
-              H A (Rows.sslice (Referent.rtF (Referent.fInt Syntax.w8)) ref13 8)) Path.refl tt) d49
+              H A (Rows.sslice (Referent.rtF (Referent.fInt Syntax.w8)) ref13 8)) Path.refl tt) d54
 
-          d51 : Typed.Typed 𝓤 H A 𝓣 E G4 b32 Δ0 at51
-          d51 = Typed.g-pre 𝓤 H A W 𝓣 E G4 G5 b32 Δ0 (Typed.give s3) at50 (Know.g-shs-known 𝓤 H A W
+          d56 : Typed.Typed 𝓤 H A 𝓣 E G4 b36 Δ0 at56
+          d56 = Typed.g-pre 𝓤 H A W 𝓣 E G4 G5 b36 Δ0 (Typed.give s3) at55 (Know.g-shs-known 𝓤 H A W
               (Referent.fInt Syntax.w8) E G4 11 7 ref12 life7 0 (λ x. x) record { fits = Dec.lit< tt } (Reads'.as-is 𝓤
-              H A (Rows.sslice (Referent.rtF (Referent.fInt Syntax.w8)) ref12 7)) Path.refl tt) d50
+              H A (Rows.sslice (Referent.rtF (Referent.fInt Syntax.w8)) ref12 7)) Path.refl tt) d55
 
-          d52 : Typed.Typed 𝓤 H A 𝓣 E G3 b32 Δ0 at52
-          d52 = Typed.g-pre 𝓤 H A W 𝓣 E G3 G4 b32 Δ0 (Typed.give s2) at51 (Know.g-shs-known 𝓤 H A W
+          d57 : Typed.Typed 𝓤 H A 𝓣 E G3 b36 Δ0 at57
+          d57 = Typed.g-pre 𝓤 H A W 𝓣 E G3 G4 b36 Δ0 (Typed.give s2) at56 (Know.g-shs-known 𝓤 H A W
               (Referent.fInt Syntax.w8) E G3 10 6 ref11 life6 0 (λ x. x) record { fits = Dec.lit< tt } (Reads'.as-is 𝓤
-              H A (Rows.sslice (Referent.rtF (Referent.fInt Syntax.w8)) ref11 6)) Path.refl tt) d51
+              H A (Rows.sslice (Referent.rtF (Referent.fInt Syntax.w8)) ref11 6)) Path.refl tt) d56
 
-          d53 : Typed.Typed 𝓤 H A 𝓣 E G2 b32 Δ0 at53
-          d53 = Typed.g-pre 𝓤 H A W 𝓣 E G2 G3 b32 Δ0 (Typed.give s1) at52 (Know.g-shs-known 𝓤 H A W
+          d58 : Typed.Typed 𝓤 H A 𝓣 E G2 b36 Δ0 at58
+          d58 = Typed.g-pre 𝓤 H A W 𝓣 E G2 G3 b36 Δ0 (Typed.give s1) at57 (Know.g-shs-known 𝓤 H A W
               (Referent.fInt Syntax.w8) E G2 9 5 ref10 life5 0 (λ x. x) record { fits = Dec.lit< tt } (Reads'.as-is 𝓤 H
-              A (Rows.sslice (Referent.rtF (Referent.fInt Syntax.w8)) ref10 5)) Path.refl tt) d52
+              A (Rows.sslice (Referent.rtF (Referent.fInt Syntax.w8)) ref10 5)) Path.refl tt) d57
 
-          d54 : Typed.Typed 𝓤 H A 𝓣 E G0 b32 Δ0 at54
-          d54 = Typed.g-pre 𝓤 H A W 𝓣 E G0 G2 b32 Δ0 (Typed.give s0) at53 (Know.g-sl-known 𝓤 H A W
+          d59 : Typed.Typed 𝓤 H A 𝓣 E G0 b36 Δ0 at59
+          d59 = Typed.g-pre 𝓤 H A W 𝓣 E G0 G2 b36 Δ0 (Typed.give s0) at58 (Know.g-sl-known 𝓤 H A W
               (Referent.fInt Syntax.w32) E G0 5 4 ref9 life4 0 (λ x. x) record { fits = Dec.lit< tt } (Reads'.as-is 𝓤 H
-              A (Mut.mslice (Referent.rtF (Referent.fInt Syntax.w32)) ref9 4)) Path.refl tt) d53
+              A (Mut.mslice (Referent.rtF (Referent.fInt Syntax.w32)) ref9 4)) Path.refl tt) d58
 
-          pub typed : Typed.Typed 𝓤 H A 𝓣 E (Function.Γin 9 ps r xs m κs qs) b32 (Function.Δret 9 ps r xs m κs qs) Φ
-          typed = d54
+          pub typed : Typed.Typed 𝓤 H A 𝓣 E (Function.Γin 9 ps r xs m κs qs) b36 (Function.Δret 9 ps r xs m κs qs) Φ
+          typed = d59
 
       module _ (κs : Lifetimes.Lfts 9) where
         pub record Args : Type 0 where
@@ -2115,12 +2399,12 @@ module _ (claims· : Claims) where
           pub ledger : Kinds.Den {n = 9} κs (MutSlice.pMutS ReservationUsage.row 2 tt)
           pub inflight : Kinds.Den {n = 9} κs (MutSlice.pMutS InflightAction.row 3 tt)
           pub out : Kinds.Den {n = 9} κs (MutSlice.pMutS (Referent.rtF (Referent.fInt Syntax.w32)) 4 tt)
-          pub runtime : Kinds.Den {n = 9} κs (StructRow.param OpaqueRelayRuntime.the-type Laws'.the-laws Laws'.the-copy
-              Laws'.the-plain)
-          pub places : Kinds.Den {n = 9} κs (StructRow.param Places.the-type Laws''''.the-laws Laws''''.the-copy
-              Laws''''.the-plain)
-          pub packet : Kinds.Den {n = 9} κs (StructRow.param RelayPacket.the-type Laws''.the-laws Laws''.the-copy
-              Laws''.the-plain)
+          pub runtime : Kinds.Den {n = 9} κs (StructRow.param OpaqueRelayRuntime.the-type Laws''.the-laws
+              Laws''.the-copy Laws''.the-plain)
+          pub places : Kinds.Den {n = 9} κs (StructRow.param Places.the-type Laws''''''.the-laws Laws''''''.the-copy
+              Laws''''''.the-plain)
+          pub packet : Kinds.Den {n = 9} κs (StructRow.param RelayPacket.the-type Laws'''.the-laws Laws'''.the-copy
+              Laws'''.the-plain)
           pub source : Kinds.Den {n = 9} κs (ShrSlice.pShrS (Referent.rtF (Referent.fInt Syntax.w8)) 5 tt)
           pub body : Kinds.Den {n = 9} κs (ShrSlice.pShrS (Referent.rtF (Referent.fInt Syntax.w8)) 6 tt)
           pub endpoint : Kinds.Den {n = 9} κs (ShrSlice.pShrS (Referent.rtF (Referent.fInt Syntax.w8)) 7 tt)
@@ -2265,7 +2549,7 @@ module _ (claims· : Claims) where
 
       abbrev W1 : (before : After-gate-answer) → (given : s6 .gives
           (m6 (before .before) (After-gate-answer·gave before))) → Typed.Want O1
-      W1 = λ before given. Typed.wantNext T9 O0 (at46 (W0 (before .before .before .before .before .before .before .κs) (before
+      W1 = λ before given. Typed.wantNext T9 O0 (at51 (W0 (before .before .before .before .before .before .before .κs) (before
           .before .before .before .before .before .before .args))) (W0 (before .before .before .before .before .before
           .before .κs) (before .before .before .before .before .before .before .args))
 
@@ -2277,261 +2561,292 @@ module _ (claims· : Claims) where
 
       module _ (before· : After-is-taken) where
         pub record Then1·own : Type 0 where
-          pub taken : Path._≡_ (Row.get 14 (T8 .locals) (m7 (before· .before) (After-is-taken·gave before·)))
+          pub taken : Path._≡_ (Row.get 16 (T8 .locals) (m7 (before· .before) (After-is-taken·gave before·)))
               Bool'.true
 
       pub record Then1 : Type 0 where
         pub before : After-is-taken
         pub if1 : Then1·own before
 
-      abbrev pub m10 : (before : Then1) → (given : s10 .gives (m9 (before .before))) → Typed.Mo T13
-      m10 = λ before given. s10 .next (m9 (before .before)) given
+      abbrev pub Need-peer-of-requires : Type 0
+      Need-peer-of-requires = (c : Then1) → s9 .asks (m9 (c .before))
 
-      abbrev pub m11 : (before : Then1) → (given : s10 .gives (m9 (before .before))) → Typed.Mo T14
-      m11 = λ before given. s11 .next (m10 before given)
+      abbrev pub m10 : (before : Then1) → (given : s9 .gives (m9 (before .before))) → Typed.Mo T12
+      m10 = λ before given. s9 .next (m9 (before .before)) given
 
       module _ (before· : Then1) where
+        abbrev pub After-peer-of·own : Type 0
+        After-peer-of·own = Called.Called ps·2 r·2 (claims· .5) T11 args9 (m9 (before· .before))
+
+      pub record After-peer-of : Type 0 where
+        pub before : Then1
+        pub peer-of : After-peer-of·own before
+
+      abbrev pub After-peer-of·gave : (c : After-peer-of) → s9 .gives (m9 (c .before .before))
+      After-peer-of·gave = λ c. Called.given ps·2 r·2 (claims· .5) T11 args9 (m9 (c .before .before)) (c .peer-of)
+
+      abbrev pub m11 : (before : Then1) → (given : s9 .gives (m9 (before .before))) → Typed.Mo T13
+      m11 = λ before given. s10 (m10 before given)
+
+      abbrev pub m12 : (before : Then1) → (given : s9 .gives (m9 (before .before))) → Typed.Mo T14
+      m12 = λ before given. s11 (m11 before given)
+
+      abbrev pub m13 : (before : Then1) → (given : s9 .gives (m9 (before .before))) → Typed.Mo T15
+      m13 = λ before given. s12 (m12 before given)
+
+      abbrev pub m14 : (before : Then1) → (given : s9 .gives (m9 (before .before))) → Typed.Mo T16
+      m14 = λ before given. s13 (m13 before given)
+
+      abbrev pub m15 : (before : Then1) → (given : s9 .gives (m9 (before .before))) → Typed.Mo T17
+      m15 = λ before given. s14 (m14 before given)
+
+      abbrev pub m16 : (before : After-peer-of) → (given : s16 .gives
+          (m15 (before .before) (After-peer-of·gave before))) → Typed.Mo T19
+      m16 = λ before given. s16 .next (m15 (before .before) (After-peer-of·gave before)) given
+
+      abbrev pub m17 : (before : After-peer-of) → (given : s16 .gives
+          (m15 (before .before) (After-peer-of·gave before))) → Typed.Mo T20
+      m17 = λ before given. s17 .next (m16 before given)
+
+      module _ (before· : After-peer-of) where
         pub record After-dispatch-arg·own : Type 0 where
-          pub given : s10 .gives (m9 (before· .before))
+          pub given : s16 .gives (m15 (before· .before) (After-peer-of·gave before·))
 
       pub record After-dispatch-arg : Type 0 where
-        pub before : Then1
+        pub before : After-peer-of
         pub dispatch-arg : After-dispatch-arg·own before
 
-      abbrev pub m12 : (before : After-dispatch-arg) → (given : s13 .gives
-          (m11 (before .before) (before .dispatch-arg .given))) → Typed.Mo T16
-      m12 = λ before given. s13 .next (m11 (before .before) (before .dispatch-arg .given)) given
+      abbrev pub m18 : (before : After-dispatch-arg) → (given : s19 .gives
+          (m17 (before .before) (before .dispatch-arg .given))) → Typed.Mo T22
+      m18 = λ before given. s19 .next (m17 (before .before) (before .dispatch-arg .given)) given
 
-      abbrev pub m13 : (before : After-dispatch-arg) → (given : s13 .gives
-          (m11 (before .before) (before .dispatch-arg .given))) → Typed.Mo T17
-      m13 = λ before given. s14 .next (m12 before given)
+      abbrev pub m19 : (before : After-dispatch-arg) → (given : s19 .gives
+          (m17 (before .before) (before .dispatch-arg .given))) → Typed.Mo T23
+      m19 = λ before given. s20 .next (m18 before given)
 
       module _ (before· : After-dispatch-arg) where
         pub record After-dispatch-arg2·own : Type 0 where
-          pub given : s13 .gives (m11 (before· .before) (before· .dispatch-arg .given))
+          pub given : s19 .gives (m17 (before· .before) (before· .dispatch-arg .given))
 
       pub record After-dispatch-arg2 : Type 0 where
         pub before : After-dispatch-arg
         pub dispatch-arg2 : After-dispatch-arg2·own before
 
-      abbrev pub m14 : (before : After-dispatch-arg2) → (given : s16 .gives
-          (m13 (before .before) (before .dispatch-arg2 .given))) → Typed.Mo T19
-      m14 = λ before given. s16 .next (m13 (before .before) (before .dispatch-arg2 .given)) given
+      abbrev pub m20 : (before : After-dispatch-arg2) → (given : s22 .gives
+          (m19 (before .before) (before .dispatch-arg2 .given))) → Typed.Mo T25
+      m20 = λ before given. s22 .next (m19 (before .before) (before .dispatch-arg2 .given)) given
 
-      abbrev pub m15 : (before : After-dispatch-arg2) → (given : s16 .gives
-          (m13 (before .before) (before .dispatch-arg2 .given))) → Typed.Mo T20
-      m15 = λ before given. s17 .next (m14 before given)
+      abbrev pub m21 : (before : After-dispatch-arg2) → (given : s22 .gives
+          (m19 (before .before) (before .dispatch-arg2 .given))) → Typed.Mo T26
+      m21 = λ before given. s23 .next (m20 before given)
 
       module _ (before· : After-dispatch-arg2) where
         pub record After-dispatch-arg3·own : Type 0 where
-          pub given : s16 .gives (m13 (before· .before) (before· .dispatch-arg2 .given))
+          pub given : s22 .gives (m19 (before· .before) (before· .dispatch-arg2 .given))
 
       pub record After-dispatch-arg3 : Type 0 where
         pub before : After-dispatch-arg2
         pub dispatch-arg3 : After-dispatch-arg3·own before
 
-      abbrev pub m16 : (before : After-dispatch-arg3) → (given : s19 .gives
-          (m15 (before .before) (before .dispatch-arg3 .given))) → Typed.Mo T22
-      m16 = λ before given. s19 .next (m15 (before .before) (before .dispatch-arg3 .given)) given
+      abbrev pub m22 : (before : After-dispatch-arg3) → (given : s25 .gives
+          (m21 (before .before) (before .dispatch-arg3 .given))) → Typed.Mo T28
+      m22 = λ before given. s25 .next (m21 (before .before) (before .dispatch-arg3 .given)) given
 
-      abbrev pub m17 : (before : After-dispatch-arg3) → (given : s19 .gives
-          (m15 (before .before) (before .dispatch-arg3 .given))) → Typed.Mo T23
-      m17 = λ before given. s20 .next (m16 before given)
+      abbrev pub m23 : (before : After-dispatch-arg3) → (given : s25 .gives
+          (m21 (before .before) (before .dispatch-arg3 .given))) → Typed.Mo T29
+      m23 = λ before given. s26 .next (m22 before given)
 
       module _ (before· : After-dispatch-arg3) where
         pub record After-dispatch-arg4·own : Type 0 where
-          pub given : s19 .gives (m15 (before· .before) (before· .dispatch-arg3 .given))
+          pub given : s25 .gives (m21 (before· .before) (before· .dispatch-arg3 .given))
 
       pub record After-dispatch-arg4 : Type 0 where
         pub before : After-dispatch-arg3
         pub dispatch-arg4 : After-dispatch-arg4·own before
 
-      abbrev pub m18 : (before : After-dispatch-arg4) → (given : s22 .gives
-          (m17 (before .before) (before .dispatch-arg4 .given))) → Typed.Mo T25
-      m18 = λ before given. s22 .next (m17 (before .before) (before .dispatch-arg4 .given)) given
+      abbrev pub m24 : (before : After-dispatch-arg4) → (given : s28 .gives
+          (m23 (before .before) (before .dispatch-arg4 .given))) → Typed.Mo T31
+      m24 = λ before given. s28 .next (m23 (before .before) (before .dispatch-arg4 .given)) given
 
-      abbrev pub m19 : (before : After-dispatch-arg4) → (given : s22 .gives
-          (m17 (before .before) (before .dispatch-arg4 .given))) → Typed.Mo T26
-      m19 = λ before given. s23 .next (m18 before given)
+      abbrev pub m25 : (before : After-dispatch-arg4) → (given : s28 .gives
+          (m23 (before .before) (before .dispatch-arg4 .given))) → Typed.Mo T32
+      m25 = λ before given. s29 .next (m24 before given)
+
+      abbrev pub m26 : (before : After-dispatch-arg4) → (given : s28 .gives
+          (m23 (before .before) (before .dispatch-arg4 .given))) → Typed.Mo T33
+      m26 = λ before given. s30 (m25 before given)
 
       module _ (before· : After-dispatch-arg4) where
         pub record After-dispatch-arg5·own : Type 0 where
-          pub given : s22 .gives (m17 (before· .before) (before· .dispatch-arg4 .given))
+          pub given : s28 .gives (m23 (before· .before) (before· .dispatch-arg4 .given))
 
       pub record After-dispatch-arg5 : Type 0 where
         pub before : After-dispatch-arg4
         pub dispatch-arg5 : After-dispatch-arg5·own before
 
       abbrev pub Need-dispatch-requires : Type 0
-      Need-dispatch-requires = (c : After-dispatch-arg5) → s24 .asks (m19 (c .before) (c .dispatch-arg5 .given))
+      Need-dispatch-requires = (c : After-dispatch-arg5) → s31 .asks (m26 (c .before) (c .dispatch-arg5 .given))
 
-      abbrev pub m20 : (before : After-dispatch-arg5) → (given : s24 .gives
-          (m19 (before .before) (before .dispatch-arg5 .given))) → Typed.Mo T27
-      m20 = λ before given. s24 .next (m19 (before .before) (before .dispatch-arg5 .given)) given
+      abbrev pub m27 : (before : After-dispatch-arg5) → (given : s31 .gives
+          (m26 (before .before) (before .dispatch-arg5 .given))) → Typed.Mo T34
+      m27 = λ before given. s31 .next (m26 (before .before) (before .dispatch-arg5 .given)) given
 
       module _ (before· : After-dispatch-arg5) where
         abbrev pub After-dispatch·own : Type 0
-        After-dispatch·own = Called.Called ps·2 r·2 (claims· .5) T26 args24
-            (m19 (before· .before) (before· .dispatch-arg5 .given))
+        After-dispatch·own = Called.Called ps·3 r·3 (claims· .7) T33 args31
+            (m26 (before· .before) (before· .dispatch-arg5 .given))
 
       pub record After-dispatch : Type 0 where
         pub before : After-dispatch-arg5
         pub dispatch : After-dispatch·own before
 
-      abbrev pub After-dispatch·gave : (c : After-dispatch) → s24 .gives
-          (m19 (c .before .before) (c .before .dispatch-arg5 .given))
-      After-dispatch·gave = λ c. Called.given ps·2 r·2 (claims· .5) T26 args24
-          (m19 (c .before .before) (c .before .dispatch-arg5 .given)) (c .dispatch)
+      abbrev pub After-dispatch·gave : (c : After-dispatch) → s31 .gives
+          (m26 (c .before .before) (c .before .dispatch-arg5 .given))
+      After-dispatch·gave = λ c. Called.given ps·3 r·3 (claims· .7) T33 args31
+          (m26 (c .before .before) (c .before .dispatch-arg5 .given)) (c .dispatch)
 
-      abbrev pub m21 : (before : After-dispatch-arg5) → (given : s24 .gives
-          (m19 (before .before) (before .dispatch-arg5 .given))) → Typed.Mo T28
-      m21 = λ before given. s25 (m20 before given)
+      abbrev pub m28 : (before : After-dispatch-arg5) → (given : s31 .gives
+          (m26 (before .before) (before .dispatch-arg5 .given))) → Typed.Mo T35
+      m28 = λ before given. s32 (m27 before given)
 
-      abbrev pub m22 : (before : After-dispatch-arg5) → (given : s24 .gives
-          (m19 (before .before) (before .dispatch-arg5 .given))) → Typed.Mo T29
-      m22 = λ before given. s26 (m21 before given)
-
-      abbrev pub m23 : (before : After-dispatch-arg5) → (given : s24 .gives
-          (m19 (before .before) (before .dispatch-arg5 .given))) → Typed.Mo T30
-      m23 = λ before given. s27 (m22 before given)
-
-      abbrev pub m24 : (before : After-dispatch) → (given : s29 .gives
-          (m23 (before .before) (After-dispatch·gave before))) → Typed.Mo T32
-      m24 = λ before given. s29 .next (m23 (before .before) (After-dispatch·gave before)) given
+      abbrev pub m29 : (before : After-dispatch) → (given : s34 .gives
+          (m28 (before .before) (After-dispatch·gave before))) → Typed.Mo T37
+      m29 = λ before given. s34 .next (m28 (before .before) (After-dispatch·gave before)) given
 
       module _ (before· : After-dispatch) where
         pub record After-pending·own : Type 0 where
-          pub given : s29 .gives (m23 (before· .before) (After-dispatch·gave before·))
+          pub given : s34 .gives (m28 (before· .before) (After-dispatch·gave before·))
 
       pub record After-pending : Type 0 where
         pub before : After-dispatch
         pub pending : After-pending·own before
 
-      abbrev pub m25 : (before : After-pending) → (given : s32 .gives (m24 (before .before) (before .pending .given)))
-          → Typed.Mo T35
-      m25 = λ before given. s32 .next (m24 (before .before) (before .pending .given)) given
+      abbrev pub m30 : (before : After-pending) → (given : s37 .gives (m29 (before .before) (before .pending .given)))
+          → Typed.Mo T40
+      m30 = λ before given. s37 .next (m29 (before .before) (before .pending .given)) given
 
       module _ (before· : After-pending) where
         pub record After-circuits·own : Type 0 where
-          pub given : s32 .gives (m24 (before· .before) (before· .pending .given))
+          pub given : s37 .gives (m29 (before· .before) (before· .pending .given))
 
       pub record After-circuits : Type 0 where
         pub before : After-pending
         pub circuits : After-circuits·own before
 
-      abbrev pub m26 : (before : After-circuits) → (given : s35 .gives (m25 (before .before) (before .circuits .given)))
-          → Typed.Mo T38
-      m26 = λ before given. s35 .next (m25 (before .before) (before .circuits .given)) given
+      abbrev pub m31 : (before : After-circuits) → (given : s40 .gives (m30 (before .before) (before .circuits .given)))
+          → Typed.Mo T43
+      m31 = λ before given. s40 .next (m30 (before .before) (before .circuits .given)) given
 
       module _ (before· : After-circuits) where
         pub record After-ledger·own : Type 0 where
-          pub given : s35 .gives (m25 (before· .before) (before· .circuits .given))
+          pub given : s40 .gives (m30 (before· .before) (before· .circuits .given))
 
       pub record After-ledger : Type 0 where
         pub before : After-circuits
         pub ledger : After-ledger·own before
 
-      abbrev pub m27 : (before : After-ledger) → (given : s38 .gives (m26 (before .before) (before .ledger .given))) →
-          Typed.Mo T41
-      m27 = λ before given. s38 .next (m26 (before .before) (before .ledger .given)) given
+      abbrev pub m32 : (before : After-ledger) → (given : s43 .gives (m31 (before .before) (before .ledger .given))) →
+          Typed.Mo T46
+      m32 = λ before given. s43 .next (m31 (before .before) (before .ledger .given)) given
 
       module _ (before· : After-ledger) where
         pub record After-inflight·own : Type 0 where
-          pub given : s38 .gives (m26 (before· .before) (before· .ledger .given))
+          pub given : s43 .gives (m31 (before· .before) (before· .ledger .given))
 
       pub record After-inflight : Type 0 where
         pub before : After-ledger
         pub inflight : After-inflight·own before
 
-      abbrev pub m28 : (before : After-inflight) → (given : s41 .gives (m27 (before .before) (before .inflight .given)))
-          → Typed.Mo T44
-      m28 = λ before given. s41 .next (m27 (before .before) (before .inflight .given)) given
+      abbrev pub m33 : (before : After-inflight) → (given : s46 .gives (m32 (before .before) (before .inflight .given)))
+          → Typed.Mo T49
+      m33 = λ before given. s46 .next (m32 (before .before) (before .inflight .given)) given
 
       module _ (before· : After-inflight) where
         pub record After-out·own : Type 0 where
-          pub given : s41 .gives (m27 (before· .before) (before· .inflight .given))
+          pub given : s46 .gives (m32 (before· .before) (before· .inflight .given))
 
       pub record After-out : Type 0 where
         pub before : After-inflight
         pub out : After-out·own before
 
-      abbrev pub m29 : (before : After-out) → (given : s42 .gives (m28 (before .before) (before .out .given))) →
-          Typed.Mo T45
-      m29 = λ before given. s42 .next (m28 (before .before) (before .out .given)) given
+      abbrev pub m34 : (before : After-out) → (given : s47 .gives (m33 (before .before) (before .out .given))) →
+          Typed.Mo T50
+      m34 = λ before given. s47 .next (m33 (before .before) (before .out .given)) given
 
       module _ (before· : After-out) where
         pub record After-slice-known2·own : Type 0 where
-          pub given : s42 .gives (m28 (before· .before) (before· .out .given))
+          pub given : s47 .gives (m33 (before· .before) (before· .out .given))
 
       pub record After-slice-known2 : Type 0 where
         pub before : After-out
         pub slice-known2 : After-slice-known2·own before
 
       abbrev pub Need-same-length : Type 0
-      Need-same-length = (c : After-slice-known2) → MutSlice.SameLen (Row.get 1 (T45 .locals)
-          (m29 (c .before) (c .slice-known2 .given))) (dens (c .before .before .before .before .before .before .before
-          .before .before .before .before .before .before .before .before .before .before .before .before .before .κs) (c
+      Need-same-length = (c : After-slice-known2) → MutSlice.SameLen (Row.get 1 (T50 .locals)
+          (m34 (c .before) (c .slice-known2 .given))) (dens (c .before .before .before .before .before .before .before
           .before .before .before .before .before .before .before .before .before .before .before .before .before
-          .before .before .before .before .before .before .before .args) .0)
+          .before .κs) (c .before .before .before .before .before .before .before .before .before .before .before
+          .before .before .before .before .before .before .before .before .before .before .args) .0)
 
       abbrev pub Need-same-length-2 : Type 0
-      Need-same-length-2 = (c : After-slice-known2) → MutSlice.SameLen (Row.get 2 (T45 .locals)
-          (m29 (c .before) (c .slice-known2 .given))) (dens (c .before .before .before .before .before .before .before
-          .before .before .before .before .before .before .before .before .before .before .before .before .before .κs) (c
+      Need-same-length-2 = (c : After-slice-known2) → MutSlice.SameLen (Row.get 2 (T50 .locals)
+          (m34 (c .before) (c .slice-known2 .given))) (dens (c .before .before .before .before .before .before .before
           .before .before .before .before .before .before .before .before .before .before .before .before .before
-          .before .before .before .before .before .before .before .args) .1 .0)
+          .before .κs) (c .before .before .before .before .before .before .before .before .before .before .before
+          .before .before .before .before .before .before .before .before .before .before .args) .1 .0)
 
       abbrev pub Need-same-length-3 : Type 0
-      Need-same-length-3 = (c : After-slice-known2) → MutSlice.SameLen (Row.get 3 (T45 .locals)
-          (m29 (c .before) (c .slice-known2 .given))) (dens (c .before .before .before .before .before .before .before
-          .before .before .before .before .before .before .before .before .before .before .before .before .before .κs) (c
+      Need-same-length-3 = (c : After-slice-known2) → MutSlice.SameLen (Row.get 3 (T50 .locals)
+          (m34 (c .before) (c .slice-known2 .given))) (dens (c .before .before .before .before .before .before .before
           .before .before .before .before .before .before .before .before .before .before .before .before .before
-          .before .before .before .before .before .before .before .args) .1 .1 .0)
+          .before .κs) (c .before .before .before .before .before .before .before .before .before .before .before
+          .before .before .before .before .before .before .before .before .before .before .args) .1 .1 .0)
 
       abbrev pub Need-same-length-4 : Type 0
-      Need-same-length-4 = (c : After-slice-known2) → MutSlice.SameLen (Row.get 4 (T45 .locals)
-          (m29 (c .before) (c .slice-known2 .given))) (dens (c .before .before .before .before .before .before .before
-          .before .before .before .before .before .before .before .before .before .before .before .before .before .κs) (c
+      Need-same-length-4 = (c : After-slice-known2) → MutSlice.SameLen (Row.get 4 (T50 .locals)
+          (m34 (c .before) (c .slice-known2 .given))) (dens (c .before .before .before .before .before .before .before
           .before .before .before .before .before .before .before .before .before .before .before .before .before
-          .before .before .before .before .before .before .before .args) .1 .1 .1 .0)
+          .before .κs) (c .before .before .before .before .before .before .before .before .before .before .before
+          .before .before .before .before .before .before .before .before .before .before .args) .1 .1 .1 .0)
 
       abbrev pub Need-same-length-5 : Type 0
-      Need-same-length-5 = (c : After-slice-known2) → MutSlice.SameLen (Row.get 5 (T45 .locals)
-          (m29 (c .before) (c .slice-known2 .given))) (dens (c .before .before .before .before .before .before .before
-          .before .before .before .before .before .before .before .before .before .before .before .before .before .κs) (c
+      Need-same-length-5 = (c : After-slice-known2) → MutSlice.SameLen (Row.get 5 (T50 .locals)
+          (m34 (c .before) (c .slice-known2 .given))) (dens (c .before .before .before .before .before .before .before
           .before .before .before .before .before .before .before .before .before .before .before .before .before
-          .before .before .before .before .before .before .before .args) .1 .1 .1 .1 .0)
+          .before .κs) (c .before .before .before .before .before .before .before .before .before .before .before
+          .before .before .before .before .before .before .before .before .before .before .args) .1 .1 .1 .1 .0)
 
       abbrev pub Need-returns : Type 0
       Need-returns = (c : After-slice-known2) → Post· (c .before .before .before .before .before .before .before
-          .before .before .before .before .before .before .before .before .before .before .before .before .before .κs) (dens (c
+          .before .before .before .before .before .before .before .before .before .before .before .before .before
+          .before .κs) (dens (c .before .before .before .before .before .before .before .before .before .before .before
+          .before .before .before .before .before .before .before .before .before .before .κs) (c .before .before
+          .before .before .before .before .before .before .before .before .before .before .before .before .before
+          .before .before .before .before .before .before .args)) (Function.resV r (c .before .before .before .before
+          .before .before .before .before .before .before .before .before .before .before .before .before .before
+          .before .before .before .before .κs) (m34 (c .before) (c .slice-known2 .given) .0)) (Clauses.atExit
+          (Kinds.endedOf 9 ps r) (c .before .before .before .before .before .before .before .before .before .before
+          .before .before .before .before .before .before .before .before .before .before .before .κs) (dens (c .before
           .before .before .before .before .before .before .before .before .before .before .before .before .before
           .before .before .before .before .before .before .before .κs) (c .before .before .before .before .before
           .before .before .before .before .before .before .before .before .before .before .before .before .before
-          .before .before .args)) (Function.resV r (c .before .before .before .before .before .before .before .before
-          .before .before .before .before .before .before .before .before .before .before .before .before .κs)
-          (m29 (c .before) (c .slice-known2 .given) .0)) (Clauses.atExit (Kinds.endedOf 9 ps r) (c .before .before
+          .before .before .before .args)) (Enter.lastsP (c .before .before .before .before .before .before .before
           .before .before .before .before .before .before .before .before .before .before .before .before .before
-          .before .before .before .before .before .κs) (dens (c .before .before .before .before .before .before .before
-          .before .before .before .before .before .before .before .before .before .before .before .before .before .κs) (c
-          .before .before .before .before .before .before .before .before .before .before .before .before .before
-          .before .before .before .before .before .before .before .args)) (Enter.lastsP (c .before .before .before
-          .before .before .before .before .before .before .before .before .before .before .before .before .before
-          .before .before .before .before .κs) 1 ps xs (dens (c .before .before .before .before .before .before .before
-          .before .before .before .before .before .before .before .before .before .before .before .before .before .κs) (c
+          .before .κs) 1 ps xs (dens (c .before .before .before .before .before .before .before .before .before .before
+          .before .before .before .before .before .before .before .before .before .before .before .κs) (c .before
           .before .before .before .before .before .before .before .before .before .before .before .before .before
           .before .before .before .before .before .before .before .args))
-          (m29 (c .before) (c .slice-known2 .given) .1)))
+          (m34 (c .before) (c .slice-known2 .given) .1)))
 
-      abbrev pub m30 : (before : After-is-taken) → Typed.Mo T47
-      m30 = λ before. s44 (m7 (before .before) (After-is-taken·gave before))
+      abbrev pub m35 : (before : After-is-taken) → Typed.Mo T52
+      m35 = λ before. s49 (m7 (before .before) (After-is-taken·gave before))
 
-      abbrev pub m31 : (before : After-is-taken) → Typed.Mo T48
-      m31 = λ before. s45 (m30 before)
+      abbrev pub m36 : (before : After-is-taken) → Typed.Mo T53
+      m36 = λ before. s50 (m35 before)
 
       module _ (before· : After-is-taken) where
         pub record Else1·own : Type 0 where
-          pub left : Path._≡_ (Row.get 14 (T8 .locals) (m7 (before· .before) (After-is-taken·gave before·)))
+          pub left : Path._≡_ (Row.get 16 (T8 .locals) (m7 (before· .before) (After-is-taken·gave before·)))
               Bool'.false
 
       pub record Else1 : Type 0 where
@@ -2539,52 +2854,52 @@ module _ (claims· : Claims) where
         pub if1 : Else1·own before
 
       abbrev pub Need-refused-requires : Type 0
-      Need-refused-requires = (c : Else1) → s46 .asks (m31 (c .before))
+      Need-refused-requires = (c : Else1) → s51 .asks (m36 (c .before))
 
-      abbrev pub m32 : (before : Else1) → (given : s46 .gives (m31 (before .before))) → Typed.Mo T49
-      m32 = λ before given. s46 .next (m31 (before .before)) given
+      abbrev pub m37 : (before : Else1) → (given : s51 .gives (m36 (before .before))) → Typed.Mo T54
+      m37 = λ before given. s51 .next (m36 (before .before)) given
 
       module _ (before· : Else1) where
         abbrev pub After-refused·own : Type 0
-        After-refused·own = Called.Called ps·3 r·3 (claims· .7) T9 args46 (m31 (before· .before))
+        After-refused·own = Called.Called ps·4 r·4 (claims· .9) T9 args51 (m36 (before· .before))
 
       pub record After-refused : Type 0 where
         pub before : Else1
         pub refused : After-refused·own before
 
-      abbrev pub After-refused·gave : (c : After-refused) → s46 .gives (m31 (c .before .before))
-      After-refused·gave = λ c. Called.given ps·3 r·3 (claims· .7) T9 args46 (m31 (c .before .before)) (c .refused)
+      abbrev pub After-refused·gave : (c : After-refused) → s51 .gives (m36 (c .before .before))
+      After-refused·gave = λ c. Called.given ps·4 r·4 (claims· .9) T9 args51 (m36 (c .before .before)) (c .refused)
 
-      abbrev pub m33 : (before : Else1) → (given : s46 .gives (m31 (before .before))) → Typed.Mo T50
-      m33 = λ before given. s47 (m32 before given)
+      abbrev pub m38 : (before : Else1) → (given : s51 .gives (m36 (before .before))) → Typed.Mo T55
+      m38 = λ before given. s52 (m37 before given)
 
-      abbrev pub m34 : (before : Else1) → (given : s46 .gives (m31 (before .before))) → Typed.Mo T51
-      m34 = λ before given. s48 (m33 before given)
+      abbrev pub m39 : (before : Else1) → (given : s51 .gives (m36 (before .before))) → Typed.Mo T56
+      m39 = λ before given. s53 (m38 before given)
 
-      abbrev pub m35 : (before : Else1) → (given : s46 .gives (m31 (before .before))) → Typed.Mo T52
-      m35 = λ before given. s49 (m34 before given)
+      abbrev pub m40 : (before : Else1) → (given : s51 .gives (m36 (before .before))) → Typed.Mo T57
+      m40 = λ before given. s54 (m39 before given)
 
       abbrev pub Need-returns-2 : Type 0
       Need-returns-2 = (c : After-refused) → Post· (c .before .before .before .before .before .before .before .before
           .before .κs) (dens (c .before .before .before .before .before .before .before .before .before .κs) (c .before
           .before .before .before .before .before .before .before .before .args)) (Function.resV r (c .before .before
-          .before .before .before .before .before .before .before .κs) (m35 (c .before) (After-refused·gave c) .0)) (Clauses.atExit
+          .before .before .before .before .before .before .before .κs) (m40 (c .before) (After-refused·gave c) .0)) (Clauses.atExit
           (Kinds.endedOf 9 ps r) (c .before .before .before .before .before .before .before .before .before .κs) (dens (c
           .before .before .before .before .before .before .before .before .before .κs) (c .before .before .before
           .before .before .before .before .before .before .args)) (Enter.lastsP (c .before .before .before .before
           .before .before .before .before .before .κs) 1 ps xs (dens (c .before .before .before .before .before .before
           .before .before .before .κs) (c .before .before .before .before .before .before .before .before .before
-          .args)) (m35 (c .before) (After-refused·gave c) .1)))
+          .args)) (m40 (c .before) (After-refused·gave c) .1)))
 
       module _ (gate-answer-requires : Need-gate-answer-requires) (is-taken-requires : Need-is-taken-requires)
-          (dispatch-requires : Need-dispatch-requires) (same-length : Need-same-length)
-          (same-length-2 : Need-same-length-2) (same-length-3 : Need-same-length-3)
+          (peer-of-requires : Need-peer-of-requires) (dispatch-requires : Need-dispatch-requires)
+          (same-length : Need-same-length) (same-length-2 : Need-same-length-2) (same-length-3 : Need-same-length-3)
           (same-length-4 : Need-same-length-4) (same-length-5 : Need-same-length-5) (returns : Need-returns)
           (refused-requires : Need-refused-requires) (returns-2 : Need-returns-2) where
-        lay5 : (c : After-refused) → at45 (W0 (c .before .before .before .before .before .before .before .before
+        lay6 : (c : After-refused) → at50 (W0 (c .before .before .before .before .before .before .before .before
             .before .κs) (c .before .before .before .before .before .before .before .before .before .args))
-            (m32 (c .before) (After-refused·gave c))
-        lay5 = λ c. (
+            (m37 (c .before) (After-refused·gave c))
+        lay6 = λ c. (
           (
             Path.refl,
             (
@@ -2598,19 +2913,20 @@ module _ (claims· : Claims) where
           returns-2 record { before = c .before; refused = c .refused },
         )
 
-        lay4 : (c : Else1) → at46 (W0 (c .before .before .before .before .before .before .before .before .κs) (c
-            .before .before .before .before .before .before .before .before .args)) (m31 (c .before))
-        lay4 = λ c. (
+        lay5 : (c : Else1) → at51 (W0 (c .before .before .before .before .before .before .before .before .κs) (c
+            .before .before .before .before .before .before .before .before .args)) (m36 (c .before))
+        lay5 = λ c. (
           refused-requires record { before = c .before; if1 = c .if1 },
-          λ g. lay5 record {
+          λ g. lay6 record {
             before = record { before = c .before; if1 = c .if1 };
-            refused = Called.called ps·3 r·3 (claims· .7) T9 args46 (m31 (c .before)) g;
+            refused = Called.called ps·4 r·4 (claims· .9) T9 args51 (m36 (c .before)) g;
           },
         )
 
-        lay3 : (c : After-dispatch) → at19 (W1 (c .before .before .before .before .before .before .before .before) (After-is-taken·gave (c
-            .before .before .before .before .before .before .before))) (m20 (c .before) (After-dispatch·gave c))
-        lay3 = λ c. (
+        lay4 : (c : After-dispatch) → at17 (W1 (c .before .before .before .before .before .before .before .before
+            .before) (After-is-taken·gave (c .before .before .before .before .before .before .before .before)))
+            (m27 (c .before) (After-dispatch·gave c))
+        lay4 = λ c. (
           Path.refl,
           λ g. (
             Path.refl,
@@ -2622,7 +2938,7 @@ module _ (claims· : Claims) where
                   Path.refl,
                   λ g'4. λ g'5. (
                     (
-                      MutSlice.fix-len (Row.get 1 (T45 .locals) (m29
+                      MutSlice.fix-len (Row.get 1 (T50 .locals) (m34
                           record {
                             before = record {
                               before = record {
@@ -2638,7 +2954,7 @@ module _ (claims· : Claims) where
                               inflight = record { given = g'3 };
                             };
                             out = record { given = g'4 };
-                          } g'5) .ptr) (Row.get 1 (T45 .locals) (m29
+                          } g'5) .ptr) (Row.get 1 (T50 .locals) (m34
                           record {
                             before = record {
                               before = record {
@@ -2654,7 +2970,7 @@ module _ (claims· : Claims) where
                               inflight = record { given = g'3 };
                             };
                             out = record { given = g'4 };
-                          } g'5) .name) (Row.get 1 (T45 .locals) (m29
+                          } g'5) .name) (Row.get 1 (T50 .locals) (m34
                           record {
                             before = record {
                               before = record {
@@ -2671,9 +2987,9 @@ module _ (claims· : Claims) where
                             };
                             out = record { given = g'4 };
                           } g'5) .now) (dens (c .before .before .before .before .before .before .before .before .before
-                          .before .before .before .before .before .κs) (c .before .before .before .before .before
-                          .before .before .before .before .before .before .before .before .before .args) .0 .now) (same-length
-                          record {
+                          .before .before .before .before .before .before .κs) (c .before .before .before .before
+                          .before .before .before .before .before .before .before .before .before .before .before .args)
+                          .0 .now) (same-length record {
                             before = record {
                               before = record {
                                 before = record {
@@ -2693,7 +3009,7 @@ module _ (claims· : Claims) where
                             slice-known2 = record { given = g'5 };
                           }),
                       (
-                        MutSlice.fix-len (Row.get 2 (T45 .locals) (m29
+                        MutSlice.fix-len (Row.get 2 (T50 .locals) (m34
                             record {
                               before = record {
                                 before = record {
@@ -2709,7 +3025,7 @@ module _ (claims· : Claims) where
                                 inflight = record { given = g'3 };
                               };
                               out = record { given = g'4 };
-                            } g'5) .ptr) (Row.get 2 (T45 .locals) (m29
+                            } g'5) .ptr) (Row.get 2 (T50 .locals) (m34
                             record {
                               before = record {
                                 before = record {
@@ -2725,7 +3041,7 @@ module _ (claims· : Claims) where
                                 inflight = record { given = g'3 };
                               };
                               out = record { given = g'4 };
-                            } g'5) .name) (Row.get 2 (T45 .locals) (m29
+                            } g'5) .name) (Row.get 2 (T50 .locals) (m34
                             record {
                               before = record {
                                 before = record {
@@ -2742,9 +3058,10 @@ module _ (claims· : Claims) where
                               };
                               out = record { given = g'4 };
                             } g'5) .now) (dens (c .before .before .before .before .before .before .before .before
-                            .before .before .before .before .before .before .κs) (c .before .before .before .before
-                            .before .before .before .before .before .before .before .before .before .before .args) .1
-                            .0 .now) (same-length-2 record {
+                            .before .before .before .before .before .before .before .κs) (c .before .before .before
+                            .before .before .before .before .before .before .before .before .before .before .before
+                            .before .args) .1 .0 .now) (same-length-2
+                            record {
                               before = record {
                                 before = record {
                                   before = record {
@@ -2764,7 +3081,7 @@ module _ (claims· : Claims) where
                               slice-known2 = record { given = g'5 };
                             }),
                         (
-                          MutSlice.fix-len (Row.get 3 (T45 .locals) (m29
+                          MutSlice.fix-len (Row.get 3 (T50 .locals) (m34
                               record {
                                 before = record {
                                   before = record {
@@ -2780,7 +3097,7 @@ module _ (claims· : Claims) where
                                   inflight = record { given = g'3 };
                                 };
                                 out = record { given = g'4 };
-                              } g'5) .ptr) (Row.get 3 (T45 .locals) (m29
+                              } g'5) .ptr) (Row.get 3 (T50 .locals) (m34
                               record {
                                 before = record {
                                   before = record {
@@ -2796,7 +3113,7 @@ module _ (claims· : Claims) where
                                   inflight = record { given = g'3 };
                                 };
                                 out = record { given = g'4 };
-                              } g'5) .name) (Row.get 3 (T45 .locals) (m29
+                              } g'5) .name) (Row.get 3 (T50 .locals) (m34
                               record {
                                 before = record {
                                   before = record {
@@ -2813,9 +3130,9 @@ module _ (claims· : Claims) where
                                 };
                                 out = record { given = g'4 };
                               } g'5) .now) (dens (c .before .before .before .before .before .before .before .before
-                              .before .before .before .before .before .before .κs) (c .before .before .before .before
-                              .before .before .before .before .before .before .before .before .before .before .args) .1
-                              .1 .0 .now) (same-length-3
+                              .before .before .before .before .before .before .before .κs) (c .before .before .before
+                              .before .before .before .before .before .before .before .before .before .before .before
+                              .before .args) .1 .1 .0 .now) (same-length-3
                               record {
                                 before = record {
                                   before = record {
@@ -2836,7 +3153,7 @@ module _ (claims· : Claims) where
                                 slice-known2 = record { given = g'5 };
                               }),
                           (
-                            MutSlice.fix-len (Row.get 4 (T45 .locals) (m29
+                            MutSlice.fix-len (Row.get 4 (T50 .locals) (m34
                                 record {
                                   before = record {
                                     before = record {
@@ -2852,7 +3169,7 @@ module _ (claims· : Claims) where
                                     inflight = record { given = g'3 };
                                   };
                                   out = record { given = g'4 };
-                                } g'5) .ptr) (Row.get 4 (T45 .locals) (m29
+                                } g'5) .ptr) (Row.get 4 (T50 .locals) (m34
                                 record {
                                   before = record {
                                     before = record {
@@ -2868,7 +3185,7 @@ module _ (claims· : Claims) where
                                     inflight = record { given = g'3 };
                                   };
                                   out = record { given = g'4 };
-                                } g'5) .name) (Row.get 4 (T45 .locals) (m29
+                                } g'5) .name) (Row.get 4 (T50 .locals) (m34
                                 record {
                                   before = record {
                                     before = record {
@@ -2885,9 +3202,9 @@ module _ (claims· : Claims) where
                                   };
                                   out = record { given = g'4 };
                                 } g'5) .now) (dens (c .before .before .before .before .before .before .before .before
-                                .before .before .before .before .before .before .κs) (c .before .before .before .before
-                                .before .before .before .before .before .before .before .before .before .before .args)
-                                .1 .1 .1 .0 .now) (same-length-4
+                                .before .before .before .before .before .before .before .κs) (c .before .before .before
+                                .before .before .before .before .before .before .before .before .before .before .before
+                                .before .args) .1 .1 .1 .0 .now) (same-length-4
                                 record {
                                   before = record {
                                     before = record {
@@ -2908,7 +3225,7 @@ module _ (claims· : Claims) where
                                   slice-known2 = record { given = g'5 };
                                 }),
                             (
-                              MutSlice.fix-len (Row.get 5 (T45 .locals) (m29
+                              MutSlice.fix-len (Row.get 5 (T50 .locals) (m34
                                   record {
                                     before = record {
                                       before = record {
@@ -2924,7 +3241,7 @@ module _ (claims· : Claims) where
                                       inflight = record { given = g'3 };
                                     };
                                     out = record { given = g'4 };
-                                  } g'5) .ptr) (Row.get 5 (T45 .locals) (m29
+                                  } g'5) .ptr) (Row.get 5 (T50 .locals) (m34
                                   record {
                                     before = record {
                                       before = record {
@@ -2940,7 +3257,7 @@ module _ (claims· : Claims) where
                                       inflight = record { given = g'3 };
                                     };
                                     out = record { given = g'4 };
-                                  } g'5) .name) (Row.get 5 (T45 .locals) (m29
+                                  } g'5) .name) (Row.get 5 (T50 .locals) (m34
                                   record {
                                     before = record {
                                       before = record {
@@ -2957,9 +3274,9 @@ module _ (claims· : Claims) where
                                     };
                                     out = record { given = g'4 };
                                   } g'5) .now) (dens (c .before .before .before .before .before .before .before .before
-                                  .before .before .before .before .before .before .κs) (c .before .before .before
+                                  .before .before .before .before .before .before .before .κs) (c .before .before
                                   .before .before .before .before .before .before .before .before .before .before
-                                  .before .args) .1 .1 .1 .1 .0 .now) (same-length-5
+                                  .before .before .before .args) .1 .1 .1 .1 .0 .now) (same-length-5
                                   record {
                                     before = record {
                                       before = record {
@@ -3011,29 +3328,42 @@ module _ (claims· : Claims) where
           ),
         )
 
-        lay2 : (c : After-is-taken) → at47 (W0 (c .before .before .before .before .before .before .before .κs) (c
-            .before .before .before .before .before .before .before .args)) (m7 (c .before) (After-is-taken·gave c))
-        lay2 = λ c. (
-          λ taken. λ g. (
+        lay3 : (c : After-peer-of) → at39 (W1 (c .before .before .before) (After-is-taken·gave (c .before .before)))
+            (m10 (c .before) (After-peer-of·gave c))
+        lay3 = λ c. λ g. (
+          Path.refl,
+          λ g'. (
             Path.refl,
-            λ g'. (
+            λ g''. (
               Path.refl,
-              λ g''. (
+              λ g'3. (
                 Path.refl,
-                λ g'3. (
+                λ g'4. (
                   Path.refl,
-                  λ g'4. (
-                    Path.refl,
-                    (
-                      dispatch-requires record {
+                  (
+                    dispatch-requires record {
+                      before = record {
+                        before = record {
+                          before = record {
+                            before = record {
+                              before = record { before = c .before; peer-of = c .peer-of };
+                              dispatch-arg = record { given = g };
+                            };
+                            dispatch-arg2 = record { given = g' };
+                          };
+                          dispatch-arg3 = record { given = g'' };
+                        };
+                        dispatch-arg4 = record { given = g'3 };
+                      };
+                      dispatch-arg5 = record { given = g'4 };
+                    },
+                    λ g'5. lay4 record {
+                      before = record {
                         before = record {
                           before = record {
                             before = record {
                               before = record {
-                                before = record {
-                                  before = record { before = c .before; is-taken = c .is-taken };
-                                  if1 = record { taken = taken };
-                                };
+                                before = record { before = c .before; peer-of = c .peer-of };
                                 dispatch-arg = record { given = g };
                               };
                               dispatch-arg2 = record { given = g' };
@@ -3043,17 +3373,13 @@ module _ (claims· : Claims) where
                           dispatch-arg4 = record { given = g'3 };
                         };
                         dispatch-arg5 = record { given = g'4 };
-                      },
-                      λ g'5. lay3 record {
-                        before = record {
-                          before = record {
+                      };
+                      dispatch = Called.called ps·3 r·3 (claims· .7) T33 args31 (m26
+                          record {
                             before = record {
                               before = record {
                                 before = record {
-                                  before = record {
-                                    before = record { before = c .before; is-taken = c .is-taken };
-                                    if1 = record { taken = taken };
-                                  };
+                                  before = record { before = c .before; peer-of = c .peer-of };
                                   dispatch-arg = record { given = g };
                                 };
                                 dispatch-arg2 = record { given = g' };
@@ -3061,40 +3387,39 @@ module _ (claims· : Claims) where
                               dispatch-arg3 = record { given = g'' };
                             };
                             dispatch-arg4 = record { given = g'3 };
-                          };
-                          dispatch-arg5 = record { given = g'4 };
-                        };
-                        dispatch = Called.called ps·2 r·2 (claims· .5) T26 args24 (m19
-                            record {
-                              before = record {
-                                before = record {
-                                  before = record {
-                                    before = record {
-                                      before = record { before = c .before; is-taken = c .is-taken };
-                                      if1 = record { taken = taken };
-                                    };
-                                    dispatch-arg = record { given = g };
-                                  };
-                                  dispatch-arg2 = record { given = g' };
-                                };
-                                dispatch-arg3 = record { given = g'' };
-                              };
-                              dispatch-arg4 = record { given = g'3 };
-                            } g'4) g'5;
-                      },
-                    ),
+                          } g'4) g'5;
+                    },
                   ),
                 ),
               ),
             ),
           ),
-          λ left. lay4 record {
+        )
+
+        lay2 : (c : After-is-taken) → at52 (W0 (c .before .before .before .before .before .before .before .κs) (c
+            .before .before .before .before .before .before .before .args)) (m7 (c .before) (After-is-taken·gave c))
+        lay2 = λ c. (
+          λ taken. (
+            peer-of-requires record {
+              before = record { before = c .before; is-taken = c .is-taken };
+              if1 = record { taken = taken };
+            },
+            λ g. lay3 record {
+              before = record {
+                before = record { before = c .before; is-taken = c .is-taken };
+                if1 = record { taken = taken };
+              };
+              peer-of = Called.called ps·2 r·2 (claims· .5) T11 args9
+                  (m9 record { before = c .before; is-taken = c .is-taken }) g;
+            },
+          ),
+          λ left. lay5 record {
             before = record { before = c .before; is-taken = c .is-taken };
             if1 = record { left = left };
           },
         )
 
-        lay1 : (c : After-gate-answer) → at48 (W0 (c .before .before .before .before .before .before .κs)
+        lay1 : (c : After-gate-answer) → at53 (W0 (c .before .before .before .before .before .before .κs)
             (c .before .before .before .before .before .before .args)) (m6 (c .before) (After-gate-answer·gave c))
         lay1 = λ c. (
           is-taken-requires record { before = c .before; gate-answer = c .gate-answer },
@@ -3104,7 +3429,7 @@ module _ (claims· : Claims) where
           },
         )
 
-        pub laid : (c : Start) → at54 (W0 (c .κs) (c .args)) (m0 (c .κs) (c .args))
+        pub laid : (c : Start) → at59 (W0 (c .κs) (c .args)) (m0 (c .κs) (c .args))
         laid = λ c. λ g. λ g'. λ g''. λ g'3. λ g'4. (
           gate-answer-requires record {
             before = record {
@@ -3174,10 +3499,11 @@ module _ (claims· : Claims) where
         module _ {M : Type 1} (𝓤 : URA.URA M) (H : Wp.Heap 𝓤) (A : Atoms.Atoms 𝓤) (W : Kit.Given 𝓤 H A)
             (𝓣 : Wp.Tables 𝓤 H) (known0 : Plain.Known 𝓤 H A W 𝓣 0 ps·0 r·0 (claims· .0) (claims· .1)
             "hnsr_circuit::calls::handle::gate_answer") (known1 : Plain.Known 𝓤 H A W 𝓣 0 ps·1 r·1 (claims· .2)
-            (claims· .3) "hnsr_circuit::answer::is_taken") (known2 : Plain.Known 𝓤 H A W 𝓣 9 ps·2 r·2 (claims· .4)
-            (claims· .5) "hnsr_circuit::calls::handle::dispatch") (known3 : Plain.Known 𝓤 H A W 𝓣 0 ps·3 r·3
-            (claims· .6) (claims· .7) "hnsr_circuit::runtime::refused") where
+            (claims· .3) "hnsr_circuit::answer::is_taken") (known2 : Plain.Known 𝓤 H A W 𝓣 1 ps·2 r·2 (claims· .4)
+            (claims· .5) "hnsr_circuit::peer::peer_of") (known3 : Plain.Known 𝓤 H A W 𝓣 8 ps·3 r·3 (claims· .6)
+            (claims· .7) "hnsr_circuit::calls::handle::dispatch") (known4 : Plain.Known 𝓤 H A W 𝓣 0 ps·4 r·4
+            (claims· .8) (claims· .9) "hnsr_circuit::runtime::refused") where
           pub spec : Statement.Triple 𝓤 (Wp.WpFn 𝓤 H (𝓣 .C) (𝓣 .Λ) (Function.fnOf 9 ps r xs m hs body))
               (Function.plainOf 𝓤 H A 9 ps r Pre· Post·)
           spec = Plain.t-fn-plain 𝓤 H A W 𝓣 9 ps r xs m hs body (λ κs qs bs. Φ) (λ κs qs bs bd. typed κs qs 𝓤 H A W 𝓣
-              (known0, known1, known2, known3) bs bd) Pre· Post· asked
+              (known0, known1, known2, known3, known4) bs bd) Pre· Post· asked

@@ -7,29 +7,20 @@ use Rattle.hnsr_circuit.proofs.By.RelayPending
 use Rattle.hnsr_circuit.proofs.StructRow
 use Rattle.hnsr_circuit.proofs.answer.HnsrAnswer
 use Rattle.hnsr_circuit.proofs.answer.HnsrAnswer.Laws as Laws'
-use Rattle.hnsr_circuit.proofs.config.OpaqueRelayConfig
-use Rattle.hnsr_circuit.proofs.config.OpaqueRelayConfig.Laws as Laws''
-use Rattle.hnsr_circuit.proofs.runtime.RelayPacket
-use Rattle.hnsr_circuit.proofs.runtime.RelayPacket.Laws as Laws'''
+use Rattle.hnsr_circuit.proofs.runtime.Request
+use Rattle.hnsr_circuit.proofs.runtime.Request.Laws as Laws''
 use Rattle.hnsr_circuit.proofs.tables.lookup.PendingFound
-use Rattle.hnsr_circuit.proofs.tables.lookup.PendingFound.Laws as Laws''''
-use Rattle.hnsr_circuit.proofs.tables.places.Places
-use Rattle.hnsr_circuit.proofs.tables.places.Places.Laws as Laws'''''
+use Rattle.hnsr_circuit.proofs.tables.lookup.PendingFound.Laws as Laws'''
 use borrow.Fn.Kinds
 use borrow.Kind.ShrSlice
-use borrow.Table.Referent
 use mathlib.Core.List
-use mir.Syntax
 use mathlib.Core.List.{_∷_}
 
-abbrev pub ps : List.List (Kinds.PK 4)
+abbrev pub ps : List.List (Kinds.PK 3)
 ps = (ShrSlice.pShrS RelayPending.row 0 tt) ∷ (ShrSlice.pShrS RelayCircuit.row 1 tt) ∷
-    (ShrSlice.pShrS InflightAction.row 2 tt) ∷ (StructRow.param Places.the-type Laws'''''.the-laws Laws'''''.the-copy
-    Laws'''''.the-plain) ∷ (StructRow.param OpaqueRelayConfig.the-type Laws''.the-laws Laws''.the-copy Laws''.the-plain)
-    ∷ (StructRow.param RelayPacket.the-type Laws'''.the-laws Laws'''.the-copy Laws'''.the-plain) ∷ (StructRow.param
-    PendingFound.the-type Laws''''.the-laws Laws''''.the-copy Laws''''.the-plain) ∷ (StructRow.param
-    AcceptRead.the-type Laws.the-laws Laws.the-copy Laws.the-plain) ∷ (ShrSlice.pShrS
-    (Referent.rtF (Referent.fInt Syntax.w8)) 3 tt) ∷ List.[]
+    (ShrSlice.pShrS InflightAction.row 2 tt) ∷ (StructRow.param Request.the-type Laws''.the-laws Laws''.the-copy
+    Laws''.the-plain) ∷ (StructRow.param PendingFound.the-type Laws'''.the-laws Laws'''.the-copy Laws'''.the-plain) ∷ (StructRow.param
+    AcceptRead.the-type Laws.the-laws Laws.the-copy Laws.the-plain) ∷ List.[]
 
-abbrev pub r : Kinds.RK 4
+abbrev pub r : Kinds.RK 3
 r = StructRow.enum-result HnsrAnswer.the-type Laws'.the-laws Laws'.the-copy Laws'.the-plain tt

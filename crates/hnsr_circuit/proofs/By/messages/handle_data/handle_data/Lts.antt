@@ -14,13 +14,14 @@ use Rattle.hnsr_circuit.proofs.runtime.RelayPacket
 use Rattle.hnsr_circuit.proofs.runtime.RelayPacket.Laws as Laws'''
 use Rattle.hnsr_circuit.proofs.runtime.Relayed
 use Rattle.hnsr_circuit.proofs.runtime.Relayed.Laws as Laws''''
+use Rattle.hnsr_circuit.proofs.runtime.Request
+use Rattle.hnsr_circuit.proofs.runtime.Request.Laws as Laws'''''
 use Rattle.hnsr_circuit.proofs.tables.lookup.CircuitFound
-use Rattle.hnsr_circuit.proofs.tables.lookup.CircuitFound.Laws as Laws'''''
+use Rattle.hnsr_circuit.proofs.tables.lookup.CircuitFound.Laws as Laws''''''
 use Rattle.hnsr_circuit.proofs.tables.places.Places
-use Rattle.hnsr_circuit.proofs.tables.places.Places.Laws as Laws''''''
+use Rattle.hnsr_circuit.proofs.tables.places.Places.Laws as Laws'''''''
 use borrow.Author.Called
 use borrow.Fn.Any
-use borrow.Fn.Args as Args'
 use borrow.Fn.Call
 use borrow.Fn.Enter
 use borrow.Fn.Frame
@@ -31,6 +32,7 @@ use borrow.Kind.Bool
 use borrow.Kind.MutSlice
 use borrow.Kind.Num
 use borrow.Kind.ShrSlice
+use borrow.Rule.DerefMove
 use borrow.Rule.Lifetime
 use borrow.Rule.Local
 use borrow.Rule.Scalar
@@ -39,9 +41,15 @@ use borrow.Rule.Slice.Mut
 use borrow.Rule.Slice.Relend
 use borrow.Rule.Slice.Reshare
 use borrow.Rule.Slice.Shared
+use borrow.Rule.Way
+use borrow.Rule.WayStmt
 use borrow.Rule.Yields
+use borrow.Struct.Behind
+use borrow.Struct.Inner
 use borrow.Struct.Reads
+use borrow.Struct.Way as Way'
 use borrow.Table.Copies
+use borrow.Table.Own
 use borrow.Table.Reads as Reads'
 use borrow.Table.Referent
 use borrow.Table.Row
@@ -49,6 +57,7 @@ use borrow.Table.Rows
 use borrow.Table.Typed
 use contract.Lifetimes
 use denote.Enum.Declared
+use denote.Struct.At
 use denote.Struct.Declared as Declared'
 use denote.Triple.Clauses
 use denote.Triple.Statement
@@ -94,9 +103,6 @@ ref8 = Syntax.tyRef (Syntax.named 3) Syntax.mut (Syntax.tyInt Syntax.w32)
 abbrev ref9 : Syntax.Ty
 ref9 = Syntax.tyRef (Syntax.named 4) Syntax.imm (Syntax.tyInt Syntax.w8)
 
-abbrev ref10 : Syntax.Ty
-ref10 = Syntax.tyRef (Syntax.named 5) Syntax.imm (Syntax.tyInt Syntax.w8)
-
 abbrev slice0 : Syntax.Ty
 slice0 = Syntax.tyStruct (38 ∷ 91 ∷ 93 ∷ List.[]) (Syntax.tcons ref0
     (Syntax.tcons (Syntax.tyInt Syntax.w64) Syntax.tnil))
@@ -117,69 +123,59 @@ abbrev slice4 : Syntax.Ty
 slice4 = Syntax.tyStruct (38 ∷ 91 ∷ 93 ∷ List.[]) (Syntax.tcons ref4
     (Syntax.tcons (Syntax.tyInt Syntax.w64) Syntax.tnil))
 
-abbrev pub ps : List.List (Kinds.PK 6)
+abbrev pub ps : List.List (Kinds.PK 5)
 ps = (MutSlice.pMutS RelayCircuit.row 0 tt) ∷ (MutSlice.pMutS ReservationUsage.row 1 tt) ∷
     (MutSlice.pMutS InflightAction.row 2 tt) ∷ (MutSlice.pMutS (Referent.rtF (Referent.fInt Syntax.w32)) 3 tt) ∷ (StructRow.param
-    OpaqueRelayRuntime.the-type Laws''.the-laws Laws''.the-copy Laws''.the-plain) ∷ (StructRow.param Places.the-type
-    Laws''''''.the-laws Laws''''''.the-copy Laws''''''.the-plain) ∷ (StructRow.param RelayPacket.the-type
-    Laws'''.the-laws Laws'''.the-copy Laws'''.the-plain) ∷ (ShrSlice.pShrS (Referent.rtF (Referent.fInt Syntax.w8)) 4
-    tt) ∷ (ShrSlice.pShrS (Referent.rtF (Referent.fInt Syntax.w8)) 5 tt) ∷ List.[]
+    Request.the-type Laws'''''.the-laws Laws'''''.the-copy Laws'''''.the-plain) ∷ (ShrSlice.pShrS
+    (Referent.rtF (Referent.fInt Syntax.w8)) 4 tt) ∷ List.[]
 
-abbrev pub r : Kinds.RK 6
+abbrev pub r : Kinds.RK 5
 r = StructRow.result Relayed.the-type Laws''''.the-laws Laws''''.the-copy Laws''''.the-plain
 
 abbrev pub xs : List.List Syntax.Ty
-xs = Laws'''''.mir ∷ Laws'.mir ∷ Laws.mir ∷ ref0 ∷ slice0 ∷ (Syntax.tyInt Syntax.w64) ∷ Syntax.tyBool ∷ ref1 ∷ slice1 ∷
-    ref2 ∷ slice2 ∷ ref3 ∷ slice3 ∷ ref4 ∷ slice4 ∷ List.[]
+xs = Laws''.mir ∷ Laws'''''''.mir ∷ Laws'''.mir ∷ Laws'.mir ∷ Laws''''''.mir ∷ Laws.mir ∷ ref0 ∷ slice0 ∷
+    (Syntax.tyInt Syntax.w64) ∷ Syntax.tyBool ∷ ref1 ∷ slice1 ∷ ref2 ∷ slice2 ∷ ref3 ∷ slice3 ∷ ref4 ∷ slice4 ∷ List.[]
 
 abbrev pub m : Nat.ℕ
 m = 5
 
 abbrev pub ps·0 : List.List (Kinds.PK 1)
-ps·0 = (ShrSlice.pShrS RelayCircuit.row 0 tt) ∷ (StructRow.param Places.the-type Laws''''''.the-laws
-    Laws''''''.the-copy Laws''''''.the-plain) ∷ (Num.pNum Syntax.w64) ∷ List.[]
+ps·0 = (ShrSlice.pShrS RelayCircuit.row 0 tt) ∷ (StructRow.param Places.the-type Laws'''''''.the-laws
+    Laws'''''''.the-copy Laws'''''''.the-plain) ∷ (Num.pNum Syntax.w64) ∷ List.[]
 
 abbrev pub r·0 : Kinds.RK 1
-r·0 = StructRow.result CircuitFound.the-type Laws'''''.the-laws Laws'''''.the-copy Laws'''''.the-plain
+r·0 = StructRow.result CircuitFound.the-type Laws''''''.the-laws Laws''''''.the-copy Laws''''''.the-plain
 
-abbrev pub ps·1 : List.List (Kinds.PK 1)
-ps·1 = (ShrSlice.pShrS (Referent.rtF (Referent.fInt Syntax.w8)) 0 tt) ∷ List.[]
-
-abbrev pub r·1 : Kinds.RK 1
-r·1 = StructRow.result HnsrPeerId.the-type Laws'.the-laws Laws'.the-copy Laws'.the-plain
-
-abbrev pub ps·2 : List.List (Kinds.PK 0)
-ps·2 = (StructRow.param CircuitFound.the-type Laws'''''.the-laws Laws'''''.the-copy Laws'''''.the-plain) ∷ (StructRow.param
+abbrev pub ps·1 : List.List (Kinds.PK 0)
+ps·1 = (StructRow.param CircuitFound.the-type Laws''''''.the-laws Laws''''''.the-copy Laws''''''.the-plain) ∷ (StructRow.param
     HnsrPeerId.the-type Laws'.the-laws Laws'.the-copy Laws'.the-plain) ∷ (Num.pNum Syntax.w64) ∷ List.[]
 
+abbrev pub r·1 : Kinds.RK 0
+r·1 = StructRow.enum-result HnsrAnswer.the-type Laws.the-laws Laws.the-copy Laws.the-plain tt
+
+abbrev pub ps·2 : List.List (Kinds.PK 0)
+ps·2 = (StructRow.enum-param HnsrAnswer.the-type Laws.the-laws Laws.the-copy Laws.the-plain tt) ∷ List.[]
+
 abbrev pub r·2 : Kinds.RK 0
-r·2 = StructRow.enum-result HnsrAnswer.the-type Laws.the-laws Laws.the-copy Laws.the-plain tt
+r·2 = Bool.rBool
 
-abbrev pub ps·3 : List.List (Kinds.PK 0)
-ps·3 = (StructRow.enum-param HnsrAnswer.the-type Laws.the-laws Laws.the-copy Laws.the-plain tt) ∷ List.[]
-
-abbrev pub r·3 : Kinds.RK 0
-r·3 = Bool.rBool
-
-abbrev pub ps·4 : List.List (Kinds.PK 6)
-ps·4 = (MutSlice.pMutS RelayCircuit.row 0 tt) ∷ (MutSlice.pMutS ReservationUsage.row 1 tt) ∷
+abbrev pub ps·3 : List.List (Kinds.PK 5)
+ps·3 = (MutSlice.pMutS RelayCircuit.row 0 tt) ∷ (MutSlice.pMutS ReservationUsage.row 1 tt) ∷
     (MutSlice.pMutS InflightAction.row 2 tt) ∷ (MutSlice.pMutS (Referent.rtF (Referent.fInt Syntax.w32)) 3 tt) ∷ (StructRow.param
-    OpaqueRelayRuntime.the-type Laws''.the-laws Laws''.the-copy Laws''.the-plain) ∷ (StructRow.param Places.the-type
-    Laws''''''.the-laws Laws''''''.the-copy Laws''''''.the-plain) ∷ (StructRow.param RelayPacket.the-type
-    Laws'''.the-laws Laws'''.the-copy Laws'''.the-plain) ∷ (StructRow.param CircuitFound.the-type Laws'''''.the-laws
-    Laws'''''.the-copy Laws'''''.the-plain) ∷ (ShrSlice.pShrS (Referent.rtF (Referent.fInt Syntax.w8)) 4 tt) ∷ (ShrSlice.pShrS
-    (Referent.rtF (Referent.fInt Syntax.w8)) 5 tt) ∷ List.[]
+    Request.the-type Laws'''''.the-laws Laws'''''.the-copy Laws'''''.the-plain) ∷ (StructRow.param
+    CircuitFound.the-type Laws''''''.the-laws Laws''''''.the-copy Laws''''''.the-plain) ∷ (ShrSlice.pShrS
+    (Referent.rtF (Referent.fInt Syntax.w8)) 4 tt) ∷ List.[]
 
-abbrev pub r·4 : Kinds.RK 6
-r·4 = StructRow.result Relayed.the-type Laws''''.the-laws Laws''''.the-copy Laws''''.the-plain
+abbrev pub r·3 : Kinds.RK 5
+r·3 = StructRow.result Relayed.the-type Laws''''.the-laws Laws''''.the-copy Laws''''.the-plain
 
-abbrev pub ps·5 : List.List (Kinds.PK 0)
-ps·5 = (StructRow.param OpaqueRelayRuntime.the-type Laws''.the-laws Laws''.the-copy Laws''.the-plain) ∷ (StructRow.param
-    Places.the-type Laws''''''.the-laws Laws''''''.the-copy Laws''''''.the-plain) ∷ (StructRow.enum-param
+abbrev pub ps·4 : List.List (Kinds.PK 0)
+ps·4 = (StructRow.param OpaqueRelayRuntime.the-type Laws''.the-laws Laws''.the-copy Laws''.the-plain) ∷ (StructRow.param
+    Places.the-type Laws'''''''.the-laws Laws'''''''.the-copy Laws'''''''.the-plain) ∷ (StructRow.enum-param
     HnsrAnswer.the-type Laws.the-laws Laws.the-copy Laws.the-plain tt) ∷ List.[]
 
-abbrev pub r·5 : Kinds.RK 0
-r·5 = StructRow.result Relayed.the-type Laws''''.the-laws Laws''''.the-copy Laws''''.the-plain
+abbrev pub r·4 : Kinds.RK 0
+r·4 = StructRow.result Relayed.the-type Laws''''.the-laws Laws''''.the-copy Laws''''.the-plain
 
 abbrev pub hs : List.List Syntax.Home
 hs = Syntax.valueLocal ∷ Syntax.valueLocal ∷ Syntax.valueLocal ∷ Syntax.valueLocal ∷ Syntax.valueLocal ∷
@@ -189,152 +185,167 @@ hs = Syntax.valueLocal ∷ Syntax.valueLocal ∷ Syntax.valueLocal ∷ Syntax.va
     Syntax.valueLocal ∷ Syntax.valueLocal ∷ Syntax.valueLocal ∷ Syntax.valueLocal ∷ Syntax.valueLocal ∷ List.[]
 
 abbrev b0 : Syntax.Body
-b0 = Syntax.assign (Syntax.place 13 List.[]) (Syntax.addrOf (Syntax.place 1 ((Syntax.field 0) ∷
-    (Syntax.deref RelayCircuit.ty) ∷ List.[])))
+b0 = Syntax.assign (Syntax.place 7 List.[]) (Syntax.rvOpd (Syntax.copy (Syntax.place 5 ((Syntax.field 0) ∷ List.[]))))
 
 abbrev b1 : Syntax.Body
-b1 = Syntax.assign (Syntax.place 14 List.[]) (Syntax.aggregate ((Syntax.copy (Syntax.place 13 List.[])) ∷
-    (Syntax.copy (Syntax.place 1 ((Syntax.field 1) ∷ List.[]))) ∷ List.[]))
+b1 = Syntax.assign (Syntax.place 8 List.[]) (Syntax.rvOpd (Syntax.copy (Syntax.place 5 ((Syntax.field 1) ∷ List.[]))))
 
 abbrev b2 : Syntax.Body
-b2 = Syntax.call "hnsr_circuit::tables::lookup::circuit_by_id" ((Syntax.copy (Syntax.place 14 List.[])) ∷
-    (Syntax.copy (Syntax.place 6 List.[])) ∷ (Syntax.copy (Syntax.place 7 ((Syntax.field 1) ∷ List.[]))) ∷ List.[])
-    (Syntax.place 10 List.[])
+b2 = Syntax.assign (Syntax.place 9 List.[]) (Syntax.rvOpd (Syntax.copy (Syntax.place 5 ((Syntax.field 2) ∷ List.[]))))
 
 abbrev b3 : Syntax.Body
-b3 = Syntax.call "hnsr_circuit::peer::peer_of" ((Syntax.copy (Syntax.place 8 List.[])) ∷ List.[])
-    (Syntax.place 11 List.[])
+b3 = Syntax.assign (Syntax.place 10 List.[]) (Syntax.rvOpd (Syntax.copy (Syntax.place 5 ((Syntax.field 3) ∷ List.[]))))
 
 abbrev b4 : Syntax.Body
-b4 = Syntax.assign (Syntax.place 15 List.[]) (Syntax.rvOpd (Syntax.copy (Syntax.place 9 ((Syntax.field 1) ∷ List.[]))))
-
-abbrev b5 : Syntax.Body
-b5 = Syntax.call "hnsr_circuit::messages::data::data_entry" ((Syntax.copy (Syntax.place 10 List.[])) ∷
-    (Syntax.copy (Syntax.place 11 List.[])) ∷ (Syntax.copy (Syntax.place 15 List.[])) ∷ List.[])
-    (Syntax.place 12 List.[])
-
-abbrev b6 : Syntax.Body
-b6 = Syntax.call "hnsr_circuit::answer::is_taken" ((Syntax.copy (Syntax.place 12 List.[])) ∷ List.[])
-    (Syntax.place 16 List.[])
-
-abbrev b7 : Syntax.Body
-b7 = Syntax.assign (Syntax.place 17 List.[]) (Syntax.addrOf (Syntax.place 1 ((Syntax.field 0) ∷
+b4 = Syntax.assign (Syntax.place 13 List.[]) (Syntax.addrOf (Syntax.place 1 ((Syntax.field 0) ∷
     (Syntax.deref RelayCircuit.ty) ∷ List.[])))
 
-abbrev b8 : Syntax.Body
-b8 = Syntax.assign (Syntax.place 18 List.[]) (Syntax.aggregate ((Syntax.copy (Syntax.place 17 List.[])) ∷
+abbrev b5 : Syntax.Body
+b5 = Syntax.assign (Syntax.place 14 List.[]) (Syntax.aggregate ((Syntax.copy (Syntax.place 13 List.[])) ∷
     (Syntax.copy (Syntax.place 1 ((Syntax.field 1) ∷ List.[]))) ∷ List.[]))
 
+abbrev b6 : Syntax.Body
+b6 = Syntax.call "hnsr_circuit::tables::lookup::circuit_by_id" ((Syntax.copy (Syntax.place 14 List.[])) ∷
+    (Syntax.copy (Syntax.place 8 List.[])) ∷ (Syntax.copy (Syntax.place 9 ((Syntax.field 1) ∷ List.[]))) ∷ List.[])
+    (Syntax.place 11 List.[])
+
+abbrev b7 : Syntax.Body
+b7 = Syntax.assign (Syntax.place 15 List.[]) (Syntax.rvOpd (Syntax.copy (Syntax.place 6 ((Syntax.field 1) ∷ List.[]))))
+
+abbrev b8 : Syntax.Body
+b8 = Syntax.call "hnsr_circuit::messages::data::data_entry" ((Syntax.copy (Syntax.place 11 List.[])) ∷
+    (Syntax.copy (Syntax.place 10 List.[])) ∷ (Syntax.copy (Syntax.place 15 List.[])) ∷ List.[])
+    (Syntax.place 12 List.[])
+
 abbrev b9 : Syntax.Body
-b9 = Syntax.assign (Syntax.place 19 List.[]) (Syntax.addrOf (Syntax.place 2 ((Syntax.field 0) ∷
-    (Syntax.deref ReservationUsage.ty) ∷ List.[])))
+b9 = Syntax.call "hnsr_circuit::answer::is_taken" ((Syntax.copy (Syntax.place 12 List.[])) ∷ List.[])
+    (Syntax.place 16 List.[])
 
 abbrev b10 : Syntax.Body
-b10 = Syntax.assign (Syntax.place 20 List.[]) (Syntax.aggregate ((Syntax.copy (Syntax.place 19 List.[])) ∷
-    (Syntax.copy (Syntax.place 2 ((Syntax.field 1) ∷ List.[]))) ∷ List.[]))
+b10 = Syntax.assign (Syntax.place 17 List.[]) (Syntax.addrOf (Syntax.place 1 ((Syntax.field 0) ∷
+    (Syntax.deref RelayCircuit.ty) ∷ List.[])))
 
 abbrev b11 : Syntax.Body
-b11 = Syntax.assign (Syntax.place 21 List.[]) (Syntax.addrOf (Syntax.place 3 ((Syntax.field 0) ∷
-    (Syntax.deref InflightAction.ty) ∷ List.[])))
+b11 = Syntax.assign (Syntax.place 18 List.[]) (Syntax.aggregate ((Syntax.copy (Syntax.place 17 List.[])) ∷
+    (Syntax.copy (Syntax.place 1 ((Syntax.field 1) ∷ List.[]))) ∷ List.[]))
 
 abbrev b12 : Syntax.Body
-b12 = Syntax.assign (Syntax.place 22 List.[]) (Syntax.aggregate ((Syntax.copy (Syntax.place 21 List.[])) ∷
-    (Syntax.copy (Syntax.place 3 ((Syntax.field 1) ∷ List.[]))) ∷ List.[]))
+b12 = Syntax.assign (Syntax.place 19 List.[]) (Syntax.addrOf (Syntax.place 2 ((Syntax.field 0) ∷
+    (Syntax.deref ReservationUsage.ty) ∷ List.[])))
 
 abbrev b13 : Syntax.Body
-b13 = Syntax.assign (Syntax.place 23 List.[]) (Syntax.addrOf (Syntax.place 4 ((Syntax.field 0) ∷
-    (Syntax.deref (Syntax.tyInt Syntax.w32)) ∷ List.[])))
+b13 = Syntax.assign (Syntax.place 20 List.[]) (Syntax.aggregate ((Syntax.copy (Syntax.place 19 List.[])) ∷
+    (Syntax.copy (Syntax.place 2 ((Syntax.field 1) ∷ List.[]))) ∷ List.[]))
 
 abbrev b14 : Syntax.Body
-b14 = Syntax.assign (Syntax.place 24 List.[]) (Syntax.aggregate ((Syntax.copy (Syntax.place 23 List.[])) ∷
-    (Syntax.copy (Syntax.place 4 ((Syntax.field 1) ∷ List.[]))) ∷ List.[]))
+b14 = Syntax.assign (Syntax.place 21 List.[]) (Syntax.addrOf (Syntax.place 3 ((Syntax.field 0) ∷
+    (Syntax.deref InflightAction.ty) ∷ List.[])))
 
 abbrev b15 : Syntax.Body
-b15 = Syntax.call "hnsr_circuit::messages::handle_data::pass_data" ((Syntax.copy (Syntax.place 18 List.[])) ∷
-    (Syntax.copy (Syntax.place 20 List.[])) ∷ (Syntax.copy (Syntax.place 22 List.[])) ∷
-    (Syntax.copy (Syntax.place 24 List.[])) ∷ (Syntax.copy (Syntax.place 5 List.[])) ∷
-    (Syntax.copy (Syntax.place 6 List.[])) ∷ (Syntax.copy (Syntax.place 7 List.[])) ∷
-    (Syntax.copy (Syntax.place 10 List.[])) ∷ (Syntax.copy (Syntax.place 8 List.[])) ∷
-    (Syntax.copy (Syntax.place 9 List.[])) ∷ List.[]) (Syntax.place 0 List.[])
+b15 = Syntax.assign (Syntax.place 22 List.[]) (Syntax.aggregate ((Syntax.copy (Syntax.place 21 List.[])) ∷
+    (Syntax.copy (Syntax.place 3 ((Syntax.field 1) ∷ List.[]))) ∷ List.[]))
 
 abbrev b16 : Syntax.Body
-b16 = Syntax.return
+b16 = Syntax.assign (Syntax.place 23 List.[]) (Syntax.addrOf (Syntax.place 4 ((Syntax.field 0) ∷
+    (Syntax.deref (Syntax.tyInt Syntax.w32)) ∷ List.[])))
 
 abbrev b17 : Syntax.Body
-b17 = Syntax.seq b15 b16
+b17 = Syntax.assign (Syntax.place 24 List.[]) (Syntax.aggregate ((Syntax.copy (Syntax.place 23 List.[])) ∷
+    (Syntax.copy (Syntax.place 4 ((Syntax.field 1) ∷ List.[]))) ∷ List.[]))
 
 abbrev b18 : Syntax.Body
-b18 = Syntax.seq b14 b17
-
-abbrev b19 : Syntax.Body
-b19 = Syntax.seq b13 b18
-
-abbrev b20 : Syntax.Body
-b20 = Syntax.seq b12 b19
-
-abbrev b21 : Syntax.Body
-b21 = Syntax.seq b11 b20
-
-abbrev b22 : Syntax.Body
-b22 = Syntax.seq b10 b21
-
-abbrev b23 : Syntax.Body
-b23 = Syntax.seq b9 b22
-
-abbrev b24 : Syntax.Body
-b24 = Syntax.seq b8 b23
-
-abbrev b25 : Syntax.Body
-b25 = Syntax.seq b7 b24
-
-abbrev b26 : Syntax.Body
-b26 = Syntax.skip
-
-abbrev b27 : Syntax.Body
-b27 = Syntax.cond (Syntax.copy (Syntax.place 16 List.[])) b25 b26
-
-abbrev b28 : Syntax.Body
-b28 = Syntax.call "hnsr_circuit::runtime::refused" ((Syntax.copy (Syntax.place 5 List.[])) ∷
-    (Syntax.copy (Syntax.place 6 List.[])) ∷ (Syntax.copy (Syntax.place 12 List.[])) ∷ List.[])
+b18 = Syntax.call "hnsr_circuit::messages::handle_data::pass_data" ((Syntax.copy (Syntax.place 18 List.[])) ∷
+    (Syntax.copy (Syntax.place 20 List.[])) ∷ (Syntax.copy (Syntax.place 22 List.[])) ∷
+    (Syntax.copy (Syntax.place 24 List.[])) ∷ (Syntax.copy (Syntax.place 5 List.[])) ∷
+    (Syntax.copy (Syntax.place 11 List.[])) ∷ (Syntax.copy (Syntax.place 6 List.[])) ∷ List.[])
     (Syntax.place 0 List.[])
 
+abbrev b19 : Syntax.Body
+b19 = Syntax.return
+
+abbrev b20 : Syntax.Body
+b20 = Syntax.seq b18 b19
+
+abbrev b21 : Syntax.Body
+b21 = Syntax.seq b17 b20
+
+abbrev b22 : Syntax.Body
+b22 = Syntax.seq b16 b21
+
+abbrev b23 : Syntax.Body
+b23 = Syntax.seq b15 b22
+
+abbrev b24 : Syntax.Body
+b24 = Syntax.seq b14 b23
+
+abbrev b25 : Syntax.Body
+b25 = Syntax.seq b13 b24
+
+abbrev b26 : Syntax.Body
+b26 = Syntax.seq b12 b25
+
+abbrev b27 : Syntax.Body
+b27 = Syntax.seq b11 b26
+
+abbrev b28 : Syntax.Body
+b28 = Syntax.seq b10 b27
+
 abbrev b29 : Syntax.Body
-b29 = Syntax.return
+b29 = Syntax.skip
 
 abbrev b30 : Syntax.Body
-b30 = Syntax.seq b28 b29
+b30 = Syntax.cond (Syntax.copy (Syntax.place 16 List.[])) b28 b29
 
 abbrev b31 : Syntax.Body
-b31 = Syntax.seq b27 b30
+b31 = Syntax.call "hnsr_circuit::runtime::refused" ((Syntax.copy (Syntax.place 7 List.[])) ∷
+    (Syntax.copy (Syntax.place 8 List.[])) ∷ (Syntax.copy (Syntax.place 12 List.[])) ∷ List.[])
+    (Syntax.place 0 List.[])
 
 abbrev b32 : Syntax.Body
-b32 = Syntax.seq b6 b31
+b32 = Syntax.return
 
 abbrev b33 : Syntax.Body
-b33 = Syntax.seq b5 b32
+b33 = Syntax.seq b31 b32
 
 abbrev b34 : Syntax.Body
-b34 = Syntax.seq b4 b33
+b34 = Syntax.seq b30 b33
 
 abbrev b35 : Syntax.Body
-b35 = Syntax.seq b3 b34
+b35 = Syntax.seq b9 b34
 
 abbrev b36 : Syntax.Body
-b36 = Syntax.seq b2 b35
+b36 = Syntax.seq b8 b35
 
 abbrev b37 : Syntax.Body
-b37 = Syntax.seq b1 b36
+b37 = Syntax.seq b7 b36
 
 abbrev b38 : Syntax.Body
-b38 = Syntax.seq b0 b37
+b38 = Syntax.seq b6 b37
+
+abbrev b39 : Syntax.Body
+b39 = Syntax.seq b5 b38
+
+abbrev b40 : Syntax.Body
+b40 = Syntax.seq b4 b39
+
+abbrev b41 : Syntax.Body
+b41 = Syntax.seq b3 b40
+
+abbrev b42 : Syntax.Body
+b42 = Syntax.seq b2 b41
+
+abbrev b43 : Syntax.Body
+b43 = Syntax.seq b1 b42
+
+abbrev b44 : Syntax.Body
+b44 = Syntax.seq b0 b43
 
 abbrev pub body : Syntax.Body
-body = b38
+body = b44
 
 abbrev pub Claims : Type 1
-Claims = Kinds.In 1 ps·0 × Kinds.Out 1 ps·0 r·0 × Kinds.In 1 ps·1 × Kinds.Out 1 ps·1 r·1 × Kinds.In 0 ps·2 × Kinds.Out
-    0 ps·2 r·2 × Kinds.In 0 ps·3 × Kinds.Out 0 ps·3 r·3 × Kinds.In 6 ps·4 × Kinds.Out 6 ps·4 r·4 × Kinds.In 0 ps·5 ×
-    Kinds.Out 0 ps·5 r·5
+Claims = Kinds.In 1 ps·0 × Kinds.Out 1 ps·0 r·0 × Kinds.In 0 ps·1 × Kinds.Out 0 ps·1 r·1 × Kinds.In 0 ps·2 × Kinds.Out
+    0 ps·2 r·2 × Kinds.In 5 ps·3 × Kinds.Out 5 ps·3 r·3 × Kinds.In 0 ps·4 × Kinds.Out 0 ps·4 r·4
 
 abbrev e0 : Row.Entry
 e0 = (0, Rows.any-gone Laws''''.mir)
@@ -352,25 +363,25 @@ abbrev e4 : Row.Entry
 e4 = (4, Mut.mslice (Referent.rtF (Referent.fInt Syntax.w32)) ref8 3)
 
 abbrev e5 : Row.Entry
-e5 = (5, Rows.whole (Declared'.row OpaqueRelayRuntime.the-type))
+e5 = (5, Rows.whole (Declared'.row Request.the-type))
 
 abbrev e6 : Row.Entry
-e6 = (6, Rows.whole (Declared'.row Places.the-type))
+e6 = (6, Rows.sslice (Referent.rtF (Referent.fInt Syntax.w8)) ref9 4)
 
 abbrev e7 : Row.Entry
-e7 = (7, Rows.whole (Declared'.row RelayPacket.the-type))
+e7 = (7, Rows.any-gone Laws''.mir)
 
 abbrev e8 : Row.Entry
-e8 = (8, Rows.sslice (Referent.rtF (Referent.fInt Syntax.w8)) ref9 4)
+e8 = (8, Rows.any-gone Laws'''''''.mir)
 
 abbrev e9 : Row.Entry
-e9 = (9, Rows.sslice (Referent.rtF (Referent.fInt Syntax.w8)) ref10 5)
+e9 = (9, Rows.any-gone Laws'''.mir)
 
 abbrev e10 : Row.Entry
-e10 = (10, Rows.any-gone Laws'''''.mir)
+e10 = (10, Rows.any-gone Laws'.mir)
 
 abbrev e11 : Row.Entry
-e11 = (11, Rows.any-gone Laws'.mir)
+e11 = (11, Rows.any-gone Laws''''''.mir)
 
 abbrev e12 : Row.Entry
 e12 = (12, Rows.any-gone Laws.mir)
@@ -415,28 +426,31 @@ abbrev e0·1 : Row.Entry
 e0·1 = (0, Rows.whole (Declared'.row Relayed.the-type))
 
 abbrev e5·1 : Row.Entry
-e5·1 = (5, Rows.any-gone Laws''.mir)
-
-abbrev e6·1 : Row.Entry
-e6·1 = (6, Rows.any-gone Laws''''''.mir)
+e5·1 = (5, Rows.any-gone Laws'''''.mir)
 
 abbrev e7·1 : Row.Entry
-e7·1 = (7, Rows.any-gone Laws'''.mir)
+e7·1 = (7, Rows.whole (Declared'.row OpaqueRelayRuntime.the-type))
 
-abbrev e1·1 : Row.Entry
-e1·1 = (1, Reshare.mslice-owedS RelayCircuit.row ref5 0 6 Row.off)
+abbrev e8·1 : Row.Entry
+e8·1 = (8, Rows.whole (Declared'.row Places.the-type))
 
-abbrev e13·1 : Row.Entry
-e13·1 = (13, Relend.ssptr RelayCircuit.row ref0 6)
-
-abbrev e14·1 : Row.Entry
-e14·1 = (14, Rows.sslice RelayCircuit.row ref0 6)
+abbrev e9·1 : Row.Entry
+e9·1 = (9, Rows.whole (Declared'.row RelayPacket.the-type))
 
 abbrev e10·1 : Row.Entry
-e10·1 = (10, Rows.whole (Declared'.row CircuitFound.the-type))
+e10·1 = (10, Rows.whole (Declared'.row HnsrPeerId.the-type))
+
+abbrev e1·1 : Row.Entry
+e1·1 = (1, Reshare.mslice-owedS RelayCircuit.row ref5 0 5 Row.off)
+
+abbrev e13·1 : Row.Entry
+e13·1 = (13, Relend.ssptr RelayCircuit.row ref0 5)
+
+abbrev e14·1 : Row.Entry
+e14·1 = (14, Rows.sslice RelayCircuit.row ref0 5)
 
 abbrev e11·1 : Row.Entry
-e11·1 = (11, Rows.whole (Declared'.row HnsrPeerId.the-type))
+e11·1 = (11, Rows.whole (Declared'.row CircuitFound.the-type))
 
 abbrev e15·1 : Row.Entry
 e15·1 = (15, Rows.sc-here (Row.sInt Syntax.w64))
@@ -448,40 +462,40 @@ abbrev e16·1 : Row.Entry
 e16·1 = (16, Rows.sc-here Row.sBool)
 
 abbrev e1·2 : Row.Entry
-e1·2 = (1, Relend.mslice-owed RelayCircuit.row ref5 0 7 Row.off)
+e1·2 = (1, Relend.mslice-owed RelayCircuit.row ref5 0 6 Row.off)
 
 abbrev e17·1 : Row.Entry
-e17·1 = (17, Relend.msptr RelayCircuit.row ref1 7)
+e17·1 = (17, Relend.msptr RelayCircuit.row ref1 6)
 
 abbrev e18·1 : Row.Entry
-e18·1 = (18, Mut.mslice RelayCircuit.row ref1 7)
+e18·1 = (18, Mut.mslice RelayCircuit.row ref1 6)
 
 abbrev e2·1 : Row.Entry
-e2·1 = (2, Relend.mslice-owed ReservationUsage.row ref6 1 8 Row.off)
+e2·1 = (2, Relend.mslice-owed ReservationUsage.row ref6 1 7 Row.off)
 
 abbrev e19·1 : Row.Entry
-e19·1 = (19, Relend.msptr ReservationUsage.row ref2 8)
+e19·1 = (19, Relend.msptr ReservationUsage.row ref2 7)
 
 abbrev e20·1 : Row.Entry
-e20·1 = (20, Mut.mslice ReservationUsage.row ref2 8)
+e20·1 = (20, Mut.mslice ReservationUsage.row ref2 7)
 
 abbrev e3·1 : Row.Entry
-e3·1 = (3, Relend.mslice-owed InflightAction.row ref7 2 9 Row.off)
+e3·1 = (3, Relend.mslice-owed InflightAction.row ref7 2 8 Row.off)
 
 abbrev e21·1 : Row.Entry
-e21·1 = (21, Relend.msptr InflightAction.row ref3 9)
+e21·1 = (21, Relend.msptr InflightAction.row ref3 8)
 
 abbrev e22·1 : Row.Entry
-e22·1 = (22, Mut.mslice InflightAction.row ref3 9)
+e22·1 = (22, Mut.mslice InflightAction.row ref3 8)
 
 abbrev e4·1 : Row.Entry
-e4·1 = (4, Relend.mslice-owed (Referent.rtF (Referent.fInt Syntax.w32)) ref8 3 10 Row.off)
+e4·1 = (4, Relend.mslice-owed (Referent.rtF (Referent.fInt Syntax.w32)) ref8 3 9 Row.off)
 
 abbrev e23·1 : Row.Entry
-e23·1 = (23, Relend.msptr (Referent.rtF (Referent.fInt Syntax.w32)) ref4 10)
+e23·1 = (23, Relend.msptr (Referent.rtF (Referent.fInt Syntax.w32)) ref4 9)
 
 abbrev e24·1 : Row.Entry
-e24·1 = (24, Mut.mslice (Referent.rtF (Referent.fInt Syntax.w32)) ref4 10)
+e24·1 = (24, Mut.mslice (Referent.rtF (Referent.fInt Syntax.w32)) ref4 9)
 
 abbrev e18·2 : Row.Entry
 e18·2 = (18, Mut.msleft RelayCircuit.row ref1)
@@ -502,127 +516,142 @@ abbrev pub t1 : List.List Row.Entry
 t1 = e16 ∷ e17 ∷ e18 ∷ e19 ∷ e20 ∷ e21 ∷ e22 ∷ e23 ∷ e24 ∷ List.[]
 
 abbrev pub t2 : List.List Row.Entry
-t2 = e0·1 ∷ e1 ∷ e2 ∷ e3 ∷ e4 ∷ e5·1 ∷ e6·1 ∷ e7·1 ∷ e8 ∷ e9 ∷ e10 ∷ e11 ∷ e12 ∷ e13 ∷ e14 ∷ e15 ∷ List.[]
+t2 = e0·1 ∷ e1 ∷ e2 ∷ e3 ∷ e4 ∷ e5·1 ∷ e6 ∷ e7 ∷ e8 ∷ e9 ∷ e10 ∷ e11 ∷ e12 ∷ e13 ∷ e14 ∷ e15 ∷ List.[]
 
 abbrev pub t3 : List.List Row.Entry
-t3 = e0 ∷ e1·1 ∷ e2 ∷ e3 ∷ e4 ∷ e5 ∷ e6 ∷ e7 ∷ e8 ∷ e9 ∷ e10 ∷ e11 ∷ e12 ∷ e13·1 ∷ e14 ∷ e15 ∷ List.[]
+t3 = e0 ∷ e1 ∷ e2 ∷ e3 ∷ e4 ∷ e5 ∷ e6 ∷ e7·1 ∷ e8 ∷ e9 ∷ e10 ∷ e11 ∷ e12 ∷ e13 ∷ e14 ∷ e15 ∷ List.[]
 
 abbrev pub t4 : List.List Row.Entry
-t4 = e0 ∷ e1·1 ∷ e2 ∷ e3 ∷ e4 ∷ e5 ∷ e6 ∷ e7 ∷ e8 ∷ e9 ∷ e10 ∷ e11 ∷ e12 ∷ e13 ∷ e14·1 ∷ e15 ∷ List.[]
+t4 = e0 ∷ e1 ∷ e2 ∷ e3 ∷ e4 ∷ e5 ∷ e6 ∷ e7·1 ∷ e8·1 ∷ e9 ∷ e10 ∷ e11 ∷ e12 ∷ e13 ∷ e14 ∷ e15 ∷ List.[]
 
 abbrev pub t5 : List.List Row.Entry
-t5 = e0 ∷ e1·1 ∷ e2 ∷ e3 ∷ e4 ∷ e5 ∷ e6 ∷ e7 ∷ e8 ∷ e9 ∷ e10·1 ∷ e11 ∷ e12 ∷ e13 ∷ e14·1 ∷ e15 ∷ List.[]
+t5 = e0 ∷ e1 ∷ e2 ∷ e3 ∷ e4 ∷ e5 ∷ e6 ∷ e7·1 ∷ e8·1 ∷ e9·1 ∷ e10 ∷ e11 ∷ e12 ∷ e13 ∷ e14 ∷ e15 ∷ List.[]
 
 abbrev pub t6 : List.List Row.Entry
-t6 = e0 ∷ e1·1 ∷ e2 ∷ e3 ∷ e4 ∷ e5 ∷ e6 ∷ e7 ∷ e8 ∷ e9 ∷ e10·1 ∷ e11 ∷ e12 ∷ e13 ∷ e14 ∷ e15 ∷ List.[]
+t6 = e0 ∷ e1 ∷ e2 ∷ e3 ∷ e4 ∷ e5 ∷ e6 ∷ e7·1 ∷ e8·1 ∷ e9·1 ∷ e10·1 ∷ e11 ∷ e12 ∷ e13 ∷ e14 ∷ e15 ∷ List.[]
 
 abbrev pub t7 : List.List Row.Entry
-t7 = e0 ∷ e1 ∷ e2 ∷ e3 ∷ e4 ∷ e5 ∷ e6 ∷ e7 ∷ e8 ∷ e9 ∷ e10·1 ∷ e11 ∷ e12 ∷ e13 ∷ e14 ∷ e15 ∷ List.[]
+t7 = e0 ∷ e1·1 ∷ e2 ∷ e3 ∷ e4 ∷ e5 ∷ e6 ∷ e7·1 ∷ e8·1 ∷ e9·1 ∷ e10·1 ∷ e11 ∷ e12 ∷ e13·1 ∷ e14 ∷ e15 ∷ List.[]
 
 abbrev pub t8 : List.List Row.Entry
-t8 = e0 ∷ e1 ∷ e2 ∷ e3 ∷ e4 ∷ e5 ∷ e6 ∷ e7 ∷ e8 ∷ e9 ∷ e10·1 ∷ e11·1 ∷ e12 ∷ e13 ∷ e14 ∷ e15 ∷ List.[]
+t8 = e0 ∷ e1·1 ∷ e2 ∷ e3 ∷ e4 ∷ e5 ∷ e6 ∷ e7·1 ∷ e8·1 ∷ e9·1 ∷ e10·1 ∷ e11 ∷ e12 ∷ e13 ∷ e14·1 ∷ e15 ∷ List.[]
 
 abbrev pub t9 : List.List Row.Entry
-t9 = e0 ∷ e1 ∷ e2 ∷ e3 ∷ e4 ∷ e5 ∷ e6 ∷ e7 ∷ e8 ∷ e9 ∷ e10·1 ∷ e11·1 ∷ e12 ∷ e13 ∷ e14 ∷ e15·1 ∷ List.[]
+t9 = e0 ∷ e1·1 ∷ e2 ∷ e3 ∷ e4 ∷ e5 ∷ e6 ∷ e7·1 ∷ e8·1 ∷ e9·1 ∷ e10·1 ∷ e11·1 ∷ e12 ∷ e13 ∷ e14·1 ∷ e15 ∷ List.[]
 
 abbrev pub t10 : List.List Row.Entry
-t10 = e0 ∷ e1 ∷ e2 ∷ e3 ∷ e4 ∷ e5 ∷ e6 ∷ e7 ∷ e8 ∷ e9 ∷ e10·1 ∷ e11·1 ∷ e12·1 ∷ e13 ∷ e14 ∷ e15·1 ∷ List.[]
+t10 = e0 ∷ e1·1 ∷ e2 ∷ e3 ∷ e4 ∷ e5 ∷ e6 ∷ e7·1 ∷ e8·1 ∷ e9·1 ∷ e10·1 ∷ e11·1 ∷ e12 ∷ e13 ∷ e14 ∷ e15 ∷ List.[]
 
 abbrev pub t11 : List.List Row.Entry
-t11 = e0 ∷ e1 ∷ e2 ∷ e3 ∷ e4 ∷ e5 ∷ e6 ∷ e7 ∷ e8 ∷ e9 ∷ e10·1 ∷ e11 ∷ e12·1 ∷ e13 ∷ e14 ∷ e15·1 ∷ List.[]
+t11 = e0 ∷ e1·1 ∷ e2 ∷ e3 ∷ e4 ∷ e5 ∷ e6 ∷ e7·1 ∷ e8·1 ∷ e9 ∷ e10·1 ∷ e11·1 ∷ e12 ∷ e13 ∷ e14 ∷ e15 ∷ List.[]
 
 abbrev pub t12 : List.List Row.Entry
-t12 = e0 ∷ e1 ∷ e2 ∷ e3 ∷ e4 ∷ e5 ∷ e6 ∷ e7 ∷ e8 ∷ e9 ∷ e10·1 ∷ e11 ∷ e12·1 ∷ e13 ∷ e14 ∷ e15 ∷ List.[]
+t12 = e0 ∷ e1 ∷ e2 ∷ e3 ∷ e4 ∷ e5 ∷ e6 ∷ e7·1 ∷ e8·1 ∷ e9 ∷ e10·1 ∷ e11·1 ∷ e12 ∷ e13 ∷ e14 ∷ e15 ∷ List.[]
 
 abbrev pub t13 : List.List Row.Entry
-t13 = e16·1 ∷ e17 ∷ e18 ∷ e19 ∷ e20 ∷ e21 ∷ e22 ∷ e23 ∷ e24 ∷ List.[]
+t13 = e0 ∷ e1 ∷ e2 ∷ e3 ∷ e4 ∷ e5 ∷ e6 ∷ e7·1 ∷ e8·1 ∷ e9 ∷ e10·1 ∷ e11·1 ∷ e12 ∷ e13 ∷ e14 ∷ e15·1 ∷ List.[]
 
 abbrev pub t14 : List.List Row.Entry
-t14 = e0 ∷ e1 ∷ e2 ∷ e3 ∷ e4 ∷ e5 ∷ e6 ∷ e7·1 ∷ e8 ∷ e9 ∷ e10 ∷ e11 ∷ e12·1 ∷ e13 ∷ e14 ∷ e15 ∷ List.[]
+t14 = e0 ∷ e1 ∷ e2 ∷ e3 ∷ e4 ∷ e5 ∷ e6 ∷ e7·1 ∷ e8·1 ∷ e9 ∷ e10·1 ∷ e11·1 ∷ e12·1 ∷ e13 ∷ e14 ∷ e15·1 ∷ List.[]
 
 abbrev pub t15 : List.List Row.Entry
-t15 = e0 ∷ e1·2 ∷ e2 ∷ e3 ∷ e4 ∷ e5 ∷ e6 ∷ e7 ∷ e8 ∷ e9 ∷ e10·1 ∷ e11 ∷ e12 ∷ e13 ∷ e14 ∷ e15 ∷ List.[]
+t15 = e0 ∷ e1 ∷ e2 ∷ e3 ∷ e4 ∷ e5 ∷ e6 ∷ e7·1 ∷ e8·1 ∷ e9 ∷ e10 ∷ e11·1 ∷ e12·1 ∷ e13 ∷ e14 ∷ e15·1 ∷ List.[]
 
 abbrev pub t16 : List.List Row.Entry
-t16 = e16 ∷ e17·1 ∷ e18 ∷ e19 ∷ e20 ∷ e21 ∷ e22 ∷ e23 ∷ e24 ∷ List.[]
+t16 = e0 ∷ e1 ∷ e2 ∷ e3 ∷ e4 ∷ e5 ∷ e6 ∷ e7·1 ∷ e8·1 ∷ e9 ∷ e10 ∷ e11·1 ∷ e12·1 ∷ e13 ∷ e14 ∷ e15 ∷ List.[]
 
 abbrev pub t17 : List.List Row.Entry
-t17 = e16 ∷ e17 ∷ e18·1 ∷ e19 ∷ e20 ∷ e21 ∷ e22 ∷ e23 ∷ e24 ∷ List.[]
+t17 = e16·1 ∷ e17 ∷ e18 ∷ e19 ∷ e20 ∷ e21 ∷ e22 ∷ e23 ∷ e24 ∷ List.[]
 
 abbrev pub t18 : List.List Row.Entry
-t18 = e0 ∷ e1·2 ∷ e2·1 ∷ e3 ∷ e4 ∷ e5 ∷ e6 ∷ e7 ∷ e8 ∷ e9 ∷ e10·1 ∷ e11 ∷ e12 ∷ e13 ∷ e14 ∷ e15 ∷ List.[]
+t18 = e0 ∷ e1 ∷ e2 ∷ e3 ∷ e4 ∷ e5·1 ∷ e6 ∷ e7·1 ∷ e8·1 ∷ e9 ∷ e10 ∷ e11 ∷ e12·1 ∷ e13 ∷ e14 ∷ e15 ∷ List.[]
 
 abbrev pub t19 : List.List Row.Entry
-t19 = e16 ∷ e17 ∷ e18·1 ∷ e19·1 ∷ e20 ∷ e21 ∷ e22 ∷ e23 ∷ e24 ∷ List.[]
+t19 = e0 ∷ e1 ∷ e2 ∷ e3 ∷ e4 ∷ e5 ∷ e6 ∷ e7 ∷ e8·1 ∷ e9 ∷ e10 ∷ e11·1 ∷ e12·1 ∷ e13 ∷ e14 ∷ e15 ∷ List.[]
 
 abbrev pub t20 : List.List Row.Entry
-t20 = e16 ∷ e17 ∷ e18·1 ∷ e19 ∷ e20·1 ∷ e21 ∷ e22 ∷ e23 ∷ e24 ∷ List.[]
+t20 = e0 ∷ e1 ∷ e2 ∷ e3 ∷ e4 ∷ e5 ∷ e6 ∷ e7 ∷ e8 ∷ e9 ∷ e10 ∷ e11·1 ∷ e12·1 ∷ e13 ∷ e14 ∷ e15 ∷ List.[]
 
 abbrev pub t21 : List.List Row.Entry
-t21 = e0 ∷ e1·2 ∷ e2·1 ∷ e3·1 ∷ e4 ∷ e5 ∷ e6 ∷ e7 ∷ e8 ∷ e9 ∷ e10·1 ∷ e11 ∷ e12 ∷ e13 ∷ e14 ∷ e15 ∷ List.[]
+t21 = e0 ∷ e1 ∷ e2 ∷ e3 ∷ e4 ∷ e5 ∷ e6 ∷ e7 ∷ e8 ∷ e9 ∷ e10 ∷ e11·1 ∷ e12 ∷ e13 ∷ e14 ∷ e15 ∷ List.[]
 
 abbrev pub t22 : List.List Row.Entry
-t22 = e16 ∷ e17 ∷ e18·1 ∷ e19 ∷ e20·1 ∷ e21·1 ∷ e22 ∷ e23 ∷ e24 ∷ List.[]
+t22 = e0 ∷ e1·2 ∷ e2 ∷ e3 ∷ e4 ∷ e5 ∷ e6 ∷ e7 ∷ e8 ∷ e9 ∷ e10 ∷ e11·1 ∷ e12 ∷ e13 ∷ e14 ∷ e15 ∷ List.[]
 
 abbrev pub t23 : List.List Row.Entry
-t23 = e16 ∷ e17 ∷ e18·1 ∷ e19 ∷ e20·1 ∷ e21 ∷ e22·1 ∷ e23 ∷ e24 ∷ List.[]
+t23 = e16 ∷ e17·1 ∷ e18 ∷ e19 ∷ e20 ∷ e21 ∷ e22 ∷ e23 ∷ e24 ∷ List.[]
 
 abbrev pub t24 : List.List Row.Entry
-t24 = e0 ∷ e1·2 ∷ e2·1 ∷ e3·1 ∷ e4·1 ∷ e5 ∷ e6 ∷ e7 ∷ e8 ∷ e9 ∷ e10·1 ∷ e11 ∷ e12 ∷ e13 ∷ e14 ∷ e15 ∷ List.[]
+t24 = e16 ∷ e17 ∷ e18·1 ∷ e19 ∷ e20 ∷ e21 ∷ e22 ∷ e23 ∷ e24 ∷ List.[]
 
 abbrev pub t25 : List.List Row.Entry
-t25 = e16 ∷ e17 ∷ e18·1 ∷ e19 ∷ e20·1 ∷ e21 ∷ e22·1 ∷ e23·1 ∷ e24 ∷ List.[]
+t25 = e0 ∷ e1·2 ∷ e2·1 ∷ e3 ∷ e4 ∷ e5 ∷ e6 ∷ e7 ∷ e8 ∷ e9 ∷ e10 ∷ e11·1 ∷ e12 ∷ e13 ∷ e14 ∷ e15 ∷ List.[]
 
 abbrev pub t26 : List.List Row.Entry
-t26 = e16 ∷ e17 ∷ e18·1 ∷ e19 ∷ e20·1 ∷ e21 ∷ e22·1 ∷ e23 ∷ e24·1 ∷ List.[]
+t26 = e16 ∷ e17 ∷ e18·1 ∷ e19·1 ∷ e20 ∷ e21 ∷ e22 ∷ e23 ∷ e24 ∷ List.[]
 
 abbrev pub t27 : List.List Row.Entry
-t27 = e0·1 ∷ e1·2 ∷ e2·1 ∷ e3·1 ∷ e4·1 ∷ e5 ∷ e6 ∷ e7 ∷ e8 ∷ e9 ∷ e10·1 ∷ e11 ∷ e12 ∷ e13 ∷ e14 ∷ e15 ∷ List.[]
+t27 = e16 ∷ e17 ∷ e18·1 ∷ e19 ∷ e20·1 ∷ e21 ∷ e22 ∷ e23 ∷ e24 ∷ List.[]
 
 abbrev pub t28 : List.List Row.Entry
-t28 = e16 ∷ e17 ∷ e18·2 ∷ e19 ∷ e20·2 ∷ e21 ∷ e22·2 ∷ e23 ∷ e24·2 ∷ List.[]
+t28 = e0 ∷ e1·2 ∷ e2·1 ∷ e3·1 ∷ e4 ∷ e5 ∷ e6 ∷ e7 ∷ e8 ∷ e9 ∷ e10 ∷ e11·1 ∷ e12 ∷ e13 ∷ e14 ∷ e15 ∷ List.[]
 
 abbrev pub t29 : List.List Row.Entry
-t29 = e0·1 ∷ e1·2 ∷ e2·1 ∷ e3·1 ∷ e4·1 ∷ e5·1 ∷ e6 ∷ e7 ∷ e8 ∷ e9 ∷ e10·1 ∷ e11 ∷ e12 ∷ e13 ∷ e14 ∷ e15 ∷ List.[]
+t29 = e16 ∷ e17 ∷ e18·1 ∷ e19 ∷ e20·1 ∷ e21·1 ∷ e22 ∷ e23 ∷ e24 ∷ List.[]
 
 abbrev pub t30 : List.List Row.Entry
-t30 = e0·1 ∷ e1·2 ∷ e2·1 ∷ e3·1 ∷ e4·1 ∷ e5·1 ∷ e6·1 ∷ e7 ∷ e8 ∷ e9 ∷ e10·1 ∷ e11 ∷ e12 ∷ e13 ∷ e14 ∷ e15 ∷ List.[]
+t30 = e16 ∷ e17 ∷ e18·1 ∷ e19 ∷ e20·1 ∷ e21 ∷ e22·1 ∷ e23 ∷ e24 ∷ List.[]
 
 abbrev pub t31 : List.List Row.Entry
-t31 = e0·1 ∷ e1·2 ∷ e2·1 ∷ e3·1 ∷ e4·1 ∷ e5·1 ∷ e6·1 ∷ e7·1 ∷ e8 ∷ e9 ∷ e10·1 ∷ e11 ∷ e12 ∷ e13 ∷ e14 ∷ e15 ∷ List.[]
+t31 = e0 ∷ e1·2 ∷ e2·1 ∷ e3·1 ∷ e4·1 ∷ e5 ∷ e6 ∷ e7 ∷ e8 ∷ e9 ∷ e10 ∷ e11·1 ∷ e12 ∷ e13 ∷ e14 ∷ e15 ∷ List.[]
 
 abbrev pub t32 : List.List Row.Entry
-t32 = e0·1 ∷ e1·2 ∷ e2·1 ∷ e3·1 ∷ e4·1 ∷ e5·1 ∷ e6·1 ∷ e7·1 ∷ e8 ∷ e9 ∷ e10 ∷ e11 ∷ e12 ∷ e13 ∷ e14 ∷ e15 ∷ List.[]
+t32 = e16 ∷ e17 ∷ e18·1 ∷ e19 ∷ e20·1 ∷ e21 ∷ e22·1 ∷ e23·1 ∷ e24 ∷ List.[]
 
 abbrev pub t33 : List.List Row.Entry
-t33 = e0·1 ∷ e1 ∷ e2·1 ∷ e3·1 ∷ e4·1 ∷ e5·1 ∷ e6·1 ∷ e7·1 ∷ e8 ∷ e9 ∷ e10 ∷ e11 ∷ e12 ∷ e13 ∷ e14 ∷ e15 ∷ List.[]
+t33 = e16 ∷ e17 ∷ e18·1 ∷ e19 ∷ e20·1 ∷ e21 ∷ e22·1 ∷ e23 ∷ e24·1 ∷ List.[]
 
 abbrev pub t34 : List.List Row.Entry
-t34 = e16 ∷ e17 ∷ e18 ∷ e19 ∷ e20·2 ∷ e21 ∷ e22·2 ∷ e23 ∷ e24·2 ∷ List.[]
+t34 = e0·1 ∷ e1·2 ∷ e2·1 ∷ e3·1 ∷ e4·1 ∷ e5 ∷ e6 ∷ e7 ∷ e8 ∷ e9 ∷ e10 ∷ e11·1 ∷ e12 ∷ e13 ∷ e14 ∷ e15 ∷ List.[]
 
 abbrev pub t35 : List.List Row.Entry
-t35 = e0·1 ∷ e1 ∷ e2 ∷ e3·1 ∷ e4·1 ∷ e5·1 ∷ e6·1 ∷ e7·1 ∷ e8 ∷ e9 ∷ e10 ∷ e11 ∷ e12 ∷ e13 ∷ e14 ∷ e15 ∷ List.[]
+t35 = e16 ∷ e17 ∷ e18·2 ∷ e19 ∷ e20·2 ∷ e21 ∷ e22·2 ∷ e23 ∷ e24·2 ∷ List.[]
 
 abbrev pub t36 : List.List Row.Entry
-t36 = e16 ∷ e17 ∷ e18 ∷ e19 ∷ e20 ∷ e21 ∷ e22·2 ∷ e23 ∷ e24·2 ∷ List.[]
+t36 = e0·1 ∷ e1·2 ∷ e2·1 ∷ e3·1 ∷ e4·1 ∷ e5·1 ∷ e6 ∷ e7 ∷ e8 ∷ e9 ∷ e10 ∷ e11·1 ∷ e12 ∷ e13 ∷ e14 ∷ e15 ∷ List.[]
 
 abbrev pub t37 : List.List Row.Entry
-t37 = e0·1 ∷ e1 ∷ e2 ∷ e3 ∷ e4·1 ∷ e5·1 ∷ e6·1 ∷ e7·1 ∷ e8 ∷ e9 ∷ e10 ∷ e11 ∷ e12 ∷ e13 ∷ e14 ∷ e15 ∷ List.[]
+t37 = e0·1 ∷ e1·2 ∷ e2·1 ∷ e3·1 ∷ e4·1 ∷ e5·1 ∷ e6 ∷ e7 ∷ e8 ∷ e9 ∷ e10 ∷ e11 ∷ e12 ∷ e13 ∷ e14 ∷ e15 ∷ List.[]
 
 abbrev pub t38 : List.List Row.Entry
-t38 = e16 ∷ e17 ∷ e18 ∷ e19 ∷ e20 ∷ e21 ∷ e22 ∷ e23 ∷ e24·2 ∷ List.[]
+t38 = e0·1 ∷ e1 ∷ e2·1 ∷ e3·1 ∷ e4·1 ∷ e5·1 ∷ e6 ∷ e7 ∷ e8 ∷ e9 ∷ e10 ∷ e11 ∷ e12 ∷ e13 ∷ e14 ∷ e15 ∷ List.[]
 
 abbrev pub t39 : List.List Row.Entry
-t39 = e0 ∷ e1 ∷ e2 ∷ e3 ∷ e4 ∷ e5 ∷ e6 ∷ e7·1 ∷ e8 ∷ e9 ∷ e10·1 ∷ e11 ∷ e12·1 ∷ e13 ∷ e14 ∷ e15 ∷ List.[]
+t39 = e16 ∷ e17 ∷ e18 ∷ e19 ∷ e20·2 ∷ e21 ∷ e22·2 ∷ e23 ∷ e24·2 ∷ List.[]
 
 abbrev pub t40 : List.List Row.Entry
-t40 = e0·1 ∷ e1 ∷ e2 ∷ e3 ∷ e4 ∷ e5 ∷ e6 ∷ e7·1 ∷ e8 ∷ e9 ∷ e10 ∷ e11 ∷ e12·1 ∷ e13 ∷ e14 ∷ e15 ∷ List.[]
+t40 = e0·1 ∷ e1 ∷ e2 ∷ e3·1 ∷ e4·1 ∷ e5·1 ∷ e6 ∷ e7 ∷ e8 ∷ e9 ∷ e10 ∷ e11 ∷ e12 ∷ e13 ∷ e14 ∷ e15 ∷ List.[]
 
 abbrev pub t41 : List.List Row.Entry
-t41 = e0·1 ∷ e1 ∷ e2 ∷ e3 ∷ e4 ∷ e5·1 ∷ e6 ∷ e7·1 ∷ e8 ∷ e9 ∷ e10 ∷ e11 ∷ e12·1 ∷ e13 ∷ e14 ∷ e15 ∷ List.[]
+t41 = e16 ∷ e17 ∷ e18 ∷ e19 ∷ e20 ∷ e21 ∷ e22·2 ∷ e23 ∷ e24·2 ∷ List.[]
 
 abbrev pub t42 : List.List Row.Entry
-t42 = e0·1 ∷ e1 ∷ e2 ∷ e3 ∷ e4 ∷ e5·1 ∷ e6·1 ∷ e7·1 ∷ e8 ∷ e9 ∷ e10 ∷ e11 ∷ e12·1 ∷ e13 ∷ e14 ∷ e15 ∷ List.[]
+t42 = e0·1 ∷ e1 ∷ e2 ∷ e3 ∷ e4·1 ∷ e5·1 ∷ e6 ∷ e7 ∷ e8 ∷ e9 ∷ e10 ∷ e11 ∷ e12 ∷ e13 ∷ e14 ∷ e15 ∷ List.[]
+
+abbrev pub t43 : List.List Row.Entry
+t43 = e16 ∷ e17 ∷ e18 ∷ e19 ∷ e20 ∷ e21 ∷ e22 ∷ e23 ∷ e24·2 ∷ List.[]
+
+abbrev pub t44 : List.List Row.Entry
+t44 = e0 ∷ e1 ∷ e2 ∷ e3 ∷ e4 ∷ e5·1 ∷ e6 ∷ e7·1 ∷ e8·1 ∷ e9 ∷ e10 ∷ e11·1 ∷ e12·1 ∷ e13 ∷ e14 ∷ e15 ∷ List.[]
+
+abbrev pub t45 : List.List Row.Entry
+t45 = e0·1 ∷ e1 ∷ e2 ∷ e3 ∷ e4 ∷ e5·1 ∷ e6 ∷ e7·1 ∷ e8·1 ∷ e9 ∷ e10 ∷ e11 ∷ e12·1 ∷ e13 ∷ e14 ∷ e15 ∷ List.[]
+
+abbrev pub t46 : List.List Row.Entry
+t46 = e0·1 ∷ e1 ∷ e2 ∷ e3 ∷ e4 ∷ e5·1 ∷ e6 ∷ e7 ∷ e8·1 ∷ e9 ∷ e10 ∷ e11 ∷ e12·1 ∷ e13 ∷ e14 ∷ e15 ∷ List.[]
+
+abbrev pub t47 : List.List Row.Entry
+t47 = e0·1 ∷ e1 ∷ e2 ∷ e3 ∷ e4 ∷ e5·1 ∷ e6 ∷ e7 ∷ e8 ∷ e9 ∷ e10 ∷ e11 ∷ e12·1 ∷ e13 ∷ e14 ∷ e15 ∷ List.[]
 
 abbrev pub T0 : Row.Cx
 T0 = record { locals = List._++_ t0 t1; slots = List.[] }
@@ -637,234 +666,263 @@ abbrev pub T3 : Row.Cx
 T3 = record { locals = List._++_ t0 t1; slots = List.[] }
 
 abbrev pub T4 : Row.Cx
-T4 = record { locals = List._++_ t0 t1; slots = List.[] }
+T4 = record { locals = List._++_ t3 t1; slots = List.[] }
+
+abbrev pub T5 : Row.Cx
+T5 = record { locals = List._++_ t4 t1; slots = List.[] }
 
 abbrev pub T6 : Row.Cx
-T6 = record { locals = List._++_ t3 t1; slots = List.[] }
+T6 = record { locals = List._++_ t5 t1; slots = List.[] }
 
 abbrev pub T7 : Row.Cx
-T7 = record { locals = List._++_ t4 t1; slots = List.[] }
-
-abbrev pub T8 : Row.Cx
-T8 = record { locals = List._++_ t5 t1; slots = List.[] }
+T7 = record { locals = List._++_ t6 t1; slots = List.[] }
 
 abbrev pub T9 : Row.Cx
-T9 = record { locals = List._++_ t6 t1; slots = List.[] }
+T9 = record { locals = List._++_ t7 t1; slots = List.[] }
+
+abbrev pub T10 : Row.Cx
+T10 = record { locals = List._++_ t8 t1; slots = List.[] }
 
 abbrev pub T11 : Row.Cx
-T11 = record { locals = List._++_ t7 t1; slots = List.[] }
+T11 = record { locals = List._++_ t9 t1; slots = List.[] }
+
+abbrev pub T12 : Row.Cx
+T12 = record { locals = List._++_ t10 t1; slots = List.[] }
 
 abbrev pub T13 : Row.Cx
-T13 = record { locals = List._++_ t8 t1; slots = List.[] }
-
-abbrev pub T14 : Row.Cx
-T14 = record { locals = List._++_ t9 t1; slots = List.[] }
+T13 = record { locals = List._++_ t11 t1; slots = List.[] }
 
 abbrev pub T15 : Row.Cx
-T15 = record { locals = List._++_ t10 t1; slots = List.[] }
-
-abbrev pub T16 : Row.Cx
-T16 = record { locals = List._++_ t11 t1; slots = List.[] }
+T15 = record { locals = List._++_ t12 t1; slots = List.[] }
 
 abbrev pub T17 : Row.Cx
-T17 = record { locals = List._++_ t12 t1; slots = List.[] }
+T17 = record { locals = List._++_ t13 t1; slots = List.[] }
 
 abbrev pub T18 : Row.Cx
-T18 = record { locals = List._++_ t12 t13; slots = List.[] }
+T18 = record { locals = List._++_ t14 t1; slots = List.[] }
 
 abbrev pub T19 : Row.Cx
-T19 = record { locals = List._++_ t14 t1; slots = List.[] }
+T19 = record { locals = List._++_ t15 t1; slots = List.[] }
 
 abbrev pub T20 : Row.Cx
-T20 = record { locals = List._++_ t7 t13; slots = List.[] }
+T20 = record { locals = List._++_ t16 t1; slots = List.[] }
 
 abbrev pub T21 : Row.Cx
-T21 = record { locals = List._++_ t7 t1; slots = List.[] }
+T21 = record { locals = List._++_ t16 t17; slots = List.[] }
+
+abbrev pub T22 : Row.Cx
+T22 = record { locals = List._++_ t18 t1; slots = List.[] }
 
 abbrev pub T23 : Row.Cx
-T23 = record { locals = List._++_ t15 t16; slots = List.[] }
+T23 = record { locals = List._++_ t19 t17; slots = List.[] }
 
 abbrev pub T24 : Row.Cx
-T24 = record { locals = List._++_ t15 t17; slots = List.[] }
+T24 = record { locals = List._++_ t20 t17; slots = List.[] }
+
+abbrev pub T25 : Row.Cx
+T25 = record { locals = List._++_ t21 t17; slots = List.[] }
 
 abbrev pub T26 : Row.Cx
-T26 = record { locals = List._++_ t18 t19; slots = List.[] }
+T26 = record { locals = List._++_ t21 t1; slots = List.[] }
 
-abbrev pub T27 : Row.Cx
-T27 = record { locals = List._++_ t18 t20; slots = List.[] }
+abbrev pub T28 : Row.Cx
+T28 = record { locals = List._++_ t22 t23; slots = List.[] }
 
 abbrev pub T29 : Row.Cx
-T29 = record { locals = List._++_ t21 t22; slots = List.[] }
+T29 = record { locals = List._++_ t22 t24; slots = List.[] }
 
-abbrev pub T30 : Row.Cx
-T30 = record { locals = List._++_ t21 t23; slots = List.[] }
+abbrev pub T31 : Row.Cx
+T31 = record { locals = List._++_ t25 t26; slots = List.[] }
 
 abbrev pub T32 : Row.Cx
-T32 = record { locals = List._++_ t24 t25; slots = List.[] }
-
-abbrev pub T33 : Row.Cx
-T33 = record { locals = List._++_ t24 t26; slots = List.[] }
+T32 = record { locals = List._++_ t25 t27; slots = List.[] }
 
 abbrev pub T34 : Row.Cx
-T34 = record { locals = List._++_ t27 t28; slots = List.[] }
+T34 = record { locals = List._++_ t28 t29; slots = List.[] }
 
 abbrev pub T35 : Row.Cx
-T35 = record { locals = List._++_ t29 t28; slots = List.[] }
-
-abbrev pub T36 : Row.Cx
-T36 = record { locals = List._++_ t30 t28; slots = List.[] }
+T35 = record { locals = List._++_ t28 t30; slots = List.[] }
 
 abbrev pub T37 : Row.Cx
-T37 = record { locals = List._++_ t31 t28; slots = List.[] }
+T37 = record { locals = List._++_ t31 t32; slots = List.[] }
 
 abbrev pub T38 : Row.Cx
-T38 = record { locals = List._++_ t32 t28; slots = List.[] }
+T38 = record { locals = List._++_ t31 t33; slots = List.[] }
+
+abbrev pub T39 : Row.Cx
+T39 = record { locals = List._++_ t34 t35; slots = List.[] }
 
 abbrev pub T40 : Row.Cx
-T40 = record { locals = List._++_ t33 t34; slots = List.[] }
+T40 = record { locals = List._++_ t36 t35; slots = List.[] }
+
+abbrev pub T41 : Row.Cx
+T41 = record { locals = List._++_ t37 t35; slots = List.[] }
 
 abbrev pub T43 : Row.Cx
-T43 = record { locals = List._++_ t35 t36; slots = List.[] }
+T43 = record { locals = List._++_ t38 t39; slots = List.[] }
 
 abbrev pub T46 : Row.Cx
-T46 = record { locals = List._++_ t37 t38; slots = List.[] }
+T46 = record { locals = List._++_ t40 t41; slots = List.[] }
 
 abbrev pub T49 : Row.Cx
-T49 = record { locals = List._++_ t2 t1; slots = List.[] }
-
-abbrev pub T50 : Row.Cx
-T50 = record { locals = List._++_ t2 t1; slots = List.[] }
+T49 = record { locals = List._++_ t42 t43; slots = List.[] }
 
 abbrev pub T52 : Row.Cx
-T52 = record { locals = List._++_ t39 t13; slots = List.[] }
+T52 = record { locals = List._++_ t2 t1; slots = List.[] }
 
 abbrev pub T53 : Row.Cx
-T53 = record { locals = List._++_ t14 t13; slots = List.[] }
-
-abbrev pub T54 : Row.Cx
-T54 = record { locals = List._++_ t14 t1; slots = List.[] }
+T53 = record { locals = List._++_ t2 t1; slots = List.[] }
 
 abbrev pub T55 : Row.Cx
-T55 = record { locals = List._++_ t40 t1; slots = List.[] }
+T55 = record { locals = List._++_ t44 t17; slots = List.[] }
 
 abbrev pub T56 : Row.Cx
-T56 = record { locals = List._++_ t41 t1; slots = List.[] }
+T56 = record { locals = List._++_ t18 t17; slots = List.[] }
 
 abbrev pub T57 : Row.Cx
-T57 = record { locals = List._++_ t42 t1; slots = List.[] }
+T57 = record { locals = List._++_ t18 t1; slots = List.[] }
 
 abbrev pub T58 : Row.Cx
-T58 = record { locals = List._++_ t2 t1; slots = List.[] }
+T58 = record { locals = List._++_ t45 t1; slots = List.[] }
+
+abbrev pub T59 : Row.Cx
+T59 = record { locals = List._++_ t46 t1; slots = List.[] }
+
+abbrev pub T60 : Row.Cx
+T60 = record { locals = List._++_ t47 t1; slots = List.[] }
+
+abbrev pub T61 : Row.Cx
+T61 = record { locals = List._++_ t2 t1; slots = List.[] }
 
 abbrev pub O0 : Typed.Outs
 O0 = record { next = Option.none; exits = List.[]; returns = Option.some T1 }
 
 abbrev pub O1 : Typed.Outs
-O1 = Typed.withNext (Option.some T19) O0
+O1 = Typed.withNext (Option.some T22) O0
 
 module _ (claims· : Claims) where
-  abbrev s0 : Typed.Gives T0 T2
-  s0 = Know.k-sl-known (Referent.fInt Syntax.w32) T0 4 3 ref8 Row.off 0 λ x. x
+  abbrev s0 : (bs : List.List Nat.ℕ) → Typed.Gives T0 T2
+  s0 = λ bs. Know.k-sl-known (Referent.fInt Syntax.w32) T0 4 3 ref8 Row.off 0 λ x. x
 
-  abbrev s1 : Typed.Gives T2 T3
-  s1 = Know.k-shs-known (Referent.fInt Syntax.w8) T2 8 4 ref9 Row.off 0 λ x. x
+  abbrev s1 : (bs : List.List Nat.ℕ) → Typed.Gives T2 T3
+  s1 = λ bs. Know.k-shs-known (Referent.fInt Syntax.w8) T2 6 4 ref9 Row.off 0 λ x. x
 
-  abbrev s2 : Typed.Gives T3 T4
-  s2 = Know.k-shs-known (Referent.fInt Syntax.w8) T3 9 5 ref10 Row.off 0 λ x. x
+  abbrev s2 : (bs : List.List Nat.ℕ) → Typed.Both T3 T4
+  s2 = λ bs. WayStmt.k-way-copy-out T3 (Row.out 5 (T3 .locals)) (λ u. Row.drop 5 (T3 .locals) u) 7
+      (Rows.whole (Declared'.row OpaqueRelayRuntime.the-type)) (λ u. At.getAt (Request.the-type .parts) 0
+      (Request.struct .as-values (u .1 .1 .1 .1 .1 .0))) (λ T′.
+      record { locals = Row.setRow 5 (5, Rows.whole (Declared'.row Request.the-type)) T′; slots = List.[] }) (λ u T′
+      m′. Row.set 5 (5, Rows.whole (Declared'.row Request.the-type)) (u .1 .1 .1 .1 .1 .0) T′ m′) (λ u. Unit) λ u. Unit
 
-  abbrev s4 : Typed.Gives T4 T6
-  s4 = Reshare.k-sl-reshare RelayCircuit.row T4 1 13 0 6 ref5 ref0 Row.off λ x. x
+  abbrev s3 : (bs : List.List Nat.ℕ) → Typed.Both T4 T5
+  s3 = λ bs. WayStmt.k-way-copy-out T4 (Row.out 5 (T4 .locals)) (λ u. Row.drop 5 (T4 .locals) u) 8
+      (Rows.whole (Declared'.row Places.the-type)) (λ u. At.getAt (Request.the-type .parts) 1
+      (Request.struct .as-values (u .1 .1 .1 .1 .1 .0))) (λ T′.
+      record { locals = Row.setRow 5 (5, Rows.whole (Declared'.row Request.the-type)) T′; slots = List.[] }) (λ u T′
+      m′. Row.set 5 (5, Rows.whole (Declared'.row Request.the-type)) (u .1 .1 .1 .1 .1 .0) T′ m′) (λ u. Unit) λ u. Unit
 
-  abbrev s5 : Typed.Asks T6 T7
-  s5 = Relend.k-sl-aggregate RelayCircuit.row (Relend.asShr RelayCircuit.row) T6 13 14 6 ref0 ref0 (λ x. x) (Scalar.oFld
+  abbrev s4 : (bs : List.List Nat.ℕ) → Typed.Both T5 T6
+  s4 = λ bs. WayStmt.k-way-copy-out T5 (Row.out 5 (T5 .locals)) (λ u. Row.drop 5 (T5 .locals) u) 9
+      (Rows.whole (Declared'.row RelayPacket.the-type)) (λ u. At.getAt (Request.the-type .parts) 2
+      (Request.struct .as-values (u .1 .1 .1 .1 .1 .0))) (λ T′.
+      record { locals = Row.setRow 5 (5, Rows.whole (Declared'.row Request.the-type)) T′; slots = List.[] }) (λ u T′
+      m′. Row.set 5 (5, Rows.whole (Declared'.row Request.the-type)) (u .1 .1 .1 .1 .1 .0) T′ m′) (λ u. Unit) λ u. Unit
+
+  abbrev s5 : (bs : List.List Nat.ℕ) → Typed.Both T6 T7
+  s5 = λ bs. WayStmt.k-way-copy-out T6 (Row.out 5 (T6 .locals)) (λ u. Row.drop 5 (T6 .locals) u) 10
+      (Rows.whole (Declared'.row HnsrPeerId.the-type)) (λ u. At.getAt (Request.the-type .parts) 3
+      (Request.struct .as-values (u .1 .1 .1 .1 .1 .0))) (λ T′.
+      record { locals = Row.setRow 5 (5, Rows.whole (Declared'.row Request.the-type)) T′; slots = List.[] }) (λ u T′
+      m′. Row.set 5 (5, Rows.whole (Declared'.row Request.the-type)) (u .1 .1 .1 .1 .1 .0) T′ m′) (λ u. Unit) λ u. Unit
+
+  abbrev s7 : (bs : List.List Nat.ℕ) → Typed.Gives T7 T9
+  s7 = λ bs. Reshare.k-sl-reshare RelayCircuit.row T7 1 13 0 5 ref5 ref0 Row.off λ x. x
+
+  abbrev s8 : (bs : List.List Nat.ℕ) → Typed.Asks T9 T10
+  s8 = λ bs. Relend.k-sl-aggregate RelayCircuit.row (Relend.asShr RelayCircuit.row) T9 13 14 5 ref0 ref0 (λ x. x) (Scalar.oFld
       1 ((Syntax.field 1) ∷ List.[]) (Syntax.tyInt Syntax.w64) 8 λ v. Shared.lenV (v .0))
 
-  abbrev args6 : Args'.ArgsT ps·0 (T7 .locals)
-  args6 = (
+  abbrev s9 : (bs : List.List Nat.ℕ) → Typed.Both T10 T11
+  s9 = λ bs. Call.callB ps·0 r·0 (claims· .0) (claims· .1) T10 (
     record { pos = 14; ty = ref0; ref = λ x. x },
     (
-      record { pos = 6; st = List.[]; d = 0; at = λ x. x },
-      (Num.vFld 7 ((Syntax.field 1) ∷ List.[]) 8 λ x. RelayPacket.struct .as-values x .1 .0, tt),
+      record { pos = 8; st = List.[]; d = 0; at = λ x. x },
+      (Num.vFld 9 ((Syntax.field 1) ∷ List.[]) 8 λ x. RelayPacket.struct .as-values x .1 .0, tt),
     ),
-  )
+  ) 11 (5 ∷ List.[]) Laws''''''.mir
 
-  abbrev s6 : Typed.Both T7 T8
-  s6 = Call.callB ps·0 r·0 (claims· .0) (claims· .1) T7 args6 10 (6 ∷ List.[]) Laws'''''.mir
+  abbrev s10 : (bs : List.List Nat.ℕ) → Typed.Mo T11 → Typed.Mo T12
+  s10 = λ bs. Scalar.n-room T11 14 slice0
 
-  abbrev s7 : Typed.Mo T8 → Typed.Mo T9
-  s7 = Scalar.n-room T8 14 slice0
+  abbrev s11 : (bs : List.List Nat.ℕ) → Typed.Mo T12 → Typed.Mo T13
+  s11 = λ bs. Scalar.n-room T12 9 Laws'''.mir
 
-  abbrev s9 : Typed.Mo T9 → Typed.Mo T11
-  s9 = Reshare.n-back-sl-shr RelayCircuit.row T9 1 0 6 ref5 Row.off λ x. x
+  abbrev s13 : (bs : List.List Nat.ℕ) → Typed.Mo T13 → Typed.Mo T15
+  s13 = λ bs. Reshare.n-back-sl-shr RelayCircuit.row T13 1 0 5 ref5 Row.off λ x. x
 
-  abbrev args11 : Args'.ArgsT ps·1 (T11 .locals)
-  args11 = (record { pos = 8; ty = ref9; ref = λ x. x }, tt)
-
-  abbrev s11 : Typed.Both T11 T13
-  s11 = Call.callB ps·1 r·1 (claims· .2) (claims· .3) T11 args11 11 (4 ∷ List.[]) Laws'.mir
-
-  abbrev s12 : Typed.Mo T13 → Typed.Mo T14
-  s12 = Scalar.n-use T13 (Scalar.oFld 9 ((Syntax.field 1) ∷ List.[]) (Syntax.tyInt Syntax.w64) 8 Shared.lenV) 15
+  abbrev s15 : (bs : List.List Nat.ℕ) → Typed.Mo T15 → Typed.Mo T17
+  s15 = λ bs. Scalar.n-use T15 (Scalar.oFld 6 ((Syntax.field 1) ∷ List.[]) (Syntax.tyInt Syntax.w64) 8 Shared.lenV) 15
       (Rows.sc-here (Row.sInt Syntax.w64)) (Row.sInt Syntax.w64 .of)
 
-  abbrev args13 : Args'.ArgsT ps·2 (T14 .locals)
-  args13 = (
-    record { pos = 10; st = List.[]; d = 0; at = λ x. x },
-    (record { pos = 11; st = List.[]; d = 0; at = λ x. x }, (Num.vAt 15 λ x. x, tt)),
-  )
+  abbrev s16 : (bs : List.List Nat.ℕ) → Typed.Both T17 T18
+  s16 = λ bs. Call.callB ps·1 r·1 (claims· .2) (claims· .3) T17 (
+    record { pos = 11; st = List.[]; d = 0; at = λ x. x },
+    (record { pos = 10; st = List.[]; d = 0; at = λ x. x }, (Num.vAt 15 λ x. x, tt)),
+  ) 12 List.[] Laws.mir
 
-  abbrev s13 : Typed.Both T14 T15
-  s13 = Call.callB ps·2 r·2 (claims· .4) (claims· .5) T14 args13 12 List.[] Laws.mir
+  abbrev s17 : (bs : List.List Nat.ℕ) → Typed.Mo T18 → Typed.Mo T19
+  s17 = λ bs. Scalar.n-room T18 10 Laws'.mir
 
-  abbrev s14 : Typed.Mo T15 → Typed.Mo T16
-  s14 = Scalar.n-room T15 11 Laws'.mir
+  abbrev s18 : (bs : List.List Nat.ℕ) → Typed.Mo T19 → Typed.Mo T20
+  s18 = λ bs. Scalar.n-room T19 15 (Syntax.tyInt Syntax.w64)
 
-  abbrev s15 : Typed.Mo T16 → Typed.Mo T17
-  s15 = Scalar.n-room T16 15 (Syntax.tyInt Syntax.w64)
+  abbrev s19 : (bs : List.List Nat.ℕ) → Typed.Both T20 T21
+  s19 = λ bs. Call.callB ps·2 r·2 (claims· .4) (claims· .5) T20
+      (record { pos = 12; st = List.[]; d = 0; at = λ x. x }, tt) 16 List.[] Syntax.tyBool
 
-  abbrev args16 : Args'.ArgsT ps·3 (T17 .locals)
-  args16 = (record { pos = 12; st = List.[]; d = 0; at = λ x. x }, tt)
+  abbrev s20 : (bs : List.List Nat.ℕ) → Typed.Mo T21 → Typed.Mo T23
+  s20 = λ bs. Scalar.n-room T21 7 Laws''.mir
 
-  abbrev s16 : Typed.Both T17 T18
-  s16 = Call.callB ps·3 r·3 (claims· .6) (claims· .7) T17 args16 16 List.[] Syntax.tyBool
+  abbrev s21 : (bs : List.List Nat.ℕ) → Typed.Mo T23 → Typed.Mo T24
+  s21 = λ bs. Scalar.n-room T23 8 Laws'''''''.mir
 
-  abbrev s17 : Typed.Mo T18 → Typed.Mo T20
-  s17 = Scalar.n-room T18 12 Laws.mir
+  abbrev s22 : (bs : List.List Nat.ℕ) → Typed.Mo T24 → Typed.Mo T25
+  s22 = λ bs. Scalar.n-room T24 12 Laws.mir
 
-  abbrev s18 : Typed.Mo T20 → Typed.Mo T21
-  s18 = Scalar.n-room T20 16 Syntax.tyBool
+  abbrev s23 : (bs : List.List Nat.ℕ) → Typed.Mo T25 → Typed.Mo T26
+  s23 = λ bs. Scalar.n-room T25 16 Syntax.tyBool
 
-  abbrev s20 : Typed.Gives T21 T23
-  s20 = Relend.k-sl-relend RelayCircuit.row T21 1 17 0 7 ref5 ref1 Row.off λ x. x
+  abbrev s25 : (bs : List.List Nat.ℕ) → Typed.Gives T26 T28
+  s25 = λ bs. Relend.k-sl-relend RelayCircuit.row T26 1 17 0 6 ref5 ref1 Row.off λ x. x
 
-  abbrev s21 : Typed.Asks T23 T24
-  s21 = Relend.k-sl-aggregate RelayCircuit.row (Relend.asMut RelayCircuit.row) T23 17 18 7 ref1 ref1 (λ x. x) (Scalar.oFld
+  abbrev s26 : (bs : List.List Nat.ℕ) → Typed.Asks T28 T29
+  s26 = λ bs. Relend.k-sl-aggregate RelayCircuit.row (Relend.asMut RelayCircuit.row) T28 17 18 6 ref1 ref1 (λ x. x) (Scalar.oFld
       1 ((Syntax.field 1) ∷ List.[]) (Syntax.tyInt Syntax.w64) 8 λ v. Shared.lenV (v .0))
 
-  abbrev s23 : Typed.Gives T24 T26
-  s23 = Relend.k-sl-relend ReservationUsage.row T24 2 19 1 8 ref6 ref2 Row.off λ x. x
+  abbrev s28 : (bs : List.List Nat.ℕ) → Typed.Gives T29 T31
+  s28 = λ bs. Relend.k-sl-relend ReservationUsage.row T29 2 19 1 7 ref6 ref2 Row.off λ x. x
 
-  abbrev s24 : Typed.Asks T26 T27
-  s24 = Relend.k-sl-aggregate ReservationUsage.row (Relend.asMut ReservationUsage.row) T26 19 20 8 ref2 ref2 (λ x. x) (Scalar.oFld
-      2 ((Syntax.field 1) ∷ List.[]) (Syntax.tyInt Syntax.w64) 8 λ v. Shared.lenV (v .0))
+  abbrev s29 : (bs : List.List Nat.ℕ) → Typed.Asks T31 T32
+  s29 = λ bs. Relend.k-sl-aggregate ReservationUsage.row (Relend.asMut ReservationUsage.row) T31 19 20 7 ref2 ref2
+      (λ x. x) (Scalar.oFld 2 ((Syntax.field 1) ∷ List.[]) (Syntax.tyInt Syntax.w64) 8 λ v. Shared.lenV (v .0))
 
-  abbrev s26 : Typed.Gives T27 T29
-  s26 = Relend.k-sl-relend InflightAction.row T27 3 21 2 9 ref7 ref3 Row.off λ x. x
+  abbrev s31 : (bs : List.List Nat.ℕ) → Typed.Gives T32 T34
+  s31 = λ bs. Relend.k-sl-relend InflightAction.row T32 3 21 2 8 ref7 ref3 Row.off λ x. x
 
-  abbrev s27 : Typed.Asks T29 T30
-  s27 = Relend.k-sl-aggregate InflightAction.row (Relend.asMut InflightAction.row) T29 21 22 9 ref3 ref3 (λ x. x) (Scalar.oFld
+  abbrev s32 : (bs : List.List Nat.ℕ) → Typed.Asks T34 T35
+  s32 = λ bs. Relend.k-sl-aggregate InflightAction.row (Relend.asMut InflightAction.row) T34 21 22 8 ref3 ref3 (λ x. x) (Scalar.oFld
       3 ((Syntax.field 1) ∷ List.[]) (Syntax.tyInt Syntax.w64) 8 λ v. Shared.lenV (v .0))
 
-  abbrev s29 : Typed.Gives T30 T32
-  s29 = Relend.k-sl-relend (Referent.rtF (Referent.fInt Syntax.w32)) T30 4 23 3 10 ref8 ref4 Row.off λ x. x
+  abbrev s34 : (bs : List.List Nat.ℕ) → Typed.Gives T35 T37
+  s34 = λ bs. Relend.k-sl-relend (Referent.rtF (Referent.fInt Syntax.w32)) T35 4 23 3 9 ref8 ref4 Row.off λ x. x
 
-  abbrev s30 : Typed.Asks T32 T33
-  s30 = Relend.k-sl-aggregate (Referent.rtF (Referent.fInt Syntax.w32))
-      (Relend.asMut (Referent.rtF (Referent.fInt Syntax.w32))) T32 23 24 10 ref4 ref4 (λ x. x) (Scalar.oFld 4
+  abbrev s35 : (bs : List.List Nat.ℕ) → Typed.Asks T37 T38
+  s35 = λ bs. Relend.k-sl-aggregate (Referent.rtF (Referent.fInt Syntax.w32))
+      (Relend.asMut (Referent.rtF (Referent.fInt Syntax.w32))) T37 23 24 9 ref4 ref4 (λ x. x) (Scalar.oFld 4
       ((Syntax.field 1) ∷ List.[]) (Syntax.tyInt Syntax.w64) 8 λ v. Shared.lenV (v .0))
 
-  abbrev args31 : Args'.ArgsT ps·4 (T33 .locals)
-  args31 = (
+  abbrev s36 : (bs : List.List Nat.ℕ) → Typed.Both T38 T39
+  s36 = λ bs. Call.callB ps·3 r·3 (claims· .6) (claims· .7) T38 (
     record { pos = 18; ty = ref1; ref = λ x. x },
     (
       record { pos = 20; ty = ref2; ref = λ x. x },
@@ -874,295 +932,281 @@ module _ (claims· : Claims) where
           record { pos = 24; ty = ref4; ref = λ x. x },
           (
             record { pos = 5; st = List.[]; d = 0; at = λ x. x },
-            (
-              record { pos = 6; st = List.[]; d = 0; at = λ x. x },
-              (
-                record { pos = 7; st = List.[]; d = 0; at = λ x. x },
-                (
-                  record { pos = 10; st = List.[]; d = 0; at = λ x. x },
-                  (record { pos = 8; ty = ref9; ref = λ x. x }, (record { pos = 9; ty = ref10; ref = λ x. x }, tt)),
-                ),
-              ),
-            ),
+            (record { pos = 11; st = List.[]; d = 0; at = λ x. x }, (record { pos = 6; ty = ref9; ref = λ x. x }, tt)),
           ),
         ),
       ),
     ),
-  )
+  ) 0 (6 ∷ 7 ∷ 8 ∷ 9 ∷ 4 ∷ List.[]) Laws''''.mir
 
-  abbrev s31 : Typed.Both T33 T34
-  s31 = Call.callB ps·4 r·4 (claims· .8) (claims· .9) T33 args31 0 (7 ∷ 8 ∷ 9 ∷ 10 ∷ 4 ∷ 5 ∷ List.[]) Laws''''.mir
+  abbrev s37 : (bs : List.List Nat.ℕ) → Typed.Mo T39 → Typed.Mo T40
+  s37 = λ bs. Scalar.n-room T39 5 Laws'''''.mir
 
-  abbrev s32 : Typed.Mo T34 → Typed.Mo T35
-  s32 = Scalar.n-room T34 5 Laws''.mir
+  abbrev s38 : (bs : List.List Nat.ℕ) → Typed.Mo T40 → Typed.Mo T41
+  s38 = λ bs. Scalar.n-room T40 11 Laws''''''.mir
 
-  abbrev s33 : Typed.Mo T35 → Typed.Mo T36
-  s33 = Scalar.n-room T35 6 Laws''''''.mir
+  abbrev s40 : (bs : List.List Nat.ℕ) → Typed.Both T41 T43
+  s40 = λ bs. Relend.k-back-sl RelayCircuit.row T41 18 1 0 6 ref5 ref1 Row.off (λ x. x) λ x. x
 
-  abbrev s34 : Typed.Mo T36 → Typed.Mo T37
-  s34 = Scalar.n-room T36 7 Laws'''.mir
+  abbrev s43 : (bs : List.List Nat.ℕ) → Typed.Both T43 T46
+  s43 = λ bs. Relend.k-back-sl ReservationUsage.row T43 20 2 1 7 ref6 ref2 Row.off (λ x. x) λ x. x
 
-  abbrev s35 : Typed.Mo T37 → Typed.Mo T38
-  s35 = Scalar.n-room T37 10 Laws'''''.mir
+  abbrev s46 : (bs : List.List Nat.ℕ) → Typed.Both T46 T49
+  s46 = λ bs. Relend.k-back-sl InflightAction.row T46 22 3 2 8 ref7 ref3 Row.off (λ x. x) λ x. x
 
-  abbrev s37 : Typed.Both T38 T40
-  s37 = Relend.k-back-sl RelayCircuit.row T38 18 1 0 7 ref5 ref1 Row.off (λ x. x) λ x. x
+  abbrev s49 : (bs : List.List Nat.ℕ) → Typed.Both T49 T52
+  s49 = λ bs. Relend.k-back-sl (Referent.rtF (Referent.fInt Syntax.w32)) T49 24 4 3 9 ref8 ref4 Row.off (λ x. x) λ x. x
 
-  abbrev s40 : Typed.Both T40 T43
-  s40 = Relend.k-back-sl ReservationUsage.row T40 20 2 1 8 ref6 ref2 Row.off (λ x. x) λ x. x
+  abbrev s50 : (bs : List.List Nat.ℕ) → Typed.Gives T52 T53
+  s50 = λ bs. Know.k-sl-known (Referent.fInt Syntax.w32) T52 4 3 ref8 Row.off 0 λ x. x
 
-  abbrev s43 : Typed.Both T43 T46
-  s43 = Relend.k-back-sl InflightAction.row T43 22 3 2 9 ref7 ref3 Row.off (λ x. x) λ x. x
+  abbrev s52 : (bs : List.List Nat.ℕ) → Typed.Mo T21 → Typed.Mo T55
+  s52 = λ bs. Scalar.n-room T21 5 Laws'''''.mir
 
-  abbrev s46 : Typed.Both T46 T49
-  s46 = Relend.k-back-sl (Referent.rtF (Referent.fInt Syntax.w32)) T46 24 4 3 10 ref8 ref4 Row.off (λ x. x) λ x. x
+  abbrev s53 : (bs : List.List Nat.ℕ) → Typed.Mo T55 → Typed.Mo T56
+  s53 = λ bs. Scalar.n-room T55 11 Laws''''''.mir
 
-  abbrev s47 : Typed.Gives T49 T50
-  s47 = Know.k-sl-known (Referent.fInt Syntax.w32) T49 4 3 ref8 Row.off 0 λ x. x
+  abbrev s54 : (bs : List.List Nat.ℕ) → Typed.Mo T56 → Typed.Mo T57
+  s54 = λ bs. Scalar.n-room T56 16 Syntax.tyBool
 
-  abbrev s49 : Typed.Mo T18 → Typed.Mo T52
-  s49 = Scalar.n-room T18 7 Laws'''.mir
-
-  abbrev s50 : Typed.Mo T52 → Typed.Mo T53
-  s50 = Scalar.n-room T52 10 Laws'''''.mir
-
-  abbrev s51 : Typed.Mo T53 → Typed.Mo T54
-  s51 = Scalar.n-room T53 16 Syntax.tyBool
-
-  abbrev args52 : Args'.ArgsT ps·5 (T19 .locals)
-  args52 = (
-    record { pos = 5; st = List.[]; d = 0; at = λ x. x },
+  abbrev s55 : (bs : List.List Nat.ℕ) → Typed.Both T22 T58
+  s55 = λ bs. Call.callB ps·4 r·4 (claims· .8) (claims· .9) T22 (
+    record { pos = 7; st = List.[]; d = 0; at = λ x. x },
     (
-      record { pos = 6; st = List.[]; d = 0; at = λ x. x },
+      record { pos = 8; st = List.[]; d = 0; at = λ x. x },
       (record { pos = 12; st = List.[]; d = 0; at = λ x. x }, tt),
     ),
-  )
+  ) 0 List.[] Laws''''.mir
 
-  abbrev s52 : Typed.Both T19 T55
-  s52 = Call.callB ps·5 r·5 (claims· .10) (claims· .11) T19 args52 0 List.[] Laws''''.mir
+  abbrev s56 : (bs : List.List Nat.ℕ) → Typed.Mo T58 → Typed.Mo T59
+  s56 = λ bs. Scalar.n-room T58 7 Laws''.mir
 
-  abbrev s53 : Typed.Mo T55 → Typed.Mo T56
-  s53 = Scalar.n-room T55 5 Laws''.mir
+  abbrev s57 : (bs : List.List Nat.ℕ) → Typed.Mo T59 → Typed.Mo T60
+  s57 = λ bs. Scalar.n-room T59 8 Laws'''''''.mir
 
-  abbrev s54 : Typed.Mo T56 → Typed.Mo T57
-  s54 = Scalar.n-room T56 6 Laws''''''.mir
+  abbrev s58 : (bs : List.List Nat.ℕ) → Typed.Mo T60 → Typed.Mo T61
+  s58 = λ bs. Scalar.n-room T60 12 Laws.mir
 
-  abbrev s55 : Typed.Mo T57 → Typed.Mo T58
-  s55 = Scalar.n-room T57 12 Laws.mir
-
-  module _ (Pre· : (κs : Lifetimes.Lfts 6) → Kinds.Dens κs ps → Type 0) (Post· : (κs : Lifetimes.Lfts 6) →
-      (a : Kinds.Dens κs ps) → Kinds.Plain 6 ps r κs) where
+  module _ (Pre· : (κs : Lifetimes.Lfts 5) → Kinds.Dens κs ps → Type 0) (Post· : (κs : Lifetimes.Lfts 5) →
+      (a : Kinds.Dens κs ps) → Kinds.Plain 5 ps r κs) where
     module _ (M : Type 1) where
       abbrev pub Closed : Type 2
       Closed = (𝓤 : URA.URA M) (H : Wp.Heap 𝓤) (A : Atoms.Atoms 𝓤) (W : Kit.Given 𝓤 H A) (𝓣 : Wp.Tables 𝓤 H) (known0 :
           Plain.Known 𝓤 H A W 𝓣 1 ps·0 r·0 (claims· .0) (claims· .1) "hnsr_circuit::tables::lookup::circuit_by_id") (known1
-          : Plain.Known 𝓤 H A W 𝓣 1 ps·1 r·1 (claims· .2) (claims· .3) "hnsr_circuit::peer::peer_of") (known2 :
-          Plain.Known 𝓤 H A W 𝓣 0 ps·2 r·2 (claims· .4) (claims· .5) "hnsr_circuit::messages::data::data_entry") (known3
-          : Plain.Known 𝓤 H A W 𝓣 0 ps·3 r·3 (claims· .6) (claims· .7) "hnsr_circuit::answer::is_taken") (known4 :
-          Plain.Known 𝓤 H A W 𝓣 6 ps·4 r·4 (claims· .8) (claims· .9) "hnsr_circuit::messages::handle_data::pass_data") (known5
-          : Plain.Known 𝓤 H A W 𝓣 0 ps·5 r·5 (claims· .10) (claims· .11) "hnsr_circuit::runtime::refused") →
-          Statement.Triple 𝓤 (Wp.WpFn 𝓤 H (𝓣 .C) (𝓣 .Λ) (Function.fnOf 6 ps r xs m hs body))
-          (Function.plainOf 𝓤 H A 6 ps r Pre· Post·)
+          : Plain.Known 𝓤 H A W 𝓣 0 ps·1 r·1 (claims· .2) (claims· .3) "hnsr_circuit::messages::data::data_entry") (known2
+          : Plain.Known 𝓤 H A W 𝓣 0 ps·2 r·2 (claims· .4) (claims· .5) "hnsr_circuit::answer::is_taken") (known3 :
+          Plain.Known 𝓤 H A W 𝓣 5 ps·3 r·3 (claims· .6) (claims· .7) "hnsr_circuit::messages::handle_data::pass_data") (known4
+          : Plain.Known 𝓤 H A W 𝓣 0 ps·4 r·4 (claims· .8) (claims· .9) "hnsr_circuit::runtime::refused") →
+          Statement.Triple 𝓤 (Wp.WpFn 𝓤 H (𝓣 .C) (𝓣 .Λ) (Function.fnOf 5 ps r xs m hs body))
+          (Function.plainOf 𝓤 H A 5 ps r Pre· Post·)
 
     module _ where
-      abbrev at0 : Typed.TF T50 O1
-      at0 = Typed.atRet O1
+      abbrev at0 : (bs : List.List Nat.ℕ) → Typed.TF T53 O1
+      at0 = λ bs. Typed.atRet O1
 
-      abbrev at1 : Typed.TF T50 O1
-      at1 = λ Ψ. at0 Ψ
+      abbrev at1 : (bs : List.List Nat.ℕ) → Typed.TF T53 O1
+      at1 = λ bs. λ Ψ. at0 bs Ψ
 
-      abbrev at2 : Typed.TF T49 O1
-      at2 = λ Ψ. Typed.give s47 (at1 Ψ)
+      abbrev at2 : (bs : List.List Nat.ℕ) → Typed.TF T52 O1
+      at2 = λ bs. λ Ψ. Typed.give (s50 bs) (at1 bs Ψ)
 
-      abbrev at3 : Typed.TF T46 O1
-      at3 = λ Ψ. Typed.both s46 (at2 Ψ)
+      abbrev at3 : (bs : List.List Nat.ℕ) → Typed.TF T49 O1
+      at3 = λ bs. λ Ψ. Typed.both (s49 bs) (at2 bs Ψ)
 
-      abbrev at4 : Typed.TF T46 O1
-      at4 = λ Ψ. at3 Ψ
+      abbrev at4 : (bs : List.List Nat.ℕ) → Typed.TF T49 O1
+      at4 = λ bs. λ Ψ. at3 bs Ψ
 
-      abbrev at5 : Typed.TF T46 O1
-      at5 = λ Ψ. at4 Ψ
+      abbrev at5 : (bs : List.List Nat.ℕ) → Typed.TF T49 O1
+      at5 = λ bs. λ Ψ. at4 bs Ψ
 
-      abbrev at6 : Typed.TF T43 O1
-      at6 = λ Ψ. Typed.both s43 (at5 Ψ)
+      abbrev at6 : (bs : List.List Nat.ℕ) → Typed.TF T46 O1
+      at6 = λ bs. λ Ψ. Typed.both (s46 bs) (at5 bs Ψ)
 
-      abbrev at7 : Typed.TF T43 O1
-      at7 = λ Ψ. at6 Ψ
+      abbrev at7 : (bs : List.List Nat.ℕ) → Typed.TF T46 O1
+      at7 = λ bs. λ Ψ. at6 bs Ψ
 
-      abbrev at8 : Typed.TF T43 O1
-      at8 = λ Ψ. at7 Ψ
+      abbrev at8 : (bs : List.List Nat.ℕ) → Typed.TF T46 O1
+      at8 = λ bs. λ Ψ. at7 bs Ψ
 
-      abbrev at9 : Typed.TF T40 O1
-      at9 = λ Ψ. Typed.both s40 (at8 Ψ)
+      abbrev at9 : (bs : List.List Nat.ℕ) → Typed.TF T43 O1
+      at9 = λ bs. λ Ψ. Typed.both (s43 bs) (at8 bs Ψ)
 
-      abbrev at10 : Typed.TF T40 O1
-      at10 = λ Ψ. at9 Ψ
+      abbrev at10 : (bs : List.List Nat.ℕ) → Typed.TF T43 O1
+      at10 = λ bs. λ Ψ. at9 bs Ψ
 
-      abbrev at11 : Typed.TF T40 O1
-      at11 = λ Ψ. at10 Ψ
+      abbrev at11 : (bs : List.List Nat.ℕ) → Typed.TF T43 O1
+      at11 = λ bs. λ Ψ. at10 bs Ψ
 
-      abbrev at12 : Typed.TF T38 O1
-      at12 = λ Ψ. Typed.both s37 (at11 Ψ)
+      abbrev at12 : (bs : List.List Nat.ℕ) → Typed.TF T41 O1
+      at12 = λ bs. λ Ψ. Typed.both (s40 bs) (at11 bs Ψ)
 
-      abbrev at13 : Typed.TF T38 O1
-      at13 = λ Ψ. at12 Ψ
+      abbrev at13 : (bs : List.List Nat.ℕ) → Typed.TF T41 O1
+      at13 = λ bs. λ Ψ. at12 bs Ψ
 
-      abbrev at14 : Typed.TF T37 O1
-      at14 = λ Ψ. Typed.pass T37 T38 s35 (at13 Ψ)
+      abbrev at14 : (bs : List.List Nat.ℕ) → Typed.TF T40 O1
+      at14 = λ bs. λ Ψ. Typed.pass T40 T41 (s38 bs) (at13 bs Ψ)
 
-      abbrev at15 : Typed.TF T36 O1
-      at15 = λ Ψ. Typed.pass T36 T37 s34 (at14 Ψ)
+      abbrev at15 : (bs : List.List Nat.ℕ) → Typed.TF T39 O1
+      at15 = λ bs. λ Ψ. Typed.pass T39 T40 (s37 bs) (at14 bs Ψ)
 
-      abbrev at16 : Typed.TF T35 O1
-      at16 = λ Ψ. Typed.pass T35 T36 s33 (at15 Ψ)
+      abbrev at16 : (bs : List.List Nat.ℕ) → Typed.TF T38 O1
+      at16 = λ bs. λ Ψ. Typed.both (s36 bs) (at15 bs Ψ)
 
-      abbrev at17 : Typed.TF T34 O1
-      at17 = λ Ψ. Typed.pass T34 T35 s32 (at16 Ψ)
+      abbrev at17 : (bs : List.List Nat.ℕ) → Typed.TF T37 O1
+      at17 = λ bs. λ Ψ. Typed.ask (s35 bs) (at16 bs Ψ)
 
-      abbrev at18 : Typed.TF T33 O1
-      at18 = λ Ψ. Typed.both s31 (at17 Ψ)
+      abbrev at18 : (bs : List.List Nat.ℕ) → Typed.TF T35 O1
+      at18 = λ bs. λ Ψ. Typed.give (s34 bs) (at17 bs Ψ)
 
-      abbrev at19 : Typed.TF T32 O1
-      at19 = λ Ψ. Typed.ask s30 (at18 Ψ)
+      abbrev at19 : (bs : List.List Nat.ℕ) → Typed.TF T35 O1
+      at19 = λ bs. λ Ψ. at18 bs Ψ
 
-      abbrev at20 : Typed.TF T30 O1
-      at20 = λ Ψ. Typed.give s29 (at19 Ψ)
+      abbrev at20 : (bs : List.List Nat.ℕ) → Typed.TF T34 O1
+      at20 = λ bs. λ Ψ. Typed.ask (s32 bs) (at19 bs Ψ)
 
-      abbrev at21 : Typed.TF T30 O1
-      at21 = λ Ψ. at20 Ψ
+      abbrev at21 : (bs : List.List Nat.ℕ) → Typed.TF T32 O1
+      at21 = λ bs. λ Ψ. Typed.give (s31 bs) (at20 bs Ψ)
 
-      abbrev at22 : Typed.TF T29 O1
-      at22 = λ Ψ. Typed.ask s27 (at21 Ψ)
+      abbrev at22 : (bs : List.List Nat.ℕ) → Typed.TF T32 O1
+      at22 = λ bs. λ Ψ. at21 bs Ψ
 
-      abbrev at23 : Typed.TF T27 O1
-      at23 = λ Ψ. Typed.give s26 (at22 Ψ)
+      abbrev at23 : (bs : List.List Nat.ℕ) → Typed.TF T31 O1
+      at23 = λ bs. λ Ψ. Typed.ask (s29 bs) (at22 bs Ψ)
 
-      abbrev at24 : Typed.TF T27 O1
-      at24 = λ Ψ. at23 Ψ
+      abbrev at24 : (bs : List.List Nat.ℕ) → Typed.TF T29 O1
+      at24 = λ bs. λ Ψ. Typed.give (s28 bs) (at23 bs Ψ)
 
-      abbrev at25 : Typed.TF T26 O1
-      at25 = λ Ψ. Typed.ask s24 (at24 Ψ)
+      abbrev at25 : (bs : List.List Nat.ℕ) → Typed.TF T29 O1
+      at25 = λ bs. λ Ψ. at24 bs Ψ
 
-      abbrev at26 : Typed.TF T24 O1
-      at26 = λ Ψ. Typed.give s23 (at25 Ψ)
+      abbrev at26 : (bs : List.List Nat.ℕ) → Typed.TF T28 O1
+      at26 = λ bs. λ Ψ. Typed.ask (s26 bs) (at25 bs Ψ)
 
-      abbrev at27 : Typed.TF T24 O1
-      at27 = λ Ψ. at26 Ψ
+      abbrev at27 : (bs : List.List Nat.ℕ) → Typed.TF T26 O1
+      at27 = λ bs. λ Ψ. Typed.give (s25 bs) (at26 bs Ψ)
 
-      abbrev at28 : Typed.TF T23 O1
-      at28 = λ Ψ. Typed.ask s21 (at27 Ψ)
+      abbrev at28 : (bs : List.List Nat.ℕ) → Typed.TF T26 O1
+      at28 = λ bs. λ Ψ. at27 bs Ψ
 
-      abbrev at29 : Typed.TF T21 O1
-      at29 = λ Ψ. Typed.give s20 (at28 Ψ)
+      abbrev at29 : (bs : List.List Nat.ℕ) → Typed.TF T25 O1
+      at29 = λ bs. λ Ψ. Typed.pass T25 T26 (s23 bs) (at28 bs Ψ)
 
-      abbrev at30 : Typed.TF T21 O1
-      at30 = λ Ψ. at29 Ψ
+      abbrev at30 : (bs : List.List Nat.ℕ) → Typed.TF T24 O1
+      at30 = λ bs. λ Ψ. Typed.pass T24 T25 (s22 bs) (at29 bs Ψ)
 
-      abbrev at31 : Typed.TF T20 O1
-      at31 = λ Ψ. Typed.pass T20 T21 s18 (at30 Ψ)
+      abbrev at31 : (bs : List.List Nat.ℕ) → Typed.TF T23 O1
+      at31 = λ bs. λ Ψ. Typed.pass T23 T24 (s21 bs) (at30 bs Ψ)
 
-      abbrev at32 : Typed.TF T18 O1
-      at32 = λ Ψ. Typed.pass T18 T20 s17 (at31 Ψ)
+      abbrev at32 : (bs : List.List Nat.ℕ) → Typed.TF T21 O1
+      at32 = λ bs. λ Ψ. Typed.pass T21 T23 (s20 bs) (at31 bs Ψ)
 
-      abbrev at33 : Typed.TF T54 O1
-      at33 = Typed.atNext O1
+      abbrev at33 : (bs : List.List Nat.ℕ) → Typed.TF T57 O1
+      at33 = λ bs. Typed.atNext O1
 
-      abbrev at34 : Typed.TF T53 O1
-      at34 = λ Ψ. Typed.pass T53 T54 s51 (at33 Ψ)
+      abbrev at34 : (bs : List.List Nat.ℕ) → Typed.TF T56 O1
+      at34 = λ bs. λ Ψ. Typed.pass T56 T57 (s54 bs) (at33 bs Ψ)
 
-      abbrev at35 : Typed.TF T52 O1
-      at35 = λ Ψ. Typed.pass T52 T53 s50 (at34 Ψ)
+      abbrev at35 : (bs : List.List Nat.ℕ) → Typed.TF T55 O1
+      at35 = λ bs. λ Ψ. Typed.pass T55 T56 (s53 bs) (at34 bs Ψ)
 
-      abbrev at36 : Typed.TF T18 O1
-      at36 = λ Ψ. Typed.pass T18 T52 s49 (at35 Ψ)
+      abbrev at36 : (bs : List.List Nat.ℕ) → Typed.TF T21 O1
+      at36 = λ bs. λ Ψ. Typed.pass T21 T55 (s52 bs) (at35 bs Ψ)
 
-      abbrev at37 : Typed.TF T18 O1
-      at37 = Scalar.Φcond T18 O1 16 (λ x. x) at32 at36
+      abbrev at37 : (bs : List.List Nat.ℕ) → Typed.TF T21 O1
+      at37 = λ bs. Scalar.Φcond T21 O1 16 (λ x. x) (at32 bs) (at36 bs)
 
-      abbrev at38 : Typed.TF T58 O0
-      at38 = Typed.atRet O0
+      abbrev at38 : (bs : List.List Nat.ℕ) → Typed.TF T61 O0
+      at38 = λ bs. Typed.atRet O0
 
-      abbrev at39 : Typed.TF T57 O0
-      at39 = λ Ψ. Typed.pass T57 T58 s55 (at38 Ψ)
+      abbrev at39 : (bs : List.List Nat.ℕ) → Typed.TF T60 O0
+      at39 = λ bs. λ Ψ. Typed.pass T60 T61 (s58 bs) (at38 bs Ψ)
 
-      abbrev at40 : Typed.TF T56 O0
-      at40 = λ Ψ. Typed.pass T56 T57 s54 (at39 Ψ)
+      abbrev at40 : (bs : List.List Nat.ℕ) → Typed.TF T59 O0
+      at40 = λ bs. λ Ψ. Typed.pass T59 T60 (s57 bs) (at39 bs Ψ)
 
-      abbrev at41 : Typed.TF T55 O0
-      at41 = λ Ψ. Typed.pass T55 T56 s53 (at40 Ψ)
+      abbrev at41 : (bs : List.List Nat.ℕ) → Typed.TF T58 O0
+      at41 = λ bs. λ Ψ. Typed.pass T58 T59 (s56 bs) (at40 bs Ψ)
 
-      abbrev at42 : Typed.TF T19 O0
-      at42 = λ Ψ. Typed.both s52 (at41 Ψ)
+      abbrev at42 : (bs : List.List Nat.ℕ) → Typed.TF T22 O0
+      at42 = λ bs. λ Ψ. Typed.both (s55 bs) (at41 bs Ψ)
 
-      abbrev at43 : Typed.TF T18 O0
-      at43 = λ Ψ. at37 (Typed.wantNext T19 O0 (at42 Ψ) Ψ)
+      abbrev at43 : (bs : List.List Nat.ℕ) → Typed.TF T21 O0
+      at43 = λ bs. λ Ψ. at37 bs (Typed.wantNext T22 O0 (at42 bs Ψ) Ψ)
 
-      abbrev at44 : Typed.TF T17 O0
-      at44 = λ Ψ. Typed.both s16 (at43 Ψ)
+      abbrev at44 : (bs : List.List Nat.ℕ) → Typed.TF T20 O0
+      at44 = λ bs. λ Ψ. Typed.both (s19 bs) (at43 bs Ψ)
 
-      abbrev at45 : Typed.TF T16 O0
-      at45 = λ Ψ. Typed.pass T16 T17 s15 (at44 Ψ)
+      abbrev at45 : (bs : List.List Nat.ℕ) → Typed.TF T19 O0
+      at45 = λ bs. λ Ψ. Typed.pass T19 T20 (s18 bs) (at44 bs Ψ)
 
-      abbrev at46 : Typed.TF T15 O0
-      at46 = λ Ψ. Typed.pass T15 T16 s14 (at45 Ψ)
+      abbrev at46 : (bs : List.List Nat.ℕ) → Typed.TF T18 O0
+      at46 = λ bs. λ Ψ. Typed.pass T18 T19 (s17 bs) (at45 bs Ψ)
 
-      abbrev at47 : Typed.TF T14 O0
-      at47 = λ Ψ. Typed.both s13 (at46 Ψ)
+      abbrev at47 : (bs : List.List Nat.ℕ) → Typed.TF T17 O0
+      at47 = λ bs. λ Ψ. Typed.both (s16 bs) (at46 bs Ψ)
 
-      abbrev at48 : Typed.TF T13 O0
-      at48 = λ Ψ. Typed.pass T13 T14 s12 (at47 Ψ)
+      abbrev at48 : (bs : List.List Nat.ℕ) → Typed.TF T15 O0
+      at48 = λ bs. λ Ψ. Typed.pass T15 T17 (s15 bs) (at47 bs Ψ)
 
-      abbrev at49 : Typed.TF T11 O0
-      at49 = λ Ψ. Typed.both s11 (at48 Ψ)
+      abbrev at49 : (bs : List.List Nat.ℕ) → Typed.TF T15 O0
+      at49 = λ bs. λ Ψ. at48 bs Ψ
 
-      abbrev at50 : Typed.TF T11 O0
-      at50 = λ Ψ. at49 Ψ
+      abbrev at50 : (bs : List.List Nat.ℕ) → Typed.TF T13 O0
+      at50 = λ bs. λ Ψ. Typed.pass T13 T15 (s13 bs) (at49 bs Ψ)
 
-      abbrev at51 : Typed.TF T9 O0
-      at51 = λ Ψ. Typed.pass T9 T11 s9 (at50 Ψ)
+      abbrev at51 : (bs : List.List Nat.ℕ) → Typed.TF T13 O0
+      at51 = λ bs. λ Ψ. at50 bs Ψ
 
-      abbrev at52 : Typed.TF T9 O0
-      at52 = λ Ψ. at51 Ψ
+      abbrev at52 : (bs : List.List Nat.ℕ) → Typed.TF T12 O0
+      at52 = λ bs. λ Ψ. Typed.pass T12 T13 (s11 bs) (at51 bs Ψ)
 
-      abbrev at53 : Typed.TF T8 O0
-      at53 = λ Ψ. Typed.pass T8 T9 s7 (at52 Ψ)
+      abbrev at53 : (bs : List.List Nat.ℕ) → Typed.TF T11 O0
+      at53 = λ bs. λ Ψ. Typed.pass T11 T12 (s10 bs) (at52 bs Ψ)
 
-      abbrev at54 : Typed.TF T7 O0
-      at54 = λ Ψ. Typed.both s6 (at53 Ψ)
+      abbrev at54 : (bs : List.List Nat.ℕ) → Typed.TF T10 O0
+      at54 = λ bs. λ Ψ. Typed.both (s9 bs) (at53 bs Ψ)
 
-      abbrev at55 : Typed.TF T6 O0
-      at55 = λ Ψ. Typed.ask s5 (at54 Ψ)
+      abbrev at55 : (bs : List.List Nat.ℕ) → Typed.TF T9 O0
+      at55 = λ bs. λ Ψ. Typed.ask (s8 bs) (at54 bs Ψ)
 
-      abbrev at56 : Typed.TF T4 O0
-      at56 = λ Ψ. Typed.give s4 (at55 Ψ)
+      abbrev at56 : (bs : List.List Nat.ℕ) → Typed.TF T7 O0
+      at56 = λ bs. λ Ψ. Typed.give (s7 bs) (at55 bs Ψ)
 
-      abbrev at57 : Typed.TF T4 O0
-      at57 = λ Ψ. at56 Ψ
+      abbrev at57 : (bs : List.List Nat.ℕ) → Typed.TF T7 O0
+      at57 = λ bs. λ Ψ. at56 bs Ψ
 
-      abbrev at58 : Typed.TF T3 O0
-      at58 = λ Ψ. Typed.give s2 (at57 Ψ)
+      abbrev at58 : (bs : List.List Nat.ℕ) → Typed.TF T6 O0
+      at58 = λ bs. λ Ψ. Typed.both (s5 bs) (at57 bs Ψ)
 
-      abbrev at59 : Typed.TF T2 O0
-      at59 = λ Ψ. Typed.give s1 (at58 Ψ)
+      abbrev at59 : (bs : List.List Nat.ℕ) → Typed.TF T5 O0
+      at59 = λ bs. λ Ψ. Typed.both (s4 bs) (at58 bs Ψ)
 
-      abbrev at60 : Typed.TF T0 O0
-      at60 = λ Ψ. Typed.give s0 (at59 Ψ)
+      abbrev at60 : (bs : List.List Nat.ℕ) → Typed.TF T4 O0
+      at60 = λ bs. λ Ψ. Typed.both (s3 bs) (at59 bs Ψ)
 
-      abbrev pub Φ : Typed.TF T0 O0
-      Φ = at60
+      abbrev at61 : (bs : List.List Nat.ℕ) → Typed.TF T3 O0
+      at61 = λ bs. λ Ψ. Typed.both (s2 bs) (at60 bs Ψ)
+
+      abbrev at62 : (bs : List.List Nat.ℕ) → Typed.TF T2 O0
+      at62 = λ bs. λ Ψ. Typed.give (s1 bs) (at61 bs Ψ)
+
+      abbrev at63 : (bs : List.List Nat.ℕ) → Typed.TF T0 O0
+      at63 = λ bs. λ Ψ. Typed.give (s0 bs) (at62 bs Ψ)
+
+      abbrev pub Φ : (bs : List.List Nat.ℕ) → Typed.TF T0 O0
+      Φ = λ bs. at63 bs
 
       module _ {M : Type 1} (𝓤 : URA.URA M) (H : Wp.Heap 𝓤) (A : Atoms.Atoms 𝓤) (W : Kit.Given 𝓤 H A)
           (𝓣 : Wp.Tables 𝓤 H) where
         abbrev Knowns : Type 1
         Knowns = Plain.Known 𝓤 H A W 𝓣 1 ps·0 r·0 (claims· .0) (claims· .1)
-            "hnsr_circuit::tables::lookup::circuit_by_id" × Plain.Known 𝓤 H A W 𝓣 1 ps·1 r·1 (claims· .2) (claims· .3)
-            "hnsr_circuit::peer::peer_of" × Plain.Known 𝓤 H A W 𝓣 0 ps·2 r·2 (claims· .4) (claims· .5)
-            "hnsr_circuit::messages::data::data_entry" × Plain.Known 𝓤 H A W 𝓣 0 ps·3 r·3 (claims· .6) (claims· .7)
-            "hnsr_circuit::answer::is_taken" × Plain.Known 𝓤 H A W 𝓣 6 ps·4 r·4 (claims· .8) (claims· .9)
-            "hnsr_circuit::messages::handle_data::pass_data" × Plain.Known 𝓤 H A W 𝓣 0 ps·5 r·5 (claims· .10)
-            (claims· .11) "hnsr_circuit::runtime::refused"
+            "hnsr_circuit::tables::lookup::circuit_by_id" × Plain.Known 𝓤 H A W 𝓣 0 ps·1 r·1 (claims· .2) (claims· .3)
+            "hnsr_circuit::messages::data::data_entry" × Plain.Known 𝓤 H A W 𝓣 0 ps·2 r·2 (claims· .4) (claims· .5)
+            "hnsr_circuit::answer::is_taken" × Plain.Known 𝓤 H A W 𝓣 5 ps·3 r·3 (claims· .6) (claims· .7)
+            "hnsr_circuit::messages::handle_data::pass_data" × Plain.Known 𝓤 H A W 𝓣 0 ps·4 r·4 (claims· .8)
+            (claims· .9) "hnsr_circuit::runtime::refused"
 
-      module _ (κs : Lifetimes.Lfts 6) (qs : Lifetimes.Shares 6) where
+      module _ (κs : Lifetimes.Lfts 5) (qs : Lifetimes.Shares 5) where
         abbrev life0 : Row.Life
         life0 = Row.lease (κs .0) (qs .0)
 
@@ -1178,579 +1222,545 @@ module _ (claims· : Claims) where
         abbrev life4 : Row.Life
         life4 = Row.lease (κs .1 .1 .1 .1 .0) (qs .1 .1 .1 .1 .0)
 
-        abbrev life5 : Row.Life
-        life5 = Row.lease (κs .1 .1 .1 .1 .1 .0) (qs .1 .1 .1 .1 .1 .0)
-
         abbrev l1 : Row.Entry
-        l1 = (1, Reshare.mslice-owedS RelayCircuit.row ref5 0 6 life0)
+        l1 = (1, Reshare.mslice-owedS RelayCircuit.row ref5 0 5 life0)
 
         abbrev l1·1 : Row.Entry
-        l1·1 = (1, Relend.mslice-owed RelayCircuit.row ref5 0 7 life0)
+        l1·1 = (1, Relend.mslice-owed RelayCircuit.row ref5 0 6 life0)
 
         abbrev l2 : Row.Entry
-        l2 = (2, Relend.mslice-owed ReservationUsage.row ref6 1 8 life1)
+        l2 = (2, Relend.mslice-owed ReservationUsage.row ref6 1 7 life1)
 
         abbrev l3 : Row.Entry
-        l3 = (3, Relend.mslice-owed InflightAction.row ref7 2 9 life2)
+        l3 = (3, Relend.mslice-owed InflightAction.row ref7 2 8 life2)
 
         abbrev l4 : Row.Entry
-        l4 = (4, Relend.mslice-owed (Referent.rtF (Referent.fInt Syntax.w32)) ref8 3 10 life3)
+        l4 = (4, Relend.mslice-owed (Referent.rtF (Referent.fInt Syntax.w32)) ref8 3 9 life3)
 
-        abbrev g3 : List.List Row.Entry
-        g3 = e0 ∷ l1 ∷ e2 ∷ e3 ∷ e4 ∷ e5 ∷ e6 ∷ e7 ∷ e8 ∷ e9 ∷ e10 ∷ e11 ∷ e12 ∷ e13·1 ∷ e14 ∷ e15 ∷ List.[]
+        abbrev g7 : List.List Row.Entry
+        g7 = e0 ∷ l1 ∷ e2 ∷ e3 ∷ e4 ∷ e5 ∷ e6 ∷ e7·1 ∷ e8·1 ∷ e9·1 ∷ e10·1 ∷ e11 ∷ e12 ∷ e13·1 ∷ e14 ∷ e15 ∷ List.[]
 
-        abbrev g4 : List.List Row.Entry
-        g4 = e0 ∷ l1 ∷ e2 ∷ e3 ∷ e4 ∷ e5 ∷ e6 ∷ e7 ∷ e8 ∷ e9 ∷ e10 ∷ e11 ∷ e12 ∷ e13 ∷ e14·1 ∷ e15 ∷ List.[]
+        abbrev g8 : List.List Row.Entry
+        g8 = e0 ∷ l1 ∷ e2 ∷ e3 ∷ e4 ∷ e5 ∷ e6 ∷ e7·1 ∷ e8·1 ∷ e9·1 ∷ e10·1 ∷ e11 ∷ e12 ∷ e13 ∷ e14·1 ∷ e15 ∷ List.[]
 
-        abbrev g5 : List.List Row.Entry
-        g5 = e0 ∷ l1 ∷ e2 ∷ e3 ∷ e4 ∷ e5 ∷ e6 ∷ e7 ∷ e8 ∷ e9 ∷ e10·1 ∷ e11 ∷ e12 ∷ e13 ∷ e14·1 ∷ e15 ∷ List.[]
+        abbrev g9 : List.List Row.Entry
+        g9 = e0 ∷ l1 ∷ e2 ∷ e3 ∷ e4 ∷ e5 ∷ e6 ∷ e7·1 ∷ e8·1 ∷ e9·1 ∷ e10·1 ∷ e11·1 ∷ e12 ∷ e13 ∷ e14·1 ∷ e15 ∷ List.[]
 
-        abbrev g6 : List.List Row.Entry
-        g6 = e0 ∷ l1 ∷ e2 ∷ e3 ∷ e4 ∷ e5 ∷ e6 ∷ e7 ∷ e8 ∷ e9 ∷ e10·1 ∷ e11 ∷ e12 ∷ e13 ∷ e14 ∷ e15 ∷ List.[]
+        abbrev g10 : List.List Row.Entry
+        g10 = e0 ∷ l1 ∷ e2 ∷ e3 ∷ e4 ∷ e5 ∷ e6 ∷ e7·1 ∷ e8·1 ∷ e9·1 ∷ e10·1 ∷ e11·1 ∷ e12 ∷ e13 ∷ e14 ∷ e15 ∷ List.[]
 
-        abbrev g15 : List.List Row.Entry
-        g15 = e0 ∷ l1·1 ∷ e2 ∷ e3 ∷ e4 ∷ e5 ∷ e6 ∷ e7 ∷ e8 ∷ e9 ∷ e10·1 ∷ e11 ∷ e12 ∷ e13 ∷ e14 ∷ e15 ∷ List.[]
+        abbrev g11 : List.List Row.Entry
+        g11 = e0 ∷ l1 ∷ e2 ∷ e3 ∷ e4 ∷ e5 ∷ e6 ∷ e7·1 ∷ e8·1 ∷ e9 ∷ e10·1 ∷ e11·1 ∷ e12 ∷ e13 ∷ e14 ∷ e15 ∷ List.[]
 
-        abbrev g18 : List.List Row.Entry
-        g18 = e0 ∷ l1·1 ∷ l2 ∷ e3 ∷ e4 ∷ e5 ∷ e6 ∷ e7 ∷ e8 ∷ e9 ∷ e10·1 ∷ e11 ∷ e12 ∷ e13 ∷ e14 ∷ e15 ∷ List.[]
+        abbrev g22 : List.List Row.Entry
+        g22 = e0 ∷ l1·1 ∷ e2 ∷ e3 ∷ e4 ∷ e5 ∷ e6 ∷ e7 ∷ e8 ∷ e9 ∷ e10 ∷ e11·1 ∷ e12 ∷ e13 ∷ e14 ∷ e15 ∷ List.[]
 
-        abbrev g21 : List.List Row.Entry
-        g21 = e0 ∷ l1·1 ∷ l2 ∷ l3 ∷ e4 ∷ e5 ∷ e6 ∷ e7 ∷ e8 ∷ e9 ∷ e10·1 ∷ e11 ∷ e12 ∷ e13 ∷ e14 ∷ e15 ∷ List.[]
+        abbrev g25 : List.List Row.Entry
+        g25 = e0 ∷ l1·1 ∷ l2 ∷ e3 ∷ e4 ∷ e5 ∷ e6 ∷ e7 ∷ e8 ∷ e9 ∷ e10 ∷ e11·1 ∷ e12 ∷ e13 ∷ e14 ∷ e15 ∷ List.[]
 
-        abbrev g24 : List.List Row.Entry
-        g24 = e0 ∷ l1·1 ∷ l2 ∷ l3 ∷ l4 ∷ e5 ∷ e6 ∷ e7 ∷ e8 ∷ e9 ∷ e10·1 ∷ e11 ∷ e12 ∷ e13 ∷ e14 ∷ e15 ∷ List.[]
-
-        abbrev g27 : List.List Row.Entry
-        g27 = e0·1 ∷ l1·1 ∷ l2 ∷ l3 ∷ l4 ∷ e5 ∷ e6 ∷ e7 ∷ e8 ∷ e9 ∷ e10·1 ∷ e11 ∷ e12 ∷ e13 ∷ e14 ∷ e15 ∷ List.[]
-
-        abbrev g29 : List.List Row.Entry
-        g29 = e0·1 ∷ l1·1 ∷ l2 ∷ l3 ∷ l4 ∷ e5·1 ∷ e6 ∷ e7 ∷ e8 ∷ e9 ∷ e10·1 ∷ e11 ∷ e12 ∷ e13 ∷ e14 ∷ e15 ∷ List.[]
-
-        abbrev g30 : List.List Row.Entry
-        g30 = e0·1 ∷ l1·1 ∷ l2 ∷ l3 ∷ l4 ∷ e5·1 ∷ e6·1 ∷ e7 ∷ e8 ∷ e9 ∷ e10·1 ∷ e11 ∷ e12 ∷ e13 ∷ e14 ∷ e15 ∷ List.[]
+        abbrev g28 : List.List Row.Entry
+        g28 = e0 ∷ l1·1 ∷ l2 ∷ l3 ∷ e4 ∷ e5 ∷ e6 ∷ e7 ∷ e8 ∷ e9 ∷ e10 ∷ e11·1 ∷ e12 ∷ e13 ∷ e14 ∷ e15 ∷ List.[]
 
         abbrev g31 : List.List Row.Entry
-        g31 = e0·1 ∷ l1·1 ∷ l2 ∷ l3 ∷ l4 ∷ e5·1 ∷ e6·1 ∷ e7·1 ∷ e8 ∷ e9 ∷ e10·1 ∷ e11 ∷ e12 ∷ e13 ∷ e14 ∷ e15 ∷ List.[]
+        g31 = e0 ∷ l1·1 ∷ l2 ∷ l3 ∷ l4 ∷ e5 ∷ e6 ∷ e7 ∷ e8 ∷ e9 ∷ e10 ∷ e11·1 ∷ e12 ∷ e13 ∷ e14 ∷ e15 ∷ List.[]
 
-        abbrev g32 : List.List Row.Entry
-        g32 = e0·1 ∷ l1·1 ∷ l2 ∷ l3 ∷ l4 ∷ e5·1 ∷ e6·1 ∷ e7·1 ∷ e8 ∷ e9 ∷ e10 ∷ e11 ∷ e12 ∷ e13 ∷ e14 ∷ e15 ∷ List.[]
+        abbrev g34 : List.List Row.Entry
+        g34 = e0·1 ∷ l1·1 ∷ l2 ∷ l3 ∷ l4 ∷ e5 ∷ e6 ∷ e7 ∷ e8 ∷ e9 ∷ e10 ∷ e11·1 ∷ e12 ∷ e13 ∷ e14 ∷ e15 ∷ List.[]
 
-        abbrev g33 : List.List Row.Entry
-        g33 = e0·1 ∷ e1 ∷ l2 ∷ l3 ∷ l4 ∷ e5·1 ∷ e6·1 ∷ e7·1 ∷ e8 ∷ e9 ∷ e10 ∷ e11 ∷ e12 ∷ e13 ∷ e14 ∷ e15 ∷ List.[]
-
-        abbrev g35 : List.List Row.Entry
-        g35 = e0·1 ∷ e1 ∷ e2 ∷ l3 ∷ l4 ∷ e5·1 ∷ e6·1 ∷ e7·1 ∷ e8 ∷ e9 ∷ e10 ∷ e11 ∷ e12 ∷ e13 ∷ e14 ∷ e15 ∷ List.[]
+        abbrev g36 : List.List Row.Entry
+        g36 = e0·1 ∷ l1·1 ∷ l2 ∷ l3 ∷ l4 ∷ e5·1 ∷ e6 ∷ e7 ∷ e8 ∷ e9 ∷ e10 ∷ e11·1 ∷ e12 ∷ e13 ∷ e14 ∷ e15 ∷ List.[]
 
         abbrev g37 : List.List Row.Entry
-        g37 = e0·1 ∷ e1 ∷ e2 ∷ e3 ∷ l4 ∷ e5·1 ∷ e6·1 ∷ e7·1 ∷ e8 ∷ e9 ∷ e10 ∷ e11 ∷ e12 ∷ e13 ∷ e14 ∷ e15 ∷ List.[]
+        g37 = e0·1 ∷ l1·1 ∷ l2 ∷ l3 ∷ l4 ∷ e5·1 ∷ e6 ∷ e7 ∷ e8 ∷ e9 ∷ e10 ∷ e11 ∷ e12 ∷ e13 ∷ e14 ∷ e15 ∷ List.[]
+
+        abbrev g38 : List.List Row.Entry
+        g38 = e0·1 ∷ e1 ∷ l2 ∷ l3 ∷ l4 ∷ e5·1 ∷ e6 ∷ e7 ∷ e8 ∷ e9 ∷ e10 ∷ e11 ∷ e12 ∷ e13 ∷ e14 ∷ e15 ∷ List.[]
+
+        abbrev g40 : List.List Row.Entry
+        g40 = e0·1 ∷ e1 ∷ e2 ∷ l3 ∷ l4 ∷ e5·1 ∷ e6 ∷ e7 ∷ e8 ∷ e9 ∷ e10 ∷ e11 ∷ e12 ∷ e13 ∷ e14 ∷ e15 ∷ List.[]
+
+        abbrev g42 : List.List Row.Entry
+        g42 = e0·1 ∷ e1 ∷ e2 ∷ e3 ∷ l4 ∷ e5·1 ∷ e6 ∷ e7 ∷ e8 ∷ e9 ∷ e10 ∷ e11 ∷ e12 ∷ e13 ∷ e14 ∷ e15 ∷ List.[]
 
         abbrev G0 : Row.Cx
         G0 = record {
           locals = List._++_ t0 t1;
-          slots = life0 ∷ life1 ∷ life2 ∷ life3 ∷ life4 ∷ life5 ∷ Row.off ∷ Row.off ∷ Row.off ∷ Row.off ∷ Row.off ∷
-              List.[];
+          slots = life0 ∷ life1 ∷ life2 ∷ life3 ∷ life4 ∷ Row.off ∷ Row.off ∷ Row.off ∷ Row.off ∷ Row.off ∷ List.[];
         }
 
         abbrev G1 : Row.Cx
         G1 = record {
           locals = List._++_ t2 t1;
-          slots = life0 ∷ life1 ∷ life2 ∷ life3 ∷ life4 ∷ life5 ∷ Row.off ∷ Row.off ∷ Row.off ∷ Row.off ∷ Row.off ∷
-              List.[];
+          slots = life0 ∷ life1 ∷ life2 ∷ life3 ∷ life4 ∷ Row.off ∷ Row.off ∷ Row.off ∷ Row.off ∷ Row.off ∷ List.[];
         }
 
         abbrev G2 : Row.Cx
         G2 = record {
           locals = List._++_ t0 t1;
-          slots = life0 ∷ life1 ∷ life2 ∷ life3 ∷ life4 ∷ life5 ∷ Row.off ∷ Row.off ∷ Row.off ∷ Row.off ∷ Row.off ∷
-              List.[];
+          slots = life0 ∷ life1 ∷ life2 ∷ life3 ∷ life4 ∷ Row.off ∷ Row.off ∷ Row.off ∷ Row.off ∷ Row.off ∷ List.[];
         }
 
         abbrev G3 : Row.Cx
         G3 = record {
           locals = List._++_ t0 t1;
-          slots = life0 ∷ life1 ∷ life2 ∷ life3 ∷ life4 ∷ life5 ∷ Row.off ∷ Row.off ∷ Row.off ∷ Row.off ∷ Row.off ∷
-              List.[];
+          slots = life0 ∷ life1 ∷ life2 ∷ life3 ∷ life4 ∷ Row.off ∷ Row.off ∷ Row.off ∷ Row.off ∷ Row.off ∷ List.[];
         }
 
         abbrev G4 : Row.Cx
         G4 = record {
-          locals = List._++_ t0 t1;
-          slots = life0 ∷ life1 ∷ life2 ∷ life3 ∷ life4 ∷ life5 ∷ Row.off ∷ Row.off ∷ Row.off ∷ Row.off ∷ Row.off ∷
-              List.[];
+          locals = List._++_ t3 t1;
+          slots = life0 ∷ life1 ∷ life2 ∷ life3 ∷ life4 ∷ Row.off ∷ Row.off ∷ Row.off ∷ Row.off ∷ Row.off ∷ List.[];
         }
 
         abbrev G5 : Row.Cx
         G5 = record {
-          locals = List._++_ t0 t1;
-          slots = life0 ∷ life1 ∷ life2 ∷ life3 ∷ life4 ∷ life5 ∷ Row.alive ∷ Row.off ∷ Row.off ∷ Row.off ∷ Row.off ∷
-              List.[];
+          locals = List._++_ t4 t1;
+          slots = life0 ∷ life1 ∷ life2 ∷ life3 ∷ life4 ∷ Row.off ∷ Row.off ∷ Row.off ∷ Row.off ∷ Row.off ∷ List.[];
         }
 
         abbrev G6 : Row.Cx
         G6 = record {
-          locals = List._++_ g3 t1;
-          slots = Row.off ∷ life1 ∷ life2 ∷ life3 ∷ life4 ∷ life5 ∷ Row.alive ∷ Row.off ∷ Row.off ∷ Row.off ∷ Row.off ∷
-              List.[];
+          locals = List._++_ t5 t1;
+          slots = life0 ∷ life1 ∷ life2 ∷ life3 ∷ life4 ∷ Row.off ∷ Row.off ∷ Row.off ∷ Row.off ∷ Row.off ∷ List.[];
         }
 
         abbrev G7 : Row.Cx
         G7 = record {
-          locals = List._++_ g4 t1;
-          slots = Row.off ∷ life1 ∷ life2 ∷ life3 ∷ life4 ∷ life5 ∷ Row.alive ∷ Row.off ∷ Row.off ∷ Row.off ∷ Row.off ∷
-              List.[];
+          locals = List._++_ t6 t1;
+          slots = life0 ∷ life1 ∷ life2 ∷ life3 ∷ life4 ∷ Row.off ∷ Row.off ∷ Row.off ∷ Row.off ∷ Row.off ∷ List.[];
         }
 
         abbrev G8 : Row.Cx
         G8 = record {
-          locals = List._++_ g5 t1;
-          slots = Row.off ∷ life1 ∷ life2 ∷ life3 ∷ life4 ∷ life5 ∷ Row.alive ∷ Row.off ∷ Row.off ∷ Row.off ∷ Row.off ∷
-              List.[];
+          locals = List._++_ t6 t1;
+          slots = life0 ∷ life1 ∷ life2 ∷ life3 ∷ life4 ∷ Row.alive ∷ Row.off ∷ Row.off ∷ Row.off ∷ Row.off ∷ List.[];
         }
 
         abbrev G9 : Row.Cx
         G9 = record {
-          locals = List._++_ g6 t1;
-          slots = Row.off ∷ life1 ∷ life2 ∷ life3 ∷ life4 ∷ life5 ∷ Row.alive ∷ Row.off ∷ Row.off ∷ Row.off ∷ Row.off ∷
-              List.[];
+          locals = List._++_ g7 t1;
+          slots = Row.off ∷ life1 ∷ life2 ∷ life3 ∷ life4 ∷ Row.alive ∷ Row.off ∷ Row.off ∷ Row.off ∷ Row.off ∷ List.[];
         }
 
         abbrev G10 : Row.Cx
         G10 = record {
-          locals = List._++_ g6 t1;
-          slots = Row.off ∷ life1 ∷ life2 ∷ life3 ∷ life4 ∷ life5 ∷ Row.dead ∷ Row.off ∷ Row.off ∷ Row.off ∷ Row.off ∷
-              List.[];
+          locals = List._++_ g8 t1;
+          slots = Row.off ∷ life1 ∷ life2 ∷ life3 ∷ life4 ∷ Row.alive ∷ Row.off ∷ Row.off ∷ Row.off ∷ Row.off ∷ List.[];
         }
 
         abbrev G11 : Row.Cx
         G11 = record {
-          locals = List._++_ t7 t1;
-          slots = life0 ∷ life1 ∷ life2 ∷ life3 ∷ life4 ∷ life5 ∷ Row.dead ∷ Row.off ∷ Row.off ∷ Row.off ∷ Row.off ∷
-              List.[];
+          locals = List._++_ g9 t1;
+          slots = Row.off ∷ life1 ∷ life2 ∷ life3 ∷ life4 ∷ Row.alive ∷ Row.off ∷ Row.off ∷ Row.off ∷ Row.off ∷ List.[];
         }
 
         abbrev G12 : Row.Cx
         G12 = record {
-          locals = List._++_ t7 t1;
-          slots = life0 ∷ life1 ∷ life2 ∷ life3 ∷ life4 ∷ life5 ∷ Row.off ∷ Row.off ∷ Row.off ∷ Row.off ∷ Row.off ∷
-              List.[];
+          locals = List._++_ g10 t1;
+          slots = Row.off ∷ life1 ∷ life2 ∷ life3 ∷ life4 ∷ Row.alive ∷ Row.off ∷ Row.off ∷ Row.off ∷ Row.off ∷ List.[];
         }
 
         abbrev G13 : Row.Cx
         G13 = record {
-          locals = List._++_ t8 t1;
-          slots = life0 ∷ life1 ∷ life2 ∷ life3 ∷ life4 ∷ life5 ∷ Row.off ∷ Row.off ∷ Row.off ∷ Row.off ∷ Row.off ∷
-              List.[];
+          locals = List._++_ g11 t1;
+          slots = Row.off ∷ life1 ∷ life2 ∷ life3 ∷ life4 ∷ Row.alive ∷ Row.off ∷ Row.off ∷ Row.off ∷ Row.off ∷ List.[];
         }
 
         abbrev G14 : Row.Cx
         G14 = record {
-          locals = List._++_ t9 t1;
-          slots = life0 ∷ life1 ∷ life2 ∷ life3 ∷ life4 ∷ life5 ∷ Row.off ∷ Row.off ∷ Row.off ∷ Row.off ∷ Row.off ∷
-              List.[];
+          locals = List._++_ g11 t1;
+          slots = Row.off ∷ life1 ∷ life2 ∷ life3 ∷ life4 ∷ Row.dead ∷ Row.off ∷ Row.off ∷ Row.off ∷ Row.off ∷ List.[];
         }
 
         abbrev G15 : Row.Cx
         G15 = record {
-          locals = List._++_ t10 t1;
-          slots = life0 ∷ life1 ∷ life2 ∷ life3 ∷ life4 ∷ life5 ∷ Row.off ∷ Row.off ∷ Row.off ∷ Row.off ∷ Row.off ∷
-              List.[];
+          locals = List._++_ t12 t1;
+          slots = life0 ∷ life1 ∷ life2 ∷ life3 ∷ life4 ∷ Row.dead ∷ Row.off ∷ Row.off ∷ Row.off ∷ Row.off ∷ List.[];
         }
 
         abbrev G16 : Row.Cx
         G16 = record {
-          locals = List._++_ t11 t1;
-          slots = life0 ∷ life1 ∷ life2 ∷ life3 ∷ life4 ∷ life5 ∷ Row.off ∷ Row.off ∷ Row.off ∷ Row.off ∷ Row.off ∷
-              List.[];
+          locals = List._++_ t12 t1;
+          slots = life0 ∷ life1 ∷ life2 ∷ life3 ∷ life4 ∷ Row.off ∷ Row.off ∷ Row.off ∷ Row.off ∷ Row.off ∷ List.[];
         }
 
         abbrev G17 : Row.Cx
         G17 = record {
-          locals = List._++_ t12 t1;
-          slots = life0 ∷ life1 ∷ life2 ∷ life3 ∷ life4 ∷ life5 ∷ Row.off ∷ Row.off ∷ Row.off ∷ Row.off ∷ Row.off ∷
-              List.[];
+          locals = List._++_ t13 t1;
+          slots = life0 ∷ life1 ∷ life2 ∷ life3 ∷ life4 ∷ Row.off ∷ Row.off ∷ Row.off ∷ Row.off ∷ Row.off ∷ List.[];
         }
 
         abbrev G18 : Row.Cx
         G18 = record {
-          locals = List._++_ t12 t13;
-          slots = life0 ∷ life1 ∷ life2 ∷ life3 ∷ life4 ∷ life5 ∷ Row.off ∷ Row.off ∷ Row.off ∷ Row.off ∷ Row.off ∷
-              List.[];
+          locals = List._++_ t14 t1;
+          slots = life0 ∷ life1 ∷ life2 ∷ life3 ∷ life4 ∷ Row.off ∷ Row.off ∷ Row.off ∷ Row.off ∷ Row.off ∷ List.[];
         }
 
         abbrev G19 : Row.Cx
         G19 = record {
-          locals = List._++_ t14 t1;
-          slots = life0 ∷ life1 ∷ life2 ∷ life3 ∷ life4 ∷ life5 ∷ Row.off ∷ Row.off ∷ Row.off ∷ Row.off ∷ Row.off ∷
-              List.[];
+          locals = List._++_ t15 t1;
+          slots = life0 ∷ life1 ∷ life2 ∷ life3 ∷ life4 ∷ Row.off ∷ Row.off ∷ Row.off ∷ Row.off ∷ Row.off ∷ List.[];
         }
 
         abbrev G20 : Row.Cx
         G20 = record {
-          locals = List._++_ t7 t13;
-          slots = life0 ∷ life1 ∷ life2 ∷ life3 ∷ life4 ∷ life5 ∷ Row.off ∷ Row.off ∷ Row.off ∷ Row.off ∷ Row.off ∷
-              List.[];
+          locals = List._++_ t16 t1;
+          slots = life0 ∷ life1 ∷ life2 ∷ life3 ∷ life4 ∷ Row.off ∷ Row.off ∷ Row.off ∷ Row.off ∷ Row.off ∷ List.[];
         }
 
         abbrev G21 : Row.Cx
         G21 = record {
-          locals = List._++_ t7 t1;
-          slots = life0 ∷ life1 ∷ life2 ∷ life3 ∷ life4 ∷ life5 ∷ Row.off ∷ Row.off ∷ Row.off ∷ Row.off ∷ Row.off ∷
-              List.[];
+          locals = List._++_ t16 t17;
+          slots = life0 ∷ life1 ∷ life2 ∷ life3 ∷ life4 ∷ Row.off ∷ Row.off ∷ Row.off ∷ Row.off ∷ Row.off ∷ List.[];
         }
 
         abbrev G22 : Row.Cx
         G22 = record {
-          locals = List._++_ t7 t1;
-          slots = life0 ∷ life1 ∷ life2 ∷ life3 ∷ life4 ∷ life5 ∷ Row.off ∷ Row.alive ∷ Row.off ∷ Row.off ∷ Row.off ∷
-              List.[];
+          locals = List._++_ t18 t1;
+          slots = life0 ∷ life1 ∷ life2 ∷ life3 ∷ life4 ∷ Row.off ∷ Row.off ∷ Row.off ∷ Row.off ∷ Row.off ∷ List.[];
         }
 
         abbrev G23 : Row.Cx
         G23 = record {
-          locals = List._++_ g15 t16;
-          slots = Row.off ∷ life1 ∷ life2 ∷ life3 ∷ life4 ∷ life5 ∷ Row.off ∷ Row.alive ∷ Row.off ∷ Row.off ∷ Row.off ∷
-              List.[];
+          locals = List._++_ t19 t17;
+          slots = life0 ∷ life1 ∷ life2 ∷ life3 ∷ life4 ∷ Row.off ∷ Row.off ∷ Row.off ∷ Row.off ∷ Row.off ∷ List.[];
         }
 
         abbrev G24 : Row.Cx
         G24 = record {
-          locals = List._++_ g15 t17;
-          slots = Row.off ∷ life1 ∷ life2 ∷ life3 ∷ life4 ∷ life5 ∷ Row.off ∷ Row.alive ∷ Row.off ∷ Row.off ∷ Row.off ∷
-              List.[];
+          locals = List._++_ t20 t17;
+          slots = life0 ∷ life1 ∷ life2 ∷ life3 ∷ life4 ∷ Row.off ∷ Row.off ∷ Row.off ∷ Row.off ∷ Row.off ∷ List.[];
         }
 
         abbrev G25 : Row.Cx
         G25 = record {
-          locals = List._++_ g15 t17;
-          slots = Row.off ∷ life1 ∷ life2 ∷ life3 ∷ life4 ∷ life5 ∷ Row.off ∷ Row.alive ∷ Row.alive ∷ Row.off ∷ Row.off
-              ∷ List.[];
+          locals = List._++_ t21 t17;
+          slots = life0 ∷ life1 ∷ life2 ∷ life3 ∷ life4 ∷ Row.off ∷ Row.off ∷ Row.off ∷ Row.off ∷ Row.off ∷ List.[];
         }
 
         abbrev G26 : Row.Cx
         G26 = record {
-          locals = List._++_ g18 t19;
-          slots = Row.off ∷ Row.off ∷ life2 ∷ life3 ∷ life4 ∷ life5 ∷ Row.off ∷ Row.alive ∷ Row.alive ∷ Row.off ∷
-              Row.off ∷ List.[];
+          locals = List._++_ t21 t1;
+          slots = life0 ∷ life1 ∷ life2 ∷ life3 ∷ life4 ∷ Row.off ∷ Row.off ∷ Row.off ∷ Row.off ∷ Row.off ∷ List.[];
         }
 
         abbrev G27 : Row.Cx
         G27 = record {
-          locals = List._++_ g18 t20;
-          slots = Row.off ∷ Row.off ∷ life2 ∷ life3 ∷ life4 ∷ life5 ∷ Row.off ∷ Row.alive ∷ Row.alive ∷ Row.off ∷
-              Row.off ∷ List.[];
+          locals = List._++_ t21 t1;
+          slots = life0 ∷ life1 ∷ life2 ∷ life3 ∷ life4 ∷ Row.off ∷ Row.alive ∷ Row.off ∷ Row.off ∷ Row.off ∷ List.[];
         }
 
         abbrev G28 : Row.Cx
         G28 = record {
-          locals = List._++_ g18 t20;
-          slots = Row.off ∷ Row.off ∷ life2 ∷ life3 ∷ life4 ∷ life5 ∷ Row.off ∷ Row.alive ∷ Row.alive ∷ Row.alive ∷
-              Row.off ∷ List.[];
+          locals = List._++_ g22 t23;
+          slots = Row.off ∷ life1 ∷ life2 ∷ life3 ∷ life4 ∷ Row.off ∷ Row.alive ∷ Row.off ∷ Row.off ∷ Row.off ∷ List.[];
         }
 
         abbrev G29 : Row.Cx
         G29 = record {
-          locals = List._++_ g21 t22;
-          slots = Row.off ∷ Row.off ∷ Row.off ∷ life3 ∷ life4 ∷ life5 ∷ Row.off ∷ Row.alive ∷ Row.alive ∷ Row.alive ∷
-              Row.off ∷ List.[];
+          locals = List._++_ g22 t24;
+          slots = Row.off ∷ life1 ∷ life2 ∷ life3 ∷ life4 ∷ Row.off ∷ Row.alive ∷ Row.off ∷ Row.off ∷ Row.off ∷ List.[];
         }
 
         abbrev G30 : Row.Cx
         G30 = record {
-          locals = List._++_ g21 t23;
-          slots = Row.off ∷ Row.off ∷ Row.off ∷ life3 ∷ life4 ∷ life5 ∷ Row.off ∷ Row.alive ∷ Row.alive ∷ Row.alive ∷
-              Row.off ∷ List.[];
+          locals = List._++_ g22 t24;
+          slots = Row.off ∷ life1 ∷ life2 ∷ life3 ∷ life4 ∷ Row.off ∷ Row.alive ∷ Row.alive ∷ Row.off ∷ Row.off ∷
+              List.[];
         }
 
         abbrev G31 : Row.Cx
         G31 = record {
-          locals = List._++_ g21 t23;
-          slots = Row.off ∷ Row.off ∷ Row.off ∷ life3 ∷ life4 ∷ life5 ∷ Row.off ∷ Row.alive ∷ Row.alive ∷ Row.alive ∷
-              Row.alive ∷ List.[];
+          locals = List._++_ g25 t26;
+          slots = Row.off ∷ Row.off ∷ life2 ∷ life3 ∷ life4 ∷ Row.off ∷ Row.alive ∷ Row.alive ∷ Row.off ∷ Row.off ∷
+              List.[];
         }
 
         abbrev G32 : Row.Cx
         G32 = record {
-          locals = List._++_ g24 t25;
-          slots = Row.off ∷ Row.off ∷ Row.off ∷ Row.off ∷ life4 ∷ life5 ∷ Row.off ∷ Row.alive ∷ Row.alive ∷ Row.alive ∷
-              Row.alive ∷ List.[];
+          locals = List._++_ g25 t27;
+          slots = Row.off ∷ Row.off ∷ life2 ∷ life3 ∷ life4 ∷ Row.off ∷ Row.alive ∷ Row.alive ∷ Row.off ∷ Row.off ∷
+              List.[];
         }
 
         abbrev G33 : Row.Cx
         G33 = record {
-          locals = List._++_ g24 t26;
-          slots = Row.off ∷ Row.off ∷ Row.off ∷ Row.off ∷ life4 ∷ life5 ∷ Row.off ∷ Row.alive ∷ Row.alive ∷ Row.alive ∷
-              Row.alive ∷ List.[];
+          locals = List._++_ g25 t27;
+          slots = Row.off ∷ Row.off ∷ life2 ∷ life3 ∷ life4 ∷ Row.off ∷ Row.alive ∷ Row.alive ∷ Row.alive ∷ Row.off ∷
+              List.[];
         }
 
         abbrev G34 : Row.Cx
         G34 = record {
-          locals = List._++_ g27 t28;
-          slots = Row.off ∷ Row.off ∷ Row.off ∷ Row.off ∷ life4 ∷ life5 ∷ Row.off ∷ Row.alive ∷ Row.alive ∷ Row.alive ∷
-              Row.alive ∷ List.[];
+          locals = List._++_ g28 t29;
+          slots = Row.off ∷ Row.off ∷ Row.off ∷ life3 ∷ life4 ∷ Row.off ∷ Row.alive ∷ Row.alive ∷ Row.alive ∷ Row.off ∷
+              List.[];
         }
 
         abbrev G35 : Row.Cx
         G35 = record {
-          locals = List._++_ g29 t28;
-          slots = Row.off ∷ Row.off ∷ Row.off ∷ Row.off ∷ life4 ∷ life5 ∷ Row.off ∷ Row.alive ∷ Row.alive ∷ Row.alive ∷
-              Row.alive ∷ List.[];
+          locals = List._++_ g28 t30;
+          slots = Row.off ∷ Row.off ∷ Row.off ∷ life3 ∷ life4 ∷ Row.off ∷ Row.alive ∷ Row.alive ∷ Row.alive ∷ Row.off ∷
+              List.[];
         }
 
         abbrev G36 : Row.Cx
         G36 = record {
-          locals = List._++_ g30 t28;
-          slots = Row.off ∷ Row.off ∷ Row.off ∷ Row.off ∷ life4 ∷ life5 ∷ Row.off ∷ Row.alive ∷ Row.alive ∷ Row.alive ∷
-              Row.alive ∷ List.[];
+          locals = List._++_ g28 t30;
+          slots = Row.off ∷ Row.off ∷ Row.off ∷ life3 ∷ life4 ∷ Row.off ∷ Row.alive ∷ Row.alive ∷ Row.alive ∷ Row.alive
+              ∷ List.[];
         }
 
         abbrev G37 : Row.Cx
         G37 = record {
-          locals = List._++_ g31 t28;
-          slots = Row.off ∷ Row.off ∷ Row.off ∷ Row.off ∷ life4 ∷ life5 ∷ Row.off ∷ Row.alive ∷ Row.alive ∷ Row.alive ∷
+          locals = List._++_ g31 t32;
+          slots = Row.off ∷ Row.off ∷ Row.off ∷ Row.off ∷ life4 ∷ Row.off ∷ Row.alive ∷ Row.alive ∷ Row.alive ∷
               Row.alive ∷ List.[];
         }
 
         abbrev G38 : Row.Cx
         G38 = record {
-          locals = List._++_ g32 t28;
-          slots = Row.off ∷ Row.off ∷ Row.off ∷ Row.off ∷ life4 ∷ life5 ∷ Row.off ∷ Row.alive ∷ Row.alive ∷ Row.alive ∷
+          locals = List._++_ g31 t33;
+          slots = Row.off ∷ Row.off ∷ Row.off ∷ Row.off ∷ life4 ∷ Row.off ∷ Row.alive ∷ Row.alive ∷ Row.alive ∷
               Row.alive ∷ List.[];
         }
 
         abbrev G39 : Row.Cx
         G39 = record {
-          locals = List._++_ g32 t28;
-          slots = Row.off ∷ Row.off ∷ Row.off ∷ Row.off ∷ life4 ∷ life5 ∷ Row.off ∷ Row.dead ∷ Row.alive ∷ Row.alive ∷
+          locals = List._++_ g34 t35;
+          slots = Row.off ∷ Row.off ∷ Row.off ∷ Row.off ∷ life4 ∷ Row.off ∷ Row.alive ∷ Row.alive ∷ Row.alive ∷
               Row.alive ∷ List.[];
         }
 
         abbrev G40 : Row.Cx
         G40 = record {
-          locals = List._++_ g33 t34;
-          slots = life0 ∷ Row.off ∷ Row.off ∷ Row.off ∷ life4 ∷ life5 ∷ Row.off ∷ Row.dead ∷ Row.alive ∷ Row.alive ∷
+          locals = List._++_ g36 t35;
+          slots = Row.off ∷ Row.off ∷ Row.off ∷ Row.off ∷ life4 ∷ Row.off ∷ Row.alive ∷ Row.alive ∷ Row.alive ∷
               Row.alive ∷ List.[];
         }
 
         abbrev G41 : Row.Cx
         G41 = record {
-          locals = List._++_ g33 t34;
-          slots = life0 ∷ Row.off ∷ Row.off ∷ Row.off ∷ life4 ∷ life5 ∷ Row.off ∷ Row.off ∷ Row.alive ∷ Row.alive ∷
+          locals = List._++_ g37 t35;
+          slots = Row.off ∷ Row.off ∷ Row.off ∷ Row.off ∷ life4 ∷ Row.off ∷ Row.alive ∷ Row.alive ∷ Row.alive ∷
               Row.alive ∷ List.[];
         }
 
         abbrev G42 : Row.Cx
         G42 = record {
-          locals = List._++_ g33 t34;
-          slots = life0 ∷ Row.off ∷ Row.off ∷ Row.off ∷ life4 ∷ life5 ∷ Row.off ∷ Row.off ∷ Row.dead ∷ Row.alive ∷
+          locals = List._++_ g37 t35;
+          slots = Row.off ∷ Row.off ∷ Row.off ∷ Row.off ∷ life4 ∷ Row.off ∷ Row.dead ∷ Row.alive ∷ Row.alive ∷
               Row.alive ∷ List.[];
         }
 
         abbrev G43 : Row.Cx
         G43 = record {
-          locals = List._++_ g35 t36;
-          slots = life0 ∷ life1 ∷ Row.off ∷ Row.off ∷ life4 ∷ life5 ∷ Row.off ∷ Row.off ∷ Row.dead ∷ Row.alive ∷
-              Row.alive ∷ List.[];
+          locals = List._++_ g38 t39;
+          slots = life0 ∷ Row.off ∷ Row.off ∷ Row.off ∷ life4 ∷ Row.off ∷ Row.dead ∷ Row.alive ∷ Row.alive ∷ Row.alive
+              ∷ List.[];
         }
 
         abbrev G44 : Row.Cx
         G44 = record {
-          locals = List._++_ g35 t36;
-          slots = life0 ∷ life1 ∷ Row.off ∷ Row.off ∷ life4 ∷ life5 ∷ Row.off ∷ Row.off ∷ Row.off ∷ Row.alive ∷
-              Row.alive ∷ List.[];
+          locals = List._++_ g38 t39;
+          slots = life0 ∷ Row.off ∷ Row.off ∷ Row.off ∷ life4 ∷ Row.off ∷ Row.off ∷ Row.alive ∷ Row.alive ∷ Row.alive ∷
+              List.[];
         }
 
         abbrev G45 : Row.Cx
         G45 = record {
-          locals = List._++_ g35 t36;
-          slots = life0 ∷ life1 ∷ Row.off ∷ Row.off ∷ life4 ∷ life5 ∷ Row.off ∷ Row.off ∷ Row.off ∷ Row.dead ∷
-              Row.alive ∷ List.[];
+          locals = List._++_ g38 t39;
+          slots = life0 ∷ Row.off ∷ Row.off ∷ Row.off ∷ life4 ∷ Row.off ∷ Row.off ∷ Row.dead ∷ Row.alive ∷ Row.alive ∷
+              List.[];
         }
 
         abbrev G46 : Row.Cx
         G46 = record {
-          locals = List._++_ g37 t38;
-          slots = life0 ∷ life1 ∷ life2 ∷ Row.off ∷ life4 ∷ life5 ∷ Row.off ∷ Row.off ∷ Row.off ∷ Row.dead ∷ Row.alive
-              ∷ List.[];
+          locals = List._++_ g40 t41;
+          slots = life0 ∷ life1 ∷ Row.off ∷ Row.off ∷ life4 ∷ Row.off ∷ Row.off ∷ Row.dead ∷ Row.alive ∷ Row.alive ∷
+              List.[];
         }
 
         abbrev G47 : Row.Cx
         G47 = record {
-          locals = List._++_ g37 t38;
-          slots = life0 ∷ life1 ∷ life2 ∷ Row.off ∷ life4 ∷ life5 ∷ Row.off ∷ Row.off ∷ Row.off ∷ Row.off ∷ Row.alive ∷
+          locals = List._++_ g40 t41;
+          slots = life0 ∷ life1 ∷ Row.off ∷ Row.off ∷ life4 ∷ Row.off ∷ Row.off ∷ Row.off ∷ Row.alive ∷ Row.alive ∷
               List.[];
         }
 
         abbrev G48 : Row.Cx
         G48 = record {
-          locals = List._++_ g37 t38;
-          slots = life0 ∷ life1 ∷ life2 ∷ Row.off ∷ life4 ∷ life5 ∷ Row.off ∷ Row.off ∷ Row.off ∷ Row.off ∷ Row.dead ∷
+          locals = List._++_ g40 t41;
+          slots = life0 ∷ life1 ∷ Row.off ∷ Row.off ∷ life4 ∷ Row.off ∷ Row.off ∷ Row.off ∷ Row.dead ∷ Row.alive ∷
               List.[];
         }
 
         abbrev G49 : Row.Cx
         G49 = record {
-          locals = List._++_ t2 t1;
-          slots = life0 ∷ life1 ∷ life2 ∷ life3 ∷ life4 ∷ life5 ∷ Row.off ∷ Row.off ∷ Row.off ∷ Row.off ∷ Row.dead ∷
+          locals = List._++_ g42 t43;
+          slots = life0 ∷ life1 ∷ life2 ∷ Row.off ∷ life4 ∷ Row.off ∷ Row.off ∷ Row.off ∷ Row.dead ∷ Row.alive ∷
               List.[];
         }
 
         abbrev G50 : Row.Cx
         G50 = record {
-          locals = List._++_ t2 t1;
-          slots = life0 ∷ life1 ∷ life2 ∷ life3 ∷ life4 ∷ life5 ∷ Row.off ∷ Row.off ∷ Row.off ∷ Row.off ∷ Row.dead ∷
-              List.[];
+          locals = List._++_ g42 t43;
+          slots = life0 ∷ life1 ∷ life2 ∷ Row.off ∷ life4 ∷ Row.off ∷ Row.off ∷ Row.off ∷ Row.off ∷ Row.alive ∷ List.[];
         }
 
         abbrev G51 : Row.Cx
         G51 = record {
-          locals = List._++_ t2 t1;
-          slots = life0 ∷ life1 ∷ life2 ∷ life3 ∷ life4 ∷ life5 ∷ Row.off ∷ Row.off ∷ Row.off ∷ Row.off ∷ Row.off ∷
-              List.[];
+          locals = List._++_ g42 t43;
+          slots = life0 ∷ life1 ∷ life2 ∷ Row.off ∷ life4 ∷ Row.off ∷ Row.off ∷ Row.off ∷ Row.off ∷ Row.dead ∷ List.[];
         }
 
         abbrev G52 : Row.Cx
         G52 = record {
-          locals = List._++_ t39 t13;
-          slots = life0 ∷ life1 ∷ life2 ∷ life3 ∷ life4 ∷ life5 ∷ Row.off ∷ Row.off ∷ Row.off ∷ Row.off ∷ Row.off ∷
-              List.[];
+          locals = List._++_ t2 t1;
+          slots = life0 ∷ life1 ∷ life2 ∷ life3 ∷ life4 ∷ Row.off ∷ Row.off ∷ Row.off ∷ Row.off ∷ Row.dead ∷ List.[];
         }
 
         abbrev G53 : Row.Cx
         G53 = record {
-          locals = List._++_ t14 t13;
-          slots = life0 ∷ life1 ∷ life2 ∷ life3 ∷ life4 ∷ life5 ∷ Row.off ∷ Row.off ∷ Row.off ∷ Row.off ∷ Row.off ∷
-              List.[];
+          locals = List._++_ t2 t1;
+          slots = life0 ∷ life1 ∷ life2 ∷ life3 ∷ life4 ∷ Row.off ∷ Row.off ∷ Row.off ∷ Row.off ∷ Row.dead ∷ List.[];
         }
 
         abbrev G54 : Row.Cx
         G54 = record {
-          locals = List._++_ t14 t1;
-          slots = life0 ∷ life1 ∷ life2 ∷ life3 ∷ life4 ∷ life5 ∷ Row.off ∷ Row.off ∷ Row.off ∷ Row.off ∷ Row.off ∷
-              List.[];
+          locals = List._++_ t2 t1;
+          slots = life0 ∷ life1 ∷ life2 ∷ life3 ∷ life4 ∷ Row.off ∷ Row.off ∷ Row.off ∷ Row.off ∷ Row.off ∷ List.[];
         }
 
         abbrev G55 : Row.Cx
         G55 = record {
-          locals = List._++_ t40 t1;
-          slots = life0 ∷ life1 ∷ life2 ∷ life3 ∷ life4 ∷ life5 ∷ Row.off ∷ Row.off ∷ Row.off ∷ Row.off ∷ Row.off ∷
-              List.[];
+          locals = List._++_ t44 t17;
+          slots = life0 ∷ life1 ∷ life2 ∷ life3 ∷ life4 ∷ Row.off ∷ Row.off ∷ Row.off ∷ Row.off ∷ Row.off ∷ List.[];
         }
 
         abbrev G56 : Row.Cx
         G56 = record {
-          locals = List._++_ t41 t1;
-          slots = life0 ∷ life1 ∷ life2 ∷ life3 ∷ life4 ∷ life5 ∷ Row.off ∷ Row.off ∷ Row.off ∷ Row.off ∷ Row.off ∷
-              List.[];
+          locals = List._++_ t18 t17;
+          slots = life0 ∷ life1 ∷ life2 ∷ life3 ∷ life4 ∷ Row.off ∷ Row.off ∷ Row.off ∷ Row.off ∷ Row.off ∷ List.[];
         }
 
         abbrev G57 : Row.Cx
         G57 = record {
-          locals = List._++_ t42 t1;
-          slots = life0 ∷ life1 ∷ life2 ∷ life3 ∷ life4 ∷ life5 ∷ Row.off ∷ Row.off ∷ Row.off ∷ Row.off ∷ Row.off ∷
-              List.[];
+          locals = List._++_ t18 t1;
+          slots = life0 ∷ life1 ∷ life2 ∷ life3 ∷ life4 ∷ Row.off ∷ Row.off ∷ Row.off ∷ Row.off ∷ Row.off ∷ List.[];
         }
 
         abbrev G58 : Row.Cx
         G58 = record {
+          locals = List._++_ t45 t1;
+          slots = life0 ∷ life1 ∷ life2 ∷ life3 ∷ life4 ∷ Row.off ∷ Row.off ∷ Row.off ∷ Row.off ∷ Row.off ∷ List.[];
+        }
+
+        abbrev G59 : Row.Cx
+        G59 = record {
+          locals = List._++_ t46 t1;
+          slots = life0 ∷ life1 ∷ life2 ∷ life3 ∷ life4 ∷ Row.off ∷ Row.off ∷ Row.off ∷ Row.off ∷ Row.off ∷ List.[];
+        }
+
+        abbrev G60 : Row.Cx
+        G60 = record {
+          locals = List._++_ t47 t1;
+          slots = life0 ∷ life1 ∷ life2 ∷ life3 ∷ life4 ∷ Row.off ∷ Row.off ∷ Row.off ∷ Row.off ∷ Row.off ∷ List.[];
+        }
+
+        abbrev G61 : Row.Cx
+        G61 = record {
           locals = List._++_ t2 t1;
-          slots = life0 ∷ life1 ∷ life2 ∷ life3 ∷ life4 ∷ life5 ∷ Row.off ∷ Row.off ∷ Row.off ∷ Row.off ∷ Row.off ∷
-              List.[];
+          slots = life0 ∷ life1 ∷ life2 ∷ life3 ∷ life4 ∷ Row.off ∷ Row.off ∷ Row.off ∷ Row.off ∷ Row.off ∷ List.[];
         }
 
         abbrev Δ0 : Typed.Outs
         Δ0 = record { next = Option.none; exits = List.[]; returns = Option.some G1 }
 
         abbrev Δ1 : Typed.Outs
-        Δ1 = Typed.withNext (Option.some G19) Δ0
+        Δ1 = Typed.withNext (Option.some G22) Δ0
 
         module _ {M : Type 1} (𝓤 : URA.URA M) (H : Wp.Heap 𝓤) (A : Atoms.Atoms 𝓤) (W : Kit.Given 𝓤 H A)
             (𝓣 : Wp.Tables 𝓤 H) (known : Knowns 𝓤 H A W 𝓣) (bs : List.List Nat.ℕ)
-            (bd : Lifetimes.AllOutlive 6 (Kinds.osR r) κs) where
+            (bd : Lifetimes.AllOutlive 5 (Kinds.osR r) κs) where
           abbrev E : Wp.Env 𝓤 H
           E = Frame.EnvOf 𝓤 H ((Kinds.tyR r) ∷ (Enter.tysP ps xs)) bs
 
-          d0 : Typed.Typed 𝓤 H A 𝓣 E G51 b16 Δ1 at0
+          d0 : Typed.Typed 𝓤 H A 𝓣 E G54 b19 Δ1 (at0 bs)
           d0 = Typed.t-return 𝓤 H A W 𝓣 E Δ1 tt
 
-          d1 : Typed.Typed 𝓤 H A 𝓣 E G50 b16 Δ1 at1
-          d1 = Typed.g-pre 𝓤 H A W 𝓣 E G50 G51 b16 Δ1 (λ Ψ. Ψ) at0
-              (Lifetime.g-forget 𝓤 H A W E G50 10 Row.dead Path.refl) d0
+          d1 : Typed.Typed 𝓤 H A 𝓣 E G53 b19 Δ1 (at1 bs)
+          d1 = Typed.g-pre 𝓤 H A W 𝓣 E G53 G54 b19 Δ1 (λ Ψ. Ψ) (at0 bs)
+              (Lifetime.g-forget 𝓤 H A W E G53 9 Row.dead Path.refl) d0
 
-          d2 : Typed.Typed 𝓤 H A 𝓣 E G49 b16 Δ1 at2
-          d2 = Typed.g-pre 𝓤 H A W 𝓣 E G49 G50 b16 Δ1 (Typed.give s47) at1 (Know.g-sl-known 𝓤 H A W
-              (Referent.fInt Syntax.w32) E G49 4 3 ref8 life3 0 (λ x. x) record { fits = Dec.lit< tt } (Reads'.as-is 𝓤
+          d2 : Typed.Typed 𝓤 H A 𝓣 E G52 b19 Δ1 (at2 bs)
+          d2 = Typed.g-pre 𝓤 H A W 𝓣 E G52 G53 b19 Δ1 (Typed.give (s50 bs)) (at1 bs) (Know.g-sl-known 𝓤 H A W
+              (Referent.fInt Syntax.w32) E G52 4 3 ref8 life3 0 (λ x. x) record { fits = Dec.lit< tt } (Reads'.as-is 𝓤
               H A (Mut.mslice (Referent.rtF (Referent.fInt Syntax.w32)) ref8 3)) Path.refl tt) d1
 
-          d3 : Typed.Typed 𝓤 H A 𝓣 E G48 b16 Δ1 at3
-          d3 = Typed.g-pre 𝓤 H A W 𝓣 E G48 G49 b16 Δ1 (Typed.both s46) at2 (Relend.g-back-sl 𝓤 H A W E
-              (Referent.rtF (Referent.fInt Syntax.w32)) G48 24 4 3 10 ref8 ref4 life3 (λ x. x) (λ x. x) (Reads'.as-is 𝓤
+          d3 : Typed.Typed 𝓤 H A 𝓣 E G51 b19 Δ1 (at3 bs)
+          d3 = Typed.g-pre 𝓤 H A W 𝓣 E G51 G52 b19 Δ1 (Typed.both (s49 bs)) (at2 bs) (Relend.g-back-sl 𝓤 H A W E
+              (Referent.rtF (Referent.fInt Syntax.w32)) G51 24 4 3 9 ref8 ref4 life3 (λ x. x) (λ x. x) (Reads'.as-is 𝓤
               H A (Mut.msleft (Referent.rtF (Referent.fInt Syntax.w32)) ref4)) (Reads'.as-is 𝓤 H A (Relend.mslice-owed
-              (Referent.rtF (Referent.fInt Syntax.w32)) ref8 3 10 life3)) Path.refl Path.refl) d2
+              (Referent.rtF (Referent.fInt Syntax.w32)) ref8 3 9 life3)) Path.refl Path.refl) d2
 
-          d4 : Typed.Typed 𝓤 H A 𝓣 E G47 b16 Δ1 at4
-          d4 = Typed.g-pre 𝓤 H A W 𝓣 E G47 G48 b16 Δ1 (λ Ψ. Ψ) at3 (Lifetime.g-end 𝓤 H A W E G47 10 Path.refl) d3
+          d4 : Typed.Typed 𝓤 H A 𝓣 E G50 b19 Δ1 (at4 bs)
+          d4 = Typed.g-pre 𝓤 H A W 𝓣 E G50 G51 b19 Δ1 (λ Ψ. Ψ) (at3 bs) (Lifetime.g-end 𝓤 H A W E G50 9 Path.refl) d3
 
-          d5 : Typed.Typed 𝓤 H A 𝓣 E G46 b16 Δ1 at5
-          d5 = Typed.g-pre 𝓤 H A W 𝓣 E G46 G47 b16 Δ1 (λ Ψ. Ψ) at4
-              (Lifetime.g-forget 𝓤 H A W E G46 9 Row.dead Path.refl) d4
+          d5 : Typed.Typed 𝓤 H A 𝓣 E G49 b19 Δ1 (at5 bs)
+          d5 = Typed.g-pre 𝓤 H A W 𝓣 E G49 G50 b19 Δ1 (λ Ψ. Ψ) (at4 bs)
+              (Lifetime.g-forget 𝓤 H A W E G49 8 Row.dead Path.refl) d4
 
-          d6 : Typed.Typed 𝓤 H A 𝓣 E G45 b16 Δ1 at6
-          d6 = Typed.g-pre 𝓤 H A W 𝓣 E G45 G46 b16 Δ1 (Typed.both s43) at5 (Relend.g-back-sl 𝓤 H A W E
-              InflightAction.row G45 22 3 2 9 ref7 ref3 life2 (λ x. x) (λ x. x)
+          d6 : Typed.Typed 𝓤 H A 𝓣 E G48 b19 Δ1 (at6 bs)
+          d6 = Typed.g-pre 𝓤 H A W 𝓣 E G48 G49 b19 Δ1 (Typed.both (s46 bs)) (at5 bs) (Relend.g-back-sl 𝓤 H A W E
+              InflightAction.row G48 22 3 2 8 ref7 ref3 life2 (λ x. x) (λ x. x)
               (Reads'.as-is 𝓤 H A (Mut.msleft InflightAction.row ref3)) (Reads'.as-is 𝓤 H A
-              (Relend.mslice-owed InflightAction.row ref7 2 9 life2)) Path.refl Path.refl) d5
+              (Relend.mslice-owed InflightAction.row ref7 2 8 life2)) Path.refl Path.refl) d5
 
-          d7 : Typed.Typed 𝓤 H A 𝓣 E G44 b16 Δ1 at7
-          d7 = Typed.g-pre 𝓤 H A W 𝓣 E G44 G45 b16 Δ1 (λ Ψ. Ψ) at6 (Lifetime.g-end 𝓤 H A W E G44 9 Path.refl) d6
+          d7 : Typed.Typed 𝓤 H A 𝓣 E G47 b19 Δ1 (at7 bs)
+          d7 = Typed.g-pre 𝓤 H A W 𝓣 E G47 G48 b19 Δ1 (λ Ψ. Ψ) (at6 bs) (Lifetime.g-end 𝓤 H A W E G47 8 Path.refl) d6
 
-          d8 : Typed.Typed 𝓤 H A 𝓣 E G43 b16 Δ1 at8
-          d8 = Typed.g-pre 𝓤 H A W 𝓣 E G43 G44 b16 Δ1 (λ Ψ. Ψ) at7
-              (Lifetime.g-forget 𝓤 H A W E G43 8 Row.dead Path.refl) d7
+          d8 : Typed.Typed 𝓤 H A 𝓣 E G46 b19 Δ1 (at8 bs)
+          d8 = Typed.g-pre 𝓤 H A W 𝓣 E G46 G47 b19 Δ1 (λ Ψ. Ψ) (at7 bs)
+              (Lifetime.g-forget 𝓤 H A W E G46 7 Row.dead Path.refl) d7
 
-          d9 : Typed.Typed 𝓤 H A 𝓣 E G42 b16 Δ1 at9
-          d9 = Typed.g-pre 𝓤 H A W 𝓣 E G42 G43 b16 Δ1 (Typed.both s40) at8 (Relend.g-back-sl 𝓤 H A W E
-              ReservationUsage.row G42 20 2 1 8 ref6 ref2 life1 (λ x. x) (λ x. x)
+          d9 : Typed.Typed 𝓤 H A 𝓣 E G45 b19 Δ1 (at9 bs)
+          d9 = Typed.g-pre 𝓤 H A W 𝓣 E G45 G46 b19 Δ1 (Typed.both (s43 bs)) (at8 bs) (Relend.g-back-sl 𝓤 H A W E
+              ReservationUsage.row G45 20 2 1 7 ref6 ref2 life1 (λ x. x) (λ x. x)
               (Reads'.as-is 𝓤 H A (Mut.msleft ReservationUsage.row ref2)) (Reads'.as-is 𝓤 H A
-              (Relend.mslice-owed ReservationUsage.row ref6 1 8 life1)) Path.refl Path.refl) d8
+              (Relend.mslice-owed ReservationUsage.row ref6 1 7 life1)) Path.refl Path.refl) d8
 
-          d10 : Typed.Typed 𝓤 H A 𝓣 E G41 b16 Δ1 at10
-          d10 = Typed.g-pre 𝓤 H A W 𝓣 E G41 G42 b16 Δ1 (λ Ψ. Ψ) at9 (Lifetime.g-end 𝓤 H A W E G41 8 Path.refl) d9
+          d10 : Typed.Typed 𝓤 H A 𝓣 E G44 b19 Δ1 (at10 bs)
+          d10 = Typed.g-pre 𝓤 H A W 𝓣 E G44 G45 b19 Δ1 (λ Ψ. Ψ) (at9 bs) (Lifetime.g-end 𝓤 H A W E G44 7 Path.refl) d9
 
-          d11 : Typed.Typed 𝓤 H A 𝓣 E G40 b16 Δ1 at11
-          d11 = Typed.g-pre 𝓤 H A W 𝓣 E G40 G41 b16 Δ1 (λ Ψ. Ψ) at10
-              (Lifetime.g-forget 𝓤 H A W E G40 7 Row.dead Path.refl) d10
+          d11 : Typed.Typed 𝓤 H A 𝓣 E G43 b19 Δ1 (at11 bs)
+          d11 = Typed.g-pre 𝓤 H A W 𝓣 E G43 G44 b19 Δ1 (λ Ψ. Ψ) (at10 bs)
+              (Lifetime.g-forget 𝓤 H A W E G43 6 Row.dead Path.refl) d10
 
-          d12 : Typed.Typed 𝓤 H A 𝓣 E G39 b16 Δ1 at12
-          d12 = Typed.g-pre 𝓤 H A W 𝓣 E G39 G40 b16 Δ1 (Typed.both s37) at11 (Relend.g-back-sl 𝓤 H A W E
-              RelayCircuit.row G39 18 1 0 7 ref5 ref1 life0 (λ x. x) (λ x. x)
+          d12 : Typed.Typed 𝓤 H A 𝓣 E G42 b19 Δ1 (at12 bs)
+          d12 = Typed.g-pre 𝓤 H A W 𝓣 E G42 G43 b19 Δ1 (Typed.both (s40 bs)) (at11 bs) (Relend.g-back-sl 𝓤 H A W E
+              RelayCircuit.row G42 18 1 0 6 ref5 ref1 life0 (λ x. x) (λ x. x)
               (Reads'.as-is 𝓤 H A (Mut.msleft RelayCircuit.row ref1)) (Reads'.as-is 𝓤 H A
-              (Relend.mslice-owed RelayCircuit.row ref5 0 7 life0)) Path.refl Path.refl) d11
+              (Relend.mslice-owed RelayCircuit.row ref5 0 6 life0)) Path.refl Path.refl) d11
 
-          d13 : Typed.Typed 𝓤 H A 𝓣 E G38 b16 Δ1 at13
-          d13 = Typed.g-pre 𝓤 H A W 𝓣 E G38 G39 b16 Δ1 (λ Ψ. Ψ) at12 (Lifetime.g-end 𝓤 H A W E G38 7 Path.refl) d12
+          d13 : Typed.Typed 𝓤 H A 𝓣 E G41 b19 Δ1 (at13 bs)
+          d13 = Typed.g-pre 𝓤 H A W 𝓣 E G41 G42 b19 Δ1 (λ Ψ. Ψ) (at12 bs) (Lifetime.g-end 𝓤 H A W E G41 6 Path.refl)
+              d12
 
-          d14 : Typed.Typed 𝓤 H A 𝓣 E G37 b16 Δ1 at14
-          d14 = Typed.g-pre 𝓤 H A W 𝓣 E G37 G38 b16 Δ1 (Typed.pass T37 T38 s35) at13 (Scalar.g-room 𝓤 H A W E G37 10
-              Laws'''''.mir (Local.room-whole 𝓤 H A W (Declared'.row CircuitFound.the-type) Laws'''''.mir Path.refl))
-              d13
+          d14 : Typed.Typed 𝓤 H A 𝓣 E G40 b19 Δ1 (at14 bs)
+          d14 = Typed.g-pre 𝓤 H A W 𝓣 E G40 G41 b19 Δ1 (Typed.pass T40 T41 (s38 bs)) (at13 bs) (Scalar.g-room 𝓤 H A W E
+              G40 11 Laws''''''.mir (Local.room-whole 𝓤 H A W (Declared'.row CircuitFound.the-type) Laws''''''.mir
+              Path.refl)) d13
 
-          d15 : Typed.Typed 𝓤 H A 𝓣 E G36 b16 Δ1 at15
-          d15 = Typed.g-pre 𝓤 H A W 𝓣 E G36 G37 b16 Δ1 (Typed.pass T36 T37 s34) at14 (Scalar.g-room 𝓤 H A W E G36 7
-              Laws'''.mir (Local.room-whole 𝓤 H A W (Declared'.row RelayPacket.the-type) Laws'''.mir Path.refl)) d14
+          d15 : Typed.Typed 𝓤 H A 𝓣 E G39 b19 Δ1 (at15 bs)
+          d15 = Typed.g-pre 𝓤 H A W 𝓣 E G39 G40 b19 Δ1 (Typed.pass T39 T40 (s37 bs)) (at14 bs) (Scalar.g-room 𝓤 H A W E
+              G39 5 Laws'''''.mir (Local.room-whole 𝓤 H A W (Declared'.row Request.the-type) Laws'''''.mir Path.refl))
+              d14
 
-          d16 : Typed.Typed 𝓤 H A 𝓣 E G35 b16 Δ1 at16
-          d16 = Typed.g-pre 𝓤 H A W 𝓣 E G35 G36 b16 Δ1 (Typed.pass T35 T36 s33) at15 (Scalar.g-room 𝓤 H A W E G35 6
-              Laws''''''.mir (Local.room-whole 𝓤 H A W (Declared'.row Places.the-type) Laws''''''.mir Path.refl)) d15
-
-          d17 : Typed.Typed 𝓤 H A 𝓣 E G34 b16 Δ1 at17
-          d17 = Typed.g-pre 𝓤 H A W 𝓣 E G34 G35 b16 Δ1 (Typed.pass T34 T35 s32) at16 (Scalar.g-room 𝓤 H A W E G34 5
-              Laws''.mir (Local.room-whole 𝓤 H A W (Declared'.row OpaqueRelayRuntime.the-type) Laws''.mir Path.refl))
-              d16
-
-          d18 : Typed.Typed 𝓤 H A 𝓣 E G33 b17 Δ1 at18
-          d18 = Typed.s-seq 𝓤 H A W 𝓣 E G33 G34 b15 b16 Δ1 (Typed.both s31) at17 (Plain.t-call-plain 𝓤 H A W 𝓣 6 ps·4
-              r·4 (claims· .8) (claims· .9) "hnsr_circuit::messages::handle_data::pass_data" (known .4) E (λ pos β. β)
-              G33 (
+          d16 : Typed.Typed 𝓤 H A 𝓣 E G38 b20 Δ1 (at16 bs)
+          d16 = Typed.s-seq 𝓤 H A W 𝓣 E G38 G39 b18 b19 Δ1 (Typed.both (s36 bs)) (at15 bs) (Plain.t-call-plain 𝓤 H A W
+              𝓣 5 ps·3 r·3 (claims· .6) (claims· .7) "hnsr_circuit::messages::handle_data::pass_data" (known .3) E
+              (λ pos β. β) G38 (
                 record { pos = 18; ty = ref1; ref = λ x. x },
                 (
                   record { pos = 20; ty = ref2; ref = λ x. x },
@@ -1761,112 +1771,78 @@ module _ (claims· : Claims) where
                       (
                         record { pos = 5; st = List.[]; d = 0; at = λ x. x },
                         (
-                          record { pos = 6; st = List.[]; d = 0; at = λ x. x },
-                          (
-                            record { pos = 7; st = List.[]; d = 0; at = λ x. x },
-                            (
-                              record { pos = 10; st = List.[]; d = 0; at = λ x. x },
-                              (
-                                record { pos = 8; ty = ref9; ref = λ x. x },
-                                (record { pos = 9; ty = ref10; ref = λ x. x }, tt),
-                              ),
-                            ),
-                          ),
+                          record { pos = 11; st = List.[]; d = 0; at = λ x. x },
+                          (record { pos = 6; ty = ref9; ref = λ x. x }, tt),
                         ),
                       ),
                     ),
                   ),
                 ),
-              ) 0 (7 ∷ 8 ∷ 9 ∷ 10 ∷ 4 ∷ 5 ∷ List.[]) (Call.sub-id 𝓤 H A W (G33 .slots)) (
-                Reads'.as-is 𝓤 H A (Mut.mslice RelayCircuit.row ref1 7),
-                Mut.reads-mslice 𝓤 H A W RelayCircuit.row ref1 7,
+              ) 0 (6 ∷ 7 ∷ 8 ∷ 9 ∷ 4 ∷ List.[]) (Call.sub-id 𝓤 H A W (G38 .slots)) (
+                Reads'.as-is 𝓤 H A (Mut.mslice RelayCircuit.row ref1 6),
+                Mut.reads-mslice 𝓤 H A W RelayCircuit.row ref1 6,
                 Path.refl,
                 (
-                  Reads'.as-is 𝓤 H A (Mut.mslice ReservationUsage.row ref2 8),
-                  Mut.reads-mslice 𝓤 H A W ReservationUsage.row ref2 8,
+                  Reads'.as-is 𝓤 H A (Mut.mslice ReservationUsage.row ref2 7),
+                  Mut.reads-mslice 𝓤 H A W ReservationUsage.row ref2 7,
                   Path.refl,
                   (
-                    Reads'.as-is 𝓤 H A (Mut.mslice InflightAction.row ref3 9),
-                    Mut.reads-mslice 𝓤 H A W InflightAction.row ref3 9,
+                    Reads'.as-is 𝓤 H A (Mut.mslice InflightAction.row ref3 8),
+                    Mut.reads-mslice 𝓤 H A W InflightAction.row ref3 8,
                     Path.refl,
                     (
-                      Reads'.as-is 𝓤 H A (Mut.mslice (Referent.rtF (Referent.fInt Syntax.w32)) ref4 10),
-                      Mut.reads-mslice 𝓤 H A W (Referent.rtF (Referent.fInt Syntax.w32)) ref4 10,
+                      Reads'.as-is 𝓤 H A (Mut.mslice (Referent.rtF (Referent.fInt Syntax.w32)) ref4 9),
+                      Mut.reads-mslice 𝓤 H A W (Referent.rtF (Referent.fInt Syntax.w32)) ref4 9,
                       Path.refl,
                       (
                         (
-                          Yields.yields-copy 𝓤 H A W (λ ρ. Unit) (Declared'.row OpaqueRelayRuntime.the-type) Path.refl (Copies.cStruct
-                              OpaqueRelayRuntime.the-type Laws''.the-laws Laws''.the-copy .copy 𝓤 H A W)
-                              (Rows.whole (Declared'.row OpaqueRelayRuntime.the-type)) (λ x. x) (λ x. x) (λ ρ told.
-                              Local.mem-whole 𝓤 H A W (Declared'.row OpaqueRelayRuntime.the-type) ρ) λ ρ told.
-                              Local.whole-mem 𝓤 H A W (Declared'.row OpaqueRelayRuntime.the-type) ρ,
+                          Yields.yields-copy 𝓤 H A W (λ ρ. Unit) (Declared'.row Request.the-type) Path.refl (Copies.cStruct
+                              Request.the-type Laws'''''.the-laws Laws'''''.the-copy .copy 𝓤 H A W)
+                              (Rows.whole (Declared'.row Request.the-type)) (λ x. x) (λ x. x) (λ ρ told.
+                              Local.mem-whole 𝓤 H A W (Declared'.row Request.the-type) ρ) λ ρ told. Local.whole-mem 𝓤 H
+                              A W (Declared'.row Request.the-type) ρ,
                           Path.refl,
                         ),
                         (
                           (
-                            Yields.yields-copy 𝓤 H A W (λ ρ. Unit) (Declared'.row Places.the-type) Path.refl (Copies.cStruct
-                                Places.the-type Laws''''''.the-laws Laws''''''.the-copy .copy 𝓤 H A W)
-                                (Rows.whole (Declared'.row Places.the-type)) (λ x. x) (λ x. x) (λ ρ told.
-                                Local.mem-whole 𝓤 H A W (Declared'.row Places.the-type) ρ) λ ρ told. Local.whole-mem 𝓤
-                                H A W (Declared'.row Places.the-type) ρ,
+                            Yields.yields-copy 𝓤 H A W (λ ρ. Unit) (Declared'.row CircuitFound.the-type) Path.refl (Copies.cStruct
+                                CircuitFound.the-type Laws''''''.the-laws Laws''''''.the-copy .copy 𝓤 H A W)
+                                (Rows.whole (Declared'.row CircuitFound.the-type)) (λ x. x) (λ x. x) (λ ρ told.
+                                Local.mem-whole 𝓤 H A W (Declared'.row CircuitFound.the-type) ρ) λ ρ told.
+                                Local.whole-mem 𝓤 H A W (Declared'.row CircuitFound.the-type) ρ,
                             Path.refl,
                           ),
                           (
-                            (
-                              Yields.yields-copy 𝓤 H A W (λ ρ. Unit) (Declared'.row RelayPacket.the-type) Path.refl (Copies.cStruct
-                                  RelayPacket.the-type Laws'''.the-laws Laws'''.the-copy .copy 𝓤 H A W)
-                                  (Rows.whole (Declared'.row RelayPacket.the-type)) (λ x. x) (λ x. x) (λ ρ told.
-                                  Local.mem-whole 𝓤 H A W (Declared'.row RelayPacket.the-type) ρ) λ ρ told.
-                                  Local.whole-mem 𝓤 H A W (Declared'.row RelayPacket.the-type) ρ,
-                              Path.refl,
-                            ),
-                            (
-                              (
-                                Yields.yields-copy 𝓤 H A W (λ ρ. Unit) (Declared'.row CircuitFound.the-type) Path.refl (Copies.cStruct
-                                    CircuitFound.the-type Laws'''''.the-laws Laws'''''.the-copy .copy 𝓤 H A W)
-                                    (Rows.whole (Declared'.row CircuitFound.the-type)) (λ x. x) (λ x. x) (λ ρ told.
-                                    Local.mem-whole 𝓤 H A W (Declared'.row CircuitFound.the-type) ρ) λ ρ told.
-                                    Local.whole-mem 𝓤 H A W (Declared'.row CircuitFound.the-type) ρ,
-                                Path.refl,
-                              ),
-                              (
-                                ShrSlice.spares-sslice 𝓤 H A W (Referent.rtF (Referent.fInt Syntax.w8)) ref9 4,
-                                Shared.reads-sslice 𝓤 H A W (Referent.rtF (Referent.fInt Syntax.w8)) ref9 4,
-                                Path.refl,
-                                (
-                                  ShrSlice.spares-sslice 𝓤 H A W (Referent.rtF (Referent.fInt Syntax.w8)) ref10 5,
-                                  Shared.reads-sslice 𝓤 H A W (Referent.rtF (Referent.fInt Syntax.w8)) ref10 5,
-                                  Path.refl,
-                                  tt,
-                                ),
-                              ),
-                            ),
+                            ShrSlice.spares-sslice 𝓤 H A W (Referent.rtF (Referent.fInt Syntax.w8)) ref9 4,
+                            Shared.reads-sslice 𝓤 H A W (Referent.rtF (Referent.fInt Syntax.w8)) ref9 4,
+                            Path.refl,
+                            tt,
                           ),
                         ),
                       ),
                     ),
                   ),
                 ),
-              ) (Reads'.room-gone 𝓤 H A Laws''''.mir) (tt, (tt, (tt, (tt, (tt, (tt, tt)))))) Path.refl) d17
+              ) (Reads'.room-gone 𝓤 H A Laws''''.mir) (tt, (tt, (tt, (tt, (tt, tt))))) Path.refl) d15
 
-          d19 : Typed.Typed 𝓤 H A 𝓣 E G32 b18 Δ1 at19
-          d19 = Typed.s-seq 𝓤 H A W 𝓣 E G32 G33 b14 b17 Δ1 (Typed.ask s30) at18 (Relend.t-sl-aggregate 𝓤 H A W E
-              (Referent.rtF (Referent.fInt Syntax.w32)) 𝓣 (Relend.asMut (Referent.rtF (Referent.fInt Syntax.w32))) G32
-              23 24 10 ref4 ref4 (λ x. x) (Scalar.oFld 4 ((Syntax.field 1) ∷ List.[]) (Syntax.tyInt Syntax.w64) 8 λ v.
-              Shared.lenV (v .0)) (Reads'.as-is 𝓤 H A (Relend.msptr (Referent.rtF (Referent.fInt Syntax.w32)) ref4 10))
-              (Reads'.room-gone 𝓤 H A slice4) (
-                Relend.reads-owed-len 𝓤 H A W (Referent.rtF (Referent.fInt Syntax.w32)) ref8 3 10 life3 8 Path.refl,
+          d17 : Typed.Typed 𝓤 H A 𝓣 E G37 b21 Δ1 (at17 bs)
+          d17 = Typed.s-seq 𝓤 H A W 𝓣 E G37 G38 b17 b20 Δ1 (Typed.ask (s35 bs)) (at16 bs) (Relend.t-sl-aggregate 𝓤 H A
+              W E (Referent.rtF (Referent.fInt Syntax.w32)) 𝓣 (Relend.asMut (Referent.rtF (Referent.fInt Syntax.w32)))
+              G37 23 24 9 ref4 ref4 (λ x. x) (Scalar.oFld 4 ((Syntax.field 1) ∷ List.[]) (Syntax.tyInt Syntax.w64) 8
+              λ v. Shared.lenV (v .0)) (Reads'.as-is 𝓤 H A (Relend.msptr (Referent.rtF (Referent.fInt Syntax.w32)) ref4
+              9)) (Reads'.room-gone 𝓤 H A slice4) (
+                Relend.reads-owed-len 𝓤 H A W (Referent.rtF (Referent.fInt Syntax.w32)) ref8 3 9 life3 8 Path.refl,
                 Path.refl,
-              ) Path.refl Path.refl λ b o k. tt) d18
+              ) Path.refl Path.refl λ b o k. tt) d16
 
-          d20 : Typed.Typed 𝓤 H A 𝓣 E G31 b19 Δ1 at20
-          d20 = Typed.s-seq 𝓤 H A W 𝓣 E G31 G32 b13 b18 Δ1 (Typed.give s29) at19 (Relend.t-sl-relend 𝓤 H A W E
-              (Referent.rtF (Referent.fInt Syntax.w32)) 𝓣 G31 4 23 3 10 ref8 ref4 life3 0 (λ x. x) (Reads'.as-is 𝓤 H A (Mut.mslice
+          d18 : Typed.Typed 𝓤 H A 𝓣 E G36 b22 Δ1 (at18 bs)
+          d18 = Typed.s-seq 𝓤 H A W 𝓣 E G36 G37 b16 b21 Δ1 (Typed.give (s34 bs)) (at17 bs) (Relend.t-sl-relend 𝓤 H A W
+              E (Referent.rtF (Referent.fInt Syntax.w32)) 𝓣 G36 4 23 3 9 ref8 ref4 life3 0 (λ x. x) (Reads'.as-is 𝓤 H A (Mut.mslice
               (Referent.rtF (Referent.fInt Syntax.w32)) ref8 3)) (Reads'.room-gone 𝓤 H A ref4) Path.refl tt Path.refl
-              Path.refl Path.refl λ b o. tt) d19
+              Path.refl Path.refl λ b o. tt) d17
 
-          d21 : Typed.Typed 𝓤 H A 𝓣 E G30 b19 Δ1 at21
-          d21 = Typed.g-pre 𝓤 H A W 𝓣 E G30 G31 b19 Δ1 (λ Ψ. Ψ) at20 (Lifetime.g-begin 𝓤 H A W E G30 10 (
+          d19 : Typed.Typed 𝓤 H A 𝓣 E G35 b22 Δ1 (at19 bs)
+          d19 = Typed.g-pre 𝓤 H A W 𝓣 E G35 G36 b22 Δ1 (λ Ψ. Ψ) (at18 bs) (Lifetime.g-begin 𝓤 H A W E G35 9 (
             tt,
             (
               (tt, tt),
@@ -1899,25 +1875,25 @@ module _ (claims· : Claims) where
                 ),
               ),
             ),
-          )) d20
+          )) d18
 
-          d22 : Typed.Typed 𝓤 H A 𝓣 E G29 b20 Δ1 at22
-          d22 = Typed.s-seq 𝓤 H A W 𝓣 E G29 G30 b12 b19 Δ1 (Typed.ask s27) at21 (Relend.t-sl-aggregate 𝓤 H A W E
-              InflightAction.row 𝓣 (Relend.asMut InflightAction.row) G29 21 22 9 ref3 ref3 (λ x. x) (Scalar.oFld 3
+          d20 : Typed.Typed 𝓤 H A 𝓣 E G34 b23 Δ1 (at20 bs)
+          d20 = Typed.s-seq 𝓤 H A W 𝓣 E G34 G35 b15 b22 Δ1 (Typed.ask (s32 bs)) (at19 bs) (Relend.t-sl-aggregate 𝓤 H A
+              W E InflightAction.row 𝓣 (Relend.asMut InflightAction.row) G34 21 22 8 ref3 ref3 (λ x. x) (Scalar.oFld 3
               ((Syntax.field 1) ∷ List.[]) (Syntax.tyInt Syntax.w64) 8 λ v. Shared.lenV (v .0)) (Reads'.as-is 𝓤 H A
-              (Relend.msptr InflightAction.row ref3 9)) (Reads'.room-gone 𝓤 H A slice3) (
-                Relend.reads-owed-len 𝓤 H A W InflightAction.row ref7 2 9 life2 8 Path.refl,
+              (Relend.msptr InflightAction.row ref3 8)) (Reads'.room-gone 𝓤 H A slice3) (
+                Relend.reads-owed-len 𝓤 H A W InflightAction.row ref7 2 8 life2 8 Path.refl,
                 Path.refl,
-              ) Path.refl Path.refl λ b o k. tt) d21
+              ) Path.refl Path.refl λ b o k. tt) d19
 
-          d23 : Typed.Typed 𝓤 H A 𝓣 E G28 b21 Δ1 at23
-          d23 = Typed.s-seq 𝓤 H A W 𝓣 E G28 G29 b11 b20 Δ1 (Typed.give s26) at22 (Relend.t-sl-relend 𝓤 H A W E
-              InflightAction.row 𝓣 G28 3 21 2 9 ref7 ref3 life2 0 (λ x. x)
+          d21 : Typed.Typed 𝓤 H A 𝓣 E G33 b24 Δ1 (at21 bs)
+          d21 = Typed.s-seq 𝓤 H A W 𝓣 E G33 G34 b14 b23 Δ1 (Typed.give (s31 bs)) (at20 bs) (Relend.t-sl-relend 𝓤 H A W
+              E InflightAction.row 𝓣 G33 3 21 2 8 ref7 ref3 life2 0 (λ x. x)
               (Reads'.as-is 𝓤 H A (Mut.mslice InflightAction.row ref7 2)) (Reads'.room-gone 𝓤 H A ref3) Path.refl tt
-              Path.refl Path.refl Path.refl λ b o. tt) d22
+              Path.refl Path.refl Path.refl λ b o. tt) d20
 
-          d24 : Typed.Typed 𝓤 H A 𝓣 E G27 b21 Δ1 at24
-          d24 = Typed.g-pre 𝓤 H A W 𝓣 E G27 G28 b21 Δ1 (λ Ψ. Ψ) at23 (Lifetime.g-begin 𝓤 H A W E G27 9 (
+          d22 : Typed.Typed 𝓤 H A 𝓣 E G32 b24 Δ1 (at22 bs)
+          d22 = Typed.g-pre 𝓤 H A W 𝓣 E G32 G33 b24 Δ1 (λ Ψ. Ψ) (at21 bs) (Lifetime.g-begin 𝓤 H A W E G32 8 (
             tt,
             (
               (tt, tt),
@@ -1950,25 +1926,25 @@ module _ (claims· : Claims) where
                 ),
               ),
             ),
-          )) d23
+          )) d21
 
-          d25 : Typed.Typed 𝓤 H A 𝓣 E G26 b22 Δ1 at25
-          d25 = Typed.s-seq 𝓤 H A W 𝓣 E G26 G27 b10 b21 Δ1 (Typed.ask s24) at24 (Relend.t-sl-aggregate 𝓤 H A W E
-              ReservationUsage.row 𝓣 (Relend.asMut ReservationUsage.row) G26 19 20 8 ref2 ref2 (λ x. x) (Scalar.oFld 2
-              ((Syntax.field 1) ∷ List.[]) (Syntax.tyInt Syntax.w64) 8 λ v. Shared.lenV (v .0)) (Reads'.as-is 𝓤 H A
-              (Relend.msptr ReservationUsage.row ref2 8)) (Reads'.room-gone 𝓤 H A slice2) (
-                Relend.reads-owed-len 𝓤 H A W ReservationUsage.row ref6 1 8 life1 8 Path.refl,
+          d23 : Typed.Typed 𝓤 H A 𝓣 E G31 b25 Δ1 (at23 bs)
+          d23 = Typed.s-seq 𝓤 H A W 𝓣 E G31 G32 b13 b24 Δ1 (Typed.ask (s29 bs)) (at22 bs) (Relend.t-sl-aggregate 𝓤 H A
+              W E ReservationUsage.row 𝓣 (Relend.asMut ReservationUsage.row) G31 19 20 7 ref2 ref2 (λ x. x) (Scalar.oFld
+              2 ((Syntax.field 1) ∷ List.[]) (Syntax.tyInt Syntax.w64) 8 λ v. Shared.lenV (v .0)) (Reads'.as-is 𝓤 H A
+              (Relend.msptr ReservationUsage.row ref2 7)) (Reads'.room-gone 𝓤 H A slice2) (
+                Relend.reads-owed-len 𝓤 H A W ReservationUsage.row ref6 1 7 life1 8 Path.refl,
                 Path.refl,
-              ) Path.refl Path.refl λ b o k. tt) d24
+              ) Path.refl Path.refl λ b o k. tt) d22
 
-          d26 : Typed.Typed 𝓤 H A 𝓣 E G25 b23 Δ1 at26
-          d26 = Typed.s-seq 𝓤 H A W 𝓣 E G25 G26 b9 b22 Δ1 (Typed.give s23) at25 (Relend.t-sl-relend 𝓤 H A W E
-              ReservationUsage.row 𝓣 G25 2 19 1 8 ref6 ref2 life1 0 (λ x. x) (Reads'.as-is 𝓤 H A
+          d24 : Typed.Typed 𝓤 H A 𝓣 E G30 b26 Δ1 (at24 bs)
+          d24 = Typed.s-seq 𝓤 H A W 𝓣 E G30 G31 b12 b25 Δ1 (Typed.give (s28 bs)) (at23 bs) (Relend.t-sl-relend 𝓤 H A W
+              E ReservationUsage.row 𝓣 G30 2 19 1 7 ref6 ref2 life1 0 (λ x. x) (Reads'.as-is 𝓤 H A
               (Mut.mslice ReservationUsage.row ref6 1)) (Reads'.room-gone 𝓤 H A ref2) Path.refl tt Path.refl Path.refl
-              Path.refl λ b o. tt) d25
+              Path.refl λ b o. tt) d23
 
-          d27 : Typed.Typed 𝓤 H A 𝓣 E G24 b23 Δ1 at27
-          d27 = Typed.g-pre 𝓤 H A W 𝓣 E G24 G25 b23 Δ1 (λ Ψ. Ψ) at26 (Lifetime.g-begin 𝓤 H A W E G24 8 (
+          d25 : Typed.Typed 𝓤 H A 𝓣 E G29 b26 Δ1 (at25 bs)
+          d25 = Typed.g-pre 𝓤 H A W 𝓣 E G29 G30 b26 Δ1 (λ Ψ. Ψ) (at24 bs) (Lifetime.g-begin 𝓤 H A W E G29 7 (
             tt,
             (
               (tt, tt),
@@ -2001,25 +1977,25 @@ module _ (claims· : Claims) where
                 ),
               ),
             ),
-          )) d26
+          )) d24
 
-          d28 : Typed.Typed 𝓤 H A 𝓣 E G23 b24 Δ1 at28
-          d28 = Typed.s-seq 𝓤 H A W 𝓣 E G23 G24 b8 b23 Δ1 (Typed.ask s21) at27 (Relend.t-sl-aggregate 𝓤 H A W E
-              RelayCircuit.row 𝓣 (Relend.asMut RelayCircuit.row) G23 17 18 7 ref1 ref1 (λ x. x) (Scalar.oFld 1
+          d26 : Typed.Typed 𝓤 H A 𝓣 E G28 b27 Δ1 (at26 bs)
+          d26 = Typed.s-seq 𝓤 H A W 𝓣 E G28 G29 b11 b26 Δ1 (Typed.ask (s26 bs)) (at25 bs) (Relend.t-sl-aggregate 𝓤 H A
+              W E RelayCircuit.row 𝓣 (Relend.asMut RelayCircuit.row) G28 17 18 6 ref1 ref1 (λ x. x) (Scalar.oFld 1
               ((Syntax.field 1) ∷ List.[]) (Syntax.tyInt Syntax.w64) 8 λ v. Shared.lenV (v .0))
-              (Reads'.as-is 𝓤 H A (Relend.msptr RelayCircuit.row ref1 7)) (Reads'.room-gone 𝓤 H A slice1) (
-                Relend.reads-owed-len 𝓤 H A W RelayCircuit.row ref5 0 7 life0 8 Path.refl,
+              (Reads'.as-is 𝓤 H A (Relend.msptr RelayCircuit.row ref1 6)) (Reads'.room-gone 𝓤 H A slice1) (
+                Relend.reads-owed-len 𝓤 H A W RelayCircuit.row ref5 0 6 life0 8 Path.refl,
                 Path.refl,
-              ) Path.refl Path.refl λ b o k. tt) d27
+              ) Path.refl Path.refl λ b o k. tt) d25
 
-          d29 : Typed.Typed 𝓤 H A 𝓣 E G22 b25 Δ1 at29
-          d29 = Typed.s-seq 𝓤 H A W 𝓣 E G22 G23 b7 b24 Δ1 (Typed.give s20) at28 (Relend.t-sl-relend 𝓤 H A W E
-              RelayCircuit.row 𝓣 G22 1 17 0 7 ref5 ref1 life0 0 (λ x. x)
+          d27 : Typed.Typed 𝓤 H A 𝓣 E G27 b28 Δ1 (at27 bs)
+          d27 = Typed.s-seq 𝓤 H A W 𝓣 E G27 G28 b10 b27 Δ1 (Typed.give (s25 bs)) (at26 bs) (Relend.t-sl-relend 𝓤 H A W
+              E RelayCircuit.row 𝓣 G27 1 17 0 6 ref5 ref1 life0 0 (λ x. x)
               (Reads'.as-is 𝓤 H A (Mut.mslice RelayCircuit.row ref5 0)) (Reads'.room-gone 𝓤 H A ref1) Path.refl tt
-              Path.refl Path.refl Path.refl λ b o. tt) d28
+              Path.refl Path.refl Path.refl λ b o. tt) d26
 
-          d30 : Typed.Typed 𝓤 H A 𝓣 E G21 b25 Δ1 at30
-          d30 = Typed.g-pre 𝓤 H A W 𝓣 E G21 G22 b25 Δ1 (λ Ψ. Ψ) at29 (Lifetime.g-begin 𝓤 H A W E G21 7 (
+          d28 : Typed.Typed 𝓤 H A 𝓣 E G26 b28 Δ1 (at28 bs)
+          d28 = Typed.g-pre 𝓤 H A W 𝓣 E G26 G27 b28 Δ1 (λ Ψ. Ψ) (at27 bs) (Lifetime.g-begin 𝓤 H A W E G26 6 (
             tt,
             (
               tt,
@@ -2052,61 +2028,73 @@ module _ (claims· : Claims) where
                 ),
               ),
             ),
-          )) d29
+          )) d27
 
-          d31 : Typed.Typed 𝓤 H A 𝓣 E G20 b25 Δ1 at31
-          d31 = Typed.g-pre 𝓤 H A W 𝓣 E G20 G21 b25 Δ1 (Typed.pass T20 T21 s18) at30 (Scalar.g-room 𝓤 H A W E G20 16
-              Syntax.tyBool (Scalar.room-sc 𝓤 H A W Row.sBool)) d30
+          d29 : Typed.Typed 𝓤 H A 𝓣 E G25 b28 Δ1 (at29 bs)
+          d29 = Typed.g-pre 𝓤 H A W 𝓣 E G25 G26 b28 Δ1 (Typed.pass T25 T26 (s23 bs)) (at28 bs) (Scalar.g-room 𝓤 H A W E
+              G25 16 Syntax.tyBool (Scalar.room-sc 𝓤 H A W Row.sBool)) d28
 
-          d32 : Typed.Typed 𝓤 H A 𝓣 E G18 b25 Δ1 at32
-          d32 = Typed.g-pre 𝓤 H A W 𝓣 E G18 G20 b25 Δ1 (Typed.pass T18 T20 s17) at31 (Scalar.g-room 𝓤 H A W E G18 12
-              Laws.mir (Local.room-whole 𝓤 H A W (Declared.row HnsrAnswer.the-type) Laws.mir Path.refl)) d31
+          d30 : Typed.Typed 𝓤 H A 𝓣 E G24 b28 Δ1 (at30 bs)
+          d30 = Typed.g-pre 𝓤 H A W 𝓣 E G24 G25 b28 Δ1 (Typed.pass T24 T25 (s22 bs)) (at29 bs) (Scalar.g-room 𝓤 H A W E
+              G24 12 Laws.mir (Local.room-whole 𝓤 H A W (Declared.row HnsrAnswer.the-type) Laws.mir Path.refl)) d29
 
-          d33 : Typed.Typed 𝓤 H A 𝓣 E G54 b26 Δ1 at33
+          d31 : Typed.Typed 𝓤 H A 𝓣 E G23 b28 Δ1 (at31 bs)
+          d31 = Typed.g-pre 𝓤 H A W 𝓣 E G23 G24 b28 Δ1 (Typed.pass T23 T24 (s21 bs)) (at30 bs) (Scalar.g-room 𝓤 H A W E
+              G23 8 Laws'''''''.mir (Local.room-whole 𝓤 H A W (Declared'.row Places.the-type) Laws'''''''.mir
+              Path.refl)) d30
+
+          d32 : Typed.Typed 𝓤 H A 𝓣 E G21 b28 Δ1 (at32 bs)
+          d32 = Typed.g-pre 𝓤 H A W 𝓣 E G21 G23 b28 Δ1 (Typed.pass T21 T23 (s20 bs)) (at31 bs) (Scalar.g-room 𝓤 H A W E
+              G21 7 Laws''.mir (Local.room-whole 𝓤 H A W (Declared'.row OpaqueRelayRuntime.the-type) Laws''.mir
+              Path.refl)) d31
+
+          d33 : Typed.Typed 𝓤 H A 𝓣 E G57 b29 Δ1 (at33 bs)
           d33 = Typed.t-skip 𝓤 H A W 𝓣 E Δ1 tt
 
-          d34 : Typed.Typed 𝓤 H A 𝓣 E G53 b26 Δ1 at34
-          d34 = Typed.g-pre 𝓤 H A W 𝓣 E G53 G54 b26 Δ1 (Typed.pass T53 T54 s51) at33 (Scalar.g-room 𝓤 H A W E G53 16
-              Syntax.tyBool (Scalar.room-sc 𝓤 H A W Row.sBool)) d33
+          d34 : Typed.Typed 𝓤 H A 𝓣 E G56 b29 Δ1 (at34 bs)
+          d34 = Typed.g-pre 𝓤 H A W 𝓣 E G56 G57 b29 Δ1 (Typed.pass T56 T57 (s54 bs)) (at33 bs) (Scalar.g-room 𝓤 H A W E
+              G56 16 Syntax.tyBool (Scalar.room-sc 𝓤 H A W Row.sBool)) d33
 
-          d35 : Typed.Typed 𝓤 H A 𝓣 E G52 b26 Δ1 at35
-          d35 = Typed.g-pre 𝓤 H A W 𝓣 E G52 G53 b26 Δ1 (Typed.pass T52 T53 s50) at34 (Scalar.g-room 𝓤 H A W E G52 10
-              Laws'''''.mir (Local.room-whole 𝓤 H A W (Declared'.row CircuitFound.the-type) Laws'''''.mir Path.refl))
-              d34
+          d35 : Typed.Typed 𝓤 H A 𝓣 E G55 b29 Δ1 (at35 bs)
+          d35 = Typed.g-pre 𝓤 H A W 𝓣 E G55 G56 b29 Δ1 (Typed.pass T55 T56 (s53 bs)) (at34 bs) (Scalar.g-room 𝓤 H A W E
+              G55 11 Laws''''''.mir (Local.room-whole 𝓤 H A W (Declared'.row CircuitFound.the-type) Laws''''''.mir
+              Path.refl)) d34
 
-          d36 : Typed.Typed 𝓤 H A 𝓣 E G18 b26 Δ1 at36
-          d36 = Typed.g-pre 𝓤 H A W 𝓣 E G18 G52 b26 Δ1 (Typed.pass T18 T52 s49) at35 (Scalar.g-room 𝓤 H A W E G18 7
-              Laws'''.mir (Local.room-whole 𝓤 H A W (Declared'.row RelayPacket.the-type) Laws'''.mir Path.refl)) d35
+          d36 : Typed.Typed 𝓤 H A 𝓣 E G21 b29 Δ1 (at36 bs)
+          d36 = Typed.g-pre 𝓤 H A W 𝓣 E G21 G55 b29 Δ1 (Typed.pass T21 T55 (s52 bs)) (at35 bs) (Scalar.g-room 𝓤 H A W E
+              G21 5 Laws'''''.mir (Local.room-whole 𝓤 H A W (Declared'.row Request.the-type) Laws'''''.mir Path.refl))
+              d35
 
-          d37 : Typed.Typed 𝓤 H A 𝓣 E G18 b27 Δ1 at37
-          d37 = Scalar.t-cond 𝓤 H A W E 𝓣 G18 16 (λ x. x) b25 b26 Δ1 at32 at36 (Scalar.reads-sc 𝓤 H A W Row.sBool)
-              Path.refl d32 d36
+          d37 : Typed.Typed 𝓤 H A 𝓣 E G21 b30 Δ1 (at37 bs)
+          d37 = Scalar.t-cond 𝓤 H A W E 𝓣 G21 16 (λ x. x) b28 b29 Δ1 (at32 bs) (at36 bs)
+              (Scalar.reads-sc 𝓤 H A W Row.sBool) Path.refl d32 d36
 
-          d38 : Typed.Typed 𝓤 H A 𝓣 E G58 b29 Δ0 at38
+          d38 : Typed.Typed 𝓤 H A 𝓣 E G61 b32 Δ0 (at38 bs)
           d38 = Typed.t-return 𝓤 H A W 𝓣 E Δ0 tt
 
-          d39 : Typed.Typed 𝓤 H A 𝓣 E G57 b29 Δ0 at39
-          d39 = Typed.g-pre 𝓤 H A W 𝓣 E G57 G58 b29 Δ0 (Typed.pass T57 T58 s55) at38 (Scalar.g-room 𝓤 H A W E G57 12
-              Laws.mir (Local.room-whole 𝓤 H A W (Declared.row HnsrAnswer.the-type) Laws.mir Path.refl)) d38
+          d39 : Typed.Typed 𝓤 H A 𝓣 E G60 b32 Δ0 (at39 bs)
+          d39 = Typed.g-pre 𝓤 H A W 𝓣 E G60 G61 b32 Δ0 (Typed.pass T60 T61 (s58 bs)) (at38 bs) (Scalar.g-room 𝓤 H A W E
+              G60 12 Laws.mir (Local.room-whole 𝓤 H A W (Declared.row HnsrAnswer.the-type) Laws.mir Path.refl)) d38
 
-          d40 : Typed.Typed 𝓤 H A 𝓣 E G56 b29 Δ0 at40
-          d40 = Typed.g-pre 𝓤 H A W 𝓣 E G56 G57 b29 Δ0 (Typed.pass T56 T57 s54) at39 (Scalar.g-room 𝓤 H A W E G56 6
-              Laws''''''.mir (Local.room-whole 𝓤 H A W (Declared'.row Places.the-type) Laws''''''.mir Path.refl)) d39
+          d40 : Typed.Typed 𝓤 H A 𝓣 E G59 b32 Δ0 (at40 bs)
+          d40 = Typed.g-pre 𝓤 H A W 𝓣 E G59 G60 b32 Δ0 (Typed.pass T59 T60 (s57 bs)) (at39 bs) (Scalar.g-room 𝓤 H A W E
+              G59 8 Laws'''''''.mir (Local.room-whole 𝓤 H A W (Declared'.row Places.the-type) Laws'''''''.mir
+              Path.refl)) d39
 
-          d41 : Typed.Typed 𝓤 H A 𝓣 E G55 b29 Δ0 at41
-          d41 = Typed.g-pre 𝓤 H A W 𝓣 E G55 G56 b29 Δ0 (Typed.pass T55 T56 s53) at40 (Scalar.g-room 𝓤 H A W E G55 5
-              Laws''.mir (Local.room-whole 𝓤 H A W (Declared'.row OpaqueRelayRuntime.the-type) Laws''.mir Path.refl))
-              d40
+          d41 : Typed.Typed 𝓤 H A 𝓣 E G58 b32 Δ0 (at41 bs)
+          d41 = Typed.g-pre 𝓤 H A W 𝓣 E G58 G59 b32 Δ0 (Typed.pass T58 T59 (s56 bs)) (at40 bs) (Scalar.g-room 𝓤 H A W E
+              G58 7 Laws''.mir (Local.room-whole 𝓤 H A W (Declared'.row OpaqueRelayRuntime.the-type) Laws''.mir
+              Path.refl)) d40
 
-          d42 : Typed.Typed 𝓤 H A 𝓣 E G19 b30 Δ0 at42
-          d42 = Typed.s-seq 𝓤 H A W 𝓣 E G19 G55 b28 b29 Δ0 (Typed.both s52) at41 (Plain.t-call-plain 𝓤 H A W 𝓣 0 ps·5
-              r·5 (claims· .10) (claims· .11) "hnsr_circuit::runtime::refused" (known .5) E (λ pos β. β) G19 (
-                record { pos = 5; st = List.[]; d = 0; at = λ x. x },
+          d42 : Typed.Typed 𝓤 H A 𝓣 E G22 b33 Δ0 (at42 bs)
+          d42 = Typed.s-seq 𝓤 H A W 𝓣 E G22 G58 b31 b32 Δ0 (Typed.both (s55 bs)) (at41 bs) (Plain.t-call-plain 𝓤 H A W
+              𝓣 0 ps·4 r·4 (claims· .8) (claims· .9) "hnsr_circuit::runtime::refused" (known .4) E (λ pos β. β) G22 (
+                record { pos = 7; st = List.[]; d = 0; at = λ x. x },
                 (
-                  record { pos = 6; st = List.[]; d = 0; at = λ x. x },
+                  record { pos = 8; st = List.[]; d = 0; at = λ x. x },
                   (record { pos = 12; st = List.[]; d = 0; at = λ x. x }, tt),
                 ),
-              ) 0 List.[] (Call.sub-id 𝓤 H A W (G19 .slots)) (
+              ) 0 List.[] (Call.sub-id 𝓤 H A W (G22 .slots)) (
                 (
                   Yields.yields-copy 𝓤 H A W (λ ρ. Unit) (Declared'.row OpaqueRelayRuntime.the-type) Path.refl (Copies.cStruct
                       OpaqueRelayRuntime.the-type Laws''.the-laws Laws''.the-copy .copy 𝓤 H A W)
@@ -2118,7 +2106,7 @@ module _ (claims· : Claims) where
                 (
                   (
                     Yields.yields-copy 𝓤 H A W (λ ρ. Unit) (Declared'.row Places.the-type) Path.refl (Copies.cStruct
-                        Places.the-type Laws''''''.the-laws Laws''''''.the-copy .copy 𝓤 H A W)
+                        Places.the-type Laws'''''''.the-laws Laws'''''''.the-copy .copy 𝓤 H A W)
                         (Rows.whole (Declared'.row Places.the-type)) (λ x. x) (λ x. x) (λ ρ told. Local.mem-whole 𝓤 H A
                         W (Declared'.row Places.the-type) ρ) λ ρ told. Local.whole-mem 𝓤 H A W
                         (Declared'.row Places.the-type) ρ,
@@ -2138,13 +2126,13 @@ module _ (claims· : Claims) where
                 ),
               ) (Reads'.room-gone 𝓤 H A Laws''''.mir) tt Path.refl) d41
 
-          d43 : Typed.Typed 𝓤 H A 𝓣 E G18 b31 Δ0 at43
-          d43 = Typed.t-seq 𝓤 H A W 𝓣 E G18 G19 b27 b30 Δ0 at37 at42 d37 d42
+          d43 : Typed.Typed 𝓤 H A 𝓣 E G21 b34 Δ0 (at43 bs)
+          d43 = Typed.t-seq 𝓤 H A W 𝓣 E G21 G22 b30 b33 Δ0 (at37 bs) (at42 bs) d37 d42
 
-          d44 : Typed.Typed 𝓤 H A 𝓣 E G17 b32 Δ0 at44
-          d44 = Typed.s-seq 𝓤 H A W 𝓣 E G17 G18 b6 b31 Δ0 (Typed.both s16) at43 (Plain.t-call-plain 𝓤 H A W 𝓣 0 ps·3
-              r·3 (claims· .6) (claims· .7) "hnsr_circuit::answer::is_taken" (known .3) E (λ pos β. β) G17
-              (record { pos = 12; st = List.[]; d = 0; at = λ x. x }, tt) 16 List.[] (Call.sub-id 𝓤 H A W (G17 .slots)) (
+          d44 : Typed.Typed 𝓤 H A 𝓣 E G20 b35 Δ0 (at44 bs)
+          d44 = Typed.s-seq 𝓤 H A W 𝓣 E G20 G21 b9 b34 Δ0 (Typed.both (s19 bs)) (at43 bs) (Plain.t-call-plain 𝓤 H A W 𝓣
+              0 ps·2 r·2 (claims· .4) (claims· .5) "hnsr_circuit::answer::is_taken" (known .2) E (λ pos β. β) G20
+              (record { pos = 12; st = List.[]; d = 0; at = λ x. x }, tt) 16 List.[] (Call.sub-id 𝓤 H A W (G20 .slots)) (
                 (
                   Yields.yields-copy 𝓤 H A W (λ ρ. Unit) (Declared.row HnsrAnswer.the-type) Path.refl (Copies.cEnum
                       HnsrAnswer.the-type Laws.the-laws Laws.the-copy .copy 𝓤 H A W)
@@ -2156,23 +2144,24 @@ module _ (claims· : Claims) where
                 tt,
               ) (Reads'.room-gone 𝓤 H A Syntax.tyBool) tt Path.refl) d43
 
-          d45 : Typed.Typed 𝓤 H A 𝓣 E G16 b32 Δ0 at45
-          d45 = Typed.g-pre 𝓤 H A W 𝓣 E G16 G17 b32 Δ0 (Typed.pass T16 T17 s15) at44 (Scalar.g-room 𝓤 H A W E G16 15
-              (Syntax.tyInt Syntax.w64) (Scalar.room-sc 𝓤 H A W (Row.sInt Syntax.w64))) d44
+          d45 : Typed.Typed 𝓤 H A 𝓣 E G19 b35 Δ0 (at45 bs)
+          d45 = Typed.g-pre 𝓤 H A W 𝓣 E G19 G20 b35 Δ0 (Typed.pass T19 T20 (s18 bs)) (at44 bs) (Scalar.g-room 𝓤 H A W E
+              G19 15 (Syntax.tyInt Syntax.w64) (Scalar.room-sc 𝓤 H A W (Row.sInt Syntax.w64))) d44
 
-          d46 : Typed.Typed 𝓤 H A 𝓣 E G15 b32 Δ0 at46
-          d46 = Typed.g-pre 𝓤 H A W 𝓣 E G15 G16 b32 Δ0 (Typed.pass T15 T16 s14) at45 (Scalar.g-room 𝓤 H A W E G15 11
-              Laws'.mir (Local.room-whole 𝓤 H A W (Declared'.row HnsrPeerId.the-type) Laws'.mir Path.refl)) d45
+          d46 : Typed.Typed 𝓤 H A 𝓣 E G18 b35 Δ0 (at46 bs)
+          d46 = Typed.g-pre 𝓤 H A W 𝓣 E G18 G19 b35 Δ0 (Typed.pass T18 T19 (s17 bs)) (at45 bs) (Scalar.g-room 𝓤 H A W E
+              G18 10 Laws'.mir (Local.room-whole 𝓤 H A W (Declared'.row HnsrPeerId.the-type) Laws'.mir Path.refl)) d45
 
-          d47 : Typed.Typed 𝓤 H A 𝓣 E G14 b33 Δ0 at47
-          d47 = Typed.s-seq 𝓤 H A W 𝓣 E G14 G15 b5 b32 Δ0 (Typed.both s13) at46 (Plain.t-call-plain 𝓤 H A W 𝓣 0 ps·2
-              r·2 (claims· .4) (claims· .5) "hnsr_circuit::messages::data::data_entry" (known .2) E (λ pos β. β) G14 (
-                record { pos = 10; st = List.[]; d = 0; at = λ x. x },
-                (record { pos = 11; st = List.[]; d = 0; at = λ x. x }, (Num.vAt 15 λ x. x, tt)),
-              ) 12 List.[] (Call.sub-id 𝓤 H A W (G14 .slots)) (
+          d47 : Typed.Typed 𝓤 H A 𝓣 E G17 b36 Δ0 (at47 bs)
+          d47 = Typed.s-seq 𝓤 H A W 𝓣 E G17 G18 b8 b35 Δ0 (Typed.both (s16 bs)) (at46 bs) (Plain.t-call-plain 𝓤 H A W 𝓣
+              0 ps·1 r·1 (claims· .2) (claims· .3) "hnsr_circuit::messages::data::data_entry" (known .1) E (λ pos β. β)
+              G17 (
+                record { pos = 11; st = List.[]; d = 0; at = λ x. x },
+                (record { pos = 10; st = List.[]; d = 0; at = λ x. x }, (Num.vAt 15 λ x. x, tt)),
+              ) 12 List.[] (Call.sub-id 𝓤 H A W (G17 .slots)) (
                 (
                   Yields.yields-copy 𝓤 H A W (λ ρ. Unit) (Declared'.row CircuitFound.the-type) Path.refl (Copies.cStruct
-                      CircuitFound.the-type Laws'''''.the-laws Laws'''''.the-copy .copy 𝓤 H A W)
+                      CircuitFound.the-type Laws''''''.the-laws Laws''''''.the-copy .copy 𝓤 H A W)
                       (Rows.whole (Declared'.row CircuitFound.the-type)) (λ x. x) (λ x. x) (λ ρ told. Local.mem-whole 𝓤
                       H A W (Declared'.row CircuitFound.the-type) ρ) λ ρ told. Local.whole-mem 𝓤 H A W
                       (Declared'.row CircuitFound.the-type) ρ,
@@ -2191,58 +2180,55 @@ module _ (claims· : Claims) where
                 ),
               ) (Reads'.room-gone 𝓤 H A Laws.mir) tt Path.refl) d46
 
-          d48 : Typed.Typed 𝓤 H A 𝓣 E G13 b34 Δ0 at48
-          d48 = Typed.s-seq 𝓤 H A W 𝓣 E G13 G14 b4 b33 Δ0 (Typed.pass T13 T14 s12) at47 (Scalar.t-use 𝓤 H A W E 𝓣 G13 (Scalar.oFld
-              9 ((Syntax.field 1) ∷ List.[]) (Syntax.tyInt Syntax.w64) 8 Shared.lenV) 15
+          d48 : Typed.Typed 𝓤 H A 𝓣 E G16 b37 Δ0 (at48 bs)
+          d48 = Typed.s-seq 𝓤 H A W 𝓣 E G16 G17 b7 b36 Δ0 (Typed.pass T15 T17 (s15 bs)) (at47 bs) (Scalar.t-use 𝓤 H A W
+              E 𝓣 G16 (Scalar.oFld 6 ((Syntax.field 1) ∷ List.[]) (Syntax.tyInt Syntax.w64) 8 Shared.lenV) 15
               (Rows.sc-here (Row.sInt Syntax.w64)) (Syntax.tyInt Syntax.w64) (Row.valS (Row.sInt Syntax.w64))
               (Row.sInt Syntax.w64 .of) (
-                Shared.reads-sslice-len 𝓤 H A W (Referent.rtF (Referent.fInt Syntax.w8)) ref10 5 8 Path.refl,
+                Shared.reads-sslice-len 𝓤 H A W (Referent.rtF (Referent.fInt Syntax.w8)) ref9 4 8 Path.refl,
                 Path.refl,
               ) (Reads'.room-gone 𝓤 H A (Syntax.tyInt Syntax.w64)) (Scalar.holds-sc 𝓤 H A W (Row.sInt Syntax.w64))
               Path.refl (λ u. Path.refl) λ u. tt) d47
 
-          d49 : Typed.Typed 𝓤 H A 𝓣 E G12 b35 Δ0 at49
-          d49 = Typed.s-seq 𝓤 H A W 𝓣 E G12 G13 b3 b34 Δ0 (Typed.both s11) at48 (Plain.t-call-plain 𝓤 H A W 𝓣 1 ps·1
-              r·1 (claims· .2) (claims· .3) "hnsr_circuit::peer::peer_of" (known .1) E (λ pos β. β) G12
-              (record { pos = 8; ty = ref9; ref = λ x. x }, tt) 11 (4 ∷ List.[]) (Call.sub-id 𝓤 H A W (G12 .slots)) (
-                ShrSlice.spares-sslice 𝓤 H A W (Referent.rtF (Referent.fInt Syntax.w8)) ref9 4,
-                Shared.reads-sslice 𝓤 H A W (Referent.rtF (Referent.fInt Syntax.w8)) ref9 4,
-                Path.refl,
-                tt,
-              ) (Reads'.room-gone 𝓤 H A Laws'.mir) (tt, tt) Path.refl) d48
+          d49 : Typed.Typed 𝓤 H A 𝓣 E G15 b37 Δ0 (at49 bs)
+          d49 = Typed.g-pre 𝓤 H A W 𝓣 E G15 G16 b37 Δ0 (λ Ψ. Ψ) (at48 bs)
+              (Lifetime.g-forget 𝓤 H A W E G15 5 Row.dead Path.refl) d48
 
-          d50 : Typed.Typed 𝓤 H A 𝓣 E G11 b35 Δ0 at50
-          d50 = Typed.g-pre 𝓤 H A W 𝓣 E G11 G12 b35 Δ0 (λ Ψ. Ψ) at49
-              (Lifetime.g-forget 𝓤 H A W E G11 6 Row.dead Path.refl) d49
+          d50 : Typed.Typed 𝓤 H A 𝓣 E G14 b37 Δ0 (at50 bs)
+          d50 = Typed.g-pre 𝓤 H A W 𝓣 E G14 G15 b37 Δ0 (Typed.pass T13 T15 (s13 bs)) (at49 bs) (Reshare.g-back-sl-shr 𝓤
+              H A W E RelayCircuit.row G14 1 0 5 ref5 life0 (λ x. x) (Reads'.as-is 𝓤 H A
+              (Reshare.mslice-owedS RelayCircuit.row ref5 0 5 life0)) Path.refl Path.refl) d49
 
-          d51 : Typed.Typed 𝓤 H A 𝓣 E G10 b35 Δ0 at51
-          d51 = Typed.g-pre 𝓤 H A W 𝓣 E G10 G11 b35 Δ0 (Typed.pass T9 T11 s9) at50 (Reshare.g-back-sl-shr 𝓤 H A W E
-              RelayCircuit.row G10 1 0 6 ref5 life0 (λ x. x) (Reads'.as-is 𝓤 H A
-              (Reshare.mslice-owedS RelayCircuit.row ref5 0 6 life0)) Path.refl Path.refl) d50
+          d51 : Typed.Typed 𝓤 H A 𝓣 E G13 b37 Δ0 (at51 bs)
+          d51 = Typed.g-pre 𝓤 H A W 𝓣 E G13 G14 b37 Δ0 (λ Ψ. Ψ) (at50 bs) (Lifetime.g-end 𝓤 H A W E G13 5 Path.refl)
+              d50
 
-          d52 : Typed.Typed 𝓤 H A 𝓣 E G9 b35 Δ0 at52
-          d52 = Typed.g-pre 𝓤 H A W 𝓣 E G9 G10 b35 Δ0 (λ Ψ. Ψ) at51 (Lifetime.g-end 𝓤 H A W E G9 6 Path.refl) d51
+          d52 : Typed.Typed 𝓤 H A 𝓣 E G12 b37 Δ0 (at52 bs)
+          d52 = Typed.g-pre 𝓤 H A W 𝓣 E G12 G13 b37 Δ0 (Typed.pass T12 T13 (s11 bs)) (at51 bs) (Scalar.g-room 𝓤 H A W E
+              G12 9 Laws'''.mir (Local.room-whole 𝓤 H A W (Declared'.row RelayPacket.the-type) Laws'''.mir Path.refl))
+              d51
 
-          d53 : Typed.Typed 𝓤 H A 𝓣 E G8 b35 Δ0 at53
-          d53 = Typed.g-pre 𝓤 H A W 𝓣 E G8 G9 b35 Δ0 (Typed.pass T8 T9 s7) at52 (Scalar.g-room 𝓤 H A W E G8 14 slice0
-              (Shared.room-sslice 𝓤 H A W RelayCircuit.row ref0 6)) d52
+          d53 : Typed.Typed 𝓤 H A 𝓣 E G11 b37 Δ0 (at53 bs)
+          d53 = Typed.g-pre 𝓤 H A W 𝓣 E G11 G12 b37 Δ0 (Typed.pass T11 T12 (s10 bs)) (at52 bs) (Scalar.g-room 𝓤 H A W E
+              G11 14 slice0 (Shared.room-sslice 𝓤 H A W RelayCircuit.row ref0 5)) d52
 
-          d54 : Typed.Typed 𝓤 H A 𝓣 E G7 b36 Δ0 at54
-          d54 = Typed.s-seq 𝓤 H A W 𝓣 E G7 G8 b2 b35 Δ0 (Typed.both s6) at53 (Plain.t-call-plain 𝓤 H A W 𝓣 1 ps·0 r·0
-              (claims· .0) (claims· .1) "hnsr_circuit::tables::lookup::circuit_by_id" (known .0) E (λ pos β. β) G7 (
+          d54 : Typed.Typed 𝓤 H A 𝓣 E G10 b38 Δ0 (at54 bs)
+          d54 = Typed.s-seq 𝓤 H A W 𝓣 E G10 G11 b6 b37 Δ0 (Typed.both (s9 bs)) (at53 bs) (Plain.t-call-plain 𝓤 H A W 𝓣
+              1 ps·0 r·0 (claims· .0) (claims· .1) "hnsr_circuit::tables::lookup::circuit_by_id" (known .0) E
+              (λ pos β. β) G10 (
                 record { pos = 14; ty = ref0; ref = λ x. x },
                 (
-                  record { pos = 6; st = List.[]; d = 0; at = λ x. x },
-                  (Num.vFld 7 ((Syntax.field 1) ∷ List.[]) 8 λ x. RelayPacket.struct .as-values x .1 .0, tt),
+                  record { pos = 8; st = List.[]; d = 0; at = λ x. x },
+                  (Num.vFld 9 ((Syntax.field 1) ∷ List.[]) 8 λ x. RelayPacket.struct .as-values x .1 .0, tt),
                 ),
-              ) 10 (6 ∷ List.[]) (Call.sub-id 𝓤 H A W (G7 .slots)) (
-                ShrSlice.spares-sslice 𝓤 H A W RelayCircuit.row ref0 6,
-                Shared.reads-sslice 𝓤 H A W RelayCircuit.row ref0 6,
+              ) 11 (5 ∷ List.[]) (Call.sub-id 𝓤 H A W (G10 .slots)) (
+                ShrSlice.spares-sslice 𝓤 H A W RelayCircuit.row ref0 5,
+                Shared.reads-sslice 𝓤 H A W RelayCircuit.row ref0 5,
                 Path.refl,
                 (
                   (
                     Yields.yields-copy 𝓤 H A W (λ ρ. Unit) (Declared'.row Places.the-type) Path.refl (Copies.cStruct
-                        Places.the-type Laws''''''.the-laws Laws''''''.the-copy .copy 𝓤 H A W)
+                        Places.the-type Laws'''''''.the-laws Laws'''''''.the-copy .copy 𝓤 H A W)
                         (Rows.whole (Declared'.row Places.the-type)) (λ x. x) (λ x. x) (λ ρ told. Local.mem-whole 𝓤 H A
                         W (Declared'.row Places.the-type) ρ) λ ρ told. Local.whole-mem 𝓤 H A W
                         (Declared'.row Places.the-type) ρ,
@@ -2257,25 +2243,25 @@ module _ (claims· : Claims) where
                     tt,
                   ),
                 ),
-              ) (Reads'.room-gone 𝓤 H A Laws'''''.mir) (tt, tt) Path.refl) d53
+              ) (Reads'.room-gone 𝓤 H A Laws''''''.mir) (tt, tt) Path.refl) d53
 
-          d55 : Typed.Typed 𝓤 H A 𝓣 E G6 b37 Δ0 at55
-          d55 = Typed.s-seq 𝓤 H A W 𝓣 E G6 G7 b1 b36 Δ0 (Typed.ask s5) at54 (Relend.t-sl-aggregate 𝓤 H A W E
-              RelayCircuit.row 𝓣 (Relend.asShr RelayCircuit.row) G6 13 14 6 ref0 ref0 (λ x. x) (Scalar.oFld 1
+          d55 : Typed.Typed 𝓤 H A 𝓣 E G9 b39 Δ0 (at55 bs)
+          d55 = Typed.s-seq 𝓤 H A W 𝓣 E G9 G10 b5 b38 Δ0 (Typed.ask (s8 bs)) (at54 bs) (Relend.t-sl-aggregate 𝓤 H A W E
+              RelayCircuit.row 𝓣 (Relend.asShr RelayCircuit.row) G9 13 14 5 ref0 ref0 (λ x. x) (Scalar.oFld 1
               ((Syntax.field 1) ∷ List.[]) (Syntax.tyInt Syntax.w64) 8 λ v. Shared.lenV (v .0))
-              (Reads'.as-is 𝓤 H A (Relend.ssptr RelayCircuit.row ref0 6)) (Reads'.room-gone 𝓤 H A slice0) (
-                Reshare.reads-owedS-len 𝓤 H A W RelayCircuit.row ref5 0 6 life0 8 Path.refl,
+              (Reads'.as-is 𝓤 H A (Relend.ssptr RelayCircuit.row ref0 5)) (Reads'.room-gone 𝓤 H A slice0) (
+                Reshare.reads-owedS-len 𝓤 H A W RelayCircuit.row ref5 0 5 life0 8 Path.refl,
                 Path.refl,
               ) Path.refl Path.refl λ b o k. tt) d54
 
-          d56 : Typed.Typed 𝓤 H A 𝓣 E G5 b38 Δ0 at56
-          d56 = Typed.s-seq 𝓤 H A W 𝓣 E G5 G6 b0 b37 Δ0 (Typed.give s4) at55 (Reshare.t-sl-reshare 𝓤 H A W E
-              RelayCircuit.row 𝓣 G5 1 13 0 6 ref5 ref0 life0 0 (λ x. x)
+          d56 : Typed.Typed 𝓤 H A 𝓣 E G8 b40 Δ0 (at56 bs)
+          d56 = Typed.s-seq 𝓤 H A W 𝓣 E G8 G9 b4 b39 Δ0 (Typed.give (s7 bs)) (at55 bs) (Reshare.t-sl-reshare 𝓤 H A W E
+              RelayCircuit.row 𝓣 G8 1 13 0 5 ref5 ref0 life0 0 (λ x. x)
               (Reads'.as-is 𝓤 H A (Mut.mslice RelayCircuit.row ref5 0)) (Reads'.room-gone 𝓤 H A ref0) Path.refl tt
               Path.refl Path.refl Path.refl λ b o. tt) d55
 
-          d57 : Typed.Typed 𝓤 H A 𝓣 E G4 b38 Δ0 at57
-          d57 = Typed.g-pre 𝓤 H A W 𝓣 E G4 G5 b38 Δ0 (λ Ψ. Ψ) at56 (Lifetime.g-begin 𝓤 H A W E G4 6 (
+          d57 : Typed.Typed 𝓤 H A 𝓣 E G7 b40 Δ0 (at57 bs)
+          d57 = Typed.g-pre 𝓤 H A W 𝓣 E G7 G8 b40 Δ0 (λ Ψ. Ψ) (at56 bs) (Lifetime.g-begin 𝓤 H A W E G7 5 (
             tt,
             (
               tt,
@@ -2310,459 +2296,770 @@ module _ (claims· : Claims) where
             ),
           )) d56
 
-          d58 : Typed.Typed 𝓤 H A 𝓣 E G3 b38 Δ0 at58
-          d58 = Typed.g-pre 𝓤 H A W 𝓣 E G3 G4 b38 Δ0 (Typed.give s2) at57 (Know.g-shs-known 𝓤 H A W
-              (Referent.fInt Syntax.w8) E G3 9 5 ref10 life5 0 (λ x. x) record { fits = Dec.lit< tt } (Reads'.as-is 𝓤 H
-              A (Rows.sslice (Referent.rtF (Referent.fInt Syntax.w8)) ref10 5)) Path.refl tt) d57
+          d58 : Typed.Typed 𝓤 H A 𝓣 E G6 b41 Δ0 (at58 bs)
+          d58 = Typed.s-seq 𝓤 H A W 𝓣 E G6 G7 b3 b40 Δ0 (Typed.both (s5 bs)) (at57 bs) (WayStmt.t-way-copy-out 𝓤 H A W
+              E 𝓣 (Declared'.row HnsrPeerId.the-type) Path.refl (Copies.cStruct HnsrPeerId.the-type Laws'.the-laws
+              Laws'.the-copy .copy 𝓤 H A W) (λ ρ. Unit) G6 (Row.out 5 (G6 .locals)) (λ u. Row.drop 5 (G6 .locals) u)
+              (G6 .slots) 5 (λ t. (Syntax.field 3) ∷ t) Laws'.mir Laws'.mir 10
+              (Rows.whole (Declared'.row HnsrPeerId.the-type)) (λ x. x) (λ u. At.getAt (Request.the-type .parts) 3
+              (Request.struct .as-values (u .1 .1 .1 .1 .1 .0))) (λ u. (
+                Row.hd 0 (Row.tl (Row.tl (Row.tl (Row.tl (Row.tl bs))))),
+                Nat._+_ 0 272,
+              )) (λ T′. record {
+                locals = Row.setRow 5 (5, Rows.whole (Declared'.row Request.the-type)) T′;
+                slots = G6 .slots;
+              }) (λ u T′ m′. Row.set 5 (5, Rows.whole (Declared'.row Request.the-type)) (u .1 .1 .1 .1 .1 .0) T′ m′)
+              (λ u. Unit) (λ x. Unit) (Own.told-none 𝓤 H A (G6 .slots)) (DerefMove.learns-nothing 𝓤 H A
+              (Declared'.row HnsrPeerId.the-type)) (λ ρ told u asked. Way'.w-partˢ 𝓤 H A W E
+              (Declared'.row Request.the-type) (Declared'.row HnsrPeerId.the-type) Laws'''''.mir Laws'.mir 3 272
+              (u .1 .1 .1 .1 .1 .0) (At.getAt (Request.the-type .parts) 3
+              (Request.struct .as-values (u .1 .1 .1 .1 .1 .0))) (
+                Row.hd 0 (Row.tl (Row.tl (Row.tl (Row.tl (Row.tl bs))))),
+                0,
+              ) (Way.w-look 𝓤 H A W E (Way.w-local 𝓤 H A W E G6 ρ u (G6 .slots) 5 (Declared'.row Request.the-type)
+              (Rows.whole (Declared'.row Request.the-type)) (λ x. x) (λ x. x) (u .1 .1 .1 .1 .1 .0) (Local.mem-whole 𝓤
+              H A W (Declared'.row Request.the-type) ρ (u .1 .1 .1 .1 .1 .0)
+              (Row.hd 0 (Row.tl (Row.tl (Row.tl (Row.tl (Row.tl bs))))))) (Local.whole-mem 𝓤 H A W
+              (Declared'.row Request.the-type) ρ (u .1 .1 .1 .1 .1 .0) (Row.hd 0
+              (Row.tl (Row.tl (Row.tl (Row.tl (Row.tl bs))))))))) Path.refl λ q. Inner.cut-record 𝓤 H A q
+              (Declared'.row Request.the-type) HnsrPeerId.the-type 272 (u .1 .1 .1 .1 .1 .0) (u .1 .1 .1 .1 .1 .0) (At.getAt
+              (Request.the-type .parts) 3 (Request.struct .as-values (u .1 .1 .1 .1 .1 .0))) (At.getAt
+              (Request.the-type .parts) 3 (Request.struct .as-values (u .1 .1 .1 .1 .1 .0))) (
+                Row.hd 0 (Row.tl (Row.tl (Row.tl (Row.tl (Row.tl bs))))),
+                0,
+              ) (Behind.look-at 𝓤 H A W q Request.the-type Laws'''''.the-laws 3 272 Path.refl Path.refl (
+                Row.hd 0 (Row.tl (Row.tl (Row.tl (Row.tl (Row.tl bs))))),
+                0,
+              ) (u .1 .1 .1 .1 .1 .0) (Request.struct .as-values (u .1 .1 .1 .1 .1 .0)) Path.refl))
+              (Reads'.room-gone 𝓤 H A Laws'.mir) (Yields.makes-mem 𝓤 H A W (λ ρ. Unit)
+              (Declared'.row HnsrPeerId.the-type) Path.refl (Rows.whole (Declared'.row HnsrPeerId.the-type)) (λ x. x)
+              λ ρ told. Local.whole-mem 𝓤 H A W (Declared'.row HnsrPeerId.the-type) ρ) Path.refl Path.refl Path.refl)
+              d57
 
-          d59 : Typed.Typed 𝓤 H A 𝓣 E G2 b38 Δ0 at59
-          d59 = Typed.g-pre 𝓤 H A W 𝓣 E G2 G3 b38 Δ0 (Typed.give s1) at58 (Know.g-shs-known 𝓤 H A W
-              (Referent.fInt Syntax.w8) E G2 8 4 ref9 life4 0 (λ x. x) record { fits = Dec.lit< tt } (Reads'.as-is 𝓤 H
-              A (Rows.sslice (Referent.rtF (Referent.fInt Syntax.w8)) ref9 4)) Path.refl tt) d58
+          d59 : Typed.Typed 𝓤 H A 𝓣 E G5 b42 Δ0 (at59 bs)
+          d59 = Typed.s-seq 𝓤 H A W 𝓣 E G5 G6 b2 b41 Δ0 (Typed.both (s4 bs)) (at58 bs) (WayStmt.t-way-copy-out 𝓤 H A W
+              E 𝓣 (Declared'.row RelayPacket.the-type) Path.refl (Copies.cStruct RelayPacket.the-type Laws'''.the-laws
+              Laws'''.the-copy .copy 𝓤 H A W) (λ ρ. Unit) G5 (Row.out 5 (G5 .locals)) (λ u. Row.drop 5 (G5 .locals) u)
+              (G5 .slots) 5 (λ t. (Syntax.field 2) ∷ t) Laws'''.mir Laws'''.mir 9
+              (Rows.whole (Declared'.row RelayPacket.the-type)) (λ x. x) (λ u. At.getAt (Request.the-type .parts) 2
+              (Request.struct .as-values (u .1 .1 .1 .1 .1 .0))) (λ u. (
+                Row.hd 0 (Row.tl (Row.tl (Row.tl (Row.tl (Row.tl bs))))),
+                Nat._+_ 0 192,
+              )) (λ T′. record {
+                locals = Row.setRow 5 (5, Rows.whole (Declared'.row Request.the-type)) T′;
+                slots = G5 .slots;
+              }) (λ u T′ m′. Row.set 5 (5, Rows.whole (Declared'.row Request.the-type)) (u .1 .1 .1 .1 .1 .0) T′ m′)
+              (λ u. Unit) (λ x. Unit) (Own.told-none 𝓤 H A (G5 .slots)) (DerefMove.learns-nothing 𝓤 H A
+              (Declared'.row RelayPacket.the-type)) (λ ρ told u asked. Way'.w-partˢ 𝓤 H A W E
+              (Declared'.row Request.the-type) (Declared'.row RelayPacket.the-type) Laws'''''.mir Laws'''.mir 2 192
+              (u .1 .1 .1 .1 .1 .0) (At.getAt (Request.the-type .parts) 2
+              (Request.struct .as-values (u .1 .1 .1 .1 .1 .0))) (
+                Row.hd 0 (Row.tl (Row.tl (Row.tl (Row.tl (Row.tl bs))))),
+                0,
+              ) (Way.w-look 𝓤 H A W E (Way.w-local 𝓤 H A W E G5 ρ u (G5 .slots) 5 (Declared'.row Request.the-type)
+              (Rows.whole (Declared'.row Request.the-type)) (λ x. x) (λ x. x) (u .1 .1 .1 .1 .1 .0) (Local.mem-whole 𝓤
+              H A W (Declared'.row Request.the-type) ρ (u .1 .1 .1 .1 .1 .0)
+              (Row.hd 0 (Row.tl (Row.tl (Row.tl (Row.tl (Row.tl bs))))))) (Local.whole-mem 𝓤 H A W
+              (Declared'.row Request.the-type) ρ (u .1 .1 .1 .1 .1 .0) (Row.hd 0
+              (Row.tl (Row.tl (Row.tl (Row.tl (Row.tl bs))))))))) Path.refl λ q. Inner.cut-record 𝓤 H A q
+              (Declared'.row Request.the-type) RelayPacket.the-type 192 (u .1 .1 .1 .1 .1 .0) (u .1 .1 .1 .1 .1 .0) (At.getAt
+              (Request.the-type .parts) 2 (Request.struct .as-values (u .1 .1 .1 .1 .1 .0))) (At.getAt
+              (Request.the-type .parts) 2 (Request.struct .as-values (u .1 .1 .1 .1 .1 .0))) (
+                Row.hd 0 (Row.tl (Row.tl (Row.tl (Row.tl (Row.tl bs))))),
+                0,
+              ) (Behind.look-at 𝓤 H A W q Request.the-type Laws'''''.the-laws 2 192 Path.refl Path.refl (
+                Row.hd 0 (Row.tl (Row.tl (Row.tl (Row.tl (Row.tl bs))))),
+                0,
+              ) (u .1 .1 .1 .1 .1 .0) (Request.struct .as-values (u .1 .1 .1 .1 .1 .0)) Path.refl))
+              (Reads'.room-gone 𝓤 H A Laws'''.mir) (Yields.makes-mem 𝓤 H A W (λ ρ. Unit)
+              (Declared'.row RelayPacket.the-type) Path.refl (Rows.whole (Declared'.row RelayPacket.the-type)) (λ x. x)
+              λ ρ told. Local.whole-mem 𝓤 H A W (Declared'.row RelayPacket.the-type) ρ) Path.refl Path.refl Path.refl)
+              d58
 
-          d60 : Typed.Typed 𝓤 H A 𝓣 E G0 b38 Δ0 at60
-          d60 = Typed.g-pre 𝓤 H A W 𝓣 E G0 G2 b38 Δ0 (Typed.give s0) at59 (Know.g-sl-known 𝓤 H A W
+          d60 : Typed.Typed 𝓤 H A 𝓣 E G4 b43 Δ0 (at60 bs)
+          d60 = Typed.s-seq 𝓤 H A W 𝓣 E G4 G5 b1 b42 Δ0 (Typed.both (s3 bs)) (at59 bs) (WayStmt.t-way-copy-out 𝓤 H A W
+              E 𝓣 (Declared'.row Places.the-type) Path.refl (Copies.cStruct Places.the-type Laws'''''''.the-laws
+              Laws'''''''.the-copy .copy 𝓤 H A W) (λ ρ. Unit) G4 (Row.out 5 (G4 .locals))
+              (λ u. Row.drop 5 (G4 .locals) u) (G4 .slots) 5 (λ t. (Syntax.field 1) ∷ t) Laws'''''''.mir
+              Laws'''''''.mir 8 (Rows.whole (Declared'.row Places.the-type)) (λ x. x) (λ u. At.getAt
+              (Request.the-type .parts) 1 (Request.struct .as-values (u .1 .1 .1 .1 .1 .0))) (λ u. (
+                Row.hd 0 (Row.tl (Row.tl (Row.tl (Row.tl (Row.tl bs))))),
+                Nat._+_ 0 160,
+              )) (λ T′. record {
+                locals = Row.setRow 5 (5, Rows.whole (Declared'.row Request.the-type)) T′;
+                slots = G4 .slots;
+              }) (λ u T′ m′. Row.set 5 (5, Rows.whole (Declared'.row Request.the-type)) (u .1 .1 .1 .1 .1 .0) T′ m′)
+              (λ u. Unit) (λ x. Unit) (Own.told-none 𝓤 H A (G4 .slots)) (DerefMove.learns-nothing 𝓤 H A
+              (Declared'.row Places.the-type)) (λ ρ told u asked. Way'.w-partˢ 𝓤 H A W E
+              (Declared'.row Request.the-type) (Declared'.row Places.the-type) Laws'''''.mir Laws'''''''.mir 1 160
+              (u .1 .1 .1 .1 .1 .0) (At.getAt (Request.the-type .parts) 1
+              (Request.struct .as-values (u .1 .1 .1 .1 .1 .0))) (
+                Row.hd 0 (Row.tl (Row.tl (Row.tl (Row.tl (Row.tl bs))))),
+                0,
+              ) (Way.w-look 𝓤 H A W E (Way.w-local 𝓤 H A W E G4 ρ u (G4 .slots) 5 (Declared'.row Request.the-type)
+              (Rows.whole (Declared'.row Request.the-type)) (λ x. x) (λ x. x) (u .1 .1 .1 .1 .1 .0) (Local.mem-whole 𝓤
+              H A W (Declared'.row Request.the-type) ρ (u .1 .1 .1 .1 .1 .0)
+              (Row.hd 0 (Row.tl (Row.tl (Row.tl (Row.tl (Row.tl bs))))))) (Local.whole-mem 𝓤 H A W
+              (Declared'.row Request.the-type) ρ (u .1 .1 .1 .1 .1 .0) (Row.hd 0
+              (Row.tl (Row.tl (Row.tl (Row.tl (Row.tl bs))))))))) Path.refl λ q. Inner.cut-record 𝓤 H A q
+              (Declared'.row Request.the-type) Places.the-type 160 (u .1 .1 .1 .1 .1 .0) (u .1 .1 .1 .1 .1 .0) (At.getAt
+              (Request.the-type .parts) 1 (Request.struct .as-values (u .1 .1 .1 .1 .1 .0))) (At.getAt
+              (Request.the-type .parts) 1 (Request.struct .as-values (u .1 .1 .1 .1 .1 .0))) (
+                Row.hd 0 (Row.tl (Row.tl (Row.tl (Row.tl (Row.tl bs))))),
+                0,
+              ) (Behind.look-at 𝓤 H A W q Request.the-type Laws'''''.the-laws 1 160 Path.refl Path.refl (
+                Row.hd 0 (Row.tl (Row.tl (Row.tl (Row.tl (Row.tl bs))))),
+                0,
+              ) (u .1 .1 .1 .1 .1 .0) (Request.struct .as-values (u .1 .1 .1 .1 .1 .0)) Path.refl))
+              (Reads'.room-gone 𝓤 H A Laws'''''''.mir) (Yields.makes-mem 𝓤 H A W (λ ρ. Unit)
+              (Declared'.row Places.the-type) Path.refl (Rows.whole (Declared'.row Places.the-type)) (λ x. x) λ ρ told.
+              Local.whole-mem 𝓤 H A W (Declared'.row Places.the-type) ρ) Path.refl Path.refl Path.refl) d59
+
+          d61 : Typed.Typed 𝓤 H A 𝓣 E G3 b44 Δ0 (at61 bs)
+          d61 = Typed.s-seq 𝓤 H A W 𝓣 E G3 G4 b0 b43 Δ0 (Typed.both (s2 bs)) (at60 bs) (WayStmt.t-way-copy-out 𝓤 H A W
+              E 𝓣 (Declared'.row OpaqueRelayRuntime.the-type) Path.refl (Copies.cStruct OpaqueRelayRuntime.the-type
+              Laws''.the-laws Laws''.the-copy .copy 𝓤 H A W) (λ ρ. Unit) G3 (Row.out 5 (G3 .locals))
+              (λ u. Row.drop 5 (G3 .locals) u) (G3 .slots) 5 (λ t. (Syntax.field 0) ∷ t) Laws''.mir Laws''.mir 7
+              (Rows.whole (Declared'.row OpaqueRelayRuntime.the-type)) (λ x. x) (λ u. At.getAt
+              (Request.the-type .parts) 0 (Request.struct .as-values (u .1 .1 .1 .1 .1 .0))) (λ u. (
+                Row.hd 0 (Row.tl (Row.tl (Row.tl (Row.tl (Row.tl bs))))),
+                Nat._+_ 0 0,
+              )) (λ T′. record {
+                locals = Row.setRow 5 (5, Rows.whole (Declared'.row Request.the-type)) T′;
+                slots = G3 .slots;
+              }) (λ u T′ m′. Row.set 5 (5, Rows.whole (Declared'.row Request.the-type)) (u .1 .1 .1 .1 .1 .0) T′ m′)
+              (λ u. Unit) (λ x. Unit) (Own.told-none 𝓤 H A (G3 .slots)) (DerefMove.learns-nothing 𝓤 H A
+              (Declared'.row OpaqueRelayRuntime.the-type)) (λ ρ told u asked. Way'.w-partˢ 𝓤 H A W E
+              (Declared'.row Request.the-type) (Declared'.row OpaqueRelayRuntime.the-type) Laws'''''.mir Laws''.mir 0 0
+              (u .1 .1 .1 .1 .1 .0) (At.getAt (Request.the-type .parts) 0
+              (Request.struct .as-values (u .1 .1 .1 .1 .1 .0))) (
+                Row.hd 0 (Row.tl (Row.tl (Row.tl (Row.tl (Row.tl bs))))),
+                0,
+              ) (Way.w-look 𝓤 H A W E (Way.w-local 𝓤 H A W E G3 ρ u (G3 .slots) 5 (Declared'.row Request.the-type)
+              (Rows.whole (Declared'.row Request.the-type)) (λ x. x) (λ x. x) (u .1 .1 .1 .1 .1 .0) (Local.mem-whole 𝓤
+              H A W (Declared'.row Request.the-type) ρ (u .1 .1 .1 .1 .1 .0)
+              (Row.hd 0 (Row.tl (Row.tl (Row.tl (Row.tl (Row.tl bs))))))) (Local.whole-mem 𝓤 H A W
+              (Declared'.row Request.the-type) ρ (u .1 .1 .1 .1 .1 .0) (Row.hd 0
+              (Row.tl (Row.tl (Row.tl (Row.tl (Row.tl bs))))))))) Path.refl λ q. Inner.cut-record 𝓤 H A q
+              (Declared'.row Request.the-type) OpaqueRelayRuntime.the-type 0 (u .1 .1 .1 .1 .1 .0)
+              (u .1 .1 .1 .1 .1 .0) (At.getAt (Request.the-type .parts) 0
+              (Request.struct .as-values (u .1 .1 .1 .1 .1 .0))) (At.getAt (Request.the-type .parts) 0
+              (Request.struct .as-values (u .1 .1 .1 .1 .1 .0))) (
+                Row.hd 0 (Row.tl (Row.tl (Row.tl (Row.tl (Row.tl bs))))),
+                0,
+              ) (Behind.look-at 𝓤 H A W q Request.the-type Laws'''''.the-laws 0 0 Path.refl Path.refl (
+                Row.hd 0 (Row.tl (Row.tl (Row.tl (Row.tl (Row.tl bs))))),
+                0,
+              ) (u .1 .1 .1 .1 .1 .0) (Request.struct .as-values (u .1 .1 .1 .1 .1 .0)) Path.refl))
+              (Reads'.room-gone 𝓤 H A Laws''.mir) (Yields.makes-mem 𝓤 H A W (λ ρ. Unit)
+              (Declared'.row OpaqueRelayRuntime.the-type) Path.refl
+              (Rows.whole (Declared'.row OpaqueRelayRuntime.the-type)) (λ x. x) λ ρ told. Local.whole-mem 𝓤 H A W
+              (Declared'.row OpaqueRelayRuntime.the-type) ρ) Path.refl Path.refl Path.refl) d60
+
+          d62 : Typed.Typed 𝓤 H A 𝓣 E G2 b44 Δ0 (at62 bs)
+          d62 = Typed.g-pre 𝓤 H A W 𝓣 E G2 G3 b44 Δ0 (Typed.give (s1 bs)) (at61 bs) (Know.g-shs-known 𝓤 H A W
+              (Referent.fInt Syntax.w8) E G2 6 4 ref9 life4 0 (λ x. x) record { fits = Dec.lit< tt } (Reads'.as-is 𝓤 H
+              A (Rows.sslice (Referent.rtF (Referent.fInt Syntax.w8)) ref9 4)) Path.refl tt) d61
+
+          d63 : Typed.Typed 𝓤 H A 𝓣 E G0 b44 Δ0 (at63 bs)
+          d63 = Typed.g-pre 𝓤 H A W 𝓣 E G0 G2 b44 Δ0 (Typed.give (s0 bs)) (at62 bs) (Know.g-sl-known 𝓤 H A W
               (Referent.fInt Syntax.w32) E G0 4 3 ref8 life3 0 (λ x. x) record { fits = Dec.lit< tt } (Reads'.as-is 𝓤 H
-              A (Mut.mslice (Referent.rtF (Referent.fInt Syntax.w32)) ref8 3)) Path.refl tt) d59
+              A (Mut.mslice (Referent.rtF (Referent.fInt Syntax.w32)) ref8 3)) Path.refl tt) d62
 
-          pub typed : Typed.Typed 𝓤 H A 𝓣 E (Function.Γin 6 ps r xs m κs qs) b38 (Function.Δret 6 ps r xs m κs qs) Φ
-          typed = d60
+          pub typed : Typed.Typed 𝓤 H A 𝓣 E (Function.Γin 5 ps r xs m κs qs) b44 (Function.Δret 5 ps r xs m κs qs)
+              (Φ bs)
+          typed = d63
 
-      module _ (κs : Lifetimes.Lfts 6) where
+      module _ (κs : Lifetimes.Lfts 5) where
         pub record Args : Type 0 where
-          pub circuits : Kinds.Den {n = 6} κs (MutSlice.pMutS RelayCircuit.row 0 tt)
-          pub ledger : Kinds.Den {n = 6} κs (MutSlice.pMutS ReservationUsage.row 1 tt)
-          pub inflight : Kinds.Den {n = 6} κs (MutSlice.pMutS InflightAction.row 2 tt)
-          pub out : Kinds.Den {n = 6} κs (MutSlice.pMutS (Referent.rtF (Referent.fInt Syntax.w32)) 3 tt)
-          pub runtime : Kinds.Den {n = 6} κs (StructRow.param OpaqueRelayRuntime.the-type Laws''.the-laws
-              Laws''.the-copy Laws''.the-plain)
-          pub places : Kinds.Den {n = 6} κs (StructRow.param Places.the-type Laws''''''.the-laws Laws''''''.the-copy
-              Laws''''''.the-plain)
-          pub packet : Kinds.Den {n = 6} κs (StructRow.param RelayPacket.the-type Laws'''.the-laws Laws'''.the-copy
-              Laws'''.the-plain)
-          pub source : Kinds.Den {n = 6} κs (ShrSlice.pShrS (Referent.rtF (Referent.fInt Syntax.w8)) 4 tt)
-          pub body : Kinds.Den {n = 6} κs (ShrSlice.pShrS (Referent.rtF (Referent.fInt Syntax.w8)) 5 tt)
+          pub circuits : Kinds.Den {n = 5} κs (MutSlice.pMutS RelayCircuit.row 0 tt)
+          pub ledger : Kinds.Den {n = 5} κs (MutSlice.pMutS ReservationUsage.row 1 tt)
+          pub inflight : Kinds.Den {n = 5} κs (MutSlice.pMutS InflightAction.row 2 tt)
+          pub out : Kinds.Den {n = 5} κs (MutSlice.pMutS (Referent.rtF (Referent.fInt Syntax.w32)) 3 tt)
+          pub request : Kinds.Den {n = 5} κs (StructRow.param Request.the-type Laws'''''.the-laws Laws'''''.the-copy
+              Laws'''''.the-plain)
+          pub body : Kinds.Den {n = 5} κs (ShrSlice.pShrS (Referent.rtF (Referent.fInt Syntax.w8)) 4 tt)
 
         abbrev pub dens : (a : Args) → Kinds.Dens κs ps
-        dens = λ a. (
-          a .circuits,
-          (a .ledger, (a .inflight, (a .out, (a .runtime, (a .places, (a .packet, (a .source, (a .body, tt)))))))),
-        )
+        dens = λ a. (a .circuits, (a .ledger, (a .inflight, (a .out, (a .request, (a .body, tt))))))
 
-      abbrev pub m0 : (κs : Lifetimes.Lfts 6) → (args : Args κs) → Typed.Mo T0
-      m0 = λ κs args. (tt, Enter.partsP κs 1 ps xs (dens κs args))
+      abbrev pub m0 : (κs : Lifetimes.Lfts 5) → (args : Args κs) → (blocks : List.List Nat.ℕ) → Typed.Mo T0
+      m0 = λ κs args blocks. (tt, Enter.partsP κs 1 ps xs (dens κs args))
 
-      abbrev W0 : (κs : Lifetimes.Lfts 6) → (args : Args κs) → Typed.Want O0
-      W0 = λ κs args. (
+      abbrev W0 : (κs : Lifetimes.Lfts 5) → (args : Args κs) → (blocks : List.List Nat.ℕ) → Typed.Want O0
+      W0 = λ κs args blocks. (
         λ u. ⊥,
         tt,
         λ u. Enter.Fixs κs 1 ps xs (dens κs args) (u .1) × Post· κs (dens κs args) (Function.resV r κs (u .0)) (Clauses.atExit
-            (Kinds.endedOf 6 ps r) κs (dens κs args) (Enter.lastsP κs 1 ps xs (dens κs args) (u .1))),
+            (Kinds.endedOf 5 ps r) κs (dens κs args) (Enter.lastsP κs 1 ps xs (dens κs args) (u .1))),
       )
 
       pub record Start : Type 0 where
-        pub κs : Lifetimes.Lfts 6
+        pub κs : Lifetimes.Lfts 5
         pub args : Args κs
+        pub blocks : List.List Nat.ℕ
         pub good : Kinds.GoodsP κs ps (dens κs args)
         pub pre : Pre· κs (dens κs args)
 
-      abbrev pub m1 : (before : Start) → (given : s0 .gives (m0 (before .κs) (before .args))) → Typed.Mo T2
-      m1 = λ before given. s0 .next (m0 (before .κs) (before .args)) given
+      abbrev pub m1 : (before : Start) → (given : s0 (before .blocks) .gives
+          (m0 (before .κs) (before .args) (before .blocks))) → Typed.Mo T2
+      m1 = λ before given. s0 (before .blocks) .next (m0 (before .κs) (before .args) (before .blocks)) given
 
       module _ (before· : Start) where
         pub record After-slice-known·own : Type 0 where
-          pub given : s0 .gives (m0 (before· .κs) (before· .args))
+          pub given : s0 (before· .blocks) .gives (m0 (before· .κs) (before· .args) (before· .blocks))
 
       pub record After-slice-known : Type 0 where
         pub before : Start
         pub slice-known : After-slice-known·own before
 
-      abbrev pub m2 : (before : After-slice-known) → (given : s1 .gives
+      abbrev pub m2 : (before : After-slice-known) → (given : s1 (before .before .blocks) .gives
           (m1 (before .before) (before .slice-known .given))) → Typed.Mo T3
-      m2 = λ before given. s1 .next (m1 (before .before) (before .slice-known .given)) given
+      m2 = λ before given. s1 (before .before .blocks) .next (m1 (before .before) (before .slice-known .given)) given
 
       module _ (before· : After-slice-known) where
         pub record After-shared-slice-known·own : Type 0 where
-          pub given : s1 .gives (m1 (before· .before) (before· .slice-known .given))
+          pub given : s1 (before· .before .blocks) .gives (m1 (before· .before) (before· .slice-known .given))
 
       pub record After-shared-slice-known : Type 0 where
         pub before : After-slice-known
         pub shared-slice-known : After-shared-slice-known·own before
 
-      abbrev pub m3 : (before : After-shared-slice-known) → (given : s2 .gives
+      abbrev pub m3 : (before : After-shared-slice-known) → (given : s2 (before .before .before .blocks) .gives
           (m2 (before .before) (before .shared-slice-known .given))) → Typed.Mo T4
-      m3 = λ before given. s2 .next (m2 (before .before) (before .shared-slice-known .given)) given
+      m3 = λ before given. s2 (before .before .before .blocks) .next
+          (m2 (before .before) (before .shared-slice-known .given)) given
 
       module _ (before· : After-shared-slice-known) where
-        pub record After-shared-slice-known2·own : Type 0 where
-          pub given : s2 .gives (m2 (before· .before) (before· .shared-slice-known .given))
+        pub record After-runtime·own : Type 0 where
+          pub given : s2 (before· .before .before .blocks) .gives
+              (m2 (before· .before) (before· .shared-slice-known .given))
 
-      pub record After-shared-slice-known2 : Type 0 where
+      pub record After-runtime : Type 0 where
         pub before : After-shared-slice-known
-        pub shared-slice-known2 : After-shared-slice-known2·own before
+        pub runtime : After-runtime·own before
 
-      abbrev pub m4 : (before : After-shared-slice-known2) → (given : s4 .gives
-          (m3 (before .before) (before .shared-slice-known2 .given))) → Typed.Mo T6
-      m4 = λ before given. s4 .next (m3 (before .before) (before .shared-slice-known2 .given)) given
+      abbrev pub m4 : (before : After-runtime) → (given : s3 (before .before .before .before .blocks) .gives
+          (m3 (before .before) (before .runtime .given))) → Typed.Mo T5
+      m4 = λ before given. s3 (before .before .before .before .blocks) .next
+          (m3 (before .before) (before .runtime .given)) given
 
-      abbrev pub m5 : (before : After-shared-slice-known2) → (given : s4 .gives
-          (m3 (before .before) (before .shared-slice-known2 .given))) → Typed.Mo T7
-      m5 = λ before given. s5 .next (m4 before given)
+      module _ (before· : After-runtime) where
+        pub record After-places·own : Type 0 where
+          pub given : s3 (before· .before .before .before .blocks) .gives
+              (m3 (before· .before) (before· .runtime .given))
 
-      module _ (before· : After-shared-slice-known2) where
+      pub record After-places : Type 0 where
+        pub before : After-runtime
+        pub places : After-places·own before
+
+      abbrev pub m5 : (before : After-places) → (given : s4 (before .before .before .before .before .blocks) .gives
+          (m4 (before .before) (before .places .given))) → Typed.Mo T6
+      m5 = λ before given. s4 (before .before .before .before .before .blocks) .next
+          (m4 (before .before) (before .places .given)) given
+
+      module _ (before· : After-places) where
+        pub record After-packet·own : Type 0 where
+          pub given : s4 (before· .before .before .before .before .blocks) .gives
+              (m4 (before· .before) (before· .places .given))
+
+      pub record After-packet : Type 0 where
+        pub before : After-places
+        pub packet : After-packet·own before
+
+      abbrev pub m6 : (before : After-packet) → (given : s5 (before .before .before .before .before .before .blocks)
+          .gives (m5 (before .before) (before .packet .given))) → Typed.Mo T7
+      m6 = λ before given. s5 (before .before .before .before .before .before .blocks) .next
+          (m5 (before .before) (before .packet .given)) given
+
+      module _ (before· : After-packet) where
+        pub record After-peer·own : Type 0 where
+          pub given : s5 (before· .before .before .before .before .before .blocks) .gives
+              (m5 (before· .before) (before· .packet .given))
+
+      pub record After-peer : Type 0 where
+        pub before : After-packet
+        pub peer : After-peer·own before
+
+      abbrev pub m7 : (before : After-peer) → (given : s7 (before .before .before .before .before .before .before
+          .blocks) .gives (m6 (before .before) (before .peer .given))) → Typed.Mo T9
+      m7 = λ before given. s7 (before .before .before .before .before .before .before .blocks) .next
+          (m6 (before .before) (before .peer .given)) given
+
+      abbrev pub m8 : (before : After-peer) → (given : s7 (before .before .before .before .before .before .before
+          .blocks) .gives (m6 (before .before) (before .peer .given))) → Typed.Mo T10
+      m8 = λ before given. s8 (before .before .before .before .before .before .before .blocks) .next (m7 before given)
+
+      module _ (before· : After-peer) where
         pub record After-circuit-by-id-arg·own : Type 0 where
-          pub given : s4 .gives (m3 (before· .before) (before· .shared-slice-known2 .given))
+          pub given : s7 (before· .before .before .before .before .before .before .blocks) .gives
+              (m6 (before· .before) (before· .peer .given))
 
       pub record After-circuit-by-id-arg : Type 0 where
-        pub before : After-shared-slice-known2
+        pub before : After-peer
         pub circuit-by-id-arg : After-circuit-by-id-arg·own before
 
       abbrev pub Need-circuit-by-id-requires : Type 0
-      Need-circuit-by-id-requires = (c : After-circuit-by-id-arg) → s6 .asks
-          (m5 (c .before) (c .circuit-by-id-arg .given))
+      Need-circuit-by-id-requires = (c : After-circuit-by-id-arg) → s9 (c .before .before .before .before .before
+          .before .before .blocks) .asks (m8 (c .before) (c .circuit-by-id-arg .given))
 
-      abbrev pub m6 : (before : After-circuit-by-id-arg) → (given : s6 .gives
-          (m5 (before .before) (before .circuit-by-id-arg .given))) → Typed.Mo T8
-      m6 = λ before given. s6 .next (m5 (before .before) (before .circuit-by-id-arg .given)) given
+      abbrev pub m9 : (before : After-circuit-by-id-arg) → (given : s9 (before .before .before .before .before .before
+          .before .before .blocks) .gives (m8 (before .before) (before .circuit-by-id-arg .given))) → Typed.Mo T11
+      m9 = λ before given. s9 (before .before .before .before .before .before .before .before .blocks) .next
+          (m8 (before .before) (before .circuit-by-id-arg .given)) given
 
       module _ (before· : After-circuit-by-id-arg) where
         abbrev pub After-circuit-by-id·own : Type 0
-        After-circuit-by-id·own = Called.Called ps·0 r·0 (claims· .1) T7 args6
-            (m5 (before· .before) (before· .circuit-by-id-arg .given))
+        After-circuit-by-id·own = Called.Called ps·0 r·0 (claims· .1) T10 (
+          record { pos = 14; ty = ref0; ref = λ x. x },
+          (
+            record { pos = 8; st = List.[]; d = 0; at = λ x. x },
+            (Num.vFld 9 ((Syntax.field 1) ∷ List.[]) 8 λ x. RelayPacket.struct .as-values x .1 .0, tt),
+          ),
+        ) (m8 (before· .before) (before· .circuit-by-id-arg .given))
 
       pub record After-circuit-by-id : Type 0 where
         pub before : After-circuit-by-id-arg
         pub circuit-by-id : After-circuit-by-id·own before
 
-      abbrev pub After-circuit-by-id·gave : (c : After-circuit-by-id) → s6 .gives (m5 (c .before .before)
-          (c .before .circuit-by-id-arg .given))
-      After-circuit-by-id·gave = λ c. Called.given ps·0 r·0 (claims· .1) T7 args6 (m5 (c .before .before)
-          (c .before .circuit-by-id-arg .given)) (c .circuit-by-id)
+      abbrev pub After-circuit-by-id·gave : (c : After-circuit-by-id) → s9 (c .before .before .before .before .before
+          .before .before .before .blocks) .gives (m8 (c .before .before) (c .before .circuit-by-id-arg .given))
+      After-circuit-by-id·gave = λ c. Called.given ps·0 r·0 (claims· .1) T10 (
+        record { pos = 14; ty = ref0; ref = λ x. x },
+        (
+          record { pos = 8; st = List.[]; d = 0; at = λ x. x },
+          (Num.vFld 9 ((Syntax.field 1) ∷ List.[]) 8 λ x. RelayPacket.struct .as-values x .1 .0, tt),
+        ),
+      ) (m8 (c .before .before) (c .before .circuit-by-id-arg .given)) (c .circuit-by-id)
 
-      abbrev pub m7 : (before : After-circuit-by-id-arg) → (given : s6 .gives
-          (m5 (before .before) (before .circuit-by-id-arg .given))) → Typed.Mo T9
-      m7 = λ before given. s7 (m6 before given)
+      abbrev pub m10 : (before : After-circuit-by-id-arg) → (given : s9 (before .before .before .before .before .before
+          .before .before .blocks) .gives (m8 (before .before) (before .circuit-by-id-arg .given))) → Typed.Mo T12
+      m10 = λ before given. s10 (before .before .before .before .before .before .before .before .blocks)
+          (m9 before given)
 
-      abbrev pub m8 : (before : After-circuit-by-id-arg) → (given : s6 .gives
-          (m5 (before .before) (before .circuit-by-id-arg .given))) → Typed.Mo T11
-      m8 = λ before given. s9 (m7 before given)
+      abbrev pub m11 : (before : After-circuit-by-id-arg) → (given : s9 (before .before .before .before .before .before
+          .before .before .blocks) .gives (m8 (before .before) (before .circuit-by-id-arg .given))) → Typed.Mo T13
+      m11 = λ before given. s11 (before .before .before .before .before .before .before .before .blocks)
+          (m10 before given)
 
-      abbrev pub Need-peer-of-requires : Type 0
-      Need-peer-of-requires = (c : After-circuit-by-id) → s11 .asks (m8 (c .before) (After-circuit-by-id·gave c))
+      abbrev pub m12 : (before : After-circuit-by-id-arg) → (given : s9 (before .before .before .before .before .before
+          .before .before .blocks) .gives (m8 (before .before) (before .circuit-by-id-arg .given))) → Typed.Mo T15
+      m12 = λ before given. s13 (before .before .before .before .before .before .before .before .blocks)
+          (m11 before given)
 
-      abbrev pub m9 : (before : After-circuit-by-id) → (given : s11 .gives
-          (m8 (before .before) (After-circuit-by-id·gave before))) → Typed.Mo T13
-      m9 = λ before given. s11 .next (m8 (before .before) (After-circuit-by-id·gave before)) given
-
-      module _ (before· : After-circuit-by-id) where
-        abbrev pub After-peer-of·own : Type 0
-        After-peer-of·own = Called.Called ps·1 r·1 (claims· .3) T11 args11
-            (m8 (before· .before) (After-circuit-by-id·gave before·))
-
-      pub record After-peer-of : Type 0 where
-        pub before : After-circuit-by-id
-        pub peer-of : After-peer-of·own before
-
-      abbrev pub After-peer-of·gave : (c : After-peer-of) → s11 .gives (m8 (c .before .before)
-          (After-circuit-by-id·gave (c .before)))
-      After-peer-of·gave = λ c. Called.given ps·1 r·1 (claims· .3) T11 args11 (m8 (c .before .before)
-          (After-circuit-by-id·gave (c .before))) (c .peer-of)
-
-      abbrev pub m10 : (before : After-circuit-by-id) → (given : s11 .gives
-          (m8 (before .before) (After-circuit-by-id·gave before))) → Typed.Mo T14
-      m10 = λ before given. s12 (m9 before given)
+      abbrev pub m13 : (before : After-circuit-by-id-arg) → (given : s9 (before .before .before .before .before .before
+          .before .before .blocks) .gives (m8 (before .before) (before .circuit-by-id-arg .given))) → Typed.Mo T17
+      m13 = λ before given. s15 (before .before .before .before .before .before .before .before .blocks)
+          (m12 before given)
 
       abbrev pub Need-data-entry-requires : Type 0
-      Need-data-entry-requires = (c : After-peer-of) → s13 .asks (m10 (c .before) (After-peer-of·gave c))
+      Need-data-entry-requires = (c : After-circuit-by-id) → s16 (c .before .before .before .before .before .before
+          .before .before .blocks) .asks (m13 (c .before) (After-circuit-by-id·gave c))
 
-      abbrev pub m11 : (before : After-peer-of) → (given : s13 .gives
-          (m10 (before .before) (After-peer-of·gave before))) → Typed.Mo T15
-      m11 = λ before given. s13 .next (m10 (before .before) (After-peer-of·gave before)) given
+      abbrev pub m14 : (before : After-circuit-by-id) → (given : s16 (before .before .before .before .before .before
+          .before .before .before .blocks) .gives (m13 (before .before) (After-circuit-by-id·gave before))) → Typed.Mo
+          T18
+      m14 = λ before given. s16 (before .before .before .before .before .before .before .before .before .blocks) .next
+          (m13 (before .before) (After-circuit-by-id·gave before)) given
 
-      module _ (before· : After-peer-of) where
+      module _ (before· : After-circuit-by-id) where
         abbrev pub After-data-entry·own : Type 0
-        After-data-entry·own = Called.Called ps·2 r·2 (claims· .5) T14 args13
-            (m10 (before· .before) (After-peer-of·gave before·))
+        After-data-entry·own = Called.Called ps·1 r·1 (claims· .3) T17 (
+          record { pos = 11; st = List.[]; d = 0; at = λ x. x },
+          (record { pos = 10; st = List.[]; d = 0; at = λ x. x }, (Num.vAt 15 λ x. x, tt)),
+        ) (m13 (before· .before) (After-circuit-by-id·gave before·))
 
       pub record After-data-entry : Type 0 where
-        pub before : After-peer-of
+        pub before : After-circuit-by-id
         pub data-entry : After-data-entry·own before
 
-      abbrev pub After-data-entry·gave : (c : After-data-entry) → s13 .gives
-          (m10 (c .before .before) (After-peer-of·gave (c .before)))
-      After-data-entry·gave = λ c. Called.given ps·2 r·2 (claims· .5) T14 args13
-          (m10 (c .before .before) (After-peer-of·gave (c .before))) (c .data-entry)
+      abbrev pub After-data-entry·gave : (c : After-data-entry) → s16 (c .before .before .before .before .before
+          .before .before .before .before .blocks) .gives (m13 (c .before .before)
+          (After-circuit-by-id·gave (c .before)))
+      After-data-entry·gave = λ c. Called.given ps·1 r·1 (claims· .3) T17 (
+        record { pos = 11; st = List.[]; d = 0; at = λ x. x },
+        (record { pos = 10; st = List.[]; d = 0; at = λ x. x }, (Num.vAt 15 λ x. x, tt)),
+      ) (m13 (c .before .before) (After-circuit-by-id·gave (c .before))) (c .data-entry)
 
-      abbrev pub m12 : (before : After-peer-of) → (given : s13 .gives
-          (m10 (before .before) (After-peer-of·gave before))) → Typed.Mo T16
-      m12 = λ before given. s14 (m11 before given)
+      abbrev pub m15 : (before : After-circuit-by-id) → (given : s16 (before .before .before .before .before .before
+          .before .before .before .blocks) .gives (m13 (before .before) (After-circuit-by-id·gave before))) → Typed.Mo
+          T19
+      m15 = λ before given. s17 (before .before .before .before .before .before .before .before .before .blocks)
+          (m14 before given)
 
-      abbrev pub m13 : (before : After-peer-of) → (given : s13 .gives
-          (m10 (before .before) (After-peer-of·gave before))) → Typed.Mo T17
-      m13 = λ before given. s15 (m12 before given)
+      abbrev pub m16 : (before : After-circuit-by-id) → (given : s16 (before .before .before .before .before .before
+          .before .before .before .blocks) .gives (m13 (before .before) (After-circuit-by-id·gave before))) → Typed.Mo
+          T20
+      m16 = λ before given. s18 (before .before .before .before .before .before .before .before .before .blocks)
+          (m15 before given)
 
       abbrev pub Need-is-taken-requires : Type 0
-      Need-is-taken-requires = (c : After-data-entry) → s16 .asks (m13 (c .before) (After-data-entry·gave c))
+      Need-is-taken-requires = (c : After-data-entry) → s19 (c .before .before .before .before .before .before .before
+          .before .before .blocks) .asks (m16 (c .before) (After-data-entry·gave c))
 
-      abbrev pub m14 : (before : After-data-entry) → (given : s16 .gives
-          (m13 (before .before) (After-data-entry·gave before))) → Typed.Mo T18
-      m14 = λ before given. s16 .next (m13 (before .before) (After-data-entry·gave before)) given
+      abbrev pub m17 : (before : After-data-entry) → (given : s19 (before .before .before .before .before .before
+          .before .before .before .before .blocks) .gives (m16 (before .before) (After-data-entry·gave before))) →
+          Typed.Mo T21
+      m17 = λ before given. s19 (before .before .before .before .before .before .before .before .before .before .blocks)
+          .next (m16 (before .before) (After-data-entry·gave before)) given
 
       module _ (before· : After-data-entry) where
         abbrev pub After-is-taken·own : Type 0
-        After-is-taken·own = Called.Called ps·3 r·3 (claims· .7) T17 args16
-            (m13 (before· .before) (After-data-entry·gave before·))
+        After-is-taken·own = Called.Called ps·2 r·2 (claims· .5) T20
+            (record { pos = 12; st = List.[]; d = 0; at = λ x. x }, tt)
+            (m16 (before· .before) (After-data-entry·gave before·))
 
       pub record After-is-taken : Type 0 where
         pub before : After-data-entry
         pub is-taken : After-is-taken·own before
 
-      abbrev pub After-is-taken·gave : (c : After-is-taken) → s16 .gives (m13 (c .before .before)
-          (After-data-entry·gave (c .before)))
-      After-is-taken·gave = λ c. Called.given ps·3 r·3 (claims· .7) T17 args16 (m13 (c .before .before)
+      abbrev pub After-is-taken·gave : (c : After-is-taken) → s19 (c .before .before .before .before .before .before
+          .before .before .before .before .blocks) .gives (m16 (c .before .before) (After-data-entry·gave (c .before)))
+      After-is-taken·gave = λ c. Called.given ps·2 r·2 (claims· .5) T20
+          (record { pos = 12; st = List.[]; d = 0; at = λ x. x }, tt) (m16 (c .before .before)
           (After-data-entry·gave (c .before))) (c .is-taken)
 
-      abbrev W1 : (before : After-data-entry) → (given : s16 .gives
-          (m13 (before .before) (After-data-entry·gave before))) → Typed.Want O1
-      W1 = λ before given. Typed.wantNext T19 O0 (at42 (W0 (before .before .before .before .before .before .before
-          .before .κs) (before .before .before .before .before .before .before .before .args))) (W0 (before .before
-          .before .before .before .before .before .before .κs) (before .before .before .before .before .before .before
-          .before .args))
+      abbrev W1 : (before : After-data-entry) → (given : s19 (before .before .before .before .before .before .before
+          .before .before .before .blocks) .gives (m16 (before .before) (After-data-entry·gave before))) → Typed.Want
+          O1
+      W1 = λ before given. Typed.wantNext T22 O0 (at42 (before .before .before .before .before .before .before .before
+          .before .before .blocks) (W0 (before .before .before .before .before .before .before .before .before .before
+          .κs) (before .before .before .before .before .before .before .before .before .before .args) (before .before
+          .before .before .before .before .before .before .before .before .blocks))) (W0 (before .before .before
+          .before .before .before .before .before .before .before .κs) (before .before .before .before .before .before
+          .before .before .before .before .args) (before .before .before .before .before .before .before .before
+          .before .before .blocks))
 
-      abbrev pub m15 : (before : After-is-taken) → Typed.Mo T20
-      m15 = λ before. s17 (m14 (before .before) (After-is-taken·gave before))
+      abbrev pub m18 : (before : After-is-taken) → Typed.Mo T23
+      m18 = λ before. s20 (before .before .before .before .before .before .before .before .before .before .before
+          .blocks) (m17 (before .before) (After-is-taken·gave before))
 
-      abbrev pub m16 : (before : After-is-taken) → Typed.Mo T21
-      m16 = λ before. s18 (m15 before)
+      abbrev pub m19 : (before : After-is-taken) → Typed.Mo T24
+      m19 = λ before. s21 (before .before .before .before .before .before .before .before .before .before .before
+          .blocks) (m18 before)
+
+      abbrev pub m20 : (before : After-is-taken) → Typed.Mo T25
+      m20 = λ before. s22 (before .before .before .before .before .before .before .before .before .before .before
+          .blocks) (m19 before)
+
+      abbrev pub m21 : (before : After-is-taken) → Typed.Mo T26
+      m21 = λ before. s23 (before .before .before .before .before .before .before .before .before .before .before
+          .blocks) (m20 before)
 
       module _ (before· : After-is-taken) where
         pub record Then1·own : Type 0 where
-          pub taken : Path._≡_ (Row.get 16 (T18 .locals) (m14 (before· .before) (After-is-taken·gave before·)))
+          pub taken : Path._≡_ (Row.get 16 (T21 .locals) (m17 (before· .before) (After-is-taken·gave before·)))
               Bool'.true
 
       pub record Then1 : Type 0 where
         pub before : After-is-taken
         pub if1 : Then1·own before
 
-      abbrev pub m17 : (before : Then1) → (given : s20 .gives (m16 (before .before))) → Typed.Mo T23
-      m17 = λ before given. s20 .next (m16 (before .before)) given
+      abbrev pub m22 : (before : Then1) → (given : s25 (before .before .before .before .before .before .before .before
+          .before .before .before .before .blocks) .gives (m21 (before .before))) → Typed.Mo T28
+      m22 = λ before given. s25 (before .before .before .before .before .before .before .before .before .before .before
+          .before .blocks) .next (m21 (before .before)) given
 
-      abbrev pub m18 : (before : Then1) → (given : s20 .gives (m16 (before .before))) → Typed.Mo T24
-      m18 = λ before given. s21 .next (m17 before given)
+      abbrev pub m23 : (before : Then1) → (given : s25 (before .before .before .before .before .before .before .before
+          .before .before .before .before .blocks) .gives (m21 (before .before))) → Typed.Mo T29
+      m23 = λ before given. s26 (before .before .before .before .before .before .before .before .before .before .before
+          .before .blocks) .next (m22 before given)
 
       module _ (before· : Then1) where
         pub record After-pass-data-arg·own : Type 0 where
-          pub given : s20 .gives (m16 (before· .before))
+          pub given : s25 (before· .before .before .before .before .before .before .before .before .before .before
+              .before .blocks) .gives (m21 (before· .before))
 
       pub record After-pass-data-arg : Type 0 where
         pub before : Then1
         pub pass-data-arg : After-pass-data-arg·own before
 
-      abbrev pub m19 : (before : After-pass-data-arg) → (given : s23 .gives
-          (m18 (before .before) (before .pass-data-arg .given))) → Typed.Mo T26
-      m19 = λ before given. s23 .next (m18 (before .before) (before .pass-data-arg .given)) given
+      abbrev pub m24 : (before : After-pass-data-arg) → (given : s28 (before .before .before .before .before .before
+          .before .before .before .before .before .before .before .blocks) .gives
+          (m23 (before .before) (before .pass-data-arg .given))) → Typed.Mo T31
+      m24 = λ before given. s28 (before .before .before .before .before .before .before .before .before .before .before
+          .before .before .blocks) .next (m23 (before .before) (before .pass-data-arg .given)) given
 
-      abbrev pub m20 : (before : After-pass-data-arg) → (given : s23 .gives
-          (m18 (before .before) (before .pass-data-arg .given))) → Typed.Mo T27
-      m20 = λ before given. s24 .next (m19 before given)
+      abbrev pub m25 : (before : After-pass-data-arg) → (given : s28 (before .before .before .before .before .before
+          .before .before .before .before .before .before .before .blocks) .gives
+          (m23 (before .before) (before .pass-data-arg .given))) → Typed.Mo T32
+      m25 = λ before given. s29 (before .before .before .before .before .before .before .before .before .before .before
+          .before .before .blocks) .next (m24 before given)
 
       module _ (before· : After-pass-data-arg) where
         pub record After-pass-data-arg2·own : Type 0 where
-          pub given : s23 .gives (m18 (before· .before) (before· .pass-data-arg .given))
+          pub given : s28 (before· .before .before .before .before .before .before .before .before .before .before
+              .before .before .blocks) .gives (m23 (before· .before) (before· .pass-data-arg .given))
 
       pub record After-pass-data-arg2 : Type 0 where
         pub before : After-pass-data-arg
         pub pass-data-arg2 : After-pass-data-arg2·own before
 
-      abbrev pub m21 : (before : After-pass-data-arg2) → (given : s26 .gives
-          (m20 (before .before) (before .pass-data-arg2 .given))) → Typed.Mo T29
-      m21 = λ before given. s26 .next (m20 (before .before) (before .pass-data-arg2 .given)) given
+      abbrev pub m26 : (before : After-pass-data-arg2) → (given : s31 (before .before .before .before .before .before
+          .before .before .before .before .before .before .before .before .blocks) .gives
+          (m25 (before .before) (before .pass-data-arg2 .given))) → Typed.Mo T34
+      m26 = λ before given. s31 (before .before .before .before .before .before .before .before .before .before .before
+          .before .before .before .blocks) .next (m25 (before .before) (before .pass-data-arg2 .given)) given
 
-      abbrev pub m22 : (before : After-pass-data-arg2) → (given : s26 .gives
-          (m20 (before .before) (before .pass-data-arg2 .given))) → Typed.Mo T30
-      m22 = λ before given. s27 .next (m21 before given)
+      abbrev pub m27 : (before : After-pass-data-arg2) → (given : s31 (before .before .before .before .before .before
+          .before .before .before .before .before .before .before .before .blocks) .gives
+          (m25 (before .before) (before .pass-data-arg2 .given))) → Typed.Mo T35
+      m27 = λ before given. s32 (before .before .before .before .before .before .before .before .before .before .before
+          .before .before .before .blocks) .next (m26 before given)
 
       module _ (before· : After-pass-data-arg2) where
         pub record After-pass-data-arg3·own : Type 0 where
-          pub given : s26 .gives (m20 (before· .before) (before· .pass-data-arg2 .given))
+          pub given : s31 (before· .before .before .before .before .before .before .before .before .before .before
+              .before .before .before .blocks) .gives (m25 (before· .before) (before· .pass-data-arg2 .given))
 
       pub record After-pass-data-arg3 : Type 0 where
         pub before : After-pass-data-arg2
         pub pass-data-arg3 : After-pass-data-arg3·own before
 
-      abbrev pub m23 : (before : After-pass-data-arg3) → (given : s29 .gives
-          (m22 (before .before) (before .pass-data-arg3 .given))) → Typed.Mo T32
-      m23 = λ before given. s29 .next (m22 (before .before) (before .pass-data-arg3 .given)) given
+      abbrev pub m28 : (before : After-pass-data-arg3) → (given : s34 (before .before .before .before .before .before
+          .before .before .before .before .before .before .before .before .before .blocks) .gives
+          (m27 (before .before) (before .pass-data-arg3 .given))) → Typed.Mo T37
+      m28 = λ before given. s34 (before .before .before .before .before .before .before .before .before .before .before
+          .before .before .before .before .blocks) .next (m27 (before .before) (before .pass-data-arg3 .given)) given
 
-      abbrev pub m24 : (before : After-pass-data-arg3) → (given : s29 .gives
-          (m22 (before .before) (before .pass-data-arg3 .given))) → Typed.Mo T33
-      m24 = λ before given. s30 .next (m23 before given)
+      abbrev pub m29 : (before : After-pass-data-arg3) → (given : s34 (before .before .before .before .before .before
+          .before .before .before .before .before .before .before .before .before .blocks) .gives
+          (m27 (before .before) (before .pass-data-arg3 .given))) → Typed.Mo T38
+      m29 = λ before given. s35 (before .before .before .before .before .before .before .before .before .before .before
+          .before .before .before .before .blocks) .next (m28 before given)
 
       module _ (before· : After-pass-data-arg3) where
         pub record After-pass-data-arg4·own : Type 0 where
-          pub given : s29 .gives (m22 (before· .before) (before· .pass-data-arg3 .given))
+          pub given : s34 (before· .before .before .before .before .before .before .before .before .before .before
+              .before .before .before .before .blocks) .gives (m27 (before· .before) (before· .pass-data-arg3 .given))
 
       pub record After-pass-data-arg4 : Type 0 where
         pub before : After-pass-data-arg3
         pub pass-data-arg4 : After-pass-data-arg4·own before
 
       abbrev pub Need-pass-data-requires : Type 0
-      Need-pass-data-requires = (c : After-pass-data-arg4) → s31 .asks (m24 (c .before) (c .pass-data-arg4 .given))
+      Need-pass-data-requires = (c : After-pass-data-arg4) → s36 (c .before .before .before .before .before .before
+          .before .before .before .before .before .before .before .before .before .blocks) .asks
+          (m29 (c .before) (c .pass-data-arg4 .given))
 
-      abbrev pub m25 : (before : After-pass-data-arg4) → (given : s31 .gives
-          (m24 (before .before) (before .pass-data-arg4 .given))) → Typed.Mo T34
-      m25 = λ before given. s31 .next (m24 (before .before) (before .pass-data-arg4 .given)) given
+      abbrev pub m30 : (before : After-pass-data-arg4) → (given : s36 (before .before .before .before .before .before
+          .before .before .before .before .before .before .before .before .before .before .blocks) .gives
+          (m29 (before .before) (before .pass-data-arg4 .given))) → Typed.Mo T39
+      m30 = λ before given. s36 (before .before .before .before .before .before .before .before .before .before .before
+          .before .before .before .before .before .blocks) .next (m29 (before .before) (before .pass-data-arg4 .given))
+          given
 
       module _ (before· : After-pass-data-arg4) where
         abbrev pub After-pass-data·own : Type 0
-        After-pass-data·own = Called.Called ps·4 r·4 (claims· .9) T33 args31
-            (m24 (before· .before) (before· .pass-data-arg4 .given))
+        After-pass-data·own = Called.Called ps·3 r·3 (claims· .7) T38 (
+          record { pos = 18; ty = ref1; ref = λ x. x },
+          (
+            record { pos = 20; ty = ref2; ref = λ x. x },
+            (
+              record { pos = 22; ty = ref3; ref = λ x. x },
+              (
+                record { pos = 24; ty = ref4; ref = λ x. x },
+                (
+                  record { pos = 5; st = List.[]; d = 0; at = λ x. x },
+                  (
+                    record { pos = 11; st = List.[]; d = 0; at = λ x. x },
+                    (record { pos = 6; ty = ref9; ref = λ x. x }, tt),
+                  ),
+                ),
+              ),
+            ),
+          ),
+        ) (m29 (before· .before) (before· .pass-data-arg4 .given))
 
       pub record After-pass-data : Type 0 where
         pub before : After-pass-data-arg4
         pub pass-data : After-pass-data·own before
 
-      abbrev pub After-pass-data·gave : (c : After-pass-data) → s31 .gives (m24 (c .before .before)
-          (c .before .pass-data-arg4 .given))
-      After-pass-data·gave = λ c. Called.given ps·4 r·4 (claims· .9) T33 args31 (m24 (c .before .before)
-          (c .before .pass-data-arg4 .given)) (c .pass-data)
+      abbrev pub After-pass-data·gave : (c : After-pass-data) → s36 (c .before .before .before .before .before .before
+          .before .before .before .before .before .before .before .before .before .before .blocks) .gives (m29
+          (c .before .before) (c .before .pass-data-arg4 .given))
+      After-pass-data·gave = λ c. Called.given ps·3 r·3 (claims· .7) T38 (
+        record { pos = 18; ty = ref1; ref = λ x. x },
+        (
+          record { pos = 20; ty = ref2; ref = λ x. x },
+          (
+            record { pos = 22; ty = ref3; ref = λ x. x },
+            (
+              record { pos = 24; ty = ref4; ref = λ x. x },
+              (
+                record { pos = 5; st = List.[]; d = 0; at = λ x. x },
+                (
+                  record { pos = 11; st = List.[]; d = 0; at = λ x. x },
+                  (record { pos = 6; ty = ref9; ref = λ x. x }, tt),
+                ),
+              ),
+            ),
+          ),
+        ),
+      ) (m29 (c .before .before) (c .before .pass-data-arg4 .given)) (c .pass-data)
 
-      abbrev pub m26 : (before : After-pass-data-arg4) → (given : s31 .gives
-          (m24 (before .before) (before .pass-data-arg4 .given))) → Typed.Mo T35
-      m26 = λ before given. s32 (m25 before given)
+      abbrev pub m31 : (before : After-pass-data-arg4) → (given : s36 (before .before .before .before .before .before
+          .before .before .before .before .before .before .before .before .before .before .blocks) .gives
+          (m29 (before .before) (before .pass-data-arg4 .given))) → Typed.Mo T40
+      m31 = λ before given. s37 (before .before .before .before .before .before .before .before .before .before .before
+          .before .before .before .before .before .blocks) (m30 before given)
 
-      abbrev pub m27 : (before : After-pass-data-arg4) → (given : s31 .gives
-          (m24 (before .before) (before .pass-data-arg4 .given))) → Typed.Mo T36
-      m27 = λ before given. s33 (m26 before given)
+      abbrev pub m32 : (before : After-pass-data-arg4) → (given : s36 (before .before .before .before .before .before
+          .before .before .before .before .before .before .before .before .before .before .blocks) .gives
+          (m29 (before .before) (before .pass-data-arg4 .given))) → Typed.Mo T41
+      m32 = λ before given. s38 (before .before .before .before .before .before .before .before .before .before .before
+          .before .before .before .before .before .blocks) (m31 before given)
 
-      abbrev pub m28 : (before : After-pass-data-arg4) → (given : s31 .gives
-          (m24 (before .before) (before .pass-data-arg4 .given))) → Typed.Mo T37
-      m28 = λ before given. s34 (m27 before given)
-
-      abbrev pub m29 : (before : After-pass-data-arg4) → (given : s31 .gives
-          (m24 (before .before) (before .pass-data-arg4 .given))) → Typed.Mo T38
-      m29 = λ before given. s35 (m28 before given)
-
-      abbrev pub m30 : (before : After-pass-data) → (given : s37 .gives
-          (m29 (before .before) (After-pass-data·gave before))) → Typed.Mo T40
-      m30 = λ before given. s37 .next (m29 (before .before) (After-pass-data·gave before)) given
+      abbrev pub m33 : (before : After-pass-data) → (given : s40 (before .before .before .before .before .before
+          .before .before .before .before .before .before .before .before .before .before .before .blocks) .gives
+          (m32 (before .before) (After-pass-data·gave before))) → Typed.Mo T43
+      m33 = λ before given. s40 (before .before .before .before .before .before .before .before .before .before .before
+          .before .before .before .before .before .before .blocks) .next
+          (m32 (before .before) (After-pass-data·gave before)) given
 
       module _ (before· : After-pass-data) where
         pub record After-circuits·own : Type 0 where
-          pub given : s37 .gives (m29 (before· .before) (After-pass-data·gave before·))
+          pub given : s40 (before· .before .before .before .before .before .before .before .before .before .before
+              .before .before .before .before .before .before .blocks) .gives
+              (m32 (before· .before) (After-pass-data·gave before·))
 
       pub record After-circuits : Type 0 where
         pub before : After-pass-data
         pub circuits : After-circuits·own before
 
-      abbrev pub m31 : (before : After-circuits) → (given : s40 .gives (m30 (before .before) (before .circuits .given)))
-          → Typed.Mo T43
-      m31 = λ before given. s40 .next (m30 (before .before) (before .circuits .given)) given
+      abbrev pub m34 : (before : After-circuits) → (given : s43 (before .before .before .before .before .before .before
+          .before .before .before .before .before .before .before .before .before .before .before .blocks) .gives
+          (m33 (before .before) (before .circuits .given))) → Typed.Mo T46
+      m34 = λ before given. s43 (before .before .before .before .before .before .before .before .before .before .before
+          .before .before .before .before .before .before .before .blocks) .next
+          (m33 (before .before) (before .circuits .given)) given
 
       module _ (before· : After-circuits) where
         pub record After-ledger·own : Type 0 where
-          pub given : s40 .gives (m30 (before· .before) (before· .circuits .given))
+          pub given : s43 (before· .before .before .before .before .before .before .before .before .before .before
+              .before .before .before .before .before .before .before .blocks) .gives
+              (m33 (before· .before) (before· .circuits .given))
 
       pub record After-ledger : Type 0 where
         pub before : After-circuits
         pub ledger : After-ledger·own before
 
-      abbrev pub m32 : (before : After-ledger) → (given : s43 .gives (m31 (before .before) (before .ledger .given))) →
-          Typed.Mo T46
-      m32 = λ before given. s43 .next (m31 (before .before) (before .ledger .given)) given
+      abbrev pub m35 : (before : After-ledger) → (given : s46 (before .before .before .before .before .before .before
+          .before .before .before .before .before .before .before .before .before .before .before .before .blocks)
+          .gives (m34 (before .before) (before .ledger .given))) → Typed.Mo T49
+      m35 = λ before given. s46 (before .before .before .before .before .before .before .before .before .before .before
+          .before .before .before .before .before .before .before .before .blocks) .next
+          (m34 (before .before) (before .ledger .given)) given
 
       module _ (before· : After-ledger) where
         pub record After-inflight·own : Type 0 where
-          pub given : s43 .gives (m31 (before· .before) (before· .ledger .given))
+          pub given : s46 (before· .before .before .before .before .before .before .before .before .before .before
+              .before .before .before .before .before .before .before .before .blocks) .gives
+              (m34 (before· .before) (before· .ledger .given))
 
       pub record After-inflight : Type 0 where
         pub before : After-ledger
         pub inflight : After-inflight·own before
 
-      abbrev pub m33 : (before : After-inflight) → (given : s46 .gives (m32 (before .before) (before .inflight .given)))
-          → Typed.Mo T49
-      m33 = λ before given. s46 .next (m32 (before .before) (before .inflight .given)) given
+      abbrev pub m36 : (before : After-inflight) → (given : s49 (before .before .before .before .before .before .before
+          .before .before .before .before .before .before .before .before .before .before .before .before .before
+          .blocks) .gives (m35 (before .before) (before .inflight .given))) → Typed.Mo T52
+      m36 = λ before given. s49 (before .before .before .before .before .before .before .before .before .before .before
+          .before .before .before .before .before .before .before .before .before .blocks) .next
+          (m35 (before .before) (before .inflight .given)) given
 
       module _ (before· : After-inflight) where
         pub record After-out·own : Type 0 where
-          pub given : s46 .gives (m32 (before· .before) (before· .inflight .given))
+          pub given : s49 (before· .before .before .before .before .before .before .before .before .before .before
+              .before .before .before .before .before .before .before .before .before .blocks) .gives
+              (m35 (before· .before) (before· .inflight .given))
 
       pub record After-out : Type 0 where
         pub before : After-inflight
         pub out : After-out·own before
 
-      abbrev pub m34 : (before : After-out) → (given : s47 .gives (m33 (before .before) (before .out .given))) →
-          Typed.Mo T50
-      m34 = λ before given. s47 .next (m33 (before .before) (before .out .given)) given
+      abbrev pub m37 : (before : After-out) → (given : s50 (before .before .before .before .before .before .before
+          .before .before .before .before .before .before .before .before .before .before .before .before .before
+          .before .blocks) .gives (m36 (before .before) (before .out .given))) → Typed.Mo T53
+      m37 = λ before given. s50 (before .before .before .before .before .before .before .before .before .before .before
+          .before .before .before .before .before .before .before .before .before .before .blocks) .next
+          (m36 (before .before) (before .out .given)) given
 
       module _ (before· : After-out) where
         pub record After-slice-known2·own : Type 0 where
-          pub given : s47 .gives (m33 (before· .before) (before· .out .given))
+          pub given : s50 (before· .before .before .before .before .before .before .before .before .before .before
+              .before .before .before .before .before .before .before .before .before .before .blocks) .gives
+              (m36 (before· .before) (before· .out .given))
 
       pub record After-slice-known2 : Type 0 where
         pub before : After-out
         pub slice-known2 : After-slice-known2·own before
 
       abbrev pub Need-same-length : Type 0
-      Need-same-length = (c : After-slice-known2) → MutSlice.SameLen (Row.get 1 (T50 .locals)
-          (m34 (c .before) (c .slice-known2 .given))) (dens (c .before .before .before .before .before .before .before
-          .before .before .before .before .before .before .before .before .before .before .before .before .κs) (c
+      Need-same-length = (c : After-slice-known2) → MutSlice.SameLen (Row.get 1 (T53 .locals)
+          (m37 (c .before) (c .slice-known2 .given))) (dens (c .before .before .before .before .before .before .before
           .before .before .before .before .before .before .before .before .before .before .before .before .before
-          .before .before .before .before .before .before .args) .0)
+          .before .κs) (c .before .before .before .before .before .before .before .before .before .before .before
+          .before .before .before .before .before .before .before .before .before .before .args) .0)
 
       abbrev pub Need-same-length-2 : Type 0
-      Need-same-length-2 = (c : After-slice-known2) → MutSlice.SameLen (Row.get 2 (T50 .locals)
-          (m34 (c .before) (c .slice-known2 .given))) (dens (c .before .before .before .before .before .before .before
-          .before .before .before .before .before .before .before .before .before .before .before .before .κs) (c
+      Need-same-length-2 = (c : After-slice-known2) → MutSlice.SameLen (Row.get 2 (T53 .locals)
+          (m37 (c .before) (c .slice-known2 .given))) (dens (c .before .before .before .before .before .before .before
           .before .before .before .before .before .before .before .before .before .before .before .before .before
-          .before .before .before .before .before .before .args) .1 .0)
+          .before .κs) (c .before .before .before .before .before .before .before .before .before .before .before
+          .before .before .before .before .before .before .before .before .before .before .args) .1 .0)
 
       abbrev pub Need-same-length-3 : Type 0
-      Need-same-length-3 = (c : After-slice-known2) → MutSlice.SameLen (Row.get 3 (T50 .locals)
-          (m34 (c .before) (c .slice-known2 .given))) (dens (c .before .before .before .before .before .before .before
-          .before .before .before .before .before .before .before .before .before .before .before .before .κs) (c
+      Need-same-length-3 = (c : After-slice-known2) → MutSlice.SameLen (Row.get 3 (T53 .locals)
+          (m37 (c .before) (c .slice-known2 .given))) (dens (c .before .before .before .before .before .before .before
           .before .before .before .before .before .before .before .before .before .before .before .before .before
-          .before .before .before .before .before .before .args) .1 .1 .0)
+          .before .κs) (c .before .before .before .before .before .before .before .before .before .before .before
+          .before .before .before .before .before .before .before .before .before .before .args) .1 .1 .0)
 
       abbrev pub Need-same-length-4 : Type 0
-      Need-same-length-4 = (c : After-slice-known2) → MutSlice.SameLen (Row.get 4 (T50 .locals)
-          (m34 (c .before) (c .slice-known2 .given))) (dens (c .before .before .before .before .before .before .before
-          .before .before .before .before .before .before .before .before .before .before .before .before .κs) (c
+      Need-same-length-4 = (c : After-slice-known2) → MutSlice.SameLen (Row.get 4 (T53 .locals)
+          (m37 (c .before) (c .slice-known2 .given))) (dens (c .before .before .before .before .before .before .before
           .before .before .before .before .before .before .before .before .before .before .before .before .before
-          .before .before .before .before .before .before .args) .1 .1 .1 .0)
+          .before .κs) (c .before .before .before .before .before .before .before .before .before .before .before
+          .before .before .before .before .before .before .before .before .before .before .args) .1 .1 .1 .0)
 
       abbrev pub Need-returns : Type 0
       Need-returns = (c : After-slice-known2) → Post· (c .before .before .before .before .before .before .before
-          .before .before .before .before .before .before .before .before .before .before .before .before .κs) (dens (c
           .before .before .before .before .before .before .before .before .before .before .before .before .before
-          .before .before .before .before .before .before .κs) (c .before .before .before .before .before .before
+          .before .κs) (dens (c .before .before .before .before .before .before .before .before .before .before .before
+          .before .before .before .before .before .before .before .before .before .before .κs) (c .before .before
           .before .before .before .before .before .before .before .before .before .before .before .before .before
-          .args)) (Function.resV r (c .before .before .before .before .before .before .before .before .before .before
-          .before .before .before .before .before .before .before .before .before .κs)
-          (m34 (c .before) (c .slice-known2 .given) .0)) (Clauses.atExit (Kinds.endedOf 6 ps r) (c .before .before
+          .before .before .before .before .before .before .args)) (Function.resV r (c .before .before .before .before
           .before .before .before .before .before .before .before .before .before .before .before .before .before
-          .before .before .before .before .κs) (dens (c .before .before .before .before .before .before .before .before
-          .before .before .before .before .before .before .before .before .before .before .before .κs) (c .before
+          .before .before .before .before .κs) (m37 (c .before) (c .slice-known2 .given) .0)) (Clauses.atExit
+          (Kinds.endedOf 5 ps r) (c .before .before .before .before .before .before .before .before .before .before
+          .before .before .before .before .before .before .before .before .before .before .before .κs) (dens (c .before
           .before .before .before .before .before .before .before .before .before .before .before .before .before
-          .before .before .before .before .before .args)) (Enter.lastsP (c .before .before .before .before .before
+          .before .before .before .before .before .before .before .κs) (c .before .before .before .before .before
+          .before .before .before .before .before .before .before .before .before .before .before .before .before
+          .before .before .before .args)) (Enter.lastsP (c .before .before .before .before .before .before .before
           .before .before .before .before .before .before .before .before .before .before .before .before .before
           .before .κs) 1 ps xs (dens (c .before .before .before .before .before .before .before .before .before .before
-          .before .before .before .before .before .before .before .before .before .κs) (c .before .before .before
+          .before .before .before .before .before .before .before .before .before .before .before .κs) (c .before
           .before .before .before .before .before .before .before .before .before .before .before .before .before
-          .before .before .before .args)) (m34 (c .before) (c .slice-known2 .given) .1)))
+          .before .before .before .before .before .before .before .args))
+          (m37 (c .before) (c .slice-known2 .given) .1)))
 
-      abbrev pub m35 : (before : After-is-taken) → Typed.Mo T52
-      m35 = λ before. s49 (m14 (before .before) (After-is-taken·gave before))
+      abbrev pub m38 : (before : After-is-taken) → Typed.Mo T55
+      m38 = λ before. s52 (before .before .before .before .before .before .before .before .before .before .before
+          .blocks) (m17 (before .before) (After-is-taken·gave before))
 
-      abbrev pub m36 : (before : After-is-taken) → Typed.Mo T53
-      m36 = λ before. s50 (m35 before)
+      abbrev pub m39 : (before : After-is-taken) → Typed.Mo T56
+      m39 = λ before. s53 (before .before .before .before .before .before .before .before .before .before .before
+          .blocks) (m38 before)
 
-      abbrev pub m37 : (before : After-is-taken) → Typed.Mo T54
-      m37 = λ before. s51 (m36 before)
+      abbrev pub m40 : (before : After-is-taken) → Typed.Mo T57
+      m40 = λ before. s54 (before .before .before .before .before .before .before .before .before .before .before
+          .blocks) (m39 before)
 
       module _ (before· : After-is-taken) where
         pub record Else1·own : Type 0 where
-          pub left : Path._≡_ (Row.get 16 (T18 .locals) (m14 (before· .before) (After-is-taken·gave before·)))
+          pub left : Path._≡_ (Row.get 16 (T21 .locals) (m17 (before· .before) (After-is-taken·gave before·)))
               Bool'.false
 
       pub record Else1 : Type 0 where
@@ -2770,84 +3067,120 @@ module _ (claims· : Claims) where
         pub if1 : Else1·own before
 
       abbrev pub Need-refused-requires : Type 0
-      Need-refused-requires = (c : Else1) → s52 .asks (m37 (c .before))
+      Need-refused-requires = (c : Else1) → s55 (c .before .before .before .before .before .before .before .before
+          .before .before .before .blocks) .asks (m40 (c .before))
 
-      abbrev pub m38 : (before : Else1) → (given : s52 .gives (m37 (before .before))) → Typed.Mo T55
-      m38 = λ before given. s52 .next (m37 (before .before)) given
+      abbrev pub m41 : (before : Else1) → (given : s55 (before .before .before .before .before .before .before .before
+          .before .before .before .before .blocks) .gives (m40 (before .before))) → Typed.Mo T58
+      m41 = λ before given. s55 (before .before .before .before .before .before .before .before .before .before .before
+          .before .blocks) .next (m40 (before .before)) given
 
       module _ (before· : Else1) where
         abbrev pub After-refused·own : Type 0
-        After-refused·own = Called.Called ps·5 r·5 (claims· .11) T19 args52 (m37 (before· .before))
+        After-refused·own = Called.Called ps·4 r·4 (claims· .9) T22 (
+          record { pos = 7; st = List.[]; d = 0; at = λ x. x },
+          (
+            record { pos = 8; st = List.[]; d = 0; at = λ x. x },
+            (record { pos = 12; st = List.[]; d = 0; at = λ x. x }, tt),
+          ),
+        ) (m40 (before· .before))
 
       pub record After-refused : Type 0 where
         pub before : Else1
         pub refused : After-refused·own before
 
-      abbrev pub After-refused·gave : (c : After-refused) → s52 .gives (m37 (c .before .before))
-      After-refused·gave = λ c. Called.given ps·5 r·5 (claims· .11) T19 args52 (m37 (c .before .before)) (c .refused)
+      abbrev pub After-refused·gave : (c : After-refused) → s55 (c .before .before .before .before .before .before
+          .before .before .before .before .before .before .blocks) .gives (m40 (c .before .before))
+      After-refused·gave = λ c. Called.given ps·4 r·4 (claims· .9) T22 (
+        record { pos = 7; st = List.[]; d = 0; at = λ x. x },
+        (
+          record { pos = 8; st = List.[]; d = 0; at = λ x. x },
+          (record { pos = 12; st = List.[]; d = 0; at = λ x. x }, tt),
+        ),
+      ) (m40 (c .before .before)) (c .refused)
 
-      abbrev pub m39 : (before : Else1) → (given : s52 .gives (m37 (before .before))) → Typed.Mo T56
-      m39 = λ before given. s53 (m38 before given)
+      abbrev pub m42 : (before : Else1) → (given : s55 (before .before .before .before .before .before .before .before
+          .before .before .before .before .blocks) .gives (m40 (before .before))) → Typed.Mo T59
+      m42 = λ before given. s56 (before .before .before .before .before .before .before .before .before .before .before
+          .before .blocks) (m41 before given)
 
-      abbrev pub m40 : (before : Else1) → (given : s52 .gives (m37 (before .before))) → Typed.Mo T57
-      m40 = λ before given. s54 (m39 before given)
+      abbrev pub m43 : (before : Else1) → (given : s55 (before .before .before .before .before .before .before .before
+          .before .before .before .before .blocks) .gives (m40 (before .before))) → Typed.Mo T60
+      m43 = λ before given. s57 (before .before .before .before .before .before .before .before .before .before .before
+          .before .blocks) (m42 before given)
 
-      abbrev pub m41 : (before : Else1) → (given : s52 .gives (m37 (before .before))) → Typed.Mo T58
-      m41 = λ before given. s55 (m40 before given)
+      abbrev pub m44 : (before : Else1) → (given : s55 (before .before .before .before .before .before .before .before
+          .before .before .before .before .blocks) .gives (m40 (before .before))) → Typed.Mo T61
+      m44 = λ before given. s58 (before .before .before .before .before .before .before .before .before .before .before
+          .before .blocks) (m43 before given)
 
       abbrev pub Need-same-length-5 : Type 0
-      Need-same-length-5 = (c : After-refused) → MutSlice.SameLen (Row.get 1 (T58 .locals)
-          (m41 (c .before) (After-refused·gave c))) (dens (c .before .before .before .before .before .before .before
-          .before .before .before .κs) (c .before .before .before .before .before .before .before .before .before
-          .before .args) .0)
+      Need-same-length-5 = (c : After-refused) → MutSlice.SameLen (Row.get 1 (T61 .locals)
+          (m44 (c .before) (After-refused·gave c))) (dens (c .before .before .before .before .before .before .before
+          .before .before .before .before .before .κs) (c .before .before .before .before .before .before .before
+          .before .before .before .before .before .args) .0)
 
       abbrev pub Need-returns-2 : Type 0
       Need-returns-2 = (c : After-refused) → Post· (c .before .before .before .before .before .before .before .before
+          .before .before .before .before .κs) (dens (c .before .before .before .before .before .before .before .before
+          .before .before .before .before .κs) (c .before .before .before .before .before .before .before .before
+          .before .before .before .before .args)) (Function.resV r (c .before .before .before .before .before .before
+          .before .before .before .before .before .before .κs) (m44 (c .before) (After-refused·gave c) .0)) (Clauses.atExit
+          (Kinds.endedOf 5 ps r) (c .before .before .before .before .before .before .before .before .before .before
           .before .before .κs) (dens (c .before .before .before .before .before .before .before .before .before .before
-          .κs) (c .before .before .before .before .before .before .before .before .before .before .args)) (Function.resV
-          r (c .before .before .before .before .before .before .before .before .before .before .κs)
-          (m41 (c .before) (After-refused·gave c) .0)) (Clauses.atExit (Kinds.endedOf 6 ps r) (c .before .before
-          .before .before .before .before .before .before .before .before .κs) (dens (c .before .before .before .before
-          .before .before .before .before .before .before .κs) (c .before .before .before .before .before .before
-          .before .before .before .before .args)) (Enter.lastsP (c .before .before .before .before .before .before
+          .before .before .κs) (c .before .before .before .before .before .before .before .before .before .before
+          .before .before .args)) (Enter.lastsP (c .before .before .before .before .before .before .before .before
           .before .before .before .before .κs) 1 ps xs (dens (c .before .before .before .before .before .before .before
-          .before .before .before .κs) (c .before .before .before .before .before .before .before .before .before
-          .before .args)) (m41 (c .before) (After-refused·gave c) .1)))
+          .before .before .before .before .before .κs) (c .before .before .before .before .before .before .before
+          .before .before .before .before .before .args)) (m44 (c .before) (After-refused·gave c) .1)))
 
-      module _ (circuit-by-id-requires : Need-circuit-by-id-requires) (peer-of-requires : Need-peer-of-requires)
-          (data-entry-requires : Need-data-entry-requires) (is-taken-requires : Need-is-taken-requires)
-          (pass-data-requires : Need-pass-data-requires) (same-length : Need-same-length)
-          (same-length-2 : Need-same-length-2) (same-length-3 : Need-same-length-3)
+      module _ (circuit-by-id-requires : Need-circuit-by-id-requires) (data-entry-requires : Need-data-entry-requires)
+          (is-taken-requires : Need-is-taken-requires) (pass-data-requires : Need-pass-data-requires)
+          (same-length : Need-same-length) (same-length-2 : Need-same-length-2) (same-length-3 : Need-same-length-3)
           (same-length-4 : Need-same-length-4) (returns : Need-returns) (refused-requires : Need-refused-requires)
           (same-length-5 : Need-same-length-5) (returns-2 : Need-returns-2) where
-        lay7 : (c : After-refused) → at41 (W0 (c .before .before .before .before .before .before .before .before
-            .before .before .κs) (c .before .before .before .before .before .before .before .before .before .before
-            .args)) (m38 (c .before) (After-refused·gave c))
-        lay7 = λ c. (
+        lay6 : (c : After-refused) → at41 (c .before .before .before .before .before .before .before .before .before
+            .before .before .before .blocks) (W0 (c .before .before .before .before .before .before .before .before
+            .before .before .before .before .κs) (c .before .before .before .before .before .before .before .before
+            .before .before .before .before .args) (c .before .before .before .before .before .before .before .before
+            .before .before .before .before .blocks)) (m41 (c .before) (After-refused·gave c))
+        lay6 = λ c. (
           (
-            MutSlice.fix-len (Row.get 1 (T58 .locals) (m41 (c .before) (After-refused·gave c)) .ptr) (Row.get 1
-                (T58 .locals) (m41 (c .before) (After-refused·gave c)) .name) (Row.get 1 (T58 .locals)
-                (m41 (c .before) (After-refused·gave c)) .now) (dens (c .before .before .before .before .before .before
-                .before .before .before .before .κs) (c .before .before .before .before .before .before .before .before
-                .before .before .args) .0 .now) (same-length-5 record { before = c .before; refused = c .refused }),
-            (Path.refl, (Path.refl, (Path.refl, (tt, (tt, (tt, (Path.refl, (Path.refl, tt)))))))),
+            MutSlice.fix-len (Row.get 1 (T61 .locals) (m44 (c .before) (After-refused·gave c)) .ptr) (Row.get 1
+                (T61 .locals) (m44 (c .before) (After-refused·gave c)) .name) (Row.get 1 (T61 .locals)
+                (m44 (c .before) (After-refused·gave c)) .now) (dens (c .before .before .before .before .before .before
+                .before .before .before .before .before .before .κs) (c .before .before .before .before .before .before
+                .before .before .before .before .before .before .args) .0 .now) (same-length-5
+                record { before = c .before; refused = c .refused }),
+            (Path.refl, (Path.refl, (Path.refl, (tt, (Path.refl, tt))))),
           ),
           returns-2 record { before = c .before; refused = c .refused },
         )
 
-        lay6 : (c : Else1) → at42 (W0 (c .before .before .before .before .before .before .before .before .before .κs) (c
-            .before .before .before .before .before .before .before .before .before .args)) (m37 (c .before))
-        lay6 = λ c. (
+        lay5 : (c : Else1) → at42 (c .before .before .before .before .before .before .before .before .before .before
+            .before .blocks) (W0 (c .before .before .before .before .before .before .before .before .before .before
+            .before .κs) (c .before .before .before .before .before .before .before .before .before .before .before
+            .args) (c .before .before .before .before .before .before .before .before .before .before .before .blocks))
+            (m40 (c .before))
+        lay5 = λ c. (
           refused-requires record { before = c .before; if1 = c .if1 },
-          λ g. lay7 record {
+          λ g. lay6 record {
             before = record { before = c .before; if1 = c .if1 };
-            refused = Called.called ps·5 r·5 (claims· .11) T19 args52 (m37 (c .before)) g;
+            refused = Called.called ps·4 r·4 (claims· .9) T22 (
+              record { pos = 7; st = List.[]; d = 0; at = λ x. x },
+              (
+                record { pos = 8; st = List.[]; d = 0; at = λ x. x },
+                (record { pos = 12; st = List.[]; d = 0; at = λ x. x }, tt),
+              ),
+            ) (m40 (c .before)) g;
           },
         )
 
-        lay5 : (c : After-pass-data) → at17 (W1 (c .before .before .before .before .before .before .before) (After-is-taken·gave
-            (c .before .before .before .before .before .before))) (m25 (c .before) (After-pass-data·gave c))
-        lay5 = λ c. (
+        lay4 : (c : After-pass-data) → at15 (c .before .before .before .before .before .before .before .before .before
+            .before .before .before .before .before .before .before .blocks) (W1
+            (c .before .before .before .before .before .before .before) (After-is-taken·gave
+            (c .before .before .before .before .before .before))) (m30 (c .before) (After-pass-data·gave c))
+        lay4 = λ c. (
           Path.refl,
           λ g. (
             Path.refl,
@@ -2857,7 +3190,7 @@ module _ (claims· : Claims) where
                 Path.refl,
                 λ g'3. λ g'4. (
                   (
-                    MutSlice.fix-len (Row.get 1 (T50 .locals) (m34
+                    MutSlice.fix-len (Row.get 1 (T53 .locals) (m37
                         record {
                           before = record {
                             before = record {
@@ -2870,7 +3203,7 @@ module _ (claims· : Claims) where
                             inflight = record { given = g'' };
                           };
                           out = record { given = g'3 };
-                        } g'4) .ptr) (Row.get 1 (T50 .locals) (m34
+                        } g'4) .ptr) (Row.get 1 (T53 .locals) (m37
                         record {
                           before = record {
                             before = record {
@@ -2883,7 +3216,7 @@ module _ (claims· : Claims) where
                             inflight = record { given = g'' };
                           };
                           out = record { given = g'3 };
-                        } g'4) .name) (Row.get 1 (T50 .locals) (m34
+                        } g'4) .name) (Row.get 1 (T53 .locals) (m37
                         record {
                           before = record {
                             before = record {
@@ -2897,9 +3230,9 @@ module _ (claims· : Claims) where
                           };
                           out = record { given = g'3 };
                         } g'4) .now) (dens (c .before .before .before .before .before .before .before .before .before
-                        .before .before .before .before .before .κs) (c .before .before .before .before .before .before
-                        .before .before .before .before .before .before .before .before .args) .0 .now) (same-length
-                        record {
+                        .before .before .before .before .before .before .before .κs) (c .before .before .before .before
+                        .before .before .before .before .before .before .before .before .before .before .before .before
+                        .args) .0 .now) (same-length record {
                           before = record {
                             before = record {
                               before = record {
@@ -2916,7 +3249,7 @@ module _ (claims· : Claims) where
                           slice-known2 = record { given = g'4 };
                         }),
                     (
-                      MutSlice.fix-len (Row.get 2 (T50 .locals) (m34
+                      MutSlice.fix-len (Row.get 2 (T53 .locals) (m37
                           record {
                             before = record {
                               before = record {
@@ -2929,7 +3262,7 @@ module _ (claims· : Claims) where
                               inflight = record { given = g'' };
                             };
                             out = record { given = g'3 };
-                          } g'4) .ptr) (Row.get 2 (T50 .locals) (m34
+                          } g'4) .ptr) (Row.get 2 (T53 .locals) (m37
                           record {
                             before = record {
                               before = record {
@@ -2942,7 +3275,7 @@ module _ (claims· : Claims) where
                               inflight = record { given = g'' };
                             };
                             out = record { given = g'3 };
-                          } g'4) .name) (Row.get 2 (T50 .locals) (m34
+                          } g'4) .name) (Row.get 2 (T53 .locals) (m37
                           record {
                             before = record {
                               before = record {
@@ -2956,8 +3289,9 @@ module _ (claims· : Claims) where
                             };
                             out = record { given = g'3 };
                           } g'4) .now) (dens (c .before .before .before .before .before .before .before .before .before
-                          .before .before .before .before .before .κs) (c .before .before .before .before .before
-                          .before .before .before .before .before .before .before .before .before .args) .1 .0 .now) (same-length-2
+                          .before .before .before .before .before .before .before .κs) (c .before .before .before
+                          .before .before .before .before .before .before .before .before .before .before .before
+                          .before .before .args) .1 .0 .now) (same-length-2
                           record {
                             before = record {
                               before = record {
@@ -2975,7 +3309,7 @@ module _ (claims· : Claims) where
                             slice-known2 = record { given = g'4 };
                           }),
                       (
-                        MutSlice.fix-len (Row.get 3 (T50 .locals) (m34
+                        MutSlice.fix-len (Row.get 3 (T53 .locals) (m37
                             record {
                               before = record {
                                 before = record {
@@ -2988,7 +3322,7 @@ module _ (claims· : Claims) where
                                 inflight = record { given = g'' };
                               };
                               out = record { given = g'3 };
-                            } g'4) .ptr) (Row.get 3 (T50 .locals) (m34
+                            } g'4) .ptr) (Row.get 3 (T53 .locals) (m37
                             record {
                               before = record {
                                 before = record {
@@ -3001,7 +3335,7 @@ module _ (claims· : Claims) where
                                 inflight = record { given = g'' };
                               };
                               out = record { given = g'3 };
-                            } g'4) .name) (Row.get 3 (T50 .locals) (m34
+                            } g'4) .name) (Row.get 3 (T53 .locals) (m37
                             record {
                               before = record {
                                 before = record {
@@ -3015,9 +3349,9 @@ module _ (claims· : Claims) where
                               };
                               out = record { given = g'3 };
                             } g'4) .now) (dens (c .before .before .before .before .before .before .before .before
-                            .before .before .before .before .before .before .κs) (c .before .before .before .before
-                            .before .before .before .before .before .before .before .before .before .before .args) .1
-                            .1 .0 .now) (same-length-3
+                            .before .before .before .before .before .before .before .before .κs) (c .before .before
+                            .before .before .before .before .before .before .before .before .before .before .before
+                            .before .before .before .args) .1 .1 .0 .now) (same-length-3
                             record {
                               before = record {
                                 before = record {
@@ -3035,7 +3369,7 @@ module _ (claims· : Claims) where
                               slice-known2 = record { given = g'4 };
                             }),
                         (
-                          MutSlice.fix-len (Row.get 4 (T50 .locals) (m34
+                          MutSlice.fix-len (Row.get 4 (T53 .locals) (m37
                               record {
                                 before = record {
                                   before = record {
@@ -3048,7 +3382,7 @@ module _ (claims· : Claims) where
                                   inflight = record { given = g'' };
                                 };
                                 out = record { given = g'3 };
-                              } g'4) .ptr) (Row.get 4 (T50 .locals) (m34
+                              } g'4) .ptr) (Row.get 4 (T53 .locals) (m37
                               record {
                                 before = record {
                                   before = record {
@@ -3061,7 +3395,7 @@ module _ (claims· : Claims) where
                                   inflight = record { given = g'' };
                                 };
                                 out = record { given = g'3 };
-                              } g'4) .name) (Row.get 4 (T50 .locals) (m34
+                              } g'4) .name) (Row.get 4 (T53 .locals) (m37
                               record {
                                 before = record {
                                   before = record {
@@ -3075,9 +3409,9 @@ module _ (claims· : Claims) where
                                 };
                                 out = record { given = g'3 };
                               } g'4) .now) (dens (c .before .before .before .before .before .before .before .before
-                              .before .before .before .before .before .before .κs) (c .before .before .before .before
-                              .before .before .before .before .before .before .before .before .before .before .args) .1
-                              .1 .1 .0 .now) (same-length-4
+                              .before .before .before .before .before .before .before .before .κs) (c .before .before
+                              .before .before .before .before .before .before .before .before .before .before .before
+                              .before .before .before .args) .1 .1 .1 .0 .now) (same-length-4
                               record {
                                 before = record {
                                   before = record {
@@ -3094,7 +3428,7 @@ module _ (claims· : Claims) where
                                 };
                                 slice-known2 = record { given = g'4 };
                               }),
-                          (tt, (tt, (tt, (Path.refl, (Path.refl, tt))))),
+                          (tt, (Path.refl, tt)),
                         ),
                       ),
                     ),
@@ -3121,10 +3455,12 @@ module _ (claims· : Claims) where
           ),
         )
 
-        lay4 : (c : After-is-taken) → at43 (W0 (c .before .before .before .before .before .before .before .before .κs) (c
-            .before .before .before .before .before .before .before .before .args))
-            (m14 (c .before) (After-is-taken·gave c))
-        lay4 = λ c. (
+        lay3 : (c : After-is-taken) → at43 (c .before .before .before .before .before .before .before .before .before
+            .before .blocks) (W0 (c .before .before .before .before .before .before .before .before .before .before .κs) (c
+            .before .before .before .before .before .before .before .before .before .before .args) (c .before .before
+            .before .before .before .before .before .before .before .before .blocks))
+            (m17 (c .before) (After-is-taken·gave c))
+        lay3 = λ c. (
           λ taken. λ g. (
             Path.refl,
             λ g'. (
@@ -3150,7 +3486,7 @@ module _ (claims· : Claims) where
                       };
                       pass-data-arg4 = record { given = g'3 };
                     },
-                    λ g'4. lay5 record {
+                    λ g'4. lay4 record {
                       before = record {
                         before = record {
                           before = record {
@@ -3167,103 +3503,163 @@ module _ (claims· : Claims) where
                         };
                         pass-data-arg4 = record { given = g'3 };
                       };
-                      pass-data = Called.called ps·4 r·4 (claims· .9) T33 args31 (m24
-                          record {
+                      pass-data = Called.called ps·3 r·3 (claims· .7) T38 (
+                        record { pos = 18; ty = ref1; ref = λ x. x },
+                        (
+                          record { pos = 20; ty = ref2; ref = λ x. x },
+                          (
+                            record { pos = 22; ty = ref3; ref = λ x. x },
+                            (
+                              record { pos = 24; ty = ref4; ref = λ x. x },
+                              (
+                                record { pos = 5; st = List.[]; d = 0; at = λ x. x },
+                                (
+                                  record { pos = 11; st = List.[]; d = 0; at = λ x. x },
+                                  (record { pos = 6; ty = ref9; ref = λ x. x }, tt),
+                                ),
+                              ),
+                            ),
+                          ),
+                        ),
+                      ) (m29 record {
+                        before = record {
+                          before = record {
                             before = record {
-                              before = record {
-                                before = record {
-                                  before = record { before = c .before; is-taken = c .is-taken };
-                                  if1 = record { taken = taken };
-                                };
-                                pass-data-arg = record { given = g };
-                              };
-                              pass-data-arg2 = record { given = g' };
+                              before = record { before = c .before; is-taken = c .is-taken };
+                              if1 = record { taken = taken };
                             };
-                            pass-data-arg3 = record { given = g'' };
-                          } g'3) g'4;
+                            pass-data-arg = record { given = g };
+                          };
+                          pass-data-arg2 = record { given = g' };
+                        };
+                        pass-data-arg3 = record { given = g'' };
+                      } g'3) g'4;
                     },
                   ),
                 ),
               ),
             ),
           ),
-          λ left. lay6 record {
+          λ left. lay5 record {
             before = record { before = c .before; is-taken = c .is-taken };
             if1 = record { left = left };
           },
         )
 
-        lay3 : (c : After-data-entry) → at46 (W0 (c .before .before .before .before .before .before .before .κs) (c
-            .before .before .before .before .before .before .before .args)) (m11 (c .before) (After-data-entry·gave c))
-        lay3 = λ c. (
-          is-taken-requires record { before = c .before; data-entry = c .data-entry },
-          λ g. lay4 record {
-            before = record { before = c .before; data-entry = c .data-entry };
-            is-taken = Called.called ps·3 r·3 (claims· .7) T17 args16 (m13 (c .before) (After-data-entry·gave c)) g;
-          },
-        )
-
-        lay2 : (c : After-peer-of) → at48 (W0 (c .before .before .before .before .before .before .κs)
-            (c .before .before .before .before .before .before .args)) (m9 (c .before) (After-peer-of·gave c))
+        lay2 : (c : After-data-entry) → at46 (c .before .before .before .before .before .before .before .before .before
+            .blocks) (W0 (c .before .before .before .before .before .before .before .before .before .κs) (c .before
+            .before .before .before .before .before .before .before .before .args) (c .before .before .before .before
+            .before .before .before .before .before .blocks)) (m14 (c .before) (After-data-entry·gave c))
         lay2 = λ c. (
-          data-entry-requires record { before = c .before; peer-of = c .peer-of },
+          is-taken-requires record { before = c .before; data-entry = c .data-entry },
           λ g. lay3 record {
-            before = record { before = c .before; peer-of = c .peer-of };
-            data-entry = Called.called ps·2 r·2 (claims· .5) T14 args13 (m10 (c .before) (After-peer-of·gave c)) g;
+            before = record { before = c .before; data-entry = c .data-entry };
+            is-taken = Called.called ps·2 r·2 (claims· .5) T20
+                (record { pos = 12; st = List.[]; d = 0; at = λ x. x }, tt) (m16 (c .before) (After-data-entry·gave c))
+                g;
           },
         )
 
-        lay1 : (c : After-circuit-by-id) → at53 (W0 (c .before .before .before .before .before .κs)
-            (c .before .before .before .before .before .args)) (m6 (c .before) (After-circuit-by-id·gave c))
+        lay1 : (c : After-circuit-by-id) → at53 (c .before .before .before .before .before .before .before .before
+            .blocks) (W0 (c .before .before .before .before .before .before .before .before .κs) (c .before .before
+            .before .before .before .before .before .before .args) (c .before .before .before .before .before .before
+            .before .before .blocks)) (m9 (c .before) (After-circuit-by-id·gave c))
         lay1 = λ c. (
-          peer-of-requires record { before = c .before; circuit-by-id = c .circuit-by-id },
+          data-entry-requires record { before = c .before; circuit-by-id = c .circuit-by-id },
           λ g. lay2 record {
             before = record { before = c .before; circuit-by-id = c .circuit-by-id };
-            peer-of = Called.called ps·1 r·1 (claims· .3) T11 args11 (m8 (c .before) (After-circuit-by-id·gave c)) g;
+            data-entry = Called.called ps·1 r·1 (claims· .3) T17 (
+              record { pos = 11; st = List.[]; d = 0; at = λ x. x },
+              (record { pos = 10; st = List.[]; d = 0; at = λ x. x }, (Num.vAt 15 λ x. x, tt)),
+            ) (m13 (c .before) (After-circuit-by-id·gave c)) g;
           },
         )
 
-        pub laid : (c : Start) → at60 (W0 (c .κs) (c .args)) (m0 (c .κs) (c .args))
-        laid = λ c. λ g. λ g'. λ g''. λ g'3. (
-          Path.refl,
-          (
-            circuit-by-id-requires record {
-              before = record {
-                before = record {
-                  before = record { before = c; slice-known = record { given = g } };
-                  shared-slice-known = record { given = g' };
-                };
-                shared-slice-known2 = record { given = g'' };
-              };
-              circuit-by-id-arg = record { given = g'3 };
-            },
-            λ g'4. lay1 record {
-              before = record {
-                before = record {
-                  before = record {
-                    before = record { before = c; slice-known = record { given = g } };
-                    shared-slice-known = record { given = g' };
-                  };
-                  shared-slice-known2 = record { given = g'' };
-                };
-                circuit-by-id-arg = record { given = g'3 };
-              };
-              circuit-by-id = Called.called ps·0 r·0 (claims· .1) T7 args6 (m5
-                  record {
-                    before = record {
-                      before = record { before = c; slice-known = record { given = g } };
-                      shared-slice-known = record { given = g' };
-                    };
-                    shared-slice-known2 = record { given = g'' };
-                  } g'3) g'4;
-            },
+        pub laid : (c : Start) → at63 (c .blocks) (W0 (c .κs) (c .args) (c .blocks)) (m0 (c .κs) (c .args) (c .blocks))
+        laid = λ c. λ g. λ g'. (
+          tt,
+          λ g''. (
+            tt,
+            λ g'3. (
+              tt,
+              λ g'4. (
+                tt,
+                λ g'5. λ g'6. (
+                  Path.refl,
+                  (
+                    circuit-by-id-requires record {
+                      before = record {
+                        before = record {
+                          before = record {
+                            before = record {
+                              before = record {
+                                before = record { before = c; slice-known = record { given = g } };
+                                shared-slice-known = record { given = g' };
+                              };
+                              runtime = record { given = g'' };
+                            };
+                            places = record { given = g'3 };
+                          };
+                          packet = record { given = g'4 };
+                        };
+                        peer = record { given = g'5 };
+                      };
+                      circuit-by-id-arg = record { given = g'6 };
+                    },
+                    λ g'7. lay1 record {
+                      before = record {
+                        before = record {
+                          before = record {
+                            before = record {
+                              before = record {
+                                before = record {
+                                  before = record { before = c; slice-known = record { given = g } };
+                                  shared-slice-known = record { given = g' };
+                                };
+                                runtime = record { given = g'' };
+                              };
+                              places = record { given = g'3 };
+                            };
+                            packet = record { given = g'4 };
+                          };
+                          peer = record { given = g'5 };
+                        };
+                        circuit-by-id-arg = record { given = g'6 };
+                      };
+                      circuit-by-id = Called.called ps·0 r·0 (claims· .1) T10 (
+                        record { pos = 14; ty = ref0; ref = λ x. x },
+                        (
+                          record { pos = 8; st = List.[]; d = 0; at = λ x. x },
+                          (Num.vFld 9 ((Syntax.field 1) ∷ List.[]) 8 λ x. RelayPacket.struct .as-values x .1 .0, tt),
+                        ),
+                      ) (m8 record {
+                        before = record {
+                          before = record {
+                            before = record {
+                              before = record {
+                                before = record { before = c; slice-known = record { given = g } };
+                                shared-slice-known = record { given = g' };
+                              };
+                              runtime = record { given = g'' };
+                            };
+                            places = record { given = g'3 };
+                          };
+                          packet = record { given = g'4 };
+                        };
+                        peer = record { given = g'5 };
+                      } g'6) g'7;
+                    },
+                  ),
+                ),
+              ),
+            ),
           ),
         )
 
-        module _ (κs : Lifetimes.Lfts 6) (qs : Lifetimes.Shares 6) where
+        module _ (κs : Lifetimes.Lfts 5) (qs : Lifetimes.Shares 5) where
           pub asked : (a : Kinds.Dens κs ps) → (good : Kinds.GoodsP κs ps a) → (pre : Pre· κs a) →
-              (bs : List.List Nat.ℕ) → Φ (Any.wantQ 6 ps r xs m κs qs a (Post· κs a))
-              (Function.init 6 ps r xs m κs qs a)
+              (bs : List.List Nat.ℕ) → Φ bs (Any.wantQ 5 ps r xs m κs qs a (Post· κs a))
+              (Function.init 5 ps r xs m κs qs a)
           asked = λ a good pre bs. laid record {
             κs = κs;
             args = record {
@@ -3271,25 +3667,22 @@ module _ (claims· : Claims) where
               ledger = a .1 .0;
               inflight = a .1 .1 .0;
               out = a .1 .1 .1 .0;
-              runtime = a .1 .1 .1 .1 .0;
-              places = a .1 .1 .1 .1 .1 .0;
-              packet = a .1 .1 .1 .1 .1 .1 .0;
-              source = a .1 .1 .1 .1 .1 .1 .1 .0;
-              body = a .1 .1 .1 .1 .1 .1 .1 .1 .0;
+              request = a .1 .1 .1 .1 .0;
+              body = a .1 .1 .1 .1 .1 .0;
             };
+            blocks = bs;
             good = good;
             pre = pre;
           }
 
         module _ {M : Type 1} (𝓤 : URA.URA M) (H : Wp.Heap 𝓤) (A : Atoms.Atoms 𝓤) (W : Kit.Given 𝓤 H A)
             (𝓣 : Wp.Tables 𝓤 H) (known0 : Plain.Known 𝓤 H A W 𝓣 1 ps·0 r·0 (claims· .0) (claims· .1)
-            "hnsr_circuit::tables::lookup::circuit_by_id") (known1 : Plain.Known 𝓤 H A W 𝓣 1 ps·1 r·1 (claims· .2)
-            (claims· .3) "hnsr_circuit::peer::peer_of") (known2 : Plain.Known 𝓤 H A W 𝓣 0 ps·2 r·2 (claims· .4)
-            (claims· .5) "hnsr_circuit::messages::data::data_entry") (known3 : Plain.Known 𝓤 H A W 𝓣 0 ps·3 r·3
-            (claims· .6) (claims· .7) "hnsr_circuit::answer::is_taken") (known4 : Plain.Known 𝓤 H A W 𝓣 6 ps·4 r·4
-            (claims· .8) (claims· .9) "hnsr_circuit::messages::handle_data::pass_data") (known5 : Plain.Known 𝓤 H A W 𝓣
-            0 ps·5 r·5 (claims· .10) (claims· .11) "hnsr_circuit::runtime::refused") where
-          pub spec : Statement.Triple 𝓤 (Wp.WpFn 𝓤 H (𝓣 .C) (𝓣 .Λ) (Function.fnOf 6 ps r xs m hs body))
-              (Function.plainOf 𝓤 H A 6 ps r Pre· Post·)
-          spec = Plain.t-fn-plain 𝓤 H A W 𝓣 6 ps r xs m hs body (λ κs qs bs. Φ) (λ κs qs bs bd. typed κs qs 𝓤 H A W 𝓣
-              (known0, known1, known2, known3, known4, known5) bs bd) Pre· Post· asked
+            "hnsr_circuit::tables::lookup::circuit_by_id") (known1 : Plain.Known 𝓤 H A W 𝓣 0 ps·1 r·1 (claims· .2)
+            (claims· .3) "hnsr_circuit::messages::data::data_entry") (known2 : Plain.Known 𝓤 H A W 𝓣 0 ps·2 r·2
+            (claims· .4) (claims· .5) "hnsr_circuit::answer::is_taken") (known3 : Plain.Known 𝓤 H A W 𝓣 5 ps·3 r·3
+            (claims· .6) (claims· .7) "hnsr_circuit::messages::handle_data::pass_data") (known4 : Plain.Known 𝓤 H A W 𝓣
+            0 ps·4 r·4 (claims· .8) (claims· .9) "hnsr_circuit::runtime::refused") where
+          pub spec : Statement.Triple 𝓤 (Wp.WpFn 𝓤 H (𝓣 .C) (𝓣 .Λ) (Function.fnOf 5 ps r xs m hs body))
+              (Function.plainOf 𝓤 H A 5 ps r Pre· Post·)
+          spec = Plain.t-fn-plain 𝓤 H A W 𝓣 5 ps r xs m hs body (λ κs qs bs. Φ bs) (λ κs qs bs bd. typed κs qs 𝓤 H A W
+              𝓣 (known0, known1, known2, known3, known4) bs bd) Pre· Post· asked

@@ -4,28 +4,20 @@ use Rattle.hnsr_circuit.proofs.By.ReservationUsage
 use Rattle.hnsr_circuit.proofs.StructRow
 use Rattle.hnsr_circuit.proofs.messages.data.DataPlan
 use Rattle.hnsr_circuit.proofs.messages.data.DataPlan.Laws
-use Rattle.hnsr_circuit.proofs.runtime.OpaqueRelayRuntime
-use Rattle.hnsr_circuit.proofs.runtime.OpaqueRelayRuntime.Laws as Laws'
-use Rattle.hnsr_circuit.proofs.runtime.RelayPacket
-use Rattle.hnsr_circuit.proofs.runtime.RelayPacket.Laws as Laws''
+use Rattle.hnsr_circuit.proofs.runtime.Request
+use Rattle.hnsr_circuit.proofs.runtime.Request.Laws as Laws'
 use Rattle.hnsr_circuit.proofs.tables.lookup.CircuitFound
-use Rattle.hnsr_circuit.proofs.tables.lookup.CircuitFound.Laws as Laws'''
-use Rattle.hnsr_circuit.proofs.tables.places.Places
-use Rattle.hnsr_circuit.proofs.tables.places.Places.Laws as Laws''''
+use Rattle.hnsr_circuit.proofs.tables.lookup.CircuitFound.Laws as Laws''
 use borrow.Fn.Kinds
 use borrow.Kind.ShrSlice
-use borrow.Table.Referent
 use mathlib.Core.List
 use mir.Syntax
 use mathlib.Core.List.{_∷_}
 
-abbrev pub ps : List.List (Kinds.PK 3)
+abbrev pub ps : List.List (Kinds.PK 2)
 ps = (ShrSlice.pShrS ReservationUsage.row 0 tt) ∷ (ShrSlice.pShrS InflightAction.row 1 tt) ∷ (StructRow.param
-    OpaqueRelayRuntime.the-type Laws'.the-laws Laws'.the-copy Laws'.the-plain) ∷ (StructRow.param Places.the-type
-    Laws''''.the-laws Laws''''.the-copy Laws''''.the-plain) ∷ (StructRow.param RelayPacket.the-type Laws''.the-laws
-    Laws''.the-copy Laws''.the-plain) ∷ (StructRow.param CircuitFound.the-type Laws'''.the-laws Laws'''.the-copy
-    Laws'''.the-plain) ∷ (ShrSlice.pShrS (Referent.rtF (Referent.fInt Syntax.w8)) 2 tt) ∷ (Kinds.pNum Syntax.w64) ∷
-    List.[]
+    Request.the-type Laws'.the-laws Laws'.the-copy Laws'.the-plain) ∷ (StructRow.param CircuitFound.the-type
+    Laws''.the-laws Laws''.the-copy Laws''.the-plain) ∷ (Kinds.pNum Syntax.w64) ∷ List.[]
 
-abbrev pub r : Kinds.RK 3
+abbrev pub r : Kinds.RK 2
 r = StructRow.result DataPlan.the-type Laws.the-laws Laws.the-copy Laws.the-plain

@@ -4,10 +4,8 @@ use Rattle.hnsr_circuit.proofs.By.RelayPending
 use Rattle.hnsr_circuit.proofs.StructRow
 use Rattle.hnsr_circuit.proofs.messages.open.OpenGathered
 use Rattle.hnsr_circuit.proofs.messages.open.OpenGathered.Laws
-use Rattle.hnsr_circuit.proofs.runtime.RelayPacket
-use Rattle.hnsr_circuit.proofs.runtime.RelayPacket.Laws as Laws'
-use Rattle.hnsr_circuit.proofs.tables.places.Places
-use Rattle.hnsr_circuit.proofs.tables.places.Places.Laws as Laws''
+use Rattle.hnsr_circuit.proofs.runtime.Request
+use Rattle.hnsr_circuit.proofs.runtime.Request.Laws as Laws'
 use borrow.Fn.Kinds
 use borrow.Kind.ShrSlice
 use borrow.Table.Referent
@@ -15,12 +13,11 @@ use mathlib.Core.List
 use mir.Syntax
 use mathlib.Core.List.{_∷_}
 
-abbrev pub ps : List.List (Kinds.PK 6)
-ps = (ShrSlice.pShrS RelayPending.row 0 tt) ∷ (ShrSlice.pShrS RelayCircuit.row 1 tt) ∷ (StructRow.param Places.the-type
-    Laws''.the-laws Laws''.the-copy Laws''.the-plain) ∷ (StructRow.param RelayPacket.the-type Laws'.the-laws
-    Laws'.the-copy Laws'.the-plain) ∷ (ShrSlice.pShrS (Referent.rtF (Referent.fInt Syntax.w8)) 2 tt) ∷ (ShrSlice.pShrS
-    (Referent.rtF (Referent.fInt Syntax.w8)) 3 tt) ∷ (ShrSlice.pShrS (Referent.rtF (Referent.fInt Syntax.w8)) 4 tt) ∷ (ShrSlice.pShrS
-    (Referent.rtF (Referent.fInt Syntax.w8)) 5 tt) ∷ List.[]
+abbrev pub ps : List.List (Kinds.PK 5)
+ps = (ShrSlice.pShrS RelayPending.row 0 tt) ∷ (ShrSlice.pShrS RelayCircuit.row 1 tt) ∷ (StructRow.param
+    Request.the-type Laws'.the-laws Laws'.the-copy Laws'.the-plain) ∷ (ShrSlice.pShrS
+    (Referent.rtF (Referent.fInt Syntax.w8)) 2 tt) ∷ (ShrSlice.pShrS (Referent.rtF (Referent.fInt Syntax.w8)) 3 tt) ∷ (ShrSlice.pShrS
+    (Referent.rtF (Referent.fInt Syntax.w8)) 4 tt) ∷ List.[]
 
-abbrev pub r : Kinds.RK 6
+abbrev pub r : Kinds.RK 5
 r = StructRow.result OpenGathered.the-type Laws.the-laws Laws.the-copy Laws.the-plain

@@ -2,14 +2,10 @@
 use Rattle.hnsr_circuit.proofs.By.InflightAction
 use Rattle.hnsr_circuit.proofs.By.RelayCircuit
 use Rattle.hnsr_circuit.proofs.StructRow
-use Rattle.hnsr_circuit.proofs.runtime.OpaqueRelayRuntime
-use Rattle.hnsr_circuit.proofs.runtime.OpaqueRelayRuntime.Laws
-use Rattle.hnsr_circuit.proofs.runtime.RelayPacket
-use Rattle.hnsr_circuit.proofs.runtime.RelayPacket.Laws as Laws'
 use Rattle.hnsr_circuit.proofs.runtime.Relayed
-use Rattle.hnsr_circuit.proofs.runtime.Relayed.Laws as Laws''
-use Rattle.hnsr_circuit.proofs.tables.places.Places
-use Rattle.hnsr_circuit.proofs.tables.places.Places.Laws as Laws'''
+use Rattle.hnsr_circuit.proofs.runtime.Relayed.Laws
+use Rattle.hnsr_circuit.proofs.runtime.Request
+use Rattle.hnsr_circuit.proofs.runtime.Request.Laws as Laws'
 use borrow.Fn.Kinds
 use borrow.Kind.MutSlice
 use borrow.Kind.ShrSlice
@@ -18,13 +14,10 @@ use mathlib.Core.List
 use mir.Syntax
 use mathlib.Core.List.{_∷_}
 
-abbrev pub ps : List.List (Kinds.PK 5)
+abbrev pub ps : List.List (Kinds.PK 4)
 ps = (MutSlice.pMutS RelayCircuit.row 0 tt) ∷ (MutSlice.pMutS InflightAction.row 1 tt) ∷ (MutSlice.pMutS
-    (Referent.rtF (Referent.fInt Syntax.w32)) 2 tt) ∷ (StructRow.param OpaqueRelayRuntime.the-type Laws.the-laws
-    Laws.the-copy Laws.the-plain) ∷ (StructRow.param Places.the-type Laws'''.the-laws Laws'''.the-copy
-    Laws'''.the-plain) ∷ (StructRow.param RelayPacket.the-type Laws'.the-laws Laws'.the-copy Laws'.the-plain) ∷ (ShrSlice.pShrS
-    (Referent.rtF (Referent.fInt Syntax.w8)) 3 tt) ∷ (ShrSlice.pShrS (Referent.rtF (Referent.fInt Syntax.w8)) 4 tt) ∷
-    List.[]
+    (Referent.rtF (Referent.fInt Syntax.w32)) 2 tt) ∷ (StructRow.param Request.the-type Laws'.the-laws Laws'.the-copy
+    Laws'.the-plain) ∷ (ShrSlice.pShrS (Referent.rtF (Referent.fInt Syntax.w8)) 3 tt) ∷ List.[]
 
-abbrev pub r : Kinds.RK 5
-r = StructRow.result Relayed.the-type Laws''.the-laws Laws''.the-copy Laws''.the-plain
+abbrev pub r : Kinds.RK 4
+r = StructRow.result Relayed.the-type Laws.the-laws Laws.the-copy Laws.the-plain

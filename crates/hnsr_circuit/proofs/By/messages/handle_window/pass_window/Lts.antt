@@ -15,10 +15,10 @@ use Rattle.hnsr_circuit.proofs.records.RelaySide
 use Rattle.hnsr_circuit.proofs.records.RelaySide.Laws as Laws''''
 use Rattle.hnsr_circuit.proofs.runtime.OpaqueRelayRuntime
 use Rattle.hnsr_circuit.proofs.runtime.OpaqueRelayRuntime.Laws as Laws'''''
-use Rattle.hnsr_circuit.proofs.runtime.RelayPacket
-use Rattle.hnsr_circuit.proofs.runtime.RelayPacket.Laws as Laws''''''
 use Rattle.hnsr_circuit.proofs.runtime.Relayed
-use Rattle.hnsr_circuit.proofs.runtime.Relayed.Laws as Laws'''''''
+use Rattle.hnsr_circuit.proofs.runtime.Relayed.Laws as Laws''''''
+use Rattle.hnsr_circuit.proofs.runtime.Request
+use Rattle.hnsr_circuit.proofs.runtime.Request.Laws as Laws'''''''
 use Rattle.hnsr_circuit.proofs.tables.lookup.CircuitFound
 use Rattle.hnsr_circuit.proofs.tables.lookup.CircuitFound.Laws as Laws''''''''
 use Rattle.hnsr_circuit.proofs.tables.places.Places
@@ -107,9 +107,6 @@ ref6 = Syntax.tyRef (Syntax.named 2) Syntax.mut (Syntax.tyInt Syntax.w32)
 abbrev ref7 : Syntax.Ty
 ref7 = Syntax.tyRef (Syntax.named 3) Syntax.imm (Syntax.tyInt Syntax.w8)
 
-abbrev ref8 : Syntax.Ty
-ref8 = Syntax.tyRef (Syntax.named 4) Syntax.imm (Syntax.tyInt Syntax.w8)
-
 abbrev slice0 : Syntax.Ty
 slice0 = Syntax.tyStruct (38 ∷ 91 ∷ 93 ∷ List.[]) (Syntax.tcons ref0
     (Syntax.tcons (Syntax.tyInt Syntax.w64) Syntax.tnil))
@@ -126,35 +123,30 @@ abbrev slice3 : Syntax.Ty
 slice3 = Syntax.tyStruct (38 ∷ 91 ∷ 93 ∷ List.[]) (Syntax.tcons ref3
     (Syntax.tcons (Syntax.tyInt Syntax.w64) Syntax.tnil))
 
-abbrev pub ps : List.List (Kinds.PK 5)
+abbrev pub ps : List.List (Kinds.PK 4)
 ps = (MutSlice.pMutS RelayCircuit.row 0 tt) ∷ (MutSlice.pMutS InflightAction.row 1 tt) ∷ (MutSlice.pMutS
-    (Referent.rtF (Referent.fInt Syntax.w32)) 2 tt) ∷ (StructRow.param OpaqueRelayRuntime.the-type Laws'''''.the-laws
-    Laws'''''.the-copy Laws'''''.the-plain) ∷ (StructRow.param Places.the-type Laws'''''''''.the-laws
-    Laws'''''''''.the-copy Laws'''''''''.the-plain) ∷ (StructRow.param RelayPacket.the-type Laws''''''.the-laws
-    Laws''''''.the-copy Laws''''''.the-plain) ∷ (StructRow.param WindowRead.the-type Laws.the-laws Laws.the-copy
+    (Referent.rtF (Referent.fInt Syntax.w32)) 2 tt) ∷ (StructRow.param Request.the-type Laws'''''''.the-laws
+    Laws'''''''.the-copy Laws'''''''.the-plain) ∷ (StructRow.param WindowRead.the-type Laws.the-laws Laws.the-copy
     Laws.the-plain) ∷ (StructRow.param CircuitFound.the-type Laws''''''''.the-laws Laws''''''''.the-copy
-    Laws''''''''.the-plain) ∷ (ShrSlice.pShrS (Referent.rtF (Referent.fInt Syntax.w8)) 3 tt) ∷ (ShrSlice.pShrS
-    (Referent.rtF (Referent.fInt Syntax.w8)) 4 tt) ∷ List.[]
+    Laws''''''''.the-plain) ∷ (ShrSlice.pShrS (Referent.rtF (Referent.fInt Syntax.w8)) 3 tt) ∷ List.[]
 
-abbrev pub r : Kinds.RK 5
-r = StructRow.result Relayed.the-type Laws'''''''.the-laws Laws'''''''.the-copy Laws'''''''.the-plain
+abbrev pub r : Kinds.RK 4
+r = StructRow.result Relayed.the-type Laws''''''.the-laws Laws''''''.the-copy Laws''''''.the-plain
 
 abbrev pub xs : List.List Syntax.Ty
-xs = Laws''.mir ∷ Laws'.mir ∷ Laws''''.mir ∷ Laws'''.mir ∷ Laws''''''''''.mir ∷ ref0 ∷ slice0 ∷ Syntax.tyUnit ∷ ref1 ∷
-    slice1 ∷ ref2 ∷ slice2 ∷ ref3 ∷ slice3 ∷ List.[]
+xs = Laws''.mir ∷ Laws'''''.mir ∷ Laws'''''''''.mir ∷ Laws'.mir ∷ Laws''''.mir ∷ Laws'''.mir ∷ Laws''''''''''.mir ∷
+    ref0 ∷ slice0 ∷ Syntax.tyUnit ∷ ref1 ∷ slice1 ∷ ref2 ∷ slice2 ∷ ref3 ∷ slice3 ∷ List.[]
 
 abbrev pub m : Nat.ℕ
 m = 4
 
-abbrev pub ps·0 : List.List (Kinds.PK 2)
-ps·0 = (ShrSlice.pShrS InflightAction.row 0 tt) ∷ (StructRow.param OpaqueRelayRuntime.the-type Laws'''''.the-laws
-    Laws'''''.the-copy Laws'''''.the-plain) ∷ (StructRow.param Places.the-type Laws'''''''''.the-laws
-    Laws'''''''''.the-copy Laws'''''''''.the-plain) ∷ (StructRow.param RelayPacket.the-type Laws''''''.the-laws
-    Laws''''''.the-copy Laws''''''.the-plain) ∷ (StructRow.param WindowRead.the-type Laws.the-laws Laws.the-copy
+abbrev pub ps·0 : List.List (Kinds.PK 1)
+ps·0 = (ShrSlice.pShrS InflightAction.row 0 tt) ∷ (StructRow.param Request.the-type Laws'''''''.the-laws
+    Laws'''''''.the-copy Laws'''''''.the-plain) ∷ (StructRow.param WindowRead.the-type Laws.the-laws Laws.the-copy
     Laws.the-plain) ∷ (StructRow.param CircuitFound.the-type Laws''''''''.the-laws Laws''''''''.the-copy
-    Laws''''''''.the-plain) ∷ (ShrSlice.pShrS (Referent.rtF (Referent.fInt Syntax.w8)) 1 tt) ∷ List.[]
+    Laws''''''''.the-plain) ∷ List.[]
 
-abbrev pub r·0 : Kinds.RK 2
+abbrev pub r·0 : Kinds.RK 1
 r·0 = StructRow.result WindowPlan.the-type Laws''.the-laws Laws''.the-copy Laws''.the-plain
 
 abbrev pub ps·1 : List.List (Kinds.PK 1)
@@ -175,136 +167,146 @@ ps·2 = (MutSlice.pMutS InflightAction.row 0 tt) ∷ (MutSlice.pMutS (Referent.r
     (Referent.rtF (Referent.fInt Syntax.w8)) 2 tt) ∷ List.[]
 
 abbrev pub r·2 : Kinds.RK 3
-r·2 = StructRow.result Relayed.the-type Laws'''''''.the-laws Laws'''''''.the-copy Laws'''''''.the-plain
+r·2 = StructRow.result Relayed.the-type Laws''''''.the-laws Laws''''''.the-copy Laws''''''.the-plain
 
 abbrev pub hs : List.List Syntax.Home
 hs = Syntax.valueLocal ∷ Syntax.valueLocal ∷ Syntax.valueLocal ∷ Syntax.valueLocal ∷ Syntax.valueLocal ∷
     Syntax.valueLocal ∷ Syntax.valueLocal ∷ Syntax.valueLocal ∷ Syntax.valueLocal ∷ Syntax.valueLocal ∷
     Syntax.valueLocal ∷ Syntax.valueLocal ∷ Syntax.valueLocal ∷ Syntax.valueLocal ∷ Syntax.valueLocal ∷
     Syntax.valueLocal ∷ Syntax.valueLocal ∷ Syntax.valueLocal ∷ Syntax.valueLocal ∷ Syntax.valueLocal ∷
-    Syntax.valueLocal ∷ Syntax.valueLocal ∷ Syntax.valueLocal ∷ Syntax.valueLocal ∷ Syntax.valueLocal ∷ List.[]
+    Syntax.valueLocal ∷ Syntax.valueLocal ∷ Syntax.valueLocal ∷ Syntax.valueLocal ∷ List.[]
 
 abbrev b0 : Syntax.Body
-b0 = Syntax.assign (Syntax.place 16 List.[]) (Syntax.addrOf (Syntax.place 2 ((Syntax.field 0) ∷
+b0 = Syntax.assign (Syntax.place 15 List.[]) (Syntax.addrOf (Syntax.place 2 ((Syntax.field 0) ∷
     (Syntax.deref InflightAction.ty) ∷ List.[])))
 
 abbrev b1 : Syntax.Body
-b1 = Syntax.assign (Syntax.place 17 List.[]) (Syntax.aggregate ((Syntax.copy (Syntax.place 16 List.[])) ∷
+b1 = Syntax.assign (Syntax.place 16 List.[]) (Syntax.aggregate ((Syntax.copy (Syntax.place 15 List.[])) ∷
     (Syntax.copy (Syntax.place 2 ((Syntax.field 1) ∷ List.[]))) ∷ List.[]))
 
 abbrev b2 : Syntax.Body
-b2 = Syntax.call "hnsr_circuit::messages::handle_window::plan_window" ((Syntax.copy (Syntax.place 17 List.[])) ∷
+b2 = Syntax.call "hnsr_circuit::messages::handle_window::plan_window" ((Syntax.copy (Syntax.place 16 List.[])) ∷
     (Syntax.copy (Syntax.place 4 List.[])) ∷ (Syntax.copy (Syntax.place 5 List.[])) ∷
-    (Syntax.copy (Syntax.place 6 List.[])) ∷ (Syntax.copy (Syntax.place 7 List.[])) ∷
-    (Syntax.copy (Syntax.place 8 List.[])) ∷ (Syntax.copy (Syntax.place 9 List.[])) ∷ List.[])
-    (Syntax.place 11 List.[])
+    (Syntax.copy (Syntax.place 6 List.[])) ∷ List.[]) (Syntax.place 8 List.[])
 
 abbrev b3 : Syntax.Body
-b3 = Syntax.assign (Syntax.place 12 List.[]) (Syntax.rvOpd (Syntax.copy (Syntax.place 11 ((Syntax.field 0) ∷ List.[]))))
+b3 = Syntax.assign (Syntax.place 9 List.[]) (Syntax.rvOpd (Syntax.copy (Syntax.place 4 ((Syntax.field 0) ∷ List.[]))))
 
 abbrev b4 : Syntax.Body
-b4 = Syntax.assign (Syntax.place 13 List.[]) (Syntax.rvOpd (Syntax.copy (Syntax.place 11 ((Syntax.field 3) ∷ List.[]))))
+b4 = Syntax.assign (Syntax.place 10 List.[]) (Syntax.rvOpd (Syntax.copy (Syntax.place 4 ((Syntax.field 1) ∷ List.[]))))
 
 abbrev b5 : Syntax.Body
-b5 = Syntax.assign (Syntax.place 14 List.[]) (Syntax.rvOpd (Syntax.copy (Syntax.place 11 ((Syntax.field 5) ∷ List.[]))))
+b5 = Syntax.assign (Syntax.place 11 List.[]) (Syntax.rvOpd (Syntax.copy (Syntax.place 8 ((Syntax.field 0) ∷ List.[]))))
 
 abbrev b6 : Syntax.Body
-b6 = Syntax.assign (Syntax.place 15 List.[]) (Syntax.rvOpd (Syntax.copy (Syntax.place 11 ((Syntax.field 6) ∷ List.[]))))
+b6 = Syntax.assign (Syntax.place 12 List.[]) (Syntax.rvOpd (Syntax.copy (Syntax.place 8 ((Syntax.field 3) ∷ List.[]))))
 
 abbrev b7 : Syntax.Body
-b7 = Syntax.assign (Syntax.place 19 List.[]) (Syntax.addrOf (Syntax.place 1 ((Syntax.field 0) ∷
-    (Syntax.deref RelayCircuit.ty) ∷ List.[])))
+b7 = Syntax.assign (Syntax.place 13 List.[]) (Syntax.rvOpd (Syntax.copy (Syntax.place 8 ((Syntax.field 5) ∷ List.[]))))
 
 abbrev b8 : Syntax.Body
-b8 = Syntax.assign (Syntax.place 20 List.[]) (Syntax.aggregate ((Syntax.copy (Syntax.place 19 List.[])) ∷
-    (Syntax.copy (Syntax.place 1 ((Syntax.field 1) ∷ List.[]))) ∷ List.[]))
+b8 = Syntax.assign (Syntax.place 14 List.[]) (Syntax.rvOpd (Syntax.copy (Syntax.place 8 ((Syntax.field 6) ∷ List.[]))))
 
 abbrev b9 : Syntax.Body
-b9 = Syntax.call "hnsr_circuit::tables::stores::raise_circuit" ((Syntax.copy (Syntax.place 20 List.[])) ∷
-    (Syntax.copy (Syntax.place 5 List.[])) ∷ (Syntax.copy (Syntax.place 11 ((Syntax.field 1) ∷ List.[]))) ∷ (Syntax.copy
-    (Syntax.place 11 ((Syntax.field 2) ∷ List.[]))) ∷ (Syntax.copy (Syntax.place 13 List.[])) ∷ (Syntax.copy
-    (Syntax.place 11 ((Syntax.field 4) ∷ List.[]))) ∷ List.[]) (Syntax.place 18 List.[])
+b9 = Syntax.assign (Syntax.place 18 List.[]) (Syntax.addrOf (Syntax.place 1 ((Syntax.field 0) ∷
+    (Syntax.deref RelayCircuit.ty) ∷ List.[])))
 
 abbrev b10 : Syntax.Body
-b10 = Syntax.assign (Syntax.place 21 List.[]) (Syntax.addrOf (Syntax.place 2 ((Syntax.field 0) ∷
-    (Syntax.deref InflightAction.ty) ∷ List.[])))
+b10 = Syntax.assign (Syntax.place 19 List.[]) (Syntax.aggregate ((Syntax.copy (Syntax.place 18 List.[])) ∷
+    (Syntax.copy (Syntax.place 1 ((Syntax.field 1) ∷ List.[]))) ∷ List.[]))
 
 abbrev b11 : Syntax.Body
-b11 = Syntax.assign (Syntax.place 22 List.[]) (Syntax.aggregate ((Syntax.copy (Syntax.place 21 List.[])) ∷
-    (Syntax.copy (Syntax.place 2 ((Syntax.field 1) ∷ List.[]))) ∷ List.[]))
+b11 = Syntax.call "hnsr_circuit::tables::stores::raise_circuit" ((Syntax.copy (Syntax.place 19 List.[])) ∷
+    (Syntax.copy (Syntax.place 10 List.[])) ∷ (Syntax.copy (Syntax.place 8 ((Syntax.field 1) ∷ List.[]))) ∷
+    (Syntax.copy (Syntax.place 8 ((Syntax.field 2) ∷ List.[]))) ∷ (Syntax.copy (Syntax.place 12 List.[])) ∷
+    (Syntax.copy (Syntax.place 8 ((Syntax.field 4) ∷ List.[]))) ∷ List.[]) (Syntax.place 17 List.[])
 
 abbrev b12 : Syntax.Body
-b12 = Syntax.assign (Syntax.place 23 List.[]) (Syntax.addrOf (Syntax.place 3 ((Syntax.field 0) ∷
-    (Syntax.deref (Syntax.tyInt Syntax.w32)) ∷ List.[])))
+b12 = Syntax.assign (Syntax.place 20 List.[]) (Syntax.addrOf (Syntax.place 2 ((Syntax.field 0) ∷
+    (Syntax.deref InflightAction.ty) ∷ List.[])))
 
 abbrev b13 : Syntax.Body
-b13 = Syntax.assign (Syntax.place 24 List.[]) (Syntax.aggregate ((Syntax.copy (Syntax.place 23 List.[])) ∷
-    (Syntax.copy (Syntax.place 3 ((Syntax.field 1) ∷ List.[]))) ∷ List.[]))
+b13 = Syntax.assign (Syntax.place 21 List.[]) (Syntax.aggregate ((Syntax.copy (Syntax.place 20 List.[])) ∷
+    (Syntax.copy (Syntax.place 2 ((Syntax.field 1) ∷ List.[]))) ∷ List.[]))
 
 abbrev b14 : Syntax.Body
-b14 = Syntax.call "hnsr_circuit::output::queue::send" ((Syntax.copy (Syntax.place 22 List.[])) ∷
-    (Syntax.copy (Syntax.place 24 List.[])) ∷ (Syntax.copy (Syntax.place 12 List.[])) ∷
-    (Syntax.copy (Syntax.place 4 List.[])) ∷ (Syntax.copy (Syntax.place 5 List.[])) ∷
-    (Syntax.copy (Syntax.place 14 List.[])) ∷ (Syntax.copy (Syntax.place 15 List.[])) ∷
-    (Syntax.copy (Syntax.place 10 List.[])) ∷ List.[]) (Syntax.place 0 List.[])
+b14 = Syntax.assign (Syntax.place 22 List.[]) (Syntax.addrOf (Syntax.place 3 ((Syntax.field 0) ∷
+    (Syntax.deref (Syntax.tyInt Syntax.w32)) ∷ List.[])))
 
 abbrev b15 : Syntax.Body
-b15 = Syntax.return
+b15 = Syntax.assign (Syntax.place 23 List.[]) (Syntax.aggregate ((Syntax.copy (Syntax.place 22 List.[])) ∷
+    (Syntax.copy (Syntax.place 3 ((Syntax.field 1) ∷ List.[]))) ∷ List.[]))
 
 abbrev b16 : Syntax.Body
-b16 = Syntax.seq b14 b15
+b16 = Syntax.call "hnsr_circuit::output::queue::send" ((Syntax.copy (Syntax.place 21 List.[])) ∷
+    (Syntax.copy (Syntax.place 23 List.[])) ∷ (Syntax.copy (Syntax.place 11 List.[])) ∷
+    (Syntax.copy (Syntax.place 9 List.[])) ∷ (Syntax.copy (Syntax.place 10 List.[])) ∷
+    (Syntax.copy (Syntax.place 13 List.[])) ∷ (Syntax.copy (Syntax.place 14 List.[])) ∷
+    (Syntax.copy (Syntax.place 7 List.[])) ∷ List.[]) (Syntax.place 0 List.[])
 
 abbrev b17 : Syntax.Body
-b17 = Syntax.seq b13 b16
+b17 = Syntax.return
 
 abbrev b18 : Syntax.Body
-b18 = Syntax.seq b12 b17
+b18 = Syntax.seq b16 b17
 
 abbrev b19 : Syntax.Body
-b19 = Syntax.seq b11 b18
+b19 = Syntax.seq b15 b18
 
 abbrev b20 : Syntax.Body
-b20 = Syntax.seq b10 b19
+b20 = Syntax.seq b14 b19
 
 abbrev b21 : Syntax.Body
-b21 = Syntax.seq b9 b20
+b21 = Syntax.seq b13 b20
 
 abbrev b22 : Syntax.Body
-b22 = Syntax.seq b8 b21
+b22 = Syntax.seq b12 b21
 
 abbrev b23 : Syntax.Body
-b23 = Syntax.seq b7 b22
+b23 = Syntax.seq b11 b22
 
 abbrev b24 : Syntax.Body
-b24 = Syntax.seq b6 b23
+b24 = Syntax.seq b10 b23
 
 abbrev b25 : Syntax.Body
-b25 = Syntax.seq b5 b24
+b25 = Syntax.seq b9 b24
 
 abbrev b26 : Syntax.Body
-b26 = Syntax.seq b4 b25
+b26 = Syntax.seq b8 b25
 
 abbrev b27 : Syntax.Body
-b27 = Syntax.seq b3 b26
+b27 = Syntax.seq b7 b26
 
 abbrev b28 : Syntax.Body
-b28 = Syntax.seq b2 b27
+b28 = Syntax.seq b6 b27
 
 abbrev b29 : Syntax.Body
-b29 = Syntax.seq b1 b28
+b29 = Syntax.seq b5 b28
 
 abbrev b30 : Syntax.Body
-b30 = Syntax.seq b0 b29
+b30 = Syntax.seq b4 b29
+
+abbrev b31 : Syntax.Body
+b31 = Syntax.seq b3 b30
+
+abbrev b32 : Syntax.Body
+b32 = Syntax.seq b2 b31
+
+abbrev b33 : Syntax.Body
+b33 = Syntax.seq b1 b32
+
+abbrev b34 : Syntax.Body
+b34 = Syntax.seq b0 b33
 
 abbrev pub body : Syntax.Body
-body = b30
+body = b34
 
 abbrev pub Claims : Type 1
-Claims = Kinds.In 2 ps·0 × Kinds.Out 2 ps·0 r·0 × Kinds.In 1 ps·1 × Kinds.Out 1 ps·1 r·1 × Kinds.In 3 ps·2 × Kinds.Out
+Claims = Kinds.In 1 ps·0 × Kinds.Out 1 ps·0 r·0 × Kinds.In 1 ps·1 × Kinds.Out 1 ps·1 r·1 × Kinds.In 3 ps·2 × Kinds.Out
     3 ps·2 r·2
 
 abbrev e0 : Row.Entry
-e0 = (0, Rows.any-gone Laws'''''''.mir)
+e0 = (0, Rows.any-gone Laws''''''.mir)
 
 abbrev e1 : Row.Entry
 e1 = (1, Mut.mslice RelayCircuit.row ref4 0)
@@ -316,263 +318,267 @@ abbrev e3 : Row.Entry
 e3 = (3, Mut.mslice (Referent.rtF (Referent.fInt Syntax.w32)) ref6 2)
 
 abbrev e4 : Row.Entry
-e4 = (4, Rows.whole (Declared'.row OpaqueRelayRuntime.the-type))
+e4 = (4, Rows.whole (Declared'.row Request.the-type))
 
 abbrev e5 : Row.Entry
-e5 = (5, Rows.whole (Declared'.row Places.the-type))
+e5 = (5, Rows.whole (Declared'.row WindowRead.the-type))
 
 abbrev e6 : Row.Entry
-e6 = (6, Rows.whole (Declared'.row RelayPacket.the-type))
+e6 = (6, Rows.whole (Declared'.row CircuitFound.the-type))
 
 abbrev e7 : Row.Entry
-e7 = (7, Rows.whole (Declared'.row WindowRead.the-type))
+e7 = (7, Rows.sslice (Referent.rtF (Referent.fInt Syntax.w8)) ref7 3)
 
 abbrev e8 : Row.Entry
-e8 = (8, Rows.whole (Declared'.row CircuitFound.the-type))
+e8 = (8, Rows.any-gone Laws''.mir)
 
 abbrev e9 : Row.Entry
-e9 = (9, Rows.sslice (Referent.rtF (Referent.fInt Syntax.w8)) ref7 3)
+e9 = (9, Rows.any-gone Laws'''''.mir)
 
 abbrev e10 : Row.Entry
-e10 = (10, Rows.sslice (Referent.rtF (Referent.fInt Syntax.w8)) ref8 4)
+e10 = (10, Rows.any-gone Laws'''''''''.mir)
 
 abbrev e11 : Row.Entry
-e11 = (11, Rows.any-gone Laws''.mir)
+e11 = (11, Rows.any-gone Laws'.mir)
 
 abbrev e12 : Row.Entry
-e12 = (12, Rows.any-gone Laws'.mir)
+e12 = (12, Rows.any-gone Laws''''.mir)
 
 abbrev e13 : Row.Entry
-e13 = (13, Rows.any-gone Laws''''.mir)
+e13 = (13, Rows.any-gone Laws'''.mir)
 
 abbrev e14 : Row.Entry
-e14 = (14, Rows.any-gone Laws'''.mir)
+e14 = (14, Rows.any-gone Laws''''''''''.mir)
 
 abbrev e15 : Row.Entry
-e15 = (15, Rows.any-gone Laws''''''''''.mir)
+e15 = (15, Rows.any-gone ref0)
 
 abbrev e16 : Row.Entry
-e16 = (16, Rows.any-gone ref0)
+e16 = (16, Rows.any-gone slice0)
 
 abbrev e17 : Row.Entry
-e17 = (17, Rows.any-gone slice0)
+e17 = (17, Rows.any-gone Syntax.tyUnit)
 
 abbrev e18 : Row.Entry
-e18 = (18, Rows.any-gone Syntax.tyUnit)
+e18 = (18, Rows.any-gone ref1)
 
 abbrev e19 : Row.Entry
-e19 = (19, Rows.any-gone ref1)
+e19 = (19, Rows.any-gone slice1)
 
 abbrev e20 : Row.Entry
-e20 = (20, Rows.any-gone slice1)
+e20 = (20, Rows.any-gone ref2)
 
 abbrev e21 : Row.Entry
-e21 = (21, Rows.any-gone ref2)
+e21 = (21, Rows.any-gone slice2)
 
 abbrev e22 : Row.Entry
-e22 = (22, Rows.any-gone slice2)
+e22 = (22, Rows.any-gone ref3)
 
 abbrev e23 : Row.Entry
-e23 = (23, Rows.any-gone ref3)
-
-abbrev e24 : Row.Entry
-e24 = (24, Rows.any-gone slice3)
+e23 = (23, Rows.any-gone slice3)
 
 abbrev e0·1 : Row.Entry
 e0·1 = (0, Rows.whole (Declared'.row Relayed.the-type))
 
 abbrev e4·1 : Row.Entry
-e4·1 = (4, Rows.any-gone Laws'''''.mir)
+e4·1 = (4, Rows.any-gone Laws'''''''.mir)
 
 abbrev e5·1 : Row.Entry
-e5·1 = (5, Rows.any-gone Laws'''''''''.mir)
+e5·1 = (5, Rows.any-gone Laws.mir)
 
 abbrev e6·1 : Row.Entry
-e6·1 = (6, Rows.any-gone Laws''''''.mir)
-
-abbrev e7·1 : Row.Entry
-e7·1 = (7, Rows.any-gone Laws.mir)
-
-abbrev e8·1 : Row.Entry
-e8·1 = (8, Rows.any-gone Laws''''''''.mir)
+e6·1 = (6, Rows.any-gone Laws''''''''.mir)
 
 abbrev e2·1 : Row.Entry
-e2·1 = (2, Reshare.mslice-owedS InflightAction.row ref5 1 5 Row.off)
-
-abbrev e16·1 : Row.Entry
-e16·1 = (16, Relend.ssptr InflightAction.row ref0 5)
-
-abbrev e17·1 : Row.Entry
-e17·1 = (17, Rows.sslice InflightAction.row ref0 5)
-
-abbrev e11·1 : Row.Entry
-e11·1 = (11, Rows.whole (Declared'.row WindowPlan.the-type))
-
-abbrev e12·1 : Row.Entry
-e12·1 = (12, Rows.whole (Declared.row HnsrAnswer.the-type))
-
-abbrev e13·1 : Row.Entry
-e13·1 = (13, Rows.whole (Declared.row RelaySide.the-type))
-
-abbrev e14·1 : Row.Entry
-e14·1 = (14, Rows.whole (Declared'.row Outgoing.the-type))
+e2·1 = (2, Reshare.mslice-owedS InflightAction.row ref5 1 4 Row.off)
 
 abbrev e15·1 : Row.Entry
-e15·1 = (15, Rows.whole (Declared'.row ActionScan.the-type))
+e15·1 = (15, Relend.ssptr InflightAction.row ref0 4)
+
+abbrev e16·1 : Row.Entry
+e16·1 = (16, Rows.sslice InflightAction.row ref0 4)
+
+abbrev e8·1 : Row.Entry
+e8·1 = (8, Rows.whole (Declared'.row WindowPlan.the-type))
+
+abbrev e9·1 : Row.Entry
+e9·1 = (9, Rows.whole (Declared'.row OpaqueRelayRuntime.the-type))
+
+abbrev e10·1 : Row.Entry
+e10·1 = (10, Rows.whole (Declared'.row Places.the-type))
+
+abbrev e11·1 : Row.Entry
+e11·1 = (11, Rows.whole (Declared.row HnsrAnswer.the-type))
+
+abbrev e12·1 : Row.Entry
+e12·1 = (12, Rows.whole (Declared.row RelaySide.the-type))
+
+abbrev e13·1 : Row.Entry
+e13·1 = (13, Rows.whole (Declared'.row Outgoing.the-type))
+
+abbrev e14·1 : Row.Entry
+e14·1 = (14, Rows.whole (Declared'.row ActionScan.the-type))
 
 abbrev e1·1 : Row.Entry
-e1·1 = (1, Relend.mslice-owed RelayCircuit.row ref4 0 6 Row.off)
-
-abbrev e19·1 : Row.Entry
-e19·1 = (19, Relend.msptr RelayCircuit.row ref1 6)
-
-abbrev e20·1 : Row.Entry
-e20·1 = (20, Mut.mslice RelayCircuit.row ref1 6)
+e1·1 = (1, Relend.mslice-owed RelayCircuit.row ref4 0 5 Row.off)
 
 abbrev e18·1 : Row.Entry
-e18·1 = (18, Rows.sc-here Row.sUnit)
+e18·1 = (18, Relend.msptr RelayCircuit.row ref1 5)
 
-abbrev e20·2 : Row.Entry
-e20·2 = (20, Mut.msleft RelayCircuit.row ref1)
+abbrev e19·1 : Row.Entry
+e19·1 = (19, Mut.mslice RelayCircuit.row ref1 5)
+
+abbrev e17·1 : Row.Entry
+e17·1 = (17, Rows.sc-here Row.sUnit)
+
+abbrev e19·2 : Row.Entry
+e19·2 = (19, Mut.msleft RelayCircuit.row ref1)
 
 abbrev e2·2 : Row.Entry
-e2·2 = (2, Relend.mslice-owed InflightAction.row ref5 1 7 Row.off)
+e2·2 = (2, Relend.mslice-owed InflightAction.row ref5 1 6 Row.off)
+
+abbrev e20·1 : Row.Entry
+e20·1 = (20, Relend.msptr InflightAction.row ref2 6)
 
 abbrev e21·1 : Row.Entry
-e21·1 = (21, Relend.msptr InflightAction.row ref2 7)
-
-abbrev e22·1 : Row.Entry
-e22·1 = (22, Mut.mslice InflightAction.row ref2 7)
+e21·1 = (21, Mut.mslice InflightAction.row ref2 6)
 
 abbrev e3·1 : Row.Entry
-e3·1 = (3, Relend.mslice-owed (Referent.rtF (Referent.fInt Syntax.w32)) ref6 2 8 Row.off)
+e3·1 = (3, Relend.mslice-owed (Referent.rtF (Referent.fInt Syntax.w32)) ref6 2 7 Row.off)
+
+abbrev e22·1 : Row.Entry
+e22·1 = (22, Relend.msptr (Referent.rtF (Referent.fInt Syntax.w32)) ref3 7)
 
 abbrev e23·1 : Row.Entry
-e23·1 = (23, Relend.msptr (Referent.rtF (Referent.fInt Syntax.w32)) ref3 8)
+e23·1 = (23, Mut.mslice (Referent.rtF (Referent.fInt Syntax.w32)) ref3 7)
 
-abbrev e24·1 : Row.Entry
-e24·1 = (24, Mut.mslice (Referent.rtF (Referent.fInt Syntax.w32)) ref3 8)
+abbrev e21·2 : Row.Entry
+e21·2 = (21, Mut.msleft InflightAction.row ref2)
 
-abbrev e22·2 : Row.Entry
-e22·2 = (22, Mut.msleft InflightAction.row ref2)
-
-abbrev e24·2 : Row.Entry
-e24·2 = (24, Mut.msleft (Referent.rtF (Referent.fInt Syntax.w32)) ref3)
+abbrev e23·2 : Row.Entry
+e23·2 = (23, Mut.msleft (Referent.rtF (Referent.fInt Syntax.w32)) ref3)
 
 abbrev pub t0 : List.List Row.Entry
 t0 = e0 ∷ e1 ∷ e2 ∷ e3 ∷ e4 ∷ e5 ∷ e6 ∷ e7 ∷ e8 ∷ e9 ∷ e10 ∷ e11 ∷ e12 ∷ e13 ∷ e14 ∷ e15 ∷ List.[]
 
 abbrev pub t1 : List.List Row.Entry
-t1 = e16 ∷ e17 ∷ e18 ∷ e19 ∷ e20 ∷ e21 ∷ e22 ∷ e23 ∷ e24 ∷ List.[]
+t1 = e16 ∷ e17 ∷ e18 ∷ e19 ∷ e20 ∷ e21 ∷ e22 ∷ e23 ∷ List.[]
 
 abbrev pub t2 : List.List Row.Entry
-t2 = e0·1 ∷ e1 ∷ e2 ∷ e3 ∷ e4·1 ∷ e5·1 ∷ e6·1 ∷ e7·1 ∷ e8·1 ∷ e9 ∷ e10 ∷ e11 ∷ e12 ∷ e13 ∷ e14 ∷ e15 ∷ List.[]
+t2 = e0·1 ∷ e1 ∷ e2 ∷ e3 ∷ e4·1 ∷ e5·1 ∷ e6·1 ∷ e7 ∷ e8 ∷ e9 ∷ e10 ∷ e11 ∷ e12 ∷ e13 ∷ e14 ∷ e15 ∷ List.[]
 
 abbrev pub t3 : List.List Row.Entry
-t3 = e0 ∷ e1 ∷ e2·1 ∷ e3 ∷ e4 ∷ e5 ∷ e6 ∷ e7 ∷ e8 ∷ e9 ∷ e10 ∷ e11 ∷ e12 ∷ e13 ∷ e14 ∷ e15 ∷ List.[]
+t3 = e0 ∷ e1 ∷ e2·1 ∷ e3 ∷ e4 ∷ e5 ∷ e6 ∷ e7 ∷ e8 ∷ e9 ∷ e10 ∷ e11 ∷ e12 ∷ e13 ∷ e14 ∷ e15·1 ∷ List.[]
 
 abbrev pub t4 : List.List Row.Entry
-t4 = e16·1 ∷ e17 ∷ e18 ∷ e19 ∷ e20 ∷ e21 ∷ e22 ∷ e23 ∷ e24 ∷ List.[]
+t4 = e0 ∷ e1 ∷ e2·1 ∷ e3 ∷ e4 ∷ e5 ∷ e6 ∷ e7 ∷ e8 ∷ e9 ∷ e10 ∷ e11 ∷ e12 ∷ e13 ∷ e14 ∷ e15 ∷ List.[]
 
 abbrev pub t5 : List.List Row.Entry
-t5 = e16 ∷ e17·1 ∷ e18 ∷ e19 ∷ e20 ∷ e21 ∷ e22 ∷ e23 ∷ e24 ∷ List.[]
+t5 = e16·1 ∷ e17 ∷ e18 ∷ e19 ∷ e20 ∷ e21 ∷ e22 ∷ e23 ∷ List.[]
 
 abbrev pub t6 : List.List Row.Entry
-t6 = e0 ∷ e1 ∷ e2·1 ∷ e3 ∷ e4 ∷ e5 ∷ e6 ∷ e7 ∷ e8 ∷ e9 ∷ e10 ∷ e11·1 ∷ e12 ∷ e13 ∷ e14 ∷ e15 ∷ List.[]
+t6 = e0 ∷ e1 ∷ e2·1 ∷ e3 ∷ e4 ∷ e5 ∷ e6 ∷ e7 ∷ e8·1 ∷ e9 ∷ e10 ∷ e11 ∷ e12 ∷ e13 ∷ e14 ∷ e15 ∷ List.[]
 
 abbrev pub t7 : List.List Row.Entry
-t7 = e0 ∷ e1 ∷ e2·1 ∷ e3 ∷ e4 ∷ e5 ∷ e6·1 ∷ e7 ∷ e8 ∷ e9 ∷ e10 ∷ e11·1 ∷ e12 ∷ e13 ∷ e14 ∷ e15 ∷ List.[]
+t7 = e0 ∷ e1 ∷ e2·1 ∷ e3 ∷ e4 ∷ e5·1 ∷ e6 ∷ e7 ∷ e8·1 ∷ e9 ∷ e10 ∷ e11 ∷ e12 ∷ e13 ∷ e14 ∷ e15 ∷ List.[]
 
 abbrev pub t8 : List.List Row.Entry
-t8 = e0 ∷ e1 ∷ e2·1 ∷ e3 ∷ e4 ∷ e5 ∷ e6·1 ∷ e7·1 ∷ e8 ∷ e9 ∷ e10 ∷ e11·1 ∷ e12 ∷ e13 ∷ e14 ∷ e15 ∷ List.[]
+t8 = e0 ∷ e1 ∷ e2·1 ∷ e3 ∷ e4 ∷ e5·1 ∷ e6·1 ∷ e7 ∷ e8·1 ∷ e9 ∷ e10 ∷ e11 ∷ e12 ∷ e13 ∷ e14 ∷ e15 ∷ List.[]
 
 abbrev pub t9 : List.List Row.Entry
-t9 = e0 ∷ e1 ∷ e2·1 ∷ e3 ∷ e4 ∷ e5 ∷ e6·1 ∷ e7·1 ∷ e8·1 ∷ e9 ∷ e10 ∷ e11·1 ∷ e12 ∷ e13 ∷ e14 ∷ e15 ∷ List.[]
+t9 = e0 ∷ e1 ∷ e2 ∷ e3 ∷ e4 ∷ e5·1 ∷ e6·1 ∷ e7 ∷ e8·1 ∷ e9 ∷ e10 ∷ e11 ∷ e12 ∷ e13 ∷ e14 ∷ e15 ∷ List.[]
 
 abbrev pub t10 : List.List Row.Entry
-t10 = e0 ∷ e1 ∷ e2 ∷ e3 ∷ e4 ∷ e5 ∷ e6·1 ∷ e7·1 ∷ e8·1 ∷ e9 ∷ e10 ∷ e11·1 ∷ e12 ∷ e13 ∷ e14 ∷ e15 ∷ List.[]
+t10 = e0 ∷ e1 ∷ e2 ∷ e3 ∷ e4 ∷ e5·1 ∷ e6·1 ∷ e7 ∷ e8·1 ∷ e9·1 ∷ e10 ∷ e11 ∷ e12 ∷ e13 ∷ e14 ∷ e15 ∷ List.[]
 
 abbrev pub t11 : List.List Row.Entry
-t11 = e0 ∷ e1 ∷ e2 ∷ e3 ∷ e4 ∷ e5 ∷ e6·1 ∷ e7·1 ∷ e8·1 ∷ e9 ∷ e10 ∷ e11·1 ∷ e12·1 ∷ e13 ∷ e14 ∷ e15 ∷ List.[]
+t11 = e0 ∷ e1 ∷ e2 ∷ e3 ∷ e4 ∷ e5·1 ∷ e6·1 ∷ e7 ∷ e8·1 ∷ e9·1 ∷ e10·1 ∷ e11 ∷ e12 ∷ e13 ∷ e14 ∷ e15 ∷ List.[]
 
 abbrev pub t12 : List.List Row.Entry
-t12 = e0 ∷ e1 ∷ e2 ∷ e3 ∷ e4 ∷ e5 ∷ e6·1 ∷ e7·1 ∷ e8·1 ∷ e9 ∷ e10 ∷ e11·1 ∷ e12·1 ∷ e13·1 ∷ e14 ∷ e15 ∷ List.[]
+t12 = e0 ∷ e1 ∷ e2 ∷ e3 ∷ e4·1 ∷ e5·1 ∷ e6·1 ∷ e7 ∷ e8·1 ∷ e9·1 ∷ e10·1 ∷ e11 ∷ e12 ∷ e13 ∷ e14 ∷ e15 ∷ List.[]
 
 abbrev pub t13 : List.List Row.Entry
-t13 = e0 ∷ e1 ∷ e2 ∷ e3 ∷ e4 ∷ e5 ∷ e6·1 ∷ e7·1 ∷ e8·1 ∷ e9 ∷ e10 ∷ e11·1 ∷ e12·1 ∷ e13·1 ∷ e14·1 ∷ e15 ∷ List.[]
+t13 = e0 ∷ e1 ∷ e2 ∷ e3 ∷ e4·1 ∷ e5·1 ∷ e6·1 ∷ e7 ∷ e8·1 ∷ e9·1 ∷ e10·1 ∷ e11·1 ∷ e12 ∷ e13 ∷ e14 ∷ e15 ∷ List.[]
 
 abbrev pub t14 : List.List Row.Entry
-t14 = e0 ∷ e1 ∷ e2 ∷ e3 ∷ e4 ∷ e5 ∷ e6·1 ∷ e7·1 ∷ e8·1 ∷ e9 ∷ e10 ∷ e11·1 ∷ e12·1 ∷ e13·1 ∷ e14·1 ∷ e15·1 ∷ List.[]
+t14 = e0 ∷ e1 ∷ e2 ∷ e3 ∷ e4·1 ∷ e5·1 ∷ e6·1 ∷ e7 ∷ e8·1 ∷ e9·1 ∷ e10·1 ∷ e11·1 ∷ e12·1 ∷ e13 ∷ e14 ∷ e15 ∷ List.[]
 
 abbrev pub t15 : List.List Row.Entry
-t15 = e0 ∷ e1·1 ∷ e2 ∷ e3 ∷ e4 ∷ e5 ∷ e6·1 ∷ e7·1 ∷ e8·1 ∷ e9 ∷ e10 ∷ e11·1 ∷ e12·1 ∷ e13·1 ∷ e14·1 ∷ e15·1 ∷ List.[]
+t15 = e0 ∷ e1 ∷ e2 ∷ e3 ∷ e4·1 ∷ e5·1 ∷ e6·1 ∷ e7 ∷ e8·1 ∷ e9·1 ∷ e10·1 ∷ e11·1 ∷ e12·1 ∷ e13·1 ∷ e14 ∷ e15 ∷ List.[]
 
 abbrev pub t16 : List.List Row.Entry
-t16 = e16 ∷ e17 ∷ e18 ∷ e19·1 ∷ e20 ∷ e21 ∷ e22 ∷ e23 ∷ e24 ∷ List.[]
+t16 = e0 ∷ e1 ∷ e2 ∷ e3 ∷ e4·1 ∷ e5·1 ∷ e6·1 ∷ e7 ∷ e8·1 ∷ e9·1 ∷ e10·1 ∷ e11·1 ∷ e12·1 ∷ e13·1 ∷ e14·1 ∷ e15 ∷ List.[]
 
 abbrev pub t17 : List.List Row.Entry
-t17 = e16 ∷ e17 ∷ e18 ∷ e19 ∷ e20·1 ∷ e21 ∷ e22 ∷ e23 ∷ e24 ∷ List.[]
-
-abbrev pub t18 : List.List Row.Entry
-t18 = e16 ∷ e17 ∷ e18·1 ∷ e19 ∷ e20·2 ∷ e21 ∷ e22 ∷ e23 ∷ e24 ∷ List.[]
-
-abbrev pub t19 : List.List Row.Entry
-t19 = e0 ∷ e1·1 ∷ e2 ∷ e3 ∷ e4 ∷ e5 ∷ e6·1 ∷ e7·1 ∷ e8·1 ∷ e9 ∷ e10 ∷ e11 ∷ e12·1 ∷ e13·1 ∷ e14·1 ∷ e15·1 ∷ List.[]
-
-abbrev pub t20 : List.List Row.Entry
-t20 = e0 ∷ e1·1 ∷ e2 ∷ e3 ∷ e4 ∷ e5 ∷ e6·1 ∷ e7·1 ∷ e8·1 ∷ e9 ∷ e10 ∷ e11 ∷ e12·1 ∷ e13 ∷ e14·1 ∷ e15·1 ∷ List.[]
-
-abbrev pub t21 : List.List Row.Entry
-t21 = e16 ∷ e17 ∷ e18 ∷ e19 ∷ e20·2 ∷ e21 ∷ e22 ∷ e23 ∷ e24 ∷ List.[]
-
-abbrev pub t22 : List.List Row.Entry
-t22 = e0 ∷ e1 ∷ e2 ∷ e3 ∷ e4 ∷ e5 ∷ e6·1 ∷ e7·1 ∷ e8·1 ∷ e9 ∷ e10 ∷ e11 ∷ e12·1 ∷ e13 ∷ e14·1 ∷ e15·1 ∷ List.[]
-
-abbrev pub t23 : List.List Row.Entry
-t23 = e0 ∷ e1 ∷ e2·2 ∷ e3 ∷ e4 ∷ e5 ∷ e6·1 ∷ e7·1 ∷ e8·1 ∷ e9 ∷ e10 ∷ e11 ∷ e12·1 ∷ e13 ∷ e14·1 ∷ e15·1 ∷ List.[]
-
-abbrev pub t24 : List.List Row.Entry
-t24 = e16 ∷ e17 ∷ e18 ∷ e19 ∷ e20 ∷ e21·1 ∷ e22 ∷ e23 ∷ e24 ∷ List.[]
-
-abbrev pub t25 : List.List Row.Entry
-t25 = e16 ∷ e17 ∷ e18 ∷ e19 ∷ e20 ∷ e21 ∷ e22·1 ∷ e23 ∷ e24 ∷ List.[]
-
-abbrev pub t26 : List.List Row.Entry
-t26 = e0 ∷ e1 ∷ e2·2 ∷ e3·1 ∷ e4 ∷ e5 ∷ e6·1 ∷ e7·1 ∷ e8·1 ∷ e9 ∷ e10 ∷ e11 ∷ e12·1 ∷ e13 ∷ e14·1 ∷ e15·1 ∷ List.[]
-
-abbrev pub t27 : List.List Row.Entry
-t27 = e16 ∷ e17 ∷ e18 ∷ e19 ∷ e20 ∷ e21 ∷ e22·1 ∷ e23·1 ∷ e24 ∷ List.[]
-
-abbrev pub t28 : List.List Row.Entry
-t28 = e16 ∷ e17 ∷ e18 ∷ e19 ∷ e20 ∷ e21 ∷ e22·1 ∷ e23 ∷ e24·1 ∷ List.[]
-
-abbrev pub t29 : List.List Row.Entry
-t29 = e0·1 ∷ e1 ∷ e2·2 ∷ e3·1 ∷ e4 ∷ e5 ∷ e6·1 ∷ e7·1 ∷ e8·1 ∷ e9 ∷ e10 ∷ e11 ∷ e12·1 ∷ e13 ∷ e14·1 ∷ e15·1 ∷ List.[]
-
-abbrev pub t30 : List.List Row.Entry
-t30 = e16 ∷ e17 ∷ e18 ∷ e19 ∷ e20 ∷ e21 ∷ e22·2 ∷ e23 ∷ e24·2 ∷ List.[]
-
-abbrev pub t31 : List.List Row.Entry
-t31 = e0·1 ∷ e1 ∷ e2·2 ∷ e3·1 ∷ e4·1 ∷ e5 ∷ e6·1 ∷ e7·1 ∷ e8·1 ∷ e9 ∷ e10 ∷ e11 ∷ e12·1 ∷ e13 ∷ e14·1 ∷ e15·1 ∷ List.[]
-
-abbrev pub t32 : List.List Row.Entry
-t32 = e0·1 ∷ e1 ∷ e2·2 ∷ e3·1 ∷ e4·1 ∷ e5·1 ∷ e6·1 ∷ e7·1 ∷ e8·1 ∷ e9 ∷ e10 ∷ e11 ∷ e12·1 ∷ e13 ∷ e14·1 ∷ e15·1 ∷
+t17 = e0 ∷ e1·1 ∷ e2 ∷ e3 ∷ e4·1 ∷ e5·1 ∷ e6·1 ∷ e7 ∷ e8·1 ∷ e9·1 ∷ e10·1 ∷ e11·1 ∷ e12·1 ∷ e13·1 ∷ e14·1 ∷ e15 ∷
     List.[]
 
+abbrev pub t18 : List.List Row.Entry
+t18 = e16 ∷ e17 ∷ e18·1 ∷ e19 ∷ e20 ∷ e21 ∷ e22 ∷ e23 ∷ List.[]
+
+abbrev pub t19 : List.List Row.Entry
+t19 = e16 ∷ e17 ∷ e18 ∷ e19·1 ∷ e20 ∷ e21 ∷ e22 ∷ e23 ∷ List.[]
+
+abbrev pub t20 : List.List Row.Entry
+t20 = e16 ∷ e17·1 ∷ e18 ∷ e19·2 ∷ e20 ∷ e21 ∷ e22 ∷ e23 ∷ List.[]
+
+abbrev pub t21 : List.List Row.Entry
+t21 = e0 ∷ e1·1 ∷ e2 ∷ e3 ∷ e4·1 ∷ e5·1 ∷ e6·1 ∷ e7 ∷ e8 ∷ e9·1 ∷ e10·1 ∷ e11·1 ∷ e12·1 ∷ e13·1 ∷ e14·1 ∷ e15 ∷ List.[]
+
+abbrev pub t22 : List.List Row.Entry
+t22 = e0 ∷ e1·1 ∷ e2 ∷ e3 ∷ e4·1 ∷ e5·1 ∷ e6·1 ∷ e7 ∷ e8 ∷ e9·1 ∷ e10·1 ∷ e11·1 ∷ e12 ∷ e13·1 ∷ e14·1 ∷ e15 ∷ List.[]
+
+abbrev pub t23 : List.List Row.Entry
+t23 = e16 ∷ e17 ∷ e18 ∷ e19·2 ∷ e20 ∷ e21 ∷ e22 ∷ e23 ∷ List.[]
+
+abbrev pub t24 : List.List Row.Entry
+t24 = e0 ∷ e1 ∷ e2 ∷ e3 ∷ e4·1 ∷ e5·1 ∷ e6·1 ∷ e7 ∷ e8 ∷ e9·1 ∷ e10·1 ∷ e11·1 ∷ e12 ∷ e13·1 ∷ e14·1 ∷ e15 ∷ List.[]
+
+abbrev pub t25 : List.List Row.Entry
+t25 = e0 ∷ e1 ∷ e2·2 ∷ e3 ∷ e4·1 ∷ e5·1 ∷ e6·1 ∷ e7 ∷ e8 ∷ e9·1 ∷ e10·1 ∷ e11·1 ∷ e12 ∷ e13·1 ∷ e14·1 ∷ e15 ∷ List.[]
+
+abbrev pub t26 : List.List Row.Entry
+t26 = e16 ∷ e17 ∷ e18 ∷ e19 ∷ e20·1 ∷ e21 ∷ e22 ∷ e23 ∷ List.[]
+
+abbrev pub t27 : List.List Row.Entry
+t27 = e16 ∷ e17 ∷ e18 ∷ e19 ∷ e20 ∷ e21·1 ∷ e22 ∷ e23 ∷ List.[]
+
+abbrev pub t28 : List.List Row.Entry
+t28 = e0 ∷ e1 ∷ e2·2 ∷ e3·1 ∷ e4·1 ∷ e5·1 ∷ e6·1 ∷ e7 ∷ e8 ∷ e9·1 ∷ e10·1 ∷ e11·1 ∷ e12 ∷ e13·1 ∷ e14·1 ∷ e15 ∷ List.[]
+
+abbrev pub t29 : List.List Row.Entry
+t29 = e16 ∷ e17 ∷ e18 ∷ e19 ∷ e20 ∷ e21·1 ∷ e22·1 ∷ e23 ∷ List.[]
+
+abbrev pub t30 : List.List Row.Entry
+t30 = e16 ∷ e17 ∷ e18 ∷ e19 ∷ e20 ∷ e21·1 ∷ e22 ∷ e23·1 ∷ List.[]
+
+abbrev pub t31 : List.List Row.Entry
+t31 = e0·1 ∷ e1 ∷ e2·2 ∷ e3·1 ∷ e4·1 ∷ e5·1 ∷ e6·1 ∷ e7 ∷ e8 ∷ e9·1 ∷ e10·1 ∷ e11·1 ∷ e12 ∷ e13·1 ∷ e14·1 ∷ e15 ∷
+    List.[]
+
+abbrev pub t32 : List.List Row.Entry
+t32 = e16 ∷ e17 ∷ e18 ∷ e19 ∷ e20 ∷ e21·2 ∷ e22 ∷ e23·2 ∷ List.[]
+
 abbrev pub t33 : List.List Row.Entry
-t33 = e0·1 ∷ e1 ∷ e2·2 ∷ e3·1 ∷ e4·1 ∷ e5·1 ∷ e6·1 ∷ e7·1 ∷ e8·1 ∷ e9 ∷ e10 ∷ e11 ∷ e12 ∷ e13 ∷ e14·1 ∷ e15·1 ∷ List.[]
+t33 = e0·1 ∷ e1 ∷ e2·2 ∷ e3·1 ∷ e4·1 ∷ e5·1 ∷ e6·1 ∷ e7 ∷ e8 ∷ e9 ∷ e10·1 ∷ e11·1 ∷ e12 ∷ e13·1 ∷ e14·1 ∷ e15 ∷ List.[]
 
 abbrev pub t34 : List.List Row.Entry
-t34 = e0·1 ∷ e1 ∷ e2·2 ∷ e3·1 ∷ e4·1 ∷ e5·1 ∷ e6·1 ∷ e7·1 ∷ e8·1 ∷ e9 ∷ e10 ∷ e11 ∷ e12 ∷ e13 ∷ e14 ∷ e15·1 ∷ List.[]
+t34 = e0·1 ∷ e1 ∷ e2·2 ∷ e3·1 ∷ e4·1 ∷ e5·1 ∷ e6·1 ∷ e7 ∷ e8 ∷ e9 ∷ e10 ∷ e11·1 ∷ e12 ∷ e13·1 ∷ e14·1 ∷ e15 ∷ List.[]
 
 abbrev pub t35 : List.List Row.Entry
-t35 = e0·1 ∷ e1 ∷ e2·2 ∷ e3·1 ∷ e4·1 ∷ e5·1 ∷ e6·1 ∷ e7·1 ∷ e8·1 ∷ e9 ∷ e10 ∷ e11 ∷ e12 ∷ e13 ∷ e14 ∷ e15 ∷ List.[]
+t35 = e0·1 ∷ e1 ∷ e2·2 ∷ e3·1 ∷ e4·1 ∷ e5·1 ∷ e6·1 ∷ e7 ∷ e8 ∷ e9 ∷ e10 ∷ e11 ∷ e12 ∷ e13·1 ∷ e14·1 ∷ e15 ∷ List.[]
 
 abbrev pub t36 : List.List Row.Entry
-t36 = e0·1 ∷ e1 ∷ e2 ∷ e3·1 ∷ e4·1 ∷ e5·1 ∷ e6·1 ∷ e7·1 ∷ e8·1 ∷ e9 ∷ e10 ∷ e11 ∷ e12 ∷ e13 ∷ e14 ∷ e15 ∷ List.[]
+t36 = e0·1 ∷ e1 ∷ e2·2 ∷ e3·1 ∷ e4·1 ∷ e5·1 ∷ e6·1 ∷ e7 ∷ e8 ∷ e9 ∷ e10 ∷ e11 ∷ e12 ∷ e13 ∷ e14·1 ∷ e15 ∷ List.[]
 
 abbrev pub t37 : List.List Row.Entry
-t37 = e16 ∷ e17 ∷ e18 ∷ e19 ∷ e20 ∷ e21 ∷ e22 ∷ e23 ∷ e24·2 ∷ List.[]
+t37 = e0·1 ∷ e1 ∷ e2·2 ∷ e3·1 ∷ e4·1 ∷ e5·1 ∷ e6·1 ∷ e7 ∷ e8 ∷ e9 ∷ e10 ∷ e11 ∷ e12 ∷ e13 ∷ e14 ∷ e15 ∷ List.[]
+
+abbrev pub t38 : List.List Row.Entry
+t38 = e0·1 ∷ e1 ∷ e2 ∷ e3·1 ∷ e4·1 ∷ e5·1 ∷ e6·1 ∷ e7 ∷ e8 ∷ e9 ∷ e10 ∷ e11 ∷ e12 ∷ e13 ∷ e14 ∷ e15 ∷ List.[]
+
+abbrev pub t39 : List.List Row.Entry
+t39 = e16 ∷ e17 ∷ e18 ∷ e19 ∷ e20 ∷ e21 ∷ e22 ∷ e23·2 ∷ List.[]
 
 abbrev pub T0 : Row.Cx
 T0 = record { locals = List._++_ t0 t1; slots = List.[] }
@@ -586,26 +592,23 @@ T2 = record { locals = List._++_ t0 t1; slots = List.[] }
 abbrev pub T3 : Row.Cx
 T3 = record { locals = List._++_ t0 t1; slots = List.[] }
 
-abbrev pub T4 : Row.Cx
-T4 = record { locals = List._++_ t0 t1; slots = List.[] }
+abbrev pub T5 : Row.Cx
+T5 = record { locals = List._++_ t3 t1; slots = List.[] }
 
 abbrev pub T6 : Row.Cx
-T6 = record { locals = List._++_ t3 t4; slots = List.[] }
+T6 = record { locals = List._++_ t4 t5; slots = List.[] }
 
 abbrev pub T7 : Row.Cx
-T7 = record { locals = List._++_ t3 t5; slots = List.[] }
+T7 = record { locals = List._++_ t6 t5; slots = List.[] }
 
 abbrev pub T8 : Row.Cx
-T8 = record { locals = List._++_ t6 t5; slots = List.[] }
+T8 = record { locals = List._++_ t6 t1; slots = List.[] }
 
 abbrev pub T9 : Row.Cx
-T9 = record { locals = List._++_ t6 t1; slots = List.[] }
+T9 = record { locals = List._++_ t7 t1; slots = List.[] }
 
 abbrev pub T10 : Row.Cx
-T10 = record { locals = List._++_ t7 t1; slots = List.[] }
-
-abbrev pub T11 : Row.Cx
-T11 = record { locals = List._++_ t8 t1; slots = List.[] }
+T10 = record { locals = List._++_ t8 t1; slots = List.[] }
 
 abbrev pub T12 : Row.Cx
 T12 = record { locals = List._++_ t9 t1; slots = List.[] }
@@ -613,77 +616,83 @@ T12 = record { locals = List._++_ t9 t1; slots = List.[] }
 abbrev pub T14 : Row.Cx
 T14 = record { locals = List._++_ t10 t1; slots = List.[] }
 
+abbrev pub T15 : Row.Cx
+T15 = record { locals = List._++_ t11 t1; slots = List.[] }
+
 abbrev pub T16 : Row.Cx
-T16 = record { locals = List._++_ t11 t1; slots = List.[] }
+T16 = record { locals = List._++_ t12 t1; slots = List.[] }
 
 abbrev pub T17 : Row.Cx
-T17 = record { locals = List._++_ t12 t1; slots = List.[] }
+T17 = record { locals = List._++_ t13 t1; slots = List.[] }
 
 abbrev pub T18 : Row.Cx
-T18 = record { locals = List._++_ t13 t1; slots = List.[] }
+T18 = record { locals = List._++_ t14 t1; slots = List.[] }
 
 abbrev pub T19 : Row.Cx
-T19 = record { locals = List._++_ t14 t1; slots = List.[] }
+T19 = record { locals = List._++_ t15 t1; slots = List.[] }
 
-abbrev pub T21 : Row.Cx
-T21 = record { locals = List._++_ t15 t16; slots = List.[] }
+abbrev pub T20 : Row.Cx
+T20 = record { locals = List._++_ t16 t1; slots = List.[] }
 
 abbrev pub T22 : Row.Cx
-T22 = record { locals = List._++_ t15 t17; slots = List.[] }
+T22 = record { locals = List._++_ t17 t18; slots = List.[] }
 
 abbrev pub T23 : Row.Cx
-T23 = record { locals = List._++_ t15 t18; slots = List.[] }
+T23 = record { locals = List._++_ t17 t19; slots = List.[] }
 
 abbrev pub T24 : Row.Cx
-T24 = record { locals = List._++_ t19 t18; slots = List.[] }
+T24 = record { locals = List._++_ t17 t20; slots = List.[] }
 
 abbrev pub T25 : Row.Cx
-T25 = record { locals = List._++_ t20 t18; slots = List.[] }
+T25 = record { locals = List._++_ t21 t20; slots = List.[] }
 
 abbrev pub T26 : Row.Cx
-T26 = record { locals = List._++_ t20 t21; slots = List.[] }
+T26 = record { locals = List._++_ t22 t20; slots = List.[] }
 
-abbrev pub T28 : Row.Cx
-T28 = record { locals = List._++_ t22 t1; slots = List.[] }
+abbrev pub T27 : Row.Cx
+T27 = record { locals = List._++_ t22 t23; slots = List.[] }
 
-abbrev pub T31 : Row.Cx
-T31 = record { locals = List._++_ t23 t24; slots = List.[] }
+abbrev pub T29 : Row.Cx
+T29 = record { locals = List._++_ t24 t1; slots = List.[] }
 
 abbrev pub T32 : Row.Cx
-T32 = record { locals = List._++_ t23 t25; slots = List.[] }
+T32 = record { locals = List._++_ t25 t26; slots = List.[] }
 
-abbrev pub T34 : Row.Cx
-T34 = record { locals = List._++_ t26 t27; slots = List.[] }
+abbrev pub T33 : Row.Cx
+T33 = record { locals = List._++_ t25 t27; slots = List.[] }
 
 abbrev pub T35 : Row.Cx
-T35 = record { locals = List._++_ t26 t28; slots = List.[] }
+T35 = record { locals = List._++_ t28 t29; slots = List.[] }
 
 abbrev pub T36 : Row.Cx
-T36 = record { locals = List._++_ t29 t30; slots = List.[] }
+T36 = record { locals = List._++_ t28 t30; slots = List.[] }
 
 abbrev pub T37 : Row.Cx
-T37 = record { locals = List._++_ t31 t30; slots = List.[] }
+T37 = record { locals = List._++_ t31 t32; slots = List.[] }
 
 abbrev pub T38 : Row.Cx
-T38 = record { locals = List._++_ t32 t30; slots = List.[] }
+T38 = record { locals = List._++_ t33 t32; slots = List.[] }
 
 abbrev pub T39 : Row.Cx
-T39 = record { locals = List._++_ t33 t30; slots = List.[] }
+T39 = record { locals = List._++_ t34 t32; slots = List.[] }
 
 abbrev pub T40 : Row.Cx
-T40 = record { locals = List._++_ t34 t30; slots = List.[] }
+T40 = record { locals = List._++_ t35 t32; slots = List.[] }
 
 abbrev pub T41 : Row.Cx
-T41 = record { locals = List._++_ t35 t30; slots = List.[] }
+T41 = record { locals = List._++_ t36 t32; slots = List.[] }
 
-abbrev pub T43 : Row.Cx
-T43 = record { locals = List._++_ t36 t37; slots = List.[] }
+abbrev pub T42 : Row.Cx
+T42 = record { locals = List._++_ t37 t32; slots = List.[] }
 
-abbrev pub T46 : Row.Cx
-T46 = record { locals = List._++_ t2 t1; slots = List.[] }
+abbrev pub T44 : Row.Cx
+T44 = record { locals = List._++_ t38 t39; slots = List.[] }
 
 abbrev pub T47 : Row.Cx
 T47 = record { locals = List._++_ t2 t1; slots = List.[] }
+
+abbrev pub T48 : Row.Cx
+T48 = record { locals = List._++_ t2 t1; slots = List.[] }
 
 abbrev pub O0 : Typed.Outs
 O0 = record { next = Option.none; exits = List.[]; returns = Option.some T1 }
@@ -693,343 +702,351 @@ module _ (claims· : Claims) where
   s0 = λ bs. Know.k-sl-known (Referent.fInt Syntax.w32) T0 3 2 ref6 Row.off 0 λ x. x
 
   abbrev s1 : (bs : List.List Nat.ℕ) → Typed.Gives T2 T3
-  s1 = λ bs. Know.k-shs-known (Referent.fInt Syntax.w8) T2 9 3 ref7 Row.off 0 λ x. x
+  s1 = λ bs. Know.k-shs-known (Referent.fInt Syntax.w8) T2 7 3 ref7 Row.off 0 λ x. x
 
-  abbrev s2 : (bs : List.List Nat.ℕ) → Typed.Gives T3 T4
-  s2 = λ bs. Know.k-shs-known (Referent.fInt Syntax.w8) T3 10 4 ref8 Row.off 0 λ x. x
+  abbrev s3 : (bs : List.List Nat.ℕ) → Typed.Gives T3 T5
+  s3 = λ bs. Reshare.k-sl-reshare InflightAction.row T3 2 15 1 4 ref5 ref0 Row.off λ x. x
 
-  abbrev s4 : (bs : List.List Nat.ℕ) → Typed.Gives T4 T6
-  s4 = λ bs. Reshare.k-sl-reshare InflightAction.row T4 2 16 1 5 ref5 ref0 Row.off λ x. x
-
-  abbrev s5 : (bs : List.List Nat.ℕ) → Typed.Asks T6 T7
-  s5 = λ bs. Relend.k-sl-aggregate InflightAction.row (Relend.asShr InflightAction.row) T6 16 17 5 ref0 ref0 (λ x. x) (Scalar.oFld
+  abbrev s4 : (bs : List.List Nat.ℕ) → Typed.Asks T5 T6
+  s4 = λ bs. Relend.k-sl-aggregate InflightAction.row (Relend.asShr InflightAction.row) T5 15 16 4 ref0 ref0 (λ x. x) (Scalar.oFld
       2 ((Syntax.field 1) ∷ List.[]) (Syntax.tyInt Syntax.w64) 8 λ v. Shared.lenV (v .0))
 
-  abbrev s6 : (bs : List.List Nat.ℕ) → Typed.Both T7 T8
-  s6 = λ bs. Call.callB ps·0 r·0 (claims· .0) (claims· .1) T7 (
-    record { pos = 17; ty = ref0; ref = λ x. x },
+  abbrev s5 : (bs : List.List Nat.ℕ) → Typed.Both T6 T7
+  s5 = λ bs. Call.callB ps·0 r·0 (claims· .0) (claims· .1) T6 (
+    record { pos = 16; ty = ref0; ref = λ x. x },
     (
       record { pos = 4; st = List.[]; d = 0; at = λ x. x },
       (
         record { pos = 5; st = List.[]; d = 0; at = λ x. x },
-        (
-          record { pos = 6; st = List.[]; d = 0; at = λ x. x },
-          (
-            record { pos = 7; st = List.[]; d = 0; at = λ x. x },
-            (record { pos = 8; st = List.[]; d = 0; at = λ x. x }, (record { pos = 9; ty = ref7; ref = λ x. x }, tt)),
-          ),
-        ),
+        (record { pos = 6; st = List.[]; d = 0; at = λ x. x }, tt),
       ),
     ),
-  ) 11 (5 ∷ 3 ∷ List.[]) Laws''.mir
+  ) 8 (4 ∷ List.[]) Laws''.mir
+
+  abbrev s6 : (bs : List.List Nat.ℕ) → Typed.Mo T7 → Typed.Mo T8
+  s6 = λ bs. Scalar.n-room T7 16 slice0
 
   abbrev s7 : (bs : List.List Nat.ℕ) → Typed.Mo T8 → Typed.Mo T9
-  s7 = λ bs. Scalar.n-room T8 17 slice0
+  s7 = λ bs. Scalar.n-room T8 5 Laws.mir
 
   abbrev s8 : (bs : List.List Nat.ℕ) → Typed.Mo T9 → Typed.Mo T10
-  s8 = λ bs. Scalar.n-room T9 6 Laws''''''.mir
+  s8 = λ bs. Scalar.n-room T9 6 Laws''''''''.mir
 
-  abbrev s9 : (bs : List.List Nat.ℕ) → Typed.Mo T10 → Typed.Mo T11
-  s9 = λ bs. Scalar.n-room T10 7 Laws.mir
+  abbrev s10 : (bs : List.List Nat.ℕ) → Typed.Mo T10 → Typed.Mo T12
+  s10 = λ bs. Reshare.n-back-sl-shr InflightAction.row T10 2 1 4 ref5 Row.off λ x. x
 
-  abbrev s10 : (bs : List.List Nat.ℕ) → Typed.Mo T11 → Typed.Mo T12
-  s10 = λ bs. Scalar.n-room T11 8 Laws''''''''.mir
+  abbrev s12 : (bs : List.List Nat.ℕ) → Typed.Both T12 T14
+  s12 = λ bs. WayStmt.k-way-copy-out T12 (Row.out 4 (T12 .locals)) (λ u. Row.drop 4 (T12 .locals) u) 9
+      (Rows.whole (Declared'.row OpaqueRelayRuntime.the-type)) (λ u. At.getAt (Request.the-type .parts) 0
+      (Request.struct .as-values (u .1 .1 .1 .1 .0))) (λ T′.
+      record { locals = Row.setRow 4 (4, Rows.whole (Declared'.row Request.the-type)) T′; slots = List.[] }) (λ u T′
+      m′. Row.set 4 (4, Rows.whole (Declared'.row Request.the-type)) (u .1 .1 .1 .1 .0) T′ m′) (λ u. Unit) λ u. Unit
 
-  abbrev s12 : (bs : List.List Nat.ℕ) → Typed.Mo T12 → Typed.Mo T14
-  s12 = λ bs. Reshare.n-back-sl-shr InflightAction.row T12 2 1 5 ref5 Row.off λ x. x
+  abbrev s13 : (bs : List.List Nat.ℕ) → Typed.Both T14 T15
+  s13 = λ bs. WayStmt.k-way-copy-out T14 (Row.out 4 (T14 .locals)) (λ u. Row.drop 4 (T14 .locals) u) 10
+      (Rows.whole (Declared'.row Places.the-type)) (λ u. At.getAt (Request.the-type .parts) 1
+      (Request.struct .as-values (u .1 .1 .1 .1 .0))) (λ T′.
+      record { locals = Row.setRow 4 (4, Rows.whole (Declared'.row Request.the-type)) T′; slots = List.[] }) (λ u T′
+      m′. Row.set 4 (4, Rows.whole (Declared'.row Request.the-type)) (u .1 .1 .1 .1 .0) T′ m′) (λ u. Unit) λ u. Unit
 
-  abbrev s14 : (bs : List.List Nat.ℕ) → Typed.Mo T14 → Typed.Mo T16
-  s14 = λ bs. Make.n-make (Declared.row HnsrAnswer.the-type) T14 12 λ m. WindowPlan.struct .as-values
-      (m .1 .1 .1 .1 .1 .1 .1 .1 .1 .1 .1 .0) .0
+  abbrev s14 : (bs : List.List Nat.ℕ) → Typed.Mo T15 → Typed.Mo T16
+  s14 = λ bs. Scalar.n-room T15 4 Laws'''''''.mir
 
   abbrev s15 : (bs : List.List Nat.ℕ) → Typed.Mo T16 → Typed.Mo T17
-  s15 = λ bs. Make.n-make (Declared.row RelaySide.the-type) T16 13 λ m. WindowPlan.struct .as-values
-      (m .1 .1 .1 .1 .1 .1 .1 .1 .1 .1 .1 .0) .1 .1 .1 .0
+  s15 = λ bs. Make.n-make (Declared.row HnsrAnswer.the-type) T16 11 λ m. WindowPlan.struct .as-values
+      (m .1 .1 .1 .1 .1 .1 .1 .1 .0) .0
 
-  abbrev s16 : (bs : List.List Nat.ℕ) → Typed.Both T17 T18
-  s16 = λ bs. WayStmt.k-way-copy-out T17 (Row.out 11 (T17 .locals)) (λ u. Row.drop 11 (T17 .locals) u) 14
-      (Rows.whole (Declared'.row Outgoing.the-type)) (λ u. At.getAt (WindowPlan.the-type .parts) 5 (WindowPlan.struct
-      .as-values (u .1 .1 .1 .1 .1 .1 .1 .1 .1 .1 .1 .0))) (λ T′.
-      record { locals = Row.setRow 11 (11, Rows.whole (Declared'.row WindowPlan.the-type)) T′; slots = List.[] }) (λ u
-      T′ m′. Row.set 11 (11, Rows.whole (Declared'.row WindowPlan.the-type)) (u .1 .1 .1 .1 .1 .1 .1 .1 .1 .1 .1 .0) T′
-      m′) (λ u. Unit) λ u. Unit
+  abbrev s16 : (bs : List.List Nat.ℕ) → Typed.Mo T17 → Typed.Mo T18
+  s16 = λ bs. Make.n-make (Declared.row RelaySide.the-type) T17 12 λ m. WindowPlan.struct .as-values
+      (m .1 .1 .1 .1 .1 .1 .1 .1 .0) .1 .1 .1 .0
 
   abbrev s17 : (bs : List.List Nat.ℕ) → Typed.Both T18 T19
-  s17 = λ bs. WayStmt.k-way-copy-out T18 (Row.out 11 (T18 .locals)) (λ u. Row.drop 11 (T18 .locals) u) 15
+  s17 = λ bs. WayStmt.k-way-copy-out T18 (Row.out 8 (T18 .locals)) (λ u. Row.drop 8 (T18 .locals) u) 13
+      (Rows.whole (Declared'.row Outgoing.the-type)) (λ u. At.getAt (WindowPlan.the-type .parts) 5 (WindowPlan.struct
+      .as-values (u .1 .1 .1 .1 .1 .1 .1 .1 .0))) (λ T′.
+      record { locals = Row.setRow 8 (8, Rows.whole (Declared'.row WindowPlan.the-type)) T′; slots = List.[] }) (λ u T′
+      m′. Row.set 8 (8, Rows.whole (Declared'.row WindowPlan.the-type)) (u .1 .1 .1 .1 .1 .1 .1 .1 .0) T′ m′)
+      (λ u. Unit) λ u. Unit
+
+  abbrev s18 : (bs : List.List Nat.ℕ) → Typed.Both T19 T20
+  s18 = λ bs. WayStmt.k-way-copy-out T19 (Row.out 8 (T19 .locals)) (λ u. Row.drop 8 (T19 .locals) u) 14
       (Rows.whole (Declared'.row ActionScan.the-type)) (λ u. At.getAt (WindowPlan.the-type .parts) 6 (WindowPlan.struct
-      .as-values (u .1 .1 .1 .1 .1 .1 .1 .1 .1 .1 .1 .0))) (λ T′.
-      record { locals = Row.setRow 11 (11, Rows.whole (Declared'.row WindowPlan.the-type)) T′; slots = List.[] }) (λ u
-      T′ m′. Row.set 11 (11, Rows.whole (Declared'.row WindowPlan.the-type)) (u .1 .1 .1 .1 .1 .1 .1 .1 .1 .1 .1 .0) T′
-      m′) (λ u. Unit) λ u. Unit
+      .as-values (u .1 .1 .1 .1 .1 .1 .1 .1 .0))) (λ T′.
+      record { locals = Row.setRow 8 (8, Rows.whole (Declared'.row WindowPlan.the-type)) T′; slots = List.[] }) (λ u T′
+      m′. Row.set 8 (8, Rows.whole (Declared'.row WindowPlan.the-type)) (u .1 .1 .1 .1 .1 .1 .1 .1 .0) T′ m′)
+      (λ u. Unit) λ u. Unit
 
-  abbrev s19 : (bs : List.List Nat.ℕ) → Typed.Gives T19 T21
-  s19 = λ bs. Relend.k-sl-relend RelayCircuit.row T19 1 19 0 6 ref4 ref1 Row.off λ x. x
+  abbrev s20 : (bs : List.List Nat.ℕ) → Typed.Gives T20 T22
+  s20 = λ bs. Relend.k-sl-relend RelayCircuit.row T20 1 18 0 5 ref4 ref1 Row.off λ x. x
 
-  abbrev s20 : (bs : List.List Nat.ℕ) → Typed.Asks T21 T22
-  s20 = λ bs. Relend.k-sl-aggregate RelayCircuit.row (Relend.asMut RelayCircuit.row) T21 19 20 6 ref1 ref1 (λ x. x) (Scalar.oFld
+  abbrev s21 : (bs : List.List Nat.ℕ) → Typed.Asks T22 T23
+  s21 = λ bs. Relend.k-sl-aggregate RelayCircuit.row (Relend.asMut RelayCircuit.row) T22 18 19 5 ref1 ref1 (λ x. x) (Scalar.oFld
       1 ((Syntax.field 1) ∷ List.[]) (Syntax.tyInt Syntax.w64) 8 λ v. Shared.lenV (v .0))
 
-  abbrev s21 : (bs : List.List Nat.ℕ) → Typed.Both T22 T23
-  s21 = λ bs. Call.callB ps·1 r·1 (claims· .2) (claims· .3) T22 (
-    record { pos = 20; ty = ref1; ref = λ x. x },
+  abbrev s22 : (bs : List.List Nat.ℕ) → Typed.Both T23 T24
+  s22 = λ bs. Call.callB ps·1 r·1 (claims· .2) (claims· .3) T23 (
+    record { pos = 19; ty = ref1; ref = λ x. x },
     (
-      record { pos = 5; st = List.[]; d = 0; at = λ x. x },
+      record { pos = 10; st = List.[]; d = 0; at = λ x. x },
       (
-        Bool.bFld 11 ((Syntax.field 1) ∷ List.[]) 48 λ x. WindowPlan.struct .as-values x .1 .0,
+        Bool.bFld 8 ((Syntax.field 1) ∷ List.[]) 48 λ x. WindowPlan.struct .as-values x .1 .0,
         (
-          Num.vFld 11 ((Syntax.field 2) ∷ List.[]) 56 λ x. WindowPlan.struct .as-values x .1 .1 .0,
+          Num.vFld 8 ((Syntax.field 2) ∷ List.[]) 56 λ x. WindowPlan.struct .as-values x .1 .1 .0,
           (
-            record { pos = 13; st = List.[]; d = 0; at = λ x. x },
-            (Num.vFld 11 ((Syntax.field 4) ∷ List.[]) 68 λ x. WindowPlan.struct .as-values x .1 .1 .1 .1 .0, tt),
+            record { pos = 12; st = List.[]; d = 0; at = λ x. x },
+            (Num.vFld 8 ((Syntax.field 4) ∷ List.[]) 68 λ x. WindowPlan.struct .as-values x .1 .1 .1 .1 .0, tt),
           ),
         ),
       ),
     ),
-  ) 18 (6 ∷ List.[]) Syntax.tyUnit
-
-  abbrev s22 : (bs : List.List Nat.ℕ) → Typed.Mo T23 → Typed.Mo T24
-  s22 = λ bs. Scalar.n-room T23 11 Laws''.mir
+  ) 17 (5 ∷ List.[]) Syntax.tyUnit
 
   abbrev s23 : (bs : List.List Nat.ℕ) → Typed.Mo T24 → Typed.Mo T25
-  s23 = λ bs. Scalar.n-room T24 13 Laws''''.mir
+  s23 = λ bs. Scalar.n-room T24 8 Laws''.mir
 
   abbrev s24 : (bs : List.List Nat.ℕ) → Typed.Mo T25 → Typed.Mo T26
-  s24 = λ bs. Scalar.n-room T25 18 Syntax.tyUnit
+  s24 = λ bs. Scalar.n-room T25 12 Laws''''.mir
 
-  abbrev s26 : (bs : List.List Nat.ℕ) → Typed.Both T26 T28
-  s26 = λ bs. Relend.k-back-sl RelayCircuit.row T26 20 1 0 6 ref4 ref1 Row.off (λ x. x) λ x. x
+  abbrev s25 : (bs : List.List Nat.ℕ) → Typed.Mo T26 → Typed.Mo T27
+  s25 = λ bs. Scalar.n-room T26 17 Syntax.tyUnit
 
-  abbrev s29 : (bs : List.List Nat.ℕ) → Typed.Gives T28 T31
-  s29 = λ bs. Relend.k-sl-relend InflightAction.row T28 2 21 1 7 ref5 ref2 Row.off λ x. x
+  abbrev s27 : (bs : List.List Nat.ℕ) → Typed.Both T27 T29
+  s27 = λ bs. Relend.k-back-sl RelayCircuit.row T27 19 1 0 5 ref4 ref1 Row.off (λ x. x) λ x. x
 
-  abbrev s30 : (bs : List.List Nat.ℕ) → Typed.Asks T31 T32
-  s30 = λ bs. Relend.k-sl-aggregate InflightAction.row (Relend.asMut InflightAction.row) T31 21 22 7 ref2 ref2 (λ x. x) (Scalar.oFld
+  abbrev s30 : (bs : List.List Nat.ℕ) → Typed.Gives T29 T32
+  s30 = λ bs. Relend.k-sl-relend InflightAction.row T29 2 20 1 6 ref5 ref2 Row.off λ x. x
+
+  abbrev s31 : (bs : List.List Nat.ℕ) → Typed.Asks T32 T33
+  s31 = λ bs. Relend.k-sl-aggregate InflightAction.row (Relend.asMut InflightAction.row) T32 20 21 6 ref2 ref2 (λ x. x) (Scalar.oFld
       2 ((Syntax.field 1) ∷ List.[]) (Syntax.tyInt Syntax.w64) 8 λ v. Shared.lenV (v .0))
 
-  abbrev s32 : (bs : List.List Nat.ℕ) → Typed.Gives T32 T34
-  s32 = λ bs. Relend.k-sl-relend (Referent.rtF (Referent.fInt Syntax.w32)) T32 3 23 2 8 ref6 ref3 Row.off λ x. x
+  abbrev s33 : (bs : List.List Nat.ℕ) → Typed.Gives T33 T35
+  s33 = λ bs. Relend.k-sl-relend (Referent.rtF (Referent.fInt Syntax.w32)) T33 3 22 2 7 ref6 ref3 Row.off λ x. x
 
-  abbrev s33 : (bs : List.List Nat.ℕ) → Typed.Asks T34 T35
-  s33 = λ bs. Relend.k-sl-aggregate (Referent.rtF (Referent.fInt Syntax.w32))
-      (Relend.asMut (Referent.rtF (Referent.fInt Syntax.w32))) T34 23 24 8 ref3 ref3 (λ x. x) (Scalar.oFld 3
+  abbrev s34 : (bs : List.List Nat.ℕ) → Typed.Asks T35 T36
+  s34 = λ bs. Relend.k-sl-aggregate (Referent.rtF (Referent.fInt Syntax.w32))
+      (Relend.asMut (Referent.rtF (Referent.fInt Syntax.w32))) T35 22 23 7 ref3 ref3 (λ x. x) (Scalar.oFld 3
       ((Syntax.field 1) ∷ List.[]) (Syntax.tyInt Syntax.w64) 8 λ v. Shared.lenV (v .0))
 
-  abbrev s34 : (bs : List.List Nat.ℕ) → Typed.Both T35 T36
-  s34 = λ bs. Call.callB ps·2 r·2 (claims· .4) (claims· .5) T35 (
-    record { pos = 22; ty = ref2; ref = λ x. x },
+  abbrev s35 : (bs : List.List Nat.ℕ) → Typed.Both T36 T37
+  s35 = λ bs. Call.callB ps·2 r·2 (claims· .4) (claims· .5) T36 (
+    record { pos = 21; ty = ref2; ref = λ x. x },
     (
-      record { pos = 24; ty = ref3; ref = λ x. x },
+      record { pos = 23; ty = ref3; ref = λ x. x },
       (
-        record { pos = 12; st = List.[]; d = 0; at = λ x. x },
+        record { pos = 11; st = List.[]; d = 0; at = λ x. x },
         (
-          record { pos = 4; st = List.[]; d = 0; at = λ x. x },
+          record { pos = 9; st = List.[]; d = 0; at = λ x. x },
           (
-            record { pos = 5; st = List.[]; d = 0; at = λ x. x },
+            record { pos = 10; st = List.[]; d = 0; at = λ x. x },
             (
-              record { pos = 14; st = List.[]; d = 0; at = λ x. x },
+              record { pos = 13; st = List.[]; d = 0; at = λ x. x },
               (
-                record { pos = 15; st = List.[]; d = 0; at = λ x. x },
-                (record { pos = 10; ty = ref8; ref = λ x. x }, tt),
+                record { pos = 14; st = List.[]; d = 0; at = λ x. x },
+                (record { pos = 7; ty = ref7; ref = λ x. x }, tt),
               ),
             ),
           ),
         ),
       ),
     ),
-  ) 0 (7 ∷ 8 ∷ 4 ∷ List.[]) Laws'''''''.mir
-
-  abbrev s35 : (bs : List.List Nat.ℕ) → Typed.Mo T36 → Typed.Mo T37
-  s35 = λ bs. Scalar.n-room T36 4 Laws'''''.mir
+  ) 0 (6 ∷ 7 ∷ 3 ∷ List.[]) Laws''''''.mir
 
   abbrev s36 : (bs : List.List Nat.ℕ) → Typed.Mo T37 → Typed.Mo T38
-  s36 = λ bs. Scalar.n-room T37 5 Laws'''''''''.mir
+  s36 = λ bs. Scalar.n-room T37 9 Laws'''''.mir
 
   abbrev s37 : (bs : List.List Nat.ℕ) → Typed.Mo T38 → Typed.Mo T39
-  s37 = λ bs. Scalar.n-room T38 12 Laws'.mir
+  s37 = λ bs. Scalar.n-room T38 10 Laws'''''''''.mir
 
   abbrev s38 : (bs : List.List Nat.ℕ) → Typed.Mo T39 → Typed.Mo T40
-  s38 = λ bs. Scalar.n-room T39 14 Laws'''.mir
+  s38 = λ bs. Scalar.n-room T39 11 Laws'.mir
 
   abbrev s39 : (bs : List.List Nat.ℕ) → Typed.Mo T40 → Typed.Mo T41
-  s39 = λ bs. Scalar.n-room T40 15 Laws''''''''''.mir
+  s39 = λ bs. Scalar.n-room T40 13 Laws'''.mir
 
-  abbrev s41 : (bs : List.List Nat.ℕ) → Typed.Both T41 T43
-  s41 = λ bs. Relend.k-back-sl InflightAction.row T41 22 2 1 7 ref5 ref2 Row.off (λ x. x) λ x. x
+  abbrev s40 : (bs : List.List Nat.ℕ) → Typed.Mo T41 → Typed.Mo T42
+  s40 = λ bs. Scalar.n-room T41 14 Laws''''''''''.mir
 
-  abbrev s44 : (bs : List.List Nat.ℕ) → Typed.Both T43 T46
-  s44 = λ bs. Relend.k-back-sl (Referent.rtF (Referent.fInt Syntax.w32)) T43 24 3 2 8 ref6 ref3 Row.off (λ x. x) λ x. x
+  abbrev s42 : (bs : List.List Nat.ℕ) → Typed.Both T42 T44
+  s42 = λ bs. Relend.k-back-sl InflightAction.row T42 21 2 1 6 ref5 ref2 Row.off (λ x. x) λ x. x
 
-  abbrev s45 : (bs : List.List Nat.ℕ) → Typed.Gives T46 T47
-  s45 = λ bs. Know.k-sl-known (Referent.fInt Syntax.w32) T46 3 2 ref6 Row.off 0 λ x. x
+  abbrev s45 : (bs : List.List Nat.ℕ) → Typed.Both T44 T47
+  s45 = λ bs. Relend.k-back-sl (Referent.rtF (Referent.fInt Syntax.w32)) T44 23 3 2 7 ref6 ref3 Row.off (λ x. x) λ x. x
 
-  module _ (Pre· : (κs : Lifetimes.Lfts 5) → Kinds.Dens κs ps → Type 0) (Post· : (κs : Lifetimes.Lfts 5) →
-      (a : Kinds.Dens κs ps) → Kinds.Plain 5 ps r κs) where
+  abbrev s46 : (bs : List.List Nat.ℕ) → Typed.Gives T47 T48
+  s46 = λ bs. Know.k-sl-known (Referent.fInt Syntax.w32) T47 3 2 ref6 Row.off 0 λ x. x
+
+  module _ (Pre· : (κs : Lifetimes.Lfts 4) → Kinds.Dens κs ps → Type 0) (Post· : (κs : Lifetimes.Lfts 4) →
+      (a : Kinds.Dens κs ps) → Kinds.Plain 4 ps r κs) where
     module _ (M : Type 1) where
       abbrev pub Closed : Type 2
       Closed = (𝓤 : URA.URA M) (H : Wp.Heap 𝓤) (A : Atoms.Atoms 𝓤) (W : Kit.Given 𝓤 H A) (𝓣 : Wp.Tables 𝓤 H) (known0 :
-          Plain.Known 𝓤 H A W 𝓣 2 ps·0 r·0 (claims· .0) (claims· .1)
+          Plain.Known 𝓤 H A W 𝓣 1 ps·0 r·0 (claims· .0) (claims· .1)
           "hnsr_circuit::messages::handle_window::plan_window") (known1 : Plain.Known 𝓤 H A W 𝓣 1 ps·1 r·1 (claims· .2)
           (claims· .3) "hnsr_circuit::tables::stores::raise_circuit") (known2 : Plain.Known 𝓤 H A W 𝓣 3 ps·2 r·2
           (claims· .4) (claims· .5) "hnsr_circuit::output::queue::send") → Statement.Triple 𝓤 (Wp.WpFn 𝓤 H (𝓣 .C)
-          (𝓣 .Λ) (Function.fnOf 5 ps r xs m hs body)) (Function.plainOf 𝓤 H A 5 ps r Pre· Post·)
+          (𝓣 .Λ) (Function.fnOf 4 ps r xs m hs body)) (Function.plainOf 𝓤 H A 4 ps r Pre· Post·)
 
     module _ where
-      abbrev at0 : (bs : List.List Nat.ℕ) → Typed.TF T47 O0
+      abbrev at0 : (bs : List.List Nat.ℕ) → Typed.TF T48 O0
       at0 = λ bs. Typed.atRet O0
 
-      abbrev at1 : (bs : List.List Nat.ℕ) → Typed.TF T47 O0
+      abbrev at1 : (bs : List.List Nat.ℕ) → Typed.TF T48 O0
       at1 = λ bs. λ Ψ. at0 bs Ψ
 
-      abbrev at2 : (bs : List.List Nat.ℕ) → Typed.TF T46 O0
-      at2 = λ bs. λ Ψ. Typed.give (s45 bs) (at1 bs Ψ)
+      abbrev at2 : (bs : List.List Nat.ℕ) → Typed.TF T47 O0
+      at2 = λ bs. λ Ψ. Typed.give (s46 bs) (at1 bs Ψ)
 
-      abbrev at3 : (bs : List.List Nat.ℕ) → Typed.TF T43 O0
-      at3 = λ bs. λ Ψ. Typed.both (s44 bs) (at2 bs Ψ)
+      abbrev at3 : (bs : List.List Nat.ℕ) → Typed.TF T44 O0
+      at3 = λ bs. λ Ψ. Typed.both (s45 bs) (at2 bs Ψ)
 
-      abbrev at4 : (bs : List.List Nat.ℕ) → Typed.TF T43 O0
+      abbrev at4 : (bs : List.List Nat.ℕ) → Typed.TF T44 O0
       at4 = λ bs. λ Ψ. at3 bs Ψ
 
-      abbrev at5 : (bs : List.List Nat.ℕ) → Typed.TF T43 O0
+      abbrev at5 : (bs : List.List Nat.ℕ) → Typed.TF T44 O0
       at5 = λ bs. λ Ψ. at4 bs Ψ
 
-      abbrev at6 : (bs : List.List Nat.ℕ) → Typed.TF T41 O0
-      at6 = λ bs. λ Ψ. Typed.both (s41 bs) (at5 bs Ψ)
+      abbrev at6 : (bs : List.List Nat.ℕ) → Typed.TF T42 O0
+      at6 = λ bs. λ Ψ. Typed.both (s42 bs) (at5 bs Ψ)
 
-      abbrev at7 : (bs : List.List Nat.ℕ) → Typed.TF T41 O0
+      abbrev at7 : (bs : List.List Nat.ℕ) → Typed.TF T42 O0
       at7 = λ bs. λ Ψ. at6 bs Ψ
 
-      abbrev at8 : (bs : List.List Nat.ℕ) → Typed.TF T40 O0
-      at8 = λ bs. λ Ψ. Typed.pass T40 T41 (s39 bs) (at7 bs Ψ)
+      abbrev at8 : (bs : List.List Nat.ℕ) → Typed.TF T41 O0
+      at8 = λ bs. λ Ψ. Typed.pass T41 T42 (s40 bs) (at7 bs Ψ)
 
-      abbrev at9 : (bs : List.List Nat.ℕ) → Typed.TF T39 O0
-      at9 = λ bs. λ Ψ. Typed.pass T39 T40 (s38 bs) (at8 bs Ψ)
+      abbrev at9 : (bs : List.List Nat.ℕ) → Typed.TF T40 O0
+      at9 = λ bs. λ Ψ. Typed.pass T40 T41 (s39 bs) (at8 bs Ψ)
 
-      abbrev at10 : (bs : List.List Nat.ℕ) → Typed.TF T38 O0
-      at10 = λ bs. λ Ψ. Typed.pass T38 T39 (s37 bs) (at9 bs Ψ)
+      abbrev at10 : (bs : List.List Nat.ℕ) → Typed.TF T39 O0
+      at10 = λ bs. λ Ψ. Typed.pass T39 T40 (s38 bs) (at9 bs Ψ)
 
-      abbrev at11 : (bs : List.List Nat.ℕ) → Typed.TF T37 O0
-      at11 = λ bs. λ Ψ. Typed.pass T37 T38 (s36 bs) (at10 bs Ψ)
+      abbrev at11 : (bs : List.List Nat.ℕ) → Typed.TF T38 O0
+      at11 = λ bs. λ Ψ. Typed.pass T38 T39 (s37 bs) (at10 bs Ψ)
 
-      abbrev at12 : (bs : List.List Nat.ℕ) → Typed.TF T36 O0
-      at12 = λ bs. λ Ψ. Typed.pass T36 T37 (s35 bs) (at11 bs Ψ)
+      abbrev at12 : (bs : List.List Nat.ℕ) → Typed.TF T37 O0
+      at12 = λ bs. λ Ψ. Typed.pass T37 T38 (s36 bs) (at11 bs Ψ)
 
-      abbrev at13 : (bs : List.List Nat.ℕ) → Typed.TF T35 O0
-      at13 = λ bs. λ Ψ. Typed.both (s34 bs) (at12 bs Ψ)
+      abbrev at13 : (bs : List.List Nat.ℕ) → Typed.TF T36 O0
+      at13 = λ bs. λ Ψ. Typed.both (s35 bs) (at12 bs Ψ)
 
-      abbrev at14 : (bs : List.List Nat.ℕ) → Typed.TF T34 O0
-      at14 = λ bs. λ Ψ. Typed.ask (s33 bs) (at13 bs Ψ)
+      abbrev at14 : (bs : List.List Nat.ℕ) → Typed.TF T35 O0
+      at14 = λ bs. λ Ψ. Typed.ask (s34 bs) (at13 bs Ψ)
 
-      abbrev at15 : (bs : List.List Nat.ℕ) → Typed.TF T32 O0
-      at15 = λ bs. λ Ψ. Typed.give (s32 bs) (at14 bs Ψ)
+      abbrev at15 : (bs : List.List Nat.ℕ) → Typed.TF T33 O0
+      at15 = λ bs. λ Ψ. Typed.give (s33 bs) (at14 bs Ψ)
 
-      abbrev at16 : (bs : List.List Nat.ℕ) → Typed.TF T32 O0
+      abbrev at16 : (bs : List.List Nat.ℕ) → Typed.TF T33 O0
       at16 = λ bs. λ Ψ. at15 bs Ψ
 
-      abbrev at17 : (bs : List.List Nat.ℕ) → Typed.TF T31 O0
-      at17 = λ bs. λ Ψ. Typed.ask (s30 bs) (at16 bs Ψ)
+      abbrev at17 : (bs : List.List Nat.ℕ) → Typed.TF T32 O0
+      at17 = λ bs. λ Ψ. Typed.ask (s31 bs) (at16 bs Ψ)
 
-      abbrev at18 : (bs : List.List Nat.ℕ) → Typed.TF T28 O0
-      at18 = λ bs. λ Ψ. Typed.give (s29 bs) (at17 bs Ψ)
+      abbrev at18 : (bs : List.List Nat.ℕ) → Typed.TF T29 O0
+      at18 = λ bs. λ Ψ. Typed.give (s30 bs) (at17 bs Ψ)
 
-      abbrev at19 : (bs : List.List Nat.ℕ) → Typed.TF T28 O0
+      abbrev at19 : (bs : List.List Nat.ℕ) → Typed.TF T29 O0
       at19 = λ bs. λ Ψ. at18 bs Ψ
 
-      abbrev at20 : (bs : List.List Nat.ℕ) → Typed.TF T28 O0
+      abbrev at20 : (bs : List.List Nat.ℕ) → Typed.TF T29 O0
       at20 = λ bs. λ Ψ. at19 bs Ψ
 
-      abbrev at21 : (bs : List.List Nat.ℕ) → Typed.TF T26 O0
-      at21 = λ bs. λ Ψ. Typed.both (s26 bs) (at20 bs Ψ)
+      abbrev at21 : (bs : List.List Nat.ℕ) → Typed.TF T27 O0
+      at21 = λ bs. λ Ψ. Typed.both (s27 bs) (at20 bs Ψ)
 
-      abbrev at22 : (bs : List.List Nat.ℕ) → Typed.TF T26 O0
+      abbrev at22 : (bs : List.List Nat.ℕ) → Typed.TF T27 O0
       at22 = λ bs. λ Ψ. at21 bs Ψ
 
-      abbrev at23 : (bs : List.List Nat.ℕ) → Typed.TF T25 O0
-      at23 = λ bs. λ Ψ. Typed.pass T25 T26 (s24 bs) (at22 bs Ψ)
+      abbrev at23 : (bs : List.List Nat.ℕ) → Typed.TF T26 O0
+      at23 = λ bs. λ Ψ. Typed.pass T26 T27 (s25 bs) (at22 bs Ψ)
 
-      abbrev at24 : (bs : List.List Nat.ℕ) → Typed.TF T24 O0
-      at24 = λ bs. λ Ψ. Typed.pass T24 T25 (s23 bs) (at23 bs Ψ)
+      abbrev at24 : (bs : List.List Nat.ℕ) → Typed.TF T25 O0
+      at24 = λ bs. λ Ψ. Typed.pass T25 T26 (s24 bs) (at23 bs Ψ)
 
-      abbrev at25 : (bs : List.List Nat.ℕ) → Typed.TF T23 O0
-      at25 = λ bs. λ Ψ. Typed.pass T23 T24 (s22 bs) (at24 bs Ψ)
+      abbrev at25 : (bs : List.List Nat.ℕ) → Typed.TF T24 O0
+      at25 = λ bs. λ Ψ. Typed.pass T24 T25 (s23 bs) (at24 bs Ψ)
 
-      abbrev at26 : (bs : List.List Nat.ℕ) → Typed.TF T22 O0
-      at26 = λ bs. λ Ψ. Typed.both (s21 bs) (at25 bs Ψ)
+      abbrev at26 : (bs : List.List Nat.ℕ) → Typed.TF T23 O0
+      at26 = λ bs. λ Ψ. Typed.both (s22 bs) (at25 bs Ψ)
 
-      abbrev at27 : (bs : List.List Nat.ℕ) → Typed.TF T21 O0
-      at27 = λ bs. λ Ψ. Typed.ask (s20 bs) (at26 bs Ψ)
+      abbrev at27 : (bs : List.List Nat.ℕ) → Typed.TF T22 O0
+      at27 = λ bs. λ Ψ. Typed.ask (s21 bs) (at26 bs Ψ)
 
-      abbrev at28 : (bs : List.List Nat.ℕ) → Typed.TF T19 O0
-      at28 = λ bs. λ Ψ. Typed.give (s19 bs) (at27 bs Ψ)
+      abbrev at28 : (bs : List.List Nat.ℕ) → Typed.TF T20 O0
+      at28 = λ bs. λ Ψ. Typed.give (s20 bs) (at27 bs Ψ)
 
-      abbrev at29 : (bs : List.List Nat.ℕ) → Typed.TF T19 O0
+      abbrev at29 : (bs : List.List Nat.ℕ) → Typed.TF T20 O0
       at29 = λ bs. λ Ψ. at28 bs Ψ
 
-      abbrev at30 : (bs : List.List Nat.ℕ) → Typed.TF T18 O0
-      at30 = λ bs. λ Ψ. Typed.both (s17 bs) (at29 bs Ψ)
+      abbrev at30 : (bs : List.List Nat.ℕ) → Typed.TF T19 O0
+      at30 = λ bs. λ Ψ. Typed.both (s18 bs) (at29 bs Ψ)
 
-      abbrev at31 : (bs : List.List Nat.ℕ) → Typed.TF T17 O0
-      at31 = λ bs. λ Ψ. Typed.both (s16 bs) (at30 bs Ψ)
+      abbrev at31 : (bs : List.List Nat.ℕ) → Typed.TF T18 O0
+      at31 = λ bs. λ Ψ. Typed.both (s17 bs) (at30 bs Ψ)
 
-      abbrev at32 : (bs : List.List Nat.ℕ) → Typed.TF T16 O0
-      at32 = λ bs. λ Ψ. Typed.pass T16 T17 (s15 bs) (at31 bs Ψ)
+      abbrev at32 : (bs : List.List Nat.ℕ) → Typed.TF T17 O0
+      at32 = λ bs. λ Ψ. Typed.pass T17 T18 (s16 bs) (at31 bs Ψ)
 
-      abbrev at33 : (bs : List.List Nat.ℕ) → Typed.TF T14 O0
-      at33 = λ bs. λ Ψ. Typed.pass T14 T16 (s14 bs) (at32 bs Ψ)
+      abbrev at33 : (bs : List.List Nat.ℕ) → Typed.TF T16 O0
+      at33 = λ bs. λ Ψ. Typed.pass T16 T17 (s15 bs) (at32 bs Ψ)
 
-      abbrev at34 : (bs : List.List Nat.ℕ) → Typed.TF T14 O0
-      at34 = λ bs. λ Ψ. at33 bs Ψ
+      abbrev at34 : (bs : List.List Nat.ℕ) → Typed.TF T15 O0
+      at34 = λ bs. λ Ψ. Typed.pass T15 T16 (s14 bs) (at33 bs Ψ)
 
-      abbrev at35 : (bs : List.List Nat.ℕ) → Typed.TF T12 O0
-      at35 = λ bs. λ Ψ. Typed.pass T12 T14 (s12 bs) (at34 bs Ψ)
+      abbrev at35 : (bs : List.List Nat.ℕ) → Typed.TF T14 O0
+      at35 = λ bs. λ Ψ. Typed.both (s13 bs) (at34 bs Ψ)
 
       abbrev at36 : (bs : List.List Nat.ℕ) → Typed.TF T12 O0
-      at36 = λ bs. λ Ψ. at35 bs Ψ
+      at36 = λ bs. λ Ψ. Typed.both (s12 bs) (at35 bs Ψ)
 
-      abbrev at37 : (bs : List.List Nat.ℕ) → Typed.TF T11 O0
-      at37 = λ bs. λ Ψ. Typed.pass T11 T12 (s10 bs) (at36 bs Ψ)
+      abbrev at37 : (bs : List.List Nat.ℕ) → Typed.TF T12 O0
+      at37 = λ bs. λ Ψ. at36 bs Ψ
 
       abbrev at38 : (bs : List.List Nat.ℕ) → Typed.TF T10 O0
-      at38 = λ bs. λ Ψ. Typed.pass T10 T11 (s9 bs) (at37 bs Ψ)
+      at38 = λ bs. λ Ψ. Typed.pass T10 T12 (s10 bs) (at37 bs Ψ)
 
-      abbrev at39 : (bs : List.List Nat.ℕ) → Typed.TF T9 O0
-      at39 = λ bs. λ Ψ. Typed.pass T9 T10 (s8 bs) (at38 bs Ψ)
+      abbrev at39 : (bs : List.List Nat.ℕ) → Typed.TF T10 O0
+      at39 = λ bs. λ Ψ. at38 bs Ψ
 
-      abbrev at40 : (bs : List.List Nat.ℕ) → Typed.TF T8 O0
-      at40 = λ bs. λ Ψ. Typed.pass T8 T9 (s7 bs) (at39 bs Ψ)
+      abbrev at40 : (bs : List.List Nat.ℕ) → Typed.TF T9 O0
+      at40 = λ bs. λ Ψ. Typed.pass T9 T10 (s8 bs) (at39 bs Ψ)
 
-      abbrev at41 : (bs : List.List Nat.ℕ) → Typed.TF T7 O0
-      at41 = λ bs. λ Ψ. Typed.both (s6 bs) (at40 bs Ψ)
+      abbrev at41 : (bs : List.List Nat.ℕ) → Typed.TF T8 O0
+      at41 = λ bs. λ Ψ. Typed.pass T8 T9 (s7 bs) (at40 bs Ψ)
 
-      abbrev at42 : (bs : List.List Nat.ℕ) → Typed.TF T6 O0
-      at42 = λ bs. λ Ψ. Typed.ask (s5 bs) (at41 bs Ψ)
+      abbrev at42 : (bs : List.List Nat.ℕ) → Typed.TF T7 O0
+      at42 = λ bs. λ Ψ. Typed.pass T7 T8 (s6 bs) (at41 bs Ψ)
 
-      abbrev at43 : (bs : List.List Nat.ℕ) → Typed.TF T4 O0
-      at43 = λ bs. λ Ψ. Typed.give (s4 bs) (at42 bs Ψ)
+      abbrev at43 : (bs : List.List Nat.ℕ) → Typed.TF T6 O0
+      at43 = λ bs. λ Ψ. Typed.both (s5 bs) (at42 bs Ψ)
 
-      abbrev at44 : (bs : List.List Nat.ℕ) → Typed.TF T4 O0
-      at44 = λ bs. λ Ψ. at43 bs Ψ
+      abbrev at44 : (bs : List.List Nat.ℕ) → Typed.TF T5 O0
+      at44 = λ bs. λ Ψ. Typed.ask (s4 bs) (at43 bs Ψ)
 
       abbrev at45 : (bs : List.List Nat.ℕ) → Typed.TF T3 O0
-      at45 = λ bs. λ Ψ. Typed.give (s2 bs) (at44 bs Ψ)
+      at45 = λ bs. λ Ψ. Typed.give (s3 bs) (at44 bs Ψ)
 
-      abbrev at46 : (bs : List.List Nat.ℕ) → Typed.TF T2 O0
-      at46 = λ bs. λ Ψ. Typed.give (s1 bs) (at45 bs Ψ)
+      abbrev at46 : (bs : List.List Nat.ℕ) → Typed.TF T3 O0
+      at46 = λ bs. λ Ψ. at45 bs Ψ
 
-      abbrev at47 : (bs : List.List Nat.ℕ) → Typed.TF T0 O0
-      at47 = λ bs. λ Ψ. Typed.give (s0 bs) (at46 bs Ψ)
+      abbrev at47 : (bs : List.List Nat.ℕ) → Typed.TF T2 O0
+      at47 = λ bs. λ Ψ. Typed.give (s1 bs) (at46 bs Ψ)
+
+      abbrev at48 : (bs : List.List Nat.ℕ) → Typed.TF T0 O0
+      at48 = λ bs. λ Ψ. Typed.give (s0 bs) (at47 bs Ψ)
 
       abbrev pub Φ : (bs : List.List Nat.ℕ) → Typed.TF T0 O0
-      Φ = λ bs. at47 bs
+      Φ = λ bs. at48 bs
 
       module _ {M : Type 1} (𝓤 : URA.URA M) (H : Wp.Heap 𝓤) (A : Atoms.Atoms 𝓤) (W : Kit.Given 𝓤 H A)
           (𝓣 : Wp.Tables 𝓤 H) where
         abbrev Knowns : Type 1
-        Knowns = Plain.Known 𝓤 H A W 𝓣 2 ps·0 r·0 (claims· .0) (claims· .1)
+        Knowns = Plain.Known 𝓤 H A W 𝓣 1 ps·0 r·0 (claims· .0) (claims· .1)
             "hnsr_circuit::messages::handle_window::plan_window" × Plain.Known 𝓤 H A W 𝓣 1 ps·1 r·1 (claims· .2)
             (claims· .3) "hnsr_circuit::tables::stores::raise_circuit" × Plain.Known 𝓤 H A W 𝓣 3 ps·2 r·2 (claims· .4)
             (claims· .5) "hnsr_circuit::output::queue::send"
 
-      module _ (κs : Lifetimes.Lfts 5) (qs : Lifetimes.Shares 5) where
+      module _ (κs : Lifetimes.Lfts 4) (qs : Lifetimes.Shares 4) where
         abbrev life0 : Row.Life
         life0 = Row.lease (κs .1 .0) (qs .1 .0)
 
@@ -1042,374 +1059,376 @@ module _ (claims· : Claims) where
         abbrev life3 : Row.Life
         life3 = Row.lease (κs .1 .1 .1 .0) (qs .1 .1 .1 .0)
 
-        abbrev life4 : Row.Life
-        life4 = Row.lease (κs .1 .1 .1 .1 .0) (qs .1 .1 .1 .1 .0)
-
         abbrev l2 : Row.Entry
-        l2 = (2, Reshare.mslice-owedS InflightAction.row ref5 1 5 life0)
+        l2 = (2, Reshare.mslice-owedS InflightAction.row ref5 1 4 life0)
 
         abbrev l1 : Row.Entry
-        l1 = (1, Relend.mslice-owed RelayCircuit.row ref4 0 6 life1)
+        l1 = (1, Relend.mslice-owed RelayCircuit.row ref4 0 5 life1)
 
         abbrev l2·1 : Row.Entry
-        l2·1 = (2, Relend.mslice-owed InflightAction.row ref5 1 7 life0)
+        l2·1 = (2, Relend.mslice-owed InflightAction.row ref5 1 6 life0)
 
         abbrev l3 : Row.Entry
-        l3 = (3, Relend.mslice-owed (Referent.rtF (Referent.fInt Syntax.w32)) ref6 2 8 life2)
+        l3 = (3, Relend.mslice-owed (Referent.rtF (Referent.fInt Syntax.w32)) ref6 2 7 life2)
 
         abbrev g3 : List.List Row.Entry
-        g3 = e0 ∷ e1 ∷ l2 ∷ e3 ∷ e4 ∷ e5 ∷ e6 ∷ e7 ∷ e8 ∷ e9 ∷ e10 ∷ e11 ∷ e12 ∷ e13 ∷ e14 ∷ e15 ∷ List.[]
+        g3 = e0 ∷ e1 ∷ l2 ∷ e3 ∷ e4 ∷ e5 ∷ e6 ∷ e7 ∷ e8 ∷ e9 ∷ e10 ∷ e11 ∷ e12 ∷ e13 ∷ e14 ∷ e15·1 ∷ List.[]
+
+        abbrev g4 : List.List Row.Entry
+        g4 = e0 ∷ e1 ∷ l2 ∷ e3 ∷ e4 ∷ e5 ∷ e6 ∷ e7 ∷ e8 ∷ e9 ∷ e10 ∷ e11 ∷ e12 ∷ e13 ∷ e14 ∷ e15 ∷ List.[]
 
         abbrev g6 : List.List Row.Entry
-        g6 = e0 ∷ e1 ∷ l2 ∷ e3 ∷ e4 ∷ e5 ∷ e6 ∷ e7 ∷ e8 ∷ e9 ∷ e10 ∷ e11·1 ∷ e12 ∷ e13 ∷ e14 ∷ e15 ∷ List.[]
+        g6 = e0 ∷ e1 ∷ l2 ∷ e3 ∷ e4 ∷ e5 ∷ e6 ∷ e7 ∷ e8·1 ∷ e9 ∷ e10 ∷ e11 ∷ e12 ∷ e13 ∷ e14 ∷ e15 ∷ List.[]
 
         abbrev g7 : List.List Row.Entry
-        g7 = e0 ∷ e1 ∷ l2 ∷ e3 ∷ e4 ∷ e5 ∷ e6·1 ∷ e7 ∷ e8 ∷ e9 ∷ e10 ∷ e11·1 ∷ e12 ∷ e13 ∷ e14 ∷ e15 ∷ List.[]
+        g7 = e0 ∷ e1 ∷ l2 ∷ e3 ∷ e4 ∷ e5·1 ∷ e6 ∷ e7 ∷ e8·1 ∷ e9 ∷ e10 ∷ e11 ∷ e12 ∷ e13 ∷ e14 ∷ e15 ∷ List.[]
 
         abbrev g8 : List.List Row.Entry
-        g8 = e0 ∷ e1 ∷ l2 ∷ e3 ∷ e4 ∷ e5 ∷ e6·1 ∷ e7·1 ∷ e8 ∷ e9 ∷ e10 ∷ e11·1 ∷ e12 ∷ e13 ∷ e14 ∷ e15 ∷ List.[]
+        g8 = e0 ∷ e1 ∷ l2 ∷ e3 ∷ e4 ∷ e5·1 ∷ e6·1 ∷ e7 ∷ e8·1 ∷ e9 ∷ e10 ∷ e11 ∷ e12 ∷ e13 ∷ e14 ∷ e15 ∷ List.[]
 
-        abbrev g9 : List.List Row.Entry
-        g9 = e0 ∷ e1 ∷ l2 ∷ e3 ∷ e4 ∷ e5 ∷ e6·1 ∷ e7·1 ∷ e8·1 ∷ e9 ∷ e10 ∷ e11·1 ∷ e12 ∷ e13 ∷ e14 ∷ e15 ∷ List.[]
-
-        abbrev g15 : List.List Row.Entry
-        g15 = e0 ∷ l1 ∷ e2 ∷ e3 ∷ e4 ∷ e5 ∷ e6·1 ∷ e7·1 ∷ e8·1 ∷ e9 ∷ e10 ∷ e11·1 ∷ e12·1 ∷ e13·1 ∷ e14·1 ∷ e15·1 ∷
+        abbrev g17 : List.List Row.Entry
+        g17 = e0 ∷ l1 ∷ e2 ∷ e3 ∷ e4·1 ∷ e5·1 ∷ e6·1 ∷ e7 ∷ e8·1 ∷ e9·1 ∷ e10·1 ∷ e11·1 ∷ e12·1 ∷ e13·1 ∷ e14·1 ∷ e15 ∷
             List.[]
 
-        abbrev g19 : List.List Row.Entry
-        g19 = e0 ∷ l1 ∷ e2 ∷ e3 ∷ e4 ∷ e5 ∷ e6·1 ∷ e7·1 ∷ e8·1 ∷ e9 ∷ e10 ∷ e11 ∷ e12·1 ∷ e13·1 ∷ e14·1 ∷ e15·1 ∷
+        abbrev g21 : List.List Row.Entry
+        g21 = e0 ∷ l1 ∷ e2 ∷ e3 ∷ e4·1 ∷ e5·1 ∷ e6·1 ∷ e7 ∷ e8 ∷ e9·1 ∷ e10·1 ∷ e11·1 ∷ e12·1 ∷ e13·1 ∷ e14·1 ∷ e15 ∷
             List.[]
 
-        abbrev g20 : List.List Row.Entry
-        g20 = e0 ∷ l1 ∷ e2 ∷ e3 ∷ e4 ∷ e5 ∷ e6·1 ∷ e7·1 ∷ e8·1 ∷ e9 ∷ e10 ∷ e11 ∷ e12·1 ∷ e13 ∷ e14·1 ∷ e15·1 ∷ List.[]
-
-        abbrev g23 : List.List Row.Entry
-        g23 = e0 ∷ e1 ∷ l2·1 ∷ e3 ∷ e4 ∷ e5 ∷ e6·1 ∷ e7·1 ∷ e8·1 ∷ e9 ∷ e10 ∷ e11 ∷ e12·1 ∷ e13 ∷ e14·1 ∷ e15·1 ∷
+        abbrev g22 : List.List Row.Entry
+        g22 = e0 ∷ l1 ∷ e2 ∷ e3 ∷ e4·1 ∷ e5·1 ∷ e6·1 ∷ e7 ∷ e8 ∷ e9·1 ∷ e10·1 ∷ e11·1 ∷ e12 ∷ e13·1 ∷ e14·1 ∷ e15 ∷
             List.[]
 
-        abbrev g26 : List.List Row.Entry
-        g26 = e0 ∷ e1 ∷ l2·1 ∷ l3 ∷ e4 ∷ e5 ∷ e6·1 ∷ e7·1 ∷ e8·1 ∷ e9 ∷ e10 ∷ e11 ∷ e12·1 ∷ e13 ∷ e14·1 ∷ e15·1 ∷
+        abbrev g25 : List.List Row.Entry
+        g25 = e0 ∷ e1 ∷ l2·1 ∷ e3 ∷ e4·1 ∷ e5·1 ∷ e6·1 ∷ e7 ∷ e8 ∷ e9·1 ∷ e10·1 ∷ e11·1 ∷ e12 ∷ e13·1 ∷ e14·1 ∷ e15 ∷
             List.[]
 
-        abbrev g29 : List.List Row.Entry
-        g29 = e0·1 ∷ e1 ∷ l2·1 ∷ l3 ∷ e4 ∷ e5 ∷ e6·1 ∷ e7·1 ∷ e8·1 ∷ e9 ∷ e10 ∷ e11 ∷ e12·1 ∷ e13 ∷ e14·1 ∷ e15·1 ∷
+        abbrev g28 : List.List Row.Entry
+        g28 = e0 ∷ e1 ∷ l2·1 ∷ l3 ∷ e4·1 ∷ e5·1 ∷ e6·1 ∷ e7 ∷ e8 ∷ e9·1 ∷ e10·1 ∷ e11·1 ∷ e12 ∷ e13·1 ∷ e14·1 ∷ e15 ∷
             List.[]
 
         abbrev g31 : List.List Row.Entry
-        g31 = e0·1 ∷ e1 ∷ l2·1 ∷ l3 ∷ e4·1 ∷ e5 ∷ e6·1 ∷ e7·1 ∷ e8·1 ∷ e9 ∷ e10 ∷ e11 ∷ e12·1 ∷ e13 ∷ e14·1 ∷ e15·1 ∷
-            List.[]
-
-        abbrev g32 : List.List Row.Entry
-        g32 = e0·1 ∷ e1 ∷ l2·1 ∷ l3 ∷ e4·1 ∷ e5·1 ∷ e6·1 ∷ e7·1 ∷ e8·1 ∷ e9 ∷ e10 ∷ e11 ∷ e12·1 ∷ e13 ∷ e14·1 ∷ e15·1 ∷
+        g31 = e0·1 ∷ e1 ∷ l2·1 ∷ l3 ∷ e4·1 ∷ e5·1 ∷ e6·1 ∷ e7 ∷ e8 ∷ e9·1 ∷ e10·1 ∷ e11·1 ∷ e12 ∷ e13·1 ∷ e14·1 ∷ e15 ∷
             List.[]
 
         abbrev g33 : List.List Row.Entry
-        g33 = e0·1 ∷ e1 ∷ l2·1 ∷ l3 ∷ e4·1 ∷ e5·1 ∷ e6·1 ∷ e7·1 ∷ e8·1 ∷ e9 ∷ e10 ∷ e11 ∷ e12 ∷ e13 ∷ e14·1 ∷ e15·1 ∷
+        g33 = e0·1 ∷ e1 ∷ l2·1 ∷ l3 ∷ e4·1 ∷ e5·1 ∷ e6·1 ∷ e7 ∷ e8 ∷ e9 ∷ e10·1 ∷ e11·1 ∷ e12 ∷ e13·1 ∷ e14·1 ∷ e15 ∷
             List.[]
 
         abbrev g34 : List.List Row.Entry
-        g34 = e0·1 ∷ e1 ∷ l2·1 ∷ l3 ∷ e4·1 ∷ e5·1 ∷ e6·1 ∷ e7·1 ∷ e8·1 ∷ e9 ∷ e10 ∷ e11 ∷ e12 ∷ e13 ∷ e14 ∷ e15·1 ∷
+        g34 = e0·1 ∷ e1 ∷ l2·1 ∷ l3 ∷ e4·1 ∷ e5·1 ∷ e6·1 ∷ e7 ∷ e8 ∷ e9 ∷ e10 ∷ e11·1 ∷ e12 ∷ e13·1 ∷ e14·1 ∷ e15 ∷
             List.[]
 
         abbrev g35 : List.List Row.Entry
-        g35 = e0·1 ∷ e1 ∷ l2·1 ∷ l3 ∷ e4·1 ∷ e5·1 ∷ e6·1 ∷ e7·1 ∷ e8·1 ∷ e9 ∷ e10 ∷ e11 ∷ e12 ∷ e13 ∷ e14 ∷ e15 ∷
+        g35 = e0·1 ∷ e1 ∷ l2·1 ∷ l3 ∷ e4·1 ∷ e5·1 ∷ e6·1 ∷ e7 ∷ e8 ∷ e9 ∷ e10 ∷ e11 ∷ e12 ∷ e13·1 ∷ e14·1 ∷ e15 ∷
             List.[]
 
         abbrev g36 : List.List Row.Entry
-        g36 = e0·1 ∷ e1 ∷ e2 ∷ l3 ∷ e4·1 ∷ e5·1 ∷ e6·1 ∷ e7·1 ∷ e8·1 ∷ e9 ∷ e10 ∷ e11 ∷ e12 ∷ e13 ∷ e14 ∷ e15 ∷ List.[]
+        g36 = e0·1 ∷ e1 ∷ l2·1 ∷ l3 ∷ e4·1 ∷ e5·1 ∷ e6·1 ∷ e7 ∷ e8 ∷ e9 ∷ e10 ∷ e11 ∷ e12 ∷ e13 ∷ e14·1 ∷ e15 ∷ List.[]
+
+        abbrev g37 : List.List Row.Entry
+        g37 = e0·1 ∷ e1 ∷ l2·1 ∷ l3 ∷ e4·1 ∷ e5·1 ∷ e6·1 ∷ e7 ∷ e8 ∷ e9 ∷ e10 ∷ e11 ∷ e12 ∷ e13 ∷ e14 ∷ e15 ∷ List.[]
+
+        abbrev g38 : List.List Row.Entry
+        g38 = e0·1 ∷ e1 ∷ e2 ∷ l3 ∷ e4·1 ∷ e5·1 ∷ e6·1 ∷ e7 ∷ e8 ∷ e9 ∷ e10 ∷ e11 ∷ e12 ∷ e13 ∷ e14 ∷ e15 ∷ List.[]
 
         abbrev G0 : Row.Cx
         G0 = record {
           locals = List._++_ t0 t1;
-          slots = life1 ∷ life0 ∷ life2 ∷ life3 ∷ life4 ∷ Row.off ∷ Row.off ∷ Row.off ∷ Row.off ∷ List.[];
+          slots = life1 ∷ life0 ∷ life2 ∷ life3 ∷ Row.off ∷ Row.off ∷ Row.off ∷ Row.off ∷ List.[];
         }
 
         abbrev G1 : Row.Cx
         G1 = record {
           locals = List._++_ t2 t1;
-          slots = life1 ∷ life0 ∷ life2 ∷ life3 ∷ life4 ∷ Row.off ∷ Row.off ∷ Row.off ∷ Row.off ∷ List.[];
+          slots = life1 ∷ life0 ∷ life2 ∷ life3 ∷ Row.off ∷ Row.off ∷ Row.off ∷ Row.off ∷ List.[];
         }
 
         abbrev G2 : Row.Cx
         G2 = record {
           locals = List._++_ t0 t1;
-          slots = life1 ∷ life0 ∷ life2 ∷ life3 ∷ life4 ∷ Row.off ∷ Row.off ∷ Row.off ∷ Row.off ∷ List.[];
+          slots = life1 ∷ life0 ∷ life2 ∷ life3 ∷ Row.off ∷ Row.off ∷ Row.off ∷ Row.off ∷ List.[];
         }
 
         abbrev G3 : Row.Cx
         G3 = record {
           locals = List._++_ t0 t1;
-          slots = life1 ∷ life0 ∷ life2 ∷ life3 ∷ life4 ∷ Row.off ∷ Row.off ∷ Row.off ∷ Row.off ∷ List.[];
+          slots = life1 ∷ life0 ∷ life2 ∷ life3 ∷ Row.off ∷ Row.off ∷ Row.off ∷ Row.off ∷ List.[];
         }
 
         abbrev G4 : Row.Cx
         G4 = record {
           locals = List._++_ t0 t1;
-          slots = life1 ∷ life0 ∷ life2 ∷ life3 ∷ life4 ∷ Row.off ∷ Row.off ∷ Row.off ∷ Row.off ∷ List.[];
+          slots = life1 ∷ life0 ∷ life2 ∷ life3 ∷ Row.alive ∷ Row.off ∷ Row.off ∷ Row.off ∷ List.[];
         }
 
         abbrev G5 : Row.Cx
         G5 = record {
-          locals = List._++_ t0 t1;
-          slots = life1 ∷ life0 ∷ life2 ∷ life3 ∷ life4 ∷ Row.alive ∷ Row.off ∷ Row.off ∷ Row.off ∷ List.[];
+          locals = List._++_ g3 t1;
+          slots = life1 ∷ Row.off ∷ life2 ∷ life3 ∷ Row.alive ∷ Row.off ∷ Row.off ∷ Row.off ∷ List.[];
         }
 
         abbrev G6 : Row.Cx
         G6 = record {
-          locals = List._++_ g3 t4;
-          slots = life1 ∷ Row.off ∷ life2 ∷ life3 ∷ life4 ∷ Row.alive ∷ Row.off ∷ Row.off ∷ Row.off ∷ List.[];
+          locals = List._++_ g4 t5;
+          slots = life1 ∷ Row.off ∷ life2 ∷ life3 ∷ Row.alive ∷ Row.off ∷ Row.off ∷ Row.off ∷ List.[];
         }
 
         abbrev G7 : Row.Cx
         G7 = record {
-          locals = List._++_ g3 t5;
-          slots = life1 ∷ Row.off ∷ life2 ∷ life3 ∷ life4 ∷ Row.alive ∷ Row.off ∷ Row.off ∷ Row.off ∷ List.[];
+          locals = List._++_ g6 t5;
+          slots = life1 ∷ Row.off ∷ life2 ∷ life3 ∷ Row.alive ∷ Row.off ∷ Row.off ∷ Row.off ∷ List.[];
         }
 
         abbrev G8 : Row.Cx
         G8 = record {
-          locals = List._++_ g6 t5;
-          slots = life1 ∷ Row.off ∷ life2 ∷ life3 ∷ life4 ∷ Row.alive ∷ Row.off ∷ Row.off ∷ Row.off ∷ List.[];
+          locals = List._++_ g6 t1;
+          slots = life1 ∷ Row.off ∷ life2 ∷ life3 ∷ Row.alive ∷ Row.off ∷ Row.off ∷ Row.off ∷ List.[];
         }
 
         abbrev G9 : Row.Cx
         G9 = record {
-          locals = List._++_ g6 t1;
-          slots = life1 ∷ Row.off ∷ life2 ∷ life3 ∷ life4 ∷ Row.alive ∷ Row.off ∷ Row.off ∷ Row.off ∷ List.[];
+          locals = List._++_ g7 t1;
+          slots = life1 ∷ Row.off ∷ life2 ∷ life3 ∷ Row.alive ∷ Row.off ∷ Row.off ∷ Row.off ∷ List.[];
         }
 
         abbrev G10 : Row.Cx
         G10 = record {
-          locals = List._++_ g7 t1;
-          slots = life1 ∷ Row.off ∷ life2 ∷ life3 ∷ life4 ∷ Row.alive ∷ Row.off ∷ Row.off ∷ Row.off ∷ List.[];
+          locals = List._++_ g8 t1;
+          slots = life1 ∷ Row.off ∷ life2 ∷ life3 ∷ Row.alive ∷ Row.off ∷ Row.off ∷ Row.off ∷ List.[];
         }
 
         abbrev G11 : Row.Cx
         G11 = record {
           locals = List._++_ g8 t1;
-          slots = life1 ∷ Row.off ∷ life2 ∷ life3 ∷ life4 ∷ Row.alive ∷ Row.off ∷ Row.off ∷ Row.off ∷ List.[];
+          slots = life1 ∷ Row.off ∷ life2 ∷ life3 ∷ Row.dead ∷ Row.off ∷ Row.off ∷ Row.off ∷ List.[];
         }
 
         abbrev G12 : Row.Cx
         G12 = record {
-          locals = List._++_ g9 t1;
-          slots = life1 ∷ Row.off ∷ life2 ∷ life3 ∷ life4 ∷ Row.alive ∷ Row.off ∷ Row.off ∷ Row.off ∷ List.[];
+          locals = List._++_ t9 t1;
+          slots = life1 ∷ life0 ∷ life2 ∷ life3 ∷ Row.dead ∷ Row.off ∷ Row.off ∷ Row.off ∷ List.[];
         }
 
         abbrev G13 : Row.Cx
         G13 = record {
-          locals = List._++_ g9 t1;
-          slots = life1 ∷ Row.off ∷ life2 ∷ life3 ∷ life4 ∷ Row.dead ∷ Row.off ∷ Row.off ∷ Row.off ∷ List.[];
+          locals = List._++_ t9 t1;
+          slots = life1 ∷ life0 ∷ life2 ∷ life3 ∷ Row.off ∷ Row.off ∷ Row.off ∷ Row.off ∷ List.[];
         }
 
         abbrev G14 : Row.Cx
         G14 = record {
           locals = List._++_ t10 t1;
-          slots = life1 ∷ life0 ∷ life2 ∷ life3 ∷ life4 ∷ Row.dead ∷ Row.off ∷ Row.off ∷ Row.off ∷ List.[];
+          slots = life1 ∷ life0 ∷ life2 ∷ life3 ∷ Row.off ∷ Row.off ∷ Row.off ∷ Row.off ∷ List.[];
         }
 
         abbrev G15 : Row.Cx
         G15 = record {
-          locals = List._++_ t10 t1;
-          slots = life1 ∷ life0 ∷ life2 ∷ life3 ∷ life4 ∷ Row.off ∷ Row.off ∷ Row.off ∷ Row.off ∷ List.[];
+          locals = List._++_ t11 t1;
+          slots = life1 ∷ life0 ∷ life2 ∷ life3 ∷ Row.off ∷ Row.off ∷ Row.off ∷ Row.off ∷ List.[];
         }
 
         abbrev G16 : Row.Cx
         G16 = record {
-          locals = List._++_ t11 t1;
-          slots = life1 ∷ life0 ∷ life2 ∷ life3 ∷ life4 ∷ Row.off ∷ Row.off ∷ Row.off ∷ Row.off ∷ List.[];
+          locals = List._++_ t12 t1;
+          slots = life1 ∷ life0 ∷ life2 ∷ life3 ∷ Row.off ∷ Row.off ∷ Row.off ∷ Row.off ∷ List.[];
         }
 
         abbrev G17 : Row.Cx
         G17 = record {
-          locals = List._++_ t12 t1;
-          slots = life1 ∷ life0 ∷ life2 ∷ life3 ∷ life4 ∷ Row.off ∷ Row.off ∷ Row.off ∷ Row.off ∷ List.[];
+          locals = List._++_ t13 t1;
+          slots = life1 ∷ life0 ∷ life2 ∷ life3 ∷ Row.off ∷ Row.off ∷ Row.off ∷ Row.off ∷ List.[];
         }
 
         abbrev G18 : Row.Cx
         G18 = record {
-          locals = List._++_ t13 t1;
-          slots = life1 ∷ life0 ∷ life2 ∷ life3 ∷ life4 ∷ Row.off ∷ Row.off ∷ Row.off ∷ Row.off ∷ List.[];
+          locals = List._++_ t14 t1;
+          slots = life1 ∷ life0 ∷ life2 ∷ life3 ∷ Row.off ∷ Row.off ∷ Row.off ∷ Row.off ∷ List.[];
         }
 
         abbrev G19 : Row.Cx
         G19 = record {
-          locals = List._++_ t14 t1;
-          slots = life1 ∷ life0 ∷ life2 ∷ life3 ∷ life4 ∷ Row.off ∷ Row.off ∷ Row.off ∷ Row.off ∷ List.[];
+          locals = List._++_ t15 t1;
+          slots = life1 ∷ life0 ∷ life2 ∷ life3 ∷ Row.off ∷ Row.off ∷ Row.off ∷ Row.off ∷ List.[];
         }
 
         abbrev G20 : Row.Cx
         G20 = record {
-          locals = List._++_ t14 t1;
-          slots = life1 ∷ life0 ∷ life2 ∷ life3 ∷ life4 ∷ Row.off ∷ Row.alive ∷ Row.off ∷ Row.off ∷ List.[];
+          locals = List._++_ t16 t1;
+          slots = life1 ∷ life0 ∷ life2 ∷ life3 ∷ Row.off ∷ Row.off ∷ Row.off ∷ Row.off ∷ List.[];
         }
 
         abbrev G21 : Row.Cx
         G21 = record {
-          locals = List._++_ g15 t16;
-          slots = Row.off ∷ life0 ∷ life2 ∷ life3 ∷ life4 ∷ Row.off ∷ Row.alive ∷ Row.off ∷ Row.off ∷ List.[];
+          locals = List._++_ t16 t1;
+          slots = life1 ∷ life0 ∷ life2 ∷ life3 ∷ Row.off ∷ Row.alive ∷ Row.off ∷ Row.off ∷ List.[];
         }
 
         abbrev G22 : Row.Cx
         G22 = record {
-          locals = List._++_ g15 t17;
-          slots = Row.off ∷ life0 ∷ life2 ∷ life3 ∷ life4 ∷ Row.off ∷ Row.alive ∷ Row.off ∷ Row.off ∷ List.[];
+          locals = List._++_ g17 t18;
+          slots = Row.off ∷ life0 ∷ life2 ∷ life3 ∷ Row.off ∷ Row.alive ∷ Row.off ∷ Row.off ∷ List.[];
         }
 
         abbrev G23 : Row.Cx
         G23 = record {
-          locals = List._++_ g15 t18;
-          slots = Row.off ∷ life0 ∷ life2 ∷ life3 ∷ life4 ∷ Row.off ∷ Row.alive ∷ Row.off ∷ Row.off ∷ List.[];
+          locals = List._++_ g17 t19;
+          slots = Row.off ∷ life0 ∷ life2 ∷ life3 ∷ Row.off ∷ Row.alive ∷ Row.off ∷ Row.off ∷ List.[];
         }
 
         abbrev G24 : Row.Cx
         G24 = record {
-          locals = List._++_ g19 t18;
-          slots = Row.off ∷ life0 ∷ life2 ∷ life3 ∷ life4 ∷ Row.off ∷ Row.alive ∷ Row.off ∷ Row.off ∷ List.[];
+          locals = List._++_ g17 t20;
+          slots = Row.off ∷ life0 ∷ life2 ∷ life3 ∷ Row.off ∷ Row.alive ∷ Row.off ∷ Row.off ∷ List.[];
         }
 
         abbrev G25 : Row.Cx
         G25 = record {
-          locals = List._++_ g20 t18;
-          slots = Row.off ∷ life0 ∷ life2 ∷ life3 ∷ life4 ∷ Row.off ∷ Row.alive ∷ Row.off ∷ Row.off ∷ List.[];
+          locals = List._++_ g21 t20;
+          slots = Row.off ∷ life0 ∷ life2 ∷ life3 ∷ Row.off ∷ Row.alive ∷ Row.off ∷ Row.off ∷ List.[];
         }
 
         abbrev G26 : Row.Cx
         G26 = record {
-          locals = List._++_ g20 t21;
-          slots = Row.off ∷ life0 ∷ life2 ∷ life3 ∷ life4 ∷ Row.off ∷ Row.alive ∷ Row.off ∷ Row.off ∷ List.[];
+          locals = List._++_ g22 t20;
+          slots = Row.off ∷ life0 ∷ life2 ∷ life3 ∷ Row.off ∷ Row.alive ∷ Row.off ∷ Row.off ∷ List.[];
         }
 
         abbrev G27 : Row.Cx
         G27 = record {
-          locals = List._++_ g20 t21;
-          slots = Row.off ∷ life0 ∷ life2 ∷ life3 ∷ life4 ∷ Row.off ∷ Row.dead ∷ Row.off ∷ Row.off ∷ List.[];
+          locals = List._++_ g22 t23;
+          slots = Row.off ∷ life0 ∷ life2 ∷ life3 ∷ Row.off ∷ Row.alive ∷ Row.off ∷ Row.off ∷ List.[];
         }
 
         abbrev G28 : Row.Cx
         G28 = record {
-          locals = List._++_ t22 t1;
-          slots = life1 ∷ life0 ∷ life2 ∷ life3 ∷ life4 ∷ Row.off ∷ Row.dead ∷ Row.off ∷ Row.off ∷ List.[];
+          locals = List._++_ g22 t23;
+          slots = Row.off ∷ life0 ∷ life2 ∷ life3 ∷ Row.off ∷ Row.dead ∷ Row.off ∷ Row.off ∷ List.[];
         }
 
         abbrev G29 : Row.Cx
         G29 = record {
-          locals = List._++_ t22 t1;
-          slots = life1 ∷ life0 ∷ life2 ∷ life3 ∷ life4 ∷ Row.off ∷ Row.off ∷ Row.off ∷ Row.off ∷ List.[];
+          locals = List._++_ t24 t1;
+          slots = life1 ∷ life0 ∷ life2 ∷ life3 ∷ Row.off ∷ Row.dead ∷ Row.off ∷ Row.off ∷ List.[];
         }
 
         abbrev G30 : Row.Cx
         G30 = record {
-          locals = List._++_ t22 t1;
-          slots = life1 ∷ life0 ∷ life2 ∷ life3 ∷ life4 ∷ Row.off ∷ Row.off ∷ Row.alive ∷ Row.off ∷ List.[];
+          locals = List._++_ t24 t1;
+          slots = life1 ∷ life0 ∷ life2 ∷ life3 ∷ Row.off ∷ Row.off ∷ Row.off ∷ Row.off ∷ List.[];
         }
 
         abbrev G31 : Row.Cx
         G31 = record {
-          locals = List._++_ g23 t24;
-          slots = life1 ∷ Row.off ∷ life2 ∷ life3 ∷ life4 ∷ Row.off ∷ Row.off ∷ Row.alive ∷ Row.off ∷ List.[];
+          locals = List._++_ t24 t1;
+          slots = life1 ∷ life0 ∷ life2 ∷ life3 ∷ Row.off ∷ Row.off ∷ Row.alive ∷ Row.off ∷ List.[];
         }
 
         abbrev G32 : Row.Cx
         G32 = record {
-          locals = List._++_ g23 t25;
-          slots = life1 ∷ Row.off ∷ life2 ∷ life3 ∷ life4 ∷ Row.off ∷ Row.off ∷ Row.alive ∷ Row.off ∷ List.[];
+          locals = List._++_ g25 t26;
+          slots = life1 ∷ Row.off ∷ life2 ∷ life3 ∷ Row.off ∷ Row.off ∷ Row.alive ∷ Row.off ∷ List.[];
         }
 
         abbrev G33 : Row.Cx
         G33 = record {
-          locals = List._++_ g23 t25;
-          slots = life1 ∷ Row.off ∷ life2 ∷ life3 ∷ life4 ∷ Row.off ∷ Row.off ∷ Row.alive ∷ Row.alive ∷ List.[];
+          locals = List._++_ g25 t27;
+          slots = life1 ∷ Row.off ∷ life2 ∷ life3 ∷ Row.off ∷ Row.off ∷ Row.alive ∷ Row.off ∷ List.[];
         }
 
         abbrev G34 : Row.Cx
         G34 = record {
-          locals = List._++_ g26 t27;
-          slots = life1 ∷ Row.off ∷ Row.off ∷ life3 ∷ life4 ∷ Row.off ∷ Row.off ∷ Row.alive ∷ Row.alive ∷ List.[];
+          locals = List._++_ g25 t27;
+          slots = life1 ∷ Row.off ∷ life2 ∷ life3 ∷ Row.off ∷ Row.off ∷ Row.alive ∷ Row.alive ∷ List.[];
         }
 
         abbrev G35 : Row.Cx
         G35 = record {
-          locals = List._++_ g26 t28;
-          slots = life1 ∷ Row.off ∷ Row.off ∷ life3 ∷ life4 ∷ Row.off ∷ Row.off ∷ Row.alive ∷ Row.alive ∷ List.[];
+          locals = List._++_ g28 t29;
+          slots = life1 ∷ Row.off ∷ Row.off ∷ life3 ∷ Row.off ∷ Row.off ∷ Row.alive ∷ Row.alive ∷ List.[];
         }
 
         abbrev G36 : Row.Cx
         G36 = record {
-          locals = List._++_ g29 t30;
-          slots = life1 ∷ Row.off ∷ Row.off ∷ life3 ∷ life4 ∷ Row.off ∷ Row.off ∷ Row.alive ∷ Row.alive ∷ List.[];
+          locals = List._++_ g28 t30;
+          slots = life1 ∷ Row.off ∷ Row.off ∷ life3 ∷ Row.off ∷ Row.off ∷ Row.alive ∷ Row.alive ∷ List.[];
         }
 
         abbrev G37 : Row.Cx
         G37 = record {
-          locals = List._++_ g31 t30;
-          slots = life1 ∷ Row.off ∷ Row.off ∷ life3 ∷ life4 ∷ Row.off ∷ Row.off ∷ Row.alive ∷ Row.alive ∷ List.[];
+          locals = List._++_ g31 t32;
+          slots = life1 ∷ Row.off ∷ Row.off ∷ life3 ∷ Row.off ∷ Row.off ∷ Row.alive ∷ Row.alive ∷ List.[];
         }
 
         abbrev G38 : Row.Cx
         G38 = record {
-          locals = List._++_ g32 t30;
-          slots = life1 ∷ Row.off ∷ Row.off ∷ life3 ∷ life4 ∷ Row.off ∷ Row.off ∷ Row.alive ∷ Row.alive ∷ List.[];
+          locals = List._++_ g33 t32;
+          slots = life1 ∷ Row.off ∷ Row.off ∷ life3 ∷ Row.off ∷ Row.off ∷ Row.alive ∷ Row.alive ∷ List.[];
         }
 
         abbrev G39 : Row.Cx
         G39 = record {
-          locals = List._++_ g33 t30;
-          slots = life1 ∷ Row.off ∷ Row.off ∷ life3 ∷ life4 ∷ Row.off ∷ Row.off ∷ Row.alive ∷ Row.alive ∷ List.[];
+          locals = List._++_ g34 t32;
+          slots = life1 ∷ Row.off ∷ Row.off ∷ life3 ∷ Row.off ∷ Row.off ∷ Row.alive ∷ Row.alive ∷ List.[];
         }
 
         abbrev G40 : Row.Cx
         G40 = record {
-          locals = List._++_ g34 t30;
-          slots = life1 ∷ Row.off ∷ Row.off ∷ life3 ∷ life4 ∷ Row.off ∷ Row.off ∷ Row.alive ∷ Row.alive ∷ List.[];
+          locals = List._++_ g35 t32;
+          slots = life1 ∷ Row.off ∷ Row.off ∷ life3 ∷ Row.off ∷ Row.off ∷ Row.alive ∷ Row.alive ∷ List.[];
         }
 
         abbrev G41 : Row.Cx
         G41 = record {
-          locals = List._++_ g35 t30;
-          slots = life1 ∷ Row.off ∷ Row.off ∷ life3 ∷ life4 ∷ Row.off ∷ Row.off ∷ Row.alive ∷ Row.alive ∷ List.[];
+          locals = List._++_ g36 t32;
+          slots = life1 ∷ Row.off ∷ Row.off ∷ life3 ∷ Row.off ∷ Row.off ∷ Row.alive ∷ Row.alive ∷ List.[];
         }
 
         abbrev G42 : Row.Cx
         G42 = record {
-          locals = List._++_ g35 t30;
-          slots = life1 ∷ Row.off ∷ Row.off ∷ life3 ∷ life4 ∷ Row.off ∷ Row.off ∷ Row.dead ∷ Row.alive ∷ List.[];
+          locals = List._++_ g37 t32;
+          slots = life1 ∷ Row.off ∷ Row.off ∷ life3 ∷ Row.off ∷ Row.off ∷ Row.alive ∷ Row.alive ∷ List.[];
         }
 
         abbrev G43 : Row.Cx
         G43 = record {
-          locals = List._++_ g36 t37;
-          slots = life1 ∷ life0 ∷ Row.off ∷ life3 ∷ life4 ∷ Row.off ∷ Row.off ∷ Row.dead ∷ Row.alive ∷ List.[];
+          locals = List._++_ g37 t32;
+          slots = life1 ∷ Row.off ∷ Row.off ∷ life3 ∷ Row.off ∷ Row.off ∷ Row.dead ∷ Row.alive ∷ List.[];
         }
 
         abbrev G44 : Row.Cx
         G44 = record {
-          locals = List._++_ g36 t37;
-          slots = life1 ∷ life0 ∷ Row.off ∷ life3 ∷ life4 ∷ Row.off ∷ Row.off ∷ Row.off ∷ Row.alive ∷ List.[];
+          locals = List._++_ g38 t39;
+          slots = life1 ∷ life0 ∷ Row.off ∷ life3 ∷ Row.off ∷ Row.off ∷ Row.dead ∷ Row.alive ∷ List.[];
         }
 
         abbrev G45 : Row.Cx
         G45 = record {
-          locals = List._++_ g36 t37;
-          slots = life1 ∷ life0 ∷ Row.off ∷ life3 ∷ life4 ∷ Row.off ∷ Row.off ∷ Row.off ∷ Row.dead ∷ List.[];
+          locals = List._++_ g38 t39;
+          slots = life1 ∷ life0 ∷ Row.off ∷ life3 ∷ Row.off ∷ Row.off ∷ Row.off ∷ Row.alive ∷ List.[];
         }
 
         abbrev G46 : Row.Cx
         G46 = record {
-          locals = List._++_ t2 t1;
-          slots = life1 ∷ life0 ∷ life2 ∷ life3 ∷ life4 ∷ Row.off ∷ Row.off ∷ Row.off ∷ Row.dead ∷ List.[];
+          locals = List._++_ g38 t39;
+          slots = life1 ∷ life0 ∷ Row.off ∷ life3 ∷ Row.off ∷ Row.off ∷ Row.off ∷ Row.dead ∷ List.[];
         }
 
         abbrev G47 : Row.Cx
         G47 = record {
           locals = List._++_ t2 t1;
-          slots = life1 ∷ life0 ∷ life2 ∷ life3 ∷ life4 ∷ Row.off ∷ Row.off ∷ Row.off ∷ Row.dead ∷ List.[];
+          slots = life1 ∷ life0 ∷ life2 ∷ life3 ∷ Row.off ∷ Row.off ∷ Row.off ∷ Row.dead ∷ List.[];
         }
 
         abbrev G48 : Row.Cx
         G48 = record {
           locals = List._++_ t2 t1;
-          slots = life1 ∷ life0 ∷ life2 ∷ life3 ∷ life4 ∷ Row.off ∷ Row.off ∷ Row.off ∷ Row.off ∷ List.[];
+          slots = life1 ∷ life0 ∷ life2 ∷ life3 ∷ Row.off ∷ Row.off ∷ Row.off ∷ Row.dead ∷ List.[];
+        }
+
+        abbrev G49 : Row.Cx
+        G49 = record {
+          locals = List._++_ t2 t1;
+          slots = life1 ∷ life0 ∷ life2 ∷ life3 ∷ Row.off ∷ Row.off ∷ Row.off ∷ Row.off ∷ List.[];
         }
 
         abbrev Δ0 : Typed.Outs
@@ -1417,97 +1436,97 @@ module _ (claims· : Claims) where
 
         module _ {M : Type 1} (𝓤 : URA.URA M) (H : Wp.Heap 𝓤) (A : Atoms.Atoms 𝓤) (W : Kit.Given 𝓤 H A)
             (𝓣 : Wp.Tables 𝓤 H) (known : Knowns 𝓤 H A W 𝓣) (bs : List.List Nat.ℕ)
-            (bd : Lifetimes.AllOutlive 5 (Kinds.osR r) κs) where
+            (bd : Lifetimes.AllOutlive 4 (Kinds.osR r) κs) where
           abbrev E : Wp.Env 𝓤 H
           E = Frame.EnvOf 𝓤 H ((Kinds.tyR r) ∷ (Enter.tysP ps xs)) bs
 
-          d0 : Typed.Typed 𝓤 H A 𝓣 E G48 b15 Δ0 (at0 bs)
+          d0 : Typed.Typed 𝓤 H A 𝓣 E G49 b17 Δ0 (at0 bs)
           d0 = Typed.t-return 𝓤 H A W 𝓣 E Δ0 tt
 
-          d1 : Typed.Typed 𝓤 H A 𝓣 E G47 b15 Δ0 (at1 bs)
-          d1 = Typed.g-pre 𝓤 H A W 𝓣 E G47 G48 b15 Δ0 (λ Ψ. Ψ) (at0 bs)
-              (Lifetime.g-forget 𝓤 H A W E G47 8 Row.dead Path.refl) d0
+          d1 : Typed.Typed 𝓤 H A 𝓣 E G48 b17 Δ0 (at1 bs)
+          d1 = Typed.g-pre 𝓤 H A W 𝓣 E G48 G49 b17 Δ0 (λ Ψ. Ψ) (at0 bs)
+              (Lifetime.g-forget 𝓤 H A W E G48 7 Row.dead Path.refl) d0
 
-          d2 : Typed.Typed 𝓤 H A 𝓣 E G46 b15 Δ0 (at2 bs)
-          d2 = Typed.g-pre 𝓤 H A W 𝓣 E G46 G47 b15 Δ0 (Typed.give (s45 bs)) (at1 bs) (Know.g-sl-known 𝓤 H A W
-              (Referent.fInt Syntax.w32) E G46 3 2 ref6 life2 0 (λ x. x) record { fits = Dec.lit< tt } (Reads'.as-is 𝓤
+          d2 : Typed.Typed 𝓤 H A 𝓣 E G47 b17 Δ0 (at2 bs)
+          d2 = Typed.g-pre 𝓤 H A W 𝓣 E G47 G48 b17 Δ0 (Typed.give (s46 bs)) (at1 bs) (Know.g-sl-known 𝓤 H A W
+              (Referent.fInt Syntax.w32) E G47 3 2 ref6 life2 0 (λ x. x) record { fits = Dec.lit< tt } (Reads'.as-is 𝓤
               H A (Mut.mslice (Referent.rtF (Referent.fInt Syntax.w32)) ref6 2)) Path.refl tt) d1
 
-          d3 : Typed.Typed 𝓤 H A 𝓣 E G45 b15 Δ0 (at3 bs)
-          d3 = Typed.g-pre 𝓤 H A W 𝓣 E G45 G46 b15 Δ0 (Typed.both (s44 bs)) (at2 bs) (Relend.g-back-sl 𝓤 H A W E
-              (Referent.rtF (Referent.fInt Syntax.w32)) G45 24 3 2 8 ref6 ref3 life2 (λ x. x) (λ x. x) (Reads'.as-is 𝓤
+          d3 : Typed.Typed 𝓤 H A 𝓣 E G46 b17 Δ0 (at3 bs)
+          d3 = Typed.g-pre 𝓤 H A W 𝓣 E G46 G47 b17 Δ0 (Typed.both (s45 bs)) (at2 bs) (Relend.g-back-sl 𝓤 H A W E
+              (Referent.rtF (Referent.fInt Syntax.w32)) G46 23 3 2 7 ref6 ref3 life2 (λ x. x) (λ x. x) (Reads'.as-is 𝓤
               H A (Mut.msleft (Referent.rtF (Referent.fInt Syntax.w32)) ref3)) (Reads'.as-is 𝓤 H A (Relend.mslice-owed
-              (Referent.rtF (Referent.fInt Syntax.w32)) ref6 2 8 life2)) Path.refl Path.refl) d2
+              (Referent.rtF (Referent.fInt Syntax.w32)) ref6 2 7 life2)) Path.refl Path.refl) d2
 
-          d4 : Typed.Typed 𝓤 H A 𝓣 E G44 b15 Δ0 (at4 bs)
-          d4 = Typed.g-pre 𝓤 H A W 𝓣 E G44 G45 b15 Δ0 (λ Ψ. Ψ) (at3 bs) (Lifetime.g-end 𝓤 H A W E G44 8 Path.refl) d3
+          d4 : Typed.Typed 𝓤 H A 𝓣 E G45 b17 Δ0 (at4 bs)
+          d4 = Typed.g-pre 𝓤 H A W 𝓣 E G45 G46 b17 Δ0 (λ Ψ. Ψ) (at3 bs) (Lifetime.g-end 𝓤 H A W E G45 7 Path.refl) d3
 
-          d5 : Typed.Typed 𝓤 H A 𝓣 E G43 b15 Δ0 (at5 bs)
-          d5 = Typed.g-pre 𝓤 H A W 𝓣 E G43 G44 b15 Δ0 (λ Ψ. Ψ) (at4 bs)
-              (Lifetime.g-forget 𝓤 H A W E G43 7 Row.dead Path.refl) d4
+          d5 : Typed.Typed 𝓤 H A 𝓣 E G44 b17 Δ0 (at5 bs)
+          d5 = Typed.g-pre 𝓤 H A W 𝓣 E G44 G45 b17 Δ0 (λ Ψ. Ψ) (at4 bs)
+              (Lifetime.g-forget 𝓤 H A W E G44 6 Row.dead Path.refl) d4
 
-          d6 : Typed.Typed 𝓤 H A 𝓣 E G42 b15 Δ0 (at6 bs)
-          d6 = Typed.g-pre 𝓤 H A W 𝓣 E G42 G43 b15 Δ0 (Typed.both (s41 bs)) (at5 bs) (Relend.g-back-sl 𝓤 H A W E
-              InflightAction.row G42 22 2 1 7 ref5 ref2 life0 (λ x. x) (λ x. x)
+          d6 : Typed.Typed 𝓤 H A 𝓣 E G43 b17 Δ0 (at6 bs)
+          d6 = Typed.g-pre 𝓤 H A W 𝓣 E G43 G44 b17 Δ0 (Typed.both (s42 bs)) (at5 bs) (Relend.g-back-sl 𝓤 H A W E
+              InflightAction.row G43 21 2 1 6 ref5 ref2 life0 (λ x. x) (λ x. x)
               (Reads'.as-is 𝓤 H A (Mut.msleft InflightAction.row ref2)) (Reads'.as-is 𝓤 H A
-              (Relend.mslice-owed InflightAction.row ref5 1 7 life0)) Path.refl Path.refl) d5
+              (Relend.mslice-owed InflightAction.row ref5 1 6 life0)) Path.refl Path.refl) d5
 
-          d7 : Typed.Typed 𝓤 H A 𝓣 E G41 b15 Δ0 (at7 bs)
-          d7 = Typed.g-pre 𝓤 H A W 𝓣 E G41 G42 b15 Δ0 (λ Ψ. Ψ) (at6 bs) (Lifetime.g-end 𝓤 H A W E G41 7 Path.refl) d6
+          d7 : Typed.Typed 𝓤 H A 𝓣 E G42 b17 Δ0 (at7 bs)
+          d7 = Typed.g-pre 𝓤 H A W 𝓣 E G42 G43 b17 Δ0 (λ Ψ. Ψ) (at6 bs) (Lifetime.g-end 𝓤 H A W E G42 6 Path.refl) d6
 
-          d8 : Typed.Typed 𝓤 H A 𝓣 E G40 b15 Δ0 (at8 bs)
-          d8 = Typed.g-pre 𝓤 H A W 𝓣 E G40 G41 b15 Δ0 (Typed.pass T40 T41 (s39 bs)) (at7 bs) (Scalar.g-room 𝓤 H A W E
-              G40 15 Laws''''''''''.mir (Local.room-whole 𝓤 H A W (Declared'.row ActionScan.the-type)
+          d8 : Typed.Typed 𝓤 H A 𝓣 E G41 b17 Δ0 (at8 bs)
+          d8 = Typed.g-pre 𝓤 H A W 𝓣 E G41 G42 b17 Δ0 (Typed.pass T41 T42 (s40 bs)) (at7 bs) (Scalar.g-room 𝓤 H A W E
+              G41 14 Laws''''''''''.mir (Local.room-whole 𝓤 H A W (Declared'.row ActionScan.the-type)
               Laws''''''''''.mir Path.refl)) d7
 
-          d9 : Typed.Typed 𝓤 H A 𝓣 E G39 b15 Δ0 (at9 bs)
-          d9 = Typed.g-pre 𝓤 H A W 𝓣 E G39 G40 b15 Δ0 (Typed.pass T39 T40 (s38 bs)) (at8 bs) (Scalar.g-room 𝓤 H A W E
-              G39 14 Laws'''.mir (Local.room-whole 𝓤 H A W (Declared'.row Outgoing.the-type) Laws'''.mir Path.refl)) d8
+          d9 : Typed.Typed 𝓤 H A 𝓣 E G40 b17 Δ0 (at9 bs)
+          d9 = Typed.g-pre 𝓤 H A W 𝓣 E G40 G41 b17 Δ0 (Typed.pass T40 T41 (s39 bs)) (at8 bs) (Scalar.g-room 𝓤 H A W E
+              G40 13 Laws'''.mir (Local.room-whole 𝓤 H A W (Declared'.row Outgoing.the-type) Laws'''.mir Path.refl)) d8
 
-          d10 : Typed.Typed 𝓤 H A 𝓣 E G38 b15 Δ0 (at10 bs)
-          d10 = Typed.g-pre 𝓤 H A W 𝓣 E G38 G39 b15 Δ0 (Typed.pass T38 T39 (s37 bs)) (at9 bs) (Scalar.g-room 𝓤 H A W E
-              G38 12 Laws'.mir (Local.room-whole 𝓤 H A W (Declared.row HnsrAnswer.the-type) Laws'.mir Path.refl)) d9
+          d10 : Typed.Typed 𝓤 H A 𝓣 E G39 b17 Δ0 (at10 bs)
+          d10 = Typed.g-pre 𝓤 H A W 𝓣 E G39 G40 b17 Δ0 (Typed.pass T39 T40 (s38 bs)) (at9 bs) (Scalar.g-room 𝓤 H A W E
+              G39 11 Laws'.mir (Local.room-whole 𝓤 H A W (Declared.row HnsrAnswer.the-type) Laws'.mir Path.refl)) d9
 
-          d11 : Typed.Typed 𝓤 H A 𝓣 E G37 b15 Δ0 (at11 bs)
-          d11 = Typed.g-pre 𝓤 H A W 𝓣 E G37 G38 b15 Δ0 (Typed.pass T37 T38 (s36 bs)) (at10 bs) (Scalar.g-room 𝓤 H A W E
-              G37 5 Laws'''''''''.mir (Local.room-whole 𝓤 H A W (Declared'.row Places.the-type) Laws'''''''''.mir
+          d11 : Typed.Typed 𝓤 H A 𝓣 E G38 b17 Δ0 (at11 bs)
+          d11 = Typed.g-pre 𝓤 H A W 𝓣 E G38 G39 b17 Δ0 (Typed.pass T38 T39 (s37 bs)) (at10 bs) (Scalar.g-room 𝓤 H A W E
+              G38 10 Laws'''''''''.mir (Local.room-whole 𝓤 H A W (Declared'.row Places.the-type) Laws'''''''''.mir
               Path.refl)) d10
 
-          d12 : Typed.Typed 𝓤 H A 𝓣 E G36 b15 Δ0 (at12 bs)
-          d12 = Typed.g-pre 𝓤 H A W 𝓣 E G36 G37 b15 Δ0 (Typed.pass T36 T37 (s35 bs)) (at11 bs) (Scalar.g-room 𝓤 H A W E
-              G36 4 Laws'''''.mir (Local.room-whole 𝓤 H A W (Declared'.row OpaqueRelayRuntime.the-type) Laws'''''.mir
+          d12 : Typed.Typed 𝓤 H A 𝓣 E G37 b17 Δ0 (at12 bs)
+          d12 = Typed.g-pre 𝓤 H A W 𝓣 E G37 G38 b17 Δ0 (Typed.pass T37 T38 (s36 bs)) (at11 bs) (Scalar.g-room 𝓤 H A W E
+              G37 9 Laws'''''.mir (Local.room-whole 𝓤 H A W (Declared'.row OpaqueRelayRuntime.the-type) Laws'''''.mir
               Path.refl)) d11
 
-          d13 : Typed.Typed 𝓤 H A 𝓣 E G35 b16 Δ0 (at13 bs)
-          d13 = Typed.s-seq 𝓤 H A W 𝓣 E G35 G36 b14 b15 Δ0 (Typed.both (s34 bs)) (at12 bs) (Plain.t-call-plain 𝓤 H A W
-              𝓣 3 ps·2 r·2 (claims· .4) (claims· .5) "hnsr_circuit::output::queue::send" (known .2) E (λ pos β. β) G35 (
-                record { pos = 22; ty = ref2; ref = λ x. x },
+          d13 : Typed.Typed 𝓤 H A 𝓣 E G36 b18 Δ0 (at13 bs)
+          d13 = Typed.s-seq 𝓤 H A W 𝓣 E G36 G37 b16 b17 Δ0 (Typed.both (s35 bs)) (at12 bs) (Plain.t-call-plain 𝓤 H A W
+              𝓣 3 ps·2 r·2 (claims· .4) (claims· .5) "hnsr_circuit::output::queue::send" (known .2) E (λ pos β. β) G36 (
+                record { pos = 21; ty = ref2; ref = λ x. x },
                 (
-                  record { pos = 24; ty = ref3; ref = λ x. x },
+                  record { pos = 23; ty = ref3; ref = λ x. x },
                   (
-                    record { pos = 12; st = List.[]; d = 0; at = λ x. x },
+                    record { pos = 11; st = List.[]; d = 0; at = λ x. x },
                     (
-                      record { pos = 4; st = List.[]; d = 0; at = λ x. x },
+                      record { pos = 9; st = List.[]; d = 0; at = λ x. x },
                       (
-                        record { pos = 5; st = List.[]; d = 0; at = λ x. x },
+                        record { pos = 10; st = List.[]; d = 0; at = λ x. x },
                         (
-                          record { pos = 14; st = List.[]; d = 0; at = λ x. x },
+                          record { pos = 13; st = List.[]; d = 0; at = λ x. x },
                           (
-                            record { pos = 15; st = List.[]; d = 0; at = λ x. x },
-                            (record { pos = 10; ty = ref8; ref = λ x. x }, tt),
+                            record { pos = 14; st = List.[]; d = 0; at = λ x. x },
+                            (record { pos = 7; ty = ref7; ref = λ x. x }, tt),
                           ),
                         ),
                       ),
                     ),
                   ),
                 ),
-              ) 0 (7 ∷ 8 ∷ 4 ∷ List.[]) (Call.sub-id 𝓤 H A W (G35 .slots)) (
-                Reads'.as-is 𝓤 H A (Mut.mslice InflightAction.row ref2 7),
-                Mut.reads-mslice 𝓤 H A W InflightAction.row ref2 7,
+              ) 0 (6 ∷ 7 ∷ 3 ∷ List.[]) (Call.sub-id 𝓤 H A W (G36 .slots)) (
+                Reads'.as-is 𝓤 H A (Mut.mslice InflightAction.row ref2 6),
+                Mut.reads-mslice 𝓤 H A W InflightAction.row ref2 6,
                 Path.refl,
                 (
-                  Reads'.as-is 𝓤 H A (Mut.mslice (Referent.rtF (Referent.fInt Syntax.w32)) ref3 8),
-                  Mut.reads-mslice 𝓤 H A W (Referent.rtF (Referent.fInt Syntax.w32)) ref3 8,
+                  Reads'.as-is 𝓤 H A (Mut.mslice (Referent.rtF (Referent.fInt Syntax.w32)) ref3 7),
+                  Mut.reads-mslice 𝓤 H A W (Referent.rtF (Referent.fInt Syntax.w32)) ref3 7,
                   Path.refl,
                   (
                     (
@@ -1555,8 +1574,8 @@ module _ (claims· : Claims) where
                               Path.refl,
                             ),
                             (
-                              ShrSlice.spares-sslice 𝓤 H A W (Referent.rtF (Referent.fInt Syntax.w8)) ref8 4,
-                              Shared.reads-sslice 𝓤 H A W (Referent.rtF (Referent.fInt Syntax.w8)) ref8 4,
+                              ShrSlice.spares-sslice 𝓤 H A W (Referent.rtF (Referent.fInt Syntax.w8)) ref7 3,
+                              Shared.reads-sslice 𝓤 H A W (Referent.rtF (Referent.fInt Syntax.w8)) ref7 3,
                               Path.refl,
                               tt,
                             ),
@@ -1566,26 +1585,26 @@ module _ (claims· : Claims) where
                     ),
                   ),
                 ),
-              ) (Reads'.room-gone 𝓤 H A Laws'''''''.mir) (tt, (tt, (tt, tt))) Path.refl) d12
+              ) (Reads'.room-gone 𝓤 H A Laws''''''.mir) (tt, (tt, (tt, tt))) Path.refl) d12
 
-          d14 : Typed.Typed 𝓤 H A 𝓣 E G34 b17 Δ0 (at14 bs)
-          d14 = Typed.s-seq 𝓤 H A W 𝓣 E G34 G35 b13 b16 Δ0 (Typed.ask (s33 bs)) (at13 bs) (Relend.t-sl-aggregate 𝓤 H A
+          d14 : Typed.Typed 𝓤 H A 𝓣 E G35 b19 Δ0 (at14 bs)
+          d14 = Typed.s-seq 𝓤 H A W 𝓣 E G35 G36 b15 b18 Δ0 (Typed.ask (s34 bs)) (at13 bs) (Relend.t-sl-aggregate 𝓤 H A
               W E (Referent.rtF (Referent.fInt Syntax.w32)) 𝓣 (Relend.asMut (Referent.rtF (Referent.fInt Syntax.w32)))
-              G34 23 24 8 ref3 ref3 (λ x. x) (Scalar.oFld 3 ((Syntax.field 1) ∷ List.[]) (Syntax.tyInt Syntax.w64) 8
+              G35 22 23 7 ref3 ref3 (λ x. x) (Scalar.oFld 3 ((Syntax.field 1) ∷ List.[]) (Syntax.tyInt Syntax.w64) 8
               λ v. Shared.lenV (v .0)) (Reads'.as-is 𝓤 H A (Relend.msptr (Referent.rtF (Referent.fInt Syntax.w32)) ref3
-              8)) (Reads'.room-gone 𝓤 H A slice3) (
-                Relend.reads-owed-len 𝓤 H A W (Referent.rtF (Referent.fInt Syntax.w32)) ref6 2 8 life2 8 Path.refl,
+              7)) (Reads'.room-gone 𝓤 H A slice3) (
+                Relend.reads-owed-len 𝓤 H A W (Referent.rtF (Referent.fInt Syntax.w32)) ref6 2 7 life2 8 Path.refl,
                 Path.refl,
               ) Path.refl Path.refl λ b o k. tt) d13
 
-          d15 : Typed.Typed 𝓤 H A 𝓣 E G33 b18 Δ0 (at15 bs)
-          d15 = Typed.s-seq 𝓤 H A W 𝓣 E G33 G34 b12 b17 Δ0 (Typed.give (s32 bs)) (at14 bs) (Relend.t-sl-relend 𝓤 H A W
-              E (Referent.rtF (Referent.fInt Syntax.w32)) 𝓣 G33 3 23 2 8 ref6 ref3 life2 0 (λ x. x) (Reads'.as-is 𝓤 H A (Mut.mslice
+          d15 : Typed.Typed 𝓤 H A 𝓣 E G34 b20 Δ0 (at15 bs)
+          d15 = Typed.s-seq 𝓤 H A W 𝓣 E G34 G35 b14 b19 Δ0 (Typed.give (s33 bs)) (at14 bs) (Relend.t-sl-relend 𝓤 H A W
+              E (Referent.rtF (Referent.fInt Syntax.w32)) 𝓣 G34 3 22 2 7 ref6 ref3 life2 0 (λ x. x) (Reads'.as-is 𝓤 H A (Mut.mslice
               (Referent.rtF (Referent.fInt Syntax.w32)) ref6 2)) (Reads'.room-gone 𝓤 H A ref3) Path.refl tt Path.refl
               Path.refl Path.refl λ b o. tt) d14
 
-          d16 : Typed.Typed 𝓤 H A 𝓣 E G32 b18 Δ0 (at16 bs)
-          d16 = Typed.g-pre 𝓤 H A W 𝓣 E G32 G33 b18 Δ0 (λ Ψ. Ψ) (at15 bs) (Lifetime.g-begin 𝓤 H A W E G32 8 (
+          d16 : Typed.Typed 𝓤 H A 𝓣 E G33 b20 Δ0 (at16 bs)
+          d16 = Typed.g-pre 𝓤 H A W 𝓣 E G33 G34 b20 Δ0 (λ Ψ. Ψ) (at15 bs) (Lifetime.g-begin 𝓤 H A W E G33 7 (
             tt,
             (
               tt,
@@ -1605,10 +1624,7 @@ module _ (claims· : Claims) where
                             tt,
                             (
                               tt,
-                              (
-                                tt,
-                                (tt, (tt, (tt, (tt, (tt, (tt, (tt, (tt, (tt, (tt, (tt, (tt, (tt, (tt, tt)))))))))))))),
-                              ),
+                              (tt, (tt, (tt, (tt, (tt, (tt, (tt, (tt, (tt, (tt, (tt, (tt, (tt, (tt, tt)))))))))))))),
                             ),
                           ),
                         ),
@@ -1620,23 +1636,23 @@ module _ (claims· : Claims) where
             ),
           )) d15
 
-          d17 : Typed.Typed 𝓤 H A 𝓣 E G31 b19 Δ0 (at17 bs)
-          d17 = Typed.s-seq 𝓤 H A W 𝓣 E G31 G32 b11 b18 Δ0 (Typed.ask (s30 bs)) (at16 bs) (Relend.t-sl-aggregate 𝓤 H A
-              W E InflightAction.row 𝓣 (Relend.asMut InflightAction.row) G31 21 22 7 ref2 ref2 (λ x. x) (Scalar.oFld 2
+          d17 : Typed.Typed 𝓤 H A 𝓣 E G32 b21 Δ0 (at17 bs)
+          d17 = Typed.s-seq 𝓤 H A W 𝓣 E G32 G33 b13 b20 Δ0 (Typed.ask (s31 bs)) (at16 bs) (Relend.t-sl-aggregate 𝓤 H A
+              W E InflightAction.row 𝓣 (Relend.asMut InflightAction.row) G32 20 21 6 ref2 ref2 (λ x. x) (Scalar.oFld 2
               ((Syntax.field 1) ∷ List.[]) (Syntax.tyInt Syntax.w64) 8 λ v. Shared.lenV (v .0)) (Reads'.as-is 𝓤 H A
-              (Relend.msptr InflightAction.row ref2 7)) (Reads'.room-gone 𝓤 H A slice2) (
-                Relend.reads-owed-len 𝓤 H A W InflightAction.row ref5 1 7 life0 8 Path.refl,
+              (Relend.msptr InflightAction.row ref2 6)) (Reads'.room-gone 𝓤 H A slice2) (
+                Relend.reads-owed-len 𝓤 H A W InflightAction.row ref5 1 6 life0 8 Path.refl,
                 Path.refl,
               ) Path.refl Path.refl λ b o k. tt) d16
 
-          d18 : Typed.Typed 𝓤 H A 𝓣 E G30 b20 Δ0 (at18 bs)
-          d18 = Typed.s-seq 𝓤 H A W 𝓣 E G30 G31 b10 b19 Δ0 (Typed.give (s29 bs)) (at17 bs) (Relend.t-sl-relend 𝓤 H A W
-              E InflightAction.row 𝓣 G30 2 21 1 7 ref5 ref2 life0 0 (λ x. x)
+          d18 : Typed.Typed 𝓤 H A 𝓣 E G31 b22 Δ0 (at18 bs)
+          d18 = Typed.s-seq 𝓤 H A W 𝓣 E G31 G32 b12 b21 Δ0 (Typed.give (s30 bs)) (at17 bs) (Relend.t-sl-relend 𝓤 H A W
+              E InflightAction.row 𝓣 G31 2 20 1 6 ref5 ref2 life0 0 (λ x. x)
               (Reads'.as-is 𝓤 H A (Mut.mslice InflightAction.row ref5 1)) (Reads'.room-gone 𝓤 H A ref2) Path.refl tt
               Path.refl Path.refl Path.refl λ b o. tt) d17
 
-          d19 : Typed.Typed 𝓤 H A 𝓣 E G29 b20 Δ0 (at19 bs)
-          d19 = Typed.g-pre 𝓤 H A W 𝓣 E G29 G30 b20 Δ0 (λ Ψ. Ψ) (at18 bs) (Lifetime.g-begin 𝓤 H A W E G29 7 (
+          d19 : Typed.Typed 𝓤 H A 𝓣 E G30 b22 Δ0 (at19 bs)
+          d19 = Typed.g-pre 𝓤 H A W 𝓣 E G30 G31 b22 Δ0 (λ Ψ. Ψ) (at18 bs) (Lifetime.g-begin 𝓤 H A W E G30 6 (
             tt,
             (
               tt,
@@ -1656,10 +1672,7 @@ module _ (claims· : Claims) where
                             tt,
                             (
                               tt,
-                              (
-                                tt,
-                                (tt, (tt, (tt, (tt, (tt, (tt, (tt, (tt, (tt, (tt, (tt, (tt, (tt, (tt, tt)))))))))))))),
-                              ),
+                              (tt, (tt, (tt, (tt, (tt, (tt, (tt, (tt, (tt, (tt, (tt, (tt, (tt, (tt, tt)))))))))))))),
                             ),
                           ),
                         ),
@@ -1671,59 +1684,57 @@ module _ (claims· : Claims) where
             ),
           )) d18
 
-          d20 : Typed.Typed 𝓤 H A 𝓣 E G28 b20 Δ0 (at20 bs)
-          d20 = Typed.g-pre 𝓤 H A W 𝓣 E G28 G29 b20 Δ0 (λ Ψ. Ψ) (at19 bs)
-              (Lifetime.g-forget 𝓤 H A W E G28 6 Row.dead Path.refl) d19
+          d20 : Typed.Typed 𝓤 H A 𝓣 E G29 b22 Δ0 (at20 bs)
+          d20 = Typed.g-pre 𝓤 H A W 𝓣 E G29 G30 b22 Δ0 (λ Ψ. Ψ) (at19 bs)
+              (Lifetime.g-forget 𝓤 H A W E G29 5 Row.dead Path.refl) d19
 
-          d21 : Typed.Typed 𝓤 H A 𝓣 E G27 b20 Δ0 (at21 bs)
-          d21 = Typed.g-pre 𝓤 H A W 𝓣 E G27 G28 b20 Δ0 (Typed.both (s26 bs)) (at20 bs) (Relend.g-back-sl 𝓤 H A W E
-              RelayCircuit.row G27 20 1 0 6 ref4 ref1 life1 (λ x. x) (λ x. x)
+          d21 : Typed.Typed 𝓤 H A 𝓣 E G28 b22 Δ0 (at21 bs)
+          d21 = Typed.g-pre 𝓤 H A W 𝓣 E G28 G29 b22 Δ0 (Typed.both (s27 bs)) (at20 bs) (Relend.g-back-sl 𝓤 H A W E
+              RelayCircuit.row G28 19 1 0 5 ref4 ref1 life1 (λ x. x) (λ x. x)
               (Reads'.as-is 𝓤 H A (Mut.msleft RelayCircuit.row ref1)) (Reads'.as-is 𝓤 H A
-              (Relend.mslice-owed RelayCircuit.row ref4 0 6 life1)) Path.refl Path.refl) d20
+              (Relend.mslice-owed RelayCircuit.row ref4 0 5 life1)) Path.refl Path.refl) d20
 
-          d22 : Typed.Typed 𝓤 H A 𝓣 E G26 b20 Δ0 (at22 bs)
-          d22 = Typed.g-pre 𝓤 H A W 𝓣 E G26 G27 b20 Δ0 (λ Ψ. Ψ) (at21 bs) (Lifetime.g-end 𝓤 H A W E G26 6 Path.refl)
+          d22 : Typed.Typed 𝓤 H A 𝓣 E G27 b22 Δ0 (at22 bs)
+          d22 = Typed.g-pre 𝓤 H A W 𝓣 E G27 G28 b22 Δ0 (λ Ψ. Ψ) (at21 bs) (Lifetime.g-end 𝓤 H A W E G27 5 Path.refl)
               d21
 
-          d23 : Typed.Typed 𝓤 H A 𝓣 E G25 b20 Δ0 (at23 bs)
-          d23 = Typed.g-pre 𝓤 H A W 𝓣 E G25 G26 b20 Δ0 (Typed.pass T25 T26 (s24 bs)) (at22 bs) (Scalar.g-room 𝓤 H A W E
-              G25 18 Syntax.tyUnit (Scalar.room-sc 𝓤 H A W Row.sUnit)) d22
+          d23 : Typed.Typed 𝓤 H A 𝓣 E G26 b22 Δ0 (at23 bs)
+          d23 = Typed.g-pre 𝓤 H A W 𝓣 E G26 G27 b22 Δ0 (Typed.pass T26 T27 (s25 bs)) (at22 bs) (Scalar.g-room 𝓤 H A W E
+              G26 17 Syntax.tyUnit (Scalar.room-sc 𝓤 H A W Row.sUnit)) d22
 
-          d24 : Typed.Typed 𝓤 H A 𝓣 E G24 b20 Δ0 (at24 bs)
-          d24 = Typed.g-pre 𝓤 H A W 𝓣 E G24 G25 b20 Δ0 (Typed.pass T24 T25 (s23 bs)) (at23 bs) (Scalar.g-room 𝓤 H A W E
-              G24 13 Laws''''.mir (Local.room-whole 𝓤 H A W (Declared.row RelaySide.the-type) Laws''''.mir Path.refl))
+          d24 : Typed.Typed 𝓤 H A 𝓣 E G25 b22 Δ0 (at24 bs)
+          d24 = Typed.g-pre 𝓤 H A W 𝓣 E G25 G26 b22 Δ0 (Typed.pass T25 T26 (s24 bs)) (at23 bs) (Scalar.g-room 𝓤 H A W E
+              G25 12 Laws''''.mir (Local.room-whole 𝓤 H A W (Declared.row RelaySide.the-type) Laws''''.mir Path.refl))
               d23
 
-          d25 : Typed.Typed 𝓤 H A 𝓣 E G23 b20 Δ0 (at25 bs)
-          d25 = Typed.g-pre 𝓤 H A W 𝓣 E G23 G24 b20 Δ0 (Typed.pass T23 T24 (s22 bs)) (at24 bs) (Scalar.g-room 𝓤 H A W E
-              G23 11 Laws''.mir (Local.room-whole 𝓤 H A W (Declared'.row WindowPlan.the-type) Laws''.mir Path.refl))
-              d24
+          d25 : Typed.Typed 𝓤 H A 𝓣 E G24 b22 Δ0 (at25 bs)
+          d25 = Typed.g-pre 𝓤 H A W 𝓣 E G24 G25 b22 Δ0 (Typed.pass T24 T25 (s23 bs)) (at24 bs) (Scalar.g-room 𝓤 H A W E
+              G24 8 Laws''.mir (Local.room-whole 𝓤 H A W (Declared'.row WindowPlan.the-type) Laws''.mir Path.refl)) d24
 
-          d26 : Typed.Typed 𝓤 H A 𝓣 E G22 b21 Δ0 (at26 bs)
-          d26 = Typed.s-seq 𝓤 H A W 𝓣 E G22 G23 b9 b20 Δ0 (Typed.both (s21 bs)) (at25 bs) (Plain.t-call-plain 𝓤 H A W 𝓣
-              1 ps·1 r·1 (claims· .2) (claims· .3) "hnsr_circuit::tables::stores::raise_circuit" (known .1) E
-              (λ pos β. β) G22 (
-                record { pos = 20; ty = ref1; ref = λ x. x },
+          d26 : Typed.Typed 𝓤 H A 𝓣 E G23 b23 Δ0 (at26 bs)
+          d26 = Typed.s-seq 𝓤 H A W 𝓣 E G23 G24 b11 b22 Δ0 (Typed.both (s22 bs)) (at25 bs) (Plain.t-call-plain 𝓤 H A W
+              𝓣 1 ps·1 r·1 (claims· .2) (claims· .3) "hnsr_circuit::tables::stores::raise_circuit" (known .1) E
+              (λ pos β. β) G23 (
+                record { pos = 19; ty = ref1; ref = λ x. x },
                 (
-                  record { pos = 5; st = List.[]; d = 0; at = λ x. x },
+                  record { pos = 10; st = List.[]; d = 0; at = λ x. x },
                   (
-                    Bool.bFld 11 ((Syntax.field 1) ∷ List.[]) 48 λ x. WindowPlan.struct .as-values x .1 .0,
+                    Bool.bFld 8 ((Syntax.field 1) ∷ List.[]) 48 λ x. WindowPlan.struct .as-values x .1 .0,
                     (
-                      Num.vFld 11 ((Syntax.field 2) ∷ List.[]) 56 λ x. WindowPlan.struct .as-values x .1 .1 .0,
+                      Num.vFld 8 ((Syntax.field 2) ∷ List.[]) 56 λ x. WindowPlan.struct .as-values x .1 .1 .0,
                       (
-                        record { pos = 13; st = List.[]; d = 0; at = λ x. x },
+                        record { pos = 12; st = List.[]; d = 0; at = λ x. x },
                         (
-                          Num.vFld 11 ((Syntax.field 4) ∷ List.[]) 68 λ x. WindowPlan.struct .as-values x .1 .1 .1 .1
-                              .0,
+                          Num.vFld 8 ((Syntax.field 4) ∷ List.[]) 68 λ x. WindowPlan.struct .as-values x .1 .1 .1 .1 .0,
                           tt,
                         ),
                       ),
                     ),
                   ),
                 ),
-              ) 18 (6 ∷ List.[]) (Call.sub-id 𝓤 H A W (G22 .slots)) (
-                Reads'.as-is 𝓤 H A (Mut.mslice RelayCircuit.row ref1 6),
-                Mut.reads-mslice 𝓤 H A W RelayCircuit.row ref1 6,
+              ) 17 (5 ∷ List.[]) (Call.sub-id 𝓤 H A W (G23 .slots)) (
+                Reads'.as-is 𝓤 H A (Mut.mslice RelayCircuit.row ref1 5),
+                Mut.reads-mslice 𝓤 H A W RelayCircuit.row ref1 5,
                 Path.refl,
                 (
                   (
@@ -1768,23 +1779,23 @@ module _ (claims· : Claims) where
                 ),
               ) (Reads'.room-gone 𝓤 H A Syntax.tyUnit) (tt, tt) Path.refl) d25
 
-          d27 : Typed.Typed 𝓤 H A 𝓣 E G21 b22 Δ0 (at27 bs)
-          d27 = Typed.s-seq 𝓤 H A W 𝓣 E G21 G22 b8 b21 Δ0 (Typed.ask (s20 bs)) (at26 bs) (Relend.t-sl-aggregate 𝓤 H A W
-              E RelayCircuit.row 𝓣 (Relend.asMut RelayCircuit.row) G21 19 20 6 ref1 ref1 (λ x. x) (Scalar.oFld 1
+          d27 : Typed.Typed 𝓤 H A 𝓣 E G22 b24 Δ0 (at27 bs)
+          d27 = Typed.s-seq 𝓤 H A W 𝓣 E G22 G23 b10 b23 Δ0 (Typed.ask (s21 bs)) (at26 bs) (Relend.t-sl-aggregate 𝓤 H A
+              W E RelayCircuit.row 𝓣 (Relend.asMut RelayCircuit.row) G22 18 19 5 ref1 ref1 (λ x. x) (Scalar.oFld 1
               ((Syntax.field 1) ∷ List.[]) (Syntax.tyInt Syntax.w64) 8 λ v. Shared.lenV (v .0))
-              (Reads'.as-is 𝓤 H A (Relend.msptr RelayCircuit.row ref1 6)) (Reads'.room-gone 𝓤 H A slice1) (
-                Relend.reads-owed-len 𝓤 H A W RelayCircuit.row ref4 0 6 life1 8 Path.refl,
+              (Reads'.as-is 𝓤 H A (Relend.msptr RelayCircuit.row ref1 5)) (Reads'.room-gone 𝓤 H A slice1) (
+                Relend.reads-owed-len 𝓤 H A W RelayCircuit.row ref4 0 5 life1 8 Path.refl,
                 Path.refl,
               ) Path.refl Path.refl λ b o k. tt) d26
 
-          d28 : Typed.Typed 𝓤 H A 𝓣 E G20 b23 Δ0 (at28 bs)
-          d28 = Typed.s-seq 𝓤 H A W 𝓣 E G20 G21 b7 b22 Δ0 (Typed.give (s19 bs)) (at27 bs) (Relend.t-sl-relend 𝓤 H A W E
-              RelayCircuit.row 𝓣 G20 1 19 0 6 ref4 ref1 life1 0 (λ x. x)
+          d28 : Typed.Typed 𝓤 H A 𝓣 E G21 b25 Δ0 (at28 bs)
+          d28 = Typed.s-seq 𝓤 H A W 𝓣 E G21 G22 b9 b24 Δ0 (Typed.give (s20 bs)) (at27 bs) (Relend.t-sl-relend 𝓤 H A W E
+              RelayCircuit.row 𝓣 G21 1 18 0 5 ref4 ref1 life1 0 (λ x. x)
               (Reads'.as-is 𝓤 H A (Mut.mslice RelayCircuit.row ref4 0)) (Reads'.room-gone 𝓤 H A ref1) Path.refl tt
               Path.refl Path.refl Path.refl λ b o. tt) d27
 
-          d29 : Typed.Typed 𝓤 H A 𝓣 E G19 b23 Δ0 (at29 bs)
-          d29 = Typed.g-pre 𝓤 H A W 𝓣 E G19 G20 b23 Δ0 (λ Ψ. Ψ) (at28 bs) (Lifetime.g-begin 𝓤 H A W E G19 6 (
+          d29 : Typed.Typed 𝓤 H A 𝓣 E G20 b25 Δ0 (at29 bs)
+          d29 = Typed.g-pre 𝓤 H A W 𝓣 E G20 G21 b25 Δ0 (λ Ψ. Ψ) (at28 bs) (Lifetime.g-begin 𝓤 H A W E G20 5 (
             tt,
             (
               tt,
@@ -1804,10 +1815,7 @@ module _ (claims· : Claims) where
                             tt,
                             (
                               tt,
-                              (
-                                tt,
-                                (tt, (tt, (tt, (tt, (tt, (tt, (tt, (tt, (tt, (tt, (tt, (tt, (tt, (tt, tt)))))))))))))),
-                              ),
+                              (tt, (tt, (tt, (tt, (tt, (tt, (tt, (tt, (tt, (tt, (tt, (tt, (tt, (tt, tt)))))))))))))),
                             ),
                           ),
                         ),
@@ -1819,273 +1827,290 @@ module _ (claims· : Claims) where
             ),
           )) d28
 
-          d30 : Typed.Typed 𝓤 H A 𝓣 E G18 b24 Δ0 (at30 bs)
-          d30 = Typed.s-seq 𝓤 H A W 𝓣 E G18 G19 b6 b23 Δ0 (Typed.both (s17 bs)) (at29 bs) (WayStmt.t-way-copy-out 𝓤 H A
+          d30 : Typed.Typed 𝓤 H A 𝓣 E G19 b26 Δ0 (at30 bs)
+          d30 = Typed.s-seq 𝓤 H A W 𝓣 E G19 G20 b8 b25 Δ0 (Typed.both (s18 bs)) (at29 bs) (WayStmt.t-way-copy-out 𝓤 H A
               W E 𝓣 (Declared'.row ActionScan.the-type) Path.refl (Copies.cStruct ActionScan.the-type
-              Laws''''''''''.the-laws Laws''''''''''.the-copy .copy 𝓤 H A W) (λ ρ. Unit) G18 (Row.out 11 (G18 .locals))
-              (λ u. Row.drop 11 (G18 .locals) u) (G18 .slots) 11 (λ t. (Syntax.field 6) ∷ t) Laws''''''''''.mir
-              Laws''''''''''.mir 15 (Rows.whole (Declared'.row ActionScan.the-type)) (λ x. x) (λ u. At.getAt
-              (WindowPlan.the-type .parts) 6 (WindowPlan.struct .as-values (u .1 .1 .1 .1 .1 .1 .1 .1 .1 .1 .1 .0))) (λ
-              u. (
-                Row.hd 0 (Row.tl (Row.tl (Row.tl (Row.tl (Row.tl (Row.tl
-                    (Row.tl (Row.tl (Row.tl (Row.tl (Row.tl bs))))))))))),
+              Laws''''''''''.the-laws Laws''''''''''.the-copy .copy 𝓤 H A W) (λ ρ. Unit) G19 (Row.out 8 (G19 .locals))
+              (λ u. Row.drop 8 (G19 .locals) u) (G19 .slots) 8 (λ t. (Syntax.field 6) ∷ t) Laws''''''''''.mir
+              Laws''''''''''.mir 14 (Rows.whole (Declared'.row ActionScan.the-type)) (λ x. x) (λ u. At.getAt
+              (WindowPlan.the-type .parts) 6 (WindowPlan.struct .as-values (u .1 .1 .1 .1 .1 .1 .1 .1 .0))) (λ u. (
+                Row.hd 0 (Row.tl (Row.tl (Row.tl (Row.tl (Row.tl (Row.tl (Row.tl (Row.tl bs)))))))),
                 Nat._+_ 0 248,
               )) (λ T′. record {
-                locals = Row.setRow 11 (11, Rows.whole (Declared'.row WindowPlan.the-type)) T′;
-                slots = G18 .slots;
-              }) (λ u T′ m′. Row.set 11 (11, Rows.whole (Declared'.row WindowPlan.the-type))
-              (u .1 .1 .1 .1 .1 .1 .1 .1 .1 .1 .1 .0) T′ m′) (λ u. Unit) (λ x. Unit) (Own.told-none 𝓤 H A (G18 .slots)) (DerefMove.learns-nothing
+                locals = Row.setRow 8 (8, Rows.whole (Declared'.row WindowPlan.the-type)) T′;
+                slots = G19 .slots;
+              }) (λ u T′ m′. Row.set 8 (8, Rows.whole (Declared'.row WindowPlan.the-type))
+              (u .1 .1 .1 .1 .1 .1 .1 .1 .0) T′ m′) (λ u. Unit) (λ x. Unit) (Own.told-none 𝓤 H A (G19 .slots)) (DerefMove.learns-nothing
               𝓤 H A (Declared'.row ActionScan.the-type)) (λ ρ told u asked. Way'.w-partˢ 𝓤 H A W E
               (Declared'.row WindowPlan.the-type) (Declared'.row ActionScan.the-type) Laws''.mir Laws''''''''''.mir 6
-              248 (u .1 .1 .1 .1 .1 .1 .1 .1 .1 .1 .1 .0) (At.getAt (WindowPlan.the-type .parts) 6 (WindowPlan.struct
-              .as-values (u .1 .1 .1 .1 .1 .1 .1 .1 .1 .1 .1 .0))) (
-                Row.hd 0 (Row.tl (Row.tl (Row.tl (Row.tl (Row.tl (Row.tl
-                    (Row.tl (Row.tl (Row.tl (Row.tl (Row.tl bs))))))))))),
+              248 (u .1 .1 .1 .1 .1 .1 .1 .1 .0) (At.getAt (WindowPlan.the-type .parts) 6 (WindowPlan.struct .as-values
+              (u .1 .1 .1 .1 .1 .1 .1 .1 .0))) (
+                Row.hd 0 (Row.tl (Row.tl (Row.tl (Row.tl (Row.tl (Row.tl (Row.tl (Row.tl bs)))))))),
                 0,
-              ) (Way.w-look 𝓤 H A W E (Way.w-local 𝓤 H A W E G18 ρ u (G18 .slots) 11
-              (Declared'.row WindowPlan.the-type) (Rows.whole (Declared'.row WindowPlan.the-type)) (λ x. x) (λ x. x)
-              (u .1 .1 .1 .1 .1 .1 .1 .1 .1 .1 .1 .0) (Local.mem-whole 𝓤 H A W (Declared'.row WindowPlan.the-type) ρ
-              (u .1 .1 .1 .1 .1 .1 .1 .1 .1 .1 .1 .0) (Row.hd 0 (Row.tl (Row.tl (Row.tl (Row.tl (Row.tl (Row.tl
-              (Row.tl (Row.tl (Row.tl (Row.tl (Row.tl bs))))))))))))) (Local.whole-mem 𝓤 H A W
-              (Declared'.row WindowPlan.the-type) ρ (u .1 .1 .1 .1 .1 .1 .1 .1 .1 .1 .1 .0) (Row.hd 0 (Row.tl (Row.tl (Row.tl (Row.tl (Row.tl (Row.tl
-              (Row.tl (Row.tl (Row.tl (Row.tl (Row.tl bs))))))))))))))) Path.refl λ q. Inner.cut-record 𝓤 H A q
-              (Declared'.row WindowPlan.the-type) ActionScan.the-type 248 (u .1 .1 .1 .1 .1 .1 .1 .1 .1 .1 .1 .0)
-              (u .1 .1 .1 .1 .1 .1 .1 .1 .1 .1 .1 .0) (At.getAt (WindowPlan.the-type .parts) 6 (WindowPlan.struct
-              .as-values (u .1 .1 .1 .1 .1 .1 .1 .1 .1 .1 .1 .0))) (At.getAt (WindowPlan.the-type .parts) 6 (WindowPlan.struct
-              .as-values (u .1 .1 .1 .1 .1 .1 .1 .1 .1 .1 .1 .0))) (
-                Row.hd 0 (Row.tl (Row.tl (Row.tl (Row.tl (Row.tl (Row.tl
-                    (Row.tl (Row.tl (Row.tl (Row.tl (Row.tl bs))))))))))),
+              ) (Way.w-look 𝓤 H A W E (Way.w-local 𝓤 H A W E G19 ρ u (G19 .slots) 8 (Declared'.row WindowPlan.the-type)
+              (Rows.whole (Declared'.row WindowPlan.the-type)) (λ x. x) (λ x. x) (u .1 .1 .1 .1 .1 .1 .1 .1 .0) (Local.mem-whole
+              𝓤 H A W (Declared'.row WindowPlan.the-type) ρ (u .1 .1 .1 .1 .1 .1 .1 .1 .0) (Row.hd 0 (Row.tl (Row.tl (Row.tl
+              (Row.tl (Row.tl (Row.tl (Row.tl (Row.tl bs)))))))))) (Local.whole-mem 𝓤 H A W
+              (Declared'.row WindowPlan.the-type) ρ (u .1 .1 .1 .1 .1 .1 .1 .1 .0) (Row.hd 0 (Row.tl (Row.tl (Row.tl
+              (Row.tl (Row.tl (Row.tl (Row.tl (Row.tl bs)))))))))))) Path.refl λ q. Inner.cut-record 𝓤 H A q
+              (Declared'.row WindowPlan.the-type) ActionScan.the-type 248 (u .1 .1 .1 .1 .1 .1 .1 .1 .0)
+              (u .1 .1 .1 .1 .1 .1 .1 .1 .0) (At.getAt (WindowPlan.the-type .parts) 6 (WindowPlan.struct .as-values
+              (u .1 .1 .1 .1 .1 .1 .1 .1 .0))) (At.getAt (WindowPlan.the-type .parts) 6 (WindowPlan.struct .as-values
+              (u .1 .1 .1 .1 .1 .1 .1 .1 .0))) (
+                Row.hd 0 (Row.tl (Row.tl (Row.tl (Row.tl (Row.tl (Row.tl (Row.tl (Row.tl bs)))))))),
                 0,
               ) (Behind.look-at 𝓤 H A W q WindowPlan.the-type Laws''.the-laws 6 248 Path.refl Path.refl (
-                Row.hd 0 (Row.tl (Row.tl (Row.tl (Row.tl (Row.tl (Row.tl
-                    (Row.tl (Row.tl (Row.tl (Row.tl (Row.tl bs))))))))))),
+                Row.hd 0 (Row.tl (Row.tl (Row.tl (Row.tl (Row.tl (Row.tl (Row.tl (Row.tl bs)))))))),
                 0,
-              ) (u .1 .1 .1 .1 .1 .1 .1 .1 .1 .1 .1 .0) (WindowPlan.struct .as-values
-              (u .1 .1 .1 .1 .1 .1 .1 .1 .1 .1 .1 .0)) Path.refl)) (Reads'.room-gone 𝓤 H A Laws''''''''''.mir) (Yields.makes-mem
-              𝓤 H A W (λ ρ. Unit) (Declared'.row ActionScan.the-type) Path.refl
-              (Rows.whole (Declared'.row ActionScan.the-type)) (λ x. x) λ ρ told. Local.whole-mem 𝓤 H A W
-              (Declared'.row ActionScan.the-type) ρ) Path.refl Path.refl Path.refl) d29
+              ) (u .1 .1 .1 .1 .1 .1 .1 .1 .0) (WindowPlan.struct .as-values (u .1 .1 .1 .1 .1 .1 .1 .1 .0)) Path.refl))
+              (Reads'.room-gone 𝓤 H A Laws''''''''''.mir) (Yields.makes-mem 𝓤 H A W (λ ρ. Unit)
+              (Declared'.row ActionScan.the-type) Path.refl (Rows.whole (Declared'.row ActionScan.the-type)) (λ x. x)
+              λ ρ told. Local.whole-mem 𝓤 H A W (Declared'.row ActionScan.the-type) ρ) Path.refl Path.refl Path.refl)
+              d29
 
-          d31 : Typed.Typed 𝓤 H A 𝓣 E G17 b25 Δ0 (at31 bs)
-          d31 = Typed.s-seq 𝓤 H A W 𝓣 E G17 G18 b5 b24 Δ0 (Typed.both (s16 bs)) (at30 bs) (WayStmt.t-way-copy-out 𝓤 H A
+          d31 : Typed.Typed 𝓤 H A 𝓣 E G18 b27 Δ0 (at31 bs)
+          d31 = Typed.s-seq 𝓤 H A W 𝓣 E G18 G19 b7 b26 Δ0 (Typed.both (s17 bs)) (at30 bs) (WayStmt.t-way-copy-out 𝓤 H A
               W E 𝓣 (Declared'.row Outgoing.the-type) Path.refl (Copies.cStruct Outgoing.the-type Laws'''.the-laws
-              Laws'''.the-copy .copy 𝓤 H A W) (λ ρ. Unit) G17 (Row.out 11 (G17 .locals))
-              (λ u. Row.drop 11 (G17 .locals) u) (G17 .slots) 11 (λ t. (Syntax.field 5) ∷ t) Laws'''.mir Laws'''.mir 14
+              Laws'''.the-copy .copy 𝓤 H A W) (λ ρ. Unit) G18 (Row.out 8 (G18 .locals))
+              (λ u. Row.drop 8 (G18 .locals) u) (G18 .slots) 8 (λ t. (Syntax.field 5) ∷ t) Laws'''.mir Laws'''.mir 13
               (Rows.whole (Declared'.row Outgoing.the-type)) (λ x. x) (λ u. At.getAt (WindowPlan.the-type .parts) 5 (WindowPlan.struct
-              .as-values (u .1 .1 .1 .1 .1 .1 .1 .1 .1 .1 .1 .0))) (λ u. (
-                Row.hd 0 (Row.tl (Row.tl (Row.tl (Row.tl (Row.tl (Row.tl
-                    (Row.tl (Row.tl (Row.tl (Row.tl (Row.tl bs))))))))))),
+              .as-values (u .1 .1 .1 .1 .1 .1 .1 .1 .0))) (λ u. (
+                Row.hd 0 (Row.tl (Row.tl (Row.tl (Row.tl (Row.tl (Row.tl (Row.tl (Row.tl bs)))))))),
                 Nat._+_ 0 72,
               )) (λ T′. record {
-                locals = Row.setRow 11 (11, Rows.whole (Declared'.row WindowPlan.the-type)) T′;
-                slots = G17 .slots;
-              }) (λ u T′ m′. Row.set 11 (11, Rows.whole (Declared'.row WindowPlan.the-type))
-              (u .1 .1 .1 .1 .1 .1 .1 .1 .1 .1 .1 .0) T′ m′) (λ u. Unit) (λ x. Unit) (Own.told-none 𝓤 H A (G17 .slots)) (DerefMove.learns-nothing
+                locals = Row.setRow 8 (8, Rows.whole (Declared'.row WindowPlan.the-type)) T′;
+                slots = G18 .slots;
+              }) (λ u T′ m′. Row.set 8 (8, Rows.whole (Declared'.row WindowPlan.the-type))
+              (u .1 .1 .1 .1 .1 .1 .1 .1 .0) T′ m′) (λ u. Unit) (λ x. Unit) (Own.told-none 𝓤 H A (G18 .slots)) (DerefMove.learns-nothing
               𝓤 H A (Declared'.row Outgoing.the-type)) (λ ρ told u asked. Way'.w-partˢ 𝓤 H A W E
               (Declared'.row WindowPlan.the-type) (Declared'.row Outgoing.the-type) Laws''.mir Laws'''.mir 5 72
-              (u .1 .1 .1 .1 .1 .1 .1 .1 .1 .1 .1 .0) (At.getAt (WindowPlan.the-type .parts) 5 (WindowPlan.struct
-              .as-values (u .1 .1 .1 .1 .1 .1 .1 .1 .1 .1 .1 .0))) (
-                Row.hd 0 (Row.tl (Row.tl (Row.tl (Row.tl (Row.tl (Row.tl
-                    (Row.tl (Row.tl (Row.tl (Row.tl (Row.tl bs))))))))))),
+              (u .1 .1 .1 .1 .1 .1 .1 .1 .0) (At.getAt (WindowPlan.the-type .parts) 5 (WindowPlan.struct .as-values
+              (u .1 .1 .1 .1 .1 .1 .1 .1 .0))) (
+                Row.hd 0 (Row.tl (Row.tl (Row.tl (Row.tl (Row.tl (Row.tl (Row.tl (Row.tl bs)))))))),
                 0,
-              ) (Way.w-look 𝓤 H A W E (Way.w-local 𝓤 H A W E G17 ρ u (G17 .slots) 11
-              (Declared'.row WindowPlan.the-type) (Rows.whole (Declared'.row WindowPlan.the-type)) (λ x. x) (λ x. x)
-              (u .1 .1 .1 .1 .1 .1 .1 .1 .1 .1 .1 .0) (Local.mem-whole 𝓤 H A W (Declared'.row WindowPlan.the-type) ρ
-              (u .1 .1 .1 .1 .1 .1 .1 .1 .1 .1 .1 .0) (Row.hd 0 (Row.tl (Row.tl (Row.tl (Row.tl (Row.tl (Row.tl
-              (Row.tl (Row.tl (Row.tl (Row.tl (Row.tl bs))))))))))))) (Local.whole-mem 𝓤 H A W
-              (Declared'.row WindowPlan.the-type) ρ (u .1 .1 .1 .1 .1 .1 .1 .1 .1 .1 .1 .0) (Row.hd 0 (Row.tl (Row.tl (Row.tl (Row.tl (Row.tl (Row.tl
-              (Row.tl (Row.tl (Row.tl (Row.tl (Row.tl bs))))))))))))))) Path.refl λ q. Inner.cut-record 𝓤 H A q
-              (Declared'.row WindowPlan.the-type) Outgoing.the-type 72 (u .1 .1 .1 .1 .1 .1 .1 .1 .1 .1 .1 .0)
-              (u .1 .1 .1 .1 .1 .1 .1 .1 .1 .1 .1 .0) (At.getAt (WindowPlan.the-type .parts) 5 (WindowPlan.struct
-              .as-values (u .1 .1 .1 .1 .1 .1 .1 .1 .1 .1 .1 .0))) (At.getAt (WindowPlan.the-type .parts) 5 (WindowPlan.struct
-              .as-values (u .1 .1 .1 .1 .1 .1 .1 .1 .1 .1 .1 .0))) (
-                Row.hd 0 (Row.tl (Row.tl (Row.tl (Row.tl (Row.tl (Row.tl
-                    (Row.tl (Row.tl (Row.tl (Row.tl (Row.tl bs))))))))))),
+              ) (Way.w-look 𝓤 H A W E (Way.w-local 𝓤 H A W E G18 ρ u (G18 .slots) 8 (Declared'.row WindowPlan.the-type)
+              (Rows.whole (Declared'.row WindowPlan.the-type)) (λ x. x) (λ x. x) (u .1 .1 .1 .1 .1 .1 .1 .1 .0) (Local.mem-whole
+              𝓤 H A W (Declared'.row WindowPlan.the-type) ρ (u .1 .1 .1 .1 .1 .1 .1 .1 .0) (Row.hd 0 (Row.tl (Row.tl (Row.tl
+              (Row.tl (Row.tl (Row.tl (Row.tl (Row.tl bs)))))))))) (Local.whole-mem 𝓤 H A W
+              (Declared'.row WindowPlan.the-type) ρ (u .1 .1 .1 .1 .1 .1 .1 .1 .0) (Row.hd 0 (Row.tl (Row.tl (Row.tl
+              (Row.tl (Row.tl (Row.tl (Row.tl (Row.tl bs)))))))))))) Path.refl λ q. Inner.cut-record 𝓤 H A q
+              (Declared'.row WindowPlan.the-type) Outgoing.the-type 72 (u .1 .1 .1 .1 .1 .1 .1 .1 .0)
+              (u .1 .1 .1 .1 .1 .1 .1 .1 .0) (At.getAt (WindowPlan.the-type .parts) 5 (WindowPlan.struct .as-values
+              (u .1 .1 .1 .1 .1 .1 .1 .1 .0))) (At.getAt (WindowPlan.the-type .parts) 5 (WindowPlan.struct .as-values
+              (u .1 .1 .1 .1 .1 .1 .1 .1 .0))) (
+                Row.hd 0 (Row.tl (Row.tl (Row.tl (Row.tl (Row.tl (Row.tl (Row.tl (Row.tl bs)))))))),
                 0,
               ) (Behind.look-at 𝓤 H A W q WindowPlan.the-type Laws''.the-laws 5 72 Path.refl Path.refl (
-                Row.hd 0 (Row.tl (Row.tl (Row.tl (Row.tl (Row.tl (Row.tl
-                    (Row.tl (Row.tl (Row.tl (Row.tl (Row.tl bs))))))))))),
+                Row.hd 0 (Row.tl (Row.tl (Row.tl (Row.tl (Row.tl (Row.tl (Row.tl (Row.tl bs)))))))),
                 0,
-              ) (u .1 .1 .1 .1 .1 .1 .1 .1 .1 .1 .1 .0) (WindowPlan.struct .as-values
-              (u .1 .1 .1 .1 .1 .1 .1 .1 .1 .1 .1 .0)) Path.refl)) (Reads'.room-gone 𝓤 H A Laws'''.mir) (Yields.makes-mem
-              𝓤 H A W (λ ρ. Unit) (Declared'.row Outgoing.the-type) Path.refl
-              (Rows.whole (Declared'.row Outgoing.the-type)) (λ x. x) λ ρ told. Local.whole-mem 𝓤 H A W
-              (Declared'.row Outgoing.the-type) ρ) Path.refl Path.refl Path.refl) d30
+              ) (u .1 .1 .1 .1 .1 .1 .1 .1 .0) (WindowPlan.struct .as-values (u .1 .1 .1 .1 .1 .1 .1 .1 .0)) Path.refl))
+              (Reads'.room-gone 𝓤 H A Laws'''.mir) (Yields.makes-mem 𝓤 H A W (λ ρ. Unit)
+              (Declared'.row Outgoing.the-type) Path.refl (Rows.whole (Declared'.row Outgoing.the-type)) (λ x. x) λ ρ
+              told. Local.whole-mem 𝓤 H A W (Declared'.row Outgoing.the-type) ρ) Path.refl Path.refl Path.refl) d30
 
-          d32 : Typed.Typed 𝓤 H A 𝓣 E G16 b26 Δ0 (at32 bs)
-          d32 = Typed.s-seq 𝓤 H A W 𝓣 E G16 G17 b4 b25 Δ0 (Typed.pass T16 T17 (s15 bs)) (at31 bs) (CopyOut.t-copy-told
+          d32 : Typed.Typed 𝓤 H A 𝓣 E G17 b28 Δ0 (at32 bs)
+          d32 = Typed.s-seq 𝓤 H A W 𝓣 E G17 G18 b6 b27 Δ0 (Typed.pass T17 T18 (s16 bs)) (at31 bs) (CopyOut.t-copy-told
               𝓤 H A W E 𝓣 (Declared.row RelaySide.the-type) Path.refl
               (Laws'''''''''''.val RelaySide.the-type Laws''''.the-laws) (Laws'''''''''''.lawful RelaySide.the-type
-              Laws''''.the-laws 𝓤 H A W tt) (Laws'''''''''''.makes RelaySide.the-type Laws''''.the-plain 𝓤 H A) G16 13 (Scalar.oFld
-              11 ((Syntax.field 3) ∷ List.[]) Laws''''.mir 64 λ x. Laws'''''''''''.val RelaySide.the-type
+              Laws''''.the-laws 𝓤 H A W tt) (Laws'''''''''''.makes RelaySide.the-type Laws''''.the-plain 𝓤 H A) G17 12 (Scalar.oFld
+              8 ((Syntax.field 3) ∷ List.[]) Laws''''.mir 64 λ x. Laws'''''''''''.val RelaySide.the-type
               Laws''''.the-laws (WindowPlan.struct .as-values x .1 .1 .1 .0)) (λ m. WindowPlan.struct .as-values
-              (m .1 .1 .1 .1 .1 .1 .1 .1 .1 .1 .1 .0) .1 .1 .1 .0) (λ m. Laws''''''''''''.Is
-              (Declared'.row WindowPlan.the-type) (m .1 .1 .1 .1 .1 .1 .1 .1 .1 .1 .1 .0) (Laws'''''''''''''.vals
-              WindowPlan.the-type Laws''.the-laws (m .1 .1 .1 .1 .1 .1 .1 .1 .1 .1 .1 .0)))
-              (Reads'.room-gone 𝓤 H A Laws''''.mir) (
+              (m .1 .1 .1 .1 .1 .1 .1 .1 .0) .1 .1 .1 .0) (λ m. Laws''''''''''''.Is (Declared'.row WindowPlan.the-type)
+              (m .1 .1 .1 .1 .1 .1 .1 .1 .0) (Laws'''''''''''''.vals WindowPlan.the-type Laws''.the-laws
+              (m .1 .1 .1 .1 .1 .1 .1 .1 .0))) (Reads'.room-gone 𝓤 H A Laws''''.mir) (
                 Reads.reads-field 𝓤 H A W WindowPlan.the-type Laws''.the-laws 3 Laws''''.mir 64 Path.refl,
                 Path.refl,
-              ) Path.refl (λ ρ m. Make.tells-row 𝓤 H A W E ρ (Row.out 13 (G16 .locals)) m 11 (Laws''''''''''''.Is
-              (Declared'.row WindowPlan.the-type) (m .1 .1 .1 .1 .1 .1 .1 .1 .1 .1 .1 .0) (Laws'''''''''''''.vals
-              WindowPlan.the-type Laws''.the-laws (m .1 .1 .1 .1 .1 .1 .1 .1 .1 .1 .1 .0))) (Make.whole-is 𝓤 H A W E
+              ) Path.refl (λ ρ m. Make.tells-row 𝓤 H A W E ρ (Row.out 12 (G17 .locals)) m 8 (Laws''''''''''''.Is
+              (Declared'.row WindowPlan.the-type) (m .1 .1 .1 .1 .1 .1 .1 .1 .0) (Laws'''''''''''''.vals
+              WindowPlan.the-type Laws''.the-laws (m .1 .1 .1 .1 .1 .1 .1 .1 .0))) (Make.whole-is 𝓤 H A W E
               (Declared'.row WindowPlan.the-type) Path.refl (Laws'''''''''''''.val WindowPlan.the-type Laws''.the-laws) (Laws'''''''''''''.tells
-              WindowPlan.the-type Laws''.the-laws) ρ 11 (m .1 .1 .1 .1 .1 .1 .1 .1 .1 .1 .1 .0))) (λ m k wa. Path.refl)
-              λ m k wa. Laws'''''''''''''.owed WindowPlan.the-type Laws''.the-laws
-              (m .1 .1 .1 .1 .1 .1 .1 .1 .1 .1 .1 .0) (Laws'''''''''''''.vals WindowPlan.the-type Laws''.the-laws
-              (m .1 .1 .1 .1 .1 .1 .1 .1 .1 .1 .1 .0)) k .1 .1 .1 .0) d31
+              WindowPlan.the-type Laws''.the-laws) ρ 8 (m .1 .1 .1 .1 .1 .1 .1 .1 .0))) (λ m k wa. Path.refl) λ m k wa.
+              Laws'''''''''''''.owed WindowPlan.the-type Laws''.the-laws (m .1 .1 .1 .1 .1 .1 .1 .1 .0) (Laws'''''''''''''.vals
+              WindowPlan.the-type Laws''.the-laws (m .1 .1 .1 .1 .1 .1 .1 .1 .0)) k .1 .1 .1 .0) d31
 
-          d33 : Typed.Typed 𝓤 H A 𝓣 E G15 b27 Δ0 (at33 bs)
-          d33 = Typed.s-seq 𝓤 H A W 𝓣 E G15 G16 b3 b26 Δ0 (Typed.pass T14 T16 (s14 bs)) (at32 bs) (CopyOut.t-copy-told
+          d33 : Typed.Typed 𝓤 H A 𝓣 E G16 b29 Δ0 (at33 bs)
+          d33 = Typed.s-seq 𝓤 H A W 𝓣 E G16 G17 b5 b28 Δ0 (Typed.pass T16 T17 (s15 bs)) (at32 bs) (CopyOut.t-copy-told
               𝓤 H A W E 𝓣 (Declared.row HnsrAnswer.the-type) Path.refl
               (Laws'''''''''''.val HnsrAnswer.the-type Laws'.the-laws) (Laws'''''''''''.lawful HnsrAnswer.the-type
-              Laws'.the-laws 𝓤 H A W tt) (Laws'''''''''''.makes HnsrAnswer.the-type Laws'.the-plain 𝓤 H A) G15 12 (Scalar.oFld
-              11 ((Syntax.field 0) ∷ List.[]) Laws'.mir 0 λ x. Laws'''''''''''.val HnsrAnswer.the-type Laws'.the-laws
-              (WindowPlan.struct .as-values x .0)) (λ m. WindowPlan.struct .as-values
-              (m .1 .1 .1 .1 .1 .1 .1 .1 .1 .1 .1 .0) .0) (λ m. Laws''''''''''''.Is (Declared'.row WindowPlan.the-type)
-              (m .1 .1 .1 .1 .1 .1 .1 .1 .1 .1 .1 .0) (Laws'''''''''''''.vals WindowPlan.the-type Laws''.the-laws
-              (m .1 .1 .1 .1 .1 .1 .1 .1 .1 .1 .1 .0))) (Reads'.room-gone 𝓤 H A Laws'.mir) (
+              Laws'.the-laws 𝓤 H A W tt) (Laws'''''''''''.makes HnsrAnswer.the-type Laws'.the-plain 𝓤 H A) G16 11 (Scalar.oFld
+              8 ((Syntax.field 0) ∷ List.[]) Laws'.mir 0 λ x. Laws'''''''''''.val HnsrAnswer.the-type Laws'.the-laws
+              (WindowPlan.struct .as-values x .0)) (λ m. WindowPlan.struct .as-values (m .1 .1 .1 .1 .1 .1 .1 .1 .0) .0) (λ
+              m. Laws''''''''''''.Is (Declared'.row WindowPlan.the-type) (m .1 .1 .1 .1 .1 .1 .1 .1 .0) (Laws'''''''''''''.vals
+              WindowPlan.the-type Laws''.the-laws (m .1 .1 .1 .1 .1 .1 .1 .1 .0))) (Reads'.room-gone 𝓤 H A Laws'.mir) (
                 Reads.reads-field 𝓤 H A W WindowPlan.the-type Laws''.the-laws 0 Laws'.mir 0 Path.refl,
                 Path.refl,
-              ) Path.refl (λ ρ m. Make.tells-row 𝓤 H A W E ρ (Row.out 12 (G15 .locals)) m 11 (Laws''''''''''''.Is
-              (Declared'.row WindowPlan.the-type) (m .1 .1 .1 .1 .1 .1 .1 .1 .1 .1 .1 .0) (Laws'''''''''''''.vals
-              WindowPlan.the-type Laws''.the-laws (m .1 .1 .1 .1 .1 .1 .1 .1 .1 .1 .1 .0))) (Make.whole-is 𝓤 H A W E
+              ) Path.refl (λ ρ m. Make.tells-row 𝓤 H A W E ρ (Row.out 11 (G16 .locals)) m 8 (Laws''''''''''''.Is
+              (Declared'.row WindowPlan.the-type) (m .1 .1 .1 .1 .1 .1 .1 .1 .0) (Laws'''''''''''''.vals
+              WindowPlan.the-type Laws''.the-laws (m .1 .1 .1 .1 .1 .1 .1 .1 .0))) (Make.whole-is 𝓤 H A W E
               (Declared'.row WindowPlan.the-type) Path.refl (Laws'''''''''''''.val WindowPlan.the-type Laws''.the-laws) (Laws'''''''''''''.tells
-              WindowPlan.the-type Laws''.the-laws) ρ 11 (m .1 .1 .1 .1 .1 .1 .1 .1 .1 .1 .1 .0))) (λ m k wa. Path.refl)
-              λ m k wa. Laws'''''''''''''.owed WindowPlan.the-type Laws''.the-laws
-              (m .1 .1 .1 .1 .1 .1 .1 .1 .1 .1 .1 .0) (Laws'''''''''''''.vals WindowPlan.the-type Laws''.the-laws
-              (m .1 .1 .1 .1 .1 .1 .1 .1 .1 .1 .1 .0)) k .0) d32
+              WindowPlan.the-type Laws''.the-laws) ρ 8 (m .1 .1 .1 .1 .1 .1 .1 .1 .0))) (λ m k wa. Path.refl) λ m k wa.
+              Laws'''''''''''''.owed WindowPlan.the-type Laws''.the-laws (m .1 .1 .1 .1 .1 .1 .1 .1 .0) (Laws'''''''''''''.vals
+              WindowPlan.the-type Laws''.the-laws (m .1 .1 .1 .1 .1 .1 .1 .1 .0)) k .0) d32
 
-          d34 : Typed.Typed 𝓤 H A 𝓣 E G14 b27 Δ0 (at34 bs)
-          d34 = Typed.g-pre 𝓤 H A W 𝓣 E G14 G15 b27 Δ0 (λ Ψ. Ψ) (at33 bs)
-              (Lifetime.g-forget 𝓤 H A W E G14 5 Row.dead Path.refl) d33
+          d34 : Typed.Typed 𝓤 H A 𝓣 E G15 b29 Δ0 (at34 bs)
+          d34 = Typed.g-pre 𝓤 H A W 𝓣 E G15 G16 b29 Δ0 (Typed.pass T15 T16 (s14 bs)) (at33 bs) (Scalar.g-room 𝓤 H A W E
+              G15 4 Laws'''''''.mir (Local.room-whole 𝓤 H A W (Declared'.row Request.the-type) Laws'''''''.mir
+              Path.refl)) d33
 
-          d35 : Typed.Typed 𝓤 H A 𝓣 E G13 b27 Δ0 (at35 bs)
-          d35 = Typed.g-pre 𝓤 H A W 𝓣 E G13 G14 b27 Δ0 (Typed.pass T12 T14 (s12 bs)) (at34 bs) (Reshare.g-back-sl-shr 𝓤
-              H A W E InflightAction.row G13 2 1 5 ref5 life0 (λ x. x) (Reads'.as-is 𝓤 H A
-              (Reshare.mslice-owedS InflightAction.row ref5 1 5 life0)) Path.refl Path.refl) d34
+          d35 : Typed.Typed 𝓤 H A 𝓣 E G14 b30 Δ0 (at35 bs)
+          d35 = Typed.s-seq 𝓤 H A W 𝓣 E G14 G15 b4 b29 Δ0 (Typed.both (s13 bs)) (at34 bs) (WayStmt.t-way-copy-out 𝓤 H A
+              W E 𝓣 (Declared'.row Places.the-type) Path.refl (Copies.cStruct Places.the-type Laws'''''''''.the-laws
+              Laws'''''''''.the-copy .copy 𝓤 H A W) (λ ρ. Unit) G14 (Row.out 4 (G14 .locals))
+              (λ u. Row.drop 4 (G14 .locals) u) (G14 .slots) 4 (λ t. (Syntax.field 1) ∷ t) Laws'''''''''.mir
+              Laws'''''''''.mir 10 (Rows.whole (Declared'.row Places.the-type)) (λ x. x) (λ u. At.getAt
+              (Request.the-type .parts) 1 (Request.struct .as-values (u .1 .1 .1 .1 .0))) (λ u. (
+                Row.hd 0 (Row.tl (Row.tl (Row.tl (Row.tl bs)))),
+                Nat._+_ 0 160,
+              )) (λ T′. record {
+                locals = Row.setRow 4 (4, Rows.whole (Declared'.row Request.the-type)) T′;
+                slots = G14 .slots;
+              }) (λ u T′ m′. Row.set 4 (4, Rows.whole (Declared'.row Request.the-type)) (u .1 .1 .1 .1 .0) T′ m′)
+              (λ u. Unit) (λ x. Unit) (Own.told-none 𝓤 H A (G14 .slots)) (DerefMove.learns-nothing 𝓤 H A
+              (Declared'.row Places.the-type)) (λ ρ told u asked. Way'.w-partˢ 𝓤 H A W E
+              (Declared'.row Request.the-type) (Declared'.row Places.the-type) Laws'''''''.mir Laws'''''''''.mir 1 160
+              (u .1 .1 .1 .1 .0) (At.getAt (Request.the-type .parts) 1 (Request.struct .as-values (u .1 .1 .1 .1 .0)))
+              (Row.hd 0 (Row.tl (Row.tl (Row.tl (Row.tl bs)))), 0) (Way.w-look 𝓤 H A W E (Way.w-local 𝓤 H A W E G14 ρ u
+              (G14 .slots) 4 (Declared'.row Request.the-type) (Rows.whole (Declared'.row Request.the-type)) (λ x. x)
+              (λ x. x) (u .1 .1 .1 .1 .0) (Local.mem-whole 𝓤 H A W (Declared'.row Request.the-type) ρ
+              (u .1 .1 .1 .1 .0) (Row.hd 0 (Row.tl (Row.tl (Row.tl (Row.tl bs)))))) (Local.whole-mem 𝓤 H A W
+              (Declared'.row Request.the-type) ρ (u .1 .1 .1 .1 .0) (Row.hd 0 (Row.tl (Row.tl (Row.tl (Row.tl bs))))))))
+              Path.refl λ q. Inner.cut-record 𝓤 H A q (Declared'.row Request.the-type) Places.the-type 160
+              (u .1 .1 .1 .1 .0) (u .1 .1 .1 .1 .0) (At.getAt (Request.the-type .parts) 1
+              (Request.struct .as-values (u .1 .1 .1 .1 .0))) (At.getAt (Request.the-type .parts) 1
+              (Request.struct .as-values (u .1 .1 .1 .1 .0))) (Row.hd 0 (Row.tl (Row.tl (Row.tl (Row.tl bs)))), 0) (Behind.look-at
+              𝓤 H A W q Request.the-type Laws'''''''.the-laws 1 160 Path.refl Path.refl
+              (Row.hd 0 (Row.tl (Row.tl (Row.tl (Row.tl bs)))), 0) (u .1 .1 .1 .1 .0)
+              (Request.struct .as-values (u .1 .1 .1 .1 .0)) Path.refl)) (Reads'.room-gone 𝓤 H A Laws'''''''''.mir) (Yields.makes-mem
+              𝓤 H A W (λ ρ. Unit) (Declared'.row Places.the-type) Path.refl
+              (Rows.whole (Declared'.row Places.the-type)) (λ x. x) λ ρ told. Local.whole-mem 𝓤 H A W
+              (Declared'.row Places.the-type) ρ) Path.refl Path.refl Path.refl) d34
 
-          d36 : Typed.Typed 𝓤 H A 𝓣 E G12 b27 Δ0 (at36 bs)
-          d36 = Typed.g-pre 𝓤 H A W 𝓣 E G12 G13 b27 Δ0 (λ Ψ. Ψ) (at35 bs) (Lifetime.g-end 𝓤 H A W E G12 5 Path.refl)
-              d35
+          d36 : Typed.Typed 𝓤 H A 𝓣 E G13 b31 Δ0 (at36 bs)
+          d36 = Typed.s-seq 𝓤 H A W 𝓣 E G13 G14 b3 b30 Δ0 (Typed.both (s12 bs)) (at35 bs) (WayStmt.t-way-copy-out 𝓤 H A
+              W E 𝓣 (Declared'.row OpaqueRelayRuntime.the-type) Path.refl (Copies.cStruct OpaqueRelayRuntime.the-type
+              Laws'''''.the-laws Laws'''''.the-copy .copy 𝓤 H A W) (λ ρ. Unit) G13 (Row.out 4 (G13 .locals))
+              (λ u. Row.drop 4 (G13 .locals) u) (G13 .slots) 4 (λ t. (Syntax.field 0) ∷ t) Laws'''''.mir Laws'''''.mir
+              9 (Rows.whole (Declared'.row OpaqueRelayRuntime.the-type)) (λ x. x) (λ u. At.getAt
+              (Request.the-type .parts) 0 (Request.struct .as-values (u .1 .1 .1 .1 .0))) (λ u. (
+                Row.hd 0 (Row.tl (Row.tl (Row.tl (Row.tl bs)))),
+                Nat._+_ 0 0,
+              )) (λ T′. record {
+                locals = Row.setRow 4 (4, Rows.whole (Declared'.row Request.the-type)) T′;
+                slots = G13 .slots;
+              }) (λ u T′ m′. Row.set 4 (4, Rows.whole (Declared'.row Request.the-type)) (u .1 .1 .1 .1 .0) T′ m′)
+              (λ u. Unit) (λ x. Unit) (Own.told-none 𝓤 H A (G13 .slots)) (DerefMove.learns-nothing 𝓤 H A
+              (Declared'.row OpaqueRelayRuntime.the-type)) (λ ρ told u asked. Way'.w-partˢ 𝓤 H A W E
+              (Declared'.row Request.the-type) (Declared'.row OpaqueRelayRuntime.the-type) Laws'''''''.mir
+              Laws'''''.mir 0 0 (u .1 .1 .1 .1 .0) (At.getAt (Request.the-type .parts) 0
+              (Request.struct .as-values (u .1 .1 .1 .1 .0))) (Row.hd 0 (Row.tl (Row.tl (Row.tl (Row.tl bs)))), 0) (Way.w-look
+              𝓤 H A W E (Way.w-local 𝓤 H A W E G13 ρ u (G13 .slots) 4 (Declared'.row Request.the-type)
+              (Rows.whole (Declared'.row Request.the-type)) (λ x. x) (λ x. x) (u .1 .1 .1 .1 .0) (Local.mem-whole 𝓤 H A
+              W (Declared'.row Request.the-type) ρ (u .1 .1 .1 .1 .0) (Row.hd 0 (Row.tl (Row.tl (Row.tl (Row.tl bs)))))) (Local.whole-mem
+              𝓤 H A W (Declared'.row Request.the-type) ρ (u .1 .1 .1 .1 .0)
+              (Row.hd 0 (Row.tl (Row.tl (Row.tl (Row.tl bs)))))))) Path.refl λ q. Inner.cut-record 𝓤 H A q
+              (Declared'.row Request.the-type) OpaqueRelayRuntime.the-type 0 (u .1 .1 .1 .1 .0) (u .1 .1 .1 .1 .0) (At.getAt
+              (Request.the-type .parts) 0 (Request.struct .as-values (u .1 .1 .1 .1 .0))) (At.getAt
+              (Request.the-type .parts) 0 (Request.struct .as-values (u .1 .1 .1 .1 .0)))
+              (Row.hd 0 (Row.tl (Row.tl (Row.tl (Row.tl bs)))), 0) (Behind.look-at 𝓤 H A W q Request.the-type
+              Laws'''''''.the-laws 0 0 Path.refl Path.refl (Row.hd 0 (Row.tl (Row.tl (Row.tl (Row.tl bs)))), 0)
+              (u .1 .1 .1 .1 .0) (Request.struct .as-values (u .1 .1 .1 .1 .0)) Path.refl))
+              (Reads'.room-gone 𝓤 H A Laws'''''.mir) (Yields.makes-mem 𝓤 H A W (λ ρ. Unit)
+              (Declared'.row OpaqueRelayRuntime.the-type) Path.refl
+              (Rows.whole (Declared'.row OpaqueRelayRuntime.the-type)) (λ x. x) λ ρ told. Local.whole-mem 𝓤 H A W
+              (Declared'.row OpaqueRelayRuntime.the-type) ρ) Path.refl Path.refl Path.refl) d35
 
-          d37 : Typed.Typed 𝓤 H A 𝓣 E G11 b27 Δ0 (at37 bs)
-          d37 = Typed.g-pre 𝓤 H A W 𝓣 E G11 G12 b27 Δ0 (Typed.pass T11 T12 (s10 bs)) (at36 bs) (Scalar.g-room 𝓤 H A W E
-              G11 8 Laws''''''''.mir (Local.room-whole 𝓤 H A W (Declared'.row CircuitFound.the-type) Laws''''''''.mir
-              Path.refl)) d36
+          d37 : Typed.Typed 𝓤 H A 𝓣 E G12 b31 Δ0 (at37 bs)
+          d37 = Typed.g-pre 𝓤 H A W 𝓣 E G12 G13 b31 Δ0 (λ Ψ. Ψ) (at36 bs)
+              (Lifetime.g-forget 𝓤 H A W E G12 4 Row.dead Path.refl) d36
 
-          d38 : Typed.Typed 𝓤 H A 𝓣 E G10 b27 Δ0 (at38 bs)
-          d38 = Typed.g-pre 𝓤 H A W 𝓣 E G10 G11 b27 Δ0 (Typed.pass T10 T11 (s9 bs)) (at37 bs) (Scalar.g-room 𝓤 H A W E
-              G10 7 Laws.mir (Local.room-whole 𝓤 H A W (Declared'.row WindowRead.the-type) Laws.mir Path.refl)) d37
+          d38 : Typed.Typed 𝓤 H A 𝓣 E G11 b31 Δ0 (at38 bs)
+          d38 = Typed.g-pre 𝓤 H A W 𝓣 E G11 G12 b31 Δ0 (Typed.pass T10 T12 (s10 bs)) (at37 bs) (Reshare.g-back-sl-shr 𝓤
+              H A W E InflightAction.row G11 2 1 4 ref5 life0 (λ x. x) (Reads'.as-is 𝓤 H A
+              (Reshare.mslice-owedS InflightAction.row ref5 1 4 life0)) Path.refl Path.refl) d37
 
-          d39 : Typed.Typed 𝓤 H A 𝓣 E G9 b27 Δ0 (at39 bs)
-          d39 = Typed.g-pre 𝓤 H A W 𝓣 E G9 G10 b27 Δ0 (Typed.pass T9 T10 (s8 bs)) (at38 bs) (Scalar.g-room 𝓤 H A W E G9
-              6 Laws''''''.mir (Local.room-whole 𝓤 H A W (Declared'.row RelayPacket.the-type) Laws''''''.mir Path.refl))
+          d39 : Typed.Typed 𝓤 H A 𝓣 E G10 b31 Δ0 (at39 bs)
+          d39 = Typed.g-pre 𝓤 H A W 𝓣 E G10 G11 b31 Δ0 (λ Ψ. Ψ) (at38 bs) (Lifetime.g-end 𝓤 H A W E G10 4 Path.refl)
               d38
 
-          d40 : Typed.Typed 𝓤 H A 𝓣 E G8 b27 Δ0 (at40 bs)
-          d40 = Typed.g-pre 𝓤 H A W 𝓣 E G8 G9 b27 Δ0 (Typed.pass T8 T9 (s7 bs)) (at39 bs) (Scalar.g-room 𝓤 H A W E G8
-              17 slice0 (Shared.room-sslice 𝓤 H A W InflightAction.row ref0 5)) d39
+          d40 : Typed.Typed 𝓤 H A 𝓣 E G9 b31 Δ0 (at40 bs)
+          d40 = Typed.g-pre 𝓤 H A W 𝓣 E G9 G10 b31 Δ0 (Typed.pass T9 T10 (s8 bs)) (at39 bs) (Scalar.g-room 𝓤 H A W E G9
+              6 Laws''''''''.mir (Local.room-whole 𝓤 H A W (Declared'.row CircuitFound.the-type) Laws''''''''.mir
+              Path.refl)) d39
 
-          d41 : Typed.Typed 𝓤 H A 𝓣 E G7 b28 Δ0 (at41 bs)
-          d41 = Typed.s-seq 𝓤 H A W 𝓣 E G7 G8 b2 b27 Δ0 (Typed.both (s6 bs)) (at40 bs) (Plain.t-call-plain 𝓤 H A W 𝓣 2
+          d41 : Typed.Typed 𝓤 H A 𝓣 E G8 b31 Δ0 (at41 bs)
+          d41 = Typed.g-pre 𝓤 H A W 𝓣 E G8 G9 b31 Δ0 (Typed.pass T8 T9 (s7 bs)) (at40 bs) (Scalar.g-room 𝓤 H A W E G8 5
+              Laws.mir (Local.room-whole 𝓤 H A W (Declared'.row WindowRead.the-type) Laws.mir Path.refl)) d40
+
+          d42 : Typed.Typed 𝓤 H A 𝓣 E G7 b31 Δ0 (at42 bs)
+          d42 = Typed.g-pre 𝓤 H A W 𝓣 E G7 G8 b31 Δ0 (Typed.pass T7 T8 (s6 bs)) (at41 bs) (Scalar.g-room 𝓤 H A W E G7
+              16 slice0 (Shared.room-sslice 𝓤 H A W InflightAction.row ref0 4)) d41
+
+          d43 : Typed.Typed 𝓤 H A 𝓣 E G6 b32 Δ0 (at43 bs)
+          d43 = Typed.s-seq 𝓤 H A W 𝓣 E G6 G7 b2 b31 Δ0 (Typed.both (s5 bs)) (at42 bs) (Plain.t-call-plain 𝓤 H A W 𝓣 1
               ps·0 r·0 (claims· .0) (claims· .1) "hnsr_circuit::messages::handle_window::plan_window" (known .0) E
-              (λ pos β. β) G7 (
-                record { pos = 17; ty = ref0; ref = λ x. x },
+              (λ pos β. β) G6 (
+                record { pos = 16; ty = ref0; ref = λ x. x },
                 (
                   record { pos = 4; st = List.[]; d = 0; at = λ x. x },
                   (
                     record { pos = 5; st = List.[]; d = 0; at = λ x. x },
-                    (
-                      record { pos = 6; st = List.[]; d = 0; at = λ x. x },
-                      (
-                        record { pos = 7; st = List.[]; d = 0; at = λ x. x },
-                        (
-                          record { pos = 8; st = List.[]; d = 0; at = λ x. x },
-                          (record { pos = 9; ty = ref7; ref = λ x. x }, tt),
-                        ),
-                      ),
-                    ),
+                    (record { pos = 6; st = List.[]; d = 0; at = λ x. x }, tt),
                   ),
                 ),
-              ) 11 (5 ∷ 3 ∷ List.[]) (Call.sub-id 𝓤 H A W (G7 .slots)) (
-                ShrSlice.spares-sslice 𝓤 H A W InflightAction.row ref0 5,
-                Shared.reads-sslice 𝓤 H A W InflightAction.row ref0 5,
+              ) 8 (4 ∷ List.[]) (Call.sub-id 𝓤 H A W (G6 .slots)) (
+                ShrSlice.spares-sslice 𝓤 H A W InflightAction.row ref0 4,
+                Shared.reads-sslice 𝓤 H A W InflightAction.row ref0 4,
                 Path.refl,
                 (
                   (
-                    Yields.yields-copy 𝓤 H A W (λ ρ. Unit) (Declared'.row OpaqueRelayRuntime.the-type) Path.refl (Copies.cStruct
-                        OpaqueRelayRuntime.the-type Laws'''''.the-laws Laws'''''.the-copy .copy 𝓤 H A W)
-                        (Rows.whole (Declared'.row OpaqueRelayRuntime.the-type)) (λ x. x) (λ x. x) (λ ρ told.
-                        Local.mem-whole 𝓤 H A W (Declared'.row OpaqueRelayRuntime.the-type) ρ) λ ρ told.
-                        Local.whole-mem 𝓤 H A W (Declared'.row OpaqueRelayRuntime.the-type) ρ,
+                    Yields.yields-copy 𝓤 H A W (λ ρ. Unit) (Declared'.row Request.the-type) Path.refl (Copies.cStruct
+                        Request.the-type Laws'''''''.the-laws Laws'''''''.the-copy .copy 𝓤 H A W)
+                        (Rows.whole (Declared'.row Request.the-type)) (λ x. x) (λ x. x) (λ ρ told. Local.mem-whole 𝓤 H
+                        A W (Declared'.row Request.the-type) ρ) λ ρ told. Local.whole-mem 𝓤 H A W
+                        (Declared'.row Request.the-type) ρ,
                     Path.refl,
                   ),
                   (
                     (
-                      Yields.yields-copy 𝓤 H A W (λ ρ. Unit) (Declared'.row Places.the-type) Path.refl (Copies.cStruct
-                          Places.the-type Laws'''''''''.the-laws Laws'''''''''.the-copy .copy 𝓤 H A W)
-                          (Rows.whole (Declared'.row Places.the-type)) (λ x. x) (λ x. x) (λ ρ told. Local.mem-whole 𝓤 H
-                          A W (Declared'.row Places.the-type) ρ) λ ρ told. Local.whole-mem 𝓤 H A W
-                          (Declared'.row Places.the-type) ρ,
+                      Yields.yields-copy 𝓤 H A W (λ ρ. Unit) (Declared'.row WindowRead.the-type) Path.refl (Copies.cStruct
+                          WindowRead.the-type Laws.the-laws Laws.the-copy .copy 𝓤 H A W)
+                          (Rows.whole (Declared'.row WindowRead.the-type)) (λ x. x) (λ x. x) (λ ρ told. Local.mem-whole
+                          𝓤 H A W (Declared'.row WindowRead.the-type) ρ) λ ρ told. Local.whole-mem 𝓤 H A W
+                          (Declared'.row WindowRead.the-type) ρ,
                       Path.refl,
                     ),
                     (
                       (
-                        Yields.yields-copy 𝓤 H A W (λ ρ. Unit) (Declared'.row RelayPacket.the-type) Path.refl (Copies.cStruct
-                            RelayPacket.the-type Laws''''''.the-laws Laws''''''.the-copy .copy 𝓤 H A W)
-                            (Rows.whole (Declared'.row RelayPacket.the-type)) (λ x. x) (λ x. x) (λ ρ told.
-                            Local.mem-whole 𝓤 H A W (Declared'.row RelayPacket.the-type) ρ) λ ρ told. Local.whole-mem 𝓤
-                            H A W (Declared'.row RelayPacket.the-type) ρ,
+                        Yields.yields-copy 𝓤 H A W (λ ρ. Unit) (Declared'.row CircuitFound.the-type) Path.refl (Copies.cStruct
+                            CircuitFound.the-type Laws''''''''.the-laws Laws''''''''.the-copy .copy 𝓤 H A W)
+                            (Rows.whole (Declared'.row CircuitFound.the-type)) (λ x. x) (λ x. x) (λ ρ told.
+                            Local.mem-whole 𝓤 H A W (Declared'.row CircuitFound.the-type) ρ) λ ρ told. Local.whole-mem
+                            𝓤 H A W (Declared'.row CircuitFound.the-type) ρ,
                         Path.refl,
                       ),
-                      (
-                        (
-                          Yields.yields-copy 𝓤 H A W (λ ρ. Unit) (Declared'.row WindowRead.the-type) Path.refl (Copies.cStruct
-                              WindowRead.the-type Laws.the-laws Laws.the-copy .copy 𝓤 H A W)
-                              (Rows.whole (Declared'.row WindowRead.the-type)) (λ x. x) (λ x. x) (λ ρ told.
-                              Local.mem-whole 𝓤 H A W (Declared'.row WindowRead.the-type) ρ) λ ρ told. Local.whole-mem
-                              𝓤 H A W (Declared'.row WindowRead.the-type) ρ,
-                          Path.refl,
-                        ),
-                        (
-                          (
-                            Yields.yields-copy 𝓤 H A W (λ ρ. Unit) (Declared'.row CircuitFound.the-type) Path.refl (Copies.cStruct
-                                CircuitFound.the-type Laws''''''''.the-laws Laws''''''''.the-copy .copy 𝓤 H A W)
-                                (Rows.whole (Declared'.row CircuitFound.the-type)) (λ x. x) (λ x. x) (λ ρ told.
-                                Local.mem-whole 𝓤 H A W (Declared'.row CircuitFound.the-type) ρ) λ ρ told.
-                                Local.whole-mem 𝓤 H A W (Declared'.row CircuitFound.the-type) ρ,
-                            Path.refl,
-                          ),
-                          (
-                            ShrSlice.spares-sslice 𝓤 H A W (Referent.rtF (Referent.fInt Syntax.w8)) ref7 3,
-                            Shared.reads-sslice 𝓤 H A W (Referent.rtF (Referent.fInt Syntax.w8)) ref7 3,
-                            Path.refl,
-                            tt,
-                          ),
-                        ),
-                      ),
+                      tt,
                     ),
                   ),
                 ),
-              ) (Reads'.room-gone 𝓤 H A Laws''.mir) (tt, (tt, tt)) Path.refl) d40
+              ) (Reads'.room-gone 𝓤 H A Laws''.mir) (tt, tt) Path.refl) d42
 
-          d42 : Typed.Typed 𝓤 H A 𝓣 E G6 b29 Δ0 (at42 bs)
-          d42 = Typed.s-seq 𝓤 H A W 𝓣 E G6 G7 b1 b28 Δ0 (Typed.ask (s5 bs)) (at41 bs) (Relend.t-sl-aggregate 𝓤 H A W E
-              InflightAction.row 𝓣 (Relend.asShr InflightAction.row) G6 16 17 5 ref0 ref0 (λ x. x) (Scalar.oFld 2
+          d44 : Typed.Typed 𝓤 H A 𝓣 E G5 b33 Δ0 (at44 bs)
+          d44 = Typed.s-seq 𝓤 H A W 𝓣 E G5 G6 b1 b32 Δ0 (Typed.ask (s4 bs)) (at43 bs) (Relend.t-sl-aggregate 𝓤 H A W E
+              InflightAction.row 𝓣 (Relend.asShr InflightAction.row) G5 15 16 4 ref0 ref0 (λ x. x) (Scalar.oFld 2
               ((Syntax.field 1) ∷ List.[]) (Syntax.tyInt Syntax.w64) 8 λ v. Shared.lenV (v .0)) (Reads'.as-is 𝓤 H A
-              (Relend.ssptr InflightAction.row ref0 5)) (Reads'.room-gone 𝓤 H A slice0) (
-                Reshare.reads-owedS-len 𝓤 H A W InflightAction.row ref5 1 5 life0 8 Path.refl,
+              (Relend.ssptr InflightAction.row ref0 4)) (Reads'.room-gone 𝓤 H A slice0) (
+                Reshare.reads-owedS-len 𝓤 H A W InflightAction.row ref5 1 4 life0 8 Path.refl,
                 Path.refl,
-              ) Path.refl Path.refl λ b o k. tt) d41
+              ) Path.refl Path.refl λ b o k. tt) d43
 
-          d43 : Typed.Typed 𝓤 H A 𝓣 E G5 b30 Δ0 (at43 bs)
-          d43 = Typed.s-seq 𝓤 H A W 𝓣 E G5 G6 b0 b29 Δ0 (Typed.give (s4 bs)) (at42 bs) (Reshare.t-sl-reshare 𝓤 H A W E
-              InflightAction.row 𝓣 G5 2 16 1 5 ref5 ref0 life0 0 (λ x. x)
+          d45 : Typed.Typed 𝓤 H A 𝓣 E G4 b34 Δ0 (at45 bs)
+          d45 = Typed.s-seq 𝓤 H A W 𝓣 E G4 G5 b0 b33 Δ0 (Typed.give (s3 bs)) (at44 bs) (Reshare.t-sl-reshare 𝓤 H A W E
+              InflightAction.row 𝓣 G4 2 15 1 4 ref5 ref0 life0 0 (λ x. x)
               (Reads'.as-is 𝓤 H A (Mut.mslice InflightAction.row ref5 1)) (Reads'.room-gone 𝓤 H A ref0) Path.refl tt
-              Path.refl Path.refl Path.refl λ b o. tt) d42
+              Path.refl Path.refl Path.refl λ b o. tt) d44
 
-          d44 : Typed.Typed 𝓤 H A 𝓣 E G4 b30 Δ0 (at44 bs)
-          d44 = Typed.g-pre 𝓤 H A W 𝓣 E G4 G5 b30 Δ0 (λ Ψ. Ψ) (at43 bs) (Lifetime.g-begin 𝓤 H A W E G4 5 (
+          d46 : Typed.Typed 𝓤 H A 𝓣 E G3 b34 Δ0 (at46 bs)
+          d46 = Typed.g-pre 𝓤 H A W 𝓣 E G3 G4 b34 Δ0 (λ Ψ. Ψ) (at45 bs) (Lifetime.g-begin 𝓤 H A W E G3 4 (
             tt,
             (
               tt,
@@ -2105,10 +2130,7 @@ module _ (claims· : Claims) where
                             tt,
                             (
                               tt,
-                              (
-                                tt,
-                                (tt, (tt, (tt, (tt, (tt, (tt, (tt, (tt, (tt, (tt, (tt, (tt, (tt, (tt, tt)))))))))))))),
-                              ),
+                              (tt, (tt, (tt, (tt, (tt, (tt, (tt, (tt, (tt, (tt, (tt, (tt, (tt, (tt, tt)))))))))))))),
                             ),
                           ),
                         ),
@@ -2118,67 +2140,51 @@ module _ (claims· : Claims) where
                 ),
               ),
             ),
-          )) d43
+          )) d45
 
-          d45 : Typed.Typed 𝓤 H A 𝓣 E G3 b30 Δ0 (at45 bs)
-          d45 = Typed.g-pre 𝓤 H A W 𝓣 E G3 G4 b30 Δ0 (Typed.give (s2 bs)) (at44 bs) (Know.g-shs-known 𝓤 H A W
-              (Referent.fInt Syntax.w8) E G3 10 4 ref8 life4 0 (λ x. x) record { fits = Dec.lit< tt } (Reads'.as-is 𝓤 H
-              A (Rows.sslice (Referent.rtF (Referent.fInt Syntax.w8)) ref8 4)) Path.refl tt) d44
+          d47 : Typed.Typed 𝓤 H A 𝓣 E G2 b34 Δ0 (at47 bs)
+          d47 = Typed.g-pre 𝓤 H A W 𝓣 E G2 G3 b34 Δ0 (Typed.give (s1 bs)) (at46 bs) (Know.g-shs-known 𝓤 H A W
+              (Referent.fInt Syntax.w8) E G2 7 3 ref7 life3 0 (λ x. x) record { fits = Dec.lit< tt } (Reads'.as-is 𝓤 H
+              A (Rows.sslice (Referent.rtF (Referent.fInt Syntax.w8)) ref7 3)) Path.refl tt) d46
 
-          d46 : Typed.Typed 𝓤 H A 𝓣 E G2 b30 Δ0 (at46 bs)
-          d46 = Typed.g-pre 𝓤 H A W 𝓣 E G2 G3 b30 Δ0 (Typed.give (s1 bs)) (at45 bs) (Know.g-shs-known 𝓤 H A W
-              (Referent.fInt Syntax.w8) E G2 9 3 ref7 life3 0 (λ x. x) record { fits = Dec.lit< tt } (Reads'.as-is 𝓤 H
-              A (Rows.sslice (Referent.rtF (Referent.fInt Syntax.w8)) ref7 3)) Path.refl tt) d45
-
-          d47 : Typed.Typed 𝓤 H A 𝓣 E G0 b30 Δ0 (at47 bs)
-          d47 = Typed.g-pre 𝓤 H A W 𝓣 E G0 G2 b30 Δ0 (Typed.give (s0 bs)) (at46 bs) (Know.g-sl-known 𝓤 H A W
+          d48 : Typed.Typed 𝓤 H A 𝓣 E G0 b34 Δ0 (at48 bs)
+          d48 = Typed.g-pre 𝓤 H A W 𝓣 E G0 G2 b34 Δ0 (Typed.give (s0 bs)) (at47 bs) (Know.g-sl-known 𝓤 H A W
               (Referent.fInt Syntax.w32) E G0 3 2 ref6 life2 0 (λ x. x) record { fits = Dec.lit< tt } (Reads'.as-is 𝓤 H
-              A (Mut.mslice (Referent.rtF (Referent.fInt Syntax.w32)) ref6 2)) Path.refl tt) d46
+              A (Mut.mslice (Referent.rtF (Referent.fInt Syntax.w32)) ref6 2)) Path.refl tt) d47
 
-          pub typed : Typed.Typed 𝓤 H A 𝓣 E (Function.Γin 5 ps r xs m κs qs) b30 (Function.Δret 5 ps r xs m κs qs)
+          pub typed : Typed.Typed 𝓤 H A 𝓣 E (Function.Γin 4 ps r xs m κs qs) b34 (Function.Δret 4 ps r xs m κs qs)
               (Φ bs)
-          typed = d47
+          typed = d48
 
-      module _ (κs : Lifetimes.Lfts 5) where
+      module _ (κs : Lifetimes.Lfts 4) where
         pub record Args : Type 0 where
-          pub circuits : Kinds.Den {n = 5} κs (MutSlice.pMutS RelayCircuit.row 0 tt)
-          pub inflight : Kinds.Den {n = 5} κs (MutSlice.pMutS InflightAction.row 1 tt)
-          pub out : Kinds.Den {n = 5} κs (MutSlice.pMutS (Referent.rtF (Referent.fInt Syntax.w32)) 2 tt)
-          pub runtime : Kinds.Den {n = 5} κs (StructRow.param OpaqueRelayRuntime.the-type Laws'''''.the-laws
-              Laws'''''.the-copy Laws'''''.the-plain)
-          pub places : Kinds.Den {n = 5} κs (StructRow.param Places.the-type Laws'''''''''.the-laws
-              Laws'''''''''.the-copy Laws'''''''''.the-plain)
-          pub packet : Kinds.Den {n = 5} κs (StructRow.param RelayPacket.the-type Laws''''''.the-laws
-              Laws''''''.the-copy Laws''''''.the-plain)
-          pub read : Kinds.Den {n = 5} κs (StructRow.param WindowRead.the-type Laws.the-laws Laws.the-copy
+          pub circuits : Kinds.Den {n = 4} κs (MutSlice.pMutS RelayCircuit.row 0 tt)
+          pub inflight : Kinds.Den {n = 4} κs (MutSlice.pMutS InflightAction.row 1 tt)
+          pub out : Kinds.Den {n = 4} κs (MutSlice.pMutS (Referent.rtF (Referent.fInt Syntax.w32)) 2 tt)
+          pub request : Kinds.Den {n = 4} κs (StructRow.param Request.the-type Laws'''''''.the-laws
+              Laws'''''''.the-copy Laws'''''''.the-plain)
+          pub read : Kinds.Den {n = 4} κs (StructRow.param WindowRead.the-type Laws.the-laws Laws.the-copy
               Laws.the-plain)
-          pub named : Kinds.Den {n = 5} κs (StructRow.param CircuitFound.the-type Laws''''''''.the-laws
+          pub named : Kinds.Den {n = 4} κs (StructRow.param CircuitFound.the-type Laws''''''''.the-laws
               Laws''''''''.the-copy Laws''''''''.the-plain)
-          pub source : Kinds.Den {n = 5} κs (ShrSlice.pShrS (Referent.rtF (Referent.fInt Syntax.w8)) 3 tt)
-          pub body : Kinds.Den {n = 5} κs (ShrSlice.pShrS (Referent.rtF (Referent.fInt Syntax.w8)) 4 tt)
+          pub body : Kinds.Den {n = 4} κs (ShrSlice.pShrS (Referent.rtF (Referent.fInt Syntax.w8)) 3 tt)
 
         abbrev pub dens : (a : Args) → Kinds.Dens κs ps
-        dens = λ a. (
-          a .circuits,
-          (
-            a .inflight,
-            (a .out, (a .runtime, (a .places, (a .packet, (a .read, (a .named, (a .source, (a .body, tt)))))))),
-          ),
-        )
+        dens = λ a. (a .circuits, (a .inflight, (a .out, (a .request, (a .read, (a .named, (a .body, tt)))))))
 
-      abbrev pub m0 : (κs : Lifetimes.Lfts 5) → (args : Args κs) → (blocks : List.List Nat.ℕ) → Typed.Mo T0
+      abbrev pub m0 : (κs : Lifetimes.Lfts 4) → (args : Args κs) → (blocks : List.List Nat.ℕ) → Typed.Mo T0
       m0 = λ κs args blocks. (tt, Enter.partsP κs 1 ps xs (dens κs args))
 
-      abbrev W0 : (κs : Lifetimes.Lfts 5) → (args : Args κs) → (blocks : List.List Nat.ℕ) → Typed.Want O0
+      abbrev W0 : (κs : Lifetimes.Lfts 4) → (args : Args κs) → (blocks : List.List Nat.ℕ) → Typed.Want O0
       W0 = λ κs args blocks. (
         λ u. ⊥,
         tt,
         λ u. Enter.Fixs κs 1 ps xs (dens κs args) (u .1) × Post· κs (dens κs args) (Function.resV r κs (u .0)) (Clauses.atExit
-            (Kinds.endedOf 5 ps r) κs (dens κs args) (Enter.lastsP κs 1 ps xs (dens κs args) (u .1))),
+            (Kinds.endedOf 4 ps r) κs (dens κs args) (Enter.lastsP κs 1 ps xs (dens κs args) (u .1))),
       )
 
       pub record Start : Type 0 where
-        pub κs : Lifetimes.Lfts 5
+        pub κs : Lifetimes.Lfts 4
         pub args : Args κs
         pub blocks : List.List Nat.ℕ
         pub good : Kinds.GoodsP κs ps (dens κs args)
@@ -2208,510 +2214,507 @@ module _ (claims· : Claims) where
         pub before : After-slice-known
         pub shared-slice-known : After-shared-slice-known·own before
 
-      abbrev pub m3 : (before : After-shared-slice-known) → (given : s2 (before .before .before .blocks) .gives
-          (m2 (before .before) (before .shared-slice-known .given))) → Typed.Mo T4
-      m3 = λ before given. s2 (before .before .before .blocks) .next
+      abbrev pub m3 : (before : After-shared-slice-known) → (given : s3 (before .before .before .blocks) .gives
+          (m2 (before .before) (before .shared-slice-known .given))) → Typed.Mo T5
+      m3 = λ before given. s3 (before .before .before .blocks) .next
           (m2 (before .before) (before .shared-slice-known .given)) given
 
+      abbrev pub m4 : (before : After-shared-slice-known) → (given : s3 (before .before .before .blocks) .gives
+          (m2 (before .before) (before .shared-slice-known .given))) → Typed.Mo T6
+      m4 = λ before given. s4 (before .before .before .blocks) .next (m3 before given)
+
       module _ (before· : After-shared-slice-known) where
-        pub record After-shared-slice-known2·own : Type 0 where
-          pub given : s2 (before· .before .before .blocks) .gives
+        pub record After-plan-window-arg·own : Type 0 where
+          pub given : s3 (before· .before .before .blocks) .gives
               (m2 (before· .before) (before· .shared-slice-known .given))
 
-      pub record After-shared-slice-known2 : Type 0 where
-        pub before : After-shared-slice-known
-        pub shared-slice-known2 : After-shared-slice-known2·own before
-
-      abbrev pub m4 : (before : After-shared-slice-known2) → (given : s4 (before .before .before .before .blocks)
-          .gives (m3 (before .before) (before .shared-slice-known2 .given))) → Typed.Mo T6
-      m4 = λ before given. s4 (before .before .before .before .blocks) .next
-          (m3 (before .before) (before .shared-slice-known2 .given)) given
-
-      abbrev pub m5 : (before : After-shared-slice-known2) → (given : s4 (before .before .before .before .blocks)
-          .gives (m3 (before .before) (before .shared-slice-known2 .given))) → Typed.Mo T7
-      m5 = λ before given. s5 (before .before .before .before .blocks) .next (m4 before given)
-
-      module _ (before· : After-shared-slice-known2) where
-        pub record After-plan-window-arg·own : Type 0 where
-          pub given : s4 (before· .before .before .before .blocks) .gives (m3 (before· .before)
-              (before· .shared-slice-known2 .given))
-
       pub record After-plan-window-arg : Type 0 where
-        pub before : After-shared-slice-known2
+        pub before : After-shared-slice-known
         pub plan-window-arg : After-plan-window-arg·own before
 
       abbrev pub Need-plan-window-requires : Type 0
-      Need-plan-window-requires = (c : After-plan-window-arg) → s6 (c .before .before .before .before .blocks) .asks
-          (m5 (c .before) (c .plan-window-arg .given))
+      Need-plan-window-requires = (c : After-plan-window-arg) → s5 (c .before .before .before .blocks) .asks
+          (m4 (c .before) (c .plan-window-arg .given))
 
-      abbrev pub m6 : (before : After-plan-window-arg) → (given : s6 (before .before .before .before .before .blocks)
-          .gives (m5 (before .before) (before .plan-window-arg .given))) → Typed.Mo T8
-      m6 = λ before given. s6 (before .before .before .before .before .blocks) .next
-          (m5 (before .before) (before .plan-window-arg .given)) given
+      abbrev pub m5 : (before : After-plan-window-arg) → (given : s5 (before .before .before .before .blocks) .gives
+          (m4 (before .before) (before .plan-window-arg .given))) → Typed.Mo T7
+      m5 = λ before given. s5 (before .before .before .before .blocks) .next
+          (m4 (before .before) (before .plan-window-arg .given)) given
 
       module _ (before· : After-plan-window-arg) where
         abbrev pub After-plan-window·own : Type 0
-        After-plan-window·own = Called.Called ps·0 r·0 (claims· .1) T7 (
-          record { pos = 17; ty = ref0; ref = λ x. x },
+        After-plan-window·own = Called.Called ps·0 r·0 (claims· .1) T6 (
+          record { pos = 16; ty = ref0; ref = λ x. x },
           (
             record { pos = 4; st = List.[]; d = 0; at = λ x. x },
             (
               record { pos = 5; st = List.[]; d = 0; at = λ x. x },
-              (
-                record { pos = 6; st = List.[]; d = 0; at = λ x. x },
-                (
-                  record { pos = 7; st = List.[]; d = 0; at = λ x. x },
-                  (
-                    record { pos = 8; st = List.[]; d = 0; at = λ x. x },
-                    (record { pos = 9; ty = ref7; ref = λ x. x }, tt),
-                  ),
-                ),
-              ),
+              (record { pos = 6; st = List.[]; d = 0; at = λ x. x }, tt),
             ),
           ),
-        ) (m5 (before· .before) (before· .plan-window-arg .given))
+        ) (m4 (before· .before) (before· .plan-window-arg .given))
 
       pub record After-plan-window : Type 0 where
         pub before : After-plan-window-arg
         pub plan-window : After-plan-window·own before
 
-      abbrev pub After-plan-window·gave : (c : After-plan-window) → s6
-          (c .before .before .before .before .before .blocks) .gives (m5 (c .before .before)
-          (c .before .plan-window-arg .given))
-      After-plan-window·gave = λ c. Called.given ps·0 r·0 (claims· .1) T7 (
-        record { pos = 17; ty = ref0; ref = λ x. x },
+      abbrev pub After-plan-window·gave : (c : After-plan-window) → s5 (c .before .before .before .before .blocks)
+          .gives (m4 (c .before .before) (c .before .plan-window-arg .given))
+      After-plan-window·gave = λ c. Called.given ps·0 r·0 (claims· .1) T6 (
+        record { pos = 16; ty = ref0; ref = λ x. x },
         (
           record { pos = 4; st = List.[]; d = 0; at = λ x. x },
           (
             record { pos = 5; st = List.[]; d = 0; at = λ x. x },
-            (
-              record { pos = 6; st = List.[]; d = 0; at = λ x. x },
-              (
-                record { pos = 7; st = List.[]; d = 0; at = λ x. x },
-                (
-                  record { pos = 8; st = List.[]; d = 0; at = λ x. x },
-                  (record { pos = 9; ty = ref7; ref = λ x. x }, tt),
-                ),
-              ),
-            ),
+            (record { pos = 6; st = List.[]; d = 0; at = λ x. x }, tt),
           ),
         ),
-      ) (m5 (c .before .before) (c .before .plan-window-arg .given)) (c .plan-window)
+      ) (m4 (c .before .before) (c .before .plan-window-arg .given)) (c .plan-window)
 
-      abbrev pub m7 : (before : After-plan-window-arg) → (given : s6 (before .before .before .before .before .blocks)
-          .gives (m5 (before .before) (before .plan-window-arg .given))) → Typed.Mo T9
-      m7 = λ before given. s7 (before .before .before .before .before .blocks) (m6 before given)
+      abbrev pub m6 : (before : After-plan-window-arg) → (given : s5 (before .before .before .before .blocks) .gives
+          (m4 (before .before) (before .plan-window-arg .given))) → Typed.Mo T8
+      m6 = λ before given. s6 (before .before .before .before .blocks) (m5 before given)
 
-      abbrev pub m8 : (before : After-plan-window-arg) → (given : s6 (before .before .before .before .before .blocks)
-          .gives (m5 (before .before) (before .plan-window-arg .given))) → Typed.Mo T10
-      m8 = λ before given. s8 (before .before .before .before .before .blocks) (m7 before given)
+      abbrev pub m7 : (before : After-plan-window-arg) → (given : s5 (before .before .before .before .blocks) .gives
+          (m4 (before .before) (before .plan-window-arg .given))) → Typed.Mo T9
+      m7 = λ before given. s7 (before .before .before .before .blocks) (m6 before given)
 
-      abbrev pub m9 : (before : After-plan-window-arg) → (given : s6 (before .before .before .before .before .blocks)
-          .gives (m5 (before .before) (before .plan-window-arg .given))) → Typed.Mo T11
-      m9 = λ before given. s9 (before .before .before .before .before .blocks) (m8 before given)
+      abbrev pub m8 : (before : After-plan-window-arg) → (given : s5 (before .before .before .before .blocks) .gives
+          (m4 (before .before) (before .plan-window-arg .given))) → Typed.Mo T10
+      m8 = λ before given. s8 (before .before .before .before .blocks) (m7 before given)
 
-      abbrev pub m10 : (before : After-plan-window-arg) → (given : s6 (before .before .before .before .before .blocks)
-          .gives (m5 (before .before) (before .plan-window-arg .given))) → Typed.Mo T12
-      m10 = λ before given. s10 (before .before .before .before .before .blocks) (m9 before given)
+      abbrev pub m9 : (before : After-plan-window-arg) → (given : s5 (before .before .before .before .blocks) .gives
+          (m4 (before .before) (before .plan-window-arg .given))) → Typed.Mo T12
+      m9 = λ before given. s10 (before .before .before .before .blocks) (m8 before given)
 
-      abbrev pub m11 : (before : After-plan-window-arg) → (given : s6 (before .before .before .before .before .blocks)
-          .gives (m5 (before .before) (before .plan-window-arg .given))) → Typed.Mo T14
-      m11 = λ before given. s12 (before .before .before .before .before .blocks) (m10 before given)
-
-      abbrev pub m12 : (before : After-plan-window-arg) → (given : s6 (before .before .before .before .before .blocks)
-          .gives (m5 (before .before) (before .plan-window-arg .given))) → Typed.Mo T16
-      m12 = λ before given. s14 (before .before .before .before .before .blocks) (m11 before given)
-
-      abbrev pub m13 : (before : After-plan-window-arg) → (given : s6 (before .before .before .before .before .blocks)
-          .gives (m5 (before .before) (before .plan-window-arg .given))) → Typed.Mo T17
-      m13 = λ before given. s15 (before .before .before .before .before .blocks) (m12 before given)
-
-      abbrev pub m14 : (before : After-plan-window) → (given : s16
-          (before .before .before .before .before .before .blocks) .gives
-          (m13 (before .before) (After-plan-window·gave before))) → Typed.Mo T18
-      m14 = λ before given. s16 (before .before .before .before .before .before .blocks) .next
-          (m13 (before .before) (After-plan-window·gave before)) given
+      abbrev pub m10 : (before : After-plan-window) → (given : s12 (before .before .before .before .before .blocks)
+          .gives (m9 (before .before) (After-plan-window·gave before))) → Typed.Mo T14
+      m10 = λ before given. s12 (before .before .before .before .before .blocks) .next
+          (m9 (before .before) (After-plan-window·gave before)) given
 
       module _ (before· : After-plan-window) where
+        pub record After-runtime·own : Type 0 where
+          pub given : s12 (before· .before .before .before .before .blocks) .gives
+              (m9 (before· .before) (After-plan-window·gave before·))
+
+      pub record After-runtime : Type 0 where
+        pub before : After-plan-window
+        pub runtime : After-runtime·own before
+
+      abbrev pub m11 : (before : After-runtime) → (given : s13 (before .before .before .before .before .before .blocks)
+          .gives (m10 (before .before) (before .runtime .given))) → Typed.Mo T15
+      m11 = λ before given. s13 (before .before .before .before .before .before .blocks) .next
+          (m10 (before .before) (before .runtime .given)) given
+
+      abbrev pub m12 : (before : After-runtime) → (given : s13 (before .before .before .before .before .before .blocks)
+          .gives (m10 (before .before) (before .runtime .given))) → Typed.Mo T16
+      m12 = λ before given. s14 (before .before .before .before .before .before .blocks) (m11 before given)
+
+      abbrev pub m13 : (before : After-runtime) → (given : s13 (before .before .before .before .before .before .blocks)
+          .gives (m10 (before .before) (before .runtime .given))) → Typed.Mo T17
+      m13 = λ before given. s15 (before .before .before .before .before .before .blocks) (m12 before given)
+
+      abbrev pub m14 : (before : After-runtime) → (given : s13 (before .before .before .before .before .before .blocks)
+          .gives (m10 (before .before) (before .runtime .given))) → Typed.Mo T18
+      m14 = λ before given. s16 (before .before .before .before .before .before .blocks) (m13 before given)
+
+      module _ (before· : After-runtime) where
+        pub record After-places·own : Type 0 where
+          pub given : s13 (before· .before .before .before .before .before .blocks) .gives
+              (m10 (before· .before) (before· .runtime .given))
+
+      pub record After-places : Type 0 where
+        pub before : After-runtime
+        pub places : After-places·own before
+
+      abbrev pub m15 : (before : After-places) → (given : s17 (before .before .before .before .before .before .before
+          .blocks) .gives (m14 (before .before) (before .places .given))) → Typed.Mo T19
+      m15 = λ before given. s17 (before .before .before .before .before .before .before .blocks) .next
+          (m14 (before .before) (before .places .given)) given
+
+      module _ (before· : After-places) where
         pub record After-message·own : Type 0 where
-          pub given : s16 (before· .before .before .before .before .before .blocks) .gives
-              (m13 (before· .before) (After-plan-window·gave before·))
+          pub given : s17 (before· .before .before .before .before .before .before .blocks) .gives
+              (m14 (before· .before) (before· .places .given))
 
       pub record After-message : Type 0 where
-        pub before : After-plan-window
+        pub before : After-places
         pub message : After-message·own before
 
-      abbrev pub m15 : (before : After-message) → (given : s17 (before .before .before .before .before .before .before
-          .blocks) .gives (m14 (before .before) (before .message .given))) → Typed.Mo T19
-      m15 = λ before given. s17 (before .before .before .before .before .before .before .blocks) .next
-          (m14 (before .before) (before .message .given)) given
+      abbrev pub m16 : (before : After-message) → (given : s18 (before .before .before .before .before .before .before
+          .before .blocks) .gives (m15 (before .before) (before .message .given))) → Typed.Mo T20
+      m16 = λ before given. s18 (before .before .before .before .before .before .before .before .blocks) .next
+          (m15 (before .before) (before .message .given)) given
 
       module _ (before· : After-message) where
         pub record After-scan·own : Type 0 where
-          pub given : s17 (before· .before .before .before .before .before .before .blocks) .gives
-              (m14 (before· .before) (before· .message .given))
+          pub given : s18 (before· .before .before .before .before .before .before .before .blocks) .gives
+              (m15 (before· .before) (before· .message .given))
 
       pub record After-scan : Type 0 where
         pub before : After-message
         pub scan : After-scan·own before
 
-      abbrev pub m16 : (before : After-scan) → (given : s19 (before .before .before .before .before .before .before
-          .before .blocks) .gives (m15 (before .before) (before .scan .given))) → Typed.Mo T21
-      m16 = λ before given. s19 (before .before .before .before .before .before .before .before .blocks) .next
-          (m15 (before .before) (before .scan .given)) given
+      abbrev pub m17 : (before : After-scan) → (given : s20 (before .before .before .before .before .before .before
+          .before .before .blocks) .gives (m16 (before .before) (before .scan .given))) → Typed.Mo T22
+      m17 = λ before given. s20 (before .before .before .before .before .before .before .before .before .blocks) .next
+          (m16 (before .before) (before .scan .given)) given
 
-      abbrev pub m17 : (before : After-scan) → (given : s19 (before .before .before .before .before .before .before
-          .before .blocks) .gives (m15 (before .before) (before .scan .given))) → Typed.Mo T22
-      m17 = λ before given. s20 (before .before .before .before .before .before .before .before .blocks) .next
-          (m16 before given)
+      abbrev pub m18 : (before : After-scan) → (given : s20 (before .before .before .before .before .before .before
+          .before .before .blocks) .gives (m16 (before .before) (before .scan .given))) → Typed.Mo T23
+      m18 = λ before given. s21 (before .before .before .before .before .before .before .before .before .blocks) .next
+          (m17 before given)
 
       module _ (before· : After-scan) where
         pub record After-raise-circuit-arg·own : Type 0 where
-          pub given : s19 (before· .before .before .before .before .before .before .before .blocks) .gives
-              (m15 (before· .before) (before· .scan .given))
+          pub given : s20 (before· .before .before .before .before .before .before .before .before .blocks) .gives
+              (m16 (before· .before) (before· .scan .given))
 
       pub record After-raise-circuit-arg : Type 0 where
         pub before : After-scan
         pub raise-circuit-arg : After-raise-circuit-arg·own before
 
       abbrev pub Need-raise-circuit-requires : Type 0
-      Need-raise-circuit-requires = (c : After-raise-circuit-arg) → s21 (c .before .before .before .before .before
-          .before .before .before .blocks) .asks (m17 (c .before) (c .raise-circuit-arg .given))
+      Need-raise-circuit-requires = (c : After-raise-circuit-arg) → s22 (c .before .before .before .before .before
+          .before .before .before .before .blocks) .asks (m18 (c .before) (c .raise-circuit-arg .given))
 
-      abbrev pub m18 : (before : After-raise-circuit-arg) → (given : s21 (before .before .before .before .before
-          .before .before .before .before .blocks) .gives (m17 (before .before) (before .raise-circuit-arg .given))) →
-          Typed.Mo T23
-      m18 = λ before given. s21 (before .before .before .before .before .before .before .before .before .blocks) .next
-          (m17 (before .before) (before .raise-circuit-arg .given)) given
+      abbrev pub m19 : (before : After-raise-circuit-arg) → (given : s22 (before .before .before .before .before
+          .before .before .before .before .before .blocks) .gives
+          (m18 (before .before) (before .raise-circuit-arg .given))) → Typed.Mo T24
+      m19 = λ before given. s22 (before .before .before .before .before .before .before .before .before .before .blocks)
+          .next (m18 (before .before) (before .raise-circuit-arg .given)) given
 
       module _ (before· : After-raise-circuit-arg) where
         abbrev pub After-raise-circuit·own : Type 0
-        After-raise-circuit·own = Called.Called ps·1 r·1 (claims· .3) T22 (
-          record { pos = 20; ty = ref1; ref = λ x. x },
+        After-raise-circuit·own = Called.Called ps·1 r·1 (claims· .3) T23 (
+          record { pos = 19; ty = ref1; ref = λ x. x },
           (
-            record { pos = 5; st = List.[]; d = 0; at = λ x. x },
+            record { pos = 10; st = List.[]; d = 0; at = λ x. x },
             (
-              Bool.bFld 11 ((Syntax.field 1) ∷ List.[]) 48 λ x. WindowPlan.struct .as-values x .1 .0,
+              Bool.bFld 8 ((Syntax.field 1) ∷ List.[]) 48 λ x. WindowPlan.struct .as-values x .1 .0,
               (
-                Num.vFld 11 ((Syntax.field 2) ∷ List.[]) 56 λ x. WindowPlan.struct .as-values x .1 .1 .0,
+                Num.vFld 8 ((Syntax.field 2) ∷ List.[]) 56 λ x. WindowPlan.struct .as-values x .1 .1 .0,
                 (
-                  record { pos = 13; st = List.[]; d = 0; at = λ x. x },
-                  (Num.vFld 11 ((Syntax.field 4) ∷ List.[]) 68 λ x. WindowPlan.struct .as-values x .1 .1 .1 .1 .0, tt),
+                  record { pos = 12; st = List.[]; d = 0; at = λ x. x },
+                  (Num.vFld 8 ((Syntax.field 4) ∷ List.[]) 68 λ x. WindowPlan.struct .as-values x .1 .1 .1 .1 .0, tt),
                 ),
               ),
             ),
           ),
-        ) (m17 (before· .before) (before· .raise-circuit-arg .given))
+        ) (m18 (before· .before) (before· .raise-circuit-arg .given))
 
       pub record After-raise-circuit : Type 0 where
         pub before : After-raise-circuit-arg
         pub raise-circuit : After-raise-circuit·own before
 
-      abbrev pub After-raise-circuit·gave : (c : After-raise-circuit) → s21 (c .before .before .before .before .before
-          .before .before .before .before .blocks) .gives (m17 (c .before .before)
+      abbrev pub After-raise-circuit·gave : (c : After-raise-circuit) → s22 (c .before .before .before .before .before
+          .before .before .before .before .before .blocks) .gives (m18 (c .before .before)
           (c .before .raise-circuit-arg .given))
-      After-raise-circuit·gave = λ c. Called.given ps·1 r·1 (claims· .3) T22 (
-        record { pos = 20; ty = ref1; ref = λ x. x },
+      After-raise-circuit·gave = λ c. Called.given ps·1 r·1 (claims· .3) T23 (
+        record { pos = 19; ty = ref1; ref = λ x. x },
         (
-          record { pos = 5; st = List.[]; d = 0; at = λ x. x },
+          record { pos = 10; st = List.[]; d = 0; at = λ x. x },
           (
-            Bool.bFld 11 ((Syntax.field 1) ∷ List.[]) 48 λ x. WindowPlan.struct .as-values x .1 .0,
+            Bool.bFld 8 ((Syntax.field 1) ∷ List.[]) 48 λ x. WindowPlan.struct .as-values x .1 .0,
             (
-              Num.vFld 11 ((Syntax.field 2) ∷ List.[]) 56 λ x. WindowPlan.struct .as-values x .1 .1 .0,
+              Num.vFld 8 ((Syntax.field 2) ∷ List.[]) 56 λ x. WindowPlan.struct .as-values x .1 .1 .0,
               (
-                record { pos = 13; st = List.[]; d = 0; at = λ x. x },
-                (Num.vFld 11 ((Syntax.field 4) ∷ List.[]) 68 λ x. WindowPlan.struct .as-values x .1 .1 .1 .1 .0, tt),
+                record { pos = 12; st = List.[]; d = 0; at = λ x. x },
+                (Num.vFld 8 ((Syntax.field 4) ∷ List.[]) 68 λ x. WindowPlan.struct .as-values x .1 .1 .1 .1 .0, tt),
               ),
             ),
           ),
         ),
-      ) (m17 (c .before .before) (c .before .raise-circuit-arg .given)) (c .raise-circuit)
+      ) (m18 (c .before .before) (c .before .raise-circuit-arg .given)) (c .raise-circuit)
 
-      abbrev pub m19 : (before : After-raise-circuit-arg) → (given : s21 (before .before .before .before .before
-          .before .before .before .before .blocks) .gives (m17 (before .before) (before .raise-circuit-arg .given))) →
-          Typed.Mo T24
-      m19 = λ before given. s22 (before .before .before .before .before .before .before .before .before .blocks)
-          (m18 before given)
-
-      abbrev pub m20 : (before : After-raise-circuit-arg) → (given : s21 (before .before .before .before .before
-          .before .before .before .before .blocks) .gives (m17 (before .before) (before .raise-circuit-arg .given))) →
-          Typed.Mo T25
-      m20 = λ before given. s23 (before .before .before .before .before .before .before .before .before .blocks)
+      abbrev pub m20 : (before : After-raise-circuit-arg) → (given : s22 (before .before .before .before .before
+          .before .before .before .before .before .blocks) .gives
+          (m18 (before .before) (before .raise-circuit-arg .given))) → Typed.Mo T25
+      m20 = λ before given. s23 (before .before .before .before .before .before .before .before .before .before .blocks)
           (m19 before given)
 
-      abbrev pub m21 : (before : After-raise-circuit-arg) → (given : s21 (before .before .before .before .before
-          .before .before .before .before .blocks) .gives (m17 (before .before) (before .raise-circuit-arg .given))) →
-          Typed.Mo T26
-      m21 = λ before given. s24 (before .before .before .before .before .before .before .before .before .blocks)
+      abbrev pub m21 : (before : After-raise-circuit-arg) → (given : s22 (before .before .before .before .before
+          .before .before .before .before .before .blocks) .gives
+          (m18 (before .before) (before .raise-circuit-arg .given))) → Typed.Mo T26
+      m21 = λ before given. s24 (before .before .before .before .before .before .before .before .before .before .blocks)
           (m20 before given)
 
-      abbrev pub m22 : (before : After-raise-circuit) → (given : s26 (before .before .before .before .before .before
-          .before .before .before .before .blocks) .gives (m21 (before .before) (After-raise-circuit·gave before))) →
-          Typed.Mo T28
-      m22 = λ before given. s26 (before .before .before .before .before .before .before .before .before .before .blocks)
-          .next (m21 (before .before) (After-raise-circuit·gave before)) given
+      abbrev pub m22 : (before : After-raise-circuit-arg) → (given : s22 (before .before .before .before .before
+          .before .before .before .before .before .blocks) .gives
+          (m18 (before .before) (before .raise-circuit-arg .given))) → Typed.Mo T27
+      m22 = λ before given. s25 (before .before .before .before .before .before .before .before .before .before .blocks)
+          (m21 before given)
+
+      abbrev pub m23 : (before : After-raise-circuit) → (given : s27 (before .before .before .before .before .before
+          .before .before .before .before .before .blocks) .gives
+          (m22 (before .before) (After-raise-circuit·gave before))) → Typed.Mo T29
+      m23 = λ before given. s27 (before .before .before .before .before .before .before .before .before .before .before
+          .blocks) .next (m22 (before .before) (After-raise-circuit·gave before)) given
 
       module _ (before· : After-raise-circuit) where
         pub record After-circuits·own : Type 0 where
-          pub given : s26 (before· .before .before .before .before .before .before .before .before .before .blocks)
-              .gives (m21 (before· .before) (After-raise-circuit·gave before·))
+          pub given : s27 (before· .before .before .before .before .before .before .before .before .before .before
+              .blocks) .gives (m22 (before· .before) (After-raise-circuit·gave before·))
 
       pub record After-circuits : Type 0 where
         pub before : After-raise-circuit
         pub circuits : After-circuits·own before
 
-      abbrev pub m23 : (before : After-circuits) → (given : s29 (before .before .before .before .before .before .before
-          .before .before .before .before .blocks) .gives (m22 (before .before) (before .circuits .given))) → Typed.Mo
-          T31
-      m23 = λ before given. s29 (before .before .before .before .before .before .before .before .before .before .before
-          .blocks) .next (m22 (before .before) (before .circuits .given)) given
-
-      abbrev pub m24 : (before : After-circuits) → (given : s29 (before .before .before .before .before .before .before
-          .before .before .before .before .blocks) .gives (m22 (before .before) (before .circuits .given))) → Typed.Mo
-          T32
+      abbrev pub m24 : (before : After-circuits) → (given : s30 (before .before .before .before .before .before .before
+          .before .before .before .before .before .blocks) .gives (m23 (before .before) (before .circuits .given))) →
+          Typed.Mo T32
       m24 = λ before given. s30 (before .before .before .before .before .before .before .before .before .before .before
-          .blocks) .next (m23 before given)
+          .before .blocks) .next (m23 (before .before) (before .circuits .given)) given
+
+      abbrev pub m25 : (before : After-circuits) → (given : s30 (before .before .before .before .before .before .before
+          .before .before .before .before .before .blocks) .gives (m23 (before .before) (before .circuits .given))) →
+          Typed.Mo T33
+      m25 = λ before given. s31 (before .before .before .before .before .before .before .before .before .before .before
+          .before .blocks) .next (m24 before given)
 
       module _ (before· : After-circuits) where
         pub record After-send-arg·own : Type 0 where
-          pub given : s29 (before· .before .before .before .before .before .before .before .before .before .before
-              .blocks) .gives (m22 (before· .before) (before· .circuits .given))
+          pub given : s30 (before· .before .before .before .before .before .before .before .before .before .before
+              .before .blocks) .gives (m23 (before· .before) (before· .circuits .given))
 
       pub record After-send-arg : Type 0 where
         pub before : After-circuits
         pub send-arg : After-send-arg·own before
 
-      abbrev pub m25 : (before : After-send-arg) → (given : s32 (before .before .before .before .before .before .before
-          .before .before .before .before .before .blocks) .gives (m24 (before .before) (before .send-arg .given))) →
-          Typed.Mo T34
-      m25 = λ before given. s32 (before .before .before .before .before .before .before .before .before .before .before
-          .before .blocks) .next (m24 (before .before) (before .send-arg .given)) given
-
-      abbrev pub m26 : (before : After-send-arg) → (given : s32 (before .before .before .before .before .before .before
-          .before .before .before .before .before .blocks) .gives (m24 (before .before) (before .send-arg .given))) →
-          Typed.Mo T35
+      abbrev pub m26 : (before : After-send-arg) → (given : s33 (before .before .before .before .before .before .before
+          .before .before .before .before .before .before .blocks) .gives
+          (m25 (before .before) (before .send-arg .given))) → Typed.Mo T35
       m26 = λ before given. s33 (before .before .before .before .before .before .before .before .before .before .before
-          .before .blocks) .next (m25 before given)
+          .before .before .blocks) .next (m25 (before .before) (before .send-arg .given)) given
+
+      abbrev pub m27 : (before : After-send-arg) → (given : s33 (before .before .before .before .before .before .before
+          .before .before .before .before .before .before .blocks) .gives
+          (m25 (before .before) (before .send-arg .given))) → Typed.Mo T36
+      m27 = λ before given. s34 (before .before .before .before .before .before .before .before .before .before .before
+          .before .before .blocks) .next (m26 before given)
 
       module _ (before· : After-send-arg) where
         pub record After-send-arg2·own : Type 0 where
-          pub given : s32 (before· .before .before .before .before .before .before .before .before .before .before
-              .before .blocks) .gives (m24 (before· .before) (before· .send-arg .given))
+          pub given : s33 (before· .before .before .before .before .before .before .before .before .before .before
+              .before .before .blocks) .gives (m25 (before· .before) (before· .send-arg .given))
 
       pub record After-send-arg2 : Type 0 where
         pub before : After-send-arg
         pub send-arg2 : After-send-arg2·own before
 
       abbrev pub Need-send-requires : Type 0
-      Need-send-requires = (c : After-send-arg2) → s34 (c .before .before .before .before .before .before .before
-          .before .before .before .before .before .blocks) .asks (m26 (c .before) (c .send-arg2 .given))
+      Need-send-requires = (c : After-send-arg2) → s35 (c .before .before .before .before .before .before .before
+          .before .before .before .before .before .before .blocks) .asks (m27 (c .before) (c .send-arg2 .given))
 
-      abbrev pub m27 : (before : After-send-arg2) → (given : s34 (before .before .before .before .before .before
-          .before .before .before .before .before .before .before .blocks) .gives
-          (m26 (before .before) (before .send-arg2 .given))) → Typed.Mo T36
-      m27 = λ before given. s34 (before .before .before .before .before .before .before .before .before .before .before
-          .before .before .blocks) .next (m26 (before .before) (before .send-arg2 .given)) given
+      abbrev pub m28 : (before : After-send-arg2) → (given : s35 (before .before .before .before .before .before
+          .before .before .before .before .before .before .before .before .blocks) .gives
+          (m27 (before .before) (before .send-arg2 .given))) → Typed.Mo T37
+      m28 = λ before given. s35 (before .before .before .before .before .before .before .before .before .before .before
+          .before .before .before .blocks) .next (m27 (before .before) (before .send-arg2 .given)) given
 
       module _ (before· : After-send-arg2) where
         abbrev pub After-send·own : Type 0
-        After-send·own = Called.Called ps·2 r·2 (claims· .5) T35 (
-          record { pos = 22; ty = ref2; ref = λ x. x },
+        After-send·own = Called.Called ps·2 r·2 (claims· .5) T36 (
+          record { pos = 21; ty = ref2; ref = λ x. x },
           (
-            record { pos = 24; ty = ref3; ref = λ x. x },
+            record { pos = 23; ty = ref3; ref = λ x. x },
             (
-              record { pos = 12; st = List.[]; d = 0; at = λ x. x },
+              record { pos = 11; st = List.[]; d = 0; at = λ x. x },
               (
-                record { pos = 4; st = List.[]; d = 0; at = λ x. x },
+                record { pos = 9; st = List.[]; d = 0; at = λ x. x },
                 (
-                  record { pos = 5; st = List.[]; d = 0; at = λ x. x },
+                  record { pos = 10; st = List.[]; d = 0; at = λ x. x },
                   (
-                    record { pos = 14; st = List.[]; d = 0; at = λ x. x },
+                    record { pos = 13; st = List.[]; d = 0; at = λ x. x },
                     (
-                      record { pos = 15; st = List.[]; d = 0; at = λ x. x },
-                      (record { pos = 10; ty = ref8; ref = λ x. x }, tt),
+                      record { pos = 14; st = List.[]; d = 0; at = λ x. x },
+                      (record { pos = 7; ty = ref7; ref = λ x. x }, tt),
                     ),
                   ),
                 ),
               ),
             ),
           ),
-        ) (m26 (before· .before) (before· .send-arg2 .given))
+        ) (m27 (before· .before) (before· .send-arg2 .given))
 
       pub record After-send : Type 0 where
         pub before : After-send-arg2
         pub send : After-send·own before
 
-      abbrev pub After-send·gave : (c : After-send) → s34 (c .before .before .before .before .before .before .before
-          .before .before .before .before .before .before .blocks) .gives
-          (m26 (c .before .before) (c .before .send-arg2 .given))
-      After-send·gave = λ c. Called.given ps·2 r·2 (claims· .5) T35 (
-        record { pos = 22; ty = ref2; ref = λ x. x },
+      abbrev pub After-send·gave : (c : After-send) → s35 (c .before .before .before .before .before .before .before
+          .before .before .before .before .before .before .before .blocks) .gives
+          (m27 (c .before .before) (c .before .send-arg2 .given))
+      After-send·gave = λ c. Called.given ps·2 r·2 (claims· .5) T36 (
+        record { pos = 21; ty = ref2; ref = λ x. x },
         (
-          record { pos = 24; ty = ref3; ref = λ x. x },
+          record { pos = 23; ty = ref3; ref = λ x. x },
           (
-            record { pos = 12; st = List.[]; d = 0; at = λ x. x },
+            record { pos = 11; st = List.[]; d = 0; at = λ x. x },
             (
-              record { pos = 4; st = List.[]; d = 0; at = λ x. x },
+              record { pos = 9; st = List.[]; d = 0; at = λ x. x },
               (
-                record { pos = 5; st = List.[]; d = 0; at = λ x. x },
+                record { pos = 10; st = List.[]; d = 0; at = λ x. x },
                 (
-                  record { pos = 14; st = List.[]; d = 0; at = λ x. x },
+                  record { pos = 13; st = List.[]; d = 0; at = λ x. x },
                   (
-                    record { pos = 15; st = List.[]; d = 0; at = λ x. x },
-                    (record { pos = 10; ty = ref8; ref = λ x. x }, tt),
+                    record { pos = 14; st = List.[]; d = 0; at = λ x. x },
+                    (record { pos = 7; ty = ref7; ref = λ x. x }, tt),
                   ),
                 ),
               ),
             ),
           ),
         ),
-      ) (m26 (c .before .before) (c .before .send-arg2 .given)) (c .send)
+      ) (m27 (c .before .before) (c .before .send-arg2 .given)) (c .send)
 
-      abbrev pub m28 : (before : After-send-arg2) → (given : s34 (before .before .before .before .before .before
-          .before .before .before .before .before .before .before .blocks) .gives
-          (m26 (before .before) (before .send-arg2 .given))) → Typed.Mo T37
-      m28 = λ before given. s35 (before .before .before .before .before .before .before .before .before .before .before
-          .before .before .blocks) (m27 before given)
-
-      abbrev pub m29 : (before : After-send-arg2) → (given : s34 (before .before .before .before .before .before
-          .before .before .before .before .before .before .before .blocks) .gives
-          (m26 (before .before) (before .send-arg2 .given))) → Typed.Mo T38
+      abbrev pub m29 : (before : After-send-arg2) → (given : s35 (before .before .before .before .before .before
+          .before .before .before .before .before .before .before .before .blocks) .gives
+          (m27 (before .before) (before .send-arg2 .given))) → Typed.Mo T38
       m29 = λ before given. s36 (before .before .before .before .before .before .before .before .before .before .before
-          .before .before .blocks) (m28 before given)
+          .before .before .before .blocks) (m28 before given)
 
-      abbrev pub m30 : (before : After-send-arg2) → (given : s34 (before .before .before .before .before .before
-          .before .before .before .before .before .before .before .blocks) .gives
-          (m26 (before .before) (before .send-arg2 .given))) → Typed.Mo T39
+      abbrev pub m30 : (before : After-send-arg2) → (given : s35 (before .before .before .before .before .before
+          .before .before .before .before .before .before .before .before .blocks) .gives
+          (m27 (before .before) (before .send-arg2 .given))) → Typed.Mo T39
       m30 = λ before given. s37 (before .before .before .before .before .before .before .before .before .before .before
-          .before .before .blocks) (m29 before given)
+          .before .before .before .blocks) (m29 before given)
 
-      abbrev pub m31 : (before : After-send-arg2) → (given : s34 (before .before .before .before .before .before
-          .before .before .before .before .before .before .before .blocks) .gives
-          (m26 (before .before) (before .send-arg2 .given))) → Typed.Mo T40
+      abbrev pub m31 : (before : After-send-arg2) → (given : s35 (before .before .before .before .before .before
+          .before .before .before .before .before .before .before .before .blocks) .gives
+          (m27 (before .before) (before .send-arg2 .given))) → Typed.Mo T40
       m31 = λ before given. s38 (before .before .before .before .before .before .before .before .before .before .before
-          .before .before .blocks) (m30 before given)
+          .before .before .before .blocks) (m30 before given)
 
-      abbrev pub m32 : (before : After-send-arg2) → (given : s34 (before .before .before .before .before .before
-          .before .before .before .before .before .before .before .blocks) .gives
-          (m26 (before .before) (before .send-arg2 .given))) → Typed.Mo T41
+      abbrev pub m32 : (before : After-send-arg2) → (given : s35 (before .before .before .before .before .before
+          .before .before .before .before .before .before .before .before .blocks) .gives
+          (m27 (before .before) (before .send-arg2 .given))) → Typed.Mo T41
       m32 = λ before given. s39 (before .before .before .before .before .before .before .before .before .before .before
-          .before .before .blocks) (m31 before given)
+          .before .before .before .blocks) (m31 before given)
 
-      abbrev pub m33 : (before : After-send) → (given : s41 (before .before .before .before .before .before .before
-          .before .before .before .before .before .before .before .blocks) .gives
-          (m32 (before .before) (After-send·gave before))) → Typed.Mo T43
-      m33 = λ before given. s41 (before .before .before .before .before .before .before .before .before .before .before
-          .before .before .before .blocks) .next (m32 (before .before) (After-send·gave before)) given
+      abbrev pub m33 : (before : After-send-arg2) → (given : s35 (before .before .before .before .before .before
+          .before .before .before .before .before .before .before .before .blocks) .gives
+          (m27 (before .before) (before .send-arg2 .given))) → Typed.Mo T42
+      m33 = λ before given. s40 (before .before .before .before .before .before .before .before .before .before .before
+          .before .before .before .blocks) (m32 before given)
+
+      abbrev pub m34 : (before : After-send) → (given : s42 (before .before .before .before .before .before .before
+          .before .before .before .before .before .before .before .before .blocks) .gives
+          (m33 (before .before) (After-send·gave before))) → Typed.Mo T44
+      m34 = λ before given. s42 (before .before .before .before .before .before .before .before .before .before .before
+          .before .before .before .before .blocks) .next (m33 (before .before) (After-send·gave before)) given
 
       module _ (before· : After-send) where
         pub record After-inflight·own : Type 0 where
-          pub given : s41 (before· .before .before .before .before .before .before .before .before .before .before
-              .before .before .before .blocks) .gives (m32 (before· .before) (After-send·gave before·))
+          pub given : s42 (before· .before .before .before .before .before .before .before .before .before .before
+              .before .before .before .before .blocks) .gives (m33 (before· .before) (After-send·gave before·))
 
       pub record After-inflight : Type 0 where
         pub before : After-send
         pub inflight : After-inflight·own before
 
-      abbrev pub m34 : (before : After-inflight) → (given : s44 (before .before .before .before .before .before .before
-          .before .before .before .before .before .before .before .before .blocks) .gives
-          (m33 (before .before) (before .inflight .given))) → Typed.Mo T46
-      m34 = λ before given. s44 (before .before .before .before .before .before .before .before .before .before .before
-          .before .before .before .before .blocks) .next (m33 (before .before) (before .inflight .given)) given
+      abbrev pub m35 : (before : After-inflight) → (given : s45 (before .before .before .before .before .before .before
+          .before .before .before .before .before .before .before .before .before .blocks) .gives
+          (m34 (before .before) (before .inflight .given))) → Typed.Mo T47
+      m35 = λ before given. s45 (before .before .before .before .before .before .before .before .before .before .before
+          .before .before .before .before .before .blocks) .next (m34 (before .before) (before .inflight .given)) given
 
       module _ (before· : After-inflight) where
         pub record After-out·own : Type 0 where
-          pub given : s44 (before· .before .before .before .before .before .before .before .before .before .before
-              .before .before .before .before .blocks) .gives (m33 (before· .before) (before· .inflight .given))
+          pub given : s45 (before· .before .before .before .before .before .before .before .before .before .before
+              .before .before .before .before .before .blocks) .gives
+              (m34 (before· .before) (before· .inflight .given))
 
       pub record After-out : Type 0 where
         pub before : After-inflight
         pub out : After-out·own before
 
-      abbrev pub m35 : (before : After-out) → (given : s45 (before .before .before .before .before .before .before
-          .before .before .before .before .before .before .before .before .before .blocks) .gives
-          (m34 (before .before) (before .out .given))) → Typed.Mo T47
-      m35 = λ before given. s45 (before .before .before .before .before .before .before .before .before .before .before
-          .before .before .before .before .before .blocks) .next (m34 (before .before) (before .out .given)) given
+      abbrev pub m36 : (before : After-out) → (given : s46 (before .before .before .before .before .before .before
+          .before .before .before .before .before .before .before .before .before .before .blocks) .gives
+          (m35 (before .before) (before .out .given))) → Typed.Mo T48
+      m36 = λ before given. s46 (before .before .before .before .before .before .before .before .before .before .before
+          .before .before .before .before .before .before .blocks) .next (m35 (before .before) (before .out .given))
+          given
 
       module _ (before· : After-out) where
         pub record After-slice-known2·own : Type 0 where
-          pub given : s45 (before· .before .before .before .before .before .before .before .before .before .before
-              .before .before .before .before .before .blocks) .gives (m34 (before· .before) (before· .out .given))
+          pub given : s46 (before· .before .before .before .before .before .before .before .before .before .before
+              .before .before .before .before .before .before .blocks) .gives
+              (m35 (before· .before) (before· .out .given))
 
       pub record After-slice-known2 : Type 0 where
         pub before : After-out
         pub slice-known2 : After-slice-known2·own before
 
       abbrev pub Need-same-length : Type 0
-      Need-same-length = (c : After-slice-known2) → MutSlice.SameLen (Row.get 1 (T47 .locals)
-          (m35 (c .before) (c .slice-known2 .given))) (dens (c .before .before .before .before .before .before .before
-          .before .before .before .before .before .before .before .before .before .κs) (c .before .before .before
-          .before .before .before .before .before .before .before .before .before .before .before .before .before .args)
-          .0)
+      Need-same-length = (c : After-slice-known2) → MutSlice.SameLen (Row.get 1 (T48 .locals)
+          (m36 (c .before) (c .slice-known2 .given))) (dens (c .before .before .before .before .before .before .before
+          .before .before .before .before .before .before .before .before .before .before .κs) (c .before .before
+          .before .before .before .before .before .before .before .before .before .before .before .before .before
+          .before .before .args) .0)
 
       abbrev pub Need-same-length-2 : Type 0
-      Need-same-length-2 = (c : After-slice-known2) → MutSlice.SameLen (Row.get 2 (T47 .locals)
-          (m35 (c .before) (c .slice-known2 .given))) (dens (c .before .before .before .before .before .before .before
-          .before .before .before .before .before .before .before .before .before .κs) (c .before .before .before
-          .before .before .before .before .before .before .before .before .before .before .before .before .before .args)
-          .1 .0)
+      Need-same-length-2 = (c : After-slice-known2) → MutSlice.SameLen (Row.get 2 (T48 .locals)
+          (m36 (c .before) (c .slice-known2 .given))) (dens (c .before .before .before .before .before .before .before
+          .before .before .before .before .before .before .before .before .before .before .κs) (c .before .before
+          .before .before .before .before .before .before .before .before .before .before .before .before .before
+          .before .before .args) .1 .0)
 
       abbrev pub Need-same-length-3 : Type 0
-      Need-same-length-3 = (c : After-slice-known2) → MutSlice.SameLen (Row.get 3 (T47 .locals)
-          (m35 (c .before) (c .slice-known2 .given))) (dens (c .before .before .before .before .before .before .before
-          .before .before .before .before .before .before .before .before .before .κs) (c .before .before .before
-          .before .before .before .before .before .before .before .before .before .before .before .before .before .args)
-          .1 .1 .0)
+      Need-same-length-3 = (c : After-slice-known2) → MutSlice.SameLen (Row.get 3 (T48 .locals)
+          (m36 (c .before) (c .slice-known2 .given))) (dens (c .before .before .before .before .before .before .before
+          .before .before .before .before .before .before .before .before .before .before .κs) (c .before .before
+          .before .before .before .before .before .before .before .before .before .before .before .before .before
+          .before .before .args) .1 .1 .0)
 
       abbrev pub Need-returns : Type 0
       Need-returns = (c : After-slice-known2) → Post· (c .before .before .before .before .before .before .before
-          .before .before .before .before .before .before .before .before .before .κs) (dens (c .before .before .before
+          .before .before .before .before .before .before .before .before .before .before .κs) (dens (c .before .before
+          .before .before .before .before .before .before .before .before .before .before .before .before .before
+          .before .before .κs) (c .before .before .before .before .before .before .before .before .before .before
+          .before .before .before .before .before .before .before .args)) (Function.resV r (c .before .before .before
+          .before .before .before .before .before .before .before .before .before .before .before .before .before
+          .before .κs) (m36 (c .before) (c .slice-known2 .given) .0)) (Clauses.atExit (Kinds.endedOf 4 ps r) (c .before
+          .before .before .before .before .before .before .before .before .before .before .before .before .before
+          .before .before .before .κs) (dens (c .before .before .before .before .before .before .before .before .before
+          .before .before .before .before .before .before .before .before .κs) (c .before .before .before .before
+          .before .before .before .before .before .before .before .before .before .before .before .before .before
+          .args)) (Enter.lastsP (c .before .before .before .before .before .before .before .before .before .before
+          .before .before .before .before .before .before .before .κs) 1 ps xs (dens (c .before .before .before .before
           .before .before .before .before .before .before .before .before .before .before .before .before .before .κs) (c
           .before .before .before .before .before .before .before .before .before .before .before .before .before
-          .before .before .before .args)) (Function.resV r (c .before .before .before .before .before .before .before
-          .before .before .before .before .before .before .before .before .before .κs)
-          (m35 (c .before) (c .slice-known2 .given) .0)) (Clauses.atExit (Kinds.endedOf 5 ps r) (c .before .before
-          .before .before .before .before .before .before .before .before .before .before .before .before .before
-          .before .κs) (dens (c .before .before .before .before .before .before .before .before .before .before .before
-          .before .before .before .before .before .κs) (c .before .before .before .before .before .before .before
-          .before .before .before .before .before .before .before .before .before .args)) (Enter.lastsP (c .before
-          .before .before .before .before .before .before .before .before .before .before .before .before .before
-          .before .before .κs) 1 ps xs (dens (c .before .before .before .before .before .before .before .before .before
-          .before .before .before .before .before .before .before .κs) (c .before .before .before .before .before
-          .before .before .before .before .before .before .before .before .before .before .before .args))
-          (m35 (c .before) (c .slice-known2 .given) .1)))
+          .before .before .before .before .args)) (m36 (c .before) (c .slice-known2 .given) .1)))
 
       module _ (plan-window-requires : Need-plan-window-requires)
           (raise-circuit-requires : Need-raise-circuit-requires) (send-requires : Need-send-requires)
           (same-length : Need-same-length) (same-length-2 : Need-same-length-2) (same-length-3 : Need-same-length-3)
           (returns : Need-returns) where
         lay3 : (c : After-send) → at12 (c .before .before .before .before .before .before .before .before .before
-            .before .before .before .before .blocks) (W0 (c .before .before .before .before .before .before .before
-            .before .before .before .before .before .before .κs) (c .before .before .before .before .before .before
-            .before .before .before .before .before .before .before .args) (c .before .before .before .before .before
-            .before .before .before .before .before .before .before .before .blocks))
-            (m27 (c .before) (After-send·gave c))
+            .before .before .before .before .before .blocks) (W0 (c .before .before .before .before .before .before
+            .before .before .before .before .before .before .before .before .κs) (c .before .before .before .before
+            .before .before .before .before .before .before .before .before .before .before .args) (c .before .before
+            .before .before .before .before .before .before .before .before .before .before .before .before .blocks))
+            (m28 (c .before) (After-send·gave c))
         lay3 = λ c. (
           Path.refl,
           λ g. (
             Path.refl,
             λ g'. λ g''. (
               (
-                MutSlice.fix-len (Row.get 1 (T47 .locals) (m35
+                MutSlice.fix-len (Row.get 1 (T48 .locals) (m36
                     record {
                       before = record {
                         before = record { before = c .before; send = c .send };
                         inflight = record { given = g };
                       };
                       out = record { given = g' };
-                    } g'') .ptr) (Row.get 1 (T47 .locals) (m35
+                    } g'') .ptr) (Row.get 1 (T48 .locals) (m36
                     record {
                       before = record {
                         before = record { before = c .before; send = c .send };
                         inflight = record { given = g };
                       };
                       out = record { given = g' };
-                    } g'') .name) (Row.get 1 (T47 .locals) (m35
+                    } g'') .name) (Row.get 1 (T48 .locals) (m36
                     record {
                       before = record {
                         before = record { before = c .before; send = c .send };
@@ -2719,8 +2722,8 @@ module _ (claims· : Claims) where
                       };
                       out = record { given = g' };
                     } g'') .now) (dens (c .before .before .before .before .before .before .before .before .before
-                    .before .before .before .before .κs) (c .before .before .before .before .before .before .before
-                    .before .before .before .before .before .before .args) .0 .now) (same-length
+                    .before .before .before .before .before .κs) (c .before .before .before .before .before .before
+                    .before .before .before .before .before .before .before .before .args) .0 .now) (same-length
                     record {
                       before = record {
                         before = record {
@@ -2732,21 +2735,21 @@ module _ (claims· : Claims) where
                       slice-known2 = record { given = g'' };
                     }),
                 (
-                  MutSlice.fix-len (Row.get 2 (T47 .locals) (m35
+                  MutSlice.fix-len (Row.get 2 (T48 .locals) (m36
                       record {
                         before = record {
                           before = record { before = c .before; send = c .send };
                           inflight = record { given = g };
                         };
                         out = record { given = g' };
-                      } g'') .ptr) (Row.get 2 (T47 .locals) (m35
+                      } g'') .ptr) (Row.get 2 (T48 .locals) (m36
                       record {
                         before = record {
                           before = record { before = c .before; send = c .send };
                           inflight = record { given = g };
                         };
                         out = record { given = g' };
-                      } g'') .name) (Row.get 2 (T47 .locals) (m35
+                      } g'') .name) (Row.get 2 (T48 .locals) (m36
                       record {
                         before = record {
                           before = record { before = c .before; send = c .send };
@@ -2754,8 +2757,8 @@ module _ (claims· : Claims) where
                         };
                         out = record { given = g' };
                       } g'') .now) (dens (c .before .before .before .before .before .before .before .before .before
-                      .before .before .before .before .κs) (c .before .before .before .before .before .before .before
-                      .before .before .before .before .before .before .args) .1 .0 .now) (same-length-2
+                      .before .before .before .before .before .κs) (c .before .before .before .before .before .before
+                      .before .before .before .before .before .before .before .before .args) .1 .0 .now) (same-length-2
                       record {
                         before = record {
                           before = record {
@@ -2767,21 +2770,21 @@ module _ (claims· : Claims) where
                         slice-known2 = record { given = g'' };
                       }),
                   (
-                    MutSlice.fix-len (Row.get 3 (T47 .locals) (m35
+                    MutSlice.fix-len (Row.get 3 (T48 .locals) (m36
                         record {
                           before = record {
                             before = record { before = c .before; send = c .send };
                             inflight = record { given = g };
                           };
                           out = record { given = g' };
-                        } g'') .ptr) (Row.get 3 (T47 .locals) (m35
+                        } g'') .ptr) (Row.get 3 (T48 .locals) (m36
                         record {
                           before = record {
                             before = record { before = c .before; send = c .send };
                             inflight = record { given = g };
                           };
                           out = record { given = g' };
-                        } g'') .name) (Row.get 3 (T47 .locals) (m35
+                        } g'') .name) (Row.get 3 (T48 .locals) (m36
                         record {
                           before = record {
                             before = record { before = c .before; send = c .send };
@@ -2789,8 +2792,8 @@ module _ (claims· : Claims) where
                           };
                           out = record { given = g' };
                         } g'') .now) (dens (c .before .before .before .before .before .before .before .before .before
-                        .before .before .before .before .κs) (c .before .before .before .before .before .before .before
-                        .before .before .before .before .before .before .args) .1 .1 .0 .now) (same-length-3
+                        .before .before .before .before .before .κs) (c .before .before .before .before .before .before
+                        .before .before .before .before .before .before .before .before .args) .1 .1 .0 .now) (same-length-3
                         record {
                           before = record {
                             before = record {
@@ -2801,7 +2804,7 @@ module _ (claims· : Claims) where
                           };
                           slice-known2 = record { given = g'' };
                         }),
-                    (tt, (tt, (tt, (tt, (tt, (Path.refl, (Path.refl, tt))))))),
+                    (tt, (tt, (tt, (Path.refl, tt)))),
                   ),
                 ),
               ),
@@ -2820,9 +2823,10 @@ module _ (claims· : Claims) where
         )
 
         lay2 : (c : After-raise-circuit) → at25 (c .before .before .before .before .before .before .before .before
-            .before .blocks) (W0 (c .before .before .before .before .before .before .before .before .before .κs) (c
-            .before .before .before .before .before .before .before .before .before .args) (c .before .before .before
-            .before .before .before .before .before .before .blocks)) (m18 (c .before) (After-raise-circuit·gave c))
+            .before .before .blocks) (W0 (c .before .before .before .before .before .before .before .before .before
+            .before .κs) (c .before .before .before .before .before .before .before .before .before .before .args) (c
+            .before .before .before .before .before .before .before .before .before .before .blocks))
+            (m19 (c .before) (After-raise-circuit·gave c))
         lay2 = λ c. (
           Path.refl,
           λ g. λ g'. (
@@ -2851,28 +2855,28 @@ module _ (claims· : Claims) where
                     };
                     send-arg2 = record { given = g'' };
                   };
-                  send = Called.called ps·2 r·2 (claims· .5) T35 (
-                    record { pos = 22; ty = ref2; ref = λ x. x },
+                  send = Called.called ps·2 r·2 (claims· .5) T36 (
+                    record { pos = 21; ty = ref2; ref = λ x. x },
                     (
-                      record { pos = 24; ty = ref3; ref = λ x. x },
+                      record { pos = 23; ty = ref3; ref = λ x. x },
                       (
-                        record { pos = 12; st = List.[]; d = 0; at = λ x. x },
+                        record { pos = 11; st = List.[]; d = 0; at = λ x. x },
                         (
-                          record { pos = 4; st = List.[]; d = 0; at = λ x. x },
+                          record { pos = 9; st = List.[]; d = 0; at = λ x. x },
                           (
-                            record { pos = 5; st = List.[]; d = 0; at = λ x. x },
+                            record { pos = 10; st = List.[]; d = 0; at = λ x. x },
                             (
-                              record { pos = 14; st = List.[]; d = 0; at = λ x. x },
+                              record { pos = 13; st = List.[]; d = 0; at = λ x. x },
                               (
-                                record { pos = 15; st = List.[]; d = 0; at = λ x. x },
-                                (record { pos = 10; ty = ref8; ref = λ x. x }, tt),
+                                record { pos = 14; st = List.[]; d = 0; at = λ x. x },
+                                (record { pos = 7; ty = ref7; ref = λ x. x }, tt),
                               ),
                             ),
                           ),
                         ),
                       ),
                     ),
-                  ) (m26 record {
+                  ) (m27 record {
                     before = record {
                       before = record { before = c .before; raise-circuit = c .raise-circuit };
                       circuits = record { given = g };
@@ -2885,140 +2889,143 @@ module _ (claims· : Claims) where
           ),
         )
 
-        lay1 : (c : After-plan-window) → at40 (c .before .before .before .before .before .blocks) (W0
-            (c .before .before .before .before .before .κs) (c .before .before .before .before .before .args)
-            (c .before .before .before .before .before .blocks)) (m6 (c .before) (After-plan-window·gave c))
+        lay1 : (c : After-plan-window) → at42 (c .before .before .before .before .blocks) (W0
+            (c .before .before .before .before .κs) (c .before .before .before .before .args)
+            (c .before .before .before .before .blocks)) (m5 (c .before) (After-plan-window·gave c))
         lay1 = λ c. (
           tt,
           λ g. (
             tt,
-            λ g'. λ g''. (
-              Path.refl,
-              (
-                raise-circuit-requires record {
-                  before = record {
-                    before = record {
-                      before = record { before = c .before; plan-window = c .plan-window };
-                      message = record { given = g };
-                    };
-                    scan = record { given = g' };
-                  };
-                  raise-circuit-arg = record { given = g'' };
-                },
-                λ g'3. lay2 record {
-                  before = record {
-                    before = record {
+            λ g'. (
+              tt,
+              λ g''. (
+                tt,
+                λ g'3. λ g'4. (
+                  Path.refl,
+                  (
+                    raise-circuit-requires record {
                       before = record {
-                        before = record { before = c .before; plan-window = c .plan-window };
-                        message = record { given = g };
+                        before = record {
+                          before = record {
+                            before = record {
+                              before = record { before = c .before; plan-window = c .plan-window };
+                              runtime = record { given = g };
+                            };
+                            places = record { given = g' };
+                          };
+                          message = record { given = g'' };
+                        };
+                        scan = record { given = g'3 };
                       };
-                      scan = record { given = g' };
-                    };
-                    raise-circuit-arg = record { given = g'' };
-                  };
-                  raise-circuit = Called.called ps·1 r·1 (claims· .3) T22 (
-                    record { pos = 20; ty = ref1; ref = λ x. x },
-                    (
-                      record { pos = 5; st = List.[]; d = 0; at = λ x. x },
-                      (
-                        Bool.bFld 11 ((Syntax.field 1) ∷ List.[]) 48 λ x. WindowPlan.struct .as-values x .1 .0,
+                      raise-circuit-arg = record { given = g'4 };
+                    },
+                    λ g'5. lay2 record {
+                      before = record {
+                        before = record {
+                          before = record {
+                            before = record {
+                              before = record {
+                                before = record { before = c .before; plan-window = c .plan-window };
+                                runtime = record { given = g };
+                              };
+                              places = record { given = g' };
+                            };
+                            message = record { given = g'' };
+                          };
+                          scan = record { given = g'3 };
+                        };
+                        raise-circuit-arg = record { given = g'4 };
+                      };
+                      raise-circuit = Called.called ps·1 r·1 (claims· .3) T23 (
+                        record { pos = 19; ty = ref1; ref = λ x. x },
                         (
-                          Num.vFld 11 ((Syntax.field 2) ∷ List.[]) 56 λ x. WindowPlan.struct .as-values x .1 .1 .0,
+                          record { pos = 10; st = List.[]; d = 0; at = λ x. x },
                           (
-                            record { pos = 13; st = List.[]; d = 0; at = λ x. x },
+                            Bool.bFld 8 ((Syntax.field 1) ∷ List.[]) 48 λ x. WindowPlan.struct .as-values x .1 .0,
                             (
-                              Num.vFld 11 ((Syntax.field 4) ∷ List.[]) 68 λ x. WindowPlan.struct .as-values x .1 .1 .1
-                                  .1 .0,
-                              tt,
+                              Num.vFld 8 ((Syntax.field 2) ∷ List.[]) 56 λ x. WindowPlan.struct .as-values x .1 .1 .0,
+                              (
+                                record { pos = 12; st = List.[]; d = 0; at = λ x. x },
+                                (
+                                  Num.vFld 8 ((Syntax.field 4) ∷ List.[]) 68 λ x. WindowPlan.struct .as-values x .1 .1
+                                      .1 .1 .0,
+                                  tt,
+                                ),
+                              ),
                             ),
                           ),
                         ),
-                      ),
-                    ),
-                  ) (m17 record {
-                    before = record {
-                      before = record { before = c .before; plan-window = c .plan-window };
-                      message = record { given = g };
-                    };
-                    scan = record { given = g' };
-                  } g'') g'3;
-                },
+                      ) (m18 record {
+                        before = record {
+                          before = record {
+                            before = record {
+                              before = record { before = c .before; plan-window = c .plan-window };
+                              runtime = record { given = g };
+                            };
+                            places = record { given = g' };
+                          };
+                          message = record { given = g'' };
+                        };
+                        scan = record { given = g'3 };
+                      } g'4) g'5;
+                    },
+                  ),
+                ),
               ),
             ),
           ),
         )
 
-        pub laid : (c : Start) → at47 (c .blocks) (W0 (c .κs) (c .args) (c .blocks)) (m0 (c .κs) (c .args) (c .blocks))
-        laid = λ c. λ g. λ g'. λ g''. λ g'3. (
+        pub laid : (c : Start) → at48 (c .blocks) (W0 (c .κs) (c .args) (c .blocks)) (m0 (c .κs) (c .args) (c .blocks))
+        laid = λ c. λ g. λ g'. λ g''. (
           Path.refl,
           (
             plan-window-requires record {
               before = record {
+                before = record { before = c; slice-known = record { given = g } };
+                shared-slice-known = record { given = g' };
+              };
+              plan-window-arg = record { given = g'' };
+            },
+            λ g'3. lay1 record {
+              before = record {
                 before = record {
                   before = record { before = c; slice-known = record { given = g } };
                   shared-slice-known = record { given = g' };
                 };
-                shared-slice-known2 = record { given = g'' };
+                plan-window-arg = record { given = g'' };
               };
-              plan-window-arg = record { given = g'3 };
-            },
-            λ g'4. lay1 record {
-              before = record {
-                before = record {
-                  before = record {
-                    before = record { before = c; slice-known = record { given = g } };
-                    shared-slice-known = record { given = g' };
-                  };
-                  shared-slice-known2 = record { given = g'' };
-                };
-                plan-window-arg = record { given = g'3 };
-              };
-              plan-window = Called.called ps·0 r·0 (claims· .1) T7 (
-                record { pos = 17; ty = ref0; ref = λ x. x },
+              plan-window = Called.called ps·0 r·0 (claims· .1) T6 (
+                record { pos = 16; ty = ref0; ref = λ x. x },
                 (
                   record { pos = 4; st = List.[]; d = 0; at = λ x. x },
                   (
                     record { pos = 5; st = List.[]; d = 0; at = λ x. x },
-                    (
-                      record { pos = 6; st = List.[]; d = 0; at = λ x. x },
-                      (
-                        record { pos = 7; st = List.[]; d = 0; at = λ x. x },
-                        (
-                          record { pos = 8; st = List.[]; d = 0; at = λ x. x },
-                          (record { pos = 9; ty = ref7; ref = λ x. x }, tt),
-                        ),
-                      ),
-                    ),
+                    (record { pos = 6; st = List.[]; d = 0; at = λ x. x }, tt),
                   ),
                 ),
-              ) (m5 record {
-                before = record {
-                  before = record { before = c; slice-known = record { given = g } };
-                  shared-slice-known = record { given = g' };
-                };
-                shared-slice-known2 = record { given = g'' };
-              } g'3) g'4;
+              ) (m4 record {
+                before = record { before = c; slice-known = record { given = g } };
+                shared-slice-known = record { given = g' };
+              } g'') g'3;
             },
           ),
         )
 
-        module _ (κs : Lifetimes.Lfts 5) (qs : Lifetimes.Shares 5) where
+        module _ (κs : Lifetimes.Lfts 4) (qs : Lifetimes.Shares 4) where
           pub asked : (a : Kinds.Dens κs ps) → (good : Kinds.GoodsP κs ps a) → (pre : Pre· κs a) →
-              (bs : List.List Nat.ℕ) → Φ bs (Any.wantQ 5 ps r xs m κs qs a (Post· κs a))
-              (Function.init 5 ps r xs m κs qs a)
+              (bs : List.List Nat.ℕ) → Φ bs (Any.wantQ 4 ps r xs m κs qs a (Post· κs a))
+              (Function.init 4 ps r xs m κs qs a)
           asked = λ a good pre bs. laid record {
             κs = κs;
             args = record {
               circuits = a .0;
               inflight = a .1 .0;
               out = a .1 .1 .0;
-              runtime = a .1 .1 .1 .0;
-              places = a .1 .1 .1 .1 .0;
-              packet = a .1 .1 .1 .1 .1 .0;
-              read = a .1 .1 .1 .1 .1 .1 .0;
-              named = a .1 .1 .1 .1 .1 .1 .1 .0;
-              source = a .1 .1 .1 .1 .1 .1 .1 .1 .0;
-              body = a .1 .1 .1 .1 .1 .1 .1 .1 .1 .0;
+              request = a .1 .1 .1 .0;
+              read = a .1 .1 .1 .1 .0;
+              named = a .1 .1 .1 .1 .1 .0;
+              body = a .1 .1 .1 .1 .1 .1 .0;
             };
             blocks = bs;
             good = good;
@@ -3026,11 +3033,11 @@ module _ (claims· : Claims) where
           }
 
         module _ {M : Type 1} (𝓤 : URA.URA M) (H : Wp.Heap 𝓤) (A : Atoms.Atoms 𝓤) (W : Kit.Given 𝓤 H A)
-            (𝓣 : Wp.Tables 𝓤 H) (known0 : Plain.Known 𝓤 H A W 𝓣 2 ps·0 r·0 (claims· .0) (claims· .1)
+            (𝓣 : Wp.Tables 𝓤 H) (known0 : Plain.Known 𝓤 H A W 𝓣 1 ps·0 r·0 (claims· .0) (claims· .1)
             "hnsr_circuit::messages::handle_window::plan_window") (known1 : Plain.Known 𝓤 H A W 𝓣 1 ps·1 r·1
             (claims· .2) (claims· .3) "hnsr_circuit::tables::stores::raise_circuit") (known2 : Plain.Known 𝓤 H A W 𝓣 3
             ps·2 r·2 (claims· .4) (claims· .5) "hnsr_circuit::output::queue::send") where
-          pub spec : Statement.Triple 𝓤 (Wp.WpFn 𝓤 H (𝓣 .C) (𝓣 .Λ) (Function.fnOf 5 ps r xs m hs body))
-              (Function.plainOf 𝓤 H A 5 ps r Pre· Post·)
-          spec = Plain.t-fn-plain 𝓤 H A W 𝓣 5 ps r xs m hs body (λ κs qs bs. Φ bs) (λ κs qs bs bd. typed κs qs 𝓤 H A W
+          pub spec : Statement.Triple 𝓤 (Wp.WpFn 𝓤 H (𝓣 .C) (𝓣 .Λ) (Function.fnOf 4 ps r xs m hs body))
+              (Function.plainOf 𝓤 H A 4 ps r Pre· Post·)
+          spec = Plain.t-fn-plain 𝓤 H A W 𝓣 4 ps r xs m hs body (λ κs qs bs. Φ bs) (λ κs qs bs bd. typed κs qs 𝓤 H A W
               𝓣 (known0, known1, known2) bs bd) Pre· Post· asked

@@ -5,28 +5,19 @@ use Rattle.hnsr_circuit.proofs.By.InflightAction
 use Rattle.hnsr_circuit.proofs.StructRow
 use Rattle.hnsr_circuit.proofs.messages.window.WindowPlan
 use Rattle.hnsr_circuit.proofs.messages.window.WindowPlan.Laws as Laws'
-use Rattle.hnsr_circuit.proofs.runtime.OpaqueRelayRuntime
-use Rattle.hnsr_circuit.proofs.runtime.OpaqueRelayRuntime.Laws as Laws''
-use Rattle.hnsr_circuit.proofs.runtime.RelayPacket
-use Rattle.hnsr_circuit.proofs.runtime.RelayPacket.Laws as Laws'''
+use Rattle.hnsr_circuit.proofs.runtime.Request
+use Rattle.hnsr_circuit.proofs.runtime.Request.Laws as Laws''
 use Rattle.hnsr_circuit.proofs.tables.lookup.CircuitFound
-use Rattle.hnsr_circuit.proofs.tables.lookup.CircuitFound.Laws as Laws''''
-use Rattle.hnsr_circuit.proofs.tables.places.Places
-use Rattle.hnsr_circuit.proofs.tables.places.Places.Laws as Laws'''''
+use Rattle.hnsr_circuit.proofs.tables.lookup.CircuitFound.Laws as Laws'''
 use borrow.Fn.Kinds
 use borrow.Kind.ShrSlice
-use borrow.Table.Referent
 use mathlib.Core.List
-use mir.Syntax
 use mathlib.Core.List.{_∷_}
 
-abbrev pub ps : List.List (Kinds.PK 2)
-ps = (ShrSlice.pShrS InflightAction.row 0 tt) ∷ (StructRow.param OpaqueRelayRuntime.the-type Laws''.the-laws
-    Laws''.the-copy Laws''.the-plain) ∷ (StructRow.param Places.the-type Laws'''''.the-laws Laws'''''.the-copy
-    Laws'''''.the-plain) ∷ (StructRow.param RelayPacket.the-type Laws'''.the-laws Laws'''.the-copy Laws'''.the-plain) ∷ (StructRow.param
-    WindowRead.the-type Laws.the-laws Laws.the-copy Laws.the-plain) ∷ (StructRow.param CircuitFound.the-type
-    Laws''''.the-laws Laws''''.the-copy Laws''''.the-plain) ∷ (ShrSlice.pShrS (Referent.rtF (Referent.fInt Syntax.w8))
-    1 tt) ∷ List.[]
+abbrev pub ps : List.List (Kinds.PK 1)
+ps = (ShrSlice.pShrS InflightAction.row 0 tt) ∷ (StructRow.param Request.the-type Laws''.the-laws Laws''.the-copy
+    Laws''.the-plain) ∷ (StructRow.param WindowRead.the-type Laws.the-laws Laws.the-copy Laws.the-plain) ∷ (StructRow.param
+    CircuitFound.the-type Laws'''.the-laws Laws'''.the-copy Laws'''.the-plain) ∷ List.[]
 
-abbrev pub r : Kinds.RK 2
+abbrev pub r : Kinds.RK 1
 r = StructRow.result WindowPlan.the-type Laws'.the-laws Laws'.the-copy Laws'.the-plain

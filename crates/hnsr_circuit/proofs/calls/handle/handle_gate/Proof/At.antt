@@ -7,27 +7,33 @@ use borrow.Author.Needs.{needs}
 pub record Dispatch-requires (c : Tie.After-dispatch-arg5) : Type 0 where
   pub start : Tie.Start
   pub gate-answer : Lts.After-gate-answer·own Tie.readings Reads.Pre Reads.Post (c .before .before .before .before
-      .before .before .before .before)
-  pub is-taken : Lts.After-is-taken·own Tie.readings Reads.Pre Reads.Post
-      (c .before .before .before .before .before .before .before)
-  pub if1 : Lts.Then1·own Tie.readings Reads.Pre Reads.Post (c .before .before .before .before .before .before)
+      .before .before .before .before .before)
+  pub is-taken : Lts.After-is-taken·own Tie.readings Reads.Pre Reads.Post (c .before .before .before .before .before
+      .before .before .before)
+  pub if1 : Lts.Then1·own Tie.readings Reads.Pre Reads.Post (c .before .before .before .before .before .before .before)
+  pub peer-of : Lts.After-peer-of·own Tie.readings Reads.Pre Reads.Post
+      (c .before .before .before .before .before .before)
 
 abbrev pub dispatch-requires : (c : Tie.After-dispatch-arg5) → Dispatch-requires c
 dispatch-requires c = record {
-  start = c .before .before .before .before .before .before .before .before .before .before .before .before .before;
-  gate-answer = c .before .before .before .before .before .before .before .gate-answer;
-  is-taken = c .before .before .before .before .before .before .is-taken;
-  if1 = c .before .before .before .before .before .if1;
+  start = c .before .before .before .before .before .before .before .before .before .before .before .before .before
+      .before;
+  gate-answer = c .before .before .before .before .before .before .before .before .gate-answer;
+  is-taken = c .before .before .before .before .before .before .before .is-taken;
+  if1 = c .before .before .before .before .before .before .if1;
+  peer-of = c .before .before .before .before .before .peer-of;
 }
 
 pub record Returns (c : Tie.After-slice-known2) : Type 0 where
   pub start : Tie.Start
   pub gate-answer : Lts.After-gate-answer·own Tie.readings Reads.Pre Reads.Post (c .before .before .before .before
-      .before .before .before .before .before .before .before .before .before .before .before)
+      .before .before .before .before .before .before .before .before .before .before .before .before)
   pub is-taken : Lts.After-is-taken·own Tie.readings Reads.Pre Reads.Post (c .before .before .before .before .before
-      .before .before .before .before .before .before .before .before .before)
+      .before .before .before .before .before .before .before .before .before .before)
   pub if1 : Lts.Then1·own Tie.readings Reads.Pre Reads.Post (c .before .before .before .before .before .before .before
-      .before .before .before .before .before .before)
+      .before .before .before .before .before .before .before)
+  pub peer-of : Lts.After-peer-of·own Tie.readings Reads.Pre Reads.Post (c .before .before .before .before .before
+      .before .before .before .before .before .before .before .before)
   pub dispatch : Lts.After-dispatch·own Tie.readings Reads.Pre Reads.Post
       (c .before .before .before .before .before .before .before)
   pub pending : Lts.After-pending·own Tie.readings Reads.Pre Reads.Post
@@ -40,12 +46,13 @@ pub record Returns (c : Tie.After-slice-known2) : Type 0 where
 abbrev pub returns : (c : Tie.After-slice-known2) → Returns c
 returns c = record {
   start = c .before .before .before .before .before .before .before .before .before .before .before .before .before
-      .before .before .before .before .before .before .before;
+      .before .before .before .before .before .before .before .before;
   gate-answer = c .before .before .before .before .before .before .before .before .before .before .before .before
-      .before .before .gate-answer;
+      .before .before .before .gate-answer;
   is-taken = c .before .before .before .before .before .before .before .before .before .before .before .before .before
-      .is-taken;
-  if1 = c .before .before .before .before .before .before .before .before .before .before .before .before .if1;
+      .before .is-taken;
+  if1 = c .before .before .before .before .before .before .before .before .before .before .before .before .before .if1;
+  peer-of = c .before .before .before .before .before .before .before .before .before .before .before .before .peer-of;
   dispatch = c .before .before .before .before .before .before .dispatch;
   pending = c .before .before .before .before .before .pending;
   circuits = c .before .before .before .before .circuits;
@@ -76,6 +83,9 @@ gate-answer-requires c = search needs
 is-taken-requires : Tie.Need-is-taken-requires
 is-taken-requires c = search needs
 
+peer-of-requires : Tie.Need-peer-of-requires
+peer-of-requires c = search needs
+
 same-length : Tie.Need-same-length
 same-length c = search needs
 
@@ -97,5 +107,5 @@ refused-requires c = search needs
 module _ {M : Type 1} where
   pub spec : Tie.Need-dispatch-requires → Tie.Need-returns → Tie.Need-returns-2 → Lts.Closed Tie.readings Reads.Pre
       Reads.Post M
-  spec = λ a0 a1 a2. Tie.spec gate-answer-requires is-taken-requires a0 same-length same-length-2 same-length-3
-      same-length-4 same-length-5 a1 refused-requires a2
+  spec = λ a0 a1 a2. Tie.spec gate-answer-requires is-taken-requires peer-of-requires a0 same-length same-length-2
+      same-length-3 same-length-4 same-length-5 a1 refused-requires a2

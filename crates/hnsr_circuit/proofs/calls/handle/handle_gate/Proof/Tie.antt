@@ -14,9 +14,12 @@ use Rattle.hnsr_circuit.proofs.calls.handle.gate_answer.Symbol as Symbo
 use Rattle.hnsr_circuit.proofs.calls.handle.handle_gate.Code
 use Rattle.hnsr_circuit.proofs.calls.handle.handle_gate.Key
 use Rattle.hnsr_circuit.proofs.calls.handle.handle_gate.Statement
-use Rattle.hnsr_circuit.proofs.runtime.refused.Met as Met'''
-use Rattle.hnsr_circuit.proofs.runtime.refused.Reads as Reads''''
-use Rattle.hnsr_circuit.proofs.runtime.refused.Symbol as Symbol'''
+use Rattle.hnsr_circuit.proofs.peer.peer_of.Met as Met'''
+use Rattle.hnsr_circuit.proofs.peer.peer_of.Reads as Reads''''
+use Rattle.hnsr_circuit.proofs.peer.peer_of.Symbol as Symbol'''
+use Rattle.hnsr_circuit.proofs.runtime.refused.Met as Met''''
+use Rattle.hnsr_circuit.proofs.runtime.refused.Reads as Reads'''''
+use Rattle.hnsr_circuit.proofs.runtime.refused.Symbol as Symbol''''
 use borrow.Fn.Run
 use borrow.Fn.Written
 use contract.Running
@@ -27,10 +30,12 @@ readings = (
   Reads'''.Learnt,
   Reads''.Asked,
   Reads''.Learnt,
-  Reads.Asked,
-  Reads.Learnt,
   Reads''''.Asked,
   Reads''''.Learnt,
+  Reads.Asked,
+  Reads.Learnt,
+  Reads'''''.Asked,
+  Reads'''''.Learnt,
 )
 
 abbrev pub Start : Type 0
@@ -59,6 +64,9 @@ After-is-taken = Lts.After-is-taken readings Reads'.Pre Reads'.Post
 
 abbrev pub Then1 : Type 0
 Then1 = Lts.Then1 readings Reads'.Pre Reads'.Post
+
+abbrev pub After-peer-of : Type 0
+After-peer-of = Lts.After-peer-of readings Reads'.Pre Reads'.Post
 
 abbrev pub After-dispatch-arg : Type 0
 After-dispatch-arg = Lts.After-dispatch-arg readings Reads'.Pre Reads'.Post
@@ -108,6 +116,9 @@ Need-gate-answer-requires = Lts.Need-gate-answer-requires readings Reads'.Pre Re
 abbrev pub Need-is-taken-requires : Type 0
 Need-is-taken-requires = Lts.Need-is-taken-requires readings Reads'.Pre Reads'.Post
 
+abbrev pub Need-peer-of-requires : Type 0
+Need-peer-of-requires = Lts.Need-peer-of-requires readings Reads'.Pre Reads'.Post
+
 abbrev pub Need-dispatch-requires : Type 0
 Need-dispatch-requires = Lts.Need-dispatch-requires readings Reads'.Pre Reads'.Post
 
@@ -137,13 +148,13 @@ Need-returns-2 = Lts.Need-returns-2 readings Reads'.Pre Reads'.Post
 
 module _ {M : Type 1} where
   pub spec : (answer : Need-gate-answer-requires) → (answer : Need-is-taken-requires) →
-      (answer : Need-dispatch-requires) → (answer : Need-same-length) → (answer : Need-same-length-2) →
-      (answer : Need-same-length-3) → (answer : Need-same-length-4) → (answer : Need-same-length-5) →
-      (answer : Need-returns) → (answer : Need-refused-requires) → (answer : Need-returns-2) → Lts.Closed readings
-      Reads'.Pre Reads'.Post M
-  spec = λ answer answer' answer'' answer'3 answer'4 answer'5 answer'6 answer'7 answer'8 answer'9 answer'10. Lts.spec
-      readings Reads'.Pre Reads'.Post answer answer' answer'' answer'3 answer'4 answer'5 answer'6 answer'7 answer'8
-      answer'9 answer'10
+      (answer : Need-peer-of-requires) → (answer : Need-dispatch-requires) → (answer : Need-same-length) →
+      (answer : Need-same-length-2) → (answer : Need-same-length-3) → (answer : Need-same-length-4) →
+      (answer : Need-same-length-5) → (answer : Need-returns) → (answer : Need-refused-requires) →
+      (answer : Need-returns-2) → Lts.Closed readings Reads'.Pre Reads'.Post M
+  spec = λ answer answer' answer'' answer'3 answer'4 answer'5 answer'6 answer'7 answer'8 answer'9 answer'10 answer'11.
+      Lts.spec readings Reads'.Pre Reads'.Post answer answer' answer'' answer'3 answer'4 answer'5 answer'6 answer'7
+      answer'8 answer'9 answer'10 answer'11
 
   pub close : Lts.Closed readings Reads'.Pre Reads'.Post M → Statement.statement M
   unfolding Code.routine Running.tablesOf
@@ -155,8 +166,10 @@ module _ {M : Type 1} where
       (Run.Over 𝓤 H 𝓜 𝓖 𝓡 Code.env) (Reads'''.known record { M = M; 𝓤 = 𝓤; H = H; 𝓜 = 𝓜; 𝓖 = 𝓖; 𝓡 = 𝓡 } Code.env
       Symbol''.name Symbol''.routine Code.calls-hnsr-circuit·calls·handle·gate-answer (Met''.met 𝓤 H 𝓜 𝓖 𝓡)) (Reads''.known
       record { M = M; 𝓤 = 𝓤; H = H; 𝓜 = 𝓜; 𝓖 = 𝓖; 𝓡 = 𝓡 } Code.env Symbol.name Symbol.routine
-      Code.calls-hnsr-circuit·answer·is-taken (Met.met 𝓤 H 𝓜 𝓖 𝓡)) (Reads.known
-      record { M = M; 𝓤 = 𝓤; H = H; 𝓜 = 𝓜; 𝓖 = 𝓖; 𝓡 = 𝓡 } Code.env Symbol'.name Symbol'.routine
-      Code.calls-hnsr-circuit·calls·handle·dispatch (Met'.met 𝓤 H 𝓜 𝓖 𝓡)) (Reads''''.known
+      Code.calls-hnsr-circuit·answer·is-taken (Met.met 𝓤 H 𝓜 𝓖 𝓡)) (Reads''''.known
       record { M = M; 𝓤 = 𝓤; H = H; 𝓜 = 𝓜; 𝓖 = 𝓖; 𝓡 = 𝓡 } Code.env Symbol'''.name Symbol'''.routine
-      Code.calls-hnsr-circuit·runtime·refused (Met'''.met 𝓤 H 𝓜 𝓖 𝓡))
+      Code.calls-hnsr-circuit·peer·peer-of (Met'''.met 𝓤 H 𝓜 𝓖 𝓡)) (Reads.known
+      record { M = M; 𝓤 = 𝓤; H = H; 𝓜 = 𝓜; 𝓖 = 𝓖; 𝓡 = 𝓡 } Code.env Symbol'.name Symbol'.routine
+      Code.calls-hnsr-circuit·calls·handle·dispatch (Met'.met 𝓤 H 𝓜 𝓖 𝓡)) (Reads'''''.known
+      record { M = M; 𝓤 = 𝓤; H = H; 𝓜 = 𝓜; 𝓖 = 𝓖; 𝓡 = 𝓡 } Code.env Symbol''''.name Symbol''''.routine
+      Code.calls-hnsr-circuit·runtime·refused (Met''''.met 𝓤 H 𝓜 𝓖 𝓡))

@@ -6,7 +6,15 @@ use borrow.Author.Needs.{needs}
 
 pub record Returns (c : Tie.After-accept-rows) : Type 0 where
   pub start : Tie.Start
-  pub peer-of : Lts.After-peer-of·own Tie.readings Reads.Pre Reads.Post (c .before .before .before .before .before
+  pub runtime : Lts.After-runtime·own Tie.readings Reads.Pre Reads.Post (c .before .before .before .before .before
+      .before .before .before .before .before .before .before)
+  pub places : Lts.After-places·own Tie.readings Reads.Pre Reads.Post (c .before .before .before .before .before
+      .before .before .before .before .before .before)
+  pub packet : Lts.After-packet·own Tie.readings Reads.Pre Reads.Post (c .before .before .before .before .before
+      .before .before .before .before .before)
+  pub peer : Lts.After-peer·own Tie.readings Reads.Pre Reads.Post (c .before .before .before .before .before .before
+      .before .before .before)
+  pub config : Lts.After-config·own Tie.readings Reads.Pre Reads.Post (c .before .before .before .before .before
       .before .before .before)
   pub accept-work : Lts.After-accept-work·own Tie.readings Reads.Pre Reads.Post
       (c .before .before .before .before .before .before .before)
@@ -21,8 +29,12 @@ pub record Returns (c : Tie.After-accept-rows) : Type 0 where
 
 abbrev pub returns : (c : Tie.After-accept-rows) → Returns c
 returns c = record {
-  start = c .before .before .before .before .before .before .before .before .before;
-  peer-of = c .before .before .before .before .before .before .before .peer-of;
+  start = c .before .before .before .before .before .before .before .before .before .before .before .before;
+  runtime = c .before .before .before .before .before .before .before .before .before .before .before .runtime;
+  places = c .before .before .before .before .before .before .before .before .before .before .places;
+  packet = c .before .before .before .before .before .before .before .before .before .packet;
+  peer = c .before .before .before .before .before .before .before .before .peer;
+  config = c .before .before .before .before .before .before .before .config;
   accept-work = c .before .before .before .before .before .before .accept-work;
   pending-work = c .before .before .before .before .before .pending-work;
   circuit-work = c .before .before .before .before .circuit-work;
@@ -31,9 +43,6 @@ returns c = record {
   tally = c .before .tally;
   accept-rows = c .accept-rows;
 }
-
-peer-of-requires : Tie.Need-peer-of-requires
-peer-of-requires c = search needs
 
 accept-work-requires : Tie.Need-accept-work-requires
 accept-work-requires c = search needs
@@ -55,5 +64,5 @@ accept-rows-requires c = search needs
 
 module _ {M : Type 1} where
   pub spec : Tie.Need-returns → Lts.Closed Tie.readings Reads.Pre Reads.Post M
-  spec = λ a0. Tie.spec peer-of-requires accept-work-requires pending-work-requires circuit-work-requires
-      replacing-requires scan-actions-requires accept-rows-requires a0
+  spec = λ a0. Tie.spec accept-work-requires pending-work-requires circuit-work-requires replacing-requires
+      scan-actions-requires accept-rows-requires a0

@@ -6,6 +6,10 @@ use borrow.Author.Needs.{needs}
 
 pub record Accept-written-requires (c : Tie.After-accept-written-arg2) : Type 0 where
   pub start : Tie.Start
+  pub runtime : Lts.After-runtime·own Tie.readings Reads.Pre Reads.Post (c .before .before .before .before .before
+      .before .before .before .before .before .before .before .before .before .before .before .before .before)
+  pub places : Lts.After-places·own Tie.readings Reads.Pre Reads.Post (c .before .before .before .before .before
+      .before .before .before .before .before .before .before .before .before .before .before .before)
   pub config : Lts.After-config·own Tie.readings Reads.Pre Reads.Post (c .before .before .before .before .before
       .before .before .before .before .before .before .before .before .before .before .before)
   pub accept-answered : Lts.After-accept-answered·own Tie.readings Reads.Pre Reads.Post (c .before .before .before
@@ -29,7 +33,11 @@ pub record Accept-written-requires (c : Tie.After-accept-written-arg2) : Type 0 
 abbrev pub accept-written-requires : (c : Tie.After-accept-written-arg2) → Accept-written-requires c
 accept-written-requires c = record {
   start = c .before .before .before .before .before .before .before .before .before .before .before .before .before
-      .before .before .before .before .before;
+      .before .before .before .before .before .before;
+  runtime = c .before .before .before .before .before .before .before .before .before .before .before .before .before
+      .before .before .before .before .runtime;
+  places = c .before .before .before .before .before .before .before .before .before .before .before .before .before
+      .before .before .before .places;
   config = c .before .before .before .before .before .before .before .before .before .before .before .before .before
       .before .before .config;
   accept-answered = c .before .before .before .before .before .before .before .before .before .before .before
@@ -47,6 +55,12 @@ accept-written-requires c = record {
 
 pub record Send-requires (c : Tie.After-bytes) : Type 0 where
   pub start : Tie.Start
+  pub runtime : Lts.After-runtime·own Tie.readings Reads.Pre Reads.Post (c .before .before .before .before .before
+      .before .before .before .before .before .before .before .before .before .before .before .before .before .before
+      .before .before .before .before .before .before .before .before .before .before)
+  pub places : Lts.After-places·own Tie.readings Reads.Pre Reads.Post (c .before .before .before .before .before
+      .before .before .before .before .before .before .before .before .before .before .before .before .before .before
+      .before .before .before .before .before .before .before .before .before)
   pub config : Lts.After-config·own Tie.readings Reads.Pre Reads.Post (c .before .before .before .before .before
       .before .before .before .before .before .before .before .before .before .before .before .before .before .before
       .before .before .before .before .before .before .before .before)
@@ -92,7 +106,13 @@ abbrev pub send-requires : (c : Tie.After-bytes) → Send-requires c
 send-requires c = record {
   start = c .before .before .before .before .before .before .before .before .before .before .before .before .before
       .before .before .before .before .before .before .before .before .before .before .before .before .before .before
-      .before .before;
+      .before .before .before;
+  runtime = c .before .before .before .before .before .before .before .before .before .before .before .before .before
+      .before .before .before .before .before .before .before .before .before .before .before .before .before .before
+      .before .runtime;
+  places = c .before .before .before .before .before .before .before .before .before .before .before .before .before
+      .before .before .before .before .before .before .before .before .before .before .before .before .before .before
+      .places;
   config = c .before .before .before .before .before .before .before .before .before .before .before .before .before
       .before .before .before .before .before .before .before .before .before .before .before .before .before .config;
   accept-answered = c .before .before .before .before .before .before .before .before .before .before .before .before
@@ -127,6 +147,12 @@ send-requires c = record {
 
 pub record Returns (c : Tie.After-slice-known2) : Type 0 where
   pub start : Tie.Start
+  pub runtime : Lts.After-runtime·own Tie.readings Reads.Pre Reads.Post (c .before .before .before .before .before
+      .before .before .before .before .before .before .before .before .before .before .before .before .before .before
+      .before .before .before .before .before .before .before .before .before .before .before .before .before .before)
+  pub places : Lts.After-places·own Tie.readings Reads.Pre Reads.Post (c .before .before .before .before .before
+      .before .before .before .before .before .before .before .before .before .before .before .before .before .before
+      .before .before .before .before .before .before .before .before .before .before .before .before .before)
   pub config : Lts.After-config·own Tie.readings Reads.Pre Reads.Post (c .before .before .before .before .before
       .before .before .before .before .before .before .before .before .before .before .before .before .before .before
       .before .before .before .before .before .before .before .before .before .before .before .before)
@@ -181,7 +207,13 @@ abbrev pub returns : (c : Tie.After-slice-known2) → Returns c
 returns c = record {
   start = c .before .before .before .before .before .before .before .before .before .before .before .before .before
       .before .before .before .before .before .before .before .before .before .before .before .before .before .before
-      .before .before .before .before .before .before;
+      .before .before .before .before .before .before .before;
+  runtime = c .before .before .before .before .before .before .before .before .before .before .before .before .before
+      .before .before .before .before .before .before .before .before .before .before .before .before .before .before
+      .before .before .before .before .before .runtime;
+  places = c .before .before .before .before .before .before .before .before .before .before .before .before .before
+      .before .before .before .before .before .before .before .before .before .before .before .before .before .before
+      .before .before .before .before .places;
   config = c .before .before .before .before .before .before .before .before .before .before .before .before .before
       .before .before .before .before .before .before .before .before .before .before .before .before .before .before
       .before .before .before .config;
@@ -225,6 +257,10 @@ returns c = record {
 
 pub record Returns-2 (c : Tie.After-refused) : Type 0 where
   pub start : Tie.Start
+  pub runtime : Lts.After-runtime·own Tie.readings Reads.Pre Reads.Post (c .before .before .before .before .before
+      .before .before .before .before .before)
+  pub places : Lts.After-places·own Tie.readings Reads.Pre Reads.Post (c .before .before .before .before .before
+      .before .before .before .before)
   pub config : Lts.After-config·own Tie.readings Reads.Pre Reads.Post (c .before .before .before .before .before
       .before .before .before)
   pub accept-answered : Lts.After-accept-answered·own Tie.readings Reads.Pre Reads.Post
@@ -235,7 +271,9 @@ pub record Returns-2 (c : Tie.After-refused) : Type 0 where
 
 abbrev pub returns-2 : (c : Tie.After-refused) → Returns-2 c
 returns-2 c = record {
-  start = c .before .before .before .before .before .before .before .before .before .before;
+  start = c .before .before .before .before .before .before .before .before .before .before .before;
+  runtime = c .before .before .before .before .before .before .before .before .before .runtime;
+  places = c .before .before .before .before .before .before .before .before .places;
   config = c .before .before .before .before .before .before .before .config;
   accept-answered = c .before .before .before .accept-answered;
   is-taken = c .before .before .is-taken;

@@ -6,11 +6,18 @@ use borrow.Author.Needs.{needs}
 
 pub record Returns (c : Tie.After-slice-known2) : Type 0 where
   pub start : Tie.Start
+  pub runtime : Lts.After-runtime·own Tie.readings Reads.Pre Reads.Post (c .before .before .before .before .before
+      .before .before .before .before .before .before .before .before .before .before .before .before .before .before
+      .before)
+  pub places : Lts.After-places·own Tie.readings Reads.Pre Reads.Post (c .before .before .before .before .before
+      .before .before .before .before .before .before .before .before .before .before .before .before .before .before)
+  pub packet : Lts.After-packet·own Tie.readings Reads.Pre Reads.Post (c .before .before .before .before .before
+      .before .before .before .before .before .before .before .before .before .before .before .before .before)
+  pub peer : Lts.After-peer·own Tie.readings Reads.Pre Reads.Post (c .before .before .before .before .before .before
+      .before .before .before .before .before .before .before .before .before .before .before)
   pub pending-by-id : Lts.After-pending-by-id·own Tie.readings Reads.Pre Reads.Post (c .before .before .before .before
-      .before .before .before .before .before .before .before .before .before .before .before .before)
+      .before .before .before .before .before .before .before .before .before .before .before)
   pub decode : Lts.After-decode·own Tie.readings Reads.Pre Reads.Post (c .before .before .before .before .before
-      .before .before .before .before .before .before .before .before .before .before)
-  pub peer-of : Lts.After-peer-of·own Tie.readings Reads.Pre Reads.Post (c .before .before .before .before .before
       .before .before .before .before .before .before .before .before .before)
   pub accept-entry : Lts.After-accept-entry·own Tie.readings Reads.Pre Reads.Post (c .before .before .before .before
       .before .before .before .before .before .before .before .before .before)
@@ -28,13 +35,19 @@ pub record Returns (c : Tie.After-slice-known2) : Type 0 where
 abbrev pub returns : (c : Tie.After-slice-known2) → Returns c
 returns c = record {
   start = c .before .before .before .before .before .before .before .before .before .before .before .before .before
-      .before .before .before .before .before .before .before;
+      .before .before .before .before .before .before .before .before .before;
+  runtime = c .before .before .before .before .before .before .before .before .before .before .before .before .before
+      .before .before .before .before .before .before .runtime;
+  places = c .before .before .before .before .before .before .before .before .before .before .before .before .before
+      .before .before .before .before .before .places;
+  packet = c .before .before .before .before .before .before .before .before .before .before .before .before .before
+      .before .before .before .before .packet;
+  peer = c .before .before .before .before .before .before .before .before .before .before .before .before .before
+      .before .before .before .peer;
   pending-by-id = c .before .before .before .before .before .before .before .before .before .before .before .before
-      .before .before .before .pending-by-id;
+      .before .before .pending-by-id;
   decode = c .before .before .before .before .before .before .before .before .before .before .before .before .before
-      .before .decode;
-  peer-of = c .before .before .before .before .before .before .before .before .before .before .before .before .before
-      .peer-of;
+      .decode;
   accept-entry = c .before .before .before .before .before .before .before .before .before .before .before .before
       .accept-entry;
   is-taken = c .before .before .before .before .before .before .before .before .before .before .before .is-taken;
@@ -48,11 +61,17 @@ returns c = record {
 
 pub record Returns-2 (c : Tie.After-refused) : Type 0 where
   pub start : Tie.Start
+  pub runtime : Lts.After-runtime·own Tie.readings Reads.Pre Reads.Post (c .before .before .before .before .before
+      .before .before .before .before .before .before)
+  pub places : Lts.After-places·own Tie.readings Reads.Pre Reads.Post (c .before .before .before .before .before
+      .before .before .before .before .before)
+  pub packet : Lts.After-packet·own Tie.readings Reads.Pre Reads.Post (c .before .before .before .before .before
+      .before .before .before .before)
+  pub peer : Lts.After-peer·own Tie.readings Reads.Pre Reads.Post (c .before .before .before .before .before .before
+      .before .before)
   pub pending-by-id : Lts.After-pending-by-id·own Tie.readings Reads.Pre Reads.Post
-      (c .before .before .before .before .before .before .before)
-  pub decode : Lts.After-decode·own Tie.readings Reads.Pre Reads.Post
       (c .before .before .before .before .before .before)
-  pub peer-of : Lts.After-peer-of·own Tie.readings Reads.Pre Reads.Post (c .before .before .before .before .before)
+  pub decode : Lts.After-decode·own Tie.readings Reads.Pre Reads.Post (c .before .before .before .before .before)
   pub accept-entry : Lts.After-accept-entry·own Tie.readings Reads.Pre Reads.Post (c .before .before .before .before)
   pub is-taken : Lts.After-is-taken·own Tie.readings Reads.Pre Reads.Post (c .before .before .before)
   pub if1 : Lts.Else1·own Tie.readings Reads.Pre Reads.Post (c .before .before)
@@ -60,10 +79,13 @@ pub record Returns-2 (c : Tie.After-refused) : Type 0 where
 
 abbrev pub returns-2 : (c : Tie.After-refused) → Returns-2 c
 returns-2 c = record {
-  start = c .before .before .before .before .before .before .before .before .before .before .before;
-  pending-by-id = c .before .before .before .before .before .before .pending-by-id;
-  decode = c .before .before .before .before .before .decode;
-  peer-of = c .before .before .before .before .peer-of;
+  start = c .before .before .before .before .before .before .before .before .before .before .before .before .before;
+  runtime = c .before .before .before .before .before .before .before .before .before .before .runtime;
+  places = c .before .before .before .before .before .before .before .before .before .places;
+  packet = c .before .before .before .before .before .before .before .before .packet;
+  peer = c .before .before .before .before .before .before .before .peer;
+  pending-by-id = c .before .before .before .before .before .pending-by-id;
+  decode = c .before .before .before .before .decode;
   accept-entry = c .before .before .before .accept-entry;
   is-taken = c .before .before .is-taken;
   if1 = c .before .if1;
@@ -75,9 +97,6 @@ pending-by-id-requires c = search needs
 
 decode-requires : Tie.Need-decode-requires
 decode-requires c = search needs
-
-peer-of-requires : Tie.Need-peer-of-requires
-peer-of-requires c = search needs
 
 accept-entry-requires : Tie.Need-accept-entry-requires
 accept-entry-requires c = search needs
@@ -108,6 +127,5 @@ same-length-5 c = search needs
 
 module _ {M : Type 1} where
   pub spec : Tie.Need-returns → Tie.Need-returns-2 → Lts.Closed Tie.readings Reads.Pre Reads.Post M
-  spec = λ a0 a1. Tie.spec pending-by-id-requires decode-requires peer-of-requires accept-entry-requires
-      is-taken-requires accept-found-requires same-length same-length-2 same-length-3 same-length-4 a0 refused-requires
-      same-length-5 a1
+  spec = λ a0 a1. Tie.spec pending-by-id-requires decode-requires accept-entry-requires is-taken-requires
+      accept-found-requires same-length same-length-2 same-length-3 same-length-4 a0 refused-requires same-length-5 a1

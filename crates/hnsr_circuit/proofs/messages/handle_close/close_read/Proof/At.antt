@@ -6,6 +6,11 @@ use borrow.Author.Needs.{needs}
 
 pub record Send-requires (c : Tie.After-send-arg2) : Type 0 where
   pub start : Tie.Start
+  pub runtime : Lts.After-runtime·own Tie.readings Reads.Pre Reads.Post (c .before .before .before .before .before
+      .before .before .before .before .before .before .before .before .before .before .before .before .before .before
+      .before)
+  pub places : Lts.After-places·own Tie.readings Reads.Pre Reads.Post (c .before .before .before .before .before
+      .before .before .before .before .before .before .before .before .before .before .before .before .before .before)
   pub plan-close : Lts.After-plan-close·own Tie.readings Reads.Pre Reads.Post (c .before .before .before .before
       .before .before .before .before .before .before .before .before .before .before .before .before)
   pub counted : Lts.After-counted·own Tie.readings Reads.Pre Reads.Post (c .before .before .before .before .before
@@ -30,7 +35,11 @@ pub record Send-requires (c : Tie.After-send-arg2) : Type 0 where
 abbrev pub send-requires : (c : Tie.After-send-arg2) → Send-requires c
 send-requires c = record {
   start = c .before .before .before .before .before .before .before .before .before .before .before .before .before
-      .before .before .before .before .before .before .before .before;
+      .before .before .before .before .before .before .before .before .before;
+  runtime = c .before .before .before .before .before .before .before .before .before .before .before .before .before
+      .before .before .before .before .before .before .runtime;
+  places = c .before .before .before .before .before .before .before .before .before .before .before .before .before
+      .before .before .before .before .before .places;
   plan-close = c .before .before .before .before .before .before .before .before .before .before .before .before
       .before .before .before .plan-close;
   counted = c .before .before .before .before .before .before .before .before .before .before .before .before .before
@@ -49,6 +58,12 @@ send-requires c = record {
 
 pub record Returns (c : Tie.After-slice-known2) : Type 0 where
   pub start : Tie.Start
+  pub runtime : Lts.After-runtime·own Tie.readings Reads.Pre Reads.Post (c .before .before .before .before .before
+      .before .before .before .before .before .before .before .before .before .before .before .before .before .before
+      .before .before .before .before .before)
+  pub places : Lts.After-places·own Tie.readings Reads.Pre Reads.Post (c .before .before .before .before .before
+      .before .before .before .before .before .before .before .before .before .before .before .before .before .before
+      .before .before .before .before)
   pub plan-close : Lts.After-plan-close·own Tie.readings Reads.Pre Reads.Post (c .before .before .before .before
       .before .before .before .before .before .before .before .before .before .before .before .before .before .before
       .before .before)
@@ -79,7 +94,11 @@ pub record Returns (c : Tie.After-slice-known2) : Type 0 where
 abbrev pub returns : (c : Tie.After-slice-known2) → Returns c
 returns c = record {
   start = c .before .before .before .before .before .before .before .before .before .before .before .before .before
-      .before .before .before .before .before .before .before .before .before .before .before .before;
+      .before .before .before .before .before .before .before .before .before .before .before .before .before;
+  runtime = c .before .before .before .before .before .before .before .before .before .before .before .before .before
+      .before .before .before .before .before .before .before .before .before .before .runtime;
+  places = c .before .before .before .before .before .before .before .before .before .before .before .before .before
+      .before .before .before .before .before .before .before .before .before .places;
   plan-close = c .before .before .before .before .before .before .before .before .before .before .before .before
       .before .before .before .before .before .before .before .plan-close;
   counted = c .before .before .before .before .before .before .before .before .before .before .before .before .before
@@ -104,6 +123,10 @@ returns c = record {
 
 pub record Returns-2 (c : Tie.After-refused) : Type 0 where
   pub start : Tie.Start
+  pub runtime : Lts.After-runtime·own Tie.readings Reads.Pre Reads.Post (c .before .before .before .before .before
+      .before .before .before .before)
+  pub places : Lts.After-places·own Tie.readings Reads.Pre Reads.Post (c .before .before .before .before .before
+      .before .before .before)
   pub plan-close : Lts.After-plan-close·own Tie.readings Reads.Pre Reads.Post
       (c .before .before .before .before .before)
   pub counted : Lts.After-counted·own Tie.readings Reads.Pre Reads.Post (c .before .before .before .before)
@@ -113,7 +136,9 @@ pub record Returns-2 (c : Tie.After-refused) : Type 0 where
 
 abbrev pub returns-2 : (c : Tie.After-refused) → Returns-2 c
 returns-2 c = record {
-  start = c .before .before .before .before .before .before .before .before .before .before;
+  start = c .before .before .before .before .before .before .before .before .before .before .before;
+  runtime = c .before .before .before .before .before .before .before .before .runtime;
+  places = c .before .before .before .before .before .before .before .places;
   plan-close = c .before .before .before .before .plan-close;
   counted = c .before .before .before .counted;
   message = c .before .before .message;

@@ -57,8 +57,11 @@ After-slice-known = Lts.After-slice-known readings Reads.Pre Reads.Post
 abbrev pub After-shared-slice-known : Type 0
 After-shared-slice-known = Lts.After-shared-slice-known readings Reads.Pre Reads.Post
 
-abbrev pub After-shared-slice-known2 : Type 0
-After-shared-slice-known2 = Lts.After-shared-slice-known2 readings Reads.Pre Reads.Post
+abbrev pub After-runtime : Type 0
+After-runtime = Lts.After-runtime readings Reads.Pre Reads.Post
+
+abbrev pub After-places : Type 0
+After-places = Lts.After-places readings Reads.Pre Reads.Post
 
 abbrev pub After-plan-close-arg : Type 0
 After-plan-close-arg = Lts.After-plan-close-arg readings Reads.Pre Reads.Post
@@ -190,7 +193,7 @@ module _ {M : Type 1} where
 
   pub close : Lts.Closed readings Reads.Pre Reads.Post M → Statement.statement M
   unfolding Code.routine Running.tablesOf
-  close = λ closed 𝓤 H 𝓜 𝓖 𝓡. Written.close 6 Kinds.ps Kinds.r Reads.Ghost Reads.requires Reads.ensures Reads.pre-read
+  close = λ closed 𝓤 H 𝓜 𝓖 𝓡. Written.close 5 Kinds.ps Kinds.r Reads.Ghost Reads.requires Reads.ensures Reads.pre-read
       Reads.Pinned Reads.Owned Reads.post-read record { M = M; 𝓤 = 𝓤; H = H; 𝓜 = 𝓜; 𝓖 = 𝓖; 𝓡 = 𝓡 } Code.env Key.name
       Code.function (Code.unfolded 𝓤 H 𝓜 𝓡) (λ κs a g. tt) (λ κs. Reads.owns κs
       record { M = M; 𝓤 = 𝓤; H = H; 𝓜 = 𝓜; 𝓖 = 𝓖; 𝓡 = 𝓡 }) (Reads.passes

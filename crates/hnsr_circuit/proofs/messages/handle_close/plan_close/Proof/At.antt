@@ -6,8 +6,13 @@ use borrow.Author.Needs.{needs}
 
 pub record Returns (c : Tie.After-close-plan) : Type 0 where
   pub start : Tie.Start
-  pub peer-of : Lts.After-peer-of·own Tie.readings Reads.Pre Reads.Post
-      (c .before .before .before .before .before .before)
+  pub runtime : Lts.After-runtime·own Tie.readings Reads.Pre Reads.Post (c .before .before .before .before .before
+      .before .before .before .before)
+  pub places : Lts.After-places·own Tie.readings Reads.Pre Reads.Post (c .before .before .before .before .before
+      .before .before .before)
+  pub packet : Lts.After-packet·own Tie.readings Reads.Pre Reads.Post
+      (c .before .before .before .before .before .before .before)
+  pub peer : Lts.After-peer·own Tie.readings Reads.Pre Reads.Post (c .before .before .before .before .before .before)
   pub named : Lts.After-named·own Tie.readings Reads.Pre Reads.Post (c .before .before .before .before .before)
   pub count-pending : Lts.After-count-pending·own Tie.readings Reads.Pre Reads.Post (c .before .before .before .before)
   pub look-up-pending : Lts.After-look-up-pending·own Tie.readings Reads.Pre Reads.Post (c .before .before .before)
@@ -16,17 +21,17 @@ pub record Returns (c : Tie.After-close-plan) : Type 0 where
 
 abbrev pub returns : (c : Tie.After-close-plan) → Returns c
 returns c = record {
-  start = c .before .before .before .before .before .before .before;
-  peer-of = c .before .before .before .before .before .peer-of;
+  start = c .before .before .before .before .before .before .before .before .before;
+  runtime = c .before .before .before .before .before .before .before .before .runtime;
+  places = c .before .before .before .before .before .before .before .places;
+  packet = c .before .before .before .before .before .before .packet;
+  peer = c .before .before .before .before .before .peer;
   named = c .before .before .before .before .named;
   count-pending = c .before .before .before .count-pending;
   look-up-pending = c .before .before .look-up-pending;
   circuit-by-id = c .before .circuit-by-id;
   close-plan = c .close-plan;
 }
-
-peer-of-requires : Tie.Need-peer-of-requires
-peer-of-requires c = search needs
 
 named-requires : Tie.Need-named-requires
 named-requires c = search needs
@@ -42,5 +47,4 @@ close-plan-requires c = search needs
 
 module _ {M : Type 1} where
   pub spec : Tie.Need-count-pending-requires → Tie.Need-returns → Lts.Closed Tie.readings Reads.Pre Reads.Post M
-  spec = λ a0 a1. Tie.spec peer-of-requires named-requires a0 look-up-pending-requires circuit-by-id-requires
-      close-plan-requires a1
+  spec = λ a0 a1. Tie.spec named-requires a0 look-up-pending-requires circuit-by-id-requires close-plan-requires a1

@@ -11,18 +11,15 @@ use Rattle.hnsr_circuit.proofs.messages.close.close_plan.Symbol
 use Rattle.hnsr_circuit.proofs.messages.handle_close.plan_close.Code
 use Rattle.hnsr_circuit.proofs.messages.handle_close.plan_close.Key
 use Rattle.hnsr_circuit.proofs.messages.handle_close.plan_close.Statement
-use Rattle.hnsr_circuit.proofs.peer.peer_of.Met as Met'
-use Rattle.hnsr_circuit.proofs.peer.peer_of.Reads as Reads'''''
-use Rattle.hnsr_circuit.proofs.peer.peer_of.Symbol as Symbol'
-use Rattle.hnsr_circuit.proofs.tables.lookup.circuit_by_id.Met as Met''
-use Rattle.hnsr_circuit.proofs.tables.lookup.circuit_by_id.Symbol as Symbol''
-use Rattle.hnsr_circuit.proofs.tables.lookup.look_up_pending.Met as Met'''
-use Rattle.hnsr_circuit.proofs.tables.lookup.look_up_pending.Symbol as Symbol'''
-use Rattle.hnsr_circuit.proofs.tables.pending.count_pending.Met as Met''''
-use Rattle.hnsr_circuit.proofs.tables.pending.count_pending.Symbol as Symbol''''
-use Rattle.hnsr_circuit.proofs.tables.question.named.Met as Met'''''
-use Rattle.hnsr_circuit.proofs.tables.question.named.Reads as Reads''''''
-use Rattle.hnsr_circuit.proofs.tables.question.named.Symbol as Symbol'''''
+use Rattle.hnsr_circuit.proofs.tables.lookup.circuit_by_id.Met as Met'
+use Rattle.hnsr_circuit.proofs.tables.lookup.circuit_by_id.Symbol as Symbol'
+use Rattle.hnsr_circuit.proofs.tables.lookup.look_up_pending.Met as Met''
+use Rattle.hnsr_circuit.proofs.tables.lookup.look_up_pending.Symbol as Symbol''
+use Rattle.hnsr_circuit.proofs.tables.pending.count_pending.Met as Met'''
+use Rattle.hnsr_circuit.proofs.tables.pending.count_pending.Symbol as Symbol'''
+use Rattle.hnsr_circuit.proofs.tables.question.named.Met as Met''''
+use Rattle.hnsr_circuit.proofs.tables.question.named.Reads as Reads'''''
+use Rattle.hnsr_circuit.proofs.tables.question.named.Symbol as Symbol''''
 use borrow.Fn.Run
 use borrow.Fn.Written
 use contract.Running
@@ -31,8 +28,6 @@ abbrev pub readings : Lts.Claims
 readings = (
   Reads'''''.Asked,
   Reads'''''.Learnt,
-  Reads''''''.Asked,
-  Reads''''''.Learnt,
   Reads'''.Asked,
   Reads'''.Learnt,
   Reads''.Asked,
@@ -46,11 +41,17 @@ readings = (
 abbrev pub Start : Type 0
 Start = Lts.Start readings Reads.Pre Reads.Post
 
-abbrev pub After-shared-slice-known : Type 0
-After-shared-slice-known = Lts.After-shared-slice-known readings Reads.Pre Reads.Post
+abbrev pub After-runtime : Type 0
+After-runtime = Lts.After-runtime readings Reads.Pre Reads.Post
 
-abbrev pub After-peer-of : Type 0
-After-peer-of = Lts.After-peer-of readings Reads.Pre Reads.Post
+abbrev pub After-places : Type 0
+After-places = Lts.After-places readings Reads.Pre Reads.Post
+
+abbrev pub After-packet : Type 0
+After-packet = Lts.After-packet readings Reads.Pre Reads.Post
+
+abbrev pub After-peer : Type 0
+After-peer = Lts.After-peer readings Reads.Pre Reads.Post
 
 abbrev pub After-named : Type 0
 After-named = Lts.After-named readings Reads.Pre Reads.Post
@@ -66,9 +67,6 @@ After-circuit-by-id = Lts.After-circuit-by-id readings Reads.Pre Reads.Post
 
 abbrev pub After-close-plan : Type 0
 After-close-plan = Lts.After-close-plan readings Reads.Pre Reads.Post
-
-abbrev pub Need-peer-of-requires : Type 0
-Need-peer-of-requires = Lts.Need-peer-of-requires readings Reads.Pre Reads.Post
 
 abbrev pub Need-named-requires : Type 0
 Need-named-requires = Lts.Need-named-requires readings Reads.Pre Reads.Post
@@ -89,28 +87,26 @@ abbrev pub Need-returns : Type 0
 Need-returns = Lts.Need-returns readings Reads.Pre Reads.Post
 
 module _ {M : Type 1} where
-  pub spec : (answer : Need-peer-of-requires) → (answer : Need-named-requires) → (answer : Need-count-pending-requires)
-      → (answer : Need-look-up-pending-requires) → (answer : Need-circuit-by-id-requires) →
+  pub spec : (answer : Need-named-requires) → (answer : Need-count-pending-requires) →
+      (answer : Need-look-up-pending-requires) → (answer : Need-circuit-by-id-requires) →
       (answer : Need-close-plan-requires) → (answer : Need-returns) → Lts.Closed readings Reads.Pre Reads.Post M
-  spec = λ answer answer' answer'' answer'3 answer'4 answer'5 answer'6. Lts.spec readings Reads.Pre Reads.Post answer
-      answer' answer'' answer'3 answer'4 answer'5 answer'6
+  spec = λ answer answer' answer'' answer'3 answer'4 answer'5. Lts.spec readings Reads.Pre Reads.Post answer answer'
+      answer'' answer'3 answer'4 answer'5
 
   pub close : Lts.Closed readings Reads.Pre Reads.Post M → Statement.statement M
   unfolding Code.routine Running.tablesOf
-  close = λ closed 𝓤 H 𝓜 𝓖 𝓡. Written.close 3 Kinds.ps Kinds.r Reads.Ghost Reads.requires Reads.ensures Reads.pre-read
+  close = λ closed 𝓤 H 𝓜 𝓖 𝓡. Written.close 2 Kinds.ps Kinds.r Reads.Ghost Reads.requires Reads.ensures Reads.pre-read
       Reads.Pinned Reads.Owned Reads.post-read record { M = M; 𝓤 = 𝓤; H = H; 𝓜 = 𝓜; 𝓖 = 𝓖; 𝓡 = 𝓡 } Code.env Key.name
       Code.function (Code.unfolded 𝓤 H 𝓜 𝓡) (λ κs a g. tt) (λ κs. Reads.owns κs
       record { M = M; 𝓤 = 𝓤; H = H; 𝓜 = 𝓜; 𝓖 = 𝓖; 𝓡 = 𝓡 }) (Reads.passes
       record { M = M; 𝓤 = 𝓤; H = H; 𝓜 = 𝓜; 𝓖 = 𝓖; 𝓡 = 𝓡 }) λ g. closed 𝓤 H (𝓖 .A) (Running.givenOf 𝓤 H 𝓜 𝓖)
       (Run.Over 𝓤 H 𝓜 𝓖 𝓡 Code.env) (Reads'''''.known record { M = M; 𝓤 = 𝓤; H = H; 𝓜 = 𝓜; 𝓖 = 𝓖; 𝓡 = 𝓡 } Code.env
-      Symbol'.name Symbol'.routine Code.calls-hnsr-circuit·peer·peer-of (Met'.met 𝓤 H 𝓜 𝓖 𝓡)) (Reads''''''.known
-      record { M = M; 𝓤 = 𝓤; H = H; 𝓜 = 𝓜; 𝓖 = 𝓖; 𝓡 = 𝓡 } Code.env Symbol'''''.name Symbol'''''.routine
-      Code.calls-hnsr-circuit·tables·question·named (Met'''''.met 𝓤 H 𝓜 𝓖 𝓡)) (Reads'''.known
-      record { M = M; 𝓤 = 𝓤; H = H; 𝓜 = 𝓜; 𝓖 = 𝓖; 𝓡 = 𝓡 } Code.env Symbol''''.name Symbol''''.routine
-      Code.calls-hnsr-circuit·tables·pending·count-pending (Met''''.met 𝓤 H 𝓜 𝓖 𝓡)) (Reads''.known
+      Symbol''''.name Symbol''''.routine Code.calls-hnsr-circuit·tables·question·named (Met''''.met 𝓤 H 𝓜 𝓖 𝓡)) (Reads'''.known
       record { M = M; 𝓤 = 𝓤; H = H; 𝓜 = 𝓜; 𝓖 = 𝓖; 𝓡 = 𝓡 } Code.env Symbol'''.name Symbol'''.routine
-      Code.calls-hnsr-circuit·tables·lookup·look-up-pending (Met'''.met 𝓤 H 𝓜 𝓖 𝓡)) (Reads'.known
+      Code.calls-hnsr-circuit·tables·pending·count-pending (Met'''.met 𝓤 H 𝓜 𝓖 𝓡)) (Reads''.known
       record { M = M; 𝓤 = 𝓤; H = H; 𝓜 = 𝓜; 𝓖 = 𝓖; 𝓡 = 𝓡 } Code.env Symbol''.name Symbol''.routine
-      Code.calls-hnsr-circuit·tables·lookup·circuit-by-id (Met''.met 𝓤 H 𝓜 𝓖 𝓡)) (Reads''''.known
+      Code.calls-hnsr-circuit·tables·lookup·look-up-pending (Met''.met 𝓤 H 𝓜 𝓖 𝓡)) (Reads'.known
+      record { M = M; 𝓤 = 𝓤; H = H; 𝓜 = 𝓜; 𝓖 = 𝓖; 𝓡 = 𝓡 } Code.env Symbol'.name Symbol'.routine
+      Code.calls-hnsr-circuit·tables·lookup·circuit-by-id (Met'.met 𝓤 H 𝓜 𝓖 𝓡)) (Reads''''.known
       record { M = M; 𝓤 = 𝓤; H = H; 𝓜 = 𝓜; 𝓖 = 𝓖; 𝓡 = 𝓡 } Code.env Symbol.name Symbol.routine
       Code.calls-hnsr-circuit·messages·close·close-plan (Met.met 𝓤 H 𝓜 𝓖 𝓡))

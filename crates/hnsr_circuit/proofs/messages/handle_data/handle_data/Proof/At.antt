@@ -6,10 +6,16 @@ use borrow.Author.Needs.{needs}
 
 pub record Pass-data-requires (c : Tie.After-pass-data-arg4) : Type 0 where
   pub start : Tie.Start
+  pub runtime : Lts.After-runtime·own Tie.readings Reads.Pre Reads.Post (c .before .before .before .before .before
+      .before .before .before .before .before .before .before .before)
+  pub places : Lts.After-places·own Tie.readings Reads.Pre Reads.Post (c .before .before .before .before .before
+      .before .before .before .before .before .before .before)
+  pub packet : Lts.After-packet·own Tie.readings Reads.Pre Reads.Post (c .before .before .before .before .before
+      .before .before .before .before .before .before)
+  pub peer : Lts.After-peer·own Tie.readings Reads.Pre Reads.Post (c .before .before .before .before .before .before
+      .before .before .before .before)
   pub circuit-by-id : Lts.After-circuit-by-id·own Tie.readings Reads.Pre Reads.Post (c .before .before .before .before
-      .before .before .before .before .before)
-  pub peer-of : Lts.After-peer-of·own Tie.readings Reads.Pre Reads.Post (c .before .before .before .before .before
-      .before .before .before)
+      .before .before .before .before)
   pub data-entry : Lts.After-data-entry·own Tie.readings Reads.Pre Reads.Post
       (c .before .before .before .before .before .before .before)
   pub is-taken : Lts.After-is-taken·own Tie.readings Reads.Pre Reads.Post
@@ -18,9 +24,13 @@ pub record Pass-data-requires (c : Tie.After-pass-data-arg4) : Type 0 where
 
 abbrev pub pass-data-requires : (c : Tie.After-pass-data-arg4) → Pass-data-requires c
 pass-data-requires c = record {
-  start = c .before .before .before .before .before .before .before .before .before .before .before .before .before;
-  circuit-by-id = c .before .before .before .before .before .before .before .before .circuit-by-id;
-  peer-of = c .before .before .before .before .before .before .before .peer-of;
+  start = c .before .before .before .before .before .before .before .before .before .before .before .before .before
+      .before .before;
+  runtime = c .before .before .before .before .before .before .before .before .before .before .before .before .runtime;
+  places = c .before .before .before .before .before .before .before .before .before .before .before .places;
+  packet = c .before .before .before .before .before .before .before .before .before .before .packet;
+  peer = c .before .before .before .before .before .before .before .before .before .peer;
+  circuit-by-id = c .before .before .before .before .before .before .before .circuit-by-id;
   data-entry = c .before .before .before .before .before .before .data-entry;
   is-taken = c .before .before .before .before .before .is-taken;
   if1 = c .before .before .before .before .if1;
@@ -28,9 +38,16 @@ pass-data-requires c = record {
 
 pub record Returns-2 (c : Tie.After-refused) : Type 0 where
   pub start : Tie.Start
+  pub runtime : Lts.After-runtime·own Tie.readings Reads.Pre Reads.Post (c .before .before .before .before .before
+      .before .before .before .before .before)
+  pub places : Lts.After-places·own Tie.readings Reads.Pre Reads.Post (c .before .before .before .before .before
+      .before .before .before .before)
+  pub packet : Lts.After-packet·own Tie.readings Reads.Pre Reads.Post (c .before .before .before .before .before
+      .before .before .before)
+  pub peer : Lts.After-peer·own Tie.readings Reads.Pre Reads.Post
+      (c .before .before .before .before .before .before .before)
   pub circuit-by-id : Lts.After-circuit-by-id·own Tie.readings Reads.Pre Reads.Post
-      (c .before .before .before .before .before .before)
-  pub peer-of : Lts.After-peer-of·own Tie.readings Reads.Pre Reads.Post (c .before .before .before .before .before)
+      (c .before .before .before .before .before)
   pub data-entry : Lts.After-data-entry·own Tie.readings Reads.Pre Reads.Post (c .before .before .before .before)
   pub is-taken : Lts.After-is-taken·own Tie.readings Reads.Pre Reads.Post (c .before .before .before)
   pub if1 : Lts.Else1·own Tie.readings Reads.Pre Reads.Post (c .before .before)
@@ -38,9 +55,12 @@ pub record Returns-2 (c : Tie.After-refused) : Type 0 where
 
 abbrev pub returns-2 : (c : Tie.After-refused) → Returns-2 c
 returns-2 c = record {
-  start = c .before .before .before .before .before .before .before .before .before .before;
-  circuit-by-id = c .before .before .before .before .before .circuit-by-id;
-  peer-of = c .before .before .before .before .peer-of;
+  start = c .before .before .before .before .before .before .before .before .before .before .before .before;
+  runtime = c .before .before .before .before .before .before .before .before .before .runtime;
+  places = c .before .before .before .before .before .before .before .before .places;
+  packet = c .before .before .before .before .before .before .before .packet;
+  peer = c .before .before .before .before .before .before .peer;
+  circuit-by-id = c .before .before .before .before .circuit-by-id;
   data-entry = c .before .before .before .data-entry;
   is-taken = c .before .before .is-taken;
   if1 = c .before .if1;
@@ -49,9 +69,6 @@ returns-2 c = record {
 
 circuit-by-id-requires : Tie.Need-circuit-by-id-requires
 circuit-by-id-requires c = search needs
-
-peer-of-requires : Tie.Need-peer-of-requires
-peer-of-requires c = search needs
 
 data-entry-requires : Tie.Need-data-entry-requires
 data-entry-requires c = search needs
@@ -82,5 +99,5 @@ same-length-5 c = search needs
 
 module _ {M : Type 1} where
   pub spec : Tie.Need-pass-data-requires → Tie.Need-returns-2 → Lts.Closed Tie.readings Reads.Pre Reads.Post M
-  spec = λ a0 a1. Tie.spec circuit-by-id-requires peer-of-requires data-entry-requires is-taken-requires a0 same-length
-      same-length-2 same-length-3 same-length-4 returns refused-requires same-length-5 a1
+  spec = λ a0 a1. Tie.spec circuit-by-id-requires data-entry-requires is-taken-requires a0 same-length same-length-2
+      same-length-3 same-length-4 returns refused-requires same-length-5 a1

@@ -15,14 +15,11 @@ use Rattle.hnsr_circuit.proofs.messages.handle_data.handle_data.Key
 use Rattle.hnsr_circuit.proofs.messages.handle_data.handle_data.Statement
 use Rattle.hnsr_circuit.proofs.messages.handle_data.pass_data.Met as Met''
 use Rattle.hnsr_circuit.proofs.messages.handle_data.pass_data.Symbol as Symbol''
-use Rattle.hnsr_circuit.proofs.peer.peer_of.Met as Met'''
-use Rattle.hnsr_circuit.proofs.peer.peer_of.Reads as Reads'''''
-use Rattle.hnsr_circuit.proofs.peer.peer_of.Symbol as Symbol'''
-use Rattle.hnsr_circuit.proofs.runtime.refused.Met as Met''''
-use Rattle.hnsr_circuit.proofs.runtime.refused.Reads as Reads''''''
-use Rattle.hnsr_circuit.proofs.runtime.refused.Symbol as Symbol''''
-use Rattle.hnsr_circuit.proofs.tables.lookup.circuit_by_id.Met as Met'''''
-use Rattle.hnsr_circuit.proofs.tables.lookup.circuit_by_id.Symbol as Symbol'''''
+use Rattle.hnsr_circuit.proofs.runtime.refused.Met as Met'''
+use Rattle.hnsr_circuit.proofs.runtime.refused.Reads as Reads'''''
+use Rattle.hnsr_circuit.proofs.runtime.refused.Symbol as Symbol'''
+use Rattle.hnsr_circuit.proofs.tables.lookup.circuit_by_id.Met as Met''''
+use Rattle.hnsr_circuit.proofs.tables.lookup.circuit_by_id.Symbol as Symbol''''
 use borrow.Fn.Run
 use borrow.Fn.Written
 use contract.Running
@@ -31,16 +28,14 @@ abbrev pub readings : Lts.Claims
 readings = (
   Reads''.Asked,
   Reads''.Learnt,
-  Reads'''''.Asked,
-  Reads'''''.Learnt,
   Reads''''.Asked,
   Reads''''.Learnt,
   Reads'''.Asked,
   Reads'''.Learnt,
   Reads'.Asked,
   Reads'.Learnt,
-  Reads''''''.Asked,
-  Reads''''''.Learnt,
+  Reads'''''.Asked,
+  Reads'''''.Learnt,
 )
 
 abbrev pub Start : Type 0
@@ -52,17 +47,23 @@ After-slice-known = Lts.After-slice-known readings Reads.Pre Reads.Post
 abbrev pub After-shared-slice-known : Type 0
 After-shared-slice-known = Lts.After-shared-slice-known readings Reads.Pre Reads.Post
 
-abbrev pub After-shared-slice-known2 : Type 0
-After-shared-slice-known2 = Lts.After-shared-slice-known2 readings Reads.Pre Reads.Post
+abbrev pub After-runtime : Type 0
+After-runtime = Lts.After-runtime readings Reads.Pre Reads.Post
+
+abbrev pub After-places : Type 0
+After-places = Lts.After-places readings Reads.Pre Reads.Post
+
+abbrev pub After-packet : Type 0
+After-packet = Lts.After-packet readings Reads.Pre Reads.Post
+
+abbrev pub After-peer : Type 0
+After-peer = Lts.After-peer readings Reads.Pre Reads.Post
 
 abbrev pub After-circuit-by-id-arg : Type 0
 After-circuit-by-id-arg = Lts.After-circuit-by-id-arg readings Reads.Pre Reads.Post
 
 abbrev pub After-circuit-by-id : Type 0
 After-circuit-by-id = Lts.After-circuit-by-id readings Reads.Pre Reads.Post
-
-abbrev pub After-peer-of : Type 0
-After-peer-of = Lts.After-peer-of readings Reads.Pre Reads.Post
 
 abbrev pub After-data-entry : Type 0
 After-data-entry = Lts.After-data-entry readings Reads.Pre Reads.Post
@@ -112,9 +113,6 @@ After-refused = Lts.After-refused readings Reads.Pre Reads.Post
 abbrev pub Need-circuit-by-id-requires : Type 0
 Need-circuit-by-id-requires = Lts.Need-circuit-by-id-requires readings Reads.Pre Reads.Post
 
-abbrev pub Need-peer-of-requires : Type 0
-Need-peer-of-requires = Lts.Need-peer-of-requires readings Reads.Pre Reads.Post
-
 abbrev pub Need-data-entry-requires : Type 0
 Need-data-entry-requires = Lts.Need-data-entry-requires readings Reads.Pre Reads.Post
 
@@ -149,31 +147,29 @@ abbrev pub Need-returns-2 : Type 0
 Need-returns-2 = Lts.Need-returns-2 readings Reads.Pre Reads.Post
 
 module _ {M : Type 1} where
-  pub spec : (answer : Need-circuit-by-id-requires) → (answer : Need-peer-of-requires) →
-      (answer : Need-data-entry-requires) → (answer : Need-is-taken-requires) → (answer : Need-pass-data-requires) →
-      (answer : Need-same-length) → (answer : Need-same-length-2) → (answer : Need-same-length-3) →
-      (answer : Need-same-length-4) → (answer : Need-returns) → (answer : Need-refused-requires) →
-      (answer : Need-same-length-5) → (answer : Need-returns-2) → Lts.Closed readings Reads.Pre Reads.Post M
-  spec = λ answer answer' answer'' answer'3 answer'4 answer'5 answer'6 answer'7 answer'8 answer'9 answer'10 answer'11
-      answer'12. Lts.spec readings Reads.Pre Reads.Post answer answer' answer'' answer'3 answer'4 answer'5 answer'6
-      answer'7 answer'8 answer'9 answer'10 answer'11 answer'12
+  pub spec : (answer : Need-circuit-by-id-requires) → (answer : Need-data-entry-requires) →
+      (answer : Need-is-taken-requires) → (answer : Need-pass-data-requires) → (answer : Need-same-length) →
+      (answer : Need-same-length-2) → (answer : Need-same-length-3) → (answer : Need-same-length-4) →
+      (answer : Need-returns) → (answer : Need-refused-requires) → (answer : Need-same-length-5) →
+      (answer : Need-returns-2) → Lts.Closed readings Reads.Pre Reads.Post M
+  spec = λ answer answer' answer'' answer'3 answer'4 answer'5 answer'6 answer'7 answer'8 answer'9 answer'10 answer'11.
+      Lts.spec readings Reads.Pre Reads.Post answer answer' answer'' answer'3 answer'4 answer'5 answer'6 answer'7
+      answer'8 answer'9 answer'10 answer'11
 
   pub close : Lts.Closed readings Reads.Pre Reads.Post M → Statement.statement M
   unfolding Code.routine Running.tablesOf
-  close = λ closed 𝓤 H 𝓜 𝓖 𝓡. Written.close 6 Kinds.ps Kinds.r Reads.Ghost Reads.requires Reads.ensures Reads.pre-read
+  close = λ closed 𝓤 H 𝓜 𝓖 𝓡. Written.close 5 Kinds.ps Kinds.r Reads.Ghost Reads.requires Reads.ensures Reads.pre-read
       Reads.Pinned Reads.Owned Reads.post-read record { M = M; 𝓤 = 𝓤; H = H; 𝓜 = 𝓜; 𝓖 = 𝓖; 𝓡 = 𝓡 } Code.env Key.name
       Code.function (Code.unfolded 𝓤 H 𝓜 𝓡) (λ κs a g. tt) (λ κs. Reads.owns κs
       record { M = M; 𝓤 = 𝓤; H = H; 𝓜 = 𝓜; 𝓖 = 𝓖; 𝓡 = 𝓡 }) (Reads.passes
       record { M = M; 𝓤 = 𝓤; H = H; 𝓜 = 𝓜; 𝓖 = 𝓖; 𝓡 = 𝓡 }) λ g. closed 𝓤 H (𝓖 .A) (Running.givenOf 𝓤 H 𝓜 𝓖)
       (Run.Over 𝓤 H 𝓜 𝓖 𝓡 Code.env) (Reads''.known record { M = M; 𝓤 = 𝓤; H = H; 𝓜 = 𝓜; 𝓖 = 𝓖; 𝓡 = 𝓡 } Code.env
-      Symbol'''''.name Symbol'''''.routine Code.calls-hnsr-circuit·tables·lookup·circuit-by-id (Met'''''.met 𝓤 H 𝓜 𝓖 𝓡)) (Reads'''''.known
-      record { M = M; 𝓤 = 𝓤; H = H; 𝓜 = 𝓜; 𝓖 = 𝓖; 𝓡 = 𝓡 } Code.env Symbol'''.name Symbol'''.routine
-      Code.calls-hnsr-circuit·peer·peer-of (Met'''.met 𝓤 H 𝓜 𝓖 𝓡)) (Reads''''.known
+      Symbol''''.name Symbol''''.routine Code.calls-hnsr-circuit·tables·lookup·circuit-by-id (Met''''.met 𝓤 H 𝓜 𝓖 𝓡)) (Reads''''.known
       record { M = M; 𝓤 = 𝓤; H = H; 𝓜 = 𝓜; 𝓖 = 𝓖; 𝓡 = 𝓡 } Code.env Symbol'.name Symbol'.routine
       Code.calls-hnsr-circuit·messages·data·data-entry (Met'.met 𝓤 H 𝓜 𝓖 𝓡)) (Reads'''.known
       record { M = M; 𝓤 = 𝓤; H = H; 𝓜 = 𝓜; 𝓖 = 𝓖; 𝓡 = 𝓡 } Code.env Symbol.name Symbol.routine
       Code.calls-hnsr-circuit·answer·is-taken (Met.met 𝓤 H 𝓜 𝓖 𝓡)) (Reads'.known
       record { M = M; 𝓤 = 𝓤; H = H; 𝓜 = 𝓜; 𝓖 = 𝓖; 𝓡 = 𝓡 } Code.env Symbol''.name Symbol''.routine
-      Code.calls-hnsr-circuit·messages·handle-data·pass-data (Met''.met 𝓤 H 𝓜 𝓖 𝓡)) (Reads''''''.known
-      record { M = M; 𝓤 = 𝓤; H = H; 𝓜 = 𝓜; 𝓖 = 𝓖; 𝓡 = 𝓡 } Code.env Symbol''''.name Symbol''''.routine
-      Code.calls-hnsr-circuit·runtime·refused (Met''''.met 𝓤 H 𝓜 𝓖 𝓡))
+      Code.calls-hnsr-circuit·messages·handle-data·pass-data (Met''.met 𝓤 H 𝓜 𝓖 𝓡)) (Reads'''''.known
+      record { M = M; 𝓤 = 𝓤; H = H; 𝓜 = 𝓜; 𝓖 = 𝓖; 𝓡 = 𝓡 } Code.env Symbol'''.name Symbol'''.routine
+      Code.calls-hnsr-circuit·runtime·refused (Met'''.met 𝓤 H 𝓜 𝓖 𝓡))

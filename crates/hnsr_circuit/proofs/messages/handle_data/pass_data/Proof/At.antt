@@ -6,6 +6,8 @@ use borrow.Author.Needs.{needs}
 
 pub record Send-requires (c : Tie.After-send-arg2) : Type 0 where
   pub start : Tie.Start
+  pub places : Lts.After-places·own Tie.readings Reads.Pre Reads.Post (c .before .before .before .before .before
+      .before .before .before .before .before .before .before .before .before .before)
   pub plan-data : Lts.After-plan-data·own Tie.readings Reads.Pre Reads.Post (c .before .before .before .before .before
       .before .before .before .before .before .before .before)
   pub counted : Lts.After-counted·own Tie.readings Reads.Pre Reads.Post (c .before .before .before .before .before
@@ -25,6 +27,8 @@ abbrev pub send-requires : (c : Tie.After-send-arg2) → Send-requires c
 send-requires c = record {
   start = c .before .before .before .before .before .before .before .before .before .before .before .before .before
       .before .before .before .before;
+  places = c .before .before .before .before .before .before .before .before .before .before .before .before .before
+      .before .places;
   plan-data = c .before .before .before .before .before .before .before .before .before .before .before .plan-data;
   counted = c .before .before .before .before .before .before .before .before .before .before .counted;
   message = c .before .before .before .before .before .before .before .before .before .message;
@@ -37,6 +41,8 @@ send-requires c = record {
 
 pub record Returns (c : Tie.After-slice-known2) : Type 0 where
   pub start : Tie.Start
+  pub places : Lts.After-places·own Tie.readings Reads.Pre Reads.Post (c .before .before .before .before .before
+      .before .before .before .before .before .before .before .before .before .before .before .before .before .before)
   pub plan-data : Lts.After-plan-data·own Tie.readings Reads.Pre Reads.Post (c .before .before .before .before .before
       .before .before .before .before .before .before .before .before .before .before .before)
   pub counted : Lts.After-counted·own Tie.readings Reads.Pre Reads.Post (c .before .before .before .before .before
@@ -61,6 +67,8 @@ abbrev pub returns : (c : Tie.After-slice-known2) → Returns c
 returns c = record {
   start = c .before .before .before .before .before .before .before .before .before .before .before .before .before
       .before .before .before .before .before .before .before .before;
+  places = c .before .before .before .before .before .before .before .before .before .before .before .before .before
+      .before .before .before .before .before .places;
   plan-data = c .before .before .before .before .before .before .before .before .before .before .before .before .before
       .before .before .plan-data;
   counted = c .before .before .before .before .before .before .before .before .before .before .before .before .before

@@ -6,8 +6,14 @@ use borrow.Author.Needs.{needs}
 
 pub record Returns (c : Tie.After-data-plan) : Type 0 where
   pub start : Tie.Start
-  pub peer-of : Lts.After-peer-of·own Tie.readings Reads.Pre Reads.Post (c .before .before .before .before .before
-      .before .before .before)
+  pub runtime : Lts.After-runtime·own Tie.readings Reads.Pre Reads.Post (c .before .before .before .before .before
+      .before .before .before .before .before .before)
+  pub places : Lts.After-places·own Tie.readings Reads.Pre Reads.Post (c .before .before .before .before .before
+      .before .before .before .before .before)
+  pub packet : Lts.After-packet·own Tie.readings Reads.Pre Reads.Post (c .before .before .before .before .before
+      .before .before .before .before)
+  pub peer : Lts.After-peer·own Tie.readings Reads.Pre Reads.Post (c .before .before .before .before .before .before
+      .before .before)
   pub data-on : Lts.After-data-on·own Tie.readings Reads.Pre Reads.Post
       (c .before .before .before .before .before .before .before)
   pub asking : Lts.After-asking·own Tie.readings Reads.Pre Reads.Post
@@ -22,8 +28,11 @@ pub record Returns (c : Tie.After-data-plan) : Type 0 where
 
 abbrev pub returns : (c : Tie.After-data-plan) → Returns c
 returns c = record {
-  start = c .before .before .before .before .before .before .before .before .before;
-  peer-of = c .before .before .before .before .before .before .before .peer-of;
+  start = c .before .before .before .before .before .before .before .before .before .before .before;
+  runtime = c .before .before .before .before .before .before .before .before .before .before .runtime;
+  places = c .before .before .before .before .before .before .before .before .before .places;
+  packet = c .before .before .before .before .before .before .before .before .packet;
+  peer = c .before .before .before .before .before .before .before .peer;
   data-on = c .before .before .before .before .before .before .data-on;
   asking = c .before .before .before .before .before .asking;
   scan-actions = c .before .before .before .before .scan-actions;
@@ -32,9 +41,6 @@ returns c = record {
   look-up-usage = c .before .look-up-usage;
   data-plan = c .data-plan;
 }
-
-peer-of-requires : Tie.Need-peer-of-requires
-peer-of-requires c = search needs
 
 data-on-requires : Tie.Need-data-on-requires
 data-on-requires c = search needs
@@ -59,5 +65,5 @@ data-plan-requires c = search needs
 
 module _ {M : Type 1} where
   pub spec : Tie.Need-returns → Lts.Closed Tie.readings Reads.Pre Reads.Post M
-  spec = λ a0. Tie.spec peer-of-requires data-on-requires asking-requires scan-actions-requires reservation-of-requires
+  spec = λ a0. Tie.spec data-on-requires asking-requires scan-actions-requires reservation-of-requires
       at-reservation-requires look-up-usage-requires data-plan-requires a0

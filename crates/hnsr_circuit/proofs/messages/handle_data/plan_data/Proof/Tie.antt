@@ -19,24 +19,19 @@ use Rattle.hnsr_circuit.proofs.messages.message.reservation_of.Symbol a
 use Rattle.hnsr_circuit.proofs.output.queue.asking.Met as Met'''
 use Rattle.hnsr_circuit.proofs.output.queue.asking.Reads as Reads''''''
 use Rattle.hnsr_circuit.proofs.output.queue.asking.Symbol as Symbol'''
-use Rattle.hnsr_circuit.proofs.peer.peer_of.Met as Met''''
-use Rattle.hnsr_circuit.proofs.peer.peer_of.Reads as Reads'''''''
-use Rattle.hnsr_circuit.proofs.peer.peer_of.Symbol as Symbol''''
-use Rattle.hnsr_circuit.proofs.tables.inflight.scan_actions.Met as Met'''''
-use Rattle.hnsr_circuit.proofs.tables.inflight.scan_actions.Symbol as Symbol'''''
-use Rattle.hnsr_circuit.proofs.tables.lookup.look_up_usage.Met as Met''''''
-use Rattle.hnsr_circuit.proofs.tables.lookup.look_up_usage.Symbol as Symbol''''''
-use Rattle.hnsr_circuit.proofs.tables.question.at_reservation.Met as Met'''''''
-use Rattle.hnsr_circuit.proofs.tables.question.at_reservation.Reads as Reads''''''''
-use Rattle.hnsr_circuit.proofs.tables.question.at_reservation.Symbol as Symbol'''''''
+use Rattle.hnsr_circuit.proofs.tables.inflight.scan_actions.Met as Met''''
+use Rattle.hnsr_circuit.proofs.tables.inflight.scan_actions.Symbol as Symbol''''
+use Rattle.hnsr_circuit.proofs.tables.lookup.look_up_usage.Met as Met'''''
+use Rattle.hnsr_circuit.proofs.tables.lookup.look_up_usage.Symbol as Symbol'''''
+use Rattle.hnsr_circuit.proofs.tables.question.at_reservation.Met as Met''''''
+use Rattle.hnsr_circuit.proofs.tables.question.at_reservation.Reads as Reads'''''''
+use Rattle.hnsr_circuit.proofs.tables.question.at_reservation.Symbol as Symbol''''''
 use borrow.Fn.Run
 use borrow.Fn.Written
 use contract.Running
 
 abbrev pub readings : Lts.Claims
 readings = (
-  Reads'''''''.Asked,
-  Reads'''''''.Learnt,
   Reads''''.Asked,
   Reads''''.Learnt,
   Reads''''''.Asked,
@@ -45,8 +40,8 @@ readings = (
   Reads'.Learnt,
   Reads'''''.Asked,
   Reads'''''.Learnt,
-  Reads''''''''.Asked,
-  Reads''''''''.Learnt,
+  Reads'''''''.Asked,
+  Reads'''''''.Learnt,
   Reads''.Asked,
   Reads''.Learnt,
   Reads'''.Asked,
@@ -56,11 +51,17 @@ readings = (
 abbrev pub Start : Type 0
 Start = Lts.Start readings Reads.Pre Reads.Post
 
-abbrev pub After-shared-slice-known : Type 0
-After-shared-slice-known = Lts.After-shared-slice-known readings Reads.Pre Reads.Post
+abbrev pub After-runtime : Type 0
+After-runtime = Lts.After-runtime readings Reads.Pre Reads.Post
 
-abbrev pub After-peer-of : Type 0
-After-peer-of = Lts.After-peer-of readings Reads.Pre Reads.Post
+abbrev pub After-places : Type 0
+After-places = Lts.After-places readings Reads.Pre Reads.Post
+
+abbrev pub After-packet : Type 0
+After-packet = Lts.After-packet readings Reads.Pre Reads.Post
+
+abbrev pub After-peer : Type 0
+After-peer = Lts.After-peer readings Reads.Pre Reads.Post
 
 abbrev pub After-data-on : Type 0
 After-data-on = Lts.After-data-on readings Reads.Pre Reads.Post
@@ -82,9 +83,6 @@ After-look-up-usage = Lts.After-look-up-usage readings Reads.Pre Reads.Post
 
 abbrev pub After-data-plan : Type 0
 After-data-plan = Lts.After-data-plan readings Reads.Pre Reads.Post
-
-abbrev pub Need-peer-of-requires : Type 0
-Need-peer-of-requires = Lts.Need-peer-of-requires readings Reads.Pre Reads.Post
 
 abbrev pub Need-data-on-requires : Type 0
 Need-data-on-requires = Lts.Need-data-on-requires readings Reads.Pre Reads.Post
@@ -111,33 +109,31 @@ abbrev pub Need-returns : Type 0
 Need-returns = Lts.Need-returns readings Reads.Pre Reads.Post
 
 module _ {M : Type 1} where
-  pub spec : (answer : Need-peer-of-requires) → (answer : Need-data-on-requires) → (answer : Need-asking-requires) →
-      (answer : Need-scan-actions-requires) → (answer : Need-reservation-of-requires) →
-      (answer : Need-at-reservation-requires) → (answer : Need-look-up-usage-requires) →
-      (answer : Need-data-plan-requires) → (answer : Need-returns) → Lts.Closed readings Reads.Pre Reads.Post M
-  spec = λ answer answer' answer'' answer'3 answer'4 answer'5 answer'6 answer'7 answer'8. Lts.spec readings Reads.Pre
-      Reads.Post answer answer' answer'' answer'3 answer'4 answer'5 answer'6 answer'7 answer'8
+  pub spec : (answer : Need-data-on-requires) → (answer : Need-asking-requires) → (answer : Need-scan-actions-requires)
+      → (answer : Need-reservation-of-requires) → (answer : Need-at-reservation-requires) →
+      (answer : Need-look-up-usage-requires) → (answer : Need-data-plan-requires) → (answer : Need-returns) →
+      Lts.Closed readings Reads.Pre Reads.Post M
+  spec = λ answer answer' answer'' answer'3 answer'4 answer'5 answer'6 answer'7. Lts.spec readings Reads.Pre Reads.Post
+      answer answer' answer'' answer'3 answer'4 answer'5 answer'6 answer'7
 
   pub close : Lts.Closed readings Reads.Pre Reads.Post M → Statement.statement M
   unfolding Code.routine Running.tablesOf
-  close = λ closed 𝓤 H 𝓜 𝓖 𝓡. Written.close 3 Kinds.ps Kinds.r Reads.Ghost Reads.requires Reads.ensures Reads.pre-read
+  close = λ closed 𝓤 H 𝓜 𝓖 𝓡. Written.close 2 Kinds.ps Kinds.r Reads.Ghost Reads.requires Reads.ensures Reads.pre-read
       Reads.Pinned Reads.Owned Reads.post-read record { M = M; 𝓤 = 𝓤; H = H; 𝓜 = 𝓜; 𝓖 = 𝓖; 𝓡 = 𝓡 } Code.env Key.name
       Code.function (Code.unfolded 𝓤 H 𝓜 𝓡) (λ κs a g. tt) (λ κs. Reads.owns κs
       record { M = M; 𝓤 = 𝓤; H = H; 𝓜 = 𝓜; 𝓖 = 𝓖; 𝓡 = 𝓡 }) (Reads.passes
       record { M = M; 𝓤 = 𝓤; H = H; 𝓜 = 𝓜; 𝓖 = 𝓖; 𝓡 = 𝓡 }) λ g. closed 𝓤 H (𝓖 .A) (Running.givenOf 𝓤 H 𝓜 𝓖)
-      (Run.Over 𝓤 H 𝓜 𝓖 𝓡 Code.env) (Reads'''''''.known record { M = M; 𝓤 = 𝓤; H = H; 𝓜 = 𝓜; 𝓖 = 𝓖; 𝓡 = 𝓡 } Code.env
-      Symbol''''.name Symbol''''.routine Code.calls-hnsr-circuit·peer·peer-of (Met''''.met 𝓤 H 𝓜 𝓖 𝓡)) (Reads''''.known
-      record { M = M; 𝓤 = 𝓤; H = H; 𝓜 = 𝓜; 𝓖 = 𝓖; 𝓡 = 𝓡 } Code.env Symbol'.name Symbol'.routine
-      Code.calls-hnsr-circuit·messages·message·data-on (Met'.met 𝓤 H 𝓜 𝓖 𝓡)) (Reads''''''.known
+      (Run.Over 𝓤 H 𝓜 𝓖 𝓡 Code.env) (Reads''''.known record { M = M; 𝓤 = 𝓤; H = H; 𝓜 = 𝓜; 𝓖 = 𝓖; 𝓡 = 𝓡 } Code.env
+      Symbol'.name Symbol'.routine Code.calls-hnsr-circuit·messages·message·data-on (Met'.met 𝓤 H 𝓜 𝓖 𝓡)) (Reads''''''.known
       record { M = M; 𝓤 = 𝓤; H = H; 𝓜 = 𝓜; 𝓖 = 𝓖; 𝓡 = 𝓡 } Code.env Symbol'''.name Symbol'''.routine
       Code.calls-hnsr-circuit·output·queue·asking (Met'''.met 𝓤 H 𝓜 𝓖 𝓡)) (Reads'.known
-      record { M = M; 𝓤 = 𝓤; H = H; 𝓜 = 𝓜; 𝓖 = 𝓖; 𝓡 = 𝓡 } Code.env Symbol'''''.name Symbol'''''.routine
-      Code.calls-hnsr-circuit·tables·inflight·scan-actions (Met'''''.met 𝓤 H 𝓜 𝓖 𝓡)) (Reads'''''.known
+      record { M = M; 𝓤 = 𝓤; H = H; 𝓜 = 𝓜; 𝓖 = 𝓖; 𝓡 = 𝓡 } Code.env Symbol''''.name Symbol''''.routine
+      Code.calls-hnsr-circuit·tables·inflight·scan-actions (Met''''.met 𝓤 H 𝓜 𝓖 𝓡)) (Reads'''''.known
       record { M = M; 𝓤 = 𝓤; H = H; 𝓜 = 𝓜; 𝓖 = 𝓖; 𝓡 = 𝓡 } Code.env Symbol''.name Symbol''.routine
-      Code.calls-hnsr-circuit·messages·message·reservation-of (Met''.met 𝓤 H 𝓜 𝓖 𝓡)) (Reads''''''''.known
-      record { M = M; 𝓤 = 𝓤; H = H; 𝓜 = 𝓜; 𝓖 = 𝓖; 𝓡 = 𝓡 } Code.env Symbol'''''''.name Symbol'''''''.routine
-      Code.calls-hnsr-circuit·tables·question·at-reservation (Met'''''''.met 𝓤 H 𝓜 𝓖 𝓡)) (Reads''.known
+      Code.calls-hnsr-circuit·messages·message·reservation-of (Met''.met 𝓤 H 𝓜 𝓖 𝓡)) (Reads'''''''.known
       record { M = M; 𝓤 = 𝓤; H = H; 𝓜 = 𝓜; 𝓖 = 𝓖; 𝓡 = 𝓡 } Code.env Symbol''''''.name Symbol''''''.routine
-      Code.calls-hnsr-circuit·tables·lookup·look-up-usage (Met''''''.met 𝓤 H 𝓜 𝓖 𝓡)) (Reads'''.known
+      Code.calls-hnsr-circuit·tables·question·at-reservation (Met''''''.met 𝓤 H 𝓜 𝓖 𝓡)) (Reads''.known
+      record { M = M; 𝓤 = 𝓤; H = H; 𝓜 = 𝓜; 𝓖 = 𝓖; 𝓡 = 𝓡 } Code.env Symbol'''''.name Symbol'''''.routine
+      Code.calls-hnsr-circuit·tables·lookup·look-up-usage (Met'''''.met 𝓤 H 𝓜 𝓖 𝓡)) (Reads'''.known
       record { M = M; 𝓤 = 𝓤; H = H; 𝓜 = 𝓜; 𝓖 = 𝓖; 𝓡 = 𝓡 } Code.env Symbol.name Symbol.routine
       Code.calls-hnsr-circuit·messages·data·data-plan (Met.met 𝓤 H 𝓜 𝓖 𝓡))

@@ -6,9 +6,13 @@ use borrow.Author.Needs.{needs}
 
 pub record Returns (c : Tie.After-open-gathering) : Type 0 where
   pub start : Tie.Start
-  pub peer-of : Lts.After-peer-of·own Tie.readings Reads.Pre Reads.Post (c .before .before .before .before .before
+  pub places : Lts.After-places·own Tie.readings Reads.Pre Reads.Post (c .before .before .before .before .before
+      .before .before .before .before .before)
+  pub packet : Lts.After-packet·own Tie.readings Reads.Pre Reads.Post (c .before .before .before .before .before
+      .before .before .before .before)
+  pub requester : Lts.After-requester·own Tie.readings Reads.Pre Reads.Post (c .before .before .before .before .before
       .before .before .before)
-  pub peer-of2 : Lts.After-peer-of2·own Tie.readings Reads.Pre Reads.Post
+  pub peer-of : Lts.After-peer-of·own Tie.readings Reads.Pre Reads.Post
       (c .before .before .before .before .before .before .before)
   pub decode : Lts.After-decode·own Tie.readings Reads.Pre Reads.Post
       (c .before .before .before .before .before .before)
@@ -21,9 +25,11 @@ pub record Returns (c : Tie.After-open-gathering) : Type 0 where
 
 abbrev pub returns : (c : Tie.After-open-gathering) → Returns c
 returns c = record {
-  start = c .before .before .before .before .before .before .before .before .before .before .before .before;
-  peer-of = c .before .before .before .before .before .before .before .peer-of;
-  peer-of2 = c .before .before .before .before .before .before .peer-of2;
+  start = c .before .before .before .before .before .before .before .before .before .before .before .before .before;
+  places = c .before .before .before .before .before .before .before .before .before .places;
+  packet = c .before .before .before .before .before .before .before .before .packet;
+  requester = c .before .before .before .before .before .before .before .requester;
+  peer-of = c .before .before .before .before .before .before .peer-of;
   decode = c .before .before .before .before .before .decode;
   first-draw = c .before .before .before .before .first-draw;
   open-work = c .before .before .before .open-work;
@@ -34,9 +40,6 @@ returns c = record {
 
 peer-of-requires : Tie.Need-peer-of-requires
 peer-of-requires c = search needs
-
-peer-of-requires-2 : Tie.Need-peer-of-requires-2
-peer-of-requires-2 c = search needs
 
 decode-requires : Tie.Need-decode-requires
 decode-requires c = search needs
@@ -58,5 +61,5 @@ open-gathering-requires c = search needs
 
 module _ {M : Type 1} where
   pub spec : Tie.Need-returns → Lts.Closed Tie.readings Reads.Pre Reads.Post M
-  spec = λ a0. Tie.spec peer-of-requires peer-of-requires-2 decode-requires first-draw-requires open-work-requires
-      pending-work-requires circuit-work-requires open-gathering-requires a0
+  spec = λ a0. Tie.spec peer-of-requires decode-requires first-draw-requires open-work-requires pending-work-requires
+      circuit-work-requires open-gathering-requires a0

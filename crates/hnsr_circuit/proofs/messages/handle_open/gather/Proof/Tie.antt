@@ -60,14 +60,17 @@ After-shared-slice-known2 = Lts.After-shared-slice-known2 readings Reads'.Pre Re
 abbrev pub After-shared-slice-known3 : Type 0
 After-shared-slice-known3 = Lts.After-shared-slice-known3 readings Reads'.Pre Reads'.Post
 
-abbrev pub After-shared-slice-known4 : Type 0
-After-shared-slice-known4 = Lts.After-shared-slice-known4 readings Reads'.Pre Reads'.Post
+abbrev pub After-places : Type 0
+After-places = Lts.After-places readings Reads'.Pre Reads'.Post
+
+abbrev pub After-packet : Type 0
+After-packet = Lts.After-packet readings Reads'.Pre Reads'.Post
+
+abbrev pub After-requester : Type 0
+After-requester = Lts.After-requester readings Reads'.Pre Reads'.Post
 
 abbrev pub After-peer-of : Type 0
 After-peer-of = Lts.After-peer-of readings Reads'.Pre Reads'.Post
-
-abbrev pub After-peer-of2 : Type 0
-After-peer-of2 = Lts.After-peer-of2 readings Reads'.Pre Reads'.Post
 
 abbrev pub After-decode : Type 0
 After-decode = Lts.After-decode readings Reads'.Pre Reads'.Post
@@ -89,9 +92,6 @@ After-open-gathering = Lts.After-open-gathering readings Reads'.Pre Reads'.Post
 
 abbrev pub Need-peer-of-requires : Type 0
 Need-peer-of-requires = Lts.Need-peer-of-requires readings Reads'.Pre Reads'.Post
-
-abbrev pub Need-peer-of-requires-2 : Type 0
-Need-peer-of-requires-2 = Lts.Need-peer-of-requires-2 readings Reads'.Pre Reads'.Post
 
 abbrev pub Need-decode-requires : Type 0
 Need-decode-requires = Lts.Need-decode-requires readings Reads'.Pre Reads'.Post
@@ -115,16 +115,16 @@ abbrev pub Need-returns : Type 0
 Need-returns = Lts.Need-returns readings Reads'.Pre Reads'.Post
 
 module _ {M : Type 1} where
-  pub spec : (answer : Need-peer-of-requires) → (answer : Need-peer-of-requires-2) → (answer : Need-decode-requires) →
-      (answer : Need-first-draw-requires) → (answer : Need-open-work-requires) → (answer : Need-pending-work-requires)
-      → (answer : Need-circuit-work-requires) → (answer : Need-open-gathering-requires) → (answer : Need-returns) →
+  pub spec : (answer : Need-peer-of-requires) → (answer : Need-decode-requires) → (answer : Need-first-draw-requires) →
+      (answer : Need-open-work-requires) → (answer : Need-pending-work-requires) →
+      (answer : Need-circuit-work-requires) → (answer : Need-open-gathering-requires) → (answer : Need-returns) →
       Lts.Closed readings Reads'.Pre Reads'.Post M
-  spec = λ answer answer' answer'' answer'3 answer'4 answer'5 answer'6 answer'7 answer'8. Lts.spec readings Reads'.Pre
-      Reads'.Post answer answer' answer'' answer'3 answer'4 answer'5 answer'6 answer'7 answer'8
+  spec = λ answer answer' answer'' answer'3 answer'4 answer'5 answer'6 answer'7. Lts.spec readings Reads'.Pre
+      Reads'.Post answer answer' answer'' answer'3 answer'4 answer'5 answer'6 answer'7
 
   pub close : Lts.Closed readings Reads'.Pre Reads'.Post M → Statement.statement M
   unfolding Code.routine Running.tablesOf
-  close = λ closed 𝓤 H 𝓜 𝓖 𝓡. Written.close 6 Kinds.ps Kinds.r Reads'.Ghost Reads'.requires Reads'.ensures
+  close = λ closed 𝓤 H 𝓜 𝓖 𝓡. Written.close 5 Kinds.ps Kinds.r Reads'.Ghost Reads'.requires Reads'.ensures
       Reads'.pre-read Reads'.Pinned Reads'.Owned Reads'.post-read record { M = M; 𝓤 = 𝓤; H = H; 𝓜 = 𝓜; 𝓖 = 𝓖; 𝓡 = 𝓡 }
       Code.env Key.name Code.function (Code.unfolded 𝓤 H 𝓜 𝓡) (λ κs a g. tt) (λ κs. Reads'.owns κs
       record { M = M; 𝓤 = 𝓤; H = H; 𝓜 = 𝓜; 𝓖 = 𝓖; 𝓡 = 𝓡 }) (Reads'.passes

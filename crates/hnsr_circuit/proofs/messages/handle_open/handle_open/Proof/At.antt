@@ -6,9 +6,15 @@ use borrow.Author.Needs.{needs}
 
 pub record Open-lapsed-requires (c : Tie.After-open-lapsed-arg5) : Type 0 where
   pub start : Tie.Start
-  pub gather : Lts.After-gather·own Tie.readings Reads.Pre Reads.Post (c .before .before .before .before .before
-      .before .before .before .before .before .before .before .before)
+  pub runtime : Lts.After-runtime·own Tie.readings Reads.Pre Reads.Post (c .before .before .before .before .before
+      .before .before .before .before .before .before .before .before .before .before .before .before .before)
+  pub places : Lts.After-places·own Tie.readings Reads.Pre Reads.Post (c .before .before .before .before .before
+      .before .before .before .before .before .before .before .before .before .before .before .before)
+  pub packet : Lts.After-packet·own Tie.readings Reads.Pre Reads.Post (c .before .before .before .before .before
+      .before .before .before .before .before .before .before .before .before .before .before)
   pub config : Lts.After-config·own Tie.readings Reads.Pre Reads.Post (c .before .before .before .before .before
+      .before .before .before .before .before .before .before .before .before .before)
+  pub gather : Lts.After-gather·own Tie.readings Reads.Pre Reads.Post (c .before .before .before .before .before
       .before .before .before .before .before .before .before)
   pub open-rows : Lts.After-open-rows·own Tie.readings Reads.Pre Reads.Post (c .before .before .before .before .before
       .before .before .before .before .before .before)
@@ -24,9 +30,16 @@ pub record Open-lapsed-requires (c : Tie.After-open-lapsed-arg5) : Type 0 where
 abbrev pub open-lapsed-requires : (c : Tie.After-open-lapsed-arg5) → Open-lapsed-requires c
 open-lapsed-requires c = record {
   start = c .before .before .before .before .before .before .before .before .before .before .before .before .before
-      .before .before .before .before .before .before .before;
-  gather = c .before .before .before .before .before .before .before .before .before .before .before .before .gather;
-  config = c .before .before .before .before .before .before .before .before .before .before .before .config;
+      .before .before .before .before .before .before .before .before .before;
+  runtime = c .before .before .before .before .before .before .before .before .before .before .before .before .before
+      .before .before .before .before .runtime;
+  places = c .before .before .before .before .before .before .before .before .before .before .before .before .before
+      .before .before .before .places;
+  packet = c .before .before .before .before .before .before .before .before .before .before .before .before .before
+      .before .before .packet;
+  config = c .before .before .before .before .before .before .before .before .before .before .before .before .before
+      .before .config;
+  gather = c .before .before .before .before .before .before .before .before .before .before .before .gather;
   open-rows = c .before .before .before .before .before .before .before .before .before .before .open-rows;
   is-taken = c .before .before .before .before .before .before .before .before .before .is-taken;
   if1 = c .before .before .before .before .before .before .before .before .if1;
@@ -36,9 +49,19 @@ open-lapsed-requires c = record {
 
 pub record Returns (c : Tie.After-slice-known2) : Type 0 where
   pub start : Tie.Start
-  pub gather : Lts.After-gather·own Tie.readings Reads.Pre Reads.Post (c .before .before .before .before .before
-      .before .before .before .before .before .before .before .before .before .before .before .before .before .before)
+  pub runtime : Lts.After-runtime·own Tie.readings Reads.Pre Reads.Post (c .before .before .before .before .before
+      .before .before .before .before .before .before .before .before .before .before .before .before .before .before
+      .before .before .before .before .before)
+  pub places : Lts.After-places·own Tie.readings Reads.Pre Reads.Post (c .before .before .before .before .before
+      .before .before .before .before .before .before .before .before .before .before .before .before .before .before
+      .before .before .before .before)
+  pub packet : Lts.After-packet·own Tie.readings Reads.Pre Reads.Post (c .before .before .before .before .before
+      .before .before .before .before .before .before .before .before .before .before .before .before .before .before
+      .before .before .before)
   pub config : Lts.After-config·own Tie.readings Reads.Pre Reads.Post (c .before .before .before .before .before
+      .before .before .before .before .before .before .before .before .before .before .before .before .before .before
+      .before .before)
+  pub gather : Lts.After-gather·own Tie.readings Reads.Pre Reads.Post (c .before .before .before .before .before
       .before .before .before .before .before .before .before .before .before .before .before .before .before)
   pub open-rows : Lts.After-open-rows·own Tie.readings Reads.Pre Reads.Post (c .before .before .before .before .before
       .before .before .before .before .before .before .before .before .before .before .before .before)
@@ -60,11 +83,18 @@ pub record Returns (c : Tie.After-slice-known2) : Type 0 where
 abbrev pub returns : (c : Tie.After-slice-known2) → Returns c
 returns c = record {
   start = c .before .before .before .before .before .before .before .before .before .before .before .before .before
-      .before .before .before .before .before .before .before .before .before .before .before .before .before;
-  gather = c .before .before .before .before .before .before .before .before .before .before .before .before .before
-      .before .before .before .before .before .gather;
+      .before .before .before .before .before .before .before .before .before .before .before .before .before .before
+      .before;
+  runtime = c .before .before .before .before .before .before .before .before .before .before .before .before .before
+      .before .before .before .before .before .before .before .before .before .before .runtime;
+  places = c .before .before .before .before .before .before .before .before .before .before .before .before .before
+      .before .before .before .before .before .before .before .before .before .places;
+  packet = c .before .before .before .before .before .before .before .before .before .before .before .before .before
+      .before .before .before .before .before .before .before .before .packet;
   config = c .before .before .before .before .before .before .before .before .before .before .before .before .before
-      .before .before .before .before .config;
+      .before .before .before .before .before .before .before .config;
+  gather = c .before .before .before .before .before .before .before .before .before .before .before .before .before
+      .before .before .before .before .gather;
   open-rows = c .before .before .before .before .before .before .before .before .before .before .before .before .before
       .before .before .before .open-rows;
   is-taken = c .before .before .before .before .before .before .before .before .before .before .before .before .before
@@ -83,9 +113,15 @@ returns c = record {
 
 pub record Returns-2 (c : Tie.After-refused) : Type 0 where
   pub start : Tie.Start
-  pub gather : Lts.After-gather·own Tie.readings Reads.Pre Reads.Post
-      (c .before .before .before .before .before .before)
-  pub config : Lts.After-config·own Tie.readings Reads.Pre Reads.Post (c .before .before .before .before .before)
+  pub runtime : Lts.After-runtime·own Tie.readings Reads.Pre Reads.Post (c .before .before .before .before .before
+      .before .before .before .before .before .before)
+  pub places : Lts.After-places·own Tie.readings Reads.Pre Reads.Post (c .before .before .before .before .before
+      .before .before .before .before .before)
+  pub packet : Lts.After-packet·own Tie.readings Reads.Pre Reads.Post (c .before .before .before .before .before
+      .before .before .before .before)
+  pub config : Lts.After-config·own Tie.readings Reads.Pre Reads.Post (c .before .before .before .before .before
+      .before .before .before)
+  pub gather : Lts.After-gather·own Tie.readings Reads.Pre Reads.Post (c .before .before .before .before .before)
   pub open-rows : Lts.After-open-rows·own Tie.readings Reads.Pre Reads.Post (c .before .before .before .before)
   pub is-taken : Lts.After-is-taken·own Tie.readings Reads.Pre Reads.Post (c .before .before .before)
   pub if1 : Lts.Else1·own Tie.readings Reads.Pre Reads.Post (c .before .before)
@@ -93,9 +129,13 @@ pub record Returns-2 (c : Tie.After-refused) : Type 0 where
 
 abbrev pub returns-2 : (c : Tie.After-refused) → Returns-2 c
 returns-2 c = record {
-  start = c .before .before .before .before .before .before .before .before .before .before .before .before .before;
-  gather = c .before .before .before .before .before .gather;
-  config = c .before .before .before .before .config;
+  start = c .before .before .before .before .before .before .before .before .before .before .before .before .before
+      .before .before;
+  runtime = c .before .before .before .before .before .before .before .before .before .before .runtime;
+  places = c .before .before .before .before .before .before .before .before .before .places;
+  packet = c .before .before .before .before .before .before .before .before .packet;
+  config = c .before .before .before .before .before .before .before .config;
+  gather = c .before .before .before .before .gather;
   open-rows = c .before .before .before .open-rows;
   is-taken = c .before .before .is-taken;
   if1 = c .before .if1;

@@ -58,8 +58,17 @@ After-shared-slice-known2 = Lts.After-shared-slice-known2 readings Reads'.Pre Re
 abbrev pub After-shared-slice-known3 : Type 0
 After-shared-slice-known3 = Lts.After-shared-slice-known3 readings Reads'.Pre Reads'.Post
 
-abbrev pub After-shared-slice-known4 : Type 0
-After-shared-slice-known4 = Lts.After-shared-slice-known4 readings Reads'.Pre Reads'.Post
+abbrev pub After-runtime : Type 0
+After-runtime = Lts.After-runtime readings Reads'.Pre Reads'.Post
+
+abbrev pub After-places : Type 0
+After-places = Lts.After-places readings Reads'.Pre Reads'.Post
+
+abbrev pub After-packet : Type 0
+After-packet = Lts.After-packet readings Reads'.Pre Reads'.Post
+
+abbrev pub After-config : Type 0
+After-config = Lts.After-config readings Reads'.Pre Reads'.Post
 
 abbrev pub After-gather-arg : Type 0
 After-gather-arg = Lts.After-gather-arg readings Reads'.Pre Reads'.Post
@@ -69,9 +78,6 @@ After-gather-arg2 = Lts.After-gather-arg2 readings Reads'.Pre Reads'.Post
 
 abbrev pub After-gather : Type 0
 After-gather = Lts.After-gather readings Reads'.Pre Reads'.Post
-
-abbrev pub After-config : Type 0
-After-config = Lts.After-config readings Reads'.Pre Reads'.Post
 
 abbrev pub After-open-rows : Type 0
 After-open-rows = Lts.After-open-rows readings Reads'.Pre Reads'.Post
@@ -188,7 +194,7 @@ module _ {M : Type 1} where
 
   pub close : Lts.Closed readings Reads'.Pre Reads'.Post M → Statement.statement M
   unfolding Code.routine Running.tablesOf
-  close = λ closed 𝓤 H 𝓜 𝓖 𝓡. Written.close 9 Kinds.ps Kinds.r Reads'.Ghost Reads'.requires Reads'.ensures
+  close = λ closed 𝓤 H 𝓜 𝓖 𝓡. Written.close 8 Kinds.ps Kinds.r Reads'.Ghost Reads'.requires Reads'.ensures
       Reads'.pre-read Reads'.Pinned Reads'.Owned Reads'.post-read record { M = M; 𝓤 = 𝓤; H = H; 𝓜 = 𝓜; 𝓖 = 𝓖; 𝓡 = 𝓡 }
       Code.env Key.name Code.function (Code.unfolded 𝓤 H 𝓜 𝓡) (λ κs a g. tt) (λ κs. Reads'.owns κs
       record { M = M; 𝓤 = 𝓤; H = H; 𝓜 = 𝓜; 𝓖 = 𝓖; 𝓡 = 𝓡 }) (Reads'.passes

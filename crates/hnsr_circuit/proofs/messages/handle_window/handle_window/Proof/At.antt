@@ -6,11 +6,17 @@ use borrow.Author.Needs.{needs}
 
 pub record Pass-window-requires (c : Tie.After-pass-window-arg3) : Type 0 where
   pub start : Tie.Start
-  pub decode : Lts.After-decode·own Tie.readings Reads.Pre Reads.Post (c .before .before .before .before .before
-      .before .before .before .before .before)
-  pub circuit-by-id : Lts.After-circuit-by-id·own Tie.readings Reads.Pre Reads.Post (c .before .before .before .before
+  pub runtime : Lts.After-runtime·own Tie.readings Reads.Pre Reads.Post (c .before .before .before .before .before
+      .before .before .before .before .before .before .before .before)
+  pub places : Lts.After-places·own Tie.readings Reads.Pre Reads.Post (c .before .before .before .before .before
+      .before .before .before .before .before .before .before)
+  pub packet : Lts.After-packet·own Tie.readings Reads.Pre Reads.Post (c .before .before .before .before .before
+      .before .before .before .before .before .before)
+  pub peer : Lts.After-peer·own Tie.readings Reads.Pre Reads.Post (c .before .before .before .before .before .before
       .before .before .before .before)
-  pub peer-of : Lts.After-peer-of·own Tie.readings Reads.Pre Reads.Post
+  pub decode : Lts.After-decode·own Tie.readings Reads.Pre Reads.Post (c .before .before .before .before .before
+      .before .before .before .before)
+  pub circuit-by-id : Lts.After-circuit-by-id·own Tie.readings Reads.Pre Reads.Post
       (c .before .before .before .before .before .before .before)
   pub window-entry : Lts.After-window-entry·own Tie.readings Reads.Pre Reads.Post
       (c .before .before .before .before .before .before)
@@ -19,10 +25,14 @@ pub record Pass-window-requires (c : Tie.After-pass-window-arg3) : Type 0 where
 
 abbrev pub pass-window-requires : (c : Tie.After-pass-window-arg3) → Pass-window-requires c
 pass-window-requires c = record {
-  start = c .before .before .before .before .before .before .before .before .before .before .before .before .before;
-  decode = c .before .before .before .before .before .before .before .before .before .decode;
-  circuit-by-id = c .before .before .before .before .before .before .before .circuit-by-id;
-  peer-of = c .before .before .before .before .before .before .peer-of;
+  start = c .before .before .before .before .before .before .before .before .before .before .before .before .before
+      .before .before;
+  runtime = c .before .before .before .before .before .before .before .before .before .before .before .before .runtime;
+  places = c .before .before .before .before .before .before .before .before .before .before .before .places;
+  packet = c .before .before .before .before .before .before .before .before .before .before .packet;
+  peer = c .before .before .before .before .before .before .before .before .before .peer;
+  decode = c .before .before .before .before .before .before .before .before .decode;
+  circuit-by-id = c .before .before .before .before .before .before .circuit-by-id;
   window-entry = c .before .before .before .before .before .window-entry;
   is-taken = c .before .before .before .before .is-taken;
   if1 = c .before .before .before .if1;
@@ -30,11 +40,18 @@ pass-window-requires c = record {
 
 pub record Returns-2 (c : Tie.After-refused) : Type 0 where
   pub start : Tie.Start
-  pub decode : Lts.After-decode·own Tie.readings Reads.Pre Reads.Post (c .before .before .before .before .before
-      .before .before .before)
+  pub runtime : Lts.After-runtime·own Tie.readings Reads.Pre Reads.Post (c .before .before .before .before .before
+      .before .before .before .before .before .before)
+  pub places : Lts.After-places·own Tie.readings Reads.Pre Reads.Post (c .before .before .before .before .before
+      .before .before .before .before .before)
+  pub packet : Lts.After-packet·own Tie.readings Reads.Pre Reads.Post (c .before .before .before .before .before
+      .before .before .before .before)
+  pub peer : Lts.After-peer·own Tie.readings Reads.Pre Reads.Post (c .before .before .before .before .before .before
+      .before .before)
+  pub decode : Lts.After-decode·own Tie.readings Reads.Pre Reads.Post
+      (c .before .before .before .before .before .before .before)
   pub circuit-by-id : Lts.After-circuit-by-id·own Tie.readings Reads.Pre Reads.Post
-      (c .before .before .before .before .before .before)
-  pub peer-of : Lts.After-peer-of·own Tie.readings Reads.Pre Reads.Post (c .before .before .before .before .before)
+      (c .before .before .before .before .before)
   pub window-entry : Lts.After-window-entry·own Tie.readings Reads.Pre Reads.Post (c .before .before .before .before)
   pub is-taken : Lts.After-is-taken·own Tie.readings Reads.Pre Reads.Post (c .before .before .before)
   pub if1 : Lts.Else1·own Tie.readings Reads.Pre Reads.Post (c .before .before)
@@ -42,10 +59,13 @@ pub record Returns-2 (c : Tie.After-refused) : Type 0 where
 
 abbrev pub returns-2 : (c : Tie.After-refused) → Returns-2 c
 returns-2 c = record {
-  start = c .before .before .before .before .before .before .before .before .before .before .before;
-  decode = c .before .before .before .before .before .before .before .decode;
-  circuit-by-id = c .before .before .before .before .before .circuit-by-id;
-  peer-of = c .before .before .before .before .peer-of;
+  start = c .before .before .before .before .before .before .before .before .before .before .before .before .before;
+  runtime = c .before .before .before .before .before .before .before .before .before .before .runtime;
+  places = c .before .before .before .before .before .before .before .before .before .places;
+  packet = c .before .before .before .before .before .before .before .before .packet;
+  peer = c .before .before .before .before .before .before .before .peer;
+  decode = c .before .before .before .before .before .before .decode;
+  circuit-by-id = c .before .before .before .before .circuit-by-id;
   window-entry = c .before .before .before .window-entry;
   is-taken = c .before .before .is-taken;
   if1 = c .before .if1;
@@ -57,9 +77,6 @@ decode-requires c = search needs
 
 circuit-by-id-requires : Tie.Need-circuit-by-id-requires
 circuit-by-id-requires c = search needs
-
-peer-of-requires : Tie.Need-peer-of-requires
-peer-of-requires c = search needs
 
 window-entry-requires : Tie.Need-window-entry-requires
 window-entry-requires c = search needs
@@ -87,5 +104,5 @@ same-length-4 c = search needs
 
 module _ {M : Type 1} where
   pub spec : Tie.Need-pass-window-requires → Tie.Need-returns-2 → Lts.Closed Tie.readings Reads.Pre Reads.Post M
-  spec = λ a0 a1. Tie.spec decode-requires circuit-by-id-requires peer-of-requires window-entry-requires
-      is-taken-requires a0 same-length same-length-2 same-length-3 returns refused-requires same-length-4 a1
+  spec = λ a0 a1. Tie.spec decode-requires circuit-by-id-requires window-entry-requires is-taken-requires a0
+      same-length same-length-2 same-length-3 returns refused-requires same-length-4 a1

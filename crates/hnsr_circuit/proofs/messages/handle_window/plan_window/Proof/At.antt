@@ -6,9 +6,14 @@ use borrow.Author.Needs.{needs}
 
 pub record Returns (c : Tie.After-window-plan) : Type 0 where
   pub start : Tie.Start
-  pub config : Lts.After-config·own Tie.readings Reads.Pre Reads.Post
-      (c .before .before .before .before .before .before)
-  pub peer-of : Lts.After-peer-of·own Tie.readings Reads.Pre Reads.Post (c .before .before .before .before .before)
+  pub runtime : Lts.After-runtime·own Tie.readings Reads.Pre Reads.Post (c .before .before .before .before .before
+      .before .before .before .before)
+  pub places : Lts.After-places·own Tie.readings Reads.Pre Reads.Post (c .before .before .before .before .before
+      .before .before .before)
+  pub packet : Lts.After-packet·own Tie.readings Reads.Pre Reads.Post
+      (c .before .before .before .before .before .before .before)
+  pub peer : Lts.After-peer·own Tie.readings Reads.Pre Reads.Post (c .before .before .before .before .before .before)
+  pub config : Lts.After-config·own Tie.readings Reads.Pre Reads.Post (c .before .before .before .before .before)
   pub passed-on : Lts.After-passed-on·own Tie.readings Reads.Pre Reads.Post (c .before .before .before .before)
   pub asking : Lts.After-asking·own Tie.readings Reads.Pre Reads.Post (c .before .before .before)
   pub scan-actions : Lts.After-scan-actions·own Tie.readings Reads.Pre Reads.Post (c .before .before)
@@ -16,17 +21,17 @@ pub record Returns (c : Tie.After-window-plan) : Type 0 where
 
 abbrev pub returns : (c : Tie.After-window-plan) → Returns c
 returns c = record {
-  start = c .before .before .before .before .before .before .before;
-  config = c .before .before .before .before .before .config;
-  peer-of = c .before .before .before .before .peer-of;
+  start = c .before .before .before .before .before .before .before .before .before;
+  runtime = c .before .before .before .before .before .before .before .before .runtime;
+  places = c .before .before .before .before .before .before .before .places;
+  packet = c .before .before .before .before .before .before .packet;
+  peer = c .before .before .before .before .before .peer;
+  config = c .before .before .before .before .config;
   passed-on = c .before .before .before .passed-on;
   asking = c .before .before .asking;
   scan-actions = c .before .scan-actions;
   window-plan = c .window-plan;
 }
-
-peer-of-requires : Tie.Need-peer-of-requires
-peer-of-requires c = search needs
 
 passed-on-requires : Tie.Need-passed-on-requires
 passed-on-requires c = search needs
@@ -42,5 +47,4 @@ window-plan-requires c = search needs
 
 module _ {M : Type 1} where
   pub spec : Tie.Need-returns → Lts.Closed Tie.readings Reads.Pre Reads.Post M
-  spec = λ a0. Tie.spec peer-of-requires passed-on-requires asking-requires scan-actions-requires window-plan-requires
-      a0
+  spec = λ a0. Tie.spec passed-on-requires asking-requires scan-actions-requires window-plan-requires a0

@@ -46,8 +46,8 @@ heldActions n t = held clearAction (n .actions) t
 abbrev pub worldSeen : OpaqueRelayRuntime → Places → List RelayPending → List RelayCircuit → List ReservationUsage → List InflightAction → World
 worldSeen h n p c l i = worldOf h (heldPending n p) (heldCircuits n c) (heldLedger n l) (heldActions n i)
 
-abbrev pub worldAt : Request → List RelayPending → List RelayCircuit → List ReservationUsage → List InflightAction → World
-worldAt r p c l i = worldSeen (r .runtime) (r .places) p c l i
+abbrev pub worldGiven : Request → List RelayPending → List RelayCircuit → List ReservationUsage → List InflightAction → World
+worldGiven r p c l i = worldSeen (r .runtime) (r .places) p c l i
 
 abbrev pub underwaySeen : Sending → List RelayPending → List RelayCircuit → List ReservationUsage → List InflightAction → (out : List ℕ) → Progress
 underwaySeen s p c l i out =

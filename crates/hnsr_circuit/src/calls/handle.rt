@@ -7,7 +7,7 @@ ghost use lib.ListN.{length};
 ghost use mathlib.Core.List.{List};
 ghost use Prim.Native.Nat.{ℕ};
 ghost use Rattle.hnsr_circuit.specs.Peer.{peerOf};
-ghost use Rattle.hnsr_circuit.specs.Code.Held.{worldSeen, worldAt, handedSeen};
+ghost use Rattle.hnsr_circuit.specs.Code.Held.{worldSeen, worldGiven, handedSeen};
 ghost use Rattle.hnsr_circuit.specs.declared.answer.HnsrAnswer.the-variants.{Refused};
 ghost use Rattle.hnsr_circuit.specs.declared.answer.HnsrRuntimeError.the-variants.{Short, UnexpectedOpcode};
 ghost use Rattle.hnsr_circuit.specs.Answers.{check, _then_};
@@ -118,10 +118,9 @@ pub(crate) fn dispatch(
     random: &[u8],
 ) -> Relayed
     requires { ⌜ length (now body) < 65536 ⌝ }
-    ensures { λ r. ⌜ ((source : List ℕ) → request .peer ≡ peerOf source → handedSeen r (now (pending .exit)) (now (circuits .exit)) (now (ledger .exit)) (now (inflight .exit)) (now (out .exit)) ≡ ending (now (out .entry)) (dispatch (handlingOf (request .packet .opcode)) (worldAt request (now (pending .entry)) (now (circuits .entry)) (now (ledger .entry)) (now (inflight .entry))) (packetOf (request .packet) source (now (body .entry)) (now (endpoint .entry)) (now (random .entry))))) ⌝ }
+    ensures { λ r. ⌜ ((source : List ℕ) → request .peer ≡ peerOf source → handedSeen r (now (pending .exit)) (now (circuits .exit)) (now (ledger .exit)) (now (inflight .exit)) (now (out .exit)) ≡ ending (now (out .entry)) (dispatch (handlingOf (request .packet .opcode)) (worldGiven request (now (pending .entry)) (now (circuits .entry)) (now (ledger .entry)) (now (inflight .entry))) (packetOf (request .packet) source (now (body .entry)) (now (endpoint .entry)) (now (random .entry))))) ⌝ }
 {
-    let packet = request.packet;
-    let opcode = packet.opcode;
+    let opcode = request.packet.opcode;
     match opcode {
         13 => handle_open(
             pending,

@@ -6,7 +6,7 @@ ghost use Prim.Native.Nat.{ℕ};
 ghost use lib.ListN.{set};
 ghost use Rattle.hnsr_body.specs.Accept.{decodeAccept};
 ghost use Rattle.hnsr_circuit.specs.Code.Lookup.{pendingFound};
-ghost use Rattle.hnsr_circuit.specs.Code.Held.{held, heldPending, heldCircuits, heldActions, worldAt, handedSeen};
+ghost use Rattle.hnsr_circuit.specs.Code.Held.{held, heldPending, heldCircuits, heldActions, worldGiven, handedSeen};
 ghost use Rattle.hnsr_circuit.specs.Table.{put};
 ghost use Rattle.hnsr_circuit.specs.Pending.{clearPending};
 ghost use Rattle.hnsr_circuit.specs.Circuits.{isCircuit, circuitAt, clearCircuit};
@@ -59,22 +59,17 @@ pub(crate) fn accept_answered(
 ) -> HnsrAnswer
     ensures { λ r. ⌜ r ≡ acceptRows (request .runtime .config) found (request .peer) (request .packet .now) read (pendingWork (acceptWork found) (heldPending (request .places) (now (pending .entry)))) (circuitWork (acceptWork found) (heldCircuits (request .places) (now (circuits .entry)))) (tallied true (request .packet .«context_id») (found .pending .requester) (heldActions (request .places) (now (inflight .entry)))) ⌝ }
 {
-    let runtime = request.runtime;
-    let places = request.places;
-    let packet = request.packet;
-    let peer = request.peer;
-    let config = runtime.config;
     let question = accept_work(found);
-    let waiting = pending_work(pending, places, question);
-    let running = circuit_work(circuits, places, question);
-    let asked = replacing(found, packet.context_id);
-    let scan = scan_actions(inflight, places, asked);
+    let waiting = pending_work(pending, request.places, question);
+    let running = circuit_work(circuits, request.places, question);
+    let asked = replacing(found, request.packet.context_id);
+    let scan = scan_actions(inflight, request.places, asked);
     let tally = scan.tally;
     accept_rows(
-        config,
+        request.runtime.config,
         found,
-        peer,
-        packet.now,
+        request.peer,
+        request.packet.now,
         read,
         waiting,
         running,
@@ -108,16 +103,14 @@ pub(crate) fn accept_found(
     found: PendingFound,
     read: AcceptRead,
 ) -> Relayed
-    ensures { λ r. ⌜ ((l : List ReservationUsage) (source body e rs : List ℕ) → request .peer ≡ peerOf source → found ≡ pendingFound (at (request .packet .«context_id») 0) (heldPending (request .places) (now (pending .entry))) → read ≡ decodeAccept body → handedSeen r (now (pending .exit)) (now (circuits .exit)) l (now (inflight .exit)) (now (out .exit)) ≡ ending (now (out .entry)) (handleAccept (worldAt request (now (pending .entry)) (now (circuits .entry)) l (now (inflight .entry))) (packetOf (request .packet) source body e rs))) ⌝ }
+    ensures { λ r. ⌜ ((l : List ReservationUsage) (source body e rs : List ℕ) → request .peer ≡ peerOf source → found ≡ pendingFound (at (request .packet .«context_id») 0) (heldPending (request .places) (now (pending .entry))) → read ≡ decodeAccept body → handedSeen r (now (pending .exit)) (now (circuits .exit)) l (now (inflight .exit)) (now (out .exit)) ≡ ending (now (out .entry)) (handleAccept (worldGiven request (now (pending .entry)) (now (circuits .entry)) l (now (inflight .entry))) (packetOf (request .packet) source body e rs))) ⌝ }
 {
-    let runtime = request.runtime;
     let places = request.places;
-    let config = runtime.config;
     let answer = accept_answered(pending, circuits, inflight, request, found, read);
     if is_taken(answer) {
-        let plan = accept_plan(answer, runtime, found, read);
+        let plan = accept_plan(answer, request.runtime, found, read);
         let row = found_unmarked(found);
-        let circuit = circuit_for(config, found, read);
+        let circuit = circuit_for(request.runtime.config, found, read);
         let counted = plan.runtime;
         let message = plan.message;
         let opened = plan.opened;
@@ -128,7 +121,7 @@ pub(crate) fn accept_found(
         let bytes = opened.to_bytes();
         return send(inflight, out, answer, counted, after, message, scan, &bytes);
     }
-    refused(runtime, places, answer)
+    refused(request.runtime, places, answer)
 }
 
 pub(crate) fn handle_accept(
@@ -139,17 +132,13 @@ pub(crate) fn handle_accept(
     request: Request,
     body: &[u8],
 ) -> Relayed
-    ensures { λ r. ⌜ ((l : List ReservationUsage) (source e rs : List ℕ) → request .peer ≡ peerOf source → handedSeen r (now (pending .exit)) (now (circuits .exit)) l (now (inflight .exit)) (now (out .exit)) ≡ ending (now (out .entry)) (handleAccept (worldAt request (now (pending .entry)) (now (circuits .entry)) l (now (inflight .entry))) (packetOf (request .packet) source (now (body .entry)) e rs))) ⌝ }
+    ensures { λ r. ⌜ ((l : List ReservationUsage) (source e rs : List ℕ) → request .peer ≡ peerOf source → handedSeen r (now (pending .exit)) (now (circuits .exit)) l (now (inflight .exit)) (now (out .exit)) ≡ ending (now (out .entry)) (handleAccept (worldGiven request (now (pending .entry)) (now (circuits .entry)) l (now (inflight .entry))) (packetOf (request .packet) source (now (body .entry)) e rs))) ⌝ }
 {
-    let runtime = request.runtime;
-    let places = request.places;
-    let packet = request.packet;
-    let peer = request.peer;
-    let found = pending_by_id(pending, places, packet.context_id);
+    let found = pending_by_id(pending, request.places, request.packet.context_id);
     let read = AcceptBody::decode(body);
-    let entered = accept_entry(found, peer, packet.now, read);
+    let entered = accept_entry(found, request.peer, request.packet.now, read);
     if is_taken(entered) {
         return accept_found(pending, circuits, inflight, out, request, found, read);
     }
-    refused(runtime, places, entered)
+    refused(request.runtime, request.places, entered)
 }

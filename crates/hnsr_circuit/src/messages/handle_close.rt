@@ -5,7 +5,7 @@ ghost use mathlib.Core.List.{List};
 ghost use Prim.Native.Nat.{ℕ, _<_};
 ghost use lib.ListN.{length};
 ghost use Rattle.hnsr_circuit.specs.Code.Plans.{closePlannedOn};
-ghost use Rattle.hnsr_circuit.specs.Code.Held.{heldPending, heldCircuits, worldAt, handedSeen};
+ghost use Rattle.hnsr_circuit.specs.Code.Held.{heldPending, heldCircuits, worldGiven, handedSeen};
 ghost use Rattle.hnsr_circuit.specs.declared.records.ReservationUsage.{ReservationUsage};
 ghost use Rattle.hnsr_circuit.specs.Close.{handleClose};
 ghost use Rattle.hnsr_circuit.specs.Peer.{peerOf};
@@ -41,15 +41,19 @@ pub(crate) fn plan_close(
 ) -> ClosePlan
     ensures { λ r. ⌜ r ≡ closePlannedOn (request .runtime) (heldPending (request .places) (now (pending .entry))) (heldCircuits (request .places) (now (circuits .entry))) (request .packet) read (request .peer) ⌝ }
 {
-    let runtime = request.runtime;
-    let places = request.places;
-    let packet = request.packet;
-    let peer = request.peer;
-    let naming = named(peer, packet.context_id);
-    let matches = count_pending(pending, places, naming);
-    let waiting = look_up_pending(pending, places, naming);
-    let circuit = circuit_by_id(circuits, places, packet.context_id);
-    close_plan(runtime, packet, read, matches, waiting, circuit, peer)
+    let naming = named(request.peer, request.packet.context_id);
+    let matches = count_pending(pending, request.places, naming);
+    let waiting = look_up_pending(pending, request.places, naming);
+    let circuit = circuit_by_id(circuits, request.places, request.packet.context_id);
+    close_plan(
+        request.runtime,
+        request.packet,
+        read,
+        matches,
+        waiting,
+        circuit,
+        request.peer,
+    )
 }
 
 // A CLOSE or ERROR whose body is read: what its rows refuse costs no pass over the actions, what they take one.
@@ -63,9 +67,8 @@ pub(crate) fn close_read(
     body: &[u8],
 ) -> Relayed
     requires { ⌜ (read ≡ decodeDetail (now body)) × (length (now body) < 65536) ⌝ }
-    ensures { λ r. ⌜ ((l : List ReservationUsage) (source e rs : List ℕ) → request .peer ≡ peerOf source → handedSeen r (now (pending .exit)) (now (circuits .exit)) l (now (inflight .exit)) (now (out .exit)) ≡ ending (now (out .entry)) (handleClose (worldAt request (now (pending .entry)) (now (circuits .entry)) l (now (inflight .entry))) (packetOf (request .packet) source (now (body .entry)) e rs))) ⌝ }
+    ensures { λ r. ⌜ ((l : List ReservationUsage) (source e rs : List ℕ) → request .peer ≡ peerOf source → handedSeen r (now (pending .exit)) (now (circuits .exit)) l (now (inflight .exit)) (now (out .exit)) ≡ ending (now (out .entry)) (handleClose (worldGiven request (now (pending .entry)) (now (circuits .entry)) l (now (inflight .entry))) (packetOf (request .packet) source (now (body .entry)) e rs))) ⌝ }
 {
-    let runtime = request.runtime;
     let places = request.places;
     let plan = plan_close(pending, circuits, request, read);
     let answer = plan.answer;
@@ -78,7 +81,7 @@ pub(crate) fn close_read(
         let scan = drop_and_scan(inflight, places, plan.id, asked);
         return send(inflight, out, answer, counted, places, message, scan, body);
     }
-    refused(runtime, places, answer)
+    refused(request.runtime, places, answer)
 }
 
 pub(crate) fn handle_close(
@@ -90,15 +93,13 @@ pub(crate) fn handle_close(
     body: &[u8],
 ) -> Relayed
     requires { ⌜ length (now body) < 65536 ⌝ }
-    ensures { λ r. ⌜ ((l : List ReservationUsage) (source e rs : List ℕ) → request .peer ≡ peerOf source → handedSeen r (now (pending .exit)) (now (circuits .exit)) l (now (inflight .exit)) (now (out .exit)) ≡ ending (now (out .entry)) (handleClose (worldAt request (now (pending .entry)) (now (circuits .entry)) l (now (inflight .entry))) (packetOf (request .packet) source (now (body .entry)) e rs))) ⌝ }
+    ensures { λ r. ⌜ ((l : List ReservationUsage) (source e rs : List ℕ) → request .peer ≡ peerOf source → handedSeen r (now (pending .exit)) (now (circuits .exit)) l (now (inflight .exit)) (now (out .exit)) ≡ ending (now (out .entry)) (handleClose (worldGiven request (now (pending .entry)) (now (circuits .entry)) l (now (inflight .entry))) (packetOf (request .packet) source (now (body .entry)) e rs))) ⌝ }
 {
-    let runtime = request.runtime;
-    let places = request.places;
     let read = ReasonDetail::decode(body);
     let checked = read.result;
     let entered = body_answer(checked);
     if is_taken(entered) {
         return close_read(pending, circuits, inflight, out, request, read, body);
     }
-    refused(runtime, places, entered)
+    refused(request.runtime, request.places, entered)
 }

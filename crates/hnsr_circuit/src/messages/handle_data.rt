@@ -6,7 +6,7 @@ ghost use lib.ListN.{length};
 ghost use Rattle.hnsr_circuit.specs.Code.Question.{at};
 ghost use Rattle.hnsr_circuit.specs.Code.Lookup.{circuitFound};
 ghost use Rattle.hnsr_circuit.specs.Code.Plans.{dataPlannedOn};
-ghost use Rattle.hnsr_circuit.specs.Code.Held.{heldCircuits, heldLedger, heldActions, worldAt, handedSeen};
+ghost use Rattle.hnsr_circuit.specs.Code.Held.{heldCircuits, heldLedger, heldActions, worldGiven, handedSeen};
 ghost use Rattle.hnsr_circuit.specs.declared.records.RelayPending.{RelayPending};
 ghost use Rattle.hnsr_circuit.specs.Data.{handleData};
 ghost use Rattle.hnsr_circuit.specs.Peer.{peerOf};
@@ -43,17 +43,21 @@ pub(crate) fn plan_data(
 ) -> DataPlan
     ensures { λ r. ⌜ r ≡ dataPlannedOn (request .runtime) named (heldLedger (request .places) (now (ledger .entry))) (heldActions (request .places) (now (inflight .entry))) (request .packet) (request .peer) n ⌝ }
 {
-    let runtime = request.runtime;
-    let places = request.places;
-    let packet = request.packet;
-    let peer = request.peer;
-    let message = data_on(packet, named, peer, n);
-    let asked = asking(runtime, message);
-    let scan = scan_actions(inflight, places, asked);
+    let message = data_on(request.packet, named, request.peer, n);
+    let asked = asking(request.runtime, message);
+    let scan = scan_actions(inflight, request.places, asked);
     let reservation = reservation_of(named);
     let under = at_reservation(reservation);
-    let booked = look_up_usage(ledger, places, under);
-    data_plan(runtime, named, booked, scan, peer, message, n)
+    let booked = look_up_usage(ledger, request.places, under);
+    data_plan(
+        request.runtime,
+        named,
+        booked,
+        scan,
+        request.peer,
+        message,
+        n,
+    )
 }
 
 // A DATA that its circuit takes.
@@ -67,11 +71,10 @@ pub(crate) fn pass_data(
     body: &[u8],
 ) -> Relayed
     requires { ⌜ (named ≡ circuitFound (at (request .packet .«context_id») 0) (heldCircuits (request .places) (now circuits))) × (length (now body) < 65536) ⌝ }
-    ensures { λ r. ⌜ ((p : List RelayPending) (source e rs : List ℕ) → request .peer ≡ peerOf source → handedSeen r p (now (circuits .exit)) (now (ledger .exit)) (now (inflight .exit)) (now (out .exit)) ≡ ending (now (out .entry)) (handleData (worldAt request p (now (circuits .entry)) (now (ledger .entry)) (now (inflight .entry))) (packetOf (request .packet) source (now (body .entry)) e rs))) ⌝ }
+    ensures { λ r. ⌜ ((p : List RelayPending) (source e rs : List ℕ) → request .peer ≡ peerOf source → handedSeen r p (now (circuits .exit)) (now (ledger .exit)) (now (inflight .exit)) (now (out .exit)) ≡ ending (now (out .entry)) (handleData (worldGiven request p (now (circuits .entry)) (now (ledger .entry)) (now (inflight .entry))) (packetOf (request .packet) source (now (body .entry)) e rs))) ⌝ }
 {
     let n = body.len();
     let bytes = n as u64;
-    let places = request.places;
     let plan = plan_data(ledger, inflight, request, named, n);
     let answer = plan.answer;
     let side = plan.side;
@@ -79,8 +82,17 @@ pub(crate) fn pass_data(
     let message = plan.message;
     let scan = plan.scan;
     charge_circuit(circuits, plan.go, plan.place, side, n);
-    spend(ledger, places, plan.go, plan.usage_place, bytes);
-    send(inflight, out, answer, counted, places, message, scan, body)
+    spend(ledger, request.places, plan.go, plan.usage_place, bytes);
+    send(
+        inflight,
+        out,
+        answer,
+        counted,
+        request.places,
+        message,
+        scan,
+        body,
+    )
 }
 
 // Its circuit decides first: what that refuses costs no pass over the actions.
@@ -93,16 +105,12 @@ pub(crate) fn handle_data(
     body: &[u8],
 ) -> Relayed
     requires { ⌜ length (now body) < 65536 ⌝ }
-    ensures { λ r. ⌜ ((p : List RelayPending) (source e rs : List ℕ) → request .peer ≡ peerOf source → handedSeen r p (now (circuits .exit)) (now (ledger .exit)) (now (inflight .exit)) (now (out .exit)) ≡ ending (now (out .entry)) (handleData (worldAt request p (now (circuits .entry)) (now (ledger .entry)) (now (inflight .entry))) (packetOf (request .packet) source (now (body .entry)) e rs))) ⌝ }
+    ensures { λ r. ⌜ ((p : List RelayPending) (source e rs : List ℕ) → request .peer ≡ peerOf source → handedSeen r p (now (circuits .exit)) (now (ledger .exit)) (now (inflight .exit)) (now (out .exit)) ≡ ending (now (out .entry)) (handleData (worldGiven request p (now (circuits .entry)) (now (ledger .entry)) (now (inflight .entry))) (packetOf (request .packet) source (now (body .entry)) e rs))) ⌝ }
 {
-    let runtime = request.runtime;
-    let places = request.places;
-    let packet = request.packet;
-    let peer = request.peer;
-    let named = circuit_by_id(circuits, places, packet.context_id);
-    let entered = data_entry(named, peer, body.len());
+    let named = circuit_by_id(circuits, request.places, request.packet.context_id);
+    let entered = data_entry(named, request.peer, body.len());
     if is_taken(entered) {
         return pass_data(circuits, ledger, inflight, out, request, named, body);
     }
-    refused(runtime, places, entered)
+    refused(request.runtime, request.places, entered)
 }

@@ -7,7 +7,7 @@ ghost use Prim.Native.Nat.{ℕ};
 ghost use Rattle.hnsr_circuit.specs.Table.{any};
 ghost use Rattle.hnsr_circuit.specs.Pending.{pendingAt};
 ghost use Rattle.hnsr_circuit.specs.Ledger.{usageOf};
-ghost use Rattle.hnsr_circuit.specs.Code.Held.{heldPending, heldCircuits, heldLedger, heldActions, worldSeen, worldAt, handedSeen};
+ghost use Rattle.hnsr_circuit.specs.Code.Held.{heldPending, heldCircuits, heldLedger, heldActions, worldSeen, worldGiven, handedSeen};
 ghost use Rattle.hnsr_circuit.specs.Code.Turns.{actionsScanned};
 ghost use Rattle.hnsr_circuit.specs.Draw.{undrawn, draws, drawAll};
 ghost use Rattle.hnsr_circuit.specs.Peer.{peerOf};
@@ -124,18 +124,15 @@ pub(crate) fn gather(
 ) -> OpenGathered
     ensures { λ r. ⌜ r ≡ gathering (request .packet) (request .peer) (now (body .entry)) (now (endpoint .entry)) (now (random .entry)) (heldPending (request .places) (now (pending .entry))) (heldCircuits (request .places) (now (circuits .entry))) ⌝ }
 {
-    let places = request.places;
-    let packet = request.packet;
-    let requester = request.peer;
     let other = peer_of(endpoint);
-    let read = OpenBody::decode(body, packet.key_valid);
+    let read = OpenBody::decode(body, request.packet.key_valid);
     let first = first_draw(random);
-    let question = open_work(packet, requester, other, read, first);
-    let waiting = pending_work(pending, places, question);
-    let running = circuit_work(circuits, places, question);
+    let question = open_work(request.packet, request.peer, other, read, first);
+    let waiting = pending_work(pending, request.places, question);
+    let running = circuit_work(circuits, request.places, question);
     open_gathering(
-        packet,
-        requester,
+        request.packet,
+        request.peer,
         other,
         endpoint.len(),
         read,
@@ -256,16 +253,14 @@ pub(crate) fn handle_open(
     endpoint: &[u8],
     random: &[u8],
 ) -> Relayed
-    ensures { λ r. ⌜ ((source : List ℕ) → request .peer ≡ peerOf source → handedSeen r (now (pending .exit)) (now (circuits .exit)) (now (ledger .exit)) (now (inflight .exit)) (now (out .exit)) ≡ ending (now (out .entry)) (handleOpen (worldAt request (now (pending .entry)) (now (circuits .entry)) (now (ledger .entry)) (now (inflight .entry))) (packetOf (request .packet) source (now (body .entry)) (now (endpoint .entry)) (now (random .entry))))) ⌝ }
+    ensures { λ r. ⌜ ((source : List ℕ) → request .peer ≡ peerOf source → handedSeen r (now (pending .exit)) (now (circuits .exit)) (now (ledger .exit)) (now (inflight .exit)) (now (out .exit)) ≡ ending (now (out .entry)) (handleOpen (worldGiven request (now (pending .entry)) (now (circuits .entry)) (now (ledger .entry)) (now (inflight .entry))) (packetOf (request .packet) source (now (body .entry)) (now (endpoint .entry)) (now (random .entry))))) ⌝ }
 {
     let runtime = request.runtime;
     let places = request.places;
-    let packet = request.packet;
-    let config = runtime.config;
     let gathered = gather(pending, circuits, request, body, endpoint, random);
-    let answer = open_rows(config, gathered);
+    let answer = open_rows(runtime.config, gathered);
     if is_taken(answer) {
-        drop_lapsed(ledger, places, packet.now);
+        drop_lapsed(ledger, places, request.packet.now);
         return open_lapsed(
             pending,
             circuits,

@@ -7,7 +7,7 @@ ghost use lib.ListN.{length};
 ghost use Rattle.hnsr_circuit.specs.Code.Question.{at};
 ghost use Rattle.hnsr_circuit.specs.Code.Lookup.{circuitFound};
 ghost use Rattle.hnsr_circuit.specs.Code.Plans.{windowPlannedOn};
-ghost use Rattle.hnsr_circuit.specs.Code.Held.{heldCircuits, heldActions, worldAt, handedSeen};
+ghost use Rattle.hnsr_circuit.specs.Code.Held.{heldCircuits, heldActions, worldGiven, handedSeen};
 ghost use Rattle.hnsr_circuit.specs.declared.records.RelayPending.{RelayPending};
 ghost use Rattle.hnsr_circuit.specs.declared.records.ReservationUsage.{ReservationUsage};
 ghost use Rattle.hnsr_circuit.specs.Window.{handleWindow};
@@ -42,16 +42,18 @@ pub(crate) fn plan_window(
 ) -> WindowPlan
     ensures { λ r. ⌜ r ≡ windowPlannedOn (request .runtime) read named (heldActions (request .places) (now (inflight .entry))) (request .packet) (request .peer) ⌝ }
 {
-    let runtime = request.runtime;
-    let places = request.places;
-    let packet = request.packet;
-    let peer = request.peer;
-    let config = runtime.config;
     let kind = InflightKind::Control;
-    let message = passed_on(packet, named, peer, kind);
-    let asked = asking(runtime, message);
-    let scan = scan_actions(inflight, places, asked);
-    window_plan(config, read, named, scan, peer, message)
+    let message = passed_on(request.packet, named, request.peer, kind);
+    let asked = asking(request.runtime, message);
+    let scan = scan_actions(inflight, request.places, asked);
+    window_plan(
+        request.runtime.config,
+        read,
+        named,
+        scan,
+        request.peer,
+        message,
+    )
 }
 
 // A WINDOW that its circuit takes.
@@ -65,17 +67,31 @@ pub(crate) fn pass_window(
     body: &[u8],
 ) -> Relayed
     requires { ⌜ (named ≡ circuitFound (at (request .packet .«context_id») 0) (heldCircuits (request .places) (now circuits))) × (read ≡ decodeWindow (now body)) × (length (now body) < 65536) ⌝ }
-    ensures { λ r. ⌜ ((p : List RelayPending) (l : List ReservationUsage) (source e rs : List ℕ) → request .peer ≡ peerOf source → handedSeen r p (now (circuits .exit)) l (now (inflight .exit)) (now (out .exit)) ≡ ending (now (out .entry)) (handleWindow (worldAt request p (now (circuits .entry)) l (now (inflight .entry))) (packetOf (request .packet) source (now (body .entry)) e rs))) ⌝ }
+    ensures { λ r. ⌜ ((p : List RelayPending) (l : List ReservationUsage) (source e rs : List ℕ) → request .peer ≡ peerOf source → handedSeen r p (now (circuits .exit)) l (now (inflight .exit)) (now (out .exit)) ≡ ending (now (out .entry)) (handleWindow (worldGiven request p (now (circuits .entry)) l (now (inflight .entry))) (packetOf (request .packet) source (now (body .entry)) e rs))) ⌝ }
 {
     let plan = plan_window(inflight, request, read, named);
-    let runtime = request.runtime;
-    let places = request.places;
     let answer = plan.answer;
     let side = plan.side;
     let message = plan.message;
     let scan = plan.scan;
-    raise_circuit(circuits, places, plan.go, plan.place, side, plan.delta);
-    send(inflight, out, answer, runtime, places, message, scan, body)
+    raise_circuit(
+        circuits,
+        request.places,
+        plan.go,
+        plan.place,
+        side,
+        plan.delta,
+    );
+    send(
+        inflight,
+        out,
+        answer,
+        request.runtime,
+        request.places,
+        message,
+        scan,
+        body,
+    )
 }
 
 // Its body and its circuit decide first: what they refuse costs no pass over the actions.
@@ -87,17 +103,13 @@ pub(crate) fn handle_window(
     body: &[u8],
 ) -> Relayed
     requires { ⌜ length (now body) < 65536 ⌝ }
-    ensures { λ r. ⌜ ((p : List RelayPending) (l : List ReservationUsage) (source e rs : List ℕ) → request .peer ≡ peerOf source → handedSeen r p (now (circuits .exit)) l (now (inflight .exit)) (now (out .exit)) ≡ ending (now (out .entry)) (handleWindow (worldAt request p (now (circuits .entry)) l (now (inflight .entry))) (packetOf (request .packet) source (now (body .entry)) e rs))) ⌝ }
+    ensures { λ r. ⌜ ((p : List RelayPending) (l : List ReservationUsage) (source e rs : List ℕ) → request .peer ≡ peerOf source → handedSeen r p (now (circuits .exit)) l (now (inflight .exit)) (now (out .exit)) ≡ ending (now (out .entry)) (handleWindow (worldGiven request p (now (circuits .entry)) l (now (inflight .entry))) (packetOf (request .packet) source (now (body .entry)) e rs))) ⌝ }
 {
-    let runtime = request.runtime;
-    let places = request.places;
-    let packet = request.packet;
-    let peer = request.peer;
     let read = WindowBody::decode(body);
-    let named = circuit_by_id(circuits, places, packet.context_id);
-    let entered = window_entry(read, named, peer);
+    let named = circuit_by_id(circuits, request.places, request.packet.context_id);
+    let entered = window_entry(read, named, request.peer);
     if is_taken(entered) {
         return pass_window(circuits, inflight, out, request, read, named, body);
     }
-    refused(runtime, places, entered)
+    refused(request.runtime, request.places, entered)
 }

@@ -9,7 +9,7 @@ use Rattle.hnsr_circuit.specs.Handle.{handlingOf, dispatch}
 use Rattle.hnsr_circuit.specs.Code.Progress.{packetOf, ending}
 use Rattle.hnsr_circuit.specs.Laws.HandleCall.{closes, at-nineteen, other-below, other-above, other-incoming, other-opened, left-alone}
 use borrow.Author.Needs.{needs}
-use Rattle.hnsr_circuit.specs.Code.Held.{worldAt, heldPending, heldCircuits, heldLedger, heldActions}
+use Rattle.hnsr_circuit.specs.Code.Held.{worldGiven, heldPending, heldCircuits, heldLedger, heldActions}
 use Rattle.hnsr_circuit.specs.Laws.HeldTables.{places-kept}
 use Rattle.hnsr_circuit.proofs.calls.handle.dispatch.Statement.{statement}
 use Rattle.hnsr_circuit.proofs.calls.handle.dispatch.Proof.Tie as tie
@@ -42,7 +42,7 @@ returns c =
     let here = at.returns c in
     λ source en.
     let a = here .start .args in
-    let w = worldAt (a .request) (a .pending .now) (a .circuits .now) (a .ledger .now) (a .inflight .now) in
+    let w = worldGiven (a .request) (a .pending .now) (a .circuits .now) (a .ledger .now) (a .inflight .now) in
     let q = packetOf (a .request .packet) source (a .body .now) (a .endpoint .now) (a .random .now) in
     here .handle-open .ensures source en ∙ ap (λ (n : ℕ). ending (a .out .now) (dispatch (handlingOf n) w q)) (sym (here .match .keys1))
 
@@ -52,7 +52,7 @@ returns-2 c =
     let here = at.returns-2 c in
     λ source en.
     let a = here .start .args in
-    let w = worldAt (a .request) (a .pending .now) (a .circuits .now) (a .ledger .now) (a .inflight .now) in
+    let w = worldGiven (a .request) (a .pending .now) (a .circuits .now) (a .ledger .now) (a .inflight .now) in
     let q = packetOf (a .request .packet) source (a .body .now) (a .endpoint .now) (a .random .now) in
     here .handle-accept .ensures (a .ledger .now) source (a .endpoint .now) (a .random .now) en ∙ ap (λ (n : ℕ). ending (a .out .now) (dispatch (handlingOf n) w q)) (sym (here .match .keys2))
 
@@ -62,7 +62,7 @@ returns-3 c =
     let here = at.returns-3 c in
     λ source en.
     let a = here .start .args in
-    let w = worldAt (a .request) (a .pending .now) (a .circuits .now) (a .ledger .now) (a .inflight .now) in
+    let w = worldGiven (a .request) (a .pending .now) (a .circuits .now) (a .ledger .now) (a .inflight .now) in
     let q = packetOf (a .request .packet) source (a .body .now) (a .endpoint .now) (a .random .now) in
     here .handle-data .ensures (a .pending .now) source (a .endpoint .now) (a .random .now) en ∙ ap (λ (n : ℕ). ending (a .out .now) (dispatch (handlingOf n) w q)) (sym (here .match .keys3))
 
@@ -72,7 +72,7 @@ returns-4 c =
     let here = at.returns-4 c in
     λ source en.
     let a = here .start .args in
-    let w = worldAt (a .request) (a .pending .now) (a .circuits .now) (a .ledger .now) (a .inflight .now) in
+    let w = worldGiven (a .request) (a .pending .now) (a .circuits .now) (a .ledger .now) (a .inflight .now) in
     let q = packetOf (a .request .packet) source (a .body .now) (a .endpoint .now) (a .random .now) in
     here .handle-window .ensures (a .pending .now) (a .ledger .now) source (a .endpoint .now) (a .random .now) en ∙ ap (λ (n : ℕ). ending (a .out .now) (dispatch (handlingOf n) w q)) (sym (here .match .keys4))
 
@@ -81,7 +81,7 @@ returns-5 c =
     let here = at.returns-5 c in
     λ source en.
     let a = here .start .args in
-    let w = worldAt (a .request) (a .pending .now) (a .circuits .now) (a .ledger .now) (a .inflight .now) in
+    let w = worldGiven (a .request) (a .pending .now) (a .circuits .now) (a .ledger .now) (a .inflight .now) in
     let q = packetOf (a .request .packet) source (a .body .now) (a .endpoint .now) (a .random .now) in
     let rest = here .match .rest in
     let low = here .if1 .left in

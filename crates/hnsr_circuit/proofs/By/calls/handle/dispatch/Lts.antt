@@ -14,6 +14,7 @@ use Rattle.hnsr_circuit.proofs.runtime.Request.Laws as Laws''
 use borrow.Author.Called
 use borrow.Author.Tests
 use borrow.Fn.Any
+use borrow.Fn.Args as Args'
 use borrow.Fn.Call
 use borrow.Fn.Enter
 use borrow.Fn.Frame
@@ -22,7 +23,6 @@ use borrow.Fn.Kinds
 use borrow.Fn.Plain
 use borrow.Kind.MutSlice
 use borrow.Kind.ShrSlice
-use borrow.Rule.DerefMove
 use borrow.Rule.Lifetime
 use borrow.Rule.Local
 use borrow.Rule.LocalCopy
@@ -32,13 +32,8 @@ use borrow.Rule.Slice.Mut
 use borrow.Rule.Slice.Relend
 use borrow.Rule.Slice.Shared
 use borrow.Rule.Switch
-use borrow.Rule.Way
-use borrow.Rule.WayStmt
 use borrow.Rule.Yields
-use borrow.Struct.Behind
-use borrow.Struct.Inner
 use borrow.Struct.Reads
-use borrow.Struct.Way as Way'
 use borrow.Table.Copies
 use borrow.Table.Own
 use borrow.Table.Reads as Reads'
@@ -47,7 +42,6 @@ use borrow.Table.Row
 use borrow.Table.Rows
 use borrow.Table.Typed
 use contract.Lifetimes
-use denote.Struct.At
 use denote.Struct.Declared
 use denote.Triple.Clauses
 use denote.Triple.Statement
@@ -135,10 +129,10 @@ abbrev pub r : Kinds.RK 8
 r = StructRow.result Relayed.the-type Laws'.the-laws Laws'.the-copy Laws'.the-plain
 
 abbrev pub xs : List.List Syntax.Ty
-xs = Laws.mir ∷ (Syntax.tyInt Syntax.w8) ∷ Laws'.mir ∷ ref0 ∷ slice0 ∷ ref1 ∷ slice1 ∷ ref2 ∷ slice2 ∷ ref3 ∷ slice3 ∷
-    ref4 ∷ slice4 ∷ ref0 ∷ slice0 ∷ ref1 ∷ slice1 ∷ ref3 ∷ slice3 ∷ ref4 ∷ slice4 ∷ ref1 ∷ slice1 ∷ ref2 ∷ slice2 ∷
-    ref3 ∷ slice3 ∷ ref4 ∷ slice4 ∷ ref1 ∷ slice1 ∷ ref3 ∷ slice3 ∷ ref4 ∷ slice4 ∷ Syntax.tyBool ∷ ref0 ∷ slice0 ∷
-    ref1 ∷ slice1 ∷ ref3 ∷ slice3 ∷ ref4 ∷ slice4 ∷ List.[]
+xs = (Syntax.tyInt Syntax.w8) ∷ Laws'.mir ∷ ref0 ∷ slice0 ∷ ref1 ∷ slice1 ∷ ref2 ∷ slice2 ∷ ref3 ∷ slice3 ∷ ref4 ∷
+    slice4 ∷ ref0 ∷ slice0 ∷ ref1 ∷ slice1 ∷ ref3 ∷ slice3 ∷ ref4 ∷ slice4 ∷ ref1 ∷ slice1 ∷ ref2 ∷ slice2 ∷ ref3 ∷
+    slice3 ∷ ref4 ∷ slice4 ∷ ref1 ∷ slice1 ∷ ref3 ∷ slice3 ∷ ref4 ∷ slice4 ∷ Syntax.tyBool ∷ ref0 ∷ slice0 ∷ ref1 ∷
+    slice1 ∷ ref3 ∷ slice3 ∷ ref4 ∷ slice4 ∷ List.[]
 
 abbrev pub m : Nat.ℕ
 m = 20
@@ -206,435 +200,430 @@ hs = Syntax.valueLocal ∷ Syntax.valueLocal ∷ Syntax.valueLocal ∷ Syntax.va
     Syntax.valueLocal ∷ Syntax.valueLocal ∷ Syntax.valueLocal ∷ Syntax.valueLocal ∷ Syntax.valueLocal ∷
     Syntax.valueLocal ∷ Syntax.valueLocal ∷ Syntax.valueLocal ∷ Syntax.valueLocal ∷ Syntax.valueLocal ∷
     Syntax.valueLocal ∷ Syntax.valueLocal ∷ Syntax.valueLocal ∷ Syntax.valueLocal ∷ Syntax.valueLocal ∷
-    Syntax.valueLocal ∷ Syntax.valueLocal ∷ Syntax.valueLocal ∷ Syntax.valueLocal ∷ List.[]
+    Syntax.valueLocal ∷ Syntax.valueLocal ∷ Syntax.valueLocal ∷ List.[]
 
 abbrev b0 : Syntax.Body
-b0 = Syntax.assign (Syntax.place 10 List.[]) (Syntax.rvOpd (Syntax.copy (Syntax.place 6 ((Syntax.field 2) ∷ List.[]))))
+b0 = Syntax.assign (Syntax.place 10 List.[]) (Syntax.rvOpd (Syntax.copy (Syntax.place 6
+    ((Syntax.field 2) ∷ (Syntax.field 0) ∷ List.[]))))
 
 abbrev b1 : Syntax.Body
-b1 = Syntax.assign (Syntax.place 11 List.[]) (Syntax.rvOpd (Syntax.copy (Syntax.place 10 ((Syntax.field 0) ∷ List.[]))))
+b1 = Syntax.assign (Syntax.place 12 List.[]) (Syntax.addrOf (Syntax.place 1 ((Syntax.field 0) ∷
+    (Syntax.deref RelayPending.ty) ∷ List.[])))
 
 abbrev b2 : Syntax.Body
-b2 = Syntax.assign (Syntax.place 13 List.[]) (Syntax.addrOf (Syntax.place 1 ((Syntax.field 0) ∷
-    (Syntax.deref RelayPending.ty) ∷ List.[])))
+b2 = Syntax.assign (Syntax.place 13 List.[]) (Syntax.aggregate ((Syntax.copy (Syntax.place 12 List.[])) ∷
+    (Syntax.copy (Syntax.place 1 ((Syntax.field 1) ∷ List.[]))) ∷ List.[]))
 
 abbrev b3 : Syntax.Body
-b3 = Syntax.assign (Syntax.place 14 List.[]) (Syntax.aggregate ((Syntax.copy (Syntax.place 13 List.[])) ∷
-    (Syntax.copy (Syntax.place 1 ((Syntax.field 1) ∷ List.[]))) ∷ List.[]))
+b3 = Syntax.assign (Syntax.place 14 List.[]) (Syntax.addrOf (Syntax.place 2 ((Syntax.field 0) ∷
+    (Syntax.deref RelayCircuit.ty) ∷ List.[])))
 
 abbrev b4 : Syntax.Body
-b4 = Syntax.assign (Syntax.place 15 List.[]) (Syntax.addrOf (Syntax.place 2 ((Syntax.field 0) ∷
-    (Syntax.deref RelayCircuit.ty) ∷ List.[])))
+b4 = Syntax.assign (Syntax.place 15 List.[]) (Syntax.aggregate ((Syntax.copy (Syntax.place 14 List.[])) ∷
+    (Syntax.copy (Syntax.place 2 ((Syntax.field 1) ∷ List.[]))) ∷ List.[]))
 
 abbrev b5 : Syntax.Body
-b5 = Syntax.assign (Syntax.place 16 List.[]) (Syntax.aggregate ((Syntax.copy (Syntax.place 15 List.[])) ∷
-    (Syntax.copy (Syntax.place 2 ((Syntax.field 1) ∷ List.[]))) ∷ List.[]))
+b5 = Syntax.assign (Syntax.place 16 List.[]) (Syntax.addrOf (Syntax.place 3 ((Syntax.field 0) ∷
+    (Syntax.deref ReservationUsage.ty) ∷ List.[])))
 
 abbrev b6 : Syntax.Body
-b6 = Syntax.assign (Syntax.place 17 List.[]) (Syntax.addrOf (Syntax.place 3 ((Syntax.field 0) ∷
-    (Syntax.deref ReservationUsage.ty) ∷ List.[])))
+b6 = Syntax.assign (Syntax.place 17 List.[]) (Syntax.aggregate ((Syntax.copy (Syntax.place 16 List.[])) ∷
+    (Syntax.copy (Syntax.place 3 ((Syntax.field 1) ∷ List.[]))) ∷ List.[]))
 
 abbrev b7 : Syntax.Body
-b7 = Syntax.assign (Syntax.place 18 List.[]) (Syntax.aggregate ((Syntax.copy (Syntax.place 17 List.[])) ∷
-    (Syntax.copy (Syntax.place 3 ((Syntax.field 1) ∷ List.[]))) ∷ List.[]))
+b7 = Syntax.assign (Syntax.place 18 List.[]) (Syntax.addrOf (Syntax.place 4 ((Syntax.field 0) ∷
+    (Syntax.deref InflightAction.ty) ∷ List.[])))
 
 abbrev b8 : Syntax.Body
-b8 = Syntax.assign (Syntax.place 19 List.[]) (Syntax.addrOf (Syntax.place 4 ((Syntax.field 0) ∷
-    (Syntax.deref InflightAction.ty) ∷ List.[])))
+b8 = Syntax.assign (Syntax.place 19 List.[]) (Syntax.aggregate ((Syntax.copy (Syntax.place 18 List.[])) ∷
+    (Syntax.copy (Syntax.place 4 ((Syntax.field 1) ∷ List.[]))) ∷ List.[]))
 
 abbrev b9 : Syntax.Body
-b9 = Syntax.assign (Syntax.place 20 List.[]) (Syntax.aggregate ((Syntax.copy (Syntax.place 19 List.[])) ∷
-    (Syntax.copy (Syntax.place 4 ((Syntax.field 1) ∷ List.[]))) ∷ List.[]))
+b9 = Syntax.assign (Syntax.place 20 List.[]) (Syntax.addrOf (Syntax.place 5 ((Syntax.field 0) ∷
+    (Syntax.deref (Syntax.tyInt Syntax.w32)) ∷ List.[])))
 
 abbrev b10 : Syntax.Body
-b10 = Syntax.assign (Syntax.place 21 List.[]) (Syntax.addrOf (Syntax.place 5 ((Syntax.field 0) ∷
-    (Syntax.deref (Syntax.tyInt Syntax.w32)) ∷ List.[])))
+b10 = Syntax.assign (Syntax.place 21 List.[]) (Syntax.aggregate ((Syntax.copy (Syntax.place 20 List.[])) ∷
+    (Syntax.copy (Syntax.place 5 ((Syntax.field 1) ∷ List.[]))) ∷ List.[]))
 
 abbrev b11 : Syntax.Body
-b11 = Syntax.assign (Syntax.place 22 List.[]) (Syntax.aggregate ((Syntax.copy (Syntax.place 21 List.[])) ∷
-    (Syntax.copy (Syntax.place 5 ((Syntax.field 1) ∷ List.[]))) ∷ List.[]))
-
-abbrev b12 : Syntax.Body
-b12 = Syntax.call "hnsr_circuit::messages::handle_open::handle_open" ((Syntax.copy (Syntax.place 14 List.[])) ∷
-    (Syntax.copy (Syntax.place 16 List.[])) ∷ (Syntax.copy (Syntax.place 18 List.[])) ∷
-    (Syntax.copy (Syntax.place 20 List.[])) ∷ (Syntax.copy (Syntax.place 22 List.[])) ∷
+b11 = Syntax.call "hnsr_circuit::messages::handle_open::handle_open" ((Syntax.copy (Syntax.place 13 List.[])) ∷
+    (Syntax.copy (Syntax.place 15 List.[])) ∷ (Syntax.copy (Syntax.place 17 List.[])) ∷
+    (Syntax.copy (Syntax.place 19 List.[])) ∷ (Syntax.copy (Syntax.place 21 List.[])) ∷
     (Syntax.copy (Syntax.place 6 List.[])) ∷ (Syntax.copy (Syntax.place 7 List.[])) ∷
     (Syntax.copy (Syntax.place 8 List.[])) ∷ (Syntax.copy (Syntax.place 9 List.[])) ∷ List.[])
-    (Syntax.place 12 List.[])
+    (Syntax.place 11 List.[])
+
+abbrev b12 : Syntax.Body
+b12 = Syntax.exit 1
 
 abbrev b13 : Syntax.Body
-b13 = Syntax.exit 1
+b13 = Syntax.seq b11 b12
 
 abbrev b14 : Syntax.Body
-b14 = Syntax.seq b12 b13
+b14 = Syntax.seq b10 b13
 
 abbrev b15 : Syntax.Body
-b15 = Syntax.seq b11 b14
+b15 = Syntax.seq b9 b14
 
 abbrev b16 : Syntax.Body
-b16 = Syntax.seq b10 b15
+b16 = Syntax.seq b8 b15
 
 abbrev b17 : Syntax.Body
-b17 = Syntax.seq b9 b16
+b17 = Syntax.seq b7 b16
 
 abbrev b18 : Syntax.Body
-b18 = Syntax.seq b8 b17
+b18 = Syntax.seq b6 b17
 
 abbrev b19 : Syntax.Body
-b19 = Syntax.seq b7 b18
+b19 = Syntax.seq b5 b18
 
 abbrev b20 : Syntax.Body
-b20 = Syntax.seq b6 b19
+b20 = Syntax.seq b4 b19
 
 abbrev b21 : Syntax.Body
-b21 = Syntax.seq b5 b20
+b21 = Syntax.seq b3 b20
 
 abbrev b22 : Syntax.Body
-b22 = Syntax.seq b4 b21
+b22 = Syntax.seq b2 b21
 
 abbrev b23 : Syntax.Body
-b23 = Syntax.seq b3 b22
+b23 = Syntax.seq b1 b22
 
 abbrev b24 : Syntax.Body
-b24 = Syntax.seq b2 b23
+b24 = Syntax.assign (Syntax.place 22 List.[]) (Syntax.addrOf (Syntax.place 1 ((Syntax.field 0) ∷
+    (Syntax.deref RelayPending.ty) ∷ List.[])))
 
 abbrev b25 : Syntax.Body
-b25 = Syntax.assign (Syntax.place 23 List.[]) (Syntax.addrOf (Syntax.place 1 ((Syntax.field 0) ∷
-    (Syntax.deref RelayPending.ty) ∷ List.[])))
+b25 = Syntax.assign (Syntax.place 23 List.[]) (Syntax.aggregate ((Syntax.copy (Syntax.place 22 List.[])) ∷
+    (Syntax.copy (Syntax.place 1 ((Syntax.field 1) ∷ List.[]))) ∷ List.[]))
 
 abbrev b26 : Syntax.Body
-b26 = Syntax.assign (Syntax.place 24 List.[]) (Syntax.aggregate ((Syntax.copy (Syntax.place 23 List.[])) ∷
-    (Syntax.copy (Syntax.place 1 ((Syntax.field 1) ∷ List.[]))) ∷ List.[]))
+b26 = Syntax.assign (Syntax.place 24 List.[]) (Syntax.addrOf (Syntax.place 2 ((Syntax.field 0) ∷
+    (Syntax.deref RelayCircuit.ty) ∷ List.[])))
 
 abbrev b27 : Syntax.Body
-b27 = Syntax.assign (Syntax.place 25 List.[]) (Syntax.addrOf (Syntax.place 2 ((Syntax.field 0) ∷
-    (Syntax.deref RelayCircuit.ty) ∷ List.[])))
+b27 = Syntax.assign (Syntax.place 25 List.[]) (Syntax.aggregate ((Syntax.copy (Syntax.place 24 List.[])) ∷
+    (Syntax.copy (Syntax.place 2 ((Syntax.field 1) ∷ List.[]))) ∷ List.[]))
 
 abbrev b28 : Syntax.Body
-b28 = Syntax.assign (Syntax.place 26 List.[]) (Syntax.aggregate ((Syntax.copy (Syntax.place 25 List.[])) ∷
-    (Syntax.copy (Syntax.place 2 ((Syntax.field 1) ∷ List.[]))) ∷ List.[]))
+b28 = Syntax.assign (Syntax.place 26 List.[]) (Syntax.addrOf (Syntax.place 4 ((Syntax.field 0) ∷
+    (Syntax.deref InflightAction.ty) ∷ List.[])))
 
 abbrev b29 : Syntax.Body
-b29 = Syntax.assign (Syntax.place 27 List.[]) (Syntax.addrOf (Syntax.place 4 ((Syntax.field 0) ∷
-    (Syntax.deref InflightAction.ty) ∷ List.[])))
+b29 = Syntax.assign (Syntax.place 27 List.[]) (Syntax.aggregate ((Syntax.copy (Syntax.place 26 List.[])) ∷
+    (Syntax.copy (Syntax.place 4 ((Syntax.field 1) ∷ List.[]))) ∷ List.[]))
 
 abbrev b30 : Syntax.Body
-b30 = Syntax.assign (Syntax.place 28 List.[]) (Syntax.aggregate ((Syntax.copy (Syntax.place 27 List.[])) ∷
-    (Syntax.copy (Syntax.place 4 ((Syntax.field 1) ∷ List.[]))) ∷ List.[]))
+b30 = Syntax.assign (Syntax.place 28 List.[]) (Syntax.addrOf (Syntax.place 5 ((Syntax.field 0) ∷
+    (Syntax.deref (Syntax.tyInt Syntax.w32)) ∷ List.[])))
 
 abbrev b31 : Syntax.Body
-b31 = Syntax.assign (Syntax.place 29 List.[]) (Syntax.addrOf (Syntax.place 5 ((Syntax.field 0) ∷
-    (Syntax.deref (Syntax.tyInt Syntax.w32)) ∷ List.[])))
+b31 = Syntax.assign (Syntax.place 29 List.[]) (Syntax.aggregate ((Syntax.copy (Syntax.place 28 List.[])) ∷
+    (Syntax.copy (Syntax.place 5 ((Syntax.field 1) ∷ List.[]))) ∷ List.[]))
 
 abbrev b32 : Syntax.Body
-b32 = Syntax.assign (Syntax.place 30 List.[]) (Syntax.aggregate ((Syntax.copy (Syntax.place 29 List.[])) ∷
-    (Syntax.copy (Syntax.place 5 ((Syntax.field 1) ∷ List.[]))) ∷ List.[]))
+b32 = Syntax.call "hnsr_circuit::messages::handle_accept::handle_accept" ((Syntax.copy (Syntax.place 23 List.[])) ∷
+    (Syntax.copy (Syntax.place 25 List.[])) ∷ (Syntax.copy (Syntax.place 27 List.[])) ∷
+    (Syntax.copy (Syntax.place 29 List.[])) ∷ (Syntax.copy (Syntax.place 6 List.[])) ∷
+    (Syntax.copy (Syntax.place 7 List.[])) ∷ List.[]) (Syntax.place 11 List.[])
 
 abbrev b33 : Syntax.Body
-b33 = Syntax.call "hnsr_circuit::messages::handle_accept::handle_accept" ((Syntax.copy (Syntax.place 24 List.[])) ∷
-    (Syntax.copy (Syntax.place 26 List.[])) ∷ (Syntax.copy (Syntax.place 28 List.[])) ∷
-    (Syntax.copy (Syntax.place 30 List.[])) ∷ (Syntax.copy (Syntax.place 6 List.[])) ∷
-    (Syntax.copy (Syntax.place 7 List.[])) ∷ List.[]) (Syntax.place 12 List.[])
+b33 = Syntax.exit 1
 
 abbrev b34 : Syntax.Body
-b34 = Syntax.exit 1
+b34 = Syntax.seq b32 b33
 
 abbrev b35 : Syntax.Body
-b35 = Syntax.seq b33 b34
+b35 = Syntax.seq b31 b34
 
 abbrev b36 : Syntax.Body
-b36 = Syntax.seq b32 b35
+b36 = Syntax.seq b30 b35
 
 abbrev b37 : Syntax.Body
-b37 = Syntax.seq b31 b36
+b37 = Syntax.seq b29 b36
 
 abbrev b38 : Syntax.Body
-b38 = Syntax.seq b30 b37
+b38 = Syntax.seq b28 b37
 
 abbrev b39 : Syntax.Body
-b39 = Syntax.seq b29 b38
+b39 = Syntax.seq b27 b38
 
 abbrev b40 : Syntax.Body
-b40 = Syntax.seq b28 b39
+b40 = Syntax.seq b26 b39
 
 abbrev b41 : Syntax.Body
-b41 = Syntax.seq b27 b40
+b41 = Syntax.seq b25 b40
 
 abbrev b42 : Syntax.Body
-b42 = Syntax.seq b26 b41
+b42 = Syntax.seq b24 b41
 
 abbrev b43 : Syntax.Body
-b43 = Syntax.seq b25 b42
+b43 = Syntax.assign (Syntax.place 30 List.[]) (Syntax.addrOf (Syntax.place 2 ((Syntax.field 0) ∷
+    (Syntax.deref RelayCircuit.ty) ∷ List.[])))
 
 abbrev b44 : Syntax.Body
-b44 = Syntax.assign (Syntax.place 31 List.[]) (Syntax.addrOf (Syntax.place 2 ((Syntax.field 0) ∷
-    (Syntax.deref RelayCircuit.ty) ∷ List.[])))
+b44 = Syntax.assign (Syntax.place 31 List.[]) (Syntax.aggregate ((Syntax.copy (Syntax.place 30 List.[])) ∷
+    (Syntax.copy (Syntax.place 2 ((Syntax.field 1) ∷ List.[]))) ∷ List.[]))
 
 abbrev b45 : Syntax.Body
-b45 = Syntax.assign (Syntax.place 32 List.[]) (Syntax.aggregate ((Syntax.copy (Syntax.place 31 List.[])) ∷
-    (Syntax.copy (Syntax.place 2 ((Syntax.field 1) ∷ List.[]))) ∷ List.[]))
-
-abbrev b46 : Syntax.Body
-b46 = Syntax.assign (Syntax.place 33 List.[]) (Syntax.addrOf (Syntax.place 3 ((Syntax.field 0) ∷
+b45 = Syntax.assign (Syntax.place 32 List.[]) (Syntax.addrOf (Syntax.place 3 ((Syntax.field 0) ∷
     (Syntax.deref ReservationUsage.ty) ∷ List.[])))
 
-abbrev b47 : Syntax.Body
-b47 = Syntax.assign (Syntax.place 34 List.[]) (Syntax.aggregate ((Syntax.copy (Syntax.place 33 List.[])) ∷
+abbrev b46 : Syntax.Body
+b46 = Syntax.assign (Syntax.place 33 List.[]) (Syntax.aggregate ((Syntax.copy (Syntax.place 32 List.[])) ∷
     (Syntax.copy (Syntax.place 3 ((Syntax.field 1) ∷ List.[]))) ∷ List.[]))
 
-abbrev b48 : Syntax.Body
-b48 = Syntax.assign (Syntax.place 35 List.[]) (Syntax.addrOf (Syntax.place 4 ((Syntax.field 0) ∷
+abbrev b47 : Syntax.Body
+b47 = Syntax.assign (Syntax.place 34 List.[]) (Syntax.addrOf (Syntax.place 4 ((Syntax.field 0) ∷
     (Syntax.deref InflightAction.ty) ∷ List.[])))
+
+abbrev b48 : Syntax.Body
+b48 = Syntax.assign (Syntax.place 35 List.[]) (Syntax.aggregate ((Syntax.copy (Syntax.place 34 List.[])) ∷
+    (Syntax.copy (Syntax.place 4 ((Syntax.field 1) ∷ List.[]))) ∷ List.[]))
 
 abbrev b49 : Syntax.Body
-b49 = Syntax.assign (Syntax.place 36 List.[]) (Syntax.aggregate ((Syntax.copy (Syntax.place 35 List.[])) ∷
-    (Syntax.copy (Syntax.place 4 ((Syntax.field 1) ∷ List.[]))) ∷ List.[]))
+b49 = Syntax.assign (Syntax.place 36 List.[]) (Syntax.addrOf (Syntax.place 5 ((Syntax.field 0) ∷
+    (Syntax.deref (Syntax.tyInt Syntax.w32)) ∷ List.[])))
 
 abbrev b50 : Syntax.Body
-b50 = Syntax.assign (Syntax.place 37 List.[]) (Syntax.addrOf (Syntax.place 5 ((Syntax.field 0) ∷
-    (Syntax.deref (Syntax.tyInt Syntax.w32)) ∷ List.[])))
+b50 = Syntax.assign (Syntax.place 37 List.[]) (Syntax.aggregate ((Syntax.copy (Syntax.place 36 List.[])) ∷
+    (Syntax.copy (Syntax.place 5 ((Syntax.field 1) ∷ List.[]))) ∷ List.[]))
 
 abbrev b51 : Syntax.Body
-b51 = Syntax.assign (Syntax.place 38 List.[]) (Syntax.aggregate ((Syntax.copy (Syntax.place 37 List.[])) ∷
-    (Syntax.copy (Syntax.place 5 ((Syntax.field 1) ∷ List.[]))) ∷ List.[]))
+b51 = Syntax.call "hnsr_circuit::messages::handle_data::handle_data" ((Syntax.copy (Syntax.place 31 List.[])) ∷
+    (Syntax.copy (Syntax.place 33 List.[])) ∷ (Syntax.copy (Syntax.place 35 List.[])) ∷
+    (Syntax.copy (Syntax.place 37 List.[])) ∷ (Syntax.copy (Syntax.place 6 List.[])) ∷
+    (Syntax.copy (Syntax.place 7 List.[])) ∷ List.[]) (Syntax.place 11 List.[])
 
 abbrev b52 : Syntax.Body
-b52 = Syntax.call "hnsr_circuit::messages::handle_data::handle_data" ((Syntax.copy (Syntax.place 32 List.[])) ∷
-    (Syntax.copy (Syntax.place 34 List.[])) ∷ (Syntax.copy (Syntax.place 36 List.[])) ∷
-    (Syntax.copy (Syntax.place 38 List.[])) ∷ (Syntax.copy (Syntax.place 6 List.[])) ∷
-    (Syntax.copy (Syntax.place 7 List.[])) ∷ List.[]) (Syntax.place 12 List.[])
+b52 = Syntax.exit 1
 
 abbrev b53 : Syntax.Body
-b53 = Syntax.exit 1
+b53 = Syntax.seq b51 b52
 
 abbrev b54 : Syntax.Body
-b54 = Syntax.seq b52 b53
+b54 = Syntax.seq b50 b53
 
 abbrev b55 : Syntax.Body
-b55 = Syntax.seq b51 b54
+b55 = Syntax.seq b49 b54
 
 abbrev b56 : Syntax.Body
-b56 = Syntax.seq b50 b55
+b56 = Syntax.seq b48 b55
 
 abbrev b57 : Syntax.Body
-b57 = Syntax.seq b49 b56
+b57 = Syntax.seq b47 b56
 
 abbrev b58 : Syntax.Body
-b58 = Syntax.seq b48 b57
+b58 = Syntax.seq b46 b57
 
 abbrev b59 : Syntax.Body
-b59 = Syntax.seq b47 b58
+b59 = Syntax.seq b45 b58
 
 abbrev b60 : Syntax.Body
-b60 = Syntax.seq b46 b59
+b60 = Syntax.seq b44 b59
 
 abbrev b61 : Syntax.Body
-b61 = Syntax.seq b45 b60
+b61 = Syntax.seq b43 b60
 
 abbrev b62 : Syntax.Body
-b62 = Syntax.seq b44 b61
+b62 = Syntax.assign (Syntax.place 38 List.[]) (Syntax.addrOf (Syntax.place 2 ((Syntax.field 0) ∷
+    (Syntax.deref RelayCircuit.ty) ∷ List.[])))
 
 abbrev b63 : Syntax.Body
-b63 = Syntax.assign (Syntax.place 39 List.[]) (Syntax.addrOf (Syntax.place 2 ((Syntax.field 0) ∷
-    (Syntax.deref RelayCircuit.ty) ∷ List.[])))
+b63 = Syntax.assign (Syntax.place 39 List.[]) (Syntax.aggregate ((Syntax.copy (Syntax.place 38 List.[])) ∷
+    (Syntax.copy (Syntax.place 2 ((Syntax.field 1) ∷ List.[]))) ∷ List.[]))
 
 abbrev b64 : Syntax.Body
-b64 = Syntax.assign (Syntax.place 40 List.[]) (Syntax.aggregate ((Syntax.copy (Syntax.place 39 List.[])) ∷
-    (Syntax.copy (Syntax.place 2 ((Syntax.field 1) ∷ List.[]))) ∷ List.[]))
+b64 = Syntax.assign (Syntax.place 40 List.[]) (Syntax.addrOf (Syntax.place 4 ((Syntax.field 0) ∷
+    (Syntax.deref InflightAction.ty) ∷ List.[])))
 
 abbrev b65 : Syntax.Body
-b65 = Syntax.assign (Syntax.place 41 List.[]) (Syntax.addrOf (Syntax.place 4 ((Syntax.field 0) ∷
-    (Syntax.deref InflightAction.ty) ∷ List.[])))
+b65 = Syntax.assign (Syntax.place 41 List.[]) (Syntax.aggregate ((Syntax.copy (Syntax.place 40 List.[])) ∷
+    (Syntax.copy (Syntax.place 4 ((Syntax.field 1) ∷ List.[]))) ∷ List.[]))
 
 abbrev b66 : Syntax.Body
-b66 = Syntax.assign (Syntax.place 42 List.[]) (Syntax.aggregate ((Syntax.copy (Syntax.place 41 List.[])) ∷
-    (Syntax.copy (Syntax.place 4 ((Syntax.field 1) ∷ List.[]))) ∷ List.[]))
+b66 = Syntax.assign (Syntax.place 42 List.[]) (Syntax.addrOf (Syntax.place 5 ((Syntax.field 0) ∷
+    (Syntax.deref (Syntax.tyInt Syntax.w32)) ∷ List.[])))
 
 abbrev b67 : Syntax.Body
-b67 = Syntax.assign (Syntax.place 43 List.[]) (Syntax.addrOf (Syntax.place 5 ((Syntax.field 0) ∷
-    (Syntax.deref (Syntax.tyInt Syntax.w32)) ∷ List.[])))
+b67 = Syntax.assign (Syntax.place 43 List.[]) (Syntax.aggregate ((Syntax.copy (Syntax.place 42 List.[])) ∷
+    (Syntax.copy (Syntax.place 5 ((Syntax.field 1) ∷ List.[]))) ∷ List.[]))
 
 abbrev b68 : Syntax.Body
-b68 = Syntax.assign (Syntax.place 44 List.[]) (Syntax.aggregate ((Syntax.copy (Syntax.place 43 List.[])) ∷
-    (Syntax.copy (Syntax.place 5 ((Syntax.field 1) ∷ List.[]))) ∷ List.[]))
+b68 = Syntax.call "hnsr_circuit::messages::handle_window::handle_window" ((Syntax.copy (Syntax.place 39 List.[])) ∷
+    (Syntax.copy (Syntax.place 41 List.[])) ∷ (Syntax.copy (Syntax.place 43 List.[])) ∷
+    (Syntax.copy (Syntax.place 6 List.[])) ∷ (Syntax.copy (Syntax.place 7 List.[])) ∷ List.[])
+    (Syntax.place 11 List.[])
 
 abbrev b69 : Syntax.Body
-b69 = Syntax.call "hnsr_circuit::messages::handle_window::handle_window" ((Syntax.copy (Syntax.place 40 List.[])) ∷
-    (Syntax.copy (Syntax.place 42 List.[])) ∷ (Syntax.copy (Syntax.place 44 List.[])) ∷
-    (Syntax.copy (Syntax.place 6 List.[])) ∷ (Syntax.copy (Syntax.place 7 List.[])) ∷ List.[])
-    (Syntax.place 12 List.[])
+b69 = Syntax.exit 1
 
 abbrev b70 : Syntax.Body
-b70 = Syntax.exit 1
+b70 = Syntax.seq b68 b69
 
 abbrev b71 : Syntax.Body
-b71 = Syntax.seq b69 b70
+b71 = Syntax.seq b67 b70
 
 abbrev b72 : Syntax.Body
-b72 = Syntax.seq b68 b71
+b72 = Syntax.seq b66 b71
 
 abbrev b73 : Syntax.Body
-b73 = Syntax.seq b67 b72
+b73 = Syntax.seq b65 b72
 
 abbrev b74 : Syntax.Body
-b74 = Syntax.seq b66 b73
+b74 = Syntax.seq b64 b73
 
 abbrev b75 : Syntax.Body
-b75 = Syntax.seq b65 b74
+b75 = Syntax.seq b63 b74
 
 abbrev b76 : Syntax.Body
-b76 = Syntax.seq b64 b75
+b76 = Syntax.seq b62 b75
 
 abbrev b77 : Syntax.Body
-b77 = Syntax.seq b63 b76
+b77 = Syntax.exit 0
 
 abbrev b78 : Syntax.Body
-b78 = Syntax.exit 0
+b78 = Syntax.assign (Syntax.place 44 List.[]) (Syntax.op2 (Syntax.lt Syntax.unsigned)
+    (Syntax.copy (Syntax.place 10 List.[])) (Syntax.int Syntax.w8 13))
 
 abbrev b79 : Syntax.Body
-b79 = Syntax.assign (Syntax.place 45 List.[]) (Syntax.op2 (Syntax.lt Syntax.unsigned)
-    (Syntax.copy (Syntax.place 11 List.[])) (Syntax.int Syntax.w8 13))
+b79 = Syntax.exit 0
 
 abbrev b80 : Syntax.Body
-b80 = Syntax.exit 0
+b80 = Syntax.skip
 
 abbrev b81 : Syntax.Body
-b81 = Syntax.skip
+b81 = Syntax.cond (Syntax.copy (Syntax.place 44 List.[])) b79 b80
 
 abbrev b82 : Syntax.Body
-b82 = Syntax.cond (Syntax.copy (Syntax.place 45 List.[])) b80 b81
+b82 = Syntax.assign (Syntax.place 44 List.[]) (Syntax.op2 (Syntax.lt Syntax.unsigned)
+    (Syntax.copy (Syntax.place 10 List.[])) (Syntax.int Syntax.w8 21))
 
 abbrev b83 : Syntax.Body
-b83 = Syntax.assign (Syntax.place 45 List.[]) (Syntax.op2 (Syntax.lt Syntax.unsigned)
-    (Syntax.copy (Syntax.place 11 List.[])) (Syntax.int Syntax.w8 21))
-
-abbrev b84 : Syntax.Body
-b84 = Syntax.assign (Syntax.place 46 List.[]) (Syntax.addrOf (Syntax.place 1 ((Syntax.field 0) ∷
+b83 = Syntax.assign (Syntax.place 45 List.[]) (Syntax.addrOf (Syntax.place 1 ((Syntax.field 0) ∷
     (Syntax.deref RelayPending.ty) ∷ List.[])))
 
-abbrev b85 : Syntax.Body
-b85 = Syntax.assign (Syntax.place 47 List.[]) (Syntax.aggregate ((Syntax.copy (Syntax.place 46 List.[])) ∷
+abbrev b84 : Syntax.Body
+b84 = Syntax.assign (Syntax.place 46 List.[]) (Syntax.aggregate ((Syntax.copy (Syntax.place 45 List.[])) ∷
     (Syntax.copy (Syntax.place 1 ((Syntax.field 1) ∷ List.[]))) ∷ List.[]))
 
-abbrev b86 : Syntax.Body
-b86 = Syntax.assign (Syntax.place 48 List.[]) (Syntax.addrOf (Syntax.place 2 ((Syntax.field 0) ∷
+abbrev b85 : Syntax.Body
+b85 = Syntax.assign (Syntax.place 47 List.[]) (Syntax.addrOf (Syntax.place 2 ((Syntax.field 0) ∷
     (Syntax.deref RelayCircuit.ty) ∷ List.[])))
 
-abbrev b87 : Syntax.Body
-b87 = Syntax.assign (Syntax.place 49 List.[]) (Syntax.aggregate ((Syntax.copy (Syntax.place 48 List.[])) ∷
+abbrev b86 : Syntax.Body
+b86 = Syntax.assign (Syntax.place 48 List.[]) (Syntax.aggregate ((Syntax.copy (Syntax.place 47 List.[])) ∷
     (Syntax.copy (Syntax.place 2 ((Syntax.field 1) ∷ List.[]))) ∷ List.[]))
 
-abbrev b88 : Syntax.Body
-b88 = Syntax.assign (Syntax.place 50 List.[]) (Syntax.addrOf (Syntax.place 4 ((Syntax.field 0) ∷
+abbrev b87 : Syntax.Body
+b87 = Syntax.assign (Syntax.place 49 List.[]) (Syntax.addrOf (Syntax.place 4 ((Syntax.field 0) ∷
     (Syntax.deref InflightAction.ty) ∷ List.[])))
 
-abbrev b89 : Syntax.Body
-b89 = Syntax.assign (Syntax.place 51 List.[]) (Syntax.aggregate ((Syntax.copy (Syntax.place 50 List.[])) ∷
+abbrev b88 : Syntax.Body
+b88 = Syntax.assign (Syntax.place 50 List.[]) (Syntax.aggregate ((Syntax.copy (Syntax.place 49 List.[])) ∷
     (Syntax.copy (Syntax.place 4 ((Syntax.field 1) ∷ List.[]))) ∷ List.[]))
 
-abbrev b90 : Syntax.Body
-b90 = Syntax.assign (Syntax.place 52 List.[]) (Syntax.addrOf (Syntax.place 5 ((Syntax.field 0) ∷
+abbrev b89 : Syntax.Body
+b89 = Syntax.assign (Syntax.place 51 List.[]) (Syntax.addrOf (Syntax.place 5 ((Syntax.field 0) ∷
     (Syntax.deref (Syntax.tyInt Syntax.w32)) ∷ List.[])))
 
-abbrev b91 : Syntax.Body
-b91 = Syntax.assign (Syntax.place 53 List.[]) (Syntax.aggregate ((Syntax.copy (Syntax.place 52 List.[])) ∷
+abbrev b90 : Syntax.Body
+b90 = Syntax.assign (Syntax.place 52 List.[]) (Syntax.aggregate ((Syntax.copy (Syntax.place 51 List.[])) ∷
     (Syntax.copy (Syntax.place 5 ((Syntax.field 1) ∷ List.[]))) ∷ List.[]))
 
+abbrev b91 : Syntax.Body
+b91 = Syntax.call "hnsr_circuit::messages::handle_close::handle_close" ((Syntax.copy (Syntax.place 46 List.[])) ∷
+    (Syntax.copy (Syntax.place 48 List.[])) ∷ (Syntax.copy (Syntax.place 50 List.[])) ∷
+    (Syntax.copy (Syntax.place 52 List.[])) ∷ (Syntax.copy (Syntax.place 6 List.[])) ∷
+    (Syntax.copy (Syntax.place 7 List.[])) ∷ List.[]) (Syntax.place 11 List.[])
+
 abbrev b92 : Syntax.Body
-b92 = Syntax.call "hnsr_circuit::messages::handle_close::handle_close" ((Syntax.copy (Syntax.place 47 List.[])) ∷
-    (Syntax.copy (Syntax.place 49 List.[])) ∷ (Syntax.copy (Syntax.place 51 List.[])) ∷
-    (Syntax.copy (Syntax.place 53 List.[])) ∷ (Syntax.copy (Syntax.place 6 List.[])) ∷
-    (Syntax.copy (Syntax.place 7 List.[])) ∷ List.[]) (Syntax.place 12 List.[])
+b92 = Syntax.exit 1
 
 abbrev b93 : Syntax.Body
-b93 = Syntax.exit 1
+b93 = Syntax.seq b91 b92
 
 abbrev b94 : Syntax.Body
-b94 = Syntax.seq b92 b93
+b94 = Syntax.seq b90 b93
 
 abbrev b95 : Syntax.Body
-b95 = Syntax.seq b91 b94
+b95 = Syntax.seq b89 b94
 
 abbrev b96 : Syntax.Body
-b96 = Syntax.seq b90 b95
+b96 = Syntax.seq b88 b95
 
 abbrev b97 : Syntax.Body
-b97 = Syntax.seq b89 b96
+b97 = Syntax.seq b87 b96
 
 abbrev b98 : Syntax.Body
-b98 = Syntax.seq b88 b97
+b98 = Syntax.seq b86 b97
 
 abbrev b99 : Syntax.Body
-b99 = Syntax.seq b87 b98
+b99 = Syntax.seq b85 b98
 
 abbrev b100 : Syntax.Body
-b100 = Syntax.seq b86 b99
+b100 = Syntax.seq b84 b99
 
 abbrev b101 : Syntax.Body
-b101 = Syntax.seq b85 b100
+b101 = Syntax.seq b83 b100
 
 abbrev b102 : Syntax.Body
-b102 = Syntax.seq b84 b101
+b102 = Syntax.skip
 
 abbrev b103 : Syntax.Body
-b103 = Syntax.skip
+b103 = Syntax.cond (Syntax.copy (Syntax.place 44 List.[])) b101 b102
 
 abbrev b104 : Syntax.Body
-b104 = Syntax.cond (Syntax.copy (Syntax.place 45 List.[])) b102 b103
+b104 = Syntax.exit 0
 
 abbrev b105 : Syntax.Body
-b105 = Syntax.exit 0
+b105 = Syntax.seq b103 b104
 
 abbrev b106 : Syntax.Body
-b106 = Syntax.seq b104 b105
+b106 = Syntax.seq b82 b105
 
 abbrev b107 : Syntax.Body
-b107 = Syntax.seq b83 b106
+b107 = Syntax.seq b81 b106
 
 abbrev b108 : Syntax.Body
-b108 = Syntax.seq b82 b107
+b108 = Syntax.seq b78 b107
 
 abbrev b109 : Syntax.Body
-b109 = Syntax.seq b79 b108
+b109 = Syntax.switch (Syntax.copy (Syntax.place 10 List.[])) (Syntax.arm (13 ∷ List.[]) b23 (Syntax.arm (15 ∷ List.[])
+    b42 (Syntax.arm (17 ∷ List.[]) b61 (Syntax.arm (18 ∷ List.[]) b76 (Syntax.arm (14 ∷ 16 ∷ List.[]) b77
+    (Syntax.default b108))))))
 
 abbrev b110 : Syntax.Body
-b110 = Syntax.switch (Syntax.copy (Syntax.place 11 List.[])) (Syntax.arm (13 ∷ List.[]) b24 (Syntax.arm (15 ∷ List.[])
-    b43 (Syntax.arm (17 ∷ List.[]) b62 (Syntax.arm (18 ∷ List.[]) b77 (Syntax.arm (14 ∷ 16 ∷ List.[]) b78
-    (Syntax.default b109))))))
+b110 = Syntax.block b109
 
 abbrev b111 : Syntax.Body
-b111 = Syntax.block b110
+b111 = Syntax.call "hnsr_circuit::calls::handle::unexpected" ((Syntax.copy (Syntax.place 6 List.[])) ∷ List.[])
+    (Syntax.place 11 List.[])
 
 abbrev b112 : Syntax.Body
-b112 = Syntax.call "hnsr_circuit::calls::handle::unexpected" ((Syntax.copy (Syntax.place 6 List.[])) ∷ List.[])
-    (Syntax.place 12 List.[])
+b112 = Syntax.seq b110 b111
 
 abbrev b113 : Syntax.Body
-b113 = Syntax.seq b111 b112
+b113 = Syntax.block b112
 
 abbrev b114 : Syntax.Body
-b114 = Syntax.block b113
+b114 = Syntax.assign (Syntax.place 0 List.[]) (Syntax.rvOpd (Syntax.copy (Syntax.place 11 List.[])))
 
 abbrev b115 : Syntax.Body
-b115 = Syntax.assign (Syntax.place 0 List.[]) (Syntax.rvOpd (Syntax.copy (Syntax.place 12 List.[])))
+b115 = Syntax.return
 
 abbrev b116 : Syntax.Body
-b116 = Syntax.return
+b116 = Syntax.seq b114 b115
 
 abbrev b117 : Syntax.Body
-b117 = Syntax.seq b115 b116
+b117 = Syntax.seq b113 b116
 
 abbrev b118 : Syntax.Body
-b118 = Syntax.seq b114 b117
-
-abbrev b119 : Syntax.Body
-b119 = Syntax.seq b1 b118
-
-abbrev b120 : Syntax.Body
-b120 = Syntax.seq b0 b119
+b118 = Syntax.seq b0 b117
 
 abbrev pub body : Syntax.Body
-body = b120
+body = b118
 
 abbrev pub Claims : Type 1
 Claims = Kinds.In 8 ps·0 × Kinds.Out 8 ps·0 r·0 × Kinds.In 5 ps·1 × Kinds.Out 5 ps·1 r·1 × Kinds.In 5 ps·2 × Kinds.Out
@@ -672,136 +661,133 @@ abbrev e9 : Row.Entry
 e9 = (9, Rows.sslice (Referent.rtF (Referent.fInt Syntax.w8)) ref12 7)
 
 abbrev e10 : Row.Entry
-e10 = (10, Rows.any-gone Laws.mir)
+e10 = (10, Rows.any-gone (Syntax.tyInt Syntax.w8))
 
 abbrev e11 : Row.Entry
-e11 = (11, Rows.any-gone (Syntax.tyInt Syntax.w8))
+e11 = (11, Rows.any-gone Laws'.mir)
 
 abbrev e12 : Row.Entry
-e12 = (12, Rows.any-gone Laws'.mir)
+e12 = (12, Rows.any-gone ref0)
 
 abbrev e13 : Row.Entry
-e13 = (13, Rows.any-gone ref0)
+e13 = (13, Rows.any-gone slice0)
 
 abbrev e14 : Row.Entry
-e14 = (14, Rows.any-gone slice0)
+e14 = (14, Rows.any-gone ref1)
 
 abbrev e15 : Row.Entry
-e15 = (15, Rows.any-gone ref1)
+e15 = (15, Rows.any-gone slice1)
 
 abbrev e16 : Row.Entry
-e16 = (16, Rows.any-gone slice1)
+e16 = (16, Rows.any-gone ref2)
 
 abbrev e17 : Row.Entry
-e17 = (17, Rows.any-gone ref2)
+e17 = (17, Rows.any-gone slice2)
 
 abbrev e18 : Row.Entry
-e18 = (18, Rows.any-gone slice2)
+e18 = (18, Rows.any-gone ref3)
 
 abbrev e19 : Row.Entry
-e19 = (19, Rows.any-gone ref3)
+e19 = (19, Rows.any-gone slice3)
 
 abbrev e20 : Row.Entry
-e20 = (20, Rows.any-gone slice3)
+e20 = (20, Rows.any-gone ref4)
 
 abbrev e21 : Row.Entry
-e21 = (21, Rows.any-gone ref4)
+e21 = (21, Rows.any-gone slice4)
 
 abbrev e22 : Row.Entry
-e22 = (22, Rows.any-gone slice4)
+e22 = (22, Rows.any-gone ref0)
 
 abbrev e23 : Row.Entry
-e23 = (23, Rows.any-gone ref0)
+e23 = (23, Rows.any-gone slice0)
 
 abbrev e24 : Row.Entry
-e24 = (24, Rows.any-gone slice0)
+e24 = (24, Rows.any-gone ref1)
 
 abbrev e25 : Row.Entry
-e25 = (25, Rows.any-gone ref1)
+e25 = (25, Rows.any-gone slice1)
 
 abbrev e26 : Row.Entry
-e26 = (26, Rows.any-gone slice1)
+e26 = (26, Rows.any-gone ref3)
 
 abbrev e27 : Row.Entry
-e27 = (27, Rows.any-gone ref3)
+e27 = (27, Rows.any-gone slice3)
 
 abbrev e28 : Row.Entry
-e28 = (28, Rows.any-gone slice3)
+e28 = (28, Rows.any-gone ref4)
 
 abbrev e29 : Row.Entry
-e29 = (29, Rows.any-gone ref4)
+e29 = (29, Rows.any-gone slice4)
 
 abbrev e30 : Row.Entry
-e30 = (30, Rows.any-gone slice4)
+e30 = (30, Rows.any-gone ref1)
 
 abbrev e31 : Row.Entry
-e31 = (31, Rows.any-gone ref1)
+e31 = (31, Rows.any-gone slice1)
 
 abbrev e32 : Row.Entry
-e32 = (32, Rows.any-gone slice1)
+e32 = (32, Rows.any-gone ref2)
 
 abbrev e33 : Row.Entry
-e33 = (33, Rows.any-gone ref2)
+e33 = (33, Rows.any-gone slice2)
 
 abbrev e34 : Row.Entry
-e34 = (34, Rows.any-gone slice2)
+e34 = (34, Rows.any-gone ref3)
 
 abbrev e35 : Row.Entry
-e35 = (35, Rows.any-gone ref3)
+e35 = (35, Rows.any-gone slice3)
 
 abbrev e36 : Row.Entry
-e36 = (36, Rows.any-gone slice3)
+e36 = (36, Rows.any-gone ref4)
 
 abbrev e37 : Row.Entry
-e37 = (37, Rows.any-gone ref4)
+e37 = (37, Rows.any-gone slice4)
 
 abbrev e38 : Row.Entry
-e38 = (38, Rows.any-gone slice4)
+e38 = (38, Rows.any-gone ref1)
 
 abbrev e39 : Row.Entry
-e39 = (39, Rows.any-gone ref1)
+e39 = (39, Rows.any-gone slice1)
 
 abbrev e40 : Row.Entry
-e40 = (40, Rows.any-gone slice1)
+e40 = (40, Rows.any-gone ref3)
 
 abbrev e41 : Row.Entry
-e41 = (41, Rows.any-gone ref3)
+e41 = (41, Rows.any-gone slice3)
 
 abbrev e42 : Row.Entry
-e42 = (42, Rows.any-gone slice3)
+e42 = (42, Rows.any-gone ref4)
 
 abbrev e43 : Row.Entry
-e43 = (43, Rows.any-gone ref4)
+e43 = (43, Rows.any-gone slice4)
 
 abbrev e44 : Row.Entry
-e44 = (44, Rows.any-gone slice4)
+e44 = (44, Rows.any-gone Syntax.tyBool)
 
 abbrev e45 : Row.Entry
-e45 = (45, Rows.any-gone Syntax.tyBool)
+e45 = (45, Rows.any-gone ref0)
 
 abbrev e46 : Row.Entry
-e46 = (46, Rows.any-gone ref0)
+e46 = (46, Rows.any-gone slice0)
 
 abbrev e47 : Row.Entry
-e47 = (47, Rows.any-gone slice0)
+e47 = (47, Rows.any-gone ref1)
 
 abbrev e48 : Row.Entry
-e48 = (48, Rows.any-gone ref1)
+e48 = (48, Rows.any-gone slice1)
 
 abbrev e49 : Row.Entry
-e49 = (49, Rows.any-gone slice1)
+e49 = (49, Rows.any-gone ref3)
 
 abbrev e50 : Row.Entry
-e50 = (50, Rows.any-gone ref3)
+e50 = (50, Rows.any-gone slice3)
 
 abbrev e51 : Row.Entry
-e51 = (51, Rows.any-gone slice3)
+e51 = (51, Rows.any-gone ref4)
 
 abbrev e52 : Row.Entry
-e52 = (52, Rows.any-gone ref4)
-
-abbrev e53 : Row.Entry
-e53 = (53, Rows.any-gone slice4)
+e52 = (52, Rows.any-gone slice4)
 
 abbrev e0·1 : Row.Entry
 e0·1 = (0, Rows.whole (Declared.row Relayed.the-type))
@@ -810,256 +796,253 @@ abbrev e6·1 : Row.Entry
 e6·1 = (6, Rows.any-gone Laws''.mir)
 
 abbrev e10·1 : Row.Entry
-e10·1 = (10, Rows.whole (Declared.row RelayPacket.the-type))
+e10·1 = (10, Rows.sc-here (Row.sInt Syntax.w8))
 
 abbrev e11·1 : Row.Entry
-e11·1 = (11, Rows.sc-here (Row.sInt Syntax.w8))
-
-abbrev e12·1 : Row.Entry
-e12·1 = (12, Rows.whole (Declared.row Relayed.the-type))
+e11·1 = (11, Rows.whole (Declared.row Relayed.the-type))
 
 abbrev e1·1 : Row.Entry
 e1·1 = (1, Relend.mslice-owed RelayPending.row ref5 0 8 Row.off)
 
-abbrev e13·1 : Row.Entry
-e13·1 = (13, Relend.msptr RelayPending.row ref0 8)
+abbrev e12·1 : Row.Entry
+e12·1 = (12, Relend.msptr RelayPending.row ref0 8)
 
-abbrev e14·1 : Row.Entry
-e14·1 = (14, Mut.mslice RelayPending.row ref0 8)
+abbrev e13·1 : Row.Entry
+e13·1 = (13, Mut.mslice RelayPending.row ref0 8)
 
 abbrev e2·1 : Row.Entry
 e2·1 = (2, Relend.mslice-owed RelayCircuit.row ref6 1 9 Row.off)
 
-abbrev e15·1 : Row.Entry
-e15·1 = (15, Relend.msptr RelayCircuit.row ref1 9)
+abbrev e14·1 : Row.Entry
+e14·1 = (14, Relend.msptr RelayCircuit.row ref1 9)
 
-abbrev e16·1 : Row.Entry
-e16·1 = (16, Mut.mslice RelayCircuit.row ref1 9)
+abbrev e15·1 : Row.Entry
+e15·1 = (15, Mut.mslice RelayCircuit.row ref1 9)
 
 abbrev e3·1 : Row.Entry
 e3·1 = (3, Relend.mslice-owed ReservationUsage.row ref7 2 10 Row.off)
 
-abbrev e17·1 : Row.Entry
-e17·1 = (17, Relend.msptr ReservationUsage.row ref2 10)
+abbrev e16·1 : Row.Entry
+e16·1 = (16, Relend.msptr ReservationUsage.row ref2 10)
 
-abbrev e18·1 : Row.Entry
-e18·1 = (18, Mut.mslice ReservationUsage.row ref2 10)
+abbrev e17·1 : Row.Entry
+e17·1 = (17, Mut.mslice ReservationUsage.row ref2 10)
 
 abbrev e4·1 : Row.Entry
 e4·1 = (4, Relend.mslice-owed InflightAction.row ref8 3 11 Row.off)
 
-abbrev e19·1 : Row.Entry
-e19·1 = (19, Relend.msptr InflightAction.row ref3 11)
+abbrev e18·1 : Row.Entry
+e18·1 = (18, Relend.msptr InflightAction.row ref3 11)
 
-abbrev e20·1 : Row.Entry
-e20·1 = (20, Mut.mslice InflightAction.row ref3 11)
+abbrev e19·1 : Row.Entry
+e19·1 = (19, Mut.mslice InflightAction.row ref3 11)
 
 abbrev e5·1 : Row.Entry
 e5·1 = (5, Relend.mslice-owed (Referent.rtF (Referent.fInt Syntax.w32)) ref9 4 12 Row.off)
 
+abbrev e20·1 : Row.Entry
+e20·1 = (20, Relend.msptr (Referent.rtF (Referent.fInt Syntax.w32)) ref4 12)
+
 abbrev e21·1 : Row.Entry
-e21·1 = (21, Relend.msptr (Referent.rtF (Referent.fInt Syntax.w32)) ref4 12)
+e21·1 = (21, Mut.mslice (Referent.rtF (Referent.fInt Syntax.w32)) ref4 12)
 
-abbrev e22·1 : Row.Entry
-e22·1 = (22, Mut.mslice (Referent.rtF (Referent.fInt Syntax.w32)) ref4 12)
+abbrev e13·2 : Row.Entry
+e13·2 = (13, Mut.msleft RelayPending.row ref0)
 
-abbrev e14·2 : Row.Entry
-e14·2 = (14, Mut.msleft RelayPending.row ref0)
+abbrev e15·2 : Row.Entry
+e15·2 = (15, Mut.msleft RelayCircuit.row ref1)
 
-abbrev e16·2 : Row.Entry
-e16·2 = (16, Mut.msleft RelayCircuit.row ref1)
+abbrev e17·2 : Row.Entry
+e17·2 = (17, Mut.msleft ReservationUsage.row ref2)
 
-abbrev e18·2 : Row.Entry
-e18·2 = (18, Mut.msleft ReservationUsage.row ref2)
+abbrev e19·2 : Row.Entry
+e19·2 = (19, Mut.msleft InflightAction.row ref3)
 
-abbrev e20·2 : Row.Entry
-e20·2 = (20, Mut.msleft InflightAction.row ref3)
-
-abbrev e22·2 : Row.Entry
-e22·2 = (22, Mut.msleft (Referent.rtF (Referent.fInt Syntax.w32)) ref4)
+abbrev e21·2 : Row.Entry
+e21·2 = (21, Mut.msleft (Referent.rtF (Referent.fInt Syntax.w32)) ref4)
 
 abbrev e1·2 : Row.Entry
 e1·2 = (1, Relend.mslice-owed RelayPending.row ref5 0 13 Row.off)
 
-abbrev e23·1 : Row.Entry
-e23·1 = (23, Relend.msptr RelayPending.row ref0 13)
+abbrev e22·1 : Row.Entry
+e22·1 = (22, Relend.msptr RelayPending.row ref0 13)
 
-abbrev e24·1 : Row.Entry
-e24·1 = (24, Mut.mslice RelayPending.row ref0 13)
+abbrev e23·1 : Row.Entry
+e23·1 = (23, Mut.mslice RelayPending.row ref0 13)
 
 abbrev e2·2 : Row.Entry
 e2·2 = (2, Relend.mslice-owed RelayCircuit.row ref6 1 14 Row.off)
 
-abbrev e25·1 : Row.Entry
-e25·1 = (25, Relend.msptr RelayCircuit.row ref1 14)
+abbrev e24·1 : Row.Entry
+e24·1 = (24, Relend.msptr RelayCircuit.row ref1 14)
 
-abbrev e26·1 : Row.Entry
-e26·1 = (26, Mut.mslice RelayCircuit.row ref1 14)
+abbrev e25·1 : Row.Entry
+e25·1 = (25, Mut.mslice RelayCircuit.row ref1 14)
 
 abbrev e4·2 : Row.Entry
 e4·2 = (4, Relend.mslice-owed InflightAction.row ref8 3 15 Row.off)
 
-abbrev e27·1 : Row.Entry
-e27·1 = (27, Relend.msptr InflightAction.row ref3 15)
+abbrev e26·1 : Row.Entry
+e26·1 = (26, Relend.msptr InflightAction.row ref3 15)
 
-abbrev e28·1 : Row.Entry
-e28·1 = (28, Mut.mslice InflightAction.row ref3 15)
+abbrev e27·1 : Row.Entry
+e27·1 = (27, Mut.mslice InflightAction.row ref3 15)
 
 abbrev e5·2 : Row.Entry
 e5·2 = (5, Relend.mslice-owed (Referent.rtF (Referent.fInt Syntax.w32)) ref9 4 16 Row.off)
 
+abbrev e28·1 : Row.Entry
+e28·1 = (28, Relend.msptr (Referent.rtF (Referent.fInt Syntax.w32)) ref4 16)
+
 abbrev e29·1 : Row.Entry
-e29·1 = (29, Relend.msptr (Referent.rtF (Referent.fInt Syntax.w32)) ref4 16)
+e29·1 = (29, Mut.mslice (Referent.rtF (Referent.fInt Syntax.w32)) ref4 16)
 
-abbrev e30·1 : Row.Entry
-e30·1 = (30, Mut.mslice (Referent.rtF (Referent.fInt Syntax.w32)) ref4 16)
+abbrev e23·2 : Row.Entry
+e23·2 = (23, Mut.msleft RelayPending.row ref0)
 
-abbrev e24·2 : Row.Entry
-e24·2 = (24, Mut.msleft RelayPending.row ref0)
+abbrev e25·2 : Row.Entry
+e25·2 = (25, Mut.msleft RelayCircuit.row ref1)
 
-abbrev e26·2 : Row.Entry
-e26·2 = (26, Mut.msleft RelayCircuit.row ref1)
+abbrev e27·2 : Row.Entry
+e27·2 = (27, Mut.msleft InflightAction.row ref3)
 
-abbrev e28·2 : Row.Entry
-e28·2 = (28, Mut.msleft InflightAction.row ref3)
-
-abbrev e30·2 : Row.Entry
-e30·2 = (30, Mut.msleft (Referent.rtF (Referent.fInt Syntax.w32)) ref4)
+abbrev e29·2 : Row.Entry
+e29·2 = (29, Mut.msleft (Referent.rtF (Referent.fInt Syntax.w32)) ref4)
 
 abbrev e2·3 : Row.Entry
 e2·3 = (2, Relend.mslice-owed RelayCircuit.row ref6 1 17 Row.off)
 
-abbrev e31·1 : Row.Entry
-e31·1 = (31, Relend.msptr RelayCircuit.row ref1 17)
+abbrev e30·1 : Row.Entry
+e30·1 = (30, Relend.msptr RelayCircuit.row ref1 17)
 
-abbrev e32·1 : Row.Entry
-e32·1 = (32, Mut.mslice RelayCircuit.row ref1 17)
+abbrev e31·1 : Row.Entry
+e31·1 = (31, Mut.mslice RelayCircuit.row ref1 17)
 
 abbrev e3·2 : Row.Entry
 e3·2 = (3, Relend.mslice-owed ReservationUsage.row ref7 2 18 Row.off)
 
-abbrev e33·1 : Row.Entry
-e33·1 = (33, Relend.msptr ReservationUsage.row ref2 18)
+abbrev e32·1 : Row.Entry
+e32·1 = (32, Relend.msptr ReservationUsage.row ref2 18)
 
-abbrev e34·1 : Row.Entry
-e34·1 = (34, Mut.mslice ReservationUsage.row ref2 18)
+abbrev e33·1 : Row.Entry
+e33·1 = (33, Mut.mslice ReservationUsage.row ref2 18)
 
 abbrev e4·3 : Row.Entry
 e4·3 = (4, Relend.mslice-owed InflightAction.row ref8 3 19 Row.off)
 
-abbrev e35·1 : Row.Entry
-e35·1 = (35, Relend.msptr InflightAction.row ref3 19)
+abbrev e34·1 : Row.Entry
+e34·1 = (34, Relend.msptr InflightAction.row ref3 19)
 
-abbrev e36·1 : Row.Entry
-e36·1 = (36, Mut.mslice InflightAction.row ref3 19)
+abbrev e35·1 : Row.Entry
+e35·1 = (35, Mut.mslice InflightAction.row ref3 19)
 
 abbrev e5·3 : Row.Entry
 e5·3 = (5, Relend.mslice-owed (Referent.rtF (Referent.fInt Syntax.w32)) ref9 4 20 Row.off)
 
+abbrev e36·1 : Row.Entry
+e36·1 = (36, Relend.msptr (Referent.rtF (Referent.fInt Syntax.w32)) ref4 20)
+
 abbrev e37·1 : Row.Entry
-e37·1 = (37, Relend.msptr (Referent.rtF (Referent.fInt Syntax.w32)) ref4 20)
+e37·1 = (37, Mut.mslice (Referent.rtF (Referent.fInt Syntax.w32)) ref4 20)
 
-abbrev e38·1 : Row.Entry
-e38·1 = (38, Mut.mslice (Referent.rtF (Referent.fInt Syntax.w32)) ref4 20)
+abbrev e31·2 : Row.Entry
+e31·2 = (31, Mut.msleft RelayCircuit.row ref1)
 
-abbrev e32·2 : Row.Entry
-e32·2 = (32, Mut.msleft RelayCircuit.row ref1)
+abbrev e33·2 : Row.Entry
+e33·2 = (33, Mut.msleft ReservationUsage.row ref2)
 
-abbrev e34·2 : Row.Entry
-e34·2 = (34, Mut.msleft ReservationUsage.row ref2)
+abbrev e35·2 : Row.Entry
+e35·2 = (35, Mut.msleft InflightAction.row ref3)
 
-abbrev e36·2 : Row.Entry
-e36·2 = (36, Mut.msleft InflightAction.row ref3)
-
-abbrev e38·2 : Row.Entry
-e38·2 = (38, Mut.msleft (Referent.rtF (Referent.fInt Syntax.w32)) ref4)
+abbrev e37·2 : Row.Entry
+e37·2 = (37, Mut.msleft (Referent.rtF (Referent.fInt Syntax.w32)) ref4)
 
 abbrev e2·4 : Row.Entry
 e2·4 = (2, Relend.mslice-owed RelayCircuit.row ref6 1 21 Row.off)
 
-abbrev e39·1 : Row.Entry
-e39·1 = (39, Relend.msptr RelayCircuit.row ref1 21)
+abbrev e38·1 : Row.Entry
+e38·1 = (38, Relend.msptr RelayCircuit.row ref1 21)
 
-abbrev e40·1 : Row.Entry
-e40·1 = (40, Mut.mslice RelayCircuit.row ref1 21)
+abbrev e39·1 : Row.Entry
+e39·1 = (39, Mut.mslice RelayCircuit.row ref1 21)
 
 abbrev e4·4 : Row.Entry
 e4·4 = (4, Relend.mslice-owed InflightAction.row ref8 3 22 Row.off)
 
-abbrev e41·1 : Row.Entry
-e41·1 = (41, Relend.msptr InflightAction.row ref3 22)
+abbrev e40·1 : Row.Entry
+e40·1 = (40, Relend.msptr InflightAction.row ref3 22)
 
-abbrev e42·1 : Row.Entry
-e42·1 = (42, Mut.mslice InflightAction.row ref3 22)
+abbrev e41·1 : Row.Entry
+e41·1 = (41, Mut.mslice InflightAction.row ref3 22)
 
 abbrev e5·4 : Row.Entry
 e5·4 = (5, Relend.mslice-owed (Referent.rtF (Referent.fInt Syntax.w32)) ref9 4 23 Row.off)
 
+abbrev e42·1 : Row.Entry
+e42·1 = (42, Relend.msptr (Referent.rtF (Referent.fInt Syntax.w32)) ref4 23)
+
 abbrev e43·1 : Row.Entry
-e43·1 = (43, Relend.msptr (Referent.rtF (Referent.fInt Syntax.w32)) ref4 23)
+e43·1 = (43, Mut.mslice (Referent.rtF (Referent.fInt Syntax.w32)) ref4 23)
+
+abbrev e39·2 : Row.Entry
+e39·2 = (39, Mut.msleft RelayCircuit.row ref1)
+
+abbrev e41·2 : Row.Entry
+e41·2 = (41, Mut.msleft InflightAction.row ref3)
+
+abbrev e43·2 : Row.Entry
+e43·2 = (43, Mut.msleft (Referent.rtF (Referent.fInt Syntax.w32)) ref4)
 
 abbrev e44·1 : Row.Entry
-e44·1 = (44, Mut.mslice (Referent.rtF (Referent.fInt Syntax.w32)) ref4 23)
-
-abbrev e40·2 : Row.Entry
-e40·2 = (40, Mut.msleft RelayCircuit.row ref1)
-
-abbrev e42·2 : Row.Entry
-e42·2 = (42, Mut.msleft InflightAction.row ref3)
-
-abbrev e44·2 : Row.Entry
-e44·2 = (44, Mut.msleft (Referent.rtF (Referent.fInt Syntax.w32)) ref4)
-
-abbrev e45·1 : Row.Entry
-e45·1 = (45, Rows.sc-here Row.sBool)
+e44·1 = (44, Rows.sc-here Row.sBool)
 
 abbrev e1·3 : Row.Entry
 e1·3 = (1, Relend.mslice-owed RelayPending.row ref5 0 24 Row.off)
 
-abbrev e46·1 : Row.Entry
-e46·1 = (46, Relend.msptr RelayPending.row ref0 24)
+abbrev e45·1 : Row.Entry
+e45·1 = (45, Relend.msptr RelayPending.row ref0 24)
 
-abbrev e47·1 : Row.Entry
-e47·1 = (47, Mut.mslice RelayPending.row ref0 24)
+abbrev e46·1 : Row.Entry
+e46·1 = (46, Mut.mslice RelayPending.row ref0 24)
 
 abbrev e2·5 : Row.Entry
 e2·5 = (2, Relend.mslice-owed RelayCircuit.row ref6 1 25 Row.off)
 
-abbrev e48·1 : Row.Entry
-e48·1 = (48, Relend.msptr RelayCircuit.row ref1 25)
+abbrev e47·1 : Row.Entry
+e47·1 = (47, Relend.msptr RelayCircuit.row ref1 25)
 
-abbrev e49·1 : Row.Entry
-e49·1 = (49, Mut.mslice RelayCircuit.row ref1 25)
+abbrev e48·1 : Row.Entry
+e48·1 = (48, Mut.mslice RelayCircuit.row ref1 25)
 
 abbrev e4·5 : Row.Entry
 e4·5 = (4, Relend.mslice-owed InflightAction.row ref8 3 26 Row.off)
 
-abbrev e50·1 : Row.Entry
-e50·1 = (50, Relend.msptr InflightAction.row ref3 26)
+abbrev e49·1 : Row.Entry
+e49·1 = (49, Relend.msptr InflightAction.row ref3 26)
 
-abbrev e51·1 : Row.Entry
-e51·1 = (51, Mut.mslice InflightAction.row ref3 26)
+abbrev e50·1 : Row.Entry
+e50·1 = (50, Mut.mslice InflightAction.row ref3 26)
 
 abbrev e5·5 : Row.Entry
 e5·5 = (5, Relend.mslice-owed (Referent.rtF (Referent.fInt Syntax.w32)) ref9 4 27 Row.off)
 
+abbrev e51·1 : Row.Entry
+e51·1 = (51, Relend.msptr (Referent.rtF (Referent.fInt Syntax.w32)) ref4 27)
+
 abbrev e52·1 : Row.Entry
-e52·1 = (52, Relend.msptr (Referent.rtF (Referent.fInt Syntax.w32)) ref4 27)
+e52·1 = (52, Mut.mslice (Referent.rtF (Referent.fInt Syntax.w32)) ref4 27)
 
-abbrev e53·1 : Row.Entry
-e53·1 = (53, Mut.mslice (Referent.rtF (Referent.fInt Syntax.w32)) ref4 27)
+abbrev e46·2 : Row.Entry
+e46·2 = (46, Mut.msleft RelayPending.row ref0)
 
-abbrev e47·2 : Row.Entry
-e47·2 = (47, Mut.msleft RelayPending.row ref0)
+abbrev e48·2 : Row.Entry
+e48·2 = (48, Mut.msleft RelayCircuit.row ref1)
 
-abbrev e49·2 : Row.Entry
-e49·2 = (49, Mut.msleft RelayCircuit.row ref1)
+abbrev e50·2 : Row.Entry
+e50·2 = (50, Mut.msleft InflightAction.row ref3)
 
-abbrev e51·2 : Row.Entry
-e51·2 = (51, Mut.msleft InflightAction.row ref3)
-
-abbrev e53·2 : Row.Entry
-e53·2 = (53, Mut.msleft (Referent.rtF (Referent.fInt Syntax.w32)) ref4)
+abbrev e52·2 : Row.Entry
+e52·2 = (52, Mut.msleft (Referent.rtF (Referent.fInt Syntax.w32)) ref4)
 
 abbrev pub t0 : List.List Row.Entry
 t0 = e0 ∷ e1 ∷ e2 ∷ e3 ∷ e4 ∷ e5 ∷ e6 ∷ e7 ∷ e8 ∷ e9 ∷ e10 ∷ e11 ∷ e12 ∷ e13 ∷ e14 ∷ e15 ∷ List.[]
@@ -1071,7 +1054,7 @@ abbrev pub t2 : List.List Row.Entry
 t2 = e32 ∷ e33 ∷ e34 ∷ e35 ∷ e36 ∷ e37 ∷ e38 ∷ e39 ∷ e40 ∷ e41 ∷ e42 ∷ e43 ∷ e44 ∷ e45 ∷ e46 ∷ e47 ∷ List.[]
 
 abbrev pub t3 : List.List Row.Entry
-t3 = e48 ∷ e49 ∷ e50 ∷ e51 ∷ e52 ∷ e53 ∷ List.[]
+t3 = e48 ∷ e49 ∷ e50 ∷ e51 ∷ e52 ∷ List.[]
 
 abbrev pub t4 : List.List Row.Entry
 t4 = e0·1 ∷ e1 ∷ e2 ∷ e3 ∷ e4 ∷ e5 ∷ e6·1 ∷ e7 ∷ e8 ∷ e9 ∷ e10 ∷ e11 ∷ e12 ∷ e13 ∷ e14 ∷ e15 ∷ List.[]
@@ -1080,334 +1063,322 @@ abbrev pub t5 : List.List Row.Entry
 t5 = e0 ∷ e1 ∷ e2 ∷ e3 ∷ e4 ∷ e5 ∷ e6 ∷ e7 ∷ e8 ∷ e9 ∷ e10·1 ∷ e11 ∷ e12 ∷ e13 ∷ e14 ∷ e15 ∷ List.[]
 
 abbrev pub t6 : List.List Row.Entry
-t6 = e0 ∷ e1 ∷ e2 ∷ e3 ∷ e4 ∷ e5 ∷ e6 ∷ e7 ∷ e8 ∷ e9 ∷ e10·1 ∷ e11·1 ∷ e12 ∷ e13 ∷ e14 ∷ e15 ∷ List.[]
+t6 = e0 ∷ e1 ∷ e2 ∷ e3 ∷ e4 ∷ e5 ∷ e6·1 ∷ e7 ∷ e8 ∷ e9 ∷ e10·1 ∷ e11·1 ∷ e12 ∷ e13 ∷ e14 ∷ e15 ∷ List.[]
 
 abbrev pub t7 : List.List Row.Entry
-t7 = e0 ∷ e1 ∷ e2 ∷ e3 ∷ e4 ∷ e5 ∷ e6·1 ∷ e7 ∷ e8 ∷ e9 ∷ e10 ∷ e11·1 ∷ e12·1 ∷ e13 ∷ e14 ∷ e15 ∷ List.[]
+t7 = e0 ∷ e1·1 ∷ e2 ∷ e3 ∷ e4 ∷ e5 ∷ e6 ∷ e7 ∷ e8 ∷ e9 ∷ e10·1 ∷ e11 ∷ e12·1 ∷ e13 ∷ e14 ∷ e15 ∷ List.[]
 
 abbrev pub t8 : List.List Row.Entry
-t8 = e0 ∷ e1 ∷ e2 ∷ e3 ∷ e4 ∷ e5 ∷ e6 ∷ e7 ∷ e8 ∷ e9 ∷ e10 ∷ e11·1 ∷ e12 ∷ e13 ∷ e14 ∷ e15 ∷ List.[]
+t8 = e0 ∷ e1·1 ∷ e2 ∷ e3 ∷ e4 ∷ e5 ∷ e6 ∷ e7 ∷ e8 ∷ e9 ∷ e10·1 ∷ e11 ∷ e12 ∷ e13·1 ∷ e14 ∷ e15 ∷ List.[]
 
 abbrev pub t9 : List.List Row.Entry
-t9 = e0 ∷ e1·1 ∷ e2 ∷ e3 ∷ e4 ∷ e5 ∷ e6 ∷ e7 ∷ e8 ∷ e9 ∷ e10 ∷ e11·1 ∷ e12 ∷ e13·1 ∷ e14 ∷ e15 ∷ List.[]
+t9 = e0 ∷ e1·1 ∷ e2·1 ∷ e3 ∷ e4 ∷ e5 ∷ e6 ∷ e7 ∷ e8 ∷ e9 ∷ e10·1 ∷ e11 ∷ e12 ∷ e13·1 ∷ e14·1 ∷ e15 ∷ List.[]
 
 abbrev pub t10 : List.List Row.Entry
-t10 = e0 ∷ e1·1 ∷ e2 ∷ e3 ∷ e4 ∷ e5 ∷ e6 ∷ e7 ∷ e8 ∷ e9 ∷ e10 ∷ e11·1 ∷ e12 ∷ e13 ∷ e14·1 ∷ e15 ∷ List.[]
+t10 = e0 ∷ e1·1 ∷ e2·1 ∷ e3 ∷ e4 ∷ e5 ∷ e6 ∷ e7 ∷ e8 ∷ e9 ∷ e10·1 ∷ e11 ∷ e12 ∷ e13·1 ∷ e14 ∷ e15·1 ∷ List.[]
 
 abbrev pub t11 : List.List Row.Entry
-t11 = e0 ∷ e1·1 ∷ e2·1 ∷ e3 ∷ e4 ∷ e5 ∷ e6 ∷ e7 ∷ e8 ∷ e9 ∷ e10 ∷ e11·1 ∷ e12 ∷ e13 ∷ e14·1 ∷ e15·1 ∷ List.[]
+t11 = e0 ∷ e1·1 ∷ e2·1 ∷ e3·1 ∷ e4 ∷ e5 ∷ e6 ∷ e7 ∷ e8 ∷ e9 ∷ e10·1 ∷ e11 ∷ e12 ∷ e13·1 ∷ e14 ∷ e15·1 ∷ List.[]
 
 abbrev pub t12 : List.List Row.Entry
-t12 = e0 ∷ e1·1 ∷ e2·1 ∷ e3 ∷ e4 ∷ e5 ∷ e6 ∷ e7 ∷ e8 ∷ e9 ∷ e10 ∷ e11·1 ∷ e12 ∷ e13 ∷ e14·1 ∷ e15 ∷ List.[]
+t12 = e16·1 ∷ e17 ∷ e18 ∷ e19 ∷ e20 ∷ e21 ∷ e22 ∷ e23 ∷ e24 ∷ e25 ∷ e26 ∷ e27 ∷ e28 ∷ e29 ∷ e30 ∷ e31 ∷ List.[]
 
 abbrev pub t13 : List.List Row.Entry
-t13 = e16·1 ∷ e17 ∷ e18 ∷ e19 ∷ e20 ∷ e21 ∷ e22 ∷ e23 ∷ e24 ∷ e25 ∷ e26 ∷ e27 ∷ e28 ∷ e29 ∷ e30 ∷ e31 ∷ List.[]
+t13 = e16 ∷ e17·1 ∷ e18 ∷ e19 ∷ e20 ∷ e21 ∷ e22 ∷ e23 ∷ e24 ∷ e25 ∷ e26 ∷ e27 ∷ e28 ∷ e29 ∷ e30 ∷ e31 ∷ List.[]
 
 abbrev pub t14 : List.List Row.Entry
-t14 = e0 ∷ e1·1 ∷ e2·1 ∷ e3·1 ∷ e4 ∷ e5 ∷ e6 ∷ e7 ∷ e8 ∷ e9 ∷ e10 ∷ e11·1 ∷ e12 ∷ e13 ∷ e14·1 ∷ e15 ∷ List.[]
+t14 = e0 ∷ e1·1 ∷ e2·1 ∷ e3·1 ∷ e4·1 ∷ e5 ∷ e6 ∷ e7 ∷ e8 ∷ e9 ∷ e10·1 ∷ e11 ∷ e12 ∷ e13·1 ∷ e14 ∷ e15·1 ∷ List.[]
 
 abbrev pub t15 : List.List Row.Entry
-t15 = e16·1 ∷ e17·1 ∷ e18 ∷ e19 ∷ e20 ∷ e21 ∷ e22 ∷ e23 ∷ e24 ∷ e25 ∷ e26 ∷ e27 ∷ e28 ∷ e29 ∷ e30 ∷ e31 ∷ List.[]
+t15 = e16 ∷ e17·1 ∷ e18·1 ∷ e19 ∷ e20 ∷ e21 ∷ e22 ∷ e23 ∷ e24 ∷ e25 ∷ e26 ∷ e27 ∷ e28 ∷ e29 ∷ e30 ∷ e31 ∷ List.[]
 
 abbrev pub t16 : List.List Row.Entry
-t16 = e16·1 ∷ e17 ∷ e18·1 ∷ e19 ∷ e20 ∷ e21 ∷ e22 ∷ e23 ∷ e24 ∷ e25 ∷ e26 ∷ e27 ∷ e28 ∷ e29 ∷ e30 ∷ e31 ∷ List.[]
+t16 = e16 ∷ e17·1 ∷ e18 ∷ e19·1 ∷ e20 ∷ e21 ∷ e22 ∷ e23 ∷ e24 ∷ e25 ∷ e26 ∷ e27 ∷ e28 ∷ e29 ∷ e30 ∷ e31 ∷ List.[]
 
 abbrev pub t17 : List.List Row.Entry
-t17 = e0 ∷ e1·1 ∷ e2·1 ∷ e3·1 ∷ e4·1 ∷ e5 ∷ e6 ∷ e7 ∷ e8 ∷ e9 ∷ e10 ∷ e11·1 ∷ e12 ∷ e13 ∷ e14·1 ∷ e15 ∷ List.[]
+t17 = e0 ∷ e1·1 ∷ e2·1 ∷ e3·1 ∷ e4·1 ∷ e5·1 ∷ e6 ∷ e7 ∷ e8 ∷ e9 ∷ e10·1 ∷ e11 ∷ e12 ∷ e13·1 ∷ e14 ∷ e15·1 ∷ List.[]
 
 abbrev pub t18 : List.List Row.Entry
-t18 = e16·1 ∷ e17 ∷ e18·1 ∷ e19·1 ∷ e20 ∷ e21 ∷ e22 ∷ e23 ∷ e24 ∷ e25 ∷ e26 ∷ e27 ∷ e28 ∷ e29 ∷ e30 ∷ e31 ∷ List.[]
+t18 = e16 ∷ e17·1 ∷ e18 ∷ e19·1 ∷ e20·1 ∷ e21 ∷ e22 ∷ e23 ∷ e24 ∷ e25 ∷ e26 ∷ e27 ∷ e28 ∷ e29 ∷ e30 ∷ e31 ∷ List.[]
 
 abbrev pub t19 : List.List Row.Entry
-t19 = e16·1 ∷ e17 ∷ e18·1 ∷ e19 ∷ e20·1 ∷ e21 ∷ e22 ∷ e23 ∷ e24 ∷ e25 ∷ e26 ∷ e27 ∷ e28 ∷ e29 ∷ e30 ∷ e31 ∷ List.[]
+t19 = e16 ∷ e17·1 ∷ e18 ∷ e19·1 ∷ e20 ∷ e21·1 ∷ e22 ∷ e23 ∷ e24 ∷ e25 ∷ e26 ∷ e27 ∷ e28 ∷ e29 ∷ e30 ∷ e31 ∷ List.[]
 
 abbrev pub t20 : List.List Row.Entry
-t20 = e0 ∷ e1·1 ∷ e2·1 ∷ e3·1 ∷ e4·1 ∷ e5·1 ∷ e6 ∷ e7 ∷ e8 ∷ e9 ∷ e10 ∷ e11·1 ∷ e12 ∷ e13 ∷ e14·1 ∷ e15 ∷ List.[]
+t20 = e0 ∷ e1·1 ∷ e2·1 ∷ e3·1 ∷ e4·1 ∷ e5·1 ∷ e6 ∷ e7 ∷ e8 ∷ e9 ∷ e10·1 ∷ e11·1 ∷ e12 ∷ e13·2 ∷ e14 ∷ e15·2 ∷ List.[]
 
 abbrev pub t21 : List.List Row.Entry
-t21 = e16·1 ∷ e17 ∷ e18·1 ∷ e19 ∷ e20·1 ∷ e21·1 ∷ e22 ∷ e23 ∷ e24 ∷ e25 ∷ e26 ∷ e27 ∷ e28 ∷ e29 ∷ e30 ∷ e31 ∷ List.[]
+t21 = e16 ∷ e17·2 ∷ e18 ∷ e19·2 ∷ e20 ∷ e21·2 ∷ e22 ∷ e23 ∷ e24 ∷ e25 ∷ e26 ∷ e27 ∷ e28 ∷ e29 ∷ e30 ∷ e31 ∷ List.[]
 
 abbrev pub t22 : List.List Row.Entry
-t22 = e16·1 ∷ e17 ∷ e18·1 ∷ e19 ∷ e20·1 ∷ e21 ∷ e22·1 ∷ e23 ∷ e24 ∷ e25 ∷ e26 ∷ e27 ∷ e28 ∷ e29 ∷ e30 ∷ e31 ∷ List.[]
+t22 = e0 ∷ e1·1 ∷ e2·1 ∷ e3·1 ∷ e4·1 ∷ e5·1 ∷ e6·1 ∷ e7 ∷ e8 ∷ e9 ∷ e10·1 ∷ e11·1 ∷ e12 ∷ e13·2 ∷ e14 ∷ e15·2 ∷ List.[]
 
 abbrev pub t23 : List.List Row.Entry
-t23 = e0 ∷ e1·1 ∷ e2·1 ∷ e3·1 ∷ e4·1 ∷ e5·1 ∷ e6 ∷ e7 ∷ e8 ∷ e9 ∷ e10 ∷ e11·1 ∷ e12·1 ∷ e13 ∷ e14·2 ∷ e15 ∷ List.[]
+t23 = e0 ∷ e1 ∷ e2·1 ∷ e3·1 ∷ e4·1 ∷ e5·1 ∷ e6·1 ∷ e7 ∷ e8 ∷ e9 ∷ e10·1 ∷ e11·1 ∷ e12 ∷ e13 ∷ e14 ∷ e15·2 ∷ List.[]
 
 abbrev pub t24 : List.List Row.Entry
-t24 = e16·2 ∷ e17 ∷ e18·2 ∷ e19 ∷ e20·2 ∷ e21 ∷ e22·2 ∷ e23 ∷ e24 ∷ e25 ∷ e26 ∷ e27 ∷ e28 ∷ e29 ∷ e30 ∷ e31 ∷ List.[]
+t24 = e0 ∷ e1 ∷ e2 ∷ e3·1 ∷ e4·1 ∷ e5·1 ∷ e6·1 ∷ e7 ∷ e8 ∷ e9 ∷ e10·1 ∷ e11·1 ∷ e12 ∷ e13 ∷ e14 ∷ e15 ∷ List.[]
 
 abbrev pub t25 : List.List Row.Entry
-t25 = e0 ∷ e1·1 ∷ e2·1 ∷ e3·1 ∷ e4·1 ∷ e5·1 ∷ e6·1 ∷ e7 ∷ e8 ∷ e9 ∷ e10 ∷ e11·1 ∷ e12·1 ∷ e13 ∷ e14·2 ∷ e15 ∷ List.[]
+t25 = e0 ∷ e1 ∷ e2 ∷ e3 ∷ e4·1 ∷ e5·1 ∷ e6·1 ∷ e7 ∷ e8 ∷ e9 ∷ e10·1 ∷ e11·1 ∷ e12 ∷ e13 ∷ e14 ∷ e15 ∷ List.[]
 
 abbrev pub t26 : List.List Row.Entry
-t26 = e0 ∷ e1 ∷ e2·1 ∷ e3·1 ∷ e4·1 ∷ e5·1 ∷ e6·1 ∷ e7 ∷ e8 ∷ e9 ∷ e10 ∷ e11·1 ∷ e12·1 ∷ e13 ∷ e14 ∷ e15 ∷ List.[]
+t26 = e16 ∷ e17 ∷ e18 ∷ e19·2 ∷ e20 ∷ e21·2 ∷ e22 ∷ e23 ∷ e24 ∷ e25 ∷ e26 ∷ e27 ∷ e28 ∷ e29 ∷ e30 ∷ e31 ∷ List.[]
 
 abbrev pub t27 : List.List Row.Entry
-t27 = e0 ∷ e1 ∷ e2 ∷ e3·1 ∷ e4·1 ∷ e5·1 ∷ e6·1 ∷ e7 ∷ e8 ∷ e9 ∷ e10 ∷ e11·1 ∷ e12·1 ∷ e13 ∷ e14 ∷ e15 ∷ List.[]
+t27 = e0 ∷ e1 ∷ e2 ∷ e3 ∷ e4 ∷ e5·1 ∷ e6·1 ∷ e7 ∷ e8 ∷ e9 ∷ e10·1 ∷ e11·1 ∷ e12 ∷ e13 ∷ e14 ∷ e15 ∷ List.[]
 
 abbrev pub t28 : List.List Row.Entry
-t28 = e16 ∷ e17 ∷ e18·2 ∷ e19 ∷ e20·2 ∷ e21 ∷ e22·2 ∷ e23 ∷ e24 ∷ e25 ∷ e26 ∷ e27 ∷ e28 ∷ e29 ∷ e30 ∷ e31 ∷ List.[]
+t28 = e16 ∷ e17 ∷ e18 ∷ e19 ∷ e20 ∷ e21·2 ∷ e22 ∷ e23 ∷ e24 ∷ e25 ∷ e26 ∷ e27 ∷ e28 ∷ e29 ∷ e30 ∷ e31 ∷ List.[]
 
 abbrev pub t29 : List.List Row.Entry
-t29 = e0 ∷ e1 ∷ e2 ∷ e3 ∷ e4·1 ∷ e5·1 ∷ e6·1 ∷ e7 ∷ e8 ∷ e9 ∷ e10 ∷ e11·1 ∷ e12·1 ∷ e13 ∷ e14 ∷ e15 ∷ List.[]
+t29 = e0 ∷ e1·2 ∷ e2 ∷ e3 ∷ e4 ∷ e5 ∷ e6 ∷ e7 ∷ e8 ∷ e9 ∷ e10·1 ∷ e11 ∷ e12 ∷ e13 ∷ e14 ∷ e15 ∷ List.[]
 
 abbrev pub t30 : List.List Row.Entry
-t30 = e16 ∷ e17 ∷ e18 ∷ e19 ∷ e20·2 ∷ e21 ∷ e22·2 ∷ e23 ∷ e24 ∷ e25 ∷ e26 ∷ e27 ∷ e28 ∷ e29 ∷ e30 ∷ e31 ∷ List.[]
+t30 = e16 ∷ e17 ∷ e18 ∷ e19 ∷ e20 ∷ e21 ∷ e22·1 ∷ e23 ∷ e24 ∷ e25 ∷ e26 ∷ e27 ∷ e28 ∷ e29 ∷ e30 ∷ e31 ∷ List.[]
 
 abbrev pub t31 : List.List Row.Entry
-t31 = e0 ∷ e1 ∷ e2 ∷ e3 ∷ e4 ∷ e5·1 ∷ e6·1 ∷ e7 ∷ e8 ∷ e9 ∷ e10 ∷ e11·1 ∷ e12·1 ∷ e13 ∷ e14 ∷ e15 ∷ List.[]
+t31 = e16 ∷ e17 ∷ e18 ∷ e19 ∷ e20 ∷ e21 ∷ e22 ∷ e23·1 ∷ e24 ∷ e25 ∷ e26 ∷ e27 ∷ e28 ∷ e29 ∷ e30 ∷ e31 ∷ List.[]
 
 abbrev pub t32 : List.List Row.Entry
-t32 = e16 ∷ e17 ∷ e18 ∷ e19 ∷ e20 ∷ e21 ∷ e22·2 ∷ e23 ∷ e24 ∷ e25 ∷ e26 ∷ e27 ∷ e28 ∷ e29 ∷ e30 ∷ e31 ∷ List.[]
+t32 = e0 ∷ e1·2 ∷ e2·2 ∷ e3 ∷ e4 ∷ e5 ∷ e6 ∷ e7 ∷ e8 ∷ e9 ∷ e10·1 ∷ e11 ∷ e12 ∷ e13 ∷ e14 ∷ e15 ∷ List.[]
 
 abbrev pub t33 : List.List Row.Entry
-t33 = e0 ∷ e1·2 ∷ e2 ∷ e3 ∷ e4 ∷ e5 ∷ e6 ∷ e7 ∷ e8 ∷ e9 ∷ e10 ∷ e11·1 ∷ e12 ∷ e13 ∷ e14 ∷ e15 ∷ List.[]
+t33 = e16 ∷ e17 ∷ e18 ∷ e19 ∷ e20 ∷ e21 ∷ e22 ∷ e23·1 ∷ e24·1 ∷ e25 ∷ e26 ∷ e27 ∷ e28 ∷ e29 ∷ e30 ∷ e31 ∷ List.[]
 
 abbrev pub t34 : List.List Row.Entry
-t34 = e16 ∷ e17 ∷ e18 ∷ e19 ∷ e20 ∷ e21 ∷ e22 ∷ e23·1 ∷ e24 ∷ e25 ∷ e26 ∷ e27 ∷ e28 ∷ e29 ∷ e30 ∷ e31 ∷ List.[]
+t34 = e16 ∷ e17 ∷ e18 ∷ e19 ∷ e20 ∷ e21 ∷ e22 ∷ e23·1 ∷ e24 ∷ e25·1 ∷ e26 ∷ e27 ∷ e28 ∷ e29 ∷ e30 ∷ e31 ∷ List.[]
 
 abbrev pub t35 : List.List Row.Entry
-t35 = e16 ∷ e17 ∷ e18 ∷ e19 ∷ e20 ∷ e21 ∷ e22 ∷ e23 ∷ e24·1 ∷ e25 ∷ e26 ∷ e27 ∷ e28 ∷ e29 ∷ e30 ∷ e31 ∷ List.[]
+t35 = e0 ∷ e1·2 ∷ e2·2 ∷ e3 ∷ e4·2 ∷ e5 ∷ e6 ∷ e7 ∷ e8 ∷ e9 ∷ e10·1 ∷ e11 ∷ e12 ∷ e13 ∷ e14 ∷ e15 ∷ List.[]
 
 abbrev pub t36 : List.List Row.Entry
-t36 = e0 ∷ e1·2 ∷ e2·2 ∷ e3 ∷ e4 ∷ e5 ∷ e6 ∷ e7 ∷ e8 ∷ e9 ∷ e10 ∷ e11·1 ∷ e12 ∷ e13 ∷ e14 ∷ e15 ∷ List.[]
+t36 = e16 ∷ e17 ∷ e18 ∷ e19 ∷ e20 ∷ e21 ∷ e22 ∷ e23·1 ∷ e24 ∷ e25·1 ∷ e26·1 ∷ e27 ∷ e28 ∷ e29 ∷ e30 ∷ e31 ∷ List.[]
 
 abbrev pub t37 : List.List Row.Entry
-t37 = e16 ∷ e17 ∷ e18 ∷ e19 ∷ e20 ∷ e21 ∷ e22 ∷ e23 ∷ e24·1 ∷ e25·1 ∷ e26 ∷ e27 ∷ e28 ∷ e29 ∷ e30 ∷ e31 ∷ List.[]
+t37 = e16 ∷ e17 ∷ e18 ∷ e19 ∷ e20 ∷ e21 ∷ e22 ∷ e23·1 ∷ e24 ∷ e25·1 ∷ e26 ∷ e27·1 ∷ e28 ∷ e29 ∷ e30 ∷ e31 ∷ List.[]
 
 abbrev pub t38 : List.List Row.Entry
-t38 = e16 ∷ e17 ∷ e18 ∷ e19 ∷ e20 ∷ e21 ∷ e22 ∷ e23 ∷ e24·1 ∷ e25 ∷ e26·1 ∷ e27 ∷ e28 ∷ e29 ∷ e30 ∷ e31 ∷ List.[]
+t38 = e0 ∷ e1·2 ∷ e2·2 ∷ e3 ∷ e4·2 ∷ e5·2 ∷ e6 ∷ e7 ∷ e8 ∷ e9 ∷ e10·1 ∷ e11 ∷ e12 ∷ e13 ∷ e14 ∷ e15 ∷ List.[]
 
 abbrev pub t39 : List.List Row.Entry
-t39 = e0 ∷ e1·2 ∷ e2·2 ∷ e3 ∷ e4·2 ∷ e5 ∷ e6 ∷ e7 ∷ e8 ∷ e9 ∷ e10 ∷ e11·1 ∷ e12 ∷ e13 ∷ e14 ∷ e15 ∷ List.[]
+t39 = e16 ∷ e17 ∷ e18 ∷ e19 ∷ e20 ∷ e21 ∷ e22 ∷ e23·1 ∷ e24 ∷ e25·1 ∷ e26 ∷ e27·1 ∷ e28·1 ∷ e29 ∷ e30 ∷ e31 ∷ List.[]
 
 abbrev pub t40 : List.List Row.Entry
-t40 = e16 ∷ e17 ∷ e18 ∷ e19 ∷ e20 ∷ e21 ∷ e22 ∷ e23 ∷ e24·1 ∷ e25 ∷ e26·1 ∷ e27·1 ∷ e28 ∷ e29 ∷ e30 ∷ e31 ∷ List.[]
+t40 = e16 ∷ e17 ∷ e18 ∷ e19 ∷ e20 ∷ e21 ∷ e22 ∷ e23·1 ∷ e24 ∷ e25·1 ∷ e26 ∷ e27·1 ∷ e28 ∷ e29·1 ∷ e30 ∷ e31 ∷ List.[]
 
 abbrev pub t41 : List.List Row.Entry
-t41 = e16 ∷ e17 ∷ e18 ∷ e19 ∷ e20 ∷ e21 ∷ e22 ∷ e23 ∷ e24·1 ∷ e25 ∷ e26·1 ∷ e27 ∷ e28·1 ∷ e29 ∷ e30 ∷ e31 ∷ List.[]
+t41 = e0 ∷ e1·2 ∷ e2·2 ∷ e3 ∷ e4·2 ∷ e5·2 ∷ e6 ∷ e7 ∷ e8 ∷ e9 ∷ e10·1 ∷ e11·1 ∷ e12 ∷ e13 ∷ e14 ∷ e15 ∷ List.[]
 
 abbrev pub t42 : List.List Row.Entry
-t42 = e0 ∷ e1·2 ∷ e2·2 ∷ e3 ∷ e4·2 ∷ e5·2 ∷ e6 ∷ e7 ∷ e8 ∷ e9 ∷ e10 ∷ e11·1 ∷ e12 ∷ e13 ∷ e14 ∷ e15 ∷ List.[]
+t42 = e16 ∷ e17 ∷ e18 ∷ e19 ∷ e20 ∷ e21 ∷ e22 ∷ e23·2 ∷ e24 ∷ e25·2 ∷ e26 ∷ e27·2 ∷ e28 ∷ e29·2 ∷ e30 ∷ e31 ∷ List.[]
 
 abbrev pub t43 : List.List Row.Entry
-t43 = e16 ∷ e17 ∷ e18 ∷ e19 ∷ e20 ∷ e21 ∷ e22 ∷ e23 ∷ e24·1 ∷ e25 ∷ e26·1 ∷ e27 ∷ e28·1 ∷ e29·1 ∷ e30 ∷ e31 ∷ List.[]
+t43 = e0 ∷ e1·2 ∷ e2·2 ∷ e3 ∷ e4·2 ∷ e5·2 ∷ e6·1 ∷ e7 ∷ e8 ∷ e9 ∷ e10·1 ∷ e11·1 ∷ e12 ∷ e13 ∷ e14 ∷ e15 ∷ List.[]
 
 abbrev pub t44 : List.List Row.Entry
-t44 = e16 ∷ e17 ∷ e18 ∷ e19 ∷ e20 ∷ e21 ∷ e22 ∷ e23 ∷ e24·1 ∷ e25 ∷ e26·1 ∷ e27 ∷ e28·1 ∷ e29 ∷ e30·1 ∷ e31 ∷ List.[]
+t44 = e0 ∷ e1 ∷ e2·2 ∷ e3 ∷ e4·2 ∷ e5·2 ∷ e6·1 ∷ e7 ∷ e8 ∷ e9 ∷ e10·1 ∷ e11·1 ∷ e12 ∷ e13 ∷ e14 ∷ e15 ∷ List.[]
 
 abbrev pub t45 : List.List Row.Entry
-t45 = e0 ∷ e1·2 ∷ e2·2 ∷ e3 ∷ e4·2 ∷ e5·2 ∷ e6 ∷ e7 ∷ e8 ∷ e9 ∷ e10 ∷ e11·1 ∷ e12·1 ∷ e13 ∷ e14 ∷ e15 ∷ List.[]
+t45 = e16 ∷ e17 ∷ e18 ∷ e19 ∷ e20 ∷ e21 ∷ e22 ∷ e23 ∷ e24 ∷ e25·2 ∷ e26 ∷ e27·2 ∷ e28 ∷ e29·2 ∷ e30 ∷ e31 ∷ List.[]
 
 abbrev pub t46 : List.List Row.Entry
-t46 = e16 ∷ e17 ∷ e18 ∷ e19 ∷ e20 ∷ e21 ∷ e22 ∷ e23 ∷ e24·2 ∷ e25 ∷ e26·2 ∷ e27 ∷ e28·2 ∷ e29 ∷ e30·2 ∷ e31 ∷ List.[]
+t46 = e0 ∷ e1 ∷ e2 ∷ e3 ∷ e4·2 ∷ e5·2 ∷ e6·1 ∷ e7 ∷ e8 ∷ e9 ∷ e10·1 ∷ e11·1 ∷ e12 ∷ e13 ∷ e14 ∷ e15 ∷ List.[]
 
 abbrev pub t47 : List.List Row.Entry
-t47 = e0 ∷ e1·2 ∷ e2·2 ∷ e3 ∷ e4·2 ∷ e5·2 ∷ e6·1 ∷ e7 ∷ e8 ∷ e9 ∷ e10 ∷ e11·1 ∷ e12·1 ∷ e13 ∷ e14 ∷ e15 ∷ List.[]
+t47 = e16 ∷ e17 ∷ e18 ∷ e19 ∷ e20 ∷ e21 ∷ e22 ∷ e23 ∷ e24 ∷ e25 ∷ e26 ∷ e27·2 ∷ e28 ∷ e29·2 ∷ e30 ∷ e31 ∷ List.[]
 
 abbrev pub t48 : List.List Row.Entry
-t48 = e0 ∷ e1 ∷ e2·2 ∷ e3 ∷ e4·2 ∷ e5·2 ∷ e6·1 ∷ e7 ∷ e8 ∷ e9 ∷ e10 ∷ e11·1 ∷ e12·1 ∷ e13 ∷ e14 ∷ e15 ∷ List.[]
+t48 = e0 ∷ e1 ∷ e2 ∷ e3 ∷ e4 ∷ e5·2 ∷ e6·1 ∷ e7 ∷ e8 ∷ e9 ∷ e10·1 ∷ e11·1 ∷ e12 ∷ e13 ∷ e14 ∷ e15 ∷ List.[]
 
 abbrev pub t49 : List.List Row.Entry
-t49 = e16 ∷ e17 ∷ e18 ∷ e19 ∷ e20 ∷ e21 ∷ e22 ∷ e23 ∷ e24 ∷ e25 ∷ e26·2 ∷ e27 ∷ e28·2 ∷ e29 ∷ e30·2 ∷ e31 ∷ List.[]
+t49 = e16 ∷ e17 ∷ e18 ∷ e19 ∷ e20 ∷ e21 ∷ e22 ∷ e23 ∷ e24 ∷ e25 ∷ e26 ∷ e27 ∷ e28 ∷ e29·2 ∷ e30 ∷ e31 ∷ List.[]
 
 abbrev pub t50 : List.List Row.Entry
-t50 = e0 ∷ e1 ∷ e2 ∷ e3 ∷ e4·2 ∷ e5·2 ∷ e6·1 ∷ e7 ∷ e8 ∷ e9 ∷ e10 ∷ e11·1 ∷ e12·1 ∷ e13 ∷ e14 ∷ e15 ∷ List.[]
+t50 = e0 ∷ e1 ∷ e2·3 ∷ e3 ∷ e4 ∷ e5 ∷ e6 ∷ e7 ∷ e8 ∷ e9 ∷ e10·1 ∷ e11 ∷ e12 ∷ e13 ∷ e14 ∷ e15 ∷ List.[]
 
 abbrev pub t51 : List.List Row.Entry
-t51 = e16 ∷ e17 ∷ e18 ∷ e19 ∷ e20 ∷ e21 ∷ e22 ∷ e23 ∷ e24 ∷ e25 ∷ e26 ∷ e27 ∷ e28·2 ∷ e29 ∷ e30·2 ∷ e31 ∷ List.[]
+t51 = e16 ∷ e17 ∷ e18 ∷ e19 ∷ e20 ∷ e21 ∷ e22 ∷ e23 ∷ e24 ∷ e25 ∷ e26 ∷ e27 ∷ e28 ∷ e29 ∷ e30·1 ∷ e31 ∷ List.[]
 
 abbrev pub t52 : List.List Row.Entry
-t52 = e0 ∷ e1 ∷ e2 ∷ e3 ∷ e4 ∷ e5·2 ∷ e6·1 ∷ e7 ∷ e8 ∷ e9 ∷ e10 ∷ e11·1 ∷ e12·1 ∷ e13 ∷ e14 ∷ e15 ∷ List.[]
+t52 = e16 ∷ e17 ∷ e18 ∷ e19 ∷ e20 ∷ e21 ∷ e22 ∷ e23 ∷ e24 ∷ e25 ∷ e26 ∷ e27 ∷ e28 ∷ e29 ∷ e30 ∷ e31·1 ∷ List.[]
 
 abbrev pub t53 : List.List Row.Entry
-t53 = e16 ∷ e17 ∷ e18 ∷ e19 ∷ e20 ∷ e21 ∷ e22 ∷ e23 ∷ e24 ∷ e25 ∷ e26 ∷ e27 ∷ e28 ∷ e29 ∷ e30·2 ∷ e31 ∷ List.[]
+t53 = e0 ∷ e1 ∷ e2·3 ∷ e3·2 ∷ e4 ∷ e5 ∷ e6 ∷ e7 ∷ e8 ∷ e9 ∷ e10·1 ∷ e11 ∷ e12 ∷ e13 ∷ e14 ∷ e15 ∷ List.[]
 
 abbrev pub t54 : List.List Row.Entry
-t54 = e0 ∷ e1 ∷ e2·3 ∷ e3 ∷ e4 ∷ e5 ∷ e6 ∷ e7 ∷ e8 ∷ e9 ∷ e10 ∷ e11·1 ∷ e12 ∷ e13 ∷ e14 ∷ e15 ∷ List.[]
+t54 = e32·1 ∷ e33 ∷ e34 ∷ e35 ∷ e36 ∷ e37 ∷ e38 ∷ e39 ∷ e40 ∷ e41 ∷ e42 ∷ e43 ∷ e44 ∷ e45 ∷ e46 ∷ e47 ∷ List.[]
 
 abbrev pub t55 : List.List Row.Entry
-t55 = e16 ∷ e17 ∷ e18 ∷ e19 ∷ e20 ∷ e21 ∷ e22 ∷ e23 ∷ e24 ∷ e25 ∷ e26 ∷ e27 ∷ e28 ∷ e29 ∷ e30 ∷ e31·1 ∷ List.[]
+t55 = e32 ∷ e33·1 ∷ e34 ∷ e35 ∷ e36 ∷ e37 ∷ e38 ∷ e39 ∷ e40 ∷ e41 ∷ e42 ∷ e43 ∷ e44 ∷ e45 ∷ e46 ∷ e47 ∷ List.[]
 
 abbrev pub t56 : List.List Row.Entry
-t56 = e32·1 ∷ e33 ∷ e34 ∷ e35 ∷ e36 ∷ e37 ∷ e38 ∷ e39 ∷ e40 ∷ e41 ∷ e42 ∷ e43 ∷ e44 ∷ e45 ∷ e46 ∷ e47 ∷ List.[]
+t56 = e0 ∷ e1 ∷ e2·3 ∷ e3·2 ∷ e4·3 ∷ e5 ∷ e6 ∷ e7 ∷ e8 ∷ e9 ∷ e10·1 ∷ e11 ∷ e12 ∷ e13 ∷ e14 ∷ e15 ∷ List.[]
 
 abbrev pub t57 : List.List Row.Entry
-t57 = e0 ∷ e1 ∷ e2·3 ∷ e3·2 ∷ e4 ∷ e5 ∷ e6 ∷ e7 ∷ e8 ∷ e9 ∷ e10 ∷ e11·1 ∷ e12 ∷ e13 ∷ e14 ∷ e15 ∷ List.[]
+t57 = e32 ∷ e33·1 ∷ e34·1 ∷ e35 ∷ e36 ∷ e37 ∷ e38 ∷ e39 ∷ e40 ∷ e41 ∷ e42 ∷ e43 ∷ e44 ∷ e45 ∷ e46 ∷ e47 ∷ List.[]
 
 abbrev pub t58 : List.List Row.Entry
-t58 = e32·1 ∷ e33·1 ∷ e34 ∷ e35 ∷ e36 ∷ e37 ∷ e38 ∷ e39 ∷ e40 ∷ e41 ∷ e42 ∷ e43 ∷ e44 ∷ e45 ∷ e46 ∷ e47 ∷ List.[]
+t58 = e32 ∷ e33·1 ∷ e34 ∷ e35·1 ∷ e36 ∷ e37 ∷ e38 ∷ e39 ∷ e40 ∷ e41 ∷ e42 ∷ e43 ∷ e44 ∷ e45 ∷ e46 ∷ e47 ∷ List.[]
 
 abbrev pub t59 : List.List Row.Entry
-t59 = e32·1 ∷ e33 ∷ e34·1 ∷ e35 ∷ e36 ∷ e37 ∷ e38 ∷ e39 ∷ e40 ∷ e41 ∷ e42 ∷ e43 ∷ e44 ∷ e45 ∷ e46 ∷ e47 ∷ List.[]
+t59 = e0 ∷ e1 ∷ e2·3 ∷ e3·2 ∷ e4·3 ∷ e5·3 ∷ e6 ∷ e7 ∷ e8 ∷ e9 ∷ e10·1 ∷ e11 ∷ e12 ∷ e13 ∷ e14 ∷ e15 ∷ List.[]
 
 abbrev pub t60 : List.List Row.Entry
-t60 = e0 ∷ e1 ∷ e2·3 ∷ e3·2 ∷ e4·3 ∷ e5 ∷ e6 ∷ e7 ∷ e8 ∷ e9 ∷ e10 ∷ e11·1 ∷ e12 ∷ e13 ∷ e14 ∷ e15 ∷ List.[]
+t60 = e32 ∷ e33·1 ∷ e34 ∷ e35·1 ∷ e36·1 ∷ e37 ∷ e38 ∷ e39 ∷ e40 ∷ e41 ∷ e42 ∷ e43 ∷ e44 ∷ e45 ∷ e46 ∷ e47 ∷ List.[]
 
 abbrev pub t61 : List.List Row.Entry
-t61 = e32·1 ∷ e33 ∷ e34·1 ∷ e35·1 ∷ e36 ∷ e37 ∷ e38 ∷ e39 ∷ e40 ∷ e41 ∷ e42 ∷ e43 ∷ e44 ∷ e45 ∷ e46 ∷ e47 ∷ List.[]
+t61 = e32 ∷ e33·1 ∷ e34 ∷ e35·1 ∷ e36 ∷ e37·1 ∷ e38 ∷ e39 ∷ e40 ∷ e41 ∷ e42 ∷ e43 ∷ e44 ∷ e45 ∷ e46 ∷ e47 ∷ List.[]
 
 abbrev pub t62 : List.List Row.Entry
-t62 = e32·1 ∷ e33 ∷ e34·1 ∷ e35 ∷ e36·1 ∷ e37 ∷ e38 ∷ e39 ∷ e40 ∷ e41 ∷ e42 ∷ e43 ∷ e44 ∷ e45 ∷ e46 ∷ e47 ∷ List.[]
+t62 = e0 ∷ e1 ∷ e2·3 ∷ e3·2 ∷ e4·3 ∷ e5·3 ∷ e6 ∷ e7 ∷ e8 ∷ e9 ∷ e10·1 ∷ e11·1 ∷ e12 ∷ e13 ∷ e14 ∷ e15 ∷ List.[]
 
 abbrev pub t63 : List.List Row.Entry
-t63 = e0 ∷ e1 ∷ e2·3 ∷ e3·2 ∷ e4·3 ∷ e5·3 ∷ e6 ∷ e7 ∷ e8 ∷ e9 ∷ e10 ∷ e11·1 ∷ e12 ∷ e13 ∷ e14 ∷ e15 ∷ List.[]
+t63 = e16 ∷ e17 ∷ e18 ∷ e19 ∷ e20 ∷ e21 ∷ e22 ∷ e23 ∷ e24 ∷ e25 ∷ e26 ∷ e27 ∷ e28 ∷ e29 ∷ e30 ∷ e31·2 ∷ List.[]
 
 abbrev pub t64 : List.List Row.Entry
-t64 = e32·1 ∷ e33 ∷ e34·1 ∷ e35 ∷ e36·1 ∷ e37·1 ∷ e38 ∷ e39 ∷ e40 ∷ e41 ∷ e42 ∷ e43 ∷ e44 ∷ e45 ∷ e46 ∷ e47 ∷ List.[]
+t64 = e32 ∷ e33·2 ∷ e34 ∷ e35·2 ∷ e36 ∷ e37·2 ∷ e38 ∷ e39 ∷ e40 ∷ e41 ∷ e42 ∷ e43 ∷ e44 ∷ e45 ∷ e46 ∷ e47 ∷ List.[]
 
 abbrev pub t65 : List.List Row.Entry
-t65 = e32·1 ∷ e33 ∷ e34·1 ∷ e35 ∷ e36·1 ∷ e37 ∷ e38·1 ∷ e39 ∷ e40 ∷ e41 ∷ e42 ∷ e43 ∷ e44 ∷ e45 ∷ e46 ∷ e47 ∷ List.[]
+t65 = e0 ∷ e1 ∷ e2·3 ∷ e3·2 ∷ e4·3 ∷ e5·3 ∷ e6·1 ∷ e7 ∷ e8 ∷ e9 ∷ e10·1 ∷ e11·1 ∷ e12 ∷ e13 ∷ e14 ∷ e15 ∷ List.[]
 
 abbrev pub t66 : List.List Row.Entry
-t66 = e0 ∷ e1 ∷ e2·3 ∷ e3·2 ∷ e4·3 ∷ e5·3 ∷ e6 ∷ e7 ∷ e8 ∷ e9 ∷ e10 ∷ e11·1 ∷ e12·1 ∷ e13 ∷ e14 ∷ e15 ∷ List.[]
+t66 = e0 ∷ e1 ∷ e2 ∷ e3·2 ∷ e4·3 ∷ e5·3 ∷ e6·1 ∷ e7 ∷ e8 ∷ e9 ∷ e10·1 ∷ e11·1 ∷ e12 ∷ e13 ∷ e14 ∷ e15 ∷ List.[]
 
 abbrev pub t67 : List.List Row.Entry
-t67 = e32·2 ∷ e33 ∷ e34·2 ∷ e35 ∷ e36·2 ∷ e37 ∷ e38·2 ∷ e39 ∷ e40 ∷ e41 ∷ e42 ∷ e43 ∷ e44 ∷ e45 ∷ e46 ∷ e47 ∷ List.[]
+t67 = e0 ∷ e1 ∷ e2 ∷ e3 ∷ e4·3 ∷ e5·3 ∷ e6·1 ∷ e7 ∷ e8 ∷ e9 ∷ e10·1 ∷ e11·1 ∷ e12 ∷ e13 ∷ e14 ∷ e15 ∷ List.[]
 
 abbrev pub t68 : List.List Row.Entry
-t68 = e0 ∷ e1 ∷ e2·3 ∷ e3·2 ∷ e4·3 ∷ e5·3 ∷ e6·1 ∷ e7 ∷ e8 ∷ e9 ∷ e10 ∷ e11·1 ∷ e12·1 ∷ e13 ∷ e14 ∷ e15 ∷ List.[]
+t68 = e32 ∷ e33 ∷ e34 ∷ e35·2 ∷ e36 ∷ e37·2 ∷ e38 ∷ e39 ∷ e40 ∷ e41 ∷ e42 ∷ e43 ∷ e44 ∷ e45 ∷ e46 ∷ e47 ∷ List.[]
 
 abbrev pub t69 : List.List Row.Entry
-t69 = e0 ∷ e1 ∷ e2 ∷ e3·2 ∷ e4·3 ∷ e5·3 ∷ e6·1 ∷ e7 ∷ e8 ∷ e9 ∷ e10 ∷ e11·1 ∷ e12·1 ∷ e13 ∷ e14 ∷ e15 ∷ List.[]
+t69 = e0 ∷ e1 ∷ e2 ∷ e3 ∷ e4 ∷ e5·3 ∷ e6·1 ∷ e7 ∷ e8 ∷ e9 ∷ e10·1 ∷ e11·1 ∷ e12 ∷ e13 ∷ e14 ∷ e15 ∷ List.[]
 
 abbrev pub t70 : List.List Row.Entry
-t70 = e32 ∷ e33 ∷ e34·2 ∷ e35 ∷ e36·2 ∷ e37 ∷ e38·2 ∷ e39 ∷ e40 ∷ e41 ∷ e42 ∷ e43 ∷ e44 ∷ e45 ∷ e46 ∷ e47 ∷ List.[]
+t70 = e32 ∷ e33 ∷ e34 ∷ e35 ∷ e36 ∷ e37·2 ∷ e38 ∷ e39 ∷ e40 ∷ e41 ∷ e42 ∷ e43 ∷ e44 ∷ e45 ∷ e46 ∷ e47 ∷ List.[]
 
 abbrev pub t71 : List.List Row.Entry
-t71 = e0 ∷ e1 ∷ e2 ∷ e3 ∷ e4·3 ∷ e5·3 ∷ e6·1 ∷ e7 ∷ e8 ∷ e9 ∷ e10 ∷ e11·1 ∷ e12·1 ∷ e13 ∷ e14 ∷ e15 ∷ List.[]
+t71 = e0 ∷ e1 ∷ e2·4 ∷ e3 ∷ e4 ∷ e5 ∷ e6 ∷ e7 ∷ e8 ∷ e9 ∷ e10·1 ∷ e11 ∷ e12 ∷ e13 ∷ e14 ∷ e15 ∷ List.[]
 
 abbrev pub t72 : List.List Row.Entry
-t72 = e32 ∷ e33 ∷ e34 ∷ e35 ∷ e36·2 ∷ e37 ∷ e38·2 ∷ e39 ∷ e40 ∷ e41 ∷ e42 ∷ e43 ∷ e44 ∷ e45 ∷ e46 ∷ e47 ∷ List.[]
+t72 = e32 ∷ e33 ∷ e34 ∷ e35 ∷ e36 ∷ e37 ∷ e38·1 ∷ e39 ∷ e40 ∷ e41 ∷ e42 ∷ e43 ∷ e44 ∷ e45 ∷ e46 ∷ e47 ∷ List.[]
 
 abbrev pub t73 : List.List Row.Entry
-t73 = e0 ∷ e1 ∷ e2 ∷ e3 ∷ e4 ∷ e5·3 ∷ e6·1 ∷ e7 ∷ e8 ∷ e9 ∷ e10 ∷ e11·1 ∷ e12·1 ∷ e13 ∷ e14 ∷ e15 ∷ List.[]
+t73 = e32 ∷ e33 ∷ e34 ∷ e35 ∷ e36 ∷ e37 ∷ e38 ∷ e39·1 ∷ e40 ∷ e41 ∷ e42 ∷ e43 ∷ e44 ∷ e45 ∷ e46 ∷ e47 ∷ List.[]
 
 abbrev pub t74 : List.List Row.Entry
-t74 = e32 ∷ e33 ∷ e34 ∷ e35 ∷ e36 ∷ e37 ∷ e38·2 ∷ e39 ∷ e40 ∷ e41 ∷ e42 ∷ e43 ∷ e44 ∷ e45 ∷ e46 ∷ e47 ∷ List.[]
+t74 = e0 ∷ e1 ∷ e2·4 ∷ e3 ∷ e4·4 ∷ e5 ∷ e6 ∷ e7 ∷ e8 ∷ e9 ∷ e10·1 ∷ e11 ∷ e12 ∷ e13 ∷ e14 ∷ e15 ∷ List.[]
 
 abbrev pub t75 : List.List Row.Entry
-t75 = e0 ∷ e1 ∷ e2·4 ∷ e3 ∷ e4 ∷ e5 ∷ e6 ∷ e7 ∷ e8 ∷ e9 ∷ e10 ∷ e11·1 ∷ e12 ∷ e13 ∷ e14 ∷ e15 ∷ List.[]
+t75 = e32 ∷ e33 ∷ e34 ∷ e35 ∷ e36 ∷ e37 ∷ e38 ∷ e39·1 ∷ e40·1 ∷ e41 ∷ e42 ∷ e43 ∷ e44 ∷ e45 ∷ e46 ∷ e47 ∷ List.[]
 
 abbrev pub t76 : List.List Row.Entry
-t76 = e32 ∷ e33 ∷ e34 ∷ e35 ∷ e36 ∷ e37 ∷ e38 ∷ e39·1 ∷ e40 ∷ e41 ∷ e42 ∷ e43 ∷ e44 ∷ e45 ∷ e46 ∷ e47 ∷ List.[]
+t76 = e32 ∷ e33 ∷ e34 ∷ e35 ∷ e36 ∷ e37 ∷ e38 ∷ e39·1 ∷ e40 ∷ e41·1 ∷ e42 ∷ e43 ∷ e44 ∷ e45 ∷ e46 ∷ e47 ∷ List.[]
 
 abbrev pub t77 : List.List Row.Entry
-t77 = e32 ∷ e33 ∷ e34 ∷ e35 ∷ e36 ∷ e37 ∷ e38 ∷ e39 ∷ e40·1 ∷ e41 ∷ e42 ∷ e43 ∷ e44 ∷ e45 ∷ e46 ∷ e47 ∷ List.[]
+t77 = e0 ∷ e1 ∷ e2·4 ∷ e3 ∷ e4·4 ∷ e5·4 ∷ e6 ∷ e7 ∷ e8 ∷ e9 ∷ e10·1 ∷ e11 ∷ e12 ∷ e13 ∷ e14 ∷ e15 ∷ List.[]
 
 abbrev pub t78 : List.List Row.Entry
-t78 = e0 ∷ e1 ∷ e2·4 ∷ e3 ∷ e4·4 ∷ e5 ∷ e6 ∷ e7 ∷ e8 ∷ e9 ∷ e10 ∷ e11·1 ∷ e12 ∷ e13 ∷ e14 ∷ e15 ∷ List.[]
+t78 = e32 ∷ e33 ∷ e34 ∷ e35 ∷ e36 ∷ e37 ∷ e38 ∷ e39·1 ∷ e40 ∷ e41·1 ∷ e42·1 ∷ e43 ∷ e44 ∷ e45 ∷ e46 ∷ e47 ∷ List.[]
 
 abbrev pub t79 : List.List Row.Entry
-t79 = e32 ∷ e33 ∷ e34 ∷ e35 ∷ e36 ∷ e37 ∷ e38 ∷ e39 ∷ e40·1 ∷ e41·1 ∷ e42 ∷ e43 ∷ e44 ∷ e45 ∷ e46 ∷ e47 ∷ List.[]
+t79 = e32 ∷ e33 ∷ e34 ∷ e35 ∷ e36 ∷ e37 ∷ e38 ∷ e39·1 ∷ e40 ∷ e41·1 ∷ e42 ∷ e43·1 ∷ e44 ∷ e45 ∷ e46 ∷ e47 ∷ List.[]
 
 abbrev pub t80 : List.List Row.Entry
-t80 = e32 ∷ e33 ∷ e34 ∷ e35 ∷ e36 ∷ e37 ∷ e38 ∷ e39 ∷ e40·1 ∷ e41 ∷ e42·1 ∷ e43 ∷ e44 ∷ e45 ∷ e46 ∷ e47 ∷ List.[]
+t80 = e0 ∷ e1 ∷ e2·4 ∷ e3 ∷ e4·4 ∷ e5·4 ∷ e6 ∷ e7 ∷ e8 ∷ e9 ∷ e10·1 ∷ e11·1 ∷ e12 ∷ e13 ∷ e14 ∷ e15 ∷ List.[]
 
 abbrev pub t81 : List.List Row.Entry
-t81 = e0 ∷ e1 ∷ e2·4 ∷ e3 ∷ e4·4 ∷ e5·4 ∷ e6 ∷ e7 ∷ e8 ∷ e9 ∷ e10 ∷ e11·1 ∷ e12 ∷ e13 ∷ e14 ∷ e15 ∷ List.[]
+t81 = e32 ∷ e33 ∷ e34 ∷ e35 ∷ e36 ∷ e37 ∷ e38 ∷ e39·2 ∷ e40 ∷ e41·2 ∷ e42 ∷ e43·2 ∷ e44 ∷ e45 ∷ e46 ∷ e47 ∷ List.[]
 
 abbrev pub t82 : List.List Row.Entry
-t82 = e32 ∷ e33 ∷ e34 ∷ e35 ∷ e36 ∷ e37 ∷ e38 ∷ e39 ∷ e40·1 ∷ e41 ∷ e42·1 ∷ e43·1 ∷ e44 ∷ e45 ∷ e46 ∷ e47 ∷ List.[]
+t82 = e0 ∷ e1 ∷ e2·4 ∷ e3 ∷ e4·4 ∷ e5·4 ∷ e6·1 ∷ e7 ∷ e8 ∷ e9 ∷ e10·1 ∷ e11·1 ∷ e12 ∷ e13 ∷ e14 ∷ e15 ∷ List.[]
 
 abbrev pub t83 : List.List Row.Entry
-t83 = e32 ∷ e33 ∷ e34 ∷ e35 ∷ e36 ∷ e37 ∷ e38 ∷ e39 ∷ e40·1 ∷ e41 ∷ e42·1 ∷ e43 ∷ e44·1 ∷ e45 ∷ e46 ∷ e47 ∷ List.[]
+t83 = e0 ∷ e1 ∷ e2 ∷ e3 ∷ e4·4 ∷ e5·4 ∷ e6·1 ∷ e7 ∷ e8 ∷ e9 ∷ e10·1 ∷ e11·1 ∷ e12 ∷ e13 ∷ e14 ∷ e15 ∷ List.[]
 
 abbrev pub t84 : List.List Row.Entry
-t84 = e0 ∷ e1 ∷ e2·4 ∷ e3 ∷ e4·4 ∷ e5·4 ∷ e6 ∷ e7 ∷ e8 ∷ e9 ∷ e10 ∷ e11·1 ∷ e12·1 ∷ e13 ∷ e14 ∷ e15 ∷ List.[]
+t84 = e32 ∷ e33 ∷ e34 ∷ e35 ∷ e36 ∷ e37 ∷ e38 ∷ e39 ∷ e40 ∷ e41·2 ∷ e42 ∷ e43·2 ∷ e44 ∷ e45 ∷ e46 ∷ e47 ∷ List.[]
 
 abbrev pub t85 : List.List Row.Entry
-t85 = e32 ∷ e33 ∷ e34 ∷ e35 ∷ e36 ∷ e37 ∷ e38 ∷ e39 ∷ e40·2 ∷ e41 ∷ e42·2 ∷ e43 ∷ e44·2 ∷ e45 ∷ e46 ∷ e47 ∷ List.[]
+t85 = e0 ∷ e1 ∷ e2 ∷ e3 ∷ e4 ∷ e5·4 ∷ e6·1 ∷ e7 ∷ e8 ∷ e9 ∷ e10·1 ∷ e11·1 ∷ e12 ∷ e13 ∷ e14 ∷ e15 ∷ List.[]
 
 abbrev pub t86 : List.List Row.Entry
-t86 = e0 ∷ e1 ∷ e2·4 ∷ e3 ∷ e4·4 ∷ e5·4 ∷ e6·1 ∷ e7 ∷ e8 ∷ e9 ∷ e10 ∷ e11·1 ∷ e12·1 ∷ e13 ∷ e14 ∷ e15 ∷ List.[]
+t86 = e32 ∷ e33 ∷ e34 ∷ e35 ∷ e36 ∷ e37 ∷ e38 ∷ e39 ∷ e40 ∷ e41 ∷ e42 ∷ e43·2 ∷ e44 ∷ e45 ∷ e46 ∷ e47 ∷ List.[]
 
 abbrev pub t87 : List.List Row.Entry
-t87 = e0 ∷ e1 ∷ e2 ∷ e3 ∷ e4·4 ∷ e5·4 ∷ e6·1 ∷ e7 ∷ e8 ∷ e9 ∷ e10 ∷ e11·1 ∷ e12·1 ∷ e13 ∷ e14 ∷ e15 ∷ List.[]
+t87 = e32 ∷ e33 ∷ e34 ∷ e35 ∷ e36 ∷ e37 ∷ e38 ∷ e39 ∷ e40 ∷ e41 ∷ e42 ∷ e43 ∷ e44·1 ∷ e45 ∷ e46 ∷ e47 ∷ List.[]
 
 abbrev pub t88 : List.List Row.Entry
-t88 = e32 ∷ e33 ∷ e34 ∷ e35 ∷ e36 ∷ e37 ∷ e38 ∷ e39 ∷ e40 ∷ e41 ∷ e42·2 ∷ e43 ∷ e44·2 ∷ e45 ∷ e46 ∷ e47 ∷ List.[]
+t88 = e0 ∷ e1·3 ∷ e2 ∷ e3 ∷ e4 ∷ e5 ∷ e6 ∷ e7 ∷ e8 ∷ e9 ∷ e10·1 ∷ e11 ∷ e12 ∷ e13 ∷ e14 ∷ e15 ∷ List.[]
 
 abbrev pub t89 : List.List Row.Entry
-t89 = e0 ∷ e1 ∷ e2 ∷ e3 ∷ e4 ∷ e5·4 ∷ e6·1 ∷ e7 ∷ e8 ∷ e9 ∷ e10 ∷ e11·1 ∷ e12·1 ∷ e13 ∷ e14 ∷ e15 ∷ List.[]
+t89 = e32 ∷ e33 ∷ e34 ∷ e35 ∷ e36 ∷ e37 ∷ e38 ∷ e39 ∷ e40 ∷ e41 ∷ e42 ∷ e43 ∷ e44 ∷ e45·1 ∷ e46 ∷ e47 ∷ List.[]
 
 abbrev pub t90 : List.List Row.Entry
-t90 = e32 ∷ e33 ∷ e34 ∷ e35 ∷ e36 ∷ e37 ∷ e38 ∷ e39 ∷ e40 ∷ e41 ∷ e42 ∷ e43 ∷ e44·2 ∷ e45 ∷ e46 ∷ e47 ∷ List.[]
+t90 = e32 ∷ e33 ∷ e34 ∷ e35 ∷ e36 ∷ e37 ∷ e38 ∷ e39 ∷ e40 ∷ e41 ∷ e42 ∷ e43 ∷ e44 ∷ e45 ∷ e46·1 ∷ e47 ∷ List.[]
 
 abbrev pub t91 : List.List Row.Entry
-t91 = e32 ∷ e33 ∷ e34 ∷ e35 ∷ e36 ∷ e37 ∷ e38 ∷ e39 ∷ e40 ∷ e41 ∷ e42 ∷ e43 ∷ e44 ∷ e45·1 ∷ e46 ∷ e47 ∷ List.[]
+t91 = e0 ∷ e1·3 ∷ e2·5 ∷ e3 ∷ e4 ∷ e5 ∷ e6 ∷ e7 ∷ e8 ∷ e9 ∷ e10·1 ∷ e11 ∷ e12 ∷ e13 ∷ e14 ∷ e15 ∷ List.[]
 
 abbrev pub t92 : List.List Row.Entry
-t92 = e0 ∷ e1·3 ∷ e2 ∷ e3 ∷ e4 ∷ e5 ∷ e6 ∷ e7 ∷ e8 ∷ e9 ∷ e10 ∷ e11·1 ∷ e12 ∷ e13 ∷ e14 ∷ e15 ∷ List.[]
+t92 = e32 ∷ e33 ∷ e34 ∷ e35 ∷ e36 ∷ e37 ∷ e38 ∷ e39 ∷ e40 ∷ e41 ∷ e42 ∷ e43 ∷ e44 ∷ e45 ∷ e46·1 ∷ e47·1 ∷ List.[]
 
 abbrev pub t93 : List.List Row.Entry
-t93 = e32 ∷ e33 ∷ e34 ∷ e35 ∷ e36 ∷ e37 ∷ e38 ∷ e39 ∷ e40 ∷ e41 ∷ e42 ∷ e43 ∷ e44 ∷ e45 ∷ e46·1 ∷ e47 ∷ List.[]
+t93 = e48·1 ∷ e49 ∷ e50 ∷ e51 ∷ e52 ∷ List.[]
 
 abbrev pub t94 : List.List Row.Entry
-t94 = e32 ∷ e33 ∷ e34 ∷ e35 ∷ e36 ∷ e37 ∷ e38 ∷ e39 ∷ e40 ∷ e41 ∷ e42 ∷ e43 ∷ e44 ∷ e45 ∷ e46 ∷ e47·1 ∷ List.[]
+t94 = e0 ∷ e1·3 ∷ e2·5 ∷ e3 ∷ e4·5 ∷ e5 ∷ e6 ∷ e7 ∷ e8 ∷ e9 ∷ e10·1 ∷ e11 ∷ e12 ∷ e13 ∷ e14 ∷ e15 ∷ List.[]
 
 abbrev pub t95 : List.List Row.Entry
-t95 = e0 ∷ e1·3 ∷ e2·5 ∷ e3 ∷ e4 ∷ e5 ∷ e6 ∷ e7 ∷ e8 ∷ e9 ∷ e10 ∷ e11·1 ∷ e12 ∷ e13 ∷ e14 ∷ e15 ∷ List.[]
+t95 = e48·1 ∷ e49·1 ∷ e50 ∷ e51 ∷ e52 ∷ List.[]
 
 abbrev pub t96 : List.List Row.Entry
-t96 = e48·1 ∷ e49 ∷ e50 ∷ e51 ∷ e52 ∷ e53 ∷ List.[]
+t96 = e48·1 ∷ e49 ∷ e50·1 ∷ e51 ∷ e52 ∷ List.[]
 
 abbrev pub t97 : List.List Row.Entry
-t97 = e48 ∷ e49·1 ∷ e50 ∷ e51 ∷ e52 ∷ e53 ∷ List.[]
+t97 = e0 ∷ e1·3 ∷ e2·5 ∷ e3 ∷ e4·5 ∷ e5·5 ∷ e6 ∷ e7 ∷ e8 ∷ e9 ∷ e10·1 ∷ e11 ∷ e12 ∷ e13 ∷ e14 ∷ e15 ∷ List.[]
 
 abbrev pub t98 : List.List Row.Entry
-t98 = e0 ∷ e1·3 ∷ e2·5 ∷ e3 ∷ e4·5 ∷ e5 ∷ e6 ∷ e7 ∷ e8 ∷ e9 ∷ e10 ∷ e11·1 ∷ e12 ∷ e13 ∷ e14 ∷ e15 ∷ List.[]
+t98 = e48·1 ∷ e49 ∷ e50·1 ∷ e51·1 ∷ e52 ∷ List.[]
 
 abbrev pub t99 : List.List Row.Entry
-t99 = e48 ∷ e49·1 ∷ e50·1 ∷ e51 ∷ e52 ∷ e53 ∷ List.[]
+t99 = e48·1 ∷ e49 ∷ e50·1 ∷ e51 ∷ e52·1 ∷ List.[]
 
 abbrev pub t100 : List.List Row.Entry
-t100 = e48 ∷ e49·1 ∷ e50 ∷ e51·1 ∷ e52 ∷ e53 ∷ List.[]
+t100 = e0 ∷ e1·3 ∷ e2·5 ∷ e3 ∷ e4·5 ∷ e5·5 ∷ e6 ∷ e7 ∷ e8 ∷ e9 ∷ e10·1 ∷ e11·1 ∷ e12 ∷ e13 ∷ e14 ∷ e15 ∷ List.[]
 
 abbrev pub t101 : List.List Row.Entry
-t101 = e0 ∷ e1·3 ∷ e2·5 ∷ e3 ∷ e4·5 ∷ e5·5 ∷ e6 ∷ e7 ∷ e8 ∷ e9 ∷ e10 ∷ e11·1 ∷ e12 ∷ e13 ∷ e14 ∷ e15 ∷ List.[]
+t101 = e32 ∷ e33 ∷ e34 ∷ e35 ∷ e36 ∷ e37 ∷ e38 ∷ e39 ∷ e40 ∷ e41 ∷ e42 ∷ e43 ∷ e44 ∷ e45 ∷ e46·2 ∷ e47 ∷ List.[]
 
 abbrev pub t102 : List.List Row.Entry
-t102 = e48 ∷ e49·1 ∷ e50 ∷ e51·1 ∷ e52·1 ∷ e53 ∷ List.[]
+t102 = e48·2 ∷ e49 ∷ e50·2 ∷ e51 ∷ e52·2 ∷ List.[]
 
 abbrev pub t103 : List.List Row.Entry
-t103 = e48 ∷ e49·1 ∷ e50 ∷ e51·1 ∷ e52 ∷ e53·1 ∷ List.[]
+t103 = e0 ∷ e1·3 ∷ e2·5 ∷ e3 ∷ e4·5 ∷ e5·5 ∷ e6·1 ∷ e7 ∷ e8 ∷ e9 ∷ e10·1 ∷ e11·1 ∷ e12 ∷ e13 ∷ e14 ∷ e15 ∷ List.[]
 
 abbrev pub t104 : List.List Row.Entry
-t104 = e0 ∷ e1·3 ∷ e2·5 ∷ e3 ∷ e4·5 ∷ e5·5 ∷ e6 ∷ e7 ∷ e8 ∷ e9 ∷ e10 ∷ e11·1 ∷ e12·1 ∷ e13 ∷ e14 ∷ e15 ∷ List.[]
+t104 = e0 ∷ e1 ∷ e2·5 ∷ e3 ∷ e4·5 ∷ e5·5 ∷ e6·1 ∷ e7 ∷ e8 ∷ e9 ∷ e10·1 ∷ e11·1 ∷ e12 ∷ e13 ∷ e14 ∷ e15 ∷ List.[]
 
 abbrev pub t105 : List.List Row.Entry
-t105 = e32 ∷ e33 ∷ e34 ∷ e35 ∷ e36 ∷ e37 ∷ e38 ∷ e39 ∷ e40 ∷ e41 ∷ e42 ∷ e43 ∷ e44 ∷ e45 ∷ e46 ∷ e47·2 ∷ List.[]
+t105 = e0 ∷ e1 ∷ e2 ∷ e3 ∷ e4·5 ∷ e5·5 ∷ e6·1 ∷ e7 ∷ e8 ∷ e9 ∷ e10·1 ∷ e11·1 ∷ e12 ∷ e13 ∷ e14 ∷ e15 ∷ List.[]
 
 abbrev pub t106 : List.List Row.Entry
-t106 = e48 ∷ e49·2 ∷ e50 ∷ e51·2 ∷ e52 ∷ e53·2 ∷ List.[]
+t106 = e48 ∷ e49 ∷ e50·2 ∷ e51 ∷ e52·2 ∷ List.[]
 
 abbrev pub t107 : List.List Row.Entry
-t107 = e0 ∷ e1·3 ∷ e2·5 ∷ e3 ∷ e4·5 ∷ e5·5 ∷ e6·1 ∷ e7 ∷ e8 ∷ e9 ∷ e10 ∷ e11·1 ∷ e12·1 ∷ e13 ∷ e14 ∷ e15 ∷ List.[]
+t107 = e0 ∷ e1 ∷ e2 ∷ e3 ∷ e4 ∷ e5·5 ∷ e6·1 ∷ e7 ∷ e8 ∷ e9 ∷ e10·1 ∷ e11·1 ∷ e12 ∷ e13 ∷ e14 ∷ e15 ∷ List.[]
 
 abbrev pub t108 : List.List Row.Entry
-t108 = e0 ∷ e1 ∷ e2·5 ∷ e3 ∷ e4·5 ∷ e5·5 ∷ e6·1 ∷ e7 ∷ e8 ∷ e9 ∷ e10 ∷ e11·1 ∷ e12·1 ∷ e13 ∷ e14 ∷ e15 ∷ List.[]
+t108 = e48 ∷ e49 ∷ e50 ∷ e51 ∷ e52·2 ∷ List.[]
 
 abbrev pub t109 : List.List Row.Entry
-t109 = e0 ∷ e1 ∷ e2 ∷ e3 ∷ e4·5 ∷ e5·5 ∷ e6·1 ∷ e7 ∷ e8 ∷ e9 ∷ e10 ∷ e11·1 ∷ e12·1 ∷ e13 ∷ e14 ∷ e15 ∷ List.[]
+t109 = e0 ∷ e1 ∷ e2 ∷ e3 ∷ e4 ∷ e5 ∷ e6 ∷ e7 ∷ e8 ∷ e9 ∷ e10·1 ∷ e11·1 ∷ e12 ∷ e13 ∷ e14 ∷ e15 ∷ List.[]
 
 abbrev pub t110 : List.List Row.Entry
-t110 = e48 ∷ e49 ∷ e50 ∷ e51·2 ∷ e52 ∷ e53·2 ∷ List.[]
+t110 = e0·1 ∷ e1 ∷ e2 ∷ e3 ∷ e4 ∷ e5 ∷ e6·1 ∷ e7 ∷ e8 ∷ e9 ∷ e10·1 ∷ e11·1 ∷ e12 ∷ e13 ∷ e14 ∷ e15 ∷ List.[]
 
 abbrev pub t111 : List.List Row.Entry
-t111 = e0 ∷ e1 ∷ e2 ∷ e3 ∷ e4 ∷ e5·5 ∷ e6·1 ∷ e7 ∷ e8 ∷ e9 ∷ e10 ∷ e11·1 ∷ e12·1 ∷ e13 ∷ e14 ∷ e15 ∷ List.[]
-
-abbrev pub t112 : List.List Row.Entry
-t112 = e48 ∷ e49 ∷ e50 ∷ e51 ∷ e52 ∷ e53·2 ∷ List.[]
-
-abbrev pub t113 : List.List Row.Entry
-t113 = e0 ∷ e1 ∷ e2 ∷ e3 ∷ e4 ∷ e5 ∷ e6 ∷ e7 ∷ e8 ∷ e9 ∷ e10 ∷ e11·1 ∷ e12·1 ∷ e13 ∷ e14 ∷ e15 ∷ List.[]
-
-abbrev pub t114 : List.List Row.Entry
-t114 = e0·1 ∷ e1 ∷ e2 ∷ e3 ∷ e4 ∷ e5 ∷ e6·1 ∷ e7 ∷ e8 ∷ e9 ∷ e10 ∷ e11·1 ∷ e12·1 ∷ e13 ∷ e14 ∷ e15 ∷ List.[]
-
-abbrev pub t115 : List.List Row.Entry
-t115 = e0·1 ∷ e1 ∷ e2 ∷ e3 ∷ e4 ∷ e5 ∷ e6·1 ∷ e7 ∷ e8 ∷ e9 ∷ e10 ∷ e11 ∷ e12·1 ∷ e13 ∷ e14 ∷ e15 ∷ List.[]
+t111 = e0·1 ∷ e1 ∷ e2 ∷ e3 ∷ e4 ∷ e5 ∷ e6·1 ∷ e7 ∷ e8 ∷ e9 ∷ e10 ∷ e11·1 ∷ e12 ∷ e13 ∷ e14 ∷ e15 ∷ List.[]
 
 abbrev pub T0 : Row.Cx
 T0 = record { locals = List._++_ t0 (List._++_ t1 (List._++_ t2 t3)); slots = List.[] }
@@ -1434,374 +1405,358 @@ abbrev pub T7 : Row.Cx
 T7 = record { locals = List._++_ t6 (List._++_ t1 (List._++_ t2 t3)); slots = List.[] }
 
 abbrev pub T8 : Row.Cx
-T8 = record { locals = List._++_ t7 (List._++_ t1 (List._++_ t2 t3)); slots = List.[] }
-
-abbrev pub T9 : Row.Cx
-T9 = record { locals = List._++_ t8 (List._++_ t1 (List._++_ t2 t3)); slots = List.[] }
+T8 = record { locals = List._++_ t5 (List._++_ t1 (List._++_ t2 t3)); slots = List.[] }
 
 abbrev pub T10 : Row.Cx
-T10 = record { locals = List._++_ t8 (List._++_ t1 (List._++_ t2 t3)); slots = List.[] }
+T10 = record { locals = List._++_ t7 (List._++_ t1 (List._++_ t2 t3)); slots = List.[] }
 
-abbrev pub T12 : Row.Cx
-T12 = record { locals = List._++_ t9 (List._++_ t1 (List._++_ t2 t3)); slots = List.[] }
+abbrev pub T11 : Row.Cx
+T11 = record { locals = List._++_ t8 (List._++_ t1 (List._++_ t2 t3)); slots = List.[] }
 
 abbrev pub T13 : Row.Cx
-T13 = record { locals = List._++_ t10 (List._++_ t1 (List._++_ t2 t3)); slots = List.[] }
+T13 = record { locals = List._++_ t9 (List._++_ t1 (List._++_ t2 t3)); slots = List.[] }
 
-abbrev pub T15 : Row.Cx
-T15 = record { locals = List._++_ t11 (List._++_ t1 (List._++_ t2 t3)); slots = List.[] }
+abbrev pub T14 : Row.Cx
+T14 = record { locals = List._++_ t10 (List._++_ t1 (List._++_ t2 t3)); slots = List.[] }
 
 abbrev pub T16 : Row.Cx
-T16 = record { locals = List._++_ t12 (List._++_ t13 (List._++_ t2 t3)); slots = List.[] }
+T16 = record { locals = List._++_ t11 (List._++_ t12 (List._++_ t2 t3)); slots = List.[] }
 
-abbrev pub T18 : Row.Cx
-T18 = record { locals = List._++_ t14 (List._++_ t15 (List._++_ t2 t3)); slots = List.[] }
+abbrev pub T17 : Row.Cx
+T17 = record { locals = List._++_ t11 (List._++_ t13 (List._++_ t2 t3)); slots = List.[] }
 
 abbrev pub T19 : Row.Cx
-T19 = record { locals = List._++_ t14 (List._++_ t16 (List._++_ t2 t3)); slots = List.[] }
+T19 = record { locals = List._++_ t14 (List._++_ t15 (List._++_ t2 t3)); slots = List.[] }
 
-abbrev pub T21 : Row.Cx
-T21 = record { locals = List._++_ t17 (List._++_ t18 (List._++_ t2 t3)); slots = List.[] }
+abbrev pub T20 : Row.Cx
+T20 = record { locals = List._++_ t14 (List._++_ t16 (List._++_ t2 t3)); slots = List.[] }
 
 abbrev pub T22 : Row.Cx
-T22 = record { locals = List._++_ t17 (List._++_ t19 (List._++_ t2 t3)); slots = List.[] }
+T22 = record { locals = List._++_ t17 (List._++_ t18 (List._++_ t2 t3)); slots = List.[] }
+
+abbrev pub T23 : Row.Cx
+T23 = record { locals = List._++_ t17 (List._++_ t19 (List._++_ t2 t3)); slots = List.[] }
 
 abbrev pub T24 : Row.Cx
 T24 = record { locals = List._++_ t20 (List._++_ t21 (List._++_ t2 t3)); slots = List.[] }
 
 abbrev pub T25 : Row.Cx
-T25 = record { locals = List._++_ t20 (List._++_ t22 (List._++_ t2 t3)); slots = List.[] }
-
-abbrev pub T26 : Row.Cx
-T26 = record { locals = List._++_ t23 (List._++_ t24 (List._++_ t2 t3)); slots = List.[] }
+T25 = record { locals = List._++_ t22 (List._++_ t21 (List._++_ t2 t3)); slots = List.[] }
 
 abbrev pub T27 : Row.Cx
-T27 = record { locals = List._++_ t25 (List._++_ t24 (List._++_ t2 t3)); slots = List.[] }
+T27 = record { locals = List._++_ t23 (List._++_ t21 (List._++_ t2 t3)); slots = List.[] }
 
-abbrev pub T29 : Row.Cx
-T29 = record { locals = List._++_ t26 (List._++_ t24 (List._++_ t2 t3)); slots = List.[] }
+abbrev pub T30 : Row.Cx
+T30 = record { locals = List._++_ t24 (List._++_ t21 (List._++_ t2 t3)); slots = List.[] }
 
-abbrev pub T32 : Row.Cx
-T32 = record { locals = List._++_ t27 (List._++_ t28 (List._++_ t2 t3)); slots = List.[] }
+abbrev pub T33 : Row.Cx
+T33 = record { locals = List._++_ t25 (List._++_ t26 (List._++_ t2 t3)); slots = List.[] }
 
-abbrev pub T35 : Row.Cx
-T35 = record { locals = List._++_ t29 (List._++_ t30 (List._++_ t2 t3)); slots = List.[] }
+abbrev pub T36 : Row.Cx
+T36 = record { locals = List._++_ t27 (List._++_ t28 (List._++_ t2 t3)); slots = List.[] }
 
-abbrev pub T38 : Row.Cx
-T38 = record { locals = List._++_ t31 (List._++_ t32 (List._++_ t2 t3)); slots = List.[] }
+abbrev pub T39 : Row.Cx
+T39 = record { locals = List._++_ t6 (List._++_ t1 (List._++_ t2 t3)); slots = List.[] }
 
-abbrev pub T41 : Row.Cx
-T41 = record { locals = List._++_ t7 (List._++_ t1 (List._++_ t2 t3)); slots = List.[] }
+abbrev pub T40 : Row.Cx
+T40 = record { locals = List._++_ t6 (List._++_ t1 (List._++_ t2 t3)); slots = List.[] }
 
-abbrev pub T42 : Row.Cx
-T42 = record { locals = List._++_ t7 (List._++_ t1 (List._++_ t2 t3)); slots = List.[] }
+abbrev pub T43 : Row.Cx
+T43 = record { locals = List._++_ t29 (List._++_ t30 (List._++_ t2 t3)); slots = List.[] }
 
-abbrev pub T45 : Row.Cx
-T45 = record { locals = List._++_ t33 (List._++_ t34 (List._++_ t2 t3)); slots = List.[] }
+abbrev pub T44 : Row.Cx
+T44 = record { locals = List._++_ t29 (List._++_ t31 (List._++_ t2 t3)); slots = List.[] }
 
 abbrev pub T46 : Row.Cx
-T46 = record { locals = List._++_ t33 (List._++_ t35 (List._++_ t2 t3)); slots = List.[] }
+T46 = record { locals = List._++_ t32 (List._++_ t33 (List._++_ t2 t3)); slots = List.[] }
 
-abbrev pub T48 : Row.Cx
-T48 = record { locals = List._++_ t36 (List._++_ t37 (List._++_ t2 t3)); slots = List.[] }
+abbrev pub T47 : Row.Cx
+T47 = record { locals = List._++_ t32 (List._++_ t34 (List._++_ t2 t3)); slots = List.[] }
 
 abbrev pub T49 : Row.Cx
-T49 = record { locals = List._++_ t36 (List._++_ t38 (List._++_ t2 t3)); slots = List.[] }
+T49 = record { locals = List._++_ t35 (List._++_ t36 (List._++_ t2 t3)); slots = List.[] }
 
-abbrev pub T51 : Row.Cx
-T51 = record { locals = List._++_ t39 (List._++_ t40 (List._++_ t2 t3)); slots = List.[] }
+abbrev pub T50 : Row.Cx
+T50 = record { locals = List._++_ t35 (List._++_ t37 (List._++_ t2 t3)); slots = List.[] }
 
 abbrev pub T52 : Row.Cx
-T52 = record { locals = List._++_ t39 (List._++_ t41 (List._++_ t2 t3)); slots = List.[] }
+T52 = record { locals = List._++_ t38 (List._++_ t39 (List._++_ t2 t3)); slots = List.[] }
+
+abbrev pub T53 : Row.Cx
+T53 = record { locals = List._++_ t38 (List._++_ t40 (List._++_ t2 t3)); slots = List.[] }
 
 abbrev pub T54 : Row.Cx
-T54 = record { locals = List._++_ t42 (List._++_ t43 (List._++_ t2 t3)); slots = List.[] }
+T54 = record { locals = List._++_ t41 (List._++_ t42 (List._++_ t2 t3)); slots = List.[] }
 
 abbrev pub T55 : Row.Cx
-T55 = record { locals = List._++_ t42 (List._++_ t44 (List._++_ t2 t3)); slots = List.[] }
-
-abbrev pub T56 : Row.Cx
-T56 = record { locals = List._++_ t45 (List._++_ t46 (List._++_ t2 t3)); slots = List.[] }
+T55 = record { locals = List._++_ t43 (List._++_ t42 (List._++_ t2 t3)); slots = List.[] }
 
 abbrev pub T57 : Row.Cx
-T57 = record { locals = List._++_ t47 (List._++_ t46 (List._++_ t2 t3)); slots = List.[] }
+T57 = record { locals = List._++_ t44 (List._++_ t45 (List._++_ t2 t3)); slots = List.[] }
 
-abbrev pub T59 : Row.Cx
-T59 = record { locals = List._++_ t48 (List._++_ t49 (List._++_ t2 t3)); slots = List.[] }
+abbrev pub T60 : Row.Cx
+T60 = record { locals = List._++_ t46 (List._++_ t47 (List._++_ t2 t3)); slots = List.[] }
 
-abbrev pub T62 : Row.Cx
-T62 = record { locals = List._++_ t50 (List._++_ t51 (List._++_ t2 t3)); slots = List.[] }
+abbrev pub T63 : Row.Cx
+T63 = record { locals = List._++_ t48 (List._++_ t49 (List._++_ t2 t3)); slots = List.[] }
 
-abbrev pub T65 : Row.Cx
-T65 = record { locals = List._++_ t52 (List._++_ t53 (List._++_ t2 t3)); slots = List.[] }
+abbrev pub T66 : Row.Cx
+T66 = record { locals = List._++_ t6 (List._++_ t1 (List._++_ t2 t3)); slots = List.[] }
 
-abbrev pub T68 : Row.Cx
-T68 = record { locals = List._++_ t7 (List._++_ t1 (List._++_ t2 t3)); slots = List.[] }
+abbrev pub T67 : Row.Cx
+T67 = record { locals = List._++_ t6 (List._++_ t1 (List._++_ t2 t3)); slots = List.[] }
 
-abbrev pub T69 : Row.Cx
-T69 = record { locals = List._++_ t7 (List._++_ t1 (List._++_ t2 t3)); slots = List.[] }
+abbrev pub T70 : Row.Cx
+T70 = record { locals = List._++_ t50 (List._++_ t51 (List._++_ t2 t3)); slots = List.[] }
 
-abbrev pub T72 : Row.Cx
-T72 = record { locals = List._++_ t54 (List._++_ t55 (List._++_ t2 t3)); slots = List.[] }
+abbrev pub T71 : Row.Cx
+T71 = record { locals = List._++_ t50 (List._++_ t52 (List._++_ t2 t3)); slots = List.[] }
 
 abbrev pub T73 : Row.Cx
-T73 = record { locals = List._++_ t54 (List._++_ t1 (List._++_ t56 t3)); slots = List.[] }
+T73 = record { locals = List._++_ t53 (List._++_ t52 (List._++_ t54 t3)); slots = List.[] }
 
-abbrev pub T75 : Row.Cx
-T75 = record { locals = List._++_ t57 (List._++_ t1 (List._++_ t58 t3)); slots = List.[] }
+abbrev pub T74 : Row.Cx
+T74 = record { locals = List._++_ t53 (List._++_ t52 (List._++_ t55 t3)); slots = List.[] }
 
 abbrev pub T76 : Row.Cx
-T76 = record { locals = List._++_ t57 (List._++_ t1 (List._++_ t59 t3)); slots = List.[] }
+T76 = record { locals = List._++_ t56 (List._++_ t52 (List._++_ t57 t3)); slots = List.[] }
 
-abbrev pub T78 : Row.Cx
-T78 = record { locals = List._++_ t60 (List._++_ t1 (List._++_ t61 t3)); slots = List.[] }
+abbrev pub T77 : Row.Cx
+T77 = record { locals = List._++_ t56 (List._++_ t52 (List._++_ t58 t3)); slots = List.[] }
 
 abbrev pub T79 : Row.Cx
-T79 = record { locals = List._++_ t60 (List._++_ t1 (List._++_ t62 t3)); slots = List.[] }
+T79 = record { locals = List._++_ t59 (List._++_ t52 (List._++_ t60 t3)); slots = List.[] }
+
+abbrev pub T80 : Row.Cx
+T80 = record { locals = List._++_ t59 (List._++_ t52 (List._++_ t61 t3)); slots = List.[] }
 
 abbrev pub T81 : Row.Cx
-T81 = record { locals = List._++_ t63 (List._++_ t1 (List._++_ t64 t3)); slots = List.[] }
+T81 = record { locals = List._++_ t62 (List._++_ t63 (List._++_ t64 t3)); slots = List.[] }
 
 abbrev pub T82 : Row.Cx
-T82 = record { locals = List._++_ t63 (List._++_ t1 (List._++_ t65 t3)); slots = List.[] }
-
-abbrev pub T83 : Row.Cx
-T83 = record { locals = List._++_ t66 (List._++_ t1 (List._++_ t67 t3)); slots = List.[] }
+T82 = record { locals = List._++_ t65 (List._++_ t63 (List._++_ t64 t3)); slots = List.[] }
 
 abbrev pub T84 : Row.Cx
-T84 = record { locals = List._++_ t68 (List._++_ t1 (List._++_ t67 t3)); slots = List.[] }
+T84 = record { locals = List._++_ t66 (List._++_ t1 (List._++_ t64 t3)); slots = List.[] }
 
-abbrev pub T86 : Row.Cx
-T86 = record { locals = List._++_ t69 (List._++_ t1 (List._++_ t70 t3)); slots = List.[] }
+abbrev pub T87 : Row.Cx
+T87 = record { locals = List._++_ t67 (List._++_ t1 (List._++_ t68 t3)); slots = List.[] }
 
-abbrev pub T89 : Row.Cx
-T89 = record { locals = List._++_ t71 (List._++_ t1 (List._++_ t72 t3)); slots = List.[] }
+abbrev pub T90 : Row.Cx
+T90 = record { locals = List._++_ t69 (List._++_ t1 (List._++_ t70 t3)); slots = List.[] }
 
-abbrev pub T92 : Row.Cx
-T92 = record { locals = List._++_ t73 (List._++_ t1 (List._++_ t74 t3)); slots = List.[] }
+abbrev pub T93 : Row.Cx
+T93 = record { locals = List._++_ t6 (List._++_ t1 (List._++_ t2 t3)); slots = List.[] }
 
-abbrev pub T95 : Row.Cx
-T95 = record { locals = List._++_ t7 (List._++_ t1 (List._++_ t2 t3)); slots = List.[] }
+abbrev pub T94 : Row.Cx
+T94 = record { locals = List._++_ t6 (List._++_ t1 (List._++_ t2 t3)); slots = List.[] }
 
-abbrev pub T96 : Row.Cx
-T96 = record { locals = List._++_ t7 (List._++_ t1 (List._++_ t2 t3)); slots = List.[] }
+abbrev pub T97 : Row.Cx
+T97 = record { locals = List._++_ t71 (List._++_ t1 (List._++_ t72 t3)); slots = List.[] }
 
-abbrev pub T99 : Row.Cx
-T99 = record { locals = List._++_ t75 (List._++_ t1 (List._++_ t76 t3)); slots = List.[] }
+abbrev pub T98 : Row.Cx
+T98 = record { locals = List._++_ t71 (List._++_ t1 (List._++_ t73 t3)); slots = List.[] }
 
 abbrev pub T100 : Row.Cx
-T100 = record { locals = List._++_ t75 (List._++_ t1 (List._++_ t77 t3)); slots = List.[] }
+T100 = record { locals = List._++_ t74 (List._++_ t1 (List._++_ t75 t3)); slots = List.[] }
 
-abbrev pub T102 : Row.Cx
-T102 = record { locals = List._++_ t78 (List._++_ t1 (List._++_ t79 t3)); slots = List.[] }
+abbrev pub T101 : Row.Cx
+T101 = record { locals = List._++_ t74 (List._++_ t1 (List._++_ t76 t3)); slots = List.[] }
 
 abbrev pub T103 : Row.Cx
-T103 = record { locals = List._++_ t78 (List._++_ t1 (List._++_ t80 t3)); slots = List.[] }
+T103 = record { locals = List._++_ t77 (List._++_ t1 (List._++_ t78 t3)); slots = List.[] }
+
+abbrev pub T104 : Row.Cx
+T104 = record { locals = List._++_ t77 (List._++_ t1 (List._++_ t79 t3)); slots = List.[] }
 
 abbrev pub T105 : Row.Cx
-T105 = record { locals = List._++_ t81 (List._++_ t1 (List._++_ t82 t3)); slots = List.[] }
+T105 = record { locals = List._++_ t80 (List._++_ t1 (List._++_ t81 t3)); slots = List.[] }
 
 abbrev pub T106 : Row.Cx
-T106 = record { locals = List._++_ t81 (List._++_ t1 (List._++_ t83 t3)); slots = List.[] }
-
-abbrev pub T107 : Row.Cx
-T107 = record { locals = List._++_ t84 (List._++_ t1 (List._++_ t85 t3)); slots = List.[] }
+T106 = record { locals = List._++_ t82 (List._++_ t1 (List._++_ t81 t3)); slots = List.[] }
 
 abbrev pub T108 : Row.Cx
-T108 = record { locals = List._++_ t86 (List._++_ t1 (List._++_ t85 t3)); slots = List.[] }
+T108 = record { locals = List._++_ t83 (List._++_ t1 (List._++_ t84 t3)); slots = List.[] }
 
-abbrev pub T110 : Row.Cx
-T110 = record { locals = List._++_ t87 (List._++_ t1 (List._++_ t88 t3)); slots = List.[] }
+abbrev pub T111 : Row.Cx
+T111 = record { locals = List._++_ t85 (List._++_ t1 (List._++_ t86 t3)); slots = List.[] }
 
-abbrev pub T113 : Row.Cx
-T113 = record { locals = List._++_ t89 (List._++_ t1 (List._++_ t90 t3)); slots = List.[] }
+abbrev pub T114 : Row.Cx
+T114 = record { locals = List._++_ t6 (List._++_ t1 (List._++_ t2 t3)); slots = List.[] }
 
-abbrev pub T116 : Row.Cx
-T116 = record { locals = List._++_ t7 (List._++_ t1 (List._++_ t2 t3)); slots = List.[] }
+abbrev pub T115 : Row.Cx
+T115 = record { locals = List._++_ t6 (List._++_ t1 (List._++_ t2 t3)); slots = List.[] }
 
 abbrev pub T117 : Row.Cx
-T117 = record { locals = List._++_ t7 (List._++_ t1 (List._++_ t2 t3)); slots = List.[] }
+T117 = record { locals = List._++_ t5 (List._++_ t1 (List._++_ t87 t3)); slots = List.[] }
+
+abbrev pub T118 : Row.Cx
+T118 = record { locals = List._++_ t5 (List._++_ t1 (List._++_ t2 t3)); slots = List.[] }
 
 abbrev pub T119 : Row.Cx
-T119 = record { locals = List._++_ t8 (List._++_ t1 (List._++_ t91 t3)); slots = List.[] }
+T119 = record { locals = List._++_ t5 (List._++_ t1 (List._++_ t2 t3)); slots = List.[] }
 
 abbrev pub T120 : Row.Cx
-T120 = record { locals = List._++_ t8 (List._++_ t1 (List._++_ t2 t3)); slots = List.[] }
+T120 = record { locals = List._++_ t5 (List._++_ t1 (List._++_ t2 t3)); slots = List.[] }
 
 abbrev pub T121 : Row.Cx
-T121 = record { locals = List._++_ t8 (List._++_ t1 (List._++_ t2 t3)); slots = List.[] }
+T121 = record { locals = List._++_ t5 (List._++_ t1 (List._++_ t87 t3)); slots = List.[] }
 
 abbrev pub T122 : Row.Cx
-T122 = record { locals = List._++_ t8 (List._++_ t1 (List._++_ t2 t3)); slots = List.[] }
+T122 = record { locals = List._++_ t5 (List._++_ t1 (List._++_ t2 t3)); slots = List.[] }
 
 abbrev pub T123 : Row.Cx
-T123 = record { locals = List._++_ t8 (List._++_ t1 (List._++_ t91 t3)); slots = List.[] }
-
-abbrev pub T124 : Row.Cx
-T124 = record { locals = List._++_ t8 (List._++_ t1 (List._++_ t2 t3)); slots = List.[] }
+T123 = record { locals = List._++_ t5 (List._++_ t1 (List._++_ t2 t3)); slots = List.[] }
 
 abbrev pub T125 : Row.Cx
-T125 = record { locals = List._++_ t8 (List._++_ t1 (List._++_ t2 t3)); slots = List.[] }
+T125 = record { locals = List._++_ t88 (List._++_ t1 (List._++_ t89 t3)); slots = List.[] }
 
-abbrev pub T127 : Row.Cx
-T127 = record { locals = List._++_ t92 (List._++_ t1 (List._++_ t93 t3)); slots = List.[] }
+abbrev pub T126 : Row.Cx
+T126 = record { locals = List._++_ t88 (List._++_ t1 (List._++_ t90 t3)); slots = List.[] }
 
 abbrev pub T128 : Row.Cx
-T128 = record { locals = List._++_ t92 (List._++_ t1 (List._++_ t94 t3)); slots = List.[] }
+T128 = record { locals = List._++_ t91 (List._++_ t1 (List._++_ t92 t3)); slots = List.[] }
 
-abbrev pub T130 : Row.Cx
-T130 = record { locals = List._++_ t95 (List._++_ t1 (List._++_ t94 t96)); slots = List.[] }
+abbrev pub T129 : Row.Cx
+T129 = record { locals = List._++_ t91 (List._++_ t1 (List._++_ t90 t93)); slots = List.[] }
 
 abbrev pub T131 : Row.Cx
-T131 = record { locals = List._++_ t95 (List._++_ t1 (List._++_ t94 t97)); slots = List.[] }
+T131 = record { locals = List._++_ t94 (List._++_ t1 (List._++_ t90 t95)); slots = List.[] }
 
-abbrev pub T133 : Row.Cx
-T133 = record { locals = List._++_ t98 (List._++_ t1 (List._++_ t94 t99)); slots = List.[] }
+abbrev pub T132 : Row.Cx
+T132 = record { locals = List._++_ t94 (List._++_ t1 (List._++_ t90 t96)); slots = List.[] }
 
 abbrev pub T134 : Row.Cx
-T134 = record { locals = List._++_ t98 (List._++_ t1 (List._++_ t94 t100)); slots = List.[] }
+T134 = record { locals = List._++_ t97 (List._++_ t1 (List._++_ t90 t98)); slots = List.[] }
+
+abbrev pub T135 : Row.Cx
+T135 = record { locals = List._++_ t97 (List._++_ t1 (List._++_ t90 t99)); slots = List.[] }
 
 abbrev pub T136 : Row.Cx
-T136 = record { locals = List._++_ t101 (List._++_ t1 (List._++_ t94 t102)); slots = List.[] }
+T136 = record { locals = List._++_ t100 (List._++_ t1 (List._++_ t101 t102)); slots = List.[] }
 
 abbrev pub T137 : Row.Cx
-T137 = record { locals = List._++_ t101 (List._++_ t1 (List._++_ t94 t103)); slots = List.[] }
-
-abbrev pub T138 : Row.Cx
-T138 = record { locals = List._++_ t104 (List._++_ t1 (List._++_ t105 t106)); slots = List.[] }
+T137 = record { locals = List._++_ t103 (List._++_ t1 (List._++_ t101 t102)); slots = List.[] }
 
 abbrev pub T139 : Row.Cx
-T139 = record { locals = List._++_ t107 (List._++_ t1 (List._++_ t105 t106)); slots = List.[] }
+T139 = record { locals = List._++_ t104 (List._++_ t1 (List._++_ t2 t102)); slots = List.[] }
 
-abbrev pub T141 : Row.Cx
-T141 = record { locals = List._++_ t108 (List._++_ t1 (List._++_ t2 t106)); slots = List.[] }
+abbrev pub T142 : Row.Cx
+T142 = record { locals = List._++_ t105 (List._++_ t1 (List._++_ t2 t106)); slots = List.[] }
 
-abbrev pub T144 : Row.Cx
-T144 = record { locals = List._++_ t109 (List._++_ t1 (List._++_ t2 t110)); slots = List.[] }
+abbrev pub T145 : Row.Cx
+T145 = record { locals = List._++_ t107 (List._++_ t1 (List._++_ t2 t108)); slots = List.[] }
 
-abbrev pub T147 : Row.Cx
-T147 = record { locals = List._++_ t111 (List._++_ t1 (List._++_ t2 t112)); slots = List.[] }
+abbrev pub T148 : Row.Cx
+T148 = record { locals = List._++_ t6 (List._++_ t1 (List._++_ t2 t3)); slots = List.[] }
 
-abbrev pub T150 : Row.Cx
-T150 = record { locals = List._++_ t7 (List._++_ t1 (List._++_ t2 t3)); slots = List.[] }
+abbrev pub T149 : Row.Cx
+T149 = record { locals = List._++_ t6 (List._++_ t1 (List._++_ t2 t3)); slots = List.[] }
 
 abbrev pub T151 : Row.Cx
-T151 = record { locals = List._++_ t7 (List._++_ t1 (List._++_ t2 t3)); slots = List.[] }
+T151 = record { locals = List._++_ t5 (List._++_ t1 (List._++_ t2 t3)); slots = List.[] }
+
+abbrev pub T152 : Row.Cx
+T152 = record { locals = List._++_ t109 (List._++_ t1 (List._++_ t2 t3)); slots = List.[] }
 
 abbrev pub T153 : Row.Cx
-T153 = record { locals = List._++_ t8 (List._++_ t1 (List._++_ t2 t3)); slots = List.[] }
+T153 = record { locals = List._++_ t6 (List._++_ t1 (List._++_ t2 t3)); slots = List.[] }
 
 abbrev pub T154 : Row.Cx
-T154 = record { locals = List._++_ t113 (List._++_ t1 (List._++_ t2 t3)); slots = List.[] }
+T154 = record { locals = List._++_ t110 (List._++_ t1 (List._++_ t2 t3)); slots = List.[] }
 
 abbrev pub T155 : Row.Cx
-T155 = record { locals = List._++_ t7 (List._++_ t1 (List._++_ t2 t3)); slots = List.[] }
+T155 = record { locals = List._++_ t111 (List._++_ t1 (List._++_ t2 t3)); slots = List.[] }
 
 abbrev pub T156 : Row.Cx
-T156 = record { locals = List._++_ t114 (List._++_ t1 (List._++_ t2 t3)); slots = List.[] }
-
-abbrev pub T157 : Row.Cx
-T157 = record { locals = List._++_ t115 (List._++_ t1 (List._++_ t2 t3)); slots = List.[] }
-
-abbrev pub T158 : Row.Cx
-T158 = record { locals = List._++_ t4 (List._++_ t1 (List._++_ t2 t3)); slots = List.[] }
+T156 = record { locals = List._++_ t4 (List._++_ t1 (List._++_ t2 t3)); slots = List.[] }
 
 abbrev pub O0 : Typed.Outs
 O0 = record { next = Option.none; exits = List.[]; returns = Option.some T1 }
 
 abbrev pub O1 : Typed.Outs
-O1 = Typed.withNext (Option.some T8) O0
+O1 = Typed.withNext (Option.some T7) O0
 
 abbrev pub O2 : Typed.Outs
 O2 = Typed.inBlock₀ O1
 
 abbrev pub O3 : Typed.Outs
-O3 = Typed.withNext (Option.some T10) O2
+O3 = Typed.withNext (Option.some T8) O2
 
 abbrev pub O4 : Typed.Outs
 O4 = Typed.inBlock₀ O3
 
 abbrev pub O5 : Typed.Outs
-O5 = Typed.withNext (Option.some T120) O4
+O5 = Typed.withNext (Option.some T118) O4
 
 abbrev pub O6 : Typed.Outs
-O6 = Typed.withNext (Option.some T124) O4
+O6 = Typed.withNext (Option.some T122) O4
 
 module _ (claims· : Claims) where
-  abbrev s0 : (bs : List.List Nat.ℕ) → Typed.Gives T0 T2
-  s0 = λ bs. Know.k-sl-known (Referent.fInt Syntax.w32) T0 5 4 ref9 Row.off 0 λ x. x
+  abbrev s0 : Typed.Gives T0 T2
+  s0 = Know.k-sl-known (Referent.fInt Syntax.w32) T0 5 4 ref9 Row.off 0 λ x. x
 
-  abbrev s1 : (bs : List.List Nat.ℕ) → Typed.Gives T2 T3
-  s1 = λ bs. Know.k-shs-known (Referent.fInt Syntax.w8) T2 7 5 ref10 Row.off 0 λ x. x
+  abbrev s1 : Typed.Gives T2 T3
+  s1 = Know.k-shs-known (Referent.fInt Syntax.w8) T2 7 5 ref10 Row.off 0 λ x. x
 
-  abbrev s2 : (bs : List.List Nat.ℕ) → Typed.Gives T3 T4
-  s2 = λ bs. Know.k-shs-known (Referent.fInt Syntax.w8) T3 8 6 ref11 Row.off 0 λ x. x
+  abbrev s2 : Typed.Gives T3 T4
+  s2 = Know.k-shs-known (Referent.fInt Syntax.w8) T3 8 6 ref11 Row.off 0 λ x. x
 
-  abbrev s3 : (bs : List.List Nat.ℕ) → Typed.Gives T4 T5
-  s3 = λ bs. Know.k-shs-known (Referent.fInt Syntax.w8) T4 9 7 ref12 Row.off 0 λ x. x
+  abbrev s3 : Typed.Gives T4 T5
+  s3 = Know.k-shs-known (Referent.fInt Syntax.w8) T4 9 7 ref12 Row.off 0 λ x. x
 
-  abbrev s4 : (bs : List.List Nat.ℕ) → Typed.Both T5 T6
-  s4 = λ bs. WayStmt.k-way-copy-out T5 (Row.out 6 (T5 .locals)) (λ u. Row.drop 6 (T5 .locals) u) 10
-      (Rows.whole (Declared.row RelayPacket.the-type)) (λ u. At.getAt (Request.the-type .parts) 2
-      (Request.struct .as-values (u .1 .1 .1 .1 .1 .1 .0))) (λ T′.
-      record { locals = Row.setRow 6 (6, Rows.whole (Declared.row Request.the-type)) T′; slots = List.[] }) (λ u T′ m′.
-      Row.set 6 (6, Rows.whole (Declared.row Request.the-type)) (u .1 .1 .1 .1 .1 .1 .0) T′ m′) (λ u. Unit) λ u. Unit
+  abbrev s4 : Typed.Mo T5 → Typed.Mo T6
+  s4 = Scalar.n-use T5 (Scalar.oFld 6 ((Syntax.field 2) ∷ (Syntax.field 0) ∷ List.[]) (Syntax.tyInt Syntax.w8) 192 λ x.
+      Reads.fieldV RelayPacket.the-type Laws.the-laws 0 (Request.struct .as-values x .1 .1 .0)) 10
+      (Rows.sc-here (Row.sInt Syntax.w8)) (Row.sInt Syntax.w8 .of)
 
-  abbrev s5 : (bs : List.List Nat.ℕ) → Typed.Mo T6 → Typed.Mo T7
-  s5 = λ bs. Scalar.n-use T6 (Scalar.oFld 10 ((Syntax.field 0) ∷ List.[]) (Syntax.tyInt Syntax.w8) 0
-      (Reads.fieldV RelayPacket.the-type Laws.the-laws 0)) 11 (Rows.sc-here (Row.sInt Syntax.w8))
-      (Row.sInt Syntax.w8 .of)
+  abbrev s6 : Typed.Gives T6 T10
+  s6 = Relend.k-sl-relend RelayPending.row T6 1 12 0 8 ref5 ref0 Row.off λ x. x
 
-  abbrev s6 : (bs : List.List Nat.ℕ) → Typed.Mo T7 → Typed.Mo T9
-  s6 = λ bs. Scalar.n-room T7 10 Laws.mir
-
-  abbrev s8 : (bs : List.List Nat.ℕ) → Typed.Gives T9 T12
-  s8 = λ bs. Relend.k-sl-relend RelayPending.row T9 1 13 0 8 ref5 ref0 Row.off λ x. x
-
-  abbrev s9 : (bs : List.List Nat.ℕ) → Typed.Asks T12 T13
-  s9 = λ bs. Relend.k-sl-aggregate RelayPending.row (Relend.asMut RelayPending.row) T12 13 14 8 ref0 ref0 (λ x. x) (Scalar.oFld
+  abbrev s7 : Typed.Asks T10 T11
+  s7 = Relend.k-sl-aggregate RelayPending.row (Relend.asMut RelayPending.row) T10 12 13 8 ref0 ref0 (λ x. x) (Scalar.oFld
       1 ((Syntax.field 1) ∷ List.[]) (Syntax.tyInt Syntax.w64) 8 λ v. Shared.lenV (v .0))
 
-  abbrev s11 : (bs : List.List Nat.ℕ) → Typed.Gives T13 T15
-  s11 = λ bs. Relend.k-sl-relend RelayCircuit.row T13 2 15 1 9 ref6 ref1 Row.off λ x. x
+  abbrev s9 : Typed.Gives T11 T13
+  s9 = Relend.k-sl-relend RelayCircuit.row T11 2 14 1 9 ref6 ref1 Row.off λ x. x
 
-  abbrev s12 : (bs : List.List Nat.ℕ) → Typed.Asks T15 T16
-  s12 = λ bs. Relend.k-sl-aggregate RelayCircuit.row (Relend.asMut RelayCircuit.row) T15 15 16 9 ref1 ref1 (λ x. x) (Scalar.oFld
+  abbrev s10 : Typed.Asks T13 T14
+  s10 = Relend.k-sl-aggregate RelayCircuit.row (Relend.asMut RelayCircuit.row) T13 14 15 9 ref1 ref1 (λ x. x) (Scalar.oFld
       2 ((Syntax.field 1) ∷ List.[]) (Syntax.tyInt Syntax.w64) 8 λ v. Shared.lenV (v .0))
 
-  abbrev s14 : (bs : List.List Nat.ℕ) → Typed.Gives T16 T18
-  s14 = λ bs. Relend.k-sl-relend ReservationUsage.row T16 3 17 2 10 ref7 ref2 Row.off λ x. x
+  abbrev s12 : Typed.Gives T14 T16
+  s12 = Relend.k-sl-relend ReservationUsage.row T14 3 16 2 10 ref7 ref2 Row.off λ x. x
 
-  abbrev s15 : (bs : List.List Nat.ℕ) → Typed.Asks T18 T19
-  s15 = λ bs. Relend.k-sl-aggregate ReservationUsage.row (Relend.asMut ReservationUsage.row) T18 17 18 10 ref2 ref2
-      (λ x. x) (Scalar.oFld 3 ((Syntax.field 1) ∷ List.[]) (Syntax.tyInt Syntax.w64) 8 λ v. Shared.lenV (v .0))
+  abbrev s13 : Typed.Asks T16 T17
+  s13 = Relend.k-sl-aggregate ReservationUsage.row (Relend.asMut ReservationUsage.row) T16 16 17 10 ref2 ref2 (λ x. x) (Scalar.oFld
+      3 ((Syntax.field 1) ∷ List.[]) (Syntax.tyInt Syntax.w64) 8 λ v. Shared.lenV (v .0))
 
-  abbrev s17 : (bs : List.List Nat.ℕ) → Typed.Gives T19 T21
-  s17 = λ bs. Relend.k-sl-relend InflightAction.row T19 4 19 3 11 ref8 ref3 Row.off λ x. x
+  abbrev s15 : Typed.Gives T17 T19
+  s15 = Relend.k-sl-relend InflightAction.row T17 4 18 3 11 ref8 ref3 Row.off λ x. x
 
-  abbrev s18 : (bs : List.List Nat.ℕ) → Typed.Asks T21 T22
-  s18 = λ bs. Relend.k-sl-aggregate InflightAction.row (Relend.asMut InflightAction.row) T21 19 20 11 ref3 ref3
-      (λ x. x) (Scalar.oFld 4 ((Syntax.field 1) ∷ List.[]) (Syntax.tyInt Syntax.w64) 8 λ v. Shared.lenV (v .0))
+  abbrev s16 : Typed.Asks T19 T20
+  s16 = Relend.k-sl-aggregate InflightAction.row (Relend.asMut InflightAction.row) T19 18 19 11 ref3 ref3 (λ x. x) (Scalar.oFld
+      4 ((Syntax.field 1) ∷ List.[]) (Syntax.tyInt Syntax.w64) 8 λ v. Shared.lenV (v .0))
 
-  abbrev s20 : (bs : List.List Nat.ℕ) → Typed.Gives T22 T24
-  s20 = λ bs. Relend.k-sl-relend (Referent.rtF (Referent.fInt Syntax.w32)) T22 5 21 4 12 ref9 ref4 Row.off λ x. x
+  abbrev s18 : Typed.Gives T20 T22
+  s18 = Relend.k-sl-relend (Referent.rtF (Referent.fInt Syntax.w32)) T20 5 20 4 12 ref9 ref4 Row.off λ x. x
 
-  abbrev s21 : (bs : List.List Nat.ℕ) → Typed.Asks T24 T25
-  s21 = λ bs. Relend.k-sl-aggregate (Referent.rtF (Referent.fInt Syntax.w32))
-      (Relend.asMut (Referent.rtF (Referent.fInt Syntax.w32))) T24 21 22 12 ref4 ref4 (λ x. x) (Scalar.oFld 5
+  abbrev s19 : Typed.Asks T22 T23
+  s19 = Relend.k-sl-aggregate (Referent.rtF (Referent.fInt Syntax.w32))
+      (Relend.asMut (Referent.rtF (Referent.fInt Syntax.w32))) T22 20 21 12 ref4 ref4 (λ x. x) (Scalar.oFld 5
       ((Syntax.field 1) ∷ List.[]) (Syntax.tyInt Syntax.w64) 8 λ v. Shared.lenV (v .0))
 
-  abbrev s22 : (bs : List.List Nat.ℕ) → Typed.Both T25 T26
-  s22 = λ bs. Call.callB ps·0 r·0 (claims· .0) (claims· .1) T25 (
-    record { pos = 14; ty = ref0; ref = λ x. x },
+  abbrev args20 : Args'.ArgsT ps·0 (T23 .locals)
+  args20 = (
+    record { pos = 13; ty = ref0; ref = λ x. x },
     (
-      record { pos = 16; ty = ref1; ref = λ x. x },
+      record { pos = 15; ty = ref1; ref = λ x. x },
       (
-        record { pos = 18; ty = ref2; ref = λ x. x },
+        record { pos = 17; ty = ref2; ref = λ x. x },
         (
-          record { pos = 20; ty = ref3; ref = λ x. x },
+          record { pos = 19; ty = ref3; ref = λ x. x },
           (
-            record { pos = 22; ty = ref4; ref = λ x. x },
+            record { pos = 21; ty = ref4; ref = λ x. x },
             (
               record { pos = 6; st = List.[]; d = 0; at = λ x. x },
               (
@@ -1813,306 +1768,318 @@ module _ (claims· : Claims) where
         ),
       ),
     ),
-  ) 12 (8 ∷ 9 ∷ 10 ∷ 11 ∷ 12 ∷ 5 ∷ 6 ∷ 7 ∷ List.[]) Laws'.mir
+  )
 
-  abbrev s23 : (bs : List.List Nat.ℕ) → Typed.Mo T26 → Typed.Mo T27
-  s23 = λ bs. Scalar.n-room T26 6 Laws''.mir
+  abbrev s20 : Typed.Both T23 T24
+  s20 = Call.callB ps·0 r·0 (claims· .0) (claims· .1) T23 args20 11 (8 ∷ 9 ∷ 10 ∷ 11 ∷ 12 ∷ 5 ∷ 6 ∷ 7 ∷ List.[])
+      Laws'.mir
 
-  abbrev s25 : (bs : List.List Nat.ℕ) → Typed.Both T27 T29
-  s25 = λ bs. Relend.k-back-sl RelayPending.row T27 14 1 0 8 ref5 ref0 Row.off (λ x. x) λ x. x
+  abbrev s21 : Typed.Mo T24 → Typed.Mo T25
+  s21 = Scalar.n-room T24 6 Laws''.mir
 
-  abbrev s28 : (bs : List.List Nat.ℕ) → Typed.Both T29 T32
-  s28 = λ bs. Relend.k-back-sl RelayCircuit.row T29 16 2 1 9 ref6 ref1 Row.off (λ x. x) λ x. x
+  abbrev s23 : Typed.Both T25 T27
+  s23 = Relend.k-back-sl RelayPending.row T25 13 1 0 8 ref5 ref0 Row.off (λ x. x) λ x. x
 
-  abbrev s31 : (bs : List.List Nat.ℕ) → Typed.Both T32 T35
-  s31 = λ bs. Relend.k-back-sl ReservationUsage.row T32 18 3 2 10 ref7 ref2 Row.off (λ x. x) λ x. x
+  abbrev s26 : Typed.Both T27 T30
+  s26 = Relend.k-back-sl RelayCircuit.row T27 15 2 1 9 ref6 ref1 Row.off (λ x. x) λ x. x
 
-  abbrev s34 : (bs : List.List Nat.ℕ) → Typed.Both T35 T38
-  s34 = λ bs. Relend.k-back-sl InflightAction.row T35 20 4 3 11 ref8 ref3 Row.off (λ x. x) λ x. x
+  abbrev s29 : Typed.Both T30 T33
+  s29 = Relend.k-back-sl ReservationUsage.row T30 17 3 2 10 ref7 ref2 Row.off (λ x. x) λ x. x
 
-  abbrev s37 : (bs : List.List Nat.ℕ) → Typed.Both T38 T41
-  s37 = λ bs. Relend.k-back-sl (Referent.rtF (Referent.fInt Syntax.w32)) T38 22 5 4 12 ref9 ref4 Row.off (λ x. x) λ x.
-      x
+  abbrev s32 : Typed.Both T33 T36
+  s32 = Relend.k-back-sl InflightAction.row T33 19 4 3 11 ref8 ref3 Row.off (λ x. x) λ x. x
 
-  abbrev s38 : (bs : List.List Nat.ℕ) → Typed.Gives T41 T42
-  s38 = λ bs. Know.k-sl-known (Referent.fInt Syntax.w32) T41 5 4 ref9 Row.off 0 λ x. x
+  abbrev s35 : Typed.Both T36 T39
+  s35 = Relend.k-back-sl (Referent.rtF (Referent.fInt Syntax.w32)) T36 21 5 4 12 ref9 ref4 Row.off (λ x. x) λ x. x
 
-  abbrev s41 : (bs : List.List Nat.ℕ) → Typed.Gives T9 T45
-  s41 = λ bs. Relend.k-sl-relend RelayPending.row T9 1 23 0 13 ref5 ref0 Row.off λ x. x
+  abbrev s36 : Typed.Gives T39 T40
+  s36 = Know.k-sl-known (Referent.fInt Syntax.w32) T39 5 4 ref9 Row.off 0 λ x. x
 
-  abbrev s42 : (bs : List.List Nat.ℕ) → Typed.Asks T45 T46
-  s42 = λ bs. Relend.k-sl-aggregate RelayPending.row (Relend.asMut RelayPending.row) T45 23 24 13 ref0 ref0 (λ x. x) (Scalar.oFld
+  abbrev s39 : Typed.Gives T6 T43
+  s39 = Relend.k-sl-relend RelayPending.row T6 1 22 0 13 ref5 ref0 Row.off λ x. x
+
+  abbrev s40 : Typed.Asks T43 T44
+  s40 = Relend.k-sl-aggregate RelayPending.row (Relend.asMut RelayPending.row) T43 22 23 13 ref0 ref0 (λ x. x) (Scalar.oFld
       1 ((Syntax.field 1) ∷ List.[]) (Syntax.tyInt Syntax.w64) 8 λ v. Shared.lenV (v .0))
 
-  abbrev s44 : (bs : List.List Nat.ℕ) → Typed.Gives T46 T48
-  s44 = λ bs. Relend.k-sl-relend RelayCircuit.row T46 2 25 1 14 ref6 ref1 Row.off λ x. x
+  abbrev s42 : Typed.Gives T44 T46
+  s42 = Relend.k-sl-relend RelayCircuit.row T44 2 24 1 14 ref6 ref1 Row.off λ x. x
 
-  abbrev s45 : (bs : List.List Nat.ℕ) → Typed.Asks T48 T49
-  s45 = λ bs. Relend.k-sl-aggregate RelayCircuit.row (Relend.asMut RelayCircuit.row) T48 25 26 14 ref1 ref1 (λ x. x) (Scalar.oFld
+  abbrev s43 : Typed.Asks T46 T47
+  s43 = Relend.k-sl-aggregate RelayCircuit.row (Relend.asMut RelayCircuit.row) T46 24 25 14 ref1 ref1 (λ x. x) (Scalar.oFld
       2 ((Syntax.field 1) ∷ List.[]) (Syntax.tyInt Syntax.w64) 8 λ v. Shared.lenV (v .0))
 
-  abbrev s47 : (bs : List.List Nat.ℕ) → Typed.Gives T49 T51
-  s47 = λ bs. Relend.k-sl-relend InflightAction.row T49 4 27 3 15 ref8 ref3 Row.off λ x. x
+  abbrev s45 : Typed.Gives T47 T49
+  s45 = Relend.k-sl-relend InflightAction.row T47 4 26 3 15 ref8 ref3 Row.off λ x. x
 
-  abbrev s48 : (bs : List.List Nat.ℕ) → Typed.Asks T51 T52
-  s48 = λ bs. Relend.k-sl-aggregate InflightAction.row (Relend.asMut InflightAction.row) T51 27 28 15 ref3 ref3
-      (λ x. x) (Scalar.oFld 4 ((Syntax.field 1) ∷ List.[]) (Syntax.tyInt Syntax.w64) 8 λ v. Shared.lenV (v .0))
+  abbrev s46 : Typed.Asks T49 T50
+  s46 = Relend.k-sl-aggregate InflightAction.row (Relend.asMut InflightAction.row) T49 26 27 15 ref3 ref3 (λ x. x) (Scalar.oFld
+      4 ((Syntax.field 1) ∷ List.[]) (Syntax.tyInt Syntax.w64) 8 λ v. Shared.lenV (v .0))
 
-  abbrev s50 : (bs : List.List Nat.ℕ) → Typed.Gives T52 T54
-  s50 = λ bs. Relend.k-sl-relend (Referent.rtF (Referent.fInt Syntax.w32)) T52 5 29 4 16 ref9 ref4 Row.off λ x. x
+  abbrev s48 : Typed.Gives T50 T52
+  s48 = Relend.k-sl-relend (Referent.rtF (Referent.fInt Syntax.w32)) T50 5 28 4 16 ref9 ref4 Row.off λ x. x
 
-  abbrev s51 : (bs : List.List Nat.ℕ) → Typed.Asks T54 T55
-  s51 = λ bs. Relend.k-sl-aggregate (Referent.rtF (Referent.fInt Syntax.w32))
-      (Relend.asMut (Referent.rtF (Referent.fInt Syntax.w32))) T54 29 30 16 ref4 ref4 (λ x. x) (Scalar.oFld 5
+  abbrev s49 : Typed.Asks T52 T53
+  s49 = Relend.k-sl-aggregate (Referent.rtF (Referent.fInt Syntax.w32))
+      (Relend.asMut (Referent.rtF (Referent.fInt Syntax.w32))) T52 28 29 16 ref4 ref4 (λ x. x) (Scalar.oFld 5
       ((Syntax.field 1) ∷ List.[]) (Syntax.tyInt Syntax.w64) 8 λ v. Shared.lenV (v .0))
 
-  abbrev s52 : (bs : List.List Nat.ℕ) → Typed.Both T55 T56
-  s52 = λ bs. Call.callB ps·1 r·1 (claims· .2) (claims· .3) T55 (
-    record { pos = 24; ty = ref0; ref = λ x. x },
+  abbrev args50 : Args'.ArgsT ps·1 (T53 .locals)
+  args50 = (
+    record { pos = 23; ty = ref0; ref = λ x. x },
     (
-      record { pos = 26; ty = ref1; ref = λ x. x },
+      record { pos = 25; ty = ref1; ref = λ x. x },
       (
-        record { pos = 28; ty = ref3; ref = λ x. x },
+        record { pos = 27; ty = ref3; ref = λ x. x },
         (
-          record { pos = 30; ty = ref4; ref = λ x. x },
+          record { pos = 29; ty = ref4; ref = λ x. x },
           (record { pos = 6; st = List.[]; d = 0; at = λ x. x }, (record { pos = 7; ty = ref10; ref = λ x. x }, tt)),
         ),
       ),
     ),
-  ) 12 (13 ∷ 14 ∷ 15 ∷ 16 ∷ 5 ∷ List.[]) Laws'.mir
+  )
 
-  abbrev s53 : (bs : List.List Nat.ℕ) → Typed.Mo T56 → Typed.Mo T57
-  s53 = λ bs. Scalar.n-room T56 6 Laws''.mir
+  abbrev s50 : Typed.Both T53 T54
+  s50 = Call.callB ps·1 r·1 (claims· .2) (claims· .3) T53 args50 11 (13 ∷ 14 ∷ 15 ∷ 16 ∷ 5 ∷ List.[]) Laws'.mir
 
-  abbrev s55 : (bs : List.List Nat.ℕ) → Typed.Both T57 T59
-  s55 = λ bs. Relend.k-back-sl RelayPending.row T57 24 1 0 13 ref5 ref0 Row.off (λ x. x) λ x. x
+  abbrev s51 : Typed.Mo T54 → Typed.Mo T55
+  s51 = Scalar.n-room T54 6 Laws''.mir
 
-  abbrev s58 : (bs : List.List Nat.ℕ) → Typed.Both T59 T62
-  s58 = λ bs. Relend.k-back-sl RelayCircuit.row T59 26 2 1 14 ref6 ref1 Row.off (λ x. x) λ x. x
+  abbrev s53 : Typed.Both T55 T57
+  s53 = Relend.k-back-sl RelayPending.row T55 23 1 0 13 ref5 ref0 Row.off (λ x. x) λ x. x
 
-  abbrev s61 : (bs : List.List Nat.ℕ) → Typed.Both T62 T65
-  s61 = λ bs. Relend.k-back-sl InflightAction.row T62 28 4 3 15 ref8 ref3 Row.off (λ x. x) λ x. x
+  abbrev s56 : Typed.Both T57 T60
+  s56 = Relend.k-back-sl RelayCircuit.row T57 25 2 1 14 ref6 ref1 Row.off (λ x. x) λ x. x
 
-  abbrev s64 : (bs : List.List Nat.ℕ) → Typed.Both T65 T68
-  s64 = λ bs. Relend.k-back-sl (Referent.rtF (Referent.fInt Syntax.w32)) T65 30 5 4 16 ref9 ref4 Row.off (λ x. x) λ x.
-      x
+  abbrev s59 : Typed.Both T60 T63
+  s59 = Relend.k-back-sl InflightAction.row T60 27 4 3 15 ref8 ref3 Row.off (λ x. x) λ x. x
 
-  abbrev s65 : (bs : List.List Nat.ℕ) → Typed.Gives T68 T69
-  s65 = λ bs. Know.k-sl-known (Referent.fInt Syntax.w32) T68 5 4 ref9 Row.off 0 λ x. x
+  abbrev s62 : Typed.Both T63 T66
+  s62 = Relend.k-back-sl (Referent.rtF (Referent.fInt Syntax.w32)) T63 29 5 4 16 ref9 ref4 Row.off (λ x. x) λ x. x
 
-  abbrev s68 : (bs : List.List Nat.ℕ) → Typed.Gives T9 T72
-  s68 = λ bs. Relend.k-sl-relend RelayCircuit.row T9 2 31 1 17 ref6 ref1 Row.off λ x. x
+  abbrev s63 : Typed.Gives T66 T67
+  s63 = Know.k-sl-known (Referent.fInt Syntax.w32) T66 5 4 ref9 Row.off 0 λ x. x
 
-  abbrev s69 : (bs : List.List Nat.ℕ) → Typed.Asks T72 T73
-  s69 = λ bs. Relend.k-sl-aggregate RelayCircuit.row (Relend.asMut RelayCircuit.row) T72 31 32 17 ref1 ref1 (λ x. x) (Scalar.oFld
+  abbrev s66 : Typed.Gives T6 T70
+  s66 = Relend.k-sl-relend RelayCircuit.row T6 2 30 1 17 ref6 ref1 Row.off λ x. x
+
+  abbrev s67 : Typed.Asks T70 T71
+  s67 = Relend.k-sl-aggregate RelayCircuit.row (Relend.asMut RelayCircuit.row) T70 30 31 17 ref1 ref1 (λ x. x) (Scalar.oFld
       2 ((Syntax.field 1) ∷ List.[]) (Syntax.tyInt Syntax.w64) 8 λ v. Shared.lenV (v .0))
 
-  abbrev s71 : (bs : List.List Nat.ℕ) → Typed.Gives T73 T75
-  s71 = λ bs. Relend.k-sl-relend ReservationUsage.row T73 3 33 2 18 ref7 ref2 Row.off λ x. x
+  abbrev s69 : Typed.Gives T71 T73
+  s69 = Relend.k-sl-relend ReservationUsage.row T71 3 32 2 18 ref7 ref2 Row.off λ x. x
 
-  abbrev s72 : (bs : List.List Nat.ℕ) → Typed.Asks T75 T76
-  s72 = λ bs. Relend.k-sl-aggregate ReservationUsage.row (Relend.asMut ReservationUsage.row) T75 33 34 18 ref2 ref2
-      (λ x. x) (Scalar.oFld 3 ((Syntax.field 1) ∷ List.[]) (Syntax.tyInt Syntax.w64) 8 λ v. Shared.lenV (v .0))
+  abbrev s70 : Typed.Asks T73 T74
+  s70 = Relend.k-sl-aggregate ReservationUsage.row (Relend.asMut ReservationUsage.row) T73 32 33 18 ref2 ref2 (λ x. x) (Scalar.oFld
+      3 ((Syntax.field 1) ∷ List.[]) (Syntax.tyInt Syntax.w64) 8 λ v. Shared.lenV (v .0))
 
-  abbrev s74 : (bs : List.List Nat.ℕ) → Typed.Gives T76 T78
-  s74 = λ bs. Relend.k-sl-relend InflightAction.row T76 4 35 3 19 ref8 ref3 Row.off λ x. x
+  abbrev s72 : Typed.Gives T74 T76
+  s72 = Relend.k-sl-relend InflightAction.row T74 4 34 3 19 ref8 ref3 Row.off λ x. x
 
-  abbrev s75 : (bs : List.List Nat.ℕ) → Typed.Asks T78 T79
-  s75 = λ bs. Relend.k-sl-aggregate InflightAction.row (Relend.asMut InflightAction.row) T78 35 36 19 ref3 ref3
-      (λ x. x) (Scalar.oFld 4 ((Syntax.field 1) ∷ List.[]) (Syntax.tyInt Syntax.w64) 8 λ v. Shared.lenV (v .0))
+  abbrev s73 : Typed.Asks T76 T77
+  s73 = Relend.k-sl-aggregate InflightAction.row (Relend.asMut InflightAction.row) T76 34 35 19 ref3 ref3 (λ x. x) (Scalar.oFld
+      4 ((Syntax.field 1) ∷ List.[]) (Syntax.tyInt Syntax.w64) 8 λ v. Shared.lenV (v .0))
 
-  abbrev s77 : (bs : List.List Nat.ℕ) → Typed.Gives T79 T81
-  s77 = λ bs. Relend.k-sl-relend (Referent.rtF (Referent.fInt Syntax.w32)) T79 5 37 4 20 ref9 ref4 Row.off λ x. x
+  abbrev s75 : Typed.Gives T77 T79
+  s75 = Relend.k-sl-relend (Referent.rtF (Referent.fInt Syntax.w32)) T77 5 36 4 20 ref9 ref4 Row.off λ x. x
 
-  abbrev s78 : (bs : List.List Nat.ℕ) → Typed.Asks T81 T82
-  s78 = λ bs. Relend.k-sl-aggregate (Referent.rtF (Referent.fInt Syntax.w32))
-      (Relend.asMut (Referent.rtF (Referent.fInt Syntax.w32))) T81 37 38 20 ref4 ref4 (λ x. x) (Scalar.oFld 5
+  abbrev s76 : Typed.Asks T79 T80
+  s76 = Relend.k-sl-aggregate (Referent.rtF (Referent.fInt Syntax.w32))
+      (Relend.asMut (Referent.rtF (Referent.fInt Syntax.w32))) T79 36 37 20 ref4 ref4 (λ x. x) (Scalar.oFld 5
       ((Syntax.field 1) ∷ List.[]) (Syntax.tyInt Syntax.w64) 8 λ v. Shared.lenV (v .0))
 
-  abbrev s79 : (bs : List.List Nat.ℕ) → Typed.Both T82 T83
-  s79 = λ bs. Call.callB ps·2 r·2 (claims· .4) (claims· .5) T82 (
-    record { pos = 32; ty = ref1; ref = λ x. x },
+  abbrev args77 : Args'.ArgsT ps·2 (T80 .locals)
+  args77 = (
+    record { pos = 31; ty = ref1; ref = λ x. x },
     (
-      record { pos = 34; ty = ref2; ref = λ x. x },
+      record { pos = 33; ty = ref2; ref = λ x. x },
       (
-        record { pos = 36; ty = ref3; ref = λ x. x },
+        record { pos = 35; ty = ref3; ref = λ x. x },
         (
-          record { pos = 38; ty = ref4; ref = λ x. x },
+          record { pos = 37; ty = ref4; ref = λ x. x },
           (record { pos = 6; st = List.[]; d = 0; at = λ x. x }, (record { pos = 7; ty = ref10; ref = λ x. x }, tt)),
         ),
       ),
     ),
-  ) 12 (17 ∷ 18 ∷ 19 ∷ 20 ∷ 5 ∷ List.[]) Laws'.mir
+  )
 
-  abbrev s80 : (bs : List.List Nat.ℕ) → Typed.Mo T83 → Typed.Mo T84
-  s80 = λ bs. Scalar.n-room T83 6 Laws''.mir
+  abbrev s77 : Typed.Both T80 T81
+  s77 = Call.callB ps·2 r·2 (claims· .4) (claims· .5) T80 args77 11 (17 ∷ 18 ∷ 19 ∷ 20 ∷ 5 ∷ List.[]) Laws'.mir
 
-  abbrev s82 : (bs : List.List Nat.ℕ) → Typed.Both T84 T86
-  s82 = λ bs. Relend.k-back-sl RelayCircuit.row T84 32 2 1 17 ref6 ref1 Row.off (λ x. x) λ x. x
+  abbrev s78 : Typed.Mo T81 → Typed.Mo T82
+  s78 = Scalar.n-room T81 6 Laws''.mir
 
-  abbrev s85 : (bs : List.List Nat.ℕ) → Typed.Both T86 T89
-  s85 = λ bs. Relend.k-back-sl ReservationUsage.row T86 34 3 2 18 ref7 ref2 Row.off (λ x. x) λ x. x
+  abbrev s80 : Typed.Both T82 T84
+  s80 = Relend.k-back-sl RelayCircuit.row T82 31 2 1 17 ref6 ref1 Row.off (λ x. x) λ x. x
 
-  abbrev s88 : (bs : List.List Nat.ℕ) → Typed.Both T89 T92
-  s88 = λ bs. Relend.k-back-sl InflightAction.row T89 36 4 3 19 ref8 ref3 Row.off (λ x. x) λ x. x
+  abbrev s83 : Typed.Both T84 T87
+  s83 = Relend.k-back-sl ReservationUsage.row T84 33 3 2 18 ref7 ref2 Row.off (λ x. x) λ x. x
 
-  abbrev s91 : (bs : List.List Nat.ℕ) → Typed.Both T92 T95
-  s91 = λ bs. Relend.k-back-sl (Referent.rtF (Referent.fInt Syntax.w32)) T92 38 5 4 20 ref9 ref4 Row.off (λ x. x) λ x.
-      x
+  abbrev s86 : Typed.Both T87 T90
+  s86 = Relend.k-back-sl InflightAction.row T87 35 4 3 19 ref8 ref3 Row.off (λ x. x) λ x. x
 
-  abbrev s92 : (bs : List.List Nat.ℕ) → Typed.Gives T95 T96
-  s92 = λ bs. Know.k-sl-known (Referent.fInt Syntax.w32) T95 5 4 ref9 Row.off 0 λ x. x
+  abbrev s89 : Typed.Both T90 T93
+  s89 = Relend.k-back-sl (Referent.rtF (Referent.fInt Syntax.w32)) T90 37 5 4 20 ref9 ref4 Row.off (λ x. x) λ x. x
 
-  abbrev s95 : (bs : List.List Nat.ℕ) → Typed.Gives T9 T99
-  s95 = λ bs. Relend.k-sl-relend RelayCircuit.row T9 2 39 1 21 ref6 ref1 Row.off λ x. x
+  abbrev s90 : Typed.Gives T93 T94
+  s90 = Know.k-sl-known (Referent.fInt Syntax.w32) T93 5 4 ref9 Row.off 0 λ x. x
 
-  abbrev s96 : (bs : List.List Nat.ℕ) → Typed.Asks T99 T100
-  s96 = λ bs. Relend.k-sl-aggregate RelayCircuit.row (Relend.asMut RelayCircuit.row) T99 39 40 21 ref1 ref1 (λ x. x) (Scalar.oFld
+  abbrev s93 : Typed.Gives T6 T97
+  s93 = Relend.k-sl-relend RelayCircuit.row T6 2 38 1 21 ref6 ref1 Row.off λ x. x
+
+  abbrev s94 : Typed.Asks T97 T98
+  s94 = Relend.k-sl-aggregate RelayCircuit.row (Relend.asMut RelayCircuit.row) T97 38 39 21 ref1 ref1 (λ x. x) (Scalar.oFld
       2 ((Syntax.field 1) ∷ List.[]) (Syntax.tyInt Syntax.w64) 8 λ v. Shared.lenV (v .0))
 
-  abbrev s98 : (bs : List.List Nat.ℕ) → Typed.Gives T100 T102
-  s98 = λ bs. Relend.k-sl-relend InflightAction.row T100 4 41 3 22 ref8 ref3 Row.off λ x. x
+  abbrev s96 : Typed.Gives T98 T100
+  s96 = Relend.k-sl-relend InflightAction.row T98 4 40 3 22 ref8 ref3 Row.off λ x. x
 
-  abbrev s99 : (bs : List.List Nat.ℕ) → Typed.Asks T102 T103
-  s99 = λ bs. Relend.k-sl-aggregate InflightAction.row (Relend.asMut InflightAction.row) T102 41 42 22 ref3 ref3
-      (λ x. x) (Scalar.oFld 4 ((Syntax.field 1) ∷ List.[]) (Syntax.tyInt Syntax.w64) 8 λ v. Shared.lenV (v .0))
+  abbrev s97 : Typed.Asks T100 T101
+  s97 = Relend.k-sl-aggregate InflightAction.row (Relend.asMut InflightAction.row) T100 40 41 22 ref3 ref3 (λ x. x) (Scalar.oFld
+      4 ((Syntax.field 1) ∷ List.[]) (Syntax.tyInt Syntax.w64) 8 λ v. Shared.lenV (v .0))
 
-  abbrev s101 : (bs : List.List Nat.ℕ) → Typed.Gives T103 T105
-  s101 = λ bs. Relend.k-sl-relend (Referent.rtF (Referent.fInt Syntax.w32)) T103 5 43 4 23 ref9 ref4 Row.off λ x. x
+  abbrev s99 : Typed.Gives T101 T103
+  s99 = Relend.k-sl-relend (Referent.rtF (Referent.fInt Syntax.w32)) T101 5 42 4 23 ref9 ref4 Row.off λ x. x
 
-  abbrev s102 : (bs : List.List Nat.ℕ) → Typed.Asks T105 T106
-  s102 = λ bs. Relend.k-sl-aggregate (Referent.rtF (Referent.fInt Syntax.w32))
-      (Relend.asMut (Referent.rtF (Referent.fInt Syntax.w32))) T105 43 44 23 ref4 ref4 (λ x. x) (Scalar.oFld 5
+  abbrev s100 : Typed.Asks T103 T104
+  s100 = Relend.k-sl-aggregate (Referent.rtF (Referent.fInt Syntax.w32))
+      (Relend.asMut (Referent.rtF (Referent.fInt Syntax.w32))) T103 42 43 23 ref4 ref4 (λ x. x) (Scalar.oFld 5
       ((Syntax.field 1) ∷ List.[]) (Syntax.tyInt Syntax.w64) 8 λ v. Shared.lenV (v .0))
 
-  abbrev s103 : (bs : List.List Nat.ℕ) → Typed.Both T106 T107
-  s103 = λ bs. Call.callB ps·3 r·3 (claims· .6) (claims· .7) T106 (
-    record { pos = 40; ty = ref1; ref = λ x. x },
+  abbrev args101 : Args'.ArgsT ps·3 (T104 .locals)
+  args101 = (
+    record { pos = 39; ty = ref1; ref = λ x. x },
     (
-      record { pos = 42; ty = ref3; ref = λ x. x },
+      record { pos = 41; ty = ref3; ref = λ x. x },
       (
-        record { pos = 44; ty = ref4; ref = λ x. x },
+        record { pos = 43; ty = ref4; ref = λ x. x },
         (record { pos = 6; st = List.[]; d = 0; at = λ x. x }, (record { pos = 7; ty = ref10; ref = λ x. x }, tt)),
       ),
     ),
-  ) 12 (21 ∷ 22 ∷ 23 ∷ 5 ∷ List.[]) Laws'.mir
+  )
 
-  abbrev s104 : (bs : List.List Nat.ℕ) → Typed.Mo T107 → Typed.Mo T108
-  s104 = λ bs. Scalar.n-room T107 6 Laws''.mir
+  abbrev s101 : Typed.Both T104 T105
+  s101 = Call.callB ps·3 r·3 (claims· .6) (claims· .7) T104 args101 11 (21 ∷ 22 ∷ 23 ∷ 5 ∷ List.[]) Laws'.mir
 
-  abbrev s106 : (bs : List.List Nat.ℕ) → Typed.Both T108 T110
-  s106 = λ bs. Relend.k-back-sl RelayCircuit.row T108 40 2 1 21 ref6 ref1 Row.off (λ x. x) λ x. x
+  abbrev s102 : Typed.Mo T105 → Typed.Mo T106
+  s102 = Scalar.n-room T105 6 Laws''.mir
 
-  abbrev s109 : (bs : List.List Nat.ℕ) → Typed.Both T110 T113
-  s109 = λ bs. Relend.k-back-sl InflightAction.row T110 42 4 3 22 ref8 ref3 Row.off (λ x. x) λ x. x
+  abbrev s104 : Typed.Both T106 T108
+  s104 = Relend.k-back-sl RelayCircuit.row T106 39 2 1 21 ref6 ref1 Row.off (λ x. x) λ x. x
 
-  abbrev s112 : (bs : List.List Nat.ℕ) → Typed.Both T113 T116
-  s112 = λ bs. Relend.k-back-sl (Referent.rtF (Referent.fInt Syntax.w32)) T113 44 5 4 23 ref9 ref4 Row.off (λ x. x) λ
-      x. x
+  abbrev s107 : Typed.Both T108 T111
+  s107 = Relend.k-back-sl InflightAction.row T108 41 4 3 22 ref8 ref3 Row.off (λ x. x) λ x. x
 
-  abbrev s113 : (bs : List.List Nat.ℕ) → Typed.Gives T116 T117
-  s113 = λ bs. Know.k-sl-known (Referent.fInt Syntax.w32) T116 5 4 ref9 Row.off 0 λ x. x
+  abbrev s110 : Typed.Both T111 T114
+  s110 = Relend.k-back-sl (Referent.rtF (Referent.fInt Syntax.w32)) T111 43 5 4 23 ref9 ref4 Row.off (λ x. x) λ x. x
 
-  abbrev s115 : (bs : List.List Nat.ℕ) → Typed.Asks T9 T119
-  s115 = λ bs. Scalar.k-op2 T9 (Syntax.lt Syntax.unsigned) (Scalar.oAt 11 (Syntax.tyInt Syntax.w8)
-      (Row.valS (Row.sInt Syntax.w8))) (Scalar.oInt Syntax.w8 13) 45 (Rows.sc-here Row.sBool) (Row.sBool .of)
+  abbrev s111 : Typed.Gives T114 T115
+  s111 = Know.k-sl-known (Referent.fInt Syntax.w32) T114 5 4 ref9 Row.off 0 λ x. x
 
-  abbrev s116 : (bs : List.List Nat.ℕ) → Typed.Mo T119 → Typed.Mo T121
-  s116 = λ bs. Scalar.n-room T119 45 Syntax.tyBool
+  abbrev s113 : Typed.Asks T6 T117
+  s113 = Scalar.k-op2 T6 (Syntax.lt Syntax.unsigned) (Scalar.oAt 10 (Syntax.tyInt Syntax.w8)
+      (Row.valS (Row.sInt Syntax.w8))) (Scalar.oInt Syntax.w8 13) 44 (Rows.sc-here Row.sBool) (Row.sBool .of)
 
-  abbrev s117 : (bs : List.List Nat.ℕ) → Typed.Mo T119 → Typed.Mo T122
-  s117 = λ bs. Scalar.n-room T119 45 Syntax.tyBool
+  abbrev s114 : Typed.Mo T117 → Typed.Mo T119
+  s114 = Scalar.n-room T117 44 Syntax.tyBool
 
-  abbrev s118 : (bs : List.List Nat.ℕ) → Typed.Asks T120 T123
-  s118 = λ bs. Scalar.k-op2 T120 (Syntax.lt Syntax.unsigned) (Scalar.oAt 11 (Syntax.tyInt Syntax.w8)
-      (Row.valS (Row.sInt Syntax.w8))) (Scalar.oInt Syntax.w8 21) 45 (Rows.sc-here Row.sBool) (Row.sBool .of)
+  abbrev s115 : Typed.Mo T117 → Typed.Mo T120
+  s115 = Scalar.n-room T117 44 Syntax.tyBool
 
-  abbrev s119 : (bs : List.List Nat.ℕ) → Typed.Mo T123 → Typed.Mo T125
-  s119 = λ bs. Scalar.n-room T123 45 Syntax.tyBool
+  abbrev s116 : Typed.Asks T118 T121
+  s116 = Scalar.k-op2 T118 (Syntax.lt Syntax.unsigned) (Scalar.oAt 10 (Syntax.tyInt Syntax.w8)
+      (Row.valS (Row.sInt Syntax.w8))) (Scalar.oInt Syntax.w8 21) 44 (Rows.sc-here Row.sBool) (Row.sBool .of)
 
-  abbrev s121 : (bs : List.List Nat.ℕ) → Typed.Gives T125 T127
-  s121 = λ bs. Relend.k-sl-relend RelayPending.row T125 1 46 0 24 ref5 ref0 Row.off λ x. x
+  abbrev s117 : Typed.Mo T121 → Typed.Mo T123
+  s117 = Scalar.n-room T121 44 Syntax.tyBool
 
-  abbrev s122 : (bs : List.List Nat.ℕ) → Typed.Asks T127 T128
-  s122 = λ bs. Relend.k-sl-aggregate RelayPending.row (Relend.asMut RelayPending.row) T127 46 47 24 ref0 ref0 (λ x. x) (Scalar.oFld
+  abbrev s119 : Typed.Gives T123 T125
+  s119 = Relend.k-sl-relend RelayPending.row T123 1 45 0 24 ref5 ref0 Row.off λ x. x
+
+  abbrev s120 : Typed.Asks T125 T126
+  s120 = Relend.k-sl-aggregate RelayPending.row (Relend.asMut RelayPending.row) T125 45 46 24 ref0 ref0 (λ x. x) (Scalar.oFld
       1 ((Syntax.field 1) ∷ List.[]) (Syntax.tyInt Syntax.w64) 8 λ v. Shared.lenV (v .0))
 
-  abbrev s124 : (bs : List.List Nat.ℕ) → Typed.Gives T128 T130
-  s124 = λ bs. Relend.k-sl-relend RelayCircuit.row T128 2 48 1 25 ref6 ref1 Row.off λ x. x
+  abbrev s122 : Typed.Gives T126 T128
+  s122 = Relend.k-sl-relend RelayCircuit.row T126 2 47 1 25 ref6 ref1 Row.off λ x. x
 
-  abbrev s125 : (bs : List.List Nat.ℕ) → Typed.Asks T130 T131
-  s125 = λ bs. Relend.k-sl-aggregate RelayCircuit.row (Relend.asMut RelayCircuit.row) T130 48 49 25 ref1 ref1 (λ x. x) (Scalar.oFld
+  abbrev s123 : Typed.Asks T128 T129
+  s123 = Relend.k-sl-aggregate RelayCircuit.row (Relend.asMut RelayCircuit.row) T128 47 48 25 ref1 ref1 (λ x. x) (Scalar.oFld
       2 ((Syntax.field 1) ∷ List.[]) (Syntax.tyInt Syntax.w64) 8 λ v. Shared.lenV (v .0))
 
-  abbrev s127 : (bs : List.List Nat.ℕ) → Typed.Gives T131 T133
-  s127 = λ bs. Relend.k-sl-relend InflightAction.row T131 4 50 3 26 ref8 ref3 Row.off λ x. x
+  abbrev s125 : Typed.Gives T129 T131
+  s125 = Relend.k-sl-relend InflightAction.row T129 4 49 3 26 ref8 ref3 Row.off λ x. x
 
-  abbrev s128 : (bs : List.List Nat.ℕ) → Typed.Asks T133 T134
-  s128 = λ bs. Relend.k-sl-aggregate InflightAction.row (Relend.asMut InflightAction.row) T133 50 51 26 ref3 ref3
-      (λ x. x) (Scalar.oFld 4 ((Syntax.field 1) ∷ List.[]) (Syntax.tyInt Syntax.w64) 8 λ v. Shared.lenV (v .0))
+  abbrev s126 : Typed.Asks T131 T132
+  s126 = Relend.k-sl-aggregate InflightAction.row (Relend.asMut InflightAction.row) T131 49 50 26 ref3 ref3 (λ x. x) (Scalar.oFld
+      4 ((Syntax.field 1) ∷ List.[]) (Syntax.tyInt Syntax.w64) 8 λ v. Shared.lenV (v .0))
 
-  abbrev s130 : (bs : List.List Nat.ℕ) → Typed.Gives T134 T136
-  s130 = λ bs. Relend.k-sl-relend (Referent.rtF (Referent.fInt Syntax.w32)) T134 5 52 4 27 ref9 ref4 Row.off λ x. x
+  abbrev s128 : Typed.Gives T132 T134
+  s128 = Relend.k-sl-relend (Referent.rtF (Referent.fInt Syntax.w32)) T132 5 51 4 27 ref9 ref4 Row.off λ x. x
 
-  abbrev s131 : (bs : List.List Nat.ℕ) → Typed.Asks T136 T137
-  s131 = λ bs. Relend.k-sl-aggregate (Referent.rtF (Referent.fInt Syntax.w32))
-      (Relend.asMut (Referent.rtF (Referent.fInt Syntax.w32))) T136 52 53 27 ref4 ref4 (λ x. x) (Scalar.oFld 5
+  abbrev s129 : Typed.Asks T134 T135
+  s129 = Relend.k-sl-aggregate (Referent.rtF (Referent.fInt Syntax.w32))
+      (Relend.asMut (Referent.rtF (Referent.fInt Syntax.w32))) T134 51 52 27 ref4 ref4 (λ x. x) (Scalar.oFld 5
       ((Syntax.field 1) ∷ List.[]) (Syntax.tyInt Syntax.w64) 8 λ v. Shared.lenV (v .0))
 
-  abbrev s132 : (bs : List.List Nat.ℕ) → Typed.Both T137 T138
-  s132 = λ bs. Call.callB ps·4 r·4 (claims· .8) (claims· .9) T137 (
-    record { pos = 47; ty = ref0; ref = λ x. x },
+  abbrev args130 : Args'.ArgsT ps·4 (T135 .locals)
+  args130 = (
+    record { pos = 46; ty = ref0; ref = λ x. x },
     (
-      record { pos = 49; ty = ref1; ref = λ x. x },
+      record { pos = 48; ty = ref1; ref = λ x. x },
       (
-        record { pos = 51; ty = ref3; ref = λ x. x },
+        record { pos = 50; ty = ref3; ref = λ x. x },
         (
-          record { pos = 53; ty = ref4; ref = λ x. x },
+          record { pos = 52; ty = ref4; ref = λ x. x },
           (record { pos = 6; st = List.[]; d = 0; at = λ x. x }, (record { pos = 7; ty = ref10; ref = λ x. x }, tt)),
         ),
       ),
     ),
-  ) 12 (24 ∷ 25 ∷ 26 ∷ 27 ∷ 5 ∷ List.[]) Laws'.mir
+  )
 
-  abbrev s133 : (bs : List.List Nat.ℕ) → Typed.Mo T138 → Typed.Mo T139
-  s133 = λ bs. Scalar.n-room T138 6 Laws''.mir
+  abbrev s130 : Typed.Both T135 T136
+  s130 = Call.callB ps·4 r·4 (claims· .8) (claims· .9) T135 args130 11 (24 ∷ 25 ∷ 26 ∷ 27 ∷ 5 ∷ List.[]) Laws'.mir
 
-  abbrev s135 : (bs : List.List Nat.ℕ) → Typed.Both T139 T141
-  s135 = λ bs. Relend.k-back-sl RelayPending.row T139 47 1 0 24 ref5 ref0 Row.off (λ x. x) λ x. x
+  abbrev s131 : Typed.Mo T136 → Typed.Mo T137
+  s131 = Scalar.n-room T136 6 Laws''.mir
 
-  abbrev s138 : (bs : List.List Nat.ℕ) → Typed.Both T141 T144
-  s138 = λ bs. Relend.k-back-sl RelayCircuit.row T141 49 2 1 25 ref6 ref1 Row.off (λ x. x) λ x. x
+  abbrev s133 : Typed.Both T137 T139
+  s133 = Relend.k-back-sl RelayPending.row T137 46 1 0 24 ref5 ref0 Row.off (λ x. x) λ x. x
 
-  abbrev s141 : (bs : List.List Nat.ℕ) → Typed.Both T144 T147
-  s141 = λ bs. Relend.k-back-sl InflightAction.row T144 51 4 3 26 ref8 ref3 Row.off (λ x. x) λ x. x
+  abbrev s136 : Typed.Both T139 T142
+  s136 = Relend.k-back-sl RelayCircuit.row T139 48 2 1 25 ref6 ref1 Row.off (λ x. x) λ x. x
 
-  abbrev s144 : (bs : List.List Nat.ℕ) → Typed.Both T147 T150
-  s144 = λ bs. Relend.k-back-sl (Referent.rtF (Referent.fInt Syntax.w32)) T147 53 5 4 27 ref9 ref4 Row.off (λ x. x) λ
-      x. x
+  abbrev s139 : Typed.Both T142 T145
+  s139 = Relend.k-back-sl InflightAction.row T142 50 4 3 26 ref8 ref3 Row.off (λ x. x) λ x. x
 
-  abbrev s145 : (bs : List.List Nat.ℕ) → Typed.Gives T150 T151
-  s145 = λ bs. Know.k-sl-known (Referent.fInt Syntax.w32) T150 5 4 ref9 Row.off 0 λ x. x
+  abbrev s142 : Typed.Both T145 T148
+  s142 = Relend.k-back-sl (Referent.rtF (Referent.fInt Syntax.w32)) T145 52 5 4 27 ref9 ref4 Row.off (λ x. x) λ x. x
 
-  abbrev s147 : (bs : List.List Nat.ℕ) → Typed.Mo T123 → Typed.Mo T153
-  s147 = λ bs. Scalar.n-room T123 45 Syntax.tyBool
+  abbrev s143 : Typed.Gives T148 T149
+  s143 = Know.k-sl-known (Referent.fInt Syntax.w32) T148 5 4 ref9 Row.off 0 λ x. x
 
-  abbrev s148 : (bs : List.List Nat.ℕ) → Typed.Both T10 T154
-  s148 = λ bs. Call.callB ps·5 r·5 (claims· .10) (claims· .11) T10
-      (record { pos = 6; st = List.[]; d = 0; at = λ x. x }, tt) 12 List.[] Laws'.mir
+  abbrev s145 : Typed.Mo T121 → Typed.Mo T151
+  s145 = Scalar.n-room T121 44 Syntax.tyBool
 
-  abbrev s149 : (bs : List.List Nat.ℕ) → Typed.Mo T154 → Typed.Mo T155
-  s149 = λ bs. Scalar.n-room T154 6 Laws''.mir
+  abbrev args146 : Args'.ArgsT ps·5 (T8 .locals)
+  args146 = (record { pos = 6; st = List.[]; d = 0; at = λ x. x }, tt)
 
-  abbrev s150 : (bs : List.List Nat.ℕ) → Typed.Mo T8 → Typed.Mo T156
-  s150 = λ bs. LocalCopy.n-val-copy T8 12 0 (Declared.row Relayed.the-type)
-      (Rows.whole (Declared.row Relayed.the-type)) (Rows.whole (Declared.row Relayed.the-type)) (λ x. x) (λ x. x) λ x.
-      x
+  abbrev s146 : Typed.Both T8 T152
+  s146 = Call.callB ps·5 r·5 (claims· .10) (claims· .11) T8 args146 11 List.[] Laws'.mir
 
-  abbrev s151 : (bs : List.List Nat.ℕ) → Typed.Mo T156 → Typed.Mo T157
-  s151 = λ bs. Scalar.n-room T156 11 (Syntax.tyInt Syntax.w8)
+  abbrev s147 : Typed.Mo T152 → Typed.Mo T153
+  s147 = Scalar.n-room T152 6 Laws''.mir
 
-  abbrev s152 : (bs : List.List Nat.ℕ) → Typed.Mo T157 → Typed.Mo T158
-  s152 = λ bs. Scalar.n-room T157 12 Laws'.mir
+  abbrev s148 : Typed.Mo T7 → Typed.Mo T154
+  s148 = LocalCopy.n-val-copy T7 11 0 (Declared.row Relayed.the-type) (Rows.whole (Declared.row Relayed.the-type))
+      (Rows.whole (Declared.row Relayed.the-type)) (λ x. x) (λ x. x) λ x. x
+
+  abbrev s149 : Typed.Mo T154 → Typed.Mo T155
+  s149 = Scalar.n-room T154 10 (Syntax.tyInt Syntax.w8)
+
+  abbrev s150 : Typed.Mo T155 → Typed.Mo T156
+  s150 = Scalar.n-room T155 11 Laws'.mir
 
   module _ (Pre· : (κs : Lifetimes.Lfts 8) → Kinds.Dens κs ps → Type 0) (Post· : (κs : Lifetimes.Lfts 8) →
       (a : Kinds.Dens κs ps) → Kinds.Plain 8 ps r κs) where
@@ -2130,526 +2097,520 @@ module _ (claims· : Claims) where
           (𝓣 .C) (𝓣 .Λ) (Function.fnOf 8 ps r xs m hs body)) (Function.plainOf 𝓤 H A 8 ps r Pre· Post·)
 
     module _ where
-      abbrev at0 : (bs : List.List Nat.ℕ) → Typed.TF T42 O4
-      at0 = λ bs. Typed.atExit 1 O4
+      abbrev at0 : Typed.TF T40 O4
+      at0 = Typed.atExit 1 O4
 
-      abbrev at1 : (bs : List.List Nat.ℕ) → Typed.TF T42 O4
-      at1 = λ bs. λ Ψ. at0 bs Ψ
+      abbrev at1 : Typed.TF T40 O4
+      at1 = λ Ψ. at0 Ψ
 
-      abbrev at2 : (bs : List.List Nat.ℕ) → Typed.TF T41 O4
-      at2 = λ bs. λ Ψ. Typed.give (s38 bs) (at1 bs Ψ)
+      abbrev at2 : Typed.TF T39 O4
+      at2 = λ Ψ. Typed.give s36 (at1 Ψ)
 
-      abbrev at3 : (bs : List.List Nat.ℕ) → Typed.TF T38 O4
-      at3 = λ bs. λ Ψ. Typed.both (s37 bs) (at2 bs Ψ)
+      abbrev at3 : Typed.TF T36 O4
+      at3 = λ Ψ. Typed.both s35 (at2 Ψ)
 
-      abbrev at4 : (bs : List.List Nat.ℕ) → Typed.TF T38 O4
-      at4 = λ bs. λ Ψ. at3 bs Ψ
+      abbrev at4 : Typed.TF T36 O4
+      at4 = λ Ψ. at3 Ψ
 
-      abbrev at5 : (bs : List.List Nat.ℕ) → Typed.TF T38 O4
-      at5 = λ bs. λ Ψ. at4 bs Ψ
+      abbrev at5 : Typed.TF T36 O4
+      at5 = λ Ψ. at4 Ψ
 
-      abbrev at6 : (bs : List.List Nat.ℕ) → Typed.TF T35 O4
-      at6 = λ bs. λ Ψ. Typed.both (s34 bs) (at5 bs Ψ)
+      abbrev at6 : Typed.TF T33 O4
+      at6 = λ Ψ. Typed.both s32 (at5 Ψ)
 
-      abbrev at7 : (bs : List.List Nat.ℕ) → Typed.TF T35 O4
-      at7 = λ bs. λ Ψ. at6 bs Ψ
+      abbrev at7 : Typed.TF T33 O4
+      at7 = λ Ψ. at6 Ψ
 
-      abbrev at8 : (bs : List.List Nat.ℕ) → Typed.TF T35 O4
-      at8 = λ bs. λ Ψ. at7 bs Ψ
+      abbrev at8 : Typed.TF T33 O4
+      at8 = λ Ψ. at7 Ψ
 
-      abbrev at9 : (bs : List.List Nat.ℕ) → Typed.TF T32 O4
-      at9 = λ bs. λ Ψ. Typed.both (s31 bs) (at8 bs Ψ)
+      abbrev at9 : Typed.TF T30 O4
+      at9 = λ Ψ. Typed.both s29 (at8 Ψ)
 
-      abbrev at10 : (bs : List.List Nat.ℕ) → Typed.TF T32 O4
-      at10 = λ bs. λ Ψ. at9 bs Ψ
+      abbrev at10 : Typed.TF T30 O4
+      at10 = λ Ψ. at9 Ψ
 
-      abbrev at11 : (bs : List.List Nat.ℕ) → Typed.TF T32 O4
-      at11 = λ bs. λ Ψ. at10 bs Ψ
+      abbrev at11 : Typed.TF T30 O4
+      at11 = λ Ψ. at10 Ψ
 
-      abbrev at12 : (bs : List.List Nat.ℕ) → Typed.TF T29 O4
-      at12 = λ bs. λ Ψ. Typed.both (s28 bs) (at11 bs Ψ)
+      abbrev at12 : Typed.TF T27 O4
+      at12 = λ Ψ. Typed.both s26 (at11 Ψ)
 
-      abbrev at13 : (bs : List.List Nat.ℕ) → Typed.TF T29 O4
-      at13 = λ bs. λ Ψ. at12 bs Ψ
+      abbrev at13 : Typed.TF T27 O4
+      at13 = λ Ψ. at12 Ψ
 
-      abbrev at14 : (bs : List.List Nat.ℕ) → Typed.TF T29 O4
-      at14 = λ bs. λ Ψ. at13 bs Ψ
+      abbrev at14 : Typed.TF T27 O4
+      at14 = λ Ψ. at13 Ψ
 
-      abbrev at15 : (bs : List.List Nat.ℕ) → Typed.TF T27 O4
-      at15 = λ bs. λ Ψ. Typed.both (s25 bs) (at14 bs Ψ)
+      abbrev at15 : Typed.TF T25 O4
+      at15 = λ Ψ. Typed.both s23 (at14 Ψ)
 
-      abbrev at16 : (bs : List.List Nat.ℕ) → Typed.TF T27 O4
-      at16 = λ bs. λ Ψ. at15 bs Ψ
+      abbrev at16 : Typed.TF T25 O4
+      at16 = λ Ψ. at15 Ψ
 
-      abbrev at17 : (bs : List.List Nat.ℕ) → Typed.TF T26 O4
-      at17 = λ bs. λ Ψ. Typed.pass T26 T27 (s23 bs) (at16 bs Ψ)
+      abbrev at17 : Typed.TF T24 O4
+      at17 = λ Ψ. Typed.pass T24 T25 s21 (at16 Ψ)
 
-      abbrev at18 : (bs : List.List Nat.ℕ) → Typed.TF T25 O4
-      at18 = λ bs. λ Ψ. Typed.both (s22 bs) (at17 bs Ψ)
+      abbrev at18 : Typed.TF T23 O4
+      at18 = λ Ψ. Typed.both s20 (at17 Ψ)
 
-      abbrev at19 : (bs : List.List Nat.ℕ) → Typed.TF T24 O4
-      at19 = λ bs. λ Ψ. Typed.ask (s21 bs) (at18 bs Ψ)
+      abbrev at19 : Typed.TF T22 O4
+      at19 = λ Ψ. Typed.ask s19 (at18 Ψ)
 
-      abbrev at20 : (bs : List.List Nat.ℕ) → Typed.TF T22 O4
-      at20 = λ bs. λ Ψ. Typed.give (s20 bs) (at19 bs Ψ)
+      abbrev at20 : Typed.TF T20 O4
+      at20 = λ Ψ. Typed.give s18 (at19 Ψ)
 
-      abbrev at21 : (bs : List.List Nat.ℕ) → Typed.TF T22 O4
-      at21 = λ bs. λ Ψ. at20 bs Ψ
+      abbrev at21 : Typed.TF T20 O4
+      at21 = λ Ψ. at20 Ψ
 
-      abbrev at22 : (bs : List.List Nat.ℕ) → Typed.TF T21 O4
-      at22 = λ bs. λ Ψ. Typed.ask (s18 bs) (at21 bs Ψ)
+      abbrev at22 : Typed.TF T19 O4
+      at22 = λ Ψ. Typed.ask s16 (at21 Ψ)
 
-      abbrev at23 : (bs : List.List Nat.ℕ) → Typed.TF T19 O4
-      at23 = λ bs. λ Ψ. Typed.give (s17 bs) (at22 bs Ψ)
+      abbrev at23 : Typed.TF T17 O4
+      at23 = λ Ψ. Typed.give s15 (at22 Ψ)
 
-      abbrev at24 : (bs : List.List Nat.ℕ) → Typed.TF T19 O4
-      at24 = λ bs. λ Ψ. at23 bs Ψ
+      abbrev at24 : Typed.TF T17 O4
+      at24 = λ Ψ. at23 Ψ
 
-      abbrev at25 : (bs : List.List Nat.ℕ) → Typed.TF T18 O4
-      at25 = λ bs. λ Ψ. Typed.ask (s15 bs) (at24 bs Ψ)
+      abbrev at25 : Typed.TF T16 O4
+      at25 = λ Ψ. Typed.ask s13 (at24 Ψ)
 
-      abbrev at26 : (bs : List.List Nat.ℕ) → Typed.TF T16 O4
-      at26 = λ bs. λ Ψ. Typed.give (s14 bs) (at25 bs Ψ)
+      abbrev at26 : Typed.TF T14 O4
+      at26 = λ Ψ. Typed.give s12 (at25 Ψ)
 
-      abbrev at27 : (bs : List.List Nat.ℕ) → Typed.TF T16 O4
-      at27 = λ bs. λ Ψ. at26 bs Ψ
+      abbrev at27 : Typed.TF T14 O4
+      at27 = λ Ψ. at26 Ψ
 
-      abbrev at28 : (bs : List.List Nat.ℕ) → Typed.TF T15 O4
-      at28 = λ bs. λ Ψ. Typed.ask (s12 bs) (at27 bs Ψ)
+      abbrev at28 : Typed.TF T13 O4
+      at28 = λ Ψ. Typed.ask s10 (at27 Ψ)
 
-      abbrev at29 : (bs : List.List Nat.ℕ) → Typed.TF T13 O4
-      at29 = λ bs. λ Ψ. Typed.give (s11 bs) (at28 bs Ψ)
+      abbrev at29 : Typed.TF T11 O4
+      at29 = λ Ψ. Typed.give s9 (at28 Ψ)
 
-      abbrev at30 : (bs : List.List Nat.ℕ) → Typed.TF T13 O4
-      at30 = λ bs. λ Ψ. at29 bs Ψ
+      abbrev at30 : Typed.TF T11 O4
+      at30 = λ Ψ. at29 Ψ
 
-      abbrev at31 : (bs : List.List Nat.ℕ) → Typed.TF T12 O4
-      at31 = λ bs. λ Ψ. Typed.ask (s9 bs) (at30 bs Ψ)
+      abbrev at31 : Typed.TF T10 O4
+      at31 = λ Ψ. Typed.ask s7 (at30 Ψ)
 
-      abbrev at32 : (bs : List.List Nat.ℕ) → Typed.TF T9 O4
-      at32 = λ bs. λ Ψ. Typed.give (s8 bs) (at31 bs Ψ)
+      abbrev at32 : Typed.TF T6 O4
+      at32 = λ Ψ. Typed.give s6 (at31 Ψ)
 
-      abbrev at33 : (bs : List.List Nat.ℕ) → Typed.TF T9 O4
-      at33 = λ bs. λ Ψ. at32 bs Ψ
+      abbrev at33 : Typed.TF T6 O4
+      at33 = λ Ψ. at32 Ψ
 
-      abbrev at34 : (bs : List.List Nat.ℕ) → Typed.TF T69 O4
-      at34 = λ bs. Typed.atExit 1 O4
+      abbrev at34 : Typed.TF T67 O4
+      at34 = Typed.atExit 1 O4
 
-      abbrev at35 : (bs : List.List Nat.ℕ) → Typed.TF T69 O4
-      at35 = λ bs. λ Ψ. at34 bs Ψ
+      abbrev at35 : Typed.TF T67 O4
+      at35 = λ Ψ. at34 Ψ
 
-      abbrev at36 : (bs : List.List Nat.ℕ) → Typed.TF T68 O4
-      at36 = λ bs. λ Ψ. Typed.give (s65 bs) (at35 bs Ψ)
+      abbrev at36 : Typed.TF T66 O4
+      at36 = λ Ψ. Typed.give s63 (at35 Ψ)
 
-      abbrev at37 : (bs : List.List Nat.ℕ) → Typed.TF T65 O4
-      at37 = λ bs. λ Ψ. Typed.both (s64 bs) (at36 bs Ψ)
+      abbrev at37 : Typed.TF T63 O4
+      at37 = λ Ψ. Typed.both s62 (at36 Ψ)
 
-      abbrev at38 : (bs : List.List Nat.ℕ) → Typed.TF T65 O4
-      at38 = λ bs. λ Ψ. at37 bs Ψ
+      abbrev at38 : Typed.TF T63 O4
+      at38 = λ Ψ. at37 Ψ
 
-      abbrev at39 : (bs : List.List Nat.ℕ) → Typed.TF T65 O4
-      at39 = λ bs. λ Ψ. at38 bs Ψ
+      abbrev at39 : Typed.TF T63 O4
+      at39 = λ Ψ. at38 Ψ
 
-      abbrev at40 : (bs : List.List Nat.ℕ) → Typed.TF T62 O4
-      at40 = λ bs. λ Ψ. Typed.both (s61 bs) (at39 bs Ψ)
+      abbrev at40 : Typed.TF T60 O4
+      at40 = λ Ψ. Typed.both s59 (at39 Ψ)
 
-      abbrev at41 : (bs : List.List Nat.ℕ) → Typed.TF T62 O4
-      at41 = λ bs. λ Ψ. at40 bs Ψ
+      abbrev at41 : Typed.TF T60 O4
+      at41 = λ Ψ. at40 Ψ
 
-      abbrev at42 : (bs : List.List Nat.ℕ) → Typed.TF T62 O4
-      at42 = λ bs. λ Ψ. at41 bs Ψ
+      abbrev at42 : Typed.TF T60 O4
+      at42 = λ Ψ. at41 Ψ
 
-      abbrev at43 : (bs : List.List Nat.ℕ) → Typed.TF T59 O4
-      at43 = λ bs. λ Ψ. Typed.both (s58 bs) (at42 bs Ψ)
+      abbrev at43 : Typed.TF T57 O4
+      at43 = λ Ψ. Typed.both s56 (at42 Ψ)
 
-      abbrev at44 : (bs : List.List Nat.ℕ) → Typed.TF T59 O4
-      at44 = λ bs. λ Ψ. at43 bs Ψ
+      abbrev at44 : Typed.TF T57 O4
+      at44 = λ Ψ. at43 Ψ
 
-      abbrev at45 : (bs : List.List Nat.ℕ) → Typed.TF T59 O4
-      at45 = λ bs. λ Ψ. at44 bs Ψ
+      abbrev at45 : Typed.TF T57 O4
+      at45 = λ Ψ. at44 Ψ
 
-      abbrev at46 : (bs : List.List Nat.ℕ) → Typed.TF T57 O4
-      at46 = λ bs. λ Ψ. Typed.both (s55 bs) (at45 bs Ψ)
+      abbrev at46 : Typed.TF T55 O4
+      at46 = λ Ψ. Typed.both s53 (at45 Ψ)
 
-      abbrev at47 : (bs : List.List Nat.ℕ) → Typed.TF T57 O4
-      at47 = λ bs. λ Ψ. at46 bs Ψ
+      abbrev at47 : Typed.TF T55 O4
+      at47 = λ Ψ. at46 Ψ
 
-      abbrev at48 : (bs : List.List Nat.ℕ) → Typed.TF T56 O4
-      at48 = λ bs. λ Ψ. Typed.pass T56 T57 (s53 bs) (at47 bs Ψ)
+      abbrev at48 : Typed.TF T54 O4
+      at48 = λ Ψ. Typed.pass T54 T55 s51 (at47 Ψ)
 
-      abbrev at49 : (bs : List.List Nat.ℕ) → Typed.TF T55 O4
-      at49 = λ bs. λ Ψ. Typed.both (s52 bs) (at48 bs Ψ)
+      abbrev at49 : Typed.TF T53 O4
+      at49 = λ Ψ. Typed.both s50 (at48 Ψ)
 
-      abbrev at50 : (bs : List.List Nat.ℕ) → Typed.TF T54 O4
-      at50 = λ bs. λ Ψ. Typed.ask (s51 bs) (at49 bs Ψ)
+      abbrev at50 : Typed.TF T52 O4
+      at50 = λ Ψ. Typed.ask s49 (at49 Ψ)
 
-      abbrev at51 : (bs : List.List Nat.ℕ) → Typed.TF T52 O4
-      at51 = λ bs. λ Ψ. Typed.give (s50 bs) (at50 bs Ψ)
+      abbrev at51 : Typed.TF T50 O4
+      at51 = λ Ψ. Typed.give s48 (at50 Ψ)
 
-      abbrev at52 : (bs : List.List Nat.ℕ) → Typed.TF T52 O4
-      at52 = λ bs. λ Ψ. at51 bs Ψ
+      abbrev at52 : Typed.TF T50 O4
+      at52 = λ Ψ. at51 Ψ
 
-      abbrev at53 : (bs : List.List Nat.ℕ) → Typed.TF T51 O4
-      at53 = λ bs. λ Ψ. Typed.ask (s48 bs) (at52 bs Ψ)
+      abbrev at53 : Typed.TF T49 O4
+      at53 = λ Ψ. Typed.ask s46 (at52 Ψ)
 
-      abbrev at54 : (bs : List.List Nat.ℕ) → Typed.TF T49 O4
-      at54 = λ bs. λ Ψ. Typed.give (s47 bs) (at53 bs Ψ)
+      abbrev at54 : Typed.TF T47 O4
+      at54 = λ Ψ. Typed.give s45 (at53 Ψ)
 
-      abbrev at55 : (bs : List.List Nat.ℕ) → Typed.TF T49 O4
-      at55 = λ bs. λ Ψ. at54 bs Ψ
+      abbrev at55 : Typed.TF T47 O4
+      at55 = λ Ψ. at54 Ψ
 
-      abbrev at56 : (bs : List.List Nat.ℕ) → Typed.TF T48 O4
-      at56 = λ bs. λ Ψ. Typed.ask (s45 bs) (at55 bs Ψ)
+      abbrev at56 : Typed.TF T46 O4
+      at56 = λ Ψ. Typed.ask s43 (at55 Ψ)
 
-      abbrev at57 : (bs : List.List Nat.ℕ) → Typed.TF T46 O4
-      at57 = λ bs. λ Ψ. Typed.give (s44 bs) (at56 bs Ψ)
+      abbrev at57 : Typed.TF T44 O4
+      at57 = λ Ψ. Typed.give s42 (at56 Ψ)
 
-      abbrev at58 : (bs : List.List Nat.ℕ) → Typed.TF T46 O4
-      at58 = λ bs. λ Ψ. at57 bs Ψ
+      abbrev at58 : Typed.TF T44 O4
+      at58 = λ Ψ. at57 Ψ
 
-      abbrev at59 : (bs : List.List Nat.ℕ) → Typed.TF T45 O4
-      at59 = λ bs. λ Ψ. Typed.ask (s42 bs) (at58 bs Ψ)
+      abbrev at59 : Typed.TF T43 O4
+      at59 = λ Ψ. Typed.ask s40 (at58 Ψ)
 
-      abbrev at60 : (bs : List.List Nat.ℕ) → Typed.TF T9 O4
-      at60 = λ bs. λ Ψ. Typed.give (s41 bs) (at59 bs Ψ)
+      abbrev at60 : Typed.TF T6 O4
+      at60 = λ Ψ. Typed.give s39 (at59 Ψ)
 
-      abbrev at61 : (bs : List.List Nat.ℕ) → Typed.TF T9 O4
-      at61 = λ bs. λ Ψ. at60 bs Ψ
+      abbrev at61 : Typed.TF T6 O4
+      at61 = λ Ψ. at60 Ψ
 
-      abbrev at62 : (bs : List.List Nat.ℕ) → Typed.TF T96 O4
-      at62 = λ bs. Typed.atExit 1 O4
+      abbrev at62 : Typed.TF T94 O4
+      at62 = Typed.atExit 1 O4
 
-      abbrev at63 : (bs : List.List Nat.ℕ) → Typed.TF T96 O4
-      at63 = λ bs. λ Ψ. at62 bs Ψ
+      abbrev at63 : Typed.TF T94 O4
+      at63 = λ Ψ. at62 Ψ
 
-      abbrev at64 : (bs : List.List Nat.ℕ) → Typed.TF T95 O4
-      at64 = λ bs. λ Ψ. Typed.give (s92 bs) (at63 bs Ψ)
+      abbrev at64 : Typed.TF T93 O4
+      at64 = λ Ψ. Typed.give s90 (at63 Ψ)
 
-      abbrev at65 : (bs : List.List Nat.ℕ) → Typed.TF T92 O4
-      at65 = λ bs. λ Ψ. Typed.both (s91 bs) (at64 bs Ψ)
+      abbrev at65 : Typed.TF T90 O4
+      at65 = λ Ψ. Typed.both s89 (at64 Ψ)
 
-      abbrev at66 : (bs : List.List Nat.ℕ) → Typed.TF T92 O4
-      at66 = λ bs. λ Ψ. at65 bs Ψ
+      abbrev at66 : Typed.TF T90 O4
+      at66 = λ Ψ. at65 Ψ
 
-      abbrev at67 : (bs : List.List Nat.ℕ) → Typed.TF T92 O4
-      at67 = λ bs. λ Ψ. at66 bs Ψ
+      abbrev at67 : Typed.TF T90 O4
+      at67 = λ Ψ. at66 Ψ
 
-      abbrev at68 : (bs : List.List Nat.ℕ) → Typed.TF T89 O4
-      at68 = λ bs. λ Ψ. Typed.both (s88 bs) (at67 bs Ψ)
+      abbrev at68 : Typed.TF T87 O4
+      at68 = λ Ψ. Typed.both s86 (at67 Ψ)
 
-      abbrev at69 : (bs : List.List Nat.ℕ) → Typed.TF T89 O4
-      at69 = λ bs. λ Ψ. at68 bs Ψ
+      abbrev at69 : Typed.TF T87 O4
+      at69 = λ Ψ. at68 Ψ
 
-      abbrev at70 : (bs : List.List Nat.ℕ) → Typed.TF T89 O4
-      at70 = λ bs. λ Ψ. at69 bs Ψ
+      abbrev at70 : Typed.TF T87 O4
+      at70 = λ Ψ. at69 Ψ
 
-      abbrev at71 : (bs : List.List Nat.ℕ) → Typed.TF T86 O4
-      at71 = λ bs. λ Ψ. Typed.both (s85 bs) (at70 bs Ψ)
+      abbrev at71 : Typed.TF T84 O4
+      at71 = λ Ψ. Typed.both s83 (at70 Ψ)
 
-      abbrev at72 : (bs : List.List Nat.ℕ) → Typed.TF T86 O4
-      at72 = λ bs. λ Ψ. at71 bs Ψ
+      abbrev at72 : Typed.TF T84 O4
+      at72 = λ Ψ. at71 Ψ
 
-      abbrev at73 : (bs : List.List Nat.ℕ) → Typed.TF T86 O4
-      at73 = λ bs. λ Ψ. at72 bs Ψ
+      abbrev at73 : Typed.TF T84 O4
+      at73 = λ Ψ. at72 Ψ
 
-      abbrev at74 : (bs : List.List Nat.ℕ) → Typed.TF T84 O4
-      at74 = λ bs. λ Ψ. Typed.both (s82 bs) (at73 bs Ψ)
+      abbrev at74 : Typed.TF T82 O4
+      at74 = λ Ψ. Typed.both s80 (at73 Ψ)
 
-      abbrev at75 : (bs : List.List Nat.ℕ) → Typed.TF T84 O4
-      at75 = λ bs. λ Ψ. at74 bs Ψ
+      abbrev at75 : Typed.TF T82 O4
+      at75 = λ Ψ. at74 Ψ
 
-      abbrev at76 : (bs : List.List Nat.ℕ) → Typed.TF T83 O4
-      at76 = λ bs. λ Ψ. Typed.pass T83 T84 (s80 bs) (at75 bs Ψ)
+      abbrev at76 : Typed.TF T81 O4
+      at76 = λ Ψ. Typed.pass T81 T82 s78 (at75 Ψ)
 
-      abbrev at77 : (bs : List.List Nat.ℕ) → Typed.TF T82 O4
-      at77 = λ bs. λ Ψ. Typed.both (s79 bs) (at76 bs Ψ)
+      abbrev at77 : Typed.TF T80 O4
+      at77 = λ Ψ. Typed.both s77 (at76 Ψ)
 
-      abbrev at78 : (bs : List.List Nat.ℕ) → Typed.TF T81 O4
-      at78 = λ bs. λ Ψ. Typed.ask (s78 bs) (at77 bs Ψ)
+      abbrev at78 : Typed.TF T79 O4
+      at78 = λ Ψ. Typed.ask s76 (at77 Ψ)
 
-      abbrev at79 : (bs : List.List Nat.ℕ) → Typed.TF T79 O4
-      at79 = λ bs. λ Ψ. Typed.give (s77 bs) (at78 bs Ψ)
+      abbrev at79 : Typed.TF T77 O4
+      at79 = λ Ψ. Typed.give s75 (at78 Ψ)
 
-      abbrev at80 : (bs : List.List Nat.ℕ) → Typed.TF T79 O4
-      at80 = λ bs. λ Ψ. at79 bs Ψ
+      abbrev at80 : Typed.TF T77 O4
+      at80 = λ Ψ. at79 Ψ
 
-      abbrev at81 : (bs : List.List Nat.ℕ) → Typed.TF T78 O4
-      at81 = λ bs. λ Ψ. Typed.ask (s75 bs) (at80 bs Ψ)
+      abbrev at81 : Typed.TF T76 O4
+      at81 = λ Ψ. Typed.ask s73 (at80 Ψ)
 
-      abbrev at82 : (bs : List.List Nat.ℕ) → Typed.TF T76 O4
-      at82 = λ bs. λ Ψ. Typed.give (s74 bs) (at81 bs Ψ)
+      abbrev at82 : Typed.TF T74 O4
+      at82 = λ Ψ. Typed.give s72 (at81 Ψ)
 
-      abbrev at83 : (bs : List.List Nat.ℕ) → Typed.TF T76 O4
-      at83 = λ bs. λ Ψ. at82 bs Ψ
+      abbrev at83 : Typed.TF T74 O4
+      at83 = λ Ψ. at82 Ψ
 
-      abbrev at84 : (bs : List.List Nat.ℕ) → Typed.TF T75 O4
-      at84 = λ bs. λ Ψ. Typed.ask (s72 bs) (at83 bs Ψ)
+      abbrev at84 : Typed.TF T73 O4
+      at84 = λ Ψ. Typed.ask s70 (at83 Ψ)
 
-      abbrev at85 : (bs : List.List Nat.ℕ) → Typed.TF T73 O4
-      at85 = λ bs. λ Ψ. Typed.give (s71 bs) (at84 bs Ψ)
+      abbrev at85 : Typed.TF T71 O4
+      at85 = λ Ψ. Typed.give s69 (at84 Ψ)
 
-      abbrev at86 : (bs : List.List Nat.ℕ) → Typed.TF T73 O4
-      at86 = λ bs. λ Ψ. at85 bs Ψ
+      abbrev at86 : Typed.TF T71 O4
+      at86 = λ Ψ. at85 Ψ
 
-      abbrev at87 : (bs : List.List Nat.ℕ) → Typed.TF T72 O4
-      at87 = λ bs. λ Ψ. Typed.ask (s69 bs) (at86 bs Ψ)
+      abbrev at87 : Typed.TF T70 O4
+      at87 = λ Ψ. Typed.ask s67 (at86 Ψ)
 
-      abbrev at88 : (bs : List.List Nat.ℕ) → Typed.TF T9 O4
-      at88 = λ bs. λ Ψ. Typed.give (s68 bs) (at87 bs Ψ)
+      abbrev at88 : Typed.TF T6 O4
+      at88 = λ Ψ. Typed.give s66 (at87 Ψ)
 
-      abbrev at89 : (bs : List.List Nat.ℕ) → Typed.TF T9 O4
-      at89 = λ bs. λ Ψ. at88 bs Ψ
+      abbrev at89 : Typed.TF T6 O4
+      at89 = λ Ψ. at88 Ψ
 
-      abbrev at90 : (bs : List.List Nat.ℕ) → Typed.TF T117 O4
-      at90 = λ bs. Typed.atExit 1 O4
+      abbrev at90 : Typed.TF T115 O4
+      at90 = Typed.atExit 1 O4
 
-      abbrev at91 : (bs : List.List Nat.ℕ) → Typed.TF T117 O4
-      at91 = λ bs. λ Ψ. at90 bs Ψ
+      abbrev at91 : Typed.TF T115 O4
+      at91 = λ Ψ. at90 Ψ
 
-      abbrev at92 : (bs : List.List Nat.ℕ) → Typed.TF T116 O4
-      at92 = λ bs. λ Ψ. Typed.give (s113 bs) (at91 bs Ψ)
+      abbrev at92 : Typed.TF T114 O4
+      at92 = λ Ψ. Typed.give s111 (at91 Ψ)
 
-      abbrev at93 : (bs : List.List Nat.ℕ) → Typed.TF T113 O4
-      at93 = λ bs. λ Ψ. Typed.both (s112 bs) (at92 bs Ψ)
+      abbrev at93 : Typed.TF T111 O4
+      at93 = λ Ψ. Typed.both s110 (at92 Ψ)
 
-      abbrev at94 : (bs : List.List Nat.ℕ) → Typed.TF T113 O4
-      at94 = λ bs. λ Ψ. at93 bs Ψ
+      abbrev at94 : Typed.TF T111 O4
+      at94 = λ Ψ. at93 Ψ
 
-      abbrev at95 : (bs : List.List Nat.ℕ) → Typed.TF T113 O4
-      at95 = λ bs. λ Ψ. at94 bs Ψ
+      abbrev at95 : Typed.TF T111 O4
+      at95 = λ Ψ. at94 Ψ
 
-      abbrev at96 : (bs : List.List Nat.ℕ) → Typed.TF T110 O4
-      at96 = λ bs. λ Ψ. Typed.both (s109 bs) (at95 bs Ψ)
+      abbrev at96 : Typed.TF T108 O4
+      at96 = λ Ψ. Typed.both s107 (at95 Ψ)
 
-      abbrev at97 : (bs : List.List Nat.ℕ) → Typed.TF T110 O4
-      at97 = λ bs. λ Ψ. at96 bs Ψ
+      abbrev at97 : Typed.TF T108 O4
+      at97 = λ Ψ. at96 Ψ
 
-      abbrev at98 : (bs : List.List Nat.ℕ) → Typed.TF T110 O4
-      at98 = λ bs. λ Ψ. at97 bs Ψ
+      abbrev at98 : Typed.TF T108 O4
+      at98 = λ Ψ. at97 Ψ
 
-      abbrev at99 : (bs : List.List Nat.ℕ) → Typed.TF T108 O4
-      at99 = λ bs. λ Ψ. Typed.both (s106 bs) (at98 bs Ψ)
+      abbrev at99 : Typed.TF T106 O4
+      at99 = λ Ψ. Typed.both s104 (at98 Ψ)
 
-      abbrev at100 : (bs : List.List Nat.ℕ) → Typed.TF T108 O4
-      at100 = λ bs. λ Ψ. at99 bs Ψ
+      abbrev at100 : Typed.TF T106 O4
+      at100 = λ Ψ. at99 Ψ
 
-      abbrev at101 : (bs : List.List Nat.ℕ) → Typed.TF T107 O4
-      at101 = λ bs. λ Ψ. Typed.pass T107 T108 (s104 bs) (at100 bs Ψ)
+      abbrev at101 : Typed.TF T105 O4
+      at101 = λ Ψ. Typed.pass T105 T106 s102 (at100 Ψ)
 
-      abbrev at102 : (bs : List.List Nat.ℕ) → Typed.TF T106 O4
-      at102 = λ bs. λ Ψ. Typed.both (s103 bs) (at101 bs Ψ)
+      abbrev at102 : Typed.TF T104 O4
+      at102 = λ Ψ. Typed.both s101 (at101 Ψ)
 
-      abbrev at103 : (bs : List.List Nat.ℕ) → Typed.TF T105 O4
-      at103 = λ bs. λ Ψ. Typed.ask (s102 bs) (at102 bs Ψ)
+      abbrev at103 : Typed.TF T103 O4
+      at103 = λ Ψ. Typed.ask s100 (at102 Ψ)
 
-      abbrev at104 : (bs : List.List Nat.ℕ) → Typed.TF T103 O4
-      at104 = λ bs. λ Ψ. Typed.give (s101 bs) (at103 bs Ψ)
+      abbrev at104 : Typed.TF T101 O4
+      at104 = λ Ψ. Typed.give s99 (at103 Ψ)
 
-      abbrev at105 : (bs : List.List Nat.ℕ) → Typed.TF T103 O4
-      at105 = λ bs. λ Ψ. at104 bs Ψ
+      abbrev at105 : Typed.TF T101 O4
+      at105 = λ Ψ. at104 Ψ
 
-      abbrev at106 : (bs : List.List Nat.ℕ) → Typed.TF T102 O4
-      at106 = λ bs. λ Ψ. Typed.ask (s99 bs) (at105 bs Ψ)
+      abbrev at106 : Typed.TF T100 O4
+      at106 = λ Ψ. Typed.ask s97 (at105 Ψ)
 
-      abbrev at107 : (bs : List.List Nat.ℕ) → Typed.TF T100 O4
-      at107 = λ bs. λ Ψ. Typed.give (s98 bs) (at106 bs Ψ)
+      abbrev at107 : Typed.TF T98 O4
+      at107 = λ Ψ. Typed.give s96 (at106 Ψ)
 
-      abbrev at108 : (bs : List.List Nat.ℕ) → Typed.TF T100 O4
-      at108 = λ bs. λ Ψ. at107 bs Ψ
+      abbrev at108 : Typed.TF T98 O4
+      at108 = λ Ψ. at107 Ψ
 
-      abbrev at109 : (bs : List.List Nat.ℕ) → Typed.TF T99 O4
-      at109 = λ bs. λ Ψ. Typed.ask (s96 bs) (at108 bs Ψ)
+      abbrev at109 : Typed.TF T97 O4
+      at109 = λ Ψ. Typed.ask s94 (at108 Ψ)
 
-      abbrev at110 : (bs : List.List Nat.ℕ) → Typed.TF T9 O4
-      at110 = λ bs. λ Ψ. Typed.give (s95 bs) (at109 bs Ψ)
+      abbrev at110 : Typed.TF T6 O4
+      at110 = λ Ψ. Typed.give s93 (at109 Ψ)
 
-      abbrev at111 : (bs : List.List Nat.ℕ) → Typed.TF T9 O4
-      at111 = λ bs. λ Ψ. at110 bs Ψ
+      abbrev at111 : Typed.TF T6 O4
+      at111 = λ Ψ. at110 Ψ
 
-      abbrev at112 : (bs : List.List Nat.ℕ) → Typed.TF T9 O4
-      at112 = λ bs. Typed.atExit 0 O4
+      abbrev at112 : Typed.TF T6 O4
+      at112 = Typed.atExit 0 O4
 
-      abbrev at113 : (bs : List.List Nat.ℕ) → Typed.TF T121 O5
-      at113 = λ bs. Typed.atExit 0 O5
+      abbrev at113 : Typed.TF T119 O5
+      at113 = Typed.atExit 0 O5
 
-      abbrev at114 : (bs : List.List Nat.ℕ) → Typed.TF T119 O5
-      at114 = λ bs. λ Ψ. Typed.pass T119 T121 (s116 bs) (at113 bs Ψ)
+      abbrev at114 : Typed.TF T117 O5
+      at114 = λ Ψ. Typed.pass T117 T119 s114 (at113 Ψ)
 
-      abbrev at115 : (bs : List.List Nat.ℕ) → Typed.TF T122 O5
-      at115 = λ bs. Typed.atNext O5
+      abbrev at115 : Typed.TF T120 O5
+      at115 = Typed.atNext O5
 
-      abbrev at116 : (bs : List.List Nat.ℕ) → Typed.TF T119 O5
-      at116 = λ bs. λ Ψ. Typed.pass T119 T122 (s117 bs) (at115 bs Ψ)
+      abbrev at116 : Typed.TF T117 O5
+      at116 = λ Ψ. Typed.pass T117 T120 s115 (at115 Ψ)
 
-      abbrev at117 : (bs : List.List Nat.ℕ) → Typed.TF T119 O5
-      at117 = λ bs. Scalar.Φcond T119 O5 45 (λ x. x) (at114 bs) (at116 bs)
+      abbrev at117 : Typed.TF T117 O5
+      at117 = Scalar.Φcond T117 O5 44 (λ x. x) at114 at116
 
-      abbrev at118 : (bs : List.List Nat.ℕ) → Typed.TF T151 O6
-      at118 = λ bs. Typed.atExit 1 O6
+      abbrev at118 : Typed.TF T149 O6
+      at118 = Typed.atExit 1 O6
 
-      abbrev at119 : (bs : List.List Nat.ℕ) → Typed.TF T151 O6
-      at119 = λ bs. λ Ψ. at118 bs Ψ
+      abbrev at119 : Typed.TF T149 O6
+      at119 = λ Ψ. at118 Ψ
 
-      abbrev at120 : (bs : List.List Nat.ℕ) → Typed.TF T150 O6
-      at120 = λ bs. λ Ψ. Typed.give (s145 bs) (at119 bs Ψ)
+      abbrev at120 : Typed.TF T148 O6
+      at120 = λ Ψ. Typed.give s143 (at119 Ψ)
 
-      abbrev at121 : (bs : List.List Nat.ℕ) → Typed.TF T147 O6
-      at121 = λ bs. λ Ψ. Typed.both (s144 bs) (at120 bs Ψ)
+      abbrev at121 : Typed.TF T145 O6
+      at121 = λ Ψ. Typed.both s142 (at120 Ψ)
 
-      abbrev at122 : (bs : List.List Nat.ℕ) → Typed.TF T147 O6
-      at122 = λ bs. λ Ψ. at121 bs Ψ
+      abbrev at122 : Typed.TF T145 O6
+      at122 = λ Ψ. at121 Ψ
 
-      abbrev at123 : (bs : List.List Nat.ℕ) → Typed.TF T147 O6
-      at123 = λ bs. λ Ψ. at122 bs Ψ
+      abbrev at123 : Typed.TF T145 O6
+      at123 = λ Ψ. at122 Ψ
 
-      abbrev at124 : (bs : List.List Nat.ℕ) → Typed.TF T144 O6
-      at124 = λ bs. λ Ψ. Typed.both (s141 bs) (at123 bs Ψ)
+      abbrev at124 : Typed.TF T142 O6
+      at124 = λ Ψ. Typed.both s139 (at123 Ψ)
 
-      abbrev at125 : (bs : List.List Nat.ℕ) → Typed.TF T144 O6
-      at125 = λ bs. λ Ψ. at124 bs Ψ
+      abbrev at125 : Typed.TF T142 O6
+      at125 = λ Ψ. at124 Ψ
 
-      abbrev at126 : (bs : List.List Nat.ℕ) → Typed.TF T144 O6
-      at126 = λ bs. λ Ψ. at125 bs Ψ
+      abbrev at126 : Typed.TF T142 O6
+      at126 = λ Ψ. at125 Ψ
 
-      abbrev at127 : (bs : List.List Nat.ℕ) → Typed.TF T141 O6
-      at127 = λ bs. λ Ψ. Typed.both (s138 bs) (at126 bs Ψ)
+      abbrev at127 : Typed.TF T139 O6
+      at127 = λ Ψ. Typed.both s136 (at126 Ψ)
 
-      abbrev at128 : (bs : List.List Nat.ℕ) → Typed.TF T141 O6
-      at128 = λ bs. λ Ψ. at127 bs Ψ
+      abbrev at128 : Typed.TF T139 O6
+      at128 = λ Ψ. at127 Ψ
 
-      abbrev at129 : (bs : List.List Nat.ℕ) → Typed.TF T141 O6
-      at129 = λ bs. λ Ψ. at128 bs Ψ
+      abbrev at129 : Typed.TF T139 O6
+      at129 = λ Ψ. at128 Ψ
 
-      abbrev at130 : (bs : List.List Nat.ℕ) → Typed.TF T139 O6
-      at130 = λ bs. λ Ψ. Typed.both (s135 bs) (at129 bs Ψ)
+      abbrev at130 : Typed.TF T137 O6
+      at130 = λ Ψ. Typed.both s133 (at129 Ψ)
 
-      abbrev at131 : (bs : List.List Nat.ℕ) → Typed.TF T139 O6
-      at131 = λ bs. λ Ψ. at130 bs Ψ
+      abbrev at131 : Typed.TF T137 O6
+      at131 = λ Ψ. at130 Ψ
 
-      abbrev at132 : (bs : List.List Nat.ℕ) → Typed.TF T138 O6
-      at132 = λ bs. λ Ψ. Typed.pass T138 T139 (s133 bs) (at131 bs Ψ)
+      abbrev at132 : Typed.TF T136 O6
+      at132 = λ Ψ. Typed.pass T136 T137 s131 (at131 Ψ)
 
-      abbrev at133 : (bs : List.List Nat.ℕ) → Typed.TF T137 O6
-      at133 = λ bs. λ Ψ. Typed.both (s132 bs) (at132 bs Ψ)
+      abbrev at133 : Typed.TF T135 O6
+      at133 = λ Ψ. Typed.both s130 (at132 Ψ)
 
-      abbrev at134 : (bs : List.List Nat.ℕ) → Typed.TF T136 O6
-      at134 = λ bs. λ Ψ. Typed.ask (s131 bs) (at133 bs Ψ)
+      abbrev at134 : Typed.TF T134 O6
+      at134 = λ Ψ. Typed.ask s129 (at133 Ψ)
 
-      abbrev at135 : (bs : List.List Nat.ℕ) → Typed.TF T134 O6
-      at135 = λ bs. λ Ψ. Typed.give (s130 bs) (at134 bs Ψ)
+      abbrev at135 : Typed.TF T132 O6
+      at135 = λ Ψ. Typed.give s128 (at134 Ψ)
 
-      abbrev at136 : (bs : List.List Nat.ℕ) → Typed.TF T134 O6
-      at136 = λ bs. λ Ψ. at135 bs Ψ
+      abbrev at136 : Typed.TF T132 O6
+      at136 = λ Ψ. at135 Ψ
 
-      abbrev at137 : (bs : List.List Nat.ℕ) → Typed.TF T133 O6
-      at137 = λ bs. λ Ψ. Typed.ask (s128 bs) (at136 bs Ψ)
+      abbrev at137 : Typed.TF T131 O6
+      at137 = λ Ψ. Typed.ask s126 (at136 Ψ)
 
-      abbrev at138 : (bs : List.List Nat.ℕ) → Typed.TF T131 O6
-      at138 = λ bs. λ Ψ. Typed.give (s127 bs) (at137 bs Ψ)
+      abbrev at138 : Typed.TF T129 O6
+      at138 = λ Ψ. Typed.give s125 (at137 Ψ)
 
-      abbrev at139 : (bs : List.List Nat.ℕ) → Typed.TF T131 O6
-      at139 = λ bs. λ Ψ. at138 bs Ψ
+      abbrev at139 : Typed.TF T129 O6
+      at139 = λ Ψ. at138 Ψ
 
-      abbrev at140 : (bs : List.List Nat.ℕ) → Typed.TF T130 O6
-      at140 = λ bs. λ Ψ. Typed.ask (s125 bs) (at139 bs Ψ)
+      abbrev at140 : Typed.TF T128 O6
+      at140 = λ Ψ. Typed.ask s123 (at139 Ψ)
 
-      abbrev at141 : (bs : List.List Nat.ℕ) → Typed.TF T128 O6
-      at141 = λ bs. λ Ψ. Typed.give (s124 bs) (at140 bs Ψ)
+      abbrev at141 : Typed.TF T126 O6
+      at141 = λ Ψ. Typed.give s122 (at140 Ψ)
 
-      abbrev at142 : (bs : List.List Nat.ℕ) → Typed.TF T128 O6
-      at142 = λ bs. λ Ψ. at141 bs Ψ
+      abbrev at142 : Typed.TF T126 O6
+      at142 = λ Ψ. at141 Ψ
 
-      abbrev at143 : (bs : List.List Nat.ℕ) → Typed.TF T127 O6
-      at143 = λ bs. λ Ψ. Typed.ask (s122 bs) (at142 bs Ψ)
+      abbrev at143 : Typed.TF T125 O6
+      at143 = λ Ψ. Typed.ask s120 (at142 Ψ)
 
-      abbrev at144 : (bs : List.List Nat.ℕ) → Typed.TF T125 O6
-      at144 = λ bs. λ Ψ. Typed.give (s121 bs) (at143 bs Ψ)
+      abbrev at144 : Typed.TF T123 O6
+      at144 = λ Ψ. Typed.give s119 (at143 Ψ)
 
-      abbrev at145 : (bs : List.List Nat.ℕ) → Typed.TF T125 O6
-      at145 = λ bs. λ Ψ. at144 bs Ψ
+      abbrev at145 : Typed.TF T123 O6
+      at145 = λ Ψ. at144 Ψ
 
-      abbrev at146 : (bs : List.List Nat.ℕ) → Typed.TF T123 O6
-      at146 = λ bs. λ Ψ. Typed.pass T123 T125 (s119 bs) (at145 bs Ψ)
+      abbrev at146 : Typed.TF T121 O6
+      at146 = λ Ψ. Typed.pass T121 T123 s117 (at145 Ψ)
 
-      abbrev at147 : (bs : List.List Nat.ℕ) → Typed.TF T153 O6
-      at147 = λ bs. Typed.atNext O6
+      abbrev at147 : Typed.TF T151 O6
+      at147 = Typed.atNext O6
 
-      abbrev at148 : (bs : List.List Nat.ℕ) → Typed.TF T123 O6
-      at148 = λ bs. λ Ψ. Typed.pass T123 T153 (s147 bs) (at147 bs Ψ)
+      abbrev at148 : Typed.TF T121 O6
+      at148 = λ Ψ. Typed.pass T121 T151 s145 (at147 Ψ)
 
-      abbrev at149 : (bs : List.List Nat.ℕ) → Typed.TF T123 O6
-      at149 = λ bs. Scalar.Φcond T123 O6 45 (λ x. x) (at146 bs) (at148 bs)
+      abbrev at149 : Typed.TF T121 O6
+      at149 = Scalar.Φcond T121 O6 44 (λ x. x) at146 at148
 
-      abbrev at150 : (bs : List.List Nat.ℕ) → Typed.TF T124 O4
-      at150 = λ bs. Typed.atExit 0 O4
+      abbrev at150 : Typed.TF T122 O4
+      at150 = Typed.atExit 0 O4
 
-      abbrev at151 : (bs : List.List Nat.ℕ) → Typed.TF T123 O4
-      at151 = λ bs. λ Ψ. at149 bs (Typed.wantNext T124 O4 (at150 bs Ψ) Ψ)
+      abbrev at151 : Typed.TF T121 O4
+      at151 = λ Ψ. at149 (Typed.wantNext T122 O4 (at150 Ψ) Ψ)
 
-      abbrev at152 : (bs : List.List Nat.ℕ) → Typed.TF T120 O4
-      at152 = λ bs. λ Ψ. Typed.ask (s118 bs) (at151 bs Ψ)
+      abbrev at152 : Typed.TF T118 O4
+      at152 = λ Ψ. Typed.ask s116 (at151 Ψ)
 
-      abbrev at153 : (bs : List.List Nat.ℕ) → Typed.TF T119 O4
-      at153 = λ bs. λ Ψ. at117 bs (Typed.wantNext T120 O4 (at152 bs Ψ) Ψ)
+      abbrev at153 : Typed.TF T117 O4
+      at153 = λ Ψ. at117 (Typed.wantNext T118 O4 (at152 Ψ) Ψ)
 
-      abbrev at154 : (bs : List.List Nat.ℕ) → Typed.TF T9 O4
-      at154 = λ bs. λ Ψ. Typed.ask (s115 bs) (at153 bs Ψ)
+      abbrev at154 : Typed.TF T6 O4
+      at154 = λ Ψ. Typed.ask s113 (at153 Ψ)
 
-      abbrev at155 : (bs : List.List Nat.ℕ) → Typed.TF T9 O4
-      at155 = λ bs. Switch.Φswitch T9 O4 11 (λ x. x) (Syntax.arm (13 ∷ List.[]) b24 (Syntax.arm (15 ∷ List.[]) b43 (Syntax.arm
-          (17 ∷ List.[]) b62 (Syntax.arm (18 ∷ List.[]) b77 (Syntax.arm (14 ∷ 16 ∷ List.[]) b78
-          (Syntax.default b109)))))) (at33 bs, (at61 bs, (at89 bs, (at111 bs, (at112 bs, at154 bs)))))
+      abbrev at155 : Typed.TF T6 O4
+      at155 = Switch.Φswitch T6 O4 10 (λ x. x) (Syntax.arm (13 ∷ List.[]) b23 (Syntax.arm (15 ∷ List.[]) b42 (Syntax.arm
+          (17 ∷ List.[]) b61 (Syntax.arm (18 ∷ List.[]) b76 (Syntax.arm (14 ∷ 16 ∷ List.[]) b77
+          (Syntax.default b108)))))) (at33, (at61, (at89, (at111, (at112, at154)))))
 
-      abbrev at156 : (bs : List.List Nat.ℕ) → Typed.TF T9 O3
-      at156 = λ bs. λ Ψ. at155 bs (Typed.inBlock O3 Ψ)
+      abbrev at156 : Typed.TF T6 O3
+      at156 = λ Ψ. at155 (Typed.inBlock O3 Ψ)
 
-      pub at157 : (bs : List.List Nat.ℕ) → Typed.TF T10 O2
-      at157 = λ bs. λ Ψ. Typed.both (s148 bs) (Typed.pass T154 T155 (s149 bs) (Typed.atNext O2 Ψ))
+      pub at157 : Typed.TF T8 O2
+      at157 = λ Ψ. Typed.both s146 (Typed.pass T152 T153 s147 (Typed.atNext O2 Ψ))
 
-      abbrev at158 : (bs : List.List Nat.ℕ) → Typed.TF T9 O2
-      at158 = λ bs. λ Ψ. at156 bs (Typed.wantNext T10 O2 (at157 bs Ψ) Ψ)
+      abbrev at158 : Typed.TF T6 O2
+      at158 = λ Ψ. at156 (Typed.wantNext T8 O2 (at157 Ψ) Ψ)
 
-      abbrev at159 : (bs : List.List Nat.ℕ) → Typed.TF T9 O1
-      at159 = λ bs. λ Ψ. at158 bs (Typed.inBlock O1 Ψ)
+      abbrev at159 : Typed.TF T6 O1
+      at159 = λ Ψ. at158 (Typed.inBlock O1 Ψ)
 
-      abbrev at160 : (bs : List.List Nat.ℕ) → Typed.TF T7 O1
-      at160 = λ bs. λ Ψ. Typed.pass T7 T9 (s6 bs) (at159 bs Ψ)
+      abbrev at160 : Typed.TF T156 O0
+      at160 = Typed.atRet O0
 
-      abbrev at161 : (bs : List.List Nat.ℕ) → Typed.TF T158 O0
-      at161 = λ bs. Typed.atRet O0
+      abbrev at161 : Typed.TF T155 O0
+      at161 = λ Ψ. Typed.pass T155 T156 s150 (at160 Ψ)
 
-      abbrev at162 : (bs : List.List Nat.ℕ) → Typed.TF T157 O0
-      at162 = λ bs. λ Ψ. Typed.pass T157 T158 (s152 bs) (at161 bs Ψ)
+      abbrev at162 : Typed.TF T154 O0
+      at162 = λ Ψ. Typed.pass T154 T155 s149 (at161 Ψ)
 
-      abbrev at163 : (bs : List.List Nat.ℕ) → Typed.TF T156 O0
-      at163 = λ bs. λ Ψ. Typed.pass T156 T157 (s151 bs) (at162 bs Ψ)
+      abbrev at163 : Typed.TF T7 O0
+      at163 = λ Ψ. Typed.pass T7 T154 s148 (at162 Ψ)
 
-      abbrev at164 : (bs : List.List Nat.ℕ) → Typed.TF T8 O0
-      at164 = λ bs. λ Ψ. Typed.pass T8 T156 (s150 bs) (at163 bs Ψ)
+      abbrev at164 : Typed.TF T6 O0
+      at164 = λ Ψ. at159 (Typed.wantNext T7 O0 (at163 Ψ) Ψ)
 
-      abbrev at165 : (bs : List.List Nat.ℕ) → Typed.TF T7 O0
-      at165 = λ bs. λ Ψ. at160 bs (Typed.wantNext T8 O0 (at164 bs Ψ) Ψ)
+      abbrev at165 : Typed.TF T5 O0
+      at165 = λ Ψ. Typed.pass T5 T6 s4 (at164 Ψ)
 
-      abbrev at166 : (bs : List.List Nat.ℕ) → Typed.TF T6 O0
-      at166 = λ bs. λ Ψ. Typed.pass T6 T7 (s5 bs) (at165 bs Ψ)
+      abbrev at166 : Typed.TF T4 O0
+      at166 = λ Ψ. Typed.give s3 (at165 Ψ)
 
-      abbrev at167 : (bs : List.List Nat.ℕ) → Typed.TF T5 O0
-      at167 = λ bs. λ Ψ. Typed.both (s4 bs) (at166 bs Ψ)
+      abbrev at167 : Typed.TF T3 O0
+      at167 = λ Ψ. Typed.give s2 (at166 Ψ)
 
-      abbrev at168 : (bs : List.List Nat.ℕ) → Typed.TF T4 O0
-      at168 = λ bs. λ Ψ. Typed.give (s3 bs) (at167 bs Ψ)
+      abbrev at168 : Typed.TF T2 O0
+      at168 = λ Ψ. Typed.give s1 (at167 Ψ)
 
-      abbrev at169 : (bs : List.List Nat.ℕ) → Typed.TF T3 O0
-      at169 = λ bs. λ Ψ. Typed.give (s2 bs) (at168 bs Ψ)
+      abbrev at169 : Typed.TF T0 O0
+      at169 = λ Ψ. Typed.give s0 (at168 Ψ)
 
-      abbrev at170 : (bs : List.List Nat.ℕ) → Typed.TF T2 O0
-      at170 = λ bs. λ Ψ. Typed.give (s1 bs) (at169 bs Ψ)
-
-      abbrev at171 : (bs : List.List Nat.ℕ) → Typed.TF T0 O0
-      at171 = λ bs. λ Ψ. Typed.give (s0 bs) (at170 bs Ψ)
-
-      abbrev pub Φ : (bs : List.List Nat.ℕ) → Typed.TF T0 O0
-      Φ = λ bs. at171 bs
+      abbrev pub Φ : Typed.TF T0 O0
+      Φ = at169
 
       module _ {M : Type 1} (𝓤 : URA.URA M) (H : Wp.Heap 𝓤) (A : Atoms.Atoms 𝓤) (W : Kit.Given 𝓤 H A)
           (𝓣 : Wp.Tables 𝓤 H) where
@@ -2747,151 +2708,151 @@ module _ (claims· : Claims) where
         abbrev l5·4 : Row.Entry
         l5·4 = (5, Relend.mslice-owed (Referent.rtF (Referent.fInt Syntax.w32)) ref9 4 27 life4)
 
+        abbrev g7 : List.List Row.Entry
+        g7 = e0 ∷ l1 ∷ e2 ∷ e3 ∷ e4 ∷ e5 ∷ e6 ∷ e7 ∷ e8 ∷ e9 ∷ e10·1 ∷ e11 ∷ e12·1 ∷ e13 ∷ e14 ∷ e15 ∷ List.[]
+
+        abbrev g8 : List.List Row.Entry
+        g8 = e0 ∷ l1 ∷ e2 ∷ e3 ∷ e4 ∷ e5 ∷ e6 ∷ e7 ∷ e8 ∷ e9 ∷ e10·1 ∷ e11 ∷ e12 ∷ e13·1 ∷ e14 ∷ e15 ∷ List.[]
+
         abbrev g9 : List.List Row.Entry
-        g9 = e0 ∷ l1 ∷ e2 ∷ e3 ∷ e4 ∷ e5 ∷ e6 ∷ e7 ∷ e8 ∷ e9 ∷ e10 ∷ e11·1 ∷ e12 ∷ e13·1 ∷ e14 ∷ e15 ∷ List.[]
+        g9 = e0 ∷ l1 ∷ l2 ∷ e3 ∷ e4 ∷ e5 ∷ e6 ∷ e7 ∷ e8 ∷ e9 ∷ e10·1 ∷ e11 ∷ e12 ∷ e13·1 ∷ e14·1 ∷ e15 ∷ List.[]
 
         abbrev g10 : List.List Row.Entry
-        g10 = e0 ∷ l1 ∷ e2 ∷ e3 ∷ e4 ∷ e5 ∷ e6 ∷ e7 ∷ e8 ∷ e9 ∷ e10 ∷ e11·1 ∷ e12 ∷ e13 ∷ e14·1 ∷ e15 ∷ List.[]
+        g10 = e0 ∷ l1 ∷ l2 ∷ e3 ∷ e4 ∷ e5 ∷ e6 ∷ e7 ∷ e8 ∷ e9 ∷ e10·1 ∷ e11 ∷ e12 ∷ e13·1 ∷ e14 ∷ e15·1 ∷ List.[]
 
         abbrev g11 : List.List Row.Entry
-        g11 = e0 ∷ l1 ∷ l2 ∷ e3 ∷ e4 ∷ e5 ∷ e6 ∷ e7 ∷ e8 ∷ e9 ∷ e10 ∷ e11·1 ∷ e12 ∷ e13 ∷ e14·1 ∷ e15·1 ∷ List.[]
-
-        abbrev g12 : List.List Row.Entry
-        g12 = e0 ∷ l1 ∷ l2 ∷ e3 ∷ e4 ∷ e5 ∷ e6 ∷ e7 ∷ e8 ∷ e9 ∷ e10 ∷ e11·1 ∷ e12 ∷ e13 ∷ e14·1 ∷ e15 ∷ List.[]
+        g11 = e0 ∷ l1 ∷ l2 ∷ l3 ∷ e4 ∷ e5 ∷ e6 ∷ e7 ∷ e8 ∷ e9 ∷ e10·1 ∷ e11 ∷ e12 ∷ e13·1 ∷ e14 ∷ e15·1 ∷ List.[]
 
         abbrev g14 : List.List Row.Entry
-        g14 = e0 ∷ l1 ∷ l2 ∷ l3 ∷ e4 ∷ e5 ∷ e6 ∷ e7 ∷ e8 ∷ e9 ∷ e10 ∷ e11·1 ∷ e12 ∷ e13 ∷ e14·1 ∷ e15 ∷ List.[]
+        g14 = e0 ∷ l1 ∷ l2 ∷ l3 ∷ l4 ∷ e5 ∷ e6 ∷ e7 ∷ e8 ∷ e9 ∷ e10·1 ∷ e11 ∷ e12 ∷ e13·1 ∷ e14 ∷ e15·1 ∷ List.[]
 
         abbrev g17 : List.List Row.Entry
-        g17 = e0 ∷ l1 ∷ l2 ∷ l3 ∷ l4 ∷ e5 ∷ e6 ∷ e7 ∷ e8 ∷ e9 ∷ e10 ∷ e11·1 ∷ e12 ∷ e13 ∷ e14·1 ∷ e15 ∷ List.[]
+        g17 = e0 ∷ l1 ∷ l2 ∷ l3 ∷ l4 ∷ l5 ∷ e6 ∷ e7 ∷ e8 ∷ e9 ∷ e10·1 ∷ e11 ∷ e12 ∷ e13·1 ∷ e14 ∷ e15·1 ∷ List.[]
 
         abbrev g20 : List.List Row.Entry
-        g20 = e0 ∷ l1 ∷ l2 ∷ l3 ∷ l4 ∷ l5 ∷ e6 ∷ e7 ∷ e8 ∷ e9 ∷ e10 ∷ e11·1 ∷ e12 ∷ e13 ∷ e14·1 ∷ e15 ∷ List.[]
+        g20 = e0 ∷ l1 ∷ l2 ∷ l3 ∷ l4 ∷ l5 ∷ e6 ∷ e7 ∷ e8 ∷ e9 ∷ e10·1 ∷ e11·1 ∷ e12 ∷ e13·2 ∷ e14 ∷ e15·2 ∷ List.[]
+
+        abbrev g22 : List.List Row.Entry
+        g22 = e0 ∷ l1 ∷ l2 ∷ l3 ∷ l4 ∷ l5 ∷ e6·1 ∷ e7 ∷ e8 ∷ e9 ∷ e10·1 ∷ e11·1 ∷ e12 ∷ e13·2 ∷ e14 ∷ e15·2 ∷ List.[]
 
         abbrev g23 : List.List Row.Entry
-        g23 = e0 ∷ l1 ∷ l2 ∷ l3 ∷ l4 ∷ l5 ∷ e6 ∷ e7 ∷ e8 ∷ e9 ∷ e10 ∷ e11·1 ∷ e12·1 ∷ e13 ∷ e14·2 ∷ e15 ∷ List.[]
+        g23 = e0 ∷ e1 ∷ l2 ∷ l3 ∷ l4 ∷ l5 ∷ e6·1 ∷ e7 ∷ e8 ∷ e9 ∷ e10·1 ∷ e11·1 ∷ e12 ∷ e13 ∷ e14 ∷ e15·2 ∷ List.[]
+
+        abbrev g24 : List.List Row.Entry
+        g24 = e0 ∷ e1 ∷ e2 ∷ l3 ∷ l4 ∷ l5 ∷ e6·1 ∷ e7 ∷ e8 ∷ e9 ∷ e10·1 ∷ e11·1 ∷ e12 ∷ e13 ∷ e14 ∷ e15 ∷ List.[]
 
         abbrev g25 : List.List Row.Entry
-        g25 = e0 ∷ l1 ∷ l2 ∷ l3 ∷ l4 ∷ l5 ∷ e6·1 ∷ e7 ∷ e8 ∷ e9 ∷ e10 ∷ e11·1 ∷ e12·1 ∷ e13 ∷ e14·2 ∷ e15 ∷ List.[]
-
-        abbrev g26 : List.List Row.Entry
-        g26 = e0 ∷ e1 ∷ l2 ∷ l3 ∷ l4 ∷ l5 ∷ e6·1 ∷ e7 ∷ e8 ∷ e9 ∷ e10 ∷ e11·1 ∷ e12·1 ∷ e13 ∷ e14 ∷ e15 ∷ List.[]
+        g25 = e0 ∷ e1 ∷ e2 ∷ e3 ∷ l4 ∷ l5 ∷ e6·1 ∷ e7 ∷ e8 ∷ e9 ∷ e10·1 ∷ e11·1 ∷ e12 ∷ e13 ∷ e14 ∷ e15 ∷ List.[]
 
         abbrev g27 : List.List Row.Entry
-        g27 = e0 ∷ e1 ∷ e2 ∷ l3 ∷ l4 ∷ l5 ∷ e6·1 ∷ e7 ∷ e8 ∷ e9 ∷ e10 ∷ e11·1 ∷ e12·1 ∷ e13 ∷ e14 ∷ e15 ∷ List.[]
+        g27 = e0 ∷ e1 ∷ e2 ∷ e3 ∷ e4 ∷ l5 ∷ e6·1 ∷ e7 ∷ e8 ∷ e9 ∷ e10·1 ∷ e11·1 ∷ e12 ∷ e13 ∷ e14 ∷ e15 ∷ List.[]
 
         abbrev g29 : List.List Row.Entry
-        g29 = e0 ∷ e1 ∷ e2 ∷ e3 ∷ l4 ∷ l5 ∷ e6·1 ∷ e7 ∷ e8 ∷ e9 ∷ e10 ∷ e11·1 ∷ e12·1 ∷ e13 ∷ e14 ∷ e15 ∷ List.[]
+        g29 = e0 ∷ l1·1 ∷ e2 ∷ e3 ∷ e4 ∷ e5 ∷ e6 ∷ e7 ∷ e8 ∷ e9 ∷ e10·1 ∷ e11 ∷ e12 ∷ e13 ∷ e14 ∷ e15 ∷ List.[]
 
-        abbrev g31 : List.List Row.Entry
-        g31 = e0 ∷ e1 ∷ e2 ∷ e3 ∷ e4 ∷ l5 ∷ e6·1 ∷ e7 ∷ e8 ∷ e9 ∷ e10 ∷ e11·1 ∷ e12·1 ∷ e13 ∷ e14 ∷ e15 ∷ List.[]
+        abbrev g32 : List.List Row.Entry
+        g32 = e0 ∷ l1·1 ∷ l2·1 ∷ e3 ∷ e4 ∷ e5 ∷ e6 ∷ e7 ∷ e8 ∷ e9 ∷ e10·1 ∷ e11 ∷ e12 ∷ e13 ∷ e14 ∷ e15 ∷ List.[]
 
-        abbrev g33 : List.List Row.Entry
-        g33 = e0 ∷ l1·1 ∷ e2 ∷ e3 ∷ e4 ∷ e5 ∷ e6 ∷ e7 ∷ e8 ∷ e9 ∷ e10 ∷ e11·1 ∷ e12 ∷ e13 ∷ e14 ∷ e15 ∷ List.[]
+        abbrev g35 : List.List Row.Entry
+        g35 = e0 ∷ l1·1 ∷ l2·1 ∷ e3 ∷ l4·1 ∷ e5 ∷ e6 ∷ e7 ∷ e8 ∷ e9 ∷ e10·1 ∷ e11 ∷ e12 ∷ e13 ∷ e14 ∷ e15 ∷ List.[]
 
-        abbrev g36 : List.List Row.Entry
-        g36 = e0 ∷ l1·1 ∷ l2·1 ∷ e3 ∷ e4 ∷ e5 ∷ e6 ∷ e7 ∷ e8 ∷ e9 ∷ e10 ∷ e11·1 ∷ e12 ∷ e13 ∷ e14 ∷ e15 ∷ List.[]
+        abbrev g38 : List.List Row.Entry
+        g38 = e0 ∷ l1·1 ∷ l2·1 ∷ e3 ∷ l4·1 ∷ l5·1 ∷ e6 ∷ e7 ∷ e8 ∷ e9 ∷ e10·1 ∷ e11 ∷ e12 ∷ e13 ∷ e14 ∷ e15 ∷ List.[]
 
-        abbrev g39 : List.List Row.Entry
-        g39 = e0 ∷ l1·1 ∷ l2·1 ∷ e3 ∷ l4·1 ∷ e5 ∷ e6 ∷ e7 ∷ e8 ∷ e9 ∷ e10 ∷ e11·1 ∷ e12 ∷ e13 ∷ e14 ∷ e15 ∷ List.[]
+        abbrev g41 : List.List Row.Entry
+        g41 = e0 ∷ l1·1 ∷ l2·1 ∷ e3 ∷ l4·1 ∷ l5·1 ∷ e6 ∷ e7 ∷ e8 ∷ e9 ∷ e10·1 ∷ e11·1 ∷ e12 ∷ e13 ∷ e14 ∷ e15 ∷ List.[]
 
-        abbrev g42 : List.List Row.Entry
-        g42 = e0 ∷ l1·1 ∷ l2·1 ∷ e3 ∷ l4·1 ∷ l5·1 ∷ e6 ∷ e7 ∷ e8 ∷ e9 ∷ e10 ∷ e11·1 ∷ e12 ∷ e13 ∷ e14 ∷ e15 ∷ List.[]
-
-        abbrev g45 : List.List Row.Entry
-        g45 = e0 ∷ l1·1 ∷ l2·1 ∷ e3 ∷ l4·1 ∷ l5·1 ∷ e6 ∷ e7 ∷ e8 ∷ e9 ∷ e10 ∷ e11·1 ∷ e12·1 ∷ e13 ∷ e14 ∷ e15 ∷ List.[]
-
-        abbrev g47 : List.List Row.Entry
-        g47 = e0 ∷ l1·1 ∷ l2·1 ∷ e3 ∷ l4·1 ∷ l5·1 ∷ e6·1 ∷ e7 ∷ e8 ∷ e9 ∷ e10 ∷ e11·1 ∷ e12·1 ∷ e13 ∷ e14 ∷ e15 ∷
+        abbrev g43 : List.List Row.Entry
+        g43 = e0 ∷ l1·1 ∷ l2·1 ∷ e3 ∷ l4·1 ∷ l5·1 ∷ e6·1 ∷ e7 ∷ e8 ∷ e9 ∷ e10·1 ∷ e11·1 ∷ e12 ∷ e13 ∷ e14 ∷ e15 ∷
             List.[]
+
+        abbrev g44 : List.List Row.Entry
+        g44 = e0 ∷ e1 ∷ l2·1 ∷ e3 ∷ l4·1 ∷ l5·1 ∷ e6·1 ∷ e7 ∷ e8 ∷ e9 ∷ e10·1 ∷ e11·1 ∷ e12 ∷ e13 ∷ e14 ∷ e15 ∷ List.[]
+
+        abbrev g46 : List.List Row.Entry
+        g46 = e0 ∷ e1 ∷ e2 ∷ e3 ∷ l4·1 ∷ l5·1 ∷ e6·1 ∷ e7 ∷ e8 ∷ e9 ∷ e10·1 ∷ e11·1 ∷ e12 ∷ e13 ∷ e14 ∷ e15 ∷ List.[]
 
         abbrev g48 : List.List Row.Entry
-        g48 = e0 ∷ e1 ∷ l2·1 ∷ e3 ∷ l4·1 ∷ l5·1 ∷ e6·1 ∷ e7 ∷ e8 ∷ e9 ∷ e10 ∷ e11·1 ∷ e12·1 ∷ e13 ∷ e14 ∷ e15 ∷ List.[]
+        g48 = e0 ∷ e1 ∷ e2 ∷ e3 ∷ e4 ∷ l5·1 ∷ e6·1 ∷ e7 ∷ e8 ∷ e9 ∷ e10·1 ∷ e11·1 ∷ e12 ∷ e13 ∷ e14 ∷ e15 ∷ List.[]
 
         abbrev g50 : List.List Row.Entry
-        g50 = e0 ∷ e1 ∷ e2 ∷ e3 ∷ l4·1 ∷ l5·1 ∷ e6·1 ∷ e7 ∷ e8 ∷ e9 ∷ e10 ∷ e11·1 ∷ e12·1 ∷ e13 ∷ e14 ∷ e15 ∷ List.[]
+        g50 = e0 ∷ e1 ∷ l2·2 ∷ e3 ∷ e4 ∷ e5 ∷ e6 ∷ e7 ∷ e8 ∷ e9 ∷ e10·1 ∷ e11 ∷ e12 ∷ e13 ∷ e14 ∷ e15 ∷ List.[]
 
-        abbrev g52 : List.List Row.Entry
-        g52 = e0 ∷ e1 ∷ e2 ∷ e3 ∷ e4 ∷ l5·1 ∷ e6·1 ∷ e7 ∷ e8 ∷ e9 ∷ e10 ∷ e11·1 ∷ e12·1 ∷ e13 ∷ e14 ∷ e15 ∷ List.[]
+        abbrev g53 : List.List Row.Entry
+        g53 = e0 ∷ e1 ∷ l2·2 ∷ l3·1 ∷ e4 ∷ e5 ∷ e6 ∷ e7 ∷ e8 ∷ e9 ∷ e10·1 ∷ e11 ∷ e12 ∷ e13 ∷ e14 ∷ e15 ∷ List.[]
 
-        abbrev g54 : List.List Row.Entry
-        g54 = e0 ∷ e1 ∷ l2·2 ∷ e3 ∷ e4 ∷ e5 ∷ e6 ∷ e7 ∷ e8 ∷ e9 ∷ e10 ∷ e11·1 ∷ e12 ∷ e13 ∷ e14 ∷ e15 ∷ List.[]
+        abbrev g56 : List.List Row.Entry
+        g56 = e0 ∷ e1 ∷ l2·2 ∷ l3·1 ∷ l4·2 ∷ e5 ∷ e6 ∷ e7 ∷ e8 ∷ e9 ∷ e10·1 ∷ e11 ∷ e12 ∷ e13 ∷ e14 ∷ e15 ∷ List.[]
 
-        abbrev g57 : List.List Row.Entry
-        g57 = e0 ∷ e1 ∷ l2·2 ∷ l3·1 ∷ e4 ∷ e5 ∷ e6 ∷ e7 ∷ e8 ∷ e9 ∷ e10 ∷ e11·1 ∷ e12 ∷ e13 ∷ e14 ∷ e15 ∷ List.[]
+        abbrev g59 : List.List Row.Entry
+        g59 = e0 ∷ e1 ∷ l2·2 ∷ l3·1 ∷ l4·2 ∷ l5·2 ∷ e6 ∷ e7 ∷ e8 ∷ e9 ∷ e10·1 ∷ e11 ∷ e12 ∷ e13 ∷ e14 ∷ e15 ∷ List.[]
 
-        abbrev g60 : List.List Row.Entry
-        g60 = e0 ∷ e1 ∷ l2·2 ∷ l3·1 ∷ l4·2 ∷ e5 ∷ e6 ∷ e7 ∷ e8 ∷ e9 ∷ e10 ∷ e11·1 ∷ e12 ∷ e13 ∷ e14 ∷ e15 ∷ List.[]
+        abbrev g62 : List.List Row.Entry
+        g62 = e0 ∷ e1 ∷ l2·2 ∷ l3·1 ∷ l4·2 ∷ l5·2 ∷ e6 ∷ e7 ∷ e8 ∷ e9 ∷ e10·1 ∷ e11·1 ∷ e12 ∷ e13 ∷ e14 ∷ e15 ∷ List.[]
 
-        abbrev g63 : List.List Row.Entry
-        g63 = e0 ∷ e1 ∷ l2·2 ∷ l3·1 ∷ l4·2 ∷ l5·2 ∷ e6 ∷ e7 ∷ e8 ∷ e9 ∷ e10 ∷ e11·1 ∷ e12 ∷ e13 ∷ e14 ∷ e15 ∷ List.[]
+        abbrev g65 : List.List Row.Entry
+        g65 = e0 ∷ e1 ∷ l2·2 ∷ l3·1 ∷ l4·2 ∷ l5·2 ∷ e6·1 ∷ e7 ∷ e8 ∷ e9 ∷ e10·1 ∷ e11·1 ∷ e12 ∷ e13 ∷ e14 ∷ e15 ∷
+            List.[]
 
         abbrev g66 : List.List Row.Entry
-        g66 = e0 ∷ e1 ∷ l2·2 ∷ l3·1 ∷ l4·2 ∷ l5·2 ∷ e6 ∷ e7 ∷ e8 ∷ e9 ∷ e10 ∷ e11·1 ∷ e12·1 ∷ e13 ∷ e14 ∷ e15 ∷ List.[]
+        g66 = e0 ∷ e1 ∷ e2 ∷ l3·1 ∷ l4·2 ∷ l5·2 ∷ e6·1 ∷ e7 ∷ e8 ∷ e9 ∷ e10·1 ∷ e11·1 ∷ e12 ∷ e13 ∷ e14 ∷ e15 ∷ List.[]
 
-        abbrev g68 : List.List Row.Entry
-        g68 = e0 ∷ e1 ∷ l2·2 ∷ l3·1 ∷ l4·2 ∷ l5·2 ∷ e6·1 ∷ e7 ∷ e8 ∷ e9 ∷ e10 ∷ e11·1 ∷ e12·1 ∷ e13 ∷ e14 ∷ e15 ∷
-            List.[]
+        abbrev g67 : List.List Row.Entry
+        g67 = e0 ∷ e1 ∷ e2 ∷ e3 ∷ l4·2 ∷ l5·2 ∷ e6·1 ∷ e7 ∷ e8 ∷ e9 ∷ e10·1 ∷ e11·1 ∷ e12 ∷ e13 ∷ e14 ∷ e15 ∷ List.[]
 
         abbrev g69 : List.List Row.Entry
-        g69 = e0 ∷ e1 ∷ e2 ∷ l3·1 ∷ l4·2 ∷ l5·2 ∷ e6·1 ∷ e7 ∷ e8 ∷ e9 ∷ e10 ∷ e11·1 ∷ e12·1 ∷ e13 ∷ e14 ∷ e15 ∷ List.[]
+        g69 = e0 ∷ e1 ∷ e2 ∷ e3 ∷ e4 ∷ l5·2 ∷ e6·1 ∷ e7 ∷ e8 ∷ e9 ∷ e10·1 ∷ e11·1 ∷ e12 ∷ e13 ∷ e14 ∷ e15 ∷ List.[]
 
         abbrev g71 : List.List Row.Entry
-        g71 = e0 ∷ e1 ∷ e2 ∷ e3 ∷ l4·2 ∷ l5·2 ∷ e6·1 ∷ e7 ∷ e8 ∷ e9 ∷ e10 ∷ e11·1 ∷ e12·1 ∷ e13 ∷ e14 ∷ e15 ∷ List.[]
+        g71 = e0 ∷ e1 ∷ l2·3 ∷ e3 ∷ e4 ∷ e5 ∷ e6 ∷ e7 ∷ e8 ∷ e9 ∷ e10·1 ∷ e11 ∷ e12 ∷ e13 ∷ e14 ∷ e15 ∷ List.[]
 
-        abbrev g73 : List.List Row.Entry
-        g73 = e0 ∷ e1 ∷ e2 ∷ e3 ∷ e4 ∷ l5·2 ∷ e6·1 ∷ e7 ∷ e8 ∷ e9 ∷ e10 ∷ e11·1 ∷ e12·1 ∷ e13 ∷ e14 ∷ e15 ∷ List.[]
+        abbrev g74 : List.List Row.Entry
+        g74 = e0 ∷ e1 ∷ l2·3 ∷ e3 ∷ l4·3 ∷ e5 ∷ e6 ∷ e7 ∷ e8 ∷ e9 ∷ e10·1 ∷ e11 ∷ e12 ∷ e13 ∷ e14 ∷ e15 ∷ List.[]
 
-        abbrev g75 : List.List Row.Entry
-        g75 = e0 ∷ e1 ∷ l2·3 ∷ e3 ∷ e4 ∷ e5 ∷ e6 ∷ e7 ∷ e8 ∷ e9 ∷ e10 ∷ e11·1 ∷ e12 ∷ e13 ∷ e14 ∷ e15 ∷ List.[]
+        abbrev g77 : List.List Row.Entry
+        g77 = e0 ∷ e1 ∷ l2·3 ∷ e3 ∷ l4·3 ∷ l5·3 ∷ e6 ∷ e7 ∷ e8 ∷ e9 ∷ e10·1 ∷ e11 ∷ e12 ∷ e13 ∷ e14 ∷ e15 ∷ List.[]
 
-        abbrev g78 : List.List Row.Entry
-        g78 = e0 ∷ e1 ∷ l2·3 ∷ e3 ∷ l4·3 ∷ e5 ∷ e6 ∷ e7 ∷ e8 ∷ e9 ∷ e10 ∷ e11·1 ∷ e12 ∷ e13 ∷ e14 ∷ e15 ∷ List.[]
+        abbrev g80 : List.List Row.Entry
+        g80 = e0 ∷ e1 ∷ l2·3 ∷ e3 ∷ l4·3 ∷ l5·3 ∷ e6 ∷ e7 ∷ e8 ∷ e9 ∷ e10·1 ∷ e11·1 ∷ e12 ∷ e13 ∷ e14 ∷ e15 ∷ List.[]
 
-        abbrev g81 : List.List Row.Entry
-        g81 = e0 ∷ e1 ∷ l2·3 ∷ e3 ∷ l4·3 ∷ l5·3 ∷ e6 ∷ e7 ∷ e8 ∷ e9 ∷ e10 ∷ e11·1 ∷ e12 ∷ e13 ∷ e14 ∷ e15 ∷ List.[]
+        abbrev g82 : List.List Row.Entry
+        g82 = e0 ∷ e1 ∷ l2·3 ∷ e3 ∷ l4·3 ∷ l5·3 ∷ e6·1 ∷ e7 ∷ e8 ∷ e9 ∷ e10·1 ∷ e11·1 ∷ e12 ∷ e13 ∷ e14 ∷ e15 ∷ List.[]
 
-        abbrev g84 : List.List Row.Entry
-        g84 = e0 ∷ e1 ∷ l2·3 ∷ e3 ∷ l4·3 ∷ l5·3 ∷ e6 ∷ e7 ∷ e8 ∷ e9 ∷ e10 ∷ e11·1 ∷ e12·1 ∷ e13 ∷ e14 ∷ e15 ∷ List.[]
+        abbrev g83 : List.List Row.Entry
+        g83 = e0 ∷ e1 ∷ e2 ∷ e3 ∷ l4·3 ∷ l5·3 ∷ e6·1 ∷ e7 ∷ e8 ∷ e9 ∷ e10·1 ∷ e11·1 ∷ e12 ∷ e13 ∷ e14 ∷ e15 ∷ List.[]
 
-        abbrev g86 : List.List Row.Entry
-        g86 = e0 ∷ e1 ∷ l2·3 ∷ e3 ∷ l4·3 ∷ l5·3 ∷ e6·1 ∷ e7 ∷ e8 ∷ e9 ∷ e10 ∷ e11·1 ∷ e12·1 ∷ e13 ∷ e14 ∷ e15 ∷ List.[]
+        abbrev g85 : List.List Row.Entry
+        g85 = e0 ∷ e1 ∷ e2 ∷ e3 ∷ e4 ∷ l5·3 ∷ e6·1 ∷ e7 ∷ e8 ∷ e9 ∷ e10·1 ∷ e11·1 ∷ e12 ∷ e13 ∷ e14 ∷ e15 ∷ List.[]
 
-        abbrev g87 : List.List Row.Entry
-        g87 = e0 ∷ e1 ∷ e2 ∷ e3 ∷ l4·3 ∷ l5·3 ∷ e6·1 ∷ e7 ∷ e8 ∷ e9 ∷ e10 ∷ e11·1 ∷ e12·1 ∷ e13 ∷ e14 ∷ e15 ∷ List.[]
+        abbrev g88 : List.List Row.Entry
+        g88 = e0 ∷ l1·2 ∷ e2 ∷ e3 ∷ e4 ∷ e5 ∷ e6 ∷ e7 ∷ e8 ∷ e9 ∷ e10·1 ∷ e11 ∷ e12 ∷ e13 ∷ e14 ∷ e15 ∷ List.[]
 
-        abbrev g89 : List.List Row.Entry
-        g89 = e0 ∷ e1 ∷ e2 ∷ e3 ∷ e4 ∷ l5·3 ∷ e6·1 ∷ e7 ∷ e8 ∷ e9 ∷ e10 ∷ e11·1 ∷ e12·1 ∷ e13 ∷ e14 ∷ e15 ∷ List.[]
+        abbrev g91 : List.List Row.Entry
+        g91 = e0 ∷ l1·2 ∷ l2·4 ∷ e3 ∷ e4 ∷ e5 ∷ e6 ∷ e7 ∷ e8 ∷ e9 ∷ e10·1 ∷ e11 ∷ e12 ∷ e13 ∷ e14 ∷ e15 ∷ List.[]
 
-        abbrev g92 : List.List Row.Entry
-        g92 = e0 ∷ l1·2 ∷ e2 ∷ e3 ∷ e4 ∷ e5 ∷ e6 ∷ e7 ∷ e8 ∷ e9 ∷ e10 ∷ e11·1 ∷ e12 ∷ e13 ∷ e14 ∷ e15 ∷ List.[]
+        abbrev g94 : List.List Row.Entry
+        g94 = e0 ∷ l1·2 ∷ l2·4 ∷ e3 ∷ l4·4 ∷ e5 ∷ e6 ∷ e7 ∷ e8 ∷ e9 ∷ e10·1 ∷ e11 ∷ e12 ∷ e13 ∷ e14 ∷ e15 ∷ List.[]
 
-        abbrev g95 : List.List Row.Entry
-        g95 = e0 ∷ l1·2 ∷ l2·4 ∷ e3 ∷ e4 ∷ e5 ∷ e6 ∷ e7 ∷ e8 ∷ e9 ∷ e10 ∷ e11·1 ∷ e12 ∷ e13 ∷ e14 ∷ e15 ∷ List.[]
+        abbrev g97 : List.List Row.Entry
+        g97 = e0 ∷ l1·2 ∷ l2·4 ∷ e3 ∷ l4·4 ∷ l5·4 ∷ e6 ∷ e7 ∷ e8 ∷ e9 ∷ e10·1 ∷ e11 ∷ e12 ∷ e13 ∷ e14 ∷ e15 ∷ List.[]
 
-        abbrev g98 : List.List Row.Entry
-        g98 = e0 ∷ l1·2 ∷ l2·4 ∷ e3 ∷ l4·4 ∷ e5 ∷ e6 ∷ e7 ∷ e8 ∷ e9 ∷ e10 ∷ e11·1 ∷ e12 ∷ e13 ∷ e14 ∷ e15 ∷ List.[]
+        abbrev g100 : List.List Row.Entry
+        g100 = e0 ∷ l1·2 ∷ l2·4 ∷ e3 ∷ l4·4 ∷ l5·4 ∷ e6 ∷ e7 ∷ e8 ∷ e9 ∷ e10·1 ∷ e11·1 ∷ e12 ∷ e13 ∷ e14 ∷ e15 ∷
+            List.[]
 
-        abbrev g101 : List.List Row.Entry
-        g101 = e0 ∷ l1·2 ∷ l2·4 ∷ e3 ∷ l4·4 ∷ l5·4 ∷ e6 ∷ e7 ∷ e8 ∷ e9 ∷ e10 ∷ e11·1 ∷ e12 ∷ e13 ∷ e14 ∷ e15 ∷ List.[]
+        abbrev g103 : List.List Row.Entry
+        g103 = e0 ∷ l1·2 ∷ l2·4 ∷ e3 ∷ l4·4 ∷ l5·4 ∷ e6·1 ∷ e7 ∷ e8 ∷ e9 ∷ e10·1 ∷ e11·1 ∷ e12 ∷ e13 ∷ e14 ∷ e15 ∷
+            List.[]
 
         abbrev g104 : List.List Row.Entry
-        g104 = e0 ∷ l1·2 ∷ l2·4 ∷ e3 ∷ l4·4 ∷ l5·4 ∷ e6 ∷ e7 ∷ e8 ∷ e9 ∷ e10 ∷ e11·1 ∷ e12·1 ∷ e13 ∷ e14 ∷ e15 ∷
+        g104 = e0 ∷ e1 ∷ l2·4 ∷ e3 ∷ l4·4 ∷ l5·4 ∷ e6·1 ∷ e7 ∷ e8 ∷ e9 ∷ e10·1 ∷ e11·1 ∷ e12 ∷ e13 ∷ e14 ∷ e15 ∷
             List.[]
+
+        abbrev g105 : List.List Row.Entry
+        g105 = e0 ∷ e1 ∷ e2 ∷ e3 ∷ l4·4 ∷ l5·4 ∷ e6·1 ∷ e7 ∷ e8 ∷ e9 ∷ e10·1 ∷ e11·1 ∷ e12 ∷ e13 ∷ e14 ∷ e15 ∷ List.[]
 
         abbrev g107 : List.List Row.Entry
-        g107 = e0 ∷ l1·2 ∷ l2·4 ∷ e3 ∷ l4·4 ∷ l5·4 ∷ e6·1 ∷ e7 ∷ e8 ∷ e9 ∷ e10 ∷ e11·1 ∷ e12·1 ∷ e13 ∷ e14 ∷ e15 ∷
-            List.[]
-
-        abbrev g108 : List.List Row.Entry
-        g108 = e0 ∷ e1 ∷ l2·4 ∷ e3 ∷ l4·4 ∷ l5·4 ∷ e6·1 ∷ e7 ∷ e8 ∷ e9 ∷ e10 ∷ e11·1 ∷ e12·1 ∷ e13 ∷ e14 ∷ e15 ∷
-            List.[]
-
-        abbrev g109 : List.List Row.Entry
-        g109 = e0 ∷ e1 ∷ e2 ∷ e3 ∷ l4·4 ∷ l5·4 ∷ e6·1 ∷ e7 ∷ e8 ∷ e9 ∷ e10 ∷ e11·1 ∷ e12·1 ∷ e13 ∷ e14 ∷ e15 ∷ List.[]
-
-        abbrev g111 : List.List Row.Entry
-        g111 = e0 ∷ e1 ∷ e2 ∷ e3 ∷ e4 ∷ l5·4 ∷ e6·1 ∷ e7 ∷ e8 ∷ e9 ∷ e10 ∷ e11·1 ∷ e12·1 ∷ e13 ∷ e14 ∷ e15 ∷ List.[]
+        g107 = e0 ∷ e1 ∷ e2 ∷ e3 ∷ e4 ∷ l5·4 ∷ e6·1 ∷ e7 ∷ e8 ∷ e9 ∷ e10·1 ∷ e11·1 ∷ e12 ∷ e13 ∷ e14 ∷ e15 ∷ List.[]
 
         abbrev G0 : Row.Cx
         G0 = record {
@@ -2959,7 +2920,7 @@ module _ (claims· : Claims) where
 
         abbrev G8 : Row.Cx
         G8 = record {
-          locals = List._++_ t7 (List._++_ t1 (List._++_ t2 t3));
+          locals = List._++_ t5 (List._++_ t1 (List._++_ t2 t3));
           slots = life0 ∷ life1 ∷ life2 ∷ life3 ∷ life4 ∷ life5 ∷ life6 ∷ life7 ∷ Row.off ∷ Row.off ∷ Row.off ∷ Row.off
               ∷ Row.off ∷ Row.off ∷ Row.off ∷ Row.off ∷ Row.off ∷ Row.off ∷ Row.off ∷ Row.off ∷ Row.off ∷ Row.off ∷
               Row.off ∷ Row.off ∷ Row.off ∷ Row.off ∷ Row.off ∷ Row.off ∷ List.[];
@@ -2967,40 +2928,40 @@ module _ (claims· : Claims) where
 
         abbrev G9 : Row.Cx
         G9 = record {
-          locals = List._++_ t8 (List._++_ t1 (List._++_ t2 t3));
-          slots = life0 ∷ life1 ∷ life2 ∷ life3 ∷ life4 ∷ life5 ∷ life6 ∷ life7 ∷ Row.off ∷ Row.off ∷ Row.off ∷ Row.off
-              ∷ Row.off ∷ Row.off ∷ Row.off ∷ Row.off ∷ Row.off ∷ Row.off ∷ Row.off ∷ Row.off ∷ Row.off ∷ Row.off ∷
-              Row.off ∷ Row.off ∷ Row.off ∷ Row.off ∷ Row.off ∷ Row.off ∷ List.[];
+          locals = List._++_ t5 (List._++_ t1 (List._++_ t2 t3));
+          slots = life0 ∷ life1 ∷ life2 ∷ life3 ∷ life4 ∷ life5 ∷ life6 ∷ life7 ∷ Row.alive ∷ Row.off ∷ Row.off ∷
+              Row.off ∷ Row.off ∷ Row.off ∷ Row.off ∷ Row.off ∷ Row.off ∷ Row.off ∷ Row.off ∷ Row.off ∷ Row.off ∷
+              Row.off ∷ Row.off ∷ Row.off ∷ Row.off ∷ Row.off ∷ Row.off ∷ Row.off ∷ List.[];
         }
 
         abbrev G10 : Row.Cx
         G10 = record {
-          locals = List._++_ t8 (List._++_ t1 (List._++_ t2 t3));
-          slots = life0 ∷ life1 ∷ life2 ∷ life3 ∷ life4 ∷ life5 ∷ life6 ∷ life7 ∷ Row.off ∷ Row.off ∷ Row.off ∷ Row.off
-              ∷ Row.off ∷ Row.off ∷ Row.off ∷ Row.off ∷ Row.off ∷ Row.off ∷ Row.off ∷ Row.off ∷ Row.off ∷ Row.off ∷
-              Row.off ∷ Row.off ∷ Row.off ∷ Row.off ∷ Row.off ∷ Row.off ∷ List.[];
+          locals = List._++_ g7 (List._++_ t1 (List._++_ t2 t3));
+          slots = Row.off ∷ life1 ∷ life2 ∷ life3 ∷ life4 ∷ life5 ∷ life6 ∷ life7 ∷ Row.alive ∷ Row.off ∷ Row.off ∷
+              Row.off ∷ Row.off ∷ Row.off ∷ Row.off ∷ Row.off ∷ Row.off ∷ Row.off ∷ Row.off ∷ Row.off ∷ Row.off ∷
+              Row.off ∷ Row.off ∷ Row.off ∷ Row.off ∷ Row.off ∷ Row.off ∷ Row.off ∷ List.[];
         }
 
         abbrev G11 : Row.Cx
         G11 = record {
-          locals = List._++_ t8 (List._++_ t1 (List._++_ t2 t3));
-          slots = life0 ∷ life1 ∷ life2 ∷ life3 ∷ life4 ∷ life5 ∷ life6 ∷ life7 ∷ Row.alive ∷ Row.off ∷ Row.off ∷
+          locals = List._++_ g8 (List._++_ t1 (List._++_ t2 t3));
+          slots = Row.off ∷ life1 ∷ life2 ∷ life3 ∷ life4 ∷ life5 ∷ life6 ∷ life7 ∷ Row.alive ∷ Row.off ∷ Row.off ∷
               Row.off ∷ Row.off ∷ Row.off ∷ Row.off ∷ Row.off ∷ Row.off ∷ Row.off ∷ Row.off ∷ Row.off ∷ Row.off ∷
               Row.off ∷ Row.off ∷ Row.off ∷ Row.off ∷ Row.off ∷ Row.off ∷ Row.off ∷ List.[];
         }
 
         abbrev G12 : Row.Cx
         G12 = record {
-          locals = List._++_ g9 (List._++_ t1 (List._++_ t2 t3));
-          slots = Row.off ∷ life1 ∷ life2 ∷ life3 ∷ life4 ∷ life5 ∷ life6 ∷ life7 ∷ Row.alive ∷ Row.off ∷ Row.off ∷
+          locals = List._++_ g8 (List._++_ t1 (List._++_ t2 t3));
+          slots = Row.off ∷ life1 ∷ life2 ∷ life3 ∷ life4 ∷ life5 ∷ life6 ∷ life7 ∷ Row.alive ∷ Row.alive ∷ Row.off ∷
               Row.off ∷ Row.off ∷ Row.off ∷ Row.off ∷ Row.off ∷ Row.off ∷ Row.off ∷ Row.off ∷ Row.off ∷ Row.off ∷
               Row.off ∷ Row.off ∷ Row.off ∷ Row.off ∷ Row.off ∷ Row.off ∷ Row.off ∷ List.[];
         }
 
         abbrev G13 : Row.Cx
         G13 = record {
-          locals = List._++_ g10 (List._++_ t1 (List._++_ t2 t3));
-          slots = Row.off ∷ life1 ∷ life2 ∷ life3 ∷ life4 ∷ life5 ∷ life6 ∷ life7 ∷ Row.alive ∷ Row.off ∷ Row.off ∷
+          locals = List._++_ g9 (List._++_ t1 (List._++_ t2 t3));
+          slots = Row.off ∷ Row.off ∷ life2 ∷ life3 ∷ life4 ∷ life5 ∷ life6 ∷ life7 ∷ Row.alive ∷ Row.alive ∷ Row.off ∷
               Row.off ∷ Row.off ∷ Row.off ∷ Row.off ∷ Row.off ∷ Row.off ∷ Row.off ∷ Row.off ∷ Row.off ∷ Row.off ∷
               Row.off ∷ Row.off ∷ Row.off ∷ Row.off ∷ Row.off ∷ Row.off ∷ Row.off ∷ List.[];
         }
@@ -3008,79 +2969,79 @@ module _ (claims· : Claims) where
         abbrev G14 : Row.Cx
         G14 = record {
           locals = List._++_ g10 (List._++_ t1 (List._++_ t2 t3));
-          slots = Row.off ∷ life1 ∷ life2 ∷ life3 ∷ life4 ∷ life5 ∷ life6 ∷ life7 ∷ Row.alive ∷ Row.alive ∷ Row.off ∷
+          slots = Row.off ∷ Row.off ∷ life2 ∷ life3 ∷ life4 ∷ life5 ∷ life6 ∷ life7 ∷ Row.alive ∷ Row.alive ∷ Row.off ∷
               Row.off ∷ Row.off ∷ Row.off ∷ Row.off ∷ Row.off ∷ Row.off ∷ Row.off ∷ Row.off ∷ Row.off ∷ Row.off ∷
               Row.off ∷ Row.off ∷ Row.off ∷ Row.off ∷ Row.off ∷ Row.off ∷ Row.off ∷ List.[];
         }
 
         abbrev G15 : Row.Cx
         G15 = record {
-          locals = List._++_ g11 (List._++_ t1 (List._++_ t2 t3));
-          slots = Row.off ∷ Row.off ∷ life2 ∷ life3 ∷ life4 ∷ life5 ∷ life6 ∷ life7 ∷ Row.alive ∷ Row.alive ∷ Row.off ∷
-              Row.off ∷ Row.off ∷ Row.off ∷ Row.off ∷ Row.off ∷ Row.off ∷ Row.off ∷ Row.off ∷ Row.off ∷ Row.off ∷
-              Row.off ∷ Row.off ∷ Row.off ∷ Row.off ∷ Row.off ∷ Row.off ∷ Row.off ∷ List.[];
-        }
-
-        abbrev G16 : Row.Cx
-        G16 = record {
-          locals = List._++_ g12 (List._++_ t13 (List._++_ t2 t3));
-          slots = Row.off ∷ Row.off ∷ life2 ∷ life3 ∷ life4 ∷ life5 ∷ life6 ∷ life7 ∷ Row.alive ∷ Row.alive ∷ Row.off ∷
-              Row.off ∷ Row.off ∷ Row.off ∷ Row.off ∷ Row.off ∷ Row.off ∷ Row.off ∷ Row.off ∷ Row.off ∷ Row.off ∷
-              Row.off ∷ Row.off ∷ Row.off ∷ Row.off ∷ Row.off ∷ Row.off ∷ Row.off ∷ List.[];
-        }
-
-        abbrev G17 : Row.Cx
-        G17 = record {
-          locals = List._++_ g12 (List._++_ t13 (List._++_ t2 t3));
+          locals = List._++_ g10 (List._++_ t1 (List._++_ t2 t3));
           slots = Row.off ∷ Row.off ∷ life2 ∷ life3 ∷ life4 ∷ life5 ∷ life6 ∷ life7 ∷ Row.alive ∷ Row.alive ∷ Row.alive
               ∷ Row.off ∷ Row.off ∷ Row.off ∷ Row.off ∷ Row.off ∷ Row.off ∷ Row.off ∷ Row.off ∷ Row.off ∷ Row.off ∷
               Row.off ∷ Row.off ∷ Row.off ∷ Row.off ∷ Row.off ∷ Row.off ∷ Row.off ∷ List.[];
         }
 
-        abbrev G18 : Row.Cx
-        G18 = record {
-          locals = List._++_ g14 (List._++_ t15 (List._++_ t2 t3));
+        abbrev G16 : Row.Cx
+        G16 = record {
+          locals = List._++_ g11 (List._++_ t12 (List._++_ t2 t3));
           slots = Row.off ∷ Row.off ∷ Row.off ∷ life3 ∷ life4 ∷ life5 ∷ life6 ∷ life7 ∷ Row.alive ∷ Row.alive ∷
               Row.alive ∷ Row.off ∷ Row.off ∷ Row.off ∷ Row.off ∷ Row.off ∷ Row.off ∷ Row.off ∷ Row.off ∷ Row.off ∷
               Row.off ∷ Row.off ∷ Row.off ∷ Row.off ∷ Row.off ∷ Row.off ∷ Row.off ∷ Row.off ∷ List.[];
         }
 
-        abbrev G19 : Row.Cx
-        G19 = record {
-          locals = List._++_ g14 (List._++_ t16 (List._++_ t2 t3));
+        abbrev G17 : Row.Cx
+        G17 = record {
+          locals = List._++_ g11 (List._++_ t13 (List._++_ t2 t3));
           slots = Row.off ∷ Row.off ∷ Row.off ∷ life3 ∷ life4 ∷ life5 ∷ life6 ∷ life7 ∷ Row.alive ∷ Row.alive ∷
               Row.alive ∷ Row.off ∷ Row.off ∷ Row.off ∷ Row.off ∷ Row.off ∷ Row.off ∷ Row.off ∷ Row.off ∷ Row.off ∷
+              Row.off ∷ Row.off ∷ Row.off ∷ Row.off ∷ Row.off ∷ Row.off ∷ Row.off ∷ Row.off ∷ List.[];
+        }
+
+        abbrev G18 : Row.Cx
+        G18 = record {
+          locals = List._++_ g11 (List._++_ t13 (List._++_ t2 t3));
+          slots = Row.off ∷ Row.off ∷ Row.off ∷ life3 ∷ life4 ∷ life5 ∷ life6 ∷ life7 ∷ Row.alive ∷ Row.alive ∷
+              Row.alive ∷ Row.alive ∷ Row.off ∷ Row.off ∷ Row.off ∷ Row.off ∷ Row.off ∷ Row.off ∷ Row.off ∷ Row.off ∷
+              Row.off ∷ Row.off ∷ Row.off ∷ Row.off ∷ Row.off ∷ Row.off ∷ Row.off ∷ Row.off ∷ List.[];
+        }
+
+        abbrev G19 : Row.Cx
+        G19 = record {
+          locals = List._++_ g14 (List._++_ t15 (List._++_ t2 t3));
+          slots = Row.off ∷ Row.off ∷ Row.off ∷ Row.off ∷ life4 ∷ life5 ∷ life6 ∷ life7 ∷ Row.alive ∷ Row.alive ∷
+              Row.alive ∷ Row.alive ∷ Row.off ∷ Row.off ∷ Row.off ∷ Row.off ∷ Row.off ∷ Row.off ∷ Row.off ∷ Row.off ∷
               Row.off ∷ Row.off ∷ Row.off ∷ Row.off ∷ Row.off ∷ Row.off ∷ Row.off ∷ Row.off ∷ List.[];
         }
 
         abbrev G20 : Row.Cx
         G20 = record {
           locals = List._++_ g14 (List._++_ t16 (List._++_ t2 t3));
-          slots = Row.off ∷ Row.off ∷ Row.off ∷ life3 ∷ life4 ∷ life5 ∷ life6 ∷ life7 ∷ Row.alive ∷ Row.alive ∷
+          slots = Row.off ∷ Row.off ∷ Row.off ∷ Row.off ∷ life4 ∷ life5 ∷ life6 ∷ life7 ∷ Row.alive ∷ Row.alive ∷
               Row.alive ∷ Row.alive ∷ Row.off ∷ Row.off ∷ Row.off ∷ Row.off ∷ Row.off ∷ Row.off ∷ Row.off ∷ Row.off ∷
               Row.off ∷ Row.off ∷ Row.off ∷ Row.off ∷ Row.off ∷ Row.off ∷ Row.off ∷ Row.off ∷ List.[];
         }
 
         abbrev G21 : Row.Cx
         G21 = record {
-          locals = List._++_ g17 (List._++_ t18 (List._++_ t2 t3));
+          locals = List._++_ g14 (List._++_ t16 (List._++_ t2 t3));
           slots = Row.off ∷ Row.off ∷ Row.off ∷ Row.off ∷ life4 ∷ life5 ∷ life6 ∷ life7 ∷ Row.alive ∷ Row.alive ∷
-              Row.alive ∷ Row.alive ∷ Row.off ∷ Row.off ∷ Row.off ∷ Row.off ∷ Row.off ∷ Row.off ∷ Row.off ∷ Row.off ∷
+              Row.alive ∷ Row.alive ∷ Row.alive ∷ Row.off ∷ Row.off ∷ Row.off ∷ Row.off ∷ Row.off ∷ Row.off ∷ Row.off ∷
               Row.off ∷ Row.off ∷ Row.off ∷ Row.off ∷ Row.off ∷ Row.off ∷ Row.off ∷ Row.off ∷ List.[];
         }
 
         abbrev G22 : Row.Cx
         G22 = record {
-          locals = List._++_ g17 (List._++_ t19 (List._++_ t2 t3));
-          slots = Row.off ∷ Row.off ∷ Row.off ∷ Row.off ∷ life4 ∷ life5 ∷ life6 ∷ life7 ∷ Row.alive ∷ Row.alive ∷
-              Row.alive ∷ Row.alive ∷ Row.off ∷ Row.off ∷ Row.off ∷ Row.off ∷ Row.off ∷ Row.off ∷ Row.off ∷ Row.off ∷
+          locals = List._++_ g17 (List._++_ t18 (List._++_ t2 t3));
+          slots = Row.off ∷ Row.off ∷ Row.off ∷ Row.off ∷ Row.off ∷ life5 ∷ life6 ∷ life7 ∷ Row.alive ∷ Row.alive ∷
+              Row.alive ∷ Row.alive ∷ Row.alive ∷ Row.off ∷ Row.off ∷ Row.off ∷ Row.off ∷ Row.off ∷ Row.off ∷ Row.off ∷
               Row.off ∷ Row.off ∷ Row.off ∷ Row.off ∷ Row.off ∷ Row.off ∷ Row.off ∷ Row.off ∷ List.[];
         }
 
         abbrev G23 : Row.Cx
         G23 = record {
           locals = List._++_ g17 (List._++_ t19 (List._++_ t2 t3));
-          slots = Row.off ∷ Row.off ∷ Row.off ∷ Row.off ∷ life4 ∷ life5 ∷ life6 ∷ life7 ∷ Row.alive ∷ Row.alive ∷
+          slots = Row.off ∷ Row.off ∷ Row.off ∷ Row.off ∷ Row.off ∷ life5 ∷ life6 ∷ life7 ∷ Row.alive ∷ Row.alive ∷
               Row.alive ∷ Row.alive ∷ Row.alive ∷ Row.off ∷ Row.off ∷ Row.off ∷ Row.off ∷ Row.off ∷ Row.off ∷ Row.off ∷
               Row.off ∷ Row.off ∷ Row.off ∷ Row.off ∷ Row.off ∷ Row.off ∷ Row.off ∷ Row.off ∷ List.[];
         }
@@ -3095,7 +3056,7 @@ module _ (claims· : Claims) where
 
         abbrev G25 : Row.Cx
         G25 = record {
-          locals = List._++_ g20 (List._++_ t22 (List._++_ t2 t3));
+          locals = List._++_ g22 (List._++_ t21 (List._++_ t2 t3));
           slots = Row.off ∷ Row.off ∷ Row.off ∷ Row.off ∷ Row.off ∷ life5 ∷ life6 ∷ life7 ∷ Row.alive ∷ Row.alive ∷
               Row.alive ∷ Row.alive ∷ Row.alive ∷ Row.off ∷ Row.off ∷ Row.off ∷ Row.off ∷ Row.off ∷ Row.off ∷ Row.off ∷
               Row.off ∷ Row.off ∷ Row.off ∷ Row.off ∷ Row.off ∷ Row.off ∷ Row.off ∷ Row.off ∷ List.[];
@@ -3103,231 +3064,231 @@ module _ (claims· : Claims) where
 
         abbrev G26 : Row.Cx
         G26 = record {
-          locals = List._++_ g23 (List._++_ t24 (List._++_ t2 t3));
-          slots = Row.off ∷ Row.off ∷ Row.off ∷ Row.off ∷ Row.off ∷ life5 ∷ life6 ∷ life7 ∷ Row.alive ∷ Row.alive ∷
+          locals = List._++_ g22 (List._++_ t21 (List._++_ t2 t3));
+          slots = Row.off ∷ Row.off ∷ Row.off ∷ Row.off ∷ Row.off ∷ life5 ∷ life6 ∷ life7 ∷ Row.dead ∷ Row.alive ∷
               Row.alive ∷ Row.alive ∷ Row.alive ∷ Row.off ∷ Row.off ∷ Row.off ∷ Row.off ∷ Row.off ∷ Row.off ∷ Row.off ∷
               Row.off ∷ Row.off ∷ Row.off ∷ Row.off ∷ Row.off ∷ Row.off ∷ Row.off ∷ Row.off ∷ List.[];
         }
 
         abbrev G27 : Row.Cx
         G27 = record {
-          locals = List._++_ g25 (List._++_ t24 (List._++_ t2 t3));
-          slots = Row.off ∷ Row.off ∷ Row.off ∷ Row.off ∷ Row.off ∷ life5 ∷ life6 ∷ life7 ∷ Row.alive ∷ Row.alive ∷
+          locals = List._++_ g23 (List._++_ t21 (List._++_ t2 t3));
+          slots = life0 ∷ Row.off ∷ Row.off ∷ Row.off ∷ Row.off ∷ life5 ∷ life6 ∷ life7 ∷ Row.dead ∷ Row.alive ∷
               Row.alive ∷ Row.alive ∷ Row.alive ∷ Row.off ∷ Row.off ∷ Row.off ∷ Row.off ∷ Row.off ∷ Row.off ∷ Row.off ∷
               Row.off ∷ Row.off ∷ Row.off ∷ Row.off ∷ Row.off ∷ Row.off ∷ Row.off ∷ Row.off ∷ List.[];
         }
 
         abbrev G28 : Row.Cx
         G28 = record {
-          locals = List._++_ g25 (List._++_ t24 (List._++_ t2 t3));
-          slots = Row.off ∷ Row.off ∷ Row.off ∷ Row.off ∷ Row.off ∷ life5 ∷ life6 ∷ life7 ∷ Row.dead ∷ Row.alive ∷
+          locals = List._++_ g23 (List._++_ t21 (List._++_ t2 t3));
+          slots = life0 ∷ Row.off ∷ Row.off ∷ Row.off ∷ Row.off ∷ life5 ∷ life6 ∷ life7 ∷ Row.off ∷ Row.alive ∷
               Row.alive ∷ Row.alive ∷ Row.alive ∷ Row.off ∷ Row.off ∷ Row.off ∷ Row.off ∷ Row.off ∷ Row.off ∷ Row.off ∷
               Row.off ∷ Row.off ∷ Row.off ∷ Row.off ∷ Row.off ∷ Row.off ∷ Row.off ∷ Row.off ∷ List.[];
         }
 
         abbrev G29 : Row.Cx
         G29 = record {
-          locals = List._++_ g26 (List._++_ t24 (List._++_ t2 t3));
-          slots = life0 ∷ Row.off ∷ Row.off ∷ Row.off ∷ Row.off ∷ life5 ∷ life6 ∷ life7 ∷ Row.dead ∷ Row.alive ∷
+          locals = List._++_ g23 (List._++_ t21 (List._++_ t2 t3));
+          slots = life0 ∷ Row.off ∷ Row.off ∷ Row.off ∷ Row.off ∷ life5 ∷ life6 ∷ life7 ∷ Row.off ∷ Row.dead ∷
               Row.alive ∷ Row.alive ∷ Row.alive ∷ Row.off ∷ Row.off ∷ Row.off ∷ Row.off ∷ Row.off ∷ Row.off ∷ Row.off ∷
               Row.off ∷ Row.off ∷ Row.off ∷ Row.off ∷ Row.off ∷ Row.off ∷ Row.off ∷ Row.off ∷ List.[];
         }
 
         abbrev G30 : Row.Cx
         G30 = record {
-          locals = List._++_ g26 (List._++_ t24 (List._++_ t2 t3));
-          slots = life0 ∷ Row.off ∷ Row.off ∷ Row.off ∷ Row.off ∷ life5 ∷ life6 ∷ life7 ∷ Row.off ∷ Row.alive ∷
-              Row.alive ∷ Row.alive ∷ Row.alive ∷ Row.off ∷ Row.off ∷ Row.off ∷ Row.off ∷ Row.off ∷ Row.off ∷ Row.off ∷
-              Row.off ∷ Row.off ∷ Row.off ∷ Row.off ∷ Row.off ∷ Row.off ∷ Row.off ∷ Row.off ∷ List.[];
-        }
-
-        abbrev G31 : Row.Cx
-        G31 = record {
-          locals = List._++_ g26 (List._++_ t24 (List._++_ t2 t3));
-          slots = life0 ∷ Row.off ∷ Row.off ∷ Row.off ∷ Row.off ∷ life5 ∷ life6 ∷ life7 ∷ Row.off ∷ Row.dead ∷
-              Row.alive ∷ Row.alive ∷ Row.alive ∷ Row.off ∷ Row.off ∷ Row.off ∷ Row.off ∷ Row.off ∷ Row.off ∷ Row.off ∷
-              Row.off ∷ Row.off ∷ Row.off ∷ Row.off ∷ Row.off ∷ Row.off ∷ Row.off ∷ Row.off ∷ List.[];
-        }
-
-        abbrev G32 : Row.Cx
-        G32 = record {
-          locals = List._++_ g27 (List._++_ t28 (List._++_ t2 t3));
+          locals = List._++_ g24 (List._++_ t21 (List._++_ t2 t3));
           slots = life0 ∷ life1 ∷ Row.off ∷ Row.off ∷ Row.off ∷ life5 ∷ life6 ∷ life7 ∷ Row.off ∷ Row.dead ∷ Row.alive
               ∷ Row.alive ∷ Row.alive ∷ Row.off ∷ Row.off ∷ Row.off ∷ Row.off ∷ Row.off ∷ Row.off ∷ Row.off ∷ Row.off ∷
               Row.off ∷ Row.off ∷ Row.off ∷ Row.off ∷ Row.off ∷ Row.off ∷ Row.off ∷ List.[];
         }
 
+        abbrev G31 : Row.Cx
+        G31 = record {
+          locals = List._++_ g24 (List._++_ t21 (List._++_ t2 t3));
+          slots = life0 ∷ life1 ∷ Row.off ∷ Row.off ∷ Row.off ∷ life5 ∷ life6 ∷ life7 ∷ Row.off ∷ Row.off ∷ Row.alive ∷
+              Row.alive ∷ Row.alive ∷ Row.off ∷ Row.off ∷ Row.off ∷ Row.off ∷ Row.off ∷ Row.off ∷ Row.off ∷ Row.off ∷
+              Row.off ∷ Row.off ∷ Row.off ∷ Row.off ∷ Row.off ∷ Row.off ∷ Row.off ∷ List.[];
+        }
+
+        abbrev G32 : Row.Cx
+        G32 = record {
+          locals = List._++_ g24 (List._++_ t21 (List._++_ t2 t3));
+          slots = life0 ∷ life1 ∷ Row.off ∷ Row.off ∷ Row.off ∷ life5 ∷ life6 ∷ life7 ∷ Row.off ∷ Row.off ∷ Row.dead ∷
+              Row.alive ∷ Row.alive ∷ Row.off ∷ Row.off ∷ Row.off ∷ Row.off ∷ Row.off ∷ Row.off ∷ Row.off ∷ Row.off ∷
+              Row.off ∷ Row.off ∷ Row.off ∷ Row.off ∷ Row.off ∷ Row.off ∷ Row.off ∷ List.[];
+        }
+
         abbrev G33 : Row.Cx
         G33 = record {
-          locals = List._++_ g27 (List._++_ t28 (List._++_ t2 t3));
-          slots = life0 ∷ life1 ∷ Row.off ∷ Row.off ∷ Row.off ∷ life5 ∷ life6 ∷ life7 ∷ Row.off ∷ Row.off ∷ Row.alive ∷
+          locals = List._++_ g25 (List._++_ t26 (List._++_ t2 t3));
+          slots = life0 ∷ life1 ∷ life2 ∷ Row.off ∷ Row.off ∷ life5 ∷ life6 ∷ life7 ∷ Row.off ∷ Row.off ∷ Row.dead ∷
               Row.alive ∷ Row.alive ∷ Row.off ∷ Row.off ∷ Row.off ∷ Row.off ∷ Row.off ∷ Row.off ∷ Row.off ∷ Row.off ∷
               Row.off ∷ Row.off ∷ Row.off ∷ Row.off ∷ Row.off ∷ Row.off ∷ Row.off ∷ List.[];
         }
 
         abbrev G34 : Row.Cx
         G34 = record {
-          locals = List._++_ g27 (List._++_ t28 (List._++_ t2 t3));
-          slots = life0 ∷ life1 ∷ Row.off ∷ Row.off ∷ Row.off ∷ life5 ∷ life6 ∷ life7 ∷ Row.off ∷ Row.off ∷ Row.dead ∷
+          locals = List._++_ g25 (List._++_ t26 (List._++_ t2 t3));
+          slots = life0 ∷ life1 ∷ life2 ∷ Row.off ∷ Row.off ∷ life5 ∷ life6 ∷ life7 ∷ Row.off ∷ Row.off ∷ Row.off ∷
               Row.alive ∷ Row.alive ∷ Row.off ∷ Row.off ∷ Row.off ∷ Row.off ∷ Row.off ∷ Row.off ∷ Row.off ∷ Row.off ∷
               Row.off ∷ Row.off ∷ Row.off ∷ Row.off ∷ Row.off ∷ Row.off ∷ Row.off ∷ List.[];
         }
 
         abbrev G35 : Row.Cx
         G35 = record {
-          locals = List._++_ g29 (List._++_ t30 (List._++_ t2 t3));
-          slots = life0 ∷ life1 ∷ life2 ∷ Row.off ∷ Row.off ∷ life5 ∷ life6 ∷ life7 ∷ Row.off ∷ Row.off ∷ Row.dead ∷
-              Row.alive ∷ Row.alive ∷ Row.off ∷ Row.off ∷ Row.off ∷ Row.off ∷ Row.off ∷ Row.off ∷ Row.off ∷ Row.off ∷
+          locals = List._++_ g25 (List._++_ t26 (List._++_ t2 t3));
+          slots = life0 ∷ life1 ∷ life2 ∷ Row.off ∷ Row.off ∷ life5 ∷ life6 ∷ life7 ∷ Row.off ∷ Row.off ∷ Row.off ∷
+              Row.dead ∷ Row.alive ∷ Row.off ∷ Row.off ∷ Row.off ∷ Row.off ∷ Row.off ∷ Row.off ∷ Row.off ∷ Row.off ∷
               Row.off ∷ Row.off ∷ Row.off ∷ Row.off ∷ Row.off ∷ Row.off ∷ Row.off ∷ List.[];
         }
 
         abbrev G36 : Row.Cx
         G36 = record {
-          locals = List._++_ g29 (List._++_ t30 (List._++_ t2 t3));
-          slots = life0 ∷ life1 ∷ life2 ∷ Row.off ∷ Row.off ∷ life5 ∷ life6 ∷ life7 ∷ Row.off ∷ Row.off ∷ Row.off ∷
-              Row.alive ∷ Row.alive ∷ Row.off ∷ Row.off ∷ Row.off ∷ Row.off ∷ Row.off ∷ Row.off ∷ Row.off ∷ Row.off ∷
+          locals = List._++_ g27 (List._++_ t28 (List._++_ t2 t3));
+          slots = life0 ∷ life1 ∷ life2 ∷ life3 ∷ Row.off ∷ life5 ∷ life6 ∷ life7 ∷ Row.off ∷ Row.off ∷ Row.off ∷
+              Row.dead ∷ Row.alive ∷ Row.off ∷ Row.off ∷ Row.off ∷ Row.off ∷ Row.off ∷ Row.off ∷ Row.off ∷ Row.off ∷
               Row.off ∷ Row.off ∷ Row.off ∷ Row.off ∷ Row.off ∷ Row.off ∷ Row.off ∷ List.[];
         }
 
         abbrev G37 : Row.Cx
         G37 = record {
-          locals = List._++_ g29 (List._++_ t30 (List._++_ t2 t3));
-          slots = life0 ∷ life1 ∷ life2 ∷ Row.off ∷ Row.off ∷ life5 ∷ life6 ∷ life7 ∷ Row.off ∷ Row.off ∷ Row.off ∷
-              Row.dead ∷ Row.alive ∷ Row.off ∷ Row.off ∷ Row.off ∷ Row.off ∷ Row.off ∷ Row.off ∷ Row.off ∷ Row.off ∷
-              Row.off ∷ Row.off ∷ Row.off ∷ Row.off ∷ Row.off ∷ Row.off ∷ Row.off ∷ List.[];
-        }
-
-        abbrev G38 : Row.Cx
-        G38 = record {
-          locals = List._++_ g31 (List._++_ t32 (List._++_ t2 t3));
-          slots = life0 ∷ life1 ∷ life2 ∷ life3 ∷ Row.off ∷ life5 ∷ life6 ∷ life7 ∷ Row.off ∷ Row.off ∷ Row.off ∷
-              Row.dead ∷ Row.alive ∷ Row.off ∷ Row.off ∷ Row.off ∷ Row.off ∷ Row.off ∷ Row.off ∷ Row.off ∷ Row.off ∷
-              Row.off ∷ Row.off ∷ Row.off ∷ Row.off ∷ Row.off ∷ Row.off ∷ Row.off ∷ List.[];
-        }
-
-        abbrev G39 : Row.Cx
-        G39 = record {
-          locals = List._++_ g31 (List._++_ t32 (List._++_ t2 t3));
+          locals = List._++_ g27 (List._++_ t28 (List._++_ t2 t3));
           slots = life0 ∷ life1 ∷ life2 ∷ life3 ∷ Row.off ∷ life5 ∷ life6 ∷ life7 ∷ Row.off ∷ Row.off ∷ Row.off ∷
               Row.off ∷ Row.alive ∷ Row.off ∷ Row.off ∷ Row.off ∷ Row.off ∷ Row.off ∷ Row.off ∷ Row.off ∷ Row.off ∷
               Row.off ∷ Row.off ∷ Row.off ∷ Row.off ∷ Row.off ∷ Row.off ∷ Row.off ∷ List.[];
         }
 
-        abbrev G40 : Row.Cx
-        G40 = record {
-          locals = List._++_ g31 (List._++_ t32 (List._++_ t2 t3));
+        abbrev G38 : Row.Cx
+        G38 = record {
+          locals = List._++_ g27 (List._++_ t28 (List._++_ t2 t3));
           slots = life0 ∷ life1 ∷ life2 ∷ life3 ∷ Row.off ∷ life5 ∷ life6 ∷ life7 ∷ Row.off ∷ Row.off ∷ Row.off ∷
               Row.off ∷ Row.dead ∷ Row.off ∷ Row.off ∷ Row.off ∷ Row.off ∷ Row.off ∷ Row.off ∷ Row.off ∷ Row.off ∷
               Row.off ∷ Row.off ∷ Row.off ∷ Row.off ∷ Row.off ∷ Row.off ∷ Row.off ∷ List.[];
         }
 
+        abbrev G39 : Row.Cx
+        G39 = record {
+          locals = List._++_ t6 (List._++_ t1 (List._++_ t2 t3));
+          slots = life0 ∷ life1 ∷ life2 ∷ life3 ∷ life4 ∷ life5 ∷ life6 ∷ life7 ∷ Row.off ∷ Row.off ∷ Row.off ∷ Row.off
+              ∷ Row.dead ∷ Row.off ∷ Row.off ∷ Row.off ∷ Row.off ∷ Row.off ∷ Row.off ∷ Row.off ∷ Row.off ∷ Row.off ∷
+              Row.off ∷ Row.off ∷ Row.off ∷ Row.off ∷ Row.off ∷ Row.off ∷ List.[];
+        }
+
+        abbrev G40 : Row.Cx
+        G40 = record {
+          locals = List._++_ t6 (List._++_ t1 (List._++_ t2 t3));
+          slots = life0 ∷ life1 ∷ life2 ∷ life3 ∷ life4 ∷ life5 ∷ life6 ∷ life7 ∷ Row.off ∷ Row.off ∷ Row.off ∷ Row.off
+              ∷ Row.dead ∷ Row.off ∷ Row.off ∷ Row.off ∷ Row.off ∷ Row.off ∷ Row.off ∷ Row.off ∷ Row.off ∷ Row.off ∷
+              Row.off ∷ Row.off ∷ Row.off ∷ Row.off ∷ Row.off ∷ Row.off ∷ List.[];
+        }
+
         abbrev G41 : Row.Cx
         G41 = record {
-          locals = List._++_ t7 (List._++_ t1 (List._++_ t2 t3));
-          slots = life0 ∷ life1 ∷ life2 ∷ life3 ∷ life4 ∷ life5 ∷ life6 ∷ life7 ∷ Row.off ∷ Row.off ∷ Row.off ∷ Row.off
-              ∷ Row.dead ∷ Row.off ∷ Row.off ∷ Row.off ∷ Row.off ∷ Row.off ∷ Row.off ∷ Row.off ∷ Row.off ∷ Row.off ∷
-              Row.off ∷ Row.off ∷ Row.off ∷ Row.off ∷ Row.off ∷ Row.off ∷ List.[];
-        }
-
-        abbrev G42 : Row.Cx
-        G42 = record {
-          locals = List._++_ t7 (List._++_ t1 (List._++_ t2 t3));
-          slots = life0 ∷ life1 ∷ life2 ∷ life3 ∷ life4 ∷ life5 ∷ life6 ∷ life7 ∷ Row.off ∷ Row.off ∷ Row.off ∷ Row.off
-              ∷ Row.dead ∷ Row.off ∷ Row.off ∷ Row.off ∷ Row.off ∷ Row.off ∷ Row.off ∷ Row.off ∷ Row.off ∷ Row.off ∷
-              Row.off ∷ Row.off ∷ Row.off ∷ Row.off ∷ Row.off ∷ Row.off ∷ List.[];
-        }
-
-        abbrev G43 : Row.Cx
-        G43 = record {
-          locals = List._++_ t7 (List._++_ t1 (List._++_ t2 t3));
+          locals = List._++_ t6 (List._++_ t1 (List._++_ t2 t3));
           slots = life0 ∷ life1 ∷ life2 ∷ life3 ∷ life4 ∷ life5 ∷ life6 ∷ life7 ∷ Row.off ∷ Row.off ∷ Row.off ∷ Row.off
               ∷ Row.off ∷ Row.off ∷ Row.off ∷ Row.off ∷ Row.off ∷ Row.off ∷ Row.off ∷ Row.off ∷ Row.off ∷ Row.off ∷
               Row.off ∷ Row.off ∷ Row.off ∷ Row.off ∷ Row.off ∷ Row.off ∷ List.[];
         }
 
-        abbrev G44 : Row.Cx
-        G44 = record {
-          locals = List._++_ t8 (List._++_ t1 (List._++_ t2 t3));
+        abbrev G42 : Row.Cx
+        G42 = record {
+          locals = List._++_ t5 (List._++_ t1 (List._++_ t2 t3));
           slots = life0 ∷ life1 ∷ life2 ∷ life3 ∷ life4 ∷ life5 ∷ life6 ∷ life7 ∷ Row.off ∷ Row.off ∷ Row.off ∷ Row.off
               ∷ Row.off ∷ Row.alive ∷ Row.off ∷ Row.off ∷ Row.off ∷ Row.off ∷ Row.off ∷ Row.off ∷ Row.off ∷ Row.off ∷
               Row.off ∷ Row.off ∷ Row.off ∷ Row.off ∷ Row.off ∷ Row.off ∷ List.[];
         }
 
-        abbrev G45 : Row.Cx
-        G45 = record {
-          locals = List._++_ g33 (List._++_ t34 (List._++_ t2 t3));
+        abbrev G43 : Row.Cx
+        G43 = record {
+          locals = List._++_ g29 (List._++_ t30 (List._++_ t2 t3));
           slots = Row.off ∷ life1 ∷ life2 ∷ life3 ∷ life4 ∷ life5 ∷ life6 ∷ life7 ∷ Row.off ∷ Row.off ∷ Row.off ∷
               Row.off ∷ Row.off ∷ Row.alive ∷ Row.off ∷ Row.off ∷ Row.off ∷ Row.off ∷ Row.off ∷ Row.off ∷ Row.off ∷
+              Row.off ∷ Row.off ∷ Row.off ∷ Row.off ∷ Row.off ∷ Row.off ∷ Row.off ∷ List.[];
+        }
+
+        abbrev G44 : Row.Cx
+        G44 = record {
+          locals = List._++_ g29 (List._++_ t31 (List._++_ t2 t3));
+          slots = Row.off ∷ life1 ∷ life2 ∷ life3 ∷ life4 ∷ life5 ∷ life6 ∷ life7 ∷ Row.off ∷ Row.off ∷ Row.off ∷
+              Row.off ∷ Row.off ∷ Row.alive ∷ Row.off ∷ Row.off ∷ Row.off ∷ Row.off ∷ Row.off ∷ Row.off ∷ Row.off ∷
+              Row.off ∷ Row.off ∷ Row.off ∷ Row.off ∷ Row.off ∷ Row.off ∷ Row.off ∷ List.[];
+        }
+
+        abbrev G45 : Row.Cx
+        G45 = record {
+          locals = List._++_ g29 (List._++_ t31 (List._++_ t2 t3));
+          slots = Row.off ∷ life1 ∷ life2 ∷ life3 ∷ life4 ∷ life5 ∷ life6 ∷ life7 ∷ Row.off ∷ Row.off ∷ Row.off ∷
+              Row.off ∷ Row.off ∷ Row.alive ∷ Row.alive ∷ Row.off ∷ Row.off ∷ Row.off ∷ Row.off ∷ Row.off ∷ Row.off ∷
               Row.off ∷ Row.off ∷ Row.off ∷ Row.off ∷ Row.off ∷ Row.off ∷ Row.off ∷ List.[];
         }
 
         abbrev G46 : Row.Cx
         G46 = record {
-          locals = List._++_ g33 (List._++_ t35 (List._++_ t2 t3));
-          slots = Row.off ∷ life1 ∷ life2 ∷ life3 ∷ life4 ∷ life5 ∷ life6 ∷ life7 ∷ Row.off ∷ Row.off ∷ Row.off ∷
-              Row.off ∷ Row.off ∷ Row.alive ∷ Row.off ∷ Row.off ∷ Row.off ∷ Row.off ∷ Row.off ∷ Row.off ∷ Row.off ∷
+          locals = List._++_ g32 (List._++_ t33 (List._++_ t2 t3));
+          slots = Row.off ∷ Row.off ∷ life2 ∷ life3 ∷ life4 ∷ life5 ∷ life6 ∷ life7 ∷ Row.off ∷ Row.off ∷ Row.off ∷
+              Row.off ∷ Row.off ∷ Row.alive ∷ Row.alive ∷ Row.off ∷ Row.off ∷ Row.off ∷ Row.off ∷ Row.off ∷ Row.off ∷
               Row.off ∷ Row.off ∷ Row.off ∷ Row.off ∷ Row.off ∷ Row.off ∷ Row.off ∷ List.[];
         }
 
         abbrev G47 : Row.Cx
         G47 = record {
-          locals = List._++_ g33 (List._++_ t35 (List._++_ t2 t3));
-          slots = Row.off ∷ life1 ∷ life2 ∷ life3 ∷ life4 ∷ life5 ∷ life6 ∷ life7 ∷ Row.off ∷ Row.off ∷ Row.off ∷
+          locals = List._++_ g32 (List._++_ t34 (List._++_ t2 t3));
+          slots = Row.off ∷ Row.off ∷ life2 ∷ life3 ∷ life4 ∷ life5 ∷ life6 ∷ life7 ∷ Row.off ∷ Row.off ∷ Row.off ∷
               Row.off ∷ Row.off ∷ Row.alive ∷ Row.alive ∷ Row.off ∷ Row.off ∷ Row.off ∷ Row.off ∷ Row.off ∷ Row.off ∷
               Row.off ∷ Row.off ∷ Row.off ∷ Row.off ∷ Row.off ∷ Row.off ∷ Row.off ∷ List.[];
         }
 
         abbrev G48 : Row.Cx
         G48 = record {
-          locals = List._++_ g36 (List._++_ t37 (List._++_ t2 t3));
+          locals = List._++_ g32 (List._++_ t34 (List._++_ t2 t3));
           slots = Row.off ∷ Row.off ∷ life2 ∷ life3 ∷ life4 ∷ life5 ∷ life6 ∷ life7 ∷ Row.off ∷ Row.off ∷ Row.off ∷
-              Row.off ∷ Row.off ∷ Row.alive ∷ Row.alive ∷ Row.off ∷ Row.off ∷ Row.off ∷ Row.off ∷ Row.off ∷ Row.off ∷
+              Row.off ∷ Row.off ∷ Row.alive ∷ Row.alive ∷ Row.alive ∷ Row.off ∷ Row.off ∷ Row.off ∷ Row.off ∷ Row.off ∷
               Row.off ∷ Row.off ∷ Row.off ∷ Row.off ∷ Row.off ∷ Row.off ∷ Row.off ∷ List.[];
         }
 
         abbrev G49 : Row.Cx
         G49 = record {
-          locals = List._++_ g36 (List._++_ t38 (List._++_ t2 t3));
-          slots = Row.off ∷ Row.off ∷ life2 ∷ life3 ∷ life4 ∷ life5 ∷ life6 ∷ life7 ∷ Row.off ∷ Row.off ∷ Row.off ∷
-              Row.off ∷ Row.off ∷ Row.alive ∷ Row.alive ∷ Row.off ∷ Row.off ∷ Row.off ∷ Row.off ∷ Row.off ∷ Row.off ∷
+          locals = List._++_ g35 (List._++_ t36 (List._++_ t2 t3));
+          slots = Row.off ∷ Row.off ∷ life2 ∷ Row.off ∷ life4 ∷ life5 ∷ life6 ∷ life7 ∷ Row.off ∷ Row.off ∷ Row.off ∷
+              Row.off ∷ Row.off ∷ Row.alive ∷ Row.alive ∷ Row.alive ∷ Row.off ∷ Row.off ∷ Row.off ∷ Row.off ∷ Row.off ∷
               Row.off ∷ Row.off ∷ Row.off ∷ Row.off ∷ Row.off ∷ Row.off ∷ Row.off ∷ List.[];
         }
 
         abbrev G50 : Row.Cx
         G50 = record {
-          locals = List._++_ g36 (List._++_ t38 (List._++_ t2 t3));
-          slots = Row.off ∷ Row.off ∷ life2 ∷ life3 ∷ life4 ∷ life5 ∷ life6 ∷ life7 ∷ Row.off ∷ Row.off ∷ Row.off ∷
+          locals = List._++_ g35 (List._++_ t37 (List._++_ t2 t3));
+          slots = Row.off ∷ Row.off ∷ life2 ∷ Row.off ∷ life4 ∷ life5 ∷ life6 ∷ life7 ∷ Row.off ∷ Row.off ∷ Row.off ∷
               Row.off ∷ Row.off ∷ Row.alive ∷ Row.alive ∷ Row.alive ∷ Row.off ∷ Row.off ∷ Row.off ∷ Row.off ∷ Row.off ∷
               Row.off ∷ Row.off ∷ Row.off ∷ Row.off ∷ Row.off ∷ Row.off ∷ Row.off ∷ List.[];
         }
 
         abbrev G51 : Row.Cx
         G51 = record {
-          locals = List._++_ g39 (List._++_ t40 (List._++_ t2 t3));
+          locals = List._++_ g35 (List._++_ t37 (List._++_ t2 t3));
           slots = Row.off ∷ Row.off ∷ life2 ∷ Row.off ∷ life4 ∷ life5 ∷ life6 ∷ life7 ∷ Row.off ∷ Row.off ∷ Row.off ∷
-              Row.off ∷ Row.off ∷ Row.alive ∷ Row.alive ∷ Row.alive ∷ Row.off ∷ Row.off ∷ Row.off ∷ Row.off ∷ Row.off ∷
-              Row.off ∷ Row.off ∷ Row.off ∷ Row.off ∷ Row.off ∷ Row.off ∷ Row.off ∷ List.[];
+              Row.off ∷ Row.off ∷ Row.alive ∷ Row.alive ∷ Row.alive ∷ Row.alive ∷ Row.off ∷ Row.off ∷ Row.off ∷ Row.off
+              ∷ Row.off ∷ Row.off ∷ Row.off ∷ Row.off ∷ Row.off ∷ Row.off ∷ Row.off ∷ List.[];
         }
 
         abbrev G52 : Row.Cx
         G52 = record {
-          locals = List._++_ g39 (List._++_ t41 (List._++_ t2 t3));
-          slots = Row.off ∷ Row.off ∷ life2 ∷ Row.off ∷ life4 ∷ life5 ∷ life6 ∷ life7 ∷ Row.off ∷ Row.off ∷ Row.off ∷
-              Row.off ∷ Row.off ∷ Row.alive ∷ Row.alive ∷ Row.alive ∷ Row.off ∷ Row.off ∷ Row.off ∷ Row.off ∷ Row.off ∷
-              Row.off ∷ Row.off ∷ Row.off ∷ Row.off ∷ Row.off ∷ Row.off ∷ Row.off ∷ List.[];
+          locals = List._++_ g38 (List._++_ t39 (List._++_ t2 t3));
+          slots = Row.off ∷ Row.off ∷ life2 ∷ Row.off ∷ Row.off ∷ life5 ∷ life6 ∷ life7 ∷ Row.off ∷ Row.off ∷ Row.off ∷
+              Row.off ∷ Row.off ∷ Row.alive ∷ Row.alive ∷ Row.alive ∷ Row.alive ∷ Row.off ∷ Row.off ∷ Row.off ∷ Row.off
+              ∷ Row.off ∷ Row.off ∷ Row.off ∷ Row.off ∷ Row.off ∷ Row.off ∷ Row.off ∷ List.[];
         }
 
         abbrev G53 : Row.Cx
         G53 = record {
-          locals = List._++_ g39 (List._++_ t41 (List._++_ t2 t3));
-          slots = Row.off ∷ Row.off ∷ life2 ∷ Row.off ∷ life4 ∷ life5 ∷ life6 ∷ life7 ∷ Row.off ∷ Row.off ∷ Row.off ∷
+          locals = List._++_ g38 (List._++_ t40 (List._++_ t2 t3));
+          slots = Row.off ∷ Row.off ∷ life2 ∷ Row.off ∷ Row.off ∷ life5 ∷ life6 ∷ life7 ∷ Row.off ∷ Row.off ∷ Row.off ∷
               Row.off ∷ Row.off ∷ Row.alive ∷ Row.alive ∷ Row.alive ∷ Row.alive ∷ Row.off ∷ Row.off ∷ Row.off ∷ Row.off
               ∷ Row.off ∷ Row.off ∷ Row.off ∷ Row.off ∷ Row.off ∷ Row.off ∷ Row.off ∷ List.[];
         }
 
         abbrev G54 : Row.Cx
         G54 = record {
-          locals = List._++_ g42 (List._++_ t43 (List._++_ t2 t3));
+          locals = List._++_ g41 (List._++_ t42 (List._++_ t2 t3));
           slots = Row.off ∷ Row.off ∷ life2 ∷ Row.off ∷ Row.off ∷ life5 ∷ life6 ∷ life7 ∷ Row.off ∷ Row.off ∷ Row.off ∷
               Row.off ∷ Row.off ∷ Row.alive ∷ Row.alive ∷ Row.alive ∷ Row.alive ∷ Row.off ∷ Row.off ∷ Row.off ∷ Row.off
               ∷ Row.off ∷ Row.off ∷ Row.off ∷ Row.off ∷ Row.off ∷ Row.off ∷ Row.off ∷ List.[];
@@ -3335,7 +3296,7 @@ module _ (claims· : Claims) where
 
         abbrev G55 : Row.Cx
         G55 = record {
-          locals = List._++_ g42 (List._++_ t44 (List._++_ t2 t3));
+          locals = List._++_ g43 (List._++_ t42 (List._++_ t2 t3));
           slots = Row.off ∷ Row.off ∷ life2 ∷ Row.off ∷ Row.off ∷ life5 ∷ life6 ∷ life7 ∷ Row.off ∷ Row.off ∷ Row.off ∷
               Row.off ∷ Row.off ∷ Row.alive ∷ Row.alive ∷ Row.alive ∷ Row.alive ∷ Row.off ∷ Row.off ∷ Row.off ∷ Row.off
               ∷ Row.off ∷ Row.off ∷ Row.off ∷ Row.off ∷ Row.off ∷ Row.off ∷ Row.off ∷ List.[];
@@ -3343,207 +3304,207 @@ module _ (claims· : Claims) where
 
         abbrev G56 : Row.Cx
         G56 = record {
-          locals = List._++_ g45 (List._++_ t46 (List._++_ t2 t3));
+          locals = List._++_ g43 (List._++_ t42 (List._++_ t2 t3));
           slots = Row.off ∷ Row.off ∷ life2 ∷ Row.off ∷ Row.off ∷ life5 ∷ life6 ∷ life7 ∷ Row.off ∷ Row.off ∷ Row.off ∷
-              Row.off ∷ Row.off ∷ Row.alive ∷ Row.alive ∷ Row.alive ∷ Row.alive ∷ Row.off ∷ Row.off ∷ Row.off ∷ Row.off
+              Row.off ∷ Row.off ∷ Row.dead ∷ Row.alive ∷ Row.alive ∷ Row.alive ∷ Row.off ∷ Row.off ∷ Row.off ∷ Row.off
               ∷ Row.off ∷ Row.off ∷ Row.off ∷ Row.off ∷ Row.off ∷ Row.off ∷ Row.off ∷ List.[];
         }
 
         abbrev G57 : Row.Cx
         G57 = record {
-          locals = List._++_ g47 (List._++_ t46 (List._++_ t2 t3));
-          slots = Row.off ∷ Row.off ∷ life2 ∷ Row.off ∷ Row.off ∷ life5 ∷ life6 ∷ life7 ∷ Row.off ∷ Row.off ∷ Row.off ∷
-              Row.off ∷ Row.off ∷ Row.alive ∷ Row.alive ∷ Row.alive ∷ Row.alive ∷ Row.off ∷ Row.off ∷ Row.off ∷ Row.off
+          locals = List._++_ g44 (List._++_ t45 (List._++_ t2 t3));
+          slots = life0 ∷ Row.off ∷ life2 ∷ Row.off ∷ Row.off ∷ life5 ∷ life6 ∷ life7 ∷ Row.off ∷ Row.off ∷ Row.off ∷
+              Row.off ∷ Row.off ∷ Row.dead ∷ Row.alive ∷ Row.alive ∷ Row.alive ∷ Row.off ∷ Row.off ∷ Row.off ∷ Row.off
               ∷ Row.off ∷ Row.off ∷ Row.off ∷ Row.off ∷ Row.off ∷ Row.off ∷ Row.off ∷ List.[];
         }
 
         abbrev G58 : Row.Cx
         G58 = record {
-          locals = List._++_ g47 (List._++_ t46 (List._++_ t2 t3));
-          slots = Row.off ∷ Row.off ∷ life2 ∷ Row.off ∷ Row.off ∷ life5 ∷ life6 ∷ life7 ∷ Row.off ∷ Row.off ∷ Row.off ∷
-              Row.off ∷ Row.off ∷ Row.dead ∷ Row.alive ∷ Row.alive ∷ Row.alive ∷ Row.off ∷ Row.off ∷ Row.off ∷ Row.off
-              ∷ Row.off ∷ Row.off ∷ Row.off ∷ Row.off ∷ Row.off ∷ Row.off ∷ Row.off ∷ List.[];
-        }
-
-        abbrev G59 : Row.Cx
-        G59 = record {
-          locals = List._++_ g48 (List._++_ t49 (List._++_ t2 t3));
-          slots = life0 ∷ Row.off ∷ life2 ∷ Row.off ∷ Row.off ∷ life5 ∷ life6 ∷ life7 ∷ Row.off ∷ Row.off ∷ Row.off ∷
-              Row.off ∷ Row.off ∷ Row.dead ∷ Row.alive ∷ Row.alive ∷ Row.alive ∷ Row.off ∷ Row.off ∷ Row.off ∷ Row.off
-              ∷ Row.off ∷ Row.off ∷ Row.off ∷ Row.off ∷ Row.off ∷ Row.off ∷ Row.off ∷ List.[];
-        }
-
-        abbrev G60 : Row.Cx
-        G60 = record {
-          locals = List._++_ g48 (List._++_ t49 (List._++_ t2 t3));
+          locals = List._++_ g44 (List._++_ t45 (List._++_ t2 t3));
           slots = life0 ∷ Row.off ∷ life2 ∷ Row.off ∷ Row.off ∷ life5 ∷ life6 ∷ life7 ∷ Row.off ∷ Row.off ∷ Row.off ∷
               Row.off ∷ Row.off ∷ Row.off ∷ Row.alive ∷ Row.alive ∷ Row.alive ∷ Row.off ∷ Row.off ∷ Row.off ∷ Row.off ∷
               Row.off ∷ Row.off ∷ Row.off ∷ Row.off ∷ Row.off ∷ Row.off ∷ Row.off ∷ List.[];
         }
 
-        abbrev G61 : Row.Cx
-        G61 = record {
-          locals = List._++_ g48 (List._++_ t49 (List._++_ t2 t3));
+        abbrev G59 : Row.Cx
+        G59 = record {
+          locals = List._++_ g44 (List._++_ t45 (List._++_ t2 t3));
           slots = life0 ∷ Row.off ∷ life2 ∷ Row.off ∷ Row.off ∷ life5 ∷ life6 ∷ life7 ∷ Row.off ∷ Row.off ∷ Row.off ∷
               Row.off ∷ Row.off ∷ Row.off ∷ Row.dead ∷ Row.alive ∷ Row.alive ∷ Row.off ∷ Row.off ∷ Row.off ∷ Row.off ∷
               Row.off ∷ Row.off ∷ Row.off ∷ Row.off ∷ Row.off ∷ Row.off ∷ Row.off ∷ List.[];
         }
 
-        abbrev G62 : Row.Cx
-        G62 = record {
-          locals = List._++_ g50 (List._++_ t51 (List._++_ t2 t3));
+        abbrev G60 : Row.Cx
+        G60 = record {
+          locals = List._++_ g46 (List._++_ t47 (List._++_ t2 t3));
           slots = life0 ∷ life1 ∷ life2 ∷ Row.off ∷ Row.off ∷ life5 ∷ life6 ∷ life7 ∷ Row.off ∷ Row.off ∷ Row.off ∷
               Row.off ∷ Row.off ∷ Row.off ∷ Row.dead ∷ Row.alive ∷ Row.alive ∷ Row.off ∷ Row.off ∷ Row.off ∷ Row.off ∷
               Row.off ∷ Row.off ∷ Row.off ∷ Row.off ∷ Row.off ∷ Row.off ∷ Row.off ∷ List.[];
         }
 
-        abbrev G63 : Row.Cx
-        G63 = record {
-          locals = List._++_ g50 (List._++_ t51 (List._++_ t2 t3));
+        abbrev G61 : Row.Cx
+        G61 = record {
+          locals = List._++_ g46 (List._++_ t47 (List._++_ t2 t3));
           slots = life0 ∷ life1 ∷ life2 ∷ Row.off ∷ Row.off ∷ life5 ∷ life6 ∷ life7 ∷ Row.off ∷ Row.off ∷ Row.off ∷
               Row.off ∷ Row.off ∷ Row.off ∷ Row.off ∷ Row.alive ∷ Row.alive ∷ Row.off ∷ Row.off ∷ Row.off ∷ Row.off ∷
               Row.off ∷ Row.off ∷ Row.off ∷ Row.off ∷ Row.off ∷ Row.off ∷ Row.off ∷ List.[];
         }
 
-        abbrev G64 : Row.Cx
-        G64 = record {
-          locals = List._++_ g50 (List._++_ t51 (List._++_ t2 t3));
+        abbrev G62 : Row.Cx
+        G62 = record {
+          locals = List._++_ g46 (List._++_ t47 (List._++_ t2 t3));
           slots = life0 ∷ life1 ∷ life2 ∷ Row.off ∷ Row.off ∷ life5 ∷ life6 ∷ life7 ∷ Row.off ∷ Row.off ∷ Row.off ∷
               Row.off ∷ Row.off ∷ Row.off ∷ Row.off ∷ Row.dead ∷ Row.alive ∷ Row.off ∷ Row.off ∷ Row.off ∷ Row.off ∷
               Row.off ∷ Row.off ∷ Row.off ∷ Row.off ∷ Row.off ∷ Row.off ∷ Row.off ∷ List.[];
         }
 
-        abbrev G65 : Row.Cx
-        G65 = record {
-          locals = List._++_ g52 (List._++_ t53 (List._++_ t2 t3));
+        abbrev G63 : Row.Cx
+        G63 = record {
+          locals = List._++_ g48 (List._++_ t49 (List._++_ t2 t3));
           slots = life0 ∷ life1 ∷ life2 ∷ life3 ∷ Row.off ∷ life5 ∷ life6 ∷ life7 ∷ Row.off ∷ Row.off ∷ Row.off ∷
               Row.off ∷ Row.off ∷ Row.off ∷ Row.off ∷ Row.dead ∷ Row.alive ∷ Row.off ∷ Row.off ∷ Row.off ∷ Row.off ∷
               Row.off ∷ Row.off ∷ Row.off ∷ Row.off ∷ Row.off ∷ Row.off ∷ Row.off ∷ List.[];
         }
 
-        abbrev G66 : Row.Cx
-        G66 = record {
-          locals = List._++_ g52 (List._++_ t53 (List._++_ t2 t3));
+        abbrev G64 : Row.Cx
+        G64 = record {
+          locals = List._++_ g48 (List._++_ t49 (List._++_ t2 t3));
           slots = life0 ∷ life1 ∷ life2 ∷ life3 ∷ Row.off ∷ life5 ∷ life6 ∷ life7 ∷ Row.off ∷ Row.off ∷ Row.off ∷
               Row.off ∷ Row.off ∷ Row.off ∷ Row.off ∷ Row.off ∷ Row.alive ∷ Row.off ∷ Row.off ∷ Row.off ∷ Row.off ∷
               Row.off ∷ Row.off ∷ Row.off ∷ Row.off ∷ Row.off ∷ Row.off ∷ Row.off ∷ List.[];
         }
 
-        abbrev G67 : Row.Cx
-        G67 = record {
-          locals = List._++_ g52 (List._++_ t53 (List._++_ t2 t3));
+        abbrev G65 : Row.Cx
+        G65 = record {
+          locals = List._++_ g48 (List._++_ t49 (List._++_ t2 t3));
           slots = life0 ∷ life1 ∷ life2 ∷ life3 ∷ Row.off ∷ life5 ∷ life6 ∷ life7 ∷ Row.off ∷ Row.off ∷ Row.off ∷
               Row.off ∷ Row.off ∷ Row.off ∷ Row.off ∷ Row.off ∷ Row.dead ∷ Row.off ∷ Row.off ∷ Row.off ∷ Row.off ∷
               Row.off ∷ Row.off ∷ Row.off ∷ Row.off ∷ Row.off ∷ Row.off ∷ Row.off ∷ List.[];
         }
 
+        abbrev G66 : Row.Cx
+        G66 = record {
+          locals = List._++_ t6 (List._++_ t1 (List._++_ t2 t3));
+          slots = life0 ∷ life1 ∷ life2 ∷ life3 ∷ life4 ∷ life5 ∷ life6 ∷ life7 ∷ Row.off ∷ Row.off ∷ Row.off ∷ Row.off
+              ∷ Row.off ∷ Row.off ∷ Row.off ∷ Row.off ∷ Row.dead ∷ Row.off ∷ Row.off ∷ Row.off ∷ Row.off ∷ Row.off ∷
+              Row.off ∷ Row.off ∷ Row.off ∷ Row.off ∷ Row.off ∷ Row.off ∷ List.[];
+        }
+
+        abbrev G67 : Row.Cx
+        G67 = record {
+          locals = List._++_ t6 (List._++_ t1 (List._++_ t2 t3));
+          slots = life0 ∷ life1 ∷ life2 ∷ life3 ∷ life4 ∷ life5 ∷ life6 ∷ life7 ∷ Row.off ∷ Row.off ∷ Row.off ∷ Row.off
+              ∷ Row.off ∷ Row.off ∷ Row.off ∷ Row.off ∷ Row.dead ∷ Row.off ∷ Row.off ∷ Row.off ∷ Row.off ∷ Row.off ∷
+              Row.off ∷ Row.off ∷ Row.off ∷ Row.off ∷ Row.off ∷ Row.off ∷ List.[];
+        }
+
         abbrev G68 : Row.Cx
         G68 = record {
-          locals = List._++_ t7 (List._++_ t1 (List._++_ t2 t3));
-          slots = life0 ∷ life1 ∷ life2 ∷ life3 ∷ life4 ∷ life5 ∷ life6 ∷ life7 ∷ Row.off ∷ Row.off ∷ Row.off ∷ Row.off
-              ∷ Row.off ∷ Row.off ∷ Row.off ∷ Row.off ∷ Row.dead ∷ Row.off ∷ Row.off ∷ Row.off ∷ Row.off ∷ Row.off ∷
-              Row.off ∷ Row.off ∷ Row.off ∷ Row.off ∷ Row.off ∷ Row.off ∷ List.[];
-        }
-
-        abbrev G69 : Row.Cx
-        G69 = record {
-          locals = List._++_ t7 (List._++_ t1 (List._++_ t2 t3));
-          slots = life0 ∷ life1 ∷ life2 ∷ life3 ∷ life4 ∷ life5 ∷ life6 ∷ life7 ∷ Row.off ∷ Row.off ∷ Row.off ∷ Row.off
-              ∷ Row.off ∷ Row.off ∷ Row.off ∷ Row.off ∷ Row.dead ∷ Row.off ∷ Row.off ∷ Row.off ∷ Row.off ∷ Row.off ∷
-              Row.off ∷ Row.off ∷ Row.off ∷ Row.off ∷ Row.off ∷ Row.off ∷ List.[];
-        }
-
-        abbrev G70 : Row.Cx
-        G70 = record {
-          locals = List._++_ t7 (List._++_ t1 (List._++_ t2 t3));
+          locals = List._++_ t6 (List._++_ t1 (List._++_ t2 t3));
           slots = life0 ∷ life1 ∷ life2 ∷ life3 ∷ life4 ∷ life5 ∷ life6 ∷ life7 ∷ Row.off ∷ Row.off ∷ Row.off ∷ Row.off
               ∷ Row.off ∷ Row.off ∷ Row.off ∷ Row.off ∷ Row.off ∷ Row.off ∷ Row.off ∷ Row.off ∷ Row.off ∷ Row.off ∷
               Row.off ∷ Row.off ∷ Row.off ∷ Row.off ∷ Row.off ∷ Row.off ∷ List.[];
         }
 
-        abbrev G71 : Row.Cx
-        G71 = record {
-          locals = List._++_ t8 (List._++_ t1 (List._++_ t2 t3));
+        abbrev G69 : Row.Cx
+        G69 = record {
+          locals = List._++_ t5 (List._++_ t1 (List._++_ t2 t3));
           slots = life0 ∷ life1 ∷ life2 ∷ life3 ∷ life4 ∷ life5 ∷ life6 ∷ life7 ∷ Row.off ∷ Row.off ∷ Row.off ∷ Row.off
               ∷ Row.off ∷ Row.off ∷ Row.off ∷ Row.off ∷ Row.off ∷ Row.alive ∷ Row.off ∷ Row.off ∷ Row.off ∷ Row.off ∷
               Row.off ∷ Row.off ∷ Row.off ∷ Row.off ∷ Row.off ∷ Row.off ∷ List.[];
         }
 
-        abbrev G72 : Row.Cx
-        G72 = record {
-          locals = List._++_ g54 (List._++_ t55 (List._++_ t2 t3));
+        abbrev G70 : Row.Cx
+        G70 = record {
+          locals = List._++_ g50 (List._++_ t51 (List._++_ t2 t3));
           slots = life0 ∷ Row.off ∷ life2 ∷ life3 ∷ life4 ∷ life5 ∷ life6 ∷ life7 ∷ Row.off ∷ Row.off ∷ Row.off ∷
               Row.off ∷ Row.off ∷ Row.off ∷ Row.off ∷ Row.off ∷ Row.off ∷ Row.alive ∷ Row.off ∷ Row.off ∷ Row.off ∷
+              Row.off ∷ Row.off ∷ Row.off ∷ Row.off ∷ Row.off ∷ Row.off ∷ Row.off ∷ List.[];
+        }
+
+        abbrev G71 : Row.Cx
+        G71 = record {
+          locals = List._++_ g50 (List._++_ t52 (List._++_ t2 t3));
+          slots = life0 ∷ Row.off ∷ life2 ∷ life3 ∷ life4 ∷ life5 ∷ life6 ∷ life7 ∷ Row.off ∷ Row.off ∷ Row.off ∷
+              Row.off ∷ Row.off ∷ Row.off ∷ Row.off ∷ Row.off ∷ Row.off ∷ Row.alive ∷ Row.off ∷ Row.off ∷ Row.off ∷
+              Row.off ∷ Row.off ∷ Row.off ∷ Row.off ∷ Row.off ∷ Row.off ∷ Row.off ∷ List.[];
+        }
+
+        abbrev G72 : Row.Cx
+        G72 = record {
+          locals = List._++_ g50 (List._++_ t52 (List._++_ t2 t3));
+          slots = life0 ∷ Row.off ∷ life2 ∷ life3 ∷ life4 ∷ life5 ∷ life6 ∷ life7 ∷ Row.off ∷ Row.off ∷ Row.off ∷
+              Row.off ∷ Row.off ∷ Row.off ∷ Row.off ∷ Row.off ∷ Row.off ∷ Row.alive ∷ Row.alive ∷ Row.off ∷ Row.off ∷
               Row.off ∷ Row.off ∷ Row.off ∷ Row.off ∷ Row.off ∷ Row.off ∷ Row.off ∷ List.[];
         }
 
         abbrev G73 : Row.Cx
         G73 = record {
-          locals = List._++_ g54 (List._++_ t1 (List._++_ t56 t3));
-          slots = life0 ∷ Row.off ∷ life2 ∷ life3 ∷ life4 ∷ life5 ∷ life6 ∷ life7 ∷ Row.off ∷ Row.off ∷ Row.off ∷
-              Row.off ∷ Row.off ∷ Row.off ∷ Row.off ∷ Row.off ∷ Row.off ∷ Row.alive ∷ Row.off ∷ Row.off ∷ Row.off ∷
+          locals = List._++_ g53 (List._++_ t52 (List._++_ t54 t3));
+          slots = life0 ∷ Row.off ∷ Row.off ∷ life3 ∷ life4 ∷ life5 ∷ life6 ∷ life7 ∷ Row.off ∷ Row.off ∷ Row.off ∷
+              Row.off ∷ Row.off ∷ Row.off ∷ Row.off ∷ Row.off ∷ Row.off ∷ Row.alive ∷ Row.alive ∷ Row.off ∷ Row.off ∷
               Row.off ∷ Row.off ∷ Row.off ∷ Row.off ∷ Row.off ∷ Row.off ∷ Row.off ∷ List.[];
         }
 
         abbrev G74 : Row.Cx
         G74 = record {
-          locals = List._++_ g54 (List._++_ t1 (List._++_ t56 t3));
-          slots = life0 ∷ Row.off ∷ life2 ∷ life3 ∷ life4 ∷ life5 ∷ life6 ∷ life7 ∷ Row.off ∷ Row.off ∷ Row.off ∷
+          locals = List._++_ g53 (List._++_ t52 (List._++_ t55 t3));
+          slots = life0 ∷ Row.off ∷ Row.off ∷ life3 ∷ life4 ∷ life5 ∷ life6 ∷ life7 ∷ Row.off ∷ Row.off ∷ Row.off ∷
               Row.off ∷ Row.off ∷ Row.off ∷ Row.off ∷ Row.off ∷ Row.off ∷ Row.alive ∷ Row.alive ∷ Row.off ∷ Row.off ∷
               Row.off ∷ Row.off ∷ Row.off ∷ Row.off ∷ Row.off ∷ Row.off ∷ Row.off ∷ List.[];
         }
 
         abbrev G75 : Row.Cx
         G75 = record {
-          locals = List._++_ g57 (List._++_ t1 (List._++_ t58 t3));
+          locals = List._++_ g53 (List._++_ t52 (List._++_ t55 t3));
           slots = life0 ∷ Row.off ∷ Row.off ∷ life3 ∷ life4 ∷ life5 ∷ life6 ∷ life7 ∷ Row.off ∷ Row.off ∷ Row.off ∷
-              Row.off ∷ Row.off ∷ Row.off ∷ Row.off ∷ Row.off ∷ Row.off ∷ Row.alive ∷ Row.alive ∷ Row.off ∷ Row.off ∷
+              Row.off ∷ Row.off ∷ Row.off ∷ Row.off ∷ Row.off ∷ Row.off ∷ Row.alive ∷ Row.alive ∷ Row.alive ∷ Row.off ∷
               Row.off ∷ Row.off ∷ Row.off ∷ Row.off ∷ Row.off ∷ Row.off ∷ Row.off ∷ List.[];
         }
 
         abbrev G76 : Row.Cx
         G76 = record {
-          locals = List._++_ g57 (List._++_ t1 (List._++_ t59 t3));
-          slots = life0 ∷ Row.off ∷ Row.off ∷ life3 ∷ life4 ∷ life5 ∷ life6 ∷ life7 ∷ Row.off ∷ Row.off ∷ Row.off ∷
-              Row.off ∷ Row.off ∷ Row.off ∷ Row.off ∷ Row.off ∷ Row.off ∷ Row.alive ∷ Row.alive ∷ Row.off ∷ Row.off ∷
+          locals = List._++_ g56 (List._++_ t52 (List._++_ t57 t3));
+          slots = life0 ∷ Row.off ∷ Row.off ∷ Row.off ∷ life4 ∷ life5 ∷ life6 ∷ life7 ∷ Row.off ∷ Row.off ∷ Row.off ∷
+              Row.off ∷ Row.off ∷ Row.off ∷ Row.off ∷ Row.off ∷ Row.off ∷ Row.alive ∷ Row.alive ∷ Row.alive ∷ Row.off ∷
               Row.off ∷ Row.off ∷ Row.off ∷ Row.off ∷ Row.off ∷ Row.off ∷ Row.off ∷ List.[];
         }
 
         abbrev G77 : Row.Cx
         G77 = record {
-          locals = List._++_ g57 (List._++_ t1 (List._++_ t59 t3));
-          slots = life0 ∷ Row.off ∷ Row.off ∷ life3 ∷ life4 ∷ life5 ∷ life6 ∷ life7 ∷ Row.off ∷ Row.off ∷ Row.off ∷
+          locals = List._++_ g56 (List._++_ t52 (List._++_ t58 t3));
+          slots = life0 ∷ Row.off ∷ Row.off ∷ Row.off ∷ life4 ∷ life5 ∷ life6 ∷ life7 ∷ Row.off ∷ Row.off ∷ Row.off ∷
               Row.off ∷ Row.off ∷ Row.off ∷ Row.off ∷ Row.off ∷ Row.off ∷ Row.alive ∷ Row.alive ∷ Row.alive ∷ Row.off ∷
               Row.off ∷ Row.off ∷ Row.off ∷ Row.off ∷ Row.off ∷ Row.off ∷ Row.off ∷ List.[];
         }
 
         abbrev G78 : Row.Cx
         G78 = record {
-          locals = List._++_ g60 (List._++_ t1 (List._++_ t61 t3));
+          locals = List._++_ g56 (List._++_ t52 (List._++_ t58 t3));
           slots = life0 ∷ Row.off ∷ Row.off ∷ Row.off ∷ life4 ∷ life5 ∷ life6 ∷ life7 ∷ Row.off ∷ Row.off ∷ Row.off ∷
-              Row.off ∷ Row.off ∷ Row.off ∷ Row.off ∷ Row.off ∷ Row.off ∷ Row.alive ∷ Row.alive ∷ Row.alive ∷ Row.off ∷
-              Row.off ∷ Row.off ∷ Row.off ∷ Row.off ∷ Row.off ∷ Row.off ∷ Row.off ∷ List.[];
+              Row.off ∷ Row.off ∷ Row.off ∷ Row.off ∷ Row.off ∷ Row.off ∷ Row.alive ∷ Row.alive ∷ Row.alive ∷ Row.alive
+              ∷ Row.off ∷ Row.off ∷ Row.off ∷ Row.off ∷ Row.off ∷ Row.off ∷ Row.off ∷ List.[];
         }
 
         abbrev G79 : Row.Cx
         G79 = record {
-          locals = List._++_ g60 (List._++_ t1 (List._++_ t62 t3));
-          slots = life0 ∷ Row.off ∷ Row.off ∷ Row.off ∷ life4 ∷ life5 ∷ life6 ∷ life7 ∷ Row.off ∷ Row.off ∷ Row.off ∷
-              Row.off ∷ Row.off ∷ Row.off ∷ Row.off ∷ Row.off ∷ Row.off ∷ Row.alive ∷ Row.alive ∷ Row.alive ∷ Row.off ∷
-              Row.off ∷ Row.off ∷ Row.off ∷ Row.off ∷ Row.off ∷ Row.off ∷ Row.off ∷ List.[];
+          locals = List._++_ g59 (List._++_ t52 (List._++_ t60 t3));
+          slots = life0 ∷ Row.off ∷ Row.off ∷ Row.off ∷ Row.off ∷ life5 ∷ life6 ∷ life7 ∷ Row.off ∷ Row.off ∷ Row.off ∷
+              Row.off ∷ Row.off ∷ Row.off ∷ Row.off ∷ Row.off ∷ Row.off ∷ Row.alive ∷ Row.alive ∷ Row.alive ∷ Row.alive
+              ∷ Row.off ∷ Row.off ∷ Row.off ∷ Row.off ∷ Row.off ∷ Row.off ∷ Row.off ∷ List.[];
         }
 
         abbrev G80 : Row.Cx
         G80 = record {
-          locals = List._++_ g60 (List._++_ t1 (List._++_ t62 t3));
-          slots = life0 ∷ Row.off ∷ Row.off ∷ Row.off ∷ life4 ∷ life5 ∷ life6 ∷ life7 ∷ Row.off ∷ Row.off ∷ Row.off ∷
+          locals = List._++_ g59 (List._++_ t52 (List._++_ t61 t3));
+          slots = life0 ∷ Row.off ∷ Row.off ∷ Row.off ∷ Row.off ∷ life5 ∷ life6 ∷ life7 ∷ Row.off ∷ Row.off ∷ Row.off ∷
               Row.off ∷ Row.off ∷ Row.off ∷ Row.off ∷ Row.off ∷ Row.off ∷ Row.alive ∷ Row.alive ∷ Row.alive ∷ Row.alive
               ∷ Row.off ∷ Row.off ∷ Row.off ∷ Row.off ∷ Row.off ∷ Row.off ∷ Row.off ∷ List.[];
         }
 
         abbrev G81 : Row.Cx
         G81 = record {
-          locals = List._++_ g63 (List._++_ t1 (List._++_ t64 t3));
+          locals = List._++_ g62 (List._++_ t63 (List._++_ t64 t3));
           slots = life0 ∷ Row.off ∷ Row.off ∷ Row.off ∷ Row.off ∷ life5 ∷ life6 ∷ life7 ∷ Row.off ∷ Row.off ∷ Row.off ∷
               Row.off ∷ Row.off ∷ Row.off ∷ Row.off ∷ Row.off ∷ Row.off ∷ Row.alive ∷ Row.alive ∷ Row.alive ∷ Row.alive
               ∷ Row.off ∷ Row.off ∷ Row.off ∷ Row.off ∷ Row.off ∷ Row.off ∷ Row.off ∷ List.[];
@@ -3551,7 +3512,7 @@ module _ (claims· : Claims) where
 
         abbrev G82 : Row.Cx
         G82 = record {
-          locals = List._++_ g63 (List._++_ t1 (List._++_ t65 t3));
+          locals = List._++_ g65 (List._++_ t63 (List._++_ t64 t3));
           slots = life0 ∷ Row.off ∷ Row.off ∷ Row.off ∷ Row.off ∷ life5 ∷ life6 ∷ life7 ∷ Row.off ∷ Row.off ∷ Row.off ∷
               Row.off ∷ Row.off ∷ Row.off ∷ Row.off ∷ Row.off ∷ Row.off ∷ Row.alive ∷ Row.alive ∷ Row.alive ∷ Row.alive
               ∷ Row.off ∷ Row.off ∷ Row.off ∷ Row.off ∷ Row.off ∷ Row.off ∷ Row.off ∷ List.[];
@@ -3559,183 +3520,183 @@ module _ (claims· : Claims) where
 
         abbrev G83 : Row.Cx
         G83 = record {
-          locals = List._++_ g66 (List._++_ t1 (List._++_ t67 t3));
+          locals = List._++_ g65 (List._++_ t63 (List._++_ t64 t3));
           slots = life0 ∷ Row.off ∷ Row.off ∷ Row.off ∷ Row.off ∷ life5 ∷ life6 ∷ life7 ∷ Row.off ∷ Row.off ∷ Row.off ∷
-              Row.off ∷ Row.off ∷ Row.off ∷ Row.off ∷ Row.off ∷ Row.off ∷ Row.alive ∷ Row.alive ∷ Row.alive ∷ Row.alive
+              Row.off ∷ Row.off ∷ Row.off ∷ Row.off ∷ Row.off ∷ Row.off ∷ Row.dead ∷ Row.alive ∷ Row.alive ∷ Row.alive
               ∷ Row.off ∷ Row.off ∷ Row.off ∷ Row.off ∷ Row.off ∷ Row.off ∷ Row.off ∷ List.[];
         }
 
         abbrev G84 : Row.Cx
         G84 = record {
-          locals = List._++_ g68 (List._++_ t1 (List._++_ t67 t3));
-          slots = life0 ∷ Row.off ∷ Row.off ∷ Row.off ∷ Row.off ∷ life5 ∷ life6 ∷ life7 ∷ Row.off ∷ Row.off ∷ Row.off ∷
-              Row.off ∷ Row.off ∷ Row.off ∷ Row.off ∷ Row.off ∷ Row.off ∷ Row.alive ∷ Row.alive ∷ Row.alive ∷ Row.alive
+          locals = List._++_ g66 (List._++_ t1 (List._++_ t64 t3));
+          slots = life0 ∷ life1 ∷ Row.off ∷ Row.off ∷ Row.off ∷ life5 ∷ life6 ∷ life7 ∷ Row.off ∷ Row.off ∷ Row.off ∷
+              Row.off ∷ Row.off ∷ Row.off ∷ Row.off ∷ Row.off ∷ Row.off ∷ Row.dead ∷ Row.alive ∷ Row.alive ∷ Row.alive
               ∷ Row.off ∷ Row.off ∷ Row.off ∷ Row.off ∷ Row.off ∷ Row.off ∷ Row.off ∷ List.[];
         }
 
         abbrev G85 : Row.Cx
         G85 = record {
-          locals = List._++_ g68 (List._++_ t1 (List._++_ t67 t3));
-          slots = life0 ∷ Row.off ∷ Row.off ∷ Row.off ∷ Row.off ∷ life5 ∷ life6 ∷ life7 ∷ Row.off ∷ Row.off ∷ Row.off ∷
-              Row.off ∷ Row.off ∷ Row.off ∷ Row.off ∷ Row.off ∷ Row.off ∷ Row.dead ∷ Row.alive ∷ Row.alive ∷ Row.alive
-              ∷ Row.off ∷ Row.off ∷ Row.off ∷ Row.off ∷ Row.off ∷ Row.off ∷ Row.off ∷ List.[];
-        }
-
-        abbrev G86 : Row.Cx
-        G86 = record {
-          locals = List._++_ g69 (List._++_ t1 (List._++_ t70 t3));
-          slots = life0 ∷ life1 ∷ Row.off ∷ Row.off ∷ Row.off ∷ life5 ∷ life6 ∷ life7 ∷ Row.off ∷ Row.off ∷ Row.off ∷
-              Row.off ∷ Row.off ∷ Row.off ∷ Row.off ∷ Row.off ∷ Row.off ∷ Row.dead ∷ Row.alive ∷ Row.alive ∷ Row.alive
-              ∷ Row.off ∷ Row.off ∷ Row.off ∷ Row.off ∷ Row.off ∷ Row.off ∷ Row.off ∷ List.[];
-        }
-
-        abbrev G87 : Row.Cx
-        G87 = record {
-          locals = List._++_ g69 (List._++_ t1 (List._++_ t70 t3));
+          locals = List._++_ g66 (List._++_ t1 (List._++_ t64 t3));
           slots = life0 ∷ life1 ∷ Row.off ∷ Row.off ∷ Row.off ∷ life5 ∷ life6 ∷ life7 ∷ Row.off ∷ Row.off ∷ Row.off ∷
               Row.off ∷ Row.off ∷ Row.off ∷ Row.off ∷ Row.off ∷ Row.off ∷ Row.off ∷ Row.alive ∷ Row.alive ∷ Row.alive ∷
               Row.off ∷ Row.off ∷ Row.off ∷ Row.off ∷ Row.off ∷ Row.off ∷ Row.off ∷ List.[];
         }
 
-        abbrev G88 : Row.Cx
-        G88 = record {
-          locals = List._++_ g69 (List._++_ t1 (List._++_ t70 t3));
+        abbrev G86 : Row.Cx
+        G86 = record {
+          locals = List._++_ g66 (List._++_ t1 (List._++_ t64 t3));
           slots = life0 ∷ life1 ∷ Row.off ∷ Row.off ∷ Row.off ∷ life5 ∷ life6 ∷ life7 ∷ Row.off ∷ Row.off ∷ Row.off ∷
               Row.off ∷ Row.off ∷ Row.off ∷ Row.off ∷ Row.off ∷ Row.off ∷ Row.off ∷ Row.dead ∷ Row.alive ∷ Row.alive ∷
               Row.off ∷ Row.off ∷ Row.off ∷ Row.off ∷ Row.off ∷ Row.off ∷ Row.off ∷ List.[];
         }
 
-        abbrev G89 : Row.Cx
-        G89 = record {
-          locals = List._++_ g71 (List._++_ t1 (List._++_ t72 t3));
+        abbrev G87 : Row.Cx
+        G87 = record {
+          locals = List._++_ g67 (List._++_ t1 (List._++_ t68 t3));
           slots = life0 ∷ life1 ∷ life2 ∷ Row.off ∷ Row.off ∷ life5 ∷ life6 ∷ life7 ∷ Row.off ∷ Row.off ∷ Row.off ∷
               Row.off ∷ Row.off ∷ Row.off ∷ Row.off ∷ Row.off ∷ Row.off ∷ Row.off ∷ Row.dead ∷ Row.alive ∷ Row.alive ∷
               Row.off ∷ Row.off ∷ Row.off ∷ Row.off ∷ Row.off ∷ Row.off ∷ Row.off ∷ List.[];
         }
 
-        abbrev G90 : Row.Cx
-        G90 = record {
-          locals = List._++_ g71 (List._++_ t1 (List._++_ t72 t3));
+        abbrev G88 : Row.Cx
+        G88 = record {
+          locals = List._++_ g67 (List._++_ t1 (List._++_ t68 t3));
           slots = life0 ∷ life1 ∷ life2 ∷ Row.off ∷ Row.off ∷ life5 ∷ life6 ∷ life7 ∷ Row.off ∷ Row.off ∷ Row.off ∷
               Row.off ∷ Row.off ∷ Row.off ∷ Row.off ∷ Row.off ∷ Row.off ∷ Row.off ∷ Row.off ∷ Row.alive ∷ Row.alive ∷
               Row.off ∷ Row.off ∷ Row.off ∷ Row.off ∷ Row.off ∷ Row.off ∷ Row.off ∷ List.[];
         }
 
-        abbrev G91 : Row.Cx
-        G91 = record {
-          locals = List._++_ g71 (List._++_ t1 (List._++_ t72 t3));
+        abbrev G89 : Row.Cx
+        G89 = record {
+          locals = List._++_ g67 (List._++_ t1 (List._++_ t68 t3));
           slots = life0 ∷ life1 ∷ life2 ∷ Row.off ∷ Row.off ∷ life5 ∷ life6 ∷ life7 ∷ Row.off ∷ Row.off ∷ Row.off ∷
               Row.off ∷ Row.off ∷ Row.off ∷ Row.off ∷ Row.off ∷ Row.off ∷ Row.off ∷ Row.off ∷ Row.dead ∷ Row.alive ∷
               Row.off ∷ Row.off ∷ Row.off ∷ Row.off ∷ Row.off ∷ Row.off ∷ Row.off ∷ List.[];
         }
 
-        abbrev G92 : Row.Cx
-        G92 = record {
-          locals = List._++_ g73 (List._++_ t1 (List._++_ t74 t3));
+        abbrev G90 : Row.Cx
+        G90 = record {
+          locals = List._++_ g69 (List._++_ t1 (List._++_ t70 t3));
           slots = life0 ∷ life1 ∷ life2 ∷ life3 ∷ Row.off ∷ life5 ∷ life6 ∷ life7 ∷ Row.off ∷ Row.off ∷ Row.off ∷
               Row.off ∷ Row.off ∷ Row.off ∷ Row.off ∷ Row.off ∷ Row.off ∷ Row.off ∷ Row.off ∷ Row.dead ∷ Row.alive ∷
               Row.off ∷ Row.off ∷ Row.off ∷ Row.off ∷ Row.off ∷ Row.off ∷ Row.off ∷ List.[];
         }
 
-        abbrev G93 : Row.Cx
-        G93 = record {
-          locals = List._++_ g73 (List._++_ t1 (List._++_ t74 t3));
+        abbrev G91 : Row.Cx
+        G91 = record {
+          locals = List._++_ g69 (List._++_ t1 (List._++_ t70 t3));
           slots = life0 ∷ life1 ∷ life2 ∷ life3 ∷ Row.off ∷ life5 ∷ life6 ∷ life7 ∷ Row.off ∷ Row.off ∷ Row.off ∷
               Row.off ∷ Row.off ∷ Row.off ∷ Row.off ∷ Row.off ∷ Row.off ∷ Row.off ∷ Row.off ∷ Row.off ∷ Row.alive ∷
               Row.off ∷ Row.off ∷ Row.off ∷ Row.off ∷ Row.off ∷ Row.off ∷ Row.off ∷ List.[];
         }
 
-        abbrev G94 : Row.Cx
-        G94 = record {
-          locals = List._++_ g73 (List._++_ t1 (List._++_ t74 t3));
+        abbrev G92 : Row.Cx
+        G92 = record {
+          locals = List._++_ g69 (List._++_ t1 (List._++_ t70 t3));
           slots = life0 ∷ life1 ∷ life2 ∷ life3 ∷ Row.off ∷ life5 ∷ life6 ∷ life7 ∷ Row.off ∷ Row.off ∷ Row.off ∷
               Row.off ∷ Row.off ∷ Row.off ∷ Row.off ∷ Row.off ∷ Row.off ∷ Row.off ∷ Row.off ∷ Row.off ∷ Row.dead ∷
               Row.off ∷ Row.off ∷ Row.off ∷ Row.off ∷ Row.off ∷ Row.off ∷ Row.off ∷ List.[];
         }
 
+        abbrev G93 : Row.Cx
+        G93 = record {
+          locals = List._++_ t6 (List._++_ t1 (List._++_ t2 t3));
+          slots = life0 ∷ life1 ∷ life2 ∷ life3 ∷ life4 ∷ life5 ∷ life6 ∷ life7 ∷ Row.off ∷ Row.off ∷ Row.off ∷ Row.off
+              ∷ Row.off ∷ Row.off ∷ Row.off ∷ Row.off ∷ Row.off ∷ Row.off ∷ Row.off ∷ Row.off ∷ Row.dead ∷ Row.off ∷
+              Row.off ∷ Row.off ∷ Row.off ∷ Row.off ∷ Row.off ∷ Row.off ∷ List.[];
+        }
+
+        abbrev G94 : Row.Cx
+        G94 = record {
+          locals = List._++_ t6 (List._++_ t1 (List._++_ t2 t3));
+          slots = life0 ∷ life1 ∷ life2 ∷ life3 ∷ life4 ∷ life5 ∷ life6 ∷ life7 ∷ Row.off ∷ Row.off ∷ Row.off ∷ Row.off
+              ∷ Row.off ∷ Row.off ∷ Row.off ∷ Row.off ∷ Row.off ∷ Row.off ∷ Row.off ∷ Row.off ∷ Row.dead ∷ Row.off ∷
+              Row.off ∷ Row.off ∷ Row.off ∷ Row.off ∷ Row.off ∷ Row.off ∷ List.[];
+        }
+
         abbrev G95 : Row.Cx
         G95 = record {
-          locals = List._++_ t7 (List._++_ t1 (List._++_ t2 t3));
-          slots = life0 ∷ life1 ∷ life2 ∷ life3 ∷ life4 ∷ life5 ∷ life6 ∷ life7 ∷ Row.off ∷ Row.off ∷ Row.off ∷ Row.off
-              ∷ Row.off ∷ Row.off ∷ Row.off ∷ Row.off ∷ Row.off ∷ Row.off ∷ Row.off ∷ Row.off ∷ Row.dead ∷ Row.off ∷
-              Row.off ∷ Row.off ∷ Row.off ∷ Row.off ∷ Row.off ∷ Row.off ∷ List.[];
-        }
-
-        abbrev G96 : Row.Cx
-        G96 = record {
-          locals = List._++_ t7 (List._++_ t1 (List._++_ t2 t3));
-          slots = life0 ∷ life1 ∷ life2 ∷ life3 ∷ life4 ∷ life5 ∷ life6 ∷ life7 ∷ Row.off ∷ Row.off ∷ Row.off ∷ Row.off
-              ∷ Row.off ∷ Row.off ∷ Row.off ∷ Row.off ∷ Row.off ∷ Row.off ∷ Row.off ∷ Row.off ∷ Row.dead ∷ Row.off ∷
-              Row.off ∷ Row.off ∷ Row.off ∷ Row.off ∷ Row.off ∷ Row.off ∷ List.[];
-        }
-
-        abbrev G97 : Row.Cx
-        G97 = record {
-          locals = List._++_ t7 (List._++_ t1 (List._++_ t2 t3));
+          locals = List._++_ t6 (List._++_ t1 (List._++_ t2 t3));
           slots = life0 ∷ life1 ∷ life2 ∷ life3 ∷ life4 ∷ life5 ∷ life6 ∷ life7 ∷ Row.off ∷ Row.off ∷ Row.off ∷ Row.off
               ∷ Row.off ∷ Row.off ∷ Row.off ∷ Row.off ∷ Row.off ∷ Row.off ∷ Row.off ∷ Row.off ∷ Row.off ∷ Row.off ∷
               Row.off ∷ Row.off ∷ Row.off ∷ Row.off ∷ Row.off ∷ Row.off ∷ List.[];
         }
 
-        abbrev G98 : Row.Cx
-        G98 = record {
-          locals = List._++_ t8 (List._++_ t1 (List._++_ t2 t3));
+        abbrev G96 : Row.Cx
+        G96 = record {
+          locals = List._++_ t5 (List._++_ t1 (List._++_ t2 t3));
           slots = life0 ∷ life1 ∷ life2 ∷ life3 ∷ life4 ∷ life5 ∷ life6 ∷ life7 ∷ Row.off ∷ Row.off ∷ Row.off ∷ Row.off
               ∷ Row.off ∷ Row.off ∷ Row.off ∷ Row.off ∷ Row.off ∷ Row.off ∷ Row.off ∷ Row.off ∷ Row.off ∷ Row.alive ∷
               Row.off ∷ Row.off ∷ Row.off ∷ Row.off ∷ Row.off ∷ Row.off ∷ List.[];
         }
 
-        abbrev G99 : Row.Cx
-        G99 = record {
-          locals = List._++_ g75 (List._++_ t1 (List._++_ t76 t3));
+        abbrev G97 : Row.Cx
+        G97 = record {
+          locals = List._++_ g71 (List._++_ t1 (List._++_ t72 t3));
           slots = life0 ∷ Row.off ∷ life2 ∷ life3 ∷ life4 ∷ life5 ∷ life6 ∷ life7 ∷ Row.off ∷ Row.off ∷ Row.off ∷
               Row.off ∷ Row.off ∷ Row.off ∷ Row.off ∷ Row.off ∷ Row.off ∷ Row.off ∷ Row.off ∷ Row.off ∷ Row.off ∷
               Row.alive ∷ Row.off ∷ Row.off ∷ Row.off ∷ Row.off ∷ Row.off ∷ Row.off ∷ List.[];
+        }
+
+        abbrev G98 : Row.Cx
+        G98 = record {
+          locals = List._++_ g71 (List._++_ t1 (List._++_ t73 t3));
+          slots = life0 ∷ Row.off ∷ life2 ∷ life3 ∷ life4 ∷ life5 ∷ life6 ∷ life7 ∷ Row.off ∷ Row.off ∷ Row.off ∷
+              Row.off ∷ Row.off ∷ Row.off ∷ Row.off ∷ Row.off ∷ Row.off ∷ Row.off ∷ Row.off ∷ Row.off ∷ Row.off ∷
+              Row.alive ∷ Row.off ∷ Row.off ∷ Row.off ∷ Row.off ∷ Row.off ∷ Row.off ∷ List.[];
+        }
+
+        abbrev G99 : Row.Cx
+        G99 = record {
+          locals = List._++_ g71 (List._++_ t1 (List._++_ t73 t3));
+          slots = life0 ∷ Row.off ∷ life2 ∷ life3 ∷ life4 ∷ life5 ∷ life6 ∷ life7 ∷ Row.off ∷ Row.off ∷ Row.off ∷
+              Row.off ∷ Row.off ∷ Row.off ∷ Row.off ∷ Row.off ∷ Row.off ∷ Row.off ∷ Row.off ∷ Row.off ∷ Row.off ∷
+              Row.alive ∷ Row.alive ∷ Row.off ∷ Row.off ∷ Row.off ∷ Row.off ∷ Row.off ∷ List.[];
         }
 
         abbrev G100 : Row.Cx
         G100 = record {
-          locals = List._++_ g75 (List._++_ t1 (List._++_ t77 t3));
-          slots = life0 ∷ Row.off ∷ life2 ∷ life3 ∷ life4 ∷ life5 ∷ life6 ∷ life7 ∷ Row.off ∷ Row.off ∷ Row.off ∷
+          locals = List._++_ g74 (List._++_ t1 (List._++_ t75 t3));
+          slots = life0 ∷ Row.off ∷ life2 ∷ Row.off ∷ life4 ∷ life5 ∷ life6 ∷ life7 ∷ Row.off ∷ Row.off ∷ Row.off ∷
               Row.off ∷ Row.off ∷ Row.off ∷ Row.off ∷ Row.off ∷ Row.off ∷ Row.off ∷ Row.off ∷ Row.off ∷ Row.off ∷
-              Row.alive ∷ Row.off ∷ Row.off ∷ Row.off ∷ Row.off ∷ Row.off ∷ Row.off ∷ List.[];
+              Row.alive ∷ Row.alive ∷ Row.off ∷ Row.off ∷ Row.off ∷ Row.off ∷ Row.off ∷ List.[];
         }
 
         abbrev G101 : Row.Cx
         G101 = record {
-          locals = List._++_ g75 (List._++_ t1 (List._++_ t77 t3));
-          slots = life0 ∷ Row.off ∷ life2 ∷ life3 ∷ life4 ∷ life5 ∷ life6 ∷ life7 ∷ Row.off ∷ Row.off ∷ Row.off ∷
+          locals = List._++_ g74 (List._++_ t1 (List._++_ t76 t3));
+          slots = life0 ∷ Row.off ∷ life2 ∷ Row.off ∷ life4 ∷ life5 ∷ life6 ∷ life7 ∷ Row.off ∷ Row.off ∷ Row.off ∷
               Row.off ∷ Row.off ∷ Row.off ∷ Row.off ∷ Row.off ∷ Row.off ∷ Row.off ∷ Row.off ∷ Row.off ∷ Row.off ∷
               Row.alive ∷ Row.alive ∷ Row.off ∷ Row.off ∷ Row.off ∷ Row.off ∷ Row.off ∷ List.[];
         }
 
         abbrev G102 : Row.Cx
         G102 = record {
-          locals = List._++_ g78 (List._++_ t1 (List._++_ t79 t3));
+          locals = List._++_ g74 (List._++_ t1 (List._++_ t76 t3));
           slots = life0 ∷ Row.off ∷ life2 ∷ Row.off ∷ life4 ∷ life5 ∷ life6 ∷ life7 ∷ Row.off ∷ Row.off ∷ Row.off ∷
               Row.off ∷ Row.off ∷ Row.off ∷ Row.off ∷ Row.off ∷ Row.off ∷ Row.off ∷ Row.off ∷ Row.off ∷ Row.off ∷
-              Row.alive ∷ Row.alive ∷ Row.off ∷ Row.off ∷ Row.off ∷ Row.off ∷ Row.off ∷ List.[];
+              Row.alive ∷ Row.alive ∷ Row.alive ∷ Row.off ∷ Row.off ∷ Row.off ∷ Row.off ∷ List.[];
         }
 
         abbrev G103 : Row.Cx
         G103 = record {
-          locals = List._++_ g78 (List._++_ t1 (List._++_ t80 t3));
-          slots = life0 ∷ Row.off ∷ life2 ∷ Row.off ∷ life4 ∷ life5 ∷ life6 ∷ life7 ∷ Row.off ∷ Row.off ∷ Row.off ∷
+          locals = List._++_ g77 (List._++_ t1 (List._++_ t78 t3));
+          slots = life0 ∷ Row.off ∷ life2 ∷ Row.off ∷ Row.off ∷ life5 ∷ life6 ∷ life7 ∷ Row.off ∷ Row.off ∷ Row.off ∷
               Row.off ∷ Row.off ∷ Row.off ∷ Row.off ∷ Row.off ∷ Row.off ∷ Row.off ∷ Row.off ∷ Row.off ∷ Row.off ∷
-              Row.alive ∷ Row.alive ∷ Row.off ∷ Row.off ∷ Row.off ∷ Row.off ∷ Row.off ∷ List.[];
+              Row.alive ∷ Row.alive ∷ Row.alive ∷ Row.off ∷ Row.off ∷ Row.off ∷ Row.off ∷ List.[];
         }
 
         abbrev G104 : Row.Cx
         G104 = record {
-          locals = List._++_ g78 (List._++_ t1 (List._++_ t80 t3));
-          slots = life0 ∷ Row.off ∷ life2 ∷ Row.off ∷ life4 ∷ life5 ∷ life6 ∷ life7 ∷ Row.off ∷ Row.off ∷ Row.off ∷
+          locals = List._++_ g77 (List._++_ t1 (List._++_ t79 t3));
+          slots = life0 ∷ Row.off ∷ life2 ∷ Row.off ∷ Row.off ∷ life5 ∷ life6 ∷ life7 ∷ Row.off ∷ Row.off ∷ Row.off ∷
               Row.off ∷ Row.off ∷ Row.off ∷ Row.off ∷ Row.off ∷ Row.off ∷ Row.off ∷ Row.off ∷ Row.off ∷ Row.off ∷
               Row.alive ∷ Row.alive ∷ Row.alive ∷ Row.off ∷ Row.off ∷ Row.off ∷ Row.off ∷ List.[];
         }
 
         abbrev G105 : Row.Cx
         G105 = record {
-          locals = List._++_ g81 (List._++_ t1 (List._++_ t82 t3));
+          locals = List._++_ g80 (List._++_ t1 (List._++_ t81 t3));
           slots = life0 ∷ Row.off ∷ life2 ∷ Row.off ∷ Row.off ∷ life5 ∷ life6 ∷ life7 ∷ Row.off ∷ Row.off ∷ Row.off ∷
               Row.off ∷ Row.off ∷ Row.off ∷ Row.off ∷ Row.off ∷ Row.off ∷ Row.off ∷ Row.off ∷ Row.off ∷ Row.off ∷
               Row.alive ∷ Row.alive ∷ Row.alive ∷ Row.off ∷ Row.off ∷ Row.off ∷ Row.off ∷ List.[];
@@ -3743,7 +3704,7 @@ module _ (claims· : Claims) where
 
         abbrev G106 : Row.Cx
         G106 = record {
-          locals = List._++_ g81 (List._++_ t1 (List._++_ t83 t3));
+          locals = List._++_ g82 (List._++_ t1 (List._++_ t81 t3));
           slots = life0 ∷ Row.off ∷ life2 ∷ Row.off ∷ Row.off ∷ life5 ∷ life6 ∷ life7 ∷ Row.off ∷ Row.off ∷ Row.off ∷
               Row.off ∷ Row.off ∷ Row.off ∷ Row.off ∷ Row.off ∷ Row.off ∷ Row.off ∷ Row.off ∷ Row.off ∷ Row.off ∷
               Row.alive ∷ Row.alive ∷ Row.alive ∷ Row.off ∷ Row.off ∷ Row.off ∷ Row.off ∷ List.[];
@@ -3751,95 +3712,95 @@ module _ (claims· : Claims) where
 
         abbrev G107 : Row.Cx
         G107 = record {
-          locals = List._++_ g84 (List._++_ t1 (List._++_ t85 t3));
-          slots = life0 ∷ Row.off ∷ life2 ∷ Row.off ∷ Row.off ∷ life5 ∷ life6 ∷ life7 ∷ Row.off ∷ Row.off ∷ Row.off ∷
-              Row.off ∷ Row.off ∷ Row.off ∷ Row.off ∷ Row.off ∷ Row.off ∷ Row.off ∷ Row.off ∷ Row.off ∷ Row.off ∷
-              Row.alive ∷ Row.alive ∷ Row.alive ∷ Row.off ∷ Row.off ∷ Row.off ∷ Row.off ∷ List.[];
-        }
-
-        abbrev G108 : Row.Cx
-        G108 = record {
-          locals = List._++_ g86 (List._++_ t1 (List._++_ t85 t3));
-          slots = life0 ∷ Row.off ∷ life2 ∷ Row.off ∷ Row.off ∷ life5 ∷ life6 ∷ life7 ∷ Row.off ∷ Row.off ∷ Row.off ∷
-              Row.off ∷ Row.off ∷ Row.off ∷ Row.off ∷ Row.off ∷ Row.off ∷ Row.off ∷ Row.off ∷ Row.off ∷ Row.off ∷
-              Row.alive ∷ Row.alive ∷ Row.alive ∷ Row.off ∷ Row.off ∷ Row.off ∷ Row.off ∷ List.[];
-        }
-
-        abbrev G109 : Row.Cx
-        G109 = record {
-          locals = List._++_ g86 (List._++_ t1 (List._++_ t85 t3));
+          locals = List._++_ g82 (List._++_ t1 (List._++_ t81 t3));
           slots = life0 ∷ Row.off ∷ life2 ∷ Row.off ∷ Row.off ∷ life5 ∷ life6 ∷ life7 ∷ Row.off ∷ Row.off ∷ Row.off ∷
               Row.off ∷ Row.off ∷ Row.off ∷ Row.off ∷ Row.off ∷ Row.off ∷ Row.off ∷ Row.off ∷ Row.off ∷ Row.off ∷
               Row.dead ∷ Row.alive ∷ Row.alive ∷ Row.off ∷ Row.off ∷ Row.off ∷ Row.off ∷ List.[];
         }
 
-        abbrev G110 : Row.Cx
-        G110 = record {
-          locals = List._++_ g87 (List._++_ t1 (List._++_ t88 t3));
+        abbrev G108 : Row.Cx
+        G108 = record {
+          locals = List._++_ g83 (List._++_ t1 (List._++_ t84 t3));
           slots = life0 ∷ life1 ∷ life2 ∷ Row.off ∷ Row.off ∷ life5 ∷ life6 ∷ life7 ∷ Row.off ∷ Row.off ∷ Row.off ∷
               Row.off ∷ Row.off ∷ Row.off ∷ Row.off ∷ Row.off ∷ Row.off ∷ Row.off ∷ Row.off ∷ Row.off ∷ Row.off ∷
               Row.dead ∷ Row.alive ∷ Row.alive ∷ Row.off ∷ Row.off ∷ Row.off ∷ Row.off ∷ List.[];
         }
 
-        abbrev G111 : Row.Cx
-        G111 = record {
-          locals = List._++_ g87 (List._++_ t1 (List._++_ t88 t3));
+        abbrev G109 : Row.Cx
+        G109 = record {
+          locals = List._++_ g83 (List._++_ t1 (List._++_ t84 t3));
           slots = life0 ∷ life1 ∷ life2 ∷ Row.off ∷ Row.off ∷ life5 ∷ life6 ∷ life7 ∷ Row.off ∷ Row.off ∷ Row.off ∷
               Row.off ∷ Row.off ∷ Row.off ∷ Row.off ∷ Row.off ∷ Row.off ∷ Row.off ∷ Row.off ∷ Row.off ∷ Row.off ∷
               Row.off ∷ Row.alive ∷ Row.alive ∷ Row.off ∷ Row.off ∷ Row.off ∷ Row.off ∷ List.[];
         }
 
-        abbrev G112 : Row.Cx
-        G112 = record {
-          locals = List._++_ g87 (List._++_ t1 (List._++_ t88 t3));
+        abbrev G110 : Row.Cx
+        G110 = record {
+          locals = List._++_ g83 (List._++_ t1 (List._++_ t84 t3));
           slots = life0 ∷ life1 ∷ life2 ∷ Row.off ∷ Row.off ∷ life5 ∷ life6 ∷ life7 ∷ Row.off ∷ Row.off ∷ Row.off ∷
               Row.off ∷ Row.off ∷ Row.off ∷ Row.off ∷ Row.off ∷ Row.off ∷ Row.off ∷ Row.off ∷ Row.off ∷ Row.off ∷
               Row.off ∷ Row.dead ∷ Row.alive ∷ Row.off ∷ Row.off ∷ Row.off ∷ Row.off ∷ List.[];
         }
 
-        abbrev G113 : Row.Cx
-        G113 = record {
-          locals = List._++_ g89 (List._++_ t1 (List._++_ t90 t3));
+        abbrev G111 : Row.Cx
+        G111 = record {
+          locals = List._++_ g85 (List._++_ t1 (List._++_ t86 t3));
           slots = life0 ∷ life1 ∷ life2 ∷ life3 ∷ Row.off ∷ life5 ∷ life6 ∷ life7 ∷ Row.off ∷ Row.off ∷ Row.off ∷
               Row.off ∷ Row.off ∷ Row.off ∷ Row.off ∷ Row.off ∷ Row.off ∷ Row.off ∷ Row.off ∷ Row.off ∷ Row.off ∷
               Row.off ∷ Row.dead ∷ Row.alive ∷ Row.off ∷ Row.off ∷ Row.off ∷ Row.off ∷ List.[];
         }
 
-        abbrev G114 : Row.Cx
-        G114 = record {
-          locals = List._++_ g89 (List._++_ t1 (List._++_ t90 t3));
+        abbrev G112 : Row.Cx
+        G112 = record {
+          locals = List._++_ g85 (List._++_ t1 (List._++_ t86 t3));
           slots = life0 ∷ life1 ∷ life2 ∷ life3 ∷ Row.off ∷ life5 ∷ life6 ∷ life7 ∷ Row.off ∷ Row.off ∷ Row.off ∷
               Row.off ∷ Row.off ∷ Row.off ∷ Row.off ∷ Row.off ∷ Row.off ∷ Row.off ∷ Row.off ∷ Row.off ∷ Row.off ∷
               Row.off ∷ Row.off ∷ Row.alive ∷ Row.off ∷ Row.off ∷ Row.off ∷ Row.off ∷ List.[];
         }
 
-        abbrev G115 : Row.Cx
-        G115 = record {
-          locals = List._++_ g89 (List._++_ t1 (List._++_ t90 t3));
+        abbrev G113 : Row.Cx
+        G113 = record {
+          locals = List._++_ g85 (List._++_ t1 (List._++_ t86 t3));
           slots = life0 ∷ life1 ∷ life2 ∷ life3 ∷ Row.off ∷ life5 ∷ life6 ∷ life7 ∷ Row.off ∷ Row.off ∷ Row.off ∷
               Row.off ∷ Row.off ∷ Row.off ∷ Row.off ∷ Row.off ∷ Row.off ∷ Row.off ∷ Row.off ∷ Row.off ∷ Row.off ∷
               Row.off ∷ Row.off ∷ Row.dead ∷ Row.off ∷ Row.off ∷ Row.off ∷ Row.off ∷ List.[];
         }
 
-        abbrev G116 : Row.Cx
-        G116 = record {
-          locals = List._++_ t7 (List._++_ t1 (List._++_ t2 t3));
+        abbrev G114 : Row.Cx
+        G114 = record {
+          locals = List._++_ t6 (List._++_ t1 (List._++_ t2 t3));
           slots = life0 ∷ life1 ∷ life2 ∷ life3 ∷ life4 ∷ life5 ∷ life6 ∷ life7 ∷ Row.off ∷ Row.off ∷ Row.off ∷ Row.off
               ∷ Row.off ∷ Row.off ∷ Row.off ∷ Row.off ∷ Row.off ∷ Row.off ∷ Row.off ∷ Row.off ∷ Row.off ∷ Row.off ∷
               Row.off ∷ Row.dead ∷ Row.off ∷ Row.off ∷ Row.off ∷ Row.off ∷ List.[];
+        }
+
+        abbrev G115 : Row.Cx
+        G115 = record {
+          locals = List._++_ t6 (List._++_ t1 (List._++_ t2 t3));
+          slots = life0 ∷ life1 ∷ life2 ∷ life3 ∷ life4 ∷ life5 ∷ life6 ∷ life7 ∷ Row.off ∷ Row.off ∷ Row.off ∷ Row.off
+              ∷ Row.off ∷ Row.off ∷ Row.off ∷ Row.off ∷ Row.off ∷ Row.off ∷ Row.off ∷ Row.off ∷ Row.off ∷ Row.off ∷
+              Row.off ∷ Row.dead ∷ Row.off ∷ Row.off ∷ Row.off ∷ Row.off ∷ List.[];
+        }
+
+        abbrev G116 : Row.Cx
+        G116 = record {
+          locals = List._++_ t6 (List._++_ t1 (List._++_ t2 t3));
+          slots = life0 ∷ life1 ∷ life2 ∷ life3 ∷ life4 ∷ life5 ∷ life6 ∷ life7 ∷ Row.off ∷ Row.off ∷ Row.off ∷ Row.off
+              ∷ Row.off ∷ Row.off ∷ Row.off ∷ Row.off ∷ Row.off ∷ Row.off ∷ Row.off ∷ Row.off ∷ Row.off ∷ Row.off ∷
+              Row.off ∷ Row.off ∷ Row.off ∷ Row.off ∷ Row.off ∷ Row.off ∷ List.[];
         }
 
         abbrev G117 : Row.Cx
         G117 = record {
-          locals = List._++_ t7 (List._++_ t1 (List._++_ t2 t3));
+          locals = List._++_ t5 (List._++_ t1 (List._++_ t87 t3));
           slots = life0 ∷ life1 ∷ life2 ∷ life3 ∷ life4 ∷ life5 ∷ life6 ∷ life7 ∷ Row.off ∷ Row.off ∷ Row.off ∷ Row.off
               ∷ Row.off ∷ Row.off ∷ Row.off ∷ Row.off ∷ Row.off ∷ Row.off ∷ Row.off ∷ Row.off ∷ Row.off ∷ Row.off ∷
-              Row.off ∷ Row.dead ∷ Row.off ∷ Row.off ∷ Row.off ∷ Row.off ∷ List.[];
+              Row.off ∷ Row.off ∷ Row.off ∷ Row.off ∷ Row.off ∷ Row.off ∷ List.[];
         }
 
         abbrev G118 : Row.Cx
         G118 = record {
-          locals = List._++_ t7 (List._++_ t1 (List._++_ t2 t3));
+          locals = List._++_ t5 (List._++_ t1 (List._++_ t2 t3));
           slots = life0 ∷ life1 ∷ life2 ∷ life3 ∷ life4 ∷ life5 ∷ life6 ∷ life7 ∷ Row.off ∷ Row.off ∷ Row.off ∷ Row.off
               ∷ Row.off ∷ Row.off ∷ Row.off ∷ Row.off ∷ Row.off ∷ Row.off ∷ Row.off ∷ Row.off ∷ Row.off ∷ Row.off ∷
               Row.off ∷ Row.off ∷ Row.off ∷ Row.off ∷ Row.off ∷ Row.off ∷ List.[];
@@ -3847,7 +3808,7 @@ module _ (claims· : Claims) where
 
         abbrev G119 : Row.Cx
         G119 = record {
-          locals = List._++_ t8 (List._++_ t1 (List._++_ t91 t3));
+          locals = List._++_ t5 (List._++_ t1 (List._++_ t2 t3));
           slots = life0 ∷ life1 ∷ life2 ∷ life3 ∷ life4 ∷ life5 ∷ life6 ∷ life7 ∷ Row.off ∷ Row.off ∷ Row.off ∷ Row.off
               ∷ Row.off ∷ Row.off ∷ Row.off ∷ Row.off ∷ Row.off ∷ Row.off ∷ Row.off ∷ Row.off ∷ Row.off ∷ Row.off ∷
               Row.off ∷ Row.off ∷ Row.off ∷ Row.off ∷ Row.off ∷ Row.off ∷ List.[];
@@ -3855,7 +3816,7 @@ module _ (claims· : Claims) where
 
         abbrev G120 : Row.Cx
         G120 = record {
-          locals = List._++_ t8 (List._++_ t1 (List._++_ t2 t3));
+          locals = List._++_ t5 (List._++_ t1 (List._++_ t2 t3));
           slots = life0 ∷ life1 ∷ life2 ∷ life3 ∷ life4 ∷ life5 ∷ life6 ∷ life7 ∷ Row.off ∷ Row.off ∷ Row.off ∷ Row.off
               ∷ Row.off ∷ Row.off ∷ Row.off ∷ Row.off ∷ Row.off ∷ Row.off ∷ Row.off ∷ Row.off ∷ Row.off ∷ Row.off ∷
               Row.off ∷ Row.off ∷ Row.off ∷ Row.off ∷ Row.off ∷ Row.off ∷ List.[];
@@ -3863,7 +3824,7 @@ module _ (claims· : Claims) where
 
         abbrev G121 : Row.Cx
         G121 = record {
-          locals = List._++_ t8 (List._++_ t1 (List._++_ t2 t3));
+          locals = List._++_ t5 (List._++_ t1 (List._++_ t87 t3));
           slots = life0 ∷ life1 ∷ life2 ∷ life3 ∷ life4 ∷ life5 ∷ life6 ∷ life7 ∷ Row.off ∷ Row.off ∷ Row.off ∷ Row.off
               ∷ Row.off ∷ Row.off ∷ Row.off ∷ Row.off ∷ Row.off ∷ Row.off ∷ Row.off ∷ Row.off ∷ Row.off ∷ Row.off ∷
               Row.off ∷ Row.off ∷ Row.off ∷ Row.off ∷ Row.off ∷ Row.off ∷ List.[];
@@ -3871,7 +3832,7 @@ module _ (claims· : Claims) where
 
         abbrev G122 : Row.Cx
         G122 = record {
-          locals = List._++_ t8 (List._++_ t1 (List._++_ t2 t3));
+          locals = List._++_ t5 (List._++_ t1 (List._++_ t2 t3));
           slots = life0 ∷ life1 ∷ life2 ∷ life3 ∷ life4 ∷ life5 ∷ life6 ∷ life7 ∷ Row.off ∷ Row.off ∷ Row.off ∷ Row.off
               ∷ Row.off ∷ Row.off ∷ Row.off ∷ Row.off ∷ Row.off ∷ Row.off ∷ Row.off ∷ Row.off ∷ Row.off ∷ Row.off ∷
               Row.off ∷ Row.off ∷ Row.off ∷ Row.off ∷ Row.off ∷ Row.off ∷ List.[];
@@ -3879,7 +3840,7 @@ module _ (claims· : Claims) where
 
         abbrev G123 : Row.Cx
         G123 = record {
-          locals = List._++_ t8 (List._++_ t1 (List._++_ t91 t3));
+          locals = List._++_ t5 (List._++_ t1 (List._++_ t2 t3));
           slots = life0 ∷ life1 ∷ life2 ∷ life3 ∷ life4 ∷ life5 ∷ life6 ∷ life7 ∷ Row.off ∷ Row.off ∷ Row.off ∷ Row.off
               ∷ Row.off ∷ Row.off ∷ Row.off ∷ Row.off ∷ Row.off ∷ Row.off ∷ Row.off ∷ Row.off ∷ Row.off ∷ Row.off ∷
               Row.off ∷ Row.off ∷ Row.off ∷ Row.off ∷ Row.off ∷ Row.off ∷ List.[];
@@ -3887,103 +3848,103 @@ module _ (claims· : Claims) where
 
         abbrev G124 : Row.Cx
         G124 = record {
-          locals = List._++_ t8 (List._++_ t1 (List._++_ t2 t3));
-          slots = life0 ∷ life1 ∷ life2 ∷ life3 ∷ life4 ∷ life5 ∷ life6 ∷ life7 ∷ Row.off ∷ Row.off ∷ Row.off ∷ Row.off
-              ∷ Row.off ∷ Row.off ∷ Row.off ∷ Row.off ∷ Row.off ∷ Row.off ∷ Row.off ∷ Row.off ∷ Row.off ∷ Row.off ∷
-              Row.off ∷ Row.off ∷ Row.off ∷ Row.off ∷ Row.off ∷ Row.off ∷ List.[];
-        }
-
-        abbrev G125 : Row.Cx
-        G125 = record {
-          locals = List._++_ t8 (List._++_ t1 (List._++_ t2 t3));
-          slots = life0 ∷ life1 ∷ life2 ∷ life3 ∷ life4 ∷ life5 ∷ life6 ∷ life7 ∷ Row.off ∷ Row.off ∷ Row.off ∷ Row.off
-              ∷ Row.off ∷ Row.off ∷ Row.off ∷ Row.off ∷ Row.off ∷ Row.off ∷ Row.off ∷ Row.off ∷ Row.off ∷ Row.off ∷
-              Row.off ∷ Row.off ∷ Row.off ∷ Row.off ∷ Row.off ∷ Row.off ∷ List.[];
-        }
-
-        abbrev G126 : Row.Cx
-        G126 = record {
-          locals = List._++_ t8 (List._++_ t1 (List._++_ t2 t3));
+          locals = List._++_ t5 (List._++_ t1 (List._++_ t2 t3));
           slots = life0 ∷ life1 ∷ life2 ∷ life3 ∷ life4 ∷ life5 ∷ life6 ∷ life7 ∷ Row.off ∷ Row.off ∷ Row.off ∷ Row.off
               ∷ Row.off ∷ Row.off ∷ Row.off ∷ Row.off ∷ Row.off ∷ Row.off ∷ Row.off ∷ Row.off ∷ Row.off ∷ Row.off ∷
               Row.off ∷ Row.off ∷ Row.alive ∷ Row.off ∷ Row.off ∷ Row.off ∷ List.[];
         }
 
-        abbrev G127 : Row.Cx
-        G127 = record {
-          locals = List._++_ g92 (List._++_ t1 (List._++_ t93 t3));
+        abbrev G125 : Row.Cx
+        G125 = record {
+          locals = List._++_ g88 (List._++_ t1 (List._++_ t89 t3));
           slots = Row.off ∷ life1 ∷ life2 ∷ life3 ∷ life4 ∷ life5 ∷ life6 ∷ life7 ∷ Row.off ∷ Row.off ∷ Row.off ∷
               Row.off ∷ Row.off ∷ Row.off ∷ Row.off ∷ Row.off ∷ Row.off ∷ Row.off ∷ Row.off ∷ Row.off ∷ Row.off ∷
               Row.off ∷ Row.off ∷ Row.off ∷ Row.alive ∷ Row.off ∷ Row.off ∷ Row.off ∷ List.[];
+        }
+
+        abbrev G126 : Row.Cx
+        G126 = record {
+          locals = List._++_ g88 (List._++_ t1 (List._++_ t90 t3));
+          slots = Row.off ∷ life1 ∷ life2 ∷ life3 ∷ life4 ∷ life5 ∷ life6 ∷ life7 ∷ Row.off ∷ Row.off ∷ Row.off ∷
+              Row.off ∷ Row.off ∷ Row.off ∷ Row.off ∷ Row.off ∷ Row.off ∷ Row.off ∷ Row.off ∷ Row.off ∷ Row.off ∷
+              Row.off ∷ Row.off ∷ Row.off ∷ Row.alive ∷ Row.off ∷ Row.off ∷ Row.off ∷ List.[];
+        }
+
+        abbrev G127 : Row.Cx
+        G127 = record {
+          locals = List._++_ g88 (List._++_ t1 (List._++_ t90 t3));
+          slots = Row.off ∷ life1 ∷ life2 ∷ life3 ∷ life4 ∷ life5 ∷ life6 ∷ life7 ∷ Row.off ∷ Row.off ∷ Row.off ∷
+              Row.off ∷ Row.off ∷ Row.off ∷ Row.off ∷ Row.off ∷ Row.off ∷ Row.off ∷ Row.off ∷ Row.off ∷ Row.off ∷
+              Row.off ∷ Row.off ∷ Row.off ∷ Row.alive ∷ Row.alive ∷ Row.off ∷ Row.off ∷ List.[];
         }
 
         abbrev G128 : Row.Cx
         G128 = record {
-          locals = List._++_ g92 (List._++_ t1 (List._++_ t94 t3));
-          slots = Row.off ∷ life1 ∷ life2 ∷ life3 ∷ life4 ∷ life5 ∷ life6 ∷ life7 ∷ Row.off ∷ Row.off ∷ Row.off ∷
+          locals = List._++_ g91 (List._++_ t1 (List._++_ t92 t3));
+          slots = Row.off ∷ Row.off ∷ life2 ∷ life3 ∷ life4 ∷ life5 ∷ life6 ∷ life7 ∷ Row.off ∷ Row.off ∷ Row.off ∷
               Row.off ∷ Row.off ∷ Row.off ∷ Row.off ∷ Row.off ∷ Row.off ∷ Row.off ∷ Row.off ∷ Row.off ∷ Row.off ∷
-              Row.off ∷ Row.off ∷ Row.off ∷ Row.alive ∷ Row.off ∷ Row.off ∷ Row.off ∷ List.[];
+              Row.off ∷ Row.off ∷ Row.off ∷ Row.alive ∷ Row.alive ∷ Row.off ∷ Row.off ∷ List.[];
         }
 
         abbrev G129 : Row.Cx
         G129 = record {
-          locals = List._++_ g92 (List._++_ t1 (List._++_ t94 t3));
-          slots = Row.off ∷ life1 ∷ life2 ∷ life3 ∷ life4 ∷ life5 ∷ life6 ∷ life7 ∷ Row.off ∷ Row.off ∷ Row.off ∷
+          locals = List._++_ g91 (List._++_ t1 (List._++_ t90 t93));
+          slots = Row.off ∷ Row.off ∷ life2 ∷ life3 ∷ life4 ∷ life5 ∷ life6 ∷ life7 ∷ Row.off ∷ Row.off ∷ Row.off ∷
               Row.off ∷ Row.off ∷ Row.off ∷ Row.off ∷ Row.off ∷ Row.off ∷ Row.off ∷ Row.off ∷ Row.off ∷ Row.off ∷
               Row.off ∷ Row.off ∷ Row.off ∷ Row.alive ∷ Row.alive ∷ Row.off ∷ Row.off ∷ List.[];
         }
 
         abbrev G130 : Row.Cx
         G130 = record {
-          locals = List._++_ g95 (List._++_ t1 (List._++_ t94 t96));
+          locals = List._++_ g91 (List._++_ t1 (List._++_ t90 t93));
           slots = Row.off ∷ Row.off ∷ life2 ∷ life3 ∷ life4 ∷ life5 ∷ life6 ∷ life7 ∷ Row.off ∷ Row.off ∷ Row.off ∷
               Row.off ∷ Row.off ∷ Row.off ∷ Row.off ∷ Row.off ∷ Row.off ∷ Row.off ∷ Row.off ∷ Row.off ∷ Row.off ∷
-              Row.off ∷ Row.off ∷ Row.off ∷ Row.alive ∷ Row.alive ∷ Row.off ∷ Row.off ∷ List.[];
+              Row.off ∷ Row.off ∷ Row.off ∷ Row.alive ∷ Row.alive ∷ Row.alive ∷ Row.off ∷ List.[];
         }
 
         abbrev G131 : Row.Cx
         G131 = record {
-          locals = List._++_ g95 (List._++_ t1 (List._++_ t94 t97));
-          slots = Row.off ∷ Row.off ∷ life2 ∷ life3 ∷ life4 ∷ life5 ∷ life6 ∷ life7 ∷ Row.off ∷ Row.off ∷ Row.off ∷
+          locals = List._++_ g94 (List._++_ t1 (List._++_ t90 t95));
+          slots = Row.off ∷ Row.off ∷ life2 ∷ Row.off ∷ life4 ∷ life5 ∷ life6 ∷ life7 ∷ Row.off ∷ Row.off ∷ Row.off ∷
               Row.off ∷ Row.off ∷ Row.off ∷ Row.off ∷ Row.off ∷ Row.off ∷ Row.off ∷ Row.off ∷ Row.off ∷ Row.off ∷
-              Row.off ∷ Row.off ∷ Row.off ∷ Row.alive ∷ Row.alive ∷ Row.off ∷ Row.off ∷ List.[];
+              Row.off ∷ Row.off ∷ Row.off ∷ Row.alive ∷ Row.alive ∷ Row.alive ∷ Row.off ∷ List.[];
         }
 
         abbrev G132 : Row.Cx
         G132 = record {
-          locals = List._++_ g95 (List._++_ t1 (List._++_ t94 t97));
-          slots = Row.off ∷ Row.off ∷ life2 ∷ life3 ∷ life4 ∷ life5 ∷ life6 ∷ life7 ∷ Row.off ∷ Row.off ∷ Row.off ∷
+          locals = List._++_ g94 (List._++_ t1 (List._++_ t90 t96));
+          slots = Row.off ∷ Row.off ∷ life2 ∷ Row.off ∷ life4 ∷ life5 ∷ life6 ∷ life7 ∷ Row.off ∷ Row.off ∷ Row.off ∷
               Row.off ∷ Row.off ∷ Row.off ∷ Row.off ∷ Row.off ∷ Row.off ∷ Row.off ∷ Row.off ∷ Row.off ∷ Row.off ∷
               Row.off ∷ Row.off ∷ Row.off ∷ Row.alive ∷ Row.alive ∷ Row.alive ∷ Row.off ∷ List.[];
         }
 
         abbrev G133 : Row.Cx
         G133 = record {
-          locals = List._++_ g98 (List._++_ t1 (List._++_ t94 t99));
+          locals = List._++_ g94 (List._++_ t1 (List._++_ t90 t96));
           slots = Row.off ∷ Row.off ∷ life2 ∷ Row.off ∷ life4 ∷ life5 ∷ life6 ∷ life7 ∷ Row.off ∷ Row.off ∷ Row.off ∷
               Row.off ∷ Row.off ∷ Row.off ∷ Row.off ∷ Row.off ∷ Row.off ∷ Row.off ∷ Row.off ∷ Row.off ∷ Row.off ∷
-              Row.off ∷ Row.off ∷ Row.off ∷ Row.alive ∷ Row.alive ∷ Row.alive ∷ Row.off ∷ List.[];
+              Row.off ∷ Row.off ∷ Row.off ∷ Row.alive ∷ Row.alive ∷ Row.alive ∷ Row.alive ∷ List.[];
         }
 
         abbrev G134 : Row.Cx
         G134 = record {
-          locals = List._++_ g98 (List._++_ t1 (List._++_ t94 t100));
-          slots = Row.off ∷ Row.off ∷ life2 ∷ Row.off ∷ life4 ∷ life5 ∷ life6 ∷ life7 ∷ Row.off ∷ Row.off ∷ Row.off ∷
+          locals = List._++_ g97 (List._++_ t1 (List._++_ t90 t98));
+          slots = Row.off ∷ Row.off ∷ life2 ∷ Row.off ∷ Row.off ∷ life5 ∷ life6 ∷ life7 ∷ Row.off ∷ Row.off ∷ Row.off ∷
               Row.off ∷ Row.off ∷ Row.off ∷ Row.off ∷ Row.off ∷ Row.off ∷ Row.off ∷ Row.off ∷ Row.off ∷ Row.off ∷
-              Row.off ∷ Row.off ∷ Row.off ∷ Row.alive ∷ Row.alive ∷ Row.alive ∷ Row.off ∷ List.[];
+              Row.off ∷ Row.off ∷ Row.off ∷ Row.alive ∷ Row.alive ∷ Row.alive ∷ Row.alive ∷ List.[];
         }
 
         abbrev G135 : Row.Cx
         G135 = record {
-          locals = List._++_ g98 (List._++_ t1 (List._++_ t94 t100));
-          slots = Row.off ∷ Row.off ∷ life2 ∷ Row.off ∷ life4 ∷ life5 ∷ life6 ∷ life7 ∷ Row.off ∷ Row.off ∷ Row.off ∷
+          locals = List._++_ g97 (List._++_ t1 (List._++_ t90 t99));
+          slots = Row.off ∷ Row.off ∷ life2 ∷ Row.off ∷ Row.off ∷ life5 ∷ life6 ∷ life7 ∷ Row.off ∷ Row.off ∷ Row.off ∷
               Row.off ∷ Row.off ∷ Row.off ∷ Row.off ∷ Row.off ∷ Row.off ∷ Row.off ∷ Row.off ∷ Row.off ∷ Row.off ∷
               Row.off ∷ Row.off ∷ Row.off ∷ Row.alive ∷ Row.alive ∷ Row.alive ∷ Row.alive ∷ List.[];
         }
 
         abbrev G136 : Row.Cx
         G136 = record {
-          locals = List._++_ g101 (List._++_ t1 (List._++_ t94 t102));
+          locals = List._++_ g100 (List._++_ t1 (List._++_ t101 t102));
           slots = Row.off ∷ Row.off ∷ life2 ∷ Row.off ∷ Row.off ∷ life5 ∷ life6 ∷ life7 ∷ Row.off ∷ Row.off ∷ Row.off ∷
               Row.off ∷ Row.off ∷ Row.off ∷ Row.off ∷ Row.off ∷ Row.off ∷ Row.off ∷ Row.off ∷ Row.off ∷ Row.off ∷
               Row.off ∷ Row.off ∷ Row.off ∷ Row.alive ∷ Row.alive ∷ Row.alive ∷ Row.alive ∷ List.[];
@@ -3991,7 +3952,7 @@ module _ (claims· : Claims) where
 
         abbrev G137 : Row.Cx
         G137 = record {
-          locals = List._++_ g101 (List._++_ t1 (List._++_ t94 t103));
+          locals = List._++_ g103 (List._++_ t1 (List._++_ t101 t102));
           slots = Row.off ∷ Row.off ∷ life2 ∷ Row.off ∷ Row.off ∷ life5 ∷ life6 ∷ life7 ∷ Row.off ∷ Row.off ∷ Row.off ∷
               Row.off ∷ Row.off ∷ Row.off ∷ Row.off ∷ Row.off ∷ Row.off ∷ Row.off ∷ Row.off ∷ Row.off ∷ Row.off ∷
               Row.off ∷ Row.off ∷ Row.off ∷ Row.alive ∷ Row.alive ∷ Row.alive ∷ Row.alive ∷ List.[];
@@ -3999,119 +3960,119 @@ module _ (claims· : Claims) where
 
         abbrev G138 : Row.Cx
         G138 = record {
-          locals = List._++_ g104 (List._++_ t1 (List._++_ t105 t106));
-          slots = Row.off ∷ Row.off ∷ life2 ∷ Row.off ∷ Row.off ∷ life5 ∷ life6 ∷ life7 ∷ Row.off ∷ Row.off ∷ Row.off ∷
-              Row.off ∷ Row.off ∷ Row.off ∷ Row.off ∷ Row.off ∷ Row.off ∷ Row.off ∷ Row.off ∷ Row.off ∷ Row.off ∷
-              Row.off ∷ Row.off ∷ Row.off ∷ Row.alive ∷ Row.alive ∷ Row.alive ∷ Row.alive ∷ List.[];
-        }
-
-        abbrev G139 : Row.Cx
-        G139 = record {
-          locals = List._++_ g107 (List._++_ t1 (List._++_ t105 t106));
-          slots = Row.off ∷ Row.off ∷ life2 ∷ Row.off ∷ Row.off ∷ life5 ∷ life6 ∷ life7 ∷ Row.off ∷ Row.off ∷ Row.off ∷
-              Row.off ∷ Row.off ∷ Row.off ∷ Row.off ∷ Row.off ∷ Row.off ∷ Row.off ∷ Row.off ∷ Row.off ∷ Row.off ∷
-              Row.off ∷ Row.off ∷ Row.off ∷ Row.alive ∷ Row.alive ∷ Row.alive ∷ Row.alive ∷ List.[];
-        }
-
-        abbrev G140 : Row.Cx
-        G140 = record {
-          locals = List._++_ g107 (List._++_ t1 (List._++_ t105 t106));
+          locals = List._++_ g103 (List._++_ t1 (List._++_ t101 t102));
           slots = Row.off ∷ Row.off ∷ life2 ∷ Row.off ∷ Row.off ∷ life5 ∷ life6 ∷ life7 ∷ Row.off ∷ Row.off ∷ Row.off ∷
               Row.off ∷ Row.off ∷ Row.off ∷ Row.off ∷ Row.off ∷ Row.off ∷ Row.off ∷ Row.off ∷ Row.off ∷ Row.off ∷
               Row.off ∷ Row.off ∷ Row.off ∷ Row.dead ∷ Row.alive ∷ Row.alive ∷ Row.alive ∷ List.[];
         }
 
-        abbrev G141 : Row.Cx
-        G141 = record {
-          locals = List._++_ g108 (List._++_ t1 (List._++_ t2 t106));
+        abbrev G139 : Row.Cx
+        G139 = record {
+          locals = List._++_ g104 (List._++_ t1 (List._++_ t2 t102));
           slots = life0 ∷ Row.off ∷ life2 ∷ Row.off ∷ Row.off ∷ life5 ∷ life6 ∷ life7 ∷ Row.off ∷ Row.off ∷ Row.off ∷
               Row.off ∷ Row.off ∷ Row.off ∷ Row.off ∷ Row.off ∷ Row.off ∷ Row.off ∷ Row.off ∷ Row.off ∷ Row.off ∷
               Row.off ∷ Row.off ∷ Row.off ∷ Row.dead ∷ Row.alive ∷ Row.alive ∷ Row.alive ∷ List.[];
         }
 
-        abbrev G142 : Row.Cx
-        G142 = record {
-          locals = List._++_ g108 (List._++_ t1 (List._++_ t2 t106));
+        abbrev G140 : Row.Cx
+        G140 = record {
+          locals = List._++_ g104 (List._++_ t1 (List._++_ t2 t102));
           slots = life0 ∷ Row.off ∷ life2 ∷ Row.off ∷ Row.off ∷ life5 ∷ life6 ∷ life7 ∷ Row.off ∷ Row.off ∷ Row.off ∷
               Row.off ∷ Row.off ∷ Row.off ∷ Row.off ∷ Row.off ∷ Row.off ∷ Row.off ∷ Row.off ∷ Row.off ∷ Row.off ∷
               Row.off ∷ Row.off ∷ Row.off ∷ Row.off ∷ Row.alive ∷ Row.alive ∷ Row.alive ∷ List.[];
         }
 
-        abbrev G143 : Row.Cx
-        G143 = record {
-          locals = List._++_ g108 (List._++_ t1 (List._++_ t2 t106));
+        abbrev G141 : Row.Cx
+        G141 = record {
+          locals = List._++_ g104 (List._++_ t1 (List._++_ t2 t102));
           slots = life0 ∷ Row.off ∷ life2 ∷ Row.off ∷ Row.off ∷ life5 ∷ life6 ∷ life7 ∷ Row.off ∷ Row.off ∷ Row.off ∷
               Row.off ∷ Row.off ∷ Row.off ∷ Row.off ∷ Row.off ∷ Row.off ∷ Row.off ∷ Row.off ∷ Row.off ∷ Row.off ∷
               Row.off ∷ Row.off ∷ Row.off ∷ Row.off ∷ Row.dead ∷ Row.alive ∷ Row.alive ∷ List.[];
         }
 
-        abbrev G144 : Row.Cx
-        G144 = record {
-          locals = List._++_ g109 (List._++_ t1 (List._++_ t2 t110));
+        abbrev G142 : Row.Cx
+        G142 = record {
+          locals = List._++_ g105 (List._++_ t1 (List._++_ t2 t106));
           slots = life0 ∷ life1 ∷ life2 ∷ Row.off ∷ Row.off ∷ life5 ∷ life6 ∷ life7 ∷ Row.off ∷ Row.off ∷ Row.off ∷
               Row.off ∷ Row.off ∷ Row.off ∷ Row.off ∷ Row.off ∷ Row.off ∷ Row.off ∷ Row.off ∷ Row.off ∷ Row.off ∷
               Row.off ∷ Row.off ∷ Row.off ∷ Row.off ∷ Row.dead ∷ Row.alive ∷ Row.alive ∷ List.[];
         }
 
-        abbrev G145 : Row.Cx
-        G145 = record {
-          locals = List._++_ g109 (List._++_ t1 (List._++_ t2 t110));
+        abbrev G143 : Row.Cx
+        G143 = record {
+          locals = List._++_ g105 (List._++_ t1 (List._++_ t2 t106));
           slots = life0 ∷ life1 ∷ life2 ∷ Row.off ∷ Row.off ∷ life5 ∷ life6 ∷ life7 ∷ Row.off ∷ Row.off ∷ Row.off ∷
               Row.off ∷ Row.off ∷ Row.off ∷ Row.off ∷ Row.off ∷ Row.off ∷ Row.off ∷ Row.off ∷ Row.off ∷ Row.off ∷
               Row.off ∷ Row.off ∷ Row.off ∷ Row.off ∷ Row.off ∷ Row.alive ∷ Row.alive ∷ List.[];
         }
 
-        abbrev G146 : Row.Cx
-        G146 = record {
-          locals = List._++_ g109 (List._++_ t1 (List._++_ t2 t110));
+        abbrev G144 : Row.Cx
+        G144 = record {
+          locals = List._++_ g105 (List._++_ t1 (List._++_ t2 t106));
           slots = life0 ∷ life1 ∷ life2 ∷ Row.off ∷ Row.off ∷ life5 ∷ life6 ∷ life7 ∷ Row.off ∷ Row.off ∷ Row.off ∷
               Row.off ∷ Row.off ∷ Row.off ∷ Row.off ∷ Row.off ∷ Row.off ∷ Row.off ∷ Row.off ∷ Row.off ∷ Row.off ∷
               Row.off ∷ Row.off ∷ Row.off ∷ Row.off ∷ Row.off ∷ Row.dead ∷ Row.alive ∷ List.[];
         }
 
-        abbrev G147 : Row.Cx
-        G147 = record {
-          locals = List._++_ g111 (List._++_ t1 (List._++_ t2 t112));
+        abbrev G145 : Row.Cx
+        G145 = record {
+          locals = List._++_ g107 (List._++_ t1 (List._++_ t2 t108));
           slots = life0 ∷ life1 ∷ life2 ∷ life3 ∷ Row.off ∷ life5 ∷ life6 ∷ life7 ∷ Row.off ∷ Row.off ∷ Row.off ∷
               Row.off ∷ Row.off ∷ Row.off ∷ Row.off ∷ Row.off ∷ Row.off ∷ Row.off ∷ Row.off ∷ Row.off ∷ Row.off ∷
               Row.off ∷ Row.off ∷ Row.off ∷ Row.off ∷ Row.off ∷ Row.dead ∷ Row.alive ∷ List.[];
         }
 
-        abbrev G148 : Row.Cx
-        G148 = record {
-          locals = List._++_ g111 (List._++_ t1 (List._++_ t2 t112));
+        abbrev G146 : Row.Cx
+        G146 = record {
+          locals = List._++_ g107 (List._++_ t1 (List._++_ t2 t108));
           slots = life0 ∷ life1 ∷ life2 ∷ life3 ∷ Row.off ∷ life5 ∷ life6 ∷ life7 ∷ Row.off ∷ Row.off ∷ Row.off ∷
               Row.off ∷ Row.off ∷ Row.off ∷ Row.off ∷ Row.off ∷ Row.off ∷ Row.off ∷ Row.off ∷ Row.off ∷ Row.off ∷
               Row.off ∷ Row.off ∷ Row.off ∷ Row.off ∷ Row.off ∷ Row.off ∷ Row.alive ∷ List.[];
         }
 
-        abbrev G149 : Row.Cx
-        G149 = record {
-          locals = List._++_ g111 (List._++_ t1 (List._++_ t2 t112));
+        abbrev G147 : Row.Cx
+        G147 = record {
+          locals = List._++_ g107 (List._++_ t1 (List._++_ t2 t108));
           slots = life0 ∷ life1 ∷ life2 ∷ life3 ∷ Row.off ∷ life5 ∷ life6 ∷ life7 ∷ Row.off ∷ Row.off ∷ Row.off ∷
               Row.off ∷ Row.off ∷ Row.off ∷ Row.off ∷ Row.off ∷ Row.off ∷ Row.off ∷ Row.off ∷ Row.off ∷ Row.off ∷
               Row.off ∷ Row.off ∷ Row.off ∷ Row.off ∷ Row.off ∷ Row.off ∷ Row.dead ∷ List.[];
         }
 
-        abbrev G150 : Row.Cx
-        G150 = record {
-          locals = List._++_ t7 (List._++_ t1 (List._++_ t2 t3));
+        abbrev G148 : Row.Cx
+        G148 = record {
+          locals = List._++_ t6 (List._++_ t1 (List._++_ t2 t3));
           slots = life0 ∷ life1 ∷ life2 ∷ life3 ∷ life4 ∷ life5 ∷ life6 ∷ life7 ∷ Row.off ∷ Row.off ∷ Row.off ∷ Row.off
               ∷ Row.off ∷ Row.off ∷ Row.off ∷ Row.off ∷ Row.off ∷ Row.off ∷ Row.off ∷ Row.off ∷ Row.off ∷ Row.off ∷
               Row.off ∷ Row.off ∷ Row.off ∷ Row.off ∷ Row.off ∷ Row.dead ∷ List.[];
+        }
+
+        abbrev G149 : Row.Cx
+        G149 = record {
+          locals = List._++_ t6 (List._++_ t1 (List._++_ t2 t3));
+          slots = life0 ∷ life1 ∷ life2 ∷ life3 ∷ life4 ∷ life5 ∷ life6 ∷ life7 ∷ Row.off ∷ Row.off ∷ Row.off ∷ Row.off
+              ∷ Row.off ∷ Row.off ∷ Row.off ∷ Row.off ∷ Row.off ∷ Row.off ∷ Row.off ∷ Row.off ∷ Row.off ∷ Row.off ∷
+              Row.off ∷ Row.off ∷ Row.off ∷ Row.off ∷ Row.off ∷ Row.dead ∷ List.[];
+        }
+
+        abbrev G150 : Row.Cx
+        G150 = record {
+          locals = List._++_ t6 (List._++_ t1 (List._++_ t2 t3));
+          slots = life0 ∷ life1 ∷ life2 ∷ life3 ∷ life4 ∷ life5 ∷ life6 ∷ life7 ∷ Row.off ∷ Row.off ∷ Row.off ∷ Row.off
+              ∷ Row.off ∷ Row.off ∷ Row.off ∷ Row.off ∷ Row.off ∷ Row.off ∷ Row.off ∷ Row.off ∷ Row.off ∷ Row.off ∷
+              Row.off ∷ Row.off ∷ Row.off ∷ Row.off ∷ Row.off ∷ Row.off ∷ List.[];
         }
 
         abbrev G151 : Row.Cx
         G151 = record {
-          locals = List._++_ t7 (List._++_ t1 (List._++_ t2 t3));
+          locals = List._++_ t5 (List._++_ t1 (List._++_ t2 t3));
           slots = life0 ∷ life1 ∷ life2 ∷ life3 ∷ life4 ∷ life5 ∷ life6 ∷ life7 ∷ Row.off ∷ Row.off ∷ Row.off ∷ Row.off
               ∷ Row.off ∷ Row.off ∷ Row.off ∷ Row.off ∷ Row.off ∷ Row.off ∷ Row.off ∷ Row.off ∷ Row.off ∷ Row.off ∷
-              Row.off ∷ Row.off ∷ Row.off ∷ Row.off ∷ Row.off ∷ Row.dead ∷ List.[];
+              Row.off ∷ Row.off ∷ Row.off ∷ Row.off ∷ Row.off ∷ Row.off ∷ List.[];
         }
 
         abbrev G152 : Row.Cx
         G152 = record {
-          locals = List._++_ t7 (List._++_ t1 (List._++_ t2 t3));
+          locals = List._++_ t109 (List._++_ t1 (List._++_ t2 t3));
           slots = life0 ∷ life1 ∷ life2 ∷ life3 ∷ life4 ∷ life5 ∷ life6 ∷ life7 ∷ Row.off ∷ Row.off ∷ Row.off ∷ Row.off
               ∷ Row.off ∷ Row.off ∷ Row.off ∷ Row.off ∷ Row.off ∷ Row.off ∷ Row.off ∷ Row.off ∷ Row.off ∷ Row.off ∷
               Row.off ∷ Row.off ∷ Row.off ∷ Row.off ∷ Row.off ∷ Row.off ∷ List.[];
@@ -4119,7 +4080,7 @@ module _ (claims· : Claims) where
 
         abbrev G153 : Row.Cx
         G153 = record {
-          locals = List._++_ t8 (List._++_ t1 (List._++_ t2 t3));
+          locals = List._++_ t6 (List._++_ t1 (List._++_ t2 t3));
           slots = life0 ∷ life1 ∷ life2 ∷ life3 ∷ life4 ∷ life5 ∷ life6 ∷ life7 ∷ Row.off ∷ Row.off ∷ Row.off ∷ Row.off
               ∷ Row.off ∷ Row.off ∷ Row.off ∷ Row.off ∷ Row.off ∷ Row.off ∷ Row.off ∷ Row.off ∷ Row.off ∷ Row.off ∷
               Row.off ∷ Row.off ∷ Row.off ∷ Row.off ∷ Row.off ∷ Row.off ∷ List.[];
@@ -4127,7 +4088,7 @@ module _ (claims· : Claims) where
 
         abbrev G154 : Row.Cx
         G154 = record {
-          locals = List._++_ t113 (List._++_ t1 (List._++_ t2 t3));
+          locals = List._++_ t110 (List._++_ t1 (List._++_ t2 t3));
           slots = life0 ∷ life1 ∷ life2 ∷ life3 ∷ life4 ∷ life5 ∷ life6 ∷ life7 ∷ Row.off ∷ Row.off ∷ Row.off ∷ Row.off
               ∷ Row.off ∷ Row.off ∷ Row.off ∷ Row.off ∷ Row.off ∷ Row.off ∷ Row.off ∷ Row.off ∷ Row.off ∷ Row.off ∷
               Row.off ∷ Row.off ∷ Row.off ∷ Row.off ∷ Row.off ∷ Row.off ∷ List.[];
@@ -4135,7 +4096,7 @@ module _ (claims· : Claims) where
 
         abbrev G155 : Row.Cx
         G155 = record {
-          locals = List._++_ t7 (List._++_ t1 (List._++_ t2 t3));
+          locals = List._++_ t111 (List._++_ t1 (List._++_ t2 t3));
           slots = life0 ∷ life1 ∷ life2 ∷ life3 ∷ life4 ∷ life5 ∷ life6 ∷ life7 ∷ Row.off ∷ Row.off ∷ Row.off ∷ Row.off
               ∷ Row.off ∷ Row.off ∷ Row.off ∷ Row.off ∷ Row.off ∷ Row.off ∷ Row.off ∷ Row.off ∷ Row.off ∷ Row.off ∷
               Row.off ∷ Row.off ∷ Row.off ∷ Row.off ∷ Row.off ∷ Row.off ∷ List.[];
@@ -4143,22 +4104,6 @@ module _ (claims· : Claims) where
 
         abbrev G156 : Row.Cx
         G156 = record {
-          locals = List._++_ t114 (List._++_ t1 (List._++_ t2 t3));
-          slots = life0 ∷ life1 ∷ life2 ∷ life3 ∷ life4 ∷ life5 ∷ life6 ∷ life7 ∷ Row.off ∷ Row.off ∷ Row.off ∷ Row.off
-              ∷ Row.off ∷ Row.off ∷ Row.off ∷ Row.off ∷ Row.off ∷ Row.off ∷ Row.off ∷ Row.off ∷ Row.off ∷ Row.off ∷
-              Row.off ∷ Row.off ∷ Row.off ∷ Row.off ∷ Row.off ∷ Row.off ∷ List.[];
-        }
-
-        abbrev G157 : Row.Cx
-        G157 = record {
-          locals = List._++_ t115 (List._++_ t1 (List._++_ t2 t3));
-          slots = life0 ∷ life1 ∷ life2 ∷ life3 ∷ life4 ∷ life5 ∷ life6 ∷ life7 ∷ Row.off ∷ Row.off ∷ Row.off ∷ Row.off
-              ∷ Row.off ∷ Row.off ∷ Row.off ∷ Row.off ∷ Row.off ∷ Row.off ∷ Row.off ∷ Row.off ∷ Row.off ∷ Row.off ∷
-              Row.off ∷ Row.off ∷ Row.off ∷ Row.off ∷ Row.off ∷ Row.off ∷ List.[];
-        }
-
-        abbrev G158 : Row.Cx
-        G158 = record {
           locals = List._++_ t4 (List._++_ t1 (List._++_ t2 t3));
           slots = life0 ∷ life1 ∷ life2 ∷ life3 ∷ life4 ∷ life5 ∷ life6 ∷ life7 ∷ Row.off ∷ Row.off ∷ Row.off ∷ Row.off
               ∷ Row.off ∷ Row.off ∷ Row.off ∷ Row.off ∷ Row.off ∷ Row.off ∷ Row.off ∷ Row.off ∷ Row.off ∷ Row.off ∷
@@ -4169,22 +4114,22 @@ module _ (claims· : Claims) where
         Δ0 = record { next = Option.none; exits = List.[]; returns = Option.some G1 }
 
         abbrev Δ1 : Typed.Outs
-        Δ1 = Typed.withNext (Option.some G8) Δ0
+        Δ1 = Typed.withNext (Option.some G7) Δ0
 
         abbrev Δ2 : Typed.Outs
         Δ2 = Typed.inBlock₀ Δ1
 
         abbrev Δ3 : Typed.Outs
-        Δ3 = Typed.withNext (Option.some G10) Δ2
+        Δ3 = Typed.withNext (Option.some G8) Δ2
 
         abbrev Δ4 : Typed.Outs
         Δ4 = Typed.inBlock₀ Δ3
 
         abbrev Δ5 : Typed.Outs
-        Δ5 = Typed.withNext (Option.some G120) Δ4
+        Δ5 = Typed.withNext (Option.some G118) Δ4
 
         abbrev Δ6 : Typed.Outs
-        Δ6 = Typed.withNext (Option.some G124) Δ4
+        Δ6 = Typed.withNext (Option.some G122) Δ4
 
         module _ {M : Type 1} (𝓤 : URA.URA M) (H : Wp.Heap 𝓤) (A : Atoms.Atoms 𝓤) (W : Kit.Given 𝓤 H A)
             (𝓣 : Wp.Tables 𝓤 H) (known : Knowns 𝓤 H A W 𝓣) (bs : List.List Nat.ℕ)
@@ -4192,98 +4137,96 @@ module _ (claims· : Claims) where
           abbrev E : Wp.Env 𝓤 H
           E = Frame.EnvOf 𝓤 H ((Kinds.tyR r) ∷ (Enter.tysP ps xs)) bs
 
-          d0 : Typed.Typed 𝓤 H A 𝓣 E G43 b13 Δ4 (at0 bs)
+          d0 : Typed.Typed 𝓤 H A 𝓣 E G41 b12 Δ4 at0
           d0 = Typed.t-exit 𝓤 H A W 𝓣 E 1 Δ4 tt
 
-          d1 : Typed.Typed 𝓤 H A 𝓣 E G42 b13 Δ4 (at1 bs)
-          d1 = Typed.g-pre 𝓤 H A W 𝓣 E G42 G43 b13 Δ4 (λ Ψ. Ψ) (at0 bs)
-              (Lifetime.g-forget 𝓤 H A W E G42 12 Row.dead Path.refl) d0
+          d1 : Typed.Typed 𝓤 H A 𝓣 E G40 b12 Δ4 at1
+          d1 = Typed.g-pre 𝓤 H A W 𝓣 E G40 G41 b12 Δ4 (λ Ψ. Ψ) at0
+              (Lifetime.g-forget 𝓤 H A W E G40 12 Row.dead Path.refl) d0
 
-          d2 : Typed.Typed 𝓤 H A 𝓣 E G41 b13 Δ4 (at2 bs)
-          d2 = Typed.g-pre 𝓤 H A W 𝓣 E G41 G42 b13 Δ4 (Typed.give (s38 bs)) (at1 bs) (Know.g-sl-known 𝓤 H A W
-              (Referent.fInt Syntax.w32) E G41 5 4 ref9 life4 0 (λ x. x) record { fits = Dec.lit< tt } (Reads'.as-is 𝓤
+          d2 : Typed.Typed 𝓤 H A 𝓣 E G39 b12 Δ4 at2
+          d2 = Typed.g-pre 𝓤 H A W 𝓣 E G39 G40 b12 Δ4 (Typed.give s36) at1 (Know.g-sl-known 𝓤 H A W
+              (Referent.fInt Syntax.w32) E G39 5 4 ref9 life4 0 (λ x. x) record { fits = Dec.lit< tt } (Reads'.as-is 𝓤
               H A (Mut.mslice (Referent.rtF (Referent.fInt Syntax.w32)) ref9 4)) Path.refl tt) d1
 
-          d3 : Typed.Typed 𝓤 H A 𝓣 E G40 b13 Δ4 (at3 bs)
-          d3 = Typed.g-pre 𝓤 H A W 𝓣 E G40 G41 b13 Δ4 (Typed.both (s37 bs)) (at2 bs) (Relend.g-back-sl 𝓤 H A W E
-              (Referent.rtF (Referent.fInt Syntax.w32)) G40 22 5 4 12 ref9 ref4 life4 (λ x. x) (λ x. x) (Reads'.as-is 𝓤
+          d3 : Typed.Typed 𝓤 H A 𝓣 E G38 b12 Δ4 at3
+          d3 = Typed.g-pre 𝓤 H A W 𝓣 E G38 G39 b12 Δ4 (Typed.both s35) at2 (Relend.g-back-sl 𝓤 H A W E
+              (Referent.rtF (Referent.fInt Syntax.w32)) G38 21 5 4 12 ref9 ref4 life4 (λ x. x) (λ x. x) (Reads'.as-is 𝓤
               H A (Mut.msleft (Referent.rtF (Referent.fInt Syntax.w32)) ref4)) (Reads'.as-is 𝓤 H A (Relend.mslice-owed
               (Referent.rtF (Referent.fInt Syntax.w32)) ref9 4 12 life4)) Path.refl Path.refl) d2
 
-          d4 : Typed.Typed 𝓤 H A 𝓣 E G39 b13 Δ4 (at4 bs)
-          d4 = Typed.g-pre 𝓤 H A W 𝓣 E G39 G40 b13 Δ4 (λ Ψ. Ψ) (at3 bs) (Lifetime.g-end 𝓤 H A W E G39 12 Path.refl) d3
+          d4 : Typed.Typed 𝓤 H A 𝓣 E G37 b12 Δ4 at4
+          d4 = Typed.g-pre 𝓤 H A W 𝓣 E G37 G38 b12 Δ4 (λ Ψ. Ψ) at3 (Lifetime.g-end 𝓤 H A W E G37 12 Path.refl) d3
 
-          d5 : Typed.Typed 𝓤 H A 𝓣 E G38 b13 Δ4 (at5 bs)
-          d5 = Typed.g-pre 𝓤 H A W 𝓣 E G38 G39 b13 Δ4 (λ Ψ. Ψ) (at4 bs)
-              (Lifetime.g-forget 𝓤 H A W E G38 11 Row.dead Path.refl) d4
+          d5 : Typed.Typed 𝓤 H A 𝓣 E G36 b12 Δ4 at5
+          d5 = Typed.g-pre 𝓤 H A W 𝓣 E G36 G37 b12 Δ4 (λ Ψ. Ψ) at4
+              (Lifetime.g-forget 𝓤 H A W E G36 11 Row.dead Path.refl) d4
 
-          d6 : Typed.Typed 𝓤 H A 𝓣 E G37 b13 Δ4 (at6 bs)
-          d6 = Typed.g-pre 𝓤 H A W 𝓣 E G37 G38 b13 Δ4 (Typed.both (s34 bs)) (at5 bs) (Relend.g-back-sl 𝓤 H A W E
-              InflightAction.row G37 20 4 3 11 ref8 ref3 life3 (λ x. x) (λ x. x)
+          d6 : Typed.Typed 𝓤 H A 𝓣 E G35 b12 Δ4 at6
+          d6 = Typed.g-pre 𝓤 H A W 𝓣 E G35 G36 b12 Δ4 (Typed.both s32) at5 (Relend.g-back-sl 𝓤 H A W E
+              InflightAction.row G35 19 4 3 11 ref8 ref3 life3 (λ x. x) (λ x. x)
               (Reads'.as-is 𝓤 H A (Mut.msleft InflightAction.row ref3)) (Reads'.as-is 𝓤 H A
               (Relend.mslice-owed InflightAction.row ref8 3 11 life3)) Path.refl Path.refl) d5
 
-          d7 : Typed.Typed 𝓤 H A 𝓣 E G36 b13 Δ4 (at7 bs)
-          d7 = Typed.g-pre 𝓤 H A W 𝓣 E G36 G37 b13 Δ4 (λ Ψ. Ψ) (at6 bs) (Lifetime.g-end 𝓤 H A W E G36 11 Path.refl) d6
+          d7 : Typed.Typed 𝓤 H A 𝓣 E G34 b12 Δ4 at7
+          d7 = Typed.g-pre 𝓤 H A W 𝓣 E G34 G35 b12 Δ4 (λ Ψ. Ψ) at6 (Lifetime.g-end 𝓤 H A W E G34 11 Path.refl) d6
 
-          d8 : Typed.Typed 𝓤 H A 𝓣 E G35 b13 Δ4 (at8 bs)
-          d8 = Typed.g-pre 𝓤 H A W 𝓣 E G35 G36 b13 Δ4 (λ Ψ. Ψ) (at7 bs)
-              (Lifetime.g-forget 𝓤 H A W E G35 10 Row.dead Path.refl) d7
+          d8 : Typed.Typed 𝓤 H A 𝓣 E G33 b12 Δ4 at8
+          d8 = Typed.g-pre 𝓤 H A W 𝓣 E G33 G34 b12 Δ4 (λ Ψ. Ψ) at7
+              (Lifetime.g-forget 𝓤 H A W E G33 10 Row.dead Path.refl) d7
 
-          d9 : Typed.Typed 𝓤 H A 𝓣 E G34 b13 Δ4 (at9 bs)
-          d9 = Typed.g-pre 𝓤 H A W 𝓣 E G34 G35 b13 Δ4 (Typed.both (s31 bs)) (at8 bs) (Relend.g-back-sl 𝓤 H A W E
-              ReservationUsage.row G34 18 3 2 10 ref7 ref2 life2 (λ x. x) (λ x. x)
+          d9 : Typed.Typed 𝓤 H A 𝓣 E G32 b12 Δ4 at9
+          d9 = Typed.g-pre 𝓤 H A W 𝓣 E G32 G33 b12 Δ4 (Typed.both s29) at8 (Relend.g-back-sl 𝓤 H A W E
+              ReservationUsage.row G32 17 3 2 10 ref7 ref2 life2 (λ x. x) (λ x. x)
               (Reads'.as-is 𝓤 H A (Mut.msleft ReservationUsage.row ref2)) (Reads'.as-is 𝓤 H A
               (Relend.mslice-owed ReservationUsage.row ref7 2 10 life2)) Path.refl Path.refl) d8
 
-          d10 : Typed.Typed 𝓤 H A 𝓣 E G33 b13 Δ4 (at10 bs)
-          d10 = Typed.g-pre 𝓤 H A W 𝓣 E G33 G34 b13 Δ4 (λ Ψ. Ψ) (at9 bs) (Lifetime.g-end 𝓤 H A W E G33 10 Path.refl) d9
+          d10 : Typed.Typed 𝓤 H A 𝓣 E G31 b12 Δ4 at10
+          d10 = Typed.g-pre 𝓤 H A W 𝓣 E G31 G32 b12 Δ4 (λ Ψ. Ψ) at9 (Lifetime.g-end 𝓤 H A W E G31 10 Path.refl) d9
 
-          d11 : Typed.Typed 𝓤 H A 𝓣 E G32 b13 Δ4 (at11 bs)
-          d11 = Typed.g-pre 𝓤 H A W 𝓣 E G32 G33 b13 Δ4 (λ Ψ. Ψ) (at10 bs)
-              (Lifetime.g-forget 𝓤 H A W E G32 9 Row.dead Path.refl) d10
+          d11 : Typed.Typed 𝓤 H A 𝓣 E G30 b12 Δ4 at11
+          d11 = Typed.g-pre 𝓤 H A W 𝓣 E G30 G31 b12 Δ4 (λ Ψ. Ψ) at10
+              (Lifetime.g-forget 𝓤 H A W E G30 9 Row.dead Path.refl) d10
 
-          d12 : Typed.Typed 𝓤 H A 𝓣 E G31 b13 Δ4 (at12 bs)
-          d12 = Typed.g-pre 𝓤 H A W 𝓣 E G31 G32 b13 Δ4 (Typed.both (s28 bs)) (at11 bs) (Relend.g-back-sl 𝓤 H A W E
-              RelayCircuit.row G31 16 2 1 9 ref6 ref1 life1 (λ x. x) (λ x. x)
+          d12 : Typed.Typed 𝓤 H A 𝓣 E G29 b12 Δ4 at12
+          d12 = Typed.g-pre 𝓤 H A W 𝓣 E G29 G30 b12 Δ4 (Typed.both s26) at11 (Relend.g-back-sl 𝓤 H A W E
+              RelayCircuit.row G29 15 2 1 9 ref6 ref1 life1 (λ x. x) (λ x. x)
               (Reads'.as-is 𝓤 H A (Mut.msleft RelayCircuit.row ref1)) (Reads'.as-is 𝓤 H A
               (Relend.mslice-owed RelayCircuit.row ref6 1 9 life1)) Path.refl Path.refl) d11
 
-          d13 : Typed.Typed 𝓤 H A 𝓣 E G30 b13 Δ4 (at13 bs)
-          d13 = Typed.g-pre 𝓤 H A W 𝓣 E G30 G31 b13 Δ4 (λ Ψ. Ψ) (at12 bs) (Lifetime.g-end 𝓤 H A W E G30 9 Path.refl)
-              d12
+          d13 : Typed.Typed 𝓤 H A 𝓣 E G28 b12 Δ4 at13
+          d13 = Typed.g-pre 𝓤 H A W 𝓣 E G28 G29 b12 Δ4 (λ Ψ. Ψ) at12 (Lifetime.g-end 𝓤 H A W E G28 9 Path.refl) d12
 
-          d14 : Typed.Typed 𝓤 H A 𝓣 E G29 b13 Δ4 (at14 bs)
-          d14 = Typed.g-pre 𝓤 H A W 𝓣 E G29 G30 b13 Δ4 (λ Ψ. Ψ) (at13 bs)
-              (Lifetime.g-forget 𝓤 H A W E G29 8 Row.dead Path.refl) d13
+          d14 : Typed.Typed 𝓤 H A 𝓣 E G27 b12 Δ4 at14
+          d14 = Typed.g-pre 𝓤 H A W 𝓣 E G27 G28 b12 Δ4 (λ Ψ. Ψ) at13
+              (Lifetime.g-forget 𝓤 H A W E G27 8 Row.dead Path.refl) d13
 
-          d15 : Typed.Typed 𝓤 H A 𝓣 E G28 b13 Δ4 (at15 bs)
-          d15 = Typed.g-pre 𝓤 H A W 𝓣 E G28 G29 b13 Δ4 (Typed.both (s25 bs)) (at14 bs) (Relend.g-back-sl 𝓤 H A W E
-              RelayPending.row G28 14 1 0 8 ref5 ref0 life0 (λ x. x) (λ x. x)
+          d15 : Typed.Typed 𝓤 H A 𝓣 E G26 b12 Δ4 at15
+          d15 = Typed.g-pre 𝓤 H A W 𝓣 E G26 G27 b12 Δ4 (Typed.both s23) at14 (Relend.g-back-sl 𝓤 H A W E
+              RelayPending.row G26 13 1 0 8 ref5 ref0 life0 (λ x. x) (λ x. x)
               (Reads'.as-is 𝓤 H A (Mut.msleft RelayPending.row ref0)) (Reads'.as-is 𝓤 H A
               (Relend.mslice-owed RelayPending.row ref5 0 8 life0)) Path.refl Path.refl) d14
 
-          d16 : Typed.Typed 𝓤 H A 𝓣 E G27 b13 Δ4 (at16 bs)
-          d16 = Typed.g-pre 𝓤 H A W 𝓣 E G27 G28 b13 Δ4 (λ Ψ. Ψ) (at15 bs) (Lifetime.g-end 𝓤 H A W E G27 8 Path.refl)
-              d15
+          d16 : Typed.Typed 𝓤 H A 𝓣 E G25 b12 Δ4 at16
+          d16 = Typed.g-pre 𝓤 H A W 𝓣 E G25 G26 b12 Δ4 (λ Ψ. Ψ) at15 (Lifetime.g-end 𝓤 H A W E G25 8 Path.refl) d15
 
-          d17 : Typed.Typed 𝓤 H A 𝓣 E G26 b13 Δ4 (at17 bs)
-          d17 = Typed.g-pre 𝓤 H A W 𝓣 E G26 G27 b13 Δ4 (Typed.pass T26 T27 (s23 bs)) (at16 bs) (Scalar.g-room 𝓤 H A W E
-              G26 6 Laws''.mir (Local.room-whole 𝓤 H A W (Declared.row Request.the-type) Laws''.mir Path.refl)) d16
+          d17 : Typed.Typed 𝓤 H A 𝓣 E G24 b12 Δ4 at17
+          d17 = Typed.g-pre 𝓤 H A W 𝓣 E G24 G25 b12 Δ4 (Typed.pass T24 T25 s21) at16 (Scalar.g-room 𝓤 H A W E G24 6
+              Laws''.mir (Local.room-whole 𝓤 H A W (Declared.row Request.the-type) Laws''.mir Path.refl)) d16
 
-          d18 : Typed.Typed 𝓤 H A 𝓣 E G25 b14 Δ4 (at18 bs)
-          d18 = Typed.s-seq 𝓤 H A W 𝓣 E G25 G26 b12 b13 Δ4 (Typed.both (s22 bs)) (at17 bs) (Plain.t-call-plain 𝓤 H A W
-              𝓣 8 ps·0 r·0 (claims· .0) (claims· .1) "hnsr_circuit::messages::handle_open::handle_open" (known .0) E
-              (λ pos β. β) G25 (
-                record { pos = 14; ty = ref0; ref = λ x. x },
+          d18 : Typed.Typed 𝓤 H A 𝓣 E G23 b13 Δ4 at18
+          d18 = Typed.s-seq 𝓤 H A W 𝓣 E G23 G24 b11 b12 Δ4 (Typed.both s20) at17 (Plain.t-call-plain 𝓤 H A W 𝓣 8 ps·0
+              r·0 (claims· .0) (claims· .1) "hnsr_circuit::messages::handle_open::handle_open" (known .0) E
+              (λ pos β. β) G23 (
+                record { pos = 13; ty = ref0; ref = λ x. x },
                 (
-                  record { pos = 16; ty = ref1; ref = λ x. x },
+                  record { pos = 15; ty = ref1; ref = λ x. x },
                   (
-                    record { pos = 18; ty = ref2; ref = λ x. x },
+                    record { pos = 17; ty = ref2; ref = λ x. x },
                     (
-                      record { pos = 20; ty = ref3; ref = λ x. x },
+                      record { pos = 19; ty = ref3; ref = λ x. x },
                       (
-                        record { pos = 22; ty = ref4; ref = λ x. x },
+                        record { pos = 21; ty = ref4; ref = λ x. x },
                         (
                           record { pos = 6; st = List.[]; d = 0; at = λ x. x },
                           (
@@ -4298,7 +4241,7 @@ module _ (claims· : Claims) where
                     ),
                   ),
                 ),
-              ) 12 (8 ∷ 9 ∷ 10 ∷ 11 ∷ 12 ∷ 5 ∷ 6 ∷ 7 ∷ List.[]) (Call.sub-id 𝓤 H A W (G25 .slots)) (
+              ) 11 (8 ∷ 9 ∷ 10 ∷ 11 ∷ 12 ∷ 5 ∷ 6 ∷ 7 ∷ List.[]) (Call.sub-id 𝓤 H A W (G23 .slots)) (
                 Reads'.as-is 𝓤 H A (Mut.mslice RelayPending.row ref0 8),
                 Mut.reads-mslice 𝓤 H A W RelayPending.row ref0 8,
                 Path.refl,
@@ -4350,24 +4293,24 @@ module _ (claims· : Claims) where
                 ),
               ) (Reads'.room-gone 𝓤 H A Laws'.mir) (tt, (tt, (tt, (tt, (tt, (tt, (tt, (tt, tt)))))))) Path.refl) d17
 
-          d19 : Typed.Typed 𝓤 H A 𝓣 E G24 b15 Δ4 (at19 bs)
-          d19 = Typed.s-seq 𝓤 H A W 𝓣 E G24 G25 b11 b14 Δ4 (Typed.ask (s21 bs)) (at18 bs) (Relend.t-sl-aggregate 𝓤 H A
-              W E (Referent.rtF (Referent.fInt Syntax.w32)) 𝓣 (Relend.asMut (Referent.rtF (Referent.fInt Syntax.w32)))
-              G24 21 22 12 ref4 ref4 (λ x. x) (Scalar.oFld 5 ((Syntax.field 1) ∷ List.[]) (Syntax.tyInt Syntax.w64) 8
-              λ v. Shared.lenV (v .0)) (Reads'.as-is 𝓤 H A (Relend.msptr (Referent.rtF (Referent.fInt Syntax.w32)) ref4
-              12)) (Reads'.room-gone 𝓤 H A slice4) (
+          d19 : Typed.Typed 𝓤 H A 𝓣 E G22 b14 Δ4 at19
+          d19 = Typed.s-seq 𝓤 H A W 𝓣 E G22 G23 b10 b13 Δ4 (Typed.ask s19) at18 (Relend.t-sl-aggregate 𝓤 H A W E
+              (Referent.rtF (Referent.fInt Syntax.w32)) 𝓣 (Relend.asMut (Referent.rtF (Referent.fInt Syntax.w32))) G22
+              20 21 12 ref4 ref4 (λ x. x) (Scalar.oFld 5 ((Syntax.field 1) ∷ List.[]) (Syntax.tyInt Syntax.w64) 8 λ v.
+              Shared.lenV (v .0)) (Reads'.as-is 𝓤 H A (Relend.msptr (Referent.rtF (Referent.fInt Syntax.w32)) ref4 12))
+              (Reads'.room-gone 𝓤 H A slice4) (
                 Relend.reads-owed-len 𝓤 H A W (Referent.rtF (Referent.fInt Syntax.w32)) ref9 4 12 life4 8 Path.refl,
                 Path.refl,
               ) Path.refl Path.refl λ b o k. tt) d18
 
-          d20 : Typed.Typed 𝓤 H A 𝓣 E G23 b16 Δ4 (at20 bs)
-          d20 = Typed.s-seq 𝓤 H A W 𝓣 E G23 G24 b10 b15 Δ4 (Typed.give (s20 bs)) (at19 bs) (Relend.t-sl-relend 𝓤 H A W
-              E (Referent.rtF (Referent.fInt Syntax.w32)) 𝓣 G23 5 21 4 12 ref9 ref4 life4 0 (λ x. x) (Reads'.as-is 𝓤 H
-              A (Mut.mslice (Referent.rtF (Referent.fInt Syntax.w32)) ref9 4)) (Reads'.room-gone 𝓤 H A ref4) Path.refl
-              tt Path.refl Path.refl Path.refl λ b o. tt) d19
+          d20 : Typed.Typed 𝓤 H A 𝓣 E G21 b15 Δ4 at20
+          d20 = Typed.s-seq 𝓤 H A W 𝓣 E G21 G22 b9 b14 Δ4 (Typed.give s18) at19 (Relend.t-sl-relend 𝓤 H A W E
+              (Referent.rtF (Referent.fInt Syntax.w32)) 𝓣 G21 5 20 4 12 ref9 ref4 life4 0 (λ x. x) (Reads'.as-is 𝓤 H A (Mut.mslice
+              (Referent.rtF (Referent.fInt Syntax.w32)) ref9 4)) (Reads'.room-gone 𝓤 H A ref4) Path.refl tt Path.refl
+              Path.refl Path.refl λ b o. tt) d19
 
-          d21 : Typed.Typed 𝓤 H A 𝓣 E G22 b16 Δ4 (at21 bs)
-          d21 = Typed.g-pre 𝓤 H A W 𝓣 E G22 G23 b16 Δ4 (λ Ψ. Ψ) (at20 bs) (Lifetime.g-begin 𝓤 H A W E G22 12 (
+          d21 : Typed.Typed 𝓤 H A 𝓣 E G20 b15 Δ4 at21
+          d21 = Typed.g-pre 𝓤 H A W 𝓣 E G20 G21 b15 Δ4 (λ Ψ. Ψ) at20 (Lifetime.g-begin 𝓤 H A W E G20 12 (
             tt,
             (
               (tt, tt),
@@ -4473,10 +4416,7 @@ module _ (claims· : Claims) where
                                                                                                                   tt,
                                                                                                                   (
                                                                                                                     tt,
-                                                                                                                    (
-                                                                                                                      tt,
-                                                                                                                      tt,
-                                                                                                                    ),
+                                                                                                                    tt,
                                                                                                                   ),
                                                                                                                 ),
                                                                                                               ),
@@ -4531,23 +4471,23 @@ module _ (claims· : Claims) where
             ),
           )) d20
 
-          d22 : Typed.Typed 𝓤 H A 𝓣 E G21 b17 Δ4 (at22 bs)
-          d22 = Typed.s-seq 𝓤 H A W 𝓣 E G21 G22 b9 b16 Δ4 (Typed.ask (s18 bs)) (at21 bs) (Relend.t-sl-aggregate 𝓤 H A W
-              E InflightAction.row 𝓣 (Relend.asMut InflightAction.row) G21 19 20 11 ref3 ref3 (λ x. x) (Scalar.oFld 4
+          d22 : Typed.Typed 𝓤 H A 𝓣 E G19 b16 Δ4 at22
+          d22 = Typed.s-seq 𝓤 H A W 𝓣 E G19 G20 b8 b15 Δ4 (Typed.ask s16) at21 (Relend.t-sl-aggregate 𝓤 H A W E
+              InflightAction.row 𝓣 (Relend.asMut InflightAction.row) G19 18 19 11 ref3 ref3 (λ x. x) (Scalar.oFld 4
               ((Syntax.field 1) ∷ List.[]) (Syntax.tyInt Syntax.w64) 8 λ v. Shared.lenV (v .0)) (Reads'.as-is 𝓤 H A
               (Relend.msptr InflightAction.row ref3 11)) (Reads'.room-gone 𝓤 H A slice3) (
                 Relend.reads-owed-len 𝓤 H A W InflightAction.row ref8 3 11 life3 8 Path.refl,
                 Path.refl,
               ) Path.refl Path.refl λ b o k. tt) d21
 
-          d23 : Typed.Typed 𝓤 H A 𝓣 E G20 b18 Δ4 (at23 bs)
-          d23 = Typed.s-seq 𝓤 H A W 𝓣 E G20 G21 b8 b17 Δ4 (Typed.give (s17 bs)) (at22 bs) (Relend.t-sl-relend 𝓤 H A W E
-              InflightAction.row 𝓣 G20 4 19 3 11 ref8 ref3 life3 0 (λ x. x)
+          d23 : Typed.Typed 𝓤 H A 𝓣 E G18 b17 Δ4 at23
+          d23 = Typed.s-seq 𝓤 H A W 𝓣 E G18 G19 b7 b16 Δ4 (Typed.give s15) at22 (Relend.t-sl-relend 𝓤 H A W E
+              InflightAction.row 𝓣 G18 4 18 3 11 ref8 ref3 life3 0 (λ x. x)
               (Reads'.as-is 𝓤 H A (Mut.mslice InflightAction.row ref8 3)) (Reads'.room-gone 𝓤 H A ref3) Path.refl tt
               Path.refl Path.refl Path.refl λ b o. tt) d22
 
-          d24 : Typed.Typed 𝓤 H A 𝓣 E G19 b18 Δ4 (at24 bs)
-          d24 = Typed.g-pre 𝓤 H A W 𝓣 E G19 G20 b18 Δ4 (λ Ψ. Ψ) (at23 bs) (Lifetime.g-begin 𝓤 H A W E G19 11 (
+          d24 : Typed.Typed 𝓤 H A 𝓣 E G17 b17 Δ4 at24
+          d24 = Typed.g-pre 𝓤 H A W 𝓣 E G17 G18 b17 Δ4 (λ Ψ. Ψ) at23 (Lifetime.g-begin 𝓤 H A W E G17 11 (
             tt,
             (
               (tt, tt),
@@ -4653,10 +4593,7 @@ module _ (claims· : Claims) where
                                                                                                                   tt,
                                                                                                                   (
                                                                                                                     tt,
-                                                                                                                    (
-                                                                                                                      tt,
-                                                                                                                      tt,
-                                                                                                                    ),
+                                                                                                                    tt,
                                                                                                                   ),
                                                                                                                 ),
                                                                                                               ),
@@ -4711,23 +4648,23 @@ module _ (claims· : Claims) where
             ),
           )) d23
 
-          d25 : Typed.Typed 𝓤 H A 𝓣 E G18 b19 Δ4 (at25 bs)
-          d25 = Typed.s-seq 𝓤 H A W 𝓣 E G18 G19 b7 b18 Δ4 (Typed.ask (s15 bs)) (at24 bs) (Relend.t-sl-aggregate 𝓤 H A W
-              E ReservationUsage.row 𝓣 (Relend.asMut ReservationUsage.row) G18 17 18 10 ref2 ref2 (λ x. x) (Scalar.oFld
-              3 ((Syntax.field 1) ∷ List.[]) (Syntax.tyInt Syntax.w64) 8 λ v. Shared.lenV (v .0)) (Reads'.as-is 𝓤 H A
+          d25 : Typed.Typed 𝓤 H A 𝓣 E G16 b18 Δ4 at25
+          d25 = Typed.s-seq 𝓤 H A W 𝓣 E G16 G17 b6 b17 Δ4 (Typed.ask s13) at24 (Relend.t-sl-aggregate 𝓤 H A W E
+              ReservationUsage.row 𝓣 (Relend.asMut ReservationUsage.row) G16 16 17 10 ref2 ref2 (λ x. x) (Scalar.oFld 3
+              ((Syntax.field 1) ∷ List.[]) (Syntax.tyInt Syntax.w64) 8 λ v. Shared.lenV (v .0)) (Reads'.as-is 𝓤 H A
               (Relend.msptr ReservationUsage.row ref2 10)) (Reads'.room-gone 𝓤 H A slice2) (
                 Relend.reads-owed-len 𝓤 H A W ReservationUsage.row ref7 2 10 life2 8 Path.refl,
                 Path.refl,
               ) Path.refl Path.refl λ b o k. tt) d24
 
-          d26 : Typed.Typed 𝓤 H A 𝓣 E G17 b20 Δ4 (at26 bs)
-          d26 = Typed.s-seq 𝓤 H A W 𝓣 E G17 G18 b6 b19 Δ4 (Typed.give (s14 bs)) (at25 bs) (Relend.t-sl-relend 𝓤 H A W E
-              ReservationUsage.row 𝓣 G17 3 17 2 10 ref7 ref2 life2 0 (λ x. x) (Reads'.as-is 𝓤 H A
+          d26 : Typed.Typed 𝓤 H A 𝓣 E G15 b19 Δ4 at26
+          d26 = Typed.s-seq 𝓤 H A W 𝓣 E G15 G16 b5 b18 Δ4 (Typed.give s12) at25 (Relend.t-sl-relend 𝓤 H A W E
+              ReservationUsage.row 𝓣 G15 3 16 2 10 ref7 ref2 life2 0 (λ x. x) (Reads'.as-is 𝓤 H A
               (Mut.mslice ReservationUsage.row ref7 2)) (Reads'.room-gone 𝓤 H A ref2) Path.refl tt Path.refl Path.refl
               Path.refl λ b o. tt) d25
 
-          d27 : Typed.Typed 𝓤 H A 𝓣 E G16 b20 Δ4 (at27 bs)
-          d27 = Typed.g-pre 𝓤 H A W 𝓣 E G16 G17 b20 Δ4 (λ Ψ. Ψ) (at26 bs) (Lifetime.g-begin 𝓤 H A W E G16 10 (
+          d27 : Typed.Typed 𝓤 H A 𝓣 E G14 b19 Δ4 at27
+          d27 = Typed.g-pre 𝓤 H A W 𝓣 E G14 G15 b19 Δ4 (λ Ψ. Ψ) at26 (Lifetime.g-begin 𝓤 H A W E G14 10 (
             tt,
             (
               (tt, tt),
@@ -4833,10 +4770,7 @@ module _ (claims· : Claims) where
                                                                                                                   tt,
                                                                                                                   (
                                                                                                                     tt,
-                                                                                                                    (
-                                                                                                                      tt,
-                                                                                                                      tt,
-                                                                                                                    ),
+                                                                                                                    tt,
                                                                                                                   ),
                                                                                                                 ),
                                                                                                               ),
@@ -4891,23 +4825,23 @@ module _ (claims· : Claims) where
             ),
           )) d26
 
-          d28 : Typed.Typed 𝓤 H A 𝓣 E G15 b21 Δ4 (at28 bs)
-          d28 = Typed.s-seq 𝓤 H A W 𝓣 E G15 G16 b5 b20 Δ4 (Typed.ask (s12 bs)) (at27 bs) (Relend.t-sl-aggregate 𝓤 H A W
-              E RelayCircuit.row 𝓣 (Relend.asMut RelayCircuit.row) G15 15 16 9 ref1 ref1 (λ x. x) (Scalar.oFld 2
+          d28 : Typed.Typed 𝓤 H A 𝓣 E G13 b20 Δ4 at28
+          d28 = Typed.s-seq 𝓤 H A W 𝓣 E G13 G14 b4 b19 Δ4 (Typed.ask s10) at27 (Relend.t-sl-aggregate 𝓤 H A W E
+              RelayCircuit.row 𝓣 (Relend.asMut RelayCircuit.row) G13 14 15 9 ref1 ref1 (λ x. x) (Scalar.oFld 2
               ((Syntax.field 1) ∷ List.[]) (Syntax.tyInt Syntax.w64) 8 λ v. Shared.lenV (v .0))
               (Reads'.as-is 𝓤 H A (Relend.msptr RelayCircuit.row ref1 9)) (Reads'.room-gone 𝓤 H A slice1) (
                 Relend.reads-owed-len 𝓤 H A W RelayCircuit.row ref6 1 9 life1 8 Path.refl,
                 Path.refl,
               ) Path.refl Path.refl λ b o k. tt) d27
 
-          d29 : Typed.Typed 𝓤 H A 𝓣 E G14 b22 Δ4 (at29 bs)
-          d29 = Typed.s-seq 𝓤 H A W 𝓣 E G14 G15 b4 b21 Δ4 (Typed.give (s11 bs)) (at28 bs) (Relend.t-sl-relend 𝓤 H A W E
-              RelayCircuit.row 𝓣 G14 2 15 1 9 ref6 ref1 life1 0 (λ x. x)
+          d29 : Typed.Typed 𝓤 H A 𝓣 E G12 b21 Δ4 at29
+          d29 = Typed.s-seq 𝓤 H A W 𝓣 E G12 G13 b3 b20 Δ4 (Typed.give s9) at28 (Relend.t-sl-relend 𝓤 H A W E
+              RelayCircuit.row 𝓣 G12 2 14 1 9 ref6 ref1 life1 0 (λ x. x)
               (Reads'.as-is 𝓤 H A (Mut.mslice RelayCircuit.row ref6 1)) (Reads'.room-gone 𝓤 H A ref1) Path.refl tt
               Path.refl Path.refl Path.refl λ b o. tt) d28
 
-          d30 : Typed.Typed 𝓤 H A 𝓣 E G13 b22 Δ4 (at30 bs)
-          d30 = Typed.g-pre 𝓤 H A W 𝓣 E G13 G14 b22 Δ4 (λ Ψ. Ψ) (at29 bs) (Lifetime.g-begin 𝓤 H A W E G13 9 (
+          d30 : Typed.Typed 𝓤 H A 𝓣 E G11 b21 Δ4 at30
+          d30 = Typed.g-pre 𝓤 H A W 𝓣 E G11 G12 b21 Δ4 (λ Ψ. Ψ) at29 (Lifetime.g-begin 𝓤 H A W E G11 9 (
             tt,
             (
               (tt, tt),
@@ -5013,10 +4947,7 @@ module _ (claims· : Claims) where
                                                                                                                   tt,
                                                                                                                   (
                                                                                                                     tt,
-                                                                                                                    (
-                                                                                                                      tt,
-                                                                                                                      tt,
-                                                                                                                    ),
+                                                                                                                    tt,
                                                                                                                   ),
                                                                                                                 ),
                                                                                                               ),
@@ -5071,23 +5002,23 @@ module _ (claims· : Claims) where
             ),
           )) d29
 
-          d31 : Typed.Typed 𝓤 H A 𝓣 E G12 b23 Δ4 (at31 bs)
-          d31 = Typed.s-seq 𝓤 H A W 𝓣 E G12 G13 b3 b22 Δ4 (Typed.ask (s9 bs)) (at30 bs) (Relend.t-sl-aggregate 𝓤 H A W
-              E RelayPending.row 𝓣 (Relend.asMut RelayPending.row) G12 13 14 8 ref0 ref0 (λ x. x) (Scalar.oFld 1
+          d31 : Typed.Typed 𝓤 H A 𝓣 E G10 b22 Δ4 at31
+          d31 = Typed.s-seq 𝓤 H A W 𝓣 E G10 G11 b2 b21 Δ4 (Typed.ask s7) at30 (Relend.t-sl-aggregate 𝓤 H A W E
+              RelayPending.row 𝓣 (Relend.asMut RelayPending.row) G10 12 13 8 ref0 ref0 (λ x. x) (Scalar.oFld 1
               ((Syntax.field 1) ∷ List.[]) (Syntax.tyInt Syntax.w64) 8 λ v. Shared.lenV (v .0))
               (Reads'.as-is 𝓤 H A (Relend.msptr RelayPending.row ref0 8)) (Reads'.room-gone 𝓤 H A slice0) (
                 Relend.reads-owed-len 𝓤 H A W RelayPending.row ref5 0 8 life0 8 Path.refl,
                 Path.refl,
               ) Path.refl Path.refl λ b o k. tt) d30
 
-          d32 : Typed.Typed 𝓤 H A 𝓣 E G11 b24 Δ4 (at32 bs)
-          d32 = Typed.s-seq 𝓤 H A W 𝓣 E G11 G12 b2 b23 Δ4 (Typed.give (s8 bs)) (at31 bs) (Relend.t-sl-relend 𝓤 H A W E
-              RelayPending.row 𝓣 G11 1 13 0 8 ref5 ref0 life0 0 (λ x. x)
+          d32 : Typed.Typed 𝓤 H A 𝓣 E G9 b23 Δ4 at32
+          d32 = Typed.s-seq 𝓤 H A W 𝓣 E G9 G10 b1 b22 Δ4 (Typed.give s6) at31 (Relend.t-sl-relend 𝓤 H A W E
+              RelayPending.row 𝓣 G9 1 12 0 8 ref5 ref0 life0 0 (λ x. x)
               (Reads'.as-is 𝓤 H A (Mut.mslice RelayPending.row ref5 0)) (Reads'.room-gone 𝓤 H A ref0) Path.refl tt
               Path.refl Path.refl Path.refl λ b o. tt) d31
 
-          d33 : Typed.Typed 𝓤 H A 𝓣 E G9 b24 Δ4 (at33 bs)
-          d33 = Typed.g-pre 𝓤 H A W 𝓣 E G9 G11 b24 Δ4 (λ Ψ. Ψ) (at32 bs) (Lifetime.g-begin 𝓤 H A W E G9 8 (
+          d33 : Typed.Typed 𝓤 H A 𝓣 E G6 b23 Δ4 at33
+          d33 = Typed.g-pre 𝓤 H A W 𝓣 E G6 G9 b23 Δ4 (λ Ψ. Ψ) at32 (Lifetime.g-begin 𝓤 H A W E G6 8 (
             tt,
             (
               tt,
@@ -5193,10 +5124,7 @@ module _ (claims· : Claims) where
                                                                                                                   tt,
                                                                                                                   (
                                                                                                                     tt,
-                                                                                                                    (
-                                                                                                                      tt,
-                                                                                                                      tt,
-                                                                                                                    ),
+                                                                                                                    tt,
                                                                                                                   ),
                                                                                                                 ),
                                                                                                               ),
@@ -5251,85 +5179,81 @@ module _ (claims· : Claims) where
             ),
           )) d32
 
-          d34 : Typed.Typed 𝓤 H A 𝓣 E G70 b34 Δ4 (at34 bs)
+          d34 : Typed.Typed 𝓤 H A 𝓣 E G68 b33 Δ4 at34
           d34 = Typed.t-exit 𝓤 H A W 𝓣 E 1 Δ4 tt
 
-          d35 : Typed.Typed 𝓤 H A 𝓣 E G69 b34 Δ4 (at35 bs)
-          d35 = Typed.g-pre 𝓤 H A W 𝓣 E G69 G70 b34 Δ4 (λ Ψ. Ψ) (at34 bs)
-              (Lifetime.g-forget 𝓤 H A W E G69 16 Row.dead Path.refl) d34
+          d35 : Typed.Typed 𝓤 H A 𝓣 E G67 b33 Δ4 at35
+          d35 = Typed.g-pre 𝓤 H A W 𝓣 E G67 G68 b33 Δ4 (λ Ψ. Ψ) at34
+              (Lifetime.g-forget 𝓤 H A W E G67 16 Row.dead Path.refl) d34
 
-          d36 : Typed.Typed 𝓤 H A 𝓣 E G68 b34 Δ4 (at36 bs)
-          d36 = Typed.g-pre 𝓤 H A W 𝓣 E G68 G69 b34 Δ4 (Typed.give (s65 bs)) (at35 bs) (Know.g-sl-known 𝓤 H A W
-              (Referent.fInt Syntax.w32) E G68 5 4 ref9 life4 0 (λ x. x) record { fits = Dec.lit< tt } (Reads'.as-is 𝓤
+          d36 : Typed.Typed 𝓤 H A 𝓣 E G66 b33 Δ4 at36
+          d36 = Typed.g-pre 𝓤 H A W 𝓣 E G66 G67 b33 Δ4 (Typed.give s63) at35 (Know.g-sl-known 𝓤 H A W
+              (Referent.fInt Syntax.w32) E G66 5 4 ref9 life4 0 (λ x. x) record { fits = Dec.lit< tt } (Reads'.as-is 𝓤
               H A (Mut.mslice (Referent.rtF (Referent.fInt Syntax.w32)) ref9 4)) Path.refl tt) d35
 
-          d37 : Typed.Typed 𝓤 H A 𝓣 E G67 b34 Δ4 (at37 bs)
-          d37 = Typed.g-pre 𝓤 H A W 𝓣 E G67 G68 b34 Δ4 (Typed.both (s64 bs)) (at36 bs) (Relend.g-back-sl 𝓤 H A W E
-              (Referent.rtF (Referent.fInt Syntax.w32)) G67 30 5 4 16 ref9 ref4 life4 (λ x. x) (λ x. x) (Reads'.as-is 𝓤
+          d37 : Typed.Typed 𝓤 H A 𝓣 E G65 b33 Δ4 at37
+          d37 = Typed.g-pre 𝓤 H A W 𝓣 E G65 G66 b33 Δ4 (Typed.both s62) at36 (Relend.g-back-sl 𝓤 H A W E
+              (Referent.rtF (Referent.fInt Syntax.w32)) G65 29 5 4 16 ref9 ref4 life4 (λ x. x) (λ x. x) (Reads'.as-is 𝓤
               H A (Mut.msleft (Referent.rtF (Referent.fInt Syntax.w32)) ref4)) (Reads'.as-is 𝓤 H A (Relend.mslice-owed
               (Referent.rtF (Referent.fInt Syntax.w32)) ref9 4 16 life4)) Path.refl Path.refl) d36
 
-          d38 : Typed.Typed 𝓤 H A 𝓣 E G66 b34 Δ4 (at38 bs)
-          d38 = Typed.g-pre 𝓤 H A W 𝓣 E G66 G67 b34 Δ4 (λ Ψ. Ψ) (at37 bs) (Lifetime.g-end 𝓤 H A W E G66 16 Path.refl)
-              d37
+          d38 : Typed.Typed 𝓤 H A 𝓣 E G64 b33 Δ4 at38
+          d38 = Typed.g-pre 𝓤 H A W 𝓣 E G64 G65 b33 Δ4 (λ Ψ. Ψ) at37 (Lifetime.g-end 𝓤 H A W E G64 16 Path.refl) d37
 
-          d39 : Typed.Typed 𝓤 H A 𝓣 E G65 b34 Δ4 (at39 bs)
-          d39 = Typed.g-pre 𝓤 H A W 𝓣 E G65 G66 b34 Δ4 (λ Ψ. Ψ) (at38 bs)
-              (Lifetime.g-forget 𝓤 H A W E G65 15 Row.dead Path.refl) d38
+          d39 : Typed.Typed 𝓤 H A 𝓣 E G63 b33 Δ4 at39
+          d39 = Typed.g-pre 𝓤 H A W 𝓣 E G63 G64 b33 Δ4 (λ Ψ. Ψ) at38
+              (Lifetime.g-forget 𝓤 H A W E G63 15 Row.dead Path.refl) d38
 
-          d40 : Typed.Typed 𝓤 H A 𝓣 E G64 b34 Δ4 (at40 bs)
-          d40 = Typed.g-pre 𝓤 H A W 𝓣 E G64 G65 b34 Δ4 (Typed.both (s61 bs)) (at39 bs) (Relend.g-back-sl 𝓤 H A W E
-              InflightAction.row G64 28 4 3 15 ref8 ref3 life3 (λ x. x) (λ x. x)
+          d40 : Typed.Typed 𝓤 H A 𝓣 E G62 b33 Δ4 at40
+          d40 = Typed.g-pre 𝓤 H A W 𝓣 E G62 G63 b33 Δ4 (Typed.both s59) at39 (Relend.g-back-sl 𝓤 H A W E
+              InflightAction.row G62 27 4 3 15 ref8 ref3 life3 (λ x. x) (λ x. x)
               (Reads'.as-is 𝓤 H A (Mut.msleft InflightAction.row ref3)) (Reads'.as-is 𝓤 H A
               (Relend.mslice-owed InflightAction.row ref8 3 15 life3)) Path.refl Path.refl) d39
 
-          d41 : Typed.Typed 𝓤 H A 𝓣 E G63 b34 Δ4 (at41 bs)
-          d41 = Typed.g-pre 𝓤 H A W 𝓣 E G63 G64 b34 Δ4 (λ Ψ. Ψ) (at40 bs) (Lifetime.g-end 𝓤 H A W E G63 15 Path.refl)
-              d40
+          d41 : Typed.Typed 𝓤 H A 𝓣 E G61 b33 Δ4 at41
+          d41 = Typed.g-pre 𝓤 H A W 𝓣 E G61 G62 b33 Δ4 (λ Ψ. Ψ) at40 (Lifetime.g-end 𝓤 H A W E G61 15 Path.refl) d40
 
-          d42 : Typed.Typed 𝓤 H A 𝓣 E G62 b34 Δ4 (at42 bs)
-          d42 = Typed.g-pre 𝓤 H A W 𝓣 E G62 G63 b34 Δ4 (λ Ψ. Ψ) (at41 bs)
-              (Lifetime.g-forget 𝓤 H A W E G62 14 Row.dead Path.refl) d41
+          d42 : Typed.Typed 𝓤 H A 𝓣 E G60 b33 Δ4 at42
+          d42 = Typed.g-pre 𝓤 H A W 𝓣 E G60 G61 b33 Δ4 (λ Ψ. Ψ) at41
+              (Lifetime.g-forget 𝓤 H A W E G60 14 Row.dead Path.refl) d41
 
-          d43 : Typed.Typed 𝓤 H A 𝓣 E G61 b34 Δ4 (at43 bs)
-          d43 = Typed.g-pre 𝓤 H A W 𝓣 E G61 G62 b34 Δ4 (Typed.both (s58 bs)) (at42 bs) (Relend.g-back-sl 𝓤 H A W E
-              RelayCircuit.row G61 26 2 1 14 ref6 ref1 life1 (λ x. x) (λ x. x)
+          d43 : Typed.Typed 𝓤 H A 𝓣 E G59 b33 Δ4 at43
+          d43 = Typed.g-pre 𝓤 H A W 𝓣 E G59 G60 b33 Δ4 (Typed.both s56) at42 (Relend.g-back-sl 𝓤 H A W E
+              RelayCircuit.row G59 25 2 1 14 ref6 ref1 life1 (λ x. x) (λ x. x)
               (Reads'.as-is 𝓤 H A (Mut.msleft RelayCircuit.row ref1)) (Reads'.as-is 𝓤 H A
               (Relend.mslice-owed RelayCircuit.row ref6 1 14 life1)) Path.refl Path.refl) d42
 
-          d44 : Typed.Typed 𝓤 H A 𝓣 E G60 b34 Δ4 (at44 bs)
-          d44 = Typed.g-pre 𝓤 H A W 𝓣 E G60 G61 b34 Δ4 (λ Ψ. Ψ) (at43 bs) (Lifetime.g-end 𝓤 H A W E G60 14 Path.refl)
-              d43
+          d44 : Typed.Typed 𝓤 H A 𝓣 E G58 b33 Δ4 at44
+          d44 = Typed.g-pre 𝓤 H A W 𝓣 E G58 G59 b33 Δ4 (λ Ψ. Ψ) at43 (Lifetime.g-end 𝓤 H A W E G58 14 Path.refl) d43
 
-          d45 : Typed.Typed 𝓤 H A 𝓣 E G59 b34 Δ4 (at45 bs)
-          d45 = Typed.g-pre 𝓤 H A W 𝓣 E G59 G60 b34 Δ4 (λ Ψ. Ψ) (at44 bs)
-              (Lifetime.g-forget 𝓤 H A W E G59 13 Row.dead Path.refl) d44
+          d45 : Typed.Typed 𝓤 H A 𝓣 E G57 b33 Δ4 at45
+          d45 = Typed.g-pre 𝓤 H A W 𝓣 E G57 G58 b33 Δ4 (λ Ψ. Ψ) at44
+              (Lifetime.g-forget 𝓤 H A W E G57 13 Row.dead Path.refl) d44
 
-          d46 : Typed.Typed 𝓤 H A 𝓣 E G58 b34 Δ4 (at46 bs)
-          d46 = Typed.g-pre 𝓤 H A W 𝓣 E G58 G59 b34 Δ4 (Typed.both (s55 bs)) (at45 bs) (Relend.g-back-sl 𝓤 H A W E
-              RelayPending.row G58 24 1 0 13 ref5 ref0 life0 (λ x. x) (λ x. x)
+          d46 : Typed.Typed 𝓤 H A 𝓣 E G56 b33 Δ4 at46
+          d46 = Typed.g-pre 𝓤 H A W 𝓣 E G56 G57 b33 Δ4 (Typed.both s53) at45 (Relend.g-back-sl 𝓤 H A W E
+              RelayPending.row G56 23 1 0 13 ref5 ref0 life0 (λ x. x) (λ x. x)
               (Reads'.as-is 𝓤 H A (Mut.msleft RelayPending.row ref0)) (Reads'.as-is 𝓤 H A
               (Relend.mslice-owed RelayPending.row ref5 0 13 life0)) Path.refl Path.refl) d45
 
-          d47 : Typed.Typed 𝓤 H A 𝓣 E G57 b34 Δ4 (at47 bs)
-          d47 = Typed.g-pre 𝓤 H A W 𝓣 E G57 G58 b34 Δ4 (λ Ψ. Ψ) (at46 bs) (Lifetime.g-end 𝓤 H A W E G57 13 Path.refl)
-              d46
+          d47 : Typed.Typed 𝓤 H A 𝓣 E G55 b33 Δ4 at47
+          d47 = Typed.g-pre 𝓤 H A W 𝓣 E G55 G56 b33 Δ4 (λ Ψ. Ψ) at46 (Lifetime.g-end 𝓤 H A W E G55 13 Path.refl) d46
 
-          d48 : Typed.Typed 𝓤 H A 𝓣 E G56 b34 Δ4 (at48 bs)
-          d48 = Typed.g-pre 𝓤 H A W 𝓣 E G56 G57 b34 Δ4 (Typed.pass T56 T57 (s53 bs)) (at47 bs) (Scalar.g-room 𝓤 H A W E
-              G56 6 Laws''.mir (Local.room-whole 𝓤 H A W (Declared.row Request.the-type) Laws''.mir Path.refl)) d47
+          d48 : Typed.Typed 𝓤 H A 𝓣 E G54 b33 Δ4 at48
+          d48 = Typed.g-pre 𝓤 H A W 𝓣 E G54 G55 b33 Δ4 (Typed.pass T54 T55 s51) at47 (Scalar.g-room 𝓤 H A W E G54 6
+              Laws''.mir (Local.room-whole 𝓤 H A W (Declared.row Request.the-type) Laws''.mir Path.refl)) d47
 
-          d49 : Typed.Typed 𝓤 H A 𝓣 E G55 b35 Δ4 (at49 bs)
-          d49 = Typed.s-seq 𝓤 H A W 𝓣 E G55 G56 b33 b34 Δ4 (Typed.both (s52 bs)) (at48 bs) (Plain.t-call-plain 𝓤 H A W
-              𝓣 5 ps·1 r·1 (claims· .2) (claims· .3) "hnsr_circuit::messages::handle_accept::handle_accept" (known .1)
-              E (λ pos β. β) G55 (
-                record { pos = 24; ty = ref0; ref = λ x. x },
+          d49 : Typed.Typed 𝓤 H A 𝓣 E G53 b34 Δ4 at49
+          d49 = Typed.s-seq 𝓤 H A W 𝓣 E G53 G54 b32 b33 Δ4 (Typed.both s50) at48 (Plain.t-call-plain 𝓤 H A W 𝓣 5 ps·1
+              r·1 (claims· .2) (claims· .3) "hnsr_circuit::messages::handle_accept::handle_accept" (known .1) E
+              (λ pos β. β) G53 (
+                record { pos = 23; ty = ref0; ref = λ x. x },
                 (
-                  record { pos = 26; ty = ref1; ref = λ x. x },
+                  record { pos = 25; ty = ref1; ref = λ x. x },
                   (
-                    record { pos = 28; ty = ref3; ref = λ x. x },
+                    record { pos = 27; ty = ref3; ref = λ x. x },
                     (
-                      record { pos = 30; ty = ref4; ref = λ x. x },
+                      record { pos = 29; ty = ref4; ref = λ x. x },
                       (
                         record { pos = 6; st = List.[]; d = 0; at = λ x. x },
                         (record { pos = 7; ty = ref10; ref = λ x. x }, tt),
@@ -5337,7 +5261,7 @@ module _ (claims· : Claims) where
                     ),
                   ),
                 ),
-              ) 12 (13 ∷ 14 ∷ 15 ∷ 16 ∷ 5 ∷ List.[]) (Call.sub-id 𝓤 H A W (G55 .slots)) (
+              ) 11 (13 ∷ 14 ∷ 15 ∷ 16 ∷ 5 ∷ List.[]) (Call.sub-id 𝓤 H A W (G53 .slots)) (
                 Reads'.as-is 𝓤 H A (Mut.mslice RelayPending.row ref0 13),
                 Mut.reads-mslice 𝓤 H A W RelayPending.row ref0 13,
                 Path.refl,
@@ -5374,24 +5298,24 @@ module _ (claims· : Claims) where
                 ),
               ) (Reads'.room-gone 𝓤 H A Laws'.mir) (tt, (tt, (tt, (tt, (tt, tt))))) Path.refl) d48
 
-          d50 : Typed.Typed 𝓤 H A 𝓣 E G54 b36 Δ4 (at50 bs)
-          d50 = Typed.s-seq 𝓤 H A W 𝓣 E G54 G55 b32 b35 Δ4 (Typed.ask (s51 bs)) (at49 bs) (Relend.t-sl-aggregate 𝓤 H A
-              W E (Referent.rtF (Referent.fInt Syntax.w32)) 𝓣 (Relend.asMut (Referent.rtF (Referent.fInt Syntax.w32)))
-              G54 29 30 16 ref4 ref4 (λ x. x) (Scalar.oFld 5 ((Syntax.field 1) ∷ List.[]) (Syntax.tyInt Syntax.w64) 8
-              λ v. Shared.lenV (v .0)) (Reads'.as-is 𝓤 H A (Relend.msptr (Referent.rtF (Referent.fInt Syntax.w32)) ref4
-              16)) (Reads'.room-gone 𝓤 H A slice4) (
+          d50 : Typed.Typed 𝓤 H A 𝓣 E G52 b35 Δ4 at50
+          d50 = Typed.s-seq 𝓤 H A W 𝓣 E G52 G53 b31 b34 Δ4 (Typed.ask s49) at49 (Relend.t-sl-aggregate 𝓤 H A W E
+              (Referent.rtF (Referent.fInt Syntax.w32)) 𝓣 (Relend.asMut (Referent.rtF (Referent.fInt Syntax.w32))) G52
+              28 29 16 ref4 ref4 (λ x. x) (Scalar.oFld 5 ((Syntax.field 1) ∷ List.[]) (Syntax.tyInt Syntax.w64) 8 λ v.
+              Shared.lenV (v .0)) (Reads'.as-is 𝓤 H A (Relend.msptr (Referent.rtF (Referent.fInt Syntax.w32)) ref4 16))
+              (Reads'.room-gone 𝓤 H A slice4) (
                 Relend.reads-owed-len 𝓤 H A W (Referent.rtF (Referent.fInt Syntax.w32)) ref9 4 16 life4 8 Path.refl,
                 Path.refl,
               ) Path.refl Path.refl λ b o k. tt) d49
 
-          d51 : Typed.Typed 𝓤 H A 𝓣 E G53 b37 Δ4 (at51 bs)
-          d51 = Typed.s-seq 𝓤 H A W 𝓣 E G53 G54 b31 b36 Δ4 (Typed.give (s50 bs)) (at50 bs) (Relend.t-sl-relend 𝓤 H A W
-              E (Referent.rtF (Referent.fInt Syntax.w32)) 𝓣 G53 5 29 4 16 ref9 ref4 life4 0 (λ x. x) (Reads'.as-is 𝓤 H
-              A (Mut.mslice (Referent.rtF (Referent.fInt Syntax.w32)) ref9 4)) (Reads'.room-gone 𝓤 H A ref4) Path.refl
-              tt Path.refl Path.refl Path.refl λ b o. tt) d50
+          d51 : Typed.Typed 𝓤 H A 𝓣 E G51 b36 Δ4 at51
+          d51 = Typed.s-seq 𝓤 H A W 𝓣 E G51 G52 b30 b35 Δ4 (Typed.give s48) at50 (Relend.t-sl-relend 𝓤 H A W E
+              (Referent.rtF (Referent.fInt Syntax.w32)) 𝓣 G51 5 28 4 16 ref9 ref4 life4 0 (λ x. x) (Reads'.as-is 𝓤 H A (Mut.mslice
+              (Referent.rtF (Referent.fInt Syntax.w32)) ref9 4)) (Reads'.room-gone 𝓤 H A ref4) Path.refl tt Path.refl
+              Path.refl Path.refl λ b o. tt) d50
 
-          d52 : Typed.Typed 𝓤 H A 𝓣 E G52 b37 Δ4 (at52 bs)
-          d52 = Typed.g-pre 𝓤 H A W 𝓣 E G52 G53 b37 Δ4 (λ Ψ. Ψ) (at51 bs) (Lifetime.g-begin 𝓤 H A W E G52 16 (
+          d52 : Typed.Typed 𝓤 H A 𝓣 E G50 b36 Δ4 at52
+          d52 = Typed.g-pre 𝓤 H A W 𝓣 E G50 G51 b36 Δ4 (λ Ψ. Ψ) at51 (Lifetime.g-begin 𝓤 H A W E G50 16 (
             tt,
             (
               (tt, tt),
@@ -5497,10 +5421,7 @@ module _ (claims· : Claims) where
                                                                                                                   tt,
                                                                                                                   (
                                                                                                                     tt,
-                                                                                                                    (
-                                                                                                                      tt,
-                                                                                                                      tt,
-                                                                                                                    ),
+                                                                                                                    tt,
                                                                                                                   ),
                                                                                                                 ),
                                                                                                               ),
@@ -5555,23 +5476,23 @@ module _ (claims· : Claims) where
             ),
           )) d51
 
-          d53 : Typed.Typed 𝓤 H A 𝓣 E G51 b38 Δ4 (at53 bs)
-          d53 = Typed.s-seq 𝓤 H A W 𝓣 E G51 G52 b30 b37 Δ4 (Typed.ask (s48 bs)) (at52 bs) (Relend.t-sl-aggregate 𝓤 H A
-              W E InflightAction.row 𝓣 (Relend.asMut InflightAction.row) G51 27 28 15 ref3 ref3 (λ x. x) (Scalar.oFld 4
+          d53 : Typed.Typed 𝓤 H A 𝓣 E G49 b37 Δ4 at53
+          d53 = Typed.s-seq 𝓤 H A W 𝓣 E G49 G50 b29 b36 Δ4 (Typed.ask s46) at52 (Relend.t-sl-aggregate 𝓤 H A W E
+              InflightAction.row 𝓣 (Relend.asMut InflightAction.row) G49 26 27 15 ref3 ref3 (λ x. x) (Scalar.oFld 4
               ((Syntax.field 1) ∷ List.[]) (Syntax.tyInt Syntax.w64) 8 λ v. Shared.lenV (v .0)) (Reads'.as-is 𝓤 H A
               (Relend.msptr InflightAction.row ref3 15)) (Reads'.room-gone 𝓤 H A slice3) (
                 Relend.reads-owed-len 𝓤 H A W InflightAction.row ref8 3 15 life3 8 Path.refl,
                 Path.refl,
               ) Path.refl Path.refl λ b o k. tt) d52
 
-          d54 : Typed.Typed 𝓤 H A 𝓣 E G50 b39 Δ4 (at54 bs)
-          d54 = Typed.s-seq 𝓤 H A W 𝓣 E G50 G51 b29 b38 Δ4 (Typed.give (s47 bs)) (at53 bs) (Relend.t-sl-relend 𝓤 H A W
-              E InflightAction.row 𝓣 G50 4 27 3 15 ref8 ref3 life3 0 (λ x. x)
+          d54 : Typed.Typed 𝓤 H A 𝓣 E G48 b38 Δ4 at54
+          d54 = Typed.s-seq 𝓤 H A W 𝓣 E G48 G49 b28 b37 Δ4 (Typed.give s45) at53 (Relend.t-sl-relend 𝓤 H A W E
+              InflightAction.row 𝓣 G48 4 26 3 15 ref8 ref3 life3 0 (λ x. x)
               (Reads'.as-is 𝓤 H A (Mut.mslice InflightAction.row ref8 3)) (Reads'.room-gone 𝓤 H A ref3) Path.refl tt
               Path.refl Path.refl Path.refl λ b o. tt) d53
 
-          d55 : Typed.Typed 𝓤 H A 𝓣 E G49 b39 Δ4 (at55 bs)
-          d55 = Typed.g-pre 𝓤 H A W 𝓣 E G49 G50 b39 Δ4 (λ Ψ. Ψ) (at54 bs) (Lifetime.g-begin 𝓤 H A W E G49 15 (
+          d55 : Typed.Typed 𝓤 H A 𝓣 E G47 b38 Δ4 at55
+          d55 = Typed.g-pre 𝓤 H A W 𝓣 E G47 G48 b38 Δ4 (λ Ψ. Ψ) at54 (Lifetime.g-begin 𝓤 H A W E G47 15 (
             tt,
             (
               (tt, tt),
@@ -5677,10 +5598,7 @@ module _ (claims· : Claims) where
                                                                                                                   tt,
                                                                                                                   (
                                                                                                                     tt,
-                                                                                                                    (
-                                                                                                                      tt,
-                                                                                                                      tt,
-                                                                                                                    ),
+                                                                                                                    tt,
                                                                                                                   ),
                                                                                                                 ),
                                                                                                               ),
@@ -5735,23 +5653,23 @@ module _ (claims· : Claims) where
             ),
           )) d54
 
-          d56 : Typed.Typed 𝓤 H A 𝓣 E G48 b40 Δ4 (at56 bs)
-          d56 = Typed.s-seq 𝓤 H A W 𝓣 E G48 G49 b28 b39 Δ4 (Typed.ask (s45 bs)) (at55 bs) (Relend.t-sl-aggregate 𝓤 H A
-              W E RelayCircuit.row 𝓣 (Relend.asMut RelayCircuit.row) G48 25 26 14 ref1 ref1 (λ x. x) (Scalar.oFld 2
+          d56 : Typed.Typed 𝓤 H A 𝓣 E G46 b39 Δ4 at56
+          d56 = Typed.s-seq 𝓤 H A W 𝓣 E G46 G47 b27 b38 Δ4 (Typed.ask s43) at55 (Relend.t-sl-aggregate 𝓤 H A W E
+              RelayCircuit.row 𝓣 (Relend.asMut RelayCircuit.row) G46 24 25 14 ref1 ref1 (λ x. x) (Scalar.oFld 2
               ((Syntax.field 1) ∷ List.[]) (Syntax.tyInt Syntax.w64) 8 λ v. Shared.lenV (v .0)) (Reads'.as-is 𝓤 H A
               (Relend.msptr RelayCircuit.row ref1 14)) (Reads'.room-gone 𝓤 H A slice1) (
                 Relend.reads-owed-len 𝓤 H A W RelayCircuit.row ref6 1 14 life1 8 Path.refl,
                 Path.refl,
               ) Path.refl Path.refl λ b o k. tt) d55
 
-          d57 : Typed.Typed 𝓤 H A 𝓣 E G47 b41 Δ4 (at57 bs)
-          d57 = Typed.s-seq 𝓤 H A W 𝓣 E G47 G48 b27 b40 Δ4 (Typed.give (s44 bs)) (at56 bs) (Relend.t-sl-relend 𝓤 H A W
-              E RelayCircuit.row 𝓣 G47 2 25 1 14 ref6 ref1 life1 0 (λ x. x)
+          d57 : Typed.Typed 𝓤 H A 𝓣 E G45 b40 Δ4 at57
+          d57 = Typed.s-seq 𝓤 H A W 𝓣 E G45 G46 b26 b39 Δ4 (Typed.give s42) at56 (Relend.t-sl-relend 𝓤 H A W E
+              RelayCircuit.row 𝓣 G45 2 24 1 14 ref6 ref1 life1 0 (λ x. x)
               (Reads'.as-is 𝓤 H A (Mut.mslice RelayCircuit.row ref6 1)) (Reads'.room-gone 𝓤 H A ref1) Path.refl tt
               Path.refl Path.refl Path.refl λ b o. tt) d56
 
-          d58 : Typed.Typed 𝓤 H A 𝓣 E G46 b41 Δ4 (at58 bs)
-          d58 = Typed.g-pre 𝓤 H A W 𝓣 E G46 G47 b41 Δ4 (λ Ψ. Ψ) (at57 bs) (Lifetime.g-begin 𝓤 H A W E G46 14 (
+          d58 : Typed.Typed 𝓤 H A 𝓣 E G44 b40 Δ4 at58
+          d58 = Typed.g-pre 𝓤 H A W 𝓣 E G44 G45 b40 Δ4 (λ Ψ. Ψ) at57 (Lifetime.g-begin 𝓤 H A W E G44 14 (
             tt,
             (
               (tt, tt),
@@ -5857,10 +5775,7 @@ module _ (claims· : Claims) where
                                                                                                                   tt,
                                                                                                                   (
                                                                                                                     tt,
-                                                                                                                    (
-                                                                                                                      tt,
-                                                                                                                      tt,
-                                                                                                                    ),
+                                                                                                                    tt,
                                                                                                                   ),
                                                                                                                 ),
                                                                                                               ),
@@ -5915,23 +5830,23 @@ module _ (claims· : Claims) where
             ),
           )) d57
 
-          d59 : Typed.Typed 𝓤 H A 𝓣 E G45 b42 Δ4 (at59 bs)
-          d59 = Typed.s-seq 𝓤 H A W 𝓣 E G45 G46 b26 b41 Δ4 (Typed.ask (s42 bs)) (at58 bs) (Relend.t-sl-aggregate 𝓤 H A
-              W E RelayPending.row 𝓣 (Relend.asMut RelayPending.row) G45 23 24 13 ref0 ref0 (λ x. x) (Scalar.oFld 1
+          d59 : Typed.Typed 𝓤 H A 𝓣 E G43 b41 Δ4 at59
+          d59 = Typed.s-seq 𝓤 H A W 𝓣 E G43 G44 b25 b40 Δ4 (Typed.ask s40) at58 (Relend.t-sl-aggregate 𝓤 H A W E
+              RelayPending.row 𝓣 (Relend.asMut RelayPending.row) G43 22 23 13 ref0 ref0 (λ x. x) (Scalar.oFld 1
               ((Syntax.field 1) ∷ List.[]) (Syntax.tyInt Syntax.w64) 8 λ v. Shared.lenV (v .0)) (Reads'.as-is 𝓤 H A
               (Relend.msptr RelayPending.row ref0 13)) (Reads'.room-gone 𝓤 H A slice0) (
                 Relend.reads-owed-len 𝓤 H A W RelayPending.row ref5 0 13 life0 8 Path.refl,
                 Path.refl,
               ) Path.refl Path.refl λ b o k. tt) d58
 
-          d60 : Typed.Typed 𝓤 H A 𝓣 E G44 b43 Δ4 (at60 bs)
-          d60 = Typed.s-seq 𝓤 H A W 𝓣 E G44 G45 b25 b42 Δ4 (Typed.give (s41 bs)) (at59 bs) (Relend.t-sl-relend 𝓤 H A W
-              E RelayPending.row 𝓣 G44 1 23 0 13 ref5 ref0 life0 0 (λ x. x)
+          d60 : Typed.Typed 𝓤 H A 𝓣 E G42 b42 Δ4 at60
+          d60 = Typed.s-seq 𝓤 H A W 𝓣 E G42 G43 b24 b41 Δ4 (Typed.give s39) at59 (Relend.t-sl-relend 𝓤 H A W E
+              RelayPending.row 𝓣 G42 1 22 0 13 ref5 ref0 life0 0 (λ x. x)
               (Reads'.as-is 𝓤 H A (Mut.mslice RelayPending.row ref5 0)) (Reads'.room-gone 𝓤 H A ref0) Path.refl tt
               Path.refl Path.refl Path.refl λ b o. tt) d59
 
-          d61 : Typed.Typed 𝓤 H A 𝓣 E G9 b43 Δ4 (at61 bs)
-          d61 = Typed.g-pre 𝓤 H A W 𝓣 E G9 G44 b43 Δ4 (λ Ψ. Ψ) (at60 bs) (Lifetime.g-begin 𝓤 H A W E G9 13 (
+          d61 : Typed.Typed 𝓤 H A 𝓣 E G6 b42 Δ4 at61
+          d61 = Typed.g-pre 𝓤 H A W 𝓣 E G6 G42 b42 Δ4 (λ Ψ. Ψ) at60 (Lifetime.g-begin 𝓤 H A W E G6 13 (
             tt,
             (
               tt,
@@ -6037,10 +5952,7 @@ module _ (claims· : Claims) where
                                                                                                                   tt,
                                                                                                                   (
                                                                                                                     tt,
-                                                                                                                    (
-                                                                                                                      tt,
-                                                                                                                      tt,
-                                                                                                                    ),
+                                                                                                                    tt,
                                                                                                                   ),
                                                                                                                 ),
                                                                                                               ),
@@ -6095,85 +6007,81 @@ module _ (claims· : Claims) where
             ),
           )) d60
 
-          d62 : Typed.Typed 𝓤 H A 𝓣 E G97 b53 Δ4 (at62 bs)
+          d62 : Typed.Typed 𝓤 H A 𝓣 E G95 b52 Δ4 at62
           d62 = Typed.t-exit 𝓤 H A W 𝓣 E 1 Δ4 tt
 
-          d63 : Typed.Typed 𝓤 H A 𝓣 E G96 b53 Δ4 (at63 bs)
-          d63 = Typed.g-pre 𝓤 H A W 𝓣 E G96 G97 b53 Δ4 (λ Ψ. Ψ) (at62 bs)
-              (Lifetime.g-forget 𝓤 H A W E G96 20 Row.dead Path.refl) d62
+          d63 : Typed.Typed 𝓤 H A 𝓣 E G94 b52 Δ4 at63
+          d63 = Typed.g-pre 𝓤 H A W 𝓣 E G94 G95 b52 Δ4 (λ Ψ. Ψ) at62
+              (Lifetime.g-forget 𝓤 H A W E G94 20 Row.dead Path.refl) d62
 
-          d64 : Typed.Typed 𝓤 H A 𝓣 E G95 b53 Δ4 (at64 bs)
-          d64 = Typed.g-pre 𝓤 H A W 𝓣 E G95 G96 b53 Δ4 (Typed.give (s92 bs)) (at63 bs) (Know.g-sl-known 𝓤 H A W
-              (Referent.fInt Syntax.w32) E G95 5 4 ref9 life4 0 (λ x. x) record { fits = Dec.lit< tt } (Reads'.as-is 𝓤
+          d64 : Typed.Typed 𝓤 H A 𝓣 E G93 b52 Δ4 at64
+          d64 = Typed.g-pre 𝓤 H A W 𝓣 E G93 G94 b52 Δ4 (Typed.give s90) at63 (Know.g-sl-known 𝓤 H A W
+              (Referent.fInt Syntax.w32) E G93 5 4 ref9 life4 0 (λ x. x) record { fits = Dec.lit< tt } (Reads'.as-is 𝓤
               H A (Mut.mslice (Referent.rtF (Referent.fInt Syntax.w32)) ref9 4)) Path.refl tt) d63
 
-          d65 : Typed.Typed 𝓤 H A 𝓣 E G94 b53 Δ4 (at65 bs)
-          d65 = Typed.g-pre 𝓤 H A W 𝓣 E G94 G95 b53 Δ4 (Typed.both (s91 bs)) (at64 bs) (Relend.g-back-sl 𝓤 H A W E
-              (Referent.rtF (Referent.fInt Syntax.w32)) G94 38 5 4 20 ref9 ref4 life4 (λ x. x) (λ x. x) (Reads'.as-is 𝓤
+          d65 : Typed.Typed 𝓤 H A 𝓣 E G92 b52 Δ4 at65
+          d65 = Typed.g-pre 𝓤 H A W 𝓣 E G92 G93 b52 Δ4 (Typed.both s89) at64 (Relend.g-back-sl 𝓤 H A W E
+              (Referent.rtF (Referent.fInt Syntax.w32)) G92 37 5 4 20 ref9 ref4 life4 (λ x. x) (λ x. x) (Reads'.as-is 𝓤
               H A (Mut.msleft (Referent.rtF (Referent.fInt Syntax.w32)) ref4)) (Reads'.as-is 𝓤 H A (Relend.mslice-owed
               (Referent.rtF (Referent.fInt Syntax.w32)) ref9 4 20 life4)) Path.refl Path.refl) d64
 
-          d66 : Typed.Typed 𝓤 H A 𝓣 E G93 b53 Δ4 (at66 bs)
-          d66 = Typed.g-pre 𝓤 H A W 𝓣 E G93 G94 b53 Δ4 (λ Ψ. Ψ) (at65 bs) (Lifetime.g-end 𝓤 H A W E G93 20 Path.refl)
-              d65
+          d66 : Typed.Typed 𝓤 H A 𝓣 E G91 b52 Δ4 at66
+          d66 = Typed.g-pre 𝓤 H A W 𝓣 E G91 G92 b52 Δ4 (λ Ψ. Ψ) at65 (Lifetime.g-end 𝓤 H A W E G91 20 Path.refl) d65
 
-          d67 : Typed.Typed 𝓤 H A 𝓣 E G92 b53 Δ4 (at67 bs)
-          d67 = Typed.g-pre 𝓤 H A W 𝓣 E G92 G93 b53 Δ4 (λ Ψ. Ψ) (at66 bs)
-              (Lifetime.g-forget 𝓤 H A W E G92 19 Row.dead Path.refl) d66
+          d67 : Typed.Typed 𝓤 H A 𝓣 E G90 b52 Δ4 at67
+          d67 = Typed.g-pre 𝓤 H A W 𝓣 E G90 G91 b52 Δ4 (λ Ψ. Ψ) at66
+              (Lifetime.g-forget 𝓤 H A W E G90 19 Row.dead Path.refl) d66
 
-          d68 : Typed.Typed 𝓤 H A 𝓣 E G91 b53 Δ4 (at68 bs)
-          d68 = Typed.g-pre 𝓤 H A W 𝓣 E G91 G92 b53 Δ4 (Typed.both (s88 bs)) (at67 bs) (Relend.g-back-sl 𝓤 H A W E
-              InflightAction.row G91 36 4 3 19 ref8 ref3 life3 (λ x. x) (λ x. x)
+          d68 : Typed.Typed 𝓤 H A 𝓣 E G89 b52 Δ4 at68
+          d68 = Typed.g-pre 𝓤 H A W 𝓣 E G89 G90 b52 Δ4 (Typed.both s86) at67 (Relend.g-back-sl 𝓤 H A W E
+              InflightAction.row G89 35 4 3 19 ref8 ref3 life3 (λ x. x) (λ x. x)
               (Reads'.as-is 𝓤 H A (Mut.msleft InflightAction.row ref3)) (Reads'.as-is 𝓤 H A
               (Relend.mslice-owed InflightAction.row ref8 3 19 life3)) Path.refl Path.refl) d67
 
-          d69 : Typed.Typed 𝓤 H A 𝓣 E G90 b53 Δ4 (at69 bs)
-          d69 = Typed.g-pre 𝓤 H A W 𝓣 E G90 G91 b53 Δ4 (λ Ψ. Ψ) (at68 bs) (Lifetime.g-end 𝓤 H A W E G90 19 Path.refl)
-              d68
+          d69 : Typed.Typed 𝓤 H A 𝓣 E G88 b52 Δ4 at69
+          d69 = Typed.g-pre 𝓤 H A W 𝓣 E G88 G89 b52 Δ4 (λ Ψ. Ψ) at68 (Lifetime.g-end 𝓤 H A W E G88 19 Path.refl) d68
 
-          d70 : Typed.Typed 𝓤 H A 𝓣 E G89 b53 Δ4 (at70 bs)
-          d70 = Typed.g-pre 𝓤 H A W 𝓣 E G89 G90 b53 Δ4 (λ Ψ. Ψ) (at69 bs)
-              (Lifetime.g-forget 𝓤 H A W E G89 18 Row.dead Path.refl) d69
+          d70 : Typed.Typed 𝓤 H A 𝓣 E G87 b52 Δ4 at70
+          d70 = Typed.g-pre 𝓤 H A W 𝓣 E G87 G88 b52 Δ4 (λ Ψ. Ψ) at69
+              (Lifetime.g-forget 𝓤 H A W E G87 18 Row.dead Path.refl) d69
 
-          d71 : Typed.Typed 𝓤 H A 𝓣 E G88 b53 Δ4 (at71 bs)
-          d71 = Typed.g-pre 𝓤 H A W 𝓣 E G88 G89 b53 Δ4 (Typed.both (s85 bs)) (at70 bs) (Relend.g-back-sl 𝓤 H A W E
-              ReservationUsage.row G88 34 3 2 18 ref7 ref2 life2 (λ x. x) (λ x. x)
+          d71 : Typed.Typed 𝓤 H A 𝓣 E G86 b52 Δ4 at71
+          d71 = Typed.g-pre 𝓤 H A W 𝓣 E G86 G87 b52 Δ4 (Typed.both s83) at70 (Relend.g-back-sl 𝓤 H A W E
+              ReservationUsage.row G86 33 3 2 18 ref7 ref2 life2 (λ x. x) (λ x. x)
               (Reads'.as-is 𝓤 H A (Mut.msleft ReservationUsage.row ref2)) (Reads'.as-is 𝓤 H A
               (Relend.mslice-owed ReservationUsage.row ref7 2 18 life2)) Path.refl Path.refl) d70
 
-          d72 : Typed.Typed 𝓤 H A 𝓣 E G87 b53 Δ4 (at72 bs)
-          d72 = Typed.g-pre 𝓤 H A W 𝓣 E G87 G88 b53 Δ4 (λ Ψ. Ψ) (at71 bs) (Lifetime.g-end 𝓤 H A W E G87 18 Path.refl)
-              d71
+          d72 : Typed.Typed 𝓤 H A 𝓣 E G85 b52 Δ4 at72
+          d72 = Typed.g-pre 𝓤 H A W 𝓣 E G85 G86 b52 Δ4 (λ Ψ. Ψ) at71 (Lifetime.g-end 𝓤 H A W E G85 18 Path.refl) d71
 
-          d73 : Typed.Typed 𝓤 H A 𝓣 E G86 b53 Δ4 (at73 bs)
-          d73 = Typed.g-pre 𝓤 H A W 𝓣 E G86 G87 b53 Δ4 (λ Ψ. Ψ) (at72 bs)
-              (Lifetime.g-forget 𝓤 H A W E G86 17 Row.dead Path.refl) d72
+          d73 : Typed.Typed 𝓤 H A 𝓣 E G84 b52 Δ4 at73
+          d73 = Typed.g-pre 𝓤 H A W 𝓣 E G84 G85 b52 Δ4 (λ Ψ. Ψ) at72
+              (Lifetime.g-forget 𝓤 H A W E G84 17 Row.dead Path.refl) d72
 
-          d74 : Typed.Typed 𝓤 H A 𝓣 E G85 b53 Δ4 (at74 bs)
-          d74 = Typed.g-pre 𝓤 H A W 𝓣 E G85 G86 b53 Δ4 (Typed.both (s82 bs)) (at73 bs) (Relend.g-back-sl 𝓤 H A W E
-              RelayCircuit.row G85 32 2 1 17 ref6 ref1 life1 (λ x. x) (λ x. x)
+          d74 : Typed.Typed 𝓤 H A 𝓣 E G83 b52 Δ4 at74
+          d74 = Typed.g-pre 𝓤 H A W 𝓣 E G83 G84 b52 Δ4 (Typed.both s80) at73 (Relend.g-back-sl 𝓤 H A W E
+              RelayCircuit.row G83 31 2 1 17 ref6 ref1 life1 (λ x. x) (λ x. x)
               (Reads'.as-is 𝓤 H A (Mut.msleft RelayCircuit.row ref1)) (Reads'.as-is 𝓤 H A
               (Relend.mslice-owed RelayCircuit.row ref6 1 17 life1)) Path.refl Path.refl) d73
 
-          d75 : Typed.Typed 𝓤 H A 𝓣 E G84 b53 Δ4 (at75 bs)
-          d75 = Typed.g-pre 𝓤 H A W 𝓣 E G84 G85 b53 Δ4 (λ Ψ. Ψ) (at74 bs) (Lifetime.g-end 𝓤 H A W E G84 17 Path.refl)
-              d74
+          d75 : Typed.Typed 𝓤 H A 𝓣 E G82 b52 Δ4 at75
+          d75 = Typed.g-pre 𝓤 H A W 𝓣 E G82 G83 b52 Δ4 (λ Ψ. Ψ) at74 (Lifetime.g-end 𝓤 H A W E G82 17 Path.refl) d74
 
-          d76 : Typed.Typed 𝓤 H A 𝓣 E G83 b53 Δ4 (at76 bs)
-          d76 = Typed.g-pre 𝓤 H A W 𝓣 E G83 G84 b53 Δ4 (Typed.pass T83 T84 (s80 bs)) (at75 bs) (Scalar.g-room 𝓤 H A W E
-              G83 6 Laws''.mir (Local.room-whole 𝓤 H A W (Declared.row Request.the-type) Laws''.mir Path.refl)) d75
+          d76 : Typed.Typed 𝓤 H A 𝓣 E G81 b52 Δ4 at76
+          d76 = Typed.g-pre 𝓤 H A W 𝓣 E G81 G82 b52 Δ4 (Typed.pass T81 T82 s78) at75 (Scalar.g-room 𝓤 H A W E G81 6
+              Laws''.mir (Local.room-whole 𝓤 H A W (Declared.row Request.the-type) Laws''.mir Path.refl)) d75
 
-          d77 : Typed.Typed 𝓤 H A 𝓣 E G82 b54 Δ4 (at77 bs)
-          d77 = Typed.s-seq 𝓤 H A W 𝓣 E G82 G83 b52 b53 Δ4 (Typed.both (s79 bs)) (at76 bs) (Plain.t-call-plain 𝓤 H A W
-              𝓣 5 ps·2 r·2 (claims· .4) (claims· .5) "hnsr_circuit::messages::handle_data::handle_data" (known .2) E
-              (λ pos β. β) G82 (
-                record { pos = 32; ty = ref1; ref = λ x. x },
+          d77 : Typed.Typed 𝓤 H A 𝓣 E G80 b53 Δ4 at77
+          d77 = Typed.s-seq 𝓤 H A W 𝓣 E G80 G81 b51 b52 Δ4 (Typed.both s77) at76 (Plain.t-call-plain 𝓤 H A W 𝓣 5 ps·2
+              r·2 (claims· .4) (claims· .5) "hnsr_circuit::messages::handle_data::handle_data" (known .2) E
+              (λ pos β. β) G80 (
+                record { pos = 31; ty = ref1; ref = λ x. x },
                 (
-                  record { pos = 34; ty = ref2; ref = λ x. x },
+                  record { pos = 33; ty = ref2; ref = λ x. x },
                   (
-                    record { pos = 36; ty = ref3; ref = λ x. x },
+                    record { pos = 35; ty = ref3; ref = λ x. x },
                     (
-                      record { pos = 38; ty = ref4; ref = λ x. x },
+                      record { pos = 37; ty = ref4; ref = λ x. x },
                       (
                         record { pos = 6; st = List.[]; d = 0; at = λ x. x },
                         (record { pos = 7; ty = ref10; ref = λ x. x }, tt),
@@ -6181,7 +6089,7 @@ module _ (claims· : Claims) where
                     ),
                   ),
                 ),
-              ) 12 (17 ∷ 18 ∷ 19 ∷ 20 ∷ 5 ∷ List.[]) (Call.sub-id 𝓤 H A W (G82 .slots)) (
+              ) 11 (17 ∷ 18 ∷ 19 ∷ 20 ∷ 5 ∷ List.[]) (Call.sub-id 𝓤 H A W (G80 .slots)) (
                 Reads'.as-is 𝓤 H A (Mut.mslice RelayCircuit.row ref1 17),
                 Mut.reads-mslice 𝓤 H A W RelayCircuit.row ref1 17,
                 Path.refl,
@@ -6218,24 +6126,24 @@ module _ (claims· : Claims) where
                 ),
               ) (Reads'.room-gone 𝓤 H A Laws'.mir) (tt, (tt, (tt, (tt, (tt, tt))))) Path.refl) d76
 
-          d78 : Typed.Typed 𝓤 H A 𝓣 E G81 b55 Δ4 (at78 bs)
-          d78 = Typed.s-seq 𝓤 H A W 𝓣 E G81 G82 b51 b54 Δ4 (Typed.ask (s78 bs)) (at77 bs) (Relend.t-sl-aggregate 𝓤 H A
-              W E (Referent.rtF (Referent.fInt Syntax.w32)) 𝓣 (Relend.asMut (Referent.rtF (Referent.fInt Syntax.w32)))
-              G81 37 38 20 ref4 ref4 (λ x. x) (Scalar.oFld 5 ((Syntax.field 1) ∷ List.[]) (Syntax.tyInt Syntax.w64) 8
-              λ v. Shared.lenV (v .0)) (Reads'.as-is 𝓤 H A (Relend.msptr (Referent.rtF (Referent.fInt Syntax.w32)) ref4
-              20)) (Reads'.room-gone 𝓤 H A slice4) (
+          d78 : Typed.Typed 𝓤 H A 𝓣 E G79 b54 Δ4 at78
+          d78 = Typed.s-seq 𝓤 H A W 𝓣 E G79 G80 b50 b53 Δ4 (Typed.ask s76) at77 (Relend.t-sl-aggregate 𝓤 H A W E
+              (Referent.rtF (Referent.fInt Syntax.w32)) 𝓣 (Relend.asMut (Referent.rtF (Referent.fInt Syntax.w32))) G79
+              36 37 20 ref4 ref4 (λ x. x) (Scalar.oFld 5 ((Syntax.field 1) ∷ List.[]) (Syntax.tyInt Syntax.w64) 8 λ v.
+              Shared.lenV (v .0)) (Reads'.as-is 𝓤 H A (Relend.msptr (Referent.rtF (Referent.fInt Syntax.w32)) ref4 20))
+              (Reads'.room-gone 𝓤 H A slice4) (
                 Relend.reads-owed-len 𝓤 H A W (Referent.rtF (Referent.fInt Syntax.w32)) ref9 4 20 life4 8 Path.refl,
                 Path.refl,
               ) Path.refl Path.refl λ b o k. tt) d77
 
-          d79 : Typed.Typed 𝓤 H A 𝓣 E G80 b56 Δ4 (at79 bs)
-          d79 = Typed.s-seq 𝓤 H A W 𝓣 E G80 G81 b50 b55 Δ4 (Typed.give (s77 bs)) (at78 bs) (Relend.t-sl-relend 𝓤 H A W
-              E (Referent.rtF (Referent.fInt Syntax.w32)) 𝓣 G80 5 37 4 20 ref9 ref4 life4 0 (λ x. x) (Reads'.as-is 𝓤 H
-              A (Mut.mslice (Referent.rtF (Referent.fInt Syntax.w32)) ref9 4)) (Reads'.room-gone 𝓤 H A ref4) Path.refl
-              tt Path.refl Path.refl Path.refl λ b o. tt) d78
+          d79 : Typed.Typed 𝓤 H A 𝓣 E G78 b55 Δ4 at79
+          d79 = Typed.s-seq 𝓤 H A W 𝓣 E G78 G79 b49 b54 Δ4 (Typed.give s75) at78 (Relend.t-sl-relend 𝓤 H A W E
+              (Referent.rtF (Referent.fInt Syntax.w32)) 𝓣 G78 5 36 4 20 ref9 ref4 life4 0 (λ x. x) (Reads'.as-is 𝓤 H A (Mut.mslice
+              (Referent.rtF (Referent.fInt Syntax.w32)) ref9 4)) (Reads'.room-gone 𝓤 H A ref4) Path.refl tt Path.refl
+              Path.refl Path.refl λ b o. tt) d78
 
-          d80 : Typed.Typed 𝓤 H A 𝓣 E G79 b56 Δ4 (at80 bs)
-          d80 = Typed.g-pre 𝓤 H A W 𝓣 E G79 G80 b56 Δ4 (λ Ψ. Ψ) (at79 bs) (Lifetime.g-begin 𝓤 H A W E G79 20 (
+          d80 : Typed.Typed 𝓤 H A 𝓣 E G77 b55 Δ4 at80
+          d80 = Typed.g-pre 𝓤 H A W 𝓣 E G77 G78 b55 Δ4 (λ Ψ. Ψ) at79 (Lifetime.g-begin 𝓤 H A W E G77 20 (
             tt,
             (
               tt,
@@ -6341,10 +6249,7 @@ module _ (claims· : Claims) where
                                                                                                                   tt,
                                                                                                                   (
                                                                                                                     tt,
-                                                                                                                    (
-                                                                                                                      tt,
-                                                                                                                      tt,
-                                                                                                                    ),
+                                                                                                                    tt,
                                                                                                                   ),
                                                                                                                 ),
                                                                                                               ),
@@ -6399,23 +6304,23 @@ module _ (claims· : Claims) where
             ),
           )) d79
 
-          d81 : Typed.Typed 𝓤 H A 𝓣 E G78 b57 Δ4 (at81 bs)
-          d81 = Typed.s-seq 𝓤 H A W 𝓣 E G78 G79 b49 b56 Δ4 (Typed.ask (s75 bs)) (at80 bs) (Relend.t-sl-aggregate 𝓤 H A
-              W E InflightAction.row 𝓣 (Relend.asMut InflightAction.row) G78 35 36 19 ref3 ref3 (λ x. x) (Scalar.oFld 4
+          d81 : Typed.Typed 𝓤 H A 𝓣 E G76 b56 Δ4 at81
+          d81 = Typed.s-seq 𝓤 H A W 𝓣 E G76 G77 b48 b55 Δ4 (Typed.ask s73) at80 (Relend.t-sl-aggregate 𝓤 H A W E
+              InflightAction.row 𝓣 (Relend.asMut InflightAction.row) G76 34 35 19 ref3 ref3 (λ x. x) (Scalar.oFld 4
               ((Syntax.field 1) ∷ List.[]) (Syntax.tyInt Syntax.w64) 8 λ v. Shared.lenV (v .0)) (Reads'.as-is 𝓤 H A
               (Relend.msptr InflightAction.row ref3 19)) (Reads'.room-gone 𝓤 H A slice3) (
                 Relend.reads-owed-len 𝓤 H A W InflightAction.row ref8 3 19 life3 8 Path.refl,
                 Path.refl,
               ) Path.refl Path.refl λ b o k. tt) d80
 
-          d82 : Typed.Typed 𝓤 H A 𝓣 E G77 b58 Δ4 (at82 bs)
-          d82 = Typed.s-seq 𝓤 H A W 𝓣 E G77 G78 b48 b57 Δ4 (Typed.give (s74 bs)) (at81 bs) (Relend.t-sl-relend 𝓤 H A W
-              E InflightAction.row 𝓣 G77 4 35 3 19 ref8 ref3 life3 0 (λ x. x)
+          d82 : Typed.Typed 𝓤 H A 𝓣 E G75 b57 Δ4 at82
+          d82 = Typed.s-seq 𝓤 H A W 𝓣 E G75 G76 b47 b56 Δ4 (Typed.give s72) at81 (Relend.t-sl-relend 𝓤 H A W E
+              InflightAction.row 𝓣 G75 4 34 3 19 ref8 ref3 life3 0 (λ x. x)
               (Reads'.as-is 𝓤 H A (Mut.mslice InflightAction.row ref8 3)) (Reads'.room-gone 𝓤 H A ref3) Path.refl tt
               Path.refl Path.refl Path.refl λ b o. tt) d81
 
-          d83 : Typed.Typed 𝓤 H A 𝓣 E G76 b58 Δ4 (at83 bs)
-          d83 = Typed.g-pre 𝓤 H A W 𝓣 E G76 G77 b58 Δ4 (λ Ψ. Ψ) (at82 bs) (Lifetime.g-begin 𝓤 H A W E G76 19 (
+          d83 : Typed.Typed 𝓤 H A 𝓣 E G74 b57 Δ4 at83
+          d83 = Typed.g-pre 𝓤 H A W 𝓣 E G74 G75 b57 Δ4 (λ Ψ. Ψ) at82 (Lifetime.g-begin 𝓤 H A W E G74 19 (
             tt,
             (
               tt,
@@ -6521,10 +6426,7 @@ module _ (claims· : Claims) where
                                                                                                                   tt,
                                                                                                                   (
                                                                                                                     tt,
-                                                                                                                    (
-                                                                                                                      tt,
-                                                                                                                      tt,
-                                                                                                                    ),
+                                                                                                                    tt,
                                                                                                                   ),
                                                                                                                 ),
                                                                                                               ),
@@ -6579,23 +6481,23 @@ module _ (claims· : Claims) where
             ),
           )) d82
 
-          d84 : Typed.Typed 𝓤 H A 𝓣 E G75 b59 Δ4 (at84 bs)
-          d84 = Typed.s-seq 𝓤 H A W 𝓣 E G75 G76 b47 b58 Δ4 (Typed.ask (s72 bs)) (at83 bs) (Relend.t-sl-aggregate 𝓤 H A
-              W E ReservationUsage.row 𝓣 (Relend.asMut ReservationUsage.row) G75 33 34 18 ref2 ref2 (λ x. x) (Scalar.oFld
-              3 ((Syntax.field 1) ∷ List.[]) (Syntax.tyInt Syntax.w64) 8 λ v. Shared.lenV (v .0)) (Reads'.as-is 𝓤 H A
+          d84 : Typed.Typed 𝓤 H A 𝓣 E G73 b58 Δ4 at84
+          d84 = Typed.s-seq 𝓤 H A W 𝓣 E G73 G74 b46 b57 Δ4 (Typed.ask s70) at83 (Relend.t-sl-aggregate 𝓤 H A W E
+              ReservationUsage.row 𝓣 (Relend.asMut ReservationUsage.row) G73 32 33 18 ref2 ref2 (λ x. x) (Scalar.oFld 3
+              ((Syntax.field 1) ∷ List.[]) (Syntax.tyInt Syntax.w64) 8 λ v. Shared.lenV (v .0)) (Reads'.as-is 𝓤 H A
               (Relend.msptr ReservationUsage.row ref2 18)) (Reads'.room-gone 𝓤 H A slice2) (
                 Relend.reads-owed-len 𝓤 H A W ReservationUsage.row ref7 2 18 life2 8 Path.refl,
                 Path.refl,
               ) Path.refl Path.refl λ b o k. tt) d83
 
-          d85 : Typed.Typed 𝓤 H A 𝓣 E G74 b60 Δ4 (at85 bs)
-          d85 = Typed.s-seq 𝓤 H A W 𝓣 E G74 G75 b46 b59 Δ4 (Typed.give (s71 bs)) (at84 bs) (Relend.t-sl-relend 𝓤 H A W
-              E ReservationUsage.row 𝓣 G74 3 33 2 18 ref7 ref2 life2 0 (λ x. x) (Reads'.as-is 𝓤 H A
+          d85 : Typed.Typed 𝓤 H A 𝓣 E G72 b59 Δ4 at85
+          d85 = Typed.s-seq 𝓤 H A W 𝓣 E G72 G73 b45 b58 Δ4 (Typed.give s69) at84 (Relend.t-sl-relend 𝓤 H A W E
+              ReservationUsage.row 𝓣 G72 3 32 2 18 ref7 ref2 life2 0 (λ x. x) (Reads'.as-is 𝓤 H A
               (Mut.mslice ReservationUsage.row ref7 2)) (Reads'.room-gone 𝓤 H A ref2) Path.refl tt Path.refl Path.refl
               Path.refl λ b o. tt) d84
 
-          d86 : Typed.Typed 𝓤 H A 𝓣 E G73 b60 Δ4 (at86 bs)
-          d86 = Typed.g-pre 𝓤 H A W 𝓣 E G73 G74 b60 Δ4 (λ Ψ. Ψ) (at85 bs) (Lifetime.g-begin 𝓤 H A W E G73 18 (
+          d86 : Typed.Typed 𝓤 H A 𝓣 E G71 b59 Δ4 at86
+          d86 = Typed.g-pre 𝓤 H A W 𝓣 E G71 G72 b59 Δ4 (λ Ψ. Ψ) at85 (Lifetime.g-begin 𝓤 H A W E G71 18 (
             tt,
             (
               tt,
@@ -6701,10 +6603,7 @@ module _ (claims· : Claims) where
                                                                                                                   tt,
                                                                                                                   (
                                                                                                                     tt,
-                                                                                                                    (
-                                                                                                                      tt,
-                                                                                                                      tt,
-                                                                                                                    ),
+                                                                                                                    tt,
                                                                                                                   ),
                                                                                                                 ),
                                                                                                               ),
@@ -6759,23 +6658,23 @@ module _ (claims· : Claims) where
             ),
           )) d85
 
-          d87 : Typed.Typed 𝓤 H A 𝓣 E G72 b61 Δ4 (at87 bs)
-          d87 = Typed.s-seq 𝓤 H A W 𝓣 E G72 G73 b45 b60 Δ4 (Typed.ask (s69 bs)) (at86 bs) (Relend.t-sl-aggregate 𝓤 H A
-              W E RelayCircuit.row 𝓣 (Relend.asMut RelayCircuit.row) G72 31 32 17 ref1 ref1 (λ x. x) (Scalar.oFld 2
+          d87 : Typed.Typed 𝓤 H A 𝓣 E G70 b60 Δ4 at87
+          d87 = Typed.s-seq 𝓤 H A W 𝓣 E G70 G71 b44 b59 Δ4 (Typed.ask s67) at86 (Relend.t-sl-aggregate 𝓤 H A W E
+              RelayCircuit.row 𝓣 (Relend.asMut RelayCircuit.row) G70 30 31 17 ref1 ref1 (λ x. x) (Scalar.oFld 2
               ((Syntax.field 1) ∷ List.[]) (Syntax.tyInt Syntax.w64) 8 λ v. Shared.lenV (v .0)) (Reads'.as-is 𝓤 H A
               (Relend.msptr RelayCircuit.row ref1 17)) (Reads'.room-gone 𝓤 H A slice1) (
                 Relend.reads-owed-len 𝓤 H A W RelayCircuit.row ref6 1 17 life1 8 Path.refl,
                 Path.refl,
               ) Path.refl Path.refl λ b o k. tt) d86
 
-          d88 : Typed.Typed 𝓤 H A 𝓣 E G71 b62 Δ4 (at88 bs)
-          d88 = Typed.s-seq 𝓤 H A W 𝓣 E G71 G72 b44 b61 Δ4 (Typed.give (s68 bs)) (at87 bs) (Relend.t-sl-relend 𝓤 H A W
-              E RelayCircuit.row 𝓣 G71 2 31 1 17 ref6 ref1 life1 0 (λ x. x)
+          d88 : Typed.Typed 𝓤 H A 𝓣 E G69 b61 Δ4 at88
+          d88 = Typed.s-seq 𝓤 H A W 𝓣 E G69 G70 b43 b60 Δ4 (Typed.give s66) at87 (Relend.t-sl-relend 𝓤 H A W E
+              RelayCircuit.row 𝓣 G69 2 30 1 17 ref6 ref1 life1 0 (λ x. x)
               (Reads'.as-is 𝓤 H A (Mut.mslice RelayCircuit.row ref6 1)) (Reads'.room-gone 𝓤 H A ref1) Path.refl tt
               Path.refl Path.refl Path.refl λ b o. tt) d87
 
-          d89 : Typed.Typed 𝓤 H A 𝓣 E G9 b62 Δ4 (at89 bs)
-          d89 = Typed.g-pre 𝓤 H A W 𝓣 E G9 G71 b62 Δ4 (λ Ψ. Ψ) (at88 bs) (Lifetime.g-begin 𝓤 H A W E G9 17 (
+          d89 : Typed.Typed 𝓤 H A 𝓣 E G6 b61 Δ4 at89
+          d89 = Typed.g-pre 𝓤 H A W 𝓣 E G6 G69 b61 Δ4 (λ Ψ. Ψ) at88 (Lifetime.g-begin 𝓤 H A W E G6 17 (
             tt,
             (
               tt,
@@ -6881,10 +6780,7 @@ module _ (claims· : Claims) where
                                                                                                                   tt,
                                                                                                                   (
                                                                                                                     tt,
-                                                                                                                    (
-                                                                                                                      tt,
-                                                                                                                      tt,
-                                                                                                                    ),
+                                                                                                                    tt,
                                                                                                                   ),
                                                                                                                 ),
                                                                                                               ),
@@ -6939,77 +6835,74 @@ module _ (claims· : Claims) where
             ),
           )) d88
 
-          d90 : Typed.Typed 𝓤 H A 𝓣 E G118 b70 Δ4 (at90 bs)
+          d90 : Typed.Typed 𝓤 H A 𝓣 E G116 b69 Δ4 at90
           d90 = Typed.t-exit 𝓤 H A W 𝓣 E 1 Δ4 tt
 
-          d91 : Typed.Typed 𝓤 H A 𝓣 E G117 b70 Δ4 (at91 bs)
-          d91 = Typed.g-pre 𝓤 H A W 𝓣 E G117 G118 b70 Δ4 (λ Ψ. Ψ) (at90 bs)
-              (Lifetime.g-forget 𝓤 H A W E G117 23 Row.dead Path.refl) d90
+          d91 : Typed.Typed 𝓤 H A 𝓣 E G115 b69 Δ4 at91
+          d91 = Typed.g-pre 𝓤 H A W 𝓣 E G115 G116 b69 Δ4 (λ Ψ. Ψ) at90
+              (Lifetime.g-forget 𝓤 H A W E G115 23 Row.dead Path.refl) d90
 
-          d92 : Typed.Typed 𝓤 H A 𝓣 E G116 b70 Δ4 (at92 bs)
-          d92 = Typed.g-pre 𝓤 H A W 𝓣 E G116 G117 b70 Δ4 (Typed.give (s113 bs)) (at91 bs) (Know.g-sl-known 𝓤 H A W
-              (Referent.fInt Syntax.w32) E G116 5 4 ref9 life4 0 (λ x. x) record { fits = Dec.lit< tt } (Reads'.as-is 𝓤
+          d92 : Typed.Typed 𝓤 H A 𝓣 E G114 b69 Δ4 at92
+          d92 = Typed.g-pre 𝓤 H A W 𝓣 E G114 G115 b69 Δ4 (Typed.give s111) at91 (Know.g-sl-known 𝓤 H A W
+              (Referent.fInt Syntax.w32) E G114 5 4 ref9 life4 0 (λ x. x) record { fits = Dec.lit< tt } (Reads'.as-is 𝓤
               H A (Mut.mslice (Referent.rtF (Referent.fInt Syntax.w32)) ref9 4)) Path.refl tt) d91
 
-          d93 : Typed.Typed 𝓤 H A 𝓣 E G115 b70 Δ4 (at93 bs)
-          d93 = Typed.g-pre 𝓤 H A W 𝓣 E G115 G116 b70 Δ4 (Typed.both (s112 bs)) (at92 bs) (Relend.g-back-sl 𝓤 H A W E
-              (Referent.rtF (Referent.fInt Syntax.w32)) G115 44 5 4 23 ref9 ref4 life4 (λ x. x) (λ x. x) (Reads'.as-is
+          d93 : Typed.Typed 𝓤 H A 𝓣 E G113 b69 Δ4 at93
+          d93 = Typed.g-pre 𝓤 H A W 𝓣 E G113 G114 b69 Δ4 (Typed.both s110) at92 (Relend.g-back-sl 𝓤 H A W E
+              (Referent.rtF (Referent.fInt Syntax.w32)) G113 43 5 4 23 ref9 ref4 life4 (λ x. x) (λ x. x) (Reads'.as-is
               𝓤 H A (Mut.msleft (Referent.rtF (Referent.fInt Syntax.w32)) ref4)) (Reads'.as-is 𝓤 H A (Relend.mslice-owed
               (Referent.rtF (Referent.fInt Syntax.w32)) ref9 4 23 life4)) Path.refl Path.refl) d92
 
-          d94 : Typed.Typed 𝓤 H A 𝓣 E G114 b70 Δ4 (at94 bs)
-          d94 = Typed.g-pre 𝓤 H A W 𝓣 E G114 G115 b70 Δ4 (λ Ψ. Ψ) (at93 bs)
-              (Lifetime.g-end 𝓤 H A W E G114 23 Path.refl) d93
+          d94 : Typed.Typed 𝓤 H A 𝓣 E G112 b69 Δ4 at94
+          d94 = Typed.g-pre 𝓤 H A W 𝓣 E G112 G113 b69 Δ4 (λ Ψ. Ψ) at93 (Lifetime.g-end 𝓤 H A W E G112 23 Path.refl) d93
 
-          d95 : Typed.Typed 𝓤 H A 𝓣 E G113 b70 Δ4 (at95 bs)
-          d95 = Typed.g-pre 𝓤 H A W 𝓣 E G113 G114 b70 Δ4 (λ Ψ. Ψ) (at94 bs)
-              (Lifetime.g-forget 𝓤 H A W E G113 22 Row.dead Path.refl) d94
+          d95 : Typed.Typed 𝓤 H A 𝓣 E G111 b69 Δ4 at95
+          d95 = Typed.g-pre 𝓤 H A W 𝓣 E G111 G112 b69 Δ4 (λ Ψ. Ψ) at94
+              (Lifetime.g-forget 𝓤 H A W E G111 22 Row.dead Path.refl) d94
 
-          d96 : Typed.Typed 𝓤 H A 𝓣 E G112 b70 Δ4 (at96 bs)
-          d96 = Typed.g-pre 𝓤 H A W 𝓣 E G112 G113 b70 Δ4 (Typed.both (s109 bs)) (at95 bs) (Relend.g-back-sl 𝓤 H A W E
-              InflightAction.row G112 42 4 3 22 ref8 ref3 life3 (λ x. x) (λ x. x)
+          d96 : Typed.Typed 𝓤 H A 𝓣 E G110 b69 Δ4 at96
+          d96 = Typed.g-pre 𝓤 H A W 𝓣 E G110 G111 b69 Δ4 (Typed.both s107) at95 (Relend.g-back-sl 𝓤 H A W E
+              InflightAction.row G110 41 4 3 22 ref8 ref3 life3 (λ x. x) (λ x. x)
               (Reads'.as-is 𝓤 H A (Mut.msleft InflightAction.row ref3)) (Reads'.as-is 𝓤 H A
               (Relend.mslice-owed InflightAction.row ref8 3 22 life3)) Path.refl Path.refl) d95
 
-          d97 : Typed.Typed 𝓤 H A 𝓣 E G111 b70 Δ4 (at97 bs)
-          d97 = Typed.g-pre 𝓤 H A W 𝓣 E G111 G112 b70 Δ4 (λ Ψ. Ψ) (at96 bs)
-              (Lifetime.g-end 𝓤 H A W E G111 22 Path.refl) d96
+          d97 : Typed.Typed 𝓤 H A 𝓣 E G109 b69 Δ4 at97
+          d97 = Typed.g-pre 𝓤 H A W 𝓣 E G109 G110 b69 Δ4 (λ Ψ. Ψ) at96 (Lifetime.g-end 𝓤 H A W E G109 22 Path.refl) d96
 
-          d98 : Typed.Typed 𝓤 H A 𝓣 E G110 b70 Δ4 (at98 bs)
-          d98 = Typed.g-pre 𝓤 H A W 𝓣 E G110 G111 b70 Δ4 (λ Ψ. Ψ) (at97 bs)
-              (Lifetime.g-forget 𝓤 H A W E G110 21 Row.dead Path.refl) d97
+          d98 : Typed.Typed 𝓤 H A 𝓣 E G108 b69 Δ4 at98
+          d98 = Typed.g-pre 𝓤 H A W 𝓣 E G108 G109 b69 Δ4 (λ Ψ. Ψ) at97
+              (Lifetime.g-forget 𝓤 H A W E G108 21 Row.dead Path.refl) d97
 
-          d99 : Typed.Typed 𝓤 H A 𝓣 E G109 b70 Δ4 (at99 bs)
-          d99 = Typed.g-pre 𝓤 H A W 𝓣 E G109 G110 b70 Δ4 (Typed.both (s106 bs)) (at98 bs) (Relend.g-back-sl 𝓤 H A W E
-              RelayCircuit.row G109 40 2 1 21 ref6 ref1 life1 (λ x. x) (λ x. x)
+          d99 : Typed.Typed 𝓤 H A 𝓣 E G107 b69 Δ4 at99
+          d99 = Typed.g-pre 𝓤 H A W 𝓣 E G107 G108 b69 Δ4 (Typed.both s104) at98 (Relend.g-back-sl 𝓤 H A W E
+              RelayCircuit.row G107 39 2 1 21 ref6 ref1 life1 (λ x. x) (λ x. x)
               (Reads'.as-is 𝓤 H A (Mut.msleft RelayCircuit.row ref1)) (Reads'.as-is 𝓤 H A
               (Relend.mslice-owed RelayCircuit.row ref6 1 21 life1)) Path.refl Path.refl) d98
 
-          d100 : Typed.Typed 𝓤 H A 𝓣 E G108 b70 Δ4 (at100 bs)
-          d100 = Typed.g-pre 𝓤 H A W 𝓣 E G108 G109 b70 Δ4 (λ Ψ. Ψ) (at99 bs)
-              (Lifetime.g-end 𝓤 H A W E G108 21 Path.refl) d99
+          d100 : Typed.Typed 𝓤 H A 𝓣 E G106 b69 Δ4 at100
+          d100 = Typed.g-pre 𝓤 H A W 𝓣 E G106 G107 b69 Δ4 (λ Ψ. Ψ) at99 (Lifetime.g-end 𝓤 H A W E G106 21 Path.refl)
+              d99
 
-          d101 : Typed.Typed 𝓤 H A 𝓣 E G107 b70 Δ4 (at101 bs)
-          d101 = Typed.g-pre 𝓤 H A W 𝓣 E G107 G108 b70 Δ4 (Typed.pass T107 T108 (s104 bs)) (at100 bs) (Scalar.g-room 𝓤
-              H A W E G107 6 Laws''.mir (Local.room-whole 𝓤 H A W (Declared.row Request.the-type) Laws''.mir Path.refl))
-              d100
+          d101 : Typed.Typed 𝓤 H A 𝓣 E G105 b69 Δ4 at101
+          d101 = Typed.g-pre 𝓤 H A W 𝓣 E G105 G106 b69 Δ4 (Typed.pass T105 T106 s102) at100 (Scalar.g-room 𝓤 H A W E
+              G105 6 Laws''.mir (Local.room-whole 𝓤 H A W (Declared.row Request.the-type) Laws''.mir Path.refl)) d100
 
-          d102 : Typed.Typed 𝓤 H A 𝓣 E G106 b71 Δ4 (at102 bs)
-          d102 = Typed.s-seq 𝓤 H A W 𝓣 E G106 G107 b69 b70 Δ4 (Typed.both (s103 bs)) (at101 bs) (Plain.t-call-plain 𝓤 H
-              A W 𝓣 4 ps·3 r·3 (claims· .6) (claims· .7) "hnsr_circuit::messages::handle_window::handle_window"
-              (known .3) E (λ pos β. β) G106 (
-                record { pos = 40; ty = ref1; ref = λ x. x },
+          d102 : Typed.Typed 𝓤 H A 𝓣 E G104 b70 Δ4 at102
+          d102 = Typed.s-seq 𝓤 H A W 𝓣 E G104 G105 b68 b69 Δ4 (Typed.both s101) at101 (Plain.t-call-plain 𝓤 H A W 𝓣 4
+              ps·3 r·3 (claims· .6) (claims· .7) "hnsr_circuit::messages::handle_window::handle_window" (known .3) E
+              (λ pos β. β) G104 (
+                record { pos = 39; ty = ref1; ref = λ x. x },
                 (
-                  record { pos = 42; ty = ref3; ref = λ x. x },
+                  record { pos = 41; ty = ref3; ref = λ x. x },
                   (
-                    record { pos = 44; ty = ref4; ref = λ x. x },
+                    record { pos = 43; ty = ref4; ref = λ x. x },
                     (
                       record { pos = 6; st = List.[]; d = 0; at = λ x. x },
                       (record { pos = 7; ty = ref10; ref = λ x. x }, tt),
                     ),
                   ),
                 ),
-              ) 12 (21 ∷ 22 ∷ 23 ∷ 5 ∷ List.[]) (Call.sub-id 𝓤 H A W (G106 .slots)) (
+              ) 11 (21 ∷ 22 ∷ 23 ∷ 5 ∷ List.[]) (Call.sub-id 𝓤 H A W (G104 .slots)) (
                 Reads'.as-is 𝓤 H A (Mut.mslice RelayCircuit.row ref1 21),
                 Mut.reads-mslice 𝓤 H A W RelayCircuit.row ref1 21,
                 Path.refl,
@@ -7041,24 +6934,24 @@ module _ (claims· : Claims) where
                 ),
               ) (Reads'.room-gone 𝓤 H A Laws'.mir) (tt, (tt, (tt, (tt, tt)))) Path.refl) d101
 
-          d103 : Typed.Typed 𝓤 H A 𝓣 E G105 b72 Δ4 (at103 bs)
-          d103 = Typed.s-seq 𝓤 H A W 𝓣 E G105 G106 b68 b71 Δ4 (Typed.ask (s102 bs)) (at102 bs) (Relend.t-sl-aggregate 𝓤
-              H A W E (Referent.rtF (Referent.fInt Syntax.w32)) 𝓣
-              (Relend.asMut (Referent.rtF (Referent.fInt Syntax.w32))) G105 43 44 23 ref4 ref4 (λ x. x) (Scalar.oFld 5
-              ((Syntax.field 1) ∷ List.[]) (Syntax.tyInt Syntax.w64) 8 λ v. Shared.lenV (v .0)) (Reads'.as-is 𝓤 H A (Relend.msptr
-              (Referent.rtF (Referent.fInt Syntax.w32)) ref4 23)) (Reads'.room-gone 𝓤 H A slice4) (
+          d103 : Typed.Typed 𝓤 H A 𝓣 E G103 b71 Δ4 at103
+          d103 = Typed.s-seq 𝓤 H A W 𝓣 E G103 G104 b67 b70 Δ4 (Typed.ask s100) at102 (Relend.t-sl-aggregate 𝓤 H A W E
+              (Referent.rtF (Referent.fInt Syntax.w32)) 𝓣 (Relend.asMut (Referent.rtF (Referent.fInt Syntax.w32))) G103
+              42 43 23 ref4 ref4 (λ x. x) (Scalar.oFld 5 ((Syntax.field 1) ∷ List.[]) (Syntax.tyInt Syntax.w64) 8 λ v.
+              Shared.lenV (v .0)) (Reads'.as-is 𝓤 H A (Relend.msptr (Referent.rtF (Referent.fInt Syntax.w32)) ref4 23))
+              (Reads'.room-gone 𝓤 H A slice4) (
                 Relend.reads-owed-len 𝓤 H A W (Referent.rtF (Referent.fInt Syntax.w32)) ref9 4 23 life4 8 Path.refl,
                 Path.refl,
               ) Path.refl Path.refl λ b o k. tt) d102
 
-          d104 : Typed.Typed 𝓤 H A 𝓣 E G104 b73 Δ4 (at104 bs)
-          d104 = Typed.s-seq 𝓤 H A W 𝓣 E G104 G105 b67 b72 Δ4 (Typed.give (s101 bs)) (at103 bs) (Relend.t-sl-relend 𝓤 H
-              A W E (Referent.rtF (Referent.fInt Syntax.w32)) 𝓣 G104 5 43 4 23 ref9 ref4 life4 0 (λ x. x) (Reads'.as-is
-              𝓤 H A (Mut.mslice (Referent.rtF (Referent.fInt Syntax.w32)) ref9 4)) (Reads'.room-gone 𝓤 H A ref4)
-              Path.refl tt Path.refl Path.refl Path.refl λ b o. tt) d103
+          d104 : Typed.Typed 𝓤 H A 𝓣 E G102 b72 Δ4 at104
+          d104 = Typed.s-seq 𝓤 H A W 𝓣 E G102 G103 b66 b71 Δ4 (Typed.give s99) at103 (Relend.t-sl-relend 𝓤 H A W E
+              (Referent.rtF (Referent.fInt Syntax.w32)) 𝓣 G102 5 42 4 23 ref9 ref4 life4 0 (λ x. x) (Reads'.as-is 𝓤 H A (Mut.mslice
+              (Referent.rtF (Referent.fInt Syntax.w32)) ref9 4)) (Reads'.room-gone 𝓤 H A ref4) Path.refl tt Path.refl
+              Path.refl Path.refl λ b o. tt) d103
 
-          d105 : Typed.Typed 𝓤 H A 𝓣 E G103 b73 Δ4 (at105 bs)
-          d105 = Typed.g-pre 𝓤 H A W 𝓣 E G103 G104 b73 Δ4 (λ Ψ. Ψ) (at104 bs) (Lifetime.g-begin 𝓤 H A W E G103 23 (
+          d105 : Typed.Typed 𝓤 H A 𝓣 E G101 b72 Δ4 at105
+          d105 = Typed.g-pre 𝓤 H A W 𝓣 E G101 G102 b72 Δ4 (λ Ψ. Ψ) at104 (Lifetime.g-begin 𝓤 H A W E G101 23 (
             tt,
             (
               tt,
@@ -7164,10 +7057,7 @@ module _ (claims· : Claims) where
                                                                                                                   tt,
                                                                                                                   (
                                                                                                                     tt,
-                                                                                                                    (
-                                                                                                                      tt,
-                                                                                                                      tt,
-                                                                                                                    ),
+                                                                                                                    tt,
                                                                                                                   ),
                                                                                                                 ),
                                                                                                               ),
@@ -7222,23 +7112,23 @@ module _ (claims· : Claims) where
             ),
           )) d104
 
-          d106 : Typed.Typed 𝓤 H A 𝓣 E G102 b74 Δ4 (at106 bs)
-          d106 = Typed.s-seq 𝓤 H A W 𝓣 E G102 G103 b66 b73 Δ4 (Typed.ask (s99 bs)) (at105 bs) (Relend.t-sl-aggregate 𝓤
-              H A W E InflightAction.row 𝓣 (Relend.asMut InflightAction.row) G102 41 42 22 ref3 ref3 (λ x. x) (Scalar.oFld
-              4 ((Syntax.field 1) ∷ List.[]) (Syntax.tyInt Syntax.w64) 8 λ v. Shared.lenV (v .0)) (Reads'.as-is 𝓤 H A
+          d106 : Typed.Typed 𝓤 H A 𝓣 E G100 b73 Δ4 at106
+          d106 = Typed.s-seq 𝓤 H A W 𝓣 E G100 G101 b65 b72 Δ4 (Typed.ask s97) at105 (Relend.t-sl-aggregate 𝓤 H A W E
+              InflightAction.row 𝓣 (Relend.asMut InflightAction.row) G100 40 41 22 ref3 ref3 (λ x. x) (Scalar.oFld 4
+              ((Syntax.field 1) ∷ List.[]) (Syntax.tyInt Syntax.w64) 8 λ v. Shared.lenV (v .0)) (Reads'.as-is 𝓤 H A
               (Relend.msptr InflightAction.row ref3 22)) (Reads'.room-gone 𝓤 H A slice3) (
                 Relend.reads-owed-len 𝓤 H A W InflightAction.row ref8 3 22 life3 8 Path.refl,
                 Path.refl,
               ) Path.refl Path.refl λ b o k. tt) d105
 
-          d107 : Typed.Typed 𝓤 H A 𝓣 E G101 b75 Δ4 (at107 bs)
-          d107 = Typed.s-seq 𝓤 H A W 𝓣 E G101 G102 b65 b74 Δ4 (Typed.give (s98 bs)) (at106 bs) (Relend.t-sl-relend 𝓤 H
-              A W E InflightAction.row 𝓣 G101 4 41 3 22 ref8 ref3 life3 0 (λ x. x)
+          d107 : Typed.Typed 𝓤 H A 𝓣 E G99 b74 Δ4 at107
+          d107 = Typed.s-seq 𝓤 H A W 𝓣 E G99 G100 b64 b73 Δ4 (Typed.give s96) at106 (Relend.t-sl-relend 𝓤 H A W E
+              InflightAction.row 𝓣 G99 4 40 3 22 ref8 ref3 life3 0 (λ x. x)
               (Reads'.as-is 𝓤 H A (Mut.mslice InflightAction.row ref8 3)) (Reads'.room-gone 𝓤 H A ref3) Path.refl tt
               Path.refl Path.refl Path.refl λ b o. tt) d106
 
-          d108 : Typed.Typed 𝓤 H A 𝓣 E G100 b75 Δ4 (at108 bs)
-          d108 = Typed.g-pre 𝓤 H A W 𝓣 E G100 G101 b75 Δ4 (λ Ψ. Ψ) (at107 bs) (Lifetime.g-begin 𝓤 H A W E G100 22 (
+          d108 : Typed.Typed 𝓤 H A 𝓣 E G98 b74 Δ4 at108
+          d108 = Typed.g-pre 𝓤 H A W 𝓣 E G98 G99 b74 Δ4 (λ Ψ. Ψ) at107 (Lifetime.g-begin 𝓤 H A W E G98 22 (
             tt,
             (
               tt,
@@ -7344,10 +7234,7 @@ module _ (claims· : Claims) where
                                                                                                                   tt,
                                                                                                                   (
                                                                                                                     tt,
-                                                                                                                    (
-                                                                                                                      tt,
-                                                                                                                      tt,
-                                                                                                                    ),
+                                                                                                                    tt,
                                                                                                                   ),
                                                                                                                 ),
                                                                                                               ),
@@ -7402,23 +7289,23 @@ module _ (claims· : Claims) where
             ),
           )) d107
 
-          d109 : Typed.Typed 𝓤 H A 𝓣 E G99 b76 Δ4 (at109 bs)
-          d109 = Typed.s-seq 𝓤 H A W 𝓣 E G99 G100 b64 b75 Δ4 (Typed.ask (s96 bs)) (at108 bs) (Relend.t-sl-aggregate 𝓤 H
-              A W E RelayCircuit.row 𝓣 (Relend.asMut RelayCircuit.row) G99 39 40 21 ref1 ref1 (λ x. x) (Scalar.oFld 2
+          d109 : Typed.Typed 𝓤 H A 𝓣 E G97 b75 Δ4 at109
+          d109 = Typed.s-seq 𝓤 H A W 𝓣 E G97 G98 b63 b74 Δ4 (Typed.ask s94) at108 (Relend.t-sl-aggregate 𝓤 H A W E
+              RelayCircuit.row 𝓣 (Relend.asMut RelayCircuit.row) G97 38 39 21 ref1 ref1 (λ x. x) (Scalar.oFld 2
               ((Syntax.field 1) ∷ List.[]) (Syntax.tyInt Syntax.w64) 8 λ v. Shared.lenV (v .0)) (Reads'.as-is 𝓤 H A
               (Relend.msptr RelayCircuit.row ref1 21)) (Reads'.room-gone 𝓤 H A slice1) (
                 Relend.reads-owed-len 𝓤 H A W RelayCircuit.row ref6 1 21 life1 8 Path.refl,
                 Path.refl,
               ) Path.refl Path.refl λ b o k. tt) d108
 
-          d110 : Typed.Typed 𝓤 H A 𝓣 E G98 b77 Δ4 (at110 bs)
-          d110 = Typed.s-seq 𝓤 H A W 𝓣 E G98 G99 b63 b76 Δ4 (Typed.give (s95 bs)) (at109 bs) (Relend.t-sl-relend 𝓤 H A
-              W E RelayCircuit.row 𝓣 G98 2 39 1 21 ref6 ref1 life1 0 (λ x. x)
+          d110 : Typed.Typed 𝓤 H A 𝓣 E G96 b76 Δ4 at110
+          d110 = Typed.s-seq 𝓤 H A W 𝓣 E G96 G97 b62 b75 Δ4 (Typed.give s93) at109 (Relend.t-sl-relend 𝓤 H A W E
+              RelayCircuit.row 𝓣 G96 2 38 1 21 ref6 ref1 life1 0 (λ x. x)
               (Reads'.as-is 𝓤 H A (Mut.mslice RelayCircuit.row ref6 1)) (Reads'.room-gone 𝓤 H A ref1) Path.refl tt
               Path.refl Path.refl Path.refl λ b o. tt) d109
 
-          d111 : Typed.Typed 𝓤 H A 𝓣 E G9 b77 Δ4 (at111 bs)
-          d111 = Typed.g-pre 𝓤 H A W 𝓣 E G9 G98 b77 Δ4 (λ Ψ. Ψ) (at110 bs) (Lifetime.g-begin 𝓤 H A W E G9 21 (
+          d111 : Typed.Typed 𝓤 H A 𝓣 E G6 b76 Δ4 at111
+          d111 = Typed.g-pre 𝓤 H A W 𝓣 E G6 G96 b76 Δ4 (λ Ψ. Ψ) at110 (Lifetime.g-begin 𝓤 H A W E G6 21 (
             tt,
             (
               tt,
@@ -7524,10 +7411,7 @@ module _ (claims· : Claims) where
                                                                                                                   tt,
                                                                                                                   (
                                                                                                                     tt,
-                                                                                                                    (
-                                                                                                                      tt,
-                                                                                                                      tt,
-                                                                                                                    ),
+                                                                                                                    tt,
                                                                                                                   ),
                                                                                                                 ),
                                                                                                               ),
@@ -7582,107 +7466,106 @@ module _ (claims· : Claims) where
             ),
           )) d110
 
-          d112 : Typed.Typed 𝓤 H A 𝓣 E G9 b78 Δ4 (at112 bs)
+          d112 : Typed.Typed 𝓤 H A 𝓣 E G6 b77 Δ4 at112
           d112 = Typed.t-exit 𝓤 H A W 𝓣 E 0 Δ4 tt
 
-          d113 : Typed.Typed 𝓤 H A 𝓣 E G121 b80 Δ5 (at113 bs)
+          d113 : Typed.Typed 𝓤 H A 𝓣 E G119 b79 Δ5 at113
           d113 = Typed.t-exit 𝓤 H A W 𝓣 E 0 Δ5 tt
 
-          d114 : Typed.Typed 𝓤 H A 𝓣 E G119 b80 Δ5 (at114 bs)
-          d114 = Typed.g-pre 𝓤 H A W 𝓣 E G119 G121 b80 Δ5 (Typed.pass T119 T121 (s116 bs)) (at113 bs) (Scalar.g-room 𝓤
-              H A W E G119 45 Syntax.tyBool (Scalar.room-sc 𝓤 H A W Row.sBool)) d113
+          d114 : Typed.Typed 𝓤 H A 𝓣 E G117 b79 Δ5 at114
+          d114 = Typed.g-pre 𝓤 H A W 𝓣 E G117 G119 b79 Δ5 (Typed.pass T117 T119 s114) at113 (Scalar.g-room 𝓤 H A W E
+              G117 44 Syntax.tyBool (Scalar.room-sc 𝓤 H A W Row.sBool)) d113
 
-          d115 : Typed.Typed 𝓤 H A 𝓣 E G122 b81 Δ5 (at115 bs)
+          d115 : Typed.Typed 𝓤 H A 𝓣 E G120 b80 Δ5 at115
           d115 = Typed.t-skip 𝓤 H A W 𝓣 E Δ5 tt
 
-          d116 : Typed.Typed 𝓤 H A 𝓣 E G119 b81 Δ5 (at116 bs)
-          d116 = Typed.g-pre 𝓤 H A W 𝓣 E G119 G122 b81 Δ5 (Typed.pass T119 T122 (s117 bs)) (at115 bs) (Scalar.g-room 𝓤
-              H A W E G119 45 Syntax.tyBool (Scalar.room-sc 𝓤 H A W Row.sBool)) d115
+          d116 : Typed.Typed 𝓤 H A 𝓣 E G117 b80 Δ5 at116
+          d116 = Typed.g-pre 𝓤 H A W 𝓣 E G117 G120 b80 Δ5 (Typed.pass T117 T120 s115) at115 (Scalar.g-room 𝓤 H A W E
+              G117 44 Syntax.tyBool (Scalar.room-sc 𝓤 H A W Row.sBool)) d115
 
-          d117 : Typed.Typed 𝓤 H A 𝓣 E G119 b82 Δ5 (at117 bs)
-          d117 = Scalar.t-cond 𝓤 H A W E 𝓣 G119 45 (λ x. x) b80 b81 Δ5 (at114 bs) (at116 bs)
-              (Scalar.reads-sc 𝓤 H A W Row.sBool) Path.refl d114 d116
+          d117 : Typed.Typed 𝓤 H A 𝓣 E G117 b81 Δ5 at117
+          d117 = Scalar.t-cond 𝓤 H A W E 𝓣 G117 44 (λ x. x) b79 b80 Δ5 at114 at116 (Scalar.reads-sc 𝓤 H A W Row.sBool)
+              Path.refl d114 d116
 
-          d118 : Typed.Typed 𝓤 H A 𝓣 E G152 b93 Δ6 (at118 bs)
+          d118 : Typed.Typed 𝓤 H A 𝓣 E G150 b92 Δ6 at118
           d118 = Typed.t-exit 𝓤 H A W 𝓣 E 1 Δ6 tt
 
-          d119 : Typed.Typed 𝓤 H A 𝓣 E G151 b93 Δ6 (at119 bs)
-          d119 = Typed.g-pre 𝓤 H A W 𝓣 E G151 G152 b93 Δ6 (λ Ψ. Ψ) (at118 bs)
-              (Lifetime.g-forget 𝓤 H A W E G151 27 Row.dead Path.refl) d118
+          d119 : Typed.Typed 𝓤 H A 𝓣 E G149 b92 Δ6 at119
+          d119 = Typed.g-pre 𝓤 H A W 𝓣 E G149 G150 b92 Δ6 (λ Ψ. Ψ) at118
+              (Lifetime.g-forget 𝓤 H A W E G149 27 Row.dead Path.refl) d118
 
-          d120 : Typed.Typed 𝓤 H A 𝓣 E G150 b93 Δ6 (at120 bs)
-          d120 = Typed.g-pre 𝓤 H A W 𝓣 E G150 G151 b93 Δ6 (Typed.give (s145 bs)) (at119 bs) (Know.g-sl-known 𝓤 H A W
-              (Referent.fInt Syntax.w32) E G150 5 4 ref9 life4 0 (λ x. x) record { fits = Dec.lit< tt } (Reads'.as-is 𝓤
+          d120 : Typed.Typed 𝓤 H A 𝓣 E G148 b92 Δ6 at120
+          d120 = Typed.g-pre 𝓤 H A W 𝓣 E G148 G149 b92 Δ6 (Typed.give s143) at119 (Know.g-sl-known 𝓤 H A W
+              (Referent.fInt Syntax.w32) E G148 5 4 ref9 life4 0 (λ x. x) record { fits = Dec.lit< tt } (Reads'.as-is 𝓤
               H A (Mut.mslice (Referent.rtF (Referent.fInt Syntax.w32)) ref9 4)) Path.refl tt) d119
 
-          d121 : Typed.Typed 𝓤 H A 𝓣 E G149 b93 Δ6 (at121 bs)
-          d121 = Typed.g-pre 𝓤 H A W 𝓣 E G149 G150 b93 Δ6 (Typed.both (s144 bs)) (at120 bs) (Relend.g-back-sl 𝓤 H A W E
-              (Referent.rtF (Referent.fInt Syntax.w32)) G149 53 5 4 27 ref9 ref4 life4 (λ x. x) (λ x. x) (Reads'.as-is
+          d121 : Typed.Typed 𝓤 H A 𝓣 E G147 b92 Δ6 at121
+          d121 = Typed.g-pre 𝓤 H A W 𝓣 E G147 G148 b92 Δ6 (Typed.both s142) at120 (Relend.g-back-sl 𝓤 H A W E
+              (Referent.rtF (Referent.fInt Syntax.w32)) G147 52 5 4 27 ref9 ref4 life4 (λ x. x) (λ x. x) (Reads'.as-is
               𝓤 H A (Mut.msleft (Referent.rtF (Referent.fInt Syntax.w32)) ref4)) (Reads'.as-is 𝓤 H A (Relend.mslice-owed
               (Referent.rtF (Referent.fInt Syntax.w32)) ref9 4 27 life4)) Path.refl Path.refl) d120
 
-          d122 : Typed.Typed 𝓤 H A 𝓣 E G148 b93 Δ6 (at122 bs)
-          d122 = Typed.g-pre 𝓤 H A W 𝓣 E G148 G149 b93 Δ6 (λ Ψ. Ψ) (at121 bs)
-              (Lifetime.g-end 𝓤 H A W E G148 27 Path.refl) d121
+          d122 : Typed.Typed 𝓤 H A 𝓣 E G146 b92 Δ6 at122
+          d122 = Typed.g-pre 𝓤 H A W 𝓣 E G146 G147 b92 Δ6 (λ Ψ. Ψ) at121 (Lifetime.g-end 𝓤 H A W E G146 27 Path.refl)
+              d121
 
-          d123 : Typed.Typed 𝓤 H A 𝓣 E G147 b93 Δ6 (at123 bs)
-          d123 = Typed.g-pre 𝓤 H A W 𝓣 E G147 G148 b93 Δ6 (λ Ψ. Ψ) (at122 bs)
-              (Lifetime.g-forget 𝓤 H A W E G147 26 Row.dead Path.refl) d122
+          d123 : Typed.Typed 𝓤 H A 𝓣 E G145 b92 Δ6 at123
+          d123 = Typed.g-pre 𝓤 H A W 𝓣 E G145 G146 b92 Δ6 (λ Ψ. Ψ) at122
+              (Lifetime.g-forget 𝓤 H A W E G145 26 Row.dead Path.refl) d122
 
-          d124 : Typed.Typed 𝓤 H A 𝓣 E G146 b93 Δ6 (at124 bs)
-          d124 = Typed.g-pre 𝓤 H A W 𝓣 E G146 G147 b93 Δ6 (Typed.both (s141 bs)) (at123 bs) (Relend.g-back-sl 𝓤 H A W E
-              InflightAction.row G146 51 4 3 26 ref8 ref3 life3 (λ x. x) (λ x. x)
+          d124 : Typed.Typed 𝓤 H A 𝓣 E G144 b92 Δ6 at124
+          d124 = Typed.g-pre 𝓤 H A W 𝓣 E G144 G145 b92 Δ6 (Typed.both s139) at123 (Relend.g-back-sl 𝓤 H A W E
+              InflightAction.row G144 50 4 3 26 ref8 ref3 life3 (λ x. x) (λ x. x)
               (Reads'.as-is 𝓤 H A (Mut.msleft InflightAction.row ref3)) (Reads'.as-is 𝓤 H A
               (Relend.mslice-owed InflightAction.row ref8 3 26 life3)) Path.refl Path.refl) d123
 
-          d125 : Typed.Typed 𝓤 H A 𝓣 E G145 b93 Δ6 (at125 bs)
-          d125 = Typed.g-pre 𝓤 H A W 𝓣 E G145 G146 b93 Δ6 (λ Ψ. Ψ) (at124 bs)
-              (Lifetime.g-end 𝓤 H A W E G145 26 Path.refl) d124
+          d125 : Typed.Typed 𝓤 H A 𝓣 E G143 b92 Δ6 at125
+          d125 = Typed.g-pre 𝓤 H A W 𝓣 E G143 G144 b92 Δ6 (λ Ψ. Ψ) at124 (Lifetime.g-end 𝓤 H A W E G143 26 Path.refl)
+              d124
 
-          d126 : Typed.Typed 𝓤 H A 𝓣 E G144 b93 Δ6 (at126 bs)
-          d126 = Typed.g-pre 𝓤 H A W 𝓣 E G144 G145 b93 Δ6 (λ Ψ. Ψ) (at125 bs)
-              (Lifetime.g-forget 𝓤 H A W E G144 25 Row.dead Path.refl) d125
+          d126 : Typed.Typed 𝓤 H A 𝓣 E G142 b92 Δ6 at126
+          d126 = Typed.g-pre 𝓤 H A W 𝓣 E G142 G143 b92 Δ6 (λ Ψ. Ψ) at125
+              (Lifetime.g-forget 𝓤 H A W E G142 25 Row.dead Path.refl) d125
 
-          d127 : Typed.Typed 𝓤 H A 𝓣 E G143 b93 Δ6 (at127 bs)
-          d127 = Typed.g-pre 𝓤 H A W 𝓣 E G143 G144 b93 Δ6 (Typed.both (s138 bs)) (at126 bs) (Relend.g-back-sl 𝓤 H A W E
-              RelayCircuit.row G143 49 2 1 25 ref6 ref1 life1 (λ x. x) (λ x. x)
+          d127 : Typed.Typed 𝓤 H A 𝓣 E G141 b92 Δ6 at127
+          d127 = Typed.g-pre 𝓤 H A W 𝓣 E G141 G142 b92 Δ6 (Typed.both s136) at126 (Relend.g-back-sl 𝓤 H A W E
+              RelayCircuit.row G141 48 2 1 25 ref6 ref1 life1 (λ x. x) (λ x. x)
               (Reads'.as-is 𝓤 H A (Mut.msleft RelayCircuit.row ref1)) (Reads'.as-is 𝓤 H A
               (Relend.mslice-owed RelayCircuit.row ref6 1 25 life1)) Path.refl Path.refl) d126
 
-          d128 : Typed.Typed 𝓤 H A 𝓣 E G142 b93 Δ6 (at128 bs)
-          d128 = Typed.g-pre 𝓤 H A W 𝓣 E G142 G143 b93 Δ6 (λ Ψ. Ψ) (at127 bs)
-              (Lifetime.g-end 𝓤 H A W E G142 25 Path.refl) d127
+          d128 : Typed.Typed 𝓤 H A 𝓣 E G140 b92 Δ6 at128
+          d128 = Typed.g-pre 𝓤 H A W 𝓣 E G140 G141 b92 Δ6 (λ Ψ. Ψ) at127 (Lifetime.g-end 𝓤 H A W E G140 25 Path.refl)
+              d127
 
-          d129 : Typed.Typed 𝓤 H A 𝓣 E G141 b93 Δ6 (at129 bs)
-          d129 = Typed.g-pre 𝓤 H A W 𝓣 E G141 G142 b93 Δ6 (λ Ψ. Ψ) (at128 bs)
-              (Lifetime.g-forget 𝓤 H A W E G141 24 Row.dead Path.refl) d128
+          d129 : Typed.Typed 𝓤 H A 𝓣 E G139 b92 Δ6 at129
+          d129 = Typed.g-pre 𝓤 H A W 𝓣 E G139 G140 b92 Δ6 (λ Ψ. Ψ) at128
+              (Lifetime.g-forget 𝓤 H A W E G139 24 Row.dead Path.refl) d128
 
-          d130 : Typed.Typed 𝓤 H A 𝓣 E G140 b93 Δ6 (at130 bs)
-          d130 = Typed.g-pre 𝓤 H A W 𝓣 E G140 G141 b93 Δ6 (Typed.both (s135 bs)) (at129 bs) (Relend.g-back-sl 𝓤 H A W E
-              RelayPending.row G140 47 1 0 24 ref5 ref0 life0 (λ x. x) (λ x. x)
+          d130 : Typed.Typed 𝓤 H A 𝓣 E G138 b92 Δ6 at130
+          d130 = Typed.g-pre 𝓤 H A W 𝓣 E G138 G139 b92 Δ6 (Typed.both s133) at129 (Relend.g-back-sl 𝓤 H A W E
+              RelayPending.row G138 46 1 0 24 ref5 ref0 life0 (λ x. x) (λ x. x)
               (Reads'.as-is 𝓤 H A (Mut.msleft RelayPending.row ref0)) (Reads'.as-is 𝓤 H A
               (Relend.mslice-owed RelayPending.row ref5 0 24 life0)) Path.refl Path.refl) d129
 
-          d131 : Typed.Typed 𝓤 H A 𝓣 E G139 b93 Δ6 (at131 bs)
-          d131 = Typed.g-pre 𝓤 H A W 𝓣 E G139 G140 b93 Δ6 (λ Ψ. Ψ) (at130 bs)
-              (Lifetime.g-end 𝓤 H A W E G139 24 Path.refl) d130
+          d131 : Typed.Typed 𝓤 H A 𝓣 E G137 b92 Δ6 at131
+          d131 = Typed.g-pre 𝓤 H A W 𝓣 E G137 G138 b92 Δ6 (λ Ψ. Ψ) at130 (Lifetime.g-end 𝓤 H A W E G137 24 Path.refl)
+              d130
 
-          d132 : Typed.Typed 𝓤 H A 𝓣 E G138 b93 Δ6 (at132 bs)
-          d132 = Typed.g-pre 𝓤 H A W 𝓣 E G138 G139 b93 Δ6 (Typed.pass T138 T139 (s133 bs)) (at131 bs) (Scalar.g-room 𝓤
-              H A W E G138 6 Laws''.mir (Local.room-whole 𝓤 H A W (Declared.row Request.the-type) Laws''.mir Path.refl))
-              d131
+          d132 : Typed.Typed 𝓤 H A 𝓣 E G136 b92 Δ6 at132
+          d132 = Typed.g-pre 𝓤 H A W 𝓣 E G136 G137 b92 Δ6 (Typed.pass T136 T137 s131) at131 (Scalar.g-room 𝓤 H A W E
+              G136 6 Laws''.mir (Local.room-whole 𝓤 H A W (Declared.row Request.the-type) Laws''.mir Path.refl)) d131
 
-          d133 : Typed.Typed 𝓤 H A 𝓣 E G137 b94 Δ6 (at133 bs)
-          d133 = Typed.s-seq 𝓤 H A W 𝓣 E G137 G138 b92 b93 Δ6 (Typed.both (s132 bs)) (at132 bs) (Plain.t-call-plain 𝓤 H
-              A W 𝓣 5 ps·4 r·4 (claims· .8) (claims· .9) "hnsr_circuit::messages::handle_close::handle_close"
-              (known .4) E (λ pos β. β) G137 (
-                record { pos = 47; ty = ref0; ref = λ x. x },
+          d133 : Typed.Typed 𝓤 H A 𝓣 E G135 b93 Δ6 at133
+          d133 = Typed.s-seq 𝓤 H A W 𝓣 E G135 G136 b91 b92 Δ6 (Typed.both s130) at132 (Plain.t-call-plain 𝓤 H A W 𝓣 5
+              ps·4 r·4 (claims· .8) (claims· .9) "hnsr_circuit::messages::handle_close::handle_close" (known .4) E
+              (λ pos β. β) G135 (
+                record { pos = 46; ty = ref0; ref = λ x. x },
                 (
-                  record { pos = 49; ty = ref1; ref = λ x. x },
+                  record { pos = 48; ty = ref1; ref = λ x. x },
                   (
-                    record { pos = 51; ty = ref3; ref = λ x. x },
+                    record { pos = 50; ty = ref3; ref = λ x. x },
                     (
-                      record { pos = 53; ty = ref4; ref = λ x. x },
+                      record { pos = 52; ty = ref4; ref = λ x. x },
                       (
                         record { pos = 6; st = List.[]; d = 0; at = λ x. x },
                         (record { pos = 7; ty = ref10; ref = λ x. x }, tt),
@@ -7690,7 +7573,7 @@ module _ (claims· : Claims) where
                     ),
                   ),
                 ),
-              ) 12 (24 ∷ 25 ∷ 26 ∷ 27 ∷ 5 ∷ List.[]) (Call.sub-id 𝓤 H A W (G137 .slots)) (
+              ) 11 (24 ∷ 25 ∷ 26 ∷ 27 ∷ 5 ∷ List.[]) (Call.sub-id 𝓤 H A W (G135 .slots)) (
                 Reads'.as-is 𝓤 H A (Mut.mslice RelayPending.row ref0 24),
                 Mut.reads-mslice 𝓤 H A W RelayPending.row ref0 24,
                 Path.refl,
@@ -7727,24 +7610,24 @@ module _ (claims· : Claims) where
                 ),
               ) (Reads'.room-gone 𝓤 H A Laws'.mir) (tt, (tt, (tt, (tt, (tt, tt))))) Path.refl) d132
 
-          d134 : Typed.Typed 𝓤 H A 𝓣 E G136 b95 Δ6 (at134 bs)
-          d134 = Typed.s-seq 𝓤 H A W 𝓣 E G136 G137 b91 b94 Δ6 (Typed.ask (s131 bs)) (at133 bs) (Relend.t-sl-aggregate 𝓤
-              H A W E (Referent.rtF (Referent.fInt Syntax.w32)) 𝓣
-              (Relend.asMut (Referent.rtF (Referent.fInt Syntax.w32))) G136 52 53 27 ref4 ref4 (λ x. x) (Scalar.oFld 5
-              ((Syntax.field 1) ∷ List.[]) (Syntax.tyInt Syntax.w64) 8 λ v. Shared.lenV (v .0)) (Reads'.as-is 𝓤 H A (Relend.msptr
-              (Referent.rtF (Referent.fInt Syntax.w32)) ref4 27)) (Reads'.room-gone 𝓤 H A slice4) (
+          d134 : Typed.Typed 𝓤 H A 𝓣 E G134 b94 Δ6 at134
+          d134 = Typed.s-seq 𝓤 H A W 𝓣 E G134 G135 b90 b93 Δ6 (Typed.ask s129) at133 (Relend.t-sl-aggregate 𝓤 H A W E
+              (Referent.rtF (Referent.fInt Syntax.w32)) 𝓣 (Relend.asMut (Referent.rtF (Referent.fInt Syntax.w32))) G134
+              51 52 27 ref4 ref4 (λ x. x) (Scalar.oFld 5 ((Syntax.field 1) ∷ List.[]) (Syntax.tyInt Syntax.w64) 8 λ v.
+              Shared.lenV (v .0)) (Reads'.as-is 𝓤 H A (Relend.msptr (Referent.rtF (Referent.fInt Syntax.w32)) ref4 27))
+              (Reads'.room-gone 𝓤 H A slice4) (
                 Relend.reads-owed-len 𝓤 H A W (Referent.rtF (Referent.fInt Syntax.w32)) ref9 4 27 life4 8 Path.refl,
                 Path.refl,
               ) Path.refl Path.refl λ b o k. tt) d133
 
-          d135 : Typed.Typed 𝓤 H A 𝓣 E G135 b96 Δ6 (at135 bs)
-          d135 = Typed.s-seq 𝓤 H A W 𝓣 E G135 G136 b90 b95 Δ6 (Typed.give (s130 bs)) (at134 bs) (Relend.t-sl-relend 𝓤 H
-              A W E (Referent.rtF (Referent.fInt Syntax.w32)) 𝓣 G135 5 52 4 27 ref9 ref4 life4 0 (λ x. x) (Reads'.as-is
-              𝓤 H A (Mut.mslice (Referent.rtF (Referent.fInt Syntax.w32)) ref9 4)) (Reads'.room-gone 𝓤 H A ref4)
-              Path.refl tt Path.refl Path.refl Path.refl λ b o. tt) d134
+          d135 : Typed.Typed 𝓤 H A 𝓣 E G133 b95 Δ6 at135
+          d135 = Typed.s-seq 𝓤 H A W 𝓣 E G133 G134 b89 b94 Δ6 (Typed.give s128) at134 (Relend.t-sl-relend 𝓤 H A W E
+              (Referent.rtF (Referent.fInt Syntax.w32)) 𝓣 G133 5 51 4 27 ref9 ref4 life4 0 (λ x. x) (Reads'.as-is 𝓤 H A (Mut.mslice
+              (Referent.rtF (Referent.fInt Syntax.w32)) ref9 4)) (Reads'.room-gone 𝓤 H A ref4) Path.refl tt Path.refl
+              Path.refl Path.refl λ b o. tt) d134
 
-          d136 : Typed.Typed 𝓤 H A 𝓣 E G134 b96 Δ6 (at136 bs)
-          d136 = Typed.g-pre 𝓤 H A W 𝓣 E G134 G135 b96 Δ6 (λ Ψ. Ψ) (at135 bs) (Lifetime.g-begin 𝓤 H A W E G134 27 (
+          d136 : Typed.Typed 𝓤 H A 𝓣 E G132 b95 Δ6 at136
+          d136 = Typed.g-pre 𝓤 H A W 𝓣 E G132 G133 b95 Δ6 (λ Ψ. Ψ) at135 (Lifetime.g-begin 𝓤 H A W E G132 27 (
             tt,
             (
               (tt, tt),
@@ -7850,10 +7733,7 @@ module _ (claims· : Claims) where
                                                                                                                   tt,
                                                                                                                   (
                                                                                                                     tt,
-                                                                                                                    (
-                                                                                                                      tt,
-                                                                                                                      tt,
-                                                                                                                    ),
+                                                                                                                    tt,
                                                                                                                   ),
                                                                                                                 ),
                                                                                                               ),
@@ -7908,23 +7788,23 @@ module _ (claims· : Claims) where
             ),
           )) d135
 
-          d137 : Typed.Typed 𝓤 H A 𝓣 E G133 b97 Δ6 (at137 bs)
-          d137 = Typed.s-seq 𝓤 H A W 𝓣 E G133 G134 b89 b96 Δ6 (Typed.ask (s128 bs)) (at136 bs) (Relend.t-sl-aggregate 𝓤
-              H A W E InflightAction.row 𝓣 (Relend.asMut InflightAction.row) G133 50 51 26 ref3 ref3 (λ x. x) (Scalar.oFld
-              4 ((Syntax.field 1) ∷ List.[]) (Syntax.tyInt Syntax.w64) 8 λ v. Shared.lenV (v .0)) (Reads'.as-is 𝓤 H A
+          d137 : Typed.Typed 𝓤 H A 𝓣 E G131 b96 Δ6 at137
+          d137 = Typed.s-seq 𝓤 H A W 𝓣 E G131 G132 b88 b95 Δ6 (Typed.ask s126) at136 (Relend.t-sl-aggregate 𝓤 H A W E
+              InflightAction.row 𝓣 (Relend.asMut InflightAction.row) G131 49 50 26 ref3 ref3 (λ x. x) (Scalar.oFld 4
+              ((Syntax.field 1) ∷ List.[]) (Syntax.tyInt Syntax.w64) 8 λ v. Shared.lenV (v .0)) (Reads'.as-is 𝓤 H A
               (Relend.msptr InflightAction.row ref3 26)) (Reads'.room-gone 𝓤 H A slice3) (
                 Relend.reads-owed-len 𝓤 H A W InflightAction.row ref8 3 26 life3 8 Path.refl,
                 Path.refl,
               ) Path.refl Path.refl λ b o k. tt) d136
 
-          d138 : Typed.Typed 𝓤 H A 𝓣 E G132 b98 Δ6 (at138 bs)
-          d138 = Typed.s-seq 𝓤 H A W 𝓣 E G132 G133 b88 b97 Δ6 (Typed.give (s127 bs)) (at137 bs) (Relend.t-sl-relend 𝓤 H
-              A W E InflightAction.row 𝓣 G132 4 50 3 26 ref8 ref3 life3 0 (λ x. x)
+          d138 : Typed.Typed 𝓤 H A 𝓣 E G130 b97 Δ6 at138
+          d138 = Typed.s-seq 𝓤 H A W 𝓣 E G130 G131 b87 b96 Δ6 (Typed.give s125) at137 (Relend.t-sl-relend 𝓤 H A W E
+              InflightAction.row 𝓣 G130 4 49 3 26 ref8 ref3 life3 0 (λ x. x)
               (Reads'.as-is 𝓤 H A (Mut.mslice InflightAction.row ref8 3)) (Reads'.room-gone 𝓤 H A ref3) Path.refl tt
               Path.refl Path.refl Path.refl λ b o. tt) d137
 
-          d139 : Typed.Typed 𝓤 H A 𝓣 E G131 b98 Δ6 (at139 bs)
-          d139 = Typed.g-pre 𝓤 H A W 𝓣 E G131 G132 b98 Δ6 (λ Ψ. Ψ) (at138 bs) (Lifetime.g-begin 𝓤 H A W E G131 26 (
+          d139 : Typed.Typed 𝓤 H A 𝓣 E G129 b97 Δ6 at139
+          d139 = Typed.g-pre 𝓤 H A W 𝓣 E G129 G130 b97 Δ6 (λ Ψ. Ψ) at138 (Lifetime.g-begin 𝓤 H A W E G129 26 (
             tt,
             (
               (tt, tt),
@@ -8030,10 +7910,7 @@ module _ (claims· : Claims) where
                                                                                                                   tt,
                                                                                                                   (
                                                                                                                     tt,
-                                                                                                                    (
-                                                                                                                      tt,
-                                                                                                                      tt,
-                                                                                                                    ),
+                                                                                                                    tt,
                                                                                                                   ),
                                                                                                                 ),
                                                                                                               ),
@@ -8088,23 +7965,23 @@ module _ (claims· : Claims) where
             ),
           )) d138
 
-          d140 : Typed.Typed 𝓤 H A 𝓣 E G130 b99 Δ6 (at140 bs)
-          d140 = Typed.s-seq 𝓤 H A W 𝓣 E G130 G131 b87 b98 Δ6 (Typed.ask (s125 bs)) (at139 bs) (Relend.t-sl-aggregate 𝓤
-              H A W E RelayCircuit.row 𝓣 (Relend.asMut RelayCircuit.row) G130 48 49 25 ref1 ref1 (λ x. x) (Scalar.oFld
-              2 ((Syntax.field 1) ∷ List.[]) (Syntax.tyInt Syntax.w64) 8 λ v. Shared.lenV (v .0)) (Reads'.as-is 𝓤 H A
+          d140 : Typed.Typed 𝓤 H A 𝓣 E G128 b98 Δ6 at140
+          d140 = Typed.s-seq 𝓤 H A W 𝓣 E G128 G129 b86 b97 Δ6 (Typed.ask s123) at139 (Relend.t-sl-aggregate 𝓤 H A W E
+              RelayCircuit.row 𝓣 (Relend.asMut RelayCircuit.row) G128 47 48 25 ref1 ref1 (λ x. x) (Scalar.oFld 2
+              ((Syntax.field 1) ∷ List.[]) (Syntax.tyInt Syntax.w64) 8 λ v. Shared.lenV (v .0)) (Reads'.as-is 𝓤 H A
               (Relend.msptr RelayCircuit.row ref1 25)) (Reads'.room-gone 𝓤 H A slice1) (
                 Relend.reads-owed-len 𝓤 H A W RelayCircuit.row ref6 1 25 life1 8 Path.refl,
                 Path.refl,
               ) Path.refl Path.refl λ b o k. tt) d139
 
-          d141 : Typed.Typed 𝓤 H A 𝓣 E G129 b100 Δ6 (at141 bs)
-          d141 = Typed.s-seq 𝓤 H A W 𝓣 E G129 G130 b86 b99 Δ6 (Typed.give (s124 bs)) (at140 bs) (Relend.t-sl-relend 𝓤 H
-              A W E RelayCircuit.row 𝓣 G129 2 48 1 25 ref6 ref1 life1 0 (λ x. x)
+          d141 : Typed.Typed 𝓤 H A 𝓣 E G127 b99 Δ6 at141
+          d141 = Typed.s-seq 𝓤 H A W 𝓣 E G127 G128 b85 b98 Δ6 (Typed.give s122) at140 (Relend.t-sl-relend 𝓤 H A W E
+              RelayCircuit.row 𝓣 G127 2 47 1 25 ref6 ref1 life1 0 (λ x. x)
               (Reads'.as-is 𝓤 H A (Mut.mslice RelayCircuit.row ref6 1)) (Reads'.room-gone 𝓤 H A ref1) Path.refl tt
               Path.refl Path.refl Path.refl λ b o. tt) d140
 
-          d142 : Typed.Typed 𝓤 H A 𝓣 E G128 b100 Δ6 (at142 bs)
-          d142 = Typed.g-pre 𝓤 H A W 𝓣 E G128 G129 b100 Δ6 (λ Ψ. Ψ) (at141 bs) (Lifetime.g-begin 𝓤 H A W E G128 25 (
+          d142 : Typed.Typed 𝓤 H A 𝓣 E G126 b99 Δ6 at142
+          d142 = Typed.g-pre 𝓤 H A W 𝓣 E G126 G127 b99 Δ6 (λ Ψ. Ψ) at141 (Lifetime.g-begin 𝓤 H A W E G126 25 (
             tt,
             (
               (tt, tt),
@@ -8210,10 +8087,7 @@ module _ (claims· : Claims) where
                                                                                                                   tt,
                                                                                                                   (
                                                                                                                     tt,
-                                                                                                                    (
-                                                                                                                      tt,
-                                                                                                                      tt,
-                                                                                                                    ),
+                                                                                                                    tt,
                                                                                                                   ),
                                                                                                                 ),
                                                                                                               ),
@@ -8268,23 +8142,23 @@ module _ (claims· : Claims) where
             ),
           )) d141
 
-          d143 : Typed.Typed 𝓤 H A 𝓣 E G127 b101 Δ6 (at143 bs)
-          d143 = Typed.s-seq 𝓤 H A W 𝓣 E G127 G128 b85 b100 Δ6 (Typed.ask (s122 bs)) (at142 bs) (Relend.t-sl-aggregate
-              𝓤 H A W E RelayPending.row 𝓣 (Relend.asMut RelayPending.row) G127 46 47 24 ref0 ref0 (λ x. x) (Scalar.oFld
-              1 ((Syntax.field 1) ∷ List.[]) (Syntax.tyInt Syntax.w64) 8 λ v. Shared.lenV (v .0)) (Reads'.as-is 𝓤 H A
+          d143 : Typed.Typed 𝓤 H A 𝓣 E G125 b100 Δ6 at143
+          d143 = Typed.s-seq 𝓤 H A W 𝓣 E G125 G126 b84 b99 Δ6 (Typed.ask s120) at142 (Relend.t-sl-aggregate 𝓤 H A W E
+              RelayPending.row 𝓣 (Relend.asMut RelayPending.row) G125 45 46 24 ref0 ref0 (λ x. x) (Scalar.oFld 1
+              ((Syntax.field 1) ∷ List.[]) (Syntax.tyInt Syntax.w64) 8 λ v. Shared.lenV (v .0)) (Reads'.as-is 𝓤 H A
               (Relend.msptr RelayPending.row ref0 24)) (Reads'.room-gone 𝓤 H A slice0) (
                 Relend.reads-owed-len 𝓤 H A W RelayPending.row ref5 0 24 life0 8 Path.refl,
                 Path.refl,
               ) Path.refl Path.refl λ b o k. tt) d142
 
-          d144 : Typed.Typed 𝓤 H A 𝓣 E G126 b102 Δ6 (at144 bs)
-          d144 = Typed.s-seq 𝓤 H A W 𝓣 E G126 G127 b84 b101 Δ6 (Typed.give (s121 bs)) (at143 bs) (Relend.t-sl-relend 𝓤
-              H A W E RelayPending.row 𝓣 G126 1 46 0 24 ref5 ref0 life0 0 (λ x. x)
+          d144 : Typed.Typed 𝓤 H A 𝓣 E G124 b101 Δ6 at144
+          d144 = Typed.s-seq 𝓤 H A W 𝓣 E G124 G125 b83 b100 Δ6 (Typed.give s119) at143 (Relend.t-sl-relend 𝓤 H A W E
+              RelayPending.row 𝓣 G124 1 45 0 24 ref5 ref0 life0 0 (λ x. x)
               (Reads'.as-is 𝓤 H A (Mut.mslice RelayPending.row ref5 0)) (Reads'.room-gone 𝓤 H A ref0) Path.refl tt
               Path.refl Path.refl Path.refl λ b o. tt) d143
 
-          d145 : Typed.Typed 𝓤 H A 𝓣 E G125 b102 Δ6 (at145 bs)
-          d145 = Typed.g-pre 𝓤 H A W 𝓣 E G125 G126 b102 Δ6 (λ Ψ. Ψ) (at144 bs) (Lifetime.g-begin 𝓤 H A W E G125 24 (
+          d145 : Typed.Typed 𝓤 H A 𝓣 E G123 b101 Δ6 at145
+          d145 = Typed.g-pre 𝓤 H A W 𝓣 E G123 G124 b101 Δ6 (λ Ψ. Ψ) at144 (Lifetime.g-begin 𝓤 H A W E G123 24 (
             tt,
             (
               tt,
@@ -8390,10 +8264,7 @@ module _ (claims· : Claims) where
                                                                                                                   tt,
                                                                                                                   (
                                                                                                                     tt,
-                                                                                                                    (
-                                                                                                                      tt,
-                                                                                                                      tt,
-                                                                                                                    ),
+                                                                                                                    tt,
                                                                                                                   ),
                                                                                                                 ),
                                                                                                               ),
@@ -8448,63 +8319,60 @@ module _ (claims· : Claims) where
             ),
           )) d144
 
-          d146 : Typed.Typed 𝓤 H A 𝓣 E G123 b102 Δ6 (at146 bs)
-          d146 = Typed.g-pre 𝓤 H A W 𝓣 E G123 G125 b102 Δ6 (Typed.pass T123 T125 (s119 bs)) (at145 bs) (Scalar.g-room 𝓤
-              H A W E G123 45 Syntax.tyBool (Scalar.room-sc 𝓤 H A W Row.sBool)) d145
+          d146 : Typed.Typed 𝓤 H A 𝓣 E G121 b101 Δ6 at146
+          d146 = Typed.g-pre 𝓤 H A W 𝓣 E G121 G123 b101 Δ6 (Typed.pass T121 T123 s117) at145 (Scalar.g-room 𝓤 H A W E
+              G121 44 Syntax.tyBool (Scalar.room-sc 𝓤 H A W Row.sBool)) d145
 
-          d147 : Typed.Typed 𝓤 H A 𝓣 E G153 b103 Δ6 (at147 bs)
+          d147 : Typed.Typed 𝓤 H A 𝓣 E G151 b102 Δ6 at147
           d147 = Typed.t-skip 𝓤 H A W 𝓣 E Δ6 tt
 
-          d148 : Typed.Typed 𝓤 H A 𝓣 E G123 b103 Δ6 (at148 bs)
-          d148 = Typed.g-pre 𝓤 H A W 𝓣 E G123 G153 b103 Δ6 (Typed.pass T123 T153 (s147 bs)) (at147 bs) (Scalar.g-room 𝓤
-              H A W E G123 45 Syntax.tyBool (Scalar.room-sc 𝓤 H A W Row.sBool)) d147
+          d148 : Typed.Typed 𝓤 H A 𝓣 E G121 b102 Δ6 at148
+          d148 = Typed.g-pre 𝓤 H A W 𝓣 E G121 G151 b102 Δ6 (Typed.pass T121 T151 s145) at147 (Scalar.g-room 𝓤 H A W E
+              G121 44 Syntax.tyBool (Scalar.room-sc 𝓤 H A W Row.sBool)) d147
 
-          d149 : Typed.Typed 𝓤 H A 𝓣 E G123 b104 Δ6 (at149 bs)
-          d149 = Scalar.t-cond 𝓤 H A W E 𝓣 G123 45 (λ x. x) b102 b103 Δ6 (at146 bs) (at148 bs)
+          d149 : Typed.Typed 𝓤 H A 𝓣 E G121 b103 Δ6 at149
+          d149 = Scalar.t-cond 𝓤 H A W E 𝓣 G121 44 (λ x. x) b101 b102 Δ6 at146 at148
               (Scalar.reads-sc 𝓤 H A W Row.sBool) Path.refl d146 d148
 
-          d150 : Typed.Typed 𝓤 H A 𝓣 E G124 b105 Δ4 (at150 bs)
+          d150 : Typed.Typed 𝓤 H A 𝓣 E G122 b104 Δ4 at150
           d150 = Typed.t-exit 𝓤 H A W 𝓣 E 0 Δ4 tt
 
-          d151 : Typed.Typed 𝓤 H A 𝓣 E G123 b106 Δ4 (at151 bs)
-          d151 = Typed.t-seq 𝓤 H A W 𝓣 E G123 G124 b104 b105 Δ4 (at149 bs) (at150 bs) d149 d150
+          d151 : Typed.Typed 𝓤 H A 𝓣 E G121 b105 Δ4 at151
+          d151 = Typed.t-seq 𝓤 H A W 𝓣 E G121 G122 b103 b104 Δ4 at149 at150 d149 d150
 
-          d152 : Typed.Typed 𝓤 H A 𝓣 E G120 b107 Δ4 (at152 bs)
-          d152 = Typed.s-seq 𝓤 H A W 𝓣 E G120 G123 b83 b106 Δ4 (Typed.ask (s118 bs)) (at151 bs) (Scalar.t-op2 𝓤 H A W E
-              𝓣 G120 (Syntax.lt Syntax.unsigned) (Scalar.oAt 11 (Syntax.tyInt Syntax.w8)
-              (Row.valS (Row.sInt Syntax.w8))) (Scalar.oInt Syntax.w8 21) 45 (Rows.sc-here Row.sBool) Syntax.tyBool
-              (Row.valS Row.sBool) (Row.sBool .of) (Scalar.reads-sc 𝓤 H A W (Row.sInt Syntax.w8), Path.refl) tt
-              (Reads'.room-gone 𝓤 H A Syntax.tyBool) (Scalar.holds-sc 𝓤 H A W Row.sBool) Path.refl (λ u. Path.refl) λ
-              u. tt) d151
+          d152 : Typed.Typed 𝓤 H A 𝓣 E G118 b106 Δ4 at152
+          d152 = Typed.s-seq 𝓤 H A W 𝓣 E G118 G121 b82 b105 Δ4 (Typed.ask s116) at151 (Scalar.t-op2 𝓤 H A W E 𝓣 G118
+              (Syntax.lt Syntax.unsigned) (Scalar.oAt 10 (Syntax.tyInt Syntax.w8) (Row.valS (Row.sInt Syntax.w8)))
+              (Scalar.oInt Syntax.w8 21) 44 (Rows.sc-here Row.sBool) Syntax.tyBool (Row.valS Row.sBool) (Row.sBool .of)
+              (Scalar.reads-sc 𝓤 H A W (Row.sInt Syntax.w8), Path.refl) tt (Reads'.room-gone 𝓤 H A Syntax.tyBool)
+              (Scalar.holds-sc 𝓤 H A W Row.sBool) Path.refl (λ u. Path.refl) λ u. tt) d151
 
-          d153 : Typed.Typed 𝓤 H A 𝓣 E G119 b108 Δ4 (at153 bs)
-          d153 = Typed.t-seq 𝓤 H A W 𝓣 E G119 G120 b82 b107 Δ4 (at117 bs) (at152 bs) d117 d152
+          d153 : Typed.Typed 𝓤 H A 𝓣 E G117 b107 Δ4 at153
+          d153 = Typed.t-seq 𝓤 H A W 𝓣 E G117 G118 b81 b106 Δ4 at117 at152 d117 d152
 
-          d154 : Typed.Typed 𝓤 H A 𝓣 E G9 b109 Δ4 (at154 bs)
-          d154 = Typed.s-seq 𝓤 H A W 𝓣 E G9 G119 b79 b108 Δ4 (Typed.ask (s115 bs)) (at153 bs) (Scalar.t-op2 𝓤 H A W E 𝓣
-              G9 (Syntax.lt Syntax.unsigned) (Scalar.oAt 11 (Syntax.tyInt Syntax.w8) (Row.valS (Row.sInt Syntax.w8)))
-              (Scalar.oInt Syntax.w8 13) 45 (Rows.sc-here Row.sBool) Syntax.tyBool (Row.valS Row.sBool) (Row.sBool .of)
+          d154 : Typed.Typed 𝓤 H A 𝓣 E G6 b108 Δ4 at154
+          d154 = Typed.s-seq 𝓤 H A W 𝓣 E G6 G117 b78 b107 Δ4 (Typed.ask s113) at153 (Scalar.t-op2 𝓤 H A W E 𝓣 G6
+              (Syntax.lt Syntax.unsigned) (Scalar.oAt 10 (Syntax.tyInt Syntax.w8) (Row.valS (Row.sInt Syntax.w8)))
+              (Scalar.oInt Syntax.w8 13) 44 (Rows.sc-here Row.sBool) Syntax.tyBool (Row.valS Row.sBool) (Row.sBool .of)
               (Scalar.reads-sc 𝓤 H A W (Row.sInt Syntax.w8), Path.refl) tt (Reads'.room-gone 𝓤 H A Syntax.tyBool)
               (Scalar.holds-sc 𝓤 H A W Row.sBool) Path.refl (λ u. Path.refl) λ u. tt) d153
 
-          d155 : Typed.Typed 𝓤 H A 𝓣 E G9 b110 Δ4 (at155 bs)
-          d155 = Switch.t-switch 𝓤 H A W E 𝓣 G9 11 Syntax.w8 (λ x. x) (Syntax.arm (13 ∷ List.[]) b24 (Syntax.arm
-              (15 ∷ List.[]) b43 (Syntax.arm (17 ∷ List.[]) b62 (Syntax.arm (18 ∷ List.[]) b77 (Syntax.arm
-              (14 ∷ 16 ∷ List.[]) b78 (Syntax.default b109)))))) Δ4 (
-                at33 bs,
-                (at61 bs, (at89 bs, (at111 bs, (at112 bs, at154 bs)))),
-              ) (Scalar.reads-sc 𝓤 H A W (Row.sInt Syntax.w8)) Path.refl (d33, (d61, (d89, (d111, (d112, d154)))))
+          d155 : Typed.Typed 𝓤 H A 𝓣 E G6 b109 Δ4 at155
+          d155 = Switch.t-switch 𝓤 H A W E 𝓣 G6 10 Syntax.w8 (λ x. x) (Syntax.arm (13 ∷ List.[]) b23 (Syntax.arm
+              (15 ∷ List.[]) b42 (Syntax.arm (17 ∷ List.[]) b61 (Syntax.arm (18 ∷ List.[]) b76 (Syntax.arm
+              (14 ∷ 16 ∷ List.[]) b77 (Syntax.default b108)))))) Δ4 (at33, (at61, (at89, (at111, (at112, at154)))))
+              (Scalar.reads-sc 𝓤 H A W (Row.sInt Syntax.w8)) Path.refl (d33, (d61, (d89, (d111, (d112, d154)))))
 
-          d156 : Typed.Typed 𝓤 H A 𝓣 E G9 b111 Δ3 (at156 bs)
-          d156 = Typed.t-block 𝓤 H A W 𝓣 E G9 b110 Δ3 (at155 bs) d155
+          d156 : Typed.Typed 𝓤 H A 𝓣 E G6 b110 Δ3 at156
+          d156 = Typed.t-block 𝓤 H A W 𝓣 E G6 b109 Δ3 at155 d155
 
-          d157 : Typed.Typed 𝓤 H A 𝓣 E G10 b112 Δ2 (at157 bs)
+          d157 : Typed.Typed 𝓤 H A 𝓣 E G8 b111 Δ2 at157
           unfolding at157
-          d157 = Typed.s-typed 𝓤 H A W 𝓣 E G10 b112 Δ2 (λ Ψ. Typed.both (s148 bs) (Typed.pass T154 T155 (s149 bs) Ψ))
-              tt (Typed.g-post 𝓤 H A W 𝓣 E G10 G154 G155 b112 (Typed.both (s148 bs)) (Typed.pass T154 T155 (s149 bs)) (Plain.t-call-plain
-              𝓤 H A W 𝓣 0 ps·5 r·5 (claims· .10) (claims· .11) "hnsr_circuit::calls::handle::unexpected" (known .5) E
-              (λ pos β. β) G10 (record { pos = 6; st = List.[]; d = 0; at = λ x. x }, tt) 12 List.[]
-              (Call.sub-id 𝓤 H A W (G10 .slots)) (
+          d157 = Typed.s-typed 𝓤 H A W 𝓣 E G8 b111 Δ2 (λ Ψ. Typed.both s146 (Typed.pass T152 T153 s147 Ψ)) tt (Typed.g-post
+              𝓤 H A W 𝓣 E G8 G152 G153 b111 (Typed.both s146) (Typed.pass T152 T153 s147) (Plain.t-call-plain 𝓤 H A W 𝓣
+              0 ps·5 r·5 (claims· .10) (claims· .11) "hnsr_circuit::calls::handle::unexpected" (known .5) E
+              (λ pos β. β) G8 (record { pos = 6; st = List.[]; d = 0; at = λ x. x }, tt) 11 List.[]
+              (Call.sub-id 𝓤 H A W (G8 .slots)) (
                 (
                   Yields.yields-copy 𝓤 H A W (λ ρ. Unit) (Declared.row Request.the-type) Path.refl (Copies.cStruct
                       Request.the-type Laws''.the-laws Laws''.the-copy .copy 𝓤 H A W)
@@ -8514,120 +8382,77 @@ module _ (claims· : Claims) where
                   Path.refl,
                 ),
                 tt,
-              ) (Reads'.room-gone 𝓤 H A Laws'.mir) tt Path.refl) (Scalar.g-room 𝓤 H A W E G154 6 Laws''.mir (Local.room-whole
+              ) (Reads'.room-gone 𝓤 H A Laws'.mir) tt Path.refl) (Scalar.g-room 𝓤 H A W E G152 6 Laws''.mir (Local.room-whole
               𝓤 H A W (Declared.row Request.the-type) Laws''.mir Path.refl)))
 
-          d158 : Typed.Typed 𝓤 H A 𝓣 E G9 b113 Δ2 (at158 bs)
-          d158 = Typed.t-seq 𝓤 H A W 𝓣 E G9 G10 b111 b112 Δ2 (at156 bs) (at157 bs) d156 d157
+          d158 : Typed.Typed 𝓤 H A 𝓣 E G6 b112 Δ2 at158
+          d158 = Typed.t-seq 𝓤 H A W 𝓣 E G6 G8 b110 b111 Δ2 at156 at157 d156 d157
 
-          d159 : Typed.Typed 𝓤 H A 𝓣 E G9 b114 Δ1 (at159 bs)
-          d159 = Typed.t-block 𝓤 H A W 𝓣 E G9 b113 Δ1 (at158 bs) d158
+          d159 : Typed.Typed 𝓤 H A 𝓣 E G6 b113 Δ1 at159
+          d159 = Typed.t-block 𝓤 H A W 𝓣 E G6 b112 Δ1 at158 d158
 
-          d160 : Typed.Typed 𝓤 H A 𝓣 E G7 b114 Δ1 (at160 bs)
-          d160 = Typed.g-pre 𝓤 H A W 𝓣 E G7 G9 b114 Δ1 (Typed.pass T7 T9 (s6 bs)) (at159 bs) (Scalar.g-room 𝓤 H A W E
-              G7 10 Laws.mir (Local.room-whole 𝓤 H A W (Declared.row RelayPacket.the-type) Laws.mir Path.refl)) d159
+          d160 : Typed.Typed 𝓤 H A 𝓣 E G156 b115 Δ0 at160
+          d160 = Typed.t-return 𝓤 H A W 𝓣 E Δ0 tt
 
-          d161 : Typed.Typed 𝓤 H A 𝓣 E G158 b116 Δ0 (at161 bs)
-          d161 = Typed.t-return 𝓤 H A W 𝓣 E Δ0 tt
+          d161 : Typed.Typed 𝓤 H A 𝓣 E G155 b115 Δ0 at161
+          d161 = Typed.g-pre 𝓤 H A W 𝓣 E G155 G156 b115 Δ0 (Typed.pass T155 T156 s150) at160 (Scalar.g-room 𝓤 H A W E
+              G155 11 Laws'.mir (Local.room-whole 𝓤 H A W (Declared.row Relayed.the-type) Laws'.mir Path.refl)) d160
 
-          d162 : Typed.Typed 𝓤 H A 𝓣 E G157 b116 Δ0 (at162 bs)
-          d162 = Typed.g-pre 𝓤 H A W 𝓣 E G157 G158 b116 Δ0 (Typed.pass T157 T158 (s152 bs)) (at161 bs) (Scalar.g-room 𝓤
-              H A W E G157 12 Laws'.mir (Local.room-whole 𝓤 H A W (Declared.row Relayed.the-type) Laws'.mir Path.refl))
-              d161
+          d162 : Typed.Typed 𝓤 H A 𝓣 E G154 b115 Δ0 at162
+          d162 = Typed.g-pre 𝓤 H A W 𝓣 E G154 G155 b115 Δ0 (Typed.pass T154 T155 s149) at161 (Scalar.g-room 𝓤 H A W E
+              G154 10 (Syntax.tyInt Syntax.w8) (Scalar.room-sc 𝓤 H A W (Row.sInt Syntax.w8))) d161
 
-          d163 : Typed.Typed 𝓤 H A 𝓣 E G156 b116 Δ0 (at163 bs)
-          d163 = Typed.g-pre 𝓤 H A W 𝓣 E G156 G157 b116 Δ0 (Typed.pass T156 T157 (s151 bs)) (at162 bs) (Scalar.g-room 𝓤
-              H A W E G156 11 (Syntax.tyInt Syntax.w8) (Scalar.room-sc 𝓤 H A W (Row.sInt Syntax.w8))) d162
-
-          d164 : Typed.Typed 𝓤 H A 𝓣 E G8 b117 Δ0 (at164 bs)
-          d164 = Typed.s-seq 𝓤 H A W 𝓣 E G8 G156 b115 b116 Δ0 (Typed.pass T8 T156 (s150 bs)) (at163 bs) (LocalCopy.t-val-copy
-              𝓤 H A W E 𝓣 (λ ρ. Unit) G8 12 0 (Declared.row Relayed.the-type) Laws'.mir Laws'.mir
+          d163 : Typed.Typed 𝓤 H A 𝓣 E G7 b116 Δ0 at163
+          d163 = Typed.s-seq 𝓤 H A W 𝓣 E G7 G154 b114 b115 Δ0 (Typed.pass T7 T154 s148) at162 (LocalCopy.t-val-copy 𝓤 H
+              A W E 𝓣 (λ ρ. Unit) G7 11 0 (Declared.row Relayed.the-type) Laws'.mir Laws'.mir
               (Rows.whole (Declared.row Relayed.the-type)) (Rows.whole (Declared.row Relayed.the-type)) (λ x. x)
-              (λ x. x) (λ x. x) Path.refl (Own.told-none 𝓤 H A (G8 .slots)) (Yields.yields-copy 𝓤 H A W (λ ρ. Unit)
+              (λ x. x) (λ x. x) Path.refl (Own.told-none 𝓤 H A (G7 .slots)) (Yields.yields-copy 𝓤 H A W (λ ρ. Unit)
               (Declared.row Relayed.the-type) Path.refl (Copies.cStruct Relayed.the-type Laws'.the-laws Laws'.the-copy
               .copy 𝓤 H A W) (Rows.whole (Declared.row Relayed.the-type)) (λ x. x) (λ x. x) (λ ρ told. Local.mem-whole
               𝓤 H A W (Declared.row Relayed.the-type) ρ) λ ρ told. Local.whole-mem 𝓤 H A W
               (Declared.row Relayed.the-type) ρ) (Reads'.room-gone 𝓤 H A Laws'.mir) (Yields.makes-mem 𝓤 H A W
               (λ ρ. Unit) (Declared.row Relayed.the-type) Path.refl (Rows.whole (Declared.row Relayed.the-type))
-              (λ x. x) λ ρ told. Local.whole-mem 𝓤 H A W (Declared.row Relayed.the-type) ρ) Path.refl Path.refl) d163
+              (λ x. x) λ ρ told. Local.whole-mem 𝓤 H A W (Declared.row Relayed.the-type) ρ) Path.refl Path.refl) d162
 
-          d165 : Typed.Typed 𝓤 H A 𝓣 E G7 b118 Δ0 (at165 bs)
-          d165 = Typed.t-seq 𝓤 H A W 𝓣 E G7 G8 b114 b117 Δ0 (at160 bs) (at164 bs) d160 d164
+          d164 : Typed.Typed 𝓤 H A 𝓣 E G6 b117 Δ0 at164
+          d164 = Typed.t-seq 𝓤 H A W 𝓣 E G6 G7 b113 b116 Δ0 at159 at163 d159 d163
 
-          d166 : Typed.Typed 𝓤 H A 𝓣 E G6 b119 Δ0 (at166 bs)
-          d166 = Typed.s-seq 𝓤 H A W 𝓣 E G6 G7 b1 b118 Δ0 (Typed.pass T6 T7 (s5 bs)) (at165 bs) (Scalar.t-use 𝓤 H A W E
-              𝓣 G6 (Scalar.oFld 10 ((Syntax.field 0) ∷ List.[]) (Syntax.tyInt Syntax.w8) 0
-              (Reads.fieldV RelayPacket.the-type Laws.the-laws 0)) 11 (Rows.sc-here (Row.sInt Syntax.w8))
-              (Syntax.tyInt Syntax.w8) (Row.valS (Row.sInt Syntax.w8)) (Row.sInt Syntax.w8 .of) (
-                Reads.reads-field 𝓤 H A W RelayPacket.the-type Laws.the-laws 0 (Syntax.tyInt Syntax.w8) 0 Path.refl,
+          d165 : Typed.Typed 𝓤 H A 𝓣 E G5 b118 Δ0 at165
+          d165 = Typed.s-seq 𝓤 H A W 𝓣 E G5 G6 b0 b117 Δ0 (Typed.pass T5 T6 s4) at164 (Scalar.t-use 𝓤 H A W E 𝓣 G5 (Scalar.oFld
+              6 ((Syntax.field 2) ∷ (Syntax.field 0) ∷ List.[]) (Syntax.tyInt Syntax.w8) 192 λ x. Reads.fieldV
+              RelayPacket.the-type Laws.the-laws 0 (Request.struct .as-values x .1 .1 .0)) 10
+              (Rows.sc-here (Row.sInt Syntax.w8)) (Syntax.tyInt Syntax.w8) (Row.valS (Row.sInt Syntax.w8))
+              (Row.sInt Syntax.w8 .of) (
+                Reads.reads-inner 𝓤 H A W RelayPacket.the-type Laws.the-laws
+                    (Rows.whole (Declared.row Request.the-type)) 192 (λ x. Request.struct .as-values x .1 .1 .0) (Reads.reads-field
+                    𝓤 H A W Request.the-type Laws''.the-laws 2 Laws.mir 192 Path.refl) 0 (Syntax.tyInt Syntax.w8) 0
+                    Path.refl,
                 Path.refl,
               ) (Reads'.room-gone 𝓤 H A (Syntax.tyInt Syntax.w8)) (Scalar.holds-sc 𝓤 H A W (Row.sInt Syntax.w8))
-              Path.refl (λ u. Path.refl) λ u. tt) d165
+              Path.refl (λ u. Path.refl) λ u. tt) d164
 
-          d167 : Typed.Typed 𝓤 H A 𝓣 E G5 b120 Δ0 (at167 bs)
-          d167 = Typed.s-seq 𝓤 H A W 𝓣 E G5 G6 b0 b119 Δ0 (Typed.both (s4 bs)) (at166 bs) (WayStmt.t-way-copy-out 𝓤 H A
-              W E 𝓣 (Declared.row RelayPacket.the-type) Path.refl (Copies.cStruct RelayPacket.the-type Laws.the-laws
-              Laws.the-copy .copy 𝓤 H A W) (λ ρ. Unit) G5 (Row.out 6 (G5 .locals)) (λ u. Row.drop 6 (G5 .locals) u)
-              (G5 .slots) 6 (λ t. (Syntax.field 2) ∷ t) Laws.mir Laws.mir 10
-              (Rows.whole (Declared.row RelayPacket.the-type)) (λ x. x) (λ u. At.getAt (Request.the-type .parts) 2
-              (Request.struct .as-values (u .1 .1 .1 .1 .1 .1 .0))) (λ u. (
-                Row.hd 0 (Row.tl (Row.tl (Row.tl (Row.tl (Row.tl (Row.tl bs)))))),
-                Nat._+_ 0 192,
-              )) (λ T′. record {
-                locals = Row.setRow 6 (6, Rows.whole (Declared.row Request.the-type)) T′;
-                slots = G5 .slots;
-              }) (λ u T′ m′. Row.set 6 (6, Rows.whole (Declared.row Request.the-type)) (u .1 .1 .1 .1 .1 .1 .0) T′ m′)
-              (λ u. Unit) (λ x. Unit) (Own.told-none 𝓤 H A (G5 .slots)) (DerefMove.learns-nothing 𝓤 H A
-              (Declared.row RelayPacket.the-type)) (λ ρ told u asked. Way'.w-partˢ 𝓤 H A W E
-              (Declared.row Request.the-type) (Declared.row RelayPacket.the-type) Laws''.mir Laws.mir 2 192
-              (u .1 .1 .1 .1 .1 .1 .0) (At.getAt (Request.the-type .parts) 2
-              (Request.struct .as-values (u .1 .1 .1 .1 .1 .1 .0))) (
-                Row.hd 0 (Row.tl (Row.tl (Row.tl (Row.tl (Row.tl (Row.tl bs)))))),
-                0,
-              ) (Way.w-look 𝓤 H A W E (Way.w-local 𝓤 H A W E G5 ρ u (G5 .slots) 6 (Declared.row Request.the-type)
-              (Rows.whole (Declared.row Request.the-type)) (λ x. x) (λ x. x) (u .1 .1 .1 .1 .1 .1 .0) (Local.mem-whole
-              𝓤 H A W (Declared.row Request.the-type) ρ (u .1 .1 .1 .1 .1 .1 .0) (Row.hd 0
-              (Row.tl (Row.tl (Row.tl (Row.tl (Row.tl (Row.tl bs)))))))) (Local.whole-mem 𝓤 H A W
-              (Declared.row Request.the-type) ρ (u .1 .1 .1 .1 .1 .1 .0) (Row.hd 0 (Row.tl
-              (Row.tl (Row.tl (Row.tl (Row.tl (Row.tl bs)))))))))) Path.refl λ q. Inner.cut-record 𝓤 H A q
-              (Declared.row Request.the-type) RelayPacket.the-type 192 (u .1 .1 .1 .1 .1 .1 .0)
-              (u .1 .1 .1 .1 .1 .1 .0) (At.getAt (Request.the-type .parts) 2
-              (Request.struct .as-values (u .1 .1 .1 .1 .1 .1 .0))) (At.getAt (Request.the-type .parts) 2
-              (Request.struct .as-values (u .1 .1 .1 .1 .1 .1 .0))) (
-                Row.hd 0 (Row.tl (Row.tl (Row.tl (Row.tl (Row.tl (Row.tl bs)))))),
-                0,
-              ) (Behind.look-at 𝓤 H A W q Request.the-type Laws''.the-laws 2 192 Path.refl Path.refl (
-                Row.hd 0 (Row.tl (Row.tl (Row.tl (Row.tl (Row.tl (Row.tl bs)))))),
-                0,
-              ) (u .1 .1 .1 .1 .1 .1 .0) (Request.struct .as-values (u .1 .1 .1 .1 .1 .1 .0)) Path.refl))
-              (Reads'.room-gone 𝓤 H A Laws.mir) (Yields.makes-mem 𝓤 H A W (λ ρ. Unit)
-              (Declared.row RelayPacket.the-type) Path.refl (Rows.whole (Declared.row RelayPacket.the-type)) (λ x. x)
-              λ ρ told. Local.whole-mem 𝓤 H A W (Declared.row RelayPacket.the-type) ρ) Path.refl Path.refl Path.refl)
-              d166
-
-          d168 : Typed.Typed 𝓤 H A 𝓣 E G4 b120 Δ0 (at168 bs)
-          d168 = Typed.g-pre 𝓤 H A W 𝓣 E G4 G5 b120 Δ0 (Typed.give (s3 bs)) (at167 bs) (Know.g-shs-known 𝓤 H A W
+          d166 : Typed.Typed 𝓤 H A 𝓣 E G4 b118 Δ0 at166
+          d166 = Typed.g-pre 𝓤 H A W 𝓣 E G4 G5 b118 Δ0 (Typed.give s3) at165 (Know.g-shs-known 𝓤 H A W
               (Referent.fInt Syntax.w8) E G4 9 7 ref12 life7 0 (λ x. x) record { fits = Dec.lit< tt } (Reads'.as-is 𝓤 H
-              A (Rows.sslice (Referent.rtF (Referent.fInt Syntax.w8)) ref12 7)) Path.refl tt) d167
+              A (Rows.sslice (Referent.rtF (Referent.fInt Syntax.w8)) ref12 7)) Path.refl tt) d165
 
-          d169 : Typed.Typed 𝓤 H A 𝓣 E G3 b120 Δ0 (at169 bs)
-          d169 = Typed.g-pre 𝓤 H A W 𝓣 E G3 G4 b120 Δ0 (Typed.give (s2 bs)) (at168 bs) (Know.g-shs-known 𝓤 H A W
+          d167 : Typed.Typed 𝓤 H A 𝓣 E G3 b118 Δ0 at167
+          d167 = Typed.g-pre 𝓤 H A W 𝓣 E G3 G4 b118 Δ0 (Typed.give s2) at166 (Know.g-shs-known 𝓤 H A W
               (Referent.fInt Syntax.w8) E G3 8 6 ref11 life6 0 (λ x. x) record { fits = Dec.lit< tt } (Reads'.as-is 𝓤 H
-              A (Rows.sslice (Referent.rtF (Referent.fInt Syntax.w8)) ref11 6)) Path.refl tt) d168
+              A (Rows.sslice (Referent.rtF (Referent.fInt Syntax.w8)) ref11 6)) Path.refl tt) d166
 
-          d170 : Typed.Typed 𝓤 H A 𝓣 E G2 b120 Δ0 (at170 bs)
-          d170 = Typed.g-pre 𝓤 H A W 𝓣 E G2 G3 b120 Δ0 (Typed.give (s1 bs)) (at169 bs) (Know.g-shs-known 𝓤 H A W
+          d168 : Typed.Typed 𝓤 H A 𝓣 E G2 b118 Δ0 at168
+          d168 = Typed.g-pre 𝓤 H A W 𝓣 E G2 G3 b118 Δ0 (Typed.give s1) at167 (Know.g-shs-known 𝓤 H A W
               (Referent.fInt Syntax.w8) E G2 7 5 ref10 life5 0 (λ x. x) record { fits = Dec.lit< tt } (Reads'.as-is 𝓤 H
-              A (Rows.sslice (Referent.rtF (Referent.fInt Syntax.w8)) ref10 5)) Path.refl tt) d169
+              A (Rows.sslice (Referent.rtF (Referent.fInt Syntax.w8)) ref10 5)) Path.refl tt) d167
 
-          d171 : Typed.Typed 𝓤 H A 𝓣 E G0 b120 Δ0 (at171 bs)
-          d171 = Typed.g-pre 𝓤 H A W 𝓣 E G0 G2 b120 Δ0 (Typed.give (s0 bs)) (at170 bs) (Know.g-sl-known 𝓤 H A W
+          d169 : Typed.Typed 𝓤 H A 𝓣 E G0 b118 Δ0 at169
+          d169 = Typed.g-pre 𝓤 H A W 𝓣 E G0 G2 b118 Δ0 (Typed.give s0) at168 (Know.g-sl-known 𝓤 H A W
               (Referent.fInt Syntax.w32) E G0 5 4 ref9 life4 0 (λ x. x) record { fits = Dec.lit< tt } (Reads'.as-is 𝓤 H
-              A (Mut.mslice (Referent.rtF (Referent.fInt Syntax.w32)) ref9 4)) Path.refl tt) d170
+              A (Mut.mslice (Referent.rtF (Referent.fInt Syntax.w32)) ref9 4)) Path.refl tt) d168
 
-          pub typed : Typed.Typed 𝓤 H A 𝓣 E (Function.Γin 8 ps r xs m κs qs) b120 (Function.Δret 8 ps r xs m κs qs)
-              (Φ bs)
-          typed = d171
+          pub typed : Typed.Typed 𝓤 H A 𝓣 E (Function.Γin 8 ps r xs m κs qs) b118 (Function.Δret 8 ps r xs m κs qs) Φ
+          typed = d169
 
       module _ (κs : Lifetimes.Lfts 8) where
         pub record Args : Type 0 where
@@ -8648,11 +8473,11 @@ module _ (claims· : Claims) where
           (a .circuits, (a .ledger, (a .inflight, (a .out, (a .request, (a .body, (a .endpoint, (a .random, tt)))))))),
         )
 
-      abbrev pub m0 : (κs : Lifetimes.Lfts 8) → (args : Args κs) → (blocks : List.List Nat.ℕ) → Typed.Mo T0
-      m0 = λ κs args blocks. (tt, Enter.partsP κs 1 ps xs (dens κs args))
+      abbrev pub m0 : (κs : Lifetimes.Lfts 8) → (args : Args κs) → Typed.Mo T0
+      m0 = λ κs args. (tt, Enter.partsP κs 1 ps xs (dens κs args))
 
-      abbrev W0 : (κs : Lifetimes.Lfts 8) → (args : Args κs) → (blocks : List.List Nat.ℕ) → Typed.Want O0
-      W0 = λ κs args blocks. (
+      abbrev W0 : (κs : Lifetimes.Lfts 8) → (args : Args κs) → Typed.Want O0
+      W0 = λ κs args. (
         λ u. ⊥,
         tt,
         λ u. Enter.Fixs κs 1 ps xs (dens κs args) (u .1) × Post· κs (dens κs args) (Function.resV r κs (u .0)) (Clauses.atExit
@@ -8662,1300 +8487,930 @@ module _ (claims· : Claims) where
       pub record Start : Type 0 where
         pub κs : Lifetimes.Lfts 8
         pub args : Args κs
-        pub blocks : List.List Nat.ℕ
         pub good : Kinds.GoodsP κs ps (dens κs args)
         pub pre : Pre· κs (dens κs args)
 
-      abbrev pub m1 : (before : Start) → (given : s0 (before .blocks) .gives
-          (m0 (before .κs) (before .args) (before .blocks))) → Typed.Mo T2
-      m1 = λ before given. s0 (before .blocks) .next (m0 (before .κs) (before .args) (before .blocks)) given
+      abbrev pub m1 : (before : Start) → (given : s0 .gives (m0 (before .κs) (before .args))) → Typed.Mo T2
+      m1 = λ before given. s0 .next (m0 (before .κs) (before .args)) given
 
       module _ (before· : Start) where
         pub record After-slice-known·own : Type 0 where
-          pub given : s0 (before· .blocks) .gives (m0 (before· .κs) (before· .args) (before· .blocks))
+          pub given : s0 .gives (m0 (before· .κs) (before· .args))
 
       pub record After-slice-known : Type 0 where
         pub before : Start
         pub slice-known : After-slice-known·own before
 
-      abbrev pub m2 : (before : After-slice-known) → (given : s1 (before .before .blocks) .gives
+      abbrev pub m2 : (before : After-slice-known) → (given : s1 .gives
           (m1 (before .before) (before .slice-known .given))) → Typed.Mo T3
-      m2 = λ before given. s1 (before .before .blocks) .next (m1 (before .before) (before .slice-known .given)) given
+      m2 = λ before given. s1 .next (m1 (before .before) (before .slice-known .given)) given
 
       module _ (before· : After-slice-known) where
         pub record After-shared-slice-known·own : Type 0 where
-          pub given : s1 (before· .before .blocks) .gives (m1 (before· .before) (before· .slice-known .given))
+          pub given : s1 .gives (m1 (before· .before) (before· .slice-known .given))
 
       pub record After-shared-slice-known : Type 0 where
         pub before : After-slice-known
         pub shared-slice-known : After-shared-slice-known·own before
 
-      abbrev pub m3 : (before : After-shared-slice-known) → (given : s2 (before .before .before .blocks) .gives
+      abbrev pub m3 : (before : After-shared-slice-known) → (given : s2 .gives
           (m2 (before .before) (before .shared-slice-known .given))) → Typed.Mo T4
-      m3 = λ before given. s2 (before .before .before .blocks) .next
-          (m2 (before .before) (before .shared-slice-known .given)) given
+      m3 = λ before given. s2 .next (m2 (before .before) (before .shared-slice-known .given)) given
 
       module _ (before· : After-shared-slice-known) where
         pub record After-shared-slice-known2·own : Type 0 where
-          pub given : s2 (before· .before .before .blocks) .gives
-              (m2 (before· .before) (before· .shared-slice-known .given))
+          pub given : s2 .gives (m2 (before· .before) (before· .shared-slice-known .given))
 
       pub record After-shared-slice-known2 : Type 0 where
         pub before : After-shared-slice-known
         pub shared-slice-known2 : After-shared-slice-known2·own before
 
-      abbrev pub m4 : (before : After-shared-slice-known2) → (given : s3 (before .before .before .before .blocks)
-          .gives (m3 (before .before) (before .shared-slice-known2 .given))) → Typed.Mo T5
-      m4 = λ before given. s3 (before .before .before .before .blocks) .next
-          (m3 (before .before) (before .shared-slice-known2 .given)) given
+      abbrev pub m4 : (before : After-shared-slice-known2) → (given : s3 .gives
+          (m3 (before .before) (before .shared-slice-known2 .given))) → Typed.Mo T5
+      m4 = λ before given. s3 .next (m3 (before .before) (before .shared-slice-known2 .given)) given
+
+      abbrev pub m5 : (before : After-shared-slice-known2) → (given : s3 .gives
+          (m3 (before .before) (before .shared-slice-known2 .given))) → Typed.Mo T6
+      m5 = λ before given. s4 (m4 before given)
+
+      abbrev W1 : (before : After-shared-slice-known2) → (given : s3 .gives
+          (m3 (before .before) (before .shared-slice-known2 .given))) → Typed.Want O1
+      W1 = λ before given. Typed.wantNext T7 O0 (at163 (W0 (before .before .before .before .κs)
+          (before .before .before .before .args))) (W0 (before .before .before .before .κs)
+          (before .before .before .before .args))
+
+      abbrev W2 : (before : After-shared-slice-known2) → (given : s3 .gives
+          (m3 (before .before) (before .shared-slice-known2 .given))) → Typed.Want O2
+      W2 = λ before given. Typed.inBlock O1 (W1 before given)
+
+      abbrev W3 : (before : After-shared-slice-known2) → (given : s3 .gives
+          (m3 (before .before) (before .shared-slice-known2 .given))) → Typed.Want O3
+      W3 = λ before given. Typed.wantNext T8 O2 (at157 (W2 before given)) (W2 before given)
+
+      abbrev W4 : (before : After-shared-slice-known2) → (given : s3 .gives
+          (m3 (before .before) (before .shared-slice-known2 .given))) → Typed.Want O4
+      W4 = λ before given. Typed.inBlock O3 (W3 before given)
 
       module _ (before· : After-shared-slice-known2) where
         pub record After-shared-slice-known3·own : Type 0 where
-          pub given : s3 (before· .before .before .before .blocks) .gives (m3 (before· .before)
-              (before· .shared-slice-known2 .given))
+          pub given : s3 .gives (m3 (before· .before) (before· .shared-slice-known2 .given))
 
       pub record After-shared-slice-known3 : Type 0 where
         pub before : After-shared-slice-known2
         pub shared-slice-known3 : After-shared-slice-known3·own before
 
-      abbrev pub m5 : (before : After-shared-slice-known3) → (given : s4
-          (before .before .before .before .before .blocks) .gives
-          (m4 (before .before) (before .shared-slice-known3 .given))) → Typed.Mo T6
-      m5 = λ before given. s4 (before .before .before .before .before .blocks) .next
-          (m4 (before .before) (before .shared-slice-known3 .given)) given
-
-      abbrev pub m6 : (before : After-shared-slice-known3) → (given : s4
-          (before .before .before .before .before .blocks) .gives
-          (m4 (before .before) (before .shared-slice-known3 .given))) → Typed.Mo T7
-      m6 = λ before given. s5 (before .before .before .before .before .blocks) (m5 before given)
-
-      abbrev W1 : (before : After-shared-slice-known3) → (given : s4 (before .before .before .before .before .blocks)
-          .gives (m4 (before .before) (before .shared-slice-known3 .given))) → Typed.Want O1
-      W1 = λ before given. Typed.wantNext T8 O0 (at164 (before .before .before .before .before .blocks) (W0
-          (before .before .before .before .before .κs) (before .before .before .before .before .args)
-          (before .before .before .before .before .blocks))) (W0 (before .before .before .before .before .κs)
-          (before .before .before .before .before .args) (before .before .before .before .before .blocks))
-
-      abbrev pub m7 : (before : After-shared-slice-known3) → (given : s4
-          (before .before .before .before .before .blocks) .gives
-          (m4 (before .before) (before .shared-slice-known3 .given))) → Typed.Mo T9
-      m7 = λ before given. s6 (before .before .before .before .before .blocks) (m6 before given)
-
-      abbrev W2 : (before : After-shared-slice-known3) → (given : s4 (before .before .before .before .before .blocks)
-          .gives (m4 (before .before) (before .shared-slice-known3 .given))) → Typed.Want O2
-      W2 = λ before given. Typed.inBlock O1 (W1 before given)
-
-      abbrev W3 : (before : After-shared-slice-known3) → (given : s4 (before .before .before .before .before .blocks)
-          .gives (m4 (before .before) (before .shared-slice-known3 .given))) → Typed.Want O3
-      W3 = λ before given. Typed.wantNext T10 O2 (at157 (before .before .before .before .before .blocks)
-          (W2 before given)) (W2 before given)
-
-      abbrev W4 : (before : After-shared-slice-known3) → (given : s4 (before .before .before .before .before .blocks)
-          .gives (m4 (before .before) (before .shared-slice-known3 .given))) → Typed.Want O4
-      W4 = λ before given. Typed.inBlock O3 (W3 before given)
-
       module _ (before· : After-shared-slice-known3) where
-        pub record After-packet·own : Type 0 where
-          pub given : s4 (before· .before .before .before .before .blocks) .gives (m4 (before· .before)
-              (before· .shared-slice-known3 .given))
-
-      pub record After-packet : Type 0 where
-        pub before : After-shared-slice-known3
-        pub packet : After-packet·own before
-
-      module _ (before· : After-packet) where
         pub record At-match-keys1·own : Type 0 where
-          pub keys1 : Run.OneOf (13 ∷ List.[]) (Row.get 11 (T9 .locals) (m7 (before· .before) (before· .packet .given)))
+          pub keys1 : Run.OneOf (13 ∷ List.[]) (Row.get 10 (T6 .locals) (m5 (before· .before)
+              (before· .shared-slice-known3 .given)))
 
       pub record At-match-keys1 : Type 0 where
-        pub before : After-packet
+        pub before : After-shared-slice-known3
         pub match : At-match-keys1·own before
 
-      abbrev pub m8 : (before : At-match-keys1) → (given : s8 (before .before .before .before .before .before .before
-          .blocks) .gives (m7 (before .before .before) (before .before .packet .given))) → Typed.Mo T12
-      m8 = λ before given. s8 (before .before .before .before .before .before .before .blocks) .next (m7
-          (before .before .before) (before .before .packet .given)) given
+      abbrev pub m6 : (before : At-match-keys1) → (given : s6 .gives (m5 (before .before .before)
+          (before .before .shared-slice-known3 .given))) → Typed.Mo T10
+      m6 = λ before given. s6 .next (m5 (before .before .before) (before .before .shared-slice-known3 .given)) given
 
-      abbrev pub m9 : (before : At-match-keys1) → (given : s8 (before .before .before .before .before .before .before
-          .blocks) .gives (m7 (before .before .before) (before .before .packet .given))) → Typed.Mo T13
-      m9 = λ before given. s9 (before .before .before .before .before .before .before .blocks) .next (m8 before given)
+      abbrev pub m7 : (before : At-match-keys1) → (given : s6 .gives (m5 (before .before .before)
+          (before .before .shared-slice-known3 .given))) → Typed.Mo T11
+      m7 = λ before given. s7 .next (m6 before given)
 
       module _ (before· : At-match-keys1) where
         pub record After-handle-open-arg·own : Type 0 where
-          pub given : s8 (before· .before .before .before .before .before .before .blocks) .gives (m7
-              (before· .before .before) (before· .before .packet .given))
+          pub given : s6 .gives (m5 (before· .before .before) (before· .before .shared-slice-known3 .given))
 
       pub record After-handle-open-arg : Type 0 where
         pub before : At-match-keys1
         pub handle-open-arg : After-handle-open-arg·own before
 
-      abbrev pub m10 : (before : After-handle-open-arg) → (given : s11 (before .before .before .before .before .before
-          .before .before .blocks) .gives (m9 (before .before) (before .handle-open-arg .given))) → Typed.Mo T15
-      m10 = λ before given. s11 (before .before .before .before .before .before .before .before .blocks) .next
-          (m9 (before .before) (before .handle-open-arg .given)) given
+      abbrev pub m8 : (before : After-handle-open-arg) → (given : s9 .gives
+          (m7 (before .before) (before .handle-open-arg .given))) → Typed.Mo T13
+      m8 = λ before given. s9 .next (m7 (before .before) (before .handle-open-arg .given)) given
 
-      abbrev pub m11 : (before : After-handle-open-arg) → (given : s11 (before .before .before .before .before .before
-          .before .before .blocks) .gives (m9 (before .before) (before .handle-open-arg .given))) → Typed.Mo T16
-      m11 = λ before given. s12 (before .before .before .before .before .before .before .before .blocks) .next
-          (m10 before given)
+      abbrev pub m9 : (before : After-handle-open-arg) → (given : s9 .gives
+          (m7 (before .before) (before .handle-open-arg .given))) → Typed.Mo T14
+      m9 = λ before given. s10 .next (m8 before given)
 
       module _ (before· : After-handle-open-arg) where
         pub record After-handle-open-arg2·own : Type 0 where
-          pub given : s11 (before· .before .before .before .before .before .before .before .blocks) .gives
-              (m9 (before· .before) (before· .handle-open-arg .given))
+          pub given : s9 .gives (m7 (before· .before) (before· .handle-open-arg .given))
 
       pub record After-handle-open-arg2 : Type 0 where
         pub before : After-handle-open-arg
         pub handle-open-arg2 : After-handle-open-arg2·own before
 
-      abbrev pub m12 : (before : After-handle-open-arg2) → (given : s14 (before .before .before .before .before .before
-          .before .before .before .blocks) .gives (m11 (before .before) (before .handle-open-arg2 .given))) → Typed.Mo
-          T18
-      m12 = λ before given. s14 (before .before .before .before .before .before .before .before .before .blocks) .next
-          (m11 (before .before) (before .handle-open-arg2 .given)) given
+      abbrev pub m10 : (before : After-handle-open-arg2) → (given : s12 .gives
+          (m9 (before .before) (before .handle-open-arg2 .given))) → Typed.Mo T16
+      m10 = λ before given. s12 .next (m9 (before .before) (before .handle-open-arg2 .given)) given
 
-      abbrev pub m13 : (before : After-handle-open-arg2) → (given : s14 (before .before .before .before .before .before
-          .before .before .before .blocks) .gives (m11 (before .before) (before .handle-open-arg2 .given))) → Typed.Mo
-          T19
-      m13 = λ before given. s15 (before .before .before .before .before .before .before .before .before .blocks) .next
-          (m12 before given)
+      abbrev pub m11 : (before : After-handle-open-arg2) → (given : s12 .gives
+          (m9 (before .before) (before .handle-open-arg2 .given))) → Typed.Mo T17
+      m11 = λ before given. s13 .next (m10 before given)
 
       module _ (before· : After-handle-open-arg2) where
         pub record After-handle-open-arg3·own : Type 0 where
-          pub given : s14 (before· .before .before .before .before .before .before .before .before .blocks) .gives
-              (m11 (before· .before) (before· .handle-open-arg2 .given))
+          pub given : s12 .gives (m9 (before· .before) (before· .handle-open-arg2 .given))
 
       pub record After-handle-open-arg3 : Type 0 where
         pub before : After-handle-open-arg2
         pub handle-open-arg3 : After-handle-open-arg3·own before
 
-      abbrev pub m14 : (before : After-handle-open-arg3) → (given : s17 (before .before .before .before .before .before
-          .before .before .before .before .blocks) .gives (m13 (before .before) (before .handle-open-arg3 .given))) →
-          Typed.Mo T21
-      m14 = λ before given. s17 (before .before .before .before .before .before .before .before .before .before .blocks)
-          .next (m13 (before .before) (before .handle-open-arg3 .given)) given
+      abbrev pub m12 : (before : After-handle-open-arg3) → (given : s15 .gives
+          (m11 (before .before) (before .handle-open-arg3 .given))) → Typed.Mo T19
+      m12 = λ before given. s15 .next (m11 (before .before) (before .handle-open-arg3 .given)) given
 
-      abbrev pub m15 : (before : After-handle-open-arg3) → (given : s17 (before .before .before .before .before .before
-          .before .before .before .before .blocks) .gives (m13 (before .before) (before .handle-open-arg3 .given))) →
-          Typed.Mo T22
-      m15 = λ before given. s18 (before .before .before .before .before .before .before .before .before .before .blocks)
-          .next (m14 before given)
+      abbrev pub m13 : (before : After-handle-open-arg3) → (given : s15 .gives
+          (m11 (before .before) (before .handle-open-arg3 .given))) → Typed.Mo T20
+      m13 = λ before given. s16 .next (m12 before given)
 
       module _ (before· : After-handle-open-arg3) where
         pub record After-handle-open-arg4·own : Type 0 where
-          pub given : s17 (before· .before .before .before .before .before .before .before .before .before .blocks)
-              .gives (m13 (before· .before) (before· .handle-open-arg3 .given))
+          pub given : s15 .gives (m11 (before· .before) (before· .handle-open-arg3 .given))
 
       pub record After-handle-open-arg4 : Type 0 where
         pub before : After-handle-open-arg3
         pub handle-open-arg4 : After-handle-open-arg4·own before
 
-      abbrev pub m16 : (before : After-handle-open-arg4) → (given : s20 (before .before .before .before .before .before
-          .before .before .before .before .before .blocks) .gives
-          (m15 (before .before) (before .handle-open-arg4 .given))) → Typed.Mo T24
-      m16 = λ before given. s20 (before .before .before .before .before .before .before .before .before .before .before
-          .blocks) .next (m15 (before .before) (before .handle-open-arg4 .given)) given
+      abbrev pub m14 : (before : After-handle-open-arg4) → (given : s18 .gives
+          (m13 (before .before) (before .handle-open-arg4 .given))) → Typed.Mo T22
+      m14 = λ before given. s18 .next (m13 (before .before) (before .handle-open-arg4 .given)) given
 
-      abbrev pub m17 : (before : After-handle-open-arg4) → (given : s20 (before .before .before .before .before .before
-          .before .before .before .before .before .blocks) .gives
-          (m15 (before .before) (before .handle-open-arg4 .given))) → Typed.Mo T25
-      m17 = λ before given. s21 (before .before .before .before .before .before .before .before .before .before .before
-          .blocks) .next (m16 before given)
+      abbrev pub m15 : (before : After-handle-open-arg4) → (given : s18 .gives
+          (m13 (before .before) (before .handle-open-arg4 .given))) → Typed.Mo T23
+      m15 = λ before given. s19 .next (m14 before given)
 
       module _ (before· : After-handle-open-arg4) where
         pub record After-handle-open-arg5·own : Type 0 where
-          pub given : s20 (before· .before .before .before .before .before .before .before .before .before .before
-              .blocks) .gives (m15 (before· .before) (before· .handle-open-arg4 .given))
+          pub given : s18 .gives (m13 (before· .before) (before· .handle-open-arg4 .given))
 
       pub record After-handle-open-arg5 : Type 0 where
         pub before : After-handle-open-arg4
         pub handle-open-arg5 : After-handle-open-arg5·own before
 
       abbrev pub Need-handle-open-requires : Type 0
-      Need-handle-open-requires = (c : After-handle-open-arg5) → s22 (c .before .before .before .before .before .before
-          .before .before .before .before .before .blocks) .asks (m17 (c .before) (c .handle-open-arg5 .given))
+      Need-handle-open-requires = (c : After-handle-open-arg5) → s20 .asks
+          (m15 (c .before) (c .handle-open-arg5 .given))
 
-      abbrev pub m18 : (before : After-handle-open-arg5) → (given : s22 (before .before .before .before .before .before
-          .before .before .before .before .before .before .blocks) .gives
-          (m17 (before .before) (before .handle-open-arg5 .given))) → Typed.Mo T26
-      m18 = λ before given. s22 (before .before .before .before .before .before .before .before .before .before .before
-          .before .blocks) .next (m17 (before .before) (before .handle-open-arg5 .given)) given
+      abbrev pub m16 : (before : After-handle-open-arg5) → (given : s20 .gives
+          (m15 (before .before) (before .handle-open-arg5 .given))) → Typed.Mo T24
+      m16 = λ before given. s20 .next (m15 (before .before) (before .handle-open-arg5 .given)) given
 
       module _ (before· : After-handle-open-arg5) where
         abbrev pub After-handle-open·own : Type 0
-        After-handle-open·own = Called.Called ps·0 r·0 (claims· .1) T25 (
-          record { pos = 14; ty = ref0; ref = λ x. x },
-          (
-            record { pos = 16; ty = ref1; ref = λ x. x },
-            (
-              record { pos = 18; ty = ref2; ref = λ x. x },
-              (
-                record { pos = 20; ty = ref3; ref = λ x. x },
-                (
-                  record { pos = 22; ty = ref4; ref = λ x. x },
-                  (
-                    record { pos = 6; st = List.[]; d = 0; at = λ x. x },
-                    (
-                      record { pos = 7; ty = ref10; ref = λ x. x },
-                      (
-                        record { pos = 8; ty = ref11; ref = λ x. x },
-                        (record { pos = 9; ty = ref12; ref = λ x. x }, tt),
-                      ),
-                    ),
-                  ),
-                ),
-              ),
-            ),
-          ),
-        ) (m17 (before· .before) (before· .handle-open-arg5 .given))
+        After-handle-open·own = Called.Called ps·0 r·0 (claims· .1) T23 args20
+            (m15 (before· .before) (before· .handle-open-arg5 .given))
 
       pub record After-handle-open : Type 0 where
         pub before : After-handle-open-arg5
         pub handle-open : After-handle-open·own before
 
-      abbrev pub After-handle-open·gave : (c : After-handle-open) → s22 (c .before .before .before .before .before
-          .before .before .before .before .before .before .before .blocks) .gives (m17 (c .before .before)
+      abbrev pub After-handle-open·gave : (c : After-handle-open) → s20 .gives (m15 (c .before .before)
           (c .before .handle-open-arg5 .given))
-      After-handle-open·gave = λ c. Called.given ps·0 r·0 (claims· .1) T25 (
-        record { pos = 14; ty = ref0; ref = λ x. x },
-        (
-          record { pos = 16; ty = ref1; ref = λ x. x },
-          (
-            record { pos = 18; ty = ref2; ref = λ x. x },
-            (
-              record { pos = 20; ty = ref3; ref = λ x. x },
-              (
-                record { pos = 22; ty = ref4; ref = λ x. x },
-                (
-                  record { pos = 6; st = List.[]; d = 0; at = λ x. x },
-                  (
-                    record { pos = 7; ty = ref10; ref = λ x. x },
-                    (record { pos = 8; ty = ref11; ref = λ x. x }, (record { pos = 9; ty = ref12; ref = λ x. x }, tt)),
-                  ),
-                ),
-              ),
-            ),
-          ),
-        ),
-      ) (m17 (c .before .before) (c .before .handle-open-arg5 .given)) (c .handle-open)
+      After-handle-open·gave = λ c. Called.given ps·0 r·0 (claims· .1) T23 args20 (m15 (c .before .before)
+          (c .before .handle-open-arg5 .given)) (c .handle-open)
 
-      abbrev pub m19 : (before : After-handle-open-arg5) → (given : s22 (before .before .before .before .before .before
-          .before .before .before .before .before .before .blocks) .gives
-          (m17 (before .before) (before .handle-open-arg5 .given))) → Typed.Mo T27
-      m19 = λ before given. s23 (before .before .before .before .before .before .before .before .before .before .before
-          .before .blocks) (m18 before given)
+      abbrev pub m17 : (before : After-handle-open-arg5) → (given : s20 .gives
+          (m15 (before .before) (before .handle-open-arg5 .given))) → Typed.Mo T25
+      m17 = λ before given. s21 (m16 before given)
 
-      abbrev pub m20 : (before : After-handle-open) → (given : s25 (before .before .before .before .before .before
-          .before .before .before .before .before .before .before .blocks) .gives
-          (m19 (before .before) (After-handle-open·gave before))) → Typed.Mo T29
-      m20 = λ before given. s25 (before .before .before .before .before .before .before .before .before .before .before
-          .before .before .blocks) .next (m19 (before .before) (After-handle-open·gave before)) given
+      abbrev pub m18 : (before : After-handle-open) → (given : s23 .gives
+          (m17 (before .before) (After-handle-open·gave before))) → Typed.Mo T27
+      m18 = λ before given. s23 .next (m17 (before .before) (After-handle-open·gave before)) given
 
       module _ (before· : After-handle-open) where
         pub record After-pending·own : Type 0 where
-          pub given : s25 (before· .before .before .before .before .before .before .before .before .before .before
-              .before .before .blocks) .gives (m19 (before· .before) (After-handle-open·gave before·))
+          pub given : s23 .gives (m17 (before· .before) (After-handle-open·gave before·))
 
       pub record After-pending : Type 0 where
         pub before : After-handle-open
         pub pending : After-pending·own before
 
-      abbrev pub m21 : (before : After-pending) → (given : s28 (before .before .before .before .before .before .before
-          .before .before .before .before .before .before .before .blocks) .gives
-          (m20 (before .before) (before .pending .given))) → Typed.Mo T32
-      m21 = λ before given. s28 (before .before .before .before .before .before .before .before .before .before .before
-          .before .before .before .blocks) .next (m20 (before .before) (before .pending .given)) given
+      abbrev pub m19 : (before : After-pending) → (given : s26 .gives (m18 (before .before) (before .pending .given)))
+          → Typed.Mo T30
+      m19 = λ before given. s26 .next (m18 (before .before) (before .pending .given)) given
 
       module _ (before· : After-pending) where
         pub record After-circuits·own : Type 0 where
-          pub given : s28 (before· .before .before .before .before .before .before .before .before .before .before
-              .before .before .before .blocks) .gives (m20 (before· .before) (before· .pending .given))
+          pub given : s26 .gives (m18 (before· .before) (before· .pending .given))
 
       pub record After-circuits : Type 0 where
         pub before : After-pending
         pub circuits : After-circuits·own before
 
-      abbrev pub m22 : (before : After-circuits) → (given : s31 (before .before .before .before .before .before .before
-          .before .before .before .before .before .before .before .before .blocks) .gives
-          (m21 (before .before) (before .circuits .given))) → Typed.Mo T35
-      m22 = λ before given. s31 (before .before .before .before .before .before .before .before .before .before .before
-          .before .before .before .before .blocks) .next (m21 (before .before) (before .circuits .given)) given
+      abbrev pub m20 : (before : After-circuits) → (given : s29 .gives (m19 (before .before) (before .circuits .given)))
+          → Typed.Mo T33
+      m20 = λ before given. s29 .next (m19 (before .before) (before .circuits .given)) given
 
       module _ (before· : After-circuits) where
         pub record After-ledger·own : Type 0 where
-          pub given : s31 (before· .before .before .before .before .before .before .before .before .before .before
-              .before .before .before .before .blocks) .gives (m21 (before· .before) (before· .circuits .given))
+          pub given : s29 .gives (m19 (before· .before) (before· .circuits .given))
 
       pub record After-ledger : Type 0 where
         pub before : After-circuits
         pub ledger : After-ledger·own before
 
-      abbrev pub m23 : (before : After-ledger) → (given : s34 (before .before .before .before .before .before .before
-          .before .before .before .before .before .before .before .before .before .blocks) .gives
-          (m22 (before .before) (before .ledger .given))) → Typed.Mo T38
-      m23 = λ before given. s34 (before .before .before .before .before .before .before .before .before .before .before
-          .before .before .before .before .before .blocks) .next (m22 (before .before) (before .ledger .given)) given
+      abbrev pub m21 : (before : After-ledger) → (given : s32 .gives (m20 (before .before) (before .ledger .given))) →
+          Typed.Mo T36
+      m21 = λ before given. s32 .next (m20 (before .before) (before .ledger .given)) given
 
       module _ (before· : After-ledger) where
         pub record After-inflight·own : Type 0 where
-          pub given : s34 (before· .before .before .before .before .before .before .before .before .before .before
-              .before .before .before .before .before .blocks) .gives (m22 (before· .before) (before· .ledger .given))
+          pub given : s32 .gives (m20 (before· .before) (before· .ledger .given))
 
       pub record After-inflight : Type 0 where
         pub before : After-ledger
         pub inflight : After-inflight·own before
 
-      abbrev pub m24 : (before : After-inflight) → (given : s37 (before .before .before .before .before .before .before
-          .before .before .before .before .before .before .before .before .before .before .blocks) .gives
-          (m23 (before .before) (before .inflight .given))) → Typed.Mo T41
-      m24 = λ before given. s37 (before .before .before .before .before .before .before .before .before .before .before
-          .before .before .before .before .before .before .blocks) .next
-          (m23 (before .before) (before .inflight .given)) given
+      abbrev pub m22 : (before : After-inflight) → (given : s35 .gives (m21 (before .before) (before .inflight .given)))
+          → Typed.Mo T39
+      m22 = λ before given. s35 .next (m21 (before .before) (before .inflight .given)) given
 
       module _ (before· : After-inflight) where
         pub record After-out·own : Type 0 where
-          pub given : s37 (before· .before .before .before .before .before .before .before .before .before .before
-              .before .before .before .before .before .before .blocks) .gives
-              (m23 (before· .before) (before· .inflight .given))
+          pub given : s35 .gives (m21 (before· .before) (before· .inflight .given))
 
       pub record After-out : Type 0 where
         pub before : After-inflight
         pub out : After-out·own before
 
-      abbrev pub m25 : (before : After-out) → (given : s38 (before .before .before .before .before .before .before
-          .before .before .before .before .before .before .before .before .before .before .before .blocks) .gives
-          (m24 (before .before) (before .out .given))) → Typed.Mo T42
-      m25 = λ before given. s38 (before .before .before .before .before .before .before .before .before .before .before
-          .before .before .before .before .before .before .before .blocks) .next
-          (m24 (before .before) (before .out .given)) given
+      abbrev pub m23 : (before : After-out) → (given : s36 .gives (m22 (before .before) (before .out .given))) →
+          Typed.Mo T40
+      m23 = λ before given. s36 .next (m22 (before .before) (before .out .given)) given
 
       module _ (before· : After-out) where
         pub record After-slice-known2·own : Type 0 where
-          pub given : s38 (before· .before .before .before .before .before .before .before .before .before .before
-              .before .before .before .before .before .before .before .blocks) .gives
-              (m24 (before· .before) (before· .out .given))
+          pub given : s36 .gives (m22 (before· .before) (before· .out .given))
 
       pub record After-slice-known2 : Type 0 where
         pub before : After-out
         pub slice-known2 : After-slice-known2·own before
 
-      module _ (before· : After-packet) where
+      module _ (before· : After-shared-slice-known3) where
         pub record At-match-keys2·own : Type 0 where
-          pub keys2 : Run.OneOf (15 ∷ List.[]) (Row.get 11 (T9 .locals) (m7 (before· .before) (before· .packet .given)))
+          pub keys2 : Run.OneOf (15 ∷ List.[]) (Row.get 10 (T6 .locals) (m5 (before· .before)
+              (before· .shared-slice-known3 .given)))
 
       pub record At-match-keys2 : Type 0 where
-        pub before : After-packet
+        pub before : After-shared-slice-known3
         pub match : At-match-keys2·own before
 
-      abbrev pub m26 : (before : At-match-keys2) → (given : s41 (before .before .before .before .before .before .before
-          .blocks) .gives (m7 (before .before .before) (before .before .packet .given))) → Typed.Mo T45
-      m26 = λ before given. s41 (before .before .before .before .before .before .before .blocks) .next (m7
-          (before .before .before) (before .before .packet .given)) given
+      abbrev pub m24 : (before : At-match-keys2) → (given : s39 .gives (m5 (before .before .before)
+          (before .before .shared-slice-known3 .given))) → Typed.Mo T43
+      m24 = λ before given. s39 .next (m5 (before .before .before) (before .before .shared-slice-known3 .given)) given
 
-      abbrev pub m27 : (before : At-match-keys2) → (given : s41 (before .before .before .before .before .before .before
-          .blocks) .gives (m7 (before .before .before) (before .before .packet .given))) → Typed.Mo T46
-      m27 = λ before given. s42 (before .before .before .before .before .before .before .blocks) .next
-          (m26 before given)
+      abbrev pub m25 : (before : At-match-keys2) → (given : s39 .gives (m5 (before .before .before)
+          (before .before .shared-slice-known3 .given))) → Typed.Mo T44
+      m25 = λ before given. s40 .next (m24 before given)
 
       module _ (before· : At-match-keys2) where
         pub record After-handle-accept-arg·own : Type 0 where
-          pub given : s41 (before· .before .before .before .before .before .before .blocks) .gives (m7
-              (before· .before .before) (before· .before .packet .given))
+          pub given : s39 .gives (m5 (before· .before .before) (before· .before .shared-slice-known3 .given))
 
       pub record After-handle-accept-arg : Type 0 where
         pub before : At-match-keys2
         pub handle-accept-arg : After-handle-accept-arg·own before
 
-      abbrev pub m28 : (before : After-handle-accept-arg) → (given : s44 (before .before .before .before .before
-          .before .before .before .blocks) .gives (m27 (before .before) (before .handle-accept-arg .given))) → Typed.Mo
-          T48
-      m28 = λ before given. s44 (before .before .before .before .before .before .before .before .blocks) .next
-          (m27 (before .before) (before .handle-accept-arg .given)) given
+      abbrev pub m26 : (before : After-handle-accept-arg) → (given : s42 .gives
+          (m25 (before .before) (before .handle-accept-arg .given))) → Typed.Mo T46
+      m26 = λ before given. s42 .next (m25 (before .before) (before .handle-accept-arg .given)) given
 
-      abbrev pub m29 : (before : After-handle-accept-arg) → (given : s44 (before .before .before .before .before
-          .before .before .before .blocks) .gives (m27 (before .before) (before .handle-accept-arg .given))) → Typed.Mo
-          T49
-      m29 = λ before given. s45 (before .before .before .before .before .before .before .before .blocks) .next
-          (m28 before given)
+      abbrev pub m27 : (before : After-handle-accept-arg) → (given : s42 .gives
+          (m25 (before .before) (before .handle-accept-arg .given))) → Typed.Mo T47
+      m27 = λ before given. s43 .next (m26 before given)
 
       module _ (before· : After-handle-accept-arg) where
         pub record After-handle-accept-arg2·own : Type 0 where
-          pub given : s44 (before· .before .before .before .before .before .before .before .blocks) .gives
-              (m27 (before· .before) (before· .handle-accept-arg .given))
+          pub given : s42 .gives (m25 (before· .before) (before· .handle-accept-arg .given))
 
       pub record After-handle-accept-arg2 : Type 0 where
         pub before : After-handle-accept-arg
         pub handle-accept-arg2 : After-handle-accept-arg2·own before
 
-      abbrev pub m30 : (before : After-handle-accept-arg2) → (given : s47 (before .before .before .before .before
-          .before .before .before .before .blocks) .gives (m29 (before .before) (before .handle-accept-arg2 .given))) →
-          Typed.Mo T51
-      m30 = λ before given. s47 (before .before .before .before .before .before .before .before .before .blocks) .next
-          (m29 (before .before) (before .handle-accept-arg2 .given)) given
+      abbrev pub m28 : (before : After-handle-accept-arg2) → (given : s45 .gives
+          (m27 (before .before) (before .handle-accept-arg2 .given))) → Typed.Mo T49
+      m28 = λ before given. s45 .next (m27 (before .before) (before .handle-accept-arg2 .given)) given
 
-      abbrev pub m31 : (before : After-handle-accept-arg2) → (given : s47 (before .before .before .before .before
-          .before .before .before .before .blocks) .gives (m29 (before .before) (before .handle-accept-arg2 .given))) →
-          Typed.Mo T52
-      m31 = λ before given. s48 (before .before .before .before .before .before .before .before .before .blocks) .next
-          (m30 before given)
+      abbrev pub m29 : (before : After-handle-accept-arg2) → (given : s45 .gives
+          (m27 (before .before) (before .handle-accept-arg2 .given))) → Typed.Mo T50
+      m29 = λ before given. s46 .next (m28 before given)
 
       module _ (before· : After-handle-accept-arg2) where
         pub record After-handle-accept-arg3·own : Type 0 where
-          pub given : s47 (before· .before .before .before .before .before .before .before .before .blocks) .gives (m29
-              (before· .before) (before· .handle-accept-arg2 .given))
+          pub given : s45 .gives (m27 (before· .before) (before· .handle-accept-arg2 .given))
 
       pub record After-handle-accept-arg3 : Type 0 where
         pub before : After-handle-accept-arg2
         pub handle-accept-arg3 : After-handle-accept-arg3·own before
 
-      abbrev pub m32 : (before : After-handle-accept-arg3) → (given : s50 (before .before .before .before .before
-          .before .before .before .before .before .blocks) .gives
-          (m31 (before .before) (before .handle-accept-arg3 .given))) → Typed.Mo T54
-      m32 = λ before given. s50 (before .before .before .before .before .before .before .before .before .before .blocks)
-          .next (m31 (before .before) (before .handle-accept-arg3 .given)) given
+      abbrev pub m30 : (before : After-handle-accept-arg3) → (given : s48 .gives
+          (m29 (before .before) (before .handle-accept-arg3 .given))) → Typed.Mo T52
+      m30 = λ before given. s48 .next (m29 (before .before) (before .handle-accept-arg3 .given)) given
 
-      abbrev pub m33 : (before : After-handle-accept-arg3) → (given : s50 (before .before .before .before .before
-          .before .before .before .before .before .blocks) .gives
-          (m31 (before .before) (before .handle-accept-arg3 .given))) → Typed.Mo T55
-      m33 = λ before given. s51 (before .before .before .before .before .before .before .before .before .before .blocks)
-          .next (m32 before given)
+      abbrev pub m31 : (before : After-handle-accept-arg3) → (given : s48 .gives
+          (m29 (before .before) (before .handle-accept-arg3 .given))) → Typed.Mo T53
+      m31 = λ before given. s49 .next (m30 before given)
 
       module _ (before· : After-handle-accept-arg3) where
         pub record After-handle-accept-arg4·own : Type 0 where
-          pub given : s50 (before· .before .before .before .before .before .before .before .before .before .blocks)
-              .gives (m31 (before· .before) (before· .handle-accept-arg3 .given))
+          pub given : s48 .gives (m29 (before· .before) (before· .handle-accept-arg3 .given))
 
       pub record After-handle-accept-arg4 : Type 0 where
         pub before : After-handle-accept-arg3
         pub handle-accept-arg4 : After-handle-accept-arg4·own before
 
       abbrev pub Need-handle-accept-requires : Type 0
-      Need-handle-accept-requires = (c : After-handle-accept-arg4) → s52 (c .before .before .before .before .before
-          .before .before .before .before .before .blocks) .asks (m33 (c .before) (c .handle-accept-arg4 .given))
+      Need-handle-accept-requires = (c : After-handle-accept-arg4) → s50 .asks
+          (m31 (c .before) (c .handle-accept-arg4 .given))
 
-      abbrev pub m34 : (before : After-handle-accept-arg4) → (given : s52 (before .before .before .before .before
-          .before .before .before .before .before .before .blocks) .gives
-          (m33 (before .before) (before .handle-accept-arg4 .given))) → Typed.Mo T56
-      m34 = λ before given. s52 (before .before .before .before .before .before .before .before .before .before .before
-          .blocks) .next (m33 (before .before) (before .handle-accept-arg4 .given)) given
+      abbrev pub m32 : (before : After-handle-accept-arg4) → (given : s50 .gives
+          (m31 (before .before) (before .handle-accept-arg4 .given))) → Typed.Mo T54
+      m32 = λ before given. s50 .next (m31 (before .before) (before .handle-accept-arg4 .given)) given
 
       module _ (before· : After-handle-accept-arg4) where
         abbrev pub After-handle-accept·own : Type 0
-        After-handle-accept·own = Called.Called ps·1 r·1 (claims· .3) T55 (
-          record { pos = 24; ty = ref0; ref = λ x. x },
-          (
-            record { pos = 26; ty = ref1; ref = λ x. x },
-            (
-              record { pos = 28; ty = ref3; ref = λ x. x },
-              (
-                record { pos = 30; ty = ref4; ref = λ x. x },
-                (
-                  record { pos = 6; st = List.[]; d = 0; at = λ x. x },
-                  (record { pos = 7; ty = ref10; ref = λ x. x }, tt),
-                ),
-              ),
-            ),
-          ),
-        ) (m33 (before· .before) (before· .handle-accept-arg4 .given))
+        After-handle-accept·own = Called.Called ps·1 r·1 (claims· .3) T53 args50 (m31 (before· .before)
+            (before· .handle-accept-arg4 .given))
 
       pub record After-handle-accept : Type 0 where
         pub before : After-handle-accept-arg4
         pub handle-accept : After-handle-accept·own before
 
-      abbrev pub After-handle-accept·gave : (c : After-handle-accept) → s52 (c .before .before .before .before .before
-          .before .before .before .before .before .before .blocks) .gives (m33 (c .before .before)
+      abbrev pub After-handle-accept·gave : (c : After-handle-accept) → s50 .gives (m31 (c .before .before)
           (c .before .handle-accept-arg4 .given))
-      After-handle-accept·gave = λ c. Called.given ps·1 r·1 (claims· .3) T55 (
-        record { pos = 24; ty = ref0; ref = λ x. x },
-        (
-          record { pos = 26; ty = ref1; ref = λ x. x },
-          (
-            record { pos = 28; ty = ref3; ref = λ x. x },
-            (
-              record { pos = 30; ty = ref4; ref = λ x. x },
-              (
-                record { pos = 6; st = List.[]; d = 0; at = λ x. x },
-                (record { pos = 7; ty = ref10; ref = λ x. x }, tt),
-              ),
-            ),
-          ),
-        ),
-      ) (m33 (c .before .before) (c .before .handle-accept-arg4 .given)) (c .handle-accept)
+      After-handle-accept·gave = λ c. Called.given ps·1 r·1 (claims· .3) T53 args50 (m31 (c .before .before)
+          (c .before .handle-accept-arg4 .given)) (c .handle-accept)
 
-      abbrev pub m35 : (before : After-handle-accept-arg4) → (given : s52 (before .before .before .before .before
-          .before .before .before .before .before .before .blocks) .gives
-          (m33 (before .before) (before .handle-accept-arg4 .given))) → Typed.Mo T57
-      m35 = λ before given. s53 (before .before .before .before .before .before .before .before .before .before .before
-          .blocks) (m34 before given)
+      abbrev pub m33 : (before : After-handle-accept-arg4) → (given : s50 .gives
+          (m31 (before .before) (before .handle-accept-arg4 .given))) → Typed.Mo T55
+      m33 = λ before given. s51 (m32 before given)
 
-      abbrev pub m36 : (before : After-handle-accept) → (given : s55 (before .before .before .before .before .before
-          .before .before .before .before .before .before .blocks) .gives
-          (m35 (before .before) (After-handle-accept·gave before))) → Typed.Mo T59
-      m36 = λ before given. s55 (before .before .before .before .before .before .before .before .before .before .before
-          .before .blocks) .next (m35 (before .before) (After-handle-accept·gave before)) given
+      abbrev pub m34 : (before : After-handle-accept) → (given : s53 .gives
+          (m33 (before .before) (After-handle-accept·gave before))) → Typed.Mo T57
+      m34 = λ before given. s53 .next (m33 (before .before) (After-handle-accept·gave before)) given
 
       module _ (before· : After-handle-accept) where
         pub record After-pending2·own : Type 0 where
-          pub given : s55 (before· .before .before .before .before .before .before .before .before .before .before
-              .before .blocks) .gives (m35 (before· .before) (After-handle-accept·gave before·))
+          pub given : s53 .gives (m33 (before· .before) (After-handle-accept·gave before·))
 
       pub record After-pending2 : Type 0 where
         pub before : After-handle-accept
         pub pending2 : After-pending2·own before
 
-      abbrev pub m37 : (before : After-pending2) → (given : s58 (before .before .before .before .before .before .before
-          .before .before .before .before .before .before .blocks) .gives
-          (m36 (before .before) (before .pending2 .given))) → Typed.Mo T62
-      m37 = λ before given. s58 (before .before .before .before .before .before .before .before .before .before .before
-          .before .before .blocks) .next (m36 (before .before) (before .pending2 .given)) given
+      abbrev pub m35 : (before : After-pending2) → (given : s56 .gives (m34 (before .before) (before .pending2 .given)))
+          → Typed.Mo T60
+      m35 = λ before given. s56 .next (m34 (before .before) (before .pending2 .given)) given
 
       module _ (before· : After-pending2) where
         pub record After-circuits2·own : Type 0 where
-          pub given : s58 (before· .before .before .before .before .before .before .before .before .before .before
-              .before .before .blocks) .gives (m36 (before· .before) (before· .pending2 .given))
+          pub given : s56 .gives (m34 (before· .before) (before· .pending2 .given))
 
       pub record After-circuits2 : Type 0 where
         pub before : After-pending2
         pub circuits2 : After-circuits2·own before
 
-      abbrev pub m38 : (before : After-circuits2) → (given : s61 (before .before .before .before .before .before
-          .before .before .before .before .before .before .before .before .blocks) .gives
-          (m37 (before .before) (before .circuits2 .given))) → Typed.Mo T65
-      m38 = λ before given. s61 (before .before .before .before .before .before .before .before .before .before .before
-          .before .before .before .blocks) .next (m37 (before .before) (before .circuits2 .given)) given
+      abbrev pub m36 : (before : After-circuits2) → (given : s59 .gives
+          (m35 (before .before) (before .circuits2 .given))) → Typed.Mo T63
+      m36 = λ before given. s59 .next (m35 (before .before) (before .circuits2 .given)) given
 
       module _ (before· : After-circuits2) where
         pub record After-inflight2·own : Type 0 where
-          pub given : s61 (before· .before .before .before .before .before .before .before .before .before .before
-              .before .before .before .blocks) .gives (m37 (before· .before) (before· .circuits2 .given))
+          pub given : s59 .gives (m35 (before· .before) (before· .circuits2 .given))
 
       pub record After-inflight2 : Type 0 where
         pub before : After-circuits2
         pub inflight2 : After-inflight2·own before
 
-      abbrev pub m39 : (before : After-inflight2) → (given : s64 (before .before .before .before .before .before
-          .before .before .before .before .before .before .before .before .before .blocks) .gives
-          (m38 (before .before) (before .inflight2 .given))) → Typed.Mo T68
-      m39 = λ before given. s64 (before .before .before .before .before .before .before .before .before .before .before
-          .before .before .before .before .blocks) .next (m38 (before .before) (before .inflight2 .given)) given
+      abbrev pub m37 : (before : After-inflight2) → (given : s62 .gives
+          (m36 (before .before) (before .inflight2 .given))) → Typed.Mo T66
+      m37 = λ before given. s62 .next (m36 (before .before) (before .inflight2 .given)) given
 
       module _ (before· : After-inflight2) where
         pub record After-out2·own : Type 0 where
-          pub given : s64 (before· .before .before .before .before .before .before .before .before .before .before
-              .before .before .before .before .blocks) .gives (m38 (before· .before) (before· .inflight2 .given))
+          pub given : s62 .gives (m36 (before· .before) (before· .inflight2 .given))
 
       pub record After-out2 : Type 0 where
         pub before : After-inflight2
         pub out2 : After-out2·own before
 
-      abbrev pub m40 : (before : After-out2) → (given : s65 (before .before .before .before .before .before .before
-          .before .before .before .before .before .before .before .before .before .blocks) .gives
-          (m39 (before .before) (before .out2 .given))) → Typed.Mo T69
-      m40 = λ before given. s65 (before .before .before .before .before .before .before .before .before .before .before
-          .before .before .before .before .before .blocks) .next (m39 (before .before) (before .out2 .given)) given
+      abbrev pub m38 : (before : After-out2) → (given : s63 .gives (m37 (before .before) (before .out2 .given))) →
+          Typed.Mo T67
+      m38 = λ before given. s63 .next (m37 (before .before) (before .out2 .given)) given
 
       module _ (before· : After-out2) where
         pub record After-slice-known3·own : Type 0 where
-          pub given : s65 (before· .before .before .before .before .before .before .before .before .before .before
-              .before .before .before .before .before .blocks) .gives (m39 (before· .before) (before· .out2 .given))
+          pub given : s63 .gives (m37 (before· .before) (before· .out2 .given))
 
       pub record After-slice-known3 : Type 0 where
         pub before : After-out2
         pub slice-known3 : After-slice-known3·own before
 
-      module _ (before· : After-packet) where
+      module _ (before· : After-shared-slice-known3) where
         pub record At-match-keys3·own : Type 0 where
-          pub keys3 : Run.OneOf (17 ∷ List.[]) (Row.get 11 (T9 .locals) (m7 (before· .before) (before· .packet .given)))
+          pub keys3 : Run.OneOf (17 ∷ List.[]) (Row.get 10 (T6 .locals) (m5 (before· .before)
+              (before· .shared-slice-known3 .given)))
 
       pub record At-match-keys3 : Type 0 where
-        pub before : After-packet
+        pub before : After-shared-slice-known3
         pub match : At-match-keys3·own before
 
-      abbrev pub m41 : (before : At-match-keys3) → (given : s68 (before .before .before .before .before .before .before
-          .blocks) .gives (m7 (before .before .before) (before .before .packet .given))) → Typed.Mo T72
-      m41 = λ before given. s68 (before .before .before .before .before .before .before .blocks) .next (m7
-          (before .before .before) (before .before .packet .given)) given
+      abbrev pub m39 : (before : At-match-keys3) → (given : s66 .gives (m5 (before .before .before)
+          (before .before .shared-slice-known3 .given))) → Typed.Mo T70
+      m39 = λ before given. s66 .next (m5 (before .before .before) (before .before .shared-slice-known3 .given)) given
 
-      abbrev pub m42 : (before : At-match-keys3) → (given : s68 (before .before .before .before .before .before .before
-          .blocks) .gives (m7 (before .before .before) (before .before .packet .given))) → Typed.Mo T73
-      m42 = λ before given. s69 (before .before .before .before .before .before .before .blocks) .next
-          (m41 before given)
+      abbrev pub m40 : (before : At-match-keys3) → (given : s66 .gives (m5 (before .before .before)
+          (before .before .shared-slice-known3 .given))) → Typed.Mo T71
+      m40 = λ before given. s67 .next (m39 before given)
 
       module _ (before· : At-match-keys3) where
         pub record After-handle-data-arg·own : Type 0 where
-          pub given : s68 (before· .before .before .before .before .before .before .blocks) .gives (m7
-              (before· .before .before) (before· .before .packet .given))
+          pub given : s66 .gives (m5 (before· .before .before) (before· .before .shared-slice-known3 .given))
 
       pub record After-handle-data-arg : Type 0 where
         pub before : At-match-keys3
         pub handle-data-arg : After-handle-data-arg·own before
 
-      abbrev pub m43 : (before : After-handle-data-arg) → (given : s71 (before .before .before .before .before .before
-          .before .before .blocks) .gives (m42 (before .before) (before .handle-data-arg .given))) → Typed.Mo T75
-      m43 = λ before given. s71 (before .before .before .before .before .before .before .before .blocks) .next
-          (m42 (before .before) (before .handle-data-arg .given)) given
+      abbrev pub m41 : (before : After-handle-data-arg) → (given : s69 .gives
+          (m40 (before .before) (before .handle-data-arg .given))) → Typed.Mo T73
+      m41 = λ before given. s69 .next (m40 (before .before) (before .handle-data-arg .given)) given
 
-      abbrev pub m44 : (before : After-handle-data-arg) → (given : s71 (before .before .before .before .before .before
-          .before .before .blocks) .gives (m42 (before .before) (before .handle-data-arg .given))) → Typed.Mo T76
-      m44 = λ before given. s72 (before .before .before .before .before .before .before .before .blocks) .next
-          (m43 before given)
+      abbrev pub m42 : (before : After-handle-data-arg) → (given : s69 .gives
+          (m40 (before .before) (before .handle-data-arg .given))) → Typed.Mo T74
+      m42 = λ before given. s70 .next (m41 before given)
 
       module _ (before· : After-handle-data-arg) where
         pub record After-handle-data-arg2·own : Type 0 where
-          pub given : s71 (before· .before .before .before .before .before .before .before .blocks) .gives
-              (m42 (before· .before) (before· .handle-data-arg .given))
+          pub given : s69 .gives (m40 (before· .before) (before· .handle-data-arg .given))
 
       pub record After-handle-data-arg2 : Type 0 where
         pub before : After-handle-data-arg
         pub handle-data-arg2 : After-handle-data-arg2·own before
 
-      abbrev pub m45 : (before : After-handle-data-arg2) → (given : s74 (before .before .before .before .before .before
-          .before .before .before .blocks) .gives (m44 (before .before) (before .handle-data-arg2 .given))) → Typed.Mo
-          T78
-      m45 = λ before given. s74 (before .before .before .before .before .before .before .before .before .blocks) .next
-          (m44 (before .before) (before .handle-data-arg2 .given)) given
+      abbrev pub m43 : (before : After-handle-data-arg2) → (given : s72 .gives
+          (m42 (before .before) (before .handle-data-arg2 .given))) → Typed.Mo T76
+      m43 = λ before given. s72 .next (m42 (before .before) (before .handle-data-arg2 .given)) given
 
-      abbrev pub m46 : (before : After-handle-data-arg2) → (given : s74 (before .before .before .before .before .before
-          .before .before .before .blocks) .gives (m44 (before .before) (before .handle-data-arg2 .given))) → Typed.Mo
-          T79
-      m46 = λ before given. s75 (before .before .before .before .before .before .before .before .before .blocks) .next
-          (m45 before given)
+      abbrev pub m44 : (before : After-handle-data-arg2) → (given : s72 .gives
+          (m42 (before .before) (before .handle-data-arg2 .given))) → Typed.Mo T77
+      m44 = λ before given. s73 .next (m43 before given)
 
       module _ (before· : After-handle-data-arg2) where
         pub record After-handle-data-arg3·own : Type 0 where
-          pub given : s74 (before· .before .before .before .before .before .before .before .before .blocks) .gives
-              (m44 (before· .before) (before· .handle-data-arg2 .given))
+          pub given : s72 .gives (m42 (before· .before) (before· .handle-data-arg2 .given))
 
       pub record After-handle-data-arg3 : Type 0 where
         pub before : After-handle-data-arg2
         pub handle-data-arg3 : After-handle-data-arg3·own before
 
-      abbrev pub m47 : (before : After-handle-data-arg3) → (given : s77 (before .before .before .before .before .before
-          .before .before .before .before .blocks) .gives (m46 (before .before) (before .handle-data-arg3 .given))) →
-          Typed.Mo T81
-      m47 = λ before given. s77 (before .before .before .before .before .before .before .before .before .before .blocks)
-          .next (m46 (before .before) (before .handle-data-arg3 .given)) given
+      abbrev pub m45 : (before : After-handle-data-arg3) → (given : s75 .gives
+          (m44 (before .before) (before .handle-data-arg3 .given))) → Typed.Mo T79
+      m45 = λ before given. s75 .next (m44 (before .before) (before .handle-data-arg3 .given)) given
 
-      abbrev pub m48 : (before : After-handle-data-arg3) → (given : s77 (before .before .before .before .before .before
-          .before .before .before .before .blocks) .gives (m46 (before .before) (before .handle-data-arg3 .given))) →
-          Typed.Mo T82
-      m48 = λ before given. s78 (before .before .before .before .before .before .before .before .before .before .blocks)
-          .next (m47 before given)
+      abbrev pub m46 : (before : After-handle-data-arg3) → (given : s75 .gives
+          (m44 (before .before) (before .handle-data-arg3 .given))) → Typed.Mo T80
+      m46 = λ before given. s76 .next (m45 before given)
 
       module _ (before· : After-handle-data-arg3) where
         pub record After-handle-data-arg4·own : Type 0 where
-          pub given : s77 (before· .before .before .before .before .before .before .before .before .before .blocks)
-              .gives (m46 (before· .before) (before· .handle-data-arg3 .given))
+          pub given : s75 .gives (m44 (before· .before) (before· .handle-data-arg3 .given))
 
       pub record After-handle-data-arg4 : Type 0 where
         pub before : After-handle-data-arg3
         pub handle-data-arg4 : After-handle-data-arg4·own before
 
       abbrev pub Need-handle-data-requires : Type 0
-      Need-handle-data-requires = (c : After-handle-data-arg4) → s79 (c .before .before .before .before .before .before
-          .before .before .before .before .blocks) .asks (m48 (c .before) (c .handle-data-arg4 .given))
+      Need-handle-data-requires = (c : After-handle-data-arg4) → s77 .asks
+          (m46 (c .before) (c .handle-data-arg4 .given))
 
-      abbrev pub m49 : (before : After-handle-data-arg4) → (given : s79 (before .before .before .before .before .before
-          .before .before .before .before .before .blocks) .gives
-          (m48 (before .before) (before .handle-data-arg4 .given))) → Typed.Mo T83
-      m49 = λ before given. s79 (before .before .before .before .before .before .before .before .before .before .before
-          .blocks) .next (m48 (before .before) (before .handle-data-arg4 .given)) given
+      abbrev pub m47 : (before : After-handle-data-arg4) → (given : s77 .gives
+          (m46 (before .before) (before .handle-data-arg4 .given))) → Typed.Mo T81
+      m47 = λ before given. s77 .next (m46 (before .before) (before .handle-data-arg4 .given)) given
 
       module _ (before· : After-handle-data-arg4) where
         abbrev pub After-handle-data·own : Type 0
-        After-handle-data·own = Called.Called ps·2 r·2 (claims· .5) T82 (
-          record { pos = 32; ty = ref1; ref = λ x. x },
-          (
-            record { pos = 34; ty = ref2; ref = λ x. x },
-            (
-              record { pos = 36; ty = ref3; ref = λ x. x },
-              (
-                record { pos = 38; ty = ref4; ref = λ x. x },
-                (
-                  record { pos = 6; st = List.[]; d = 0; at = λ x. x },
-                  (record { pos = 7; ty = ref10; ref = λ x. x }, tt),
-                ),
-              ),
-            ),
-          ),
-        ) (m48 (before· .before) (before· .handle-data-arg4 .given))
+        After-handle-data·own = Called.Called ps·2 r·2 (claims· .5) T80 args77
+            (m46 (before· .before) (before· .handle-data-arg4 .given))
 
       pub record After-handle-data : Type 0 where
         pub before : After-handle-data-arg4
         pub handle-data : After-handle-data·own before
 
-      abbrev pub After-handle-data·gave : (c : After-handle-data) → s79 (c .before .before .before .before .before
-          .before .before .before .before .before .before .blocks) .gives (m48 (c .before .before)
+      abbrev pub After-handle-data·gave : (c : After-handle-data) → s77 .gives (m46 (c .before .before)
           (c .before .handle-data-arg4 .given))
-      After-handle-data·gave = λ c. Called.given ps·2 r·2 (claims· .5) T82 (
-        record { pos = 32; ty = ref1; ref = λ x. x },
-        (
-          record { pos = 34; ty = ref2; ref = λ x. x },
-          (
-            record { pos = 36; ty = ref3; ref = λ x. x },
-            (
-              record { pos = 38; ty = ref4; ref = λ x. x },
-              (
-                record { pos = 6; st = List.[]; d = 0; at = λ x. x },
-                (record { pos = 7; ty = ref10; ref = λ x. x }, tt),
-              ),
-            ),
-          ),
-        ),
-      ) (m48 (c .before .before) (c .before .handle-data-arg4 .given)) (c .handle-data)
+      After-handle-data·gave = λ c. Called.given ps·2 r·2 (claims· .5) T80 args77 (m46 (c .before .before)
+          (c .before .handle-data-arg4 .given)) (c .handle-data)
 
-      abbrev pub m50 : (before : After-handle-data-arg4) → (given : s79 (before .before .before .before .before .before
-          .before .before .before .before .before .blocks) .gives
-          (m48 (before .before) (before .handle-data-arg4 .given))) → Typed.Mo T84
-      m50 = λ before given. s80 (before .before .before .before .before .before .before .before .before .before .before
-          .blocks) (m49 before given)
+      abbrev pub m48 : (before : After-handle-data-arg4) → (given : s77 .gives
+          (m46 (before .before) (before .handle-data-arg4 .given))) → Typed.Mo T82
+      m48 = λ before given. s78 (m47 before given)
 
-      abbrev pub m51 : (before : After-handle-data) → (given : s82 (before .before .before .before .before .before
-          .before .before .before .before .before .before .blocks) .gives
-          (m50 (before .before) (After-handle-data·gave before))) → Typed.Mo T86
-      m51 = λ before given. s82 (before .before .before .before .before .before .before .before .before .before .before
-          .before .blocks) .next (m50 (before .before) (After-handle-data·gave before)) given
+      abbrev pub m49 : (before : After-handle-data) → (given : s80 .gives
+          (m48 (before .before) (After-handle-data·gave before))) → Typed.Mo T84
+      m49 = λ before given. s80 .next (m48 (before .before) (After-handle-data·gave before)) given
 
       module _ (before· : After-handle-data) where
         pub record After-circuits3·own : Type 0 where
-          pub given : s82 (before· .before .before .before .before .before .before .before .before .before .before
-              .before .blocks) .gives (m50 (before· .before) (After-handle-data·gave before·))
+          pub given : s80 .gives (m48 (before· .before) (After-handle-data·gave before·))
 
       pub record After-circuits3 : Type 0 where
         pub before : After-handle-data
         pub circuits3 : After-circuits3·own before
 
-      abbrev pub m52 : (before : After-circuits3) → (given : s85 (before .before .before .before .before .before
-          .before .before .before .before .before .before .before .blocks) .gives
-          (m51 (before .before) (before .circuits3 .given))) → Typed.Mo T89
-      m52 = λ before given. s85 (before .before .before .before .before .before .before .before .before .before .before
-          .before .before .blocks) .next (m51 (before .before) (before .circuits3 .given)) given
+      abbrev pub m50 : (before : After-circuits3) → (given : s83 .gives
+          (m49 (before .before) (before .circuits3 .given))) → Typed.Mo T87
+      m50 = λ before given. s83 .next (m49 (before .before) (before .circuits3 .given)) given
 
       module _ (before· : After-circuits3) where
         pub record After-ledger2·own : Type 0 where
-          pub given : s85 (before· .before .before .before .before .before .before .before .before .before .before
-              .before .before .blocks) .gives (m51 (before· .before) (before· .circuits3 .given))
+          pub given : s83 .gives (m49 (before· .before) (before· .circuits3 .given))
 
       pub record After-ledger2 : Type 0 where
         pub before : After-circuits3
         pub ledger2 : After-ledger2·own before
 
-      abbrev pub m53 : (before : After-ledger2) → (given : s88 (before .before .before .before .before .before .before
-          .before .before .before .before .before .before .before .blocks) .gives
-          (m52 (before .before) (before .ledger2 .given))) → Typed.Mo T92
-      m53 = λ before given. s88 (before .before .before .before .before .before .before .before .before .before .before
-          .before .before .before .blocks) .next (m52 (before .before) (before .ledger2 .given)) given
+      abbrev pub m51 : (before : After-ledger2) → (given : s86 .gives (m50 (before .before) (before .ledger2 .given)))
+          → Typed.Mo T90
+      m51 = λ before given. s86 .next (m50 (before .before) (before .ledger2 .given)) given
 
       module _ (before· : After-ledger2) where
         pub record After-inflight3·own : Type 0 where
-          pub given : s88 (before· .before .before .before .before .before .before .before .before .before .before
-              .before .before .before .blocks) .gives (m52 (before· .before) (before· .ledger2 .given))
+          pub given : s86 .gives (m50 (before· .before) (before· .ledger2 .given))
 
       pub record After-inflight3 : Type 0 where
         pub before : After-ledger2
         pub inflight3 : After-inflight3·own before
 
-      abbrev pub m54 : (before : After-inflight3) → (given : s91 (before .before .before .before .before .before
-          .before .before .before .before .before .before .before .before .before .blocks) .gives
-          (m53 (before .before) (before .inflight3 .given))) → Typed.Mo T95
-      m54 = λ before given. s91 (before .before .before .before .before .before .before .before .before .before .before
-          .before .before .before .before .blocks) .next (m53 (before .before) (before .inflight3 .given)) given
+      abbrev pub m52 : (before : After-inflight3) → (given : s89 .gives
+          (m51 (before .before) (before .inflight3 .given))) → Typed.Mo T93
+      m52 = λ before given. s89 .next (m51 (before .before) (before .inflight3 .given)) given
 
       module _ (before· : After-inflight3) where
         pub record After-out3·own : Type 0 where
-          pub given : s91 (before· .before .before .before .before .before .before .before .before .before .before
-              .before .before .before .before .blocks) .gives (m53 (before· .before) (before· .inflight3 .given))
+          pub given : s89 .gives (m51 (before· .before) (before· .inflight3 .given))
 
       pub record After-out3 : Type 0 where
         pub before : After-inflight3
         pub out3 : After-out3·own before
 
-      abbrev pub m55 : (before : After-out3) → (given : s92 (before .before .before .before .before .before .before
-          .before .before .before .before .before .before .before .before .before .blocks) .gives
-          (m54 (before .before) (before .out3 .given))) → Typed.Mo T96
-      m55 = λ before given. s92 (before .before .before .before .before .before .before .before .before .before .before
-          .before .before .before .before .before .blocks) .next (m54 (before .before) (before .out3 .given)) given
+      abbrev pub m53 : (before : After-out3) → (given : s90 .gives (m52 (before .before) (before .out3 .given))) →
+          Typed.Mo T94
+      m53 = λ before given. s90 .next (m52 (before .before) (before .out3 .given)) given
 
       module _ (before· : After-out3) where
         pub record After-slice-known4·own : Type 0 where
-          pub given : s92 (before· .before .before .before .before .before .before .before .before .before .before
-              .before .before .before .before .before .blocks) .gives (m54 (before· .before) (before· .out3 .given))
+          pub given : s90 .gives (m52 (before· .before) (before· .out3 .given))
 
       pub record After-slice-known4 : Type 0 where
         pub before : After-out3
         pub slice-known4 : After-slice-known4·own before
 
-      module _ (before· : After-packet) where
+      module _ (before· : After-shared-slice-known3) where
         pub record At-match-keys4·own : Type 0 where
-          pub keys4 : Run.OneOf (18 ∷ List.[]) (Row.get 11 (T9 .locals) (m7 (before· .before) (before· .packet .given)))
+          pub keys4 : Run.OneOf (18 ∷ List.[]) (Row.get 10 (T6 .locals) (m5 (before· .before)
+              (before· .shared-slice-known3 .given)))
 
       pub record At-match-keys4 : Type 0 where
-        pub before : After-packet
+        pub before : After-shared-slice-known3
         pub match : At-match-keys4·own before
 
-      abbrev pub m56 : (before : At-match-keys4) → (given : s95 (before .before .before .before .before .before .before
-          .blocks) .gives (m7 (before .before .before) (before .before .packet .given))) → Typed.Mo T99
-      m56 = λ before given. s95 (before .before .before .before .before .before .before .blocks) .next (m7
-          (before .before .before) (before .before .packet .given)) given
+      abbrev pub m54 : (before : At-match-keys4) → (given : s93 .gives (m5 (before .before .before)
+          (before .before .shared-slice-known3 .given))) → Typed.Mo T97
+      m54 = λ before given. s93 .next (m5 (before .before .before) (before .before .shared-slice-known3 .given)) given
 
-      abbrev pub m57 : (before : At-match-keys4) → (given : s95 (before .before .before .before .before .before .before
-          .blocks) .gives (m7 (before .before .before) (before .before .packet .given))) → Typed.Mo T100
-      m57 = λ before given. s96 (before .before .before .before .before .before .before .blocks) .next
-          (m56 before given)
+      abbrev pub m55 : (before : At-match-keys4) → (given : s93 .gives (m5 (before .before .before)
+          (before .before .shared-slice-known3 .given))) → Typed.Mo T98
+      m55 = λ before given. s94 .next (m54 before given)
 
       module _ (before· : At-match-keys4) where
         pub record After-handle-window-arg·own : Type 0 where
-          pub given : s95 (before· .before .before .before .before .before .before .blocks) .gives (m7
-              (before· .before .before) (before· .before .packet .given))
+          pub given : s93 .gives (m5 (before· .before .before) (before· .before .shared-slice-known3 .given))
 
       pub record After-handle-window-arg : Type 0 where
         pub before : At-match-keys4
         pub handle-window-arg : After-handle-window-arg·own before
 
-      abbrev pub m58 : (before : After-handle-window-arg) → (given : s98 (before .before .before .before .before
-          .before .before .before .blocks) .gives (m57 (before .before) (before .handle-window-arg .given))) → Typed.Mo
-          T102
-      m58 = λ before given. s98 (before .before .before .before .before .before .before .before .blocks) .next
-          (m57 (before .before) (before .handle-window-arg .given)) given
+      abbrev pub m56 : (before : After-handle-window-arg) → (given : s96 .gives
+          (m55 (before .before) (before .handle-window-arg .given))) → Typed.Mo T100
+      m56 = λ before given. s96 .next (m55 (before .before) (before .handle-window-arg .given)) given
 
-      abbrev pub m59 : (before : After-handle-window-arg) → (given : s98 (before .before .before .before .before
-          .before .before .before .blocks) .gives (m57 (before .before) (before .handle-window-arg .given))) → Typed.Mo
-          T103
-      m59 = λ before given. s99 (before .before .before .before .before .before .before .before .blocks) .next
-          (m58 before given)
+      abbrev pub m57 : (before : After-handle-window-arg) → (given : s96 .gives
+          (m55 (before .before) (before .handle-window-arg .given))) → Typed.Mo T101
+      m57 = λ before given. s97 .next (m56 before given)
 
       module _ (before· : After-handle-window-arg) where
         pub record After-handle-window-arg2·own : Type 0 where
-          pub given : s98 (before· .before .before .before .before .before .before .before .blocks) .gives
-              (m57 (before· .before) (before· .handle-window-arg .given))
+          pub given : s96 .gives (m55 (before· .before) (before· .handle-window-arg .given))
 
       pub record After-handle-window-arg2 : Type 0 where
         pub before : After-handle-window-arg
         pub handle-window-arg2 : After-handle-window-arg2·own before
 
-      abbrev pub m60 : (before : After-handle-window-arg2) → (given : s101 (before .before .before .before .before
-          .before .before .before .before .blocks) .gives (m59 (before .before) (before .handle-window-arg2 .given))) →
-          Typed.Mo T105
-      m60 = λ before given. s101 (before .before .before .before .before .before .before .before .before .blocks) .next
-          (m59 (before .before) (before .handle-window-arg2 .given)) given
+      abbrev pub m58 : (before : After-handle-window-arg2) → (given : s99 .gives
+          (m57 (before .before) (before .handle-window-arg2 .given))) → Typed.Mo T103
+      m58 = λ before given. s99 .next (m57 (before .before) (before .handle-window-arg2 .given)) given
 
-      abbrev pub m61 : (before : After-handle-window-arg2) → (given : s101 (before .before .before .before .before
-          .before .before .before .before .blocks) .gives (m59 (before .before) (before .handle-window-arg2 .given))) →
-          Typed.Mo T106
-      m61 = λ before given. s102 (before .before .before .before .before .before .before .before .before .blocks) .next
-          (m60 before given)
+      abbrev pub m59 : (before : After-handle-window-arg2) → (given : s99 .gives
+          (m57 (before .before) (before .handle-window-arg2 .given))) → Typed.Mo T104
+      m59 = λ before given. s100 .next (m58 before given)
 
       module _ (before· : After-handle-window-arg2) where
         pub record After-handle-window-arg3·own : Type 0 where
-          pub given : s101 (before· .before .before .before .before .before .before .before .before .blocks) .gives (m59
-              (before· .before) (before· .handle-window-arg2 .given))
+          pub given : s99 .gives (m57 (before· .before) (before· .handle-window-arg2 .given))
 
       pub record After-handle-window-arg3 : Type 0 where
         pub before : After-handle-window-arg2
         pub handle-window-arg3 : After-handle-window-arg3·own before
 
       abbrev pub Need-handle-window-requires : Type 0
-      Need-handle-window-requires = (c : After-handle-window-arg3) → s103 (c .before .before .before .before .before
-          .before .before .before .before .blocks) .asks (m61 (c .before) (c .handle-window-arg3 .given))
+      Need-handle-window-requires = (c : After-handle-window-arg3) → s101 .asks
+          (m59 (c .before) (c .handle-window-arg3 .given))
 
-      abbrev pub m62 : (before : After-handle-window-arg3) → (given : s103 (before .before .before .before .before
-          .before .before .before .before .before .blocks) .gives
-          (m61 (before .before) (before .handle-window-arg3 .given))) → Typed.Mo T107
-      m62 = λ before given. s103 (before .before .before .before .before .before .before .before .before .before
-          .blocks) .next (m61 (before .before) (before .handle-window-arg3 .given)) given
+      abbrev pub m60 : (before : After-handle-window-arg3) → (given : s101 .gives
+          (m59 (before .before) (before .handle-window-arg3 .given))) → Typed.Mo T105
+      m60 = λ before given. s101 .next (m59 (before .before) (before .handle-window-arg3 .given)) given
 
       module _ (before· : After-handle-window-arg3) where
         abbrev pub After-handle-window·own : Type 0
-        After-handle-window·own = Called.Called ps·3 r·3 (claims· .7) T106 (
-          record { pos = 40; ty = ref1; ref = λ x. x },
-          (
-            record { pos = 42; ty = ref3; ref = λ x. x },
-            (
-              record { pos = 44; ty = ref4; ref = λ x. x },
-              (
-                record { pos = 6; st = List.[]; d = 0; at = λ x. x },
-                (record { pos = 7; ty = ref10; ref = λ x. x }, tt),
-              ),
-            ),
-          ),
-        ) (m61 (before· .before) (before· .handle-window-arg3 .given))
+        After-handle-window·own = Called.Called ps·3 r·3 (claims· .7) T104 args101 (m59 (before· .before)
+            (before· .handle-window-arg3 .given))
 
       pub record After-handle-window : Type 0 where
         pub before : After-handle-window-arg3
         pub handle-window : After-handle-window·own before
 
-      abbrev pub After-handle-window·gave : (c : After-handle-window) → s103 (c .before .before .before .before .before
-          .before .before .before .before .before .blocks) .gives (m61 (c .before .before)
+      abbrev pub After-handle-window·gave : (c : After-handle-window) → s101 .gives (m59 (c .before .before)
           (c .before .handle-window-arg3 .given))
-      After-handle-window·gave = λ c. Called.given ps·3 r·3 (claims· .7) T106 (
-        record { pos = 40; ty = ref1; ref = λ x. x },
-        (
-          record { pos = 42; ty = ref3; ref = λ x. x },
-          (
-            record { pos = 44; ty = ref4; ref = λ x. x },
-            (record { pos = 6; st = List.[]; d = 0; at = λ x. x }, (record { pos = 7; ty = ref10; ref = λ x. x }, tt)),
-          ),
-        ),
-      ) (m61 (c .before .before) (c .before .handle-window-arg3 .given)) (c .handle-window)
+      After-handle-window·gave = λ c. Called.given ps·3 r·3 (claims· .7) T104 args101 (m59 (c .before .before)
+          (c .before .handle-window-arg3 .given)) (c .handle-window)
 
-      abbrev pub m63 : (before : After-handle-window-arg3) → (given : s103 (before .before .before .before .before
-          .before .before .before .before .before .blocks) .gives
-          (m61 (before .before) (before .handle-window-arg3 .given))) → Typed.Mo T108
-      m63 = λ before given. s104 (before .before .before .before .before .before .before .before .before .before
-          .blocks) (m62 before given)
+      abbrev pub m61 : (before : After-handle-window-arg3) → (given : s101 .gives
+          (m59 (before .before) (before .handle-window-arg3 .given))) → Typed.Mo T106
+      m61 = λ before given. s102 (m60 before given)
 
-      abbrev pub m64 : (before : After-handle-window) → (given : s106 (before .before .before .before .before .before
-          .before .before .before .before .before .blocks) .gives
-          (m63 (before .before) (After-handle-window·gave before))) → Typed.Mo T110
-      m64 = λ before given. s106 (before .before .before .before .before .before .before .before .before .before
-          .before .blocks) .next (m63 (before .before) (After-handle-window·gave before)) given
+      abbrev pub m62 : (before : After-handle-window) → (given : s104 .gives
+          (m61 (before .before) (After-handle-window·gave before))) → Typed.Mo T108
+      m62 = λ before given. s104 .next (m61 (before .before) (After-handle-window·gave before)) given
 
       module _ (before· : After-handle-window) where
         pub record After-circuits4·own : Type 0 where
-          pub given : s106 (before· .before .before .before .before .before .before .before .before .before .before
-              .blocks) .gives (m63 (before· .before) (After-handle-window·gave before·))
+          pub given : s104 .gives (m61 (before· .before) (After-handle-window·gave before·))
 
       pub record After-circuits4 : Type 0 where
         pub before : After-handle-window
         pub circuits4 : After-circuits4·own before
 
-      abbrev pub m65 : (before : After-circuits4) → (given : s109 (before .before .before .before .before .before
-          .before .before .before .before .before .before .blocks) .gives
-          (m64 (before .before) (before .circuits4 .given))) → Typed.Mo T113
-      m65 = λ before given. s109 (before .before .before .before .before .before .before .before .before .before
-          .before .before .blocks) .next (m64 (before .before) (before .circuits4 .given)) given
+      abbrev pub m63 : (before : After-circuits4) → (given : s107 .gives
+          (m62 (before .before) (before .circuits4 .given))) → Typed.Mo T111
+      m63 = λ before given. s107 .next (m62 (before .before) (before .circuits4 .given)) given
 
       module _ (before· : After-circuits4) where
         pub record After-inflight4·own : Type 0 where
-          pub given : s109 (before· .before .before .before .before .before .before .before .before .before .before
-              .before .blocks) .gives (m64 (before· .before) (before· .circuits4 .given))
+          pub given : s107 .gives (m62 (before· .before) (before· .circuits4 .given))
 
       pub record After-inflight4 : Type 0 where
         pub before : After-circuits4
         pub inflight4 : After-inflight4·own before
 
-      abbrev pub m66 : (before : After-inflight4) → (given : s112 (before .before .before .before .before .before
-          .before .before .before .before .before .before .before .blocks) .gives
-          (m65 (before .before) (before .inflight4 .given))) → Typed.Mo T116
-      m66 = λ before given. s112 (before .before .before .before .before .before .before .before .before .before
-          .before .before .before .blocks) .next (m65 (before .before) (before .inflight4 .given)) given
+      abbrev pub m64 : (before : After-inflight4) → (given : s110 .gives
+          (m63 (before .before) (before .inflight4 .given))) → Typed.Mo T114
+      m64 = λ before given. s110 .next (m63 (before .before) (before .inflight4 .given)) given
 
       module _ (before· : After-inflight4) where
         pub record After-out4·own : Type 0 where
-          pub given : s112 (before· .before .before .before .before .before .before .before .before .before .before
-              .before .before .blocks) .gives (m65 (before· .before) (before· .inflight4 .given))
+          pub given : s110 .gives (m63 (before· .before) (before· .inflight4 .given))
 
       pub record After-out4 : Type 0 where
         pub before : After-inflight4
         pub out4 : After-out4·own before
 
-      abbrev pub m67 : (before : After-out4) → (given : s113 (before .before .before .before .before .before .before
-          .before .before .before .before .before .before .before .blocks) .gives
-          (m66 (before .before) (before .out4 .given))) → Typed.Mo T117
-      m67 = λ before given. s113 (before .before .before .before .before .before .before .before .before .before
-          .before .before .before .before .blocks) .next (m66 (before .before) (before .out4 .given)) given
+      abbrev pub m65 : (before : After-out4) → (given : s111 .gives (m64 (before .before) (before .out4 .given))) →
+          Typed.Mo T115
+      m65 = λ before given. s111 .next (m64 (before .before) (before .out4 .given)) given
 
       module _ (before· : After-out4) where
         pub record After-slice-known5·own : Type 0 where
-          pub given : s113 (before· .before .before .before .before .before .before .before .before .before .before
-              .before .before .before .blocks) .gives (m66 (before· .before) (before· .out4 .given))
+          pub given : s111 .gives (m64 (before· .before) (before· .out4 .given))
 
       pub record After-slice-known5 : Type 0 where
         pub before : After-out4
         pub slice-known5 : After-slice-known5·own before
 
-      module _ (before· : After-packet) where
+      module _ (before· : After-shared-slice-known3) where
         pub record At-match-keys5·own : Type 0 where
-          pub keys5 : Run.OneOf (14 ∷ 16 ∷ List.[]) (Row.get 11 (T9 .locals)
-              (m7 (before· .before) (before· .packet .given)))
+          pub keys5 : Run.OneOf (14 ∷ 16 ∷ List.[]) (Row.get 10 (T6 .locals) (m5 (before· .before)
+              (before· .shared-slice-known3 .given)))
 
       pub record At-match-keys5 : Type 0 where
-        pub before : After-packet
+        pub before : After-shared-slice-known3
         pub match : At-match-keys5·own before
 
-      abbrev pub m68 : (before : After-packet) → Typed.Mo T119
-      m68 = λ before. s115 (before .before .before .before .before .before .blocks) .next
-          (m7 (before .before) (before .packet .given))
+      abbrev pub m66 : (before : After-shared-slice-known3) → Typed.Mo T117
+      m66 = λ before. s113 .next (m5 (before .before) (before .shared-slice-known3 .given))
 
-      abbrev W5 : (before : After-packet) → Typed.Want O5
-      W5 = λ before. Typed.wantNext T120 O4 (at152 (before .before .before .before .before .before .blocks)
-          (W4 (before .before) (before .packet .given))) (W4 (before .before) (before .packet .given))
+      abbrev W5 : (before : After-shared-slice-known3) → Typed.Want O5
+      W5 = λ before. Typed.wantNext T118 O4 (at152 (W4 (before .before) (before .shared-slice-known3 .given)))
+          (W4 (before .before) (before .shared-slice-known3 .given))
 
-      module _ (before· : After-packet) where
+      module _ (before· : After-shared-slice-known3) where
         pub record At-match-rest·own : Type 0 where
-          pub rest : ((((Unit {0} × (Run.OneOf (13 ∷ List.[]) (Row.get 11 (T9 .locals)
-              (m7 (before· .before) (before· .packet .given))) → ⊥)) × (Run.OneOf (15 ∷ List.[]) (Row.get 11
-              (T9 .locals) (m7 (before· .before) (before· .packet .given))) → ⊥)) × (Run.OneOf (17 ∷ List.[]) (Row.get
-              11 (T9 .locals) (m7 (before· .before) (before· .packet .given))) → ⊥)) × (Run.OneOf (18 ∷ List.[]) (Row.get
-              11 (T9 .locals) (m7 (before· .before) (before· .packet .given))) → ⊥)) × (Run.OneOf (14 ∷ 16 ∷ List.[]) (Row.get
-              11 (T9 .locals) (m7 (before· .before) (before· .packet .given))) → ⊥)
+          pub rest : ((((Unit {0} × (Run.OneOf (13 ∷ List.[]) (Row.get 10 (T6 .locals) (m5 (before· .before)
+              (before· .shared-slice-known3 .given))) → ⊥)) × (Run.OneOf (15 ∷ List.[]) (Row.get 10 (T6 .locals) (m5
+              (before· .before) (before· .shared-slice-known3 .given))) → ⊥)) × (Run.OneOf (17 ∷ List.[]) (Row.get 10
+              (T6 .locals) (m5 (before· .before) (before· .shared-slice-known3 .given))) → ⊥)) × (Run.OneOf
+              (18 ∷ List.[]) (Row.get 10 (T6 .locals) (m5 (before· .before) (before· .shared-slice-known3 .given))) →
+              ⊥)) × (Run.OneOf (14 ∷ 16 ∷ List.[]) (Row.get 10 (T6 .locals) (m5 (before· .before)
+              (before· .shared-slice-known3 .given))) → ⊥)
 
       pub record At-match-rest : Type 0 where
-        pub before : After-packet
+        pub before : After-shared-slice-known3
         pub match : At-match-rest·own before
 
       module _ (before· : At-match-rest) where
         pub record Then1·own : Type 0 where
-          pub taken : Nat._<_ (Row.get 11 (T9 .locals) (m7 (before· .before .before) (before· .before .packet .given)))
-              13
+          pub taken : Nat._<_ (Row.get 10 (T6 .locals) (m5 (before· .before .before)
+              (before· .before .shared-slice-known3 .given))) 13
 
       pub record Then1 : Type 0 where
         pub before : At-match-rest
         pub if1 : Then1·own before
 
-      abbrev pub m69 : (before : At-match-rest) → Typed.Mo T121
-      m69 = λ before. s116 (before .before .before .before .before .before .before .blocks) (m68 (before .before))
+      abbrev pub m67 : (before : At-match-rest) → Typed.Mo T119
+      m67 = λ before. s114 (m66 (before .before))
 
       module _ (before· : At-match-rest) where
         pub record Else1·own : Type 0 where
-          pub left : Nat._≤_ 13 (Row.get 11 (T9 .locals) (m7 (before· .before .before)
-              (before· .before .packet .given)))
+          pub left : Nat._≤_ 13 (Row.get 10 (T6 .locals) (m5 (before· .before .before)
+              (before· .before .shared-slice-known3 .given)))
 
       pub record Else1 : Type 0 where
         pub before : At-match-rest
         pub if1 : Else1·own before
 
-      abbrev pub m70 : (before : At-match-rest) → Typed.Mo T122
-      m70 = λ before. s117 (before .before .before .before .before .before .before .blocks) (m68 (before .before))
+      abbrev pub m68 : (before : At-match-rest) → Typed.Mo T120
+      m68 = λ before. s115 (m66 (before .before))
 
-      abbrev pub m71 : (before : At-match-rest) → Typed.Mo T123
-      m71 = λ before. s118 (before .before .before .before .before .before .before .blocks) .next (m70 before)
+      abbrev pub m69 : (before : At-match-rest) → Typed.Mo T121
+      m69 = λ before. s116 .next (m68 before)
 
       abbrev W6 : (before : At-match-rest) → Typed.Want O6
-      W6 = λ before. Typed.wantNext T124 O4 (at150 (before .before .before .before .before .before .before .blocks) (W4
-          (before .before .before) (before .before .packet .given))) (W4 (before .before .before)
-          (before .before .packet .given))
+      W6 = λ before. Typed.wantNext T122 O4 (at150 (W4 (before .before .before)
+          (before .before .shared-slice-known3 .given))) (W4 (before .before .before)
+          (before .before .shared-slice-known3 .given))
 
       module _ (before· : Else1) where
         pub record Then2·own : Type 0 where
-          pub taken : Nat._<_ (Row.get 11 (T120 .locals) (m70 (before· .before))) 21
+          pub taken : Nat._<_ (Row.get 10 (T118 .locals) (m68 (before· .before))) 21
 
       pub record Then2 : Type 0 where
         pub before : Else1
         pub if2 : Then2·own before
 
-      abbrev pub m72 : (before : Else1) → Typed.Mo T125
-      m72 = λ before. s119 (before .before .before .before .before .before .before .before .blocks)
-          (m71 (before .before))
+      abbrev pub m70 : (before : Else1) → Typed.Mo T123
+      m70 = λ before. s117 (m69 (before .before))
 
-      abbrev pub m73 : (before : Then2) → (given : s121 (before .before .before .before .before .before .before .before
-          .before .blocks) .gives (m72 (before .before))) → Typed.Mo T127
-      m73 = λ before given. s121 (before .before .before .before .before .before .before .before .before .blocks) .next
-          (m72 (before .before)) given
+      abbrev pub m71 : (before : Then2) → (given : s119 .gives (m70 (before .before))) → Typed.Mo T125
+      m71 = λ before given. s119 .next (m70 (before .before)) given
 
-      abbrev pub m74 : (before : Then2) → (given : s121 (before .before .before .before .before .before .before .before
-          .before .blocks) .gives (m72 (before .before))) → Typed.Mo T128
-      m74 = λ before given. s122 (before .before .before .before .before .before .before .before .before .blocks) .next
-          (m73 before given)
+      abbrev pub m72 : (before : Then2) → (given : s119 .gives (m70 (before .before))) → Typed.Mo T126
+      m72 = λ before given. s120 .next (m71 before given)
 
       module _ (before· : Then2) where
         pub record After-handle-close-arg·own : Type 0 where
-          pub given : s121 (before· .before .before .before .before .before .before .before .before .blocks) .gives
-              (m72 (before· .before))
+          pub given : s119 .gives (m70 (before· .before))
 
       pub record After-handle-close-arg : Type 0 where
         pub before : Then2
         pub handle-close-arg : After-handle-close-arg·own before
 
-      abbrev pub m75 : (before : After-handle-close-arg) → (given : s124 (before .before .before .before .before
-          .before .before .before .before .before .blocks) .gives
-          (m74 (before .before) (before .handle-close-arg .given))) → Typed.Mo T130
-      m75 = λ before given. s124 (before .before .before .before .before .before .before .before .before .before
-          .blocks) .next (m74 (before .before) (before .handle-close-arg .given)) given
+      abbrev pub m73 : (before : After-handle-close-arg) → (given : s122 .gives
+          (m72 (before .before) (before .handle-close-arg .given))) → Typed.Mo T128
+      m73 = λ before given. s122 .next (m72 (before .before) (before .handle-close-arg .given)) given
 
-      abbrev pub m76 : (before : After-handle-close-arg) → (given : s124 (before .before .before .before .before
-          .before .before .before .before .before .blocks) .gives
-          (m74 (before .before) (before .handle-close-arg .given))) → Typed.Mo T131
-      m76 = λ before given. s125 (before .before .before .before .before .before .before .before .before .before
-          .blocks) .next (m75 before given)
+      abbrev pub m74 : (before : After-handle-close-arg) → (given : s122 .gives
+          (m72 (before .before) (before .handle-close-arg .given))) → Typed.Mo T129
+      m74 = λ before given. s123 .next (m73 before given)
 
       module _ (before· : After-handle-close-arg) where
         pub record After-handle-close-arg2·own : Type 0 where
-          pub given : s124 (before· .before .before .before .before .before .before .before .before .before .blocks)
-              .gives (m74 (before· .before) (before· .handle-close-arg .given))
+          pub given : s122 .gives (m72 (before· .before) (before· .handle-close-arg .given))
 
       pub record After-handle-close-arg2 : Type 0 where
         pub before : After-handle-close-arg
         pub handle-close-arg2 : After-handle-close-arg2·own before
 
-      abbrev pub m77 : (before : After-handle-close-arg2) → (given : s127 (before .before .before .before .before
-          .before .before .before .before .before .before .blocks) .gives
-          (m76 (before .before) (before .handle-close-arg2 .given))) → Typed.Mo T133
-      m77 = λ before given. s127 (before .before .before .before .before .before .before .before .before .before
-          .before .blocks) .next (m76 (before .before) (before .handle-close-arg2 .given)) given
+      abbrev pub m75 : (before : After-handle-close-arg2) → (given : s125 .gives
+          (m74 (before .before) (before .handle-close-arg2 .given))) → Typed.Mo T131
+      m75 = λ before given. s125 .next (m74 (before .before) (before .handle-close-arg2 .given)) given
 
-      abbrev pub m78 : (before : After-handle-close-arg2) → (given : s127 (before .before .before .before .before
-          .before .before .before .before .before .before .blocks) .gives
-          (m76 (before .before) (before .handle-close-arg2 .given))) → Typed.Mo T134
-      m78 = λ before given. s128 (before .before .before .before .before .before .before .before .before .before
-          .before .blocks) .next (m77 before given)
+      abbrev pub m76 : (before : After-handle-close-arg2) → (given : s125 .gives
+          (m74 (before .before) (before .handle-close-arg2 .given))) → Typed.Mo T132
+      m76 = λ before given. s126 .next (m75 before given)
 
       module _ (before· : After-handle-close-arg2) where
         pub record After-handle-close-arg3·own : Type 0 where
-          pub given : s127 (before· .before .before .before .before .before .before .before .before .before .before
-              .blocks) .gives (m76 (before· .before) (before· .handle-close-arg2 .given))
+          pub given : s125 .gives (m74 (before· .before) (before· .handle-close-arg2 .given))
 
       pub record After-handle-close-arg3 : Type 0 where
         pub before : After-handle-close-arg2
         pub handle-close-arg3 : After-handle-close-arg3·own before
 
-      abbrev pub m79 : (before : After-handle-close-arg3) → (given : s130 (before .before .before .before .before
-          .before .before .before .before .before .before .before .blocks) .gives
-          (m78 (before .before) (before .handle-close-arg3 .given))) → Typed.Mo T136
-      m79 = λ before given. s130 (before .before .before .before .before .before .before .before .before .before
-          .before .before .blocks) .next (m78 (before .before) (before .handle-close-arg3 .given)) given
+      abbrev pub m77 : (before : After-handle-close-arg3) → (given : s128 .gives
+          (m76 (before .before) (before .handle-close-arg3 .given))) → Typed.Mo T134
+      m77 = λ before given. s128 .next (m76 (before .before) (before .handle-close-arg3 .given)) given
 
-      abbrev pub m80 : (before : After-handle-close-arg3) → (given : s130 (before .before .before .before .before
-          .before .before .before .before .before .before .before .blocks) .gives
-          (m78 (before .before) (before .handle-close-arg3 .given))) → Typed.Mo T137
-      m80 = λ before given. s131 (before .before .before .before .before .before .before .before .before .before
-          .before .before .blocks) .next (m79 before given)
+      abbrev pub m78 : (before : After-handle-close-arg3) → (given : s128 .gives
+          (m76 (before .before) (before .handle-close-arg3 .given))) → Typed.Mo T135
+      m78 = λ before given. s129 .next (m77 before given)
 
       module _ (before· : After-handle-close-arg3) where
         pub record After-handle-close-arg4·own : Type 0 where
-          pub given : s130 (before· .before .before .before .before .before .before .before .before .before .before
-              .before .blocks) .gives (m78 (before· .before) (before· .handle-close-arg3 .given))
+          pub given : s128 .gives (m76 (before· .before) (before· .handle-close-arg3 .given))
 
       pub record After-handle-close-arg4 : Type 0 where
         pub before : After-handle-close-arg3
         pub handle-close-arg4 : After-handle-close-arg4·own before
 
       abbrev pub Need-handle-close-requires : Type 0
-      Need-handle-close-requires = (c : After-handle-close-arg4) → s132 (c .before .before .before .before .before
-          .before .before .before .before .before .before .before .blocks) .asks
-          (m80 (c .before) (c .handle-close-arg4 .given))
+      Need-handle-close-requires = (c : After-handle-close-arg4) → s130 .asks
+          (m78 (c .before) (c .handle-close-arg4 .given))
 
-      abbrev pub m81 : (before : After-handle-close-arg4) → (given : s132 (before .before .before .before .before
-          .before .before .before .before .before .before .before .before .blocks) .gives
-          (m80 (before .before) (before .handle-close-arg4 .given))) → Typed.Mo T138
-      m81 = λ before given. s132 (before .before .before .before .before .before .before .before .before .before
-          .before .before .before .blocks) .next (m80 (before .before) (before .handle-close-arg4 .given)) given
+      abbrev pub m79 : (before : After-handle-close-arg4) → (given : s130 .gives
+          (m78 (before .before) (before .handle-close-arg4 .given))) → Typed.Mo T136
+      m79 = λ before given. s130 .next (m78 (before .before) (before .handle-close-arg4 .given)) given
 
       module _ (before· : After-handle-close-arg4) where
         abbrev pub After-handle-close·own : Type 0
-        After-handle-close·own = Called.Called ps·4 r·4 (claims· .9) T137 (
-          record { pos = 47; ty = ref0; ref = λ x. x },
-          (
-            record { pos = 49; ty = ref1; ref = λ x. x },
-            (
-              record { pos = 51; ty = ref3; ref = λ x. x },
-              (
-                record { pos = 53; ty = ref4; ref = λ x. x },
-                (
-                  record { pos = 6; st = List.[]; d = 0; at = λ x. x },
-                  (record { pos = 7; ty = ref10; ref = λ x. x }, tt),
-                ),
-              ),
-            ),
-          ),
-        ) (m80 (before· .before) (before· .handle-close-arg4 .given))
+        After-handle-close·own = Called.Called ps·4 r·4 (claims· .9) T135 args130
+            (m78 (before· .before) (before· .handle-close-arg4 .given))
 
       pub record After-handle-close : Type 0 where
         pub before : After-handle-close-arg4
         pub handle-close : After-handle-close·own before
 
-      abbrev pub After-handle-close·gave : (c : After-handle-close) → s132 (c .before .before .before .before .before
-          .before .before .before .before .before .before .before .before .blocks) .gives (m80 (c .before .before)
+      abbrev pub After-handle-close·gave : (c : After-handle-close) → s130 .gives (m78 (c .before .before)
           (c .before .handle-close-arg4 .given))
-      After-handle-close·gave = λ c. Called.given ps·4 r·4 (claims· .9) T137 (
-        record { pos = 47; ty = ref0; ref = λ x. x },
-        (
-          record { pos = 49; ty = ref1; ref = λ x. x },
-          (
-            record { pos = 51; ty = ref3; ref = λ x. x },
-            (
-              record { pos = 53; ty = ref4; ref = λ x. x },
-              (
-                record { pos = 6; st = List.[]; d = 0; at = λ x. x },
-                (record { pos = 7; ty = ref10; ref = λ x. x }, tt),
-              ),
-            ),
-          ),
-        ),
-      ) (m80 (c .before .before) (c .before .handle-close-arg4 .given)) (c .handle-close)
+      After-handle-close·gave = λ c. Called.given ps·4 r·4 (claims· .9) T135 args130 (m78 (c .before .before)
+          (c .before .handle-close-arg4 .given)) (c .handle-close)
 
-      abbrev pub m82 : (before : After-handle-close-arg4) → (given : s132 (before .before .before .before .before
-          .before .before .before .before .before .before .before .before .blocks) .gives
-          (m80 (before .before) (before .handle-close-arg4 .given))) → Typed.Mo T139
-      m82 = λ before given. s133 (before .before .before .before .before .before .before .before .before .before
-          .before .before .before .blocks) (m81 before given)
+      abbrev pub m80 : (before : After-handle-close-arg4) → (given : s130 .gives
+          (m78 (before .before) (before .handle-close-arg4 .given))) → Typed.Mo T137
+      m80 = λ before given. s131 (m79 before given)
 
-      abbrev pub m83 : (before : After-handle-close) → (given : s135 (before .before .before .before .before .before
-          .before .before .before .before .before .before .before .before .blocks) .gives
-          (m82 (before .before) (After-handle-close·gave before))) → Typed.Mo T141
-      m83 = λ before given. s135 (before .before .before .before .before .before .before .before .before .before
-          .before .before .before .before .blocks) .next (m82 (before .before) (After-handle-close·gave before)) given
+      abbrev pub m81 : (before : After-handle-close) → (given : s133 .gives
+          (m80 (before .before) (After-handle-close·gave before))) → Typed.Mo T139
+      m81 = λ before given. s133 .next (m80 (before .before) (After-handle-close·gave before)) given
 
       module _ (before· : After-handle-close) where
         pub record After-pending3·own : Type 0 where
-          pub given : s135 (before· .before .before .before .before .before .before .before .before .before .before
-              .before .before .before .blocks) .gives (m82 (before· .before) (After-handle-close·gave before·))
+          pub given : s133 .gives (m80 (before· .before) (After-handle-close·gave before·))
 
       pub record After-pending3 : Type 0 where
         pub before : After-handle-close
         pub pending3 : After-pending3·own before
 
-      abbrev pub m84 : (before : After-pending3) → (given : s138 (before .before .before .before .before .before
-          .before .before .before .before .before .before .before .before .before .blocks) .gives
-          (m83 (before .before) (before .pending3 .given))) → Typed.Mo T144
-      m84 = λ before given. s138 (before .before .before .before .before .before .before .before .before .before
-          .before .before .before .before .before .blocks) .next (m83 (before .before) (before .pending3 .given)) given
+      abbrev pub m82 : (before : After-pending3) → (given : s136 .gives
+          (m81 (before .before) (before .pending3 .given))) → Typed.Mo T142
+      m82 = λ before given. s136 .next (m81 (before .before) (before .pending3 .given)) given
 
       module _ (before· : After-pending3) where
         pub record After-circuits5·own : Type 0 where
-          pub given : s138 (before· .before .before .before .before .before .before .before .before .before .before
-              .before .before .before .before .blocks) .gives (m83 (before· .before) (before· .pending3 .given))
+          pub given : s136 .gives (m81 (before· .before) (before· .pending3 .given))
 
       pub record After-circuits5 : Type 0 where
         pub before : After-pending3
         pub circuits5 : After-circuits5·own before
 
-      abbrev pub m85 : (before : After-circuits5) → (given : s141 (before .before .before .before .before .before
-          .before .before .before .before .before .before .before .before .before .before .blocks) .gives
-          (m84 (before .before) (before .circuits5 .given))) → Typed.Mo T147
-      m85 = λ before given. s141 (before .before .before .before .before .before .before .before .before .before
-          .before .before .before .before .before .before .blocks) .next
-          (m84 (before .before) (before .circuits5 .given)) given
+      abbrev pub m83 : (before : After-circuits5) → (given : s139 .gives
+          (m82 (before .before) (before .circuits5 .given))) → Typed.Mo T145
+      m83 = λ before given. s139 .next (m82 (before .before) (before .circuits5 .given)) given
 
       module _ (before· : After-circuits5) where
         pub record After-inflight5·own : Type 0 where
-          pub given : s141 (before· .before .before .before .before .before .before .before .before .before .before
-              .before .before .before .before .before .blocks) .gives
-              (m84 (before· .before) (before· .circuits5 .given))
+          pub given : s139 .gives (m82 (before· .before) (before· .circuits5 .given))
 
       pub record After-inflight5 : Type 0 where
         pub before : After-circuits5
         pub inflight5 : After-inflight5·own before
 
-      abbrev pub m86 : (before : After-inflight5) → (given : s144 (before .before .before .before .before .before
-          .before .before .before .before .before .before .before .before .before .before .before .blocks) .gives
-          (m85 (before .before) (before .inflight5 .given))) → Typed.Mo T150
-      m86 = λ before given. s144 (before .before .before .before .before .before .before .before .before .before
-          .before .before .before .before .before .before .before .blocks) .next
-          (m85 (before .before) (before .inflight5 .given)) given
+      abbrev pub m84 : (before : After-inflight5) → (given : s142 .gives
+          (m83 (before .before) (before .inflight5 .given))) → Typed.Mo T148
+      m84 = λ before given. s142 .next (m83 (before .before) (before .inflight5 .given)) given
 
       module _ (before· : After-inflight5) where
         pub record After-out5·own : Type 0 where
-          pub given : s144 (before· .before .before .before .before .before .before .before .before .before .before
-              .before .before .before .before .before .before .blocks) .gives
-              (m85 (before· .before) (before· .inflight5 .given))
+          pub given : s142 .gives (m83 (before· .before) (before· .inflight5 .given))
 
       pub record After-out5 : Type 0 where
         pub before : After-inflight5
         pub out5 : After-out5·own before
 
-      abbrev pub m87 : (before : After-out5) → (given : s145 (before .before .before .before .before .before .before
-          .before .before .before .before .before .before .before .before .before .before .before .blocks) .gives
-          (m86 (before .before) (before .out5 .given))) → Typed.Mo T151
-      m87 = λ before given. s145 (before .before .before .before .before .before .before .before .before .before
-          .before .before .before .before .before .before .before .before .blocks) .next
-          (m86 (before .before) (before .out5 .given)) given
+      abbrev pub m85 : (before : After-out5) → (given : s143 .gives (m84 (before .before) (before .out5 .given))) →
+          Typed.Mo T149
+      m85 = λ before given. s143 .next (m84 (before .before) (before .out5 .given)) given
 
       module _ (before· : After-out5) where
         pub record After-slice-known6·own : Type 0 where
-          pub given : s145 (before· .before .before .before .before .before .before .before .before .before .before
-              .before .before .before .before .before .before .before .blocks) .gives
-              (m86 (before· .before) (before· .out5 .given))
+          pub given : s143 .gives (m84 (before· .before) (before· .out5 .given))
 
       pub record After-slice-known6 : Type 0 where
         pub before : After-out5
@@ -9963,21 +9418,20 @@ module _ (claims· : Claims) where
 
       module _ (before· : Else1) where
         pub record Else2·own : Type 0 where
-          pub left : Nat._≤_ 21 (Row.get 11 (T120 .locals) (m70 (before· .before)))
+          pub left : Nat._≤_ 21 (Row.get 10 (T118 .locals) (m68 (before· .before)))
 
       pub record Else2 : Type 0 where
         pub before : Else1
         pub if2 : Else2·own before
 
-      abbrev pub m88 : (before : Else1) → Typed.Mo T153
-      m88 = λ before. s147 (before .before .before .before .before .before .before .before .blocks)
-          (m71 (before .before))
+      abbrev pub m86 : (before : Else1) → Typed.Mo T151
+      m86 = λ before. s145 (m69 (before .before))
 
-      abbrev pub m89 : (before : After-packet) → Typed.Mo T10
-      m89 = λ before. Row.set 45 (45, Rows.any-gone Syntax.tyBool) tt (T9 .locals)
-          (m7 (before .before) (before .packet .given))
+      abbrev pub m87 : (before : After-shared-slice-known3) → Typed.Mo T8
+      m87 = λ before. Row.set 44 (44, Rows.any-gone Syntax.tyBool) tt (T6 .locals)
+          (m5 (before .before) (before .shared-slice-known3 .given))
 
-      module _ (before· : After-packet) where
+      module _ (before· : After-shared-slice-known3) where
         pub record At-match-came·own : Type 0 where
           pub came : Logic._⊎_ (At-match-keys5·own before·) (Logic._⊎_ ((match : At-match-rest·own before·) × Then1·own
               record { before = before·; match = match }) ((match : At-match-rest·own before·) × (if1 : Else1·own
@@ -9985,375 +9439,324 @@ module _ (claims· : Claims) where
               record { before = record { before = before·; match = match }; if1 = if1 }))
 
       pub record At-match-came : Type 0 where
-        pub before : After-packet
+        pub before : After-shared-slice-known3
         pub match : At-match-came·own before
 
       abbrev pub Need-unexpected-requires : Type 0
-      Need-unexpected-requires = (c : At-match-came) → s148 (c .before .before .before .before .before .before .blocks)
-          .asks (m89 (c .before))
+      Need-unexpected-requires = (c : At-match-came) → s146 .asks (m87 (c .before))
 
-      abbrev pub m90 : (before : At-match-came) → (given : s148 (before .before .before .before .before .before .before
-          .blocks) .gives (m89 (before .before))) → Typed.Mo T154
-      m90 = λ before given. s148 (before .before .before .before .before .before .before .blocks) .next
-          (m89 (before .before)) given
+      abbrev pub m88 : (before : At-match-came) → (given : s146 .gives (m87 (before .before))) → Typed.Mo T152
+      m88 = λ before given. s146 .next (m87 (before .before)) given
 
-      abbrev pub m91 : (before : At-match-came) → (given : s148 (before .before .before .before .before .before .before
-          .blocks) .gives (m89 (before .before))) → Typed.Mo T155
-      m91 = λ before given. s149 (before .before .before .before .before .before .before .blocks) (m90 before given)
+      abbrev pub m89 : (before : At-match-came) → (given : s146 .gives (m87 (before .before))) → Typed.Mo T153
+      m89 = λ before given. s147 (m88 before given)
 
       module _ (before· : At-match-came) where
         abbrev pub After-unexpected·own : Type 0
-        After-unexpected·own = Called.Called ps·5 r·5 (claims· .11) T10
-            (record { pos = 6; st = List.[]; d = 0; at = λ x. x }, tt) (m89 (before· .before))
+        After-unexpected·own = Called.Called ps·5 r·5 (claims· .11) T8 args146 (m87 (before· .before))
 
       pub record After-unexpected : Type 0 where
         pub before : At-match-came
         pub unexpected : After-unexpected·own before
 
-      abbrev pub After-unexpected·gave : (c : After-unexpected) → s148 (c .before .before .before .before .before
-          .before .before .blocks) .gives (m89 (c .before .before))
-      After-unexpected·gave = λ c. Called.given ps·5 r·5 (claims· .11) T10
-          (record { pos = 6; st = List.[]; d = 0; at = λ x. x }, tt) (m89 (c .before .before)) (c .unexpected)
+      abbrev pub After-unexpected·gave : (c : After-unexpected) → s146 .gives (m87 (c .before .before))
+      After-unexpected·gave = λ c. Called.given ps·5 r·5 (claims· .11) T8 args146 (m87 (c .before .before))
+          (c .unexpected)
 
-      abbrev pub m92 : (before : After-out) → (given : s38 (before .before .before .before .before .before .before
-          .before .before .before .before .before .before .before .before .before .before .before .blocks) .gives
-          (m24 (before .before) (before .out .given))) → Typed.Mo T156
-      m92 = λ before given. s150 (before .before .before .before .before .before .before .before .before .before
-          .before .before .before .before .before .before .before .before .blocks) (m25 before given)
+      abbrev pub m90 : (before : After-out) → (given : s36 .gives (m22 (before .before) (before .out .given))) →
+          Typed.Mo T154
+      m90 = λ before given. s148 (m23 before given)
 
-      abbrev pub m93 : (before : After-out) → (given : s38 (before .before .before .before .before .before .before
-          .before .before .before .before .before .before .before .before .before .before .before .blocks) .gives
-          (m24 (before .before) (before .out .given))) → Typed.Mo T157
-      m93 = λ before given. s151 (before .before .before .before .before .before .before .before .before .before
-          .before .before .before .before .before .before .before .before .blocks) (m92 before given)
+      abbrev pub m91 : (before : After-out) → (given : s36 .gives (m22 (before .before) (before .out .given))) →
+          Typed.Mo T155
+      m91 = λ before given. s149 (m90 before given)
 
-      abbrev pub m94 : (before : After-out) → (given : s38 (before .before .before .before .before .before .before
-          .before .before .before .before .before .before .before .before .before .before .before .blocks) .gives
-          (m24 (before .before) (before .out .given))) → Typed.Mo T158
-      m94 = λ before given. s152 (before .before .before .before .before .before .before .before .before .before
-          .before .before .before .before .before .before .before .before .blocks) (m93 before given)
+      abbrev pub m92 : (before : After-out) → (given : s36 .gives (m22 (before .before) (before .out .given))) →
+          Typed.Mo T156
+      m92 = λ before given. s150 (m91 before given)
 
       abbrev pub Need-same-length : Type 0
-      Need-same-length = (c : After-slice-known2) → MutSlice.SameLen (Row.get 1 (T158 .locals)
-          (m94 (c .before) (c .slice-known2 .given))) (dens (c .before .before .before .before .before .before .before
-          .before .before .before .before .before .before .before .before .before .before .before .κs) (c .before
+      Need-same-length = (c : After-slice-known2) → MutSlice.SameLen (Row.get 1 (T156 .locals)
+          (m92 (c .before) (c .slice-known2 .given))) (dens (c .before .before .before .before .before .before .before
+          .before .before .before .before .before .before .before .before .before .before .κs) (c .before .before
           .before .before .before .before .before .before .before .before .before .before .before .before .before
-          .before .before .before .before .args) .0)
+          .before .before .args) .0)
 
       abbrev pub Need-same-length-2 : Type 0
-      Need-same-length-2 = (c : After-slice-known2) → MutSlice.SameLen (Row.get 2 (T158 .locals)
-          (m94 (c .before) (c .slice-known2 .given))) (dens (c .before .before .before .before .before .before .before
-          .before .before .before .before .before .before .before .before .before .before .before .κs) (c .before
+      Need-same-length-2 = (c : After-slice-known2) → MutSlice.SameLen (Row.get 2 (T156 .locals)
+          (m92 (c .before) (c .slice-known2 .given))) (dens (c .before .before .before .before .before .before .before
+          .before .before .before .before .before .before .before .before .before .before .κs) (c .before .before
           .before .before .before .before .before .before .before .before .before .before .before .before .before
-          .before .before .before .before .args) .1 .0)
+          .before .before .args) .1 .0)
 
       abbrev pub Need-same-length-3 : Type 0
-      Need-same-length-3 = (c : After-slice-known2) → MutSlice.SameLen (Row.get 3 (T158 .locals)
-          (m94 (c .before) (c .slice-known2 .given))) (dens (c .before .before .before .before .before .before .before
-          .before .before .before .before .before .before .before .before .before .before .before .κs) (c .before
+      Need-same-length-3 = (c : After-slice-known2) → MutSlice.SameLen (Row.get 3 (T156 .locals)
+          (m92 (c .before) (c .slice-known2 .given))) (dens (c .before .before .before .before .before .before .before
+          .before .before .before .before .before .before .before .before .before .before .κs) (c .before .before
           .before .before .before .before .before .before .before .before .before .before .before .before .before
-          .before .before .before .before .args) .1 .1 .0)
+          .before .before .args) .1 .1 .0)
 
       abbrev pub Need-same-length-4 : Type 0
-      Need-same-length-4 = (c : After-slice-known2) → MutSlice.SameLen (Row.get 4 (T158 .locals)
-          (m94 (c .before) (c .slice-known2 .given))) (dens (c .before .before .before .before .before .before .before
-          .before .before .before .before .before .before .before .before .before .before .before .κs) (c .before
+      Need-same-length-4 = (c : After-slice-known2) → MutSlice.SameLen (Row.get 4 (T156 .locals)
+          (m92 (c .before) (c .slice-known2 .given))) (dens (c .before .before .before .before .before .before .before
+          .before .before .before .before .before .before .before .before .before .before .κs) (c .before .before
           .before .before .before .before .before .before .before .before .before .before .before .before .before
-          .before .before .before .before .args) .1 .1 .1 .0)
+          .before .before .args) .1 .1 .1 .0)
 
       abbrev pub Need-same-length-5 : Type 0
-      Need-same-length-5 = (c : After-slice-known2) → MutSlice.SameLen (Row.get 5 (T158 .locals)
-          (m94 (c .before) (c .slice-known2 .given))) (dens (c .before .before .before .before .before .before .before
-          .before .before .before .before .before .before .before .before .before .before .before .κs) (c .before
+      Need-same-length-5 = (c : After-slice-known2) → MutSlice.SameLen (Row.get 5 (T156 .locals)
+          (m92 (c .before) (c .slice-known2 .given))) (dens (c .before .before .before .before .before .before .before
+          .before .before .before .before .before .before .before .before .before .before .κs) (c .before .before
           .before .before .before .before .before .before .before .before .before .before .before .before .before
-          .before .before .before .before .args) .1 .1 .1 .1 .0)
+          .before .before .args) .1 .1 .1 .1 .0)
 
       abbrev pub Need-returns : Type 0
       Need-returns = (c : After-slice-known2) → Post· (c .before .before .before .before .before .before .before
-          .before .before .before .before .before .before .before .before .before .before .before .κs) (dens (c .before
+          .before .before .before .before .before .before .before .before .before .before .κs) (dens (c .before .before
           .before .before .before .before .before .before .before .before .before .before .before .before .before
-          .before .before .before .before .κs) (c .before .before .before .before .before .before .before .before
-          .before .before .before .before .before .before .before .before .before .before .args)) (Function.resV r (c
+          .before .before .κs) (c .before .before .before .before .before .before .before .before .before .before
+          .before .before .before .before .before .before .before .args)) (Function.resV r (c .before .before .before
           .before .before .before .before .before .before .before .before .before .before .before .before .before
-          .before .before .before .before .before .κs) (m94 (c .before) (c .slice-known2 .given) .0)) (Clauses.atExit
-          (Kinds.endedOf 8 ps r) (c .before .before .before .before .before .before .before .before .before .before
-          .before .before .before .before .before .before .before .before .κs) (dens (c .before .before .before .before
+          .before .κs) (m92 (c .before) (c .slice-known2 .given) .0)) (Clauses.atExit (Kinds.endedOf 8 ps r) (c .before
           .before .before .before .before .before .before .before .before .before .before .before .before .before
-          .before .κs) (c .before .before .before .before .before .before .before .before .before .before .before
-          .before .before .before .before .before .before .before .args)) (Enter.lastsP (c .before .before .before
+          .before .before .before .κs) (dens (c .before .before .before .before .before .before .before .before .before
+          .before .before .before .before .before .before .before .before .κs) (c .before .before .before .before
           .before .before .before .before .before .before .before .before .before .before .before .before .before
-          .before .before .κs) 1 ps xs (dens (c .before .before .before .before .before .before .before .before .before
-          .before .before .before .before .before .before .before .before .before .κs) (c .before .before .before
+          .args)) (Enter.lastsP (c .before .before .before .before .before .before .before .before .before .before
+          .before .before .before .before .before .before .before .κs) 1 ps xs (dens (c .before .before .before .before
+          .before .before .before .before .before .before .before .before .before .before .before .before .before .κs) (c
           .before .before .before .before .before .before .before .before .before .before .before .before .before
-          .before .before .args)) (m94 (c .before) (c .slice-known2 .given) .1)))
+          .before .before .before .before .args)) (m92 (c .before) (c .slice-known2 .given) .1)))
 
-      abbrev pub m95 : (before : After-out2) → (given : s65 (before .before .before .before .before .before .before
-          .before .before .before .before .before .before .before .before .before .blocks) .gives
-          (m39 (before .before) (before .out2 .given))) → Typed.Mo T156
-      m95 = λ before given. s150 (before .before .before .before .before .before .before .before .before .before
-          .before .before .before .before .before .before .blocks) (m40 before given)
+      abbrev pub m93 : (before : After-out2) → (given : s63 .gives (m37 (before .before) (before .out2 .given))) →
+          Typed.Mo T154
+      m93 = λ before given. s148 (m38 before given)
 
-      abbrev pub m96 : (before : After-out2) → (given : s65 (before .before .before .before .before .before .before
-          .before .before .before .before .before .before .before .before .before .blocks) .gives
-          (m39 (before .before) (before .out2 .given))) → Typed.Mo T157
-      m96 = λ before given. s151 (before .before .before .before .before .before .before .before .before .before
-          .before .before .before .before .before .before .blocks) (m95 before given)
+      abbrev pub m94 : (before : After-out2) → (given : s63 .gives (m37 (before .before) (before .out2 .given))) →
+          Typed.Mo T155
+      m94 = λ before given. s149 (m93 before given)
 
-      abbrev pub m97 : (before : After-out2) → (given : s65 (before .before .before .before .before .before .before
-          .before .before .before .before .before .before .before .before .before .blocks) .gives
-          (m39 (before .before) (before .out2 .given))) → Typed.Mo T158
-      m97 = λ before given. s152 (before .before .before .before .before .before .before .before .before .before
-          .before .before .before .before .before .before .blocks) (m96 before given)
+      abbrev pub m95 : (before : After-out2) → (given : s63 .gives (m37 (before .before) (before .out2 .given))) →
+          Typed.Mo T156
+      m95 = λ before given. s150 (m94 before given)
 
       abbrev pub Need-same-length-6 : Type 0
-      Need-same-length-6 = (c : After-slice-known3) → MutSlice.SameLen (Row.get 1 (T158 .locals)
-          (m97 (c .before) (c .slice-known3 .given))) (dens (c .before .before .before .before .before .before .before
-          .before .before .before .before .before .before .before .before .before .κs) (c .before .before .before
-          .before .before .before .before .before .before .before .before .before .before .before .before .before .args)
-          .0)
+      Need-same-length-6 = (c : After-slice-known3) → MutSlice.SameLen (Row.get 1 (T156 .locals)
+          (m95 (c .before) (c .slice-known3 .given))) (dens (c .before .before .before .before .before .before .before
+          .before .before .before .before .before .before .before .before .κs) (c .before .before .before .before
+          .before .before .before .before .before .before .before .before .before .before .before .args) .0)
 
       abbrev pub Need-same-length-7 : Type 0
-      Need-same-length-7 = (c : After-slice-known3) → MutSlice.SameLen (Row.get 2 (T158 .locals)
-          (m97 (c .before) (c .slice-known3 .given))) (dens (c .before .before .before .before .before .before .before
-          .before .before .before .before .before .before .before .before .before .κs) (c .before .before .before
-          .before .before .before .before .before .before .before .before .before .before .before .before .before .args)
-          .1 .0)
+      Need-same-length-7 = (c : After-slice-known3) → MutSlice.SameLen (Row.get 2 (T156 .locals)
+          (m95 (c .before) (c .slice-known3 .given))) (dens (c .before .before .before .before .before .before .before
+          .before .before .before .before .before .before .before .before .κs) (c .before .before .before .before
+          .before .before .before .before .before .before .before .before .before .before .before .args) .1 .0)
 
       abbrev pub Need-same-length-8 : Type 0
-      Need-same-length-8 = (c : After-slice-known3) → MutSlice.SameLen (Row.get 4 (T158 .locals)
-          (m97 (c .before) (c .slice-known3 .given))) (dens (c .before .before .before .before .before .before .before
-          .before .before .before .before .before .before .before .before .before .κs) (c .before .before .before
-          .before .before .before .before .before .before .before .before .before .before .before .before .before .args)
-          .1 .1 .1 .0)
+      Need-same-length-8 = (c : After-slice-known3) → MutSlice.SameLen (Row.get 4 (T156 .locals)
+          (m95 (c .before) (c .slice-known3 .given))) (dens (c .before .before .before .before .before .before .before
+          .before .before .before .before .before .before .before .before .κs) (c .before .before .before .before
+          .before .before .before .before .before .before .before .before .before .before .before .args) .1 .1 .1 .0)
 
       abbrev pub Need-same-length-9 : Type 0
-      Need-same-length-9 = (c : After-slice-known3) → MutSlice.SameLen (Row.get 5 (T158 .locals)
-          (m97 (c .before) (c .slice-known3 .given))) (dens (c .before .before .before .before .before .before .before
-          .before .before .before .before .before .before .before .before .before .κs) (c .before .before .before
-          .before .before .before .before .before .before .before .before .before .before .before .before .before .args)
-          .1 .1 .1 .1 .0)
+      Need-same-length-9 = (c : After-slice-known3) → MutSlice.SameLen (Row.get 5 (T156 .locals)
+          (m95 (c .before) (c .slice-known3 .given))) (dens (c .before .before .before .before .before .before .before
+          .before .before .before .before .before .before .before .before .κs) (c .before .before .before .before
+          .before .before .before .before .before .before .before .before .before .before .before .args) .1 .1 .1 .1 .0)
 
       abbrev pub Need-returns-2 : Type 0
       Need-returns-2 = (c : After-slice-known3) → Post· (c .before .before .before .before .before .before .before
-          .before .before .before .before .before .before .before .before .before .κs) (dens (c .before .before .before
-          .before .before .before .before .before .before .before .before .before .before .before .before .before .κs) (c
+          .before .before .before .before .before .before .before .before .κs) (dens (c .before .before .before .before
+          .before .before .before .before .before .before .before .before .before .before .before .κs) (c .before
           .before .before .before .before .before .before .before .before .before .before .before .before .before
-          .before .before .before .args)) (Function.resV r (c .before .before .before .before .before .before .before
-          .before .before .before .before .before .before .before .before .before .κs)
-          (m97 (c .before) (c .slice-known3 .given) .0)) (Clauses.atExit (Kinds.endedOf 8 ps r) (c .before .before
-          .before .before .before .before .before .before .before .before .before .before .before .before .before
-          .before .κs) (dens (c .before .before .before .before .before .before .before .before .before .before .before
-          .before .before .before .before .before .κs) (c .before .before .before .before .before .before .before
-          .before .before .before .before .before .before .before .before .before .args)) (Enter.lastsP (c .before
+          .before .args)) (Function.resV r (c .before .before .before .before .before .before .before .before .before
+          .before .before .before .before .before .before .κs) (m95 (c .before) (c .slice-known3 .given) .0)) (Clauses.atExit
+          (Kinds.endedOf 8 ps r) (c .before .before .before .before .before .before .before .before .before .before
+          .before .before .before .before .before .κs) (dens (c .before .before .before .before .before .before .before
+          .before .before .before .before .before .before .before .before .κs) (c .before .before .before .before
+          .before .before .before .before .before .before .before .before .before .before .before .args)) (Enter.lastsP (c
           .before .before .before .before .before .before .before .before .before .before .before .before .before
           .before .before .κs) 1 ps xs (dens (c .before .before .before .before .before .before .before .before .before
-          .before .before .before .before .before .before .before .κs) (c .before .before .before .before .before
-          .before .before .before .before .before .before .before .before .before .before .before .args))
-          (m97 (c .before) (c .slice-known3 .given) .1)))
+          .before .before .before .before .before .before .κs) (c .before .before .before .before .before .before
+          .before .before .before .before .before .before .before .before .before .args))
+          (m95 (c .before) (c .slice-known3 .given) .1)))
 
-      abbrev pub m98 : (before : After-out3) → (given : s92 (before .before .before .before .before .before .before
-          .before .before .before .before .before .before .before .before .before .blocks) .gives
-          (m54 (before .before) (before .out3 .given))) → Typed.Mo T156
-      m98 = λ before given. s150 (before .before .before .before .before .before .before .before .before .before
-          .before .before .before .before .before .before .blocks) (m55 before given)
+      abbrev pub m96 : (before : After-out3) → (given : s90 .gives (m52 (before .before) (before .out3 .given))) →
+          Typed.Mo T154
+      m96 = λ before given. s148 (m53 before given)
 
-      abbrev pub m99 : (before : After-out3) → (given : s92 (before .before .before .before .before .before .before
-          .before .before .before .before .before .before .before .before .before .blocks) .gives
-          (m54 (before .before) (before .out3 .given))) → Typed.Mo T157
-      m99 = λ before given. s151 (before .before .before .before .before .before .before .before .before .before
-          .before .before .before .before .before .before .blocks) (m98 before given)
+      abbrev pub m97 : (before : After-out3) → (given : s90 .gives (m52 (before .before) (before .out3 .given))) →
+          Typed.Mo T155
+      m97 = λ before given. s149 (m96 before given)
 
-      abbrev pub m100 : (before : After-out3) → (given : s92 (before .before .before .before .before .before .before
-          .before .before .before .before .before .before .before .before .before .blocks) .gives
-          (m54 (before .before) (before .out3 .given))) → Typed.Mo T158
-      m100 = λ before given. s152 (before .before .before .before .before .before .before .before .before .before
-          .before .before .before .before .before .before .blocks) (m99 before given)
+      abbrev pub m98 : (before : After-out3) → (given : s90 .gives (m52 (before .before) (before .out3 .given))) →
+          Typed.Mo T156
+      m98 = λ before given. s150 (m97 before given)
 
       abbrev pub Need-same-length-10 : Type 0
-      Need-same-length-10 = (c : After-slice-known4) → MutSlice.SameLen (Row.get 2 (T158 .locals)
-          (m100 (c .before) (c .slice-known4 .given))) (dens (c .before .before .before .before .before .before .before
-          .before .before .before .before .before .before .before .before .before .κs) (c .before .before .before
-          .before .before .before .before .before .before .before .before .before .before .before .before .before .args)
-          .1 .0)
+      Need-same-length-10 = (c : After-slice-known4) → MutSlice.SameLen (Row.get 2 (T156 .locals)
+          (m98 (c .before) (c .slice-known4 .given))) (dens (c .before .before .before .before .before .before .before
+          .before .before .before .before .before .before .before .before .κs) (c .before .before .before .before
+          .before .before .before .before .before .before .before .before .before .before .before .args) .1 .0)
 
       abbrev pub Need-same-length-11 : Type 0
-      Need-same-length-11 = (c : After-slice-known4) → MutSlice.SameLen (Row.get 3 (T158 .locals)
-          (m100 (c .before) (c .slice-known4 .given))) (dens (c .before .before .before .before .before .before .before
-          .before .before .before .before .before .before .before .before .before .κs) (c .before .before .before
-          .before .before .before .before .before .before .before .before .before .before .before .before .before .args)
-          .1 .1 .0)
+      Need-same-length-11 = (c : After-slice-known4) → MutSlice.SameLen (Row.get 3 (T156 .locals)
+          (m98 (c .before) (c .slice-known4 .given))) (dens (c .before .before .before .before .before .before .before
+          .before .before .before .before .before .before .before .before .κs) (c .before .before .before .before
+          .before .before .before .before .before .before .before .before .before .before .before .args) .1 .1 .0)
 
       abbrev pub Need-same-length-12 : Type 0
-      Need-same-length-12 = (c : After-slice-known4) → MutSlice.SameLen (Row.get 4 (T158 .locals)
-          (m100 (c .before) (c .slice-known4 .given))) (dens (c .before .before .before .before .before .before .before
-          .before .before .before .before .before .before .before .before .before .κs) (c .before .before .before
-          .before .before .before .before .before .before .before .before .before .before .before .before .before .args)
-          .1 .1 .1 .0)
+      Need-same-length-12 = (c : After-slice-known4) → MutSlice.SameLen (Row.get 4 (T156 .locals)
+          (m98 (c .before) (c .slice-known4 .given))) (dens (c .before .before .before .before .before .before .before
+          .before .before .before .before .before .before .before .before .κs) (c .before .before .before .before
+          .before .before .before .before .before .before .before .before .before .before .before .args) .1 .1 .1 .0)
 
       abbrev pub Need-same-length-13 : Type 0
-      Need-same-length-13 = (c : After-slice-known4) → MutSlice.SameLen (Row.get 5 (T158 .locals)
-          (m100 (c .before) (c .slice-known4 .given))) (dens (c .before .before .before .before .before .before .before
-          .before .before .before .before .before .before .before .before .before .κs) (c .before .before .before
-          .before .before .before .before .before .before .before .before .before .before .before .before .before .args)
-          .1 .1 .1 .1 .0)
+      Need-same-length-13 = (c : After-slice-known4) → MutSlice.SameLen (Row.get 5 (T156 .locals)
+          (m98 (c .before) (c .slice-known4 .given))) (dens (c .before .before .before .before .before .before .before
+          .before .before .before .before .before .before .before .before .κs) (c .before .before .before .before
+          .before .before .before .before .before .before .before .before .before .before .before .args) .1 .1 .1 .1 .0)
 
       abbrev pub Need-returns-3 : Type 0
       Need-returns-3 = (c : After-slice-known4) → Post· (c .before .before .before .before .before .before .before
-          .before .before .before .before .before .before .before .before .before .κs) (dens (c .before .before .before
-          .before .before .before .before .before .before .before .before .before .before .before .before .before .κs) (c
+          .before .before .before .before .before .before .before .before .κs) (dens (c .before .before .before .before
+          .before .before .before .before .before .before .before .before .before .before .before .κs) (c .before
           .before .before .before .before .before .before .before .before .before .before .before .before .before
-          .before .before .before .args)) (Function.resV r (c .before .before .before .before .before .before .before
-          .before .before .before .before .before .before .before .before .before .κs)
-          (m100 (c .before) (c .slice-known4 .given) .0)) (Clauses.atExit (Kinds.endedOf 8 ps r) (c .before .before
-          .before .before .before .before .before .before .before .before .before .before .before .before .before
-          .before .κs) (dens (c .before .before .before .before .before .before .before .before .before .before .before
-          .before .before .before .before .before .κs) (c .before .before .before .before .before .before .before
-          .before .before .before .before .before .before .before .before .before .args)) (Enter.lastsP (c .before
+          .before .args)) (Function.resV r (c .before .before .before .before .before .before .before .before .before
+          .before .before .before .before .before .before .κs) (m98 (c .before) (c .slice-known4 .given) .0)) (Clauses.atExit
+          (Kinds.endedOf 8 ps r) (c .before .before .before .before .before .before .before .before .before .before
+          .before .before .before .before .before .κs) (dens (c .before .before .before .before .before .before .before
+          .before .before .before .before .before .before .before .before .κs) (c .before .before .before .before
+          .before .before .before .before .before .before .before .before .before .before .before .args)) (Enter.lastsP (c
           .before .before .before .before .before .before .before .before .before .before .before .before .before
           .before .before .κs) 1 ps xs (dens (c .before .before .before .before .before .before .before .before .before
-          .before .before .before .before .before .before .before .κs) (c .before .before .before .before .before
-          .before .before .before .before .before .before .before .before .before .before .before .args))
-          (m100 (c .before) (c .slice-known4 .given) .1)))
+          .before .before .before .before .before .before .κs) (c .before .before .before .before .before .before
+          .before .before .before .before .before .before .before .before .before .args))
+          (m98 (c .before) (c .slice-known4 .given) .1)))
 
-      abbrev pub m101 : (before : After-out4) → (given : s113 (before .before .before .before .before .before .before
-          .before .before .before .before .before .before .before .blocks) .gives
-          (m66 (before .before) (before .out4 .given))) → Typed.Mo T156
-      m101 = λ before given. s150 (before .before .before .before .before .before .before .before .before .before
-          .before .before .before .before .blocks) (m67 before given)
+      abbrev pub m99 : (before : After-out4) → (given : s111 .gives (m64 (before .before) (before .out4 .given))) →
+          Typed.Mo T154
+      m99 = λ before given. s148 (m65 before given)
 
-      abbrev pub m102 : (before : After-out4) → (given : s113 (before .before .before .before .before .before .before
-          .before .before .before .before .before .before .before .blocks) .gives
-          (m66 (before .before) (before .out4 .given))) → Typed.Mo T157
-      m102 = λ before given. s151 (before .before .before .before .before .before .before .before .before .before
-          .before .before .before .before .blocks) (m101 before given)
+      abbrev pub m100 : (before : After-out4) → (given : s111 .gives (m64 (before .before) (before .out4 .given))) →
+          Typed.Mo T155
+      m100 = λ before given. s149 (m99 before given)
 
-      abbrev pub m103 : (before : After-out4) → (given : s113 (before .before .before .before .before .before .before
-          .before .before .before .before .before .before .before .blocks) .gives
-          (m66 (before .before) (before .out4 .given))) → Typed.Mo T158
-      m103 = λ before given. s152 (before .before .before .before .before .before .before .before .before .before
-          .before .before .before .before .blocks) (m102 before given)
+      abbrev pub m101 : (before : After-out4) → (given : s111 .gives (m64 (before .before) (before .out4 .given))) →
+          Typed.Mo T156
+      m101 = λ before given. s150 (m100 before given)
 
       abbrev pub Need-same-length-14 : Type 0
-      Need-same-length-14 = (c : After-slice-known5) → MutSlice.SameLen (Row.get 2 (T158 .locals)
-          (m103 (c .before) (c .slice-known5 .given))) (dens (c .before .before .before .before .before .before .before
-          .before .before .before .before .before .before .before .κs) (c .before .before .before .before .before
-          .before .before .before .before .before .before .before .before .before .args) .1 .0)
+      Need-same-length-14 = (c : After-slice-known5) → MutSlice.SameLen (Row.get 2 (T156 .locals)
+          (m101 (c .before) (c .slice-known5 .given))) (dens (c .before .before .before .before .before .before .before
+          .before .before .before .before .before .before .κs) (c .before .before .before .before .before .before
+          .before .before .before .before .before .before .before .args) .1 .0)
 
       abbrev pub Need-same-length-15 : Type 0
-      Need-same-length-15 = (c : After-slice-known5) → MutSlice.SameLen (Row.get 4 (T158 .locals)
-          (m103 (c .before) (c .slice-known5 .given))) (dens (c .before .before .before .before .before .before .before
-          .before .before .before .before .before .before .before .κs) (c .before .before .before .before .before
-          .before .before .before .before .before .before .before .before .before .args) .1 .1 .1 .0)
+      Need-same-length-15 = (c : After-slice-known5) → MutSlice.SameLen (Row.get 4 (T156 .locals)
+          (m101 (c .before) (c .slice-known5 .given))) (dens (c .before .before .before .before .before .before .before
+          .before .before .before .before .before .before .κs) (c .before .before .before .before .before .before
+          .before .before .before .before .before .before .before .args) .1 .1 .1 .0)
 
       abbrev pub Need-same-length-16 : Type 0
-      Need-same-length-16 = (c : After-slice-known5) → MutSlice.SameLen (Row.get 5 (T158 .locals)
-          (m103 (c .before) (c .slice-known5 .given))) (dens (c .before .before .before .before .before .before .before
-          .before .before .before .before .before .before .before .κs) (c .before .before .before .before .before
-          .before .before .before .before .before .before .before .before .before .args) .1 .1 .1 .1 .0)
+      Need-same-length-16 = (c : After-slice-known5) → MutSlice.SameLen (Row.get 5 (T156 .locals)
+          (m101 (c .before) (c .slice-known5 .given))) (dens (c .before .before .before .before .before .before .before
+          .before .before .before .before .before .before .κs) (c .before .before .before .before .before .before
+          .before .before .before .before .before .before .before .args) .1 .1 .1 .1 .0)
 
       abbrev pub Need-returns-4 : Type 0
       Need-returns-4 = (c : After-slice-known5) → Post· (c .before .before .before .before .before .before .before
-          .before .before .before .before .before .before .before .κs) (dens (c .before .before .before .before .before
-          .before .before .before .before .before .before .before .before .before .κs) (c .before .before .before
-          .before .before .before .before .before .before .before .before .before .before .before .args)) (Function.resV
-          r (c .before .before .before .before .before .before .before .before .before .before .before .before .before
-          .before .κs) (m103 (c .before) (c .slice-known5 .given) .0)) (Clauses.atExit (Kinds.endedOf 8 ps r) (c
-          .before .before .before .before .before .before .before .before .before .before .before .before .before
-          .before .κs) (dens (c .before .before .before .before .before .before .before .before .before .before .before
-          .before .before .before .κs) (c .before .before .before .before .before .before .before .before .before
-          .before .before .before .before .before .args)) (Enter.lastsP (c .before .before .before .before .before
-          .before .before .before .before .before .before .before .before .before .κs) 1 ps xs (dens (c .before .before
+          .before .before .before .before .before .before .κs) (dens (c .before .before .before .before .before .before
+          .before .before .before .before .before .before .before .κs) (c .before .before .before .before .before
+          .before .before .before .before .before .before .before .before .args)) (Function.resV r (c .before .before
+          .before .before .before .before .before .before .before .before .before .before .before .κs)
+          (m101 (c .before) (c .slice-known5 .given) .0)) (Clauses.atExit (Kinds.endedOf 8 ps r) (c .before .before
+          .before .before .before .before .before .before .before .before .before .before .before .κs) (dens (c .before
           .before .before .before .before .before .before .before .before .before .before .before .before .κs) (c
           .before .before .before .before .before .before .before .before .before .before .before .before .before
-          .before .args)) (m103 (c .before) (c .slice-known5 .given) .1)))
+          .args)) (Enter.lastsP (c .before .before .before .before .before .before .before .before .before .before
+          .before .before .before .κs) 1 ps xs (dens (c .before .before .before .before .before .before .before .before
+          .before .before .before .before .before .κs) (c .before .before .before .before .before .before .before
+          .before .before .before .before .before .before .args)) (m101 (c .before) (c .slice-known5 .given) .1)))
 
-      abbrev pub m104 : (before : After-out5) → (given : s145 (before .before .before .before .before .before .before
-          .before .before .before .before .before .before .before .before .before .before .before .blocks) .gives
-          (m86 (before .before) (before .out5 .given))) → Typed.Mo T156
-      m104 = λ before given. s150 (before .before .before .before .before .before .before .before .before .before
-          .before .before .before .before .before .before .before .before .blocks) (m87 before given)
+      abbrev pub m102 : (before : After-out5) → (given : s143 .gives (m84 (before .before) (before .out5 .given))) →
+          Typed.Mo T154
+      m102 = λ before given. s148 (m85 before given)
 
-      abbrev pub m105 : (before : After-out5) → (given : s145 (before .before .before .before .before .before .before
-          .before .before .before .before .before .before .before .before .before .before .before .blocks) .gives
-          (m86 (before .before) (before .out5 .given))) → Typed.Mo T157
-      m105 = λ before given. s151 (before .before .before .before .before .before .before .before .before .before
-          .before .before .before .before .before .before .before .before .blocks) (m104 before given)
+      abbrev pub m103 : (before : After-out5) → (given : s143 .gives (m84 (before .before) (before .out5 .given))) →
+          Typed.Mo T155
+      m103 = λ before given. s149 (m102 before given)
 
-      abbrev pub m106 : (before : After-out5) → (given : s145 (before .before .before .before .before .before .before
-          .before .before .before .before .before .before .before .before .before .before .before .blocks) .gives
-          (m86 (before .before) (before .out5 .given))) → Typed.Mo T158
-      m106 = λ before given. s152 (before .before .before .before .before .before .before .before .before .before
-          .before .before .before .before .before .before .before .before .blocks) (m105 before given)
+      abbrev pub m104 : (before : After-out5) → (given : s143 .gives (m84 (before .before) (before .out5 .given))) →
+          Typed.Mo T156
+      m104 = λ before given. s150 (m103 before given)
 
       abbrev pub Need-same-length-17 : Type 0
-      Need-same-length-17 = (c : After-slice-known6) → MutSlice.SameLen (Row.get 1 (T158 .locals)
-          (m106 (c .before) (c .slice-known6 .given))) (dens (c .before .before .before .before .before .before .before
-          .before .before .before .before .before .before .before .before .before .before .before .κs) (c .before
+      Need-same-length-17 = (c : After-slice-known6) → MutSlice.SameLen (Row.get 1 (T156 .locals)
+          (m104 (c .before) (c .slice-known6 .given))) (dens (c .before .before .before .before .before .before .before
+          .before .before .before .before .before .before .before .before .before .before .κs) (c .before .before
           .before .before .before .before .before .before .before .before .before .before .before .before .before
-          .before .before .before .before .args) .0)
+          .before .before .args) .0)
 
       abbrev pub Need-same-length-18 : Type 0
-      Need-same-length-18 = (c : After-slice-known6) → MutSlice.SameLen (Row.get 2 (T158 .locals)
-          (m106 (c .before) (c .slice-known6 .given))) (dens (c .before .before .before .before .before .before .before
-          .before .before .before .before .before .before .before .before .before .before .before .κs) (c .before
+      Need-same-length-18 = (c : After-slice-known6) → MutSlice.SameLen (Row.get 2 (T156 .locals)
+          (m104 (c .before) (c .slice-known6 .given))) (dens (c .before .before .before .before .before .before .before
+          .before .before .before .before .before .before .before .before .before .before .κs) (c .before .before
           .before .before .before .before .before .before .before .before .before .before .before .before .before
-          .before .before .before .before .args) .1 .0)
+          .before .before .args) .1 .0)
 
       abbrev pub Need-same-length-19 : Type 0
-      Need-same-length-19 = (c : After-slice-known6) → MutSlice.SameLen (Row.get 4 (T158 .locals)
-          (m106 (c .before) (c .slice-known6 .given))) (dens (c .before .before .before .before .before .before .before
-          .before .before .before .before .before .before .before .before .before .before .before .κs) (c .before
+      Need-same-length-19 = (c : After-slice-known6) → MutSlice.SameLen (Row.get 4 (T156 .locals)
+          (m104 (c .before) (c .slice-known6 .given))) (dens (c .before .before .before .before .before .before .before
+          .before .before .before .before .before .before .before .before .before .before .κs) (c .before .before
           .before .before .before .before .before .before .before .before .before .before .before .before .before
-          .before .before .before .before .args) .1 .1 .1 .0)
+          .before .before .args) .1 .1 .1 .0)
 
       abbrev pub Need-same-length-20 : Type 0
-      Need-same-length-20 = (c : After-slice-known6) → MutSlice.SameLen (Row.get 5 (T158 .locals)
-          (m106 (c .before) (c .slice-known6 .given))) (dens (c .before .before .before .before .before .before .before
-          .before .before .before .before .before .before .before .before .before .before .before .κs) (c .before
+      Need-same-length-20 = (c : After-slice-known6) → MutSlice.SameLen (Row.get 5 (T156 .locals)
+          (m104 (c .before) (c .slice-known6 .given))) (dens (c .before .before .before .before .before .before .before
+          .before .before .before .before .before .before .before .before .before .before .κs) (c .before .before
           .before .before .before .before .before .before .before .before .before .before .before .before .before
-          .before .before .before .before .args) .1 .1 .1 .1 .0)
+          .before .before .args) .1 .1 .1 .1 .0)
 
       abbrev pub Need-returns-5 : Type 0
       Need-returns-5 = (c : After-slice-known6) → Post· (c .before .before .before .before .before .before .before
-          .before .before .before .before .before .before .before .before .before .before .before .κs) (dens (c .before
+          .before .before .before .before .before .before .before .before .before .before .κs) (dens (c .before .before
           .before .before .before .before .before .before .before .before .before .before .before .before .before
-          .before .before .before .before .κs) (c .before .before .before .before .before .before .before .before
-          .before .before .before .before .before .before .before .before .before .before .args)) (Function.resV r (c
+          .before .before .κs) (c .before .before .before .before .before .before .before .before .before .before
+          .before .before .before .before .before .before .before .args)) (Function.resV r (c .before .before .before
           .before .before .before .before .before .before .before .before .before .before .before .before .before
-          .before .before .before .before .before .κs) (m106 (c .before) (c .slice-known6 .given) .0)) (Clauses.atExit
-          (Kinds.endedOf 8 ps r) (c .before .before .before .before .before .before .before .before .before .before
-          .before .before .before .before .before .before .before .before .κs) (dens (c .before .before .before .before
+          .before .κs) (m104 (c .before) (c .slice-known6 .given) .0)) (Clauses.atExit (Kinds.endedOf 8 ps r) (c
           .before .before .before .before .before .before .before .before .before .before .before .before .before
-          .before .κs) (c .before .before .before .before .before .before .before .before .before .before .before
-          .before .before .before .before .before .before .before .args)) (Enter.lastsP (c .before .before .before
-          .before .before .before .before .before .before .before .before .before .before .before .before .before
-          .before .before .κs) 1 ps xs (dens (c .before .before .before .before .before .before .before .before .before
+          .before .before .before .before .κs) (dens (c .before .before .before .before .before .before .before .before
           .before .before .before .before .before .before .before .before .before .κs) (c .before .before .before
           .before .before .before .before .before .before .before .before .before .before .before .before .before
-          .before .before .args)) (m106 (c .before) (c .slice-known6 .given) .1)))
+          .before .args)) (Enter.lastsP (c .before .before .before .before .before .before .before .before .before
+          .before .before .before .before .before .before .before .before .κs) 1 ps xs (dens (c .before .before .before
+          .before .before .before .before .before .before .before .before .before .before .before .before .before
+          .before .κs) (c .before .before .before .before .before .before .before .before .before .before .before
+          .before .before .before .before .before .before .args)) (m104 (c .before) (c .slice-known6 .given) .1)))
 
-      abbrev pub m107 : (before : At-match-came) → (given : s148 (before .before .before .before .before .before
-          .before .blocks) .gives (m89 (before .before))) → Typed.Mo T156
-      m107 = λ before given. s150 (before .before .before .before .before .before .before .blocks) (m91 before given)
+      abbrev pub m105 : (before : At-match-came) → (given : s146 .gives (m87 (before .before))) → Typed.Mo T154
+      m105 = λ before given. s148 (m89 before given)
 
-      abbrev pub m108 : (before : At-match-came) → (given : s148 (before .before .before .before .before .before
-          .before .blocks) .gives (m89 (before .before))) → Typed.Mo T157
-      m108 = λ before given. s151 (before .before .before .before .before .before .before .blocks) (m107 before given)
+      abbrev pub m106 : (before : At-match-came) → (given : s146 .gives (m87 (before .before))) → Typed.Mo T155
+      m106 = λ before given. s149 (m105 before given)
 
-      abbrev pub m109 : (before : At-match-came) → (given : s148 (before .before .before .before .before .before
-          .before .blocks) .gives (m89 (before .before))) → Typed.Mo T158
-      m109 = λ before given. s152 (before .before .before .before .before .before .before .blocks) (m108 before given)
+      abbrev pub m107 : (before : At-match-came) → (given : s146 .gives (m87 (before .before))) → Typed.Mo T156
+      m107 = λ before given. s150 (m106 before given)
 
       abbrev pub Need-returns-6 : Type 0
-      Need-returns-6 = (c : After-unexpected) → Post· (c .before .before .before .before .before .before .before .κs) (dens (c
-          .before .before .before .before .before .before .before .κs) (c .before .before .before .before .before
-          .before .before .args)) (Function.resV r (c .before .before .before .before .before .before .before .κs)
-          (m109 (c .before) (After-unexpected·gave c) .0)) (Clauses.atExit (Kinds.endedOf 8 ps r) (c .before .before
-          .before .before .before .before .before .κs) (dens (c .before .before .before .before .before .before .before
-          .κs) (c .before .before .before .before .before .before .before .args)) (Enter.lastsP (c .before .before
-          .before .before .before .before .before .κs) 1 ps xs (dens (c .before .before .before .before .before .before
-          .before .κs) (c .before .before .before .before .before .before .before .args))
-          (m109 (c .before) (After-unexpected·gave c) .1)))
+      Need-returns-6 = (c : After-unexpected) → Post· (c .before .before .before .before .before .before .κs) (dens
+          (c .before .before .before .before .before .before .κs)
+          (c .before .before .before .before .before .before .args)) (Function.resV r
+          (c .before .before .before .before .before .before .κs) (m107 (c .before) (After-unexpected·gave c) .0)) (Clauses.atExit
+          (Kinds.endedOf 8 ps r) (c .before .before .before .before .before .before .κs) (dens
+          (c .before .before .before .before .before .before .κs)
+          (c .before .before .before .before .before .before .args)) (Enter.lastsP
+          (c .before .before .before .before .before .before .κs) 1 ps xs (dens
+          (c .before .before .before .before .before .before .κs)
+          (c .before .before .before .before .before .before .args)) (m107 (c .before) (After-unexpected·gave c) .1)))
 
       module _ (handle-open-requires : Need-handle-open-requires)
           (handle-accept-requires : Need-handle-accept-requires) (handle-data-requires : Need-handle-data-requires)
@@ -10369,10 +9772,8 @@ module _ (claims· : Claims) where
           (same-length-16 : Need-same-length-16) (returns-4 : Need-returns-4) (same-length-17 : Need-same-length-17)
           (same-length-18 : Need-same-length-18) (same-length-19 : Need-same-length-19)
           (same-length-20 : Need-same-length-20) (returns-5 : Need-returns-5) (returns-6 : Need-returns-6) where
-        lay18 : (c : After-unexpected) → at164 (c .before .before .before .before .before .before .before .blocks) (W0 (c
-            .before .before .before .before .before .before .before .κs) (c .before .before .before .before .before
-            .before .before .args) (c .before .before .before .before .before .before .before .blocks))
-            (m91 (c .before) (After-unexpected·gave c))
+        lay18 : (c : After-unexpected) → at163 (W0 (c .before .before .before .before .before .before .κs)
+            (c .before .before .before .before .before .before .args)) (m89 (c .before) (After-unexpected·gave c))
         lay18 = λ c. (
           (
             Path.refl,
@@ -10381,48 +9782,45 @@ module _ (claims· : Claims) where
           returns-6 record { before = c .before; unexpected = c .unexpected },
         )
 
-        lay17 : (c : After-slice-known6) → at164 (c .before .before .before .before .before .before .before .before
-            .before .before .before .before .before .before .before .before .before .before .blocks) (W0 (c .before
+        lay17 : (c : After-slice-known6) → at163 (W0 (c .before .before .before .before .before .before .before .before
+            .before .before .before .before .before .before .before .before .before .κs) (c .before .before .before
             .before .before .before .before .before .before .before .before .before .before .before .before .before
-            .before .before .before .before .κs) (c .before .before .before .before .before .before .before .before
-            .before .before .before .before .before .before .before .before .before .before .args) (c .before .before
-            .before .before .before .before .before .before .before .before .before .before .before .before .before
-            .before .before .before .blocks)) (m87 (c .before) (c .slice-known6 .given))
+            .before .args)) (m85 (c .before) (c .slice-known6 .given))
         lay17 = λ c. (
           (
-            MutSlice.fix-len (Row.get 1 (T158 .locals) (m106 (c .before) (c .slice-known6 .given)) .ptr) (Row.get 1
-                (T158 .locals) (m106 (c .before) (c .slice-known6 .given)) .name) (Row.get 1 (T158 .locals)
-                (m106 (c .before) (c .slice-known6 .given)) .now) (dens (c .before .before .before .before .before
+            MutSlice.fix-len (Row.get 1 (T156 .locals) (m104 (c .before) (c .slice-known6 .given)) .ptr) (Row.get 1
+                (T156 .locals) (m104 (c .before) (c .slice-known6 .given)) .name) (Row.get 1 (T156 .locals)
+                (m104 (c .before) (c .slice-known6 .given)) .now) (dens (c .before .before .before .before .before
+                .before .before .before .before .before .before .before .before .before .before .before .before .κs) (c
                 .before .before .before .before .before .before .before .before .before .before .before .before .before
-                .κs) (c .before .before .before .before .before .before .before .before .before .before .before .before
-                .before .before .before .before .before .before .args) .0 .now) (same-length-17
+                .before .before .before .before .args) .0 .now) (same-length-17
                 record { before = c .before; slice-known6 = c .slice-known6 }),
             (
-              MutSlice.fix-len (Row.get 2 (T158 .locals) (m106 (c .before) (c .slice-known6 .given)) .ptr) (Row.get 2
-                  (T158 .locals) (m106 (c .before) (c .slice-known6 .given)) .name) (Row.get 2 (T158 .locals)
-                  (m106 (c .before) (c .slice-known6 .given)) .now) (dens (c .before .before .before .before .before
+              MutSlice.fix-len (Row.get 2 (T156 .locals) (m104 (c .before) (c .slice-known6 .given)) .ptr) (Row.get 2
+                  (T156 .locals) (m104 (c .before) (c .slice-known6 .given)) .name) (Row.get 2 (T156 .locals)
+                  (m104 (c .before) (c .slice-known6 .given)) .now) (dens (c .before .before .before .before .before
+                  .before .before .before .before .before .before .before .before .before .before .before .before .κs) (c
                   .before .before .before .before .before .before .before .before .before .before .before .before
-                  .before .κs) (c .before .before .before .before .before .before .before .before .before .before
-                  .before .before .before .before .before .before .before .before .args) .1 .0 .now) (same-length-18
+                  .before .before .before .before .before .args) .1 .0 .now) (same-length-18
                   record { before = c .before; slice-known6 = c .slice-known6 }),
               (
                 Path.refl,
                 (
-                  MutSlice.fix-len (Row.get 4 (T158 .locals) (m106 (c .before) (c .slice-known6 .given)) .ptr) (Row.get
-                      4 (T158 .locals) (m106 (c .before) (c .slice-known6 .given)) .name) (Row.get 4 (T158 .locals)
-                      (m106 (c .before) (c .slice-known6 .given)) .now) (dens (c .before .before .before .before
+                  MutSlice.fix-len (Row.get 4 (T156 .locals) (m104 (c .before) (c .slice-known6 .given)) .ptr) (Row.get
+                      4 (T156 .locals) (m104 (c .before) (c .slice-known6 .given)) .name) (Row.get 4 (T156 .locals)
+                      (m104 (c .before) (c .slice-known6 .given)) .now) (dens (c .before .before .before .before
                       .before .before .before .before .before .before .before .before .before .before .before .before
-                      .before .before .κs) (c .before .before .before .before .before .before .before .before .before
-                      .before .before .before .before .before .before .before .before .before .args) .1 .1 .1 .0 .now) (same-length-19
+                      .before .κs) (c .before .before .before .before .before .before .before .before .before .before
+                      .before .before .before .before .before .before .before .args) .1 .1 .1 .0 .now) (same-length-19
                       record { before = c .before; slice-known6 = c .slice-known6 }),
                   (
-                    MutSlice.fix-len (Row.get 5 (T158 .locals) (m106 (c .before) (c .slice-known6 .given)) .ptr) (Row.get
-                        5 (T158 .locals) (m106 (c .before) (c .slice-known6 .given)) .name) (Row.get 5 (T158 .locals)
-                        (m106 (c .before) (c .slice-known6 .given)) .now) (dens (c .before .before .before .before
+                    MutSlice.fix-len (Row.get 5 (T156 .locals) (m104 (c .before) (c .slice-known6 .given)) .ptr) (Row.get
+                        5 (T156 .locals) (m104 (c .before) (c .slice-known6 .given)) .name) (Row.get 5 (T156 .locals)
+                        (m104 (c .before) (c .slice-known6 .given)) .now) (dens (c .before .before .before .before
                         .before .before .before .before .before .before .before .before .before .before .before .before
-                        .before .before .κs) (c .before .before .before .before .before .before .before .before .before
-                        .before .before .before .before .before .before .before .before .before .args) .1 .1 .1 .1 .0
-                        .now) (same-length-20 record { before = c .before; slice-known6 = c .slice-known6 }),
+                        .before .κs) (c .before .before .before .before .before .before .before .before .before .before
+                        .before .before .before .before .before .before .before .args) .1 .1 .1 .1 .0 .now) (same-length-20
+                        record { before = c .before; slice-known6 = c .slice-known6 }),
                     (tt, (Path.refl, (Path.refl, (Path.refl, tt)))),
                   ),
                 ),
@@ -10432,39 +9830,35 @@ module _ (claims· : Claims) where
           returns-5 record { before = c .before; slice-known6 = c .slice-known6 },
         )
 
-        lay16 : (c : After-slice-known5) → at164 (c .before .before .before .before .before .before .before .before
-            .before .before .before .before .before .before .blocks) (W0 (c .before .before .before .before .before
-            .before .before .before .before .before .before .before .before .before .κs) (c .before .before .before
-            .before .before .before .before .before .before .before .before .before .before .before .args) (c .before
-            .before .before .before .before .before .before .before .before .before .before .before .before .before
-            .blocks)) (m67 (c .before) (c .slice-known5 .given))
+        lay16 : (c : After-slice-known5) → at163 (W0 (c .before .before .before .before .before .before .before .before
+            .before .before .before .before .before .κs) (c .before .before .before .before .before .before .before
+            .before .before .before .before .before .before .args)) (m65 (c .before) (c .slice-known5 .given))
         lay16 = λ c. (
           (
             Path.refl,
             (
-              MutSlice.fix-len (Row.get 2 (T158 .locals) (m103 (c .before) (c .slice-known5 .given)) .ptr) (Row.get 2
-                  (T158 .locals) (m103 (c .before) (c .slice-known5 .given)) .name) (Row.get 2 (T158 .locals)
-                  (m103 (c .before) (c .slice-known5 .given)) .now) (dens (c .before .before .before .before .before
-                  .before .before .before .before .before .before .before .before .before .κs) (c .before .before
-                  .before .before .before .before .before .before .before .before .before .before .before .before .args)
-                  .1 .0 .now) (same-length-14 record { before = c .before; slice-known5 = c .slice-known5 }),
+              MutSlice.fix-len (Row.get 2 (T156 .locals) (m101 (c .before) (c .slice-known5 .given)) .ptr) (Row.get 2
+                  (T156 .locals) (m101 (c .before) (c .slice-known5 .given)) .name) (Row.get 2 (T156 .locals)
+                  (m101 (c .before) (c .slice-known5 .given)) .now) (dens (c .before .before .before .before .before
+                  .before .before .before .before .before .before .before .before .κs) (c .before .before .before
+                  .before .before .before .before .before .before .before .before .before .before .args) .1 .0 .now) (same-length-14
+                  record { before = c .before; slice-known5 = c .slice-known5 }),
               (
                 Path.refl,
                 (
-                  MutSlice.fix-len (Row.get 4 (T158 .locals) (m103 (c .before) (c .slice-known5 .given)) .ptr) (Row.get
-                      4 (T158 .locals) (m103 (c .before) (c .slice-known5 .given)) .name) (Row.get 4 (T158 .locals)
-                      (m103 (c .before) (c .slice-known5 .given)) .now) (dens (c .before .before .before .before
-                      .before .before .before .before .before .before .before .before .before .before .κs) (c .before
-                      .before .before .before .before .before .before .before .before .before .before .before .before
-                      .before .args) .1 .1 .1 .0 .now) (same-length-15
-                      record { before = c .before; slice-known5 = c .slice-known5 }),
+                  MutSlice.fix-len (Row.get 4 (T156 .locals) (m101 (c .before) (c .slice-known5 .given)) .ptr) (Row.get
+                      4 (T156 .locals) (m101 (c .before) (c .slice-known5 .given)) .name) (Row.get 4 (T156 .locals)
+                      (m101 (c .before) (c .slice-known5 .given)) .now) (dens (c .before .before .before .before
+                      .before .before .before .before .before .before .before .before .before .κs) (c .before .before
+                      .before .before .before .before .before .before .before .before .before .before .before .args) .1
+                      .1 .1 .0 .now) (same-length-15 record { before = c .before; slice-known5 = c .slice-known5 }),
                   (
-                    MutSlice.fix-len (Row.get 5 (T158 .locals) (m103 (c .before) (c .slice-known5 .given)) .ptr) (Row.get
-                        5 (T158 .locals) (m103 (c .before) (c .slice-known5 .given)) .name) (Row.get 5 (T158 .locals)
-                        (m103 (c .before) (c .slice-known5 .given)) .now) (dens (c .before .before .before .before
-                        .before .before .before .before .before .before .before .before .before .before .κs) (c .before
-                        .before .before .before .before .before .before .before .before .before .before .before .before
-                        .before .args) .1 .1 .1 .1 .0 .now) (same-length-16
+                    MutSlice.fix-len (Row.get 5 (T156 .locals) (m101 (c .before) (c .slice-known5 .given)) .ptr) (Row.get
+                        5 (T156 .locals) (m101 (c .before) (c .slice-known5 .given)) .name) (Row.get 5 (T156 .locals)
+                        (m101 (c .before) (c .slice-known5 .given)) .now) (dens (c .before .before .before .before
+                        .before .before .before .before .before .before .before .before .before .κs) (c .before .before
+                        .before .before .before .before .before .before .before .before .before .before .before .args)
+                        .1 .1 .1 .1 .0 .now) (same-length-16
                         record { before = c .before; slice-known5 = c .slice-known5 }),
                     (tt, (Path.refl, (Path.refl, (Path.refl, tt)))),
                   ),
@@ -10475,47 +9869,44 @@ module _ (claims· : Claims) where
           returns-4 record { before = c .before; slice-known5 = c .slice-known5 },
         )
 
-        lay15 : (c : After-slice-known4) → at164 (c .before .before .before .before .before .before .before .before
-            .before .before .before .before .before .before .before .before .blocks) (W0 (c .before .before .before
-            .before .before .before .before .before .before .before .before .before .before .before .before .before .κs) (c
-            .before .before .before .before .before .before .before .before .before .before .before .before .before
-            .before .before .before .args) (c .before .before .before .before .before .before .before .before .before
-            .before .before .before .before .before .before .before .blocks))
-            (m55 (c .before) (c .slice-known4 .given))
+        lay15 : (c : After-slice-known4) → at163 (W0 (c .before .before .before .before .before .before .before .before
+            .before .before .before .before .before .before .before .κs) (c .before .before .before .before .before
+            .before .before .before .before .before .before .before .before .before .before .args))
+            (m53 (c .before) (c .slice-known4 .given))
         lay15 = λ c. (
           (
             Path.refl,
             (
-              MutSlice.fix-len (Row.get 2 (T158 .locals) (m100 (c .before) (c .slice-known4 .given)) .ptr) (Row.get 2
-                  (T158 .locals) (m100 (c .before) (c .slice-known4 .given)) .name) (Row.get 2 (T158 .locals)
-                  (m100 (c .before) (c .slice-known4 .given)) .now) (dens (c .before .before .before .before .before
-                  .before .before .before .before .before .before .before .before .before .before .before .κs) (c
+              MutSlice.fix-len (Row.get 2 (T156 .locals) (m98 (c .before) (c .slice-known4 .given)) .ptr) (Row.get 2
+                  (T156 .locals) (m98 (c .before) (c .slice-known4 .given)) .name) (Row.get 2 (T156 .locals)
+                  (m98 (c .before) (c .slice-known4 .given)) .now) (dens (c .before .before .before .before .before
+                  .before .before .before .before .before .before .before .before .before .before .κs) (c .before
                   .before .before .before .before .before .before .before .before .before .before .before .before
-                  .before .before .before .before .args) .1 .0 .now) (same-length-10
+                  .before .before .args) .1 .0 .now) (same-length-10
                   record { before = c .before; slice-known4 = c .slice-known4 }),
               (
-                MutSlice.fix-len (Row.get 3 (T158 .locals) (m100 (c .before) (c .slice-known4 .given)) .ptr) (Row.get 3
-                    (T158 .locals) (m100 (c .before) (c .slice-known4 .given)) .name) (Row.get 3 (T158 .locals)
-                    (m100 (c .before) (c .slice-known4 .given)) .now) (dens (c .before .before .before .before .before
-                    .before .before .before .before .before .before .before .before .before .before .before .κs) (c
+                MutSlice.fix-len (Row.get 3 (T156 .locals) (m98 (c .before) (c .slice-known4 .given)) .ptr) (Row.get 3
+                    (T156 .locals) (m98 (c .before) (c .slice-known4 .given)) .name) (Row.get 3 (T156 .locals)
+                    (m98 (c .before) (c .slice-known4 .given)) .now) (dens (c .before .before .before .before .before
+                    .before .before .before .before .before .before .before .before .before .before .κs) (c .before
                     .before .before .before .before .before .before .before .before .before .before .before .before
-                    .before .before .before .before .args) .1 .1 .0 .now) (same-length-11
+                    .before .before .args) .1 .1 .0 .now) (same-length-11
                     record { before = c .before; slice-known4 = c .slice-known4 }),
                 (
-                  MutSlice.fix-len (Row.get 4 (T158 .locals) (m100 (c .before) (c .slice-known4 .given)) .ptr) (Row.get
-                      4 (T158 .locals) (m100 (c .before) (c .slice-known4 .given)) .name) (Row.get 4 (T158 .locals)
-                      (m100 (c .before) (c .slice-known4 .given)) .now) (dens (c .before .before .before .before
+                  MutSlice.fix-len (Row.get 4 (T156 .locals) (m98 (c .before) (c .slice-known4 .given)) .ptr) (Row.get
+                      4 (T156 .locals) (m98 (c .before) (c .slice-known4 .given)) .name) (Row.get 4 (T156 .locals)
+                      (m98 (c .before) (c .slice-known4 .given)) .now) (dens (c .before .before .before .before .before
+                      .before .before .before .before .before .before .before .before .before .before .κs) (c .before
                       .before .before .before .before .before .before .before .before .before .before .before .before
-                      .κs) (c .before .before .before .before .before .before .before .before .before .before .before
-                      .before .before .before .before .before .args) .1 .1 .1 .0 .now) (same-length-12
+                      .before .before .args) .1 .1 .1 .0 .now) (same-length-12
                       record { before = c .before; slice-known4 = c .slice-known4 }),
                   (
-                    MutSlice.fix-len (Row.get 5 (T158 .locals) (m100 (c .before) (c .slice-known4 .given)) .ptr) (Row.get
-                        5 (T158 .locals) (m100 (c .before) (c .slice-known4 .given)) .name) (Row.get 5 (T158 .locals)
-                        (m100 (c .before) (c .slice-known4 .given)) .now) (dens (c .before .before .before .before
+                    MutSlice.fix-len (Row.get 5 (T156 .locals) (m98 (c .before) (c .slice-known4 .given)) .ptr) (Row.get
+                        5 (T156 .locals) (m98 (c .before) (c .slice-known4 .given)) .name) (Row.get 5 (T156 .locals)
+                        (m98 (c .before) (c .slice-known4 .given)) .now) (dens (c .before .before .before .before
+                        .before .before .before .before .before .before .before .before .before .before .before .κs) (c
                         .before .before .before .before .before .before .before .before .before .before .before .before
-                        .κs) (c .before .before .before .before .before .before .before .before .before .before .before
-                        .before .before .before .before .before .args) .1 .1 .1 .1 .0 .now) (same-length-13
+                        .before .before .before .args) .1 .1 .1 .1 .0 .now) (same-length-13
                         record { before = c .before; slice-known4 = c .slice-known4 }),
                     (tt, (Path.refl, (Path.refl, (Path.refl, tt)))),
                   ),
@@ -10526,47 +9917,43 @@ module _ (claims· : Claims) where
           returns-3 record { before = c .before; slice-known4 = c .slice-known4 },
         )
 
-        lay14 : (c : After-slice-known3) → at164 (c .before .before .before .before .before .before .before .before
-            .before .before .before .before .before .before .before .before .blocks) (W0 (c .before .before .before
-            .before .before .before .before .before .before .before .before .before .before .before .before .before .κs) (c
-            .before .before .before .before .before .before .before .before .before .before .before .before .before
-            .before .before .before .args) (c .before .before .before .before .before .before .before .before .before
-            .before .before .before .before .before .before .before .blocks))
-            (m40 (c .before) (c .slice-known3 .given))
+        lay14 : (c : After-slice-known3) → at163 (W0 (c .before .before .before .before .before .before .before .before
+            .before .before .before .before .before .before .before .κs) (c .before .before .before .before .before
+            .before .before .before .before .before .before .before .before .before .before .args))
+            (m38 (c .before) (c .slice-known3 .given))
         lay14 = λ c. (
           (
-            MutSlice.fix-len (Row.get 1 (T158 .locals) (m97 (c .before) (c .slice-known3 .given)) .ptr) (Row.get 1
-                (T158 .locals) (m97 (c .before) (c .slice-known3 .given)) .name) (Row.get 1 (T158 .locals)
-                (m97 (c .before) (c .slice-known3 .given)) .now) (dens (c .before .before .before .before .before
-                .before .before .before .before .before .before .before .before .before .before .before .κs) (c .before
+            MutSlice.fix-len (Row.get 1 (T156 .locals) (m95 (c .before) (c .slice-known3 .given)) .ptr) (Row.get 1
+                (T156 .locals) (m95 (c .before) (c .slice-known3 .given)) .name) (Row.get 1 (T156 .locals)
+                (m95 (c .before) (c .slice-known3 .given)) .now) (dens (c .before .before .before .before .before
+                .before .before .before .before .before .before .before .before .before .before .κs) (c .before .before
                 .before .before .before .before .before .before .before .before .before .before .before .before .before
-                .before .before .args) .0 .now) (same-length-6
-                record { before = c .before; slice-known3 = c .slice-known3 }),
+                .args) .0 .now) (same-length-6 record { before = c .before; slice-known3 = c .slice-known3 }),
             (
-              MutSlice.fix-len (Row.get 2 (T158 .locals) (m97 (c .before) (c .slice-known3 .given)) .ptr) (Row.get 2
-                  (T158 .locals) (m97 (c .before) (c .slice-known3 .given)) .name) (Row.get 2 (T158 .locals)
-                  (m97 (c .before) (c .slice-known3 .given)) .now) (dens (c .before .before .before .before .before
-                  .before .before .before .before .before .before .before .before .before .before .before .κs) (c
+              MutSlice.fix-len (Row.get 2 (T156 .locals) (m95 (c .before) (c .slice-known3 .given)) .ptr) (Row.get 2
+                  (T156 .locals) (m95 (c .before) (c .slice-known3 .given)) .name) (Row.get 2 (T156 .locals)
+                  (m95 (c .before) (c .slice-known3 .given)) .now) (dens (c .before .before .before .before .before
+                  .before .before .before .before .before .before .before .before .before .before .κs) (c .before
                   .before .before .before .before .before .before .before .before .before .before .before .before
-                  .before .before .before .before .args) .1 .0 .now) (same-length-7
+                  .before .before .args) .1 .0 .now) (same-length-7
                   record { before = c .before; slice-known3 = c .slice-known3 }),
               (
                 Path.refl,
                 (
-                  MutSlice.fix-len (Row.get 4 (T158 .locals) (m97 (c .before) (c .slice-known3 .given)) .ptr) (Row.get
-                      4 (T158 .locals) (m97 (c .before) (c .slice-known3 .given)) .name) (Row.get 4 (T158 .locals)
-                      (m97 (c .before) (c .slice-known3 .given)) .now) (dens (c .before .before .before .before .before
-                      .before .before .before .before .before .before .before .before .before .before .before .κs) (c
+                  MutSlice.fix-len (Row.get 4 (T156 .locals) (m95 (c .before) (c .slice-known3 .given)) .ptr) (Row.get
+                      4 (T156 .locals) (m95 (c .before) (c .slice-known3 .given)) .name) (Row.get 4 (T156 .locals)
+                      (m95 (c .before) (c .slice-known3 .given)) .now) (dens (c .before .before .before .before .before
+                      .before .before .before .before .before .before .before .before .before .before .κs) (c .before
                       .before .before .before .before .before .before .before .before .before .before .before .before
-                      .before .before .before .before .args) .1 .1 .1 .0 .now) (same-length-8
+                      .before .before .args) .1 .1 .1 .0 .now) (same-length-8
                       record { before = c .before; slice-known3 = c .slice-known3 }),
                   (
-                    MutSlice.fix-len (Row.get 5 (T158 .locals) (m97 (c .before) (c .slice-known3 .given)) .ptr) (Row.get
-                        5 (T158 .locals) (m97 (c .before) (c .slice-known3 .given)) .name) (Row.get 5 (T158 .locals)
-                        (m97 (c .before) (c .slice-known3 .given)) .now) (dens (c .before .before .before .before
+                    MutSlice.fix-len (Row.get 5 (T156 .locals) (m95 (c .before) (c .slice-known3 .given)) .ptr) (Row.get
+                        5 (T156 .locals) (m95 (c .before) (c .slice-known3 .given)) .name) (Row.get 5 (T156 .locals)
+                        (m95 (c .before) (c .slice-known3 .given)) .now) (dens (c .before .before .before .before
+                        .before .before .before .before .before .before .before .before .before .before .before .κs) (c
                         .before .before .before .before .before .before .before .before .before .before .before .before
-                        .κs) (c .before .before .before .before .before .before .before .before .before .before .before
-                        .before .before .before .before .before .args) .1 .1 .1 .1 .0 .now) (same-length-9
+                        .before .before .before .args) .1 .1 .1 .1 .0 .now) (same-length-9
                         record { before = c .before; slice-known3 = c .slice-known3 }),
                     (tt, (Path.refl, (Path.refl, (Path.refl, tt)))),
                   ),
@@ -10577,54 +9964,51 @@ module _ (claims· : Claims) where
           returns-2 record { before = c .before; slice-known3 = c .slice-known3 },
         )
 
-        lay13 : (c : After-slice-known2) → at164 (c .before .before .before .before .before .before .before .before
-            .before .before .before .before .before .before .before .before .before .before .blocks) (W0 (c .before
+        lay13 : (c : After-slice-known2) → at163 (W0 (c .before .before .before .before .before .before .before .before
+            .before .before .before .before .before .before .before .before .before .κs) (c .before .before .before
             .before .before .before .before .before .before .before .before .before .before .before .before .before
-            .before .before .before .before .κs) (c .before .before .before .before .before .before .before .before
-            .before .before .before .before .before .before .before .before .before .before .args) (c .before .before
-            .before .before .before .before .before .before .before .before .before .before .before .before .before
-            .before .before .before .blocks)) (m25 (c .before) (c .slice-known2 .given))
+            .before .args)) (m23 (c .before) (c .slice-known2 .given))
         lay13 = λ c. (
           (
-            MutSlice.fix-len (Row.get 1 (T158 .locals) (m94 (c .before) (c .slice-known2 .given)) .ptr) (Row.get 1
-                (T158 .locals) (m94 (c .before) (c .slice-known2 .given)) .name) (Row.get 1 (T158 .locals)
-                (m94 (c .before) (c .slice-known2 .given)) .now) (dens (c .before .before .before .before .before
+            MutSlice.fix-len (Row.get 1 (T156 .locals) (m92 (c .before) (c .slice-known2 .given)) .ptr) (Row.get 1
+                (T156 .locals) (m92 (c .before) (c .slice-known2 .given)) .name) (Row.get 1 (T156 .locals)
+                (m92 (c .before) (c .slice-known2 .given)) .now) (dens (c .before .before .before .before .before
+                .before .before .before .before .before .before .before .before .before .before .before .before .κs) (c
                 .before .before .before .before .before .before .before .before .before .before .before .before .before
-                .κs) (c .before .before .before .before .before .before .before .before .before .before .before .before
-                .before .before .before .before .before .before .args) .0 .now) (same-length
+                .before .before .before .before .args) .0 .now) (same-length
                 record { before = c .before; slice-known2 = c .slice-known2 }),
             (
-              MutSlice.fix-len (Row.get 2 (T158 .locals) (m94 (c .before) (c .slice-known2 .given)) .ptr) (Row.get 2
-                  (T158 .locals) (m94 (c .before) (c .slice-known2 .given)) .name) (Row.get 2 (T158 .locals)
-                  (m94 (c .before) (c .slice-known2 .given)) .now) (dens (c .before .before .before .before .before
+              MutSlice.fix-len (Row.get 2 (T156 .locals) (m92 (c .before) (c .slice-known2 .given)) .ptr) (Row.get 2
+                  (T156 .locals) (m92 (c .before) (c .slice-known2 .given)) .name) (Row.get 2 (T156 .locals)
+                  (m92 (c .before) (c .slice-known2 .given)) .now) (dens (c .before .before .before .before .before
+                  .before .before .before .before .before .before .before .before .before .before .before .before .κs) (c
                   .before .before .before .before .before .before .before .before .before .before .before .before
-                  .before .κs) (c .before .before .before .before .before .before .before .before .before .before
-                  .before .before .before .before .before .before .before .before .args) .1 .0 .now) (same-length-2
+                  .before .before .before .before .before .args) .1 .0 .now) (same-length-2
                   record { before = c .before; slice-known2 = c .slice-known2 }),
               (
-                MutSlice.fix-len (Row.get 3 (T158 .locals) (m94 (c .before) (c .slice-known2 .given)) .ptr) (Row.get 3
-                    (T158 .locals) (m94 (c .before) (c .slice-known2 .given)) .name) (Row.get 3 (T158 .locals)
-                    (m94 (c .before) (c .slice-known2 .given)) .now) (dens (c .before .before .before .before .before
+                MutSlice.fix-len (Row.get 3 (T156 .locals) (m92 (c .before) (c .slice-known2 .given)) .ptr) (Row.get 3
+                    (T156 .locals) (m92 (c .before) (c .slice-known2 .given)) .name) (Row.get 3 (T156 .locals)
+                    (m92 (c .before) (c .slice-known2 .given)) .now) (dens (c .before .before .before .before .before
+                    .before .before .before .before .before .before .before .before .before .before .before .before .κs) (c
                     .before .before .before .before .before .before .before .before .before .before .before .before
-                    .before .κs) (c .before .before .before .before .before .before .before .before .before .before
-                    .before .before .before .before .before .before .before .before .args) .1 .1 .0 .now) (same-length-3
+                    .before .before .before .before .before .args) .1 .1 .0 .now) (same-length-3
                     record { before = c .before; slice-known2 = c .slice-known2 }),
                 (
-                  MutSlice.fix-len (Row.get 4 (T158 .locals) (m94 (c .before) (c .slice-known2 .given)) .ptr) (Row.get
-                      4 (T158 .locals) (m94 (c .before) (c .slice-known2 .given)) .name) (Row.get 4 (T158 .locals)
-                      (m94 (c .before) (c .slice-known2 .given)) .now) (dens (c .before .before .before .before .before
+                  MutSlice.fix-len (Row.get 4 (T156 .locals) (m92 (c .before) (c .slice-known2 .given)) .ptr) (Row.get
+                      4 (T156 .locals) (m92 (c .before) (c .slice-known2 .given)) .name) (Row.get 4 (T156 .locals)
+                      (m92 (c .before) (c .slice-known2 .given)) .now) (dens (c .before .before .before .before .before
                       .before .before .before .before .before .before .before .before .before .before .before .before
-                      .before .κs) (c .before .before .before .before .before .before .before .before .before .before
-                      .before .before .before .before .before .before .before .before .args) .1 .1 .1 .0 .now) (same-length-4
+                      .κs) (c .before .before .before .before .before .before .before .before .before .before .before
+                      .before .before .before .before .before .before .args) .1 .1 .1 .0 .now) (same-length-4
                       record { before = c .before; slice-known2 = c .slice-known2 }),
                   (
-                    MutSlice.fix-len (Row.get 5 (T158 .locals) (m94 (c .before) (c .slice-known2 .given)) .ptr) (Row.get
-                        5 (T158 .locals) (m94 (c .before) (c .slice-known2 .given)) .name) (Row.get 5 (T158 .locals)
-                        (m94 (c .before) (c .slice-known2 .given)) .now) (dens (c .before .before .before .before
+                    MutSlice.fix-len (Row.get 5 (T156 .locals) (m92 (c .before) (c .slice-known2 .given)) .ptr) (Row.get
+                        5 (T156 .locals) (m92 (c .before) (c .slice-known2 .given)) .name) (Row.get 5 (T156 .locals)
+                        (m92 (c .before) (c .slice-known2 .given)) .now) (dens (c .before .before .before .before
                         .before .before .before .before .before .before .before .before .before .before .before .before
-                        .before .before .κs) (c .before .before .before .before .before .before .before .before .before
-                        .before .before .before .before .before .before .before .before .before .args) .1 .1 .1 .1 .0
-                        .now) (same-length-5 record { before = c .before; slice-known2 = c .slice-known2 }),
+                        .before .κs) (c .before .before .before .before .before .before .before .before .before .before
+                        .before .before .before .before .before .before .before .args) .1 .1 .1 .1 .0 .now) (same-length-5
+                        record { before = c .before; slice-known2 = c .slice-known2 }),
                     (tt, (Path.refl, (Path.refl, (Path.refl, tt)))),
                   ),
                 ),
@@ -10634,32 +10018,32 @@ module _ (claims· : Claims) where
           returns record { before = c .before; slice-known2 = c .slice-known2 },
         )
 
-        lay12 : (c : At-match-came) → at157 (c .before .before .before .before .before .before .blocks)
-            (W2 (c .before .before) (c .before .packet .given)) (m89 (c .before))
+        lay12 : (c : At-match-came) → at157 (W2 (c .before .before) (c .before .shared-slice-known3 .given))
+            (m87 (c .before))
         unfolding at157
         lay12 = λ c. (
           unexpected-requires record { before = c .before; match = c .match },
           λ g. lay18 record {
             before = record { before = c .before; match = c .match };
-            unexpected = Called.called ps·5 r·5 (claims· .11) T10
-                (record { pos = 6; st = List.[]; d = 0; at = λ x. x }, tt) (m89 (c .before)) g;
+            unexpected = Called.called ps·5 r·5 (claims· .11) T8 args146 (m87 (c .before)) g;
           },
         )
 
-        lay11 : (c : Else2) → at150 (c .before .before .before .before .before .before .before .before .blocks) (W4
-            (c .before .before .before .before) (c .before .before .before .packet .given)) (m88 (c .before))
+        lay11 : (c : Else2) → at150 (W4 (c .before .before .before .before)
+            (c .before .before .before .shared-slice-known3 .given)) (m86 (c .before))
         lay11 = λ c. lay12 record {
-          before = record { before = c .before .before .before .before; packet = c .before .before .before .packet };
+          before = record {
+            before = c .before .before .before .before;
+            shared-slice-known3 = c .before .before .before .shared-slice-known3;
+          };
           match = record { came = Logic.inr (Logic.inr (c .before .before .match, c .before .if1, c .if2)) };
         }
 
-        lay10 : (c : Else2) → at148 (c .before .before .before .before .before .before .before .before .blocks)
-            (W6 (c .before .before)) (m71 (c .before .before))
+        lay10 : (c : Else2) → at148 (W6 (c .before .before)) (m69 (c .before .before))
         lay10 = λ c. lay11 record { before = c .before; if2 = c .if2 }
 
-        lay9 : (c : After-handle-close) → at132 (c .before .before .before .before .before .before .before .before
-            .before .before .before .before .before .blocks) (W6 (c .before .before .before .before .before .before
-            .before)) (m81 (c .before) (After-handle-close·gave c))
+        lay9 : (c : After-handle-close) → at132 (W6 (c .before .before .before .before .before .before .before))
+            (m79 (c .before) (After-handle-close·gave c))
         lay9 = λ c. (
           Path.refl,
           λ g. (
@@ -10689,8 +10073,7 @@ module _ (claims· : Claims) where
           ),
         )
 
-        lay8 : (c : Then2) → at146 (c .before .before .before .before .before .before .before .before .blocks)
-            (W6 (c .before .before)) (m71 (c .before .before))
+        lay8 : (c : Then2) → at146 (W6 (c .before .before)) (m69 (c .before .before))
         lay8 = λ c. λ g. (
           Path.refl,
           λ g'. (
@@ -10727,31 +10110,17 @@ module _ (claims· : Claims) where
                       };
                       handle-close-arg4 = record { given = g'3 };
                     };
-                    handle-close = Called.called ps·4 r·4 (claims· .9) T137 (
-                      record { pos = 47; ty = ref0; ref = λ x. x },
-                      (
-                        record { pos = 49; ty = ref1; ref = λ x. x },
-                        (
-                          record { pos = 51; ty = ref3; ref = λ x. x },
-                          (
-                            record { pos = 53; ty = ref4; ref = λ x. x },
-                            (
-                              record { pos = 6; st = List.[]; d = 0; at = λ x. x },
-                              (record { pos = 7; ty = ref10; ref = λ x. x }, tt),
-                            ),
-                          ),
-                        ),
-                      ),
-                    ) (m80 record {
-                      before = record {
-                        before = record {
-                          before = record { before = c .before; if2 = c .if2 };
-                          handle-close-arg = record { given = g };
-                        };
-                        handle-close-arg2 = record { given = g' };
-                      };
-                      handle-close-arg3 = record { given = g'' };
-                    } g'3) g'4;
+                    handle-close = Called.called ps·4 r·4 (claims· .9) T135 args130 (m78
+                        record {
+                          before = record {
+                            before = record {
+                              before = record { before = c .before; if2 = c .if2 };
+                              handle-close-arg = record { given = g };
+                            };
+                            handle-close-arg2 = record { given = g' };
+                          };
+                          handle-close-arg3 = record { given = g'' };
+                        } g'3) g'4;
                   },
                 ),
               ),
@@ -10759,36 +10128,37 @@ module _ (claims· : Claims) where
           ),
         )
 
-        lay7 : (c : Else1) → at152 (c .before .before .before .before .before .before .before .blocks) (W4
-            (c .before .before .before) (c .before .before .packet .given)) (m70 (c .before))
+        lay7 : (c : Else1) → at152 (W4 (c .before .before .before) (c .before .before .shared-slice-known3 .given))
+            (m68 (c .before))
         lay7 = λ c. (
           tt,
           (
             λ taken. lay8 record {
               before = record { before = c .before; if1 = c .if1 };
-              if2 = record { taken = Tests.ltb-true (Row.get 11 (T120 .locals) (m70 (c .before))) 21 taken };
+              if2 = record { taken = Tests.ltb-true (Row.get 10 (T118 .locals) (m68 (c .before))) 21 taken };
             },
             λ left. lay10 record {
               before = record { before = c .before; if1 = c .if1 };
-              if2 = record { left = Tests.ltb-false (Row.get 11 (T120 .locals) (m70 (c .before))) 21 left };
+              if2 = record { left = Tests.ltb-false (Row.get 10 (T118 .locals) (m68 (c .before))) 21 left };
             },
           ),
         )
 
-        lay6 : (c : Else1) → at116 (c .before .before .before .before .before .before .before .blocks)
-            (W5 (c .before .before)) (m68 (c .before .before))
+        lay6 : (c : Else1) → at116 (W5 (c .before .before)) (m66 (c .before .before))
         lay6 = λ c. lay7 record { before = c .before; if1 = c .if1 }
 
-        lay5 : (c : Then1) → at114 (c .before .before .before .before .before .before .before .blocks)
-            (W5 (c .before .before)) (m68 (c .before .before))
+        lay5 : (c : Then1) → at114 (W5 (c .before .before)) (m66 (c .before .before))
         lay5 = λ c. lay12 record {
-          before = record { before = c .before .before .before; packet = c .before .before .packet };
+          before = record {
+            before = c .before .before .before;
+            shared-slice-known3 = c .before .before .shared-slice-known3;
+          };
           match = record { came = Logic.inr (Logic.inl (c .before .match, c .if1)) };
         }
 
-        lay4 : (c : After-handle-window) → at101 (c .before .before .before .before .before .before .before .before
-            .before .before .blocks) (W4 (c .before .before .before .before .before .before)
-            (c .before .before .before .before .before .packet .given)) (m62 (c .before) (After-handle-window·gave c))
+        lay4 : (c : After-handle-window) → at101 (W4 (c .before .before .before .before .before .before) (c .before
+            .before .before .before .before .shared-slice-known3 .given))
+            (m60 (c .before) (After-handle-window·gave c))
         lay4 = λ c. (
           Path.refl,
           λ g. (
@@ -10812,9 +10182,9 @@ module _ (claims· : Claims) where
           ),
         )
 
-        lay3 : (c : After-handle-data) → at76 (c .before .before .before .before .before .before .before .before
-            .before .before .before .blocks) (W4 (c .before .before .before .before .before .before .before) (c .before
-            .before .before .before .before .before .packet .given)) (m49 (c .before) (After-handle-data·gave c))
+        lay3 : (c : After-handle-data) → at76 (W4 (c .before .before .before .before .before .before .before) (c
+            .before .before .before .before .before .before .shared-slice-known3 .given))
+            (m47 (c .before) (After-handle-data·gave c))
         lay3 = λ c. (
           Path.refl,
           λ g. (
@@ -10844,9 +10214,9 @@ module _ (claims· : Claims) where
           ),
         )
 
-        lay2 : (c : After-handle-accept) → at48 (c .before .before .before .before .before .before .before .before
-            .before .before .before .blocks) (W4 (c .before .before .before .before .before .before .before) (c .before
-            .before .before .before .before .before .packet .given)) (m34 (c .before) (After-handle-accept·gave c))
+        lay2 : (c : After-handle-accept) → at48 (W4 (c .before .before .before .before .before .before .before) (c
+            .before .before .before .before .before .before .shared-slice-known3 .given))
+            (m32 (c .before) (After-handle-accept·gave c))
         lay2 = λ c. (
           Path.refl,
           λ g. (
@@ -10876,10 +10246,9 @@ module _ (claims· : Claims) where
           ),
         )
 
-        lay1 : (c : After-handle-open) → at17 (c .before .before .before .before .before .before .before .before
-            .before .before .before .before .blocks) (W4 (c .before .before .before .before .before .before .before
-            .before) (c .before .before .before .before .before .before .before .packet .given))
-            (m18 (c .before) (After-handle-open·gave c))
+        lay1 : (c : After-handle-open) → at17 (W4 (c .before .before .before .before .before .before .before .before) (c
+            .before .before .before .before .before .before .before .shared-slice-known3 .given))
+            (m16 (c .before) (After-handle-open·gave c))
         lay1 = λ c. (
           Path.refl,
           λ g. (
@@ -10915,12 +10284,11 @@ module _ (claims· : Claims) where
           ),
         )
 
-        pub laid : (c : Start) → at171 (c .blocks) (W0 (c .κs) (c .args) (c .blocks))
-            (m0 (c .κs) (c .args) (c .blocks))
+        pub laid : (c : Start) → at169 (W0 (c .κs) (c .args)) (m0 (c .κs) (c .args))
         laid = λ c. λ g. λ g'. λ g''. λ g'3. (
-          tt,
-          λ g'4. (
-            λ k. λ g'5. (
+          λ k. λ g'4. (
+            Path.refl,
+            λ g'5. (
               Path.refl,
               λ g'6. (
                 Path.refl,
@@ -10928,12 +10296,66 @@ module _ (claims· : Claims) where
                   Path.refl,
                   λ g'8. (
                     Path.refl,
-                    λ g'9. (
-                      Path.refl,
-                      (
-                        handle-open-requires record {
+                    (
+                      handle-open-requires record {
+                        before = record {
                           before = record {
                             before = record {
+                              before = record {
+                                before = record {
+                                  before = record {
+                                    before = record {
+                                      before = record {
+                                        before = record { before = c; slice-known = record { given = g } };
+                                        shared-slice-known = record { given = g' };
+                                      };
+                                      shared-slice-known2 = record { given = g'' };
+                                    };
+                                    shared-slice-known3 = record { given = g'3 };
+                                  };
+                                  match = record { keys1 = k };
+                                };
+                                handle-open-arg = record { given = g'4 };
+                              };
+                              handle-open-arg2 = record { given = g'5 };
+                            };
+                            handle-open-arg3 = record { given = g'6 };
+                          };
+                          handle-open-arg4 = record { given = g'7 };
+                        };
+                        handle-open-arg5 = record { given = g'8 };
+                      },
+                      λ g'9. lay1 record {
+                        before = record {
+                          before = record {
+                            before = record {
+                              before = record {
+                                before = record {
+                                  before = record {
+                                    before = record {
+                                      before = record {
+                                        before = record {
+                                          before = record { before = c; slice-known = record { given = g } };
+                                          shared-slice-known = record { given = g' };
+                                        };
+                                        shared-slice-known2 = record { given = g'' };
+                                      };
+                                      shared-slice-known3 = record { given = g'3 };
+                                    };
+                                    match = record { keys1 = k };
+                                  };
+                                  handle-open-arg = record { given = g'4 };
+                                };
+                                handle-open-arg2 = record { given = g'5 };
+                              };
+                              handle-open-arg3 = record { given = g'6 };
+                            };
+                            handle-open-arg4 = record { given = g'7 };
+                          };
+                          handle-open-arg5 = record { given = g'8 };
+                        };
+                        handle-open = Called.called ps·0 r·0 (claims· .1) T23 args20 (m15
+                            record {
                               before = record {
                                 before = record {
                                   before = record {
@@ -10947,123 +10369,150 @@ module _ (claims· : Claims) where
                                           shared-slice-known2 = record { given = g'' };
                                         };
                                         shared-slice-known3 = record { given = g'3 };
-                                      };
-                                      packet = record { given = g'4 };
-                                    };
-                                    match = record { keys1 = k };
-                                  };
-                                  handle-open-arg = record { given = g'5 };
-                                };
-                                handle-open-arg2 = record { given = g'6 };
-                              };
-                              handle-open-arg3 = record { given = g'7 };
-                            };
-                            handle-open-arg4 = record { given = g'8 };
-                          };
-                          handle-open-arg5 = record { given = g'9 };
-                        },
-                        λ g'10. lay1 record {
-                          before = record {
-                            before = record {
-                              before = record {
-                                before = record {
-                                  before = record {
-                                    before = record {
-                                      before = record {
-                                        before = record {
-                                          before = record {
-                                            before = record {
-                                              before = record { before = c; slice-known = record { given = g } };
-                                              shared-slice-known = record { given = g' };
-                                            };
-                                            shared-slice-known2 = record { given = g'' };
-                                          };
-                                          shared-slice-known3 = record { given = g'3 };
-                                        };
-                                        packet = record { given = g'4 };
                                       };
                                       match = record { keys1 = k };
                                     };
-                                    handle-open-arg = record { given = g'5 };
+                                    handle-open-arg = record { given = g'4 };
                                   };
-                                  handle-open-arg2 = record { given = g'6 };
+                                  handle-open-arg2 = record { given = g'5 };
                                 };
-                                handle-open-arg3 = record { given = g'7 };
+                                handle-open-arg3 = record { given = g'6 };
                               };
-                              handle-open-arg4 = record { given = g'8 };
+                              handle-open-arg4 = record { given = g'7 };
+                            } g'8) g'9;
+                      },
+                    ),
+                  ),
+                ),
+              ),
+            ),
+          ),
+          (
+            λ k. λ g'10. (
+              Path.refl,
+              λ g'11. (
+                Path.refl,
+                λ g'12. (
+                  Path.refl,
+                  λ g'13. (
+                    Path.refl,
+                    (
+                      handle-accept-requires record {
+                        before = record {
+                          before = record {
+                            before = record {
+                              before = record {
+                                before = record {
+                                  before = record {
+                                    before = record {
+                                      before = record { before = c; slice-known = record { given = g } };
+                                      shared-slice-known = record { given = g' };
+                                    };
+                                    shared-slice-known2 = record { given = g'' };
+                                  };
+                                  shared-slice-known3 = record { given = g'3 };
+                                };
+                                match = record { keys2 = k };
+                              };
+                              handle-accept-arg = record { given = g'10 };
                             };
-                            handle-open-arg5 = record { given = g'9 };
+                            handle-accept-arg2 = record { given = g'11 };
                           };
-                          handle-open = Called.called ps·0 r·0 (claims· .1) T25 (
-                            record { pos = 14; ty = ref0; ref = λ x. x },
-                            (
-                              record { pos = 16; ty = ref1; ref = λ x. x },
-                              (
-                                record { pos = 18; ty = ref2; ref = λ x. x },
-                                (
-                                  record { pos = 20; ty = ref3; ref = λ x. x },
-                                  (
-                                    record { pos = 22; ty = ref4; ref = λ x. x },
-                                    (
-                                      record { pos = 6; st = List.[]; d = 0; at = λ x. x },
-                                      (
-                                        record { pos = 7; ty = ref10; ref = λ x. x },
-                                        (
-                                          record { pos = 8; ty = ref11; ref = λ x. x },
-                                          (record { pos = 9; ty = ref12; ref = λ x. x }, tt),
-                                        ),
-                                      ),
-                                    ),
-                                  ),
-                                ),
-                              ),
-                            ),
-                          ) (m17 record {
+                          handle-accept-arg3 = record { given = g'12 };
+                        };
+                        handle-accept-arg4 = record { given = g'13 };
+                      },
+                      λ g'14. lay2 record {
+                        before = record {
+                          before = record {
                             before = record {
                               before = record {
                                 before = record {
                                   before = record {
                                     before = record {
                                       before = record {
-                                        before = record {
-                                          before = record {
-                                            before = record { before = c; slice-known = record { given = g } };
-                                            shared-slice-known = record { given = g' };
-                                          };
-                                          shared-slice-known2 = record { given = g'' };
-                                        };
-                                        shared-slice-known3 = record { given = g'3 };
+                                        before = record { before = c; slice-known = record { given = g } };
+                                        shared-slice-known = record { given = g' };
                                       };
-                                      packet = record { given = g'4 };
+                                      shared-slice-known2 = record { given = g'' };
                                     };
-                                    match = record { keys1 = k };
+                                    shared-slice-known3 = record { given = g'3 };
                                   };
-                                  handle-open-arg = record { given = g'5 };
+                                  match = record { keys2 = k };
                                 };
-                                handle-open-arg2 = record { given = g'6 };
+                                handle-accept-arg = record { given = g'10 };
                               };
-                              handle-open-arg3 = record { given = g'7 };
+                              handle-accept-arg2 = record { given = g'11 };
                             };
-                            handle-open-arg4 = record { given = g'8 };
-                          } g'9) g'10;
-                        },
-                      ),
+                            handle-accept-arg3 = record { given = g'12 };
+                          };
+                          handle-accept-arg4 = record { given = g'13 };
+                        };
+                        handle-accept = Called.called ps·1 r·1 (claims· .3) T53 args50 (m31
+                            record {
+                              before = record {
+                                before = record {
+                                  before = record {
+                                    before = record {
+                                      before = record {
+                                        before = record {
+                                          before = record { before = c; slice-known = record { given = g } };
+                                          shared-slice-known = record { given = g' };
+                                        };
+                                        shared-slice-known2 = record { given = g'' };
+                                      };
+                                      shared-slice-known3 = record { given = g'3 };
+                                    };
+                                    match = record { keys2 = k };
+                                  };
+                                  handle-accept-arg = record { given = g'10 };
+                                };
+                                handle-accept-arg2 = record { given = g'11 };
+                              };
+                              handle-accept-arg3 = record { given = g'12 };
+                            } g'13) g'14;
+                      },
                     ),
                   ),
                 ),
               ),
             ),
             (
-              λ k. λ g'11. (
+              λ k. λ g'15. (
                 Path.refl,
-                λ g'12. (
+                λ g'16. (
                   Path.refl,
-                  λ g'13. (
+                  λ g'17. (
                     Path.refl,
-                    λ g'14. (
+                    λ g'18. (
                       Path.refl,
                       (
-                        handle-accept-requires record {
+                        handle-data-requires record {
+                          before = record {
+                            before = record {
+                              before = record {
+                                before = record {
+                                  before = record {
+                                    before = record {
+                                      before = record {
+                                        before = record { before = c; slice-known = record { given = g } };
+                                        shared-slice-known = record { given = g' };
+                                      };
+                                      shared-slice-known2 = record { given = g'' };
+                                    };
+                                    shared-slice-known3 = record { given = g'3 };
+                                  };
+                                  match = record { keys3 = k };
+                                };
+                                handle-data-arg = record { given = g'15 };
+                              };
+                              handle-data-arg2 = record { given = g'16 };
+                            };
+                            handle-data-arg3 = record { given = g'17 };
+                          };
+                          handle-data-arg4 = record { given = g'18 };
+                        },
+                        λ g'19. lay3 record {
                           before = record {
                             before = record {
                               before = record {
@@ -11079,22 +10528,18 @@ module _ (claims· : Claims) where
                                       };
                                       shared-slice-known3 = record { given = g'3 };
                                     };
-                                    packet = record { given = g'4 };
+                                    match = record { keys3 = k };
                                   };
-                                  match = record { keys2 = k };
+                                  handle-data-arg = record { given = g'15 };
                                 };
-                                handle-accept-arg = record { given = g'11 };
+                                handle-data-arg2 = record { given = g'16 };
                               };
-                              handle-accept-arg2 = record { given = g'12 };
+                              handle-data-arg3 = record { given = g'17 };
                             };
-                            handle-accept-arg3 = record { given = g'13 };
+                            handle-data-arg4 = record { given = g'18 };
                           };
-                          handle-accept-arg4 = record { given = g'14 };
-                        },
-                        λ g'15. lay2 record {
-                          before = record {
-                            before = record {
-                              before = record {
+                          handle-data = Called.called ps·2 r·2 (claims· .5) T80 args77 (m46
+                              record {
                                 before = record {
                                   before = record {
                                     before = record {
@@ -11108,58 +10553,14 @@ module _ (claims· : Claims) where
                                         };
                                         shared-slice-known3 = record { given = g'3 };
                                       };
-                                      packet = record { given = g'4 };
+                                      match = record { keys3 = k };
                                     };
-                                    match = record { keys2 = k };
+                                    handle-data-arg = record { given = g'15 };
                                   };
-                                  handle-accept-arg = record { given = g'11 };
+                                  handle-data-arg2 = record { given = g'16 };
                                 };
-                                handle-accept-arg2 = record { given = g'12 };
-                              };
-                              handle-accept-arg3 = record { given = g'13 };
-                            };
-                            handle-accept-arg4 = record { given = g'14 };
-                          };
-                          handle-accept = Called.called ps·1 r·1 (claims· .3) T55 (
-                            record { pos = 24; ty = ref0; ref = λ x. x },
-                            (
-                              record { pos = 26; ty = ref1; ref = λ x. x },
-                              (
-                                record { pos = 28; ty = ref3; ref = λ x. x },
-                                (
-                                  record { pos = 30; ty = ref4; ref = λ x. x },
-                                  (
-                                    record { pos = 6; st = List.[]; d = 0; at = λ x. x },
-                                    (record { pos = 7; ty = ref10; ref = λ x. x }, tt),
-                                  ),
-                                ),
-                              ),
-                            ),
-                          ) (m33 record {
-                            before = record {
-                              before = record {
-                                before = record {
-                                  before = record {
-                                    before = record {
-                                      before = record {
-                                        before = record {
-                                          before = record { before = c; slice-known = record { given = g } };
-                                          shared-slice-known = record { given = g' };
-                                        };
-                                        shared-slice-known2 = record { given = g'' };
-                                      };
-                                      shared-slice-known3 = record { given = g'3 };
-                                    };
-                                    packet = record { given = g'4 };
-                                  };
-                                  match = record { keys2 = k };
-                                };
-                                handle-accept-arg = record { given = g'11 };
-                              };
-                              handle-accept-arg2 = record { given = g'12 };
-                            };
-                            handle-accept-arg3 = record { given = g'13 };
-                          } g'14) g'15;
+                                handle-data-arg3 = record { given = g'17 };
+                              } g'18) g'19;
                         },
                       ),
                     ),
@@ -11167,299 +10568,150 @@ module _ (claims· : Claims) where
                 ),
               ),
               (
-                λ k. λ g'16. (
+                λ k. λ g'20. (
                   Path.refl,
-                  λ g'17. (
+                  λ g'21. (
                     Path.refl,
-                    λ g'18. (
+                    λ g'22. (
                       Path.refl,
-                      λ g'19. (
-                        Path.refl,
-                        (
-                          handle-data-requires record {
+                      (
+                        handle-window-requires record {
+                          before = record {
+                            before = record {
+                              before = record {
+                                before = record {
+                                  before = record {
+                                    before = record {
+                                      before = record { before = c; slice-known = record { given = g } };
+                                      shared-slice-known = record { given = g' };
+                                    };
+                                    shared-slice-known2 = record { given = g'' };
+                                  };
+                                  shared-slice-known3 = record { given = g'3 };
+                                };
+                                match = record { keys4 = k };
+                              };
+                              handle-window-arg = record { given = g'20 };
+                            };
+                            handle-window-arg2 = record { given = g'21 };
+                          };
+                          handle-window-arg3 = record { given = g'22 };
+                        },
+                        λ g'23. lay4 record {
+                          before = record {
                             before = record {
                               before = record {
                                 before = record {
                                   before = record {
                                     before = record {
                                       before = record {
-                                        before = record {
-                                          before = record {
-                                            before = record { before = c; slice-known = record { given = g } };
-                                            shared-slice-known = record { given = g' };
-                                          };
-                                          shared-slice-known2 = record { given = g'' };
-                                        };
-                                        shared-slice-known3 = record { given = g'3 };
+                                        before = record { before = c; slice-known = record { given = g } };
+                                        shared-slice-known = record { given = g' };
                                       };
-                                      packet = record { given = g'4 };
+                                      shared-slice-known2 = record { given = g'' };
                                     };
-                                    match = record { keys3 = k };
+                                    shared-slice-known3 = record { given = g'3 };
                                   };
-                                  handle-data-arg = record { given = g'16 };
+                                  match = record { keys4 = k };
                                 };
-                                handle-data-arg2 = record { given = g'17 };
+                                handle-window-arg = record { given = g'20 };
                               };
-                              handle-data-arg3 = record { given = g'18 };
+                              handle-window-arg2 = record { given = g'21 };
                             };
-                            handle-data-arg4 = record { given = g'19 };
-                          },
-                          λ g'20. lay3 record {
-                            before = record {
-                              before = record {
+                            handle-window-arg3 = record { given = g'22 };
+                          };
+                          handle-window = Called.called ps·3 r·3 (claims· .7) T104 args101 (m59
+                              record {
                                 before = record {
                                   before = record {
                                     before = record {
                                       before = record {
                                         before = record {
-                                          before = record {
-                                            before = record {
-                                              before = record { before = c; slice-known = record { given = g } };
-                                              shared-slice-known = record { given = g' };
-                                            };
-                                            shared-slice-known2 = record { given = g'' };
-                                          };
-                                          shared-slice-known3 = record { given = g'3 };
+                                          before = record { before = c; slice-known = record { given = g } };
+                                          shared-slice-known = record { given = g' };
                                         };
-                                        packet = record { given = g'4 };
+                                        shared-slice-known2 = record { given = g'' };
                                       };
-                                      match = record { keys3 = k };
+                                      shared-slice-known3 = record { given = g'3 };
                                     };
-                                    handle-data-arg = record { given = g'16 };
+                                    match = record { keys4 = k };
                                   };
-                                  handle-data-arg2 = record { given = g'17 };
+                                  handle-window-arg = record { given = g'20 };
                                 };
-                                handle-data-arg3 = record { given = g'18 };
-                              };
-                              handle-data-arg4 = record { given = g'19 };
-                            };
-                            handle-data = Called.called ps·2 r·2 (claims· .5) T82 (
-                              record { pos = 32; ty = ref1; ref = λ x. x },
-                              (
-                                record { pos = 34; ty = ref2; ref = λ x. x },
-                                (
-                                  record { pos = 36; ty = ref3; ref = λ x. x },
-                                  (
-                                    record { pos = 38; ty = ref4; ref = λ x. x },
-                                    (
-                                      record { pos = 6; st = List.[]; d = 0; at = λ x. x },
-                                      (record { pos = 7; ty = ref10; ref = λ x. x }, tt),
-                                    ),
-                                  ),
-                                ),
-                              ),
-                            ) (m48 record {
-                              before = record {
-                                before = record {
-                                  before = record {
-                                    before = record {
-                                      before = record {
-                                        before = record {
-                                          before = record {
-                                            before = record { before = c; slice-known = record { given = g } };
-                                            shared-slice-known = record { given = g' };
-                                          };
-                                          shared-slice-known2 = record { given = g'' };
-                                        };
-                                        shared-slice-known3 = record { given = g'3 };
-                                      };
-                                      packet = record { given = g'4 };
-                                    };
-                                    match = record { keys3 = k };
-                                  };
-                                  handle-data-arg = record { given = g'16 };
-                                };
-                                handle-data-arg2 = record { given = g'17 };
-                              };
-                              handle-data-arg3 = record { given = g'18 };
-                            } g'19) g'20;
-                          },
-                        ),
+                                handle-window-arg2 = record { given = g'21 };
+                              } g'22) g'23;
+                        },
                       ),
                     ),
                   ),
                 ),
                 (
-                  λ k. λ g'21. (
-                    Path.refl,
-                    λ g'22. (
-                      Path.refl,
-                      λ g'23. (
-                        Path.refl,
-                        (
-                          handle-window-requires record {
-                            before = record {
-                              before = record {
-                                before = record {
-                                  before = record {
-                                    before = record {
-                                      before = record {
-                                        before = record {
-                                          before = record { before = c; slice-known = record { given = g } };
-                                          shared-slice-known = record { given = g' };
-                                        };
-                                        shared-slice-known2 = record { given = g'' };
-                                      };
-                                      shared-slice-known3 = record { given = g'3 };
-                                    };
-                                    packet = record { given = g'4 };
-                                  };
-                                  match = record { keys4 = k };
-                                };
-                                handle-window-arg = record { given = g'21 };
-                              };
-                              handle-window-arg2 = record { given = g'22 };
-                            };
-                            handle-window-arg3 = record { given = g'23 };
-                          },
-                          λ g'24. lay4 record {
-                            before = record {
-                              before = record {
-                                before = record {
-                                  before = record {
-                                    before = record {
-                                      before = record {
-                                        before = record {
-                                          before = record {
-                                            before = record { before = c; slice-known = record { given = g } };
-                                            shared-slice-known = record { given = g' };
-                                          };
-                                          shared-slice-known2 = record { given = g'' };
-                                        };
-                                        shared-slice-known3 = record { given = g'3 };
-                                      };
-                                      packet = record { given = g'4 };
-                                    };
-                                    match = record { keys4 = k };
-                                  };
-                                  handle-window-arg = record { given = g'21 };
-                                };
-                                handle-window-arg2 = record { given = g'22 };
-                              };
-                              handle-window-arg3 = record { given = g'23 };
-                            };
-                            handle-window = Called.called ps·3 r·3 (claims· .7) T106 (
-                              record { pos = 40; ty = ref1; ref = λ x. x },
-                              (
-                                record { pos = 42; ty = ref3; ref = λ x. x },
-                                (
-                                  record { pos = 44; ty = ref4; ref = λ x. x },
-                                  (
-                                    record { pos = 6; st = List.[]; d = 0; at = λ x. x },
-                                    (record { pos = 7; ty = ref10; ref = λ x. x }, tt),
-                                  ),
-                                ),
-                              ),
-                            ) (m61 record {
-                              before = record {
-                                before = record {
-                                  before = record {
-                                    before = record {
-                                      before = record {
-                                        before = record {
-                                          before = record { before = c; slice-known = record { given = g } };
-                                          shared-slice-known = record { given = g' };
-                                        };
-                                        shared-slice-known2 = record { given = g'' };
-                                      };
-                                      shared-slice-known3 = record { given = g'3 };
-                                    };
-                                    packet = record { given = g'4 };
-                                  };
-                                  match = record { keys4 = k };
-                                };
-                                handle-window-arg = record { given = g'21 };
-                              };
-                              handle-window-arg2 = record { given = g'22 };
-                            } g'23) g'24;
-                          },
-                        ),
-                      ),
-                    ),
-                  ),
-                  (
-                    λ k. lay12 record {
+                  λ k. lay12 record {
+                    before = record {
                       before = record {
+                        before = record {
+                          before = record { before = c; slice-known = record { given = g } };
+                          shared-slice-known = record { given = g' };
+                        };
+                        shared-slice-known2 = record { given = g'' };
+                      };
+                      shared-slice-known3 = record { given = g'3 };
+                    };
+                    match = record { came = Logic.inl record { keys5 = k } };
+                  },
+                  λ k. (
+                    tt,
+                    (
+                      λ taken. lay5 record {
                         before = record {
                           before = record {
                             before = record {
-                              before = record { before = c; slice-known = record { given = g } };
-                              shared-slice-known = record { given = g' };
+                              before = record {
+                                before = record { before = c; slice-known = record { given = g } };
+                                shared-slice-known = record { given = g' };
+                              };
+                              shared-slice-known2 = record { given = g'' };
                             };
-                            shared-slice-known2 = record { given = g'' };
+                            shared-slice-known3 = record { given = g'3 };
                           };
-                          shared-slice-known3 = record { given = g'3 };
+                          match = record { rest = k };
                         };
-                        packet = record { given = g'4 };
-                      };
-                      match = record { came = Logic.inl record { keys5 = k } };
-                    },
-                    λ k. (
-                      tt,
-                      (
-                        λ taken. lay5 record {
+                        if1 = record {
+                          taken = Tests.ltb-true (Row.get 10 (T6 .locals) (m5
+                              record {
+                                before = record {
+                                  before = record { before = c; slice-known = record { given = g } };
+                                  shared-slice-known = record { given = g' };
+                                };
+                                shared-slice-known2 = record { given = g'' };
+                              } g'3)) 13 taken;
+                        };
+                      },
+                      λ left. lay6 record {
+                        before = record {
                           before = record {
                             before = record {
                               before = record {
-                                before = record {
-                                  before = record {
-                                    before = record { before = c; slice-known = record { given = g } };
-                                    shared-slice-known = record { given = g' };
-                                  };
-                                  shared-slice-known2 = record { given = g'' };
-                                };
-                                shared-slice-known3 = record { given = g'3 };
+                                before = record { before = c; slice-known = record { given = g } };
+                                shared-slice-known = record { given = g' };
                               };
-                              packet = record { given = g'4 };
+                              shared-slice-known2 = record { given = g'' };
                             };
-                            match = record { rest = k };
+                            shared-slice-known3 = record { given = g'3 };
                           };
-                          if1 = record {
-                            taken = Tests.ltb-true (Row.get 11 (T9 .locals) (m7
-                                record {
-                                  before = record {
-                                    before = record {
-                                      before = record { before = c; slice-known = record { given = g } };
-                                      shared-slice-known = record { given = g' };
-                                    };
-                                    shared-slice-known2 = record { given = g'' };
-                                  };
-                                  shared-slice-known3 = record { given = g'3 };
-                                } g'4)) 13 taken;
-                          };
-                        },
-                        λ left. lay6 record {
-                          before = record {
-                            before = record {
-                              before = record {
+                          match = record { rest = k };
+                        };
+                        if1 = record {
+                          left = Tests.ltb-false (Row.get 10 (T6 .locals) (m5
+                              record {
                                 before = record {
-                                  before = record {
-                                    before = record { before = c; slice-known = record { given = g } };
-                                    shared-slice-known = record { given = g' };
-                                  };
-                                  shared-slice-known2 = record { given = g'' };
+                                  before = record { before = c; slice-known = record { given = g } };
+                                  shared-slice-known = record { given = g' };
                                 };
-                                shared-slice-known3 = record { given = g'3 };
-                              };
-                              packet = record { given = g'4 };
-                            };
-                            match = record { rest = k };
-                          };
-                          if1 = record {
-                            left = Tests.ltb-false (Row.get 11 (T9 .locals) (m7
-                                record {
-                                  before = record {
-                                    before = record {
-                                      before = record { before = c; slice-known = record { given = g } };
-                                      shared-slice-known = record { given = g' };
-                                    };
-                                    shared-slice-known2 = record { given = g'' };
-                                  };
-                                  shared-slice-known3 = record { given = g'3 };
-                                } g'4)) 13 left;
-                          };
-                        },
-                      ),
+                                shared-slice-known2 = record { given = g'' };
+                              } g'3)) 13 left;
+                        };
+                      },
                     ),
                   ),
                 ),
@@ -11470,7 +10722,7 @@ module _ (claims· : Claims) where
 
         module _ (κs : Lifetimes.Lfts 8) (qs : Lifetimes.Shares 8) where
           pub asked : (a : Kinds.Dens κs ps) → (good : Kinds.GoodsP κs ps a) → (pre : Pre· κs a) →
-              (bs : List.List Nat.ℕ) → Φ bs (Any.wantQ 8 ps r xs m κs qs a (Post· κs a))
+              (bs : List.List Nat.ℕ) → Φ (Any.wantQ 8 ps r xs m κs qs a (Post· κs a))
               (Function.init 8 ps r xs m κs qs a)
           asked = λ a good pre bs. laid record {
             κs = κs;
@@ -11485,7 +10737,6 @@ module _ (claims· : Claims) where
               endpoint = a .1 .1 .1 .1 .1 .1 .1 .0;
               random = a .1 .1 .1 .1 .1 .1 .1 .1 .0;
             };
-            blocks = bs;
             good = good;
             pre = pre;
           }
@@ -11501,5 +10752,5 @@ module _ (claims· : Claims) where
             (claims· .10) (claims· .11) "hnsr_circuit::calls::handle::unexpected") where
           pub spec : Statement.Triple 𝓤 (Wp.WpFn 𝓤 H (𝓣 .C) (𝓣 .Λ) (Function.fnOf 8 ps r xs m hs body))
               (Function.plainOf 𝓤 H A 8 ps r Pre· Post·)
-          spec = Plain.t-fn-plain 𝓤 H A W 𝓣 8 ps r xs m hs body (λ κs qs bs. Φ bs) (λ κs qs bs bd. typed κs qs 𝓤 H A W
-              𝓣 (known0, known1, known2, known3, known4, known5) bs bd) Pre· Post· asked
+          spec = Plain.t-fn-plain 𝓤 H A W 𝓣 8 ps r xs m hs body (λ κs qs bs. Φ) (λ κs qs bs bd. typed κs qs 𝓤 H A W 𝓣
+              (known0, known1, known2, known3, known4, known5) bs bd) Pre· Post· asked

@@ -6,33 +6,26 @@ use borrow.Author.Needs.{needs}
 
 pub record Handle-data-requires (c : Tie.After-handle-data-arg4) : Type 0 where
   pub start : Tie.Start
-  pub packet : Lts.After-packet·own Tie.readings Reads.Pre Reads.Post
-      (c .before .before .before .before .before .before)
   pub match : Lts.At-match-keys3·own Tie.readings Reads.Pre Reads.Post (c .before .before .before .before .before)
 
 abbrev pub handle-data-requires : (c : Tie.After-handle-data-arg4) → Handle-data-requires c
 handle-data-requires c = record {
-  start = c .before .before .before .before .before .before .before .before .before .before;
-  packet = c .before .before .before .before .before .packet;
+  start = c .before .before .before .before .before .before .before .before .before;
   match = c .before .before .before .before .match;
 }
 
 pub record Handle-window-requires (c : Tie.After-handle-window-arg3) : Type 0 where
   pub start : Tie.Start
-  pub packet : Lts.After-packet·own Tie.readings Reads.Pre Reads.Post (c .before .before .before .before .before)
   pub match : Lts.At-match-keys4·own Tie.readings Reads.Pre Reads.Post (c .before .before .before .before)
 
 abbrev pub handle-window-requires : (c : Tie.After-handle-window-arg3) → Handle-window-requires c
 handle-window-requires c = record {
-  start = c .before .before .before .before .before .before .before .before .before;
-  packet = c .before .before .before .before .packet;
+  start = c .before .before .before .before .before .before .before .before;
   match = c .before .before .before .match;
 }
 
 pub record Handle-close-requires (c : Tie.After-handle-close-arg4) : Type 0 where
   pub start : Tie.Start
-  pub packet : Lts.After-packet·own Tie.readings Reads.Pre Reads.Post (c .before .before .before .before .before
-      .before .before .before)
   pub match : Lts.At-match-rest·own Tie.readings Reads.Pre Reads.Post
       (c .before .before .before .before .before .before .before)
   pub if1 : Lts.Else1·own Tie.readings Reads.Pre Reads.Post (c .before .before .before .before .before .before)
@@ -40,8 +33,7 @@ pub record Handle-close-requires (c : Tie.After-handle-close-arg4) : Type 0 wher
 
 abbrev pub handle-close-requires : (c : Tie.After-handle-close-arg4) → Handle-close-requires c
 handle-close-requires c = record {
-  start = c .before .before .before .before .before .before .before .before .before .before .before .before;
-  packet = c .before .before .before .before .before .before .before .packet;
+  start = c .before .before .before .before .before .before .before .before .before .before .before;
   match = c .before .before .before .before .before .before .match;
   if1 = c .before .before .before .before .before .if1;
   if2 = c .before .before .before .before .if2;
@@ -49,8 +41,6 @@ handle-close-requires c = record {
 
 pub record Returns (c : Tie.After-slice-known2) : Type 0 where
   pub start : Tie.Start
-  pub packet : Lts.After-packet·own Tie.readings Reads.Pre Reads.Post (c .before .before .before .before .before
-      .before .before .before .before .before .before .before .before .before)
   pub match : Lts.At-match-keys1·own Tie.readings Reads.Pre Reads.Post (c .before .before .before .before .before
       .before .before .before .before .before .before .before .before)
   pub handle-open : Lts.After-handle-open·own Tie.readings Reads.Pre Reads.Post
@@ -65,9 +55,7 @@ pub record Returns (c : Tie.After-slice-known2) : Type 0 where
 abbrev pub returns : (c : Tie.After-slice-known2) → Returns c
 returns c = record {
   start = c .before .before .before .before .before .before .before .before .before .before .before .before .before
-      .before .before .before .before .before;
-  packet = c .before .before .before .before .before .before .before .before .before .before .before .before .before
-      .packet;
+      .before .before .before .before;
   match = c .before .before .before .before .before .before .before .before .before .before .before .before .match;
   handle-open = c .before .before .before .before .before .before .handle-open;
   pending = c .before .before .before .before .before .pending;
@@ -79,8 +67,6 @@ returns c = record {
 
 pub record Returns-2 (c : Tie.After-slice-known3) : Type 0 where
   pub start : Tie.Start
-  pub packet : Lts.After-packet·own Tie.readings Reads.Pre Reads.Post (c .before .before .before .before .before
-      .before .before .before .before .before .before .before)
   pub match : Lts.At-match-keys2·own Tie.readings Reads.Pre Reads.Post (c .before .before .before .before .before
       .before .before .before .before .before .before)
   pub handle-accept : Lts.After-handle-accept·own Tie.readings Reads.Pre Reads.Post
@@ -93,8 +79,7 @@ pub record Returns-2 (c : Tie.After-slice-known3) : Type 0 where
 abbrev pub returns-2 : (c : Tie.After-slice-known3) → Returns-2 c
 returns-2 c = record {
   start = c .before .before .before .before .before .before .before .before .before .before .before .before .before
-      .before .before .before;
-  packet = c .before .before .before .before .before .before .before .before .before .before .before .packet;
+      .before .before;
   match = c .before .before .before .before .before .before .before .before .before .before .match;
   handle-accept = c .before .before .before .before .before .handle-accept;
   pending2 = c .before .before .before .before .pending2;
@@ -105,8 +90,6 @@ returns-2 c = record {
 
 pub record Returns-3 (c : Tie.After-slice-known4) : Type 0 where
   pub start : Tie.Start
-  pub packet : Lts.After-packet·own Tie.readings Reads.Pre Reads.Post (c .before .before .before .before .before
-      .before .before .before .before .before .before .before)
   pub match : Lts.At-match-keys3·own Tie.readings Reads.Pre Reads.Post (c .before .before .before .before .before
       .before .before .before .before .before .before)
   pub handle-data : Lts.After-handle-data·own Tie.readings Reads.Pre Reads.Post
@@ -119,8 +102,7 @@ pub record Returns-3 (c : Tie.After-slice-known4) : Type 0 where
 abbrev pub returns-3 : (c : Tie.After-slice-known4) → Returns-3 c
 returns-3 c = record {
   start = c .before .before .before .before .before .before .before .before .before .before .before .before .before
-      .before .before .before;
-  packet = c .before .before .before .before .before .before .before .before .before .before .before .packet;
+      .before .before;
   match = c .before .before .before .before .before .before .before .before .before .before .match;
   handle-data = c .before .before .before .before .before .handle-data;
   circuits3 = c .before .before .before .before .circuits3;
@@ -131,8 +113,6 @@ returns-3 c = record {
 
 pub record Returns-4 (c : Tie.After-slice-known5) : Type 0 where
   pub start : Tie.Start
-  pub packet : Lts.After-packet·own Tie.readings Reads.Pre Reads.Post (c .before .before .before .before .before
-      .before .before .before .before .before)
   pub match : Lts.At-match-keys4·own Tie.readings Reads.Pre Reads.Post (c .before .before .before .before .before
       .before .before .before .before)
   pub handle-window : Lts.After-handle-window·own Tie.readings Reads.Pre Reads.Post
@@ -143,9 +123,7 @@ pub record Returns-4 (c : Tie.After-slice-known5) : Type 0 where
 
 abbrev pub returns-4 : (c : Tie.After-slice-known5) → Returns-4 c
 returns-4 c = record {
-  start = c .before .before .before .before .before .before .before .before .before .before .before .before .before
-      .before;
-  packet = c .before .before .before .before .before .before .before .before .before .packet;
+  start = c .before .before .before .before .before .before .before .before .before .before .before .before .before;
   match = c .before .before .before .before .before .before .before .before .match;
   handle-window = c .before .before .before .before .handle-window;
   circuits4 = c .before .before .before .circuits4;
@@ -155,8 +133,6 @@ returns-4 c = record {
 
 pub record Returns-5 (c : Tie.After-slice-known6) : Type 0 where
   pub start : Tie.Start
-  pub packet : Lts.After-packet·own Tie.readings Reads.Pre Reads.Post (c .before .before .before .before .before
-      .before .before .before .before .before .before .before .before .before)
   pub match : Lts.At-match-rest·own Tie.readings Reads.Pre Reads.Post (c .before .before .before .before .before
       .before .before .before .before .before .before .before .before)
   pub if1 : Lts.Else1·own Tie.readings Reads.Pre Reads.Post (c .before .before .before .before .before .before .before
@@ -173,9 +149,7 @@ pub record Returns-5 (c : Tie.After-slice-known6) : Type 0 where
 abbrev pub returns-5 : (c : Tie.After-slice-known6) → Returns-5 c
 returns-5 c = record {
   start = c .before .before .before .before .before .before .before .before .before .before .before .before .before
-      .before .before .before .before .before;
-  packet = c .before .before .before .before .before .before .before .before .before .before .before .before .before
-      .packet;
+      .before .before .before .before;
   match = c .before .before .before .before .before .before .before .before .before .before .before .before .match;
   if1 = c .before .before .before .before .before .before .before .before .before .before .before .if1;
   if2 = c .before .before .before .before .before .before .before .before .before .before .if2;
@@ -188,14 +162,12 @@ returns-5 c = record {
 
 pub record Returns-6 (c : Tie.After-unexpected) : Type 0 where
   pub start : Tie.Start
-  pub packet : Lts.After-packet·own Tie.readings Reads.Pre Reads.Post (c .before .before .before)
   pub match : Lts.At-match-came·own Tie.readings Reads.Pre Reads.Post (c .before .before)
   pub unexpected : Lts.After-unexpected·own Tie.readings Reads.Pre Reads.Post (c .before)
 
 abbrev pub returns-6 : (c : Tie.After-unexpected) → Returns-6 c
 returns-6 c = record {
-  start = c .before .before .before .before .before .before .before;
-  packet = c .before .before .packet;
+  start = c .before .before .before .before .before .before;
   match = c .before .match;
   unexpected = c .unexpected;
 }

@@ -58,9 +58,6 @@ After-shared-slice-known2 = Lts.After-shared-slice-known2 readings Reads.Pre Rea
 abbrev pub After-shared-slice-known3 : Type 0
 After-shared-slice-known3 = Lts.After-shared-slice-known3 readings Reads.Pre Reads.Post
 
-abbrev pub After-packet : Type 0
-After-packet = Lts.After-packet readings Reads.Pre Reads.Post
-
 abbrev pub At-match-keys1 : Type 0
 At-match-keys1 = Lts.At-match-keys1 readings Reads.Pre Reads.Post
 

@@ -6,16 +6,6 @@ use borrow.Author.Needs.{needs}
 
 pub record Returns (c : Tie.After-accept-rows) : Type 0 where
   pub start : Tie.Start
-  pub runtime : Lts.After-runtime·own Tie.readings Reads.Pre Reads.Post (c .before .before .before .before .before
-      .before .before .before .before .before .before .before)
-  pub places : Lts.After-places·own Tie.readings Reads.Pre Reads.Post (c .before .before .before .before .before
-      .before .before .before .before .before .before)
-  pub packet : Lts.After-packet·own Tie.readings Reads.Pre Reads.Post (c .before .before .before .before .before
-      .before .before .before .before .before)
-  pub peer : Lts.After-peer·own Tie.readings Reads.Pre Reads.Post (c .before .before .before .before .before .before
-      .before .before .before)
-  pub config : Lts.After-config·own Tie.readings Reads.Pre Reads.Post (c .before .before .before .before .before
-      .before .before .before)
   pub accept-work : Lts.After-accept-work·own Tie.readings Reads.Pre Reads.Post
       (c .before .before .before .before .before .before .before)
   pub pending-work : Lts.After-pending-work·own Tie.readings Reads.Pre Reads.Post
@@ -29,12 +19,7 @@ pub record Returns (c : Tie.After-accept-rows) : Type 0 where
 
 abbrev pub returns : (c : Tie.After-accept-rows) → Returns c
 returns c = record {
-  start = c .before .before .before .before .before .before .before .before .before .before .before .before;
-  runtime = c .before .before .before .before .before .before .before .before .before .before .before .runtime;
-  places = c .before .before .before .before .before .before .before .before .before .before .places;
-  packet = c .before .before .before .before .before .before .before .before .before .packet;
-  peer = c .before .before .before .before .before .before .before .before .peer;
-  config = c .before .before .before .before .before .before .before .config;
+  start = c .before .before .before .before .before .before .before;
   accept-work = c .before .before .before .before .before .before .accept-work;
   pending-work = c .before .before .before .before .before .pending-work;
   circuit-work = c .before .before .before .before .circuit-work;

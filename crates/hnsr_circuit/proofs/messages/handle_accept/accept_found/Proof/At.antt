@@ -6,11 +6,7 @@ use borrow.Author.Needs.{needs}
 
 pub record Accept-written-requires (c : Tie.After-accept-written-arg2) : Type 0 where
   pub start : Tie.Start
-  pub runtime : Lts.After-runtime·own Tie.readings Reads.Pre Reads.Post (c .before .before .before .before .before
-      .before .before .before .before .before .before .before .before .before .before .before .before .before)
   pub places : Lts.After-places·own Tie.readings Reads.Pre Reads.Post (c .before .before .before .before .before
-      .before .before .before .before .before .before .before .before .before .before .before .before)
-  pub config : Lts.After-config·own Tie.readings Reads.Pre Reads.Post (c .before .before .before .before .before
       .before .before .before .before .before .before .before .before .before .before .before)
   pub accept-answered : Lts.After-accept-answered·own Tie.readings Reads.Pre Reads.Post (c .before .before .before
       .before .before .before .before .before .before .before .before .before)
@@ -33,13 +29,9 @@ pub record Accept-written-requires (c : Tie.After-accept-written-arg2) : Type 0 
 abbrev pub accept-written-requires : (c : Tie.After-accept-written-arg2) → Accept-written-requires c
 accept-written-requires c = record {
   start = c .before .before .before .before .before .before .before .before .before .before .before .before .before
-      .before .before .before .before .before .before;
-  runtime = c .before .before .before .before .before .before .before .before .before .before .before .before .before
-      .before .before .before .before .runtime;
+      .before .before .before .before;
   places = c .before .before .before .before .before .before .before .before .before .before .before .before .before
-      .before .before .before .places;
-  config = c .before .before .before .before .before .before .before .before .before .before .before .before .before
-      .before .before .config;
+      .before .before .places;
   accept-answered = c .before .before .before .before .before .before .before .before .before .before .before
       .accept-answered;
   is-taken = c .before .before .before .before .before .before .before .before .before .before .is-taken;
@@ -55,13 +47,7 @@ accept-written-requires c = record {
 
 pub record Send-requires (c : Tie.After-bytes) : Type 0 where
   pub start : Tie.Start
-  pub runtime : Lts.After-runtime·own Tie.readings Reads.Pre Reads.Post (c .before .before .before .before .before
-      .before .before .before .before .before .before .before .before .before .before .before .before .before .before
-      .before .before .before .before .before .before .before .before .before .before)
   pub places : Lts.After-places·own Tie.readings Reads.Pre Reads.Post (c .before .before .before .before .before
-      .before .before .before .before .before .before .before .before .before .before .before .before .before .before
-      .before .before .before .before .before .before .before .before .before)
-  pub config : Lts.After-config·own Tie.readings Reads.Pre Reads.Post (c .before .before .before .before .before
       .before .before .before .before .before .before .before .before .before .before .before .before .before .before
       .before .before .before .before .before .before .before .before)
   pub accept-answered : Lts.After-accept-answered·own Tie.readings Reads.Pre Reads.Post (c .before .before .before
@@ -106,15 +92,9 @@ abbrev pub send-requires : (c : Tie.After-bytes) → Send-requires c
 send-requires c = record {
   start = c .before .before .before .before .before .before .before .before .before .before .before .before .before
       .before .before .before .before .before .before .before .before .before .before .before .before .before .before
-      .before .before .before;
-  runtime = c .before .before .before .before .before .before .before .before .before .before .before .before .before
-      .before .before .before .before .before .before .before .before .before .before .before .before .before .before
-      .before .runtime;
+      .before;
   places = c .before .before .before .before .before .before .before .before .before .before .before .before .before
-      .before .before .before .before .before .before .before .before .before .before .before .before .before .before
-      .places;
-  config = c .before .before .before .before .before .before .before .before .before .before .before .before .before
-      .before .before .before .before .before .before .before .before .before .before .before .before .before .config;
+      .before .before .before .before .before .before .before .before .before .before .before .before .before .places;
   accept-answered = c .before .before .before .before .before .before .before .before .before .before .before .before
       .before .before .before .before .before .before .before .before .before .before .accept-answered;
   is-taken = c .before .before .before .before .before .before .before .before .before .before .before .before .before
@@ -147,13 +127,7 @@ send-requires c = record {
 
 pub record Returns (c : Tie.After-slice-known2) : Type 0 where
   pub start : Tie.Start
-  pub runtime : Lts.After-runtime·own Tie.readings Reads.Pre Reads.Post (c .before .before .before .before .before
-      .before .before .before .before .before .before .before .before .before .before .before .before .before .before
-      .before .before .before .before .before .before .before .before .before .before .before .before .before .before)
   pub places : Lts.After-places·own Tie.readings Reads.Pre Reads.Post (c .before .before .before .before .before
-      .before .before .before .before .before .before .before .before .before .before .before .before .before .before
-      .before .before .before .before .before .before .before .before .before .before .before .before .before)
-  pub config : Lts.After-config·own Tie.readings Reads.Pre Reads.Post (c .before .before .before .before .before
       .before .before .before .before .before .before .before .before .before .before .before .before .before .before
       .before .before .before .before .before .before .before .before .before .before .before .before)
   pub accept-answered : Lts.After-accept-answered·own Tie.readings Reads.Pre Reads.Post (c .before .before .before
@@ -207,16 +181,10 @@ abbrev pub returns : (c : Tie.After-slice-known2) → Returns c
 returns c = record {
   start = c .before .before .before .before .before .before .before .before .before .before .before .before .before
       .before .before .before .before .before .before .before .before .before .before .before .before .before .before
-      .before .before .before .before .before .before .before;
-  runtime = c .before .before .before .before .before .before .before .before .before .before .before .before .before
-      .before .before .before .before .before .before .before .before .before .before .before .before .before .before
-      .before .before .before .before .before .runtime;
+      .before .before .before .before .before;
   places = c .before .before .before .before .before .before .before .before .before .before .before .before .before
       .before .before .before .before .before .before .before .before .before .before .before .before .before .before
-      .before .before .before .before .places;
-  config = c .before .before .before .before .before .before .before .before .before .before .before .before .before
-      .before .before .before .before .before .before .before .before .before .before .before .before .before .before
-      .before .before .before .config;
+      .before .before .before .places;
   accept-answered = c .before .before .before .before .before .before .before .before .before .before .before .before
       .before .before .before .before .before .before .before .before .before .before .before .before .before .before
       .accept-answered;
@@ -257,11 +225,7 @@ returns c = record {
 
 pub record Returns-2 (c : Tie.After-refused) : Type 0 where
   pub start : Tie.Start
-  pub runtime : Lts.After-runtime·own Tie.readings Reads.Pre Reads.Post (c .before .before .before .before .before
-      .before .before .before .before .before)
   pub places : Lts.After-places·own Tie.readings Reads.Pre Reads.Post (c .before .before .before .before .before
-      .before .before .before .before)
-  pub config : Lts.After-config·own Tie.readings Reads.Pre Reads.Post (c .before .before .before .before .before
       .before .before .before)
   pub accept-answered : Lts.After-accept-answered·own Tie.readings Reads.Pre Reads.Post
       (c .before .before .before .before)
@@ -271,10 +235,8 @@ pub record Returns-2 (c : Tie.After-refused) : Type 0 where
 
 abbrev pub returns-2 : (c : Tie.After-refused) → Returns-2 c
 returns-2 c = record {
-  start = c .before .before .before .before .before .before .before .before .before .before .before;
-  runtime = c .before .before .before .before .before .before .before .before .before .runtime;
-  places = c .before .before .before .before .before .before .before .before .places;
-  config = c .before .before .before .before .before .before .before .config;
+  start = c .before .before .before .before .before .before .before .before .before;
+  places = c .before .before .before .before .before .before .before .places;
   accept-answered = c .before .before .before .accept-answered;
   is-taken = c .before .before .is-taken;
   if1 = c .before .if1;

@@ -79,14 +79,8 @@ Start = Lts.Start readings Reads''.Pre Reads''.Post
 abbrev pub After-slice-known : Type 0
 After-slice-known = Lts.After-slice-known readings Reads''.Pre Reads''.Post
 
-abbrev pub After-runtime : Type 0
-After-runtime = Lts.After-runtime readings Reads''.Pre Reads''.Post
-
 abbrev pub After-places : Type 0
 After-places = Lts.After-places readings Reads''.Pre Reads''.Post
-
-abbrev pub After-config : Type 0
-After-config = Lts.After-config readings Reads''.Pre Reads''.Post
 
 abbrev pub After-accept-answered-arg : Type 0
 After-accept-answered-arg = Lts.After-accept-answered-arg readings Reads''.Pre Reads''.Post

@@ -6,15 +6,6 @@ use borrow.Author.Needs.{needs}
 
 pub record Returns (c : Tie.After-slice-known2) : Type 0 where
   pub start : Tie.Start
-  pub runtime : Lts.After-runtime·own Tie.readings Reads.Pre Reads.Post (c .before .before .before .before .before
-      .before .before .before .before .before .before .before .before .before .before .before .before .before .before
-      .before)
-  pub places : Lts.After-places·own Tie.readings Reads.Pre Reads.Post (c .before .before .before .before .before
-      .before .before .before .before .before .before .before .before .before .before .before .before .before .before)
-  pub packet : Lts.After-packet·own Tie.readings Reads.Pre Reads.Post (c .before .before .before .before .before
-      .before .before .before .before .before .before .before .before .before .before .before .before .before)
-  pub peer : Lts.After-peer·own Tie.readings Reads.Pre Reads.Post (c .before .before .before .before .before .before
-      .before .before .before .before .before .before .before .before .before .before .before)
   pub pending-by-id : Lts.After-pending-by-id·own Tie.readings Reads.Pre Reads.Post (c .before .before .before .before
       .before .before .before .before .before .before .before .before .before .before .before)
   pub decode : Lts.After-decode·own Tie.readings Reads.Pre Reads.Post (c .before .before .before .before .before
@@ -35,15 +26,7 @@ pub record Returns (c : Tie.After-slice-known2) : Type 0 where
 abbrev pub returns : (c : Tie.After-slice-known2) → Returns c
 returns c = record {
   start = c .before .before .before .before .before .before .before .before .before .before .before .before .before
-      .before .before .before .before .before .before .before .before .before;
-  runtime = c .before .before .before .before .before .before .before .before .before .before .before .before .before
-      .before .before .before .before .before .before .runtime;
-  places = c .before .before .before .before .before .before .before .before .before .before .before .before .before
-      .before .before .before .before .before .places;
-  packet = c .before .before .before .before .before .before .before .before .before .before .before .before .before
-      .before .before .before .before .packet;
-  peer = c .before .before .before .before .before .before .before .before .before .before .before .before .before
-      .before .before .before .peer;
+      .before .before .before .before .before;
   pending-by-id = c .before .before .before .before .before .before .before .before .before .before .before .before
       .before .before .pending-by-id;
   decode = c .before .before .before .before .before .before .before .before .before .before .before .before .before
@@ -61,14 +44,6 @@ returns c = record {
 
 pub record Returns-2 (c : Tie.After-refused) : Type 0 where
   pub start : Tie.Start
-  pub runtime : Lts.After-runtime·own Tie.readings Reads.Pre Reads.Post (c .before .before .before .before .before
-      .before .before .before .before .before .before)
-  pub places : Lts.After-places·own Tie.readings Reads.Pre Reads.Post (c .before .before .before .before .before
-      .before .before .before .before .before)
-  pub packet : Lts.After-packet·own Tie.readings Reads.Pre Reads.Post (c .before .before .before .before .before
-      .before .before .before .before)
-  pub peer : Lts.After-peer·own Tie.readings Reads.Pre Reads.Post (c .before .before .before .before .before .before
-      .before .before)
   pub pending-by-id : Lts.After-pending-by-id·own Tie.readings Reads.Pre Reads.Post
       (c .before .before .before .before .before .before)
   pub decode : Lts.After-decode·own Tie.readings Reads.Pre Reads.Post (c .before .before .before .before .before)
@@ -79,11 +54,7 @@ pub record Returns-2 (c : Tie.After-refused) : Type 0 where
 
 abbrev pub returns-2 : (c : Tie.After-refused) → Returns-2 c
 returns-2 c = record {
-  start = c .before .before .before .before .before .before .before .before .before .before .before .before .before;
-  runtime = c .before .before .before .before .before .before .before .before .before .before .runtime;
-  places = c .before .before .before .before .before .before .before .before .before .places;
-  packet = c .before .before .before .before .before .before .before .before .packet;
-  peer = c .before .before .before .before .before .before .before .peer;
+  start = c .before .before .before .before .before .before .before .before .before;
   pending-by-id = c .before .before .before .before .before .pending-by-id;
   decode = c .before .before .before .before .decode;
   accept-entry = c .before .before .before .accept-entry;

@@ -6,9 +6,6 @@ use borrow.Author.Needs.{needs}
 
 pub record Send-requires (c : Tie.After-send-arg2) : Type 0 where
   pub start : Tie.Start
-  pub runtime : Lts.After-runtime·own Tie.readings Reads.Pre Reads.Post (c .before .before .before .before .before
-      .before .before .before .before .before .before .before .before .before .before .before .before .before .before
-      .before)
   pub places : Lts.After-places·own Tie.readings Reads.Pre Reads.Post (c .before .before .before .before .before
       .before .before .before .before .before .before .before .before .before .before .before .before .before .before)
   pub plan-close : Lts.After-plan-close·own Tie.readings Reads.Pre Reads.Post (c .before .before .before .before
@@ -35,9 +32,7 @@ pub record Send-requires (c : Tie.After-send-arg2) : Type 0 where
 abbrev pub send-requires : (c : Tie.After-send-arg2) → Send-requires c
 send-requires c = record {
   start = c .before .before .before .before .before .before .before .before .before .before .before .before .before
-      .before .before .before .before .before .before .before .before .before;
-  runtime = c .before .before .before .before .before .before .before .before .before .before .before .before .before
-      .before .before .before .before .before .before .runtime;
+      .before .before .before .before .before .before .before .before;
   places = c .before .before .before .before .before .before .before .before .before .before .before .before .before
       .before .before .before .before .before .places;
   plan-close = c .before .before .before .before .before .before .before .before .before .before .before .before
@@ -58,9 +53,6 @@ send-requires c = record {
 
 pub record Returns (c : Tie.After-slice-known2) : Type 0 where
   pub start : Tie.Start
-  pub runtime : Lts.After-runtime·own Tie.readings Reads.Pre Reads.Post (c .before .before .before .before .before
-      .before .before .before .before .before .before .before .before .before .before .before .before .before .before
-      .before .before .before .before .before)
   pub places : Lts.After-places·own Tie.readings Reads.Pre Reads.Post (c .before .before .before .before .before
       .before .before .before .before .before .before .before .before .before .before .before .before .before .before
       .before .before .before .before)
@@ -94,9 +86,7 @@ pub record Returns (c : Tie.After-slice-known2) : Type 0 where
 abbrev pub returns : (c : Tie.After-slice-known2) → Returns c
 returns c = record {
   start = c .before .before .before .before .before .before .before .before .before .before .before .before .before
-      .before .before .before .before .before .before .before .before .before .before .before .before .before;
-  runtime = c .before .before .before .before .before .before .before .before .before .before .before .before .before
-      .before .before .before .before .before .before .before .before .before .before .runtime;
+      .before .before .before .before .before .before .before .before .before .before .before .before;
   places = c .before .before .before .before .before .before .before .before .before .before .before .before .before
       .before .before .before .before .before .before .before .before .before .places;
   plan-close = c .before .before .before .before .before .before .before .before .before .before .before .before
@@ -123,8 +113,6 @@ returns c = record {
 
 pub record Returns-2 (c : Tie.After-refused) : Type 0 where
   pub start : Tie.Start
-  pub runtime : Lts.After-runtime·own Tie.readings Reads.Pre Reads.Post (c .before .before .before .before .before
-      .before .before .before .before)
   pub places : Lts.After-places·own Tie.readings Reads.Pre Reads.Post (c .before .before .before .before .before
       .before .before .before)
   pub plan-close : Lts.After-plan-close·own Tie.readings Reads.Pre Reads.Post
@@ -136,8 +124,7 @@ pub record Returns-2 (c : Tie.After-refused) : Type 0 where
 
 abbrev pub returns-2 : (c : Tie.After-refused) → Returns-2 c
 returns-2 c = record {
-  start = c .before .before .before .before .before .before .before .before .before .before .before;
-  runtime = c .before .before .before .before .before .before .before .before .runtime;
+  start = c .before .before .before .before .before .before .before .before .before .before;
   places = c .before .before .before .before .before .before .before .places;
   plan-close = c .before .before .before .before .plan-close;
   counted = c .before .before .before .counted;

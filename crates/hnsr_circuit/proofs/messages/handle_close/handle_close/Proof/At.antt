@@ -6,10 +6,6 @@ use borrow.Author.Needs.{needs}
 
 pub record Close-read-requires (c : Tie.After-close-read-arg4) : Type 0 where
   pub start : Tie.Start
-  pub runtime : Lts.After-runtime·own Tie.readings Reads.Pre Reads.Post (c .before .before .before .before .before
-      .before .before .before .before .before)
-  pub places : Lts.After-places·own Tie.readings Reads.Pre Reads.Post (c .before .before .before .before .before
-      .before .before .before .before)
   pub decode : Lts.After-decode·own Tie.readings Reads.Pre Reads.Post (c .before .before .before .before .before
       .before .before .before)
   pub body-answer : Lts.After-body-answer·own Tie.readings Reads.Pre Reads.Post
@@ -20,9 +16,7 @@ pub record Close-read-requires (c : Tie.After-close-read-arg4) : Type 0 where
 
 abbrev pub close-read-requires : (c : Tie.After-close-read-arg4) → Close-read-requires c
 close-read-requires c = record {
-  start = c .before .before .before .before .before .before .before .before .before .before .before .before;
-  runtime = c .before .before .before .before .before .before .before .before .before .runtime;
-  places = c .before .before .before .before .before .before .before .before .places;
+  start = c .before .before .before .before .before .before .before .before .before .before;
   decode = c .before .before .before .before .before .before .before .decode;
   body-answer = c .before .before .before .before .before .before .body-answer;
   is-taken = c .before .before .before .before .before .is-taken;
@@ -31,10 +25,6 @@ close-read-requires c = record {
 
 pub record Returns-2 (c : Tie.After-refused) : Type 0 where
   pub start : Tie.Start
-  pub runtime : Lts.After-runtime·own Tie.readings Reads.Pre Reads.Post
-      (c .before .before .before .before .before .before .before)
-  pub places : Lts.After-places·own Tie.readings Reads.Pre Reads.Post
-      (c .before .before .before .before .before .before)
   pub decode : Lts.After-decode·own Tie.readings Reads.Pre Reads.Post (c .before .before .before .before .before)
   pub body-answer : Lts.After-body-answer·own Tie.readings Reads.Pre Reads.Post (c .before .before .before .before)
   pub is-taken : Lts.After-is-taken·own Tie.readings Reads.Pre Reads.Post (c .before .before .before)
@@ -43,9 +33,7 @@ pub record Returns-2 (c : Tie.After-refused) : Type 0 where
 
 abbrev pub returns-2 : (c : Tie.After-refused) → Returns-2 c
 returns-2 c = record {
-  start = c .before .before .before .before .before .before .before .before .before;
-  runtime = c .before .before .before .before .before .before .runtime;
-  places = c .before .before .before .before .before .places;
+  start = c .before .before .before .before .before .before .before;
   decode = c .before .before .before .before .decode;
   body-answer = c .before .before .before .body-answer;
   is-taken = c .before .before .is-taken;

@@ -47,12 +47,6 @@ After-slice-known = Lts.After-slice-known readings Reads''.Pre Reads''.Post
 abbrev pub After-shared-slice-known : Type 0
 After-shared-slice-known = Lts.After-shared-slice-known readings Reads''.Pre Reads''.Post
 
-abbrev pub After-runtime : Type 0
-After-runtime = Lts.After-runtime readings Reads''.Pre Reads''.Post
-
-abbrev pub After-places : Type 0
-After-places = Lts.After-places readings Reads''.Pre Reads''.Post
-
 abbrev pub After-decode : Type 0
 After-decode = Lts.After-decode readings Reads''.Pre Reads''.Post
 

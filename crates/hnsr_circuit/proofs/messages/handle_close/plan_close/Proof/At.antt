@@ -6,13 +6,6 @@ use borrow.Author.Needs.{needs}
 
 pub record Returns (c : Tie.After-close-plan) : Type 0 where
   pub start : Tie.Start
-  pub runtime : Lts.After-runtime·own Tie.readings Reads.Pre Reads.Post (c .before .before .before .before .before
-      .before .before .before .before)
-  pub places : Lts.After-places·own Tie.readings Reads.Pre Reads.Post (c .before .before .before .before .before
-      .before .before .before)
-  pub packet : Lts.After-packet·own Tie.readings Reads.Pre Reads.Post
-      (c .before .before .before .before .before .before .before)
-  pub peer : Lts.After-peer·own Tie.readings Reads.Pre Reads.Post (c .before .before .before .before .before .before)
   pub named : Lts.After-named·own Tie.readings Reads.Pre Reads.Post (c .before .before .before .before .before)
   pub count-pending : Lts.After-count-pending·own Tie.readings Reads.Pre Reads.Post (c .before .before .before .before)
   pub look-up-pending : Lts.After-look-up-pending·own Tie.readings Reads.Pre Reads.Post (c .before .before .before)
@@ -21,11 +14,7 @@ pub record Returns (c : Tie.After-close-plan) : Type 0 where
 
 abbrev pub returns : (c : Tie.After-close-plan) → Returns c
 returns c = record {
-  start = c .before .before .before .before .before .before .before .before .before;
-  runtime = c .before .before .before .before .before .before .before .before .runtime;
-  places = c .before .before .before .before .before .before .before .places;
-  packet = c .before .before .before .before .before .before .packet;
-  peer = c .before .before .before .before .before .peer;
+  start = c .before .before .before .before .before;
   named = c .before .before .before .before .named;
   count-pending = c .before .before .before .count-pending;
   look-up-pending = c .before .before .look-up-pending;

@@ -6,14 +6,6 @@ use borrow.Author.Needs.{needs}
 
 pub record Pass-data-requires (c : Tie.After-pass-data-arg4) : Type 0 where
   pub start : Tie.Start
-  pub runtime : Lts.After-runtime·own Tie.readings Reads.Pre Reads.Post (c .before .before .before .before .before
-      .before .before .before .before .before .before .before .before)
-  pub places : Lts.After-places·own Tie.readings Reads.Pre Reads.Post (c .before .before .before .before .before
-      .before .before .before .before .before .before .before)
-  pub packet : Lts.After-packet·own Tie.readings Reads.Pre Reads.Post (c .before .before .before .before .before
-      .before .before .before .before .before .before)
-  pub peer : Lts.After-peer·own Tie.readings Reads.Pre Reads.Post (c .before .before .before .before .before .before
-      .before .before .before .before)
   pub circuit-by-id : Lts.After-circuit-by-id·own Tie.readings Reads.Pre Reads.Post (c .before .before .before .before
       .before .before .before .before)
   pub data-entry : Lts.After-data-entry·own Tie.readings Reads.Pre Reads.Post
@@ -24,12 +16,7 @@ pub record Pass-data-requires (c : Tie.After-pass-data-arg4) : Type 0 where
 
 abbrev pub pass-data-requires : (c : Tie.After-pass-data-arg4) → Pass-data-requires c
 pass-data-requires c = record {
-  start = c .before .before .before .before .before .before .before .before .before .before .before .before .before
-      .before .before;
-  runtime = c .before .before .before .before .before .before .before .before .before .before .before .before .runtime;
-  places = c .before .before .before .before .before .before .before .before .before .before .before .places;
-  packet = c .before .before .before .before .before .before .before .before .before .before .packet;
-  peer = c .before .before .before .before .before .before .before .before .before .peer;
+  start = c .before .before .before .before .before .before .before .before .before .before .before;
   circuit-by-id = c .before .before .before .before .before .before .before .circuit-by-id;
   data-entry = c .before .before .before .before .before .before .data-entry;
   is-taken = c .before .before .before .before .before .is-taken;
@@ -38,14 +25,6 @@ pass-data-requires c = record {
 
 pub record Returns-2 (c : Tie.After-refused) : Type 0 where
   pub start : Tie.Start
-  pub runtime : Lts.After-runtime·own Tie.readings Reads.Pre Reads.Post (c .before .before .before .before .before
-      .before .before .before .before .before)
-  pub places : Lts.After-places·own Tie.readings Reads.Pre Reads.Post (c .before .before .before .before .before
-      .before .before .before .before)
-  pub packet : Lts.After-packet·own Tie.readings Reads.Pre Reads.Post (c .before .before .before .before .before
-      .before .before .before)
-  pub peer : Lts.After-peer·own Tie.readings Reads.Pre Reads.Post
-      (c .before .before .before .before .before .before .before)
   pub circuit-by-id : Lts.After-circuit-by-id·own Tie.readings Reads.Pre Reads.Post
       (c .before .before .before .before .before)
   pub data-entry : Lts.After-data-entry·own Tie.readings Reads.Pre Reads.Post (c .before .before .before .before)
@@ -55,11 +34,7 @@ pub record Returns-2 (c : Tie.After-refused) : Type 0 where
 
 abbrev pub returns-2 : (c : Tie.After-refused) → Returns-2 c
 returns-2 c = record {
-  start = c .before .before .before .before .before .before .before .before .before .before .before .before;
-  runtime = c .before .before .before .before .before .before .before .before .before .runtime;
-  places = c .before .before .before .before .before .before .before .before .places;
-  packet = c .before .before .before .before .before .before .before .packet;
-  peer = c .before .before .before .before .before .before .peer;
+  start = c .before .before .before .before .before .before .before .before;
   circuit-by-id = c .before .before .before .before .circuit-by-id;
   data-entry = c .before .before .before .data-entry;
   is-taken = c .before .before .is-taken;

@@ -47,18 +47,6 @@ After-slice-known = Lts.After-slice-known readings Reads.Pre Reads.Post
 abbrev pub After-shared-slice-known : Type 0
 After-shared-slice-known = Lts.After-shared-slice-known readings Reads.Pre Reads.Post
 
-abbrev pub After-runtime : Type 0
-After-runtime = Lts.After-runtime readings Reads.Pre Reads.Post
-
-abbrev pub After-places : Type 0
-After-places = Lts.After-places readings Reads.Pre Reads.Post
-
-abbrev pub After-packet : Type 0
-After-packet = Lts.After-packet readings Reads.Pre Reads.Post
-
-abbrev pub After-peer : Type 0
-After-peer = Lts.After-peer readings Reads.Pre Reads.Post
-
 abbrev pub After-circuit-by-id-arg : Type 0
 After-circuit-by-id-arg = Lts.After-circuit-by-id-arg readings Reads.Pre Reads.Post
 

@@ -6,8 +6,6 @@ use borrow.Author.Needs.{needs}
 
 pub record Send-requires (c : Tie.After-send-arg2) : Type 0 where
   pub start : Tie.Start
-  pub places : Lts.After-places·own Tie.readings Reads.Pre Reads.Post (c .before .before .before .before .before
-      .before .before .before .before .before .before .before .before .before .before)
   pub plan-data : Lts.After-plan-data·own Tie.readings Reads.Pre Reads.Post (c .before .before .before .before .before
       .before .before .before .before .before .before .before)
   pub counted : Lts.After-counted·own Tie.readings Reads.Pre Reads.Post (c .before .before .before .before .before
@@ -26,9 +24,7 @@ pub record Send-requires (c : Tie.After-send-arg2) : Type 0 where
 abbrev pub send-requires : (c : Tie.After-send-arg2) → Send-requires c
 send-requires c = record {
   start = c .before .before .before .before .before .before .before .before .before .before .before .before .before
-      .before .before .before .before;
-  places = c .before .before .before .before .before .before .before .before .before .before .before .before .before
-      .before .places;
+      .before .before .before;
   plan-data = c .before .before .before .before .before .before .before .before .before .before .before .plan-data;
   counted = c .before .before .before .before .before .before .before .before .before .before .counted;
   message = c .before .before .before .before .before .before .before .before .before .message;
@@ -41,8 +37,6 @@ send-requires c = record {
 
 pub record Returns (c : Tie.After-slice-known2) : Type 0 where
   pub start : Tie.Start
-  pub places : Lts.After-places·own Tie.readings Reads.Pre Reads.Post (c .before .before .before .before .before
-      .before .before .before .before .before .before .before .before .before .before .before .before .before .before)
   pub plan-data : Lts.After-plan-data·own Tie.readings Reads.Pre Reads.Post (c .before .before .before .before .before
       .before .before .before .before .before .before .before .before .before .before .before)
   pub counted : Lts.After-counted·own Tie.readings Reads.Pre Reads.Post (c .before .before .before .before .before
@@ -66,9 +60,7 @@ pub record Returns (c : Tie.After-slice-known2) : Type 0 where
 abbrev pub returns : (c : Tie.After-slice-known2) → Returns c
 returns c = record {
   start = c .before .before .before .before .before .before .before .before .before .before .before .before .before
-      .before .before .before .before .before .before .before .before;
-  places = c .before .before .before .before .before .before .before .before .before .before .before .before .before
-      .before .before .before .before .before .places;
+      .before .before .before .before .before .before .before;
   plan-data = c .before .before .before .before .before .before .before .before .before .before .before .before .before
       .before .before .plan-data;
   counted = c .before .before .before .before .before .before .before .before .before .before .before .before .before

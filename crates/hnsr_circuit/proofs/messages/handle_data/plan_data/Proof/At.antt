@@ -6,14 +6,6 @@ use borrow.Author.Needs.{needs}
 
 pub record Returns (c : Tie.After-data-plan) : Type 0 where
   pub start : Tie.Start
-  pub runtime : Lts.After-runtime·own Tie.readings Reads.Pre Reads.Post (c .before .before .before .before .before
-      .before .before .before .before .before .before)
-  pub places : Lts.After-places·own Tie.readings Reads.Pre Reads.Post (c .before .before .before .before .before
-      .before .before .before .before .before)
-  pub packet : Lts.After-packet·own Tie.readings Reads.Pre Reads.Post (c .before .before .before .before .before
-      .before .before .before .before)
-  pub peer : Lts.After-peer·own Tie.readings Reads.Pre Reads.Post (c .before .before .before .before .before .before
-      .before .before)
   pub data-on : Lts.After-data-on·own Tie.readings Reads.Pre Reads.Post
       (c .before .before .before .before .before .before .before)
   pub asking : Lts.After-asking·own Tie.readings Reads.Pre Reads.Post
@@ -28,11 +20,7 @@ pub record Returns (c : Tie.After-data-plan) : Type 0 where
 
 abbrev pub returns : (c : Tie.After-data-plan) → Returns c
 returns c = record {
-  start = c .before .before .before .before .before .before .before .before .before .before .before;
-  runtime = c .before .before .before .before .before .before .before .before .before .before .runtime;
-  places = c .before .before .before .before .before .before .before .before .before .places;
-  packet = c .before .before .before .before .before .before .before .before .packet;
-  peer = c .before .before .before .before .before .before .before .peer;
+  start = c .before .before .before .before .before .before .before;
   data-on = c .before .before .before .before .before .before .data-on;
   asking = c .before .before .before .before .before .asking;
   scan-actions = c .before .before .before .before .scan-actions;

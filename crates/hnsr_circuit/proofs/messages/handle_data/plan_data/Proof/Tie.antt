@@ -51,18 +51,6 @@ readings = (
 abbrev pub Start : Type 0
 Start = Lts.Start readings Reads.Pre Reads.Post
 
-abbrev pub After-runtime : Type 0
-After-runtime = Lts.After-runtime readings Reads.Pre Reads.Post
-
-abbrev pub After-places : Type 0
-After-places = Lts.After-places readings Reads.Pre Reads.Post
-
-abbrev pub After-packet : Type 0
-After-packet = Lts.After-packet readings Reads.Pre Reads.Post
-
-abbrev pub After-peer : Type 0
-After-peer = Lts.After-peer readings Reads.Pre Reads.Post
-
 abbrev pub After-data-on : Type 0
 After-data-on = Lts.After-data-on readings Reads.Pre Reads.Post
 

@@ -6,12 +6,6 @@ use borrow.Author.Needs.{needs}
 
 pub record Returns (c : Tie.After-open-gathering) : Type 0 where
   pub start : Tie.Start
-  pub places : Lts.After-places·own Tie.readings Reads.Pre Reads.Post (c .before .before .before .before .before
-      .before .before .before .before .before)
-  pub packet : Lts.After-packet·own Tie.readings Reads.Pre Reads.Post (c .before .before .before .before .before
-      .before .before .before .before)
-  pub requester : Lts.After-requester·own Tie.readings Reads.Pre Reads.Post (c .before .before .before .before .before
-      .before .before .before)
   pub peer-of : Lts.After-peer-of·own Tie.readings Reads.Pre Reads.Post
       (c .before .before .before .before .before .before .before)
   pub decode : Lts.After-decode·own Tie.readings Reads.Pre Reads.Post
@@ -25,10 +19,7 @@ pub record Returns (c : Tie.After-open-gathering) : Type 0 where
 
 abbrev pub returns : (c : Tie.After-open-gathering) → Returns c
 returns c = record {
-  start = c .before .before .before .before .before .before .before .before .before .before .before .before .before;
-  places = c .before .before .before .before .before .before .before .before .before .places;
-  packet = c .before .before .before .before .before .before .before .before .packet;
-  requester = c .before .before .before .before .before .before .before .requester;
+  start = c .before .before .before .before .before .before .before .before .before .before;
   peer-of = c .before .before .before .before .before .before .peer-of;
   decode = c .before .before .before .before .before .decode;
   first-draw = c .before .before .before .before .first-draw;

@@ -60,15 +60,6 @@ After-shared-slice-known2 = Lts.After-shared-slice-known2 readings Reads'.Pre Re
 abbrev pub After-shared-slice-known3 : Type 0
 After-shared-slice-known3 = Lts.After-shared-slice-known3 readings Reads'.Pre Reads'.Post
 
-abbrev pub After-places : Type 0
-After-places = Lts.After-places readings Reads'.Pre Reads'.Post
-
-abbrev pub After-packet : Type 0
-After-packet = Lts.After-packet readings Reads'.Pre Reads'.Post
-
-abbrev pub After-requester : Type 0
-After-requester = Lts.After-requester readings Reads'.Pre Reads'.Post
-
 abbrev pub After-peer-of : Type 0
 After-peer-of = Lts.After-peer-of readings Reads'.Pre Reads'.Post
 

@@ -7,12 +7,8 @@ use borrow.Author.Needs.{needs}
 pub record Open-lapsed-requires (c : Tie.After-open-lapsed-arg5) : Type 0 where
   pub start : Tie.Start
   pub runtime : Lts.After-runtime·own Tie.readings Reads.Pre Reads.Post (c .before .before .before .before .before
-      .before .before .before .before .before .before .before .before .before .before .before .before .before)
-  pub places : Lts.After-places·own Tie.readings Reads.Pre Reads.Post (c .before .before .before .before .before
-      .before .before .before .before .before .before .before .before .before .before .before .before)
-  pub packet : Lts.After-packet·own Tie.readings Reads.Pre Reads.Post (c .before .before .before .before .before
       .before .before .before .before .before .before .before .before .before .before .before)
-  pub config : Lts.After-config·own Tie.readings Reads.Pre Reads.Post (c .before .before .before .before .before
+  pub places : Lts.After-places·own Tie.readings Reads.Pre Reads.Post (c .before .before .before .before .before
       .before .before .before .before .before .before .before .before .before .before)
   pub gather : Lts.After-gather·own Tie.readings Reads.Pre Reads.Post (c .before .before .before .before .before
       .before .before .before .before .before .before .before)
@@ -30,15 +26,11 @@ pub record Open-lapsed-requires (c : Tie.After-open-lapsed-arg5) : Type 0 where
 abbrev pub open-lapsed-requires : (c : Tie.After-open-lapsed-arg5) → Open-lapsed-requires c
 open-lapsed-requires c = record {
   start = c .before .before .before .before .before .before .before .before .before .before .before .before .before
-      .before .before .before .before .before .before .before .before .before;
+      .before .before .before .before .before .before .before;
   runtime = c .before .before .before .before .before .before .before .before .before .before .before .before .before
-      .before .before .before .before .runtime;
+      .before .before .runtime;
   places = c .before .before .before .before .before .before .before .before .before .before .before .before .before
-      .before .before .before .places;
-  packet = c .before .before .before .before .before .before .before .before .before .before .before .before .before
-      .before .before .packet;
-  config = c .before .before .before .before .before .before .before .before .before .before .before .before .before
-      .before .config;
+      .before .places;
   gather = c .before .before .before .before .before .before .before .before .before .before .before .gather;
   open-rows = c .before .before .before .before .before .before .before .before .before .before .open-rows;
   is-taken = c .before .before .before .before .before .before .before .before .before .is-taken;
@@ -51,14 +43,8 @@ pub record Returns (c : Tie.After-slice-known2) : Type 0 where
   pub start : Tie.Start
   pub runtime : Lts.After-runtime·own Tie.readings Reads.Pre Reads.Post (c .before .before .before .before .before
       .before .before .before .before .before .before .before .before .before .before .before .before .before .before
-      .before .before .before .before .before)
-  pub places : Lts.After-places·own Tie.readings Reads.Pre Reads.Post (c .before .before .before .before .before
-      .before .before .before .before .before .before .before .before .before .before .before .before .before .before
-      .before .before .before .before)
-  pub packet : Lts.After-packet·own Tie.readings Reads.Pre Reads.Post (c .before .before .before .before .before
-      .before .before .before .before .before .before .before .before .before .before .before .before .before .before
       .before .before .before)
-  pub config : Lts.After-config·own Tie.readings Reads.Pre Reads.Post (c .before .before .before .before .before
+  pub places : Lts.After-places·own Tie.readings Reads.Pre Reads.Post (c .before .before .before .before .before
       .before .before .before .before .before .before .before .before .before .before .before .before .before .before
       .before .before)
   pub gather : Lts.After-gather·own Tie.readings Reads.Pre Reads.Post (c .before .before .before .before .before
@@ -83,16 +69,11 @@ pub record Returns (c : Tie.After-slice-known2) : Type 0 where
 abbrev pub returns : (c : Tie.After-slice-known2) → Returns c
 returns c = record {
   start = c .before .before .before .before .before .before .before .before .before .before .before .before .before
-      .before .before .before .before .before .before .before .before .before .before .before .before .before .before
-      .before;
+      .before .before .before .before .before .before .before .before .before .before .before .before .before;
   runtime = c .before .before .before .before .before .before .before .before .before .before .before .before .before
-      .before .before .before .before .before .before .before .before .before .before .runtime;
+      .before .before .before .before .before .before .before .before .runtime;
   places = c .before .before .before .before .before .before .before .before .before .before .before .before .before
-      .before .before .before .before .before .before .before .before .before .places;
-  packet = c .before .before .before .before .before .before .before .before .before .before .before .before .before
-      .before .before .before .before .before .before .before .before .packet;
-  config = c .before .before .before .before .before .before .before .before .before .before .before .before .before
-      .before .before .before .before .before .before .before .config;
+      .before .before .before .before .before .before .before .places;
   gather = c .before .before .before .before .before .before .before .before .before .before .before .before .before
       .before .before .before .before .gather;
   open-rows = c .before .before .before .before .before .before .before .before .before .before .before .before .before
@@ -114,12 +95,8 @@ returns c = record {
 pub record Returns-2 (c : Tie.After-refused) : Type 0 where
   pub start : Tie.Start
   pub runtime : Lts.After-runtime·own Tie.readings Reads.Pre Reads.Post (c .before .before .before .before .before
-      .before .before .before .before .before .before)
-  pub places : Lts.After-places·own Tie.readings Reads.Pre Reads.Post (c .before .before .before .before .before
-      .before .before .before .before .before)
-  pub packet : Lts.After-packet·own Tie.readings Reads.Pre Reads.Post (c .before .before .before .before .before
       .before .before .before .before)
-  pub config : Lts.After-config·own Tie.readings Reads.Pre Reads.Post (c .before .before .before .before .before
+  pub places : Lts.After-places·own Tie.readings Reads.Pre Reads.Post (c .before .before .before .before .before
       .before .before .before)
   pub gather : Lts.After-gather·own Tie.readings Reads.Pre Reads.Post (c .before .before .before .before .before)
   pub open-rows : Lts.After-open-rows·own Tie.readings Reads.Pre Reads.Post (c .before .before .before .before)
@@ -129,12 +106,9 @@ pub record Returns-2 (c : Tie.After-refused) : Type 0 where
 
 abbrev pub returns-2 : (c : Tie.After-refused) → Returns-2 c
 returns-2 c = record {
-  start = c .before .before .before .before .before .before .before .before .before .before .before .before .before
-      .before .before;
-  runtime = c .before .before .before .before .before .before .before .before .before .before .runtime;
-  places = c .before .before .before .before .before .before .before .before .before .places;
-  packet = c .before .before .before .before .before .before .before .before .packet;
-  config = c .before .before .before .before .before .before .before .config;
+  start = c .before .before .before .before .before .before .before .before .before .before .before .before .before;
+  runtime = c .before .before .before .before .before .before .before .before .runtime;
+  places = c .before .before .before .before .before .before .before .places;
   gather = c .before .before .before .before .gather;
   open-rows = c .before .before .before .open-rows;
   is-taken = c .before .before .is-taken;

@@ -64,12 +64,6 @@ After-runtime = Lts.After-runtime readings Reads'.Pre Reads'.Post
 abbrev pub After-places : Type 0
 After-places = Lts.After-places readings Reads'.Pre Reads'.Post
 
-abbrev pub After-packet : Type 0
-After-packet = Lts.After-packet readings Reads'.Pre Reads'.Post
-
-abbrev pub After-config : Type 0
-After-config = Lts.After-config readings Reads'.Pre Reads'.Post
-
 abbrev pub After-gather-arg : Type 0
 After-gather-arg = Lts.After-gather-arg readings Reads'.Pre Reads'.Post
 

@@ -6,14 +6,6 @@ use borrow.Author.Needs.{needs}
 
 pub record Pass-window-requires (c : Tie.After-pass-window-arg3) : Type 0 where
   pub start : Tie.Start
-  pub runtime : Lts.After-runtime·own Tie.readings Reads.Pre Reads.Post (c .before .before .before .before .before
-      .before .before .before .before .before .before .before .before)
-  pub places : Lts.After-places·own Tie.readings Reads.Pre Reads.Post (c .before .before .before .before .before
-      .before .before .before .before .before .before .before)
-  pub packet : Lts.After-packet·own Tie.readings Reads.Pre Reads.Post (c .before .before .before .before .before
-      .before .before .before .before .before .before)
-  pub peer : Lts.After-peer·own Tie.readings Reads.Pre Reads.Post (c .before .before .before .before .before .before
-      .before .before .before .before)
   pub decode : Lts.After-decode·own Tie.readings Reads.Pre Reads.Post (c .before .before .before .before .before
       .before .before .before .before)
   pub circuit-by-id : Lts.After-circuit-by-id·own Tie.readings Reads.Pre Reads.Post
@@ -25,12 +17,7 @@ pub record Pass-window-requires (c : Tie.After-pass-window-arg3) : Type 0 where
 
 abbrev pub pass-window-requires : (c : Tie.After-pass-window-arg3) → Pass-window-requires c
 pass-window-requires c = record {
-  start = c .before .before .before .before .before .before .before .before .before .before .before .before .before
-      .before .before;
-  runtime = c .before .before .before .before .before .before .before .before .before .before .before .before .runtime;
-  places = c .before .before .before .before .before .before .before .before .before .before .before .places;
-  packet = c .before .before .before .before .before .before .before .before .before .before .packet;
-  peer = c .before .before .before .before .before .before .before .before .before .peer;
+  start = c .before .before .before .before .before .before .before .before .before .before .before;
   decode = c .before .before .before .before .before .before .before .before .decode;
   circuit-by-id = c .before .before .before .before .before .before .circuit-by-id;
   window-entry = c .before .before .before .before .before .window-entry;
@@ -40,14 +27,6 @@ pass-window-requires c = record {
 
 pub record Returns-2 (c : Tie.After-refused) : Type 0 where
   pub start : Tie.Start
-  pub runtime : Lts.After-runtime·own Tie.readings Reads.Pre Reads.Post (c .before .before .before .before .before
-      .before .before .before .before .before .before)
-  pub places : Lts.After-places·own Tie.readings Reads.Pre Reads.Post (c .before .before .before .before .before
-      .before .before .before .before .before)
-  pub packet : Lts.After-packet·own Tie.readings Reads.Pre Reads.Post (c .before .before .before .before .before
-      .before .before .before .before)
-  pub peer : Lts.After-peer·own Tie.readings Reads.Pre Reads.Post (c .before .before .before .before .before .before
-      .before .before)
   pub decode : Lts.After-decode·own Tie.readings Reads.Pre Reads.Post
       (c .before .before .before .before .before .before .before)
   pub circuit-by-id : Lts.After-circuit-by-id·own Tie.readings Reads.Pre Reads.Post
@@ -59,11 +38,7 @@ pub record Returns-2 (c : Tie.After-refused) : Type 0 where
 
 abbrev pub returns-2 : (c : Tie.After-refused) → Returns-2 c
 returns-2 c = record {
-  start = c .before .before .before .before .before .before .before .before .before .before .before .before .before;
-  runtime = c .before .before .before .before .before .before .before .before .before .before .runtime;
-  places = c .before .before .before .before .before .before .before .before .before .places;
-  packet = c .before .before .before .before .before .before .before .before .packet;
-  peer = c .before .before .before .before .before .before .before .peer;
+  start = c .before .before .before .before .before .before .before .before .before;
   decode = c .before .before .before .before .before .before .decode;
   circuit-by-id = c .before .before .before .before .circuit-by-id;
   window-entry = c .before .before .before .window-entry;

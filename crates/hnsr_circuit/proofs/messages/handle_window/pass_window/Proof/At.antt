@@ -6,19 +6,14 @@ use borrow.Author.Needs.{needs}
 
 pub record Raise-circuit-requires (c : Tie.After-raise-circuit-arg) : Type 0 where
   pub start : Tie.Start
-  pub plan-window : Lts.After-plan-window·own Tie.readings Reads.Pre Reads.Post
-      (c .before .before .before .before .before .before)
-  pub runtime : Lts.After-runtime·own Tie.readings Reads.Pre Reads.Post (c .before .before .before .before .before)
-  pub places : Lts.After-places·own Tie.readings Reads.Pre Reads.Post (c .before .before .before .before)
+  pub plan-window : Lts.After-plan-window·own Tie.readings Reads.Pre Reads.Post (c .before .before .before .before)
   pub message : Lts.After-message·own Tie.readings Reads.Pre Reads.Post (c .before .before .before)
   pub scan : Lts.After-scan·own Tie.readings Reads.Pre Reads.Post (c .before .before)
 
 abbrev pub raise-circuit-requires : (c : Tie.After-raise-circuit-arg) → Raise-circuit-requires c
 raise-circuit-requires c = record {
-  start = c .before .before .before .before .before .before .before .before .before;
-  plan-window = c .before .before .before .before .before .plan-window;
-  runtime = c .before .before .before .before .runtime;
-  places = c .before .before .before .places;
+  start = c .before .before .before .before .before .before .before;
+  plan-window = c .before .before .before .plan-window;
   message = c .before .before .message;
   scan = c .before .scan;
 }
@@ -26,11 +21,7 @@ raise-circuit-requires c = record {
 pub record Send-requires (c : Tie.After-send-arg2) : Type 0 where
   pub start : Tie.Start
   pub plan-window : Lts.After-plan-window·own Tie.readings Reads.Pre Reads.Post (c .before .before .before .before
-      .before .before .before .before .before .before)
-  pub runtime : Lts.After-runtime·own Tie.readings Reads.Pre Reads.Post (c .before .before .before .before .before
       .before .before .before .before)
-  pub places : Lts.After-places·own Tie.readings Reads.Pre Reads.Post (c .before .before .before .before .before
-      .before .before .before)
   pub message : Lts.After-message·own Tie.readings Reads.Pre Reads.Post
       (c .before .before .before .before .before .before .before)
   pub scan : Lts.After-scan·own Tie.readings Reads.Pre Reads.Post (c .before .before .before .before .before .before)
@@ -39,10 +30,8 @@ pub record Send-requires (c : Tie.After-send-arg2) : Type 0 where
 
 abbrev pub send-requires : (c : Tie.After-send-arg2) → Send-requires c
 send-requires c = record {
-  start = c .before .before .before .before .before .before .before .before .before .before .before .before .before;
-  plan-window = c .before .before .before .before .before .before .before .before .before .plan-window;
-  runtime = c .before .before .before .before .before .before .before .before .runtime;
-  places = c .before .before .before .before .before .before .before .places;
+  start = c .before .before .before .before .before .before .before .before .before .before .before;
+  plan-window = c .before .before .before .before .before .before .before .plan-window;
   message = c .before .before .before .before .before .before .message;
   scan = c .before .before .before .before .before .scan;
   raise-circuit = c .before .before .before .raise-circuit;
@@ -52,11 +41,7 @@ send-requires c = record {
 pub record Returns (c : Tie.After-slice-known2) : Type 0 where
   pub start : Tie.Start
   pub plan-window : Lts.After-plan-window·own Tie.readings Reads.Pre Reads.Post (c .before .before .before .before
-      .before .before .before .before .before .before .before .before .before .before)
-  pub runtime : Lts.After-runtime·own Tie.readings Reads.Pre Reads.Post (c .before .before .before .before .before
       .before .before .before .before .before .before .before .before)
-  pub places : Lts.After-places·own Tie.readings Reads.Pre Reads.Post (c .before .before .before .before .before
-      .before .before .before .before .before .before .before)
   pub message : Lts.After-message·own Tie.readings Reads.Pre Reads.Post (c .before .before .before .before .before
       .before .before .before .before .before .before)
   pub scan : Lts.After-scan·own Tie.readings Reads.Pre Reads.Post (c .before .before .before .before .before .before
@@ -72,11 +57,8 @@ pub record Returns (c : Tie.After-slice-known2) : Type 0 where
 abbrev pub returns : (c : Tie.After-slice-known2) → Returns c
 returns c = record {
   start = c .before .before .before .before .before .before .before .before .before .before .before .before .before
-      .before .before .before .before;
-  plan-window = c .before .before .before .before .before .before .before .before .before .before .before .before
-      .before .plan-window;
-  runtime = c .before .before .before .before .before .before .before .before .before .before .before .before .runtime;
-  places = c .before .before .before .before .before .before .before .before .before .before .before .places;
+      .before .before;
+  plan-window = c .before .before .before .before .before .before .before .before .before .before .before .plan-window;
   message = c .before .before .before .before .before .before .before .before .before .before .message;
   scan = c .before .before .before .before .before .before .before .before .before .scan;
   raise-circuit = c .before .before .before .before .before .before .before .raise-circuit;

@@ -36,12 +36,6 @@ After-plan-window-arg = Lts.After-plan-window-arg readings Reads.Pre Reads.Post
 abbrev pub After-plan-window : Type 0
 After-plan-window = Lts.After-plan-window readings Reads.Pre Reads.Post
 
-abbrev pub After-runtime : Type 0
-After-runtime = Lts.After-runtime readings Reads.Pre Reads.Post
-
-abbrev pub After-places : Type 0
-After-places = Lts.After-places readings Reads.Pre Reads.Post
-
 abbrev pub After-message : Type 0
 After-message = Lts.After-message readings Reads.Pre Reads.Post
 

@@ -6,14 +6,6 @@ use borrow.Author.Needs.{needs}
 
 pub record Returns (c : Tie.After-window-plan) : Type 0 where
   pub start : Tie.Start
-  pub runtime : Lts.After-runtime·own Tie.readings Reads.Pre Reads.Post (c .before .before .before .before .before
-      .before .before .before .before)
-  pub places : Lts.After-places·own Tie.readings Reads.Pre Reads.Post (c .before .before .before .before .before
-      .before .before .before)
-  pub packet : Lts.After-packet·own Tie.readings Reads.Pre Reads.Post
-      (c .before .before .before .before .before .before .before)
-  pub peer : Lts.After-peer·own Tie.readings Reads.Pre Reads.Post (c .before .before .before .before .before .before)
-  pub config : Lts.After-config·own Tie.readings Reads.Pre Reads.Post (c .before .before .before .before .before)
   pub passed-on : Lts.After-passed-on·own Tie.readings Reads.Pre Reads.Post (c .before .before .before .before)
   pub asking : Lts.After-asking·own Tie.readings Reads.Pre Reads.Post (c .before .before .before)
   pub scan-actions : Lts.After-scan-actions·own Tie.readings Reads.Pre Reads.Post (c .before .before)
@@ -21,12 +13,7 @@ pub record Returns (c : Tie.After-window-plan) : Type 0 where
 
 abbrev pub returns : (c : Tie.After-window-plan) → Returns c
 returns c = record {
-  start = c .before .before .before .before .before .before .before .before .before;
-  runtime = c .before .before .before .before .before .before .before .before .runtime;
-  places = c .before .before .before .before .before .before .before .places;
-  packet = c .before .before .before .before .before .before .packet;
-  peer = c .before .before .before .before .before .peer;
-  config = c .before .before .before .before .config;
+  start = c .before .before .before .before;
   passed-on = c .before .before .before .passed-on;
   asking = c .before .before .asking;
   scan-actions = c .before .scan-actions;

@@ -36,21 +36,6 @@ readings = (
 abbrev pub Start : Type 0
 Start = Lts.Start readings Reads.Pre Reads.Post
 
-abbrev pub After-runtime : Type 0
-After-runtime = Lts.After-runtime readings Reads.Pre Reads.Post
-
-abbrev pub After-places : Type 0
-After-places = Lts.After-places readings Reads.Pre Reads.Post
-
-abbrev pub After-packet : Type 0
-After-packet = Lts.After-packet readings Reads.Pre Reads.Post
-
-abbrev pub After-peer : Type 0
-After-peer = Lts.After-peer readings Reads.Pre Reads.Post
-
-abbrev pub After-config : Type 0
-After-config = Lts.After-config readings Reads.Pre Reads.Post
-
 abbrev pub After-passed-on : Type 0
 After-passed-on = Lts.After-passed-on readings Reads.Pre Reads.Post
 

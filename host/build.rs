@@ -1,5 +1,5 @@
-//! Links the archive of the proved crate, or says which command makes it. `cargo check` and `cargo doc` do without it, but not where a
-//! folder for it is named.
+//! Links the archive of the proved crate, or says which command makes it. `cargo check` and `cargo doc` do without
+//! it, but not where a folder for it is named.
 use std::env;
 use std::path::PathBuf;
 

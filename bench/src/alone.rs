@@ -1,5 +1,5 @@
-//! What is measured in a process of its own, on one side: a new relay, and one that ends at once. So no earlier relay has left memory
-//! behind, and what a relay takes can be told.
+//! What is measured in a process of its own, on one side: a new relay, and one that ends at once. So no earlier relay
+//! has left memory behind, and what a relay takes can be told.
 mod answer;
 
 pub use answer::answer;
@@ -83,7 +83,8 @@ fn middle(told: &[[Told; 2]], side: usize, number: usize) -> f64 {
 fn ask(question: Question) -> [Told; 2] {
     let told = ["library", "rust"].map(|side| {
         let program = env::current_exe().expect("this program");
-        let output = Command::new(program).args([ALONE, side]).args(question.arguments()).output().expect("it runs again");
+        let output =
+            Command::new(program).args([ALONE, side]).args(question.arguments()).output().expect("it runs again");
         assert!(output.status.success(), "{side}, {question:?}: {}", String::from_utf8_lossy(&output.stderr));
         let text = String::from_utf8(output.stdout).expect("what `answer` prints");
         let (numbers, told) = text.split_once('\n').expect("two lines");

@@ -27,7 +27,12 @@ impl Circuit {
     /// A circuit between two peers. The multiplier spreads ids as a random source would.
     pub fn new(number: u64, requester: u64, endpoint: u64) -> Self {
         let id = (number + 1).wrapping_mul(0x9e37_79b9_7f4a_7c15);
-        Self { requester: name(requester), endpoint: name(endpoint), id: id.to_be_bytes(), context: (number + 1).to_be_bytes() }
+        Self {
+            requester: name(requester),
+            endpoint: name(endpoint),
+            id: id.to_be_bytes(),
+            context: (number + 1).to_be_bytes(),
+        }
     }
 
     /// An endpoint has one reservation, named like itself.
@@ -46,7 +51,13 @@ impl Circuit {
     pub fn open(&self) -> Message {
         let window = WINDOW.to_le_bytes();
         let body = [&[1; 32][..], &self.endpoint, &[2; 33], &[1, 0], &[3; 16], &window].concat();
-        Message { source: self.requester, opcode: HnsrOpcode::Open, context: self.context, body, grant: Some(self.grant()) }
+        Message {
+            source: self.requester,
+            opcode: HnsrOpcode::Open,
+            context: self.context,
+            body,
+            grant: Some(self.grant()),
+        }
     }
 
     pub fn accept(&self) -> Message {

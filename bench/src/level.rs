@@ -31,8 +31,8 @@ impl Level {
     }
 }
 
-/// The default configuration with its maxima scaled to so many actions, but with room for the circuits that are measured beside as many
-/// others. A circuit may pass any number of bytes, so that one lasts through the run.
+/// The default configuration with its maxima scaled to so many actions, but with room for the circuits that are
+/// measured beside as many others. A circuit may pass any number of bytes, so that one lasts through the run.
 pub fn config(actions: usize) -> Config {
     let default = Config::default();
     let scaled = |places: usize| places * actions / default.maximum_inflight_actions;
@@ -49,12 +49,17 @@ pub fn config(actions: usize) -> Config {
 
 /// As `config`, but one circuit may have all actions, and one peer too.
 pub fn few_circuits(actions: usize) -> Config {
-    Config { maximum_inflight_actions_per_circuit: actions, maximum_inflight_actions_per_peer: actions, ..config(actions) }
+    Config {
+        maximum_inflight_actions_per_circuit: actions,
+        maximum_inflight_actions_per_peer: actions,
+        ..config(actions)
+    }
 }
 
-/// How many records in use the library reads in one reading of what a call goes through: circuits or pending records where there is
-/// none to be found; up to the action that is acknowledged; where nothing is due the three tables but that of actions; else all actions.
-/// None where nothing is in use, and where no record is read or a lookup ends at the one that it finds.
+/// How many records in use the library reads in one reading of what a call goes through: circuits or pending
+/// records where there is none to be found; up to the action that is acknowledged; where nothing is due the three
+/// tables but that of actions; else all actions. None where nothing is in use, and where no record is read or a
+/// lookup ends at the one that it finds.
 pub fn records(call: Call, config: &Config, level: Level) -> Option<usize> {
     let fill = Fill::share(config, level.share);
     let count = match call {

@@ -24,8 +24,8 @@ pub struct Fill {
 }
 
 impl Fill {
-    /// A share of each table, less the places that the measured calls take: each is made once on each own circuit, and sends two
-    /// routes at the most. There are circuits enough for the actions.
+    /// A share of each table, less the places that the measured calls take: each is made once on each own circuit,
+    /// and sends two routes at the most. There are circuits enough for the actions.
     pub fn share(config: &Config, share: f64) -> Self {
         let part = |places: usize, own: usize| ((places as f64 * share) as usize).saturating_sub(own);
         let actions = part(config.maximum_inflight_actions, 2 * OWN);

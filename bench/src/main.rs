@@ -1,4 +1,5 @@
-//! The proved relay against the Rust: what each call costs. Writes the figures into docs/BENCHMARKS.md and draws docs/benchmarks.svg.
+//! The proved relay against the Rust: what each call costs. Writes the figures into docs/BENCHMARKS.md
+//! and draws docs/benchmarks.svg.
 mod alone;
 mod call;
 mod circuit;
@@ -38,13 +39,15 @@ fn write(docs: &Path, plan: &Plan) {
     let made = made(plan.processes);
     let actions = plan.actions();
     let by_use = measured(plan, actions, &[&Level::RISING[..], &[Level::EMPTIED]].concat());
-    let size = |size: usize| (size, if size == actions { chosen(&by_use) } else { measured(plan, size, &Level::OF_SIZES) });
+    let size =
+        |size: usize| (size, if size == actions { chosen(&by_use) } else { measured(plan, size, &Level::OF_SIZES) });
     let by_size: Vec<_> = plan.sizes.iter().map(|actions| size(*actions)).collect();
     let by_outstanding = by_outstanding(plan);
     let endings = endings(plan);
     let (.., full) = *endings.last().expect("some end");
     let rising = &by_use[..Level::RISING.len()];
-    fs::write(docs.join("benchmarks.svg"), plot::svg(rising).expect("a string takes all")).expect("benchmarks.svg is written");
+    fs::write(docs.join("benchmarks.svg"), plot::svg(rising).expect("a string takes all"))
+        .expect("benchmarks.svg is written");
     let parts = [
         ("machine", env::var("BENCH_MACHINE").unwrap_or_default() + "\n"),
         ("goal", report::goal(&by_use, &by_outstanding)),

@@ -124,7 +124,8 @@ mod tests {
         pair.turn(Turn::Refused, true);
         let words = pair.library.seen.log.take().expect("it was asked for");
         let short = "unexpected end of input at byte 0; needed 1 more byte(s)";
-        let expected = ["unknown HNSR circuit", short, "unknown HNSR circuit request", "unexpected HNSR runtime opcode"];
+        let expected =
+            ["unknown HNSR circuit", short, "unknown HNSR circuit request", "unexpected HNSR runtime opcode"];
         assert_eq!(words, expected.map(|words| [words; OWN]).concat());
     }
 

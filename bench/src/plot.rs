@@ -73,10 +73,8 @@ impl Panel {
             costs.iter().enumerate().map(|(place, cost)| (self.x(place, costs.len()), self.y(*cost))).collect();
         let line: Vec<String> = points.iter().map(|(x, y)| format!("{x:.1},{y:.1}")).collect();
         let line = line.join(" ");
-        writeln!(
-            svg,
-            r#"<polyline points="{line}" fill="none" stroke="{colour}" stroke-width="{width}" stroke-dasharray="{dashes}"/>"#
-        )?;
+        write!(svg, r#"<polyline points="{line}" fill="none" stroke="{colour}""#)?;
+        writeln!(svg, r#" stroke-width="{width}" stroke-dasharray="{dashes}"/>"#)?;
         for ((x, y), cost) in points.iter().zip(costs) {
             let title = format!("{name}: {} ns", grouped(*cost));
             writeln!(
@@ -99,10 +97,8 @@ pub fn svg(figures: &[Figure]) -> Result<String, std::fmt::Error> {
     let rows = CHOSEN.len().div_ceil(COLUMNS) as f64;
     let (width, height) = (LEFT + COLUMNS as f64 * (WIDTH + GAP.0), TOP + rows * (HEIGHT + GAP.1));
     let mut svg = String::new();
-    writeln!(
-        svg,
-        r#"<svg xmlns="http://www.w3.org/2000/svg" viewBox="0 0 {width} {height}" font-family="sans-serif" font-size="12">"#
-    )?;
+    write!(svg, r#"<svg xmlns="http://www.w3.org/2000/svg" viewBox="0 0 {width} {height}""#)?;
+    writeln!(svg, r#" font-family="sans-serif" font-size="12">"#)?;
     writeln!(svg, r#"<title>Time of one call against the share of the tables in use</title>"#)?;
     writeln!(svg, r#"<rect width="{width}" height="{height}" fill="white"/>"#)?;
     legend(&mut svg)?;
@@ -119,7 +115,10 @@ pub fn svg(figures: &[Figure]) -> Result<String, std::fmt::Error> {
 }
 
 fn legend(svg: &mut String) -> std::fmt::Result {
-    writeln!(svg, r#"<text x="{LEFT}" y="24" font-size="14">Time of one call against the share of the tables in use</text>"#)?;
+    writeln!(
+        svg,
+        r#"<text x="{LEFT}" y="24" font-size="14">Time of one call against the share of the tables in use</text>"#
+    )?;
     for (side, (name, colour, dashes)) in SIDES.into_iter().enumerate() {
         let x = LEFT + 480.0 + 130.0 * side as f64;
         let line = format!(r#"x1="{x}" y1="20" x2="{}" y2="20""#, x + 36.0);

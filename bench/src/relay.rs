@@ -23,7 +23,8 @@ struct Own<S: Side> {
 
 impl<S: Side> Own<S> {
     fn new() -> Self {
-        let circuits: Vec<Circuit> = (0..OWN as u64).map(|number| Circuit::new(number, 2 * number, 2 * number + 1)).collect();
+        let circuits: Vec<Circuit> =
+            (0..OWN as u64).map(|number| Circuit::new(number, 2 * number, 2 * number + 1)).collect();
         let each = |message: &dyn Fn(&Circuit) -> Message| circuits.iter().map(|c| S::packet(&message(c))).collect();
         Self {
             draws: circuits.iter().flat_map(|circuit| circuit.id).collect(),
@@ -78,7 +79,9 @@ impl<S: Side> Relay<S> {
             }
             Turn::Refused => {
                 for (kind, refusal) in Refusal::ALL.into_iter().enumerate() {
-                    self.timed(Call::Refused(refusal), |side, own, seen, place| side.refused(&own.refused[kind][place], seen));
+                    self.timed(Call::Refused(refusal), |side, own, seen, place| {
+                        side.refused(&own.refused[kind][place], seen)
+                    });
                 }
             }
         }

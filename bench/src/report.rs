@@ -31,7 +31,8 @@ const AGAINST_USE: [Call; 8] = [
 ];
 
 /// The calls of the table of sizes, and of the plot.
-pub const CHOSEN: [Call; 6] = [Call::Open, Call::Data(1), Call::Acknowledge, Call::Close, Call::Disconnect, Call::Expire];
+pub const CHOSEN: [Call; 6] =
+    [Call::Open, Call::Data(1), Call::Acknowledge, Call::Close, Call::Disconnect, Call::Expire];
 
 /// A number with a comma at each thousand.
 pub fn grouped(number: f64) -> String {
@@ -91,23 +92,24 @@ pub fn costs(figures: &[Figure], actions: usize) -> String {
 
 /// The chosen calls by table size: library / Rust = ratio, at each level that every size has.
 pub fn sizes(list: &[(usize, Vec<Figure>)]) -> String {
-    let actions = list.iter().map(|(actions, _)| format!("{} actions", grouped(*actions as f64))).collect();
-    let row = |call: Call, place: usize| {
-        let cell = |(_, figures): &(usize, Vec<Figure>)| both(figures[place].1[call.place()]);
-        [texts(&[call.label(), Level::OF_SIZES[place].label]), list.iter().map(cell).collect()].concat()
+    let levels = Level::OF_SIZES.map(|level| level.label);
+    let row = |call: Call, (actions, figures): &(usize, Vec<Figure>)| {
+        let cells = figures.iter().map(|(_, costs)| both(costs[call.place()])).collect();
+        [texts(&[call.label(), &grouped(*actions as f64)]), cells].concat()
     };
-    let places = 0..Level::OF_SIZES.len();
-    let rows: Vec<_> = CHOSEN.iter().flat_map(|call| places.clone().map(|place| row(*call, place))).collect();
-    table(&[texts(&["call", "in use"]), actions].concat(), &rows)
+    let rows: Vec<_> = CHOSEN.iter().flat_map(|call| list.iter().map(|size| row(*call, size))).collect();
+    table(&texts(&[&["call", "actions"], &levels[..]].concat()), &rows)
 }
 
-/// Cost against use: calls by outstanding actions.
+/// Cost against use: a row for each call and number of outstanding actions.
 pub fn outstanding(list: &[Outstanding]) -> String {
-    let row = |call: Call| {
-        let cells = list.iter().map(|(_, costs)| both(costs[call.place()])).collect();
-        [texts(&[call.label()]), cells].concat()
+    let row = |call: Call, (actions, costs): &Outstanding| {
+        let cost = costs[call.place()];
+        let numbers = [grouped(*actions as f64), grouped(cost.library), grouped(cost.rust), short(cost.ratio())];
+        [texts(&[call.label()]), numbers.to_vec()].concat()
     };
-    table(&[texts(&["call"]), outstanding_titles(list)].concat(), &AGAINST_USE.map(row))
+    let rows: Vec<_> = AGAINST_USE.iter().flat_map(|call| list.iter().map(|number| row(*call, number))).collect();
+    table(&texts(&["call", "actions", "library, ns", "the Rust, ns", "library / Rust"]), &rows)
 }
 
 fn outstanding_titles(list: &[Outstanding]) -> Vec<String> {

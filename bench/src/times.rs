@@ -2,8 +2,8 @@
 use crate::call::Call;
 use std::time::{Duration, Instant};
 
-/// Calls that take longer are timed one by one: the clock does not show then, and a pause of the process spoils one of them only.
-/// Shorter ones are timed together.
+/// Calls that take longer are timed one by one: the clock does not show then, and a pause of the process spoils one
+/// of them only. Shorter ones are timed together.
 const LONG: f64 = 20_000.0;
 
 /// Nanoseconds of single calls, by the call's place.

@@ -1,8 +1,9 @@
 //! What the host says of an OPEN.
 use crate::lent::RelayTicket;
 
-/// What the host says of an OPEN: it reads the body ([`OpenBody::read`](crate::body::OpenBody::read)), looks at the endpoint's
-/// key and asks its own book of reservations. Of any other packet the relay does not look at it, and `Refused` will do.
+/// What the host says of an OPEN: it reads the body ([`OpenBody::read`](crate::body::OpenBody::read)),
+/// looks at the endpoint's key and asks its own book of reservations. Of any other packet the relay does
+/// not look at it, and `Refused` will do.
 #[derive(Clone, Copy, Debug, Eq, PartialEq)]
 pub enum Admission<'a> {
     /// The endpoint's key is not a point of the curve.

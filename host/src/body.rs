@@ -1,7 +1,8 @@
 //! The bodies of the circuit messages: reading and checking them.
 //!
-//! Names and field types are those of hns-hnsr-protocol. Two things are asked differently. Whether the endpoint's key is a point of
-//! the curve is the caller's word, since no curve arithmetic stands behind this. And what has no fixed length is lent, not copied.
+//! Names and field types are those of hns-hnsr-protocol. Two things are asked differently. Whether the endpoint's
+//! key is a point of the curve is the caller's word, since no curve arithmetic stands behind this. And what has no
+//! fixed length is lent, not copied.
 //!
 //! ```
 //! use lekchnam_host::body::{Invalid, ProtocolError, WindowBody};
@@ -295,7 +296,8 @@ pub fn is_utf8(text: &[u8]) -> bool {
     ffi::is_utf8(text)
 }
 
-/// What hns-hnsr-protocol's `HnsrPacket::new` checks: the size first, then that the context is not zero, which opcode 6 may have.
+/// What hns-hnsr-protocol's `HnsrPacket::new` checks: the size first, then that the context is not
+/// zero, which opcode 6 may have.
 pub fn validate_packet(opcode: u8, context_id: [u8; 8], body_length: usize) -> Result<(), ProtocolError> {
     checked(ffi::validate_packet(opcode, u64::from_be_bytes(context_id), body_length))
 }

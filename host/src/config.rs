@@ -34,11 +34,12 @@ impl OpaqueRelayConfig {
         answered(ffi::relay::validate_config(self), Cause::NONE).map(|()| self)
     }
 
-    /// The ledger's places where a host names no number: one for each pending record and each circuit that there may be.
+    /// The ledger's places where a host names no number: one for each pending record and each circuit that there may
+    /// be.
     ///
-    /// A reservation keeps its place from its first OPEN until it ends or is revoked, also while it has no circuit. A host that
-    /// admits OPENs under more reservations at once gives the ledger as many places; else the next OPEN under a new one is
-    /// refused with 23.
+    /// A reservation keeps its place from its first OPEN until it ends or is revoked, also while it has no circuit. A
+    /// host that admits OPENs under more reservations at once gives the ledger as many places; else the next OPEN
+    /// under a new one is refused with 23.
     pub fn ledger_places(&self) -> usize {
         self.maximum_pending.saturating_add(self.maximum_circuits)
     }

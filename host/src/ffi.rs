@@ -1,5 +1,5 @@
-//! The archive's C functions, and the structs that only pass between; one of the C library; and memory that is zero from the start. A
-//! slice is passed as its pointer and its length. All that is unsafe stands here.
+//! The archive's C functions, and the structs that only pass between; one of the C library; and memory that is zero
+//! from the start. A slice is passed as its pointer and its length. All that is unsafe stands here.
 pub mod body;
 #[cfg(test)]
 mod layout;

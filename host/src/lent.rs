@@ -1,11 +1,11 @@
 //! The calls over tables and output words that the host keeps itself and lends for each call.
 //!
-//! Every call takes any records, any header, any words and any bytes, and answers with how many output words it wrote or with a
-//! refusal. [`Routes`](crate::Routes) reads the words. What a refusal leaves is document 01's: the output always, and the tables
-//! and the header but where it says otherwise.
+//! Every call takes any records, any header, any words and any bytes, and answers with how many output words it wrote
+//! or with a refusal. [`Routes`](crate::Routes) reads the words. What a refusal leaves is document 01's: the output
+//! always, and the tables and the header but where it says otherwise.
 //!
-//! With the tables go four numbers, [`Places`]: of each table how many places are in use. A call takes them from the tables and puts
-//! them back there, so a host has only to store them with the records.
+//! With the tables go four numbers, [`Places`]: of each table how many places are in use. A call takes them from the
+//! tables and puts them back there, so a host has only to store them with the records.
 //!
 //! ```
 //! use lekchnam_host::lent::{self, Tables};
@@ -54,8 +54,8 @@ pub struct Packet<'a> {
     pub random: &'a [u8],
 }
 
-/// Makes a relay: sets the numbers of places in use to 0, so that every place is unused, and gives its header. No place is read or
-/// written, whatever stands there. A refusal leaves the numbers.
+/// Makes a relay: sets the numbers of places in use to 0, so that every place is unused, and gives its header. No
+/// place is read or written, whatever stands there. A refusal leaves the numbers.
 pub fn new(
     tables: &mut Tables,
     session: [u8; 16],
@@ -93,7 +93,12 @@ pub fn acknowledge(
 }
 
 /// Ends all that a peer is a side of.
-pub fn disconnect(tables: &mut Tables, out: &mut [u32], runtime: &mut Runtime, peer: &[u8]) -> Result<usize, HnsrRuntimeError> {
+pub fn disconnect(
+    tables: &mut Tables,
+    out: &mut [u32],
+    runtime: &mut Runtime,
+    peer: &[u8],
+) -> Result<usize, HnsrRuntimeError> {
     let reply = ffi::disconnect(tables, out, *runtime, peer);
     kept(tables, runtime, reply)
 }
@@ -110,7 +115,12 @@ pub fn revoke_reservation(
 }
 
 /// Moves the clock and ends all whose time is over.
-pub fn expire(tables: &mut Tables, out: &mut [u32], runtime: &mut Runtime, now: u64) -> Result<usize, HnsrRuntimeError> {
+pub fn expire(
+    tables: &mut Tables,
+    out: &mut [u32],
+    runtime: &mut Runtime,
+    now: u64,
+) -> Result<usize, HnsrRuntimeError> {
     let reply = ffi::expire(tables, out, *runtime, now);
     kept(tables, runtime, reply)
 }

@@ -1,8 +1,8 @@
 //! What a Rust host calls of the proved relay.
 //!
-//! [`OpaqueRelayRuntime`] relays circuits between two peers. The host owns connections, clock and reservations: it hands packets
-//! in, sends the routes that come out, and acknowledges each. Types and words are those of hns-hnsr-protocol, so that one takes
-//! the other's place.
+//! [`OpaqueRelayRuntime`] relays circuits between two peers. The host owns connections, clock and reservations: it
+//! hands packets in, sends the routes that come out, and acknowledges each. Types and words are those of
+//! hns-hnsr-protocol, so that one takes the other's place.
 //!
 //! ```
 //! use lekchnam_host::{
@@ -47,9 +47,10 @@
 //! [`lent`] has the same calls over tables that the host keeps itself, [`body`] the checks of the messages' bodies, and
 //! [`limits`] document 01's figures.
 //!
-//! Proved is what stands behind the calls, in the crates of the project. This crate is not: it declares the C functions of the
-//! archive that `rt staticlib lekchnam` writes, and gives them these types. It runs on x86-64, as the archive does. `host/archive`
-//! makes the archive; where it was made elsewhere, `LEKCHNAM_STATICLIB` names its folder.
+//! Proved is what stands behind the calls, in the crates of the project. This crate is not: it declares the C
+//! functions of the archive that `rt staticlib lekchnam` writes, and gives them these types. It runs on
+//! x86-64, as the archive does. `host/archive` makes the archive; where it was made elsewhere,
+//! `LEKCHNAM_STATICLIB` names its folder.
 #![deny(missing_docs, unsafe_code)]
 
 mod admission;

@@ -31,7 +31,8 @@ const NAMED: [HnsrOpcode; 21] = {
 
 /// What a packet is.
 ///
-/// The relay takes OPEN, ACCEPT, DATA, WINDOW, CLOSE and ERROR. It sends INCOMING, OPENED, DATA, WINDOW, CLOSE and ERROR.
+/// The relay takes OPEN, ACCEPT, DATA, WINDOW, CLOSE and ERROR. It sends INCOMING, OPENED,
+/// DATA, WINDOW, CLOSE and ERROR.
 #[derive(Clone, Copy, Debug, Eq, Hash, PartialEq)]
 pub enum HnsrOpcode {
     /// 0, of the search for routes.

@@ -4,17 +4,17 @@ use std::io::{self, Read};
 
 /// The random bytes that an OPEN is given, the least that cannot run short.
 ///
-/// An id is drawn from eight bytes. Eight draws of zero in a row refuse, and so do eight ids that are taken; an id that is taken
-/// starts the row anew. So at the most there are seven zeros in front of each of eight ids: 64 draws.
+/// An id is drawn from eight bytes. Eight draws of zero in a row refuse, and so do eight ids that are taken; an id
+/// that is taken starts the row anew. So at the most there are seven zeros in front of each of eight ids: 64 draws.
 pub const RANDOM_BYTES: usize = 8 * 8 * 8;
 
 /// Random bytes for the ids of circuits.
 pub trait RandomSource {
     /// Puts random bytes into `room` from its front on and says how many.
     ///
-    /// They are the ids of the circuits, so nobody should be able to guess them. An OPEN whose draws run out is refused with 8
-    /// ([`Randomness`](crate::HnsrRuntimeError::Randomness)): a source that has no bytes answers 0. An 8 also comes of draws that are
-    /// all zero or taken; so a source that can fail keeps why, and the host asks it by
+    /// They are the ids of the circuits, so nobody should be able to guess them. An OPEN whose draws run out is
+    /// refused with 8 ([`Randomness`](crate::HnsrRuntimeError::Randomness)): a source that has no bytes answers 0. An
+    /// 8 also comes of draws that are all zero or taken; so a source that can fail keeps why, and the host asks it by
     /// [`random`](crate::OpaqueRelayRuntime::random), as it asks [`OsRandom::failure`].
     fn supply(&mut self, room: &mut [u8]) -> usize;
 }

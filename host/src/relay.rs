@@ -10,16 +10,18 @@ use crate::route::{HnsrActionId, Routes};
 use crate::status::HnsrRuntimeStatus;
 use std::fmt::{self, Debug, Formatter};
 
-/// Why `status` and `next_due` cannot fail. Their one refusal is 22, a table with fewer places than its limit. `from_parts`, which
-/// makes every relay, has asked `status` of these tables; from then on no table changes its length, and no call changes a limit.
+/// Why `status` and `next_due` cannot fail. Their one refusal is 22, a table with fewer places than its limit.
+/// `from_parts`, which makes every relay, has asked `status` of these tables; from then on no table changes its
+/// length, and no call changes a limit.
 const PLACES_ARE_ENOUGH: &str = "the tables have the places that they need";
 
 /// A relay of circuits between two peers. It does not read their DATA, and it owns no socket and no clock.
 ///
-/// Each route that a call hands out counts until [`acknowledge`](Self::acknowledge) is called with its number. Memory is taken
-/// once, by `new`: for tables of as many places as the configuration allows, and for output words that are enough for every call.
-/// So no call is ever refused for want of places or words (22). Memory is touched where records and words come to stand: a new relay
-/// of any size uses hardly any, and a call looks through the places in use ([`Places`](lent::Places)), not through all.
+/// Each route that a call hands out counts until [`acknowledge`](Self::acknowledge) is called with its number. Memory
+/// is taken once, by `new`: for tables of as many places as the configuration allows, and for output words that are
+/// enough for every call. So no call is ever refused for want of places or words (22). Memory is touched where
+/// records and words come to stand: a new relay of any size uses hardly any, and a call looks through the places in
+/// use ([`Places`](lent::Places)), not through all.
 pub struct OpaqueRelayRuntime<Random = OsRandom> {
     runtime: Runtime,
     tables: Tables,
@@ -30,8 +32,8 @@ pub struct OpaqueRelayRuntime<Random = OsRandom> {
 }
 
 impl OpaqueRelayRuntime {
-    /// A new relay, switched on, that draws ids from the operating system and has [`OpaqueRelayConfig::ledger_places`] in its
-    /// ledger.
+    /// A new relay, switched on, that draws ids from the operating system and has
+    /// [`OpaqueRelayConfig::ledger_places`] in its ledger.
     pub fn new(
         session: [u8; 16],
         generation: u64,
@@ -45,15 +47,16 @@ impl OpaqueRelayRuntime {
 impl<Random: RandomSource> OpaqueRelayRuntime<Random> {
     /// A new relay, switched on. The ledger needs a place for each reservation that OPENs go by and that has not ended.
     ///
-    /// Refused with 3, 2 and 22, in this order: 22 ([`Short`](HnsrRuntimeError::Short)) where the ledger has no place, or where the
-    /// memory for the tables and the output words cannot be had. Before a 3 or a 2 no memory is taken.
+    /// Refused with 3, 2 and 22, in this order: 22 ([`Short`](HnsrRuntimeError::Short)) where the
+    /// ledger has no place, or where the memory for the tables and the output words cannot be had.
+    /// Before a 3 or a 2 no memory is taken.
     ///
     /// ```
     /// use lekchnam_host::{HnsrRuntimeError, OpaqueRelayConfig, OpaqueRelayRuntime, OsRandom};
     ///
     /// let new = |generation, ledger_places| {
-    ///     let config = OpaqueRelayConfig::default();
-    ///     OpaqueRelayRuntime::new_with([1; 16], generation, config, 100, ledger_places, OsRandom::default()).map(|_| ())
+    ///     let (config, random) = (OpaqueRelayConfig::default(), OsRandom::default());
+    ///     OpaqueRelayRuntime::new_with([1; 16], generation, config, 100, ledger_places, random).map(|_| ())
     /// };
     /// assert_eq!(new(1, 5_000), Ok(()));
     /// assert_eq!(new(1, usize::MAX), Err(HnsrRuntimeError::Short));
@@ -78,8 +81,8 @@ impl<Random: RandomSource> OpaqueRelayRuntime<Random> {
         Self::from_parts(runtime, tables, random)
     }
 
-    /// A relay that goes on from stored parts, whatever they hold; 22 where a table has fewer places than the configuration
-    /// allows, or where the memory for the output words cannot be had.
+    /// A relay that goes on from stored parts, whatever they hold; 22 where a table has fewer places than the
+    /// configuration allows, or where the memory for the output words cannot be had.
     ///
     /// The numbers of places in use are stored with the tables. A host that has lost them sets [`Tables::places`] to
     /// [`Places::EVERY`](lent::Places::EVERY), and the marks alone decide.
@@ -128,8 +131,8 @@ impl<Random: RandomSource> OpaqueRelayRuntime<Random> {
         self.routed(answer)
     }
 
-    /// Ends all that a peer is a side of. Refused, with 4, is only a name of no bytes, which no peer has: a route may have it where
-    /// stored tables do.
+    /// Ends all that a peer is a side of. Refused, with 4, is only a name of no bytes, which no peer has: a route may
+    /// have it where stored tables do.
     pub fn disconnect(&mut self, peer: &HnsrPeerId) -> Result<Routes<'_>, HnsrRuntimeError> {
         let answer = lent::disconnect(&mut self.tables, &mut self.out, &mut self.runtime, peer.as_bytes());
         self.routed(answer)
@@ -137,11 +140,13 @@ impl<Random: RandomSource> OpaqueRelayRuntime<Random> {
 
     /// Ends all that goes by a reservation. Its one refusal is 22, and the relay has places and words enough.
     pub fn revoke_reservation(&mut self, reservation_id: [u8; 16]) -> Result<Routes<'_>, HnsrRuntimeError> {
-        let answer = lent::revoke_reservation(&mut self.tables, &mut self.out, &mut self.runtime, reservation_id.into());
+        let answer =
+            lent::revoke_reservation(&mut self.tables, &mut self.out, &mut self.runtime, reservation_id.into());
         self.routed(answer)
     }
 
-    /// Moves the clock and ends all whose time is over. [`next_due`](Self::next_due) says when there is something to end.
+    /// Moves the clock and ends all whose time is over. [`next_due`](Self::next_due) says when there is something to
+    /// end.
     pub fn expire(&mut self, now: u64) -> Result<Routes<'_>, HnsrRuntimeError> {
         let answer = lent::expire(&mut self.tables, &mut self.out, &mut self.runtime, now);
         self.routed(answer)
@@ -155,7 +160,8 @@ impl<Random: RandomSource> OpaqueRelayRuntime<Random> {
 
     /// Switches the relay on or off. A change raises the generation and drops every unacknowledged route; off ends all.
     pub fn replace_enabled(&mut self, expected_generation: u64, enabled: bool) -> Result<Routes<'_>, HnsrRuntimeError> {
-        let answer = lent::replace_enabled(&mut self.tables, &mut self.out, &mut self.runtime, expected_generation, enabled);
+        let answer =
+            lent::replace_enabled(&mut self.tables, &mut self.out, &mut self.runtime, expected_generation, enabled);
         self.routed(answer)
     }
 
@@ -202,7 +208,8 @@ impl<Random> OpaqueRelayRuntime<Random> {
         &self.tables
     }
 
-    /// The parts to be stored, for [`from_parts`](Self::from_parts): the header, and the tables with the numbers of places in use.
+    /// The parts to be stored, for [`from_parts`](Self::from_parts): the header, and the tables
+    /// with the numbers of places in use.
     pub fn into_parts(self) -> (Runtime, Tables) {
         (self.runtime, self.tables)
     }

@@ -6,8 +6,8 @@ use crate::peer::HnsrPeerId;
 use std::fmt::{self, Debug, Formatter};
 use std::iter::FusedIterator;
 
-// Document 01, "Output words": a kind word with the name's length; generation and sequence, high word first; the name; a kind
-// word with the opcode and the body's length; the context; and the body behind these.
+// Document 01, "Output words": a kind word with the name's length; generation and sequence, high word first; the
+// name; a kind word with the opcode and the body's length; the context; and the body behind these.
 const GENERATION: usize = 1;
 const SEQUENCE: usize = GENERATION + 2;
 const NAME: usize = SEQUENCE + 2;
@@ -32,7 +32,8 @@ pub struct HnsrRoute<'a> {
     pub packet: HnsrPacket<'a>,
 }
 
-/// A route that counts as unacknowledged until [`acknowledge`](crate::OpaqueRelayRuntime::acknowledge) is called with its number.
+/// A route that counts as unacknowledged until
+/// [`acknowledge`](crate::OpaqueRelayRuntime::acknowledge) is called with its number.
 #[derive(Clone, Copy, Debug, Eq, PartialEq)]
 pub struct QueuedHnsrRoute<'a> {
     /// Its number.
@@ -41,7 +42,8 @@ pub struct QueuedHnsrRoute<'a> {
     pub route: HnsrRoute<'a>,
 }
 
-/// The routes of a call, in the order in which they are to be sent. Nothing is copied: bodies are parts of the output words.
+/// The routes of a call, in the order in which they are to be sent. Nothing is copied: bodies
+/// are parts of the output words.
 #[derive(Clone, Copy, Default, Eq, PartialEq)]
 pub struct Routes<'a>(&'a [u32]);
 

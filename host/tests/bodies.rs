@@ -1,9 +1,11 @@
 //! Every reader of the archive against a second reading, written here from document 01.
 use lekchnam_host::body::{
-    validate_packet, AcceptBody, CloseBody, DataBody, ErrorBody, IncomingBody, Invalid, OpenBody, OpenedBody, ProtocolError,
-    Read, ReasonDetail, WindowBody,
+    validate_packet, AcceptBody, CloseBody, DataBody, ErrorBody, IncomingBody, Invalid, OpenBody, OpenedBody,
+    ProtocolError, Read, ReasonDetail, WindowBody,
 };
-use lekchnam_host::limits::{HNSR_HEADER_SIZE, MAX_DATA_SIZE, MAX_DETAIL_SIZE, MAX_PACKET_SIZE, MAX_WINDOW, MIN_WINDOW};
+use lekchnam_host::limits::{
+    HNSR_HEADER_SIZE, MAX_DATA_SIZE, MAX_DETAIL_SIZE, MAX_PACKET_SIZE, MAX_WINDOW, MIN_WINDOW,
+};
 use lekchnam_host::HnsrOpcode;
 use std::fmt::Debug;
 
@@ -103,8 +105,8 @@ fn detail(length_and_text: &[u8]) -> Result<(), ProtocolError> {
     Ok(())
 }
 
-/// "Bytes after the lead are 0x80 to 0xBF, except that after 0xE0 comes 0xA0 to 0xBF, 0xED 0x80 to 0x9F, 0xF0 0x90 to 0xBF, 0xF4 0x80
-/// to 0x8F."
+/// "Bytes after the lead are 0x80 to 0xBF, except that after 0xE0 comes 0xA0 to 0xBF, 0xED 0x80 to 0x9F, 0xF0
+/// 0x90 to 0xBF, 0xF4 0x80 to 0x8F."
 fn rfc_3629(mut text: &[u8]) -> bool {
     const TAIL: std::ops::RangeInclusive<u8> = 0x80..=0xbf;
     loop {
@@ -230,7 +232,8 @@ fn bodies_by_chance() {
     println!("compared: {COUNT} bodies by chance, {accepted} of them accepted");
 }
 
-/// Document 01 names the Rust's `HnsrPacket::validate` here: a header of 12 bytes, at most 65,535 in all, and the size before the context.
+/// Document 01 names the Rust's `HnsrPacket::validate` here: a header of 12 bytes, at most 65,535 in all,
+/// and the size before the context.
 #[test]
 fn packets_of_every_opcode() {
     let list = packets();

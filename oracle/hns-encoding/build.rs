@@ -14,8 +14,9 @@ fn main() {
 }
 
 fn folder() -> Result<PathBuf, String> {
-    let unset =
-        format!("{SETTING} is not set: the sources of handshake-rs/hns-rs are not at hand, and nothing is compared (README.md)");
+    let unset = format!(
+        "{SETTING} is not set: the sources of handshake-rs/hns-rs are not at hand, and nothing is compared (README.md)"
+    );
     let folder = PathBuf::from(env::var_os(SETTING).ok_or(unset)?);
     if !folder.is_absolute() {
         return Err(format!("{SETTING} must start at the root: {}", folder.display()));

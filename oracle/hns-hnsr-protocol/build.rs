@@ -1,12 +1,12 @@
-//! Takes the relay's part of hns-hnsr-protocol from the folder that the build script of hns-encoding found. Everything that is changed
-//! is changed here; line numbers stay.
+//! Takes the relay's part of hns-hnsr-protocol from the folder that the build script of hns-encoding found. Everything
+//! that is changed is changed here; line numbers stay.
 //!
-//! | file | change |
-//! |---|---|
-//! | envelope.rs, body.rs | none: compiled where they stand |
-//! | circuit.rs | T1: `HashMap` comes from `crate::ordered`. T2: one line behind the last adds `mod oracle_probe`, which reads private state and sets the next sequence number |
-//! | lib.rs | T3: what stands before `use hns_encoding::DecodeError;`, a module list and re-exports, is blanked; the rest is module `root` |
-//! | record.rs | T4: only `struct RelayTicket` with its derive is taken |
+//! - envelope.rs, body.rs: nothing; they are compiled where they stand.
+//! - circuit.rs: T1: `HashMap` comes from `crate::ordered`. T2: one line behind the last adds `mod oracle_probe`, which
+//!   reads private state and sets the next sequence number.
+//! - lib.rs: T3: what stands before `use hns_encoding::DecodeError;`, a module list and re-exports, is blanked; the
+//!   rest is module `root`.
+//! - record.rs: T4: only `struct RelayTicket` with its derive is taken.
 //!
 //! With the feature `as-written` T1 and T2 are left out: circuit.rs too is compiled where it stands.
 use std::path::PathBuf;
@@ -38,7 +38,10 @@ impl Rust {
 
 fn main() {
     println!("cargo::rerun-if-changed=build.rs");
-    let rust = Rust { sources: setting("DEP_HNS_RS_SRC_FOLDER").join("crates/hns-hnsr-protocol/src"), out: setting("OUT_DIR") };
+    let rust = Rust {
+        sources: setting("DEP_HNS_RS_SRC_FOLDER").join("crates/hns-hnsr-protocol/src"),
+        out: setting("OUT_DIR"),
+    };
     let circuit = match env::var_os("CARGO_FEATURE_AS_WRITTEN") {
         Some(_) => rust.path("circuit.rs"),
         None => rust.write("circuit.rs", &circuit(&rust.text("circuit.rs"))),

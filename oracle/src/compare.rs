@@ -8,8 +8,14 @@ use lekchnam_traces::{Answer, Event};
 /// In a trace file the calls begin in this line.
 const FIRST_LINE: usize = 3;
 
-/// Compares every call of one seed's trace: the answer, its cause, every output word, status, next due, and the whole private state.
-pub fn compare<Runs: Machine>(seed: u64, calls: usize, make: impl Fn(Places) -> Runs, counts: &mut Counts) -> Result<(), String> {
+/// Compares every call of one seed's trace: the answer, its cause, every output word, status, next
+/// due, and the whole private state.
+pub fn compare<Runs: Machine>(
+    seed: u64,
+    calls: usize,
+    make: impl Fn(Places) -> Runs,
+    counts: &mut Counts,
+) -> Result<(), String> {
     let run = Run::new(seed, calls);
     let mut machine = make(run.places);
     for (index, event) in run.enumerate() {
@@ -28,6 +34,8 @@ pub fn compare<Runs: Machine>(seed: u64, calls: usize, make: impl Fn(Places) -> 
 fn difference(event: &Event, came: &Answer, machine: &impl Machine) -> Option<String> {
     event.answer.difference(came).or_else(|| match (&event.after, machine.state()) {
         (Some(expected), Some(came)) => expected.difference(&came),
-        (expected, came) => (expected.is_some() != came.is_some()).then(|| "one has a relay, the other none".to_owned()),
+        (expected, came) => {
+            (expected.is_some() != came.is_some()).then(|| "one has a relay, the other none".to_owned())
+        }
     })
 }

@@ -1,4 +1,5 @@
-//! Seed -> a run of calls, each chosen by looking at the oracle's state so that about half are taken and every check bites.
+//! Seed -> a run of calls, each chosen by looking at the oracle's state so that about half are taken and every check
+//! bites.
 
 mod details;
 mod messages;
@@ -71,8 +72,13 @@ impl Generator {
     pub fn new(seed: u64) -> Self {
         let mut rng = Rng::new(seed);
         let config = start::config(&mut rng);
-        let mut peers =
-            vec![b"a".to_vec(), b"a\0".to_vec(), vec![0], rng.bytes::<MAXIMUM_PEER>().to_vec(), rng.bytes::<33>().to_vec()];
+        let mut peers = vec![
+            b"a".to_vec(),
+            b"a\0".to_vec(),
+            vec![0],
+            rng.bytes::<MAXIMUM_PEER>().to_vec(),
+            rng.bytes::<33>().to_vec(),
+        ];
         peers.truncate(rng.range(3, 5) as usize);
         let mut ids: Vec<[u8; 8]> = [1, 1 << 8, 1 << 56, 1 << 63 | 2, u64::MAX].map(u64::to_be_bytes).to_vec();
         ids.extend([rng.bytes(), rng.bytes()]);
@@ -216,7 +222,9 @@ impl Generator {
             1 => self.open(state),
             _ => self.close(state),
         };
-        let Call::Handle { source, opcode, context, body, .. } = &mut call else { unreachable!("all three are packets") };
+        let Call::Handle { source, opcode, context, body, .. } = &mut call else {
+            unreachable!("all three are packets")
+        };
         // 72 more: a seed gives the bytes that it has always given
         let peer = vec![b'q'; *self.rng.pick(&[0, MAXIMUM_PEER + 1, MAXIMUM_PEER + 72])];
         match self.rng.below(7) {
@@ -284,8 +292,8 @@ impl Generator {
         {
             return Some(('d', Call::Acknowledge { generation: a.generation, sequence: a.sequence, delivered: false }));
         }
-        let full =
-            state.actions.len() + 2 >= self.config.maximum_inflight_actions || self.peers.iter().any(|peer| toward(peer) >= most);
+        let full = state.actions.len() + 2 >= self.config.maximum_inflight_actions
+            || self.peers.iter().any(|peer| toward(peer) >= most);
         if full && self.acks > 5 && self.rng.chance(25) {
             return Some(('d', self.acknowledge(state)));
         }
@@ -300,10 +308,14 @@ impl Generator {
             Step::Window => self.window_call(state),
             Step::Close => self.close(state),
             Step::Acknowledge => self.acknowledge(state),
-            Step::Disconnect => Call::Disconnect { peer: if self.rng.chance(90) { self.peer() } else { b"nobody".to_vec() } },
+            Step::Disconnect => {
+                Call::Disconnect { peer: if self.rng.chance(90) { self.peer() } else { b"nobody".to_vec() } }
+            }
             Step::Revoke => {
                 let known = self.rng.chance(90);
-                Call::Revoke { reservation: if known { self.rng.pick(&self.reservations).id } else { self.rng.bytes() } }
+                Call::Revoke {
+                    reservation: if known { self.rng.pick(&self.reservations).id } else { self.rng.bytes() },
+                }
             }
             Step::Expire => Call::Expire { now: self.tick(state) },
             Step::Observe => Call::Observe { now: self.tick(state) },
@@ -316,7 +328,8 @@ impl Generator {
     }
 
     fn step(&mut self, state: &State) -> Step {
-        let room = state.pending.len() < self.config.maximum_pending && state.circuits.len() < self.config.maximum_circuits;
+        let room =
+            state.pending.len() < self.config.maximum_pending && state.circuits.len() < self.config.maximum_circuits;
         let table = [
             (if room { 22 } else { 4 }, Step::Open),
             (if state.pending.is_empty() { 1 } else { 18 }, Step::Accept),

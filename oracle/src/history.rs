@@ -1,5 +1,5 @@
-//! Document 01, "Reckoned from history", and its sentence on the counters, held against the Rust's state after each call. This is a
-//! check of the document, not part of the oracle.
+//! Document 01, "Reckoned from history", and its sentence on the counters, held against the Rust's state after each
+//! call. This is a check of the document, not part of the oracle.
 
 use lekchnam_host::{HnsrOpcode, HnsrRuntimeError};
 use lekchnam_traces::event::Change;
@@ -101,7 +101,9 @@ impl History {
             }
             let of = |kind| after.actions.iter().filter(move |a| a.circuit_id == c.id && a.kind == kind);
             let queued = |kind| of(kind).map(|a| a.bytes).sum::<usize>();
-            if (queued(Kind::DataToRequester), queued(Kind::DataToEndpoint)) != (c.queued_to_requester, c.queued_to_endpoint) {
+            if (queued(Kind::DataToRequester), queued(Kind::DataToEndpoint))
+                != (c.queued_to_requester, c.queued_to_endpoint)
+            {
                 wrong.push("queued is not the outstanding DATA");
             }
         }

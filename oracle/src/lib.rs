@@ -11,7 +11,8 @@ use hns_hnsr_protocol as protocol;
 use lekchnam_traces::words::Route;
 use lekchnam_traces::{After, Config, Grant, State};
 use protocol::{
-    ConfirmedReservation, HnsrActionId, HnsrOpcode, HnsrPacket, HnsrPeerId, OpaqueRelayRuntime, QueuedHnsrRoute, RelayService,
+    ConfirmedReservation, HnsrActionId, HnsrOpcode, HnsrPacket, HnsrPeerId, OpaqueRelayRuntime, QueuedHnsrRoute,
+    RelayService,
 };
 pub use refusal::Refusal;
 

@@ -14,7 +14,9 @@ pub struct Refusal {
 
 fn cause(error: HnsrProtocolError) -> Cause {
     match error {
-        HnsrProtocolError::Decode(DecodeError::UnexpectedEnd { offset, needed }) => Cause::End { offset, missing: needed },
+        HnsrProtocolError::Decode(DecodeError::UnexpectedEnd { offset, needed }) => {
+            Cause::End { offset, missing: needed }
+        }
         HnsrProtocolError::Decode(DecodeError::TrailingBytes { remaining }) => Cause::Trailing { count: remaining },
         HnsrProtocolError::Invalid(REFUSED | NOT_ACTIVE) => Cause::Admission,
         HnsrProtocolError::Invalid(text) => Cause::Invalid(text.to_owned()),

@@ -19,17 +19,21 @@ impl Rust {
         let relay = self.relay.as_mut().expect("a taken new first");
         match call {
             Call::New { .. } => unreachable!("it is above"),
-            Call::Handle { source, opcode, context, body, now, key_valid, admission, random } => relay.handle(&Packet {
-                source,
-                opcode: if class == 'o' { 0 } else { *opcode },
-                context: *context,
-                body,
-                now: *now,
-                key_valid: *key_valid,
-                admission: admission.clone(),
-                random,
-            }),
-            Call::Acknowledge { generation, sequence, delivered } => relay.acknowledge(*generation, *sequence, *delivered),
+            Call::Handle { source, opcode, context, body, now, key_valid, admission, random } => {
+                relay.handle(&Packet {
+                    source,
+                    opcode: if class == 'o' { 0 } else { *opcode },
+                    context: *context,
+                    body,
+                    now: *now,
+                    key_valid: *key_valid,
+                    admission: admission.clone(),
+                    random,
+                })
+            }
+            Call::Acknowledge { generation, sequence, delivered } => {
+                relay.acknowledge(*generation, *sequence, *delivered)
+            }
             Call::Disconnect { peer } => relay.disconnect(peer),
             Call::Revoke { reservation } => relay.revoke_reservation(*reservation),
             Call::Expire { now } => relay.expire(*now),

@@ -1,5 +1,5 @@
-//! The archive's readers against the Rust's own: answers, causes with their values and words, and every field of an accepted body.
-//! The inputs are those of host/tests/bodies.rs.
+//! The archive's readers against the Rust's own: answers, causes with their values and words, and every field of an
+//! accepted body. The inputs are those of host/tests/bodies.rs.
 use hns_encoding::DecodeError;
 use hns_hnsr_protocol::{self as rust, HnsrOpcode, HnsrPacket, HnsrProtocolError};
 use lekchnam_host::body::{self as archive, Invalid, ProtocolError};
@@ -21,7 +21,9 @@ fn refused(error: HnsrProtocolError) -> (ProtocolError, String) {
         HnsrProtocolError::Decode(DecodeError::UnexpectedEnd { offset, needed }) => {
             ProtocolError::UnexpectedEnd { offset, needed }
         }
-        HnsrProtocolError::Decode(DecodeError::TrailingBytes { remaining }) => ProtocolError::TrailingBytes { remaining },
+        HnsrProtocolError::Decode(DecodeError::TrailingBytes { remaining }) => {
+            ProtocolError::TrailingBytes { remaining }
+        }
         HnsrProtocolError::Invalid(text) => {
             let named = Invalid::ALL.into_iter().find(|invalid| invalid.text() == text);
             ProtocolError::Invalid(named.unwrap_or_else(|| panic!("a text that the archive does not have: {text}")))
@@ -36,7 +38,8 @@ fn with_words(error: ProtocolError) -> (ProtocolError, String) {
     (error, error.to_string())
 }
 
-/// The reading of one of the two. Their names are the same, so this is written once; an OPEN's decoder alone has other parameters.
+/// The reading of one of the two. Their names are the same, so this is written once; an OPEN's
+/// decoder alone has other parameters.
 macro_rules! reading {
     ($side:ident, $input:ident, $open:expr) => {{
         let bytes = &$input.bytes[..];
@@ -56,12 +59,10 @@ macro_rules! reading {
                 .map(|body| [&body.circuit_id[..], &body.accepted_window.to_le_bytes(), &body.endpoint_nonce].concat()),
             Message::Data => $side::DataBody::decode(bytes).map(|body| body.bytes.to_vec()),
             Message::Window => $side::WindowBody::decode(bytes).map(|body| body.credit_delta.to_le_bytes().to_vec()),
-            Message::Close => {
-                $side::CloseBody::decode(bytes).map(|body| [&body.reason.to_le_bytes()[..], body.detail.as_bytes()].concat())
-            }
-            Message::Error => {
-                $side::ErrorBody::decode(bytes).map(|body| [&body.reason.to_le_bytes()[..], body.detail.as_bytes()].concat())
-            }
+            Message::Close => $side::CloseBody::decode(bytes)
+                .map(|body| [&body.reason.to_le_bytes()[..], body.detail.as_bytes()].concat()),
+            Message::Error => $side::ErrorBody::decode(bytes)
+                .map(|body| [&body.reason.to_le_bytes()[..], body.detail.as_bytes()].concat()),
         }
     }};
 }

@@ -47,7 +47,8 @@ impl Machine for Trusting {
 
 #[test]
 fn a_difference_is_told_with_its_seed_and_line() {
-    let seeds = (0..TRACES).map(|seed| compare(seed, CALLS, |places| Trusting(Relay::new(places)), &mut Counts::default()));
+    let seeds =
+        (0..TRACES).map(|seed| compare(seed, CALLS, |places| Trusting(Relay::new(places)), &mut Counts::default()));
     let told: Vec<String> = seeds.filter_map(Result::err).collect();
     assert!(told.len() > TRACES as usize / 2, "{} differences", told.len());
     for difference in told {
@@ -55,7 +56,9 @@ fn a_difference_is_told_with_its_seed_and_line() {
         assert!(lines[0].starts_with("seed ") && lines[0].contains(": expected ") && lines[0].contains(", came "));
         assert!(lines[1].starts_with("  call acknowledge d ") && lines[1].ends_with(" 0"));
         assert!(
-            lines[2].starts_with("  Rust 0 - ") || lines[2].starts_with("  Rust 6 - ") || lines[2].starts_with("  Rust 10 - ")
+            lines[2].starts_with("  Rust 0 - ")
+                || lines[2].starts_with("  Rust 6 - ")
+                || lines[2].starts_with("  Rust 10 - ")
         );
         assert!(lines[3].starts_with("  came 0 - "));
     }

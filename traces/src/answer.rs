@@ -97,7 +97,9 @@ impl Words {
         let (count, hash) = (fields.number("N")?, fields.hex("HASH")?);
         let listed = match fields.left() {
             0 if count > LISTED => None,
-            left if left == count => Some((0..count).map(|_| Ok(fields.hex("WORDS")? as u32)).collect::<Result<_, String>>()?),
+            left if left == count => {
+                Some((0..count).map(|_| Ok(fields.hex("WORDS")? as u32)).collect::<Result<_, String>>()?)
+            }
             left => return Err(format!("{left} words are listed, and N is {count}")),
         };
         Ok(Self { count, hash, listed })

@@ -1,7 +1,7 @@
 //! The library beyond document 01's domain: headers, tables, numbers of places, output words and names that no run has.
 //!
-//! Each call is made on what the one before it left, or on a new world by chance. Whatever it is lent, the library must do what the second
-//! reading of document 01 does, and what `checks` says in words.
+//! Each call is made on what the one before it left, or on a new world by chance. Whatever it is lent, the library
+//! must do what the second reading of document 01 does, and what `checks` says in words.
 
 mod calls;
 mod checks;
@@ -111,7 +111,10 @@ pub fn beyond(seed: u64, calls: u64) -> Result<Answers, String> {
         let left = case.made();
         checks::all(&case, &left, &mut rng).map_err(|wrong| {
             let (call, room) = (case.call.text('d'), case.out.len());
-            format!("call {index} of seed {seed}: {wrong}\n{call}\n{room} output words lent\n{:#?}\nleft\n{left:#?}", case.world)
+            format!(
+                "call {index} of seed {seed}: {wrong}\n{call}\n{room} output words lent\n{:#?}\nleft\n{left:#?}",
+                case.world
+            )
         })?;
         answers.add(&case, &left);
         world = left.world;

@@ -52,8 +52,8 @@ pub enum Call {
     Poke { sequence: u64 },
 }
 
-/// `d` in document 01's domain; `e` refused at entry by `HnsrPeerId::new` or `HnsrPacket::new`; `g` grant not after now; `o` opcode 21 up,
-/// answered as opcode 0 (document 01, not the Rust); `p` poke.
+/// `d` in document 01's domain; `e` refused at entry by `HnsrPeerId::new` or `HnsrPacket::new`; `g` grant not after
+/// now; `o` opcode 21 up, answered as opcode 0 (document 01, not the Rust); `p` poke.
 pub type Class = char;
 
 pub const CLASSES: [Class; 5] = ['d', 'e', 'g', 'o', 'p'];
@@ -97,13 +97,15 @@ impl Call {
         }
     }
 
-    /// The output words that it needs where there are so many pending records and circuits. Document 01: "`handle` needs 4,136 words,
-    /// acknowledge 96, the revoking calls 96 for each pending record and circuit".
+    /// The output words that it needs where there are so many pending records and circuits. Document 01: "`handle`
+    /// needs 4,136 words, acknowledge 96, the revoking calls 96 for each pending record and circuit".
     pub fn words_needed(&self, records: usize) -> usize {
         match self {
             Self::Handle { .. } => HANDLE_WORDS,
             Self::Acknowledge { .. } => CLOSING_WORDS,
-            Self::Disconnect { .. } | Self::Revoke { .. } | Self::Expire { .. } | Self::Replace { .. } => CLOSING_WORDS * records,
+            Self::Disconnect { .. } | Self::Revoke { .. } | Self::Expire { .. } | Self::Replace { .. } => {
+                CLOSING_WORDS * records
+            }
             Self::New { .. } | Self::Observe { .. } | Self::Poke { .. } => 0,
         }
     }

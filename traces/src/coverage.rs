@@ -37,7 +37,11 @@ impl Display for Item {
             Self::Cause(label, cause) => write!(f, "{label} answers 1 by {cause}"),
             Self::Written(kind) => write!(f, "{kind:?} is written"),
             Self::Acknowledged(kind, delivered, number) => {
-                write!(f, "{kind:?} is acknowledged, {}delivered, and answers {number}", if *delivered { "" } else { "not " })
+                write!(
+                    f,
+                    "{kind:?} is acknowledged, {}delivered, and answers {number}",
+                    if *delivered { "" } else { "not " }
+                )
             }
             Self::Clock(label, number) => write!(f, "{label} answers {number} with the clock moved"),
             Self::Kept(label, number) => write!(f, "{label} answers {number} with more than the clock changed"),

@@ -56,7 +56,8 @@ impl<'event> Change<'event> {
 
     /// The actions of the routes that were written.
     pub fn written(&self) -> Vec<&'event Action> {
-        let old = |a: &Action| self.before.actions.iter().any(|b| (a.generation, a.sequence) == (b.generation, b.sequence));
+        let old =
+            |a: &Action| self.before.actions.iter().any(|b| (a.generation, a.sequence) == (b.generation, b.sequence));
         self.after.actions.iter().filter(|action| !old(action)).collect()
     }
 

@@ -1,4 +1,5 @@
-//! Traces: calls of the relay with what they answered, as lines of text, and the proved library held to them. README.md has the format.
+//! Traces: calls of the relay with what they answered, as lines of text, and the proved library held to
+//! them. README.md has the format.
 
 pub mod answer;
 pub mod beyond;

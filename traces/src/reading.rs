@@ -1,6 +1,7 @@
 //! A second reading of document 01: the relay over tables as found, written for the tests to compare the library with.
 //!
-//! It is short and slow, and takes of the library only the checks of bodies, packets and limits, which are compared by themselves.
+//! It is short and slow, and takes of the library only the checks of bodies, packets and limits,
+//! which are compared by themselves.
 
 mod circuits;
 mod machine;
@@ -31,8 +32,8 @@ pub struct World {
     pub tables: Tables,
 }
 
-/// Of a name every byte counts and the length as it stands, since a stored name is copied whole: records alone are equal where their
-/// names read the same.
+/// Of a name every byte counts and the length as it stands, since a stored name is copied whole: records alone are
+/// equal where their names read the same.
 impl PartialEq for World {
     fn eq(&self, other: &Self) -> bool {
         let same_names = names(&self.tables).eq(names(&other.tables));
@@ -83,7 +84,9 @@ impl World {
                 admission: admission.as_ref(),
                 random,
             }),
-            Call::Acknowledge { generation, sequence, delivered } => self.acknowledge(*generation, *sequence, *delivered),
+            Call::Acknowledge { generation, sequence, delivered } => {
+                self.acknowledge(*generation, *sequence, *delivered)
+            }
             Call::Disconnect { peer } => self.disconnect(peer),
             Call::Revoke { reservation } => Ok(self.revoke_reservation((*reservation).into())),
             Call::Expire { now } => self.expire(*now),
@@ -92,8 +95,9 @@ impl World {
         }
     }
 
-    /// "new: 3 session zero or generation 0; 2 what `OpaqueRelayConfig::validate` refuses; 22 Short: a table has fewer places than its
-    /// maximum, or the ledger none". "`new` marks every place unused": by its numbers, and no table is touched.
+    /// "new: 3 session zero or generation 0; 2 what `OpaqueRelayConfig::validate` refuses; 22 Short: a table
+    /// has fewer places than its maximum, or the ledger none". "`new` marks every place unused": by its
+    /// numbers, and no table is touched.
     fn start(&mut self, session: [u8; 16], generation: u64, config: Config, now: u64) -> Outcome {
         refuse(session == [0; 16] || generation == 0, Refused::InvalidSession)?;
         config.validate()?;
@@ -128,7 +132,8 @@ impl World {
         Ok(())
     }
 
-    /// "4 peer length; 1 packet that `HnsrPacket::validate` refuses"; the clock; "9 disabled; 16 another opcode, 21 up included".
+    /// "4 peer length; 1 packet that `HnsrPacket::validate` refuses"; the clock; "9 disabled; 16
+    /// another opcode, 21 up included".
     fn handle(&mut self, packet: &Packet<'_>) -> Outcome {
         named(packet.source)?;
         validate_packet(packet.opcode, packet.context.to_be_bytes(), packet.body.len())?;

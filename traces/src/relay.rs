@@ -5,7 +5,9 @@ use crate::file::Places;
 use crate::replay::Machine;
 use crate::state::State;
 use lekchnam_host::lent::{self, Packet, RelayPacket, Runtime, Tables};
-use lekchnam_host::{Admission, HnsrActionId, HnsrPacket, HnsrPeerId, HnsrRuntimeError, OpaqueRelayRuntime, RandomSource};
+use lekchnam_host::{
+    Admission, HnsrActionId, HnsrPacket, HnsrPeerId, HnsrRuntimeError, OpaqueRelayRuntime, RandomSource,
+};
 use std::cell::RefCell;
 use std::rc::Rc;
 
@@ -67,8 +69,12 @@ impl Relay {
         };
         self.draws.0.replace(random.clone());
         let Ok(peer) = HnsrPeerId::new(&source[..]) else {
-            let head =
-                RelayPacket { opcode: *opcode, context_id: u64::from_be_bytes(*context), now: *now, ..RelayPacket::default() };
+            let head = RelayPacket {
+                opcode: *opcode,
+                context_id: u64::from_be_bytes(*context),
+                now: *now,
+                ..RelayPacket::default()
+            };
             let packet = Packet { head, source, body, ..Packet::default() };
             return self.by_parts(|tables, out, runtime| lent::handle(tables, out, runtime, &packet));
         };
@@ -82,7 +88,8 @@ impl Relay {
         Ok(self.words())
     }
 
-    /// Does what the relay's own calls do not let through: a name that is none goes to the library all the same, and a number is set.
+    /// Does what the relay's own calls do not let through: a name that is none goes to the library all
+    /// the same, and a number is set.
     fn by_parts(
         &mut self,
         call: impl FnOnce(&mut Tables, &mut [u32], &mut Runtime) -> Result<usize, HnsrRuntimeError>,

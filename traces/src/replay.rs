@@ -47,8 +47,8 @@ enum Ended {
     Unreadable(String),
 }
 
-/// Replays files, `-` being the standard input, and says how many calls agree. Ends with 1 at the first difference and with 2 where a file
-/// cannot be read, and names the place.
+/// Replays files, `-` being the standard input, and says how many calls agree. Ends with 1 at the first difference
+/// and with 2 where a file cannot be read, and names the place.
 pub fn replay_files<Runs: Machine>(files: &[String], who: &str, make: impl Fn(Places) -> Runs) -> ExitCode {
     let (mut traces, mut calls) = (0, 0);
     for path in files {
@@ -71,7 +71,8 @@ pub fn replay_files<Runs: Machine>(files: &[String], who: &str, make: impl Fn(Pl
 /// How many traces and calls of a file agree.
 fn replay_file<Runs: Machine>(path: &str, make: &impl Fn(Places) -> Runs) -> Result<(usize, usize), Ended> {
     let text = text(path).map_err(|error| Ended::Unreadable(format!("{path}: {error}")))?;
-    let traces = file::read(&text).map_err(|fault| Ended::Unreadable(format!("{path}:{}: {}", fault.line, fault.reason)))?;
+    let traces =
+        file::read(&text).map_err(|fault| Ended::Unreadable(format!("{path}:{}: {}", fault.line, fault.reason)))?;
     let mut calls = 0;
     for trace in &traces {
         let replayed = replay(trace, &mut make(trace.places));

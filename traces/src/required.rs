@@ -1,4 +1,5 @@
-//! What the fixed list must show. 19 and 21 are answers of other parts of the Rust, 22 and 23 of no part of it, so no trace has them.
+//! What the fixed list must show. 19 and 21 are answers of other parts of the Rust, 22 and 23 of no
+//! part of it, so no trace has them.
 use crate::call::CLASSES;
 use crate::coverage::{Edge, Ended, Item};
 use crate::state::Kind;
@@ -62,7 +63,8 @@ const CAUSES: [(&str, &[&str]); 7] = [
     ("opcode other", &[CONTEXT_ZERO]),
 ];
 
-const KINDS: [Kind; 6] = [Kind::Incoming, Kind::Opened, Kind::DataToRequester, Kind::DataToEndpoint, Kind::Control, Kind::Close];
+const KINDS: [Kind; 6] =
+    [Kind::Incoming, Kind::Opened, Kind::DataToRequester, Kind::DataToEndpoint, Kind::Control, Kind::Close];
 
 const REVOKING: [&str; 4] = ["disconnect", "revoke_reservation", "expire", "replace_enabled"];
 
@@ -91,16 +93,22 @@ pub fn required() -> Vec<Item> {
     items.extend(numbered(&ANSWERS, Item::Answer));
     items.extend(numbered(&CLOCK, Item::Clock));
     items.extend(numbered(&KEPT, Item::Kept));
-    items.extend(CAUSES.iter().flat_map(|(label, causes)| causes.iter().map(|cause| Item::Cause(label, cause.to_string()))));
     items.extend(
-        KINDS
-            .into_iter()
-            .flat_map(|kind| [Item::Written(kind), Item::Acknowledged(kind, true, 0), Item::Acknowledged(kind, false, 0)]),
+        CAUSES.iter().flat_map(|(label, causes)| causes.iter().map(|cause| Item::Cause(label, cause.to_string()))),
+    );
+    items.extend(
+        KINDS.into_iter().flat_map(|kind| {
+            [Item::Written(kind), Item::Acknowledged(kind, true, 0), Item::Acknowledged(kind, false, 0)]
+        }),
     );
     items.extend([6, 10].map(|number| Item::Acknowledged(Kind::Incoming, false, number)));
-    items.extend(["CLOSE", "ERROR", "acknowledge"].into_iter().flat_map(|label| ended(label, &[Ended::Pending, Ended::Circuit])));
     items.extend(
-        REVOKING.into_iter().flat_map(|label| ended(label, &[Ended::Pending, Ended::Circuit, Ended::Several, Ended::Both])),
+        ["CLOSE", "ERROR", "acknowledge"].into_iter().flat_map(|label| ended(label, &[Ended::Pending, Ended::Circuit])),
+    );
+    items.extend(
+        REVOKING
+            .into_iter()
+            .flat_map(|label| ended(label, &[Ended::Pending, Ended::Circuit, Ended::Several, Ended::Both])),
     );
     items.extend(REVOKING.into_iter().chain(["acknowledge"]).map(Item::Skipped));
     items.extend(EDGES.map(Item::Edge));

@@ -119,7 +119,8 @@ impl State {
 impl Pending {
     fn line(&self) -> String {
         let ids = [&self.id[..], &self.requester, &self.endpoint, &self.requester_context, &self.reservation_id];
-        let ticket = [self.expires_at, self.max_active_circuits.into(), self.max_bytes_per_circuit, self.max_total_bytes];
+        let ticket =
+            [self.expires_at, self.max_active_circuits.into(), self.max_bytes_per_circuit, self.max_total_bytes];
         let (ids, ticket) = (ids.map(hex).join(" "), ticket.map(|term| term.to_string()).join(" "));
         format!("#pending {ids} {ticket} {} {}", self.initial_window, self.deadline)
     }
@@ -143,7 +144,10 @@ impl Usage {
 impl Action {
     fn line(&self) -> String {
         let (circuit, destination) = (hex(&self.circuit_id), hex(&self.destination));
-        format!("#action {} {} {circuit} {destination} {} {}", self.generation, self.sequence, self.kind as u8, self.bytes)
+        format!(
+            "#action {} {} {circuit} {destination} {} {}",
+            self.generation, self.sequence, self.kind as u8, self.bytes
+        )
     }
 }
 
@@ -164,7 +168,8 @@ const FORMS: [(&str, &str); 5] = [
     ("#action ", "nnbbnn"),
 ];
 
-/// Whether a line is the first of a state, if it is of a state at all. What begins as such a line and is none is refused.
+/// Whether a line is the first of a state, if it is of a state at all. What begins as such a line and is none is
+/// refused.
 pub fn line_of_state(line: &str) -> Result<Option<bool>, String> {
     let Some((head, form)) = FORMS.iter().find(|(head, _)| line.starts_with(head)) else { return Ok(None) };
     let mut fields = Fields::of(&line[head.len()..]);

@@ -13,7 +13,8 @@ const LEAST_TRACES: usize = 200;
 /// The traces by the name of their file.
 fn traces() -> Vec<(String, Trace)> {
     let folder = PathBuf::from(env!("CARGO_MANIFEST_DIR")).join("fixed");
-    let mut files: Vec<PathBuf> = folder.read_dir().expect("the list is there").map(|entry| entry.unwrap().path()).collect();
+    let mut files: Vec<PathBuf> =
+        folder.read_dir().expect("the list is there").map(|entry| entry.unwrap().path()).collect();
     files.sort();
     let traces = files.iter().flat_map(|path| {
         let text = std::fs::read_to_string(path).unwrap();

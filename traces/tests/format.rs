@@ -33,7 +33,16 @@ fn grant() -> Grant {
 }
 
 fn packet(body: Vec<u8>, admission: Option<Grant>) -> Call {
-    Call::Handle { source: vec![0], opcode: 255, context: ID, body, now: 0, key_valid: true, admission, random: ID.to_vec() }
+    Call::Handle {
+        source: vec![0],
+        opcode: 255,
+        context: ID,
+        body,
+        now: 0,
+        key_valid: true,
+        admission,
+        random: ID.to_vec(),
+    }
 }
 
 fn calls() -> Vec<Call> {
@@ -167,5 +176,8 @@ fn what_is_no_trace_is_refused() {
     assert_eq!(fault(&changed(2, "places 2 3 9 1", "#")).reason, "a call before `places`");
     assert_eq!(fault(&changed(3, "new d", "# new d")).reason, "a call before a `new` that is taken");
     assert_eq!(fault(&changed(6, "#state next_sequence 4", "#")).line, 7);
-    assert_eq!(fault(&changed(7, "#ledger", "#state next_sequence 4\n#ledger")).reason, "a second state behind one call");
+    assert_eq!(
+        fault(&changed(7, "#ledger", "#state next_sequence 4\n#ledger")).reason,
+        "a second state behind one call"
+    );
 }

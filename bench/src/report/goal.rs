@@ -18,9 +18,9 @@ const RATIOS: [(Call, [f64; Level::RISING.len()]); 7] = [
 const REFUSED: [Refusal; 3] = [Refusal::Circuit, Refusal::Body, Refusal::Request];
 const REFUSED_UNDER: f64 = 500.0;
 
-/// What was reached of what was asked; marked where it was missed.
+/// What was reached of what was asked; bold where it was missed.
 fn cell(reached: String, asked: &str, holds: bool) -> String {
-    if holds { format!("{reached} ({asked})") } else { format!("**{reached} ({asked}) missed**") }
+    if holds { format!("{reached} ({asked})") } else { format!("**{reached} ({asked})**") }
 }
 
 /// Ratios by levels, and refused packets by outstanding actions.
@@ -45,7 +45,7 @@ pub fn goal(by_use: &[Figure], by_outstanding: &[Outstanding]) -> String {
     let title = texts(&["library, ns (under), by actions outstanding"]);
     let refused = table(&[title, outstanding_titles(by_outstanding)].concat(), &REFUSED.map(by_actions));
     let tables = format!("{ratios}\n{refused}");
-    let missed = tables.matches("missed**").count();
+    let missed = tables.matches(")**").count();
     let all = by_use.len().min(levels.len()) * RATIOS.len() + by_outstanding.len() * REFUSED.len();
     format!("{missed} of {all} are missed.\n\n{tables}")
 }
@@ -60,7 +60,7 @@ mod tests {
     #[test]
     fn what_is_missed_is_marked_and_counted() {
         assert_eq!(cell("0.55".to_owned(), "0.6", true), "0.55 (0.6)");
-        assert_eq!(cell("0.61".to_owned(), "0.6", false), "**0.61 (0.6) missed**");
+        assert_eq!(cell("0.61".to_owned(), "0.6", false), "**0.61 (0.6)**");
         let costs = |library| vec![Cost { library, rust: 100.0 }; Call::ALL.len()];
         let by_use = |library| Level::RISING.map(|level| (level, costs(library)));
         assert!(goal(&by_use(60.0), &[(256, costs(499.0))]).starts_with("0 of 38 are missed."));

@@ -8,7 +8,8 @@ pub type Endings = (End, Level, usize, [Ended; 2]);
 
 /// Nanoseconds for each record that ends.
 pub fn endings(list: &[Endings]) -> String {
-    let titles = ["call", "in use", "records that end", "library, ns for each", "the Rust, ns for each", "library / Rust"];
+    let titles =
+        ["call", "in use", "records that end", "library, ns for each", "the Rust, ns for each", "library / Rust"];
     let row = |(end, level, records, [library, rust]): &Endings| {
         let each = [library, rust].map(|ended| grouped(ended.time / *records as f64));
         let numbers = [&[grouped(*records as f64)][..], &each, &[short(library.time / rust.time)]].concat();

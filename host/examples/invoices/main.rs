@@ -1,7 +1,8 @@
-//! Invoices over the relay, in one process: a box at the supplier, the merchant's purchasing system, and the relay between them.
+//! Invoices over the relay, in one process: a box at the supplier, the merchant's purchasing
+//! system, and the relay between them.
 //!
-//! After each step the relay's status is held to a reckoning made from the history of the calls alone. The first count that
-//! differs, or the first invoice that arrives changed, ends this with exit code 1.
+//! After each step the relay's status is held to a reckoning made from the history of the calls alone. The first
+//! count that differs, or the first invoice that arrives changed, ends this with exit code 1.
 mod bodies;
 mod office;
 mod reckoning;
@@ -44,7 +45,8 @@ fn late_acknowledgements(office: &mut Office) -> Result<()> {
     let late = office.deliver()?;
     office.check()?;
 
-    office.step("Two acknowledgements come, the last one first. The third is lost: that invoice still counts as queued.");
+    office
+        .step("Two acknowledgements come, the last one first. The third is lost: that invoice still counts as queued.");
     for letter in late.into_iter().skip(1).rev() {
         office.acknowledge(letter, true)?;
     }
@@ -88,7 +90,8 @@ fn a_broken_connection(office: &mut Office) -> Result<()> {
 }
 
 fn time_runs_out(office: &mut Office) -> Result<()> {
-    office.step("A circuit, and an OPEN that nobody accepts: its deadline comes first, then the end of the reservation.");
+    office
+        .step("A circuit, and an OPEN that nobody accepts: its deadline comes first, then the end of the reservation.");
     office.circuit()?;
     office.ask()?;
     office.settle()?;

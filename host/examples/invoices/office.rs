@@ -3,8 +3,8 @@ use crate::bodies;
 use crate::reckoning::{Id, Reckoning, Work};
 use lekchnam_host::body::CloseBody;
 use lekchnam_host::{
-    Admission, Grant, HnsrActionId, HnsrOpcode, HnsrPacket, HnsrPeerId, HnsrRuntimeError, HnsrRuntimeStatus, OpaqueRelayConfig,
-    OpaqueRelayRuntime, QueuedHnsrRoute, Routes,
+    Admission, Grant, HnsrActionId, HnsrOpcode, HnsrPacket, HnsrPeerId, HnsrRuntimeError, HnsrRuntimeStatus,
+    OpaqueRelayConfig, OpaqueRelayRuntime, QueuedHnsrRoute, Routes,
 };
 use std::collections::VecDeque;
 use std::error::Error;
@@ -115,7 +115,9 @@ impl Office {
         let incoming = self.relay.handle(&Admission::Granted(grant), &supplier, &packet, self.now)?;
         let circuit = incoming.iter().next().ok_or("no INCOMING")?.route.packet.context_id;
         let due = expires_at.min(self.now + ACCEPT_WITHIN);
-        self.record(|reckoning, routes| reckoning.asked(request, Work { sides: [supplier, merchant], due, expires_at }, routes));
+        self.record(|reckoning, routes| {
+            reckoning.asked(request, Work { sides: [supplier, merchant], due, expires_at }, routes)
+        });
         Ok(circuit)
     }
 
@@ -169,7 +171,8 @@ impl Office {
         Ok(letters)
     }
 
-    /// All letters arrive, and are acknowledged at once; what goes to a broken connection is lost. Until no letter is left.
+    /// All letters arrive, and are acknowledged at once; what goes to a broken connection is
+    /// lost. Until no letter is left.
     pub fn settle(&mut self) -> Result<()> {
         while !self.bag.is_empty() {
             for letter in self.deliver()? {

@@ -1,5 +1,5 @@
-//! What the relay's counts must be, reckoned from the calls that were taken and the routes that they handed out. Nothing here
-//! looks into the relay.
+//! What the relay's counts must be, reckoned from the calls that were taken and the routes that they handed out.
+//! Nothing here looks into the relay.
 use lekchnam_host::{HnsrActionId, HnsrOpcode, HnsrPeerId, HnsrRuntimeStatus, Routes};
 use std::collections::BTreeMap;
 
@@ -116,7 +116,8 @@ impl Reckoning {
             let packet = queued.route.packet;
             let about = *self.requests.get(&packet.context_id).unwrap_or(&packet.context_id);
             let data = if packet.opcode == HnsrOpcode::Data { packet.body.len() } else { 0 };
-            self.outstanding.insert(queued.action_id.sequence, Outstanding { about, to: queued.route.destination, data });
+            self.outstanding
+                .insert(queued.action_id.sequence, Outstanding { about, to: queued.route.destination, data });
         }
     }
 

@@ -89,8 +89,8 @@ pub enum ProtocolError {
         /// The most it may be.
         maximum: usize,
     },
-    /// The OPEN was not admitted. No reader answers this: it is the relay's, and in hns-hnsr-protocol has the words of the service that
-    /// admits.
+    /// The OPEN was not admitted. No reader answers this: it is the relay's, and in hns-hnsr-protocol has the
+    /// words of the service that admits.
     Admission,
 }
 

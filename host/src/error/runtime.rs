@@ -4,8 +4,8 @@ use crate::ffi::Cause;
 use std::error::Error;
 use std::fmt::{self, Display, Formatter};
 
-/// Why a call is refused. The relay is unchanged by a refusal but where document 01 says otherwise: the clock may have moved, for
-/// one.
+/// Why a call is refused. The relay is unchanged by a refusal but where document 01 says otherwise: the
+/// clock may have moved, for one.
 #[derive(Clone, Copy, Debug, Eq, Hash, PartialEq)]
 pub enum HnsrRuntimeError {
     /// 1: a packet or its body is wrong, or the OPEN is not admitted.
@@ -22,7 +22,8 @@ pub enum HnsrRuntimeError {
     GenerationExhausted,
     /// 7: the time is behind the latest one that was seen.
     ClockRollback,
-    /// 8: no id could be drawn, or the random source had no bytes ([`OsRandom::failure`](crate::OsRandom::failure) tells which).
+    /// 8: no id could be drawn, or the random source had no bytes
+    /// ([`OsRandom::failure`](crate::OsRandom::failure) tells which).
     Randomness,
     /// 9: the relay is switched off.
     Disabled,

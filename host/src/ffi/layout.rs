@@ -1,10 +1,11 @@
-//! Every struct that passes the C interface: its size, its alignment and where each field starts, as C has them on x86-64.
+//! Every struct that passes the C interface: its size, its alignment and where each field
+//! starts, as C has them on x86-64.
 use super::body::{AcceptBody, Answer, IncomingBody, OpenBody, OpenedBody, ReasonDetail, WindowBody};
 use super::relay::{DueReply, RelayReply, StatusReply};
 use super::Cause;
 use crate::lent::{
-    InflightAction, Places, RelayCircuit, RelayPacket, RelayPending, RelayTicket, ReservationId, ReservationUsage, Runtime,
-    RuntimeCounters, StoredPeer,
+    InflightAction, Places, RelayCircuit, RelayPacket, RelayPending, RelayTicket, ReservationId, ReservationUsage,
+    Runtime, RuntimeCounters, StoredPeer,
 };
 use crate::{HnsrRuntimeStatus, OpaqueRelayConfig};
 use std::mem::{align_of, offset_of, size_of};

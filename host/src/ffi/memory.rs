@@ -11,8 +11,8 @@ pub unsafe trait Zeroed: Copy {}
 
 // SAFETY: a number of four bytes.
 unsafe impl Zeroed for u32 {}
-// SAFETY: the records are made of numbers, of arrays of bytes, and of `bool`s, of which zero is `false`: no field is an enum, a
-// reference or a pointer. `zero_bytes_are_an_unused_record` holds each to its `Default`.
+// SAFETY: the records are made of numbers, of arrays of bytes, and of `bool`s, of which zero is `false`: no field is
+// an enum, a reference or a pointer. `zero_bytes_are_an_unused_record` holds each to its `Default`.
 unsafe impl Zeroed for RelayPending {}
 // SAFETY: as above.
 unsafe impl Zeroed for RelayCircuit {}
@@ -21,8 +21,8 @@ unsafe impl Zeroed for ReservationUsage {}
 // SAFETY: as above; `kind` is a number, of which every one is allowed.
 unsafe impl Zeroed for InflightAction {}
 
-/// So many values of zero bytes; none where the memory cannot be had. A large block comes from the system as it is, so it takes no
-/// memory before it is written to.
+/// So many values of zero bytes; none where the memory cannot be had. A large block comes from the system as it is,
+/// so it takes no memory before it is written to.
 pub fn zeroed<Value: Zeroed>(count: usize) -> Option<Vec<Value>> {
     const { assert!(size_of::<Value>() > 0) };
     if count == 0 {
@@ -34,8 +34,8 @@ pub fn zeroed<Value: Zeroed>(count: usize) -> Option<Vec<Value>> {
     if first.is_null() {
         return None;
     }
-    // SAFETY: the block is the global allocator's, for just so many values, with their alignment; each is zero bytes, which are a
-    // value; and nobody else has the block.
+    // SAFETY: the block is the global allocator's, for just so many values, with their alignment; each is zero bytes,
+    // which are a value; and nobody else has the block.
     Some(unsafe { Vec::from_raw_parts(first, count, count) })
 }
 

@@ -1,9 +1,10 @@
-//! The relay's calls. The header goes in and comes back by value, and so do the numbers of places in use; a table that a call does not
-//! need is not lent to it.
+//! The relay's calls. The header goes in and comes back by value, and so do the numbers of places in use; a table
+//! that a call does not need is not lent to it.
 use super::Cause;
 use crate::config::OpaqueRelayConfig;
 use crate::lent::{
-    InflightAction, Packet, Places, RelayCircuit, RelayPacket, RelayPending, ReservationId, ReservationUsage, Runtime, Tables,
+    InflightAction, Packet, Places, RelayCircuit, RelayPacket, RelayPending, ReservationId, ReservationUsage, Runtime,
+    Tables,
 };
 use crate::route::HnsrActionId;
 use crate::status::HnsrRuntimeStatus;
@@ -171,17 +172,18 @@ extern "C" {
     ) -> DueReply;
 }
 
-/// Calls a function whose first parameters are slices, each as its pointer and its length: lent to be written, or only read.
+/// Calls a function whose first parameters are slices, each as its pointer and its length: lent to be written, or
+/// only read.
 macro_rules! call {
     ($function:ident, lent $($slice:expr),+; $($rest:expr),+) => {
-        // SAFETY: pointer and length are of one slice that is borrowed for writing, no two slices overlap, and no function keeps
-        // a pointer. The other arguments are numbers, or slices that are only read. Every record, word, byte and number is
-        // allowed: the functions ask nothing of their caller.
+        // SAFETY: pointer and length are of one slice that is borrowed for writing, no two slices overlap, and no
+        // function keeps a pointer. The other arguments are numbers, or slices that are only read. Every record,
+        // word, byte and number is allowed: the functions ask nothing of their caller.
         unsafe { $function($($slice.as_mut_ptr(), $slice.len(),)+ $($rest),+) }
     };
     ($function:ident, read $($slice:expr),+; $($rest:expr),+) => {
-        // SAFETY: pointer and length are of one slice, and the function only reads it, during the call. The other arguments are
-        // numbers, or bytes that are only read. Every record, byte and number is allowed.
+        // SAFETY: pointer and length are of one slice, and the function only reads it, during the call. The other
+        // arguments are numbers, or bytes that are only read. Every record, byte and number is allowed.
         unsafe { $function($($slice.as_ptr(), $slice.len(),)+ $($rest),+) }
     };
 }
@@ -209,10 +211,17 @@ pub fn handle(tables: &mut Tables, out: &mut [u32], runtime: Runtime, packet: &P
         endpoint.as_ptr(), endpoint.len(), random.as_ptr(), random.len())
 }
 
-pub fn acknowledge(tables: &mut Tables, out: &mut [u32], runtime: Runtime, action: HnsrActionId, delivered: bool) -> RelayReply {
+pub fn acknowledge(
+    tables: &mut Tables,
+    out: &mut [u32],
+    runtime: Runtime,
+    action: HnsrActionId,
+    delivered: bool,
+) -> RelayReply {
     let Tables { pending, circuits, inflight, places, .. } = tables;
     let HnsrActionId { generation, sequence } = action;
-    call!(opaque_relay_acknowledge, lent pending, circuits, inflight, out; runtime, *places, generation, sequence, delivered)
+    call!(opaque_relay_acknowledge, lent pending, circuits, inflight, out;
+        runtime, *places, generation, sequence, delivered)
 }
 
 pub fn disconnect(tables: &mut Tables, out: &mut [u32], runtime: Runtime, peer: &[u8]) -> RelayReply {
@@ -230,7 +239,13 @@ pub fn expire(tables: &mut Tables, out: &mut [u32], runtime: Runtime, time: u64)
     call!(opaque_relay_expire, lent pending, circuits, ledger, inflight, out; runtime, *places, time)
 }
 
-pub fn replace_enabled(tables: &mut Tables, out: &mut [u32], runtime: Runtime, generation: u64, enabled: bool) -> RelayReply {
+pub fn replace_enabled(
+    tables: &mut Tables,
+    out: &mut [u32],
+    runtime: Runtime,
+    generation: u64,
+    enabled: bool,
+) -> RelayReply {
     let Tables { pending, circuits, inflight, places, .. } = tables;
     call!(opaque_relay_replace_enabled, lent pending, circuits, inflight, out; runtime, *places, generation, enabled)
 }

@@ -1,14 +1,16 @@
 //! How many places of each table are in use.
 
-/// How many places of each table are in use, counted from its front. A place is used exactly if its record's mark is set and it lies
-/// below its table's number.
+/// How many places of each table are in use, counted from its front. A place is used exactly if its record's mark is
+/// set and it lies below its table's number.
 ///
-/// The numbers belong to the tables, and the calls keep them: a new record takes the lowest unused place, and the number rises where
-/// that place is at the number; [`handle`](super::handle) may lower it past unused places at the top. [`new`](super::new) sets all
-/// four to 0 and touches no table. So a call reads of a table what is in use, and not all its places.
+/// The numbers belong to the tables, and the calls keep them: a new record takes the lowest unused place, and
+/// the number rises where that place is at the number; [`handle`](super::handle) may lower it past unused places
+/// at the top. [`new`](super::new) sets all four to 0 and touches no table. So a call reads of a table what is
+/// in use, and not all its places.
 ///
-/// No number is ever refused. One that is larger than its table means that the marks alone decide. One that is too small means that
-/// the records at and above it are unused: they are not found, not counted and not ended, and later records take their places.
+/// No number is ever refused. One that is larger than its table means that the marks alone decide. One that is too
+/// small means that the records at and above it are unused: they are not found, not counted and not ended, and
+/// later records take their places.
 ///
 /// ```
 /// use lekchnam_host::lent::{Places, Tables};

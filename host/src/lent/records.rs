@@ -1,5 +1,5 @@
-//! The records of the four tables, as the archive has them. An id is a number whose highest byte is the first on the wire. Zero bytes
-//! are an unused record: `ffi::memory` goes by that.
+//! The records of the four tables, as the archive has them. An id is a number whose highest byte is the first on the
+//! wire. Zero bytes are an unused record: `ffi::memory` goes by that.
 use crate::config::OpaqueRelayConfig;
 use crate::limits::MAXIMUM_PEER;
 use std::hash::{Hash, Hasher};
@@ -27,8 +27,8 @@ impl From<ReservationId> for [u8; 16] {
     }
 }
 
-/// A peer's name in a record. What stands behind the name is not read, and two are equal where their names are, as they are to the
-/// relay.
+/// A peer's name in a record. What stands behind the name is not read, and two are equal where their names
+/// are, as they are to the relay.
 ///
 /// ```
 /// use lekchnam_host::lent::StoredPeer;

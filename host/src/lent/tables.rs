@@ -5,11 +5,11 @@ use crate::error::HnsrRuntimeError;
 use crate::ffi::memory::{zeroed, Zeroed};
 use crate::limits::{CLOSING_WORDS, HANDLE_WORDS};
 
-/// The tables that a call is lent, and how many places of each are in use. A call may be lent any records and any numbers, also such
-/// as no relay would leave.
+/// The tables that a call is lent, and how many places of each are in use. A call may be lent any records and any
+/// numbers, also such as no relay would leave.
 ///
-/// A place is used where its mark is set and it lies below its table's number. The places behind the limits of the configuration are
-/// read too. What an unused place holds does not matter.
+/// A place is used where its mark is set and it lies below its table's number. The places behind the limits of the
+/// configuration are read too. What an unused place holds does not matter.
 #[derive(Clone, Debug, Eq, PartialEq)]
 pub struct Tables {
     /// OPENs that wait.
@@ -24,7 +24,8 @@ pub struct Tables {
     pub places: Places,
 }
 
-/// The places of tables that lie below the numbers. Of these a place holds a record where its mark is set; no other place does.
+/// The places of tables that lie below the numbers. Of these a place holds a record where its
+/// mark is set; no other place does.
 #[derive(Clone, Copy, Debug, Eq, PartialEq)]
 pub struct InUse<'a> {
     /// Of the pending records.
@@ -41,13 +42,13 @@ impl Tables {
     /// Unused places: as many as the configuration's limits, and those of the ledger, which has no limit there. 22
     /// ([`Short`](HnsrRuntimeError::Short)) where the memory for them cannot be had.
     ///
-    /// The limits are taken as they are: [`validate`](OpaqueRelayConfig::validate) says whether they are within their bounds. For
-    /// the ledger there is no such bound: a place of it takes 40 bytes, and an OPEN, a DATA and an [`expire`](super::expire) look
-    /// through those in use.
+    /// The limits are taken as they are: [`validate`](OpaqueRelayConfig::validate) says whether they are within their
+    /// bounds. For the ledger there is no such bound: a place of it takes 40 bytes, and an OPEN, a DATA and an
+    /// [`expire`](super::expire) look through those in use.
     ///
-    /// The memory is asked for and not touched: the system hands it out where a record first stands. One that promises more than it
-    /// has may end the process then. The marks alone decide ([`Places::EVERY`]) until [`new`](super::new), or a host that fills in
-    /// stored records, sets the numbers.
+    /// The memory is asked for and not touched: the system hands it out where a record first stands. One that
+    /// promises more than it has may end the process then. The marks alone decide ([`Places::EVERY`]) until
+    /// [`new`](super::new), or a host that fills in stored records, sets the numbers.
     ///
     /// ```
     /// use lekchnam_host::lent::Tables;

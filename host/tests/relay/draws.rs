@@ -89,7 +89,9 @@ impl RandomSource for Failing {
 fn a_failing_source_can_be_told_from_an_unlucky_draw() {
     let broken = Rc::new(Cell::new(true));
     let mut relay = relay_drawing(small(), Failing { broken: broken.clone(), failure: None });
-    for (fails, failure) in [(true, Some(io::ErrorKind::Unsupported)), (false, None), (true, Some(io::ErrorKind::Unsupported))] {
+    for (fails, failure) in
+        [(true, Some(io::ErrorKind::Unsupported)), (false, None), (true, Some(io::ErrorKind::Unsupported))]
+    {
         broken.set(fails);
         assert_eq!(open(&mut relay, b"r", 1, grant(b"e")), Err(HnsrRuntimeError::Randomness));
         assert_eq!(relay.random().failure, failure);

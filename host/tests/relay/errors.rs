@@ -86,12 +86,18 @@ fn names_of_peers() {
 }
 
 /// The answer to a `new` that is refused.
-fn refused_new(session: [u8; 16], generation: u64, config: OpaqueRelayConfig, ledger_places: usize) -> HnsrRuntimeError {
+fn refused_new(
+    session: [u8; 16],
+    generation: u64,
+    config: OpaqueRelayConfig,
+    ledger_places: usize,
+) -> HnsrRuntimeError {
     let random = OsRandom::default();
     OpaqueRelayRuntime::new_with(session, generation, config, START, ledger_places, random).map(|_| ()).unwrap_err()
 }
 
-/// More places than there are addresses: of any record, of the ledger's, and of those just so many that their bytes can be counted.
+/// More places than there are addresses: of any record, of the ledger's, and of those just so many
+/// that their bytes can be counted.
 const NOT_TO_BE_HAD: [usize; 3] =
     [usize::MAX, usize::MAX / size_of::<ReservationUsage>(), isize::MAX as usize / size_of::<ReservationUsage>()];
 

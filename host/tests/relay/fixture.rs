@@ -1,7 +1,7 @@
 //! A relay to try, with ids that count up, and the packets of its parties.
 use lekchnam_host::{
-    Admission, Grant, HnsrOpcode, HnsrPacket, HnsrPeerId, HnsrRuntimeError, OpaqueRelayConfig, OpaqueRelayRuntime, RandomSource,
-    Routes,
+    Admission, Grant, HnsrOpcode, HnsrPacket, HnsrPeerId, HnsrRuntimeError, OpaqueRelayConfig, OpaqueRelayRuntime,
+    RandomSource, Routes,
 };
 
 pub const START: u64 = 100;

@@ -1,7 +1,8 @@
 //! The numbers of places in use: a place is used exactly if its mark is set and it lies below its table's number.
 use crate::fixture::{accept_body, grant, open, peer, relay, restored, say, Counting, Relay, EXPIRY, START};
 use lekchnam_host::lent::{
-    self, InflightAction, Places, RelayCircuit, RelayPending, RelayTicket, ReservationUsage, Runtime, StoredPeer, Tables,
+    self, InflightAction, Places, RelayCircuit, RelayPending, RelayTicket, ReservationUsage, Runtime, StoredPeer,
+    Tables,
 };
 use lekchnam_host::{Grant, HnsrActionId, HnsrOpcode, HnsrRuntimeError, OpaqueRelayConfig};
 use std::fmt::Debug;
@@ -81,7 +82,8 @@ fn littered() -> Tables {
         queued_to_requester: 3,
         queued_to_endpoint: 4,
     };
-    let usage = ReservationUsage { used: true, reservation_id: ticket.reservation_id, bytes: 30_000, expires_at: START + 5 };
+    let usage =
+        ReservationUsage { used: true, reservation_id: ticket.reservation_id, bytes: 30_000, expires_at: START + 5 };
     let action = InflightAction {
         used: true,
         generation: 1,

@@ -42,8 +42,8 @@ fn crammed() -> Relay {
 
 type Ending = fn(&mut Relay) -> usize;
 
-/// The calls that end many records, each with how many routes it sends for a pending record and for a circuit; none where it ends
-/// none.
+/// The calls that end many records, each with how many routes it sends for a pending record and for a
+/// circuit; none where it ends none.
 const ENDINGS: [(Ending, usize, usize); 5] = [
     (|relay| relay.disconnect(&peer(b"r")).expect("not short").len(), 0, 2),
     (|relay| relay.disconnect(&peer(b"f")).expect("not short").len(), 1, 0),
@@ -84,12 +84,20 @@ fn a_relay_without_room_for_actions_can_be_ended_too() {
 }
 
 /// Calls on a copy of the parts with so many output words.
-fn with_room<Answer>(relay: &Relay, room: usize, call: impl Fn(&mut Tables, &mut [u32], &mut Runtime) -> Answer) -> Answer {
+fn with_room<Answer>(
+    relay: &Relay,
+    room: usize,
+    call: impl Fn(&mut Tables, &mut [u32], &mut Runtime) -> Answer,
+) -> Answer {
     call(&mut relay.tables().clone(), &mut vec![0; room], &mut relay.runtime().clone())
 }
 
 /// The call answers 22 with one word fewer than it needs, and not with these.
-fn needs(relay: &Relay, words: usize, call: impl Fn(&mut Tables, &mut [u32], &mut Runtime) -> Result<usize, HnsrRuntimeError>) {
+fn needs(
+    relay: &Relay,
+    words: usize,
+    call: impl Fn(&mut Tables, &mut [u32], &mut Runtime) -> Result<usize, HnsrRuntimeError>,
+) {
     assert!(with_room(relay, words, &call).is_ok());
     assert_eq!(with_room(relay, words - 1, &call), Err(HnsrRuntimeError::Short));
     assert!(words <= relay.tables().most_words());
@@ -137,6 +145,7 @@ fn expired_opens_fill_their_words() {
     for context in 1..=3 {
         open(&mut relay, b"r", context, grant(b"e")).expect("an OPEN");
     }
-    let words = with_room(&relay, 3 * CLOSING_WORDS, |tables, out, runtime| lent::expire(tables, out, runtime, START + 10));
+    let words =
+        with_room(&relay, 3 * CLOSING_WORDS, |tables, out, runtime| lent::expire(tables, out, runtime, START + 10));
     assert_eq!(words, Ok(3 * CLOSING_WORDS));
 }

@@ -2,7 +2,9 @@
 use crate::fixture::{self, circuit, grant, open, peer, relay, say, small, WINDOW};
 use lekchnam_host::body::{CloseBody, ErrorBody, IncomingBody, OpenedBody};
 use lekchnam_host::limits::{ADDRESS_WORDS, MAX_BODY_SIZE, MAX_DATA_SIZE, PEER_WORDS};
-use lekchnam_host::{HnsrActionId, HnsrOpcode, HnsrPacket, HnsrRoute, OpaqueRelayConfig, QueuedHnsrRoute, Routes, MAXIMUM_PEER};
+use lekchnam_host::{
+    HnsrActionId, HnsrOpcode, HnsrPacket, HnsrRoute, OpaqueRelayConfig, QueuedHnsrRoute, Routes, MAXIMUM_PEER,
+};
 
 /// Bytes that are all different as far as that goes.
 fn bytes(length: usize) -> Vec<u8> {
@@ -145,7 +147,11 @@ fn ending_tells_both_sides_why() {
     let close = CloseBody::decode(told[3].1.body).expect("a good body");
     assert_eq!((close.reason, close.detail), (6, "relay ticket expired"));
     let to: Vec<_> = told.iter().map(|(to, packet)| (to.as_bytes(), packet.opcode, packet.context_id[7])).collect();
-    let expected: [(&[u8], HnsrOpcode, u8); 4] =
-        [(b"r", HnsrOpcode::Error, 2), (b"e", HnsrOpcode::Close, 2), (b"r", HnsrOpcode::Close, 1), (b"e", HnsrOpcode::Close, 1)];
+    let expected: [(&[u8], HnsrOpcode, u8); 4] = [
+        (b"r", HnsrOpcode::Error, 2),
+        (b"e", HnsrOpcode::Close, 2),
+        (b"r", HnsrOpcode::Close, 1),
+        (b"e", HnsrOpcode::Close, 1),
+    ];
     assert_eq!(to, expected);
 }

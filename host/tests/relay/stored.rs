@@ -59,8 +59,8 @@ fn stored_names_are_equal_where_they_read_the_same() {
         bytes[..2].copy_from_slice(b"ab");
         StoredPeer { len, bytes }
     };
-    let names =
-        [0, 1, 2, 3, MAXIMUM_PEER - 1, MAXIMUM_PEER, MAXIMUM_PEER + 1, usize::MAX].map(|len| [name(len, 0), name(len, 9)]);
+    let names = [0, 1, 2, 3, MAXIMUM_PEER - 1, MAXIMUM_PEER, MAXIMUM_PEER + 1, usize::MAX]
+        .map(|len| [name(len, 0), name(len, 9)]);
     for one in names.as_flattened() {
         for other in names.as_flattened() {
             let same = one.as_bytes() == other.as_bytes();

@@ -1,5 +1,5 @@
-//! The inputs that the readers are compared on, here and against the Rust: each length, each byte changed in turn, each limit, and
-//! bodies made and damaged by chance.
+//! The inputs that the readers are compared on, here and against the Rust: each length, each byte changed in turn,
+//! each limit, and bodies made and damaged by chance.
 use crate::random::Random;
 use lekchnam_host::limits::{
     HNSR_HEADER_SIZE, MAX_BODY_SIZE, MAX_DATA_SIZE, MAX_DETAIL_SIZE, MAX_PACKET_SIZE, MAX_WINDOW, MIN_WINDOW,
@@ -218,7 +218,8 @@ fn zeroed(message: Message, good: &[u8]) -> Vec<Vec<u8>> {
 }
 
 fn data_bodies() -> Vec<Vec<u8>> {
-    let sizes = [0, 1, 2, 255, 256, MAX_DATA_SIZE - 1, MAX_DATA_SIZE, MAX_DATA_SIZE + 1, MAX_BODY_SIZE, MAX_PACKET_SIZE + 1];
+    let sizes =
+        [0, 1, 2, 255, 256, MAX_DATA_SIZE - 1, MAX_DATA_SIZE, MAX_DATA_SIZE + 1, MAX_BODY_SIZE, MAX_PACKET_SIZE + 1];
     sizes.map(|size| (0..size).map(|at| (at * 7) as u8).collect()).to_vec()
 }
 
@@ -239,8 +240,8 @@ fn detail_bodies(message: Message) -> Vec<Vec<u8>> {
     list
 }
 
-/// Details of one and two bytes, all there are; around each edge of RFC 3629, alone and at the end of the most bytes and
-/// of one more.
+/// Details of one and two bytes, all there are; around each edge of RFC 3629, alone and at the end of
+/// the most bytes and of one more.
 fn details() -> Vec<Vec<u8>> {
     let mut list: Vec<Vec<u8>> = (0..=255).map(|a| vec![a]).collect();
     list.extend((0..=65_535_u16).map(|pair| pair.to_be_bytes().to_vec()));

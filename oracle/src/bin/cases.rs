@@ -53,7 +53,10 @@ fn relay(queue: Option<usize>) -> Oracle {
         random: &CIRCUIT,
     };
     let routes = relay.handle(&open).expect("the OPEN is taken");
-    assert_eq!((routes[0].opcode.into(), routes[0].context, &routes[0].peer[..]), (HnsrOpcode::Incoming, CIRCUIT, ENDPOINT));
+    assert_eq!(
+        (routes[0].opcode.into(), routes[0].context, &routes[0].peer[..]),
+        (HnsrOpcode::Incoming, CIRCUIT, ENDPOINT)
+    );
     assert_eq!(words(&routes).len(), HEAD_WORDS + 16);
     relay
 }

@@ -1,6 +1,8 @@
-//! compare FIRST COUNT CALLS   holds the proved library to the Rust: the traces of COUNT seeds from FIRST on, CALLS calls each
+//! compare FIRST COUNT CALLS   holds the proved library to the Rust: the traces of COUNT seeds from FIRST on,
+//!                             CALLS calls each
 //!
-//! Exits 1 at the first difference, with the seed, the line that the call has in the seed's trace, the call and both answers.
+//! Exits 1 at the first difference, with the seed, the line that the call has in the seed's trace, the call and both
+//! answers.
 use lekchnam_traces::Relay;
 use lekchnam_traces::counts::Counts;
 use oracle::compare::compare;
@@ -26,6 +28,8 @@ fn main() -> ExitCode {
         }
     }
     let (calls, seconds) = (counts.total(), start.elapsed().as_secs_f64());
-    println!("compared with the Rust: {count} traces, {calls} calls, {seconds:.1} seconds, no difference; answers {counts}");
+    println!(
+        "compared with the Rust: {count} traces, {calls} calls, {seconds:.1} seconds, no difference; answers {counts}"
+    );
     ExitCode::SUCCESS
 }

@@ -1,8 +1,8 @@
 //! pick FIRST COUNT CALLS TRACES DIR   writes TRACES small traces that together show all that the fixed list must show
 //!
-//! Looks at COUNT seeds from FIRST on, CALLS calls each. For each thing in turn, the rarest first, it takes the seed that shows it
-//! soonest, and of that seed's calls no more than are needed; then seeds from FIRST on, until there are TRACES. The private state stands
-//! behind the last call of each trace. Exits 1 where something is not shown.
+//! Looks at COUNT seeds from FIRST on, CALLS calls each. For each thing in turn, the rarest first, it takes the seed
+//! that shows it soonest, and of that seed's calls no more than are needed; then seeds from FIRST on, until there are
+//! TRACES. The private state stands behind the last call of each trace. Exits 1 where something is not shown.
 use lekchnam_traces::coverage::{Item, items};
 use lekchnam_traces::file::Writer;
 use lekchnam_traces::required::required;
@@ -58,7 +58,8 @@ fn written(seed: u64, calls: usize) -> (String, Vec<Item>) {
 }
 
 fn pick([first, count, calls, traces]: [u64; 4], dir: &str) -> Vec<Item> {
-    let seeds: BTreeMap<u64, Shown> = (first..first + count).map(|seed| (seed, shown_by(seed, calls as usize))).collect();
+    let seeds: BTreeMap<u64, Shown> =
+        (first..first + count).map(|seed| (seed, shown_by(seed, calls as usize))).collect();
     let mut taken = needed(&seeds);
     let needed = taken.len();
     for seed in first..first + count {

@@ -101,7 +101,11 @@ impl Generator {
             size = *self.rng.pick(&[0, LONGEST_DATA + 1, 20_000, LONGEST_BODY, size]);
         }
         let size = size.min(if wrong { LONGEST_BODY } else { LONGEST_DATA });
-        let body = if size < 24 { (0..size).map(|_| self.rng.byte()).collect() } else { pattern(size as usize, self.rng.byte()) };
+        let body = if size < 24 {
+            (0..size).map(|_| self.rng.byte()).collect()
+        } else {
+            pattern(size as usize, self.rng.byte())
+        };
         self.handle(state, aim.source, HnsrOpcode::Data, aim.context, body)
     }
 
@@ -132,7 +136,8 @@ impl Generator {
             && self.rng.chance(30)
         {
             let circuit = &state.circuits[index];
-            let other = if aim.source == circuit.requester { circuit.endpoint_credit } else { circuit.requester_credit };
+            let other =
+                if aim.source == circuit.requester { circuit.endpoint_credit } else { circuit.requester_credit };
             delta = MAX_WINDOW - other + self.rng.below(2) as u32;
         }
         if wrong && self.rng.chance(50) {
@@ -160,7 +165,8 @@ impl Generator {
 
     /// A peer and a context that name two pending records, most times where there are such.
     fn matching_twice(&mut self, state: &State) -> Option<(Vec<u8>, [u8; 8])> {
-        let crossed = |requester: &[u8], context| state.pending.iter().any(|q| q.endpoint == requester && q.id == context);
+        let crossed =
+            |requester: &[u8], context| state.pending.iter().any(|q| q.endpoint == requester && q.id == context);
         let both: Vec<_> = state.pending.iter().filter(|p| crossed(&p.requester, p.requester_context)).collect();
         if both.is_empty() || !self.rng.chance(60) {
             return None;

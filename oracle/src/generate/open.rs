@@ -68,7 +68,8 @@ impl Generator {
         }
         let source = self.requester(state, &grant);
         let mut context = self.id();
-        if self.rng.chance(70) && state.pending.iter().any(|p| p.requester == source && p.requester_context == context) {
+        if self.rng.chance(70) && state.pending.iter().any(|p| p.requester == source && p.requester_context == context)
+        {
             context = self.id();
         }
         // grants after now, or (class g) not
@@ -138,7 +139,9 @@ impl Generator {
             6 => offer.window = *self.rng.pick(&[0, MIN_WINDOW - 1, MAX_WINDOW + 1, u32::MAX]),
             7 | 8 => offer.cut = true,
             9 | 10 => offer.admission = None,
-            11 => grant.endpoint = vec![b'x'; *self.rng.pick(&[0, MAXIMUM_PEER + 1, MAXIMUM_PEER + 2, 2 * MAXIMUM_PEER])],
+            11 => {
+                grant.endpoint = vec![b'x'; *self.rng.pick(&[0, MAXIMUM_PEER + 1, MAXIMUM_PEER + 2, 2 * MAXIMUM_PEER])]
+            }
             12 => grant.endpoint = offer.source.clone(),
             13 => grant.expires_at = grant.expires_at.saturating_add(self.rng.range(0, 2)),
             // OPEN names one reservation, the grant another
@@ -151,8 +154,15 @@ impl Generator {
         let keys = if offer.key_valid { VALID_KEYS } else { INVALID_KEYS };
         let key = *self.rng.pick(&keys);
         let (profile, window) = (offer.profile.to_le_bytes(), offer.window.to_le_bytes());
-        let mut body =
-            [&offer.ticket[..], &offer.reservation, &unhex(key).expect("a key in hex"), &profile, &offer.nonce, &window].concat();
+        let mut body = [
+            &offer.ticket[..],
+            &offer.reservation,
+            &unhex(key).expect("a key in hex"),
+            &profile,
+            &offer.nonce,
+            &window,
+        ]
+        .concat();
         if offer.cut {
             self.cut(&mut body);
         }
@@ -160,7 +170,8 @@ impl Generator {
     }
 
     fn draws(&mut self, state: &State, grant: Option<&Grant>) -> Vec<u8> {
-        let used: Vec<[u8; 8]> = state.pending.iter().map(|p| p.id).chain(state.circuits.iter().map(|c| c.id)).collect();
+        let used: Vec<[u8; 8]> =
+            state.pending.iter().map(|p| p.id).chain(state.circuits.iter().map(|c| c.id)).collect();
         let fresh = self.fresh_id(state, grant, &used);
         let zeros = |count: u64| vec![0; 8 * count as usize];
         let mut out = Vec::new();

@@ -1,4 +1,5 @@
-//! Calls by chance, most of them aimed at a record that stands in the tables with its mark set, below the number or not.
+//! Calls by chance, most of them aimed at a record that stands in the tables with its mark set, below the number or
+//! not.
 use super::found::{config, given_name, id, reservation, time};
 use crate::reading::World;
 use crate::rng::Rng;
@@ -41,7 +42,16 @@ impl World {
 
     fn packet(&self, rng: &mut Rng, (source, context): Aim, opcode: HnsrOpcode, body: Vec<u8>) -> Call {
         let (opcode, context, now) = (opcode.into(), context.to_be_bytes(), self.now(rng));
-        Call::Handle { source, opcode, context, body, now, key_valid: rng.chance(50), admission: None, random: Vec::new() }
+        Call::Handle {
+            source,
+            opcode,
+            context,
+            body,
+            now,
+            key_valid: rng.chance(50),
+            admission: None,
+            random: Vec::new(),
+        }
     }
 
     fn open_by_chance(&self, rng: &mut Rng) -> Call {

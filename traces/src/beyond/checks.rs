@@ -35,8 +35,8 @@ fn output(case: &Case, left: &Left) -> Checked {
     ensure(left.out[written..] == case.out[written..], "the output is touched beyond the words that are written")
 }
 
-/// The answer, its cause, every word, the header and every record of a used place are those of the second reading. So a refusal leaves
-/// what document 01's table says: "State too, except where marked."
+/// The answer, its cause, every word, the header and every record of a used place are those of the second reading. So
+/// a refusal leaves what document 01's table says: "State too, except where marked."
 fn as_read(case: &Case, left: &Left) -> Checked {
     let mut world = case.world.clone();
     let read = world.call(&case.call, case.out.len());
@@ -72,11 +72,14 @@ fn new_alone(case: &Case, left: &Left) -> Checked {
     let Call::New { .. } = case.call else { return Ok(()) };
     let places = if left.answer.is_ok() { Places::NONE } else { case.world.tables.places };
     let tables = Tables { places, ..case.world.tables.clone() };
-    ensure(left.world == World { runtime: left.world.runtime, tables }, "`new` touches a table, or leaves other numbers")
+    ensure(
+        left.world == World { runtime: left.world.runtime, tables },
+        "`new` touches a table, or leaves other numbers",
+    )
 }
 
-/// `status` tells the counts of used places, the sum of the queues, and the header; `next_due` the earliest end; both are 22 where a table
-/// is short.
+/// `status` tells the counts of used places, the sum of the queues, and the header; `next_due` the earliest end; both
+/// are 22 where a table is short.
 fn told(left: &Left) -> Checked {
     let World { runtime, tables } = &left.world;
     let told = (lent::status(tables, runtime), lent::next_due(tables, runtime));
@@ -92,10 +95,11 @@ fn again(case: &Case, left: &Left) -> Checked {
     ensure(case.made() == *left, "the same call on a copy gives something else")
 }
 
-/// "Lent tables are read as found", by their marks below the numbers: what unused places hold changes nothing, nor does a mark at or above
-/// a number.
+/// "Lent tables are read as found", by their marks below the numbers: what unused places hold changes nothing, nor
+/// does a mark at or above a number.
 fn unused_places(case: &Case, left: &Left, rng: &mut Rng) -> Checked {
-    let other = Case { world: case.world.with_other_unused_places(rng), call: case.call.clone(), out: case.out.clone() }.made();
+    let other =
+        Case { world: case.world.with_other_unused_places(rng), call: case.call.clone(), out: case.out.clone() }.made();
     let same = other.answer == left.answer && other.out == left.out && seen(&other.world) == seen(&left.world);
     ensure(same, "what unused places hold makes a difference")
 }

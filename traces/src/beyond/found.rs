@@ -3,8 +3,8 @@ use crate::Config;
 use crate::reading::World;
 use crate::rng::Rng;
 use lekchnam_host::lent::{
-    InflightAction, Places, RelayCircuit, RelayPending, RelayTicket, ReservationId, ReservationUsage, Runtime, RuntimeCounters,
-    StoredPeer, Tables,
+    InflightAction, Places, RelayCircuit, RelayPending, RelayTicket, ReservationId, ReservationUsage, Runtime,
+    RuntimeCounters, StoredPeer, Tables,
 };
 use lekchnam_host::limits::{
     MAX_CIRCUIT_QUEUE, MAX_CIRCUITS, MAX_DATA_SIZE, MAX_OPEN_DEADLINE_SECONDS, MAX_WINDOW, MAXIMUM_PEER, MIN_WINDOW,
@@ -16,7 +16,8 @@ const TOP: u64 = u64::MAX;
 const LONG_NAME: [u8; MAXIMUM_PEER] = [b'x'; MAXIMUM_PEER];
 
 /// Alike but for one byte, or of one byte.
-const NAMES: [&[u8]; 6] = [b"a", b"b", b"peer-number-0001", b"peer-number-0002", b"peer-number-1001", b"deer-number-0001"];
+const NAMES: [&[u8]; 6] =
+    [b"a", b"b", b"peer-number-0001", b"peer-number-0002", b"peer-number-1001", b"deer-number-0001"];
 
 /// Ids and contexts.
 pub fn id(rng: &mut Rng) -> u64 {
@@ -75,8 +76,10 @@ fn amount(rng: &mut Rng) -> u64 {
 
 /// Mostly small, so that limits are met; now and then one that `validate` refuses.
 pub fn config(rng: &mut Rng) -> Config {
-    let mut most =
-        |least: u64, high: u64| if rng.chance(2) { *rng.pick(&[0, 0, 1_000, TOP]) } else { rng.range(least, high) } as usize;
+    let mut most = |least: u64, high: u64| {
+        let number = if rng.chance(2) { *rng.pick(&[0, 0, 1_000, TOP]) } else { rng.range(least, high) };
+        number as usize
+    };
     let (maximum_pending, maximum_circuits) = (most(1, 5), most(1, 5));
     let (actions, per_circuit, per_peer) = (most(4, 6), most(2, 4), most(3, 6));
     Config {
@@ -218,7 +221,13 @@ pub fn numbers(rng: &mut Rng, tables: &Tables) -> Places {
 }
 
 /// Puts other records into the unused places; at and above the number any mark will do.
-fn others<R>(rng: &mut Rng, table: &mut [R], number: usize, used: fn(&R) -> bool, record: impl Fn(&mut Rng, bool) -> R) {
+fn others<R>(
+    rng: &mut Rng,
+    table: &mut [R],
+    number: usize,
+    used: fn(&R) -> bool,
+    record: impl Fn(&mut Rng, bool) -> R,
+) {
     for (place, stands) in table.iter_mut().enumerate() {
         let above = place >= number;
         if above || !used(stands) {
@@ -248,9 +257,27 @@ impl World {
         let mut other = self.clone();
         let (runtime, now, tables) = (self.runtime, self.runtime.trusted_time_high_water, &mut other.tables);
         let numbers = tables.places;
-        others(rng, &mut tables.pending, numbers.pending, |p| p.used, |rng, used| RelayPending { used, ..pending(rng, now) });
-        others(rng, &mut tables.circuits, numbers.circuits, |c| c.used, |rng, used| RelayCircuit { used, ..circuit(rng, now) });
-        others(rng, &mut tables.ledger, numbers.ledger, |u| u.used, |rng, used| ReservationUsage { used, ..usage(rng, now) });
+        others(
+            rng,
+            &mut tables.pending,
+            numbers.pending,
+            |p| p.used,
+            |rng, used| RelayPending { used, ..pending(rng, now) },
+        );
+        others(
+            rng,
+            &mut tables.circuits,
+            numbers.circuits,
+            |c| c.used,
+            |rng, used| RelayCircuit { used, ..circuit(rng, now) },
+        );
+        others(
+            rng,
+            &mut tables.ledger,
+            numbers.ledger,
+            |u| u.used,
+            |rng, used| ReservationUsage { used, ..usage(rng, now) },
+        );
         let other_action = |rng: &mut Rng, used| InflightAction { used, ..action(rng, &runtime) };
         others(rng, &mut tables.inflight, numbers.actions, |action| action.used, other_action);
         other

@@ -1,4 +1,5 @@
-//! A case made on the library, over copies of what it lends: each table and the output in a block of memory of just its size.
+//! A case made on the library, over copies of what it lends: each table and the output in a
+//! block of memory of just its size.
 use super::Case;
 use crate::reading::World;
 use crate::{Call, Grant};

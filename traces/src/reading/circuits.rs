@@ -105,8 +105,8 @@ impl World {
         self.queue(forwarded(packet, receiver, Kind::Control))
     }
 
-    /// "End a pending record, which the requester names by its own context and the endpoint by circuit id (context translated), or a
-    /// circuit; its actions are dropped."
+    /// "End a pending record, which the requester names by its own context and the endpoint by circuit id (context
+    /// translated), or a circuit; its actions are dropped."
     pub(super) fn close(&mut self, packet: &Packet<'_>) -> Outcome {
         CloseBody::decode(packet.body)?;
         let source = named(packet.source)?;
@@ -131,7 +131,8 @@ impl World {
     }
 }
 
-/// "the circuit starts with both credits at the accepted window and its byte limit at the smaller of the grant's and the configuration's".
+/// "the circuit starts with both credits at the accepted window and its byte limit at the smaller of the
+/// grant's and the configuration's".
 fn started(p: &RelayPending, window: u32, most_bytes: u64) -> RelayCircuit {
     RelayCircuit {
         used: true,

@@ -67,8 +67,8 @@ impl World {
         pending + count(&self.tables, |c: &RelayCircuit| c.reservation_id == id)
     }
 
-    /// "An all-zero draw is drawn again, 8 in a row refuse. A draw that is already a pending or circuit id counts as one of 8 candidates.
-    /// Running out refuses; a tail under eight is ignored."
+    /// "An all-zero draw is drawn again, 8 in a row refuse. A draw that is already a pending or circuit id counts as
+    /// one of 8 candidates. Running out refuses; a tail under eight is ignored."
     fn drawn(&self, random: &[u8]) -> Option<u64> {
         let (mut zeros, mut candidates) = (0, 0);
         for draw in random.chunks_exact(8) {
@@ -87,15 +87,19 @@ impl World {
         None
     }
 
-    /// "23 ledger full and record missing"; "A missing ledger record is made before the ByteLimit test and stays"; "18 expiry differs or
-    /// bytes used up".
+    /// "23 ledger full and record missing"; "A missing ledger record is made before the ByteLimit test and stays";
+    /// "18 expiry differs or bytes used up".
     fn book(&mut self, grant: &Grant) -> Result<(), Refused> {
         let id = ReservationId::from(grant.reservation_id);
         let tables = &mut self.tables;
         let under = |usage: &ReservationUsage| usage.reservation_id == id;
         if lowest(tables, under).is_none() {
             refuse(count(tables, |_: &ReservationUsage| true) == tables.ledger.len(), Refused::LedgerFull)?;
-            put(tables, under, ReservationUsage { used: true, reservation_id: id, bytes: 0, expires_at: grant.expires_at });
+            put(
+                tables,
+                under,
+                ReservationUsage { used: true, reservation_id: id, bytes: 0, expires_at: grant.expires_at },
+            );
         }
         let usage = &tables.ledger[lowest(tables, under).expect("it was made")];
         refuse(usage.expires_at != grant.expires_at || usage.bytes >= grant.max_total_bytes, Refused::ByteLimit)

@@ -17,7 +17,10 @@ pub enum Kind {
 
 impl Kind {
     pub fn stored(number: u8) -> Self {
-        [Self::Incoming, Self::Opened, Self::Data, Self::Control].get(usize::from(number)).copied().unwrap_or(Self::Close)
+        [Self::Incoming, Self::Opened, Self::Data, Self::Control]
+            .get(usize::from(number))
+            .copied()
+            .unwrap_or(Self::Close)
     }
 }
 
@@ -46,7 +49,8 @@ impl World {
         refuse(full, Refused::Capacity)
     }
 
-    /// "1 `HnsrPacket::new` refuses the made message (before a 10 that follows an ended record); 6 sequence at 2^64 − 1".
+    /// "1 `HnsrPacket::new` refuses the made message (before a 10 that follows an ended
+    /// record); 6 sequence at 2^64 − 1".
     pub(super) fn queue(&mut self, message: Message) -> Outcome {
         refuse(message.context == 0, ProtocolError::Invalid(Invalid::ContextZero).into())?;
         self.action_room(message.circuit, &message.destination, None)?;
@@ -63,7 +67,11 @@ impl World {
             to_endpoint: message.to_endpoint,
             bytes: if is_data { message.body.len() } else { 0 },
         };
-        put(&mut self.tables, |other: &InflightAction| (other.generation, other.sequence) == (generation, sequence), action);
+        put(
+            &mut self.tables,
+            |other: &InflightAction| (other.generation, other.sequence) == (generation, sequence),
+            action,
+        );
         self.runtime.next_action_sequence += 1;
         Ok(vec![Route {
             peer: message.destination.as_bytes().to_vec(),

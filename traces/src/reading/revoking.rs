@@ -16,7 +16,13 @@ const RELAY_DISABLED: Notice = (15, "opaque relay disabled");
 const ENDPOINT_WRITE_FAILED: Notice = (11, "endpoint write failed");
 const OUTER_WRITE_FAILED: Notice = (11, "outer write failed");
 
-fn notice(destination: StoredPeer, circuit: u64, opcode: HnsrOpcode, context: u64, (reason, detail): Notice) -> Message {
+fn notice(
+    destination: StoredPeer,
+    circuit: u64,
+    opcode: HnsrOpcode,
+    context: u64,
+    (reason, detail): Notice,
+) -> Message {
     let body = [&reason.to_le_bytes()[..], &[detail.len() as u8], detail.as_bytes()].concat();
     Message { destination, circuit, opcode, context, body, kind: Kind::Close, to_endpoint: false }
 }
@@ -57,12 +63,14 @@ impl World {
         [self.tell(to_requester(&p, HnsrOpcode::Error, why)), self.tell(close_to_endpoint(&p, why))].concat()
     }
 
-    /// "Revocation ends the record, drops its actions, then sends CLOSE to requester, then endpoint, also to a peer that just
-    /// disconnected."
+    /// "Revocation ends the record, drops its actions, then sends CLOSE to requester, then endpoint, also to
+    /// a peer that just disconnected."
     fn revoke_circuit_there(&mut self, place: usize, why: Notice) -> Vec<Route> {
         let c = self.tables.circuits[place];
         self.end_circuit(place);
-        [c.requester, c.endpoint].map(|peer| self.tell(notice(peer, c.circuit_id, HnsrOpcode::Close, c.circuit_id, why))).concat()
+        [c.requester, c.endpoint]
+            .map(|peer| self.tell(notice(peer, c.circuit_id, HnsrOpcode::Close, c.circuit_id, why)))
+            .concat()
     }
 
     /// An action stores an id and no place: the lowest record of that id is meant.
@@ -129,8 +137,8 @@ impl World {
         )
     }
 
-    /// "Expire drops ledger records as OPEN does, then revokes pending records whose deadline or expiry, and circuits whose expiry, is not
-    /// after now."
+    /// "Expire drops ledger records as OPEN does, then revokes pending records whose deadline or expiry, and circuits
+    /// whose expiry, is not after now."
     pub(super) fn expire(&mut self, now: u64) -> Outcome {
         self.clock(now)?;
         self.drop_lapsed(now);
@@ -142,8 +150,8 @@ impl World {
         ))
     }
 
-    /// "A changed enabled state raises the generation, drops every action, sets the sequence to 1 and, if off, revokes all; the same state
-    /// changes nothing."
+    /// "A changed enabled state raises the generation, drops every action, sets the sequence to 1 and, if off,
+    /// revokes all; the same state changes nothing."
     pub(super) fn replace_enabled(&mut self, expected: u64, enabled: bool) -> Outcome {
         refuse(expected != self.runtime.generation, Refused::StaleGeneration)?;
         if enabled == self.runtime.enabled {
@@ -154,7 +162,12 @@ impl World {
         self.runtime.next_action_sequence = 1;
         drop_all(&mut self.tables, |_: &InflightAction| true);
         let off = !enabled;
-        Ok(self.revoke_all(|_| off, |world, place| world.revoke_pending(place, RELAY_DISABLED), |_| off, RELAY_DISABLED))
+        Ok(self.revoke_all(
+            |_| off,
+            |world, place| world.revoke_pending(place, RELAY_DISABLED),
+            |_| off,
+            RELAY_DISABLED,
+        ))
     }
 
     /// "Removes the action; for Data lowers that one circuit's queued count."
@@ -168,7 +181,8 @@ impl World {
         let (id, kind) = (action.circuit_id, Kind::stored(action.kind));
         if let (Kind::Data, Some(place)) = (kind, lowest(tables, |c: &RelayCircuit| c.circuit_id == id)) {
             let circuit = &mut tables.circuits[place];
-            let queue = if action.to_endpoint { &mut circuit.queued_to_endpoint } else { &mut circuit.queued_to_requester };
+            let queue =
+                if action.to_endpoint { &mut circuit.queued_to_endpoint } else { &mut circuit.queued_to_requester };
             *queue = queue.saturating_sub(action.bytes);
         }
         match kind {

@@ -63,7 +63,8 @@ fn unused<R: Record>(tables: &Tables) -> Option<usize> {
     records.iter().enumerate().position(|(place, record)| !record.marked() || place >= number)
 }
 
-/// "A new record replaces the one its lookup finds, else takes the lowest unused place". A place at the number raises it.
+/// "A new record replaces the one its lookup finds, else takes the lowest unused place". A
+/// place at the number raises it.
 pub fn put<R: Record>(tables: &mut Tables, same: impl Fn(&R) -> bool, record: R) {
     let place = lowest(tables, same).or_else(|| unused::<R>(tables)).expect("a limit is reached before the places are");
     let (records, number) = R::table_mut(tables);

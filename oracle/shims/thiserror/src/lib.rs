@@ -1,5 +1,5 @@
-//! Just enough of `#[derive(thiserror::Error)]` for enums: `#[error("..")]`, `#[error(transparent)]`, `#[from]`. No syn, no quote: tokens are
-//! walked by hand and the impls are made as text.
+//! Just enough of `#[derive(thiserror::Error)]` for enums: `#[error("..")]`, `#[error(transparent)]`, `#[from]`. No
+//! syn, no quote: tokens are walked by hand and the impls are made as text.
 use proc_macro::{Delimiter, Group, TokenStream, TokenTree};
 use std::iter::Peekable;
 
@@ -90,7 +90,9 @@ fn parse_enum(input: TokenStream) -> (String, TokenStream) {
     let mut name = None;
     while let Some(token) = tokens.next() {
         match (token, &name) {
-            (TokenTree::Ident(word), None) if word.to_string() == "enum" => name = tokens.next().map(|token| token.to_string()),
+            (TokenTree::Ident(word), None) if word.to_string() == "enum" => {
+                name = tokens.next().map(|token| token.to_string())
+            }
             (TokenTree::Group(group), Some(name)) if group.delimiter() == Delimiter::Brace => {
                 return (name.clone(), group.stream());
             }

@@ -48,9 +48,14 @@ fn accepts(script: &mut Script) {
     for length in (0..=full.len()).filter(|length| *length != good.len()) {
         assert_eq!(script.packet(ENDPOINT, HnsrOpcode::Accept, CIRCUIT, &full[..length]), 1);
     }
-    for (window, nonce, answer) in
-        [(MIN_WINDOW - 1, 1, 1), (0, 1, 1), (MAX_WINDOW + 1, 1, 1), (MAX_WINDOW, 1, 10), (WINDOW + 1, 1, 10), (MIN_WINDOW, 0, 1)]
-    {
+    for (window, nonce, answer) in [
+        (MIN_WINDOW - 1, 1, 1),
+        (0, 1, 1),
+        (MAX_WINDOW + 1, 1, 1),
+        (MAX_WINDOW, 1, 10),
+        (WINDOW + 1, 1, 10),
+        (MIN_WINDOW, 0, 1),
+    ] {
         assert_eq!(script.packet(ENDPOINT, HnsrOpcode::Accept, CIRCUIT, &accept_body(window, nonce)), answer);
     }
     assert_eq!(script.packet(ENDPOINT, HnsrOpcode::Accept, CIRCUIT, &good), 0);

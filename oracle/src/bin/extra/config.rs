@@ -5,8 +5,12 @@ use lekchnam_traces::file::Places;
 use lekchnam_traces::{Call, Config};
 use oracle::default_config;
 
-const PLACES: Places =
-    Places { pending: MAX_RUNTIME_PENDING, circuits: MAX_RUNTIME_CIRCUITS, actions: MAX_RUNTIME_INFLIGHT_ACTIONS, ledger: 1 };
+const PLACES: Places = Places {
+    pending: MAX_RUNTIME_PENDING,
+    circuits: MAX_RUNTIME_CIRCUITS,
+    actions: MAX_RUNTIME_INFLIGHT_ACTIONS,
+    ledger: 1,
+};
 
 pub fn script() -> Script {
     let mut script = Script::new("config", PLACES);
@@ -21,7 +25,8 @@ fn sizes() -> Vec<Config> {
     let d = default_config();
     let mut list = Vec::new();
     let around = |most: usize| [0, 1, most - 1, most, most + 1];
-    let (pending, circuits, queue) = (around(MAX_RUNTIME_PENDING), around(MAX_RUNTIME_CIRCUITS), around(MAX_CIRCUIT_QUEUE));
+    let (pending, circuits, queue) =
+        (around(MAX_RUNTIME_PENDING), around(MAX_RUNTIME_CIRCUITS), around(MAX_CIRCUIT_QUEUE));
     for ((pending, circuits), queue) in pending.into_iter().zip(circuits).zip(queue) {
         list.push(Config { maximum_pending: pending, ..d });
         list.push(Config { maximum_circuits: circuits, ..d });
@@ -64,7 +69,8 @@ fn amounts() -> Vec<Config> {
 
 fn sessions(script: &mut Script) {
     let config = default_config();
-    for (session, generation, now) in [([0; 16], 1, 1), ([1; 16], 0, 1), ([0; 16], 0, 1), ([1; 16], u64::MAX, u64::MAX)] {
+    for (session, generation, now) in [([0; 16], 1, 1), ([1; 16], 0, 1), ([0; 16], 0, 1), ([1; 16], u64::MAX, u64::MAX)]
+    {
         script.call(Call::New { session, generation, config, now });
     }
     for at in 0..16 {

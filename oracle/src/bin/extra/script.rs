@@ -32,7 +32,8 @@ impl Script {
     /// A script whose every relay has the limits of `small`.
     pub fn of_small(title: &str) -> Self {
         let limits = small();
-        let (pending, circuits, actions) = (limits.maximum_pending, limits.maximum_circuits, limits.maximum_inflight_actions);
+        let (pending, circuits, actions) =
+            (limits.maximum_pending, limits.maximum_circuits, limits.maximum_inflight_actions);
         Self::new(title, Places { pending, circuits, actions, ledger: 1 })
     }
 

@@ -2,7 +2,8 @@
 use crate::script::{REQUESTER, Script, small};
 use lekchnam_host::HnsrOpcode;
 
-const SAMPLES: [&str; 4] = ["A\u{2262}\u{391}.", "\u{d55c}\u{ad6d}\u{c5b4}", "\u{65e5}\u{672c}\u{8a9e}", "\u{feff}\u{233b4}"];
+const SAMPLES: [&str; 4] =
+    ["A\u{2262}\u{391}.", "\u{d55c}\u{ad6d}\u{c5b4}", "\u{65e5}\u{672c}\u{8a9e}", "\u{feff}\u{233b4}"];
 const SECOND: [u8; 10] = [0x00, 0x7f, 0x80, 0x8f, 0x90, 0x9f, 0xa0, 0xbf, 0xc0, 0xff];
 const REST: [u8; 4] = [0x7f, 0x80, 0xbf, 0xc0];
 

@@ -51,7 +51,8 @@ fn one(seed: u64, calls: usize, options: Options, stats: &mut Stats) -> String {
     let mut reckoning = Reckoning::new();
     stats.traces += 1;
     for event in run {
-        let (count, limit) = (event.answer.words.count, event.call.words_needed(event.before.as_ref().map_or(0, State::records)));
+        let (count, limit) =
+            (event.answer.words.count, event.call.words_needed(event.before.as_ref().map_or(0, State::records)));
         assert!(count <= limit, "{count} words, document 01 allows {limit}: {}", event.call.text(event.class));
         stats.count(&event);
         reckoning.step(&event, stats);

@@ -56,7 +56,11 @@ impl Stats {
         let answers: BTreeMap<(&str, u8), u64> = answers.collect();
         let total: u64 = answers.values().sum();
         let taken: u64 = answers.iter().filter(|((_, number), _)| *number == 0).map(|(_, count)| count).sum();
-        println!("traces {}  calls {total}  taken {taken} ({:.1} %)\n", self.traces, 100.0 * taken as f64 / total as f64);
+        println!(
+            "traces {}  calls {total}  taken {taken} ({:.1} %)\n",
+            self.traces,
+            100.0 * taken as f64 / total as f64
+        );
         let numbers: BTreeSet<u8> = answers.keys().map(|(_, number)| *number).collect();
         let numbers: Vec<u8> = numbers.into_iter().collect();
         let mut labels: Vec<&str> = answers.keys().map(|(label, _)| *label).collect();

@@ -1,4 +1,5 @@
-"""Edit files: `file:`, `old:`, `new:` lines, each `old` to be replaced in its file. refuted.py and wrong_readings.py try them."""
+"""Edit files: `file:`, `old:`, `new:` lines, each `old` to be replaced in its file. refuted.py and wrong_readings.py
+try them."""
 import contextlib
 
 

@@ -3,9 +3,9 @@
 
     python3 tools/refuted.py [CRATE..]
 
-An edit has the form of a must-fail edit. It is applied to a copy of the project, checked there by `rt dev`, which takes over what stays
-as it is, and undone. For each edit the place and the words of the first error are printed: whether a fact failed, and not a name, is for
-the reader to see. Exit 1 where an edit is not refused, or did not reach the prover.
+An edit has the form of a must-fail edit. It is applied to a copy of the project, checked there by `rt dev`, which takes
+over what stays as it is, and undone. For each edit the place and the words of the first error are printed: whether a
+fact failed, and not a name, is for the reader to see. Exit 1 where an edit is not refused, or did not reach the prover.
 The must-fail edits are those that the gate tries; these are too many for it.
 """
 import pathlib
@@ -35,7 +35,8 @@ def verdict(said, root):
 
 def first_error(said, root):
     """The first line that says what is wrong, without the folder of the copy."""
-    lines = [line for line in said.replace(f"{root}/", "").splitlines() if re.search(r": error: |is not proved that|: no proof: ", line)]
+    lines = [line for line in said.replace(f"{root}/", "").splitlines()
+             if re.search(r": error: |is not proved that|: no proof: ", line)]
     return lines[0][:300] if lines else "nothing was said"
 
 

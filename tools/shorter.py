@@ -5,7 +5,8 @@ from antt import close_at, is_use, toks
 # ================================================================ a new Lts
 def shared(body):
     """names for what is written often: types of references, entries of the tables"""
-    def closed(u): return all(x in '(),' or x.isdigit() or x == 'tt' or ('.' in x and x[-1] != '.' and x[0] != '.') for x in u)
+    def closed(u):
+        return all(x in '(),' or x.isdigit() or x == 'tt' or ('.' in x and x[-1] != '.' and x[0] != '.') for x in u)
     count, name, refs, defs = {}, {}, [], []
     def parens(t):
         for i, x in enumerate(t):
@@ -16,7 +17,9 @@ def shared(body):
         for _, u in parens(t): count[u] = count.get(u, 0) + 1
     for u, n in count.items():
         if n > 2:
-            name[u] = 'ref%d' % len(name); refs.append((0, ['abbrev', name[u], ':', 'mir.Syntax.Ty'])); refs.append((0, [name[u], '='] + list(u[1:-1])))
+            name[u] = 'ref%d' % len(name)
+            refs.append((0, ['abbrev', name[u], ':', 'mir.Syntax.Ty']))
+            refs.append((0, [name[u], '='] + list(u[1:-1])))
     def put(t, find):
         out, i = [], 0
         at = dict(find(t))
@@ -25,7 +28,9 @@ def shared(body):
             else: out.append(t[i]); i += 1
         return out
     body = [(ind, put(t, parens)) for ind, t in body]
-    def closed2(u): return all(x in '(),' or x.isdigit() or x == 'tt' or x.startswith('ref') or ('.' in x and x[-1] != '.' and x[0] != '.') for x in u)
+    def closed2(u):
+        return all(x in '(),' or x.isdigit() or x == 'tt' or x.startswith('ref')
+                   or ('.' in x and x[-1] != '.' and x[0] != '.') for x in u)
     def entries(t):
         if not re.fullmatch(r't\d+', t[0]) or t[1] != '=': return
         for i, x in enumerate(t):
@@ -62,7 +67,9 @@ def leases(body):
                 j = close_at(t, i) + 1
                 u = tuple(t[i + 1:j - 1])
                 if u not in name:
-                    name[u] = 'life%d' % len(name); defs.append((ind, ['abbrev', name[u], ':', 'borrow.Table.Row.Life'])); defs.append((ind, [name[u], '='] + list(u)))
+                    name[u] = 'life%d' % len(name)
+                    defs.append((ind, ['abbrev', name[u], ':', 'borrow.Table.Row.Life']))
+                    defs.append((ind, [name[u], '='] + list(u)))
                 out.append(name[u]); i = j
             else: out.append(t[i]); i += 1
         return out
@@ -167,7 +174,8 @@ def named_refs(body):
     return body[:at] + defs + body[at:]
 
 def named_entries(body):
-    """the entries of the tables of a section: those that have a name, and names for those that are there more than once"""
+    """the entries of the tables of a section: those that have a name, and names for those that are there more than
+    once"""
     def table(t): return t[1:2] == ['='] and re.fullmatch(r'g\d+', t[0])
     name = {u: n for _, n, u in definitions(body, r'e\d+(·\d+)?')}
     body = [(ind, replaced(t, name) if table(t) else t) for ind, t in body]
@@ -198,7 +206,8 @@ def named_arguments(body):
             if len(u) > 8 and (table, u) not in name and len(part[0]) == len(part[4]) == 1:
                 name[table, u] = 'args' + t[0][1:]
                 above = out.pop()                                             # the type of the rule that has them
-                out += definition(ind, name[table, u], ['borrow.Fn.Args.ArgsT', ps, '(', table, '.locals', ')'], u) + [above]
+                out += definition(
+                    ind, name[table, u], ['borrow.Fn.Args.ArgsT', ps, '(', table, '.locals', ')'], u) + [above]
         out.append((ind, replaced(t, name, lambda last, u: (last, u))))
     return out
 
@@ -210,7 +219,8 @@ def readings(body):
     lts, r = u[i][:-len('.Start')], tuple(u[i + 1:close_at(u, i + 1) + 1])
     body = [(ind, replaced(t, {r: 'readings'})) for ind, t in body]
     at = next(i for i, (_, t) in enumerate(body) if not is_use(t))
-    return body[:at] + [(0, ['abbrev', 'pub', 'readings', ':', f'{lts}.Claims']), (0, ['readings', '='] + list(r))] + body[at:]
+    named = [(0, ['abbrev', 'pub', 'readings', ':', f'{lts}.Claims']), (0, ['readings', '='] + list(r))]
+    return body[:at] + named + body[at:]
 
 def tidy(body, kit):
     """the same text, shorter. It is the same again on what it has made"""

@@ -1,24 +1,27 @@
 #!/usr/bin/env python3
-"""Turns traces of the oracle (the real Rust) into a scratch repository whose theorems say that running the definition gives, for
-every call, the trace's answer number, cause, word count, all words, status, next due and ledger count; and, where the trace has
-state lines (`--state`), the whole private state. Each theorem is closed by refl.
+"""Turns traces of the oracle (the real Rust) into a scratch repository whose theorems say that running the definition
+gives, for every call, the trace's answer number, cause, word count, all words, status, next due and ledger count; and,
+where the trace has state lines (`--state`), the whole private state. Each theorem is closed by refl.
 
     trace2antt.py REPO OUT FILE..        REPO: the repository with the definition; OUT: a folder to write
     cd OUT && rt check traces            (or: rt dev traces)
 
 A trace file is made with `trace gen SEED COUNT CALLS DIR --full [--state]`.
     --skip-state   leave the state lines aside
-    --cut N        only the first N calls of each trace (a theorem has 50,000,000 steps: 100 calls always pass, 200 mostly)
-    --per N        theorems of about N calls: a part begins at a `new` where the trace has one near; else the trace's `new` is run before
-                   it, which is right only for traces whose calls leave nothing (utf8; not bodies: the status shows it)
+    --cut N        only the first N calls of each trace (a theorem has 50,000,000 steps: 100 calls always pass,
+                   200 mostly)
+    --per N        theorems of about N calls: a part begins at a `new` where the trace has one near; else the trace's
+                   `new` is run before it, which is right only for traces whose calls leave nothing (utf8; not bodies:
+                   the status shows it)
 Of a trace that needs tables of more than LIMIT places only answers and words are compared.
 """
 import os, sys
 from limits import CLOSING_WORDS, HANDLE_WORDS
 ROOM = 1000000  # output words lent to a call that revokes: more than any trace's records need
 LIMIT = 3000  # places of the largest table that is still lent
-TEXTS = ['HNSR_context_ID_is_zero', 'invalid_HNSR_open_parameters', 'invalid_HNSR_incoming_parameters', 'invalid_HNSR_accept_response',
-         'HNSR_circuit_ID_is_zero', 'invalid_HNSR_DATA_size', 'invalid_HNSR_window_credit', 'invalid_HNSR_diagnostic_detail', 'HNSR_detail_is_not_UTF-8']
+TEXTS = ['HNSR_context_ID_is_zero', 'invalid_HNSR_open_parameters', 'invalid_HNSR_incoming_parameters',
+         'invalid_HNSR_accept_response', 'HNSR_circuit_ID_is_zero', 'invalid_HNSR_DATA_size',
+         'invalid_HNSR_window_credit', 'invalid_HNSR_diagnostic_detail', 'HNSR_detail_is_not_UTF-8']
 
 def hx(t): return b'' if t == '-' else bytes.fromhex(t)
 def number(b): return int.from_bytes(b, 'big')
@@ -41,7 +44,8 @@ def call(name, f):
         else:
             e, r, x, m, b, t = f[6].split(':')
             adm = f'(grantOf {byte_list(hx(e) if e else b"")} {reservation(hx(r))} {x} {m} {b} {t})'
-        return f'item (packetOf {byte_list(hx(f[0]))} {f[1]} {number(hx(f[2]))} {body(f[3])} {f[4]} {boolean(f[5])} {adm} {byte_list(hx(f[7]))})'
+        return (f'item (packetOf {byte_list(hx(f[0]))} {f[1]} {number(hx(f[2]))} {body(f[3])} {f[4]} {boolean(f[5])} '
+                f'{adm} {byte_list(hx(f[7]))})')
     if name == 'acknowledge': return f'item (callAcknowledge {f[0]} {f[1]} {boolean(f[2])} {CLOSING_WORDS})'
     if name == 'disconnect': return f'item (callDisconnect {byte_list(hx(f[0]))} {ROOM})'
     if name == 'revoke_reservation': return f'item (callRevokeReservation {reservation(hx(f[0]))} {ROOM})'
@@ -61,13 +65,17 @@ def cause(t):
     if k == 'admission': return [5, 0, 0]
     raise SystemExit('unknown cause ' + t)
 
-def packed(words): return [hex(sum(int(x, 16) << (32 * i) for i, x in enumerate(words[k:k + 16]))) for k in range(0, len(words), 16)]
+def packed(words):
+    return [hex(sum(int(x, 16) << (32 * i) for i, x in enumerate(words[k:k + 16]))) for k in range(0, len(words), 16)]
 def peer_number(b): return f'0x01{b.hex()}'
 
 def state_row(line):
     k, *f = line[1:].split(' ')
-    if k == 'pending': return [1, number(hx(f[0])), peer_number(hx(f[1])), peer_number(hx(f[2])), number(hx(f[3])), number(hx(f[4]))] + f[5:]
-    if k == 'circuit': return [2, number(hx(f[0])), peer_number(hx(f[1])), peer_number(hx(f[2])), number(hx(f[3]))] + f[4:]
+    if k == 'pending':
+        return [1, number(hx(f[0])), peer_number(hx(f[1])), peer_number(hx(f[2])), number(hx(f[3])),
+                number(hx(f[4]))] + f[5:]
+    if k == 'circuit':
+        return [2, number(hx(f[0])), peer_number(hx(f[1])), peer_number(hx(f[2])), number(hx(f[3]))] + f[4:]
     if k == 'ledger': return [3, number(hx(f[0]))] + f[1:]
     if k == 'action': return [4, f[0], f[1], number(hx(f[2])), peer_number(hx(f[3])), f[4], f[5]]
     raise SystemExit('unknown state ' + line)
@@ -89,8 +97,8 @@ def read(path, with_state):
         answer, why, n, digest, *words = right.split(' | ')[0].split(' ')
         st = right.split(' | ')[1].split(' ')
         if len(words) != int(n): raise SystemExit(path + ': words are missing, generate with --full')
-        rows.append(dict(call=call(name, f), seen=[int(answer)] + cause(why) + [int(n)] + packed(words), status=None if st == ['-'] else st, state=None,
-                         line=line[:90]))
+        rows.append(dict(call=call(name, f), seen=[int(answer)] + cause(why) + [int(n)] + packed(words),
+                         status=None if st == ['-'] else st, state=None, line=line[:90]))
     return places, rows
 
 def status_row(st):
@@ -167,7 +175,8 @@ configFrom a b c d e f g h i = record
   }
 
 unfoldable pub startOf : List ℕ → ℕ → OpaqueRelayConfig → ℕ → Start
-startOf session generation config now = record { session = session; generation = generation; config = config; now = now }
+startOf session generation config now =
+    record { session = session; generation = generation; config = config; now = now }
 
 unfoldable pub refused : Admission
 refused = record { admitted = false; endpoint = []; ticket = noTicket }
@@ -176,12 +185,27 @@ unfoldable pub grantOf : List ℕ → ReservationId → ℕ → ℕ → ℕ → 
 grantOf endpoint id expiry most each total = record
     { admitted = true
     ; endpoint = endpoint
-    ; ticket = record { «reservation_id» = id; «expires_at» = expiry; «max_active_circuits» = most; «max_bytes_per_circuit» = each; «max_total_bytes» = total }
+    ; ticket = record
+        { «reservation_id» = id
+        ; «expires_at» = expiry
+        ; «max_active_circuits» = most
+        ; «max_bytes_per_circuit» = each
+        ; «max_total_bytes» = total
+        }
     }
 
 unfoldable pub packetOf : List ℕ → ℕ → ℕ → List ℕ → ℕ → Bool → Admission → List ℕ → Call
 packetOf source opcode context body now key admission random =
-    callHandle (record { source = source; opcode = opcode; context = context; body = body; now = now; keyValid = key; admission = admission; random = random }) HANDLE_WORDS
+    callHandle (record
+        { source = source
+        ; opcode = opcode
+        ; context = context
+        ; body = body
+        ; now = now
+        ; keyValid = key
+        ; admission = admission
+        ; random = random
+        }) HANDLE_WORDS
 
 -- ---- what is seen of an outcome
 -- words two to a number, again and again: sixteen to a number. With the count it says every word
@@ -192,7 +216,9 @@ pairs base (a ∷ b ∷ rest) = (a + base * b) ∷ pairs base rest
 
 unfoldable pub pack : List ℕ → List ℕ
 unfolding pairs
-pack ws = pairs 0x10000000000000000000000000000000000000000000000000000000000000000 (pairs 0x100000000000000000000000000000000 (pairs 0x10000000000000000 (pairs 0x100000000 ws)))
+pack ws =
+    pairs 0x10000000000000000000000000000000000000000000000000000000000000000
+        (pairs 0x100000000000000000000000000000000 (pairs 0x10000000000000000 (pairs 0x100000000 ws)))
 
 unfoldable pub causeRow : Cause → List ℕ
 causeRow c = c .kind ∷ c .first ∷ c .second ∷ []
@@ -212,8 +238,9 @@ bit false = 0
 unfoldable pub statusRow : HnsrRuntimeStatus → List ℕ
 unfolding bit
 statusRow s =
-    s .generation ∷ bit (s .enabled) ∷ s .«pending_circuits» ∷ s .«active_circuits» ∷ s .«queued_bytes» ∷ s .«queued_actions»
-    ∷ s .«trusted_time_high_water» ∷ s .«admitted_opens» ∷ s .«opened_circuits» ∷ s .«bytes_sent» ∷ s .«bytes_received» ∷ s .«revoked_work» ∷ []
+    s .generation ∷ bit (s .enabled) ∷ s .«pending_circuits» ∷ s .«active_circuits» ∷ s .«queued_bytes»
+    ∷ s .«queued_actions» ∷ s .«trusted_time_high_water» ∷ s .«admitted_opens» ∷ s .«opened_circuits»
+    ∷ s .«bytes_sent» ∷ s .«bytes_received» ∷ s .«revoked_work» ∷ []
 
 unfoldable pub dueRow : NextDue → List ℕ
 dueRow Never = 0 ∷ 0 ∷ []
@@ -241,19 +268,22 @@ wide r = r .high * 18446744073709551616 + r .low
 unfoldable pub rowsFrom : {A : Type 0} → (A → ℕ) → (A → Bool) → A → (A → List ℕ) → List A → ℕ → Walked → List (List ℕ)
 rowsFrom key used none row t zero c = []
 rowsFrom key used none row t (suc n) c =
-    let k = next key used c t in elim (k .taken) [ true ↦ row (getD t (k .place) none) ∷ rowsFrom key used none row t n k | false ↦ [] ]
+    let k = next key used c t in
+    elim (k .taken) [ true ↦ row (getD t (k .place) none) ∷ rowsFrom key used none row t n k | false ↦ [] ]
 
 unfoldable pub pendingRow : RelayPending → List ℕ
 unfolding peerNumber wide
 pendingRow p =
-    1 ∷ p .«circuit_id» ∷ peerNumber (p .requester) ∷ peerNumber (p .endpoint) ∷ p .«requester_context» ∷ wide (p .ticket .«reservation_id»)
-    ∷ p .ticket .«expires_at» ∷ p .ticket .«max_active_circuits» ∷ p .ticket .«max_bytes_per_circuit» ∷ p .ticket .«max_total_bytes» ∷ p .«initial_window» ∷ p .deadline ∷ []
+    1 ∷ p .«circuit_id» ∷ peerNumber (p .requester) ∷ peerNumber (p .endpoint) ∷ p .«requester_context»
+    ∷ wide (p .ticket .«reservation_id») ∷ p .ticket .«expires_at» ∷ p .ticket .«max_active_circuits»
+    ∷ p .ticket .«max_bytes_per_circuit» ∷ p .ticket .«max_total_bytes» ∷ p .«initial_window» ∷ p .deadline ∷ []
 
 unfoldable pub circuitRow : RelayCircuit → List ℕ
 unfolding peerNumber wide
 circuitRow c =
-    2 ∷ c .«circuit_id» ∷ peerNumber (c .requester) ∷ peerNumber (c .endpoint) ∷ wide (c .«reservation_id») ∷ c .«expires_at» ∷ c .«maximum_bytes»
-    ∷ c .«maximum_total_bytes» ∷ c .«requester_credit» ∷ c .«endpoint_credit» ∷ c .«forwarded_bytes» ∷ c .«queued_to_requester» ∷ c .«queued_to_endpoint» ∷ []
+    2 ∷ c .«circuit_id» ∷ peerNumber (c .requester) ∷ peerNumber (c .endpoint) ∷ wide (c .«reservation_id»)
+    ∷ c .«expires_at» ∷ c .«maximum_bytes» ∷ c .«maximum_total_bytes» ∷ c .«requester_credit» ∷ c .«endpoint_credit»
+    ∷ c .«forwarded_bytes» ∷ c .«queued_to_requester» ∷ c .«queued_to_endpoint» ∷ []
 
 unfoldable pub usageKey : ReservationUsage → ℕ
 unfolding wide
@@ -269,11 +299,13 @@ actionKey a = a .generation * 18446744073709551616 + a .sequence
 -- the trace's kinds: 0 Incoming, 1 Opened, 2 Data to requester, 3 Data to endpoint, 4 Control, 5 Close
 unfoldable pub kindCode : InflightAction → ℕ
 unfolding bit
-kindCode a = cond (eqb (a .kind) 2) (2 + bit (a .«to_endpoint»)) (cond (eqb (a .kind) 3) 4 (cond (eqb (a .kind) 4) 5 (a .kind)))
+kindCode a =
+    cond (eqb (a .kind) 2) (2 + bit (a .«to_endpoint»)) (cond (eqb (a .kind) 3) 4 (cond (eqb (a .kind) 4) 5 (a .kind)))
 
 unfoldable pub actionRow : InflightAction → List ℕ
 unfolding peerNumber kindCode
-actionRow a = 4 ∷ a .generation ∷ a .sequence ∷ a .«circuit_id» ∷ peerNumber (a .destination) ∷ kindCode a ∷ a .bytes ∷ []
+actionRow a =
+    4 ∷ a .generation ∷ a .sequence ∷ a .«circuit_id» ∷ peerNumber (a .destination) ∷ kindCode a ∷ a .bytes ∷ []
 
 unfoldable pub stateRows : World → List (List ℕ)
 unfolding rowsFrom pendingRow circuitRow usageRow usageKey actionRow actionKey machine
@@ -289,7 +321,8 @@ unfoldable pub moved : World → Item → Outcome
 unfolding machine
 moved w (begin s) = start w s
 moved w (item c) = step w c
-moved w (poke n) = record { world = withHeader w (withSequence (w .header) n); answer = Taken; routes = []; told = silent }
+moved w (poke n) =
+    record { world = withHeader w (withSequence (w .header) n); answer = Taken; routes = []; told = silent }
 
 unfoldable pub seenOf : Outcome → Bool → Bool → List (List ℕ)
 unfolding answerRow worldRow stateRows machine
@@ -334,19 +367,26 @@ def theorem(n, places, rows):
         seen = [listed(r['seen'])]
         if r['status']: seen.append(listed(status_row(r['status'])))
         if r['state']: seen += [listed(x) for x in r['state']]
-        out += [f'-- {r["line"]}', f'l{n}-{i} : Line', 'unfolding bytes pattern reservationOf configFrom startOf refused grantOf packetOf',
-                f'l{n}-{i} = record {{ does = {r["call"]}; status = {boolean("1" if r["status"] else "0")}; state = {boolean("1" if r["state"] else "0")}; seen =\n      {nested(seen)} }}', '']
+        status, state = (boolean('1' if r[part] else '0') for part in ('status', 'state'))
+        out += [f'-- {r["line"]}', f'l{n}-{i} : Line',
+                'unfolding bytes pattern reservationOf configFrom startOf refused grantOf packetOf',
+                f'l{n}-{i} = record {{ does = {r["call"]}; status = {status}; state = {state}; seen =\n'
+                f'      {nested(seen)} }}', '']
     names = [f'l{n}-{i}' for i in range(len(rows))]
     out += [f'lines{n} : List Line', 'unfolding ' + ' '.join(names), f'lines{n} = ' + ' ∷ '.join(names + ['[]']), '',
-            f'agrees{n} : observed (lent {places[0]} {places[1]} {places[2]} {places[3]}) lines{n} ≡ recorded lines{n}', f'unfolding lines{n} observed recorded lent', f'agrees{n} = refl', '']
+            f'agrees{n} : observed (lent {places[0]} {places[1]} {places[2]} {places[3]}) lines{n} ≡ recorded lines{n}',
+            f'unfolding lines{n} observed recorded lent', f'agrees{n} = refl', '']
     return out
 
 def module(path, places, rows, per):
     out = [f'-- {os.path.basename(path)}. Made by tools/trace2antt.py.',
-           'use mathlib.Core.Path.{_≡_, refl}', 'use mathlib.Core.Bool.{true, false}', 'use mathlib.Core.List.{List, [], _∷_}',
-           'use Rattle.hnsr_circuit.specs.Call.{callAcknowledge, callDisconnect, callRevokeReservation, callExpire, callObserveTime, callReplaceEnabled}',
+           'use mathlib.Core.Path.{_≡_, refl}', 'use mathlib.Core.Bool.{true, false}',
+           'use mathlib.Core.List.{List, [], _∷_}',
+           'use Rattle.hnsr_circuit.specs.Call.{callAcknowledge, callDisconnect, callRevokeReservation, callExpire, '
+           'callObserveTime, callReplaceEnabled}',
            'use Rattle.hnsr_circuit.specs.Worked.Cases.{lent}',
-           'use Rattle.traces.specs.Help.{Item, begin, item, poke, Line, bytes, pattern, reservationOf, configFrom, startOf, refused, grantOf, packetOf, observed, recorded}', '']
+           'use Rattle.traces.specs.Help.{Item, begin, item, poke, Line, bytes, pattern, reservationOf, '
+           'configFrom, startOf, refused, grantOf, packetOf, observed, recorded}', '']
     for n, part in enumerate(parts(rows, per)): out += theorem(n, places, part)
     return '\n'.join(out)
 
@@ -362,8 +402,11 @@ def main():
     os.makedirs(f'{out}/crates/traces/src', exist_ok=True)
     os.makedirs(f'{out}/crates/traces/specs', exist_ok=True)
     for c in ('hns_encoding', 'hnsr_body', 'hnsr_circuit'):
-        if not os.path.lexists(f'{out}/crates/{c}'): os.symlink(os.path.abspath(f'{repo}/crates/{c}'), f'{out}/crates/{c}')
-    open(f'{out}/crates.txt', 'w').write('hns_encoding:\nhnsr_body: hns_encoding\nhnsr_circuit: hnsr_body hns_encoding\ntraces: hnsr_circuit hnsr_body hns_encoding\n')
+        if not os.path.lexists(f'{out}/crates/{c}'):
+            os.symlink(os.path.abspath(f'{repo}/crates/{c}'), f'{out}/crates/{c}')
+    open(f'{out}/crates.txt', 'w').write(
+        'hns_encoding:\nhnsr_body: hns_encoding\nhnsr_circuit: hnsr_body hns_encoding\n'
+        'traces: hnsr_circuit hnsr_body hns_encoding\n')
     open(f'{out}/crates/traces/src/lib.rt', 'w').write('pub fn one() -> u64 {\n    1\n}\n')
     S = f'{out}/crates/traces/specs'
     for n in os.listdir(S): os.remove(f'{S}/{n}')

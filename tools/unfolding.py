@@ -1,6 +1,6 @@
 #!/usr/bin/env python3
-"""Writes crates/hnsr_circuit/specs/Worked/All.antt: one name, `machine`, whose unfolding opens every definition, so that a theorem
-by computation says `unfolding machine`.   usage: tools/unfolding.py   (from the repository's root)"""
+"""Writes crates/hnsr_circuit/specs/Worked/All.antt: one name, `machine`, whose unfolding opens every definition, so
+that a theorem by computation says `unfolding machine`.   usage: tools/unfolding.py   (from the repository's root)"""
 import os, re
 CRATES = ['hns_encoding', 'hnsr_body', 'hnsr_circuit']
 LEFT_OUT = {'Laws', 'Worked', 'Examples', 'Utf8Form', 'Utf8Encode', 'Utf8CodePoints', 'Utf8Examples'}
@@ -12,7 +12,8 @@ def modules(crate, index='Lib', room=''):
         else: yield room + m
 
 def names(crate, module):
-    return re.findall(r'^\s*unfoldable pub (\S+) :', open(f'crates/{crate}/specs/{module.replace(".", "/")}.antt').read(), re.M)
+    text = open(f'crates/{crate}/specs/{module.replace(".", "/")}.antt').read()
+    return re.findall(r'^\s*unfoldable pub (\S+) :', text, re.M)
 
 def main():
     uses, every, seen = [], [], {}

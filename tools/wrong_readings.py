@@ -3,9 +3,10 @@
 
     python3 tools/wrong_readings.py [NAME..]
 
-An edit has the form of a must-fail edit. It is applied to the second reading in a copy of host/ and traces/, and `beyond 7 300000` is run there: the
-library is right, so a difference is the reading's. For each edit the first call that differs is printed. Exit 1 where none does, or where the reading
-as it stands differs too. The archive is that of host/, or of the folder that LEKCHNAM_STATICLIB names, seen from host/.
+An edit has the form of a must-fail edit. It is applied to the second reading in a copy of host/ and traces/, and
+`beyond 7 300000` is run there: the library is right, so a difference is the reading's. For each edit the first call
+that differs is printed. Exit 1 where none does, or where the reading as it stands differs too. The archive is that of
+host/, or of the folder that LEKCHNAM_STATICLIB names, seen from host/.
 """
 import os
 import pathlib

@@ -2,15 +2,13 @@
 -- number; so a table is seen with the marks of the places at and above the number cleared, and what else stands there as it is. The machine's
 -- definition speaks of tables as they are seen.
 use Prim.Native.Nat.{ℕ, zero, suc, _+_}
-use mathlib.Core.Bool.{Bool, true, false, cond, _&&_}
+use mathlib.Core.Bool.{Bool, cond, _&&_}
 use mathlib.Core.List.{List, [], _∷_}
 use lib.Dec.{leb, ltb}
 use Rattle.hnsr_circuit.specs.declared.records.RelayPending.{RelayPending}
 use Rattle.hnsr_circuit.specs.declared.records.RelayCircuit.{RelayCircuit}
 use Rattle.hnsr_circuit.specs.declared.records.ReservationUsage.{ReservationUsage}
 use Rattle.hnsr_circuit.specs.declared.records.InflightAction.{InflightAction}
-use Rattle.hnsr_circuit.specs.declared.tables.question.Ask.{Ask}
-use Rattle.hnsr_circuit.specs.declared.tables.question.Ask.the-variants.{Unused, Used, At, Named, Of, Under, Over}
 use Rattle.hnsr_circuit.specs.declared.tables.places.Places.{Places}
 use Rattle.hnsr_circuit.specs.declared.runtime.OpaqueRelayRuntime.{OpaqueRelayRuntime}
 use Rattle.hnsr_circuit.specs.declared.runtime.Relayed.{Relayed}
@@ -81,13 +79,3 @@ withActions number n = record { pending = n .pending; circuits = n .circuits; le
 -- a store raises the number where it is done at or above it
 abbrev pub raisedTo : (go : Bool) → (n place size : ℕ) → ℕ
 raisedTo go n place size = cond (go && ltb place size && leb n place) (place + 1) n
-
--- whether a question is one that unmarked records answer; they all answer alike
-abbrev pub asksUnused : Ask → Bool
-asksUnused Unused = true
-asksUnused Used = false
-asksUnused At = false
-asksUnused Named = false
-asksUnused Of = false
-asksUnused Under = false
-asksUnused Over = false

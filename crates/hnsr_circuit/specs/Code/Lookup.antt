@@ -1,6 +1,6 @@
 -- What the code keeps of a lookup: whether a record has what is asked, the lowest place that has it, and the record there.
+use mathlib.Core.Bool.{Bool}
 use mathlib.Core.List.{List}
-use Rattle.hnsr_circuit.specs.declared.tables.question.Question.{Question}
 use Rattle.hnsr_circuit.specs.declared.records.RelayPending.{RelayPending}
 use Rattle.hnsr_circuit.specs.declared.records.RelayCircuit.{RelayCircuit}
 use Rattle.hnsr_circuit.specs.declared.records.ReservationUsage.{ReservationUsage}
@@ -14,16 +14,15 @@ use Rattle.hnsr_circuit.specs.Pending.{noPending}
 use Rattle.hnsr_circuit.specs.Circuits.{noCircuit}
 use Rattle.hnsr_circuit.specs.Ledger.{noUsage}
 use Rattle.hnsr_circuit.specs.Inflight.{noAction}
-use Rattle.hnsr_circuit.specs.Code.Question.{pendingHas, circuitHas, usageHas, actionHas}
 
-abbrev pub pendingFound : Question → List RelayPending → PendingFound
-pendingFound q t = record { found = any (pendingHas q) t; place = placeOf (pendingHas q) t; pending = pick (pendingHas q) noPending t }
+abbrev pub pendingFound : (RelayPending → Bool) → List RelayPending → PendingFound
+pendingFound p t = record { found = any p t; place = placeOf p t; pending = pick p noPending t }
 
-abbrev pub circuitFound : Question → List RelayCircuit → CircuitFound
-circuitFound q t = record { found = any (circuitHas q) t; place = placeOf (circuitHas q) t; circuit = pick (circuitHas q) noCircuit t }
+abbrev pub circuitFound : (RelayCircuit → Bool) → List RelayCircuit → CircuitFound
+circuitFound p t = record { found = any p t; place = placeOf p t; circuit = pick p noCircuit t }
 
-abbrev pub usageFound : Question → List ReservationUsage → UsageFound
-usageFound q t = record { found = any (usageHas q) t; place = placeOf (usageHas q) t; usage = pick (usageHas q) noUsage t }
+abbrev pub usageFound : (ReservationUsage → Bool) → List ReservationUsage → UsageFound
+usageFound p t = record { found = any p t; place = placeOf p t; usage = pick p noUsage t }
 
-abbrev pub actionFound : Question → List InflightAction → ActionFound
-actionFound q t = record { found = any (actionHas q) t; place = placeOf (actionHas q) t; action = pick (actionHas q) noAction t }
+abbrev pub actionFound : (InflightAction → Bool) → List InflightAction → ActionFound
+actionFound p t = record { found = any p t; place = placeOf p t; action = pick p noAction t }

@@ -27,10 +27,11 @@ use Rattle.hnsr_circuit.specs.declared.messages.window.WindowPlan.{Windo
 use Rattle.hnsr_circuit.specs.declared.messages.close.ClosePlan.{ClosePlan}
 use Rattle.hnsr_circuit.specs.declared.answer.HnsrAnswer.{HnsrAnswer}
 use Rattle.hnsr_circuit.specs.Answers.{bodyAnswer, taken, _then_}
-use Rattle.hnsr_circuit.specs.Circuits.{sideOf}
+use Rattle.hnsr_circuit.specs.Pending.{namedBy}
+use Rattle.hnsr_circuit.specs.Circuits.{sideOf, circuitAt}
+use Rattle.hnsr_circuit.specs.Ledger.{usageAt}
 use Rattle.hnsr_circuit.specs.Inflight.{capacityAnswer}
 use Rattle.hnsr_circuit.specs.Header.{withCounters, countBytes, countRevoked}
-use Rattle.hnsr_circuit.specs.Code.Question.{at, atReservation, named, pendingHas}
 use Rattle.hnsr_circuit.specs.Code.Lookup.{pendingFound, circuitFound, usageFound}
 use Rattle.hnsr_circuit.specs.Code.Turns.{actionsScanned}
 use Rattle.hnsr_circuit.specs.Code.Progress.{asking}
@@ -65,11 +66,11 @@ dataPlan h f u s peer m n = let a = dataRows (h .config) f u (s .tally) peer n i
 abbrev pub dataPlannedOn : OpaqueRelayRuntime → CircuitFound → List ReservationUsage → List InflightAction → RelayPacket → HnsrPeerId → (n : ℕ) → DataPlan
 dataPlannedOn h f l i q peer n =
     let m = dataOn q (f .circuit) peer n in
-    dataPlan h f (usageFound (atReservation (f .circuit .«reservation_id»)) l) (actionsScanned (asking h m) i) peer m n
+    dataPlan h f (usageFound (usageAt (f .circuit .«reservation_id»)) l) (actionsScanned (asking h m) i) peer m n
 
 -- on the one that the packet names
 abbrev pub dataPlanned : OpaqueRelayRuntime → List RelayCircuit → List ReservationUsage → List InflightAction → RelayPacket → HnsrPeerId → (n : ℕ) → DataPlan
-dataPlanned h c l i q peer n = dataPlannedOn h (circuitFound (at (q .«context_id») 0) c) l i q peer n
+dataPlanned h c l i q peer n = dataPlannedOn h (circuitFound (circuitAt (q .«context_id»)) c) l i q peer n
 
 -- ---- WINDOW
 abbrev pub windowRows : OpaqueRelayConfig → WindowRead → CircuitFound → InflightTally → HnsrPeerId → HnsrAnswer
@@ -96,7 +97,7 @@ windowPlannedOn h read f i q peer =
     windowPlan (h .config) read f (actionsScanned (asking h m) i) peer m
 
 abbrev pub windowPlanned : OpaqueRelayRuntime → List RelayCircuit → List InflightAction → RelayPacket → HnsrPeerId → (body : List ℕ) → WindowPlan
-windowPlanned h c i q peer body = windowPlannedOn h (decodeWindow body) (circuitFound (at (q .«context_id») 0) c) i q peer
+windowPlanned h c i q peer body = windowPlannedOn h (decodeWindow body) (circuitFound (circuitAt (q .«context_id»)) c) i q peer
 
 -- ---- CLOSE and ERROR
 abbrev pub closeRows : DetailRead → (matches : ℕ) → CircuitFound → HnsrPeerId → HnsrAnswer
@@ -124,8 +125,8 @@ closePlan h q read matches w f peer = let a = closeRows read matches f peer in r
 
 abbrev pub closePlannedOn : OpaqueRelayRuntime → List RelayPending → List RelayCircuit → RelayPacket → DetailRead → HnsrPeerId → ClosePlan
 closePlannedOn h p c q read peer =
-    let naming = named peer (q .«context_id») in
-    closePlan h q read (count (pendingHas naming) p) (pendingFound naming p) (circuitFound (at (q .«context_id») 0) c) peer
+    let naming = namedBy peer (q .«context_id») in
+    closePlan h q read (count naming p) (pendingFound naming p) (circuitFound (circuitAt (q .«context_id»)) c) peer
 
 abbrev pub closePlanned : OpaqueRelayRuntime → List RelayPending → List RelayCircuit → RelayPacket → HnsrPeerId → (body : List ℕ) → ClosePlan
 closePlanned h p c q peer body = closePlannedOn h p c q (decodeDetail body) peer

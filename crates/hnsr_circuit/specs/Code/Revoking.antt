@@ -1,6 +1,7 @@
 -- What a revoking call hands its walks, and the messages by which the code ends a record.
 use Prim.Native.Nat.{ℕ}
-use mathlib.Core.Bool.{Bool, true, cond}
+use mathlib.Core.Bool.{Bool, true, false, cond}
+use Rattle.hnsr_body.specs.declared.messages.Notice.{Notice}
 use Rattle.hnsr_body.specs.declared.messages.Notice.the-variants.{PeerDisconnected}
 use Rattle.hnsr_circuit.specs.declared.peer.HnsrPeerId.{HnsrPeerId}
 use Rattle.hnsr_circuit.specs.declared.records.RelayPending.{RelayPending}
@@ -9,12 +10,14 @@ use Rattle.hnsr_circuit.specs.declared.output.queue.Outgoing.{Outgoing}
 use Rattle.hnsr_circuit.specs.Code.Message.{closeOn}
 use Rattle.hnsr_circuit.specs.declared.calls.revocation.Revoking.{Revoking}
 use Rattle.hnsr_circuit.specs.declared.runtime.OpaqueRelayRuntime.{OpaqueRelayRuntime}
-use Rattle.hnsr_circuit.specs.Peer.{samePeer}
+use Rattle.hnsr_circuit.specs.declared.tables.question.RecordQuestion.{RecordQuestion}
+use Rattle.hnsr_circuit.specs.declared.tables.question.RecordQuestion.the-variants.{OfPeer}
+use Rattle.hnsr_circuit.specs.Peer.{samePeer, noPeer}
 use Rattle.hnsr_circuit.specs.Header.{countRevoked, withCounters}
 use Rattle.hnsr_circuit.specs.World.{World, Outcome}
 use Rattle.hnsr_circuit.specs.Queue.{Sent}
 use Rattle.hnsr_circuit.specs.Opcode.{opClose, opError}
-use Rattle.hnsr_circuit.specs.Code.Question.{ofPeer, pendingHas, circuitHas}
+use Rattle.hnsr_circuit.specs.Code.Question.{pendingHas, circuitHas}
 use Rattle.hnsr_circuit.specs.Revocation.{revokePending, revokeCircuitThere, revokeAll}
 use Rattle.hnsr_circuit.specs.RevokingCalls.{disconnectPending}
 
@@ -35,7 +38,7 @@ otherOut peer p =
     cond (samePeer (p .requester) peer) (closeOut p) (closeOn (p .requester) (p .«circuit_id») opClose (p .«requester_context»))
 
 abbrev pub firstOut : Revoking → RelayPending → Outgoing
-firstOut v p = cond (v .disconnecting) (otherOut (v .question .peer) p) (errorOut p)
+firstOut v p = cond (v .disconnecting) (otherOut (v .peer) p) (errorOut p)
 
 -- ---- counted as revoked, where that is so
 abbrev pub revokedIf : Bool → OpaqueRelayRuntime → OpaqueRelayRuntime
@@ -43,12 +46,30 @@ revokedIf go h = cond go (withCounters h (countRevoked (h .counters))) h
 
 -- ---- the end of a pending record in a walk
 unfoldable pub endingPending : Revoking → World → (place : ℕ) → Sent
-endingPending v w place = cond (v .disconnecting) (disconnectPending (v .question .peer) w place) (revokePending (v .notice) w place)
+endingPending v w place =
+    cond (v .disconnecting) (disconnectPending (v .peer) w place) (revokePending (v .notice) w place)
 
--- what the walks of a revoking call do
+-- ---- what the walks of a revoking call ask, and what they do
+abbrev pub revokedPending : Revoking → RelayPending → Bool
+revokedPending v = pendingHas (v .question) (v .peer)
+
+abbrev pub revokedCircuit : Revoking → RelayCircuit → Bool
+revokedCircuit v = circuitHas (v .question) (v .peer)
+
 abbrev pub revokingAll : Revoking → World → Outcome
-revokingAll v w = revokeAll (endingPending v) (pendingHas (v .question)) (revokeCircuitThere (v .«circuit_notice»)) (circuitHas (v .question)) w
+revokingAll v w =
+    revokeAll (endingPending v) (revokedPending v) (revokeCircuitThere (v .«circuit_notice»)) (revokedCircuit v) w
 
 -- ---- what each call revokes
 abbrev pub disconnectingAll : HnsrPeerId → Revoking
-disconnectingAll peer = record { question = ofPeer peer; notice = PeerDisconnected; «circuit_notice» = PeerDisconnected; disconnecting = true }
+disconnectingAll peer = record {
+  question = OfPeer;
+  peer = peer;
+  notice = PeerDisconnected;
+  «circuit_notice» = PeerDisconnected;
+  disconnecting = true;
+}
+
+abbrev pub revokes : RecordQuestion → (notice circuit : Notice) → Revoking
+revokes q notice circuit = record
+    { question = q; peer = noPeer; notice = notice; «circuit_notice» = circuit; disconnecting = false }

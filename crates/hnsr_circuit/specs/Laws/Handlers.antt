@@ -42,7 +42,6 @@ use Rattle.hnsr_circuit.specs.Pending.{noPending, namedBy, clearPending}
 use Rattle.hnsr_circuit.specs.Circuits.{noCircuit, circuitAt, sideOf, otherSide, creditOf, charged, raised, clearCircuit}
 use Rattle.hnsr_circuit.specs.Ledger.{noUsage, usageAt, spent}
 use Rattle.hnsr_circuit.specs.Inflight.{actionUnder, dropped, capacityAnswer}
-use Rattle.hnsr_circuit.specs.Code.Question.{at, circuitAsked, usageAsked, pendingAsked}
 use Rattle.hnsr_circuit.specs.Code.Lookup.{circuitFound}
 use Rattle.hnsr_circuit.specs.Header.{withCounters, countBytes, countRevoked}
 use Rattle.hnsr_circuit.specs.World.{proceed, worldOf}
@@ -91,7 +90,7 @@ module _ (h : OpaqueRelayRuntime) (c : List RelayCircuit) (l : List ReservationU
       → l′ ≡ cond (plan .go) (set l (plan .«usage_place») (spent (length body) (getD l (plan .«usage_place») noUsage))) l
       → r ≡ ending out (proceed (worldOf (plan .runtime) p c′ l′ i) (plan .answer) (send (worldOf (plan .runtime) p c′ l′ i) (messageOf (plan .message) body)))
       → r ≡ ending out (handleData (worldOf h p c l i) (packetOf q source body e rs))
-  unfolding handleData dataWith dataTaken withData dataMessage sender circuitAsked usageAsked actionsScanned
+  unfolding handleData dataWith dataTaken withData dataMessage sender actionsScanned
   data-handled out p e rs r c′ l′ ec el es =
       let n = length body in
       let d = dataPlanned h c l i q (peerOf source) n in
@@ -109,10 +108,10 @@ module _ (h : OpaqueRelayRuntime) (c : List RelayCircuit) (l : List ReservationU
 
 -- refused by its body or its circuit
 pub data-refused : (h : OpaqueRelayRuntime) (p : List RelayPending) (c : List RelayCircuit) (l : List ReservationUsage) (i : List InflightAction) (q : RelayPacket) (source body e rs out : List ℕ)
-    (f : CircuitFound) (a : HnsrAnswer) (r : Relayed) → f ≡ circuitFound (at (q .«context_id») 0) c
+    (f : CircuitFound) (a : HnsrAnswer) (r : Relayed) → f ≡ circuitFound (circuitAt (q .«context_id»)) c
     → a ≡ (bodyAnswer (dataChecked (length body)) then circuitAnswer (f .found) (f .circuit) (peerOf source)) → taken a ≡ false
     → (r .runtime ≡ h) × (r .answer ≡ a) × (r .words ≡ 0) → handedBack r p c l i out ≡ ending out (handleData (worldOf h p c l i) (packetOf q source body e rs))
-unfolding handleData dataWith dataTaken sender circuitAsked
+unfolding handleData dataWith dataTaken sender
 data-refused h p c l i q source body e rs out f a r ef ea t k =
     let x = bodyAnswer (dataChecked (length body)) in
     let y = circuitAnswer (any (circuitAt (q .«context_id»)) c) (pick (circuitAt (q .«context_id»)) noCircuit c) (peerOf source) in
@@ -151,7 +150,6 @@ module _ (h : OpaqueRelayRuntime) (c : List RelayCircuit) (i : List InflightActi
   window-scanned = ap (λ (x : WindowPlan). x .scan) ep ∙ sym (ap (λ (x : WindowPlan). actionsScanned (asking h (x .message)) i) ep)
 
   pub window-fits : plan .go ≡ true → creditOf (otherSide (plan .side)) (getD c (plan .place) noCircuit) + plan .delta < 4294967296
-  unfolding circuitAsked
   window-fits g =
       let d = windowPlanned h c i q peer body in
       let id = q .«context_id» in
@@ -169,7 +167,7 @@ module _ (h : OpaqueRelayRuntime) (c : List RelayCircuit) (i : List InflightActi
       → c′ ≡ cond (plan .go) (set c (plan .place) (raised (plan .side) (plan .delta) (getD c (plan .place) noCircuit))) c
       → r ≡ ending out (proceed (worldOf h p c′ l i) (plan .answer) (send (worldOf h p c′ l i) (messageOf (plan .message) body)))
       → r ≡ ending out (handleWindow (worldOf h p c l i) (packetOf q source body e rs))
-  unfolding handleWindow windowWith windowTaken withWindow sender circuitAsked actionsScanned decodeWindow
+  unfolding handleWindow windowWith windowTaken withWindow sender actionsScanned decodeWindow
   window-handled out p l e rs r c′ ec es =
       let d = windowPlanned h c i q (peerOf source) body in
       let id = q .«context_id» in
@@ -181,10 +179,10 @@ module _ (h : OpaqueRelayRuntime) (c : List RelayCircuit) (i : List InflightActi
       ∙ ap (ending out) (passes-circuit h p c (edit (circuitAt id) (raised (d .side) (d .delta)) c) l i (messageOf (d .message) body) (d .answer))
 
 pub window-refused : (h : OpaqueRelayRuntime) (p : List RelayPending) (c : List RelayCircuit) (l : List ReservationUsage) (i : List InflightAction) (q : RelayPacket) (source body e rs out : List ℕ)
-    (read : WindowRead) (f : CircuitFound) (a : HnsrAnswer) (r : Relayed) → read ≡ decodeWindow body → f ≡ circuitFound (at (q .«context_id») 0) c
+    (read : WindowRead) (f : CircuitFound) (a : HnsrAnswer) (r : Relayed) → read ≡ decodeWindow body → f ≡ circuitFound (circuitAt (q .«context_id»)) c
     → a ≡ (bodyAnswer (read .result) then circuitAnswer (f .found) (f .circuit) (peerOf source)) → taken a ≡ false
     → (r .runtime ≡ h) × (r .answer ≡ a) × (r .words ≡ 0) → handedBack r p c l i out ≡ ending out (handleWindow (worldOf h p c l i) (packetOf q source body e rs))
-unfolding handleWindow windowWith windowTaken sender circuitAsked
+unfolding handleWindow windowWith windowTaken sender
 window-refused h p c l i q source body e rs out read f a r er ef ea t k =
     let x = bodyAnswer (decodeWindow body .result) in
     let y = circuitAnswer (any (circuitAt (q .«context_id»)) c) (pick (circuitAt (q .«context_id»)) noCircuit c) (peerOf source) in
@@ -213,7 +211,7 @@ module _ (h : OpaqueRelayRuntime) (p : List RelayPending) (c : List RelayCircuit
       → i₁ ≡ cond (plan .go) (dropped (actionUnder (plan .id)) i) i
       → r ≡ ending out (proceed (worldOf (plan .runtime) p′ c′ l i₁) (plan .answer) (send (worldOf (plan .runtime) p′ c′ l i₁) (messageOf (plan .message) body)))
       → r ≡ ending out (handleClose (worldOf h p c l i) (packetOf q source body e rs))
-  unfolding handleClose closeTaken detailAnswer closePending closeCircuit translated endPending endCircuit withoutActions withoutPending sender circuitAsked pendingAsked
+  unfolding handleClose closeTaken detailAnswer closePending closeCircuit translated endPending endCircuit withoutActions withoutPending sender
   close-handled out l e rs r p′ c′ i₁ eq ec ei es =
       let d = closePlanned h p c q (peerOf source) body in
       let id = q .«context_id» in
@@ -252,6 +250,6 @@ detail-refused h p c l i q source body e rs out read a r er ea t k =
 pub close-refused : (h : OpaqueRelayRuntime) (p : List RelayPending) (c : List RelayCircuit) (l : List ReservationUsage) (i : List InflightAction) (q : RelayPacket) (source body e rs out : List ℕ)
     (plan : ClosePlan) (r : Relayed) → plan ≡ closePlanned h p c q (peerOf source) body → plan .go ≡ false
     → (r .runtime ≡ h) × (r .answer ≡ plan .answer) × (r .words ≡ 0) → handedBack r p c l i out ≡ ending out (handleClose (worldOf h p c l i) (packetOf q source body e rs))
-unfolding handleClose closeTaken detailAnswer sender circuitAsked pendingAsked
+unfolding handleClose closeTaken detailAnswer sender
 close-refused h p c l i q source body e rs out plan r ep t k =
     turned-away h p c l i out r (plan .answer) _ _ k (ap (λ (x : ClosePlan). taken (x .answer)) ep ∙ sym (ap (λ (x : ClosePlan). x .go) ep) ∙ t) (ap (λ (x : ClosePlan). x .answer) ep)

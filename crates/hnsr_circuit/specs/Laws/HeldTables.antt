@@ -1,4 +1,4 @@
--- Laws of the four tables as they are seen: an unused record is its own clearing, what unmarked records answer, turns that do nothing at them, the
+-- Laws of the four tables as they are seen: an unused record is its own clearing, what no unmarked record has, turns that do nothing at them, the
 -- end of the scan of the actions, and what is handed back with the numbers that came in.
 use Prim.Native.Nat.{ℕ, suc, _+_, _≤_, _<_, min}
 use native.Mathlib.Nat.{add-zero}
@@ -14,9 +14,9 @@ use Rattle.hns_encoding.specs.Loops.{foldFrom}
 use Rattle.hns_encoding.specs.Sums.{non}
 use Rattle.hns_encoding.specs.Numbers.{top}
 use Rattle.hnsr_body.specs.declared.values.ReservationId.{ReservationId}
-use Rattle.hnsr_circuit.specs.declared.tables.question.Ask.{Ask}
-use Rattle.hnsr_circuit.specs.declared.tables.question.Ask.the-variants.{Unused, Used, At, Named, Of, Under, Over}
-use Rattle.hnsr_circuit.specs.declared.tables.question.Question.{Question}
+use Rattle.hnsr_circuit.specs.declared.peer.HnsrPeerId.{HnsrPeerId}
+use Rattle.hnsr_circuit.specs.declared.tables.question.RecordQuestion.{RecordQuestion}
+use Rattle.hnsr_circuit.specs.declared.tables.question.RecordQuestion.the-variants.{Used, OfPeer, Under, Over}
 use Rattle.hnsr_circuit.specs.declared.tables.scan.ActionQuestion.{ActionQuestion}
 use Rattle.hnsr_circuit.specs.declared.tables.scan.ActionScan.{ActionScan}
 use Rattle.hnsr_circuit.specs.declared.records.InflightAction.{InflightAction}
@@ -37,14 +37,14 @@ use Rattle.hnsr_circuit.specs.declared.answer.HnsrRuntimeError.{HnsrRunt
 use Rattle.hnsr_circuit.specs.Answers.{check}
 use Rattle.hnsr_circuit.specs.Entry.{tooFew}
 use Rattle.hnsr_circuit.specs.Table.{any}
-use Rattle.hnsr_circuit.specs.Pending.{isPending, pendingAt, pendingOf, pendingUnder, namedBy, pendingOver, pendingMarked, clearPending}
-use Rattle.hnsr_circuit.specs.Circuits.{isCircuit, circuitAt, circuitOf, circuitUnder, circuitOver, queuedIn, circuitMarked, clearCircuit}
-use Rattle.hnsr_circuit.specs.Ledger.{isUsage, usageAt, usageOver, usageMarked, clearUsage}
-use Rattle.hnsr_circuit.specs.Inflight.{isAction, actionAt, actionUnder, actionToward, actionMarked, clearAction}
-use Rattle.hnsr_circuit.specs.Code.Question.{pendingAsked, pendingHas, circuitAsked, circuitHas, usageAsked, usageHas, actionAsked, actionHas}
+use Rattle.hnsr_circuit.specs.Pending.{isPending, pendingOf, pendingUnder, pendingOver, pendingMarked, clearPending}
+use Rattle.hnsr_circuit.specs.Circuits.{isCircuit, circuitOf, circuitUnder, circuitOver, queuedIn, circuitMarked, clearCircuit}
+use Rattle.hnsr_circuit.specs.Ledger.{isUsage, usageAt, usageMarked, clearUsage}
+use Rattle.hnsr_circuit.specs.Inflight.{isAction, actionAt, actionMarked, clearAction}
+use Rattle.hnsr_circuit.specs.Code.Question.{pendingHas, circuitHas}
 use Rattle.hnsr_circuit.specs.Code.Turns.{actionsScanned, firstPlace, scanned, pendingWorked, circuitWorked, totalled, roomOn, scanSpared, roomSpared}
 use Rattle.hnsr_circuit.specs.Code.Progress.{scanPlace, handedBack, underway}
-use Rattle.hnsr_circuit.specs.Code.Held.{held, heldPending, heldCircuits, heldLedger, heldActions, handedSeen, underwaySeen, asksUnused}
+use Rattle.hnsr_circuit.specs.Code.Held.{held, heldPending, heldCircuits, heldLedger, heldActions, handedSeen, underwaySeen}
 use Rattle.hnsr_circuit.specs.Laws.Held.{length-held, rest-held, place-below, place-upto}
 use Rattle.hnsr_circuit.specs.Laws.Turns.{scan-unused}
 
@@ -65,58 +65,22 @@ pub action-still : (a : InflightAction) → isAction a ≡ false → clearAction
 unfolding isAction
 action-still a e = λ j. actionMarked (sym e j) a
 
--- ---- what unmarked records answer
-pending-asked : (ask : Ask) (q : Question) (p : RelayPending) → pendingAsked ask q (clearPending p) ≡ asksUnused ask
-unfolding pendingAsked isPending pendingAt namedBy pendingOf pendingUnder pendingOver
-pending-asked Unused q p = refl
-pending-asked Used q p = refl
-pending-asked At q p = refl
-pending-asked Named q p = refl
-pending-asked Of q p = refl
-pending-asked Under q p = refl
-pending-asked Over q p = refl
+-- ---- no unmarked record has what a walk asks
+pub pending-unmarked : (q : RecordQuestion) (peer : HnsrPeerId) (p : RelayPending)
+    → pendingHas q peer (clearPending p) ≡ false
+unfolding pendingHas isPending pendingOf pendingUnder pendingOver
+pending-unmarked Used peer p = refl
+pending-unmarked OfPeer peer p = refl
+pending-unmarked (Under id) peer p = refl
+pending-unmarked (Over now) peer p = refl
 
-pub pending-unmarked : (q : Question) (p : RelayPending) → pendingHas q (clearPending p) ≡ asksUnused (q .ask)
-pending-unmarked q p = pending-asked (q .ask) q p
-
-circuit-asked : (ask : Ask) (q : Question) (c : RelayCircuit) → circuitAsked ask q (clearCircuit c) ≡ asksUnused ask
-unfolding circuitAsked isCircuit circuitAt circuitOf circuitUnder circuitOver
-circuit-asked Unused q c = refl
-circuit-asked Used q c = refl
-circuit-asked At q c = refl
-circuit-asked Named q c = refl
-circuit-asked Of q c = refl
-circuit-asked Under q c = refl
-circuit-asked Over q c = refl
-
-pub circuit-unmarked : (q : Question) (c : RelayCircuit) → circuitHas q (clearCircuit c) ≡ asksUnused (q .ask)
-circuit-unmarked q c = circuit-asked (q .ask) q c
-
-usage-asked : (ask : Ask) (q : Question) (u : ReservationUsage) → usageAsked ask q (clearUsage u) ≡ asksUnused ask
-unfolding usageAsked isUsage usageAt usageOver
-usage-asked Unused q u = refl
-usage-asked Used q u = refl
-usage-asked At q u = refl
-usage-asked Named q u = refl
-usage-asked Of q u = refl
-usage-asked Under q u = refl
-usage-asked Over q u = refl
-
-pub usage-unmarked : (q : Question) (u : ReservationUsage) → usageHas q (clearUsage u) ≡ asksUnused (q .ask)
-usage-unmarked q u = usage-asked (q .ask) q u
-
-action-asked : (ask : Ask) (q : Question) (a : InflightAction) → actionAsked ask q (clearAction a) ≡ asksUnused ask
-unfolding actionAsked isAction actionAt actionUnder actionToward
-action-asked Unused q a = refl
-action-asked Used q a = refl
-action-asked At q a = refl
-action-asked Named q a = refl
-action-asked Of q a = refl
-action-asked Under q a = refl
-action-asked Over q a = refl
-
-pub action-unmarked : (q : Question) (a : InflightAction) → actionHas q (clearAction a) ≡ asksUnused (q .ask)
-action-unmarked q a = action-asked (q .ask) q a
+pub circuit-unmarked : (q : RecordQuestion) (peer : HnsrPeerId) (c : RelayCircuit)
+    → circuitHas q peer (clearCircuit c) ≡ false
+unfolding circuitHas isCircuit circuitOf circuitUnder circuitOver
+circuit-unmarked Used peer c = refl
+circuit-unmarked OfPeer peer c = refl
+circuit-unmarked (Under id) peer c = refl
+circuit-unmarked (Over now) peer c = refl
 
 -- ---- turns that do nothing at an unmarked record
 module _ (q : WorkQuestion) where

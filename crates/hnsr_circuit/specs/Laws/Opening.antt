@@ -53,7 +53,7 @@ use Rattle.hnsr_circuit.specs.World.{World, Outcome, proceed, worldOf}
 use Rattle.hnsr_circuit.specs.Queue.{send}
 use Rattle.hnsr_circuit.specs.Code.Turns.{actionsScanned, ledgerAsked}
 use Rattle.hnsr_circuit.specs.Counts.{pendingCount, circuitCount, peerWork, reservationWork}
-use Rattle.hnsr_circuit.specs.Code.Question.{at, pendingAsked, pendingWork, circuitWork}
+use Rattle.hnsr_circuit.specs.Code.Question.{pendingWork, circuitWork}
 use Rattle.hnsr_circuit.specs.Code.Lookup.{pendingFound}
 use Rattle.hnsr_circuit.specs.Entry.{peerAnswer}
 use Rattle.hnsr_circuit.specs.Draw.{undrawn, drawsFrom, draws, drawTurn, drawAll, idTaken, drawn, drawAnswer}
@@ -93,10 +93,10 @@ proceed-on (Refused e) w x f = refl
 -- the rows over the tables are the definition's
 pub accept-taken : (h : OpaqueRelayRuntime) (p : List RelayPending) (c : List RelayCircuit) (l : List ReservationUsage) (i : List InflightAction)
     (q : RelayPacket) (source body e rs : List ℕ)
-    → (let f = pendingFound (at (q .«context_id») 0) p in
+    → (let f = pendingFound (pendingAt (q .«context_id»)) p in
     acceptRows (h .config) f (peerOf source) (q .now) (decodeAccept body) (pendingWork (acceptWork f) p) (circuitWork (acceptWork f) c) (tallied true (q .«context_id») (f .pending .requester) i))
     ≡ acceptTaken (worldOf h p c l i) (packetOf q source body e rs) (pick (pendingAt (q .«context_id»)) noPending p) (acceptFields body)
-unfolding acceptTaken pendingWork circuitWork circuitCount reservationWork sender decodeAccept pendingAsked
+unfolding acceptTaken pendingWork circuitWork circuitCount reservationWork sender decodeAccept
 accept-taken h p c l i q source body e rs = refl
 
 -- a taken ACCEPT found its pending record
@@ -122,15 +122,15 @@ module _ (h : OpaqueRelayRuntime) (p : List RelayPending) (c : List RelayCircuit
     (q : RelayPacket) (source body e rs : List ℕ) where
   -- what ACCEPT leaves where it goes on is the definition's world
   accept-world : (a : HnsrAnswer)
-      → (let f = pendingFound (at (q .«context_id») 0) p in let g = acceptPlan a h f (decodeAccept body) in let w = worldOf h p c l i in
+      → (let f = pendingFound (pendingAt (q .«context_id»)) p in let g = acceptPlan a h f (decodeAccept body) in let w = worldOf h p c l i in
       a ≡ acceptTaken w (packetOf q source body e rs) (f .pending) (acceptFields body)
       → worldOf (g .runtime) (cond (g .go) (set p (g .place) (clearPending (f .pending))) p)
       (cond (g .go) (put isCircuit (circuitAt (g .id)) (circuitFor (h .config) (f .pending) (acceptFields body)) c) c) l
       (cond (g .go) (dropped (actionUnder (g .id)) i) i)
       ≡ cond (taken a) (withAccept w (f .pending) (acceptFields body)) w)
-  unfolding withAccept pendingAsked
+  unfolding withAccept
   accept-world Taken ea =
-      let f = pendingFound (at (q .«context_id») 0) p in
+      let f = pendingFound (pendingAt (q .«context_id»)) p in
       let g = acceptPlan Taken h f (decodeAccept body) in
       let found = accept-found (worldOf h p c l i) (packetOf q source body e rs) (f .pending) (acceptFields body) (sym ea) in
       ap (λ (t : List RelayPending). worldOf (g .runtime) t
@@ -140,7 +140,7 @@ module _ (h : OpaqueRelayRuntime) (p : List RelayPending) (c : List RelayCircuit
 
   pub accept-ends : (f : PendingFound) (read : AcceptRead) (a : HnsrAnswer) (g : AcceptPlan) (row : RelayPending) (circuit : RelayCircuit)
       (p′ : List RelayPending) (c′ : List RelayCircuit) (i′ : List InflightAction)
-      → f ≡ pendingFound (at (q .«context_id») 0) p → read ≡ decodeAccept body
+      → f ≡ pendingFound (pendingAt (q .«context_id»)) p → read ≡ decodeAccept body
       → a ≡ acceptRows (h .config) f (peerOf source) (q .now) read (pendingWork (acceptWork f) p) (circuitWork (acceptWork f) c) (tallied true (q .«context_id») (f .pending .requester) i)
       → g ≡ acceptPlan a h f read → row ≡ clearPending (f .pending) → circuit ≡ circuitFor (h .config) (f .pending) (read .body)
       → p′ ≡ cond (g .go) (set p (g .place) row) p
@@ -148,9 +148,9 @@ module _ (h : OpaqueRelayRuntime) (p : List RelayPending) (c : List RelayCircuit
       → i′ ≡ cond (g .go) (dropped (actionUnder (g .id)) i) i
       → (let w = worldOf (g .runtime) p′ c′ l i′ in proceed w a (send w (messageOf (g .message) (openedBytes (g .opened)))))
       ≡ handleAccept (worldOf h p c l i) (packetOf q source body e rs)
-  unfolding handleAccept acceptWith openedMessage pendingAsked decodeAccept
+  unfolding handleAccept acceptWith openedMessage decodeAccept
   accept-ends f read a g row circuit p′ c′ i′ ef er ea eg eo ec ep es ei =
-      let ft = pendingFound (at (q .«context_id») 0) p in
+      let ft = pendingFound (pendingAt (q .«context_id»)) p in
       let rt = decodeAccept body in
       let w = worldOf h p c l i in
       let m = openedMessage (ft .pending) (acceptFields body) in
@@ -162,10 +162,10 @@ module _ (h : OpaqueRelayRuntime) (p : List RelayPending) (c : List RelayCircuit
 
 -- refused by the packet and its pending record, or by the rows as a whole
 pub accept-entered : (h : OpaqueRelayRuntime) (p : List RelayPending) (c : List RelayCircuit) (l : List ReservationUsage) (i : List InflightAction) (q : RelayPacket) (source body e rs out : List ℕ)
-    (f : PendingFound) (read : AcceptRead) (a : HnsrAnswer) (r : Relayed) → f ≡ pendingFound (at (q .«context_id») 0) p → read ≡ decodeAccept body
+    (f : PendingFound) (read : AcceptRead) (a : HnsrAnswer) (r : Relayed) → f ≡ pendingFound (pendingAt (q .«context_id»)) p → read ≡ decodeAccept body
     → a ≡ (requestAnswer (f .found) (f .pending) (peerOf source) (q .now) then bodyAnswer (read .result)) → taken a ≡ false
     → (r .runtime ≡ h) × (r .answer ≡ a) × (r .words ≡ 0) → handedBack r p c l i out ≡ ending out (handleAccept (worldOf h p c l i) (packetOf q source body e rs))
-unfolding handleAccept acceptWith acceptTaken sender pendingAsked
+unfolding handleAccept acceptWith acceptTaken sender
 accept-entered h p c l i q source body e rs out f read a r ef er ea t k =
     let x = requestAnswer (any (pendingAt (q .«context_id»)) p) (pick (pendingAt (q .«context_id»)) noPending p) (peerOf source) (q .now) in
     let y = bodyAnswer (decodeAccept body .result) in
@@ -173,7 +173,7 @@ accept-entered h p c l i q source body e rs out f read a r ef er ea t k =
     turned-away h p c l i out r a _ _ k t (b ∙ stop-two x y _ (ap taken (sym b) ∙ t))
 
 pub accept-refused : (h : OpaqueRelayRuntime) (p : List RelayPending) (c : List RelayCircuit) (l : List ReservationUsage) (i : List InflightAction) (q : RelayPacket) (source body e rs out : List ℕ)
-    (f : PendingFound) (read : AcceptRead) (a : HnsrAnswer) (r : Relayed) → f ≡ pendingFound (at (q .«context_id») 0) p → read ≡ decodeAccept body
+    (f : PendingFound) (read : AcceptRead) (a : HnsrAnswer) (r : Relayed) → f ≡ pendingFound (pendingAt (q .«context_id»)) p → read ≡ decodeAccept body
     → a ≡ acceptRows (h .config) f (peerOf source) (q .now) read (pendingWork (acceptWork f) p) (circuitWork (acceptWork f) c) (tallied true (q .«context_id») (f .pending .requester) i)
     → taken a ≡ false → (r .runtime ≡ h) × (r .answer ≡ a) × (r .words ≡ 0)
     → handedBack r p c l i out ≡ ending out (handleAccept (worldOf h p c l i) (packetOf q source body e rs))

@@ -91,7 +91,7 @@ module _ (v : Revoking) (place : ℕ) (h : OpaqueRelayRuntime) (p : List RelayPe
   pending-revoked at out also first second p′ i′ h′ ea e1 e2 ep ei eh =
       let k = record-there in
       let d = v .disconnecting in
-      let s = samePeer (k .requester) (v .question .peer) in
+      let s = samePeer (k .requester) (v .peer) in
       let o = cond s (closeToEndpoint PeerDisconnected k) (closeToRequester PeerDisconnected k) in
       let m = errorToRequester (v .notice) k in
       let w = worldOf h p c l i in

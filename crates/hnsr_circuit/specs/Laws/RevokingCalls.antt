@@ -10,7 +10,8 @@ use Rattle.hnsr_circuit.specs.declared.records.RelayPending.{RelayPendin
 use Rattle.hnsr_circuit.specs.declared.records.RelayCircuit.{RelayCircuit}
 use Rattle.hnsr_circuit.specs.declared.records.ReservationUsage.{ReservationUsage}
 use Rattle.hnsr_circuit.specs.declared.records.InflightAction.{InflightAction}
-use Rattle.hnsr_circuit.specs.declared.tables.question.Question.{Question}
+use Rattle.hnsr_circuit.specs.declared.tables.question.RecordQuestion.the-variants.{Used, Under, Over}
+use Rattle.hnsr_circuit.specs.declared.tables.question.ActionsDropped.the-variants.{Every, Toward}
 use Rattle.hnsr_circuit.specs.declared.calls.revocation.Revoking.{Revoking}
 use Rattle.hnsr_circuit.specs.declared.runtime.OpaqueRelayRuntime.{OpaqueRelayRuntime}
 use Rattle.hnsr_circuit.specs.declared.answer.HnsrAnswer.{HnsrAnswer}
@@ -20,15 +21,14 @@ use Rattle.hnsr_circuit.specs.Peer.{peerOf}
 use Rattle.hnsr_circuit.specs.Inflight.{isAction, clearAction, dropped}
 use Rattle.hnsr_circuit.specs.World.{Outcome, done, worldOf}
 use Rattle.hnsr_circuit.specs.Entry.{roomAnswer, revokingWords, peerAnswer, clockAnswer}
-use Rattle.hnsr_circuit.specs.Code.Question.{used, ofPeer, under, over, pendingAsked, circuitAsked, actionHas, actionAsked}
+use Rattle.hnsr_circuit.specs.Code.Question.{pendingHas, circuitHas, actionHas}
 use Rattle.hnsr_circuit.specs.Code.Progress.{filledTo, placed, result, handedBack, ending}
 use Rattle.hnsr_circuit.specs.RevokingCalls.{disconnect, disconnectPeer, revokeReservation, revokeUnder, expire, expireAt, changeAnswer, switchTo, replaceEnabled}
-use Rattle.hnsr_circuit.specs.Code.Revoking.{endingPending, revokingAll, disconnectingAll}
+use Rattle.hnsr_circuit.specs.Code.Revoking.{endingPending, revokingAll, disconnectingAll, revokes}
 use Rattle.hnsr_circuit.specs.declared.runtime.Relayed.{Relayed}
 use Rattle.hnsr_circuit.specs.declared.answer.HnsrAnswer.the-variants.{Taken}
 use Rattle.hnsr_circuit.specs.declared.answer.HnsrRuntimeError.the-variants.{GenerationExhausted}
 use Rattle.hnsr_body.specs.declared.values.ReservationId.{ReservationId}
-use Rattle.hnsr_body.specs.declared.messages.Notice.{Notice}
 use Rattle.hnsr_body.specs.declared.messages.Notice.the-variants.{ReservationRevoked, AcceptanceExpired, TicketExpired, RelayDisabled}
 use Rattle.hns_encoding.specs.Numbers.{top}
 use Rattle.hns_encoding.specs.Laws.Tests.{on-true, on-false}
@@ -42,45 +42,42 @@ use Rattle.hnsr_circuit.specs.Laws.Queueing.{taken-is}
 use Rattle.hnsr_circuit.specs.Laws.Calls.{gone-on}
 
 module _ (h : OpaqueRelayRuntime) (p : List RelayPending) (c : List RelayCircuit) (l : List ReservationUsage) (i : List InflightAction) where
-  pub disconnected : (peer : List ℕ) (room : ℕ) (a : HnsrAnswer) (name : HnsrPeerId) (v : Revoking) (q : Question) (i′ : List InflightAction)
+  pub disconnected : (peer : List ℕ) (room : ℕ) (a : HnsrAnswer) (name : HnsrPeerId) (v : Revoking) (i′ : List InflightAction)
       → taken a ≡ true → a ≡ (roomAnswer (worldOf h p c l i) room (revokingWords (worldOf h p c l i)) then peerAnswer (length peer))
-      → name ≡ peerOf peer → v ≡ disconnectingAll name → q ≡ ofPeer name → i′ ≡ clear clearAction (actionHas q) i
+      → name ≡ peerOf peer → v ≡ disconnectingAll name → i′ ≡ clear clearAction (actionHas Toward name) i
       → revokingAll v (worldOf h p c l i′) ≡ disconnect (worldOf h p c l i) peer room
-  unfolding disconnect disconnectPeer endingPending pendingAsked circuitAsked actionAsked dropped
-  disconnected peer room a name v q i′ t ea en ev eq ei =
+  unfolding disconnect disconnectPeer endingPending pendingHas circuitHas actionHas dropped
+  disconnected peer room a name v i′ t ea en ev ei =
       let all = ev ∙ ap disconnectingAll en in
-      let left = ei ∙ ap (λ (x : Question). clear clearAction (actionHas x) i) (eq ∙ ap ofPeer en) in
+      let left = ei ∙ ap (λ (x : HnsrPeerId). clear clearAction (actionHas Toward x) i) en in
       (λ x. revokingAll (all x) (worldOf h p c l (left x)))
       ∙ sym (gone-on (worldOf h p c l i) a _ (disconnectPeer (worldOf h p c l i) (peerOf peer)) t ea)
 
   -- ---- the other three
-  abbrev pub revokes : Question → (notice circuit : Notice) → Revoking
-  revokes q notice circuit = record { question = q; notice = notice; «circuit_notice» = circuit; disconnecting = false }
-
   pub revoked-under : (id : ReservationId) (room : ℕ) (a : HnsrAnswer) (v : Revoking) (l′ : List ReservationUsage)
       → taken a ≡ true → a ≡ roomAnswer (worldOf h p c l i) room (revokingWords (worldOf h p c l i))
-      → v ≡ revokes (under id) ReservationRevoked ReservationRevoked → l′ ≡ edit (usageAt id) clearUsage l
+      → v ≡ revokes (Under id) ReservationRevoked ReservationRevoked → l′ ≡ edit (usageAt id) clearUsage l
       → revokingAll v (worldOf h p c l′ i) ≡ revokeReservation (worldOf h p c l i) id room
-  unfolding revokeReservation revokeUnder endingPending pendingAsked circuitAsked
+  unfolding revokeReservation revokeUnder endingPending pendingHas circuitHas
   revoked-under id room a v l′ t ea ev el =
       (λ x. revokingAll (ev x) (worldOf h p c (el x) i))
       ∙ sym (gone-on (worldOf h p c l i) a _ (revokeUnder (worldOf h p c l i) id) t ea)
 
   pub expired : (time room : ℕ) (a : HnsrAnswer) (v : Revoking) (h′ : OpaqueRelayRuntime) (l′ : List ReservationUsage)
       → taken a ≡ true → a ≡ (roomAnswer (worldOf h p c l i) room (revokingWords (worldOf h p c l i)) then clockAnswer (h .«trusted_time_high_water») time)
-      → v ≡ revokes (over time) AcceptanceExpired TicketExpired → h′ ≡ withClock h time → l′ ≡ lapsed time l
+      → v ≡ revokes (Over time) AcceptanceExpired TicketExpired → h′ ≡ withClock h time → l′ ≡ lapsed time l
       → revokingAll v (worldOf h′ p c l′ i) ≡ expire (worldOf h p c l i) time room
-  unfolding expire expireAt endingPending pendingAsked circuitAsked
+  unfolding expire expireAt endingPending pendingHas circuitHas
   expired time room a v h′ l′ t ea ev eh el =
       (λ x. revokingAll (ev x) (worldOf (eh x) p c (el x) i))
       ∙ sym (gone-on (worldOf h p c l i) a _ (expireAt (worldOf h p c l i) time) t ea)
 
   -- ---- a changed state
-  module _ (h′ : OpaqueRelayRuntime) (i′ : List InflightAction) (q : Question) (on : Bool) (eh : h′ ≡ withEnabled h on) (eq : q ≡ used)
-      (ei : i′ ≡ clear clearAction (actionHas q) i) where
+  module _ (h′ : OpaqueRelayRuntime) (i′ : List InflightAction) (nobody : HnsrPeerId) (on : Bool)
+      (eh : h′ ≡ withEnabled h on) (ei : i′ ≡ clear clearAction (actionHas Every nobody) i) where
     drops : i′ ≡ dropped isAction i
-    unfolding actionAsked dropped
-    drops = ei ∙ ap (λ (x : Question). clear clearAction (actionHas x) i) eq
+    unfolding actionHas dropped
+    drops = ei
 
     pub switched-on : (r : Relayed) (out : List ℕ) → on ≡ true → (r .runtime ≡ h′) × (r .answer ≡ Taken) × (r .words ≡ 0)
         → handedBack r p c l i′ out ≡ ending out (switchTo (worldOf h p c l i) on)
@@ -89,13 +86,12 @@ module _ (h : OpaqueRelayRuntime) (p : List RelayPending) (c : List RelayCircuit
         let runtime = e .0 ∙ eh ∙ ap (withEnabled h) t in
         (λ x. result (worldOf (runtime x) p c l (drops x)) (e .1 x) (e .2 x) out) ∙ ap (λ (b : Bool). ending out (switchTo (worldOf h p c l i) b)) (sym t)
 
-    pub switched-off : (v : Revoking) → on ≡ false → v ≡ revokes q RelayDisabled RelayDisabled
+    pub switched-off : (v : Revoking) → on ≡ false → v ≡ revokes Used RelayDisabled RelayDisabled
         → revokingAll v (worldOf h′ p c l i′) ≡ switchTo (worldOf h p c l i) on
-    unfolding switchTo endingPending pendingAsked circuitAsked
+    unfolding switchTo endingPending pendingHas circuitHas
     switched-off v f ev =
-        let all = ev ∙ ap (λ (x : Question). revokes x RelayDisabled RelayDisabled) eq in
         let runtime = eh ∙ ap (withEnabled h) f in
-        (λ x. revokingAll (all x) (worldOf (runtime x) p c l (drops x))) ∙ ap (λ (b : Bool). switchTo (worldOf h p c l i) b) (sym f)
+        (λ x. revokingAll (ev x) (worldOf (runtime x) p c l (drops x))) ∙ ap (λ (b : Bool). switchTo (worldOf h p c l i) b) (sym f)
 
   module _ (expected room : ℕ) (on : Bool) (a : HnsrAnswer)
       (ea : a ≡ (roomAnswer (worldOf h p c l i) room (revokingWords (worldOf h p c l i)) then generationAnswer (h .generation) expected then changeAnswer (h .generation) (not (Bool·beq (h .enabled) on)))) where

@@ -131,8 +131,8 @@ pub walk-pending-circuits : (v : Revoking) (p : RelayPending → Bool) (w : Worl
 unfolding endingPending
 walk-pending-circuits v p w = walk-circuits pendingId pendingTable p (endingPending v) (λ x place. either-way (v .disconnecting) x place) w
   where
-    either-way : (d : Bool) (w : World) (place : ℕ) → (cond d (disconnectPending (v .question .peer) w place) (revokePending (v .notice) w place)) .world .circuits ≡ w .circuits
-    either-way true w place = disconnect-pending-circuits (v .question .peer) w place
+    either-way : (d : Bool) (w : World) (place : ℕ) → (cond d (disconnectPending (v .peer) w place) (revokePending (v .notice) w place)) .world .circuits ≡ w .circuits
+    either-way true w place = disconnect-pending-circuits (v .peer) w place
     either-way false w place = revoke-pending-circuits (v .notice) w place
 
 -- ---- all that have a property

@@ -13,13 +13,12 @@ ghost use Rattle.hnsr_circuit.specs.declared.records.RelayPending.{Relay
 ghost use Rattle.hnsr_circuit.specs.declared.records.RelayCircuit.{RelayCircuit};
 ghost use Rattle.hnsr_circuit.specs.declared.records.ReservationUsage.{ReservationUsage};
 ghost use Rattle.hnsr_circuit.specs.Answers.{check, _then_};
-ghost use Rattle.hnsr_circuit.specs.Inflight.{clearAction, kindOf, towardSide};
+ghost use Rattle.hnsr_circuit.specs.Inflight.{actionAt, clearAction, kindOf, towardSide};
 ghost use Rattle.hnsr_circuit.specs.Entry.{acknowledgeWords};
 ghost use Rattle.hnsr_circuit.specs.Acknowledge.{generationAnswer, actionAnswer, failIncoming, acknowledgeAction, settled};
 ghost use Rattle.hnsr_circuit.specs.Queue.{send};
 ghost use Rattle.hnsr_circuit.specs.Code.Progress.{messageOf, ending, outcome};
 ghost use Rattle.hnsr_circuit.specs.Code.Lookup.{actionFound};
-ghost use Rattle.hnsr_circuit.specs.Code.Question.{at};
 ghost use Rattle.hnsr_circuit.specs.Code.Revoking.{errorOut, revokedIf};
 ghost use Rattle.hnsr_circuit.specs.Code.Settling.{settlementFor, Settles};
 ghost use Rattle.hnsr_circuit.specs.declared.records.InflightAction.{InflightAction};
@@ -30,7 +29,6 @@ use crate::answer::check;
 use crate::answer::first_refusal;
 use crate::answer::is_taken;
 use crate::calls::revocation::error_to_requester;
-use crate::calls::revocation::pending_gone;
 use crate::calls::revocation::revoke_one;
 use crate::entry::generation_answer;
 use crate::entry::too_few;
@@ -55,6 +53,7 @@ use crate::tables::inflight::scan_actions;
 use crate::tables::inflight::set_action;
 use crate::tables::lookup::ActionFound;
 use crate::tables::lookup::PendingFound;
+use crate::tables::lookup::found_unmarked;
 use crate::tables::lookup::look_up_action;
 use crate::tables::lookup::pending_by_id;
 use crate::tables::pending::set_pending;
@@ -232,7 +231,7 @@ pub(crate) fn fail_incoming(
     ensures { λ r. ⌜ ((c : List RelayCircuit) (l : List ReservationUsage) → handedSeen r (now (pending .exit)) c l (now (inflight .exit)) (now (out .exit)) ≡ ending (now (out .entry)) (failIncoming (worldSeen runtime places (now (pending .entry)) c l (now (inflight .entry))) id)) ⌝ }
 {
     let found = pending_by_id(pending, places, id);
-    let gone = pending_gone(found);
+    let gone = found_unmarked(found);
     let plan = fail_plan(found, runtime);
     let after = plan.runtime;
     let message = plan.message;
@@ -289,7 +288,7 @@ pub(crate) fn acknowledge_action(
     found: ActionFound,
     delivered: bool,
 ) -> Relayed
-    ensures { λ r. ⌜ ((l : List ReservationUsage) (generation sequence : ℕ) → found ≡ actionFound (at generation sequence) (heldActions places (now (inflight .entry))) → handedSeen r (now (pending .exit)) (now (circuits .exit)) l (now (inflight .exit)) (now (out .exit)) ≡ ending (now (out .entry)) (acknowledgeAction (worldSeen runtime places (now (pending .entry)) (now (circuits .entry)) l (now (inflight .entry))) generation sequence delivered (found .action))) ⌝ }
+    ensures { λ r. ⌜ ((l : List ReservationUsage) (generation sequence : ℕ) → found ≡ actionFound (actionAt generation sequence) (heldActions places (now (inflight .entry))) → handedSeen r (now (pending .exit)) (now (circuits .exit)) l (now (inflight .exit)) (now (out .exit)) ≡ ending (now (out .entry)) (acknowledgeAction (worldSeen runtime places (now (pending .entry)) (now (circuits .entry)) l (now (inflight .entry))) generation sequence delivered (found .action))) ⌝ }
 {
     let gone = action_gone(found);
     let plan = settle_plan(found, delivered);

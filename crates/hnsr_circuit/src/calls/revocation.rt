@@ -1,22 +1,21 @@
 // The end of a record, and revocation: it ends the record, drops its actions, then tells both sides; a walk revokes what has a property, by
 // ascending id, each record at its place (document 01, "Down through the call").
 ghost use mathlib.Core.Path.{_≡_};
-ghost use mathlib.Core.Bool.{cond, true, false, not};
+ghost use mathlib.Core.Bool.{cond, true, not};
 ghost use mathlib.Core.List.{List};
-ghost use Rattle.hnsr_circuit.specs.Code.Held.{heldPending, heldCircuits, asksUnused, worldSeen, handedSeen, underwaySeen};
+ghost use Rattle.hnsr_circuit.specs.Code.Held.{heldPending, heldCircuits, worldSeen, handedSeen, underwaySeen};
 ghost use Rattle.hnsr_circuit.specs.declared.records.RelayPending.{RelayPending};
 ghost use Rattle.hnsr_circuit.specs.declared.records.RelayCircuit.{RelayCircuit};
 ghost use Rattle.hnsr_circuit.specs.declared.records.ReservationUsage.{ReservationUsage};
 ghost use Rattle.hnsr_body.specs.declared.messages.Notice.the-variants.{PeerDisconnected};
-ghost use Rattle.hnsr_circuit.specs.Pending.{clearPending, pendingId};
+ghost use Rattle.hnsr_circuit.specs.Pending.{pendingId};
 ghost use Rattle.hnsr_circuit.specs.Circuits.{circuitId};
 ghost use Rattle.hnsr_circuit.specs.Table.{notYet, next};
-ghost use Rattle.hnsr_circuit.specs.Code.Question.{pendingHas, circuitHas};
 ghost use Rattle.hnsr_circuit.specs.Queue.{finished};
 ghost use Rattle.hnsr_circuit.specs.declared.answer.HnsrAnswer.the-variants.{Taken};
 ghost use Rattle.hnsr_circuit.specs.Code.Progress.{advance, ending};
 ghost use Rattle.hnsr_circuit.specs.Revocation.{revokeCircuitThere, revokeCircuit, walk, pendingTable, circuitTable};
-ghost use Rattle.hnsr_circuit.specs.Code.Revoking.{closeSide, errorOut, closeOut, otherOut, firstOut, revokedIf, endingPending, revokingAll};
+ghost use Rattle.hnsr_circuit.specs.Code.Revoking.{closeSide, errorOut, closeOut, otherOut, firstOut, revokedIf, endingPending, revokedPending, revokedCircuit, revokingAll};
 use crate::answer::HnsrAnswer;
 use crate::messages::message::closing;
 use crate::messages::opcode::CLOSE;
@@ -39,19 +38,20 @@ use crate::tables::circuits::circuit_at;
 use crate::tables::circuits::find_circuit_id;
 use crate::tables::circuits::next_circuit;
 use crate::tables::circuits::set_circuit;
-use crate::tables::lookup::PendingFound;
 use crate::tables::pending::next_pending;
 use crate::tables::pending::pending_at;
 use crate::tables::pending::set_pending;
 use crate::tables::places::Places;
-use crate::tables::question::Question;
+use crate::tables::question::RecordQuestion;
 use crate::tables::scan::Walked;
 use hns_encoding::logic::no;
 use hnsr_body::messages::Notice;
 
-// What a revoking call hands its walks: which records, and by what message. On disconnect only the other peer of a pending record hears.
+// What a revoking call hands its walks: which records, and by what message; the peer is nobody where none is asked for.
+// On disconnect only the other peer of a pending record hears.
 pub struct Revoking {
-    pub question: Question,
+    pub question: RecordQuestion,
+    pub peer: HnsrPeerId,
     pub notice: Notice,
     pub circuit_notice: Notice,
     pub disconnecting: bool,
@@ -115,8 +115,7 @@ fn close_to_other(peer: HnsrPeerId, pending: RelayPending) -> Outgoing
 fn first_message(revoking: Revoking, pending: RelayPending) -> Outgoing
     ensures { λ r. ⌜ r ≡ firstOut revoking pending ⌝ }
 {
-    let question = revoking.question;
-    let peer = question.peer;
+    let peer = revoking.peer;
     let other = close_to_other(peer, pending);
     let error = error_to_requester(pending);
     if revoking.disconnecting {
@@ -161,13 +160,6 @@ fn pending_notice(revoking: Revoking) -> Notice
         return Notice::PeerDisconnected;
     }
     notice
-}
-
-pub(crate) fn pending_gone(found: PendingFound) -> RelayPending
-    ensures { λ r. ⌜ r ≡ clearPending (found .pending) ⌝ }
-{
-    let pending = found.pending;
-    pending_unmarked(pending)
 }
 
 // The pending record at a place: revoked it gives ERROR to the requester, CLOSE to the endpoint; on disconnect CLOSE to the other peer.
@@ -246,10 +238,12 @@ pub(crate) fn walk_pending(
     revoking: Revoking,
     first: Walked,
 ) -> Sending
-    requires { ⌜ (asksUnused (revoking .question .ask) ≡ false) × (first ≡ next pendingId (pendingHas (revoking .question)) notYet (heldPending (sending .places) (now pending))) ⌝ }
-    ensures { λ r. ⌜ ((c : List RelayCircuit) (l : List ReservationUsage) → underwaySeen r (now (pending .exit)) c l (now (inflight .exit)) (now (out .exit)) ≡ advance (walk pendingId pendingTable (pendingHas (revoking .question)) (endingPending revoking)) (underwaySeen sending (now (pending .entry)) c l (now (inflight .entry)) (now (out .entry)))) ⌝ }
+    requires { ⌜ first
+        ≡ next pendingId (revokedPending revoking) notYet (heldPending (sending .places) (now pending)) ⌝ }
+    ensures { λ r. ⌜ ((c : List RelayCircuit) (l : List ReservationUsage) → underwaySeen r (now (pending .exit)) c l (now (inflight .exit)) (now (out .exit)) ≡ advance (walk pendingId pendingTable (revokedPending revoking) (endingPending revoking)) (underwaySeen sending (now (pending .entry)) c l (now (inflight .entry)) (now (out .entry)))) ⌝ }
 {
     let question = revoking.question;
+    let peer = revoking.peer;
     let most = pending.len();
     let mut told = sending;
     let mut next = first;
@@ -259,7 +253,7 @@ pub(crate) fn walk_pending(
             return told;
         }
         told = revoke_pending(pending, inflight, out, told, revoking, next.place);
-        next = next_pending(pending, told.places, question, next);
+        next = next_pending(pending, told.places, question, peer, next);
         turn += 1;
     }
     told
@@ -273,10 +267,12 @@ pub(crate) fn walk_circuits(
     revoking: Revoking,
     first: Walked,
 ) -> Sending
-    requires { ⌜ (asksUnused (revoking .question .ask) ≡ false) × (first ≡ next circuitId (circuitHas (revoking .question)) notYet (heldCircuits (sending .places) (now circuits))) ⌝ }
-    ensures { λ r. ⌜ ((p : List RelayPending) (l : List ReservationUsage) → underwaySeen r p (now (circuits .exit)) l (now (inflight .exit)) (now (out .exit)) ≡ advance (walk circuitId circuitTable (circuitHas (revoking .question)) (revokeCircuitThere (revoking .«circuit_notice»))) (underwaySeen sending p (now (circuits .entry)) l (now (inflight .entry)) (now (out .entry)))) ⌝ }
+    requires { ⌜ first
+        ≡ next circuitId (revokedCircuit revoking) notYet (heldCircuits (sending .places) (now circuits)) ⌝ }
+    ensures { λ r. ⌜ ((p : List RelayPending) (l : List ReservationUsage) → underwaySeen r p (now (circuits .exit)) l (now (inflight .exit)) (now (out .exit)) ≡ advance (walk circuitId circuitTable (revokedCircuit revoking) (revokeCircuitThere (revoking .«circuit_notice»))) (underwaySeen sending p (now (circuits .entry)) l (now (inflight .entry)) (now (out .entry)))) ⌝ }
 {
     let question = revoking.question;
+    let peer = revoking.peer;
     let notice = revoking.circuit_notice;
     let most = circuits.len();
     let mut told = sending;
@@ -287,7 +283,7 @@ pub(crate) fn walk_circuits(
             return told;
         }
         told = revoke_circuit(circuits, inflight, out, told, notice, next.place);
-        next = next_circuit(circuits, told.places, question, next);
+        next = next_circuit(circuits, told.places, question, peer, next);
         turn += 1;
     }
     told
@@ -328,7 +324,8 @@ pub(crate) fn revoke_all(
     revoking: Revoking,
     first: Firsts,
 ) -> Relayed
-    requires { ⌜ (asksUnused (revoking .question .ask) ≡ false) × (first .pending ≡ next pendingId (pendingHas (revoking .question)) notYet (heldPending places (now pending))) × (first .circuits ≡ next circuitId (circuitHas (revoking .question)) notYet (heldCircuits places (now circuits))) ⌝ }
+    requires { ⌜ (first .pending ≡ next pendingId (revokedPending revoking) notYet (heldPending places (now pending)))
+        × (first .circuits ≡ next circuitId (revokedCircuit revoking) notYet (heldCircuits places (now circuits))) ⌝ }
     ensures { λ r. ⌜ ((l : List ReservationUsage) → handedSeen r (now (pending .exit)) (now (circuits .exit)) l (now (inflight .exit)) (now (out .exit)) ≡ ending (now (out .entry)) (revokingAll revoking (worldSeen runtime places (now (pending .entry)) (now (circuits .entry)) l (now (inflight .entry))))) ⌝ }
 {
     let start = started(runtime, places);

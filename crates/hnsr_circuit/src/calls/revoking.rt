@@ -1,24 +1,25 @@
 // The revoking calls: disconnect, revoke_reservation, expire, replace_enabled (document 01, "Down through the call").
 ghost use mathlib.Core.Path.{_≡_};
-ghost use mathlib.Core.Bool.{Bool·beq, false, not, _||_};
+ghost use mathlib.Core.Bool.{Bool·beq, not, _||_};
 ghost use mathlib.Core.List.{List};
 ghost use Prim.Native.Nat.{_+_, _*_, _<_};
 ghost use lib.Dec.{ltb};
 ghost use lib.ListN.{length};
 ghost use Rattle.hns_encoding.specs.Sums.{count};
-ghost use Rattle.hnsr_circuit.specs.Code.Held.{heldPending, heldCircuits, asksUnused, worldSeen, handedSeen};
+ghost use Rattle.hnsr_circuit.specs.Code.Held.{heldPending, heldCircuits, worldSeen, handedSeen};
 ghost use Rattle.hnsr_circuit.specs.declared.answer.HnsrRuntimeError.the-variants.{Short};
 ghost use Rattle.hnsr_circuit.specs.declared.records.ReservationUsage.{ReservationUsage};
 ghost use Rattle.hnsr_circuit.specs.Answers.{check};
 ghost use Rattle.hnsr_circuit.specs.Table.{notYet, next};
-ghost use Rattle.hnsr_circuit.specs.Code.Question.{used, pendingHas, circuitHas};
+ghost use Rattle.hnsr_body.specs.declared.messages.Notice.the-variants.{RelayDisabled};
+ghost use Rattle.hnsr_circuit.specs.declared.tables.question.RecordQuestion.the-variants.{Used};
 ghost use Rattle.hnsr_circuit.specs.Pending.{isPending, pendingId};
 ghost use Rattle.hnsr_circuit.specs.Circuits.{isCircuit, circuitId};
 ghost use Rattle.hnsr_circuit.specs.Entry.{closingWords, tooFew};
 ghost use Rattle.hnsr_circuit.specs.Call.{step, callDisconnect, callRevokeReservation, callExpire, callReplaceEnabled};
 ghost use Rattle.hnsr_circuit.specs.Code.Progress.{outcome, ending};
 ghost use Rattle.hnsr_circuit.specs.RevokingCalls.{changeAnswer, switchTo};
-ghost use Rattle.hnsr_circuit.specs.Code.Revoking.{disconnectingAll};
+ghost use Rattle.hnsr_circuit.specs.Code.Revoking.{revokedPending, revokedCircuit, disconnectingAll, revokes};
 use crate::answer::HnsrAnswer;
 use crate::answer::HnsrRuntimeError;
 use crate::answer::check;
@@ -34,6 +35,7 @@ use crate::entry::peer_answer;
 use crate::entry::too_few;
 use crate::output::route::CLOSING_WORDS;
 use crate::peer::HnsrPeerId;
+use crate::peer::no_peer;
 use crate::peer::peer_of;
 use crate::records::InflightAction;
 use crate::records::RelayCircuit;
@@ -47,15 +49,12 @@ use crate::runtime::refused;
 use crate::runtime::taken_with;
 use crate::tables::circuits::survey_circuit;
 use crate::tables::inflight::clear_action;
+use crate::tables::ledger::drop_lapsed;
 use crate::tables::pending::survey_pending;
 use crate::tables::places::Places;
-use crate::tables::question::Question;
-use crate::tables::question::of_peer;
-use crate::tables::question::over;
-use crate::tables::question::under;
-use crate::tables::question::used;
+use crate::tables::question::ActionsDropped;
+use crate::tables::question::RecordQuestion;
 use crate::tables::scan::Survey;
-use crate::tables::stores::drop_lapsed;
 use crate::tables::stores::drop_usage;
 use hns_encoding::logic::both;
 use hns_encoding::logic::either;
@@ -119,13 +118,22 @@ pub(crate) fn entry_answer(
     inflight: usize,
     room: usize,
     config: OpaqueRelayConfig,
-    question: Question,
+    all: Revoking,
 ) -> Entered
-    requires { ⌜ asksUnused (question .ask) ≡ false ⌝ }
-    ensures { λ r. ⌜ (r .answer ≡ check (ltb room (closingWords * (count isPending (heldPending places (now (pending .entry))) + count isCircuit (heldCircuits places (now (circuits .entry))))) || tooFew config (length (heldPending places (now (pending .entry)))) (length (heldCircuits places (now (circuits .entry)))) inflight) Short) × (r .first .pending ≡ next pendingId (pendingHas question) notYet (heldPending places (now (pending .entry)))) × (r .first .circuits ≡ next circuitId (circuitHas question) notYet (heldCircuits places (now (circuits .entry)))) ⌝ }
+    ensures { λ r. ⌜ (r .answer ≡ check (
+        ltb room (closingWords * (
+        count isPending (heldPending places (now (pending .entry)))
+        + count isCircuit (heldCircuits places (now (circuits .entry)))))
+        || tooFew config (length (heldPending places (now (pending .entry))))
+        (length (heldCircuits places (now (circuits .entry)))) inflight) Short)
+        × (r .first .pending ≡ next pendingId (revokedPending all) notYet (heldPending places (now (pending .entry))))
+        × (r .first .circuits
+        ≡ next circuitId (revokedCircuit all) notYet (heldCircuits places (now (circuits .entry)))) ⌝ }
 {
-    let waiting = survey_pending(pending, places, question);
-    let active = survey_circuit(circuits, places, question);
+    let question = all.question;
+    let peer = all.peer;
+    let waiting = survey_pending(pending, places, question, peer);
+    let active = survey_circuit(circuits, places, question, peer);
     let short = room_short(room, waiting.used, active.used);
     let answer = room_answer(config, pending.len(), circuits.len(), inflight, short);
     entry_found(answer, waiting, active)
@@ -136,20 +144,21 @@ pub(crate) fn entry_answer(
 fn disconnecting(peer: HnsrPeerId) -> Revoking
     ensures { λ r. ⌜ r ≡ disconnectingAll peer ⌝ }
 {
-    let question = of_peer(peer);
     Revoking {
-        question,
+        question: RecordQuestion::OfPeer,
+        peer,
         notice: Notice::PeerDisconnected,
         circuit_notice: Notice::PeerDisconnected,
         disconnecting: true,
     }
 }
 
-fn revoking(question: Question, notice: Notice, circuit_notice: Notice) -> Revoking
-    ensures { λ r. ⌜ (r .question ≡ question) × (r .notice ≡ notice) × (r .«circuit_notice» ≡ «circuit_notice») × (r .disconnecting ≡ false) ⌝ }
+fn revoking(question: RecordQuestion, notice: Notice, circuit_notice: Notice) -> Revoking
+    ensures { λ r. ⌜ r ≡ revokes question notice «circuit_notice» ⌝ }
 {
     Revoking {
         question,
+        peer: no_peer(),
         notice,
         circuit_notice,
         disconnecting: false,
@@ -172,7 +181,7 @@ pub fn disconnect(
 {
     let config = runtime.config;
     let name = peer_of(peer);
-    let question = of_peer(name);
+    let all = disconnecting(name);
     let entry = entry_answer(
         pending,
         circuits,
@@ -180,15 +189,14 @@ pub fn disconnect(
         inflight.len(),
         out.len(),
         config,
-        question,
+        all,
     );
     let room = entry.answer;
     let first = entry.first;
     let named = peer_answer(peer.len());
     let answer = first_refusal(room, named);
     if is_taken(answer) {
-        let all = disconnecting(name);
-        clear_action(inflight, places, question);
+        clear_action(inflight, places, ActionsDropped::Toward, name);
         return revoke_all(
             pending,
             circuits,
@@ -217,7 +225,11 @@ pub fn revoke_reservation(
     ensures { λ r. ⌜ handedSeen r (now (pending .exit)) (now (circuits .exit)) (now (ledger .exit)) (now (inflight .exit)) (now (out .exit)) ≡ outcome (now (out .entry)) (step (worldSeen runtime places (now (pending .entry)) (now (circuits .entry)) (now (ledger .entry)) (now (inflight .entry))) (callRevokeReservation id (length (now (out .entry))))) ⌝ }
 {
     let config = runtime.config;
-    let question = under(id);
+    let all = revoking(
+        RecordQuestion::Under(id),
+        Notice::ReservationRevoked,
+        Notice::ReservationRevoked,
+    );
     let entry = entry_answer(
         pending,
         circuits,
@@ -225,16 +237,11 @@ pub fn revoke_reservation(
         inflight.len(),
         out.len(),
         config,
-        question,
+        all,
     );
     let answer = entry.answer;
     let first = entry.first;
     if is_taken(answer) {
-        let all = revoking(
-            question,
-            Notice::ReservationRevoked,
-            Notice::ReservationRevoked,
-        );
         drop_usage(ledger, places, id);
         return revoke_all(
             pending,
@@ -264,7 +271,11 @@ pub fn expire(
     ensures { λ r. ⌜ handedSeen r (now (pending .exit)) (now (circuits .exit)) (now (ledger .exit)) (now (inflight .exit)) (now (out .exit)) ≡ outcome (now (out .entry)) (step (worldSeen runtime places (now (pending .entry)) (now (circuits .entry)) (now (ledger .entry)) (now (inflight .entry))) (callExpire time (length (now (out .entry))))) ⌝ }
 {
     let config = runtime.config;
-    let question = over(time);
+    let all = revoking(
+        RecordQuestion::Over(time),
+        Notice::AcceptanceExpired,
+        Notice::TicketExpired,
+    );
     let entry = entry_answer(
         pending,
         circuits,
@@ -272,14 +283,13 @@ pub fn expire(
         inflight.len(),
         out.len(),
         config,
-        question,
+        all,
     );
     let room = entry.answer;
     let first = entry.first;
     let clock = clock_answer(runtime.trusted_time_high_water, time);
     let answer = first_refusal(room, clock);
     if is_taken(answer) {
-        let all = revoking(question, Notice::AcceptanceExpired, Notice::TicketExpired);
         let moved = with_clock(runtime, time);
         drop_lapsed(ledger, places, time);
         return revoke_all(pending, circuits, inflight, out, moved, places, all, first);
@@ -306,18 +316,21 @@ pub(crate) fn switch_to(
     runtime: OpaqueRelayRuntime,
     places: Places,
     enabled: bool,
+    all: Revoking,
     first: Firsts,
 ) -> Relayed
-    requires { ⌜ (runtime .generation < 18446744073709551615) × (first .pending ≡ next pendingId (pendingHas used) notYet (heldPending places (now pending))) × (first .circuits ≡ next circuitId (circuitHas used) notYet (heldCircuits places (now circuits))) ⌝ }
+    requires { ⌜ (runtime .generation < 18446744073709551615)
+        × (all ≡ revokes Used RelayDisabled RelayDisabled)
+        × (first .pending ≡ next pendingId (revokedPending all) notYet (heldPending places (now pending)))
+        × (first .circuits ≡ next circuitId (revokedCircuit all) notYet (heldCircuits places (now circuits))) ⌝ }
     ensures { λ r. ⌜ ((l : List ReservationUsage) → handedSeen r (now (pending .exit)) (now (circuits .exit)) l (now (inflight .exit)) (now (out .exit)) ≡ ending (now (out .entry)) (switchTo (worldSeen runtime places (now (pending .entry)) (now (circuits .entry)) l (now (inflight .entry))) enabled)) ⌝ }
 {
-    let every = used();
     let switched = with_enabled(runtime, enabled);
-    clear_action(inflight, places, every);
+    let nobody = no_peer();
+    clear_action(inflight, places, ActionsDropped::Every, nobody);
     if enabled {
         return taken_with(switched, places);
     }
-    let all = revoking(every, Notice::RelayDisabled, Notice::RelayDisabled);
     revoke_all(
         pending,
         circuits,
@@ -344,7 +357,11 @@ pub fn replace_enabled(
     ensures { λ r. ⌜ ((l : List ReservationUsage) → handedSeen r (now (pending .exit)) (now (circuits .exit)) l (now (inflight .exit)) (now (out .exit)) ≡ outcome (now (out .entry)) (step (worldSeen runtime places (now (pending .entry)) (now (circuits .entry)) l (now (inflight .entry))) (callReplaceEnabled «expected_generation» enabled (length (now (out .entry)))))) ⌝ }
 {
     let config = runtime.config;
-    let every = used();
+    let all = revoking(
+        RecordQuestion::Used,
+        Notice::RelayDisabled,
+        Notice::RelayDisabled,
+    );
     let entry = entry_answer(
         pending,
         circuits,
@@ -352,7 +369,7 @@ pub fn replace_enabled(
         inflight.len(),
         out.len(),
         config,
-        every,
+        all,
     );
     let room = entry.answer;
     let first = entry.first;
@@ -371,6 +388,7 @@ pub fn replace_enabled(
                 runtime,
                 places,
                 enabled,
+                all,
                 first,
             );
         }

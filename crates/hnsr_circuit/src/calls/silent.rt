@@ -51,7 +51,6 @@ use crate::tables::pending::pending_due;
 use crate::tables::places::Places;
 use crate::tables::places::every_place;
 use crate::tables::places::no_place;
-use crate::tables::question::used;
 use crate::tables::scan::CircuitTotals;
 use hns_encoding::logic::either;
 use hnsr_body::values::is_zero;
@@ -180,10 +179,9 @@ pub fn status(
     ensures { λ r. ⌜ ((l : List ReservationUsage) → r ≡ statusTold (step (worldSeen runtime places (now (pending .entry)) (now (circuits .entry)) l (now (inflight .entry))) callStatus)) ⌝ }
 {
     let config = runtime.config;
-    let question = used();
-    let waiting = count_pending(pending, places, question);
+    let waiting = count_pending(pending, places);
     let totals = circuit_totals(circuits, places);
-    let outstanding = count_action(inflight, places, question);
+    let outstanding = count_action(inflight, places);
     let few = too_few(config, pending.len(), circuits.len(), inflight.len());
     let all = status_of(runtime, waiting, totals, outstanding);
     status_told(few, all)

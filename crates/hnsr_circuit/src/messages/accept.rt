@@ -2,7 +2,6 @@
 ghost use mathlib.Core.Path.{_≡_};
 ghost use Prim.Native.Nat.{_+_};
 ghost use Rattle.hnsr_circuit.specs.Answers.{bodyAnswer, _then_};
-ghost use Rattle.hnsr_circuit.specs.Pending.{clearPending};
 ghost use Rattle.hnsr_circuit.specs.Accept.{requestAnswer, acceptAnswer, circuitFor};
 ghost use Rattle.hnsr_circuit.specs.Code.Opening.{acceptRows, acceptWork, replacing, acceptPlan};
 use crate::answer::HnsrAnswer;
@@ -22,7 +21,6 @@ use crate::records::RelayPending;
 use crate::records::header::accepted;
 use crate::records::inflight::capacity_answer;
 use crate::records::pending::overdue;
-use crate::records::pending::pending_unmarked;
 use crate::runtime::OpaqueRelayRuntime;
 use crate::tables::lookup::PendingFound;
 use crate::tables::scan::ActionQuestion;
@@ -168,13 +166,6 @@ pub(crate) fn replacing(found: PendingFound, id: u64) -> ActionQuestion
         generation: 0,
         sequence: 0,
     }
-}
-
-pub(crate) fn found_unmarked(found: PendingFound) -> RelayPending
-    ensures { λ r. ⌜ r ≡ clearPending (found .pending) ⌝ }
-{
-    let pending = found.pending;
-    pending_unmarked(pending)
 }
 
 // The circuit starts with both credits at the accepted window and its byte limit at the smaller of the grant's and the configuration's.

@@ -8,10 +8,10 @@ ghost use Rattle.hnsr_body.specs.Accept.{decodeAccept};
 ghost use Rattle.hnsr_circuit.specs.Code.Lookup.{pendingFound};
 ghost use Rattle.hnsr_circuit.specs.Code.Held.{held, heldPending, heldCircuits, heldActions, worldGiven, handedSeen};
 ghost use Rattle.hnsr_circuit.specs.Table.{put};
-ghost use Rattle.hnsr_circuit.specs.Pending.{clearPending};
+ghost use Rattle.hnsr_circuit.specs.Pending.{pendingAt, clearPending};
 ghost use Rattle.hnsr_circuit.specs.Circuits.{isCircuit, circuitAt, clearCircuit};
 ghost use Rattle.hnsr_circuit.specs.Inflight.{tallied};
-ghost use Rattle.hnsr_circuit.specs.Code.Question.{pendingWork, circuitWork, at};
+ghost use Rattle.hnsr_circuit.specs.Code.Question.{pendingWork, circuitWork};
 ghost use Rattle.hnsr_circuit.specs.Peer.{peerOf};
 ghost use Rattle.hnsr_circuit.specs.Code.Progress.{packetOf, ending};
 ghost use Rattle.hnsr_circuit.specs.Accept.{handleAccept};
@@ -25,7 +25,6 @@ use crate::messages::accept::accept_plan;
 use crate::messages::accept::accept_rows;
 use crate::messages::accept::accept_work;
 use crate::messages::accept::circuit_for;
-use crate::messages::accept::found_unmarked;
 use crate::messages::accept::replacing;
 use crate::output::queue::asking;
 use crate::output::queue::send;
@@ -39,6 +38,7 @@ use crate::tables::circuits::circuit_work;
 use crate::tables::inflight::drop_and_scan;
 use crate::tables::inflight::scan_actions;
 use crate::tables::lookup::PendingFound;
+use crate::tables::lookup::found_unmarked;
 use crate::tables::lookup::pending_by_id;
 use crate::tables::pending::pending_work;
 use crate::tables::pending::set_pending;
@@ -103,7 +103,7 @@ pub(crate) fn accept_found(
     found: PendingFound,
     read: AcceptRead,
 ) -> Relayed
-    ensures { λ r. ⌜ ((l : List ReservationUsage) (source body e rs : List ℕ) → request .peer ≡ peerOf source → found ≡ pendingFound (at (request .packet .«context_id») 0) (heldPending (request .places) (now (pending .entry))) → read ≡ decodeAccept body → handedSeen r (now (pending .exit)) (now (circuits .exit)) l (now (inflight .exit)) (now (out .exit)) ≡ ending (now (out .entry)) (handleAccept (worldGiven request (now (pending .entry)) (now (circuits .entry)) l (now (inflight .entry))) (packetOf (request .packet) source body e rs))) ⌝ }
+    ensures { λ r. ⌜ ((l : List ReservationUsage) (source body e rs : List ℕ) → request .peer ≡ peerOf source → found ≡ pendingFound (pendingAt (request .packet .«context_id»)) (heldPending (request .places) (now (pending .entry))) → read ≡ decodeAccept body → handedSeen r (now (pending .exit)) (now (circuits .exit)) l (now (inflight .exit)) (now (out .exit)) ≡ ending (now (out .entry)) (handleAccept (worldGiven request (now (pending .entry)) (now (circuits .entry)) l (now (inflight .entry))) (packetOf (request .packet) source body e rs))) ⌝ }
 {
     let places = request.places;
     let answer = accept_answered(pending, circuits, inflight, request, found, read);

@@ -24,9 +24,8 @@ use crate::runtime::Request;
 use crate::runtime::refused;
 use crate::tables::inflight::drop_and_scan;
 use crate::tables::lookup::circuit_by_id;
-use crate::tables::lookup::look_up_pending;
-use crate::tables::pending::count_pending;
-use crate::tables::question::named;
+use crate::tables::lookup::look_up_named;
+use crate::tables::pending::count_named;
 use crate::tables::stores::unmark_circuit;
 use crate::tables::stores::unmark_pending;
 use hnsr_body::detail_body::DetailRead;
@@ -41,9 +40,8 @@ pub(crate) fn plan_close(
 ) -> ClosePlan
     ensures { λ r. ⌜ r ≡ closePlannedOn (request .runtime) (heldPending (request .places) (now (pending .entry))) (heldCircuits (request .places) (now (circuits .entry))) (request .packet) read (request .peer) ⌝ }
 {
-    let naming = named(request.peer, request.packet.context_id);
-    let matches = count_pending(pending, request.places, naming);
-    let waiting = look_up_pending(pending, request.places, naming);
+    let matches = count_named(pending, request.places, request.peer, request.packet.context_id);
+    let waiting = look_up_named(pending, request.places, request.peer, request.packet.context_id);
     let circuit = circuit_by_id(circuits, request.places, request.packet.context_id);
     close_plan(
         request.runtime,

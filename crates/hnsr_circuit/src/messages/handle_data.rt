@@ -3,7 +3,7 @@ ghost use mathlib.Core.Path.{_≡_};
 ghost use mathlib.Core.List.{List};
 ghost use Prim.Native.Nat.{ℕ, _<_};
 ghost use lib.ListN.{length};
-ghost use Rattle.hnsr_circuit.specs.Code.Question.{at};
+ghost use Rattle.hnsr_circuit.specs.Circuits.{circuitAt};
 ghost use Rattle.hnsr_circuit.specs.Code.Lookup.{circuitFound};
 ghost use Rattle.hnsr_circuit.specs.Code.Plans.{dataPlannedOn};
 ghost use Rattle.hnsr_circuit.specs.Code.Held.{heldCircuits, heldLedger, heldActions, worldGiven, handedSeen};
@@ -30,7 +30,6 @@ use crate::tables::inflight::scan_actions;
 use crate::tables::lookup::CircuitFound;
 use crate::tables::lookup::circuit_by_id;
 use crate::tables::lookup::look_up_usage;
-use crate::tables::question::at_reservation;
 use crate::tables::stores::spend;
 
 // What a DATA of n bytes does, on the circuit that it names: one pass over each table.
@@ -47,8 +46,7 @@ pub(crate) fn plan_data(
     let asked = asking(request.runtime, message);
     let scan = scan_actions(inflight, request.places, asked);
     let reservation = reservation_of(named);
-    let under = at_reservation(reservation);
-    let booked = look_up_usage(ledger, request.places, under);
+    let booked = look_up_usage(ledger, request.places, reservation);
     data_plan(
         request.runtime,
         named,
@@ -70,7 +68,7 @@ pub(crate) fn pass_data(
     named: CircuitFound,
     body: &[u8],
 ) -> Relayed
-    requires { ⌜ (named ≡ circuitFound (at (request .packet .«context_id») 0) (heldCircuits (request .places) (now circuits))) × (length (now body) < 65536) ⌝ }
+    requires { ⌜ (named ≡ circuitFound (circuitAt (request .packet .«context_id»)) (heldCircuits (request .places) (now circuits))) × (length (now body) < 65536) ⌝ }
     ensures { λ r. ⌜ ((p : List RelayPending) (source e rs : List ℕ) → request .peer ≡ peerOf source → handedSeen r p (now (circuits .exit)) (now (ledger .exit)) (now (inflight .exit)) (now (out .exit)) ≡ ending (now (out .entry)) (handleData (worldGiven request p (now (circuits .entry)) (now (ledger .entry)) (now (inflight .entry))) (packetOf (request .packet) source (now (body .entry)) e rs))) ⌝ }
 {
     let n = body.len();

@@ -54,6 +54,7 @@ use crate::runtime::refused;
 use crate::tables::circuits::circuit_work;
 use crate::tables::circuits::find_circuit_id;
 use crate::tables::inflight::scan_actions;
+use crate::tables::ledger::drop_lapsed;
 use crate::tables::ledger::scan_ledger;
 use crate::tables::ledger::set_usage;
 use crate::tables::pending::find_pending_id;
@@ -63,7 +64,6 @@ use crate::tables::places::raised;
 use crate::tables::places::with_ledger;
 use crate::tables::places::with_pending;
 use crate::tables::scan::ActionScan;
-use crate::tables::stores::drop_lapsed;
 use crate::tables::stores::put_pending;
 use hnsr_body::open_body::OpenBody;
 

@@ -4,7 +4,7 @@ ghost use Rattle.hnsr_body.specs.Data.{decodeWindow};
 ghost use mathlib.Core.List.{List};
 ghost use Prim.Native.Nat.{ℕ, _<_};
 ghost use lib.ListN.{length};
-ghost use Rattle.hnsr_circuit.specs.Code.Question.{at};
+ghost use Rattle.hnsr_circuit.specs.Circuits.{circuitAt};
 ghost use Rattle.hnsr_circuit.specs.Code.Lookup.{circuitFound};
 ghost use Rattle.hnsr_circuit.specs.Code.Plans.{windowPlannedOn};
 ghost use Rattle.hnsr_circuit.specs.Code.Held.{heldCircuits, heldActions, worldGiven, handedSeen};
@@ -66,7 +66,7 @@ pub(crate) fn pass_window(
     named: CircuitFound,
     body: &[u8],
 ) -> Relayed
-    requires { ⌜ (named ≡ circuitFound (at (request .packet .«context_id») 0) (heldCircuits (request .places) (now circuits))) × (read ≡ decodeWindow (now body)) × (length (now body) < 65536) ⌝ }
+    requires { ⌜ (named ≡ circuitFound (circuitAt (request .packet .«context_id»)) (heldCircuits (request .places) (now circuits))) × (read ≡ decodeWindow (now body)) × (length (now body) < 65536) ⌝ }
     ensures { λ r. ⌜ ((p : List RelayPending) (l : List ReservationUsage) (source e rs : List ℕ) → request .peer ≡ peerOf source → handedSeen r p (now (circuits .exit)) l (now (inflight .exit)) (now (out .exit)) ≡ ending (now (out .entry)) (handleWindow (worldGiven request p (now (circuits .entry)) l (now (inflight .entry))) (packetOf (request .packet) source (now (body .entry)) e rs))) ⌝ }
 {
     let plan = plan_window(inflight, request, read, named);

@@ -1,15 +1,16 @@
 // The table of circuits: the only functions that index it. Only places below its number are in use, whatever the marks above; a place past the end
 // has no record, and a store there stores nothing.
 ghost use mathlib.Core.Path.{_≡_};
-ghost use mathlib.Core.Bool.{cond, false};
+ghost use mathlib.Core.Bool.{cond};
 ghost use lib.ListN.{getD, set};
-ghost use Rattle.hns_encoding.specs.Sums.{count};
-ghost use Rattle.hnsr_circuit.specs.Code.Held.{held, heldCircuits, asksUnused};
+ghost use Rattle.hns_encoding.specs.Sums.{count, non};
+ghost use Rattle.hnsr_circuit.specs.Code.Held.{held, heldCircuits};
 ghost use Rattle.hnsr_circuit.specs.Table.{placeOf, notYet, next};
 ghost use Rattle.hnsr_circuit.specs.Circuits.{noCircuit, clearCircuit, circuitId, circuitAt, isCircuit, charged};
 ghost use Rattle.hnsr_circuit.specs.Code.Question.{circuitHas, circuitWork};
 ghost use Rattle.hnsr_circuit.specs.NextDue.{circuitDue};
 ghost use Rattle.hnsr_circuit.specs.Status.{circuitTotals};
+use crate::peer::HnsrPeerId;
 use crate::records::RelayCircuit;
 use crate::records::RelaySide;
 use crate::records::circuits::circuit_charged;
@@ -18,11 +19,8 @@ use crate::records::circuits::is_circuit;
 use crate::records::circuits::no_circuit;
 use crate::runtime::NextDue;
 use crate::tables::places::Places;
-use crate::tables::places::asks_unused;
 use crate::tables::places::held_circuit;
-use crate::tables::places::or_else;
-use crate::tables::question::Question;
-use crate::tables::question::circuit_has;
+use crate::tables::question::RecordQuestion;
 use crate::tables::scan::CircuitTotals;
 use crate::tables::scan::Survey;
 use crate::tables::scan::Walked;
@@ -38,24 +36,25 @@ use crate::tables::scan::not_yet;
 use crate::tables::scan::one_more;
 use crate::tables::scan::surveyed;
 use crate::tables::scan::within;
+use hns_encoding::logic::no;
 use hns_encoding::numbers::min_usize;
 
-// The lowest place whose record has what is asked, else the number of places.
-pub(crate) fn find_circuit(circuits: &[RelayCircuit], places: Places, question: Question) -> usize
-    ensures { λ r. ⌜ r ≡ placeOf (circuitHas question) (heldCircuits places (now (circuits .entry))) ⌝ }
+// The lowest unused place, else the number of places.
+pub(crate) fn spare_circuit(circuits: &[RelayCircuit], places: Places) -> usize
+    ensures { λ r. ⌜ r ≡ placeOf (non isCircuit) (heldCircuits places (now (circuits .entry))) ⌝ }
 {
     let size = circuits.len();
     let end = min_usize(places.circuits, size);
-    let unused = asks_unused(question);
     let mut i: usize = 0;
     while i < end {
         let row = circuits[i];
-        if circuit_has(row, question) {
+        let used = is_circuit(row);
+        if no(used) {
             return i;
         }
         i += 1;
     }
-    or_else(unused, i, size)
+    i
 }
 
 // The lowest place whose record has the id, else the number of places.
@@ -97,11 +96,12 @@ pub(crate) fn set_circuit(circuits: &mut [RelayCircuit], go: bool, place: usize,
 pub(crate) fn next_circuit(
     circuits: &[RelayCircuit],
     places: Places,
-    question: Question,
+    question: RecordQuestion,
+    peer: HnsrPeerId,
     cursor: Walked,
 ) -> Walked
-    requires { ⌜ asksUnused (question .ask) ≡ false ⌝ }
-    ensures { λ r. ⌜ r ≡ next circuitId (circuitHas question) cursor (heldCircuits places (now (circuits .entry))) ⌝ }
+    ensures { λ r. ⌜ r
+        ≡ next circuitId (circuitHas question peer) cursor (heldCircuits places (now (circuits .entry))) ⌝ }
 {
     let size = circuits.len();
     let end = min_usize(places.circuits, size);
@@ -109,7 +109,7 @@ pub(crate) fn next_circuit(
     let mut i: usize = 0;
     while i < end {
         let row = circuits[i];
-        best = circuit_turn(question, cursor, best, row, i);
+        best = circuit_turn(question, peer, cursor, best, row, i);
         i += 1;
     }
     best
@@ -119,10 +119,12 @@ pub(crate) fn next_circuit(
 pub(crate) fn survey_circuit(
     circuits: &[RelayCircuit],
     places: Places,
-    question: Question,
+    question: RecordQuestion,
+    peer: HnsrPeerId,
 ) -> Survey
-    requires { ⌜ asksUnused (question .ask) ≡ false ⌝ }
-    ensures { λ r. ⌜ (r .used ≡ count isCircuit (heldCircuits places (now (circuits .entry)))) × (r .first ≡ next circuitId (circuitHas question) notYet (heldCircuits places (now (circuits .entry)))) ⌝ }
+    ensures { λ r. ⌜ (r .used ≡ count isCircuit (heldCircuits places (now (circuits .entry))))
+        × (r .first
+        ≡ next circuitId (circuitHas question peer) notYet (heldCircuits places (now (circuits .entry)))) ⌝ }
 {
     let size = circuits.len();
     let end = min_usize(places.circuits, size);
@@ -134,7 +136,7 @@ pub(crate) fn survey_circuit(
         let row = circuits[i];
         let has = is_circuit(row);
         used = one_more(used, has);
-        first = circuit_turn(question, start, first, row, i);
+        first = circuit_turn(question, peer, start, first, row, i);
         i += 1;
     }
     surveyed(used, first)

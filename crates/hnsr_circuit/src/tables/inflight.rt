@@ -1,14 +1,15 @@
 // The table of outstanding actions: the only functions that index it. Only places below its number are in use, whatever the marks above; a place past the end
 // has no record, and a store there stores nothing.
 ghost use mathlib.Core.Path.{_≡_};
-ghost use mathlib.Core.Bool.{cond, false};
+ghost use mathlib.Core.Bool.{cond};
 ghost use lib.ListN.{getD, set};
 ghost use Rattle.hns_encoding.specs.Sums.{count};
-ghost use Rattle.hnsr_circuit.specs.Code.Held.{held, heldActions, asksUnused};
+ghost use Rattle.hnsr_circuit.specs.Code.Held.{held, heldActions};
 ghost use Rattle.hnsr_circuit.specs.Table.{clear, placeOf};
-ghost use Rattle.hnsr_circuit.specs.Inflight.{noAction, clearAction, actionAt, actionUnder, dropped};
+ghost use Rattle.hnsr_circuit.specs.Inflight.{noAction, isAction, clearAction, actionAt, actionUnder, dropped};
 ghost use Rattle.hnsr_circuit.specs.Code.Question.{actionHas};
 ghost use Rattle.hnsr_circuit.specs.Code.Turns.{actionsScanned};
+use crate::peer::HnsrPeerId;
 use crate::records::InflightAction;
 use crate::records::inflight::action_is;
 use crate::records::inflight::action_left;
@@ -19,7 +20,7 @@ use crate::records::inflight::no_action;
 use crate::tables::places::Places;
 use crate::tables::places::held_action;
 use crate::tables::places::spared;
-use crate::tables::question::Question;
+use crate::tables::question::ActionsDropped;
 use crate::tables::question::action_has;
 use crate::tables::scan::ActionQuestion;
 use crate::tables::scan::ActionScan;
@@ -51,10 +52,9 @@ pub(crate) fn find_action(
     size
 }
 
-// Of a question that no unused record answers.
-pub(crate) fn count_action(inflight: &[InflightAction], places: Places, question: Question) -> usize
-    requires { ⌜ asksUnused (question .ask) ≡ false ⌝ }
-    ensures { λ r. ⌜ r ≡ count (actionHas question) (heldActions places (now (inflight .entry))) ⌝ }
+// How many records are used.
+pub(crate) fn count_action(inflight: &[InflightAction], places: Places) -> usize
+    ensures { λ r. ⌜ r ≡ count isAction (heldActions places (now (inflight .entry))) ⌝ }
 {
     let size = inflight.len();
     let end = min_usize(places.actions, size);
@@ -62,7 +62,7 @@ pub(crate) fn count_action(inflight: &[InflightAction], places: Places, question
     let mut i: usize = 0;
     while i < end {
         let row = inflight[i];
-        let has = action_has(row, question);
+        let has = is_action(row);
         counted = one_more(counted, has);
         i += 1;
     }
@@ -103,16 +103,22 @@ pub(crate) fn unmark_action(inflight: &mut [InflightAction], go: bool, place: us
     }
 }
 
-// The mark cleared of every record that has what is asked; no other record is stored.
-pub(crate) fn clear_action(inflight: &mut [InflightAction], places: Places, question: Question)
-    ensures { λ _. ⌜ heldActions places (now (inflight .exit)) ≡ clear clearAction (actionHas question) (heldActions places (now (inflight .entry))) ⌝ }
+// The mark cleared of every action that is dropped; no other record is stored.
+pub(crate) fn clear_action(
+    inflight: &mut [InflightAction],
+    places: Places,
+    dropped: ActionsDropped,
+    peer: HnsrPeerId,
+)
+    ensures { λ _. ⌜ heldActions places (now (inflight .exit))
+        ≡ clear clearAction (actionHas dropped peer) (heldActions places (now (inflight .entry))) ⌝ }
 {
     let size = inflight.len();
     let end = min_usize(places.actions, size);
     let mut i: usize = 0;
     while i < end {
         let row = inflight[i];
-        let has = action_has(row, question);
+        let has = action_has(row, dropped, peer);
         unmark_action(inflight, has, i);
         i += 1;
     }

@@ -4,21 +4,18 @@ ghost use mathlib.Core.Path.{_≡_};
 ghost use mathlib.Core.Bool.{cond};
 ghost use lib.ListN.{getD, set};
 ghost use Rattle.hnsr_circuit.specs.Code.Held.{held, heldLedger};
-ghost use Rattle.hnsr_circuit.specs.Table.{clear, placeOf};
-ghost use Rattle.hnsr_circuit.specs.Ledger.{noUsage, clearUsage};
-ghost use Rattle.hnsr_circuit.specs.Code.Question.{usageHas};
+ghost use Rattle.hnsr_circuit.specs.Table.{placeOf};
+ghost use Rattle.hnsr_circuit.specs.Ledger.{noUsage, usageAt, clearUsage, lapsed};
 ghost use Rattle.hnsr_circuit.specs.Code.Turns.{ledgerAsked};
 use crate::records::ReservationUsage;
 use crate::records::ledger::is_usage;
 use crate::records::ledger::no_usage;
+use crate::records::ledger::usage_is;
+use crate::records::ledger::usage_over;
 use crate::records::ledger::usage_unmarked;
 use crate::tables::places::Places;
-use crate::tables::places::asks_unused;
 use crate::tables::places::held_usage;
-use crate::tables::places::or_else;
 use crate::tables::places::room_spared;
-use crate::tables::question::Question;
-use crate::tables::question::usage_has;
 use crate::tables::scan::LedgerRoom;
 use crate::tables::scan::no_room;
 use crate::tables::scan::room_on;
@@ -26,22 +23,21 @@ use crate::tables::scan::within;
 use hns_encoding::numbers::min_usize;
 use hnsr_body::values::ReservationId;
 
-// The lowest place whose record has what is asked, else the number of places.
-pub(crate) fn find_usage(ledger: &[ReservationUsage], places: Places, question: Question) -> usize
-    ensures { λ r. ⌜ r ≡ placeOf (usageHas question) (heldLedger places (now (ledger .entry))) ⌝ }
+// The lowest place whose record has the reservation's id, else the number of places.
+pub(crate) fn find_usage(ledger: &[ReservationUsage], places: Places, id: ReservationId) -> usize
+    ensures { λ r. ⌜ r ≡ placeOf (usageAt id) (heldLedger places (now (ledger .entry))) ⌝ }
 {
     let size = ledger.len();
     let end = min_usize(places.ledger, size);
-    let unused = asks_unused(question);
     let mut i: usize = 0;
     while i < end {
         let row = ledger[i];
-        if usage_has(row, question) {
+        if usage_is(row, id) {
             return i;
         }
         i += 1;
     }
-    or_else(unused, i, size)
+    size
 }
 
 // All that OPEN asks of the table, in one pass.
@@ -102,17 +98,17 @@ pub(crate) fn unmark_usage(ledger: &mut [ReservationUsage], go: bool, place: usi
     }
 }
 
-// The mark cleared of every record that has what is asked; no other record is stored.
-pub(crate) fn clear_usage(ledger: &mut [ReservationUsage], places: Places, question: Question)
-    ensures { λ _. ⌜ heldLedger places (now (ledger .exit)) ≡ clear clearUsage (usageHas question) (heldLedger places (now (ledger .entry))) ⌝ }
+// Ledger records with expiry not after now, dropped: their marks are cleared, no other record is stored.
+pub(crate) fn drop_lapsed(ledger: &mut [ReservationUsage], places: Places, time: u64)
+    ensures { λ _. ⌜ heldLedger places (now (ledger .exit)) ≡ lapsed time (heldLedger places (now (ledger .entry))) ⌝ }
 {
     let size = ledger.len();
     let end = min_usize(places.ledger, size);
     let mut i: usize = 0;
     while i < end {
         let row = ledger[i];
-        let has = usage_has(row, question);
-        unmark_usage(ledger, has, i);
+        let over = usage_over(row, time);
+        unmark_usage(ledger, over, i);
         i += 1;
     }
 }

@@ -1,13 +1,18 @@
 // Lookups: the record at the lowest place that has what is asked, with its place.
 ghost use mathlib.Core.Path.{_≡_};
 ghost use lib.Dec.{ltb};
-ghost use Rattle.hnsr_circuit.specs.Code.Question.{at};
+ghost use Rattle.hnsr_circuit.specs.Pending.{pendingAt, namedBy, clearPending};
+ghost use Rattle.hnsr_circuit.specs.Circuits.{circuitAt};
+ghost use Rattle.hnsr_circuit.specs.Ledger.{usageAt};
+ghost use Rattle.hnsr_circuit.specs.Inflight.{actionAt};
 ghost use Rattle.hnsr_circuit.specs.Code.Held.{heldPending, heldCircuits, heldLedger, heldActions};
 ghost use Rattle.hnsr_circuit.specs.Code.Lookup.{pendingFound, circuitFound, usageFound, actionFound};
+use crate::peer::HnsrPeerId;
 use crate::records::InflightAction;
 use crate::records::RelayCircuit;
 use crate::records::RelayPending;
 use crate::records::ReservationUsage;
+use crate::records::pending::pending_unmarked;
 use crate::tables::circuits::circuit_at;
 use crate::tables::circuits::find_circuit_id;
 use crate::tables::circuits::trim_circuits;
@@ -17,13 +22,13 @@ use crate::tables::inflight::trim_actions;
 use crate::tables::ledger::find_usage;
 use crate::tables::ledger::trim_ledger;
 use crate::tables::ledger::usage_at;
-use crate::tables::pending::find_pending;
+use crate::tables::pending::find_named;
 use crate::tables::pending::find_pending_id;
 use crate::tables::pending::pending_at;
 use crate::tables::pending::trim_pending;
 use crate::tables::places::Places;
 use crate::tables::places::places_of;
-use crate::tables::question::Question;
+use hnsr_body::values::ReservationId;
 
 // What a lookup finds: whether there is such a record, its place and itself.
 pub struct PendingFound {
@@ -60,16 +65,26 @@ fn pending_found(place: usize, places: usize, pending: RelayPending) -> PendingF
     }
 }
 
-pub(crate) fn look_up_pending(
+// The record that the peer names by the context.
+pub(crate) fn look_up_named(
     pending: &[RelayPending],
     places: Places,
-    question: Question,
+    peer: HnsrPeerId,
+    context: u64,
 ) -> PendingFound
-    ensures { λ r. ⌜ r ≡ pendingFound question (heldPending places (now (pending .entry))) ⌝ }
+    ensures { λ r. ⌜ r ≡ pendingFound (namedBy peer context) (heldPending places (now (pending .entry))) ⌝ }
 {
-    let place = find_pending(pending, places, question);
+    let place = find_named(pending, places, peer, context);
     let row = pending_at(pending, places, place);
     pending_found(place, pending.len(), row)
+}
+
+// The record that was found, its mark cleared.
+pub(crate) fn found_unmarked(found: PendingFound) -> RelayPending
+    ensures { λ r. ⌜ r ≡ clearPending (found .pending) ⌝ }
+{
+    let pending = found.pending;
+    pending_unmarked(pending)
 }
 
 fn circuit_found(place: usize, places: usize, circuit: RelayCircuit) -> CircuitFound
@@ -84,7 +99,7 @@ fn circuit_found(place: usize, places: usize, circuit: RelayCircuit) -> CircuitF
 
 // By id: a lookup reads ids and marks alone.
 pub(crate) fn pending_by_id(pending: &[RelayPending], places: Places, id: u64) -> PendingFound
-    ensures { λ r. ⌜ r ≡ pendingFound (at id 0) (heldPending places (now (pending .entry))) ⌝ }
+    ensures { λ r. ⌜ r ≡ pendingFound (pendingAt id) (heldPending places (now (pending .entry))) ⌝ }
 {
     let place = find_pending_id(pending, places, id);
     let row = pending_at(pending, places, place);
@@ -92,7 +107,7 @@ pub(crate) fn pending_by_id(pending: &[RelayPending], places: Places, id: u64) -
 }
 
 pub(crate) fn circuit_by_id(circuits: &[RelayCircuit], places: Places, id: u64) -> CircuitFound
-    ensures { λ r. ⌜ r ≡ circuitFound (at id 0) (heldCircuits places (now (circuits .entry))) ⌝ }
+    ensures { λ r. ⌜ r ≡ circuitFound (circuitAt id) (heldCircuits places (now (circuits .entry))) ⌝ }
 {
     let place = find_circuit_id(circuits, places, id);
     let row = circuit_at(circuits, places, place);
@@ -112,11 +127,11 @@ fn usage_found(place: usize, places: usize, usage: ReservationUsage) -> UsageFou
 pub(crate) fn look_up_usage(
     ledger: &[ReservationUsage],
     places: Places,
-    question: Question,
+    id: ReservationId,
 ) -> UsageFound
-    ensures { λ r. ⌜ r ≡ usageFound question (heldLedger places (now (ledger .entry))) ⌝ }
+    ensures { λ r. ⌜ r ≡ usageFound (usageAt id) (heldLedger places (now (ledger .entry))) ⌝ }
 {
-    let place = find_usage(ledger, places, question);
+    let place = find_usage(ledger, places, id);
     let row = usage_at(ledger, places, place);
     usage_found(place, ledger.len(), row)
 }
@@ -137,7 +152,7 @@ pub(crate) fn look_up_action(
     generation: u64,
     sequence: u64,
 ) -> ActionFound
-    ensures { λ r. ⌜ r ≡ actionFound (at generation sequence) (heldActions places (now (inflight .entry))) ⌝ }
+    ensures { λ r. ⌜ r ≡ actionFound (actionAt generation sequence) (heldActions places (now (inflight .entry))) ⌝ }
 {
     let place = find_action(inflight, places, generation, sequence);
     let row = action_at(inflight, places, place);

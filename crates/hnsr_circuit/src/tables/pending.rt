@@ -1,25 +1,24 @@
 // The table of pending records: the only functions that index it. Only places below its number are in use, whatever the marks above; a place past the end
 // has no record, and a store there stores nothing.
 ghost use mathlib.Core.Path.{_≡_};
-ghost use mathlib.Core.Bool.{cond, false};
+ghost use mathlib.Core.Bool.{cond};
 ghost use lib.ListN.{getD, set};
-ghost use Rattle.hns_encoding.specs.Sums.{count};
-ghost use Rattle.hnsr_circuit.specs.Code.Held.{held, heldPending, asksUnused};
+ghost use Rattle.hns_encoding.specs.Sums.{count, non};
+ghost use Rattle.hnsr_circuit.specs.Code.Held.{held, heldPending};
 ghost use Rattle.hnsr_circuit.specs.Table.{placeOf, notYet, next};
-ghost use Rattle.hnsr_circuit.specs.Pending.{noPending, clearPending, pendingId, pendingAt, isPending};
+ghost use Rattle.hnsr_circuit.specs.Pending.{noPending, clearPending, pendingId, pendingAt, namedBy, isPending};
 ghost use Rattle.hnsr_circuit.specs.Code.Question.{pendingHas, pendingWork};
 ghost use Rattle.hnsr_circuit.specs.NextDue.{pendingDue};
+use crate::peer::HnsrPeerId;
 use crate::records::RelayPending;
 use crate::records::pending::is_pending;
+use crate::records::pending::named_by;
 use crate::records::pending::no_pending;
 use crate::records::pending::pending_is;
 use crate::runtime::NextDue;
 use crate::tables::places::Places;
-use crate::tables::places::asks_unused;
 use crate::tables::places::held_pending;
-use crate::tables::places::or_else;
-use crate::tables::question::Question;
-use crate::tables::question::pending_has;
+use crate::tables::question::RecordQuestion;
 use crate::tables::scan::Survey;
 use crate::tables::scan::Walked;
 use crate::tables::scan::Work;
@@ -32,24 +31,25 @@ use crate::tables::scan::pending_turn;
 use crate::tables::scan::pending_worked;
 use crate::tables::scan::surveyed;
 use crate::tables::scan::within;
+use hns_encoding::logic::no;
 use hns_encoding::numbers::min_usize;
 
-// The lowest place whose record has what is asked, else the number of places.
-pub(crate) fn find_pending(pending: &[RelayPending], places: Places, question: Question) -> usize
-    ensures { λ r. ⌜ r ≡ placeOf (pendingHas question) (heldPending places (now (pending .entry))) ⌝ }
+// The lowest unused place, else the number of places.
+pub(crate) fn spare_pending(pending: &[RelayPending], places: Places) -> usize
+    ensures { λ r. ⌜ r ≡ placeOf (non isPending) (heldPending places (now (pending .entry))) ⌝ }
 {
     let size = pending.len();
     let end = min_usize(places.pending, size);
-    let unused = asks_unused(question);
     let mut i: usize = 0;
     while i < end {
         let row = pending[i];
-        if pending_has(row, question) {
+        let used = is_pending(row);
+        if no(used) {
             return i;
         }
         i += 1;
     }
-    or_else(unused, i, size)
+    i
 }
 
 // The lowest place whose record has the id, else the number of places.
@@ -69,10 +69,36 @@ pub(crate) fn find_pending_id(pending: &[RelayPending], places: Places, id: u64)
     size
 }
 
-// Of a question that no unused record answers.
-pub(crate) fn count_pending(pending: &[RelayPending], places: Places, question: Question) -> usize
-    requires { ⌜ asksUnused (question .ask) ≡ false ⌝ }
-    ensures { λ r. ⌜ r ≡ count (pendingHas question) (heldPending places (now (pending .entry))) ⌝ }
+// The lowest place whose record the peer names by the context, else the number of places.
+pub(crate) fn find_named(
+    pending: &[RelayPending],
+    places: Places,
+    peer: HnsrPeerId,
+    context: u64,
+) -> usize
+    ensures { λ r. ⌜ r ≡ placeOf (namedBy peer context) (heldPending places (now (pending .entry))) ⌝ }
+{
+    let size = pending.len();
+    let end = min_usize(places.pending, size);
+    let mut i: usize = 0;
+    while i < end {
+        let row = pending[i];
+        if named_by(row, peer, context) {
+            return i;
+        }
+        i += 1;
+    }
+    size
+}
+
+// How many records the peer names by the context.
+pub(crate) fn count_named(
+    pending: &[RelayPending],
+    places: Places,
+    peer: HnsrPeerId,
+    context: u64,
+) -> usize
+    ensures { λ r. ⌜ r ≡ count (namedBy peer context) (heldPending places (now (pending .entry))) ⌝ }
 {
     let size = pending.len();
     let end = min_usize(places.pending, size);
@@ -80,7 +106,24 @@ pub(crate) fn count_pending(pending: &[RelayPending], places: Places, question: 
     let mut i: usize = 0;
     while i < end {
         let row = pending[i];
-        let has = pending_has(row, question);
+        let has = named_by(row, peer, context);
+        counted = one_more(counted, has);
+        i += 1;
+    }
+    counted
+}
+
+// How many records are used.
+pub(crate) fn count_pending(pending: &[RelayPending], places: Places) -> usize
+    ensures { λ r. ⌜ r ≡ count isPending (heldPending places (now (pending .entry))) ⌝ }
+{
+    let size = pending.len();
+    let end = min_usize(places.pending, size);
+    let mut counted: usize = 0;
+    let mut i: usize = 0;
+    while i < end {
+        let row = pending[i];
+        let has = is_pending(row);
         counted = one_more(counted, has);
         i += 1;
     }
@@ -109,11 +152,12 @@ pub(crate) fn set_pending(pending: &mut [RelayPending], go: bool, place: usize, 
 pub(crate) fn next_pending(
     pending: &[RelayPending],
     places: Places,
-    question: Question,
+    question: RecordQuestion,
+    peer: HnsrPeerId,
     cursor: Walked,
 ) -> Walked
-    requires { ⌜ asksUnused (question .ask) ≡ false ⌝ }
-    ensures { λ r. ⌜ r ≡ next pendingId (pendingHas question) cursor (heldPending places (now (pending .entry))) ⌝ }
+    ensures { λ r. ⌜ r
+        ≡ next pendingId (pendingHas question peer) cursor (heldPending places (now (pending .entry))) ⌝ }
 {
     let size = pending.len();
     let end = min_usize(places.pending, size);
@@ -121,16 +165,21 @@ pub(crate) fn next_pending(
     let mut i: usize = 0;
     while i < end {
         let row = pending[i];
-        best = pending_turn(question, cursor, best, row, i);
+        best = pending_turn(question, peer, cursor, best, row, i);
         i += 1;
     }
     best
 }
 
 // How many records are used, and the first that a walk of the question takes.
-pub(crate) fn survey_pending(pending: &[RelayPending], places: Places, question: Question) -> Survey
-    requires { ⌜ asksUnused (question .ask) ≡ false ⌝ }
-    ensures { λ r. ⌜ (r .used ≡ count isPending (heldPending places (now (pending .entry)))) × (r .first ≡ next pendingId (pendingHas question) notYet (heldPending places (now (pending .entry)))) ⌝ }
+pub(crate) fn survey_pending(
+    pending: &[RelayPending],
+    places: Places,
+    question: RecordQuestion,
+    peer: HnsrPeerId,
+) -> Survey
+    ensures { λ r. ⌜ (r .used ≡ count isPending (heldPending places (now (pending .entry))))
+        × (r .first ≡ next pendingId (pendingHas question peer) notYet (heldPending places (now (pending .entry)))) ⌝ }
 {
     let size = pending.len();
     let end = min_usize(places.pending, size);
@@ -142,7 +191,7 @@ pub(crate) fn survey_pending(pending: &[RelayPending], places: Places, question:
         let row = pending[i];
         let has = is_pending(row);
         used = one_more(used, has);
-        first = pending_turn(question, start, first, row, i);
+        first = pending_turn(question, peer, start, first, row, i);
         i += 1;
     }
     surveyed(used, first)

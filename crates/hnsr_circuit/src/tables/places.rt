@@ -5,7 +5,7 @@ ghost use Rattle.hnsr_circuit.specs.Pending.{clearPending};
 ghost use Rattle.hnsr_circuit.specs.Circuits.{clearCircuit};
 ghost use Rattle.hnsr_circuit.specs.Ledger.{clearUsage};
 ghost use Rattle.hnsr_circuit.specs.Inflight.{clearAction};
-ghost use Rattle.hnsr_circuit.specs.Code.Held.{noPlace, everyPlace, withPending, withCircuits, withLedger, withActions, raisedTo, asksUnused};
+ghost use Rattle.hnsr_circuit.specs.Code.Held.{noPlace, everyPlace, withPending, withCircuits, withLedger, withActions, raisedTo};
 ghost use Rattle.hnsr_circuit.specs.Code.Turns.{scanSpared, roomSpared};
 use crate::records::InflightAction;
 use crate::records::RelayCircuit;
@@ -15,8 +15,6 @@ use crate::records::circuits::circuit_unmarked;
 use crate::records::inflight::action_unmarked;
 use crate::records::ledger::usage_unmarked;
 use crate::records::pending::pending_unmarked;
-use crate::tables::question::Ask;
-use crate::tables::question::Question;
 use crate::tables::scan::ActionScan;
 use crate::tables::scan::LedgerRoom;
 use crate::tables::scan::first_place;
@@ -112,31 +110,6 @@ pub(crate) fn raised(number: usize, go: bool, place: usize, size: usize) -> usiz
         return place + 1;
     }
     number
-}
-
-// Whether unused records have what is asked; they all have, or none has.
-pub(crate) fn asks_unused(question: Question) -> bool
-    ensures { λ r. ⌜ r ≡ asksUnused (question .ask) ⌝ }
-{
-    let ask = question.ask;
-    match ask {
-        Ask::Unused => true,
-        Ask::Used => false,
-        Ask::At => false,
-        Ask::Named => false,
-        Ask::Of => false,
-        Ask::Under => false,
-        Ask::Over => false,
-    }
-}
-
-pub(crate) fn or_else(here: bool, place: usize, past: usize) -> usize
-    ensures { λ r. ⌜ r ≡ cond here place past ⌝ }
-{
-    if here {
-        return place;
-    }
-    past
 }
 
 // A scan ended at a place: if that is one, it is unused.

@@ -29,7 +29,7 @@ use crate::records::pending::pending_of;
 use crate::records::pending::pending_under;
 use crate::records::pending::requested_by;
 use crate::runtime::NextDue;
-use crate::tables::question::Question;
+use crate::tables::question::RecordQuestion;
 use crate::tables::question::circuit_has;
 use crate::tables::question::pending_has;
 use hns_encoding::logic::both;
@@ -181,28 +181,30 @@ fn walked_on(has: bool, cursor: Walked, best: Walked, id: u64, place: usize) -> 
 }
 
 pub(crate) fn pending_turn(
-    question: Question,
+    question: RecordQuestion,
+    peer: HnsrPeerId,
     cursor: Walked,
     best: Walked,
     row: RelayPending,
     place: usize,
 ) -> Walked
-    ensures { λ r. ⌜ r ≡ nextTurn pendingId (pendingHas question) cursor best row place ⌝ }
+    ensures { λ r. ⌜ r ≡ nextTurn pendingId (pendingHas question peer) cursor best row place ⌝ }
 {
-    let has = pending_has(row, question);
+    let has = pending_has(row, question, peer);
     walked_on(has, cursor, best, row.circuit_id, place)
 }
 
 pub(crate) fn circuit_turn(
-    question: Question,
+    question: RecordQuestion,
+    peer: HnsrPeerId,
     cursor: Walked,
     best: Walked,
     row: RelayCircuit,
     place: usize,
 ) -> Walked
-    ensures { λ r. ⌜ r ≡ nextTurn circuitId (circuitHas question) cursor best row place ⌝ }
+    ensures { λ r. ⌜ r ≡ nextTurn circuitId (circuitHas question peer) cursor best row place ⌝ }
 {
-    let has = circuit_has(row, question);
+    let has = circuit_has(row, question, peer);
     walked_on(has, cursor, best, row.circuit_id, place)
 }
 

@@ -6,7 +6,7 @@ ghost use Prim.Native.Nat.{_<_, _+_};
 ghost use Rattle.hns_encoding.specs.Sums.{non};
 ghost use Rattle.hnsr_circuit.specs.Table.{placeOf, put, edit};
 ghost use Rattle.hnsr_circuit.specs.Pending.{isPending, clearPending, noPending};
-ghost use Rattle.hnsr_circuit.specs.Ledger.{noUsage, usageAt, clearUsage, spent, lapsed};
+ghost use Rattle.hnsr_circuit.specs.Ledger.{noUsage, usageAt, clearUsage, spent};
 ghost use Rattle.hnsr_circuit.specs.Code.Held.{held, heldPending, heldCircuits, heldLedger};
 ghost use Rattle.hnsr_circuit.specs.Code.Opening.{putPlace};
 ghost use Rattle.hnsr_circuit.specs.Circuits.{noCircuit, clearCircuit, creditOf, otherSide, raised, isCircuit, circuitAt, lowered};
@@ -21,21 +21,17 @@ use crate::records::ledger::usage_spent;
 use crate::records::ledger::usage_unmarked;
 use crate::records::pending::pending_unmarked;
 use crate::tables::circuits::circuit_at;
-use crate::tables::circuits::find_circuit;
 use crate::tables::circuits::find_circuit_id;
 use crate::tables::circuits::set_circuit;
-use crate::tables::ledger::clear_usage;
+use crate::tables::circuits::spare_circuit;
 use crate::tables::ledger::find_usage;
 use crate::tables::ledger::set_usage;
 use crate::tables::ledger::usage_at;
-use crate::tables::pending::find_pending;
 use crate::tables::pending::pending_at;
 use crate::tables::pending::set_pending;
+use crate::tables::pending::spare_pending;
 use crate::tables::places::Places;
 use crate::tables::places::raised;
-use crate::tables::question::at_reservation;
-use crate::tables::question::over;
-use crate::tables::question::unused;
 use hnsr_body::values::ReservationId;
 
 // A pending record at the lowest unused place.
@@ -43,8 +39,7 @@ pub(crate) fn put_pending(pending: &mut [RelayPending], places: Places, row: Rel
     ensures { λ r. ⌜ held clearPending r (now (pending .exit)) ≡ set (heldPending places (now (pending .entry))) (placeOf (non isPending) (heldPending places (now (pending .entry)))) row ⌝ }
 {
     let size = pending.len();
-    let free = unused();
-    let place = find_pending(pending, places, free);
+    let place = spare_pending(pending, places);
     set_pending(pending, true, place, row);
     raised(places.pending, true, place, size)
 }
@@ -105,19 +100,10 @@ pub(crate) fn put_circuit(
 {
     let size = circuits.len();
     let old = find_circuit_id(circuits, places, id);
-    let free = unused();
-    let spare = find_circuit(circuits, places, free);
+    let spare = spare_circuit(circuits, places);
     let place = put_place(old, size, spare);
     set_circuit(circuits, go, place, row);
     raised(places.circuits, go, place, size)
-}
-
-// Ledger records with expiry not after now, dropped.
-pub(crate) fn drop_lapsed(ledger: &mut [ReservationUsage], places: Places, time: u64)
-    ensures { λ _. ⌜ heldLedger places (now (ledger .exit)) ≡ lapsed time (heldLedger places (now (ledger .entry))) ⌝ }
-{
-    let question = over(time);
-    clear_usage(ledger, places, question);
 }
 
 // DATA of n bytes, charged to a ledger record.
@@ -133,8 +119,7 @@ pub(crate) fn spend(ledger: &mut [ReservationUsage], places: Places, go: bool, p
 pub(crate) fn drop_usage(ledger: &mut [ReservationUsage], places: Places, id: ReservationId)
     ensures { λ _. ⌜ heldLedger places (now (ledger .exit)) ≡ edit (usageAt id) clearUsage (heldLedger places (now (ledger .entry))) ⌝ }
 {
-    let question = at_reservation(id);
-    let place = find_usage(ledger, places, question);
+    let place = find_usage(ledger, places, id);
     let usage = usage_at(ledger, places, place);
     let gone = usage_unmarked(usage);
     set_usage(ledger, true, place, gone);

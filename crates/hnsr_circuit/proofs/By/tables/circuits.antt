@@ -4,9 +4,9 @@ pub mod circuit_at
 pub mod circuit_due
 pub mod circuit_totals
 pub mod circuit_work
-pub mod find_circuit
 pub mod find_circuit_id
 pub mod next_circuit
 pub mod set_circuit
+pub mod spare_circuit
 pub mod survey_circuit
 pub mod trim_circuits

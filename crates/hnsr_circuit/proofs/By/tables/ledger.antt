@@ -1,4 +1,4 @@
-pub mod clear_usage
+pub mod drop_lapsed
 pub mod find_usage
 pub mod scan_ledger
 pub mod set_usage

@@ -1,10 +1,12 @@
+pub mod count_named
 pub mod count_pending
-pub mod find_pending
+pub mod find_named
 pub mod find_pending_id
 pub mod next_pending
 pub mod pending_at
 pub mod pending_due
 pub mod pending_work
 pub mod set_pending
+pub mod spare_pending
 pub mod survey_pending
 pub mod trim_pending

@@ -1,4 +1,3 @@
-pub mod drop_lapsed
 pub mod drop_usage
 pub mod lower_circuit
 pub mod put_circuit

@@ -13,7 +13,6 @@ use Rattle.hnsr_circuit.specs.Answers.{check, _then_}
 use Rattle.hnsr_circuit.specs.World.{Outcome, worldOf}
 use Rattle.hnsr_circuit.specs.Table.{pick}
 use Rattle.hnsr_circuit.specs.Inflight.{noAction, actionAt}
-use Rattle.hnsr_circuit.specs.Code.Question.{actionAsked}
 use Rattle.hnsr_circuit.specs.Entry.{acknowledgeWords, roomAnswer, tablesShort}
 use Rattle.hnsr_circuit.specs.Code.Progress.{ending}
 use Rattle.hnsr_circuit.specs.Acknowledge.{generationAnswer, actionAnswer, acknowledgeTaken, acknowledgeAction, acknowledge}
@@ -31,7 +30,7 @@ bound : (c : tie.Start) → length (c .args .out .now) < 18446744073709551616
 bound c = search needs
 
 returns : tie.Need-returns
-unfolding step acknowledge acknowledgeTaken roomAnswer tablesShort actionAsked
+unfolding step acknowledge acknowledgeTaken roomAnswer tablesShort
 returns c =
     let here = at.returns c in
     λ l₀.
@@ -50,7 +49,7 @@ returns c =
     ∙ whole (a .out .now) w call (omega arith) (omega arith)
 
 returns-2 : tie.Need-returns-2
-unfolding step acknowledge acknowledgeTaken roomAnswer tablesShort actionAsked
+unfolding step acknowledge acknowledgeTaken roomAnswer tablesShort
 returns-2 c =
     let here = at.returns-2 c in
     λ l₀.

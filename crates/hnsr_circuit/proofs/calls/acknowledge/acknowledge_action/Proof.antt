@@ -9,7 +9,6 @@ use Rattle.hnsr_circuit.specs.declared.tables.lookup.ActionFound.{Action
 use Rattle.hnsr_circuit.specs.World.{Outcome}
 use Rattle.hnsr_circuit.specs.Table.{edit}
 use Rattle.hnsr_circuit.specs.Circuits.{circuitAt, lowered}
-use Rattle.hnsr_circuit.specs.Code.Question.{actionAsked}
 use Rattle.hnsr_circuit.specs.Code.Progress.{ending}
 use Rattle.hnsr_circuit.specs.Laws.Acknowledging.{action-settled}
 use Rattle.hnsr_circuit.specs.Code.Held.{heldPending, heldCircuits, heldLedger, heldActions}
@@ -19,7 +18,6 @@ use Rattle.hnsr_circuit.proofs.calls.acknowledge.acknowledge_action.Pro
 use Rattle.hnsr_circuit.proofs.calls.acknowledge.acknowledge_action.Proof.At as at
 
 returns : tie.Need-returns
-unfolding actionAsked
 returns c =
     let here = at.returns c in
     λ l₀ g n ef.

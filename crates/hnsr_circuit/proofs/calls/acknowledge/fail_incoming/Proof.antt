@@ -6,7 +6,6 @@ use lib.ListN.{set}
 use Rattle.hnsr_circuit.specs.declared.tables.lookup.PendingFound.{PendingFound}
 use Rattle.hnsr_circuit.specs.World.{Outcome}
 use Rattle.hnsr_circuit.specs.Pending.{clearPending}
-use Rattle.hnsr_circuit.specs.Code.Question.{pendingAsked}
 use Rattle.hnsr_circuit.specs.Code.Progress.{ending}
 use Rattle.hnsr_circuit.specs.Code.Revoking.{errorOut}
 use Rattle.hnsr_circuit.specs.Laws.Acknowledging.{incoming-failed, none-failed}
@@ -19,7 +18,6 @@ use Rattle.hnsr_circuit.proofs.calls.acknowledge.fail_incoming.Proof.Ti
 use Rattle.hnsr_circuit.proofs.calls.acknowledge.fail_incoming.Proof.At as at
 
 returns : tie.Need-returns
-unfolding pendingAsked
 returns c =
     let here = at.returns c in
     λ cs₀ l₀.
@@ -31,15 +29,14 @@ returns c =
     let e = here .fail-plan .ensures in
     let found = sym (e .0 ∙ ap (λ (f : PendingFound). f .found) ef) ∙ here .if1 .taken in
     let place = e .1 ∙ ap (λ (f : PendingFound). f .place) ef in
-    let gone = here .pending-gone .ensures ∙ ap (λ (f : PendingFound). clearPending (f .pending)) ef in
+    let gone = here .found-unmarked .ensures ∙ ap (λ (f : PendingFound). clearPending (f .pending)) ef in
     let message = e .3 ∙ ap (λ (f : PendingFound). errorOut (f .pending)) ef in
-    let r = here .pending-gone .ensures in
-    let after = stored-seen clearPending (a .places .pending) (a .pending .now) _ true (here .fail-plan .result .place) (here .pending-gone .result) (λ h. ap clearPending r ∙ sym r) (here .set-pending .ensures) ∙ (λ x. set p (place x) (gone x)) in
+    let r = here .found-unmarked .ensures in
+    let after = stored-seen clearPending (a .places .pending) (a .pending .now) _ true (here .fail-plan .result .place) (here .found-unmarked .result) (λ h. ap clearPending r ∙ sym r) (here .set-pending .ensures) ∙ (λ x. set p (place x) (gone x)) in
     here .send-notice .ensures (here .set-pending .last .0) cs₀ l₀
     ∙ ap (λ (o : Outcome). ending (a .out .now) o) (incoming-failed (a .runtime) p cs l (heldActions (a .places) (a .inflight .now)) (a .id) (here .fail-plan .result .runtime) (heldPending (a .places) (here .set-pending .last .0)) (here .fail-plan .result .message) found (e .2) after message)
 
 returns-2 : tie.Need-returns-2
-unfolding pendingAsked
 returns-2 c =
     let here = at.returns-2 c in
     λ cs₀ l₀.

@@ -4,12 +4,11 @@ mod At
 use mathlib.Core.Path.{sym, ap, _∙_}
 use Rattle.hnsr_circuit.specs.Pending.{pendingId}
 use Rattle.hnsr_circuit.specs.Circuits.{circuitId}
-use Rattle.hnsr_circuit.specs.Code.Question.{pendingHas, circuitHas}
 use Rattle.hnsr_circuit.specs.Code.Progress.{Progress, progress, advanced, advance}
 use Rattle.hnsr_circuit.specs.World.{worldOf}
 use Rattle.hnsr_circuit.specs.Queue.{andThen}
 use Rattle.hnsr_circuit.specs.Revocation.{revokeAll, revokeCircuitThere, walk, pendingTable, circuitTable}
-use Rattle.hnsr_circuit.specs.Code.Revoking.{endingPending}
+use Rattle.hnsr_circuit.specs.Code.Revoking.{endingPending, revokedPending, revokedCircuit}
 use Rattle.hnsr_circuit.specs.Laws.Progress.{advance-then}
 use Rattle.hnsr_circuit.specs.Laws.Calls.{begun, over}
 use Rattle.hnsr_circuit.specs.Laws.HeldTables.{places-kept, sending-kept}
@@ -27,15 +26,19 @@ walk-pending-requires : tie.Need-walk-pending-requires
 walk-pending-requires c κs =
     let here = at.walk-pending-requires c in
     let a = here .start .args in
-    (here .start .pre .0, here .start .pre .1 ∙ ap (λ (n : Places). next pendingId (pendingHas (a .revoking .question)) notYet (heldPending n (a .pending .now))) (sym (here .started .ensures .1)))
+    here .start .pre .0
+    ∙ ap (λ (n : Places). next pendingId (revokedPending (a .revoking)) notYet (heldPending n (a .pending .now)))
+    (sym (here .started .ensures .1))
 
 walk-circuits-requires : tie.Need-walk-circuits-requires
 walk-circuits-requires c κs =
     let here = at.walk-circuits-requires c in
     let a = here .start .args in
     let kept = ap (λ (s : Progress). s .world .circuits) (here .walk-pending .ensures (a .circuits .now) [])
-    ∙ walk-pending-circuits (a .revoking) (pendingHas (a .revoking .question)) _ ∙ ap (λ (n : Places). heldCircuits n (a .circuits .now)) (here .started .ensures .1) in
-    (here .start .pre .0, here .start .pre .2 ∙ ap (λ (t : List RelayCircuit). next circuitId (circuitHas (a .revoking .question)) notYet t) (sym kept))
+    ∙ walk-pending-circuits (a .revoking) (revokedPending (a .revoking)) _
+    ∙ ap (λ (n : Places). heldCircuits n (a .circuits .now)) (here .started .ensures .1) in
+    here .start .pre .1
+    ∙ ap (λ (t : List RelayCircuit). next circuitId (revokedCircuit (a .revoking)) notYet t) (sym kept)
 
 returns : tie.Need-returns
 unfolding revokeAll
@@ -48,8 +51,8 @@ returns c =
     let cs = heldCircuits (a .places) (a .circuits .now) in
     let w = worldOf (a .runtime) (heldPending (a .places) (a .pending .now)) cs l (heldActions (a .places) (a .inflight .now)) in
     let p1 = here .walk-pending .last .0 in
-    let first = walk pendingId pendingTable (pendingHas (v .question)) (endingPending v) in
-    let second = walk circuitId circuitTable (circuitHas (v .question)) (revokeCircuitThere (v .«circuit_notice»)) in
+    let first = walk pendingId pendingTable (revokedPending v) (endingPending v) in
+    let second = walk circuitId circuitTable (revokedCircuit v) (revokeCircuitThere (v .«circuit_notice»)) in
     let start = sending-kept (here .started .result) (a .pending .now) (a .circuits .now) l₀ (a .inflight .now) (a .out .now) (a .places) (here .started .ensures .1) ∙ begun (a .runtime) (heldPending (a .places) (a .pending .now)) cs l (heldActions (a .places) (a .inflight .now)) (a .out .now) (here .started .result) (here .started .ensures .0) in
     places-kept (here .finished .result) p1 (here .walk-circuits .last .0) l₀ (here .walk-circuits .last .1 .0) (here .walk-circuits .last .1 .1 .0) (here .walk-circuits .result .places) (here .finished .ensures .1)
     ∙ over (here .finished .result) (here .walk-circuits .result) _ _ _ _ _ (advanced (progress w 0 (a .out .now)) (andThen (first w) second)) (here .finished .ensures .0)

@@ -8,7 +8,6 @@ use lib.ListN.{length}
 use native.Mathlib.Omega.{arith}
 use borrow.Author.Tests.{lt-ltb, le-ltb}
 use Rattle.hnsr_circuit.specs.Circuits.{clearCircuit, circuitAt}
-use Rattle.hnsr_circuit.specs.Code.Question.{circuitAsked}
 use Rattle.hnsr_circuit.specs.Table.{any, placeOf}
 use Rattle.hnsr_circuit.specs.Code.Progress.{filledTo, placed, Progress, progress, advanced, advance}
 use Rattle.hnsr_circuit.specs.World.{worldOf}
@@ -24,7 +23,6 @@ use Rattle.hnsr_circuit.proofs.calls.revocation.revoke_one.Proof.Tie as
 use Rattle.hnsr_circuit.proofs.calls.revocation.revoke_one.Proof.At as at
 
 returns : tie.Need-returns
-unfolding circuitAsked
 returns c =
     let here = at.returns c in
     λ p₀ l₀.
@@ -45,7 +43,7 @@ returns c =
     ∙ ap (advanced (progress w 0 (a .out .now))) (sym (revoked-found (a .notice) w (a .id) found)))
 
 returns-2 : tie.Need-returns-2
-unfolding circuitAsked filledTo placed
+unfolding filledTo placed
 returns-2 c =
     let here = at.returns-2 c in
     λ p₀ l₀.

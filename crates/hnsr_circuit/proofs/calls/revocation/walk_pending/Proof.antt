@@ -12,7 +12,7 @@ use Rattle.hnsr_circuit.specs.Pending.{pendingId, clearPending}
 use Rattle.hnsr_circuit.specs.Code.Question.{pendingHas}
 use Rattle.hnsr_circuit.specs.Code.Progress.{Progress, advance}
 use Rattle.hnsr_circuit.specs.Revocation.{walkFrom, walk, pendingTable}
-use Rattle.hnsr_circuit.specs.Code.Revoking.{endingPending}
+use Rattle.hnsr_circuit.specs.Code.Revoking.{endingPending, revokedPending}
 use Rattle.hnsr_circuit.specs.Table.{notYet, next}
 use Rattle.hnsr_circuit.specs.Laws.Revocation.{not-true, not-false, walk-turn, walk-stops, walk-over, walkOn, walk-on}
 use borrow.Author.Needs.{needs}
@@ -24,12 +24,12 @@ use Rattle.hnsr_circuit.proofs.calls.revocation.walk_pending.Proof.Tie 
 use Rattle.hnsr_circuit.proofs.calls.revocation.walk_pending.Proof.At as at
 
 abbrev Inv-loop : tie.InvT-loop
-Inv-loop pending inflight out revoking question most told₀ next₀ turn₀ pending′ inflight′ out′ told next turn =
+Inv-loop pending inflight out revoking question peer most told₀ next₀ turn₀ pending′ inflight′ out′ told next turn =
     (most ≡ length pending) × (turn ≤ most) × (length pending′ ≡ length pending) × (length inflight′ ≡ length inflight) × (length out′ ≡ length out)
-    × ((cs : List RelayCircuit) (l : List ReservationUsage) → advance (walkOn pendingId pendingTable (pendingHas question) (endingPending revoking) (most - turn) next) (underwaySeen told pending′ cs l inflight′ out′) ≡ advance (walk pendingId pendingTable (pendingHas question) (endingPending revoking)) (underwaySeen told₀ pending cs l inflight out))
+    × ((cs : List RelayCircuit) (l : List ReservationUsage) → advance (walkOn pendingId pendingTable (pendingHas question peer) (endingPending revoking) (most - turn) next) (underwaySeen told pending′ cs l inflight′ out′) ≡ advance (walk pendingId pendingTable (pendingHas question peer) (endingPending revoking)) (underwaySeen told₀ pending cs l inflight out))
 
 abbrev μ-loop : tie.MeasureT-loop
-μ-loop pending inflight out revoking question most told₀ next₀ turn₀ pending′ inflight′ out′ told next turn = most - turn
+μ-loop pending inflight out revoking question peer most told₀ next₀ turn₀ pending′ inflight′ out′ told next turn = most - turn
 
 -- how many places there are is a number of 64 bits
 small : (c : tie.Start Inv-loop μ-loop) → length (c .args .pending .now) < 18446744073709551616
@@ -46,8 +46,8 @@ loop-holds c =
       search needs,
       search needs,
       λ cs l.
-          walk-on pendingId pendingTable (pendingHas (a .revoking .question)) (endingPending (a .revoking)) (underwaySeen (a .sending) (a .pending .now) cs l (a .inflight .now) (a .out .now)) (length (a .pending .now) - 0) notYet (a .first) (here .start .pre .1)
-          ∙ ap (λ (m : ℕ). advance (walkFrom pendingId pendingTable (pendingHas (a .revoking .question)) (endingPending (a .revoking)) m notYet) (underwaySeen (a .sending) (a .pending .now) cs l (a .inflight .now) (a .out .now))) (sub-zero (length (a .pending .now)) ∙ sym (length-held clearPending (a .sending .places .pending) (a .pending .now))),
+          walk-on pendingId pendingTable (revokedPending (a .revoking)) (endingPending (a .revoking)) (underwaySeen (a .sending) (a .pending .now) cs l (a .inflight .now) (a .out .now)) (length (a .pending .now) - 0) notYet (a .first) (here .start .pre)
+          ∙ ap (λ (m : ℕ). advance (walkFrom pendingId pendingTable (revokedPending (a .revoking)) (endingPending (a .revoking)) m notYet) (underwaySeen (a .sending) (a .pending .now) cs l (a .inflight .now) (a .out .now))) (sub-zero (length (a .pending .now)) ∙ sym (length-held clearPending (a .sending .places .pending) (a .pending .now))),
     )
 
 no-requires : tie.Need-no-requires Inv-loop μ-loop
@@ -72,17 +72,15 @@ returns c =
     let less = here .loop-test .taken in
     let left : suc k ≡ length (a .pending .now) - here .loop .turn = omega arith in
     let stopped = not-true (n .taken) (sym (here .no .ensures) ∙ here .if1 .taken) in
-    sym (walk-stops pendingId pendingTable (pendingHas (a .revoking .question)) (endingPending (a .revoking)) (underwaySeen (here .loop .told) (here .loop .pending) cs l (here .loop .inflight) (here .loop .out)) k n stopped)
-    ∙ ap (λ (m : ℕ). advance (walkOn pendingId pendingTable (pendingHas (a .revoking .question)) (endingPending (a .revoking)) m n) (underwaySeen (here .loop .told) (here .loop .pending) cs l (here .loop .inflight) (here .loop .out))) left
+    sym (walk-stops pendingId pendingTable (revokedPending (a .revoking)) (endingPending (a .revoking)) (underwaySeen (here .loop .told) (here .loop .pending) cs l (here .loop .inflight) (here .loop .out)) k n stopped)
+    ∙ ap (λ (m : ℕ). advance (walkOn pendingId pendingTable (revokedPending (a .revoking)) (endingPending (a .revoking)) m n) (underwaySeen (here .loop .told) (here .loop .pending) cs l (here .loop .inflight) (here .loop .out))) left
     ∙ here .loop .inv .5 cs l
 
 revoke-pending-requires : tie.Need-revoke-pending-requires Inv-loop μ-loop
 revoke-pending-requires c = search needs
 
 next-pending-requires : tie.Need-next-pending-requires Inv-loop μ-loop
-next-pending-requires c κs =
-    let here = at.next-pending-requires Inv-loop μ-loop c in
-    here .start .pre .0
+next-pending-requires c = search needs
 
 add-turn : tie.Need-add-turn Inv-loop μ-loop
 add-turn c =
@@ -107,10 +105,10 @@ loop-again c =
       search needs,
       search needs,
       λ cs l.
-          walk-on pendingId pendingTable (pendingHas (a .revoking .question)) (endingPending (a .revoking)) (underwaySeen (here .revoke-pending .result) (here .revoke-pending .last .0) cs l (here .revoke-pending .last .1 .0) (here .revoke-pending .last .1 .1 .0)) k n (here .next-pending .result) (here .next-pending .ensures)
-          ∙ ap (λ (s : Progress). advance (walkFrom pendingId pendingTable (pendingHas (a .revoking .question)) (endingPending (a .revoking)) k n) s) (here .revoke-pending .ensures cs l)
-          ∙ sym (walk-turn pendingId pendingTable (pendingHas (a .revoking .question)) (endingPending (a .revoking)) (underwaySeen (here .loop .told) (here .loop .pending) cs l (here .loop .inflight) (here .loop .out)) k n goes)
-          ∙ ap (λ (m : ℕ). advance (walkOn pendingId pendingTable (pendingHas (a .revoking .question)) (endingPending (a .revoking)) m n) (underwaySeen (here .loop .told) (here .loop .pending) cs l (here .loop .inflight) (here .loop .out))) left
+          walk-on pendingId pendingTable (revokedPending (a .revoking)) (endingPending (a .revoking)) (underwaySeen (here .revoke-pending .result) (here .revoke-pending .last .0) cs l (here .revoke-pending .last .1 .0) (here .revoke-pending .last .1 .1 .0)) k n (here .next-pending .result) (here .next-pending .ensures)
+          ∙ ap (λ (s : Progress). advance (walkFrom pendingId pendingTable (revokedPending (a .revoking)) (endingPending (a .revoking)) k n) s) (here .revoke-pending .ensures cs l)
+          ∙ sym (walk-turn pendingId pendingTable (revokedPending (a .revoking)) (endingPending (a .revoking)) (underwaySeen (here .loop .told) (here .loop .pending) cs l (here .loop .inflight) (here .loop .out)) k n goes)
+          ∙ ap (λ (m : ℕ). advance (walkOn pendingId pendingTable (revokedPending (a .revoking)) (endingPending (a .revoking)) m n) (underwaySeen (here .loop .told) (here .loop .pending) cs l (here .loop .inflight) (here .loop .out))) left
           ∙ here .loop .inv .5 cs l,
     )
 
@@ -130,8 +128,8 @@ returns-2 c =
     let a = here .start .args in
     let over = here .loop-test .left in
     let none : 0 ≡ length (a .pending .now) - here .loop .turn = omega arith in
-    sym (walk-over pendingId pendingTable (pendingHas (a .revoking .question)) (endingPending (a .revoking)) (underwaySeen (here .loop .told) (here .loop .pending) cs l (here .loop .inflight) (here .loop .out)) 0 (here .loop .next))
-    ∙ ap (λ (m : ℕ). advance (walkOn pendingId pendingTable (pendingHas (a .revoking .question)) (endingPending (a .revoking)) m (here .loop .next)) (underwaySeen (here .loop .told) (here .loop .pending) cs l (here .loop .inflight) (here .loop .out))) none
+    sym (walk-over pendingId pendingTable (revokedPending (a .revoking)) (endingPending (a .revoking)) (underwaySeen (here .loop .told) (here .loop .pending) cs l (here .loop .inflight) (here .loop .out)) 0 (here .loop .next))
+    ∙ ap (λ (m : ℕ). advance (walkOn pendingId pendingTable (revokedPending (a .revoking)) (endingPending (a .revoking)) m (here .loop .next)) (underwaySeen (here .loop .told) (here .loop .pending) cs l (here .loop .inflight) (here .loop .out))) none
     ∙ here .loop .inv .5 cs l
 
 pub walk-pending-spec : {M : Type 1} → statement M

@@ -6,8 +6,8 @@ use mathlib.Core.Path.{sym, ap, _∙_}
 use lib.ListN.{length}
 use lib.Dec.{ltb}
 use Rattle.hns_encoding.specs.Sums.{count}
-use Rattle.hnsr_circuit.specs.Pending.{isPending, pendingId}
-use Rattle.hnsr_circuit.specs.Circuits.{isCircuit, circuitId}
+use Rattle.hnsr_circuit.specs.Pending.{isPending}
+use Rattle.hnsr_circuit.specs.Circuits.{isCircuit}
 use Rattle.hnsr_circuit.specs.declared.answer.HnsrRuntimeError.the-variants.{Short}
 use Rattle.hnsr_circuit.specs.Answers.{_then_}
 use Rattle.hnsr_circuit.specs.World.{Outcome, worldOf}
@@ -22,11 +22,7 @@ use Rattle.hnsr_circuit.specs.Laws.RevokingCalls.{disconnected}
 use borrow.Author.Needs.{needs}
 use native.Mathlib.Omega.{arith}
 use Rattle.hnsr_circuit.specs.Laws.HeldTables.{places-kept, entry-held}
-use Rattle.hnsr_circuit.specs.declared.calls.revocation.Revoking.{Revoking}
-use Rattle.hnsr_circuit.specs.declared.tables.question.Question.{Question}
-use Rattle.hnsr_circuit.specs.Table.{next, notYet}
-use Rattle.hnsr_circuit.specs.Code.Question.{pendingHas, circuitHas}
-use Rattle.hnsr_circuit.specs.Code.Held.{heldPending, heldCircuits, heldLedger, heldActions, asksUnused}
+use Rattle.hnsr_circuit.specs.Code.Held.{heldPending, heldCircuits, heldLedger, heldActions}
 use Rattle.hnsr_circuit.proofs.calls.revoking.disconnect.Statement.{statement}
 use Rattle.hnsr_circuit.proofs.calls.revoking.disconnect.Proof.Tie as tie
 use Rattle.hnsr_circuit.proofs.calls.revoking.disconnect.Proof.At as at
@@ -34,18 +30,10 @@ use Rattle.hnsr_circuit.proofs.calls.revoking.disconnect.Proof.At as at
 bound : (c : tie.Start) → length (c .args .out .now) < 18446744073709551616
 bound c = search needs
 
-entry-answer-requires : tie.Need-entry-answer-requires
-entry-answer-requires c κs =
-    let here = at.entry-answer-requires c in
-    ap (λ (x : Question). asksUnused (x .ask)) (here .of-peer .ensures)
-
 revoke-all-requires : tie.Need-revoke-all-requires
 revoke-all-requires c κs =
     let here = at.revoke-all-requires c in
-    let a = here .start .args in
-    let named = ap (λ (v : Revoking). v .question) (here .disconnecting .ensures) in
-    let same = here .of-peer .ensures ∙ sym named in
-    (ap (λ (x : Question). asksUnused (x .ask)) named, here .entry-answer .ensures .1 ∙ ap (λ (x : Question). next pendingId (pendingHas x) notYet (heldPending (a .places) (a .pending .now))) same, here .entry-answer .ensures .2 ∙ ap (λ (x : Question). next circuitId (circuitHas x) notYet (heldCircuits (a .places) (a .circuits .now))) same)
+    (here .entry-answer .ensures .1, here .entry-answer .ensures .2)
 
 returns : tie.Need-returns
 unfolding roomAnswer tablesShort pendingCount circuitCount step
@@ -60,7 +48,7 @@ returns c =
     let answer = here .first-refusal .ensures ∙ (λ x. (here .entry-answer .ensures .0 ∙ entry-held (ltb (length (a .out .now)) (closingWords * (count isPending (heldPending (a .places) (a .pending .now)) + count isCircuit (heldCircuits (a .places) (a .circuits .now))))) Short (a .runtime .config) (length (heldPending (a .places) (a .pending .now))) (length (heldCircuits (a .places) (a .circuits .now))) (a .places) (a .inflight .now)) x then here .peer-answer .ensures x) in
     let small = bound s in
     here .revoke-all .ensures l₀
-    ∙ ap (λ (o : Outcome). ending (a .out .now) o) (disconnected (a .runtime) (heldPending (a .places) (a .pending .now)) (heldCircuits (a .places) (a .circuits .now)) l (heldActions (a .places) (a .inflight .now)) (a .peer .now) (length (a .out .now)) (here .first-refusal .result) (here .peer-of .result) (here .disconnecting .result) (here .of-peer .result) (heldActions (a .places) (here .clear-action .last .0)) (sym (here .is-taken .ensures) ∙ here .if1 .taken) answer (here .peer-of .ensures) (here .disconnecting .ensures) (here .of-peer .ensures) (here .clear-action .ensures))
+    ∙ ap (λ (o : Outcome). ending (a .out .now) o) (disconnected (a .runtime) (heldPending (a .places) (a .pending .now)) (heldCircuits (a .places) (a .circuits .now)) l (heldActions (a .places) (a .inflight .now)) (a .peer .now) (length (a .out .now)) (here .first-refusal .result) (here .peer-of .result) (here .disconnecting .result) (heldActions (a .places) (here .clear-action .last .0)) (sym (here .is-taken .ensures) ∙ here .if1 .taken) answer (here .peer-of .ensures) (here .disconnecting .ensures) (here .clear-action .ensures))
     ∙ whole (a .out .now) w call (omega arith) (omega arith)
 
 returns-2 : tie.Need-returns-2
@@ -80,4 +68,4 @@ returns-2 c =
     ∙ whole (a .out .now) w call (omega arith) (omega arith)
 
 pub disconnect-spec : {M : Type 1} → statement M
-disconnect-spec = tie.close (at.spec entry-answer-requires revoke-all-requires returns returns-2)
+disconnect-spec = tie.close (at.spec revoke-all-requires returns returns-2)

@@ -15,12 +15,6 @@ use Rattle.hnsr_circuit.proofs.calls.revoking.entry_answer.Statement.{s
 use Rattle.hnsr_circuit.proofs.calls.revoking.entry_answer.Proof.Tie as tie
 use Rattle.hnsr_circuit.proofs.calls.revoking.entry_answer.Proof.At as at
 
-survey-pending-requires : tie.Need-survey-pending-requires
-survey-pending-requires c κs = c .pre
-
-survey-circuit-requires : tie.Need-survey-circuit-requires
-survey-circuit-requires c κs = c .before .pre
-
 returns : tie.Need-returns
 returns c =
     let here = at.returns c in
@@ -34,4 +28,4 @@ returns c =
     (e .0 ∙ here .room-answer .ensures ∙ (λ x. check (short x || tooFew (a .config) (long x) (wide x) (a .inflight)) Short), e .1 ∙ waiting .1, e .2 ∙ active .1)
 
 pub entry-answer-spec : {M : Type 1} → statement M
-entry-answer-spec = tie.close (at.spec survey-pending-requires survey-circuit-requires returns)
+entry-answer-spec = tie.close (at.spec returns)

@@ -8,8 +8,8 @@ use mathlib.Core.List.{[]}
 use lib.ListN.{length}
 use lib.Dec.{ltb}
 use Rattle.hns_encoding.specs.Sums.{count}
-use Rattle.hnsr_circuit.specs.Pending.{isPending, pendingId}
-use Rattle.hnsr_circuit.specs.Circuits.{isCircuit, circuitId}
+use Rattle.hnsr_circuit.specs.Pending.{isPending}
+use Rattle.hnsr_circuit.specs.Circuits.{isCircuit}
 use Rattle.hnsr_circuit.specs.declared.answer.HnsrRuntimeError.the-variants.{Short}
 use Rattle.hnsr_circuit.specs.Answers.{_then_}
 use Rattle.hnsr_circuit.specs.World.{Outcome, worldOf}
@@ -23,10 +23,7 @@ use Rattle.hnsr_circuit.specs.RevokingCalls.{changeAnswer, replaceEnable
 use Rattle.hnsr_circuit.specs.Laws.RevokingCalls.{changed-state, same-state, below-top}
 use borrow.Author.Needs.{needs}
 use Rattle.hnsr_circuit.specs.Laws.HeldTables.{places-kept, entry-held}
-use Rattle.hnsr_circuit.specs.declared.tables.question.Question.{Question}
-use Rattle.hnsr_circuit.specs.Table.{next, notYet}
-use Rattle.hnsr_circuit.specs.Code.Question.{pendingHas, circuitHas}
-use Rattle.hnsr_circuit.specs.Code.Held.{heldPending, heldCircuits, heldLedger, heldActions, asksUnused}
+use Rattle.hnsr_circuit.specs.Code.Held.{heldPending, heldCircuits, heldLedger, heldActions}
 use Rattle.hnsr_circuit.proofs.calls.revoking.replace_enabled.Statement.{statement}
 use Rattle.hnsr_circuit.proofs.calls.revoking.replace_enabled.Proof.Tie as tie
 use Rattle.hnsr_circuit.proofs.calls.revoking.replace_enabled.Proof.At as at
@@ -37,11 +34,6 @@ bound c = search needs
 generation : (c : tie.Start) → c .args .runtime .generation < 18446744073709551616
 generation c = search needs
 
-entry-answer-requires : tie.Need-entry-answer-requires
-entry-answer-requires c κs =
-    let here = at.entry-answer-requires c in
-    ap (λ (x : Question). asksUnused (x .ask)) (here .used .ensures)
-
 switch-to-requires : tie.Need-switch-to-requires
 unfolding roomAnswer tablesShort pendingCount circuitCount
 switch-to-requires c κs =
@@ -50,7 +42,7 @@ switch-to-requires c κs =
     let a = s .args in
     let answer = here .first-refusal2 .ensures ∙ (λ x. (here .entry-answer .ensures .0 ∙ entry-held (ltb (length (a .out .now)) (closingWords * (count isPending (heldPending (a .places) (a .pending .now)) + count isCircuit (heldCircuits (a .places) (a .circuits .now))))) Short (a .runtime .config) (length (heldPending (a .places) (a .pending .now))) (length (heldCircuits (a .places) (a .circuits .now))) (a .places) (a .inflight .now)) x then (here .first-refusal .ensures ∙ (λ y. here .generation-answer .ensures y then (here .change-answer .ensures ∙ ap (λ (b : Bool). changeAnswer (a .runtime .generation) b) (here .changed .ensures)) y)) x) in
     let g = generation s in
-    (below-top (a .runtime) (heldPending (a .places) (a .pending .now)) (heldCircuits (a .places) (a .circuits .now)) [] (heldActions (a .places) (a .inflight .now)) (a .expected-generation) (length (a .out .now)) (a .enabled) (here .first-refusal2 .result) answer (omega arith) (sym (here .is-taken .ensures) ∙ here .if1 .taken) (sym (here .changed .ensures) ∙ here .if2 .taken), here .entry-answer .ensures .1 ∙ ap (λ (x : Question). next pendingId (pendingHas x) notYet (heldPending (a .places) (a .pending .now))) (here .used .ensures), here .entry-answer .ensures .2 ∙ ap (λ (x : Question). next circuitId (circuitHas x) notYet (heldCircuits (a .places) (a .circuits .now))) (here .used .ensures))
+    (below-top (a .runtime) (heldPending (a .places) (a .pending .now)) (heldCircuits (a .places) (a .circuits .now)) [] (heldActions (a .places) (a .inflight .now)) (a .expected-generation) (length (a .out .now)) (a .enabled) (here .first-refusal2 .result) answer (omega arith) (sym (here .is-taken .ensures) ∙ here .if1 .taken) (sym (here .changed .ensures) ∙ here .if2 .taken), here .revoking .ensures, here .entry-answer .ensures .1, here .entry-answer .ensures .2)
 
 returns : tie.Need-returns
 unfolding roomAnswer tablesShort pendingCount circuitCount step
@@ -101,4 +93,4 @@ returns-3 c =
     ∙ whole (a .out .now) w call (omega arith) (omega arith)
 
 pub replace-enabled-spec : {M : Type 1} → statement M
-replace-enabled-spec = tie.close (at.spec entry-answer-requires switch-to-requires returns returns-2 returns-3)
+replace-enabled-spec = tie.close (at.spec switch-to-requires returns returns-2 returns-3)

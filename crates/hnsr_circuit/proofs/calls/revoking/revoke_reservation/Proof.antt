@@ -6,14 +6,13 @@ use mathlib.Core.Path.{sym, ap, _∙_}
 use lib.ListN.{length}
 use lib.Dec.{ltb}
 use Rattle.hns_encoding.specs.Sums.{count}
-use Rattle.hnsr_circuit.specs.Pending.{isPending, pendingId}
-use Rattle.hnsr_circuit.specs.Circuits.{isCircuit, circuitId}
+use Rattle.hnsr_circuit.specs.Pending.{isPending}
+use Rattle.hnsr_circuit.specs.Circuits.{isCircuit}
 use Rattle.hnsr_circuit.specs.declared.answer.HnsrRuntimeError.the-variants.{Short}
 use Rattle.hnsr_circuit.specs.World.{Outcome, worldOf}
 use Rattle.hnsr_circuit.specs.Counts.{pendingCount, circuitCount}
 use Rattle.hnsr_circuit.specs.Entry.{roomAnswer, tablesShort, closingWords}
 use Rattle.hnsr_circuit.specs.Code.Progress.{ending}
-use Rattle.hnsr_circuit.specs.declared.tables.question.Question.{Question}
 use Rattle.hnsr_circuit.specs.Laws.Calls.{turned-away, whole}
 use Rattle.hnsr_circuit.specs.Call.{step, callRevokeReservation}
 use Rattle.hnsr_circuit.specs.RevokingCalls.{revokeReservation, revokeUnder}
@@ -21,9 +20,7 @@ use Rattle.hnsr_circuit.specs.Laws.RevokingCalls.{revoked-under}
 use borrow.Author.Needs.{needs}
 use native.Mathlib.Omega.{arith}
 use Rattle.hnsr_circuit.specs.Laws.HeldTables.{places-kept, entry-held}
-use Rattle.hnsr_circuit.specs.Table.{next, notYet}
-use Rattle.hnsr_circuit.specs.Code.Question.{pendingHas, circuitHas}
-use Rattle.hnsr_circuit.specs.Code.Held.{heldPending, heldCircuits, heldLedger, heldActions, asksUnused}
+use Rattle.hnsr_circuit.specs.Code.Held.{heldPending, heldCircuits, heldLedger, heldActions}
 use Rattle.hnsr_circuit.proofs.calls.revoking.revoke_reservation.Statement.{statement}
 use Rattle.hnsr_circuit.proofs.calls.revoking.revoke_reservation.Proof.Tie as tie
 use Rattle.hnsr_circuit.proofs.calls.revoking.revoke_reservation.Proof.At as at
@@ -31,17 +28,10 @@ use Rattle.hnsr_circuit.proofs.calls.revoking.revoke_reservation.Proof.
 bound : (c : tie.Start) → length (c .args .out .now) < 18446744073709551616
 bound c = search needs
 
-entry-answer-requires : tie.Need-entry-answer-requires
-entry-answer-requires c κs =
-    let here = at.entry-answer-requires c in
-    ap (λ (x : Question). asksUnused (x .ask)) (here .under .ensures)
-
 revoke-all-requires : tie.Need-revoke-all-requires
 revoke-all-requires c κs =
     let here = at.revoke-all-requires c in
-    let a = here .start .args in
-    let same = sym (here .revoking .ensures .0) in
-    (ap (λ (x : Question). asksUnused (x .ask)) (here .revoking .ensures .0 ∙ here .under .ensures), here .entry-answer .ensures .1 ∙ ap (λ (x : Question). next pendingId (pendingHas x) notYet (heldPending (a .places) (a .pending .now))) same, here .entry-answer .ensures .2 ∙ ap (λ (x : Question). next circuitId (circuitHas x) notYet (heldCircuits (a .places) (a .circuits .now))) same)
+    (here .entry-answer .ensures .1, here .entry-answer .ensures .2)
 
 returns : tie.Need-returns
 unfolding roomAnswer tablesShort pendingCount circuitCount step
@@ -51,11 +41,9 @@ returns c =
     let a = s .args in
     let w = worldOf (a .runtime) (heldPending (a .places) (a .pending .now)) (heldCircuits (a .places) (a .circuits .now)) (heldLedger (a .places) (a .ledger .now)) (heldActions (a .places) (a .inflight .now)) in
     let call = callRevokeReservation (a .id) (length (a .out .now)) in
-    let v = here .revoking .ensures in
-    let q = v .0 ∙ here .under .ensures in
     let small = bound s in
     here .revoke-all .ensures (here .drop-usage .last .0)
-    ∙ ap (λ (o : Outcome). ending (a .out .now) o) (revoked-under (a .runtime) (heldPending (a .places) (a .pending .now)) (heldCircuits (a .places) (a .circuits .now)) (heldLedger (a .places) (a .ledger .now)) (heldActions (a .places) (a .inflight .now)) (a .id) (length (a .out .now)) (here .entry-answer .result .answer) (here .revoking .result) (heldLedger (a .places) (here .drop-usage .last .0)) (sym (here .is-taken .ensures) ∙ here .if1 .taken) (here .entry-answer .ensures .0 ∙ entry-held (ltb (length (a .out .now)) (closingWords * (count isPending (heldPending (a .places) (a .pending .now)) + count isCircuit (heldCircuits (a .places) (a .circuits .now))))) Short (a .runtime .config) (length (heldPending (a .places) (a .pending .now))) (length (heldCircuits (a .places) (a .circuits .now))) (a .places) (a .inflight .now)) (λ x. record { question = q x; notice = v .1 x; «circuit_notice» = v .2 x; disconnecting = v .3 x }) (here .drop-usage .ensures))
+    ∙ ap (λ (o : Outcome). ending (a .out .now) o) (revoked-under (a .runtime) (heldPending (a .places) (a .pending .now)) (heldCircuits (a .places) (a .circuits .now)) (heldLedger (a .places) (a .ledger .now)) (heldActions (a .places) (a .inflight .now)) (a .id) (length (a .out .now)) (here .entry-answer .result .answer) (here .revoking .result) (heldLedger (a .places) (here .drop-usage .last .0)) (sym (here .is-taken .ensures) ∙ here .if1 .taken) (here .entry-answer .ensures .0 ∙ entry-held (ltb (length (a .out .now)) (closingWords * (count isPending (heldPending (a .places) (a .pending .now)) + count isCircuit (heldCircuits (a .places) (a .circuits .now))))) Short (a .runtime .config) (length (heldPending (a .places) (a .pending .now))) (length (heldCircuits (a .places) (a .circuits .now))) (a .places) (a .inflight .now)) (here .revoking .ensures) (here .drop-usage .ensures))
     ∙ whole (a .out .now) w call (omega arith) (omega arith)
 
 returns-2 : tie.Need-returns-2
@@ -72,4 +60,4 @@ returns-2 c =
     ∙ whole (a .out .now) w call (omega arith) (omega arith)
 
 pub revoke-reservation-spec : {M : Type 1} → statement M
-revoke-reservation-spec = tie.close (at.spec entry-answer-requires revoke-all-requires returns returns-2)
+revoke-reservation-spec = tie.close (at.spec revoke-all-requires returns returns-2)

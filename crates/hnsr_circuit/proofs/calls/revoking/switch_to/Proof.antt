@@ -1,17 +1,12 @@
 -- Every action dropped and the generation raised; if off, every record revoked.
 mod Tie
 mod At
-use mathlib.Core.Path.{ap, _∙_, sym}
+use mathlib.Core.Path.{ap, _∙_}
 use Rattle.hnsr_circuit.specs.World.{Outcome}
 use Rattle.hnsr_circuit.specs.Code.Progress.{ending}
 use Rattle.hnsr_circuit.specs.Laws.RevokingCalls.{switched-on, switched-off}
 use Rattle.hnsr_circuit.specs.Laws.HeldTables.{places-kept}
-use Rattle.hnsr_circuit.specs.declared.tables.question.Question.{Question}
-use Rattle.hnsr_circuit.specs.Table.{next, notYet}
-use Rattle.hnsr_circuit.specs.Pending.{pendingId}
-use Rattle.hnsr_circuit.specs.Circuits.{circuitId}
-use Rattle.hnsr_circuit.specs.Code.Question.{pendingHas, circuitHas}
-use Rattle.hnsr_circuit.specs.Code.Held.{heldPending, heldCircuits, heldLedger, heldActions, asksUnused}
+use Rattle.hnsr_circuit.specs.Code.Held.{heldPending, heldCircuits, heldLedger, heldActions}
 use Rattle.hnsr_circuit.proofs.calls.revoking.switch_to.Statement.{statement}
 use Rattle.hnsr_circuit.proofs.calls.revoking.switch_to.Proof.Tie as tie
 use Rattle.hnsr_circuit.proofs.calls.revoking.switch_to.Proof.At as at
@@ -24,14 +19,12 @@ returns c =
     let a = s .args in
     let l = heldLedger (a .places) l₀ in
     places-kept (here .taken-with .result) (a .pending .now) (a .circuits .now) l₀ (here .clear-action .last .0) (a .out .now) (a .places) (here .taken-with .ensures .1)
-    ∙ switched-on (a .runtime) (heldPending (a .places) (a .pending .now)) (heldCircuits (a .places) (a .circuits .now)) l (heldActions (a .places) (a .inflight .now)) (here .with-enabled .result) (heldActions (a .places) (here .clear-action .last .0)) (here .used .result) (a .enabled) (here .with-enabled .ensures (s .pre .0)) (here .used .ensures) (here .clear-action .ensures) (here .taken-with .result) (a .out .now) (here .if1 .taken) (here .taken-with .ensures .0)
+    ∙ switched-on (a .runtime) (heldPending (a .places) (a .pending .now)) (heldCircuits (a .places) (a .circuits .now)) l (heldActions (a .places) (a .inflight .now)) (here .with-enabled .result) (heldActions (a .places) (here .clear-action .last .0)) (here .no-peer .result) (a .enabled) (here .with-enabled .ensures (s .pre .0)) (here .clear-action .ensures) (here .taken-with .result) (a .out .now) (here .if1 .taken) (here .taken-with .ensures .0)
 
 revoke-all-requires : tie.Need-revoke-all-requires
 revoke-all-requires c κs =
     let here = at.revoke-all-requires c in
-    let a = here .start .args in
-    let every = here .revoking .ensures .0 ∙ here .used .ensures in
-    (ap (λ (x : Question). asksUnused (x .ask)) every, here .start .pre .1 ∙ ap (λ (x : Question). next pendingId (pendingHas x) notYet (heldPending (a .places) (a .pending .now))) (sym every), here .start .pre .2 ∙ ap (λ (x : Question). next circuitId (circuitHas x) notYet (heldCircuits (a .places) (a .circuits .now))) (sym every))
+    (here .start .pre .2, here .start .pre .3)
 
 returns-2 : tie.Need-returns-2
 returns-2 c =
@@ -40,9 +33,8 @@ returns-2 c =
     let s = here .start in
     let a = s .args in
     let l = heldLedger (a .places) l₀ in
-    let v = here .revoking .ensures in
     here .revoke-all .ensures l₀
-    ∙ ap (λ (o : Outcome). ending (a .out .now) o) (switched-off (a .runtime) (heldPending (a .places) (a .pending .now)) (heldCircuits (a .places) (a .circuits .now)) l (heldActions (a .places) (a .inflight .now)) (here .with-enabled .result) (heldActions (a .places) (here .clear-action .last .0)) (here .used .result) (a .enabled) (here .with-enabled .ensures (s .pre .0)) (here .used .ensures) (here .clear-action .ensures) (here .revoking .result) (here .if1 .left) (λ x. record { question = v .0 x; notice = v .1 x; «circuit_notice» = v .2 x; disconnecting = v .3 x }))
+    ∙ ap (λ (o : Outcome). ending (a .out .now) o) (switched-off (a .runtime) (heldPending (a .places) (a .pending .now)) (heldCircuits (a .places) (a .circuits .now)) l (heldActions (a .places) (a .inflight .now)) (here .with-enabled .result) (heldActions (a .places) (here .clear-action .last .0)) (here .no-peer .result) (a .enabled) (here .with-enabled .ensures (s .pre .0)) (here .clear-action .ensures) (a .all) (here .if1 .left) (s .pre .1))
 
 pub switch-to-spec : {M : Type 1} → statement M
 switch-to-spec = tie.close (at.spec returns revoke-all-requires returns-2)

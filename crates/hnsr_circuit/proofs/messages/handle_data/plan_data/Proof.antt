@@ -3,7 +3,7 @@ mod Tie
 mod At
 use mathlib.Core.Path.{ap, _∙_}
 use Rattle.hnsr_circuit.specs.declared.output.queue.Outgoing.{Outgoing}
-use Rattle.hnsr_circuit.specs.Code.Question.{atReservation}
+use Rattle.hnsr_circuit.specs.Ledger.{usageAt}
 use Rattle.hnsr_circuit.specs.Code.Lookup.{usageFound}
 use Rattle.hnsr_circuit.specs.Code.Turns.{actionsScanned}
 use Rattle.hnsr_circuit.specs.Code.Progress.{asking}
@@ -21,8 +21,7 @@ returns c =
     let message = here .data-on .ensures in
     let asked = here .asking .ensures ∙ ap (λ (m : Outgoing). asking (q .runtime) m) message in
     let scan = here .scan-actions .ensures ∙ (λ x. actionsScanned (asked x) (heldActions (q .places) (a .inflight .now))) in
-    let under = here .at-reservation .ensures ∙ ap atReservation (here .reservation-of .ensures) in
-    let booked = here .look-up-usage .ensures ∙ (λ x. usageFound (under x) (heldLedger (q .places) (a .ledger .now))) in
+    let booked = here .look-up-usage .ensures ∙ (λ x. usageFound (usageAt (here .reservation-of .ensures x)) (heldLedger (q .places) (a .ledger .now))) in
     here .data-plan .ensures ∙ (λ x. dataPlan (q .runtime) (a .named) (booked x) (scan x) (q .peer) (message x) (a .n))
 
 pub plan-data-spec : {M : Type 1} → statement M

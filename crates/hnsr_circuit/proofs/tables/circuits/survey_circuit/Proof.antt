@@ -24,12 +24,12 @@ use Rattle.hnsr_circuit.proofs.tables.circuits.survey_circuit.Proof.Tie
 use Rattle.hnsr_circuit.proofs.tables.circuits.survey_circuit.Proof.At as at
 
 abbrev Inv-loop : tie.InvT-loop
-Inv-loop circuits question size₀ end₀ start₀ used₀ first₀ i₀ used first i =
+Inv-loop circuits question peer size₀ end₀ start₀ used₀ first₀ i₀ used first i =
     (i ≤ end₀) × (end₀ ≤ length circuits) × (used ≤ i) × (used + count isCircuit (drop i (held clearCircuit end₀ circuits)) ≡ count isCircuit (held clearCircuit end₀ circuits))
-    × (foldFrom (nextTurn circuitId (circuitHas question) start₀) (drop i (held clearCircuit end₀ circuits)) i first ≡ next circuitId (circuitHas question) start₀ (held clearCircuit end₀ circuits))
+    × (foldFrom (nextTurn circuitId (circuitHas question peer) start₀) (drop i (held clearCircuit end₀ circuits)) i first ≡ next circuitId (circuitHas question peer) start₀ (held clearCircuit end₀ circuits))
 
 abbrev μ-loop : tie.MeasureT-loop
-μ-loop circuits question size₀ end₀ start₀ used₀ first₀ i₀ used first i = length circuits - i
+μ-loop circuits question peer size₀ end₀ start₀ used₀ first₀ i₀ used first i = length circuits - i
 
 min-usize-requires : tie.Need-min-usize-requires Inv-loop μ-loop
 min-usize-requires c = search needs
@@ -43,7 +43,7 @@ loop-holds c =
     let here = at.loop-holds Inv-loop μ-loop c in
     let a = here .start .args in
     let t = held clearCircuit (here .min-usize .result) (a .circuits .now) in
-    (omega arith, omega arith, omega arith, zero-add (count isCircuit t), ap (λ (b : Walked). foldFrom (nextTurn circuitId (circuitHas (a .question)) (here .not-yet .result)) t 0 b) (here .not-yet .ensures))
+    (omega arith, omega arith, omega arith, zero-add (count isCircuit t), ap (λ (b : Walked). foldFrom (nextTurn circuitId (circuitHas (a .question) (a .peer)) (here .not-yet .result)) t 0 b) (here .not-yet .ensures))
 
 mul-row : tie.Need-mul-row Inv-loop μ-loop
 mul-row c = search needs
@@ -80,8 +80,8 @@ loop-again c =
       omega (arith, cond-le (h .result)),
       held-count-next clearCircuit n t noCircuit (l .i) (omega arith) (omega arith) isCircuit (count isCircuit (held clearCircuit n t)) (l .used) (here .one-more .result)
           (here .one-more .ensures ∙ ap (λ (b : Bool). l .used + cond b 1 0) (h .ensures)) (l .inv .3),
-      held-fold-step clearCircuit n t noCircuit (l .i) (omega arith) (omega arith) (nextTurn circuitId (circuitHas (a .question)) start) (l .first) (here .circuit-turn .result)
-          (next circuitId (circuitHas (a .question)) start (held clearCircuit n t)) (here .circuit-turn .ensures) (l .inv .4),
+      held-fold-step clearCircuit n t noCircuit (l .i) (omega arith) (omega arith) (nextTurn circuitId (circuitHas (a .question) (a .peer)) start) (l .first) (here .circuit-turn .result)
+          (next circuitId (circuitHas (a .question) (a .peer)) start (held clearCircuit n t)) (here .circuit-turn .ensures) (l .inv .4),
     )
 
 surveyed-requires : tie.Need-surveyed-requires Inv-loop μ-loop
@@ -95,12 +95,12 @@ returns c =
     let t = a .circuits .now in
     let n = here .min-usize .result in
     let l = here .loop in
-    let q = circuitHas (a .question) in
+    let q = circuitHas (a .question) (a .peer) in
     let start = here .not-yet .result in
     let seen = ap (λ (m : ℕ). held clearCircuit m t) (here .min-usize .ensures) ∙ held-min clearCircuit (a .places .circuits) t in (
       here .surveyed .ensures .0 ∙ count-rest clearCircuit isCircuit (λ x. refl) n t (l .i) (l .used) (count isCircuit (held clearCircuit n t)) (λ h. omega arith) (l .inv .3) ∙ ap (count isCircuit) seen,
       here .surveyed .ensures .1
-          ∙ fold-rest clearCircuit (nextTurn circuitId q start) (next-idle clearCircuit circuitId q (λ x. circuit-unmarked (a .question) x ∙ here .start .pre) start) n t (l .i) (l .first) (next circuitId q start (held clearCircuit n t)) (λ h. omega arith) (l .inv .4)
+          ∙ fold-rest clearCircuit (nextTurn circuitId q start) (next-idle clearCircuit circuitId q (circuit-unmarked (a .question) (a .peer)) start) n t (l .i) (l .first) (next circuitId q start (held clearCircuit n t)) (λ h. omega arith) (l .inv .4)
           ∙ (λ x. next circuitId q (here .not-yet .ensures x) (seen x)),
     )
 

@@ -8,14 +8,12 @@ use lib.ListN.{getD}
 use Rattle.hnsr_circuit.specs.Inflight.{noAction, clearAction, actionAt}
 use Rattle.hnsr_circuit.specs.Laws.Held.{length-held}
 use Rattle.hnsr_circuit.specs.Laws.Lookups.{place-any, pick-at}
-use Rattle.hnsr_circuit.specs.Code.Question.{actionAsked}
 use Rattle.hnsr_circuit.specs.Code.Held.{heldActions}
 use Rattle.hnsr_circuit.proofs.tables.lookup.look_up_action.Statement.{statement}
 use Rattle.hnsr_circuit.proofs.tables.lookup.look_up_action.Proof.Tie as tie
 use Rattle.hnsr_circuit.proofs.tables.lookup.look_up_action.Proof.At as at
 
 returns : tie.Need-returns
-unfolding actionAsked
 returns c =
     let here = at.returns c in
     let a = here .start .args in

@@ -5,8 +5,7 @@ use mathlib.Core.Path.{sym, ap, _∙_}
 use Prim.Native.Nat.{ℕ}
 use lib.Dec.{ltb}
 use lib.ListN.{getD}
-use Rattle.hnsr_circuit.specs.Ledger.{noUsage, clearUsage}
-use Rattle.hnsr_circuit.specs.Code.Question.{usageHas}
+use Rattle.hnsr_circuit.specs.Ledger.{noUsage, clearUsage, usageAt}
 use Rattle.hnsr_circuit.specs.Laws.Lookups.{place-any, pick-at}
 use Rattle.hnsr_circuit.specs.Code.Held.{heldLedger}
 use Rattle.hnsr_circuit.specs.Laws.Held.{length-held}
@@ -19,7 +18,7 @@ returns c =
     let here = at.returns c in
     let a = here .start .args in
     let t = heldLedger (a .places) (a .ledger .now) in
-    let p = usageHas (a .question) in
+    let p = usageAt (a .id) in
     let place = here .find-usage .ensures in
     let e = here .usage-found .ensures in
     let found = e .0 ∙ (λ i. ltb (place i) (sym (length-held clearUsage (a .places .ledger) (a .ledger .now)) i)) ∙ place-any p t in

@@ -7,7 +7,6 @@ use Prim.Native.Nat.{ℕ}
 use lib.Dec.{ltb}
 use lib.ListN.{getD}
 use Rattle.hnsr_circuit.specs.Pending.{noPending, clearPending, pendingAt}
-use Rattle.hnsr_circuit.specs.Code.Question.{pendingAsked}
 use Rattle.hnsr_circuit.specs.Code.Held.{heldPending}
 use Rattle.hnsr_circuit.specs.Laws.Held.{length-held}
 use Rattle.hnsr_circuit.proofs.tables.lookup.pending_by_id.Statement.{statement}
@@ -15,7 +14,6 @@ use Rattle.hnsr_circuit.proofs.tables.lookup.pending_by_id.Proof.Tie as
 use Rattle.hnsr_circuit.proofs.tables.lookup.pending_by_id.Proof.At as at
 
 returns : tie.Need-returns
-unfolding pendingAsked
 returns c =
     let here = at.returns c in
     let a = here .start .args in

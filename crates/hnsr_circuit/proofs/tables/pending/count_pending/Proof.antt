@@ -1,7 +1,8 @@
--- `count_pending` meets its contract: what is left, with what is counted so far, is the whole count; past the number no record is marked.
+-- `count_pending` meets its contract: what is left, with what is counted so far, is the whole count;
+-- past the number no record is marked.
 mod Tie
 mod At
-use mathlib.Core.Path.{_≡_, ap, _∙_}
+use mathlib.Core.Path.{_≡_, refl, ap, _∙_}
 use mathlib.Core.Bool.{Bool, cond}
 use Prim.Native.Nat.{ℕ, _+_, _-_, _≤_}
 use native.Mathlib.Nat.{zero-add}
@@ -10,20 +11,21 @@ use lib.ListN.{length, drop}
 use borrow.Author.Needs.{needs}
 use Rattle.hns_encoding.specs.Sums.{count}
 use Rattle.hns_encoding.specs.Laws.Tests.{cond-le}
-use Rattle.hnsr_circuit.specs.Pending.{noPending, clearPending}
-use Rattle.hnsr_circuit.specs.Code.Question.{pendingHas}
+use Rattle.hnsr_circuit.specs.Pending.{noPending, clearPending, isPending}
 use Rattle.hnsr_circuit.specs.Code.Held.{held}
-use Rattle.hnsr_circuit.specs.Laws.HeldTables.{pending-unmarked}
 use Rattle.hnsr_circuit.specs.Laws.Held.{held-min, count-rest, held-count-next}
 use Rattle.hnsr_circuit.proofs.tables.pending.count_pending.Statement.{statement}
 use Rattle.hnsr_circuit.proofs.tables.pending.count_pending.Proof.Tie as tie
 use Rattle.hnsr_circuit.proofs.tables.pending.count_pending.Proof.At as at
 
 abbrev Inv-loop : tie.InvT-loop
-Inv-loop pending question size₀ end₀ counted₀ i₀ counted i = (i ≤ end₀) × (end₀ ≤ length pending) × (counted ≤ i) × (counted + count (pendingHas question) (drop i (held clearPending end₀ pending)) ≡ count (pendingHas question) (held clearPending end₀ pending))
+Inv-loop pending size₀ end₀ counted₀ i₀ counted i =
+    (i ≤ end₀) × (end₀ ≤ length pending) × (counted ≤ i)
+    × (counted + count isPending (drop i (held clearPending end₀ pending))
+    ≡ count isPending (held clearPending end₀ pending))
 
 abbrev μ-loop : tie.MeasureT-loop
-μ-loop pending question size₀ end₀ counted₀ i₀ counted i = length pending - i
+μ-loop pending size₀ end₀ counted₀ i₀ counted i = length pending - i
 
 min-usize-requires : tie.Need-min-usize-requires Inv-loop μ-loop
 min-usize-requires c = search needs
@@ -31,7 +33,9 @@ min-usize-requires c = search needs
 loop-holds : tie.Need-loop-holds Inv-loop μ-loop
 loop-holds c =
     let here = at.loop-holds Inv-loop μ-loop c in
-    (omega arith, omega arith, omega arith, zero-add (count (pendingHas (here .start .args .question)) (held clearPending (here .min-usize .result) (here .start .args .pending .now))))
+    let a = here .start .args in
+    let t = held clearPending (here .min-usize .result) (a .pending .now) in
+    (omega arith, omega arith, omega arith, zero-add (count isPending t))
 
 mul-row : tie.Need-mul-row Inv-loop μ-loop
 mul-row c = search needs
@@ -39,8 +43,8 @@ mul-row c = search needs
 shared-slice-copy-out-row : tie.Need-shared-slice-copy-out-row Inv-loop μ-loop
 shared-slice-copy-out-row c = search needs
 
-pending-has-requires : tie.Need-pending-has-requires Inv-loop μ-loop
-pending-has-requires c = search needs
+is-pending-requires : tie.Need-is-pending-requires Inv-loop μ-loop
+is-pending-requires c = search needs
 
 one-more-requires : tie.Need-one-more-requires Inv-loop μ-loop
 one-more-requires c = search needs
@@ -58,24 +62,29 @@ loop-again c =
     let t = a .pending .now in
     let n = here .min-usize .result in
     let l = here .loop in
-    let h = here .pending-has in (
+    let h = here .is-pending in (
       omega arith,
       l .inv .1,
       omega (arith, cond-le (h .result)),
-      held-count-next clearPending n t noPending (l .i) (omega arith) (omega arith) (pendingHas (a .question)) (count (pendingHas (a .question)) (held clearPending n t)) (l .counted) (here .one-more .result)
+      held-count-next clearPending n t noPending (l .i) (omega arith) (omega arith) isPending
+          (count isPending (held clearPending n t)) (l .counted) (here .one-more .result)
           (here .one-more .ensures ∙ ap (λ (b : Bool). l .counted + cond b 1 0) (h .ensures)) (l .inv .3),
     )
 
 returns : tie.Need-returns Inv-loop μ-loop
+unfolding isPending
 returns c =
     let here = at.returns Inv-loop μ-loop c in
     let a = here .start .args in
     let t = a .pending .now in
     let n = here .min-usize .result in
     let l = here .loop in
-    let seen = ap (λ (m : ℕ). held clearPending m t) (here .min-usize .ensures) ∙ held-min clearPending (a .places .pending) t in
-    count-rest clearPending (pendingHas (a .question)) (λ x. pending-unmarked (a .question) x ∙ here .start .pre) n t (l .i) (l .counted) (count (pendingHas (a .question)) (held clearPending n t)) (λ h. omega arith) (l .inv .3)
-    ∙ ap (count (pendingHas (a .question))) seen
+    let seen = ap (λ (m : ℕ). held clearPending m t) (here .min-usize .ensures)
+    ∙ held-min clearPending (a .places .pending) t in
+    count-rest clearPending isPending (λ x. refl) n t (l .i) (l .counted)
+    (count isPending (held clearPending n t)) (λ h. omega arith) (l .inv .3)
+    ∙ ap (count isPending) seen
 
 pub count-pending-spec : {M : Type 1} → statement M
-count-pending-spec = tie.close (tie.spec Inv-loop μ-loop min-usize-requires loop-holds mul-row shared-slice-copy-out-row pending-has-requires one-more-requires add-i loop-less loop-again returns)
+count-pending-spec = tie.close (tie.spec Inv-loop μ-loop min-usize-requires loop-holds mul-row
+    shared-slice-copy-out-row is-pending-requires one-more-requires add-i loop-less loop-again returns)

@@ -24,12 +24,12 @@ use Rattle.hnsr_circuit.proofs.tables.pending.survey_pending.Proof.Tie 
 use Rattle.hnsr_circuit.proofs.tables.pending.survey_pending.Proof.At as at
 
 abbrev Inv-loop : tie.InvT-loop
-Inv-loop pending question size₀ end₀ start₀ used₀ first₀ i₀ used first i =
+Inv-loop pending question peer size₀ end₀ start₀ used₀ first₀ i₀ used first i =
     (i ≤ end₀) × (end₀ ≤ length pending) × (used ≤ i) × (used + count isPending (drop i (held clearPending end₀ pending)) ≡ count isPending (held clearPending end₀ pending))
-    × (foldFrom (nextTurn pendingId (pendingHas question) start₀) (drop i (held clearPending end₀ pending)) i first ≡ next pendingId (pendingHas question) start₀ (held clearPending end₀ pending))
+    × (foldFrom (nextTurn pendingId (pendingHas question peer) start₀) (drop i (held clearPending end₀ pending)) i first ≡ next pendingId (pendingHas question peer) start₀ (held clearPending end₀ pending))
 
 abbrev μ-loop : tie.MeasureT-loop
-μ-loop pending question size₀ end₀ start₀ used₀ first₀ i₀ used first i = length pending - i
+μ-loop pending question peer size₀ end₀ start₀ used₀ first₀ i₀ used first i = length pending - i
 
 min-usize-requires : tie.Need-min-usize-requires Inv-loop μ-loop
 min-usize-requires c = search needs
@@ -43,7 +43,7 @@ loop-holds c =
     let here = at.loop-holds Inv-loop μ-loop c in
     let a = here .start .args in
     let t = held clearPending (here .min-usize .result) (a .pending .now) in
-    (omega arith, omega arith, omega arith, zero-add (count isPending t), ap (λ (b : Walked). foldFrom (nextTurn pendingId (pendingHas (a .question)) (here .not-yet .result)) t 0 b) (here .not-yet .ensures))
+    (omega arith, omega arith, omega arith, zero-add (count isPending t), ap (λ (b : Walked). foldFrom (nextTurn pendingId (pendingHas (a .question) (a .peer)) (here .not-yet .result)) t 0 b) (here .not-yet .ensures))
 
 mul-row : tie.Need-mul-row Inv-loop μ-loop
 mul-row c = search needs
@@ -80,8 +80,8 @@ loop-again c =
       omega (arith, cond-le (h .result)),
       held-count-next clearPending n t noPending (l .i) (omega arith) (omega arith) isPending (count isPending (held clearPending n t)) (l .used) (here .one-more .result)
           (here .one-more .ensures ∙ ap (λ (b : Bool). l .used + cond b 1 0) (h .ensures)) (l .inv .3),
-      held-fold-step clearPending n t noPending (l .i) (omega arith) (omega arith) (nextTurn pendingId (pendingHas (a .question)) start) (l .first) (here .pending-turn .result)
-          (next pendingId (pendingHas (a .question)) start (held clearPending n t)) (here .pending-turn .ensures) (l .inv .4),
+      held-fold-step clearPending n t noPending (l .i) (omega arith) (omega arith) (nextTurn pendingId (pendingHas (a .question) (a .peer)) start) (l .first) (here .pending-turn .result)
+          (next pendingId (pendingHas (a .question) (a .peer)) start (held clearPending n t)) (here .pending-turn .ensures) (l .inv .4),
     )
 
 surveyed-requires : tie.Need-surveyed-requires Inv-loop μ-loop
@@ -95,12 +95,12 @@ returns c =
     let t = a .pending .now in
     let n = here .min-usize .result in
     let l = here .loop in
-    let q = pendingHas (a .question) in
+    let q = pendingHas (a .question) (a .peer) in
     let start = here .not-yet .result in
     let seen = ap (λ (m : ℕ). held clearPending m t) (here .min-usize .ensures) ∙ held-min clearPending (a .places .pending) t in (
       here .surveyed .ensures .0 ∙ count-rest clearPending isPending (λ x. refl) n t (l .i) (l .used) (count isPending (held clearPending n t)) (λ h. omega arith) (l .inv .3) ∙ ap (count isPending) seen,
       here .surveyed .ensures .1
-          ∙ fold-rest clearPending (nextTurn pendingId q start) (next-idle clearPending pendingId q (λ x. pending-unmarked (a .question) x ∙ here .start .pre) start) n t (l .i) (l .first) (next pendingId q start (held clearPending n t)) (λ h. omega arith) (l .inv .4)
+          ∙ fold-rest clearPending (nextTurn pendingId q start) (next-idle clearPending pendingId q (pending-unmarked (a .question) (a .peer)) start) n t (l .i) (l .first) (next pendingId q start (held clearPending n t)) (λ h. omega arith) (l .inv .4)
           ∙ (λ x. next pendingId q (here .not-yet .ensures x) (seen x)),
     )
 

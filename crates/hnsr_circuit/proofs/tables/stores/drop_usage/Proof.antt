@@ -4,10 +4,7 @@ mod At
 use Prim.Native.Nat.{ℕ}
 use mathlib.Core.Path.{sym, ap, _∙_}
 use lib.ListN.{set, getD}
-use Rattle.hnsr_circuit.specs.declared.tables.question.Question.{Question}
-use Rattle.hnsr_circuit.specs.Table.{placeOf}
 use Rattle.hnsr_circuit.specs.Ledger.{noUsage, usageAt, clearUsage}
-use Rattle.hnsr_circuit.specs.Code.Question.{usageHas, usageAsked}
 use Rattle.hnsr_circuit.specs.Laws.Edits.{edit-set}
 use mathlib.Core.Bool.{true}
 use Rattle.hnsr_circuit.specs.Code.Held.{heldLedger}
@@ -17,13 +14,12 @@ use Rattle.hnsr_circuit.proofs.tables.stores.drop_usage.Proof.Tie as ti
 use Rattle.hnsr_circuit.proofs.tables.stores.drop_usage.Proof.At as at
 
 returns : tie.Need-returns
-unfolding usageAsked
 returns c =
     let here = at.returns c in
     let a = here .start .args in
     let r = a .ledger .now in
     let t = heldLedger (a .places) r in
-    let place = here .find-usage .ensures ∙ ap (λ (q : Question). placeOf (usageHas q) t) (here .at-reservation .ensures) in
+    let place = here .find-usage .ensures in
     let e = here .usage-unmarked .ensures in
     let gone = e ∙ ap clearUsage (here .usage-at .ensures ∙ ap (λ (n : ℕ). getD t n noUsage) place) in
     stored-seen clearUsage (a .places .ledger) r _ true (here .find-usage .result) (here .usage-unmarked .result) (λ h. ap clearUsage e ∙ sym e) (here .set-usage .ensures)

@@ -8,7 +8,6 @@ use mathlib.Core.List.{List}
 use lib.ListN.{set, getD}
 use Rattle.hnsr_circuit.specs.declared.records.RelayCircuit.{RelayCircuit}
 use Rattle.hnsr_circuit.specs.Circuits.{noCircuit, circuitAt, lowered, clearCircuit}
-use Rattle.hnsr_circuit.specs.Code.Question.{at}
 use Rattle.hnsr_circuit.specs.Laws.Edits.{edit-set}
 use Rattle.hnsr_circuit.specs.Code.Held.{heldCircuits}
 use Rattle.hnsr_circuit.specs.Laws.Held.{stored-held, place-below}

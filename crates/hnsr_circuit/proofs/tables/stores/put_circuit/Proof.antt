@@ -6,10 +6,7 @@ use Prim.Native.Nat.{ℕ}
 use mathlib.Core.Bool.{cond}
 use lib.ListN.{set}
 use Rattle.hns_encoding.specs.Sums.{non}
-use Rattle.hnsr_circuit.specs.declared.tables.question.Question.{Question}
-use Rattle.hnsr_circuit.specs.Table.{placeOf}
 use Rattle.hnsr_circuit.specs.Circuits.{isCircuit, circuitAt, clearCircuit}
-use Rattle.hnsr_circuit.specs.Code.Question.{circuitHas, circuitAsked}
 use Rattle.hnsr_circuit.specs.Laws.Opening.{put-place}
 use Rattle.hnsr_circuit.specs.Code.Opening.{putPlace}
 use Rattle.hnsr_circuit.specs.Code.Held.{heldCircuits}
@@ -19,7 +16,7 @@ use Rattle.hnsr_circuit.proofs.tables.stores.put_circuit.Proof.Tie as t
 use Rattle.hnsr_circuit.proofs.tables.stores.put_circuit.Proof.At as at
 
 returns : tie.Need-returns
-unfolding circuitAsked circuitAt isCircuit
+unfolding circuitAt isCircuit
 returns c =
     let here = at.returns c in
     let a = here .start .args in
@@ -27,7 +24,7 @@ returns c =
     let r = a .circuits .now in
     let t = heldCircuits (a .places) r in
     let old = here .find-circuit-id .ensures in
-    let spare = here .find-circuit .ensures ∙ ap (λ (q : Question). placeOf (circuitHas q) t) (here .unused .ensures) in
+    let spare = here .spare-circuit .ensures in
     let long = sym (length-held clearCircuit n r) in
     let place = here .put-place .ensures ∙ (λ x. putPlace (old x) (long x) (spare x)) ∙ put-place (circuitAt (a .id)) (non isCircuit) t in
     let most = put-upto clearCircuit isCircuit (circuitAt (a .id)) (λ x. refl) (λ x. refl) n r in

@@ -190,7 +190,7 @@ b2 = Syntax.call "hnsr_circuit::tables::lookup::pending_by_id" ((Syntax.copy (Sy
     (Syntax.copy (Syntax.place 5 List.[])) ∷ (Syntax.copy (Syntax.place 6 List.[])) ∷ List.[]) (Syntax.place 7 List.[])
 
 abbrev b3 : Syntax.Body
-b3 = Syntax.call "hnsr_circuit::calls::revocation::pending_gone" ((Syntax.copy (Syntax.place 7 List.[])) ∷ List.[])
+b3 = Syntax.call "hnsr_circuit::tables::lookup::found_unmarked" ((Syntax.copy (Syntax.place 7 List.[])) ∷ List.[])
     (Syntax.place 8 List.[])
 
 abbrev b4 : Syntax.Body
@@ -953,7 +953,7 @@ module _ (claims· : Claims) where
       abbrev pub Closed : Type 2
       Closed = (𝓤 : URA.URA M) (H : Wp.Heap 𝓤) (A : Atoms.Atoms 𝓤) (W : Kit.Given 𝓤 H A) (𝓣 : Wp.Tables 𝓤 H) (known0 :
           Plain.Known 𝓤 H A W 𝓣 1 ps·0 r·0 (claims· .0) (claims· .1) "hnsr_circuit::tables::lookup::pending_by_id") (known1
-          : Plain.Known 𝓤 H A W 𝓣 0 ps·1 r·1 (claims· .2) (claims· .3) "hnsr_circuit::calls::revocation::pending_gone") (known2
+          : Plain.Known 𝓤 H A W 𝓣 0 ps·1 r·1 (claims· .2) (claims· .3) "hnsr_circuit::tables::lookup::found_unmarked") (known2
           : Plain.Known 𝓤 H A W 𝓣 0 ps·2 r·2 (claims· .4) (claims· .5) "hnsr_circuit::calls::acknowledge::fail_plan") (known3
           : Plain.Known 𝓤 H A W 𝓣 1 ps·3 r·3 (claims· .6) (claims· .7) "hnsr_circuit::tables::pending::set_pending") (known4
           : Plain.Known 𝓤 H A W 𝓣 2 ps·4 r·4 (claims· .8) (claims· .9) "hnsr_circuit::calls::acknowledge::send_notice") (known5
@@ -1153,11 +1153,11 @@ module _ (claims· : Claims) where
         abbrev Knowns : Type 1
         Knowns = Plain.Known 𝓤 H A W 𝓣 1 ps·0 r·0 (claims· .0) (claims· .1)
             "hnsr_circuit::tables::lookup::pending_by_id" × Plain.Known 𝓤 H A W 𝓣 0 ps·1 r·1 (claims· .2) (claims· .3)
-            "hnsr_circuit::calls::revocation::pending_gone" × Plain.Known 𝓤 H A W 𝓣 0 ps·2 r·2 (claims· .4)
-            (claims· .5) "hnsr_circuit::calls::acknowledge::fail_plan" × Plain.Known 𝓤 H A W 𝓣 1 ps·3 r·3 (claims· .6)
-            (claims· .7) "hnsr_circuit::tables::pending::set_pending" × Plain.Known 𝓤 H A W 𝓣 2 ps·4 r·4 (claims· .8)
-            (claims· .9) "hnsr_circuit::calls::acknowledge::send_notice" × Plain.Known 𝓤 H A W 𝓣 0 ps·5 r·5
-            (claims· .10) (claims· .11) "hnsr_circuit::runtime::taken_with"
+            "hnsr_circuit::tables::lookup::found_unmarked" × Plain.Known 𝓤 H A W 𝓣 0 ps·2 r·2 (claims· .4) (claims· .5)
+            "hnsr_circuit::calls::acknowledge::fail_plan" × Plain.Known 𝓤 H A W 𝓣 1 ps·3 r·3 (claims· .6) (claims· .7)
+            "hnsr_circuit::tables::pending::set_pending" × Plain.Known 𝓤 H A W 𝓣 2 ps·4 r·4 (claims· .8) (claims· .9)
+            "hnsr_circuit::calls::acknowledge::send_notice" × Plain.Known 𝓤 H A W 𝓣 0 ps·5 r·5 (claims· .10)
+            (claims· .11) "hnsr_circuit::runtime::taken_with"
 
       module _ (κs : Lifetimes.Lfts 3) (qs : Lifetimes.Shares 3) where
         abbrev life0 : Row.Life
@@ -2133,7 +2133,7 @@ module _ (claims· : Claims) where
 
           d51 : Typed.Typed 𝓤 H A 𝓣 E G10 b37 Δ0 (at51 bs)
           d51 = Typed.s-seq 𝓤 H A W 𝓣 E G10 G11 b3 b36 Δ0 (Typed.both (s9 bs)) (at50 bs) (Plain.t-call-plain 𝓤 H A W 𝓣
-              0 ps·1 r·1 (claims· .2) (claims· .3) "hnsr_circuit::calls::revocation::pending_gone" (known .1) E
+              0 ps·1 r·1 (claims· .2) (claims· .3) "hnsr_circuit::tables::lookup::found_unmarked" (known .1) E
               (λ pos β. β) G10 (record { pos = 7; st = List.[]; d = 0; at = λ x. x }, tt) 8 List.[]
               (Call.sub-id 𝓤 H A W (G10 .slots)) (
                 (
@@ -2337,8 +2337,8 @@ module _ (claims· : Claims) where
           (m3 (before .before) (before .pending-by-id-arg .given))) → Typed.Mo T9
       m6 = λ before given. s7 (before .before .before .blocks) (m5 before given)
 
-      abbrev pub Need-pending-gone-requires : Type 0
-      Need-pending-gone-requires = (c : After-pending-by-id) → s9 (c .before .before .before .blocks) .asks
+      abbrev pub Need-found-unmarked-requires : Type 0
+      Need-found-unmarked-requires = (c : After-pending-by-id) → s9 (c .before .before .before .blocks) .asks
           (m6 (c .before) (After-pending-by-id·gave c))
 
       abbrev pub m7 : (before : After-pending-by-id) → (given : s9 (before .before .before .before .blocks) .gives
@@ -2347,50 +2347,51 @@ module _ (claims· : Claims) where
           (m6 (before .before) (After-pending-by-id·gave before)) given
 
       module _ (before· : After-pending-by-id) where
-        abbrev pub After-pending-gone·own : Type 0
-        After-pending-gone·own = Called.Called ps·1 r·1 (claims· .3) T9
+        abbrev pub After-found-unmarked·own : Type 0
+        After-found-unmarked·own = Called.Called ps·1 r·1 (claims· .3) T9
             (record { pos = 7; st = List.[]; d = 0; at = λ x. x }, tt)
             (m6 (before· .before) (After-pending-by-id·gave before·))
 
-      pub record After-pending-gone : Type 0 where
+      pub record After-found-unmarked : Type 0 where
         pub before : After-pending-by-id
-        pub pending-gone : After-pending-gone·own before
+        pub found-unmarked : After-found-unmarked·own before
 
-      abbrev pub After-pending-gone·gave : (c : After-pending-gone) → s9 (c .before .before .before .before .blocks)
-          .gives (m6 (c .before .before) (After-pending-by-id·gave (c .before)))
-      After-pending-gone·gave = λ c. Called.given ps·1 r·1 (claims· .3) T9
+      abbrev pub After-found-unmarked·gave : (c : After-found-unmarked) → s9
+          (c .before .before .before .before .blocks) .gives (m6 (c .before .before)
+          (After-pending-by-id·gave (c .before)))
+      After-found-unmarked·gave = λ c. Called.given ps·1 r·1 (claims· .3) T9
           (record { pos = 7; st = List.[]; d = 0; at = λ x. x }, tt) (m6 (c .before .before)
-          (After-pending-by-id·gave (c .before))) (c .pending-gone)
+          (After-pending-by-id·gave (c .before))) (c .found-unmarked)
 
       abbrev pub Need-fail-plan-requires : Type 0
-      Need-fail-plan-requires = (c : After-pending-gone) → s10 (c .before .before .before .before .blocks) .asks
-          (m7 (c .before) (After-pending-gone·gave c))
+      Need-fail-plan-requires = (c : After-found-unmarked) → s10 (c .before .before .before .before .blocks) .asks
+          (m7 (c .before) (After-found-unmarked·gave c))
 
-      abbrev pub m8 : (before : After-pending-gone) → (given : s10 (before .before .before .before .before .blocks)
-          .gives (m7 (before .before) (After-pending-gone·gave before))) → Typed.Mo T12
+      abbrev pub m8 : (before : After-found-unmarked) → (given : s10 (before .before .before .before .before .blocks)
+          .gives (m7 (before .before) (After-found-unmarked·gave before))) → Typed.Mo T12
       m8 = λ before given. s10 (before .before .before .before .before .blocks) .next
-          (m7 (before .before) (After-pending-gone·gave before)) given
+          (m7 (before .before) (After-found-unmarked·gave before)) given
 
-      module _ (before· : After-pending-gone) where
+      module _ (before· : After-found-unmarked) where
         abbrev pub After-fail-plan·own : Type 0
         After-fail-plan·own = Called.Called ps·2 r·2 (claims· .5) T11 (
           record { pos = 7; st = List.[]; d = 0; at = λ x. x },
           (record { pos = 4; st = List.[]; d = 0; at = λ x. x }, tt),
-        ) (m7 (before· .before) (After-pending-gone·gave before·))
+        ) (m7 (before· .before) (After-found-unmarked·gave before·))
 
       pub record After-fail-plan : Type 0 where
-        pub before : After-pending-gone
+        pub before : After-found-unmarked
         pub fail-plan : After-fail-plan·own before
 
       abbrev pub After-fail-plan·gave : (c : After-fail-plan) → s10 (c .before .before .before .before .before .blocks)
-          .gives (m7 (c .before .before) (After-pending-gone·gave (c .before)))
+          .gives (m7 (c .before .before) (After-found-unmarked·gave (c .before)))
       After-fail-plan·gave = λ c. Called.given ps·2 r·2 (claims· .5) T11 (
         record { pos = 7; st = List.[]; d = 0; at = λ x. x },
         (record { pos = 4; st = List.[]; d = 0; at = λ x. x }, tt),
-      ) (m7 (c .before .before) (After-pending-gone·gave (c .before))) (c .fail-plan)
+      ) (m7 (c .before .before) (After-found-unmarked·gave (c .before))) (c .fail-plan)
 
-      abbrev pub m9 : (before : After-pending-gone) → (given : s10 (before .before .before .before .before .blocks)
-          .gives (m7 (before .before) (After-pending-gone·gave before))) → Typed.Mo T13
+      abbrev pub m9 : (before : After-found-unmarked) → (given : s10 (before .before .before .before .before .blocks)
+          .gives (m7 (before .before) (After-found-unmarked·gave before))) → Typed.Mo T13
       m9 = λ before given. s11 (before .before .before .before .before .blocks) (m8 before given)
 
       abbrev pub m10 : (before : After-fail-plan) → (given : s12
@@ -2846,7 +2847,7 @@ module _ (claims· : Claims) where
           (m44 (c .before) (After-taken-with·gave c) .1)))
 
       module _ (pending-by-id-requires : Need-pending-by-id-requires)
-          (pending-gone-requires : Need-pending-gone-requires) (fail-plan-requires : Need-fail-plan-requires)
+          (found-unmarked-requires : Need-found-unmarked-requires) (fail-plan-requires : Need-fail-plan-requires)
           (set-pending-requires : Need-set-pending-requires) (send-notice-requires : Need-send-notice-requires)
           (same-length : Need-same-length) (same-length-2 : Need-same-length-2) (same-length-3 : Need-same-length-3)
           (returns : Need-returns) (taken-with-requires : Need-taken-with-requires)
@@ -3147,17 +3148,17 @@ module _ (claims· : Claims) where
           ),
         )
 
-        lay2 : (c : After-pending-gone) → at50 (c .before .before .before .before .blocks) (W0
+        lay2 : (c : After-found-unmarked) → at50 (c .before .before .before .before .blocks) (W0
             (c .before .before .before .before .κs) (c .before .before .before .before .args)
-            (c .before .before .before .before .blocks)) (m7 (c .before) (After-pending-gone·gave c))
+            (c .before .before .before .before .blocks)) (m7 (c .before) (After-found-unmarked·gave c))
         lay2 = λ c. (
-          fail-plan-requires record { before = c .before; pending-gone = c .pending-gone },
+          fail-plan-requires record { before = c .before; found-unmarked = c .found-unmarked },
           λ g. lay3 record {
-            before = record { before = c .before; pending-gone = c .pending-gone };
+            before = record { before = c .before; found-unmarked = c .found-unmarked };
             fail-plan = Called.called ps·2 r·2 (claims· .5) T11 (
               record { pos = 7; st = List.[]; d = 0; at = λ x. x },
               (record { pos = 4; st = List.[]; d = 0; at = λ x. x }, tt),
-            ) (m7 (c .before) (After-pending-gone·gave c)) g;
+            ) (m7 (c .before) (After-found-unmarked·gave c)) g;
           },
         )
 
@@ -3165,10 +3166,10 @@ module _ (claims· : Claims) where
             (c .before .before .before .args) (c .before .before .before .blocks))
             (m4 (c .before) (After-pending-by-id·gave c))
         lay1 = λ c. (
-          pending-gone-requires record { before = c .before; pending-by-id = c .pending-by-id },
+          found-unmarked-requires record { before = c .before; pending-by-id = c .pending-by-id },
           λ g. lay2 record {
             before = record { before = c .before; pending-by-id = c .pending-by-id };
-            pending-gone = Called.called ps·1 r·1 (claims· .3) T9
+            found-unmarked = Called.called ps·1 r·1 (claims· .3) T9
                 (record { pos = 7; st = List.[]; d = 0; at = λ x. x }, tt)
                 (m6 (c .before) (After-pending-by-id·gave c)) g;
           },
@@ -3218,7 +3219,7 @@ module _ (claims· : Claims) where
         module _ {M : Type 1} (𝓤 : URA.URA M) (H : Wp.Heap 𝓤) (A : Atoms.Atoms 𝓤) (W : Kit.Given 𝓤 H A)
             (𝓣 : Wp.Tables 𝓤 H) (known0 : Plain.Known 𝓤 H A W 𝓣 1 ps·0 r·0 (claims· .0) (claims· .1)
             "hnsr_circuit::tables::lookup::pending_by_id") (known1 : Plain.Known 𝓤 H A W 𝓣 0 ps·1 r·1 (claims· .2)
-            (claims· .3) "hnsr_circuit::calls::revocation::pending_gone") (known2 : Plain.Known 𝓤 H A W 𝓣 0 ps·2 r·2
+            (claims· .3) "hnsr_circuit::tables::lookup::found_unmarked") (known2 : Plain.Known 𝓤 H A W 𝓣 0 ps·2 r·2
             (claims· .4) (claims· .5) "hnsr_circuit::calls::acknowledge::fail_plan") (known3 : Plain.Known 𝓤 H A W 𝓣 1
             ps·3 r·3 (claims· .6) (claims· .7) "hnsr_circuit::tables::pending::set_pending") (known4 : Plain.Known 𝓤 H
             A W 𝓣 2 ps·4 r·4 (claims· .8) (claims· .9) "hnsr_circuit::calls::acknowledge::send_notice") (known5 :

@@ -5,14 +5,16 @@ use Rattle.hnsr_circuit.proofs.By.RelayPending
 use Rattle.hnsr_circuit.proofs.StructRow
 use Rattle.hnsr_circuit.proofs.calls.revocation.Revoking
 use Rattle.hnsr_circuit.proofs.calls.revocation.Revoking.Laws
+use Rattle.hnsr_circuit.proofs.peer.HnsrPeerId
+use Rattle.hnsr_circuit.proofs.peer.HnsrPeerId.Laws as Laws'
 use Rattle.hnsr_circuit.proofs.runtime.Sending
-use Rattle.hnsr_circuit.proofs.runtime.Sending.Laws as Laws'
+use Rattle.hnsr_circuit.proofs.runtime.Sending.Laws as Laws''
 use Rattle.hnsr_circuit.proofs.tables.places.Places
-use Rattle.hnsr_circuit.proofs.tables.places.Places.Laws as Laws''
-use Rattle.hnsr_circuit.proofs.tables.question.Question
-use Rattle.hnsr_circuit.proofs.tables.question.Question.Laws as Laws'''
+use Rattle.hnsr_circuit.proofs.tables.places.Places.Laws as Laws'''
+use Rattle.hnsr_circuit.proofs.tables.question.RecordQuestion
+use Rattle.hnsr_circuit.proofs.tables.question.RecordQuestion.Laws as Laws''''
 use Rattle.hnsr_circuit.proofs.tables.scan.Walked
-use Rattle.hnsr_circuit.proofs.tables.scan.Walked.Laws as Laws''''
+use Rattle.hnsr_circuit.proofs.tables.scan.Walked.Laws as Laws'''''
 use borrow.Author.Called
 use borrow.Author.Tests
 use borrow.Fn.Any
@@ -40,7 +42,9 @@ use borrow.Rule.Way
 use borrow.Rule.WayStmt
 use borrow.Rule.Yields
 use borrow.Struct.Behind
+use borrow.Struct.CopyOut
 use borrow.Struct.Inner
+use borrow.Struct.Make
 use borrow.Struct.Reads
 use borrow.Struct.Way as Way'
 use borrow.Struct.Yields as Yields'
@@ -52,8 +56,12 @@ use borrow.Table.Row
 use borrow.Table.Rows
 use borrow.Table.Typed
 use contract.Lifetimes
+use denote.Enum.Declared
+use denote.Enum.Laws as Laws''''''
+use denote.Laws as Laws'''''''
 use denote.Struct.At
-use denote.Struct.Declared
+use denote.Struct.Declared as Declared'
+use denote.Struct.Laws as Laws''''''''
 use denote.Struct.Struct
 use denote.Triple.Clauses
 use denote.Triple.Statement
@@ -109,16 +117,16 @@ slice3 = Syntax.tyStruct (38 ∷ 91 ∷ 93 ∷ List.[]) (Syntax.tcons ref3
 
 abbrev pub ps : List.List (Kinds.PK 3)
 ps = (MutSlice.pMutS RelayPending.row 0 tt) ∷ (MutSlice.pMutS InflightAction.row 1 tt) ∷ (MutSlice.pMutS
-    (Referent.rtF (Referent.fInt Syntax.w32)) 2 tt) ∷ (StructRow.param Sending.the-type Laws'.the-laws Laws'.the-copy
-    Laws'.the-plain) ∷ (StructRow.param Revoking.the-type Laws.the-laws Laws.the-copy Laws.the-plain) ∷ (StructRow.param
-    Walked.the-type Laws''''.the-laws Laws''''.the-copy Laws''''.the-plain) ∷ List.[]
+    (Referent.rtF (Referent.fInt Syntax.w32)) 2 tt) ∷ (StructRow.param Sending.the-type Laws''.the-laws Laws''.the-copy
+    Laws''.the-plain) ∷ (StructRow.param Revoking.the-type Laws.the-laws Laws.the-copy Laws.the-plain) ∷ (StructRow.param
+    Walked.the-type Laws'''''.the-laws Laws'''''.the-copy Laws'''''.the-plain) ∷ List.[]
 
 abbrev pub r : Kinds.RK 3
-r = StructRow.result Sending.the-type Laws'.the-laws Laws'.the-copy Laws'.the-plain
+r = StructRow.result Sending.the-type Laws''.the-laws Laws''.the-copy Laws''.the-plain
 
 abbrev pub xs : List.List Syntax.Ty
-xs = Laws'''.mir ∷ (Syntax.tyInt Syntax.w64) ∷ Laws'.mir ∷ Laws''''.mir ∷ (Syntax.tyInt Syntax.w64) ∷ Syntax.tyBool ∷
-    Syntax.tyBool ∷ ref0 ∷ slice0 ∷ ref1 ∷ slice1 ∷ ref2 ∷ slice2 ∷ ref3 ∷ slice3 ∷ List.[]
+xs = Laws''''.mir ∷ Laws'.mir ∷ (Syntax.tyInt Syntax.w64) ∷ Laws''.mir ∷ Laws'''''.mir ∷ (Syntax.tyInt Syntax.w64) ∷
+    Syntax.tyBool ∷ Syntax.tyBool ∷ ref0 ∷ slice0 ∷ ref1 ∷ slice1 ∷ ref2 ∷ slice2 ∷ ref3 ∷ slice3 ∷ List.[]
 
 abbrev pub m : Nat.ℕ
 m = 4
@@ -131,206 +139,214 @@ r·0 = Bool.rBool
 
 abbrev pub ps·1 : List.List (Kinds.PK 3)
 ps·1 = (MutSlice.pMutS RelayPending.row 0 tt) ∷ (MutSlice.pMutS InflightAction.row 1 tt) ∷ (MutSlice.pMutS
-    (Referent.rtF (Referent.fInt Syntax.w32)) 2 tt) ∷ (StructRow.param Sending.the-type Laws'.the-laws Laws'.the-copy
-    Laws'.the-plain) ∷ (StructRow.param Revoking.the-type Laws.the-laws Laws.the-copy Laws.the-plain) ∷
+    (Referent.rtF (Referent.fInt Syntax.w32)) 2 tt) ∷ (StructRow.param Sending.the-type Laws''.the-laws Laws''.the-copy
+    Laws''.the-plain) ∷ (StructRow.param Revoking.the-type Laws.the-laws Laws.the-copy Laws.the-plain) ∷
     (Num.pNum Syntax.w64) ∷ List.[]
 
 abbrev pub r·1 : Kinds.RK 3
-r·1 = StructRow.result Sending.the-type Laws'.the-laws Laws'.the-copy Laws'.the-plain
+r·1 = StructRow.result Sending.the-type Laws''.the-laws Laws''.the-copy Laws''.the-plain
 
 abbrev pub ps·2 : List.List (Kinds.PK 1)
-ps·2 = (ShrSlice.pShrS RelayPending.row 0 tt) ∷ (StructRow.param Places.the-type Laws''.the-laws Laws''.the-copy
-    Laws''.the-plain) ∷ (StructRow.param Question.the-type Laws'''.the-laws Laws'''.the-copy Laws'''.the-plain) ∷ (StructRow.param
-    Walked.the-type Laws''''.the-laws Laws''''.the-copy Laws''''.the-plain) ∷ List.[]
+ps·2 = (ShrSlice.pShrS RelayPending.row 0 tt) ∷ (StructRow.param Places.the-type Laws'''.the-laws Laws'''.the-copy
+    Laws'''.the-plain) ∷ (StructRow.enum-param RecordQuestion.the-type Laws''''.the-laws Laws''''.the-copy
+    Laws''''.the-plain tt) ∷ (StructRow.param HnsrPeerId.the-type Laws'.the-laws Laws'.the-copy Laws'.the-plain) ∷ (StructRow.param
+    Walked.the-type Laws'''''.the-laws Laws'''''.the-copy Laws'''''.the-plain) ∷ List.[]
 
 abbrev pub r·2 : Kinds.RK 1
-r·2 = StructRow.result Walked.the-type Laws''''.the-laws Laws''''.the-copy Laws''''.the-plain
+r·2 = StructRow.result Walked.the-type Laws'''''.the-laws Laws'''''.the-copy Laws'''''.the-plain
 
 abbrev pub hs : List.List Syntax.Home
 hs = Syntax.valueLocal ∷ Syntax.valueLocal ∷ Syntax.valueLocal ∷ Syntax.valueLocal ∷ Syntax.valueLocal ∷
     Syntax.valueLocal ∷ Syntax.valueLocal ∷ Syntax.valueLocal ∷ Syntax.valueLocal ∷ Syntax.valueLocal ∷
     Syntax.valueLocal ∷ Syntax.valueLocal ∷ Syntax.valueLocal ∷ Syntax.valueLocal ∷ Syntax.valueLocal ∷
     Syntax.valueLocal ∷ Syntax.valueLocal ∷ Syntax.valueLocal ∷ Syntax.valueLocal ∷ Syntax.valueLocal ∷
-    Syntax.valueLocal ∷ Syntax.valueLocal ∷ List.[]
+    Syntax.valueLocal ∷ Syntax.valueLocal ∷ Syntax.valueLocal ∷ List.[]
 
 abbrev b0 : Syntax.Body
 b0 = Syntax.assign (Syntax.place 7 List.[]) (Syntax.rvOpd (Syntax.copy (Syntax.place 5 ((Syntax.field 0) ∷ List.[]))))
 
 abbrev b1 : Syntax.Body
-b1 = Syntax.assign (Syntax.place 8 List.[]) (Syntax.rvOpd (Syntax.copy (Syntax.place 1 ((Syntax.field 1) ∷ List.[]))))
+b1 = Syntax.assign (Syntax.place 8 List.[]) (Syntax.rvOpd (Syntax.copy (Syntax.place 5 ((Syntax.field 1) ∷ List.[]))))
 
 abbrev b2 : Syntax.Body
-b2 = Syntax.assign (Syntax.place 9 List.[]) (Syntax.rvOpd (Syntax.copy (Syntax.place 4 List.[])))
+b2 = Syntax.assign (Syntax.place 9 List.[]) (Syntax.rvOpd (Syntax.copy (Syntax.place 1 ((Syntax.field 1) ∷ List.[]))))
 
 abbrev b3 : Syntax.Body
-b3 = Syntax.assign (Syntax.place 10 List.[]) (Syntax.rvOpd (Syntax.copy (Syntax.place 6 List.[])))
+b3 = Syntax.assign (Syntax.place 10 List.[]) (Syntax.rvOpd (Syntax.copy (Syntax.place 4 List.[])))
 
 abbrev b4 : Syntax.Body
-b4 = Syntax.assign (Syntax.place 11 List.[]) (Syntax.rvOpd (Syntax.int Syntax.w64 0))
+b4 = Syntax.assign (Syntax.place 11 List.[]) (Syntax.rvOpd (Syntax.copy (Syntax.place 6 List.[])))
 
 abbrev b5 : Syntax.Body
-b5 = Syntax.assign (Syntax.place 12 List.[]) (Syntax.op2 (Syntax.lt Syntax.unsigned)
-    (Syntax.copy (Syntax.place 11 List.[])) (Syntax.copy (Syntax.place 8 List.[])))
+b5 = Syntax.assign (Syntax.place 12 List.[]) (Syntax.rvOpd (Syntax.int Syntax.w64 0))
 
 abbrev b6 : Syntax.Body
-b6 = Syntax.skip
+b6 = Syntax.assign (Syntax.place 13 List.[]) (Syntax.op2 (Syntax.lt Syntax.unsigned)
+    (Syntax.copy (Syntax.place 12 List.[])) (Syntax.copy (Syntax.place 9 List.[])))
 
 abbrev b7 : Syntax.Body
-b7 = Syntax.exit 1
+b7 = Syntax.skip
 
 abbrev b8 : Syntax.Body
-b8 = Syntax.cond (Syntax.copy (Syntax.place 12 List.[])) b6 b7
+b8 = Syntax.exit 1
 
 abbrev b9 : Syntax.Body
-b9 = Syntax.call "hns_encoding::logic::no" ((Syntax.copy (Syntax.place 10 ((Syntax.field 0) ∷ List.[]))) ∷ List.[])
-    (Syntax.place 13 List.[])
+b9 = Syntax.cond (Syntax.copy (Syntax.place 13 List.[])) b7 b8
 
 abbrev b10 : Syntax.Body
-b10 = Syntax.assign (Syntax.place 0 List.[]) (Syntax.rvOpd (Syntax.copy (Syntax.place 9 List.[])))
+b10 = Syntax.call "hns_encoding::logic::no" ((Syntax.copy (Syntax.place 11 ((Syntax.field 0) ∷ List.[]))) ∷ List.[])
+    (Syntax.place 14 List.[])
 
 abbrev b11 : Syntax.Body
-b11 = Syntax.return
+b11 = Syntax.assign (Syntax.place 0 List.[]) (Syntax.rvOpd (Syntax.copy (Syntax.place 10 List.[])))
 
 abbrev b12 : Syntax.Body
-b12 = Syntax.seq b10 b11
+b12 = Syntax.return
 
 abbrev b13 : Syntax.Body
-b13 = Syntax.skip
+b13 = Syntax.seq b11 b12
 
 abbrev b14 : Syntax.Body
-b14 = Syntax.cond (Syntax.copy (Syntax.place 13 List.[])) b12 b13
+b14 = Syntax.skip
 
 abbrev b15 : Syntax.Body
-b15 = Syntax.assign (Syntax.place 14 List.[]) (Syntax.addrOf (Syntax.place 1 ((Syntax.field 0) ∷
-    (Syntax.deref RelayPending.ty) ∷ List.[])))
+b15 = Syntax.cond (Syntax.copy (Syntax.place 14 List.[])) b13 b14
 
 abbrev b16 : Syntax.Body
-b16 = Syntax.assign (Syntax.place 15 List.[]) (Syntax.aggregate ((Syntax.copy (Syntax.place 14 List.[])) ∷
-    (Syntax.copy (Syntax.place 1 ((Syntax.field 1) ∷ List.[]))) ∷ List.[]))
-
-abbrev b17 : Syntax.Body
-b17 = Syntax.assign (Syntax.place 16 List.[]) (Syntax.addrOf (Syntax.place 2 ((Syntax.field 0) ∷
-    (Syntax.deref InflightAction.ty) ∷ List.[])))
-
-abbrev b18 : Syntax.Body
-b18 = Syntax.assign (Syntax.place 17 List.[]) (Syntax.aggregate ((Syntax.copy (Syntax.place 16 List.[])) ∷
-    (Syntax.copy (Syntax.place 2 ((Syntax.field 1) ∷ List.[]))) ∷ List.[]))
-
-abbrev b19 : Syntax.Body
-b19 = Syntax.assign (Syntax.place 18 List.[]) (Syntax.addrOf (Syntax.place 3 ((Syntax.field 0) ∷
-    (Syntax.deref (Syntax.tyInt Syntax.w32)) ∷ List.[])))
-
-abbrev b20 : Syntax.Body
-b20 = Syntax.assign (Syntax.place 19 List.[]) (Syntax.aggregate ((Syntax.copy (Syntax.place 18 List.[])) ∷
-    (Syntax.copy (Syntax.place 3 ((Syntax.field 1) ∷ List.[]))) ∷ List.[]))
-
-abbrev b21 : Syntax.Body
-b21 = Syntax.call "hnsr_circuit::calls::revocation::revoke_pending" ((Syntax.copy (Syntax.place 15 List.[])) ∷
-    (Syntax.copy (Syntax.place 17 List.[])) ∷ (Syntax.copy (Syntax.place 19 List.[])) ∷
-    (Syntax.copy (Syntax.place 9 List.[])) ∷ (Syntax.copy (Syntax.place 5 List.[])) ∷ (Syntax.copy
-    (Syntax.place 10 ((Syntax.field 2) ∷ List.[]))) ∷ List.[]) (Syntax.place 9 List.[])
-
-abbrev b22 : Syntax.Body
-b22 = Syntax.assign (Syntax.place 20 List.[]) (Syntax.addrOf (Syntax.place 1 ((Syntax.field 0) ∷
+b16 = Syntax.assign (Syntax.place 15 List.[]) (Syntax.addrOf (Syntax.place 1 ((Syntax.field 0) ∷
     (Syntax.deref RelayPending.ty) ∷ List.[])))
 
-abbrev b23 : Syntax.Body
-b23 = Syntax.assign (Syntax.place 21 List.[]) (Syntax.aggregate ((Syntax.copy (Syntax.place 20 List.[])) ∷
+abbrev b17 : Syntax.Body
+b17 = Syntax.assign (Syntax.place 16 List.[]) (Syntax.aggregate ((Syntax.copy (Syntax.place 15 List.[])) ∷
     (Syntax.copy (Syntax.place 1 ((Syntax.field 1) ∷ List.[]))) ∷ List.[]))
 
+abbrev b18 : Syntax.Body
+b18 = Syntax.assign (Syntax.place 17 List.[]) (Syntax.addrOf (Syntax.place 2 ((Syntax.field 0) ∷
+    (Syntax.deref InflightAction.ty) ∷ List.[])))
+
+abbrev b19 : Syntax.Body
+b19 = Syntax.assign (Syntax.place 18 List.[]) (Syntax.aggregate ((Syntax.copy (Syntax.place 17 List.[])) ∷
+    (Syntax.copy (Syntax.place 2 ((Syntax.field 1) ∷ List.[]))) ∷ List.[]))
+
+abbrev b20 : Syntax.Body
+b20 = Syntax.assign (Syntax.place 19 List.[]) (Syntax.addrOf (Syntax.place 3 ((Syntax.field 0) ∷
+    (Syntax.deref (Syntax.tyInt Syntax.w32)) ∷ List.[])))
+
+abbrev b21 : Syntax.Body
+b21 = Syntax.assign (Syntax.place 20 List.[]) (Syntax.aggregate ((Syntax.copy (Syntax.place 19 List.[])) ∷
+    (Syntax.copy (Syntax.place 3 ((Syntax.field 1) ∷ List.[]))) ∷ List.[]))
+
+abbrev b22 : Syntax.Body
+b22 = Syntax.call "hnsr_circuit::calls::revocation::revoke_pending" ((Syntax.copy (Syntax.place 16 List.[])) ∷
+    (Syntax.copy (Syntax.place 18 List.[])) ∷ (Syntax.copy (Syntax.place 20 List.[])) ∷
+    (Syntax.copy (Syntax.place 10 List.[])) ∷ (Syntax.copy (Syntax.place 5 List.[])) ∷ (Syntax.copy
+    (Syntax.place 11 ((Syntax.field 2) ∷ List.[]))) ∷ List.[]) (Syntax.place 10 List.[])
+
+abbrev b23 : Syntax.Body
+b23 = Syntax.assign (Syntax.place 21 List.[]) (Syntax.addrOf (Syntax.place 1 ((Syntax.field 0) ∷
+    (Syntax.deref RelayPending.ty) ∷ List.[])))
+
 abbrev b24 : Syntax.Body
-b24 = Syntax.call "hnsr_circuit::tables::pending::next_pending" ((Syntax.copy (Syntax.place 21 List.[])) ∷
-    (Syntax.copy (Syntax.place 9 ((Syntax.field 2) ∷ List.[]))) ∷ (Syntax.copy (Syntax.place 7 List.[])) ∷
-    (Syntax.copy (Syntax.place 10 List.[])) ∷ List.[]) (Syntax.place 10 List.[])
+b24 = Syntax.assign (Syntax.place 22 List.[]) (Syntax.aggregate ((Syntax.copy (Syntax.place 21 List.[])) ∷
+    (Syntax.copy (Syntax.place 1 ((Syntax.field 1) ∷ List.[]))) ∷ List.[]))
 
 abbrev b25 : Syntax.Body
-b25 = Syntax.assign (Syntax.place 11 List.[]) (Syntax.op2 (Syntax.add Syntax.unsigned)
-    (Syntax.copy (Syntax.place 11 List.[])) (Syntax.int Syntax.w64 1))
+b25 = Syntax.call "hnsr_circuit::tables::pending::next_pending" ((Syntax.copy (Syntax.place 22 List.[])) ∷ (Syntax.copy
+    (Syntax.place 10 ((Syntax.field 2) ∷ List.[]))) ∷ (Syntax.copy (Syntax.place 7 List.[])) ∷
+    (Syntax.copy (Syntax.place 8 List.[])) ∷ (Syntax.copy (Syntax.place 11 List.[])) ∷ List.[])
+    (Syntax.place 11 List.[])
 
 abbrev b26 : Syntax.Body
-b26 = Syntax.seq b24 b25
+b26 = Syntax.assign (Syntax.place 12 List.[]) (Syntax.op2 (Syntax.add Syntax.unsigned)
+    (Syntax.copy (Syntax.place 12 List.[])) (Syntax.int Syntax.w64 1))
 
 abbrev b27 : Syntax.Body
-b27 = Syntax.seq b23 b26
+b27 = Syntax.seq b25 b26
 
 abbrev b28 : Syntax.Body
-b28 = Syntax.seq b22 b27
+b28 = Syntax.seq b24 b27
 
 abbrev b29 : Syntax.Body
-b29 = Syntax.seq b21 b28
+b29 = Syntax.seq b23 b28
 
 abbrev b30 : Syntax.Body
-b30 = Syntax.seq b20 b29
+b30 = Syntax.seq b22 b29
 
 abbrev b31 : Syntax.Body
-b31 = Syntax.seq b19 b30
+b31 = Syntax.seq b21 b30
 
 abbrev b32 : Syntax.Body
-b32 = Syntax.seq b18 b31
+b32 = Syntax.seq b20 b31
 
 abbrev b33 : Syntax.Body
-b33 = Syntax.seq b17 b32
+b33 = Syntax.seq b19 b32
 
 abbrev b34 : Syntax.Body
-b34 = Syntax.seq b16 b33
+b34 = Syntax.seq b18 b33
 
 abbrev b35 : Syntax.Body
-b35 = Syntax.seq b15 b34
+b35 = Syntax.seq b17 b34
 
 abbrev b36 : Syntax.Body
-b36 = Syntax.seq b14 b35
+b36 = Syntax.seq b16 b35
 
 abbrev b37 : Syntax.Body
-b37 = Syntax.seq b9 b36
+b37 = Syntax.seq b15 b36
 
 abbrev b38 : Syntax.Body
-b38 = Syntax.seq b8 b37
+b38 = Syntax.seq b10 b37
 
 abbrev b39 : Syntax.Body
-b39 = Syntax.seq b5 b38
+b39 = Syntax.seq b9 b38
 
 abbrev b40 : Syntax.Body
-b40 = Syntax.loop b39
+b40 = Syntax.seq b6 b39
 
 abbrev b41 : Syntax.Body
-b41 = Syntax.block b40
+b41 = Syntax.loop b40
 
 abbrev b42 : Syntax.Body
-b42 = Syntax.assign (Syntax.place 0 List.[]) (Syntax.rvOpd (Syntax.copy (Syntax.place 9 List.[])))
+b42 = Syntax.block b41
 
 abbrev b43 : Syntax.Body
-b43 = Syntax.return
+b43 = Syntax.assign (Syntax.place 0 List.[]) (Syntax.rvOpd (Syntax.copy (Syntax.place 10 List.[])))
 
 abbrev b44 : Syntax.Body
-b44 = Syntax.seq b42 b43
+b44 = Syntax.return
 
 abbrev b45 : Syntax.Body
-b45 = Syntax.seq b41 b44
+b45 = Syntax.seq b43 b44
 
 abbrev b46 : Syntax.Body
-b46 = Syntax.seq b4 b45
+b46 = Syntax.seq b42 b45
 
 abbrev b47 : Syntax.Body
-b47 = Syntax.seq b3 b46
+b47 = Syntax.seq b5 b46
 
 abbrev b48 : Syntax.Body
-b48 = Syntax.seq b2 b47
+b48 = Syntax.seq b4 b47
 
 abbrev b49 : Syntax.Body
-b49 = Syntax.seq b1 b48
+b49 = Syntax.seq b3 b48
 
 abbrev b50 : Syntax.Body
-b50 = Syntax.seq b0 b49
+b50 = Syntax.seq b2 b49
+
+abbrev b51 : Syntax.Body
+b51 = Syntax.seq b1 b50
+
+abbrev b52 : Syntax.Body
+b52 = Syntax.seq b0 b51
 
 abbrev pub body : Syntax.Body
-body = b50
+body = b52
 
 abbrev pub Claims : Type 1
 Claims = Kinds.In 0 ps·0 × Kinds.Out 0 ps·0 r·0 × Kinds.In 3 ps·1 × Kinds.Out 3 ps·1 r·1 × Kinds.In 1 ps·2 × Kinds.Out
     1 ps·2 r·2
 
 abbrev e0 : Row.Entry
-e0 = (0, Rows.any-gone Laws'.mir)
+e0 = (0, Rows.any-gone Laws''.mir)
 
 abbrev e1 : Row.Entry
 e1 = (1, Mut.mslice RelayPending.row ref4 0)
@@ -342,142 +358,148 @@ abbrev e3 : Row.Entry
 e3 = (3, Mut.mslice (Referent.rtF (Referent.fInt Syntax.w32)) ref6 2)
 
 abbrev e4 : Row.Entry
-e4 = (4, Rows.whole (Declared.row Sending.the-type))
+e4 = (4, Rows.whole (Declared'.row Sending.the-type))
 
 abbrev e5 : Row.Entry
-e5 = (5, Rows.whole (Declared.row Revoking.the-type))
+e5 = (5, Rows.whole (Declared'.row Revoking.the-type))
 
 abbrev e6 : Row.Entry
-e6 = (6, Rows.whole (Declared.row Walked.the-type))
+e6 = (6, Rows.whole (Declared'.row Walked.the-type))
 
 abbrev e7 : Row.Entry
-e7 = (7, Rows.any-gone Laws'''.mir)
+e7 = (7, Rows.any-gone Laws''''.mir)
 
 abbrev e8 : Row.Entry
-e8 = (8, Rows.any-gone (Syntax.tyInt Syntax.w64))
+e8 = (8, Rows.any-gone Laws'.mir)
 
 abbrev e9 : Row.Entry
-e9 = (9, Rows.any-gone Laws'.mir)
+e9 = (9, Rows.any-gone (Syntax.tyInt Syntax.w64))
 
 abbrev e10 : Row.Entry
-e10 = (10, Rows.any-gone Laws''''.mir)
+e10 = (10, Rows.any-gone Laws''.mir)
 
 abbrev e11 : Row.Entry
-e11 = (11, Rows.any-gone (Syntax.tyInt Syntax.w64))
+e11 = (11, Rows.any-gone Laws'''''.mir)
 
 abbrev e12 : Row.Entry
-e12 = (12, Rows.any-gone Syntax.tyBool)
+e12 = (12, Rows.any-gone (Syntax.tyInt Syntax.w64))
 
 abbrev e13 : Row.Entry
 e13 = (13, Rows.any-gone Syntax.tyBool)
 
 abbrev e14 : Row.Entry
-e14 = (14, Rows.any-gone ref0)
+e14 = (14, Rows.any-gone Syntax.tyBool)
 
 abbrev e15 : Row.Entry
-e15 = (15, Rows.any-gone slice0)
+e15 = (15, Rows.any-gone ref0)
 
 abbrev e16 : Row.Entry
-e16 = (16, Rows.any-gone ref1)
+e16 = (16, Rows.any-gone slice0)
 
 abbrev e17 : Row.Entry
-e17 = (17, Rows.any-gone slice1)
+e17 = (17, Rows.any-gone ref1)
 
 abbrev e18 : Row.Entry
-e18 = (18, Rows.any-gone ref2)
+e18 = (18, Rows.any-gone slice1)
 
 abbrev e19 : Row.Entry
-e19 = (19, Rows.any-gone slice2)
+e19 = (19, Rows.any-gone ref2)
 
 abbrev e20 : Row.Entry
-e20 = (20, Rows.any-gone ref3)
+e20 = (20, Rows.any-gone slice2)
 
 abbrev e21 : Row.Entry
-e21 = (21, Rows.any-gone slice3)
+e21 = (21, Rows.any-gone ref3)
+
+abbrev e22 : Row.Entry
+e22 = (22, Rows.any-gone slice3)
 
 abbrev e0·1 : Row.Entry
-e0·1 = (0, Rows.whole (Declared.row Sending.the-type))
+e0·1 = (0, Rows.whole (Declared'.row Sending.the-type))
 
 abbrev e4·1 : Row.Entry
-e4·1 = (4, Rows.any-gone Laws'.mir)
+e4·1 = (4, Rows.any-gone Laws''.mir)
 
 abbrev e5·1 : Row.Entry
 e5·1 = (5, Rows.any-gone Laws.mir)
 
 abbrev e6·1 : Row.Entry
-e6·1 = (6, Rows.any-gone Laws''''.mir)
+e6·1 = (6, Rows.any-gone Laws'''''.mir)
 
 abbrev e7·1 : Row.Entry
-e7·1 = (7, Rows.whole (Declared.row Question.the-type))
+e7·1 = (7, Rows.whole (Declared.row RecordQuestion.the-type))
 
 abbrev e8·1 : Row.Entry
-e8·1 = (8, Rows.sc-here (Row.sInt Syntax.w64))
+e8·1 = (8, Rows.whole (Declared'.row HnsrPeerId.the-type))
 
 abbrev e9·1 : Row.Entry
-e9·1 = (9, Rows.whole (Declared.row Sending.the-type))
+e9·1 = (9, Rows.sc-here (Row.sInt Syntax.w64))
 
 abbrev e10·1 : Row.Entry
-e10·1 = (10, Rows.whole (Declared.row Walked.the-type))
+e10·1 = (10, Rows.whole (Declared'.row Sending.the-type))
 
 abbrev e11·1 : Row.Entry
-e11·1 = (11, Rows.sc-here (Row.sInt Syntax.w64))
+e11·1 = (11, Rows.whole (Declared'.row Walked.the-type))
 
 abbrev e12·1 : Row.Entry
-e12·1 = (12, Rows.sc-here Row.sBool)
+e12·1 = (12, Rows.sc-here (Row.sInt Syntax.w64))
 
 abbrev e13·1 : Row.Entry
 e13·1 = (13, Rows.sc-here Row.sBool)
 
+abbrev e14·1 : Row.Entry
+e14·1 = (14, Rows.sc-here Row.sBool)
+
 abbrev e1·1 : Row.Entry
 e1·1 = (1, Relend.mslice-owed RelayPending.row ref4 0 3 Row.off)
 
-abbrev e14·1 : Row.Entry
-e14·1 = (14, Relend.msptr RelayPending.row ref0 3)
-
 abbrev e15·1 : Row.Entry
-e15·1 = (15, Mut.mslice RelayPending.row ref0 3)
+e15·1 = (15, Relend.msptr RelayPending.row ref0 3)
+
+abbrev e16·1 : Row.Entry
+e16·1 = (16, Mut.mslice RelayPending.row ref0 3)
 
 abbrev e2·1 : Row.Entry
 e2·1 = (2, Relend.mslice-owed InflightAction.row ref5 1 4 Row.off)
 
-abbrev e16·1 : Row.Entry
-e16·1 = (16, Relend.msptr InflightAction.row ref1 4)
-
 abbrev e17·1 : Row.Entry
-e17·1 = (17, Mut.mslice InflightAction.row ref1 4)
+e17·1 = (17, Relend.msptr InflightAction.row ref1 4)
+
+abbrev e18·1 : Row.Entry
+e18·1 = (18, Mut.mslice InflightAction.row ref1 4)
 
 abbrev e3·1 : Row.Entry
 e3·1 = (3, Relend.mslice-owed (Referent.rtF (Referent.fInt Syntax.w32)) ref6 2 5 Row.off)
 
-abbrev e18·1 : Row.Entry
-e18·1 = (18, Relend.msptr (Referent.rtF (Referent.fInt Syntax.w32)) ref2 5)
-
 abbrev e19·1 : Row.Entry
-e19·1 = (19, Mut.mslice (Referent.rtF (Referent.fInt Syntax.w32)) ref2 5)
+e19·1 = (19, Relend.msptr (Referent.rtF (Referent.fInt Syntax.w32)) ref2 5)
 
-abbrev e15·2 : Row.Entry
-e15·2 = (15, Mut.msleft RelayPending.row ref0)
+abbrev e20·1 : Row.Entry
+e20·1 = (20, Mut.mslice (Referent.rtF (Referent.fInt Syntax.w32)) ref2 5)
 
-abbrev e17·2 : Row.Entry
-e17·2 = (17, Mut.msleft InflightAction.row ref1)
+abbrev e16·2 : Row.Entry
+e16·2 = (16, Mut.msleft RelayPending.row ref0)
 
-abbrev e19·2 : Row.Entry
-e19·2 = (19, Mut.msleft (Referent.rtF (Referent.fInt Syntax.w32)) ref2)
+abbrev e18·2 : Row.Entry
+e18·2 = (18, Mut.msleft InflightAction.row ref1)
+
+abbrev e20·2 : Row.Entry
+e20·2 = (20, Mut.msleft (Referent.rtF (Referent.fInt Syntax.w32)) ref2)
 
 abbrev e1·2 : Row.Entry
 e1·2 = (1, Reshare.mslice-owedS RelayPending.row ref4 0 6 Row.off)
 
-abbrev e20·1 : Row.Entry
-e20·1 = (20, Relend.ssptr RelayPending.row ref3 6)
-
 abbrev e21·1 : Row.Entry
-e21·1 = (21, Rows.sslice RelayPending.row ref3 6)
+e21·1 = (21, Relend.ssptr RelayPending.row ref3 6)
+
+abbrev e22·1 : Row.Entry
+e22·1 = (22, Rows.sslice RelayPending.row ref3 6)
 
 abbrev pub t0 : List.List Row.Entry
 t0 = e0 ∷ e1 ∷ e2 ∷ e3 ∷ e4 ∷ e5 ∷ e6 ∷ e7 ∷ e8 ∷ e9 ∷ e10 ∷ e11 ∷ e12 ∷ e13 ∷ e14 ∷ e15 ∷ List.[]
 
 abbrev pub t1 : List.List Row.Entry
-t1 = e16 ∷ e17 ∷ e18 ∷ e19 ∷ e20 ∷ e21 ∷ List.[]
+t1 = e16 ∷ e17 ∷ e18 ∷ e19 ∷ e20 ∷ e21 ∷ e22 ∷ List.[]
 
 abbrev pub t2 : List.List Row.Entry
 t2 = e0·1 ∷ e1 ∷ e2 ∷ e3 ∷ e4·1 ∷ e5·1 ∷ e6·1 ∷ e7 ∷ e8 ∷ e9 ∷ e10 ∷ e11 ∷ e12 ∷ e13 ∷ e14 ∷ e15 ∷ List.[]
@@ -492,105 +514,116 @@ abbrev pub t5 : List.List Row.Entry
 t5 = e0 ∷ e1 ∷ e2 ∷ e3 ∷ e4 ∷ e5 ∷ e6 ∷ e7·1 ∷ e8·1 ∷ e9·1 ∷ e10 ∷ e11 ∷ e12 ∷ e13 ∷ e14 ∷ e15 ∷ List.[]
 
 abbrev pub t6 : List.List Row.Entry
-t6 = e0 ∷ e1 ∷ e2 ∷ e3 ∷ e4·1 ∷ e5 ∷ e6 ∷ e7·1 ∷ e8·1 ∷ e9·1 ∷ e10 ∷ e11 ∷ e12 ∷ e13 ∷ e14 ∷ e15 ∷ List.[]
+t6 = e0 ∷ e1 ∷ e2 ∷ e3 ∷ e4 ∷ e5 ∷ e6 ∷ e7·1 ∷ e8·1 ∷ e9·1 ∷ e10·1 ∷ e11 ∷ e12 ∷ e13 ∷ e14 ∷ e15 ∷ List.[]
 
 abbrev pub t7 : List.List Row.Entry
 t7 = e0 ∷ e1 ∷ e2 ∷ e3 ∷ e4·1 ∷ e5 ∷ e6 ∷ e7·1 ∷ e8·1 ∷ e9·1 ∷ e10·1 ∷ e11 ∷ e12 ∷ e13 ∷ e14 ∷ e15 ∷ List.[]
 
 abbrev pub t8 : List.List Row.Entry
-t8 = e0 ∷ e1 ∷ e2 ∷ e3 ∷ e4·1 ∷ e5 ∷ e6·1 ∷ e7·1 ∷ e8·1 ∷ e9·1 ∷ e10·1 ∷ e11 ∷ e12 ∷ e13 ∷ e14 ∷ e15 ∷ List.[]
+t8 = e0 ∷ e1 ∷ e2 ∷ e3 ∷ e4·1 ∷ e5 ∷ e6 ∷ e7·1 ∷ e8·1 ∷ e9·1 ∷ e10·1 ∷ e11·1 ∷ e12 ∷ e13 ∷ e14 ∷ e15 ∷ List.[]
 
 abbrev pub t9 : List.List Row.Entry
 t9 = e0 ∷ e1 ∷ e2 ∷ e3 ∷ e4·1 ∷ e5 ∷ e6·1 ∷ e7·1 ∷ e8·1 ∷ e9·1 ∷ e10·1 ∷ e11·1 ∷ e12 ∷ e13 ∷ e14 ∷ e15 ∷ List.[]
 
 abbrev pub t10 : List.List Row.Entry
-t10 = e0 ∷ e1 ∷ e2 ∷ e3 ∷ e4·1 ∷ e5·1 ∷ e6·1 ∷ e7 ∷ e8·1 ∷ e9·1 ∷ e10 ∷ e11·1 ∷ e12 ∷ e13 ∷ e14 ∷ e15 ∷ List.[]
+t10 = e0 ∷ e1 ∷ e2 ∷ e3 ∷ e4·1 ∷ e5 ∷ e6·1 ∷ e7·1 ∷ e8·1 ∷ e9·1 ∷ e10·1 ∷ e11·1 ∷ e12·1 ∷ e13 ∷ e14 ∷ e15 ∷ List.[]
 
 abbrev pub t11 : List.List Row.Entry
-t11 = e0 ∷ e1 ∷ e2 ∷ e3 ∷ e4·1 ∷ e5 ∷ e6·1 ∷ e7·1 ∷ e8·1 ∷ e9·1 ∷ e10·1 ∷ e11·1 ∷ e12·1 ∷ e13 ∷ e14 ∷ e15 ∷ List.[]
+t11 = e0 ∷ e1 ∷ e2 ∷ e3 ∷ e4·1 ∷ e5·1 ∷ e6·1 ∷ e7 ∷ e8 ∷ e9·1 ∷ e10·1 ∷ e11 ∷ e12·1 ∷ e13 ∷ e14 ∷ e15 ∷ List.[]
 
 abbrev pub t12 : List.List Row.Entry
-t12 = e0 ∷ e1 ∷ e2 ∷ e3 ∷ e4·1 ∷ e5·1 ∷ e6·1 ∷ e7·1 ∷ e8·1 ∷ e9·1 ∷ e10·1 ∷ e11·1 ∷ e12·1 ∷ e13 ∷ e14 ∷ e15 ∷ List.[]
+t12 = e0 ∷ e1 ∷ e2 ∷ e3 ∷ e4·1 ∷ e5 ∷ e6·1 ∷ e7·1 ∷ e8·1 ∷ e9·1 ∷ e10·1 ∷ e11·1 ∷ e12·1 ∷ e13·1 ∷ e14 ∷ e15 ∷ List.[]
 
 abbrev pub t13 : List.List Row.Entry
-t13 = e0 ∷ e1 ∷ e2 ∷ e3 ∷ e4·1 ∷ e5·1 ∷ e6·1 ∷ e7 ∷ e8·1 ∷ e9·1 ∷ e10·1 ∷ e11·1 ∷ e12·1 ∷ e13 ∷ e14 ∷ e15 ∷ List.[]
+t13 = e0 ∷ e1 ∷ e2 ∷ e3 ∷ e4·1 ∷ e5·1 ∷ e6·1 ∷ e7·1 ∷ e8·1 ∷ e9·1 ∷ e10·1 ∷ e11·1 ∷ e12·1 ∷ e13·1 ∷ e14 ∷ e15 ∷ List.[]
 
 abbrev pub t14 : List.List Row.Entry
-t14 = e0 ∷ e1 ∷ e2 ∷ e3 ∷ e4·1 ∷ e5·1 ∷ e6·1 ∷ e7 ∷ e8·1 ∷ e9·1 ∷ e10 ∷ e11·1 ∷ e12·1 ∷ e13 ∷ e14 ∷ e15 ∷ List.[]
+t14 = e0 ∷ e1 ∷ e2 ∷ e3 ∷ e4·1 ∷ e5·1 ∷ e6·1 ∷ e7 ∷ e8·1 ∷ e9·1 ∷ e10·1 ∷ e11·1 ∷ e12·1 ∷ e13·1 ∷ e14 ∷ e15 ∷ List.[]
 
 abbrev pub t15 : List.List Row.Entry
-t15 = e0 ∷ e1 ∷ e2 ∷ e3 ∷ e4·1 ∷ e5 ∷ e6·1 ∷ e7·1 ∷ e8·1 ∷ e9·1 ∷ e10·1 ∷ e11·1 ∷ e12 ∷ e13·1 ∷ e14 ∷ e15 ∷ List.[]
+t15 = e0 ∷ e1 ∷ e2 ∷ e3 ∷ e4·1 ∷ e5·1 ∷ e6·1 ∷ e7 ∷ e8 ∷ e9·1 ∷ e10·1 ∷ e11·1 ∷ e12·1 ∷ e13·1 ∷ e14 ∷ e15 ∷ List.[]
 
 abbrev pub t16 : List.List Row.Entry
-t16 = e0 ∷ e1 ∷ e2 ∷ e3 ∷ e4·1 ∷ e5·1 ∷ e6·1 ∷ e7·1 ∷ e8·1 ∷ e9·1 ∷ e10·1 ∷ e11·1 ∷ e12 ∷ e13·1 ∷ e14 ∷ e15 ∷ List.[]
+t16 = e0 ∷ e1 ∷ e2 ∷ e3 ∷ e4·1 ∷ e5·1 ∷ e6·1 ∷ e7 ∷ e8 ∷ e9·1 ∷ e10·1 ∷ e11 ∷ e12·1 ∷ e13·1 ∷ e14 ∷ e15 ∷ List.[]
 
 abbrev pub t17 : List.List Row.Entry
-t17 = e0 ∷ e1 ∷ e2 ∷ e3 ∷ e4·1 ∷ e5·1 ∷ e6·1 ∷ e7 ∷ e8·1 ∷ e9·1 ∷ e10·1 ∷ e11·1 ∷ e12 ∷ e13·1 ∷ e14 ∷ e15 ∷ List.[]
+t17 = e0 ∷ e1 ∷ e2 ∷ e3 ∷ e4·1 ∷ e5 ∷ e6·1 ∷ e7·1 ∷ e8·1 ∷ e9·1 ∷ e10·1 ∷ e11·1 ∷ e12·1 ∷ e13 ∷ e14·1 ∷ e15 ∷ List.[]
 
 abbrev pub t18 : List.List Row.Entry
-t18 = e0 ∷ e1 ∷ e2 ∷ e3 ∷ e4·1 ∷ e5·1 ∷ e6·1 ∷ e7 ∷ e8·1 ∷ e9·1 ∷ e10 ∷ e11·1 ∷ e12 ∷ e13·1 ∷ e14 ∷ e15 ∷ List.[]
+t18 = e0 ∷ e1 ∷ e2 ∷ e3 ∷ e4·1 ∷ e5·1 ∷ e6·1 ∷ e7·1 ∷ e8·1 ∷ e9·1 ∷ e10·1 ∷ e11·1 ∷ e12·1 ∷ e13 ∷ e14·1 ∷ e15 ∷ List.[]
 
 abbrev pub t19 : List.List Row.Entry
-t19 = e0·1 ∷ e1 ∷ e2 ∷ e3 ∷ e4·1 ∷ e5·1 ∷ e6·1 ∷ e7 ∷ e8·1 ∷ e9·1 ∷ e10 ∷ e11·1 ∷ e12 ∷ e13 ∷ e14 ∷ e15 ∷ List.[]
+t19 = e0 ∷ e1 ∷ e2 ∷ e3 ∷ e4·1 ∷ e5·1 ∷ e6·1 ∷ e7 ∷ e8·1 ∷ e9·1 ∷ e10·1 ∷ e11·1 ∷ e12·1 ∷ e13 ∷ e14·1 ∷ e15 ∷ List.[]
 
 abbrev pub t20 : List.List Row.Entry
-t20 = e0·1 ∷ e1 ∷ e2 ∷ e3 ∷ e4·1 ∷ e5·1 ∷ e6·1 ∷ e7 ∷ e8·1 ∷ e9 ∷ e10 ∷ e11·1 ∷ e12 ∷ e13 ∷ e14 ∷ e15 ∷ List.[]
+t20 = e0 ∷ e1 ∷ e2 ∷ e3 ∷ e4·1 ∷ e5·1 ∷ e6·1 ∷ e7 ∷ e8 ∷ e9·1 ∷ e10·1 ∷ e11·1 ∷ e12·1 ∷ e13 ∷ e14·1 ∷ e15 ∷ List.[]
 
 abbrev pub t21 : List.List Row.Entry
-t21 = e0·1 ∷ e1 ∷ e2 ∷ e3 ∷ e4·1 ∷ e5·1 ∷ e6·1 ∷ e7 ∷ e8 ∷ e9 ∷ e10 ∷ e11·1 ∷ e12 ∷ e13 ∷ e14 ∷ e15 ∷ List.[]
+t21 = e0 ∷ e1 ∷ e2 ∷ e3 ∷ e4·1 ∷ e5·1 ∷ e6·1 ∷ e7 ∷ e8 ∷ e9·1 ∷ e10·1 ∷ e11 ∷ e12·1 ∷ e13 ∷ e14·1 ∷ e15 ∷ List.[]
 
 abbrev pub t22 : List.List Row.Entry
-t22 = e0 ∷ e1·1 ∷ e2 ∷ e3 ∷ e4·1 ∷ e5 ∷ e6·1 ∷ e7·1 ∷ e8·1 ∷ e9·1 ∷ e10·1 ∷ e11·1 ∷ e12 ∷ e13 ∷ e14·1 ∷ e15 ∷ List.[]
+t22 = e0·1 ∷ e1 ∷ e2 ∷ e3 ∷ e4·1 ∷ e5·1 ∷ e6·1 ∷ e7 ∷ e8 ∷ e9·1 ∷ e10·1 ∷ e11 ∷ e12·1 ∷ e13 ∷ e14 ∷ e15 ∷ List.[]
 
 abbrev pub t23 : List.List Row.Entry
-t23 = e0 ∷ e1·1 ∷ e2 ∷ e3 ∷ e4·1 ∷ e5 ∷ e6·1 ∷ e7·1 ∷ e8·1 ∷ e9·1 ∷ e10·1 ∷ e11·1 ∷ e12 ∷ e13 ∷ e14 ∷ e15·1 ∷ List.[]
+t23 = e0·1 ∷ e1 ∷ e2 ∷ e3 ∷ e4·1 ∷ e5·1 ∷ e6·1 ∷ e7 ∷ e8 ∷ e9·1 ∷ e10 ∷ e11 ∷ e12·1 ∷ e13 ∷ e14 ∷ e15 ∷ List.[]
 
 abbrev pub t24 : List.List Row.Entry
-t24 = e0 ∷ e1·1 ∷ e2·1 ∷ e3 ∷ e4·1 ∷ e5 ∷ e6·1 ∷ e7·1 ∷ e8·1 ∷ e9·1 ∷ e10·1 ∷ e11·1 ∷ e12 ∷ e13 ∷ e14 ∷ e15·1 ∷ List.[]
+t24 = e0·1 ∷ e1 ∷ e2 ∷ e3 ∷ e4·1 ∷ e5·1 ∷ e6·1 ∷ e7 ∷ e8 ∷ e9 ∷ e10 ∷ e11 ∷ e12·1 ∷ e13 ∷ e14 ∷ e15 ∷ List.[]
 
 abbrev pub t25 : List.List Row.Entry
-t25 = e16·1 ∷ e17 ∷ e18 ∷ e19 ∷ e20 ∷ e21 ∷ List.[]
+t25 = e0 ∷ e1·1 ∷ e2 ∷ e3 ∷ e4·1 ∷ e5 ∷ e6·1 ∷ e7·1 ∷ e8·1 ∷ e9·1 ∷ e10·1 ∷ e11·1 ∷ e12·1 ∷ e13 ∷ e14 ∷ e15·1 ∷ List.[]
 
 abbrev pub t26 : List.List Row.Entry
-t26 = e16 ∷ e17·1 ∷ e18 ∷ e19 ∷ e20 ∷ e21 ∷ List.[]
+t26 = e0 ∷ e1·1 ∷ e2 ∷ e3 ∷ e4·1 ∷ e5 ∷ e6·1 ∷ e7·1 ∷ e8·1 ∷ e9·1 ∷ e10·1 ∷ e11·1 ∷ e12·1 ∷ e13 ∷ e14 ∷ e15 ∷ List.[]
 
 abbrev pub t27 : List.List Row.Entry
-t27 = e0 ∷ e1·1 ∷ e2·1 ∷ e3·1 ∷ e4·1 ∷ e5 ∷ e6·1 ∷ e7·1 ∷ e8·1 ∷ e9·1 ∷ e10·1 ∷ e11·1 ∷ e12 ∷ e13 ∷ e14 ∷ e15·1 ∷
-    List.[]
+t27 = e16·1 ∷ e17 ∷ e18 ∷ e19 ∷ e20 ∷ e21 ∷ e22 ∷ List.[]
 
 abbrev pub t28 : List.List Row.Entry
-t28 = e16 ∷ e17·1 ∷ e18·1 ∷ e19 ∷ e20 ∷ e21 ∷ List.[]
+t28 = e0 ∷ e1·1 ∷ e2·1 ∷ e3 ∷ e4·1 ∷ e5 ∷ e6·1 ∷ e7·1 ∷ e8·1 ∷ e9·1 ∷ e10·1 ∷ e11·1 ∷ e12·1 ∷ e13 ∷ e14 ∷ e15 ∷ List.[]
 
 abbrev pub t29 : List.List Row.Entry
-t29 = e16 ∷ e17·1 ∷ e18 ∷ e19·1 ∷ e20 ∷ e21 ∷ List.[]
+t29 = e16·1 ∷ e17·1 ∷ e18 ∷ e19 ∷ e20 ∷ e21 ∷ e22 ∷ List.[]
 
 abbrev pub t30 : List.List Row.Entry
-t30 = e0 ∷ e1·1 ∷ e2·1 ∷ e3·1 ∷ e4·1 ∷ e5 ∷ e6·1 ∷ e7·1 ∷ e8·1 ∷ e9·1 ∷ e10·1 ∷ e11·1 ∷ e12 ∷ e13 ∷ e14 ∷ e15·2 ∷
-    List.[]
+t30 = e16·1 ∷ e17 ∷ e18·1 ∷ e19 ∷ e20 ∷ e21 ∷ e22 ∷ List.[]
 
 abbrev pub t31 : List.List Row.Entry
-t31 = e16 ∷ e17·2 ∷ e18 ∷ e19·2 ∷ e20 ∷ e21 ∷ List.[]
+t31 = e0 ∷ e1·1 ∷ e2·1 ∷ e3·1 ∷ e4·1 ∷ e5 ∷ e6·1 ∷ e7·1 ∷ e8·1 ∷ e9·1 ∷ e10·1 ∷ e11·1 ∷ e12·1 ∷ e13 ∷ e14 ∷ e15 ∷
+    List.[]
 
 abbrev pub t32 : List.List Row.Entry
-t32 = e0 ∷ e1 ∷ e2·1 ∷ e3·1 ∷ e4·1 ∷ e5 ∷ e6·1 ∷ e7·1 ∷ e8·1 ∷ e9·1 ∷ e10·1 ∷ e11·1 ∷ e12 ∷ e13 ∷ e14 ∷ e15 ∷ List.[]
+t32 = e16·1 ∷ e17 ∷ e18·1 ∷ e19·1 ∷ e20 ∷ e21 ∷ e22 ∷ List.[]
 
 abbrev pub t33 : List.List Row.Entry
-t33 = e0 ∷ e1 ∷ e2 ∷ e3·1 ∷ e4·1 ∷ e5 ∷ e6·1 ∷ e7·1 ∷ e8·1 ∷ e9·1 ∷ e10·1 ∷ e11·1 ∷ e12 ∷ e13 ∷ e14 ∷ e15 ∷ List.[]
+t33 = e16·1 ∷ e17 ∷ e18·1 ∷ e19 ∷ e20·1 ∷ e21 ∷ e22 ∷ List.[]
 
 abbrev pub t34 : List.List Row.Entry
-t34 = e16 ∷ e17 ∷ e18 ∷ e19·2 ∷ e20 ∷ e21 ∷ List.[]
+t34 = e16·2 ∷ e17 ∷ e18·2 ∷ e19 ∷ e20·2 ∷ e21 ∷ e22 ∷ List.[]
 
 abbrev pub t35 : List.List Row.Entry
-t35 = e0 ∷ e1·2 ∷ e2 ∷ e3 ∷ e4·1 ∷ e5 ∷ e6·1 ∷ e7·1 ∷ e8·1 ∷ e9·1 ∷ e10·1 ∷ e11·1 ∷ e12 ∷ e13 ∷ e14 ∷ e15 ∷ List.[]
+t35 = e0 ∷ e1 ∷ e2·1 ∷ e3·1 ∷ e4·1 ∷ e5 ∷ e6·1 ∷ e7·1 ∷ e8·1 ∷ e9·1 ∷ e10·1 ∷ e11·1 ∷ e12·1 ∷ e13 ∷ e14 ∷ e15 ∷ List.[]
 
 abbrev pub t36 : List.List Row.Entry
-t36 = e16 ∷ e17 ∷ e18 ∷ e19 ∷ e20·1 ∷ e21 ∷ List.[]
+t36 = e16 ∷ e17 ∷ e18·2 ∷ e19 ∷ e20·2 ∷ e21 ∷ e22 ∷ List.[]
 
 abbrev pub t37 : List.List Row.Entry
-t37 = e16 ∷ e17 ∷ e18 ∷ e19 ∷ e20 ∷ e21·1 ∷ List.[]
+t37 = e0 ∷ e1 ∷ e2 ∷ e3·1 ∷ e4·1 ∷ e5 ∷ e6·1 ∷ e7·1 ∷ e8·1 ∷ e9·1 ∷ e10·1 ∷ e11·1 ∷ e12·1 ∷ e13 ∷ e14 ∷ e15 ∷ List.[]
 
 abbrev pub t38 : List.List Row.Entry
-t38 = e0·1 ∷ e1 ∷ e2 ∷ e3 ∷ e4·1 ∷ e5·1 ∷ e6·1 ∷ e7 ∷ e8 ∷ e9·1 ∷ e10 ∷ e11·1 ∷ e12 ∷ e13 ∷ e14 ∷ e15 ∷ List.[]
+t38 = e16 ∷ e17 ∷ e18 ∷ e19 ∷ e20·2 ∷ e21 ∷ e22 ∷ List.[]
+
+abbrev pub t39 : List.List Row.Entry
+t39 = e0 ∷ e1·2 ∷ e2 ∷ e3 ∷ e4·1 ∷ e5 ∷ e6·1 ∷ e7·1 ∷ e8·1 ∷ e9·1 ∷ e10·1 ∷ e11·1 ∷ e12·1 ∷ e13 ∷ e14 ∷ e15 ∷ List.[]
+
+abbrev pub t40 : List.List Row.Entry
+t40 = e16 ∷ e17 ∷ e18 ∷ e19 ∷ e20 ∷ e21·1 ∷ e22 ∷ List.[]
+
+abbrev pub t41 : List.List Row.Entry
+t41 = e16 ∷ e17 ∷ e18 ∷ e19 ∷ e20 ∷ e21 ∷ e22·1 ∷ List.[]
+
+abbrev pub t42 : List.List Row.Entry
+t42 = e0·1 ∷ e1 ∷ e2 ∷ e3 ∷ e4·1 ∷ e5·1 ∷ e6·1 ∷ e7 ∷ e8 ∷ e9 ∷ e10·1 ∷ e11 ∷ e12·1 ∷ e13 ∷ e14 ∷ e15 ∷ List.[]
 
 abbrev pub T0 : Row.Cx
 T0 = record { locals = List._++_ t0 t1; slots = List.[] }
@@ -629,13 +662,13 @@ abbrev pub T11 : Row.Cx
 T11 = record { locals = List._++_ t11 t1; slots = List.[] }
 
 abbrev pub T12 : Row.Cx
-T12 = record { locals = List._++_ t9 t1; slots = List.[] }
+T12 = record { locals = List._++_ t12 t1; slots = List.[] }
 
 abbrev pub T13 : Row.Cx
-T13 = record { locals = List._++_ t9 t1; slots = List.[] }
+T13 = record { locals = List._++_ t10 t1; slots = List.[] }
 
 abbrev pub T14 : Row.Cx
-T14 = record { locals = List._++_ t12 t1; slots = List.[] }
+T14 = record { locals = List._++_ t10 t1; slots = List.[] }
 
 abbrev pub T15 : Row.Cx
 T15 = record { locals = List._++_ t13 t1; slots = List.[] }
@@ -644,338 +677,364 @@ abbrev pub T16 : Row.Cx
 T16 = record { locals = List._++_ t14 t1; slots = List.[] }
 
 abbrev pub T17 : Row.Cx
-T17 = record { locals = List._++_ t10 t1; slots = List.[] }
+T17 = record { locals = List._++_ t15 t1; slots = List.[] }
 
 abbrev pub T18 : Row.Cx
-T18 = record { locals = List._++_ t15 t1; slots = List.[] }
+T18 = record { locals = List._++_ t16 t1; slots = List.[] }
 
 abbrev pub T19 : Row.Cx
-T19 = record { locals = List._++_ t9 t1; slots = List.[] }
+T19 = record { locals = List._++_ t11 t1; slots = List.[] }
 
 abbrev pub T20 : Row.Cx
-T20 = record { locals = List._++_ t16 t1; slots = List.[] }
+T20 = record { locals = List._++_ t17 t1; slots = List.[] }
 
 abbrev pub T21 : Row.Cx
-T21 = record { locals = List._++_ t17 t1; slots = List.[] }
+T21 = record { locals = List._++_ t10 t1; slots = List.[] }
 
 abbrev pub T22 : Row.Cx
 T22 = record { locals = List._++_ t18 t1; slots = List.[] }
 
 abbrev pub T23 : Row.Cx
-T23 = record { locals = List._++_ t10 t1; slots = List.[] }
+T23 = record { locals = List._++_ t19 t1; slots = List.[] }
 
 abbrev pub T24 : Row.Cx
-T24 = record { locals = List._++_ t19 t1; slots = List.[] }
+T24 = record { locals = List._++_ t20 t1; slots = List.[] }
 
 abbrev pub T25 : Row.Cx
-T25 = record { locals = List._++_ t20 t1; slots = List.[] }
+T25 = record { locals = List._++_ t21 t1; slots = List.[] }
 
 abbrev pub T26 : Row.Cx
-T26 = record { locals = List._++_ t21 t1; slots = List.[] }
+T26 = record { locals = List._++_ t11 t1; slots = List.[] }
 
 abbrev pub T27 : Row.Cx
-T27 = record { locals = List._++_ t2 t1; slots = List.[] }
+T27 = record { locals = List._++_ t22 t1; slots = List.[] }
 
 abbrev pub T28 : Row.Cx
-T28 = record { locals = List._++_ t9 t1; slots = List.[] }
+T28 = record { locals = List._++_ t23 t1; slots = List.[] }
+
+abbrev pub T29 : Row.Cx
+T29 = record { locals = List._++_ t24 t1; slots = List.[] }
 
 abbrev pub T30 : Row.Cx
-T30 = record { locals = List._++_ t22 t1; slots = List.[] }
+T30 = record { locals = List._++_ t2 t1; slots = List.[] }
 
 abbrev pub T31 : Row.Cx
-T31 = record { locals = List._++_ t23 t1; slots = List.[] }
+T31 = record { locals = List._++_ t10 t1; slots = List.[] }
 
 abbrev pub T33 : Row.Cx
-T33 = record { locals = List._++_ t24 t25; slots = List.[] }
+T33 = record { locals = List._++_ t25 t1; slots = List.[] }
 
 abbrev pub T34 : Row.Cx
-T34 = record { locals = List._++_ t24 t26; slots = List.[] }
+T34 = record { locals = List._++_ t26 t27; slots = List.[] }
 
 abbrev pub T36 : Row.Cx
-T36 = record { locals = List._++_ t27 t28; slots = List.[] }
+T36 = record { locals = List._++_ t28 t29; slots = List.[] }
 
 abbrev pub T37 : Row.Cx
-T37 = record { locals = List._++_ t27 t29; slots = List.[] }
+T37 = record { locals = List._++_ t28 t30; slots = List.[] }
 
-abbrev pub T38 : Row.Cx
-T38 = record { locals = List._++_ t30 t31; slots = List.[] }
+abbrev pub T39 : Row.Cx
+T39 = record { locals = List._++_ t31 t32; slots = List.[] }
 
 abbrev pub T40 : Row.Cx
-T40 = record { locals = List._++_ t32 t31; slots = List.[] }
+T40 = record { locals = List._++_ t31 t33; slots = List.[] }
+
+abbrev pub T41 : Row.Cx
+T41 = record { locals = List._++_ t31 t34; slots = List.[] }
 
 abbrev pub T43 : Row.Cx
-T43 = record { locals = List._++_ t33 t34; slots = List.[] }
+T43 = record { locals = List._++_ t35 t36; slots = List.[] }
 
 abbrev pub T46 : Row.Cx
-T46 = record { locals = List._++_ t9 t1; slots = List.[] }
+T46 = record { locals = List._++_ t37 t38; slots = List.[] }
 
-abbrev pub T47 : Row.Cx
-T47 = record { locals = List._++_ t9 t1; slots = List.[] }
+abbrev pub T49 : Row.Cx
+T49 = record { locals = List._++_ t10 t1; slots = List.[] }
 
 abbrev pub T50 : Row.Cx
-T50 = record { locals = List._++_ t35 t36; slots = List.[] }
-
-abbrev pub T51 : Row.Cx
-T51 = record { locals = List._++_ t35 t37; slots = List.[] }
-
-abbrev pub T52 : Row.Cx
-T52 = record { locals = List._++_ t35 t37; slots = List.[] }
+T50 = record { locals = List._++_ t10 t1; slots = List.[] }
 
 abbrev pub T53 : Row.Cx
-T53 = record { locals = List._++_ t35 t1; slots = List.[] }
+T53 = record { locals = List._++_ t39 t40; slots = List.[] }
+
+abbrev pub T54 : Row.Cx
+T54 = record { locals = List._++_ t39 t41; slots = List.[] }
 
 abbrev pub T55 : Row.Cx
-T55 = record { locals = List._++_ t9 t1; slots = List.[] }
+T55 = record { locals = List._++_ t39 t41; slots = List.[] }
 
-abbrev pub T57 : Row.Cx
-T57 = record { locals = List._++_ t9 t1; slots = List.[] }
+abbrev pub T56 : Row.Cx
+T56 = record { locals = List._++_ t39 t1; slots = List.[] }
 
 abbrev pub T58 : Row.Cx
-T58 = record { locals = List._++_ t19 t1; slots = List.[] }
-
-abbrev pub T59 : Row.Cx
-T59 = record { locals = List._++_ t38 t1; slots = List.[] }
+T58 = record { locals = List._++_ t10 t1; slots = List.[] }
 
 abbrev pub T60 : Row.Cx
-T60 = record { locals = List._++_ t21 t1; slots = List.[] }
+T60 = record { locals = List._++_ t10 t1; slots = List.[] }
 
 abbrev pub T61 : Row.Cx
-T61 = record { locals = List._++_ t2 t1; slots = List.[] }
+T61 = record { locals = List._++_ t22 t1; slots = List.[] }
+
+abbrev pub T62 : Row.Cx
+T62 = record { locals = List._++_ t42 t1; slots = List.[] }
+
+abbrev pub T63 : Row.Cx
+T63 = record { locals = List._++_ t24 t1; slots = List.[] }
+
+abbrev pub T64 : Row.Cx
+T64 = record { locals = List._++_ t2 t1; slots = List.[] }
 
 abbrev pub O0 : Typed.Outs
 O0 = record { next = Option.none; exits = List.[]; returns = Option.some T1 }
 
 abbrev pub O1 : Typed.Outs
-O1 = Typed.withNext (Option.some T10) O0
+O1 = Typed.withNext (Option.some T11) O0
 
 abbrev pub O2 : Typed.Outs
 O2 = Typed.inBlock₀ O1
 
 abbrev pub O3 : Typed.Outs
-O3 = Typed.inLoop₀ T9 O2
+O3 = Typed.inLoop₀ T10 O2
 
 abbrev pub O4 : Typed.Outs
-O4 = Typed.withNext (Option.some T12) O3
+O4 = Typed.withNext (Option.some T13) O3
 
 abbrev pub O5 : Typed.Outs
-O5 = Typed.withNext (Option.some T19) O3
+O5 = Typed.withNext (Option.some T21) O3
 
 abbrev pub InvT-loop : Type 1
 InvT-loop = List.List (RelayPending.row .Denot) → List.List (InflightAction.row .Denot) → List.List
-    (Referent.rtF (Referent.fInt Syntax.w32) .Denot) → Rows.whole (Declared.row Revoking.the-type) .Mod → Rows.whole
-    (Declared.row Question.the-type) .Mod → Rows.sc-here (Row.sInt Syntax.w64) .Mod → Rows.whole
-    (Declared.row Sending.the-type) .Mod → Rows.whole (Declared.row Walked.the-type) .Mod → Rows.sc-here
-    (Row.sInt Syntax.w64) .Mod → List.List (RelayPending.row .Denot) → List.List (InflightAction.row .Denot) →
-    List.List (Referent.rtF (Referent.fInt Syntax.w32) .Denot) → Rows.whole (Declared.row Sending.the-type) .Mod →
-    Rows.whole (Declared.row Walked.the-type) .Mod → Rows.sc-here (Row.sInt Syntax.w64) .Mod → Type 0
+    (Referent.rtF (Referent.fInt Syntax.w32) .Denot) → Rows.whole (Declared'.row Revoking.the-type) .Mod → Rows.whole
+    (Declared.row RecordQuestion.the-type) .Mod → Rows.whole (Declared'.row HnsrPeerId.the-type) .Mod → Rows.sc-here
+    (Row.sInt Syntax.w64) .Mod → Rows.whole (Declared'.row Sending.the-type) .Mod → Rows.whole
+    (Declared'.row Walked.the-type) .Mod → Rows.sc-here (Row.sInt Syntax.w64) .Mod → List.List
+    (RelayPending.row .Denot) → List.List (InflightAction.row .Denot) → List.List
+    (Referent.rtF (Referent.fInt Syntax.w32) .Denot) → Rows.whole (Declared'.row Sending.the-type) .Mod → Rows.whole
+    (Declared'.row Walked.the-type) .Mod → Rows.sc-here (Row.sInt Syntax.w64) .Mod → Type 0
 
 abbrev pub MeasureT-loop : Type 0
 MeasureT-loop = List.List (RelayPending.row .Denot) → List.List (InflightAction.row .Denot) → List.List
-    (Referent.rtF (Referent.fInt Syntax.w32) .Denot) → Rows.whole (Declared.row Revoking.the-type) .Mod → Rows.whole
-    (Declared.row Question.the-type) .Mod → Rows.sc-here (Row.sInt Syntax.w64) .Mod → Rows.whole
-    (Declared.row Sending.the-type) .Mod → Rows.whole (Declared.row Walked.the-type) .Mod → Rows.sc-here
-    (Row.sInt Syntax.w64) .Mod → List.List (RelayPending.row .Denot) → List.List (InflightAction.row .Denot) →
-    List.List (Referent.rtF (Referent.fInt Syntax.w32) .Denot) → Rows.whole (Declared.row Sending.the-type) .Mod →
-    Rows.whole (Declared.row Walked.the-type) .Mod → Rows.sc-here (Row.sInt Syntax.w64) .Mod → Nat.ℕ
+    (Referent.rtF (Referent.fInt Syntax.w32) .Denot) → Rows.whole (Declared'.row Revoking.the-type) .Mod → Rows.whole
+    (Declared.row RecordQuestion.the-type) .Mod → Rows.whole (Declared'.row HnsrPeerId.the-type) .Mod → Rows.sc-here
+    (Row.sInt Syntax.w64) .Mod → Rows.whole (Declared'.row Sending.the-type) .Mod → Rows.whole
+    (Declared'.row Walked.the-type) .Mod → Rows.sc-here (Row.sInt Syntax.w64) .Mod → List.List
+    (RelayPending.row .Denot) → List.List (InflightAction.row .Denot) → List.List
+    (Referent.rtF (Referent.fInt Syntax.w32) .Denot) → Rows.whole (Declared'.row Sending.the-type) .Mod → Rows.whole
+    (Declared'.row Walked.the-type) .Mod → Rows.sc-here (Row.sInt Syntax.w64) .Mod → Nat.ℕ
 
 module _ (claims· : Claims) where
   abbrev s0 : (bs : List.List Nat.ℕ) → Typed.Gives T0 T2
   s0 = λ bs. Know.k-sl-known (Referent.fInt Syntax.w32) T0 3 2 ref6 Row.off 0 λ x. x
 
-  abbrev s1 : (bs : List.List Nat.ℕ) → Typed.Both T2 T3
-  s1 = λ bs. WayStmt.k-way-copy-out T2 (Row.out 5 (T2 .locals)) (λ u. Row.drop 5 (T2 .locals) u) 7
-      (Rows.whole (Declared.row Question.the-type)) (λ u. At.getAt (Revoking.the-type .parts) 0
-      (Revoking.struct .as-values (u .1 .1 .1 .1 .1 .0))) (λ T′.
-      record { locals = Row.setRow 5 (5, Rows.whole (Declared.row Revoking.the-type)) T′; slots = List.[] }) (λ u T′
-      m′. Row.set 5 (5, Rows.whole (Declared.row Revoking.the-type)) (u .1 .1 .1 .1 .1 .0) T′ m′) (λ u. Unit) λ u. Unit
+  abbrev s1 : (bs : List.List Nat.ℕ) → Typed.Mo T2 → Typed.Mo T3
+  s1 = λ bs. Make.n-make (Declared.row RecordQuestion.the-type) T2 7 λ m. Revoking.struct .as-values
+      (m .1 .1 .1 .1 .1 .0) .0
 
-  abbrev s2 : (bs : List.List Nat.ℕ) → Typed.Mo T3 → Typed.Mo T4
-  s2 = λ bs. Scalar.n-use T3 (Scalar.oFld 1 ((Syntax.field 1) ∷ List.[]) (Syntax.tyInt Syntax.w64) 8 Shared.lenV) 8
-      (Rows.sc-here (Row.sInt Syntax.w64)) (Row.sInt Syntax.w64 .of)
+  abbrev s2 : (bs : List.List Nat.ℕ) → Typed.Both T3 T4
+  s2 = λ bs. WayStmt.k-way-copy-out T3 (Row.out 5 (T3 .locals)) (λ u. Row.drop 5 (T3 .locals) u) 8
+      (Rows.whole (Declared'.row HnsrPeerId.the-type)) (λ u. At.getAt (Revoking.the-type .parts) 1
+      (Revoking.struct .as-values (u .1 .1 .1 .1 .1 .0))) (λ T′.
+      record { locals = Row.setRow 5 (5, Rows.whole (Declared'.row Revoking.the-type)) T′; slots = List.[] }) (λ u T′
+      m′. Row.set 5 (5, Rows.whole (Declared'.row Revoking.the-type)) (u .1 .1 .1 .1 .1 .0) T′ m′) (λ u. Unit) λ u.
+      Unit
 
   abbrev s3 : (bs : List.List Nat.ℕ) → Typed.Mo T4 → Typed.Mo T5
-  s3 = λ bs. LocalCopy.n-val-copy T4 4 9 (Declared.row Sending.the-type) (Rows.whole (Declared.row Sending.the-type))
-      (Rows.whole (Declared.row Sending.the-type)) (λ x. x) (λ x. x) λ x. x
+  s3 = λ bs. Scalar.n-use T4 (Scalar.oFld 1 ((Syntax.field 1) ∷ List.[]) (Syntax.tyInt Syntax.w64) 8 Shared.lenV) 9
+      (Rows.sc-here (Row.sInt Syntax.w64)) (Row.sInt Syntax.w64 .of)
 
   abbrev s4 : (bs : List.List Nat.ℕ) → Typed.Mo T5 → Typed.Mo T6
-  s4 = λ bs. Scalar.n-room T5 4 Laws'.mir
+  s4 = λ bs. LocalCopy.n-val-copy T5 4 10 (Declared'.row Sending.the-type)
+      (Rows.whole (Declared'.row Sending.the-type)) (Rows.whole (Declared'.row Sending.the-type)) (λ x. x) (λ x. x) λ
+      x. x
 
   abbrev s5 : (bs : List.List Nat.ℕ) → Typed.Mo T6 → Typed.Mo T7
-  s5 = λ bs. LocalCopy.n-val-copy T6 6 10 (Declared.row Walked.the-type) (Rows.whole (Declared.row Walked.the-type))
-      (Rows.whole (Declared.row Walked.the-type)) (λ x. x) (λ x. x) λ x. x
+  s5 = λ bs. Scalar.n-room T6 4 Laws''.mir
 
   abbrev s6 : (bs : List.List Nat.ℕ) → Typed.Mo T7 → Typed.Mo T8
-  s6 = λ bs. Scalar.n-room T7 6 Laws''''.mir
+  s6 = λ bs. LocalCopy.n-val-copy T7 6 11 (Declared'.row Walked.the-type) (Rows.whole (Declared'.row Walked.the-type))
+      (Rows.whole (Declared'.row Walked.the-type)) (λ x. x) (λ x. x) λ x. x
 
   abbrev s7 : (bs : List.List Nat.ℕ) → Typed.Mo T8 → Typed.Mo T9
-  s7 = λ bs. Scalar.n-use T8 (Scalar.oInt Syntax.w64 0) 11 (Rows.sc-here (Row.sInt Syntax.w64))
+  s7 = λ bs. Scalar.n-room T8 6 Laws'''''.mir
+
+  abbrev s8 : (bs : List.List Nat.ℕ) → Typed.Mo T9 → Typed.Mo T10
+  s8 = λ bs. Scalar.n-use T9 (Scalar.oInt Syntax.w64 0) 12 (Rows.sc-here (Row.sInt Syntax.w64))
       (Row.sInt Syntax.w64 .of)
 
-  abbrev s8 : (bs : List.List Nat.ℕ) → Typed.Asks T9 T11
-  s8 = λ bs. Scalar.k-op2 T9 (Syntax.lt Syntax.unsigned) (Scalar.oAt 11 (Syntax.tyInt Syntax.w64)
-      (Row.valS (Row.sInt Syntax.w64))) (Scalar.oAt 8 (Syntax.tyInt Syntax.w64) (Row.valS (Row.sInt Syntax.w64))) 12
+  abbrev s9 : (bs : List.List Nat.ℕ) → Typed.Asks T10 T12
+  s9 = λ bs. Scalar.k-op2 T10 (Syntax.lt Syntax.unsigned) (Scalar.oAt 12 (Syntax.tyInt Syntax.w64)
+      (Row.valS (Row.sInt Syntax.w64))) (Scalar.oAt 9 (Syntax.tyInt Syntax.w64) (Row.valS (Row.sInt Syntax.w64))) 13
       (Rows.sc-here Row.sBool) (Row.sBool .of)
 
-  abbrev s9 : (bs : List.List Nat.ℕ) → Typed.Mo T11 → Typed.Mo T13
-  s9 = λ bs. Scalar.n-room T11 12 Syntax.tyBool
+  abbrev s10 : (bs : List.List Nat.ℕ) → Typed.Mo T12 → Typed.Mo T14
+  s10 = λ bs. Scalar.n-room T12 13 Syntax.tyBool
 
-  abbrev s10 : (bs : List.List Nat.ℕ) → Typed.Mo T11 → Typed.Mo T14
-  s10 = λ bs. Scalar.n-room T11 5 Laws.mir
-
-  abbrev s11 : (bs : List.List Nat.ℕ) → Typed.Mo T14 → Typed.Mo T15
-  s11 = λ bs. Scalar.n-room T14 7 Laws'''.mir
+  abbrev s11 : (bs : List.List Nat.ℕ) → Typed.Mo T12 → Typed.Mo T15
+  s11 = λ bs. Scalar.n-room T12 5 Laws.mir
 
   abbrev s12 : (bs : List.List Nat.ℕ) → Typed.Mo T15 → Typed.Mo T16
-  s12 = λ bs. Scalar.n-room T15 10 Laws''''.mir
+  s12 = λ bs. Scalar.n-room T15 7 Laws''''.mir
 
   abbrev s13 : (bs : List.List Nat.ℕ) → Typed.Mo T16 → Typed.Mo T17
-  s13 = λ bs. Scalar.n-room T16 12 Syntax.tyBool
+  s13 = λ bs. Scalar.n-room T16 8 Laws'.mir
 
-  abbrev s14 : (bs : List.List Nat.ℕ) → Typed.Both T12 T18
-  s14 = λ bs. Call.callB ps·0 r·0 (claims· .0) (claims· .1) T12 (
-    Bool.bFld 10 ((Syntax.field 0) ∷ List.[]) 0 λ x. Walked.struct .as-values x .0,
+  abbrev s14 : (bs : List.List Nat.ℕ) → Typed.Mo T17 → Typed.Mo T18
+  s14 = λ bs. Scalar.n-room T17 11 Laws'''''.mir
+
+  abbrev s15 : (bs : List.List Nat.ℕ) → Typed.Mo T18 → Typed.Mo T19
+  s15 = λ bs. Scalar.n-room T18 13 Syntax.tyBool
+
+  abbrev s16 : (bs : List.List Nat.ℕ) → Typed.Both T13 T20
+  s16 = λ bs. Call.callB ps·0 r·0 (claims· .0) (claims· .1) T13 (
+    Bool.bFld 11 ((Syntax.field 0) ∷ List.[]) 0 λ x. Walked.struct .as-values x .0,
     tt,
-  ) 13 List.[] Syntax.tyBool
+  ) 14 List.[] Syntax.tyBool
 
-  abbrev s15 : (bs : List.List Nat.ℕ) → Typed.Mo T18 → Typed.Mo T20
-  s15 = λ bs. Scalar.n-room T18 5 Laws.mir
-
-  abbrev s16 : (bs : List.List Nat.ℕ) → Typed.Mo T20 → Typed.Mo T21
-  s16 = λ bs. Scalar.n-room T20 7 Laws'''.mir
-
-  abbrev s17 : (bs : List.List Nat.ℕ) → Typed.Mo T21 → Typed.Mo T22
-  s17 = λ bs. Scalar.n-room T21 10 Laws''''.mir
+  abbrev s17 : (bs : List.List Nat.ℕ) → Typed.Mo T20 → Typed.Mo T22
+  s17 = λ bs. Scalar.n-room T20 5 Laws.mir
 
   abbrev s18 : (bs : List.List Nat.ℕ) → Typed.Mo T22 → Typed.Mo T23
-  s18 = λ bs. Scalar.n-room T22 13 Syntax.tyBool
+  s18 = λ bs. Scalar.n-room T22 7 Laws''''.mir
 
   abbrev s19 : (bs : List.List Nat.ℕ) → Typed.Mo T23 → Typed.Mo T24
-  s19 = λ bs. LocalCopy.n-val-copy T23 9 0 (Declared.row Sending.the-type) (Rows.whole (Declared.row Sending.the-type))
-      (Rows.whole (Declared.row Sending.the-type)) (λ x. x) (λ x. x) λ x. x
+  s19 = λ bs. Scalar.n-room T23 8 Laws'.mir
 
   abbrev s20 : (bs : List.List Nat.ℕ) → Typed.Mo T24 → Typed.Mo T25
-  s20 = λ bs. Scalar.n-room T24 9 Laws'.mir
+  s20 = λ bs. Scalar.n-room T24 11 Laws'''''.mir
 
   abbrev s21 : (bs : List.List Nat.ℕ) → Typed.Mo T25 → Typed.Mo T26
-  s21 = λ bs. Scalar.n-room T25 8 (Syntax.tyInt Syntax.w64)
+  s21 = λ bs. Scalar.n-room T25 14 Syntax.tyBool
 
   abbrev s22 : (bs : List.List Nat.ℕ) → Typed.Mo T26 → Typed.Mo T27
-  s22 = λ bs. Scalar.n-room T26 11 (Syntax.tyInt Syntax.w64)
+  s22 = λ bs. LocalCopy.n-val-copy T26 10 0 (Declared'.row Sending.the-type)
+      (Rows.whole (Declared'.row Sending.the-type)) (Rows.whole (Declared'.row Sending.the-type)) (λ x. x) (λ x. x) λ
+      x. x
 
-  abbrev s23 : (bs : List.List Nat.ℕ) → Typed.Mo T18 → Typed.Mo T28
-  s23 = λ bs. Scalar.n-room T18 13 Syntax.tyBool
+  abbrev s23 : (bs : List.List Nat.ℕ) → Typed.Mo T27 → Typed.Mo T28
+  s23 = λ bs. Scalar.n-room T27 10 Laws''.mir
 
-  abbrev s25 : (bs : List.List Nat.ℕ) → Typed.Gives T19 T30
-  s25 = λ bs. Relend.k-sl-relend RelayPending.row T19 1 14 0 3 ref4 ref0 Row.off λ x. x
+  abbrev s24 : (bs : List.List Nat.ℕ) → Typed.Mo T28 → Typed.Mo T29
+  s24 = λ bs. Scalar.n-room T28 9 (Syntax.tyInt Syntax.w64)
 
-  abbrev s26 : (bs : List.List Nat.ℕ) → Typed.Asks T30 T31
-  s26 = λ bs. Relend.k-sl-aggregate RelayPending.row (Relend.asMut RelayPending.row) T30 14 15 3 ref0 ref0 (λ x. x) (Scalar.oFld
-      1 ((Syntax.field 1) ∷ List.[]) (Syntax.tyInt Syntax.w64) 8 λ v. Shared.lenV (v .0))
+  abbrev s25 : (bs : List.List Nat.ℕ) → Typed.Mo T29 → Typed.Mo T30
+  s25 = λ bs. Scalar.n-room T29 12 (Syntax.tyInt Syntax.w64)
 
-  abbrev s28 : (bs : List.List Nat.ℕ) → Typed.Gives T31 T33
-  s28 = λ bs. Relend.k-sl-relend InflightAction.row T31 2 16 1 4 ref5 ref1 Row.off λ x. x
+  abbrev s26 : (bs : List.List Nat.ℕ) → Typed.Mo T20 → Typed.Mo T31
+  s26 = λ bs. Scalar.n-room T20 14 Syntax.tyBool
+
+  abbrev s28 : (bs : List.List Nat.ℕ) → Typed.Gives T21 T33
+  s28 = λ bs. Relend.k-sl-relend RelayPending.row T21 1 15 0 3 ref4 ref0 Row.off λ x. x
 
   abbrev s29 : (bs : List.List Nat.ℕ) → Typed.Asks T33 T34
-  s29 = λ bs. Relend.k-sl-aggregate InflightAction.row (Relend.asMut InflightAction.row) T33 16 17 4 ref1 ref1 (λ x. x) (Scalar.oFld
-      2 ((Syntax.field 1) ∷ List.[]) (Syntax.tyInt Syntax.w64) 8 λ v. Shared.lenV (v .0))
+  s29 = λ bs. Relend.k-sl-aggregate RelayPending.row (Relend.asMut RelayPending.row) T33 15 16 3 ref0 ref0 (λ x. x) (Scalar.oFld
+      1 ((Syntax.field 1) ∷ List.[]) (Syntax.tyInt Syntax.w64) 8 λ v. Shared.lenV (v .0))
 
   abbrev s31 : (bs : List.List Nat.ℕ) → Typed.Gives T34 T36
-  s31 = λ bs. Relend.k-sl-relend (Referent.rtF (Referent.fInt Syntax.w32)) T34 3 18 2 5 ref6 ref2 Row.off λ x. x
+  s31 = λ bs. Relend.k-sl-relend InflightAction.row T34 2 17 1 4 ref5 ref1 Row.off λ x. x
 
   abbrev s32 : (bs : List.List Nat.ℕ) → Typed.Asks T36 T37
-  s32 = λ bs. Relend.k-sl-aggregate (Referent.rtF (Referent.fInt Syntax.w32))
-      (Relend.asMut (Referent.rtF (Referent.fInt Syntax.w32))) T36 18 19 5 ref2 ref2 (λ x. x) (Scalar.oFld 3
+  s32 = λ bs. Relend.k-sl-aggregate InflightAction.row (Relend.asMut InflightAction.row) T36 17 18 4 ref1 ref1 (λ x. x) (Scalar.oFld
+      2 ((Syntax.field 1) ∷ List.[]) (Syntax.tyInt Syntax.w64) 8 λ v. Shared.lenV (v .0))
+
+  abbrev s34 : (bs : List.List Nat.ℕ) → Typed.Gives T37 T39
+  s34 = λ bs. Relend.k-sl-relend (Referent.rtF (Referent.fInt Syntax.w32)) T37 3 19 2 5 ref6 ref2 Row.off λ x. x
+
+  abbrev s35 : (bs : List.List Nat.ℕ) → Typed.Asks T39 T40
+  s35 = λ bs. Relend.k-sl-aggregate (Referent.rtF (Referent.fInt Syntax.w32))
+      (Relend.asMut (Referent.rtF (Referent.fInt Syntax.w32))) T39 19 20 5 ref2 ref2 (λ x. x) (Scalar.oFld 3
       ((Syntax.field 1) ∷ List.[]) (Syntax.tyInt Syntax.w64) 8 λ v. Shared.lenV (v .0))
 
-  abbrev s33 : (bs : List.List Nat.ℕ) → Typed.Both T37 T38
-  s33 = λ bs. Call.callB ps·1 r·1 (claims· .2) (claims· .3) T37 (
-    record { pos = 15; ty = ref0; ref = λ x. x },
+  abbrev s36 : (bs : List.List Nat.ℕ) → Typed.Both T40 T41
+  s36 = λ bs. Call.callB ps·1 r·1 (claims· .2) (claims· .3) T40 (
+    record { pos = 16; ty = ref0; ref = λ x. x },
     (
-      record { pos = 17; ty = ref1; ref = λ x. x },
+      record { pos = 18; ty = ref1; ref = λ x. x },
       (
-        record { pos = 19; ty = ref2; ref = λ x. x },
+        record { pos = 20; ty = ref2; ref = λ x. x },
         (
-          record { pos = 9; st = List.[]; d = 0; at = λ x. x },
+          record { pos = 10; st = List.[]; d = 0; at = λ x. x },
           (
             record { pos = 5; st = List.[]; d = 0; at = λ x. x },
-            (Num.vFld 10 ((Syntax.field 2) ∷ List.[]) 16 λ x. Walked.struct .as-values x .1 .1 .0, tt),
+            (Num.vFld 11 ((Syntax.field 2) ∷ List.[]) 16 λ x. Walked.struct .as-values x .1 .1 .0, tt),
           ),
         ),
       ),
     ),
-  ) 9 (3 ∷ 4 ∷ 5 ∷ List.[]) Laws'.mir
+  ) 10 (3 ∷ 4 ∷ 5 ∷ List.[]) Laws''.mir
 
-  abbrev s35 : (bs : List.List Nat.ℕ) → Typed.Both T38 T40
-  s35 = λ bs. Relend.k-back-sl RelayPending.row T38 15 1 0 3 ref4 ref0 Row.off (λ x. x) λ x. x
-
-  abbrev s38 : (bs : List.List Nat.ℕ) → Typed.Both T40 T43
-  s38 = λ bs. Relend.k-back-sl InflightAction.row T40 17 2 1 4 ref5 ref1 Row.off (λ x. x) λ x. x
+  abbrev s38 : (bs : List.List Nat.ℕ) → Typed.Both T41 T43
+  s38 = λ bs. Relend.k-back-sl RelayPending.row T41 16 1 0 3 ref4 ref0 Row.off (λ x. x) λ x. x
 
   abbrev s41 : (bs : List.List Nat.ℕ) → Typed.Both T43 T46
-  s41 = λ bs. Relend.k-back-sl (Referent.rtF (Referent.fInt Syntax.w32)) T43 19 3 2 5 ref6 ref2 Row.off (λ x. x) λ x. x
+  s41 = λ bs. Relend.k-back-sl InflightAction.row T43 18 2 1 4 ref5 ref1 Row.off (λ x. x) λ x. x
 
-  abbrev s42 : (bs : List.List Nat.ℕ) → Typed.Gives T46 T47
-  s42 = λ bs. Know.k-sl-known (Referent.fInt Syntax.w32) T46 3 2 ref6 Row.off 0 λ x. x
+  abbrev s44 : (bs : List.List Nat.ℕ) → Typed.Both T46 T49
+  s44 = λ bs. Relend.k-back-sl (Referent.rtF (Referent.fInt Syntax.w32)) T46 20 3 2 5 ref6 ref2 Row.off (λ x. x) λ x. x
 
-  abbrev s45 : (bs : List.List Nat.ℕ) → Typed.Gives T47 T50
-  s45 = λ bs. Reshare.k-sl-reshare RelayPending.row T47 1 20 0 6 ref4 ref3 Row.off λ x. x
+  abbrev s45 : (bs : List.List Nat.ℕ) → Typed.Gives T49 T50
+  s45 = λ bs. Know.k-sl-known (Referent.fInt Syntax.w32) T49 3 2 ref6 Row.off 0 λ x. x
 
-  abbrev s46 : (bs : List.List Nat.ℕ) → Typed.Asks T50 T51
-  s46 = λ bs. Relend.k-sl-aggregate RelayPending.row (Relend.asShr RelayPending.row) T50 20 21 6 ref3 ref3 (λ x. x) (Scalar.oFld
+  abbrev s48 : (bs : List.List Nat.ℕ) → Typed.Gives T50 T53
+  s48 = λ bs. Reshare.k-sl-reshare RelayPending.row T50 1 21 0 6 ref4 ref3 Row.off λ x. x
+
+  abbrev s49 : (bs : List.List Nat.ℕ) → Typed.Asks T53 T54
+  s49 = λ bs. Relend.k-sl-aggregate RelayPending.row (Relend.asShr RelayPending.row) T53 21 22 6 ref3 ref3 (λ x. x) (Scalar.oFld
       1 ((Syntax.field 1) ∷ List.[]) (Syntax.tyInt Syntax.w64) 8 λ v. Shared.lenV (v .0))
 
-  abbrev s47 : (bs : List.List Nat.ℕ) → Typed.Both T51 T52
-  s47 = λ bs. Call.callB ps·2 r·2 (claims· .4) (claims· .5) T51 (
-    record { pos = 21; ty = ref3; ref = λ x. x },
+  abbrev s50 : (bs : List.List Nat.ℕ) → Typed.Both T54 T55
+  s50 = λ bs. Call.callB ps·2 r·2 (claims· .4) (claims· .5) T54 (
+    record { pos = 22; ty = ref3; ref = λ x. x },
     (
-      record { pos = 9; st = (Syntax.field 2) ∷ List.[]; d = 168; at = λ x. Sending.struct .as-values x .1 .1 .0 },
+      record { pos = 10; st = (Syntax.field 2) ∷ List.[]; d = 168; at = λ x. Sending.struct .as-values x .1 .1 .0 },
       (
         record { pos = 7; st = List.[]; d = 0; at = λ x. x },
-        (record { pos = 10; st = List.[]; d = 0; at = λ x. x }, tt),
+        (
+          record { pos = 8; st = List.[]; d = 0; at = λ x. x },
+          (record { pos = 11; st = List.[]; d = 0; at = λ x. x }, tt),
+        ),
       ),
     ),
-  ) 10 (6 ∷ List.[]) Laws''''.mir
+  ) 11 (6 ∷ List.[]) Laws'''''.mir
 
-  abbrev s48 : (bs : List.List Nat.ℕ) → Typed.Mo T52 → Typed.Mo T53
-  s48 = λ bs. Scalar.n-room T52 21 slice3
+  abbrev s51 : (bs : List.List Nat.ℕ) → Typed.Mo T55 → Typed.Mo T56
+  s51 = λ bs. Scalar.n-room T55 22 slice3
 
-  abbrev s50 : (bs : List.List Nat.ℕ) → Typed.Mo T53 → Typed.Mo T55
-  s50 = λ bs. Reshare.n-back-sl-shr RelayPending.row T53 1 0 6 ref4 Row.off λ x. x
+  abbrev s53 : (bs : List.List Nat.ℕ) → Typed.Mo T56 → Typed.Mo T58
+  s53 = λ bs. Reshare.n-back-sl-shr RelayPending.row T56 1 0 6 ref4 Row.off λ x. x
 
-  abbrev s52 : (bs : List.List Nat.ℕ) → Typed.Asks T55 T57
-  s52 = λ bs. Scalar.k-op2 T55 (Syntax.add Syntax.unsigned) (Scalar.oAt 11 (Syntax.tyInt Syntax.w64)
-      (Row.valS (Row.sInt Syntax.w64))) (Scalar.oInt Syntax.w64 1) 11 (Rows.sc-here (Row.sInt Syntax.w64))
+  abbrev s55 : (bs : List.List Nat.ℕ) → Typed.Asks T58 T60
+  s55 = λ bs. Scalar.k-op2 T58 (Syntax.add Syntax.unsigned) (Scalar.oAt 12 (Syntax.tyInt Syntax.w64)
+      (Row.valS (Row.sInt Syntax.w64))) (Scalar.oInt Syntax.w64 1) 12 (Rows.sc-here (Row.sInt Syntax.w64))
       (Row.sInt Syntax.w64 .of)
 
-  abbrev s53 : (bs : List.List Nat.ℕ) → Typed.Mo T10 → Typed.Mo T58
-  s53 = λ bs. LocalCopy.n-val-copy T10 9 0 (Declared.row Sending.the-type) (Rows.whole (Declared.row Sending.the-type))
-      (Rows.whole (Declared.row Sending.the-type)) (λ x. x) (λ x. x) λ x. x
+  abbrev s56 : (bs : List.List Nat.ℕ) → Typed.Mo T11 → Typed.Mo T61
+  s56 = λ bs. LocalCopy.n-val-copy T11 10 0 (Declared'.row Sending.the-type)
+      (Rows.whole (Declared'.row Sending.the-type)) (Rows.whole (Declared'.row Sending.the-type)) (λ x. x) (λ x. x) λ
+      x. x
 
-  abbrev s54 : (bs : List.List Nat.ℕ) → Typed.Mo T58 → Typed.Mo T59
-  s54 = λ bs. Scalar.n-room T58 8 (Syntax.tyInt Syntax.w64)
+  abbrev s57 : (bs : List.List Nat.ℕ) → Typed.Mo T61 → Typed.Mo T62
+  s57 = λ bs. Scalar.n-room T61 9 (Syntax.tyInt Syntax.w64)
 
-  abbrev s55 : (bs : List.List Nat.ℕ) → Typed.Mo T59 → Typed.Mo T60
-  s55 = λ bs. Scalar.n-room T59 9 Laws'.mir
+  abbrev s58 : (bs : List.List Nat.ℕ) → Typed.Mo T62 → Typed.Mo T63
+  s58 = λ bs. Scalar.n-room T62 10 Laws''.mir
 
-  abbrev s56 : (bs : List.List Nat.ℕ) → Typed.Mo T60 → Typed.Mo T61
-  s56 = λ bs. Scalar.n-room T60 11 (Syntax.tyInt Syntax.w64)
+  abbrev s59 : (bs : List.List Nat.ℕ) → Typed.Mo T63 → Typed.Mo T64
+  s59 = λ bs. Scalar.n-room T63 12 (Syntax.tyInt Syntax.w64)
 
   abbrev put0 : List.List (RelayPending.row .Denot) × List.List (InflightAction.row .Denot) × List.List
-      (Referent.rtF (Referent.fInt Syntax.w32) .Denot) × Rows.whole (Declared.row Sending.the-type) .Mod × Rows.whole
-      (Declared.row Walked.the-type) .Mod × Rows.sc-here (Row.sInt Syntax.w64) .Mod → Typed.Mo T9 → Typed.Mo T9
-  put0 = λ vs u. Row.set 11 (11, Rows.sc-here (Row.sInt Syntax.w64)) (vs .5) (T9 .locals) (Row.set 10
-      (10, Rows.whole (Declared.row Walked.the-type)) (vs .4) (T9 .locals) (Row.set 9
-      (9, Rows.whole (Declared.row Sending.the-type)) (vs .3) (T9 .locals) (Row.set 3 (
+      (Referent.rtF (Referent.fInt Syntax.w32) .Denot) × Rows.whole (Declared'.row Sending.the-type) .Mod × Rows.whole
+      (Declared'.row Walked.the-type) .Mod × Rows.sc-here (Row.sInt Syntax.w64) .Mod → Typed.Mo T10 → Typed.Mo T10
+  put0 = λ vs u. Row.set 12 (12, Rows.sc-here (Row.sInt Syntax.w64)) (vs .5) (T10 .locals) (Row.set 11
+      (11, Rows.whole (Declared'.row Walked.the-type)) (vs .4) (T10 .locals) (Row.set 10
+      (10, Rows.whole (Declared'.row Sending.the-type)) (vs .3) (T10 .locals) (Row.set 3 (
         3,
         Mut.mslice (Referent.rtF (Referent.fInt Syntax.w32)) ref6 2,
-      ) record { ptr = Row.get 3 (T9 .locals) u .ptr; name = Row.get 3 (T9 .locals) u .name; now = vs .2 } (T9 .locals) (Row.set
-      2 (2, Mut.mslice InflightAction.row ref5 1) record {
-        ptr = Row.get 2 (T9 .locals) u .ptr;
-        name = Row.get 2 (T9 .locals) u .name;
-        now = vs .1;
-      } (T9 .locals) (Row.set 1 (1, Mut.mslice RelayPending.row ref4 0)
-      record { ptr = Row.get 1 (T9 .locals) u .ptr; name = Row.get 1 (T9 .locals) u .name; now = vs .0 } (T9 .locals)
-      u)))))
+      ) record { ptr = Row.get 3 (T10 .locals) u .ptr; name = Row.get 3 (T10 .locals) u .name; now = vs .2 }
+      (T10 .locals) (Row.set 2 (2, Mut.mslice InflightAction.row ref5 1)
+      record { ptr = Row.get 2 (T10 .locals) u .ptr; name = Row.get 2 (T10 .locals) u .name; now = vs .1 }
+      (T10 .locals) (Row.set 1 (1, Mut.mslice RelayPending.row ref4 0)
+      record { ptr = Row.get 1 (T10 .locals) u .ptr; name = Row.get 1 (T10 .locals) u .name; now = vs .0 }
+      (T10 .locals) u)))))
 
   module _ (Pre· : (κs : Lifetimes.Lfts 3) → Kinds.Dens κs ps → Type 0) (Post· : (κs : Lifetimes.Lfts 3) →
       (a : Kinds.Dens κs ps) → Kinds.Plain 3 ps r κs) where
@@ -989,222 +1048,232 @@ module _ (claims· : Claims) where
           (Function.plainOf 𝓤 H A 3 ps r Pre· Post·)
 
     module _ (Inv·0 : InvT-loop) (μ·0 : MeasureT-loop) where
-      abbrev at0 : (bs : List.List Nat.ℕ) → Typed.TF T13 O4
+      abbrev at0 : (bs : List.List Nat.ℕ) → Typed.TF T14 O4
       at0 = λ bs. Typed.atNext O4
 
-      abbrev at1 : (bs : List.List Nat.ℕ) → Typed.TF T11 O4
-      at1 = λ bs. λ Ψ. Typed.pass T11 T13 (s9 bs) (at0 bs Ψ)
+      abbrev at1 : (bs : List.List Nat.ℕ) → Typed.TF T12 O4
+      at1 = λ bs. λ Ψ. Typed.pass T12 T14 (s10 bs) (at0 bs Ψ)
 
-      abbrev at2 : (bs : List.List Nat.ℕ) → Typed.TF T17 O4
+      abbrev at2 : (bs : List.List Nat.ℕ) → Typed.TF T19 O4
       at2 = λ bs. Typed.atExit 1 O4
 
-      abbrev at3 : (bs : List.List Nat.ℕ) → Typed.TF T16 O4
-      at3 = λ bs. λ Ψ. Typed.pass T16 T17 (s13 bs) (at2 bs Ψ)
+      abbrev at3 : (bs : List.List Nat.ℕ) → Typed.TF T18 O4
+      at3 = λ bs. λ Ψ. Typed.pass T18 T19 (s15 bs) (at2 bs Ψ)
 
-      abbrev at4 : (bs : List.List Nat.ℕ) → Typed.TF T15 O4
-      at4 = λ bs. λ Ψ. Typed.pass T15 T16 (s12 bs) (at3 bs Ψ)
+      abbrev at4 : (bs : List.List Nat.ℕ) → Typed.TF T17 O4
+      at4 = λ bs. λ Ψ. Typed.pass T17 T18 (s14 bs) (at3 bs Ψ)
 
-      abbrev at5 : (bs : List.List Nat.ℕ) → Typed.TF T14 O4
-      at5 = λ bs. λ Ψ. Typed.pass T14 T15 (s11 bs) (at4 bs Ψ)
+      abbrev at5 : (bs : List.List Nat.ℕ) → Typed.TF T16 O4
+      at5 = λ bs. λ Ψ. Typed.pass T16 T17 (s13 bs) (at4 bs Ψ)
 
-      abbrev at6 : (bs : List.List Nat.ℕ) → Typed.TF T11 O4
-      at6 = λ bs. λ Ψ. Typed.pass T11 T14 (s10 bs) (at5 bs Ψ)
+      abbrev at6 : (bs : List.List Nat.ℕ) → Typed.TF T15 O4
+      at6 = λ bs. λ Ψ. Typed.pass T15 T16 (s12 bs) (at5 bs Ψ)
 
-      abbrev at7 : (bs : List.List Nat.ℕ) → Typed.TF T11 O4
-      at7 = λ bs. Scalar.Φcond T11 O4 12 (λ x. x) (at1 bs) (at6 bs)
+      abbrev at7 : (bs : List.List Nat.ℕ) → Typed.TF T12 O4
+      at7 = λ bs. λ Ψ. Typed.pass T12 T15 (s11 bs) (at6 bs Ψ)
 
-      abbrev at8 : (bs : List.List Nat.ℕ) → Typed.TF T27 O5
-      at8 = λ bs. Typed.atRet O5
+      abbrev at8 : (bs : List.List Nat.ℕ) → Typed.TF T12 O4
+      at8 = λ bs. Scalar.Φcond T12 O4 13 (λ x. x) (at1 bs) (at7 bs)
 
-      abbrev at9 : (bs : List.List Nat.ℕ) → Typed.TF T26 O5
-      at9 = λ bs. λ Ψ. Typed.pass T26 T27 (s22 bs) (at8 bs Ψ)
+      abbrev at9 : (bs : List.List Nat.ℕ) → Typed.TF T30 O5
+      at9 = λ bs. Typed.atRet O5
 
-      abbrev at10 : (bs : List.List Nat.ℕ) → Typed.TF T25 O5
-      at10 = λ bs. λ Ψ. Typed.pass T25 T26 (s21 bs) (at9 bs Ψ)
+      abbrev at10 : (bs : List.List Nat.ℕ) → Typed.TF T29 O5
+      at10 = λ bs. λ Ψ. Typed.pass T29 T30 (s25 bs) (at9 bs Ψ)
 
-      abbrev at11 : (bs : List.List Nat.ℕ) → Typed.TF T24 O5
-      at11 = λ bs. λ Ψ. Typed.pass T24 T25 (s20 bs) (at10 bs Ψ)
+      abbrev at11 : (bs : List.List Nat.ℕ) → Typed.TF T28 O5
+      at11 = λ bs. λ Ψ. Typed.pass T28 T29 (s24 bs) (at10 bs Ψ)
 
-      abbrev at12 : (bs : List.List Nat.ℕ) → Typed.TF T23 O5
-      at12 = λ bs. λ Ψ. Typed.pass T23 T24 (s19 bs) (at11 bs Ψ)
+      abbrev at12 : (bs : List.List Nat.ℕ) → Typed.TF T27 O5
+      at12 = λ bs. λ Ψ. Typed.pass T27 T28 (s23 bs) (at11 bs Ψ)
 
-      abbrev at13 : (bs : List.List Nat.ℕ) → Typed.TF T22 O5
-      at13 = λ bs. λ Ψ. Typed.pass T22 T23 (s18 bs) (at12 bs Ψ)
+      abbrev at13 : (bs : List.List Nat.ℕ) → Typed.TF T26 O5
+      at13 = λ bs. λ Ψ. Typed.pass T26 T27 (s22 bs) (at12 bs Ψ)
 
-      abbrev at14 : (bs : List.List Nat.ℕ) → Typed.TF T21 O5
-      at14 = λ bs. λ Ψ. Typed.pass T21 T22 (s17 bs) (at13 bs Ψ)
+      abbrev at14 : (bs : List.List Nat.ℕ) → Typed.TF T25 O5
+      at14 = λ bs. λ Ψ. Typed.pass T25 T26 (s21 bs) (at13 bs Ψ)
 
-      abbrev at15 : (bs : List.List Nat.ℕ) → Typed.TF T20 O5
-      at15 = λ bs. λ Ψ. Typed.pass T20 T21 (s16 bs) (at14 bs Ψ)
+      abbrev at15 : (bs : List.List Nat.ℕ) → Typed.TF T24 O5
+      at15 = λ bs. λ Ψ. Typed.pass T24 T25 (s20 bs) (at14 bs Ψ)
 
-      abbrev at16 : (bs : List.List Nat.ℕ) → Typed.TF T18 O5
-      at16 = λ bs. λ Ψ. Typed.pass T18 T20 (s15 bs) (at15 bs Ψ)
+      abbrev at16 : (bs : List.List Nat.ℕ) → Typed.TF T23 O5
+      at16 = λ bs. λ Ψ. Typed.pass T23 T24 (s19 bs) (at15 bs Ψ)
 
-      abbrev at17 : (bs : List.List Nat.ℕ) → Typed.TF T28 O5
-      at17 = λ bs. Typed.atNext O5
+      abbrev at17 : (bs : List.List Nat.ℕ) → Typed.TF T22 O5
+      at17 = λ bs. λ Ψ. Typed.pass T22 T23 (s18 bs) (at16 bs Ψ)
 
-      abbrev at18 : (bs : List.List Nat.ℕ) → Typed.TF T18 O5
-      at18 = λ bs. λ Ψ. Typed.pass T18 T28 (s23 bs) (at17 bs Ψ)
+      abbrev at18 : (bs : List.List Nat.ℕ) → Typed.TF T20 O5
+      at18 = λ bs. λ Ψ. Typed.pass T20 T22 (s17 bs) (at17 bs Ψ)
 
-      abbrev at19 : (bs : List.List Nat.ℕ) → Typed.TF T18 O5
-      at19 = λ bs. Scalar.Φcond T18 O5 13 (λ x. x) (at16 bs) (at18 bs)
+      abbrev at19 : (bs : List.List Nat.ℕ) → Typed.TF T31 O5
+      at19 = λ bs. Typed.atNext O5
 
-      abbrev at20 : (bs : List.List Nat.ℕ) → Typed.TF T55 O3
-      at20 = λ bs. λ Ψ. Typed.ask (s52 bs) (Typed.atNext O3 Ψ)
+      abbrev at20 : (bs : List.List Nat.ℕ) → Typed.TF T20 O5
+      at20 = λ bs. λ Ψ. Typed.pass T20 T31 (s26 bs) (at19 bs Ψ)
 
-      abbrev at21 : (bs : List.List Nat.ℕ) → Typed.TF T55 O3
-      at21 = λ bs. λ Ψ. at20 bs Ψ
+      abbrev at21 : (bs : List.List Nat.ℕ) → Typed.TF T20 O5
+      at21 = λ bs. Scalar.Φcond T20 O5 14 (λ x. x) (at18 bs) (at20 bs)
 
-      abbrev at22 : (bs : List.List Nat.ℕ) → Typed.TF T53 O3
-      at22 = λ bs. λ Ψ. Typed.pass T53 T55 (s50 bs) (at21 bs Ψ)
+      abbrev at22 : (bs : List.List Nat.ℕ) → Typed.TF T58 O3
+      at22 = λ bs. λ Ψ. Typed.ask (s55 bs) (Typed.atNext O3 Ψ)
 
-      abbrev at23 : (bs : List.List Nat.ℕ) → Typed.TF T53 O3
+      abbrev at23 : (bs : List.List Nat.ℕ) → Typed.TF T58 O3
       at23 = λ bs. λ Ψ. at22 bs Ψ
 
-      abbrev at24 : (bs : List.List Nat.ℕ) → Typed.TF T52 O3
-      at24 = λ bs. λ Ψ. Typed.pass T52 T53 (s48 bs) (at23 bs Ψ)
+      abbrev at24 : (bs : List.List Nat.ℕ) → Typed.TF T56 O3
+      at24 = λ bs. λ Ψ. Typed.pass T56 T58 (s53 bs) (at23 bs Ψ)
 
-      abbrev at25 : (bs : List.List Nat.ℕ) → Typed.TF T51 O3
-      at25 = λ bs. λ Ψ. Typed.both (s47 bs) (at24 bs Ψ)
+      abbrev at25 : (bs : List.List Nat.ℕ) → Typed.TF T56 O3
+      at25 = λ bs. λ Ψ. at24 bs Ψ
 
-      abbrev at26 : (bs : List.List Nat.ℕ) → Typed.TF T50 O3
-      at26 = λ bs. λ Ψ. Typed.ask (s46 bs) (at25 bs Ψ)
+      abbrev at26 : (bs : List.List Nat.ℕ) → Typed.TF T55 O3
+      at26 = λ bs. λ Ψ. Typed.pass T55 T56 (s51 bs) (at25 bs Ψ)
 
-      abbrev at27 : (bs : List.List Nat.ℕ) → Typed.TF T47 O3
-      at27 = λ bs. λ Ψ. Typed.give (s45 bs) (at26 bs Ψ)
+      abbrev at27 : (bs : List.List Nat.ℕ) → Typed.TF T54 O3
+      at27 = λ bs. λ Ψ. Typed.both (s50 bs) (at26 bs Ψ)
 
-      abbrev at28 : (bs : List.List Nat.ℕ) → Typed.TF T47 O3
-      at28 = λ bs. λ Ψ. at27 bs Ψ
+      abbrev at28 : (bs : List.List Nat.ℕ) → Typed.TF T53 O3
+      at28 = λ bs. λ Ψ. Typed.ask (s49 bs) (at27 bs Ψ)
 
-      abbrev at29 : (bs : List.List Nat.ℕ) → Typed.TF T47 O3
-      at29 = λ bs. λ Ψ. at28 bs Ψ
+      abbrev at29 : (bs : List.List Nat.ℕ) → Typed.TF T50 O3
+      at29 = λ bs. λ Ψ. Typed.give (s48 bs) (at28 bs Ψ)
 
-      abbrev at30 : (bs : List.List Nat.ℕ) → Typed.TF T46 O3
-      at30 = λ bs. λ Ψ. Typed.give (s42 bs) (at29 bs Ψ)
+      abbrev at30 : (bs : List.List Nat.ℕ) → Typed.TF T50 O3
+      at30 = λ bs. λ Ψ. at29 bs Ψ
 
-      abbrev at31 : (bs : List.List Nat.ℕ) → Typed.TF T43 O3
-      at31 = λ bs. λ Ψ. Typed.both (s41 bs) (at30 bs Ψ)
+      abbrev at31 : (bs : List.List Nat.ℕ) → Typed.TF T50 O3
+      at31 = λ bs. λ Ψ. at30 bs Ψ
 
-      abbrev at32 : (bs : List.List Nat.ℕ) → Typed.TF T43 O3
-      at32 = λ bs. λ Ψ. at31 bs Ψ
+      abbrev at32 : (bs : List.List Nat.ℕ) → Typed.TF T49 O3
+      at32 = λ bs. λ Ψ. Typed.give (s45 bs) (at31 bs Ψ)
 
-      abbrev at33 : (bs : List.List Nat.ℕ) → Typed.TF T43 O3
-      at33 = λ bs. λ Ψ. at32 bs Ψ
+      abbrev at33 : (bs : List.List Nat.ℕ) → Typed.TF T46 O3
+      at33 = λ bs. λ Ψ. Typed.both (s44 bs) (at32 bs Ψ)
 
-      abbrev at34 : (bs : List.List Nat.ℕ) → Typed.TF T40 O3
-      at34 = λ bs. λ Ψ. Typed.both (s38 bs) (at33 bs Ψ)
+      abbrev at34 : (bs : List.List Nat.ℕ) → Typed.TF T46 O3
+      at34 = λ bs. λ Ψ. at33 bs Ψ
 
-      abbrev at35 : (bs : List.List Nat.ℕ) → Typed.TF T40 O3
+      abbrev at35 : (bs : List.List Nat.ℕ) → Typed.TF T46 O3
       at35 = λ bs. λ Ψ. at34 bs Ψ
 
-      abbrev at36 : (bs : List.List Nat.ℕ) → Typed.TF T40 O3
-      at36 = λ bs. λ Ψ. at35 bs Ψ
+      abbrev at36 : (bs : List.List Nat.ℕ) → Typed.TF T43 O3
+      at36 = λ bs. λ Ψ. Typed.both (s41 bs) (at35 bs Ψ)
 
-      abbrev at37 : (bs : List.List Nat.ℕ) → Typed.TF T38 O3
-      at37 = λ bs. λ Ψ. Typed.both (s35 bs) (at36 bs Ψ)
+      abbrev at37 : (bs : List.List Nat.ℕ) → Typed.TF T43 O3
+      at37 = λ bs. λ Ψ. at36 bs Ψ
 
-      abbrev at38 : (bs : List.List Nat.ℕ) → Typed.TF T38 O3
+      abbrev at38 : (bs : List.List Nat.ℕ) → Typed.TF T43 O3
       at38 = λ bs. λ Ψ. at37 bs Ψ
 
-      abbrev at39 : (bs : List.List Nat.ℕ) → Typed.TF T37 O3
-      at39 = λ bs. λ Ψ. Typed.both (s33 bs) (at38 bs Ψ)
+      abbrev at39 : (bs : List.List Nat.ℕ) → Typed.TF T41 O3
+      at39 = λ bs. λ Ψ. Typed.both (s38 bs) (at38 bs Ψ)
 
-      abbrev at40 : (bs : List.List Nat.ℕ) → Typed.TF T36 O3
-      at40 = λ bs. λ Ψ. Typed.ask (s32 bs) (at39 bs Ψ)
+      abbrev at40 : (bs : List.List Nat.ℕ) → Typed.TF T41 O3
+      at40 = λ bs. λ Ψ. at39 bs Ψ
 
-      abbrev at41 : (bs : List.List Nat.ℕ) → Typed.TF T34 O3
-      at41 = λ bs. λ Ψ. Typed.give (s31 bs) (at40 bs Ψ)
+      abbrev at41 : (bs : List.List Nat.ℕ) → Typed.TF T40 O3
+      at41 = λ bs. λ Ψ. Typed.both (s36 bs) (at40 bs Ψ)
 
-      abbrev at42 : (bs : List.List Nat.ℕ) → Typed.TF T34 O3
-      at42 = λ bs. λ Ψ. at41 bs Ψ
+      abbrev at42 : (bs : List.List Nat.ℕ) → Typed.TF T39 O3
+      at42 = λ bs. λ Ψ. Typed.ask (s35 bs) (at41 bs Ψ)
 
-      abbrev at43 : (bs : List.List Nat.ℕ) → Typed.TF T33 O3
-      at43 = λ bs. λ Ψ. Typed.ask (s29 bs) (at42 bs Ψ)
+      abbrev at43 : (bs : List.List Nat.ℕ) → Typed.TF T37 O3
+      at43 = λ bs. λ Ψ. Typed.give (s34 bs) (at42 bs Ψ)
 
-      abbrev at44 : (bs : List.List Nat.ℕ) → Typed.TF T31 O3
-      at44 = λ bs. λ Ψ. Typed.give (s28 bs) (at43 bs Ψ)
+      abbrev at44 : (bs : List.List Nat.ℕ) → Typed.TF T37 O3
+      at44 = λ bs. λ Ψ. at43 bs Ψ
 
-      abbrev at45 : (bs : List.List Nat.ℕ) → Typed.TF T31 O3
-      at45 = λ bs. λ Ψ. at44 bs Ψ
+      abbrev at45 : (bs : List.List Nat.ℕ) → Typed.TF T36 O3
+      at45 = λ bs. λ Ψ. Typed.ask (s32 bs) (at44 bs Ψ)
 
-      abbrev at46 : (bs : List.List Nat.ℕ) → Typed.TF T30 O3
-      at46 = λ bs. λ Ψ. Typed.ask (s26 bs) (at45 bs Ψ)
+      abbrev at46 : (bs : List.List Nat.ℕ) → Typed.TF T34 O3
+      at46 = λ bs. λ Ψ. Typed.give (s31 bs) (at45 bs Ψ)
 
-      abbrev at47 : (bs : List.List Nat.ℕ) → Typed.TF T19 O3
-      at47 = λ bs. λ Ψ. Typed.give (s25 bs) (at46 bs Ψ)
+      abbrev at47 : (bs : List.List Nat.ℕ) → Typed.TF T34 O3
+      at47 = λ bs. λ Ψ. at46 bs Ψ
 
-      abbrev at48 : (bs : List.List Nat.ℕ) → Typed.TF T19 O3
-      at48 = λ bs. λ Ψ. at47 bs Ψ
+      abbrev at48 : (bs : List.List Nat.ℕ) → Typed.TF T33 O3
+      at48 = λ bs. λ Ψ. Typed.ask (s29 bs) (at47 bs Ψ)
 
-      abbrev at49 : (bs : List.List Nat.ℕ) → Typed.TF T18 O3
-      at49 = λ bs. λ Ψ. at19 bs (Typed.wantNext T19 O3 (at48 bs Ψ) Ψ)
+      abbrev at49 : (bs : List.List Nat.ℕ) → Typed.TF T21 O3
+      at49 = λ bs. λ Ψ. Typed.give (s28 bs) (at48 bs Ψ)
 
-      abbrev at50 : (bs : List.List Nat.ℕ) → Typed.TF T12 O3
-      at50 = λ bs. λ Ψ. Typed.both (s14 bs) (at49 bs Ψ)
+      abbrev at50 : (bs : List.List Nat.ℕ) → Typed.TF T21 O3
+      at50 = λ bs. λ Ψ. at49 bs Ψ
 
-      abbrev at51 : (bs : List.List Nat.ℕ) → Typed.TF T11 O3
-      at51 = λ bs. λ Ψ. at7 bs (Typed.wantNext T12 O3 (at50 bs Ψ) Ψ)
+      abbrev at51 : (bs : List.List Nat.ℕ) → Typed.TF T20 O3
+      at51 = λ bs. λ Ψ. at21 bs (Typed.wantNext T21 O3 (at50 bs Ψ) Ψ)
 
-      abbrev at52 : (bs : List.List Nat.ℕ) → Typed.TF T9 O3
-      at52 = λ bs. λ Ψ. Typed.ask (s8 bs) (at51 bs Ψ)
+      abbrev at52 : (bs : List.List Nat.ℕ) → Typed.TF T13 O3
+      at52 = λ bs. λ Ψ. Typed.both (s16 bs) (at51 bs Ψ)
 
-      abbrev at53 : (bs : List.List Nat.ℕ) → Typed.TF T9 O2
-      at53 = λ bs. Typed.LoopBy T9 O2 put0 (λ u vs. Inv·0 (Row.get 1 (T9 .locals) u .now)
-          (Row.get 2 (T9 .locals) u .now) (Row.get 3 (T9 .locals) u .now) (Row.get 5 (T9 .locals) u)
-          (Row.get 7 (T9 .locals) u) (Row.get 8 (T9 .locals) u) (Row.get 9 (T9 .locals) u) (Row.get 10 (T9 .locals) u)
-          (Row.get 11 (T9 .locals) u) (vs .0) (vs .1) (vs .2) (vs .3) (vs .4) (vs .5)) (λ u vs. μ·0
-          (Row.get 1 (T9 .locals) u .now) (Row.get 2 (T9 .locals) u .now) (Row.get 3 (T9 .locals) u .now)
-          (Row.get 5 (T9 .locals) u) (Row.get 7 (T9 .locals) u) (Row.get 8 (T9 .locals) u) (Row.get 9 (T9 .locals) u)
-          (Row.get 10 (T9 .locals) u) (Row.get 11 (T9 .locals) u) (vs .0) (vs .1) (vs .2) (vs .3) (vs .4) (vs .5))
-          (at52 bs)
+      abbrev at53 : (bs : List.List Nat.ℕ) → Typed.TF T12 O3
+      at53 = λ bs. λ Ψ. at8 bs (Typed.wantNext T13 O3 (at52 bs Ψ) Ψ)
 
-      abbrev at54 : (bs : List.List Nat.ℕ) → Typed.TF T9 O1
-      at54 = λ bs. λ Ψ. at53 bs (Typed.inBlock O1 Ψ)
+      abbrev at54 : (bs : List.List Nat.ℕ) → Typed.TF T10 O3
+      at54 = λ bs. λ Ψ. Typed.ask (s9 bs) (at53 bs Ψ)
 
-      abbrev at55 : (bs : List.List Nat.ℕ) → Typed.TF T61 O0
-      at55 = λ bs. Typed.atRet O0
+      abbrev at55 : (bs : List.List Nat.ℕ) → Typed.TF T10 O2
+      at55 = λ bs. Typed.LoopBy T10 O2 put0 (λ u vs. Inv·0 (Row.get 1 (T10 .locals) u .now)
+          (Row.get 2 (T10 .locals) u .now) (Row.get 3 (T10 .locals) u .now) (Row.get 5 (T10 .locals) u)
+          (Row.get 7 (T10 .locals) u) (Row.get 8 (T10 .locals) u) (Row.get 9 (T10 .locals) u)
+          (Row.get 10 (T10 .locals) u) (Row.get 11 (T10 .locals) u) (Row.get 12 (T10 .locals) u) (vs .0) (vs .1)
+          (vs .2) (vs .3) (vs .4) (vs .5)) (λ u vs. μ·0 (Row.get 1 (T10 .locals) u .now)
+          (Row.get 2 (T10 .locals) u .now) (Row.get 3 (T10 .locals) u .now) (Row.get 5 (T10 .locals) u)
+          (Row.get 7 (T10 .locals) u) (Row.get 8 (T10 .locals) u) (Row.get 9 (T10 .locals) u)
+          (Row.get 10 (T10 .locals) u) (Row.get 11 (T10 .locals) u) (Row.get 12 (T10 .locals) u) (vs .0) (vs .1)
+          (vs .2) (vs .3) (vs .4) (vs .5)) (at54 bs)
 
-      abbrev at56 : (bs : List.List Nat.ℕ) → Typed.TF T60 O0
-      at56 = λ bs. λ Ψ. Typed.pass T60 T61 (s56 bs) (at55 bs Ψ)
+      abbrev at56 : (bs : List.List Nat.ℕ) → Typed.TF T10 O1
+      at56 = λ bs. λ Ψ. at55 bs (Typed.inBlock O1 Ψ)
 
-      abbrev at57 : (bs : List.List Nat.ℕ) → Typed.TF T59 O0
-      at57 = λ bs. λ Ψ. Typed.pass T59 T60 (s55 bs) (at56 bs Ψ)
+      abbrev at57 : (bs : List.List Nat.ℕ) → Typed.TF T64 O0
+      at57 = λ bs. Typed.atRet O0
 
-      abbrev at58 : (bs : List.List Nat.ℕ) → Typed.TF T58 O0
-      at58 = λ bs. λ Ψ. Typed.pass T58 T59 (s54 bs) (at57 bs Ψ)
+      abbrev at58 : (bs : List.List Nat.ℕ) → Typed.TF T63 O0
+      at58 = λ bs. λ Ψ. Typed.pass T63 T64 (s59 bs) (at57 bs Ψ)
 
-      abbrev at59 : (bs : List.List Nat.ℕ) → Typed.TF T10 O0
-      at59 = λ bs. λ Ψ. Typed.pass T10 T58 (s53 bs) (at58 bs Ψ)
+      abbrev at59 : (bs : List.List Nat.ℕ) → Typed.TF T62 O0
+      at59 = λ bs. λ Ψ. Typed.pass T62 T63 (s58 bs) (at58 bs Ψ)
 
-      abbrev at60 : (bs : List.List Nat.ℕ) → Typed.TF T9 O0
-      at60 = λ bs. λ Ψ. at54 bs (Typed.wantNext T10 O0 (at59 bs Ψ) Ψ)
+      abbrev at60 : (bs : List.List Nat.ℕ) → Typed.TF T61 O0
+      at60 = λ bs. λ Ψ. Typed.pass T61 T62 (s57 bs) (at59 bs Ψ)
 
-      abbrev at61 : (bs : List.List Nat.ℕ) → Typed.TF T8 O0
-      at61 = λ bs. λ Ψ. Typed.pass T8 T9 (s7 bs) (at60 bs Ψ)
+      abbrev at61 : (bs : List.List Nat.ℕ) → Typed.TF T11 O0
+      at61 = λ bs. λ Ψ. Typed.pass T11 T61 (s56 bs) (at60 bs Ψ)
 
-      abbrev at62 : (bs : List.List Nat.ℕ) → Typed.TF T7 O0
-      at62 = λ bs. λ Ψ. Typed.pass T7 T8 (s6 bs) (at61 bs Ψ)
+      abbrev at62 : (bs : List.List Nat.ℕ) → Typed.TF T10 O0
+      at62 = λ bs. λ Ψ. at56 bs (Typed.wantNext T11 O0 (at61 bs Ψ) Ψ)
 
-      abbrev at63 : (bs : List.List Nat.ℕ) → Typed.TF T6 O0
-      at63 = λ bs. λ Ψ. Typed.pass T6 T7 (s5 bs) (at62 bs Ψ)
+      abbrev at63 : (bs : List.List Nat.ℕ) → Typed.TF T9 O0
+      at63 = λ bs. λ Ψ. Typed.pass T9 T10 (s8 bs) (at62 bs Ψ)
 
-      abbrev at64 : (bs : List.List Nat.ℕ) → Typed.TF T5 O0
-      at64 = λ bs. λ Ψ. Typed.pass T5 T6 (s4 bs) (at63 bs Ψ)
+      abbrev at64 : (bs : List.List Nat.ℕ) → Typed.TF T8 O0
+      at64 = λ bs. λ Ψ. Typed.pass T8 T9 (s7 bs) (at63 bs Ψ)
 
-      abbrev at65 : (bs : List.List Nat.ℕ) → Typed.TF T4 O0
-      at65 = λ bs. λ Ψ. Typed.pass T4 T5 (s3 bs) (at64 bs Ψ)
+      abbrev at65 : (bs : List.List Nat.ℕ) → Typed.TF T7 O0
+      at65 = λ bs. λ Ψ. Typed.pass T7 T8 (s6 bs) (at64 bs Ψ)
 
-      abbrev at66 : (bs : List.List Nat.ℕ) → Typed.TF T3 O0
-      at66 = λ bs. λ Ψ. Typed.pass T3 T4 (s2 bs) (at65 bs Ψ)
+      abbrev at66 : (bs : List.List Nat.ℕ) → Typed.TF T6 O0
+      at66 = λ bs. λ Ψ. Typed.pass T6 T7 (s5 bs) (at65 bs Ψ)
 
-      abbrev at67 : (bs : List.List Nat.ℕ) → Typed.TF T2 O0
-      at67 = λ bs. λ Ψ. Typed.both (s1 bs) (at66 bs Ψ)
+      abbrev at67 : (bs : List.List Nat.ℕ) → Typed.TF T5 O0
+      at67 = λ bs. λ Ψ. Typed.pass T5 T6 (s4 bs) (at66 bs Ψ)
 
-      abbrev at68 : (bs : List.List Nat.ℕ) → Typed.TF T0 O0
-      at68 = λ bs. λ Ψ. Typed.give (s0 bs) (at67 bs Ψ)
+      abbrev at68 : (bs : List.List Nat.ℕ) → Typed.TF T4 O0
+      at68 = λ bs. λ Ψ. Typed.pass T4 T5 (s3 bs) (at67 bs Ψ)
+
+      abbrev at69 : (bs : List.List Nat.ℕ) → Typed.TF T3 O0
+      at69 = λ bs. λ Ψ. Typed.both (s2 bs) (at68 bs Ψ)
+
+      abbrev at70 : (bs : List.List Nat.ℕ) → Typed.TF T2 O0
+      at70 = λ bs. λ Ψ. Typed.pass T2 T3 (s1 bs) (at69 bs Ψ)
+
+      abbrev at71 : (bs : List.List Nat.ℕ) → Typed.TF T0 O0
+      at71 = λ bs. λ Ψ. Typed.give (s0 bs) (at70 bs Ψ)
 
       abbrev pub Φ : (bs : List.List Nat.ℕ) → Typed.TF T0 O0
-      Φ = λ bs. at68 bs
+      Φ = λ bs. at71 bs
 
       module _ {M : Type 1} (𝓤 : URA.URA M) (H : Wp.Heap 𝓤) (A : Atoms.Atoms 𝓤) (W : Kit.Given 𝓤 H A)
           (𝓣 : Wp.Tables 𝓤 H) where
@@ -1232,37 +1301,33 @@ module _ (claims· : Claims) where
         abbrev l3 : Row.Entry
         l3 = (3, Relend.mslice-owed (Referent.rtF (Referent.fInt Syntax.w32)) ref6 2 5 life2)
 
-        abbrev g22 : List.List Row.Entry
-        g22 = e0 ∷ l1 ∷ e2 ∷ e3 ∷ e4·1 ∷ e5 ∷ e6·1 ∷ e7·1 ∷ e8·1 ∷ e9·1 ∷ e10·1 ∷ e11·1 ∷ e12 ∷ e13 ∷ e14·1 ∷ e15 ∷
+        abbrev g25 : List.List Row.Entry
+        g25 = e0 ∷ l1 ∷ e2 ∷ e3 ∷ e4·1 ∷ e5 ∷ e6·1 ∷ e7·1 ∷ e8·1 ∷ e9·1 ∷ e10·1 ∷ e11·1 ∷ e12·1 ∷ e13 ∷ e14 ∷ e15·1 ∷
             List.[]
 
-        abbrev g23 : List.List Row.Entry
-        g23 = e0 ∷ l1 ∷ e2 ∷ e3 ∷ e4·1 ∷ e5 ∷ e6·1 ∷ e7·1 ∷ e8·1 ∷ e9·1 ∷ e10·1 ∷ e11·1 ∷ e12 ∷ e13 ∷ e14 ∷ e15·1 ∷
+        abbrev g26 : List.List Row.Entry
+        g26 = e0 ∷ l1 ∷ e2 ∷ e3 ∷ e4·1 ∷ e5 ∷ e6·1 ∷ e7·1 ∷ e8·1 ∷ e9·1 ∷ e10·1 ∷ e11·1 ∷ e12·1 ∷ e13 ∷ e14 ∷ e15 ∷
             List.[]
 
-        abbrev g24 : List.List Row.Entry
-        g24 = e0 ∷ l1 ∷ l2 ∷ e3 ∷ e4·1 ∷ e5 ∷ e6·1 ∷ e7·1 ∷ e8·1 ∷ e9·1 ∷ e10·1 ∷ e11·1 ∷ e12 ∷ e13 ∷ e14 ∷ e15·1 ∷
+        abbrev g28 : List.List Row.Entry
+        g28 = e0 ∷ l1 ∷ l2 ∷ e3 ∷ e4·1 ∷ e5 ∷ e6·1 ∷ e7·1 ∷ e8·1 ∷ e9·1 ∷ e10·1 ∷ e11·1 ∷ e12·1 ∷ e13 ∷ e14 ∷ e15 ∷
             List.[]
 
-        abbrev g27 : List.List Row.Entry
-        g27 = e0 ∷ l1 ∷ l2 ∷ l3 ∷ e4·1 ∷ e5 ∷ e6·1 ∷ e7·1 ∷ e8·1 ∷ e9·1 ∷ e10·1 ∷ e11·1 ∷ e12 ∷ e13 ∷ e14 ∷ e15·1 ∷
-            List.[]
-
-        abbrev g30 : List.List Row.Entry
-        g30 = e0 ∷ l1 ∷ l2 ∷ l3 ∷ e4·1 ∷ e5 ∷ e6·1 ∷ e7·1 ∷ e8·1 ∷ e9·1 ∷ e10·1 ∷ e11·1 ∷ e12 ∷ e13 ∷ e14 ∷ e15·2 ∷
-            List.[]
-
-        abbrev g32 : List.List Row.Entry
-        g32 = e0 ∷ e1 ∷ l2 ∷ l3 ∷ e4·1 ∷ e5 ∷ e6·1 ∷ e7·1 ∷ e8·1 ∷ e9·1 ∷ e10·1 ∷ e11·1 ∷ e12 ∷ e13 ∷ e14 ∷ e15 ∷
-            List.[]
-
-        abbrev g33 : List.List Row.Entry
-        g33 = e0 ∷ e1 ∷ e2 ∷ l3 ∷ e4·1 ∷ e5 ∷ e6·1 ∷ e7·1 ∷ e8·1 ∷ e9·1 ∷ e10·1 ∷ e11·1 ∷ e12 ∷ e13 ∷ e14 ∷ e15 ∷
+        abbrev g31 : List.List Row.Entry
+        g31 = e0 ∷ l1 ∷ l2 ∷ l3 ∷ e4·1 ∷ e5 ∷ e6·1 ∷ e7·1 ∷ e8·1 ∷ e9·1 ∷ e10·1 ∷ e11·1 ∷ e12·1 ∷ e13 ∷ e14 ∷ e15 ∷
             List.[]
 
         abbrev g35 : List.List Row.Entry
-        g35 = e0 ∷ (1, Reshare.mslice-owedS RelayPending.row ref4 0 6 life0) ∷ e2 ∷ e3 ∷ e4·1 ∷ e5 ∷ e6·1 ∷ e7·1 ∷ e8·1
-            ∷ e9·1 ∷ e10·1 ∷ e11·1 ∷ e12 ∷ e13 ∷ e14 ∷ e15 ∷ List.[]
+        g35 = e0 ∷ e1 ∷ l2 ∷ l3 ∷ e4·1 ∷ e5 ∷ e6·1 ∷ e7·1 ∷ e8·1 ∷ e9·1 ∷ e10·1 ∷ e11·1 ∷ e12·1 ∷ e13 ∷ e14 ∷ e15 ∷
+            List.[]
+
+        abbrev g37 : List.List Row.Entry
+        g37 = e0 ∷ e1 ∷ e2 ∷ l3 ∷ e4·1 ∷ e5 ∷ e6·1 ∷ e7·1 ∷ e8·1 ∷ e9·1 ∷ e10·1 ∷ e11·1 ∷ e12·1 ∷ e13 ∷ e14 ∷ e15 ∷
+            List.[]
+
+        abbrev g39 : List.List Row.Entry
+        g39 = e0 ∷ (1, Reshare.mslice-owedS RelayPending.row ref4 0 6 life0) ∷ e2 ∷ e3 ∷ e4·1 ∷ e5 ∷ e6·1 ∷ e7·1 ∷ e8·1
+            ∷ e9·1 ∷ e10·1 ∷ e11·1 ∷ e12·1 ∷ e13 ∷ e14 ∷ e15 ∷ List.[]
 
         abbrev G0 : Row.Cx
         G0 = record {
@@ -1338,19 +1403,19 @@ module _ (claims· : Claims) where
 
         abbrev G12 : Row.Cx
         G12 = record {
-          locals = List._++_ t9 t1;
+          locals = List._++_ t12 t1;
           slots = life0 ∷ life1 ∷ life2 ∷ Row.off ∷ Row.off ∷ Row.off ∷ Row.off ∷ List.[];
         }
 
         abbrev G13 : Row.Cx
         G13 = record {
-          locals = List._++_ t9 t1;
+          locals = List._++_ t10 t1;
           slots = life0 ∷ life1 ∷ life2 ∷ Row.off ∷ Row.off ∷ Row.off ∷ Row.off ∷ List.[];
         }
 
         abbrev G14 : Row.Cx
         G14 = record {
-          locals = List._++_ t12 t1;
+          locals = List._++_ t10 t1;
           slots = life0 ∷ life1 ∷ life2 ∷ Row.off ∷ Row.off ∷ Row.off ∷ Row.off ∷ List.[];
         }
 
@@ -1368,31 +1433,31 @@ module _ (claims· : Claims) where
 
         abbrev G17 : Row.Cx
         G17 = record {
-          locals = List._++_ t10 t1;
+          locals = List._++_ t15 t1;
           slots = life0 ∷ life1 ∷ life2 ∷ Row.off ∷ Row.off ∷ Row.off ∷ Row.off ∷ List.[];
         }
 
         abbrev G18 : Row.Cx
         G18 = record {
-          locals = List._++_ t15 t1;
+          locals = List._++_ t16 t1;
           slots = life0 ∷ life1 ∷ life2 ∷ Row.off ∷ Row.off ∷ Row.off ∷ Row.off ∷ List.[];
         }
 
         abbrev G19 : Row.Cx
         G19 = record {
-          locals = List._++_ t9 t1;
+          locals = List._++_ t11 t1;
           slots = life0 ∷ life1 ∷ life2 ∷ Row.off ∷ Row.off ∷ Row.off ∷ Row.off ∷ List.[];
         }
 
         abbrev G20 : Row.Cx
         G20 = record {
-          locals = List._++_ t16 t1;
+          locals = List._++_ t17 t1;
           slots = life0 ∷ life1 ∷ life2 ∷ Row.off ∷ Row.off ∷ Row.off ∷ Row.off ∷ List.[];
         }
 
         abbrev G21 : Row.Cx
         G21 = record {
-          locals = List._++_ t17 t1;
+          locals = List._++_ t10 t1;
           slots = life0 ∷ life1 ∷ life2 ∷ Row.off ∷ Row.off ∷ Row.off ∷ Row.off ∷ List.[];
         }
 
@@ -1404,234 +1469,252 @@ module _ (claims· : Claims) where
 
         abbrev G23 : Row.Cx
         G23 = record {
-          locals = List._++_ t10 t1;
+          locals = List._++_ t19 t1;
           slots = life0 ∷ life1 ∷ life2 ∷ Row.off ∷ Row.off ∷ Row.off ∷ Row.off ∷ List.[];
         }
 
         abbrev G24 : Row.Cx
         G24 = record {
-          locals = List._++_ t19 t1;
+          locals = List._++_ t20 t1;
           slots = life0 ∷ life1 ∷ life2 ∷ Row.off ∷ Row.off ∷ Row.off ∷ Row.off ∷ List.[];
         }
 
         abbrev G25 : Row.Cx
         G25 = record {
-          locals = List._++_ t20 t1;
+          locals = List._++_ t21 t1;
           slots = life0 ∷ life1 ∷ life2 ∷ Row.off ∷ Row.off ∷ Row.off ∷ Row.off ∷ List.[];
         }
 
         abbrev G26 : Row.Cx
         G26 = record {
-          locals = List._++_ t21 t1;
+          locals = List._++_ t11 t1;
           slots = life0 ∷ life1 ∷ life2 ∷ Row.off ∷ Row.off ∷ Row.off ∷ Row.off ∷ List.[];
         }
 
         abbrev G27 : Row.Cx
         G27 = record {
-          locals = List._++_ t2 t1;
+          locals = List._++_ t22 t1;
           slots = life0 ∷ life1 ∷ life2 ∷ Row.off ∷ Row.off ∷ Row.off ∷ Row.off ∷ List.[];
         }
 
         abbrev G28 : Row.Cx
         G28 = record {
-          locals = List._++_ t9 t1;
+          locals = List._++_ t23 t1;
           slots = life0 ∷ life1 ∷ life2 ∷ Row.off ∷ Row.off ∷ Row.off ∷ Row.off ∷ List.[];
         }
 
         abbrev G29 : Row.Cx
         G29 = record {
-          locals = List._++_ t9 t1;
-          slots = life0 ∷ life1 ∷ life2 ∷ Row.alive ∷ Row.off ∷ Row.off ∷ Row.off ∷ List.[];
+          locals = List._++_ t24 t1;
+          slots = life0 ∷ life1 ∷ life2 ∷ Row.off ∷ Row.off ∷ Row.off ∷ Row.off ∷ List.[];
         }
 
         abbrev G30 : Row.Cx
         G30 = record {
-          locals = List._++_ g22 t1;
-          slots = Row.off ∷ life1 ∷ life2 ∷ Row.alive ∷ Row.off ∷ Row.off ∷ Row.off ∷ List.[];
+          locals = List._++_ t2 t1;
+          slots = life0 ∷ life1 ∷ life2 ∷ Row.off ∷ Row.off ∷ Row.off ∷ Row.off ∷ List.[];
         }
 
         abbrev G31 : Row.Cx
         G31 = record {
-          locals = List._++_ g23 t1;
-          slots = Row.off ∷ life1 ∷ life2 ∷ Row.alive ∷ Row.off ∷ Row.off ∷ Row.off ∷ List.[];
+          locals = List._++_ t10 t1;
+          slots = life0 ∷ life1 ∷ life2 ∷ Row.off ∷ Row.off ∷ Row.off ∷ Row.off ∷ List.[];
         }
 
         abbrev G32 : Row.Cx
         G32 = record {
-          locals = List._++_ g23 t1;
-          slots = Row.off ∷ life1 ∷ life2 ∷ Row.alive ∷ Row.alive ∷ Row.off ∷ Row.off ∷ List.[];
+          locals = List._++_ t10 t1;
+          slots = life0 ∷ life1 ∷ life2 ∷ Row.alive ∷ Row.off ∷ Row.off ∷ Row.off ∷ List.[];
         }
 
         abbrev G33 : Row.Cx
         G33 = record {
-          locals = List._++_ g24 t25;
-          slots = Row.off ∷ Row.off ∷ life2 ∷ Row.alive ∷ Row.alive ∷ Row.off ∷ Row.off ∷ List.[];
+          locals = List._++_ g25 t1;
+          slots = Row.off ∷ life1 ∷ life2 ∷ Row.alive ∷ Row.off ∷ Row.off ∷ Row.off ∷ List.[];
         }
 
         abbrev G34 : Row.Cx
         G34 = record {
-          locals = List._++_ g24 t26;
-          slots = Row.off ∷ Row.off ∷ life2 ∷ Row.alive ∷ Row.alive ∷ Row.off ∷ Row.off ∷ List.[];
+          locals = List._++_ g26 t27;
+          slots = Row.off ∷ life1 ∷ life2 ∷ Row.alive ∷ Row.off ∷ Row.off ∷ Row.off ∷ List.[];
         }
 
         abbrev G35 : Row.Cx
         G35 = record {
-          locals = List._++_ g24 t26;
-          slots = Row.off ∷ Row.off ∷ life2 ∷ Row.alive ∷ Row.alive ∷ Row.alive ∷ Row.off ∷ List.[];
+          locals = List._++_ g26 t27;
+          slots = Row.off ∷ life1 ∷ life2 ∷ Row.alive ∷ Row.alive ∷ Row.off ∷ Row.off ∷ List.[];
         }
 
         abbrev G36 : Row.Cx
         G36 = record {
-          locals = List._++_ g27 t28;
-          slots = Row.off ∷ Row.off ∷ Row.off ∷ Row.alive ∷ Row.alive ∷ Row.alive ∷ Row.off ∷ List.[];
+          locals = List._++_ g28 t29;
+          slots = Row.off ∷ Row.off ∷ life2 ∷ Row.alive ∷ Row.alive ∷ Row.off ∷ Row.off ∷ List.[];
         }
 
         abbrev G37 : Row.Cx
         G37 = record {
-          locals = List._++_ g27 t29;
-          slots = Row.off ∷ Row.off ∷ Row.off ∷ Row.alive ∷ Row.alive ∷ Row.alive ∷ Row.off ∷ List.[];
+          locals = List._++_ g28 t30;
+          slots = Row.off ∷ Row.off ∷ life2 ∷ Row.alive ∷ Row.alive ∷ Row.off ∷ Row.off ∷ List.[];
         }
 
         abbrev G38 : Row.Cx
         G38 = record {
-          locals = List._++_ g30 t31;
-          slots = Row.off ∷ Row.off ∷ Row.off ∷ Row.alive ∷ Row.alive ∷ Row.alive ∷ Row.off ∷ List.[];
+          locals = List._++_ g28 t30;
+          slots = Row.off ∷ Row.off ∷ life2 ∷ Row.alive ∷ Row.alive ∷ Row.alive ∷ Row.off ∷ List.[];
         }
 
         abbrev G39 : Row.Cx
         G39 = record {
-          locals = List._++_ g30 t31;
-          slots = Row.off ∷ Row.off ∷ Row.off ∷ Row.dead ∷ Row.alive ∷ Row.alive ∷ Row.off ∷ List.[];
+          locals = List._++_ g31 t32;
+          slots = Row.off ∷ Row.off ∷ Row.off ∷ Row.alive ∷ Row.alive ∷ Row.alive ∷ Row.off ∷ List.[];
         }
 
         abbrev G40 : Row.Cx
         G40 = record {
-          locals = List._++_ g32 t31;
-          slots = life0 ∷ Row.off ∷ Row.off ∷ Row.dead ∷ Row.alive ∷ Row.alive ∷ Row.off ∷ List.[];
+          locals = List._++_ g31 t33;
+          slots = Row.off ∷ Row.off ∷ Row.off ∷ Row.alive ∷ Row.alive ∷ Row.alive ∷ Row.off ∷ List.[];
         }
 
         abbrev G41 : Row.Cx
         G41 = record {
-          locals = List._++_ g32 t31;
-          slots = life0 ∷ Row.off ∷ Row.off ∷ Row.off ∷ Row.alive ∷ Row.alive ∷ Row.off ∷ List.[];
+          locals = List._++_ g31 t34;
+          slots = Row.off ∷ Row.off ∷ Row.off ∷ Row.alive ∷ Row.alive ∷ Row.alive ∷ Row.off ∷ List.[];
         }
 
         abbrev G42 : Row.Cx
         G42 = record {
-          locals = List._++_ g32 t31;
-          slots = life0 ∷ Row.off ∷ Row.off ∷ Row.off ∷ Row.dead ∷ Row.alive ∷ Row.off ∷ List.[];
+          locals = List._++_ g31 t34;
+          slots = Row.off ∷ Row.off ∷ Row.off ∷ Row.dead ∷ Row.alive ∷ Row.alive ∷ Row.off ∷ List.[];
         }
 
         abbrev G43 : Row.Cx
         G43 = record {
-          locals = List._++_ g33 t34;
-          slots = life0 ∷ life1 ∷ Row.off ∷ Row.off ∷ Row.dead ∷ Row.alive ∷ Row.off ∷ List.[];
+          locals = List._++_ g35 t36;
+          slots = life0 ∷ Row.off ∷ Row.off ∷ Row.dead ∷ Row.alive ∷ Row.alive ∷ Row.off ∷ List.[];
         }
 
         abbrev G44 : Row.Cx
         G44 = record {
-          locals = List._++_ g33 t34;
-          slots = life0 ∷ life1 ∷ Row.off ∷ Row.off ∷ Row.off ∷ Row.alive ∷ Row.off ∷ List.[];
+          locals = List._++_ g35 t36;
+          slots = life0 ∷ Row.off ∷ Row.off ∷ Row.off ∷ Row.alive ∷ Row.alive ∷ Row.off ∷ List.[];
         }
 
         abbrev G45 : Row.Cx
         G45 = record {
-          locals = List._++_ g33 t34;
-          slots = life0 ∷ life1 ∷ Row.off ∷ Row.off ∷ Row.off ∷ Row.dead ∷ Row.off ∷ List.[];
+          locals = List._++_ g35 t36;
+          slots = life0 ∷ Row.off ∷ Row.off ∷ Row.off ∷ Row.dead ∷ Row.alive ∷ Row.off ∷ List.[];
         }
 
         abbrev G46 : Row.Cx
         G46 = record {
-          locals = List._++_ t9 t1;
-          slots = life0 ∷ life1 ∷ life2 ∷ Row.off ∷ Row.off ∷ Row.dead ∷ Row.off ∷ List.[];
+          locals = List._++_ g37 t38;
+          slots = life0 ∷ life1 ∷ Row.off ∷ Row.off ∷ Row.dead ∷ Row.alive ∷ Row.off ∷ List.[];
         }
 
         abbrev G47 : Row.Cx
         G47 = record {
-          locals = List._++_ t9 t1;
-          slots = life0 ∷ life1 ∷ life2 ∷ Row.off ∷ Row.off ∷ Row.dead ∷ Row.off ∷ List.[];
+          locals = List._++_ g37 t38;
+          slots = life0 ∷ life1 ∷ Row.off ∷ Row.off ∷ Row.off ∷ Row.alive ∷ Row.off ∷ List.[];
         }
 
         abbrev G48 : Row.Cx
         G48 = record {
-          locals = List._++_ t9 t1;
-          slots = life0 ∷ life1 ∷ life2 ∷ Row.off ∷ Row.off ∷ Row.off ∷ Row.off ∷ List.[];
+          locals = List._++_ g37 t38;
+          slots = life0 ∷ life1 ∷ Row.off ∷ Row.off ∷ Row.off ∷ Row.dead ∷ Row.off ∷ List.[];
         }
 
         abbrev G49 : Row.Cx
         G49 = record {
-          locals = List._++_ t9 t1;
-          slots = life0 ∷ life1 ∷ life2 ∷ Row.off ∷ Row.off ∷ Row.off ∷ Row.alive ∷ List.[];
+          locals = List._++_ t10 t1;
+          slots = life0 ∷ life1 ∷ life2 ∷ Row.off ∷ Row.off ∷ Row.dead ∷ Row.off ∷ List.[];
         }
 
         abbrev G50 : Row.Cx
         G50 = record {
-          locals = List._++_ g35 t36;
-          slots = Row.off ∷ life1 ∷ life2 ∷ Row.off ∷ Row.off ∷ Row.off ∷ Row.alive ∷ List.[];
+          locals = List._++_ t10 t1;
+          slots = life0 ∷ life1 ∷ life2 ∷ Row.off ∷ Row.off ∷ Row.dead ∷ Row.off ∷ List.[];
         }
 
         abbrev G51 : Row.Cx
         G51 = record {
-          locals = List._++_ g35 t37;
-          slots = Row.off ∷ life1 ∷ life2 ∷ Row.off ∷ Row.off ∷ Row.off ∷ Row.alive ∷ List.[];
+          locals = List._++_ t10 t1;
+          slots = life0 ∷ life1 ∷ life2 ∷ Row.off ∷ Row.off ∷ Row.off ∷ Row.off ∷ List.[];
         }
 
         abbrev G52 : Row.Cx
         G52 = record {
-          locals = List._++_ g35 t37;
-          slots = Row.off ∷ life1 ∷ life2 ∷ Row.off ∷ Row.off ∷ Row.off ∷ Row.alive ∷ List.[];
+          locals = List._++_ t10 t1;
+          slots = life0 ∷ life1 ∷ life2 ∷ Row.off ∷ Row.off ∷ Row.off ∷ Row.alive ∷ List.[];
         }
 
         abbrev G53 : Row.Cx
         G53 = record {
-          locals = List._++_ g35 t1;
+          locals = List._++_ g39 t40;
           slots = Row.off ∷ life1 ∷ life2 ∷ Row.off ∷ Row.off ∷ Row.off ∷ Row.alive ∷ List.[];
         }
 
         abbrev G54 : Row.Cx
         G54 = record {
-          locals = List._++_ g35 t1;
-          slots = Row.off ∷ life1 ∷ life2 ∷ Row.off ∷ Row.off ∷ Row.off ∷ Row.dead ∷ List.[];
+          locals = List._++_ g39 t41;
+          slots = Row.off ∷ life1 ∷ life2 ∷ Row.off ∷ Row.off ∷ Row.off ∷ Row.alive ∷ List.[];
         }
 
         abbrev G55 : Row.Cx
         G55 = record {
-          locals = List._++_ t9 t1;
-          slots = life0 ∷ life1 ∷ life2 ∷ Row.off ∷ Row.off ∷ Row.off ∷ Row.dead ∷ List.[];
+          locals = List._++_ g39 t41;
+          slots = Row.off ∷ life1 ∷ life2 ∷ Row.off ∷ Row.off ∷ Row.off ∷ Row.alive ∷ List.[];
         }
 
         abbrev G56 : Row.Cx
         G56 = record {
-          locals = List._++_ t9 t1;
-          slots = life0 ∷ life1 ∷ life2 ∷ Row.off ∷ Row.off ∷ Row.off ∷ Row.off ∷ List.[];
+          locals = List._++_ g39 t1;
+          slots = Row.off ∷ life1 ∷ life2 ∷ Row.off ∷ Row.off ∷ Row.off ∷ Row.alive ∷ List.[];
         }
 
         abbrev G57 : Row.Cx
         G57 = record {
-          locals = List._++_ t9 t1;
-          slots = life0 ∷ life1 ∷ life2 ∷ Row.off ∷ Row.off ∷ Row.off ∷ Row.off ∷ List.[];
+          locals = List._++_ g39 t1;
+          slots = Row.off ∷ life1 ∷ life2 ∷ Row.off ∷ Row.off ∷ Row.off ∷ Row.dead ∷ List.[];
         }
 
         abbrev G58 : Row.Cx
         G58 = record {
-          locals = List._++_ t19 t1;
-          slots = life0 ∷ life1 ∷ life2 ∷ Row.off ∷ Row.off ∷ Row.off ∷ Row.off ∷ List.[];
+          locals = List._++_ t10 t1;
+          slots = life0 ∷ life1 ∷ life2 ∷ Row.off ∷ Row.off ∷ Row.off ∷ Row.dead ∷ List.[];
         }
 
         abbrev G59 : Row.Cx
         G59 = record {
-          locals = List._++_ t38 t1;
+          locals = List._++_ t10 t1;
           slots = life0 ∷ life1 ∷ life2 ∷ Row.off ∷ Row.off ∷ Row.off ∷ Row.off ∷ List.[];
         }
 
         abbrev G60 : Row.Cx
         G60 = record {
-          locals = List._++_ t21 t1;
+          locals = List._++_ t10 t1;
           slots = life0 ∷ life1 ∷ life2 ∷ Row.off ∷ Row.off ∷ Row.off ∷ Row.off ∷ List.[];
         }
 
         abbrev G61 : Row.Cx
         G61 = record {
+          locals = List._++_ t22 t1;
+          slots = life0 ∷ life1 ∷ life2 ∷ Row.off ∷ Row.off ∷ Row.off ∷ Row.off ∷ List.[];
+        }
+
+        abbrev G62 : Row.Cx
+        G62 = record {
+          locals = List._++_ t42 t1;
+          slots = life0 ∷ life1 ∷ life2 ∷ Row.off ∷ Row.off ∷ Row.off ∷ Row.off ∷ List.[];
+        }
+
+        abbrev G63 : Row.Cx
+        G63 = record {
+          locals = List._++_ t24 t1;
+          slots = life0 ∷ life1 ∷ life2 ∷ Row.off ∷ Row.off ∷ Row.off ∷ Row.off ∷ List.[];
+        }
+
+        abbrev G64 : Row.Cx
+        G64 = record {
           locals = List._++_ t2 t1;
           slots = life0 ∷ life1 ∷ life2 ∷ Row.off ∷ Row.off ∷ Row.off ∷ Row.off ∷ List.[];
         }
@@ -1640,19 +1723,19 @@ module _ (claims· : Claims) where
         Δ0 = record { next = Option.none; exits = List.[]; returns = Option.some G1 }
 
         abbrev Δ1 : Typed.Outs
-        Δ1 = Typed.withNext (Option.some G10) Δ0
+        Δ1 = Typed.withNext (Option.some G11) Δ0
 
         abbrev Δ2 : Typed.Outs
         Δ2 = Typed.inBlock₀ Δ1
 
         abbrev Δ3 : Typed.Outs
-        Δ3 = Typed.inLoop₀ G9 Δ2
+        Δ3 = Typed.inLoop₀ G10 Δ2
 
         abbrev Δ4 : Typed.Outs
-        Δ4 = Typed.withNext (Option.some G12) Δ3
+        Δ4 = Typed.withNext (Option.some G13) Δ3
 
         abbrev Δ5 : Typed.Outs
-        Δ5 = Typed.withNext (Option.some G19) Δ3
+        Δ5 = Typed.withNext (Option.some G21) Δ3
 
         module _ {M : Type 1} (𝓤 : URA.URA M) (H : Wp.Heap 𝓤) (A : Atoms.Atoms 𝓤) (W : Kit.Given 𝓤 H A)
             (𝓣 : Wp.Tables 𝓤 H) (known : Knowns 𝓤 H A W 𝓣) (bs : List.List Nat.ℕ)
@@ -1660,194 +1743,219 @@ module _ (claims· : Claims) where
           abbrev E : Wp.Env 𝓤 H
           E = Frame.EnvOf 𝓤 H ((Kinds.tyR r) ∷ (Enter.tysP ps xs)) bs
 
-          d0 : Typed.Typed 𝓤 H A 𝓣 E G13 b6 Δ4 (at0 bs)
+          d0 : Typed.Typed 𝓤 H A 𝓣 E G14 b7 Δ4 (at0 bs)
           d0 = Typed.t-skip 𝓤 H A W 𝓣 E Δ4 tt
 
-          d1 : Typed.Typed 𝓤 H A 𝓣 E G11 b6 Δ4 (at1 bs)
-          d1 = Typed.g-pre 𝓤 H A W 𝓣 E G11 G13 b6 Δ4 (Typed.pass T11 T13 (s9 bs)) (at0 bs) (Scalar.g-room 𝓤 H A W E G11
-              12 Syntax.tyBool (Scalar.room-sc 𝓤 H A W Row.sBool)) d0
+          d1 : Typed.Typed 𝓤 H A 𝓣 E G12 b7 Δ4 (at1 bs)
+          d1 = Typed.g-pre 𝓤 H A W 𝓣 E G12 G14 b7 Δ4 (Typed.pass T12 T14 (s10 bs)) (at0 bs) (Scalar.g-room 𝓤 H A W E
+              G12 13 Syntax.tyBool (Scalar.room-sc 𝓤 H A W Row.sBool)) d0
 
-          d2 : Typed.Typed 𝓤 H A 𝓣 E G17 b7 Δ4 (at2 bs)
+          d2 : Typed.Typed 𝓤 H A 𝓣 E G19 b8 Δ4 (at2 bs)
           d2 = Typed.t-exit 𝓤 H A W 𝓣 E 1 Δ4 tt
 
-          d3 : Typed.Typed 𝓤 H A 𝓣 E G16 b7 Δ4 (at3 bs)
-          d3 = Typed.g-pre 𝓤 H A W 𝓣 E G16 G17 b7 Δ4 (Typed.pass T16 T17 (s13 bs)) (at2 bs) (Scalar.g-room 𝓤 H A W E
-              G16 12 Syntax.tyBool (Scalar.room-sc 𝓤 H A W Row.sBool)) d2
+          d3 : Typed.Typed 𝓤 H A 𝓣 E G18 b8 Δ4 (at3 bs)
+          d3 = Typed.g-pre 𝓤 H A W 𝓣 E G18 G19 b8 Δ4 (Typed.pass T18 T19 (s15 bs)) (at2 bs) (Scalar.g-room 𝓤 H A W E
+              G18 13 Syntax.tyBool (Scalar.room-sc 𝓤 H A W Row.sBool)) d2
 
-          d4 : Typed.Typed 𝓤 H A 𝓣 E G15 b7 Δ4 (at4 bs)
-          d4 = Typed.g-pre 𝓤 H A W 𝓣 E G15 G16 b7 Δ4 (Typed.pass T15 T16 (s12 bs)) (at3 bs) (Scalar.g-room 𝓤 H A W E
-              G15 10 Laws''''.mir (Local.room-whole 𝓤 H A W (Declared.row Walked.the-type) Laws''''.mir Path.refl)) d3
+          d4 : Typed.Typed 𝓤 H A 𝓣 E G17 b8 Δ4 (at4 bs)
+          d4 = Typed.g-pre 𝓤 H A W 𝓣 E G17 G18 b8 Δ4 (Typed.pass T17 T18 (s14 bs)) (at3 bs) (Scalar.g-room 𝓤 H A W E
+              G17 11 Laws'''''.mir (Local.room-whole 𝓤 H A W (Declared'.row Walked.the-type) Laws'''''.mir Path.refl))
+              d3
 
-          d5 : Typed.Typed 𝓤 H A 𝓣 E G14 b7 Δ4 (at5 bs)
-          d5 = Typed.g-pre 𝓤 H A W 𝓣 E G14 G15 b7 Δ4 (Typed.pass T14 T15 (s11 bs)) (at4 bs) (Scalar.g-room 𝓤 H A W E
-              G14 7 Laws'''.mir (Local.room-whole 𝓤 H A W (Declared.row Question.the-type) Laws'''.mir Path.refl)) d4
+          d5 : Typed.Typed 𝓤 H A 𝓣 E G16 b8 Δ4 (at5 bs)
+          d5 = Typed.g-pre 𝓤 H A W 𝓣 E G16 G17 b8 Δ4 (Typed.pass T16 T17 (s13 bs)) (at4 bs) (Scalar.g-room 𝓤 H A W E
+              G16 8 Laws'.mir (Local.room-whole 𝓤 H A W (Declared'.row HnsrPeerId.the-type) Laws'.mir Path.refl)) d4
 
-          d6 : Typed.Typed 𝓤 H A 𝓣 E G11 b7 Δ4 (at6 bs)
-          d6 = Typed.g-pre 𝓤 H A W 𝓣 E G11 G14 b7 Δ4 (Typed.pass T11 T14 (s10 bs)) (at5 bs) (Scalar.g-room 𝓤 H A W E
-              G11 5 Laws.mir (Local.room-whole 𝓤 H A W (Declared.row Revoking.the-type) Laws.mir Path.refl)) d5
+          d6 : Typed.Typed 𝓤 H A 𝓣 E G15 b8 Δ4 (at6 bs)
+          d6 = Typed.g-pre 𝓤 H A W 𝓣 E G15 G16 b8 Δ4 (Typed.pass T15 T16 (s12 bs)) (at5 bs) (Scalar.g-room 𝓤 H A W E
+              G15 7 Laws''''.mir (Local.room-whole 𝓤 H A W (Declared.row RecordQuestion.the-type) Laws''''.mir
+              Path.refl)) d5
 
-          d7 : Typed.Typed 𝓤 H A 𝓣 E G11 b8 Δ4 (at7 bs)
-          d7 = Scalar.t-cond 𝓤 H A W E 𝓣 G11 12 (λ x. x) b6 b7 Δ4 (at1 bs) (at6 bs) (Scalar.reads-sc 𝓤 H A W Row.sBool)
-              Path.refl d1 d6
+          d7 : Typed.Typed 𝓤 H A 𝓣 E G12 b8 Δ4 (at7 bs)
+          d7 = Typed.g-pre 𝓤 H A W 𝓣 E G12 G15 b8 Δ4 (Typed.pass T12 T15 (s11 bs)) (at6 bs) (Scalar.g-room 𝓤 H A W E
+              G12 5 Laws.mir (Local.room-whole 𝓤 H A W (Declared'.row Revoking.the-type) Laws.mir Path.refl)) d6
 
-          d8 : Typed.Typed 𝓤 H A 𝓣 E G27 b11 Δ5 (at8 bs)
-          d8 = Typed.t-return 𝓤 H A W 𝓣 E Δ5 tt
+          d8 : Typed.Typed 𝓤 H A 𝓣 E G12 b9 Δ4 (at8 bs)
+          d8 = Scalar.t-cond 𝓤 H A W E 𝓣 G12 13 (λ x. x) b7 b8 Δ4 (at1 bs) (at7 bs) (Scalar.reads-sc 𝓤 H A W Row.sBool)
+              Path.refl d1 d7
 
-          d9 : Typed.Typed 𝓤 H A 𝓣 E G26 b11 Δ5 (at9 bs)
-          d9 = Typed.g-pre 𝓤 H A W 𝓣 E G26 G27 b11 Δ5 (Typed.pass T26 T27 (s22 bs)) (at8 bs) (Scalar.g-room 𝓤 H A W E
-              G26 11 (Syntax.tyInt Syntax.w64) (Scalar.room-sc 𝓤 H A W (Row.sInt Syntax.w64))) d8
+          d9 : Typed.Typed 𝓤 H A 𝓣 E G30 b12 Δ5 (at9 bs)
+          d9 = Typed.t-return 𝓤 H A W 𝓣 E Δ5 tt
 
-          d10 : Typed.Typed 𝓤 H A 𝓣 E G25 b11 Δ5 (at10 bs)
-          d10 = Typed.g-pre 𝓤 H A W 𝓣 E G25 G26 b11 Δ5 (Typed.pass T25 T26 (s21 bs)) (at9 bs) (Scalar.g-room 𝓤 H A W E
-              G25 8 (Syntax.tyInt Syntax.w64) (Scalar.room-sc 𝓤 H A W (Row.sInt Syntax.w64))) d9
+          d10 : Typed.Typed 𝓤 H A 𝓣 E G29 b12 Δ5 (at10 bs)
+          d10 = Typed.g-pre 𝓤 H A W 𝓣 E G29 G30 b12 Δ5 (Typed.pass T29 T30 (s25 bs)) (at9 bs) (Scalar.g-room 𝓤 H A W E
+              G29 12 (Syntax.tyInt Syntax.w64) (Scalar.room-sc 𝓤 H A W (Row.sInt Syntax.w64))) d9
 
-          d11 : Typed.Typed 𝓤 H A 𝓣 E G24 b11 Δ5 (at11 bs)
-          d11 = Typed.g-pre 𝓤 H A W 𝓣 E G24 G25 b11 Δ5 (Typed.pass T24 T25 (s20 bs)) (at10 bs) (Scalar.g-room 𝓤 H A W E
-              G24 9 Laws'.mir (Local.room-whole 𝓤 H A W (Declared.row Sending.the-type) Laws'.mir Path.refl)) d10
+          d11 : Typed.Typed 𝓤 H A 𝓣 E G28 b12 Δ5 (at11 bs)
+          d11 = Typed.g-pre 𝓤 H A W 𝓣 E G28 G29 b12 Δ5 (Typed.pass T28 T29 (s24 bs)) (at10 bs) (Scalar.g-room 𝓤 H A W E
+              G28 9 (Syntax.tyInt Syntax.w64) (Scalar.room-sc 𝓤 H A W (Row.sInt Syntax.w64))) d10
 
-          d12 : Typed.Typed 𝓤 H A 𝓣 E G23 b12 Δ5 (at12 bs)
-          d12 = Typed.s-seq 𝓤 H A W 𝓣 E G23 G24 b10 b11 Δ5 (Typed.pass T23 T24 (s19 bs)) (at11 bs) (LocalCopy.t-val-copy
-              𝓤 H A W E 𝓣 (λ ρ. Unit) G23 9 0 (Declared.row Sending.the-type) Laws'.mir Laws'.mir
-              (Rows.whole (Declared.row Sending.the-type)) (Rows.whole (Declared.row Sending.the-type)) (λ x. x)
-              (λ x. x) (λ x. x) Path.refl (Own.told-none 𝓤 H A (G23 .slots)) (Yields.yields-copy 𝓤 H A W (λ ρ. Unit)
-              (Declared.row Sending.the-type) Path.refl (Copies.cStruct Sending.the-type Laws'.the-laws Laws'.the-copy
-              .copy 𝓤 H A W) (Rows.whole (Declared.row Sending.the-type)) (λ x. x) (λ x. x) (λ ρ told. Local.mem-whole
-              𝓤 H A W (Declared.row Sending.the-type) ρ) λ ρ told. Local.whole-mem 𝓤 H A W
-              (Declared.row Sending.the-type) ρ) (Reads'.room-gone 𝓤 H A Laws'.mir) (Yields.makes-mem 𝓤 H A W
-              (λ ρ. Unit) (Declared.row Sending.the-type) Path.refl (Rows.whole (Declared.row Sending.the-type))
-              (λ x. x) λ ρ told. Local.whole-mem 𝓤 H A W (Declared.row Sending.the-type) ρ) Path.refl Path.refl) d11
+          d12 : Typed.Typed 𝓤 H A 𝓣 E G27 b12 Δ5 (at12 bs)
+          d12 = Typed.g-pre 𝓤 H A W 𝓣 E G27 G28 b12 Δ5 (Typed.pass T27 T28 (s23 bs)) (at11 bs) (Scalar.g-room 𝓤 H A W E
+              G27 10 Laws''.mir (Local.room-whole 𝓤 H A W (Declared'.row Sending.the-type) Laws''.mir Path.refl)) d11
 
-          d13 : Typed.Typed 𝓤 H A 𝓣 E G22 b12 Δ5 (at13 bs)
-          d13 = Typed.g-pre 𝓤 H A W 𝓣 E G22 G23 b12 Δ5 (Typed.pass T22 T23 (s18 bs)) (at12 bs) (Scalar.g-room 𝓤 H A W E
-              G22 13 Syntax.tyBool (Scalar.room-sc 𝓤 H A W Row.sBool)) d12
+          d13 : Typed.Typed 𝓤 H A 𝓣 E G26 b13 Δ5 (at13 bs)
+          d13 = Typed.s-seq 𝓤 H A W 𝓣 E G26 G27 b11 b12 Δ5 (Typed.pass T26 T27 (s22 bs)) (at12 bs) (LocalCopy.t-val-copy
+              𝓤 H A W E 𝓣 (λ ρ. Unit) G26 10 0 (Declared'.row Sending.the-type) Laws''.mir Laws''.mir
+              (Rows.whole (Declared'.row Sending.the-type)) (Rows.whole (Declared'.row Sending.the-type)) (λ x. x)
+              (λ x. x) (λ x. x) Path.refl (Own.told-none 𝓤 H A (G26 .slots)) (Yields.yields-copy 𝓤 H A W (λ ρ. Unit)
+              (Declared'.row Sending.the-type) Path.refl (Copies.cStruct Sending.the-type Laws''.the-laws
+              Laws''.the-copy .copy 𝓤 H A W) (Rows.whole (Declared'.row Sending.the-type)) (λ x. x) (λ x. x) (λ ρ told.
+              Local.mem-whole 𝓤 H A W (Declared'.row Sending.the-type) ρ) λ ρ told. Local.whole-mem 𝓤 H A W
+              (Declared'.row Sending.the-type) ρ) (Reads'.room-gone 𝓤 H A Laws''.mir) (Yields.makes-mem 𝓤 H A W
+              (λ ρ. Unit) (Declared'.row Sending.the-type) Path.refl (Rows.whole (Declared'.row Sending.the-type))
+              (λ x. x) λ ρ told. Local.whole-mem 𝓤 H A W (Declared'.row Sending.the-type) ρ) Path.refl Path.refl) d12
 
-          d14 : Typed.Typed 𝓤 H A 𝓣 E G21 b12 Δ5 (at14 bs)
-          d14 = Typed.g-pre 𝓤 H A W 𝓣 E G21 G22 b12 Δ5 (Typed.pass T21 T22 (s17 bs)) (at13 bs) (Scalar.g-room 𝓤 H A W E
-              G21 10 Laws''''.mir (Local.room-whole 𝓤 H A W (Declared.row Walked.the-type) Laws''''.mir Path.refl)) d13
+          d14 : Typed.Typed 𝓤 H A 𝓣 E G25 b13 Δ5 (at14 bs)
+          d14 = Typed.g-pre 𝓤 H A W 𝓣 E G25 G26 b13 Δ5 (Typed.pass T25 T26 (s21 bs)) (at13 bs) (Scalar.g-room 𝓤 H A W E
+              G25 14 Syntax.tyBool (Scalar.room-sc 𝓤 H A W Row.sBool)) d13
 
-          d15 : Typed.Typed 𝓤 H A 𝓣 E G20 b12 Δ5 (at15 bs)
-          d15 = Typed.g-pre 𝓤 H A W 𝓣 E G20 G21 b12 Δ5 (Typed.pass T20 T21 (s16 bs)) (at14 bs) (Scalar.g-room 𝓤 H A W E
-              G20 7 Laws'''.mir (Local.room-whole 𝓤 H A W (Declared.row Question.the-type) Laws'''.mir Path.refl)) d14
+          d15 : Typed.Typed 𝓤 H A 𝓣 E G24 b13 Δ5 (at15 bs)
+          d15 = Typed.g-pre 𝓤 H A W 𝓣 E G24 G25 b13 Δ5 (Typed.pass T24 T25 (s20 bs)) (at14 bs) (Scalar.g-room 𝓤 H A W E
+              G24 11 Laws'''''.mir (Local.room-whole 𝓤 H A W (Declared'.row Walked.the-type) Laws'''''.mir Path.refl))
+              d14
 
-          d16 : Typed.Typed 𝓤 H A 𝓣 E G18 b12 Δ5 (at16 bs)
-          d16 = Typed.g-pre 𝓤 H A W 𝓣 E G18 G20 b12 Δ5 (Typed.pass T18 T20 (s15 bs)) (at15 bs) (Scalar.g-room 𝓤 H A W E
-              G18 5 Laws.mir (Local.room-whole 𝓤 H A W (Declared.row Revoking.the-type) Laws.mir Path.refl)) d15
+          d16 : Typed.Typed 𝓤 H A 𝓣 E G23 b13 Δ5 (at16 bs)
+          d16 = Typed.g-pre 𝓤 H A W 𝓣 E G23 G24 b13 Δ5 (Typed.pass T23 T24 (s19 bs)) (at15 bs) (Scalar.g-room 𝓤 H A W E
+              G23 8 Laws'.mir (Local.room-whole 𝓤 H A W (Declared'.row HnsrPeerId.the-type) Laws'.mir Path.refl)) d15
 
-          d17 : Typed.Typed 𝓤 H A 𝓣 E G28 b13 Δ5 (at17 bs)
-          d17 = Typed.t-skip 𝓤 H A W 𝓣 E Δ5 tt
+          d17 : Typed.Typed 𝓤 H A 𝓣 E G22 b13 Δ5 (at17 bs)
+          d17 = Typed.g-pre 𝓤 H A W 𝓣 E G22 G23 b13 Δ5 (Typed.pass T22 T23 (s18 bs)) (at16 bs) (Scalar.g-room 𝓤 H A W E
+              G22 7 Laws''''.mir (Local.room-whole 𝓤 H A W (Declared.row RecordQuestion.the-type) Laws''''.mir
+              Path.refl)) d16
 
-          d18 : Typed.Typed 𝓤 H A 𝓣 E G18 b13 Δ5 (at18 bs)
-          d18 = Typed.g-pre 𝓤 H A W 𝓣 E G18 G28 b13 Δ5 (Typed.pass T18 T28 (s23 bs)) (at17 bs) (Scalar.g-room 𝓤 H A W E
-              G18 13 Syntax.tyBool (Scalar.room-sc 𝓤 H A W Row.sBool)) d17
+          d18 : Typed.Typed 𝓤 H A 𝓣 E G20 b13 Δ5 (at18 bs)
+          d18 = Typed.g-pre 𝓤 H A W 𝓣 E G20 G22 b13 Δ5 (Typed.pass T20 T22 (s17 bs)) (at17 bs) (Scalar.g-room 𝓤 H A W E
+              G20 5 Laws.mir (Local.room-whole 𝓤 H A W (Declared'.row Revoking.the-type) Laws.mir Path.refl)) d17
 
-          d19 : Typed.Typed 𝓤 H A 𝓣 E G18 b14 Δ5 (at19 bs)
-          d19 = Scalar.t-cond 𝓤 H A W E 𝓣 G18 13 (λ x. x) b12 b13 Δ5 (at16 bs) (at18 bs)
-              (Scalar.reads-sc 𝓤 H A W Row.sBool) Path.refl d16 d18
+          d19 : Typed.Typed 𝓤 H A 𝓣 E G31 b14 Δ5 (at19 bs)
+          d19 = Typed.t-skip 𝓤 H A W 𝓣 E Δ5 tt
 
-          d20 : Typed.Typed 𝓤 H A 𝓣 E G56 b25 Δ3 (at20 bs)
-          d20 = Typed.s-typed 𝓤 H A W 𝓣 E G56 b25 Δ3 (Typed.ask (s52 bs)) tt (Scalar.t-op2 𝓤 H A W E 𝓣 G56
-              (Syntax.add Syntax.unsigned) (Scalar.oAt 11 (Syntax.tyInt Syntax.w64) (Row.valS (Row.sInt Syntax.w64)))
-              (Scalar.oInt Syntax.w64 1) 11 (Rows.sc-here (Row.sInt Syntax.w64)) (Syntax.tyInt Syntax.w64)
+          d20 : Typed.Typed 𝓤 H A 𝓣 E G20 b14 Δ5 (at20 bs)
+          d20 = Typed.g-pre 𝓤 H A W 𝓣 E G20 G31 b14 Δ5 (Typed.pass T20 T31 (s26 bs)) (at19 bs) (Scalar.g-room 𝓤 H A W E
+              G20 14 Syntax.tyBool (Scalar.room-sc 𝓤 H A W Row.sBool)) d19
+
+          d21 : Typed.Typed 𝓤 H A 𝓣 E G20 b15 Δ5 (at21 bs)
+          d21 = Scalar.t-cond 𝓤 H A W E 𝓣 G20 14 (λ x. x) b13 b14 Δ5 (at18 bs) (at20 bs)
+              (Scalar.reads-sc 𝓤 H A W Row.sBool) Path.refl d18 d20
+
+          d22 : Typed.Typed 𝓤 H A 𝓣 E G59 b26 Δ3 (at22 bs)
+          d22 = Typed.s-typed 𝓤 H A W 𝓣 E G59 b26 Δ3 (Typed.ask (s55 bs)) tt (Scalar.t-op2 𝓤 H A W E 𝓣 G59
+              (Syntax.add Syntax.unsigned) (Scalar.oAt 12 (Syntax.tyInt Syntax.w64) (Row.valS (Row.sInt Syntax.w64)))
+              (Scalar.oInt Syntax.w64 1) 12 (Rows.sc-here (Row.sInt Syntax.w64)) (Syntax.tyInt Syntax.w64)
               (Row.valS (Row.sInt Syntax.w64)) (Row.sInt Syntax.w64 .of)
               (Scalar.reads-sc 𝓤 H A W (Row.sInt Syntax.w64), Path.refl) tt
               (Scalar.room-sc 𝓤 H A W (Row.sInt Syntax.w64)) (Scalar.holds-sc 𝓤 H A W (Row.sInt Syntax.w64)) Path.refl
               (λ u. Path.refl) λ u. tt)
 
-          d21 : Typed.Typed 𝓤 H A 𝓣 E G55 b25 Δ3 (at21 bs)
-          d21 = Typed.g-pre 𝓤 H A W 𝓣 E G55 G56 b25 Δ3 (λ Ψ. Ψ) (at20 bs)
-              (Lifetime.g-forget 𝓤 H A W E G55 6 Row.dead Path.refl) d20
+          d23 : Typed.Typed 𝓤 H A 𝓣 E G58 b26 Δ3 (at23 bs)
+          d23 = Typed.g-pre 𝓤 H A W 𝓣 E G58 G59 b26 Δ3 (λ Ψ. Ψ) (at22 bs)
+              (Lifetime.g-forget 𝓤 H A W E G58 6 Row.dead Path.refl) d22
 
-          d22 : Typed.Typed 𝓤 H A 𝓣 E G54 b25 Δ3 (at22 bs)
-          d22 = Typed.g-pre 𝓤 H A W 𝓣 E G54 G55 b25 Δ3 (Typed.pass T53 T55 (s50 bs)) (at21 bs) (Reshare.g-back-sl-shr 𝓤
-              H A W E RelayPending.row G54 1 0 6 ref4 life0 (λ x. x) (Reads'.as-is 𝓤 H A
-              (Reshare.mslice-owedS RelayPending.row ref4 0 6 life0)) Path.refl Path.refl) d21
+          d24 : Typed.Typed 𝓤 H A 𝓣 E G57 b26 Δ3 (at24 bs)
+          d24 = Typed.g-pre 𝓤 H A W 𝓣 E G57 G58 b26 Δ3 (Typed.pass T56 T58 (s53 bs)) (at23 bs) (Reshare.g-back-sl-shr 𝓤
+              H A W E RelayPending.row G57 1 0 6 ref4 life0 (λ x. x) (Reads'.as-is 𝓤 H A
+              (Reshare.mslice-owedS RelayPending.row ref4 0 6 life0)) Path.refl Path.refl) d23
 
-          d23 : Typed.Typed 𝓤 H A 𝓣 E G53 b25 Δ3 (at23 bs)
-          d23 = Typed.g-pre 𝓤 H A W 𝓣 E G53 G54 b25 Δ3 (λ Ψ. Ψ) (at22 bs) (Lifetime.g-end 𝓤 H A W E G53 6 Path.refl)
-              d22
+          d25 : Typed.Typed 𝓤 H A 𝓣 E G56 b26 Δ3 (at25 bs)
+          d25 = Typed.g-pre 𝓤 H A W 𝓣 E G56 G57 b26 Δ3 (λ Ψ. Ψ) (at24 bs) (Lifetime.g-end 𝓤 H A W E G56 6 Path.refl)
+              d24
 
-          d24 : Typed.Typed 𝓤 H A 𝓣 E G52 b25 Δ3 (at24 bs)
-          d24 = Typed.g-pre 𝓤 H A W 𝓣 E G52 G53 b25 Δ3 (Typed.pass T52 T53 (s48 bs)) (at23 bs) (Scalar.g-room 𝓤 H A W E
-              G52 21 slice3 (Shared.room-sslice 𝓤 H A W RelayPending.row ref3 6)) d23
+          d26 : Typed.Typed 𝓤 H A 𝓣 E G55 b26 Δ3 (at26 bs)
+          d26 = Typed.g-pre 𝓤 H A W 𝓣 E G55 G56 b26 Δ3 (Typed.pass T55 T56 (s51 bs)) (at25 bs) (Scalar.g-room 𝓤 H A W E
+              G55 22 slice3 (Shared.room-sslice 𝓤 H A W RelayPending.row ref3 6)) d25
 
-          d25 : Typed.Typed 𝓤 H A 𝓣 E G51 b26 Δ3 (at25 bs)
-          d25 = Typed.s-seq 𝓤 H A W 𝓣 E G51 G52 b24 b25 Δ3 (Typed.both (s47 bs)) (at24 bs) (Plain.t-call-plain 𝓤 H A W
+          d27 : Typed.Typed 𝓤 H A 𝓣 E G54 b27 Δ3 (at27 bs)
+          d27 = Typed.s-seq 𝓤 H A W 𝓣 E G54 G55 b25 b26 Δ3 (Typed.both (s50 bs)) (at26 bs) (Plain.t-call-plain 𝓤 H A W
               𝓣 1 ps·2 r·2 (claims· .4) (claims· .5) "hnsr_circuit::tables::pending::next_pending" (known .2) E
-              (λ pos β. β) G51 (
-                record { pos = 21; ty = ref3; ref = λ x. x },
+              (λ pos β. β) G54 (
+                record { pos = 22; ty = ref3; ref = λ x. x },
                 (
                   record {
-                    pos = 9;
+                    pos = 10;
                     st = (Syntax.field 2) ∷ List.[];
                     d = 168;
                     at = λ x. Sending.struct .as-values x .1 .1 .0;
                   },
                   (
                     record { pos = 7; st = List.[]; d = 0; at = λ x. x },
-                    (record { pos = 10; st = List.[]; d = 0; at = λ x. x }, tt),
+                    (
+                      record { pos = 8; st = List.[]; d = 0; at = λ x. x },
+                      (record { pos = 11; st = List.[]; d = 0; at = λ x. x }, tt),
+                    ),
                   ),
                 ),
-              ) 10 (6 ∷ List.[]) (Call.sub-id 𝓤 H A W (G51 .slots)) (
+              ) 11 (6 ∷ List.[]) (Call.sub-id 𝓤 H A W (G54 .slots)) (
                 ShrSlice.spares-sslice 𝓤 H A W RelayPending.row ref3 6,
                 Shared.reads-sslice 𝓤 H A W RelayPending.row ref3 6,
                 Path.refl,
                 (
                   (
-                    Yields'.yields-acc 𝓤 H A W (Rows.whole (Declared.row Sending.the-type))
-                        (Declared.row Places.the-type) 168 (λ x. Sending.struct .as-values x .1 .1 .0) Path.refl (Copies.cStruct
-                        Places.the-type Laws''.the-laws Laws''.the-copy .copy 𝓤 H A W) (Yields'.acc-record 𝓤 H A W
-                        (Rows.whole (Declared.row Sending.the-type)) Places.the-type 168
+                    Yields'.yields-acc 𝓤 H A W (Rows.whole (Declared'.row Sending.the-type))
+                        (Declared'.row Places.the-type) 168 (λ x. Sending.struct .as-values x .1 .1 .0) Path.refl (Copies.cStruct
+                        Places.the-type Laws'''.the-laws Laws'''.the-copy .copy 𝓤 H A W) (Yields'.acc-record 𝓤 H A W
+                        (Rows.whole (Declared'.row Sending.the-type)) Places.the-type 168
                         (λ x. Sending.struct .as-values x .1 .1 .0) (Yields'.acc-part 𝓤 H A W
-                        (Rows.whole (Declared.row Sending.the-type)) (Declared.row Sending.the-type)
-                        (Struct.Struct (Declared.shape Places.the-type)) 0 168 (λ x. x) (λ y. Places.the-type .to
-                        (Sending.struct .as-values y .1 .1 .0))
-                        (Yields'.acc-whole 𝓤 H A W (Declared.row Sending.the-type)) λ y a. Behind.look-at 𝓤 H A W
-                        TreeShare.fullShare Sending.the-type Laws'.the-laws 2 168 Path.refl Path.refl a y
-                        (Sending.struct .as-values y) Path.refl)),
+                        (Rows.whole (Declared'.row Sending.the-type)) (Declared'.row Sending.the-type)
+                        (Struct.Struct (Declared'.shape Places.the-type)) 0 168 (λ x. x) (λ y. Places.the-type .to
+                        (Sending.struct .as-values y .1 .1 .0)) (Yields'.acc-whole 𝓤 H A W
+                        (Declared'.row Sending.the-type)) λ y a. Behind.look-at 𝓤 H A W TreeShare.fullShare
+                        Sending.the-type Laws''.the-laws 2 168 Path.refl Path.refl a y (Sending.struct .as-values y)
+                        Path.refl)),
                     Path.refl,
                   ),
                   (
                     (
-                      Yields.yields-copy 𝓤 H A W (λ ρ. Unit) (Declared.row Question.the-type) Path.refl (Copies.cStruct
-                          Question.the-type Laws'''.the-laws Laws'''.the-copy .copy 𝓤 H A W)
-                          (Rows.whole (Declared.row Question.the-type)) (λ x. x) (λ x. x) (λ ρ told. Local.mem-whole 𝓤
-                          H A W (Declared.row Question.the-type) ρ) λ ρ told. Local.whole-mem 𝓤 H A W
-                          (Declared.row Question.the-type) ρ,
+                      Yields.yields-copy 𝓤 H A W (λ ρ. Unit) (Declared.row RecordQuestion.the-type) Path.refl (Copies.cEnum
+                          RecordQuestion.the-type Laws''''.the-laws Laws''''.the-copy .copy 𝓤 H A W)
+                          (Rows.whole (Declared.row RecordQuestion.the-type)) (λ x. x) (λ x. x) (λ ρ told.
+                          Local.mem-whole 𝓤 H A W (Declared.row RecordQuestion.the-type) ρ) λ ρ told. Local.whole-mem 𝓤
+                          H A W (Declared.row RecordQuestion.the-type) ρ,
                       Path.refl,
                     ),
                     (
                       (
-                        Yields.yields-copy 𝓤 H A W (λ ρ. Unit) (Declared.row Walked.the-type) Path.refl (Copies.cStruct
-                            Walked.the-type Laws''''.the-laws Laws''''.the-copy .copy 𝓤 H A W)
-                            (Rows.whole (Declared.row Walked.the-type)) (λ x. x) (λ x. x) (λ ρ told. Local.mem-whole 𝓤
-                            H A W (Declared.row Walked.the-type) ρ) λ ρ told. Local.whole-mem 𝓤 H A W
-                            (Declared.row Walked.the-type) ρ,
+                        Yields.yields-copy 𝓤 H A W (λ ρ. Unit) (Declared'.row HnsrPeerId.the-type) Path.refl (Copies.cStruct
+                            HnsrPeerId.the-type Laws'.the-laws Laws'.the-copy .copy 𝓤 H A W)
+                            (Rows.whole (Declared'.row HnsrPeerId.the-type)) (λ x. x) (λ x. x) (λ ρ told.
+                            Local.mem-whole 𝓤 H A W (Declared'.row HnsrPeerId.the-type) ρ) λ ρ told. Local.whole-mem 𝓤
+                            H A W (Declared'.row HnsrPeerId.the-type) ρ,
                         Path.refl,
                       ),
-                      tt,
+                      (
+                        (
+                          Yields.yields-copy 𝓤 H A W (λ ρ. Unit) (Declared'.row Walked.the-type) Path.refl (Copies.cStruct
+                              Walked.the-type Laws'''''.the-laws Laws'''''.the-copy .copy 𝓤 H A W)
+                              (Rows.whole (Declared'.row Walked.the-type)) (λ x. x) (λ x. x) (λ ρ told. Local.mem-whole
+                              𝓤 H A W (Declared'.row Walked.the-type) ρ) λ ρ told. Local.whole-mem 𝓤 H A W
+                              (Declared'.row Walked.the-type) ρ,
+                          Path.refl,
+                        ),
+                        tt,
+                      ),
                     ),
                   ),
                 ),
-              ) (Local.room-whole 𝓤 H A W (Declared.row Walked.the-type) Laws''''.mir Path.refl) (tt, tt) Path.refl)
-              d24
+              ) (Local.room-whole 𝓤 H A W (Declared'.row Walked.the-type) Laws'''''.mir Path.refl) (tt, tt) Path.refl)
+              d26
 
-          d26 : Typed.Typed 𝓤 H A 𝓣 E G50 b27 Δ3 (at26 bs)
-          d26 = Typed.s-seq 𝓤 H A W 𝓣 E G50 G51 b23 b26 Δ3 (Typed.ask (s46 bs)) (at25 bs) (Relend.t-sl-aggregate 𝓤 H A
-              W E RelayPending.row 𝓣 (Relend.asShr RelayPending.row) G50 20 21 6 ref3 ref3 (λ x. x) (Scalar.oFld 1
+          d28 : Typed.Typed 𝓤 H A 𝓣 E G53 b28 Δ3 (at28 bs)
+          d28 = Typed.s-seq 𝓤 H A W 𝓣 E G53 G54 b24 b27 Δ3 (Typed.ask (s49 bs)) (at27 bs) (Relend.t-sl-aggregate 𝓤 H A
+              W E RelayPending.row 𝓣 (Relend.asShr RelayPending.row) G53 21 22 6 ref3 ref3 (λ x. x) (Scalar.oFld 1
               ((Syntax.field 1) ∷ List.[]) (Syntax.tyInt Syntax.w64) 8 λ v. Shared.lenV (v .0))
               (Reads'.as-is 𝓤 H A (Relend.ssptr RelayPending.row ref3 6)) (Reads'.room-gone 𝓤 H A slice3) (
                 Reshare.reads-owedS-len 𝓤 H A W RelayPending.row ref4 0 6 life0 8 Path.refl,
                 Path.refl,
-              ) Path.refl Path.refl λ b o k. tt) d25
+              ) Path.refl Path.refl λ b o k. tt) d27
 
-          d27 : Typed.Typed 𝓤 H A 𝓣 E G49 b28 Δ3 (at27 bs)
-          d27 = Typed.s-seq 𝓤 H A W 𝓣 E G49 G50 b22 b27 Δ3 (Typed.give (s45 bs)) (at26 bs) (Reshare.t-sl-reshare 𝓤 H A
-              W E RelayPending.row 𝓣 G49 1 20 0 6 ref4 ref3 life0 0 (λ x. x)
+          d29 : Typed.Typed 𝓤 H A 𝓣 E G52 b29 Δ3 (at29 bs)
+          d29 = Typed.s-seq 𝓤 H A W 𝓣 E G52 G53 b23 b28 Δ3 (Typed.give (s48 bs)) (at28 bs) (Reshare.t-sl-reshare 𝓤 H A
+              W E RelayPending.row 𝓣 G52 1 21 0 6 ref4 ref3 life0 0 (λ x. x)
               (Reads'.as-is 𝓤 H A (Mut.mslice RelayPending.row ref4 0)) (Reads'.room-gone 𝓤 H A ref3) Path.refl tt
-              Path.refl Path.refl Path.refl λ b o. tt) d26
+              Path.refl Path.refl Path.refl λ b o. tt) d28
 
-          d28 : Typed.Typed 𝓤 H A 𝓣 E G48 b28 Δ3 (at28 bs)
-          d28 = Typed.g-pre 𝓤 H A W 𝓣 E G48 G49 b28 Δ3 (λ Ψ. Ψ) (at27 bs) (Lifetime.g-begin 𝓤 H A W E G48 6 (
+          d30 : Typed.Typed 𝓤 H A 𝓣 E G51 b29 Δ3 (at30 bs)
+          d30 = Typed.g-pre 𝓤 H A W 𝓣 E G51 G52 b29 Δ3 (λ Ψ. Ψ) (at29 bs) (Lifetime.g-begin 𝓤 H A W E G51 6 (
             tt,
             (
               tt,
@@ -1861,81 +1969,84 @@ module _ (claims· : Claims) where
                       tt,
                       (
                         tt,
-                        (tt, (tt, (tt, (tt, (tt, (tt, (tt, (tt, (tt, (tt, (tt, (tt, (tt, (tt, (tt, tt))))))))))))))),
+                        (
+                          tt,
+                          (tt, (tt, (tt, (tt, (tt, (tt, (tt, (tt, (tt, (tt, (tt, (tt, (tt, (tt, (tt, tt))))))))))))))),
+                        ),
                       ),
                     ),
                   ),
                 ),
               ),
             ),
-          )) d27
+          )) d29
 
-          d29 : Typed.Typed 𝓤 H A 𝓣 E G47 b28 Δ3 (at29 bs)
-          d29 = Typed.g-pre 𝓤 H A W 𝓣 E G47 G48 b28 Δ3 (λ Ψ. Ψ) (at28 bs)
-              (Lifetime.g-forget 𝓤 H A W E G47 5 Row.dead Path.refl) d28
+          d31 : Typed.Typed 𝓤 H A 𝓣 E G50 b29 Δ3 (at31 bs)
+          d31 = Typed.g-pre 𝓤 H A W 𝓣 E G50 G51 b29 Δ3 (λ Ψ. Ψ) (at30 bs)
+              (Lifetime.g-forget 𝓤 H A W E G50 5 Row.dead Path.refl) d30
 
-          d30 : Typed.Typed 𝓤 H A 𝓣 E G46 b28 Δ3 (at30 bs)
-          d30 = Typed.g-pre 𝓤 H A W 𝓣 E G46 G47 b28 Δ3 (Typed.give (s42 bs)) (at29 bs) (Know.g-sl-known 𝓤 H A W
-              (Referent.fInt Syntax.w32) E G46 3 2 ref6 life2 0 (λ x. x) record { fits = Dec.lit< tt } (Reads'.as-is 𝓤
-              H A (Mut.mslice (Referent.rtF (Referent.fInt Syntax.w32)) ref6 2)) Path.refl tt) d29
+          d32 : Typed.Typed 𝓤 H A 𝓣 E G49 b29 Δ3 (at32 bs)
+          d32 = Typed.g-pre 𝓤 H A W 𝓣 E G49 G50 b29 Δ3 (Typed.give (s45 bs)) (at31 bs) (Know.g-sl-known 𝓤 H A W
+              (Referent.fInt Syntax.w32) E G49 3 2 ref6 life2 0 (λ x. x) record { fits = Dec.lit< tt } (Reads'.as-is 𝓤
+              H A (Mut.mslice (Referent.rtF (Referent.fInt Syntax.w32)) ref6 2)) Path.refl tt) d31
 
-          d31 : Typed.Typed 𝓤 H A 𝓣 E G45 b28 Δ3 (at31 bs)
-          d31 = Typed.g-pre 𝓤 H A W 𝓣 E G45 G46 b28 Δ3 (Typed.both (s41 bs)) (at30 bs) (Relend.g-back-sl 𝓤 H A W E
-              (Referent.rtF (Referent.fInt Syntax.w32)) G45 19 3 2 5 ref6 ref2 life2 (λ x. x) (λ x. x) (Reads'.as-is 𝓤
+          d33 : Typed.Typed 𝓤 H A 𝓣 E G48 b29 Δ3 (at33 bs)
+          d33 = Typed.g-pre 𝓤 H A W 𝓣 E G48 G49 b29 Δ3 (Typed.both (s44 bs)) (at32 bs) (Relend.g-back-sl 𝓤 H A W E
+              (Referent.rtF (Referent.fInt Syntax.w32)) G48 20 3 2 5 ref6 ref2 life2 (λ x. x) (λ x. x) (Reads'.as-is 𝓤
               H A (Mut.msleft (Referent.rtF (Referent.fInt Syntax.w32)) ref2)) (Reads'.as-is 𝓤 H A (Relend.mslice-owed
-              (Referent.rtF (Referent.fInt Syntax.w32)) ref6 2 5 life2)) Path.refl Path.refl) d30
+              (Referent.rtF (Referent.fInt Syntax.w32)) ref6 2 5 life2)) Path.refl Path.refl) d32
 
-          d32 : Typed.Typed 𝓤 H A 𝓣 E G44 b28 Δ3 (at32 bs)
-          d32 = Typed.g-pre 𝓤 H A W 𝓣 E G44 G45 b28 Δ3 (λ Ψ. Ψ) (at31 bs) (Lifetime.g-end 𝓤 H A W E G44 5 Path.refl)
-              d31
+          d34 : Typed.Typed 𝓤 H A 𝓣 E G47 b29 Δ3 (at34 bs)
+          d34 = Typed.g-pre 𝓤 H A W 𝓣 E G47 G48 b29 Δ3 (λ Ψ. Ψ) (at33 bs) (Lifetime.g-end 𝓤 H A W E G47 5 Path.refl)
+              d33
 
-          d33 : Typed.Typed 𝓤 H A 𝓣 E G43 b28 Δ3 (at33 bs)
-          d33 = Typed.g-pre 𝓤 H A W 𝓣 E G43 G44 b28 Δ3 (λ Ψ. Ψ) (at32 bs)
-              (Lifetime.g-forget 𝓤 H A W E G43 4 Row.dead Path.refl) d32
+          d35 : Typed.Typed 𝓤 H A 𝓣 E G46 b29 Δ3 (at35 bs)
+          d35 = Typed.g-pre 𝓤 H A W 𝓣 E G46 G47 b29 Δ3 (λ Ψ. Ψ) (at34 bs)
+              (Lifetime.g-forget 𝓤 H A W E G46 4 Row.dead Path.refl) d34
 
-          d34 : Typed.Typed 𝓤 H A 𝓣 E G42 b28 Δ3 (at34 bs)
-          d34 = Typed.g-pre 𝓤 H A W 𝓣 E G42 G43 b28 Δ3 (Typed.both (s38 bs)) (at33 bs) (Relend.g-back-sl 𝓤 H A W E
-              InflightAction.row G42 17 2 1 4 ref5 ref1 life1 (λ x. x) (λ x. x)
+          d36 : Typed.Typed 𝓤 H A 𝓣 E G45 b29 Δ3 (at36 bs)
+          d36 = Typed.g-pre 𝓤 H A W 𝓣 E G45 G46 b29 Δ3 (Typed.both (s41 bs)) (at35 bs) (Relend.g-back-sl 𝓤 H A W E
+              InflightAction.row G45 18 2 1 4 ref5 ref1 life1 (λ x. x) (λ x. x)
               (Reads'.as-is 𝓤 H A (Mut.msleft InflightAction.row ref1)) (Reads'.as-is 𝓤 H A
-              (Relend.mslice-owed InflightAction.row ref5 1 4 life1)) Path.refl Path.refl) d33
+              (Relend.mslice-owed InflightAction.row ref5 1 4 life1)) Path.refl Path.refl) d35
 
-          d35 : Typed.Typed 𝓤 H A 𝓣 E G41 b28 Δ3 (at35 bs)
-          d35 = Typed.g-pre 𝓤 H A W 𝓣 E G41 G42 b28 Δ3 (λ Ψ. Ψ) (at34 bs) (Lifetime.g-end 𝓤 H A W E G41 4 Path.refl)
-              d34
+          d37 : Typed.Typed 𝓤 H A 𝓣 E G44 b29 Δ3 (at37 bs)
+          d37 = Typed.g-pre 𝓤 H A W 𝓣 E G44 G45 b29 Δ3 (λ Ψ. Ψ) (at36 bs) (Lifetime.g-end 𝓤 H A W E G44 4 Path.refl)
+              d36
 
-          d36 : Typed.Typed 𝓤 H A 𝓣 E G40 b28 Δ3 (at36 bs)
-          d36 = Typed.g-pre 𝓤 H A W 𝓣 E G40 G41 b28 Δ3 (λ Ψ. Ψ) (at35 bs)
-              (Lifetime.g-forget 𝓤 H A W E G40 3 Row.dead Path.refl) d35
+          d38 : Typed.Typed 𝓤 H A 𝓣 E G43 b29 Δ3 (at38 bs)
+          d38 = Typed.g-pre 𝓤 H A W 𝓣 E G43 G44 b29 Δ3 (λ Ψ. Ψ) (at37 bs)
+              (Lifetime.g-forget 𝓤 H A W E G43 3 Row.dead Path.refl) d37
 
-          d37 : Typed.Typed 𝓤 H A 𝓣 E G39 b28 Δ3 (at37 bs)
-          d37 = Typed.g-pre 𝓤 H A W 𝓣 E G39 G40 b28 Δ3 (Typed.both (s35 bs)) (at36 bs) (Relend.g-back-sl 𝓤 H A W E
-              RelayPending.row G39 15 1 0 3 ref4 ref0 life0 (λ x. x) (λ x. x)
+          d39 : Typed.Typed 𝓤 H A 𝓣 E G42 b29 Δ3 (at39 bs)
+          d39 = Typed.g-pre 𝓤 H A W 𝓣 E G42 G43 b29 Δ3 (Typed.both (s38 bs)) (at38 bs) (Relend.g-back-sl 𝓤 H A W E
+              RelayPending.row G42 16 1 0 3 ref4 ref0 life0 (λ x. x) (λ x. x)
               (Reads'.as-is 𝓤 H A (Mut.msleft RelayPending.row ref0)) (Reads'.as-is 𝓤 H A
-              (Relend.mslice-owed RelayPending.row ref4 0 3 life0)) Path.refl Path.refl) d36
+              (Relend.mslice-owed RelayPending.row ref4 0 3 life0)) Path.refl Path.refl) d38
 
-          d38 : Typed.Typed 𝓤 H A 𝓣 E G38 b28 Δ3 (at38 bs)
-          d38 = Typed.g-pre 𝓤 H A W 𝓣 E G38 G39 b28 Δ3 (λ Ψ. Ψ) (at37 bs) (Lifetime.g-end 𝓤 H A W E G38 3 Path.refl)
-              d37
+          d40 : Typed.Typed 𝓤 H A 𝓣 E G41 b29 Δ3 (at40 bs)
+          d40 = Typed.g-pre 𝓤 H A W 𝓣 E G41 G42 b29 Δ3 (λ Ψ. Ψ) (at39 bs) (Lifetime.g-end 𝓤 H A W E G41 3 Path.refl)
+              d39
 
-          d39 : Typed.Typed 𝓤 H A 𝓣 E G37 b29 Δ3 (at39 bs)
-          d39 = Typed.s-seq 𝓤 H A W 𝓣 E G37 G38 b21 b28 Δ3 (Typed.both (s33 bs)) (at38 bs) (Plain.t-call-plain 𝓤 H A W
+          d41 : Typed.Typed 𝓤 H A 𝓣 E G40 b30 Δ3 (at41 bs)
+          d41 = Typed.s-seq 𝓤 H A W 𝓣 E G40 G41 b22 b29 Δ3 (Typed.both (s36 bs)) (at40 bs) (Plain.t-call-plain 𝓤 H A W
               𝓣 3 ps·1 r·1 (claims· .2) (claims· .3) "hnsr_circuit::calls::revocation::revoke_pending" (known .1) E
-              (λ pos β. β) G37 (
-                record { pos = 15; ty = ref0; ref = λ x. x },
+              (λ pos β. β) G40 (
+                record { pos = 16; ty = ref0; ref = λ x. x },
                 (
-                  record { pos = 17; ty = ref1; ref = λ x. x },
+                  record { pos = 18; ty = ref1; ref = λ x. x },
                   (
-                    record { pos = 19; ty = ref2; ref = λ x. x },
+                    record { pos = 20; ty = ref2; ref = λ x. x },
                     (
-                      record { pos = 9; st = List.[]; d = 0; at = λ x. x },
+                      record { pos = 10; st = List.[]; d = 0; at = λ x. x },
                       (
                         record { pos = 5; st = List.[]; d = 0; at = λ x. x },
-                        (Num.vFld 10 ((Syntax.field 2) ∷ List.[]) 16 λ x. Walked.struct .as-values x .1 .1 .0, tt),
+                        (Num.vFld 11 ((Syntax.field 2) ∷ List.[]) 16 λ x. Walked.struct .as-values x .1 .1 .0, tt),
                       ),
                     ),
                   ),
                 ),
-              ) 9 (3 ∷ 4 ∷ 5 ∷ List.[]) (Call.sub-id 𝓤 H A W (G37 .slots)) (
+              ) 10 (3 ∷ 4 ∷ 5 ∷ List.[]) (Call.sub-id 𝓤 H A W (G40 .slots)) (
                 Reads'.as-is 𝓤 H A (Mut.mslice RelayPending.row ref0 3),
                 Mut.reads-mslice 𝓤 H A W RelayPending.row ref0 3,
                 Path.refl,
@@ -1949,25 +2060,25 @@ module _ (claims· : Claims) where
                     Path.refl,
                     (
                       (
-                        Yields.yields-copy 𝓤 H A W (λ ρ. Unit) (Declared.row Sending.the-type) Path.refl (Copies.cStruct
-                            Sending.the-type Laws'.the-laws Laws'.the-copy .copy 𝓤 H A W)
-                            (Rows.whole (Declared.row Sending.the-type)) (λ x. x) (λ x. x) (λ ρ told. Local.mem-whole 𝓤
-                            H A W (Declared.row Sending.the-type) ρ) λ ρ told. Local.whole-mem 𝓤 H A W
-                            (Declared.row Sending.the-type) ρ,
+                        Yields.yields-copy 𝓤 H A W (λ ρ. Unit) (Declared'.row Sending.the-type) Path.refl (Copies.cStruct
+                            Sending.the-type Laws''.the-laws Laws''.the-copy .copy 𝓤 H A W)
+                            (Rows.whole (Declared'.row Sending.the-type)) (λ x. x) (λ x. x) (λ ρ told. Local.mem-whole
+                            𝓤 H A W (Declared'.row Sending.the-type) ρ) λ ρ told. Local.whole-mem 𝓤 H A W
+                            (Declared'.row Sending.the-type) ρ,
                         Path.refl,
                       ),
                       (
                         (
-                          Yields.yields-copy 𝓤 H A W (λ ρ. Unit) (Declared.row Revoking.the-type) Path.refl (Copies.cStruct
+                          Yields.yields-copy 𝓤 H A W (λ ρ. Unit) (Declared'.row Revoking.the-type) Path.refl (Copies.cStruct
                               Revoking.the-type Laws.the-laws Laws.the-copy .copy 𝓤 H A W)
-                              (Rows.whole (Declared.row Revoking.the-type)) (λ x. x) (λ x. x) (λ ρ told.
-                              Local.mem-whole 𝓤 H A W (Declared.row Revoking.the-type) ρ) λ ρ told. Local.whole-mem 𝓤 H
-                              A W (Declared.row Revoking.the-type) ρ,
+                              (Rows.whole (Declared'.row Revoking.the-type)) (λ x. x) (λ x. x) (λ ρ told.
+                              Local.mem-whole 𝓤 H A W (Declared'.row Revoking.the-type) ρ) λ ρ told. Local.whole-mem 𝓤
+                              H A W (Declared'.row Revoking.the-type) ρ,
                           Path.refl,
                         ),
                         (
                           (
-                            Reads.reads-field 𝓤 H A W Walked.the-type Laws''''.the-laws 2 (Syntax.tyInt Syntax.w64) 16
+                            Reads.reads-field 𝓤 H A W Walked.the-type Laws'''''.the-laws 2 (Syntax.tyInt Syntax.w64) 16
                                 Path.refl,
                             Path.refl,
                           ),
@@ -1977,27 +2088,27 @@ module _ (claims· : Claims) where
                     ),
                   ),
                 ),
-              ) (Local.room-whole 𝓤 H A W (Declared.row Sending.the-type) Laws'.mir Path.refl) (tt, (tt, (tt, tt)))
-              Path.refl) d38
+              ) (Local.room-whole 𝓤 H A W (Declared'.row Sending.the-type) Laws''.mir Path.refl) (tt, (tt, (tt, tt)))
+              Path.refl) d40
 
-          d40 : Typed.Typed 𝓤 H A 𝓣 E G36 b30 Δ3 (at40 bs)
-          d40 = Typed.s-seq 𝓤 H A W 𝓣 E G36 G37 b20 b29 Δ3 (Typed.ask (s32 bs)) (at39 bs) (Relend.t-sl-aggregate 𝓤 H A
+          d42 : Typed.Typed 𝓤 H A 𝓣 E G39 b31 Δ3 (at42 bs)
+          d42 = Typed.s-seq 𝓤 H A W 𝓣 E G39 G40 b21 b30 Δ3 (Typed.ask (s35 bs)) (at41 bs) (Relend.t-sl-aggregate 𝓤 H A
               W E (Referent.rtF (Referent.fInt Syntax.w32)) 𝓣 (Relend.asMut (Referent.rtF (Referent.fInt Syntax.w32)))
-              G36 18 19 5 ref2 ref2 (λ x. x) (Scalar.oFld 3 ((Syntax.field 1) ∷ List.[]) (Syntax.tyInt Syntax.w64) 8
+              G39 19 20 5 ref2 ref2 (λ x. x) (Scalar.oFld 3 ((Syntax.field 1) ∷ List.[]) (Syntax.tyInt Syntax.w64) 8
               λ v. Shared.lenV (v .0)) (Reads'.as-is 𝓤 H A (Relend.msptr (Referent.rtF (Referent.fInt Syntax.w32)) ref2
               5)) (Reads'.room-gone 𝓤 H A slice2) (
                 Relend.reads-owed-len 𝓤 H A W (Referent.rtF (Referent.fInt Syntax.w32)) ref6 2 5 life2 8 Path.refl,
                 Path.refl,
-              ) Path.refl Path.refl λ b o k. tt) d39
+              ) Path.refl Path.refl λ b o k. tt) d41
 
-          d41 : Typed.Typed 𝓤 H A 𝓣 E G35 b31 Δ3 (at41 bs)
-          d41 = Typed.s-seq 𝓤 H A W 𝓣 E G35 G36 b19 b30 Δ3 (Typed.give (s31 bs)) (at40 bs) (Relend.t-sl-relend 𝓤 H A W
-              E (Referent.rtF (Referent.fInt Syntax.w32)) 𝓣 G35 3 18 2 5 ref6 ref2 life2 0 (λ x. x) (Reads'.as-is 𝓤 H A (Mut.mslice
+          d43 : Typed.Typed 𝓤 H A 𝓣 E G38 b32 Δ3 (at43 bs)
+          d43 = Typed.s-seq 𝓤 H A W 𝓣 E G38 G39 b20 b31 Δ3 (Typed.give (s34 bs)) (at42 bs) (Relend.t-sl-relend 𝓤 H A W
+              E (Referent.rtF (Referent.fInt Syntax.w32)) 𝓣 G38 3 19 2 5 ref6 ref2 life2 0 (λ x. x) (Reads'.as-is 𝓤 H A (Mut.mslice
               (Referent.rtF (Referent.fInt Syntax.w32)) ref6 2)) (Reads'.room-gone 𝓤 H A ref2) Path.refl tt Path.refl
-              Path.refl Path.refl λ b o. tt) d40
+              Path.refl Path.refl λ b o. tt) d42
 
-          d42 : Typed.Typed 𝓤 H A 𝓣 E G34 b31 Δ3 (at42 bs)
-          d42 = Typed.g-pre 𝓤 H A W 𝓣 E G34 G35 b31 Δ3 (λ Ψ. Ψ) (at41 bs) (Lifetime.g-begin 𝓤 H A W E G34 5 (
+          d44 : Typed.Typed 𝓤 H A 𝓣 E G37 b32 Δ3 (at44 bs)
+          d44 = Typed.g-pre 𝓤 H A W 𝓣 E G37 G38 b32 Δ3 (λ Ψ. Ψ) (at43 bs) (Lifetime.g-begin 𝓤 H A W E G37 5 (
             tt,
             (
               (tt, tt),
@@ -2011,32 +2122,35 @@ module _ (claims· : Claims) where
                       tt,
                       (
                         tt,
-                        (tt, (tt, (tt, (tt, (tt, (tt, (tt, (tt, (tt, (tt, (tt, (tt, (tt, (tt, (tt, tt))))))))))))))),
+                        (
+                          tt,
+                          (tt, (tt, (tt, (tt, (tt, (tt, (tt, (tt, (tt, (tt, (tt, (tt, (tt, (tt, (tt, tt))))))))))))))),
+                        ),
                       ),
                     ),
                   ),
                 ),
               ),
             ),
-          )) d41
+          )) d43
 
-          d43 : Typed.Typed 𝓤 H A 𝓣 E G33 b32 Δ3 (at43 bs)
-          d43 = Typed.s-seq 𝓤 H A W 𝓣 E G33 G34 b18 b31 Δ3 (Typed.ask (s29 bs)) (at42 bs) (Relend.t-sl-aggregate 𝓤 H A
-              W E InflightAction.row 𝓣 (Relend.asMut InflightAction.row) G33 16 17 4 ref1 ref1 (λ x. x) (Scalar.oFld 2
+          d45 : Typed.Typed 𝓤 H A 𝓣 E G36 b33 Δ3 (at45 bs)
+          d45 = Typed.s-seq 𝓤 H A W 𝓣 E G36 G37 b19 b32 Δ3 (Typed.ask (s32 bs)) (at44 bs) (Relend.t-sl-aggregate 𝓤 H A
+              W E InflightAction.row 𝓣 (Relend.asMut InflightAction.row) G36 17 18 4 ref1 ref1 (λ x. x) (Scalar.oFld 2
               ((Syntax.field 1) ∷ List.[]) (Syntax.tyInt Syntax.w64) 8 λ v. Shared.lenV (v .0)) (Reads'.as-is 𝓤 H A
               (Relend.msptr InflightAction.row ref1 4)) (Reads'.room-gone 𝓤 H A slice1) (
                 Relend.reads-owed-len 𝓤 H A W InflightAction.row ref5 1 4 life1 8 Path.refl,
                 Path.refl,
-              ) Path.refl Path.refl λ b o k. tt) d42
+              ) Path.refl Path.refl λ b o k. tt) d44
 
-          d44 : Typed.Typed 𝓤 H A 𝓣 E G32 b33 Δ3 (at44 bs)
-          d44 = Typed.s-seq 𝓤 H A W 𝓣 E G32 G33 b17 b32 Δ3 (Typed.give (s28 bs)) (at43 bs) (Relend.t-sl-relend 𝓤 H A W
-              E InflightAction.row 𝓣 G32 2 16 1 4 ref5 ref1 life1 0 (λ x. x)
+          d46 : Typed.Typed 𝓤 H A 𝓣 E G35 b34 Δ3 (at46 bs)
+          d46 = Typed.s-seq 𝓤 H A W 𝓣 E G35 G36 b18 b33 Δ3 (Typed.give (s31 bs)) (at45 bs) (Relend.t-sl-relend 𝓤 H A W
+              E InflightAction.row 𝓣 G35 2 17 1 4 ref5 ref1 life1 0 (λ x. x)
               (Reads'.as-is 𝓤 H A (Mut.mslice InflightAction.row ref5 1)) (Reads'.room-gone 𝓤 H A ref1) Path.refl tt
-              Path.refl Path.refl Path.refl λ b o. tt) d43
+              Path.refl Path.refl Path.refl λ b o. tt) d45
 
-          d45 : Typed.Typed 𝓤 H A 𝓣 E G31 b33 Δ3 (at45 bs)
-          d45 = Typed.g-pre 𝓤 H A W 𝓣 E G31 G32 b33 Δ3 (λ Ψ. Ψ) (at44 bs) (Lifetime.g-begin 𝓤 H A W E G31 4 (
+          d47 : Typed.Typed 𝓤 H A 𝓣 E G34 b34 Δ3 (at47 bs)
+          d47 = Typed.g-pre 𝓤 H A W 𝓣 E G34 G35 b34 Δ3 (λ Ψ. Ψ) (at46 bs) (Lifetime.g-begin 𝓤 H A W E G34 4 (
             tt,
             (
               (tt, tt),
@@ -2050,32 +2164,35 @@ module _ (claims· : Claims) where
                       tt,
                       (
                         tt,
-                        (tt, (tt, (tt, (tt, (tt, (tt, (tt, (tt, (tt, (tt, (tt, (tt, (tt, (tt, (tt, tt))))))))))))))),
+                        (
+                          tt,
+                          (tt, (tt, (tt, (tt, (tt, (tt, (tt, (tt, (tt, (tt, (tt, (tt, (tt, (tt, (tt, tt))))))))))))))),
+                        ),
                       ),
                     ),
                   ),
                 ),
               ),
             ),
-          )) d44
+          )) d46
 
-          d46 : Typed.Typed 𝓤 H A 𝓣 E G30 b34 Δ3 (at46 bs)
-          d46 = Typed.s-seq 𝓤 H A W 𝓣 E G30 G31 b16 b33 Δ3 (Typed.ask (s26 bs)) (at45 bs) (Relend.t-sl-aggregate 𝓤 H A
-              W E RelayPending.row 𝓣 (Relend.asMut RelayPending.row) G30 14 15 3 ref0 ref0 (λ x. x) (Scalar.oFld 1
+          d48 : Typed.Typed 𝓤 H A 𝓣 E G33 b35 Δ3 (at48 bs)
+          d48 = Typed.s-seq 𝓤 H A W 𝓣 E G33 G34 b17 b34 Δ3 (Typed.ask (s29 bs)) (at47 bs) (Relend.t-sl-aggregate 𝓤 H A
+              W E RelayPending.row 𝓣 (Relend.asMut RelayPending.row) G33 15 16 3 ref0 ref0 (λ x. x) (Scalar.oFld 1
               ((Syntax.field 1) ∷ List.[]) (Syntax.tyInt Syntax.w64) 8 λ v. Shared.lenV (v .0))
               (Reads'.as-is 𝓤 H A (Relend.msptr RelayPending.row ref0 3)) (Reads'.room-gone 𝓤 H A slice0) (
                 Relend.reads-owed-len 𝓤 H A W RelayPending.row ref4 0 3 life0 8 Path.refl,
                 Path.refl,
-              ) Path.refl Path.refl λ b o k. tt) d45
+              ) Path.refl Path.refl λ b o k. tt) d47
 
-          d47 : Typed.Typed 𝓤 H A 𝓣 E G29 b35 Δ3 (at47 bs)
-          d47 = Typed.s-seq 𝓤 H A W 𝓣 E G29 G30 b15 b34 Δ3 (Typed.give (s25 bs)) (at46 bs) (Relend.t-sl-relend 𝓤 H A W
-              E RelayPending.row 𝓣 G29 1 14 0 3 ref4 ref0 life0 0 (λ x. x)
+          d49 : Typed.Typed 𝓤 H A 𝓣 E G32 b36 Δ3 (at49 bs)
+          d49 = Typed.s-seq 𝓤 H A W 𝓣 E G32 G33 b16 b35 Δ3 (Typed.give (s28 bs)) (at48 bs) (Relend.t-sl-relend 𝓤 H A W
+              E RelayPending.row 𝓣 G32 1 15 0 3 ref4 ref0 life0 0 (λ x. x)
               (Reads'.as-is 𝓤 H A (Mut.mslice RelayPending.row ref4 0)) (Reads'.room-gone 𝓤 H A ref0) Path.refl tt
-              Path.refl Path.refl Path.refl λ b o. tt) d46
+              Path.refl Path.refl Path.refl λ b o. tt) d48
 
-          d48 : Typed.Typed 𝓤 H A 𝓣 E G19 b35 Δ3 (at48 bs)
-          d48 = Typed.g-pre 𝓤 H A W 𝓣 E G19 G29 b35 Δ3 (λ Ψ. Ψ) (at47 bs) (Lifetime.g-begin 𝓤 H A W E G19 3 (
+          d50 : Typed.Typed 𝓤 H A 𝓣 E G21 b36 Δ3 (at50 bs)
+          d50 = Typed.g-pre 𝓤 H A W 𝓣 E G21 G32 b36 Δ3 (λ Ψ. Ψ) (at49 bs) (Lifetime.g-begin 𝓤 H A W E G21 3 (
             tt,
             (
               tt,
@@ -2089,188 +2206,213 @@ module _ (claims· : Claims) where
                       tt,
                       (
                         tt,
-                        (tt, (tt, (tt, (tt, (tt, (tt, (tt, (tt, (tt, (tt, (tt, (tt, (tt, (tt, (tt, tt))))))))))))))),
+                        (
+                          tt,
+                          (tt, (tt, (tt, (tt, (tt, (tt, (tt, (tt, (tt, (tt, (tt, (tt, (tt, (tt, (tt, tt))))))))))))))),
+                        ),
                       ),
                     ),
                   ),
                 ),
               ),
             ),
-          )) d47
+          )) d49
 
-          d49 : Typed.Typed 𝓤 H A 𝓣 E G18 b36 Δ3 (at49 bs)
-          d49 = Typed.t-seq 𝓤 H A W 𝓣 E G18 G19 b14 b35 Δ3 (at19 bs) (at48 bs) d19 d48
+          d51 : Typed.Typed 𝓤 H A 𝓣 E G20 b37 Δ3 (at51 bs)
+          d51 = Typed.t-seq 𝓤 H A W 𝓣 E G20 G21 b15 b36 Δ3 (at21 bs) (at50 bs) d21 d50
 
-          d50 : Typed.Typed 𝓤 H A 𝓣 E G12 b37 Δ3 (at50 bs)
-          d50 = Typed.s-seq 𝓤 H A W 𝓣 E G12 G18 b9 b36 Δ3 (Typed.both (s14 bs)) (at49 bs) (Plain.t-call-plain 𝓤 H A W 𝓣
-              0 ps·0 r·0 (claims· .0) (claims· .1) "hns_encoding::logic::no" (known .0) E (λ pos β. β) G12 (
-                Bool.bFld 10 ((Syntax.field 0) ∷ List.[]) 0 λ x. Walked.struct .as-values x .0,
+          d52 : Typed.Typed 𝓤 H A 𝓣 E G13 b38 Δ3 (at52 bs)
+          d52 = Typed.s-seq 𝓤 H A W 𝓣 E G13 G20 b10 b37 Δ3 (Typed.both (s16 bs)) (at51 bs) (Plain.t-call-plain 𝓤 H A W
+              𝓣 0 ps·0 r·0 (claims· .0) (claims· .1) "hns_encoding::logic::no" (known .0) E (λ pos β. β) G13 (
+                Bool.bFld 11 ((Syntax.field 0) ∷ List.[]) 0 λ x. Walked.struct .as-values x .0,
                 tt,
-              ) 13 List.[] (Call.sub-id 𝓤 H A W (G12 .slots)) (
-                (Reads.reads-field 𝓤 H A W Walked.the-type Laws''''.the-laws 0 Syntax.tyBool 0 Path.refl, Path.refl),
+              ) 14 List.[] (Call.sub-id 𝓤 H A W (G13 .slots)) (
+                (Reads.reads-field 𝓤 H A W Walked.the-type Laws'''''.the-laws 0 Syntax.tyBool 0 Path.refl, Path.refl),
                 tt,
-              ) (Reads'.room-gone 𝓤 H A Syntax.tyBool) tt Path.refl) d49
+              ) (Reads'.room-gone 𝓤 H A Syntax.tyBool) tt Path.refl) d51
 
-          d51 : Typed.Typed 𝓤 H A 𝓣 E G11 b38 Δ3 (at51 bs)
-          d51 = Typed.t-seq 𝓤 H A W 𝓣 E G11 G12 b8 b37 Δ3 (at7 bs) (at50 bs) d7 d50
+          d53 : Typed.Typed 𝓤 H A 𝓣 E G12 b39 Δ3 (at53 bs)
+          d53 = Typed.t-seq 𝓤 H A W 𝓣 E G12 G13 b9 b38 Δ3 (at8 bs) (at52 bs) d8 d52
 
-          d52 : Typed.Typed 𝓤 H A 𝓣 E G9 b39 Δ3 (at52 bs)
-          d52 = Typed.s-seq 𝓤 H A W 𝓣 E G9 G11 b5 b38 Δ3 (Typed.ask (s8 bs)) (at51 bs) (Scalar.t-op2 𝓤 H A W E 𝓣 G9
-              (Syntax.lt Syntax.unsigned) (Scalar.oAt 11 (Syntax.tyInt Syntax.w64) (Row.valS (Row.sInt Syntax.w64))) (Scalar.oAt
-              8 (Syntax.tyInt Syntax.w64) (Row.valS (Row.sInt Syntax.w64))) 12 (Rows.sc-here Row.sBool) Syntax.tyBool
+          d54 : Typed.Typed 𝓤 H A 𝓣 E G10 b40 Δ3 (at54 bs)
+          d54 = Typed.s-seq 𝓤 H A W 𝓣 E G10 G12 b6 b39 Δ3 (Typed.ask (s9 bs)) (at53 bs) (Scalar.t-op2 𝓤 H A W E 𝓣 G10
+              (Syntax.lt Syntax.unsigned) (Scalar.oAt 12 (Syntax.tyInt Syntax.w64) (Row.valS (Row.sInt Syntax.w64))) (Scalar.oAt
+              9 (Syntax.tyInt Syntax.w64) (Row.valS (Row.sInt Syntax.w64))) 13 (Rows.sc-here Row.sBool) Syntax.tyBool
               (Row.valS Row.sBool) (Row.sBool .of) (Scalar.reads-sc 𝓤 H A W (Row.sInt Syntax.w64), Path.refl)
               (Scalar.reads-sc 𝓤 H A W (Row.sInt Syntax.w64), Path.refl) (Reads'.room-gone 𝓤 H A Syntax.tyBool)
-              (Scalar.holds-sc 𝓤 H A W Row.sBool) Path.refl (λ u. Path.refl) λ u. tt) d51
+              (Scalar.holds-sc 𝓤 H A W Row.sBool) Path.refl (λ u. Path.refl) λ u. tt) d53
 
-          d53 : Typed.Typed 𝓤 H A 𝓣 E G9 b40 Δ2 (at53 bs)
-          d53 = Typed.t-loop-by 𝓤 H A W 𝓣 E G9 b39 Δ2 put0 (λ u vs. Inv·0 (Row.get 1 (T9 .locals) u .now)
-              (Row.get 2 (T9 .locals) u .now) (Row.get 3 (T9 .locals) u .now) (Row.get 5 (T9 .locals) u)
-              (Row.get 7 (T9 .locals) u) (Row.get 8 (T9 .locals) u) (Row.get 9 (T9 .locals) u)
-              (Row.get 10 (T9 .locals) u) (Row.get 11 (T9 .locals) u) (vs .0) (vs .1) (vs .2) (vs .3) (vs .4) (vs .5)) (λ
-              u vs. μ·0 (Row.get 1 (T9 .locals) u .now) (Row.get 2 (T9 .locals) u .now) (Row.get 3 (T9 .locals) u .now)
-              (Row.get 5 (T9 .locals) u) (Row.get 7 (T9 .locals) u) (Row.get 8 (T9 .locals) u)
-              (Row.get 9 (T9 .locals) u) (Row.get 10 (T9 .locals) u) (Row.get 11 (T9 .locals) u) (vs .0) (vs .1)
-              (vs .2) (vs .3) (vs .4) (vs .5)) (at52 bs) d52
+          d55 : Typed.Typed 𝓤 H A 𝓣 E G10 b41 Δ2 (at55 bs)
+          d55 = Typed.t-loop-by 𝓤 H A W 𝓣 E G10 b40 Δ2 put0 (λ u vs. Inv·0 (Row.get 1 (T10 .locals) u .now)
+              (Row.get 2 (T10 .locals) u .now) (Row.get 3 (T10 .locals) u .now) (Row.get 5 (T10 .locals) u)
+              (Row.get 7 (T10 .locals) u) (Row.get 8 (T10 .locals) u) (Row.get 9 (T10 .locals) u)
+              (Row.get 10 (T10 .locals) u) (Row.get 11 (T10 .locals) u) (Row.get 12 (T10 .locals) u) (vs .0) (vs .1)
+              (vs .2) (vs .3) (vs .4) (vs .5)) (λ u vs. μ·0 (Row.get 1 (T10 .locals) u .now)
+              (Row.get 2 (T10 .locals) u .now) (Row.get 3 (T10 .locals) u .now) (Row.get 5 (T10 .locals) u)
+              (Row.get 7 (T10 .locals) u) (Row.get 8 (T10 .locals) u) (Row.get 9 (T10 .locals) u)
+              (Row.get 10 (T10 .locals) u) (Row.get 11 (T10 .locals) u) (Row.get 12 (T10 .locals) u) (vs .0) (vs .1)
+              (vs .2) (vs .3) (vs .4) (vs .5)) (at54 bs) d54
 
-          d54 : Typed.Typed 𝓤 H A 𝓣 E G9 b41 Δ1 (at54 bs)
-          d54 = Typed.t-block 𝓤 H A W 𝓣 E G9 b40 Δ1 (at53 bs) d53
+          d56 : Typed.Typed 𝓤 H A 𝓣 E G10 b42 Δ1 (at56 bs)
+          d56 = Typed.t-block 𝓤 H A W 𝓣 E G10 b41 Δ1 (at55 bs) d55
 
-          d55 : Typed.Typed 𝓤 H A 𝓣 E G61 b43 Δ0 (at55 bs)
-          d55 = Typed.t-return 𝓤 H A W 𝓣 E Δ0 tt
+          d57 : Typed.Typed 𝓤 H A 𝓣 E G64 b44 Δ0 (at57 bs)
+          d57 = Typed.t-return 𝓤 H A W 𝓣 E Δ0 tt
 
-          d56 : Typed.Typed 𝓤 H A 𝓣 E G60 b43 Δ0 (at56 bs)
-          d56 = Typed.g-pre 𝓤 H A W 𝓣 E G60 G61 b43 Δ0 (Typed.pass T60 T61 (s56 bs)) (at55 bs) (Scalar.g-room 𝓤 H A W E
-              G60 11 (Syntax.tyInt Syntax.w64) (Scalar.room-sc 𝓤 H A W (Row.sInt Syntax.w64))) d55
+          d58 : Typed.Typed 𝓤 H A 𝓣 E G63 b44 Δ0 (at58 bs)
+          d58 = Typed.g-pre 𝓤 H A W 𝓣 E G63 G64 b44 Δ0 (Typed.pass T63 T64 (s59 bs)) (at57 bs) (Scalar.g-room 𝓤 H A W E
+              G63 12 (Syntax.tyInt Syntax.w64) (Scalar.room-sc 𝓤 H A W (Row.sInt Syntax.w64))) d57
 
-          d57 : Typed.Typed 𝓤 H A 𝓣 E G59 b43 Δ0 (at57 bs)
-          d57 = Typed.g-pre 𝓤 H A W 𝓣 E G59 G60 b43 Δ0 (Typed.pass T59 T60 (s55 bs)) (at56 bs) (Scalar.g-room 𝓤 H A W E
-              G59 9 Laws'.mir (Local.room-whole 𝓤 H A W (Declared.row Sending.the-type) Laws'.mir Path.refl)) d56
+          d59 : Typed.Typed 𝓤 H A 𝓣 E G62 b44 Δ0 (at59 bs)
+          d59 = Typed.g-pre 𝓤 H A W 𝓣 E G62 G63 b44 Δ0 (Typed.pass T62 T63 (s58 bs)) (at58 bs) (Scalar.g-room 𝓤 H A W E
+              G62 10 Laws''.mir (Local.room-whole 𝓤 H A W (Declared'.row Sending.the-type) Laws''.mir Path.refl)) d58
 
-          d58 : Typed.Typed 𝓤 H A 𝓣 E G58 b43 Δ0 (at58 bs)
-          d58 = Typed.g-pre 𝓤 H A W 𝓣 E G58 G59 b43 Δ0 (Typed.pass T58 T59 (s54 bs)) (at57 bs) (Scalar.g-room 𝓤 H A W E
-              G58 8 (Syntax.tyInt Syntax.w64) (Scalar.room-sc 𝓤 H A W (Row.sInt Syntax.w64))) d57
+          d60 : Typed.Typed 𝓤 H A 𝓣 E G61 b44 Δ0 (at60 bs)
+          d60 = Typed.g-pre 𝓤 H A W 𝓣 E G61 G62 b44 Δ0 (Typed.pass T61 T62 (s57 bs)) (at59 bs) (Scalar.g-room 𝓤 H A W E
+              G61 9 (Syntax.tyInt Syntax.w64) (Scalar.room-sc 𝓤 H A W (Row.sInt Syntax.w64))) d59
 
-          d59 : Typed.Typed 𝓤 H A 𝓣 E G10 b44 Δ0 (at59 bs)
-          d59 = Typed.s-seq 𝓤 H A W 𝓣 E G10 G58 b42 b43 Δ0 (Typed.pass T10 T58 (s53 bs)) (at58 bs) (LocalCopy.t-val-copy
-              𝓤 H A W E 𝓣 (λ ρ. Unit) G10 9 0 (Declared.row Sending.the-type) Laws'.mir Laws'.mir
-              (Rows.whole (Declared.row Sending.the-type)) (Rows.whole (Declared.row Sending.the-type)) (λ x. x)
-              (λ x. x) (λ x. x) Path.refl (Own.told-none 𝓤 H A (G10 .slots)) (Yields.yields-copy 𝓤 H A W (λ ρ. Unit)
-              (Declared.row Sending.the-type) Path.refl (Copies.cStruct Sending.the-type Laws'.the-laws Laws'.the-copy
-              .copy 𝓤 H A W) (Rows.whole (Declared.row Sending.the-type)) (λ x. x) (λ x. x) (λ ρ told. Local.mem-whole
-              𝓤 H A W (Declared.row Sending.the-type) ρ) λ ρ told. Local.whole-mem 𝓤 H A W
-              (Declared.row Sending.the-type) ρ) (Reads'.room-gone 𝓤 H A Laws'.mir) (Yields.makes-mem 𝓤 H A W
-              (λ ρ. Unit) (Declared.row Sending.the-type) Path.refl (Rows.whole (Declared.row Sending.the-type))
-              (λ x. x) λ ρ told. Local.whole-mem 𝓤 H A W (Declared.row Sending.the-type) ρ) Path.refl Path.refl) d58
+          d61 : Typed.Typed 𝓤 H A 𝓣 E G11 b45 Δ0 (at61 bs)
+          d61 = Typed.s-seq 𝓤 H A W 𝓣 E G11 G61 b43 b44 Δ0 (Typed.pass T11 T61 (s56 bs)) (at60 bs) (LocalCopy.t-val-copy
+              𝓤 H A W E 𝓣 (λ ρ. Unit) G11 10 0 (Declared'.row Sending.the-type) Laws''.mir Laws''.mir
+              (Rows.whole (Declared'.row Sending.the-type)) (Rows.whole (Declared'.row Sending.the-type)) (λ x. x)
+              (λ x. x) (λ x. x) Path.refl (Own.told-none 𝓤 H A (G11 .slots)) (Yields.yields-copy 𝓤 H A W (λ ρ. Unit)
+              (Declared'.row Sending.the-type) Path.refl (Copies.cStruct Sending.the-type Laws''.the-laws
+              Laws''.the-copy .copy 𝓤 H A W) (Rows.whole (Declared'.row Sending.the-type)) (λ x. x) (λ x. x) (λ ρ told.
+              Local.mem-whole 𝓤 H A W (Declared'.row Sending.the-type) ρ) λ ρ told. Local.whole-mem 𝓤 H A W
+              (Declared'.row Sending.the-type) ρ) (Reads'.room-gone 𝓤 H A Laws''.mir) (Yields.makes-mem 𝓤 H A W
+              (λ ρ. Unit) (Declared'.row Sending.the-type) Path.refl (Rows.whole (Declared'.row Sending.the-type))
+              (λ x. x) λ ρ told. Local.whole-mem 𝓤 H A W (Declared'.row Sending.the-type) ρ) Path.refl Path.refl) d60
 
-          d60 : Typed.Typed 𝓤 H A 𝓣 E G9 b45 Δ0 (at60 bs)
-          d60 = Typed.t-seq 𝓤 H A W 𝓣 E G9 G10 b41 b44 Δ0 (at54 bs) (at59 bs) d54 d59
+          d62 : Typed.Typed 𝓤 H A 𝓣 E G10 b46 Δ0 (at62 bs)
+          d62 = Typed.t-seq 𝓤 H A W 𝓣 E G10 G11 b42 b45 Δ0 (at56 bs) (at61 bs) d56 d61
 
-          d61 : Typed.Typed 𝓤 H A 𝓣 E G8 b46 Δ0 (at61 bs)
-          d61 = Typed.s-seq 𝓤 H A W 𝓣 E G8 G9 b4 b45 Δ0 (Typed.pass T8 T9 (s7 bs)) (at60 bs) (Scalar.t-use 𝓤 H A W E 𝓣
-              G8 (Scalar.oInt Syntax.w64 0) 11 (Rows.sc-here (Row.sInt Syntax.w64)) (Syntax.tyInt Syntax.w64)
+          d63 : Typed.Typed 𝓤 H A 𝓣 E G9 b47 Δ0 (at63 bs)
+          d63 = Typed.s-seq 𝓤 H A W 𝓣 E G9 G10 b5 b46 Δ0 (Typed.pass T9 T10 (s8 bs)) (at62 bs) (Scalar.t-use 𝓤 H A W E
+              𝓣 G9 (Scalar.oInt Syntax.w64 0) 12 (Rows.sc-here (Row.sInt Syntax.w64)) (Syntax.tyInt Syntax.w64)
               (Row.valS (Row.sInt Syntax.w64)) (Row.sInt Syntax.w64 .of) tt
               (Reads'.room-gone 𝓤 H A (Syntax.tyInt Syntax.w64)) (Scalar.holds-sc 𝓤 H A W (Row.sInt Syntax.w64))
-              Path.refl (λ u. Path.refl) λ u. tt) d60
+              Path.refl (λ u. Path.refl) λ u. tt) d62
 
-          d62 : Typed.Typed 𝓤 H A 𝓣 E G7 b46 Δ0 (at62 bs)
-          d62 = Typed.g-pre 𝓤 H A W 𝓣 E G7 G8 b46 Δ0 (Typed.pass T7 T8 (s6 bs)) (at61 bs) (Scalar.g-room 𝓤 H A W E G7 6
-              Laws''''.mir (Local.room-whole 𝓤 H A W (Declared.row Walked.the-type) Laws''''.mir Path.refl)) d61
+          d64 : Typed.Typed 𝓤 H A 𝓣 E G8 b47 Δ0 (at64 bs)
+          d64 = Typed.g-pre 𝓤 H A W 𝓣 E G8 G9 b47 Δ0 (Typed.pass T8 T9 (s7 bs)) (at63 bs) (Scalar.g-room 𝓤 H A W E G8 6
+              Laws'''''.mir (Local.room-whole 𝓤 H A W (Declared'.row Walked.the-type) Laws'''''.mir Path.refl)) d63
 
-          d63 : Typed.Typed 𝓤 H A 𝓣 E G6 b47 Δ0 (at63 bs)
-          d63 = Typed.s-seq 𝓤 H A W 𝓣 E G6 G7 b3 b46 Δ0 (Typed.pass T6 T7 (s5 bs)) (at62 bs) (LocalCopy.t-val-copy 𝓤 H
-              A W E 𝓣 (λ ρ. Unit) G6 6 10 (Declared.row Walked.the-type) Laws''''.mir Laws''''.mir
-              (Rows.whole (Declared.row Walked.the-type)) (Rows.whole (Declared.row Walked.the-type)) (λ x. x) (λ x. x)
-              (λ x. x) Path.refl (Own.told-none 𝓤 H A (G6 .slots)) (Yields.yields-copy 𝓤 H A W (λ ρ. Unit)
-              (Declared.row Walked.the-type) Path.refl (Copies.cStruct Walked.the-type Laws''''.the-laws
-              Laws''''.the-copy .copy 𝓤 H A W) (Rows.whole (Declared.row Walked.the-type)) (λ x. x) (λ x. x) (λ ρ told.
-              Local.mem-whole 𝓤 H A W (Declared.row Walked.the-type) ρ) λ ρ told. Local.whole-mem 𝓤 H A W
-              (Declared.row Walked.the-type) ρ) (Reads'.room-gone 𝓤 H A Laws''''.mir) (Yields.makes-mem 𝓤 H A W
-              (λ ρ. Unit) (Declared.row Walked.the-type) Path.refl (Rows.whole (Declared.row Walked.the-type)) (λ x. x)
-              λ ρ told. Local.whole-mem 𝓤 H A W (Declared.row Walked.the-type) ρ) Path.refl Path.refl) d62
+          d65 : Typed.Typed 𝓤 H A 𝓣 E G7 b48 Δ0 (at65 bs)
+          d65 = Typed.s-seq 𝓤 H A W 𝓣 E G7 G8 b4 b47 Δ0 (Typed.pass T7 T8 (s6 bs)) (at64 bs) (LocalCopy.t-val-copy 𝓤 H
+              A W E 𝓣 (λ ρ. Unit) G7 6 11 (Declared'.row Walked.the-type) Laws'''''.mir Laws'''''.mir
+              (Rows.whole (Declared'.row Walked.the-type)) (Rows.whole (Declared'.row Walked.the-type)) (λ x. x)
+              (λ x. x) (λ x. x) Path.refl (Own.told-none 𝓤 H A (G7 .slots)) (Yields.yields-copy 𝓤 H A W (λ ρ. Unit)
+              (Declared'.row Walked.the-type) Path.refl (Copies.cStruct Walked.the-type Laws'''''.the-laws
+              Laws'''''.the-copy .copy 𝓤 H A W) (Rows.whole (Declared'.row Walked.the-type)) (λ x. x) (λ x. x) (λ ρ
+              told. Local.mem-whole 𝓤 H A W (Declared'.row Walked.the-type) ρ) λ ρ told. Local.whole-mem 𝓤 H A W
+              (Declared'.row Walked.the-type) ρ) (Reads'.room-gone 𝓤 H A Laws'''''.mir) (Yields.makes-mem 𝓤 H A W
+              (λ ρ. Unit) (Declared'.row Walked.the-type) Path.refl (Rows.whole (Declared'.row Walked.the-type))
+              (λ x. x) λ ρ told. Local.whole-mem 𝓤 H A W (Declared'.row Walked.the-type) ρ) Path.refl Path.refl) d64
 
-          d64 : Typed.Typed 𝓤 H A 𝓣 E G5 b47 Δ0 (at64 bs)
-          d64 = Typed.g-pre 𝓤 H A W 𝓣 E G5 G6 b47 Δ0 (Typed.pass T5 T6 (s4 bs)) (at63 bs) (Scalar.g-room 𝓤 H A W E G5 4
-              Laws'.mir (Local.room-whole 𝓤 H A W (Declared.row Sending.the-type) Laws'.mir Path.refl)) d63
+          d66 : Typed.Typed 𝓤 H A 𝓣 E G6 b48 Δ0 (at66 bs)
+          d66 = Typed.g-pre 𝓤 H A W 𝓣 E G6 G7 b48 Δ0 (Typed.pass T6 T7 (s5 bs)) (at65 bs) (Scalar.g-room 𝓤 H A W E G6 4
+              Laws''.mir (Local.room-whole 𝓤 H A W (Declared'.row Sending.the-type) Laws''.mir Path.refl)) d65
 
-          d65 : Typed.Typed 𝓤 H A 𝓣 E G4 b48 Δ0 (at65 bs)
-          d65 = Typed.s-seq 𝓤 H A W 𝓣 E G4 G5 b2 b47 Δ0 (Typed.pass T4 T5 (s3 bs)) (at64 bs) (LocalCopy.t-val-copy 𝓤 H
-              A W E 𝓣 (λ ρ. Unit) G4 4 9 (Declared.row Sending.the-type) Laws'.mir Laws'.mir
-              (Rows.whole (Declared.row Sending.the-type)) (Rows.whole (Declared.row Sending.the-type)) (λ x. x)
-              (λ x. x) (λ x. x) Path.refl (Own.told-none 𝓤 H A (G4 .slots)) (Yields.yields-copy 𝓤 H A W (λ ρ. Unit)
-              (Declared.row Sending.the-type) Path.refl (Copies.cStruct Sending.the-type Laws'.the-laws Laws'.the-copy
-              .copy 𝓤 H A W) (Rows.whole (Declared.row Sending.the-type)) (λ x. x) (λ x. x) (λ ρ told. Local.mem-whole
-              𝓤 H A W (Declared.row Sending.the-type) ρ) λ ρ told. Local.whole-mem 𝓤 H A W
-              (Declared.row Sending.the-type) ρ) (Reads'.room-gone 𝓤 H A Laws'.mir) (Yields.makes-mem 𝓤 H A W
-              (λ ρ. Unit) (Declared.row Sending.the-type) Path.refl (Rows.whole (Declared.row Sending.the-type))
-              (λ x. x) λ ρ told. Local.whole-mem 𝓤 H A W (Declared.row Sending.the-type) ρ) Path.refl Path.refl) d64
+          d67 : Typed.Typed 𝓤 H A 𝓣 E G5 b49 Δ0 (at67 bs)
+          d67 = Typed.s-seq 𝓤 H A W 𝓣 E G5 G6 b3 b48 Δ0 (Typed.pass T5 T6 (s4 bs)) (at66 bs) (LocalCopy.t-val-copy 𝓤 H
+              A W E 𝓣 (λ ρ. Unit) G5 4 10 (Declared'.row Sending.the-type) Laws''.mir Laws''.mir
+              (Rows.whole (Declared'.row Sending.the-type)) (Rows.whole (Declared'.row Sending.the-type)) (λ x. x)
+              (λ x. x) (λ x. x) Path.refl (Own.told-none 𝓤 H A (G5 .slots)) (Yields.yields-copy 𝓤 H A W (λ ρ. Unit)
+              (Declared'.row Sending.the-type) Path.refl (Copies.cStruct Sending.the-type Laws''.the-laws
+              Laws''.the-copy .copy 𝓤 H A W) (Rows.whole (Declared'.row Sending.the-type)) (λ x. x) (λ x. x) (λ ρ told.
+              Local.mem-whole 𝓤 H A W (Declared'.row Sending.the-type) ρ) λ ρ told. Local.whole-mem 𝓤 H A W
+              (Declared'.row Sending.the-type) ρ) (Reads'.room-gone 𝓤 H A Laws''.mir) (Yields.makes-mem 𝓤 H A W
+              (λ ρ. Unit) (Declared'.row Sending.the-type) Path.refl (Rows.whole (Declared'.row Sending.the-type))
+              (λ x. x) λ ρ told. Local.whole-mem 𝓤 H A W (Declared'.row Sending.the-type) ρ) Path.refl Path.refl) d66
 
-          d66 : Typed.Typed 𝓤 H A 𝓣 E G3 b49 Δ0 (at66 bs)
-          d66 = Typed.s-seq 𝓤 H A W 𝓣 E G3 G4 b1 b48 Δ0 (Typed.pass T3 T4 (s2 bs)) (at65 bs) (Scalar.t-use 𝓤 H A W E 𝓣
-              G3 (Scalar.oFld 1 ((Syntax.field 1) ∷ List.[]) (Syntax.tyInt Syntax.w64) 8 Shared.lenV) 8
+          d68 : Typed.Typed 𝓤 H A 𝓣 E G4 b50 Δ0 (at68 bs)
+          d68 = Typed.s-seq 𝓤 H A W 𝓣 E G4 G5 b2 b49 Δ0 (Typed.pass T4 T5 (s3 bs)) (at67 bs) (Scalar.t-use 𝓤 H A W E 𝓣
+              G4 (Scalar.oFld 1 ((Syntax.field 1) ∷ List.[]) (Syntax.tyInt Syntax.w64) 8 Shared.lenV) 9
               (Rows.sc-here (Row.sInt Syntax.w64)) (Syntax.tyInt Syntax.w64) (Row.valS (Row.sInt Syntax.w64))
               (Row.sInt Syntax.w64 .of) (Mut.reads-mslice-len 𝓤 H A W RelayPending.row ref4 0 8 Path.refl, Path.refl)
               (Reads'.room-gone 𝓤 H A (Syntax.tyInt Syntax.w64)) (Scalar.holds-sc 𝓤 H A W (Row.sInt Syntax.w64))
-              Path.refl (λ u. Path.refl) λ u. tt) d65
+              Path.refl (λ u. Path.refl) λ u. tt) d67
 
-          d67 : Typed.Typed 𝓤 H A 𝓣 E G2 b50 Δ0 (at67 bs)
-          d67 = Typed.s-seq 𝓤 H A W 𝓣 E G2 G3 b0 b49 Δ0 (Typed.both (s1 bs)) (at66 bs) (WayStmt.t-way-copy-out 𝓤 H A W
-              E 𝓣 (Declared.row Question.the-type) Path.refl (Copies.cStruct Question.the-type Laws'''.the-laws
-              Laws'''.the-copy .copy 𝓤 H A W) (λ ρ. Unit) G2 (Row.out 5 (G2 .locals)) (λ u. Row.drop 5 (G2 .locals) u)
-              (G2 .slots) 5 (λ t. (Syntax.field 0) ∷ t) Laws'''.mir Laws'''.mir 7
-              (Rows.whole (Declared.row Question.the-type)) (λ x. x) (λ u. At.getAt (Revoking.the-type .parts) 0
+          d69 : Typed.Typed 𝓤 H A 𝓣 E G3 b51 Δ0 (at69 bs)
+          d69 = Typed.s-seq 𝓤 H A W 𝓣 E G3 G4 b1 b50 Δ0 (Typed.both (s2 bs)) (at68 bs) (WayStmt.t-way-copy-out 𝓤 H A W
+              E 𝓣 (Declared'.row HnsrPeerId.the-type) Path.refl (Copies.cStruct HnsrPeerId.the-type Laws'.the-laws
+              Laws'.the-copy .copy 𝓤 H A W) (λ ρ. Unit) G3 (Row.out 5 (G3 .locals)) (λ u. Row.drop 5 (G3 .locals) u)
+              (G3 .slots) 5 (λ t. (Syntax.field 1) ∷ t) Laws'.mir Laws'.mir 8
+              (Rows.whole (Declared'.row HnsrPeerId.the-type)) (λ x. x) (λ u. At.getAt (Revoking.the-type .parts) 1
               (Revoking.struct .as-values (u .1 .1 .1 .1 .1 .0))) (λ u. (
                 Row.hd 0 (Row.tl (Row.tl (Row.tl (Row.tl (Row.tl bs))))),
-                Nat._+_ 0 0,
+                Nat._+_ 0 24,
               )) (λ T′. record {
-                locals = Row.setRow 5 (5, Rows.whole (Declared.row Revoking.the-type)) T′;
-                slots = G2 .slots;
-              }) (λ u T′ m′. Row.set 5 (5, Rows.whole (Declared.row Revoking.the-type)) (u .1 .1 .1 .1 .1 .0) T′ m′)
-              (λ u. Unit) (λ x. Unit) (Own.told-none 𝓤 H A (G2 .slots)) (DerefMove.learns-nothing 𝓤 H A
-              (Declared.row Question.the-type)) (λ ρ told u asked. Way'.w-partˢ 𝓤 H A W E
-              (Declared.row Revoking.the-type) (Declared.row Question.the-type) Laws.mir Laws'''.mir 0 0
-              (u .1 .1 .1 .1 .1 .0) (At.getAt (Revoking.the-type .parts) 0
+                locals = Row.setRow 5 (5, Rows.whole (Declared'.row Revoking.the-type)) T′;
+                slots = G3 .slots;
+              }) (λ u T′ m′. Row.set 5 (5, Rows.whole (Declared'.row Revoking.the-type)) (u .1 .1 .1 .1 .1 .0) T′ m′)
+              (λ u. Unit) (λ x. Unit) (Own.told-none 𝓤 H A (G3 .slots)) (DerefMove.learns-nothing 𝓤 H A
+              (Declared'.row HnsrPeerId.the-type)) (λ ρ told u asked. Way'.w-partˢ 𝓤 H A W E
+              (Declared'.row Revoking.the-type) (Declared'.row HnsrPeerId.the-type) Laws.mir Laws'.mir 1 24
+              (u .1 .1 .1 .1 .1 .0) (At.getAt (Revoking.the-type .parts) 1
               (Revoking.struct .as-values (u .1 .1 .1 .1 .1 .0))) (
                 Row.hd 0 (Row.tl (Row.tl (Row.tl (Row.tl (Row.tl bs))))),
                 0,
-              ) (Way.w-look 𝓤 H A W E (Way.w-local 𝓤 H A W E G2 ρ u (G2 .slots) 5 (Declared.row Revoking.the-type)
-              (Rows.whole (Declared.row Revoking.the-type)) (λ x. x) (λ x. x) (u .1 .1 .1 .1 .1 .0) (Local.mem-whole 𝓤
-              H A W (Declared.row Revoking.the-type) ρ (u .1 .1 .1 .1 .1 .0)
+              ) (Way.w-look 𝓤 H A W E (Way.w-local 𝓤 H A W E G3 ρ u (G3 .slots) 5 (Declared'.row Revoking.the-type)
+              (Rows.whole (Declared'.row Revoking.the-type)) (λ x. x) (λ x. x) (u .1 .1 .1 .1 .1 .0) (Local.mem-whole 𝓤
+              H A W (Declared'.row Revoking.the-type) ρ (u .1 .1 .1 .1 .1 .0)
               (Row.hd 0 (Row.tl (Row.tl (Row.tl (Row.tl (Row.tl bs))))))) (Local.whole-mem 𝓤 H A W
-              (Declared.row Revoking.the-type) ρ (u .1 .1 .1 .1 .1 .0) (Row.hd 0
+              (Declared'.row Revoking.the-type) ρ (u .1 .1 .1 .1 .1 .0) (Row.hd 0
               (Row.tl (Row.tl (Row.tl (Row.tl (Row.tl bs))))))))) Path.refl λ q. Inner.cut-record 𝓤 H A q
-              (Declared.row Revoking.the-type) Question.the-type 0 (u .1 .1 .1 .1 .1 .0) (u .1 .1 .1 .1 .1 .0) (At.getAt
-              (Revoking.the-type .parts) 0 (Revoking.struct .as-values (u .1 .1 .1 .1 .1 .0))) (At.getAt
-              (Revoking.the-type .parts) 0 (Revoking.struct .as-values (u .1 .1 .1 .1 .1 .0))) (
+              (Declared'.row Revoking.the-type) HnsrPeerId.the-type 24 (u .1 .1 .1 .1 .1 .0) (u .1 .1 .1 .1 .1 .0) (At.getAt
+              (Revoking.the-type .parts) 1 (Revoking.struct .as-values (u .1 .1 .1 .1 .1 .0))) (At.getAt
+              (Revoking.the-type .parts) 1 (Revoking.struct .as-values (u .1 .1 .1 .1 .1 .0))) (
                 Row.hd 0 (Row.tl (Row.tl (Row.tl (Row.tl (Row.tl bs))))),
                 0,
-              ) (Behind.look-at 𝓤 H A W q Revoking.the-type Laws.the-laws 0 0 Path.refl Path.refl (
+              ) (Behind.look-at 𝓤 H A W q Revoking.the-type Laws.the-laws 1 24 Path.refl Path.refl (
                 Row.hd 0 (Row.tl (Row.tl (Row.tl (Row.tl (Row.tl bs))))),
                 0,
               ) (u .1 .1 .1 .1 .1 .0) (Revoking.struct .as-values (u .1 .1 .1 .1 .1 .0)) Path.refl))
-              (Reads'.room-gone 𝓤 H A Laws'''.mir) (Yields.makes-mem 𝓤 H A W (λ ρ. Unit)
-              (Declared.row Question.the-type) Path.refl (Rows.whole (Declared.row Question.the-type)) (λ x. x) λ ρ
-              told. Local.whole-mem 𝓤 H A W (Declared.row Question.the-type) ρ) Path.refl Path.refl Path.refl) d66
+              (Reads'.room-gone 𝓤 H A Laws'.mir) (Yields.makes-mem 𝓤 H A W (λ ρ. Unit)
+              (Declared'.row HnsrPeerId.the-type) Path.refl (Rows.whole (Declared'.row HnsrPeerId.the-type)) (λ x. x)
+              λ ρ told. Local.whole-mem 𝓤 H A W (Declared'.row HnsrPeerId.the-type) ρ) Path.refl Path.refl Path.refl)
+              d68
 
-          d68 : Typed.Typed 𝓤 H A 𝓣 E G0 b50 Δ0 (at68 bs)
-          d68 = Typed.g-pre 𝓤 H A W 𝓣 E G0 G2 b50 Δ0 (Typed.give (s0 bs)) (at67 bs) (Know.g-sl-known 𝓤 H A W
+          d70 : Typed.Typed 𝓤 H A 𝓣 E G2 b52 Δ0 (at70 bs)
+          d70 = Typed.s-seq 𝓤 H A W 𝓣 E G2 G3 b0 b51 Δ0 (Typed.pass T2 T3 (s1 bs)) (at69 bs) (CopyOut.t-copy-told 𝓤 H A
+              W E 𝓣 (Declared.row RecordQuestion.the-type) Path.refl
+              (Laws''''''.val RecordQuestion.the-type Laws''''.the-laws) (Laws''''''.lawful RecordQuestion.the-type
+              Laws''''.the-laws 𝓤 H A W tt) (Laws''''''.makes RecordQuestion.the-type Laws''''.the-plain 𝓤 H A) G2 7 (Scalar.oFld
+              5 ((Syntax.field 0) ∷ List.[]) Laws''''.mir 0 λ x. Laws''''''.val RecordQuestion.the-type
+              Laws''''.the-laws (Revoking.struct .as-values x .0))
+              (λ m. Revoking.struct .as-values (m .1 .1 .1 .1 .1 .0) .0) (λ m. Laws'''''''.Is
+              (Declared'.row Revoking.the-type) (m .1 .1 .1 .1 .1 .0) (Laws''''''''.vals Revoking.the-type
+              Laws.the-laws (m .1 .1 .1 .1 .1 .0))) (Reads'.room-gone 𝓤 H A Laws''''.mir) (
+                Reads.reads-field 𝓤 H A W Revoking.the-type Laws.the-laws 0 Laws''''.mir 0 Path.refl,
+                Path.refl,
+              ) Path.refl (λ ρ m. Make.tells-row 𝓤 H A W E ρ (Row.out 7 (G2 .locals)) m 5 (Laws'''''''.Is
+              (Declared'.row Revoking.the-type) (m .1 .1 .1 .1 .1 .0) (Laws''''''''.vals Revoking.the-type
+              Laws.the-laws (m .1 .1 .1 .1 .1 .0))) (Make.whole-is 𝓤 H A W E (Declared'.row Revoking.the-type)
+              Path.refl (Laws''''''''.val Revoking.the-type Laws.the-laws)
+              (Laws''''''''.tells Revoking.the-type Laws.the-laws) ρ 5 (m .1 .1 .1 .1 .1 .0))) (λ m k wa. Path.refl) λ
+              m k wa. Laws''''''''.owed Revoking.the-type Laws.the-laws (m .1 .1 .1 .1 .1 .0) (Laws''''''''.vals
+              Revoking.the-type Laws.the-laws (m .1 .1 .1 .1 .1 .0)) k .0) d69
+
+          d71 : Typed.Typed 𝓤 H A 𝓣 E G0 b52 Δ0 (at71 bs)
+          d71 = Typed.g-pre 𝓤 H A W 𝓣 E G0 G2 b52 Δ0 (Typed.give (s0 bs)) (at70 bs) (Know.g-sl-known 𝓤 H A W
               (Referent.fInt Syntax.w32) E G0 3 2 ref6 life2 0 (λ x. x) record { fits = Dec.lit< tt } (Reads'.as-is 𝓤 H
-              A (Mut.mslice (Referent.rtF (Referent.fInt Syntax.w32)) ref6 2)) Path.refl tt) d67
+              A (Mut.mslice (Referent.rtF (Referent.fInt Syntax.w32)) ref6 2)) Path.refl tt) d70
 
-          pub typed : Typed.Typed 𝓤 H A 𝓣 E (Function.Γin 3 ps r xs m κs qs) b50 (Function.Δret 3 ps r xs m κs qs)
+          pub typed : Typed.Typed 𝓤 H A 𝓣 E (Function.Γin 3 ps r xs m κs qs) b52 (Function.Δret 3 ps r xs m κs qs)
               (Φ bs)
-          typed = d68
+          typed = d71
 
       module _ (κs : Lifetimes.Lfts 3) where
         pub record Args : Type 0 where
           pub pending : Kinds.Den {n = 3} κs (MutSlice.pMutS RelayPending.row 0 tt)
           pub inflight : Kinds.Den {n = 3} κs (MutSlice.pMutS InflightAction.row 1 tt)
           pub out : Kinds.Den {n = 3} κs (MutSlice.pMutS (Referent.rtF (Referent.fInt Syntax.w32)) 2 tt)
-          pub sending : Kinds.Den {n = 3} κs (StructRow.param Sending.the-type Laws'.the-laws Laws'.the-copy
-              Laws'.the-plain)
+          pub sending : Kinds.Den {n = 3} κs (StructRow.param Sending.the-type Laws''.the-laws Laws''.the-copy
+              Laws''.the-plain)
           pub revoking : Kinds.Den {n = 3} κs (StructRow.param Revoking.the-type Laws.the-laws Laws.the-copy
               Laws.the-plain)
-          pub first : Kinds.Den {n = 3} κs (StructRow.param Walked.the-type Laws''''.the-laws Laws''''.the-copy
-              Laws''''.the-plain)
+          pub first : Kinds.Den {n = 3} κs (StructRow.param Walked.the-type Laws'''''.the-laws Laws'''''.the-copy
+              Laws'''''.the-plain)
 
         abbrev pub dens : (a : Args) → Kinds.Dens κs ps
         dens = λ a. (a .pending, (a .inflight, (a .out, (a .sending, (a .revoking, (a .first, tt))))))
@@ -2297,6 +2439,10 @@ module _ (claims· : Claims) where
           (m0 (before .κs) (before .args) (before .blocks))) → Typed.Mo T2
       m1 = λ before given. s0 (before .blocks) .next (m0 (before .κs) (before .args) (before .blocks)) given
 
+      abbrev pub m2 : (before : Start) → (given : s0 (before .blocks) .gives
+          (m0 (before .κs) (before .args) (before .blocks))) → Typed.Mo T3
+      m2 = λ before given. s1 (before .blocks) (m1 before given)
+
       module _ (before· : Start) where
         pub record After-slice-known·own : Type 0 where
           pub given : s0 (before· .blocks) .gives (m0 (before· .κs) (before· .args) (before· .blocks))
@@ -2305,165 +2451,169 @@ module _ (claims· : Claims) where
         pub before : Start
         pub slice-known : After-slice-known·own before
 
-      abbrev pub m2 : (before : After-slice-known) → (given : s1 (before .before .blocks) .gives
-          (m1 (before .before) (before .slice-known .given))) → Typed.Mo T3
-      m2 = λ before given. s1 (before .before .blocks) .next (m1 (before .before) (before .slice-known .given)) given
+      abbrev pub m3 : (before : After-slice-known) → (given : s2 (before .before .blocks) .gives
+          (m2 (before .before) (before .slice-known .given))) → Typed.Mo T4
+      m3 = λ before given. s2 (before .before .blocks) .next (m2 (before .before) (before .slice-known .given)) given
 
-      abbrev pub m3 : (before : After-slice-known) → (given : s1 (before .before .blocks) .gives
-          (m1 (before .before) (before .slice-known .given))) → Typed.Mo T4
-      m3 = λ before given. s2 (before .before .blocks) (m2 before given)
-
-      abbrev pub m4 : (before : After-slice-known) → (given : s1 (before .before .blocks) .gives
-          (m1 (before .before) (before .slice-known .given))) → Typed.Mo T5
+      abbrev pub m4 : (before : After-slice-known) → (given : s2 (before .before .blocks) .gives
+          (m2 (before .before) (before .slice-known .given))) → Typed.Mo T5
       m4 = λ before given. s3 (before .before .blocks) (m3 before given)
 
-      abbrev pub m5 : (before : After-slice-known) → (given : s1 (before .before .blocks) .gives
-          (m1 (before .before) (before .slice-known .given))) → Typed.Mo T6
+      abbrev pub m5 : (before : After-slice-known) → (given : s2 (before .before .blocks) .gives
+          (m2 (before .before) (before .slice-known .given))) → Typed.Mo T6
       m5 = λ before given. s4 (before .before .blocks) (m4 before given)
 
-      abbrev pub m6 : (before : After-slice-known) → (given : s1 (before .before .blocks) .gives
-          (m1 (before .before) (before .slice-known .given))) → Typed.Mo T7
+      abbrev pub m6 : (before : After-slice-known) → (given : s2 (before .before .blocks) .gives
+          (m2 (before .before) (before .slice-known .given))) → Typed.Mo T7
       m6 = λ before given. s5 (before .before .blocks) (m5 before given)
 
-      abbrev pub m7 : (before : After-slice-known) → (given : s1 (before .before .blocks) .gives
-          (m1 (before .before) (before .slice-known .given))) → Typed.Mo T8
+      abbrev pub m7 : (before : After-slice-known) → (given : s2 (before .before .blocks) .gives
+          (m2 (before .before) (before .slice-known .given))) → Typed.Mo T8
       m7 = λ before given. s6 (before .before .blocks) (m6 before given)
 
-      abbrev pub m8 : (before : After-slice-known) → (given : s1 (before .before .blocks) .gives
-          (m1 (before .before) (before .slice-known .given))) → Typed.Mo T9
+      abbrev pub m8 : (before : After-slice-known) → (given : s2 (before .before .blocks) .gives
+          (m2 (before .before) (before .slice-known .given))) → Typed.Mo T9
       m8 = λ before given. s7 (before .before .blocks) (m7 before given)
 
-      abbrev W1 : (before : After-slice-known) → (given : s1 (before .before .blocks) .gives
-          (m1 (before .before) (before .slice-known .given))) → Typed.Want O1
-      W1 = λ before given. Typed.wantNext T10 O0 (at59 (before .before .blocks) (W0 (before .before .κs)
+      abbrev pub m9 : (before : After-slice-known) → (given : s2 (before .before .blocks) .gives
+          (m2 (before .before) (before .slice-known .given))) → Typed.Mo T10
+      m9 = λ before given. s8 (before .before .blocks) (m8 before given)
+
+      abbrev W1 : (before : After-slice-known) → (given : s2 (before .before .blocks) .gives
+          (m2 (before .before) (before .slice-known .given))) → Typed.Want O1
+      W1 = λ before given. Typed.wantNext T11 O0 (at61 (before .before .blocks) (W0 (before .before .κs)
           (before .before .args) (before .before .blocks))) (W0 (before .before .κs) (before .before .args)
           (before .before .blocks))
 
-      abbrev W2 : (before : After-slice-known) → (given : s1 (before .before .blocks) .gives
-          (m1 (before .before) (before .slice-known .given))) → Typed.Want O2
+      abbrev W2 : (before : After-slice-known) → (given : s2 (before .before .blocks) .gives
+          (m2 (before .before) (before .slice-known .given))) → Typed.Want O2
       W2 = λ before given. Typed.inBlock O1 (W1 before given)
 
       module _ (before· : After-slice-known) where
-        pub record After-question·own : Type 0 where
-          pub given : s1 (before· .before .blocks) .gives (m1 (before· .before) (before· .slice-known .given))
+        pub record After-peer·own : Type 0 where
+          pub given : s2 (before· .before .blocks) .gives (m2 (before· .before) (before· .slice-known .given))
 
-      pub record After-question : Type 0 where
+      pub record After-peer : Type 0 where
         pub before : After-slice-known
-        pub question : After-question·own before
+        pub peer : After-peer·own before
 
       abbrev pub Need-loop-holds : Type 0
-      Need-loop-holds = (c : After-question) → Inv·0 (Row.get 1 (T9 .locals) (m8 (c .before) (c .question .given)) .now) (Row.get
-          2 (T9 .locals) (m8 (c .before) (c .question .given)) .now) (Row.get 3 (T9 .locals)
-          (m8 (c .before) (c .question .given)) .now) (Row.get 5 (T9 .locals) (m8 (c .before) (c .question .given))) (Row.get
-          7 (T9 .locals) (m8 (c .before) (c .question .given))) (Row.get 8 (T9 .locals)
-          (m8 (c .before) (c .question .given))) (Row.get 9 (T9 .locals) (m8 (c .before) (c .question .given))) (Row.get
-          10 (T9 .locals) (m8 (c .before) (c .question .given))) (Row.get 11 (T9 .locals)
-          (m8 (c .before) (c .question .given))) (Row.get 1 (T9 .locals) (m8 (c .before) (c .question .given)) .now) (Row.get
-          2 (T9 .locals) (m8 (c .before) (c .question .given)) .now) (Row.get 3 (T9 .locals)
-          (m8 (c .before) (c .question .given)) .now) (Row.get 9 (T9 .locals) (m8 (c .before) (c .question .given))) (Row.get
-          10 (T9 .locals) (m8 (c .before) (c .question .given))) (Row.get 11 (T9 .locals)
-          (m8 (c .before) (c .question .given)))
+      Need-loop-holds = (c : After-peer) → Inv·0 (Row.get 1 (T10 .locals) (m9 (c .before) (c .peer .given)) .now) (Row.get
+          2 (T10 .locals) (m9 (c .before) (c .peer .given)) .now) (Row.get 3 (T10 .locals)
+          (m9 (c .before) (c .peer .given)) .now) (Row.get 5 (T10 .locals) (m9 (c .before) (c .peer .given)))
+          (Row.get 7 (T10 .locals) (m9 (c .before) (c .peer .given)))
+          (Row.get 8 (T10 .locals) (m9 (c .before) (c .peer .given)))
+          (Row.get 9 (T10 .locals) (m9 (c .before) (c .peer .given))) (Row.get 10 (T10 .locals)
+          (m9 (c .before) (c .peer .given))) (Row.get 11 (T10 .locals) (m9 (c .before) (c .peer .given))) (Row.get 12
+          (T10 .locals) (m9 (c .before) (c .peer .given))) (Row.get 1 (T10 .locals) (m9 (c .before) (c .peer .given))
+          .now) (Row.get 2 (T10 .locals) (m9 (c .before) (c .peer .given)) .now) (Row.get 3 (T10 .locals)
+          (m9 (c .before) (c .peer .given)) .now) (Row.get 10 (T10 .locals) (m9 (c .before) (c .peer .given))) (Row.get
+          11 (T10 .locals) (m9 (c .before) (c .peer .given))) (Row.get 12 (T10 .locals)
+          (m9 (c .before) (c .peer .given)))
 
-      abbrev pub m9 : (before : After-question) → (pending : List.List (RelayPending.row .Denot)) →
+      abbrev pub m10 : (before : After-peer) → (pending : List.List (RelayPending.row .Denot)) →
           (inflight : List.List (InflightAction.row .Denot)) → (out : List.List
-          (Referent.rtF (Referent.fInt Syntax.w32) .Denot)) → (told : Rows.whole (Declared.row Sending.the-type) .Mod)
-          → (next : Rows.whole (Declared.row Walked.the-type) .Mod) → (turn : Rows.sc-here (Row.sInt Syntax.w64) .Mod)
-          → Typed.Mo T9
-      m9 = λ before pending inflight out told next turn. Row.set 11 (11, Rows.sc-here (Row.sInt Syntax.w64)) turn (Row.setRow
-          10 (10, Rows.whole (Declared.row Walked.the-type)) (Row.setRow 9
-          (9, Rows.whole (Declared.row Sending.the-type)) (Row.setRow 3 (
+          (Referent.rtF (Referent.fInt Syntax.w32) .Denot)) → (told : Rows.whole (Declared'.row Sending.the-type) .Mod)
+          → (next : Rows.whole (Declared'.row Walked.the-type) .Mod) → (turn : Rows.sc-here (Row.sInt Syntax.w64) .Mod)
+          → Typed.Mo T10
+      m10 = λ before pending inflight out told next turn. Row.set 12 (12, Rows.sc-here (Row.sInt Syntax.w64)) turn (Row.setRow
+          11 (11, Rows.whole (Declared'.row Walked.the-type)) (Row.setRow 10
+          (10, Rows.whole (Declared'.row Sending.the-type)) (Row.setRow 3 (
             3,
             Mut.mslice (Referent.rtF (Referent.fInt Syntax.w32)) ref6 2,
           ) (Row.setRow 2 (2, Mut.mslice InflightAction.row ref5 1) (Row.setRow 1
-          (1, Mut.mslice RelayPending.row ref4 0) (T9 .locals)))))) (Row.set 10
-          (10, Rows.whole (Declared.row Walked.the-type)) next (Row.setRow 9
-          (9, Rows.whole (Declared.row Sending.the-type)) (Row.setRow 3 (
+          (1, Mut.mslice RelayPending.row ref4 0) (T10 .locals)))))) (Row.set 11
+          (11, Rows.whole (Declared'.row Walked.the-type)) next (Row.setRow 10
+          (10, Rows.whole (Declared'.row Sending.the-type)) (Row.setRow 3 (
             3,
             Mut.mslice (Referent.rtF (Referent.fInt Syntax.w32)) ref6 2,
           ) (Row.setRow 2 (2, Mut.mslice InflightAction.row ref5 1) (Row.setRow 1
-          (1, Mut.mslice RelayPending.row ref4 0) (T9 .locals))))) (Row.set 9
-          (9, Rows.whole (Declared.row Sending.the-type)) told (Row.setRow 3 (
+          (1, Mut.mslice RelayPending.row ref4 0) (T10 .locals))))) (Row.set 10
+          (10, Rows.whole (Declared'.row Sending.the-type)) told (Row.setRow 3 (
             3,
             Mut.mslice (Referent.rtF (Referent.fInt Syntax.w32)) ref6 2,
           ) (Row.setRow 2 (2, Mut.mslice InflightAction.row ref5 1) (Row.setRow 1
-          (1, Mut.mslice RelayPending.row ref4 0) (T9 .locals)))) (Row.set 3 (
+          (1, Mut.mslice RelayPending.row ref4 0) (T10 .locals)))) (Row.set 3 (
             3,
             Mut.mslice (Referent.rtF (Referent.fInt Syntax.w32)) ref6 2,
           ) record {
-            ptr = Row.get 3 (T9 .locals) (m8 (before .before) (before .question .given)) .ptr;
-            name = Row.get 3 (T9 .locals) (m8 (before .before) (before .question .given)) .name;
+            ptr = Row.get 3 (T10 .locals) (m9 (before .before) (before .peer .given)) .ptr;
+            name = Row.get 3 (T10 .locals) (m9 (before .before) (before .peer .given)) .name;
             now = out;
           } (Row.setRow 2 (2, Mut.mslice InflightAction.row ref5 1) (Row.setRow 1
-          (1, Mut.mslice RelayPending.row ref4 0) (T9 .locals))) (Row.set 2 (2, Mut.mslice InflightAction.row ref5 1)
+          (1, Mut.mslice RelayPending.row ref4 0) (T10 .locals))) (Row.set 2 (2, Mut.mslice InflightAction.row ref5 1)
           record {
-            ptr = Row.get 2 (T9 .locals) (m8 (before .before) (before .question .given)) .ptr;
-            name = Row.get 2 (T9 .locals) (m8 (before .before) (before .question .given)) .name;
+            ptr = Row.get 2 (T10 .locals) (m9 (before .before) (before .peer .given)) .ptr;
+            name = Row.get 2 (T10 .locals) (m9 (before .before) (before .peer .given)) .name;
             now = inflight;
-          } (Row.setRow 1 (1, Mut.mslice RelayPending.row ref4 0) (T9 .locals)) (Row.set 1
+          } (Row.setRow 1 (1, Mut.mslice RelayPending.row ref4 0) (T10 .locals)) (Row.set 1
           (1, Mut.mslice RelayPending.row ref4 0) record {
-            ptr = Row.get 1 (T9 .locals) (m8 (before .before) (before .question .given)) .ptr;
-            name = Row.get 1 (T9 .locals) (m8 (before .before) (before .question .given)) .name;
+            ptr = Row.get 1 (T10 .locals) (m9 (before .before) (before .peer .given)) .ptr;
+            name = Row.get 1 (T10 .locals) (m9 (before .before) (before .peer .given)) .name;
             now = pending;
-          } (T9 .locals) (m8 (before .before) (before .question .given)))))))
+          } (T10 .locals) (m9 (before .before) (before .peer .given)))))))
 
-      abbrev W3 : (before : After-question) → (pending : List.List (RelayPending.row .Denot)) →
+      abbrev W3 : (before : After-peer) → (pending : List.List (RelayPending.row .Denot)) →
           (inflight : List.List (InflightAction.row .Denot)) → (out : List.List
-          (Referent.rtF (Referent.fInt Syntax.w32) .Denot)) → (told : Rows.whole (Declared.row Sending.the-type) .Mod)
-          → (next : Rows.whole (Declared.row Walked.the-type) .Mod) → (turn : Rows.sc-here (Row.sInt Syntax.w64) .Mod)
+          (Referent.rtF (Referent.fInt Syntax.w32) .Denot)) → (told : Rows.whole (Declared'.row Sending.the-type) .Mod)
+          → (next : Rows.whole (Declared'.row Walked.the-type) .Mod) → (turn : Rows.sc-here (Row.sInt Syntax.w64) .Mod)
           → Typed.Want O3
-      W3 = λ before pending inflight out told next turn. Typed.inLoop T9 O2 (Typed.Round T9 O2 put0 (λ u vs. Inv·0
-          (Row.get 1 (T9 .locals) u .now) (Row.get 2 (T9 .locals) u .now) (Row.get 3 (T9 .locals) u .now)
-          (Row.get 5 (T9 .locals) u) (Row.get 7 (T9 .locals) u) (Row.get 8 (T9 .locals) u) (Row.get 9 (T9 .locals) u)
-          (Row.get 10 (T9 .locals) u) (Row.get 11 (T9 .locals) u) (vs .0) (vs .1) (vs .2) (vs .3) (vs .4) (vs .5)) (λ u
-          vs. μ·0 (Row.get 1 (T9 .locals) u .now) (Row.get 2 (T9 .locals) u .now) (Row.get 3 (T9 .locals) u .now)
-          (Row.get 5 (T9 .locals) u) (Row.get 7 (T9 .locals) u) (Row.get 8 (T9 .locals) u) (Row.get 9 (T9 .locals) u)
-          (Row.get 10 (T9 .locals) u) (Row.get 11 (T9 .locals) u) (vs .0) (vs .1) (vs .2) (vs .3) (vs .4) (vs .5))
-          (at52 (before .before .before .blocks)) (m8 (before .before) (before .question .given))
-          (pending, inflight, out, told, next, turn)) (W2 (before .before) (before .question .given))
+      W3 = λ before pending inflight out told next turn. Typed.inLoop T10 O2 (Typed.Round T10 O2 put0 (λ u vs. Inv·0
+          (Row.get 1 (T10 .locals) u .now) (Row.get 2 (T10 .locals) u .now) (Row.get 3 (T10 .locals) u .now)
+          (Row.get 5 (T10 .locals) u) (Row.get 7 (T10 .locals) u) (Row.get 8 (T10 .locals) u)
+          (Row.get 9 (T10 .locals) u) (Row.get 10 (T10 .locals) u) (Row.get 11 (T10 .locals) u)
+          (Row.get 12 (T10 .locals) u) (vs .0) (vs .1) (vs .2) (vs .3) (vs .4) (vs .5)) (λ u vs. μ·0
+          (Row.get 1 (T10 .locals) u .now) (Row.get 2 (T10 .locals) u .now) (Row.get 3 (T10 .locals) u .now)
+          (Row.get 5 (T10 .locals) u) (Row.get 7 (T10 .locals) u) (Row.get 8 (T10 .locals) u)
+          (Row.get 9 (T10 .locals) u) (Row.get 10 (T10 .locals) u) (Row.get 11 (T10 .locals) u)
+          (Row.get 12 (T10 .locals) u) (vs .0) (vs .1) (vs .2) (vs .3) (vs .4) (vs .5))
+          (at54 (before .before .before .blocks)) (m9 (before .before) (before .peer .given))
+          (pending, inflight, out, told, next, turn)) (W2 (before .before) (before .peer .given))
 
-      abbrev pub m10 : (before : After-question) → (pending : List.List (RelayPending.row .Denot)) →
+      abbrev pub m11 : (before : After-peer) → (pending : List.List (RelayPending.row .Denot)) →
           (inflight : List.List (InflightAction.row .Denot)) → (out : List.List
-          (Referent.rtF (Referent.fInt Syntax.w32) .Denot)) → (told : Rows.whole (Declared.row Sending.the-type) .Mod)
-          → (next : Rows.whole (Declared.row Walked.the-type) .Mod) → (turn : Rows.sc-here (Row.sInt Syntax.w64) .Mod)
-          → Typed.Mo T11
-      m10 = λ before pending inflight out told next turn. s8 (before .before .before .blocks) .next
-          (m9 before pending inflight out told next turn)
+          (Referent.rtF (Referent.fInt Syntax.w32) .Denot)) → (told : Rows.whole (Declared'.row Sending.the-type) .Mod)
+          → (next : Rows.whole (Declared'.row Walked.the-type) .Mod) → (turn : Rows.sc-here (Row.sInt Syntax.w64) .Mod)
+          → Typed.Mo T12
+      m11 = λ before pending inflight out told next turn. s9 (before .before .before .blocks) .next
+          (m10 before pending inflight out told next turn)
 
-      abbrev W4 : (before : After-question) → (pending : List.List (RelayPending.row .Denot)) →
+      abbrev W4 : (before : After-peer) → (pending : List.List (RelayPending.row .Denot)) →
           (inflight : List.List (InflightAction.row .Denot)) → (out : List.List
-          (Referent.rtF (Referent.fInt Syntax.w32) .Denot)) → (told : Rows.whole (Declared.row Sending.the-type) .Mod)
-          → (next : Rows.whole (Declared.row Walked.the-type) .Mod) → (turn : Rows.sc-here (Row.sInt Syntax.w64) .Mod)
+          (Referent.rtF (Referent.fInt Syntax.w32) .Denot)) → (told : Rows.whole (Declared'.row Sending.the-type) .Mod)
+          → (next : Rows.whole (Declared'.row Walked.the-type) .Mod) → (turn : Rows.sc-here (Row.sInt Syntax.w64) .Mod)
           → Typed.Want O4
-      W4 = λ before pending inflight out told next turn. Typed.wantNext T12 O3 (at50 (before .before .before .blocks)
+      W4 = λ before pending inflight out told next turn. Typed.wantNext T13 O3 (at52 (before .before .before .blocks)
           (W3 before pending inflight out told next turn)) (W3 before pending inflight out told next turn)
 
-      module _ (before· : After-question) where
+      module _ (before· : After-peer) where
         pub record At-loop·own : Type 0 where
           pub pending : List.List (RelayPending.row .Denot)
           pub inflight : List.List (InflightAction.row .Denot)
           pub out : List.List (Referent.rtF (Referent.fInt Syntax.w32) .Denot)
-          pub told : Rows.whole (Declared.row Sending.the-type) .Mod
-          pub next : Rows.whole (Declared.row Walked.the-type) .Mod
+          pub told : Rows.whole (Declared'.row Sending.the-type) .Mod
+          pub next : Rows.whole (Declared'.row Walked.the-type) .Mod
           pub turn : Rows.sc-here (Row.sInt Syntax.w64) .Mod
-          pub inv : Inv·0 (Row.get 1 (T9 .locals) (m8 (before· .before) (before· .question .given)) .now) (Row.get 2
-              (T9 .locals) (m8 (before· .before) (before· .question .given)) .now) (Row.get 3 (T9 .locals)
-              (m8 (before· .before) (before· .question .given)) .now) (Row.get 5 (T9 .locals)
-              (m8 (before· .before) (before· .question .given))) (Row.get 7 (T9 .locals)
-              (m8 (before· .before) (before· .question .given))) (Row.get 8 (T9 .locals)
-              (m8 (before· .before) (before· .question .given))) (Row.get 9 (T9 .locals)
-              (m8 (before· .before) (before· .question .given))) (Row.get 10 (T9 .locals)
-              (m8 (before· .before) (before· .question .given))) (Row.get 11 (T9 .locals)
-              (m8 (before· .before) (before· .question .given))) pending inflight out told next turn
+          pub inv : Inv·0 (Row.get 1 (T10 .locals) (m9 (before· .before) (before· .peer .given)) .now) (Row.get 2
+              (T10 .locals) (m9 (before· .before) (before· .peer .given)) .now) (Row.get 3 (T10 .locals)
+              (m9 (before· .before) (before· .peer .given)) .now) (Row.get 5 (T10 .locals)
+              (m9 (before· .before) (before· .peer .given))) (Row.get 7 (T10 .locals)
+              (m9 (before· .before) (before· .peer .given))) (Row.get 8 (T10 .locals)
+              (m9 (before· .before) (before· .peer .given))) (Row.get 9 (T10 .locals)
+              (m9 (before· .before) (before· .peer .given))) (Row.get 10 (T10 .locals)
+              (m9 (before· .before) (before· .peer .given))) (Row.get 11 (T10 .locals)
+              (m9 (before· .before) (before· .peer .given))) (Row.get 12 (T10 .locals)
+              (m9 (before· .before) (before· .peer .given))) pending inflight out told next turn
 
       pub record At-loop : Type 0 where
-        pub before : After-question
+        pub before : After-peer
         pub loop : At-loop·own before
 
       module _ (before· : At-loop) where
         pub record In-loop·own : Type 0 where
-          pub taken : Nat._<_ (Row.get 11 (T9 .locals) (m9 (before· .before) (before· .loop .pending)
+          pub taken : Nat._<_ (Row.get 12 (T10 .locals) (m10 (before· .before) (before· .loop .pending)
               (before· .loop .inflight) (before· .loop .out) (before· .loop .told) (before· .loop .next)
-              (before· .loop .turn))) (Row.get 8 (T9 .locals) (m9 (before· .before) (before· .loop .pending)
+              (before· .loop .turn))) (Row.get 9 (T10 .locals) (m10 (before· .before) (before· .loop .pending)
               (before· .loop .inflight) (before· .loop .out) (before· .loop .told) (before· .loop .next)
               (before· .loop .turn)))
 
@@ -2471,15 +2621,15 @@ module _ (claims· : Claims) where
         pub before : At-loop
         pub loop-test : In-loop·own before
 
-      abbrev pub m11 : (before : At-loop) → Typed.Mo T13
-      m11 = λ before. s9 (before .before .before .before .blocks) (m10 (before .before) (before .loop .pending)
+      abbrev pub m12 : (before : At-loop) → Typed.Mo T14
+      m12 = λ before. s10 (before .before .before .before .blocks) (m11 (before .before) (before .loop .pending)
           (before .loop .inflight) (before .loop .out) (before .loop .told) (before .loop .next) (before .loop .turn))
 
       module _ (before· : At-loop) where
         pub record After-loop·own : Type 0 where
-          pub left : Nat._≤_ (Row.get 8 (T9 .locals) (m9 (before· .before) (before· .loop .pending)
+          pub left : Nat._≤_ (Row.get 9 (T10 .locals) (m10 (before· .before) (before· .loop .pending)
               (before· .loop .inflight) (before· .loop .out) (before· .loop .told) (before· .loop .next)
-              (before· .loop .turn))) (Row.get 11 (T9 .locals) (m9 (before· .before) (before· .loop .pending)
+              (before· .loop .turn))) (Row.get 12 (T10 .locals) (m10 (before· .before) (before· .loop .pending)
               (before· .loop .inflight) (before· .loop .out) (before· .loop .told) (before· .loop .next)
               (before· .loop .turn)))
 
@@ -2487,12 +2637,9 @@ module _ (claims· : Claims) where
         pub before : At-loop
         pub loop-test : After-loop·own before
 
-      abbrev pub m12 : (before : At-loop) → Typed.Mo T14
-      m12 = λ before. s10 (before .before .before .before .blocks) (m10 (before .before) (before .loop .pending)
-          (before .loop .inflight) (before .loop .out) (before .loop .told) (before .loop .next) (before .loop .turn))
-
       abbrev pub m13 : (before : At-loop) → Typed.Mo T15
-      m13 = λ before. s11 (before .before .before .before .blocks) (m12 before)
+      m13 = λ before. s11 (before .before .before .before .blocks) (m11 (before .before) (before .loop .pending)
+          (before .loop .inflight) (before .loop .out) (before .loop .told) (before .loop .next) (before .loop .turn))
 
       abbrev pub m14 : (before : At-loop) → Typed.Mo T16
       m14 = λ before. s12 (before .before .before .before .blocks) (m13 before)
@@ -2500,49 +2647,49 @@ module _ (claims· : Claims) where
       abbrev pub m15 : (before : At-loop) → Typed.Mo T17
       m15 = λ before. s13 (before .before .before .before .blocks) (m14 before)
 
-      abbrev pub Need-no-requires : Type 0
-      Need-no-requires = (c : In-loop) → s14 (c .before .before .before .before .blocks) .asks (m11 (c .before))
+      abbrev pub m16 : (before : At-loop) → Typed.Mo T18
+      m16 = λ before. s14 (before .before .before .before .blocks) (m15 before)
 
-      abbrev pub m16 : (before : In-loop) → (given : s14 (before .before .before .before .before .blocks) .gives
-          (m11 (before .before))) → Typed.Mo T18
-      m16 = λ before given. s14 (before .before .before .before .before .blocks) .next (m11 (before .before)) given
+      abbrev pub m17 : (before : At-loop) → Typed.Mo T19
+      m17 = λ before. s15 (before .before .before .before .blocks) (m16 before)
+
+      abbrev pub Need-no-requires : Type 0
+      Need-no-requires = (c : In-loop) → s16 (c .before .before .before .before .blocks) .asks (m12 (c .before))
+
+      abbrev pub m18 : (before : In-loop) → (given : s16 (before .before .before .before .before .blocks) .gives
+          (m12 (before .before))) → Typed.Mo T20
+      m18 = λ before given. s16 (before .before .before .before .before .blocks) .next (m12 (before .before)) given
 
       module _ (before· : In-loop) where
         abbrev pub After-no·own : Type 0
-        After-no·own = Called.Called ps·0 r·0 (claims· .1) T12 (
-          Bool.bFld 10 ((Syntax.field 0) ∷ List.[]) 0 λ x. Walked.struct .as-values x .0,
+        After-no·own = Called.Called ps·0 r·0 (claims· .1) T13 (
+          Bool.bFld 11 ((Syntax.field 0) ∷ List.[]) 0 λ x. Walked.struct .as-values x .0,
           tt,
-        ) (m11 (before· .before))
+        ) (m12 (before· .before))
 
       pub record After-no : Type 0 where
         pub before : In-loop
         pub no : After-no·own before
 
-      abbrev pub After-no·gave : (c : After-no) → s14 (c .before .before .before .before .before .blocks) .gives
-          (m11 (c .before .before))
-      After-no·gave = λ c. Called.given ps·0 r·0 (claims· .1) T12 (
-        Bool.bFld 10 ((Syntax.field 0) ∷ List.[]) 0 λ x. Walked.struct .as-values x .0,
+      abbrev pub After-no·gave : (c : After-no) → s16 (c .before .before .before .before .before .blocks) .gives
+          (m12 (c .before .before))
+      After-no·gave = λ c. Called.given ps·0 r·0 (claims· .1) T13 (
+        Bool.bFld 11 ((Syntax.field 0) ∷ List.[]) 0 λ x. Walked.struct .as-values x .0,
         tt,
-      ) (m11 (c .before .before)) (c .no)
+      ) (m12 (c .before .before)) (c .no)
 
-      abbrev W5 : (before : In-loop) → (given : s14 (before .before .before .before .before .blocks) .gives
-          (m11 (before .before))) → Typed.Want O5
-      W5 = λ before given. Typed.wantNext T19 O3 (at48 (before .before .before .before .before .blocks) (W3
+      abbrev W5 : (before : In-loop) → (given : s16 (before .before .before .before .before .blocks) .gives
+          (m12 (before .before))) → Typed.Want O5
+      W5 = λ before given. Typed.wantNext T21 O3 (at50 (before .before .before .before .before .blocks) (W3
           (before .before .before) (before .before .loop .pending) (before .before .loop .inflight)
           (before .before .loop .out) (before .before .loop .told) (before .before .loop .next)
           (before .before .loop .turn))) (W3 (before .before .before) (before .before .loop .pending)
           (before .before .loop .inflight) (before .before .loop .out) (before .before .loop .told)
           (before .before .loop .next) (before .before .loop .turn))
 
-      abbrev pub m17 : (before : After-no) → Typed.Mo T20
-      m17 = λ before. s15 (before .before .before .before .before .before .blocks)
-          (m16 (before .before) (After-no·gave before))
-
-      abbrev pub m18 : (before : After-no) → Typed.Mo T21
-      m18 = λ before. s16 (before .before .before .before .before .before .blocks) (m17 before)
-
       abbrev pub m19 : (before : After-no) → Typed.Mo T22
-      m19 = λ before. s17 (before .before .before .before .before .before .blocks) (m18 before)
+      m19 = λ before. s17 (before .before .before .before .before .before .blocks)
+          (m18 (before .before) (After-no·gave before))
 
       abbrev pub m20 : (before : After-no) → Typed.Mo T23
       m20 = λ before. s18 (before .before .before .before .before .before .blocks) (m19 before)
@@ -2559,26 +2706,35 @@ module _ (claims· : Claims) where
       abbrev pub m24 : (before : After-no) → Typed.Mo T27
       m24 = λ before. s22 (before .before .before .before .before .before .blocks) (m23 before)
 
+      abbrev pub m25 : (before : After-no) → Typed.Mo T28
+      m25 = λ before. s23 (before .before .before .before .before .before .blocks) (m24 before)
+
+      abbrev pub m26 : (before : After-no) → Typed.Mo T29
+      m26 = λ before. s24 (before .before .before .before .before .before .blocks) (m25 before)
+
+      abbrev pub m27 : (before : After-no) → Typed.Mo T30
+      m27 = λ before. s25 (before .before .before .before .before .before .blocks) (m26 before)
+
       module _ (before· : After-no) where
         pub record Then1·own : Type 0 where
-          pub taken : Path._≡_ (Row.get 13 (T18 .locals) (m16 (before· .before) (After-no·gave before·))) Bool'.true
+          pub taken : Path._≡_ (Row.get 14 (T20 .locals) (m18 (before· .before) (After-no·gave before·))) Bool'.true
 
       pub record Then1 : Type 0 where
         pub before : After-no
         pub if1 : Then1·own before
 
       abbrev pub Need-same-length : Type 0
-      Need-same-length = (c : Then1) → MutSlice.SameLen (Row.get 1 (T27 .locals) (m24 (c .before))) (dens
+      Need-same-length = (c : Then1) → MutSlice.SameLen (Row.get 1 (T30 .locals) (m27 (c .before))) (dens
           (c .before .before .before .before .before .before .κs)
           (c .before .before .before .before .before .before .args) .0)
 
       abbrev pub Need-same-length-2 : Type 0
-      Need-same-length-2 = (c : Then1) → MutSlice.SameLen (Row.get 2 (T27 .locals) (m24 (c .before))) (dens
+      Need-same-length-2 = (c : Then1) → MutSlice.SameLen (Row.get 2 (T30 .locals) (m27 (c .before))) (dens
           (c .before .before .before .before .before .before .κs)
           (c .before .before .before .before .before .before .args) .1 .0)
 
       abbrev pub Need-same-length-3 : Type 0
-      Need-same-length-3 = (c : Then1) → MutSlice.SameLen (Row.get 3 (T27 .locals) (m24 (c .before))) (dens
+      Need-same-length-3 = (c : Then1) → MutSlice.SameLen (Row.get 3 (T30 .locals) (m27 (c .before))) (dens
           (c .before .before .before .before .before .before .κs)
           (c .before .before .before .before .before .before .args) .1 .1 .0)
 
@@ -2586,81 +2742,81 @@ module _ (claims· : Claims) where
       Need-returns = (c : Then1) → Post· (c .before .before .before .before .before .before .κs) (dens
           (c .before .before .before .before .before .before .κs)
           (c .before .before .before .before .before .before .args)) (Function.resV r
-          (c .before .before .before .before .before .before .κs) (m24 (c .before) .0)) (Clauses.atExit
+          (c .before .before .before .before .before .before .κs) (m27 (c .before) .0)) (Clauses.atExit
           (Kinds.endedOf 3 ps r) (c .before .before .before .before .before .before .κs) (dens
           (c .before .before .before .before .before .before .κs)
           (c .before .before .before .before .before .before .args)) (Enter.lastsP
           (c .before .before .before .before .before .before .κs) 1 ps xs (dens
           (c .before .before .before .before .before .before .κs)
-          (c .before .before .before .before .before .before .args)) (m24 (c .before) .1)))
+          (c .before .before .before .before .before .before .args)) (m27 (c .before) .1)))
 
-      abbrev pub m25 : (before : After-no) → Typed.Mo T28
-      m25 = λ before. s23 (before .before .before .before .before .before .blocks)
-          (m16 (before .before) (After-no·gave before))
+      abbrev pub m28 : (before : After-no) → Typed.Mo T31
+      m28 = λ before. s26 (before .before .before .before .before .before .blocks)
+          (m18 (before .before) (After-no·gave before))
 
       module _ (before· : After-no) where
         pub record Else1·own : Type 0 where
-          pub left : Path._≡_ (Row.get 13 (T18 .locals) (m16 (before· .before) (After-no·gave before·))) Bool'.false
+          pub left : Path._≡_ (Row.get 14 (T20 .locals) (m18 (before· .before) (After-no·gave before·))) Bool'.false
 
       pub record Else1 : Type 0 where
         pub before : After-no
         pub if1 : Else1·own before
 
-      abbrev pub m26 : (before : Else1) → (given : s25 (before .before .before .before .before .before .before .blocks)
-          .gives (m25 (before .before))) → Typed.Mo T30
-      m26 = λ before given. s25 (before .before .before .before .before .before .before .blocks) .next
-          (m25 (before .before)) given
+      abbrev pub m29 : (before : Else1) → (given : s28 (before .before .before .before .before .before .before .blocks)
+          .gives (m28 (before .before))) → Typed.Mo T33
+      m29 = λ before given. s28 (before .before .before .before .before .before .before .blocks) .next
+          (m28 (before .before)) given
 
-      abbrev pub m27 : (before : Else1) → (given : s25 (before .before .before .before .before .before .before .blocks)
-          .gives (m25 (before .before))) → Typed.Mo T31
-      m27 = λ before given. s26 (before .before .before .before .before .before .before .blocks) .next
-          (m26 before given)
+      abbrev pub m30 : (before : Else1) → (given : s28 (before .before .before .before .before .before .before .blocks)
+          .gives (m28 (before .before))) → Typed.Mo T34
+      m30 = λ before given. s29 (before .before .before .before .before .before .before .blocks) .next
+          (m29 before given)
 
       module _ (before· : Else1) where
         pub record After-revoke-pending-arg·own : Type 0 where
-          pub given : s25 (before· .before .before .before .before .before .before .blocks) .gives
-              (m25 (before· .before))
+          pub given : s28 (before· .before .before .before .before .before .before .blocks) .gives
+              (m28 (before· .before))
 
       pub record After-revoke-pending-arg : Type 0 where
         pub before : Else1
         pub revoke-pending-arg : After-revoke-pending-arg·own before
 
-      abbrev pub m28 : (before : After-revoke-pending-arg) → (given : s28 (before .before .before .before .before
-          .before .before .before .blocks) .gives (m27 (before .before) (before .revoke-pending-arg .given))) →
-          Typed.Mo T33
-      m28 = λ before given. s28 (before .before .before .before .before .before .before .before .blocks) .next
-          (m27 (before .before) (before .revoke-pending-arg .given)) given
+      abbrev pub m31 : (before : After-revoke-pending-arg) → (given : s31 (before .before .before .before .before
+          .before .before .before .blocks) .gives (m30 (before .before) (before .revoke-pending-arg .given))) →
+          Typed.Mo T36
+      m31 = λ before given. s31 (before .before .before .before .before .before .before .before .blocks) .next
+          (m30 (before .before) (before .revoke-pending-arg .given)) given
 
-      abbrev pub m29 : (before : After-revoke-pending-arg) → (given : s28 (before .before .before .before .before
-          .before .before .before .blocks) .gives (m27 (before .before) (before .revoke-pending-arg .given))) →
-          Typed.Mo T34
-      m29 = λ before given. s29 (before .before .before .before .before .before .before .before .blocks) .next
-          (m28 before given)
+      abbrev pub m32 : (before : After-revoke-pending-arg) → (given : s31 (before .before .before .before .before
+          .before .before .before .blocks) .gives (m30 (before .before) (before .revoke-pending-arg .given))) →
+          Typed.Mo T37
+      m32 = λ before given. s32 (before .before .before .before .before .before .before .before .blocks) .next
+          (m31 before given)
 
       module _ (before· : After-revoke-pending-arg) where
         pub record After-revoke-pending-arg2·own : Type 0 where
-          pub given : s28 (before· .before .before .before .before .before .before .before .blocks) .gives (m27
+          pub given : s31 (before· .before .before .before .before .before .before .before .blocks) .gives (m30
               (before· .before) (before· .revoke-pending-arg .given))
 
       pub record After-revoke-pending-arg2 : Type 0 where
         pub before : After-revoke-pending-arg
         pub revoke-pending-arg2 : After-revoke-pending-arg2·own before
 
-      abbrev pub m30 : (before : After-revoke-pending-arg2) → (given : s31 (before .before .before .before .before
-          .before .before .before .before .blocks) .gives (m29 (before .before) (before .revoke-pending-arg2 .given)))
-          → Typed.Mo T36
-      m30 = λ before given. s31 (before .before .before .before .before .before .before .before .before .blocks) .next
-          (m29 (before .before) (before .revoke-pending-arg2 .given)) given
+      abbrev pub m33 : (before : After-revoke-pending-arg2) → (given : s34 (before .before .before .before .before
+          .before .before .before .before .blocks) .gives (m32 (before .before) (before .revoke-pending-arg2 .given)))
+          → Typed.Mo T39
+      m33 = λ before given. s34 (before .before .before .before .before .before .before .before .before .blocks) .next
+          (m32 (before .before) (before .revoke-pending-arg2 .given)) given
 
-      abbrev pub m31 : (before : After-revoke-pending-arg2) → (given : s31 (before .before .before .before .before
-          .before .before .before .before .blocks) .gives (m29 (before .before) (before .revoke-pending-arg2 .given)))
-          → Typed.Mo T37
-      m31 = λ before given. s32 (before .before .before .before .before .before .before .before .before .blocks) .next
-          (m30 before given)
+      abbrev pub m34 : (before : After-revoke-pending-arg2) → (given : s34 (before .before .before .before .before
+          .before .before .before .before .blocks) .gives (m32 (before .before) (before .revoke-pending-arg2 .given)))
+          → Typed.Mo T40
+      m34 = λ before given. s35 (before .before .before .before .before .before .before .before .before .blocks) .next
+          (m33 before given)
 
       module _ (before· : After-revoke-pending-arg2) where
         pub record After-revoke-pending-arg3·own : Type 0 where
-          pub given : s31 (before· .before .before .before .before .before .before .before .before .blocks) .gives (m29
+          pub given : s34 (before· .before .before .before .before .before .before .before .before .blocks) .gives (m32
               (before· .before) (before· .revoke-pending-arg2 .given))
 
       pub record After-revoke-pending-arg3 : Type 0 where
@@ -2668,338 +2824,351 @@ module _ (claims· : Claims) where
         pub revoke-pending-arg3 : After-revoke-pending-arg3·own before
 
       abbrev pub Need-revoke-pending-requires : Type 0
-      Need-revoke-pending-requires = (c : After-revoke-pending-arg3) → s33 (c .before .before .before .before .before
-          .before .before .before .before .blocks) .asks (m31 (c .before) (c .revoke-pending-arg3 .given))
+      Need-revoke-pending-requires = (c : After-revoke-pending-arg3) → s36 (c .before .before .before .before .before
+          .before .before .before .before .blocks) .asks (m34 (c .before) (c .revoke-pending-arg3 .given))
 
-      abbrev pub m32 : (before : After-revoke-pending-arg3) → (given : s33 (before .before .before .before .before
-          .before .before .before .before .before .blocks) .gives (m31 (before .before)
-          (before .revoke-pending-arg3 .given))) → Typed.Mo T38
-      m32 = λ before given. s33 (before .before .before .before .before .before .before .before .before .before .blocks)
-          .next (m31 (before .before) (before .revoke-pending-arg3 .given)) given
+      abbrev pub m35 : (before : After-revoke-pending-arg3) → (given : s36 (before .before .before .before .before
+          .before .before .before .before .before .blocks) .gives (m34 (before .before)
+          (before .revoke-pending-arg3 .given))) → Typed.Mo T41
+      m35 = λ before given. s36 (before .before .before .before .before .before .before .before .before .before .blocks)
+          .next (m34 (before .before) (before .revoke-pending-arg3 .given)) given
 
       module _ (before· : After-revoke-pending-arg3) where
         abbrev pub After-revoke-pending·own : Type 0
-        After-revoke-pending·own = Called.Called ps·1 r·1 (claims· .3) T37 (
-          record { pos = 15; ty = ref0; ref = λ x. x },
+        After-revoke-pending·own = Called.Called ps·1 r·1 (claims· .3) T40 (
+          record { pos = 16; ty = ref0; ref = λ x. x },
           (
-            record { pos = 17; ty = ref1; ref = λ x. x },
+            record { pos = 18; ty = ref1; ref = λ x. x },
             (
-              record { pos = 19; ty = ref2; ref = λ x. x },
+              record { pos = 20; ty = ref2; ref = λ x. x },
               (
-                record { pos = 9; st = List.[]; d = 0; at = λ x. x },
+                record { pos = 10; st = List.[]; d = 0; at = λ x. x },
                 (
                   record { pos = 5; st = List.[]; d = 0; at = λ x. x },
-                  (Num.vFld 10 ((Syntax.field 2) ∷ List.[]) 16 λ x. Walked.struct .as-values x .1 .1 .0, tt),
+                  (Num.vFld 11 ((Syntax.field 2) ∷ List.[]) 16 λ x. Walked.struct .as-values x .1 .1 .0, tt),
                 ),
               ),
             ),
           ),
-        ) (m31 (before· .before) (before· .revoke-pending-arg3 .given))
+        ) (m34 (before· .before) (before· .revoke-pending-arg3 .given))
 
       pub record After-revoke-pending : Type 0 where
         pub before : After-revoke-pending-arg3
         pub revoke-pending : After-revoke-pending·own before
 
-      abbrev pub After-revoke-pending·gave : (c : After-revoke-pending) → s33 (c .before .before .before .before
-          .before .before .before .before .before .before .blocks) .gives (m31 (c .before .before)
+      abbrev pub After-revoke-pending·gave : (c : After-revoke-pending) → s36 (c .before .before .before .before
+          .before .before .before .before .before .before .blocks) .gives (m34 (c .before .before)
           (c .before .revoke-pending-arg3 .given))
-      After-revoke-pending·gave = λ c. Called.given ps·1 r·1 (claims· .3) T37 (
-        record { pos = 15; ty = ref0; ref = λ x. x },
+      After-revoke-pending·gave = λ c. Called.given ps·1 r·1 (claims· .3) T40 (
+        record { pos = 16; ty = ref0; ref = λ x. x },
         (
-          record { pos = 17; ty = ref1; ref = λ x. x },
+          record { pos = 18; ty = ref1; ref = λ x. x },
           (
-            record { pos = 19; ty = ref2; ref = λ x. x },
+            record { pos = 20; ty = ref2; ref = λ x. x },
             (
-              record { pos = 9; st = List.[]; d = 0; at = λ x. x },
+              record { pos = 10; st = List.[]; d = 0; at = λ x. x },
               (
                 record { pos = 5; st = List.[]; d = 0; at = λ x. x },
-                (Num.vFld 10 ((Syntax.field 2) ∷ List.[]) 16 λ x. Walked.struct .as-values x .1 .1 .0, tt),
+                (Num.vFld 11 ((Syntax.field 2) ∷ List.[]) 16 λ x. Walked.struct .as-values x .1 .1 .0, tt),
               ),
             ),
           ),
         ),
-      ) (m31 (c .before .before) (c .before .revoke-pending-arg3 .given)) (c .revoke-pending)
+      ) (m34 (c .before .before) (c .before .revoke-pending-arg3 .given)) (c .revoke-pending)
 
-      abbrev pub m33 : (before : After-revoke-pending) → (given : s35 (before .before .before .before .before .before
+      abbrev pub m36 : (before : After-revoke-pending) → (given : s38 (before .before .before .before .before .before
           .before .before .before .before .before .blocks) .gives
-          (m32 (before .before) (After-revoke-pending·gave before))) → Typed.Mo T40
-      m33 = λ before given. s35 (before .before .before .before .before .before .before .before .before .before .before
-          .blocks) .next (m32 (before .before) (After-revoke-pending·gave before)) given
+          (m35 (before .before) (After-revoke-pending·gave before))) → Typed.Mo T43
+      m36 = λ before given. s38 (before .before .before .before .before .before .before .before .before .before .before
+          .blocks) .next (m35 (before .before) (After-revoke-pending·gave before)) given
 
       module _ (before· : After-revoke-pending) where
         pub record After-pending·own : Type 0 where
-          pub given : s35 (before· .before .before .before .before .before .before .before .before .before .before
-              .blocks) .gives (m32 (before· .before) (After-revoke-pending·gave before·))
+          pub given : s38 (before· .before .before .before .before .before .before .before .before .before .before
+              .blocks) .gives (m35 (before· .before) (After-revoke-pending·gave before·))
 
       pub record After-pending : Type 0 where
         pub before : After-revoke-pending
         pub pending : After-pending·own before
 
-      abbrev pub m34 : (before : After-pending) → (given : s38 (before .before .before .before .before .before .before
-          .before .before .before .before .before .blocks) .gives (m33 (before .before) (before .pending .given))) →
-          Typed.Mo T43
-      m34 = λ before given. s38 (before .before .before .before .before .before .before .before .before .before .before
-          .before .blocks) .next (m33 (before .before) (before .pending .given)) given
+      abbrev pub m37 : (before : After-pending) → (given : s41 (before .before .before .before .before .before .before
+          .before .before .before .before .before .blocks) .gives (m36 (before .before) (before .pending .given))) →
+          Typed.Mo T46
+      m37 = λ before given. s41 (before .before .before .before .before .before .before .before .before .before .before
+          .before .blocks) .next (m36 (before .before) (before .pending .given)) given
 
       module _ (before· : After-pending) where
         pub record After-inflight·own : Type 0 where
-          pub given : s38 (before· .before .before .before .before .before .before .before .before .before .before
-              .before .blocks) .gives (m33 (before· .before) (before· .pending .given))
+          pub given : s41 (before· .before .before .before .before .before .before .before .before .before .before
+              .before .blocks) .gives (m36 (before· .before) (before· .pending .given))
 
       pub record After-inflight : Type 0 where
         pub before : After-pending
         pub inflight : After-inflight·own before
 
-      abbrev pub m35 : (before : After-inflight) → (given : s41 (before .before .before .before .before .before .before
+      abbrev pub m38 : (before : After-inflight) → (given : s44 (before .before .before .before .before .before .before
           .before .before .before .before .before .before .blocks) .gives
-          (m34 (before .before) (before .inflight .given))) → Typed.Mo T46
-      m35 = λ before given. s41 (before .before .before .before .before .before .before .before .before .before .before
-          .before .before .blocks) .next (m34 (before .before) (before .inflight .given)) given
+          (m37 (before .before) (before .inflight .given))) → Typed.Mo T49
+      m38 = λ before given. s44 (before .before .before .before .before .before .before .before .before .before .before
+          .before .before .blocks) .next (m37 (before .before) (before .inflight .given)) given
 
       module _ (before· : After-inflight) where
         pub record After-out·own : Type 0 where
-          pub given : s41 (before· .before .before .before .before .before .before .before .before .before .before
-              .before .before .blocks) .gives (m34 (before· .before) (before· .inflight .given))
+          pub given : s44 (before· .before .before .before .before .before .before .before .before .before .before
+              .before .before .blocks) .gives (m37 (before· .before) (before· .inflight .given))
 
       pub record After-out : Type 0 where
         pub before : After-inflight
         pub out : After-out·own before
 
-      abbrev pub m36 : (before : After-out) → (given : s42 (before .before .before .before .before .before .before
+      abbrev pub m39 : (before : After-out) → (given : s45 (before .before .before .before .before .before .before
           .before .before .before .before .before .before .before .blocks) .gives
-          (m35 (before .before) (before .out .given))) → Typed.Mo T47
-      m36 = λ before given. s42 (before .before .before .before .before .before .before .before .before .before .before
-          .before .before .before .blocks) .next (m35 (before .before) (before .out .given)) given
+          (m38 (before .before) (before .out .given))) → Typed.Mo T50
+      m39 = λ before given. s45 (before .before .before .before .before .before .before .before .before .before .before
+          .before .before .before .blocks) .next (m38 (before .before) (before .out .given)) given
 
       module _ (before· : After-out) where
         pub record After-slice-known2·own : Type 0 where
-          pub given : s42 (before· .before .before .before .before .before .before .before .before .before .before
-              .before .before .before .blocks) .gives (m35 (before· .before) (before· .out .given))
+          pub given : s45 (before· .before .before .before .before .before .before .before .before .before .before
+              .before .before .before .blocks) .gives (m38 (before· .before) (before· .out .given))
 
       pub record After-slice-known2 : Type 0 where
         pub before : After-out
         pub slice-known2 : After-slice-known2·own before
 
-      abbrev pub m37 : (before : After-slice-known2) → (given : s45 (before .before .before .before .before .before
+      abbrev pub m40 : (before : After-slice-known2) → (given : s48 (before .before .before .before .before .before
           .before .before .before .before .before .before .before .before .before .blocks) .gives
-          (m36 (before .before) (before .slice-known2 .given))) → Typed.Mo T50
-      m37 = λ before given. s45 (before .before .before .before .before .before .before .before .before .before .before
-          .before .before .before .before .blocks) .next (m36 (before .before) (before .slice-known2 .given)) given
+          (m39 (before .before) (before .slice-known2 .given))) → Typed.Mo T53
+      m40 = λ before given. s48 (before .before .before .before .before .before .before .before .before .before .before
+          .before .before .before .before .blocks) .next (m39 (before .before) (before .slice-known2 .given)) given
 
-      abbrev pub m38 : (before : After-slice-known2) → (given : s45 (before .before .before .before .before .before
+      abbrev pub m41 : (before : After-slice-known2) → (given : s48 (before .before .before .before .before .before
           .before .before .before .before .before .before .before .before .before .blocks) .gives
-          (m36 (before .before) (before .slice-known2 .given))) → Typed.Mo T51
-      m38 = λ before given. s46 (before .before .before .before .before .before .before .before .before .before .before
-          .before .before .before .before .blocks) .next (m37 before given)
+          (m39 (before .before) (before .slice-known2 .given))) → Typed.Mo T54
+      m41 = λ before given. s49 (before .before .before .before .before .before .before .before .before .before .before
+          .before .before .before .before .blocks) .next (m40 before given)
 
       module _ (before· : After-slice-known2) where
         pub record After-next-pending-arg·own : Type 0 where
-          pub given : s45 (before· .before .before .before .before .before .before .before .before .before .before
-              .before .before .before .before .blocks) .gives (m36 (before· .before) (before· .slice-known2 .given))
+          pub given : s48 (before· .before .before .before .before .before .before .before .before .before .before
+              .before .before .before .before .blocks) .gives (m39 (before· .before) (before· .slice-known2 .given))
 
       pub record After-next-pending-arg : Type 0 where
         pub before : After-slice-known2
         pub next-pending-arg : After-next-pending-arg·own before
 
       abbrev pub Need-next-pending-requires : Type 0
-      Need-next-pending-requires = (c : After-next-pending-arg) → s47 (c .before .before .before .before .before
+      Need-next-pending-requires = (c : After-next-pending-arg) → s50 (c .before .before .before .before .before
           .before .before .before .before .before .before .before .before .before .before .blocks) .asks
-          (m38 (c .before) (c .next-pending-arg .given))
+          (m41 (c .before) (c .next-pending-arg .given))
 
-      abbrev pub m39 : (before : After-next-pending-arg) → (given : s47 (before .before .before .before .before .before
+      abbrev pub m42 : (before : After-next-pending-arg) → (given : s50 (before .before .before .before .before .before
           .before .before .before .before .before .before .before .before .before .before .blocks) .gives
-          (m38 (before .before) (before .next-pending-arg .given))) → Typed.Mo T52
-      m39 = λ before given. s47 (before .before .before .before .before .before .before .before .before .before .before
+          (m41 (before .before) (before .next-pending-arg .given))) → Typed.Mo T55
+      m42 = λ before given. s50 (before .before .before .before .before .before .before .before .before .before .before
           .before .before .before .before .before .blocks) .next
-          (m38 (before .before) (before .next-pending-arg .given)) given
+          (m41 (before .before) (before .next-pending-arg .given)) given
 
       module _ (before· : After-next-pending-arg) where
         abbrev pub After-next-pending·own : Type 0
-        After-next-pending·own = Called.Called ps·2 r·2 (claims· .5) T51 (
-          record { pos = 21; ty = ref3; ref = λ x. x },
+        After-next-pending·own = Called.Called ps·2 r·2 (claims· .5) T54 (
+          record { pos = 22; ty = ref3; ref = λ x. x },
           (
             record {
-              pos = 9;
+              pos = 10;
               st = (Syntax.field 2) ∷ List.[];
               d = 168;
               at = λ x. Sending.struct .as-values x .1 .1 .0;
             },
             (
               record { pos = 7; st = List.[]; d = 0; at = λ x. x },
-              (record { pos = 10; st = List.[]; d = 0; at = λ x. x }, tt),
+              (
+                record { pos = 8; st = List.[]; d = 0; at = λ x. x },
+                (record { pos = 11; st = List.[]; d = 0; at = λ x. x }, tt),
+              ),
             ),
           ),
-        ) (m38 (before· .before) (before· .next-pending-arg .given))
+        ) (m41 (before· .before) (before· .next-pending-arg .given))
 
       pub record After-next-pending : Type 0 where
         pub before : After-next-pending-arg
         pub next-pending : After-next-pending·own before
 
-      abbrev pub After-next-pending·gave : (c : After-next-pending) → s47 (c .before .before .before .before .before
-          .before .before .before .before .before .before .before .before .before .before .before .blocks) .gives (m38
+      abbrev pub After-next-pending·gave : (c : After-next-pending) → s50 (c .before .before .before .before .before
+          .before .before .before .before .before .before .before .before .before .before .before .blocks) .gives (m41
           (c .before .before) (c .before .next-pending-arg .given))
-      After-next-pending·gave = λ c. Called.given ps·2 r·2 (claims· .5) T51 (
-        record { pos = 21; ty = ref3; ref = λ x. x },
+      After-next-pending·gave = λ c. Called.given ps·2 r·2 (claims· .5) T54 (
+        record { pos = 22; ty = ref3; ref = λ x. x },
         (
-          record { pos = 9; st = (Syntax.field 2) ∷ List.[]; d = 168; at = λ x. Sending.struct .as-values x .1 .1 .0 },
+          record { pos = 10; st = (Syntax.field 2) ∷ List.[]; d = 168; at = λ x. Sending.struct .as-values x .1 .1 .0 },
           (
             record { pos = 7; st = List.[]; d = 0; at = λ x. x },
-            (record { pos = 10; st = List.[]; d = 0; at = λ x. x }, tt),
+            (
+              record { pos = 8; st = List.[]; d = 0; at = λ x. x },
+              (record { pos = 11; st = List.[]; d = 0; at = λ x. x }, tt),
+            ),
           ),
         ),
-      ) (m38 (c .before .before) (c .before .next-pending-arg .given)) (c .next-pending)
+      ) (m41 (c .before .before) (c .before .next-pending-arg .given)) (c .next-pending)
 
-      abbrev pub m40 : (before : After-next-pending-arg) → (given : s47 (before .before .before .before .before .before
+      abbrev pub m43 : (before : After-next-pending-arg) → (given : s50 (before .before .before .before .before .before
           .before .before .before .before .before .before .before .before .before .before .blocks) .gives
-          (m38 (before .before) (before .next-pending-arg .given))) → Typed.Mo T53
-      m40 = λ before given. s48 (before .before .before .before .before .before .before .before .before .before .before
-          .before .before .before .before .before .blocks) (m39 before given)
+          (m41 (before .before) (before .next-pending-arg .given))) → Typed.Mo T56
+      m43 = λ before given. s51 (before .before .before .before .before .before .before .before .before .before .before
+          .before .before .before .before .before .blocks) (m42 before given)
 
-      abbrev pub m41 : (before : After-next-pending-arg) → (given : s47 (before .before .before .before .before .before
+      abbrev pub m44 : (before : After-next-pending-arg) → (given : s50 (before .before .before .before .before .before
           .before .before .before .before .before .before .before .before .before .before .blocks) .gives
-          (m38 (before .before) (before .next-pending-arg .given))) → Typed.Mo T55
-      m41 = λ before given. s50 (before .before .before .before .before .before .before .before .before .before .before
-          .before .before .before .before .before .blocks) (m40 before given)
+          (m41 (before .before) (before .next-pending-arg .given))) → Typed.Mo T58
+      m44 = λ before given. s53 (before .before .before .before .before .before .before .before .before .before .before
+          .before .before .before .before .before .blocks) (m43 before given)
 
       abbrev pub Need-add-turn : Type 0
-      Need-add-turn = (c : After-next-pending) → s52 (c .before .before .before .before .before .before .before .before
+      Need-add-turn = (c : After-next-pending) → s55 (c .before .before .before .before .before .before .before .before
           .before .before .before .before .before .before .before .before .blocks) .asks
-          (m41 (c .before) (After-next-pending·gave c))
+          (m44 (c .before) (After-next-pending·gave c))
 
-      abbrev pub m42 : (before : After-next-pending-arg) → (given : s47 (before .before .before .before .before .before
+      abbrev pub m45 : (before : After-next-pending-arg) → (given : s50 (before .before .before .before .before .before
           .before .before .before .before .before .before .before .before .before .before .blocks) .gives
-          (m38 (before .before) (before .next-pending-arg .given))) → Typed.Mo T57
-      m42 = λ before given. s52 (before .before .before .before .before .before .before .before .before .before .before
-          .before .before .before .before .before .blocks) .next (m41 before given)
+          (m41 (before .before) (before .next-pending-arg .given))) → Typed.Mo T60
+      m45 = λ before given. s55 (before .before .before .before .before .before .before .before .before .before .before
+          .before .before .before .before .before .blocks) .next (m44 before given)
 
       abbrev pub Need-loop-less : Type 0
-      Need-loop-less = (c : After-next-pending) → Nat._<_ (μ·0 (Row.get 1 (T9 .locals) (m8 (c .before .before .before
+      Need-loop-less = (c : After-next-pending) → Nat._<_ (μ·0 (Row.get 1 (T10 .locals) (m9 (c .before .before .before
           .before .before .before .before .before .before .before .before .before .before .before .before) (c .before
-          .before .before .before .before .before .before .before .before .before .before .before .before .before
-          .question .given)) .now) (Row.get 2 (T9 .locals) (m8 (c .before .before .before .before .before .before
-          .before .before .before .before .before .before .before .before .before) (c .before .before .before .before
-          .before .before .before .before .before .before .before .before .before .before .question .given)) .now) (Row.get
-          3 (T9 .locals) (m8 (c .before .before .before .before .before .before .before .before .before .before .before
+          .before .before .before .before .before .before .before .before .before .before .before .before .before .peer
+          .given)) .now) (Row.get 2 (T10 .locals) (m9 (c .before .before .before .before .before .before .before
+          .before .before .before .before .before .before .before .before) (c .before .before .before .before .before
+          .before .before .before .before .before .before .before .before .before .peer .given)) .now) (Row.get 3
+          (T10 .locals) (m9 (c .before .before .before .before .before .before .before .before .before .before .before
           .before .before .before .before) (c .before .before .before .before .before .before .before .before .before
-          .before .before .before .before .before .question .given)) .now) (Row.get 5 (T9 .locals) (m8 (c .before
-          .before .before .before .before .before .before .before .before .before .before .before .before .before
-          .before) (c .before .before .before .before .before .before .before .before .before .before .before .before
-          .before .before .question .given))) (Row.get 7 (T9 .locals) (m8 (c .before .before .before .before .before
-          .before .before .before .before .before .before .before .before .before .before) (c .before .before .before
-          .before .before .before .before .before .before .before .before .before .before .before .question .given))) (Row.get
-          8 (T9 .locals) (m8 (c .before .before .before .before .before .before .before .before .before .before .before
-          .before .before .before .before) (c .before .before .before .before .before .before .before .before .before
-          .before .before .before .before .before .question .given))) (Row.get 9 (T9 .locals) (m8 (c .before .before
+          .before .before .before .before .before .peer .given)) .now) (Row.get 5 (T10 .locals) (m9 (c .before .before
           .before .before .before .before .before .before .before .before .before .before .before .before .before) (c
           .before .before .before .before .before .before .before .before .before .before .before .before .before
-          .before .question .given))) (Row.get 10 (T9 .locals) (m8 (c .before .before .before .before .before .before
+          .before .peer .given))) (Row.get 7 (T10 .locals) (m9 (c .before .before .before .before .before .before
           .before .before .before .before .before .before .before .before .before) (c .before .before .before .before
-          .before .before .before .before .before .before .before .before .before .before .question .given))) (Row.get
-          11 (T9 .locals) (m8 (c .before .before .before .before .before .before .before .before .before .before
-          .before .before .before .before .before) (c .before .before .before .before .before .before .before .before
-          .before .before .before .before .before .before .question .given))) (Row.get 1 (T9 .locals)
-          (m42 (c .before) (After-next-pending·gave c)) .now) (Row.get 2 (T9 .locals)
-          (m42 (c .before) (After-next-pending·gave c)) .now) (Row.get 3 (T9 .locals)
-          (m42 (c .before) (After-next-pending·gave c)) .now) (Row.get 9 (T9 .locals)
-          (m42 (c .before) (After-next-pending·gave c))) (Row.get 10 (T9 .locals)
-          (m42 (c .before) (After-next-pending·gave c))) (Row.get 11 (T9 .locals)
-          (m42 (c .before) (After-next-pending·gave c)))) (μ·0 (Row.get 1 (T9 .locals) (m8 (c .before .before .before
-          .before .before .before .before .before .before .before .before .before .before .before .before) (c .before
-          .before .before .before .before .before .before .before .before .before .before .before .before .before
-          .question .given)) .now) (Row.get 2 (T9 .locals) (m8 (c .before .before .before .before .before .before
-          .before .before .before .before .before .before .before .before .before) (c .before .before .before .before
-          .before .before .before .before .before .before .before .before .before .before .question .given)) .now) (Row.get
-          3 (T9 .locals) (m8 (c .before .before .before .before .before .before .before .before .before .before .before
+          .before .before .before .before .before .before .before .before .before .before .peer .given))) (Row.get 8
+          (T10 .locals) (m9 (c .before .before .before .before .before .before .before .before .before .before .before
           .before .before .before .before) (c .before .before .before .before .before .before .before .before .before
-          .before .before .before .before .before .question .given)) .now) (Row.get 5 (T9 .locals) (m8 (c .before
-          .before .before .before .before .before .before .before .before .before .before .before .before .before
-          .before) (c .before .before .before .before .before .before .before .before .before .before .before .before
-          .before .before .question .given))) (Row.get 7 (T9 .locals) (m8 (c .before .before .before .before .before
-          .before .before .before .before .before .before .before .before .before .before) (c .before .before .before
-          .before .before .before .before .before .before .before .before .before .before .before .question .given))) (Row.get
-          8 (T9 .locals) (m8 (c .before .before .before .before .before .before .before .before .before .before .before
-          .before .before .before .before) (c .before .before .before .before .before .before .before .before .before
-          .before .before .before .before .before .question .given))) (Row.get 9 (T9 .locals) (m8 (c .before .before
+          .before .before .before .before .before .peer .given))) (Row.get 9 (T10 .locals) (m9 (c .before .before
           .before .before .before .before .before .before .before .before .before .before .before .before .before) (c
           .before .before .before .before .before .before .before .before .before .before .before .before .before
-          .before .question .given))) (Row.get 10 (T9 .locals) (m8 (c .before .before .before .before .before .before
+          .before .peer .given))) (Row.get 10 (T10 .locals) (m9 (c .before .before .before .before .before .before
           .before .before .before .before .before .before .before .before .before) (c .before .before .before .before
-          .before .before .before .before .before .before .before .before .before .before .question .given))) (Row.get
-          11 (T9 .locals) (m8 (c .before .before .before .before .before .before .before .before .before .before
-          .before .before .before .before .before) (c .before .before .before .before .before .before .before .before
-          .before .before .before .before .before .before .question .given))) (c .before .before .before .before
-          .before .before .before .before .before .before .before .before .before .loop .pending) (c .before .before
-          .before .before .before .before .before .before .before .before .before .before .before .loop .inflight) (c
+          .before .before .before .before .before .before .before .before .before .before .peer .given))) (Row.get 11
+          (T10 .locals) (m9 (c .before .before .before .before .before .before .before .before .before .before .before
+          .before .before .before .before) (c .before .before .before .before .before .before .before .before .before
+          .before .before .before .before .before .peer .given))) (Row.get 12 (T10 .locals) (m9 (c .before .before
+          .before .before .before .before .before .before .before .before .before .before .before .before .before) (c
+          .before .before .before .before .before .before .before .before .before .before .before .before .before
+          .before .peer .given))) (Row.get 1 (T10 .locals) (m45 (c .before) (After-next-pending·gave c)) .now) (Row.get
+          2 (T10 .locals) (m45 (c .before) (After-next-pending·gave c)) .now) (Row.get 3 (T10 .locals)
+          (m45 (c .before) (After-next-pending·gave c)) .now) (Row.get 10 (T10 .locals)
+          (m45 (c .before) (After-next-pending·gave c))) (Row.get 11 (T10 .locals)
+          (m45 (c .before) (After-next-pending·gave c))) (Row.get 12 (T10 .locals)
+          (m45 (c .before) (After-next-pending·gave c)))) (μ·0 (Row.get 1 (T10 .locals) (m9 (c .before .before .before
+          .before .before .before .before .before .before .before .before .before .before .before .before) (c .before
+          .before .before .before .before .before .before .before .before .before .before .before .before .before .peer
+          .given)) .now) (Row.get 2 (T10 .locals) (m9 (c .before .before .before .before .before .before .before
+          .before .before .before .before .before .before .before .before) (c .before .before .before .before .before
+          .before .before .before .before .before .before .before .before .before .peer .given)) .now) (Row.get 3
+          (T10 .locals) (m9 (c .before .before .before .before .before .before .before .before .before .before .before
+          .before .before .before .before) (c .before .before .before .before .before .before .before .before .before
+          .before .before .before .before .before .peer .given)) .now) (Row.get 5 (T10 .locals) (m9 (c .before .before
+          .before .before .before .before .before .before .before .before .before .before .before .before .before) (c
+          .before .before .before .before .before .before .before .before .before .before .before .before .before
+          .before .peer .given))) (Row.get 7 (T10 .locals) (m9 (c .before .before .before .before .before .before
+          .before .before .before .before .before .before .before .before .before) (c .before .before .before .before
+          .before .before .before .before .before .before .before .before .before .before .peer .given))) (Row.get 8
+          (T10 .locals) (m9 (c .before .before .before .before .before .before .before .before .before .before .before
+          .before .before .before .before) (c .before .before .before .before .before .before .before .before .before
+          .before .before .before .before .before .peer .given))) (Row.get 9 (T10 .locals) (m9 (c .before .before
+          .before .before .before .before .before .before .before .before .before .before .before .before .before) (c
+          .before .before .before .before .before .before .before .before .before .before .before .before .before
+          .before .peer .given))) (Row.get 10 (T10 .locals) (m9 (c .before .before .before .before .before .before
+          .before .before .before .before .before .before .before .before .before) (c .before .before .before .before
+          .before .before .before .before .before .before .before .before .before .before .peer .given))) (Row.get 11
+          (T10 .locals) (m9 (c .before .before .before .before .before .before .before .before .before .before .before
+          .before .before .before .before) (c .before .before .before .before .before .before .before .before .before
+          .before .before .before .before .before .peer .given))) (Row.get 12 (T10 .locals) (m9 (c .before .before
+          .before .before .before .before .before .before .before .before .before .before .before .before .before) (c
+          .before .before .before .before .before .before .before .before .before .before .before .before .before
+          .before .peer .given))) (c .before .before .before .before .before .before .before .before .before .before
+          .before .before .before .loop .pending) (c .before .before .before .before .before .before .before .before
+          .before .before .before .before .before .loop .inflight) (c .before .before .before .before .before .before
+          .before .before .before .before .before .before .before .loop .out) (c .before .before .before .before
+          .before .before .before .before .before .before .before .before .before .loop .told) (c .before .before
+          .before .before .before .before .before .before .before .before .before .before .before .loop .next) (c
           .before .before .before .before .before .before .before .before .before .before .before .before .before .loop
-          .out) (c .before .before .before .before .before .before .before .before .before .before .before .before
-          .before .loop .told) (c .before .before .before .before .before .before .before .before .before .before
-          .before .before .before .loop .next) (c .before .before .before .before .before .before .before .before
-          .before .before .before .before .before .loop .turn))
+          .turn))
 
       abbrev pub Need-loop-again : Type 0
-      Need-loop-again = (c : After-next-pending) → Inv·0 (Row.get 1 (T9 .locals) (m8 (c .before .before .before .before
-          .before .before .before .before .before .before .before .before .before .before .before) (c .before .before
-          .before .before .before .before .before .before .before .before .before .before .before .before .question
-          .given)) .now) (Row.get 2 (T9 .locals) (m8 (c .before .before .before .before .before .before .before .before
-          .before .before .before .before .before .before .before) (c .before .before .before .before .before .before
-          .before .before .before .before .before .before .before .before .question .given)) .now) (Row.get 3
-          (T9 .locals) (m8 (c .before .before .before .before .before .before .before .before .before .before .before
+      Need-loop-again = (c : After-next-pending) → Inv·0 (Row.get 1 (T10 .locals) (m9 (c .before .before .before
+          .before .before .before .before .before .before .before .before .before .before .before .before) (c .before
+          .before .before .before .before .before .before .before .before .before .before .before .before .before .peer
+          .given)) .now) (Row.get 2 (T10 .locals) (m9 (c .before .before .before .before .before .before .before
+          .before .before .before .before .before .before .before .before) (c .before .before .before .before .before
+          .before .before .before .before .before .before .before .before .before .peer .given)) .now) (Row.get 3
+          (T10 .locals) (m9 (c .before .before .before .before .before .before .before .before .before .before .before
           .before .before .before .before) (c .before .before .before .before .before .before .before .before .before
-          .before .before .before .before .before .question .given)) .now) (Row.get 5 (T9 .locals) (m8 (c .before
-          .before .before .before .before .before .before .before .before .before .before .before .before .before
-          .before) (c .before .before .before .before .before .before .before .before .before .before .before .before
-          .before .before .question .given))) (Row.get 7 (T9 .locals) (m8 (c .before .before .before .before .before
-          .before .before .before .before .before .before .before .before .before .before) (c .before .before .before
-          .before .before .before .before .before .before .before .before .before .before .before .question .given))) (Row.get
-          8 (T9 .locals) (m8 (c .before .before .before .before .before .before .before .before .before .before .before
-          .before .before .before .before) (c .before .before .before .before .before .before .before .before .before
-          .before .before .before .before .before .question .given))) (Row.get 9 (T9 .locals) (m8 (c .before .before
+          .before .before .before .before .before .peer .given)) .now) (Row.get 5 (T10 .locals) (m9 (c .before .before
           .before .before .before .before .before .before .before .before .before .before .before .before .before) (c
           .before .before .before .before .before .before .before .before .before .before .before .before .before
-          .before .question .given))) (Row.get 10 (T9 .locals) (m8 (c .before .before .before .before .before .before
+          .before .peer .given))) (Row.get 7 (T10 .locals) (m9 (c .before .before .before .before .before .before
           .before .before .before .before .before .before .before .before .before) (c .before .before .before .before
-          .before .before .before .before .before .before .before .before .before .before .question .given))) (Row.get
-          11 (T9 .locals) (m8 (c .before .before .before .before .before .before .before .before .before .before
-          .before .before .before .before .before) (c .before .before .before .before .before .before .before .before
-          .before .before .before .before .before .before .question .given))) (Row.get 1 (T9 .locals)
-          (m42 (c .before) (After-next-pending·gave c)) .now) (Row.get 2 (T9 .locals)
-          (m42 (c .before) (After-next-pending·gave c)) .now) (Row.get 3 (T9 .locals)
-          (m42 (c .before) (After-next-pending·gave c)) .now) (Row.get 9 (T9 .locals)
-          (m42 (c .before) (After-next-pending·gave c))) (Row.get 10 (T9 .locals)
-          (m42 (c .before) (After-next-pending·gave c))) (Row.get 11 (T9 .locals)
-          (m42 (c .before) (After-next-pending·gave c)))
-
-      abbrev pub m43 : (before : At-loop) → Typed.Mo T58
-      m43 = λ before. s53 (before .before .before .before .blocks) (m15 before)
-
-      abbrev pub m44 : (before : At-loop) → Typed.Mo T59
-      m44 = λ before. s54 (before .before .before .before .blocks) (m43 before)
-
-      abbrev pub m45 : (before : At-loop) → Typed.Mo T60
-      m45 = λ before. s55 (before .before .before .before .blocks) (m44 before)
+          .before .before .before .before .before .before .before .before .before .before .peer .given))) (Row.get 8
+          (T10 .locals) (m9 (c .before .before .before .before .before .before .before .before .before .before .before
+          .before .before .before .before) (c .before .before .before .before .before .before .before .before .before
+          .before .before .before .before .before .peer .given))) (Row.get 9 (T10 .locals) (m9 (c .before .before
+          .before .before .before .before .before .before .before .before .before .before .before .before .before) (c
+          .before .before .before .before .before .before .before .before .before .before .before .before .before
+          .before .peer .given))) (Row.get 10 (T10 .locals) (m9 (c .before .before .before .before .before .before
+          .before .before .before .before .before .before .before .before .before) (c .before .before .before .before
+          .before .before .before .before .before .before .before .before .before .before .peer .given))) (Row.get 11
+          (T10 .locals) (m9 (c .before .before .before .before .before .before .before .before .before .before .before
+          .before .before .before .before) (c .before .before .before .before .before .before .before .before .before
+          .before .before .before .before .before .peer .given))) (Row.get 12 (T10 .locals) (m9 (c .before .before
+          .before .before .before .before .before .before .before .before .before .before .before .before .before) (c
+          .before .before .before .before .before .before .before .before .before .before .before .before .before
+          .before .peer .given))) (Row.get 1 (T10 .locals) (m45 (c .before) (After-next-pending·gave c)) .now) (Row.get
+          2 (T10 .locals) (m45 (c .before) (After-next-pending·gave c)) .now) (Row.get 3 (T10 .locals)
+          (m45 (c .before) (After-next-pending·gave c)) .now) (Row.get 10 (T10 .locals)
+          (m45 (c .before) (After-next-pending·gave c))) (Row.get 11 (T10 .locals)
+          (m45 (c .before) (After-next-pending·gave c))) (Row.get 12 (T10 .locals)
+          (m45 (c .before) (After-next-pending·gave c)))
 
       abbrev pub m46 : (before : At-loop) → Typed.Mo T61
-      m46 = λ before. s56 (before .before .before .before .blocks) (m45 before)
+      m46 = λ before. s56 (before .before .before .before .blocks) (m17 before)
+
+      abbrev pub m47 : (before : At-loop) → Typed.Mo T62
+      m47 = λ before. s57 (before .before .before .before .blocks) (m46 before)
+
+      abbrev pub m48 : (before : At-loop) → Typed.Mo T63
+      m48 = λ before. s58 (before .before .before .before .blocks) (m47 before)
+
+      abbrev pub m49 : (before : At-loop) → Typed.Mo T64
+      m49 = λ before. s59 (before .before .before .before .blocks) (m48 before)
 
       abbrev pub Need-same-length-4 : Type 0
-      Need-same-length-4 = (c : After-loop) → MutSlice.SameLen (Row.get 1 (T61 .locals) (m46 (c .before))) (dens
+      Need-same-length-4 = (c : After-loop) → MutSlice.SameLen (Row.get 1 (T64 .locals) (m49 (c .before))) (dens
           (c .before .before .before .before .κs) (c .before .before .before .before .args) .0)
 
       abbrev pub Need-same-length-5 : Type 0
-      Need-same-length-5 = (c : After-loop) → MutSlice.SameLen (Row.get 2 (T61 .locals) (m46 (c .before))) (dens
+      Need-same-length-5 = (c : After-loop) → MutSlice.SameLen (Row.get 2 (T64 .locals) (m49 (c .before))) (dens
           (c .before .before .before .before .κs) (c .before .before .before .before .args) .1 .0)
 
       abbrev pub Need-same-length-6 : Type 0
-      Need-same-length-6 = (c : After-loop) → MutSlice.SameLen (Row.get 3 (T61 .locals) (m46 (c .before))) (dens
+      Need-same-length-6 = (c : After-loop) → MutSlice.SameLen (Row.get 3 (T64 .locals) (m49 (c .before))) (dens
           (c .before .before .before .before .κs) (c .before .before .before .before .args) .1 .1 .0)
 
       abbrev pub Need-returns-2 : Type 0
       Need-returns-2 = (c : After-loop) → Post· (c .before .before .before .before .κs) (dens
           (c .before .before .before .before .κs) (c .before .before .before .before .args)) (Function.resV r
-          (c .before .before .before .before .κs) (m46 (c .before) .0)) (Clauses.atExit (Kinds.endedOf 3 ps r)
+          (c .before .before .before .before .κs) (m49 (c .before) .0)) (Clauses.atExit (Kinds.endedOf 3 ps r)
           (c .before .before .before .before .κs) (dens (c .before .before .before .before .κs)
           (c .before .before .before .before .args)) (Enter.lastsP (c .before .before .before .before .κs) 1 ps xs (dens
-          (c .before .before .before .before .κs) (c .before .before .before .before .args)) (m46 (c .before) .1)))
+          (c .before .before .before .before .κs) (c .before .before .before .before .args)) (m49 (c .before) .1)))
 
       module _ (loop-holds : Need-loop-holds) (no-requires : Need-no-requires) (same-length : Need-same-length)
           (same-length-2 : Need-same-length-2) (same-length-3 : Need-same-length-3) (returns : Need-returns)
@@ -3007,23 +3176,23 @@ module _ (claims· : Claims) where
           (add-turn : Need-add-turn) (loop-less : Need-loop-less) (loop-again : Need-loop-again)
           (same-length-4 : Need-same-length-4) (same-length-5 : Need-same-length-5)
           (same-length-6 : Need-same-length-6) (returns-2 : Need-returns-2) where
-        lay8 : (c : After-loop) → at59 (c .before .before .before .before .blocks) (W0
+        lay8 : (c : After-loop) → at61 (c .before .before .before .before .blocks) (W0
             (c .before .before .before .before .κs) (c .before .before .before .before .args)
-            (c .before .before .before .before .blocks)) (m15 (c .before))
+            (c .before .before .before .before .blocks)) (m17 (c .before))
         lay8 = λ c. (
           (
-            MutSlice.fix-len (Row.get 1 (T61 .locals) (m46 (c .before)) .ptr)
-                (Row.get 1 (T61 .locals) (m46 (c .before)) .name) (Row.get 1 (T61 .locals) (m46 (c .before)) .now) (dens
+            MutSlice.fix-len (Row.get 1 (T64 .locals) (m49 (c .before)) .ptr)
+                (Row.get 1 (T64 .locals) (m49 (c .before)) .name) (Row.get 1 (T64 .locals) (m49 (c .before)) .now) (dens
                 (c .before .before .before .before .κs) (c .before .before .before .before .args) .0 .now) (same-length-4
                 record { before = c .before; loop-test = c .loop-test }),
             (
-              MutSlice.fix-len (Row.get 2 (T61 .locals) (m46 (c .before)) .ptr)
-                  (Row.get 2 (T61 .locals) (m46 (c .before)) .name) (Row.get 2 (T61 .locals) (m46 (c .before)) .now) (dens
+              MutSlice.fix-len (Row.get 2 (T64 .locals) (m49 (c .before)) .ptr)
+                  (Row.get 2 (T64 .locals) (m49 (c .before)) .name) (Row.get 2 (T64 .locals) (m49 (c .before)) .now) (dens
                   (c .before .before .before .before .κs) (c .before .before .before .before .args) .1 .0 .now) (same-length-5
                   record { before = c .before; loop-test = c .loop-test }),
               (
-                MutSlice.fix-len (Row.get 3 (T61 .locals) (m46 (c .before)) .ptr)
-                    (Row.get 3 (T61 .locals) (m46 (c .before)) .name) (Row.get 3 (T61 .locals) (m46 (c .before)) .now) (dens
+                MutSlice.fix-len (Row.get 3 (T64 .locals) (m49 (c .before)) .ptr)
+                    (Row.get 3 (T64 .locals) (m49 (c .before)) .name) (Row.get 3 (T64 .locals) (m49 (c .before)) .now) (dens
                     (c .before .before .before .before .κs) (c .before .before .before .before .args) .1 .1 .0 .now) (same-length-6
                     record { before = c .before; loop-test = c .loop-test }),
                 (tt, (tt, (tt, tt))),
@@ -3033,7 +3202,7 @@ module _ (claims· : Claims) where
           returns-2 record { before = c .before; loop-test = c .loop-test },
         )
 
-        lay7 : (c : After-next-pending) → at24 (c .before .before .before .before .before .before .before .before
+        lay7 : (c : After-next-pending) → at26 (c .before .before .before .before .before .before .before .before
             .before .before .before .before .before .before .before .before .blocks) (W3 (c .before .before .before
             .before .before .before .before .before .before .before .before .before .before .before) (c .before .before
             .before .before .before .before .before .before .before .before .before .before .before .loop .pending) (c
@@ -3043,97 +3212,102 @@ module _ (claims· : Claims) where
             .before .before .before .before .loop .told) (c .before .before .before .before .before .before .before
             .before .before .before .before .before .before .loop .next) (c .before .before .before .before .before
             .before .before .before .before .before .before .before .before .loop .turn))
-            (m39 (c .before) (After-next-pending·gave c))
+            (m42 (c .before) (After-next-pending·gave c))
         lay7 = λ c. (
           add-turn record { before = c .before; next-pending = c .next-pending },
           (
-            μ·0 (Row.get 1 (T9 .locals) (m8 (c .before .before .before .before .before .before .before .before .before
+            μ·0 (Row.get 1 (T10 .locals) (m9 (c .before .before .before .before .before .before .before .before .before
                 .before .before .before .before .before .before) (c .before .before .before .before .before .before
-                .before .before .before .before .before .before .before .before .question .given)) .now) (Row.get 2
-                (T9 .locals) (m8 (c .before .before .before .before .before .before .before .before .before .before
+                .before .before .before .before .before .before .before .before .peer .given)) .now) (Row.get 2
+                (T10 .locals) (m9 (c .before .before .before .before .before .before .before .before .before .before
                 .before .before .before .before .before) (c .before .before .before .before .before .before .before
-                .before .before .before .before .before .before .before .question .given)) .now) (Row.get 3
-                (T9 .locals) (m8 (c .before .before .before .before .before .before .before .before .before .before
-                .before .before .before .before .before) (c .before .before .before .before .before .before .before
-                .before .before .before .before .before .before .before .question .given)) .now) (Row.get 5
-                (T9 .locals) (m8 (c .before .before .before .before .before .before .before .before .before .before
-                .before .before .before .before .before) (c .before .before .before .before .before .before .before
-                .before .before .before .before .before .before .before .question .given))) (Row.get 7 (T9 .locals) (m8 (c
+                .before .before .before .before .before .before .before .peer .given)) .now) (Row.get 3 (T10 .locals) (m9 (c
                 .before .before .before .before .before .before .before .before .before .before .before .before .before
                 .before .before) (c .before .before .before .before .before .before .before .before .before .before
-                .before .before .before .before .question .given))) (Row.get 8 (T9 .locals) (m8 (c .before .before
+                .before .before .before .before .peer .given)) .now) (Row.get 5 (T10 .locals) (m9 (c .before .before
                 .before .before .before .before .before .before .before .before .before .before .before .before .before) (c
                 .before .before .before .before .before .before .before .before .before .before .before .before .before
-                .before .question .given))) (Row.get 9 (T9 .locals) (m8 (c .before .before .before .before .before
-                .before .before .before .before .before .before .before .before .before .before) (c .before .before
-                .before .before .before .before .before .before .before .before .before .before .before .before
-                .question .given))) (Row.get 10 (T9 .locals) (m8 (c .before .before .before .before .before .before
+                .before .peer .given))) (Row.get 7 (T10 .locals) (m9 (c .before .before .before .before .before .before
                 .before .before .before .before .before .before .before .before .before) (c .before .before .before
-                .before .before .before .before .before .before .before .before .before .before .before .question
-                .given))) (Row.get 11 (T9 .locals) (m8 (c .before .before .before .before .before .before .before
+                .before .before .before .before .before .before .before .before .before .before .before .peer .given))) (Row.get
+                8 (T10 .locals) (m9 (c .before .before .before .before .before .before .before .before .before .before
+                .before .before .before .before .before) (c .before .before .before .before .before .before .before
+                .before .before .before .before .before .before .before .peer .given))) (Row.get 9 (T10 .locals) (m9 (c
+                .before .before .before .before .before .before .before .before .before .before .before .before .before
+                .before .before) (c .before .before .before .before .before .before .before .before .before .before
+                .before .before .before .before .peer .given))) (Row.get 10 (T10 .locals) (m9 (c .before .before
+                .before .before .before .before .before .before .before .before .before .before .before .before .before) (c
+                .before .before .before .before .before .before .before .before .before .before .before .before .before
+                .before .peer .given))) (Row.get 11 (T10 .locals) (m9 (c .before .before .before .before .before
+                .before .before .before .before .before .before .before .before .before .before) (c .before .before
+                .before .before .before .before .before .before .before .before .before .before .before .before .peer
+                .given))) (Row.get 12 (T10 .locals) (m9 (c .before .before .before .before .before .before .before
                 .before .before .before .before .before .before .before .before) (c .before .before .before .before
-                .before .before .before .before .before .before .before .before .before .before .question .given))) (Row.get
-                1 (T9 .locals) (m42 (c .before) (After-next-pending·gave c)) .now) (Row.get 2 (T9 .locals)
-                (m42 (c .before) (After-next-pending·gave c)) .now) (Row.get 3 (T9 .locals)
-                (m42 (c .before) (After-next-pending·gave c)) .now) (Row.get 9 (T9 .locals)
-                (m42 (c .before) (After-next-pending·gave c))) (Row.get 10 (T9 .locals)
-                (m42 (c .before) (After-next-pending·gave c))) (Row.get 11 (T9 .locals)
-                (m42 (c .before) (After-next-pending·gave c))),
+                .before .before .before .before .before .before .before .before .before .before .peer .given))) (Row.get
+                1 (T10 .locals) (m45 (c .before) (After-next-pending·gave c)) .now) (Row.get 2 (T10 .locals)
+                (m45 (c .before) (After-next-pending·gave c)) .now) (Row.get 3 (T10 .locals)
+                (m45 (c .before) (After-next-pending·gave c)) .now) (Row.get 10 (T10 .locals)
+                (m45 (c .before) (After-next-pending·gave c))) (Row.get 11 (T10 .locals)
+                (m45 (c .before) (After-next-pending·gave c))) (Row.get 12 (T10 .locals)
+                (m45 (c .before) (After-next-pending·gave c))),
             loop-less record { before = c .before; next-pending = c .next-pending },
             (
               (
-                Row.get 1 (T9 .locals) (m42 (c .before) (After-next-pending·gave c)) .now,
-                Row.get 2 (T9 .locals) (m42 (c .before) (After-next-pending·gave c)) .now,
-                Row.get 3 (T9 .locals) (m42 (c .before) (After-next-pending·gave c)) .now,
-                Row.get 9 (T9 .locals) (m42 (c .before) (After-next-pending·gave c)),
-                Row.get 10 (T9 .locals) (m42 (c .before) (After-next-pending·gave c)),
-                Row.get 11 (T9 .locals) (m42 (c .before) (After-next-pending·gave c)),
+                Row.get 1 (T10 .locals) (m45 (c .before) (After-next-pending·gave c)) .now,
+                Row.get 2 (T10 .locals) (m45 (c .before) (After-next-pending·gave c)) .now,
+                Row.get 3 (T10 .locals) (m45 (c .before) (After-next-pending·gave c)) .now,
+                Row.get 10 (T10 .locals) (m45 (c .before) (After-next-pending·gave c)),
+                Row.get 11 (T10 .locals) (m45 (c .before) (After-next-pending·gave c)),
+                Row.get 12 (T10 .locals) (m45 (c .before) (After-next-pending·gave c)),
               ),
-              Path.refl {a = m42 (c .before) (After-next-pending·gave c)},
+              Path.refl {a = m45 (c .before) (After-next-pending·gave c)},
               loop-again record { before = c .before; next-pending = c .next-pending },
-              Path.refl {a = μ·0 (Row.get 1 (T9 .locals) (m8 (c .before .before .before .before .before .before .before
-                  .before .before .before .before .before .before .before .before) (c .before .before .before .before
-                  .before .before .before .before .before .before .before .before .before .before .question .given))
-                  .now) (Row.get 2 (T9 .locals) (m8 (c .before .before .before .before .before .before .before .before
+              Path.refl {a = μ·0 (Row.get 1 (T10 .locals) (m9 (c .before .before .before .before .before .before
+                  .before .before .before .before .before .before .before .before .before) (c .before .before .before
+                  .before .before .before .before .before .before .before .before .before .before .before .peer .given))
+                  .now) (Row.get 2 (T10 .locals) (m9 (c .before .before .before .before .before .before .before .before
                   .before .before .before .before .before .before .before) (c .before .before .before .before .before
-                  .before .before .before .before .before .before .before .before .before .question .given)) .now) (Row.get
-                  3 (T9 .locals) (m8 (c .before .before .before .before .before .before .before .before .before .before
+                  .before .before .before .before .before .before .before .before .before .peer .given)) .now) (Row.get
+                  3 (T10 .locals) (m9 (c .before .before .before .before .before .before .before .before .before
+                  .before .before .before .before .before .before) (c .before .before .before .before .before .before
+                  .before .before .before .before .before .before .before .before .peer .given)) .now) (Row.get 5
+                  (T10 .locals) (m9 (c .before .before .before .before .before .before .before .before .before .before
                   .before .before .before .before .before) (c .before .before .before .before .before .before .before
-                  .before .before .before .before .before .before .before .question .given)) .now) (Row.get 5
-                  (T9 .locals) (m8 (c .before .before .before .before .before .before .before .before .before .before
-                  .before .before .before .before .before) (c .before .before .before .before .before .before .before
-                  .before .before .before .before .before .before .before .question .given))) (Row.get 7 (T9 .locals) (m8 (c
+                  .before .before .before .before .before .before .before .peer .given))) (Row.get 7 (T10 .locals) (m9 (c
                   .before .before .before .before .before .before .before .before .before .before .before .before
                   .before .before .before) (c .before .before .before .before .before .before .before .before .before
-                  .before .before .before .before .before .question .given))) (Row.get 8 (T9 .locals) (m8 (c .before
+                  .before .before .before .before .before .peer .given))) (Row.get 8 (T10 .locals) (m9 (c .before
                   .before .before .before .before .before .before .before .before .before .before .before .before
                   .before .before) (c .before .before .before .before .before .before .before .before .before .before
-                  .before .before .before .before .question .given))) (Row.get 9 (T9 .locals) (m8 (c .before .before
+                  .before .before .before .before .peer .given))) (Row.get 9 (T10 .locals) (m9 (c .before .before
                   .before .before .before .before .before .before .before .before .before .before .before .before
                   .before) (c .before .before .before .before .before .before .before .before .before .before .before
-                  .before .before .before .question .given))) (Row.get 10 (T9 .locals) (m8 (c .before .before .before
+                  .before .before .before .peer .given))) (Row.get 10 (T10 .locals) (m9 (c .before .before .before
                   .before .before .before .before .before .before .before .before .before .before .before .before) (c
                   .before .before .before .before .before .before .before .before .before .before .before .before
-                  .before .before .question .given))) (Row.get 11 (T9 .locals) (m8 (c .before .before .before .before
+                  .before .before .peer .given))) (Row.get 11 (T10 .locals) (m9 (c .before .before .before .before
                   .before .before .before .before .before .before .before .before .before .before .before) (c .before
                   .before .before .before .before .before .before .before .before .before .before .before .before
-                  .before .question .given))) (Row.get 1 (T9 .locals) (m42 (c .before) (After-next-pending·gave c))
-                  .now) (Row.get 2 (T9 .locals) (m42 (c .before) (After-next-pending·gave c)) .now) (Row.get 3
-                  (T9 .locals) (m42 (c .before) (After-next-pending·gave c)) .now) (Row.get 9 (T9 .locals)
-                  (m42 (c .before) (After-next-pending·gave c))) (Row.get 10 (T9 .locals)
-                  (m42 (c .before) (After-next-pending·gave c))) (Row.get 11 (T9 .locals)
-                  (m42 (c .before) (After-next-pending·gave c)))},
+                  .before .peer .given))) (Row.get 12 (T10 .locals) (m9 (c .before .before .before .before .before
+                  .before .before .before .before .before .before .before .before .before .before) (c .before .before
+                  .before .before .before .before .before .before .before .before .before .before .before .before .peer
+                  .given))) (Row.get 1 (T10 .locals) (m45 (c .before) (After-next-pending·gave c)) .now) (Row.get 2
+                  (T10 .locals) (m45 (c .before) (After-next-pending·gave c)) .now) (Row.get 3 (T10 .locals)
+                  (m45 (c .before) (After-next-pending·gave c)) .now) (Row.get 10 (T10 .locals)
+                  (m45 (c .before) (After-next-pending·gave c))) (Row.get 11 (T10 .locals)
+                  (m45 (c .before) (After-next-pending·gave c))) (Row.get 12 (T10 .locals)
+                  (m45 (c .before) (After-next-pending·gave c)))},
             ),
           ),
         )
 
-        lay6 : (c : After-revoke-pending) → at38 (c .before .before .before .before .before .before .before .before
+        lay6 : (c : After-revoke-pending) → at40 (c .before .before .before .before .before .before .before .before
             .before .before .blocks) (W3 (c .before .before .before .before .before .before .before .before) (c .before
             .before .before .before .before .before .before .loop .pending) (c .before .before .before .before .before
             .before .before .loop .inflight) (c .before .before .before .before .before .before .before .loop .out) (c
             .before .before .before .before .before .before .before .loop .told) (c .before .before .before .before
             .before .before .before .loop .next) (c .before .before .before .before .before .before .before .loop
-            .turn)) (m32 (c .before) (After-revoke-pending·gave c))
+            .turn)) (m35 (c .before) (After-revoke-pending·gave c))
         lay6 = λ c. (
           Path.refl,
           λ g. (
@@ -3176,21 +3350,24 @@ module _ (claims· : Claims) where
                       };
                       next-pending-arg = record { given = g'4 };
                     };
-                    next-pending = Called.called ps·2 r·2 (claims· .5) T51 (
-                      record { pos = 21; ty = ref3; ref = λ x. x },
+                    next-pending = Called.called ps·2 r·2 (claims· .5) T54 (
+                      record { pos = 22; ty = ref3; ref = λ x. x },
                       (
                         record {
-                          pos = 9;
+                          pos = 10;
                           st = (Syntax.field 2) ∷ List.[];
                           d = 168;
                           at = λ x. Sending.struct .as-values x .1 .1 .0;
                         },
                         (
                           record { pos = 7; st = List.[]; d = 0; at = λ x. x },
-                          (record { pos = 10; st = List.[]; d = 0; at = λ x. x }, tt),
+                          (
+                            record { pos = 8; st = List.[]; d = 0; at = λ x. x },
+                            (record { pos = 11; st = List.[]; d = 0; at = λ x. x }, tt),
+                          ),
                         ),
                       ),
-                    ) (m38 record {
+                    ) (m41 record {
                       before = record {
                         before = record {
                           before = record {
@@ -3210,11 +3387,11 @@ module _ (claims· : Claims) where
           ),
         )
 
-        lay5 : (c : Else1) → at48 (c .before .before .before .before .before .before .blocks) (W3
+        lay5 : (c : Else1) → at50 (c .before .before .before .before .before .before .blocks) (W3
             (c .before .before .before .before) (c .before .before .before .loop .pending)
             (c .before .before .before .loop .inflight) (c .before .before .before .loop .out)
             (c .before .before .before .loop .told) (c .before .before .before .loop .next)
-            (c .before .before .before .loop .turn)) (m25 (c .before))
+            (c .before .before .before .loop .turn)) (m28 (c .before))
         lay5 = λ c. λ g. (
           Path.refl,
           λ g'. (
@@ -3243,22 +3420,22 @@ module _ (claims· : Claims) where
                     };
                     revoke-pending-arg3 = record { given = g'' };
                   };
-                  revoke-pending = Called.called ps·1 r·1 (claims· .3) T37 (
-                    record { pos = 15; ty = ref0; ref = λ x. x },
+                  revoke-pending = Called.called ps·1 r·1 (claims· .3) T40 (
+                    record { pos = 16; ty = ref0; ref = λ x. x },
                     (
-                      record { pos = 17; ty = ref1; ref = λ x. x },
+                      record { pos = 18; ty = ref1; ref = λ x. x },
                       (
-                        record { pos = 19; ty = ref2; ref = λ x. x },
+                        record { pos = 20; ty = ref2; ref = λ x. x },
                         (
-                          record { pos = 9; st = List.[]; d = 0; at = λ x. x },
+                          record { pos = 10; st = List.[]; d = 0; at = λ x. x },
                           (
                             record { pos = 5; st = List.[]; d = 0; at = λ x. x },
-                            (Num.vFld 10 ((Syntax.field 2) ∷ List.[]) 16 λ x. Walked.struct .as-values x .1 .1 .0, tt),
+                            (Num.vFld 11 ((Syntax.field 2) ∷ List.[]) 16 λ x. Walked.struct .as-values x .1 .1 .0, tt),
                           ),
                         ),
                       ),
                     ),
-                  ) (m31 record {
+                  ) (m34 record {
                     before = record {
                       before = record { before = c .before; if1 = c .if1 };
                       revoke-pending-arg = record { given = g };
@@ -3271,34 +3448,34 @@ module _ (claims· : Claims) where
           ),
         )
 
-        lay4 : (c : After-no) → at49 (c .before .before .before .before .before .blocks) (W3
+        lay4 : (c : After-no) → at51 (c .before .before .before .before .before .blocks) (W3
             (c .before .before .before) (c .before .before .loop .pending) (c .before .before .loop .inflight)
             (c .before .before .loop .out) (c .before .before .loop .told) (c .before .before .loop .next)
-            (c .before .before .loop .turn)) (m16 (c .before) (After-no·gave c))
+            (c .before .before .loop .turn)) (m18 (c .before) (After-no·gave c))
         lay4 = λ c. (
           λ taken. (
             (
-              MutSlice.fix-len (Row.get 1 (T27 .locals) (m24 record { before = c .before; no = c .no }) .ptr) (Row.get
-                  1 (T27 .locals) (m24 record { before = c .before; no = c .no }) .name) (Row.get 1 (T27 .locals)
-                  (m24 record { before = c .before; no = c .no }) .now) (dens
+              MutSlice.fix-len (Row.get 1 (T30 .locals) (m27 record { before = c .before; no = c .no }) .ptr) (Row.get
+                  1 (T30 .locals) (m27 record { before = c .before; no = c .no }) .name) (Row.get 1 (T30 .locals)
+                  (m27 record { before = c .before; no = c .no }) .now) (dens
                   (c .before .before .before .before .before .κs) (c .before .before .before .before .before .args) .0
                   .now) (same-length record {
                     before = record { before = c .before; no = c .no };
                     if1 = record { taken = taken };
                   }),
               (
-                MutSlice.fix-len (Row.get 2 (T27 .locals) (m24 record { before = c .before; no = c .no }) .ptr) (Row.get
-                    2 (T27 .locals) (m24 record { before = c .before; no = c .no }) .name) (Row.get 2 (T27 .locals)
-                    (m24 record { before = c .before; no = c .no }) .now) (dens
+                MutSlice.fix-len (Row.get 2 (T30 .locals) (m27 record { before = c .before; no = c .no }) .ptr) (Row.get
+                    2 (T30 .locals) (m27 record { before = c .before; no = c .no }) .name) (Row.get 2 (T30 .locals)
+                    (m27 record { before = c .before; no = c .no }) .now) (dens
                     (c .before .before .before .before .before .κs) (c .before .before .before .before .before .args)
                     .1 .0 .now) (same-length-2 record {
                       before = record { before = c .before; no = c .no };
                       if1 = record { taken = taken };
                     }),
                 (
-                  MutSlice.fix-len (Row.get 3 (T27 .locals) (m24 record { before = c .before; no = c .no }) .ptr) (Row.get
-                      3 (T27 .locals) (m24 record { before = c .before; no = c .no }) .name) (Row.get 3 (T27 .locals)
-                      (m24 record { before = c .before; no = c .no }) .now) (dens
+                  MutSlice.fix-len (Row.get 3 (T30 .locals) (m27 record { before = c .before; no = c .no }) .ptr) (Row.get
+                      3 (T30 .locals) (m27 record { before = c .before; no = c .no }) .name) (Row.get 3 (T30 .locals)
+                      (m27 record { before = c .before; no = c .no }) .now) (dens
                       (c .before .before .before .before .before .κs) (c .before .before .before .before .before .args)
                       .1 .1 .0 .now) (same-length-3 record {
                         before = record { before = c .before; no = c .no };
@@ -3313,51 +3490,51 @@ module _ (claims· : Claims) where
           λ left. lay5 record { before = record { before = c .before; no = c .no }; if1 = record { left = left } },
         )
 
-        lay3 : (c : In-loop) → at50 (c .before .before .before .before .blocks) (W3 (c .before .before)
+        lay3 : (c : In-loop) → at52 (c .before .before .before .before .blocks) (W3 (c .before .before)
             (c .before .loop .pending) (c .before .loop .inflight) (c .before .loop .out) (c .before .loop .told)
-            (c .before .loop .next) (c .before .loop .turn)) (m11 (c .before))
+            (c .before .loop .next) (c .before .loop .turn)) (m12 (c .before))
         lay3 = λ c. (
           no-requires record { before = c .before; loop-test = c .loop-test },
           λ g. lay4 record {
             before = record { before = c .before; loop-test = c .loop-test };
-            no = Called.called ps·0 r·0 (claims· .1) T12 (
-              Bool.bFld 10 ((Syntax.field 0) ∷ List.[]) 0 λ x. Walked.struct .as-values x .0,
+            no = Called.called ps·0 r·0 (claims· .1) T13 (
+              Bool.bFld 11 ((Syntax.field 0) ∷ List.[]) 0 λ x. Walked.struct .as-values x .0,
               tt,
-            ) (m11 (c .before)) g;
+            ) (m12 (c .before)) g;
           },
         )
 
-        lay2 : (c : After-loop) → at6 (c .before .before .before .before .blocks) (W4 (c .before .before)
+        lay2 : (c : After-loop) → at7 (c .before .before .before .before .blocks) (W4 (c .before .before)
             (c .before .loop .pending) (c .before .loop .inflight) (c .before .loop .out) (c .before .loop .told)
-            (c .before .loop .next) (c .before .loop .turn)) (m10 (c .before .before) (c .before .loop .pending)
+            (c .before .loop .next) (c .before .loop .turn)) (m11 (c .before .before) (c .before .loop .pending)
             (c .before .loop .inflight) (c .before .loop .out) (c .before .loop .told) (c .before .loop .next)
             (c .before .loop .turn))
         lay2 = λ c. lay8 record { before = c .before; loop-test = c .loop-test }
 
         lay1 : (c : In-loop) → at1 (c .before .before .before .before .blocks) (W4 (c .before .before)
             (c .before .loop .pending) (c .before .loop .inflight) (c .before .loop .out) (c .before .loop .told)
-            (c .before .loop .next) (c .before .loop .turn)) (m10 (c .before .before) (c .before .loop .pending)
+            (c .before .loop .next) (c .before .loop .turn)) (m11 (c .before .before) (c .before .loop .pending)
             (c .before .loop .inflight) (c .before .loop .out) (c .before .loop .told) (c .before .loop .next)
             (c .before .loop .turn))
         lay1 = λ c. lay3 record { before = c .before; loop-test = c .loop-test }
 
-        pub laid : (c : Start) → at68 (c .blocks) (W0 (c .κs) (c .args) (c .blocks)) (m0 (c .κs) (c .args) (c .blocks))
+        pub laid : (c : Start) → at71 (c .blocks) (W0 (c .κs) (c .args) (c .blocks)) (m0 (c .κs) (c .args) (c .blocks))
         laid = λ c. λ g. (
           tt,
           λ g'. (
             (
               (
-                Row.get 1 (T9 .locals) (m8 record { before = c; slice-known = record { given = g } } g') .now,
-                Row.get 2 (T9 .locals) (m8 record { before = c; slice-known = record { given = g } } g') .now,
-                Row.get 3 (T9 .locals) (m8 record { before = c; slice-known = record { given = g } } g') .now,
-                Row.get 9 (T9 .locals) (m8 record { before = c; slice-known = record { given = g } } g'),
-                Row.get 10 (T9 .locals) (m8 record { before = c; slice-known = record { given = g } } g'),
-                Row.get 11 (T9 .locals) (m8 record { before = c; slice-known = record { given = g } } g'),
+                Row.get 1 (T10 .locals) (m9 record { before = c; slice-known = record { given = g } } g') .now,
+                Row.get 2 (T10 .locals) (m9 record { before = c; slice-known = record { given = g } } g') .now,
+                Row.get 3 (T10 .locals) (m9 record { before = c; slice-known = record { given = g } } g') .now,
+                Row.get 10 (T10 .locals) (m9 record { before = c; slice-known = record { given = g } } g'),
+                Row.get 11 (T10 .locals) (m9 record { before = c; slice-known = record { given = g } } g'),
+                Row.get 12 (T10 .locals) (m9 record { before = c; slice-known = record { given = g } } g'),
               ),
-              Path.refl {a = m8 record { before = c; slice-known = record { given = g } } g'},
+              Path.refl {a = m9 record { before = c; slice-known = record { given = g } } g'},
               loop-holds record {
                 before = record { before = c; slice-known = record { given = g } };
-                question = record { given = g' };
+                peer = record { given = g' };
               },
             ),
             λ vs inv. (
@@ -3367,7 +3544,7 @@ module _ (claims· : Claims) where
                   before = record {
                     before = record {
                       before = record { before = c; slice-known = record { given = g } };
-                      question = record { given = g' };
+                      peer = record { given = g' };
                     };
                     loop = record {
                       pending = vs .0;
@@ -3380,14 +3557,14 @@ module _ (claims· : Claims) where
                     };
                   };
                   loop-test = record {
-                    taken = Tests.ltb-true (Row.get 11 (T9 .locals) (m9
+                    taken = Tests.ltb-true (Row.get 12 (T10 .locals) (m10
                         record {
                           before = record { before = c; slice-known = record { given = g } };
-                          question = record { given = g' };
-                        } (vs .0) (vs .1) (vs .2) (vs .3) (vs .4) (vs .5))) (Row.get 8 (T9 .locals) (m9
+                          peer = record { given = g' };
+                        } (vs .0) (vs .1) (vs .2) (vs .3) (vs .4) (vs .5))) (Row.get 9 (T10 .locals) (m10
                         record {
                           before = record { before = c; slice-known = record { given = g } };
-                          question = record { given = g' };
+                          peer = record { given = g' };
                         } (vs .0) (vs .1) (vs .2) (vs .3) (vs .4) (vs .5))) taken;
                   };
                 },
@@ -3395,7 +3572,7 @@ module _ (claims· : Claims) where
                   before = record {
                     before = record {
                       before = record { before = c; slice-known = record { given = g } };
-                      question = record { given = g' };
+                      peer = record { given = g' };
                     };
                     loop = record {
                       pending = vs .0;
@@ -3408,14 +3585,14 @@ module _ (claims· : Claims) where
                     };
                   };
                   loop-test = record {
-                    left = Tests.ltb-false (Row.get 11 (T9 .locals) (m9
+                    left = Tests.ltb-false (Row.get 12 (T10 .locals) (m10
                         record {
                           before = record { before = c; slice-known = record { given = g } };
-                          question = record { given = g' };
-                        } (vs .0) (vs .1) (vs .2) (vs .3) (vs .4) (vs .5))) (Row.get 8 (T9 .locals) (m9
+                          peer = record { given = g' };
+                        } (vs .0) (vs .1) (vs .2) (vs .3) (vs .4) (vs .5))) (Row.get 9 (T10 .locals) (m10
                         record {
                           before = record { before = c; slice-known = record { given = g } };
-                          question = record { given = g' };
+                          peer = record { given = g' };
                         } (vs .0) (vs .1) (vs .2) (vs .3) (vs .4) (vs .5))) left;
                   };
                 },

@@ -2,14 +2,14 @@
 use Rattle.hnsr_circuit.proofs.By.RelayCircuit
 use Rattle.hnsr_circuit.proofs.By.RelayPending
 use Rattle.hnsr_circuit.proofs.StructRow
+use Rattle.hnsr_circuit.proofs.calls.revocation.Revoking
+use Rattle.hnsr_circuit.proofs.calls.revocation.Revoking.Laws
 use Rattle.hnsr_circuit.proofs.calls.revoking.Entered
-use Rattle.hnsr_circuit.proofs.calls.revoking.Entered.Laws
+use Rattle.hnsr_circuit.proofs.calls.revoking.Entered.Laws as Laws'
 use Rattle.hnsr_circuit.proofs.config.OpaqueRelayConfig
-use Rattle.hnsr_circuit.proofs.config.OpaqueRelayConfig.Laws as Laws'
+use Rattle.hnsr_circuit.proofs.config.OpaqueRelayConfig.Laws as Laws''
 use Rattle.hnsr_circuit.proofs.tables.places.Places
-use Rattle.hnsr_circuit.proofs.tables.places.Places.Laws as Laws''
-use Rattle.hnsr_circuit.proofs.tables.question.Question
-use Rattle.hnsr_circuit.proofs.tables.question.Question.Laws as Laws'''
+use Rattle.hnsr_circuit.proofs.tables.places.Places.Laws as Laws'''
 use borrow.Fn.Kinds
 use borrow.Kind.ShrSlice
 use mathlib.Core.List
@@ -18,9 +18,9 @@ use mathlib.Core.List.{_∷_}
 
 abbrev pub ps : List.List (Kinds.PK 2)
 ps = (ShrSlice.pShrS RelayPending.row 0 tt) ∷ (ShrSlice.pShrS RelayCircuit.row 1 tt) ∷ (StructRow.param Places.the-type
-    Laws''.the-laws Laws''.the-copy Laws''.the-plain) ∷ (Kinds.pNum Syntax.w64) ∷ (Kinds.pNum Syntax.w64) ∷ (StructRow.param
-    OpaqueRelayConfig.the-type Laws'.the-laws Laws'.the-copy Laws'.the-plain) ∷ (StructRow.param Question.the-type
-    Laws'''.the-laws Laws'''.the-copy Laws'''.the-plain) ∷ List.[]
+    Laws'''.the-laws Laws'''.the-copy Laws'''.the-plain) ∷ (Kinds.pNum Syntax.w64) ∷ (Kinds.pNum Syntax.w64) ∷ (StructRow.param
+    OpaqueRelayConfig.the-type Laws''.the-laws Laws''.the-copy Laws''.the-plain) ∷ (StructRow.param Revoking.the-type
+    Laws.the-laws Laws.the-copy Laws.the-plain) ∷ List.[]
 
 abbrev pub r : Kinds.RK 2
-r = StructRow.result Entered.the-type Laws.the-laws Laws.the-copy Laws.the-plain
+r = StructRow.result Entered.the-type Laws'.the-laws Laws'.the-copy Laws'.the-plain

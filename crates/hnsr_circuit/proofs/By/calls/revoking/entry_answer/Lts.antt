@@ -5,19 +5,22 @@ use Rattle.hnsr_circuit.proofs.By.RelayPending
 use Rattle.hnsr_circuit.proofs.StructRow
 use Rattle.hnsr_circuit.proofs.answer.HnsrAnswer
 use Rattle.hnsr_circuit.proofs.answer.HnsrAnswer.Laws
+use Rattle.hnsr_circuit.proofs.calls.revocation.Revoking
+use Rattle.hnsr_circuit.proofs.calls.revocation.Revoking.Laws as Laws'
 use Rattle.hnsr_circuit.proofs.calls.revoking.Entered
-use Rattle.hnsr_circuit.proofs.calls.revoking.Entered.Laws as Laws'
+use Rattle.hnsr_circuit.proofs.calls.revoking.Entered.Laws as Laws''
 use Rattle.hnsr_circuit.proofs.config.OpaqueRelayConfig
-use Rattle.hnsr_circuit.proofs.config.OpaqueRelayConfig.Laws as Laws''
+use Rattle.hnsr_circuit.proofs.config.OpaqueRelayConfig.Laws as Laws'''
+use Rattle.hnsr_circuit.proofs.peer.HnsrPeerId
+use Rattle.hnsr_circuit.proofs.peer.HnsrPeerId.Laws as Laws''''
 use Rattle.hnsr_circuit.proofs.tables.places.Places
-use Rattle.hnsr_circuit.proofs.tables.places.Places.Laws as Laws'''
-use Rattle.hnsr_circuit.proofs.tables.question.Question
-use Rattle.hnsr_circuit.proofs.tables.question.Question.Laws as Laws''''
+use Rattle.hnsr_circuit.proofs.tables.places.Places.Laws as Laws'''''
+use Rattle.hnsr_circuit.proofs.tables.question.RecordQuestion
+use Rattle.hnsr_circuit.proofs.tables.question.RecordQuestion.Laws as Laws''''''
 use Rattle.hnsr_circuit.proofs.tables.scan.Survey
-use Rattle.hnsr_circuit.proofs.tables.scan.Survey.Laws as Laws'''''
+use Rattle.hnsr_circuit.proofs.tables.scan.Survey.Laws as Laws'''''''
 use borrow.Author.Called
 use borrow.Fn.Any
-use borrow.Fn.Args as Args'
 use borrow.Fn.Call
 use borrow.Fn.Enter
 use borrow.Fn.Frame
@@ -27,19 +30,32 @@ use borrow.Fn.Plain
 use borrow.Kind.Bool
 use borrow.Kind.Num
 use borrow.Kind.ShrSlice
+use borrow.Rule.DerefMove
 use borrow.Rule.Local
 use borrow.Rule.Scalar
 use borrow.Rule.Slice.Shared
+use borrow.Rule.Way
+use borrow.Rule.WayStmt
 use borrow.Rule.Yields
+use borrow.Struct.Behind
+use borrow.Struct.CopyOut
+use borrow.Struct.Inner
+use borrow.Struct.Make
 use borrow.Struct.Reads
+use borrow.Struct.Way as Way'
 use borrow.Table.Copies
+use borrow.Table.Own
 use borrow.Table.Reads as Reads'
 use borrow.Table.Row
 use borrow.Table.Rows
 use borrow.Table.Typed
 use contract.Lifetimes
 use denote.Enum.Declared
+use denote.Enum.Laws as Laws''''''''
+use denote.Laws as Laws'''''''''
+use denote.Struct.At
 use denote.Struct.Declared as Declared'
+use denote.Struct.Laws as Laws''''''''''
 use denote.Triple.Clauses
 use denote.Triple.Statement
 use ghost.Atoms
@@ -61,35 +77,37 @@ ref1 = Syntax.tyRef (Syntax.named 1) Syntax.imm RelayCircuit.to
 
 abbrev pub ps : List.List (Kinds.PK 2)
 ps = (ShrSlice.pShrS RelayPending.row 0 tt) ∷ (ShrSlice.pShrS RelayCircuit.row 1 tt) ∷ (StructRow.param Places.the-type
-    Laws'''.the-laws Laws'''.the-copy Laws'''.the-plain) ∷ (Num.pNum Syntax.w64) ∷ (Num.pNum Syntax.w64) ∷ (StructRow.param
-    OpaqueRelayConfig.the-type Laws''.the-laws Laws''.the-copy Laws''.the-plain) ∷ (StructRow.param Question.the-type
-    Laws''''.the-laws Laws''''.the-copy Laws''''.the-plain) ∷ List.[]
+    Laws'''''.the-laws Laws'''''.the-copy Laws'''''.the-plain) ∷ (Num.pNum Syntax.w64) ∷ (Num.pNum Syntax.w64) ∷ (StructRow.param
+    OpaqueRelayConfig.the-type Laws'''.the-laws Laws'''.the-copy Laws'''.the-plain) ∷ (StructRow.param
+    Revoking.the-type Laws'.the-laws Laws'.the-copy Laws'.the-plain) ∷ List.[]
 
 abbrev pub r : Kinds.RK 2
-r = StructRow.result Entered.the-type Laws'.the-laws Laws'.the-copy Laws'.the-plain
+r = StructRow.result Entered.the-type Laws''.the-laws Laws''.the-copy Laws''.the-plain
 
 abbrev pub xs : List.List Syntax.Ty
-xs = Laws'''''.mir ∷ Laws'''''.mir ∷ Syntax.tyBool ∷ Laws.mir ∷ (Syntax.tyInt Syntax.w64) ∷ (Syntax.tyInt Syntax.w64) ∷
-    List.[]
+xs = Laws''''''.mir ∷ Laws''''.mir ∷ Laws'''''''.mir ∷ Laws'''''''.mir ∷ Syntax.tyBool ∷ Laws.mir ∷
+    (Syntax.tyInt Syntax.w64) ∷ (Syntax.tyInt Syntax.w64) ∷ List.[]
 
 abbrev pub m : Nat.ℕ
 m = 0
 
 abbrev pub ps·0 : List.List (Kinds.PK 1)
-ps·0 = (ShrSlice.pShrS RelayPending.row 0 tt) ∷ (StructRow.param Places.the-type Laws'''.the-laws Laws'''.the-copy
-    Laws'''.the-plain) ∷ (StructRow.param Question.the-type Laws''''.the-laws Laws''''.the-copy Laws''''.the-plain) ∷
-    List.[]
+ps·0 = (ShrSlice.pShrS RelayPending.row 0 tt) ∷ (StructRow.param Places.the-type Laws'''''.the-laws Laws'''''.the-copy
+    Laws'''''.the-plain) ∷ (StructRow.enum-param RecordQuestion.the-type Laws''''''.the-laws Laws''''''.the-copy
+    Laws''''''.the-plain tt) ∷ (StructRow.param HnsrPeerId.the-type Laws''''.the-laws Laws''''.the-copy
+    Laws''''.the-plain) ∷ List.[]
 
 abbrev pub r·0 : Kinds.RK 1
-r·0 = StructRow.result Survey.the-type Laws'''''.the-laws Laws'''''.the-copy Laws'''''.the-plain
+r·0 = StructRow.result Survey.the-type Laws'''''''.the-laws Laws'''''''.the-copy Laws'''''''.the-plain
 
 abbrev pub ps·1 : List.List (Kinds.PK 1)
-ps·1 = (ShrSlice.pShrS RelayCircuit.row 0 tt) ∷ (StructRow.param Places.the-type Laws'''.the-laws Laws'''.the-copy
-    Laws'''.the-plain) ∷ (StructRow.param Question.the-type Laws''''.the-laws Laws''''.the-copy Laws''''.the-plain) ∷
-    List.[]
+ps·1 = (ShrSlice.pShrS RelayCircuit.row 0 tt) ∷ (StructRow.param Places.the-type Laws'''''.the-laws Laws'''''.the-copy
+    Laws'''''.the-plain) ∷ (StructRow.enum-param RecordQuestion.the-type Laws''''''.the-laws Laws''''''.the-copy
+    Laws''''''.the-plain tt) ∷ (StructRow.param HnsrPeerId.the-type Laws''''.the-laws Laws''''.the-copy
+    Laws''''.the-plain) ∷ List.[]
 
 abbrev pub r·1 : Kinds.RK 1
-r·1 = StructRow.result Survey.the-type Laws'''''.the-laws Laws'''''.the-copy Laws'''''.the-plain
+r·1 = StructRow.result Survey.the-type Laws'''''''.the-laws Laws'''''''.the-copy Laws'''''''.the-plain
 
 abbrev pub ps·2 : List.List (Kinds.PK 0)
 ps·2 = (Num.pNum Syntax.w64) ∷ (Num.pNum Syntax.w64) ∷ (Num.pNum Syntax.w64) ∷ List.[]
@@ -98,7 +116,7 @@ abbrev pub r·2 : Kinds.RK 0
 r·2 = Bool.rBool
 
 abbrev pub ps·3 : List.List (Kinds.PK 0)
-ps·3 = (StructRow.param OpaqueRelayConfig.the-type Laws''.the-laws Laws''.the-copy Laws''.the-plain) ∷
+ps·3 = (StructRow.param OpaqueRelayConfig.the-type Laws'''.the-laws Laws'''.the-copy Laws'''.the-plain) ∷
     (Num.pNum Syntax.w64) ∷ (Num.pNum Syntax.w64) ∷ (Num.pNum Syntax.w64) ∷ Bool.pBool ∷ List.[]
 
 abbrev pub r·3 : Kinds.RK 0
@@ -106,79 +124,95 @@ r·3 = StructRow.enum-result HnsrAnswer.the-type Laws.the-laws Laws.the-copy Law
 
 abbrev pub ps·4 : List.List (Kinds.PK 0)
 ps·4 = (StructRow.enum-param HnsrAnswer.the-type Laws.the-laws Laws.the-copy Laws.the-plain tt) ∷ (StructRow.param
-    Survey.the-type Laws'''''.the-laws Laws'''''.the-copy Laws'''''.the-plain) ∷ (StructRow.param Survey.the-type
-    Laws'''''.the-laws Laws'''''.the-copy Laws'''''.the-plain) ∷ List.[]
+    Survey.the-type Laws'''''''.the-laws Laws'''''''.the-copy Laws'''''''.the-plain) ∷ (StructRow.param Survey.the-type
+    Laws'''''''.the-laws Laws'''''''.the-copy Laws'''''''.the-plain) ∷ List.[]
 
 abbrev pub r·4 : Kinds.RK 0
-r·4 = StructRow.result Entered.the-type Laws'.the-laws Laws'.the-copy Laws'.the-plain
+r·4 = StructRow.result Entered.the-type Laws''.the-laws Laws''.the-copy Laws''.the-plain
 
 abbrev pub hs : List.List Syntax.Home
 hs = Syntax.valueLocal ∷ Syntax.valueLocal ∷ Syntax.valueLocal ∷ Syntax.valueLocal ∷ Syntax.valueLocal ∷
     Syntax.valueLocal ∷ Syntax.valueLocal ∷ Syntax.valueLocal ∷ Syntax.valueLocal ∷ Syntax.valueLocal ∷
-    Syntax.valueLocal ∷ Syntax.valueLocal ∷ Syntax.valueLocal ∷ Syntax.valueLocal ∷ List.[]
+    Syntax.valueLocal ∷ Syntax.valueLocal ∷ Syntax.valueLocal ∷ Syntax.valueLocal ∷ Syntax.valueLocal ∷
+    Syntax.valueLocal ∷ List.[]
 
 abbrev b0 : Syntax.Body
-b0 = Syntax.call "hnsr_circuit::tables::pending::survey_pending" ((Syntax.copy (Syntax.place 1 List.[])) ∷
-    (Syntax.copy (Syntax.place 3 List.[])) ∷ (Syntax.copy (Syntax.place 7 List.[])) ∷ List.[]) (Syntax.place 8 List.[])
+b0 = Syntax.assign (Syntax.place 8 List.[]) (Syntax.rvOpd (Syntax.copy (Syntax.place 7 ((Syntax.field 0) ∷ List.[]))))
 
 abbrev b1 : Syntax.Body
-b1 = Syntax.call "hnsr_circuit::tables::circuits::survey_circuit" ((Syntax.copy (Syntax.place 2 List.[])) ∷
-    (Syntax.copy (Syntax.place 3 List.[])) ∷ (Syntax.copy (Syntax.place 7 List.[])) ∷ List.[]) (Syntax.place 9 List.[])
+b1 = Syntax.assign (Syntax.place 9 List.[]) (Syntax.rvOpd (Syntax.copy (Syntax.place 7 ((Syntax.field 1) ∷ List.[]))))
 
 abbrev b2 : Syntax.Body
-b2 = Syntax.call "hnsr_circuit::calls::revoking::room_short" ((Syntax.copy (Syntax.place 5 List.[])) ∷
-    (Syntax.copy (Syntax.place 8 ((Syntax.field 0) ∷ List.[]))) ∷
-    (Syntax.copy (Syntax.place 9 ((Syntax.field 0) ∷ List.[]))) ∷ List.[]) (Syntax.place 10 List.[])
+b2 = Syntax.call "hnsr_circuit::tables::pending::survey_pending" ((Syntax.copy (Syntax.place 1 List.[])) ∷
+    (Syntax.copy (Syntax.place 3 List.[])) ∷ (Syntax.copy (Syntax.place 8 List.[])) ∷
+    (Syntax.copy (Syntax.place 9 List.[])) ∷ List.[]) (Syntax.place 10 List.[])
 
 abbrev b3 : Syntax.Body
-b3 = Syntax.assign (Syntax.place 12 List.[]) (Syntax.rvOpd (Syntax.copy (Syntax.place 1 ((Syntax.field 1) ∷ List.[]))))
+b3 = Syntax.call "hnsr_circuit::tables::circuits::survey_circuit" ((Syntax.copy (Syntax.place 2 List.[])) ∷
+    (Syntax.copy (Syntax.place 3 List.[])) ∷ (Syntax.copy (Syntax.place 8 List.[])) ∷
+    (Syntax.copy (Syntax.place 9 List.[])) ∷ List.[]) (Syntax.place 11 List.[])
 
 abbrev b4 : Syntax.Body
-b4 = Syntax.assign (Syntax.place 13 List.[]) (Syntax.rvOpd (Syntax.copy (Syntax.place 2 ((Syntax.field 1) ∷ List.[]))))
+b4 = Syntax.call "hnsr_circuit::calls::revoking::room_short" ((Syntax.copy (Syntax.place 5 List.[])) ∷ (Syntax.copy
+    (Syntax.place 10 ((Syntax.field 0) ∷ List.[]))) ∷ (Syntax.copy (Syntax.place 11 ((Syntax.field 0) ∷ List.[]))) ∷
+    List.[]) (Syntax.place 12 List.[])
 
 abbrev b5 : Syntax.Body
-b5 = Syntax.call "hnsr_circuit::calls::revoking::room_answer" ((Syntax.copy (Syntax.place 6 List.[])) ∷
-    (Syntax.copy (Syntax.place 12 List.[])) ∷ (Syntax.copy (Syntax.place 13 List.[])) ∷
-    (Syntax.copy (Syntax.place 4 List.[])) ∷ (Syntax.copy (Syntax.place 10 List.[])) ∷ List.[])
-    (Syntax.place 11 List.[])
+b5 = Syntax.assign (Syntax.place 14 List.[]) (Syntax.rvOpd (Syntax.copy (Syntax.place 1 ((Syntax.field 1) ∷ List.[]))))
 
 abbrev b6 : Syntax.Body
-b6 = Syntax.call "hnsr_circuit::calls::revoking::entry_found" ((Syntax.copy (Syntax.place 11 List.[])) ∷
-    (Syntax.copy (Syntax.place 8 List.[])) ∷ (Syntax.copy (Syntax.place 9 List.[])) ∷ List.[]) (Syntax.place 0 List.[])
+b6 = Syntax.assign (Syntax.place 15 List.[]) (Syntax.rvOpd (Syntax.copy (Syntax.place 2 ((Syntax.field 1) ∷ List.[]))))
 
 abbrev b7 : Syntax.Body
-b7 = Syntax.return
+b7 = Syntax.call "hnsr_circuit::calls::revoking::room_answer" ((Syntax.copy (Syntax.place 6 List.[])) ∷
+    (Syntax.copy (Syntax.place 14 List.[])) ∷ (Syntax.copy (Syntax.place 15 List.[])) ∷
+    (Syntax.copy (Syntax.place 4 List.[])) ∷ (Syntax.copy (Syntax.place 12 List.[])) ∷ List.[])
+    (Syntax.place 13 List.[])
 
 abbrev b8 : Syntax.Body
-b8 = Syntax.seq b6 b7
+b8 = Syntax.call "hnsr_circuit::calls::revoking::entry_found" ((Syntax.copy (Syntax.place 13 List.[])) ∷
+    (Syntax.copy (Syntax.place 10 List.[])) ∷ (Syntax.copy (Syntax.place 11 List.[])) ∷ List.[])
+    (Syntax.place 0 List.[])
 
 abbrev b9 : Syntax.Body
-b9 = Syntax.seq b5 b8
+b9 = Syntax.return
 
 abbrev b10 : Syntax.Body
-b10 = Syntax.seq b4 b9
+b10 = Syntax.seq b8 b9
 
 abbrev b11 : Syntax.Body
-b11 = Syntax.seq b3 b10
+b11 = Syntax.seq b7 b10
 
 abbrev b12 : Syntax.Body
-b12 = Syntax.seq b2 b11
+b12 = Syntax.seq b6 b11
 
 abbrev b13 : Syntax.Body
-b13 = Syntax.seq b1 b12
+b13 = Syntax.seq b5 b12
 
 abbrev b14 : Syntax.Body
-b14 = Syntax.seq b0 b13
+b14 = Syntax.seq b4 b13
+
+abbrev b15 : Syntax.Body
+b15 = Syntax.seq b3 b14
+
+abbrev b16 : Syntax.Body
+b16 = Syntax.seq b2 b15
+
+abbrev b17 : Syntax.Body
+b17 = Syntax.seq b1 b16
+
+abbrev b18 : Syntax.Body
+b18 = Syntax.seq b0 b17
 
 abbrev pub body : Syntax.Body
-body = b14
+body = b18
 
 abbrev pub Claims : Type 1
 Claims = Kinds.In 1 ps·0 × Kinds.Out 1 ps·0 r·0 × Kinds.In 1 ps·1 × Kinds.Out 1 ps·1 r·1 × Kinds.In 0 ps·2 × Kinds.Out
     0 ps·2 r·2 × Kinds.In 0 ps·3 × Kinds.Out 0 ps·3 r·3 × Kinds.In 0 ps·4 × Kinds.Out 0 ps·4 r·4
 
 abbrev e0 : Row.Entry
-e0 = (0, Rows.any-gone Laws'.mir)
+e0 = (0, Rows.any-gone Laws''.mir)
 
 abbrev e1 : Row.Entry
 e1 = (1, Rows.sslice RelayPending.row ref0 0)
@@ -199,31 +233,37 @@ abbrev e6 : Row.Entry
 e6 = (6, Rows.whole (Declared'.row OpaqueRelayConfig.the-type))
 
 abbrev e7 : Row.Entry
-e7 = (7, Rows.whole (Declared'.row Question.the-type))
+e7 = (7, Rows.whole (Declared'.row Revoking.the-type))
 
 abbrev e8 : Row.Entry
-e8 = (8, Rows.any-gone Laws'''''.mir)
+e8 = (8, Rows.any-gone Laws''''''.mir)
 
 abbrev e9 : Row.Entry
-e9 = (9, Rows.any-gone Laws'''''.mir)
+e9 = (9, Rows.any-gone Laws''''.mir)
 
 abbrev e10 : Row.Entry
-e10 = (10, Rows.any-gone Syntax.tyBool)
+e10 = (10, Rows.any-gone Laws'''''''.mir)
 
 abbrev e11 : Row.Entry
-e11 = (11, Rows.any-gone Laws.mir)
+e11 = (11, Rows.any-gone Laws'''''''.mir)
 
 abbrev e12 : Row.Entry
-e12 = (12, Rows.any-gone (Syntax.tyInt Syntax.w64))
+e12 = (12, Rows.any-gone Syntax.tyBool)
 
 abbrev e13 : Row.Entry
-e13 = (13, Rows.any-gone (Syntax.tyInt Syntax.w64))
+e13 = (13, Rows.any-gone Laws.mir)
+
+abbrev e14 : Row.Entry
+e14 = (14, Rows.any-gone (Syntax.tyInt Syntax.w64))
+
+abbrev e15 : Row.Entry
+e15 = (15, Rows.any-gone (Syntax.tyInt Syntax.w64))
 
 abbrev e0·1 : Row.Entry
 e0·1 = (0, Rows.whole (Declared'.row Entered.the-type))
 
 abbrev e3·1 : Row.Entry
-e3·1 = (3, Rows.any-gone Laws'''.mir)
+e3·1 = (3, Rows.any-gone Laws'''''.mir)
 
 abbrev e4·1 : Row.Entry
 e4·1 = (4, Rows.any-gone (Syntax.tyInt Syntax.w64))
@@ -232,85 +272,103 @@ abbrev e5·1 : Row.Entry
 e5·1 = (5, Rows.any-gone (Syntax.tyInt Syntax.w64))
 
 abbrev e6·1 : Row.Entry
-e6·1 = (6, Rows.any-gone Laws''.mir)
+e6·1 = (6, Rows.any-gone Laws'''.mir)
 
 abbrev e7·1 : Row.Entry
-e7·1 = (7, Rows.any-gone Laws''''.mir)
+e7·1 = (7, Rows.any-gone Laws'.mir)
 
 abbrev e8·1 : Row.Entry
-e8·1 = (8, Rows.whole (Declared'.row Survey.the-type))
+e8·1 = (8, Rows.whole (Declared.row RecordQuestion.the-type))
 
 abbrev e9·1 : Row.Entry
-e9·1 = (9, Rows.whole (Declared'.row Survey.the-type))
+e9·1 = (9, Rows.whole (Declared'.row HnsrPeerId.the-type))
 
 abbrev e10·1 : Row.Entry
-e10·1 = (10, Rows.sc-here Row.sBool)
-
-abbrev e12·1 : Row.Entry
-e12·1 = (12, Rows.sc-here (Row.sInt Syntax.w64))
-
-abbrev e13·1 : Row.Entry
-e13·1 = (13, Rows.sc-here (Row.sInt Syntax.w64))
+e10·1 = (10, Rows.whole (Declared'.row Survey.the-type))
 
 abbrev e11·1 : Row.Entry
-e11·1 = (11, Rows.whole (Declared.row HnsrAnswer.the-type))
+e11·1 = (11, Rows.whole (Declared'.row Survey.the-type))
+
+abbrev e12·1 : Row.Entry
+e12·1 = (12, Rows.sc-here Row.sBool)
+
+abbrev e14·1 : Row.Entry
+e14·1 = (14, Rows.sc-here (Row.sInt Syntax.w64))
+
+abbrev e15·1 : Row.Entry
+e15·1 = (15, Rows.sc-here (Row.sInt Syntax.w64))
+
+abbrev e13·1 : Row.Entry
+e13·1 = (13, Rows.whole (Declared.row HnsrAnswer.the-type))
 
 abbrev pub t0 : List.List Row.Entry
-t0 = e0 ∷ e1 ∷ e2 ∷ e3 ∷ e4 ∷ e5 ∷ e6 ∷ e7 ∷ e8 ∷ e9 ∷ e10 ∷ e11 ∷ e12 ∷ e13 ∷ List.[]
+t0 = e0 ∷ e1 ∷ e2 ∷ e3 ∷ e4 ∷ e5 ∷ e6 ∷ e7 ∷ e8 ∷ e9 ∷ e10 ∷ e11 ∷ e12 ∷ e13 ∷ e14 ∷ e15 ∷ List.[]
 
 abbrev pub t1 : List.List Row.Entry
-t1 = e0·1 ∷ e1 ∷ e2 ∷ e3·1 ∷ e4·1 ∷ e5·1 ∷ e6·1 ∷ e7·1 ∷ e8 ∷ e9 ∷ e10 ∷ e11 ∷ e12 ∷ e13 ∷ List.[]
+t1 = e0·1 ∷ e1 ∷ e2 ∷ e3·1 ∷ e4·1 ∷ e5·1 ∷ e6·1 ∷ e7·1 ∷ e8 ∷ e9 ∷ e10 ∷ e11 ∷ e12 ∷ e13 ∷ e14 ∷ e15 ∷ List.[]
 
 abbrev pub t2 : List.List Row.Entry
-t2 = e0 ∷ e1 ∷ e2 ∷ e3 ∷ e4 ∷ e5 ∷ e6 ∷ e7 ∷ e8·1 ∷ e9 ∷ e10 ∷ e11 ∷ e12 ∷ e13 ∷ List.[]
+t2 = e0 ∷ e1 ∷ e2 ∷ e3 ∷ e4 ∷ e5 ∷ e6 ∷ e7 ∷ e8·1 ∷ e9 ∷ e10 ∷ e11 ∷ e12 ∷ e13 ∷ e14 ∷ e15 ∷ List.[]
 
 abbrev pub t3 : List.List Row.Entry
-t3 = e0 ∷ e1 ∷ e2 ∷ e3 ∷ e4 ∷ e5 ∷ e6 ∷ e7 ∷ e8·1 ∷ e9·1 ∷ e10 ∷ e11 ∷ e12 ∷ e13 ∷ List.[]
+t3 = e0 ∷ e1 ∷ e2 ∷ e3 ∷ e4 ∷ e5 ∷ e6 ∷ e7 ∷ e8·1 ∷ e9·1 ∷ e10 ∷ e11 ∷ e12 ∷ e13 ∷ e14 ∷ e15 ∷ List.[]
 
 abbrev pub t4 : List.List Row.Entry
-t4 = e0 ∷ e1 ∷ e2 ∷ e3·1 ∷ e4 ∷ e5 ∷ e6 ∷ e7 ∷ e8·1 ∷ e9·1 ∷ e10 ∷ e11 ∷ e12 ∷ e13 ∷ List.[]
+t4 = e0 ∷ e1 ∷ e2 ∷ e3 ∷ e4 ∷ e5 ∷ e6 ∷ e7·1 ∷ e8·1 ∷ e9·1 ∷ e10 ∷ e11 ∷ e12 ∷ e13 ∷ e14 ∷ e15 ∷ List.[]
 
 abbrev pub t5 : List.List Row.Entry
-t5 = e0 ∷ e1 ∷ e2 ∷ e3·1 ∷ e4 ∷ e5 ∷ e6 ∷ e7·1 ∷ e8·1 ∷ e9·1 ∷ e10 ∷ e11 ∷ e12 ∷ e13 ∷ List.[]
+t5 = e0 ∷ e1 ∷ e2 ∷ e3 ∷ e4 ∷ e5 ∷ e6 ∷ e7·1 ∷ e8·1 ∷ e9·1 ∷ e10·1 ∷ e11 ∷ e12 ∷ e13 ∷ e14 ∷ e15 ∷ List.[]
 
 abbrev pub t6 : List.List Row.Entry
-t6 = e0 ∷ e1 ∷ e2 ∷ e3·1 ∷ e4 ∷ e5 ∷ e6 ∷ e7·1 ∷ e8·1 ∷ e9·1 ∷ e10·1 ∷ e11 ∷ e12 ∷ e13 ∷ List.[]
+t6 = e0 ∷ e1 ∷ e2 ∷ e3 ∷ e4 ∷ e5 ∷ e6 ∷ e7·1 ∷ e8·1 ∷ e9·1 ∷ e10·1 ∷ e11·1 ∷ e12 ∷ e13 ∷ e14 ∷ e15 ∷ List.[]
 
 abbrev pub t7 : List.List Row.Entry
-t7 = e0 ∷ e1 ∷ e2 ∷ e3·1 ∷ e4 ∷ e5 ∷ e6 ∷ e7·1 ∷ e8·1 ∷ e9·1 ∷ e10·1 ∷ e11 ∷ e12·1 ∷ e13 ∷ List.[]
+t7 = e0 ∷ e1 ∷ e2 ∷ e3·1 ∷ e4 ∷ e5 ∷ e6 ∷ e7·1 ∷ e8·1 ∷ e9·1 ∷ e10·1 ∷ e11·1 ∷ e12 ∷ e13 ∷ e14 ∷ e15 ∷ List.[]
 
 abbrev pub t8 : List.List Row.Entry
-t8 = e0 ∷ e1 ∷ e2 ∷ e3·1 ∷ e4 ∷ e5 ∷ e6 ∷ e7·1 ∷ e8·1 ∷ e9·1 ∷ e10·1 ∷ e11 ∷ e12·1 ∷ e13·1 ∷ List.[]
+t8 = e0 ∷ e1 ∷ e2 ∷ e3·1 ∷ e4 ∷ e5 ∷ e6 ∷ e7·1 ∷ e8 ∷ e9·1 ∷ e10·1 ∷ e11·1 ∷ e12 ∷ e13 ∷ e14 ∷ e15 ∷ List.[]
 
 abbrev pub t9 : List.List Row.Entry
-t9 = e0 ∷ e1 ∷ e2 ∷ e3·1 ∷ e4 ∷ e5 ∷ e6 ∷ e7·1 ∷ e8·1 ∷ e9·1 ∷ e10·1 ∷ e11·1 ∷ e12·1 ∷ e13·1 ∷ List.[]
+t9 = e0 ∷ e1 ∷ e2 ∷ e3·1 ∷ e4 ∷ e5 ∷ e6 ∷ e7·1 ∷ e8 ∷ e9 ∷ e10·1 ∷ e11·1 ∷ e12 ∷ e13 ∷ e14 ∷ e15 ∷ List.[]
 
 abbrev pub t10 : List.List Row.Entry
-t10 = e0 ∷ e1 ∷ e2 ∷ e3·1 ∷ e4 ∷ e5 ∷ e6·1 ∷ e7·1 ∷ e8·1 ∷ e9·1 ∷ e10·1 ∷ e11·1 ∷ e12·1 ∷ e13·1 ∷ List.[]
+t10 = e0 ∷ e1 ∷ e2 ∷ e3·1 ∷ e4 ∷ e5 ∷ e6 ∷ e7·1 ∷ e8 ∷ e9 ∷ e10·1 ∷ e11·1 ∷ e12·1 ∷ e13 ∷ e14 ∷ e15 ∷ List.[]
 
 abbrev pub t11 : List.List Row.Entry
-t11 = e0 ∷ e1 ∷ e2 ∷ e3·1 ∷ e4 ∷ e5 ∷ e6·1 ∷ e7·1 ∷ e8·1 ∷ e9·1 ∷ e10·1 ∷ e11·1 ∷ e12 ∷ e13·1 ∷ List.[]
+t11 = e0 ∷ e1 ∷ e2 ∷ e3·1 ∷ e4 ∷ e5 ∷ e6 ∷ e7·1 ∷ e8 ∷ e9 ∷ e10·1 ∷ e11·1 ∷ e12·1 ∷ e13 ∷ e14·1 ∷ e15 ∷ List.[]
 
 abbrev pub t12 : List.List Row.Entry
-t12 = e0 ∷ e1 ∷ e2 ∷ e3·1 ∷ e4 ∷ e5 ∷ e6·1 ∷ e7·1 ∷ e8·1 ∷ e9·1 ∷ e10·1 ∷ e11·1 ∷ e12 ∷ e13 ∷ List.[]
+t12 = e0 ∷ e1 ∷ e2 ∷ e3·1 ∷ e4 ∷ e5 ∷ e6 ∷ e7·1 ∷ e8 ∷ e9 ∷ e10·1 ∷ e11·1 ∷ e12·1 ∷ e13 ∷ e14·1 ∷ e15·1 ∷ List.[]
 
 abbrev pub t13 : List.List Row.Entry
-t13 = e0·1 ∷ e1 ∷ e2 ∷ e3·1 ∷ e4 ∷ e5 ∷ e6·1 ∷ e7·1 ∷ e8·1 ∷ e9·1 ∷ e10·1 ∷ e11·1 ∷ e12 ∷ e13 ∷ List.[]
+t13 = e0 ∷ e1 ∷ e2 ∷ e3·1 ∷ e4 ∷ e5 ∷ e6 ∷ e7·1 ∷ e8 ∷ e9 ∷ e10·1 ∷ e11·1 ∷ e12·1 ∷ e13·1 ∷ e14·1 ∷ e15·1 ∷ List.[]
 
 abbrev pub t14 : List.List Row.Entry
-t14 = e0·1 ∷ e1 ∷ e2 ∷ e3·1 ∷ e4 ∷ e5 ∷ e6·1 ∷ e7·1 ∷ e8 ∷ e9·1 ∷ e10·1 ∷ e11·1 ∷ e12 ∷ e13 ∷ List.[]
+t14 = e0 ∷ e1 ∷ e2 ∷ e3·1 ∷ e4 ∷ e5 ∷ e6·1 ∷ e7·1 ∷ e8 ∷ e9 ∷ e10·1 ∷ e11·1 ∷ e12·1 ∷ e13·1 ∷ e14·1 ∷ e15·1 ∷ List.[]
 
 abbrev pub t15 : List.List Row.Entry
-t15 = e0·1 ∷ e1 ∷ e2 ∷ e3·1 ∷ e4 ∷ e5 ∷ e6·1 ∷ e7·1 ∷ e8 ∷ e9 ∷ e10·1 ∷ e11·1 ∷ e12 ∷ e13 ∷ List.[]
+t15 = e0 ∷ e1 ∷ e2 ∷ e3·1 ∷ e4 ∷ e5 ∷ e6·1 ∷ e7·1 ∷ e8 ∷ e9 ∷ e10·1 ∷ e11·1 ∷ e12·1 ∷ e13·1 ∷ e14 ∷ e15·1 ∷ List.[]
 
 abbrev pub t16 : List.List Row.Entry
-t16 = e0·1 ∷ e1 ∷ e2 ∷ e3·1 ∷ e4 ∷ e5 ∷ e6·1 ∷ e7·1 ∷ e8 ∷ e9 ∷ e10 ∷ e11·1 ∷ e12 ∷ e13 ∷ List.[]
+t16 = e0 ∷ e1 ∷ e2 ∷ e3·1 ∷ e4 ∷ e5 ∷ e6·1 ∷ e7·1 ∷ e8 ∷ e9 ∷ e10·1 ∷ e11·1 ∷ e12·1 ∷ e13·1 ∷ e14 ∷ e15 ∷ List.[]
 
 abbrev pub t17 : List.List Row.Entry
-t17 = e0·1 ∷ e1 ∷ e2 ∷ e3·1 ∷ e4 ∷ e5 ∷ e6·1 ∷ e7·1 ∷ e8 ∷ e9 ∷ e10 ∷ e11 ∷ e12 ∷ e13 ∷ List.[]
+t17 = e0·1 ∷ e1 ∷ e2 ∷ e3·1 ∷ e4 ∷ e5 ∷ e6·1 ∷ e7·1 ∷ e8 ∷ e9 ∷ e10·1 ∷ e11·1 ∷ e12·1 ∷ e13·1 ∷ e14 ∷ e15 ∷ List.[]
 
 abbrev pub t18 : List.List Row.Entry
-t18 = e0·1 ∷ e1 ∷ e2 ∷ e3·1 ∷ e4·1 ∷ e5 ∷ e6·1 ∷ e7·1 ∷ e8 ∷ e9 ∷ e10 ∷ e11 ∷ e12 ∷ e13 ∷ List.[]
+t18 = e0·1 ∷ e1 ∷ e2 ∷ e3·1 ∷ e4 ∷ e5 ∷ e6·1 ∷ e7·1 ∷ e8 ∷ e9 ∷ e10 ∷ e11·1 ∷ e12·1 ∷ e13·1 ∷ e14 ∷ e15 ∷ List.[]
+
+abbrev pub t19 : List.List Row.Entry
+t19 = e0·1 ∷ e1 ∷ e2 ∷ e3·1 ∷ e4 ∷ e5 ∷ e6·1 ∷ e7·1 ∷ e8 ∷ e9 ∷ e10 ∷ e11 ∷ e12·1 ∷ e13·1 ∷ e14 ∷ e15 ∷ List.[]
+
+abbrev pub t20 : List.List Row.Entry
+t20 = e0·1 ∷ e1 ∷ e2 ∷ e3·1 ∷ e4 ∷ e5 ∷ e6·1 ∷ e7·1 ∷ e8 ∷ e9 ∷ e10 ∷ e11 ∷ e12 ∷ e13·1 ∷ e14 ∷ e15 ∷ List.[]
+
+abbrev pub t21 : List.List Row.Entry
+t21 = e0·1 ∷ e1 ∷ e2 ∷ e3·1 ∷ e4 ∷ e5 ∷ e6·1 ∷ e7·1 ∷ e8 ∷ e9 ∷ e10 ∷ e11 ∷ e12 ∷ e13 ∷ e14 ∷ e15 ∷ List.[]
+
+abbrev pub t22 : List.List Row.Entry
+t22 = e0·1 ∷ e1 ∷ e2 ∷ e3·1 ∷ e4·1 ∷ e5 ∷ e6·1 ∷ e7·1 ∷ e8 ∷ e9 ∷ e10 ∷ e11 ∷ e12 ∷ e13 ∷ e14 ∷ e15 ∷ List.[]
 
 abbrev pub T0 : Row.Cx
 T0 = record { locals = t0; slots = List.[] }
@@ -370,100 +428,130 @@ abbrev pub T18 : Row.Cx
 T18 = record { locals = t18; slots = List.[] }
 
 abbrev pub T19 : Row.Cx
-T19 = record { locals = t1; slots = List.[] }
+T19 = record { locals = t19; slots = List.[] }
+
+abbrev pub T20 : Row.Cx
+T20 = record { locals = t20; slots = List.[] }
+
+abbrev pub T21 : Row.Cx
+T21 = record { locals = t21; slots = List.[] }
+
+abbrev pub T22 : Row.Cx
+T22 = record { locals = t22; slots = List.[] }
+
+abbrev pub T23 : Row.Cx
+T23 = record { locals = t1; slots = List.[] }
 
 abbrev pub O0 : Typed.Outs
 O0 = record { next = Option.none; exits = List.[]; returns = Option.some T1 }
 
 module _ (claims· : Claims) where
-  abbrev args0 : Args'.ArgsT ps·0 (T0 .locals)
-  args0 = (
+  abbrev s0 : (bs : List.List Nat.ℕ) → Typed.Mo T0 → Typed.Mo T2
+  s0 = λ bs. Make.n-make (Declared.row RecordQuestion.the-type) T0 8 λ m. Revoking.struct .as-values
+      (m .1 .1 .1 .1 .1 .1 .1 .0) .0
+
+  abbrev s1 : (bs : List.List Nat.ℕ) → Typed.Both T2 T3
+  s1 = λ bs. WayStmt.k-way-copy-out T2 (Row.out 7 (T2 .locals)) (λ u. Row.drop 7 (T2 .locals) u) 9
+      (Rows.whole (Declared'.row HnsrPeerId.the-type)) (λ u. At.getAt (Revoking.the-type .parts) 1
+      (Revoking.struct .as-values (u .1 .1 .1 .1 .1 .1 .1 .0))) (λ T′.
+      record { locals = Row.setRow 7 (7, Rows.whole (Declared'.row Revoking.the-type)) T′; slots = List.[] }) (λ u T′
+      m′. Row.set 7 (7, Rows.whole (Declared'.row Revoking.the-type)) (u .1 .1 .1 .1 .1 .1 .1 .0) T′ m′) (λ u. Unit)
+      λ u. Unit
+
+  abbrev s2 : (bs : List.List Nat.ℕ) → Typed.Mo T3 → Typed.Mo T4
+  s2 = λ bs. Scalar.n-room T3 7 Laws'.mir
+
+  abbrev s3 : (bs : List.List Nat.ℕ) → Typed.Both T4 T5
+  s3 = λ bs. Call.callB ps·0 r·0 (claims· .0) (claims· .1) T4 (
     record { pos = 1; ty = ref0; ref = λ x. x },
-    (record { pos = 3; st = List.[]; d = 0; at = λ x. x }, (record { pos = 7; st = List.[]; d = 0; at = λ x. x }, tt)),
-  )
+    (
+      record { pos = 3; st = List.[]; d = 0; at = λ x. x },
+      (
+        record { pos = 8; st = List.[]; d = 0; at = λ x. x },
+        (record { pos = 9; st = List.[]; d = 0; at = λ x. x }, tt),
+      ),
+    ),
+  ) 10 (0 ∷ List.[]) Laws'''''''.mir
 
-  abbrev s0 : Typed.Both T0 T2
-  s0 = Call.callB ps·0 r·0 (claims· .0) (claims· .1) T0 args0 8 (0 ∷ List.[]) Laws'''''.mir
-
-  abbrev args1 : Args'.ArgsT ps·1 (T2 .locals)
-  args1 = (
+  abbrev s4 : (bs : List.List Nat.ℕ) → Typed.Both T5 T6
+  s4 = λ bs. Call.callB ps·1 r·1 (claims· .2) (claims· .3) T5 (
     record { pos = 2; ty = ref1; ref = λ x. x },
-    (record { pos = 3; st = List.[]; d = 0; at = λ x. x }, (record { pos = 7; st = List.[]; d = 0; at = λ x. x }, tt)),
-  )
+    (
+      record { pos = 3; st = List.[]; d = 0; at = λ x. x },
+      (
+        record { pos = 8; st = List.[]; d = 0; at = λ x. x },
+        (record { pos = 9; st = List.[]; d = 0; at = λ x. x }, tt),
+      ),
+    ),
+  ) 11 (1 ∷ List.[]) Laws'''''''.mir
 
-  abbrev s1 : Typed.Both T2 T3
-  s1 = Call.callB ps·1 r·1 (claims· .2) (claims· .3) T2 args1 9 (1 ∷ List.[]) Laws'''''.mir
+  abbrev s5 : (bs : List.List Nat.ℕ) → Typed.Mo T6 → Typed.Mo T7
+  s5 = λ bs. Scalar.n-room T6 3 Laws'''''.mir
 
-  abbrev s2 : Typed.Mo T3 → Typed.Mo T4
-  s2 = Scalar.n-room T3 3 Laws'''.mir
+  abbrev s6 : (bs : List.List Nat.ℕ) → Typed.Mo T7 → Typed.Mo T8
+  s6 = λ bs. Scalar.n-room T7 8 Laws''''''.mir
 
-  abbrev s3 : Typed.Mo T4 → Typed.Mo T5
-  s3 = Scalar.n-room T4 7 Laws''''.mir
+  abbrev s7 : (bs : List.List Nat.ℕ) → Typed.Mo T8 → Typed.Mo T9
+  s7 = λ bs. Scalar.n-room T8 9 Laws''''.mir
 
-  abbrev args4 : Args'.ArgsT ps·2 (T5 .locals)
-  args4 = (
+  abbrev s8 : (bs : List.List Nat.ℕ) → Typed.Both T9 T10
+  s8 = λ bs. Call.callB ps·2 r·2 (claims· .4) (claims· .5) T9 (
     Num.vAt 5 λ x. x,
     (
-      Num.vFld 8 ((Syntax.field 0) ∷ List.[]) 0 λ x. Survey.struct .as-values x .0,
-      (Num.vFld 9 ((Syntax.field 0) ∷ List.[]) 0 λ x. Survey.struct .as-values x .0, tt),
+      Num.vFld 10 ((Syntax.field 0) ∷ List.[]) 0 λ x. Survey.struct .as-values x .0,
+      (Num.vFld 11 ((Syntax.field 0) ∷ List.[]) 0 λ x. Survey.struct .as-values x .0, tt),
     ),
-  )
+  ) 12 List.[] Syntax.tyBool
 
-  abbrev s4 : Typed.Both T5 T6
-  s4 = Call.callB ps·2 r·2 (claims· .4) (claims· .5) T5 args4 10 List.[] Syntax.tyBool
-
-  abbrev s5 : Typed.Mo T6 → Typed.Mo T7
-  s5 = Scalar.n-use T6 (Scalar.oFld 1 ((Syntax.field 1) ∷ List.[]) (Syntax.tyInt Syntax.w64) 8 Shared.lenV) 12
+  abbrev s9 : (bs : List.List Nat.ℕ) → Typed.Mo T10 → Typed.Mo T11
+  s9 = λ bs. Scalar.n-use T10 (Scalar.oFld 1 ((Syntax.field 1) ∷ List.[]) (Syntax.tyInt Syntax.w64) 8 Shared.lenV) 14
       (Rows.sc-here (Row.sInt Syntax.w64)) (Row.sInt Syntax.w64 .of)
 
-  abbrev s6 : Typed.Mo T7 → Typed.Mo T8
-  s6 = Scalar.n-use T7 (Scalar.oFld 2 ((Syntax.field 1) ∷ List.[]) (Syntax.tyInt Syntax.w64) 8 Shared.lenV) 13
+  abbrev s10 : (bs : List.List Nat.ℕ) → Typed.Mo T11 → Typed.Mo T12
+  s10 = λ bs. Scalar.n-use T11 (Scalar.oFld 2 ((Syntax.field 1) ∷ List.[]) (Syntax.tyInt Syntax.w64) 8 Shared.lenV) 15
       (Rows.sc-here (Row.sInt Syntax.w64)) (Row.sInt Syntax.w64 .of)
 
-  abbrev args7 : Args'.ArgsT ps·3 (T8 .locals)
-  args7 = (
+  abbrev s11 : (bs : List.List Nat.ℕ) → Typed.Both T12 T13
+  s11 = λ bs. Call.callB ps·3 r·3 (claims· .6) (claims· .7) T12 (
     record { pos = 6; st = List.[]; d = 0; at = λ x. x },
-    (Num.vAt 12 λ x. x, (Num.vAt 13 λ x. x, (Num.vAt 4 λ x. x, (Bool.bAt 10 λ x. x, tt)))),
-  )
+    (Num.vAt 14 λ x. x, (Num.vAt 15 λ x. x, (Num.vAt 4 λ x. x, (Bool.bAt 12 λ x. x, tt)))),
+  ) 13 List.[] Laws.mir
 
-  abbrev s7 : Typed.Both T8 T9
-  s7 = Call.callB ps·3 r·3 (claims· .6) (claims· .7) T8 args7 11 List.[] Laws.mir
+  abbrev s12 : (bs : List.List Nat.ℕ) → Typed.Mo T13 → Typed.Mo T14
+  s12 = λ bs. Scalar.n-room T13 6 Laws'''.mir
 
-  abbrev s8 : Typed.Mo T9 → Typed.Mo T10
-  s8 = Scalar.n-room T9 6 Laws''.mir
+  abbrev s13 : (bs : List.List Nat.ℕ) → Typed.Mo T14 → Typed.Mo T15
+  s13 = λ bs. Scalar.n-room T14 14 (Syntax.tyInt Syntax.w64)
 
-  abbrev s9 : Typed.Mo T10 → Typed.Mo T11
-  s9 = Scalar.n-room T10 12 (Syntax.tyInt Syntax.w64)
+  abbrev s14 : (bs : List.List Nat.ℕ) → Typed.Mo T15 → Typed.Mo T16
+  s14 = λ bs. Scalar.n-room T15 15 (Syntax.tyInt Syntax.w64)
 
-  abbrev s10 : Typed.Mo T11 → Typed.Mo T12
-  s10 = Scalar.n-room T11 13 (Syntax.tyInt Syntax.w64)
+  abbrev s15 : (bs : List.List Nat.ℕ) → Typed.Both T16 T17
+  s15 = λ bs. Call.callB ps·4 r·4 (claims· .8) (claims· .9) T16 (
+    record { pos = 13; st = List.[]; d = 0; at = λ x. x },
+    (
+      record { pos = 10; st = List.[]; d = 0; at = λ x. x },
+      (record { pos = 11; st = List.[]; d = 0; at = λ x. x }, tt),
+    ),
+  ) 0 List.[] Laws''.mir
 
-  abbrev args11 : Args'.ArgsT ps·4 (T12 .locals)
-  args11 = (
-    record { pos = 11; st = List.[]; d = 0; at = λ x. x },
-    (record { pos = 8; st = List.[]; d = 0; at = λ x. x }, (record { pos = 9; st = List.[]; d = 0; at = λ x. x }, tt)),
-  )
+  abbrev s16 : (bs : List.List Nat.ℕ) → Typed.Mo T17 → Typed.Mo T18
+  s16 = λ bs. Scalar.n-room T17 10 Laws'''''''.mir
 
-  abbrev s11 : Typed.Both T12 T13
-  s11 = Call.callB ps·4 r·4 (claims· .8) (claims· .9) T12 args11 0 List.[] Laws'.mir
+  abbrev s17 : (bs : List.List Nat.ℕ) → Typed.Mo T18 → Typed.Mo T19
+  s17 = λ bs. Scalar.n-room T18 11 Laws'''''''.mir
 
-  abbrev s12 : Typed.Mo T13 → Typed.Mo T14
-  s12 = Scalar.n-room T13 8 Laws'''''.mir
+  abbrev s18 : (bs : List.List Nat.ℕ) → Typed.Mo T19 → Typed.Mo T20
+  s18 = λ bs. Scalar.n-room T19 12 Syntax.tyBool
 
-  abbrev s13 : Typed.Mo T14 → Typed.Mo T15
-  s13 = Scalar.n-room T14 9 Laws'''''.mir
+  abbrev s19 : (bs : List.List Nat.ℕ) → Typed.Mo T20 → Typed.Mo T21
+  s19 = λ bs. Scalar.n-room T20 13 Laws.mir
 
-  abbrev s14 : Typed.Mo T15 → Typed.Mo T16
-  s14 = Scalar.n-room T15 10 Syntax.tyBool
+  abbrev s20 : (bs : List.List Nat.ℕ) → Typed.Mo T21 → Typed.Mo T22
+  s20 = λ bs. Scalar.n-room T21 4 (Syntax.tyInt Syntax.w64)
 
-  abbrev s15 : Typed.Mo T16 → Typed.Mo T17
-  s15 = Scalar.n-room T16 11 Laws.mir
-
-  abbrev s16 : Typed.Mo T17 → Typed.Mo T18
-  s16 = Scalar.n-room T17 4 (Syntax.tyInt Syntax.w64)
-
-  abbrev s17 : Typed.Mo T18 → Typed.Mo T19
-  s17 = Scalar.n-room T18 5 (Syntax.tyInt Syntax.w64)
+  abbrev s21 : (bs : List.List Nat.ℕ) → Typed.Mo T22 → Typed.Mo T23
+  s21 = λ bs. Scalar.n-room T22 5 (Syntax.tyInt Syntax.w64)
 
   module _ (Pre· : (κs : Lifetimes.Lfts 2) → Kinds.Dens κs ps → Type 0) (Post· : (κs : Lifetimes.Lfts 2) →
       (a : Kinds.Dens κs ps) → Kinds.Plain 2 ps r κs) where
@@ -479,65 +567,77 @@ module _ (claims· : Claims) where
           (Function.plainOf 𝓤 H A 2 ps r Pre· Post·)
 
     module _ where
-      abbrev at0 : Typed.TF T19 O0
-      at0 = Typed.atRet O0
+      abbrev at0 : (bs : List.List Nat.ℕ) → Typed.TF T23 O0
+      at0 = λ bs. Typed.atRet O0
 
-      abbrev at1 : Typed.TF T18 O0
-      at1 = λ Ψ. Typed.pass T18 T19 s17 (at0 Ψ)
+      abbrev at1 : (bs : List.List Nat.ℕ) → Typed.TF T22 O0
+      at1 = λ bs. λ Ψ. Typed.pass T22 T23 (s21 bs) (at0 bs Ψ)
 
-      abbrev at2 : Typed.TF T17 O0
-      at2 = λ Ψ. Typed.pass T17 T18 s16 (at1 Ψ)
+      abbrev at2 : (bs : List.List Nat.ℕ) → Typed.TF T21 O0
+      at2 = λ bs. λ Ψ. Typed.pass T21 T22 (s20 bs) (at1 bs Ψ)
 
-      abbrev at3 : Typed.TF T16 O0
-      at3 = λ Ψ. Typed.pass T16 T17 s15 (at2 Ψ)
+      abbrev at3 : (bs : List.List Nat.ℕ) → Typed.TF T20 O0
+      at3 = λ bs. λ Ψ. Typed.pass T20 T21 (s19 bs) (at2 bs Ψ)
 
-      abbrev at4 : Typed.TF T15 O0
-      at4 = λ Ψ. Typed.pass T15 T16 s14 (at3 Ψ)
+      abbrev at4 : (bs : List.List Nat.ℕ) → Typed.TF T19 O0
+      at4 = λ bs. λ Ψ. Typed.pass T19 T20 (s18 bs) (at3 bs Ψ)
 
-      abbrev at5 : Typed.TF T14 O0
-      at5 = λ Ψ. Typed.pass T14 T15 s13 (at4 Ψ)
+      abbrev at5 : (bs : List.List Nat.ℕ) → Typed.TF T18 O0
+      at5 = λ bs. λ Ψ. Typed.pass T18 T19 (s17 bs) (at4 bs Ψ)
 
-      abbrev at6 : Typed.TF T13 O0
-      at6 = λ Ψ. Typed.pass T13 T14 s12 (at5 Ψ)
+      abbrev at6 : (bs : List.List Nat.ℕ) → Typed.TF T17 O0
+      at6 = λ bs. λ Ψ. Typed.pass T17 T18 (s16 bs) (at5 bs Ψ)
 
-      abbrev at7 : Typed.TF T12 O0
-      at7 = λ Ψ. Typed.both s11 (at6 Ψ)
+      abbrev at7 : (bs : List.List Nat.ℕ) → Typed.TF T16 O0
+      at7 = λ bs. λ Ψ. Typed.both (s15 bs) (at6 bs Ψ)
 
-      abbrev at8 : Typed.TF T11 O0
-      at8 = λ Ψ. Typed.pass T11 T12 s10 (at7 Ψ)
+      abbrev at8 : (bs : List.List Nat.ℕ) → Typed.TF T15 O0
+      at8 = λ bs. λ Ψ. Typed.pass T15 T16 (s14 bs) (at7 bs Ψ)
 
-      abbrev at9 : Typed.TF T10 O0
-      at9 = λ Ψ. Typed.pass T10 T11 s9 (at8 Ψ)
+      abbrev at9 : (bs : List.List Nat.ℕ) → Typed.TF T14 O0
+      at9 = λ bs. λ Ψ. Typed.pass T14 T15 (s13 bs) (at8 bs Ψ)
 
-      abbrev at10 : Typed.TF T9 O0
-      at10 = λ Ψ. Typed.pass T9 T10 s8 (at9 Ψ)
+      abbrev at10 : (bs : List.List Nat.ℕ) → Typed.TF T13 O0
+      at10 = λ bs. λ Ψ. Typed.pass T13 T14 (s12 bs) (at9 bs Ψ)
 
-      abbrev at11 : Typed.TF T8 O0
-      at11 = λ Ψ. Typed.both s7 (at10 Ψ)
+      abbrev at11 : (bs : List.List Nat.ℕ) → Typed.TF T12 O0
+      at11 = λ bs. λ Ψ. Typed.both (s11 bs) (at10 bs Ψ)
 
-      abbrev at12 : Typed.TF T7 O0
-      at12 = λ Ψ. Typed.pass T7 T8 s6 (at11 Ψ)
+      abbrev at12 : (bs : List.List Nat.ℕ) → Typed.TF T11 O0
+      at12 = λ bs. λ Ψ. Typed.pass T11 T12 (s10 bs) (at11 bs Ψ)
 
-      abbrev at13 : Typed.TF T6 O0
-      at13 = λ Ψ. Typed.pass T6 T7 s5 (at12 Ψ)
+      abbrev at13 : (bs : List.List Nat.ℕ) → Typed.TF T10 O0
+      at13 = λ bs. λ Ψ. Typed.pass T10 T11 (s9 bs) (at12 bs Ψ)
 
-      abbrev at14 : Typed.TF T5 O0
-      at14 = λ Ψ. Typed.both s4 (at13 Ψ)
+      abbrev at14 : (bs : List.List Nat.ℕ) → Typed.TF T9 O0
+      at14 = λ bs. λ Ψ. Typed.both (s8 bs) (at13 bs Ψ)
 
-      abbrev at15 : Typed.TF T4 O0
-      at15 = λ Ψ. Typed.pass T4 T5 s3 (at14 Ψ)
+      abbrev at15 : (bs : List.List Nat.ℕ) → Typed.TF T8 O0
+      at15 = λ bs. λ Ψ. Typed.pass T8 T9 (s7 bs) (at14 bs Ψ)
 
-      abbrev at16 : Typed.TF T3 O0
-      at16 = λ Ψ. Typed.pass T3 T4 s2 (at15 Ψ)
+      abbrev at16 : (bs : List.List Nat.ℕ) → Typed.TF T7 O0
+      at16 = λ bs. λ Ψ. Typed.pass T7 T8 (s6 bs) (at15 bs Ψ)
 
-      abbrev at17 : Typed.TF T2 O0
-      at17 = λ Ψ. Typed.both s1 (at16 Ψ)
+      abbrev at17 : (bs : List.List Nat.ℕ) → Typed.TF T6 O0
+      at17 = λ bs. λ Ψ. Typed.pass T6 T7 (s5 bs) (at16 bs Ψ)
 
-      abbrev at18 : Typed.TF T0 O0
-      at18 = λ Ψ. Typed.both s0 (at17 Ψ)
+      abbrev at18 : (bs : List.List Nat.ℕ) → Typed.TF T5 O0
+      at18 = λ bs. λ Ψ. Typed.both (s4 bs) (at17 bs Ψ)
 
-      abbrev pub Φ : Typed.TF T0 O0
-      Φ = at18
+      abbrev at19 : (bs : List.List Nat.ℕ) → Typed.TF T4 O0
+      at19 = λ bs. λ Ψ. Typed.both (s3 bs) (at18 bs Ψ)
+
+      abbrev at20 : (bs : List.List Nat.ℕ) → Typed.TF T3 O0
+      at20 = λ bs. λ Ψ. Typed.pass T3 T4 (s2 bs) (at19 bs Ψ)
+
+      abbrev at21 : (bs : List.List Nat.ℕ) → Typed.TF T2 O0
+      at21 = λ bs. λ Ψ. Typed.both (s1 bs) (at20 bs Ψ)
+
+      abbrev at22 : (bs : List.List Nat.ℕ) → Typed.TF T0 O0
+      at22 = λ bs. λ Ψ. Typed.pass T0 T2 (s0 bs) (at21 bs Ψ)
+
+      abbrev pub Φ : (bs : List.List Nat.ℕ) → Typed.TF T0 O0
+      Φ = λ bs. at22 bs
 
       module _ {M : Type 1} (𝓤 : URA.URA M) (H : Wp.Heap 𝓤) (A : Atoms.Atoms 𝓤) (W : Kit.Given 𝓤 H A)
           (𝓣 : Wp.Tables 𝓤 H) where
@@ -614,7 +714,19 @@ module _ (claims· : Claims) where
         G18 = record { locals = t18; slots = life0 ∷ life1 ∷ List.[] }
 
         abbrev G19 : Row.Cx
-        G19 = record { locals = t1; slots = life0 ∷ life1 ∷ List.[] }
+        G19 = record { locals = t19; slots = life0 ∷ life1 ∷ List.[] }
+
+        abbrev G20 : Row.Cx
+        G20 = record { locals = t20; slots = life0 ∷ life1 ∷ List.[] }
+
+        abbrev G21 : Row.Cx
+        G21 = record { locals = t21; slots = life0 ∷ life1 ∷ List.[] }
+
+        abbrev G22 : Row.Cx
+        G22 = record { locals = t22; slots = life0 ∷ life1 ∷ List.[] }
+
+        abbrev G23 : Row.Cx
+        G23 = record { locals = t1; slots = life0 ∷ life1 ∷ List.[] }
 
         abbrev Δ0 : Typed.Outs
         Δ0 = record { next = Option.none; exits = List.[]; returns = Option.some G1 }
@@ -625,42 +737,45 @@ module _ (claims· : Claims) where
           abbrev E : Wp.Env 𝓤 H
           E = Frame.EnvOf 𝓤 H ((Kinds.tyR r) ∷ (Enter.tysP ps xs)) bs
 
-          d0 : Typed.Typed 𝓤 H A 𝓣 E G19 b7 Δ0 at0
+          d0 : Typed.Typed 𝓤 H A 𝓣 E G23 b9 Δ0 (at0 bs)
           d0 = Typed.t-return 𝓤 H A W 𝓣 E Δ0 tt
 
-          d1 : Typed.Typed 𝓤 H A 𝓣 E G18 b7 Δ0 at1
-          d1 = Typed.g-pre 𝓤 H A W 𝓣 E G18 G19 b7 Δ0 (Typed.pass T18 T19 s17) at0 (Scalar.g-room 𝓤 H A W E G18 5
-              (Syntax.tyInt Syntax.w64) (Scalar.room-sc 𝓤 H A W (Row.sInt Syntax.w64))) d0
+          d1 : Typed.Typed 𝓤 H A 𝓣 E G22 b9 Δ0 (at1 bs)
+          d1 = Typed.g-pre 𝓤 H A W 𝓣 E G22 G23 b9 Δ0 (Typed.pass T22 T23 (s21 bs)) (at0 bs) (Scalar.g-room 𝓤 H A W E
+              G22 5 (Syntax.tyInt Syntax.w64) (Scalar.room-sc 𝓤 H A W (Row.sInt Syntax.w64))) d0
 
-          d2 : Typed.Typed 𝓤 H A 𝓣 E G17 b7 Δ0 at2
-          d2 = Typed.g-pre 𝓤 H A W 𝓣 E G17 G18 b7 Δ0 (Typed.pass T17 T18 s16) at1 (Scalar.g-room 𝓤 H A W E G17 4
-              (Syntax.tyInt Syntax.w64) (Scalar.room-sc 𝓤 H A W (Row.sInt Syntax.w64))) d1
+          d2 : Typed.Typed 𝓤 H A 𝓣 E G21 b9 Δ0 (at2 bs)
+          d2 = Typed.g-pre 𝓤 H A W 𝓣 E G21 G22 b9 Δ0 (Typed.pass T21 T22 (s20 bs)) (at1 bs) (Scalar.g-room 𝓤 H A W E
+              G21 4 (Syntax.tyInt Syntax.w64) (Scalar.room-sc 𝓤 H A W (Row.sInt Syntax.w64))) d1
 
-          d3 : Typed.Typed 𝓤 H A 𝓣 E G16 b7 Δ0 at3
-          d3 = Typed.g-pre 𝓤 H A W 𝓣 E G16 G17 b7 Δ0 (Typed.pass T16 T17 s15) at2 (Scalar.g-room 𝓤 H A W E G16 11
-              Laws.mir (Local.room-whole 𝓤 H A W (Declared.row HnsrAnswer.the-type) Laws.mir Path.refl)) d2
+          d3 : Typed.Typed 𝓤 H A 𝓣 E G20 b9 Δ0 (at3 bs)
+          d3 = Typed.g-pre 𝓤 H A W 𝓣 E G20 G21 b9 Δ0 (Typed.pass T20 T21 (s19 bs)) (at2 bs) (Scalar.g-room 𝓤 H A W E
+              G20 13 Laws.mir (Local.room-whole 𝓤 H A W (Declared.row HnsrAnswer.the-type) Laws.mir Path.refl)) d2
 
-          d4 : Typed.Typed 𝓤 H A 𝓣 E G15 b7 Δ0 at4
-          d4 = Typed.g-pre 𝓤 H A W 𝓣 E G15 G16 b7 Δ0 (Typed.pass T15 T16 s14) at3 (Scalar.g-room 𝓤 H A W E G15 10
-              Syntax.tyBool (Scalar.room-sc 𝓤 H A W Row.sBool)) d3
+          d4 : Typed.Typed 𝓤 H A 𝓣 E G19 b9 Δ0 (at4 bs)
+          d4 = Typed.g-pre 𝓤 H A W 𝓣 E G19 G20 b9 Δ0 (Typed.pass T19 T20 (s18 bs)) (at3 bs) (Scalar.g-room 𝓤 H A W E
+              G19 12 Syntax.tyBool (Scalar.room-sc 𝓤 H A W Row.sBool)) d3
 
-          d5 : Typed.Typed 𝓤 H A 𝓣 E G14 b7 Δ0 at5
-          d5 = Typed.g-pre 𝓤 H A W 𝓣 E G14 G15 b7 Δ0 (Typed.pass T14 T15 s13) at4 (Scalar.g-room 𝓤 H A W E G14 9
-              Laws'''''.mir (Local.room-whole 𝓤 H A W (Declared'.row Survey.the-type) Laws'''''.mir Path.refl)) d4
+          d5 : Typed.Typed 𝓤 H A 𝓣 E G18 b9 Δ0 (at5 bs)
+          d5 = Typed.g-pre 𝓤 H A W 𝓣 E G18 G19 b9 Δ0 (Typed.pass T18 T19 (s17 bs)) (at4 bs) (Scalar.g-room 𝓤 H A W E
+              G18 11 Laws'''''''.mir (Local.room-whole 𝓤 H A W (Declared'.row Survey.the-type) Laws'''''''.mir
+              Path.refl)) d4
 
-          d6 : Typed.Typed 𝓤 H A 𝓣 E G13 b7 Δ0 at6
-          d6 = Typed.g-pre 𝓤 H A W 𝓣 E G13 G14 b7 Δ0 (Typed.pass T13 T14 s12) at5 (Scalar.g-room 𝓤 H A W E G13 8
-              Laws'''''.mir (Local.room-whole 𝓤 H A W (Declared'.row Survey.the-type) Laws'''''.mir Path.refl)) d5
+          d6 : Typed.Typed 𝓤 H A 𝓣 E G17 b9 Δ0 (at6 bs)
+          d6 = Typed.g-pre 𝓤 H A W 𝓣 E G17 G18 b9 Δ0 (Typed.pass T17 T18 (s16 bs)) (at5 bs) (Scalar.g-room 𝓤 H A W E
+              G17 10 Laws'''''''.mir (Local.room-whole 𝓤 H A W (Declared'.row Survey.the-type) Laws'''''''.mir
+              Path.refl)) d5
 
-          d7 : Typed.Typed 𝓤 H A 𝓣 E G12 b8 Δ0 at7
-          d7 = Typed.s-seq 𝓤 H A W 𝓣 E G12 G13 b6 b7 Δ0 (Typed.both s11) at6 (Plain.t-call-plain 𝓤 H A W 𝓣 0 ps·4 r·4
-              (claims· .8) (claims· .9) "hnsr_circuit::calls::revoking::entry_found" (known .4) E (λ pos β. β) G12 (
-                record { pos = 11; st = List.[]; d = 0; at = λ x. x },
+          d7 : Typed.Typed 𝓤 H A 𝓣 E G16 b10 Δ0 (at7 bs)
+          d7 = Typed.s-seq 𝓤 H A W 𝓣 E G16 G17 b8 b9 Δ0 (Typed.both (s15 bs)) (at6 bs) (Plain.t-call-plain 𝓤 H A W 𝓣 0
+              ps·4 r·4 (claims· .8) (claims· .9) "hnsr_circuit::calls::revoking::entry_found" (known .4) E (λ pos β. β)
+              G16 (
+                record { pos = 13; st = List.[]; d = 0; at = λ x. x },
                 (
-                  record { pos = 8; st = List.[]; d = 0; at = λ x. x },
-                  (record { pos = 9; st = List.[]; d = 0; at = λ x. x }, tt),
+                  record { pos = 10; st = List.[]; d = 0; at = λ x. x },
+                  (record { pos = 11; st = List.[]; d = 0; at = λ x. x }, tt),
                 ),
-              ) 0 List.[] (Call.sub-id 𝓤 H A W (G12 .slots)) (
+              ) 0 List.[] (Call.sub-id 𝓤 H A W (G16 .slots)) (
                 (
                   Yields.yields-copy 𝓤 H A W (λ ρ. Unit) (Declared.row HnsrAnswer.the-type) Path.refl (Copies.cEnum
                       HnsrAnswer.the-type Laws.the-laws Laws.the-copy .copy 𝓤 H A W)
@@ -672,7 +787,7 @@ module _ (claims· : Claims) where
                 (
                   (
                     Yields.yields-copy 𝓤 H A W (λ ρ. Unit) (Declared'.row Survey.the-type) Path.refl (Copies.cStruct
-                        Survey.the-type Laws'''''.the-laws Laws'''''.the-copy .copy 𝓤 H A W)
+                        Survey.the-type Laws'''''''.the-laws Laws'''''''.the-copy .copy 𝓤 H A W)
                         (Rows.whole (Declared'.row Survey.the-type)) (λ x. x) (λ x. x) (λ ρ told. Local.mem-whole 𝓤 H A
                         W (Declared'.row Survey.the-type) ρ) λ ρ told. Local.whole-mem 𝓤 H A W
                         (Declared'.row Survey.the-type) ρ,
@@ -681,7 +796,7 @@ module _ (claims· : Claims) where
                   (
                     (
                       Yields.yields-copy 𝓤 H A W (λ ρ. Unit) (Declared'.row Survey.the-type) Path.refl (Copies.cStruct
-                          Survey.the-type Laws'''''.the-laws Laws'''''.the-copy .copy 𝓤 H A W)
+                          Survey.the-type Laws'''''''.the-laws Laws'''''''.the-copy .copy 𝓤 H A W)
                           (Rows.whole (Declared'.row Survey.the-type)) (λ x. x) (λ x. x) (λ ρ told. Local.mem-whole 𝓤 H
                           A W (Declared'.row Survey.the-type) ρ) λ ρ told. Local.whole-mem 𝓤 H A W
                           (Declared'.row Survey.the-type) ρ,
@@ -690,29 +805,31 @@ module _ (claims· : Claims) where
                     tt,
                   ),
                 ),
-              ) (Reads'.room-gone 𝓤 H A Laws'.mir) tt Path.refl) d6
+              ) (Reads'.room-gone 𝓤 H A Laws''.mir) tt Path.refl) d6
 
-          d8 : Typed.Typed 𝓤 H A 𝓣 E G11 b8 Δ0 at8
-          d8 = Typed.g-pre 𝓤 H A W 𝓣 E G11 G12 b8 Δ0 (Typed.pass T11 T12 s10) at7 (Scalar.g-room 𝓤 H A W E G11 13
-              (Syntax.tyInt Syntax.w64) (Scalar.room-sc 𝓤 H A W (Row.sInt Syntax.w64))) d7
+          d8 : Typed.Typed 𝓤 H A 𝓣 E G15 b10 Δ0 (at8 bs)
+          d8 = Typed.g-pre 𝓤 H A W 𝓣 E G15 G16 b10 Δ0 (Typed.pass T15 T16 (s14 bs)) (at7 bs) (Scalar.g-room 𝓤 H A W E
+              G15 15 (Syntax.tyInt Syntax.w64) (Scalar.room-sc 𝓤 H A W (Row.sInt Syntax.w64))) d7
 
-          d9 : Typed.Typed 𝓤 H A 𝓣 E G10 b8 Δ0 at9
-          d9 = Typed.g-pre 𝓤 H A W 𝓣 E G10 G11 b8 Δ0 (Typed.pass T10 T11 s9) at8 (Scalar.g-room 𝓤 H A W E G10 12
-              (Syntax.tyInt Syntax.w64) (Scalar.room-sc 𝓤 H A W (Row.sInt Syntax.w64))) d8
+          d9 : Typed.Typed 𝓤 H A 𝓣 E G14 b10 Δ0 (at9 bs)
+          d9 = Typed.g-pre 𝓤 H A W 𝓣 E G14 G15 b10 Δ0 (Typed.pass T14 T15 (s13 bs)) (at8 bs) (Scalar.g-room 𝓤 H A W E
+              G14 14 (Syntax.tyInt Syntax.w64) (Scalar.room-sc 𝓤 H A W (Row.sInt Syntax.w64))) d8
 
-          d10 : Typed.Typed 𝓤 H A 𝓣 E G9 b8 Δ0 at10
-          d10 = Typed.g-pre 𝓤 H A W 𝓣 E G9 G10 b8 Δ0 (Typed.pass T9 T10 s8) at9 (Scalar.g-room 𝓤 H A W E G9 6
-              Laws''.mir (Local.room-whole 𝓤 H A W (Declared'.row OpaqueRelayConfig.the-type) Laws''.mir Path.refl)) d9
+          d10 : Typed.Typed 𝓤 H A 𝓣 E G13 b10 Δ0 (at10 bs)
+          d10 = Typed.g-pre 𝓤 H A W 𝓣 E G13 G14 b10 Δ0 (Typed.pass T13 T14 (s12 bs)) (at9 bs) (Scalar.g-room 𝓤 H A W E
+              G13 6 Laws'''.mir (Local.room-whole 𝓤 H A W (Declared'.row OpaqueRelayConfig.the-type) Laws'''.mir
+              Path.refl)) d9
 
-          d11 : Typed.Typed 𝓤 H A 𝓣 E G8 b9 Δ0 at11
-          d11 = Typed.s-seq 𝓤 H A W 𝓣 E G8 G9 b5 b8 Δ0 (Typed.both s7) at10 (Plain.t-call-plain 𝓤 H A W 𝓣 0 ps·3 r·3
-              (claims· .6) (claims· .7) "hnsr_circuit::calls::revoking::room_answer" (known .3) E (λ pos β. β) G8 (
+          d11 : Typed.Typed 𝓤 H A 𝓣 E G12 b11 Δ0 (at11 bs)
+          d11 = Typed.s-seq 𝓤 H A W 𝓣 E G12 G13 b7 b10 Δ0 (Typed.both (s11 bs)) (at10 bs) (Plain.t-call-plain 𝓤 H A W 𝓣
+              0 ps·3 r·3 (claims· .6) (claims· .7) "hnsr_circuit::calls::revoking::room_answer" (known .3) E
+              (λ pos β. β) G12 (
                 record { pos = 6; st = List.[]; d = 0; at = λ x. x },
-                (Num.vAt 12 λ x. x, (Num.vAt 13 λ x. x, (Num.vAt 4 λ x. x, (Bool.bAt 10 λ x. x, tt)))),
-              ) 11 List.[] (Call.sub-id 𝓤 H A W (G8 .slots)) (
+                (Num.vAt 14 λ x. x, (Num.vAt 15 λ x. x, (Num.vAt 4 λ x. x, (Bool.bAt 12 λ x. x, tt)))),
+              ) 13 List.[] (Call.sub-id 𝓤 H A W (G12 .slots)) (
                 (
                   Yields.yields-copy 𝓤 H A W (λ ρ. Unit) (Declared'.row OpaqueRelayConfig.the-type) Path.refl (Copies.cStruct
-                      OpaqueRelayConfig.the-type Laws''.the-laws Laws''.the-copy .copy 𝓤 H A W)
+                      OpaqueRelayConfig.the-type Laws'''.the-laws Laws'''.the-copy .copy 𝓤 H A W)
                       (Rows.whole (Declared'.row OpaqueRelayConfig.the-type)) (λ x. x) (λ x. x) (λ ρ told.
                       Local.mem-whole 𝓤 H A W (Declared'.row OpaqueRelayConfig.the-type) ρ) λ ρ told. Local.whole-mem 𝓤
                       H A W (Declared'.row OpaqueRelayConfig.the-type) ρ,
@@ -730,9 +847,9 @@ module _ (claims· : Claims) where
                 ),
               ) (Reads'.room-gone 𝓤 H A Laws.mir) tt Path.refl) d10
 
-          d12 : Typed.Typed 𝓤 H A 𝓣 E G7 b10 Δ0 at12
-          d12 = Typed.s-seq 𝓤 H A W 𝓣 E G7 G8 b4 b9 Δ0 (Typed.pass T7 T8 s6) at11 (Scalar.t-use 𝓤 H A W E 𝓣 G7 (Scalar.oFld
-              2 ((Syntax.field 1) ∷ List.[]) (Syntax.tyInt Syntax.w64) 8 Shared.lenV) 13
+          d12 : Typed.Typed 𝓤 H A 𝓣 E G11 b12 Δ0 (at12 bs)
+          d12 = Typed.s-seq 𝓤 H A W 𝓣 E G11 G12 b6 b11 Δ0 (Typed.pass T11 T12 (s10 bs)) (at11 bs) (Scalar.t-use 𝓤 H A W
+              E 𝓣 G11 (Scalar.oFld 2 ((Syntax.field 1) ∷ List.[]) (Syntax.tyInt Syntax.w64) 8 Shared.lenV) 15
               (Rows.sc-here (Row.sInt Syntax.w64)) (Syntax.tyInt Syntax.w64) (Row.valS (Row.sInt Syntax.w64))
               (Row.sInt Syntax.w64 .of) (
                 Shared.reads-sslice-len 𝓤 H A W RelayCircuit.row ref1 1 8 Path.refl,
@@ -740,9 +857,9 @@ module _ (claims· : Claims) where
               ) (Reads'.room-gone 𝓤 H A (Syntax.tyInt Syntax.w64)) (Scalar.holds-sc 𝓤 H A W (Row.sInt Syntax.w64))
               Path.refl (λ u. Path.refl) λ u. tt) d11
 
-          d13 : Typed.Typed 𝓤 H A 𝓣 E G6 b11 Δ0 at13
-          d13 = Typed.s-seq 𝓤 H A W 𝓣 E G6 G7 b3 b10 Δ0 (Typed.pass T6 T7 s5) at12 (Scalar.t-use 𝓤 H A W E 𝓣 G6 (Scalar.oFld
-              1 ((Syntax.field 1) ∷ List.[]) (Syntax.tyInt Syntax.w64) 8 Shared.lenV) 12
+          d13 : Typed.Typed 𝓤 H A 𝓣 E G10 b13 Δ0 (at13 bs)
+          d13 = Typed.s-seq 𝓤 H A W 𝓣 E G10 G11 b5 b12 Δ0 (Typed.pass T10 T11 (s9 bs)) (at12 bs) (Scalar.t-use 𝓤 H A W
+              E 𝓣 G10 (Scalar.oFld 1 ((Syntax.field 1) ∷ List.[]) (Syntax.tyInt Syntax.w64) 8 Shared.lenV) 14
               (Rows.sc-here (Row.sInt Syntax.w64)) (Syntax.tyInt Syntax.w64) (Row.valS (Row.sInt Syntax.w64))
               (Row.sInt Syntax.w64 .of) (
                 Shared.reads-sslice-len 𝓤 H A W RelayPending.row ref0 0 8 Path.refl,
@@ -750,25 +867,26 @@ module _ (claims· : Claims) where
               ) (Reads'.room-gone 𝓤 H A (Syntax.tyInt Syntax.w64)) (Scalar.holds-sc 𝓤 H A W (Row.sInt Syntax.w64))
               Path.refl (λ u. Path.refl) λ u. tt) d12
 
-          d14 : Typed.Typed 𝓤 H A 𝓣 E G5 b12 Δ0 at14
-          d14 = Typed.s-seq 𝓤 H A W 𝓣 E G5 G6 b2 b11 Δ0 (Typed.both s4) at13 (Plain.t-call-plain 𝓤 H A W 𝓣 0 ps·2 r·2
-              (claims· .4) (claims· .5) "hnsr_circuit::calls::revoking::room_short" (known .2) E (λ pos β. β) G5 (
+          d14 : Typed.Typed 𝓤 H A 𝓣 E G9 b14 Δ0 (at14 bs)
+          d14 = Typed.s-seq 𝓤 H A W 𝓣 E G9 G10 b4 b13 Δ0 (Typed.both (s8 bs)) (at13 bs) (Plain.t-call-plain 𝓤 H A W 𝓣 0
+              ps·2 r·2 (claims· .4) (claims· .5) "hnsr_circuit::calls::revoking::room_short" (known .2) E (λ pos β. β)
+              G9 (
                 Num.vAt 5 λ x. x,
                 (
-                  Num.vFld 8 ((Syntax.field 0) ∷ List.[]) 0 λ x. Survey.struct .as-values x .0,
-                  (Num.vFld 9 ((Syntax.field 0) ∷ List.[]) 0 λ x. Survey.struct .as-values x .0, tt),
+                  Num.vFld 10 ((Syntax.field 0) ∷ List.[]) 0 λ x. Survey.struct .as-values x .0,
+                  (Num.vFld 11 ((Syntax.field 0) ∷ List.[]) 0 λ x. Survey.struct .as-values x .0, tt),
                 ),
-              ) 10 List.[] (Call.sub-id 𝓤 H A W (G5 .slots)) (
+              ) 12 List.[] (Call.sub-id 𝓤 H A W (G9 .slots)) (
                 (Scalar.reads-sc 𝓤 H A W (Row.sInt Syntax.w64), Path.refl),
                 (
                   (
-                    Reads.reads-field 𝓤 H A W Survey.the-type Laws'''''.the-laws 0 (Syntax.tyInt Syntax.w64) 0
+                    Reads.reads-field 𝓤 H A W Survey.the-type Laws'''''''.the-laws 0 (Syntax.tyInt Syntax.w64) 0
                         Path.refl,
                     Path.refl,
                   ),
                   (
                     (
-                      Reads.reads-field 𝓤 H A W Survey.the-type Laws'''''.the-laws 0 (Syntax.tyInt Syntax.w64) 0
+                      Reads.reads-field 𝓤 H A W Survey.the-type Laws'''''''.the-laws 0 (Syntax.tyInt Syntax.w64) 0
                           Path.refl,
                       Path.refl,
                     ),
@@ -777,30 +895,39 @@ module _ (claims· : Claims) where
                 ),
               ) (Reads'.room-gone 𝓤 H A Syntax.tyBool) tt Path.refl) d13
 
-          d15 : Typed.Typed 𝓤 H A 𝓣 E G4 b12 Δ0 at15
-          d15 = Typed.g-pre 𝓤 H A W 𝓣 E G4 G5 b12 Δ0 (Typed.pass T4 T5 s3) at14 (Scalar.g-room 𝓤 H A W E G4 7
-              Laws''''.mir (Local.room-whole 𝓤 H A W (Declared'.row Question.the-type) Laws''''.mir Path.refl)) d14
+          d15 : Typed.Typed 𝓤 H A 𝓣 E G8 b14 Δ0 (at15 bs)
+          d15 = Typed.g-pre 𝓤 H A W 𝓣 E G8 G9 b14 Δ0 (Typed.pass T8 T9 (s7 bs)) (at14 bs) (Scalar.g-room 𝓤 H A W E G8 9
+              Laws''''.mir (Local.room-whole 𝓤 H A W (Declared'.row HnsrPeerId.the-type) Laws''''.mir Path.refl)) d14
 
-          d16 : Typed.Typed 𝓤 H A 𝓣 E G3 b12 Δ0 at16
-          d16 = Typed.g-pre 𝓤 H A W 𝓣 E G3 G4 b12 Δ0 (Typed.pass T3 T4 s2) at15 (Scalar.g-room 𝓤 H A W E G3 3
-              Laws'''.mir (Local.room-whole 𝓤 H A W (Declared'.row Places.the-type) Laws'''.mir Path.refl)) d15
+          d16 : Typed.Typed 𝓤 H A 𝓣 E G7 b14 Δ0 (at16 bs)
+          d16 = Typed.g-pre 𝓤 H A W 𝓣 E G7 G8 b14 Δ0 (Typed.pass T7 T8 (s6 bs)) (at15 bs) (Scalar.g-room 𝓤 H A W E G7 8
+              Laws''''''.mir (Local.room-whole 𝓤 H A W (Declared.row RecordQuestion.the-type) Laws''''''.mir Path.refl))
+              d15
 
-          d17 : Typed.Typed 𝓤 H A 𝓣 E G2 b13 Δ0 at17
-          d17 = Typed.s-seq 𝓤 H A W 𝓣 E G2 G3 b1 b12 Δ0 (Typed.both s1) at16 (Plain.t-call-plain 𝓤 H A W 𝓣 1 ps·1 r·1
-              (claims· .2) (claims· .3) "hnsr_circuit::tables::circuits::survey_circuit" (known .1) E (λ pos β. β) G2 (
+          d17 : Typed.Typed 𝓤 H A 𝓣 E G6 b14 Δ0 (at17 bs)
+          d17 = Typed.g-pre 𝓤 H A W 𝓣 E G6 G7 b14 Δ0 (Typed.pass T6 T7 (s5 bs)) (at16 bs) (Scalar.g-room 𝓤 H A W E G6 3
+              Laws'''''.mir (Local.room-whole 𝓤 H A W (Declared'.row Places.the-type) Laws'''''.mir Path.refl)) d16
+
+          d18 : Typed.Typed 𝓤 H A 𝓣 E G5 b15 Δ0 (at18 bs)
+          d18 = Typed.s-seq 𝓤 H A W 𝓣 E G5 G6 b3 b14 Δ0 (Typed.both (s4 bs)) (at17 bs) (Plain.t-call-plain 𝓤 H A W 𝓣 1
+              ps·1 r·1 (claims· .2) (claims· .3) "hnsr_circuit::tables::circuits::survey_circuit" (known .1) E
+              (λ pos β. β) G5 (
                 record { pos = 2; ty = ref1; ref = λ x. x },
                 (
                   record { pos = 3; st = List.[]; d = 0; at = λ x. x },
-                  (record { pos = 7; st = List.[]; d = 0; at = λ x. x }, tt),
+                  (
+                    record { pos = 8; st = List.[]; d = 0; at = λ x. x },
+                    (record { pos = 9; st = List.[]; d = 0; at = λ x. x }, tt),
+                  ),
                 ),
-              ) 9 (1 ∷ List.[]) (Call.sub-id 𝓤 H A W (G2 .slots)) (
+              ) 11 (1 ∷ List.[]) (Call.sub-id 𝓤 H A W (G5 .slots)) (
                 ShrSlice.spares-sslice 𝓤 H A W RelayCircuit.row ref1 1,
                 Shared.reads-sslice 𝓤 H A W RelayCircuit.row ref1 1,
                 Path.refl,
                 (
                   (
                     Yields.yields-copy 𝓤 H A W (λ ρ. Unit) (Declared'.row Places.the-type) Path.refl (Copies.cStruct
-                        Places.the-type Laws'''.the-laws Laws'''.the-copy .copy 𝓤 H A W)
+                        Places.the-type Laws'''''.the-laws Laws'''''.the-copy .copy 𝓤 H A W)
                         (Rows.whole (Declared'.row Places.the-type)) (λ x. x) (λ x. x) (λ ρ told. Local.mem-whole 𝓤 H A
                         W (Declared'.row Places.the-type) ρ) λ ρ told. Local.whole-mem 𝓤 H A W
                         (Declared'.row Places.the-type) ρ,
@@ -808,34 +935,48 @@ module _ (claims· : Claims) where
                   ),
                   (
                     (
-                      Yields.yields-copy 𝓤 H A W (λ ρ. Unit) (Declared'.row Question.the-type) Path.refl (Copies.cStruct
-                          Question.the-type Laws''''.the-laws Laws''''.the-copy .copy 𝓤 H A W)
-                          (Rows.whole (Declared'.row Question.the-type)) (λ x. x) (λ x. x) (λ ρ told. Local.mem-whole 𝓤
-                          H A W (Declared'.row Question.the-type) ρ) λ ρ told. Local.whole-mem 𝓤 H A W
-                          (Declared'.row Question.the-type) ρ,
+                      Yields.yields-copy 𝓤 H A W (λ ρ. Unit) (Declared.row RecordQuestion.the-type) Path.refl (Copies.cEnum
+                          RecordQuestion.the-type Laws''''''.the-laws Laws''''''.the-copy .copy 𝓤 H A W)
+                          (Rows.whole (Declared.row RecordQuestion.the-type)) (λ x. x) (λ x. x) (λ ρ told.
+                          Local.mem-whole 𝓤 H A W (Declared.row RecordQuestion.the-type) ρ) λ ρ told. Local.whole-mem 𝓤
+                          H A W (Declared.row RecordQuestion.the-type) ρ,
                       Path.refl,
                     ),
-                    tt,
+                    (
+                      (
+                        Yields.yields-copy 𝓤 H A W (λ ρ. Unit) (Declared'.row HnsrPeerId.the-type) Path.refl (Copies.cStruct
+                            HnsrPeerId.the-type Laws''''.the-laws Laws''''.the-copy .copy 𝓤 H A W)
+                            (Rows.whole (Declared'.row HnsrPeerId.the-type)) (λ x. x) (λ x. x) (λ ρ told.
+                            Local.mem-whole 𝓤 H A W (Declared'.row HnsrPeerId.the-type) ρ) λ ρ told. Local.whole-mem 𝓤
+                            H A W (Declared'.row HnsrPeerId.the-type) ρ,
+                        Path.refl,
+                      ),
+                      tt,
+                    ),
                   ),
                 ),
-              ) (Reads'.room-gone 𝓤 H A Laws'''''.mir) (tt, tt) Path.refl) d16
+              ) (Reads'.room-gone 𝓤 H A Laws'''''''.mir) (tt, tt) Path.refl) d17
 
-          d18 : Typed.Typed 𝓤 H A 𝓣 E G0 b14 Δ0 at18
-          d18 = Typed.s-seq 𝓤 H A W 𝓣 E G0 G2 b0 b13 Δ0 (Typed.both s0) at17 (Plain.t-call-plain 𝓤 H A W 𝓣 1 ps·0 r·0
-              (claims· .0) (claims· .1) "hnsr_circuit::tables::pending::survey_pending" (known .0) E (λ pos β. β) G0 (
+          d19 : Typed.Typed 𝓤 H A 𝓣 E G4 b16 Δ0 (at19 bs)
+          d19 = Typed.s-seq 𝓤 H A W 𝓣 E G4 G5 b2 b15 Δ0 (Typed.both (s3 bs)) (at18 bs) (Plain.t-call-plain 𝓤 H A W 𝓣 1
+              ps·0 r·0 (claims· .0) (claims· .1) "hnsr_circuit::tables::pending::survey_pending" (known .0) E
+              (λ pos β. β) G4 (
                 record { pos = 1; ty = ref0; ref = λ x. x },
                 (
                   record { pos = 3; st = List.[]; d = 0; at = λ x. x },
-                  (record { pos = 7; st = List.[]; d = 0; at = λ x. x }, tt),
+                  (
+                    record { pos = 8; st = List.[]; d = 0; at = λ x. x },
+                    (record { pos = 9; st = List.[]; d = 0; at = λ x. x }, tt),
+                  ),
                 ),
-              ) 8 (0 ∷ List.[]) (Call.sub-id 𝓤 H A W (G0 .slots)) (
+              ) 10 (0 ∷ List.[]) (Call.sub-id 𝓤 H A W (G4 .slots)) (
                 ShrSlice.spares-sslice 𝓤 H A W RelayPending.row ref0 0,
                 Shared.reads-sslice 𝓤 H A W RelayPending.row ref0 0,
                 Path.refl,
                 (
                   (
                     Yields.yields-copy 𝓤 H A W (λ ρ. Unit) (Declared'.row Places.the-type) Path.refl (Copies.cStruct
-                        Places.the-type Laws'''.the-laws Laws'''.the-copy .copy 𝓤 H A W)
+                        Places.the-type Laws'''''.the-laws Laws'''''.the-copy .copy 𝓤 H A W)
                         (Rows.whole (Declared'.row Places.the-type)) (λ x. x) (λ x. x) (λ ρ told. Local.mem-whole 𝓤 H A
                         W (Declared'.row Places.the-type) ρ) λ ρ told. Local.whole-mem 𝓤 H A W
                         (Declared'.row Places.the-type) ρ,
@@ -843,47 +984,123 @@ module _ (claims· : Claims) where
                   ),
                   (
                     (
-                      Yields.yields-copy 𝓤 H A W (λ ρ. Unit) (Declared'.row Question.the-type) Path.refl (Copies.cStruct
-                          Question.the-type Laws''''.the-laws Laws''''.the-copy .copy 𝓤 H A W)
-                          (Rows.whole (Declared'.row Question.the-type)) (λ x. x) (λ x. x) (λ ρ told. Local.mem-whole 𝓤
-                          H A W (Declared'.row Question.the-type) ρ) λ ρ told. Local.whole-mem 𝓤 H A W
-                          (Declared'.row Question.the-type) ρ,
+                      Yields.yields-copy 𝓤 H A W (λ ρ. Unit) (Declared.row RecordQuestion.the-type) Path.refl (Copies.cEnum
+                          RecordQuestion.the-type Laws''''''.the-laws Laws''''''.the-copy .copy 𝓤 H A W)
+                          (Rows.whole (Declared.row RecordQuestion.the-type)) (λ x. x) (λ x. x) (λ ρ told.
+                          Local.mem-whole 𝓤 H A W (Declared.row RecordQuestion.the-type) ρ) λ ρ told. Local.whole-mem 𝓤
+                          H A W (Declared.row RecordQuestion.the-type) ρ,
                       Path.refl,
                     ),
-                    tt,
+                    (
+                      (
+                        Yields.yields-copy 𝓤 H A W (λ ρ. Unit) (Declared'.row HnsrPeerId.the-type) Path.refl (Copies.cStruct
+                            HnsrPeerId.the-type Laws''''.the-laws Laws''''.the-copy .copy 𝓤 H A W)
+                            (Rows.whole (Declared'.row HnsrPeerId.the-type)) (λ x. x) (λ x. x) (λ ρ told.
+                            Local.mem-whole 𝓤 H A W (Declared'.row HnsrPeerId.the-type) ρ) λ ρ told. Local.whole-mem 𝓤
+                            H A W (Declared'.row HnsrPeerId.the-type) ρ,
+                        Path.refl,
+                      ),
+                      tt,
+                    ),
                   ),
                 ),
-              ) (Reads'.room-gone 𝓤 H A Laws'''''.mir) (tt, tt) Path.refl) d17
+              ) (Reads'.room-gone 𝓤 H A Laws'''''''.mir) (tt, tt) Path.refl) d18
 
-          pub typed : Typed.Typed 𝓤 H A 𝓣 E (Function.Γin 2 ps r xs m κs qs) b14 (Function.Δret 2 ps r xs m κs qs) Φ
-          typed = d18
+          d20 : Typed.Typed 𝓤 H A 𝓣 E G3 b16 Δ0 (at20 bs)
+          d20 = Typed.g-pre 𝓤 H A W 𝓣 E G3 G4 b16 Δ0 (Typed.pass T3 T4 (s2 bs)) (at19 bs) (Scalar.g-room 𝓤 H A W E G3 7
+              Laws'.mir (Local.room-whole 𝓤 H A W (Declared'.row Revoking.the-type) Laws'.mir Path.refl)) d19
+
+          d21 : Typed.Typed 𝓤 H A 𝓣 E G2 b17 Δ0 (at21 bs)
+          d21 = Typed.s-seq 𝓤 H A W 𝓣 E G2 G3 b1 b16 Δ0 (Typed.both (s1 bs)) (at20 bs) (WayStmt.t-way-copy-out 𝓤 H A W
+              E 𝓣 (Declared'.row HnsrPeerId.the-type) Path.refl (Copies.cStruct HnsrPeerId.the-type Laws''''.the-laws
+              Laws''''.the-copy .copy 𝓤 H A W) (λ ρ. Unit) G2 (Row.out 7 (G2 .locals)) (λ u. Row.drop 7 (G2 .locals) u)
+              (G2 .slots) 7 (λ t. (Syntax.field 1) ∷ t) Laws''''.mir Laws''''.mir 9
+              (Rows.whole (Declared'.row HnsrPeerId.the-type)) (λ x. x) (λ u. At.getAt (Revoking.the-type .parts) 1
+              (Revoking.struct .as-values (u .1 .1 .1 .1 .1 .1 .1 .0))) (λ u. (
+                Row.hd 0 (Row.tl (Row.tl (Row.tl (Row.tl (Row.tl (Row.tl (Row.tl bs))))))),
+                Nat._+_ 0 24,
+              )) (λ T′. record {
+                locals = Row.setRow 7 (7, Rows.whole (Declared'.row Revoking.the-type)) T′;
+                slots = G2 .slots;
+              }) (λ u T′ m′. Row.set 7 (7, Rows.whole (Declared'.row Revoking.the-type)) (u .1 .1 .1 .1 .1 .1 .1 .0) T′
+              m′) (λ u. Unit) (λ x. Unit) (Own.told-none 𝓤 H A (G2 .slots)) (DerefMove.learns-nothing 𝓤 H A
+              (Declared'.row HnsrPeerId.the-type)) (λ ρ told u asked. Way'.w-partˢ 𝓤 H A W E
+              (Declared'.row Revoking.the-type) (Declared'.row HnsrPeerId.the-type) Laws'.mir Laws''''.mir 1 24
+              (u .1 .1 .1 .1 .1 .1 .1 .0) (At.getAt (Revoking.the-type .parts) 1
+              (Revoking.struct .as-values (u .1 .1 .1 .1 .1 .1 .1 .0))) (
+                Row.hd 0 (Row.tl (Row.tl (Row.tl (Row.tl (Row.tl (Row.tl (Row.tl bs))))))),
+                0,
+              ) (Way.w-look 𝓤 H A W E (Way.w-local 𝓤 H A W E G2 ρ u (G2 .slots) 7 (Declared'.row Revoking.the-type)
+              (Rows.whole (Declared'.row Revoking.the-type)) (λ x. x) (λ x. x) (u .1 .1 .1 .1 .1 .1 .1 .0) (Local.mem-whole
+              𝓤 H A W (Declared'.row Revoking.the-type) ρ (u .1 .1 .1 .1 .1 .1 .1 .0) (Row.hd 0 (Row.tl
+              (Row.tl (Row.tl (Row.tl (Row.tl (Row.tl (Row.tl bs))))))))) (Local.whole-mem 𝓤 H A W
+              (Declared'.row Revoking.the-type) ρ (u .1 .1 .1 .1 .1 .1 .1 .0) (Row.hd 0 (Row.tl (Row.tl
+              (Row.tl (Row.tl (Row.tl (Row.tl (Row.tl bs))))))))))) Path.refl λ q. Inner.cut-record 𝓤 H A q
+              (Declared'.row Revoking.the-type) HnsrPeerId.the-type 24 (u .1 .1 .1 .1 .1 .1 .1 .0)
+              (u .1 .1 .1 .1 .1 .1 .1 .0) (At.getAt (Revoking.the-type .parts) 1
+              (Revoking.struct .as-values (u .1 .1 .1 .1 .1 .1 .1 .0))) (At.getAt (Revoking.the-type .parts) 1
+              (Revoking.struct .as-values (u .1 .1 .1 .1 .1 .1 .1 .0))) (
+                Row.hd 0 (Row.tl (Row.tl (Row.tl (Row.tl (Row.tl (Row.tl (Row.tl bs))))))),
+                0,
+              ) (Behind.look-at 𝓤 H A W q Revoking.the-type Laws'.the-laws 1 24 Path.refl Path.refl (
+                Row.hd 0 (Row.tl (Row.tl (Row.tl (Row.tl (Row.tl (Row.tl (Row.tl bs))))))),
+                0,
+              ) (u .1 .1 .1 .1 .1 .1 .1 .0) (Revoking.struct .as-values (u .1 .1 .1 .1 .1 .1 .1 .0)) Path.refl))
+              (Reads'.room-gone 𝓤 H A Laws''''.mir) (Yields.makes-mem 𝓤 H A W (λ ρ. Unit)
+              (Declared'.row HnsrPeerId.the-type) Path.refl (Rows.whole (Declared'.row HnsrPeerId.the-type)) (λ x. x)
+              λ ρ told. Local.whole-mem 𝓤 H A W (Declared'.row HnsrPeerId.the-type) ρ) Path.refl Path.refl Path.refl)
+              d20
+
+          d22 : Typed.Typed 𝓤 H A 𝓣 E G0 b18 Δ0 (at22 bs)
+          d22 = Typed.s-seq 𝓤 H A W 𝓣 E G0 G2 b0 b17 Δ0 (Typed.pass T0 T2 (s0 bs)) (at21 bs) (CopyOut.t-copy-told 𝓤 H A
+              W E 𝓣 (Declared.row RecordQuestion.the-type) Path.refl (Laws''''''''.val RecordQuestion.the-type
+              Laws''''''.the-laws) (Laws''''''''.lawful RecordQuestion.the-type Laws''''''.the-laws 𝓤 H A W tt) (Laws''''''''.makes
+              RecordQuestion.the-type Laws''''''.the-plain 𝓤 H A) G0 8 (Scalar.oFld 7 ((Syntax.field 0) ∷ List.[])
+              Laws''''''.mir 0 λ x. Laws''''''''.val RecordQuestion.the-type Laws''''''.the-laws
+              (Revoking.struct .as-values x .0)) (λ m. Revoking.struct .as-values (m .1 .1 .1 .1 .1 .1 .1 .0) .0) (λ m.
+              Laws'''''''''.Is (Declared'.row Revoking.the-type) (m .1 .1 .1 .1 .1 .1 .1 .0) (Laws''''''''''.vals
+              Revoking.the-type Laws'.the-laws (m .1 .1 .1 .1 .1 .1 .1 .0))) (Reads'.room-gone 𝓤 H A Laws''''''.mir) (
+                Reads.reads-field 𝓤 H A W Revoking.the-type Laws'.the-laws 0 Laws''''''.mir 0 Path.refl,
+                Path.refl,
+              ) Path.refl (λ ρ m. Make.tells-row 𝓤 H A W E ρ (Row.out 8 (G0 .locals)) m 7 (Laws'''''''''.Is
+              (Declared'.row Revoking.the-type) (m .1 .1 .1 .1 .1 .1 .1 .0) (Laws''''''''''.vals Revoking.the-type
+              Laws'.the-laws (m .1 .1 .1 .1 .1 .1 .1 .0))) (Make.whole-is 𝓤 H A W E (Declared'.row Revoking.the-type)
+              Path.refl (Laws''''''''''.val Revoking.the-type Laws'.the-laws)
+              (Laws''''''''''.tells Revoking.the-type Laws'.the-laws) ρ 7 (m .1 .1 .1 .1 .1 .1 .1 .0)))
+              (λ m k wa. Path.refl) λ m k wa. Laws''''''''''.owed Revoking.the-type Laws'.the-laws
+              (m .1 .1 .1 .1 .1 .1 .1 .0) (Laws''''''''''.vals Revoking.the-type Laws'.the-laws
+              (m .1 .1 .1 .1 .1 .1 .1 .0)) k .0) d21
+
+          pub typed : Typed.Typed 𝓤 H A 𝓣 E (Function.Γin 2 ps r xs m κs qs) b18 (Function.Δret 2 ps r xs m κs qs)
+              (Φ bs)
+          typed = d22
 
       module _ (κs : Lifetimes.Lfts 2) where
         pub record Args : Type 0 where
           pub pending : Kinds.Den {n = 2} κs (ShrSlice.pShrS RelayPending.row 0 tt)
           pub circuits : Kinds.Den {n = 2} κs (ShrSlice.pShrS RelayCircuit.row 1 tt)
-          pub places : Kinds.Den {n = 2} κs (StructRow.param Places.the-type Laws'''.the-laws Laws'''.the-copy
-              Laws'''.the-plain)
+          pub places : Kinds.Den {n = 2} κs (StructRow.param Places.the-type Laws'''''.the-laws Laws'''''.the-copy
+              Laws'''''.the-plain)
           pub inflight : Kinds.Den {n = 2} κs (Num.pNum Syntax.w64)
           pub room : Kinds.Den {n = 2} κs (Num.pNum Syntax.w64)
-          pub config : Kinds.Den {n = 2} κs (StructRow.param OpaqueRelayConfig.the-type Laws''.the-laws Laws''.the-copy
-              Laws''.the-plain)
-          pub question : Kinds.Den {n = 2} κs (StructRow.param Question.the-type Laws''''.the-laws Laws''''.the-copy
-              Laws''''.the-plain)
+          pub config : Kinds.Den {n = 2} κs (StructRow.param OpaqueRelayConfig.the-type Laws'''.the-laws
+              Laws'''.the-copy Laws'''.the-plain)
+          pub all : Kinds.Den {n = 2} κs (StructRow.param Revoking.the-type Laws'.the-laws Laws'.the-copy
+              Laws'.the-plain)
 
         abbrev pub dens : (a : Args) → Kinds.Dens κs ps
-        dens = λ a. (a .pending, (a .circuits, (a .places, (a .inflight, (a .room, (a .config, (a .question, tt)))))))
+        dens = λ a. (a .pending, (a .circuits, (a .places, (a .inflight, (a .room, (a .config, (a .all, tt)))))))
 
         module _ (args· : Args) where
           pub record Ranges : Type 0 where
             pub inflight : Val.Fits Syntax.w64 (args· .inflight)
             pub room : Val.Fits Syntax.w64 (args· .room)
 
-      abbrev pub m0 : (κs : Lifetimes.Lfts 2) → (args : Args κs) → Typed.Mo T0
-      m0 = λ κs args. (tt, Enter.partsP κs 1 ps xs (dens κs args))
+      abbrev pub m0 : (κs : Lifetimes.Lfts 2) → (args : Args κs) → (blocks : List.List Nat.ℕ) → Typed.Mo T0
+      m0 = λ κs args blocks. (tt, Enter.partsP κs 1 ps xs (dens κs args))
 
-      abbrev W0 : (κs : Lifetimes.Lfts 2) → (args : Args κs) → Typed.Want O0
-      W0 = λ κs args. (
+      abbrev W0 : (κs : Lifetimes.Lfts 2) → (args : Args κs) → (blocks : List.List Nat.ℕ) → Typed.Want O0
+      W0 = λ κs args blocks. (
         λ u. ⊥,
         tt,
         λ u. Enter.Fixs κs 1 ps xs (dens κs args) (u .1) × Post· κs (dens κs args) (Function.resV r κs (u .0)) (Clauses.atExit
@@ -893,239 +1110,380 @@ module _ (claims· : Claims) where
       pub record Start : Type 0 where
         pub κs : Lifetimes.Lfts 2
         pub args : Args κs
+        pub blocks : List.List Nat.ℕ
         pub good : Kinds.GoodsP κs ps (dens κs args)
         pub fits : Ranges κs args
         pub pre : Pre· κs (dens κs args)
 
-      abbrev pub Need-survey-pending-requires : Type 0
-      Need-survey-pending-requires = (c : Start) → s0 .asks (m0 (c .κs) (c .args))
+      abbrev pub m1 : (κs : Lifetimes.Lfts 2) → (args : Args κs) → (blocks : List.List Nat.ℕ) → Typed.Mo T2
+      m1 = λ κs args blocks. s0 blocks (m0 κs args blocks)
 
-      abbrev pub m1 : (before : Start) → (given : s0 .gives (m0 (before .κs) (before .args))) → Typed.Mo T2
-      m1 = λ before given. s0 .next (m0 (before .κs) (before .args)) given
+      abbrev pub m2 : (before : Start) → (given : s1 (before .blocks) .gives
+          (m1 (before .κs) (before .args) (before .blocks))) → Typed.Mo T3
+      m2 = λ before given. s1 (before .blocks) .next (m1 (before .κs) (before .args) (before .blocks)) given
+
+      abbrev pub m3 : (before : Start) → (given : s1 (before .blocks) .gives
+          (m1 (before .κs) (before .args) (before .blocks))) → Typed.Mo T4
+      m3 = λ before given. s2 (before .blocks) (m2 before given)
 
       module _ (before· : Start) where
+        pub record After-peer·own : Type 0 where
+          pub given : s1 (before· .blocks) .gives (m1 (before· .κs) (before· .args) (before· .blocks))
+
+      pub record After-peer : Type 0 where
+        pub before : Start
+        pub peer : After-peer·own before
+
+      abbrev pub Need-survey-pending-requires : Type 0
+      Need-survey-pending-requires = (c : After-peer) → s3 (c .before .blocks) .asks (m3 (c .before) (c .peer .given))
+
+      abbrev pub m4 : (before : After-peer) → (given : s3 (before .before .blocks) .gives
+          (m3 (before .before) (before .peer .given))) → Typed.Mo T5
+      m4 = λ before given. s3 (before .before .blocks) .next (m3 (before .before) (before .peer .given)) given
+
+      module _ (before· : After-peer) where
         abbrev pub After-survey-pending·own : Type 0
-        After-survey-pending·own = Called.Called ps·0 r·0 (claims· .1) T0 args0 (m0 (before· .κs) (before· .args))
+        After-survey-pending·own = Called.Called ps·0 r·0 (claims· .1) T4 (
+          record { pos = 1; ty = ref0; ref = λ x. x },
+          (
+            record { pos = 3; st = List.[]; d = 0; at = λ x. x },
+            (
+              record { pos = 8; st = List.[]; d = 0; at = λ x. x },
+              (record { pos = 9; st = List.[]; d = 0; at = λ x. x }, tt),
+            ),
+          ),
+        ) (m3 (before· .before) (before· .peer .given))
 
       pub record After-survey-pending : Type 0 where
-        pub before : Start
+        pub before : After-peer
         pub survey-pending : After-survey-pending·own before
 
-      abbrev pub After-survey-pending·gave : (c : After-survey-pending) → s0 .gives
-          (m0 (c .before .κs) (c .before .args))
-      After-survey-pending·gave = λ c. Called.given ps·0 r·0 (claims· .1) T0 args0
-          (m0 (c .before .κs) (c .before .args)) (c .survey-pending)
+      abbrev pub After-survey-pending·gave : (c : After-survey-pending) → s3 (c .before .before .blocks) .gives
+          (m3 (c .before .before) (c .before .peer .given))
+      After-survey-pending·gave = λ c. Called.given ps·0 r·0 (claims· .1) T4 (
+        record { pos = 1; ty = ref0; ref = λ x. x },
+        (
+          record { pos = 3; st = List.[]; d = 0; at = λ x. x },
+          (
+            record { pos = 8; st = List.[]; d = 0; at = λ x. x },
+            (record { pos = 9; st = List.[]; d = 0; at = λ x. x }, tt),
+          ),
+        ),
+      ) (m3 (c .before .before) (c .before .peer .given)) (c .survey-pending)
 
       abbrev pub Need-survey-circuit-requires : Type 0
-      Need-survey-circuit-requires = (c : After-survey-pending) → s1 .asks
-          (m1 (c .before) (After-survey-pending·gave c))
+      Need-survey-circuit-requires = (c : After-survey-pending) → s4 (c .before .before .blocks) .asks
+          (m4 (c .before) (After-survey-pending·gave c))
 
-      abbrev pub m2 : (before : After-survey-pending) → (given : s1 .gives
-          (m1 (before .before) (After-survey-pending·gave before))) → Typed.Mo T3
-      m2 = λ before given. s1 .next (m1 (before .before) (After-survey-pending·gave before)) given
+      abbrev pub m5 : (before : After-survey-pending) → (given : s4 (before .before .before .blocks) .gives
+          (m4 (before .before) (After-survey-pending·gave before))) → Typed.Mo T6
+      m5 = λ before given. s4 (before .before .before .blocks) .next
+          (m4 (before .before) (After-survey-pending·gave before)) given
 
       module _ (before· : After-survey-pending) where
         abbrev pub After-survey-circuit·own : Type 0
-        After-survey-circuit·own = Called.Called ps·1 r·1 (claims· .3) T2 args1
-            (m1 (before· .before) (After-survey-pending·gave before·))
+        After-survey-circuit·own = Called.Called ps·1 r·1 (claims· .3) T5 (
+          record { pos = 2; ty = ref1; ref = λ x. x },
+          (
+            record { pos = 3; st = List.[]; d = 0; at = λ x. x },
+            (
+              record { pos = 8; st = List.[]; d = 0; at = λ x. x },
+              (record { pos = 9; st = List.[]; d = 0; at = λ x. x }, tt),
+            ),
+          ),
+        ) (m4 (before· .before) (After-survey-pending·gave before·))
 
       pub record After-survey-circuit : Type 0 where
         pub before : After-survey-pending
         pub survey-circuit : After-survey-circuit·own before
 
-      abbrev pub After-survey-circuit·gave : (c : After-survey-circuit) → s1 .gives (m1 (c .before .before)
-          (After-survey-pending·gave (c .before)))
-      After-survey-circuit·gave = λ c. Called.given ps·1 r·1 (claims· .3) T2 args1 (m1 (c .before .before)
-          (After-survey-pending·gave (c .before))) (c .survey-circuit)
+      abbrev pub After-survey-circuit·gave : (c : After-survey-circuit) → s4 (c .before .before .before .blocks) .gives (m4
+          (c .before .before) (After-survey-pending·gave (c .before)))
+      After-survey-circuit·gave = λ c. Called.given ps·1 r·1 (claims· .3) T5 (
+        record { pos = 2; ty = ref1; ref = λ x. x },
+        (
+          record { pos = 3; st = List.[]; d = 0; at = λ x. x },
+          (
+            record { pos = 8; st = List.[]; d = 0; at = λ x. x },
+            (record { pos = 9; st = List.[]; d = 0; at = λ x. x }, tt),
+          ),
+        ),
+      ) (m4 (c .before .before) (After-survey-pending·gave (c .before))) (c .survey-circuit)
 
-      abbrev pub m3 : (before : After-survey-pending) → (given : s1 .gives
-          (m1 (before .before) (After-survey-pending·gave before))) → Typed.Mo T4
-      m3 = λ before given. s2 (m2 before given)
+      abbrev pub m6 : (before : After-survey-pending) → (given : s4 (before .before .before .blocks) .gives
+          (m4 (before .before) (After-survey-pending·gave before))) → Typed.Mo T7
+      m6 = λ before given. s5 (before .before .before .blocks) (m5 before given)
 
-      abbrev pub m4 : (before : After-survey-pending) → (given : s1 .gives
-          (m1 (before .before) (After-survey-pending·gave before))) → Typed.Mo T5
-      m4 = λ before given. s3 (m3 before given)
+      abbrev pub m7 : (before : After-survey-pending) → (given : s4 (before .before .before .blocks) .gives
+          (m4 (before .before) (After-survey-pending·gave before))) → Typed.Mo T8
+      m7 = λ before given. s6 (before .before .before .blocks) (m6 before given)
+
+      abbrev pub m8 : (before : After-survey-pending) → (given : s4 (before .before .before .blocks) .gives
+          (m4 (before .before) (After-survey-pending·gave before))) → Typed.Mo T9
+      m8 = λ before given. s7 (before .before .before .blocks) (m7 before given)
 
       abbrev pub Need-room-short-requires : Type 0
-      Need-room-short-requires = (c : After-survey-circuit) → s4 .asks (m4 (c .before) (After-survey-circuit·gave c))
+      Need-room-short-requires = (c : After-survey-circuit) → s8 (c .before .before .before .blocks) .asks
+          (m8 (c .before) (After-survey-circuit·gave c))
 
-      abbrev pub m5 : (before : After-survey-circuit) → (given : s4 .gives
-          (m4 (before .before) (After-survey-circuit·gave before))) → Typed.Mo T6
-      m5 = λ before given. s4 .next (m4 (before .before) (After-survey-circuit·gave before)) given
+      abbrev pub m9 : (before : After-survey-circuit) → (given : s8 (before .before .before .before .blocks) .gives
+          (m8 (before .before) (After-survey-circuit·gave before))) → Typed.Mo T10
+      m9 = λ before given. s8 (before .before .before .before .blocks) .next
+          (m8 (before .before) (After-survey-circuit·gave before)) given
 
       module _ (before· : After-survey-circuit) where
         abbrev pub After-room-short·own : Type 0
-        After-room-short·own = Called.Called ps·2 r·2 (claims· .5) T5 args4
-            (m4 (before· .before) (After-survey-circuit·gave before·))
+        After-room-short·own = Called.Called ps·2 r·2 (claims· .5) T9 (
+          Num.vAt 5 λ x. x,
+          (
+            Num.vFld 10 ((Syntax.field 0) ∷ List.[]) 0 λ x. Survey.struct .as-values x .0,
+            (Num.vFld 11 ((Syntax.field 0) ∷ List.[]) 0 λ x. Survey.struct .as-values x .0, tt),
+          ),
+        ) (m8 (before· .before) (After-survey-circuit·gave before·))
 
       pub record After-room-short : Type 0 where
         pub before : After-survey-circuit
         pub room-short : After-room-short·own before
 
-      abbrev pub After-room-short·gave : (c : After-room-short) → s4 .gives (m4 (c .before .before)
-          (After-survey-circuit·gave (c .before)))
-      After-room-short·gave = λ c. Called.given ps·2 r·2 (claims· .5) T5 args4 (m4 (c .before .before)
-          (After-survey-circuit·gave (c .before))) (c .room-short)
+      abbrev pub After-room-short·gave : (c : After-room-short) → s8 (c .before .before .before .before .blocks) .gives (m8
+          (c .before .before) (After-survey-circuit·gave (c .before)))
+      After-room-short·gave = λ c. Called.given ps·2 r·2 (claims· .5) T9 (
+        Num.vAt 5 λ x. x,
+        (
+          Num.vFld 10 ((Syntax.field 0) ∷ List.[]) 0 λ x. Survey.struct .as-values x .0,
+          (Num.vFld 11 ((Syntax.field 0) ∷ List.[]) 0 λ x. Survey.struct .as-values x .0, tt),
+        ),
+      ) (m8 (c .before .before) (After-survey-circuit·gave (c .before))) (c .room-short)
 
-      abbrev pub m6 : (before : After-survey-circuit) → (given : s4 .gives
-          (m4 (before .before) (After-survey-circuit·gave before))) → Typed.Mo T7
-      m6 = λ before given. s5 (m5 before given)
+      abbrev pub m10 : (before : After-survey-circuit) → (given : s8 (before .before .before .before .blocks) .gives
+          (m8 (before .before) (After-survey-circuit·gave before))) → Typed.Mo T11
+      m10 = λ before given. s9 (before .before .before .before .blocks) (m9 before given)
 
-      abbrev pub m7 : (before : After-survey-circuit) → (given : s4 .gives
-          (m4 (before .before) (After-survey-circuit·gave before))) → Typed.Mo T8
-      m7 = λ before given. s6 (m6 before given)
+      abbrev pub m11 : (before : After-survey-circuit) → (given : s8 (before .before .before .before .blocks) .gives
+          (m8 (before .before) (After-survey-circuit·gave before))) → Typed.Mo T12
+      m11 = λ before given. s10 (before .before .before .before .blocks) (m10 before given)
 
       abbrev pub Need-room-answer-requires : Type 0
-      Need-room-answer-requires = (c : After-room-short) → s7 .asks (m7 (c .before) (After-room-short·gave c))
+      Need-room-answer-requires = (c : After-room-short) → s11 (c .before .before .before .before .blocks) .asks
+          (m11 (c .before) (After-room-short·gave c))
 
-      abbrev pub m8 : (before : After-room-short) → (given : s7 .gives
-          (m7 (before .before) (After-room-short·gave before))) → Typed.Mo T9
-      m8 = λ before given. s7 .next (m7 (before .before) (After-room-short·gave before)) given
+      abbrev pub m12 : (before : After-room-short) → (given : s11 (before .before .before .before .before .blocks)
+          .gives (m11 (before .before) (After-room-short·gave before))) → Typed.Mo T13
+      m12 = λ before given. s11 (before .before .before .before .before .blocks) .next
+          (m11 (before .before) (After-room-short·gave before)) given
 
       module _ (before· : After-room-short) where
         abbrev pub After-room-answer·own : Type 0
-        After-room-answer·own = Called.Called ps·3 r·3 (claims· .7) T8 args7
-            (m7 (before· .before) (After-room-short·gave before·))
+        After-room-answer·own = Called.Called ps·3 r·3 (claims· .7) T12 (
+          record { pos = 6; st = List.[]; d = 0; at = λ x. x },
+          (Num.vAt 14 λ x. x, (Num.vAt 15 λ x. x, (Num.vAt 4 λ x. x, (Bool.bAt 12 λ x. x, tt)))),
+        ) (m11 (before· .before) (After-room-short·gave before·))
 
       pub record After-room-answer : Type 0 where
         pub before : After-room-short
         pub room-answer : After-room-answer·own before
 
-      abbrev pub After-room-answer·gave : (c : After-room-answer) → s7 .gives (m7 (c .before .before)
+      abbrev pub After-room-answer·gave : (c : After-room-answer) → s11
+          (c .before .before .before .before .before .blocks) .gives (m11 (c .before .before)
           (After-room-short·gave (c .before)))
-      After-room-answer·gave = λ c. Called.given ps·3 r·3 (claims· .7) T8 args7 (m7 (c .before .before)
-          (After-room-short·gave (c .before))) (c .room-answer)
+      After-room-answer·gave = λ c. Called.given ps·3 r·3 (claims· .7) T12 (
+        record { pos = 6; st = List.[]; d = 0; at = λ x. x },
+        (Num.vAt 14 λ x. x, (Num.vAt 15 λ x. x, (Num.vAt 4 λ x. x, (Bool.bAt 12 λ x. x, tt)))),
+      ) (m11 (c .before .before) (After-room-short·gave (c .before))) (c .room-answer)
 
-      abbrev pub m9 : (before : After-room-short) → (given : s7 .gives
-          (m7 (before .before) (After-room-short·gave before))) → Typed.Mo T10
-      m9 = λ before given. s8 (m8 before given)
+      abbrev pub m13 : (before : After-room-short) → (given : s11 (before .before .before .before .before .blocks)
+          .gives (m11 (before .before) (After-room-short·gave before))) → Typed.Mo T14
+      m13 = λ before given. s12 (before .before .before .before .before .blocks) (m12 before given)
 
-      abbrev pub m10 : (before : After-room-short) → (given : s7 .gives
-          (m7 (before .before) (After-room-short·gave before))) → Typed.Mo T11
-      m10 = λ before given. s9 (m9 before given)
+      abbrev pub m14 : (before : After-room-short) → (given : s11 (before .before .before .before .before .blocks)
+          .gives (m11 (before .before) (After-room-short·gave before))) → Typed.Mo T15
+      m14 = λ before given. s13 (before .before .before .before .before .blocks) (m13 before given)
 
-      abbrev pub m11 : (before : After-room-short) → (given : s7 .gives
-          (m7 (before .before) (After-room-short·gave before))) → Typed.Mo T12
-      m11 = λ before given. s10 (m10 before given)
+      abbrev pub m15 : (before : After-room-short) → (given : s11 (before .before .before .before .before .blocks)
+          .gives (m11 (before .before) (After-room-short·gave before))) → Typed.Mo T16
+      m15 = λ before given. s14 (before .before .before .before .before .blocks) (m14 before given)
 
       abbrev pub Need-entry-found-requires : Type 0
-      Need-entry-found-requires = (c : After-room-answer) → s11 .asks (m11 (c .before) (After-room-answer·gave c))
+      Need-entry-found-requires = (c : After-room-answer) → s15 (c .before .before .before .before .before .blocks)
+          .asks (m15 (c .before) (After-room-answer·gave c))
 
-      abbrev pub m12 : (before : After-room-answer) → (given : s11 .gives
-          (m11 (before .before) (After-room-answer·gave before))) → Typed.Mo T13
-      m12 = λ before given. s11 .next (m11 (before .before) (After-room-answer·gave before)) given
+      abbrev pub m16 : (before : After-room-answer) → (given : s15
+          (before .before .before .before .before .before .blocks) .gives
+          (m15 (before .before) (After-room-answer·gave before))) → Typed.Mo T17
+      m16 = λ before given. s15 (before .before .before .before .before .before .blocks) .next
+          (m15 (before .before) (After-room-answer·gave before)) given
 
       module _ (before· : After-room-answer) where
         abbrev pub After-entry-found·own : Type 0
-        After-entry-found·own = Called.Called ps·4 r·4 (claims· .9) T12 args11
-            (m11 (before· .before) (After-room-answer·gave before·))
+        After-entry-found·own = Called.Called ps·4 r·4 (claims· .9) T16 (
+          record { pos = 13; st = List.[]; d = 0; at = λ x. x },
+          (
+            record { pos = 10; st = List.[]; d = 0; at = λ x. x },
+            (record { pos = 11; st = List.[]; d = 0; at = λ x. x }, tt),
+          ),
+        ) (m15 (before· .before) (After-room-answer·gave before·))
 
       pub record After-entry-found : Type 0 where
         pub before : After-room-answer
         pub entry-found : After-entry-found·own before
 
-      abbrev pub After-entry-found·gave : (c : After-entry-found) → s11 .gives (m11 (c .before .before)
+      abbrev pub After-entry-found·gave : (c : After-entry-found) → s15
+          (c .before .before .before .before .before .before .blocks) .gives (m15 (c .before .before)
           (After-room-answer·gave (c .before)))
-      After-entry-found·gave = λ c. Called.given ps·4 r·4 (claims· .9) T12 args11 (m11 (c .before .before)
-          (After-room-answer·gave (c .before))) (c .entry-found)
+      After-entry-found·gave = λ c. Called.given ps·4 r·4 (claims· .9) T16 (
+        record { pos = 13; st = List.[]; d = 0; at = λ x. x },
+        (
+          record { pos = 10; st = List.[]; d = 0; at = λ x. x },
+          (record { pos = 11; st = List.[]; d = 0; at = λ x. x }, tt),
+        ),
+      ) (m15 (c .before .before) (After-room-answer·gave (c .before))) (c .entry-found)
 
-      abbrev pub m13 : (before : After-room-answer) → (given : s11 .gives
-          (m11 (before .before) (After-room-answer·gave before))) → Typed.Mo T14
-      m13 = λ before given. s12 (m12 before given)
+      abbrev pub m17 : (before : After-room-answer) → (given : s15
+          (before .before .before .before .before .before .blocks) .gives
+          (m15 (before .before) (After-room-answer·gave before))) → Typed.Mo T18
+      m17 = λ before given. s16 (before .before .before .before .before .before .blocks) (m16 before given)
 
-      abbrev pub m14 : (before : After-room-answer) → (given : s11 .gives
-          (m11 (before .before) (After-room-answer·gave before))) → Typed.Mo T15
-      m14 = λ before given. s13 (m13 before given)
+      abbrev pub m18 : (before : After-room-answer) → (given : s15
+          (before .before .before .before .before .before .blocks) .gives
+          (m15 (before .before) (After-room-answer·gave before))) → Typed.Mo T19
+      m18 = λ before given. s17 (before .before .before .before .before .before .blocks) (m17 before given)
 
-      abbrev pub m15 : (before : After-room-answer) → (given : s11 .gives
-          (m11 (before .before) (After-room-answer·gave before))) → Typed.Mo T16
-      m15 = λ before given. s14 (m14 before given)
+      abbrev pub m19 : (before : After-room-answer) → (given : s15
+          (before .before .before .before .before .before .blocks) .gives
+          (m15 (before .before) (After-room-answer·gave before))) → Typed.Mo T20
+      m19 = λ before given. s18 (before .before .before .before .before .before .blocks) (m18 before given)
 
-      abbrev pub m16 : (before : After-room-answer) → (given : s11 .gives
-          (m11 (before .before) (After-room-answer·gave before))) → Typed.Mo T17
-      m16 = λ before given. s15 (m15 before given)
+      abbrev pub m20 : (before : After-room-answer) → (given : s15
+          (before .before .before .before .before .before .blocks) .gives
+          (m15 (before .before) (After-room-answer·gave before))) → Typed.Mo T21
+      m20 = λ before given. s19 (before .before .before .before .before .before .blocks) (m19 before given)
 
-      abbrev pub m17 : (before : After-room-answer) → (given : s11 .gives
-          (m11 (before .before) (After-room-answer·gave before))) → Typed.Mo T18
-      m17 = λ before given. s16 (m16 before given)
+      abbrev pub m21 : (before : After-room-answer) → (given : s15
+          (before .before .before .before .before .before .blocks) .gives
+          (m15 (before .before) (After-room-answer·gave before))) → Typed.Mo T22
+      m21 = λ before given. s20 (before .before .before .before .before .before .blocks) (m20 before given)
 
-      abbrev pub m18 : (before : After-room-answer) → (given : s11 .gives
-          (m11 (before .before) (After-room-answer·gave before))) → Typed.Mo T19
-      m18 = λ before given. s17 (m17 before given)
+      abbrev pub m22 : (before : After-room-answer) → (given : s15
+          (before .before .before .before .before .before .blocks) .gives
+          (m15 (before .before) (After-room-answer·gave before))) → Typed.Mo T23
+      m22 = λ before given. s21 (before .before .before .before .before .before .blocks) (m21 before given)
 
       abbrev pub Need-returns : Type 0
-      Need-returns = (c : After-entry-found) → Post· (c .before .before .before .before .before .κs) (dens
-          (c .before .before .before .before .before .κs) (c .before .before .before .before .before .args)) (Function.resV
-          r (c .before .before .before .before .before .κs) (m18 (c .before) (After-entry-found·gave c) .0)) (Clauses.atExit
-          (Kinds.endedOf 2 ps r) (c .before .before .before .before .before .κs) (dens
-          (c .before .before .before .before .before .κs) (c .before .before .before .before .before .args)) (Enter.lastsP
-          (c .before .before .before .before .before .κs) 1 ps xs (dens (c .before .before .before .before .before .κs)
-          (c .before .before .before .before .before .args)) (m18 (c .before) (After-entry-found·gave c) .1)))
+      Need-returns = (c : After-entry-found) → Post· (c .before .before .before .before .before .before .κs) (dens
+          (c .before .before .before .before .before .before .κs)
+          (c .before .before .before .before .before .before .args)) (Function.resV r
+          (c .before .before .before .before .before .before .κs) (m22 (c .before) (After-entry-found·gave c) .0)) (Clauses.atExit
+          (Kinds.endedOf 2 ps r) (c .before .before .before .before .before .before .κs) (dens
+          (c .before .before .before .before .before .before .κs)
+          (c .before .before .before .before .before .before .args)) (Enter.lastsP
+          (c .before .before .before .before .before .before .κs) 1 ps xs (dens
+          (c .before .before .before .before .before .before .κs)
+          (c .before .before .before .before .before .before .args)) (m22 (c .before) (After-entry-found·gave c) .1)))
 
       module _ (survey-pending-requires : Need-survey-pending-requires)
           (survey-circuit-requires : Need-survey-circuit-requires) (room-short-requires : Need-room-short-requires)
           (room-answer-requires : Need-room-answer-requires) (entry-found-requires : Need-entry-found-requires)
           (returns : Need-returns) where
-        lay5 : (c : After-entry-found) → at6 (W0 (c .before .before .before .before .before .κs)
-            (c .before .before .before .before .before .args)) (m12 (c .before) (After-entry-found·gave c))
+        lay5 : (c : After-entry-found) → at6 (c .before .before .before .before .before .before .blocks) (W0
+            (c .before .before .before .before .before .before .κs)
+            (c .before .before .before .before .before .before .args) (c .before .before .before .before .before
+            .before .blocks)) (m16 (c .before) (After-entry-found·gave c))
         lay5 = λ c. (
           (Path.refl, (Path.refl, (tt, (tt, (tt, (tt, (tt, tt))))))),
           returns record { before = c .before; entry-found = c .entry-found },
         )
 
-        lay4 : (c : After-room-answer) → at10 (W0 (c .before .before .before .before .κs)
-            (c .before .before .before .before .args)) (m8 (c .before) (After-room-answer·gave c))
+        lay4 : (c : After-room-answer) → at10 (c .before .before .before .before .before .blocks) (W0
+            (c .before .before .before .before .before .κs) (c .before .before .before .before .before .args)
+            (c .before .before .before .before .before .blocks)) (m12 (c .before) (After-room-answer·gave c))
         lay4 = λ c. (
           entry-found-requires record { before = c .before; room-answer = c .room-answer },
           λ g. lay5 record {
             before = record { before = c .before; room-answer = c .room-answer };
-            entry-found = Called.called ps·4 r·4 (claims· .9) T12 args11 (m11 (c .before) (After-room-answer·gave c)) g;
+            entry-found = Called.called ps·4 r·4 (claims· .9) T16 (
+              record { pos = 13; st = List.[]; d = 0; at = λ x. x },
+              (
+                record { pos = 10; st = List.[]; d = 0; at = λ x. x },
+                (record { pos = 11; st = List.[]; d = 0; at = λ x. x }, tt),
+              ),
+            ) (m15 (c .before) (After-room-answer·gave c)) g;
           },
         )
 
-        lay3 : (c : After-room-short) → at13 (W0 (c .before .before .before .κs) (c .before .before .before .args))
-            (m5 (c .before) (After-room-short·gave c))
+        lay3 : (c : After-room-short) → at13 (c .before .before .before .before .blocks) (W0
+            (c .before .before .before .before .κs) (c .before .before .before .before .args)
+            (c .before .before .before .before .blocks)) (m9 (c .before) (After-room-short·gave c))
         lay3 = λ c. (
           room-answer-requires record { before = c .before; room-short = c .room-short },
           λ g. lay4 record {
             before = record { before = c .before; room-short = c .room-short };
-            room-answer = Called.called ps·3 r·3 (claims· .7) T8 args7 (m7 (c .before) (After-room-short·gave c)) g;
+            room-answer = Called.called ps·3 r·3 (claims· .7) T12 (
+              record { pos = 6; st = List.[]; d = 0; at = λ x. x },
+              (Num.vAt 14 λ x. x, (Num.vAt 15 λ x. x, (Num.vAt 4 λ x. x, (Bool.bAt 12 λ x. x, tt)))),
+            ) (m11 (c .before) (After-room-short·gave c)) g;
           },
         )
 
-        lay2 : (c : After-survey-circuit) → at16 (W0 (c .before .before .κs) (c .before .before .args))
-            (m2 (c .before) (After-survey-circuit·gave c))
+        lay2 : (c : After-survey-circuit) → at17 (c .before .before .before .blocks) (W0
+            (c .before .before .before .κs) (c .before .before .before .args) (c .before .before .before .blocks))
+            (m5 (c .before) (After-survey-circuit·gave c))
         lay2 = λ c. (
           room-short-requires record { before = c .before; survey-circuit = c .survey-circuit },
           λ g. lay3 record {
             before = record { before = c .before; survey-circuit = c .survey-circuit };
-            room-short = Called.called ps·2 r·2 (claims· .5) T5 args4 (m4 (c .before) (After-survey-circuit·gave c)) g;
+            room-short = Called.called ps·2 r·2 (claims· .5) T9 (
+              Num.vAt 5 λ x. x,
+              (
+                Num.vFld 10 ((Syntax.field 0) ∷ List.[]) 0 λ x. Survey.struct .as-values x .0,
+                (Num.vFld 11 ((Syntax.field 0) ∷ List.[]) 0 λ x. Survey.struct .as-values x .0, tt),
+              ),
+            ) (m8 (c .before) (After-survey-circuit·gave c)) g;
           },
         )
 
-        lay1 : (c : After-survey-pending) → at17 (W0 (c .before .κs) (c .before .args))
-            (m1 (c .before) (After-survey-pending·gave c))
+        lay1 : (c : After-survey-pending) → at18 (c .before .before .blocks) (W0 (c .before .before .κs)
+            (c .before .before .args) (c .before .before .blocks)) (m4 (c .before) (After-survey-pending·gave c))
         lay1 = λ c. (
           survey-circuit-requires record { before = c .before; survey-pending = c .survey-pending },
           λ g. lay2 record {
             before = record { before = c .before; survey-pending = c .survey-pending };
-            survey-circuit = Called.called ps·1 r·1 (claims· .3) T2 args1
-                (m1 (c .before) (After-survey-pending·gave c)) g;
+            survey-circuit = Called.called ps·1 r·1 (claims· .3) T5 (
+              record { pos = 2; ty = ref1; ref = λ x. x },
+              (
+                record { pos = 3; st = List.[]; d = 0; at = λ x. x },
+                (
+                  record { pos = 8; st = List.[]; d = 0; at = λ x. x },
+                  (record { pos = 9; st = List.[]; d = 0; at = λ x. x }, tt),
+                ),
+              ),
+            ) (m4 (c .before) (After-survey-pending·gave c)) g;
           },
         )
 
-        pub laid : (c : Start) → at18 (W0 (c .κs) (c .args)) (m0 (c .κs) (c .args))
+        pub laid : (c : Start) → at22 (c .blocks) (W0 (c .κs) (c .args) (c .blocks)) (m0 (c .κs) (c .args) (c .blocks))
         laid = λ c. (
-          survey-pending-requires c,
-          λ g. lay1 record {
-            before = c;
-            survey-pending = Called.called ps·0 r·0 (claims· .1) T0 args0 (m0 (c .κs) (c .args)) g;
-          },
+          tt,
+          λ g. (
+            survey-pending-requires record { before = c; peer = record { given = g } },
+            λ g'. lay1 record {
+              before = record { before = c; peer = record { given = g } };
+              survey-pending = Called.called ps·0 r·0 (claims· .1) T4 (
+                record { pos = 1; ty = ref0; ref = λ x. x },
+                (
+                  record { pos = 3; st = List.[]; d = 0; at = λ x. x },
+                  (
+                    record { pos = 8; st = List.[]; d = 0; at = λ x. x },
+                    (record { pos = 9; st = List.[]; d = 0; at = λ x. x }, tt),
+                  ),
+                ),
+              ) (m3 c g) g';
+            },
+          ),
         )
 
         module _ (κs : Lifetimes.Lfts 2) (qs : Lifetimes.Shares 2) where
           pub asked : (a : Kinds.Dens κs ps) → (good : Kinds.GoodsP κs ps a) → (pre : Pre· κs a) →
-              (bs : List.List Nat.ℕ) → Φ (Any.wantQ 2 ps r xs m κs qs a (Post· κs a))
+              (bs : List.List Nat.ℕ) → Φ bs (Any.wantQ 2 ps r xs m κs qs a (Post· κs a))
               (Function.init 2 ps r xs m κs qs a)
           asked = λ a good pre bs. laid record {
             κs = κs;
@@ -1136,8 +1494,9 @@ module _ (claims· : Claims) where
               inflight = a .1 .1 .1 .0;
               room = a .1 .1 .1 .1 .0;
               config = a .1 .1 .1 .1 .1 .0;
-              question = a .1 .1 .1 .1 .1 .1 .0;
+              all = a .1 .1 .1 .1 .1 .1 .0;
             };
+            blocks = bs;
             good = good;
             fits = record {
               inflight = record { fits = good .1 .1 .1 .0 .1 };
@@ -1155,5 +1514,5 @@ module _ (claims· : Claims) where
             A W 𝓣 0 ps·4 r·4 (claims· .8) (claims· .9) "hnsr_circuit::calls::revoking::entry_found") where
           pub spec : Statement.Triple 𝓤 (Wp.WpFn 𝓤 H (𝓣 .C) (𝓣 .Λ) (Function.fnOf 2 ps r xs m hs body))
               (Function.plainOf 𝓤 H A 2 ps r Pre· Post·)
-          spec = Plain.t-fn-plain 𝓤 H A W 𝓣 2 ps r xs m hs body (λ κs qs bs. Φ) (λ κs qs bs bd. typed κs qs 𝓤 H A W 𝓣
-              (known0, known1, known2, known3, known4) bs bd) Pre· Post· asked
+          spec = Plain.t-fn-plain 𝓤 H A W 𝓣 2 ps r xs m hs body (λ κs qs bs. Φ bs) (λ κs qs bs bd. typed κs qs 𝓤 H A W
+              𝓣 (known0, known1, known2, known3, known4) bs bd) Pre· Post· asked

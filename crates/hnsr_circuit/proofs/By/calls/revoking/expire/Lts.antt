@@ -23,8 +23,8 @@ use Rattle.hnsr_circuit.proofs.runtime.Relayed
 use Rattle.hnsr_circuit.proofs.runtime.Relayed.Laws as Laws'''''''
 use Rattle.hnsr_circuit.proofs.tables.places.Places
 use Rattle.hnsr_circuit.proofs.tables.places.Places.Laws as Laws''''''''
-use Rattle.hnsr_circuit.proofs.tables.question.Question
-use Rattle.hnsr_circuit.proofs.tables.question.Question.Laws as Laws'''''''''
+use Rattle.hnsr_circuit.proofs.tables.question.RecordQuestion
+use Rattle.hnsr_circuit.proofs.tables.question.RecordQuestion.Laws as Laws'''''''''
 use borrow.Author.Called
 use borrow.Enum.Make
 use borrow.Fn.Any
@@ -56,6 +56,7 @@ use borrow.Struct.CopyOut
 use borrow.Struct.Inner
 use borrow.Struct.Make as Make'
 use borrow.Struct.Reads
+use borrow.Struct.Signed
 use borrow.Struct.Way as Way'
 use borrow.Table.Copies
 use borrow.Table.Own
@@ -70,6 +71,7 @@ use denote.Enum.Laws as Laws''''''''''
 use denote.Laws as Laws'''''''''''
 use denote.Struct.At
 use denote.Struct.Declared as Declared'
+use denote.Struct.Field
 use denote.Struct.Laws as Laws''''''''''''
 use denote.Triple.Clauses
 use denote.Triple.Statement
@@ -162,26 +164,28 @@ abbrev pub r : Kinds.RK 5
 r = StructRow.result Relayed.the-type Laws'''''''.the-laws Laws'''''''.the-copy Laws'''''''.the-plain
 
 abbrev pub xs : List.List Syntax.Ty
-xs = Laws'''''.mir ∷ Laws'''''''''.mir ∷ Laws''''.mir ∷ Laws'.mir ∷ Laws''.mir ∷ Laws'.mir ∷ Laws'.mir ∷ Laws'''.mir ∷
-    Laws''''''.mir ∷ ref0 ∷ slice0 ∷ ref1 ∷ slice1 ∷ (Syntax.tyInt Syntax.w64) ∷ (Syntax.tyInt Syntax.w64) ∷
-    Syntax.tyBool ∷ Laws.mir ∷ Laws.mir ∷ Syntax.tyUnit ∷ ref2 ∷ slice2 ∷ ref3 ∷ slice3 ∷ ref4 ∷ slice4 ∷ ref5 ∷ slice5
-    ∷ ref6 ∷ slice6 ∷ List.[]
+xs = Laws'''''.mir ∷ Laws'''.mir ∷ Laws''''.mir ∷ Laws'.mir ∷ Laws''.mir ∷ Laws'.mir ∷ Laws'.mir ∷ Laws''''''.mir ∷
+    Laws'''''''''.mir ∷ Laws.mir ∷ Laws.mir ∷ ref0 ∷ slice0 ∷ ref1 ∷ slice1 ∷ (Syntax.tyInt Syntax.w64) ∷
+    (Syntax.tyInt Syntax.w64) ∷ Syntax.tyBool ∷ Syntax.tyUnit ∷ ref2 ∷ slice2 ∷ ref3 ∷ slice3 ∷ ref4 ∷ slice4 ∷ ref5 ∷
+    slice5 ∷ ref6 ∷ slice6 ∷ List.[]
 
 abbrev pub m : Nat.ℕ
 m = 7
 
 abbrev pub ps·0 : List.List (Kinds.PK 0)
-ps·0 = (Num.pNum Syntax.w64) ∷ List.[]
+ps·0 = (StructRow.enum-param RecordQuestion.the-type Laws'''''''''.the-laws Laws'''''''''.the-copy
+    Laws'''''''''.the-plain tt) ∷ (StructRow.enum-param Notice.the-type Laws.the-laws Laws.the-copy Laws.the-plain tt)
+    ∷ (StructRow.enum-param Notice.the-type Laws.the-laws Laws.the-copy Laws.the-plain tt) ∷ List.[]
 
 abbrev pub r·0 : Kinds.RK 0
-r·0 = StructRow.result Question.the-type Laws'''''''''.the-laws Laws'''''''''.the-copy Laws'''''''''.the-plain
+r·0 = StructRow.result Revoking.the-type Laws'''.the-laws Laws'''.the-copy Laws'''.the-plain
 
 abbrev pub ps·1 : List.List (Kinds.PK 2)
 ps·1 = (ShrSlice.pShrS RelayPending.row 0 tt) ∷ (ShrSlice.pShrS RelayCircuit.row 1 tt) ∷ (StructRow.param
     Places.the-type Laws''''''''.the-laws Laws''''''''.the-copy Laws''''''''.the-plain) ∷ (Num.pNum Syntax.w64) ∷
     (Num.pNum Syntax.w64) ∷ (StructRow.param OpaqueRelayConfig.the-type Laws'''''.the-laws Laws'''''.the-copy
-    Laws'''''.the-plain) ∷ (StructRow.param Question.the-type Laws'''''''''.the-laws Laws'''''''''.the-copy
-    Laws'''''''''.the-plain) ∷ List.[]
+    Laws'''''.the-plain) ∷ (StructRow.param Revoking.the-type Laws'''.the-laws Laws'''.the-copy Laws'''.the-plain) ∷
+    List.[]
 
 abbrev pub r·1 : Kinds.RK 2
 r·1 = StructRow.result Entered.the-type Laws''''.the-laws Laws''''.the-copy Laws''''.the-plain
@@ -206,45 +210,37 @@ abbrev pub r·4 : Kinds.RK 0
 r·4 = Bool.rBool
 
 abbrev pub ps·5 : List.List (Kinds.PK 0)
-ps·5 = (StructRow.param Question.the-type Laws'''''''''.the-laws Laws'''''''''.the-copy Laws'''''''''.the-plain) ∷ (StructRow.enum-param
-    Notice.the-type Laws.the-laws Laws.the-copy Laws.the-plain tt) ∷ (StructRow.enum-param Notice.the-type
-    Laws.the-laws Laws.the-copy Laws.the-plain tt) ∷ List.[]
-
-abbrev pub r·5 : Kinds.RK 0
-r·5 = StructRow.result Revoking.the-type Laws'''.the-laws Laws'''.the-copy Laws'''.the-plain
-
-abbrev pub ps·6 : List.List (Kinds.PK 0)
-ps·6 = (StructRow.param OpaqueRelayRuntime.the-type Laws''''''.the-laws Laws''''''.the-copy Laws''''''.the-plain) ∷
+ps·5 = (StructRow.param OpaqueRelayRuntime.the-type Laws''''''.the-laws Laws''''''.the-copy Laws''''''.the-plain) ∷
     (Num.pNum Syntax.w64) ∷ List.[]
 
-abbrev pub r·6 : Kinds.RK 0
-r·6 = StructRow.result OpaqueRelayRuntime.the-type Laws''''''.the-laws Laws''''''.the-copy Laws''''''.the-plain
+abbrev pub r·5 : Kinds.RK 0
+r·5 = StructRow.result OpaqueRelayRuntime.the-type Laws''''''.the-laws Laws''''''.the-copy Laws''''''.the-plain
 
-abbrev pub ps·7 : List.List (Kinds.PK 1)
-ps·7 = (MutSlice.pMutS ReservationUsage.row 0 tt) ∷ (StructRow.param Places.the-type Laws''''''''.the-laws
+abbrev pub ps·6 : List.List (Kinds.PK 1)
+ps·6 = (MutSlice.pMutS ReservationUsage.row 0 tt) ∷ (StructRow.param Places.the-type Laws''''''''.the-laws
     Laws''''''''.the-copy Laws''''''''.the-plain) ∷ (Num.pNum Syntax.w64) ∷ List.[]
 
-abbrev pub r·7 : Kinds.RK 1
-r·7 = Unit.rUnit
+abbrev pub r·6 : Kinds.RK 1
+r·6 = Unit.rUnit
 
-abbrev pub ps·8 : List.List (Kinds.PK 4)
-ps·8 = (MutSlice.pMutS RelayPending.row 0 tt) ∷ (MutSlice.pMutS RelayCircuit.row 1 tt) ∷
+abbrev pub ps·7 : List.List (Kinds.PK 4)
+ps·7 = (MutSlice.pMutS RelayPending.row 0 tt) ∷ (MutSlice.pMutS RelayCircuit.row 1 tt) ∷
     (MutSlice.pMutS InflightAction.row 2 tt) ∷ (MutSlice.pMutS (Referent.rtF (Referent.fInt Syntax.w32)) 3 tt) ∷ (StructRow.param
     OpaqueRelayRuntime.the-type Laws''''''.the-laws Laws''''''.the-copy Laws''''''.the-plain) ∷ (StructRow.param
     Places.the-type Laws''''''''.the-laws Laws''''''''.the-copy Laws''''''''.the-plain) ∷ (StructRow.param
     Revoking.the-type Laws'''.the-laws Laws'''.the-copy Laws'''.the-plain) ∷ (StructRow.param Firsts.the-type
     Laws''.the-laws Laws''.the-copy Laws''.the-plain) ∷ List.[]
 
-abbrev pub r·8 : Kinds.RK 4
-r·8 = StructRow.result Relayed.the-type Laws'''''''.the-laws Laws'''''''.the-copy Laws'''''''.the-plain
+abbrev pub r·7 : Kinds.RK 4
+r·7 = StructRow.result Relayed.the-type Laws'''''''.the-laws Laws'''''''.the-copy Laws'''''''.the-plain
 
-abbrev pub ps·9 : List.List (Kinds.PK 0)
-ps·9 = (StructRow.param OpaqueRelayRuntime.the-type Laws''''''.the-laws Laws''''''.the-copy Laws''''''.the-plain) ∷ (StructRow.param
+abbrev pub ps·8 : List.List (Kinds.PK 0)
+ps·8 = (StructRow.param OpaqueRelayRuntime.the-type Laws''''''.the-laws Laws''''''.the-copy Laws''''''.the-plain) ∷ (StructRow.param
     Places.the-type Laws''''''''.the-laws Laws''''''''.the-copy Laws''''''''.the-plain) ∷ (StructRow.enum-param
     HnsrAnswer.the-type Laws'.the-laws Laws'.the-copy Laws'.the-plain tt) ∷ List.[]
 
-abbrev pub r·9 : Kinds.RK 0
-r·9 = StructRow.result Relayed.the-type Laws'''''''.the-laws Laws'''''''.the-copy Laws'''''''.the-plain
+abbrev pub r·8 : Kinds.RK 0
+r·8 = StructRow.result Relayed.the-type Laws'''''''.the-laws Laws'''''''.the-copy Laws'''''''.the-plain
 
 abbrev pub hs : List.List Syntax.Home
 hs = Syntax.valueLocal ∷ Syntax.valueLocal ∷ Syntax.valueLocal ∷ Syntax.valueLocal ∷ Syntax.valueLocal ∷
@@ -260,71 +256,72 @@ abbrev b0 : Syntax.Body
 b0 = Syntax.assign (Syntax.place 9 List.[]) (Syntax.rvOpd (Syntax.copy (Syntax.place 6 ((Syntax.field 4) ∷ List.[]))))
 
 abbrev b1 : Syntax.Body
-b1 = Syntax.call "hnsr_circuit::tables::question::over" ((Syntax.copy (Syntax.place 8 List.[])) ∷ List.[])
-    (Syntax.place 10 List.[])
+b1 = Syntax.assign (Syntax.place 17 List.[]) (Syntax.aggregate ((Syntax.int Syntax.w8 3) ∷
+    (Syntax.copy (Syntax.place 8 List.[])) ∷ List.[]))
 
 abbrev b2 : Syntax.Body
-b2 = Syntax.assign (Syntax.place 18 List.[]) (Syntax.addrOf (Syntax.place 1 ((Syntax.field 0) ∷
-    (Syntax.deref RelayPending.ty) ∷ List.[])))
+b2 = Syntax.assign (Syntax.place 18 List.[]) (Syntax.aggregate ((Syntax.int Syntax.w8 2) ∷ List.[]))
 
 abbrev b3 : Syntax.Body
-b3 = Syntax.assign (Syntax.place 19 List.[]) (Syntax.aggregate ((Syntax.copy (Syntax.place 18 List.[])) ∷
-    (Syntax.copy (Syntax.place 1 ((Syntax.field 1) ∷ List.[]))) ∷ List.[]))
+b3 = Syntax.assign (Syntax.place 19 List.[]) (Syntax.aggregate ((Syntax.int Syntax.w8 3) ∷ List.[]))
 
 abbrev b4 : Syntax.Body
-b4 = Syntax.assign (Syntax.place 20 List.[]) (Syntax.addrOf (Syntax.place 2 ((Syntax.field 0) ∷
-    (Syntax.deref RelayCircuit.ty) ∷ List.[])))
+b4 = Syntax.call "hnsr_circuit::calls::revoking::revoking" ((Syntax.copy (Syntax.place 17 List.[])) ∷
+    (Syntax.copy (Syntax.place 18 List.[])) ∷ (Syntax.copy (Syntax.place 19 List.[])) ∷ List.[])
+    (Syntax.place 10 List.[])
 
 abbrev b5 : Syntax.Body
-b5 = Syntax.assign (Syntax.place 21 List.[]) (Syntax.aggregate ((Syntax.copy (Syntax.place 20 List.[])) ∷
-    (Syntax.copy (Syntax.place 2 ((Syntax.field 1) ∷ List.[]))) ∷ List.[]))
+b5 = Syntax.assign (Syntax.place 20 List.[]) (Syntax.addrOf (Syntax.place 1 ((Syntax.field 0) ∷
+    (Syntax.deref RelayPending.ty) ∷ List.[])))
 
 abbrev b6 : Syntax.Body
-b6 = Syntax.assign (Syntax.place 22 List.[]) (Syntax.rvOpd (Syntax.copy (Syntax.place 4 ((Syntax.field 1) ∷ List.[]))))
+b6 = Syntax.assign (Syntax.place 21 List.[]) (Syntax.aggregate ((Syntax.copy (Syntax.place 20 List.[])) ∷
+    (Syntax.copy (Syntax.place 1 ((Syntax.field 1) ∷ List.[]))) ∷ List.[]))
 
 abbrev b7 : Syntax.Body
-b7 = Syntax.assign (Syntax.place 23 List.[]) (Syntax.rvOpd (Syntax.copy (Syntax.place 5 ((Syntax.field 1) ∷ List.[]))))
+b7 = Syntax.assign (Syntax.place 22 List.[]) (Syntax.addrOf (Syntax.place 2 ((Syntax.field 0) ∷
+    (Syntax.deref RelayCircuit.ty) ∷ List.[])))
 
 abbrev b8 : Syntax.Body
-b8 = Syntax.call "hnsr_circuit::calls::revoking::entry_answer" ((Syntax.copy (Syntax.place 19 List.[])) ∷
-    (Syntax.copy (Syntax.place 21 List.[])) ∷ (Syntax.copy (Syntax.place 7 List.[])) ∷
-    (Syntax.copy (Syntax.place 22 List.[])) ∷ (Syntax.copy (Syntax.place 23 List.[])) ∷
+b8 = Syntax.assign (Syntax.place 23 List.[]) (Syntax.aggregate ((Syntax.copy (Syntax.place 22 List.[])) ∷
+    (Syntax.copy (Syntax.place 2 ((Syntax.field 1) ∷ List.[]))) ∷ List.[]))
+
+abbrev b9 : Syntax.Body
+b9 = Syntax.assign (Syntax.place 24 List.[]) (Syntax.rvOpd (Syntax.copy (Syntax.place 4 ((Syntax.field 1) ∷ List.[]))))
+
+abbrev b10 : Syntax.Body
+b10 = Syntax.assign (Syntax.place 25 List.[]) (Syntax.rvOpd (Syntax.copy (Syntax.place 5 ((Syntax.field 1) ∷ List.[]))))
+
+abbrev b11 : Syntax.Body
+b11 = Syntax.call "hnsr_circuit::calls::revoking::entry_answer" ((Syntax.copy (Syntax.place 21 List.[])) ∷
+    (Syntax.copy (Syntax.place 23 List.[])) ∷ (Syntax.copy (Syntax.place 7 List.[])) ∷
+    (Syntax.copy (Syntax.place 24 List.[])) ∷ (Syntax.copy (Syntax.place 25 List.[])) ∷
     (Syntax.copy (Syntax.place 9 List.[])) ∷ (Syntax.copy (Syntax.place 10 List.[])) ∷ List.[])
     (Syntax.place 11 List.[])
 
-abbrev b9 : Syntax.Body
-b9 = Syntax.assign (Syntax.place 12 List.[]) (Syntax.rvOpd (Syntax.copy (Syntax.place 11 ((Syntax.field 0) ∷ List.[]))))
-
-abbrev b10 : Syntax.Body
-b10 = Syntax.assign (Syntax.place 13 List.[]) (Syntax.rvOpd (Syntax.copy
-    (Syntax.place 11 ((Syntax.field 1) ∷ List.[]))))
-
-abbrev b11 : Syntax.Body
-b11 = Syntax.call "hnsr_circuit::entry::clock_answer" ((Syntax.copy (Syntax.place 6 ((Syntax.field 3) ∷ List.[]))) ∷
-    (Syntax.copy (Syntax.place 8 List.[])) ∷ List.[]) (Syntax.place 14 List.[])
-
 abbrev b12 : Syntax.Body
-b12 = Syntax.call "hnsr_circuit::answer::first_refusal" ((Syntax.copy (Syntax.place 12 List.[])) ∷
-    (Syntax.copy (Syntax.place 14 List.[])) ∷ List.[]) (Syntax.place 15 List.[])
+b12 = Syntax.assign (Syntax.place 12 List.[]) (Syntax.rvOpd (Syntax.copy
+    (Syntax.place 11 ((Syntax.field 0) ∷ List.[]))))
 
 abbrev b13 : Syntax.Body
-b13 = Syntax.call "hnsr_circuit::answer::is_taken" ((Syntax.copy (Syntax.place 15 List.[])) ∷ List.[])
-    (Syntax.place 24 List.[])
+b13 = Syntax.assign (Syntax.place 13 List.[]) (Syntax.rvOpd (Syntax.copy
+    (Syntax.place 11 ((Syntax.field 1) ∷ List.[]))))
 
 abbrev b14 : Syntax.Body
-b14 = Syntax.assign (Syntax.place 25 List.[]) (Syntax.aggregate ((Syntax.int Syntax.w8 2) ∷ List.[]))
+b14 = Syntax.call "hnsr_circuit::entry::clock_answer" ((Syntax.copy (Syntax.place 6 ((Syntax.field 3) ∷ List.[]))) ∷
+    (Syntax.copy (Syntax.place 8 List.[])) ∷ List.[]) (Syntax.place 14 List.[])
 
 abbrev b15 : Syntax.Body
-b15 = Syntax.assign (Syntax.place 26 List.[]) (Syntax.aggregate ((Syntax.int Syntax.w8 3) ∷ List.[]))
+b15 = Syntax.call "hnsr_circuit::answer::first_refusal" ((Syntax.copy (Syntax.place 12 List.[])) ∷
+    (Syntax.copy (Syntax.place 14 List.[])) ∷ List.[]) (Syntax.place 15 List.[])
 
 abbrev b16 : Syntax.Body
-b16 = Syntax.call "hnsr_circuit::calls::revoking::revoking" ((Syntax.copy (Syntax.place 10 List.[])) ∷
-    (Syntax.copy (Syntax.place 25 List.[])) ∷ (Syntax.copy (Syntax.place 26 List.[])) ∷ List.[])
-    (Syntax.place 16 List.[])
+b16 = Syntax.call "hnsr_circuit::answer::is_taken" ((Syntax.copy (Syntax.place 15 List.[])) ∷ List.[])
+    (Syntax.place 26 List.[])
 
 abbrev b17 : Syntax.Body
 b17 = Syntax.call "hnsr_circuit::records::header::with_clock" ((Syntax.copy (Syntax.place 6 List.[])) ∷
-    (Syntax.copy (Syntax.place 8 List.[])) ∷ List.[]) (Syntax.place 17 List.[])
+    (Syntax.copy (Syntax.place 8 List.[])) ∷ List.[]) (Syntax.place 16 List.[])
 
 abbrev b18 : Syntax.Body
 b18 = Syntax.assign (Syntax.place 28 List.[]) (Syntax.addrOf (Syntax.place 3 ((Syntax.field 0) ∷
@@ -335,7 +332,7 @@ b19 = Syntax.assign (Syntax.place 29 List.[]) (Syntax.aggregate ((Syntax.copy (S
     (Syntax.copy (Syntax.place 3 ((Syntax.field 1) ∷ List.[]))) ∷ List.[]))
 
 abbrev b20 : Syntax.Body
-b20 = Syntax.call "hnsr_circuit::tables::stores::drop_lapsed" ((Syntax.copy (Syntax.place 29 List.[])) ∷
+b20 = Syntax.call "hnsr_circuit::tables::ledger::drop_lapsed" ((Syntax.copy (Syntax.place 29 List.[])) ∷
     (Syntax.copy (Syntax.place 7 List.[])) ∷ (Syntax.copy (Syntax.place 8 List.[])) ∷ List.[])
     (Syntax.place 27 List.[])
 
@@ -374,8 +371,8 @@ b28 = Syntax.assign (Syntax.place 37 List.[]) (Syntax.aggregate ((Syntax.copy (S
 abbrev b29 : Syntax.Body
 b29 = Syntax.call "hnsr_circuit::calls::revocation::revoke_all" ((Syntax.copy (Syntax.place 31 List.[])) ∷
     (Syntax.copy (Syntax.place 33 List.[])) ∷ (Syntax.copy (Syntax.place 35 List.[])) ∷
-    (Syntax.copy (Syntax.place 37 List.[])) ∷ (Syntax.copy (Syntax.place 17 List.[])) ∷
-    (Syntax.copy (Syntax.place 7 List.[])) ∷ (Syntax.copy (Syntax.place 16 List.[])) ∷
+    (Syntax.copy (Syntax.place 37 List.[])) ∷ (Syntax.copy (Syntax.place 16 List.[])) ∷
+    (Syntax.copy (Syntax.place 7 List.[])) ∷ (Syntax.copy (Syntax.place 10 List.[])) ∷
     (Syntax.copy (Syntax.place 13 List.[])) ∷ List.[]) (Syntax.place 0 List.[])
 
 abbrev b30 : Syntax.Body
@@ -421,33 +418,33 @@ abbrev b43 : Syntax.Body
 b43 = Syntax.seq b17 b42
 
 abbrev b44 : Syntax.Body
-b44 = Syntax.seq b16 b43
+b44 = Syntax.skip
 
 abbrev b45 : Syntax.Body
-b45 = Syntax.seq b15 b44
+b45 = Syntax.cond (Syntax.copy (Syntax.place 26 List.[])) b43 b44
 
 abbrev b46 : Syntax.Body
-b46 = Syntax.seq b14 b45
-
-abbrev b47 : Syntax.Body
-b47 = Syntax.skip
-
-abbrev b48 : Syntax.Body
-b48 = Syntax.cond (Syntax.copy (Syntax.place 24 List.[])) b46 b47
-
-abbrev b49 : Syntax.Body
-b49 = Syntax.call "hnsr_circuit::runtime::refused" ((Syntax.copy (Syntax.place 6 List.[])) ∷
+b46 = Syntax.call "hnsr_circuit::runtime::refused" ((Syntax.copy (Syntax.place 6 List.[])) ∷
     (Syntax.copy (Syntax.place 7 List.[])) ∷ (Syntax.copy (Syntax.place 15 List.[])) ∷ List.[])
     (Syntax.place 0 List.[])
 
+abbrev b47 : Syntax.Body
+b47 = Syntax.return
+
+abbrev b48 : Syntax.Body
+b48 = Syntax.seq b46 b47
+
+abbrev b49 : Syntax.Body
+b49 = Syntax.seq b45 b48
+
 abbrev b50 : Syntax.Body
-b50 = Syntax.return
+b50 = Syntax.seq b16 b49
 
 abbrev b51 : Syntax.Body
-b51 = Syntax.seq b49 b50
+b51 = Syntax.seq b15 b50
 
 abbrev b52 : Syntax.Body
-b52 = Syntax.seq b48 b51
+b52 = Syntax.seq b14 b51
 
 abbrev b53 : Syntax.Body
 b53 = Syntax.seq b13 b52
@@ -497,8 +494,8 @@ body = b66
 abbrev pub Claims : Type 1
 Claims = Kinds.In 0 ps·0 × Kinds.Out 0 ps·0 r·0 × Kinds.In 2 ps·1 × Kinds.Out 2 ps·1 r·1 × Kinds.In 0 ps·2 × Kinds.Out
     0 ps·2 r·2 × Kinds.In 0 ps·3 × Kinds.Out 0 ps·3 r·3 × Kinds.In 0 ps·4 × Kinds.Out 0 ps·4 r·4 × Kinds.In 0 ps·5 ×
-    Kinds.Out 0 ps·5 r·5 × Kinds.In 0 ps·6 × Kinds.Out 0 ps·6 r·6 × Kinds.In 1 ps·7 × Kinds.Out 1 ps·7 r·7 × Kinds.In 4
-    ps·8 × Kinds.Out 4 ps·8 r·8 × Kinds.In 0 ps·9 × Kinds.Out 0 ps·9 r·9
+    Kinds.Out 0 ps·5 r·5 × Kinds.In 1 ps·6 × Kinds.Out 1 ps·6 r·6 × Kinds.In 4 ps·7 × Kinds.Out 4 ps·7 r·7 × Kinds.In 0
+    ps·8 × Kinds.Out 0 ps·8 r·8
 
 abbrev e0 : Row.Entry
 e0 = (0, Rows.any-gone Laws'''''''.mir)
@@ -531,7 +528,7 @@ abbrev e9 : Row.Entry
 e9 = (9, Rows.any-gone Laws'''''.mir)
 
 abbrev e10 : Row.Entry
-e10 = (10, Rows.any-gone Laws'''''''''.mir)
+e10 = (10, Rows.any-gone Laws'''.mir)
 
 abbrev e11 : Row.Entry
 e11 = (11, Rows.any-gone Laws''''.mir)
@@ -549,37 +546,37 @@ abbrev e15 : Row.Entry
 e15 = (15, Rows.any-gone Laws'.mir)
 
 abbrev e16 : Row.Entry
-e16 = (16, Rows.any-gone Laws'''.mir)
+e16 = (16, Rows.any-gone Laws''''''.mir)
 
 abbrev e17 : Row.Entry
-e17 = (17, Rows.any-gone Laws''''''.mir)
+e17 = (17, Rows.any-gone Laws'''''''''.mir)
 
 abbrev e18 : Row.Entry
-e18 = (18, Rows.any-gone ref0)
+e18 = (18, Rows.any-gone Laws.mir)
 
 abbrev e19 : Row.Entry
-e19 = (19, Rows.any-gone slice0)
+e19 = (19, Rows.any-gone Laws.mir)
 
 abbrev e20 : Row.Entry
-e20 = (20, Rows.any-gone ref1)
+e20 = (20, Rows.any-gone ref0)
 
 abbrev e21 : Row.Entry
-e21 = (21, Rows.any-gone slice1)
+e21 = (21, Rows.any-gone slice0)
 
 abbrev e22 : Row.Entry
-e22 = (22, Rows.any-gone (Syntax.tyInt Syntax.w64))
+e22 = (22, Rows.any-gone ref1)
 
 abbrev e23 : Row.Entry
-e23 = (23, Rows.any-gone (Syntax.tyInt Syntax.w64))
+e23 = (23, Rows.any-gone slice1)
 
 abbrev e24 : Row.Entry
-e24 = (24, Rows.any-gone Syntax.tyBool)
+e24 = (24, Rows.any-gone (Syntax.tyInt Syntax.w64))
 
 abbrev e25 : Row.Entry
-e25 = (25, Rows.any-gone Laws.mir)
+e25 = (25, Rows.any-gone (Syntax.tyInt Syntax.w64))
 
 abbrev e26 : Row.Entry
-e26 = (26, Rows.any-gone Laws.mir)
+e26 = (26, Rows.any-gone Syntax.tyBool)
 
 abbrev e27 : Row.Entry
 e27 = (27, Rows.any-gone Syntax.tyUnit)
@@ -629,32 +626,41 @@ e8·1 = (8, Rows.any-gone (Syntax.tyInt Syntax.w64))
 abbrev e9·1 : Row.Entry
 e9·1 = (9, Rows.whole (Declared'.row OpaqueRelayConfig.the-type))
 
+abbrev e17·1 : Row.Entry
+e17·1 = (17, Rows.whole (Declared.row RecordQuestion.the-type))
+
+abbrev e18·1 : Row.Entry
+e18·1 = (18, Rows.whole (Declared.row Notice.the-type))
+
+abbrev e19·1 : Row.Entry
+e19·1 = (19, Rows.whole (Declared.row Notice.the-type))
+
 abbrev e10·1 : Row.Entry
-e10·1 = (10, Rows.whole (Declared'.row Question.the-type))
+e10·1 = (10, Rows.whole (Declared'.row Revoking.the-type))
 
 abbrev e1·1 : Row.Entry
 e1·1 = (1, Reshare.mslice-owedS RelayPending.row ref7 0 5 Row.off)
 
-abbrev e18·1 : Row.Entry
-e18·1 = (18, Relend.ssptr RelayPending.row ref0 5)
+abbrev e20·1 : Row.Entry
+e20·1 = (20, Relend.ssptr RelayPending.row ref0 5)
 
-abbrev e19·1 : Row.Entry
-e19·1 = (19, Rows.sslice RelayPending.row ref0 5)
+abbrev e21·1 : Row.Entry
+e21·1 = (21, Rows.sslice RelayPending.row ref0 5)
 
 abbrev e2·1 : Row.Entry
 e2·1 = (2, Reshare.mslice-owedS RelayCircuit.row ref8 1 6 Row.off)
 
-abbrev e20·1 : Row.Entry
-e20·1 = (20, Relend.ssptr RelayCircuit.row ref1 6)
-
-abbrev e21·1 : Row.Entry
-e21·1 = (21, Rows.sslice RelayCircuit.row ref1 6)
-
 abbrev e22·1 : Row.Entry
-e22·1 = (22, Rows.sc-here (Row.sInt Syntax.w64))
+e22·1 = (22, Relend.ssptr RelayCircuit.row ref1 6)
 
 abbrev e23·1 : Row.Entry
-e23·1 = (23, Rows.sc-here (Row.sInt Syntax.w64))
+e23·1 = (23, Rows.sslice RelayCircuit.row ref1 6)
+
+abbrev e24·1 : Row.Entry
+e24·1 = (24, Rows.sc-here (Row.sInt Syntax.w64))
+
+abbrev e25·1 : Row.Entry
+e25·1 = (25, Rows.sc-here (Row.sInt Syntax.w64))
 
 abbrev e11·1 : Row.Entry
 e11·1 = (11, Rows.whole (Declared'.row Entered.the-type))
@@ -671,20 +677,11 @@ e14·1 = (14, Rows.whole (Declared.row HnsrAnswer.the-type))
 abbrev e15·1 : Row.Entry
 e15·1 = (15, Rows.whole (Declared.row HnsrAnswer.the-type))
 
-abbrev e24·1 : Row.Entry
-e24·1 = (24, Rows.sc-here Row.sBool)
-
-abbrev e25·1 : Row.Entry
-e25·1 = (25, Rows.whole (Declared.row Notice.the-type))
-
 abbrev e26·1 : Row.Entry
-e26·1 = (26, Rows.whole (Declared.row Notice.the-type))
+e26·1 = (26, Rows.sc-here Row.sBool)
 
 abbrev e16·1 : Row.Entry
-e16·1 = (16, Rows.whole (Declared'.row Revoking.the-type))
-
-abbrev e17·1 : Row.Entry
-e17·1 = (17, Rows.whole (Declared'.row OpaqueRelayRuntime.the-type))
+e16·1 = (16, Rows.whole (Declared'.row OpaqueRelayRuntime.the-type))
 
 abbrev e3·1 : Row.Entry
 e3·1 = (3, Relend.mslice-owed ReservationUsage.row ref9 2 7 Row.off)
@@ -765,166 +762,166 @@ abbrev pub t4 : List.List Row.Entry
 t4 = e0 ∷ e1 ∷ e2 ∷ e3 ∷ e4 ∷ e5 ∷ e6 ∷ e7 ∷ e8 ∷ e9·1 ∷ e10 ∷ e11 ∷ e12 ∷ e13 ∷ e14 ∷ e15 ∷ List.[]
 
 abbrev pub t5 : List.List Row.Entry
-t5 = e0 ∷ e1 ∷ e2 ∷ e3 ∷ e4 ∷ e5 ∷ e6 ∷ e7 ∷ e8 ∷ e9·1 ∷ e10·1 ∷ e11 ∷ e12 ∷ e13 ∷ e14 ∷ e15 ∷ List.[]
+t5 = e16 ∷ e17·1 ∷ e18 ∷ e19 ∷ e20 ∷ e21 ∷ e22 ∷ e23 ∷ e24 ∷ e25 ∷ e26 ∷ e27 ∷ e28 ∷ e29 ∷ e30 ∷ e31 ∷ List.[]
 
 abbrev pub t6 : List.List Row.Entry
-t6 = e0 ∷ e1·1 ∷ e2 ∷ e3 ∷ e4 ∷ e5 ∷ e6 ∷ e7 ∷ e8 ∷ e9·1 ∷ e10·1 ∷ e11 ∷ e12 ∷ e13 ∷ e14 ∷ e15 ∷ List.[]
+t6 = e16 ∷ e17·1 ∷ e18·1 ∷ e19 ∷ e20 ∷ e21 ∷ e22 ∷ e23 ∷ e24 ∷ e25 ∷ e26 ∷ e27 ∷ e28 ∷ e29 ∷ e30 ∷ e31 ∷ List.[]
 
 abbrev pub t7 : List.List Row.Entry
-t7 = e16 ∷ e17 ∷ e18·1 ∷ e19 ∷ e20 ∷ e21 ∷ e22 ∷ e23 ∷ e24 ∷ e25 ∷ e26 ∷ e27 ∷ e28 ∷ e29 ∷ e30 ∷ e31 ∷ List.[]
+t7 = e16 ∷ e17·1 ∷ e18·1 ∷ e19·1 ∷ e20 ∷ e21 ∷ e22 ∷ e23 ∷ e24 ∷ e25 ∷ e26 ∷ e27 ∷ e28 ∷ e29 ∷ e30 ∷ e31 ∷ List.[]
 
 abbrev pub t8 : List.List Row.Entry
-t8 = e16 ∷ e17 ∷ e18 ∷ e19·1 ∷ e20 ∷ e21 ∷ e22 ∷ e23 ∷ e24 ∷ e25 ∷ e26 ∷ e27 ∷ e28 ∷ e29 ∷ e30 ∷ e31 ∷ List.[]
+t8 = e0 ∷ e1 ∷ e2 ∷ e3 ∷ e4 ∷ e5 ∷ e6 ∷ e7 ∷ e8 ∷ e9·1 ∷ e10·1 ∷ e11 ∷ e12 ∷ e13 ∷ e14 ∷ e15 ∷ List.[]
 
 abbrev pub t9 : List.List Row.Entry
-t9 = e0 ∷ e1·1 ∷ e2·1 ∷ e3 ∷ e4 ∷ e5 ∷ e6 ∷ e7 ∷ e8 ∷ e9·1 ∷ e10·1 ∷ e11 ∷ e12 ∷ e13 ∷ e14 ∷ e15 ∷ List.[]
+t9 = e16 ∷ e17 ∷ e18·1 ∷ e19·1 ∷ e20 ∷ e21 ∷ e22 ∷ e23 ∷ e24 ∷ e25 ∷ e26 ∷ e27 ∷ e28 ∷ e29 ∷ e30 ∷ e31 ∷ List.[]
 
 abbrev pub t10 : List.List Row.Entry
-t10 = e16 ∷ e17 ∷ e18 ∷ e19·1 ∷ e20·1 ∷ e21 ∷ e22 ∷ e23 ∷ e24 ∷ e25 ∷ e26 ∷ e27 ∷ e28 ∷ e29 ∷ e30 ∷ e31 ∷ List.[]
+t10 = e16 ∷ e17 ∷ e18 ∷ e19·1 ∷ e20 ∷ e21 ∷ e22 ∷ e23 ∷ e24 ∷ e25 ∷ e26 ∷ e27 ∷ e28 ∷ e29 ∷ e30 ∷ e31 ∷ List.[]
 
 abbrev pub t11 : List.List Row.Entry
-t11 = e16 ∷ e17 ∷ e18 ∷ e19·1 ∷ e20 ∷ e21·1 ∷ e22 ∷ e23 ∷ e24 ∷ e25 ∷ e26 ∷ e27 ∷ e28 ∷ e29 ∷ e30 ∷ e31 ∷ List.[]
+t11 = e0 ∷ e1·1 ∷ e2 ∷ e3 ∷ e4 ∷ e5 ∷ e6 ∷ e7 ∷ e8 ∷ e9·1 ∷ e10·1 ∷ e11 ∷ e12 ∷ e13 ∷ e14 ∷ e15 ∷ List.[]
 
 abbrev pub t12 : List.List Row.Entry
-t12 = e16 ∷ e17 ∷ e18 ∷ e19·1 ∷ e20 ∷ e21·1 ∷ e22·1 ∷ e23 ∷ e24 ∷ e25 ∷ e26 ∷ e27 ∷ e28 ∷ e29 ∷ e30 ∷ e31 ∷ List.[]
+t12 = e16 ∷ e17 ∷ e18 ∷ e19 ∷ e20·1 ∷ e21 ∷ e22 ∷ e23 ∷ e24 ∷ e25 ∷ e26 ∷ e27 ∷ e28 ∷ e29 ∷ e30 ∷ e31 ∷ List.[]
 
 abbrev pub t13 : List.List Row.Entry
-t13 = e16 ∷ e17 ∷ e18 ∷ e19·1 ∷ e20 ∷ e21·1 ∷ e22·1 ∷ e23·1 ∷ e24 ∷ e25 ∷ e26 ∷ e27 ∷ e28 ∷ e29 ∷ e30 ∷ e31 ∷ List.[]
+t13 = e16 ∷ e17 ∷ e18 ∷ e19 ∷ e20 ∷ e21·1 ∷ e22 ∷ e23 ∷ e24 ∷ e25 ∷ e26 ∷ e27 ∷ e28 ∷ e29 ∷ e30 ∷ e31 ∷ List.[]
 
 abbrev pub t14 : List.List Row.Entry
-t14 = e0 ∷ e1·1 ∷ e2·1 ∷ e3 ∷ e4 ∷ e5 ∷ e6 ∷ e7 ∷ e8 ∷ e9·1 ∷ e10·1 ∷ e11·1 ∷ e12 ∷ e13 ∷ e14 ∷ e15 ∷ List.[]
+t14 = e0 ∷ e1·1 ∷ e2·1 ∷ e3 ∷ e4 ∷ e5 ∷ e6 ∷ e7 ∷ e8 ∷ e9·1 ∷ e10·1 ∷ e11 ∷ e12 ∷ e13 ∷ e14 ∷ e15 ∷ List.[]
 
 abbrev pub t15 : List.List Row.Entry
-t15 = e16 ∷ e17 ∷ e18 ∷ e19 ∷ e20 ∷ e21·1 ∷ e22·1 ∷ e23·1 ∷ e24 ∷ e25 ∷ e26 ∷ e27 ∷ e28 ∷ e29 ∷ e30 ∷ e31 ∷ List.[]
+t15 = e16 ∷ e17 ∷ e18 ∷ e19 ∷ e20 ∷ e21·1 ∷ e22·1 ∷ e23 ∷ e24 ∷ e25 ∷ e26 ∷ e27 ∷ e28 ∷ e29 ∷ e30 ∷ e31 ∷ List.[]
 
 abbrev pub t16 : List.List Row.Entry
-t16 = e16 ∷ e17 ∷ e18 ∷ e19 ∷ e20 ∷ e21 ∷ e22·1 ∷ e23·1 ∷ e24 ∷ e25 ∷ e26 ∷ e27 ∷ e28 ∷ e29 ∷ e30 ∷ e31 ∷ List.[]
+t16 = e16 ∷ e17 ∷ e18 ∷ e19 ∷ e20 ∷ e21·1 ∷ e22 ∷ e23·1 ∷ e24 ∷ e25 ∷ e26 ∷ e27 ∷ e28 ∷ e29 ∷ e30 ∷ e31 ∷ List.[]
 
 abbrev pub t17 : List.List Row.Entry
-t17 = e0 ∷ e1·1 ∷ e2·1 ∷ e3 ∷ e4 ∷ e5 ∷ e6 ∷ e7 ∷ e8 ∷ e9 ∷ e10·1 ∷ e11·1 ∷ e12 ∷ e13 ∷ e14 ∷ e15 ∷ List.[]
+t17 = e16 ∷ e17 ∷ e18 ∷ e19 ∷ e20 ∷ e21·1 ∷ e22 ∷ e23·1 ∷ e24·1 ∷ e25 ∷ e26 ∷ e27 ∷ e28 ∷ e29 ∷ e30 ∷ e31 ∷ List.[]
 
 abbrev pub t18 : List.List Row.Entry
-t18 = e16 ∷ e17 ∷ e18 ∷ e19 ∷ e20 ∷ e21 ∷ e22 ∷ e23·1 ∷ e24 ∷ e25 ∷ e26 ∷ e27 ∷ e28 ∷ e29 ∷ e30 ∷ e31 ∷ List.[]
+t18 = e16 ∷ e17 ∷ e18 ∷ e19 ∷ e20 ∷ e21·1 ∷ e22 ∷ e23·1 ∷ e24·1 ∷ e25·1 ∷ e26 ∷ e27 ∷ e28 ∷ e29 ∷ e30 ∷ e31 ∷ List.[]
 
 abbrev pub t19 : List.List Row.Entry
-t19 = e0 ∷ e1 ∷ e2·1 ∷ e3 ∷ e4 ∷ e5 ∷ e6 ∷ e7 ∷ e8 ∷ e9 ∷ e10·1 ∷ e11·1 ∷ e12 ∷ e13 ∷ e14 ∷ e15 ∷ List.[]
+t19 = e0 ∷ e1·1 ∷ e2·1 ∷ e3 ∷ e4 ∷ e5 ∷ e6 ∷ e7 ∷ e8 ∷ e9·1 ∷ e10·1 ∷ e11·1 ∷ e12 ∷ e13 ∷ e14 ∷ e15 ∷ List.[]
 
 abbrev pub t20 : List.List Row.Entry
-t20 = e0 ∷ e1 ∷ e2 ∷ e3 ∷ e4 ∷ e5 ∷ e6 ∷ e7 ∷ e8 ∷ e9 ∷ e10·1 ∷ e11·1 ∷ e12 ∷ e13 ∷ e14 ∷ e15 ∷ List.[]
+t20 = e16 ∷ e17 ∷ e18 ∷ e19 ∷ e20 ∷ e21 ∷ e22 ∷ e23·1 ∷ e24·1 ∷ e25·1 ∷ e26 ∷ e27 ∷ e28 ∷ e29 ∷ e30 ∷ e31 ∷ List.[]
 
 abbrev pub t21 : List.List Row.Entry
-t21 = e0 ∷ e1 ∷ e2 ∷ e3 ∷ e4 ∷ e5 ∷ e6 ∷ e7 ∷ e8 ∷ e9 ∷ e10·1 ∷ e11·1 ∷ e12·1 ∷ e13 ∷ e14 ∷ e15 ∷ List.[]
+t21 = e16 ∷ e17 ∷ e18 ∷ e19 ∷ e20 ∷ e21 ∷ e22 ∷ e23 ∷ e24·1 ∷ e25·1 ∷ e26 ∷ e27 ∷ e28 ∷ e29 ∷ e30 ∷ e31 ∷ List.[]
 
 abbrev pub t22 : List.List Row.Entry
-t22 = e0 ∷ e1 ∷ e2 ∷ e3 ∷ e4 ∷ e5 ∷ e6 ∷ e7 ∷ e8 ∷ e9 ∷ e10·1 ∷ e11·1 ∷ e12·1 ∷ e13·1 ∷ e14 ∷ e15 ∷ List.[]
+t22 = e0 ∷ e1·1 ∷ e2·1 ∷ e3 ∷ e4 ∷ e5 ∷ e6 ∷ e7 ∷ e8 ∷ e9 ∷ e10·1 ∷ e11·1 ∷ e12 ∷ e13 ∷ e14 ∷ e15 ∷ List.[]
 
 abbrev pub t23 : List.List Row.Entry
-t23 = e0 ∷ e1 ∷ e2 ∷ e3 ∷ e4 ∷ e5 ∷ e6 ∷ e7 ∷ e8 ∷ e9 ∷ e10·1 ∷ e11 ∷ e12·1 ∷ e13·1 ∷ e14 ∷ e15 ∷ List.[]
+t23 = e16 ∷ e17 ∷ e18 ∷ e19 ∷ e20 ∷ e21 ∷ e22 ∷ e23 ∷ e24 ∷ e25·1 ∷ e26 ∷ e27 ∷ e28 ∷ e29 ∷ e30 ∷ e31 ∷ List.[]
 
 abbrev pub t24 : List.List Row.Entry
-t24 = e0 ∷ e1 ∷ e2 ∷ e3 ∷ e4 ∷ e5 ∷ e6 ∷ e7 ∷ e8 ∷ e9 ∷ e10·1 ∷ e11 ∷ e12·1 ∷ e13·1 ∷ e14·1 ∷ e15 ∷ List.[]
+t24 = e0 ∷ e1 ∷ e2·1 ∷ e3 ∷ e4 ∷ e5 ∷ e6 ∷ e7 ∷ e8 ∷ e9 ∷ e10·1 ∷ e11·1 ∷ e12 ∷ e13 ∷ e14 ∷ e15 ∷ List.[]
 
 abbrev pub t25 : List.List Row.Entry
-t25 = e0 ∷ e1 ∷ e2 ∷ e3 ∷ e4 ∷ e5 ∷ e6 ∷ e7 ∷ e8 ∷ e9 ∷ e10·1 ∷ e11 ∷ e12·1 ∷ e13·1 ∷ e14·1 ∷ e15·1 ∷ List.[]
+t25 = e0 ∷ e1 ∷ e2 ∷ e3 ∷ e4 ∷ e5 ∷ e6 ∷ e7 ∷ e8 ∷ e9 ∷ e10·1 ∷ e11·1 ∷ e12 ∷ e13 ∷ e14 ∷ e15 ∷ List.[]
 
 abbrev pub t26 : List.List Row.Entry
-t26 = e0 ∷ e1 ∷ e2 ∷ e3 ∷ e4 ∷ e5 ∷ e6 ∷ e7 ∷ e8 ∷ e9 ∷ e10·1 ∷ e11 ∷ e12 ∷ e13·1 ∷ e14·1 ∷ e15·1 ∷ List.[]
+t26 = e0 ∷ e1 ∷ e2 ∷ e3 ∷ e4 ∷ e5 ∷ e6 ∷ e7 ∷ e8 ∷ e9 ∷ e10·1 ∷ e11·1 ∷ e12·1 ∷ e13 ∷ e14 ∷ e15 ∷ List.[]
 
 abbrev pub t27 : List.List Row.Entry
-t27 = e0 ∷ e1 ∷ e2 ∷ e3 ∷ e4 ∷ e5 ∷ e6 ∷ e7 ∷ e8 ∷ e9 ∷ e10·1 ∷ e11 ∷ e12 ∷ e13·1 ∷ e14 ∷ e15·1 ∷ List.[]
+t27 = e0 ∷ e1 ∷ e2 ∷ e3 ∷ e4 ∷ e5 ∷ e6 ∷ e7 ∷ e8 ∷ e9 ∷ e10·1 ∷ e11·1 ∷ e12·1 ∷ e13·1 ∷ e14 ∷ e15 ∷ List.[]
 
 abbrev pub t28 : List.List Row.Entry
-t28 = e16 ∷ e17 ∷ e18 ∷ e19 ∷ e20 ∷ e21 ∷ e22 ∷ e23 ∷ e24·1 ∷ e25 ∷ e26 ∷ e27 ∷ e28 ∷ e29 ∷ e30 ∷ e31 ∷ List.[]
+t28 = e0 ∷ e1 ∷ e2 ∷ e3 ∷ e4 ∷ e5 ∷ e6 ∷ e7 ∷ e8 ∷ e9 ∷ e10·1 ∷ e11 ∷ e12·1 ∷ e13·1 ∷ e14 ∷ e15 ∷ List.[]
 
 abbrev pub t29 : List.List Row.Entry
-t29 = e0 ∷ e1 ∷ e2 ∷ e3 ∷ e4 ∷ e5 ∷ e6 ∷ e7 ∷ e8 ∷ e9 ∷ e10 ∷ e11 ∷ e12 ∷ e13 ∷ e14 ∷ e15·1 ∷ List.[]
+t29 = e0 ∷ e1 ∷ e2 ∷ e3 ∷ e4 ∷ e5 ∷ e6 ∷ e7 ∷ e8 ∷ e9 ∷ e10·1 ∷ e11 ∷ e12·1 ∷ e13·1 ∷ e14·1 ∷ e15 ∷ List.[]
 
 abbrev pub t30 : List.List Row.Entry
-t30 = e0 ∷ e1 ∷ e2 ∷ e3 ∷ e4 ∷ e5 ∷ e6 ∷ e7 ∷ e8 ∷ e9 ∷ e10·1 ∷ e11 ∷ e12 ∷ e13·1 ∷ e14 ∷ e15 ∷ List.[]
+t30 = e0 ∷ e1 ∷ e2 ∷ e3 ∷ e4 ∷ e5 ∷ e6 ∷ e7 ∷ e8 ∷ e9 ∷ e10·1 ∷ e11 ∷ e12·1 ∷ e13·1 ∷ e14·1 ∷ e15·1 ∷ List.[]
 
 abbrev pub t31 : List.List Row.Entry
-t31 = e16 ∷ e17 ∷ e18 ∷ e19 ∷ e20 ∷ e21 ∷ e22 ∷ e23 ∷ e24 ∷ e25·1 ∷ e26 ∷ e27 ∷ e28 ∷ e29 ∷ e30 ∷ e31 ∷ List.[]
+t31 = e0 ∷ e1 ∷ e2 ∷ e3 ∷ e4 ∷ e5 ∷ e6 ∷ e7 ∷ e8 ∷ e9 ∷ e10·1 ∷ e11 ∷ e12 ∷ e13·1 ∷ e14·1 ∷ e15·1 ∷ List.[]
 
 abbrev pub t32 : List.List Row.Entry
-t32 = e16 ∷ e17 ∷ e18 ∷ e19 ∷ e20 ∷ e21 ∷ e22 ∷ e23 ∷ e24 ∷ e25·1 ∷ e26·1 ∷ e27 ∷ e28 ∷ e29 ∷ e30 ∷ e31 ∷ List.[]
+t32 = e0 ∷ e1 ∷ e2 ∷ e3 ∷ e4 ∷ e5 ∷ e6 ∷ e7 ∷ e8 ∷ e9 ∷ e10·1 ∷ e11 ∷ e12 ∷ e13·1 ∷ e14 ∷ e15·1 ∷ List.[]
 
 abbrev pub t33 : List.List Row.Entry
-t33 = e16·1 ∷ e17 ∷ e18 ∷ e19 ∷ e20 ∷ e21 ∷ e22 ∷ e23 ∷ e24 ∷ e25·1 ∷ e26·1 ∷ e27 ∷ e28 ∷ e29 ∷ e30 ∷ e31 ∷ List.[]
+t33 = e16 ∷ e17 ∷ e18 ∷ e19 ∷ e20 ∷ e21 ∷ e22 ∷ e23 ∷ e24 ∷ e25 ∷ e26·1 ∷ e27 ∷ e28 ∷ e29 ∷ e30 ∷ e31 ∷ List.[]
 
 abbrev pub t34 : List.List Row.Entry
-t34 = e0 ∷ e1 ∷ e2 ∷ e3 ∷ e4 ∷ e5 ∷ e6 ∷ e7 ∷ e8 ∷ e9 ∷ e10 ∷ e11 ∷ e12 ∷ e13·1 ∷ e14 ∷ e15 ∷ List.[]
+t34 = e0 ∷ e1 ∷ e2 ∷ e3 ∷ e4 ∷ e5 ∷ e6 ∷ e7 ∷ e8 ∷ e9 ∷ e10 ∷ e11 ∷ e12 ∷ e13 ∷ e14 ∷ e15·1 ∷ List.[]
 
 abbrev pub t35 : List.List Row.Entry
-t35 = e16·1 ∷ e17 ∷ e18 ∷ e19 ∷ e20 ∷ e21 ∷ e22 ∷ e23 ∷ e24 ∷ e25 ∷ e26·1 ∷ e27 ∷ e28 ∷ e29 ∷ e30 ∷ e31 ∷ List.[]
+t35 = e0 ∷ e1 ∷ e2 ∷ e3 ∷ e4 ∷ e5 ∷ e6 ∷ e7 ∷ e8 ∷ e9 ∷ e10·1 ∷ e11 ∷ e12 ∷ e13·1 ∷ e14 ∷ e15 ∷ List.[]
 
 abbrev pub t36 : List.List Row.Entry
 t36 = e16·1 ∷ e17 ∷ e18 ∷ e19 ∷ e20 ∷ e21 ∷ e22 ∷ e23 ∷ e24 ∷ e25 ∷ e26 ∷ e27 ∷ e28 ∷ e29 ∷ e30 ∷ e31 ∷ List.[]
 
 abbrev pub t37 : List.List Row.Entry
-t37 = e16·1 ∷ e17·1 ∷ e18 ∷ e19 ∷ e20 ∷ e21 ∷ e22 ∷ e23 ∷ e24 ∷ e25 ∷ e26 ∷ e27 ∷ e28 ∷ e29 ∷ e30 ∷ e31 ∷ List.[]
+t37 = e0 ∷ e1 ∷ e2 ∷ e3 ∷ e4 ∷ e5 ∷ e6·1 ∷ e7 ∷ e8 ∷ e9 ∷ e10·1 ∷ e11 ∷ e12 ∷ e13·1 ∷ e14 ∷ e15 ∷ List.[]
 
 abbrev pub t38 : List.List Row.Entry
-t38 = e0 ∷ e1 ∷ e2 ∷ e3 ∷ e4 ∷ e5 ∷ e6·1 ∷ e7 ∷ e8 ∷ e9 ∷ e10 ∷ e11 ∷ e12 ∷ e13·1 ∷ e14 ∷ e15 ∷ List.[]
+t38 = e0 ∷ e1 ∷ e2 ∷ e3·1 ∷ e4 ∷ e5 ∷ e6·1 ∷ e7 ∷ e8 ∷ e9 ∷ e10·1 ∷ e11 ∷ e12 ∷ e13·1 ∷ e14 ∷ e15 ∷ List.[]
 
 abbrev pub t39 : List.List Row.Entry
-t39 = e0 ∷ e1 ∷ e2 ∷ e3·1 ∷ e4 ∷ e5 ∷ e6·1 ∷ e7 ∷ e8 ∷ e9 ∷ e10 ∷ e11 ∷ e12 ∷ e13·1 ∷ e14 ∷ e15 ∷ List.[]
+t39 = e16·1 ∷ e17 ∷ e18 ∷ e19 ∷ e20 ∷ e21 ∷ e22 ∷ e23 ∷ e24 ∷ e25 ∷ e26 ∷ e27 ∷ e28·1 ∷ e29 ∷ e30 ∷ e31 ∷ List.[]
 
 abbrev pub t40 : List.List Row.Entry
-t40 = e16·1 ∷ e17·1 ∷ e18 ∷ e19 ∷ e20 ∷ e21 ∷ e22 ∷ e23 ∷ e24 ∷ e25 ∷ e26 ∷ e27 ∷ e28·1 ∷ e29 ∷ e30 ∷ e31 ∷ List.[]
+t40 = e16·1 ∷ e17 ∷ e18 ∷ e19 ∷ e20 ∷ e21 ∷ e22 ∷ e23 ∷ e24 ∷ e25 ∷ e26 ∷ e27 ∷ e28 ∷ e29·1 ∷ e30 ∷ e31 ∷ List.[]
 
 abbrev pub t41 : List.List Row.Entry
-t41 = e16·1 ∷ e17·1 ∷ e18 ∷ e19 ∷ e20 ∷ e21 ∷ e22 ∷ e23 ∷ e24 ∷ e25 ∷ e26 ∷ e27 ∷ e28 ∷ e29·1 ∷ e30 ∷ e31 ∷ List.[]
+t41 = e16·1 ∷ e17 ∷ e18 ∷ e19 ∷ e20 ∷ e21 ∷ e22 ∷ e23 ∷ e24 ∷ e25 ∷ e26 ∷ e27·1 ∷ e28 ∷ e29·2 ∷ e30 ∷ e31 ∷ List.[]
 
 abbrev pub t42 : List.List Row.Entry
-t42 = e16·1 ∷ e17·1 ∷ e18 ∷ e19 ∷ e20 ∷ e21 ∷ e22 ∷ e23 ∷ e24 ∷ e25 ∷ e26 ∷ e27·1 ∷ e28 ∷ e29·2 ∷ e30 ∷ e31 ∷ List.[]
+t42 = e16·1 ∷ e17 ∷ e18 ∷ e19 ∷ e20 ∷ e21 ∷ e22 ∷ e23 ∷ e24 ∷ e25 ∷ e26 ∷ e27 ∷ e28 ∷ e29·2 ∷ e30 ∷ e31 ∷ List.[]
 
 abbrev pub t43 : List.List Row.Entry
-t43 = e16·1 ∷ e17·1 ∷ e18 ∷ e19 ∷ e20 ∷ e21 ∷ e22 ∷ e23 ∷ e24 ∷ e25 ∷ e26 ∷ e27 ∷ e28 ∷ e29·2 ∷ e30 ∷ e31 ∷ List.[]
+t43 = e0 ∷ e1·2 ∷ e2 ∷ e3 ∷ e4 ∷ e5 ∷ e6·1 ∷ e7 ∷ e8 ∷ e9 ∷ e10·1 ∷ e11 ∷ e12 ∷ e13·1 ∷ e14 ∷ e15 ∷ List.[]
 
 abbrev pub t44 : List.List Row.Entry
-t44 = e0 ∷ e1·2 ∷ e2 ∷ e3 ∷ e4 ∷ e5 ∷ e6·1 ∷ e7 ∷ e8 ∷ e9 ∷ e10 ∷ e11 ∷ e12 ∷ e13·1 ∷ e14 ∷ e15 ∷ List.[]
+t44 = e16·1 ∷ e17 ∷ e18 ∷ e19 ∷ e20 ∷ e21 ∷ e22 ∷ e23 ∷ e24 ∷ e25 ∷ e26 ∷ e27 ∷ e28 ∷ e29 ∷ e30·1 ∷ e31 ∷ List.[]
 
 abbrev pub t45 : List.List Row.Entry
-t45 = e16·1 ∷ e17·1 ∷ e18 ∷ e19 ∷ e20 ∷ e21 ∷ e22 ∷ e23 ∷ e24 ∷ e25 ∷ e26 ∷ e27 ∷ e28 ∷ e29 ∷ e30·1 ∷ e31 ∷ List.[]
+t45 = e16·1 ∷ e17 ∷ e18 ∷ e19 ∷ e20 ∷ e21 ∷ e22 ∷ e23 ∷ e24 ∷ e25 ∷ e26 ∷ e27 ∷ e28 ∷ e29 ∷ e30 ∷ e31·1 ∷ List.[]
 
 abbrev pub t46 : List.List Row.Entry
-t46 = e16·1 ∷ e17·1 ∷ e18 ∷ e19 ∷ e20 ∷ e21 ∷ e22 ∷ e23 ∷ e24 ∷ e25 ∷ e26 ∷ e27 ∷ e28 ∷ e29 ∷ e30 ∷ e31·1 ∷ List.[]
+t46 = e0 ∷ e1·2 ∷ e2·2 ∷ e3 ∷ e4 ∷ e5 ∷ e6·1 ∷ e7 ∷ e8 ∷ e9 ∷ e10·1 ∷ e11 ∷ e12 ∷ e13·1 ∷ e14 ∷ e15 ∷ List.[]
 
 abbrev pub t47 : List.List Row.Entry
-t47 = e0 ∷ e1·2 ∷ e2·2 ∷ e3 ∷ e4 ∷ e5 ∷ e6·1 ∷ e7 ∷ e8 ∷ e9 ∷ e10 ∷ e11 ∷ e12 ∷ e13·1 ∷ e14 ∷ e15 ∷ List.[]
+t47 = e32·1 ∷ e33 ∷ e34 ∷ e35 ∷ e36 ∷ e37 ∷ List.[]
 
 abbrev pub t48 : List.List Row.Entry
-t48 = e32·1 ∷ e33 ∷ e34 ∷ e35 ∷ e36 ∷ e37 ∷ List.[]
+t48 = e32 ∷ e33·1 ∷ e34 ∷ e35 ∷ e36 ∷ e37 ∷ List.[]
 
 abbrev pub t49 : List.List Row.Entry
-t49 = e32 ∷ e33·1 ∷ e34 ∷ e35 ∷ e36 ∷ e37 ∷ List.[]
+t49 = e0 ∷ e1·2 ∷ e2·2 ∷ e3 ∷ e4·1 ∷ e5 ∷ e6·1 ∷ e7 ∷ e8 ∷ e9 ∷ e10·1 ∷ e11 ∷ e12 ∷ e13·1 ∷ e14 ∷ e15 ∷ List.[]
 
 abbrev pub t50 : List.List Row.Entry
-t50 = e0 ∷ e1·2 ∷ e2·2 ∷ e3 ∷ e4·1 ∷ e5 ∷ e6·1 ∷ e7 ∷ e8 ∷ e9 ∷ e10 ∷ e11 ∷ e12 ∷ e13·1 ∷ e14 ∷ e15 ∷ List.[]
+t50 = e32 ∷ e33·1 ∷ e34·1 ∷ e35 ∷ e36 ∷ e37 ∷ List.[]
 
 abbrev pub t51 : List.List Row.Entry
-t51 = e32 ∷ e33·1 ∷ e34·1 ∷ e35 ∷ e36 ∷ e37 ∷ List.[]
+t51 = e32 ∷ e33·1 ∷ e34 ∷ e35·1 ∷ e36 ∷ e37 ∷ List.[]
 
 abbrev pub t52 : List.List Row.Entry
-t52 = e32 ∷ e33·1 ∷ e34 ∷ e35·1 ∷ e36 ∷ e37 ∷ List.[]
+t52 = e0 ∷ e1·2 ∷ e2·2 ∷ e3 ∷ e4·1 ∷ e5·1 ∷ e6·1 ∷ e7 ∷ e8 ∷ e9 ∷ e10·1 ∷ e11 ∷ e12 ∷ e13·1 ∷ e14 ∷ e15 ∷ List.[]
 
 abbrev pub t53 : List.List Row.Entry
-t53 = e0 ∷ e1·2 ∷ e2·2 ∷ e3 ∷ e4·1 ∷ e5·1 ∷ e6·1 ∷ e7 ∷ e8 ∷ e9 ∷ e10 ∷ e11 ∷ e12 ∷ e13·1 ∷ e14 ∷ e15 ∷ List.[]
+t53 = e32 ∷ e33·1 ∷ e34 ∷ e35·1 ∷ e36·1 ∷ e37 ∷ List.[]
 
 abbrev pub t54 : List.List Row.Entry
-t54 = e32 ∷ e33·1 ∷ e34 ∷ e35·1 ∷ e36·1 ∷ e37 ∷ List.[]
+t54 = e32 ∷ e33·1 ∷ e34 ∷ e35·1 ∷ e36 ∷ e37·1 ∷ List.[]
 
 abbrev pub t55 : List.List Row.Entry
-t55 = e32 ∷ e33·1 ∷ e34 ∷ e35·1 ∷ e36 ∷ e37·1 ∷ List.[]
+t55 = e0·1 ∷ e1·2 ∷ e2·2 ∷ e3 ∷ e4·1 ∷ e5·1 ∷ e6·1 ∷ e7 ∷ e8 ∷ e9 ∷ e10·1 ∷ e11 ∷ e12 ∷ e13·1 ∷ e14 ∷ e15 ∷ List.[]
 
 abbrev pub t56 : List.List Row.Entry
-t56 = e0·1 ∷ e1·2 ∷ e2·2 ∷ e3 ∷ e4·1 ∷ e5·1 ∷ e6·1 ∷ e7 ∷ e8 ∷ e9 ∷ e10 ∷ e11 ∷ e12 ∷ e13·1 ∷ e14 ∷ e15 ∷ List.[]
+t56 = e16·1 ∷ e17 ∷ e18 ∷ e19 ∷ e20 ∷ e21 ∷ e22 ∷ e23 ∷ e24 ∷ e25 ∷ e26 ∷ e27 ∷ e28 ∷ e29 ∷ e30 ∷ e31·2 ∷ List.[]
 
 abbrev pub t57 : List.List Row.Entry
-t57 = e16·1 ∷ e17·1 ∷ e18 ∷ e19 ∷ e20 ∷ e21 ∷ e22 ∷ e23 ∷ e24 ∷ e25 ∷ e26 ∷ e27 ∷ e28 ∷ e29 ∷ e30 ∷ e31·2 ∷ List.[]
+t57 = e32 ∷ e33·2 ∷ e34 ∷ e35·2 ∷ e36 ∷ e37·2 ∷ List.[]
 
 abbrev pub t58 : List.List Row.Entry
-t58 = e32 ∷ e33·2 ∷ e34 ∷ e35·2 ∷ e36 ∷ e37·2 ∷ List.[]
+t58 = e0·1 ∷ e1·2 ∷ e2·2 ∷ e3 ∷ e4·1 ∷ e5·1 ∷ e6·1 ∷ e7·1 ∷ e8 ∷ e9 ∷ e10·1 ∷ e11 ∷ e12 ∷ e13·1 ∷ e14 ∷ e15 ∷ List.[]
 
 abbrev pub t59 : List.List Row.Entry
 t59 = e0·1 ∷ e1·2 ∷ e2·2 ∷ e3 ∷ e4·1 ∷ e5·1 ∷ e6·1 ∷ e7·1 ∷ e8 ∷ e9 ∷ e10 ∷ e11 ∷ e12 ∷ e13·1 ∷ e14 ∷ e15 ∷ List.[]
@@ -933,40 +930,37 @@ abbrev pub t60 : List.List Row.Entry
 t60 = e0·1 ∷ e1·2 ∷ e2·2 ∷ e3 ∷ e4·1 ∷ e5·1 ∷ e6·1 ∷ e7·1 ∷ e8 ∷ e9 ∷ e10 ∷ e11 ∷ e12 ∷ e13 ∷ e14 ∷ e15 ∷ List.[]
 
 abbrev pub t61 : List.List Row.Entry
-t61 = e16 ∷ e17·1 ∷ e18 ∷ e19 ∷ e20 ∷ e21 ∷ e22 ∷ e23 ∷ e24 ∷ e25 ∷ e26 ∷ e27 ∷ e28 ∷ e29 ∷ e30 ∷ e31·2 ∷ List.[]
+t61 = e16 ∷ e17 ∷ e18 ∷ e19 ∷ e20 ∷ e21 ∷ e22 ∷ e23 ∷ e24 ∷ e25 ∷ e26 ∷ e27 ∷ e28 ∷ e29 ∷ e30 ∷ e31·2 ∷ List.[]
 
 abbrev pub t62 : List.List Row.Entry
-t62 = e16 ∷ e17 ∷ e18 ∷ e19 ∷ e20 ∷ e21 ∷ e22 ∷ e23 ∷ e24 ∷ e25 ∷ e26 ∷ e27 ∷ e28 ∷ e29 ∷ e30 ∷ e31·2 ∷ List.[]
+t62 = e0·1 ∷ e1 ∷ e2·2 ∷ e3 ∷ e4·1 ∷ e5·1 ∷ e6·1 ∷ e7·1 ∷ e8 ∷ e9 ∷ e10 ∷ e11 ∷ e12 ∷ e13 ∷ e14 ∷ e15 ∷ List.[]
 
 abbrev pub t63 : List.List Row.Entry
-t63 = e0·1 ∷ e1 ∷ e2·2 ∷ e3 ∷ e4·1 ∷ e5·1 ∷ e6·1 ∷ e7·1 ∷ e8 ∷ e9 ∷ e10 ∷ e11 ∷ e12 ∷ e13 ∷ e14 ∷ e15 ∷ List.[]
+t63 = e0·1 ∷ e1 ∷ e2 ∷ e3 ∷ e4·1 ∷ e5·1 ∷ e6·1 ∷ e7·1 ∷ e8 ∷ e9 ∷ e10 ∷ e11 ∷ e12 ∷ e13 ∷ e14 ∷ e15 ∷ List.[]
 
 abbrev pub t64 : List.List Row.Entry
-t64 = e0·1 ∷ e1 ∷ e2 ∷ e3 ∷ e4·1 ∷ e5·1 ∷ e6·1 ∷ e7·1 ∷ e8 ∷ e9 ∷ e10 ∷ e11 ∷ e12 ∷ e13 ∷ e14 ∷ e15 ∷ List.[]
+t64 = e32 ∷ e33 ∷ e34 ∷ e35·2 ∷ e36 ∷ e37·2 ∷ List.[]
 
 abbrev pub t65 : List.List Row.Entry
-t65 = e32 ∷ e33 ∷ e34 ∷ e35·2 ∷ e36 ∷ e37·2 ∷ List.[]
+t65 = e0·1 ∷ e1 ∷ e2 ∷ e3 ∷ e4 ∷ e5·1 ∷ e6·1 ∷ e7·1 ∷ e8 ∷ e9 ∷ e10 ∷ e11 ∷ e12 ∷ e13 ∷ e14 ∷ e15 ∷ List.[]
 
 abbrev pub t66 : List.List Row.Entry
-t66 = e0·1 ∷ e1 ∷ e2 ∷ e3 ∷ e4 ∷ e5·1 ∷ e6·1 ∷ e7·1 ∷ e8 ∷ e9 ∷ e10 ∷ e11 ∷ e12 ∷ e13 ∷ e14 ∷ e15 ∷ List.[]
+t66 = e32 ∷ e33 ∷ e34 ∷ e35 ∷ e36 ∷ e37·2 ∷ List.[]
 
 abbrev pub t67 : List.List Row.Entry
-t67 = e32 ∷ e33 ∷ e34 ∷ e35 ∷ e36 ∷ e37·2 ∷ List.[]
+t67 = e0·1 ∷ e1 ∷ e2 ∷ e3 ∷ e4 ∷ e5 ∷ e6·1 ∷ e7·1 ∷ e8 ∷ e9 ∷ e10 ∷ e11 ∷ e12 ∷ e13 ∷ e14 ∷ e15 ∷ List.[]
 
 abbrev pub t68 : List.List Row.Entry
-t68 = e0·1 ∷ e1 ∷ e2 ∷ e3 ∷ e4 ∷ e5 ∷ e6·1 ∷ e7·1 ∷ e8 ∷ e9 ∷ e10 ∷ e11 ∷ e12 ∷ e13 ∷ e14 ∷ e15 ∷ List.[]
+t68 = e0 ∷ e1 ∷ e2 ∷ e3 ∷ e4 ∷ e5 ∷ e6 ∷ e7 ∷ e8 ∷ e9 ∷ e10 ∷ e11 ∷ e12 ∷ e13·1 ∷ e14 ∷ e15·1 ∷ List.[]
 
 abbrev pub t69 : List.List Row.Entry
-t69 = e0 ∷ e1 ∷ e2 ∷ e3 ∷ e4 ∷ e5 ∷ e6 ∷ e7 ∷ e8 ∷ e9 ∷ e10 ∷ e11 ∷ e12 ∷ e13·1 ∷ e14 ∷ e15·1 ∷ List.[]
+t69 = e0·1 ∷ e1 ∷ e2 ∷ e3 ∷ e4 ∷ e5 ∷ e6 ∷ e7 ∷ e8 ∷ e9 ∷ e10 ∷ e11 ∷ e12 ∷ e13 ∷ e14 ∷ e15·1 ∷ List.[]
 
 abbrev pub t70 : List.List Row.Entry
-t70 = e0·1 ∷ e1 ∷ e2 ∷ e3 ∷ e4 ∷ e5 ∷ e6 ∷ e7 ∷ e8 ∷ e9 ∷ e10 ∷ e11 ∷ e12 ∷ e13 ∷ e14 ∷ e15·1 ∷ List.[]
+t70 = e0·1 ∷ e1 ∷ e2 ∷ e3 ∷ e4 ∷ e5 ∷ e6·1 ∷ e7 ∷ e8 ∷ e9 ∷ e10 ∷ e11 ∷ e12 ∷ e13 ∷ e14 ∷ e15·1 ∷ List.[]
 
 abbrev pub t71 : List.List Row.Entry
-t71 = e0·1 ∷ e1 ∷ e2 ∷ e3 ∷ e4 ∷ e5 ∷ e6·1 ∷ e7 ∷ e8 ∷ e9 ∷ e10 ∷ e11 ∷ e12 ∷ e13 ∷ e14 ∷ e15·1 ∷ List.[]
-
-abbrev pub t72 : List.List Row.Entry
-t72 = e0·1 ∷ e1 ∷ e2 ∷ e3 ∷ e4 ∷ e5 ∷ e6·1 ∷ e7·1 ∷ e8 ∷ e9 ∷ e10 ∷ e11 ∷ e12 ∷ e13 ∷ e14 ∷ e15·1 ∷ List.[]
+t71 = e0·1 ∷ e1 ∷ e2 ∷ e3 ∷ e4 ∷ e5 ∷ e6·1 ∷ e7·1 ∷ e8 ∷ e9 ∷ e10 ∷ e11 ∷ e12 ∷ e13 ∷ e14 ∷ e15·1 ∷ List.[]
 
 abbrev pub T0 : Row.Cx
 T0 = record { locals = List._++_ t0 (List._++_ t1 t2); slots = List.[] }
@@ -981,199 +975,199 @@ abbrev pub T3 : Row.Cx
 T3 = record { locals = List._++_ t4 (List._++_ t1 t2); slots = List.[] }
 
 abbrev pub T4 : Row.Cx
-T4 = record { locals = List._++_ t5 (List._++_ t1 t2); slots = List.[] }
+T4 = record { locals = List._++_ t4 (List._++_ t5 t2); slots = List.[] }
+
+abbrev pub T5 : Row.Cx
+T5 = record { locals = List._++_ t4 (List._++_ t6 t2); slots = List.[] }
 
 abbrev pub T6 : Row.Cx
-T6 = record { locals = List._++_ t6 (List._++_ t7 t2); slots = List.[] }
+T6 = record { locals = List._++_ t4 (List._++_ t7 t2); slots = List.[] }
 
 abbrev pub T7 : Row.Cx
-T7 = record { locals = List._++_ t6 (List._++_ t8 t2); slots = List.[] }
+T7 = record { locals = List._++_ t8 (List._++_ t7 t2); slots = List.[] }
+
+abbrev pub T8 : Row.Cx
+T8 = record { locals = List._++_ t8 (List._++_ t9 t2); slots = List.[] }
 
 abbrev pub T9 : Row.Cx
-T9 = record { locals = List._++_ t9 (List._++_ t10 t2); slots = List.[] }
+T9 = record { locals = List._++_ t8 (List._++_ t10 t2); slots = List.[] }
 
 abbrev pub T10 : Row.Cx
-T10 = record { locals = List._++_ t9 (List._++_ t11 t2); slots = List.[] }
-
-abbrev pub T11 : Row.Cx
-T11 = record { locals = List._++_ t9 (List._++_ t12 t2); slots = List.[] }
+T10 = record { locals = List._++_ t8 (List._++_ t1 t2); slots = List.[] }
 
 abbrev pub T12 : Row.Cx
-T12 = record { locals = List._++_ t9 (List._++_ t13 t2); slots = List.[] }
+T12 = record { locals = List._++_ t11 (List._++_ t12 t2); slots = List.[] }
 
 abbrev pub T13 : Row.Cx
-T13 = record { locals = List._++_ t14 (List._++_ t13 t2); slots = List.[] }
-
-abbrev pub T14 : Row.Cx
-T14 = record { locals = List._++_ t14 (List._++_ t15 t2); slots = List.[] }
+T13 = record { locals = List._++_ t11 (List._++_ t13 t2); slots = List.[] }
 
 abbrev pub T15 : Row.Cx
-T15 = record { locals = List._++_ t14 (List._++_ t16 t2); slots = List.[] }
+T15 = record { locals = List._++_ t14 (List._++_ t15 t2); slots = List.[] }
 
 abbrev pub T16 : Row.Cx
-T16 = record { locals = List._++_ t17 (List._++_ t16 t2); slots = List.[] }
+T16 = record { locals = List._++_ t14 (List._++_ t16 t2); slots = List.[] }
 
 abbrev pub T17 : Row.Cx
-T17 = record { locals = List._++_ t17 (List._++_ t18 t2); slots = List.[] }
+T17 = record { locals = List._++_ t14 (List._++_ t17 t2); slots = List.[] }
 
 abbrev pub T18 : Row.Cx
-T18 = record { locals = List._++_ t17 (List._++_ t1 t2); slots = List.[] }
+T18 = record { locals = List._++_ t14 (List._++_ t18 t2); slots = List.[] }
+
+abbrev pub T19 : Row.Cx
+T19 = record { locals = List._++_ t19 (List._++_ t18 t2); slots = List.[] }
 
 abbrev pub T20 : Row.Cx
-T20 = record { locals = List._++_ t19 (List._++_ t1 t2); slots = List.[] }
+T20 = record { locals = List._++_ t19 (List._++_ t20 t2); slots = List.[] }
+
+abbrev pub T21 : Row.Cx
+T21 = record { locals = List._++_ t19 (List._++_ t21 t2); slots = List.[] }
+
+abbrev pub T22 : Row.Cx
+T22 = record { locals = List._++_ t22 (List._++_ t21 t2); slots = List.[] }
 
 abbrev pub T23 : Row.Cx
-T23 = record { locals = List._++_ t20 (List._++_ t1 t2); slots = List.[] }
+T23 = record { locals = List._++_ t22 (List._++_ t23 t2); slots = List.[] }
 
-abbrev pub T25 : Row.Cx
-T25 = record { locals = List._++_ t21 (List._++_ t1 t2); slots = List.[] }
+abbrev pub T24 : Row.Cx
+T24 = record { locals = List._++_ t22 (List._++_ t1 t2); slots = List.[] }
 
 abbrev pub T26 : Row.Cx
-T26 = record { locals = List._++_ t22 (List._++_ t1 t2); slots = List.[] }
-
-abbrev pub T27 : Row.Cx
-T27 = record { locals = List._++_ t23 (List._++_ t1 t2); slots = List.[] }
-
-abbrev pub T28 : Row.Cx
-T28 = record { locals = List._++_ t24 (List._++_ t1 t2); slots = List.[] }
+T26 = record { locals = List._++_ t24 (List._++_ t1 t2); slots = List.[] }
 
 abbrev pub T29 : Row.Cx
 T29 = record { locals = List._++_ t25 (List._++_ t1 t2); slots = List.[] }
 
-abbrev pub T30 : Row.Cx
-T30 = record { locals = List._++_ t26 (List._++_ t1 t2); slots = List.[] }
-
 abbrev pub T31 : Row.Cx
-T31 = record { locals = List._++_ t27 (List._++_ t1 t2); slots = List.[] }
+T31 = record { locals = List._++_ t26 (List._++_ t1 t2); slots = List.[] }
 
 abbrev pub T32 : Row.Cx
-T32 = record { locals = List._++_ t27 (List._++_ t28 t2); slots = List.[] }
+T32 = record { locals = List._++_ t27 (List._++_ t1 t2); slots = List.[] }
 
 abbrev pub T33 : Row.Cx
-T33 = record { locals = List._++_ t29 (List._++_ t1 t2); slots = List.[] }
+T33 = record { locals = List._++_ t28 (List._++_ t1 t2); slots = List.[] }
 
 abbrev pub T34 : Row.Cx
-T34 = record { locals = List._++_ t30 (List._++_ t28 t2); slots = List.[] }
+T34 = record { locals = List._++_ t29 (List._++_ t1 t2); slots = List.[] }
 
 abbrev pub T35 : Row.Cx
 T35 = record { locals = List._++_ t30 (List._++_ t1 t2); slots = List.[] }
 
 abbrev pub T36 : Row.Cx
-T36 = record { locals = List._++_ t30 (List._++_ t31 t2); slots = List.[] }
+T36 = record { locals = List._++_ t31 (List._++_ t1 t2); slots = List.[] }
 
 abbrev pub T37 : Row.Cx
-T37 = record { locals = List._++_ t30 (List._++_ t32 t2); slots = List.[] }
+T37 = record { locals = List._++_ t32 (List._++_ t1 t2); slots = List.[] }
 
 abbrev pub T38 : Row.Cx
-T38 = record { locals = List._++_ t30 (List._++_ t33 t2); slots = List.[] }
+T38 = record { locals = List._++_ t32 (List._++_ t33 t2); slots = List.[] }
 
 abbrev pub T39 : Row.Cx
-T39 = record { locals = List._++_ t34 (List._++_ t33 t2); slots = List.[] }
+T39 = record { locals = List._++_ t34 (List._++_ t1 t2); slots = List.[] }
 
 abbrev pub T40 : Row.Cx
-T40 = record { locals = List._++_ t34 (List._++_ t35 t2); slots = List.[] }
+T40 = record { locals = List._++_ t35 (List._++_ t33 t2); slots = List.[] }
 
 abbrev pub T41 : Row.Cx
-T41 = record { locals = List._++_ t34 (List._++_ t36 t2); slots = List.[] }
+T41 = record { locals = List._++_ t35 (List._++_ t1 t2); slots = List.[] }
 
 abbrev pub T42 : Row.Cx
-T42 = record { locals = List._++_ t34 (List._++_ t37 t2); slots = List.[] }
+T42 = record { locals = List._++_ t35 (List._++_ t36 t2); slots = List.[] }
 
 abbrev pub T43 : Row.Cx
-T43 = record { locals = List._++_ t38 (List._++_ t37 t2); slots = List.[] }
+T43 = record { locals = List._++_ t37 (List._++_ t36 t2); slots = List.[] }
 
 abbrev pub T45 : Row.Cx
-T45 = record { locals = List._++_ t39 (List._++_ t40 t2); slots = List.[] }
+T45 = record { locals = List._++_ t38 (List._++_ t39 t2); slots = List.[] }
 
 abbrev pub T46 : Row.Cx
-T46 = record { locals = List._++_ t39 (List._++_ t41 t2); slots = List.[] }
+T46 = record { locals = List._++_ t38 (List._++_ t40 t2); slots = List.[] }
 
 abbrev pub T47 : Row.Cx
-T47 = record { locals = List._++_ t39 (List._++_ t42 t2); slots = List.[] }
+T47 = record { locals = List._++_ t38 (List._++_ t41 t2); slots = List.[] }
 
 abbrev pub T48 : Row.Cx
-T48 = record { locals = List._++_ t39 (List._++_ t43 t2); slots = List.[] }
+T48 = record { locals = List._++_ t38 (List._++_ t42 t2); slots = List.[] }
 
 abbrev pub T50 : Row.Cx
-T50 = record { locals = List._++_ t38 (List._++_ t37 t2); slots = List.[] }
+T50 = record { locals = List._++_ t37 (List._++_ t36 t2); slots = List.[] }
 
 abbrev pub T53 : Row.Cx
-T53 = record { locals = List._++_ t44 (List._++_ t45 t2); slots = List.[] }
+T53 = record { locals = List._++_ t43 (List._++_ t44 t2); slots = List.[] }
 
 abbrev pub T54 : Row.Cx
-T54 = record { locals = List._++_ t44 (List._++_ t46 t2); slots = List.[] }
+T54 = record { locals = List._++_ t43 (List._++_ t45 t2); slots = List.[] }
 
 abbrev pub T56 : Row.Cx
-T56 = record { locals = List._++_ t47 (List._++_ t46 t48); slots = List.[] }
+T56 = record { locals = List._++_ t46 (List._++_ t45 t47); slots = List.[] }
 
 abbrev pub T57 : Row.Cx
-T57 = record { locals = List._++_ t47 (List._++_ t46 t49); slots = List.[] }
+T57 = record { locals = List._++_ t46 (List._++_ t45 t48); slots = List.[] }
 
 abbrev pub T59 : Row.Cx
-T59 = record { locals = List._++_ t50 (List._++_ t46 t51); slots = List.[] }
+T59 = record { locals = List._++_ t49 (List._++_ t45 t50); slots = List.[] }
 
 abbrev pub T60 : Row.Cx
-T60 = record { locals = List._++_ t50 (List._++_ t46 t52); slots = List.[] }
+T60 = record { locals = List._++_ t49 (List._++_ t45 t51); slots = List.[] }
 
 abbrev pub T62 : Row.Cx
-T62 = record { locals = List._++_ t53 (List._++_ t46 t54); slots = List.[] }
+T62 = record { locals = List._++_ t52 (List._++_ t45 t53); slots = List.[] }
 
 abbrev pub T63 : Row.Cx
-T63 = record { locals = List._++_ t53 (List._++_ t46 t55); slots = List.[] }
+T63 = record { locals = List._++_ t52 (List._++_ t45 t54); slots = List.[] }
 
 abbrev pub T64 : Row.Cx
-T64 = record { locals = List._++_ t56 (List._++_ t57 t58); slots = List.[] }
+T64 = record { locals = List._++_ t55 (List._++_ t56 t57); slots = List.[] }
 
 abbrev pub T65 : Row.Cx
-T65 = record { locals = List._++_ t59 (List._++_ t57 t58); slots = List.[] }
+T65 = record { locals = List._++_ t58 (List._++_ t56 t57); slots = List.[] }
 
 abbrev pub T66 : Row.Cx
-T66 = record { locals = List._++_ t60 (List._++_ t57 t58); slots = List.[] }
+T66 = record { locals = List._++_ t59 (List._++_ t56 t57); slots = List.[] }
 
 abbrev pub T67 : Row.Cx
-T67 = record { locals = List._++_ t60 (List._++_ t61 t58); slots = List.[] }
+T67 = record { locals = List._++_ t60 (List._++_ t56 t57); slots = List.[] }
 
 abbrev pub T68 : Row.Cx
-T68 = record { locals = List._++_ t60 (List._++_ t62 t58); slots = List.[] }
+T68 = record { locals = List._++_ t60 (List._++_ t61 t57); slots = List.[] }
 
 abbrev pub T70 : Row.Cx
-T70 = record { locals = List._++_ t63 (List._++_ t1 t58); slots = List.[] }
+T70 = record { locals = List._++_ t62 (List._++_ t1 t57); slots = List.[] }
 
 abbrev pub T73 : Row.Cx
-T73 = record { locals = List._++_ t64 (List._++_ t1 t65); slots = List.[] }
+T73 = record { locals = List._++_ t63 (List._++_ t1 t64); slots = List.[] }
 
 abbrev pub T76 : Row.Cx
-T76 = record { locals = List._++_ t66 (List._++_ t1 t67); slots = List.[] }
+T76 = record { locals = List._++_ t65 (List._++_ t1 t66); slots = List.[] }
 
 abbrev pub T79 : Row.Cx
-T79 = record { locals = List._++_ t68 (List._++_ t1 t2); slots = List.[] }
+T79 = record { locals = List._++_ t67 (List._++_ t1 t2); slots = List.[] }
 
 abbrev pub T80 : Row.Cx
-T80 = record { locals = List._++_ t68 (List._++_ t1 t2); slots = List.[] }
+T80 = record { locals = List._++_ t67 (List._++_ t1 t2); slots = List.[] }
 
 abbrev pub T82 : Row.Cx
 T82 = record { locals = List._++_ t3 (List._++_ t1 t2); slots = List.[] }
 
 abbrev pub T83 : Row.Cx
-T83 = record { locals = List._++_ t69 (List._++_ t28 t2); slots = List.[] }
+T83 = record { locals = List._++_ t68 (List._++_ t33 t2); slots = List.[] }
 
 abbrev pub T84 : Row.Cx
-T84 = record { locals = List._++_ t29 (List._++_ t28 t2); slots = List.[] }
+T84 = record { locals = List._++_ t34 (List._++_ t33 t2); slots = List.[] }
 
 abbrev pub T85 : Row.Cx
-T85 = record { locals = List._++_ t29 (List._++_ t1 t2); slots = List.[] }
+T85 = record { locals = List._++_ t34 (List._++_ t1 t2); slots = List.[] }
 
 abbrev pub T86 : Row.Cx
-T86 = record { locals = List._++_ t70 (List._++_ t1 t2); slots = List.[] }
+T86 = record { locals = List._++_ t69 (List._++_ t1 t2); slots = List.[] }
 
 abbrev pub T87 : Row.Cx
-T87 = record { locals = List._++_ t71 (List._++_ t1 t2); slots = List.[] }
+T87 = record { locals = List._++_ t70 (List._++_ t1 t2); slots = List.[] }
 
 abbrev pub T88 : Row.Cx
-T88 = record { locals = List._++_ t72 (List._++_ t1 t2); slots = List.[] }
+T88 = record { locals = List._++_ t71 (List._++_ t1 t2); slots = List.[] }
 
 abbrev pub T89 : Row.Cx
-T89 = record { locals = List._++_ t68 (List._++_ t1 t2); slots = List.[] }
+T89 = record { locals = List._++_ t67 (List._++_ t1 t2); slots = List.[] }
 
 abbrev pub T90 : Row.Cx
 T90 = record { locals = List._++_ t3 (List._++_ t1 t2); slots = List.[] }
@@ -1182,7 +1176,7 @@ abbrev pub O0 : Typed.Outs
 O0 = record { next = Option.none; exits = List.[]; returns = Option.some T1 }
 
 abbrev pub O1 : Typed.Outs
-O1 = Typed.withNext (Option.some T33) O0
+O1 = Typed.withNext (Option.some T39) O0
 
 module _ (claims· : Claims) where
   abbrev s0 : (bs : List.List Nat.ℕ) → Typed.Gives T0 T2
@@ -1197,42 +1191,68 @@ module _ (claims· : Claims) where
       }) (λ u T′ m′. Row.set 6 (6, Rows.whole (Declared'.row OpaqueRelayRuntime.the-type)) (u .1 .1 .1 .1 .1 .1 .0) T′
       m′) (λ u. Unit) λ u. Unit
 
-  abbrev s2 : (bs : List.List Nat.ℕ) → Typed.Both T3 T4
-  s2 = λ bs. Call.callB ps·0 r·0 (claims· .0) (claims· .1) T3 (Num.vAt 8 λ x. x, tt) 10 List.[] Laws'''''''''.mir
+  abbrev s2 : (bs : List.List Nat.ℕ) → Typed.Mo T3 → Typed.Mo T4
+  s2 = λ bs. Make.n-enum-make RecordQuestion.the-type T3 17 λ m. RecordQuestion.enum .make (Logic.inr (Logic.inr (Logic.inr
+      (Logic.inl (m .1 .1 .1 .1 .1 .1 .1 .1 .0, tt)))))
 
-  abbrev s4 : (bs : List.List Nat.ℕ) → Typed.Gives T4 T6
-  s4 = λ bs. Reshare.k-sl-reshare RelayPending.row T4 1 18 0 5 ref7 ref0 Row.off λ x. x
+  abbrev s3 : (bs : List.List Nat.ℕ) → Typed.Mo T4 → Typed.Mo T5
+  s3 = λ bs. Make.n-enum-make Notice.the-type T4 18 λ m. Notice.enum .make (Logic.inr (Logic.inr (Logic.inl tt)))
 
-  abbrev s5 : (bs : List.List Nat.ℕ) → Typed.Asks T6 T7
-  s5 = λ bs. Relend.k-sl-aggregate RelayPending.row (Relend.asShr RelayPending.row) T6 18 19 5 ref0 ref0 (λ x. x) (Scalar.oFld
+  abbrev s4 : (bs : List.List Nat.ℕ) → Typed.Mo T5 → Typed.Mo T6
+  s4 = λ bs. Make.n-enum-make Notice.the-type T5 19 λ m. Notice.enum .make
+      (Logic.inr (Logic.inr (Logic.inr (Logic.inl tt))))
+
+  abbrev s5 : (bs : List.List Nat.ℕ) → Typed.Both T6 T7
+  s5 = λ bs. Call.callB ps·0 r·0 (claims· .0) (claims· .1) T6 (
+    record { pos = 17; st = List.[]; d = 0; at = λ x. x },
+    (
+      record { pos = 18; st = List.[]; d = 0; at = λ x. x },
+      (record { pos = 19; st = List.[]; d = 0; at = λ x. x }, tt),
+    ),
+  ) 10 List.[] Laws'''.mir
+
+  abbrev s6 : (bs : List.List Nat.ℕ) → Typed.Mo T7 → Typed.Mo T8
+  s6 = λ bs. Scalar.n-room T7 17 Laws'''''''''.mir
+
+  abbrev s7 : (bs : List.List Nat.ℕ) → Typed.Mo T8 → Typed.Mo T9
+  s7 = λ bs. Scalar.n-room T8 18 Laws.mir
+
+  abbrev s8 : (bs : List.List Nat.ℕ) → Typed.Mo T9 → Typed.Mo T10
+  s8 = λ bs. Scalar.n-room T9 19 Laws.mir
+
+  abbrev s10 : (bs : List.List Nat.ℕ) → Typed.Gives T10 T12
+  s10 = λ bs. Reshare.k-sl-reshare RelayPending.row T10 1 20 0 5 ref7 ref0 Row.off λ x. x
+
+  abbrev s11 : (bs : List.List Nat.ℕ) → Typed.Asks T12 T13
+  s11 = λ bs. Relend.k-sl-aggregate RelayPending.row (Relend.asShr RelayPending.row) T12 20 21 5 ref0 ref0 (λ x. x) (Scalar.oFld
       1 ((Syntax.field 1) ∷ List.[]) (Syntax.tyInt Syntax.w64) 8 λ v. Shared.lenV (v .0))
 
-  abbrev s7 : (bs : List.List Nat.ℕ) → Typed.Gives T7 T9
-  s7 = λ bs. Reshare.k-sl-reshare RelayCircuit.row T7 2 20 1 6 ref8 ref1 Row.off λ x. x
+  abbrev s13 : (bs : List.List Nat.ℕ) → Typed.Gives T13 T15
+  s13 = λ bs. Reshare.k-sl-reshare RelayCircuit.row T13 2 22 1 6 ref8 ref1 Row.off λ x. x
 
-  abbrev s8 : (bs : List.List Nat.ℕ) → Typed.Asks T9 T10
-  s8 = λ bs. Relend.k-sl-aggregate RelayCircuit.row (Relend.asShr RelayCircuit.row) T9 20 21 6 ref1 ref1 (λ x. x) (Scalar.oFld
+  abbrev s14 : (bs : List.List Nat.ℕ) → Typed.Asks T15 T16
+  s14 = λ bs. Relend.k-sl-aggregate RelayCircuit.row (Relend.asShr RelayCircuit.row) T15 22 23 6 ref1 ref1 (λ x. x) (Scalar.oFld
       2 ((Syntax.field 1) ∷ List.[]) (Syntax.tyInt Syntax.w64) 8 λ v. Shared.lenV (v .0))
 
-  abbrev s9 : (bs : List.List Nat.ℕ) → Typed.Mo T10 → Typed.Mo T11
-  s9 = λ bs. Scalar.n-use T10 (Scalar.oFld 4 ((Syntax.field 1) ∷ List.[]) (Syntax.tyInt Syntax.w64) 8 Shared.lenV) 22
+  abbrev s15 : (bs : List.List Nat.ℕ) → Typed.Mo T16 → Typed.Mo T17
+  s15 = λ bs. Scalar.n-use T16 (Scalar.oFld 4 ((Syntax.field 1) ∷ List.[]) (Syntax.tyInt Syntax.w64) 8 Shared.lenV) 24
       (Rows.sc-here (Row.sInt Syntax.w64)) (Row.sInt Syntax.w64 .of)
 
-  abbrev s10 : (bs : List.List Nat.ℕ) → Typed.Mo T11 → Typed.Mo T12
-  s10 = λ bs. Scalar.n-use T11 (Scalar.oFld 5 ((Syntax.field 1) ∷ List.[]) (Syntax.tyInt Syntax.w64) 8 Shared.lenV) 23
+  abbrev s16 : (bs : List.List Nat.ℕ) → Typed.Mo T17 → Typed.Mo T18
+  s16 = λ bs. Scalar.n-use T17 (Scalar.oFld 5 ((Syntax.field 1) ∷ List.[]) (Syntax.tyInt Syntax.w64) 8 Shared.lenV) 25
       (Rows.sc-here (Row.sInt Syntax.w64)) (Row.sInt Syntax.w64 .of)
 
-  abbrev s11 : (bs : List.List Nat.ℕ) → Typed.Both T12 T13
-  s11 = λ bs. Call.callB ps·1 r·1 (claims· .2) (claims· .3) T12 (
-    record { pos = 19; ty = ref0; ref = λ x. x },
+  abbrev s17 : (bs : List.List Nat.ℕ) → Typed.Both T18 T19
+  s17 = λ bs. Call.callB ps·1 r·1 (claims· .2) (claims· .3) T18 (
+    record { pos = 21; ty = ref0; ref = λ x. x },
     (
-      record { pos = 21; ty = ref1; ref = λ x. x },
+      record { pos = 23; ty = ref1; ref = λ x. x },
       (
         record { pos = 7; st = List.[]; d = 0; at = λ x. x },
         (
-          Num.vAt 22 λ x. x,
+          Num.vAt 24 λ x. x,
           (
-            Num.vAt 23 λ x. x,
+            Num.vAt 25 λ x. x,
             (
               record { pos = 9; st = List.[]; d = 0; at = λ x. x },
               (record { pos = 10; st = List.[]; d = 0; at = λ x. x }, tt),
@@ -1243,100 +1263,75 @@ module _ (claims· : Claims) where
     ),
   ) 11 (5 ∷ 6 ∷ List.[]) Laws''''.mir
 
-  abbrev s12 : (bs : List.List Nat.ℕ) → Typed.Mo T13 → Typed.Mo T14
-  s12 = λ bs. Scalar.n-room T13 19 slice0
+  abbrev s18 : (bs : List.List Nat.ℕ) → Typed.Mo T19 → Typed.Mo T20
+  s18 = λ bs. Scalar.n-room T19 21 slice0
 
-  abbrev s13 : (bs : List.List Nat.ℕ) → Typed.Mo T14 → Typed.Mo T15
-  s13 = λ bs. Scalar.n-room T14 21 slice1
+  abbrev s19 : (bs : List.List Nat.ℕ) → Typed.Mo T20 → Typed.Mo T21
+  s19 = λ bs. Scalar.n-room T20 23 slice1
 
-  abbrev s14 : (bs : List.List Nat.ℕ) → Typed.Mo T15 → Typed.Mo T16
-  s14 = λ bs. Scalar.n-room T15 9 Laws'''''.mir
+  abbrev s20 : (bs : List.List Nat.ℕ) → Typed.Mo T21 → Typed.Mo T22
+  s20 = λ bs. Scalar.n-room T21 9 Laws'''''.mir
 
-  abbrev s15 : (bs : List.List Nat.ℕ) → Typed.Mo T16 → Typed.Mo T17
-  s15 = λ bs. Scalar.n-room T16 22 (Syntax.tyInt Syntax.w64)
+  abbrev s21 : (bs : List.List Nat.ℕ) → Typed.Mo T22 → Typed.Mo T23
+  s21 = λ bs. Scalar.n-room T22 24 (Syntax.tyInt Syntax.w64)
 
-  abbrev s16 : (bs : List.List Nat.ℕ) → Typed.Mo T17 → Typed.Mo T18
-  s16 = λ bs. Scalar.n-room T17 23 (Syntax.tyInt Syntax.w64)
+  abbrev s22 : (bs : List.List Nat.ℕ) → Typed.Mo T23 → Typed.Mo T24
+  s22 = λ bs. Scalar.n-room T23 25 (Syntax.tyInt Syntax.w64)
 
-  abbrev s18 : (bs : List.List Nat.ℕ) → Typed.Mo T18 → Typed.Mo T20
-  s18 = λ bs. Reshare.n-back-sl-shr RelayPending.row T18 1 0 5 ref7 Row.off λ x. x
+  abbrev s24 : (bs : List.List Nat.ℕ) → Typed.Mo T24 → Typed.Mo T26
+  s24 = λ bs. Reshare.n-back-sl-shr RelayPending.row T24 1 0 5 ref7 Row.off λ x. x
 
-  abbrev s21 : (bs : List.List Nat.ℕ) → Typed.Mo T20 → Typed.Mo T23
-  s21 = λ bs. Reshare.n-back-sl-shr RelayCircuit.row T20 2 1 6 ref8 Row.off λ x. x
+  abbrev s27 : (bs : List.List Nat.ℕ) → Typed.Mo T26 → Typed.Mo T29
+  s27 = λ bs. Reshare.n-back-sl-shr RelayCircuit.row T26 2 1 6 ref8 Row.off λ x. x
 
-  abbrev s23 : (bs : List.List Nat.ℕ) → Typed.Mo T23 → Typed.Mo T25
-  s23 = λ bs. Make'.n-make (Declared.row HnsrAnswer.the-type) T23 12 λ m. Entered.struct .as-values
+  abbrev s29 : (bs : List.List Nat.ℕ) → Typed.Mo T29 → Typed.Mo T31
+  s29 = λ bs. Make'.n-make (Declared.row HnsrAnswer.the-type) T29 12 λ m. Entered.struct .as-values
       (m .1 .1 .1 .1 .1 .1 .1 .1 .1 .1 .1 .0) .0
 
-  abbrev s24 : (bs : List.List Nat.ℕ) → Typed.Both T25 T26
-  s24 = λ bs. WayStmt.k-way-copy-out T25 (Row.out 11 (T25 .locals)) (λ u. Row.drop 11 (T25 .locals) u) 13
+  abbrev s30 : (bs : List.List Nat.ℕ) → Typed.Both T31 T32
+  s30 = λ bs. WayStmt.k-way-copy-out T31 (Row.out 11 (T31 .locals)) (λ u. Row.drop 11 (T31 .locals) u) 13
       (Rows.whole (Declared'.row Firsts.the-type)) (λ u. At.getAt (Entered.the-type .parts) 1 (Entered.struct
       .as-values (u .1 .1 .1 .1 .1 .1 .1 .1 .1 .1 .1 .0))) (λ T′.
       record { locals = Row.setRow 11 (11, Rows.whole (Declared'.row Entered.the-type)) T′; slots = List.[] }) (λ u T′
       m′. Row.set 11 (11, Rows.whole (Declared'.row Entered.the-type)) (u .1 .1 .1 .1 .1 .1 .1 .1 .1 .1 .1 .0) T′ m′)
       (λ u. Unit) λ u. Unit
 
-  abbrev s25 : (bs : List.List Nat.ℕ) → Typed.Mo T26 → Typed.Mo T27
-  s25 = λ bs. Scalar.n-room T26 11 Laws''''.mir
+  abbrev s31 : (bs : List.List Nat.ℕ) → Typed.Mo T32 → Typed.Mo T33
+  s31 = λ bs. Scalar.n-room T32 11 Laws''''.mir
 
-  abbrev s26 : (bs : List.List Nat.ℕ) → Typed.Both T27 T28
-  s26 = λ bs. Call.callB ps·2 r·2 (claims· .4) (claims· .5) T27 (
+  abbrev s32 : (bs : List.List Nat.ℕ) → Typed.Both T33 T34
+  s32 = λ bs. Call.callB ps·2 r·2 (claims· .4) (claims· .5) T33 (
     Num.vFld 6 ((Syntax.field 3) ∷ List.[]) 32 λ x. OpaqueRelayRuntime.struct .as-values x .1 .1 .1 .0,
     (Num.vAt 8 λ x. x, tt),
   ) 14 List.[] Laws'.mir
 
-  abbrev s27 : (bs : List.List Nat.ℕ) → Typed.Both T28 T29
-  s27 = λ bs. Call.callB ps·3 r·3 (claims· .6) (claims· .7) T28 (
+  abbrev s33 : (bs : List.List Nat.ℕ) → Typed.Both T34 T35
+  s33 = λ bs. Call.callB ps·3 r·3 (claims· .6) (claims· .7) T34 (
     record { pos = 12; st = List.[]; d = 0; at = λ x. x },
     (record { pos = 14; st = List.[]; d = 0; at = λ x. x }, tt),
   ) 15 List.[] Laws'.mir
 
-  abbrev s28 : (bs : List.List Nat.ℕ) → Typed.Mo T29 → Typed.Mo T30
-  s28 = λ bs. Scalar.n-room T29 12 Laws'.mir
+  abbrev s34 : (bs : List.List Nat.ℕ) → Typed.Mo T35 → Typed.Mo T36
+  s34 = λ bs. Scalar.n-room T35 12 Laws'.mir
 
-  abbrev s29 : (bs : List.List Nat.ℕ) → Typed.Mo T30 → Typed.Mo T31
-  s29 = λ bs. Scalar.n-room T30 14 Laws'.mir
+  abbrev s35 : (bs : List.List Nat.ℕ) → Typed.Mo T36 → Typed.Mo T37
+  s35 = λ bs. Scalar.n-room T36 14 Laws'.mir
 
-  abbrev s30 : (bs : List.List Nat.ℕ) → Typed.Both T31 T32
-  s30 = λ bs. Call.callB ps·4 r·4 (claims· .8) (claims· .9) T31
-      (record { pos = 15; st = List.[]; d = 0; at = λ x. x }, tt) 24 List.[] Syntax.tyBool
+  abbrev s36 : (bs : List.List Nat.ℕ) → Typed.Both T37 T38
+  s36 = λ bs. Call.callB ps·4 r·4 (claims· .8) (claims· .9) T37
+      (record { pos = 15; st = List.[]; d = 0; at = λ x. x }, tt) 26 List.[] Syntax.tyBool
 
-  abbrev s31 : (bs : List.List Nat.ℕ) → Typed.Mo T32 → Typed.Mo T34
-  s31 = λ bs. Scalar.n-room T32 15 Laws'.mir
-
-  abbrev s32 : (bs : List.List Nat.ℕ) → Typed.Mo T34 → Typed.Mo T35
-  s32 = λ bs. Scalar.n-room T34 24 Syntax.tyBool
-
-  abbrev s33 : (bs : List.List Nat.ℕ) → Typed.Mo T35 → Typed.Mo T36
-  s33 = λ bs. Make.n-enum-make Notice.the-type T35 25 λ m. Notice.enum .make (Logic.inr (Logic.inr (Logic.inl tt)))
-
-  abbrev s34 : (bs : List.List Nat.ℕ) → Typed.Mo T36 → Typed.Mo T37
-  s34 = λ bs. Make.n-enum-make Notice.the-type T36 26 λ m. Notice.enum .make
-      (Logic.inr (Logic.inr (Logic.inr (Logic.inl tt))))
-
-  abbrev s35 : (bs : List.List Nat.ℕ) → Typed.Both T37 T38
-  s35 = λ bs. Call.callB ps·5 r·5 (claims· .10) (claims· .11) T37 (
-    record { pos = 10; st = List.[]; d = 0; at = λ x. x },
-    (
-      record { pos = 25; st = List.[]; d = 0; at = λ x. x },
-      (record { pos = 26; st = List.[]; d = 0; at = λ x. x }, tt),
-    ),
-  ) 16 List.[] Laws'''.mir
-
-  abbrev s36 : (bs : List.List Nat.ℕ) → Typed.Mo T38 → Typed.Mo T39
-  s36 = λ bs. Scalar.n-room T38 10 Laws'''''''''.mir
-
-  abbrev s37 : (bs : List.List Nat.ℕ) → Typed.Mo T39 → Typed.Mo T40
-  s37 = λ bs. Scalar.n-room T39 25 Laws.mir
+  abbrev s37 : (bs : List.List Nat.ℕ) → Typed.Mo T38 → Typed.Mo T40
+  s37 = λ bs. Scalar.n-room T38 15 Laws'.mir
 
   abbrev s38 : (bs : List.List Nat.ℕ) → Typed.Mo T40 → Typed.Mo T41
-  s38 = λ bs. Scalar.n-room T40 26 Laws.mir
+  s38 = λ bs. Scalar.n-room T40 26 Syntax.tyBool
 
   abbrev s39 : (bs : List.List Nat.ℕ) → Typed.Both T41 T42
-  s39 = λ bs. Call.callB ps·6 r·6 (claims· .12) (claims· .13) T41 (
+  s39 = λ bs. Call.callB ps·5 r·5 (claims· .10) (claims· .11) T41 (
     record { pos = 6; st = List.[]; d = 0; at = λ x. x },
     (Num.vAt 8 λ x. x, tt),
-  ) 17 List.[] Laws''''''.mir
+  ) 16 List.[] Laws''''''.mir
 
   abbrev s40 : (bs : List.List Nat.ℕ) → Typed.Mo T42 → Typed.Mo T43
   s40 = λ bs. Scalar.n-room T42 6 Laws''''''.mir
@@ -1349,7 +1344,7 @@ module _ (claims· : Claims) where
       (λ x. x) (Scalar.oFld 3 ((Syntax.field 1) ∷ List.[]) (Syntax.tyInt Syntax.w64) 8 λ v. Shared.lenV (v .0))
 
   abbrev s44 : (bs : List.List Nat.ℕ) → Typed.Both T46 T47
-  s44 = λ bs. Call.callB ps·7 r·7 (claims· .14) (claims· .15) T46 (
+  s44 = λ bs. Call.callB ps·6 r·6 (claims· .12) (claims· .13) T46 (
     record { pos = 29; ty = ref2; ref = λ x. x },
     (record { pos = 7; st = List.[]; d = 0; at = λ x. x }, (Num.vAt 8 λ x. x, tt)),
   ) 27 (7 ∷ List.[]) Syntax.tyUnit
@@ -1390,7 +1385,7 @@ module _ (claims· : Claims) where
       ((Syntax.field 1) ∷ List.[]) (Syntax.tyInt Syntax.w64) 8 λ v. Shared.lenV (v .0))
 
   abbrev s61 : (bs : List.List Nat.ℕ) → Typed.Both T63 T64
-  s61 = λ bs. Call.callB ps·8 r·8 (claims· .16) (claims· .17) T63 (
+  s61 = λ bs. Call.callB ps·7 r·7 (claims· .14) (claims· .15) T63 (
     record { pos = 31; ty = ref3; ref = λ x. x },
     (
       record { pos = 33; ty = ref4; ref = λ x. x },
@@ -1399,11 +1394,11 @@ module _ (claims· : Claims) where
         (
           record { pos = 37; ty = ref6; ref = λ x. x },
           (
-            record { pos = 17; st = List.[]; d = 0; at = λ x. x },
+            record { pos = 16; st = List.[]; d = 0; at = λ x. x },
             (
               record { pos = 7; st = List.[]; d = 0; at = λ x. x },
               (
-                record { pos = 16; st = List.[]; d = 0; at = λ x. x },
+                record { pos = 10; st = List.[]; d = 0; at = λ x. x },
                 (record { pos = 13; st = List.[]; d = 0; at = λ x. x }, tt),
               ),
             ),
@@ -1417,13 +1412,13 @@ module _ (claims· : Claims) where
   s62 = λ bs. Scalar.n-room T64 7 Laws''''''''.mir
 
   abbrev s63 : (bs : List.List Nat.ℕ) → Typed.Mo T65 → Typed.Mo T66
-  s63 = λ bs. Scalar.n-room T65 13 Laws''.mir
+  s63 = λ bs. Scalar.n-room T65 10 Laws'''.mir
 
   abbrev s64 : (bs : List.List Nat.ℕ) → Typed.Mo T66 → Typed.Mo T67
-  s64 = λ bs. Scalar.n-room T66 16 Laws'''.mir
+  s64 = λ bs. Scalar.n-room T66 13 Laws''.mir
 
   abbrev s65 : (bs : List.List Nat.ℕ) → Typed.Mo T67 → Typed.Mo T68
-  s65 = λ bs. Scalar.n-room T67 17 Laws''''''.mir
+  s65 = λ bs. Scalar.n-room T67 16 Laws''''''.mir
 
   abbrev s67 : (bs : List.List Nat.ℕ) → Typed.Both T68 T70
   s67 = λ bs. Relend.k-back-sl RelayPending.row T68 31 1 0 8 ref7 ref3 Row.off (λ x. x) λ x. x
@@ -1444,17 +1439,17 @@ module _ (claims· : Claims) where
   abbrev s79 : (bs : List.List Nat.ℕ) → Typed.Mo T80 → Typed.Mo T82
   s79 = λ bs. Scalar.n-room T80 8 (Syntax.tyInt Syntax.w64)
 
-  abbrev s80 : (bs : List.List Nat.ℕ) → Typed.Mo T32 → Typed.Mo T83
-  s80 = λ bs. Scalar.n-room T32 10 Laws'''''''''.mir
+  abbrev s80 : (bs : List.List Nat.ℕ) → Typed.Mo T38 → Typed.Mo T83
+  s80 = λ bs. Scalar.n-room T38 10 Laws'''.mir
 
   abbrev s81 : (bs : List.List Nat.ℕ) → Typed.Mo T83 → Typed.Mo T84
   s81 = λ bs. Scalar.n-room T83 13 Laws''.mir
 
   abbrev s82 : (bs : List.List Nat.ℕ) → Typed.Mo T84 → Typed.Mo T85
-  s82 = λ bs. Scalar.n-room T84 24 Syntax.tyBool
+  s82 = λ bs. Scalar.n-room T84 26 Syntax.tyBool
 
-  abbrev s83 : (bs : List.List Nat.ℕ) → Typed.Both T33 T86
-  s83 = λ bs. Call.callB ps·9 r·9 (claims· .18) (claims· .19) T33 (
+  abbrev s83 : (bs : List.List Nat.ℕ) → Typed.Both T39 T86
+  s83 = λ bs. Call.callB ps·8 r·8 (claims· .16) (claims· .17) T39 (
     record { pos = 6; st = List.[]; d = 0; at = λ x. x },
     (
       record { pos = 7; st = List.[]; d = 0; at = λ x. x },
@@ -1479,16 +1474,15 @@ module _ (claims· : Claims) where
     module _ (M : Type 1) where
       abbrev pub Closed : Type 2
       Closed = (𝓤 : URA.URA M) (H : Wp.Heap 𝓤) (A : Atoms.Atoms 𝓤) (W : Kit.Given 𝓤 H A) (𝓣 : Wp.Tables 𝓤 H) (known0 :
-          Plain.Known 𝓤 H A W 𝓣 0 ps·0 r·0 (claims· .0) (claims· .1) "hnsr_circuit::tables::question::over") (known1 :
-          Plain.Known 𝓤 H A W 𝓣 2 ps·1 r·1 (claims· .2) (claims· .3) "hnsr_circuit::calls::revoking::entry_answer") (known2
+          Plain.Known 𝓤 H A W 𝓣 0 ps·0 r·0 (claims· .0) (claims· .1) "hnsr_circuit::calls::revoking::revoking") (known1
+          : Plain.Known 𝓤 H A W 𝓣 2 ps·1 r·1 (claims· .2) (claims· .3) "hnsr_circuit::calls::revoking::entry_answer") (known2
           : Plain.Known 𝓤 H A W 𝓣 0 ps·2 r·2 (claims· .4) (claims· .5) "hnsr_circuit::entry::clock_answer") (known3 :
           Plain.Known 𝓤 H A W 𝓣 0 ps·3 r·3 (claims· .6) (claims· .7) "hnsr_circuit::answer::first_refusal") (known4 :
           Plain.Known 𝓤 H A W 𝓣 0 ps·4 r·4 (claims· .8) (claims· .9) "hnsr_circuit::answer::is_taken") (known5 :
-          Plain.Known 𝓤 H A W 𝓣 0 ps·5 r·5 (claims· .10) (claims· .11) "hnsr_circuit::calls::revoking::revoking") (known6
-          : Plain.Known 𝓤 H A W 𝓣 0 ps·6 r·6 (claims· .12) (claims· .13) "hnsr_circuit::records::header::with_clock") (known7
-          : Plain.Known 𝓤 H A W 𝓣 1 ps·7 r·7 (claims· .14) (claims· .15) "hnsr_circuit::tables::stores::drop_lapsed") (known8
-          : Plain.Known 𝓤 H A W 𝓣 4 ps·8 r·8 (claims· .16) (claims· .17) "hnsr_circuit::calls::revocation::revoke_all") (known9
-          : Plain.Known 𝓤 H A W 𝓣 0 ps·9 r·9 (claims· .18) (claims· .19) "hnsr_circuit::runtime::refused") →
+          Plain.Known 𝓤 H A W 𝓣 0 ps·5 r·5 (claims· .10) (claims· .11) "hnsr_circuit::records::header::with_clock") (known6
+          : Plain.Known 𝓤 H A W 𝓣 1 ps·6 r·6 (claims· .12) (claims· .13) "hnsr_circuit::tables::ledger::drop_lapsed") (known7
+          : Plain.Known 𝓤 H A W 𝓣 4 ps·7 r·7 (claims· .14) (claims· .15) "hnsr_circuit::calls::revocation::revoke_all") (known8
+          : Plain.Known 𝓤 H A W 𝓣 0 ps·8 r·8 (claims· .16) (claims· .17) "hnsr_circuit::runtime::refused") →
           Statement.Triple 𝓤 (Wp.WpFn 𝓤 H (𝓣 .C) (𝓣 .Λ) (Function.fnOf 5 ps r xs m hs body))
           (Function.plainOf 𝓤 H A 5 ps r Pre· Post·)
 
@@ -1622,104 +1616,104 @@ module _ (claims· : Claims) where
       abbrev at42 : (bs : List.List Nat.ℕ) → Typed.TF T40 O1
       at42 = λ bs. λ Ψ. Typed.pass T40 T41 (s38 bs) (at41 bs Ψ)
 
-      abbrev at43 : (bs : List.List Nat.ℕ) → Typed.TF T39 O1
-      at43 = λ bs. λ Ψ. Typed.pass T39 T40 (s37 bs) (at42 bs Ψ)
+      abbrev at43 : (bs : List.List Nat.ℕ) → Typed.TF T38 O1
+      at43 = λ bs. λ Ψ. Typed.pass T38 T40 (s37 bs) (at42 bs Ψ)
 
-      abbrev at44 : (bs : List.List Nat.ℕ) → Typed.TF T38 O1
-      at44 = λ bs. λ Ψ. Typed.pass T38 T39 (s36 bs) (at43 bs Ψ)
+      abbrev at44 : (bs : List.List Nat.ℕ) → Typed.TF T85 O1
+      at44 = λ bs. Typed.atNext O1
 
-      abbrev at45 : (bs : List.List Nat.ℕ) → Typed.TF T37 O1
-      at45 = λ bs. λ Ψ. Typed.both (s35 bs) (at44 bs Ψ)
+      abbrev at45 : (bs : List.List Nat.ℕ) → Typed.TF T84 O1
+      at45 = λ bs. λ Ψ. Typed.pass T84 T85 (s82 bs) (at44 bs Ψ)
 
-      abbrev at46 : (bs : List.List Nat.ℕ) → Typed.TF T36 O1
-      at46 = λ bs. λ Ψ. Typed.pass T36 T37 (s34 bs) (at45 bs Ψ)
+      abbrev at46 : (bs : List.List Nat.ℕ) → Typed.TF T83 O1
+      at46 = λ bs. λ Ψ. Typed.pass T83 T84 (s81 bs) (at45 bs Ψ)
 
-      abbrev at47 : (bs : List.List Nat.ℕ) → Typed.TF T35 O1
-      at47 = λ bs. λ Ψ. Typed.pass T35 T36 (s33 bs) (at46 bs Ψ)
+      abbrev at47 : (bs : List.List Nat.ℕ) → Typed.TF T38 O1
+      at47 = λ bs. λ Ψ. Typed.pass T38 T83 (s80 bs) (at46 bs Ψ)
 
-      abbrev at48 : (bs : List.List Nat.ℕ) → Typed.TF T34 O1
-      at48 = λ bs. λ Ψ. Typed.pass T34 T35 (s32 bs) (at47 bs Ψ)
+      abbrev at48 : (bs : List.List Nat.ℕ) → Typed.TF T38 O1
+      at48 = λ bs. Scalar.Φcond T38 O1 26 (λ x. x) (at43 bs) (at47 bs)
 
-      abbrev at49 : (bs : List.List Nat.ℕ) → Typed.TF T32 O1
-      at49 = λ bs. λ Ψ. Typed.pass T32 T34 (s31 bs) (at48 bs Ψ)
+      abbrev at49 : (bs : List.List Nat.ℕ) → Typed.TF T90 O0
+      at49 = λ bs. Typed.atRet O0
 
-      abbrev at50 : (bs : List.List Nat.ℕ) → Typed.TF T85 O1
-      at50 = λ bs. Typed.atNext O1
+      abbrev at50 : (bs : List.List Nat.ℕ) → Typed.TF T89 O0
+      at50 = λ bs. λ Ψ. Typed.pass T89 T90 (s87 bs) (at49 bs Ψ)
 
-      abbrev at51 : (bs : List.List Nat.ℕ) → Typed.TF T84 O1
-      at51 = λ bs. λ Ψ. Typed.pass T84 T85 (s82 bs) (at50 bs Ψ)
+      abbrev at51 : (bs : List.List Nat.ℕ) → Typed.TF T88 O0
+      at51 = λ bs. λ Ψ. Typed.pass T88 T89 (s86 bs) (at50 bs Ψ)
 
-      abbrev at52 : (bs : List.List Nat.ℕ) → Typed.TF T83 O1
-      at52 = λ bs. λ Ψ. Typed.pass T83 T84 (s81 bs) (at51 bs Ψ)
+      abbrev at52 : (bs : List.List Nat.ℕ) → Typed.TF T87 O0
+      at52 = λ bs. λ Ψ. Typed.pass T87 T88 (s85 bs) (at51 bs Ψ)
 
-      abbrev at53 : (bs : List.List Nat.ℕ) → Typed.TF T32 O1
-      at53 = λ bs. λ Ψ. Typed.pass T32 T83 (s80 bs) (at52 bs Ψ)
+      abbrev at53 : (bs : List.List Nat.ℕ) → Typed.TF T86 O0
+      at53 = λ bs. λ Ψ. Typed.pass T86 T87 (s84 bs) (at52 bs Ψ)
 
-      abbrev at54 : (bs : List.List Nat.ℕ) → Typed.TF T32 O1
-      at54 = λ bs. Scalar.Φcond T32 O1 24 (λ x. x) (at49 bs) (at53 bs)
+      abbrev at54 : (bs : List.List Nat.ℕ) → Typed.TF T39 O0
+      at54 = λ bs. λ Ψ. Typed.both (s83 bs) (at53 bs Ψ)
 
-      abbrev at55 : (bs : List.List Nat.ℕ) → Typed.TF T90 O0
-      at55 = λ bs. Typed.atRet O0
+      abbrev at55 : (bs : List.List Nat.ℕ) → Typed.TF T38 O0
+      at55 = λ bs. λ Ψ. at48 bs (Typed.wantNext T39 O0 (at54 bs Ψ) Ψ)
 
-      abbrev at56 : (bs : List.List Nat.ℕ) → Typed.TF T89 O0
-      at56 = λ bs. λ Ψ. Typed.pass T89 T90 (s87 bs) (at55 bs Ψ)
+      abbrev at56 : (bs : List.List Nat.ℕ) → Typed.TF T37 O0
+      at56 = λ bs. λ Ψ. Typed.both (s36 bs) (at55 bs Ψ)
 
-      abbrev at57 : (bs : List.List Nat.ℕ) → Typed.TF T88 O0
-      at57 = λ bs. λ Ψ. Typed.pass T88 T89 (s86 bs) (at56 bs Ψ)
+      abbrev at57 : (bs : List.List Nat.ℕ) → Typed.TF T36 O0
+      at57 = λ bs. λ Ψ. Typed.pass T36 T37 (s35 bs) (at56 bs Ψ)
 
-      abbrev at58 : (bs : List.List Nat.ℕ) → Typed.TF T87 O0
-      at58 = λ bs. λ Ψ. Typed.pass T87 T88 (s85 bs) (at57 bs Ψ)
+      abbrev at58 : (bs : List.List Nat.ℕ) → Typed.TF T35 O0
+      at58 = λ bs. λ Ψ. Typed.pass T35 T36 (s34 bs) (at57 bs Ψ)
 
-      abbrev at59 : (bs : List.List Nat.ℕ) → Typed.TF T86 O0
-      at59 = λ bs. λ Ψ. Typed.pass T86 T87 (s84 bs) (at58 bs Ψ)
+      abbrev at59 : (bs : List.List Nat.ℕ) → Typed.TF T34 O0
+      at59 = λ bs. λ Ψ. Typed.both (s33 bs) (at58 bs Ψ)
 
       abbrev at60 : (bs : List.List Nat.ℕ) → Typed.TF T33 O0
-      at60 = λ bs. λ Ψ. Typed.both (s83 bs) (at59 bs Ψ)
+      at60 = λ bs. λ Ψ. Typed.both (s32 bs) (at59 bs Ψ)
 
       abbrev at61 : (bs : List.List Nat.ℕ) → Typed.TF T32 O0
-      at61 = λ bs. λ Ψ. at54 bs (Typed.wantNext T33 O0 (at60 bs Ψ) Ψ)
+      at61 = λ bs. λ Ψ. Typed.pass T32 T33 (s31 bs) (at60 bs Ψ)
 
       abbrev at62 : (bs : List.List Nat.ℕ) → Typed.TF T31 O0
       at62 = λ bs. λ Ψ. Typed.both (s30 bs) (at61 bs Ψ)
 
-      abbrev at63 : (bs : List.List Nat.ℕ) → Typed.TF T30 O0
-      at63 = λ bs. λ Ψ. Typed.pass T30 T31 (s29 bs) (at62 bs Ψ)
+      abbrev at63 : (bs : List.List Nat.ℕ) → Typed.TF T29 O0
+      at63 = λ bs. λ Ψ. Typed.pass T29 T31 (s29 bs) (at62 bs Ψ)
 
       abbrev at64 : (bs : List.List Nat.ℕ) → Typed.TF T29 O0
-      at64 = λ bs. λ Ψ. Typed.pass T29 T30 (s28 bs) (at63 bs Ψ)
+      at64 = λ bs. λ Ψ. at63 bs Ψ
 
-      abbrev at65 : (bs : List.List Nat.ℕ) → Typed.TF T28 O0
-      at65 = λ bs. λ Ψ. Typed.both (s27 bs) (at64 bs Ψ)
+      abbrev at65 : (bs : List.List Nat.ℕ) → Typed.TF T26 O0
+      at65 = λ bs. λ Ψ. Typed.pass T26 T29 (s27 bs) (at64 bs Ψ)
 
-      abbrev at66 : (bs : List.List Nat.ℕ) → Typed.TF T27 O0
-      at66 = λ bs. λ Ψ. Typed.both (s26 bs) (at65 bs Ψ)
+      abbrev at66 : (bs : List.List Nat.ℕ) → Typed.TF T26 O0
+      at66 = λ bs. λ Ψ. at65 bs Ψ
 
       abbrev at67 : (bs : List.List Nat.ℕ) → Typed.TF T26 O0
-      at67 = λ bs. λ Ψ. Typed.pass T26 T27 (s25 bs) (at66 bs Ψ)
+      at67 = λ bs. λ Ψ. at66 bs Ψ
 
-      abbrev at68 : (bs : List.List Nat.ℕ) → Typed.TF T25 O0
-      at68 = λ bs. λ Ψ. Typed.both (s24 bs) (at67 bs Ψ)
+      abbrev at68 : (bs : List.List Nat.ℕ) → Typed.TF T24 O0
+      at68 = λ bs. λ Ψ. Typed.pass T24 T26 (s24 bs) (at67 bs Ψ)
 
-      abbrev at69 : (bs : List.List Nat.ℕ) → Typed.TF T23 O0
-      at69 = λ bs. λ Ψ. Typed.pass T23 T25 (s23 bs) (at68 bs Ψ)
+      abbrev at69 : (bs : List.List Nat.ℕ) → Typed.TF T24 O0
+      at69 = λ bs. λ Ψ. at68 bs Ψ
 
       abbrev at70 : (bs : List.List Nat.ℕ) → Typed.TF T23 O0
-      at70 = λ bs. λ Ψ. at69 bs Ψ
+      at70 = λ bs. λ Ψ. Typed.pass T23 T24 (s22 bs) (at69 bs Ψ)
 
-      abbrev at71 : (bs : List.List Nat.ℕ) → Typed.TF T20 O0
-      at71 = λ bs. λ Ψ. Typed.pass T20 T23 (s21 bs) (at70 bs Ψ)
+      abbrev at71 : (bs : List.List Nat.ℕ) → Typed.TF T22 O0
+      at71 = λ bs. λ Ψ. Typed.pass T22 T23 (s21 bs) (at70 bs Ψ)
 
-      abbrev at72 : (bs : List.List Nat.ℕ) → Typed.TF T20 O0
-      at72 = λ bs. λ Ψ. at71 bs Ψ
+      abbrev at72 : (bs : List.List Nat.ℕ) → Typed.TF T21 O0
+      at72 = λ bs. λ Ψ. Typed.pass T21 T22 (s20 bs) (at71 bs Ψ)
 
       abbrev at73 : (bs : List.List Nat.ℕ) → Typed.TF T20 O0
-      at73 = λ bs. λ Ψ. at72 bs Ψ
+      at73 = λ bs. λ Ψ. Typed.pass T20 T21 (s19 bs) (at72 bs Ψ)
 
-      abbrev at74 : (bs : List.List Nat.ℕ) → Typed.TF T18 O0
-      at74 = λ bs. λ Ψ. Typed.pass T18 T20 (s18 bs) (at73 bs Ψ)
+      abbrev at74 : (bs : List.List Nat.ℕ) → Typed.TF T19 O0
+      at74 = λ bs. λ Ψ. Typed.pass T19 T20 (s18 bs) (at73 bs Ψ)
 
       abbrev at75 : (bs : List.List Nat.ℕ) → Typed.TF T18 O0
-      at75 = λ bs. λ Ψ. at74 bs Ψ
+      at75 = λ bs. λ Ψ. Typed.both (s17 bs) (at74 bs Ψ)
 
       abbrev at76 : (bs : List.List Nat.ℕ) → Typed.TF T17 O0
       at76 = λ bs. λ Ψ. Typed.pass T17 T18 (s16 bs) (at75 bs Ψ)
@@ -1728,43 +1722,43 @@ module _ (claims· : Claims) where
       at77 = λ bs. λ Ψ. Typed.pass T16 T17 (s15 bs) (at76 bs Ψ)
 
       abbrev at78 : (bs : List.List Nat.ℕ) → Typed.TF T15 O0
-      at78 = λ bs. λ Ψ. Typed.pass T15 T16 (s14 bs) (at77 bs Ψ)
+      at78 = λ bs. λ Ψ. Typed.ask (s14 bs) (at77 bs Ψ)
 
-      abbrev at79 : (bs : List.List Nat.ℕ) → Typed.TF T14 O0
-      at79 = λ bs. λ Ψ. Typed.pass T14 T15 (s13 bs) (at78 bs Ψ)
+      abbrev at79 : (bs : List.List Nat.ℕ) → Typed.TF T13 O0
+      at79 = λ bs. λ Ψ. Typed.give (s13 bs) (at78 bs Ψ)
 
       abbrev at80 : (bs : List.List Nat.ℕ) → Typed.TF T13 O0
-      at80 = λ bs. λ Ψ. Typed.pass T13 T14 (s12 bs) (at79 bs Ψ)
+      at80 = λ bs. λ Ψ. at79 bs Ψ
 
       abbrev at81 : (bs : List.List Nat.ℕ) → Typed.TF T12 O0
-      at81 = λ bs. λ Ψ. Typed.both (s11 bs) (at80 bs Ψ)
+      at81 = λ bs. λ Ψ. Typed.ask (s11 bs) (at80 bs Ψ)
 
-      abbrev at82 : (bs : List.List Nat.ℕ) → Typed.TF T11 O0
-      at82 = λ bs. λ Ψ. Typed.pass T11 T12 (s10 bs) (at81 bs Ψ)
+      abbrev at82 : (bs : List.List Nat.ℕ) → Typed.TF T10 O0
+      at82 = λ bs. λ Ψ. Typed.give (s10 bs) (at81 bs Ψ)
 
       abbrev at83 : (bs : List.List Nat.ℕ) → Typed.TF T10 O0
-      at83 = λ bs. λ Ψ. Typed.pass T10 T11 (s9 bs) (at82 bs Ψ)
+      at83 = λ bs. λ Ψ. at82 bs Ψ
 
       abbrev at84 : (bs : List.List Nat.ℕ) → Typed.TF T9 O0
-      at84 = λ bs. λ Ψ. Typed.ask (s8 bs) (at83 bs Ψ)
+      at84 = λ bs. λ Ψ. Typed.pass T9 T10 (s8 bs) (at83 bs Ψ)
 
-      abbrev at85 : (bs : List.List Nat.ℕ) → Typed.TF T7 O0
-      at85 = λ bs. λ Ψ. Typed.give (s7 bs) (at84 bs Ψ)
+      abbrev at85 : (bs : List.List Nat.ℕ) → Typed.TF T8 O0
+      at85 = λ bs. λ Ψ. Typed.pass T8 T9 (s7 bs) (at84 bs Ψ)
 
       abbrev at86 : (bs : List.List Nat.ℕ) → Typed.TF T7 O0
-      at86 = λ bs. λ Ψ. at85 bs Ψ
+      at86 = λ bs. λ Ψ. Typed.pass T7 T8 (s6 bs) (at85 bs Ψ)
 
       abbrev at87 : (bs : List.List Nat.ℕ) → Typed.TF T6 O0
-      at87 = λ bs. λ Ψ. Typed.ask (s5 bs) (at86 bs Ψ)
+      at87 = λ bs. λ Ψ. Typed.both (s5 bs) (at86 bs Ψ)
 
-      abbrev at88 : (bs : List.List Nat.ℕ) → Typed.TF T4 O0
-      at88 = λ bs. λ Ψ. Typed.give (s4 bs) (at87 bs Ψ)
+      abbrev at88 : (bs : List.List Nat.ℕ) → Typed.TF T5 O0
+      at88 = λ bs. λ Ψ. Typed.pass T5 T6 (s4 bs) (at87 bs Ψ)
 
       abbrev at89 : (bs : List.List Nat.ℕ) → Typed.TF T4 O0
-      at89 = λ bs. λ Ψ. at88 bs Ψ
+      at89 = λ bs. λ Ψ. Typed.pass T4 T5 (s3 bs) (at88 bs Ψ)
 
       abbrev at90 : (bs : List.List Nat.ℕ) → Typed.TF T3 O0
-      at90 = λ bs. λ Ψ. Typed.both (s2 bs) (at89 bs Ψ)
+      at90 = λ bs. λ Ψ. Typed.pass T3 T4 (s2 bs) (at89 bs Ψ)
 
       abbrev at91 : (bs : List.List Nat.ℕ) → Typed.TF T2 O0
       at91 = λ bs. λ Ψ. Typed.both (s1 bs) (at90 bs Ψ)
@@ -1778,16 +1772,15 @@ module _ (claims· : Claims) where
       module _ {M : Type 1} (𝓤 : URA.URA M) (H : Wp.Heap 𝓤) (A : Atoms.Atoms 𝓤) (W : Kit.Given 𝓤 H A)
           (𝓣 : Wp.Tables 𝓤 H) where
         abbrev Knowns : Type 1
-        Knowns = Plain.Known 𝓤 H A W 𝓣 0 ps·0 r·0 (claims· .0) (claims· .1) "hnsr_circuit::tables::question::over" ×
+        Knowns = Plain.Known 𝓤 H A W 𝓣 0 ps·0 r·0 (claims· .0) (claims· .1) "hnsr_circuit::calls::revoking::revoking" ×
             Plain.Known 𝓤 H A W 𝓣 2 ps·1 r·1 (claims· .2) (claims· .3) "hnsr_circuit::calls::revoking::entry_answer" ×
             Plain.Known 𝓤 H A W 𝓣 0 ps·2 r·2 (claims· .4) (claims· .5) "hnsr_circuit::entry::clock_answer" ×
             Plain.Known 𝓤 H A W 𝓣 0 ps·3 r·3 (claims· .6) (claims· .7) "hnsr_circuit::answer::first_refusal" ×
             Plain.Known 𝓤 H A W 𝓣 0 ps·4 r·4 (claims· .8) (claims· .9) "hnsr_circuit::answer::is_taken" × Plain.Known 𝓤
-            H A W 𝓣 0 ps·5 r·5 (claims· .10) (claims· .11) "hnsr_circuit::calls::revoking::revoking" × Plain.Known 𝓤 H
-            A W 𝓣 0 ps·6 r·6 (claims· .12) (claims· .13) "hnsr_circuit::records::header::with_clock" × Plain.Known 𝓤 H
-            A W 𝓣 1 ps·7 r·7 (claims· .14) (claims· .15) "hnsr_circuit::tables::stores::drop_lapsed" × Plain.Known 𝓤 H
-            A W 𝓣 4 ps·8 r·8 (claims· .16) (claims· .17) "hnsr_circuit::calls::revocation::revoke_all" × Plain.Known 𝓤
-            H A W 𝓣 0 ps·9 r·9 (claims· .18) (claims· .19) "hnsr_circuit::runtime::refused"
+            H A W 𝓣 0 ps·5 r·5 (claims· .10) (claims· .11) "hnsr_circuit::records::header::with_clock" × Plain.Known 𝓤
+            H A W 𝓣 1 ps·6 r·6 (claims· .12) (claims· .13) "hnsr_circuit::tables::ledger::drop_lapsed" × Plain.Known 𝓤
+            H A W 𝓣 4 ps·7 r·7 (claims· .14) (claims· .15) "hnsr_circuit::calls::revocation::revoke_all" × Plain.Known
+            𝓤 H A W 𝓣 0 ps·8 r·8 (claims· .16) (claims· .17) "hnsr_circuit::runtime::refused"
 
       module _ (κs : Lifetimes.Lfts 5) (qs : Lifetimes.Shares 5) where
         abbrev life0 : Row.Life
@@ -1823,39 +1816,43 @@ module _ (claims· : Claims) where
         abbrev l5 : Row.Entry
         l5 = (5, Relend.mslice-owed (Referent.rtF (Referent.fInt Syntax.w32)) ref11 4 11 life4)
 
-        abbrev g6 : List.List Row.Entry
-        g6 = e0 ∷ l1 ∷ e2 ∷ e3 ∷ e4 ∷ e5 ∷ e6 ∷ e7 ∷ e8 ∷ e9·1 ∷ e10·1 ∷ e11 ∷ e12 ∷ e13 ∷ e14 ∷ e15 ∷ List.[]
-
-        abbrev g9 : List.List Row.Entry
-        g9 = e0 ∷ l1 ∷ l2 ∷ e3 ∷ e4 ∷ e5 ∷ e6 ∷ e7 ∷ e8 ∷ e9·1 ∷ e10·1 ∷ e11 ∷ e12 ∷ e13 ∷ e14 ∷ e15 ∷ List.[]
+        abbrev g11 : List.List Row.Entry
+        g11 = e0 ∷ l1 ∷ e2 ∷ e3 ∷ e4 ∷ e5 ∷ e6 ∷ e7 ∷ e8 ∷ e9·1 ∷ e10·1 ∷ e11 ∷ e12 ∷ e13 ∷ e14 ∷ e15 ∷ List.[]
 
         abbrev g14 : List.List Row.Entry
-        g14 = e0 ∷ l1 ∷ l2 ∷ e3 ∷ e4 ∷ e5 ∷ e6 ∷ e7 ∷ e8 ∷ e9·1 ∷ e10·1 ∷ e11·1 ∷ e12 ∷ e13 ∷ e14 ∷ e15 ∷ List.[]
-
-        abbrev g17 : List.List Row.Entry
-        g17 = e0 ∷ l1 ∷ l2 ∷ e3 ∷ e4 ∷ e5 ∷ e6 ∷ e7 ∷ e8 ∷ e9 ∷ e10·1 ∷ e11·1 ∷ e12 ∷ e13 ∷ e14 ∷ e15 ∷ List.[]
+        g14 = e0 ∷ l1 ∷ l2 ∷ e3 ∷ e4 ∷ e5 ∷ e6 ∷ e7 ∷ e8 ∷ e9·1 ∷ e10·1 ∷ e11 ∷ e12 ∷ e13 ∷ e14 ∷ e15 ∷ List.[]
 
         abbrev g19 : List.List Row.Entry
-        g19 = e0 ∷ e1 ∷ l2 ∷ e3 ∷ e4 ∷ e5 ∷ e6 ∷ e7 ∷ e8 ∷ e9 ∷ e10·1 ∷ e11·1 ∷ e12 ∷ e13 ∷ e14 ∷ e15 ∷ List.[]
+        g19 = e0 ∷ l1 ∷ l2 ∷ e3 ∷ e4 ∷ e5 ∷ e6 ∷ e7 ∷ e8 ∷ e9·1 ∷ e10·1 ∷ e11·1 ∷ e12 ∷ e13 ∷ e14 ∷ e15 ∷ List.[]
 
-        abbrev g39 : List.List Row.Entry
-        g39 = e0 ∷ e1 ∷ e2 ∷ (3, Relend.mslice-owed ReservationUsage.row ref9 2 7 life2) ∷ e4 ∷ e5 ∷ e6·1 ∷ e7 ∷ e8 ∷
-            e9 ∷ e10 ∷ e11 ∷ e12 ∷ e13·1 ∷ e14 ∷ e15 ∷ List.[]
+        abbrev g22 : List.List Row.Entry
+        g22 = e0 ∷ l1 ∷ l2 ∷ e3 ∷ e4 ∷ e5 ∷ e6 ∷ e7 ∷ e8 ∷ e9 ∷ e10·1 ∷ e11·1 ∷ e12 ∷ e13 ∷ e14 ∷ e15 ∷ List.[]
 
-        abbrev g44 : List.List Row.Entry
-        g44 = e0 ∷ l1·1 ∷ e2 ∷ e3 ∷ e4 ∷ e5 ∷ e6·1 ∷ e7 ∷ e8 ∷ e9 ∷ e10 ∷ e11 ∷ e12 ∷ e13·1 ∷ e14 ∷ e15 ∷ List.[]
+        abbrev g24 : List.List Row.Entry
+        g24 = e0 ∷ e1 ∷ l2 ∷ e3 ∷ e4 ∷ e5 ∷ e6 ∷ e7 ∷ e8 ∷ e9 ∷ e10·1 ∷ e11·1 ∷ e12 ∷ e13 ∷ e14 ∷ e15 ∷ List.[]
 
-        abbrev g47 : List.List Row.Entry
-        g47 = e0 ∷ l1·1 ∷ l2·1 ∷ e3 ∷ e4 ∷ e5 ∷ e6·1 ∷ e7 ∷ e8 ∷ e9 ∷ e10 ∷ e11 ∷ e12 ∷ e13·1 ∷ e14 ∷ e15 ∷ List.[]
+        abbrev g38 : List.List Row.Entry
+        g38 = e0 ∷ e1 ∷ e2 ∷ (3, Relend.mslice-owed ReservationUsage.row ref9 2 7 life2) ∷ e4 ∷ e5 ∷ e6·1 ∷ e7 ∷ e8 ∷
+            e9 ∷ e10·1 ∷ e11 ∷ e12 ∷ e13·1 ∷ e14 ∷ e15 ∷ List.[]
 
-        abbrev g50 : List.List Row.Entry
-        g50 = e0 ∷ l1·1 ∷ l2·1 ∷ e3 ∷ l4 ∷ e5 ∷ e6·1 ∷ e7 ∷ e8 ∷ e9 ∷ e10 ∷ e11 ∷ e12 ∷ e13·1 ∷ e14 ∷ e15 ∷ List.[]
+        abbrev g43 : List.List Row.Entry
+        g43 = e0 ∷ l1·1 ∷ e2 ∷ e3 ∷ e4 ∷ e5 ∷ e6·1 ∷ e7 ∷ e8 ∷ e9 ∷ e10·1 ∷ e11 ∷ e12 ∷ e13·1 ∷ e14 ∷ e15 ∷ List.[]
 
-        abbrev g53 : List.List Row.Entry
-        g53 = e0 ∷ l1·1 ∷ l2·1 ∷ e3 ∷ l4 ∷ l5 ∷ e6·1 ∷ e7 ∷ e8 ∷ e9 ∷ e10 ∷ e11 ∷ e12 ∷ e13·1 ∷ e14 ∷ e15 ∷ List.[]
+        abbrev g46 : List.List Row.Entry
+        g46 = e0 ∷ l1·1 ∷ l2·1 ∷ e3 ∷ e4 ∷ e5 ∷ e6·1 ∷ e7 ∷ e8 ∷ e9 ∷ e10·1 ∷ e11 ∷ e12 ∷ e13·1 ∷ e14 ∷ e15 ∷ List.[]
 
-        abbrev g56 : List.List Row.Entry
-        g56 = e0·1 ∷ l1·1 ∷ l2·1 ∷ e3 ∷ l4 ∷ l5 ∷ e6·1 ∷ e7 ∷ e8 ∷ e9 ∷ e10 ∷ e11 ∷ e12 ∷ e13·1 ∷ e14 ∷ e15 ∷ List.[]
+        abbrev g49 : List.List Row.Entry
+        g49 = e0 ∷ l1·1 ∷ l2·1 ∷ e3 ∷ l4 ∷ e5 ∷ e6·1 ∷ e7 ∷ e8 ∷ e9 ∷ e10·1 ∷ e11 ∷ e12 ∷ e13·1 ∷ e14 ∷ e15 ∷ List.[]
+
+        abbrev g52 : List.List Row.Entry
+        g52 = e0 ∷ l1·1 ∷ l2·1 ∷ e3 ∷ l4 ∷ l5 ∷ e6·1 ∷ e7 ∷ e8 ∷ e9 ∷ e10·1 ∷ e11 ∷ e12 ∷ e13·1 ∷ e14 ∷ e15 ∷ List.[]
+
+        abbrev g55 : List.List Row.Entry
+        g55 = e0·1 ∷ l1·1 ∷ l2·1 ∷ e3 ∷ l4 ∷ l5 ∷ e6·1 ∷ e7 ∷ e8 ∷ e9 ∷ e10·1 ∷ e11 ∷ e12 ∷ e13·1 ∷ e14 ∷ e15 ∷ List.[]
+
+        abbrev g58 : List.List Row.Entry
+        g58 = e0·1 ∷ l1·1 ∷ l2·1 ∷ e3 ∷ l4 ∷ l5 ∷ e6·1 ∷ e7·1 ∷ e8 ∷ e9 ∷ e10·1 ∷ e11 ∷ e12 ∷ e13·1 ∷ e14 ∷ e15 ∷
+            List.[]
 
         abbrev g59 : List.List Row.Entry
         g59 = e0·1 ∷ l1·1 ∷ l2·1 ∷ e3 ∷ l4 ∷ l5 ∷ e6·1 ∷ e7·1 ∷ e8 ∷ e9 ∷ e10 ∷ e11 ∷ e12 ∷ e13·1 ∷ e14 ∷ e15 ∷ List.[]
@@ -1863,14 +1860,14 @@ module _ (claims· : Claims) where
         abbrev g60 : List.List Row.Entry
         g60 = e0·1 ∷ l1·1 ∷ l2·1 ∷ e3 ∷ l4 ∷ l5 ∷ e6·1 ∷ e7·1 ∷ e8 ∷ e9 ∷ e10 ∷ e11 ∷ e12 ∷ e13 ∷ e14 ∷ e15 ∷ List.[]
 
+        abbrev g62 : List.List Row.Entry
+        g62 = e0·1 ∷ e1 ∷ l2·1 ∷ e3 ∷ l4 ∷ l5 ∷ e6·1 ∷ e7·1 ∷ e8 ∷ e9 ∷ e10 ∷ e11 ∷ e12 ∷ e13 ∷ e14 ∷ e15 ∷ List.[]
+
         abbrev g63 : List.List Row.Entry
-        g63 = e0·1 ∷ e1 ∷ l2·1 ∷ e3 ∷ l4 ∷ l5 ∷ e6·1 ∷ e7·1 ∷ e8 ∷ e9 ∷ e10 ∷ e11 ∷ e12 ∷ e13 ∷ e14 ∷ e15 ∷ List.[]
+        g63 = e0·1 ∷ e1 ∷ e2 ∷ e3 ∷ l4 ∷ l5 ∷ e6·1 ∷ e7·1 ∷ e8 ∷ e9 ∷ e10 ∷ e11 ∷ e12 ∷ e13 ∷ e14 ∷ e15 ∷ List.[]
 
-        abbrev g64 : List.List Row.Entry
-        g64 = e0·1 ∷ e1 ∷ e2 ∷ e3 ∷ l4 ∷ l5 ∷ e6·1 ∷ e7·1 ∷ e8 ∷ e9 ∷ e10 ∷ e11 ∷ e12 ∷ e13 ∷ e14 ∷ e15 ∷ List.[]
-
-        abbrev g66 : List.List Row.Entry
-        g66 = e0·1 ∷ e1 ∷ e2 ∷ e3 ∷ e4 ∷ l5 ∷ e6·1 ∷ e7·1 ∷ e8 ∷ e9 ∷ e10 ∷ e11 ∷ e12 ∷ e13 ∷ e14 ∷ e15 ∷ List.[]
+        abbrev g65 : List.List Row.Entry
+        g65 = e0·1 ∷ e1 ∷ e2 ∷ e3 ∷ e4 ∷ l5 ∷ e6·1 ∷ e7·1 ∷ e8 ∷ e9 ∷ e10 ∷ e11 ∷ e12 ∷ e13 ∷ e14 ∷ e15 ∷ List.[]
 
         abbrev G0 : Row.Cx
         G0 = record {
@@ -1902,217 +1899,217 @@ module _ (claims· : Claims) where
 
         abbrev G4 : Row.Cx
         G4 = record {
-          locals = List._++_ t5 (List._++_ t1 t2);
+          locals = List._++_ t4 (List._++_ t5 t2);
           slots = life0 ∷ life1 ∷ life2 ∷ life3 ∷ life4 ∷ Row.off ∷ Row.off ∷ Row.off ∷ Row.off ∷ Row.off ∷ Row.off ∷
               Row.off ∷ List.[];
         }
 
         abbrev G5 : Row.Cx
         G5 = record {
-          locals = List._++_ t5 (List._++_ t1 t2);
-          slots = life0 ∷ life1 ∷ life2 ∷ life3 ∷ life4 ∷ Row.alive ∷ Row.off ∷ Row.off ∷ Row.off ∷ Row.off ∷ Row.off ∷
+          locals = List._++_ t4 (List._++_ t6 t2);
+          slots = life0 ∷ life1 ∷ life2 ∷ life3 ∷ life4 ∷ Row.off ∷ Row.off ∷ Row.off ∷ Row.off ∷ Row.off ∷ Row.off ∷
               Row.off ∷ List.[];
         }
 
         abbrev G6 : Row.Cx
         G6 = record {
-          locals = List._++_ g6 (List._++_ t7 t2);
-          slots = Row.off ∷ life1 ∷ life2 ∷ life3 ∷ life4 ∷ Row.alive ∷ Row.off ∷ Row.off ∷ Row.off ∷ Row.off ∷ Row.off
-              ∷ Row.off ∷ List.[];
+          locals = List._++_ t4 (List._++_ t7 t2);
+          slots = life0 ∷ life1 ∷ life2 ∷ life3 ∷ life4 ∷ Row.off ∷ Row.off ∷ Row.off ∷ Row.off ∷ Row.off ∷ Row.off ∷
+              Row.off ∷ List.[];
         }
 
         abbrev G7 : Row.Cx
         G7 = record {
-          locals = List._++_ g6 (List._++_ t8 t2);
-          slots = Row.off ∷ life1 ∷ life2 ∷ life3 ∷ life4 ∷ Row.alive ∷ Row.off ∷ Row.off ∷ Row.off ∷ Row.off ∷ Row.off
-              ∷ Row.off ∷ List.[];
+          locals = List._++_ t8 (List._++_ t7 t2);
+          slots = life0 ∷ life1 ∷ life2 ∷ life3 ∷ life4 ∷ Row.off ∷ Row.off ∷ Row.off ∷ Row.off ∷ Row.off ∷ Row.off ∷
+              Row.off ∷ List.[];
         }
 
         abbrev G8 : Row.Cx
         G8 = record {
-          locals = List._++_ g6 (List._++_ t8 t2);
-          slots = Row.off ∷ life1 ∷ life2 ∷ life3 ∷ life4 ∷ Row.alive ∷ Row.alive ∷ Row.off ∷ Row.off ∷ Row.off ∷
-              Row.off ∷ Row.off ∷ List.[];
+          locals = List._++_ t8 (List._++_ t9 t2);
+          slots = life0 ∷ life1 ∷ life2 ∷ life3 ∷ life4 ∷ Row.off ∷ Row.off ∷ Row.off ∷ Row.off ∷ Row.off ∷ Row.off ∷
+              Row.off ∷ List.[];
         }
 
         abbrev G9 : Row.Cx
         G9 = record {
-          locals = List._++_ g9 (List._++_ t10 t2);
-          slots = Row.off ∷ Row.off ∷ life2 ∷ life3 ∷ life4 ∷ Row.alive ∷ Row.alive ∷ Row.off ∷ Row.off ∷ Row.off ∷
-              Row.off ∷ Row.off ∷ List.[];
+          locals = List._++_ t8 (List._++_ t10 t2);
+          slots = life0 ∷ life1 ∷ life2 ∷ life3 ∷ life4 ∷ Row.off ∷ Row.off ∷ Row.off ∷ Row.off ∷ Row.off ∷ Row.off ∷
+              Row.off ∷ List.[];
         }
 
         abbrev G10 : Row.Cx
         G10 = record {
-          locals = List._++_ g9 (List._++_ t11 t2);
-          slots = Row.off ∷ Row.off ∷ life2 ∷ life3 ∷ life4 ∷ Row.alive ∷ Row.alive ∷ Row.off ∷ Row.off ∷ Row.off ∷
-              Row.off ∷ Row.off ∷ List.[];
+          locals = List._++_ t8 (List._++_ t1 t2);
+          slots = life0 ∷ life1 ∷ life2 ∷ life3 ∷ life4 ∷ Row.off ∷ Row.off ∷ Row.off ∷ Row.off ∷ Row.off ∷ Row.off ∷
+              Row.off ∷ List.[];
         }
 
         abbrev G11 : Row.Cx
         G11 = record {
-          locals = List._++_ g9 (List._++_ t12 t2);
-          slots = Row.off ∷ Row.off ∷ life2 ∷ life3 ∷ life4 ∷ Row.alive ∷ Row.alive ∷ Row.off ∷ Row.off ∷ Row.off ∷
-              Row.off ∷ Row.off ∷ List.[];
+          locals = List._++_ t8 (List._++_ t1 t2);
+          slots = life0 ∷ life1 ∷ life2 ∷ life3 ∷ life4 ∷ Row.alive ∷ Row.off ∷ Row.off ∷ Row.off ∷ Row.off ∷ Row.off ∷
+              Row.off ∷ List.[];
         }
 
         abbrev G12 : Row.Cx
         G12 = record {
-          locals = List._++_ g9 (List._++_ t13 t2);
-          slots = Row.off ∷ Row.off ∷ life2 ∷ life3 ∷ life4 ∷ Row.alive ∷ Row.alive ∷ Row.off ∷ Row.off ∷ Row.off ∷
-              Row.off ∷ Row.off ∷ List.[];
+          locals = List._++_ g11 (List._++_ t12 t2);
+          slots = Row.off ∷ life1 ∷ life2 ∷ life3 ∷ life4 ∷ Row.alive ∷ Row.off ∷ Row.off ∷ Row.off ∷ Row.off ∷ Row.off
+              ∷ Row.off ∷ List.[];
         }
 
         abbrev G13 : Row.Cx
         G13 = record {
-          locals = List._++_ g14 (List._++_ t13 t2);
-          slots = Row.off ∷ Row.off ∷ life2 ∷ life3 ∷ life4 ∷ Row.alive ∷ Row.alive ∷ Row.off ∷ Row.off ∷ Row.off ∷
-              Row.off ∷ Row.off ∷ List.[];
+          locals = List._++_ g11 (List._++_ t13 t2);
+          slots = Row.off ∷ life1 ∷ life2 ∷ life3 ∷ life4 ∷ Row.alive ∷ Row.off ∷ Row.off ∷ Row.off ∷ Row.off ∷ Row.off
+              ∷ Row.off ∷ List.[];
         }
 
         abbrev G14 : Row.Cx
         G14 = record {
-          locals = List._++_ g14 (List._++_ t15 t2);
-          slots = Row.off ∷ Row.off ∷ life2 ∷ life3 ∷ life4 ∷ Row.alive ∷ Row.alive ∷ Row.off ∷ Row.off ∷ Row.off ∷
+          locals = List._++_ g11 (List._++_ t13 t2);
+          slots = Row.off ∷ life1 ∷ life2 ∷ life3 ∷ life4 ∷ Row.alive ∷ Row.alive ∷ Row.off ∷ Row.off ∷ Row.off ∷
               Row.off ∷ Row.off ∷ List.[];
         }
 
         abbrev G15 : Row.Cx
         G15 = record {
-          locals = List._++_ g14 (List._++_ t16 t2);
+          locals = List._++_ g14 (List._++_ t15 t2);
           slots = Row.off ∷ Row.off ∷ life2 ∷ life3 ∷ life4 ∷ Row.alive ∷ Row.alive ∷ Row.off ∷ Row.off ∷ Row.off ∷
               Row.off ∷ Row.off ∷ List.[];
         }
 
         abbrev G16 : Row.Cx
         G16 = record {
-          locals = List._++_ g17 (List._++_ t16 t2);
+          locals = List._++_ g14 (List._++_ t16 t2);
           slots = Row.off ∷ Row.off ∷ life2 ∷ life3 ∷ life4 ∷ Row.alive ∷ Row.alive ∷ Row.off ∷ Row.off ∷ Row.off ∷
               Row.off ∷ Row.off ∷ List.[];
         }
 
         abbrev G17 : Row.Cx
         G17 = record {
-          locals = List._++_ g17 (List._++_ t18 t2);
+          locals = List._++_ g14 (List._++_ t17 t2);
           slots = Row.off ∷ Row.off ∷ life2 ∷ life3 ∷ life4 ∷ Row.alive ∷ Row.alive ∷ Row.off ∷ Row.off ∷ Row.off ∷
               Row.off ∷ Row.off ∷ List.[];
         }
 
         abbrev G18 : Row.Cx
         G18 = record {
-          locals = List._++_ g17 (List._++_ t1 t2);
+          locals = List._++_ g14 (List._++_ t18 t2);
           slots = Row.off ∷ Row.off ∷ life2 ∷ life3 ∷ life4 ∷ Row.alive ∷ Row.alive ∷ Row.off ∷ Row.off ∷ Row.off ∷
               Row.off ∷ Row.off ∷ List.[];
         }
 
         abbrev G19 : Row.Cx
         G19 = record {
-          locals = List._++_ g17 (List._++_ t1 t2);
-          slots = Row.off ∷ Row.off ∷ life2 ∷ life3 ∷ life4 ∷ Row.dead ∷ Row.alive ∷ Row.off ∷ Row.off ∷ Row.off ∷
+          locals = List._++_ g19 (List._++_ t18 t2);
+          slots = Row.off ∷ Row.off ∷ life2 ∷ life3 ∷ life4 ∷ Row.alive ∷ Row.alive ∷ Row.off ∷ Row.off ∷ Row.off ∷
               Row.off ∷ Row.off ∷ List.[];
         }
 
         abbrev G20 : Row.Cx
         G20 = record {
-          locals = List._++_ g19 (List._++_ t1 t2);
-          slots = life0 ∷ Row.off ∷ life2 ∷ life3 ∷ life4 ∷ Row.dead ∷ Row.alive ∷ Row.off ∷ Row.off ∷ Row.off ∷
+          locals = List._++_ g19 (List._++_ t20 t2);
+          slots = Row.off ∷ Row.off ∷ life2 ∷ life3 ∷ life4 ∷ Row.alive ∷ Row.alive ∷ Row.off ∷ Row.off ∷ Row.off ∷
               Row.off ∷ Row.off ∷ List.[];
         }
 
         abbrev G21 : Row.Cx
         G21 = record {
-          locals = List._++_ g19 (List._++_ t1 t2);
-          slots = life0 ∷ Row.off ∷ life2 ∷ life3 ∷ life4 ∷ Row.off ∷ Row.alive ∷ Row.off ∷ Row.off ∷ Row.off ∷ Row.off
-              ∷ Row.off ∷ List.[];
+          locals = List._++_ g19 (List._++_ t21 t2);
+          slots = Row.off ∷ Row.off ∷ life2 ∷ life3 ∷ life4 ∷ Row.alive ∷ Row.alive ∷ Row.off ∷ Row.off ∷ Row.off ∷
+              Row.off ∷ Row.off ∷ List.[];
         }
 
         abbrev G22 : Row.Cx
         G22 = record {
-          locals = List._++_ g19 (List._++_ t1 t2);
-          slots = life0 ∷ Row.off ∷ life2 ∷ life3 ∷ life4 ∷ Row.off ∷ Row.dead ∷ Row.off ∷ Row.off ∷ Row.off ∷ Row.off
-              ∷ Row.off ∷ List.[];
+          locals = List._++_ g22 (List._++_ t21 t2);
+          slots = Row.off ∷ Row.off ∷ life2 ∷ life3 ∷ life4 ∷ Row.alive ∷ Row.alive ∷ Row.off ∷ Row.off ∷ Row.off ∷
+              Row.off ∷ Row.off ∷ List.[];
         }
 
         abbrev G23 : Row.Cx
         G23 = record {
-          locals = List._++_ t20 (List._++_ t1 t2);
-          slots = life0 ∷ life1 ∷ life2 ∷ life3 ∷ life4 ∷ Row.off ∷ Row.dead ∷ Row.off ∷ Row.off ∷ Row.off ∷ Row.off ∷
-              Row.off ∷ List.[];
+          locals = List._++_ g22 (List._++_ t23 t2);
+          slots = Row.off ∷ Row.off ∷ life2 ∷ life3 ∷ life4 ∷ Row.alive ∷ Row.alive ∷ Row.off ∷ Row.off ∷ Row.off ∷
+              Row.off ∷ Row.off ∷ List.[];
         }
 
         abbrev G24 : Row.Cx
         G24 = record {
-          locals = List._++_ t20 (List._++_ t1 t2);
-          slots = life0 ∷ life1 ∷ life2 ∷ life3 ∷ life4 ∷ Row.off ∷ Row.off ∷ Row.off ∷ Row.off ∷ Row.off ∷ Row.off ∷
-              Row.off ∷ List.[];
+          locals = List._++_ g22 (List._++_ t1 t2);
+          slots = Row.off ∷ Row.off ∷ life2 ∷ life3 ∷ life4 ∷ Row.alive ∷ Row.alive ∷ Row.off ∷ Row.off ∷ Row.off ∷
+              Row.off ∷ Row.off ∷ List.[];
         }
 
         abbrev G25 : Row.Cx
         G25 = record {
-          locals = List._++_ t21 (List._++_ t1 t2);
-          slots = life0 ∷ life1 ∷ life2 ∷ life3 ∷ life4 ∷ Row.off ∷ Row.off ∷ Row.off ∷ Row.off ∷ Row.off ∷ Row.off ∷
-              Row.off ∷ List.[];
+          locals = List._++_ g22 (List._++_ t1 t2);
+          slots = Row.off ∷ Row.off ∷ life2 ∷ life3 ∷ life4 ∷ Row.dead ∷ Row.alive ∷ Row.off ∷ Row.off ∷ Row.off ∷
+              Row.off ∷ Row.off ∷ List.[];
         }
 
         abbrev G26 : Row.Cx
         G26 = record {
-          locals = List._++_ t22 (List._++_ t1 t2);
-          slots = life0 ∷ life1 ∷ life2 ∷ life3 ∷ life4 ∷ Row.off ∷ Row.off ∷ Row.off ∷ Row.off ∷ Row.off ∷ Row.off ∷
-              Row.off ∷ List.[];
+          locals = List._++_ g24 (List._++_ t1 t2);
+          slots = life0 ∷ Row.off ∷ life2 ∷ life3 ∷ life4 ∷ Row.dead ∷ Row.alive ∷ Row.off ∷ Row.off ∷ Row.off ∷
+              Row.off ∷ Row.off ∷ List.[];
         }
 
         abbrev G27 : Row.Cx
         G27 = record {
-          locals = List._++_ t23 (List._++_ t1 t2);
-          slots = life0 ∷ life1 ∷ life2 ∷ life3 ∷ life4 ∷ Row.off ∷ Row.off ∷ Row.off ∷ Row.off ∷ Row.off ∷ Row.off ∷
-              Row.off ∷ List.[];
+          locals = List._++_ g24 (List._++_ t1 t2);
+          slots = life0 ∷ Row.off ∷ life2 ∷ life3 ∷ life4 ∷ Row.off ∷ Row.alive ∷ Row.off ∷ Row.off ∷ Row.off ∷ Row.off
+              ∷ Row.off ∷ List.[];
         }
 
         abbrev G28 : Row.Cx
         G28 = record {
-          locals = List._++_ t24 (List._++_ t1 t2);
-          slots = life0 ∷ life1 ∷ life2 ∷ life3 ∷ life4 ∷ Row.off ∷ Row.off ∷ Row.off ∷ Row.off ∷ Row.off ∷ Row.off ∷
-              Row.off ∷ List.[];
+          locals = List._++_ g24 (List._++_ t1 t2);
+          slots = life0 ∷ Row.off ∷ life2 ∷ life3 ∷ life4 ∷ Row.off ∷ Row.dead ∷ Row.off ∷ Row.off ∷ Row.off ∷ Row.off
+              ∷ Row.off ∷ List.[];
         }
 
         abbrev G29 : Row.Cx
         G29 = record {
           locals = List._++_ t25 (List._++_ t1 t2);
-          slots = life0 ∷ life1 ∷ life2 ∷ life3 ∷ life4 ∷ Row.off ∷ Row.off ∷ Row.off ∷ Row.off ∷ Row.off ∷ Row.off ∷
+          slots = life0 ∷ life1 ∷ life2 ∷ life3 ∷ life4 ∷ Row.off ∷ Row.dead ∷ Row.off ∷ Row.off ∷ Row.off ∷ Row.off ∷
               Row.off ∷ List.[];
         }
 
         abbrev G30 : Row.Cx
         G30 = record {
-          locals = List._++_ t26 (List._++_ t1 t2);
+          locals = List._++_ t25 (List._++_ t1 t2);
           slots = life0 ∷ life1 ∷ life2 ∷ life3 ∷ life4 ∷ Row.off ∷ Row.off ∷ Row.off ∷ Row.off ∷ Row.off ∷ Row.off ∷
               Row.off ∷ List.[];
         }
 
         abbrev G31 : Row.Cx
         G31 = record {
-          locals = List._++_ t27 (List._++_ t1 t2);
+          locals = List._++_ t26 (List._++_ t1 t2);
           slots = life0 ∷ life1 ∷ life2 ∷ life3 ∷ life4 ∷ Row.off ∷ Row.off ∷ Row.off ∷ Row.off ∷ Row.off ∷ Row.off ∷
               Row.off ∷ List.[];
         }
 
         abbrev G32 : Row.Cx
         G32 = record {
-          locals = List._++_ t27 (List._++_ t28 t2);
+          locals = List._++_ t27 (List._++_ t1 t2);
           slots = life0 ∷ life1 ∷ life2 ∷ life3 ∷ life4 ∷ Row.off ∷ Row.off ∷ Row.off ∷ Row.off ∷ Row.off ∷ Row.off ∷
               Row.off ∷ List.[];
         }
 
         abbrev G33 : Row.Cx
         G33 = record {
-          locals = List._++_ t29 (List._++_ t1 t2);
+          locals = List._++_ t28 (List._++_ t1 t2);
           slots = life0 ∷ life1 ∷ life2 ∷ life3 ∷ life4 ∷ Row.off ∷ Row.off ∷ Row.off ∷ Row.off ∷ Row.off ∷ Row.off ∷
               Row.off ∷ List.[];
         }
 
         abbrev G34 : Row.Cx
         G34 = record {
-          locals = List._++_ t30 (List._++_ t28 t2);
+          locals = List._++_ t29 (List._++_ t1 t2);
           slots = life0 ∷ life1 ∷ life2 ∷ life3 ∷ life4 ∷ Row.off ∷ Row.off ∷ Row.off ∷ Row.off ∷ Row.off ∷ Row.off ∷
               Row.off ∷ List.[];
         }
@@ -2126,322 +2123,322 @@ module _ (claims· : Claims) where
 
         abbrev G36 : Row.Cx
         G36 = record {
-          locals = List._++_ t30 (List._++_ t31 t2);
+          locals = List._++_ t31 (List._++_ t1 t2);
           slots = life0 ∷ life1 ∷ life2 ∷ life3 ∷ life4 ∷ Row.off ∷ Row.off ∷ Row.off ∷ Row.off ∷ Row.off ∷ Row.off ∷
               Row.off ∷ List.[];
         }
 
         abbrev G37 : Row.Cx
         G37 = record {
-          locals = List._++_ t30 (List._++_ t32 t2);
+          locals = List._++_ t32 (List._++_ t1 t2);
           slots = life0 ∷ life1 ∷ life2 ∷ life3 ∷ life4 ∷ Row.off ∷ Row.off ∷ Row.off ∷ Row.off ∷ Row.off ∷ Row.off ∷
               Row.off ∷ List.[];
         }
 
         abbrev G38 : Row.Cx
         G38 = record {
-          locals = List._++_ t30 (List._++_ t33 t2);
+          locals = List._++_ t32 (List._++_ t33 t2);
           slots = life0 ∷ life1 ∷ life2 ∷ life3 ∷ life4 ∷ Row.off ∷ Row.off ∷ Row.off ∷ Row.off ∷ Row.off ∷ Row.off ∷
               Row.off ∷ List.[];
         }
 
         abbrev G39 : Row.Cx
         G39 = record {
-          locals = List._++_ t34 (List._++_ t33 t2);
+          locals = List._++_ t34 (List._++_ t1 t2);
           slots = life0 ∷ life1 ∷ life2 ∷ life3 ∷ life4 ∷ Row.off ∷ Row.off ∷ Row.off ∷ Row.off ∷ Row.off ∷ Row.off ∷
               Row.off ∷ List.[];
         }
 
         abbrev G40 : Row.Cx
         G40 = record {
-          locals = List._++_ t34 (List._++_ t35 t2);
+          locals = List._++_ t35 (List._++_ t33 t2);
           slots = life0 ∷ life1 ∷ life2 ∷ life3 ∷ life4 ∷ Row.off ∷ Row.off ∷ Row.off ∷ Row.off ∷ Row.off ∷ Row.off ∷
               Row.off ∷ List.[];
         }
 
         abbrev G41 : Row.Cx
         G41 = record {
-          locals = List._++_ t34 (List._++_ t36 t2);
+          locals = List._++_ t35 (List._++_ t1 t2);
           slots = life0 ∷ life1 ∷ life2 ∷ life3 ∷ life4 ∷ Row.off ∷ Row.off ∷ Row.off ∷ Row.off ∷ Row.off ∷ Row.off ∷
               Row.off ∷ List.[];
         }
 
         abbrev G42 : Row.Cx
         G42 = record {
-          locals = List._++_ t34 (List._++_ t37 t2);
+          locals = List._++_ t35 (List._++_ t36 t2);
           slots = life0 ∷ life1 ∷ life2 ∷ life3 ∷ life4 ∷ Row.off ∷ Row.off ∷ Row.off ∷ Row.off ∷ Row.off ∷ Row.off ∷
               Row.off ∷ List.[];
         }
 
         abbrev G43 : Row.Cx
         G43 = record {
-          locals = List._++_ t38 (List._++_ t37 t2);
+          locals = List._++_ t37 (List._++_ t36 t2);
           slots = life0 ∷ life1 ∷ life2 ∷ life3 ∷ life4 ∷ Row.off ∷ Row.off ∷ Row.off ∷ Row.off ∷ Row.off ∷ Row.off ∷
               Row.off ∷ List.[];
         }
 
         abbrev G44 : Row.Cx
         G44 = record {
-          locals = List._++_ t38 (List._++_ t37 t2);
+          locals = List._++_ t37 (List._++_ t36 t2);
           slots = life0 ∷ life1 ∷ life2 ∷ life3 ∷ life4 ∷ Row.off ∷ Row.off ∷ Row.alive ∷ Row.off ∷ Row.off ∷ Row.off ∷
               Row.off ∷ List.[];
         }
 
         abbrev G45 : Row.Cx
         G45 = record {
-          locals = List._++_ g39 (List._++_ t40 t2);
+          locals = List._++_ g38 (List._++_ t39 t2);
           slots = life0 ∷ life1 ∷ Row.off ∷ life3 ∷ life4 ∷ Row.off ∷ Row.off ∷ Row.alive ∷ Row.off ∷ Row.off ∷ Row.off
               ∷ Row.off ∷ List.[];
         }
 
         abbrev G46 : Row.Cx
         G46 = record {
-          locals = List._++_ g39 (List._++_ t41 t2);
+          locals = List._++_ g38 (List._++_ t40 t2);
           slots = life0 ∷ life1 ∷ Row.off ∷ life3 ∷ life4 ∷ Row.off ∷ Row.off ∷ Row.alive ∷ Row.off ∷ Row.off ∷ Row.off
               ∷ Row.off ∷ List.[];
         }
 
         abbrev G47 : Row.Cx
         G47 = record {
-          locals = List._++_ g39 (List._++_ t42 t2);
+          locals = List._++_ g38 (List._++_ t41 t2);
           slots = life0 ∷ life1 ∷ Row.off ∷ life3 ∷ life4 ∷ Row.off ∷ Row.off ∷ Row.alive ∷ Row.off ∷ Row.off ∷ Row.off
               ∷ Row.off ∷ List.[];
         }
 
         abbrev G48 : Row.Cx
         G48 = record {
-          locals = List._++_ g39 (List._++_ t43 t2);
+          locals = List._++_ g38 (List._++_ t42 t2);
           slots = life0 ∷ life1 ∷ Row.off ∷ life3 ∷ life4 ∷ Row.off ∷ Row.off ∷ Row.alive ∷ Row.off ∷ Row.off ∷ Row.off
               ∷ Row.off ∷ List.[];
         }
 
         abbrev G49 : Row.Cx
         G49 = record {
-          locals = List._++_ g39 (List._++_ t43 t2);
+          locals = List._++_ g38 (List._++_ t42 t2);
           slots = life0 ∷ life1 ∷ Row.off ∷ life3 ∷ life4 ∷ Row.off ∷ Row.off ∷ Row.dead ∷ Row.off ∷ Row.off ∷ Row.off
               ∷ Row.off ∷ List.[];
         }
 
         abbrev G50 : Row.Cx
         G50 = record {
-          locals = List._++_ t38 (List._++_ t37 t2);
+          locals = List._++_ t37 (List._++_ t36 t2);
           slots = life0 ∷ life1 ∷ life2 ∷ life3 ∷ life4 ∷ Row.off ∷ Row.off ∷ Row.dead ∷ Row.off ∷ Row.off ∷ Row.off ∷
               Row.off ∷ List.[];
         }
 
         abbrev G51 : Row.Cx
         G51 = record {
-          locals = List._++_ t38 (List._++_ t37 t2);
+          locals = List._++_ t37 (List._++_ t36 t2);
           slots = life0 ∷ life1 ∷ life2 ∷ life3 ∷ life4 ∷ Row.off ∷ Row.off ∷ Row.off ∷ Row.off ∷ Row.off ∷ Row.off ∷
               Row.off ∷ List.[];
         }
 
         abbrev G52 : Row.Cx
         G52 = record {
-          locals = List._++_ t38 (List._++_ t37 t2);
+          locals = List._++_ t37 (List._++_ t36 t2);
           slots = life0 ∷ life1 ∷ life2 ∷ life3 ∷ life4 ∷ Row.off ∷ Row.off ∷ Row.off ∷ Row.alive ∷ Row.off ∷ Row.off ∷
               Row.off ∷ List.[];
         }
 
         abbrev G53 : Row.Cx
         G53 = record {
-          locals = List._++_ g44 (List._++_ t45 t2);
+          locals = List._++_ g43 (List._++_ t44 t2);
           slots = Row.off ∷ life1 ∷ life2 ∷ life3 ∷ life4 ∷ Row.off ∷ Row.off ∷ Row.off ∷ Row.alive ∷ Row.off ∷ Row.off
               ∷ Row.off ∷ List.[];
         }
 
         abbrev G54 : Row.Cx
         G54 = record {
-          locals = List._++_ g44 (List._++_ t46 t2);
+          locals = List._++_ g43 (List._++_ t45 t2);
           slots = Row.off ∷ life1 ∷ life2 ∷ life3 ∷ life4 ∷ Row.off ∷ Row.off ∷ Row.off ∷ Row.alive ∷ Row.off ∷ Row.off
               ∷ Row.off ∷ List.[];
         }
 
         abbrev G55 : Row.Cx
         G55 = record {
-          locals = List._++_ g44 (List._++_ t46 t2);
+          locals = List._++_ g43 (List._++_ t45 t2);
           slots = Row.off ∷ life1 ∷ life2 ∷ life3 ∷ life4 ∷ Row.off ∷ Row.off ∷ Row.off ∷ Row.alive ∷ Row.alive ∷
               Row.off ∷ Row.off ∷ List.[];
         }
 
         abbrev G56 : Row.Cx
         G56 = record {
-          locals = List._++_ g47 (List._++_ t46 t48);
+          locals = List._++_ g46 (List._++_ t45 t47);
           slots = Row.off ∷ Row.off ∷ life2 ∷ life3 ∷ life4 ∷ Row.off ∷ Row.off ∷ Row.off ∷ Row.alive ∷ Row.alive ∷
               Row.off ∷ Row.off ∷ List.[];
         }
 
         abbrev G57 : Row.Cx
         G57 = record {
-          locals = List._++_ g47 (List._++_ t46 t49);
+          locals = List._++_ g46 (List._++_ t45 t48);
           slots = Row.off ∷ Row.off ∷ life2 ∷ life3 ∷ life4 ∷ Row.off ∷ Row.off ∷ Row.off ∷ Row.alive ∷ Row.alive ∷
               Row.off ∷ Row.off ∷ List.[];
         }
 
         abbrev G58 : Row.Cx
         G58 = record {
-          locals = List._++_ g47 (List._++_ t46 t49);
+          locals = List._++_ g46 (List._++_ t45 t48);
           slots = Row.off ∷ Row.off ∷ life2 ∷ life3 ∷ life4 ∷ Row.off ∷ Row.off ∷ Row.off ∷ Row.alive ∷ Row.alive ∷
               Row.alive ∷ Row.off ∷ List.[];
         }
 
         abbrev G59 : Row.Cx
         G59 = record {
-          locals = List._++_ g50 (List._++_ t46 t51);
+          locals = List._++_ g49 (List._++_ t45 t50);
           slots = Row.off ∷ Row.off ∷ life2 ∷ Row.off ∷ life4 ∷ Row.off ∷ Row.off ∷ Row.off ∷ Row.alive ∷ Row.alive ∷
               Row.alive ∷ Row.off ∷ List.[];
         }
 
         abbrev G60 : Row.Cx
         G60 = record {
-          locals = List._++_ g50 (List._++_ t46 t52);
+          locals = List._++_ g49 (List._++_ t45 t51);
           slots = Row.off ∷ Row.off ∷ life2 ∷ Row.off ∷ life4 ∷ Row.off ∷ Row.off ∷ Row.off ∷ Row.alive ∷ Row.alive ∷
               Row.alive ∷ Row.off ∷ List.[];
         }
 
         abbrev G61 : Row.Cx
         G61 = record {
-          locals = List._++_ g50 (List._++_ t46 t52);
+          locals = List._++_ g49 (List._++_ t45 t51);
           slots = Row.off ∷ Row.off ∷ life2 ∷ Row.off ∷ life4 ∷ Row.off ∷ Row.off ∷ Row.off ∷ Row.alive ∷ Row.alive ∷
               Row.alive ∷ Row.alive ∷ List.[];
         }
 
         abbrev G62 : Row.Cx
         G62 = record {
-          locals = List._++_ g53 (List._++_ t46 t54);
+          locals = List._++_ g52 (List._++_ t45 t53);
           slots = Row.off ∷ Row.off ∷ life2 ∷ Row.off ∷ Row.off ∷ Row.off ∷ Row.off ∷ Row.off ∷ Row.alive ∷ Row.alive ∷
               Row.alive ∷ Row.alive ∷ List.[];
         }
 
         abbrev G63 : Row.Cx
         G63 = record {
-          locals = List._++_ g53 (List._++_ t46 t55);
+          locals = List._++_ g52 (List._++_ t45 t54);
           slots = Row.off ∷ Row.off ∷ life2 ∷ Row.off ∷ Row.off ∷ Row.off ∷ Row.off ∷ Row.off ∷ Row.alive ∷ Row.alive ∷
               Row.alive ∷ Row.alive ∷ List.[];
         }
 
         abbrev G64 : Row.Cx
         G64 = record {
-          locals = List._++_ g56 (List._++_ t57 t58);
+          locals = List._++_ g55 (List._++_ t56 t57);
           slots = Row.off ∷ Row.off ∷ life2 ∷ Row.off ∷ Row.off ∷ Row.off ∷ Row.off ∷ Row.off ∷ Row.alive ∷ Row.alive ∷
               Row.alive ∷ Row.alive ∷ List.[];
         }
 
         abbrev G65 : Row.Cx
         G65 = record {
-          locals = List._++_ g59 (List._++_ t57 t58);
+          locals = List._++_ g58 (List._++_ t56 t57);
           slots = Row.off ∷ Row.off ∷ life2 ∷ Row.off ∷ Row.off ∷ Row.off ∷ Row.off ∷ Row.off ∷ Row.alive ∷ Row.alive ∷
               Row.alive ∷ Row.alive ∷ List.[];
         }
 
         abbrev G66 : Row.Cx
         G66 = record {
-          locals = List._++_ g60 (List._++_ t57 t58);
+          locals = List._++_ g59 (List._++_ t56 t57);
           slots = Row.off ∷ Row.off ∷ life2 ∷ Row.off ∷ Row.off ∷ Row.off ∷ Row.off ∷ Row.off ∷ Row.alive ∷ Row.alive ∷
               Row.alive ∷ Row.alive ∷ List.[];
         }
 
         abbrev G67 : Row.Cx
         G67 = record {
-          locals = List._++_ g60 (List._++_ t61 t58);
+          locals = List._++_ g60 (List._++_ t56 t57);
           slots = Row.off ∷ Row.off ∷ life2 ∷ Row.off ∷ Row.off ∷ Row.off ∷ Row.off ∷ Row.off ∷ Row.alive ∷ Row.alive ∷
               Row.alive ∷ Row.alive ∷ List.[];
         }
 
         abbrev G68 : Row.Cx
         G68 = record {
-          locals = List._++_ g60 (List._++_ t62 t58);
+          locals = List._++_ g60 (List._++_ t61 t57);
           slots = Row.off ∷ Row.off ∷ life2 ∷ Row.off ∷ Row.off ∷ Row.off ∷ Row.off ∷ Row.off ∷ Row.alive ∷ Row.alive ∷
               Row.alive ∷ Row.alive ∷ List.[];
         }
 
         abbrev G69 : Row.Cx
         G69 = record {
-          locals = List._++_ g60 (List._++_ t62 t58);
+          locals = List._++_ g60 (List._++_ t61 t57);
           slots = Row.off ∷ Row.off ∷ life2 ∷ Row.off ∷ Row.off ∷ Row.off ∷ Row.off ∷ Row.off ∷ Row.dead ∷ Row.alive ∷
               Row.alive ∷ Row.alive ∷ List.[];
         }
 
         abbrev G70 : Row.Cx
         G70 = record {
-          locals = List._++_ g63 (List._++_ t1 t58);
+          locals = List._++_ g62 (List._++_ t1 t57);
           slots = life0 ∷ Row.off ∷ life2 ∷ Row.off ∷ Row.off ∷ Row.off ∷ Row.off ∷ Row.off ∷ Row.dead ∷ Row.alive ∷
               Row.alive ∷ Row.alive ∷ List.[];
         }
 
         abbrev G71 : Row.Cx
         G71 = record {
-          locals = List._++_ g63 (List._++_ t1 t58);
+          locals = List._++_ g62 (List._++_ t1 t57);
           slots = life0 ∷ Row.off ∷ life2 ∷ Row.off ∷ Row.off ∷ Row.off ∷ Row.off ∷ Row.off ∷ Row.off ∷ Row.alive ∷
               Row.alive ∷ Row.alive ∷ List.[];
         }
 
         abbrev G72 : Row.Cx
         G72 = record {
-          locals = List._++_ g63 (List._++_ t1 t58);
+          locals = List._++_ g62 (List._++_ t1 t57);
           slots = life0 ∷ Row.off ∷ life2 ∷ Row.off ∷ Row.off ∷ Row.off ∷ Row.off ∷ Row.off ∷ Row.off ∷ Row.dead ∷
               Row.alive ∷ Row.alive ∷ List.[];
         }
 
         abbrev G73 : Row.Cx
         G73 = record {
-          locals = List._++_ g64 (List._++_ t1 t65);
+          locals = List._++_ g63 (List._++_ t1 t64);
           slots = life0 ∷ life1 ∷ life2 ∷ Row.off ∷ Row.off ∷ Row.off ∷ Row.off ∷ Row.off ∷ Row.off ∷ Row.dead ∷
               Row.alive ∷ Row.alive ∷ List.[];
         }
 
         abbrev G74 : Row.Cx
         G74 = record {
-          locals = List._++_ g64 (List._++_ t1 t65);
+          locals = List._++_ g63 (List._++_ t1 t64);
           slots = life0 ∷ life1 ∷ life2 ∷ Row.off ∷ Row.off ∷ Row.off ∷ Row.off ∷ Row.off ∷ Row.off ∷ Row.off ∷
               Row.alive ∷ Row.alive ∷ List.[];
         }
 
         abbrev G75 : Row.Cx
         G75 = record {
-          locals = List._++_ g64 (List._++_ t1 t65);
+          locals = List._++_ g63 (List._++_ t1 t64);
           slots = life0 ∷ life1 ∷ life2 ∷ Row.off ∷ Row.off ∷ Row.off ∷ Row.off ∷ Row.off ∷ Row.off ∷ Row.off ∷
               Row.dead ∷ Row.alive ∷ List.[];
         }
 
         abbrev G76 : Row.Cx
         G76 = record {
-          locals = List._++_ g66 (List._++_ t1 t67);
+          locals = List._++_ g65 (List._++_ t1 t66);
           slots = life0 ∷ life1 ∷ life2 ∷ life3 ∷ Row.off ∷ Row.off ∷ Row.off ∷ Row.off ∷ Row.off ∷ Row.off ∷ Row.dead
               ∷ Row.alive ∷ List.[];
         }
 
         abbrev G77 : Row.Cx
         G77 = record {
-          locals = List._++_ g66 (List._++_ t1 t67);
+          locals = List._++_ g65 (List._++_ t1 t66);
           slots = life0 ∷ life1 ∷ life2 ∷ life3 ∷ Row.off ∷ Row.off ∷ Row.off ∷ Row.off ∷ Row.off ∷ Row.off ∷ Row.off ∷
               Row.alive ∷ List.[];
         }
 
         abbrev G78 : Row.Cx
         G78 = record {
-          locals = List._++_ g66 (List._++_ t1 t67);
+          locals = List._++_ g65 (List._++_ t1 t66);
           slots = life0 ∷ life1 ∷ life2 ∷ life3 ∷ Row.off ∷ Row.off ∷ Row.off ∷ Row.off ∷ Row.off ∷ Row.off ∷ Row.off ∷
               Row.dead ∷ List.[];
         }
 
         abbrev G79 : Row.Cx
         G79 = record {
-          locals = List._++_ t68 (List._++_ t1 t2);
+          locals = List._++_ t67 (List._++_ t1 t2);
           slots = life0 ∷ life1 ∷ life2 ∷ life3 ∷ life4 ∷ Row.off ∷ Row.off ∷ Row.off ∷ Row.off ∷ Row.off ∷ Row.off ∷
               Row.dead ∷ List.[];
         }
 
         abbrev G80 : Row.Cx
         G80 = record {
-          locals = List._++_ t68 (List._++_ t1 t2);
+          locals = List._++_ t67 (List._++_ t1 t2);
           slots = life0 ∷ life1 ∷ life2 ∷ life3 ∷ life4 ∷ Row.off ∷ Row.off ∷ Row.off ∷ Row.off ∷ Row.off ∷ Row.off ∷
               Row.dead ∷ List.[];
         }
 
         abbrev G81 : Row.Cx
         G81 = record {
-          locals = List._++_ t68 (List._++_ t1 t2);
+          locals = List._++_ t67 (List._++_ t1 t2);
           slots = life0 ∷ life1 ∷ life2 ∷ life3 ∷ life4 ∷ Row.off ∷ Row.off ∷ Row.off ∷ Row.off ∷ Row.off ∷ Row.off ∷
               Row.off ∷ List.[];
         }
@@ -2455,49 +2452,49 @@ module _ (claims· : Claims) where
 
         abbrev G83 : Row.Cx
         G83 = record {
-          locals = List._++_ t69 (List._++_ t28 t2);
+          locals = List._++_ t68 (List._++_ t33 t2);
           slots = life0 ∷ life1 ∷ life2 ∷ life3 ∷ life4 ∷ Row.off ∷ Row.off ∷ Row.off ∷ Row.off ∷ Row.off ∷ Row.off ∷
               Row.off ∷ List.[];
         }
 
         abbrev G84 : Row.Cx
         G84 = record {
-          locals = List._++_ t29 (List._++_ t28 t2);
+          locals = List._++_ t34 (List._++_ t33 t2);
           slots = life0 ∷ life1 ∷ life2 ∷ life3 ∷ life4 ∷ Row.off ∷ Row.off ∷ Row.off ∷ Row.off ∷ Row.off ∷ Row.off ∷
               Row.off ∷ List.[];
         }
 
         abbrev G85 : Row.Cx
         G85 = record {
-          locals = List._++_ t29 (List._++_ t1 t2);
+          locals = List._++_ t34 (List._++_ t1 t2);
           slots = life0 ∷ life1 ∷ life2 ∷ life3 ∷ life4 ∷ Row.off ∷ Row.off ∷ Row.off ∷ Row.off ∷ Row.off ∷ Row.off ∷
               Row.off ∷ List.[];
         }
 
         abbrev G86 : Row.Cx
         G86 = record {
-          locals = List._++_ t70 (List._++_ t1 t2);
+          locals = List._++_ t69 (List._++_ t1 t2);
           slots = life0 ∷ life1 ∷ life2 ∷ life3 ∷ life4 ∷ Row.off ∷ Row.off ∷ Row.off ∷ Row.off ∷ Row.off ∷ Row.off ∷
               Row.off ∷ List.[];
         }
 
         abbrev G87 : Row.Cx
         G87 = record {
-          locals = List._++_ t71 (List._++_ t1 t2);
+          locals = List._++_ t70 (List._++_ t1 t2);
           slots = life0 ∷ life1 ∷ life2 ∷ life3 ∷ life4 ∷ Row.off ∷ Row.off ∷ Row.off ∷ Row.off ∷ Row.off ∷ Row.off ∷
               Row.off ∷ List.[];
         }
 
         abbrev G88 : Row.Cx
         G88 = record {
-          locals = List._++_ t72 (List._++_ t1 t2);
+          locals = List._++_ t71 (List._++_ t1 t2);
           slots = life0 ∷ life1 ∷ life2 ∷ life3 ∷ life4 ∷ Row.off ∷ Row.off ∷ Row.off ∷ Row.off ∷ Row.off ∷ Row.off ∷
               Row.off ∷ List.[];
         }
 
         abbrev G89 : Row.Cx
         G89 = record {
-          locals = List._++_ t68 (List._++_ t1 t2);
+          locals = List._++_ t67 (List._++_ t1 t2);
           slots = life0 ∷ life1 ∷ life2 ∷ life3 ∷ life4 ∷ Row.off ∷ Row.off ∷ Row.off ∷ Row.off ∷ Row.off ∷ Row.off ∷
               Row.off ∷ List.[];
         }
@@ -2513,7 +2510,7 @@ module _ (claims· : Claims) where
         Δ0 = record { next = Option.none; exits = List.[]; returns = Option.some G1 }
 
         abbrev Δ1 : Typed.Outs
-        Δ1 = Typed.withNext (Option.some G33) Δ0
+        Δ1 = Typed.withNext (Option.some G39) Δ0
 
         module _ {M : Type 1} (𝓤 : URA.URA M) (H : Wp.Heap 𝓤) (A : Atoms.Atoms 𝓤) (W : Kit.Given 𝓤 H A)
             (𝓣 : Wp.Tables 𝓤 H) (known : Knowns 𝓤 H A W 𝓣) (bs : List.List Nat.ℕ)
@@ -2589,17 +2586,17 @@ module _ (claims· : Claims) where
 
           d15 : Typed.Typed 𝓤 H A 𝓣 E G67 b30 Δ1 (at15 bs)
           d15 = Typed.g-pre 𝓤 H A W 𝓣 E G67 G68 b30 Δ1 (Typed.pass T67 T68 (s65 bs)) (at14 bs) (Scalar.g-room 𝓤 H A W E
-              G67 17 Laws''''''.mir (Local.room-whole 𝓤 H A W (Declared'.row OpaqueRelayRuntime.the-type)
+              G67 16 Laws''''''.mir (Local.room-whole 𝓤 H A W (Declared'.row OpaqueRelayRuntime.the-type)
               Laws''''''.mir Path.refl)) d14
 
           d16 : Typed.Typed 𝓤 H A 𝓣 E G66 b30 Δ1 (at16 bs)
           d16 = Typed.g-pre 𝓤 H A W 𝓣 E G66 G67 b30 Δ1 (Typed.pass T66 T67 (s64 bs)) (at15 bs) (Scalar.g-room 𝓤 H A W E
-              G66 16 Laws'''.mir (Local.room-whole 𝓤 H A W (Declared'.row Revoking.the-type) Laws'''.mir Path.refl))
-              d15
+              G66 13 Laws''.mir (Local.room-whole 𝓤 H A W (Declared'.row Firsts.the-type) Laws''.mir Path.refl)) d15
 
           d17 : Typed.Typed 𝓤 H A 𝓣 E G65 b30 Δ1 (at17 bs)
           d17 = Typed.g-pre 𝓤 H A W 𝓣 E G65 G66 b30 Δ1 (Typed.pass T65 T66 (s63 bs)) (at16 bs) (Scalar.g-room 𝓤 H A W E
-              G65 13 Laws''.mir (Local.room-whole 𝓤 H A W (Declared'.row Firsts.the-type) Laws''.mir Path.refl)) d16
+              G65 10 Laws'''.mir (Local.room-whole 𝓤 H A W (Declared'.row Revoking.the-type) Laws'''.mir Path.refl))
+              d16
 
           d18 : Typed.Typed 𝓤 H A 𝓣 E G64 b30 Δ1 (at18 bs)
           d18 = Typed.g-pre 𝓤 H A W 𝓣 E G64 G65 b30 Δ1 (Typed.pass T64 T65 (s62 bs)) (at17 bs) (Scalar.g-room 𝓤 H A W E
@@ -2608,7 +2605,7 @@ module _ (claims· : Claims) where
 
           d19 : Typed.Typed 𝓤 H A 𝓣 E G63 b31 Δ1 (at19 bs)
           d19 = Typed.s-seq 𝓤 H A W 𝓣 E G63 G64 b29 b30 Δ1 (Typed.both (s61 bs)) (at18 bs) (Plain.t-call-plain 𝓤 H A W
-              𝓣 4 ps·8 r·8 (claims· .16) (claims· .17) "hnsr_circuit::calls::revocation::revoke_all" (known .8) E
+              𝓣 4 ps·7 r·7 (claims· .14) (claims· .15) "hnsr_circuit::calls::revocation::revoke_all" (known .7) E
               (λ pos β. β) G63 (
                 record { pos = 31; ty = ref3; ref = λ x. x },
                 (
@@ -2618,11 +2615,11 @@ module _ (claims· : Claims) where
                     (
                       record { pos = 37; ty = ref6; ref = λ x. x },
                       (
-                        record { pos = 17; st = List.[]; d = 0; at = λ x. x },
+                        record { pos = 16; st = List.[]; d = 0; at = λ x. x },
                         (
                           record { pos = 7; st = List.[]; d = 0; at = λ x. x },
                           (
-                            record { pos = 16; st = List.[]; d = 0; at = λ x. x },
+                            record { pos = 10; st = List.[]; d = 0; at = λ x. x },
                             (record { pos = 13; st = List.[]; d = 0; at = λ x. x }, tt),
                           ),
                         ),
@@ -3157,7 +3154,7 @@ module _ (claims· : Claims) where
 
           d36 : Typed.Typed 𝓤 H A 𝓣 E G46 b40 Δ1 (at36 bs)
           d36 = Typed.s-seq 𝓤 H A W 𝓣 E G46 G47 b20 b39 Δ1 (Typed.both (s44 bs)) (at35 bs) (Plain.t-call-plain 𝓤 H A W
-              𝓣 1 ps·7 r·7 (claims· .14) (claims· .15) "hnsr_circuit::tables::stores::drop_lapsed" (known .7) E
+              𝓣 1 ps·6 r·6 (claims· .12) (claims· .13) "hnsr_circuit::tables::ledger::drop_lapsed" (known .6) E
               (λ pos β. β) G46 (
                 record { pos = 29; ty = ref2; ref = λ x. x },
                 (record { pos = 7; st = List.[]; d = 0; at = λ x. x }, (Num.vAt 8 λ x. x, tt)),
@@ -3296,8 +3293,8 @@ module _ (claims· : Claims) where
 
           d41 : Typed.Typed 𝓤 H A 𝓣 E G41 b43 Δ1 (at41 bs)
           d41 = Typed.s-seq 𝓤 H A W 𝓣 E G41 G42 b17 b42 Δ1 (Typed.both (s39 bs)) (at40 bs) (Plain.t-call-plain 𝓤 H A W
-              𝓣 0 ps·6 r·6 (claims· .12) (claims· .13) "hnsr_circuit::records::header::with_clock" (known .6) E
-              (λ pos β. β) G41 (record { pos = 6; st = List.[]; d = 0; at = λ x. x }, (Num.vAt 8 λ x. x, tt)) 17
+              𝓣 0 ps·5 r·5 (claims· .10) (claims· .11) "hnsr_circuit::records::header::with_clock" (known .5) E
+              (λ pos β. β) G41 (record { pos = 6; st = List.[]; d = 0; at = λ x. x }, (Num.vAt 8 λ x. x, tt)) 16
               List.[] (Call.sub-id 𝓤 H A W (G41 .slots)) (
                 (
                   Yields.yields-copy 𝓤 H A W (λ ρ. Unit) (Declared'.row OpaqueRelayRuntime.the-type) Path.refl (Copies.cStruct
@@ -3312,134 +3309,62 @@ module _ (claims· : Claims) where
 
           d42 : Typed.Typed 𝓤 H A 𝓣 E G40 b43 Δ1 (at42 bs)
           d42 = Typed.g-pre 𝓤 H A W 𝓣 E G40 G41 b43 Δ1 (Typed.pass T40 T41 (s38 bs)) (at41 bs) (Scalar.g-room 𝓤 H A W E
-              G40 26 Laws.mir (Local.room-whole 𝓤 H A W (Declared.row Notice.the-type) Laws.mir Path.refl)) d41
+              G40 26 Syntax.tyBool (Scalar.room-sc 𝓤 H A W Row.sBool)) d41
 
-          d43 : Typed.Typed 𝓤 H A 𝓣 E G39 b43 Δ1 (at43 bs)
-          d43 = Typed.g-pre 𝓤 H A W 𝓣 E G39 G40 b43 Δ1 (Typed.pass T39 T40 (s37 bs)) (at42 bs) (Scalar.g-room 𝓤 H A W E
-              G39 25 Laws.mir (Local.room-whole 𝓤 H A W (Declared.row Notice.the-type) Laws.mir Path.refl)) d42
+          d43 : Typed.Typed 𝓤 H A 𝓣 E G38 b43 Δ1 (at43 bs)
+          d43 = Typed.g-pre 𝓤 H A W 𝓣 E G38 G40 b43 Δ1 (Typed.pass T38 T40 (s37 bs)) (at42 bs) (Scalar.g-room 𝓤 H A W E
+              G38 15 Laws'.mir (Local.room-whole 𝓤 H A W (Declared.row HnsrAnswer.the-type) Laws'.mir Path.refl)) d42
 
-          d44 : Typed.Typed 𝓤 H A 𝓣 E G38 b43 Δ1 (at44 bs)
-          d44 = Typed.g-pre 𝓤 H A W 𝓣 E G38 G39 b43 Δ1 (Typed.pass T38 T39 (s36 bs)) (at43 bs) (Scalar.g-room 𝓤 H A W E
-              G38 10 Laws'''''''''.mir (Local.room-whole 𝓤 H A W (Declared'.row Question.the-type) Laws'''''''''.mir
-              Path.refl)) d43
+          d44 : Typed.Typed 𝓤 H A 𝓣 E G85 b44 Δ1 (at44 bs)
+          d44 = Typed.t-skip 𝓤 H A W 𝓣 E Δ1 tt
 
-          d45 : Typed.Typed 𝓤 H A 𝓣 E G37 b44 Δ1 (at45 bs)
-          d45 = Typed.s-seq 𝓤 H A W 𝓣 E G37 G38 b16 b43 Δ1 (Typed.both (s35 bs)) (at44 bs) (Plain.t-call-plain 𝓤 H A W
-              𝓣 0 ps·5 r·5 (claims· .10) (claims· .11) "hnsr_circuit::calls::revoking::revoking" (known .5) E
-              (λ pos β. β) G37 (
-                record { pos = 10; st = List.[]; d = 0; at = λ x. x },
-                (
-                  record { pos = 25; st = List.[]; d = 0; at = λ x. x },
-                  (record { pos = 26; st = List.[]; d = 0; at = λ x. x }, tt),
-                ),
-              ) 16 List.[] (Call.sub-id 𝓤 H A W (G37 .slots)) (
-                (
-                  Yields.yields-copy 𝓤 H A W (λ ρ. Unit) (Declared'.row Question.the-type) Path.refl (Copies.cStruct
-                      Question.the-type Laws'''''''''.the-laws Laws'''''''''.the-copy .copy 𝓤 H A W)
-                      (Rows.whole (Declared'.row Question.the-type)) (λ x. x) (λ x. x) (λ ρ told. Local.mem-whole 𝓤 H A
-                      W (Declared'.row Question.the-type) ρ) λ ρ told. Local.whole-mem 𝓤 H A W
-                      (Declared'.row Question.the-type) ρ,
-                  Path.refl,
-                ),
-                (
-                  (
-                    Yields.yields-copy 𝓤 H A W (λ ρ. Unit) (Declared.row Notice.the-type) Path.refl (Copies.cEnum
-                        Notice.the-type Laws.the-laws Laws.the-copy .copy 𝓤 H A W)
-                        (Rows.whole (Declared.row Notice.the-type)) (λ x. x) (λ x. x) (λ ρ told. Local.mem-whole 𝓤 H A
-                        W (Declared.row Notice.the-type) ρ) λ ρ told. Local.whole-mem 𝓤 H A W
-                        (Declared.row Notice.the-type) ρ,
-                    Path.refl,
-                  ),
-                  (
-                    (
-                      Yields.yields-copy 𝓤 H A W (λ ρ. Unit) (Declared.row Notice.the-type) Path.refl (Copies.cEnum
-                          Notice.the-type Laws.the-laws Laws.the-copy .copy 𝓤 H A W)
-                          (Rows.whole (Declared.row Notice.the-type)) (λ x. x) (λ x. x) (λ ρ told. Local.mem-whole 𝓤 H
-                          A W (Declared.row Notice.the-type) ρ) λ ρ told. Local.whole-mem 𝓤 H A W
-                          (Declared.row Notice.the-type) ρ,
-                      Path.refl,
-                    ),
-                    tt,
-                  ),
-                ),
-              ) (Reads'.room-gone 𝓤 H A Laws'''.mir) tt Path.refl) d44
+          d45 : Typed.Typed 𝓤 H A 𝓣 E G84 b44 Δ1 (at45 bs)
+          d45 = Typed.g-pre 𝓤 H A W 𝓣 E G84 G85 b44 Δ1 (Typed.pass T84 T85 (s82 bs)) (at44 bs) (Scalar.g-room 𝓤 H A W E
+              G84 26 Syntax.tyBool (Scalar.room-sc 𝓤 H A W Row.sBool)) d44
 
-          d46 : Typed.Typed 𝓤 H A 𝓣 E G36 b45 Δ1 (at46 bs)
-          d46 = Typed.s-seq 𝓤 H A W 𝓣 E G36 G37 b15 b44 Δ1 (Typed.pass T36 T37 (s34 bs)) (at45 bs) (Make.t-enum-make-wt
-              𝓤 H A W E 𝓣 Notice.the-type Laws.the-laws Laws.the-plain tt G36 26 ((Scalar.oInt Syntax.w8 3) ∷ List.[]) (λ
-              m. Notice.enum .make (Logic.inr (Logic.inr (Logic.inr (Logic.inl tt)))))
-              (Reads'.room-gone 𝓤 H A Laws.mir) (tt, tt) Path.refl (λ m wa. Make.made-val Notice.the-type Laws.the-laws
-              List.[] (Notice.enum .make (Logic.inr (Logic.inr (Logic.inr (Logic.inl tt))))) tt (wa .1)) λ m wa.
-              Make.made-is Notice.the-type Laws.the-laws List.[] (Notice.enum .make
-              (Logic.inr (Logic.inr (Logic.inr (Logic.inl tt))))) tt (wa .1)) d45
+          d46 : Typed.Typed 𝓤 H A 𝓣 E G83 b44 Δ1 (at46 bs)
+          d46 = Typed.g-pre 𝓤 H A W 𝓣 E G83 G84 b44 Δ1 (Typed.pass T83 T84 (s81 bs)) (at45 bs) (Scalar.g-room 𝓤 H A W E
+              G83 13 Laws''.mir (Local.room-whole 𝓤 H A W (Declared'.row Firsts.the-type) Laws''.mir Path.refl)) d45
 
-          d47 : Typed.Typed 𝓤 H A 𝓣 E G35 b46 Δ1 (at47 bs)
-          d47 = Typed.s-seq 𝓤 H A W 𝓣 E G35 G36 b14 b45 Δ1 (Typed.pass T35 T36 (s33 bs)) (at46 bs) (Make.t-enum-make-wt
-              𝓤 H A W E 𝓣 Notice.the-type Laws.the-laws Laws.the-plain tt G35 25 ((Scalar.oInt Syntax.w8 2) ∷ List.[]) (λ
-              m. Notice.enum .make (Logic.inr (Logic.inr (Logic.inl tt)))) (Reads'.room-gone 𝓤 H A Laws.mir) (tt, tt)
-              Path.refl (λ m wa. Make.made-val Notice.the-type Laws.the-laws List.[]
-              (Notice.enum .make (Logic.inr (Logic.inr (Logic.inl tt)))) tt (wa .1)) λ m wa. Make.made-is
-              Notice.the-type Laws.the-laws List.[] (Notice.enum .make (Logic.inr (Logic.inr (Logic.inl tt)))) tt
-              (wa .1)) d46
+          d47 : Typed.Typed 𝓤 H A 𝓣 E G38 b44 Δ1 (at47 bs)
+          d47 = Typed.g-pre 𝓤 H A W 𝓣 E G38 G83 b44 Δ1 (Typed.pass T38 T83 (s80 bs)) (at46 bs) (Scalar.g-room 𝓤 H A W E
+              G38 10 Laws'''.mir (Local.room-whole 𝓤 H A W (Declared'.row Revoking.the-type) Laws'''.mir Path.refl))
+              d46
 
-          d48 : Typed.Typed 𝓤 H A 𝓣 E G34 b46 Δ1 (at48 bs)
-          d48 = Typed.g-pre 𝓤 H A W 𝓣 E G34 G35 b46 Δ1 (Typed.pass T34 T35 (s32 bs)) (at47 bs) (Scalar.g-room 𝓤 H A W E
-              G34 24 Syntax.tyBool (Scalar.room-sc 𝓤 H A W Row.sBool)) d47
+          d48 : Typed.Typed 𝓤 H A 𝓣 E G38 b45 Δ1 (at48 bs)
+          d48 = Scalar.t-cond 𝓤 H A W E 𝓣 G38 26 (λ x. x) b43 b44 Δ1 (at43 bs) (at47 bs)
+              (Scalar.reads-sc 𝓤 H A W Row.sBool) Path.refl d43 d47
 
-          d49 : Typed.Typed 𝓤 H A 𝓣 E G32 b46 Δ1 (at49 bs)
-          d49 = Typed.g-pre 𝓤 H A W 𝓣 E G32 G34 b46 Δ1 (Typed.pass T32 T34 (s31 bs)) (at48 bs) (Scalar.g-room 𝓤 H A W E
-              G32 15 Laws'.mir (Local.room-whole 𝓤 H A W (Declared.row HnsrAnswer.the-type) Laws'.mir Path.refl)) d48
+          d49 : Typed.Typed 𝓤 H A 𝓣 E G90 b47 Δ0 (at49 bs)
+          d49 = Typed.t-return 𝓤 H A W 𝓣 E Δ0 tt
 
-          d50 : Typed.Typed 𝓤 H A 𝓣 E G85 b47 Δ1 (at50 bs)
-          d50 = Typed.t-skip 𝓤 H A W 𝓣 E Δ1 tt
+          d50 : Typed.Typed 𝓤 H A 𝓣 E G89 b47 Δ0 (at50 bs)
+          d50 = Typed.g-pre 𝓤 H A W 𝓣 E G89 G90 b47 Δ0 (Typed.pass T89 T90 (s87 bs)) (at49 bs) (Scalar.g-room 𝓤 H A W E
+              G89 8 (Syntax.tyInt Syntax.w64) (Scalar.room-sc 𝓤 H A W (Row.sInt Syntax.w64))) d49
 
-          d51 : Typed.Typed 𝓤 H A 𝓣 E G84 b47 Δ1 (at51 bs)
-          d51 = Typed.g-pre 𝓤 H A W 𝓣 E G84 G85 b47 Δ1 (Typed.pass T84 T85 (s82 bs)) (at50 bs) (Scalar.g-room 𝓤 H A W E
-              G84 24 Syntax.tyBool (Scalar.room-sc 𝓤 H A W Row.sBool)) d50
+          d51 : Typed.Typed 𝓤 H A 𝓣 E G88 b47 Δ0 (at51 bs)
+          d51 = Typed.g-pre 𝓤 H A W 𝓣 E G88 G89 b47 Δ0 (Typed.pass T88 T89 (s86 bs)) (at50 bs) (Scalar.g-room 𝓤 H A W E
+              G88 15 Laws'.mir (Local.room-whole 𝓤 H A W (Declared.row HnsrAnswer.the-type) Laws'.mir Path.refl)) d50
 
-          d52 : Typed.Typed 𝓤 H A 𝓣 E G83 b47 Δ1 (at52 bs)
-          d52 = Typed.g-pre 𝓤 H A W 𝓣 E G83 G84 b47 Δ1 (Typed.pass T83 T84 (s81 bs)) (at51 bs) (Scalar.g-room 𝓤 H A W E
-              G83 13 Laws''.mir (Local.room-whole 𝓤 H A W (Declared'.row Firsts.the-type) Laws''.mir Path.refl)) d51
+          d52 : Typed.Typed 𝓤 H A 𝓣 E G87 b47 Δ0 (at52 bs)
+          d52 = Typed.g-pre 𝓤 H A W 𝓣 E G87 G88 b47 Δ0 (Typed.pass T87 T88 (s85 bs)) (at51 bs) (Scalar.g-room 𝓤 H A W E
+              G87 7 Laws''''''''.mir (Local.room-whole 𝓤 H A W (Declared'.row Places.the-type) Laws''''''''.mir
+              Path.refl)) d51
 
-          d53 : Typed.Typed 𝓤 H A 𝓣 E G32 b47 Δ1 (at53 bs)
-          d53 = Typed.g-pre 𝓤 H A W 𝓣 E G32 G83 b47 Δ1 (Typed.pass T32 T83 (s80 bs)) (at52 bs) (Scalar.g-room 𝓤 H A W E
-              G32 10 Laws'''''''''.mir (Local.room-whole 𝓤 H A W (Declared'.row Question.the-type) Laws'''''''''.mir
+          d53 : Typed.Typed 𝓤 H A 𝓣 E G86 b47 Δ0 (at53 bs)
+          d53 = Typed.g-pre 𝓤 H A W 𝓣 E G86 G87 b47 Δ0 (Typed.pass T86 T87 (s84 bs)) (at52 bs) (Scalar.g-room 𝓤 H A W E
+              G86 6 Laws''''''.mir (Local.room-whole 𝓤 H A W (Declared'.row OpaqueRelayRuntime.the-type) Laws''''''.mir
               Path.refl)) d52
 
-          d54 : Typed.Typed 𝓤 H A 𝓣 E G32 b48 Δ1 (at54 bs)
-          d54 = Scalar.t-cond 𝓤 H A W E 𝓣 G32 24 (λ x. x) b46 b47 Δ1 (at49 bs) (at53 bs)
-              (Scalar.reads-sc 𝓤 H A W Row.sBool) Path.refl d49 d53
-
-          d55 : Typed.Typed 𝓤 H A 𝓣 E G90 b50 Δ0 (at55 bs)
-          d55 = Typed.t-return 𝓤 H A W 𝓣 E Δ0 tt
-
-          d56 : Typed.Typed 𝓤 H A 𝓣 E G89 b50 Δ0 (at56 bs)
-          d56 = Typed.g-pre 𝓤 H A W 𝓣 E G89 G90 b50 Δ0 (Typed.pass T89 T90 (s87 bs)) (at55 bs) (Scalar.g-room 𝓤 H A W E
-              G89 8 (Syntax.tyInt Syntax.w64) (Scalar.room-sc 𝓤 H A W (Row.sInt Syntax.w64))) d55
-
-          d57 : Typed.Typed 𝓤 H A 𝓣 E G88 b50 Δ0 (at57 bs)
-          d57 = Typed.g-pre 𝓤 H A W 𝓣 E G88 G89 b50 Δ0 (Typed.pass T88 T89 (s86 bs)) (at56 bs) (Scalar.g-room 𝓤 H A W E
-              G88 15 Laws'.mir (Local.room-whole 𝓤 H A W (Declared.row HnsrAnswer.the-type) Laws'.mir Path.refl)) d56
-
-          d58 : Typed.Typed 𝓤 H A 𝓣 E G87 b50 Δ0 (at58 bs)
-          d58 = Typed.g-pre 𝓤 H A W 𝓣 E G87 G88 b50 Δ0 (Typed.pass T87 T88 (s85 bs)) (at57 bs) (Scalar.g-room 𝓤 H A W E
-              G87 7 Laws''''''''.mir (Local.room-whole 𝓤 H A W (Declared'.row Places.the-type) Laws''''''''.mir
-              Path.refl)) d57
-
-          d59 : Typed.Typed 𝓤 H A 𝓣 E G86 b50 Δ0 (at59 bs)
-          d59 = Typed.g-pre 𝓤 H A W 𝓣 E G86 G87 b50 Δ0 (Typed.pass T86 T87 (s84 bs)) (at58 bs) (Scalar.g-room 𝓤 H A W E
-              G86 6 Laws''''''.mir (Local.room-whole 𝓤 H A W (Declared'.row OpaqueRelayRuntime.the-type) Laws''''''.mir
-              Path.refl)) d58
-
-          d60 : Typed.Typed 𝓤 H A 𝓣 E G33 b51 Δ0 (at60 bs)
-          d60 = Typed.s-seq 𝓤 H A W 𝓣 E G33 G86 b49 b50 Δ0 (Typed.both (s83 bs)) (at59 bs) (Plain.t-call-plain 𝓤 H A W
-              𝓣 0 ps·9 r·9 (claims· .18) (claims· .19) "hnsr_circuit::runtime::refused" (known .9) E (λ pos β. β) G33 (
+          d54 : Typed.Typed 𝓤 H A 𝓣 E G39 b48 Δ0 (at54 bs)
+          d54 = Typed.s-seq 𝓤 H A W 𝓣 E G39 G86 b46 b47 Δ0 (Typed.both (s83 bs)) (at53 bs) (Plain.t-call-plain 𝓤 H A W
+              𝓣 0 ps·8 r·8 (claims· .16) (claims· .17) "hnsr_circuit::runtime::refused" (known .8) E (λ pos β. β) G39 (
                 record { pos = 6; st = List.[]; d = 0; at = λ x. x },
                 (
                   record { pos = 7; st = List.[]; d = 0; at = λ x. x },
                   (record { pos = 15; st = List.[]; d = 0; at = λ x. x }, tt),
                 ),
-              ) 0 List.[] (Call.sub-id 𝓤 H A W (G33 .slots)) (
+              ) 0 List.[] (Call.sub-id 𝓤 H A W (G39 .slots)) (
                 (
                   Yields.yields-copy 𝓤 H A W (λ ρ. Unit) (Declared'.row OpaqueRelayRuntime.the-type) Path.refl (Copies.cStruct
                       OpaqueRelayRuntime.the-type Laws''''''.the-laws Laws''''''.the-copy .copy 𝓤 H A W)
@@ -3469,15 +3394,15 @@ module _ (claims· : Claims) where
                     tt,
                   ),
                 ),
-              ) (Reads'.room-gone 𝓤 H A Laws'''''''.mir) tt Path.refl) d59
+              ) (Reads'.room-gone 𝓤 H A Laws'''''''.mir) tt Path.refl) d53
 
-          d61 : Typed.Typed 𝓤 H A 𝓣 E G32 b52 Δ0 (at61 bs)
-          d61 = Typed.t-seq 𝓤 H A W 𝓣 E G32 G33 b48 b51 Δ0 (at54 bs) (at60 bs) d54 d60
+          d55 : Typed.Typed 𝓤 H A 𝓣 E G38 b49 Δ0 (at55 bs)
+          d55 = Typed.t-seq 𝓤 H A W 𝓣 E G38 G39 b45 b48 Δ0 (at48 bs) (at54 bs) d48 d54
 
-          d62 : Typed.Typed 𝓤 H A 𝓣 E G31 b53 Δ0 (at62 bs)
-          d62 = Typed.s-seq 𝓤 H A W 𝓣 E G31 G32 b13 b52 Δ0 (Typed.both (s30 bs)) (at61 bs) (Plain.t-call-plain 𝓤 H A W
-              𝓣 0 ps·4 r·4 (claims· .8) (claims· .9) "hnsr_circuit::answer::is_taken" (known .4) E (λ pos β. β) G31
-              (record { pos = 15; st = List.[]; d = 0; at = λ x. x }, tt) 24 List.[] (Call.sub-id 𝓤 H A W (G31 .slots)) (
+          d56 : Typed.Typed 𝓤 H A 𝓣 E G37 b50 Δ0 (at56 bs)
+          d56 = Typed.s-seq 𝓤 H A W 𝓣 E G37 G38 b16 b49 Δ0 (Typed.both (s36 bs)) (at55 bs) (Plain.t-call-plain 𝓤 H A W
+              𝓣 0 ps·4 r·4 (claims· .8) (claims· .9) "hnsr_circuit::answer::is_taken" (known .4) E (λ pos β. β) G37
+              (record { pos = 15; st = List.[]; d = 0; at = λ x. x }, tt) 26 List.[] (Call.sub-id 𝓤 H A W (G37 .slots)) (
                 (
                   Yields.yields-copy 𝓤 H A W (λ ρ. Unit) (Declared.row HnsrAnswer.the-type) Path.refl (Copies.cEnum
                       HnsrAnswer.the-type Laws'.the-laws Laws'.the-copy .copy 𝓤 H A W)
@@ -3487,23 +3412,23 @@ module _ (claims· : Claims) where
                   Path.refl,
                 ),
                 tt,
-              ) (Reads'.room-gone 𝓤 H A Syntax.tyBool) tt Path.refl) d61
+              ) (Reads'.room-gone 𝓤 H A Syntax.tyBool) tt Path.refl) d55
 
-          d63 : Typed.Typed 𝓤 H A 𝓣 E G30 b53 Δ0 (at63 bs)
-          d63 = Typed.g-pre 𝓤 H A W 𝓣 E G30 G31 b53 Δ0 (Typed.pass T30 T31 (s29 bs)) (at62 bs) (Scalar.g-room 𝓤 H A W E
-              G30 14 Laws'.mir (Local.room-whole 𝓤 H A W (Declared.row HnsrAnswer.the-type) Laws'.mir Path.refl)) d62
+          d57 : Typed.Typed 𝓤 H A 𝓣 E G36 b50 Δ0 (at57 bs)
+          d57 = Typed.g-pre 𝓤 H A W 𝓣 E G36 G37 b50 Δ0 (Typed.pass T36 T37 (s35 bs)) (at56 bs) (Scalar.g-room 𝓤 H A W E
+              G36 14 Laws'.mir (Local.room-whole 𝓤 H A W (Declared.row HnsrAnswer.the-type) Laws'.mir Path.refl)) d56
 
-          d64 : Typed.Typed 𝓤 H A 𝓣 E G29 b53 Δ0 (at64 bs)
-          d64 = Typed.g-pre 𝓤 H A W 𝓣 E G29 G30 b53 Δ0 (Typed.pass T29 T30 (s28 bs)) (at63 bs) (Scalar.g-room 𝓤 H A W E
-              G29 12 Laws'.mir (Local.room-whole 𝓤 H A W (Declared.row HnsrAnswer.the-type) Laws'.mir Path.refl)) d63
+          d58 : Typed.Typed 𝓤 H A 𝓣 E G35 b50 Δ0 (at58 bs)
+          d58 = Typed.g-pre 𝓤 H A W 𝓣 E G35 G36 b50 Δ0 (Typed.pass T35 T36 (s34 bs)) (at57 bs) (Scalar.g-room 𝓤 H A W E
+              G35 12 Laws'.mir (Local.room-whole 𝓤 H A W (Declared.row HnsrAnswer.the-type) Laws'.mir Path.refl)) d57
 
-          d65 : Typed.Typed 𝓤 H A 𝓣 E G28 b54 Δ0 (at65 bs)
-          d65 = Typed.s-seq 𝓤 H A W 𝓣 E G28 G29 b12 b53 Δ0 (Typed.both (s27 bs)) (at64 bs) (Plain.t-call-plain 𝓤 H A W
+          d59 : Typed.Typed 𝓤 H A 𝓣 E G34 b51 Δ0 (at59 bs)
+          d59 = Typed.s-seq 𝓤 H A W 𝓣 E G34 G35 b15 b50 Δ0 (Typed.both (s33 bs)) (at58 bs) (Plain.t-call-plain 𝓤 H A W
               𝓣 0 ps·3 r·3 (claims· .6) (claims· .7) "hnsr_circuit::answer::first_refusal" (known .3) E (λ pos β. β)
-              G28 (
+              G34 (
                 record { pos = 12; st = List.[]; d = 0; at = λ x. x },
                 (record { pos = 14; st = List.[]; d = 0; at = λ x. x }, tt),
-              ) 15 List.[] (Call.sub-id 𝓤 H A W (G28 .slots)) (
+              ) 15 List.[] (Call.sub-id 𝓤 H A W (G34 .slots)) (
                 (
                   Yields.yields-copy 𝓤 H A W (λ ρ. Unit) (Declared.row HnsrAnswer.the-type) Path.refl (Copies.cEnum
                       HnsrAnswer.the-type Laws'.the-laws Laws'.the-copy .copy 𝓤 H A W)
@@ -3523,32 +3448,32 @@ module _ (claims· : Claims) where
                   ),
                   tt,
                 ),
-              ) (Reads'.room-gone 𝓤 H A Laws'.mir) tt Path.refl) d64
+              ) (Reads'.room-gone 𝓤 H A Laws'.mir) tt Path.refl) d58
 
-          d66 : Typed.Typed 𝓤 H A 𝓣 E G27 b55 Δ0 (at66 bs)
-          d66 = Typed.s-seq 𝓤 H A W 𝓣 E G27 G28 b11 b54 Δ0 (Typed.both (s26 bs)) (at65 bs) (Plain.t-call-plain 𝓤 H A W
-              𝓣 0 ps·2 r·2 (claims· .4) (claims· .5) "hnsr_circuit::entry::clock_answer" (known .2) E (λ pos β. β) G27 (
+          d60 : Typed.Typed 𝓤 H A 𝓣 E G33 b52 Δ0 (at60 bs)
+          d60 = Typed.s-seq 𝓤 H A W 𝓣 E G33 G34 b14 b51 Δ0 (Typed.both (s32 bs)) (at59 bs) (Plain.t-call-plain 𝓤 H A W
+              𝓣 0 ps·2 r·2 (claims· .4) (claims· .5) "hnsr_circuit::entry::clock_answer" (known .2) E (λ pos β. β) G33 (
                 Num.vFld 6 ((Syntax.field 3) ∷ List.[]) 32 λ x. OpaqueRelayRuntime.struct .as-values x .1 .1 .1 .0,
                 (Num.vAt 8 λ x. x, tt),
-              ) 14 List.[] (Call.sub-id 𝓤 H A W (G27 .slots)) (
+              ) 14 List.[] (Call.sub-id 𝓤 H A W (G33 .slots)) (
                 (
                   Reads.reads-field 𝓤 H A W OpaqueRelayRuntime.the-type Laws''''''.the-laws 3 (Syntax.tyInt Syntax.w64)
                       32 Path.refl,
                   Path.refl,
                 ),
                 ((Scalar.reads-sc 𝓤 H A W (Row.sInt Syntax.w64), Path.refl), tt),
-              ) (Reads'.room-gone 𝓤 H A Laws'.mir) tt Path.refl) d65
+              ) (Reads'.room-gone 𝓤 H A Laws'.mir) tt Path.refl) d59
 
-          d67 : Typed.Typed 𝓤 H A 𝓣 E G26 b55 Δ0 (at67 bs)
-          d67 = Typed.g-pre 𝓤 H A W 𝓣 E G26 G27 b55 Δ0 (Typed.pass T26 T27 (s25 bs)) (at66 bs) (Scalar.g-room 𝓤 H A W E
-              G26 11 Laws''''.mir (Local.room-whole 𝓤 H A W (Declared'.row Entered.the-type) Laws''''.mir Path.refl))
-              d66
+          d61 : Typed.Typed 𝓤 H A 𝓣 E G32 b52 Δ0 (at61 bs)
+          d61 = Typed.g-pre 𝓤 H A W 𝓣 E G32 G33 b52 Δ0 (Typed.pass T32 T33 (s31 bs)) (at60 bs) (Scalar.g-room 𝓤 H A W E
+              G32 11 Laws''''.mir (Local.room-whole 𝓤 H A W (Declared'.row Entered.the-type) Laws''''.mir Path.refl))
+              d60
 
-          d68 : Typed.Typed 𝓤 H A 𝓣 E G25 b56 Δ0 (at68 bs)
-          d68 = Typed.s-seq 𝓤 H A W 𝓣 E G25 G26 b10 b55 Δ0 (Typed.both (s24 bs)) (at67 bs) (WayStmt.t-way-copy-out 𝓤 H
+          d62 : Typed.Typed 𝓤 H A 𝓣 E G31 b53 Δ0 (at62 bs)
+          d62 = Typed.s-seq 𝓤 H A W 𝓣 E G31 G32 b13 b52 Δ0 (Typed.both (s30 bs)) (at61 bs) (WayStmt.t-way-copy-out 𝓤 H
               A W E 𝓣 (Declared'.row Firsts.the-type) Path.refl (Copies.cStruct Firsts.the-type Laws''.the-laws
-              Laws''.the-copy .copy 𝓤 H A W) (λ ρ. Unit) G25 (Row.out 11 (G25 .locals))
-              (λ u. Row.drop 11 (G25 .locals) u) (G25 .slots) 11 (λ t. (Syntax.field 1) ∷ t) Laws''.mir Laws''.mir 13
+              Laws''.the-copy .copy 𝓤 H A W) (λ ρ. Unit) G31 (Row.out 11 (G31 .locals))
+              (λ u. Row.drop 11 (G31 .locals) u) (G31 .slots) 11 (λ t. (Syntax.field 1) ∷ t) Laws''.mir Laws''.mir 13
               (Rows.whole (Declared'.row Firsts.the-type)) (λ x. x) (λ u. At.getAt (Entered.the-type .parts) 1 (Entered.struct
               .as-values (u .1 .1 .1 .1 .1 .1 .1 .1 .1 .1 .1 .0))) (λ u. (
                 Row.hd 0 (Row.tl (Row.tl (Row.tl (Row.tl (Row.tl (Row.tl
@@ -3556,9 +3481,9 @@ module _ (claims· : Claims) where
                 Nat._+_ 0 48,
               )) (λ T′. record {
                 locals = Row.setRow 11 (11, Rows.whole (Declared'.row Entered.the-type)) T′;
-                slots = G25 .slots;
+                slots = G31 .slots;
               }) (λ u T′ m′. Row.set 11 (11, Rows.whole (Declared'.row Entered.the-type))
-              (u .1 .1 .1 .1 .1 .1 .1 .1 .1 .1 .1 .0) T′ m′) (λ u. Unit) (λ x. Unit) (Own.told-none 𝓤 H A (G25 .slots)) (DerefMove.learns-nothing
+              (u .1 .1 .1 .1 .1 .1 .1 .1 .1 .1 .1 .0) T′ m′) (λ u. Unit) (λ x. Unit) (Own.told-none 𝓤 H A (G31 .slots)) (DerefMove.learns-nothing
               𝓤 H A (Declared'.row Firsts.the-type)) (λ ρ told u asked. Way'.w-partˢ 𝓤 H A W E
               (Declared'.row Entered.the-type) (Declared'.row Firsts.the-type) Laws''''.mir Laws''.mir 1 48
               (u .1 .1 .1 .1 .1 .1 .1 .1 .1 .1 .1 .0) (At.getAt (Entered.the-type .parts) 1 (Entered.struct .as-values
@@ -3566,7 +3491,7 @@ module _ (claims· : Claims) where
                 Row.hd 0 (Row.tl (Row.tl (Row.tl (Row.tl (Row.tl (Row.tl
                     (Row.tl (Row.tl (Row.tl (Row.tl (Row.tl bs))))))))))),
                 0,
-              ) (Way.w-look 𝓤 H A W E (Way.w-local 𝓤 H A W E G25 ρ u (G25 .slots) 11 (Declared'.row Entered.the-type)
+              ) (Way.w-look 𝓤 H A W E (Way.w-local 𝓤 H A W E G31 ρ u (G31 .slots) 11 (Declared'.row Entered.the-type)
               (Rows.whole (Declared'.row Entered.the-type)) (λ x. x) (λ x. x) (u .1 .1 .1 .1 .1 .1 .1 .1 .1 .1 .1 .0) (Local.mem-whole
               𝓤 H A W (Declared'.row Entered.the-type) ρ (u .1 .1 .1 .1 .1 .1 .1 .1 .1 .1 .1 .0) (Row.hd 0 (Row.tl (Row.tl (Row.tl (Row.tl (Row.tl (Row.tl
               (Row.tl (Row.tl (Row.tl (Row.tl (Row.tl bs))))))))))))) (Local.whole-mem 𝓤 H A W
@@ -3587,13 +3512,13 @@ module _ (claims· : Claims) where
               (u .1 .1 .1 .1 .1 .1 .1 .1 .1 .1 .1 .0)) Path.refl)) (Reads'.room-gone 𝓤 H A Laws''.mir) (Yields.makes-mem
               𝓤 H A W (λ ρ. Unit) (Declared'.row Firsts.the-type) Path.refl
               (Rows.whole (Declared'.row Firsts.the-type)) (λ x. x) λ ρ told. Local.whole-mem 𝓤 H A W
-              (Declared'.row Firsts.the-type) ρ) Path.refl Path.refl Path.refl) d67
+              (Declared'.row Firsts.the-type) ρ) Path.refl Path.refl Path.refl) d61
 
-          d69 : Typed.Typed 𝓤 H A 𝓣 E G24 b57 Δ0 (at69 bs)
-          d69 = Typed.s-seq 𝓤 H A W 𝓣 E G24 G25 b9 b56 Δ0 (Typed.pass T23 T25 (s23 bs)) (at68 bs) (CopyOut.t-copy-told
+          d63 : Typed.Typed 𝓤 H A 𝓣 E G30 b54 Δ0 (at63 bs)
+          d63 = Typed.s-seq 𝓤 H A W 𝓣 E G30 G31 b12 b53 Δ0 (Typed.pass T29 T31 (s29 bs)) (at62 bs) (CopyOut.t-copy-told
               𝓤 H A W E 𝓣 (Declared.row HnsrAnswer.the-type) Path.refl
               (Laws''''''''''.val HnsrAnswer.the-type Laws'.the-laws) (Laws''''''''''.lawful HnsrAnswer.the-type
-              Laws'.the-laws 𝓤 H A W tt) (Laws''''''''''.makes HnsrAnswer.the-type Laws'.the-plain 𝓤 H A) G24 12 (Scalar.oFld
+              Laws'.the-laws 𝓤 H A W tt) (Laws''''''''''.makes HnsrAnswer.the-type Laws'.the-plain 𝓤 H A) G30 12 (Scalar.oFld
               11 ((Syntax.field 0) ∷ List.[]) Laws'.mir 0 λ x. Laws''''''''''.val HnsrAnswer.the-type Laws'.the-laws
               (Entered.struct .as-values x .0)) (λ m. Entered.struct .as-values (m .1 .1 .1 .1 .1 .1 .1 .1 .1 .1 .1 .0)
               .0) (λ m. Laws'''''''''''.Is (Declared'.row Entered.the-type) (m .1 .1 .1 .1 .1 .1 .1 .1 .1 .1 .1 .0) (Laws''''''''''''.vals
@@ -3601,75 +3526,75 @@ module _ (claims· : Claims) where
               (Reads'.room-gone 𝓤 H A Laws'.mir) (
                 Reads.reads-field 𝓤 H A W Entered.the-type Laws''''.the-laws 0 Laws'.mir 0 Path.refl,
                 Path.refl,
-              ) Path.refl (λ ρ m. Make'.tells-row 𝓤 H A W E ρ (Row.out 12 (G24 .locals)) m 11 (Laws'''''''''''.Is
+              ) Path.refl (λ ρ m. Make'.tells-row 𝓤 H A W E ρ (Row.out 12 (G30 .locals)) m 11 (Laws'''''''''''.Is
               (Declared'.row Entered.the-type) (m .1 .1 .1 .1 .1 .1 .1 .1 .1 .1 .1 .0) (Laws''''''''''''.vals
               Entered.the-type Laws''''.the-laws (m .1 .1 .1 .1 .1 .1 .1 .1 .1 .1 .1 .0))) (Make'.whole-is 𝓤 H A W E
               (Declared'.row Entered.the-type) Path.refl (Laws''''''''''''.val Entered.the-type Laws''''.the-laws)
               (Laws''''''''''''.tells Entered.the-type Laws''''.the-laws) ρ 11 (m .1 .1 .1 .1 .1 .1 .1 .1 .1 .1 .1 .0)))
               (λ m k wa. Path.refl) λ m k wa. Laws''''''''''''.owed Entered.the-type Laws''''.the-laws
               (m .1 .1 .1 .1 .1 .1 .1 .1 .1 .1 .1 .0) (Laws''''''''''''.vals Entered.the-type Laws''''.the-laws
-              (m .1 .1 .1 .1 .1 .1 .1 .1 .1 .1 .1 .0)) k .0) d68
+              (m .1 .1 .1 .1 .1 .1 .1 .1 .1 .1 .1 .0)) k .0) d62
 
-          d70 : Typed.Typed 𝓤 H A 𝓣 E G23 b57 Δ0 (at70 bs)
-          d70 = Typed.g-pre 𝓤 H A W 𝓣 E G23 G24 b57 Δ0 (λ Ψ. Ψ) (at69 bs)
-              (Lifetime.g-forget 𝓤 H A W E G23 6 Row.dead Path.refl) d69
+          d64 : Typed.Typed 𝓤 H A 𝓣 E G29 b54 Δ0 (at64 bs)
+          d64 = Typed.g-pre 𝓤 H A W 𝓣 E G29 G30 b54 Δ0 (λ Ψ. Ψ) (at63 bs)
+              (Lifetime.g-forget 𝓤 H A W E G29 6 Row.dead Path.refl) d63
 
-          d71 : Typed.Typed 𝓤 H A 𝓣 E G22 b57 Δ0 (at71 bs)
-          d71 = Typed.g-pre 𝓤 H A W 𝓣 E G22 G23 b57 Δ0 (Typed.pass T20 T23 (s21 bs)) (at70 bs) (Reshare.g-back-sl-shr 𝓤
-              H A W E RelayCircuit.row G22 2 1 6 ref8 life1 (λ x. x) (Reads'.as-is 𝓤 H A
-              (Reshare.mslice-owedS RelayCircuit.row ref8 1 6 life1)) Path.refl Path.refl) d70
+          d65 : Typed.Typed 𝓤 H A 𝓣 E G28 b54 Δ0 (at65 bs)
+          d65 = Typed.g-pre 𝓤 H A W 𝓣 E G28 G29 b54 Δ0 (Typed.pass T26 T29 (s27 bs)) (at64 bs) (Reshare.g-back-sl-shr 𝓤
+              H A W E RelayCircuit.row G28 2 1 6 ref8 life1 (λ x. x) (Reads'.as-is 𝓤 H A
+              (Reshare.mslice-owedS RelayCircuit.row ref8 1 6 life1)) Path.refl Path.refl) d64
 
-          d72 : Typed.Typed 𝓤 H A 𝓣 E G21 b57 Δ0 (at72 bs)
-          d72 = Typed.g-pre 𝓤 H A W 𝓣 E G21 G22 b57 Δ0 (λ Ψ. Ψ) (at71 bs) (Lifetime.g-end 𝓤 H A W E G21 6 Path.refl)
-              d71
+          d66 : Typed.Typed 𝓤 H A 𝓣 E G27 b54 Δ0 (at66 bs)
+          d66 = Typed.g-pre 𝓤 H A W 𝓣 E G27 G28 b54 Δ0 (λ Ψ. Ψ) (at65 bs) (Lifetime.g-end 𝓤 H A W E G27 6 Path.refl)
+              d65
 
-          d73 : Typed.Typed 𝓤 H A 𝓣 E G20 b57 Δ0 (at73 bs)
-          d73 = Typed.g-pre 𝓤 H A W 𝓣 E G20 G21 b57 Δ0 (λ Ψ. Ψ) (at72 bs)
-              (Lifetime.g-forget 𝓤 H A W E G20 5 Row.dead Path.refl) d72
+          d67 : Typed.Typed 𝓤 H A 𝓣 E G26 b54 Δ0 (at67 bs)
+          d67 = Typed.g-pre 𝓤 H A W 𝓣 E G26 G27 b54 Δ0 (λ Ψ. Ψ) (at66 bs)
+              (Lifetime.g-forget 𝓤 H A W E G26 5 Row.dead Path.refl) d66
 
-          d74 : Typed.Typed 𝓤 H A 𝓣 E G19 b57 Δ0 (at74 bs)
-          d74 = Typed.g-pre 𝓤 H A W 𝓣 E G19 G20 b57 Δ0 (Typed.pass T18 T20 (s18 bs)) (at73 bs) (Reshare.g-back-sl-shr 𝓤
-              H A W E RelayPending.row G19 1 0 5 ref7 life0 (λ x. x) (Reads'.as-is 𝓤 H A
-              (Reshare.mslice-owedS RelayPending.row ref7 0 5 life0)) Path.refl Path.refl) d73
+          d68 : Typed.Typed 𝓤 H A 𝓣 E G25 b54 Δ0 (at68 bs)
+          d68 = Typed.g-pre 𝓤 H A W 𝓣 E G25 G26 b54 Δ0 (Typed.pass T24 T26 (s24 bs)) (at67 bs) (Reshare.g-back-sl-shr 𝓤
+              H A W E RelayPending.row G25 1 0 5 ref7 life0 (λ x. x) (Reads'.as-is 𝓤 H A
+              (Reshare.mslice-owedS RelayPending.row ref7 0 5 life0)) Path.refl Path.refl) d67
 
-          d75 : Typed.Typed 𝓤 H A 𝓣 E G18 b57 Δ0 (at75 bs)
-          d75 = Typed.g-pre 𝓤 H A W 𝓣 E G18 G19 b57 Δ0 (λ Ψ. Ψ) (at74 bs) (Lifetime.g-end 𝓤 H A W E G18 5 Path.refl)
-              d74
+          d69 : Typed.Typed 𝓤 H A 𝓣 E G24 b54 Δ0 (at69 bs)
+          d69 = Typed.g-pre 𝓤 H A W 𝓣 E G24 G25 b54 Δ0 (λ Ψ. Ψ) (at68 bs) (Lifetime.g-end 𝓤 H A W E G24 5 Path.refl)
+              d68
 
-          d76 : Typed.Typed 𝓤 H A 𝓣 E G17 b57 Δ0 (at76 bs)
-          d76 = Typed.g-pre 𝓤 H A W 𝓣 E G17 G18 b57 Δ0 (Typed.pass T17 T18 (s16 bs)) (at75 bs) (Scalar.g-room 𝓤 H A W E
-              G17 23 (Syntax.tyInt Syntax.w64) (Scalar.room-sc 𝓤 H A W (Row.sInt Syntax.w64))) d75
+          d70 : Typed.Typed 𝓤 H A 𝓣 E G23 b54 Δ0 (at70 bs)
+          d70 = Typed.g-pre 𝓤 H A W 𝓣 E G23 G24 b54 Δ0 (Typed.pass T23 T24 (s22 bs)) (at69 bs) (Scalar.g-room 𝓤 H A W E
+              G23 25 (Syntax.tyInt Syntax.w64) (Scalar.room-sc 𝓤 H A W (Row.sInt Syntax.w64))) d69
 
-          d77 : Typed.Typed 𝓤 H A 𝓣 E G16 b57 Δ0 (at77 bs)
-          d77 = Typed.g-pre 𝓤 H A W 𝓣 E G16 G17 b57 Δ0 (Typed.pass T16 T17 (s15 bs)) (at76 bs) (Scalar.g-room 𝓤 H A W E
-              G16 22 (Syntax.tyInt Syntax.w64) (Scalar.room-sc 𝓤 H A W (Row.sInt Syntax.w64))) d76
+          d71 : Typed.Typed 𝓤 H A 𝓣 E G22 b54 Δ0 (at71 bs)
+          d71 = Typed.g-pre 𝓤 H A W 𝓣 E G22 G23 b54 Δ0 (Typed.pass T22 T23 (s21 bs)) (at70 bs) (Scalar.g-room 𝓤 H A W E
+              G22 24 (Syntax.tyInt Syntax.w64) (Scalar.room-sc 𝓤 H A W (Row.sInt Syntax.w64))) d70
 
-          d78 : Typed.Typed 𝓤 H A 𝓣 E G15 b57 Δ0 (at78 bs)
-          d78 = Typed.g-pre 𝓤 H A W 𝓣 E G15 G16 b57 Δ0 (Typed.pass T15 T16 (s14 bs)) (at77 bs) (Scalar.g-room 𝓤 H A W E
-              G15 9 Laws'''''.mir (Local.room-whole 𝓤 H A W (Declared'.row OpaqueRelayConfig.the-type) Laws'''''.mir
-              Path.refl)) d77
+          d72 : Typed.Typed 𝓤 H A 𝓣 E G21 b54 Δ0 (at72 bs)
+          d72 = Typed.g-pre 𝓤 H A W 𝓣 E G21 G22 b54 Δ0 (Typed.pass T21 T22 (s20 bs)) (at71 bs) (Scalar.g-room 𝓤 H A W E
+              G21 9 Laws'''''.mir (Local.room-whole 𝓤 H A W (Declared'.row OpaqueRelayConfig.the-type) Laws'''''.mir
+              Path.refl)) d71
 
-          d79 : Typed.Typed 𝓤 H A 𝓣 E G14 b57 Δ0 (at79 bs)
-          d79 = Typed.g-pre 𝓤 H A W 𝓣 E G14 G15 b57 Δ0 (Typed.pass T14 T15 (s13 bs)) (at78 bs) (Scalar.g-room 𝓤 H A W E
-              G14 21 slice1 (Shared.room-sslice 𝓤 H A W RelayCircuit.row ref1 6)) d78
+          d73 : Typed.Typed 𝓤 H A 𝓣 E G20 b54 Δ0 (at73 bs)
+          d73 = Typed.g-pre 𝓤 H A W 𝓣 E G20 G21 b54 Δ0 (Typed.pass T20 T21 (s19 bs)) (at72 bs) (Scalar.g-room 𝓤 H A W E
+              G20 23 slice1 (Shared.room-sslice 𝓤 H A W RelayCircuit.row ref1 6)) d72
 
-          d80 : Typed.Typed 𝓤 H A 𝓣 E G13 b57 Δ0 (at80 bs)
-          d80 = Typed.g-pre 𝓤 H A W 𝓣 E G13 G14 b57 Δ0 (Typed.pass T13 T14 (s12 bs)) (at79 bs) (Scalar.g-room 𝓤 H A W E
-              G13 19 slice0 (Shared.room-sslice 𝓤 H A W RelayPending.row ref0 5)) d79
+          d74 : Typed.Typed 𝓤 H A 𝓣 E G19 b54 Δ0 (at74 bs)
+          d74 = Typed.g-pre 𝓤 H A W 𝓣 E G19 G20 b54 Δ0 (Typed.pass T19 T20 (s18 bs)) (at73 bs) (Scalar.g-room 𝓤 H A W E
+              G19 21 slice0 (Shared.room-sslice 𝓤 H A W RelayPending.row ref0 5)) d73
 
-          d81 : Typed.Typed 𝓤 H A 𝓣 E G12 b58 Δ0 (at81 bs)
-          d81 = Typed.s-seq 𝓤 H A W 𝓣 E G12 G13 b8 b57 Δ0 (Typed.both (s11 bs)) (at80 bs) (Plain.t-call-plain 𝓤 H A W 𝓣
-              2 ps·1 r·1 (claims· .2) (claims· .3) "hnsr_circuit::calls::revoking::entry_answer" (known .1) E
-              (λ pos β. β) G12 (
-                record { pos = 19; ty = ref0; ref = λ x. x },
+          d75 : Typed.Typed 𝓤 H A 𝓣 E G18 b55 Δ0 (at75 bs)
+          d75 = Typed.s-seq 𝓤 H A W 𝓣 E G18 G19 b11 b54 Δ0 (Typed.both (s17 bs)) (at74 bs) (Plain.t-call-plain 𝓤 H A W
+              𝓣 2 ps·1 r·1 (claims· .2) (claims· .3) "hnsr_circuit::calls::revoking::entry_answer" (known .1) E
+              (λ pos β. β) G18 (
+                record { pos = 21; ty = ref0; ref = λ x. x },
                 (
-                  record { pos = 21; ty = ref1; ref = λ x. x },
+                  record { pos = 23; ty = ref1; ref = λ x. x },
                   (
                     record { pos = 7; st = List.[]; d = 0; at = λ x. x },
                     (
-                      Num.vAt 22 λ x. x,
+                      Num.vAt 24 λ x. x,
                       (
-                        Num.vAt 23 λ x. x,
+                        Num.vAt 25 λ x. x,
                         (
                           record { pos = 9; st = List.[]; d = 0; at = λ x. x },
                           (record { pos = 10; st = List.[]; d = 0; at = λ x. x }, tt),
@@ -3678,7 +3603,7 @@ module _ (claims· : Claims) where
                     ),
                   ),
                 ),
-              ) 11 (5 ∷ 6 ∷ List.[]) (Call.sub-id 𝓤 H A W (G12 .slots)) (
+              ) 11 (5 ∷ 6 ∷ List.[]) (Call.sub-id 𝓤 H A W (G18 .slots)) (
                 ShrSlice.spares-sslice 𝓤 H A W RelayPending.row ref0 5,
                 Shared.reads-sslice 𝓤 H A W RelayPending.row ref0 5,
                 Path.refl,
@@ -3710,11 +3635,11 @@ module _ (claims· : Claims) where
                           ),
                           (
                             (
-                              Yields.yields-copy 𝓤 H A W (λ ρ. Unit) (Declared'.row Question.the-type) Path.refl (Copies.cStruct
-                                  Question.the-type Laws'''''''''.the-laws Laws'''''''''.the-copy .copy 𝓤 H A W)
-                                  (Rows.whole (Declared'.row Question.the-type)) (λ x. x) (λ x. x) (λ ρ told.
-                                  Local.mem-whole 𝓤 H A W (Declared'.row Question.the-type) ρ) λ ρ told.
-                                  Local.whole-mem 𝓤 H A W (Declared'.row Question.the-type) ρ,
+                              Yields.yields-copy 𝓤 H A W (λ ρ. Unit) (Declared'.row Revoking.the-type) Path.refl (Copies.cStruct
+                                  Revoking.the-type Laws'''.the-laws Laws'''.the-copy .copy 𝓤 H A W)
+                                  (Rows.whole (Declared'.row Revoking.the-type)) (λ x. x) (λ x. x) (λ ρ told.
+                                  Local.mem-whole 𝓤 H A W (Declared'.row Revoking.the-type) ρ) λ ρ told.
+                                  Local.whole-mem 𝓤 H A W (Declared'.row Revoking.the-type) ρ,
                               Path.refl,
                             ),
                             tt,
@@ -3724,45 +3649,45 @@ module _ (claims· : Claims) where
                     ),
                   ),
                 ),
-              ) (Reads'.room-gone 𝓤 H A Laws''''.mir) (tt, (tt, tt)) Path.refl) d80
+              ) (Reads'.room-gone 𝓤 H A Laws''''.mir) (tt, (tt, tt)) Path.refl) d74
 
-          d82 : Typed.Typed 𝓤 H A 𝓣 E G11 b59 Δ0 (at82 bs)
-          d82 = Typed.s-seq 𝓤 H A W 𝓣 E G11 G12 b7 b58 Δ0 (Typed.pass T11 T12 (s10 bs)) (at81 bs) (Scalar.t-use 𝓤 H A W
-              E 𝓣 G11 (Scalar.oFld 5 ((Syntax.field 1) ∷ List.[]) (Syntax.tyInt Syntax.w64) 8 Shared.lenV) 23
+          d76 : Typed.Typed 𝓤 H A 𝓣 E G17 b56 Δ0 (at76 bs)
+          d76 = Typed.s-seq 𝓤 H A W 𝓣 E G17 G18 b10 b55 Δ0 (Typed.pass T17 T18 (s16 bs)) (at75 bs) (Scalar.t-use 𝓤 H A
+              W E 𝓣 G17 (Scalar.oFld 5 ((Syntax.field 1) ∷ List.[]) (Syntax.tyInt Syntax.w64) 8 Shared.lenV) 25
               (Rows.sc-here (Row.sInt Syntax.w64)) (Syntax.tyInt Syntax.w64) (Row.valS (Row.sInt Syntax.w64))
               (Row.sInt Syntax.w64 .of) (
                 Mut.reads-mslice-len 𝓤 H A W (Referent.rtF (Referent.fInt Syntax.w32)) ref11 4 8 Path.refl,
                 Path.refl,
               ) (Reads'.room-gone 𝓤 H A (Syntax.tyInt Syntax.w64)) (Scalar.holds-sc 𝓤 H A W (Row.sInt Syntax.w64))
-              Path.refl (λ u. Path.refl) λ u. tt) d81
+              Path.refl (λ u. Path.refl) λ u. tt) d75
 
-          d83 : Typed.Typed 𝓤 H A 𝓣 E G10 b60 Δ0 (at83 bs)
-          d83 = Typed.s-seq 𝓤 H A W 𝓣 E G10 G11 b6 b59 Δ0 (Typed.pass T10 T11 (s9 bs)) (at82 bs) (Scalar.t-use 𝓤 H A W
-              E 𝓣 G10 (Scalar.oFld 4 ((Syntax.field 1) ∷ List.[]) (Syntax.tyInt Syntax.w64) 8 Shared.lenV) 22
+          d77 : Typed.Typed 𝓤 H A 𝓣 E G16 b57 Δ0 (at77 bs)
+          d77 = Typed.s-seq 𝓤 H A W 𝓣 E G16 G17 b9 b56 Δ0 (Typed.pass T16 T17 (s15 bs)) (at76 bs) (Scalar.t-use 𝓤 H A W
+              E 𝓣 G16 (Scalar.oFld 4 ((Syntax.field 1) ∷ List.[]) (Syntax.tyInt Syntax.w64) 8 Shared.lenV) 24
               (Rows.sc-here (Row.sInt Syntax.w64)) (Syntax.tyInt Syntax.w64) (Row.valS (Row.sInt Syntax.w64))
               (Row.sInt Syntax.w64 .of) (
                 Mut.reads-mslice-len 𝓤 H A W InflightAction.row ref10 3 8 Path.refl,
                 Path.refl,
               ) (Reads'.room-gone 𝓤 H A (Syntax.tyInt Syntax.w64)) (Scalar.holds-sc 𝓤 H A W (Row.sInt Syntax.w64))
-              Path.refl (λ u. Path.refl) λ u. tt) d82
+              Path.refl (λ u. Path.refl) λ u. tt) d76
 
-          d84 : Typed.Typed 𝓤 H A 𝓣 E G9 b61 Δ0 (at84 bs)
-          d84 = Typed.s-seq 𝓤 H A W 𝓣 E G9 G10 b5 b60 Δ0 (Typed.ask (s8 bs)) (at83 bs) (Relend.t-sl-aggregate 𝓤 H A W E
-              RelayCircuit.row 𝓣 (Relend.asShr RelayCircuit.row) G9 20 21 6 ref1 ref1 (λ x. x) (Scalar.oFld 2
+          d78 : Typed.Typed 𝓤 H A 𝓣 E G15 b58 Δ0 (at78 bs)
+          d78 = Typed.s-seq 𝓤 H A W 𝓣 E G15 G16 b8 b57 Δ0 (Typed.ask (s14 bs)) (at77 bs) (Relend.t-sl-aggregate 𝓤 H A W
+              E RelayCircuit.row 𝓣 (Relend.asShr RelayCircuit.row) G15 22 23 6 ref1 ref1 (λ x. x) (Scalar.oFld 2
               ((Syntax.field 1) ∷ List.[]) (Syntax.tyInt Syntax.w64) 8 λ v. Shared.lenV (v .0))
               (Reads'.as-is 𝓤 H A (Relend.ssptr RelayCircuit.row ref1 6)) (Reads'.room-gone 𝓤 H A slice1) (
                 Reshare.reads-owedS-len 𝓤 H A W RelayCircuit.row ref8 1 6 life1 8 Path.refl,
                 Path.refl,
-              ) Path.refl Path.refl λ b o k. tt) d83
+              ) Path.refl Path.refl λ b o k. tt) d77
 
-          d85 : Typed.Typed 𝓤 H A 𝓣 E G8 b62 Δ0 (at85 bs)
-          d85 = Typed.s-seq 𝓤 H A W 𝓣 E G8 G9 b4 b61 Δ0 (Typed.give (s7 bs)) (at84 bs) (Reshare.t-sl-reshare 𝓤 H A W E
-              RelayCircuit.row 𝓣 G8 2 20 1 6 ref8 ref1 life1 0 (λ x. x)
+          d79 : Typed.Typed 𝓤 H A 𝓣 E G14 b59 Δ0 (at79 bs)
+          d79 = Typed.s-seq 𝓤 H A W 𝓣 E G14 G15 b7 b58 Δ0 (Typed.give (s13 bs)) (at78 bs) (Reshare.t-sl-reshare 𝓤 H A W
+              E RelayCircuit.row 𝓣 G14 2 22 1 6 ref8 ref1 life1 0 (λ x. x)
               (Reads'.as-is 𝓤 H A (Mut.mslice RelayCircuit.row ref8 1)) (Reads'.room-gone 𝓤 H A ref1) Path.refl tt
-              Path.refl Path.refl Path.refl λ b o. tt) d84
+              Path.refl Path.refl Path.refl λ b o. tt) d78
 
-          d86 : Typed.Typed 𝓤 H A 𝓣 E G7 b62 Δ0 (at86 bs)
-          d86 = Typed.g-pre 𝓤 H A W 𝓣 E G7 G8 b62 Δ0 (λ Ψ. Ψ) (at85 bs) (Lifetime.g-begin 𝓤 H A W E G7 6 (
+          d80 : Typed.Typed 𝓤 H A 𝓣 E G13 b59 Δ0 (at80 bs)
+          d80 = Typed.g-pre 𝓤 H A W 𝓣 E G13 G14 b59 Δ0 (λ Ψ. Ψ) (at79 bs) (Lifetime.g-begin 𝓤 H A W E G13 6 (
             tt,
             (
               (tt, tt),
@@ -3855,25 +3780,25 @@ module _ (claims· : Claims) where
                 ),
               ),
             ),
-          )) d85
+          )) d79
 
-          d87 : Typed.Typed 𝓤 H A 𝓣 E G6 b63 Δ0 (at87 bs)
-          d87 = Typed.s-seq 𝓤 H A W 𝓣 E G6 G7 b3 b62 Δ0 (Typed.ask (s5 bs)) (at86 bs) (Relend.t-sl-aggregate 𝓤 H A W E
-              RelayPending.row 𝓣 (Relend.asShr RelayPending.row) G6 18 19 5 ref0 ref0 (λ x. x) (Scalar.oFld 1
+          d81 : Typed.Typed 𝓤 H A 𝓣 E G12 b60 Δ0 (at81 bs)
+          d81 = Typed.s-seq 𝓤 H A W 𝓣 E G12 G13 b6 b59 Δ0 (Typed.ask (s11 bs)) (at80 bs) (Relend.t-sl-aggregate 𝓤 H A W
+              E RelayPending.row 𝓣 (Relend.asShr RelayPending.row) G12 20 21 5 ref0 ref0 (λ x. x) (Scalar.oFld 1
               ((Syntax.field 1) ∷ List.[]) (Syntax.tyInt Syntax.w64) 8 λ v. Shared.lenV (v .0))
               (Reads'.as-is 𝓤 H A (Relend.ssptr RelayPending.row ref0 5)) (Reads'.room-gone 𝓤 H A slice0) (
                 Reshare.reads-owedS-len 𝓤 H A W RelayPending.row ref7 0 5 life0 8 Path.refl,
                 Path.refl,
-              ) Path.refl Path.refl λ b o k. tt) d86
+              ) Path.refl Path.refl λ b o k. tt) d80
 
-          d88 : Typed.Typed 𝓤 H A 𝓣 E G5 b64 Δ0 (at88 bs)
-          d88 = Typed.s-seq 𝓤 H A W 𝓣 E G5 G6 b2 b63 Δ0 (Typed.give (s4 bs)) (at87 bs) (Reshare.t-sl-reshare 𝓤 H A W E
-              RelayPending.row 𝓣 G5 1 18 0 5 ref7 ref0 life0 0 (λ x. x)
+          d82 : Typed.Typed 𝓤 H A 𝓣 E G11 b61 Δ0 (at82 bs)
+          d82 = Typed.s-seq 𝓤 H A W 𝓣 E G11 G12 b5 b60 Δ0 (Typed.give (s10 bs)) (at81 bs) (Reshare.t-sl-reshare 𝓤 H A W
+              E RelayPending.row 𝓣 G11 1 20 0 5 ref7 ref0 life0 0 (λ x. x)
               (Reads'.as-is 𝓤 H A (Mut.mslice RelayPending.row ref7 0)) (Reads'.room-gone 𝓤 H A ref0) Path.refl tt
-              Path.refl Path.refl Path.refl λ b o. tt) d87
+              Path.refl Path.refl Path.refl λ b o. tt) d81
 
-          d89 : Typed.Typed 𝓤 H A 𝓣 E G4 b64 Δ0 (at89 bs)
-          d89 = Typed.g-pre 𝓤 H A W 𝓣 E G4 G5 b64 Δ0 (λ Ψ. Ψ) (at88 bs) (Lifetime.g-begin 𝓤 H A W E G4 5 (
+          d83 : Typed.Typed 𝓤 H A 𝓣 E G10 b61 Δ0 (at83 bs)
+          d83 = Typed.g-pre 𝓤 H A W 𝓣 E G10 G11 b61 Δ0 (λ Ψ. Ψ) (at82 bs) (Lifetime.g-begin 𝓤 H A W E G10 5 (
             tt,
             (
               tt,
@@ -3966,15 +3891,100 @@ module _ (claims· : Claims) where
                 ),
               ),
             ),
-          )) d88
+          )) d82
+
+          d84 : Typed.Typed 𝓤 H A 𝓣 E G9 b61 Δ0 (at84 bs)
+          d84 = Typed.g-pre 𝓤 H A W 𝓣 E G9 G10 b61 Δ0 (Typed.pass T9 T10 (s8 bs)) (at83 bs) (Scalar.g-room 𝓤 H A W E G9
+              19 Laws.mir (Local.room-whole 𝓤 H A W (Declared.row Notice.the-type) Laws.mir Path.refl)) d83
+
+          d85 : Typed.Typed 𝓤 H A 𝓣 E G8 b61 Δ0 (at85 bs)
+          d85 = Typed.g-pre 𝓤 H A W 𝓣 E G8 G9 b61 Δ0 (Typed.pass T8 T9 (s7 bs)) (at84 bs) (Scalar.g-room 𝓤 H A W E G8
+              18 Laws.mir (Local.room-whole 𝓤 H A W (Declared.row Notice.the-type) Laws.mir Path.refl)) d84
+
+          d86 : Typed.Typed 𝓤 H A 𝓣 E G7 b61 Δ0 (at86 bs)
+          d86 = Typed.g-pre 𝓤 H A W 𝓣 E G7 G8 b61 Δ0 (Typed.pass T7 T8 (s6 bs)) (at85 bs) (Scalar.g-room 𝓤 H A W E G7
+              17 Laws'''''''''.mir (Local.room-whole 𝓤 H A W (Declared.row RecordQuestion.the-type) Laws'''''''''.mir
+              Path.refl)) d85
+
+          d87 : Typed.Typed 𝓤 H A 𝓣 E G6 b62 Δ0 (at87 bs)
+          d87 = Typed.s-seq 𝓤 H A W 𝓣 E G6 G7 b4 b61 Δ0 (Typed.both (s5 bs)) (at86 bs) (Plain.t-call-plain 𝓤 H A W 𝓣 0
+              ps·0 r·0 (claims· .0) (claims· .1) "hnsr_circuit::calls::revoking::revoking" (known .0) E (λ pos β. β) G6 (
+                record { pos = 17; st = List.[]; d = 0; at = λ x. x },
+                (
+                  record { pos = 18; st = List.[]; d = 0; at = λ x. x },
+                  (record { pos = 19; st = List.[]; d = 0; at = λ x. x }, tt),
+                ),
+              ) 10 List.[] (Call.sub-id 𝓤 H A W (G6 .slots)) (
+                (
+                  Yields.yields-copy 𝓤 H A W (λ ρ. Unit) (Declared.row RecordQuestion.the-type) Path.refl (Copies.cEnum
+                      RecordQuestion.the-type Laws'''''''''.the-laws Laws'''''''''.the-copy .copy 𝓤 H A W)
+                      (Rows.whole (Declared.row RecordQuestion.the-type)) (λ x. x) (λ x. x) (λ ρ told. Local.mem-whole
+                      𝓤 H A W (Declared.row RecordQuestion.the-type) ρ) λ ρ told. Local.whole-mem 𝓤 H A W
+                      (Declared.row RecordQuestion.the-type) ρ,
+                  Path.refl,
+                ),
+                (
+                  (
+                    Yields.yields-copy 𝓤 H A W (λ ρ. Unit) (Declared.row Notice.the-type) Path.refl (Copies.cEnum
+                        Notice.the-type Laws.the-laws Laws.the-copy .copy 𝓤 H A W)
+                        (Rows.whole (Declared.row Notice.the-type)) (λ x. x) (λ x. x) (λ ρ told. Local.mem-whole 𝓤 H A
+                        W (Declared.row Notice.the-type) ρ) λ ρ told. Local.whole-mem 𝓤 H A W
+                        (Declared.row Notice.the-type) ρ,
+                    Path.refl,
+                  ),
+                  (
+                    (
+                      Yields.yields-copy 𝓤 H A W (λ ρ. Unit) (Declared.row Notice.the-type) Path.refl (Copies.cEnum
+                          Notice.the-type Laws.the-laws Laws.the-copy .copy 𝓤 H A W)
+                          (Rows.whole (Declared.row Notice.the-type)) (λ x. x) (λ x. x) (λ ρ told. Local.mem-whole 𝓤 H
+                          A W (Declared.row Notice.the-type) ρ) λ ρ told. Local.whole-mem 𝓤 H A W
+                          (Declared.row Notice.the-type) ρ,
+                      Path.refl,
+                    ),
+                    tt,
+                  ),
+                ),
+              ) (Reads'.room-gone 𝓤 H A Laws'''.mir) tt Path.refl) d86
+
+          d88 : Typed.Typed 𝓤 H A 𝓣 E G5 b63 Δ0 (at88 bs)
+          d88 = Typed.s-seq 𝓤 H A W 𝓣 E G5 G6 b3 b62 Δ0 (Typed.pass T5 T6 (s4 bs)) (at87 bs) (Make.t-enum-make-wt 𝓤 H A
+              W E 𝓣 Notice.the-type Laws.the-laws Laws.the-plain tt G5 19 ((Scalar.oInt Syntax.w8 3) ∷ List.[]) (λ m.
+              Notice.enum .make (Logic.inr (Logic.inr (Logic.inr (Logic.inl tt))))) (Reads'.room-gone 𝓤 H A Laws.mir)
+              (tt, tt) Path.refl (λ m wa. Make.made-val Notice.the-type Laws.the-laws List.[] (Notice.enum .make
+              (Logic.inr (Logic.inr (Logic.inr (Logic.inl tt))))) tt (wa .1)) λ m wa. Make.made-is Notice.the-type
+              Laws.the-laws List.[] (Notice.enum .make (Logic.inr (Logic.inr (Logic.inr (Logic.inl tt))))) tt (wa .1))
+              d87
+
+          d89 : Typed.Typed 𝓤 H A 𝓣 E G4 b64 Δ0 (at89 bs)
+          d89 = Typed.s-seq 𝓤 H A W 𝓣 E G4 G5 b2 b63 Δ0 (Typed.pass T4 T5 (s3 bs)) (at88 bs) (Make.t-enum-make-wt 𝓤 H A
+              W E 𝓣 Notice.the-type Laws.the-laws Laws.the-plain tt G4 18 ((Scalar.oInt Syntax.w8 2) ∷ List.[]) (λ m.
+              Notice.enum .make (Logic.inr (Logic.inr (Logic.inl tt)))) (Reads'.room-gone 𝓤 H A Laws.mir) (tt, tt)
+              Path.refl (λ m wa. Make.made-val Notice.the-type Laws.the-laws List.[]
+              (Notice.enum .make (Logic.inr (Logic.inr (Logic.inl tt)))) tt (wa .1)) λ m wa. Make.made-is
+              Notice.the-type Laws.the-laws List.[] (Notice.enum .make (Logic.inr (Logic.inr (Logic.inl tt)))) tt
+              (wa .1)) d88
 
           d90 : Typed.Typed 𝓤 H A 𝓣 E G3 b65 Δ0 (at90 bs)
-          d90 = Typed.s-seq 𝓤 H A W 𝓣 E G3 G4 b1 b64 Δ0 (Typed.both (s2 bs)) (at89 bs) (Plain.t-call-plain 𝓤 H A W 𝓣 0
-              ps·0 r·0 (claims· .0) (claims· .1) "hnsr_circuit::tables::question::over" (known .0) E (λ pos β. β) G3
-              (Num.vAt 8 λ x. x, tt) 10 List.[] (Call.sub-id 𝓤 H A W (G3 .slots)) (
-                (Scalar.reads-sc 𝓤 H A W (Row.sInt Syntax.w64), Path.refl),
+          d90 = Typed.s-seq 𝓤 H A W 𝓣 E G3 G4 b1 b64 Δ0 (Typed.pass T3 T4 (s2 bs)) (at89 bs) (Make.t-enum-make-wt 𝓤 H A
+              W E 𝓣 RecordQuestion.the-type Laws'''''''''.the-laws Laws'''''''''.the-plain tt G3 17 ((Scalar.oInt
+              Syntax.w8 3) ∷ (Scalar.oAt 8 (Syntax.tyInt Syntax.w64) (Row.valS (Row.sInt Syntax.w64))) ∷ List.[]) (λ m.
+              RecordQuestion.enum .make (Logic.inr (Logic.inr (Logic.inr
+              (Logic.inl (m .1 .1 .1 .1 .1 .1 .1 .1 .0, tt)))))) (Reads'.room-gone 𝓤 H A Laws'''''''''.mir) (
                 tt,
-              ) (Reads'.room-gone 𝓤 H A Laws'''''''''.mir) tt Path.refl) d89
+                ((Scalar.reads-sc 𝓤 H A W (Row.sInt Syntax.w64), Path.refl), tt),
+              ) Path.refl (λ m wa. Make.made-val RecordQuestion.the-type Laws'''''''''.the-laws ((Laws'''''''''.the-laws
+              .1 .1 .1 .0 .0 .val (m .1 .1 .1 .1 .1 .1 .1 .1 .0)) ∷ List.[]) (RecordQuestion.enum .make (Logic.inr (Logic.inr (Logic.inr
+              (Logic.inl (m .1 .1 .1 .1 .1 .1 .1 .1 .0, tt)))))) (
+                Signed.made-wt Field.u64-field (Laws'''''''''.the-laws .1 .1 .1 .0 .0) Make'.u64-wt
+                    (m .1 .1 .1 .1 .1 .1 .1 .1 .0),
+                tt,
+              ) (wa .1)) λ m wa. Make.made-is RecordQuestion.the-type Laws'''''''''.the-laws ((Laws'''''''''.the-laws
+              .1 .1 .1 .0 .0 .val (m .1 .1 .1 .1 .1 .1 .1 .1 .0)) ∷ List.[]) (RecordQuestion.enum .make (Logic.inr (Logic.inr (Logic.inr
+              (Logic.inl (m .1 .1 .1 .1 .1 .1 .1 .1 .0, tt)))))) (
+                Signed.made-wt Field.u64-field (Laws'''''''''.the-laws .1 .1 .1 .0 .0) Make'.u64-wt
+                    (m .1 .1 .1 .1 .1 .1 .1 .1 .0),
+                tt,
+              ) (wa .1)) d89
 
           d91 : Typed.Typed 𝓤 H A 𝓣 E G2 b66 Δ0 (at91 bs)
           d91 = Typed.s-seq 𝓤 H A W 𝓣 E G2 G3 b0 b65 Δ0 (Typed.both (s1 bs)) (at90 bs) (WayStmt.t-way-copy-out 𝓤 H A W
@@ -4084,6 +4094,18 @@ module _ (claims· : Claims) where
           (m1 (before .before) (before .slice-known .given))) → Typed.Mo T3
       m2 = λ before given. s1 (before .before .blocks) .next (m1 (before .before) (before .slice-known .given)) given
 
+      abbrev pub m3 : (before : After-slice-known) → (given : s1 (before .before .blocks) .gives
+          (m1 (before .before) (before .slice-known .given))) → Typed.Mo T4
+      m3 = λ before given. s2 (before .before .blocks) (m2 before given)
+
+      abbrev pub m4 : (before : After-slice-known) → (given : s1 (before .before .blocks) .gives
+          (m1 (before .before) (before .slice-known .given))) → Typed.Mo T5
+      m4 = λ before given. s3 (before .before .blocks) (m3 before given)
+
+      abbrev pub m5 : (before : After-slice-known) → (given : s1 (before .before .blocks) .gives
+          (m1 (before .before) (before .slice-known .given))) → Typed.Mo T6
+      m5 = λ before given. s4 (before .before .blocks) (m4 before given)
+
       module _ (before· : After-slice-known) where
         pub record After-config·own : Type 0 where
           pub given : s1 (before· .before .blocks) .gives (m1 (before· .before) (before· .slice-known .given))
@@ -4092,95 +4114,121 @@ module _ (claims· : Claims) where
         pub before : After-slice-known
         pub config : After-config·own before
 
-      abbrev pub Need-over-requires : Type 0
-      Need-over-requires = (c : After-config) → s2 (c .before .before .blocks) .asks
-          (m2 (c .before) (c .config .given))
+      abbrev pub Need-revoking-requires : Type 0
+      Need-revoking-requires = (c : After-config) → s5 (c .before .before .blocks) .asks
+          (m5 (c .before) (c .config .given))
 
-      abbrev pub m3 : (before : After-config) → (given : s2 (before .before .before .blocks) .gives
-          (m2 (before .before) (before .config .given))) → Typed.Mo T4
-      m3 = λ before given. s2 (before .before .before .blocks) .next (m2 (before .before) (before .config .given))
+      abbrev pub m6 : (before : After-config) → (given : s5 (before .before .before .blocks) .gives
+          (m5 (before .before) (before .config .given))) → Typed.Mo T7
+      m6 = λ before given. s5 (before .before .before .blocks) .next (m5 (before .before) (before .config .given))
           given
 
       module _ (before· : After-config) where
-        abbrev pub After-over·own : Type 0
-        After-over·own = Called.Called ps·0 r·0 (claims· .1) T3 (Num.vAt 8 λ x. x, tt)
-            (m2 (before· .before) (before· .config .given))
+        abbrev pub After-revoking·own : Type 0
+        After-revoking·own = Called.Called ps·0 r·0 (claims· .1) T6 (
+          record { pos = 17; st = List.[]; d = 0; at = λ x. x },
+          (
+            record { pos = 18; st = List.[]; d = 0; at = λ x. x },
+            (record { pos = 19; st = List.[]; d = 0; at = λ x. x }, tt),
+          ),
+        ) (m5 (before· .before) (before· .config .given))
 
-      pub record After-over : Type 0 where
+      pub record After-revoking : Type 0 where
         pub before : After-config
-        pub over : After-over·own before
+        pub revoking : After-revoking·own before
 
-      abbrev pub After-over·gave : (c : After-over) → s2 (c .before .before .before .blocks) .gives
-          (m2 (c .before .before) (c .before .config .given))
-      After-over·gave = λ c. Called.given ps·0 r·0 (claims· .1) T3 (Num.vAt 8 λ x. x, tt)
-          (m2 (c .before .before) (c .before .config .given)) (c .over)
+      abbrev pub After-revoking·gave : (c : After-revoking) → s5 (c .before .before .before .blocks) .gives
+          (m5 (c .before .before) (c .before .config .given))
+      After-revoking·gave = λ c. Called.given ps·0 r·0 (claims· .1) T6 (
+        record { pos = 17; st = List.[]; d = 0; at = λ x. x },
+        (
+          record { pos = 18; st = List.[]; d = 0; at = λ x. x },
+          (record { pos = 19; st = List.[]; d = 0; at = λ x. x }, tt),
+        ),
+      ) (m5 (c .before .before) (c .before .config .given)) (c .revoking)
 
-      abbrev pub m4 : (before : After-over) → (given : s4 (before .before .before .before .blocks) .gives
-          (m3 (before .before) (After-over·gave before))) → Typed.Mo T6
-      m4 = λ before given. s4 (before .before .before .before .blocks) .next
-          (m3 (before .before) (After-over·gave before)) given
+      abbrev pub m7 : (before : After-config) → (given : s5 (before .before .before .blocks) .gives
+          (m5 (before .before) (before .config .given))) → Typed.Mo T8
+      m7 = λ before given. s6 (before .before .before .blocks) (m6 before given)
 
-      abbrev pub m5 : (before : After-over) → (given : s4 (before .before .before .before .blocks) .gives
-          (m3 (before .before) (After-over·gave before))) → Typed.Mo T7
-      m5 = λ before given. s5 (before .before .before .before .blocks) .next (m4 before given)
+      abbrev pub m8 : (before : After-config) → (given : s5 (before .before .before .blocks) .gives
+          (m5 (before .before) (before .config .given))) → Typed.Mo T9
+      m8 = λ before given. s7 (before .before .before .blocks) (m7 before given)
 
-      module _ (before· : After-over) where
+      abbrev pub m9 : (before : After-config) → (given : s5 (before .before .before .blocks) .gives
+          (m5 (before .before) (before .config .given))) → Typed.Mo T10
+      m9 = λ before given. s8 (before .before .before .blocks) (m8 before given)
+
+      abbrev pub m10 : (before : After-revoking) → (given : s10 (before .before .before .before .blocks) .gives
+          (m9 (before .before) (After-revoking·gave before))) → Typed.Mo T12
+      m10 = λ before given. s10 (before .before .before .before .blocks) .next
+          (m9 (before .before) (After-revoking·gave before)) given
+
+      abbrev pub m11 : (before : After-revoking) → (given : s10 (before .before .before .before .blocks) .gives
+          (m9 (before .before) (After-revoking·gave before))) → Typed.Mo T13
+      m11 = λ before given. s11 (before .before .before .before .blocks) .next (m10 before given)
+
+      module _ (before· : After-revoking) where
         pub record After-entry-answer-arg·own : Type 0 where
-          pub given : s4 (before· .before .before .before .blocks) .gives
-              (m3 (before· .before) (After-over·gave before·))
+          pub given : s10 (before· .before .before .before .blocks) .gives
+              (m9 (before· .before) (After-revoking·gave before·))
 
       pub record After-entry-answer-arg : Type 0 where
-        pub before : After-over
+        pub before : After-revoking
         pub entry-answer-arg : After-entry-answer-arg·own before
 
-      abbrev pub m6 : (before : After-entry-answer-arg) → (given : s7 (before .before .before .before .before .blocks)
-          .gives (m5 (before .before) (before .entry-answer-arg .given))) → Typed.Mo T9
-      m6 = λ before given. s7 (before .before .before .before .before .blocks) .next
-          (m5 (before .before) (before .entry-answer-arg .given)) given
+      abbrev pub m12 : (before : After-entry-answer-arg) → (given : s13
+          (before .before .before .before .before .blocks) .gives
+          (m11 (before .before) (before .entry-answer-arg .given))) → Typed.Mo T15
+      m12 = λ before given. s13 (before .before .before .before .before .blocks) .next
+          (m11 (before .before) (before .entry-answer-arg .given)) given
 
-      abbrev pub m7 : (before : After-entry-answer-arg) → (given : s7 (before .before .before .before .before .blocks)
-          .gives (m5 (before .before) (before .entry-answer-arg .given))) → Typed.Mo T10
-      m7 = λ before given. s8 (before .before .before .before .before .blocks) .next (m6 before given)
+      abbrev pub m13 : (before : After-entry-answer-arg) → (given : s13
+          (before .before .before .before .before .blocks) .gives
+          (m11 (before .before) (before .entry-answer-arg .given))) → Typed.Mo T16
+      m13 = λ before given. s14 (before .before .before .before .before .blocks) .next (m12 before given)
 
-      abbrev pub m8 : (before : After-entry-answer-arg) → (given : s7 (before .before .before .before .before .blocks)
-          .gives (m5 (before .before) (before .entry-answer-arg .given))) → Typed.Mo T11
-      m8 = λ before given. s9 (before .before .before .before .before .blocks) (m7 before given)
+      abbrev pub m14 : (before : After-entry-answer-arg) → (given : s13
+          (before .before .before .before .before .blocks) .gives
+          (m11 (before .before) (before .entry-answer-arg .given))) → Typed.Mo T17
+      m14 = λ before given. s15 (before .before .before .before .before .blocks) (m13 before given)
 
-      abbrev pub m9 : (before : After-entry-answer-arg) → (given : s7 (before .before .before .before .before .blocks)
-          .gives (m5 (before .before) (before .entry-answer-arg .given))) → Typed.Mo T12
-      m9 = λ before given. s10 (before .before .before .before .before .blocks) (m8 before given)
+      abbrev pub m15 : (before : After-entry-answer-arg) → (given : s13
+          (before .before .before .before .before .blocks) .gives
+          (m11 (before .before) (before .entry-answer-arg .given))) → Typed.Mo T18
+      m15 = λ before given. s16 (before .before .before .before .before .blocks) (m14 before given)
 
       module _ (before· : After-entry-answer-arg) where
         pub record After-entry-answer-arg2·own : Type 0 where
-          pub given : s7 (before· .before .before .before .before .blocks) .gives
-              (m5 (before· .before) (before· .entry-answer-arg .given))
+          pub given : s13 (before· .before .before .before .before .blocks) .gives
+              (m11 (before· .before) (before· .entry-answer-arg .given))
 
       pub record After-entry-answer-arg2 : Type 0 where
         pub before : After-entry-answer-arg
         pub entry-answer-arg2 : After-entry-answer-arg2·own before
 
       abbrev pub Need-entry-answer-requires : Type 0
-      Need-entry-answer-requires = (c : After-entry-answer-arg2) → s11
-          (c .before .before .before .before .before .blocks) .asks (m9 (c .before) (c .entry-answer-arg2 .given))
+      Need-entry-answer-requires = (c : After-entry-answer-arg2) → s17
+          (c .before .before .before .before .before .blocks) .asks (m15 (c .before) (c .entry-answer-arg2 .given))
 
-      abbrev pub m10 : (before : After-entry-answer-arg2) → (given : s11
+      abbrev pub m16 : (before : After-entry-answer-arg2) → (given : s17
           (before .before .before .before .before .before .blocks) .gives
-          (m9 (before .before) (before .entry-answer-arg2 .given))) → Typed.Mo T13
-      m10 = λ before given. s11 (before .before .before .before .before .before .blocks) .next
-          (m9 (before .before) (before .entry-answer-arg2 .given)) given
+          (m15 (before .before) (before .entry-answer-arg2 .given))) → Typed.Mo T19
+      m16 = λ before given. s17 (before .before .before .before .before .before .blocks) .next
+          (m15 (before .before) (before .entry-answer-arg2 .given)) given
 
       module _ (before· : After-entry-answer-arg2) where
         abbrev pub After-entry-answer·own : Type 0
-        After-entry-answer·own = Called.Called ps·1 r·1 (claims· .3) T12 (
-          record { pos = 19; ty = ref0; ref = λ x. x },
+        After-entry-answer·own = Called.Called ps·1 r·1 (claims· .3) T18 (
+          record { pos = 21; ty = ref0; ref = λ x. x },
           (
-            record { pos = 21; ty = ref1; ref = λ x. x },
+            record { pos = 23; ty = ref1; ref = λ x. x },
             (
               record { pos = 7; st = List.[]; d = 0; at = λ x. x },
               (
-                Num.vAt 22 λ x. x,
+                Num.vAt 24 λ x. x,
                 (
-                  Num.vAt 23 λ x. x,
+                  Num.vAt 25 λ x. x,
                   (
                     record { pos = 9; st = List.[]; d = 0; at = λ x. x },
                     (record { pos = 10; st = List.[]; d = 0; at = λ x. x }, tt),
@@ -4189,25 +4237,25 @@ module _ (claims· : Claims) where
               ),
             ),
           ),
-        ) (m9 (before· .before) (before· .entry-answer-arg2 .given))
+        ) (m15 (before· .before) (before· .entry-answer-arg2 .given))
 
       pub record After-entry-answer : Type 0 where
         pub before : After-entry-answer-arg2
         pub entry-answer : After-entry-answer·own before
 
-      abbrev pub After-entry-answer·gave : (c : After-entry-answer) → s11
-          (c .before .before .before .before .before .before .blocks) .gives (m9 (c .before .before)
+      abbrev pub After-entry-answer·gave : (c : After-entry-answer) → s17
+          (c .before .before .before .before .before .before .blocks) .gives (m15 (c .before .before)
           (c .before .entry-answer-arg2 .given))
-      After-entry-answer·gave = λ c. Called.given ps·1 r·1 (claims· .3) T12 (
-        record { pos = 19; ty = ref0; ref = λ x. x },
+      After-entry-answer·gave = λ c. Called.given ps·1 r·1 (claims· .3) T18 (
+        record { pos = 21; ty = ref0; ref = λ x. x },
         (
-          record { pos = 21; ty = ref1; ref = λ x. x },
+          record { pos = 23; ty = ref1; ref = λ x. x },
           (
             record { pos = 7; st = List.[]; d = 0; at = λ x. x },
             (
-              Num.vAt 22 λ x. x,
+              Num.vAt 24 λ x. x,
               (
-                Num.vAt 23 λ x. x,
+                Num.vAt 25 λ x. x,
                 (
                   record { pos = 9; st = List.[]; d = 0; at = λ x. x },
                   (record { pos = 10; st = List.[]; d = 0; at = λ x. x }, tt),
@@ -4216,165 +4264,165 @@ module _ (claims· : Claims) where
             ),
           ),
         ),
-      ) (m9 (c .before .before) (c .before .entry-answer-arg2 .given)) (c .entry-answer)
+      ) (m15 (c .before .before) (c .before .entry-answer-arg2 .given)) (c .entry-answer)
 
-      abbrev pub m11 : (before : After-entry-answer-arg2) → (given : s11
+      abbrev pub m17 : (before : After-entry-answer-arg2) → (given : s17
           (before .before .before .before .before .before .blocks) .gives
-          (m9 (before .before) (before .entry-answer-arg2 .given))) → Typed.Mo T14
-      m11 = λ before given. s12 (before .before .before .before .before .before .blocks) (m10 before given)
+          (m15 (before .before) (before .entry-answer-arg2 .given))) → Typed.Mo T20
+      m17 = λ before given. s18 (before .before .before .before .before .before .blocks) (m16 before given)
 
-      abbrev pub m12 : (before : After-entry-answer-arg2) → (given : s11
+      abbrev pub m18 : (before : After-entry-answer-arg2) → (given : s17
           (before .before .before .before .before .before .blocks) .gives
-          (m9 (before .before) (before .entry-answer-arg2 .given))) → Typed.Mo T15
-      m12 = λ before given. s13 (before .before .before .before .before .before .blocks) (m11 before given)
+          (m15 (before .before) (before .entry-answer-arg2 .given))) → Typed.Mo T21
+      m18 = λ before given. s19 (before .before .before .before .before .before .blocks) (m17 before given)
 
-      abbrev pub m13 : (before : After-entry-answer-arg2) → (given : s11
+      abbrev pub m19 : (before : After-entry-answer-arg2) → (given : s17
           (before .before .before .before .before .before .blocks) .gives
-          (m9 (before .before) (before .entry-answer-arg2 .given))) → Typed.Mo T16
-      m13 = λ before given. s14 (before .before .before .before .before .before .blocks) (m12 before given)
+          (m15 (before .before) (before .entry-answer-arg2 .given))) → Typed.Mo T22
+      m19 = λ before given. s20 (before .before .before .before .before .before .blocks) (m18 before given)
 
-      abbrev pub m14 : (before : After-entry-answer-arg2) → (given : s11
+      abbrev pub m20 : (before : After-entry-answer-arg2) → (given : s17
           (before .before .before .before .before .before .blocks) .gives
-          (m9 (before .before) (before .entry-answer-arg2 .given))) → Typed.Mo T17
-      m14 = λ before given. s15 (before .before .before .before .before .before .blocks) (m13 before given)
+          (m15 (before .before) (before .entry-answer-arg2 .given))) → Typed.Mo T23
+      m20 = λ before given. s21 (before .before .before .before .before .before .blocks) (m19 before given)
 
-      abbrev pub m15 : (before : After-entry-answer-arg2) → (given : s11
+      abbrev pub m21 : (before : After-entry-answer-arg2) → (given : s17
           (before .before .before .before .before .before .blocks) .gives
-          (m9 (before .before) (before .entry-answer-arg2 .given))) → Typed.Mo T18
-      m15 = λ before given. s16 (before .before .before .before .before .before .blocks) (m14 before given)
+          (m15 (before .before) (before .entry-answer-arg2 .given))) → Typed.Mo T24
+      m21 = λ before given. s22 (before .before .before .before .before .before .blocks) (m20 before given)
 
-      abbrev pub m16 : (before : After-entry-answer-arg2) → (given : s11
+      abbrev pub m22 : (before : After-entry-answer-arg2) → (given : s17
           (before .before .before .before .before .before .blocks) .gives
-          (m9 (before .before) (before .entry-answer-arg2 .given))) → Typed.Mo T20
-      m16 = λ before given. s18 (before .before .before .before .before .before .blocks) (m15 before given)
+          (m15 (before .before) (before .entry-answer-arg2 .given))) → Typed.Mo T26
+      m22 = λ before given. s24 (before .before .before .before .before .before .blocks) (m21 before given)
 
-      abbrev pub m17 : (before : After-entry-answer-arg2) → (given : s11
+      abbrev pub m23 : (before : After-entry-answer-arg2) → (given : s17
           (before .before .before .before .before .before .blocks) .gives
-          (m9 (before .before) (before .entry-answer-arg2 .given))) → Typed.Mo T23
-      m17 = λ before given. s21 (before .before .before .before .before .before .blocks) (m16 before given)
+          (m15 (before .before) (before .entry-answer-arg2 .given))) → Typed.Mo T29
+      m23 = λ before given. s27 (before .before .before .before .before .before .blocks) (m22 before given)
 
-      abbrev pub m18 : (before : After-entry-answer-arg2) → (given : s11
+      abbrev pub m24 : (before : After-entry-answer-arg2) → (given : s17
           (before .before .before .before .before .before .blocks) .gives
-          (m9 (before .before) (before .entry-answer-arg2 .given))) → Typed.Mo T25
-      m18 = λ before given. s23 (before .before .before .before .before .before .blocks) (m17 before given)
+          (m15 (before .before) (before .entry-answer-arg2 .given))) → Typed.Mo T31
+      m24 = λ before given. s29 (before .before .before .before .before .before .blocks) (m23 before given)
 
-      abbrev pub m19 : (before : After-entry-answer) → (given : s24 (before .before .before .before .before .before
-          .before .blocks) .gives (m18 (before .before) (After-entry-answer·gave before))) → Typed.Mo T26
-      m19 = λ before given. s24 (before .before .before .before .before .before .before .blocks) .next
-          (m18 (before .before) (After-entry-answer·gave before)) given
+      abbrev pub m25 : (before : After-entry-answer) → (given : s30 (before .before .before .before .before .before
+          .before .blocks) .gives (m24 (before .before) (After-entry-answer·gave before))) → Typed.Mo T32
+      m25 = λ before given. s30 (before .before .before .before .before .before .before .blocks) .next
+          (m24 (before .before) (After-entry-answer·gave before)) given
 
-      abbrev pub m20 : (before : After-entry-answer) → (given : s24 (before .before .before .before .before .before
-          .before .blocks) .gives (m18 (before .before) (After-entry-answer·gave before))) → Typed.Mo T27
-      m20 = λ before given. s25 (before .before .before .before .before .before .before .blocks) (m19 before given)
+      abbrev pub m26 : (before : After-entry-answer) → (given : s30 (before .before .before .before .before .before
+          .before .blocks) .gives (m24 (before .before) (After-entry-answer·gave before))) → Typed.Mo T33
+      m26 = λ before given. s31 (before .before .before .before .before .before .before .blocks) (m25 before given)
 
       module _ (before· : After-entry-answer) where
         pub record After-first·own : Type 0 where
-          pub given : s24 (before· .before .before .before .before .before .before .blocks) .gives
-              (m18 (before· .before) (After-entry-answer·gave before·))
+          pub given : s30 (before· .before .before .before .before .before .before .blocks) .gives
+              (m24 (before· .before) (After-entry-answer·gave before·))
 
       pub record After-first : Type 0 where
         pub before : After-entry-answer
         pub first : After-first·own before
 
       abbrev pub Need-clock-answer-requires : Type 0
-      Need-clock-answer-requires = (c : After-first) → s26 (c .before .before .before .before .before .before .before
-          .blocks) .asks (m20 (c .before) (c .first .given))
+      Need-clock-answer-requires = (c : After-first) → s32 (c .before .before .before .before .before .before .before
+          .blocks) .asks (m26 (c .before) (c .first .given))
 
-      abbrev pub m21 : (before : After-first) → (given : s26 (before .before .before .before .before .before .before
-          .before .blocks) .gives (m20 (before .before) (before .first .given))) → Typed.Mo T28
-      m21 = λ before given. s26 (before .before .before .before .before .before .before .before .blocks) .next
-          (m20 (before .before) (before .first .given)) given
+      abbrev pub m27 : (before : After-first) → (given : s32 (before .before .before .before .before .before .before
+          .before .blocks) .gives (m26 (before .before) (before .first .given))) → Typed.Mo T34
+      m27 = λ before given. s32 (before .before .before .before .before .before .before .before .blocks) .next
+          (m26 (before .before) (before .first .given)) given
 
       module _ (before· : After-first) where
         abbrev pub After-clock-answer·own : Type 0
-        After-clock-answer·own = Called.Called ps·2 r·2 (claims· .5) T27 (
+        After-clock-answer·own = Called.Called ps·2 r·2 (claims· .5) T33 (
           Num.vFld 6 ((Syntax.field 3) ∷ List.[]) 32 λ x. OpaqueRelayRuntime.struct .as-values x .1 .1 .1 .0,
           (Num.vAt 8 λ x. x, tt),
-        ) (m20 (before· .before) (before· .first .given))
+        ) (m26 (before· .before) (before· .first .given))
 
       pub record After-clock-answer : Type 0 where
         pub before : After-first
         pub clock-answer : After-clock-answer·own before
 
-      abbrev pub After-clock-answer·gave : (c : After-clock-answer) → s26 (c .before .before .before .before .before
-          .before .before .before .blocks) .gives (m20 (c .before .before) (c .before .first .given))
-      After-clock-answer·gave = λ c. Called.given ps·2 r·2 (claims· .5) T27 (
+      abbrev pub After-clock-answer·gave : (c : After-clock-answer) → s32 (c .before .before .before .before .before
+          .before .before .before .blocks) .gives (m26 (c .before .before) (c .before .first .given))
+      After-clock-answer·gave = λ c. Called.given ps·2 r·2 (claims· .5) T33 (
         Num.vFld 6 ((Syntax.field 3) ∷ List.[]) 32 λ x. OpaqueRelayRuntime.struct .as-values x .1 .1 .1 .0,
         (Num.vAt 8 λ x. x, tt),
-      ) (m20 (c .before .before) (c .before .first .given)) (c .clock-answer)
+      ) (m26 (c .before .before) (c .before .first .given)) (c .clock-answer)
 
       abbrev pub Need-first-refusal-requires : Type 0
-      Need-first-refusal-requires = (c : After-clock-answer) → s27 (c .before .before .before .before .before .before
-          .before .before .blocks) .asks (m21 (c .before) (After-clock-answer·gave c))
+      Need-first-refusal-requires = (c : After-clock-answer) → s33 (c .before .before .before .before .before .before
+          .before .before .blocks) .asks (m27 (c .before) (After-clock-answer·gave c))
 
-      abbrev pub m22 : (before : After-clock-answer) → (given : s27 (before .before .before .before .before .before
-          .before .before .before .blocks) .gives (m21 (before .before) (After-clock-answer·gave before))) → Typed.Mo
-          T29
-      m22 = λ before given. s27 (before .before .before .before .before .before .before .before .before .blocks) .next
-          (m21 (before .before) (After-clock-answer·gave before)) given
+      abbrev pub m28 : (before : After-clock-answer) → (given : s33 (before .before .before .before .before .before
+          .before .before .before .blocks) .gives (m27 (before .before) (After-clock-answer·gave before))) → Typed.Mo
+          T35
+      m28 = λ before given. s33 (before .before .before .before .before .before .before .before .before .blocks) .next
+          (m27 (before .before) (After-clock-answer·gave before)) given
 
       module _ (before· : After-clock-answer) where
         abbrev pub After-first-refusal·own : Type 0
-        After-first-refusal·own = Called.Called ps·3 r·3 (claims· .7) T28 (
+        After-first-refusal·own = Called.Called ps·3 r·3 (claims· .7) T34 (
           record { pos = 12; st = List.[]; d = 0; at = λ x. x },
           (record { pos = 14; st = List.[]; d = 0; at = λ x. x }, tt),
-        ) (m21 (before· .before) (After-clock-answer·gave before·))
+        ) (m27 (before· .before) (After-clock-answer·gave before·))
 
       pub record After-first-refusal : Type 0 where
         pub before : After-clock-answer
         pub first-refusal : After-first-refusal·own before
 
-      abbrev pub After-first-refusal·gave : (c : After-first-refusal) → s27 (c .before .before .before .before .before
-          .before .before .before .before .blocks) .gives (m21 (c .before .before)
+      abbrev pub After-first-refusal·gave : (c : After-first-refusal) → s33 (c .before .before .before .before .before
+          .before .before .before .before .blocks) .gives (m27 (c .before .before)
           (After-clock-answer·gave (c .before)))
-      After-first-refusal·gave = λ c. Called.given ps·3 r·3 (claims· .7) T28 (
+      After-first-refusal·gave = λ c. Called.given ps·3 r·3 (claims· .7) T34 (
         record { pos = 12; st = List.[]; d = 0; at = λ x. x },
         (record { pos = 14; st = List.[]; d = 0; at = λ x. x }, tt),
-      ) (m21 (c .before .before) (After-clock-answer·gave (c .before))) (c .first-refusal)
+      ) (m27 (c .before .before) (After-clock-answer·gave (c .before))) (c .first-refusal)
 
-      abbrev pub m23 : (before : After-clock-answer) → (given : s27 (before .before .before .before .before .before
-          .before .before .before .blocks) .gives (m21 (before .before) (After-clock-answer·gave before))) → Typed.Mo
-          T30
-      m23 = λ before given. s28 (before .before .before .before .before .before .before .before .before .blocks)
-          (m22 before given)
+      abbrev pub m29 : (before : After-clock-answer) → (given : s33 (before .before .before .before .before .before
+          .before .before .before .blocks) .gives (m27 (before .before) (After-clock-answer·gave before))) → Typed.Mo
+          T36
+      m29 = λ before given. s34 (before .before .before .before .before .before .before .before .before .blocks)
+          (m28 before given)
 
-      abbrev pub m24 : (before : After-clock-answer) → (given : s27 (before .before .before .before .before .before
-          .before .before .before .blocks) .gives (m21 (before .before) (After-clock-answer·gave before))) → Typed.Mo
-          T31
-      m24 = λ before given. s29 (before .before .before .before .before .before .before .before .before .blocks)
-          (m23 before given)
+      abbrev pub m30 : (before : After-clock-answer) → (given : s33 (before .before .before .before .before .before
+          .before .before .before .blocks) .gives (m27 (before .before) (After-clock-answer·gave before))) → Typed.Mo
+          T37
+      m30 = λ before given. s35 (before .before .before .before .before .before .before .before .before .blocks)
+          (m29 before given)
 
       abbrev pub Need-is-taken-requires : Type 0
-      Need-is-taken-requires = (c : After-first-refusal) → s30 (c .before .before .before .before .before .before
-          .before .before .before .blocks) .asks (m24 (c .before) (After-first-refusal·gave c))
+      Need-is-taken-requires = (c : After-first-refusal) → s36 (c .before .before .before .before .before .before
+          .before .before .before .blocks) .asks (m30 (c .before) (After-first-refusal·gave c))
 
-      abbrev pub m25 : (before : After-first-refusal) → (given : s30 (before .before .before .before .before .before
-          .before .before .before .before .blocks) .gives (m24 (before .before) (After-first-refusal·gave before))) →
-          Typed.Mo T32
-      m25 = λ before given. s30 (before .before .before .before .before .before .before .before .before .before .blocks)
-          .next (m24 (before .before) (After-first-refusal·gave before)) given
+      abbrev pub m31 : (before : After-first-refusal) → (given : s36 (before .before .before .before .before .before
+          .before .before .before .before .blocks) .gives (m30 (before .before) (After-first-refusal·gave before))) →
+          Typed.Mo T38
+      m31 = λ before given. s36 (before .before .before .before .before .before .before .before .before .before .blocks)
+          .next (m30 (before .before) (After-first-refusal·gave before)) given
 
       module _ (before· : After-first-refusal) where
         abbrev pub After-is-taken·own : Type 0
-        After-is-taken·own = Called.Called ps·4 r·4 (claims· .9) T31
+        After-is-taken·own = Called.Called ps·4 r·4 (claims· .9) T37
             (record { pos = 15; st = List.[]; d = 0; at = λ x. x }, tt)
-            (m24 (before· .before) (After-first-refusal·gave before·))
+            (m30 (before· .before) (After-first-refusal·gave before·))
 
       pub record After-is-taken : Type 0 where
         pub before : After-first-refusal
         pub is-taken : After-is-taken·own before
 
-      abbrev pub After-is-taken·gave : (c : After-is-taken) → s30 (c .before .before .before .before .before .before
-          .before .before .before .before .blocks) .gives (m24 (c .before .before)
+      abbrev pub After-is-taken·gave : (c : After-is-taken) → s36 (c .before .before .before .before .before .before
+          .before .before .before .before .blocks) .gives (m30 (c .before .before)
           (After-first-refusal·gave (c .before)))
-      After-is-taken·gave = λ c. Called.given ps·4 r·4 (claims· .9) T31
-          (record { pos = 15; st = List.[]; d = 0; at = λ x. x }, tt) (m24 (c .before .before)
+      After-is-taken·gave = λ c. Called.given ps·4 r·4 (claims· .9) T37
+          (record { pos = 15; st = List.[]; d = 0; at = λ x. x }, tt) (m30 (c .before .before)
           (After-first-refusal·gave (c .before))) (c .is-taken)
 
-      abbrev W1 : (before : After-first-refusal) → (given : s30 (before .before .before .before .before .before .before
-          .before .before .before .blocks) .gives (m24 (before .before) (After-first-refusal·gave before))) →
+      abbrev W1 : (before : After-first-refusal) → (given : s36 (before .before .before .before .before .before .before
+          .before .before .before .blocks) .gives (m30 (before .before) (After-first-refusal·gave before))) →
           Typed.Want O1
-      W1 = λ before given. Typed.wantNext T33 O0 (at60 (before .before .before .before .before .before .before .before
+      W1 = λ before given. Typed.wantNext T39 O0 (at54 (before .before .before .before .before .before .before .before
           .before .before .blocks) (W0 (before .before .before .before .before .before .before .before .before .before
           .κs) (before .before .before .before .before .before .before .before .before .before .args) (before .before
           .before .before .before .before .before .before .before .before .blocks))) (W0 (before .before .before
@@ -4382,130 +4430,71 @@ module _ (claims· : Claims) where
           .before .before .before .before .args) (before .before .before .before .before .before .before .before
           .before .before .blocks))
 
-      abbrev pub m26 : (before : After-is-taken) → Typed.Mo T34
-      m26 = λ before. s31 (before .before .before .before .before .before .before .before .before .before .before
-          .blocks) (m25 (before .before) (After-is-taken·gave before))
+      abbrev pub m32 : (before : After-is-taken) → Typed.Mo T40
+      m32 = λ before. s37 (before .before .before .before .before .before .before .before .before .before .before
+          .blocks) (m31 (before .before) (After-is-taken·gave before))
 
-      abbrev pub m27 : (before : After-is-taken) → Typed.Mo T35
-      m27 = λ before. s32 (before .before .before .before .before .before .before .before .before .before .before
-          .blocks) (m26 before)
-
-      abbrev pub m28 : (before : After-is-taken) → Typed.Mo T36
-      m28 = λ before. s33 (before .before .before .before .before .before .before .before .before .before .before
-          .blocks) (m27 before)
-
-      abbrev pub m29 : (before : After-is-taken) → Typed.Mo T37
-      m29 = λ before. s34 (before .before .before .before .before .before .before .before .before .before .before
-          .blocks) (m28 before)
+      abbrev pub m33 : (before : After-is-taken) → Typed.Mo T41
+      m33 = λ before. s38 (before .before .before .before .before .before .before .before .before .before .before
+          .blocks) (m32 before)
 
       module _ (before· : After-is-taken) where
         pub record Then1·own : Type 0 where
-          pub taken : Path._≡_ (Row.get 24 (T32 .locals) (m25 (before· .before) (After-is-taken·gave before·)))
+          pub taken : Path._≡_ (Row.get 26 (T38 .locals) (m31 (before· .before) (After-is-taken·gave before·)))
               Bool'.true
 
       pub record Then1 : Type 0 where
         pub before : After-is-taken
         pub if1 : Then1·own before
 
-      abbrev pub Need-revoking-requires : Type 0
-      Need-revoking-requires = (c : Then1) → s35 (c .before .before .before .before .before .before .before .before
-          .before .before .before .blocks) .asks (m29 (c .before))
+      abbrev pub Need-with-clock-requires : Type 0
+      Need-with-clock-requires = (c : Then1) → s39 (c .before .before .before .before .before .before .before .before
+          .before .before .before .blocks) .asks (m33 (c .before))
 
-      abbrev pub m30 : (before : Then1) → (given : s35 (before .before .before .before .before .before .before .before
-          .before .before .before .before .blocks) .gives (m29 (before .before))) → Typed.Mo T38
-      m30 = λ before given. s35 (before .before .before .before .before .before .before .before .before .before .before
-          .before .blocks) .next (m29 (before .before)) given
+      abbrev pub m34 : (before : Then1) → (given : s39 (before .before .before .before .before .before .before .before
+          .before .before .before .before .blocks) .gives (m33 (before .before))) → Typed.Mo T42
+      m34 = λ before given. s39 (before .before .before .before .before .before .before .before .before .before .before
+          .before .blocks) .next (m33 (before .before)) given
 
       module _ (before· : Then1) where
-        abbrev pub After-revoking·own : Type 0
-        After-revoking·own = Called.Called ps·5 r·5 (claims· .11) T37 (
-          record { pos = 10; st = List.[]; d = 0; at = λ x. x },
-          (
-            record { pos = 25; st = List.[]; d = 0; at = λ x. x },
-            (record { pos = 26; st = List.[]; d = 0; at = λ x. x }, tt),
-          ),
-        ) (m29 (before· .before))
-
-      pub record After-revoking : Type 0 where
-        pub before : Then1
-        pub revoking : After-revoking·own before
-
-      abbrev pub After-revoking·gave : (c : After-revoking) → s35 (c .before .before .before .before .before .before
-          .before .before .before .before .before .before .blocks) .gives (m29 (c .before .before))
-      After-revoking·gave = λ c. Called.given ps·5 r·5 (claims· .11) T37 (
-        record { pos = 10; st = List.[]; d = 0; at = λ x. x },
-        (
-          record { pos = 25; st = List.[]; d = 0; at = λ x. x },
-          (record { pos = 26; st = List.[]; d = 0; at = λ x. x }, tt),
-        ),
-      ) (m29 (c .before .before)) (c .revoking)
-
-      abbrev pub m31 : (before : Then1) → (given : s35 (before .before .before .before .before .before .before .before
-          .before .before .before .before .blocks) .gives (m29 (before .before))) → Typed.Mo T39
-      m31 = λ before given. s36 (before .before .before .before .before .before .before .before .before .before .before
-          .before .blocks) (m30 before given)
-
-      abbrev pub m32 : (before : Then1) → (given : s35 (before .before .before .before .before .before .before .before
-          .before .before .before .before .blocks) .gives (m29 (before .before))) → Typed.Mo T40
-      m32 = λ before given. s37 (before .before .before .before .before .before .before .before .before .before .before
-          .before .blocks) (m31 before given)
-
-      abbrev pub m33 : (before : Then1) → (given : s35 (before .before .before .before .before .before .before .before
-          .before .before .before .before .blocks) .gives (m29 (before .before))) → Typed.Mo T41
-      m33 = λ before given. s38 (before .before .before .before .before .before .before .before .before .before .before
-          .before .blocks) (m32 before given)
-
-      abbrev pub Need-with-clock-requires : Type 0
-      Need-with-clock-requires = (c : After-revoking) → s39 (c .before .before .before .before .before .before .before
-          .before .before .before .before .before .blocks) .asks (m33 (c .before) (After-revoking·gave c))
-
-      abbrev pub m34 : (before : After-revoking) → (given : s39 (before .before .before .before .before .before .before
-          .before .before .before .before .before .before .blocks) .gives
-          (m33 (before .before) (After-revoking·gave before))) → Typed.Mo T42
-      m34 = λ before given. s39 (before .before .before .before .before .before .before .before .before .before .before
-          .before .before .blocks) .next (m33 (before .before) (After-revoking·gave before)) given
-
-      module _ (before· : After-revoking) where
         abbrev pub After-with-clock·own : Type 0
-        After-with-clock·own = Called.Called ps·6 r·6 (claims· .13) T41 (
+        After-with-clock·own = Called.Called ps·5 r·5 (claims· .11) T41 (
           record { pos = 6; st = List.[]; d = 0; at = λ x. x },
           (Num.vAt 8 λ x. x, tt),
-        ) (m33 (before· .before) (After-revoking·gave before·))
+        ) (m33 (before· .before))
 
       pub record After-with-clock : Type 0 where
-        pub before : After-revoking
+        pub before : Then1
         pub with-clock : After-with-clock·own before
 
       abbrev pub After-with-clock·gave : (c : After-with-clock) → s39 (c .before .before .before .before .before
-          .before .before .before .before .before .before .before .before .blocks) .gives
-          (m33 (c .before .before) (After-revoking·gave (c .before)))
-      After-with-clock·gave = λ c. Called.given ps·6 r·6 (claims· .13) T41 (
+          .before .before .before .before .before .before .before .blocks) .gives (m33 (c .before .before))
+      After-with-clock·gave = λ c. Called.given ps·5 r·5 (claims· .11) T41 (
         record { pos = 6; st = List.[]; d = 0; at = λ x. x },
         (Num.vAt 8 λ x. x, tt),
-      ) (m33 (c .before .before) (After-revoking·gave (c .before))) (c .with-clock)
+      ) (m33 (c .before .before)) (c .with-clock)
 
-      abbrev pub m35 : (before : After-revoking) → (given : s39 (before .before .before .before .before .before .before
-          .before .before .before .before .before .before .blocks) .gives
-          (m33 (before .before) (After-revoking·gave before))) → Typed.Mo T43
+      abbrev pub m35 : (before : Then1) → (given : s39 (before .before .before .before .before .before .before .before
+          .before .before .before .before .blocks) .gives (m33 (before .before))) → Typed.Mo T43
       m35 = λ before given. s40 (before .before .before .before .before .before .before .before .before .before .before
-          .before .before .blocks) (m34 before given)
+          .before .blocks) (m34 before given)
 
       abbrev pub m36 : (before : After-with-clock) → (given : s42 (before .before .before .before .before .before
-          .before .before .before .before .before .before .before .before .blocks) .gives
+          .before .before .before .before .before .before .before .blocks) .gives
           (m35 (before .before) (After-with-clock·gave before))) → Typed.Mo T45
       m36 = λ before given. s42 (before .before .before .before .before .before .before .before .before .before .before
-          .before .before .before .blocks) .next (m35 (before .before) (After-with-clock·gave before)) given
+          .before .before .blocks) .next (m35 (before .before) (After-with-clock·gave before)) given
 
       abbrev pub m37 : (before : After-with-clock) → (given : s42 (before .before .before .before .before .before
-          .before .before .before .before .before .before .before .before .blocks) .gives
+          .before .before .before .before .before .before .before .blocks) .gives
           (m35 (before .before) (After-with-clock·gave before))) → Typed.Mo T46
       m37 = λ before given. s43 (before .before .before .before .before .before .before .before .before .before .before
-          .before .before .before .blocks) .next (m36 before given)
+          .before .before .blocks) .next (m36 before given)
 
       module _ (before· : After-with-clock) where
         pub record After-drop-lapsed-arg·own : Type 0 where
           pub given : s42 (before· .before .before .before .before .before .before .before .before .before .before
-              .before .before .before .blocks) .gives (m35 (before· .before) (After-with-clock·gave before·))
+              .before .before .blocks) .gives (m35 (before· .before) (After-with-clock·gave before·))
 
       pub record After-drop-lapsed-arg : Type 0 where
         pub before : After-with-clock
@@ -4513,18 +4502,18 @@ module _ (claims· : Claims) where
 
       abbrev pub Need-drop-lapsed-requires : Type 0
       Need-drop-lapsed-requires = (c : After-drop-lapsed-arg) → s44 (c .before .before .before .before .before .before
-          .before .before .before .before .before .before .before .before .blocks) .asks
+          .before .before .before .before .before .before .before .blocks) .asks
           (m37 (c .before) (c .drop-lapsed-arg .given))
 
       abbrev pub m38 : (before : After-drop-lapsed-arg) → (given : s44 (before .before .before .before .before .before
-          .before .before .before .before .before .before .before .before .before .blocks) .gives
+          .before .before .before .before .before .before .before .before .blocks) .gives
           (m37 (before .before) (before .drop-lapsed-arg .given))) → Typed.Mo T47
       m38 = λ before given. s44 (before .before .before .before .before .before .before .before .before .before .before
-          .before .before .before .before .blocks) .next (m37 (before .before) (before .drop-lapsed-arg .given)) given
+          .before .before .before .blocks) .next (m37 (before .before) (before .drop-lapsed-arg .given)) given
 
       module _ (before· : After-drop-lapsed-arg) where
         abbrev pub After-drop-lapsed·own : Type 0
-        After-drop-lapsed·own = Called.Called ps·7 r·7 (claims· .15) T46 (
+        After-drop-lapsed·own = Called.Called ps·6 r·6 (claims· .13) T46 (
           record { pos = 29; ty = ref2; ref = λ x. x },
           (record { pos = 7; st = List.[]; d = 0; at = λ x. x }, (Num.vAt 8 λ x. x, tt)),
         ) (m37 (before· .before) (before· .drop-lapsed-arg .given))
@@ -4534,76 +4523,72 @@ module _ (claims· : Claims) where
         pub drop-lapsed : After-drop-lapsed·own before
 
       abbrev pub After-drop-lapsed·gave : (c : After-drop-lapsed) → s44 (c .before .before .before .before .before
-          .before .before .before .before .before .before .before .before .before .before .blocks) .gives (m37
+          .before .before .before .before .before .before .before .before .before .blocks) .gives (m37
           (c .before .before) (c .before .drop-lapsed-arg .given))
-      After-drop-lapsed·gave = λ c. Called.given ps·7 r·7 (claims· .15) T46 (
+      After-drop-lapsed·gave = λ c. Called.given ps·6 r·6 (claims· .13) T46 (
         record { pos = 29; ty = ref2; ref = λ x. x },
         (record { pos = 7; st = List.[]; d = 0; at = λ x. x }, (Num.vAt 8 λ x. x, tt)),
       ) (m37 (c .before .before) (c .before .drop-lapsed-arg .given)) (c .drop-lapsed)
 
       abbrev pub m39 : (before : After-drop-lapsed-arg) → (given : s44 (before .before .before .before .before .before
-          .before .before .before .before .before .before .before .before .before .blocks) .gives
+          .before .before .before .before .before .before .before .before .blocks) .gives
           (m37 (before .before) (before .drop-lapsed-arg .given))) → Typed.Mo T48
       m39 = λ before given. s45 (before .before .before .before .before .before .before .before .before .before .before
-          .before .before .before .before .blocks) (m38 before given)
+          .before .before .before .blocks) (m38 before given)
 
       abbrev pub m40 : (before : After-drop-lapsed) → (given : s47 (before .before .before .before .before .before
-          .before .before .before .before .before .before .before .before .before .before .blocks) .gives
+          .before .before .before .before .before .before .before .before .before .blocks) .gives
           (m39 (before .before) (After-drop-lapsed·gave before))) → Typed.Mo T50
       m40 = λ before given. s47 (before .before .before .before .before .before .before .before .before .before .before
-          .before .before .before .before .before .blocks) .next (m39 (before .before) (After-drop-lapsed·gave before))
-          given
+          .before .before .before .before .blocks) .next (m39 (before .before) (After-drop-lapsed·gave before)) given
 
       module _ (before· : After-drop-lapsed) where
         pub record After-ledger·own : Type 0 where
           pub given : s47 (before· .before .before .before .before .before .before .before .before .before .before
-              .before .before .before .before .before .blocks) .gives
-              (m39 (before· .before) (After-drop-lapsed·gave before·))
+              .before .before .before .before .blocks) .gives (m39 (before· .before) (After-drop-lapsed·gave before·))
 
       pub record After-ledger : Type 0 where
         pub before : After-drop-lapsed
         pub ledger : After-ledger·own before
 
       abbrev pub m41 : (before : After-ledger) → (given : s50 (before .before .before .before .before .before .before
-          .before .before .before .before .before .before .before .before .before .before .blocks) .gives
+          .before .before .before .before .before .before .before .before .before .blocks) .gives
           (m40 (before .before) (before .ledger .given))) → Typed.Mo T53
       m41 = λ before given. s50 (before .before .before .before .before .before .before .before .before .before .before
-          .before .before .before .before .before .before .blocks) .next (m40 (before .before) (before .ledger .given))
-          given
+          .before .before .before .before .before .blocks) .next (m40 (before .before) (before .ledger .given)) given
 
       abbrev pub m42 : (before : After-ledger) → (given : s50 (before .before .before .before .before .before .before
-          .before .before .before .before .before .before .before .before .before .before .blocks) .gives
+          .before .before .before .before .before .before .before .before .before .blocks) .gives
           (m40 (before .before) (before .ledger .given))) → Typed.Mo T54
       m42 = λ before given. s51 (before .before .before .before .before .before .before .before .before .before .before
-          .before .before .before .before .before .before .blocks) .next (m41 before given)
+          .before .before .before .before .before .blocks) .next (m41 before given)
 
       module _ (before· : After-ledger) where
         pub record After-revoke-all-arg·own : Type 0 where
           pub given : s50 (before· .before .before .before .before .before .before .before .before .before .before
-              .before .before .before .before .before .before .blocks) .gives
-              (m40 (before· .before) (before· .ledger .given))
+              .before .before .before .before .before .blocks) .gives (m40 (before· .before) (before· .ledger .given))
 
       pub record After-revoke-all-arg : Type 0 where
         pub before : After-ledger
         pub revoke-all-arg : After-revoke-all-arg·own before
 
       abbrev pub m43 : (before : After-revoke-all-arg) → (given : s53 (before .before .before .before .before .before
-          .before .before .before .before .before .before .before .before .before .before .before .before .blocks)
-          .gives (m42 (before .before) (before .revoke-all-arg .given))) → Typed.Mo T56
+          .before .before .before .before .before .before .before .before .before .before .before .blocks) .gives
+          (m42 (before .before) (before .revoke-all-arg .given))) → Typed.Mo T56
       m43 = λ before given. s53 (before .before .before .before .before .before .before .before .before .before .before
-          .before .before .before .before .before .before .before .blocks) .next
+          .before .before .before .before .before .before .blocks) .next
           (m42 (before .before) (before .revoke-all-arg .given)) given
 
       abbrev pub m44 : (before : After-revoke-all-arg) → (given : s53 (before .before .before .before .before .before
-          .before .before .before .before .before .before .before .before .before .before .before .before .blocks)
-          .gives (m42 (before .before) (before .revoke-all-arg .given))) → Typed.Mo T57
+          .before .before .before .before .before .before .before .before .before .before .before .blocks) .gives
+          (m42 (before .before) (before .revoke-all-arg .given))) → Typed.Mo T57
       m44 = λ before given. s54 (before .before .before .before .before .before .before .before .before .before .before
-          .before .before .before .before .before .before .before .blocks) .next (m43 before given)
+          .before .before .before .before .before .before .blocks) .next (m43 before given)
 
       module _ (before· : After-revoke-all-arg) where
         pub record After-revoke-all-arg2·own : Type 0 where
           pub given : s53 (before· .before .before .before .before .before .before .before .before .before .before
-              .before .before .before .before .before .before .before .blocks) .gives
+              .before .before .before .before .before .before .blocks) .gives
               (m42 (before· .before) (before· .revoke-all-arg .given))
 
       pub record After-revoke-all-arg2 : Type 0 where
@@ -4611,22 +4596,22 @@ module _ (claims· : Claims) where
         pub revoke-all-arg2 : After-revoke-all-arg2·own before
 
       abbrev pub m45 : (before : After-revoke-all-arg2) → (given : s56 (before .before .before .before .before .before
-          .before .before .before .before .before .before .before .before .before .before .before .before .before
-          .blocks) .gives (m44 (before .before) (before .revoke-all-arg2 .given))) → Typed.Mo T59
+          .before .before .before .before .before .before .before .before .before .before .before .before .blocks)
+          .gives (m44 (before .before) (before .revoke-all-arg2 .given))) → Typed.Mo T59
       m45 = λ before given. s56 (before .before .before .before .before .before .before .before .before .before .before
-          .before .before .before .before .before .before .before .before .blocks) .next
+          .before .before .before .before .before .before .before .blocks) .next
           (m44 (before .before) (before .revoke-all-arg2 .given)) given
 
       abbrev pub m46 : (before : After-revoke-all-arg2) → (given : s56 (before .before .before .before .before .before
-          .before .before .before .before .before .before .before .before .before .before .before .before .before
-          .blocks) .gives (m44 (before .before) (before .revoke-all-arg2 .given))) → Typed.Mo T60
+          .before .before .before .before .before .before .before .before .before .before .before .before .blocks)
+          .gives (m44 (before .before) (before .revoke-all-arg2 .given))) → Typed.Mo T60
       m46 = λ before given. s57 (before .before .before .before .before .before .before .before .before .before .before
-          .before .before .before .before .before .before .before .before .blocks) .next (m45 before given)
+          .before .before .before .before .before .before .before .blocks) .next (m45 before given)
 
       module _ (before· : After-revoke-all-arg2) where
         pub record After-revoke-all-arg3·own : Type 0 where
           pub given : s56 (before· .before .before .before .before .before .before .before .before .before .before
-              .before .before .before .before .before .before .before .before .blocks) .gives
+              .before .before .before .before .before .before .before .blocks) .gives
               (m44 (before· .before) (before· .revoke-all-arg2 .given))
 
       pub record After-revoke-all-arg3 : Type 0 where
@@ -4635,21 +4620,21 @@ module _ (claims· : Claims) where
 
       abbrev pub m47 : (before : After-revoke-all-arg3) → (given : s59 (before .before .before .before .before .before
           .before .before .before .before .before .before .before .before .before .before .before .before .before
-          .before .blocks) .gives (m46 (before .before) (before .revoke-all-arg3 .given))) → Typed.Mo T62
+          .blocks) .gives (m46 (before .before) (before .revoke-all-arg3 .given))) → Typed.Mo T62
       m47 = λ before given. s59 (before .before .before .before .before .before .before .before .before .before .before
-          .before .before .before .before .before .before .before .before .before .blocks) .next
+          .before .before .before .before .before .before .before .before .blocks) .next
           (m46 (before .before) (before .revoke-all-arg3 .given)) given
 
       abbrev pub m48 : (before : After-revoke-all-arg3) → (given : s59 (before .before .before .before .before .before
           .before .before .before .before .before .before .before .before .before .before .before .before .before
-          .before .blocks) .gives (m46 (before .before) (before .revoke-all-arg3 .given))) → Typed.Mo T63
+          .blocks) .gives (m46 (before .before) (before .revoke-all-arg3 .given))) → Typed.Mo T63
       m48 = λ before given. s60 (before .before .before .before .before .before .before .before .before .before .before
-          .before .before .before .before .before .before .before .before .before .blocks) .next (m47 before given)
+          .before .before .before .before .before .before .before .before .blocks) .next (m47 before given)
 
       module _ (before· : After-revoke-all-arg3) where
         pub record After-revoke-all-arg4·own : Type 0 where
           pub given : s59 (before· .before .before .before .before .before .before .before .before .before .before
-              .before .before .before .before .before .before .before .before .before .blocks) .gives
+              .before .before .before .before .before .before .before .before .blocks) .gives
               (m46 (before· .before) (before· .revoke-all-arg3 .given))
 
       pub record After-revoke-all-arg4 : Type 0 where
@@ -4659,18 +4644,18 @@ module _ (claims· : Claims) where
       abbrev pub Need-revoke-all-requires : Type 0
       Need-revoke-all-requires = (c : After-revoke-all-arg4) → s61 (c .before .before .before .before .before .before
           .before .before .before .before .before .before .before .before .before .before .before .before .before
-          .before .blocks) .asks (m48 (c .before) (c .revoke-all-arg4 .given))
+          .blocks) .asks (m48 (c .before) (c .revoke-all-arg4 .given))
 
       abbrev pub m49 : (before : After-revoke-all-arg4) → (given : s61 (before .before .before .before .before .before
           .before .before .before .before .before .before .before .before .before .before .before .before .before
-          .before .before .blocks) .gives (m48 (before .before) (before .revoke-all-arg4 .given))) → Typed.Mo T64
+          .before .blocks) .gives (m48 (before .before) (before .revoke-all-arg4 .given))) → Typed.Mo T64
       m49 = λ before given. s61 (before .before .before .before .before .before .before .before .before .before .before
-          .before .before .before .before .before .before .before .before .before .before .blocks) .next
+          .before .before .before .before .before .before .before .before .before .blocks) .next
           (m48 (before .before) (before .revoke-all-arg4 .given)) given
 
       module _ (before· : After-revoke-all-arg4) where
         abbrev pub After-revoke-all·own : Type 0
-        After-revoke-all·own = Called.Called ps·8 r·8 (claims· .17) T63 (
+        After-revoke-all·own = Called.Called ps·7 r·7 (claims· .15) T63 (
           record { pos = 31; ty = ref3; ref = λ x. x },
           (
             record { pos = 33; ty = ref4; ref = λ x. x },
@@ -4679,11 +4664,11 @@ module _ (claims· : Claims) where
               (
                 record { pos = 37; ty = ref6; ref = λ x. x },
                 (
-                  record { pos = 17; st = List.[]; d = 0; at = λ x. x },
+                  record { pos = 16; st = List.[]; d = 0; at = λ x. x },
                   (
                     record { pos = 7; st = List.[]; d = 0; at = λ x. x },
                     (
-                      record { pos = 16; st = List.[]; d = 0; at = λ x. x },
+                      record { pos = 10; st = List.[]; d = 0; at = λ x. x },
                       (record { pos = 13; st = List.[]; d = 0; at = λ x. x }, tt),
                     ),
                   ),
@@ -4699,8 +4684,8 @@ module _ (claims· : Claims) where
 
       abbrev pub After-revoke-all·gave : (c : After-revoke-all) → s61 (c .before .before .before .before .before
           .before .before .before .before .before .before .before .before .before .before .before .before .before
-          .before .before .before .blocks) .gives (m48 (c .before .before) (c .before .revoke-all-arg4 .given))
-      After-revoke-all·gave = λ c. Called.given ps·8 r·8 (claims· .17) T63 (
+          .before .before .blocks) .gives (m48 (c .before .before) (c .before .revoke-all-arg4 .given))
+      After-revoke-all·gave = λ c. Called.given ps·7 r·7 (claims· .15) T63 (
         record { pos = 31; ty = ref3; ref = λ x. x },
         (
           record { pos = 33; ty = ref4; ref = λ x. x },
@@ -4709,11 +4694,11 @@ module _ (claims· : Claims) where
             (
               record { pos = 37; ty = ref6; ref = λ x. x },
               (
-                record { pos = 17; st = List.[]; d = 0; at = λ x. x },
+                record { pos = 16; st = List.[]; d = 0; at = λ x. x },
                 (
                   record { pos = 7; st = List.[]; d = 0; at = λ x. x },
                   (
-                    record { pos = 16; st = List.[]; d = 0; at = λ x. x },
+                    record { pos = 10; st = List.[]; d = 0; at = λ x. x },
                     (record { pos = 13; st = List.[]; d = 0; at = λ x. x }, tt),
                   ),
                 ),
@@ -4725,39 +4710,39 @@ module _ (claims· : Claims) where
 
       abbrev pub m50 : (before : After-revoke-all-arg4) → (given : s61 (before .before .before .before .before .before
           .before .before .before .before .before .before .before .before .before .before .before .before .before
-          .before .before .blocks) .gives (m48 (before .before) (before .revoke-all-arg4 .given))) → Typed.Mo T65
+          .before .blocks) .gives (m48 (before .before) (before .revoke-all-arg4 .given))) → Typed.Mo T65
       m50 = λ before given. s62 (before .before .before .before .before .before .before .before .before .before .before
-          .before .before .before .before .before .before .before .before .before .before .blocks) (m49 before given)
+          .before .before .before .before .before .before .before .before .before .blocks) (m49 before given)
 
       abbrev pub m51 : (before : After-revoke-all-arg4) → (given : s61 (before .before .before .before .before .before
           .before .before .before .before .before .before .before .before .before .before .before .before .before
-          .before .before .blocks) .gives (m48 (before .before) (before .revoke-all-arg4 .given))) → Typed.Mo T66
+          .before .blocks) .gives (m48 (before .before) (before .revoke-all-arg4 .given))) → Typed.Mo T66
       m51 = λ before given. s63 (before .before .before .before .before .before .before .before .before .before .before
-          .before .before .before .before .before .before .before .before .before .before .blocks) (m50 before given)
+          .before .before .before .before .before .before .before .before .before .blocks) (m50 before given)
 
       abbrev pub m52 : (before : After-revoke-all-arg4) → (given : s61 (before .before .before .before .before .before
           .before .before .before .before .before .before .before .before .before .before .before .before .before
-          .before .before .blocks) .gives (m48 (before .before) (before .revoke-all-arg4 .given))) → Typed.Mo T67
+          .before .blocks) .gives (m48 (before .before) (before .revoke-all-arg4 .given))) → Typed.Mo T67
       m52 = λ before given. s64 (before .before .before .before .before .before .before .before .before .before .before
-          .before .before .before .before .before .before .before .before .before .before .blocks) (m51 before given)
+          .before .before .before .before .before .before .before .before .before .blocks) (m51 before given)
 
       abbrev pub m53 : (before : After-revoke-all-arg4) → (given : s61 (before .before .before .before .before .before
           .before .before .before .before .before .before .before .before .before .before .before .before .before
-          .before .before .blocks) .gives (m48 (before .before) (before .revoke-all-arg4 .given))) → Typed.Mo T68
+          .before .blocks) .gives (m48 (before .before) (before .revoke-all-arg4 .given))) → Typed.Mo T68
       m53 = λ before given. s65 (before .before .before .before .before .before .before .before .before .before .before
-          .before .before .before .before .before .before .before .before .before .before .blocks) (m52 before given)
+          .before .before .before .before .before .before .before .before .before .blocks) (m52 before given)
 
       abbrev pub m54 : (before : After-revoke-all) → (given : s67 (before .before .before .before .before .before
           .before .before .before .before .before .before .before .before .before .before .before .before .before
-          .before .before .before .blocks) .gives (m53 (before .before) (After-revoke-all·gave before))) → Typed.Mo T70
+          .before .before .blocks) .gives (m53 (before .before) (After-revoke-all·gave before))) → Typed.Mo T70
       m54 = λ before given. s67 (before .before .before .before .before .before .before .before .before .before .before
-          .before .before .before .before .before .before .before .before .before .before .before .blocks) .next
+          .before .before .before .before .before .before .before .before .before .before .blocks) .next
           (m53 (before .before) (After-revoke-all·gave before)) given
 
       module _ (before· : After-revoke-all) where
         pub record After-pending·own : Type 0 where
           pub given : s67 (before· .before .before .before .before .before .before .before .before .before .before
-              .before .before .before .before .before .before .before .before .before .before .before .blocks) .gives
+              .before .before .before .before .before .before .before .before .before .before .blocks) .gives
               (m53 (before· .before) (After-revoke-all·gave before·))
 
       pub record After-pending : Type 0 where
@@ -4766,16 +4751,16 @@ module _ (claims· : Claims) where
 
       abbrev pub m55 : (before : After-pending) → (given : s70 (before .before .before .before .before .before .before
           .before .before .before .before .before .before .before .before .before .before .before .before .before
-          .before .before .before .blocks) .gives (m54 (before .before) (before .pending .given))) → Typed.Mo T73
+          .before .before .blocks) .gives (m54 (before .before) (before .pending .given))) → Typed.Mo T73
       m55 = λ before given. s70 (before .before .before .before .before .before .before .before .before .before .before
-          .before .before .before .before .before .before .before .before .before .before .before .before .blocks)
-          .next (m54 (before .before) (before .pending .given)) given
+          .before .before .before .before .before .before .before .before .before .before .before .blocks) .next
+          (m54 (before .before) (before .pending .given)) given
 
       module _ (before· : After-pending) where
         pub record After-circuits·own : Type 0 where
           pub given : s70 (before· .before .before .before .before .before .before .before .before .before .before
-              .before .before .before .before .before .before .before .before .before .before .before .before .blocks)
-              .gives (m54 (before· .before) (before· .pending .given))
+              .before .before .before .before .before .before .before .before .before .before .before .blocks) .gives
+              (m54 (before· .before) (before· .pending .given))
 
       pub record After-circuits : Type 0 where
         pub before : After-pending
@@ -4783,17 +4768,16 @@ module _ (claims· : Claims) where
 
       abbrev pub m56 : (before : After-circuits) → (given : s73 (before .before .before .before .before .before .before
           .before .before .before .before .before .before .before .before .before .before .before .before .before
-          .before .before .before .before .blocks) .gives (m55 (before .before) (before .circuits .given))) → Typed.Mo
-          T76
+          .before .before .before .blocks) .gives (m55 (before .before) (before .circuits .given))) → Typed.Mo T76
       m56 = λ before given. s73 (before .before .before .before .before .before .before .before .before .before .before
-          .before .before .before .before .before .before .before .before .before .before .before .before .before
-          .blocks) .next (m55 (before .before) (before .circuits .given)) given
+          .before .before .before .before .before .before .before .before .before .before .before .before .blocks)
+          .next (m55 (before .before) (before .circuits .given)) given
 
       module _ (before· : After-circuits) where
         pub record After-inflight·own : Type 0 where
           pub given : s73 (before· .before .before .before .before .before .before .before .before .before .before
-              .before .before .before .before .before .before .before .before .before .before .before .before .before
-              .blocks) .gives (m55 (before· .before) (before· .circuits .given))
+              .before .before .before .before .before .before .before .before .before .before .before .before .blocks)
+              .gives (m55 (before· .before) (before· .circuits .given))
 
       pub record After-inflight : Type 0 where
         pub before : After-circuits
@@ -4801,17 +4785,17 @@ module _ (claims· : Claims) where
 
       abbrev pub m57 : (before : After-inflight) → (given : s76 (before .before .before .before .before .before .before
           .before .before .before .before .before .before .before .before .before .before .before .before .before
-          .before .before .before .before .before .blocks) .gives (m56 (before .before) (before .inflight .given))) →
-          Typed.Mo T79
+          .before .before .before .before .blocks) .gives (m56 (before .before) (before .inflight .given))) → Typed.Mo
+          T79
       m57 = λ before given. s76 (before .before .before .before .before .before .before .before .before .before .before
           .before .before .before .before .before .before .before .before .before .before .before .before .before
-          .before .blocks) .next (m56 (before .before) (before .inflight .given)) given
+          .blocks) .next (m56 (before .before) (before .inflight .given)) given
 
       module _ (before· : After-inflight) where
         pub record After-out·own : Type 0 where
           pub given : s76 (before· .before .before .before .before .before .before .before .before .before .before
               .before .before .before .before .before .before .before .before .before .before .before .before .before
-              .before .blocks) .gives (m56 (before· .before) (before· .inflight .given))
+              .blocks) .gives (m56 (before· .before) (before· .inflight .given))
 
       pub record After-out : Type 0 where
         pub before : After-inflight
@@ -4819,25 +4803,25 @@ module _ (claims· : Claims) where
 
       abbrev pub m58 : (before : After-out) → (given : s77 (before .before .before .before .before .before .before
           .before .before .before .before .before .before .before .before .before .before .before .before .before
-          .before .before .before .before .before .before .blocks) .gives (m57 (before .before) (before .out .given)))
-          → Typed.Mo T80
+          .before .before .before .before .before .blocks) .gives (m57 (before .before) (before .out .given))) →
+          Typed.Mo T80
       m58 = λ before given. s77 (before .before .before .before .before .before .before .before .before .before .before
           .before .before .before .before .before .before .before .before .before .before .before .before .before
-          .before .before .blocks) .next (m57 (before .before) (before .out .given)) given
+          .before .blocks) .next (m57 (before .before) (before .out .given)) given
 
       abbrev pub m59 : (before : After-out) → (given : s77 (before .before .before .before .before .before .before
           .before .before .before .before .before .before .before .before .before .before .before .before .before
-          .before .before .before .before .before .before .blocks) .gives (m57 (before .before) (before .out .given)))
-          → Typed.Mo T82
+          .before .before .before .before .before .blocks) .gives (m57 (before .before) (before .out .given))) →
+          Typed.Mo T82
       m59 = λ before given. s79 (before .before .before .before .before .before .before .before .before .before .before
           .before .before .before .before .before .before .before .before .before .before .before .before .before
-          .before .before .blocks) (m58 before given)
+          .before .blocks) (m58 before given)
 
       module _ (before· : After-out) where
         pub record After-slice-known2·own : Type 0 where
           pub given : s77 (before· .before .before .before .before .before .before .before .before .before .before
               .before .before .before .before .before .before .before .before .before .before .before .before .before
-              .before .before .blocks) .gives (m57 (before· .before) (before· .out .given))
+              .before .blocks) .gives (m57 (before· .before) (before· .out .given))
 
       pub record After-slice-known2 : Type 0 where
         pub before : After-out
@@ -4847,70 +4831,69 @@ module _ (claims· : Claims) where
       Need-same-length = (c : After-slice-known2) → MutSlice.SameLen (Row.get 1 (T82 .locals)
           (m59 (c .before) (c .slice-known2 .given))) (dens (c .before .before .before .before .before .before .before
           .before .before .before .before .before .before .before .before .before .before .before .before .before
-          .before .before .before .before .before .before .κs) (c .before .before .before .before .before .before
+          .before .before .before .before .before .κs) (c .before .before .before .before .before .before .before
           .before .before .before .before .before .before .before .before .before .before .before .before .before
-          .before .before .before .before .before .before .before .args) .0)
+          .before .before .before .before .before .args) .0)
 
       abbrev pub Need-same-length-2 : Type 0
       Need-same-length-2 = (c : After-slice-known2) → MutSlice.SameLen (Row.get 2 (T82 .locals)
           (m59 (c .before) (c .slice-known2 .given))) (dens (c .before .before .before .before .before .before .before
           .before .before .before .before .before .before .before .before .before .before .before .before .before
-          .before .before .before .before .before .before .κs) (c .before .before .before .before .before .before
+          .before .before .before .before .before .κs) (c .before .before .before .before .before .before .before
           .before .before .before .before .before .before .before .before .before .before .before .before .before
-          .before .before .before .before .before .before .before .args) .1 .0)
+          .before .before .before .before .before .args) .1 .0)
 
       abbrev pub Need-same-length-3 : Type 0
       Need-same-length-3 = (c : After-slice-known2) → MutSlice.SameLen (Row.get 3 (T82 .locals)
           (m59 (c .before) (c .slice-known2 .given))) (dens (c .before .before .before .before .before .before .before
           .before .before .before .before .before .before .before .before .before .before .before .before .before
-          .before .before .before .before .before .before .κs) (c .before .before .before .before .before .before
+          .before .before .before .before .before .κs) (c .before .before .before .before .before .before .before
           .before .before .before .before .before .before .before .before .before .before .before .before .before
-          .before .before .before .before .before .before .before .args) .1 .1 .0)
+          .before .before .before .before .before .args) .1 .1 .0)
 
       abbrev pub Need-same-length-4 : Type 0
       Need-same-length-4 = (c : After-slice-known2) → MutSlice.SameLen (Row.get 4 (T82 .locals)
           (m59 (c .before) (c .slice-known2 .given))) (dens (c .before .before .before .before .before .before .before
           .before .before .before .before .before .before .before .before .before .before .before .before .before
-          .before .before .before .before .before .before .κs) (c .before .before .before .before .before .before
+          .before .before .before .before .before .κs) (c .before .before .before .before .before .before .before
           .before .before .before .before .before .before .before .before .before .before .before .before .before
-          .before .before .before .before .before .before .before .args) .1 .1 .1 .0)
+          .before .before .before .before .before .args) .1 .1 .1 .0)
 
       abbrev pub Need-same-length-5 : Type 0
       Need-same-length-5 = (c : After-slice-known2) → MutSlice.SameLen (Row.get 5 (T82 .locals)
           (m59 (c .before) (c .slice-known2 .given))) (dens (c .before .before .before .before .before .before .before
           .before .before .before .before .before .before .before .before .before .before .before .before .before
-          .before .before .before .before .before .before .κs) (c .before .before .before .before .before .before
+          .before .before .before .before .before .κs) (c .before .before .before .before .before .before .before
           .before .before .before .before .before .before .before .before .before .before .before .before .before
-          .before .before .before .before .before .before .before .args) .1 .1 .1 .1 .0)
+          .before .before .before .before .before .args) .1 .1 .1 .1 .0)
 
       abbrev pub Need-returns : Type 0
       Need-returns = (c : After-slice-known2) → Post· (c .before .before .before .before .before .before .before
           .before .before .before .before .before .before .before .before .before .before .before .before .before
-          .before .before .before .before .before .before .κs) (dens (c .before .before .before .before .before .before
-          .before .before .before .before .before .before .before .before .before .before .before .before .before
-          .before .before .before .before .before .before .before .κs) (c .before .before .before .before .before
-          .before .before .before .before .before .before .before .before .before .before .before .before .before
-          .before .before .before .before .before .before .before .before .args)) (Function.resV r (c .before .before
-          .before .before .before .before .before .before .before .before .before .before .before .before .before
-          .before .before .before .before .before .before .before .before .before .before .before .κs)
-          (m59 (c .before) (c .slice-known2 .given) .0)) (Clauses.atExit (Kinds.endedOf 5 ps r) (c .before .before
-          .before .before .before .before .before .before .before .before .before .before .before .before .before
-          .before .before .before .before .before .before .before .before .before .before .before .κs) (dens (c .before
-          .before .before .before .before .before .before .before .before .before .before .before .before .before
-          .before .before .before .before .before .before .before .before .before .before .before .before .κs) (c
-          .before .before .before .before .before .before .before .before .before .before .before .before .before
-          .before .before .before .before .before .before .before .before .before .before .before .before .before
-          .args)) (Enter.lastsP (c .before .before .before .before .before .before .before .before .before .before
-          .before .before .before .before .before .before .before .before .before .before .before .before .before
-          .before .before .before .κs) 1 ps xs (dens (c .before .before .before .before .before .before .before .before
+          .before .before .before .before .before .κs) (dens (c .before .before .before .before .before .before .before
           .before .before .before .before .before .before .before .before .before .before .before .before .before
           .before .before .before .before .before .κs) (c .before .before .before .before .before .before .before
           .before .before .before .before .before .before .before .before .before .before .before .before .before
-          .before .before .before .before .before .before .args)) (m59 (c .before) (c .slice-known2 .given) .1)))
+          .before .before .before .before .before .args)) (Function.resV r (c .before .before .before .before .before
+          .before .before .before .before .before .before .before .before .before .before .before .before .before
+          .before .before .before .before .before .before .before .κs) (m59 (c .before) (c .slice-known2 .given) .0)) (Clauses.atExit
+          (Kinds.endedOf 5 ps r) (c .before .before .before .before .before .before .before .before .before .before
+          .before .before .before .before .before .before .before .before .before .before .before .before .before
+          .before .before .κs) (dens (c .before .before .before .before .before .before .before .before .before .before
+          .before .before .before .before .before .before .before .before .before .before .before .before .before
+          .before .before .κs) (c .before .before .before .before .before .before .before .before .before .before
+          .before .before .before .before .before .before .before .before .before .before .before .before .before
+          .before .before .args)) (Enter.lastsP (c .before .before .before .before .before .before .before .before
+          .before .before .before .before .before .before .before .before .before .before .before .before .before
+          .before .before .before .before .κs) 1 ps xs (dens (c .before .before .before .before .before .before .before
+          .before .before .before .before .before .before .before .before .before .before .before .before .before
+          .before .before .before .before .before .κs) (c .before .before .before .before .before .before .before
+          .before .before .before .before .before .before .before .before .before .before .before .before .before
+          .before .before .before .before .before .args)) (m59 (c .before) (c .slice-known2 .given) .1)))
 
       abbrev pub m60 : (before : After-is-taken) → Typed.Mo T83
       m60 = λ before. s80 (before .before .before .before .before .before .before .before .before .before .before
-          .blocks) (m25 (before .before) (After-is-taken·gave before))
+          .blocks) (m31 (before .before) (After-is-taken·gave before))
 
       abbrev pub m61 : (before : After-is-taken) → Typed.Mo T84
       m61 = λ before. s81 (before .before .before .before .before .before .before .before .before .before .before
@@ -4922,7 +4905,7 @@ module _ (claims· : Claims) where
 
       module _ (before· : After-is-taken) where
         pub record Else1·own : Type 0 where
-          pub left : Path._≡_ (Row.get 24 (T32 .locals) (m25 (before· .before) (After-is-taken·gave before·)))
+          pub left : Path._≡_ (Row.get 26 (T38 .locals) (m31 (before· .before) (After-is-taken·gave before·)))
               Bool'.false
 
       pub record Else1 : Type 0 where
@@ -4940,7 +4923,7 @@ module _ (claims· : Claims) where
 
       module _ (before· : Else1) where
         abbrev pub After-refused·own : Type 0
-        After-refused·own = Called.Called ps·9 r·9 (claims· .19) T33 (
+        After-refused·own = Called.Called ps·8 r·8 (claims· .17) T39 (
           record { pos = 6; st = List.[]; d = 0; at = λ x. x },
           (
             record { pos = 7; st = List.[]; d = 0; at = λ x. x },
@@ -4954,7 +4937,7 @@ module _ (claims· : Claims) where
 
       abbrev pub After-refused·gave : (c : After-refused) → s83 (c .before .before .before .before .before .before
           .before .before .before .before .before .before .blocks) .gives (m62 (c .before .before))
-      After-refused·gave = λ c. Called.given ps·9 r·9 (claims· .19) T33 (
+      After-refused·gave = λ c. Called.given ps·8 r·8 (claims· .17) T39 (
         record { pos = 6; st = List.[]; d = 0; at = λ x. x },
         (
           record { pos = 7; st = List.[]; d = 0; at = λ x. x },
@@ -5008,21 +4991,20 @@ module _ (claims· : Claims) where
           .before .before .before .before .before .κs) (c .before .before .before .before .before .before .before
           .before .before .before .before .before .args)) (m67 (c .before) (After-refused·gave c) .1)))
 
-      module _ (over-requires : Need-over-requires) (entry-answer-requires : Need-entry-answer-requires)
+      module _ (revoking-requires : Need-revoking-requires) (entry-answer-requires : Need-entry-answer-requires)
           (clock-answer-requires : Need-clock-answer-requires) (first-refusal-requires : Need-first-refusal-requires)
-          (is-taken-requires : Need-is-taken-requires) (revoking-requires : Need-revoking-requires)
-          (with-clock-requires : Need-with-clock-requires) (drop-lapsed-requires : Need-drop-lapsed-requires)
-          (revoke-all-requires : Need-revoke-all-requires) (same-length : Need-same-length)
-          (same-length-2 : Need-same-length-2) (same-length-3 : Need-same-length-3)
+          (is-taken-requires : Need-is-taken-requires) (with-clock-requires : Need-with-clock-requires)
+          (drop-lapsed-requires : Need-drop-lapsed-requires) (revoke-all-requires : Need-revoke-all-requires)
+          (same-length : Need-same-length) (same-length-2 : Need-same-length-2) (same-length-3 : Need-same-length-3)
           (same-length-4 : Need-same-length-4) (same-length-5 : Need-same-length-5) (returns : Need-returns)
           (refused-requires : Need-refused-requires) (same-length-6 : Need-same-length-6)
           (same-length-7 : Need-same-length-7) (returns-2 : Need-returns-2) where
-        lay11 : (c : After-refused) → at59 (c .before .before .before .before .before .before .before .before .before
+        lay10 : (c : After-refused) → at53 (c .before .before .before .before .before .before .before .before .before
             .before .before .before .blocks) (W0 (c .before .before .before .before .before .before .before .before
             .before .before .before .before .κs) (c .before .before .before .before .before .before .before .before
             .before .before .before .before .args) (c .before .before .before .before .before .before .before .before
             .before .before .before .before .blocks)) (m63 (c .before) (After-refused·gave c))
-        lay11 = λ c. (
+        lay10 = λ c. (
           (
             MutSlice.fix-len (Row.get 1 (T90 .locals) (m67 (c .before) (After-refused·gave c)) .ptr) (Row.get 1
                 (T90 .locals) (m67 (c .before) (After-refused·gave c)) .name) (Row.get 1 (T90 .locals)
@@ -5043,16 +5025,16 @@ module _ (claims· : Claims) where
           returns-2 record { before = c .before; refused = c .refused },
         )
 
-        lay10 : (c : Else1) → at60 (c .before .before .before .before .before .before .before .before .before .before
+        lay9 : (c : Else1) → at54 (c .before .before .before .before .before .before .before .before .before .before
             .before .blocks) (W0 (c .before .before .before .before .before .before .before .before .before .before
             .before .κs) (c .before .before .before .before .before .before .before .before .before .before .before
             .args) (c .before .before .before .before .before .before .before .before .before .before .before .blocks))
             (m62 (c .before))
-        lay10 = λ c. (
+        lay9 = λ c. (
           refused-requires record { before = c .before; if1 = c .if1 },
-          λ g. lay11 record {
+          λ g. lay10 record {
             before = record { before = c .before; if1 = c .if1 };
-            refused = Called.called ps·9 r·9 (claims· .19) T33 (
+            refused = Called.called ps·8 r·8 (claims· .17) T39 (
               record { pos = 6; st = List.[]; d = 0; at = λ x. x },
               (
                 record { pos = 7; st = List.[]; d = 0; at = λ x. x },
@@ -5062,12 +5044,12 @@ module _ (claims· : Claims) where
           },
         )
 
-        lay9 : (c : After-revoke-all) → at18 (c .before .before .before .before .before .before .before .before .before
-            .before .before .before .before .before .before .before .before .before .before .before .before .blocks) (W1 (c
-            .before .before .before .before .before .before .before .before .before .before .before .before) (After-is-taken·gave (c
-            .before .before .before .before .before .before .before .before .before .before .before)))
+        lay8 : (c : After-revoke-all) → at18 (c .before .before .before .before .before .before .before .before .before
+            .before .before .before .before .before .before .before .before .before .before .before .blocks) (W1 (c
+            .before .before .before .before .before .before .before .before .before .before .before) (After-is-taken·gave (c
+            .before .before .before .before .before .before .before .before .before .before)))
             (m49 (c .before) (After-revoke-all·gave c))
-        lay9 = λ c. (
+        lay8 = λ c. (
           Path.refl,
           λ g. (
             Path.refl,
@@ -5117,9 +5099,9 @@ module _ (claims· : Claims) where
                           };
                           out = record { given = g'3 };
                         } g'4) .now) (dens (c .before .before .before .before .before .before .before .before .before
+                        .before .before .before .before .before .before .before .before .before .before .before .κs) (c
                         .before .before .before .before .before .before .before .before .before .before .before .before
-                        .κs) (c .before .before .before .before .before .before .before .before .before .before .before
-                        .before .before .before .before .before .before .before .before .before .before .args) .0 .now) (same-length
+                        .before .before .before .before .before .before .before .before .args) .0 .now) (same-length
                         record {
                           before = record {
                             before = record {
@@ -5177,10 +5159,9 @@ module _ (claims· : Claims) where
                             };
                             out = record { given = g'3 };
                           } g'4) .now) (dens (c .before .before .before .before .before .before .before .before .before
+                          .before .before .before .before .before .before .before .before .before .before .before .κs) (c
                           .before .before .before .before .before .before .before .before .before .before .before
-                          .before .κs) (c .before .before .before .before .before .before .before .before .before
-                          .before .before .before .before .before .before .before .before .before .before .before
-                          .before .args) .1 .0 .now) (same-length-2
+                          .before .before .before .before .before .before .before .before .before .args) .1 .0 .now) (same-length-2
                           record {
                             before = record {
                               before = record {
@@ -5239,9 +5220,9 @@ module _ (claims· : Claims) where
                               out = record { given = g'3 };
                             } g'4) .now) (dens (c .before .before .before .before .before .before .before .before
                             .before .before .before .before .before .before .before .before .before .before .before
-                            .before .before .κs) (c .before .before .before .before .before .before .before .before
+                            .before .κs) (c .before .before .before .before .before .before .before .before .before
                             .before .before .before .before .before .before .before .before .before .before .before
-                            .before .before .args) .1 .1 .0 .now) (same-length-3
+                            .args) .1 .1 .0 .now) (same-length-3
                             record {
                               before = record {
                                 before = record {
@@ -5300,9 +5281,9 @@ module _ (claims· : Claims) where
                                 out = record { given = g'3 };
                               } g'4) .now) (dens (c .before .before .before .before .before .before .before .before
                               .before .before .before .before .before .before .before .before .before .before .before
-                              .before .before .κs) (c .before .before .before .before .before .before .before .before
+                              .before .κs) (c .before .before .before .before .before .before .before .before .before
                               .before .before .before .before .before .before .before .before .before .before .before
-                              .before .before .args) .1 .1 .1 .0 .now) (same-length-4
+                              .args) .1 .1 .1 .0 .now) (same-length-4
                               record {
                                 before = record {
                                   before = record {
@@ -5361,9 +5342,9 @@ module _ (claims· : Claims) where
                                   out = record { given = g'3 };
                                 } g'4) .now) (dens (c .before .before .before .before .before .before .before .before
                                 .before .before .before .before .before .before .before .before .before .before .before
-                                .before .before .κs) (c .before .before .before .before .before .before .before .before
+                                .before .κs) (c .before .before .before .before .before .before .before .before .before
                                 .before .before .before .before .before .before .before .before .before .before .before
-                                .before .before .args) .1 .1 .1 .1 .0 .now) (same-length-5
+                                .args) .1 .1 .1 .1 .0 .now) (same-length-5
                                 record {
                                   before = record {
                                     before = record {
@@ -5408,11 +5389,10 @@ module _ (claims· : Claims) where
           ),
         )
 
-        lay8 : (c : After-drop-lapsed) → at35 (c .before .before .before .before .before .before .before .before
-            .before .before .before .before .before .before .before .blocks) (W1
-            (c .before .before .before .before .before .before) (After-is-taken·gave
-            (c .before .before .before .before .before))) (m38 (c .before) (After-drop-lapsed·gave c))
-        lay8 = λ c. (
+        lay7 : (c : After-drop-lapsed) → at35 (c .before .before .before .before .before .before .before .before
+            .before .before .before .before .before .before .blocks) (W1 (c .before .before .before .before .before)
+            (After-is-taken·gave (c .before .before .before .before))) (m38 (c .before) (After-drop-lapsed·gave c))
+        lay7 = λ c. (
           Path.refl,
           λ g. λ g'. (
             Path.refl,
@@ -5439,7 +5419,7 @@ module _ (claims· : Claims) where
                       };
                       revoke-all-arg4 = record { given = g'4 };
                     },
-                    λ g'5. lay9 record {
+                    λ g'5. lay8 record {
                       before = record {
                         before = record {
                           before = record {
@@ -5456,7 +5436,7 @@ module _ (claims· : Claims) where
                         };
                         revoke-all-arg4 = record { given = g'4 };
                       };
-                      revoke-all = Called.called ps·8 r·8 (claims· .17) T63 (
+                      revoke-all = Called.called ps·7 r·7 (claims· .15) T63 (
                         record { pos = 31; ty = ref3; ref = λ x. x },
                         (
                           record { pos = 33; ty = ref4; ref = λ x. x },
@@ -5465,11 +5445,11 @@ module _ (claims· : Claims) where
                             (
                               record { pos = 37; ty = ref6; ref = λ x. x },
                               (
-                                record { pos = 17; st = List.[]; d = 0; at = λ x. x },
+                                record { pos = 16; st = List.[]; d = 0; at = λ x. x },
                                 (
                                   record { pos = 7; st = List.[]; d = 0; at = λ x. x },
                                   (
-                                    record { pos = 16; st = List.[]; d = 0; at = λ x. x },
+                                    record { pos = 10; st = List.[]; d = 0; at = λ x. x },
                                     (record { pos = 13; st = List.[]; d = 0; at = λ x. x }, tt),
                                   ),
                                 ),
@@ -5498,22 +5478,22 @@ module _ (claims· : Claims) where
           ),
         )
 
-        lay7 : (c : After-with-clock) → at40 (c .before .before .before .before .before .before .before .before .before
-            .before .before .before .before .blocks) (W1 (c .before .before .before .before)
-            (After-is-taken·gave (c .before .before .before))) (m34 (c .before) (After-with-clock·gave c))
-        lay7 = λ c. λ g. (
+        lay6 : (c : After-with-clock) → at40 (c .before .before .before .before .before .before .before .before .before
+            .before .before .before .blocks) (W1 (c .before .before .before) (After-is-taken·gave (c .before .before)))
+            (m34 (c .before) (After-with-clock·gave c))
+        lay6 = λ c. λ g. (
           Path.refl,
           (
             drop-lapsed-requires record {
               before = record { before = c .before; with-clock = c .with-clock };
               drop-lapsed-arg = record { given = g };
             },
-            λ g'. lay8 record {
+            λ g'. lay7 record {
               before = record {
                 before = record { before = c .before; with-clock = c .with-clock };
                 drop-lapsed-arg = record { given = g };
               };
-              drop-lapsed = Called.called ps·7 r·7 (claims· .15) T46 (
+              drop-lapsed = Called.called ps·6 r·6 (claims· .13) T46 (
                 record { pos = 29; ty = ref2; ref = λ x. x },
                 (record { pos = 7; st = List.[]; d = 0; at = λ x. x }, (Num.vAt 8 λ x. x, tt)),
               ) (m37 record { before = c .before; with-clock = c .with-clock } g) g';
@@ -5521,28 +5501,14 @@ module _ (claims· : Claims) where
           ),
         )
 
-        lay6 : (c : After-revoking) → at44 (c .before .before .before .before .before .before .before .before .before
-            .before .before .before .blocks) (W1 (c .before .before .before) (After-is-taken·gave (c .before .before)))
-            (m30 (c .before) (After-revoking·gave c))
-        lay6 = λ c. (
-          with-clock-requires record { before = c .before; revoking = c .revoking },
-          λ g. lay7 record {
-            before = record { before = c .before; revoking = c .revoking };
-            with-clock = Called.called ps·6 r·6 (claims· .13) T41 (
-              record { pos = 6; st = List.[]; d = 0; at = λ x. x },
-              (Num.vAt 8 λ x. x, tt),
-            ) (m33 (c .before) (After-revoking·gave c)) g;
-          },
-        )
-
-        lay5 : (c : After-is-taken) → at61 (c .before .before .before .before .before .before .before .before .before
+        lay5 : (c : After-is-taken) → at55 (c .before .before .before .before .before .before .before .before .before
             .before .blocks) (W0 (c .before .before .before .before .before .before .before .before .before .before .κs) (c
             .before .before .before .before .before .before .before .before .before .before .args) (c .before .before
             .before .before .before .before .before .before .before .before .blocks))
-            (m25 (c .before) (After-is-taken·gave c))
+            (m31 (c .before) (After-is-taken·gave c))
         lay5 = λ c. (
           λ taken. (
-            revoking-requires record {
+            with-clock-requires record {
               before = record { before = c .before; is-taken = c .is-taken };
               if1 = record { taken = taken };
             },
@@ -5551,54 +5517,51 @@ module _ (claims· : Claims) where
                 before = record { before = c .before; is-taken = c .is-taken };
                 if1 = record { taken = taken };
               };
-              revoking = Called.called ps·5 r·5 (claims· .11) T37 (
-                record { pos = 10; st = List.[]; d = 0; at = λ x. x },
-                (
-                  record { pos = 25; st = List.[]; d = 0; at = λ x. x },
-                  (record { pos = 26; st = List.[]; d = 0; at = λ x. x }, tt),
-                ),
-              ) (m29 record { before = c .before; is-taken = c .is-taken }) g;
+              with-clock = Called.called ps·5 r·5 (claims· .11) T41 (
+                record { pos = 6; st = List.[]; d = 0; at = λ x. x },
+                (Num.vAt 8 λ x. x, tt),
+              ) (m33 record { before = c .before; is-taken = c .is-taken }) g;
             },
           ),
-          λ left. lay10 record {
+          λ left. lay9 record {
             before = record { before = c .before; is-taken = c .is-taken };
             if1 = record { left = left };
           },
         )
 
-        lay4 : (c : After-first-refusal) → at64 (c .before .before .before .before .before .before .before .before
+        lay4 : (c : After-first-refusal) → at58 (c .before .before .before .before .before .before .before .before
             .before .blocks) (W0 (c .before .before .before .before .before .before .before .before .before .κs) (c
             .before .before .before .before .before .before .before .before .before .args) (c .before .before .before
-            .before .before .before .before .before .before .blocks)) (m22 (c .before) (After-first-refusal·gave c))
+            .before .before .before .before .before .before .blocks)) (m28 (c .before) (After-first-refusal·gave c))
         lay4 = λ c. (
           is-taken-requires record { before = c .before; first-refusal = c .first-refusal },
           λ g. lay5 record {
             before = record { before = c .before; first-refusal = c .first-refusal };
-            is-taken = Called.called ps·4 r·4 (claims· .9) T31
+            is-taken = Called.called ps·4 r·4 (claims· .9) T37
                 (record { pos = 15; st = List.[]; d = 0; at = λ x. x }, tt)
-                (m24 (c .before) (After-first-refusal·gave c)) g;
+                (m30 (c .before) (After-first-refusal·gave c)) g;
           },
         )
 
-        lay3 : (c : After-clock-answer) → at65 (c .before .before .before .before .before .before .before .before
+        lay3 : (c : After-clock-answer) → at59 (c .before .before .before .before .before .before .before .before
             .blocks) (W0 (c .before .before .before .before .before .before .before .before .κs) (c .before .before
             .before .before .before .before .before .before .args) (c .before .before .before .before .before .before
-            .before .before .blocks)) (m21 (c .before) (After-clock-answer·gave c))
+            .before .before .blocks)) (m27 (c .before) (After-clock-answer·gave c))
         lay3 = λ c. (
           first-refusal-requires record { before = c .before; clock-answer = c .clock-answer },
           λ g. lay4 record {
             before = record { before = c .before; clock-answer = c .clock-answer };
-            first-refusal = Called.called ps·3 r·3 (claims· .7) T28 (
+            first-refusal = Called.called ps·3 r·3 (claims· .7) T34 (
               record { pos = 12; st = List.[]; d = 0; at = λ x. x },
               (record { pos = 14; st = List.[]; d = 0; at = λ x. x }, tt),
-            ) (m21 (c .before) (After-clock-answer·gave c)) g;
+            ) (m27 (c .before) (After-clock-answer·gave c)) g;
           },
         )
 
-        lay2 : (c : After-entry-answer) → at80 (c .before .before .before .before .before .before .blocks) (W0
+        lay2 : (c : After-entry-answer) → at74 (c .before .before .before .before .before .before .blocks) (W0
             (c .before .before .before .before .before .before .κs)
             (c .before .before .before .before .before .before .args) (c .before .before .before .before .before
-            .before .blocks)) (m10 (c .before) (After-entry-answer·gave c))
+            .before .blocks)) (m16 (c .before) (After-entry-answer·gave c))
         lay2 = λ c. (
           tt,
           λ g. (
@@ -5611,16 +5574,17 @@ module _ (claims· : Claims) where
                 before = record { before = c .before; entry-answer = c .entry-answer };
                 first = record { given = g };
               };
-              clock-answer = Called.called ps·2 r·2 (claims· .5) T27 (
+              clock-answer = Called.called ps·2 r·2 (claims· .5) T33 (
                 Num.vFld 6 ((Syntax.field 3) ∷ List.[]) 32 λ x. OpaqueRelayRuntime.struct .as-values x .1 .1 .1 .0,
                 (Num.vAt 8 λ x. x, tt),
-              ) (m20 record { before = c .before; entry-answer = c .entry-answer } g) g';
+              ) (m26 record { before = c .before; entry-answer = c .entry-answer } g) g';
             },
           ),
         )
 
-        lay1 : (c : After-over) → at89 (c .before .before .before .blocks) (W0 (c .before .before .before .κs)
-            (c .before .before .before .args) (c .before .before .before .blocks)) (m3 (c .before) (After-over·gave c))
+        lay1 : (c : After-revoking) → at86 (c .before .before .before .blocks) (W0 (c .before .before .before .κs)
+            (c .before .before .before .args) (c .before .before .before .blocks))
+            (m6 (c .before) (After-revoking·gave c))
         lay1 = λ c. λ g. (
           Path.refl,
           λ g'. (
@@ -5628,7 +5592,7 @@ module _ (claims· : Claims) where
             (
               entry-answer-requires record {
                 before = record {
-                  before = record { before = c .before; over = c .over };
+                  before = record { before = c .before; revoking = c .revoking };
                   entry-answer-arg = record { given = g };
                 };
                 entry-answer-arg2 = record { given = g' };
@@ -5636,21 +5600,21 @@ module _ (claims· : Claims) where
               λ g''. lay2 record {
                 before = record {
                   before = record {
-                    before = record { before = c .before; over = c .over };
+                    before = record { before = c .before; revoking = c .revoking };
                     entry-answer-arg = record { given = g };
                   };
                   entry-answer-arg2 = record { given = g' };
                 };
-                entry-answer = Called.called ps·1 r·1 (claims· .3) T12 (
-                  record { pos = 19; ty = ref0; ref = λ x. x },
+                entry-answer = Called.called ps·1 r·1 (claims· .3) T18 (
+                  record { pos = 21; ty = ref0; ref = λ x. x },
                   (
-                    record { pos = 21; ty = ref1; ref = λ x. x },
+                    record { pos = 23; ty = ref1; ref = λ x. x },
                     (
                       record { pos = 7; st = List.[]; d = 0; at = λ x. x },
                       (
-                        Num.vAt 22 λ x. x,
+                        Num.vAt 24 λ x. x,
                         (
-                          Num.vAt 23 λ x. x,
+                          Num.vAt 25 λ x. x,
                           (
                             record { pos = 9; st = List.[]; d = 0; at = λ x. x },
                             (record { pos = 10; st = List.[]; d = 0; at = λ x. x }, tt),
@@ -5659,8 +5623,8 @@ module _ (claims· : Claims) where
                       ),
                     ),
                   ),
-                ) (m9 record {
-                  before = record { before = c .before; over = c .over };
+                ) (m15 record {
+                  before = record { before = c .before; revoking = c .revoking };
                   entry-answer-arg = record { given = g };
                 } g') g'';
               },
@@ -5672,7 +5636,7 @@ module _ (claims· : Claims) where
         laid = λ c. λ g. (
           tt,
           λ g'. (
-            over-requires record {
+            revoking-requires record {
               before = record { before = c; slice-known = record { given = g } };
               config = record { given = g' };
             },
@@ -5681,8 +5645,13 @@ module _ (claims· : Claims) where
                 before = record { before = c; slice-known = record { given = g } };
                 config = record { given = g' };
               };
-              over = Called.called ps·0 r·0 (claims· .1) T3 (Num.vAt 8 λ x. x, tt) (m2
-                  record { before = c; slice-known = record { given = g } } g') g'';
+              revoking = Called.called ps·0 r·0 (claims· .1) T6 (
+                record { pos = 17; st = List.[]; d = 0; at = λ x. x },
+                (
+                  record { pos = 18; st = List.[]; d = 0; at = λ x. x },
+                  (record { pos = 19; st = List.[]; d = 0; at = λ x. x }, tt),
+                ),
+              ) (m5 record { before = c; slice-known = record { given = g } } g') g'';
             },
           ),
         )
@@ -5711,18 +5680,16 @@ module _ (claims· : Claims) where
 
         module _ {M : Type 1} (𝓤 : URA.URA M) (H : Wp.Heap 𝓤) (A : Atoms.Atoms 𝓤) (W : Kit.Given 𝓤 H A)
             (𝓣 : Wp.Tables 𝓤 H) (known0 : Plain.Known 𝓤 H A W 𝓣 0 ps·0 r·0 (claims· .0) (claims· .1)
-            "hnsr_circuit::tables::question::over") (known1 : Plain.Known 𝓤 H A W 𝓣 2 ps·1 r·1 (claims· .2)
+            "hnsr_circuit::calls::revoking::revoking") (known1 : Plain.Known 𝓤 H A W 𝓣 2 ps·1 r·1 (claims· .2)
             (claims· .3) "hnsr_circuit::calls::revoking::entry_answer") (known2 : Plain.Known 𝓤 H A W 𝓣 0 ps·2 r·2
             (claims· .4) (claims· .5) "hnsr_circuit::entry::clock_answer") (known3 : Plain.Known 𝓤 H A W 𝓣 0 ps·3 r·3
             (claims· .6) (claims· .7) "hnsr_circuit::answer::first_refusal") (known4 : Plain.Known 𝓤 H A W 𝓣 0 ps·4 r·4
             (claims· .8) (claims· .9) "hnsr_circuit::answer::is_taken") (known5 : Plain.Known 𝓤 H A W 𝓣 0 ps·5 r·5
-            (claims· .10) (claims· .11) "hnsr_circuit::calls::revoking::revoking") (known6 : Plain.Known 𝓤 H A W 𝓣 0
-            ps·6 r·6 (claims· .12) (claims· .13) "hnsr_circuit::records::header::with_clock") (known7 : Plain.Known 𝓤 H
-            A W 𝓣 1 ps·7 r·7 (claims· .14) (claims· .15) "hnsr_circuit::tables::stores::drop_lapsed") (known8 :
-            Plain.Known 𝓤 H A W 𝓣 4 ps·8 r·8 (claims· .16) (claims· .17) "hnsr_circuit::calls::revocation::revoke_all") (known9
-            : Plain.Known 𝓤 H A W 𝓣 0 ps·9 r·9 (claims· .18) (claims· .19) "hnsr_circuit::runtime::refused") where
+            (claims· .10) (claims· .11) "hnsr_circuit::records::header::with_clock") (known6 : Plain.Known 𝓤 H A W 𝓣 1
+            ps·6 r·6 (claims· .12) (claims· .13) "hnsr_circuit::tables::ledger::drop_lapsed") (known7 : Plain.Known 𝓤 H
+            A W 𝓣 4 ps·7 r·7 (claims· .14) (claims· .15) "hnsr_circuit::calls::revocation::revoke_all") (known8 :
+            Plain.Known 𝓤 H A W 𝓣 0 ps·8 r·8 (claims· .16) (claims· .17) "hnsr_circuit::runtime::refused") where
           pub spec : Statement.Triple 𝓤 (Wp.WpFn 𝓤 H (𝓣 .C) (𝓣 .Λ) (Function.fnOf 5 ps r xs m hs body))
               (Function.plainOf 𝓤 H A 5 ps r Pre· Post·)
           spec = Plain.t-fn-plain 𝓤 H A W 𝓣 5 ps r xs m hs body (λ κs qs bs. Φ bs) (λ κs qs bs bd. typed κs qs 𝓤 H A W
-              𝓣 (known0, known1, known2, known3, known4, known5, known6, known7, known8, known9) bs bd) Pre· Post·
-              asked
+              𝓣 (known0, known1, known2, known3, known4, known5, known6, known7, known8) bs bd) Pre· Post· asked

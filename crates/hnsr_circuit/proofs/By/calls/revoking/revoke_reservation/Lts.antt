@@ -25,8 +25,8 @@ use Rattle.hnsr_circuit.proofs.runtime.Relayed
 use Rattle.hnsr_circuit.proofs.runtime.Relayed.Laws as Laws''''''''
 use Rattle.hnsr_circuit.proofs.tables.places.Places
 use Rattle.hnsr_circuit.proofs.tables.places.Places.Laws as Laws'''''''''
-use Rattle.hnsr_circuit.proofs.tables.question.Question
-use Rattle.hnsr_circuit.proofs.tables.question.Question.Laws as Laws''''''''''
+use Rattle.hnsr_circuit.proofs.tables.question.RecordQuestion
+use Rattle.hnsr_circuit.proofs.tables.question.RecordQuestion.Laws as Laws''''''''''
 use borrow.Author.Called
 use borrow.Enum.Make
 use borrow.Fn.Any
@@ -58,6 +58,7 @@ use borrow.Struct.CopyOut
 use borrow.Struct.Inner
 use borrow.Struct.Make as Make'
 use borrow.Struct.Reads
+use borrow.Struct.Signed
 use borrow.Struct.Way as Way'
 use borrow.Table.Copies
 use borrow.Table.Own
@@ -164,25 +165,27 @@ abbrev pub r : Kinds.RK 5
 r = StructRow.result Relayed.the-type Laws''''''''.the-laws Laws''''''''.the-copy Laws''''''''.the-plain
 
 abbrev pub xs : List.List Syntax.Ty
-xs = Laws''''''.mir ∷ Laws''''''''''.mir ∷ Laws'''''.mir ∷ Laws''.mir ∷ Laws'''.mir ∷ Laws''''.mir ∷ ref0 ∷ slice0 ∷
-    ref1 ∷ slice1 ∷ (Syntax.tyInt Syntax.w64) ∷ (Syntax.tyInt Syntax.w64) ∷ Syntax.tyBool ∷ Laws.mir ∷ Laws.mir ∷
+xs = Laws''''''.mir ∷ Laws''''.mir ∷ Laws'''''.mir ∷ Laws''.mir ∷ Laws'''.mir ∷ Laws''''''''''.mir ∷ Laws.mir ∷
+    Laws.mir ∷ ref0 ∷ slice0 ∷ ref1 ∷ slice1 ∷ (Syntax.tyInt Syntax.w64) ∷ (Syntax.tyInt Syntax.w64) ∷ Syntax.tyBool ∷
     Syntax.tyUnit ∷ ref2 ∷ slice2 ∷ ref3 ∷ slice3 ∷ ref4 ∷ slice4 ∷ ref5 ∷ slice5 ∷ ref6 ∷ slice6 ∷ List.[]
 
 abbrev pub m : Nat.ℕ
 m = 7
 
 abbrev pub ps·0 : List.List (Kinds.PK 0)
-ps·0 = (StructRow.param ReservationId.the-type Laws'.the-laws Laws'.the-copy Laws'.the-plain) ∷ List.[]
+ps·0 = (StructRow.enum-param RecordQuestion.the-type Laws''''''''''.the-laws Laws''''''''''.the-copy
+    Laws''''''''''.the-plain tt) ∷ (StructRow.enum-param Notice.the-type Laws.the-laws Laws.the-copy Laws.the-plain tt)
+    ∷ (StructRow.enum-param Notice.the-type Laws.the-laws Laws.the-copy Laws.the-plain tt) ∷ List.[]
 
 abbrev pub r·0 : Kinds.RK 0
-r·0 = StructRow.result Question.the-type Laws''''''''''.the-laws Laws''''''''''.the-copy Laws''''''''''.the-plain
+r·0 = StructRow.result Revoking.the-type Laws''''.the-laws Laws''''.the-copy Laws''''.the-plain
 
 abbrev pub ps·1 : List.List (Kinds.PK 2)
 ps·1 = (ShrSlice.pShrS RelayPending.row 0 tt) ∷ (ShrSlice.pShrS RelayCircuit.row 1 tt) ∷ (StructRow.param
     Places.the-type Laws'''''''''.the-laws Laws'''''''''.the-copy Laws'''''''''.the-plain) ∷ (Num.pNum Syntax.w64) ∷
     (Num.pNum Syntax.w64) ∷ (StructRow.param OpaqueRelayConfig.the-type Laws''''''.the-laws Laws''''''.the-copy
-    Laws''''''.the-plain) ∷ (StructRow.param Question.the-type Laws''''''''''.the-laws Laws''''''''''.the-copy
-    Laws''''''''''.the-plain) ∷ List.[]
+    Laws''''''.the-plain) ∷ (StructRow.param Revoking.the-type Laws''''.the-laws Laws''''.the-copy Laws''''.the-plain)
+    ∷ List.[]
 
 abbrev pub r·1 : Kinds.RK 2
 r·1 = StructRow.result Entered.the-type Laws'''''.the-laws Laws'''''.the-copy Laws'''''.the-plain
@@ -193,40 +196,32 @@ ps·2 = (StructRow.enum-param HnsrAnswer.the-type Laws''.the-laws Laws''.the-cop
 abbrev pub r·2 : Kinds.RK 0
 r·2 = Bool.rBool
 
-abbrev pub ps·3 : List.List (Kinds.PK 0)
-ps·3 = (StructRow.param Question.the-type Laws''''''''''.the-laws Laws''''''''''.the-copy Laws''''''''''.the-plain) ∷ (StructRow.enum-param
-    Notice.the-type Laws.the-laws Laws.the-copy Laws.the-plain tt) ∷ (StructRow.enum-param Notice.the-type
-    Laws.the-laws Laws.the-copy Laws.the-plain tt) ∷ List.[]
-
-abbrev pub r·3 : Kinds.RK 0
-r·3 = StructRow.result Revoking.the-type Laws''''.the-laws Laws''''.the-copy Laws''''.the-plain
-
-abbrev pub ps·4 : List.List (Kinds.PK 1)
-ps·4 = (MutSlice.pMutS ReservationUsage.row 0 tt) ∷ (StructRow.param Places.the-type Laws'''''''''.the-laws
+abbrev pub ps·3 : List.List (Kinds.PK 1)
+ps·3 = (MutSlice.pMutS ReservationUsage.row 0 tt) ∷ (StructRow.param Places.the-type Laws'''''''''.the-laws
     Laws'''''''''.the-copy Laws'''''''''.the-plain) ∷ (StructRow.param ReservationId.the-type Laws'.the-laws
     Laws'.the-copy Laws'.the-plain) ∷ List.[]
 
-abbrev pub r·4 : Kinds.RK 1
-r·4 = Unit.rUnit
+abbrev pub r·3 : Kinds.RK 1
+r·3 = Unit.rUnit
 
-abbrev pub ps·5 : List.List (Kinds.PK 4)
-ps·5 = (MutSlice.pMutS RelayPending.row 0 tt) ∷ (MutSlice.pMutS RelayCircuit.row 1 tt) ∷
+abbrev pub ps·4 : List.List (Kinds.PK 4)
+ps·4 = (MutSlice.pMutS RelayPending.row 0 tt) ∷ (MutSlice.pMutS RelayCircuit.row 1 tt) ∷
     (MutSlice.pMutS InflightAction.row 2 tt) ∷ (MutSlice.pMutS (Referent.rtF (Referent.fInt Syntax.w32)) 3 tt) ∷ (StructRow.param
     OpaqueRelayRuntime.the-type Laws'''''''.the-laws Laws'''''''.the-copy Laws'''''''.the-plain) ∷ (StructRow.param
     Places.the-type Laws'''''''''.the-laws Laws'''''''''.the-copy Laws'''''''''.the-plain) ∷ (StructRow.param
     Revoking.the-type Laws''''.the-laws Laws''''.the-copy Laws''''.the-plain) ∷ (StructRow.param Firsts.the-type
     Laws'''.the-laws Laws'''.the-copy Laws'''.the-plain) ∷ List.[]
 
-abbrev pub r·5 : Kinds.RK 4
-r·5 = StructRow.result Relayed.the-type Laws''''''''.the-laws Laws''''''''.the-copy Laws''''''''.the-plain
+abbrev pub r·4 : Kinds.RK 4
+r·4 = StructRow.result Relayed.the-type Laws''''''''.the-laws Laws''''''''.the-copy Laws''''''''.the-plain
 
-abbrev pub ps·6 : List.List (Kinds.PK 0)
-ps·6 = (StructRow.param OpaqueRelayRuntime.the-type Laws'''''''.the-laws Laws'''''''.the-copy Laws'''''''.the-plain) ∷ (StructRow.param
+abbrev pub ps·5 : List.List (Kinds.PK 0)
+ps·5 = (StructRow.param OpaqueRelayRuntime.the-type Laws'''''''.the-laws Laws'''''''.the-copy Laws'''''''.the-plain) ∷ (StructRow.param
     Places.the-type Laws'''''''''.the-laws Laws'''''''''.the-copy Laws'''''''''.the-plain) ∷ (StructRow.enum-param
     HnsrAnswer.the-type Laws''.the-laws Laws''.the-copy Laws''.the-plain tt) ∷ List.[]
 
-abbrev pub r·6 : Kinds.RK 0
-r·6 = StructRow.result Relayed.the-type Laws''''''''.the-laws Laws''''''''.the-copy Laws''''''''.the-plain
+abbrev pub r·5 : Kinds.RK 0
+r·5 = StructRow.result Relayed.the-type Laws''''''''.the-laws Laws''''''''.the-copy Laws''''''''.the-plain
 
 abbrev pub hs : List.List Syntax.Home
 hs = Syntax.valueLocal ∷ Syntax.valueLocal ∷ Syntax.valueLocal ∷ Syntax.valueLocal ∷ Syntax.valueLocal ∷
@@ -241,59 +236,60 @@ abbrev b0 : Syntax.Body
 b0 = Syntax.assign (Syntax.place 9 List.[]) (Syntax.rvOpd (Syntax.copy (Syntax.place 6 ((Syntax.field 4) ∷ List.[]))))
 
 abbrev b1 : Syntax.Body
-b1 = Syntax.call "hnsr_circuit::tables::question::under" ((Syntax.copy (Syntax.place 8 List.[])) ∷ List.[])
-    (Syntax.place 10 List.[])
+b1 = Syntax.assign (Syntax.place 14 List.[]) (Syntax.aggregate ((Syntax.int Syntax.w8 2) ∷
+    (Syntax.copy (Syntax.place 8 List.[])) ∷ List.[]))
 
 abbrev b2 : Syntax.Body
-b2 = Syntax.assign (Syntax.place 15 List.[]) (Syntax.addrOf (Syntax.place 1 ((Syntax.field 0) ∷
-    (Syntax.deref RelayPending.ty) ∷ List.[])))
+b2 = Syntax.assign (Syntax.place 15 List.[]) (Syntax.aggregate ((Syntax.int Syntax.w8 1) ∷ List.[]))
 
 abbrev b3 : Syntax.Body
-b3 = Syntax.assign (Syntax.place 16 List.[]) (Syntax.aggregate ((Syntax.copy (Syntax.place 15 List.[])) ∷
-    (Syntax.copy (Syntax.place 1 ((Syntax.field 1) ∷ List.[]))) ∷ List.[]))
+b3 = Syntax.assign (Syntax.place 16 List.[]) (Syntax.aggregate ((Syntax.int Syntax.w8 1) ∷ List.[]))
 
 abbrev b4 : Syntax.Body
-b4 = Syntax.assign (Syntax.place 17 List.[]) (Syntax.addrOf (Syntax.place 2 ((Syntax.field 0) ∷
-    (Syntax.deref RelayCircuit.ty) ∷ List.[])))
+b4 = Syntax.call "hnsr_circuit::calls::revoking::revoking" ((Syntax.copy (Syntax.place 14 List.[])) ∷
+    (Syntax.copy (Syntax.place 15 List.[])) ∷ (Syntax.copy (Syntax.place 16 List.[])) ∷ List.[])
+    (Syntax.place 10 List.[])
 
 abbrev b5 : Syntax.Body
-b5 = Syntax.assign (Syntax.place 18 List.[]) (Syntax.aggregate ((Syntax.copy (Syntax.place 17 List.[])) ∷
-    (Syntax.copy (Syntax.place 2 ((Syntax.field 1) ∷ List.[]))) ∷ List.[]))
+b5 = Syntax.assign (Syntax.place 17 List.[]) (Syntax.addrOf (Syntax.place 1 ((Syntax.field 0) ∷
+    (Syntax.deref RelayPending.ty) ∷ List.[])))
 
 abbrev b6 : Syntax.Body
-b6 = Syntax.assign (Syntax.place 19 List.[]) (Syntax.rvOpd (Syntax.copy (Syntax.place 4 ((Syntax.field 1) ∷ List.[]))))
+b6 = Syntax.assign (Syntax.place 18 List.[]) (Syntax.aggregate ((Syntax.copy (Syntax.place 17 List.[])) ∷
+    (Syntax.copy (Syntax.place 1 ((Syntax.field 1) ∷ List.[]))) ∷ List.[]))
 
 abbrev b7 : Syntax.Body
-b7 = Syntax.assign (Syntax.place 20 List.[]) (Syntax.rvOpd (Syntax.copy (Syntax.place 5 ((Syntax.field 1) ∷ List.[]))))
+b7 = Syntax.assign (Syntax.place 19 List.[]) (Syntax.addrOf (Syntax.place 2 ((Syntax.field 0) ∷
+    (Syntax.deref RelayCircuit.ty) ∷ List.[])))
 
 abbrev b8 : Syntax.Body
-b8 = Syntax.call "hnsr_circuit::calls::revoking::entry_answer" ((Syntax.copy (Syntax.place 16 List.[])) ∷
-    (Syntax.copy (Syntax.place 18 List.[])) ∷ (Syntax.copy (Syntax.place 7 List.[])) ∷
-    (Syntax.copy (Syntax.place 19 List.[])) ∷ (Syntax.copy (Syntax.place 20 List.[])) ∷
+b8 = Syntax.assign (Syntax.place 20 List.[]) (Syntax.aggregate ((Syntax.copy (Syntax.place 19 List.[])) ∷
+    (Syntax.copy (Syntax.place 2 ((Syntax.field 1) ∷ List.[]))) ∷ List.[]))
+
+abbrev b9 : Syntax.Body
+b9 = Syntax.assign (Syntax.place 21 List.[]) (Syntax.rvOpd (Syntax.copy (Syntax.place 4 ((Syntax.field 1) ∷ List.[]))))
+
+abbrev b10 : Syntax.Body
+b10 = Syntax.assign (Syntax.place 22 List.[]) (Syntax.rvOpd (Syntax.copy (Syntax.place 5 ((Syntax.field 1) ∷ List.[]))))
+
+abbrev b11 : Syntax.Body
+b11 = Syntax.call "hnsr_circuit::calls::revoking::entry_answer" ((Syntax.copy (Syntax.place 18 List.[])) ∷
+    (Syntax.copy (Syntax.place 20 List.[])) ∷ (Syntax.copy (Syntax.place 7 List.[])) ∷
+    (Syntax.copy (Syntax.place 21 List.[])) ∷ (Syntax.copy (Syntax.place 22 List.[])) ∷
     (Syntax.copy (Syntax.place 9 List.[])) ∷ (Syntax.copy (Syntax.place 10 List.[])) ∷ List.[])
     (Syntax.place 11 List.[])
 
-abbrev b9 : Syntax.Body
-b9 = Syntax.assign (Syntax.place 12 List.[]) (Syntax.rvOpd (Syntax.copy (Syntax.place 11 ((Syntax.field 0) ∷ List.[]))))
-
-abbrev b10 : Syntax.Body
-b10 = Syntax.assign (Syntax.place 13 List.[]) (Syntax.rvOpd (Syntax.copy
-    (Syntax.place 11 ((Syntax.field 1) ∷ List.[]))))
-
-abbrev b11 : Syntax.Body
-b11 = Syntax.call "hnsr_circuit::answer::is_taken" ((Syntax.copy (Syntax.place 12 List.[])) ∷ List.[])
-    (Syntax.place 21 List.[])
-
 abbrev b12 : Syntax.Body
-b12 = Syntax.assign (Syntax.place 22 List.[]) (Syntax.aggregate ((Syntax.int Syntax.w8 1) ∷ List.[]))
+b12 = Syntax.assign (Syntax.place 12 List.[]) (Syntax.rvOpd (Syntax.copy
+    (Syntax.place 11 ((Syntax.field 0) ∷ List.[]))))
 
 abbrev b13 : Syntax.Body
-b13 = Syntax.assign (Syntax.place 23 List.[]) (Syntax.aggregate ((Syntax.int Syntax.w8 1) ∷ List.[]))
+b13 = Syntax.assign (Syntax.place 13 List.[]) (Syntax.rvOpd (Syntax.copy
+    (Syntax.place 11 ((Syntax.field 1) ∷ List.[]))))
 
 abbrev b14 : Syntax.Body
-b14 = Syntax.call "hnsr_circuit::calls::revoking::revoking" ((Syntax.copy (Syntax.place 10 List.[])) ∷
-    (Syntax.copy (Syntax.place 22 List.[])) ∷ (Syntax.copy (Syntax.place 23 List.[])) ∷ List.[])
-    (Syntax.place 14 List.[])
+b14 = Syntax.call "hnsr_circuit::answer::is_taken" ((Syntax.copy (Syntax.place 12 List.[])) ∷ List.[])
+    (Syntax.place 23 List.[])
 
 abbrev b15 : Syntax.Body
 b15 = Syntax.assign (Syntax.place 25 List.[]) (Syntax.addrOf (Syntax.place 3 ((Syntax.field 0) ∷
@@ -344,7 +340,7 @@ abbrev b26 : Syntax.Body
 b26 = Syntax.call "hnsr_circuit::calls::revocation::revoke_all" ((Syntax.copy (Syntax.place 28 List.[])) ∷
     (Syntax.copy (Syntax.place 30 List.[])) ∷ (Syntax.copy (Syntax.place 32 List.[])) ∷
     (Syntax.copy (Syntax.place 34 List.[])) ∷ (Syntax.copy (Syntax.place 6 List.[])) ∷
-    (Syntax.copy (Syntax.place 7 List.[])) ∷ (Syntax.copy (Syntax.place 14 List.[])) ∷
+    (Syntax.copy (Syntax.place 7 List.[])) ∷ (Syntax.copy (Syntax.place 10 List.[])) ∷
     (Syntax.copy (Syntax.place 13 List.[])) ∷ List.[]) (Syntax.place 0 List.[])
 
 abbrev b27 : Syntax.Body
@@ -387,33 +383,33 @@ abbrev b39 : Syntax.Body
 b39 = Syntax.seq b15 b38
 
 abbrev b40 : Syntax.Body
-b40 = Syntax.seq b14 b39
+b40 = Syntax.skip
 
 abbrev b41 : Syntax.Body
-b41 = Syntax.seq b13 b40
+b41 = Syntax.cond (Syntax.copy (Syntax.place 23 List.[])) b39 b40
 
 abbrev b42 : Syntax.Body
-b42 = Syntax.seq b12 b41
-
-abbrev b43 : Syntax.Body
-b43 = Syntax.skip
-
-abbrev b44 : Syntax.Body
-b44 = Syntax.cond (Syntax.copy (Syntax.place 21 List.[])) b42 b43
-
-abbrev b45 : Syntax.Body
-b45 = Syntax.call "hnsr_circuit::runtime::refused" ((Syntax.copy (Syntax.place 6 List.[])) ∷
+b42 = Syntax.call "hnsr_circuit::runtime::refused" ((Syntax.copy (Syntax.place 6 List.[])) ∷
     (Syntax.copy (Syntax.place 7 List.[])) ∷ (Syntax.copy (Syntax.place 12 List.[])) ∷ List.[])
     (Syntax.place 0 List.[])
 
+abbrev b43 : Syntax.Body
+b43 = Syntax.return
+
+abbrev b44 : Syntax.Body
+b44 = Syntax.seq b42 b43
+
+abbrev b45 : Syntax.Body
+b45 = Syntax.seq b41 b44
+
 abbrev b46 : Syntax.Body
-b46 = Syntax.return
+b46 = Syntax.seq b14 b45
 
 abbrev b47 : Syntax.Body
-b47 = Syntax.seq b45 b46
+b47 = Syntax.seq b13 b46
 
 abbrev b48 : Syntax.Body
-b48 = Syntax.seq b44 b47
+b48 = Syntax.seq b12 b47
 
 abbrev b49 : Syntax.Body
 b49 = Syntax.seq b11 b48
@@ -456,8 +452,8 @@ body = b60
 
 abbrev pub Claims : Type 1
 Claims = Kinds.In 0 ps·0 × Kinds.Out 0 ps·0 r·0 × Kinds.In 2 ps·1 × Kinds.Out 2 ps·1 r·1 × Kinds.In 0 ps·2 × Kinds.Out
-    0 ps·2 r·2 × Kinds.In 0 ps·3 × Kinds.Out 0 ps·3 r·3 × Kinds.In 1 ps·4 × Kinds.Out 1 ps·4 r·4 × Kinds.In 4 ps·5 ×
-    Kinds.Out 4 ps·5 r·5 × Kinds.In 0 ps·6 × Kinds.Out 0 ps·6 r·6
+    0 ps·2 r·2 × Kinds.In 1 ps·3 × Kinds.Out 1 ps·3 r·3 × Kinds.In 4 ps·4 × Kinds.Out 4 ps·4 r·4 × Kinds.In 0 ps·5 ×
+    Kinds.Out 0 ps·5 r·5
 
 abbrev e0 : Row.Entry
 e0 = (0, Rows.any-gone Laws''''''''.mir)
@@ -490,7 +486,7 @@ abbrev e9 : Row.Entry
 e9 = (9, Rows.any-gone Laws''''''.mir)
 
 abbrev e10 : Row.Entry
-e10 = (10, Rows.any-gone Laws''''''''''.mir)
+e10 = (10, Rows.any-gone Laws''''.mir)
 
 abbrev e11 : Row.Entry
 e11 = (11, Rows.any-gone Laws'''''.mir)
@@ -502,34 +498,34 @@ abbrev e13 : Row.Entry
 e13 = (13, Rows.any-gone Laws'''.mir)
 
 abbrev e14 : Row.Entry
-e14 = (14, Rows.any-gone Laws''''.mir)
+e14 = (14, Rows.any-gone Laws''''''''''.mir)
 
 abbrev e15 : Row.Entry
-e15 = (15, Rows.any-gone ref0)
+e15 = (15, Rows.any-gone Laws.mir)
 
 abbrev e16 : Row.Entry
-e16 = (16, Rows.any-gone slice0)
+e16 = (16, Rows.any-gone Laws.mir)
 
 abbrev e17 : Row.Entry
-e17 = (17, Rows.any-gone ref1)
+e17 = (17, Rows.any-gone ref0)
 
 abbrev e18 : Row.Entry
-e18 = (18, Rows.any-gone slice1)
+e18 = (18, Rows.any-gone slice0)
 
 abbrev e19 : Row.Entry
-e19 = (19, Rows.any-gone (Syntax.tyInt Syntax.w64))
+e19 = (19, Rows.any-gone ref1)
 
 abbrev e20 : Row.Entry
-e20 = (20, Rows.any-gone (Syntax.tyInt Syntax.w64))
+e20 = (20, Rows.any-gone slice1)
 
 abbrev e21 : Row.Entry
-e21 = (21, Rows.any-gone Syntax.tyBool)
+e21 = (21, Rows.any-gone (Syntax.tyInt Syntax.w64))
 
 abbrev e22 : Row.Entry
-e22 = (22, Rows.any-gone Laws.mir)
+e22 = (22, Rows.any-gone (Syntax.tyInt Syntax.w64))
 
 abbrev e23 : Row.Entry
-e23 = (23, Rows.any-gone Laws.mir)
+e23 = (23, Rows.any-gone Syntax.tyBool)
 
 abbrev e24 : Row.Entry
 e24 = (24, Rows.any-gone Syntax.tyUnit)
@@ -579,32 +575,41 @@ e8·1 = (8, Rows.any-gone Laws'.mir)
 abbrev e9·1 : Row.Entry
 e9·1 = (9, Rows.whole (Declared'.row OpaqueRelayConfig.the-type))
 
+abbrev e14·1 : Row.Entry
+e14·1 = (14, Rows.whole (Declared.row RecordQuestion.the-type))
+
+abbrev e15·1 : Row.Entry
+e15·1 = (15, Rows.whole (Declared.row Notice.the-type))
+
+abbrev e16·1 : Row.Entry
+e16·1 = (16, Rows.whole (Declared.row Notice.the-type))
+
 abbrev e10·1 : Row.Entry
-e10·1 = (10, Rows.whole (Declared'.row Question.the-type))
+e10·1 = (10, Rows.whole (Declared'.row Revoking.the-type))
 
 abbrev e1·1 : Row.Entry
 e1·1 = (1, Reshare.mslice-owedS RelayPending.row ref7 0 5 Row.off)
 
-abbrev e15·1 : Row.Entry
-e15·1 = (15, Relend.ssptr RelayPending.row ref0 5)
+abbrev e17·1 : Row.Entry
+e17·1 = (17, Relend.ssptr RelayPending.row ref0 5)
 
-abbrev e16·1 : Row.Entry
-e16·1 = (16, Rows.sslice RelayPending.row ref0 5)
+abbrev e18·1 : Row.Entry
+e18·1 = (18, Rows.sslice RelayPending.row ref0 5)
 
 abbrev e2·1 : Row.Entry
 e2·1 = (2, Reshare.mslice-owedS RelayCircuit.row ref8 1 6 Row.off)
 
-abbrev e17·1 : Row.Entry
-e17·1 = (17, Relend.ssptr RelayCircuit.row ref1 6)
-
-abbrev e18·1 : Row.Entry
-e18·1 = (18, Rows.sslice RelayCircuit.row ref1 6)
-
 abbrev e19·1 : Row.Entry
-e19·1 = (19, Rows.sc-here (Row.sInt Syntax.w64))
+e19·1 = (19, Relend.ssptr RelayCircuit.row ref1 6)
 
 abbrev e20·1 : Row.Entry
-e20·1 = (20, Rows.sc-here (Row.sInt Syntax.w64))
+e20·1 = (20, Rows.sslice RelayCircuit.row ref1 6)
+
+abbrev e21·1 : Row.Entry
+e21·1 = (21, Rows.sc-here (Row.sInt Syntax.w64))
+
+abbrev e22·1 : Row.Entry
+e22·1 = (22, Rows.sc-here (Row.sInt Syntax.w64))
 
 abbrev e11·1 : Row.Entry
 e11·1 = (11, Rows.whole (Declared'.row Entered.the-type))
@@ -615,17 +620,8 @@ e12·1 = (12, Rows.whole (Declared.row HnsrAnswer.the-type))
 abbrev e13·1 : Row.Entry
 e13·1 = (13, Rows.whole (Declared'.row Firsts.the-type))
 
-abbrev e21·1 : Row.Entry
-e21·1 = (21, Rows.sc-here Row.sBool)
-
-abbrev e22·1 : Row.Entry
-e22·1 = (22, Rows.whole (Declared.row Notice.the-type))
-
 abbrev e23·1 : Row.Entry
-e23·1 = (23, Rows.whole (Declared.row Notice.the-type))
-
-abbrev e14·1 : Row.Entry
-e14·1 = (14, Rows.whole (Declared'.row Revoking.the-type))
+e23·1 = (23, Rows.sc-here Row.sBool)
 
 abbrev e3·1 : Row.Entry
 e3·1 = (3, Relend.mslice-owed ReservationUsage.row ref9 2 7 Row.off)
@@ -706,88 +702,88 @@ abbrev pub t4 : List.List Row.Entry
 t4 = e0 ∷ e1 ∷ e2 ∷ e3 ∷ e4 ∷ e5 ∷ e6 ∷ e7 ∷ e8 ∷ e9·1 ∷ e10 ∷ e11 ∷ e12 ∷ e13 ∷ e14 ∷ e15 ∷ List.[]
 
 abbrev pub t5 : List.List Row.Entry
-t5 = e0 ∷ e1 ∷ e2 ∷ e3 ∷ e4 ∷ e5 ∷ e6 ∷ e7 ∷ e8 ∷ e9·1 ∷ e10·1 ∷ e11 ∷ e12 ∷ e13 ∷ e14 ∷ e15 ∷ List.[]
+t5 = e0 ∷ e1 ∷ e2 ∷ e3 ∷ e4 ∷ e5 ∷ e6 ∷ e7 ∷ e8 ∷ e9·1 ∷ e10 ∷ e11 ∷ e12 ∷ e13 ∷ e14·1 ∷ e15 ∷ List.[]
 
 abbrev pub t6 : List.List Row.Entry
-t6 = e0 ∷ e1·1 ∷ e2 ∷ e3 ∷ e4 ∷ e5 ∷ e6 ∷ e7 ∷ e8 ∷ e9·1 ∷ e10·1 ∷ e11 ∷ e12 ∷ e13 ∷ e14 ∷ e15·1 ∷ List.[]
+t6 = e0 ∷ e1 ∷ e2 ∷ e3 ∷ e4 ∷ e5 ∷ e6 ∷ e7 ∷ e8 ∷ e9·1 ∷ e10 ∷ e11 ∷ e12 ∷ e13 ∷ e14·1 ∷ e15·1 ∷ List.[]
 
 abbrev pub t7 : List.List Row.Entry
-t7 = e0 ∷ e1·1 ∷ e2 ∷ e3 ∷ e4 ∷ e5 ∷ e6 ∷ e7 ∷ e8 ∷ e9·1 ∷ e10·1 ∷ e11 ∷ e12 ∷ e13 ∷ e14 ∷ e15 ∷ List.[]
+t7 = e16·1 ∷ e17 ∷ e18 ∷ e19 ∷ e20 ∷ e21 ∷ e22 ∷ e23 ∷ e24 ∷ e25 ∷ e26 ∷ e27 ∷ e28 ∷ e29 ∷ e30 ∷ e31 ∷ List.[]
 
 abbrev pub t8 : List.List Row.Entry
-t8 = e16·1 ∷ e17 ∷ e18 ∷ e19 ∷ e20 ∷ e21 ∷ e22 ∷ e23 ∷ e24 ∷ e25 ∷ e26 ∷ e27 ∷ e28 ∷ e29 ∷ e30 ∷ e31 ∷ List.[]
+t8 = e0 ∷ e1 ∷ e2 ∷ e3 ∷ e4 ∷ e5 ∷ e6 ∷ e7 ∷ e8 ∷ e9·1 ∷ e10·1 ∷ e11 ∷ e12 ∷ e13 ∷ e14·1 ∷ e15·1 ∷ List.[]
 
 abbrev pub t9 : List.List Row.Entry
-t9 = e0 ∷ e1·1 ∷ e2·1 ∷ e3 ∷ e4 ∷ e5 ∷ e6 ∷ e7 ∷ e8 ∷ e9·1 ∷ e10·1 ∷ e11 ∷ e12 ∷ e13 ∷ e14 ∷ e15 ∷ List.[]
+t9 = e0 ∷ e1 ∷ e2 ∷ e3 ∷ e4 ∷ e5 ∷ e6 ∷ e7 ∷ e8 ∷ e9·1 ∷ e10·1 ∷ e11 ∷ e12 ∷ e13 ∷ e14 ∷ e15·1 ∷ List.[]
 
 abbrev pub t10 : List.List Row.Entry
-t10 = e16·1 ∷ e17·1 ∷ e18 ∷ e19 ∷ e20 ∷ e21 ∷ e22 ∷ e23 ∷ e24 ∷ e25 ∷ e26 ∷ e27 ∷ e28 ∷ e29 ∷ e30 ∷ e31 ∷ List.[]
+t10 = e0 ∷ e1 ∷ e2 ∷ e3 ∷ e4 ∷ e5 ∷ e6 ∷ e7 ∷ e8 ∷ e9·1 ∷ e10·1 ∷ e11 ∷ e12 ∷ e13 ∷ e14 ∷ e15 ∷ List.[]
 
 abbrev pub t11 : List.List Row.Entry
-t11 = e16·1 ∷ e17 ∷ e18·1 ∷ e19 ∷ e20 ∷ e21 ∷ e22 ∷ e23 ∷ e24 ∷ e25 ∷ e26 ∷ e27 ∷ e28 ∷ e29 ∷ e30 ∷ e31 ∷ List.[]
+t11 = e0 ∷ e1·1 ∷ e2 ∷ e3 ∷ e4 ∷ e5 ∷ e6 ∷ e7 ∷ e8 ∷ e9·1 ∷ e10·1 ∷ e11 ∷ e12 ∷ e13 ∷ e14 ∷ e15 ∷ List.[]
 
 abbrev pub t12 : List.List Row.Entry
-t12 = e16·1 ∷ e17 ∷ e18·1 ∷ e19·1 ∷ e20 ∷ e21 ∷ e22 ∷ e23 ∷ e24 ∷ e25 ∷ e26 ∷ e27 ∷ e28 ∷ e29 ∷ e30 ∷ e31 ∷ List.[]
+t12 = e16 ∷ e17·1 ∷ e18 ∷ e19 ∷ e20 ∷ e21 ∷ e22 ∷ e23 ∷ e24 ∷ e25 ∷ e26 ∷ e27 ∷ e28 ∷ e29 ∷ e30 ∷ e31 ∷ List.[]
 
 abbrev pub t13 : List.List Row.Entry
-t13 = e16·1 ∷ e17 ∷ e18·1 ∷ e19·1 ∷ e20·1 ∷ e21 ∷ e22 ∷ e23 ∷ e24 ∷ e25 ∷ e26 ∷ e27 ∷ e28 ∷ e29 ∷ e30 ∷ e31 ∷ List.[]
+t13 = e16 ∷ e17 ∷ e18·1 ∷ e19 ∷ e20 ∷ e21 ∷ e22 ∷ e23 ∷ e24 ∷ e25 ∷ e26 ∷ e27 ∷ e28 ∷ e29 ∷ e30 ∷ e31 ∷ List.[]
 
 abbrev pub t14 : List.List Row.Entry
-t14 = e0 ∷ e1·1 ∷ e2·1 ∷ e3 ∷ e4 ∷ e5 ∷ e6 ∷ e7 ∷ e8 ∷ e9·1 ∷ e10·1 ∷ e11·1 ∷ e12 ∷ e13 ∷ e14 ∷ e15 ∷ List.[]
+t14 = e0 ∷ e1·1 ∷ e2·1 ∷ e3 ∷ e4 ∷ e5 ∷ e6 ∷ e7 ∷ e8 ∷ e9·1 ∷ e10·1 ∷ e11 ∷ e12 ∷ e13 ∷ e14 ∷ e15 ∷ List.[]
 
 abbrev pub t15 : List.List Row.Entry
-t15 = e16 ∷ e17 ∷ e18·1 ∷ e19·1 ∷ e20·1 ∷ e21 ∷ e22 ∷ e23 ∷ e24 ∷ e25 ∷ e26 ∷ e27 ∷ e28 ∷ e29 ∷ e30 ∷ e31 ∷ List.[]
+t15 = e16 ∷ e17 ∷ e18·1 ∷ e19·1 ∷ e20 ∷ e21 ∷ e22 ∷ e23 ∷ e24 ∷ e25 ∷ e26 ∷ e27 ∷ e28 ∷ e29 ∷ e30 ∷ e31 ∷ List.[]
 
 abbrev pub t16 : List.List Row.Entry
-t16 = e16 ∷ e17 ∷ e18 ∷ e19·1 ∷ e20·1 ∷ e21 ∷ e22 ∷ e23 ∷ e24 ∷ e25 ∷ e26 ∷ e27 ∷ e28 ∷ e29 ∷ e30 ∷ e31 ∷ List.[]
+t16 = e16 ∷ e17 ∷ e18·1 ∷ e19 ∷ e20·1 ∷ e21 ∷ e22 ∷ e23 ∷ e24 ∷ e25 ∷ e26 ∷ e27 ∷ e28 ∷ e29 ∷ e30 ∷ e31 ∷ List.[]
 
 abbrev pub t17 : List.List Row.Entry
-t17 = e0 ∷ e1·1 ∷ e2·1 ∷ e3 ∷ e4 ∷ e5 ∷ e6 ∷ e7 ∷ e8 ∷ e9 ∷ e10·1 ∷ e11·1 ∷ e12 ∷ e13 ∷ e14 ∷ e15 ∷ List.[]
+t17 = e16 ∷ e17 ∷ e18·1 ∷ e19 ∷ e20·1 ∷ e21·1 ∷ e22 ∷ e23 ∷ e24 ∷ e25 ∷ e26 ∷ e27 ∷ e28 ∷ e29 ∷ e30 ∷ e31 ∷ List.[]
 
 abbrev pub t18 : List.List Row.Entry
-t18 = e16 ∷ e17 ∷ e18 ∷ e19 ∷ e20·1 ∷ e21 ∷ e22 ∷ e23 ∷ e24 ∷ e25 ∷ e26 ∷ e27 ∷ e28 ∷ e29 ∷ e30 ∷ e31 ∷ List.[]
+t18 = e16 ∷ e17 ∷ e18·1 ∷ e19 ∷ e20·1 ∷ e21·1 ∷ e22·1 ∷ e23 ∷ e24 ∷ e25 ∷ e26 ∷ e27 ∷ e28 ∷ e29 ∷ e30 ∷ e31 ∷ List.[]
 
 abbrev pub t19 : List.List Row.Entry
-t19 = e0 ∷ e1 ∷ e2·1 ∷ e3 ∷ e4 ∷ e5 ∷ e6 ∷ e7 ∷ e8 ∷ e9 ∷ e10·1 ∷ e11·1 ∷ e12 ∷ e13 ∷ e14 ∷ e15 ∷ List.[]
+t19 = e0 ∷ e1·1 ∷ e2·1 ∷ e3 ∷ e4 ∷ e5 ∷ e6 ∷ e7 ∷ e8 ∷ e9·1 ∷ e10·1 ∷ e11·1 ∷ e12 ∷ e13 ∷ e14 ∷ e15 ∷ List.[]
 
 abbrev pub t20 : List.List Row.Entry
-t20 = e0 ∷ e1 ∷ e2 ∷ e3 ∷ e4 ∷ e5 ∷ e6 ∷ e7 ∷ e8 ∷ e9 ∷ e10·1 ∷ e11·1 ∷ e12 ∷ e13 ∷ e14 ∷ e15 ∷ List.[]
+t20 = e16 ∷ e17 ∷ e18 ∷ e19 ∷ e20·1 ∷ e21·1 ∷ e22·1 ∷ e23 ∷ e24 ∷ e25 ∷ e26 ∷ e27 ∷ e28 ∷ e29 ∷ e30 ∷ e31 ∷ List.[]
 
 abbrev pub t21 : List.List Row.Entry
-t21 = e0 ∷ e1 ∷ e2 ∷ e3 ∷ e4 ∷ e5 ∷ e6 ∷ e7 ∷ e8 ∷ e9 ∷ e10·1 ∷ e11·1 ∷ e12·1 ∷ e13 ∷ e14 ∷ e15 ∷ List.[]
+t21 = e16 ∷ e17 ∷ e18 ∷ e19 ∷ e20 ∷ e21·1 ∷ e22·1 ∷ e23 ∷ e24 ∷ e25 ∷ e26 ∷ e27 ∷ e28 ∷ e29 ∷ e30 ∷ e31 ∷ List.[]
 
 abbrev pub t22 : List.List Row.Entry
-t22 = e0 ∷ e1 ∷ e2 ∷ e3 ∷ e4 ∷ e5 ∷ e6 ∷ e7 ∷ e8 ∷ e9 ∷ e10·1 ∷ e11·1 ∷ e12·1 ∷ e13·1 ∷ e14 ∷ e15 ∷ List.[]
+t22 = e0 ∷ e1·1 ∷ e2·1 ∷ e3 ∷ e4 ∷ e5 ∷ e6 ∷ e7 ∷ e8 ∷ e9 ∷ e10·1 ∷ e11·1 ∷ e12 ∷ e13 ∷ e14 ∷ e15 ∷ List.[]
 
 abbrev pub t23 : List.List Row.Entry
-t23 = e0 ∷ e1 ∷ e2 ∷ e3 ∷ e4 ∷ e5 ∷ e6 ∷ e7 ∷ e8 ∷ e9 ∷ e10·1 ∷ e11 ∷ e12·1 ∷ e13·1 ∷ e14 ∷ e15 ∷ List.[]
+t23 = e16 ∷ e17 ∷ e18 ∷ e19 ∷ e20 ∷ e21 ∷ e22·1 ∷ e23 ∷ e24 ∷ e25 ∷ e26 ∷ e27 ∷ e28 ∷ e29 ∷ e30 ∷ e31 ∷ List.[]
 
 abbrev pub t24 : List.List Row.Entry
-t24 = e16 ∷ e17 ∷ e18 ∷ e19 ∷ e20 ∷ e21·1 ∷ e22 ∷ e23 ∷ e24 ∷ e25 ∷ e26 ∷ e27 ∷ e28 ∷ e29 ∷ e30 ∷ e31 ∷ List.[]
+t24 = e0 ∷ e1 ∷ e2·1 ∷ e3 ∷ e4 ∷ e5 ∷ e6 ∷ e7 ∷ e8 ∷ e9 ∷ e10·1 ∷ e11·1 ∷ e12 ∷ e13 ∷ e14 ∷ e15 ∷ List.[]
 
 abbrev pub t25 : List.List Row.Entry
-t25 = e0 ∷ e1 ∷ e2 ∷ e3 ∷ e4 ∷ e5 ∷ e6 ∷ e7 ∷ e8·1 ∷ e9 ∷ e10 ∷ e11 ∷ e12·1 ∷ e13 ∷ e14 ∷ e15 ∷ List.[]
+t25 = e0 ∷ e1 ∷ e2 ∷ e3 ∷ e4 ∷ e5 ∷ e6 ∷ e7 ∷ e8 ∷ e9 ∷ e10·1 ∷ e11·1 ∷ e12 ∷ e13 ∷ e14 ∷ e15 ∷ List.[]
 
 abbrev pub t26 : List.List Row.Entry
-t26 = e0 ∷ e1 ∷ e2 ∷ e3 ∷ e4 ∷ e5 ∷ e6 ∷ e7 ∷ e8 ∷ e9 ∷ e10·1 ∷ e11 ∷ e12 ∷ e13·1 ∷ e14 ∷ e15 ∷ List.[]
+t26 = e0 ∷ e1 ∷ e2 ∷ e3 ∷ e4 ∷ e5 ∷ e6 ∷ e7 ∷ e8 ∷ e9 ∷ e10·1 ∷ e11·1 ∷ e12·1 ∷ e13 ∷ e14 ∷ e15 ∷ List.[]
 
 abbrev pub t27 : List.List Row.Entry
-t27 = e16 ∷ e17 ∷ e18 ∷ e19 ∷ e20 ∷ e21 ∷ e22·1 ∷ e23 ∷ e24 ∷ e25 ∷ e26 ∷ e27 ∷ e28 ∷ e29 ∷ e30 ∷ e31 ∷ List.[]
+t27 = e0 ∷ e1 ∷ e2 ∷ e3 ∷ e4 ∷ e5 ∷ e6 ∷ e7 ∷ e8 ∷ e9 ∷ e10·1 ∷ e11·1 ∷ e12·1 ∷ e13·1 ∷ e14 ∷ e15 ∷ List.[]
 
 abbrev pub t28 : List.List Row.Entry
-t28 = e16 ∷ e17 ∷ e18 ∷ e19 ∷ e20 ∷ e21 ∷ e22·1 ∷ e23·1 ∷ e24 ∷ e25 ∷ e26 ∷ e27 ∷ e28 ∷ e29 ∷ e30 ∷ e31 ∷ List.[]
+t28 = e0 ∷ e1 ∷ e2 ∷ e3 ∷ e4 ∷ e5 ∷ e6 ∷ e7 ∷ e8 ∷ e9 ∷ e10·1 ∷ e11 ∷ e12·1 ∷ e13·1 ∷ e14 ∷ e15 ∷ List.[]
 
 abbrev pub t29 : List.List Row.Entry
-t29 = e0 ∷ e1 ∷ e2 ∷ e3 ∷ e4 ∷ e5 ∷ e6 ∷ e7 ∷ e8 ∷ e9 ∷ e10·1 ∷ e11 ∷ e12 ∷ e13·1 ∷ e14·1 ∷ e15 ∷ List.[]
+t29 = e16 ∷ e17 ∷ e18 ∷ e19 ∷ e20 ∷ e21 ∷ e22 ∷ e23·1 ∷ e24 ∷ e25 ∷ e26 ∷ e27 ∷ e28 ∷ e29 ∷ e30 ∷ e31 ∷ List.[]
 
 abbrev pub t30 : List.List Row.Entry
-t30 = e0 ∷ e1 ∷ e2 ∷ e3 ∷ e4 ∷ e5 ∷ e6 ∷ e7 ∷ e8 ∷ e9 ∷ e10 ∷ e11 ∷ e12 ∷ e13·1 ∷ e14·1 ∷ e15 ∷ List.[]
+t30 = e0 ∷ e1 ∷ e2 ∷ e3 ∷ e4 ∷ e5 ∷ e6 ∷ e7 ∷ e8·1 ∷ e9 ∷ e10 ∷ e11 ∷ e12·1 ∷ e13 ∷ e14 ∷ e15 ∷ List.[]
 
 abbrev pub t31 : List.List Row.Entry
-t31 = e16 ∷ e17 ∷ e18 ∷ e19 ∷ e20 ∷ e21 ∷ e22 ∷ e23·1 ∷ e24 ∷ e25 ∷ e26 ∷ e27 ∷ e28 ∷ e29 ∷ e30 ∷ e31 ∷ List.[]
+t31 = e0 ∷ e1 ∷ e2 ∷ e3 ∷ e4 ∷ e5 ∷ e6 ∷ e7 ∷ e8 ∷ e9 ∷ e10·1 ∷ e11 ∷ e12 ∷ e13·1 ∷ e14 ∷ e15 ∷ List.[]
 
 abbrev pub t32 : List.List Row.Entry
-t32 = e0 ∷ e1 ∷ e2 ∷ e3·1 ∷ e4 ∷ e5 ∷ e6 ∷ e7 ∷ e8 ∷ e9 ∷ e10 ∷ e11 ∷ e12 ∷ e13·1 ∷ e14·1 ∷ e15 ∷ List.[]
+t32 = e0 ∷ e1 ∷ e2 ∷ e3·1 ∷ e4 ∷ e5 ∷ e6 ∷ e7 ∷ e8 ∷ e9 ∷ e10·1 ∷ e11 ∷ e12 ∷ e13·1 ∷ e14 ∷ e15 ∷ List.[]
 
 abbrev pub t33 : List.List Row.Entry
 t33 = e16 ∷ e17 ∷ e18 ∷ e19 ∷ e20 ∷ e21 ∷ e22 ∷ e23 ∷ e24 ∷ e25·1 ∷ e26 ∷ e27 ∷ e28 ∷ e29 ∷ e30 ∷ e31 ∷ List.[]
@@ -799,16 +795,16 @@ abbrev pub t35 : List.List Row.Entry
 t35 = e16 ∷ e17 ∷ e18 ∷ e19 ∷ e20 ∷ e21 ∷ e22 ∷ e23 ∷ e24·1 ∷ e25 ∷ e26·2 ∷ e27 ∷ e28 ∷ e29 ∷ e30 ∷ e31 ∷ List.[]
 
 abbrev pub t36 : List.List Row.Entry
-t36 = e0 ∷ e1 ∷ e2 ∷ e3·1 ∷ e4 ∷ e5 ∷ e6 ∷ e7 ∷ e8·1 ∷ e9 ∷ e10 ∷ e11 ∷ e12 ∷ e13·1 ∷ e14·1 ∷ e15 ∷ List.[]
+t36 = e0 ∷ e1 ∷ e2 ∷ e3·1 ∷ e4 ∷ e5 ∷ e6 ∷ e7 ∷ e8·1 ∷ e9 ∷ e10·1 ∷ e11 ∷ e12 ∷ e13·1 ∷ e14 ∷ e15 ∷ List.[]
 
 abbrev pub t37 : List.List Row.Entry
 t37 = e16 ∷ e17 ∷ e18 ∷ e19 ∷ e20 ∷ e21 ∷ e22 ∷ e23 ∷ e24 ∷ e25 ∷ e26·2 ∷ e27 ∷ e28 ∷ e29 ∷ e30 ∷ e31 ∷ List.[]
 
 abbrev pub t38 : List.List Row.Entry
-t38 = e0 ∷ e1 ∷ e2 ∷ e3 ∷ e4 ∷ e5 ∷ e6 ∷ e7 ∷ e8·1 ∷ e9 ∷ e10 ∷ e11 ∷ e12 ∷ e13·1 ∷ e14·1 ∷ e15 ∷ List.[]
+t38 = e0 ∷ e1 ∷ e2 ∷ e3 ∷ e4 ∷ e5 ∷ e6 ∷ e7 ∷ e8·1 ∷ e9 ∷ e10·1 ∷ e11 ∷ e12 ∷ e13·1 ∷ e14 ∷ e15 ∷ List.[]
 
 abbrev pub t39 : List.List Row.Entry
-t39 = e0 ∷ e1·2 ∷ e2 ∷ e3 ∷ e4 ∷ e5 ∷ e6 ∷ e7 ∷ e8·1 ∷ e9 ∷ e10 ∷ e11 ∷ e12 ∷ e13·1 ∷ e14·1 ∷ e15 ∷ List.[]
+t39 = e0 ∷ e1·2 ∷ e2 ∷ e3 ∷ e4 ∷ e5 ∷ e6 ∷ e7 ∷ e8·1 ∷ e9 ∷ e10·1 ∷ e11 ∷ e12 ∷ e13·1 ∷ e14 ∷ e15 ∷ List.[]
 
 abbrev pub t40 : List.List Row.Entry
 t40 = e16 ∷ e17 ∷ e18 ∷ e19 ∷ e20 ∷ e21 ∷ e22 ∷ e23 ∷ e24 ∷ e25 ∷ e26 ∷ e27·1 ∷ e28 ∷ e29 ∷ e30 ∷ e31 ∷ List.[]
@@ -817,7 +813,7 @@ abbrev pub t41 : List.List Row.Entry
 t41 = e16 ∷ e17 ∷ e18 ∷ e19 ∷ e20 ∷ e21 ∷ e22 ∷ e23 ∷ e24 ∷ e25 ∷ e26 ∷ e27 ∷ e28·1 ∷ e29 ∷ e30 ∷ e31 ∷ List.[]
 
 abbrev pub t42 : List.List Row.Entry
-t42 = e0 ∷ e1·2 ∷ e2·2 ∷ e3 ∷ e4 ∷ e5 ∷ e6 ∷ e7 ∷ e8·1 ∷ e9 ∷ e10 ∷ e11 ∷ e12 ∷ e13·1 ∷ e14·1 ∷ e15 ∷ List.[]
+t42 = e0 ∷ e1·2 ∷ e2·2 ∷ e3 ∷ e4 ∷ e5 ∷ e6 ∷ e7 ∷ e8·1 ∷ e9 ∷ e10·1 ∷ e11 ∷ e12 ∷ e13·1 ∷ e14 ∷ e15 ∷ List.[]
 
 abbrev pub t43 : List.List Row.Entry
 t43 = e16 ∷ e17 ∷ e18 ∷ e19 ∷ e20 ∷ e21 ∷ e22 ∷ e23 ∷ e24 ∷ e25 ∷ e26 ∷ e27 ∷ e28·1 ∷ e29·1 ∷ e30 ∷ e31 ∷ List.[]
@@ -826,7 +822,7 @@ abbrev pub t44 : List.List Row.Entry
 t44 = e16 ∷ e17 ∷ e18 ∷ e19 ∷ e20 ∷ e21 ∷ e22 ∷ e23 ∷ e24 ∷ e25 ∷ e26 ∷ e27 ∷ e28·1 ∷ e29 ∷ e30·1 ∷ e31 ∷ List.[]
 
 abbrev pub t45 : List.List Row.Entry
-t45 = e0 ∷ e1·2 ∷ e2·2 ∷ e3 ∷ e4·1 ∷ e5 ∷ e6 ∷ e7 ∷ e8·1 ∷ e9 ∷ e10 ∷ e11 ∷ e12 ∷ e13·1 ∷ e14·1 ∷ e15 ∷ List.[]
+t45 = e0 ∷ e1·2 ∷ e2·2 ∷ e3 ∷ e4·1 ∷ e5 ∷ e6 ∷ e7 ∷ e8·1 ∷ e9 ∷ e10·1 ∷ e11 ∷ e12 ∷ e13·1 ∷ e14 ∷ e15 ∷ List.[]
 
 abbrev pub t46 : List.List Row.Entry
 t46 = e16 ∷ e17 ∷ e18 ∷ e19 ∷ e20 ∷ e21 ∷ e22 ∷ e23 ∷ e24 ∷ e25 ∷ e26 ∷ e27 ∷ e28·1 ∷ e29 ∷ e30·1 ∷ e31·1 ∷ List.[]
@@ -835,7 +831,7 @@ abbrev pub t47 : List.List Row.Entry
 t47 = e32·1 ∷ e33 ∷ e34 ∷ List.[]
 
 abbrev pub t48 : List.List Row.Entry
-t48 = e0 ∷ e1·2 ∷ e2·2 ∷ e3 ∷ e4·1 ∷ e5·1 ∷ e6 ∷ e7 ∷ e8·1 ∷ e9 ∷ e10 ∷ e11 ∷ e12 ∷ e13·1 ∷ e14·1 ∷ e15 ∷ List.[]
+t48 = e0 ∷ e1·2 ∷ e2·2 ∷ e3 ∷ e4·1 ∷ e5·1 ∷ e6 ∷ e7 ∷ e8·1 ∷ e9 ∷ e10·1 ∷ e11 ∷ e12 ∷ e13·1 ∷ e14 ∷ e15 ∷ List.[]
 
 abbrev pub t49 : List.List Row.Entry
 t49 = e32·1 ∷ e33·1 ∷ e34 ∷ List.[]
@@ -844,7 +840,7 @@ abbrev pub t50 : List.List Row.Entry
 t50 = e32·1 ∷ e33 ∷ e34·1 ∷ List.[]
 
 abbrev pub t51 : List.List Row.Entry
-t51 = e0·1 ∷ e1·2 ∷ e2·2 ∷ e3 ∷ e4·1 ∷ e5·1 ∷ e6 ∷ e7 ∷ e8·1 ∷ e9 ∷ e10 ∷ e11 ∷ e12 ∷ e13·1 ∷ e14·1 ∷ e15 ∷ List.[]
+t51 = e0·1 ∷ e1·2 ∷ e2·2 ∷ e3 ∷ e4·1 ∷ e5·1 ∷ e6 ∷ e7 ∷ e8·1 ∷ e9 ∷ e10·1 ∷ e11 ∷ e12 ∷ e13·1 ∷ e14 ∷ e15 ∷ List.[]
 
 abbrev pub t52 : List.List Row.Entry
 t52 = e16 ∷ e17 ∷ e18 ∷ e19 ∷ e20 ∷ e21 ∷ e22 ∷ e23 ∷ e24 ∷ e25 ∷ e26 ∷ e27 ∷ e28·2 ∷ e29 ∷ e30·2 ∷ e31 ∷ List.[]
@@ -853,13 +849,13 @@ abbrev pub t53 : List.List Row.Entry
 t53 = e32·2 ∷ e33 ∷ e34·2 ∷ List.[]
 
 abbrev pub t54 : List.List Row.Entry
-t54 = e0·1 ∷ e1·2 ∷ e2·2 ∷ e3 ∷ e4·1 ∷ e5·1 ∷ e6·1 ∷ e7 ∷ e8·1 ∷ e9 ∷ e10 ∷ e11 ∷ e12 ∷ e13·1 ∷ e14·1 ∷ e15 ∷ List.[]
+t54 = e0·1 ∷ e1·2 ∷ e2·2 ∷ e3 ∷ e4·1 ∷ e5·1 ∷ e6·1 ∷ e7 ∷ e8·1 ∷ e9 ∷ e10·1 ∷ e11 ∷ e12 ∷ e13·1 ∷ e14 ∷ e15 ∷ List.[]
 
 abbrev pub t55 : List.List Row.Entry
-t55 = e0·1 ∷ e1·2 ∷ e2·2 ∷ e3 ∷ e4·1 ∷ e5·1 ∷ e6·1 ∷ e7·1 ∷ e8·1 ∷ e9 ∷ e10 ∷ e11 ∷ e12 ∷ e13·1 ∷ e14·1 ∷ e15 ∷ List.[]
+t55 = e0·1 ∷ e1·2 ∷ e2·2 ∷ e3 ∷ e4·1 ∷ e5·1 ∷ e6·1 ∷ e7·1 ∷ e8·1 ∷ e9 ∷ e10·1 ∷ e11 ∷ e12 ∷ e13·1 ∷ e14 ∷ e15 ∷ List.[]
 
 abbrev pub t56 : List.List Row.Entry
-t56 = e0·1 ∷ e1·2 ∷ e2·2 ∷ e3 ∷ e4·1 ∷ e5·1 ∷ e6·1 ∷ e7·1 ∷ e8·1 ∷ e9 ∷ e10 ∷ e11 ∷ e12 ∷ e13 ∷ e14·1 ∷ e15 ∷ List.[]
+t56 = e0·1 ∷ e1·2 ∷ e2·2 ∷ e3 ∷ e4·1 ∷ e5·1 ∷ e6·1 ∷ e7·1 ∷ e8·1 ∷ e9 ∷ e10 ∷ e11 ∷ e12 ∷ e13·1 ∷ e14 ∷ e15 ∷ List.[]
 
 abbrev pub t57 : List.List Row.Entry
 t57 = e0·1 ∷ e1·2 ∷ e2·2 ∷ e3 ∷ e4·1 ∷ e5·1 ∷ e6·1 ∷ e7·1 ∷ e8·1 ∷ e9 ∷ e10 ∷ e11 ∷ e12 ∷ e13 ∷ e14 ∷ e15 ∷ List.[]
@@ -909,86 +905,86 @@ T3 = record { locals = List._++_ t4 (List._++_ t1 t2); slots = List.[] }
 abbrev pub T4 : Row.Cx
 T4 = record { locals = List._++_ t5 (List._++_ t1 t2); slots = List.[] }
 
+abbrev pub T5 : Row.Cx
+T5 = record { locals = List._++_ t6 (List._++_ t1 t2); slots = List.[] }
+
 abbrev pub T6 : Row.Cx
-T6 = record { locals = List._++_ t6 (List._++_ t1 t2); slots = List.[] }
+T6 = record { locals = List._++_ t6 (List._++_ t7 t2); slots = List.[] }
 
 abbrev pub T7 : Row.Cx
-T7 = record { locals = List._++_ t7 (List._++_ t8 t2); slots = List.[] }
+T7 = record { locals = List._++_ t8 (List._++_ t7 t2); slots = List.[] }
+
+abbrev pub T8 : Row.Cx
+T8 = record { locals = List._++_ t9 (List._++_ t7 t2); slots = List.[] }
 
 abbrev pub T9 : Row.Cx
-T9 = record { locals = List._++_ t9 (List._++_ t10 t2); slots = List.[] }
+T9 = record { locals = List._++_ t10 (List._++_ t7 t2); slots = List.[] }
 
 abbrev pub T10 : Row.Cx
-T10 = record { locals = List._++_ t9 (List._++_ t11 t2); slots = List.[] }
-
-abbrev pub T11 : Row.Cx
-T11 = record { locals = List._++_ t9 (List._++_ t12 t2); slots = List.[] }
+T10 = record { locals = List._++_ t10 (List._++_ t1 t2); slots = List.[] }
 
 abbrev pub T12 : Row.Cx
-T12 = record { locals = List._++_ t9 (List._++_ t13 t2); slots = List.[] }
+T12 = record { locals = List._++_ t11 (List._++_ t12 t2); slots = List.[] }
 
 abbrev pub T13 : Row.Cx
-T13 = record { locals = List._++_ t14 (List._++_ t13 t2); slots = List.[] }
-
-abbrev pub T14 : Row.Cx
-T14 = record { locals = List._++_ t14 (List._++_ t15 t2); slots = List.[] }
+T13 = record { locals = List._++_ t11 (List._++_ t13 t2); slots = List.[] }
 
 abbrev pub T15 : Row.Cx
-T15 = record { locals = List._++_ t14 (List._++_ t16 t2); slots = List.[] }
+T15 = record { locals = List._++_ t14 (List._++_ t15 t2); slots = List.[] }
 
 abbrev pub T16 : Row.Cx
-T16 = record { locals = List._++_ t17 (List._++_ t16 t2); slots = List.[] }
+T16 = record { locals = List._++_ t14 (List._++_ t16 t2); slots = List.[] }
 
 abbrev pub T17 : Row.Cx
-T17 = record { locals = List._++_ t17 (List._++_ t18 t2); slots = List.[] }
+T17 = record { locals = List._++_ t14 (List._++_ t17 t2); slots = List.[] }
 
 abbrev pub T18 : Row.Cx
-T18 = record { locals = List._++_ t17 (List._++_ t1 t2); slots = List.[] }
+T18 = record { locals = List._++_ t14 (List._++_ t18 t2); slots = List.[] }
+
+abbrev pub T19 : Row.Cx
+T19 = record { locals = List._++_ t19 (List._++_ t18 t2); slots = List.[] }
 
 abbrev pub T20 : Row.Cx
-T20 = record { locals = List._++_ t19 (List._++_ t1 t2); slots = List.[] }
+T20 = record { locals = List._++_ t19 (List._++_ t20 t2); slots = List.[] }
+
+abbrev pub T21 : Row.Cx
+T21 = record { locals = List._++_ t19 (List._++_ t21 t2); slots = List.[] }
+
+abbrev pub T22 : Row.Cx
+T22 = record { locals = List._++_ t22 (List._++_ t21 t2); slots = List.[] }
 
 abbrev pub T23 : Row.Cx
-T23 = record { locals = List._++_ t20 (List._++_ t1 t2); slots = List.[] }
+T23 = record { locals = List._++_ t22 (List._++_ t23 t2); slots = List.[] }
 
-abbrev pub T25 : Row.Cx
-T25 = record { locals = List._++_ t21 (List._++_ t1 t2); slots = List.[] }
+abbrev pub T24 : Row.Cx
+T24 = record { locals = List._++_ t22 (List._++_ t1 t2); slots = List.[] }
 
 abbrev pub T26 : Row.Cx
-T26 = record { locals = List._++_ t22 (List._++_ t1 t2); slots = List.[] }
-
-abbrev pub T27 : Row.Cx
-T27 = record { locals = List._++_ t23 (List._++_ t1 t2); slots = List.[] }
-
-abbrev pub T28 : Row.Cx
-T28 = record { locals = List._++_ t23 (List._++_ t24 t2); slots = List.[] }
+T26 = record { locals = List._++_ t24 (List._++_ t1 t2); slots = List.[] }
 
 abbrev pub T29 : Row.Cx
 T29 = record { locals = List._++_ t25 (List._++_ t1 t2); slots = List.[] }
-
-abbrev pub T30 : Row.Cx
-T30 = record { locals = List._++_ t26 (List._++_ t24 t2); slots = List.[] }
 
 abbrev pub T31 : Row.Cx
 T31 = record { locals = List._++_ t26 (List._++_ t1 t2); slots = List.[] }
 
 abbrev pub T32 : Row.Cx
-T32 = record { locals = List._++_ t26 (List._++_ t27 t2); slots = List.[] }
+T32 = record { locals = List._++_ t27 (List._++_ t1 t2); slots = List.[] }
 
 abbrev pub T33 : Row.Cx
-T33 = record { locals = List._++_ t26 (List._++_ t28 t2); slots = List.[] }
+T33 = record { locals = List._++_ t28 (List._++_ t1 t2); slots = List.[] }
 
 abbrev pub T34 : Row.Cx
-T34 = record { locals = List._++_ t29 (List._++_ t28 t2); slots = List.[] }
+T34 = record { locals = List._++_ t28 (List._++_ t29 t2); slots = List.[] }
 
 abbrev pub T35 : Row.Cx
-T35 = record { locals = List._++_ t30 (List._++_ t28 t2); slots = List.[] }
+T35 = record { locals = List._++_ t30 (List._++_ t1 t2); slots = List.[] }
 
 abbrev pub T36 : Row.Cx
-T36 = record { locals = List._++_ t30 (List._++_ t31 t2); slots = List.[] }
+T36 = record { locals = List._++_ t31 (List._++_ t29 t2); slots = List.[] }
 
 abbrev pub T37 : Row.Cx
-T37 = record { locals = List._++_ t30 (List._++_ t1 t2); slots = List.[] }
+T37 = record { locals = List._++_ t31 (List._++_ t1 t2); slots = List.[] }
 
 abbrev pub T39 : Row.Cx
 T39 = record { locals = List._++_ t32 (List._++_ t33 t2); slots = List.[] }
@@ -1063,16 +1059,16 @@ abbrev pub T75 : Row.Cx
 T75 = record { locals = List._++_ t3 (List._++_ t1 t2); slots = List.[] }
 
 abbrev pub T77 : Row.Cx
-T77 = record { locals = List._++_ t63 (List._++_ t24 t2); slots = List.[] }
+T77 = record { locals = List._++_ t63 (List._++_ t29 t2); slots = List.[] }
 
 abbrev pub T78 : Row.Cx
-T78 = record { locals = List._++_ t64 (List._++_ t24 t2); slots = List.[] }
+T78 = record { locals = List._++_ t64 (List._++_ t29 t2); slots = List.[] }
 
 abbrev pub T79 : Row.Cx
-T79 = record { locals = List._++_ t25 (List._++_ t24 t2); slots = List.[] }
+T79 = record { locals = List._++_ t30 (List._++_ t29 t2); slots = List.[] }
 
 abbrev pub T80 : Row.Cx
-T80 = record { locals = List._++_ t25 (List._++_ t1 t2); slots = List.[] }
+T80 = record { locals = List._++_ t30 (List._++_ t1 t2); slots = List.[] }
 
 abbrev pub T81 : Row.Cx
 T81 = record { locals = List._++_ t65 (List._++_ t1 t2); slots = List.[] }
@@ -1090,7 +1086,7 @@ abbrev pub O0 : Typed.Outs
 O0 = record { next = Option.none; exits = List.[]; returns = Option.some T1 }
 
 abbrev pub O1 : Typed.Outs
-O1 = Typed.withNext (Option.some T29) O0
+O1 = Typed.withNext (Option.some T35) O0
 
 module _ (claims· : Claims) where
   abbrev s0 : (bs : List.List Nat.ℕ) → Typed.Gives T0 T2
@@ -1105,43 +1101,67 @@ module _ (claims· : Claims) where
       }) (λ u T′ m′. Row.set 6 (6, Rows.whole (Declared'.row OpaqueRelayRuntime.the-type)) (u .1 .1 .1 .1 .1 .1 .0) T′
       m′) (λ u. Unit) λ u. Unit
 
-  abbrev s2 : (bs : List.List Nat.ℕ) → Typed.Both T3 T4
-  s2 = λ bs. Call.callB ps·0 r·0 (claims· .0) (claims· .1) T3
-      (record { pos = 8; st = List.[]; d = 0; at = λ x. x }, tt) 10 List.[] Laws''''''''''.mir
+  abbrev s2 : (bs : List.List Nat.ℕ) → Typed.Mo T3 → Typed.Mo T4
+  s2 = λ bs. Make.n-enum-make RecordQuestion.the-type T3 14 λ m. RecordQuestion.enum .make (Logic.inr
+      (Logic.inr (Logic.inl (m .1 .1 .1 .1 .1 .1 .1 .1 .0, tt))))
 
-  abbrev s4 : (bs : List.List Nat.ℕ) → Typed.Gives T4 T6
-  s4 = λ bs. Reshare.k-sl-reshare RelayPending.row T4 1 15 0 5 ref7 ref0 Row.off λ x. x
+  abbrev s3 : (bs : List.List Nat.ℕ) → Typed.Mo T4 → Typed.Mo T5
+  s3 = λ bs. Make.n-enum-make Notice.the-type T4 15 λ m. Notice.enum .make (Logic.inr (Logic.inl tt))
 
-  abbrev s5 : (bs : List.List Nat.ℕ) → Typed.Asks T6 T7
-  s5 = λ bs. Relend.k-sl-aggregate RelayPending.row (Relend.asShr RelayPending.row) T6 15 16 5 ref0 ref0 (λ x. x) (Scalar.oFld
+  abbrev s4 : (bs : List.List Nat.ℕ) → Typed.Mo T5 → Typed.Mo T6
+  s4 = λ bs. Make.n-enum-make Notice.the-type T5 16 λ m. Notice.enum .make (Logic.inr (Logic.inl tt))
+
+  abbrev s5 : (bs : List.List Nat.ℕ) → Typed.Both T6 T7
+  s5 = λ bs. Call.callB ps·0 r·0 (claims· .0) (claims· .1) T6 (
+    record { pos = 14; st = List.[]; d = 0; at = λ x. x },
+    (
+      record { pos = 15; st = List.[]; d = 0; at = λ x. x },
+      (record { pos = 16; st = List.[]; d = 0; at = λ x. x }, tt),
+    ),
+  ) 10 List.[] Laws''''.mir
+
+  abbrev s6 : (bs : List.List Nat.ℕ) → Typed.Mo T7 → Typed.Mo T8
+  s6 = λ bs. Scalar.n-room T7 14 Laws''''''''''.mir
+
+  abbrev s7 : (bs : List.List Nat.ℕ) → Typed.Mo T8 → Typed.Mo T9
+  s7 = λ bs. Scalar.n-room T8 15 Laws.mir
+
+  abbrev s8 : (bs : List.List Nat.ℕ) → Typed.Mo T9 → Typed.Mo T10
+  s8 = λ bs. Scalar.n-room T9 16 Laws.mir
+
+  abbrev s10 : (bs : List.List Nat.ℕ) → Typed.Gives T10 T12
+  s10 = λ bs. Reshare.k-sl-reshare RelayPending.row T10 1 17 0 5 ref7 ref0 Row.off λ x. x
+
+  abbrev s11 : (bs : List.List Nat.ℕ) → Typed.Asks T12 T13
+  s11 = λ bs. Relend.k-sl-aggregate RelayPending.row (Relend.asShr RelayPending.row) T12 17 18 5 ref0 ref0 (λ x. x) (Scalar.oFld
       1 ((Syntax.field 1) ∷ List.[]) (Syntax.tyInt Syntax.w64) 8 λ v. Shared.lenV (v .0))
 
-  abbrev s7 : (bs : List.List Nat.ℕ) → Typed.Gives T7 T9
-  s7 = λ bs. Reshare.k-sl-reshare RelayCircuit.row T7 2 17 1 6 ref8 ref1 Row.off λ x. x
+  abbrev s13 : (bs : List.List Nat.ℕ) → Typed.Gives T13 T15
+  s13 = λ bs. Reshare.k-sl-reshare RelayCircuit.row T13 2 19 1 6 ref8 ref1 Row.off λ x. x
 
-  abbrev s8 : (bs : List.List Nat.ℕ) → Typed.Asks T9 T10
-  s8 = λ bs. Relend.k-sl-aggregate RelayCircuit.row (Relend.asShr RelayCircuit.row) T9 17 18 6 ref1 ref1 (λ x. x) (Scalar.oFld
+  abbrev s14 : (bs : List.List Nat.ℕ) → Typed.Asks T15 T16
+  s14 = λ bs. Relend.k-sl-aggregate RelayCircuit.row (Relend.asShr RelayCircuit.row) T15 19 20 6 ref1 ref1 (λ x. x) (Scalar.oFld
       2 ((Syntax.field 1) ∷ List.[]) (Syntax.tyInt Syntax.w64) 8 λ v. Shared.lenV (v .0))
 
-  abbrev s9 : (bs : List.List Nat.ℕ) → Typed.Mo T10 → Typed.Mo T11
-  s9 = λ bs. Scalar.n-use T10 (Scalar.oFld 4 ((Syntax.field 1) ∷ List.[]) (Syntax.tyInt Syntax.w64) 8 Shared.lenV) 19
+  abbrev s15 : (bs : List.List Nat.ℕ) → Typed.Mo T16 → Typed.Mo T17
+  s15 = λ bs. Scalar.n-use T16 (Scalar.oFld 4 ((Syntax.field 1) ∷ List.[]) (Syntax.tyInt Syntax.w64) 8 Shared.lenV) 21
       (Rows.sc-here (Row.sInt Syntax.w64)) (Row.sInt Syntax.w64 .of)
 
-  abbrev s10 : (bs : List.List Nat.ℕ) → Typed.Mo T11 → Typed.Mo T12
-  s10 = λ bs. Scalar.n-use T11 (Scalar.oFld 5 ((Syntax.field 1) ∷ List.[]) (Syntax.tyInt Syntax.w64) 8 Shared.lenV) 20
+  abbrev s16 : (bs : List.List Nat.ℕ) → Typed.Mo T17 → Typed.Mo T18
+  s16 = λ bs. Scalar.n-use T17 (Scalar.oFld 5 ((Syntax.field 1) ∷ List.[]) (Syntax.tyInt Syntax.w64) 8 Shared.lenV) 22
       (Rows.sc-here (Row.sInt Syntax.w64)) (Row.sInt Syntax.w64 .of)
 
-  abbrev s11 : (bs : List.List Nat.ℕ) → Typed.Both T12 T13
-  s11 = λ bs. Call.callB ps·1 r·1 (claims· .2) (claims· .3) T12 (
-    record { pos = 16; ty = ref0; ref = λ x. x },
+  abbrev s17 : (bs : List.List Nat.ℕ) → Typed.Both T18 T19
+  s17 = λ bs. Call.callB ps·1 r·1 (claims· .2) (claims· .3) T18 (
+    record { pos = 18; ty = ref0; ref = λ x. x },
     (
-      record { pos = 18; ty = ref1; ref = λ x. x },
+      record { pos = 20; ty = ref1; ref = λ x. x },
       (
         record { pos = 7; st = List.[]; d = 0; at = λ x. x },
         (
-          Num.vAt 19 λ x. x,
+          Num.vAt 21 λ x. x,
           (
-            Num.vAt 20 λ x. x,
+            Num.vAt 22 λ x. x,
             (
               record { pos = 9; st = List.[]; d = 0; at = λ x. x },
               (record { pos = 10; st = List.[]; d = 0; at = λ x. x }, tt),
@@ -1152,75 +1172,51 @@ module _ (claims· : Claims) where
     ),
   ) 11 (5 ∷ 6 ∷ List.[]) Laws'''''.mir
 
-  abbrev s12 : (bs : List.List Nat.ℕ) → Typed.Mo T13 → Typed.Mo T14
-  s12 = λ bs. Scalar.n-room T13 16 slice0
+  abbrev s18 : (bs : List.List Nat.ℕ) → Typed.Mo T19 → Typed.Mo T20
+  s18 = λ bs. Scalar.n-room T19 18 slice0
 
-  abbrev s13 : (bs : List.List Nat.ℕ) → Typed.Mo T14 → Typed.Mo T15
-  s13 = λ bs. Scalar.n-room T14 18 slice1
+  abbrev s19 : (bs : List.List Nat.ℕ) → Typed.Mo T20 → Typed.Mo T21
+  s19 = λ bs. Scalar.n-room T20 20 slice1
 
-  abbrev s14 : (bs : List.List Nat.ℕ) → Typed.Mo T15 → Typed.Mo T16
-  s14 = λ bs. Scalar.n-room T15 9 Laws''''''.mir
+  abbrev s20 : (bs : List.List Nat.ℕ) → Typed.Mo T21 → Typed.Mo T22
+  s20 = λ bs. Scalar.n-room T21 9 Laws''''''.mir
 
-  abbrev s15 : (bs : List.List Nat.ℕ) → Typed.Mo T16 → Typed.Mo T17
-  s15 = λ bs. Scalar.n-room T16 19 (Syntax.tyInt Syntax.w64)
+  abbrev s21 : (bs : List.List Nat.ℕ) → Typed.Mo T22 → Typed.Mo T23
+  s21 = λ bs. Scalar.n-room T22 21 (Syntax.tyInt Syntax.w64)
 
-  abbrev s16 : (bs : List.List Nat.ℕ) → Typed.Mo T17 → Typed.Mo T18
-  s16 = λ bs. Scalar.n-room T17 20 (Syntax.tyInt Syntax.w64)
+  abbrev s22 : (bs : List.List Nat.ℕ) → Typed.Mo T23 → Typed.Mo T24
+  s22 = λ bs. Scalar.n-room T23 22 (Syntax.tyInt Syntax.w64)
 
-  abbrev s18 : (bs : List.List Nat.ℕ) → Typed.Mo T18 → Typed.Mo T20
-  s18 = λ bs. Reshare.n-back-sl-shr RelayPending.row T18 1 0 5 ref7 Row.off λ x. x
+  abbrev s24 : (bs : List.List Nat.ℕ) → Typed.Mo T24 → Typed.Mo T26
+  s24 = λ bs. Reshare.n-back-sl-shr RelayPending.row T24 1 0 5 ref7 Row.off λ x. x
 
-  abbrev s21 : (bs : List.List Nat.ℕ) → Typed.Mo T20 → Typed.Mo T23
-  s21 = λ bs. Reshare.n-back-sl-shr RelayCircuit.row T20 2 1 6 ref8 Row.off λ x. x
+  abbrev s27 : (bs : List.List Nat.ℕ) → Typed.Mo T26 → Typed.Mo T29
+  s27 = λ bs. Reshare.n-back-sl-shr RelayCircuit.row T26 2 1 6 ref8 Row.off λ x. x
 
-  abbrev s23 : (bs : List.List Nat.ℕ) → Typed.Mo T23 → Typed.Mo T25
-  s23 = λ bs. Make'.n-make (Declared.row HnsrAnswer.the-type) T23 12 λ m. Entered.struct .as-values
+  abbrev s29 : (bs : List.List Nat.ℕ) → Typed.Mo T29 → Typed.Mo T31
+  s29 = λ bs. Make'.n-make (Declared.row HnsrAnswer.the-type) T29 12 λ m. Entered.struct .as-values
       (m .1 .1 .1 .1 .1 .1 .1 .1 .1 .1 .1 .0) .0
 
-  abbrev s24 : (bs : List.List Nat.ℕ) → Typed.Both T25 T26
-  s24 = λ bs. WayStmt.k-way-copy-out T25 (Row.out 11 (T25 .locals)) (λ u. Row.drop 11 (T25 .locals) u) 13
+  abbrev s30 : (bs : List.List Nat.ℕ) → Typed.Both T31 T32
+  s30 = λ bs. WayStmt.k-way-copy-out T31 (Row.out 11 (T31 .locals)) (λ u. Row.drop 11 (T31 .locals) u) 13
       (Rows.whole (Declared'.row Firsts.the-type)) (λ u. At.getAt (Entered.the-type .parts) 1 (Entered.struct
       .as-values (u .1 .1 .1 .1 .1 .1 .1 .1 .1 .1 .1 .0))) (λ T′.
       record { locals = Row.setRow 11 (11, Rows.whole (Declared'.row Entered.the-type)) T′; slots = List.[] }) (λ u T′
       m′. Row.set 11 (11, Rows.whole (Declared'.row Entered.the-type)) (u .1 .1 .1 .1 .1 .1 .1 .1 .1 .1 .1 .0) T′ m′)
       (λ u. Unit) λ u. Unit
 
-  abbrev s25 : (bs : List.List Nat.ℕ) → Typed.Mo T26 → Typed.Mo T27
-  s25 = λ bs. Scalar.n-room T26 11 Laws'''''.mir
+  abbrev s31 : (bs : List.List Nat.ℕ) → Typed.Mo T32 → Typed.Mo T33
+  s31 = λ bs. Scalar.n-room T32 11 Laws'''''.mir
 
-  abbrev s26 : (bs : List.List Nat.ℕ) → Typed.Both T27 T28
-  s26 = λ bs. Call.callB ps·2 r·2 (claims· .4) (claims· .5) T27
-      (record { pos = 12; st = List.[]; d = 0; at = λ x. x }, tt) 21 List.[] Syntax.tyBool
+  abbrev s32 : (bs : List.List Nat.ℕ) → Typed.Both T33 T34
+  s32 = λ bs. Call.callB ps·2 r·2 (claims· .4) (claims· .5) T33
+      (record { pos = 12; st = List.[]; d = 0; at = λ x. x }, tt) 23 List.[] Syntax.tyBool
 
-  abbrev s27 : (bs : List.List Nat.ℕ) → Typed.Mo T28 → Typed.Mo T30
-  s27 = λ bs. Scalar.n-room T28 12 Laws''.mir
-
-  abbrev s28 : (bs : List.List Nat.ℕ) → Typed.Mo T30 → Typed.Mo T31
-  s28 = λ bs. Scalar.n-room T30 21 Syntax.tyBool
-
-  abbrev s29 : (bs : List.List Nat.ℕ) → Typed.Mo T31 → Typed.Mo T32
-  s29 = λ bs. Make.n-enum-make Notice.the-type T31 22 λ m. Notice.enum .make (Logic.inr (Logic.inl tt))
-
-  abbrev s30 : (bs : List.List Nat.ℕ) → Typed.Mo T32 → Typed.Mo T33
-  s30 = λ bs. Make.n-enum-make Notice.the-type T32 23 λ m. Notice.enum .make (Logic.inr (Logic.inl tt))
-
-  abbrev s31 : (bs : List.List Nat.ℕ) → Typed.Both T33 T34
-  s31 = λ bs. Call.callB ps·3 r·3 (claims· .6) (claims· .7) T33 (
-    record { pos = 10; st = List.[]; d = 0; at = λ x. x },
-    (
-      record { pos = 22; st = List.[]; d = 0; at = λ x. x },
-      (record { pos = 23; st = List.[]; d = 0; at = λ x. x }, tt),
-    ),
-  ) 14 List.[] Laws''''.mir
-
-  abbrev s32 : (bs : List.List Nat.ℕ) → Typed.Mo T34 → Typed.Mo T35
-  s32 = λ bs. Scalar.n-room T34 10 Laws''''''''''.mir
-
-  abbrev s33 : (bs : List.List Nat.ℕ) → Typed.Mo T35 → Typed.Mo T36
-  s33 = λ bs. Scalar.n-room T35 22 Laws.mir
+  abbrev s33 : (bs : List.List Nat.ℕ) → Typed.Mo T34 → Typed.Mo T36
+  s33 = λ bs. Scalar.n-room T34 12 Laws''.mir
 
   abbrev s34 : (bs : List.List Nat.ℕ) → Typed.Mo T36 → Typed.Mo T37
-  s34 = λ bs. Scalar.n-room T36 23 Laws.mir
+  s34 = λ bs. Scalar.n-room T36 23 Syntax.tyBool
 
   abbrev s36 : (bs : List.List Nat.ℕ) → Typed.Gives T37 T39
   s36 = λ bs. Relend.k-sl-relend ReservationUsage.row T37 3 25 2 7 ref9 ref2 Row.off λ x. x
@@ -1230,7 +1226,7 @@ module _ (claims· : Claims) where
       (λ x. x) (Scalar.oFld 3 ((Syntax.field 1) ∷ List.[]) (Syntax.tyInt Syntax.w64) 8 λ v. Shared.lenV (v .0))
 
   abbrev s38 : (bs : List.List Nat.ℕ) → Typed.Both T40 T41
-  s38 = λ bs. Call.callB ps·4 r·4 (claims· .8) (claims· .9) T40 (
+  s38 = λ bs. Call.callB ps·3 r·3 (claims· .6) (claims· .7) T40 (
     record { pos = 26; ty = ref2; ref = λ x. x },
     (record { pos = 7; st = List.[]; d = 0; at = λ x. x }, (record { pos = 8; st = List.[]; d = 0; at = λ x. x }, tt)),
   ) 24 (7 ∷ List.[]) Syntax.tyUnit
@@ -1274,7 +1270,7 @@ module _ (claims· : Claims) where
       ((Syntax.field 1) ∷ List.[]) (Syntax.tyInt Syntax.w64) 8 λ v. Shared.lenV (v .0))
 
   abbrev s56 : (bs : List.List Nat.ℕ) → Typed.Both T58 T59
-  s56 = λ bs. Call.callB ps·5 r·5 (claims· .10) (claims· .11) T58 (
+  s56 = λ bs. Call.callB ps·4 r·4 (claims· .8) (claims· .9) T58 (
     record { pos = 28; ty = ref3; ref = λ x. x },
     (
       record { pos = 30; ty = ref4; ref = λ x. x },
@@ -1287,7 +1283,7 @@ module _ (claims· : Claims) where
             (
               record { pos = 7; st = List.[]; d = 0; at = λ x. x },
               (
-                record { pos = 14; st = List.[]; d = 0; at = λ x. x },
+                record { pos = 10; st = List.[]; d = 0; at = λ x. x },
                 (record { pos = 13; st = List.[]; d = 0; at = λ x. x }, tt),
               ),
             ),
@@ -1304,10 +1300,10 @@ module _ (claims· : Claims) where
   s58 = λ bs. Scalar.n-room T60 7 Laws'''''''''.mir
 
   abbrev s59 : (bs : List.List Nat.ℕ) → Typed.Mo T61 → Typed.Mo T62
-  s59 = λ bs. Scalar.n-room T61 13 Laws'''.mir
+  s59 = λ bs. Scalar.n-room T61 10 Laws''''.mir
 
   abbrev s60 : (bs : List.List Nat.ℕ) → Typed.Mo T62 → Typed.Mo T63
-  s60 = λ bs. Scalar.n-room T62 14 Laws''''.mir
+  s60 = λ bs. Scalar.n-room T62 13 Laws'''.mir
 
   abbrev s62 : (bs : List.List Nat.ℕ) → Typed.Both T63 T65
   s62 = λ bs. Relend.k-back-sl RelayPending.row T63 28 1 0 8 ref7 ref3 Row.off (λ x. x) λ x. x
@@ -1325,20 +1321,20 @@ module _ (claims· : Claims) where
   abbrev s72 : (bs : List.List Nat.ℕ) → Typed.Gives T74 T75
   s72 = λ bs. Know.k-sl-known (Referent.fInt Syntax.w32) T74 5 4 ref11 Row.off 0 λ x. x
 
-  abbrev s74 : (bs : List.List Nat.ℕ) → Typed.Mo T28 → Typed.Mo T77
-  s74 = λ bs. Scalar.n-room T28 8 Laws'.mir
+  abbrev s74 : (bs : List.List Nat.ℕ) → Typed.Mo T34 → Typed.Mo T77
+  s74 = λ bs. Scalar.n-room T34 8 Laws'.mir
 
   abbrev s75 : (bs : List.List Nat.ℕ) → Typed.Mo T77 → Typed.Mo T78
-  s75 = λ bs. Scalar.n-room T77 10 Laws''''''''''.mir
+  s75 = λ bs. Scalar.n-room T77 10 Laws''''.mir
 
   abbrev s76 : (bs : List.List Nat.ℕ) → Typed.Mo T78 → Typed.Mo T79
   s76 = λ bs. Scalar.n-room T78 13 Laws'''.mir
 
   abbrev s77 : (bs : List.List Nat.ℕ) → Typed.Mo T79 → Typed.Mo T80
-  s77 = λ bs. Scalar.n-room T79 21 Syntax.tyBool
+  s77 = λ bs. Scalar.n-room T79 23 Syntax.tyBool
 
-  abbrev s78 : (bs : List.List Nat.ℕ) → Typed.Both T29 T81
-  s78 = λ bs. Call.callB ps·6 r·6 (claims· .12) (claims· .13) T29 (
+  abbrev s78 : (bs : List.List Nat.ℕ) → Typed.Both T35 T81
+  s78 = λ bs. Call.callB ps·5 r·5 (claims· .10) (claims· .11) T35 (
     record { pos = 6; st = List.[]; d = 0; at = λ x. x },
     (
       record { pos = 7; st = List.[]; d = 0; at = λ x. x },
@@ -1360,13 +1356,12 @@ module _ (claims· : Claims) where
     module _ (M : Type 1) where
       abbrev pub Closed : Type 2
       Closed = (𝓤 : URA.URA M) (H : Wp.Heap 𝓤) (A : Atoms.Atoms 𝓤) (W : Kit.Given 𝓤 H A) (𝓣 : Wp.Tables 𝓤 H) (known0 :
-          Plain.Known 𝓤 H A W 𝓣 0 ps·0 r·0 (claims· .0) (claims· .1) "hnsr_circuit::tables::question::under") (known1 :
-          Plain.Known 𝓤 H A W 𝓣 2 ps·1 r·1 (claims· .2) (claims· .3) "hnsr_circuit::calls::revoking::entry_answer") (known2
+          Plain.Known 𝓤 H A W 𝓣 0 ps·0 r·0 (claims· .0) (claims· .1) "hnsr_circuit::calls::revoking::revoking") (known1
+          : Plain.Known 𝓤 H A W 𝓣 2 ps·1 r·1 (claims· .2) (claims· .3) "hnsr_circuit::calls::revoking::entry_answer") (known2
           : Plain.Known 𝓤 H A W 𝓣 0 ps·2 r·2 (claims· .4) (claims· .5) "hnsr_circuit::answer::is_taken") (known3 :
-          Plain.Known 𝓤 H A W 𝓣 0 ps·3 r·3 (claims· .6) (claims· .7) "hnsr_circuit::calls::revoking::revoking") (known4
-          : Plain.Known 𝓤 H A W 𝓣 1 ps·4 r·4 (claims· .8) (claims· .9) "hnsr_circuit::tables::stores::drop_usage") (known5
-          : Plain.Known 𝓤 H A W 𝓣 4 ps·5 r·5 (claims· .10) (claims· .11) "hnsr_circuit::calls::revocation::revoke_all") (known6
-          : Plain.Known 𝓤 H A W 𝓣 0 ps·6 r·6 (claims· .12) (claims· .13) "hnsr_circuit::runtime::refused") →
+          Plain.Known 𝓤 H A W 𝓣 1 ps·3 r·3 (claims· .6) (claims· .7) "hnsr_circuit::tables::stores::drop_usage") (known4
+          : Plain.Known 𝓤 H A W 𝓣 4 ps·4 r·4 (claims· .8) (claims· .9) "hnsr_circuit::calls::revocation::revoke_all") (known5
+          : Plain.Known 𝓤 H A W 𝓣 0 ps·5 r·5 (claims· .10) (claims· .11) "hnsr_circuit::runtime::refused") →
           Statement.Triple 𝓤 (Wp.WpFn 𝓤 H (𝓣 .C) (𝓣 .Λ) (Function.fnOf 5 ps r xs m hs body))
           (Function.plainOf 𝓤 H A 5 ps r Pre· Post·)
 
@@ -1494,92 +1489,92 @@ module _ (claims· : Claims) where
       abbrev at40 : (bs : List.List Nat.ℕ) → Typed.TF T36 O1
       at40 = λ bs. λ Ψ. Typed.pass T36 T37 (s34 bs) (at39 bs Ψ)
 
-      abbrev at41 : (bs : List.List Nat.ℕ) → Typed.TF T35 O1
-      at41 = λ bs. λ Ψ. Typed.pass T35 T36 (s33 bs) (at40 bs Ψ)
+      abbrev at41 : (bs : List.List Nat.ℕ) → Typed.TF T34 O1
+      at41 = λ bs. λ Ψ. Typed.pass T34 T36 (s33 bs) (at40 bs Ψ)
 
-      abbrev at42 : (bs : List.List Nat.ℕ) → Typed.TF T34 O1
-      at42 = λ bs. λ Ψ. Typed.pass T34 T35 (s32 bs) (at41 bs Ψ)
+      abbrev at42 : (bs : List.List Nat.ℕ) → Typed.TF T80 O1
+      at42 = λ bs. Typed.atNext O1
 
-      abbrev at43 : (bs : List.List Nat.ℕ) → Typed.TF T33 O1
-      at43 = λ bs. λ Ψ. Typed.both (s31 bs) (at42 bs Ψ)
+      abbrev at43 : (bs : List.List Nat.ℕ) → Typed.TF T79 O1
+      at43 = λ bs. λ Ψ. Typed.pass T79 T80 (s77 bs) (at42 bs Ψ)
 
-      abbrev at44 : (bs : List.List Nat.ℕ) → Typed.TF T32 O1
-      at44 = λ bs. λ Ψ. Typed.pass T32 T33 (s30 bs) (at43 bs Ψ)
+      abbrev at44 : (bs : List.List Nat.ℕ) → Typed.TF T78 O1
+      at44 = λ bs. λ Ψ. Typed.pass T78 T79 (s76 bs) (at43 bs Ψ)
 
-      abbrev at45 : (bs : List.List Nat.ℕ) → Typed.TF T31 O1
-      at45 = λ bs. λ Ψ. Typed.pass T31 T32 (s29 bs) (at44 bs Ψ)
+      abbrev at45 : (bs : List.List Nat.ℕ) → Typed.TF T77 O1
+      at45 = λ bs. λ Ψ. Typed.pass T77 T78 (s75 bs) (at44 bs Ψ)
 
-      abbrev at46 : (bs : List.List Nat.ℕ) → Typed.TF T30 O1
-      at46 = λ bs. λ Ψ. Typed.pass T30 T31 (s28 bs) (at45 bs Ψ)
+      abbrev at46 : (bs : List.List Nat.ℕ) → Typed.TF T34 O1
+      at46 = λ bs. λ Ψ. Typed.pass T34 T77 (s74 bs) (at45 bs Ψ)
 
-      abbrev at47 : (bs : List.List Nat.ℕ) → Typed.TF T28 O1
-      at47 = λ bs. λ Ψ. Typed.pass T28 T30 (s27 bs) (at46 bs Ψ)
+      abbrev at47 : (bs : List.List Nat.ℕ) → Typed.TF T34 O1
+      at47 = λ bs. Scalar.Φcond T34 O1 23 (λ x. x) (at41 bs) (at46 bs)
 
-      abbrev at48 : (bs : List.List Nat.ℕ) → Typed.TF T80 O1
-      at48 = λ bs. Typed.atNext O1
+      abbrev at48 : (bs : List.List Nat.ℕ) → Typed.TF T84 O0
+      at48 = λ bs. Typed.atRet O0
 
-      abbrev at49 : (bs : List.List Nat.ℕ) → Typed.TF T79 O1
-      at49 = λ bs. λ Ψ. Typed.pass T79 T80 (s77 bs) (at48 bs Ψ)
+      abbrev at49 : (bs : List.List Nat.ℕ) → Typed.TF T83 O0
+      at49 = λ bs. λ Ψ. Typed.pass T83 T84 (s81 bs) (at48 bs Ψ)
 
-      abbrev at50 : (bs : List.List Nat.ℕ) → Typed.TF T78 O1
-      at50 = λ bs. λ Ψ. Typed.pass T78 T79 (s76 bs) (at49 bs Ψ)
+      abbrev at50 : (bs : List.List Nat.ℕ) → Typed.TF T82 O0
+      at50 = λ bs. λ Ψ. Typed.pass T82 T83 (s80 bs) (at49 bs Ψ)
 
-      abbrev at51 : (bs : List.List Nat.ℕ) → Typed.TF T77 O1
-      at51 = λ bs. λ Ψ. Typed.pass T77 T78 (s75 bs) (at50 bs Ψ)
+      abbrev at51 : (bs : List.List Nat.ℕ) → Typed.TF T81 O0
+      at51 = λ bs. λ Ψ. Typed.pass T81 T82 (s79 bs) (at50 bs Ψ)
 
-      abbrev at52 : (bs : List.List Nat.ℕ) → Typed.TF T28 O1
-      at52 = λ bs. λ Ψ. Typed.pass T28 T77 (s74 bs) (at51 bs Ψ)
+      abbrev at52 : (bs : List.List Nat.ℕ) → Typed.TF T35 O0
+      at52 = λ bs. λ Ψ. Typed.both (s78 bs) (at51 bs Ψ)
 
-      abbrev at53 : (bs : List.List Nat.ℕ) → Typed.TF T28 O1
-      at53 = λ bs. Scalar.Φcond T28 O1 21 (λ x. x) (at47 bs) (at52 bs)
+      abbrev at53 : (bs : List.List Nat.ℕ) → Typed.TF T34 O0
+      at53 = λ bs. λ Ψ. at47 bs (Typed.wantNext T35 O0 (at52 bs Ψ) Ψ)
 
-      abbrev at54 : (bs : List.List Nat.ℕ) → Typed.TF T84 O0
-      at54 = λ bs. Typed.atRet O0
+      abbrev at54 : (bs : List.List Nat.ℕ) → Typed.TF T33 O0
+      at54 = λ bs. λ Ψ. Typed.both (s32 bs) (at53 bs Ψ)
 
-      abbrev at55 : (bs : List.List Nat.ℕ) → Typed.TF T83 O0
-      at55 = λ bs. λ Ψ. Typed.pass T83 T84 (s81 bs) (at54 bs Ψ)
+      abbrev at55 : (bs : List.List Nat.ℕ) → Typed.TF T32 O0
+      at55 = λ bs. λ Ψ. Typed.pass T32 T33 (s31 bs) (at54 bs Ψ)
 
-      abbrev at56 : (bs : List.List Nat.ℕ) → Typed.TF T82 O0
-      at56 = λ bs. λ Ψ. Typed.pass T82 T83 (s80 bs) (at55 bs Ψ)
+      abbrev at56 : (bs : List.List Nat.ℕ) → Typed.TF T31 O0
+      at56 = λ bs. λ Ψ. Typed.both (s30 bs) (at55 bs Ψ)
 
-      abbrev at57 : (bs : List.List Nat.ℕ) → Typed.TF T81 O0
-      at57 = λ bs. λ Ψ. Typed.pass T81 T82 (s79 bs) (at56 bs Ψ)
+      abbrev at57 : (bs : List.List Nat.ℕ) → Typed.TF T29 O0
+      at57 = λ bs. λ Ψ. Typed.pass T29 T31 (s29 bs) (at56 bs Ψ)
 
       abbrev at58 : (bs : List.List Nat.ℕ) → Typed.TF T29 O0
-      at58 = λ bs. λ Ψ. Typed.both (s78 bs) (at57 bs Ψ)
+      at58 = λ bs. λ Ψ. at57 bs Ψ
 
-      abbrev at59 : (bs : List.List Nat.ℕ) → Typed.TF T28 O0
-      at59 = λ bs. λ Ψ. at53 bs (Typed.wantNext T29 O0 (at58 bs Ψ) Ψ)
+      abbrev at59 : (bs : List.List Nat.ℕ) → Typed.TF T26 O0
+      at59 = λ bs. λ Ψ. Typed.pass T26 T29 (s27 bs) (at58 bs Ψ)
 
-      abbrev at60 : (bs : List.List Nat.ℕ) → Typed.TF T27 O0
-      at60 = λ bs. λ Ψ. Typed.both (s26 bs) (at59 bs Ψ)
+      abbrev at60 : (bs : List.List Nat.ℕ) → Typed.TF T26 O0
+      at60 = λ bs. λ Ψ. at59 bs Ψ
 
       abbrev at61 : (bs : List.List Nat.ℕ) → Typed.TF T26 O0
-      at61 = λ bs. λ Ψ. Typed.pass T26 T27 (s25 bs) (at60 bs Ψ)
+      at61 = λ bs. λ Ψ. at60 bs Ψ
 
-      abbrev at62 : (bs : List.List Nat.ℕ) → Typed.TF T25 O0
-      at62 = λ bs. λ Ψ. Typed.both (s24 bs) (at61 bs Ψ)
+      abbrev at62 : (bs : List.List Nat.ℕ) → Typed.TF T24 O0
+      at62 = λ bs. λ Ψ. Typed.pass T24 T26 (s24 bs) (at61 bs Ψ)
 
-      abbrev at63 : (bs : List.List Nat.ℕ) → Typed.TF T23 O0
-      at63 = λ bs. λ Ψ. Typed.pass T23 T25 (s23 bs) (at62 bs Ψ)
+      abbrev at63 : (bs : List.List Nat.ℕ) → Typed.TF T24 O0
+      at63 = λ bs. λ Ψ. at62 bs Ψ
 
       abbrev at64 : (bs : List.List Nat.ℕ) → Typed.TF T23 O0
-      at64 = λ bs. λ Ψ. at63 bs Ψ
+      at64 = λ bs. λ Ψ. Typed.pass T23 T24 (s22 bs) (at63 bs Ψ)
 
-      abbrev at65 : (bs : List.List Nat.ℕ) → Typed.TF T20 O0
-      at65 = λ bs. λ Ψ. Typed.pass T20 T23 (s21 bs) (at64 bs Ψ)
+      abbrev at65 : (bs : List.List Nat.ℕ) → Typed.TF T22 O0
+      at65 = λ bs. λ Ψ. Typed.pass T22 T23 (s21 bs) (at64 bs Ψ)
 
-      abbrev at66 : (bs : List.List Nat.ℕ) → Typed.TF T20 O0
-      at66 = λ bs. λ Ψ. at65 bs Ψ
+      abbrev at66 : (bs : List.List Nat.ℕ) → Typed.TF T21 O0
+      at66 = λ bs. λ Ψ. Typed.pass T21 T22 (s20 bs) (at65 bs Ψ)
 
       abbrev at67 : (bs : List.List Nat.ℕ) → Typed.TF T20 O0
-      at67 = λ bs. λ Ψ. at66 bs Ψ
+      at67 = λ bs. λ Ψ. Typed.pass T20 T21 (s19 bs) (at66 bs Ψ)
 
-      abbrev at68 : (bs : List.List Nat.ℕ) → Typed.TF T18 O0
-      at68 = λ bs. λ Ψ. Typed.pass T18 T20 (s18 bs) (at67 bs Ψ)
+      abbrev at68 : (bs : List.List Nat.ℕ) → Typed.TF T19 O0
+      at68 = λ bs. λ Ψ. Typed.pass T19 T20 (s18 bs) (at67 bs Ψ)
 
       abbrev at69 : (bs : List.List Nat.ℕ) → Typed.TF T18 O0
-      at69 = λ bs. λ Ψ. at68 bs Ψ
+      at69 = λ bs. λ Ψ. Typed.both (s17 bs) (at68 bs Ψ)
 
       abbrev at70 : (bs : List.List Nat.ℕ) → Typed.TF T17 O0
       at70 = λ bs. λ Ψ. Typed.pass T17 T18 (s16 bs) (at69 bs Ψ)
@@ -1588,43 +1583,43 @@ module _ (claims· : Claims) where
       at71 = λ bs. λ Ψ. Typed.pass T16 T17 (s15 bs) (at70 bs Ψ)
 
       abbrev at72 : (bs : List.List Nat.ℕ) → Typed.TF T15 O0
-      at72 = λ bs. λ Ψ. Typed.pass T15 T16 (s14 bs) (at71 bs Ψ)
+      at72 = λ bs. λ Ψ. Typed.ask (s14 bs) (at71 bs Ψ)
 
-      abbrev at73 : (bs : List.List Nat.ℕ) → Typed.TF T14 O0
-      at73 = λ bs. λ Ψ. Typed.pass T14 T15 (s13 bs) (at72 bs Ψ)
+      abbrev at73 : (bs : List.List Nat.ℕ) → Typed.TF T13 O0
+      at73 = λ bs. λ Ψ. Typed.give (s13 bs) (at72 bs Ψ)
 
       abbrev at74 : (bs : List.List Nat.ℕ) → Typed.TF T13 O0
-      at74 = λ bs. λ Ψ. Typed.pass T13 T14 (s12 bs) (at73 bs Ψ)
+      at74 = λ bs. λ Ψ. at73 bs Ψ
 
       abbrev at75 : (bs : List.List Nat.ℕ) → Typed.TF T12 O0
-      at75 = λ bs. λ Ψ. Typed.both (s11 bs) (at74 bs Ψ)
+      at75 = λ bs. λ Ψ. Typed.ask (s11 bs) (at74 bs Ψ)
 
-      abbrev at76 : (bs : List.List Nat.ℕ) → Typed.TF T11 O0
-      at76 = λ bs. λ Ψ. Typed.pass T11 T12 (s10 bs) (at75 bs Ψ)
+      abbrev at76 : (bs : List.List Nat.ℕ) → Typed.TF T10 O0
+      at76 = λ bs. λ Ψ. Typed.give (s10 bs) (at75 bs Ψ)
 
       abbrev at77 : (bs : List.List Nat.ℕ) → Typed.TF T10 O0
-      at77 = λ bs. λ Ψ. Typed.pass T10 T11 (s9 bs) (at76 bs Ψ)
+      at77 = λ bs. λ Ψ. at76 bs Ψ
 
       abbrev at78 : (bs : List.List Nat.ℕ) → Typed.TF T9 O0
-      at78 = λ bs. λ Ψ. Typed.ask (s8 bs) (at77 bs Ψ)
+      at78 = λ bs. λ Ψ. Typed.pass T9 T10 (s8 bs) (at77 bs Ψ)
 
-      abbrev at79 : (bs : List.List Nat.ℕ) → Typed.TF T7 O0
-      at79 = λ bs. λ Ψ. Typed.give (s7 bs) (at78 bs Ψ)
+      abbrev at79 : (bs : List.List Nat.ℕ) → Typed.TF T8 O0
+      at79 = λ bs. λ Ψ. Typed.pass T8 T9 (s7 bs) (at78 bs Ψ)
 
       abbrev at80 : (bs : List.List Nat.ℕ) → Typed.TF T7 O0
-      at80 = λ bs. λ Ψ. at79 bs Ψ
+      at80 = λ bs. λ Ψ. Typed.pass T7 T8 (s6 bs) (at79 bs Ψ)
 
       abbrev at81 : (bs : List.List Nat.ℕ) → Typed.TF T6 O0
-      at81 = λ bs. λ Ψ. Typed.ask (s5 bs) (at80 bs Ψ)
+      at81 = λ bs. λ Ψ. Typed.both (s5 bs) (at80 bs Ψ)
 
-      abbrev at82 : (bs : List.List Nat.ℕ) → Typed.TF T4 O0
-      at82 = λ bs. λ Ψ. Typed.give (s4 bs) (at81 bs Ψ)
+      abbrev at82 : (bs : List.List Nat.ℕ) → Typed.TF T5 O0
+      at82 = λ bs. λ Ψ. Typed.pass T5 T6 (s4 bs) (at81 bs Ψ)
 
       abbrev at83 : (bs : List.List Nat.ℕ) → Typed.TF T4 O0
-      at83 = λ bs. λ Ψ. at82 bs Ψ
+      at83 = λ bs. λ Ψ. Typed.pass T4 T5 (s3 bs) (at82 bs Ψ)
 
       abbrev at84 : (bs : List.List Nat.ℕ) → Typed.TF T3 O0
-      at84 = λ bs. λ Ψ. Typed.both (s2 bs) (at83 bs Ψ)
+      at84 = λ bs. λ Ψ. Typed.pass T3 T4 (s2 bs) (at83 bs Ψ)
 
       abbrev at85 : (bs : List.List Nat.ℕ) → Typed.TF T2 O0
       at85 = λ bs. λ Ψ. Typed.both (s1 bs) (at84 bs Ψ)
@@ -1638,13 +1633,12 @@ module _ (claims· : Claims) where
       module _ {M : Type 1} (𝓤 : URA.URA M) (H : Wp.Heap 𝓤) (A : Atoms.Atoms 𝓤) (W : Kit.Given 𝓤 H A)
           (𝓣 : Wp.Tables 𝓤 H) where
         abbrev Knowns : Type 1
-        Knowns = Plain.Known 𝓤 H A W 𝓣 0 ps·0 r·0 (claims· .0) (claims· .1) "hnsr_circuit::tables::question::under" ×
+        Knowns = Plain.Known 𝓤 H A W 𝓣 0 ps·0 r·0 (claims· .0) (claims· .1) "hnsr_circuit::calls::revoking::revoking" ×
             Plain.Known 𝓤 H A W 𝓣 2 ps·1 r·1 (claims· .2) (claims· .3) "hnsr_circuit::calls::revoking::entry_answer" ×
             Plain.Known 𝓤 H A W 𝓣 0 ps·2 r·2 (claims· .4) (claims· .5) "hnsr_circuit::answer::is_taken" × Plain.Known 𝓤
-            H A W 𝓣 0 ps·3 r·3 (claims· .6) (claims· .7) "hnsr_circuit::calls::revoking::revoking" × Plain.Known 𝓤 H A
-            W 𝓣 1 ps·4 r·4 (claims· .8) (claims· .9) "hnsr_circuit::tables::stores::drop_usage" × Plain.Known 𝓤 H A W 𝓣
-            4 ps·5 r·5 (claims· .10) (claims· .11) "hnsr_circuit::calls::revocation::revoke_all" × Plain.Known 𝓤 H A W
-            𝓣 0 ps·6 r·6 (claims· .12) (claims· .13) "hnsr_circuit::runtime::refused"
+            H A W 𝓣 1 ps·3 r·3 (claims· .6) (claims· .7) "hnsr_circuit::tables::stores::drop_usage" × Plain.Known 𝓤 H A
+            W 𝓣 4 ps·4 r·4 (claims· .8) (claims· .9) "hnsr_circuit::calls::revocation::revoke_all" × Plain.Known 𝓤 H A
+            W 𝓣 0 ps·5 r·5 (claims· .10) (claims· .11) "hnsr_circuit::runtime::refused"
 
       module _ (κs : Lifetimes.Lfts 5) (qs : Lifetimes.Shares 5) where
         abbrev life0 : Row.Life
@@ -1683,55 +1677,52 @@ module _ (claims· : Claims) where
         abbrev l5 : Row.Entry
         l5 = (5, Relend.mslice-owed (Referent.rtF (Referent.fInt Syntax.w32)) ref11 4 11 life4)
 
-        abbrev g6 : List.List Row.Entry
-        g6 = e0 ∷ l1 ∷ e2 ∷ e3 ∷ e4 ∷ e5 ∷ e6 ∷ e7 ∷ e8 ∷ e9·1 ∷ e10·1 ∷ e11 ∷ e12 ∷ e13 ∷ e14 ∷ e15·1 ∷ List.[]
-
-        abbrev g7 : List.List Row.Entry
-        g7 = e0 ∷ l1 ∷ e2 ∷ e3 ∷ e4 ∷ e5 ∷ e6 ∷ e7 ∷ e8 ∷ e9·1 ∷ e10·1 ∷ e11 ∷ e12 ∷ e13 ∷ e14 ∷ e15 ∷ List.[]
-
-        abbrev g9 : List.List Row.Entry
-        g9 = e0 ∷ l1 ∷ l2 ∷ e3 ∷ e4 ∷ e5 ∷ e6 ∷ e7 ∷ e8 ∷ e9·1 ∷ e10·1 ∷ e11 ∷ e12 ∷ e13 ∷ e14 ∷ e15 ∷ List.[]
+        abbrev g11 : List.List Row.Entry
+        g11 = e0 ∷ l1 ∷ e2 ∷ e3 ∷ e4 ∷ e5 ∷ e6 ∷ e7 ∷ e8 ∷ e9·1 ∷ e10·1 ∷ e11 ∷ e12 ∷ e13 ∷ e14 ∷ e15 ∷ List.[]
 
         abbrev g14 : List.List Row.Entry
-        g14 = e0 ∷ l1 ∷ l2 ∷ e3 ∷ e4 ∷ e5 ∷ e6 ∷ e7 ∷ e8 ∷ e9·1 ∷ e10·1 ∷ e11·1 ∷ e12 ∷ e13 ∷ e14 ∷ e15 ∷ List.[]
-
-        abbrev g17 : List.List Row.Entry
-        g17 = e0 ∷ l1 ∷ l2 ∷ e3 ∷ e4 ∷ e5 ∷ e6 ∷ e7 ∷ e8 ∷ e9 ∷ e10·1 ∷ e11·1 ∷ e12 ∷ e13 ∷ e14 ∷ e15 ∷ List.[]
+        g14 = e0 ∷ l1 ∷ l2 ∷ e3 ∷ e4 ∷ e5 ∷ e6 ∷ e7 ∷ e8 ∷ e9·1 ∷ e10·1 ∷ e11 ∷ e12 ∷ e13 ∷ e14 ∷ e15 ∷ List.[]
 
         abbrev g19 : List.List Row.Entry
-        g19 = e0 ∷ e1 ∷ l2 ∷ e3 ∷ e4 ∷ e5 ∷ e6 ∷ e7 ∷ e8 ∷ e9 ∷ e10·1 ∷ e11·1 ∷ e12 ∷ e13 ∷ e14 ∷ e15 ∷ List.[]
+        g19 = e0 ∷ l1 ∷ l2 ∷ e3 ∷ e4 ∷ e5 ∷ e6 ∷ e7 ∷ e8 ∷ e9·1 ∷ e10·1 ∷ e11·1 ∷ e12 ∷ e13 ∷ e14 ∷ e15 ∷ List.[]
+
+        abbrev g22 : List.List Row.Entry
+        g22 = e0 ∷ l1 ∷ l2 ∷ e3 ∷ e4 ∷ e5 ∷ e6 ∷ e7 ∷ e8 ∷ e9 ∷ e10·1 ∷ e11·1 ∷ e12 ∷ e13 ∷ e14 ∷ e15 ∷ List.[]
+
+        abbrev g24 : List.List Row.Entry
+        g24 = e0 ∷ e1 ∷ l2 ∷ e3 ∷ e4 ∷ e5 ∷ e6 ∷ e7 ∷ e8 ∷ e9 ∷ e10·1 ∷ e11·1 ∷ e12 ∷ e13 ∷ e14 ∷ e15 ∷ List.[]
 
         abbrev g32 : List.List Row.Entry
-        g32 = e0 ∷ e1 ∷ e2 ∷ l3 ∷ e4 ∷ e5 ∷ e6 ∷ e7 ∷ e8 ∷ e9 ∷ e10 ∷ e11 ∷ e12 ∷ e13·1 ∷ e14·1 ∷ e15 ∷ List.[]
+        g32 = e0 ∷ e1 ∷ e2 ∷ l3 ∷ e4 ∷ e5 ∷ e6 ∷ e7 ∷ e8 ∷ e9 ∷ e10·1 ∷ e11 ∷ e12 ∷ e13·1 ∷ e14 ∷ e15 ∷ List.[]
 
         abbrev g36 : List.List Row.Entry
-        g36 = e0 ∷ e1 ∷ e2 ∷ l3 ∷ e4 ∷ e5 ∷ e6 ∷ e7 ∷ e8·1 ∷ e9 ∷ e10 ∷ e11 ∷ e12 ∷ e13·1 ∷ e14·1 ∷ e15 ∷ List.[]
+        g36 = e0 ∷ e1 ∷ e2 ∷ l3 ∷ e4 ∷ e5 ∷ e6 ∷ e7 ∷ e8·1 ∷ e9 ∷ e10·1 ∷ e11 ∷ e12 ∷ e13·1 ∷ e14 ∷ e15 ∷ List.[]
 
         abbrev g39 : List.List Row.Entry
-        g39 = e0 ∷ l1·1 ∷ e2 ∷ e3 ∷ e4 ∷ e5 ∷ e6 ∷ e7 ∷ e8·1 ∷ e9 ∷ e10 ∷ e11 ∷ e12 ∷ e13·1 ∷ e14·1 ∷ e15 ∷ List.[]
+        g39 = e0 ∷ l1·1 ∷ e2 ∷ e3 ∷ e4 ∷ e5 ∷ e6 ∷ e7 ∷ e8·1 ∷ e9 ∷ e10·1 ∷ e11 ∷ e12 ∷ e13·1 ∷ e14 ∷ e15 ∷ List.[]
 
         abbrev g42 : List.List Row.Entry
-        g42 = e0 ∷ l1·1 ∷ l2·1 ∷ e3 ∷ e4 ∷ e5 ∷ e6 ∷ e7 ∷ e8·1 ∷ e9 ∷ e10 ∷ e11 ∷ e12 ∷ e13·1 ∷ e14·1 ∷ e15 ∷ List.[]
+        g42 = e0 ∷ l1·1 ∷ l2·1 ∷ e3 ∷ e4 ∷ e5 ∷ e6 ∷ e7 ∷ e8·1 ∷ e9 ∷ e10·1 ∷ e11 ∷ e12 ∷ e13·1 ∷ e14 ∷ e15 ∷ List.[]
 
         abbrev g45 : List.List Row.Entry
-        g45 = e0 ∷ l1·1 ∷ l2·1 ∷ e3 ∷ l4 ∷ e5 ∷ e6 ∷ e7 ∷ e8·1 ∷ e9 ∷ e10 ∷ e11 ∷ e12 ∷ e13·1 ∷ e14·1 ∷ e15 ∷ List.[]
+        g45 = e0 ∷ l1·1 ∷ l2·1 ∷ e3 ∷ l4 ∷ e5 ∷ e6 ∷ e7 ∷ e8·1 ∷ e9 ∷ e10·1 ∷ e11 ∷ e12 ∷ e13·1 ∷ e14 ∷ e15 ∷ List.[]
 
         abbrev g48 : List.List Row.Entry
-        g48 = e0 ∷ l1·1 ∷ l2·1 ∷ e3 ∷ l4 ∷ l5 ∷ e6 ∷ e7 ∷ e8·1 ∷ e9 ∷ e10 ∷ e11 ∷ e12 ∷ e13·1 ∷ e14·1 ∷ e15 ∷ List.[]
+        g48 = e0 ∷ l1·1 ∷ l2·1 ∷ e3 ∷ l4 ∷ l5 ∷ e6 ∷ e7 ∷ e8·1 ∷ e9 ∷ e10·1 ∷ e11 ∷ e12 ∷ e13·1 ∷ e14 ∷ e15 ∷ List.[]
 
         abbrev g51 : List.List Row.Entry
-        g51 = e0·1 ∷ l1·1 ∷ l2·1 ∷ e3 ∷ l4 ∷ l5 ∷ e6 ∷ e7 ∷ e8·1 ∷ e9 ∷ e10 ∷ e11 ∷ e12 ∷ e13·1 ∷ e14·1 ∷ e15 ∷ List.[]
+        g51 = e0·1 ∷ l1·1 ∷ l2·1 ∷ e3 ∷ l4 ∷ l5 ∷ e6 ∷ e7 ∷ e8·1 ∷ e9 ∷ e10·1 ∷ e11 ∷ e12 ∷ e13·1 ∷ e14 ∷ e15 ∷ List.[]
 
         abbrev g54 : List.List Row.Entry
-        g54 = e0·1 ∷ l1·1 ∷ l2·1 ∷ e3 ∷ l4 ∷ l5 ∷ e6·1 ∷ e7 ∷ e8·1 ∷ e9 ∷ e10 ∷ e11 ∷ e12 ∷ e13·1 ∷ e14·1 ∷ e15 ∷
+        g54 = e0·1 ∷ l1·1 ∷ l2·1 ∷ e3 ∷ l4 ∷ l5 ∷ e6·1 ∷ e7 ∷ e8·1 ∷ e9 ∷ e10·1 ∷ e11 ∷ e12 ∷ e13·1 ∷ e14 ∷ e15 ∷
             List.[]
 
         abbrev g55 : List.List Row.Entry
-        g55 = e0·1 ∷ l1·1 ∷ l2·1 ∷ e3 ∷ l4 ∷ l5 ∷ e6·1 ∷ e7·1 ∷ e8·1 ∷ e9 ∷ e10 ∷ e11 ∷ e12 ∷ e13·1 ∷ e14·1 ∷ e15 ∷
+        g55 = e0·1 ∷ l1·1 ∷ l2·1 ∷ e3 ∷ l4 ∷ l5 ∷ e6·1 ∷ e7·1 ∷ e8·1 ∷ e9 ∷ e10·1 ∷ e11 ∷ e12 ∷ e13·1 ∷ e14 ∷ e15 ∷
             List.[]
 
         abbrev g56 : List.List Row.Entry
-        g56 = e0·1 ∷ l1·1 ∷ l2·1 ∷ e3 ∷ l4 ∷ l5 ∷ e6·1 ∷ e7·1 ∷ e8·1 ∷ e9 ∷ e10 ∷ e11 ∷ e12 ∷ e13 ∷ e14·1 ∷ e15 ∷
+        g56 = e0·1 ∷ l1·1 ∷ l2·1 ∷ e3 ∷ l4 ∷ l5 ∷ e6·1 ∷ e7·1 ∷ e8·1 ∷ e9 ∷ e10 ∷ e11 ∷ e12 ∷ e13·1 ∷ e14 ∷ e15 ∷
             List.[]
 
         abbrev g57 : List.List Row.Entry
@@ -1783,182 +1774,182 @@ module _ (claims· : Claims) where
 
         abbrev G5 : Row.Cx
         G5 = record {
-          locals = List._++_ t5 (List._++_ t1 t2);
-          slots = life0 ∷ life1 ∷ life2 ∷ life3 ∷ life4 ∷ Row.alive ∷ Row.off ∷ Row.off ∷ Row.off ∷ Row.off ∷ Row.off ∷
+          locals = List._++_ t6 (List._++_ t1 t2);
+          slots = life0 ∷ life1 ∷ life2 ∷ life3 ∷ life4 ∷ Row.off ∷ Row.off ∷ Row.off ∷ Row.off ∷ Row.off ∷ Row.off ∷
               Row.off ∷ List.[];
         }
 
         abbrev G6 : Row.Cx
         G6 = record {
-          locals = List._++_ g6 (List._++_ t1 t2);
-          slots = Row.off ∷ life1 ∷ life2 ∷ life3 ∷ life4 ∷ Row.alive ∷ Row.off ∷ Row.off ∷ Row.off ∷ Row.off ∷ Row.off
-              ∷ Row.off ∷ List.[];
+          locals = List._++_ t6 (List._++_ t7 t2);
+          slots = life0 ∷ life1 ∷ life2 ∷ life3 ∷ life4 ∷ Row.off ∷ Row.off ∷ Row.off ∷ Row.off ∷ Row.off ∷ Row.off ∷
+              Row.off ∷ List.[];
         }
 
         abbrev G7 : Row.Cx
         G7 = record {
-          locals = List._++_ g7 (List._++_ t8 t2);
-          slots = Row.off ∷ life1 ∷ life2 ∷ life3 ∷ life4 ∷ Row.alive ∷ Row.off ∷ Row.off ∷ Row.off ∷ Row.off ∷ Row.off
-              ∷ Row.off ∷ List.[];
+          locals = List._++_ t8 (List._++_ t7 t2);
+          slots = life0 ∷ life1 ∷ life2 ∷ life3 ∷ life4 ∷ Row.off ∷ Row.off ∷ Row.off ∷ Row.off ∷ Row.off ∷ Row.off ∷
+              Row.off ∷ List.[];
         }
 
         abbrev G8 : Row.Cx
         G8 = record {
-          locals = List._++_ g7 (List._++_ t8 t2);
-          slots = Row.off ∷ life1 ∷ life2 ∷ life3 ∷ life4 ∷ Row.alive ∷ Row.alive ∷ Row.off ∷ Row.off ∷ Row.off ∷
-              Row.off ∷ Row.off ∷ List.[];
+          locals = List._++_ t9 (List._++_ t7 t2);
+          slots = life0 ∷ life1 ∷ life2 ∷ life3 ∷ life4 ∷ Row.off ∷ Row.off ∷ Row.off ∷ Row.off ∷ Row.off ∷ Row.off ∷
+              Row.off ∷ List.[];
         }
 
         abbrev G9 : Row.Cx
         G9 = record {
-          locals = List._++_ g9 (List._++_ t10 t2);
-          slots = Row.off ∷ Row.off ∷ life2 ∷ life3 ∷ life4 ∷ Row.alive ∷ Row.alive ∷ Row.off ∷ Row.off ∷ Row.off ∷
-              Row.off ∷ Row.off ∷ List.[];
+          locals = List._++_ t10 (List._++_ t7 t2);
+          slots = life0 ∷ life1 ∷ life2 ∷ life3 ∷ life4 ∷ Row.off ∷ Row.off ∷ Row.off ∷ Row.off ∷ Row.off ∷ Row.off ∷
+              Row.off ∷ List.[];
         }
 
         abbrev G10 : Row.Cx
         G10 = record {
-          locals = List._++_ g9 (List._++_ t11 t2);
-          slots = Row.off ∷ Row.off ∷ life2 ∷ life3 ∷ life4 ∷ Row.alive ∷ Row.alive ∷ Row.off ∷ Row.off ∷ Row.off ∷
-              Row.off ∷ Row.off ∷ List.[];
+          locals = List._++_ t10 (List._++_ t1 t2);
+          slots = life0 ∷ life1 ∷ life2 ∷ life3 ∷ life4 ∷ Row.off ∷ Row.off ∷ Row.off ∷ Row.off ∷ Row.off ∷ Row.off ∷
+              Row.off ∷ List.[];
         }
 
         abbrev G11 : Row.Cx
         G11 = record {
-          locals = List._++_ g9 (List._++_ t12 t2);
-          slots = Row.off ∷ Row.off ∷ life2 ∷ life3 ∷ life4 ∷ Row.alive ∷ Row.alive ∷ Row.off ∷ Row.off ∷ Row.off ∷
-              Row.off ∷ Row.off ∷ List.[];
+          locals = List._++_ t10 (List._++_ t1 t2);
+          slots = life0 ∷ life1 ∷ life2 ∷ life3 ∷ life4 ∷ Row.alive ∷ Row.off ∷ Row.off ∷ Row.off ∷ Row.off ∷ Row.off ∷
+              Row.off ∷ List.[];
         }
 
         abbrev G12 : Row.Cx
         G12 = record {
-          locals = List._++_ g9 (List._++_ t13 t2);
-          slots = Row.off ∷ Row.off ∷ life2 ∷ life3 ∷ life4 ∷ Row.alive ∷ Row.alive ∷ Row.off ∷ Row.off ∷ Row.off ∷
-              Row.off ∷ Row.off ∷ List.[];
+          locals = List._++_ g11 (List._++_ t12 t2);
+          slots = Row.off ∷ life1 ∷ life2 ∷ life3 ∷ life4 ∷ Row.alive ∷ Row.off ∷ Row.off ∷ Row.off ∷ Row.off ∷ Row.off
+              ∷ Row.off ∷ List.[];
         }
 
         abbrev G13 : Row.Cx
         G13 = record {
-          locals = List._++_ g14 (List._++_ t13 t2);
-          slots = Row.off ∷ Row.off ∷ life2 ∷ life3 ∷ life4 ∷ Row.alive ∷ Row.alive ∷ Row.off ∷ Row.off ∷ Row.off ∷
-              Row.off ∷ Row.off ∷ List.[];
+          locals = List._++_ g11 (List._++_ t13 t2);
+          slots = Row.off ∷ life1 ∷ life2 ∷ life3 ∷ life4 ∷ Row.alive ∷ Row.off ∷ Row.off ∷ Row.off ∷ Row.off ∷ Row.off
+              ∷ Row.off ∷ List.[];
         }
 
         abbrev G14 : Row.Cx
         G14 = record {
-          locals = List._++_ g14 (List._++_ t15 t2);
-          slots = Row.off ∷ Row.off ∷ life2 ∷ life3 ∷ life4 ∷ Row.alive ∷ Row.alive ∷ Row.off ∷ Row.off ∷ Row.off ∷
+          locals = List._++_ g11 (List._++_ t13 t2);
+          slots = Row.off ∷ life1 ∷ life2 ∷ life3 ∷ life4 ∷ Row.alive ∷ Row.alive ∷ Row.off ∷ Row.off ∷ Row.off ∷
               Row.off ∷ Row.off ∷ List.[];
         }
 
         abbrev G15 : Row.Cx
         G15 = record {
-          locals = List._++_ g14 (List._++_ t16 t2);
+          locals = List._++_ g14 (List._++_ t15 t2);
           slots = Row.off ∷ Row.off ∷ life2 ∷ life3 ∷ life4 ∷ Row.alive ∷ Row.alive ∷ Row.off ∷ Row.off ∷ Row.off ∷
               Row.off ∷ Row.off ∷ List.[];
         }
 
         abbrev G16 : Row.Cx
         G16 = record {
-          locals = List._++_ g17 (List._++_ t16 t2);
+          locals = List._++_ g14 (List._++_ t16 t2);
           slots = Row.off ∷ Row.off ∷ life2 ∷ life3 ∷ life4 ∷ Row.alive ∷ Row.alive ∷ Row.off ∷ Row.off ∷ Row.off ∷
               Row.off ∷ Row.off ∷ List.[];
         }
 
         abbrev G17 : Row.Cx
         G17 = record {
-          locals = List._++_ g17 (List._++_ t18 t2);
+          locals = List._++_ g14 (List._++_ t17 t2);
           slots = Row.off ∷ Row.off ∷ life2 ∷ life3 ∷ life4 ∷ Row.alive ∷ Row.alive ∷ Row.off ∷ Row.off ∷ Row.off ∷
               Row.off ∷ Row.off ∷ List.[];
         }
 
         abbrev G18 : Row.Cx
         G18 = record {
-          locals = List._++_ g17 (List._++_ t1 t2);
+          locals = List._++_ g14 (List._++_ t18 t2);
           slots = Row.off ∷ Row.off ∷ life2 ∷ life3 ∷ life4 ∷ Row.alive ∷ Row.alive ∷ Row.off ∷ Row.off ∷ Row.off ∷
               Row.off ∷ Row.off ∷ List.[];
         }
 
         abbrev G19 : Row.Cx
         G19 = record {
-          locals = List._++_ g17 (List._++_ t1 t2);
-          slots = Row.off ∷ Row.off ∷ life2 ∷ life3 ∷ life4 ∷ Row.dead ∷ Row.alive ∷ Row.off ∷ Row.off ∷ Row.off ∷
+          locals = List._++_ g19 (List._++_ t18 t2);
+          slots = Row.off ∷ Row.off ∷ life2 ∷ life3 ∷ life4 ∷ Row.alive ∷ Row.alive ∷ Row.off ∷ Row.off ∷ Row.off ∷
               Row.off ∷ Row.off ∷ List.[];
         }
 
         abbrev G20 : Row.Cx
         G20 = record {
-          locals = List._++_ g19 (List._++_ t1 t2);
-          slots = life0 ∷ Row.off ∷ life2 ∷ life3 ∷ life4 ∷ Row.dead ∷ Row.alive ∷ Row.off ∷ Row.off ∷ Row.off ∷
+          locals = List._++_ g19 (List._++_ t20 t2);
+          slots = Row.off ∷ Row.off ∷ life2 ∷ life3 ∷ life4 ∷ Row.alive ∷ Row.alive ∷ Row.off ∷ Row.off ∷ Row.off ∷
               Row.off ∷ Row.off ∷ List.[];
         }
 
         abbrev G21 : Row.Cx
         G21 = record {
-          locals = List._++_ g19 (List._++_ t1 t2);
-          slots = life0 ∷ Row.off ∷ life2 ∷ life3 ∷ life4 ∷ Row.off ∷ Row.alive ∷ Row.off ∷ Row.off ∷ Row.off ∷ Row.off
-              ∷ Row.off ∷ List.[];
+          locals = List._++_ g19 (List._++_ t21 t2);
+          slots = Row.off ∷ Row.off ∷ life2 ∷ life3 ∷ life4 ∷ Row.alive ∷ Row.alive ∷ Row.off ∷ Row.off ∷ Row.off ∷
+              Row.off ∷ Row.off ∷ List.[];
         }
 
         abbrev G22 : Row.Cx
         G22 = record {
-          locals = List._++_ g19 (List._++_ t1 t2);
-          slots = life0 ∷ Row.off ∷ life2 ∷ life3 ∷ life4 ∷ Row.off ∷ Row.dead ∷ Row.off ∷ Row.off ∷ Row.off ∷ Row.off
-              ∷ Row.off ∷ List.[];
+          locals = List._++_ g22 (List._++_ t21 t2);
+          slots = Row.off ∷ Row.off ∷ life2 ∷ life3 ∷ life4 ∷ Row.alive ∷ Row.alive ∷ Row.off ∷ Row.off ∷ Row.off ∷
+              Row.off ∷ Row.off ∷ List.[];
         }
 
         abbrev G23 : Row.Cx
         G23 = record {
-          locals = List._++_ t20 (List._++_ t1 t2);
-          slots = life0 ∷ life1 ∷ life2 ∷ life3 ∷ life4 ∷ Row.off ∷ Row.dead ∷ Row.off ∷ Row.off ∷ Row.off ∷ Row.off ∷
-              Row.off ∷ List.[];
+          locals = List._++_ g22 (List._++_ t23 t2);
+          slots = Row.off ∷ Row.off ∷ life2 ∷ life3 ∷ life4 ∷ Row.alive ∷ Row.alive ∷ Row.off ∷ Row.off ∷ Row.off ∷
+              Row.off ∷ Row.off ∷ List.[];
         }
 
         abbrev G24 : Row.Cx
         G24 = record {
-          locals = List._++_ t20 (List._++_ t1 t2);
-          slots = life0 ∷ life1 ∷ life2 ∷ life3 ∷ life4 ∷ Row.off ∷ Row.off ∷ Row.off ∷ Row.off ∷ Row.off ∷ Row.off ∷
-              Row.off ∷ List.[];
+          locals = List._++_ g22 (List._++_ t1 t2);
+          slots = Row.off ∷ Row.off ∷ life2 ∷ life3 ∷ life4 ∷ Row.alive ∷ Row.alive ∷ Row.off ∷ Row.off ∷ Row.off ∷
+              Row.off ∷ Row.off ∷ List.[];
         }
 
         abbrev G25 : Row.Cx
         G25 = record {
-          locals = List._++_ t21 (List._++_ t1 t2);
-          slots = life0 ∷ life1 ∷ life2 ∷ life3 ∷ life4 ∷ Row.off ∷ Row.off ∷ Row.off ∷ Row.off ∷ Row.off ∷ Row.off ∷
-              Row.off ∷ List.[];
+          locals = List._++_ g22 (List._++_ t1 t2);
+          slots = Row.off ∷ Row.off ∷ life2 ∷ life3 ∷ life4 ∷ Row.dead ∷ Row.alive ∷ Row.off ∷ Row.off ∷ Row.off ∷
+              Row.off ∷ Row.off ∷ List.[];
         }
 
         abbrev G26 : Row.Cx
         G26 = record {
-          locals = List._++_ t22 (List._++_ t1 t2);
-          slots = life0 ∷ life1 ∷ life2 ∷ life3 ∷ life4 ∷ Row.off ∷ Row.off ∷ Row.off ∷ Row.off ∷ Row.off ∷ Row.off ∷
-              Row.off ∷ List.[];
+          locals = List._++_ g24 (List._++_ t1 t2);
+          slots = life0 ∷ Row.off ∷ life2 ∷ life3 ∷ life4 ∷ Row.dead ∷ Row.alive ∷ Row.off ∷ Row.off ∷ Row.off ∷
+              Row.off ∷ Row.off ∷ List.[];
         }
 
         abbrev G27 : Row.Cx
         G27 = record {
-          locals = List._++_ t23 (List._++_ t1 t2);
-          slots = life0 ∷ life1 ∷ life2 ∷ life3 ∷ life4 ∷ Row.off ∷ Row.off ∷ Row.off ∷ Row.off ∷ Row.off ∷ Row.off ∷
-              Row.off ∷ List.[];
+          locals = List._++_ g24 (List._++_ t1 t2);
+          slots = life0 ∷ Row.off ∷ life2 ∷ life3 ∷ life4 ∷ Row.off ∷ Row.alive ∷ Row.off ∷ Row.off ∷ Row.off ∷ Row.off
+              ∷ Row.off ∷ List.[];
         }
 
         abbrev G28 : Row.Cx
         G28 = record {
-          locals = List._++_ t23 (List._++_ t24 t2);
-          slots = life0 ∷ life1 ∷ life2 ∷ life3 ∷ life4 ∷ Row.off ∷ Row.off ∷ Row.off ∷ Row.off ∷ Row.off ∷ Row.off ∷
-              Row.off ∷ List.[];
+          locals = List._++_ g24 (List._++_ t1 t2);
+          slots = life0 ∷ Row.off ∷ life2 ∷ life3 ∷ life4 ∷ Row.off ∷ Row.dead ∷ Row.off ∷ Row.off ∷ Row.off ∷ Row.off
+              ∷ Row.off ∷ List.[];
         }
 
         abbrev G29 : Row.Cx
         G29 = record {
           locals = List._++_ t25 (List._++_ t1 t2);
-          slots = life0 ∷ life1 ∷ life2 ∷ life3 ∷ life4 ∷ Row.off ∷ Row.off ∷ Row.off ∷ Row.off ∷ Row.off ∷ Row.off ∷
+          slots = life0 ∷ life1 ∷ life2 ∷ life3 ∷ life4 ∷ Row.off ∷ Row.dead ∷ Row.off ∷ Row.off ∷ Row.off ∷ Row.off ∷
               Row.off ∷ List.[];
         }
 
         abbrev G30 : Row.Cx
         G30 = record {
-          locals = List._++_ t26 (List._++_ t24 t2);
+          locals = List._++_ t25 (List._++_ t1 t2);
           slots = life0 ∷ life1 ∷ life2 ∷ life3 ∷ life4 ∷ Row.off ∷ Row.off ∷ Row.off ∷ Row.off ∷ Row.off ∷ Row.off ∷
               Row.off ∷ List.[];
         }
@@ -1972,49 +1963,49 @@ module _ (claims· : Claims) where
 
         abbrev G32 : Row.Cx
         G32 = record {
-          locals = List._++_ t26 (List._++_ t27 t2);
+          locals = List._++_ t27 (List._++_ t1 t2);
           slots = life0 ∷ life1 ∷ life2 ∷ life3 ∷ life4 ∷ Row.off ∷ Row.off ∷ Row.off ∷ Row.off ∷ Row.off ∷ Row.off ∷
               Row.off ∷ List.[];
         }
 
         abbrev G33 : Row.Cx
         G33 = record {
-          locals = List._++_ t26 (List._++_ t28 t2);
+          locals = List._++_ t28 (List._++_ t1 t2);
           slots = life0 ∷ life1 ∷ life2 ∷ life3 ∷ life4 ∷ Row.off ∷ Row.off ∷ Row.off ∷ Row.off ∷ Row.off ∷ Row.off ∷
               Row.off ∷ List.[];
         }
 
         abbrev G34 : Row.Cx
         G34 = record {
-          locals = List._++_ t29 (List._++_ t28 t2);
+          locals = List._++_ t28 (List._++_ t29 t2);
           slots = life0 ∷ life1 ∷ life2 ∷ life3 ∷ life4 ∷ Row.off ∷ Row.off ∷ Row.off ∷ Row.off ∷ Row.off ∷ Row.off ∷
               Row.off ∷ List.[];
         }
 
         abbrev G35 : Row.Cx
         G35 = record {
-          locals = List._++_ t30 (List._++_ t28 t2);
+          locals = List._++_ t30 (List._++_ t1 t2);
           slots = life0 ∷ life1 ∷ life2 ∷ life3 ∷ life4 ∷ Row.off ∷ Row.off ∷ Row.off ∷ Row.off ∷ Row.off ∷ Row.off ∷
               Row.off ∷ List.[];
         }
 
         abbrev G36 : Row.Cx
         G36 = record {
-          locals = List._++_ t30 (List._++_ t31 t2);
+          locals = List._++_ t31 (List._++_ t29 t2);
           slots = life0 ∷ life1 ∷ life2 ∷ life3 ∷ life4 ∷ Row.off ∷ Row.off ∷ Row.off ∷ Row.off ∷ Row.off ∷ Row.off ∷
               Row.off ∷ List.[];
         }
 
         abbrev G37 : Row.Cx
         G37 = record {
-          locals = List._++_ t30 (List._++_ t1 t2);
+          locals = List._++_ t31 (List._++_ t1 t2);
           slots = life0 ∷ life1 ∷ life2 ∷ life3 ∷ life4 ∷ Row.off ∷ Row.off ∷ Row.off ∷ Row.off ∷ Row.off ∷ Row.off ∷
               Row.off ∷ List.[];
         }
 
         abbrev G38 : Row.Cx
         G38 = record {
-          locals = List._++_ t30 (List._++_ t1 t2);
+          locals = List._++_ t31 (List._++_ t1 t2);
           slots = life0 ∷ life1 ∷ life2 ∷ life3 ∷ life4 ∷ Row.off ∷ Row.off ∷ Row.alive ∷ Row.off ∷ Row.off ∷ Row.off ∷
               Row.off ∷ List.[];
         }
@@ -2287,28 +2278,28 @@ module _ (claims· : Claims) where
 
         abbrev G77 : Row.Cx
         G77 = record {
-          locals = List._++_ t63 (List._++_ t24 t2);
+          locals = List._++_ t63 (List._++_ t29 t2);
           slots = life0 ∷ life1 ∷ life2 ∷ life3 ∷ life4 ∷ Row.off ∷ Row.off ∷ Row.off ∷ Row.off ∷ Row.off ∷ Row.off ∷
               Row.off ∷ List.[];
         }
 
         abbrev G78 : Row.Cx
         G78 = record {
-          locals = List._++_ t64 (List._++_ t24 t2);
+          locals = List._++_ t64 (List._++_ t29 t2);
           slots = life0 ∷ life1 ∷ life2 ∷ life3 ∷ life4 ∷ Row.off ∷ Row.off ∷ Row.off ∷ Row.off ∷ Row.off ∷ Row.off ∷
               Row.off ∷ List.[];
         }
 
         abbrev G79 : Row.Cx
         G79 = record {
-          locals = List._++_ t25 (List._++_ t24 t2);
+          locals = List._++_ t30 (List._++_ t29 t2);
           slots = life0 ∷ life1 ∷ life2 ∷ life3 ∷ life4 ∷ Row.off ∷ Row.off ∷ Row.off ∷ Row.off ∷ Row.off ∷ Row.off ∷
               Row.off ∷ List.[];
         }
 
         abbrev G80 : Row.Cx
         G80 = record {
-          locals = List._++_ t25 (List._++_ t1 t2);
+          locals = List._++_ t30 (List._++_ t1 t2);
           slots = life0 ∷ life1 ∷ life2 ∷ life3 ∷ life4 ∷ Row.off ∷ Row.off ∷ Row.off ∷ Row.off ∷ Row.off ∷ Row.off ∷
               Row.off ∷ List.[];
         }
@@ -2345,7 +2336,7 @@ module _ (claims· : Claims) where
         Δ0 = record { next = Option.none; exits = List.[]; returns = Option.some G1 }
 
         abbrev Δ1 : Typed.Outs
-        Δ1 = Typed.withNext (Option.some G29) Δ0
+        Δ1 = Typed.withNext (Option.some G35) Δ0
 
         module _ {M : Type 1} (𝓤 : URA.URA M) (H : Wp.Heap 𝓤) (A : Atoms.Atoms 𝓤) (W : Kit.Given 𝓤 H A)
             (𝓣 : Wp.Tables 𝓤 H) (known : Knowns 𝓤 H A W 𝓣) (bs : List.List Nat.ℕ)
@@ -2416,12 +2407,12 @@ module _ (claims· : Claims) where
 
           d14 : Typed.Typed 𝓤 H A 𝓣 E G62 b27 Δ1 (at14 bs)
           d14 = Typed.g-pre 𝓤 H A W 𝓣 E G62 G63 b27 Δ1 (Typed.pass T62 T63 (s60 bs)) (at13 bs) (Scalar.g-room 𝓤 H A W E
-              G62 14 Laws''''.mir (Local.room-whole 𝓤 H A W (Declared'.row Revoking.the-type) Laws''''.mir Path.refl))
-              d13
+              G62 13 Laws'''.mir (Local.room-whole 𝓤 H A W (Declared'.row Firsts.the-type) Laws'''.mir Path.refl)) d13
 
           d15 : Typed.Typed 𝓤 H A 𝓣 E G61 b27 Δ1 (at15 bs)
           d15 = Typed.g-pre 𝓤 H A W 𝓣 E G61 G62 b27 Δ1 (Typed.pass T61 T62 (s59 bs)) (at14 bs) (Scalar.g-room 𝓤 H A W E
-              G61 13 Laws'''.mir (Local.room-whole 𝓤 H A W (Declared'.row Firsts.the-type) Laws'''.mir Path.refl)) d14
+              G61 10 Laws''''.mir (Local.room-whole 𝓤 H A W (Declared'.row Revoking.the-type) Laws''''.mir Path.refl))
+              d14
 
           d16 : Typed.Typed 𝓤 H A 𝓣 E G60 b27 Δ1 (at16 bs)
           d16 = Typed.g-pre 𝓤 H A W 𝓣 E G60 G61 b27 Δ1 (Typed.pass T60 T61 (s58 bs)) (at15 bs) (Scalar.g-room 𝓤 H A W E
@@ -2435,7 +2426,7 @@ module _ (claims· : Claims) where
 
           d18 : Typed.Typed 𝓤 H A 𝓣 E G58 b28 Δ1 (at18 bs)
           d18 = Typed.s-seq 𝓤 H A W 𝓣 E G58 G59 b26 b27 Δ1 (Typed.both (s56 bs)) (at17 bs) (Plain.t-call-plain 𝓤 H A W
-              𝓣 4 ps·5 r·5 (claims· .10) (claims· .11) "hnsr_circuit::calls::revocation::revoke_all" (known .5) E
+              𝓣 4 ps·4 r·4 (claims· .8) (claims· .9) "hnsr_circuit::calls::revocation::revoke_all" (known .4) E
               (λ pos β. β) G58 (
                 record { pos = 28; ty = ref3; ref = λ x. x },
                 (
@@ -2449,7 +2440,7 @@ module _ (claims· : Claims) where
                         (
                           record { pos = 7; st = List.[]; d = 0; at = λ x. x },
                           (
-                            record { pos = 14; st = List.[]; d = 0; at = λ x. x },
+                            record { pos = 10; st = List.[]; d = 0; at = λ x. x },
                             (record { pos = 13; st = List.[]; d = 0; at = λ x. x }, tt),
                           ),
                         ),
@@ -2929,7 +2920,7 @@ module _ (claims· : Claims) where
 
           d36 : Typed.Typed 𝓤 H A 𝓣 E G40 b37 Δ1 (at36 bs)
           d36 = Typed.s-seq 𝓤 H A W 𝓣 E G40 G41 b17 b36 Δ1 (Typed.both (s38 bs)) (at35 bs) (Plain.t-call-plain 𝓤 H A W
-              𝓣 1 ps·4 r·4 (claims· .8) (claims· .9) "hnsr_circuit::tables::stores::drop_usage" (known .4) E
+              𝓣 1 ps·3 r·3 (claims· .6) (claims· .7) "hnsr_circuit::tables::stores::drop_usage" (known .3) E
               (λ pos β. β) G40 (
                 record { pos = 26; ty = ref2; ref = λ x. x },
                 (
@@ -3061,133 +3052,63 @@ module _ (claims· : Claims) where
 
           d40 : Typed.Typed 𝓤 H A 𝓣 E G36 b39 Δ1 (at40 bs)
           d40 = Typed.g-pre 𝓤 H A W 𝓣 E G36 G37 b39 Δ1 (Typed.pass T36 T37 (s34 bs)) (at39 bs) (Scalar.g-room 𝓤 H A W E
-              G36 23 Laws.mir (Local.room-whole 𝓤 H A W (Declared.row Notice.the-type) Laws.mir Path.refl)) d39
+              G36 23 Syntax.tyBool (Scalar.room-sc 𝓤 H A W Row.sBool)) d39
 
-          d41 : Typed.Typed 𝓤 H A 𝓣 E G35 b39 Δ1 (at41 bs)
-          d41 = Typed.g-pre 𝓤 H A W 𝓣 E G35 G36 b39 Δ1 (Typed.pass T35 T36 (s33 bs)) (at40 bs) (Scalar.g-room 𝓤 H A W E
-              G35 22 Laws.mir (Local.room-whole 𝓤 H A W (Declared.row Notice.the-type) Laws.mir Path.refl)) d40
+          d41 : Typed.Typed 𝓤 H A 𝓣 E G34 b39 Δ1 (at41 bs)
+          d41 = Typed.g-pre 𝓤 H A W 𝓣 E G34 G36 b39 Δ1 (Typed.pass T34 T36 (s33 bs)) (at40 bs) (Scalar.g-room 𝓤 H A W E
+              G34 12 Laws''.mir (Local.room-whole 𝓤 H A W (Declared.row HnsrAnswer.the-type) Laws''.mir Path.refl)) d40
 
-          d42 : Typed.Typed 𝓤 H A 𝓣 E G34 b39 Δ1 (at42 bs)
-          d42 = Typed.g-pre 𝓤 H A W 𝓣 E G34 G35 b39 Δ1 (Typed.pass T34 T35 (s32 bs)) (at41 bs) (Scalar.g-room 𝓤 H A W E
-              G34 10 Laws''''''''''.mir (Local.room-whole 𝓤 H A W (Declared'.row Question.the-type) Laws''''''''''.mir
-              Path.refl)) d41
+          d42 : Typed.Typed 𝓤 H A 𝓣 E G80 b40 Δ1 (at42 bs)
+          d42 = Typed.t-skip 𝓤 H A W 𝓣 E Δ1 tt
 
-          d43 : Typed.Typed 𝓤 H A 𝓣 E G33 b40 Δ1 (at43 bs)
-          d43 = Typed.s-seq 𝓤 H A W 𝓣 E G33 G34 b14 b39 Δ1 (Typed.both (s31 bs)) (at42 bs) (Plain.t-call-plain 𝓤 H A W
-              𝓣 0 ps·3 r·3 (claims· .6) (claims· .7) "hnsr_circuit::calls::revoking::revoking" (known .3) E
-              (λ pos β. β) G33 (
-                record { pos = 10; st = List.[]; d = 0; at = λ x. x },
-                (
-                  record { pos = 22; st = List.[]; d = 0; at = λ x. x },
-                  (record { pos = 23; st = List.[]; d = 0; at = λ x. x }, tt),
-                ),
-              ) 14 List.[] (Call.sub-id 𝓤 H A W (G33 .slots)) (
-                (
-                  Yields.yields-copy 𝓤 H A W (λ ρ. Unit) (Declared'.row Question.the-type) Path.refl (Copies.cStruct
-                      Question.the-type Laws''''''''''.the-laws Laws''''''''''.the-copy .copy 𝓤 H A W)
-                      (Rows.whole (Declared'.row Question.the-type)) (λ x. x) (λ x. x) (λ ρ told. Local.mem-whole 𝓤 H A
-                      W (Declared'.row Question.the-type) ρ) λ ρ told. Local.whole-mem 𝓤 H A W
-                      (Declared'.row Question.the-type) ρ,
-                  Path.refl,
-                ),
-                (
-                  (
-                    Yields.yields-copy 𝓤 H A W (λ ρ. Unit) (Declared.row Notice.the-type) Path.refl (Copies.cEnum
-                        Notice.the-type Laws.the-laws Laws.the-copy .copy 𝓤 H A W)
-                        (Rows.whole (Declared.row Notice.the-type)) (λ x. x) (λ x. x) (λ ρ told. Local.mem-whole 𝓤 H A
-                        W (Declared.row Notice.the-type) ρ) λ ρ told. Local.whole-mem 𝓤 H A W
-                        (Declared.row Notice.the-type) ρ,
-                    Path.refl,
-                  ),
-                  (
-                    (
-                      Yields.yields-copy 𝓤 H A W (λ ρ. Unit) (Declared.row Notice.the-type) Path.refl (Copies.cEnum
-                          Notice.the-type Laws.the-laws Laws.the-copy .copy 𝓤 H A W)
-                          (Rows.whole (Declared.row Notice.the-type)) (λ x. x) (λ x. x) (λ ρ told. Local.mem-whole 𝓤 H
-                          A W (Declared.row Notice.the-type) ρ) λ ρ told. Local.whole-mem 𝓤 H A W
-                          (Declared.row Notice.the-type) ρ,
-                      Path.refl,
-                    ),
-                    tt,
-                  ),
-                ),
-              ) (Reads'.room-gone 𝓤 H A Laws''''.mir) tt Path.refl) d42
+          d43 : Typed.Typed 𝓤 H A 𝓣 E G79 b40 Δ1 (at43 bs)
+          d43 = Typed.g-pre 𝓤 H A W 𝓣 E G79 G80 b40 Δ1 (Typed.pass T79 T80 (s77 bs)) (at42 bs) (Scalar.g-room 𝓤 H A W E
+              G79 23 Syntax.tyBool (Scalar.room-sc 𝓤 H A W Row.sBool)) d42
 
-          d44 : Typed.Typed 𝓤 H A 𝓣 E G32 b41 Δ1 (at44 bs)
-          d44 = Typed.s-seq 𝓤 H A W 𝓣 E G32 G33 b13 b40 Δ1 (Typed.pass T32 T33 (s30 bs)) (at43 bs) (Make.t-enum-make-wt
-              𝓤 H A W E 𝓣 Notice.the-type Laws.the-laws Laws.the-plain tt G32 23 ((Scalar.oInt Syntax.w8 1) ∷ List.[])
-              (λ m. Notice.enum .make (Logic.inr (Logic.inl tt))) (Reads'.room-gone 𝓤 H A Laws.mir) (tt, tt) Path.refl (λ
-              m wa. Make.made-val Notice.the-type Laws.the-laws List.[] (Notice.enum .make (Logic.inr (Logic.inl tt)))
-              tt (wa .1)) λ m wa. Make.made-is Notice.the-type Laws.the-laws List.[]
-              (Notice.enum .make (Logic.inr (Logic.inl tt))) tt (wa .1)) d43
+          d44 : Typed.Typed 𝓤 H A 𝓣 E G78 b40 Δ1 (at44 bs)
+          d44 = Typed.g-pre 𝓤 H A W 𝓣 E G78 G79 b40 Δ1 (Typed.pass T78 T79 (s76 bs)) (at43 bs) (Scalar.g-room 𝓤 H A W E
+              G78 13 Laws'''.mir (Local.room-whole 𝓤 H A W (Declared'.row Firsts.the-type) Laws'''.mir Path.refl)) d43
 
-          d45 : Typed.Typed 𝓤 H A 𝓣 E G31 b42 Δ1 (at45 bs)
-          d45 = Typed.s-seq 𝓤 H A W 𝓣 E G31 G32 b12 b41 Δ1 (Typed.pass T31 T32 (s29 bs)) (at44 bs) (Make.t-enum-make-wt
-              𝓤 H A W E 𝓣 Notice.the-type Laws.the-laws Laws.the-plain tt G31 22 ((Scalar.oInt Syntax.w8 1) ∷ List.[])
-              (λ m. Notice.enum .make (Logic.inr (Logic.inl tt))) (Reads'.room-gone 𝓤 H A Laws.mir) (tt, tt) Path.refl (λ
-              m wa. Make.made-val Notice.the-type Laws.the-laws List.[] (Notice.enum .make (Logic.inr (Logic.inl tt)))
-              tt (wa .1)) λ m wa. Make.made-is Notice.the-type Laws.the-laws List.[]
-              (Notice.enum .make (Logic.inr (Logic.inl tt))) tt (wa .1)) d44
+          d45 : Typed.Typed 𝓤 H A 𝓣 E G77 b40 Δ1 (at45 bs)
+          d45 = Typed.g-pre 𝓤 H A W 𝓣 E G77 G78 b40 Δ1 (Typed.pass T77 T78 (s75 bs)) (at44 bs) (Scalar.g-room 𝓤 H A W E
+              G77 10 Laws''''.mir (Local.room-whole 𝓤 H A W (Declared'.row Revoking.the-type) Laws''''.mir Path.refl))
+              d44
 
-          d46 : Typed.Typed 𝓤 H A 𝓣 E G30 b42 Δ1 (at46 bs)
-          d46 = Typed.g-pre 𝓤 H A W 𝓣 E G30 G31 b42 Δ1 (Typed.pass T30 T31 (s28 bs)) (at45 bs) (Scalar.g-room 𝓤 H A W E
-              G30 21 Syntax.tyBool (Scalar.room-sc 𝓤 H A W Row.sBool)) d45
+          d46 : Typed.Typed 𝓤 H A 𝓣 E G34 b40 Δ1 (at46 bs)
+          d46 = Typed.g-pre 𝓤 H A W 𝓣 E G34 G77 b40 Δ1 (Typed.pass T34 T77 (s74 bs)) (at45 bs) (Scalar.g-room 𝓤 H A W E
+              G34 8 Laws'.mir (Local.room-whole 𝓤 H A W (Declared'.row ReservationId.the-type) Laws'.mir Path.refl))
+              d45
 
-          d47 : Typed.Typed 𝓤 H A 𝓣 E G28 b42 Δ1 (at47 bs)
-          d47 = Typed.g-pre 𝓤 H A W 𝓣 E G28 G30 b42 Δ1 (Typed.pass T28 T30 (s27 bs)) (at46 bs) (Scalar.g-room 𝓤 H A W E
-              G28 12 Laws''.mir (Local.room-whole 𝓤 H A W (Declared.row HnsrAnswer.the-type) Laws''.mir Path.refl)) d46
+          d47 : Typed.Typed 𝓤 H A 𝓣 E G34 b41 Δ1 (at47 bs)
+          d47 = Scalar.t-cond 𝓤 H A W E 𝓣 G34 23 (λ x. x) b39 b40 Δ1 (at41 bs) (at46 bs)
+              (Scalar.reads-sc 𝓤 H A W Row.sBool) Path.refl d41 d46
 
-          d48 : Typed.Typed 𝓤 H A 𝓣 E G80 b43 Δ1 (at48 bs)
-          d48 = Typed.t-skip 𝓤 H A W 𝓣 E Δ1 tt
+          d48 : Typed.Typed 𝓤 H A 𝓣 E G84 b43 Δ0 (at48 bs)
+          d48 = Typed.t-return 𝓤 H A W 𝓣 E Δ0 tt
 
-          d49 : Typed.Typed 𝓤 H A 𝓣 E G79 b43 Δ1 (at49 bs)
-          d49 = Typed.g-pre 𝓤 H A W 𝓣 E G79 G80 b43 Δ1 (Typed.pass T79 T80 (s77 bs)) (at48 bs) (Scalar.g-room 𝓤 H A W E
-              G79 21 Syntax.tyBool (Scalar.room-sc 𝓤 H A W Row.sBool)) d48
+          d49 : Typed.Typed 𝓤 H A 𝓣 E G83 b43 Δ0 (at49 bs)
+          d49 = Typed.g-pre 𝓤 H A W 𝓣 E G83 G84 b43 Δ0 (Typed.pass T83 T84 (s81 bs)) (at48 bs) (Scalar.g-room 𝓤 H A W E
+              G83 12 Laws''.mir (Local.room-whole 𝓤 H A W (Declared.row HnsrAnswer.the-type) Laws''.mir Path.refl)) d48
 
-          d50 : Typed.Typed 𝓤 H A 𝓣 E G78 b43 Δ1 (at50 bs)
-          d50 = Typed.g-pre 𝓤 H A W 𝓣 E G78 G79 b43 Δ1 (Typed.pass T78 T79 (s76 bs)) (at49 bs) (Scalar.g-room 𝓤 H A W E
-              G78 13 Laws'''.mir (Local.room-whole 𝓤 H A W (Declared'.row Firsts.the-type) Laws'''.mir Path.refl)) d49
-
-          d51 : Typed.Typed 𝓤 H A 𝓣 E G77 b43 Δ1 (at51 bs)
-          d51 = Typed.g-pre 𝓤 H A W 𝓣 E G77 G78 b43 Δ1 (Typed.pass T77 T78 (s75 bs)) (at50 bs) (Scalar.g-room 𝓤 H A W E
-              G77 10 Laws''''''''''.mir (Local.room-whole 𝓤 H A W (Declared'.row Question.the-type) Laws''''''''''.mir
-              Path.refl)) d50
-
-          d52 : Typed.Typed 𝓤 H A 𝓣 E G28 b43 Δ1 (at52 bs)
-          d52 = Typed.g-pre 𝓤 H A W 𝓣 E G28 G77 b43 Δ1 (Typed.pass T28 T77 (s74 bs)) (at51 bs) (Scalar.g-room 𝓤 H A W E
-              G28 8 Laws'.mir (Local.room-whole 𝓤 H A W (Declared'.row ReservationId.the-type) Laws'.mir Path.refl))
-              d51
-
-          d53 : Typed.Typed 𝓤 H A 𝓣 E G28 b44 Δ1 (at53 bs)
-          d53 = Scalar.t-cond 𝓤 H A W E 𝓣 G28 21 (λ x. x) b42 b43 Δ1 (at47 bs) (at52 bs)
-              (Scalar.reads-sc 𝓤 H A W Row.sBool) Path.refl d47 d52
-
-          d54 : Typed.Typed 𝓤 H A 𝓣 E G84 b46 Δ0 (at54 bs)
-          d54 = Typed.t-return 𝓤 H A W 𝓣 E Δ0 tt
-
-          d55 : Typed.Typed 𝓤 H A 𝓣 E G83 b46 Δ0 (at55 bs)
-          d55 = Typed.g-pre 𝓤 H A W 𝓣 E G83 G84 b46 Δ0 (Typed.pass T83 T84 (s81 bs)) (at54 bs) (Scalar.g-room 𝓤 H A W E
-              G83 12 Laws''.mir (Local.room-whole 𝓤 H A W (Declared.row HnsrAnswer.the-type) Laws''.mir Path.refl)) d54
-
-          d56 : Typed.Typed 𝓤 H A 𝓣 E G82 b46 Δ0 (at56 bs)
-          d56 = Typed.g-pre 𝓤 H A W 𝓣 E G82 G83 b46 Δ0 (Typed.pass T82 T83 (s80 bs)) (at55 bs) (Scalar.g-room 𝓤 H A W E
+          d50 : Typed.Typed 𝓤 H A 𝓣 E G82 b43 Δ0 (at50 bs)
+          d50 = Typed.g-pre 𝓤 H A W 𝓣 E G82 G83 b43 Δ0 (Typed.pass T82 T83 (s80 bs)) (at49 bs) (Scalar.g-room 𝓤 H A W E
               G82 7 Laws'''''''''.mir (Local.room-whole 𝓤 H A W (Declared'.row Places.the-type) Laws'''''''''.mir
-              Path.refl)) d55
+              Path.refl)) d49
 
-          d57 : Typed.Typed 𝓤 H A 𝓣 E G81 b46 Δ0 (at57 bs)
-          d57 = Typed.g-pre 𝓤 H A W 𝓣 E G81 G82 b46 Δ0 (Typed.pass T81 T82 (s79 bs)) (at56 bs) (Scalar.g-room 𝓤 H A W E
+          d51 : Typed.Typed 𝓤 H A 𝓣 E G81 b43 Δ0 (at51 bs)
+          d51 = Typed.g-pre 𝓤 H A W 𝓣 E G81 G82 b43 Δ0 (Typed.pass T81 T82 (s79 bs)) (at50 bs) (Scalar.g-room 𝓤 H A W E
               G81 6 Laws'''''''.mir (Local.room-whole 𝓤 H A W (Declared'.row OpaqueRelayRuntime.the-type)
-              Laws'''''''.mir Path.refl)) d56
+              Laws'''''''.mir Path.refl)) d50
 
-          d58 : Typed.Typed 𝓤 H A 𝓣 E G29 b47 Δ0 (at58 bs)
-          d58 = Typed.s-seq 𝓤 H A W 𝓣 E G29 G81 b45 b46 Δ0 (Typed.both (s78 bs)) (at57 bs) (Plain.t-call-plain 𝓤 H A W
-              𝓣 0 ps·6 r·6 (claims· .12) (claims· .13) "hnsr_circuit::runtime::refused" (known .6) E (λ pos β. β) G29 (
+          d52 : Typed.Typed 𝓤 H A 𝓣 E G35 b44 Δ0 (at52 bs)
+          d52 = Typed.s-seq 𝓤 H A W 𝓣 E G35 G81 b42 b43 Δ0 (Typed.both (s78 bs)) (at51 bs) (Plain.t-call-plain 𝓤 H A W
+              𝓣 0 ps·5 r·5 (claims· .10) (claims· .11) "hnsr_circuit::runtime::refused" (known .5) E (λ pos β. β) G35 (
                 record { pos = 6; st = List.[]; d = 0; at = λ x. x },
                 (
                   record { pos = 7; st = List.[]; d = 0; at = λ x. x },
                   (record { pos = 12; st = List.[]; d = 0; at = λ x. x }, tt),
                 ),
-              ) 0 List.[] (Call.sub-id 𝓤 H A W (G29 .slots)) (
+              ) 0 List.[] (Call.sub-id 𝓤 H A W (G35 .slots)) (
                 (
                   Yields.yields-copy 𝓤 H A W (λ ρ. Unit) (Declared'.row OpaqueRelayRuntime.the-type) Path.refl (Copies.cStruct
                       OpaqueRelayRuntime.the-type Laws'''''''.the-laws Laws'''''''.the-copy .copy 𝓤 H A W)
@@ -3217,15 +3138,15 @@ module _ (claims· : Claims) where
                     tt,
                   ),
                 ),
-              ) (Reads'.room-gone 𝓤 H A Laws''''''''.mir) tt Path.refl) d57
+              ) (Reads'.room-gone 𝓤 H A Laws''''''''.mir) tt Path.refl) d51
 
-          d59 : Typed.Typed 𝓤 H A 𝓣 E G28 b48 Δ0 (at59 bs)
-          d59 = Typed.t-seq 𝓤 H A W 𝓣 E G28 G29 b44 b47 Δ0 (at53 bs) (at58 bs) d53 d58
+          d53 : Typed.Typed 𝓤 H A 𝓣 E G34 b45 Δ0 (at53 bs)
+          d53 = Typed.t-seq 𝓤 H A W 𝓣 E G34 G35 b41 b44 Δ0 (at47 bs) (at52 bs) d47 d52
 
-          d60 : Typed.Typed 𝓤 H A 𝓣 E G27 b49 Δ0 (at60 bs)
-          d60 = Typed.s-seq 𝓤 H A W 𝓣 E G27 G28 b11 b48 Δ0 (Typed.both (s26 bs)) (at59 bs) (Plain.t-call-plain 𝓤 H A W
-              𝓣 0 ps·2 r·2 (claims· .4) (claims· .5) "hnsr_circuit::answer::is_taken" (known .2) E (λ pos β. β) G27
-              (record { pos = 12; st = List.[]; d = 0; at = λ x. x }, tt) 21 List.[] (Call.sub-id 𝓤 H A W (G27 .slots)) (
+          d54 : Typed.Typed 𝓤 H A 𝓣 E G33 b46 Δ0 (at54 bs)
+          d54 = Typed.s-seq 𝓤 H A W 𝓣 E G33 G34 b14 b45 Δ0 (Typed.both (s32 bs)) (at53 bs) (Plain.t-call-plain 𝓤 H A W
+              𝓣 0 ps·2 r·2 (claims· .4) (claims· .5) "hnsr_circuit::answer::is_taken" (known .2) E (λ pos β. β) G33
+              (record { pos = 12; st = List.[]; d = 0; at = λ x. x }, tt) 23 List.[] (Call.sub-id 𝓤 H A W (G33 .slots)) (
                 (
                   Yields.yields-copy 𝓤 H A W (λ ρ. Unit) (Declared.row HnsrAnswer.the-type) Path.refl (Copies.cEnum
                       HnsrAnswer.the-type Laws''.the-laws Laws''.the-copy .copy 𝓤 H A W)
@@ -3235,18 +3156,18 @@ module _ (claims· : Claims) where
                   Path.refl,
                 ),
                 tt,
-              ) (Reads'.room-gone 𝓤 H A Syntax.tyBool) tt Path.refl) d59
+              ) (Reads'.room-gone 𝓤 H A Syntax.tyBool) tt Path.refl) d53
 
-          d61 : Typed.Typed 𝓤 H A 𝓣 E G26 b49 Δ0 (at61 bs)
-          d61 = Typed.g-pre 𝓤 H A W 𝓣 E G26 G27 b49 Δ0 (Typed.pass T26 T27 (s25 bs)) (at60 bs) (Scalar.g-room 𝓤 H A W E
-              G26 11 Laws'''''.mir (Local.room-whole 𝓤 H A W (Declared'.row Entered.the-type) Laws'''''.mir Path.refl))
-              d60
+          d55 : Typed.Typed 𝓤 H A 𝓣 E G32 b46 Δ0 (at55 bs)
+          d55 = Typed.g-pre 𝓤 H A W 𝓣 E G32 G33 b46 Δ0 (Typed.pass T32 T33 (s31 bs)) (at54 bs) (Scalar.g-room 𝓤 H A W E
+              G32 11 Laws'''''.mir (Local.room-whole 𝓤 H A W (Declared'.row Entered.the-type) Laws'''''.mir Path.refl))
+              d54
 
-          d62 : Typed.Typed 𝓤 H A 𝓣 E G25 b50 Δ0 (at62 bs)
-          d62 = Typed.s-seq 𝓤 H A W 𝓣 E G25 G26 b10 b49 Δ0 (Typed.both (s24 bs)) (at61 bs) (WayStmt.t-way-copy-out 𝓤 H
+          d56 : Typed.Typed 𝓤 H A 𝓣 E G31 b47 Δ0 (at56 bs)
+          d56 = Typed.s-seq 𝓤 H A W 𝓣 E G31 G32 b13 b46 Δ0 (Typed.both (s30 bs)) (at55 bs) (WayStmt.t-way-copy-out 𝓤 H
               A W E 𝓣 (Declared'.row Firsts.the-type) Path.refl (Copies.cStruct Firsts.the-type Laws'''.the-laws
-              Laws'''.the-copy .copy 𝓤 H A W) (λ ρ. Unit) G25 (Row.out 11 (G25 .locals))
-              (λ u. Row.drop 11 (G25 .locals) u) (G25 .slots) 11 (λ t. (Syntax.field 1) ∷ t) Laws'''.mir Laws'''.mir 13
+              Laws'''.the-copy .copy 𝓤 H A W) (λ ρ. Unit) G31 (Row.out 11 (G31 .locals))
+              (λ u. Row.drop 11 (G31 .locals) u) (G31 .slots) 11 (λ t. (Syntax.field 1) ∷ t) Laws'''.mir Laws'''.mir 13
               (Rows.whole (Declared'.row Firsts.the-type)) (λ x. x) (λ u. At.getAt (Entered.the-type .parts) 1 (Entered.struct
               .as-values (u .1 .1 .1 .1 .1 .1 .1 .1 .1 .1 .1 .0))) (λ u. (
                 Row.hd 0 (Row.tl (Row.tl (Row.tl (Row.tl (Row.tl (Row.tl
@@ -3254,9 +3175,9 @@ module _ (claims· : Claims) where
                 Nat._+_ 0 48,
               )) (λ T′. record {
                 locals = Row.setRow 11 (11, Rows.whole (Declared'.row Entered.the-type)) T′;
-                slots = G25 .slots;
+                slots = G31 .slots;
               }) (λ u T′ m′. Row.set 11 (11, Rows.whole (Declared'.row Entered.the-type))
-              (u .1 .1 .1 .1 .1 .1 .1 .1 .1 .1 .1 .0) T′ m′) (λ u. Unit) (λ x. Unit) (Own.told-none 𝓤 H A (G25 .slots)) (DerefMove.learns-nothing
+              (u .1 .1 .1 .1 .1 .1 .1 .1 .1 .1 .1 .0) T′ m′) (λ u. Unit) (λ x. Unit) (Own.told-none 𝓤 H A (G31 .slots)) (DerefMove.learns-nothing
               𝓤 H A (Declared'.row Firsts.the-type)) (λ ρ told u asked. Way'.w-partˢ 𝓤 H A W E
               (Declared'.row Entered.the-type) (Declared'.row Firsts.the-type) Laws'''''.mir Laws'''.mir 1 48
               (u .1 .1 .1 .1 .1 .1 .1 .1 .1 .1 .1 .0) (At.getAt (Entered.the-type .parts) 1 (Entered.struct .as-values
@@ -3264,7 +3185,7 @@ module _ (claims· : Claims) where
                 Row.hd 0 (Row.tl (Row.tl (Row.tl (Row.tl (Row.tl (Row.tl
                     (Row.tl (Row.tl (Row.tl (Row.tl (Row.tl bs))))))))))),
                 0,
-              ) (Way.w-look 𝓤 H A W E (Way.w-local 𝓤 H A W E G25 ρ u (G25 .slots) 11 (Declared'.row Entered.the-type)
+              ) (Way.w-look 𝓤 H A W E (Way.w-local 𝓤 H A W E G31 ρ u (G31 .slots) 11 (Declared'.row Entered.the-type)
               (Rows.whole (Declared'.row Entered.the-type)) (λ x. x) (λ x. x) (u .1 .1 .1 .1 .1 .1 .1 .1 .1 .1 .1 .0) (Local.mem-whole
               𝓤 H A W (Declared'.row Entered.the-type) ρ (u .1 .1 .1 .1 .1 .1 .1 .1 .1 .1 .1 .0) (Row.hd 0 (Row.tl (Row.tl (Row.tl (Row.tl (Row.tl (Row.tl
               (Row.tl (Row.tl (Row.tl (Row.tl (Row.tl bs))))))))))))) (Local.whole-mem 𝓤 H A W
@@ -3285,13 +3206,13 @@ module _ (claims· : Claims) where
               (u .1 .1 .1 .1 .1 .1 .1 .1 .1 .1 .1 .0)) Path.refl)) (Reads'.room-gone 𝓤 H A Laws'''.mir) (Yields.makes-mem
               𝓤 H A W (λ ρ. Unit) (Declared'.row Firsts.the-type) Path.refl
               (Rows.whole (Declared'.row Firsts.the-type)) (λ x. x) λ ρ told. Local.whole-mem 𝓤 H A W
-              (Declared'.row Firsts.the-type) ρ) Path.refl Path.refl Path.refl) d61
+              (Declared'.row Firsts.the-type) ρ) Path.refl Path.refl Path.refl) d55
 
-          d63 : Typed.Typed 𝓤 H A 𝓣 E G24 b51 Δ0 (at63 bs)
-          d63 = Typed.s-seq 𝓤 H A W 𝓣 E G24 G25 b9 b50 Δ0 (Typed.pass T23 T25 (s23 bs)) (at62 bs) (CopyOut.t-copy-told
+          d57 : Typed.Typed 𝓤 H A 𝓣 E G30 b48 Δ0 (at57 bs)
+          d57 = Typed.s-seq 𝓤 H A W 𝓣 E G30 G31 b12 b47 Δ0 (Typed.pass T29 T31 (s29 bs)) (at56 bs) (CopyOut.t-copy-told
               𝓤 H A W E 𝓣 (Declared.row HnsrAnswer.the-type) Path.refl
               (Laws'''''''''''.val HnsrAnswer.the-type Laws''.the-laws) (Laws'''''''''''.lawful HnsrAnswer.the-type
-              Laws''.the-laws 𝓤 H A W tt) (Laws'''''''''''.makes HnsrAnswer.the-type Laws''.the-plain 𝓤 H A) G24 12 (Scalar.oFld
+              Laws''.the-laws 𝓤 H A W tt) (Laws'''''''''''.makes HnsrAnswer.the-type Laws''.the-plain 𝓤 H A) G30 12 (Scalar.oFld
               11 ((Syntax.field 0) ∷ List.[]) Laws''.mir 0 λ x. Laws'''''''''''.val HnsrAnswer.the-type Laws''.the-laws
               (Entered.struct .as-values x .0)) (λ m. Entered.struct .as-values (m .1 .1 .1 .1 .1 .1 .1 .1 .1 .1 .1 .0)
               .0) (λ m. Laws''''''''''''.Is (Declared'.row Entered.the-type) (m .1 .1 .1 .1 .1 .1 .1 .1 .1 .1 .1 .0) (Laws'''''''''''''.vals
@@ -3299,75 +3220,75 @@ module _ (claims· : Claims) where
               (Reads'.room-gone 𝓤 H A Laws''.mir) (
                 Reads.reads-field 𝓤 H A W Entered.the-type Laws'''''.the-laws 0 Laws''.mir 0 Path.refl,
                 Path.refl,
-              ) Path.refl (λ ρ m. Make'.tells-row 𝓤 H A W E ρ (Row.out 12 (G24 .locals)) m 11 (Laws''''''''''''.Is
+              ) Path.refl (λ ρ m. Make'.tells-row 𝓤 H A W E ρ (Row.out 12 (G30 .locals)) m 11 (Laws''''''''''''.Is
               (Declared'.row Entered.the-type) (m .1 .1 .1 .1 .1 .1 .1 .1 .1 .1 .1 .0) (Laws'''''''''''''.vals
               Entered.the-type Laws'''''.the-laws (m .1 .1 .1 .1 .1 .1 .1 .1 .1 .1 .1 .0))) (Make'.whole-is 𝓤 H A W E
               (Declared'.row Entered.the-type) Path.refl (Laws'''''''''''''.val Entered.the-type Laws'''''.the-laws) (Laws'''''''''''''.tells
               Entered.the-type Laws'''''.the-laws) ρ 11 (m .1 .1 .1 .1 .1 .1 .1 .1 .1 .1 .1 .0))) (λ m k wa. Path.refl)
               λ m k wa. Laws'''''''''''''.owed Entered.the-type Laws'''''.the-laws
               (m .1 .1 .1 .1 .1 .1 .1 .1 .1 .1 .1 .0) (Laws'''''''''''''.vals Entered.the-type Laws'''''.the-laws
-              (m .1 .1 .1 .1 .1 .1 .1 .1 .1 .1 .1 .0)) k .0) d62
+              (m .1 .1 .1 .1 .1 .1 .1 .1 .1 .1 .1 .0)) k .0) d56
 
-          d64 : Typed.Typed 𝓤 H A 𝓣 E G23 b51 Δ0 (at64 bs)
-          d64 = Typed.g-pre 𝓤 H A W 𝓣 E G23 G24 b51 Δ0 (λ Ψ. Ψ) (at63 bs)
-              (Lifetime.g-forget 𝓤 H A W E G23 6 Row.dead Path.refl) d63
+          d58 : Typed.Typed 𝓤 H A 𝓣 E G29 b48 Δ0 (at58 bs)
+          d58 = Typed.g-pre 𝓤 H A W 𝓣 E G29 G30 b48 Δ0 (λ Ψ. Ψ) (at57 bs)
+              (Lifetime.g-forget 𝓤 H A W E G29 6 Row.dead Path.refl) d57
 
-          d65 : Typed.Typed 𝓤 H A 𝓣 E G22 b51 Δ0 (at65 bs)
-          d65 = Typed.g-pre 𝓤 H A W 𝓣 E G22 G23 b51 Δ0 (Typed.pass T20 T23 (s21 bs)) (at64 bs) (Reshare.g-back-sl-shr 𝓤
-              H A W E RelayCircuit.row G22 2 1 6 ref8 life1 (λ x. x) (Reads'.as-is 𝓤 H A
-              (Reshare.mslice-owedS RelayCircuit.row ref8 1 6 life1)) Path.refl Path.refl) d64
+          d59 : Typed.Typed 𝓤 H A 𝓣 E G28 b48 Δ0 (at59 bs)
+          d59 = Typed.g-pre 𝓤 H A W 𝓣 E G28 G29 b48 Δ0 (Typed.pass T26 T29 (s27 bs)) (at58 bs) (Reshare.g-back-sl-shr 𝓤
+              H A W E RelayCircuit.row G28 2 1 6 ref8 life1 (λ x. x) (Reads'.as-is 𝓤 H A
+              (Reshare.mslice-owedS RelayCircuit.row ref8 1 6 life1)) Path.refl Path.refl) d58
 
-          d66 : Typed.Typed 𝓤 H A 𝓣 E G21 b51 Δ0 (at66 bs)
-          d66 = Typed.g-pre 𝓤 H A W 𝓣 E G21 G22 b51 Δ0 (λ Ψ. Ψ) (at65 bs) (Lifetime.g-end 𝓤 H A W E G21 6 Path.refl)
-              d65
+          d60 : Typed.Typed 𝓤 H A 𝓣 E G27 b48 Δ0 (at60 bs)
+          d60 = Typed.g-pre 𝓤 H A W 𝓣 E G27 G28 b48 Δ0 (λ Ψ. Ψ) (at59 bs) (Lifetime.g-end 𝓤 H A W E G27 6 Path.refl)
+              d59
 
-          d67 : Typed.Typed 𝓤 H A 𝓣 E G20 b51 Δ0 (at67 bs)
-          d67 = Typed.g-pre 𝓤 H A W 𝓣 E G20 G21 b51 Δ0 (λ Ψ. Ψ) (at66 bs)
-              (Lifetime.g-forget 𝓤 H A W E G20 5 Row.dead Path.refl) d66
+          d61 : Typed.Typed 𝓤 H A 𝓣 E G26 b48 Δ0 (at61 bs)
+          d61 = Typed.g-pre 𝓤 H A W 𝓣 E G26 G27 b48 Δ0 (λ Ψ. Ψ) (at60 bs)
+              (Lifetime.g-forget 𝓤 H A W E G26 5 Row.dead Path.refl) d60
 
-          d68 : Typed.Typed 𝓤 H A 𝓣 E G19 b51 Δ0 (at68 bs)
-          d68 = Typed.g-pre 𝓤 H A W 𝓣 E G19 G20 b51 Δ0 (Typed.pass T18 T20 (s18 bs)) (at67 bs) (Reshare.g-back-sl-shr 𝓤
-              H A W E RelayPending.row G19 1 0 5 ref7 life0 (λ x. x) (Reads'.as-is 𝓤 H A
-              (Reshare.mslice-owedS RelayPending.row ref7 0 5 life0)) Path.refl Path.refl) d67
+          d62 : Typed.Typed 𝓤 H A 𝓣 E G25 b48 Δ0 (at62 bs)
+          d62 = Typed.g-pre 𝓤 H A W 𝓣 E G25 G26 b48 Δ0 (Typed.pass T24 T26 (s24 bs)) (at61 bs) (Reshare.g-back-sl-shr 𝓤
+              H A W E RelayPending.row G25 1 0 5 ref7 life0 (λ x. x) (Reads'.as-is 𝓤 H A
+              (Reshare.mslice-owedS RelayPending.row ref7 0 5 life0)) Path.refl Path.refl) d61
 
-          d69 : Typed.Typed 𝓤 H A 𝓣 E G18 b51 Δ0 (at69 bs)
-          d69 = Typed.g-pre 𝓤 H A W 𝓣 E G18 G19 b51 Δ0 (λ Ψ. Ψ) (at68 bs) (Lifetime.g-end 𝓤 H A W E G18 5 Path.refl)
-              d68
+          d63 : Typed.Typed 𝓤 H A 𝓣 E G24 b48 Δ0 (at63 bs)
+          d63 = Typed.g-pre 𝓤 H A W 𝓣 E G24 G25 b48 Δ0 (λ Ψ. Ψ) (at62 bs) (Lifetime.g-end 𝓤 H A W E G24 5 Path.refl)
+              d62
 
-          d70 : Typed.Typed 𝓤 H A 𝓣 E G17 b51 Δ0 (at70 bs)
-          d70 = Typed.g-pre 𝓤 H A W 𝓣 E G17 G18 b51 Δ0 (Typed.pass T17 T18 (s16 bs)) (at69 bs) (Scalar.g-room 𝓤 H A W E
-              G17 20 (Syntax.tyInt Syntax.w64) (Scalar.room-sc 𝓤 H A W (Row.sInt Syntax.w64))) d69
+          d64 : Typed.Typed 𝓤 H A 𝓣 E G23 b48 Δ0 (at64 bs)
+          d64 = Typed.g-pre 𝓤 H A W 𝓣 E G23 G24 b48 Δ0 (Typed.pass T23 T24 (s22 bs)) (at63 bs) (Scalar.g-room 𝓤 H A W E
+              G23 22 (Syntax.tyInt Syntax.w64) (Scalar.room-sc 𝓤 H A W (Row.sInt Syntax.w64))) d63
 
-          d71 : Typed.Typed 𝓤 H A 𝓣 E G16 b51 Δ0 (at71 bs)
-          d71 = Typed.g-pre 𝓤 H A W 𝓣 E G16 G17 b51 Δ0 (Typed.pass T16 T17 (s15 bs)) (at70 bs) (Scalar.g-room 𝓤 H A W E
-              G16 19 (Syntax.tyInt Syntax.w64) (Scalar.room-sc 𝓤 H A W (Row.sInt Syntax.w64))) d70
+          d65 : Typed.Typed 𝓤 H A 𝓣 E G22 b48 Δ0 (at65 bs)
+          d65 = Typed.g-pre 𝓤 H A W 𝓣 E G22 G23 b48 Δ0 (Typed.pass T22 T23 (s21 bs)) (at64 bs) (Scalar.g-room 𝓤 H A W E
+              G22 21 (Syntax.tyInt Syntax.w64) (Scalar.room-sc 𝓤 H A W (Row.sInt Syntax.w64))) d64
 
-          d72 : Typed.Typed 𝓤 H A 𝓣 E G15 b51 Δ0 (at72 bs)
-          d72 = Typed.g-pre 𝓤 H A W 𝓣 E G15 G16 b51 Δ0 (Typed.pass T15 T16 (s14 bs)) (at71 bs) (Scalar.g-room 𝓤 H A W E
-              G15 9 Laws''''''.mir (Local.room-whole 𝓤 H A W (Declared'.row OpaqueRelayConfig.the-type) Laws''''''.mir
-              Path.refl)) d71
+          d66 : Typed.Typed 𝓤 H A 𝓣 E G21 b48 Δ0 (at66 bs)
+          d66 = Typed.g-pre 𝓤 H A W 𝓣 E G21 G22 b48 Δ0 (Typed.pass T21 T22 (s20 bs)) (at65 bs) (Scalar.g-room 𝓤 H A W E
+              G21 9 Laws''''''.mir (Local.room-whole 𝓤 H A W (Declared'.row OpaqueRelayConfig.the-type) Laws''''''.mir
+              Path.refl)) d65
 
-          d73 : Typed.Typed 𝓤 H A 𝓣 E G14 b51 Δ0 (at73 bs)
-          d73 = Typed.g-pre 𝓤 H A W 𝓣 E G14 G15 b51 Δ0 (Typed.pass T14 T15 (s13 bs)) (at72 bs) (Scalar.g-room 𝓤 H A W E
-              G14 18 slice1 (Shared.room-sslice 𝓤 H A W RelayCircuit.row ref1 6)) d72
+          d67 : Typed.Typed 𝓤 H A 𝓣 E G20 b48 Δ0 (at67 bs)
+          d67 = Typed.g-pre 𝓤 H A W 𝓣 E G20 G21 b48 Δ0 (Typed.pass T20 T21 (s19 bs)) (at66 bs) (Scalar.g-room 𝓤 H A W E
+              G20 20 slice1 (Shared.room-sslice 𝓤 H A W RelayCircuit.row ref1 6)) d66
 
-          d74 : Typed.Typed 𝓤 H A 𝓣 E G13 b51 Δ0 (at74 bs)
-          d74 = Typed.g-pre 𝓤 H A W 𝓣 E G13 G14 b51 Δ0 (Typed.pass T13 T14 (s12 bs)) (at73 bs) (Scalar.g-room 𝓤 H A W E
-              G13 16 slice0 (Shared.room-sslice 𝓤 H A W RelayPending.row ref0 5)) d73
+          d68 : Typed.Typed 𝓤 H A 𝓣 E G19 b48 Δ0 (at68 bs)
+          d68 = Typed.g-pre 𝓤 H A W 𝓣 E G19 G20 b48 Δ0 (Typed.pass T19 T20 (s18 bs)) (at67 bs) (Scalar.g-room 𝓤 H A W E
+              G19 18 slice0 (Shared.room-sslice 𝓤 H A W RelayPending.row ref0 5)) d67
 
-          d75 : Typed.Typed 𝓤 H A 𝓣 E G12 b52 Δ0 (at75 bs)
-          d75 = Typed.s-seq 𝓤 H A W 𝓣 E G12 G13 b8 b51 Δ0 (Typed.both (s11 bs)) (at74 bs) (Plain.t-call-plain 𝓤 H A W 𝓣
-              2 ps·1 r·1 (claims· .2) (claims· .3) "hnsr_circuit::calls::revoking::entry_answer" (known .1) E
-              (λ pos β. β) G12 (
-                record { pos = 16; ty = ref0; ref = λ x. x },
+          d69 : Typed.Typed 𝓤 H A 𝓣 E G18 b49 Δ0 (at69 bs)
+          d69 = Typed.s-seq 𝓤 H A W 𝓣 E G18 G19 b11 b48 Δ0 (Typed.both (s17 bs)) (at68 bs) (Plain.t-call-plain 𝓤 H A W
+              𝓣 2 ps·1 r·1 (claims· .2) (claims· .3) "hnsr_circuit::calls::revoking::entry_answer" (known .1) E
+              (λ pos β. β) G18 (
+                record { pos = 18; ty = ref0; ref = λ x. x },
                 (
-                  record { pos = 18; ty = ref1; ref = λ x. x },
+                  record { pos = 20; ty = ref1; ref = λ x. x },
                   (
                     record { pos = 7; st = List.[]; d = 0; at = λ x. x },
                     (
-                      Num.vAt 19 λ x. x,
+                      Num.vAt 21 λ x. x,
                       (
-                        Num.vAt 20 λ x. x,
+                        Num.vAt 22 λ x. x,
                         (
                           record { pos = 9; st = List.[]; d = 0; at = λ x. x },
                           (record { pos = 10; st = List.[]; d = 0; at = λ x. x }, tt),
@@ -3376,7 +3297,7 @@ module _ (claims· : Claims) where
                     ),
                   ),
                 ),
-              ) 11 (5 ∷ 6 ∷ List.[]) (Call.sub-id 𝓤 H A W (G12 .slots)) (
+              ) 11 (5 ∷ 6 ∷ List.[]) (Call.sub-id 𝓤 H A W (G18 .slots)) (
                 ShrSlice.spares-sslice 𝓤 H A W RelayPending.row ref0 5,
                 Shared.reads-sslice 𝓤 H A W RelayPending.row ref0 5,
                 Path.refl,
@@ -3408,11 +3329,11 @@ module _ (claims· : Claims) where
                           ),
                           (
                             (
-                              Yields.yields-copy 𝓤 H A W (λ ρ. Unit) (Declared'.row Question.the-type) Path.refl (Copies.cStruct
-                                  Question.the-type Laws''''''''''.the-laws Laws''''''''''.the-copy .copy 𝓤 H A W)
-                                  (Rows.whole (Declared'.row Question.the-type)) (λ x. x) (λ x. x) (λ ρ told.
-                                  Local.mem-whole 𝓤 H A W (Declared'.row Question.the-type) ρ) λ ρ told.
-                                  Local.whole-mem 𝓤 H A W (Declared'.row Question.the-type) ρ,
+                              Yields.yields-copy 𝓤 H A W (λ ρ. Unit) (Declared'.row Revoking.the-type) Path.refl (Copies.cStruct
+                                  Revoking.the-type Laws''''.the-laws Laws''''.the-copy .copy 𝓤 H A W)
+                                  (Rows.whole (Declared'.row Revoking.the-type)) (λ x. x) (λ x. x) (λ ρ told.
+                                  Local.mem-whole 𝓤 H A W (Declared'.row Revoking.the-type) ρ) λ ρ told.
+                                  Local.whole-mem 𝓤 H A W (Declared'.row Revoking.the-type) ρ,
                               Path.refl,
                             ),
                             tt,
@@ -3422,45 +3343,45 @@ module _ (claims· : Claims) where
                     ),
                   ),
                 ),
-              ) (Reads'.room-gone 𝓤 H A Laws'''''.mir) (tt, (tt, tt)) Path.refl) d74
+              ) (Reads'.room-gone 𝓤 H A Laws'''''.mir) (tt, (tt, tt)) Path.refl) d68
 
-          d76 : Typed.Typed 𝓤 H A 𝓣 E G11 b53 Δ0 (at76 bs)
-          d76 = Typed.s-seq 𝓤 H A W 𝓣 E G11 G12 b7 b52 Δ0 (Typed.pass T11 T12 (s10 bs)) (at75 bs) (Scalar.t-use 𝓤 H A W
-              E 𝓣 G11 (Scalar.oFld 5 ((Syntax.field 1) ∷ List.[]) (Syntax.tyInt Syntax.w64) 8 Shared.lenV) 20
+          d70 : Typed.Typed 𝓤 H A 𝓣 E G17 b50 Δ0 (at70 bs)
+          d70 = Typed.s-seq 𝓤 H A W 𝓣 E G17 G18 b10 b49 Δ0 (Typed.pass T17 T18 (s16 bs)) (at69 bs) (Scalar.t-use 𝓤 H A
+              W E 𝓣 G17 (Scalar.oFld 5 ((Syntax.field 1) ∷ List.[]) (Syntax.tyInt Syntax.w64) 8 Shared.lenV) 22
               (Rows.sc-here (Row.sInt Syntax.w64)) (Syntax.tyInt Syntax.w64) (Row.valS (Row.sInt Syntax.w64))
               (Row.sInt Syntax.w64 .of) (
                 Mut.reads-mslice-len 𝓤 H A W (Referent.rtF (Referent.fInt Syntax.w32)) ref11 4 8 Path.refl,
                 Path.refl,
               ) (Reads'.room-gone 𝓤 H A (Syntax.tyInt Syntax.w64)) (Scalar.holds-sc 𝓤 H A W (Row.sInt Syntax.w64))
-              Path.refl (λ u. Path.refl) λ u. tt) d75
+              Path.refl (λ u. Path.refl) λ u. tt) d69
 
-          d77 : Typed.Typed 𝓤 H A 𝓣 E G10 b54 Δ0 (at77 bs)
-          d77 = Typed.s-seq 𝓤 H A W 𝓣 E G10 G11 b6 b53 Δ0 (Typed.pass T10 T11 (s9 bs)) (at76 bs) (Scalar.t-use 𝓤 H A W
-              E 𝓣 G10 (Scalar.oFld 4 ((Syntax.field 1) ∷ List.[]) (Syntax.tyInt Syntax.w64) 8 Shared.lenV) 19
+          d71 : Typed.Typed 𝓤 H A 𝓣 E G16 b51 Δ0 (at71 bs)
+          d71 = Typed.s-seq 𝓤 H A W 𝓣 E G16 G17 b9 b50 Δ0 (Typed.pass T16 T17 (s15 bs)) (at70 bs) (Scalar.t-use 𝓤 H A W
+              E 𝓣 G16 (Scalar.oFld 4 ((Syntax.field 1) ∷ List.[]) (Syntax.tyInt Syntax.w64) 8 Shared.lenV) 21
               (Rows.sc-here (Row.sInt Syntax.w64)) (Syntax.tyInt Syntax.w64) (Row.valS (Row.sInt Syntax.w64))
               (Row.sInt Syntax.w64 .of) (
                 Mut.reads-mslice-len 𝓤 H A W InflightAction.row ref10 3 8 Path.refl,
                 Path.refl,
               ) (Reads'.room-gone 𝓤 H A (Syntax.tyInt Syntax.w64)) (Scalar.holds-sc 𝓤 H A W (Row.sInt Syntax.w64))
-              Path.refl (λ u. Path.refl) λ u. tt) d76
+              Path.refl (λ u. Path.refl) λ u. tt) d70
 
-          d78 : Typed.Typed 𝓤 H A 𝓣 E G9 b55 Δ0 (at78 bs)
-          d78 = Typed.s-seq 𝓤 H A W 𝓣 E G9 G10 b5 b54 Δ0 (Typed.ask (s8 bs)) (at77 bs) (Relend.t-sl-aggregate 𝓤 H A W E
-              RelayCircuit.row 𝓣 (Relend.asShr RelayCircuit.row) G9 17 18 6 ref1 ref1 (λ x. x) (Scalar.oFld 2
+          d72 : Typed.Typed 𝓤 H A 𝓣 E G15 b52 Δ0 (at72 bs)
+          d72 = Typed.s-seq 𝓤 H A W 𝓣 E G15 G16 b8 b51 Δ0 (Typed.ask (s14 bs)) (at71 bs) (Relend.t-sl-aggregate 𝓤 H A W
+              E RelayCircuit.row 𝓣 (Relend.asShr RelayCircuit.row) G15 19 20 6 ref1 ref1 (λ x. x) (Scalar.oFld 2
               ((Syntax.field 1) ∷ List.[]) (Syntax.tyInt Syntax.w64) 8 λ v. Shared.lenV (v .0))
               (Reads'.as-is 𝓤 H A (Relend.ssptr RelayCircuit.row ref1 6)) (Reads'.room-gone 𝓤 H A slice1) (
                 Reshare.reads-owedS-len 𝓤 H A W RelayCircuit.row ref8 1 6 life1 8 Path.refl,
                 Path.refl,
-              ) Path.refl Path.refl λ b o k. tt) d77
+              ) Path.refl Path.refl λ b o k. tt) d71
 
-          d79 : Typed.Typed 𝓤 H A 𝓣 E G8 b56 Δ0 (at79 bs)
-          d79 = Typed.s-seq 𝓤 H A W 𝓣 E G8 G9 b4 b55 Δ0 (Typed.give (s7 bs)) (at78 bs) (Reshare.t-sl-reshare 𝓤 H A W E
-              RelayCircuit.row 𝓣 G8 2 17 1 6 ref8 ref1 life1 0 (λ x. x)
+          d73 : Typed.Typed 𝓤 H A 𝓣 E G14 b53 Δ0 (at73 bs)
+          d73 = Typed.s-seq 𝓤 H A W 𝓣 E G14 G15 b7 b52 Δ0 (Typed.give (s13 bs)) (at72 bs) (Reshare.t-sl-reshare 𝓤 H A W
+              E RelayCircuit.row 𝓣 G14 2 19 1 6 ref8 ref1 life1 0 (λ x. x)
               (Reads'.as-is 𝓤 H A (Mut.mslice RelayCircuit.row ref8 1)) (Reads'.room-gone 𝓤 H A ref1) Path.refl tt
-              Path.refl Path.refl Path.refl λ b o. tt) d78
+              Path.refl Path.refl Path.refl λ b o. tt) d72
 
-          d80 : Typed.Typed 𝓤 H A 𝓣 E G7 b56 Δ0 (at80 bs)
-          d80 = Typed.g-pre 𝓤 H A W 𝓣 E G7 G8 b56 Δ0 (λ Ψ. Ψ) (at79 bs) (Lifetime.g-begin 𝓤 H A W E G7 6 (
+          d74 : Typed.Typed 𝓤 H A 𝓣 E G13 b53 Δ0 (at74 bs)
+          d74 = Typed.g-pre 𝓤 H A W 𝓣 E G13 G14 b53 Δ0 (λ Ψ. Ψ) (at73 bs) (Lifetime.g-begin 𝓤 H A W E G13 6 (
             tt,
             (
               (tt, tt),
@@ -3538,25 +3459,25 @@ module _ (claims· : Claims) where
                 ),
               ),
             ),
-          )) d79
+          )) d73
 
-          d81 : Typed.Typed 𝓤 H A 𝓣 E G6 b57 Δ0 (at81 bs)
-          d81 = Typed.s-seq 𝓤 H A W 𝓣 E G6 G7 b3 b56 Δ0 (Typed.ask (s5 bs)) (at80 bs) (Relend.t-sl-aggregate 𝓤 H A W E
-              RelayPending.row 𝓣 (Relend.asShr RelayPending.row) G6 15 16 5 ref0 ref0 (λ x. x) (Scalar.oFld 1
+          d75 : Typed.Typed 𝓤 H A 𝓣 E G12 b54 Δ0 (at75 bs)
+          d75 = Typed.s-seq 𝓤 H A W 𝓣 E G12 G13 b6 b53 Δ0 (Typed.ask (s11 bs)) (at74 bs) (Relend.t-sl-aggregate 𝓤 H A W
+              E RelayPending.row 𝓣 (Relend.asShr RelayPending.row) G12 17 18 5 ref0 ref0 (λ x. x) (Scalar.oFld 1
               ((Syntax.field 1) ∷ List.[]) (Syntax.tyInt Syntax.w64) 8 λ v. Shared.lenV (v .0))
               (Reads'.as-is 𝓤 H A (Relend.ssptr RelayPending.row ref0 5)) (Reads'.room-gone 𝓤 H A slice0) (
                 Reshare.reads-owedS-len 𝓤 H A W RelayPending.row ref7 0 5 life0 8 Path.refl,
                 Path.refl,
-              ) Path.refl Path.refl λ b o k. tt) d80
+              ) Path.refl Path.refl λ b o k. tt) d74
 
-          d82 : Typed.Typed 𝓤 H A 𝓣 E G5 b58 Δ0 (at82 bs)
-          d82 = Typed.s-seq 𝓤 H A W 𝓣 E G5 G6 b2 b57 Δ0 (Typed.give (s4 bs)) (at81 bs) (Reshare.t-sl-reshare 𝓤 H A W E
-              RelayPending.row 𝓣 G5 1 15 0 5 ref7 ref0 life0 0 (λ x. x)
+          d76 : Typed.Typed 𝓤 H A 𝓣 E G11 b55 Δ0 (at76 bs)
+          d76 = Typed.s-seq 𝓤 H A W 𝓣 E G11 G12 b5 b54 Δ0 (Typed.give (s10 bs)) (at75 bs) (Reshare.t-sl-reshare 𝓤 H A W
+              E RelayPending.row 𝓣 G11 1 17 0 5 ref7 ref0 life0 0 (λ x. x)
               (Reads'.as-is 𝓤 H A (Mut.mslice RelayPending.row ref7 0)) (Reads'.room-gone 𝓤 H A ref0) Path.refl tt
-              Path.refl Path.refl Path.refl λ b o. tt) d81
+              Path.refl Path.refl Path.refl λ b o. tt) d75
 
-          d83 : Typed.Typed 𝓤 H A 𝓣 E G4 b58 Δ0 (at83 bs)
-          d83 = Typed.g-pre 𝓤 H A W 𝓣 E G4 G5 b58 Δ0 (λ Ψ. Ψ) (at82 bs) (Lifetime.g-begin 𝓤 H A W E G4 5 (
+          d77 : Typed.Typed 𝓤 H A 𝓣 E G10 b55 Δ0 (at77 bs)
+          d77 = Typed.g-pre 𝓤 H A W 𝓣 E G10 G11 b55 Δ0 (λ Ψ. Ψ) (at76 bs) (Lifetime.g-begin 𝓤 H A W E G10 5 (
             tt,
             (
               tt,
@@ -3634,22 +3555,100 @@ module _ (claims· : Claims) where
                 ),
               ),
             ),
-          )) d82
+          )) d76
 
-          d84 : Typed.Typed 𝓤 H A 𝓣 E G3 b59 Δ0 (at84 bs)
-          d84 = Typed.s-seq 𝓤 H A W 𝓣 E G3 G4 b1 b58 Δ0 (Typed.both (s2 bs)) (at83 bs) (Plain.t-call-plain 𝓤 H A W 𝓣 0
-              ps·0 r·0 (claims· .0) (claims· .1) "hnsr_circuit::tables::question::under" (known .0) E (λ pos β. β) G3
-              (record { pos = 8; st = List.[]; d = 0; at = λ x. x }, tt) 10 List.[] (Call.sub-id 𝓤 H A W (G3 .slots)) (
+          d78 : Typed.Typed 𝓤 H A 𝓣 E G9 b55 Δ0 (at78 bs)
+          d78 = Typed.g-pre 𝓤 H A W 𝓣 E G9 G10 b55 Δ0 (Typed.pass T9 T10 (s8 bs)) (at77 bs) (Scalar.g-room 𝓤 H A W E G9
+              16 Laws.mir (Local.room-whole 𝓤 H A W (Declared.row Notice.the-type) Laws.mir Path.refl)) d77
+
+          d79 : Typed.Typed 𝓤 H A 𝓣 E G8 b55 Δ0 (at79 bs)
+          d79 = Typed.g-pre 𝓤 H A W 𝓣 E G8 G9 b55 Δ0 (Typed.pass T8 T9 (s7 bs)) (at78 bs) (Scalar.g-room 𝓤 H A W E G8
+              15 Laws.mir (Local.room-whole 𝓤 H A W (Declared.row Notice.the-type) Laws.mir Path.refl)) d78
+
+          d80 : Typed.Typed 𝓤 H A 𝓣 E G7 b55 Δ0 (at80 bs)
+          d80 = Typed.g-pre 𝓤 H A W 𝓣 E G7 G8 b55 Δ0 (Typed.pass T7 T8 (s6 bs)) (at79 bs) (Scalar.g-room 𝓤 H A W E G7
+              14 Laws''''''''''.mir (Local.room-whole 𝓤 H A W (Declared.row RecordQuestion.the-type) Laws''''''''''.mir
+              Path.refl)) d79
+
+          d81 : Typed.Typed 𝓤 H A 𝓣 E G6 b56 Δ0 (at81 bs)
+          d81 = Typed.s-seq 𝓤 H A W 𝓣 E G6 G7 b4 b55 Δ0 (Typed.both (s5 bs)) (at80 bs) (Plain.t-call-plain 𝓤 H A W 𝓣 0
+              ps·0 r·0 (claims· .0) (claims· .1) "hnsr_circuit::calls::revoking::revoking" (known .0) E (λ pos β. β) G6 (
+                record { pos = 14; st = List.[]; d = 0; at = λ x. x },
                 (
-                  Yields.yields-copy 𝓤 H A W (λ ρ. Unit) (Declared'.row ReservationId.the-type) Path.refl (Copies.cStruct
-                      ReservationId.the-type Laws'.the-laws Laws'.the-copy .copy 𝓤 H A W)
-                      (Rows.whole (Declared'.row ReservationId.the-type)) (λ x. x) (λ x. x) (λ ρ told. Local.mem-whole
-                      𝓤 H A W (Declared'.row ReservationId.the-type) ρ) λ ρ told. Local.whole-mem 𝓤 H A W
-                      (Declared'.row ReservationId.the-type) ρ,
+                  record { pos = 15; st = List.[]; d = 0; at = λ x. x },
+                  (record { pos = 16; st = List.[]; d = 0; at = λ x. x }, tt),
+                ),
+              ) 10 List.[] (Call.sub-id 𝓤 H A W (G6 .slots)) (
+                (
+                  Yields.yields-copy 𝓤 H A W (λ ρ. Unit) (Declared.row RecordQuestion.the-type) Path.refl (Copies.cEnum
+                      RecordQuestion.the-type Laws''''''''''.the-laws Laws''''''''''.the-copy .copy 𝓤 H A W)
+                      (Rows.whole (Declared.row RecordQuestion.the-type)) (λ x. x) (λ x. x) (λ ρ told. Local.mem-whole
+                      𝓤 H A W (Declared.row RecordQuestion.the-type) ρ) λ ρ told. Local.whole-mem 𝓤 H A W
+                      (Declared.row RecordQuestion.the-type) ρ,
                   Path.refl,
                 ),
+                (
+                  (
+                    Yields.yields-copy 𝓤 H A W (λ ρ. Unit) (Declared.row Notice.the-type) Path.refl (Copies.cEnum
+                        Notice.the-type Laws.the-laws Laws.the-copy .copy 𝓤 H A W)
+                        (Rows.whole (Declared.row Notice.the-type)) (λ x. x) (λ x. x) (λ ρ told. Local.mem-whole 𝓤 H A
+                        W (Declared.row Notice.the-type) ρ) λ ρ told. Local.whole-mem 𝓤 H A W
+                        (Declared.row Notice.the-type) ρ,
+                    Path.refl,
+                  ),
+                  (
+                    (
+                      Yields.yields-copy 𝓤 H A W (λ ρ. Unit) (Declared.row Notice.the-type) Path.refl (Copies.cEnum
+                          Notice.the-type Laws.the-laws Laws.the-copy .copy 𝓤 H A W)
+                          (Rows.whole (Declared.row Notice.the-type)) (λ x. x) (λ x. x) (λ ρ told. Local.mem-whole 𝓤 H
+                          A W (Declared.row Notice.the-type) ρ) λ ρ told. Local.whole-mem 𝓤 H A W
+                          (Declared.row Notice.the-type) ρ,
+                      Path.refl,
+                    ),
+                    tt,
+                  ),
+                ),
+              ) (Reads'.room-gone 𝓤 H A Laws''''.mir) tt Path.refl) d80
+
+          d82 : Typed.Typed 𝓤 H A 𝓣 E G5 b57 Δ0 (at82 bs)
+          d82 = Typed.s-seq 𝓤 H A W 𝓣 E G5 G6 b3 b56 Δ0 (Typed.pass T5 T6 (s4 bs)) (at81 bs) (Make.t-enum-make-wt 𝓤 H A
+              W E 𝓣 Notice.the-type Laws.the-laws Laws.the-plain tt G5 16 ((Scalar.oInt Syntax.w8 1) ∷ List.[])
+              (λ m. Notice.enum .make (Logic.inr (Logic.inl tt))) (Reads'.room-gone 𝓤 H A Laws.mir) (tt, tt) Path.refl (λ
+              m wa. Make.made-val Notice.the-type Laws.the-laws List.[] (Notice.enum .make (Logic.inr (Logic.inl tt)))
+              tt (wa .1)) λ m wa. Make.made-is Notice.the-type Laws.the-laws List.[]
+              (Notice.enum .make (Logic.inr (Logic.inl tt))) tt (wa .1)) d81
+
+          d83 : Typed.Typed 𝓤 H A 𝓣 E G4 b58 Δ0 (at83 bs)
+          d83 = Typed.s-seq 𝓤 H A W 𝓣 E G4 G5 b2 b57 Δ0 (Typed.pass T4 T5 (s3 bs)) (at82 bs) (Make.t-enum-make-wt 𝓤 H A
+              W E 𝓣 Notice.the-type Laws.the-laws Laws.the-plain tt G4 15 ((Scalar.oInt Syntax.w8 1) ∷ List.[])
+              (λ m. Notice.enum .make (Logic.inr (Logic.inl tt))) (Reads'.room-gone 𝓤 H A Laws.mir) (tt, tt) Path.refl (λ
+              m wa. Make.made-val Notice.the-type Laws.the-laws List.[] (Notice.enum .make (Logic.inr (Logic.inl tt)))
+              tt (wa .1)) λ m wa. Make.made-is Notice.the-type Laws.the-laws List.[]
+              (Notice.enum .make (Logic.inr (Logic.inl tt))) tt (wa .1)) d82
+
+          d84 : Typed.Typed 𝓤 H A 𝓣 E G3 b59 Δ0 (at84 bs)
+          d84 = Typed.s-seq 𝓤 H A W 𝓣 E G3 G4 b1 b58 Δ0 (Typed.pass T3 T4 (s2 bs)) (at83 bs) (Make.t-enum-make-wt 𝓤 H A
+              W E 𝓣 RecordQuestion.the-type Laws''''''''''.the-laws Laws''''''''''.the-plain tt G3 14 ((Scalar.oInt
+              Syntax.w8 2) ∷ (Scalar.oAt 8 Laws'.mir (Laws'''''''''''''.val ReservationId.the-type Laws'.the-laws)) ∷
+              List.[]) (λ m. RecordQuestion.enum .make (Logic.inr (Logic.inr
+              (Logic.inl (m .1 .1 .1 .1 .1 .1 .1 .1 .0, tt))))) (Reads'.room-gone 𝓤 H A Laws''''''''''.mir) (
                 tt,
-              ) (Reads'.room-gone 𝓤 H A Laws''''''''''.mir) tt Path.refl) d83
+                ((Reads.reads-struct 𝓤 H A W ReservationId.the-type Laws'.the-laws, Path.refl), tt),
+              ) Path.refl (λ m wa. Make.made-val RecordQuestion.the-type Laws''''''''''.the-laws ((Laws'''''''''''''.val
+              ReservationId.the-type Laws'.the-laws (m .1 .1 .1 .1 .1 .1 .1 .1 .0)) ∷ List.[]) (RecordQuestion.enum
+              .make (Logic.inr (Logic.inr (Logic.inl (m .1 .1 .1 .1 .1 .1 .1 .1 .0, tt))))) (
+                Signed.made-wt ReservationId.the-field Laws'.the-field-laws (Make'.struct-wt ReservationId.the-type
+                    Laws'.the-laws (Make'.u64-wt, (Make'.u64-wt, tt))) (ReservationId.the-type .to
+                    (m .1 .1 .1 .1 .1 .1 .1 .1 .0)),
+                tt,
+              ) (wa .1)) λ m wa. Make.made-is RecordQuestion.the-type Laws''''''''''.the-laws ((Laws'''''''''''''.val
+              ReservationId.the-type Laws'.the-laws (m .1 .1 .1 .1 .1 .1 .1 .1 .0)) ∷ List.[]) (RecordQuestion.enum
+              .make (Logic.inr (Logic.inr (Logic.inl (m .1 .1 .1 .1 .1 .1 .1 .1 .0, tt))))) (
+                Signed.made-wt ReservationId.the-field Laws'.the-field-laws (Make'.struct-wt ReservationId.the-type
+                    Laws'.the-laws (Make'.u64-wt, (Make'.u64-wt, tt))) (ReservationId.the-type .to
+                    (m .1 .1 .1 .1 .1 .1 .1 .1 .0)),
+                tt,
+              ) (wa .1)) d83
 
           d85 : Typed.Typed 𝓤 H A 𝓣 E G2 b60 Δ0 (at85 bs)
           d85 = Typed.s-seq 𝓤 H A W 𝓣 E G2 G3 b0 b59 Δ0 (Typed.both (s1 bs)) (at84 bs) (WayStmt.t-way-copy-out 𝓤 H A W
@@ -3755,6 +3754,18 @@ module _ (claims· : Claims) where
           (m1 (before .before) (before .slice-known .given))) → Typed.Mo T3
       m2 = λ before given. s1 (before .before .blocks) .next (m1 (before .before) (before .slice-known .given)) given
 
+      abbrev pub m3 : (before : After-slice-known) → (given : s1 (before .before .blocks) .gives
+          (m1 (before .before) (before .slice-known .given))) → Typed.Mo T4
+      m3 = λ before given. s2 (before .before .blocks) (m2 before given)
+
+      abbrev pub m4 : (before : After-slice-known) → (given : s1 (before .before .blocks) .gives
+          (m1 (before .before) (before .slice-known .given))) → Typed.Mo T5
+      m4 = λ before given. s3 (before .before .blocks) (m3 before given)
+
+      abbrev pub m5 : (before : After-slice-known) → (given : s1 (before .before .blocks) .gives
+          (m1 (before .before) (before .slice-known .given))) → Typed.Mo T6
+      m5 = λ before given. s4 (before .before .blocks) (m4 before given)
+
       module _ (before· : After-slice-known) where
         pub record After-config·own : Type 0 where
           pub given : s1 (before· .before .blocks) .gives (m1 (before· .before) (before· .slice-known .given))
@@ -3763,96 +3774,121 @@ module _ (claims· : Claims) where
         pub before : After-slice-known
         pub config : After-config·own before
 
-      abbrev pub Need-under-requires : Type 0
-      Need-under-requires = (c : After-config) → s2 (c .before .before .blocks) .asks
-          (m2 (c .before) (c .config .given))
+      abbrev pub Need-revoking-requires : Type 0
+      Need-revoking-requires = (c : After-config) → s5 (c .before .before .blocks) .asks
+          (m5 (c .before) (c .config .given))
 
-      abbrev pub m3 : (before : After-config) → (given : s2 (before .before .before .blocks) .gives
-          (m2 (before .before) (before .config .given))) → Typed.Mo T4
-      m3 = λ before given. s2 (before .before .before .blocks) .next (m2 (before .before) (before .config .given))
+      abbrev pub m6 : (before : After-config) → (given : s5 (before .before .before .blocks) .gives
+          (m5 (before .before) (before .config .given))) → Typed.Mo T7
+      m6 = λ before given. s5 (before .before .before .blocks) .next (m5 (before .before) (before .config .given))
           given
 
       module _ (before· : After-config) where
-        abbrev pub After-under·own : Type 0
-        After-under·own = Called.Called ps·0 r·0 (claims· .1) T3
-            (record { pos = 8; st = List.[]; d = 0; at = λ x. x }, tt) (m2 (before· .before) (before· .config .given))
+        abbrev pub After-revoking·own : Type 0
+        After-revoking·own = Called.Called ps·0 r·0 (claims· .1) T6 (
+          record { pos = 14; st = List.[]; d = 0; at = λ x. x },
+          (
+            record { pos = 15; st = List.[]; d = 0; at = λ x. x },
+            (record { pos = 16; st = List.[]; d = 0; at = λ x. x }, tt),
+          ),
+        ) (m5 (before· .before) (before· .config .given))
 
-      pub record After-under : Type 0 where
+      pub record After-revoking : Type 0 where
         pub before : After-config
-        pub under : After-under·own before
+        pub revoking : After-revoking·own before
 
-      abbrev pub After-under·gave : (c : After-under) → s2 (c .before .before .before .blocks) .gives
-          (m2 (c .before .before) (c .before .config .given))
-      After-under·gave = λ c. Called.given ps·0 r·0 (claims· .1) T3
-          (record { pos = 8; st = List.[]; d = 0; at = λ x. x }, tt)
-          (m2 (c .before .before) (c .before .config .given)) (c .under)
+      abbrev pub After-revoking·gave : (c : After-revoking) → s5 (c .before .before .before .blocks) .gives
+          (m5 (c .before .before) (c .before .config .given))
+      After-revoking·gave = λ c. Called.given ps·0 r·0 (claims· .1) T6 (
+        record { pos = 14; st = List.[]; d = 0; at = λ x. x },
+        (
+          record { pos = 15; st = List.[]; d = 0; at = λ x. x },
+          (record { pos = 16; st = List.[]; d = 0; at = λ x. x }, tt),
+        ),
+      ) (m5 (c .before .before) (c .before .config .given)) (c .revoking)
 
-      abbrev pub m4 : (before : After-under) → (given : s4 (before .before .before .before .blocks) .gives
-          (m3 (before .before) (After-under·gave before))) → Typed.Mo T6
-      m4 = λ before given. s4 (before .before .before .before .blocks) .next
-          (m3 (before .before) (After-under·gave before)) given
+      abbrev pub m7 : (before : After-config) → (given : s5 (before .before .before .blocks) .gives
+          (m5 (before .before) (before .config .given))) → Typed.Mo T8
+      m7 = λ before given. s6 (before .before .before .blocks) (m6 before given)
 
-      abbrev pub m5 : (before : After-under) → (given : s4 (before .before .before .before .blocks) .gives
-          (m3 (before .before) (After-under·gave before))) → Typed.Mo T7
-      m5 = λ before given. s5 (before .before .before .before .blocks) .next (m4 before given)
+      abbrev pub m8 : (before : After-config) → (given : s5 (before .before .before .blocks) .gives
+          (m5 (before .before) (before .config .given))) → Typed.Mo T9
+      m8 = λ before given. s7 (before .before .before .blocks) (m7 before given)
 
-      module _ (before· : After-under) where
+      abbrev pub m9 : (before : After-config) → (given : s5 (before .before .before .blocks) .gives
+          (m5 (before .before) (before .config .given))) → Typed.Mo T10
+      m9 = λ before given. s8 (before .before .before .blocks) (m8 before given)
+
+      abbrev pub m10 : (before : After-revoking) → (given : s10 (before .before .before .before .blocks) .gives
+          (m9 (before .before) (After-revoking·gave before))) → Typed.Mo T12
+      m10 = λ before given. s10 (before .before .before .before .blocks) .next
+          (m9 (before .before) (After-revoking·gave before)) given
+
+      abbrev pub m11 : (before : After-revoking) → (given : s10 (before .before .before .before .blocks) .gives
+          (m9 (before .before) (After-revoking·gave before))) → Typed.Mo T13
+      m11 = λ before given. s11 (before .before .before .before .blocks) .next (m10 before given)
+
+      module _ (before· : After-revoking) where
         pub record After-entry-answer-arg·own : Type 0 where
-          pub given : s4 (before· .before .before .before .blocks) .gives
-              (m3 (before· .before) (After-under·gave before·))
+          pub given : s10 (before· .before .before .before .blocks) .gives
+              (m9 (before· .before) (After-revoking·gave before·))
 
       pub record After-entry-answer-arg : Type 0 where
-        pub before : After-under
+        pub before : After-revoking
         pub entry-answer-arg : After-entry-answer-arg·own before
 
-      abbrev pub m6 : (before : After-entry-answer-arg) → (given : s7 (before .before .before .before .before .blocks)
-          .gives (m5 (before .before) (before .entry-answer-arg .given))) → Typed.Mo T9
-      m6 = λ before given. s7 (before .before .before .before .before .blocks) .next
-          (m5 (before .before) (before .entry-answer-arg .given)) given
+      abbrev pub m12 : (before : After-entry-answer-arg) → (given : s13
+          (before .before .before .before .before .blocks) .gives
+          (m11 (before .before) (before .entry-answer-arg .given))) → Typed.Mo T15
+      m12 = λ before given. s13 (before .before .before .before .before .blocks) .next
+          (m11 (before .before) (before .entry-answer-arg .given)) given
 
-      abbrev pub m7 : (before : After-entry-answer-arg) → (given : s7 (before .before .before .before .before .blocks)
-          .gives (m5 (before .before) (before .entry-answer-arg .given))) → Typed.Mo T10
-      m7 = λ before given. s8 (before .before .before .before .before .blocks) .next (m6 before given)
+      abbrev pub m13 : (before : After-entry-answer-arg) → (given : s13
+          (before .before .before .before .before .blocks) .gives
+          (m11 (before .before) (before .entry-answer-arg .given))) → Typed.Mo T16
+      m13 = λ before given. s14 (before .before .before .before .before .blocks) .next (m12 before given)
 
-      abbrev pub m8 : (before : After-entry-answer-arg) → (given : s7 (before .before .before .before .before .blocks)
-          .gives (m5 (before .before) (before .entry-answer-arg .given))) → Typed.Mo T11
-      m8 = λ before given. s9 (before .before .before .before .before .blocks) (m7 before given)
+      abbrev pub m14 : (before : After-entry-answer-arg) → (given : s13
+          (before .before .before .before .before .blocks) .gives
+          (m11 (before .before) (before .entry-answer-arg .given))) → Typed.Mo T17
+      m14 = λ before given. s15 (before .before .before .before .before .blocks) (m13 before given)
 
-      abbrev pub m9 : (before : After-entry-answer-arg) → (given : s7 (before .before .before .before .before .blocks)
-          .gives (m5 (before .before) (before .entry-answer-arg .given))) → Typed.Mo T12
-      m9 = λ before given. s10 (before .before .before .before .before .blocks) (m8 before given)
+      abbrev pub m15 : (before : After-entry-answer-arg) → (given : s13
+          (before .before .before .before .before .blocks) .gives
+          (m11 (before .before) (before .entry-answer-arg .given))) → Typed.Mo T18
+      m15 = λ before given. s16 (before .before .before .before .before .blocks) (m14 before given)
 
       module _ (before· : After-entry-answer-arg) where
         pub record After-entry-answer-arg2·own : Type 0 where
-          pub given : s7 (before· .before .before .before .before .blocks) .gives
-              (m5 (before· .before) (before· .entry-answer-arg .given))
+          pub given : s13 (before· .before .before .before .before .blocks) .gives
+              (m11 (before· .before) (before· .entry-answer-arg .given))
 
       pub record After-entry-answer-arg2 : Type 0 where
         pub before : After-entry-answer-arg
         pub entry-answer-arg2 : After-entry-answer-arg2·own before
 
       abbrev pub Need-entry-answer-requires : Type 0
-      Need-entry-answer-requires = (c : After-entry-answer-arg2) → s11
-          (c .before .before .before .before .before .blocks) .asks (m9 (c .before) (c .entry-answer-arg2 .given))
+      Need-entry-answer-requires = (c : After-entry-answer-arg2) → s17
+          (c .before .before .before .before .before .blocks) .asks (m15 (c .before) (c .entry-answer-arg2 .given))
 
-      abbrev pub m10 : (before : After-entry-answer-arg2) → (given : s11
+      abbrev pub m16 : (before : After-entry-answer-arg2) → (given : s17
           (before .before .before .before .before .before .blocks) .gives
-          (m9 (before .before) (before .entry-answer-arg2 .given))) → Typed.Mo T13
-      m10 = λ before given. s11 (before .before .before .before .before .before .blocks) .next
-          (m9 (before .before) (before .entry-answer-arg2 .given)) given
+          (m15 (before .before) (before .entry-answer-arg2 .given))) → Typed.Mo T19
+      m16 = λ before given. s17 (before .before .before .before .before .before .blocks) .next
+          (m15 (before .before) (before .entry-answer-arg2 .given)) given
 
       module _ (before· : After-entry-answer-arg2) where
         abbrev pub After-entry-answer·own : Type 0
-        After-entry-answer·own = Called.Called ps·1 r·1 (claims· .3) T12 (
-          record { pos = 16; ty = ref0; ref = λ x. x },
+        After-entry-answer·own = Called.Called ps·1 r·1 (claims· .3) T18 (
+          record { pos = 18; ty = ref0; ref = λ x. x },
           (
-            record { pos = 18; ty = ref1; ref = λ x. x },
+            record { pos = 20; ty = ref1; ref = λ x. x },
             (
               record { pos = 7; st = List.[]; d = 0; at = λ x. x },
               (
-                Num.vAt 19 λ x. x,
+                Num.vAt 21 λ x. x,
                 (
-                  Num.vAt 20 λ x. x,
+                  Num.vAt 22 λ x. x,
                   (
                     record { pos = 9; st = List.[]; d = 0; at = λ x. x },
                     (record { pos = 10; st = List.[]; d = 0; at = λ x. x }, tt),
@@ -3861,25 +3897,25 @@ module _ (claims· : Claims) where
               ),
             ),
           ),
-        ) (m9 (before· .before) (before· .entry-answer-arg2 .given))
+        ) (m15 (before· .before) (before· .entry-answer-arg2 .given))
 
       pub record After-entry-answer : Type 0 where
         pub before : After-entry-answer-arg2
         pub entry-answer : After-entry-answer·own before
 
-      abbrev pub After-entry-answer·gave : (c : After-entry-answer) → s11
-          (c .before .before .before .before .before .before .blocks) .gives (m9 (c .before .before)
+      abbrev pub After-entry-answer·gave : (c : After-entry-answer) → s17
+          (c .before .before .before .before .before .before .blocks) .gives (m15 (c .before .before)
           (c .before .entry-answer-arg2 .given))
-      After-entry-answer·gave = λ c. Called.given ps·1 r·1 (claims· .3) T12 (
-        record { pos = 16; ty = ref0; ref = λ x. x },
+      After-entry-answer·gave = λ c. Called.given ps·1 r·1 (claims· .3) T18 (
+        record { pos = 18; ty = ref0; ref = λ x. x },
         (
-          record { pos = 18; ty = ref1; ref = λ x. x },
+          record { pos = 20; ty = ref1; ref = λ x. x },
           (
             record { pos = 7; st = List.[]; d = 0; at = λ x. x },
             (
-              Num.vAt 19 λ x. x,
+              Num.vAt 21 λ x. x,
               (
-                Num.vAt 20 λ x. x,
+                Num.vAt 22 λ x. x,
                 (
                   record { pos = 9; st = List.[]; d = 0; at = λ x. x },
                   (record { pos = 10; st = List.[]; d = 0; at = λ x. x }, tt),
@@ -3888,203 +3924,147 @@ module _ (claims· : Claims) where
             ),
           ),
         ),
-      ) (m9 (c .before .before) (c .before .entry-answer-arg2 .given)) (c .entry-answer)
+      ) (m15 (c .before .before) (c .before .entry-answer-arg2 .given)) (c .entry-answer)
 
-      abbrev pub m11 : (before : After-entry-answer-arg2) → (given : s11
+      abbrev pub m17 : (before : After-entry-answer-arg2) → (given : s17
           (before .before .before .before .before .before .blocks) .gives
-          (m9 (before .before) (before .entry-answer-arg2 .given))) → Typed.Mo T14
-      m11 = λ before given. s12 (before .before .before .before .before .before .blocks) (m10 before given)
+          (m15 (before .before) (before .entry-answer-arg2 .given))) → Typed.Mo T20
+      m17 = λ before given. s18 (before .before .before .before .before .before .blocks) (m16 before given)
 
-      abbrev pub m12 : (before : After-entry-answer-arg2) → (given : s11
+      abbrev pub m18 : (before : After-entry-answer-arg2) → (given : s17
           (before .before .before .before .before .before .blocks) .gives
-          (m9 (before .before) (before .entry-answer-arg2 .given))) → Typed.Mo T15
-      m12 = λ before given. s13 (before .before .before .before .before .before .blocks) (m11 before given)
+          (m15 (before .before) (before .entry-answer-arg2 .given))) → Typed.Mo T21
+      m18 = λ before given. s19 (before .before .before .before .before .before .blocks) (m17 before given)
 
-      abbrev pub m13 : (before : After-entry-answer-arg2) → (given : s11
+      abbrev pub m19 : (before : After-entry-answer-arg2) → (given : s17
           (before .before .before .before .before .before .blocks) .gives
-          (m9 (before .before) (before .entry-answer-arg2 .given))) → Typed.Mo T16
-      m13 = λ before given. s14 (before .before .before .before .before .before .blocks) (m12 before given)
+          (m15 (before .before) (before .entry-answer-arg2 .given))) → Typed.Mo T22
+      m19 = λ before given. s20 (before .before .before .before .before .before .blocks) (m18 before given)
 
-      abbrev pub m14 : (before : After-entry-answer-arg2) → (given : s11
+      abbrev pub m20 : (before : After-entry-answer-arg2) → (given : s17
           (before .before .before .before .before .before .blocks) .gives
-          (m9 (before .before) (before .entry-answer-arg2 .given))) → Typed.Mo T17
-      m14 = λ before given. s15 (before .before .before .before .before .before .blocks) (m13 before given)
+          (m15 (before .before) (before .entry-answer-arg2 .given))) → Typed.Mo T23
+      m20 = λ before given. s21 (before .before .before .before .before .before .blocks) (m19 before given)
 
-      abbrev pub m15 : (before : After-entry-answer-arg2) → (given : s11
+      abbrev pub m21 : (before : After-entry-answer-arg2) → (given : s17
           (before .before .before .before .before .before .blocks) .gives
-          (m9 (before .before) (before .entry-answer-arg2 .given))) → Typed.Mo T18
-      m15 = λ before given. s16 (before .before .before .before .before .before .blocks) (m14 before given)
+          (m15 (before .before) (before .entry-answer-arg2 .given))) → Typed.Mo T24
+      m21 = λ before given. s22 (before .before .before .before .before .before .blocks) (m20 before given)
 
-      abbrev pub m16 : (before : After-entry-answer-arg2) → (given : s11
+      abbrev pub m22 : (before : After-entry-answer-arg2) → (given : s17
           (before .before .before .before .before .before .blocks) .gives
-          (m9 (before .before) (before .entry-answer-arg2 .given))) → Typed.Mo T20
-      m16 = λ before given. s18 (before .before .before .before .before .before .blocks) (m15 before given)
+          (m15 (before .before) (before .entry-answer-arg2 .given))) → Typed.Mo T26
+      m22 = λ before given. s24 (before .before .before .before .before .before .blocks) (m21 before given)
 
-      abbrev pub m17 : (before : After-entry-answer-arg2) → (given : s11
+      abbrev pub m23 : (before : After-entry-answer-arg2) → (given : s17
           (before .before .before .before .before .before .blocks) .gives
-          (m9 (before .before) (before .entry-answer-arg2 .given))) → Typed.Mo T23
-      m17 = λ before given. s21 (before .before .before .before .before .before .blocks) (m16 before given)
+          (m15 (before .before) (before .entry-answer-arg2 .given))) → Typed.Mo T29
+      m23 = λ before given. s27 (before .before .before .before .before .before .blocks) (m22 before given)
 
-      abbrev pub m18 : (before : After-entry-answer-arg2) → (given : s11
+      abbrev pub m24 : (before : After-entry-answer-arg2) → (given : s17
           (before .before .before .before .before .before .blocks) .gives
-          (m9 (before .before) (before .entry-answer-arg2 .given))) → Typed.Mo T25
-      m18 = λ before given. s23 (before .before .before .before .before .before .blocks) (m17 before given)
+          (m15 (before .before) (before .entry-answer-arg2 .given))) → Typed.Mo T31
+      m24 = λ before given. s29 (before .before .before .before .before .before .blocks) (m23 before given)
 
-      abbrev pub m19 : (before : After-entry-answer) → (given : s24 (before .before .before .before .before .before
-          .before .blocks) .gives (m18 (before .before) (After-entry-answer·gave before))) → Typed.Mo T26
-      m19 = λ before given. s24 (before .before .before .before .before .before .before .blocks) .next
-          (m18 (before .before) (After-entry-answer·gave before)) given
+      abbrev pub m25 : (before : After-entry-answer) → (given : s30 (before .before .before .before .before .before
+          .before .blocks) .gives (m24 (before .before) (After-entry-answer·gave before))) → Typed.Mo T32
+      m25 = λ before given. s30 (before .before .before .before .before .before .before .blocks) .next
+          (m24 (before .before) (After-entry-answer·gave before)) given
 
-      abbrev pub m20 : (before : After-entry-answer) → (given : s24 (before .before .before .before .before .before
-          .before .blocks) .gives (m18 (before .before) (After-entry-answer·gave before))) → Typed.Mo T27
-      m20 = λ before given. s25 (before .before .before .before .before .before .before .blocks) (m19 before given)
+      abbrev pub m26 : (before : After-entry-answer) → (given : s30 (before .before .before .before .before .before
+          .before .blocks) .gives (m24 (before .before) (After-entry-answer·gave before))) → Typed.Mo T33
+      m26 = λ before given. s31 (before .before .before .before .before .before .before .blocks) (m25 before given)
 
       module _ (before· : After-entry-answer) where
         pub record After-first·own : Type 0 where
-          pub given : s24 (before· .before .before .before .before .before .before .blocks) .gives
-              (m18 (before· .before) (After-entry-answer·gave before·))
+          pub given : s30 (before· .before .before .before .before .before .before .blocks) .gives
+              (m24 (before· .before) (After-entry-answer·gave before·))
 
       pub record After-first : Type 0 where
         pub before : After-entry-answer
         pub first : After-first·own before
 
       abbrev pub Need-is-taken-requires : Type 0
-      Need-is-taken-requires = (c : After-first) → s26 (c .before .before .before .before .before .before .before
-          .blocks) .asks (m20 (c .before) (c .first .given))
+      Need-is-taken-requires = (c : After-first) → s32 (c .before .before .before .before .before .before .before
+          .blocks) .asks (m26 (c .before) (c .first .given))
 
-      abbrev pub m21 : (before : After-first) → (given : s26 (before .before .before .before .before .before .before
-          .before .blocks) .gives (m20 (before .before) (before .first .given))) → Typed.Mo T28
-      m21 = λ before given. s26 (before .before .before .before .before .before .before .before .blocks) .next
-          (m20 (before .before) (before .first .given)) given
+      abbrev pub m27 : (before : After-first) → (given : s32 (before .before .before .before .before .before .before
+          .before .blocks) .gives (m26 (before .before) (before .first .given))) → Typed.Mo T34
+      m27 = λ before given. s32 (before .before .before .before .before .before .before .before .blocks) .next
+          (m26 (before .before) (before .first .given)) given
 
       module _ (before· : After-first) where
         abbrev pub After-is-taken·own : Type 0
-        After-is-taken·own = Called.Called ps·2 r·2 (claims· .5) T27
-            (record { pos = 12; st = List.[]; d = 0; at = λ x. x }, tt) (m20 (before· .before) (before· .first .given))
+        After-is-taken·own = Called.Called ps·2 r·2 (claims· .5) T33
+            (record { pos = 12; st = List.[]; d = 0; at = λ x. x }, tt) (m26 (before· .before) (before· .first .given))
 
       pub record After-is-taken : Type 0 where
         pub before : After-first
         pub is-taken : After-is-taken·own before
 
-      abbrev pub After-is-taken·gave : (c : After-is-taken) → s26 (c .before .before .before .before .before .before
-          .before .before .blocks) .gives (m20 (c .before .before) (c .before .first .given))
-      After-is-taken·gave = λ c. Called.given ps·2 r·2 (claims· .5) T27
+      abbrev pub After-is-taken·gave : (c : After-is-taken) → s32 (c .before .before .before .before .before .before
+          .before .before .blocks) .gives (m26 (c .before .before) (c .before .first .given))
+      After-is-taken·gave = λ c. Called.given ps·2 r·2 (claims· .5) T33
           (record { pos = 12; st = List.[]; d = 0; at = λ x. x }, tt)
-          (m20 (c .before .before) (c .before .first .given)) (c .is-taken)
+          (m26 (c .before .before) (c .before .first .given)) (c .is-taken)
 
-      abbrev W1 : (before : After-first) → (given : s26 (before .before .before .before .before .before .before .before
-          .blocks) .gives (m20 (before .before) (before .first .given))) → Typed.Want O1
-      W1 = λ before given. Typed.wantNext T29 O0 (at58 (before .before .before .before .before .before .before .before
+      abbrev W1 : (before : After-first) → (given : s32 (before .before .before .before .before .before .before .before
+          .blocks) .gives (m26 (before .before) (before .first .given))) → Typed.Want O1
+      W1 = λ before given. Typed.wantNext T35 O0 (at52 (before .before .before .before .before .before .before .before
           .blocks) (W0 (before .before .before .before .before .before .before .before .κs) (before .before .before
           .before .before .before .before .before .args) (before .before .before .before .before .before .before
           .before .blocks))) (W0 (before .before .before .before .before .before .before .before .κs) (before .before
           .before .before .before .before .before .before .args) (before .before .before .before .before .before
           .before .before .blocks))
 
-      abbrev pub m22 : (before : After-is-taken) → Typed.Mo T30
-      m22 = λ before. s27 (before .before .before .before .before .before .before .before .before .blocks)
-          (m21 (before .before) (After-is-taken·gave before))
+      abbrev pub m28 : (before : After-is-taken) → Typed.Mo T36
+      m28 = λ before. s33 (before .before .before .before .before .before .before .before .before .blocks)
+          (m27 (before .before) (After-is-taken·gave before))
 
-      abbrev pub m23 : (before : After-is-taken) → Typed.Mo T31
-      m23 = λ before. s28 (before .before .before .before .before .before .before .before .before .blocks) (m22 before)
-
-      abbrev pub m24 : (before : After-is-taken) → Typed.Mo T32
-      m24 = λ before. s29 (before .before .before .before .before .before .before .before .before .blocks) (m23 before)
-
-      abbrev pub m25 : (before : After-is-taken) → Typed.Mo T33
-      m25 = λ before. s30 (before .before .before .before .before .before .before .before .before .blocks) (m24 before)
+      abbrev pub m29 : (before : After-is-taken) → Typed.Mo T37
+      m29 = λ before. s34 (before .before .before .before .before .before .before .before .before .blocks) (m28 before)
 
       module _ (before· : After-is-taken) where
         pub record Then1·own : Type 0 where
-          pub taken : Path._≡_ (Row.get 21 (T28 .locals) (m21 (before· .before) (After-is-taken·gave before·)))
+          pub taken : Path._≡_ (Row.get 23 (T34 .locals) (m27 (before· .before) (After-is-taken·gave before·)))
               Bool'.true
 
       pub record Then1 : Type 0 where
         pub before : After-is-taken
         pub if1 : Then1·own before
 
-      abbrev pub Need-revoking-requires : Type 0
-      Need-revoking-requires = (c : Then1) → s31 (c .before .before .before .before .before .before .before .before
-          .before .blocks) .asks (m25 (c .before))
+      abbrev pub m30 : (before : Then1) → (given : s36 (before .before .before .before .before .before .before .before
+          .before .before .blocks) .gives (m29 (before .before))) → Typed.Mo T39
+      m30 = λ before given. s36 (before .before .before .before .before .before .before .before .before .before .blocks)
+          .next (m29 (before .before)) given
 
-      abbrev pub m26 : (before : Then1) → (given : s31 (before .before .before .before .before .before .before .before
-          .before .before .blocks) .gives (m25 (before .before))) → Typed.Mo T34
-      m26 = λ before given. s31 (before .before .before .before .before .before .before .before .before .before .blocks)
-          .next (m25 (before .before)) given
+      abbrev pub m31 : (before : Then1) → (given : s36 (before .before .before .before .before .before .before .before
+          .before .before .blocks) .gives (m29 (before .before))) → Typed.Mo T40
+      m31 = λ before given. s37 (before .before .before .before .before .before .before .before .before .before .blocks)
+          .next (m30 before given)
 
       module _ (before· : Then1) where
-        abbrev pub After-revoking·own : Type 0
-        After-revoking·own = Called.Called ps·3 r·3 (claims· .7) T33 (
-          record { pos = 10; st = List.[]; d = 0; at = λ x. x },
-          (
-            record { pos = 22; st = List.[]; d = 0; at = λ x. x },
-            (record { pos = 23; st = List.[]; d = 0; at = λ x. x }, tt),
-          ),
-        ) (m25 (before· .before))
-
-      pub record After-revoking : Type 0 where
-        pub before : Then1
-        pub revoking : After-revoking·own before
-
-      abbrev pub After-revoking·gave : (c : After-revoking) → s31 (c .before .before .before .before .before .before
-          .before .before .before .before .blocks) .gives (m25 (c .before .before))
-      After-revoking·gave = λ c. Called.given ps·3 r·3 (claims· .7) T33 (
-        record { pos = 10; st = List.[]; d = 0; at = λ x. x },
-        (
-          record { pos = 22; st = List.[]; d = 0; at = λ x. x },
-          (record { pos = 23; st = List.[]; d = 0; at = λ x. x }, tt),
-        ),
-      ) (m25 (c .before .before)) (c .revoking)
-
-      abbrev pub m27 : (before : Then1) → (given : s31 (before .before .before .before .before .before .before .before
-          .before .before .blocks) .gives (m25 (before .before))) → Typed.Mo T35
-      m27 = λ before given. s32 (before .before .before .before .before .before .before .before .before .before .blocks)
-          (m26 before given)
-
-      abbrev pub m28 : (before : Then1) → (given : s31 (before .before .before .before .before .before .before .before
-          .before .before .blocks) .gives (m25 (before .before))) → Typed.Mo T36
-      m28 = λ before given. s33 (before .before .before .before .before .before .before .before .before .before .blocks)
-          (m27 before given)
-
-      abbrev pub m29 : (before : Then1) → (given : s31 (before .before .before .before .before .before .before .before
-          .before .before .blocks) .gives (m25 (before .before))) → Typed.Mo T37
-      m29 = λ before given. s34 (before .before .before .before .before .before .before .before .before .before .blocks)
-          (m28 before given)
-
-      abbrev pub m30 : (before : After-revoking) → (given : s36 (before .before .before .before .before .before .before
-          .before .before .before .before .blocks) .gives (m29 (before .before) (After-revoking·gave before))) →
-          Typed.Mo T39
-      m30 = λ before given. s36 (before .before .before .before .before .before .before .before .before .before .before
-          .blocks) .next (m29 (before .before) (After-revoking·gave before)) given
-
-      abbrev pub m31 : (before : After-revoking) → (given : s36 (before .before .before .before .before .before .before
-          .before .before .before .before .blocks) .gives (m29 (before .before) (After-revoking·gave before))) →
-          Typed.Mo T40
-      m31 = λ before given. s37 (before .before .before .before .before .before .before .before .before .before .before
-          .blocks) .next (m30 before given)
-
-      module _ (before· : After-revoking) where
         pub record After-drop-usage-arg·own : Type 0 where
-          pub given : s36 (before· .before .before .before .before .before .before .before .before .before .before
-              .blocks) .gives (m29 (before· .before) (After-revoking·gave before·))
+          pub given : s36 (before· .before .before .before .before .before .before .before .before .before .blocks)
+              .gives (m29 (before· .before))
 
       pub record After-drop-usage-arg : Type 0 where
-        pub before : After-revoking
+        pub before : Then1
         pub drop-usage-arg : After-drop-usage-arg·own before
 
       abbrev pub Need-drop-usage-requires : Type 0
       Need-drop-usage-requires = (c : After-drop-usage-arg) → s38 (c .before .before .before .before .before .before
-          .before .before .before .before .before .blocks) .asks (m31 (c .before) (c .drop-usage-arg .given))
+          .before .before .before .before .blocks) .asks (m31 (c .before) (c .drop-usage-arg .given))
 
       abbrev pub m32 : (before : After-drop-usage-arg) → (given : s38 (before .before .before .before .before .before
-          .before .before .before .before .before .before .blocks) .gives
+          .before .before .before .before .before .blocks) .gives
           (m31 (before .before) (before .drop-usage-arg .given))) → Typed.Mo T41
       m32 = λ before given. s38 (before .before .before .before .before .before .before .before .before .before .before
-          .before .blocks) .next (m31 (before .before) (before .drop-usage-arg .given)) given
+          .blocks) .next (m31 (before .before) (before .drop-usage-arg .given)) given
 
       module _ (before· : After-drop-usage-arg) where
         abbrev pub After-drop-usage·own : Type 0
-        After-drop-usage·own = Called.Called ps·4 r·4 (claims· .9) T40 (
+        After-drop-usage·own = Called.Called ps·3 r·3 (claims· .7) T40 (
           record { pos = 26; ty = ref2; ref = λ x. x },
           (
             record { pos = 7; st = List.[]; d = 0; at = λ x. x },
@@ -4097,9 +4077,9 @@ module _ (claims· : Claims) where
         pub drop-usage : After-drop-usage·own before
 
       abbrev pub After-drop-usage·gave : (c : After-drop-usage) → s38 (c .before .before .before .before .before
-          .before .before .before .before .before .before .before .blocks) .gives (m31 (c .before .before)
+          .before .before .before .before .before .before .blocks) .gives (m31 (c .before .before)
           (c .before .drop-usage-arg .given))
-      After-drop-usage·gave = λ c. Called.given ps·4 r·4 (claims· .9) T40 (
+      After-drop-usage·gave = λ c. Called.given ps·3 r·3 (claims· .7) T40 (
         record { pos = 26; ty = ref2; ref = λ x. x },
         (
           record { pos = 7; st = List.[]; d = 0; at = λ x. x },
@@ -4108,114 +4088,112 @@ module _ (claims· : Claims) where
       ) (m31 (c .before .before) (c .before .drop-usage-arg .given)) (c .drop-usage)
 
       abbrev pub m33 : (before : After-drop-usage-arg) → (given : s38 (before .before .before .before .before .before
-          .before .before .before .before .before .before .blocks) .gives
+          .before .before .before .before .before .blocks) .gives
           (m31 (before .before) (before .drop-usage-arg .given))) → Typed.Mo T42
       m33 = λ before given. s39 (before .before .before .before .before .before .before .before .before .before .before
-          .before .blocks) (m32 before given)
+          .blocks) (m32 before given)
 
       abbrev pub m34 : (before : After-drop-usage-arg) → (given : s38 (before .before .before .before .before .before
-          .before .before .before .before .before .before .blocks) .gives
+          .before .before .before .before .before .blocks) .gives
           (m31 (before .before) (before .drop-usage-arg .given))) → Typed.Mo T43
       m34 = λ before given. s40 (before .before .before .before .before .before .before .before .before .before .before
-          .before .blocks) (m33 before given)
+          .blocks) (m33 before given)
 
       abbrev pub m35 : (before : After-drop-usage) → (given : s42 (before .before .before .before .before .before
-          .before .before .before .before .before .before .before .blocks) .gives
+          .before .before .before .before .before .before .blocks) .gives
           (m34 (before .before) (After-drop-usage·gave before))) → Typed.Mo T45
       m35 = λ before given. s42 (before .before .before .before .before .before .before .before .before .before .before
-          .before .before .blocks) .next (m34 (before .before) (After-drop-usage·gave before)) given
+          .before .blocks) .next (m34 (before .before) (After-drop-usage·gave before)) given
 
       module _ (before· : After-drop-usage) where
         pub record After-ledger·own : Type 0 where
           pub given : s42 (before· .before .before .before .before .before .before .before .before .before .before
-              .before .before .blocks) .gives (m34 (before· .before) (After-drop-usage·gave before·))
+              .before .blocks) .gives (m34 (before· .before) (After-drop-usage·gave before·))
 
       pub record After-ledger : Type 0 where
         pub before : After-drop-usage
         pub ledger : After-ledger·own before
 
       abbrev pub m36 : (before : After-ledger) → (given : s45 (before .before .before .before .before .before .before
-          .before .before .before .before .before .before .before .blocks) .gives
+          .before .before .before .before .before .before .blocks) .gives
           (m35 (before .before) (before .ledger .given))) → Typed.Mo T48
       m36 = λ before given. s45 (before .before .before .before .before .before .before .before .before .before .before
-          .before .before .before .blocks) .next (m35 (before .before) (before .ledger .given)) given
+          .before .before .blocks) .next (m35 (before .before) (before .ledger .given)) given
 
       abbrev pub m37 : (before : After-ledger) → (given : s45 (before .before .before .before .before .before .before
-          .before .before .before .before .before .before .before .blocks) .gives
+          .before .before .before .before .before .before .blocks) .gives
           (m35 (before .before) (before .ledger .given))) → Typed.Mo T49
       m37 = λ before given. s46 (before .before .before .before .before .before .before .before .before .before .before
-          .before .before .before .blocks) .next (m36 before given)
+          .before .before .blocks) .next (m36 before given)
 
       module _ (before· : After-ledger) where
         pub record After-revoke-all-arg·own : Type 0 where
           pub given : s45 (before· .before .before .before .before .before .before .before .before .before .before
-              .before .before .before .blocks) .gives (m35 (before· .before) (before· .ledger .given))
+              .before .before .blocks) .gives (m35 (before· .before) (before· .ledger .given))
 
       pub record After-revoke-all-arg : Type 0 where
         pub before : After-ledger
         pub revoke-all-arg : After-revoke-all-arg·own before
 
       abbrev pub m38 : (before : After-revoke-all-arg) → (given : s48 (before .before .before .before .before .before
-          .before .before .before .before .before .before .before .before .before .blocks) .gives
+          .before .before .before .before .before .before .before .before .blocks) .gives
           (m37 (before .before) (before .revoke-all-arg .given))) → Typed.Mo T51
       m38 = λ before given. s48 (before .before .before .before .before .before .before .before .before .before .before
-          .before .before .before .before .blocks) .next (m37 (before .before) (before .revoke-all-arg .given)) given
+          .before .before .before .blocks) .next (m37 (before .before) (before .revoke-all-arg .given)) given
 
       abbrev pub m39 : (before : After-revoke-all-arg) → (given : s48 (before .before .before .before .before .before
-          .before .before .before .before .before .before .before .before .before .blocks) .gives
+          .before .before .before .before .before .before .before .before .blocks) .gives
           (m37 (before .before) (before .revoke-all-arg .given))) → Typed.Mo T52
       m39 = λ before given. s49 (before .before .before .before .before .before .before .before .before .before .before
-          .before .before .before .before .blocks) .next (m38 before given)
+          .before .before .before .blocks) .next (m38 before given)
 
       module _ (before· : After-revoke-all-arg) where
         pub record After-revoke-all-arg2·own : Type 0 where
           pub given : s48 (before· .before .before .before .before .before .before .before .before .before .before
-              .before .before .before .before .blocks) .gives (m37 (before· .before) (before· .revoke-all-arg .given))
+              .before .before .before .blocks) .gives (m37 (before· .before) (before· .revoke-all-arg .given))
 
       pub record After-revoke-all-arg2 : Type 0 where
         pub before : After-revoke-all-arg
         pub revoke-all-arg2 : After-revoke-all-arg2·own before
 
       abbrev pub m40 : (before : After-revoke-all-arg2) → (given : s51 (before .before .before .before .before .before
-          .before .before .before .before .before .before .before .before .before .before .blocks) .gives
+          .before .before .before .before .before .before .before .before .before .blocks) .gives
           (m39 (before .before) (before .revoke-all-arg2 .given))) → Typed.Mo T54
       m40 = λ before given. s51 (before .before .before .before .before .before .before .before .before .before .before
-          .before .before .before .before .before .blocks) .next
-          (m39 (before .before) (before .revoke-all-arg2 .given)) given
+          .before .before .before .before .blocks) .next (m39 (before .before) (before .revoke-all-arg2 .given)) given
 
       abbrev pub m41 : (before : After-revoke-all-arg2) → (given : s51 (before .before .before .before .before .before
-          .before .before .before .before .before .before .before .before .before .before .blocks) .gives
+          .before .before .before .before .before .before .before .before .before .blocks) .gives
           (m39 (before .before) (before .revoke-all-arg2 .given))) → Typed.Mo T55
       m41 = λ before given. s52 (before .before .before .before .before .before .before .before .before .before .before
-          .before .before .before .before .before .blocks) .next (m40 before given)
+          .before .before .before .before .blocks) .next (m40 before given)
 
       module _ (before· : After-revoke-all-arg2) where
         pub record After-revoke-all-arg3·own : Type 0 where
           pub given : s51 (before· .before .before .before .before .before .before .before .before .before .before
-              .before .before .before .before .before .blocks) .gives
-              (m39 (before· .before) (before· .revoke-all-arg2 .given))
+              .before .before .before .before .blocks) .gives (m39 (before· .before) (before· .revoke-all-arg2 .given))
 
       pub record After-revoke-all-arg3 : Type 0 where
         pub before : After-revoke-all-arg2
         pub revoke-all-arg3 : After-revoke-all-arg3·own before
 
       abbrev pub m42 : (before : After-revoke-all-arg3) → (given : s54 (before .before .before .before .before .before
-          .before .before .before .before .before .before .before .before .before .before .before .blocks) .gives
+          .before .before .before .before .before .before .before .before .before .before .blocks) .gives
           (m41 (before .before) (before .revoke-all-arg3 .given))) → Typed.Mo T57
       m42 = λ before given. s54 (before .before .before .before .before .before .before .before .before .before .before
-          .before .before .before .before .before .before .blocks) .next
+          .before .before .before .before .before .blocks) .next
           (m41 (before .before) (before .revoke-all-arg3 .given)) given
 
       abbrev pub m43 : (before : After-revoke-all-arg3) → (given : s54 (before .before .before .before .before .before
-          .before .before .before .before .before .before .before .before .before .before .before .blocks) .gives
+          .before .before .before .before .before .before .before .before .before .before .blocks) .gives
           (m41 (before .before) (before .revoke-all-arg3 .given))) → Typed.Mo T58
       m43 = λ before given. s55 (before .before .before .before .before .before .before .before .before .before .before
-          .before .before .before .before .before .before .blocks) .next (m42 before given)
+          .before .before .before .before .before .blocks) .next (m42 before given)
 
       module _ (before· : After-revoke-all-arg3) where
         pub record After-revoke-all-arg4·own : Type 0 where
           pub given : s54 (before· .before .before .before .before .before .before .before .before .before .before
-              .before .before .before .before .before .before .blocks) .gives
+              .before .before .before .before .before .blocks) .gives
               (m41 (before· .before) (before· .revoke-all-arg3 .given))
 
       pub record After-revoke-all-arg4 : Type 0 where
@@ -4224,19 +4202,19 @@ module _ (claims· : Claims) where
 
       abbrev pub Need-revoke-all-requires : Type 0
       Need-revoke-all-requires = (c : After-revoke-all-arg4) → s56 (c .before .before .before .before .before .before
-          .before .before .before .before .before .before .before .before .before .before .before .blocks) .asks
+          .before .before .before .before .before .before .before .before .before .before .blocks) .asks
           (m43 (c .before) (c .revoke-all-arg4 .given))
 
       abbrev pub m44 : (before : After-revoke-all-arg4) → (given : s56 (before .before .before .before .before .before
-          .before .before .before .before .before .before .before .before .before .before .before .before .blocks)
-          .gives (m43 (before .before) (before .revoke-all-arg4 .given))) → Typed.Mo T59
+          .before .before .before .before .before .before .before .before .before .before .before .blocks) .gives
+          (m43 (before .before) (before .revoke-all-arg4 .given))) → Typed.Mo T59
       m44 = λ before given. s56 (before .before .before .before .before .before .before .before .before .before .before
-          .before .before .before .before .before .before .before .blocks) .next
+          .before .before .before .before .before .before .blocks) .next
           (m43 (before .before) (before .revoke-all-arg4 .given)) given
 
       module _ (before· : After-revoke-all-arg4) where
         abbrev pub After-revoke-all·own : Type 0
-        After-revoke-all·own = Called.Called ps·5 r·5 (claims· .11) T58 (
+        After-revoke-all·own = Called.Called ps·4 r·4 (claims· .9) T58 (
           record { pos = 28; ty = ref3; ref = λ x. x },
           (
             record { pos = 30; ty = ref4; ref = λ x. x },
@@ -4249,7 +4227,7 @@ module _ (claims· : Claims) where
                   (
                     record { pos = 7; st = List.[]; d = 0; at = λ x. x },
                     (
-                      record { pos = 14; st = List.[]; d = 0; at = λ x. x },
+                      record { pos = 10; st = List.[]; d = 0; at = λ x. x },
                       (record { pos = 13; st = List.[]; d = 0; at = λ x. x }, tt),
                     ),
                   ),
@@ -4264,9 +4242,9 @@ module _ (claims· : Claims) where
         pub revoke-all : After-revoke-all·own before
 
       abbrev pub After-revoke-all·gave : (c : After-revoke-all) → s56 (c .before .before .before .before .before
-          .before .before .before .before .before .before .before .before .before .before .before .before .before
-          .blocks) .gives (m43 (c .before .before) (c .before .revoke-all-arg4 .given))
-      After-revoke-all·gave = λ c. Called.given ps·5 r·5 (claims· .11) T58 (
+          .before .before .before .before .before .before .before .before .before .before .before .before .blocks)
+          .gives (m43 (c .before .before) (c .before .revoke-all-arg4 .given))
+      After-revoke-all·gave = λ c. Called.given ps·4 r·4 (claims· .9) T58 (
         record { pos = 28; ty = ref3; ref = λ x. x },
         (
           record { pos = 30; ty = ref4; ref = λ x. x },
@@ -4279,7 +4257,7 @@ module _ (claims· : Claims) where
                 (
                   record { pos = 7; st = List.[]; d = 0; at = λ x. x },
                   (
-                    record { pos = 14; st = List.[]; d = 0; at = λ x. x },
+                    record { pos = 10; st = List.[]; d = 0; at = λ x. x },
                     (record { pos = 13; st = List.[]; d = 0; at = λ x. x }, tt),
                   ),
                 ),
@@ -4290,40 +4268,40 @@ module _ (claims· : Claims) where
       ) (m43 (c .before .before) (c .before .revoke-all-arg4 .given)) (c .revoke-all)
 
       abbrev pub m45 : (before : After-revoke-all-arg4) → (given : s56 (before .before .before .before .before .before
-          .before .before .before .before .before .before .before .before .before .before .before .before .blocks)
-          .gives (m43 (before .before) (before .revoke-all-arg4 .given))) → Typed.Mo T60
+          .before .before .before .before .before .before .before .before .before .before .before .blocks) .gives
+          (m43 (before .before) (before .revoke-all-arg4 .given))) → Typed.Mo T60
       m45 = λ before given. s57 (before .before .before .before .before .before .before .before .before .before .before
-          .before .before .before .before .before .before .before .blocks) (m44 before given)
+          .before .before .before .before .before .before .blocks) (m44 before given)
 
       abbrev pub m46 : (before : After-revoke-all-arg4) → (given : s56 (before .before .before .before .before .before
-          .before .before .before .before .before .before .before .before .before .before .before .before .blocks)
-          .gives (m43 (before .before) (before .revoke-all-arg4 .given))) → Typed.Mo T61
+          .before .before .before .before .before .before .before .before .before .before .before .blocks) .gives
+          (m43 (before .before) (before .revoke-all-arg4 .given))) → Typed.Mo T61
       m46 = λ before given. s58 (before .before .before .before .before .before .before .before .before .before .before
-          .before .before .before .before .before .before .before .blocks) (m45 before given)
+          .before .before .before .before .before .before .blocks) (m45 before given)
 
       abbrev pub m47 : (before : After-revoke-all-arg4) → (given : s56 (before .before .before .before .before .before
-          .before .before .before .before .before .before .before .before .before .before .before .before .blocks)
-          .gives (m43 (before .before) (before .revoke-all-arg4 .given))) → Typed.Mo T62
+          .before .before .before .before .before .before .before .before .before .before .before .blocks) .gives
+          (m43 (before .before) (before .revoke-all-arg4 .given))) → Typed.Mo T62
       m47 = λ before given. s59 (before .before .before .before .before .before .before .before .before .before .before
-          .before .before .before .before .before .before .before .blocks) (m46 before given)
+          .before .before .before .before .before .before .blocks) (m46 before given)
 
       abbrev pub m48 : (before : After-revoke-all-arg4) → (given : s56 (before .before .before .before .before .before
-          .before .before .before .before .before .before .before .before .before .before .before .before .blocks)
-          .gives (m43 (before .before) (before .revoke-all-arg4 .given))) → Typed.Mo T63
+          .before .before .before .before .before .before .before .before .before .before .before .blocks) .gives
+          (m43 (before .before) (before .revoke-all-arg4 .given))) → Typed.Mo T63
       m48 = λ before given. s60 (before .before .before .before .before .before .before .before .before .before .before
-          .before .before .before .before .before .before .before .blocks) (m47 before given)
+          .before .before .before .before .before .before .blocks) (m47 before given)
 
       abbrev pub m49 : (before : After-revoke-all) → (given : s62 (before .before .before .before .before .before
-          .before .before .before .before .before .before .before .before .before .before .before .before .before
-          .blocks) .gives (m48 (before .before) (After-revoke-all·gave before))) → Typed.Mo T65
+          .before .before .before .before .before .before .before .before .before .before .before .before .blocks)
+          .gives (m48 (before .before) (After-revoke-all·gave before))) → Typed.Mo T65
       m49 = λ before given. s62 (before .before .before .before .before .before .before .before .before .before .before
-          .before .before .before .before .before .before .before .before .blocks) .next
+          .before .before .before .before .before .before .before .blocks) .next
           (m48 (before .before) (After-revoke-all·gave before)) given
 
       module _ (before· : After-revoke-all) where
         pub record After-pending·own : Type 0 where
           pub given : s62 (before· .before .before .before .before .before .before .before .before .before .before
-              .before .before .before .before .before .before .before .before .blocks) .gives
+              .before .before .before .before .before .before .before .blocks) .gives
               (m48 (before· .before) (After-revoke-all·gave before·))
 
       pub record After-pending : Type 0 where
@@ -4331,16 +4309,16 @@ module _ (claims· : Claims) where
         pub pending : After-pending·own before
 
       abbrev pub m50 : (before : After-pending) → (given : s65 (before .before .before .before .before .before .before
-          .before .before .before .before .before .before .before .before .before .before .before .before .before
-          .blocks) .gives (m49 (before .before) (before .pending .given))) → Typed.Mo T68
+          .before .before .before .before .before .before .before .before .before .before .before .before .blocks)
+          .gives (m49 (before .before) (before .pending .given))) → Typed.Mo T68
       m50 = λ before given. s65 (before .before .before .before .before .before .before .before .before .before .before
-          .before .before .before .before .before .before .before .before .before .blocks) .next
+          .before .before .before .before .before .before .before .before .blocks) .next
           (m49 (before .before) (before .pending .given)) given
 
       module _ (before· : After-pending) where
         pub record After-circuits·own : Type 0 where
           pub given : s65 (before· .before .before .before .before .before .before .before .before .before .before
-              .before .before .before .before .before .before .before .before .before .blocks) .gives
+              .before .before .before .before .before .before .before .before .blocks) .gives
               (m49 (before· .before) (before· .pending .given))
 
       pub record After-circuits : Type 0 where
@@ -4349,15 +4327,15 @@ module _ (claims· : Claims) where
 
       abbrev pub m51 : (before : After-circuits) → (given : s68 (before .before .before .before .before .before .before
           .before .before .before .before .before .before .before .before .before .before .before .before .before
-          .before .blocks) .gives (m50 (before .before) (before .circuits .given))) → Typed.Mo T71
+          .blocks) .gives (m50 (before .before) (before .circuits .given))) → Typed.Mo T71
       m51 = λ before given. s68 (before .before .before .before .before .before .before .before .before .before .before
-          .before .before .before .before .before .before .before .before .before .before .blocks) .next
+          .before .before .before .before .before .before .before .before .before .blocks) .next
           (m50 (before .before) (before .circuits .given)) given
 
       module _ (before· : After-circuits) where
         pub record After-inflight·own : Type 0 where
           pub given : s68 (before· .before .before .before .before .before .before .before .before .before .before
-              .before .before .before .before .before .before .before .before .before .before .blocks) .gives
+              .before .before .before .before .before .before .before .before .before .blocks) .gives
               (m50 (before· .before) (before· .circuits .given))
 
       pub record After-inflight : Type 0 where
@@ -4366,15 +4344,15 @@ module _ (claims· : Claims) where
 
       abbrev pub m52 : (before : After-inflight) → (given : s71 (before .before .before .before .before .before .before
           .before .before .before .before .before .before .before .before .before .before .before .before .before
-          .before .before .blocks) .gives (m51 (before .before) (before .inflight .given))) → Typed.Mo T74
+          .before .blocks) .gives (m51 (before .before) (before .inflight .given))) → Typed.Mo T74
       m52 = λ before given. s71 (before .before .before .before .before .before .before .before .before .before .before
-          .before .before .before .before .before .before .before .before .before .before .before .blocks) .next
+          .before .before .before .before .before .before .before .before .before .before .blocks) .next
           (m51 (before .before) (before .inflight .given)) given
 
       module _ (before· : After-inflight) where
         pub record After-out·own : Type 0 where
           pub given : s71 (before· .before .before .before .before .before .before .before .before .before .before
-              .before .before .before .before .before .before .before .before .before .before .before .blocks) .gives
+              .before .before .before .before .before .before .before .before .before .before .blocks) .gives
               (m51 (before· .before) (before· .inflight .given))
 
       pub record After-out : Type 0 where
@@ -4383,16 +4361,16 @@ module _ (claims· : Claims) where
 
       abbrev pub m53 : (before : After-out) → (given : s72 (before .before .before .before .before .before .before
           .before .before .before .before .before .before .before .before .before .before .before .before .before
-          .before .before .before .blocks) .gives (m52 (before .before) (before .out .given))) → Typed.Mo T75
+          .before .before .blocks) .gives (m52 (before .before) (before .out .given))) → Typed.Mo T75
       m53 = λ before given. s72 (before .before .before .before .before .before .before .before .before .before .before
-          .before .before .before .before .before .before .before .before .before .before .before .before .blocks)
-          .next (m52 (before .before) (before .out .given)) given
+          .before .before .before .before .before .before .before .before .before .before .before .blocks) .next
+          (m52 (before .before) (before .out .given)) given
 
       module _ (before· : After-out) where
         pub record After-slice-known2·own : Type 0 where
           pub given : s72 (before· .before .before .before .before .before .before .before .before .before .before
-              .before .before .before .before .before .before .before .before .before .before .before .before .blocks)
-              .gives (m52 (before· .before) (before· .out .given))
+              .before .before .before .before .before .before .before .before .before .before .before .blocks) .gives
+              (m52 (before· .before) (before· .out .given))
 
       pub record After-slice-known2 : Type 0 where
         pub before : After-out
@@ -4402,68 +4380,66 @@ module _ (claims· : Claims) where
       Need-same-length = (c : After-slice-known2) → MutSlice.SameLen (Row.get 1 (T75 .locals)
           (m53 (c .before) (c .slice-known2 .given))) (dens (c .before .before .before .before .before .before .before
           .before .before .before .before .before .before .before .before .before .before .before .before .before
-          .before .before .before .κs) (c .before .before .before .before .before .before .before .before .before
-          .before .before .before .before .before .before .before .before .before .before .before .before .before
-          .before .args) .0)
+          .before .before .κs) (c .before .before .before .before .before .before .before .before .before .before
+          .before .before .before .before .before .before .before .before .before .before .before .before .args) .0)
 
       abbrev pub Need-same-length-2 : Type 0
       Need-same-length-2 = (c : After-slice-known2) → MutSlice.SameLen (Row.get 2 (T75 .locals)
           (m53 (c .before) (c .slice-known2 .given))) (dens (c .before .before .before .before .before .before .before
           .before .before .before .before .before .before .before .before .before .before .before .before .before
-          .before .before .before .κs) (c .before .before .before .before .before .before .before .before .before
-          .before .before .before .before .before .before .before .before .before .before .before .before .before
-          .before .args) .1 .0)
+          .before .before .κs) (c .before .before .before .before .before .before .before .before .before .before
+          .before .before .before .before .before .before .before .before .before .before .before .before .args) .1 .0)
 
       abbrev pub Need-same-length-3 : Type 0
       Need-same-length-3 = (c : After-slice-known2) → MutSlice.SameLen (Row.get 3 (T75 .locals)
           (m53 (c .before) (c .slice-known2 .given))) (dens (c .before .before .before .before .before .before .before
           .before .before .before .before .before .before .before .before .before .before .before .before .before
-          .before .before .before .κs) (c .before .before .before .before .before .before .before .before .before
-          .before .before .before .before .before .before .before .before .before .before .before .before .before
-          .before .args) .1 .1 .0)
+          .before .before .κs) (c .before .before .before .before .before .before .before .before .before .before
+          .before .before .before .before .before .before .before .before .before .before .before .before .args) .1 .1
+          .0)
 
       abbrev pub Need-same-length-4 : Type 0
       Need-same-length-4 = (c : After-slice-known2) → MutSlice.SameLen (Row.get 4 (T75 .locals)
           (m53 (c .before) (c .slice-known2 .given))) (dens (c .before .before .before .before .before .before .before
           .before .before .before .before .before .before .before .before .before .before .before .before .before
-          .before .before .before .κs) (c .before .before .before .before .before .before .before .before .before
-          .before .before .before .before .before .before .before .before .before .before .before .before .before
-          .before .args) .1 .1 .1 .0)
+          .before .before .κs) (c .before .before .before .before .before .before .before .before .before .before
+          .before .before .before .before .before .before .before .before .before .before .before .before .args) .1 .1
+          .1 .0)
 
       abbrev pub Need-same-length-5 : Type 0
       Need-same-length-5 = (c : After-slice-known2) → MutSlice.SameLen (Row.get 5 (T75 .locals)
           (m53 (c .before) (c .slice-known2 .given))) (dens (c .before .before .before .before .before .before .before
           .before .before .before .before .before .before .before .before .before .before .before .before .before
-          .before .before .before .κs) (c .before .before .before .before .before .before .before .before .before
-          .before .before .before .before .before .before .before .before .before .before .before .before .before
-          .before .args) .1 .1 .1 .1 .0)
+          .before .before .κs) (c .before .before .before .before .before .before .before .before .before .before
+          .before .before .before .before .before .before .before .before .before .before .before .before .args) .1 .1
+          .1 .1 .0)
 
       abbrev pub Need-returns : Type 0
       Need-returns = (c : After-slice-known2) → Post· (c .before .before .before .before .before .before .before
           .before .before .before .before .before .before .before .before .before .before .before .before .before
-          .before .before .before .κs) (dens (c .before .before .before .before .before .before .before .before .before
+          .before .before .κs) (dens (c .before .before .before .before .before .before .before .before .before .before
+          .before .before .before .before .before .before .before .before .before .before .before .before .κs) (c
           .before .before .before .before .before .before .before .before .before .before .before .before .before
-          .before .κs) (c .before .before .before .before .before .before .before .before .before .before .before
-          .before .before .before .before .before .before .before .before .before .before .before .before .args)) (Function.resV
-          r (c .before .before .before .before .before .before .before .before .before .before .before .before .before
-          .before .before .before .before .before .before .before .before .before .before .κs)
+          .before .before .before .before .before .before .before .before .before .args)) (Function.resV r (c .before
+          .before .before .before .before .before .before .before .before .before .before .before .before .before
+          .before .before .before .before .before .before .before .before .κs)
           (m53 (c .before) (c .slice-known2 .given) .0)) (Clauses.atExit (Kinds.endedOf 5 ps r) (c .before .before
           .before .before .before .before .before .before .before .before .before .before .before .before .before
-          .before .before .before .before .before .before .before .before .κs) (dens (c .before .before .before .before
+          .before .before .before .before .before .before .before .κs) (dens (c .before .before .before .before .before
           .before .before .before .before .before .before .before .before .before .before .before .before .before
-          .before .before .before .before .before .before .κs) (c .before .before .before .before .before .before
+          .before .before .before .before .κs) (c .before .before .before .before .before .before .before .before
           .before .before .before .before .before .before .before .before .before .before .before .before .before
-          .before .before .before .before .args)) (Enter.lastsP (c .before .before .before .before .before .before
+          .before .args)) (Enter.lastsP (c .before .before .before .before .before .before .before .before .before
+          .before .before .before .before .before .before .before .before .before .before .before .before .before .κs)
+          1 ps xs (dens (c .before .before .before .before .before .before .before .before .before .before .before
+          .before .before .before .before .before .before .before .before .before .before .before .κs) (c .before
           .before .before .before .before .before .before .before .before .before .before .before .before .before
-          .before .before .before .before .κs) 1 ps xs (dens (c .before .before .before .before .before .before .before
-          .before .before .before .before .before .before .before .before .before .before .before .before .before
-          .before .before .before .κs) (c .before .before .before .before .before .before .before .before .before
-          .before .before .before .before .before .before .before .before .before .before .before .before .before
-          .before .args)) (m53 (c .before) (c .slice-known2 .given) .1)))
+          .before .before .before .before .before .before .before .before .args))
+          (m53 (c .before) (c .slice-known2 .given) .1)))
 
       abbrev pub m54 : (before : After-is-taken) → Typed.Mo T77
       m54 = λ before. s74 (before .before .before .before .before .before .before .before .before .blocks)
-          (m21 (before .before) (After-is-taken·gave before))
+          (m27 (before .before) (After-is-taken·gave before))
 
       abbrev pub m55 : (before : After-is-taken) → Typed.Mo T78
       m55 = λ before. s75 (before .before .before .before .before .before .before .before .before .blocks) (m54 before)
@@ -4476,7 +4452,7 @@ module _ (claims· : Claims) where
 
       module _ (before· : After-is-taken) where
         pub record Else1·own : Type 0 where
-          pub left : Path._≡_ (Row.get 21 (T28 .locals) (m21 (before· .before) (After-is-taken·gave before·)))
+          pub left : Path._≡_ (Row.get 23 (T34 .locals) (m27 (before· .before) (After-is-taken·gave before·)))
               Bool'.false
 
       pub record Else1 : Type 0 where
@@ -4494,7 +4470,7 @@ module _ (claims· : Claims) where
 
       module _ (before· : Else1) where
         abbrev pub After-refused·own : Type 0
-        After-refused·own = Called.Called ps·6 r·6 (claims· .13) T29 (
+        After-refused·own = Called.Called ps·5 r·5 (claims· .11) T35 (
           record { pos = 6; st = List.[]; d = 0; at = λ x. x },
           (
             record { pos = 7; st = List.[]; d = 0; at = λ x. x },
@@ -4508,7 +4484,7 @@ module _ (claims· : Claims) where
 
       abbrev pub After-refused·gave : (c : After-refused) → s78 (c .before .before .before .before .before .before
           .before .before .before .before .blocks) .gives (m57 (c .before .before))
-      After-refused·gave = λ c. Called.given ps·6 r·6 (claims· .13) T29 (
+      After-refused·gave = λ c. Called.given ps·5 r·5 (claims· .11) T35 (
         record { pos = 6; st = List.[]; d = 0; at = λ x. x },
         (
           record { pos = 7; st = List.[]; d = 0; at = λ x. x },
@@ -4556,19 +4532,19 @@ module _ (claims· : Claims) where
           .before .before .before .κs) (c .before .before .before .before .before .before .before .before .before
           .before .args)) (m61 (c .before) (After-refused·gave c) .1)))
 
-      module _ (under-requires : Need-under-requires) (entry-answer-requires : Need-entry-answer-requires)
-          (is-taken-requires : Need-is-taken-requires) (revoking-requires : Need-revoking-requires)
-          (drop-usage-requires : Need-drop-usage-requires) (revoke-all-requires : Need-revoke-all-requires)
-          (same-length : Need-same-length) (same-length-2 : Need-same-length-2) (same-length-3 : Need-same-length-3)
+      module _ (revoking-requires : Need-revoking-requires) (entry-answer-requires : Need-entry-answer-requires)
+          (is-taken-requires : Need-is-taken-requires) (drop-usage-requires : Need-drop-usage-requires)
+          (revoke-all-requires : Need-revoke-all-requires) (same-length : Need-same-length)
+          (same-length-2 : Need-same-length-2) (same-length-3 : Need-same-length-3)
           (same-length-4 : Need-same-length-4) (same-length-5 : Need-same-length-5) (returns : Need-returns)
           (refused-requires : Need-refused-requires) (same-length-6 : Need-same-length-6)
           (same-length-7 : Need-same-length-7) (returns-2 : Need-returns-2) where
-        lay8 : (c : After-refused) → at57 (c .before .before .before .before .before .before .before .before .before
+        lay7 : (c : After-refused) → at51 (c .before .before .before .before .before .before .before .before .before
             .before .blocks) (W0 (c .before .before .before .before .before .before .before .before .before .before .κs) (c
             .before .before .before .before .before .before .before .before .before .before .args) (c .before .before
             .before .before .before .before .before .before .before .before .blocks))
             (m58 (c .before) (After-refused·gave c))
-        lay8 = λ c. (
+        lay7 = λ c. (
           (
             MutSlice.fix-len (Row.get 1 (T84 .locals) (m61 (c .before) (After-refused·gave c)) .ptr) (Row.get 1
                 (T84 .locals) (m61 (c .before) (After-refused·gave c)) .name) (Row.get 1 (T84 .locals)
@@ -4588,15 +4564,15 @@ module _ (claims· : Claims) where
           returns-2 record { before = c .before; refused = c .refused },
         )
 
-        lay7 : (c : Else1) → at58 (c .before .before .before .before .before .before .before .before .before .blocks) (W0 (c
+        lay6 : (c : Else1) → at52 (c .before .before .before .before .before .before .before .before .before .blocks) (W0 (c
             .before .before .before .before .before .before .before .before .before .κs) (c .before .before .before
             .before .before .before .before .before .before .args) (c .before .before .before .before .before .before
             .before .before .before .blocks)) (m57 (c .before))
-        lay7 = λ c. (
+        lay6 = λ c. (
           refused-requires record { before = c .before; if1 = c .if1 },
-          λ g. lay8 record {
+          λ g. lay7 record {
             before = record { before = c .before; if1 = c .if1 };
-            refused = Called.called ps·6 r·6 (claims· .13) T29 (
+            refused = Called.called ps·5 r·5 (claims· .11) T35 (
               record { pos = 6; st = List.[]; d = 0; at = λ x. x },
               (
                 record { pos = 7; st = List.[]; d = 0; at = λ x. x },
@@ -4606,12 +4582,11 @@ module _ (claims· : Claims) where
           },
         )
 
-        lay6 : (c : After-revoke-all) → at17 (c .before .before .before .before .before .before .before .before .before
-            .before .before .before .before .before .before .before .before .before .blocks) (W1 (c .before .before
-            .before .before .before .before .before .before .before .before .before) (After-is-taken·gave (c .before
-            .before .before .before .before .before .before .before .before .before)))
-            (m44 (c .before) (After-revoke-all·gave c))
-        lay6 = λ c. (
+        lay5 : (c : After-revoke-all) → at17 (c .before .before .before .before .before .before .before .before .before
+            .before .before .before .before .before .before .before .before .blocks) (W1 (c .before .before .before
+            .before .before .before .before .before .before .before) (After-is-taken·gave (c .before .before .before
+            .before .before .before .before .before .before))) (m44 (c .before) (After-revoke-all·gave c))
+        lay5 = λ c. (
           Path.refl,
           λ g. (
             Path.refl,
@@ -4661,9 +4636,9 @@ module _ (claims· : Claims) where
                           };
                           out = record { given = g'3 };
                         } g'4) .now) (dens (c .before .before .before .before .before .before .before .before .before
-                        .before .before .before .before .before .before .before .before .before .κs) (c .before .before
+                        .before .before .before .before .before .before .before .before .κs) (c .before .before .before
                         .before .before .before .before .before .before .before .before .before .before .before .before
-                        .before .before .before .before .args) .0 .now) (same-length
+                        .before .before .args) .0 .now) (same-length
                         record {
                           before = record {
                             before = record {
@@ -4721,9 +4696,9 @@ module _ (claims· : Claims) where
                             };
                             out = record { given = g'3 };
                           } g'4) .now) (dens (c .before .before .before .before .before .before .before .before .before
-                          .before .before .before .before .before .before .before .before .before .κs) (c .before
+                          .before .before .before .before .before .before .before .before .κs) (c .before .before
                           .before .before .before .before .before .before .before .before .before .before .before
-                          .before .before .before .before .before .before .args) .1 .0 .now) (same-length-2
+                          .before .before .before .before .args) .1 .0 .now) (same-length-2
                           record {
                             before = record {
                               before = record {
@@ -4781,9 +4756,9 @@ module _ (claims· : Claims) where
                               };
                               out = record { given = g'3 };
                             } g'4) .now) (dens (c .before .before .before .before .before .before .before .before
-                            .before .before .before .before .before .before .before .before .before .before .κs) (c
+                            .before .before .before .before .before .before .before .before .before .κs) (c .before
                             .before .before .before .before .before .before .before .before .before .before .before
-                            .before .before .before .before .before .before .before .args) .1 .1 .0 .now) (same-length-3
+                            .before .before .before .before .before .args) .1 .1 .0 .now) (same-length-3
                             record {
                               before = record {
                                 before = record {
@@ -4841,9 +4816,9 @@ module _ (claims· : Claims) where
                                 };
                                 out = record { given = g'3 };
                               } g'4) .now) (dens (c .before .before .before .before .before .before .before .before
-                              .before .before .before .before .before .before .before .before .before .before .κs) (c
+                              .before .before .before .before .before .before .before .before .before .κs) (c .before
                               .before .before .before .before .before .before .before .before .before .before .before
-                              .before .before .before .before .before .before .before .args) .1 .1 .1 .0 .now) (same-length-4
+                              .before .before .before .before .before .args) .1 .1 .1 .0 .now) (same-length-4
                               record {
                                 before = record {
                                   before = record {
@@ -4901,9 +4876,9 @@ module _ (claims· : Claims) where
                                   };
                                   out = record { given = g'3 };
                                 } g'4) .now) (dens (c .before .before .before .before .before .before .before .before
-                                .before .before .before .before .before .before .before .before .before .before .κs) (c
+                                .before .before .before .before .before .before .before .before .before .κs) (c .before
                                 .before .before .before .before .before .before .before .before .before .before .before
-                                .before .before .before .before .before .before .before .args) .1 .1 .1 .1 .0 .now) (same-length-5
+                                .before .before .before .before .before .args) .1 .1 .1 .1 .0 .now) (same-length-5
                                 record {
                                   before = record {
                                     before = record {
@@ -4948,10 +4923,10 @@ module _ (claims· : Claims) where
           ),
         )
 
-        lay5 : (c : After-drop-usage) → at35 (c .before .before .before .before .before .before .before .before .before
-            .before .before .before .blocks) (W1 (c .before .before .before .before .before)
-            (After-is-taken·gave (c .before .before .before .before))) (m32 (c .before) (After-drop-usage·gave c))
-        lay5 = λ c. (
+        lay4 : (c : After-drop-usage) → at35 (c .before .before .before .before .before .before .before .before .before
+            .before .before .blocks) (W1 (c .before .before .before .before)
+            (After-is-taken·gave (c .before .before .before))) (m32 (c .before) (After-drop-usage·gave c))
+        lay4 = λ c. (
           Path.refl,
           λ g. λ g'. (
             Path.refl,
@@ -4978,7 +4953,7 @@ module _ (claims· : Claims) where
                       };
                       revoke-all-arg4 = record { given = g'4 };
                     },
-                    λ g'5. lay6 record {
+                    λ g'5. lay5 record {
                       before = record {
                         before = record {
                           before = record {
@@ -4995,7 +4970,7 @@ module _ (claims· : Claims) where
                         };
                         revoke-all-arg4 = record { given = g'4 };
                       };
-                      revoke-all = Called.called ps·5 r·5 (claims· .11) T58 (
+                      revoke-all = Called.called ps·4 r·4 (claims· .9) T58 (
                         record { pos = 28; ty = ref3; ref = λ x. x },
                         (
                           record { pos = 30; ty = ref4; ref = λ x. x },
@@ -5008,7 +4983,7 @@ module _ (claims· : Claims) where
                                 (
                                   record { pos = 7; st = List.[]; d = 0; at = λ x. x },
                                   (
-                                    record { pos = 14; st = List.[]; d = 0; at = λ x. x },
+                                    record { pos = 10; st = List.[]; d = 0; at = λ x. x },
                                     (record { pos = 13; st = List.[]; d = 0; at = λ x. x }, tt),
                                   ),
                                 ),
@@ -5037,66 +5012,52 @@ module _ (claims· : Claims) where
           ),
         )
 
-        lay4 : (c : After-revoking) → at42 (c .before .before .before .before .before .before .before .before .before
-            .before .blocks) (W1 (c .before .before .before) (After-is-taken·gave (c .before .before)))
-            (m26 (c .before) (After-revoking·gave c))
-        lay4 = λ c. λ g. (
-          Path.refl,
-          (
-            drop-usage-requires record {
-              before = record { before = c .before; revoking = c .revoking };
-              drop-usage-arg = record { given = g };
-            },
-            λ g'. lay5 record {
-              before = record {
-                before = record { before = c .before; revoking = c .revoking };
-                drop-usage-arg = record { given = g };
-              };
-              drop-usage = Called.called ps·4 r·4 (claims· .9) T40 (
-                record { pos = 26; ty = ref2; ref = λ x. x },
-                (
-                  record { pos = 7; st = List.[]; d = 0; at = λ x. x },
-                  (record { pos = 8; st = List.[]; d = 0; at = λ x. x }, tt),
-                ),
-              ) (m31 record { before = c .before; revoking = c .revoking } g) g';
-            },
-          ),
-        )
-
-        lay3 : (c : After-is-taken) → at59 (c .before .before .before .before .before .before .before .before .blocks) (W0 (c
+        lay3 : (c : After-is-taken) → at53 (c .before .before .before .before .before .before .before .before .blocks) (W0 (c
             .before .before .before .before .before .before .before .before .κs) (c .before .before .before .before
             .before .before .before .before .args) (c .before .before .before .before .before .before .before .before
-            .blocks)) (m21 (c .before) (After-is-taken·gave c))
+            .blocks)) (m27 (c .before) (After-is-taken·gave c))
         lay3 = λ c. (
-          λ taken. (
-            revoking-requires record {
-              before = record { before = c .before; is-taken = c .is-taken };
-              if1 = record { taken = taken };
-            },
-            λ g. lay4 record {
-              before = record {
-                before = record { before = c .before; is-taken = c .is-taken };
-                if1 = record { taken = taken };
-              };
-              revoking = Called.called ps·3 r·3 (claims· .7) T33 (
-                record { pos = 10; st = List.[]; d = 0; at = λ x. x },
-                (
-                  record { pos = 22; st = List.[]; d = 0; at = λ x. x },
-                  (record { pos = 23; st = List.[]; d = 0; at = λ x. x }, tt),
-                ),
-              ) (m25 record { before = c .before; is-taken = c .is-taken }) g;
-            },
+          λ taken. λ g. (
+            Path.refl,
+            (
+              drop-usage-requires record {
+                before = record {
+                  before = record { before = c .before; is-taken = c .is-taken };
+                  if1 = record { taken = taken };
+                };
+                drop-usage-arg = record { given = g };
+              },
+              λ g'. lay4 record {
+                before = record {
+                  before = record {
+                    before = record { before = c .before; is-taken = c .is-taken };
+                    if1 = record { taken = taken };
+                  };
+                  drop-usage-arg = record { given = g };
+                };
+                drop-usage = Called.called ps·3 r·3 (claims· .7) T40 (
+                  record { pos = 26; ty = ref2; ref = λ x. x },
+                  (
+                    record { pos = 7; st = List.[]; d = 0; at = λ x. x },
+                    (record { pos = 8; st = List.[]; d = 0; at = λ x. x }, tt),
+                  ),
+                ) (m31 record {
+                  before = record { before = c .before; is-taken = c .is-taken };
+                  if1 = record { taken = taken };
+                } g) g';
+              },
+            ),
           ),
-          λ left. lay7 record {
+          λ left. lay6 record {
             before = record { before = c .before; is-taken = c .is-taken };
             if1 = record { left = left };
           },
         )
 
-        lay2 : (c : After-entry-answer) → at74 (c .before .before .before .before .before .before .blocks) (W0
+        lay2 : (c : After-entry-answer) → at68 (c .before .before .before .before .before .before .blocks) (W0
             (c .before .before .before .before .before .before .κs)
             (c .before .before .before .before .before .before .args) (c .before .before .before .before .before
-            .before .blocks)) (m10 (c .before) (After-entry-answer·gave c))
+            .before .blocks)) (m16 (c .before) (After-entry-answer·gave c))
         lay2 = λ c. (
           tt,
           λ g. (
@@ -5109,16 +5070,16 @@ module _ (claims· : Claims) where
                 before = record { before = c .before; entry-answer = c .entry-answer };
                 first = record { given = g };
               };
-              is-taken = Called.called ps·2 r·2 (claims· .5) T27
-                  (record { pos = 12; st = List.[]; d = 0; at = λ x. x }, tt) (m20
+              is-taken = Called.called ps·2 r·2 (claims· .5) T33
+                  (record { pos = 12; st = List.[]; d = 0; at = λ x. x }, tt) (m26
                   record { before = c .before; entry-answer = c .entry-answer } g) g';
             },
           ),
         )
 
-        lay1 : (c : After-under) → at83 (c .before .before .before .blocks) (W0 (c .before .before .before .κs)
+        lay1 : (c : After-revoking) → at80 (c .before .before .before .blocks) (W0 (c .before .before .before .κs)
             (c .before .before .before .args) (c .before .before .before .blocks))
-            (m3 (c .before) (After-under·gave c))
+            (m6 (c .before) (After-revoking·gave c))
         lay1 = λ c. λ g. (
           Path.refl,
           λ g'. (
@@ -5126,7 +5087,7 @@ module _ (claims· : Claims) where
             (
               entry-answer-requires record {
                 before = record {
-                  before = record { before = c .before; under = c .under };
+                  before = record { before = c .before; revoking = c .revoking };
                   entry-answer-arg = record { given = g };
                 };
                 entry-answer-arg2 = record { given = g' };
@@ -5134,21 +5095,21 @@ module _ (claims· : Claims) where
               λ g''. lay2 record {
                 before = record {
                   before = record {
-                    before = record { before = c .before; under = c .under };
+                    before = record { before = c .before; revoking = c .revoking };
                     entry-answer-arg = record { given = g };
                   };
                   entry-answer-arg2 = record { given = g' };
                 };
-                entry-answer = Called.called ps·1 r·1 (claims· .3) T12 (
-                  record { pos = 16; ty = ref0; ref = λ x. x },
+                entry-answer = Called.called ps·1 r·1 (claims· .3) T18 (
+                  record { pos = 18; ty = ref0; ref = λ x. x },
                   (
-                    record { pos = 18; ty = ref1; ref = λ x. x },
+                    record { pos = 20; ty = ref1; ref = λ x. x },
                     (
                       record { pos = 7; st = List.[]; d = 0; at = λ x. x },
                       (
-                        Num.vAt 19 λ x. x,
+                        Num.vAt 21 λ x. x,
                         (
-                          Num.vAt 20 λ x. x,
+                          Num.vAt 22 λ x. x,
                           (
                             record { pos = 9; st = List.[]; d = 0; at = λ x. x },
                             (record { pos = 10; st = List.[]; d = 0; at = λ x. x }, tt),
@@ -5157,8 +5118,8 @@ module _ (claims· : Claims) where
                       ),
                     ),
                   ),
-                ) (m9 record {
-                  before = record { before = c .before; under = c .under };
+                ) (m15 record {
+                  before = record { before = c .before; revoking = c .revoking };
                   entry-answer-arg = record { given = g };
                 } g') g'';
               },
@@ -5170,7 +5131,7 @@ module _ (claims· : Claims) where
         laid = λ c. λ g. (
           tt,
           λ g'. (
-            under-requires record {
+            revoking-requires record {
               before = record { before = c; slice-known = record { given = g } };
               config = record { given = g' };
             },
@@ -5179,8 +5140,13 @@ module _ (claims· : Claims) where
                 before = record { before = c; slice-known = record { given = g } };
                 config = record { given = g' };
               };
-              under = Called.called ps·0 r·0 (claims· .1) T3 (record { pos = 8; st = List.[]; d = 0; at = λ x. x }, tt) (m2
-                  record { before = c; slice-known = record { given = g } } g') g'';
+              revoking = Called.called ps·0 r·0 (claims· .1) T6 (
+                record { pos = 14; st = List.[]; d = 0; at = λ x. x },
+                (
+                  record { pos = 15; st = List.[]; d = 0; at = λ x. x },
+                  (record { pos = 16; st = List.[]; d = 0; at = λ x. x }, tt),
+                ),
+              ) (m5 record { before = c; slice-known = record { given = g } } g') g'';
             },
           ),
         )
@@ -5208,14 +5174,13 @@ module _ (claims· : Claims) where
 
         module _ {M : Type 1} (𝓤 : URA.URA M) (H : Wp.Heap 𝓤) (A : Atoms.Atoms 𝓤) (W : Kit.Given 𝓤 H A)
             (𝓣 : Wp.Tables 𝓤 H) (known0 : Plain.Known 𝓤 H A W 𝓣 0 ps·0 r·0 (claims· .0) (claims· .1)
-            "hnsr_circuit::tables::question::under") (known1 : Plain.Known 𝓤 H A W 𝓣 2 ps·1 r·1 (claims· .2)
+            "hnsr_circuit::calls::revoking::revoking") (known1 : Plain.Known 𝓤 H A W 𝓣 2 ps·1 r·1 (claims· .2)
             (claims· .3) "hnsr_circuit::calls::revoking::entry_answer") (known2 : Plain.Known 𝓤 H A W 𝓣 0 ps·2 r·2
-            (claims· .4) (claims· .5) "hnsr_circuit::answer::is_taken") (known3 : Plain.Known 𝓤 H A W 𝓣 0 ps·3 r·3
-            (claims· .6) (claims· .7) "hnsr_circuit::calls::revoking::revoking") (known4 : Plain.Known 𝓤 H A W 𝓣 1 ps·4
-            r·4 (claims· .8) (claims· .9) "hnsr_circuit::tables::stores::drop_usage") (known5 : Plain.Known 𝓤 H A W 𝓣 4
-            ps·5 r·5 (claims· .10) (claims· .11) "hnsr_circuit::calls::revocation::revoke_all") (known6 : Plain.Known 𝓤
-            H A W 𝓣 0 ps·6 r·6 (claims· .12) (claims· .13) "hnsr_circuit::runtime::refused") where
+            (claims· .4) (claims· .5) "hnsr_circuit::answer::is_taken") (known3 : Plain.Known 𝓤 H A W 𝓣 1 ps·3 r·3
+            (claims· .6) (claims· .7) "hnsr_circuit::tables::stores::drop_usage") (known4 : Plain.Known 𝓤 H A W 𝓣 4
+            ps·4 r·4 (claims· .8) (claims· .9) "hnsr_circuit::calls::revocation::revoke_all") (known5 : Plain.Known 𝓤 H
+            A W 𝓣 0 ps·5 r·5 (claims· .10) (claims· .11) "hnsr_circuit::runtime::refused") where
           pub spec : Statement.Triple 𝓤 (Wp.WpFn 𝓤 H (𝓣 .C) (𝓣 .Λ) (Function.fnOf 5 ps r xs m hs body))
               (Function.plainOf 𝓤 H A 5 ps r Pre· Post·)
           spec = Plain.t-fn-plain 𝓤 H A W 𝓣 5 ps r xs m hs body (λ κs qs bs. Φ bs) (λ κs qs bs bd. typed κs qs 𝓤 H A W
-              𝓣 (known0, known1, known2, known3, known4, known5, known6) bs bd) Pre· Post· asked
+              𝓣 (known0, known1, known2, known3, known4, known5) bs bd) Pre· Post· asked

@@ -5,12 +5,14 @@ use Rattle.hnsr_circuit.proofs.By.RelayPending
 use Rattle.hnsr_circuit.proofs.StructRow
 use Rattle.hnsr_circuit.proofs.calls.revocation.Firsts
 use Rattle.hnsr_circuit.proofs.calls.revocation.Firsts.Laws
+use Rattle.hnsr_circuit.proofs.calls.revocation.Revoking
+use Rattle.hnsr_circuit.proofs.calls.revocation.Revoking.Laws as Laws'
 use Rattle.hnsr_circuit.proofs.runtime.OpaqueRelayRuntime
-use Rattle.hnsr_circuit.proofs.runtime.OpaqueRelayRuntime.Laws as Laws'
+use Rattle.hnsr_circuit.proofs.runtime.OpaqueRelayRuntime.Laws as Laws''
 use Rattle.hnsr_circuit.proofs.runtime.Relayed
-use Rattle.hnsr_circuit.proofs.runtime.Relayed.Laws as Laws''
+use Rattle.hnsr_circuit.proofs.runtime.Relayed.Laws as Laws'''
 use Rattle.hnsr_circuit.proofs.tables.places.Places
-use Rattle.hnsr_circuit.proofs.tables.places.Places.Laws as Laws'''
+use Rattle.hnsr_circuit.proofs.tables.places.Places.Laws as Laws''''
 use borrow.Fn.Kinds
 use borrow.Kind.MutSlice
 use borrow.Table.Referent
@@ -21,9 +23,10 @@ use mathlib.Core.List.{_∷_}
 abbrev pub ps : List.List (Kinds.PK 4)
 ps = (MutSlice.pMutS RelayPending.row 0 tt) ∷ (MutSlice.pMutS RelayCircuit.row 1 tt) ∷
     (MutSlice.pMutS InflightAction.row 2 tt) ∷ (MutSlice.pMutS (Referent.rtF (Referent.fInt Syntax.w32)) 3 tt) ∷ (StructRow.param
-    OpaqueRelayRuntime.the-type Laws'.the-laws Laws'.the-copy Laws'.the-plain) ∷ (StructRow.param Places.the-type
-    Laws'''.the-laws Laws'''.the-copy Laws'''.the-plain) ∷ Kinds.pBool ∷ (StructRow.param Firsts.the-type Laws.the-laws
-    Laws.the-copy Laws.the-plain) ∷ List.[]
+    OpaqueRelayRuntime.the-type Laws''.the-laws Laws''.the-copy Laws''.the-plain) ∷ (StructRow.param Places.the-type
+    Laws''''.the-laws Laws''''.the-copy Laws''''.the-plain) ∷ Kinds.pBool ∷ (StructRow.param Revoking.the-type
+    Laws'.the-laws Laws'.the-copy Laws'.the-plain) ∷ (StructRow.param Firsts.the-type Laws.the-laws Laws.the-copy
+    Laws.the-plain) ∷ List.[]
 
 abbrev pub r : Kinds.RK 4
-r = StructRow.result Relayed.the-type Laws''.the-laws Laws''.the-copy Laws''.the-plain
+r = StructRow.result Relayed.the-type Laws'''.the-laws Laws'''.the-copy Laws'''.the-plain

@@ -14,10 +14,8 @@ use Rattle.hnsr_circuit.proofs.runtime.StatusTold
 use Rattle.hnsr_circuit.proofs.runtime.StatusTold.Laws as Laws'''
 use Rattle.hnsr_circuit.proofs.tables.places.Places
 use Rattle.hnsr_circuit.proofs.tables.places.Places.Laws as Laws''''
-use Rattle.hnsr_circuit.proofs.tables.question.Question
-use Rattle.hnsr_circuit.proofs.tables.question.Question.Laws as Laws'''''
 use Rattle.hnsr_circuit.proofs.tables.scan.CircuitTotals
-use Rattle.hnsr_circuit.proofs.tables.scan.CircuitTotals.Laws as Laws''''''
+use Rattle.hnsr_circuit.proofs.tables.scan.CircuitTotals.Laws as Laws'''''
 use borrow.Author.Called
 use borrow.Fn.Any
 use borrow.Fn.Call
@@ -79,154 +77,138 @@ abbrev pub r : Kinds.RK 3
 r = StructRow.result StatusTold.the-type Laws'''.the-laws Laws'''.the-copy Laws'''.the-plain
 
 abbrev pub xs : List.List Syntax.Ty
-xs = Laws.mir ∷ Laws'''''.mir ∷ (Syntax.tyInt Syntax.w64) ∷ Laws''''''.mir ∷ (Syntax.tyInt Syntax.w64) ∷ Syntax.tyBool
-    ∷ Laws'.mir ∷ (Syntax.tyInt Syntax.w64) ∷ (Syntax.tyInt Syntax.w64) ∷ (Syntax.tyInt Syntax.w64) ∷ List.[]
+xs = Laws.mir ∷ (Syntax.tyInt Syntax.w64) ∷ Laws'''''.mir ∷ (Syntax.tyInt Syntax.w64) ∷ Syntax.tyBool ∷ Laws'.mir ∷
+    (Syntax.tyInt Syntax.w64) ∷ (Syntax.tyInt Syntax.w64) ∷ (Syntax.tyInt Syntax.w64) ∷ List.[]
 
 abbrev pub m : Nat.ℕ
 m = 0
 
-abbrev pub ps·0 : List.List (Kinds.PK 0)
-ps·0 = List.[]
+abbrev pub ps·0 : List.List (Kinds.PK 1)
+ps·0 = (ShrSlice.pShrS RelayPending.row 0 tt) ∷ (StructRow.param Places.the-type Laws''''.the-laws Laws''''.the-copy
+    Laws''''.the-plain) ∷ List.[]
 
-abbrev pub r·0 : Kinds.RK 0
-r·0 = StructRow.result Question.the-type Laws'''''.the-laws Laws'''''.the-copy Laws'''''.the-plain
+abbrev pub r·0 : Kinds.RK 1
+r·0 = Num.rNum Syntax.w64
 
 abbrev pub ps·1 : List.List (Kinds.PK 1)
-ps·1 = (ShrSlice.pShrS RelayPending.row 0 tt) ∷ (StructRow.param Places.the-type Laws''''.the-laws Laws''''.the-copy
-    Laws''''.the-plain) ∷ (StructRow.param Question.the-type Laws'''''.the-laws Laws'''''.the-copy Laws'''''.the-plain)
-    ∷ List.[]
+ps·1 = (ShrSlice.pShrS RelayCircuit.row 0 tt) ∷ (StructRow.param Places.the-type Laws''''.the-laws Laws''''.the-copy
+    Laws''''.the-plain) ∷ List.[]
 
 abbrev pub r·1 : Kinds.RK 1
-r·1 = Num.rNum Syntax.w64
+r·1 = StructRow.result CircuitTotals.the-type Laws'''''.the-laws Laws'''''.the-copy Laws'''''.the-plain
 
 abbrev pub ps·2 : List.List (Kinds.PK 1)
-ps·2 = (ShrSlice.pShrS RelayCircuit.row 0 tt) ∷ (StructRow.param Places.the-type Laws''''.the-laws Laws''''.the-copy
+ps·2 = (ShrSlice.pShrS InflightAction.row 0 tt) ∷ (StructRow.param Places.the-type Laws''''.the-laws Laws''''.the-copy
     Laws''''.the-plain) ∷ List.[]
 
 abbrev pub r·2 : Kinds.RK 1
-r·2 = StructRow.result CircuitTotals.the-type Laws''''''.the-laws Laws''''''.the-copy Laws''''''.the-plain
+r·2 = Num.rNum Syntax.w64
 
-abbrev pub ps·3 : List.List (Kinds.PK 1)
-ps·3 = (ShrSlice.pShrS InflightAction.row 0 tt) ∷ (StructRow.param Places.the-type Laws''''.the-laws Laws''''.the-copy
-    Laws''''.the-plain) ∷ (StructRow.param Question.the-type Laws'''''.the-laws Laws'''''.the-copy Laws'''''.the-plain)
-    ∷ List.[]
-
-abbrev pub r·3 : Kinds.RK 1
-r·3 = Num.rNum Syntax.w64
-
-abbrev pub ps·4 : List.List (Kinds.PK 0)
-ps·4 = (StructRow.param OpaqueRelayConfig.the-type Laws.the-laws Laws.the-copy Laws.the-plain) ∷ (Num.pNum Syntax.w64)
+abbrev pub ps·3 : List.List (Kinds.PK 0)
+ps·3 = (StructRow.param OpaqueRelayConfig.the-type Laws.the-laws Laws.the-copy Laws.the-plain) ∷ (Num.pNum Syntax.w64)
     ∷ (Num.pNum Syntax.w64) ∷ (Num.pNum Syntax.w64) ∷ List.[]
 
+abbrev pub r·3 : Kinds.RK 0
+r·3 = Bool.rBool
+
+abbrev pub ps·4 : List.List (Kinds.PK 0)
+ps·4 = (StructRow.param OpaqueRelayRuntime.the-type Laws''.the-laws Laws''.the-copy Laws''.the-plain) ∷
+    (Num.pNum Syntax.w64) ∷ (StructRow.param CircuitTotals.the-type Laws'''''.the-laws Laws'''''.the-copy
+    Laws'''''.the-plain) ∷ (Num.pNum Syntax.w64) ∷ List.[]
+
 abbrev pub r·4 : Kinds.RK 0
-r·4 = Bool.rBool
+r·4 = StructRow.result HnsrRuntimeStatus.the-type Laws'.the-laws Laws'.the-copy Laws'.the-plain
 
 abbrev pub ps·5 : List.List (Kinds.PK 0)
-ps·5 = (StructRow.param OpaqueRelayRuntime.the-type Laws''.the-laws Laws''.the-copy Laws''.the-plain) ∷
-    (Num.pNum Syntax.w64) ∷ (StructRow.param CircuitTotals.the-type Laws''''''.the-laws Laws''''''.the-copy
-    Laws''''''.the-plain) ∷ (Num.pNum Syntax.w64) ∷ List.[]
-
-abbrev pub r·5 : Kinds.RK 0
-r·5 = StructRow.result HnsrRuntimeStatus.the-type Laws'.the-laws Laws'.the-copy Laws'.the-plain
-
-abbrev pub ps·6 : List.List (Kinds.PK 0)
-ps·6 = Bool.pBool ∷ (StructRow.param HnsrRuntimeStatus.the-type Laws'.the-laws Laws'.the-copy Laws'.the-plain) ∷
+ps·5 = Bool.pBool ∷ (StructRow.param HnsrRuntimeStatus.the-type Laws'.the-laws Laws'.the-copy Laws'.the-plain) ∷
     List.[]
 
-abbrev pub r·6 : Kinds.RK 0
-r·6 = StructRow.result StatusTold.the-type Laws'''.the-laws Laws'''.the-copy Laws'''.the-plain
+abbrev pub r·5 : Kinds.RK 0
+r·5 = StructRow.result StatusTold.the-type Laws'''.the-laws Laws'''.the-copy Laws'''.the-plain
 
 abbrev pub hs : List.List Syntax.Home
 hs = Syntax.valueLocal ∷ Syntax.valueLocal ∷ Syntax.valueLocal ∷ Syntax.valueLocal ∷ Syntax.valueLocal ∷
     Syntax.valueLocal ∷ Syntax.valueLocal ∷ Syntax.valueLocal ∷ Syntax.valueLocal ∷ Syntax.valueLocal ∷
-    Syntax.valueLocal ∷ Syntax.valueLocal ∷ Syntax.valueLocal ∷ Syntax.valueLocal ∷ Syntax.valueLocal ∷
-    Syntax.valueLocal ∷ List.[]
+    Syntax.valueLocal ∷ Syntax.valueLocal ∷ Syntax.valueLocal ∷ Syntax.valueLocal ∷ Syntax.valueLocal ∷ List.[]
 
 abbrev b0 : Syntax.Body
 b0 = Syntax.assign (Syntax.place 6 List.[]) (Syntax.rvOpd (Syntax.copy (Syntax.place 4 ((Syntax.field 4) ∷ List.[]))))
 
 abbrev b1 : Syntax.Body
-b1 = Syntax.call "hnsr_circuit::tables::question::used" List.[] (Syntax.place 7 List.[])
+b1 = Syntax.call "hnsr_circuit::tables::pending::count_pending" ((Syntax.copy (Syntax.place 1 List.[])) ∷
+    (Syntax.copy (Syntax.place 5 List.[])) ∷ List.[]) (Syntax.place 7 List.[])
 
 abbrev b2 : Syntax.Body
-b2 = Syntax.call "hnsr_circuit::tables::pending::count_pending" ((Syntax.copy (Syntax.place 1 List.[])) ∷
-    (Syntax.copy (Syntax.place 5 List.[])) ∷ (Syntax.copy (Syntax.place 7 List.[])) ∷ List.[]) (Syntax.place 8 List.[])
+b2 = Syntax.call "hnsr_circuit::tables::circuits::circuit_totals" ((Syntax.copy (Syntax.place 2 List.[])) ∷
+    (Syntax.copy (Syntax.place 5 List.[])) ∷ List.[]) (Syntax.place 8 List.[])
 
 abbrev b3 : Syntax.Body
-b3 = Syntax.call "hnsr_circuit::tables::circuits::circuit_totals" ((Syntax.copy (Syntax.place 2 List.[])) ∷
+b3 = Syntax.call "hnsr_circuit::tables::inflight::count_action" ((Syntax.copy (Syntax.place 3 List.[])) ∷
     (Syntax.copy (Syntax.place 5 List.[])) ∷ List.[]) (Syntax.place 9 List.[])
 
 abbrev b4 : Syntax.Body
-b4 = Syntax.call "hnsr_circuit::tables::inflight::count_action" ((Syntax.copy (Syntax.place 3 List.[])) ∷
-    (Syntax.copy (Syntax.place 5 List.[])) ∷ (Syntax.copy (Syntax.place 7 List.[])) ∷ List.[])
-    (Syntax.place 10 List.[])
+b4 = Syntax.assign (Syntax.place 12 List.[]) (Syntax.rvOpd (Syntax.copy (Syntax.place 1 ((Syntax.field 1) ∷ List.[]))))
 
 abbrev b5 : Syntax.Body
-b5 = Syntax.assign (Syntax.place 13 List.[]) (Syntax.rvOpd (Syntax.copy (Syntax.place 1 ((Syntax.field 1) ∷ List.[]))))
+b5 = Syntax.assign (Syntax.place 13 List.[]) (Syntax.rvOpd (Syntax.copy (Syntax.place 2 ((Syntax.field 1) ∷ List.[]))))
 
 abbrev b6 : Syntax.Body
-b6 = Syntax.assign (Syntax.place 14 List.[]) (Syntax.rvOpd (Syntax.copy (Syntax.place 2 ((Syntax.field 1) ∷ List.[]))))
+b6 = Syntax.assign (Syntax.place 14 List.[]) (Syntax.rvOpd (Syntax.copy (Syntax.place 3 ((Syntax.field 1) ∷ List.[]))))
 
 abbrev b7 : Syntax.Body
-b7 = Syntax.assign (Syntax.place 15 List.[]) (Syntax.rvOpd (Syntax.copy (Syntax.place 3 ((Syntax.field 1) ∷ List.[]))))
+b7 = Syntax.call "hnsr_circuit::entry::too_few" ((Syntax.copy (Syntax.place 6 List.[])) ∷
+    (Syntax.copy (Syntax.place 12 List.[])) ∷ (Syntax.copy (Syntax.place 13 List.[])) ∷
+    (Syntax.copy (Syntax.place 14 List.[])) ∷ List.[]) (Syntax.place 10 List.[])
 
 abbrev b8 : Syntax.Body
-b8 = Syntax.call "hnsr_circuit::entry::too_few" ((Syntax.copy (Syntax.place 6 List.[])) ∷
-    (Syntax.copy (Syntax.place 13 List.[])) ∷ (Syntax.copy (Syntax.place 14 List.[])) ∷
-    (Syntax.copy (Syntax.place 15 List.[])) ∷ List.[]) (Syntax.place 11 List.[])
+b8 = Syntax.call "hnsr_circuit::calls::silent::status_of" ((Syntax.copy (Syntax.place 4 List.[])) ∷
+    (Syntax.copy (Syntax.place 7 List.[])) ∷ (Syntax.copy (Syntax.place 8 List.[])) ∷
+    (Syntax.copy (Syntax.place 9 List.[])) ∷ List.[]) (Syntax.place 11 List.[])
 
 abbrev b9 : Syntax.Body
-b9 = Syntax.call "hnsr_circuit::calls::silent::status_of" ((Syntax.copy (Syntax.place 4 List.[])) ∷
-    (Syntax.copy (Syntax.place 8 List.[])) ∷ (Syntax.copy (Syntax.place 9 List.[])) ∷
-    (Syntax.copy (Syntax.place 10 List.[])) ∷ List.[]) (Syntax.place 12 List.[])
+b9 = Syntax.call "hnsr_circuit::calls::silent::status_told" ((Syntax.copy (Syntax.place 10 List.[])) ∷
+    (Syntax.copy (Syntax.place 11 List.[])) ∷ List.[]) (Syntax.place 0 List.[])
 
 abbrev b10 : Syntax.Body
-b10 = Syntax.call "hnsr_circuit::calls::silent::status_told" ((Syntax.copy (Syntax.place 11 List.[])) ∷
-    (Syntax.copy (Syntax.place 12 List.[])) ∷ List.[]) (Syntax.place 0 List.[])
+b10 = Syntax.return
 
 abbrev b11 : Syntax.Body
-b11 = Syntax.return
+b11 = Syntax.seq b9 b10
 
 abbrev b12 : Syntax.Body
-b12 = Syntax.seq b10 b11
+b12 = Syntax.seq b8 b11
 
 abbrev b13 : Syntax.Body
-b13 = Syntax.seq b9 b12
+b13 = Syntax.seq b7 b12
 
 abbrev b14 : Syntax.Body
-b14 = Syntax.seq b8 b13
+b14 = Syntax.seq b6 b13
 
 abbrev b15 : Syntax.Body
-b15 = Syntax.seq b7 b14
+b15 = Syntax.seq b5 b14
 
 abbrev b16 : Syntax.Body
-b16 = Syntax.seq b6 b15
+b16 = Syntax.seq b4 b15
 
 abbrev b17 : Syntax.Body
-b17 = Syntax.seq b5 b16
+b17 = Syntax.seq b3 b16
 
 abbrev b18 : Syntax.Body
-b18 = Syntax.seq b4 b17
+b18 = Syntax.seq b2 b17
 
 abbrev b19 : Syntax.Body
-b19 = Syntax.seq b3 b18
+b19 = Syntax.seq b1 b18
 
 abbrev b20 : Syntax.Body
-b20 = Syntax.seq b2 b19
-
-abbrev b21 : Syntax.Body
-b21 = Syntax.seq b1 b20
-
-abbrev b22 : Syntax.Body
-b22 = Syntax.seq b0 b21
+b20 = Syntax.seq b0 b19
 
 abbrev pub body : Syntax.Body
-body = b22
+body = b20
 
 abbrev pub Claims : Type 1
-Claims = Kinds.In 0 ps·0 × Kinds.Out 0 ps·0 r·0 × Kinds.In 1 ps·1 × Kinds.Out 1 ps·1 r·1 × Kinds.In 1 ps·2 × Kinds.Out
-    1 ps·2 r·2 × Kinds.In 1 ps·3 × Kinds.Out 1 ps·3 r·3 × Kinds.In 0 ps·4 × Kinds.Out 0 ps·4 r·4 × Kinds.In 0 ps·5 ×
-    Kinds.Out 0 ps·5 r·5 × Kinds.In 0 ps·6 × Kinds.Out 0 ps·6 r·6
+Claims = Kinds.In 1 ps·0 × Kinds.Out 1 ps·0 r·0 × Kinds.In 1 ps·1 × Kinds.Out 1 ps·1 r·1 × Kinds.In 1 ps·2 × Kinds.Out
+    1 ps·2 r·2 × Kinds.In 0 ps·3 × Kinds.Out 0 ps·3 r·3 × Kinds.In 0 ps·4 × Kinds.Out 0 ps·4 r·4 × Kinds.In 0 ps·5 ×
+    Kinds.Out 0 ps·5 r·5
 
 abbrev e0 : Row.Entry
 e0 = (0, Rows.any-gone Laws'''.mir)
@@ -250,31 +232,28 @@ abbrev e6 : Row.Entry
 e6 = (6, Rows.any-gone Laws.mir)
 
 abbrev e7 : Row.Entry
-e7 = (7, Rows.any-gone Laws'''''.mir)
+e7 = (7, Rows.any-gone (Syntax.tyInt Syntax.w64))
 
 abbrev e8 : Row.Entry
-e8 = (8, Rows.any-gone (Syntax.tyInt Syntax.w64))
+e8 = (8, Rows.any-gone Laws'''''.mir)
 
 abbrev e9 : Row.Entry
-e9 = (9, Rows.any-gone Laws''''''.mir)
+e9 = (9, Rows.any-gone (Syntax.tyInt Syntax.w64))
 
 abbrev e10 : Row.Entry
-e10 = (10, Rows.any-gone (Syntax.tyInt Syntax.w64))
+e10 = (10, Rows.any-gone Syntax.tyBool)
 
 abbrev e11 : Row.Entry
-e11 = (11, Rows.any-gone Syntax.tyBool)
+e11 = (11, Rows.any-gone Laws'.mir)
 
 abbrev e12 : Row.Entry
-e12 = (12, Rows.any-gone Laws'.mir)
+e12 = (12, Rows.any-gone (Syntax.tyInt Syntax.w64))
 
 abbrev e13 : Row.Entry
 e13 = (13, Rows.any-gone (Syntax.tyInt Syntax.w64))
 
 abbrev e14 : Row.Entry
 e14 = (14, Rows.any-gone (Syntax.tyInt Syntax.w64))
-
-abbrev e15 : Row.Entry
-e15 = (15, Rows.any-gone (Syntax.tyInt Syntax.w64))
 
 abbrev e0·1 : Row.Entry
 e0·1 = (0, Rows.whole (Declared.row StatusTold.the-type))
@@ -289,16 +268,16 @@ abbrev e6·1 : Row.Entry
 e6·1 = (6, Rows.whole (Declared.row OpaqueRelayConfig.the-type))
 
 abbrev e7·1 : Row.Entry
-e7·1 = (7, Rows.whole (Declared.row Question.the-type))
+e7·1 = (7, Rows.sc-here (Row.sInt Syntax.w64))
 
 abbrev e8·1 : Row.Entry
-e8·1 = (8, Rows.sc-here (Row.sInt Syntax.w64))
+e8·1 = (8, Rows.whole (Declared.row CircuitTotals.the-type))
 
 abbrev e9·1 : Row.Entry
-e9·1 = (9, Rows.whole (Declared.row CircuitTotals.the-type))
+e9·1 = (9, Rows.sc-here (Row.sInt Syntax.w64))
 
-abbrev e10·1 : Row.Entry
-e10·1 = (10, Rows.sc-here (Row.sInt Syntax.w64))
+abbrev e12·1 : Row.Entry
+e12·1 = (12, Rows.sc-here (Row.sInt Syntax.w64))
 
 abbrev e13·1 : Row.Entry
 e13·1 = (13, Rows.sc-here (Row.sInt Syntax.w64))
@@ -306,86 +285,77 @@ e13·1 = (13, Rows.sc-here (Row.sInt Syntax.w64))
 abbrev e14·1 : Row.Entry
 e14·1 = (14, Rows.sc-here (Row.sInt Syntax.w64))
 
-abbrev e15·1 : Row.Entry
-e15·1 = (15, Rows.sc-here (Row.sInt Syntax.w64))
+abbrev e10·1 : Row.Entry
+e10·1 = (10, Rows.sc-here Row.sBool)
 
 abbrev e11·1 : Row.Entry
-e11·1 = (11, Rows.sc-here Row.sBool)
-
-abbrev e12·1 : Row.Entry
-e12·1 = (12, Rows.whole (Declared.row HnsrRuntimeStatus.the-type))
+e11·1 = (11, Rows.whole (Declared.row HnsrRuntimeStatus.the-type))
 
 abbrev pub t0 : List.List Row.Entry
-t0 = e0 ∷ e1 ∷ e2 ∷ e3 ∷ e4 ∷ e5 ∷ e6 ∷ e7 ∷ e8 ∷ e9 ∷ e10 ∷ e11 ∷ e12 ∷ e13 ∷ e14 ∷ e15 ∷ List.[]
+t0 = e0 ∷ e1 ∷ e2 ∷ e3 ∷ e4 ∷ e5 ∷ e6 ∷ e7 ∷ e8 ∷ e9 ∷ e10 ∷ e11 ∷ e12 ∷ e13 ∷ e14 ∷ List.[]
 
 abbrev pub t1 : List.List Row.Entry
-t1 = e0·1 ∷ e1 ∷ e2 ∷ e3 ∷ e4·1 ∷ e5·1 ∷ e6 ∷ e7 ∷ e8 ∷ e9 ∷ e10 ∷ e11 ∷ e12 ∷ e13 ∷ e14 ∷ e15 ∷ List.[]
+t1 = e0·1 ∷ e1 ∷ e2 ∷ e3 ∷ e4·1 ∷ e5·1 ∷ e6 ∷ e7 ∷ e8 ∷ e9 ∷ e10 ∷ e11 ∷ e12 ∷ e13 ∷ e14 ∷ List.[]
 
 abbrev pub t2 : List.List Row.Entry
-t2 = e0 ∷ e1 ∷ e2 ∷ e3 ∷ e4 ∷ e5 ∷ e6·1 ∷ e7 ∷ e8 ∷ e9 ∷ e10 ∷ e11 ∷ e12 ∷ e13 ∷ e14 ∷ e15 ∷ List.[]
+t2 = e0 ∷ e1 ∷ e2 ∷ e3 ∷ e4 ∷ e5 ∷ e6·1 ∷ e7 ∷ e8 ∷ e9 ∷ e10 ∷ e11 ∷ e12 ∷ e13 ∷ e14 ∷ List.[]
 
 abbrev pub t3 : List.List Row.Entry
-t3 = e0 ∷ e1 ∷ e2 ∷ e3 ∷ e4 ∷ e5 ∷ e6·1 ∷ e7·1 ∷ e8 ∷ e9 ∷ e10 ∷ e11 ∷ e12 ∷ e13 ∷ e14 ∷ e15 ∷ List.[]
+t3 = e0 ∷ e1 ∷ e2 ∷ e3 ∷ e4 ∷ e5 ∷ e6·1 ∷ e7·1 ∷ e8 ∷ e9 ∷ e10 ∷ e11 ∷ e12 ∷ e13 ∷ e14 ∷ List.[]
 
 abbrev pub t4 : List.List Row.Entry
-t4 = e0 ∷ e1 ∷ e2 ∷ e3 ∷ e4 ∷ e5 ∷ e6·1 ∷ e7·1 ∷ e8·1 ∷ e9 ∷ e10 ∷ e11 ∷ e12 ∷ e13 ∷ e14 ∷ e15 ∷ List.[]
+t4 = e0 ∷ e1 ∷ e2 ∷ e3 ∷ e4 ∷ e5 ∷ e6·1 ∷ e7·1 ∷ e8·1 ∷ e9 ∷ e10 ∷ e11 ∷ e12 ∷ e13 ∷ e14 ∷ List.[]
 
 abbrev pub t5 : List.List Row.Entry
-t5 = e0 ∷ e1 ∷ e2 ∷ e3 ∷ e4 ∷ e5 ∷ e6·1 ∷ e7·1 ∷ e8·1 ∷ e9·1 ∷ e10 ∷ e11 ∷ e12 ∷ e13 ∷ e14 ∷ e15 ∷ List.[]
+t5 = e0 ∷ e1 ∷ e2 ∷ e3 ∷ e4 ∷ e5 ∷ e6·1 ∷ e7·1 ∷ e8·1 ∷ e9·1 ∷ e10 ∷ e11 ∷ e12 ∷ e13 ∷ e14 ∷ List.[]
 
 abbrev pub t6 : List.List Row.Entry
-t6 = e0 ∷ e1 ∷ e2 ∷ e3 ∷ e4 ∷ e5 ∷ e6·1 ∷ e7·1 ∷ e8·1 ∷ e9·1 ∷ e10·1 ∷ e11 ∷ e12 ∷ e13 ∷ e14 ∷ e15 ∷ List.[]
+t6 = e0 ∷ e1 ∷ e2 ∷ e3 ∷ e4 ∷ e5·1 ∷ e6·1 ∷ e7·1 ∷ e8·1 ∷ e9·1 ∷ e10 ∷ e11 ∷ e12 ∷ e13 ∷ e14 ∷ List.[]
 
 abbrev pub t7 : List.List Row.Entry
-t7 = e0 ∷ e1 ∷ e2 ∷ e3 ∷ e4 ∷ e5·1 ∷ e6·1 ∷ e7·1 ∷ e8·1 ∷ e9·1 ∷ e10·1 ∷ e11 ∷ e12 ∷ e13 ∷ e14 ∷ e15 ∷ List.[]
+t7 = e0 ∷ e1 ∷ e2 ∷ e3 ∷ e4 ∷ e5·1 ∷ e6·1 ∷ e7·1 ∷ e8·1 ∷ e9·1 ∷ e10 ∷ e11 ∷ e12·1 ∷ e13 ∷ e14 ∷ List.[]
 
 abbrev pub t8 : List.List Row.Entry
-t8 = e0 ∷ e1 ∷ e2 ∷ e3 ∷ e4 ∷ e5·1 ∷ e6·1 ∷ e7 ∷ e8·1 ∷ e9·1 ∷ e10·1 ∷ e11 ∷ e12 ∷ e13 ∷ e14 ∷ e15 ∷ List.[]
+t8 = e0 ∷ e1 ∷ e2 ∷ e3 ∷ e4 ∷ e5·1 ∷ e6·1 ∷ e7·1 ∷ e8·1 ∷ e9·1 ∷ e10 ∷ e11 ∷ e12·1 ∷ e13·1 ∷ e14 ∷ List.[]
 
 abbrev pub t9 : List.List Row.Entry
-t9 = e0 ∷ e1 ∷ e2 ∷ e3 ∷ e4 ∷ e5·1 ∷ e6·1 ∷ e7 ∷ e8·1 ∷ e9·1 ∷ e10·1 ∷ e11 ∷ e12 ∷ e13·1 ∷ e14 ∷ e15 ∷ List.[]
+t9 = e0 ∷ e1 ∷ e2 ∷ e3 ∷ e4 ∷ e5·1 ∷ e6·1 ∷ e7·1 ∷ e8·1 ∷ e9·1 ∷ e10 ∷ e11 ∷ e12·1 ∷ e13·1 ∷ e14·1 ∷ List.[]
 
 abbrev pub t10 : List.List Row.Entry
-t10 = e0 ∷ e1 ∷ e2 ∷ e3 ∷ e4 ∷ e5·1 ∷ e6·1 ∷ e7 ∷ e8·1 ∷ e9·1 ∷ e10·1 ∷ e11 ∷ e12 ∷ e13·1 ∷ e14·1 ∷ e15 ∷ List.[]
+t10 = e0 ∷ e1 ∷ e2 ∷ e3 ∷ e4 ∷ e5·1 ∷ e6·1 ∷ e7·1 ∷ e8·1 ∷ e9·1 ∷ e10·1 ∷ e11 ∷ e12·1 ∷ e13·1 ∷ e14·1 ∷ List.[]
 
 abbrev pub t11 : List.List Row.Entry
-t11 = e0 ∷ e1 ∷ e2 ∷ e3 ∷ e4 ∷ e5·1 ∷ e6·1 ∷ e7 ∷ e8·1 ∷ e9·1 ∷ e10·1 ∷ e11 ∷ e12 ∷ e13·1 ∷ e14·1 ∷ e15·1 ∷ List.[]
+t11 = e0 ∷ e1 ∷ e2 ∷ e3 ∷ e4 ∷ e5·1 ∷ e6 ∷ e7·1 ∷ e8·1 ∷ e9·1 ∷ e10·1 ∷ e11 ∷ e12·1 ∷ e13·1 ∷ e14·1 ∷ List.[]
 
 abbrev pub t12 : List.List Row.Entry
-t12 = e0 ∷ e1 ∷ e2 ∷ e3 ∷ e4 ∷ e5·1 ∷ e6·1 ∷ e7 ∷ e8·1 ∷ e9·1 ∷ e10·1 ∷ e11·1 ∷ e12 ∷ e13·1 ∷ e14·1 ∷ e15·1 ∷ List.[]
+t12 = e0 ∷ e1 ∷ e2 ∷ e3 ∷ e4 ∷ e5·1 ∷ e6 ∷ e7·1 ∷ e8·1 ∷ e9·1 ∷ e10·1 ∷ e11 ∷ e12 ∷ e13·1 ∷ e14·1 ∷ List.[]
 
 abbrev pub t13 : List.List Row.Entry
-t13 = e0 ∷ e1 ∷ e2 ∷ e3 ∷ e4 ∷ e5·1 ∷ e6 ∷ e7 ∷ e8·1 ∷ e9·1 ∷ e10·1 ∷ e11·1 ∷ e12 ∷ e13·1 ∷ e14·1 ∷ e15·1 ∷ List.[]
+t13 = e0 ∷ e1 ∷ e2 ∷ e3 ∷ e4 ∷ e5·1 ∷ e6 ∷ e7·1 ∷ e8·1 ∷ e9·1 ∷ e10·1 ∷ e11 ∷ e12 ∷ e13 ∷ e14·1 ∷ List.[]
 
 abbrev pub t14 : List.List Row.Entry
-t14 = e0 ∷ e1 ∷ e2 ∷ e3 ∷ e4 ∷ e5·1 ∷ e6 ∷ e7 ∷ e8·1 ∷ e9·1 ∷ e10·1 ∷ e11·1 ∷ e12 ∷ e13 ∷ e14·1 ∷ e15·1 ∷ List.[]
+t14 = e0 ∷ e1 ∷ e2 ∷ e3 ∷ e4 ∷ e5·1 ∷ e6 ∷ e7·1 ∷ e8·1 ∷ e9·1 ∷ e10·1 ∷ e11 ∷ e12 ∷ e13 ∷ e14 ∷ List.[]
 
 abbrev pub t15 : List.List Row.Entry
-t15 = e0 ∷ e1 ∷ e2 ∷ e3 ∷ e4 ∷ e5·1 ∷ e6 ∷ e7 ∷ e8·1 ∷ e9·1 ∷ e10·1 ∷ e11·1 ∷ e12 ∷ e13 ∷ e14 ∷ e15·1 ∷ List.[]
+t15 = e0 ∷ e1 ∷ e2 ∷ e3 ∷ e4 ∷ e5·1 ∷ e6 ∷ e7·1 ∷ e8·1 ∷ e9·1 ∷ e10·1 ∷ e11·1 ∷ e12 ∷ e13 ∷ e14 ∷ List.[]
 
 abbrev pub t16 : List.List Row.Entry
-t16 = e0 ∷ e1 ∷ e2 ∷ e3 ∷ e4 ∷ e5·1 ∷ e6 ∷ e7 ∷ e8·1 ∷ e9·1 ∷ e10·1 ∷ e11·1 ∷ e12 ∷ e13 ∷ e14 ∷ e15 ∷ List.[]
+t16 = e0 ∷ e1 ∷ e2 ∷ e3 ∷ e4·1 ∷ e5·1 ∷ e6 ∷ e7·1 ∷ e8·1 ∷ e9·1 ∷ e10·1 ∷ e11·1 ∷ e12 ∷ e13 ∷ e14 ∷ List.[]
 
 abbrev pub t17 : List.List Row.Entry
-t17 = e0 ∷ e1 ∷ e2 ∷ e3 ∷ e4 ∷ e5·1 ∷ e6 ∷ e7 ∷ e8·1 ∷ e9·1 ∷ e10·1 ∷ e11·1 ∷ e12·1 ∷ e13 ∷ e14 ∷ e15 ∷ List.[]
+t17 = e0 ∷ e1 ∷ e2 ∷ e3 ∷ e4·1 ∷ e5·1 ∷ e6 ∷ e7·1 ∷ e8 ∷ e9·1 ∷ e10·1 ∷ e11·1 ∷ e12 ∷ e13 ∷ e14 ∷ List.[]
 
 abbrev pub t18 : List.List Row.Entry
-t18 = e0 ∷ e1 ∷ e2 ∷ e3 ∷ e4·1 ∷ e5·1 ∷ e6 ∷ e7 ∷ e8·1 ∷ e9·1 ∷ e10·1 ∷ e11·1 ∷ e12·1 ∷ e13 ∷ e14 ∷ e15 ∷ List.[]
+t18 = e0·1 ∷ e1 ∷ e2 ∷ e3 ∷ e4·1 ∷ e5·1 ∷ e6 ∷ e7·1 ∷ e8 ∷ e9·1 ∷ e10·1 ∷ e11·1 ∷ e12 ∷ e13 ∷ e14 ∷ List.[]
 
 abbrev pub t19 : List.List Row.Entry
-t19 = e0 ∷ e1 ∷ e2 ∷ e3 ∷ e4·1 ∷ e5·1 ∷ e6 ∷ e7 ∷ e8·1 ∷ e9 ∷ e10·1 ∷ e11·1 ∷ e12·1 ∷ e13 ∷ e14 ∷ e15 ∷ List.[]
+t19 = e0·1 ∷ e1 ∷ e2 ∷ e3 ∷ e4·1 ∷ e5·1 ∷ e6 ∷ e7 ∷ e8 ∷ e9·1 ∷ e10·1 ∷ e11·1 ∷ e12 ∷ e13 ∷ e14 ∷ List.[]
 
 abbrev pub t20 : List.List Row.Entry
-t20 = e0·1 ∷ e1 ∷ e2 ∷ e3 ∷ e4·1 ∷ e5·1 ∷ e6 ∷ e7 ∷ e8·1 ∷ e9 ∷ e10·1 ∷ e11·1 ∷ e12·1 ∷ e13 ∷ e14 ∷ e15 ∷ List.[]
+t20 = e0·1 ∷ e1 ∷ e2 ∷ e3 ∷ e4·1 ∷ e5·1 ∷ e6 ∷ e7 ∷ e8 ∷ e9 ∷ e10·1 ∷ e11·1 ∷ e12 ∷ e13 ∷ e14 ∷ List.[]
 
 abbrev pub t21 : List.List Row.Entry
-t21 = e0·1 ∷ e1 ∷ e2 ∷ e3 ∷ e4·1 ∷ e5·1 ∷ e6 ∷ e7 ∷ e8 ∷ e9 ∷ e10·1 ∷ e11·1 ∷ e12·1 ∷ e13 ∷ e14 ∷ e15 ∷ List.[]
-
-abbrev pub t22 : List.List Row.Entry
-t22 = e0·1 ∷ e1 ∷ e2 ∷ e3 ∷ e4·1 ∷ e5·1 ∷ e6 ∷ e7 ∷ e8 ∷ e9 ∷ e10 ∷ e11·1 ∷ e12·1 ∷ e13 ∷ e14 ∷ e15 ∷ List.[]
-
-abbrev pub t23 : List.List Row.Entry
-t23 = e0·1 ∷ e1 ∷ e2 ∷ e3 ∷ e4·1 ∷ e5·1 ∷ e6 ∷ e7 ∷ e8 ∷ e9 ∷ e10 ∷ e11 ∷ e12·1 ∷ e13 ∷ e14 ∷ e15 ∷ List.[]
+t21 = e0·1 ∷ e1 ∷ e2 ∷ e3 ∷ e4·1 ∷ e5·1 ∷ e6 ∷ e7 ∷ e8 ∷ e9 ∷ e10 ∷ e11·1 ∷ e12 ∷ e13 ∷ e14 ∷ List.[]
 
 abbrev pub T0 : Row.Cx
 T0 = record { locals = t0; slots = List.[] }
@@ -454,13 +424,7 @@ abbrev pub T21 : Row.Cx
 T21 = record { locals = t21; slots = List.[] }
 
 abbrev pub T22 : Row.Cx
-T22 = record { locals = t22; slots = List.[] }
-
-abbrev pub T23 : Row.Cx
-T23 = record { locals = t23; slots = List.[] }
-
-abbrev pub T24 : Row.Cx
-T24 = record { locals = t1; slots = List.[] }
+T22 = record { locals = t1; slots = List.[] }
 
 abbrev pub O0 : Typed.Outs
 O0 = record { next = Option.none; exits = List.[]; returns = Option.some T1 }
@@ -475,193 +439,180 @@ module _ (claims· : Claims) where
       (λ u. Unit) λ u. Unit
 
   abbrev s1 : (bs : List.List Nat.ℕ) → Typed.Both T2 T3
-  s1 = λ bs. Call.callB ps·0 r·0 (claims· .0) (claims· .1) T2 tt 7 List.[] Laws'''''.mir
+  s1 = λ bs. Call.callB ps·0 r·0 (claims· .0) (claims· .1) T2 (
+    record { pos = 1; ty = ref0; ref = λ x. x },
+    (record { pos = 5; st = List.[]; d = 0; at = λ x. x }, tt),
+  ) 7 (0 ∷ List.[]) (Syntax.tyInt Syntax.w64)
 
   abbrev s2 : (bs : List.List Nat.ℕ) → Typed.Both T3 T4
   s2 = λ bs. Call.callB ps·1 r·1 (claims· .2) (claims· .3) T3 (
-    record { pos = 1; ty = ref0; ref = λ x. x },
-    (record { pos = 5; st = List.[]; d = 0; at = λ x. x }, (record { pos = 7; st = List.[]; d = 0; at = λ x. x }, tt)),
-  ) 8 (0 ∷ List.[]) (Syntax.tyInt Syntax.w64)
+    record { pos = 2; ty = ref1; ref = λ x. x },
+    (record { pos = 5; st = List.[]; d = 0; at = λ x. x }, tt),
+  ) 8 (1 ∷ List.[]) Laws'''''.mir
 
   abbrev s3 : (bs : List.List Nat.ℕ) → Typed.Both T4 T5
   s3 = λ bs. Call.callB ps·2 r·2 (claims· .4) (claims· .5) T4 (
-    record { pos = 2; ty = ref1; ref = λ x. x },
-    (record { pos = 5; st = List.[]; d = 0; at = λ x. x }, tt),
-  ) 9 (1 ∷ List.[]) Laws''''''.mir
-
-  abbrev s4 : (bs : List.List Nat.ℕ) → Typed.Both T5 T6
-  s4 = λ bs. Call.callB ps·3 r·3 (claims· .6) (claims· .7) T5 (
     record { pos = 3; ty = ref2; ref = λ x. x },
-    (record { pos = 5; st = List.[]; d = 0; at = λ x. x }, (record { pos = 7; st = List.[]; d = 0; at = λ x. x }, tt)),
-  ) 10 (2 ∷ List.[]) (Syntax.tyInt Syntax.w64)
+    (record { pos = 5; st = List.[]; d = 0; at = λ x. x }, tt),
+  ) 9 (2 ∷ List.[]) (Syntax.tyInt Syntax.w64)
+
+  abbrev s4 : (bs : List.List Nat.ℕ) → Typed.Mo T5 → Typed.Mo T6
+  s4 = λ bs. Scalar.n-room T5 5 Laws''''.mir
 
   abbrev s5 : (bs : List.List Nat.ℕ) → Typed.Mo T6 → Typed.Mo T7
-  s5 = λ bs. Scalar.n-room T6 5 Laws''''.mir
+  s5 = λ bs. Scalar.n-use T6 (Scalar.oFld 1 ((Syntax.field 1) ∷ List.[]) (Syntax.tyInt Syntax.w64) 8 Shared.lenV) 12
+      (Rows.sc-here (Row.sInt Syntax.w64)) (Row.sInt Syntax.w64 .of)
 
   abbrev s6 : (bs : List.List Nat.ℕ) → Typed.Mo T7 → Typed.Mo T8
-  s6 = λ bs. Scalar.n-room T7 7 Laws'''''.mir
+  s6 = λ bs. Scalar.n-use T7 (Scalar.oFld 2 ((Syntax.field 1) ∷ List.[]) (Syntax.tyInt Syntax.w64) 8 Shared.lenV) 13
+      (Rows.sc-here (Row.sInt Syntax.w64)) (Row.sInt Syntax.w64 .of)
 
   abbrev s7 : (bs : List.List Nat.ℕ) → Typed.Mo T8 → Typed.Mo T9
-  s7 = λ bs. Scalar.n-use T8 (Scalar.oFld 1 ((Syntax.field 1) ∷ List.[]) (Syntax.tyInt Syntax.w64) 8 Shared.lenV) 13
+  s7 = λ bs. Scalar.n-use T8 (Scalar.oFld 3 ((Syntax.field 1) ∷ List.[]) (Syntax.tyInt Syntax.w64) 8 Shared.lenV) 14
       (Rows.sc-here (Row.sInt Syntax.w64)) (Row.sInt Syntax.w64 .of)
 
-  abbrev s8 : (bs : List.List Nat.ℕ) → Typed.Mo T9 → Typed.Mo T10
-  s8 = λ bs. Scalar.n-use T9 (Scalar.oFld 2 ((Syntax.field 1) ∷ List.[]) (Syntax.tyInt Syntax.w64) 8 Shared.lenV) 14
-      (Rows.sc-here (Row.sInt Syntax.w64)) (Row.sInt Syntax.w64 .of)
+  abbrev s8 : (bs : List.List Nat.ℕ) → Typed.Both T9 T10
+  s8 = λ bs. Call.callB ps·3 r·3 (claims· .6) (claims· .7) T9 (
+    record { pos = 6; st = List.[]; d = 0; at = λ x. x },
+    (Num.vAt 12 λ x. x, (Num.vAt 13 λ x. x, (Num.vAt 14 λ x. x, tt))),
+  ) 10 List.[] Syntax.tyBool
 
   abbrev s9 : (bs : List.List Nat.ℕ) → Typed.Mo T10 → Typed.Mo T11
-  s9 = λ bs. Scalar.n-use T10 (Scalar.oFld 3 ((Syntax.field 1) ∷ List.[]) (Syntax.tyInt Syntax.w64) 8 Shared.lenV) 15
-      (Rows.sc-here (Row.sInt Syntax.w64)) (Row.sInt Syntax.w64 .of)
+  s9 = λ bs. Scalar.n-room T10 6 Laws.mir
 
-  abbrev s10 : (bs : List.List Nat.ℕ) → Typed.Both T11 T12
-  s10 = λ bs. Call.callB ps·4 r·4 (claims· .8) (claims· .9) T11 (
-    record { pos = 6; st = List.[]; d = 0; at = λ x. x },
-    (Num.vAt 13 λ x. x, (Num.vAt 14 λ x. x, (Num.vAt 15 λ x. x, tt))),
-  ) 11 List.[] Syntax.tyBool
+  abbrev s10 : (bs : List.List Nat.ℕ) → Typed.Mo T11 → Typed.Mo T12
+  s10 = λ bs. Scalar.n-room T11 12 (Syntax.tyInt Syntax.w64)
 
   abbrev s11 : (bs : List.List Nat.ℕ) → Typed.Mo T12 → Typed.Mo T13
-  s11 = λ bs. Scalar.n-room T12 6 Laws.mir
+  s11 = λ bs. Scalar.n-room T12 13 (Syntax.tyInt Syntax.w64)
 
   abbrev s12 : (bs : List.List Nat.ℕ) → Typed.Mo T13 → Typed.Mo T14
-  s12 = λ bs. Scalar.n-room T13 13 (Syntax.tyInt Syntax.w64)
+  s12 = λ bs. Scalar.n-room T13 14 (Syntax.tyInt Syntax.w64)
 
-  abbrev s13 : (bs : List.List Nat.ℕ) → Typed.Mo T14 → Typed.Mo T15
-  s13 = λ bs. Scalar.n-room T14 14 (Syntax.tyInt Syntax.w64)
+  abbrev s13 : (bs : List.List Nat.ℕ) → Typed.Both T14 T15
+  s13 = λ bs. Call.callB ps·4 r·4 (claims· .8) (claims· .9) T14 (
+    record { pos = 4; st = List.[]; d = 0; at = λ x. x },
+    (Num.vAt 7 λ x. x, (record { pos = 8; st = List.[]; d = 0; at = λ x. x }, (Num.vAt 9 λ x. x, tt))),
+  ) 11 List.[] Laws'.mir
 
   abbrev s14 : (bs : List.List Nat.ℕ) → Typed.Mo T15 → Typed.Mo T16
-  s14 = λ bs. Scalar.n-room T15 15 (Syntax.tyInt Syntax.w64)
+  s14 = λ bs. Scalar.n-room T15 4 Laws''.mir
 
-  abbrev s15 : (bs : List.List Nat.ℕ) → Typed.Both T16 T17
-  s15 = λ bs. Call.callB ps·5 r·5 (claims· .10) (claims· .11) T16 (
-    record { pos = 4; st = List.[]; d = 0; at = λ x. x },
-    (Num.vAt 8 λ x. x, (record { pos = 9; st = List.[]; d = 0; at = λ x. x }, (Num.vAt 10 λ x. x, tt))),
-  ) 12 List.[] Laws'.mir
+  abbrev s15 : (bs : List.List Nat.ℕ) → Typed.Mo T16 → Typed.Mo T17
+  s15 = λ bs. Scalar.n-room T16 8 Laws'''''.mir
 
-  abbrev s16 : (bs : List.List Nat.ℕ) → Typed.Mo T17 → Typed.Mo T18
-  s16 = λ bs. Scalar.n-room T17 4 Laws''.mir
-
-  abbrev s17 : (bs : List.List Nat.ℕ) → Typed.Mo T18 → Typed.Mo T19
-  s17 = λ bs. Scalar.n-room T18 9 Laws''''''.mir
-
-  abbrev s18 : (bs : List.List Nat.ℕ) → Typed.Both T19 T20
-  s18 = λ bs. Call.callB ps·6 r·6 (claims· .12) (claims· .13) T19 (
-    Bool.bAt 11 λ x. x,
-    (record { pos = 12; st = List.[]; d = 0; at = λ x. x }, tt),
+  abbrev s16 : (bs : List.List Nat.ℕ) → Typed.Both T17 T18
+  s16 = λ bs. Call.callB ps·5 r·5 (claims· .10) (claims· .11) T17 (
+    Bool.bAt 10 λ x. x,
+    (record { pos = 11; st = List.[]; d = 0; at = λ x. x }, tt),
   ) 0 List.[] Laws'''.mir
 
+  abbrev s17 : (bs : List.List Nat.ℕ) → Typed.Mo T18 → Typed.Mo T19
+  s17 = λ bs. Scalar.n-room T18 7 (Syntax.tyInt Syntax.w64)
+
+  abbrev s18 : (bs : List.List Nat.ℕ) → Typed.Mo T19 → Typed.Mo T20
+  s18 = λ bs. Scalar.n-room T19 9 (Syntax.tyInt Syntax.w64)
+
   abbrev s19 : (bs : List.List Nat.ℕ) → Typed.Mo T20 → Typed.Mo T21
-  s19 = λ bs. Scalar.n-room T20 8 (Syntax.tyInt Syntax.w64)
+  s19 = λ bs. Scalar.n-room T20 10 Syntax.tyBool
 
   abbrev s20 : (bs : List.List Nat.ℕ) → Typed.Mo T21 → Typed.Mo T22
-  s20 = λ bs. Scalar.n-room T21 10 (Syntax.tyInt Syntax.w64)
-
-  abbrev s21 : (bs : List.List Nat.ℕ) → Typed.Mo T22 → Typed.Mo T23
-  s21 = λ bs. Scalar.n-room T22 11 Syntax.tyBool
-
-  abbrev s22 : (bs : List.List Nat.ℕ) → Typed.Mo T23 → Typed.Mo T24
-  s22 = λ bs. Scalar.n-room T23 12 Laws'.mir
+  s20 = λ bs. Scalar.n-room T21 11 Laws'.mir
 
   module _ (Pre· : (κs : Lifetimes.Lfts 3) → Kinds.Dens κs ps → Type 0) (Post· : (κs : Lifetimes.Lfts 3) →
       (a : Kinds.Dens κs ps) → Kinds.Plain 3 ps r κs) where
     module _ (M : Type 1) where
       abbrev pub Closed : Type 2
       Closed = (𝓤 : URA.URA M) (H : Wp.Heap 𝓤) (A : Atoms.Atoms 𝓤) (W : Kit.Given 𝓤 H A) (𝓣 : Wp.Tables 𝓤 H) (known0 :
-          Plain.Known 𝓤 H A W 𝓣 0 ps·0 r·0 (claims· .0) (claims· .1) "hnsr_circuit::tables::question::used") (known1 :
-          Plain.Known 𝓤 H A W 𝓣 1 ps·1 r·1 (claims· .2) (claims· .3) "hnsr_circuit::tables::pending::count_pending") (known2
-          : Plain.Known 𝓤 H A W 𝓣 1 ps·2 r·2 (claims· .4) (claims· .5) "hnsr_circuit::tables::circuits::circuit_totals") (known3
-          : Plain.Known 𝓤 H A W 𝓣 1 ps·3 r·3 (claims· .6) (claims· .7) "hnsr_circuit::tables::inflight::count_action") (known4
-          : Plain.Known 𝓤 H A W 𝓣 0 ps·4 r·4 (claims· .8) (claims· .9) "hnsr_circuit::entry::too_few") (known5 :
-          Plain.Known 𝓤 H A W 𝓣 0 ps·5 r·5 (claims· .10) (claims· .11) "hnsr_circuit::calls::silent::status_of") (known6
-          : Plain.Known 𝓤 H A W 𝓣 0 ps·6 r·6 (claims· .12) (claims· .13) "hnsr_circuit::calls::silent::status_told") →
+          Plain.Known 𝓤 H A W 𝓣 1 ps·0 r·0 (claims· .0) (claims· .1) "hnsr_circuit::tables::pending::count_pending") (known1
+          : Plain.Known 𝓤 H A W 𝓣 1 ps·1 r·1 (claims· .2) (claims· .3) "hnsr_circuit::tables::circuits::circuit_totals") (known2
+          : Plain.Known 𝓤 H A W 𝓣 1 ps·2 r·2 (claims· .4) (claims· .5) "hnsr_circuit::tables::inflight::count_action") (known3
+          : Plain.Known 𝓤 H A W 𝓣 0 ps·3 r·3 (claims· .6) (claims· .7) "hnsr_circuit::entry::too_few") (known4 :
+          Plain.Known 𝓤 H A W 𝓣 0 ps·4 r·4 (claims· .8) (claims· .9) "hnsr_circuit::calls::silent::status_of") (known5
+          : Plain.Known 𝓤 H A W 𝓣 0 ps·5 r·5 (claims· .10) (claims· .11) "hnsr_circuit::calls::silent::status_told") →
           Statement.Triple 𝓤 (Wp.WpFn 𝓤 H (𝓣 .C) (𝓣 .Λ) (Function.fnOf 3 ps r xs m hs body))
           (Function.plainOf 𝓤 H A 3 ps r Pre· Post·)
 
     module _ where
-      abbrev at0 : (bs : List.List Nat.ℕ) → Typed.TF T24 O0
+      abbrev at0 : (bs : List.List Nat.ℕ) → Typed.TF T22 O0
       at0 = λ bs. Typed.atRet O0
 
-      abbrev at1 : (bs : List.List Nat.ℕ) → Typed.TF T23 O0
-      at1 = λ bs. λ Ψ. Typed.pass T23 T24 (s22 bs) (at0 bs Ψ)
+      abbrev at1 : (bs : List.List Nat.ℕ) → Typed.TF T21 O0
+      at1 = λ bs. λ Ψ. Typed.pass T21 T22 (s20 bs) (at0 bs Ψ)
 
-      abbrev at2 : (bs : List.List Nat.ℕ) → Typed.TF T22 O0
-      at2 = λ bs. λ Ψ. Typed.pass T22 T23 (s21 bs) (at1 bs Ψ)
+      abbrev at2 : (bs : List.List Nat.ℕ) → Typed.TF T20 O0
+      at2 = λ bs. λ Ψ. Typed.pass T20 T21 (s19 bs) (at1 bs Ψ)
 
-      abbrev at3 : (bs : List.List Nat.ℕ) → Typed.TF T21 O0
-      at3 = λ bs. λ Ψ. Typed.pass T21 T22 (s20 bs) (at2 bs Ψ)
+      abbrev at3 : (bs : List.List Nat.ℕ) → Typed.TF T19 O0
+      at3 = λ bs. λ Ψ. Typed.pass T19 T20 (s18 bs) (at2 bs Ψ)
 
-      abbrev at4 : (bs : List.List Nat.ℕ) → Typed.TF T20 O0
-      at4 = λ bs. λ Ψ. Typed.pass T20 T21 (s19 bs) (at3 bs Ψ)
+      abbrev at4 : (bs : List.List Nat.ℕ) → Typed.TF T18 O0
+      at4 = λ bs. λ Ψ. Typed.pass T18 T19 (s17 bs) (at3 bs Ψ)
 
-      abbrev at5 : (bs : List.List Nat.ℕ) → Typed.TF T19 O0
-      at5 = λ bs. λ Ψ. Typed.both (s18 bs) (at4 bs Ψ)
+      abbrev at5 : (bs : List.List Nat.ℕ) → Typed.TF T17 O0
+      at5 = λ bs. λ Ψ. Typed.both (s16 bs) (at4 bs Ψ)
 
-      abbrev at6 : (bs : List.List Nat.ℕ) → Typed.TF T18 O0
-      at6 = λ bs. λ Ψ. Typed.pass T18 T19 (s17 bs) (at5 bs Ψ)
+      abbrev at6 : (bs : List.List Nat.ℕ) → Typed.TF T16 O0
+      at6 = λ bs. λ Ψ. Typed.pass T16 T17 (s15 bs) (at5 bs Ψ)
 
-      abbrev at7 : (bs : List.List Nat.ℕ) → Typed.TF T17 O0
-      at7 = λ bs. λ Ψ. Typed.pass T17 T18 (s16 bs) (at6 bs Ψ)
+      abbrev at7 : (bs : List.List Nat.ℕ) → Typed.TF T15 O0
+      at7 = λ bs. λ Ψ. Typed.pass T15 T16 (s14 bs) (at6 bs Ψ)
 
-      abbrev at8 : (bs : List.List Nat.ℕ) → Typed.TF T16 O0
-      at8 = λ bs. λ Ψ. Typed.both (s15 bs) (at7 bs Ψ)
+      abbrev at8 : (bs : List.List Nat.ℕ) → Typed.TF T14 O0
+      at8 = λ bs. λ Ψ. Typed.both (s13 bs) (at7 bs Ψ)
 
-      abbrev at9 : (bs : List.List Nat.ℕ) → Typed.TF T15 O0
-      at9 = λ bs. λ Ψ. Typed.pass T15 T16 (s14 bs) (at8 bs Ψ)
+      abbrev at9 : (bs : List.List Nat.ℕ) → Typed.TF T13 O0
+      at9 = λ bs. λ Ψ. Typed.pass T13 T14 (s12 bs) (at8 bs Ψ)
 
-      abbrev at10 : (bs : List.List Nat.ℕ) → Typed.TF T14 O0
-      at10 = λ bs. λ Ψ. Typed.pass T14 T15 (s13 bs) (at9 bs Ψ)
+      abbrev at10 : (bs : List.List Nat.ℕ) → Typed.TF T12 O0
+      at10 = λ bs. λ Ψ. Typed.pass T12 T13 (s11 bs) (at9 bs Ψ)
 
-      abbrev at11 : (bs : List.List Nat.ℕ) → Typed.TF T13 O0
-      at11 = λ bs. λ Ψ. Typed.pass T13 T14 (s12 bs) (at10 bs Ψ)
+      abbrev at11 : (bs : List.List Nat.ℕ) → Typed.TF T11 O0
+      at11 = λ bs. λ Ψ. Typed.pass T11 T12 (s10 bs) (at10 bs Ψ)
 
-      abbrev at12 : (bs : List.List Nat.ℕ) → Typed.TF T12 O0
-      at12 = λ bs. λ Ψ. Typed.pass T12 T13 (s11 bs) (at11 bs Ψ)
+      abbrev at12 : (bs : List.List Nat.ℕ) → Typed.TF T10 O0
+      at12 = λ bs. λ Ψ. Typed.pass T10 T11 (s9 bs) (at11 bs Ψ)
 
-      abbrev at13 : (bs : List.List Nat.ℕ) → Typed.TF T11 O0
-      at13 = λ bs. λ Ψ. Typed.both (s10 bs) (at12 bs Ψ)
+      abbrev at13 : (bs : List.List Nat.ℕ) → Typed.TF T9 O0
+      at13 = λ bs. λ Ψ. Typed.both (s8 bs) (at12 bs Ψ)
 
-      abbrev at14 : (bs : List.List Nat.ℕ) → Typed.TF T10 O0
-      at14 = λ bs. λ Ψ. Typed.pass T10 T11 (s9 bs) (at13 bs Ψ)
+      abbrev at14 : (bs : List.List Nat.ℕ) → Typed.TF T8 O0
+      at14 = λ bs. λ Ψ. Typed.pass T8 T9 (s7 bs) (at13 bs Ψ)
 
-      abbrev at15 : (bs : List.List Nat.ℕ) → Typed.TF T9 O0
-      at15 = λ bs. λ Ψ. Typed.pass T9 T10 (s8 bs) (at14 bs Ψ)
+      abbrev at15 : (bs : List.List Nat.ℕ) → Typed.TF T7 O0
+      at15 = λ bs. λ Ψ. Typed.pass T7 T8 (s6 bs) (at14 bs Ψ)
 
-      abbrev at16 : (bs : List.List Nat.ℕ) → Typed.TF T8 O0
-      at16 = λ bs. λ Ψ. Typed.pass T8 T9 (s7 bs) (at15 bs Ψ)
+      abbrev at16 : (bs : List.List Nat.ℕ) → Typed.TF T6 O0
+      at16 = λ bs. λ Ψ. Typed.pass T6 T7 (s5 bs) (at15 bs Ψ)
 
-      abbrev at17 : (bs : List.List Nat.ℕ) → Typed.TF T7 O0
-      at17 = λ bs. λ Ψ. Typed.pass T7 T8 (s6 bs) (at16 bs Ψ)
+      abbrev at17 : (bs : List.List Nat.ℕ) → Typed.TF T5 O0
+      at17 = λ bs. λ Ψ. Typed.pass T5 T6 (s4 bs) (at16 bs Ψ)
 
-      abbrev at18 : (bs : List.List Nat.ℕ) → Typed.TF T6 O0
-      at18 = λ bs. λ Ψ. Typed.pass T6 T7 (s5 bs) (at17 bs Ψ)
+      abbrev at18 : (bs : List.List Nat.ℕ) → Typed.TF T4 O0
+      at18 = λ bs. λ Ψ. Typed.both (s3 bs) (at17 bs Ψ)
 
-      abbrev at19 : (bs : List.List Nat.ℕ) → Typed.TF T5 O0
-      at19 = λ bs. λ Ψ. Typed.both (s4 bs) (at18 bs Ψ)
+      abbrev at19 : (bs : List.List Nat.ℕ) → Typed.TF T3 O0
+      at19 = λ bs. λ Ψ. Typed.both (s2 bs) (at18 bs Ψ)
 
-      abbrev at20 : (bs : List.List Nat.ℕ) → Typed.TF T4 O0
-      at20 = λ bs. λ Ψ. Typed.both (s3 bs) (at19 bs Ψ)
+      abbrev at20 : (bs : List.List Nat.ℕ) → Typed.TF T2 O0
+      at20 = λ bs. λ Ψ. Typed.both (s1 bs) (at19 bs Ψ)
 
-      abbrev at21 : (bs : List.List Nat.ℕ) → Typed.TF T3 O0
-      at21 = λ bs. λ Ψ. Typed.both (s2 bs) (at20 bs Ψ)
-
-      abbrev at22 : (bs : List.List Nat.ℕ) → Typed.TF T2 O0
-      at22 = λ bs. λ Ψ. Typed.both (s1 bs) (at21 bs Ψ)
-
-      abbrev at23 : (bs : List.List Nat.ℕ) → Typed.TF T0 O0
-      at23 = λ bs. λ Ψ. Typed.both (s0 bs) (at22 bs Ψ)
+      abbrev at21 : (bs : List.List Nat.ℕ) → Typed.TF T0 O0
+      at21 = λ bs. λ Ψ. Typed.both (s0 bs) (at20 bs Ψ)
 
       abbrev pub Φ : (bs : List.List Nat.ℕ) → Typed.TF T0 O0
-      Φ = λ bs. at23 bs
+      Φ = λ bs. at21 bs
 
       module _ {M : Type 1} (𝓤 : URA.URA M) (H : Wp.Heap 𝓤) (A : Atoms.Atoms 𝓤) (W : Kit.Given 𝓤 H A)
           (𝓣 : Wp.Tables 𝓤 H) where
         abbrev Knowns : Type 1
-        Knowns = Plain.Known 𝓤 H A W 𝓣 0 ps·0 r·0 (claims· .0) (claims· .1) "hnsr_circuit::tables::question::used" ×
-            Plain.Known 𝓤 H A W 𝓣 1 ps·1 r·1 (claims· .2) (claims· .3) "hnsr_circuit::tables::pending::count_pending" ×
-            Plain.Known 𝓤 H A W 𝓣 1 ps·2 r·2 (claims· .4) (claims· .5) "hnsr_circuit::tables::circuits::circuit_totals"
-            × Plain.Known 𝓤 H A W 𝓣 1 ps·3 r·3 (claims· .6) (claims· .7) "hnsr_circuit::tables::inflight::count_action"
-            × Plain.Known 𝓤 H A W 𝓣 0 ps·4 r·4 (claims· .8) (claims· .9) "hnsr_circuit::entry::too_few" × Plain.Known 𝓤
-            H A W 𝓣 0 ps·5 r·5 (claims· .10) (claims· .11) "hnsr_circuit::calls::silent::status_of" × Plain.Known 𝓤 H A
-            W 𝓣 0 ps·6 r·6 (claims· .12) (claims· .13) "hnsr_circuit::calls::silent::status_told"
+        Knowns = Plain.Known 𝓤 H A W 𝓣 1 ps·0 r·0 (claims· .0) (claims· .1)
+            "hnsr_circuit::tables::pending::count_pending" × Plain.Known 𝓤 H A W 𝓣 1 ps·1 r·1 (claims· .2) (claims· .3)
+            "hnsr_circuit::tables::circuits::circuit_totals" × Plain.Known 𝓤 H A W 𝓣 1 ps·2 r·2 (claims· .4)
+            (claims· .5) "hnsr_circuit::tables::inflight::count_action" × Plain.Known 𝓤 H A W 𝓣 0 ps·3 r·3 (claims· .6)
+            (claims· .7) "hnsr_circuit::entry::too_few" × Plain.Known 𝓤 H A W 𝓣 0 ps·4 r·4 (claims· .8) (claims· .9)
+            "hnsr_circuit::calls::silent::status_of" × Plain.Known 𝓤 H A W 𝓣 0 ps·5 r·5 (claims· .10) (claims· .11)
+            "hnsr_circuit::calls::silent::status_told"
 
       module _ (κs : Lifetimes.Lfts 3) (qs : Lifetimes.Shares 3) where
         abbrev life0 : Row.Life
@@ -740,13 +691,7 @@ module _ (claims· : Claims) where
         G21 = record { locals = t21; slots = life0 ∷ life1 ∷ life2 ∷ List.[] }
 
         abbrev G22 : Row.Cx
-        G22 = record { locals = t22; slots = life0 ∷ life1 ∷ life2 ∷ List.[] }
-
-        abbrev G23 : Row.Cx
-        G23 = record { locals = t23; slots = life0 ∷ life1 ∷ life2 ∷ List.[] }
-
-        abbrev G24 : Row.Cx
-        G24 = record { locals = t1; slots = life0 ∷ life1 ∷ life2 ∷ List.[] }
+        G22 = record { locals = t1; slots = life0 ∷ life1 ∷ life2 ∷ List.[] }
 
         abbrev Δ0 : Typed.Outs
         Δ0 = record { next = Option.none; exits = List.[]; returns = Option.some G1 }
@@ -757,31 +702,31 @@ module _ (claims· : Claims) where
           abbrev E : Wp.Env 𝓤 H
           E = Frame.EnvOf 𝓤 H ((Kinds.tyR r) ∷ (Enter.tysP ps xs)) bs
 
-          d0 : Typed.Typed 𝓤 H A 𝓣 E G24 b11 Δ0 (at0 bs)
+          d0 : Typed.Typed 𝓤 H A 𝓣 E G22 b10 Δ0 (at0 bs)
           d0 = Typed.t-return 𝓤 H A W 𝓣 E Δ0 tt
 
-          d1 : Typed.Typed 𝓤 H A 𝓣 E G23 b11 Δ0 (at1 bs)
-          d1 = Typed.g-pre 𝓤 H A W 𝓣 E G23 G24 b11 Δ0 (Typed.pass T23 T24 (s22 bs)) (at0 bs) (Scalar.g-room 𝓤 H A W E
-              G23 12 Laws'.mir (Local.room-whole 𝓤 H A W (Declared.row HnsrRuntimeStatus.the-type) Laws'.mir Path.refl))
+          d1 : Typed.Typed 𝓤 H A 𝓣 E G21 b10 Δ0 (at1 bs)
+          d1 = Typed.g-pre 𝓤 H A W 𝓣 E G21 G22 b10 Δ0 (Typed.pass T21 T22 (s20 bs)) (at0 bs) (Scalar.g-room 𝓤 H A W E
+              G21 11 Laws'.mir (Local.room-whole 𝓤 H A W (Declared.row HnsrRuntimeStatus.the-type) Laws'.mir Path.refl))
               d0
 
-          d2 : Typed.Typed 𝓤 H A 𝓣 E G22 b11 Δ0 (at2 bs)
-          d2 = Typed.g-pre 𝓤 H A W 𝓣 E G22 G23 b11 Δ0 (Typed.pass T22 T23 (s21 bs)) (at1 bs) (Scalar.g-room 𝓤 H A W E
-              G22 11 Syntax.tyBool (Scalar.room-sc 𝓤 H A W Row.sBool)) d1
+          d2 : Typed.Typed 𝓤 H A 𝓣 E G20 b10 Δ0 (at2 bs)
+          d2 = Typed.g-pre 𝓤 H A W 𝓣 E G20 G21 b10 Δ0 (Typed.pass T20 T21 (s19 bs)) (at1 bs) (Scalar.g-room 𝓤 H A W E
+              G20 10 Syntax.tyBool (Scalar.room-sc 𝓤 H A W Row.sBool)) d1
 
-          d3 : Typed.Typed 𝓤 H A 𝓣 E G21 b11 Δ0 (at3 bs)
-          d3 = Typed.g-pre 𝓤 H A W 𝓣 E G21 G22 b11 Δ0 (Typed.pass T21 T22 (s20 bs)) (at2 bs) (Scalar.g-room 𝓤 H A W E
-              G21 10 (Syntax.tyInt Syntax.w64) (Scalar.room-sc 𝓤 H A W (Row.sInt Syntax.w64))) d2
+          d3 : Typed.Typed 𝓤 H A 𝓣 E G19 b10 Δ0 (at3 bs)
+          d3 = Typed.g-pre 𝓤 H A W 𝓣 E G19 G20 b10 Δ0 (Typed.pass T19 T20 (s18 bs)) (at2 bs) (Scalar.g-room 𝓤 H A W E
+              G19 9 (Syntax.tyInt Syntax.w64) (Scalar.room-sc 𝓤 H A W (Row.sInt Syntax.w64))) d2
 
-          d4 : Typed.Typed 𝓤 H A 𝓣 E G20 b11 Δ0 (at4 bs)
-          d4 = Typed.g-pre 𝓤 H A W 𝓣 E G20 G21 b11 Δ0 (Typed.pass T20 T21 (s19 bs)) (at3 bs) (Scalar.g-room 𝓤 H A W E
-              G20 8 (Syntax.tyInt Syntax.w64) (Scalar.room-sc 𝓤 H A W (Row.sInt Syntax.w64))) d3
+          d4 : Typed.Typed 𝓤 H A 𝓣 E G18 b10 Δ0 (at4 bs)
+          d4 = Typed.g-pre 𝓤 H A W 𝓣 E G18 G19 b10 Δ0 (Typed.pass T18 T19 (s17 bs)) (at3 bs) (Scalar.g-room 𝓤 H A W E
+              G18 7 (Syntax.tyInt Syntax.w64) (Scalar.room-sc 𝓤 H A W (Row.sInt Syntax.w64))) d3
 
-          d5 : Typed.Typed 𝓤 H A 𝓣 E G19 b12 Δ0 (at5 bs)
-          d5 = Typed.s-seq 𝓤 H A W 𝓣 E G19 G20 b10 b11 Δ0 (Typed.both (s18 bs)) (at4 bs) (Plain.t-call-plain 𝓤 H A W 𝓣
-              0 ps·6 r·6 (claims· .12) (claims· .13) "hnsr_circuit::calls::silent::status_told" (known .6) E
-              (λ pos β. β) G19 (Bool.bAt 11 λ x. x, (record { pos = 12; st = List.[]; d = 0; at = λ x. x }, tt)) 0
-              List.[] (Call.sub-id 𝓤 H A W (G19 .slots)) (
+          d5 : Typed.Typed 𝓤 H A 𝓣 E G17 b11 Δ0 (at5 bs)
+          d5 = Typed.s-seq 𝓤 H A W 𝓣 E G17 G18 b9 b10 Δ0 (Typed.both (s16 bs)) (at4 bs) (Plain.t-call-plain 𝓤 H A W 𝓣 0
+              ps·5 r·5 (claims· .10) (claims· .11) "hnsr_circuit::calls::silent::status_told" (known .5) E (λ pos β. β)
+              G17 (Bool.bAt 10 λ x. x, (record { pos = 11; st = List.[]; d = 0; at = λ x. x }, tt)) 0 List.[]
+              (Call.sub-id 𝓤 H A W (G17 .slots)) (
                 (Scalar.reads-sc 𝓤 H A W Row.sBool, Path.refl),
                 (
                   (
@@ -796,23 +741,22 @@ module _ (claims· : Claims) where
                 ),
               ) (Reads.room-gone 𝓤 H A Laws'''.mir) tt Path.refl) d4
 
-          d6 : Typed.Typed 𝓤 H A 𝓣 E G18 b12 Δ0 (at6 bs)
-          d6 = Typed.g-pre 𝓤 H A W 𝓣 E G18 G19 b12 Δ0 (Typed.pass T18 T19 (s17 bs)) (at5 bs) (Scalar.g-room 𝓤 H A W E
-              G18 9 Laws''''''.mir (Local.room-whole 𝓤 H A W (Declared.row CircuitTotals.the-type) Laws''''''.mir
+          d6 : Typed.Typed 𝓤 H A 𝓣 E G16 b11 Δ0 (at6 bs)
+          d6 = Typed.g-pre 𝓤 H A W 𝓣 E G16 G17 b11 Δ0 (Typed.pass T16 T17 (s15 bs)) (at5 bs) (Scalar.g-room 𝓤 H A W E
+              G16 8 Laws'''''.mir (Local.room-whole 𝓤 H A W (Declared.row CircuitTotals.the-type) Laws'''''.mir
               Path.refl)) d5
 
-          d7 : Typed.Typed 𝓤 H A 𝓣 E G17 b12 Δ0 (at7 bs)
-          d7 = Typed.g-pre 𝓤 H A W 𝓣 E G17 G18 b12 Δ0 (Typed.pass T17 T18 (s16 bs)) (at6 bs) (Scalar.g-room 𝓤 H A W E
-              G17 4 Laws''.mir (Local.room-whole 𝓤 H A W (Declared.row OpaqueRelayRuntime.the-type) Laws''.mir
+          d7 : Typed.Typed 𝓤 H A 𝓣 E G15 b11 Δ0 (at7 bs)
+          d7 = Typed.g-pre 𝓤 H A W 𝓣 E G15 G16 b11 Δ0 (Typed.pass T15 T16 (s14 bs)) (at6 bs) (Scalar.g-room 𝓤 H A W E
+              G15 4 Laws''.mir (Local.room-whole 𝓤 H A W (Declared.row OpaqueRelayRuntime.the-type) Laws''.mir
               Path.refl)) d6
 
-          d8 : Typed.Typed 𝓤 H A 𝓣 E G16 b13 Δ0 (at8 bs)
-          d8 = Typed.s-seq 𝓤 H A W 𝓣 E G16 G17 b9 b12 Δ0 (Typed.both (s15 bs)) (at7 bs) (Plain.t-call-plain 𝓤 H A W 𝓣 0
-              ps·5 r·5 (claims· .10) (claims· .11) "hnsr_circuit::calls::silent::status_of" (known .5) E (λ pos β. β)
-              G16 (
+          d8 : Typed.Typed 𝓤 H A 𝓣 E G14 b12 Δ0 (at8 bs)
+          d8 = Typed.s-seq 𝓤 H A W 𝓣 E G14 G15 b8 b11 Δ0 (Typed.both (s13 bs)) (at7 bs) (Plain.t-call-plain 𝓤 H A W 𝓣 0
+              ps·4 r·4 (claims· .8) (claims· .9) "hnsr_circuit::calls::silent::status_of" (known .4) E (λ pos β. β) G14 (
                 record { pos = 4; st = List.[]; d = 0; at = λ x. x },
-                (Num.vAt 8 λ x. x, (record { pos = 9; st = List.[]; d = 0; at = λ x. x }, (Num.vAt 10 λ x. x, tt))),
-              ) 12 List.[] (Call.sub-id 𝓤 H A W (G16 .slots)) (
+                (Num.vAt 7 λ x. x, (record { pos = 8; st = List.[]; d = 0; at = λ x. x }, (Num.vAt 9 λ x. x, tt))),
+              ) 11 List.[] (Call.sub-id 𝓤 H A W (G14 .slots)) (
                 (
                   Yields.yields-copy 𝓤 H A W (λ ρ. Unit) (Declared.row OpaqueRelayRuntime.the-type) Path.refl (Copies.cStruct
                       OpaqueRelayRuntime.the-type Laws''.the-laws Laws''.the-copy .copy 𝓤 H A W)
@@ -826,7 +770,7 @@ module _ (claims· : Claims) where
                   (
                     (
                       Yields.yields-copy 𝓤 H A W (λ ρ. Unit) (Declared.row CircuitTotals.the-type) Path.refl (Copies.cStruct
-                          CircuitTotals.the-type Laws''''''.the-laws Laws''''''.the-copy .copy 𝓤 H A W)
+                          CircuitTotals.the-type Laws'''''.the-laws Laws'''''.the-copy .copy 𝓤 H A W)
                           (Rows.whole (Declared.row CircuitTotals.the-type)) (λ x. x) (λ x. x) (λ ρ told.
                           Local.mem-whole 𝓤 H A W (Declared.row CircuitTotals.the-type) ρ) λ ρ told. Local.whole-mem 𝓤
                           H A W (Declared.row CircuitTotals.the-type) ρ,
@@ -837,29 +781,29 @@ module _ (claims· : Claims) where
                 ),
               ) (Reads.room-gone 𝓤 H A Laws'.mir) tt Path.refl) d7
 
-          d9 : Typed.Typed 𝓤 H A 𝓣 E G15 b13 Δ0 (at9 bs)
-          d9 = Typed.g-pre 𝓤 H A W 𝓣 E G15 G16 b13 Δ0 (Typed.pass T15 T16 (s14 bs)) (at8 bs) (Scalar.g-room 𝓤 H A W E
-              G15 15 (Syntax.tyInt Syntax.w64) (Scalar.room-sc 𝓤 H A W (Row.sInt Syntax.w64))) d8
+          d9 : Typed.Typed 𝓤 H A 𝓣 E G13 b12 Δ0 (at9 bs)
+          d9 = Typed.g-pre 𝓤 H A W 𝓣 E G13 G14 b12 Δ0 (Typed.pass T13 T14 (s12 bs)) (at8 bs) (Scalar.g-room 𝓤 H A W E
+              G13 14 (Syntax.tyInt Syntax.w64) (Scalar.room-sc 𝓤 H A W (Row.sInt Syntax.w64))) d8
 
-          d10 : Typed.Typed 𝓤 H A 𝓣 E G14 b13 Δ0 (at10 bs)
-          d10 = Typed.g-pre 𝓤 H A W 𝓣 E G14 G15 b13 Δ0 (Typed.pass T14 T15 (s13 bs)) (at9 bs) (Scalar.g-room 𝓤 H A W E
-              G14 14 (Syntax.tyInt Syntax.w64) (Scalar.room-sc 𝓤 H A W (Row.sInt Syntax.w64))) d9
+          d10 : Typed.Typed 𝓤 H A 𝓣 E G12 b12 Δ0 (at10 bs)
+          d10 = Typed.g-pre 𝓤 H A W 𝓣 E G12 G13 b12 Δ0 (Typed.pass T12 T13 (s11 bs)) (at9 bs) (Scalar.g-room 𝓤 H A W E
+              G12 13 (Syntax.tyInt Syntax.w64) (Scalar.room-sc 𝓤 H A W (Row.sInt Syntax.w64))) d9
 
-          d11 : Typed.Typed 𝓤 H A 𝓣 E G13 b13 Δ0 (at11 bs)
-          d11 = Typed.g-pre 𝓤 H A W 𝓣 E G13 G14 b13 Δ0 (Typed.pass T13 T14 (s12 bs)) (at10 bs) (Scalar.g-room 𝓤 H A W E
-              G13 13 (Syntax.tyInt Syntax.w64) (Scalar.room-sc 𝓤 H A W (Row.sInt Syntax.w64))) d10
+          d11 : Typed.Typed 𝓤 H A 𝓣 E G11 b12 Δ0 (at11 bs)
+          d11 = Typed.g-pre 𝓤 H A W 𝓣 E G11 G12 b12 Δ0 (Typed.pass T11 T12 (s10 bs)) (at10 bs) (Scalar.g-room 𝓤 H A W E
+              G11 12 (Syntax.tyInt Syntax.w64) (Scalar.room-sc 𝓤 H A W (Row.sInt Syntax.w64))) d10
 
-          d12 : Typed.Typed 𝓤 H A 𝓣 E G12 b13 Δ0 (at12 bs)
-          d12 = Typed.g-pre 𝓤 H A W 𝓣 E G12 G13 b13 Δ0 (Typed.pass T12 T13 (s11 bs)) (at11 bs) (Scalar.g-room 𝓤 H A W E
-              G12 6 Laws.mir (Local.room-whole 𝓤 H A W (Declared.row OpaqueRelayConfig.the-type) Laws.mir Path.refl))
+          d12 : Typed.Typed 𝓤 H A 𝓣 E G10 b12 Δ0 (at12 bs)
+          d12 = Typed.g-pre 𝓤 H A W 𝓣 E G10 G11 b12 Δ0 (Typed.pass T10 T11 (s9 bs)) (at11 bs) (Scalar.g-room 𝓤 H A W E
+              G10 6 Laws.mir (Local.room-whole 𝓤 H A W (Declared.row OpaqueRelayConfig.the-type) Laws.mir Path.refl))
               d11
 
-          d13 : Typed.Typed 𝓤 H A 𝓣 E G11 b14 Δ0 (at13 bs)
-          d13 = Typed.s-seq 𝓤 H A W 𝓣 E G11 G12 b8 b13 Δ0 (Typed.both (s10 bs)) (at12 bs) (Plain.t-call-plain 𝓤 H A W 𝓣
-              0 ps·4 r·4 (claims· .8) (claims· .9) "hnsr_circuit::entry::too_few" (known .4) E (λ pos β. β) G11 (
+          d13 : Typed.Typed 𝓤 H A 𝓣 E G9 b13 Δ0 (at13 bs)
+          d13 = Typed.s-seq 𝓤 H A W 𝓣 E G9 G10 b7 b12 Δ0 (Typed.both (s8 bs)) (at12 bs) (Plain.t-call-plain 𝓤 H A W 𝓣 0
+              ps·3 r·3 (claims· .6) (claims· .7) "hnsr_circuit::entry::too_few" (known .3) E (λ pos β. β) G9 (
                 record { pos = 6; st = List.[]; d = 0; at = λ x. x },
-                (Num.vAt 13 λ x. x, (Num.vAt 14 λ x. x, (Num.vAt 15 λ x. x, tt))),
-              ) 11 List.[] (Call.sub-id 𝓤 H A W (G11 .slots)) (
+                (Num.vAt 12 λ x. x, (Num.vAt 13 λ x. x, (Num.vAt 14 λ x. x, tt))),
+              ) 10 List.[] (Call.sub-id 𝓤 H A W (G9 .slots)) (
                 (
                   Yields.yields-copy 𝓤 H A W (λ ρ. Unit) (Declared.row OpaqueRelayConfig.the-type) Path.refl (Copies.cStruct
                       OpaqueRelayConfig.the-type Laws.the-laws Laws.the-copy .copy 𝓤 H A W)
@@ -877,9 +821,9 @@ module _ (claims· : Claims) where
                 ),
               ) (Reads.room-gone 𝓤 H A Syntax.tyBool) tt Path.refl) d12
 
-          d14 : Typed.Typed 𝓤 H A 𝓣 E G10 b15 Δ0 (at14 bs)
-          d14 = Typed.s-seq 𝓤 H A W 𝓣 E G10 G11 b7 b14 Δ0 (Typed.pass T10 T11 (s9 bs)) (at13 bs) (Scalar.t-use 𝓤 H A W
-              E 𝓣 G10 (Scalar.oFld 3 ((Syntax.field 1) ∷ List.[]) (Syntax.tyInt Syntax.w64) 8 Shared.lenV) 15
+          d14 : Typed.Typed 𝓤 H A 𝓣 E G8 b14 Δ0 (at14 bs)
+          d14 = Typed.s-seq 𝓤 H A W 𝓣 E G8 G9 b6 b13 Δ0 (Typed.pass T8 T9 (s7 bs)) (at13 bs) (Scalar.t-use 𝓤 H A W E 𝓣
+              G8 (Scalar.oFld 3 ((Syntax.field 1) ∷ List.[]) (Syntax.tyInt Syntax.w64) 8 Shared.lenV) 14
               (Rows.sc-here (Row.sInt Syntax.w64)) (Syntax.tyInt Syntax.w64) (Row.valS (Row.sInt Syntax.w64))
               (Row.sInt Syntax.w64 .of) (
                 Shared.reads-sslice-len 𝓤 H A W InflightAction.row ref2 2 8 Path.refl,
@@ -887,9 +831,9 @@ module _ (claims· : Claims) where
               ) (Reads.room-gone 𝓤 H A (Syntax.tyInt Syntax.w64)) (Scalar.holds-sc 𝓤 H A W (Row.sInt Syntax.w64))
               Path.refl (λ u. Path.refl) λ u. tt) d13
 
-          d15 : Typed.Typed 𝓤 H A 𝓣 E G9 b16 Δ0 (at15 bs)
-          d15 = Typed.s-seq 𝓤 H A W 𝓣 E G9 G10 b6 b15 Δ0 (Typed.pass T9 T10 (s8 bs)) (at14 bs) (Scalar.t-use 𝓤 H A W E
-              𝓣 G9 (Scalar.oFld 2 ((Syntax.field 1) ∷ List.[]) (Syntax.tyInt Syntax.w64) 8 Shared.lenV) 14
+          d15 : Typed.Typed 𝓤 H A 𝓣 E G7 b15 Δ0 (at15 bs)
+          d15 = Typed.s-seq 𝓤 H A W 𝓣 E G7 G8 b5 b14 Δ0 (Typed.pass T7 T8 (s6 bs)) (at14 bs) (Scalar.t-use 𝓤 H A W E 𝓣
+              G7 (Scalar.oFld 2 ((Syntax.field 1) ∷ List.[]) (Syntax.tyInt Syntax.w64) 8 Shared.lenV) 13
               (Rows.sc-here (Row.sInt Syntax.w64)) (Syntax.tyInt Syntax.w64) (Row.valS (Row.sInt Syntax.w64))
               (Row.sInt Syntax.w64 .of) (
                 Shared.reads-sslice-len 𝓤 H A W RelayCircuit.row ref1 1 8 Path.refl,
@@ -897,9 +841,9 @@ module _ (claims· : Claims) where
               ) (Reads.room-gone 𝓤 H A (Syntax.tyInt Syntax.w64)) (Scalar.holds-sc 𝓤 H A W (Row.sInt Syntax.w64))
               Path.refl (λ u. Path.refl) λ u. tt) d14
 
-          d16 : Typed.Typed 𝓤 H A 𝓣 E G8 b17 Δ0 (at16 bs)
-          d16 = Typed.s-seq 𝓤 H A W 𝓣 E G8 G9 b5 b16 Δ0 (Typed.pass T8 T9 (s7 bs)) (at15 bs) (Scalar.t-use 𝓤 H A W E 𝓣
-              G8 (Scalar.oFld 1 ((Syntax.field 1) ∷ List.[]) (Syntax.tyInt Syntax.w64) 8 Shared.lenV) 13
+          d16 : Typed.Typed 𝓤 H A 𝓣 E G6 b16 Δ0 (at16 bs)
+          d16 = Typed.s-seq 𝓤 H A W 𝓣 E G6 G7 b4 b15 Δ0 (Typed.pass T6 T7 (s5 bs)) (at15 bs) (Scalar.t-use 𝓤 H A W E 𝓣
+              G6 (Scalar.oFld 1 ((Syntax.field 1) ∷ List.[]) (Syntax.tyInt Syntax.w64) 8 Shared.lenV) 12
               (Rows.sc-here (Row.sInt Syntax.w64)) (Syntax.tyInt Syntax.w64) (Row.valS (Row.sInt Syntax.w64))
               (Row.sInt Syntax.w64 .of) (
                 Shared.reads-sslice-len 𝓤 H A W RelayPending.row ref0 0 8 Path.refl,
@@ -907,24 +851,17 @@ module _ (claims· : Claims) where
               ) (Reads.room-gone 𝓤 H A (Syntax.tyInt Syntax.w64)) (Scalar.holds-sc 𝓤 H A W (Row.sInt Syntax.w64))
               Path.refl (λ u. Path.refl) λ u. tt) d15
 
-          d17 : Typed.Typed 𝓤 H A 𝓣 E G7 b17 Δ0 (at17 bs)
-          d17 = Typed.g-pre 𝓤 H A W 𝓣 E G7 G8 b17 Δ0 (Typed.pass T7 T8 (s6 bs)) (at16 bs) (Scalar.g-room 𝓤 H A W E G7 7
-              Laws'''''.mir (Local.room-whole 𝓤 H A W (Declared.row Question.the-type) Laws'''''.mir Path.refl)) d16
+          d17 : Typed.Typed 𝓤 H A 𝓣 E G5 b16 Δ0 (at17 bs)
+          d17 = Typed.g-pre 𝓤 H A W 𝓣 E G5 G6 b16 Δ0 (Typed.pass T5 T6 (s4 bs)) (at16 bs) (Scalar.g-room 𝓤 H A W E G5 5
+              Laws''''.mir (Local.room-whole 𝓤 H A W (Declared.row Places.the-type) Laws''''.mir Path.refl)) d16
 
-          d18 : Typed.Typed 𝓤 H A 𝓣 E G6 b17 Δ0 (at18 bs)
-          d18 = Typed.g-pre 𝓤 H A W 𝓣 E G6 G7 b17 Δ0 (Typed.pass T6 T7 (s5 bs)) (at17 bs) (Scalar.g-room 𝓤 H A W E G6 5
-              Laws''''.mir (Local.room-whole 𝓤 H A W (Declared.row Places.the-type) Laws''''.mir Path.refl)) d17
-
-          d19 : Typed.Typed 𝓤 H A 𝓣 E G5 b18 Δ0 (at19 bs)
-          d19 = Typed.s-seq 𝓤 H A W 𝓣 E G5 G6 b4 b17 Δ0 (Typed.both (s4 bs)) (at18 bs) (Plain.t-call-plain 𝓤 H A W 𝓣 1
-              ps·3 r·3 (claims· .6) (claims· .7) "hnsr_circuit::tables::inflight::count_action" (known .3) E
-              (λ pos β. β) G5 (
+          d18 : Typed.Typed 𝓤 H A 𝓣 E G4 b17 Δ0 (at18 bs)
+          d18 = Typed.s-seq 𝓤 H A W 𝓣 E G4 G5 b3 b16 Δ0 (Typed.both (s3 bs)) (at17 bs) (Plain.t-call-plain 𝓤 H A W 𝓣 1
+              ps·2 r·2 (claims· .4) (claims· .5) "hnsr_circuit::tables::inflight::count_action" (known .2) E
+              (λ pos β. β) G4 (
                 record { pos = 3; ty = ref2; ref = λ x. x },
-                (
-                  record { pos = 5; st = List.[]; d = 0; at = λ x. x },
-                  (record { pos = 7; st = List.[]; d = 0; at = λ x. x }, tt),
-                ),
-              ) 10 (2 ∷ List.[]) (Call.sub-id 𝓤 H A W (G5 .slots)) (
+                (record { pos = 5; st = List.[]; d = 0; at = λ x. x }, tt),
+              ) 9 (2 ∷ List.[]) (Call.sub-id 𝓤 H A W (G4 .slots)) (
                 ShrSlice.spares-sslice 𝓤 H A W InflightAction.row ref2 2,
                 Shared.reads-sslice 𝓤 H A W InflightAction.row ref2 2,
                 Path.refl,
@@ -937,27 +874,17 @@ module _ (claims· : Claims) where
                         (Declared.row Places.the-type) ρ,
                     Path.refl,
                   ),
-                  (
-                    (
-                      Yields.yields-copy 𝓤 H A W (λ ρ. Unit) (Declared.row Question.the-type) Path.refl (Copies.cStruct
-                          Question.the-type Laws'''''.the-laws Laws'''''.the-copy .copy 𝓤 H A W)
-                          (Rows.whole (Declared.row Question.the-type)) (λ x. x) (λ x. x) (λ ρ told. Local.mem-whole 𝓤
-                          H A W (Declared.row Question.the-type) ρ) λ ρ told. Local.whole-mem 𝓤 H A W
-                          (Declared.row Question.the-type) ρ,
-                      Path.refl,
-                    ),
-                    tt,
-                  ),
+                  tt,
                 ),
-              ) (Reads.room-gone 𝓤 H A (Syntax.tyInt Syntax.w64)) (tt, tt) Path.refl) d18
+              ) (Reads.room-gone 𝓤 H A (Syntax.tyInt Syntax.w64)) (tt, tt) Path.refl) d17
 
-          d20 : Typed.Typed 𝓤 H A 𝓣 E G4 b19 Δ0 (at20 bs)
-          d20 = Typed.s-seq 𝓤 H A W 𝓣 E G4 G5 b3 b18 Δ0 (Typed.both (s3 bs)) (at19 bs) (Plain.t-call-plain 𝓤 H A W 𝓣 1
-              ps·2 r·2 (claims· .4) (claims· .5) "hnsr_circuit::tables::circuits::circuit_totals" (known .2) E
-              (λ pos β. β) G4 (
+          d19 : Typed.Typed 𝓤 H A 𝓣 E G3 b18 Δ0 (at19 bs)
+          d19 = Typed.s-seq 𝓤 H A W 𝓣 E G3 G4 b2 b17 Δ0 (Typed.both (s2 bs)) (at18 bs) (Plain.t-call-plain 𝓤 H A W 𝓣 1
+              ps·1 r·1 (claims· .2) (claims· .3) "hnsr_circuit::tables::circuits::circuit_totals" (known .1) E
+              (λ pos β. β) G3 (
                 record { pos = 2; ty = ref1; ref = λ x. x },
                 (record { pos = 5; st = List.[]; d = 0; at = λ x. x }, tt),
-              ) 9 (1 ∷ List.[]) (Call.sub-id 𝓤 H A W (G4 .slots)) (
+              ) 8 (1 ∷ List.[]) (Call.sub-id 𝓤 H A W (G3 .slots)) (
                 ShrSlice.spares-sslice 𝓤 H A W RelayCircuit.row ref1 1,
                 Shared.reads-sslice 𝓤 H A W RelayCircuit.row ref1 1,
                 Path.refl,
@@ -972,18 +899,15 @@ module _ (claims· : Claims) where
                   ),
                   tt,
                 ),
-              ) (Reads.room-gone 𝓤 H A Laws''''''.mir) (tt, tt) Path.refl) d19
+              ) (Reads.room-gone 𝓤 H A Laws'''''.mir) (tt, tt) Path.refl) d18
 
-          d21 : Typed.Typed 𝓤 H A 𝓣 E G3 b20 Δ0 (at21 bs)
-          d21 = Typed.s-seq 𝓤 H A W 𝓣 E G3 G4 b2 b19 Δ0 (Typed.both (s2 bs)) (at20 bs) (Plain.t-call-plain 𝓤 H A W 𝓣 1
-              ps·1 r·1 (claims· .2) (claims· .3) "hnsr_circuit::tables::pending::count_pending" (known .1) E
-              (λ pos β. β) G3 (
+          d20 : Typed.Typed 𝓤 H A 𝓣 E G2 b19 Δ0 (at20 bs)
+          d20 = Typed.s-seq 𝓤 H A W 𝓣 E G2 G3 b1 b18 Δ0 (Typed.both (s1 bs)) (at19 bs) (Plain.t-call-plain 𝓤 H A W 𝓣 1
+              ps·0 r·0 (claims· .0) (claims· .1) "hnsr_circuit::tables::pending::count_pending" (known .0) E
+              (λ pos β. β) G2 (
                 record { pos = 1; ty = ref0; ref = λ x. x },
-                (
-                  record { pos = 5; st = List.[]; d = 0; at = λ x. x },
-                  (record { pos = 7; st = List.[]; d = 0; at = λ x. x }, tt),
-                ),
-              ) 8 (0 ∷ List.[]) (Call.sub-id 𝓤 H A W (G3 .slots)) (
+                (record { pos = 5; st = List.[]; d = 0; at = λ x. x }, tt),
+              ) 7 (0 ∷ List.[]) (Call.sub-id 𝓤 H A W (G2 .slots)) (
                 ShrSlice.spares-sslice 𝓤 H A W RelayPending.row ref0 0,
                 Shared.reads-sslice 𝓤 H A W RelayPending.row ref0 0,
                 Path.refl,
@@ -996,27 +920,12 @@ module _ (claims· : Claims) where
                         (Declared.row Places.the-type) ρ,
                     Path.refl,
                   ),
-                  (
-                    (
-                      Yields.yields-copy 𝓤 H A W (λ ρ. Unit) (Declared.row Question.the-type) Path.refl (Copies.cStruct
-                          Question.the-type Laws'''''.the-laws Laws'''''.the-copy .copy 𝓤 H A W)
-                          (Rows.whole (Declared.row Question.the-type)) (λ x. x) (λ x. x) (λ ρ told. Local.mem-whole 𝓤
-                          H A W (Declared.row Question.the-type) ρ) λ ρ told. Local.whole-mem 𝓤 H A W
-                          (Declared.row Question.the-type) ρ,
-                      Path.refl,
-                    ),
-                    tt,
-                  ),
+                  tt,
                 ),
-              ) (Reads.room-gone 𝓤 H A (Syntax.tyInt Syntax.w64)) (tt, tt) Path.refl) d20
+              ) (Reads.room-gone 𝓤 H A (Syntax.tyInt Syntax.w64)) (tt, tt) Path.refl) d19
 
-          d22 : Typed.Typed 𝓤 H A 𝓣 E G2 b21 Δ0 (at22 bs)
-          d22 = Typed.s-seq 𝓤 H A W 𝓣 E G2 G3 b1 b20 Δ0 (Typed.both (s1 bs)) (at21 bs) (Plain.t-call-plain 𝓤 H A W 𝓣 0
-              ps·0 r·0 (claims· .0) (claims· .1) "hnsr_circuit::tables::question::used" (known .0) E (λ pos β. β) G2 tt
-              7 List.[] (Call.sub-id 𝓤 H A W (G2 .slots)) tt (Reads.room-gone 𝓤 H A Laws'''''.mir) tt Path.refl) d21
-
-          d23 : Typed.Typed 𝓤 H A 𝓣 E G0 b22 Δ0 (at23 bs)
-          d23 = Typed.s-seq 𝓤 H A W 𝓣 E G0 G2 b0 b21 Δ0 (Typed.both (s0 bs)) (at22 bs) (WayStmt.t-way-copy-out 𝓤 H A W
+          d21 : Typed.Typed 𝓤 H A 𝓣 E G0 b20 Δ0 (at21 bs)
+          d21 = Typed.s-seq 𝓤 H A W 𝓣 E G0 G2 b0 b19 Δ0 (Typed.both (s0 bs)) (at20 bs) (WayStmt.t-way-copy-out 𝓤 H A W
               E 𝓣 (Declared.row OpaqueRelayConfig.the-type) Path.refl (Copies.cStruct OpaqueRelayConfig.the-type
               Laws.the-laws Laws.the-copy .copy 𝓤 H A W) (λ ρ. Unit) G0 (Row.out 4 (G0 .locals))
               (λ u. Row.drop 4 (G0 .locals) u) (G0 .slots) 4 (λ t. (Syntax.field 4) ∷ t) Laws.mir Laws.mir 6
@@ -1050,11 +959,11 @@ module _ (claims· : Claims) where
               (OpaqueRelayRuntime.struct .as-values (u .1 .1 .1 .1 .0)) Path.refl)) (Reads.room-gone 𝓤 H A Laws.mir) (Yields.makes-mem
               𝓤 H A W (λ ρ. Unit) (Declared.row OpaqueRelayConfig.the-type) Path.refl
               (Rows.whole (Declared.row OpaqueRelayConfig.the-type)) (λ x. x) λ ρ told. Local.whole-mem 𝓤 H A W
-              (Declared.row OpaqueRelayConfig.the-type) ρ) Path.refl Path.refl Path.refl) d22
+              (Declared.row OpaqueRelayConfig.the-type) ρ) Path.refl Path.refl Path.refl) d20
 
-          pub typed : Typed.Typed 𝓤 H A 𝓣 E (Function.Γin 3 ps r xs m κs qs) b22 (Function.Δret 3 ps r xs m κs qs)
+          pub typed : Typed.Typed 𝓤 H A 𝓣 E (Function.Γin 3 ps r xs m κs qs) b20 (Function.Δret 3 ps r xs m κs qs)
               (Φ bs)
-          typed = d23
+          typed = d21
 
       module _ (κs : Lifetimes.Lfts 3) where
         pub record Args : Type 0 where
@@ -1099,396 +1008,329 @@ module _ (claims· : Claims) where
         pub before : Start
         pub config : After-config·own before
 
-      abbrev pub Need-used-requires : Type 0
-      Need-used-requires = (c : After-config) → s1 (c .before .blocks) .asks (m1 (c .before) (c .config .given))
+      abbrev pub Need-count-pending-requires : Type 0
+      Need-count-pending-requires = (c : After-config) → s1 (c .before .blocks) .asks
+          (m1 (c .before) (c .config .given))
 
       abbrev pub m2 : (before : After-config) → (given : s1 (before .before .blocks) .gives
           (m1 (before .before) (before .config .given))) → Typed.Mo T3
       m2 = λ before given. s1 (before .before .blocks) .next (m1 (before .before) (before .config .given)) given
 
       module _ (before· : After-config) where
-        abbrev pub After-used·own : Type 0
-        After-used·own = Called.Called ps·0 r·0 (claims· .1) T2 tt (m1 (before· .before) (before· .config .given))
-
-      pub record After-used : Type 0 where
-        pub before : After-config
-        pub used : After-used·own before
-
-      abbrev pub After-used·gave : (c : After-used) → s1 (c .before .before .blocks) .gives
-          (m1 (c .before .before) (c .before .config .given))
-      After-used·gave = λ c. Called.given ps·0 r·0 (claims· .1) T2 tt
-          (m1 (c .before .before) (c .before .config .given)) (c .used)
-
-      abbrev pub Need-count-pending-requires : Type 0
-      Need-count-pending-requires = (c : After-used) → s2 (c .before .before .blocks) .asks
-          (m2 (c .before) (After-used·gave c))
-
-      abbrev pub m3 : (before : After-used) → (given : s2 (before .before .before .blocks) .gives
-          (m2 (before .before) (After-used·gave before))) → Typed.Mo T4
-      m3 = λ before given. s2 (before .before .before .blocks) .next (m2 (before .before) (After-used·gave before))
-          given
-
-      module _ (before· : After-used) where
         abbrev pub After-count-pending·own : Type 0
-        After-count-pending·own = Called.Called ps·1 r·1 (claims· .3) T3 (
+        After-count-pending·own = Called.Called ps·0 r·0 (claims· .1) T2 (
           record { pos = 1; ty = ref0; ref = λ x. x },
-          (
-            record { pos = 5; st = List.[]; d = 0; at = λ x. x },
-            (record { pos = 7; st = List.[]; d = 0; at = λ x. x }, tt),
-          ),
-        ) (m2 (before· .before) (After-used·gave before·))
+          (record { pos = 5; st = List.[]; d = 0; at = λ x. x }, tt),
+        ) (m1 (before· .before) (before· .config .given))
 
       pub record After-count-pending : Type 0 where
-        pub before : After-used
+        pub before : After-config
         pub count-pending : After-count-pending·own before
 
-      abbrev pub After-count-pending·gave : (c : After-count-pending) → s2 (c .before .before .before .blocks) .gives
-          (m2 (c .before .before) (After-used·gave (c .before)))
-      After-count-pending·gave = λ c. Called.given ps·1 r·1 (claims· .3) T3 (
+      abbrev pub After-count-pending·gave : (c : After-count-pending) → s1 (c .before .before .blocks) .gives
+          (m1 (c .before .before) (c .before .config .given))
+      After-count-pending·gave = λ c. Called.given ps·0 r·0 (claims· .1) T2 (
         record { pos = 1; ty = ref0; ref = λ x. x },
-        (
-          record { pos = 5; st = List.[]; d = 0; at = λ x. x },
-          (record { pos = 7; st = List.[]; d = 0; at = λ x. x }, tt),
-        ),
-      ) (m2 (c .before .before) (After-used·gave (c .before))) (c .count-pending)
+        (record { pos = 5; st = List.[]; d = 0; at = λ x. x }, tt),
+      ) (m1 (c .before .before) (c .before .config .given)) (c .count-pending)
 
       abbrev pub Need-circuit-totals-requires : Type 0
-      Need-circuit-totals-requires = (c : After-count-pending) → s3 (c .before .before .before .blocks) .asks
-          (m3 (c .before) (After-count-pending·gave c))
+      Need-circuit-totals-requires = (c : After-count-pending) → s2 (c .before .before .blocks) .asks
+          (m2 (c .before) (After-count-pending·gave c))
 
-      abbrev pub m4 : (before : After-count-pending) → (given : s3 (before .before .before .before .blocks) .gives
-          (m3 (before .before) (After-count-pending·gave before))) → Typed.Mo T5
-      m4 = λ before given. s3 (before .before .before .before .blocks) .next
-          (m3 (before .before) (After-count-pending·gave before)) given
+      abbrev pub m3 : (before : After-count-pending) → (given : s2 (before .before .before .blocks) .gives
+          (m2 (before .before) (After-count-pending·gave before))) → Typed.Mo T4
+      m3 = λ before given. s2 (before .before .before .blocks) .next
+          (m2 (before .before) (After-count-pending·gave before)) given
 
       module _ (before· : After-count-pending) where
         abbrev pub After-circuit-totals·own : Type 0
-        After-circuit-totals·own = Called.Called ps·2 r·2 (claims· .5) T4 (
+        After-circuit-totals·own = Called.Called ps·1 r·1 (claims· .3) T3 (
           record { pos = 2; ty = ref1; ref = λ x. x },
           (record { pos = 5; st = List.[]; d = 0; at = λ x. x }, tt),
-        ) (m3 (before· .before) (After-count-pending·gave before·))
+        ) (m2 (before· .before) (After-count-pending·gave before·))
 
       pub record After-circuit-totals : Type 0 where
         pub before : After-count-pending
         pub circuit-totals : After-circuit-totals·own before
 
-      abbrev pub After-circuit-totals·gave : (c : After-circuit-totals) → s3
-          (c .before .before .before .before .blocks) .gives (m3 (c .before .before)
-          (After-count-pending·gave (c .before)))
-      After-circuit-totals·gave = λ c. Called.given ps·2 r·2 (claims· .5) T4 (
+      abbrev pub After-circuit-totals·gave : (c : After-circuit-totals) → s2 (c .before .before .before .blocks) .gives (m2
+          (c .before .before) (After-count-pending·gave (c .before)))
+      After-circuit-totals·gave = λ c. Called.given ps·1 r·1 (claims· .3) T3 (
         record { pos = 2; ty = ref1; ref = λ x. x },
         (record { pos = 5; st = List.[]; d = 0; at = λ x. x }, tt),
-      ) (m3 (c .before .before) (After-count-pending·gave (c .before))) (c .circuit-totals)
+      ) (m2 (c .before .before) (After-count-pending·gave (c .before))) (c .circuit-totals)
 
       abbrev pub Need-count-action-requires : Type 0
-      Need-count-action-requires = (c : After-circuit-totals) → s4 (c .before .before .before .before .blocks) .asks
-          (m4 (c .before) (After-circuit-totals·gave c))
+      Need-count-action-requires = (c : After-circuit-totals) → s3 (c .before .before .before .blocks) .asks
+          (m3 (c .before) (After-circuit-totals·gave c))
 
-      abbrev pub m5 : (before : After-circuit-totals) → (given : s4 (before .before .before .before .before .blocks)
-          .gives (m4 (before .before) (After-circuit-totals·gave before))) → Typed.Mo T6
-      m5 = λ before given. s4 (before .before .before .before .before .blocks) .next
-          (m4 (before .before) (After-circuit-totals·gave before)) given
+      abbrev pub m4 : (before : After-circuit-totals) → (given : s3 (before .before .before .before .blocks) .gives
+          (m3 (before .before) (After-circuit-totals·gave before))) → Typed.Mo T5
+      m4 = λ before given. s3 (before .before .before .before .blocks) .next
+          (m3 (before .before) (After-circuit-totals·gave before)) given
 
       module _ (before· : After-circuit-totals) where
         abbrev pub After-count-action·own : Type 0
-        After-count-action·own = Called.Called ps·3 r·3 (claims· .7) T5 (
+        After-count-action·own = Called.Called ps·2 r·2 (claims· .5) T4 (
           record { pos = 3; ty = ref2; ref = λ x. x },
-          (
-            record { pos = 5; st = List.[]; d = 0; at = λ x. x },
-            (record { pos = 7; st = List.[]; d = 0; at = λ x. x }, tt),
-          ),
-        ) (m4 (before· .before) (After-circuit-totals·gave before·))
+          (record { pos = 5; st = List.[]; d = 0; at = λ x. x }, tt),
+        ) (m3 (before· .before) (After-circuit-totals·gave before·))
 
       pub record After-count-action : Type 0 where
         pub before : After-circuit-totals
         pub count-action : After-count-action·own before
 
-      abbrev pub After-count-action·gave : (c : After-count-action) → s4
-          (c .before .before .before .before .before .blocks) .gives (m4 (c .before .before)
-          (After-circuit-totals·gave (c .before)))
-      After-count-action·gave = λ c. Called.given ps·3 r·3 (claims· .7) T5 (
+      abbrev pub After-count-action·gave : (c : After-count-action) → s3 (c .before .before .before .before .blocks)
+          .gives (m3 (c .before .before) (After-circuit-totals·gave (c .before)))
+      After-count-action·gave = λ c. Called.given ps·2 r·2 (claims· .5) T4 (
         record { pos = 3; ty = ref2; ref = λ x. x },
-        (
-          record { pos = 5; st = List.[]; d = 0; at = λ x. x },
-          (record { pos = 7; st = List.[]; d = 0; at = λ x. x }, tt),
-        ),
-      ) (m4 (c .before .before) (After-circuit-totals·gave (c .before))) (c .count-action)
+        (record { pos = 5; st = List.[]; d = 0; at = λ x. x }, tt),
+      ) (m3 (c .before .before) (After-circuit-totals·gave (c .before))) (c .count-action)
 
-      abbrev pub m6 : (before : After-circuit-totals) → (given : s4 (before .before .before .before .before .blocks)
-          .gives (m4 (before .before) (After-circuit-totals·gave before))) → Typed.Mo T7
-      m6 = λ before given. s5 (before .before .before .before .before .blocks) (m5 before given)
+      abbrev pub m5 : (before : After-circuit-totals) → (given : s3 (before .before .before .before .blocks) .gives
+          (m3 (before .before) (After-circuit-totals·gave before))) → Typed.Mo T6
+      m5 = λ before given. s4 (before .before .before .before .blocks) (m4 before given)
 
-      abbrev pub m7 : (before : After-circuit-totals) → (given : s4 (before .before .before .before .before .blocks)
-          .gives (m4 (before .before) (After-circuit-totals·gave before))) → Typed.Mo T8
-      m7 = λ before given. s6 (before .before .before .before .before .blocks) (m6 before given)
+      abbrev pub m6 : (before : After-circuit-totals) → (given : s3 (before .before .before .before .blocks) .gives
+          (m3 (before .before) (After-circuit-totals·gave before))) → Typed.Mo T7
+      m6 = λ before given. s5 (before .before .before .before .blocks) (m5 before given)
 
-      abbrev pub m8 : (before : After-circuit-totals) → (given : s4 (before .before .before .before .before .blocks)
-          .gives (m4 (before .before) (After-circuit-totals·gave before))) → Typed.Mo T9
-      m8 = λ before given. s7 (before .before .before .before .before .blocks) (m7 before given)
+      abbrev pub m7 : (before : After-circuit-totals) → (given : s3 (before .before .before .before .blocks) .gives
+          (m3 (before .before) (After-circuit-totals·gave before))) → Typed.Mo T8
+      m7 = λ before given. s6 (before .before .before .before .blocks) (m6 before given)
 
-      abbrev pub m9 : (before : After-circuit-totals) → (given : s4 (before .before .before .before .before .blocks)
-          .gives (m4 (before .before) (After-circuit-totals·gave before))) → Typed.Mo T10
-      m9 = λ before given. s8 (before .before .before .before .before .blocks) (m8 before given)
-
-      abbrev pub m10 : (before : After-circuit-totals) → (given : s4 (before .before .before .before .before .blocks)
-          .gives (m4 (before .before) (After-circuit-totals·gave before))) → Typed.Mo T11
-      m10 = λ before given. s9 (before .before .before .before .before .blocks) (m9 before given)
+      abbrev pub m8 : (before : After-circuit-totals) → (given : s3 (before .before .before .before .blocks) .gives
+          (m3 (before .before) (After-circuit-totals·gave before))) → Typed.Mo T9
+      m8 = λ before given. s7 (before .before .before .before .blocks) (m7 before given)
 
       abbrev pub Need-too-few-requires : Type 0
-      Need-too-few-requires = (c : After-count-action) → s10 (c .before .before .before .before .before .blocks) .asks
-          (m10 (c .before) (After-count-action·gave c))
+      Need-too-few-requires = (c : After-count-action) → s8 (c .before .before .before .before .blocks) .asks
+          (m8 (c .before) (After-count-action·gave c))
 
-      abbrev pub m11 : (before : After-count-action) → (given : s10
-          (before .before .before .before .before .before .blocks) .gives
-          (m10 (before .before) (After-count-action·gave before))) → Typed.Mo T12
-      m11 = λ before given. s10 (before .before .before .before .before .before .blocks) .next
-          (m10 (before .before) (After-count-action·gave before)) given
+      abbrev pub m9 : (before : After-count-action) → (given : s8 (before .before .before .before .before .blocks)
+          .gives (m8 (before .before) (After-count-action·gave before))) → Typed.Mo T10
+      m9 = λ before given. s8 (before .before .before .before .before .blocks) .next
+          (m8 (before .before) (After-count-action·gave before)) given
 
       module _ (before· : After-count-action) where
         abbrev pub After-too-few·own : Type 0
-        After-too-few·own = Called.Called ps·4 r·4 (claims· .9) T11 (
+        After-too-few·own = Called.Called ps·3 r·3 (claims· .7) T9 (
           record { pos = 6; st = List.[]; d = 0; at = λ x. x },
-          (Num.vAt 13 λ x. x, (Num.vAt 14 λ x. x, (Num.vAt 15 λ x. x, tt))),
-        ) (m10 (before· .before) (After-count-action·gave before·))
+          (Num.vAt 12 λ x. x, (Num.vAt 13 λ x. x, (Num.vAt 14 λ x. x, tt))),
+        ) (m8 (before· .before) (After-count-action·gave before·))
 
       pub record After-too-few : Type 0 where
         pub before : After-count-action
         pub too-few : After-too-few·own before
 
-      abbrev pub After-too-few·gave : (c : After-too-few) → s10
-          (c .before .before .before .before .before .before .blocks) .gives (m10 (c .before .before)
-          (After-count-action·gave (c .before)))
-      After-too-few·gave = λ c. Called.given ps·4 r·4 (claims· .9) T11 (
+      abbrev pub After-too-few·gave : (c : After-too-few) → s8 (c .before .before .before .before .before .blocks)
+          .gives (m8 (c .before .before) (After-count-action·gave (c .before)))
+      After-too-few·gave = λ c. Called.given ps·3 r·3 (claims· .7) T9 (
         record { pos = 6; st = List.[]; d = 0; at = λ x. x },
-        (Num.vAt 13 λ x. x, (Num.vAt 14 λ x. x, (Num.vAt 15 λ x. x, tt))),
-      ) (m10 (c .before .before) (After-count-action·gave (c .before))) (c .too-few)
+        (Num.vAt 12 λ x. x, (Num.vAt 13 λ x. x, (Num.vAt 14 λ x. x, tt))),
+      ) (m8 (c .before .before) (After-count-action·gave (c .before))) (c .too-few)
 
-      abbrev pub m12 : (before : After-count-action) → (given : s10
-          (before .before .before .before .before .before .blocks) .gives
-          (m10 (before .before) (After-count-action·gave before))) → Typed.Mo T13
-      m12 = λ before given. s11 (before .before .before .before .before .before .blocks) (m11 before given)
+      abbrev pub m10 : (before : After-count-action) → (given : s8 (before .before .before .before .before .blocks)
+          .gives (m8 (before .before) (After-count-action·gave before))) → Typed.Mo T11
+      m10 = λ before given. s9 (before .before .before .before .before .blocks) (m9 before given)
 
-      abbrev pub m13 : (before : After-count-action) → (given : s10
-          (before .before .before .before .before .before .blocks) .gives
-          (m10 (before .before) (After-count-action·gave before))) → Typed.Mo T14
-      m13 = λ before given. s12 (before .before .before .before .before .before .blocks) (m12 before given)
+      abbrev pub m11 : (before : After-count-action) → (given : s8 (before .before .before .before .before .blocks)
+          .gives (m8 (before .before) (After-count-action·gave before))) → Typed.Mo T12
+      m11 = λ before given. s10 (before .before .before .before .before .blocks) (m10 before given)
 
-      abbrev pub m14 : (before : After-count-action) → (given : s10
-          (before .before .before .before .before .before .blocks) .gives
-          (m10 (before .before) (After-count-action·gave before))) → Typed.Mo T15
-      m14 = λ before given. s13 (before .before .before .before .before .before .blocks) (m13 before given)
+      abbrev pub m12 : (before : After-count-action) → (given : s8 (before .before .before .before .before .blocks)
+          .gives (m8 (before .before) (After-count-action·gave before))) → Typed.Mo T13
+      m12 = λ before given. s11 (before .before .before .before .before .blocks) (m11 before given)
 
-      abbrev pub m15 : (before : After-count-action) → (given : s10
-          (before .before .before .before .before .before .blocks) .gives
-          (m10 (before .before) (After-count-action·gave before))) → Typed.Mo T16
-      m15 = λ before given. s14 (before .before .before .before .before .before .blocks) (m14 before given)
+      abbrev pub m13 : (before : After-count-action) → (given : s8 (before .before .before .before .before .blocks)
+          .gives (m8 (before .before) (After-count-action·gave before))) → Typed.Mo T14
+      m13 = λ before given. s12 (before .before .before .before .before .blocks) (m12 before given)
 
       abbrev pub Need-status-of-requires : Type 0
-      Need-status-of-requires = (c : After-too-few) → s15 (c .before .before .before .before .before .before .blocks)
-          .asks (m15 (c .before) (After-too-few·gave c))
+      Need-status-of-requires = (c : After-too-few) → s13 (c .before .before .before .before .before .blocks) .asks
+          (m13 (c .before) (After-too-few·gave c))
 
-      abbrev pub m16 : (before : After-too-few) → (given : s15 (before .before .before .before .before .before .before
-          .blocks) .gives (m15 (before .before) (After-too-few·gave before))) → Typed.Mo T17
-      m16 = λ before given. s15 (before .before .before .before .before .before .before .blocks) .next
-          (m15 (before .before) (After-too-few·gave before)) given
+      abbrev pub m14 : (before : After-too-few) → (given : s13 (before .before .before .before .before .before .blocks)
+          .gives (m13 (before .before) (After-too-few·gave before))) → Typed.Mo T15
+      m14 = λ before given. s13 (before .before .before .before .before .before .blocks) .next
+          (m13 (before .before) (After-too-few·gave before)) given
 
       module _ (before· : After-too-few) where
         abbrev pub After-status-of·own : Type 0
-        After-status-of·own = Called.Called ps·5 r·5 (claims· .11) T16 (
+        After-status-of·own = Called.Called ps·4 r·4 (claims· .9) T14 (
           record { pos = 4; st = List.[]; d = 0; at = λ x. x },
-          (Num.vAt 8 λ x. x, (record { pos = 9; st = List.[]; d = 0; at = λ x. x }, (Num.vAt 10 λ x. x, tt))),
-        ) (m15 (before· .before) (After-too-few·gave before·))
+          (Num.vAt 7 λ x. x, (record { pos = 8; st = List.[]; d = 0; at = λ x. x }, (Num.vAt 9 λ x. x, tt))),
+        ) (m13 (before· .before) (After-too-few·gave before·))
 
       pub record After-status-of : Type 0 where
         pub before : After-too-few
         pub status-of : After-status-of·own before
 
-      abbrev pub After-status-of·gave : (c : After-status-of) → s15 (c .before .before .before .before .before .before
-          .before .blocks) .gives (m15 (c .before .before) (After-too-few·gave (c .before)))
-      After-status-of·gave = λ c. Called.given ps·5 r·5 (claims· .11) T16 (
+      abbrev pub After-status-of·gave : (c : After-status-of) → s13
+          (c .before .before .before .before .before .before .blocks) .gives
+          (m13 (c .before .before) (After-too-few·gave (c .before)))
+      After-status-of·gave = λ c. Called.given ps·4 r·4 (claims· .9) T14 (
         record { pos = 4; st = List.[]; d = 0; at = λ x. x },
-        (Num.vAt 8 λ x. x, (record { pos = 9; st = List.[]; d = 0; at = λ x. x }, (Num.vAt 10 λ x. x, tt))),
-      ) (m15 (c .before .before) (After-too-few·gave (c .before))) (c .status-of)
+        (Num.vAt 7 λ x. x, (record { pos = 8; st = List.[]; d = 0; at = λ x. x }, (Num.vAt 9 λ x. x, tt))),
+      ) (m13 (c .before .before) (After-too-few·gave (c .before))) (c .status-of)
 
-      abbrev pub m17 : (before : After-too-few) → (given : s15 (before .before .before .before .before .before .before
-          .blocks) .gives (m15 (before .before) (After-too-few·gave before))) → Typed.Mo T18
-      m17 = λ before given. s16 (before .before .before .before .before .before .before .blocks) (m16 before given)
+      abbrev pub m15 : (before : After-too-few) → (given : s13 (before .before .before .before .before .before .blocks)
+          .gives (m13 (before .before) (After-too-few·gave before))) → Typed.Mo T16
+      m15 = λ before given. s14 (before .before .before .before .before .before .blocks) (m14 before given)
 
-      abbrev pub m18 : (before : After-too-few) → (given : s15 (before .before .before .before .before .before .before
-          .blocks) .gives (m15 (before .before) (After-too-few·gave before))) → Typed.Mo T19
-      m18 = λ before given. s17 (before .before .before .before .before .before .before .blocks) (m17 before given)
+      abbrev pub m16 : (before : After-too-few) → (given : s13 (before .before .before .before .before .before .blocks)
+          .gives (m13 (before .before) (After-too-few·gave before))) → Typed.Mo T17
+      m16 = λ before given. s15 (before .before .before .before .before .before .blocks) (m15 before given)
 
       abbrev pub Need-status-told-requires : Type 0
-      Need-status-told-requires = (c : After-status-of) → s18 (c .before .before .before .before .before .before
-          .before .blocks) .asks (m18 (c .before) (After-status-of·gave c))
+      Need-status-told-requires = (c : After-status-of) → s16
+          (c .before .before .before .before .before .before .blocks) .asks (m16 (c .before) (After-status-of·gave c))
 
-      abbrev pub m19 : (before : After-status-of) → (given : s18 (before .before .before .before .before .before
-          .before .before .blocks) .gives (m18 (before .before) (After-status-of·gave before))) → Typed.Mo T20
-      m19 = λ before given. s18 (before .before .before .before .before .before .before .before .blocks) .next
-          (m18 (before .before) (After-status-of·gave before)) given
+      abbrev pub m17 : (before : After-status-of) → (given : s16 (before .before .before .before .before .before
+          .before .blocks) .gives (m16 (before .before) (After-status-of·gave before))) → Typed.Mo T18
+      m17 = λ before given. s16 (before .before .before .before .before .before .before .blocks) .next
+          (m16 (before .before) (After-status-of·gave before)) given
 
       module _ (before· : After-status-of) where
         abbrev pub After-status-told·own : Type 0
-        After-status-told·own = Called.Called ps·6 r·6 (claims· .13) T19 (
-          Bool.bAt 11 λ x. x,
-          (record { pos = 12; st = List.[]; d = 0; at = λ x. x }, tt),
-        ) (m18 (before· .before) (After-status-of·gave before·))
+        After-status-told·own = Called.Called ps·5 r·5 (claims· .11) T17 (
+          Bool.bAt 10 λ x. x,
+          (record { pos = 11; st = List.[]; d = 0; at = λ x. x }, tt),
+        ) (m16 (before· .before) (After-status-of·gave before·))
 
       pub record After-status-told : Type 0 where
         pub before : After-status-of
         pub status-told : After-status-told·own before
 
-      abbrev pub After-status-told·gave : (c : After-status-told) → s18 (c .before .before .before .before .before
-          .before .before .before .blocks) .gives (m18 (c .before .before) (After-status-of·gave (c .before)))
-      After-status-told·gave = λ c. Called.given ps·6 r·6 (claims· .13) T19 (
-        Bool.bAt 11 λ x. x,
-        (record { pos = 12; st = List.[]; d = 0; at = λ x. x }, tt),
-      ) (m18 (c .before .before) (After-status-of·gave (c .before))) (c .status-told)
+      abbrev pub After-status-told·gave : (c : After-status-told) → s16 (c .before .before .before .before .before
+          .before .before .blocks) .gives (m16 (c .before .before) (After-status-of·gave (c .before)))
+      After-status-told·gave = λ c. Called.given ps·5 r·5 (claims· .11) T17 (
+        Bool.bAt 10 λ x. x,
+        (record { pos = 11; st = List.[]; d = 0; at = λ x. x }, tt),
+      ) (m16 (c .before .before) (After-status-of·gave (c .before))) (c .status-told)
 
-      abbrev pub m20 : (before : After-status-of) → (given : s18 (before .before .before .before .before .before
-          .before .before .blocks) .gives (m18 (before .before) (After-status-of·gave before))) → Typed.Mo T21
-      m20 = λ before given. s19 (before .before .before .before .before .before .before .before .blocks)
-          (m19 before given)
+      abbrev pub m18 : (before : After-status-of) → (given : s16 (before .before .before .before .before .before
+          .before .blocks) .gives (m16 (before .before) (After-status-of·gave before))) → Typed.Mo T19
+      m18 = λ before given. s17 (before .before .before .before .before .before .before .blocks) (m17 before given)
 
-      abbrev pub m21 : (before : After-status-of) → (given : s18 (before .before .before .before .before .before
-          .before .before .blocks) .gives (m18 (before .before) (After-status-of·gave before))) → Typed.Mo T22
-      m21 = λ before given. s20 (before .before .before .before .before .before .before .before .blocks)
-          (m20 before given)
+      abbrev pub m19 : (before : After-status-of) → (given : s16 (before .before .before .before .before .before
+          .before .blocks) .gives (m16 (before .before) (After-status-of·gave before))) → Typed.Mo T20
+      m19 = λ before given. s18 (before .before .before .before .before .before .before .blocks) (m18 before given)
 
-      abbrev pub m22 : (before : After-status-of) → (given : s18 (before .before .before .before .before .before
-          .before .before .blocks) .gives (m18 (before .before) (After-status-of·gave before))) → Typed.Mo T23
-      m22 = λ before given. s21 (before .before .before .before .before .before .before .before .blocks)
-          (m21 before given)
+      abbrev pub m20 : (before : After-status-of) → (given : s16 (before .before .before .before .before .before
+          .before .blocks) .gives (m16 (before .before) (After-status-of·gave before))) → Typed.Mo T21
+      m20 = λ before given. s19 (before .before .before .before .before .before .before .blocks) (m19 before given)
 
-      abbrev pub m23 : (before : After-status-of) → (given : s18 (before .before .before .before .before .before
-          .before .before .blocks) .gives (m18 (before .before) (After-status-of·gave before))) → Typed.Mo T24
-      m23 = λ before given. s22 (before .before .before .before .before .before .before .before .blocks)
-          (m22 before given)
+      abbrev pub m21 : (before : After-status-of) → (given : s16 (before .before .before .before .before .before
+          .before .blocks) .gives (m16 (before .before) (After-status-of·gave before))) → Typed.Mo T22
+      m21 = λ before given. s20 (before .before .before .before .before .before .before .blocks) (m20 before given)
 
       abbrev pub Need-returns : Type 0
-      Need-returns = (c : After-status-told) → Post· (c .before .before .before .before .before .before .before .before
-          .κs) (dens (c .before .before .before .before .before .before .before .before .κs) (c .before .before .before
-          .before .before .before .before .before .args)) (Function.resV r (c .before .before .before .before .before
-          .before .before .before .κs) (m23 (c .before) (After-status-told·gave c) .0)) (Clauses.atExit
-          (Kinds.endedOf 3 ps r) (c .before .before .before .before .before .before .before .before .κs) (dens (c
-          .before .before .before .before .before .before .before .before .κs) (c .before .before .before .before
-          .before .before .before .before .args)) (Enter.lastsP (c .before .before .before .before .before .before
-          .before .before .κs) 1 ps xs (dens (c .before .before .before .before .before .before .before .before .κs) (c
-          .before .before .before .before .before .before .before .before .args))
-          (m23 (c .before) (After-status-told·gave c) .1)))
+      Need-returns = (c : After-status-told) → Post· (c .before .before .before .before .before .before .before .κs) (dens (c
+          .before .before .before .before .before .before .before .κs) (c .before .before .before .before .before
+          .before .before .args)) (Function.resV r (c .before .before .before .before .before .before .before .κs)
+          (m21 (c .before) (After-status-told·gave c) .0)) (Clauses.atExit (Kinds.endedOf 3 ps r) (c .before .before
+          .before .before .before .before .before .κs) (dens (c .before .before .before .before .before .before .before
+          .κs) (c .before .before .before .before .before .before .before .args)) (Enter.lastsP (c .before .before
+          .before .before .before .before .before .κs) 1 ps xs (dens (c .before .before .before .before .before .before
+          .before .κs) (c .before .before .before .before .before .before .before .args))
+          (m21 (c .before) (After-status-told·gave c) .1)))
 
-      module _ (used-requires : Need-used-requires) (count-pending-requires : Need-count-pending-requires)
+      module _ (count-pending-requires : Need-count-pending-requires)
           (circuit-totals-requires : Need-circuit-totals-requires) (count-action-requires : Need-count-action-requires)
           (too-few-requires : Need-too-few-requires) (status-of-requires : Need-status-of-requires)
           (status-told-requires : Need-status-told-requires) (returns : Need-returns) where
-        lay7 : (c : After-status-told) → at4 (c .before .before .before .before .before .before .before .before .blocks) (W0 (c
-            .before .before .before .before .before .before .before .before .κs) (c .before .before .before .before
-            .before .before .before .before .args) (c .before .before .before .before .before .before .before .before
-            .blocks)) (m19 (c .before) (After-status-told·gave c))
-        lay7 = λ c. (
+        lay6 : (c : After-status-told) → at4 (c .before .before .before .before .before .before .before .blocks) (W0 (c
+            .before .before .before .before .before .before .before .κs) (c .before .before .before .before .before
+            .before .before .args) (c .before .before .before .before .before .before .before .blocks))
+            (m17 (c .before) (After-status-told·gave c))
+        lay6 = λ c. (
           (Path.refl, (Path.refl, (Path.refl, (tt, (tt, tt))))),
           returns record { before = c .before; status-told = c .status-told },
         )
 
-        lay6 : (c : After-status-of) → at7 (c .before .before .before .before .before .before .before .blocks) (W0 (c
-            .before .before .before .before .before .before .before .κs) (c .before .before .before .before .before
-            .before .before .args) (c .before .before .before .before .before .before .before .blocks))
-            (m16 (c .before) (After-status-of·gave c))
-        lay6 = λ c. (
-          status-told-requires record { before = c .before; status-of = c .status-of },
-          λ g. lay7 record {
-            before = record { before = c .before; status-of = c .status-of };
-            status-told = Called.called ps·6 r·6 (claims· .13) T19 (
-              Bool.bAt 11 λ x. x,
-              (record { pos = 12; st = List.[]; d = 0; at = λ x. x }, tt),
-            ) (m18 (c .before) (After-status-of·gave c)) g;
-          },
-        )
-
-        lay5 : (c : After-too-few) → at12 (c .before .before .before .before .before .before .blocks) (W0
+        lay5 : (c : After-status-of) → at7 (c .before .before .before .before .before .before .blocks) (W0
             (c .before .before .before .before .before .before .κs)
             (c .before .before .before .before .before .before .args) (c .before .before .before .before .before
-            .before .blocks)) (m11 (c .before) (After-too-few·gave c))
+            .before .blocks)) (m14 (c .before) (After-status-of·gave c))
         lay5 = λ c. (
-          status-of-requires record { before = c .before; too-few = c .too-few },
+          status-told-requires record { before = c .before; status-of = c .status-of },
           λ g. lay6 record {
-            before = record { before = c .before; too-few = c .too-few };
-            status-of = Called.called ps·5 r·5 (claims· .11) T16 (
-              record { pos = 4; st = List.[]; d = 0; at = λ x. x },
-              (Num.vAt 8 λ x. x, (record { pos = 9; st = List.[]; d = 0; at = λ x. x }, (Num.vAt 10 λ x. x, tt))),
-            ) (m15 (c .before) (After-too-few·gave c)) g;
+            before = record { before = c .before; status-of = c .status-of };
+            status-told = Called.called ps·5 r·5 (claims· .11) T17 (
+              Bool.bAt 10 λ x. x,
+              (record { pos = 11; st = List.[]; d = 0; at = λ x. x }, tt),
+            ) (m16 (c .before) (After-status-of·gave c)) g;
           },
         )
 
-        lay4 : (c : After-count-action) → at18 (c .before .before .before .before .before .blocks) (W0
+        lay4 : (c : After-too-few) → at12 (c .before .before .before .before .before .blocks) (W0
             (c .before .before .before .before .before .κs) (c .before .before .before .before .before .args)
-            (c .before .before .before .before .before .blocks)) (m5 (c .before) (After-count-action·gave c))
+            (c .before .before .before .before .before .blocks)) (m9 (c .before) (After-too-few·gave c))
         lay4 = λ c. (
-          too-few-requires record { before = c .before; count-action = c .count-action },
+          status-of-requires record { before = c .before; too-few = c .too-few },
           λ g. lay5 record {
-            before = record { before = c .before; count-action = c .count-action };
-            too-few = Called.called ps·4 r·4 (claims· .9) T11 (
-              record { pos = 6; st = List.[]; d = 0; at = λ x. x },
-              (Num.vAt 13 λ x. x, (Num.vAt 14 λ x. x, (Num.vAt 15 λ x. x, tt))),
-            ) (m10 (c .before) (After-count-action·gave c)) g;
+            before = record { before = c .before; too-few = c .too-few };
+            status-of = Called.called ps·4 r·4 (claims· .9) T14 (
+              record { pos = 4; st = List.[]; d = 0; at = λ x. x },
+              (Num.vAt 7 λ x. x, (record { pos = 8; st = List.[]; d = 0; at = λ x. x }, (Num.vAt 9 λ x. x, tt))),
+            ) (m13 (c .before) (After-too-few·gave c)) g;
           },
         )
 
-        lay3 : (c : After-circuit-totals) → at19 (c .before .before .before .before .blocks) (W0
+        lay3 : (c : After-count-action) → at17 (c .before .before .before .before .blocks) (W0
             (c .before .before .before .before .κs) (c .before .before .before .before .args)
-            (c .before .before .before .before .blocks)) (m4 (c .before) (After-circuit-totals·gave c))
+            (c .before .before .before .before .blocks)) (m4 (c .before) (After-count-action·gave c))
         lay3 = λ c. (
-          count-action-requires record { before = c .before; circuit-totals = c .circuit-totals },
+          too-few-requires record { before = c .before; count-action = c .count-action },
           λ g. lay4 record {
-            before = record { before = c .before; circuit-totals = c .circuit-totals };
-            count-action = Called.called ps·3 r·3 (claims· .7) T5 (
-              record { pos = 3; ty = ref2; ref = λ x. x },
-              (
-                record { pos = 5; st = List.[]; d = 0; at = λ x. x },
-                (record { pos = 7; st = List.[]; d = 0; at = λ x. x }, tt),
-              ),
-            ) (m4 (c .before) (After-circuit-totals·gave c)) g;
+            before = record { before = c .before; count-action = c .count-action };
+            too-few = Called.called ps·3 r·3 (claims· .7) T9 (
+              record { pos = 6; st = List.[]; d = 0; at = λ x. x },
+              (Num.vAt 12 λ x. x, (Num.vAt 13 λ x. x, (Num.vAt 14 λ x. x, tt))),
+            ) (m8 (c .before) (After-count-action·gave c)) g;
           },
         )
 
-        lay2 : (c : After-count-pending) → at20 (c .before .before .before .blocks) (W0 (c .before .before .before .κs)
-            (c .before .before .before .args) (c .before .before .before .blocks))
-            (m3 (c .before) (After-count-pending·gave c))
+        lay2 : (c : After-circuit-totals) → at18 (c .before .before .before .blocks) (W0
+            (c .before .before .before .κs) (c .before .before .before .args) (c .before .before .before .blocks))
+            (m3 (c .before) (After-circuit-totals·gave c))
         lay2 = λ c. (
-          circuit-totals-requires record { before = c .before; count-pending = c .count-pending },
+          count-action-requires record { before = c .before; circuit-totals = c .circuit-totals },
           λ g. lay3 record {
+            before = record { before = c .before; circuit-totals = c .circuit-totals };
+            count-action = Called.called ps·2 r·2 (claims· .5) T4 (
+              record { pos = 3; ty = ref2; ref = λ x. x },
+              (record { pos = 5; st = List.[]; d = 0; at = λ x. x }, tt),
+            ) (m3 (c .before) (After-circuit-totals·gave c)) g;
+          },
+        )
+
+        lay1 : (c : After-count-pending) → at19 (c .before .before .blocks) (W0 (c .before .before .κs)
+            (c .before .before .args) (c .before .before .blocks)) (m2 (c .before) (After-count-pending·gave c))
+        lay1 = λ c. (
+          circuit-totals-requires record { before = c .before; count-pending = c .count-pending },
+          λ g. lay2 record {
             before = record { before = c .before; count-pending = c .count-pending };
-            circuit-totals = Called.called ps·2 r·2 (claims· .5) T4 (
+            circuit-totals = Called.called ps·1 r·1 (claims· .3) T3 (
               record { pos = 2; ty = ref1; ref = λ x. x },
               (record { pos = 5; st = List.[]; d = 0; at = λ x. x }, tt),
-            ) (m3 (c .before) (After-count-pending·gave c)) g;
+            ) (m2 (c .before) (After-count-pending·gave c)) g;
           },
         )
 
-        lay1 : (c : After-used) → at21 (c .before .before .blocks) (W0 (c .before .before .κs)
-            (c .before .before .args) (c .before .before .blocks)) (m2 (c .before) (After-used·gave c))
-        lay1 = λ c. (
-          count-pending-requires record { before = c .before; used = c .used },
-          λ g. lay2 record {
-            before = record { before = c .before; used = c .used };
-            count-pending = Called.called ps·1 r·1 (claims· .3) T3 (
-              record { pos = 1; ty = ref0; ref = λ x. x },
-              (
-                record { pos = 5; st = List.[]; d = 0; at = λ x. x },
-                (record { pos = 7; st = List.[]; d = 0; at = λ x. x }, tt),
-              ),
-            ) (m2 (c .before) (After-used·gave c)) g;
-          },
-        )
-
-        pub laid : (c : Start) → at23 (c .blocks) (W0 (c .κs) (c .args) (c .blocks)) (m0 (c .κs) (c .args) (c .blocks))
+        pub laid : (c : Start) → at21 (c .blocks) (W0 (c .κs) (c .args) (c .blocks)) (m0 (c .κs) (c .args) (c .blocks))
         laid = λ c. (
           tt,
           λ g. (
-            used-requires record { before = c; config = record { given = g } },
+            count-pending-requires record { before = c; config = record { given = g } },
             λ g'. lay1 record {
               before = record { before = c; config = record { given = g } };
-              used = Called.called ps·0 r·0 (claims· .1) T2 tt (m1 c g) g';
+              count-pending = Called.called ps·0 r·0 (claims· .1) T2 (
+                record { pos = 1; ty = ref0; ref = λ x. x },
+                (record { pos = 5; st = List.[]; d = 0; at = λ x. x }, tt),
+              ) (m1 c g) g';
             },
           ),
         )
@@ -1512,15 +1354,14 @@ module _ (claims· : Claims) where
           }
 
         module _ {M : Type 1} (𝓤 : URA.URA M) (H : Wp.Heap 𝓤) (A : Atoms.Atoms 𝓤) (W : Kit.Given 𝓤 H A)
-            (𝓣 : Wp.Tables 𝓤 H) (known0 : Plain.Known 𝓤 H A W 𝓣 0 ps·0 r·0 (claims· .0) (claims· .1)
-            "hnsr_circuit::tables::question::used") (known1 : Plain.Known 𝓤 H A W 𝓣 1 ps·1 r·1 (claims· .2)
-            (claims· .3) "hnsr_circuit::tables::pending::count_pending") (known2 : Plain.Known 𝓤 H A W 𝓣 1 ps·2 r·2
-            (claims· .4) (claims· .5) "hnsr_circuit::tables::circuits::circuit_totals") (known3 : Plain.Known 𝓤 H A W 𝓣
-            1 ps·3 r·3 (claims· .6) (claims· .7) "hnsr_circuit::tables::inflight::count_action") (known4 : Plain.Known
-            𝓤 H A W 𝓣 0 ps·4 r·4 (claims· .8) (claims· .9) "hnsr_circuit::entry::too_few") (known5 : Plain.Known 𝓤 H A
-            W 𝓣 0 ps·5 r·5 (claims· .10) (claims· .11) "hnsr_circuit::calls::silent::status_of") (known6 : Plain.Known
-            𝓤 H A W 𝓣 0 ps·6 r·6 (claims· .12) (claims· .13) "hnsr_circuit::calls::silent::status_told") where
+            (𝓣 : Wp.Tables 𝓤 H) (known0 : Plain.Known 𝓤 H A W 𝓣 1 ps·0 r·0 (claims· .0) (claims· .1)
+            "hnsr_circuit::tables::pending::count_pending") (known1 : Plain.Known 𝓤 H A W 𝓣 1 ps·1 r·1 (claims· .2)
+            (claims· .3) "hnsr_circuit::tables::circuits::circuit_totals") (known2 : Plain.Known 𝓤 H A W 𝓣 1 ps·2 r·2
+            (claims· .4) (claims· .5) "hnsr_circuit::tables::inflight::count_action") (known3 : Plain.Known 𝓤 H A W 𝓣 0
+            ps·3 r·3 (claims· .6) (claims· .7) "hnsr_circuit::entry::too_few") (known4 : Plain.Known 𝓤 H A W 𝓣 0 ps·4
+            r·4 (claims· .8) (claims· .9) "hnsr_circuit::calls::silent::status_of") (known5 : Plain.Known 𝓤 H A W 𝓣 0
+            ps·5 r·5 (claims· .10) (claims· .11) "hnsr_circuit::calls::silent::status_told") where
           pub spec : Statement.Triple 𝓤 (Wp.WpFn 𝓤 H (𝓣 .C) (𝓣 .Λ) (Function.fnOf 3 ps r xs m hs body))
               (Function.plainOf 𝓤 H A 3 ps r Pre· Post·)
           spec = Plain.t-fn-plain 𝓤 H A W 𝓣 3 ps r xs m hs body (λ κs qs bs. Φ bs) (λ κs qs bs bd. typed κs qs 𝓤 H A W
-              𝓣 (known0, known1, known2, known3, known4, known5, known6) bs bd) Pre· Post· asked
+              𝓣 (known0, known1, known2, known3, known4, known5) bs bd) Pre· Post· asked

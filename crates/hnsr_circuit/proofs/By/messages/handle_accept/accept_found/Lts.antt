@@ -337,7 +337,7 @@ b9 = Syntax.call "hnsr_circuit::messages::accept::accept_plan" ((Syntax.copy (Sy
     (Syntax.copy (Syntax.place 7 List.[])) ∷ List.[]) (Syntax.place 10 List.[])
 
 abbrev b10 : Syntax.Body
-b10 = Syntax.call "hnsr_circuit::messages::accept::found_unmarked" ((Syntax.copy (Syntax.place 6 List.[])) ∷ List.[])
+b10 = Syntax.call "hnsr_circuit::tables::lookup::found_unmarked" ((Syntax.copy (Syntax.place 6 List.[])) ∷ List.[])
     (Syntax.place 11 List.[])
 
 abbrev b11 : Syntax.Body
@@ -1694,8 +1694,8 @@ module _ (claims· : Claims) where
           "hnsr_circuit::messages::handle_accept::accept_answered") (known1 : Plain.Known 𝓤 H A W 𝓣 0 ps·1 r·1
           (claims· .2) (claims· .3) "hnsr_circuit::answer::is_taken") (known2 : Plain.Known 𝓤 H A W 𝓣 0 ps·2 r·2
           (claims· .4) (claims· .5) "hnsr_circuit::messages::accept::accept_plan") (known3 : Plain.Known 𝓤 H A W 𝓣 0
-          ps·3 r·3 (claims· .6) (claims· .7) "hnsr_circuit::messages::accept::found_unmarked") (known4 : Plain.Known 𝓤
-          H A W 𝓣 0 ps·4 r·4 (claims· .8) (claims· .9) "hnsr_circuit::messages::accept::circuit_for") (known5 :
+          ps·3 r·3 (claims· .6) (claims· .7) "hnsr_circuit::tables::lookup::found_unmarked") (known4 : Plain.Known 𝓤 H
+          A W 𝓣 0 ps·4 r·4 (claims· .8) (claims· .9) "hnsr_circuit::messages::accept::circuit_for") (known5 :
           Plain.Known 𝓤 H A W 𝓣 0 ps·5 r·5 (claims· .10) (claims· .11) "hnsr_circuit::output::queue::asking") (known6 :
           Plain.Known 𝓤 H A W 𝓣 2 ps·6 r·6 (claims· .12) (claims· .13)
           "hnsr_circuit::messages::handle_accept::accept_written") (known7 : Plain.Known 𝓤 H A W 𝓣 0 ps·7 r·7
@@ -2036,8 +2036,8 @@ module _ (claims· : Claims) where
             "hnsr_circuit::messages::handle_accept::accept_answered" × Plain.Known 𝓤 H A W 𝓣 0 ps·1 r·1 (claims· .2)
             (claims· .3) "hnsr_circuit::answer::is_taken" × Plain.Known 𝓤 H A W 𝓣 0 ps·2 r·2 (claims· .4) (claims· .5)
             "hnsr_circuit::messages::accept::accept_plan" × Plain.Known 𝓤 H A W 𝓣 0 ps·3 r·3 (claims· .6) (claims· .7)
-            "hnsr_circuit::messages::accept::found_unmarked" × Plain.Known 𝓤 H A W 𝓣 0 ps·4 r·4 (claims· .8)
-            (claims· .9) "hnsr_circuit::messages::accept::circuit_for" × Plain.Known 𝓤 H A W 𝓣 0 ps·5 r·5 (claims· .10)
+            "hnsr_circuit::tables::lookup::found_unmarked" × Plain.Known 𝓤 H A W 𝓣 0 ps·4 r·4 (claims· .8) (claims· .9)
+            "hnsr_circuit::messages::accept::circuit_for" × Plain.Known 𝓤 H A W 𝓣 0 ps·5 r·5 (claims· .10)
             (claims· .11) "hnsr_circuit::output::queue::asking" × Plain.Known 𝓤 H A W 𝓣 2 ps·6 r·6 (claims· .12)
             (claims· .13) "hnsr_circuit::messages::handle_accept::accept_written" × Plain.Known 𝓤 H A W 𝓣 0 ps·7 r·7
             (claims· .14) (claims· .15) "hnsr_circuit::tables::places::with_circuits" × Plain.Known 𝓤 H A W 𝓣 1 ps·8
@@ -4276,7 +4276,7 @@ module _ (claims· : Claims) where
 
           d67 : Typed.Typed 𝓤 H A 𝓣 E G29 b58 Δ1 (at67 bs)
           d67 = Typed.s-seq 𝓤 H A W 𝓣 E G29 G30 b10 b57 Δ1 (Typed.both (s27 bs)) (at66 bs) (Plain.t-call-plain 𝓤 H A W
-              𝓣 0 ps·3 r·3 (claims· .6) (claims· .7) "hnsr_circuit::messages::accept::found_unmarked" (known .3) E
+              𝓣 0 ps·3 r·3 (claims· .6) (claims· .7) "hnsr_circuit::tables::lookup::found_unmarked" (known .3) E
               (λ pos β. β) G29 (record { pos = 6; st = List.[]; d = 0; at = λ x. x }, tt) 11 List.[]
               (Call.sub-id 𝓤 H A W (G29 .slots)) (
                 (
@@ -6920,8 +6920,8 @@ module _ (claims· : Claims) where
             "hnsr_circuit::messages::handle_accept::accept_answered") (known1 : Plain.Known 𝓤 H A W 𝓣 0 ps·1 r·1
             (claims· .2) (claims· .3) "hnsr_circuit::answer::is_taken") (known2 : Plain.Known 𝓤 H A W 𝓣 0 ps·2 r·2
             (claims· .4) (claims· .5) "hnsr_circuit::messages::accept::accept_plan") (known3 : Plain.Known 𝓤 H A W 𝓣 0
-            ps·3 r·3 (claims· .6) (claims· .7) "hnsr_circuit::messages::accept::found_unmarked") (known4 : Plain.Known
-            𝓤 H A W 𝓣 0 ps·4 r·4 (claims· .8) (claims· .9) "hnsr_circuit::messages::accept::circuit_for") (known5 :
+            ps·3 r·3 (claims· .6) (claims· .7) "hnsr_circuit::tables::lookup::found_unmarked") (known4 : Plain.Known 𝓤
+            H A W 𝓣 0 ps·4 r·4 (claims· .8) (claims· .9) "hnsr_circuit::messages::accept::circuit_for") (known5 :
             Plain.Known 𝓤 H A W 𝓣 0 ps·5 r·5 (claims· .10) (claims· .11) "hnsr_circuit::output::queue::asking") (known6
             : Plain.Known 𝓤 H A W 𝓣 2 ps·6 r·6 (claims· .12) (claims· .13)
             "hnsr_circuit::messages::handle_accept::accept_written") (known7 : Plain.Known 𝓤 H A W 𝓣 0 ps·7 r·7

@@ -21,8 +21,6 @@ use Rattle.hnsr_circuit.proofs.tables.lookup.PendingFound
 use Rattle.hnsr_circuit.proofs.tables.lookup.PendingFound.Laws as Laws'''''''
 use Rattle.hnsr_circuit.proofs.tables.places.Places
 use Rattle.hnsr_circuit.proofs.tables.places.Places.Laws as Laws''''''''
-use Rattle.hnsr_circuit.proofs.tables.question.Question
-use Rattle.hnsr_circuit.proofs.tables.question.Question.Laws as Laws'''''''''
 use borrow.Author.Called
 use borrow.Fn.Any
 use borrow.Fn.Args as Args'
@@ -77,106 +75,94 @@ abbrev pub r : Kinds.RK 2
 r = StructRow.result ClosePlan.the-type Laws'.the-laws Laws'.the-copy Laws'.the-plain
 
 abbrev pub xs : List.List Syntax.Ty
-xs = Laws'''''''''.mir ∷ (Syntax.tyInt Syntax.w64) ∷ Laws'''''''.mir ∷ Laws''''''.mir ∷ List.[]
+xs = (Syntax.tyInt Syntax.w64) ∷ Laws'''''''.mir ∷ Laws''''''.mir ∷ List.[]
 
 abbrev pub m : Nat.ℕ
 m = 0
 
-abbrev pub ps·0 : List.List (Kinds.PK 0)
-ps·0 = (StructRow.param HnsrPeerId.the-type Laws''.the-laws Laws''.the-copy Laws''.the-plain) ∷ (Num.pNum Syntax.w64) ∷
-    List.[]
+abbrev pub ps·0 : List.List (Kinds.PK 1)
+ps·0 = (ShrSlice.pShrS RelayPending.row 0 tt) ∷ (StructRow.param Places.the-type Laws''''''''.the-laws
+    Laws''''''''.the-copy Laws''''''''.the-plain) ∷ (StructRow.param HnsrPeerId.the-type Laws''.the-laws
+    Laws''.the-copy Laws''.the-plain) ∷ (Num.pNum Syntax.w64) ∷ List.[]
 
-abbrev pub r·0 : Kinds.RK 0
-r·0 = StructRow.result Question.the-type Laws'''''''''.the-laws Laws'''''''''.the-copy Laws'''''''''.the-plain
+abbrev pub r·0 : Kinds.RK 1
+r·0 = Num.rNum Syntax.w64
 
 abbrev pub ps·1 : List.List (Kinds.PK 1)
 ps·1 = (ShrSlice.pShrS RelayPending.row 0 tt) ∷ (StructRow.param Places.the-type Laws''''''''.the-laws
-    Laws''''''''.the-copy Laws''''''''.the-plain) ∷ (StructRow.param Question.the-type Laws'''''''''.the-laws
-    Laws'''''''''.the-copy Laws'''''''''.the-plain) ∷ List.[]
+    Laws''''''''.the-copy Laws''''''''.the-plain) ∷ (StructRow.param HnsrPeerId.the-type Laws''.the-laws
+    Laws''.the-copy Laws''.the-plain) ∷ (Num.pNum Syntax.w64) ∷ List.[]
 
 abbrev pub r·1 : Kinds.RK 1
-r·1 = Num.rNum Syntax.w64
+r·1 = StructRow.result PendingFound.the-type Laws'''''''.the-laws Laws'''''''.the-copy Laws'''''''.the-plain
 
 abbrev pub ps·2 : List.List (Kinds.PK 1)
-ps·2 = (ShrSlice.pShrS RelayPending.row 0 tt) ∷ (StructRow.param Places.the-type Laws''''''''.the-laws
-    Laws''''''''.the-copy Laws''''''''.the-plain) ∷ (StructRow.param Question.the-type Laws'''''''''.the-laws
-    Laws'''''''''.the-copy Laws'''''''''.the-plain) ∷ List.[]
-
-abbrev pub r·2 : Kinds.RK 1
-r·2 = StructRow.result PendingFound.the-type Laws'''''''.the-laws Laws'''''''.the-copy Laws'''''''.the-plain
-
-abbrev pub ps·3 : List.List (Kinds.PK 1)
-ps·3 = (ShrSlice.pShrS RelayCircuit.row 0 tt) ∷ (StructRow.param Places.the-type Laws''''''''.the-laws
+ps·2 = (ShrSlice.pShrS RelayCircuit.row 0 tt) ∷ (StructRow.param Places.the-type Laws''''''''.the-laws
     Laws''''''''.the-copy Laws''''''''.the-plain) ∷ (Num.pNum Syntax.w64) ∷ List.[]
 
-abbrev pub r·3 : Kinds.RK 1
-r·3 = StructRow.result CircuitFound.the-type Laws''''''.the-laws Laws''''''.the-copy Laws''''''.the-plain
+abbrev pub r·2 : Kinds.RK 1
+r·2 = StructRow.result CircuitFound.the-type Laws''''''.the-laws Laws''''''.the-copy Laws''''''.the-plain
 
-abbrev pub ps·4 : List.List (Kinds.PK 0)
-ps·4 = (StructRow.param OpaqueRelayRuntime.the-type Laws'''.the-laws Laws'''.the-copy Laws'''.the-plain) ∷ (StructRow.param
+abbrev pub ps·3 : List.List (Kinds.PK 0)
+ps·3 = (StructRow.param OpaqueRelayRuntime.the-type Laws'''.the-laws Laws'''.the-copy Laws'''.the-plain) ∷ (StructRow.param
     RelayPacket.the-type Laws''''.the-laws Laws''''.the-copy Laws''''.the-plain) ∷ (StructRow.param DetailRead.the-type
     Laws.the-laws Laws.the-copy Laws.the-plain) ∷ (Num.pNum Syntax.w64) ∷ (StructRow.param PendingFound.the-type
     Laws'''''''.the-laws Laws'''''''.the-copy Laws'''''''.the-plain) ∷ (StructRow.param CircuitFound.the-type
     Laws''''''.the-laws Laws''''''.the-copy Laws''''''.the-plain) ∷ (StructRow.param HnsrPeerId.the-type
     Laws''.the-laws Laws''.the-copy Laws''.the-plain) ∷ List.[]
 
-abbrev pub r·4 : Kinds.RK 0
-r·4 = StructRow.result ClosePlan.the-type Laws'.the-laws Laws'.the-copy Laws'.the-plain
+abbrev pub r·3 : Kinds.RK 0
+r·3 = StructRow.result ClosePlan.the-type Laws'.the-laws Laws'.the-copy Laws'.the-plain
 
 abbrev pub hs : List.List Syntax.Home
 hs = Syntax.valueLocal ∷ Syntax.valueLocal ∷ Syntax.valueLocal ∷ Syntax.valueLocal ∷ Syntax.valueLocal ∷
-    Syntax.valueLocal ∷ Syntax.valueLocal ∷ Syntax.valueLocal ∷ Syntax.valueLocal ∷ List.[]
+    Syntax.valueLocal ∷ Syntax.valueLocal ∷ Syntax.valueLocal ∷ List.[]
 
 abbrev b0 : Syntax.Body
-b0 = Syntax.call "hnsr_circuit::tables::question::named" ((Syntax.copy (Syntax.place 3 ((Syntax.field 3) ∷ List.[]))) ∷ (Syntax.copy (Syntax.place
-    3 ((Syntax.field 2) ∷ (Syntax.field 1) ∷ List.[]))) ∷ List.[]) (Syntax.place 5 List.[])
+b0 = Syntax.call "hnsr_circuit::tables::pending::count_named" ((Syntax.copy (Syntax.place 1 List.[])) ∷
+    (Syntax.copy (Syntax.place 3 ((Syntax.field 1) ∷ List.[]))) ∷
+    (Syntax.copy (Syntax.place 3 ((Syntax.field 3) ∷ List.[]))) ∷ (Syntax.copy (Syntax.place 3
+    ((Syntax.field 2) ∷ (Syntax.field 1) ∷ List.[]))) ∷ List.[]) (Syntax.place 5 List.[])
 
 abbrev b1 : Syntax.Body
-b1 = Syntax.call "hnsr_circuit::tables::pending::count_pending" ((Syntax.copy (Syntax.place 1 List.[])) ∷
-    (Syntax.copy (Syntax.place 3 ((Syntax.field 1) ∷ List.[]))) ∷ (Syntax.copy (Syntax.place 5 List.[])) ∷ List.[])
-    (Syntax.place 6 List.[])
+b1 = Syntax.call "hnsr_circuit::tables::lookup::look_up_named" ((Syntax.copy (Syntax.place 1 List.[])) ∷
+    (Syntax.copy (Syntax.place 3 ((Syntax.field 1) ∷ List.[]))) ∷
+    (Syntax.copy (Syntax.place 3 ((Syntax.field 3) ∷ List.[]))) ∷ (Syntax.copy (Syntax.place 3
+    ((Syntax.field 2) ∷ (Syntax.field 1) ∷ List.[]))) ∷ List.[]) (Syntax.place 6 List.[])
 
 abbrev b2 : Syntax.Body
-b2 = Syntax.call "hnsr_circuit::tables::lookup::look_up_pending" ((Syntax.copy (Syntax.place 1 List.[])) ∷
-    (Syntax.copy (Syntax.place 3 ((Syntax.field 1) ∷ List.[]))) ∷ (Syntax.copy (Syntax.place 5 List.[])) ∷ List.[])
-    (Syntax.place 7 List.[])
+b2 = Syntax.call "hnsr_circuit::tables::lookup::circuit_by_id" ((Syntax.copy (Syntax.place 2 List.[])) ∷
+    (Syntax.copy (Syntax.place 3 ((Syntax.field 1) ∷ List.[]))) ∷ (Syntax.copy (Syntax.place 3
+    ((Syntax.field 2) ∷ (Syntax.field 1) ∷ List.[]))) ∷ List.[]) (Syntax.place 7 List.[])
 
 abbrev b3 : Syntax.Body
-b3 = Syntax.call "hnsr_circuit::tables::lookup::circuit_by_id" ((Syntax.copy (Syntax.place 2 List.[])) ∷
-    (Syntax.copy (Syntax.place 3 ((Syntax.field 1) ∷ List.[]))) ∷ (Syntax.copy (Syntax.place 3
-    ((Syntax.field 2) ∷ (Syntax.field 1) ∷ List.[]))) ∷ List.[]) (Syntax.place 8 List.[])
-
-abbrev b4 : Syntax.Body
-b4 = Syntax.call "hnsr_circuit::messages::close::close_plan" ((Syntax.copy
+b3 = Syntax.call "hnsr_circuit::messages::close::close_plan" ((Syntax.copy
     (Syntax.place 3 ((Syntax.field 0) ∷ List.[]))) ∷ (Syntax.copy (Syntax.place 3 ((Syntax.field 2) ∷ List.[]))) ∷
-    (Syntax.copy (Syntax.place 4 List.[])) ∷ (Syntax.copy (Syntax.place 6 List.[])) ∷
-    (Syntax.copy (Syntax.place 7 List.[])) ∷ (Syntax.copy (Syntax.place 8 List.[])) ∷
+    (Syntax.copy (Syntax.place 4 List.[])) ∷ (Syntax.copy (Syntax.place 5 List.[])) ∷
+    (Syntax.copy (Syntax.place 6 List.[])) ∷ (Syntax.copy (Syntax.place 7 List.[])) ∷
     (Syntax.copy (Syntax.place 3 ((Syntax.field 3) ∷ List.[]))) ∷ List.[]) (Syntax.place 0 List.[])
 
+abbrev b4 : Syntax.Body
+b4 = Syntax.return
+
 abbrev b5 : Syntax.Body
-b5 = Syntax.return
+b5 = Syntax.seq b3 b4
 
 abbrev b6 : Syntax.Body
-b6 = Syntax.seq b4 b5
+b6 = Syntax.seq b2 b5
 
 abbrev b7 : Syntax.Body
-b7 = Syntax.seq b3 b6
+b7 = Syntax.seq b1 b6
 
 abbrev b8 : Syntax.Body
-b8 = Syntax.seq b2 b7
-
-abbrev b9 : Syntax.Body
-b9 = Syntax.seq b1 b8
-
-abbrev b10 : Syntax.Body
-b10 = Syntax.seq b0 b9
+b8 = Syntax.seq b0 b7
 
 abbrev pub body : Syntax.Body
-body = b10
+body = b8
 
 abbrev pub Claims : Type 1
-Claims = Kinds.In 0 ps·0 × Kinds.Out 0 ps·0 r·0 × Kinds.In 1 ps·1 × Kinds.Out 1 ps·1 r·1 × Kinds.In 1 ps·2 × Kinds.Out
-    1 ps·2 r·2 × Kinds.In 1 ps·3 × Kinds.Out 1 ps·3 r·3 × Kinds.In 0 ps·4 × Kinds.Out 0 ps·4 r·4
+Claims = Kinds.In 1 ps·0 × Kinds.Out 1 ps·0 r·0 × Kinds.In 1 ps·1 × Kinds.Out 1 ps·1 r·1 × Kinds.In 1 ps·2 × Kinds.Out
+    1 ps·2 r·2 × Kinds.In 0 ps·3 × Kinds.Out 0 ps·3 r·3
 
 abbrev e0 : Row.Entry
 e0 = (0, Rows.any-gone Laws'.mir)
@@ -194,16 +180,13 @@ abbrev e4 : Row.Entry
 e4 = (4, Rows.whole (Declared.row DetailRead.the-type))
 
 abbrev e5 : Row.Entry
-e5 = (5, Rows.any-gone Laws'''''''''.mir)
+e5 = (5, Rows.any-gone (Syntax.tyInt Syntax.w64))
 
 abbrev e6 : Row.Entry
-e6 = (6, Rows.any-gone (Syntax.tyInt Syntax.w64))
+e6 = (6, Rows.any-gone Laws'''''''.mir)
 
 abbrev e7 : Row.Entry
-e7 = (7, Rows.any-gone Laws'''''''.mir)
-
-abbrev e8 : Row.Entry
-e8 = (8, Rows.any-gone Laws''''''.mir)
+e7 = (7, Rows.any-gone Laws''''''.mir)
 
 abbrev e0·1 : Row.Entry
 e0·1 = (0, Rows.whole (Declared.row ClosePlan.the-type))
@@ -215,52 +198,43 @@ abbrev e4·1 : Row.Entry
 e4·1 = (4, Rows.any-gone Laws.mir)
 
 abbrev e5·1 : Row.Entry
-e5·1 = (5, Rows.whole (Declared.row Question.the-type))
+e5·1 = (5, Rows.sc-here (Row.sInt Syntax.w64))
 
 abbrev e6·1 : Row.Entry
-e6·1 = (6, Rows.sc-here (Row.sInt Syntax.w64))
+e6·1 = (6, Rows.whole (Declared.row PendingFound.the-type))
 
 abbrev e7·1 : Row.Entry
-e7·1 = (7, Rows.whole (Declared.row PendingFound.the-type))
-
-abbrev e8·1 : Row.Entry
-e8·1 = (8, Rows.whole (Declared.row CircuitFound.the-type))
+e7·1 = (7, Rows.whole (Declared.row CircuitFound.the-type))
 
 abbrev pub t0 : List.List Row.Entry
-t0 = e0 ∷ e1 ∷ e2 ∷ e3 ∷ e4 ∷ e5 ∷ e6 ∷ e7 ∷ e8 ∷ List.[]
+t0 = e0 ∷ e1 ∷ e2 ∷ e3 ∷ e4 ∷ e5 ∷ e6 ∷ e7 ∷ List.[]
 
 abbrev pub t1 : List.List Row.Entry
-t1 = e0·1 ∷ e1 ∷ e2 ∷ e3·1 ∷ e4·1 ∷ e5 ∷ e6 ∷ e7 ∷ e8 ∷ List.[]
+t1 = e0·1 ∷ e1 ∷ e2 ∷ e3·1 ∷ e4·1 ∷ e5 ∷ e6 ∷ e7 ∷ List.[]
 
 abbrev pub t2 : List.List Row.Entry
-t2 = e0 ∷ e1 ∷ e2 ∷ e3 ∷ e4 ∷ e5·1 ∷ e6 ∷ e7 ∷ e8 ∷ List.[]
+t2 = e0 ∷ e1 ∷ e2 ∷ e3 ∷ e4 ∷ e5·1 ∷ e6 ∷ e7 ∷ List.[]
 
 abbrev pub t3 : List.List Row.Entry
-t3 = e0 ∷ e1 ∷ e2 ∷ e3 ∷ e4 ∷ e5·1 ∷ e6·1 ∷ e7 ∷ e8 ∷ List.[]
+t3 = e0 ∷ e1 ∷ e2 ∷ e3 ∷ e4 ∷ e5·1 ∷ e6·1 ∷ e7 ∷ List.[]
 
 abbrev pub t4 : List.List Row.Entry
-t4 = e0 ∷ e1 ∷ e2 ∷ e3 ∷ e4 ∷ e5·1 ∷ e6·1 ∷ e7·1 ∷ e8 ∷ List.[]
+t4 = e0 ∷ e1 ∷ e2 ∷ e3 ∷ e4 ∷ e5·1 ∷ e6·1 ∷ e7·1 ∷ List.[]
 
 abbrev pub t5 : List.List Row.Entry
-t5 = e0 ∷ e1 ∷ e2 ∷ e3 ∷ e4 ∷ e5 ∷ e6·1 ∷ e7·1 ∷ e8 ∷ List.[]
+t5 = e0·1 ∷ e1 ∷ e2 ∷ e3 ∷ e4 ∷ e5·1 ∷ e6·1 ∷ e7·1 ∷ List.[]
 
 abbrev pub t6 : List.List Row.Entry
-t6 = e0 ∷ e1 ∷ e2 ∷ e3 ∷ e4 ∷ e5 ∷ e6·1 ∷ e7·1 ∷ e8·1 ∷ List.[]
+t6 = e0·1 ∷ e1 ∷ e2 ∷ e3·1 ∷ e4 ∷ e5·1 ∷ e6·1 ∷ e7·1 ∷ List.[]
 
 abbrev pub t7 : List.List Row.Entry
-t7 = e0·1 ∷ e1 ∷ e2 ∷ e3 ∷ e4 ∷ e5 ∷ e6·1 ∷ e7·1 ∷ e8·1 ∷ List.[]
+t7 = e0·1 ∷ e1 ∷ e2 ∷ e3·1 ∷ e4·1 ∷ e5·1 ∷ e6·1 ∷ e7·1 ∷ List.[]
 
 abbrev pub t8 : List.List Row.Entry
-t8 = e0·1 ∷ e1 ∷ e2 ∷ e3·1 ∷ e4 ∷ e5 ∷ e6·1 ∷ e7·1 ∷ e8·1 ∷ List.[]
+t8 = e0·1 ∷ e1 ∷ e2 ∷ e3·1 ∷ e4·1 ∷ e5 ∷ e6·1 ∷ e7·1 ∷ List.[]
 
 abbrev pub t9 : List.List Row.Entry
-t9 = e0·1 ∷ e1 ∷ e2 ∷ e3·1 ∷ e4·1 ∷ e5 ∷ e6·1 ∷ e7·1 ∷ e8·1 ∷ List.[]
-
-abbrev pub t10 : List.List Row.Entry
-t10 = e0·1 ∷ e1 ∷ e2 ∷ e3·1 ∷ e4·1 ∷ e5 ∷ e6 ∷ e7·1 ∷ e8·1 ∷ List.[]
-
-abbrev pub t11 : List.List Row.Entry
-t11 = e0·1 ∷ e1 ∷ e2 ∷ e3·1 ∷ e4·1 ∷ e5 ∷ e6 ∷ e7 ∷ e8·1 ∷ List.[]
+t9 = e0·1 ∷ e1 ∷ e2 ∷ e3·1 ∷ e4·1 ∷ e5 ∷ e6 ∷ e7·1 ∷ List.[]
 
 abbrev pub T0 : Row.Cx
 T0 = record { locals = t0; slots = List.[] }
@@ -293,13 +267,7 @@ abbrev pub T9 : Row.Cx
 T9 = record { locals = t9; slots = List.[] }
 
 abbrev pub T10 : Row.Cx
-T10 = record { locals = t10; slots = List.[] }
-
-abbrev pub T11 : Row.Cx
-T11 = record { locals = t11; slots = List.[] }
-
-abbrev pub T12 : Row.Cx
-T12 = record { locals = t1; slots = List.[] }
+T10 = record { locals = t1; slots = List.[] }
 
 abbrev pub O0 : Typed.Outs
 O0 = record { next = Option.none; exits = List.[]; returns = Option.some T1 }
@@ -307,46 +275,44 @@ O0 = record { next = Option.none; exits = List.[]; returns = Option.some T1 }
 module _ (claims· : Claims) where
   abbrev args0 : Args'.ArgsT ps·0 (T0 .locals)
   args0 = (
-    record { pos = 3; st = (Syntax.field 3) ∷ List.[]; d = 272; at = λ x. Request.struct .as-values x .1 .1 .1 .0 },
+    record { pos = 1; ty = ref0; ref = λ x. x },
     (
-      Num.vFld 3 ((Syntax.field 2) ∷ (Syntax.field 1) ∷ List.[]) 200 λ x. RelayPacket.struct .as-values
-          (Request.struct .as-values x .1 .1 .0) .1 .0,
-      tt,
+      record { pos = 3; st = (Syntax.field 1) ∷ List.[]; d = 160; at = λ x. Request.struct .as-values x .1 .0 },
+      (
+        record { pos = 3; st = (Syntax.field 3) ∷ List.[]; d = 272; at = λ x. Request.struct .as-values x .1 .1 .1 .0 },
+        (
+          Num.vFld 3 ((Syntax.field 2) ∷ (Syntax.field 1) ∷ List.[]) 200 λ x. RelayPacket.struct .as-values
+              (Request.struct .as-values x .1 .1 .0) .1 .0,
+          tt,
+        ),
+      ),
     ),
   )
 
   abbrev s0 : Typed.Both T0 T2
-  s0 = Call.callB ps·0 r·0 (claims· .0) (claims· .1) T0 args0 5 List.[] Laws'''''''''.mir
+  s0 = Call.callB ps·0 r·0 (claims· .0) (claims· .1) T0 args0 5 (0 ∷ List.[]) (Syntax.tyInt Syntax.w64)
 
   abbrev args1 : Args'.ArgsT ps·1 (T2 .locals)
   args1 = (
     record { pos = 1; ty = ref0; ref = λ x. x },
     (
       record { pos = 3; st = (Syntax.field 1) ∷ List.[]; d = 160; at = λ x. Request.struct .as-values x .1 .0 },
-      (record { pos = 5; st = List.[]; d = 0; at = λ x. x }, tt),
+      (
+        record { pos = 3; st = (Syntax.field 3) ∷ List.[]; d = 272; at = λ x. Request.struct .as-values x .1 .1 .1 .0 },
+        (
+          Num.vFld 3 ((Syntax.field 2) ∷ (Syntax.field 1) ∷ List.[]) 200 λ x. RelayPacket.struct .as-values
+              (Request.struct .as-values x .1 .1 .0) .1 .0,
+          tt,
+        ),
+      ),
     ),
   )
 
   abbrev s1 : Typed.Both T2 T3
-  s1 = Call.callB ps·1 r·1 (claims· .2) (claims· .3) T2 args1 6 (0 ∷ List.[]) (Syntax.tyInt Syntax.w64)
+  s1 = Call.callB ps·1 r·1 (claims· .2) (claims· .3) T2 args1 6 (0 ∷ List.[]) Laws'''''''.mir
 
   abbrev args2 : Args'.ArgsT ps·2 (T3 .locals)
   args2 = (
-    record { pos = 1; ty = ref0; ref = λ x. x },
-    (
-      record { pos = 3; st = (Syntax.field 1) ∷ List.[]; d = 160; at = λ x. Request.struct .as-values x .1 .0 },
-      (record { pos = 5; st = List.[]; d = 0; at = λ x. x }, tt),
-    ),
-  )
-
-  abbrev s2 : Typed.Both T3 T4
-  s2 = Call.callB ps·2 r·2 (claims· .4) (claims· .5) T3 args2 7 (0 ∷ List.[]) Laws'''''''.mir
-
-  abbrev s3 : Typed.Mo T4 → Typed.Mo T5
-  s3 = Scalar.n-room T4 5 Laws'''''''''.mir
-
-  abbrev args4 : Args'.ArgsT ps·3 (T5 .locals)
-  args4 = (
     record { pos = 2; ty = ref1; ref = λ x. x },
     (
       record { pos = 3; st = (Syntax.field 1) ∷ List.[]; d = 160; at = λ x. Request.struct .as-values x .1 .0 },
@@ -358,22 +324,22 @@ module _ (claims· : Claims) where
     ),
   )
 
-  abbrev s4 : Typed.Both T5 T6
-  s4 = Call.callB ps·3 r·3 (claims· .6) (claims· .7) T5 args4 8 (1 ∷ List.[]) Laws''''''.mir
+  abbrev s2 : Typed.Both T3 T4
+  s2 = Call.callB ps·2 r·2 (claims· .4) (claims· .5) T3 args2 7 (1 ∷ List.[]) Laws''''''.mir
 
-  abbrev args5 : Args'.ArgsT ps·4 (T6 .locals)
-  args5 = (
+  abbrev args3 : Args'.ArgsT ps·3 (T4 .locals)
+  args3 = (
     record { pos = 3; st = (Syntax.field 0) ∷ List.[]; d = 0; at = λ x. Request.struct .as-values x .0 },
     (
       record { pos = 3; st = (Syntax.field 2) ∷ List.[]; d = 192; at = λ x. Request.struct .as-values x .1 .1 .0 },
       (
         record { pos = 4; st = List.[]; d = 0; at = λ x. x },
         (
-          Num.vAt 6 λ x. x,
+          Num.vAt 5 λ x. x,
           (
-            record { pos = 7; st = List.[]; d = 0; at = λ x. x },
+            record { pos = 6; st = List.[]; d = 0; at = λ x. x },
             (
-              record { pos = 8; st = List.[]; d = 0; at = λ x. x },
+              record { pos = 7; st = List.[]; d = 0; at = λ x. x },
               (
                 record {
                   pos = 3;
@@ -390,85 +356,78 @@ module _ (claims· : Claims) where
     ),
   )
 
-  abbrev s5 : Typed.Both T6 T7
-  s5 = Call.callB ps·4 r·4 (claims· .8) (claims· .9) T6 args5 0 List.[] Laws'.mir
+  abbrev s3 : Typed.Both T4 T5
+  s3 = Call.callB ps·3 r·3 (claims· .6) (claims· .7) T4 args3 0 List.[] Laws'.mir
+
+  abbrev s4 : Typed.Mo T5 → Typed.Mo T6
+  s4 = Scalar.n-room T5 3 Laws'''''.mir
+
+  abbrev s5 : Typed.Mo T6 → Typed.Mo T7
+  s5 = Scalar.n-room T6 4 Laws.mir
 
   abbrev s6 : Typed.Mo T7 → Typed.Mo T8
-  s6 = Scalar.n-room T7 3 Laws'''''.mir
+  s6 = Scalar.n-room T7 5 (Syntax.tyInt Syntax.w64)
 
   abbrev s7 : Typed.Mo T8 → Typed.Mo T9
-  s7 = Scalar.n-room T8 4 Laws.mir
+  s7 = Scalar.n-room T8 6 Laws'''''''.mir
 
   abbrev s8 : Typed.Mo T9 → Typed.Mo T10
-  s8 = Scalar.n-room T9 6 (Syntax.tyInt Syntax.w64)
-
-  abbrev s9 : Typed.Mo T10 → Typed.Mo T11
-  s9 = Scalar.n-room T10 7 Laws'''''''.mir
-
-  abbrev s10 : Typed.Mo T11 → Typed.Mo T12
-  s10 = Scalar.n-room T11 8 Laws''''''.mir
+  s8 = Scalar.n-room T9 7 Laws''''''.mir
 
   module _ (Pre· : (κs : Lifetimes.Lfts 2) → Kinds.Dens κs ps → Type 0) (Post· : (κs : Lifetimes.Lfts 2) →
       (a : Kinds.Dens κs ps) → Kinds.Plain 2 ps r κs) where
     module _ (M : Type 1) where
       abbrev pub Closed : Type 2
       Closed = (𝓤 : URA.URA M) (H : Wp.Heap 𝓤) (A : Atoms.Atoms 𝓤) (W : Kit.Given 𝓤 H A) (𝓣 : Wp.Tables 𝓤 H) (known0 :
-          Plain.Known 𝓤 H A W 𝓣 0 ps·0 r·0 (claims· .0) (claims· .1) "hnsr_circuit::tables::question::named") (known1 :
-          Plain.Known 𝓤 H A W 𝓣 1 ps·1 r·1 (claims· .2) (claims· .3) "hnsr_circuit::tables::pending::count_pending") (known2
-          : Plain.Known 𝓤 H A W 𝓣 1 ps·2 r·2 (claims· .4) (claims· .5) "hnsr_circuit::tables::lookup::look_up_pending") (known3
-          : Plain.Known 𝓤 H A W 𝓣 1 ps·3 r·3 (claims· .6) (claims· .7) "hnsr_circuit::tables::lookup::circuit_by_id") (known4
-          : Plain.Known 𝓤 H A W 𝓣 0 ps·4 r·4 (claims· .8) (claims· .9) "hnsr_circuit::messages::close::close_plan") →
+          Plain.Known 𝓤 H A W 𝓣 1 ps·0 r·0 (claims· .0) (claims· .1) "hnsr_circuit::tables::pending::count_named") (known1
+          : Plain.Known 𝓤 H A W 𝓣 1 ps·1 r·1 (claims· .2) (claims· .3) "hnsr_circuit::tables::lookup::look_up_named") (known2
+          : Plain.Known 𝓤 H A W 𝓣 1 ps·2 r·2 (claims· .4) (claims· .5) "hnsr_circuit::tables::lookup::circuit_by_id") (known3
+          : Plain.Known 𝓤 H A W 𝓣 0 ps·3 r·3 (claims· .6) (claims· .7) "hnsr_circuit::messages::close::close_plan") →
           Statement.Triple 𝓤 (Wp.WpFn 𝓤 H (𝓣 .C) (𝓣 .Λ) (Function.fnOf 2 ps r xs m hs body))
           (Function.plainOf 𝓤 H A 2 ps r Pre· Post·)
 
     module _ where
-      abbrev at0 : Typed.TF T12 O0
+      abbrev at0 : Typed.TF T10 O0
       at0 = Typed.atRet O0
 
-      abbrev at1 : Typed.TF T11 O0
-      at1 = λ Ψ. Typed.pass T11 T12 s10 (at0 Ψ)
+      abbrev at1 : Typed.TF T9 O0
+      at1 = λ Ψ. Typed.pass T9 T10 s8 (at0 Ψ)
 
-      abbrev at2 : Typed.TF T10 O0
-      at2 = λ Ψ. Typed.pass T10 T11 s9 (at1 Ψ)
+      abbrev at2 : Typed.TF T8 O0
+      at2 = λ Ψ. Typed.pass T8 T9 s7 (at1 Ψ)
 
-      abbrev at3 : Typed.TF T9 O0
-      at3 = λ Ψ. Typed.pass T9 T10 s8 (at2 Ψ)
+      abbrev at3 : Typed.TF T7 O0
+      at3 = λ Ψ. Typed.pass T7 T8 s6 (at2 Ψ)
 
-      abbrev at4 : Typed.TF T8 O0
-      at4 = λ Ψ. Typed.pass T8 T9 s7 (at3 Ψ)
+      abbrev at4 : Typed.TF T6 O0
+      at4 = λ Ψ. Typed.pass T6 T7 s5 (at3 Ψ)
 
-      abbrev at5 : Typed.TF T7 O0
-      at5 = λ Ψ. Typed.pass T7 T8 s6 (at4 Ψ)
+      abbrev at5 : Typed.TF T5 O0
+      at5 = λ Ψ. Typed.pass T5 T6 s4 (at4 Ψ)
 
-      abbrev at6 : Typed.TF T6 O0
-      at6 = λ Ψ. Typed.both s5 (at5 Ψ)
+      abbrev at6 : Typed.TF T4 O0
+      at6 = λ Ψ. Typed.both s3 (at5 Ψ)
 
-      abbrev at7 : Typed.TF T5 O0
-      at7 = λ Ψ. Typed.both s4 (at6 Ψ)
+      abbrev at7 : Typed.TF T3 O0
+      at7 = λ Ψ. Typed.both s2 (at6 Ψ)
 
-      abbrev at8 : Typed.TF T4 O0
-      at8 = λ Ψ. Typed.pass T4 T5 s3 (at7 Ψ)
+      abbrev at8 : Typed.TF T2 O0
+      at8 = λ Ψ. Typed.both s1 (at7 Ψ)
 
-      abbrev at9 : Typed.TF T3 O0
-      at9 = λ Ψ. Typed.both s2 (at8 Ψ)
-
-      abbrev at10 : Typed.TF T2 O0
-      at10 = λ Ψ. Typed.both s1 (at9 Ψ)
-
-      abbrev at11 : Typed.TF T0 O0
-      at11 = λ Ψ. Typed.both s0 (at10 Ψ)
+      abbrev at9 : Typed.TF T0 O0
+      at9 = λ Ψ. Typed.both s0 (at8 Ψ)
 
       abbrev pub Φ : Typed.TF T0 O0
-      Φ = at11
+      Φ = at9
 
       module _ {M : Type 1} (𝓤 : URA.URA M) (H : Wp.Heap 𝓤) (A : Atoms.Atoms 𝓤) (W : Kit.Given 𝓤 H A)
           (𝓣 : Wp.Tables 𝓤 H) where
         abbrev Knowns : Type 1
-        Knowns = Plain.Known 𝓤 H A W 𝓣 0 ps·0 r·0 (claims· .0) (claims· .1) "hnsr_circuit::tables::question::named" ×
-            Plain.Known 𝓤 H A W 𝓣 1 ps·1 r·1 (claims· .2) (claims· .3) "hnsr_circuit::tables::pending::count_pending" ×
-            Plain.Known 𝓤 H A W 𝓣 1 ps·2 r·2 (claims· .4) (claims· .5) "hnsr_circuit::tables::lookup::look_up_pending"
-            × Plain.Known 𝓤 H A W 𝓣 1 ps·3 r·3 (claims· .6) (claims· .7) "hnsr_circuit::tables::lookup::circuit_by_id"
-            × Plain.Known 𝓤 H A W 𝓣 0 ps·4 r·4 (claims· .8) (claims· .9) "hnsr_circuit::messages::close::close_plan"
+        Knowns = Plain.Known 𝓤 H A W 𝓣 1 ps·0 r·0 (claims· .0) (claims· .1)
+            "hnsr_circuit::tables::pending::count_named" × Plain.Known 𝓤 H A W 𝓣 1 ps·1 r·1 (claims· .2) (claims· .3)
+            "hnsr_circuit::tables::lookup::look_up_named" × Plain.Known 𝓤 H A W 𝓣 1 ps·2 r·2 (claims· .4) (claims· .5)
+            "hnsr_circuit::tables::lookup::circuit_by_id" × Plain.Known 𝓤 H A W 𝓣 0 ps·3 r·3 (claims· .6) (claims· .7)
+            "hnsr_circuit::messages::close::close_plan"
 
       module _ (κs : Lifetimes.Lfts 2) (qs : Lifetimes.Shares 2) where
         abbrev life0 : Row.Life
@@ -508,13 +467,7 @@ module _ (claims· : Claims) where
         G9 = record { locals = t9; slots = life0 ∷ life1 ∷ List.[] }
 
         abbrev G10 : Row.Cx
-        G10 = record { locals = t10; slots = life0 ∷ life1 ∷ List.[] }
-
-        abbrev G11 : Row.Cx
-        G11 = record { locals = t11; slots = life0 ∷ life1 ∷ List.[] }
-
-        abbrev G12 : Row.Cx
-        G12 = record { locals = t1; slots = life0 ∷ life1 ∷ List.[] }
+        G10 = record { locals = t1; slots = life0 ∷ life1 ∷ List.[] }
 
         abbrev Δ0 : Typed.Outs
         Δ0 = record { next = Option.none; exits = List.[]; returns = Option.some G1 }
@@ -525,34 +478,34 @@ module _ (claims· : Claims) where
           abbrev E : Wp.Env 𝓤 H
           E = Frame.EnvOf 𝓤 H ((Kinds.tyR r) ∷ (Enter.tysP ps xs)) bs
 
-          d0 : Typed.Typed 𝓤 H A 𝓣 E G12 b5 Δ0 at0
+          d0 : Typed.Typed 𝓤 H A 𝓣 E G10 b4 Δ0 at0
           d0 = Typed.t-return 𝓤 H A W 𝓣 E Δ0 tt
 
-          d1 : Typed.Typed 𝓤 H A 𝓣 E G11 b5 Δ0 at1
-          d1 = Typed.g-pre 𝓤 H A W 𝓣 E G11 G12 b5 Δ0 (Typed.pass T11 T12 s10) at0 (Scalar.g-room 𝓤 H A W E G11 8
+          d1 : Typed.Typed 𝓤 H A 𝓣 E G9 b4 Δ0 at1
+          d1 = Typed.g-pre 𝓤 H A W 𝓣 E G9 G10 b4 Δ0 (Typed.pass T9 T10 s8) at0 (Scalar.g-room 𝓤 H A W E G9 7
               Laws''''''.mir (Local.room-whole 𝓤 H A W (Declared.row CircuitFound.the-type) Laws''''''.mir Path.refl))
               d0
 
-          d2 : Typed.Typed 𝓤 H A 𝓣 E G10 b5 Δ0 at2
-          d2 = Typed.g-pre 𝓤 H A W 𝓣 E G10 G11 b5 Δ0 (Typed.pass T10 T11 s9) at1 (Scalar.g-room 𝓤 H A W E G10 7
+          d2 : Typed.Typed 𝓤 H A 𝓣 E G8 b4 Δ0 at2
+          d2 = Typed.g-pre 𝓤 H A W 𝓣 E G8 G9 b4 Δ0 (Typed.pass T8 T9 s7) at1 (Scalar.g-room 𝓤 H A W E G8 6
               Laws'''''''.mir (Local.room-whole 𝓤 H A W (Declared.row PendingFound.the-type) Laws'''''''.mir Path.refl))
               d1
 
-          d3 : Typed.Typed 𝓤 H A 𝓣 E G9 b5 Δ0 at3
-          d3 = Typed.g-pre 𝓤 H A W 𝓣 E G9 G10 b5 Δ0 (Typed.pass T9 T10 s8) at2 (Scalar.g-room 𝓤 H A W E G9 6
+          d3 : Typed.Typed 𝓤 H A 𝓣 E G7 b4 Δ0 at3
+          d3 = Typed.g-pre 𝓤 H A W 𝓣 E G7 G8 b4 Δ0 (Typed.pass T7 T8 s6) at2 (Scalar.g-room 𝓤 H A W E G7 5
               (Syntax.tyInt Syntax.w64) (Scalar.room-sc 𝓤 H A W (Row.sInt Syntax.w64))) d2
 
-          d4 : Typed.Typed 𝓤 H A 𝓣 E G8 b5 Δ0 at4
-          d4 = Typed.g-pre 𝓤 H A W 𝓣 E G8 G9 b5 Δ0 (Typed.pass T8 T9 s7) at3 (Scalar.g-room 𝓤 H A W E G8 4 Laws.mir (Local.room-whole
+          d4 : Typed.Typed 𝓤 H A 𝓣 E G6 b4 Δ0 at4
+          d4 = Typed.g-pre 𝓤 H A W 𝓣 E G6 G7 b4 Δ0 (Typed.pass T6 T7 s5) at3 (Scalar.g-room 𝓤 H A W E G6 4 Laws.mir (Local.room-whole
               𝓤 H A W (Declared.row DetailRead.the-type) Laws.mir Path.refl)) d3
 
-          d5 : Typed.Typed 𝓤 H A 𝓣 E G7 b5 Δ0 at5
-          d5 = Typed.g-pre 𝓤 H A W 𝓣 E G7 G8 b5 Δ0 (Typed.pass T7 T8 s6) at4 (Scalar.g-room 𝓤 H A W E G7 3
+          d5 : Typed.Typed 𝓤 H A 𝓣 E G5 b4 Δ0 at5
+          d5 = Typed.g-pre 𝓤 H A W 𝓣 E G5 G6 b4 Δ0 (Typed.pass T5 T6 s4) at4 (Scalar.g-room 𝓤 H A W E G5 3
               Laws'''''.mir (Local.room-whole 𝓤 H A W (Declared.row Request.the-type) Laws'''''.mir Path.refl)) d4
 
-          d6 : Typed.Typed 𝓤 H A 𝓣 E G6 b6 Δ0 at6
-          d6 = Typed.s-seq 𝓤 H A W 𝓣 E G6 G7 b4 b5 Δ0 (Typed.both s5) at5 (Plain.t-call-plain 𝓤 H A W 𝓣 0 ps·4 r·4
-              (claims· .8) (claims· .9) "hnsr_circuit::messages::close::close_plan" (known .4) E (λ pos β. β) G6 (
+          d6 : Typed.Typed 𝓤 H A 𝓣 E G4 b5 Δ0 at6
+          d6 = Typed.s-seq 𝓤 H A W 𝓣 E G4 G5 b3 b4 Δ0 (Typed.both s3) at5 (Plain.t-call-plain 𝓤 H A W 𝓣 0 ps·3 r·3
+              (claims· .6) (claims· .7) "hnsr_circuit::messages::close::close_plan" (known .3) E (λ pos β. β) G4 (
                 record { pos = 3; st = (Syntax.field 0) ∷ List.[]; d = 0; at = λ x. Request.struct .as-values x .0 },
                 (
                   record {
@@ -564,11 +517,11 @@ module _ (claims· : Claims) where
                   (
                     record { pos = 4; st = List.[]; d = 0; at = λ x. x },
                     (
-                      Num.vAt 6 λ x. x,
+                      Num.vAt 5 λ x. x,
                       (
-                        record { pos = 7; st = List.[]; d = 0; at = λ x. x },
+                        record { pos = 6; st = List.[]; d = 0; at = λ x. x },
                         (
-                          record { pos = 8; st = List.[]; d = 0; at = λ x. x },
+                          record { pos = 7; st = List.[]; d = 0; at = λ x. x },
                           (
                             record {
                               pos = 3;
@@ -583,7 +536,7 @@ module _ (claims· : Claims) where
                     ),
                   ),
                 ),
-              ) 0 List.[] (Call.sub-id 𝓤 H A W (G6 .slots)) (
+              ) 0 List.[] (Call.sub-id 𝓤 H A W (G4 .slots)) (
                 (
                   Yields'.yields-acc 𝓤 H A W (Rows.whole (Declared.row Request.the-type))
                       (Declared.row OpaqueRelayRuntime.the-type) 0 (λ x. Request.struct .as-values x .0) Path.refl (Copies.cStruct
@@ -665,9 +618,9 @@ module _ (claims· : Claims) where
                 ),
               ) (Reads'.room-gone 𝓤 H A Laws'.mir) tt Path.refl) d5
 
-          d7 : Typed.Typed 𝓤 H A 𝓣 E G5 b7 Δ0 at7
-          d7 = Typed.s-seq 𝓤 H A W 𝓣 E G5 G6 b3 b6 Δ0 (Typed.both s4) at6 (Plain.t-call-plain 𝓤 H A W 𝓣 1 ps·3 r·3
-              (claims· .6) (claims· .7) "hnsr_circuit::tables::lookup::circuit_by_id" (known .3) E (λ pos β. β) G5 (
+          d7 : Typed.Typed 𝓤 H A 𝓣 E G3 b6 Δ0 at7
+          d7 = Typed.s-seq 𝓤 H A W 𝓣 E G3 G4 b2 b5 Δ0 (Typed.both s2) at6 (Plain.t-call-plain 𝓤 H A W 𝓣 1 ps·2 r·2
+              (claims· .4) (claims· .5) "hnsr_circuit::tables::lookup::circuit_by_id" (known .2) E (λ pos β. β) G3 (
                 record { pos = 2; ty = ref1; ref = λ x. x },
                 (
                   record {
@@ -682,7 +635,7 @@ module _ (claims· : Claims) where
                     tt,
                   ),
                 ),
-              ) 8 (1 ∷ List.[]) (Call.sub-id 𝓤 H A W (G5 .slots)) (
+              ) 7 (1 ∷ List.[]) (Call.sub-id 𝓤 H A W (G3 .slots)) (
                 ShrSlice.spares-sslice 𝓤 H A W RelayCircuit.row ref1 1,
                 Shared.reads-sslice 𝓤 H A W RelayCircuit.row ref1 1,
                 Path.refl,
@@ -714,14 +667,9 @@ module _ (claims· : Claims) where
                 ),
               ) (Reads'.room-gone 𝓤 H A Laws''''''.mir) (tt, tt) Path.refl) d6
 
-          d8 : Typed.Typed 𝓤 H A 𝓣 E G4 b7 Δ0 at8
-          d8 = Typed.g-pre 𝓤 H A W 𝓣 E G4 G5 b7 Δ0 (Typed.pass T4 T5 s3) at7 (Scalar.g-room 𝓤 H A W E G4 5
-              Laws'''''''''.mir (Local.room-whole 𝓤 H A W (Declared.row Question.the-type) Laws'''''''''.mir Path.refl))
-              d7
-
-          d9 : Typed.Typed 𝓤 H A 𝓣 E G3 b8 Δ0 at9
-          d9 = Typed.s-seq 𝓤 H A W 𝓣 E G3 G4 b2 b7 Δ0 (Typed.both s2) at8 (Plain.t-call-plain 𝓤 H A W 𝓣 1 ps·2 r·2
-              (claims· .4) (claims· .5) "hnsr_circuit::tables::lookup::look_up_pending" (known .2) E (λ pos β. β) G3 (
+          d8 : Typed.Typed 𝓤 H A 𝓣 E G2 b7 Δ0 at8
+          d8 = Typed.s-seq 𝓤 H A W 𝓣 E G2 G3 b1 b6 Δ0 (Typed.both s1) at7 (Plain.t-call-plain 𝓤 H A W 𝓣 1 ps·1 r·1
+              (claims· .2) (claims· .3) "hnsr_circuit::tables::lookup::look_up_named" (known .1) E (λ pos β. β) G2 (
                 record { pos = 1; ty = ref0; ref = λ x. x },
                 (
                   record {
@@ -730,53 +678,19 @@ module _ (claims· : Claims) where
                     d = 160;
                     at = λ x. Request.struct .as-values x .1 .0;
                   },
-                  (record { pos = 5; st = List.[]; d = 0; at = λ x. x }, tt),
-                ),
-              ) 7 (0 ∷ List.[]) (Call.sub-id 𝓤 H A W (G3 .slots)) (
-                ShrSlice.spares-sslice 𝓤 H A W RelayPending.row ref0 0,
-                Shared.reads-sslice 𝓤 H A W RelayPending.row ref0 0,
-                Path.refl,
-                (
                   (
-                    Yields'.yields-acc 𝓤 H A W (Rows.whole (Declared.row Request.the-type))
-                        (Declared.row Places.the-type) 160 (λ x. Request.struct .as-values x .1 .0) Path.refl (Copies.cStruct
-                        Places.the-type Laws''''''''.the-laws Laws''''''''.the-copy .copy 𝓤 H A W) (Yields'.acc-record
-                        𝓤 H A W (Rows.whole (Declared.row Request.the-type)) Places.the-type 160
-                        (λ x. Request.struct .as-values x .1 .0) (Yields'.acc-part 𝓤 H A W
-                        (Rows.whole (Declared.row Request.the-type)) (Declared.row Request.the-type)
-                        (Struct.Struct (Declared.shape Places.the-type)) 0 160 (λ x. x) (λ y. Places.the-type .to
-                        (Request.struct .as-values y .1 .0))
-                        (Yields'.acc-whole 𝓤 H A W (Declared.row Request.the-type)) λ y a. Behind.look-at 𝓤 H A W
-                        TreeShare.fullShare Request.the-type Laws'''''.the-laws 1 160 Path.refl Path.refl a y
-                        (Request.struct .as-values y) Path.refl)),
-                    Path.refl,
-                  ),
-                  (
+                    record {
+                      pos = 3;
+                      st = (Syntax.field 3) ∷ List.[];
+                      d = 272;
+                      at = λ x. Request.struct .as-values x .1 .1 .1 .0;
+                    },
                     (
-                      Yields.yields-copy 𝓤 H A W (λ ρ. Unit) (Declared.row Question.the-type) Path.refl (Copies.cStruct
-                          Question.the-type Laws'''''''''.the-laws Laws'''''''''.the-copy .copy 𝓤 H A W)
-                          (Rows.whole (Declared.row Question.the-type)) (λ x. x) (λ x. x) (λ ρ told. Local.mem-whole 𝓤
-                          H A W (Declared.row Question.the-type) ρ) λ ρ told. Local.whole-mem 𝓤 H A W
-                          (Declared.row Question.the-type) ρ,
-                      Path.refl,
+                      Num.vFld 3 ((Syntax.field 2) ∷ (Syntax.field 1) ∷ List.[]) 200 λ x. RelayPacket.struct .as-values
+                          (Request.struct .as-values x .1 .1 .0) .1 .0,
+                      tt,
                     ),
-                    tt,
                   ),
-                ),
-              ) (Reads'.room-gone 𝓤 H A Laws'''''''.mir) (tt, tt) Path.refl) d8
-
-          d10 : Typed.Typed 𝓤 H A 𝓣 E G2 b9 Δ0 at10
-          d10 = Typed.s-seq 𝓤 H A W 𝓣 E G2 G3 b1 b8 Δ0 (Typed.both s1) at9 (Plain.t-call-plain 𝓤 H A W 𝓣 1 ps·1 r·1
-              (claims· .2) (claims· .3) "hnsr_circuit::tables::pending::count_pending" (known .1) E (λ pos β. β) G2 (
-                record { pos = 1; ty = ref0; ref = λ x. x },
-                (
-                  record {
-                    pos = 3;
-                    st = (Syntax.field 1) ∷ List.[];
-                    d = 160;
-                    at = λ x. Request.struct .as-values x .1 .0;
-                  },
-                  (record { pos = 5; st = List.[]; d = 0; at = λ x. x }, tt),
                 ),
               ) 6 (0 ∷ List.[]) (Call.sub-id 𝓤 H A W (G2 .slots)) (
                 ShrSlice.spares-sslice 𝓤 H A W RelayPending.row ref0 0,
@@ -799,61 +713,108 @@ module _ (claims· : Claims) where
                   ),
                   (
                     (
-                      Yields.yields-copy 𝓤 H A W (λ ρ. Unit) (Declared.row Question.the-type) Path.refl (Copies.cStruct
-                          Question.the-type Laws'''''''''.the-laws Laws'''''''''.the-copy .copy 𝓤 H A W)
-                          (Rows.whole (Declared.row Question.the-type)) (λ x. x) (λ x. x) (λ ρ told. Local.mem-whole 𝓤
-                          H A W (Declared.row Question.the-type) ρ) λ ρ told. Local.whole-mem 𝓤 H A W
-                          (Declared.row Question.the-type) ρ,
+                      Yields'.yields-acc 𝓤 H A W (Rows.whole (Declared.row Request.the-type))
+                          (Declared.row HnsrPeerId.the-type) 272 (λ x. Request.struct .as-values x .1 .1 .1 .0)
+                          Path.refl (Copies.cStruct HnsrPeerId.the-type Laws''.the-laws Laws''.the-copy .copy 𝓤 H A W) (Yields'.acc-record
+                          𝓤 H A W (Rows.whole (Declared.row Request.the-type)) HnsrPeerId.the-type 272
+                          (λ x. Request.struct .as-values x .1 .1 .1 .0) (Yields'.acc-part 𝓤 H A W
+                          (Rows.whole (Declared.row Request.the-type)) (Declared.row Request.the-type)
+                          (Struct.Struct (Declared.shape HnsrPeerId.the-type)) 0 272 (λ x. x) (λ y. HnsrPeerId.the-type
+                          .to (Request.struct .as-values y .1 .1 .1 .0))
+                          (Yields'.acc-whole 𝓤 H A W (Declared.row Request.the-type)) λ y a. Behind.look-at 𝓤 H A W
+                          TreeShare.fullShare Request.the-type Laws'''''.the-laws 3 272 Path.refl Path.refl a y
+                          (Request.struct .as-values y) Path.refl)),
                       Path.refl,
                     ),
-                    tt,
+                    (
+                      (
+                        Reads.reads-inner 𝓤 H A W RelayPacket.the-type Laws''''.the-laws
+                            (Rows.whole (Declared.row Request.the-type)) 192
+                            (λ x. Request.struct .as-values x .1 .1 .0) (Reads.reads-field 𝓤 H A W Request.the-type
+                            Laws'''''.the-laws 2 Laws''''.mir 192 Path.refl) 1 (Syntax.tyInt Syntax.w64) 8 Path.refl,
+                        Path.refl,
+                      ),
+                      tt,
+                    ),
                   ),
                 ),
-              ) (Reads'.room-gone 𝓤 H A (Syntax.tyInt Syntax.w64)) (tt, tt) Path.refl) d9
+              ) (Reads'.room-gone 𝓤 H A Laws'''''''.mir) (tt, tt) Path.refl) d7
 
-          d11 : Typed.Typed 𝓤 H A 𝓣 E G0 b10 Δ0 at11
-          d11 = Typed.s-seq 𝓤 H A W 𝓣 E G0 G2 b0 b9 Δ0 (Typed.both s0) at10 (Plain.t-call-plain 𝓤 H A W 𝓣 0 ps·0 r·0
-              (claims· .0) (claims· .1) "hnsr_circuit::tables::question::named" (known .0) E (λ pos β. β) G0 (
-                record {
-                  pos = 3;
-                  st = (Syntax.field 3) ∷ List.[];
-                  d = 272;
-                  at = λ x. Request.struct .as-values x .1 .1 .1 .0;
-                },
+          d9 : Typed.Typed 𝓤 H A 𝓣 E G0 b8 Δ0 at9
+          d9 = Typed.s-seq 𝓤 H A W 𝓣 E G0 G2 b0 b7 Δ0 (Typed.both s0) at8 (Plain.t-call-plain 𝓤 H A W 𝓣 1 ps·0 r·0
+              (claims· .0) (claims· .1) "hnsr_circuit::tables::pending::count_named" (known .0) E (λ pos β. β) G0 (
+                record { pos = 1; ty = ref0; ref = λ x. x },
                 (
-                  Num.vFld 3 ((Syntax.field 2) ∷ (Syntax.field 1) ∷ List.[]) 200 λ x. RelayPacket.struct .as-values
-                      (Request.struct .as-values x .1 .1 .0) .1 .0,
-                  tt,
+                  record {
+                    pos = 3;
+                    st = (Syntax.field 1) ∷ List.[];
+                    d = 160;
+                    at = λ x. Request.struct .as-values x .1 .0;
+                  },
+                  (
+                    record {
+                      pos = 3;
+                      st = (Syntax.field 3) ∷ List.[];
+                      d = 272;
+                      at = λ x. Request.struct .as-values x .1 .1 .1 .0;
+                    },
+                    (
+                      Num.vFld 3 ((Syntax.field 2) ∷ (Syntax.field 1) ∷ List.[]) 200 λ x. RelayPacket.struct .as-values
+                          (Request.struct .as-values x .1 .1 .0) .1 .0,
+                      tt,
+                    ),
+                  ),
                 ),
-              ) 5 List.[] (Call.sub-id 𝓤 H A W (G0 .slots)) (
-                (
-                  Yields'.yields-acc 𝓤 H A W (Rows.whole (Declared.row Request.the-type))
-                      (Declared.row HnsrPeerId.the-type) 272 (λ x. Request.struct .as-values x .1 .1 .1 .0) Path.refl (Copies.cStruct
-                      HnsrPeerId.the-type Laws''.the-laws Laws''.the-copy .copy 𝓤 H A W) (Yields'.acc-record 𝓤 H A W
-                      (Rows.whole (Declared.row Request.the-type)) HnsrPeerId.the-type 272
-                      (λ x. Request.struct .as-values x .1 .1 .1 .0) (Yields'.acc-part 𝓤 H A W
-                      (Rows.whole (Declared.row Request.the-type)) (Declared.row Request.the-type)
-                      (Struct.Struct (Declared.shape HnsrPeerId.the-type)) 0 272 (λ x. x) (λ y. HnsrPeerId.the-type .to
-                      (Request.struct .as-values y .1 .1 .1 .0))
-                      (Yields'.acc-whole 𝓤 H A W (Declared.row Request.the-type)) λ y a. Behind.look-at 𝓤 H A W
-                      TreeShare.fullShare Request.the-type Laws'''''.the-laws 3 272 Path.refl Path.refl a y
-                      (Request.struct .as-values y) Path.refl)),
-                  Path.refl,
-                ),
+              ) 5 (0 ∷ List.[]) (Call.sub-id 𝓤 H A W (G0 .slots)) (
+                ShrSlice.spares-sslice 𝓤 H A W RelayPending.row ref0 0,
+                Shared.reads-sslice 𝓤 H A W RelayPending.row ref0 0,
+                Path.refl,
                 (
                   (
-                    Reads.reads-inner 𝓤 H A W RelayPacket.the-type Laws''''.the-laws
-                        (Rows.whole (Declared.row Request.the-type)) 192 (λ x. Request.struct .as-values x .1 .1 .0) (Reads.reads-field
-                        𝓤 H A W Request.the-type Laws'''''.the-laws 2 Laws''''.mir 192 Path.refl) 1
-                        (Syntax.tyInt Syntax.w64) 8 Path.refl,
+                    Yields'.yields-acc 𝓤 H A W (Rows.whole (Declared.row Request.the-type))
+                        (Declared.row Places.the-type) 160 (λ x. Request.struct .as-values x .1 .0) Path.refl (Copies.cStruct
+                        Places.the-type Laws''''''''.the-laws Laws''''''''.the-copy .copy 𝓤 H A W) (Yields'.acc-record
+                        𝓤 H A W (Rows.whole (Declared.row Request.the-type)) Places.the-type 160
+                        (λ x. Request.struct .as-values x .1 .0) (Yields'.acc-part 𝓤 H A W
+                        (Rows.whole (Declared.row Request.the-type)) (Declared.row Request.the-type)
+                        (Struct.Struct (Declared.shape Places.the-type)) 0 160 (λ x. x) (λ y. Places.the-type .to
+                        (Request.struct .as-values y .1 .0))
+                        (Yields'.acc-whole 𝓤 H A W (Declared.row Request.the-type)) λ y a. Behind.look-at 𝓤 H A W
+                        TreeShare.fullShare Request.the-type Laws'''''.the-laws 1 160 Path.refl Path.refl a y
+                        (Request.struct .as-values y) Path.refl)),
                     Path.refl,
                   ),
-                  tt,
+                  (
+                    (
+                      Yields'.yields-acc 𝓤 H A W (Rows.whole (Declared.row Request.the-type))
+                          (Declared.row HnsrPeerId.the-type) 272 (λ x. Request.struct .as-values x .1 .1 .1 .0)
+                          Path.refl (Copies.cStruct HnsrPeerId.the-type Laws''.the-laws Laws''.the-copy .copy 𝓤 H A W) (Yields'.acc-record
+                          𝓤 H A W (Rows.whole (Declared.row Request.the-type)) HnsrPeerId.the-type 272
+                          (λ x. Request.struct .as-values x .1 .1 .1 .0) (Yields'.acc-part 𝓤 H A W
+                          (Rows.whole (Declared.row Request.the-type)) (Declared.row Request.the-type)
+                          (Struct.Struct (Declared.shape HnsrPeerId.the-type)) 0 272 (λ x. x) (λ y. HnsrPeerId.the-type
+                          .to (Request.struct .as-values y .1 .1 .1 .0))
+                          (Yields'.acc-whole 𝓤 H A W (Declared.row Request.the-type)) λ y a. Behind.look-at 𝓤 H A W
+                          TreeShare.fullShare Request.the-type Laws'''''.the-laws 3 272 Path.refl Path.refl a y
+                          (Request.struct .as-values y) Path.refl)),
+                      Path.refl,
+                    ),
+                    (
+                      (
+                        Reads.reads-inner 𝓤 H A W RelayPacket.the-type Laws''''.the-laws
+                            (Rows.whole (Declared.row Request.the-type)) 192
+                            (λ x. Request.struct .as-values x .1 .1 .0) (Reads.reads-field 𝓤 H A W Request.the-type
+                            Laws'''''.the-laws 2 Laws''''.mir 192 Path.refl) 1 (Syntax.tyInt Syntax.w64) 8 Path.refl,
+                        Path.refl,
+                      ),
+                      tt,
+                    ),
+                  ),
                 ),
-              ) (Reads'.room-gone 𝓤 H A Laws'''''''''.mir) tt Path.refl) d10
+              ) (Reads'.room-gone 𝓤 H A (Syntax.tyInt Syntax.w64)) (tt, tt) Path.refl) d8
 
-          pub typed : Typed.Typed 𝓤 H A 𝓣 E (Function.Γin 2 ps r xs m κs qs) b10 (Function.Δret 2 ps r xs m κs qs) Φ
-          typed = d11
+          pub typed : Typed.Typed 𝓤 H A 𝓣 E (Function.Γin 2 ps r xs m κs qs) b8 (Function.Δret 2 ps r xs m κs qs) Φ
+          typed = d9
 
       module _ (κs : Lifetimes.Lfts 2) where
         pub record Args : Type 0 where
@@ -884,201 +845,163 @@ module _ (claims· : Claims) where
         pub good : Kinds.GoodsP κs ps (dens κs args)
         pub pre : Pre· κs (dens κs args)
 
-      abbrev pub Need-named-requires : Type 0
-      Need-named-requires = (c : Start) → s0 .asks (m0 (c .κs) (c .args))
+      abbrev pub Need-count-named-requires : Type 0
+      Need-count-named-requires = (c : Start) → s0 .asks (m0 (c .κs) (c .args))
 
       abbrev pub m1 : (before : Start) → (given : s0 .gives (m0 (before .κs) (before .args))) → Typed.Mo T2
       m1 = λ before given. s0 .next (m0 (before .κs) (before .args)) given
 
       module _ (before· : Start) where
-        abbrev pub After-named·own : Type 0
-        After-named·own = Called.Called ps·0 r·0 (claims· .1) T0 args0 (m0 (before· .κs) (before· .args))
+        abbrev pub After-count-named·own : Type 0
+        After-count-named·own = Called.Called ps·0 r·0 (claims· .1) T0 args0 (m0 (before· .κs) (before· .args))
 
-      pub record After-named : Type 0 where
+      pub record After-count-named : Type 0 where
         pub before : Start
-        pub named : After-named·own before
+        pub count-named : After-count-named·own before
 
-      abbrev pub After-named·gave : (c : After-named) → s0 .gives (m0 (c .before .κs) (c .before .args))
-      After-named·gave = λ c. Called.given ps·0 r·0 (claims· .1) T0 args0 (m0 (c .before .κs) (c .before .args))
-          (c .named)
+      abbrev pub After-count-named·gave : (c : After-count-named) → s0 .gives (m0 (c .before .κs) (c .before .args))
+      After-count-named·gave = λ c. Called.given ps·0 r·0 (claims· .1) T0 args0 (m0 (c .before .κs) (c .before .args))
+          (c .count-named)
 
-      abbrev pub Need-count-pending-requires : Type 0
-      Need-count-pending-requires = (c : After-named) → s1 .asks (m1 (c .before) (After-named·gave c))
+      abbrev pub Need-look-up-named-requires : Type 0
+      Need-look-up-named-requires = (c : After-count-named) → s1 .asks (m1 (c .before) (After-count-named·gave c))
 
-      abbrev pub m2 : (before : After-named) → (given : s1 .gives (m1 (before .before) (After-named·gave before))) →
-          Typed.Mo T3
-      m2 = λ before given. s1 .next (m1 (before .before) (After-named·gave before)) given
+      abbrev pub m2 : (before : After-count-named) → (given : s1 .gives
+          (m1 (before .before) (After-count-named·gave before))) → Typed.Mo T3
+      m2 = λ before given. s1 .next (m1 (before .before) (After-count-named·gave before)) given
 
-      module _ (before· : After-named) where
-        abbrev pub After-count-pending·own : Type 0
-        After-count-pending·own = Called.Called ps·1 r·1 (claims· .3) T2 args1
-            (m1 (before· .before) (After-named·gave before·))
+      module _ (before· : After-count-named) where
+        abbrev pub After-look-up-named·own : Type 0
+        After-look-up-named·own = Called.Called ps·1 r·1 (claims· .3) T2 args1
+            (m1 (before· .before) (After-count-named·gave before·))
 
-      pub record After-count-pending : Type 0 where
-        pub before : After-named
-        pub count-pending : After-count-pending·own before
+      pub record After-look-up-named : Type 0 where
+        pub before : After-count-named
+        pub look-up-named : After-look-up-named·own before
 
-      abbrev pub After-count-pending·gave : (c : After-count-pending) → s1 .gives
-          (m1 (c .before .before) (After-named·gave (c .before)))
-      After-count-pending·gave = λ c. Called.given ps·1 r·1 (claims· .3) T2 args1
-          (m1 (c .before .before) (After-named·gave (c .before))) (c .count-pending)
-
-      abbrev pub Need-look-up-pending-requires : Type 0
-      Need-look-up-pending-requires = (c : After-count-pending) → s2 .asks
-          (m2 (c .before) (After-count-pending·gave c))
-
-      abbrev pub m3 : (before : After-count-pending) → (given : s2 .gives
-          (m2 (before .before) (After-count-pending·gave before))) → Typed.Mo T4
-      m3 = λ before given. s2 .next (m2 (before .before) (After-count-pending·gave before)) given
-
-      module _ (before· : After-count-pending) where
-        abbrev pub After-look-up-pending·own : Type 0
-        After-look-up-pending·own = Called.Called ps·2 r·2 (claims· .5) T3 args2
-            (m2 (before· .before) (After-count-pending·gave before·))
-
-      pub record After-look-up-pending : Type 0 where
-        pub before : After-count-pending
-        pub look-up-pending : After-look-up-pending·own before
-
-      abbrev pub After-look-up-pending·gave : (c : After-look-up-pending) → s2 .gives (m2 (c .before .before)
-          (After-count-pending·gave (c .before)))
-      After-look-up-pending·gave = λ c. Called.given ps·2 r·2 (claims· .5) T3 args2 (m2 (c .before .before)
-          (After-count-pending·gave (c .before))) (c .look-up-pending)
-
-      abbrev pub m4 : (before : After-count-pending) → (given : s2 .gives
-          (m2 (before .before) (After-count-pending·gave before))) → Typed.Mo T5
-      m4 = λ before given. s3 (m3 before given)
+      abbrev pub After-look-up-named·gave : (c : After-look-up-named) → s1 .gives (m1 (c .before .before)
+          (After-count-named·gave (c .before)))
+      After-look-up-named·gave = λ c. Called.given ps·1 r·1 (claims· .3) T2 args1 (m1 (c .before .before)
+          (After-count-named·gave (c .before))) (c .look-up-named)
 
       abbrev pub Need-circuit-by-id-requires : Type 0
-      Need-circuit-by-id-requires = (c : After-look-up-pending) → s4 .asks
-          (m4 (c .before) (After-look-up-pending·gave c))
+      Need-circuit-by-id-requires = (c : After-look-up-named) → s2 .asks (m2 (c .before) (After-look-up-named·gave c))
 
-      abbrev pub m5 : (before : After-look-up-pending) → (given : s4 .gives
-          (m4 (before .before) (After-look-up-pending·gave before))) → Typed.Mo T6
-      m5 = λ before given. s4 .next (m4 (before .before) (After-look-up-pending·gave before)) given
+      abbrev pub m3 : (before : After-look-up-named) → (given : s2 .gives
+          (m2 (before .before) (After-look-up-named·gave before))) → Typed.Mo T4
+      m3 = λ before given. s2 .next (m2 (before .before) (After-look-up-named·gave before)) given
 
-      module _ (before· : After-look-up-pending) where
+      module _ (before· : After-look-up-named) where
         abbrev pub After-circuit-by-id·own : Type 0
-        After-circuit-by-id·own = Called.Called ps·3 r·3 (claims· .7) T5 args4
-            (m4 (before· .before) (After-look-up-pending·gave before·))
+        After-circuit-by-id·own = Called.Called ps·2 r·2 (claims· .5) T3 args2
+            (m2 (before· .before) (After-look-up-named·gave before·))
 
       pub record After-circuit-by-id : Type 0 where
-        pub before : After-look-up-pending
+        pub before : After-look-up-named
         pub circuit-by-id : After-circuit-by-id·own before
 
-      abbrev pub After-circuit-by-id·gave : (c : After-circuit-by-id) → s4 .gives (m4 (c .before .before)
-          (After-look-up-pending·gave (c .before)))
-      After-circuit-by-id·gave = λ c. Called.given ps·3 r·3 (claims· .7) T5 args4 (m4 (c .before .before)
-          (After-look-up-pending·gave (c .before))) (c .circuit-by-id)
+      abbrev pub After-circuit-by-id·gave : (c : After-circuit-by-id) → s2 .gives (m2 (c .before .before)
+          (After-look-up-named·gave (c .before)))
+      After-circuit-by-id·gave = λ c. Called.given ps·2 r·2 (claims· .5) T3 args2 (m2 (c .before .before)
+          (After-look-up-named·gave (c .before))) (c .circuit-by-id)
 
       abbrev pub Need-close-plan-requires : Type 0
-      Need-close-plan-requires = (c : After-circuit-by-id) → s5 .asks (m5 (c .before) (After-circuit-by-id·gave c))
+      Need-close-plan-requires = (c : After-circuit-by-id) → s3 .asks (m3 (c .before) (After-circuit-by-id·gave c))
 
-      abbrev pub m6 : (before : After-circuit-by-id) → (given : s5 .gives
-          (m5 (before .before) (After-circuit-by-id·gave before))) → Typed.Mo T7
-      m6 = λ before given. s5 .next (m5 (before .before) (After-circuit-by-id·gave before)) given
+      abbrev pub m4 : (before : After-circuit-by-id) → (given : s3 .gives
+          (m3 (before .before) (After-circuit-by-id·gave before))) → Typed.Mo T5
+      m4 = λ before given. s3 .next (m3 (before .before) (After-circuit-by-id·gave before)) given
 
       module _ (before· : After-circuit-by-id) where
         abbrev pub After-close-plan·own : Type 0
-        After-close-plan·own = Called.Called ps·4 r·4 (claims· .9) T6 args5
-            (m5 (before· .before) (After-circuit-by-id·gave before·))
+        After-close-plan·own = Called.Called ps·3 r·3 (claims· .7) T4 args3
+            (m3 (before· .before) (After-circuit-by-id·gave before·))
 
       pub record After-close-plan : Type 0 where
         pub before : After-circuit-by-id
         pub close-plan : After-close-plan·own before
 
-      abbrev pub After-close-plan·gave : (c : After-close-plan) → s5 .gives (m5 (c .before .before)
+      abbrev pub After-close-plan·gave : (c : After-close-plan) → s3 .gives (m3 (c .before .before)
           (After-circuit-by-id·gave (c .before)))
-      After-close-plan·gave = λ c. Called.given ps·4 r·4 (claims· .9) T6 args5 (m5 (c .before .before)
+      After-close-plan·gave = λ c. Called.given ps·3 r·3 (claims· .7) T4 args3 (m3 (c .before .before)
           (After-circuit-by-id·gave (c .before))) (c .close-plan)
 
-      abbrev pub m7 : (before : After-circuit-by-id) → (given : s5 .gives
-          (m5 (before .before) (After-circuit-by-id·gave before))) → Typed.Mo T8
+      abbrev pub m5 : (before : After-circuit-by-id) → (given : s3 .gives
+          (m3 (before .before) (After-circuit-by-id·gave before))) → Typed.Mo T6
+      m5 = λ before given. s4 (m4 before given)
+
+      abbrev pub m6 : (before : After-circuit-by-id) → (given : s3 .gives
+          (m3 (before .before) (After-circuit-by-id·gave before))) → Typed.Mo T7
+      m6 = λ before given. s5 (m5 before given)
+
+      abbrev pub m7 : (before : After-circuit-by-id) → (given : s3 .gives
+          (m3 (before .before) (After-circuit-by-id·gave before))) → Typed.Mo T8
       m7 = λ before given. s6 (m6 before given)
 
-      abbrev pub m8 : (before : After-circuit-by-id) → (given : s5 .gives
-          (m5 (before .before) (After-circuit-by-id·gave before))) → Typed.Mo T9
+      abbrev pub m8 : (before : After-circuit-by-id) → (given : s3 .gives
+          (m3 (before .before) (After-circuit-by-id·gave before))) → Typed.Mo T9
       m8 = λ before given. s7 (m7 before given)
 
-      abbrev pub m9 : (before : After-circuit-by-id) → (given : s5 .gives
-          (m5 (before .before) (After-circuit-by-id·gave before))) → Typed.Mo T10
+      abbrev pub m9 : (before : After-circuit-by-id) → (given : s3 .gives
+          (m3 (before .before) (After-circuit-by-id·gave before))) → Typed.Mo T10
       m9 = λ before given. s8 (m8 before given)
 
-      abbrev pub m10 : (before : After-circuit-by-id) → (given : s5 .gives
-          (m5 (before .before) (After-circuit-by-id·gave before))) → Typed.Mo T11
-      m10 = λ before given. s9 (m9 before given)
-
-      abbrev pub m11 : (before : After-circuit-by-id) → (given : s5 .gives
-          (m5 (before .before) (After-circuit-by-id·gave before))) → Typed.Mo T12
-      m11 = λ before given. s10 (m10 before given)
-
       abbrev pub Need-returns : Type 0
-      Need-returns = (c : After-close-plan) → Post· (c .before .before .before .before .before .κs) (dens
-          (c .before .before .before .before .before .κs) (c .before .before .before .before .before .args)) (Function.resV
-          r (c .before .before .before .before .before .κs) (m11 (c .before) (After-close-plan·gave c) .0)) (Clauses.atExit
-          (Kinds.endedOf 2 ps r) (c .before .before .before .before .before .κs) (dens
-          (c .before .before .before .before .before .κs) (c .before .before .before .before .before .args)) (Enter.lastsP
-          (c .before .before .before .before .before .κs) 1 ps xs (dens (c .before .before .before .before .before .κs)
-          (c .before .before .before .before .before .args)) (m11 (c .before) (After-close-plan·gave c) .1)))
+      Need-returns = (c : After-close-plan) → Post· (c .before .before .before .before .κs) (dens
+          (c .before .before .before .before .κs) (c .before .before .before .before .args)) (Function.resV r
+          (c .before .before .before .before .κs) (m9 (c .before) (After-close-plan·gave c) .0)) (Clauses.atExit
+          (Kinds.endedOf 2 ps r) (c .before .before .before .before .κs) (dens (c .before .before .before .before .κs)
+          (c .before .before .before .before .args)) (Enter.lastsP (c .before .before .before .before .κs) 1 ps xs (dens
+          (c .before .before .before .before .κs) (c .before .before .before .before .args))
+          (m9 (c .before) (After-close-plan·gave c) .1)))
 
-      module _ (named-requires : Need-named-requires) (count-pending-requires : Need-count-pending-requires)
-          (look-up-pending-requires : Need-look-up-pending-requires)
-          (circuit-by-id-requires : Need-circuit-by-id-requires) (close-plan-requires : Need-close-plan-requires)
-          (returns : Need-returns) where
-        lay5 : (c : After-close-plan) → at5 (W0 (c .before .before .before .before .before .κs)
-            (c .before .before .before .before .before .args)) (m6 (c .before) (After-close-plan·gave c))
-        lay5 = λ c. (
+      module _ (count-named-requires : Need-count-named-requires)
+          (look-up-named-requires : Need-look-up-named-requires) (circuit-by-id-requires : Need-circuit-by-id-requires)
+          (close-plan-requires : Need-close-plan-requires) (returns : Need-returns) where
+        lay4 : (c : After-close-plan) → at5 (W0 (c .before .before .before .before .κs)
+            (c .before .before .before .before .args)) (m4 (c .before) (After-close-plan·gave c))
+        lay4 = λ c. (
           (Path.refl, (Path.refl, (tt, (tt, tt)))),
           returns record { before = c .before; close-plan = c .close-plan },
         )
 
-        lay4 : (c : After-circuit-by-id) → at6 (W0 (c .before .before .before .before .κs)
-            (c .before .before .before .before .args)) (m5 (c .before) (After-circuit-by-id·gave c))
-        lay4 = λ c. (
-          close-plan-requires record { before = c .before; circuit-by-id = c .circuit-by-id },
-          λ g. lay5 record {
-            before = record { before = c .before; circuit-by-id = c .circuit-by-id };
-            close-plan = Called.called ps·4 r·4 (claims· .9) T6 args5 (m5 (c .before) (After-circuit-by-id·gave c)) g;
-          },
-        )
-
-        lay3 : (c : After-look-up-pending) → at8 (W0 (c .before .before .before .κs) (c .before .before .before .args))
-            (m3 (c .before) (After-look-up-pending·gave c))
+        lay3 : (c : After-circuit-by-id) → at6 (W0 (c .before .before .before .κs) (c .before .before .before .args))
+            (m3 (c .before) (After-circuit-by-id·gave c))
         lay3 = λ c. (
-          circuit-by-id-requires record { before = c .before; look-up-pending = c .look-up-pending },
+          close-plan-requires record { before = c .before; circuit-by-id = c .circuit-by-id },
           λ g. lay4 record {
-            before = record { before = c .before; look-up-pending = c .look-up-pending };
-            circuit-by-id = Called.called ps·3 r·3 (claims· .7) T5 args4
-                (m4 (c .before) (After-look-up-pending·gave c)) g;
+            before = record { before = c .before; circuit-by-id = c .circuit-by-id };
+            close-plan = Called.called ps·3 r·3 (claims· .7) T4 args3 (m3 (c .before) (After-circuit-by-id·gave c)) g;
           },
         )
 
-        lay2 : (c : After-count-pending) → at9 (W0 (c .before .before .κs) (c .before .before .args))
-            (m2 (c .before) (After-count-pending·gave c))
+        lay2 : (c : After-look-up-named) → at7 (W0 (c .before .before .κs) (c .before .before .args))
+            (m2 (c .before) (After-look-up-named·gave c))
         lay2 = λ c. (
-          look-up-pending-requires record { before = c .before; count-pending = c .count-pending },
+          circuit-by-id-requires record { before = c .before; look-up-named = c .look-up-named },
           λ g. lay3 record {
-            before = record { before = c .before; count-pending = c .count-pending };
-            look-up-pending = Called.called ps·2 r·2 (claims· .5) T3 args2
-                (m2 (c .before) (After-count-pending·gave c)) g;
+            before = record { before = c .before; look-up-named = c .look-up-named };
+            circuit-by-id = Called.called ps·2 r·2 (claims· .5) T3 args2 (m2 (c .before) (After-look-up-named·gave c))
+                g;
           },
         )
 
-        lay1 : (c : After-named) → at10 (W0 (c .before .κs) (c .before .args)) (m1 (c .before) (After-named·gave c))
+        lay1 : (c : After-count-named) → at8 (W0 (c .before .κs) (c .before .args))
+            (m1 (c .before) (After-count-named·gave c))
         lay1 = λ c. (
-          count-pending-requires record { before = c .before; named = c .named },
+          look-up-named-requires record { before = c .before; count-named = c .count-named },
           λ g. lay2 record {
-            before = record { before = c .before; named = c .named };
-            count-pending = Called.called ps·1 r·1 (claims· .3) T2 args1 (m1 (c .before) (After-named·gave c)) g;
+            before = record { before = c .before; count-named = c .count-named };
+            look-up-named = Called.called ps·1 r·1 (claims· .3) T2 args1 (m1 (c .before) (After-count-named·gave c)) g;
           },
         )
 
-        pub laid : (c : Start) → at11 (W0 (c .κs) (c .args)) (m0 (c .κs) (c .args))
+        pub laid : (c : Start) → at9 (W0 (c .κs) (c .args)) (m0 (c .κs) (c .args))
         laid = λ c. (
-          named-requires c,
+          count-named-requires c,
           λ g. lay1 record {
             before = c;
-            named = Called.called ps·0 r·0 (claims· .1) T0 args0 (m0 (c .κs) (c .args)) g;
+            count-named = Called.called ps·0 r·0 (claims· .1) T0 args0 (m0 (c .κs) (c .args)) g;
           },
         )
 
@@ -1094,13 +1017,12 @@ module _ (claims· : Claims) where
           }
 
         module _ {M : Type 1} (𝓤 : URA.URA M) (H : Wp.Heap 𝓤) (A : Atoms.Atoms 𝓤) (W : Kit.Given 𝓤 H A)
-            (𝓣 : Wp.Tables 𝓤 H) (known0 : Plain.Known 𝓤 H A W 𝓣 0 ps·0 r·0 (claims· .0) (claims· .1)
-            "hnsr_circuit::tables::question::named") (known1 : Plain.Known 𝓤 H A W 𝓣 1 ps·1 r·1 (claims· .2)
-            (claims· .3) "hnsr_circuit::tables::pending::count_pending") (known2 : Plain.Known 𝓤 H A W 𝓣 1 ps·2 r·2
-            (claims· .4) (claims· .5) "hnsr_circuit::tables::lookup::look_up_pending") (known3 : Plain.Known 𝓤 H A W 𝓣
-            1 ps·3 r·3 (claims· .6) (claims· .7) "hnsr_circuit::tables::lookup::circuit_by_id") (known4 : Plain.Known 𝓤
-            H A W 𝓣 0 ps·4 r·4 (claims· .8) (claims· .9) "hnsr_circuit::messages::close::close_plan") where
+            (𝓣 : Wp.Tables 𝓤 H) (known0 : Plain.Known 𝓤 H A W 𝓣 1 ps·0 r·0 (claims· .0) (claims· .1)
+            "hnsr_circuit::tables::pending::count_named") (known1 : Plain.Known 𝓤 H A W 𝓣 1 ps·1 r·1 (claims· .2)
+            (claims· .3) "hnsr_circuit::tables::lookup::look_up_named") (known2 : Plain.Known 𝓤 H A W 𝓣 1 ps·2 r·2
+            (claims· .4) (claims· .5) "hnsr_circuit::tables::lookup::circuit_by_id") (known3 : Plain.Known 𝓤 H A W 𝓣 0
+            ps·3 r·3 (claims· .6) (claims· .7) "hnsr_circuit::messages::close::close_plan") where
           pub spec : Statement.Triple 𝓤 (Wp.WpFn 𝓤 H (𝓣 .C) (𝓣 .Λ) (Function.fnOf 2 ps r xs m hs body))
               (Function.plainOf 𝓤 H A 2 ps r Pre· Post·)
           spec = Plain.t-fn-plain 𝓤 H A W 𝓣 2 ps r xs m hs body (λ κs qs bs. Φ) (λ κs qs bs bd. typed κs qs 𝓤 H A W 𝓣
-              (known0, known1, known2, known3, known4) bs bd) Pre· Post· asked
+              (known0, known1, known2, known3) bs bd) Pre· Post· asked

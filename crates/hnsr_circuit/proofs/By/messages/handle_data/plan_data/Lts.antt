@@ -23,12 +23,10 @@ use Rattle.hnsr_circuit.proofs.tables.lookup.UsageFound
 use Rattle.hnsr_circuit.proofs.tables.lookup.UsageFound.Laws as Laws''''''''
 use Rattle.hnsr_circuit.proofs.tables.places.Places
 use Rattle.hnsr_circuit.proofs.tables.places.Places.Laws as Laws'''''''''
-use Rattle.hnsr_circuit.proofs.tables.question.Question
-use Rattle.hnsr_circuit.proofs.tables.question.Question.Laws as Laws''''''''''
 use Rattle.hnsr_circuit.proofs.tables.scan.ActionQuestion
-use Rattle.hnsr_circuit.proofs.tables.scan.ActionQuestion.Laws as Laws'''''''''''
+use Rattle.hnsr_circuit.proofs.tables.scan.ActionQuestion.Laws as Laws''''''''''
 use Rattle.hnsr_circuit.proofs.tables.scan.ActionScan
-use Rattle.hnsr_circuit.proofs.tables.scan.ActionScan.Laws as Laws''''''''''''
+use Rattle.hnsr_circuit.proofs.tables.scan.ActionScan.Laws as Laws'''''''''''
 use borrow.Author.Called
 use borrow.Fn.Any
 use borrow.Fn.Args as Args'
@@ -84,8 +82,7 @@ abbrev pub r : Kinds.RK 2
 r = StructRow.result DataPlan.the-type Laws'.the-laws Laws'.the-copy Laws'.the-plain
 
 abbrev pub xs : List.List Syntax.Ty
-xs = Laws''.mir ∷ Laws'''''''''''.mir ∷ Laws''''''''''''.mir ∷ Laws.mir ∷ Laws''''''''''.mir ∷ Laws''''''''.mir ∷
-    List.[]
+xs = Laws''.mir ∷ Laws''''''''''.mir ∷ Laws'''''''''''.mir ∷ Laws.mir ∷ Laws''''''''.mir ∷ List.[]
 
 abbrev pub m : Nat.ℕ
 m = 0
@@ -103,17 +100,15 @@ ps·1 = (StructRow.param OpaqueRelayRuntime.the-type Laws''''.the-laws Laws''''.
     Outgoing.the-type Laws''.the-laws Laws''.the-copy Laws''.the-plain) ∷ List.[]
 
 abbrev pub r·1 : Kinds.RK 0
-r·1 = StructRow.result ActionQuestion.the-type Laws'''''''''''.the-laws Laws'''''''''''.the-copy
-    Laws'''''''''''.the-plain
+r·1 = StructRow.result ActionQuestion.the-type Laws''''''''''.the-laws Laws''''''''''.the-copy Laws''''''''''.the-plain
 
 abbrev pub ps·2 : List.List (Kinds.PK 1)
 ps·2 = (ShrSlice.pShrS InflightAction.row 0 tt) ∷ (StructRow.param Places.the-type Laws'''''''''.the-laws
-    Laws'''''''''.the-copy Laws'''''''''.the-plain) ∷ (StructRow.param ActionQuestion.the-type Laws'''''''''''.the-laws
-    Laws'''''''''''.the-copy Laws'''''''''''.the-plain) ∷ List.[]
+    Laws'''''''''.the-copy Laws'''''''''.the-plain) ∷ (StructRow.param ActionQuestion.the-type Laws''''''''''.the-laws
+    Laws''''''''''.the-copy Laws''''''''''.the-plain) ∷ List.[]
 
 abbrev pub r·2 : Kinds.RK 1
-r·2 = StructRow.result ActionScan.the-type Laws''''''''''''.the-laws Laws''''''''''''.the-copy
-    Laws''''''''''''.the-plain
+r·2 = StructRow.result ActionScan.the-type Laws'''''''''''.the-laws Laws'''''''''''.the-copy Laws'''''''''''.the-plain
 
 abbrev pub ps·3 : List.List (Kinds.PK 0)
 ps·3 = (StructRow.param CircuitFound.the-type Laws'''''''.the-laws Laws'''''''.the-copy Laws'''''''.the-plain) ∷
@@ -122,35 +117,29 @@ ps·3 = (StructRow.param CircuitFound.the-type Laws'''''''.the-laws Laws'''''''.
 abbrev pub r·3 : Kinds.RK 0
 r·3 = StructRow.result ReservationId.the-type Laws.the-laws Laws.the-copy Laws.the-plain
 
-abbrev pub ps·4 : List.List (Kinds.PK 0)
-ps·4 = (StructRow.param ReservationId.the-type Laws.the-laws Laws.the-copy Laws.the-plain) ∷ List.[]
+abbrev pub ps·4 : List.List (Kinds.PK 1)
+ps·4 = (ShrSlice.pShrS ReservationUsage.row 0 tt) ∷ (StructRow.param Places.the-type Laws'''''''''.the-laws
+    Laws'''''''''.the-copy Laws'''''''''.the-plain) ∷ (StructRow.param ReservationId.the-type Laws.the-laws
+    Laws.the-copy Laws.the-plain) ∷ List.[]
 
-abbrev pub r·4 : Kinds.RK 0
-r·4 = StructRow.result Question.the-type Laws''''''''''.the-laws Laws''''''''''.the-copy Laws''''''''''.the-plain
+abbrev pub r·4 : Kinds.RK 1
+r·4 = StructRow.result UsageFound.the-type Laws''''''''.the-laws Laws''''''''.the-copy Laws''''''''.the-plain
 
-abbrev pub ps·5 : List.List (Kinds.PK 1)
-ps·5 = (ShrSlice.pShrS ReservationUsage.row 0 tt) ∷ (StructRow.param Places.the-type Laws'''''''''.the-laws
-    Laws'''''''''.the-copy Laws'''''''''.the-plain) ∷ (StructRow.param Question.the-type Laws''''''''''.the-laws
-    Laws''''''''''.the-copy Laws''''''''''.the-plain) ∷ List.[]
-
-abbrev pub r·5 : Kinds.RK 1
-r·5 = StructRow.result UsageFound.the-type Laws''''''''.the-laws Laws''''''''.the-copy Laws''''''''.the-plain
-
-abbrev pub ps·6 : List.List (Kinds.PK 0)
-ps·6 = (StructRow.param OpaqueRelayRuntime.the-type Laws''''.the-laws Laws''''.the-copy Laws''''.the-plain) ∷ (StructRow.param
+abbrev pub ps·5 : List.List (Kinds.PK 0)
+ps·5 = (StructRow.param OpaqueRelayRuntime.the-type Laws''''.the-laws Laws''''.the-copy Laws''''.the-plain) ∷ (StructRow.param
     CircuitFound.the-type Laws'''''''.the-laws Laws'''''''.the-copy Laws'''''''.the-plain) ∷ (StructRow.param
     UsageFound.the-type Laws''''''''.the-laws Laws''''''''.the-copy Laws''''''''.the-plain) ∷ (StructRow.param
-    ActionScan.the-type Laws''''''''''''.the-laws Laws''''''''''''.the-copy Laws''''''''''''.the-plain) ∷ (StructRow.param
+    ActionScan.the-type Laws'''''''''''.the-laws Laws'''''''''''.the-copy Laws'''''''''''.the-plain) ∷ (StructRow.param
     HnsrPeerId.the-type Laws'''.the-laws Laws'''.the-copy Laws'''.the-plain) ∷ (StructRow.param Outgoing.the-type
     Laws''.the-laws Laws''.the-copy Laws''.the-plain) ∷ (Num.pNum Syntax.w64) ∷ List.[]
 
-abbrev pub r·6 : Kinds.RK 0
-r·6 = StructRow.result DataPlan.the-type Laws'.the-laws Laws'.the-copy Laws'.the-plain
+abbrev pub r·5 : Kinds.RK 0
+r·5 = StructRow.result DataPlan.the-type Laws'.the-laws Laws'.the-copy Laws'.the-plain
 
 abbrev pub hs : List.List Syntax.Home
 hs = Syntax.valueLocal ∷ Syntax.valueLocal ∷ Syntax.valueLocal ∷ Syntax.valueLocal ∷ Syntax.valueLocal ∷
     Syntax.valueLocal ∷ Syntax.valueLocal ∷ Syntax.valueLocal ∷ Syntax.valueLocal ∷ Syntax.valueLocal ∷
-    Syntax.valueLocal ∷ Syntax.valueLocal ∷ List.[]
+    Syntax.valueLocal ∷ List.[]
 
 abbrev b0 : Syntax.Body
 b0 = Syntax.call "hnsr_circuit::messages::message::data_on" ((Syntax.copy (Syntax.place 3 ((Syntax.field 2) ∷ List.[])))
@@ -171,51 +160,44 @@ b3 = Syntax.call "hnsr_circuit::messages::message::reservation_of" ((Syntax.copy
     (Syntax.place 9 List.[])
 
 abbrev b4 : Syntax.Body
-b4 = Syntax.call "hnsr_circuit::tables::question::at_reservation" ((Syntax.copy (Syntax.place 9 List.[])) ∷ List.[])
+b4 = Syntax.call "hnsr_circuit::tables::lookup::look_up_usage" ((Syntax.copy (Syntax.place 1 List.[])) ∷
+    (Syntax.copy (Syntax.place 3 ((Syntax.field 1) ∷ List.[]))) ∷ (Syntax.copy (Syntax.place 9 List.[])) ∷ List.[])
     (Syntax.place 10 List.[])
 
 abbrev b5 : Syntax.Body
-b5 = Syntax.call "hnsr_circuit::tables::lookup::look_up_usage" ((Syntax.copy (Syntax.place 1 List.[])) ∷
-    (Syntax.copy (Syntax.place 3 ((Syntax.field 1) ∷ List.[]))) ∷ (Syntax.copy (Syntax.place 10 List.[])) ∷ List.[])
-    (Syntax.place 11 List.[])
-
-abbrev b6 : Syntax.Body
-b6 = Syntax.call "hnsr_circuit::messages::data::data_plan" ((Syntax.copy (Syntax.place 3 ((Syntax.field 0) ∷ List.[])))
-    ∷ (Syntax.copy (Syntax.place 4 List.[])) ∷ (Syntax.copy (Syntax.place 11 List.[])) ∷
+b5 = Syntax.call "hnsr_circuit::messages::data::data_plan" ((Syntax.copy (Syntax.place 3 ((Syntax.field 0) ∷ List.[])))
+    ∷ (Syntax.copy (Syntax.place 4 List.[])) ∷ (Syntax.copy (Syntax.place 10 List.[])) ∷
     (Syntax.copy (Syntax.place 8 List.[])) ∷ (Syntax.copy (Syntax.place 3 ((Syntax.field 3) ∷ List.[]))) ∷
     (Syntax.copy (Syntax.place 6 List.[])) ∷ (Syntax.copy (Syntax.place 5 List.[])) ∷ List.[]) (Syntax.place 0 List.[])
 
+abbrev b6 : Syntax.Body
+b6 = Syntax.return
+
 abbrev b7 : Syntax.Body
-b7 = Syntax.return
+b7 = Syntax.seq b5 b6
 
 abbrev b8 : Syntax.Body
-b8 = Syntax.seq b6 b7
+b8 = Syntax.seq b4 b7
 
 abbrev b9 : Syntax.Body
-b9 = Syntax.seq b5 b8
+b9 = Syntax.seq b3 b8
 
 abbrev b10 : Syntax.Body
-b10 = Syntax.seq b4 b9
+b10 = Syntax.seq b2 b9
 
 abbrev b11 : Syntax.Body
-b11 = Syntax.seq b3 b10
+b11 = Syntax.seq b1 b10
 
 abbrev b12 : Syntax.Body
-b12 = Syntax.seq b2 b11
-
-abbrev b13 : Syntax.Body
-b13 = Syntax.seq b1 b12
-
-abbrev b14 : Syntax.Body
-b14 = Syntax.seq b0 b13
+b12 = Syntax.seq b0 b11
 
 abbrev pub body : Syntax.Body
-body = b14
+body = b12
 
 abbrev pub Claims : Type 1
 Claims = Kinds.In 0 ps·0 × Kinds.Out 0 ps·0 r·0 × Kinds.In 0 ps·1 × Kinds.Out 0 ps·1 r·1 × Kinds.In 1 ps·2 × Kinds.Out
-    1 ps·2 r·2 × Kinds.In 0 ps·3 × Kinds.Out 0 ps·3 r·3 × Kinds.In 0 ps·4 × Kinds.Out 0 ps·4 r·4 × Kinds.In 1 ps·5 ×
-    Kinds.Out 1 ps·5 r·5 × Kinds.In 0 ps·6 × Kinds.Out 0 ps·6 r·6
+    1 ps·2 r·2 × Kinds.In 0 ps·3 × Kinds.Out 0 ps·3 r·3 × Kinds.In 1 ps·4 × Kinds.Out 1 ps·4 r·4 × Kinds.In 0 ps·5 ×
+    Kinds.Out 0 ps·5 r·5
 
 abbrev e0 : Row.Entry
 e0 = (0, Rows.any-gone Laws'.mir)
@@ -239,19 +221,16 @@ abbrev e6 : Row.Entry
 e6 = (6, Rows.any-gone Laws''.mir)
 
 abbrev e7 : Row.Entry
-e7 = (7, Rows.any-gone Laws'''''''''''.mir)
+e7 = (7, Rows.any-gone Laws''''''''''.mir)
 
 abbrev e8 : Row.Entry
-e8 = (8, Rows.any-gone Laws''''''''''''.mir)
+e8 = (8, Rows.any-gone Laws'''''''''''.mir)
 
 abbrev e9 : Row.Entry
 e9 = (9, Rows.any-gone Laws.mir)
 
 abbrev e10 : Row.Entry
-e10 = (10, Rows.any-gone Laws''''''''''.mir)
-
-abbrev e11 : Row.Entry
-e11 = (11, Rows.any-gone Laws''''''''.mir)
+e10 = (10, Rows.any-gone Laws''''''''.mir)
 
 abbrev e0·1 : Row.Entry
 e0·1 = (0, Rows.whole (Declared.row DataPlan.the-type))
@@ -278,61 +257,52 @@ abbrev e9·1 : Row.Entry
 e9·1 = (9, Rows.whole (Declared.row ReservationId.the-type))
 
 abbrev e10·1 : Row.Entry
-e10·1 = (10, Rows.whole (Declared.row Question.the-type))
-
-abbrev e11·1 : Row.Entry
-e11·1 = (11, Rows.whole (Declared.row UsageFound.the-type))
+e10·1 = (10, Rows.whole (Declared.row UsageFound.the-type))
 
 abbrev pub t0 : List.List Row.Entry
-t0 = e0 ∷ e1 ∷ e2 ∷ e3 ∷ e4 ∷ e5 ∷ e6 ∷ e7 ∷ e8 ∷ e9 ∷ e10 ∷ e11 ∷ List.[]
+t0 = e0 ∷ e1 ∷ e2 ∷ e3 ∷ e4 ∷ e5 ∷ e6 ∷ e7 ∷ e8 ∷ e9 ∷ e10 ∷ List.[]
 
 abbrev pub t1 : List.List Row.Entry
-t1 = e0·1 ∷ e1 ∷ e2 ∷ e3·1 ∷ e4·1 ∷ e5·1 ∷ e6 ∷ e7 ∷ e8 ∷ e9 ∷ e10 ∷ e11 ∷ List.[]
+t1 = e0·1 ∷ e1 ∷ e2 ∷ e3·1 ∷ e4·1 ∷ e5·1 ∷ e6 ∷ e7 ∷ e8 ∷ e9 ∷ e10 ∷ List.[]
 
 abbrev pub t2 : List.List Row.Entry
-t2 = e0 ∷ e1 ∷ e2 ∷ e3 ∷ e4 ∷ e5 ∷ e6·1 ∷ e7 ∷ e8 ∷ e9 ∷ e10 ∷ e11 ∷ List.[]
+t2 = e0 ∷ e1 ∷ e2 ∷ e3 ∷ e4 ∷ e5 ∷ e6·1 ∷ e7 ∷ e8 ∷ e9 ∷ e10 ∷ List.[]
 
 abbrev pub t3 : List.List Row.Entry
-t3 = e0 ∷ e1 ∷ e2 ∷ e3 ∷ e4 ∷ e5 ∷ e6·1 ∷ e7·1 ∷ e8 ∷ e9 ∷ e10 ∷ e11 ∷ List.[]
+t3 = e0 ∷ e1 ∷ e2 ∷ e3 ∷ e4 ∷ e5 ∷ e6·1 ∷ e7·1 ∷ e8 ∷ e9 ∷ e10 ∷ List.[]
 
 abbrev pub t4 : List.List Row.Entry
-t4 = e0 ∷ e1 ∷ e2 ∷ e3 ∷ e4 ∷ e5 ∷ e6·1 ∷ e7·1 ∷ e8·1 ∷ e9 ∷ e10 ∷ e11 ∷ List.[]
+t4 = e0 ∷ e1 ∷ e2 ∷ e3 ∷ e4 ∷ e5 ∷ e6·1 ∷ e7·1 ∷ e8·1 ∷ e9 ∷ e10 ∷ List.[]
 
 abbrev pub t5 : List.List Row.Entry
-t5 = e0 ∷ e1 ∷ e2 ∷ e3 ∷ e4 ∷ e5 ∷ e6·1 ∷ e7 ∷ e8·1 ∷ e9 ∷ e10 ∷ e11 ∷ List.[]
+t5 = e0 ∷ e1 ∷ e2 ∷ e3 ∷ e4 ∷ e5 ∷ e6·1 ∷ e7 ∷ e8·1 ∷ e9 ∷ e10 ∷ List.[]
 
 abbrev pub t6 : List.List Row.Entry
-t6 = e0 ∷ e1 ∷ e2 ∷ e3 ∷ e4 ∷ e5 ∷ e6·1 ∷ e7 ∷ e8·1 ∷ e9·1 ∷ e10 ∷ e11 ∷ List.[]
+t6 = e0 ∷ e1 ∷ e2 ∷ e3 ∷ e4 ∷ e5 ∷ e6·1 ∷ e7 ∷ e8·1 ∷ e9·1 ∷ e10 ∷ List.[]
 
 abbrev pub t7 : List.List Row.Entry
-t7 = e0 ∷ e1 ∷ e2 ∷ e3 ∷ e4 ∷ e5 ∷ e6·1 ∷ e7 ∷ e8·1 ∷ e9·1 ∷ e10·1 ∷ e11 ∷ List.[]
+t7 = e0 ∷ e1 ∷ e2 ∷ e3 ∷ e4 ∷ e5 ∷ e6·1 ∷ e7 ∷ e8·1 ∷ e9·1 ∷ e10·1 ∷ List.[]
 
 abbrev pub t8 : List.List Row.Entry
-t8 = e0 ∷ e1 ∷ e2 ∷ e3 ∷ e4 ∷ e5 ∷ e6·1 ∷ e7 ∷ e8·1 ∷ e9 ∷ e10·1 ∷ e11 ∷ List.[]
+t8 = e0 ∷ e1 ∷ e2 ∷ e3 ∷ e4 ∷ e5 ∷ e6·1 ∷ e7 ∷ e8·1 ∷ e9 ∷ e10·1 ∷ List.[]
 
 abbrev pub t9 : List.List Row.Entry
-t9 = e0 ∷ e1 ∷ e2 ∷ e3 ∷ e4 ∷ e5 ∷ e6·1 ∷ e7 ∷ e8·1 ∷ e9 ∷ e10·1 ∷ e11·1 ∷ List.[]
+t9 = e0·1 ∷ e1 ∷ e2 ∷ e3 ∷ e4 ∷ e5 ∷ e6·1 ∷ e7 ∷ e8·1 ∷ e9 ∷ e10·1 ∷ List.[]
 
 abbrev pub t10 : List.List Row.Entry
-t10 = e0 ∷ e1 ∷ e2 ∷ e3 ∷ e4 ∷ e5 ∷ e6·1 ∷ e7 ∷ e8·1 ∷ e9 ∷ e10 ∷ e11·1 ∷ List.[]
+t10 = e0·1 ∷ e1 ∷ e2 ∷ e3·1 ∷ e4 ∷ e5 ∷ e6·1 ∷ e7 ∷ e8·1 ∷ e9 ∷ e10·1 ∷ List.[]
 
 abbrev pub t11 : List.List Row.Entry
-t11 = e0·1 ∷ e1 ∷ e2 ∷ e3 ∷ e4 ∷ e5 ∷ e6·1 ∷ e7 ∷ e8·1 ∷ e9 ∷ e10 ∷ e11·1 ∷ List.[]
+t11 = e0·1 ∷ e1 ∷ e2 ∷ e3·1 ∷ e4·1 ∷ e5 ∷ e6·1 ∷ e7 ∷ e8·1 ∷ e9 ∷ e10·1 ∷ List.[]
 
 abbrev pub t12 : List.List Row.Entry
-t12 = e0·1 ∷ e1 ∷ e2 ∷ e3·1 ∷ e4 ∷ e5 ∷ e6·1 ∷ e7 ∷ e8·1 ∷ e9 ∷ e10 ∷ e11·1 ∷ List.[]
+t12 = e0·1 ∷ e1 ∷ e2 ∷ e3·1 ∷ e4·1 ∷ e5 ∷ e6 ∷ e7 ∷ e8·1 ∷ e9 ∷ e10·1 ∷ List.[]
 
 abbrev pub t13 : List.List Row.Entry
-t13 = e0·1 ∷ e1 ∷ e2 ∷ e3·1 ∷ e4·1 ∷ e5 ∷ e6·1 ∷ e7 ∷ e8·1 ∷ e9 ∷ e10 ∷ e11·1 ∷ List.[]
+t13 = e0·1 ∷ e1 ∷ e2 ∷ e3·1 ∷ e4·1 ∷ e5 ∷ e6 ∷ e7 ∷ e8 ∷ e9 ∷ e10·1 ∷ List.[]
 
 abbrev pub t14 : List.List Row.Entry
-t14 = e0·1 ∷ e1 ∷ e2 ∷ e3·1 ∷ e4·1 ∷ e5 ∷ e6 ∷ e7 ∷ e8·1 ∷ e9 ∷ e10 ∷ e11·1 ∷ List.[]
-
-abbrev pub t15 : List.List Row.Entry
-t15 = e0·1 ∷ e1 ∷ e2 ∷ e3·1 ∷ e4·1 ∷ e5 ∷ e6 ∷ e7 ∷ e8 ∷ e9 ∷ e10 ∷ e11·1 ∷ List.[]
-
-abbrev pub t16 : List.List Row.Entry
-t16 = e0·1 ∷ e1 ∷ e2 ∷ e3·1 ∷ e4·1 ∷ e5 ∷ e6 ∷ e7 ∷ e8 ∷ e9 ∷ e10 ∷ e11 ∷ List.[]
+t14 = e0·1 ∷ e1 ∷ e2 ∷ e3·1 ∷ e4·1 ∷ e5 ∷ e6 ∷ e7 ∷ e8 ∷ e9 ∷ e10 ∷ List.[]
 
 abbrev pub T0 : Row.Cx
 T0 = record { locals = t0; slots = List.[] }
@@ -380,13 +350,7 @@ abbrev pub T14 : Row.Cx
 T14 = record { locals = t14; slots = List.[] }
 
 abbrev pub T15 : Row.Cx
-T15 = record { locals = t15; slots = List.[] }
-
-abbrev pub T16 : Row.Cx
-T16 = record { locals = t16; slots = List.[] }
-
-abbrev pub T17 : Row.Cx
-T17 = record { locals = t1; slots = List.[] }
+T15 = record { locals = t1; slots = List.[] }
 
 abbrev pub O0 : Typed.Outs
 O0 = record { next = Option.none; exits = List.[]; returns = Option.some T1 }
@@ -414,7 +378,7 @@ module _ (claims· : Claims) where
   )
 
   abbrev s1 : Typed.Both T2 T3
-  s1 = Call.callB ps·1 r·1 (claims· .2) (claims· .3) T2 args1 7 List.[] Laws'''''''''''.mir
+  s1 = Call.callB ps·1 r·1 (claims· .2) (claims· .3) T2 args1 7 List.[] Laws''''''''''.mir
 
   abbrev args2 : Args'.ArgsT ps·2 (T3 .locals)
   args2 = (
@@ -426,10 +390,10 @@ module _ (claims· : Claims) where
   )
 
   abbrev s2 : Typed.Both T3 T4
-  s2 = Call.callB ps·2 r·2 (claims· .4) (claims· .5) T3 args2 8 (1 ∷ List.[]) Laws''''''''''''.mir
+  s2 = Call.callB ps·2 r·2 (claims· .4) (claims· .5) T3 args2 8 (1 ∷ List.[]) Laws'''''''''''.mir
 
   abbrev s3 : Typed.Mo T4 → Typed.Mo T5
-  s3 = Scalar.n-room T4 7 Laws'''''''''''.mir
+  s3 = Scalar.n-room T4 7 Laws''''''''''.mir
 
   abbrev args4 : Args'.ArgsT ps·3 (T5 .locals)
   args4 = (record { pos = 4; st = List.[]; d = 0; at = λ x. x }, tt)
@@ -438,36 +402,27 @@ module _ (claims· : Claims) where
   s4 = Call.callB ps·3 r·3 (claims· .6) (claims· .7) T5 args4 9 List.[] Laws.mir
 
   abbrev args5 : Args'.ArgsT ps·4 (T6 .locals)
-  args5 = (record { pos = 9; st = List.[]; d = 0; at = λ x. x }, tt)
+  args5 = (
+    record { pos = 1; ty = ref0; ref = λ x. x },
+    (
+      record { pos = 3; st = (Syntax.field 1) ∷ List.[]; d = 160; at = λ x. Request.struct .as-values x .1 .0 },
+      (record { pos = 9; st = List.[]; d = 0; at = λ x. x }, tt),
+    ),
+  )
 
   abbrev s5 : Typed.Both T6 T7
-  s5 = Call.callB ps·4 r·4 (claims· .8) (claims· .9) T6 args5 10 List.[] Laws''''''''''.mir
+  s5 = Call.callB ps·4 r·4 (claims· .8) (claims· .9) T6 args5 10 (0 ∷ List.[]) Laws''''''''.mir
 
   abbrev s6 : Typed.Mo T7 → Typed.Mo T8
   s6 = Scalar.n-room T7 9 Laws.mir
 
   abbrev args7 : Args'.ArgsT ps·5 (T8 .locals)
   args7 = (
-    record { pos = 1; ty = ref0; ref = λ x. x },
-    (
-      record { pos = 3; st = (Syntax.field 1) ∷ List.[]; d = 160; at = λ x. Request.struct .as-values x .1 .0 },
-      (record { pos = 10; st = List.[]; d = 0; at = λ x. x }, tt),
-    ),
-  )
-
-  abbrev s7 : Typed.Both T8 T9
-  s7 = Call.callB ps·5 r·5 (claims· .10) (claims· .11) T8 args7 11 (0 ∷ List.[]) Laws''''''''.mir
-
-  abbrev s8 : Typed.Mo T9 → Typed.Mo T10
-  s8 = Scalar.n-room T9 10 Laws''''''''''.mir
-
-  abbrev args9 : Args'.ArgsT ps·6 (T10 .locals)
-  args9 = (
     record { pos = 3; st = (Syntax.field 0) ∷ List.[]; d = 0; at = λ x. Request.struct .as-values x .0 },
     (
       record { pos = 4; st = List.[]; d = 0; at = λ x. x },
       (
-        record { pos = 11; st = List.[]; d = 0; at = λ x. x },
+        record { pos = 10; st = List.[]; d = 0; at = λ x. x },
         (
           record { pos = 8; st = List.[]; d = 0; at = λ x. x },
           (
@@ -484,26 +439,26 @@ module _ (claims· : Claims) where
     ),
   )
 
-  abbrev s9 : Typed.Both T10 T11
-  s9 = Call.callB ps·6 r·6 (claims· .12) (claims· .13) T10 args9 0 List.[] Laws'.mir
+  abbrev s7 : Typed.Both T8 T9
+  s7 = Call.callB ps·5 r·5 (claims· .10) (claims· .11) T8 args7 0 List.[] Laws'.mir
+
+  abbrev s8 : Typed.Mo T9 → Typed.Mo T10
+  s8 = Scalar.n-room T9 3 Laws''''''.mir
+
+  abbrev s9 : Typed.Mo T10 → Typed.Mo T11
+  s9 = Scalar.n-room T10 4 Laws'''''''.mir
 
   abbrev s10 : Typed.Mo T11 → Typed.Mo T12
-  s10 = Scalar.n-room T11 3 Laws''''''.mir
+  s10 = Scalar.n-room T11 6 Laws''.mir
 
   abbrev s11 : Typed.Mo T12 → Typed.Mo T13
-  s11 = Scalar.n-room T12 4 Laws'''''''.mir
+  s11 = Scalar.n-room T12 8 Laws'''''''''''.mir
 
   abbrev s12 : Typed.Mo T13 → Typed.Mo T14
-  s12 = Scalar.n-room T13 6 Laws''.mir
+  s12 = Scalar.n-room T13 10 Laws''''''''.mir
 
   abbrev s13 : Typed.Mo T14 → Typed.Mo T15
-  s13 = Scalar.n-room T14 8 Laws''''''''''''.mir
-
-  abbrev s14 : Typed.Mo T15 → Typed.Mo T16
-  s14 = Scalar.n-room T15 11 Laws''''''''.mir
-
-  abbrev s15 : Typed.Mo T16 → Typed.Mo T17
-  s15 = Scalar.n-room T16 5 (Syntax.tyInt Syntax.w64)
+  s13 = Scalar.n-room T14 5 (Syntax.tyInt Syntax.w64)
 
   module _ (Pre· : (κs : Lifetimes.Lfts 2) → Kinds.Dens κs ps → Type 0) (Post· : (κs : Lifetimes.Lfts 2) →
       (a : Kinds.Dens κs ps) → Kinds.Plain 2 ps r κs) where
@@ -514,66 +469,59 @@ module _ (claims· : Claims) where
           : Plain.Known 𝓤 H A W 𝓣 0 ps·1 r·1 (claims· .2) (claims· .3) "hnsr_circuit::output::queue::asking") (known2 :
           Plain.Known 𝓤 H A W 𝓣 1 ps·2 r·2 (claims· .4) (claims· .5) "hnsr_circuit::tables::inflight::scan_actions") (known3
           : Plain.Known 𝓤 H A W 𝓣 0 ps·3 r·3 (claims· .6) (claims· .7)
-          "hnsr_circuit::messages::message::reservation_of") (known4 : Plain.Known 𝓤 H A W 𝓣 0 ps·4 r·4 (claims· .8)
-          (claims· .9) "hnsr_circuit::tables::question::at_reservation") (known5 : Plain.Known 𝓤 H A W 𝓣 1 ps·5 r·5
-          (claims· .10) (claims· .11) "hnsr_circuit::tables::lookup::look_up_usage") (known6 : Plain.Known 𝓤 H A W 𝓣 0
-          ps·6 r·6 (claims· .12) (claims· .13) "hnsr_circuit::messages::data::data_plan") → Statement.Triple 𝓤 (Wp.WpFn
-          𝓤 H (𝓣 .C) (𝓣 .Λ) (Function.fnOf 2 ps r xs m hs body)) (Function.plainOf 𝓤 H A 2 ps r Pre· Post·)
+          "hnsr_circuit::messages::message::reservation_of") (known4 : Plain.Known 𝓤 H A W 𝓣 1 ps·4 r·4 (claims· .8)
+          (claims· .9) "hnsr_circuit::tables::lookup::look_up_usage") (known5 : Plain.Known 𝓤 H A W 𝓣 0 ps·5 r·5
+          (claims· .10) (claims· .11) "hnsr_circuit::messages::data::data_plan") → Statement.Triple 𝓤 (Wp.WpFn 𝓤 H
+          (𝓣 .C) (𝓣 .Λ) (Function.fnOf 2 ps r xs m hs body)) (Function.plainOf 𝓤 H A 2 ps r Pre· Post·)
 
     module _ where
-      abbrev at0 : Typed.TF T17 O0
+      abbrev at0 : Typed.TF T15 O0
       at0 = Typed.atRet O0
 
-      abbrev at1 : Typed.TF T16 O0
-      at1 = λ Ψ. Typed.pass T16 T17 s15 (at0 Ψ)
+      abbrev at1 : Typed.TF T14 O0
+      at1 = λ Ψ. Typed.pass T14 T15 s13 (at0 Ψ)
 
-      abbrev at2 : Typed.TF T15 O0
-      at2 = λ Ψ. Typed.pass T15 T16 s14 (at1 Ψ)
+      abbrev at2 : Typed.TF T13 O0
+      at2 = λ Ψ. Typed.pass T13 T14 s12 (at1 Ψ)
 
-      abbrev at3 : Typed.TF T14 O0
-      at3 = λ Ψ. Typed.pass T14 T15 s13 (at2 Ψ)
+      abbrev at3 : Typed.TF T12 O0
+      at3 = λ Ψ. Typed.pass T12 T13 s11 (at2 Ψ)
 
-      abbrev at4 : Typed.TF T13 O0
-      at4 = λ Ψ. Typed.pass T13 T14 s12 (at3 Ψ)
+      abbrev at4 : Typed.TF T11 O0
+      at4 = λ Ψ. Typed.pass T11 T12 s10 (at3 Ψ)
 
-      abbrev at5 : Typed.TF T12 O0
-      at5 = λ Ψ. Typed.pass T12 T13 s11 (at4 Ψ)
+      abbrev at5 : Typed.TF T10 O0
+      at5 = λ Ψ. Typed.pass T10 T11 s9 (at4 Ψ)
 
-      abbrev at6 : Typed.TF T11 O0
-      at6 = λ Ψ. Typed.pass T11 T12 s10 (at5 Ψ)
+      abbrev at6 : Typed.TF T9 O0
+      at6 = λ Ψ. Typed.pass T9 T10 s8 (at5 Ψ)
 
-      abbrev at7 : Typed.TF T10 O0
-      at7 = λ Ψ. Typed.both s9 (at6 Ψ)
+      abbrev at7 : Typed.TF T8 O0
+      at7 = λ Ψ. Typed.both s7 (at6 Ψ)
 
-      abbrev at8 : Typed.TF T9 O0
-      at8 = λ Ψ. Typed.pass T9 T10 s8 (at7 Ψ)
+      abbrev at8 : Typed.TF T7 O0
+      at8 = λ Ψ. Typed.pass T7 T8 s6 (at7 Ψ)
 
-      abbrev at9 : Typed.TF T8 O0
-      at9 = λ Ψ. Typed.both s7 (at8 Ψ)
+      abbrev at9 : Typed.TF T6 O0
+      at9 = λ Ψ. Typed.both s5 (at8 Ψ)
 
-      abbrev at10 : Typed.TF T7 O0
-      at10 = λ Ψ. Typed.pass T7 T8 s6 (at9 Ψ)
+      abbrev at10 : Typed.TF T5 O0
+      at10 = λ Ψ. Typed.both s4 (at9 Ψ)
 
-      abbrev at11 : Typed.TF T6 O0
-      at11 = λ Ψ. Typed.both s5 (at10 Ψ)
+      abbrev at11 : Typed.TF T4 O0
+      at11 = λ Ψ. Typed.pass T4 T5 s3 (at10 Ψ)
 
-      abbrev at12 : Typed.TF T5 O0
-      at12 = λ Ψ. Typed.both s4 (at11 Ψ)
+      abbrev at12 : Typed.TF T3 O0
+      at12 = λ Ψ. Typed.both s2 (at11 Ψ)
 
-      abbrev at13 : Typed.TF T4 O0
-      at13 = λ Ψ. Typed.pass T4 T5 s3 (at12 Ψ)
+      abbrev at13 : Typed.TF T2 O0
+      at13 = λ Ψ. Typed.both s1 (at12 Ψ)
 
-      abbrev at14 : Typed.TF T3 O0
-      at14 = λ Ψ. Typed.both s2 (at13 Ψ)
-
-      abbrev at15 : Typed.TF T2 O0
-      at15 = λ Ψ. Typed.both s1 (at14 Ψ)
-
-      abbrev at16 : Typed.TF T0 O0
-      at16 = λ Ψ. Typed.both s0 (at15 Ψ)
+      abbrev at14 : Typed.TF T0 O0
+      at14 = λ Ψ. Typed.both s0 (at13 Ψ)
 
       abbrev pub Φ : Typed.TF T0 O0
-      Φ = at16
+      Φ = at14
 
       module _ {M : Type 1} (𝓤 : URA.URA M) (H : Wp.Heap 𝓤) (A : Atoms.Atoms 𝓤) (W : Kit.Given 𝓤 H A)
           (𝓣 : Wp.Tables 𝓤 H) where
@@ -582,10 +530,9 @@ module _ (claims· : Claims) where
             × Plain.Known 𝓤 H A W 𝓣 0 ps·1 r·1 (claims· .2) (claims· .3) "hnsr_circuit::output::queue::asking" ×
             Plain.Known 𝓤 H A W 𝓣 1 ps·2 r·2 (claims· .4) (claims· .5) "hnsr_circuit::tables::inflight::scan_actions" ×
             Plain.Known 𝓤 H A W 𝓣 0 ps·3 r·3 (claims· .6) (claims· .7)
-            "hnsr_circuit::messages::message::reservation_of" × Plain.Known 𝓤 H A W 𝓣 0 ps·4 r·4 (claims· .8)
-            (claims· .9) "hnsr_circuit::tables::question::at_reservation" × Plain.Known 𝓤 H A W 𝓣 1 ps·5 r·5
-            (claims· .10) (claims· .11) "hnsr_circuit::tables::lookup::look_up_usage" × Plain.Known 𝓤 H A W 𝓣 0 ps·6
-            r·6 (claims· .12) (claims· .13) "hnsr_circuit::messages::data::data_plan"
+            "hnsr_circuit::messages::message::reservation_of" × Plain.Known 𝓤 H A W 𝓣 1 ps·4 r·4 (claims· .8)
+            (claims· .9) "hnsr_circuit::tables::lookup::look_up_usage" × Plain.Known 𝓤 H A W 𝓣 0 ps·5 r·5 (claims· .10)
+            (claims· .11) "hnsr_circuit::messages::data::data_plan"
 
       module _ (κs : Lifetimes.Lfts 2) (qs : Lifetimes.Shares 2) where
         abbrev life0 : Row.Life
@@ -640,13 +587,7 @@ module _ (claims· : Claims) where
         G14 = record { locals = t14; slots = life0 ∷ life1 ∷ List.[] }
 
         abbrev G15 : Row.Cx
-        G15 = record { locals = t15; slots = life0 ∷ life1 ∷ List.[] }
-
-        abbrev G16 : Row.Cx
-        G16 = record { locals = t16; slots = life0 ∷ life1 ∷ List.[] }
-
-        abbrev G17 : Row.Cx
-        G17 = record { locals = t1; slots = life0 ∷ life1 ∷ List.[] }
+        G15 = record { locals = t1; slots = life0 ∷ life1 ∷ List.[] }
 
         abbrev Δ0 : Typed.Outs
         Δ0 = record { next = Option.none; exits = List.[]; returns = Option.some G1 }
@@ -657,44 +598,44 @@ module _ (claims· : Claims) where
           abbrev E : Wp.Env 𝓤 H
           E = Frame.EnvOf 𝓤 H ((Kinds.tyR r) ∷ (Enter.tysP ps xs)) bs
 
-          d0 : Typed.Typed 𝓤 H A 𝓣 E G17 b7 Δ0 at0
+          d0 : Typed.Typed 𝓤 H A 𝓣 E G15 b6 Δ0 at0
           d0 = Typed.t-return 𝓤 H A W 𝓣 E Δ0 tt
 
-          d1 : Typed.Typed 𝓤 H A 𝓣 E G16 b7 Δ0 at1
-          d1 = Typed.g-pre 𝓤 H A W 𝓣 E G16 G17 b7 Δ0 (Typed.pass T16 T17 s15) at0 (Scalar.g-room 𝓤 H A W E G16 5
+          d1 : Typed.Typed 𝓤 H A 𝓣 E G14 b6 Δ0 at1
+          d1 = Typed.g-pre 𝓤 H A W 𝓣 E G14 G15 b6 Δ0 (Typed.pass T14 T15 s13) at0 (Scalar.g-room 𝓤 H A W E G14 5
               (Syntax.tyInt Syntax.w64) (Scalar.room-sc 𝓤 H A W (Row.sInt Syntax.w64))) d0
 
-          d2 : Typed.Typed 𝓤 H A 𝓣 E G15 b7 Δ0 at2
-          d2 = Typed.g-pre 𝓤 H A W 𝓣 E G15 G16 b7 Δ0 (Typed.pass T15 T16 s14) at1 (Scalar.g-room 𝓤 H A W E G15 11
+          d2 : Typed.Typed 𝓤 H A 𝓣 E G13 b6 Δ0 at2
+          d2 = Typed.g-pre 𝓤 H A W 𝓣 E G13 G14 b6 Δ0 (Typed.pass T13 T14 s12) at1 (Scalar.g-room 𝓤 H A W E G13 10
               Laws''''''''.mir (Local.room-whole 𝓤 H A W (Declared.row UsageFound.the-type) Laws''''''''.mir Path.refl))
               d1
 
-          d3 : Typed.Typed 𝓤 H A 𝓣 E G14 b7 Δ0 at3
-          d3 = Typed.g-pre 𝓤 H A W 𝓣 E G14 G15 b7 Δ0 (Typed.pass T14 T15 s13) at2 (Scalar.g-room 𝓤 H A W E G14 8
-              Laws''''''''''''.mir (Local.room-whole 𝓤 H A W (Declared.row ActionScan.the-type) Laws''''''''''''.mir
+          d3 : Typed.Typed 𝓤 H A 𝓣 E G12 b6 Δ0 at3
+          d3 = Typed.g-pre 𝓤 H A W 𝓣 E G12 G13 b6 Δ0 (Typed.pass T12 T13 s11) at2 (Scalar.g-room 𝓤 H A W E G12 8
+              Laws'''''''''''.mir (Local.room-whole 𝓤 H A W (Declared.row ActionScan.the-type) Laws'''''''''''.mir
               Path.refl)) d2
 
-          d4 : Typed.Typed 𝓤 H A 𝓣 E G13 b7 Δ0 at4
-          d4 = Typed.g-pre 𝓤 H A W 𝓣 E G13 G14 b7 Δ0 (Typed.pass T13 T14 s12) at3 (Scalar.g-room 𝓤 H A W E G13 6
+          d4 : Typed.Typed 𝓤 H A 𝓣 E G11 b6 Δ0 at4
+          d4 = Typed.g-pre 𝓤 H A W 𝓣 E G11 G12 b6 Δ0 (Typed.pass T11 T12 s10) at3 (Scalar.g-room 𝓤 H A W E G11 6
               Laws''.mir (Local.room-whole 𝓤 H A W (Declared.row Outgoing.the-type) Laws''.mir Path.refl)) d3
 
-          d5 : Typed.Typed 𝓤 H A 𝓣 E G12 b7 Δ0 at5
-          d5 = Typed.g-pre 𝓤 H A W 𝓣 E G12 G13 b7 Δ0 (Typed.pass T12 T13 s11) at4 (Scalar.g-room 𝓤 H A W E G12 4
+          d5 : Typed.Typed 𝓤 H A 𝓣 E G10 b6 Δ0 at5
+          d5 = Typed.g-pre 𝓤 H A W 𝓣 E G10 G11 b6 Δ0 (Typed.pass T10 T11 s9) at4 (Scalar.g-room 𝓤 H A W E G10 4
               Laws'''''''.mir (Local.room-whole 𝓤 H A W (Declared.row CircuitFound.the-type) Laws'''''''.mir Path.refl))
               d4
 
-          d6 : Typed.Typed 𝓤 H A 𝓣 E G11 b7 Δ0 at6
-          d6 = Typed.g-pre 𝓤 H A W 𝓣 E G11 G12 b7 Δ0 (Typed.pass T11 T12 s10) at5 (Scalar.g-room 𝓤 H A W E G11 3
+          d6 : Typed.Typed 𝓤 H A 𝓣 E G9 b6 Δ0 at6
+          d6 = Typed.g-pre 𝓤 H A W 𝓣 E G9 G10 b6 Δ0 (Typed.pass T9 T10 s8) at5 (Scalar.g-room 𝓤 H A W E G9 3
               Laws''''''.mir (Local.room-whole 𝓤 H A W (Declared.row Request.the-type) Laws''''''.mir Path.refl)) d5
 
-          d7 : Typed.Typed 𝓤 H A 𝓣 E G10 b8 Δ0 at7
-          d7 = Typed.s-seq 𝓤 H A W 𝓣 E G10 G11 b6 b7 Δ0 (Typed.both s9) at6 (Plain.t-call-plain 𝓤 H A W 𝓣 0 ps·6 r·6
-              (claims· .12) (claims· .13) "hnsr_circuit::messages::data::data_plan" (known .6) E (λ pos β. β) G10 (
+          d7 : Typed.Typed 𝓤 H A 𝓣 E G8 b7 Δ0 at7
+          d7 = Typed.s-seq 𝓤 H A W 𝓣 E G8 G9 b5 b6 Δ0 (Typed.both s7) at6 (Plain.t-call-plain 𝓤 H A W 𝓣 0 ps·5 r·5
+              (claims· .10) (claims· .11) "hnsr_circuit::messages::data::data_plan" (known .5) E (λ pos β. β) G8 (
                 record { pos = 3; st = (Syntax.field 0) ∷ List.[]; d = 0; at = λ x. Request.struct .as-values x .0 },
                 (
                   record { pos = 4; st = List.[]; d = 0; at = λ x. x },
                   (
-                    record { pos = 11; st = List.[]; d = 0; at = λ x. x },
+                    record { pos = 10; st = List.[]; d = 0; at = λ x. x },
                     (
                       record { pos = 8; st = List.[]; d = 0; at = λ x. x },
                       (
@@ -709,7 +650,7 @@ module _ (claims· : Claims) where
                     ),
                   ),
                 ),
-              ) 0 List.[] (Call.sub-id 𝓤 H A W (G10 .slots)) (
+              ) 0 List.[] (Call.sub-id 𝓤 H A W (G8 .slots)) (
                 (
                   Yields'.yields-acc 𝓤 H A W (Rows.whole (Declared.row Request.the-type))
                       (Declared.row OpaqueRelayRuntime.the-type) 0 (λ x. Request.struct .as-values x .0) Path.refl (Copies.cStruct
@@ -744,7 +685,7 @@ module _ (claims· : Claims) where
                     (
                       (
                         Yields.yields-copy 𝓤 H A W (λ ρ. Unit) (Declared.row ActionScan.the-type) Path.refl (Copies.cStruct
-                            ActionScan.the-type Laws''''''''''''.the-laws Laws''''''''''''.the-copy .copy 𝓤 H A W)
+                            ActionScan.the-type Laws'''''''''''.the-laws Laws'''''''''''.the-copy .copy 𝓤 H A W)
                             (Rows.whole (Declared.row ActionScan.the-type)) (λ x. x) (λ x. x) (λ ρ told.
                             Local.mem-whole 𝓤 H A W (Declared.row ActionScan.the-type) ρ) λ ρ told. Local.whole-mem 𝓤 H
                             A W (Declared.row ActionScan.the-type) ρ,
@@ -782,14 +723,13 @@ module _ (claims· : Claims) where
                 ),
               ) (Reads.room-gone 𝓤 H A Laws'.mir) tt Path.refl) d6
 
-          d8 : Typed.Typed 𝓤 H A 𝓣 E G9 b8 Δ0 at8
-          d8 = Typed.g-pre 𝓤 H A W 𝓣 E G9 G10 b8 Δ0 (Typed.pass T9 T10 s8) at7 (Scalar.g-room 𝓤 H A W E G9 10
-              Laws''''''''''.mir (Local.room-whole 𝓤 H A W (Declared.row Question.the-type) Laws''''''''''.mir
-              Path.refl)) d7
+          d8 : Typed.Typed 𝓤 H A 𝓣 E G7 b7 Δ0 at8
+          d8 = Typed.g-pre 𝓤 H A W 𝓣 E G7 G8 b7 Δ0 (Typed.pass T7 T8 s6) at7 (Scalar.g-room 𝓤 H A W E G7 9 Laws.mir (Local.room-whole
+              𝓤 H A W (Declared.row ReservationId.the-type) Laws.mir Path.refl)) d7
 
-          d9 : Typed.Typed 𝓤 H A 𝓣 E G8 b9 Δ0 at9
-          d9 = Typed.s-seq 𝓤 H A W 𝓣 E G8 G9 b5 b8 Δ0 (Typed.both s7) at8 (Plain.t-call-plain 𝓤 H A W 𝓣 1 ps·5 r·5
-              (claims· .10) (claims· .11) "hnsr_circuit::tables::lookup::look_up_usage" (known .5) E (λ pos β. β) G8 (
+          d9 : Typed.Typed 𝓤 H A 𝓣 E G6 b8 Δ0 at9
+          d9 = Typed.s-seq 𝓤 H A W 𝓣 E G6 G7 b4 b7 Δ0 (Typed.both s5) at8 (Plain.t-call-plain 𝓤 H A W 𝓣 1 ps·4 r·4
+              (claims· .8) (claims· .9) "hnsr_circuit::tables::lookup::look_up_usage" (known .4) E (λ pos β. β) G6 (
                 record { pos = 1; ty = ref0; ref = λ x. x },
                 (
                   record {
@@ -798,9 +738,9 @@ module _ (claims· : Claims) where
                     d = 160;
                     at = λ x. Request.struct .as-values x .1 .0;
                   },
-                  (record { pos = 10; st = List.[]; d = 0; at = λ x. x }, tt),
+                  (record { pos = 9; st = List.[]; d = 0; at = λ x. x }, tt),
                 ),
-              ) 11 (0 ∷ List.[]) (Call.sub-id 𝓤 H A W (G8 .slots)) (
+              ) 10 (0 ∷ List.[]) (Call.sub-id 𝓤 H A W (G6 .slots)) (
                 ShrSlice.spares-sslice 𝓤 H A W ReservationUsage.row ref0 0,
                 Shared.reads-sslice 𝓤 H A W ReservationUsage.row ref0 0,
                 Path.refl,
@@ -821,11 +761,11 @@ module _ (claims· : Claims) where
                   ),
                   (
                     (
-                      Yields.yields-copy 𝓤 H A W (λ ρ. Unit) (Declared.row Question.the-type) Path.refl (Copies.cStruct
-                          Question.the-type Laws''''''''''.the-laws Laws''''''''''.the-copy .copy 𝓤 H A W)
-                          (Rows.whole (Declared.row Question.the-type)) (λ x. x) (λ x. x) (λ ρ told. Local.mem-whole 𝓤
-                          H A W (Declared.row Question.the-type) ρ) λ ρ told. Local.whole-mem 𝓤 H A W
-                          (Declared.row Question.the-type) ρ,
+                      Yields.yields-copy 𝓤 H A W (λ ρ. Unit) (Declared.row ReservationId.the-type) Path.refl (Copies.cStruct
+                          ReservationId.the-type Laws.the-laws Laws.the-copy .copy 𝓤 H A W)
+                          (Rows.whole (Declared.row ReservationId.the-type)) (λ x. x) (λ x. x) (λ ρ told.
+                          Local.mem-whole 𝓤 H A W (Declared.row ReservationId.the-type) ρ) λ ρ told. Local.whole-mem 𝓤
+                          H A W (Declared.row ReservationId.the-type) ρ,
                       Path.refl,
                     ),
                     tt,
@@ -833,27 +773,8 @@ module _ (claims· : Claims) where
                 ),
               ) (Reads.room-gone 𝓤 H A Laws''''''''.mir) (tt, tt) Path.refl) d8
 
-          d10 : Typed.Typed 𝓤 H A 𝓣 E G7 b9 Δ0 at10
-          d10 = Typed.g-pre 𝓤 H A W 𝓣 E G7 G8 b9 Δ0 (Typed.pass T7 T8 s6) at9 (Scalar.g-room 𝓤 H A W E G7 9 Laws.mir (Local.room-whole
-              𝓤 H A W (Declared.row ReservationId.the-type) Laws.mir Path.refl)) d9
-
-          d11 : Typed.Typed 𝓤 H A 𝓣 E G6 b10 Δ0 at11
-          d11 = Typed.s-seq 𝓤 H A W 𝓣 E G6 G7 b4 b9 Δ0 (Typed.both s5) at10 (Plain.t-call-plain 𝓤 H A W 𝓣 0 ps·4 r·4
-              (claims· .8) (claims· .9) "hnsr_circuit::tables::question::at_reservation" (known .4) E (λ pos β. β) G6
-              (record { pos = 9; st = List.[]; d = 0; at = λ x. x }, tt) 10 List.[] (Call.sub-id 𝓤 H A W (G6 .slots)) (
-                (
-                  Yields.yields-copy 𝓤 H A W (λ ρ. Unit) (Declared.row ReservationId.the-type) Path.refl (Copies.cStruct
-                      ReservationId.the-type Laws.the-laws Laws.the-copy .copy 𝓤 H A W)
-                      (Rows.whole (Declared.row ReservationId.the-type)) (λ x. x) (λ x. x) (λ ρ told. Local.mem-whole 𝓤
-                      H A W (Declared.row ReservationId.the-type) ρ) λ ρ told. Local.whole-mem 𝓤 H A W
-                      (Declared.row ReservationId.the-type) ρ,
-                  Path.refl,
-                ),
-                tt,
-              ) (Reads.room-gone 𝓤 H A Laws''''''''''.mir) tt Path.refl) d10
-
-          d12 : Typed.Typed 𝓤 H A 𝓣 E G5 b11 Δ0 at12
-          d12 = Typed.s-seq 𝓤 H A W 𝓣 E G5 G6 b3 b10 Δ0 (Typed.both s4) at11 (Plain.t-call-plain 𝓤 H A W 𝓣 0 ps·3 r·3
+          d10 : Typed.Typed 𝓤 H A 𝓣 E G5 b9 Δ0 at10
+          d10 = Typed.s-seq 𝓤 H A W 𝓣 E G5 G6 b3 b8 Δ0 (Typed.both s4) at9 (Plain.t-call-plain 𝓤 H A W 𝓣 0 ps·3 r·3
               (claims· .6) (claims· .7) "hnsr_circuit::messages::message::reservation_of" (known .3) E (λ pos β. β) G5
               (record { pos = 4; st = List.[]; d = 0; at = λ x. x }, tt) 9 List.[] (Call.sub-id 𝓤 H A W (G5 .slots)) (
                 (
@@ -865,15 +786,15 @@ module _ (claims· : Claims) where
                   Path.refl,
                 ),
                 tt,
-              ) (Reads.room-gone 𝓤 H A Laws.mir) tt Path.refl) d11
+              ) (Reads.room-gone 𝓤 H A Laws.mir) tt Path.refl) d9
 
-          d13 : Typed.Typed 𝓤 H A 𝓣 E G4 b11 Δ0 at13
-          d13 = Typed.g-pre 𝓤 H A W 𝓣 E G4 G5 b11 Δ0 (Typed.pass T4 T5 s3) at12 (Scalar.g-room 𝓤 H A W E G4 7
-              Laws'''''''''''.mir (Local.room-whole 𝓤 H A W (Declared.row ActionQuestion.the-type) Laws'''''''''''.mir
-              Path.refl)) d12
+          d11 : Typed.Typed 𝓤 H A 𝓣 E G4 b9 Δ0 at11
+          d11 = Typed.g-pre 𝓤 H A W 𝓣 E G4 G5 b9 Δ0 (Typed.pass T4 T5 s3) at10 (Scalar.g-room 𝓤 H A W E G4 7
+              Laws''''''''''.mir (Local.room-whole 𝓤 H A W (Declared.row ActionQuestion.the-type) Laws''''''''''.mir
+              Path.refl)) d10
 
-          d14 : Typed.Typed 𝓤 H A 𝓣 E G3 b12 Δ0 at14
-          d14 = Typed.s-seq 𝓤 H A W 𝓣 E G3 G4 b2 b11 Δ0 (Typed.both s2) at13 (Plain.t-call-plain 𝓤 H A W 𝓣 1 ps·2 r·2
+          d12 : Typed.Typed 𝓤 H A 𝓣 E G3 b10 Δ0 at12
+          d12 = Typed.s-seq 𝓤 H A W 𝓣 E G3 G4 b2 b9 Δ0 (Typed.both s2) at11 (Plain.t-call-plain 𝓤 H A W 𝓣 1 ps·2 r·2
               (claims· .4) (claims· .5) "hnsr_circuit::tables::inflight::scan_actions" (known .2) E (λ pos β. β) G3 (
                 record { pos = 2; ty = ref1; ref = λ x. x },
                 (
@@ -907,7 +828,7 @@ module _ (claims· : Claims) where
                   (
                     (
                       Yields.yields-copy 𝓤 H A W (λ ρ. Unit) (Declared.row ActionQuestion.the-type) Path.refl (Copies.cStruct
-                          ActionQuestion.the-type Laws'''''''''''.the-laws Laws'''''''''''.the-copy .copy 𝓤 H A W)
+                          ActionQuestion.the-type Laws''''''''''.the-laws Laws''''''''''.the-copy .copy 𝓤 H A W)
                           (Rows.whole (Declared.row ActionQuestion.the-type)) (λ x. x) (λ x. x) (λ ρ told.
                           Local.mem-whole 𝓤 H A W (Declared.row ActionQuestion.the-type) ρ) λ ρ told. Local.whole-mem 𝓤
                           H A W (Declared.row ActionQuestion.the-type) ρ,
@@ -916,10 +837,10 @@ module _ (claims· : Claims) where
                     tt,
                   ),
                 ),
-              ) (Reads.room-gone 𝓤 H A Laws''''''''''''.mir) (tt, tt) Path.refl) d13
+              ) (Reads.room-gone 𝓤 H A Laws'''''''''''.mir) (tt, tt) Path.refl) d11
 
-          d15 : Typed.Typed 𝓤 H A 𝓣 E G2 b13 Δ0 at15
-          d15 = Typed.s-seq 𝓤 H A W 𝓣 E G2 G3 b1 b12 Δ0 (Typed.both s1) at14 (Plain.t-call-plain 𝓤 H A W 𝓣 0 ps·1 r·1
+          d13 : Typed.Typed 𝓤 H A 𝓣 E G2 b11 Δ0 at13
+          d13 = Typed.s-seq 𝓤 H A W 𝓣 E G2 G3 b1 b10 Δ0 (Typed.both s1) at12 (Plain.t-call-plain 𝓤 H A W 𝓣 0 ps·1 r·1
               (claims· .2) (claims· .3) "hnsr_circuit::output::queue::asking" (known .1) E (λ pos β. β) G2 (
                 record { pos = 3; st = (Syntax.field 0) ∷ List.[]; d = 0; at = λ x. Request.struct .as-values x .0 },
                 (record { pos = 6; st = List.[]; d = 0; at = λ x. x }, tt),
@@ -948,10 +869,10 @@ module _ (claims· : Claims) where
                   ),
                   tt,
                 ),
-              ) (Reads.room-gone 𝓤 H A Laws'''''''''''.mir) tt Path.refl) d14
+              ) (Reads.room-gone 𝓤 H A Laws''''''''''.mir) tt Path.refl) d12
 
-          d16 : Typed.Typed 𝓤 H A 𝓣 E G0 b14 Δ0 at16
-          d16 = Typed.s-seq 𝓤 H A W 𝓣 E G0 G2 b0 b13 Δ0 (Typed.both s0) at15 (Plain.t-call-plain 𝓤 H A W 𝓣 0 ps·0 r·0
+          d14 : Typed.Typed 𝓤 H A 𝓣 E G0 b12 Δ0 at14
+          d14 = Typed.s-seq 𝓤 H A W 𝓣 E G0 G2 b0 b11 Δ0 (Typed.both s0) at13 (Plain.t-call-plain 𝓤 H A W 𝓣 0 ps·0 r·0
               (claims· .0) (claims· .1) "hnsr_circuit::messages::message::data_on" (known .0) E (λ pos β. β) G0 (
                 record {
                   pos = 3;
@@ -1013,10 +934,10 @@ module _ (claims· : Claims) where
                     ((Scalar.reads-sc 𝓤 H A W (Row.sInt Syntax.w64), Path.refl), tt),
                   ),
                 ),
-              ) (Reads.room-gone 𝓤 H A Laws''.mir) tt Path.refl) d15
+              ) (Reads.room-gone 𝓤 H A Laws''.mir) tt Path.refl) d13
 
-          pub typed : Typed.Typed 𝓤 H A 𝓣 E (Function.Γin 2 ps r xs m κs qs) b14 (Function.Δret 2 ps r xs m κs qs) Φ
-          typed = d16
+          pub typed : Typed.Typed 𝓤 H A 𝓣 E (Function.Γin 2 ps r xs m κs qs) b12 (Function.Δret 2 ps r xs m κs qs) Φ
+          typed = d14
 
       module _ (κs : Lifetimes.Lfts 2) where
         pub record Args : Type 0 where
@@ -1138,8 +1059,8 @@ module _ (claims· : Claims) where
       After-reservation-of·gave = λ c. Called.given ps·3 r·3 (claims· .7) T5 args4 (m4 (c .before .before)
           (After-scan-actions·gave (c .before))) (c .reservation-of)
 
-      abbrev pub Need-at-reservation-requires : Type 0
-      Need-at-reservation-requires = (c : After-reservation-of) → s5 .asks
+      abbrev pub Need-look-up-usage-requires : Type 0
+      Need-look-up-usage-requires = (c : After-reservation-of) → s5 .asks
           (m5 (c .before) (After-reservation-of·gave c))
 
       abbrev pub m6 : (before : After-reservation-of) → (given : s5 .gives
@@ -1147,150 +1068,113 @@ module _ (claims· : Claims) where
       m6 = λ before given. s5 .next (m5 (before .before) (After-reservation-of·gave before)) given
 
       module _ (before· : After-reservation-of) where
-        abbrev pub After-at-reservation·own : Type 0
-        After-at-reservation·own = Called.Called ps·4 r·4 (claims· .9) T6 args5
+        abbrev pub After-look-up-usage·own : Type 0
+        After-look-up-usage·own = Called.Called ps·4 r·4 (claims· .9) T6 args5
             (m5 (before· .before) (After-reservation-of·gave before·))
 
-      pub record After-at-reservation : Type 0 where
+      pub record After-look-up-usage : Type 0 where
         pub before : After-reservation-of
-        pub at-reservation : After-at-reservation·own before
+        pub look-up-usage : After-look-up-usage·own before
 
-      abbrev pub After-at-reservation·gave : (c : After-at-reservation) → s5 .gives (m5 (c .before .before)
+      abbrev pub After-look-up-usage·gave : (c : After-look-up-usage) → s5 .gives (m5 (c .before .before)
           (After-reservation-of·gave (c .before)))
-      After-at-reservation·gave = λ c. Called.given ps·4 r·4 (claims· .9) T6 args5 (m5 (c .before .before)
-          (After-reservation-of·gave (c .before))) (c .at-reservation)
+      After-look-up-usage·gave = λ c. Called.given ps·4 r·4 (claims· .9) T6 args5 (m5 (c .before .before)
+          (After-reservation-of·gave (c .before))) (c .look-up-usage)
 
       abbrev pub m7 : (before : After-reservation-of) → (given : s5 .gives
           (m5 (before .before) (After-reservation-of·gave before))) → Typed.Mo T8
       m7 = λ before given. s6 (m6 before given)
 
-      abbrev pub Need-look-up-usage-requires : Type 0
-      Need-look-up-usage-requires = (c : After-at-reservation) → s7 .asks
-          (m7 (c .before) (After-at-reservation·gave c))
-
-      abbrev pub m8 : (before : After-at-reservation) → (given : s7 .gives
-          (m7 (before .before) (After-at-reservation·gave before))) → Typed.Mo T9
-      m8 = λ before given. s7 .next (m7 (before .before) (After-at-reservation·gave before)) given
-
-      module _ (before· : After-at-reservation) where
-        abbrev pub After-look-up-usage·own : Type 0
-        After-look-up-usage·own = Called.Called ps·5 r·5 (claims· .11) T8 args7
-            (m7 (before· .before) (After-at-reservation·gave before·))
-
-      pub record After-look-up-usage : Type 0 where
-        pub before : After-at-reservation
-        pub look-up-usage : After-look-up-usage·own before
-
-      abbrev pub After-look-up-usage·gave : (c : After-look-up-usage) → s7 .gives (m7 (c .before .before)
-          (After-at-reservation·gave (c .before)))
-      After-look-up-usage·gave = λ c. Called.given ps·5 r·5 (claims· .11) T8 args7 (m7 (c .before .before)
-          (After-at-reservation·gave (c .before))) (c .look-up-usage)
-
-      abbrev pub m9 : (before : After-at-reservation) → (given : s7 .gives
-          (m7 (before .before) (After-at-reservation·gave before))) → Typed.Mo T10
-      m9 = λ before given. s8 (m8 before given)
-
       abbrev pub Need-data-plan-requires : Type 0
-      Need-data-plan-requires = (c : After-look-up-usage) → s9 .asks (m9 (c .before) (After-look-up-usage·gave c))
+      Need-data-plan-requires = (c : After-look-up-usage) → s7 .asks (m7 (c .before) (After-look-up-usage·gave c))
 
-      abbrev pub m10 : (before : After-look-up-usage) → (given : s9 .gives
-          (m9 (before .before) (After-look-up-usage·gave before))) → Typed.Mo T11
-      m10 = λ before given. s9 .next (m9 (before .before) (After-look-up-usage·gave before)) given
+      abbrev pub m8 : (before : After-look-up-usage) → (given : s7 .gives
+          (m7 (before .before) (After-look-up-usage·gave before))) → Typed.Mo T9
+      m8 = λ before given. s7 .next (m7 (before .before) (After-look-up-usage·gave before)) given
 
       module _ (before· : After-look-up-usage) where
         abbrev pub After-data-plan·own : Type 0
-        After-data-plan·own = Called.Called ps·6 r·6 (claims· .13) T10 args9
-            (m9 (before· .before) (After-look-up-usage·gave before·))
+        After-data-plan·own = Called.Called ps·5 r·5 (claims· .11) T8 args7
+            (m7 (before· .before) (After-look-up-usage·gave before·))
 
       pub record After-data-plan : Type 0 where
         pub before : After-look-up-usage
         pub data-plan : After-data-plan·own before
 
-      abbrev pub After-data-plan·gave : (c : After-data-plan) → s9 .gives (m9 (c .before .before)
+      abbrev pub After-data-plan·gave : (c : After-data-plan) → s7 .gives (m7 (c .before .before)
           (After-look-up-usage·gave (c .before)))
-      After-data-plan·gave = λ c. Called.given ps·6 r·6 (claims· .13) T10 args9 (m9 (c .before .before)
+      After-data-plan·gave = λ c. Called.given ps·5 r·5 (claims· .11) T8 args7 (m7 (c .before .before)
           (After-look-up-usage·gave (c .before))) (c .data-plan)
 
-      abbrev pub m11 : (before : After-look-up-usage) → (given : s9 .gives
-          (m9 (before .before) (After-look-up-usage·gave before))) → Typed.Mo T12
+      abbrev pub m9 : (before : After-look-up-usage) → (given : s7 .gives
+          (m7 (before .before) (After-look-up-usage·gave before))) → Typed.Mo T10
+      m9 = λ before given. s8 (m8 before given)
+
+      abbrev pub m10 : (before : After-look-up-usage) → (given : s7 .gives
+          (m7 (before .before) (After-look-up-usage·gave before))) → Typed.Mo T11
+      m10 = λ before given. s9 (m9 before given)
+
+      abbrev pub m11 : (before : After-look-up-usage) → (given : s7 .gives
+          (m7 (before .before) (After-look-up-usage·gave before))) → Typed.Mo T12
       m11 = λ before given. s10 (m10 before given)
 
-      abbrev pub m12 : (before : After-look-up-usage) → (given : s9 .gives
-          (m9 (before .before) (After-look-up-usage·gave before))) → Typed.Mo T13
+      abbrev pub m12 : (before : After-look-up-usage) → (given : s7 .gives
+          (m7 (before .before) (After-look-up-usage·gave before))) → Typed.Mo T13
       m12 = λ before given. s11 (m11 before given)
 
-      abbrev pub m13 : (before : After-look-up-usage) → (given : s9 .gives
-          (m9 (before .before) (After-look-up-usage·gave before))) → Typed.Mo T14
+      abbrev pub m13 : (before : After-look-up-usage) → (given : s7 .gives
+          (m7 (before .before) (After-look-up-usage·gave before))) → Typed.Mo T14
       m13 = λ before given. s12 (m12 before given)
 
-      abbrev pub m14 : (before : After-look-up-usage) → (given : s9 .gives
-          (m9 (before .before) (After-look-up-usage·gave before))) → Typed.Mo T15
+      abbrev pub m14 : (before : After-look-up-usage) → (given : s7 .gives
+          (m7 (before .before) (After-look-up-usage·gave before))) → Typed.Mo T15
       m14 = λ before given. s13 (m13 before given)
 
-      abbrev pub m15 : (before : After-look-up-usage) → (given : s9 .gives
-          (m9 (before .before) (After-look-up-usage·gave before))) → Typed.Mo T16
-      m15 = λ before given. s14 (m14 before given)
-
-      abbrev pub m16 : (before : After-look-up-usage) → (given : s9 .gives
-          (m9 (before .before) (After-look-up-usage·gave before))) → Typed.Mo T17
-      m16 = λ before given. s15 (m15 before given)
-
       abbrev pub Need-returns : Type 0
-      Need-returns = (c : After-data-plan) → Post· (c .before .before .before .before .before .before .before .κs) (dens (c
-          .before .before .before .before .before .before .before .κs) (c .before .before .before .before .before
-          .before .before .args)) (Function.resV r (c .before .before .before .before .before .before .before .κs)
-          (m16 (c .before) (After-data-plan·gave c) .0)) (Clauses.atExit (Kinds.endedOf 2 ps r) (c .before .before
-          .before .before .before .before .before .κs) (dens (c .before .before .before .before .before .before .before
-          .κs) (c .before .before .before .before .before .before .before .args)) (Enter.lastsP (c .before .before
-          .before .before .before .before .before .κs) 1 ps xs (dens (c .before .before .before .before .before .before
-          .before .κs) (c .before .before .before .before .before .before .before .args))
-          (m16 (c .before) (After-data-plan·gave c) .1)))
+      Need-returns = (c : After-data-plan) → Post· (c .before .before .before .before .before .before .κs) (dens
+          (c .before .before .before .before .before .before .κs)
+          (c .before .before .before .before .before .before .args)) (Function.resV r
+          (c .before .before .before .before .before .before .κs) (m14 (c .before) (After-data-plan·gave c) .0)) (Clauses.atExit
+          (Kinds.endedOf 2 ps r) (c .before .before .before .before .before .before .κs) (dens
+          (c .before .before .before .before .before .before .κs)
+          (c .before .before .before .before .before .before .args)) (Enter.lastsP
+          (c .before .before .before .before .before .before .κs) 1 ps xs (dens
+          (c .before .before .before .before .before .before .κs)
+          (c .before .before .before .before .before .before .args)) (m14 (c .before) (After-data-plan·gave c) .1)))
 
       module _ (data-on-requires : Need-data-on-requires) (asking-requires : Need-asking-requires)
           (scan-actions-requires : Need-scan-actions-requires) (reservation-of-requires : Need-reservation-of-requires)
-          (at-reservation-requires : Need-at-reservation-requires)
           (look-up-usage-requires : Need-look-up-usage-requires) (data-plan-requires : Need-data-plan-requires)
           (returns : Need-returns) where
-        lay7 : (c : After-data-plan) → at6 (W0 (c .before .before .before .before .before .before .before .κs) (c
-            .before .before .before .before .before .before .before .args)) (m10 (c .before) (After-data-plan·gave c))
-        lay7 = λ c. (
+        lay6 : (c : After-data-plan) → at6 (W0 (c .before .before .before .before .before .before .κs)
+            (c .before .before .before .before .before .before .args)) (m8 (c .before) (After-data-plan·gave c))
+        lay6 = λ c. (
           (Path.refl, (Path.refl, (tt, (tt, (tt, tt))))),
           returns record { before = c .before; data-plan = c .data-plan },
         )
 
-        lay6 : (c : After-look-up-usage) → at8 (W0 (c .before .before .before .before .before .before .κs)
-            (c .before .before .before .before .before .before .args)) (m8 (c .before) (After-look-up-usage·gave c))
-        lay6 = λ c. (
-          data-plan-requires record { before = c .before; look-up-usage = c .look-up-usage },
-          λ g. lay7 record {
-            before = record { before = c .before; look-up-usage = c .look-up-usage };
-            data-plan = Called.called ps·6 r·6 (claims· .13) T10 args9 (m9 (c .before) (After-look-up-usage·gave c)) g;
-          },
-        )
-
-        lay5 : (c : After-at-reservation) → at10 (W0 (c .before .before .before .before .before .κs)
-            (c .before .before .before .before .before .args)) (m6 (c .before) (After-at-reservation·gave c))
+        lay5 : (c : After-look-up-usage) → at8 (W0 (c .before .before .before .before .before .κs)
+            (c .before .before .before .before .before .args)) (m6 (c .before) (After-look-up-usage·gave c))
         lay5 = λ c. (
-          look-up-usage-requires record { before = c .before; at-reservation = c .at-reservation },
+          data-plan-requires record { before = c .before; look-up-usage = c .look-up-usage },
           λ g. lay6 record {
-            before = record { before = c .before; at-reservation = c .at-reservation };
-            look-up-usage = Called.called ps·5 r·5 (claims· .11) T8 args7
-                (m7 (c .before) (After-at-reservation·gave c)) g;
+            before = record { before = c .before; look-up-usage = c .look-up-usage };
+            data-plan = Called.called ps·5 r·5 (claims· .11) T8 args7 (m7 (c .before) (After-look-up-usage·gave c)) g;
           },
         )
 
-        lay4 : (c : After-reservation-of) → at11 (W0 (c .before .before .before .before .κs)
+        lay4 : (c : After-reservation-of) → at9 (W0 (c .before .before .before .before .κs)
             (c .before .before .before .before .args)) (m5 (c .before) (After-reservation-of·gave c))
         lay4 = λ c. (
-          at-reservation-requires record { before = c .before; reservation-of = c .reservation-of },
+          look-up-usage-requires record { before = c .before; reservation-of = c .reservation-of },
           λ g. lay5 record {
             before = record { before = c .before; reservation-of = c .reservation-of };
-            at-reservation = Called.called ps·4 r·4 (claims· .9) T6 args5
-                (m5 (c .before) (After-reservation-of·gave c)) g;
+            look-up-usage = Called.called ps·4 r·4 (claims· .9) T6 args5 (m5 (c .before) (After-reservation-of·gave c))
+                g;
           },
         )
 
-        lay3 : (c : After-scan-actions) → at13 (W0 (c .before .before .before .κs) (c .before .before .before .args))
+        lay3 : (c : After-scan-actions) → at11 (W0 (c .before .before .before .κs) (c .before .before .before .args))
             (m3 (c .before) (After-scan-actions·gave c))
         lay3 = λ c. (
           reservation-of-requires record { before = c .before; scan-actions = c .scan-actions },
@@ -1301,7 +1185,7 @@ module _ (claims· : Claims) where
           },
         )
 
-        lay2 : (c : After-asking) → at14 (W0 (c .before .before .κs) (c .before .before .args))
+        lay2 : (c : After-asking) → at12 (W0 (c .before .before .κs) (c .before .before .args))
             (m2 (c .before) (After-asking·gave c))
         lay2 = λ c. (
           scan-actions-requires record { before = c .before; asking = c .asking },
@@ -1311,7 +1195,7 @@ module _ (claims· : Claims) where
           },
         )
 
-        lay1 : (c : After-data-on) → at15 (W0 (c .before .κs) (c .before .args))
+        lay1 : (c : After-data-on) → at13 (W0 (c .before .κs) (c .before .args))
             (m1 (c .before) (After-data-on·gave c))
         lay1 = λ c. (
           asking-requires record { before = c .before; data-on = c .data-on },
@@ -1321,7 +1205,7 @@ module _ (claims· : Claims) where
           },
         )
 
-        pub laid : (c : Start) → at16 (W0 (c .κs) (c .args)) (m0 (c .κs) (c .args))
+        pub laid : (c : Start) → at14 (W0 (c .κs) (c .args)) (m0 (c .κs) (c .args))
         laid = λ c. (
           data-on-requires c,
           λ g. lay1 record {
@@ -1354,10 +1238,9 @@ module _ (claims· : Claims) where
             (claims· .3) "hnsr_circuit::output::queue::asking") (known2 : Plain.Known 𝓤 H A W 𝓣 1 ps·2 r·2 (claims· .4)
             (claims· .5) "hnsr_circuit::tables::inflight::scan_actions") (known3 : Plain.Known 𝓤 H A W 𝓣 0 ps·3 r·3
             (claims· .6) (claims· .7) "hnsr_circuit::messages::message::reservation_of") (known4 : Plain.Known 𝓤 H A W
-            𝓣 0 ps·4 r·4 (claims· .8) (claims· .9) "hnsr_circuit::tables::question::at_reservation") (known5 :
-            Plain.Known 𝓤 H A W 𝓣 1 ps·5 r·5 (claims· .10) (claims· .11) "hnsr_circuit::tables::lookup::look_up_usage") (known6
-            : Plain.Known 𝓤 H A W 𝓣 0 ps·6 r·6 (claims· .12) (claims· .13) "hnsr_circuit::messages::data::data_plan") where
+            𝓣 1 ps·4 r·4 (claims· .8) (claims· .9) "hnsr_circuit::tables::lookup::look_up_usage") (known5 : Plain.Known
+            𝓤 H A W 𝓣 0 ps·5 r·5 (claims· .10) (claims· .11) "hnsr_circuit::messages::data::data_plan") where
           pub spec : Statement.Triple 𝓤 (Wp.WpFn 𝓤 H (𝓣 .C) (𝓣 .Λ) (Function.fnOf 2 ps r xs m hs body))
               (Function.plainOf 𝓤 H A 2 ps r Pre· Post·)
           spec = Plain.t-fn-plain 𝓤 H A W 𝓣 2 ps r xs m hs body (λ κs qs bs. Φ) (λ κs qs bs bd. typed κs qs 𝓤 H A W 𝓣
-              (known0, known1, known2, known3, known4, known5, known6) bs bd) Pre· Post· asked
+              (known0, known1, known2, known3, known4, known5) bs bd) Pre· Post· asked

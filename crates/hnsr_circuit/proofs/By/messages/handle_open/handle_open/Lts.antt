@@ -265,7 +265,7 @@ b10 = Syntax.assign (Syntax.place 21 List.[]) (Syntax.aggregate ((Syntax.copy (S
     (Syntax.copy (Syntax.place 3 ((Syntax.field 1) ∷ List.[]))) ∷ List.[]))
 
 abbrev b11 : Syntax.Body
-b11 = Syntax.call "hnsr_circuit::tables::stores::drop_lapsed" ((Syntax.copy (Syntax.place 21 List.[])) ∷
+b11 = Syntax.call "hnsr_circuit::tables::ledger::drop_lapsed" ((Syntax.copy (Syntax.place 21 List.[])) ∷
     (Syntax.copy (Syntax.place 11 List.[])) ∷ (Syntax.copy (Syntax.place 6
     ((Syntax.field 2) ∷ (Syntax.field 2) ∷ List.[]))) ∷ List.[]) (Syntax.place 19 List.[])
 
@@ -1215,7 +1215,7 @@ module _ (claims· : Claims) where
           Plain.Known 𝓤 H A W 𝓣 5 ps·0 r·0 (claims· .0) (claims· .1) "hnsr_circuit::messages::handle_open::gather") (known1
           : Plain.Known 𝓤 H A W 𝓣 0 ps·1 r·1 (claims· .2) (claims· .3) "hnsr_circuit::messages::open::open_rows") (known2
           : Plain.Known 𝓤 H A W 𝓣 0 ps·2 r·2 (claims· .4) (claims· .5) "hnsr_circuit::answer::is_taken") (known3 :
-          Plain.Known 𝓤 H A W 𝓣 1 ps·3 r·3 (claims· .6) (claims· .7) "hnsr_circuit::tables::stores::drop_lapsed") (known4
+          Plain.Known 𝓤 H A W 𝓣 1 ps·3 r·3 (claims· .6) (claims· .7) "hnsr_circuit::tables::ledger::drop_lapsed") (known4
           : Plain.Known 𝓤 H A W 𝓣 6 ps·4 r·4 (claims· .8) (claims· .9)
           "hnsr_circuit::messages::handle_open::open_lapsed") (known5 : Plain.Known 𝓤 H A W 𝓣 0 ps·5 r·5 (claims· .10)
           (claims· .11) "hnsr_circuit::runtime::refused") → Statement.Triple 𝓤 (Wp.WpFn 𝓤 H (𝓣 .C) (𝓣 .Λ)
@@ -1478,7 +1478,7 @@ module _ (claims· : Claims) where
             "hnsr_circuit::messages::handle_open::gather" × Plain.Known 𝓤 H A W 𝓣 0 ps·1 r·1 (claims· .2) (claims· .3)
             "hnsr_circuit::messages::open::open_rows" × Plain.Known 𝓤 H A W 𝓣 0 ps·2 r·2 (claims· .4) (claims· .5)
             "hnsr_circuit::answer::is_taken" × Plain.Known 𝓤 H A W 𝓣 1 ps·3 r·3 (claims· .6) (claims· .7)
-            "hnsr_circuit::tables::stores::drop_lapsed" × Plain.Known 𝓤 H A W 𝓣 6 ps·4 r·4 (claims· .8) (claims· .9)
+            "hnsr_circuit::tables::ledger::drop_lapsed" × Plain.Known 𝓤 H A W 𝓣 6 ps·4 r·4 (claims· .8) (claims· .9)
             "hnsr_circuit::messages::handle_open::open_lapsed" × Plain.Known 𝓤 H A W 𝓣 0 ps·5 r·5 (claims· .10)
             (claims· .11) "hnsr_circuit::runtime::refused"
 
@@ -2799,7 +2799,7 @@ module _ (claims· : Claims) where
 
           d42 : Typed.Typed 𝓤 H A 𝓣 E G30 b35 Δ1 (at42 bs)
           d42 = Typed.s-seq 𝓤 H A W 𝓣 E G30 G31 b11 b34 Δ1 (Typed.both (s28 bs)) (at41 bs) (Plain.t-call-plain 𝓤 H A W
-              𝓣 1 ps·3 r·3 (claims· .6) (claims· .7) "hnsr_circuit::tables::stores::drop_lapsed" (known .3) E
+              𝓣 1 ps·3 r·3 (claims· .6) (claims· .7) "hnsr_circuit::tables::ledger::drop_lapsed" (known .3) E
               (λ pos β. β) G30 (
                 record { pos = 21; ty = ref2; ref = λ x. x },
                 (
@@ -5004,7 +5004,7 @@ module _ (claims· : Claims) where
             "hnsr_circuit::messages::handle_open::gather") (known1 : Plain.Known 𝓤 H A W 𝓣 0 ps·1 r·1 (claims· .2)
             (claims· .3) "hnsr_circuit::messages::open::open_rows") (known2 : Plain.Known 𝓤 H A W 𝓣 0 ps·2 r·2
             (claims· .4) (claims· .5) "hnsr_circuit::answer::is_taken") (known3 : Plain.Known 𝓤 H A W 𝓣 1 ps·3 r·3
-            (claims· .6) (claims· .7) "hnsr_circuit::tables::stores::drop_lapsed") (known4 : Plain.Known 𝓤 H A W 𝓣 6
+            (claims· .6) (claims· .7) "hnsr_circuit::tables::ledger::drop_lapsed") (known4 : Plain.Known 𝓤 H A W 𝓣 6
             ps·4 r·4 (claims· .8) (claims· .9) "hnsr_circuit::messages::handle_open::open_lapsed") (known5 :
             Plain.Known 𝓤 H A W 𝓣 0 ps·5 r·5 (claims· .10) (claims· .11) "hnsr_circuit::runtime::refused") where
           pub spec : Statement.Triple 𝓤 (Wp.WpFn 𝓤 H (𝓣 .C) (𝓣 .Λ) (Function.fnOf 8 ps r xs m hs body))

@@ -2,14 +2,16 @@
 use Prim.Native.Nat
 use Rattle.hnsr_circuit.proofs.By.RelayCircuit
 use Rattle.hnsr_circuit.proofs.StructRow
+use Rattle.hnsr_circuit.proofs.peer.HnsrPeerId
+use Rattle.hnsr_circuit.proofs.peer.HnsrPeerId.Laws
 use Rattle.hnsr_circuit.proofs.tables.places.Places
-use Rattle.hnsr_circuit.proofs.tables.places.Places.Laws
-use Rattle.hnsr_circuit.proofs.tables.question.Question
-use Rattle.hnsr_circuit.proofs.tables.question.Question.Laws as Laws'
+use Rattle.hnsr_circuit.proofs.tables.places.Places.Laws as Laws'
+use Rattle.hnsr_circuit.proofs.tables.question.RecordQuestion
+use Rattle.hnsr_circuit.proofs.tables.question.RecordQuestion.Laws as Laws''
 use Rattle.hnsr_circuit.proofs.tables.scan.Survey
-use Rattle.hnsr_circuit.proofs.tables.scan.Survey.Laws as Laws''
+use Rattle.hnsr_circuit.proofs.tables.scan.Survey.Laws as Laws'''
 use Rattle.hnsr_circuit.proofs.tables.scan.Walked
-use Rattle.hnsr_circuit.proofs.tables.scan.Walked.Laws as Laws'''
+use Rattle.hnsr_circuit.proofs.tables.scan.Walked.Laws as Laws''''
 use borrow.Author.Called
 use borrow.Author.Tests
 use borrow.Fn.Any
@@ -39,7 +41,8 @@ use borrow.Table.Row
 use borrow.Table.Rows
 use borrow.Table.Typed
 use contract.Lifetimes
-use denote.Struct.Declared
+use denote.Enum.Declared
+use denote.Struct.Declared as Declared'
 use denote.Triple.Clauses
 use denote.Triple.Statement
 use ghost.Atoms
@@ -56,14 +59,15 @@ abbrev ref0 : Syntax.Ty
 ref0 = Syntax.tyRef (Syntax.named 0) Syntax.imm RelayCircuit.to
 
 abbrev pub ps : List.List (Kinds.PK 1)
-ps = (ShrSlice.pShrS RelayCircuit.row 0 tt) ∷ (StructRow.param Places.the-type Laws.the-laws Laws.the-copy
-    Laws.the-plain) ∷ (StructRow.param Question.the-type Laws'.the-laws Laws'.the-copy Laws'.the-plain) ∷ List.[]
+ps = (ShrSlice.pShrS RelayCircuit.row 0 tt) ∷ (StructRow.param Places.the-type Laws'.the-laws Laws'.the-copy
+    Laws'.the-plain) ∷ (StructRow.enum-param RecordQuestion.the-type Laws''.the-laws Laws''.the-copy Laws''.the-plain
+    tt) ∷ (StructRow.param HnsrPeerId.the-type Laws.the-laws Laws.the-copy Laws.the-plain) ∷ List.[]
 
 abbrev pub r : Kinds.RK 1
-r = StructRow.result Survey.the-type Laws''.the-laws Laws''.the-copy Laws''.the-plain
+r = StructRow.result Survey.the-type Laws'''.the-laws Laws'''.the-copy Laws'''.the-plain
 
 abbrev pub xs : List.List Syntax.Ty
-xs = (Syntax.tyInt Syntax.w64) ∷ (Syntax.tyInt Syntax.w64) ∷ Laws'''.mir ∷ (Syntax.tyInt Syntax.w64) ∷ Laws'''.mir ∷
+xs = (Syntax.tyInt Syntax.w64) ∷ (Syntax.tyInt Syntax.w64) ∷ Laws''''.mir ∷ (Syntax.tyInt Syntax.w64) ∷ Laws''''.mir ∷
     (Syntax.tyInt Syntax.w64) ∷ RelayCircuit.ty ∷ Syntax.tyBool ∷ Syntax.tyBool ∷ (Syntax.tyInt Syntax.w64) ∷
     Syntax.tyPtr ∷ RelayCircuit.ty ∷ List.[]
 
@@ -80,7 +84,7 @@ abbrev pub ps·1 : List.List (Kinds.PK 0)
 ps·1 = List.[]
 
 abbrev pub r·1 : Kinds.RK 0
-r·1 = StructRow.result Walked.the-type Laws'''.the-laws Laws'''.the-copy Laws'''.the-plain
+r·1 = StructRow.result Walked.the-type Laws''''.the-laws Laws''''.the-copy Laws''''.the-plain
 
 abbrev pub ps·2 : List.List (Kinds.PK 0)
 ps·2 = RelayCircuit.param ∷ List.[]
@@ -95,48 +99,49 @@ abbrev pub r·3 : Kinds.RK 0
 r·3 = Num.rNum Syntax.w64
 
 abbrev pub ps·4 : List.List (Kinds.PK 0)
-ps·4 = (StructRow.param Question.the-type Laws'.the-laws Laws'.the-copy Laws'.the-plain) ∷ (StructRow.param
-    Walked.the-type Laws'''.the-laws Laws'''.the-copy Laws'''.the-plain) ∷ (StructRow.param Walked.the-type
-    Laws'''.the-laws Laws'''.the-copy Laws'''.the-plain) ∷ RelayCircuit.param ∷ (Num.pNum Syntax.w64) ∷ List.[]
+ps·4 = (StructRow.enum-param RecordQuestion.the-type Laws''.the-laws Laws''.the-copy Laws''.the-plain tt) ∷ (StructRow.param
+    HnsrPeerId.the-type Laws.the-laws Laws.the-copy Laws.the-plain) ∷ (StructRow.param Walked.the-type
+    Laws''''.the-laws Laws''''.the-copy Laws''''.the-plain) ∷ (StructRow.param Walked.the-type Laws''''.the-laws
+    Laws''''.the-copy Laws''''.the-plain) ∷ RelayCircuit.param ∷ (Num.pNum Syntax.w64) ∷ List.[]
 
 abbrev pub r·4 : Kinds.RK 0
-r·4 = StructRow.result Walked.the-type Laws'''.the-laws Laws'''.the-copy Laws'''.the-plain
+r·4 = StructRow.result Walked.the-type Laws''''.the-laws Laws''''.the-copy Laws''''.the-plain
 
 abbrev pub ps·5 : List.List (Kinds.PK 0)
-ps·5 = (Num.pNum Syntax.w64) ∷ (StructRow.param Walked.the-type Laws'''.the-laws Laws'''.the-copy Laws'''.the-plain) ∷
-    List.[]
+ps·5 = (Num.pNum Syntax.w64) ∷ (StructRow.param Walked.the-type Laws''''.the-laws Laws''''.the-copy Laws''''.the-plain)
+    ∷ List.[]
 
 abbrev pub r·5 : Kinds.RK 0
-r·5 = StructRow.result Survey.the-type Laws''.the-laws Laws''.the-copy Laws''.the-plain
+r·5 = StructRow.result Survey.the-type Laws'''.the-laws Laws'''.the-copy Laws'''.the-plain
 
 abbrev pub hs : List.List Syntax.Home
 hs = Syntax.valueLocal ∷ Syntax.valueLocal ∷ Syntax.valueLocal ∷ Syntax.valueLocal ∷ Syntax.valueLocal ∷
     Syntax.valueLocal ∷ Syntax.valueLocal ∷ Syntax.valueLocal ∷ Syntax.valueLocal ∷ Syntax.valueLocal ∷
     Syntax.valueLocal ∷ Syntax.valueLocal ∷ Syntax.valueLocal ∷ Syntax.valueLocal ∷ Syntax.valueLocal ∷
-    Syntax.valueLocal ∷ List.[]
+    Syntax.valueLocal ∷ Syntax.valueLocal ∷ List.[]
 
 abbrev b0 : Syntax.Body
-b0 = Syntax.assign (Syntax.place 4 List.[]) (Syntax.rvOpd (Syntax.copy (Syntax.place 1 ((Syntax.field 1) ∷ List.[]))))
+b0 = Syntax.assign (Syntax.place 5 List.[]) (Syntax.rvOpd (Syntax.copy (Syntax.place 1 ((Syntax.field 1) ∷ List.[]))))
 
 abbrev b1 : Syntax.Body
 b1 = Syntax.call "hns_encoding::numbers::min_usize" ((Syntax.copy (Syntax.place 2 ((Syntax.field 1) ∷ List.[]))) ∷
-    (Syntax.copy (Syntax.place 4 List.[])) ∷ List.[]) (Syntax.place 5 List.[])
+    (Syntax.copy (Syntax.place 5 List.[])) ∷ List.[]) (Syntax.place 6 List.[])
 
 abbrev b2 : Syntax.Body
-b2 = Syntax.call "hnsr_circuit::tables::scan::not_yet" List.[] (Syntax.place 6 List.[])
+b2 = Syntax.call "hnsr_circuit::tables::scan::not_yet" List.[] (Syntax.place 7 List.[])
 
 abbrev b3 : Syntax.Body
-b3 = Syntax.assign (Syntax.place 7 List.[]) (Syntax.rvOpd (Syntax.int Syntax.w64 0))
+b3 = Syntax.assign (Syntax.place 8 List.[]) (Syntax.rvOpd (Syntax.int Syntax.w64 0))
 
 abbrev b4 : Syntax.Body
-b4 = Syntax.assign (Syntax.place 8 List.[]) (Syntax.rvOpd (Syntax.copy (Syntax.place 6 List.[])))
+b4 = Syntax.assign (Syntax.place 9 List.[]) (Syntax.rvOpd (Syntax.copy (Syntax.place 7 List.[])))
 
 abbrev b5 : Syntax.Body
-b5 = Syntax.assign (Syntax.place 9 List.[]) (Syntax.rvOpd (Syntax.int Syntax.w64 0))
+b5 = Syntax.assign (Syntax.place 10 List.[]) (Syntax.rvOpd (Syntax.int Syntax.w64 0))
 
 abbrev b6 : Syntax.Body
-b6 = Syntax.assign (Syntax.place 12 List.[]) (Syntax.op2 (Syntax.lt Syntax.unsigned)
-    (Syntax.copy (Syntax.place 9 List.[])) (Syntax.copy (Syntax.place 5 List.[])))
+b6 = Syntax.assign (Syntax.place 13 List.[]) (Syntax.op2 (Syntax.lt Syntax.unsigned)
+    (Syntax.copy (Syntax.place 10 List.[])) (Syntax.copy (Syntax.place 6 List.[])))
 
 abbrev b7 : Syntax.Body
 b7 = Syntax.skip
@@ -145,40 +150,40 @@ abbrev b8 : Syntax.Body
 b8 = Syntax.exit 1
 
 abbrev b9 : Syntax.Body
-b9 = Syntax.cond (Syntax.copy (Syntax.place 12 List.[])) b7 b8
+b9 = Syntax.cond (Syntax.copy (Syntax.place 13 List.[])) b7 b8
 
 abbrev b10 : Syntax.Body
-b10 = Syntax.assign (Syntax.place 13 List.[]) (Syntax.op2 (Syntax.mul Syntax.unsigned)
-    (Syntax.copy (Syntax.place 9 List.[])) (Syntax.int Syntax.w64 360))
+b10 = Syntax.assign (Syntax.place 14 List.[]) (Syntax.op2 (Syntax.mul Syntax.unsigned)
+    (Syntax.copy (Syntax.place 10 List.[])) (Syntax.int Syntax.w64 360))
 
 abbrev b11 : Syntax.Body
-b11 = Syntax.assign (Syntax.place 14 List.[]) (Syntax.op2 Syntax.offset
-    (Syntax.copy (Syntax.place 1 ((Syntax.field 0) ∷ List.[]))) (Syntax.copy (Syntax.place 13 List.[])))
+b11 = Syntax.assign (Syntax.place 15 List.[]) (Syntax.op2 Syntax.offset
+    (Syntax.copy (Syntax.place 1 ((Syntax.field 0) ∷ List.[]))) (Syntax.copy (Syntax.place 14 List.[])))
 
 abbrev b12 : Syntax.Body
-b12 = Syntax.assign (Syntax.place 15 List.[]) (Syntax.rvOpd (Syntax.copy (Syntax.place 14
+b12 = Syntax.assign (Syntax.place 16 List.[]) (Syntax.rvOpd (Syntax.copy (Syntax.place 15
     ((Syntax.deref RelayCircuit.ty) ∷ List.[]))))
 
 abbrev b13 : Syntax.Body
-b13 = Syntax.assign (Syntax.place 10 List.[]) (Syntax.rvOpd (Syntax.copy (Syntax.place 15 List.[])))
+b13 = Syntax.assign (Syntax.place 11 List.[]) (Syntax.rvOpd (Syntax.copy (Syntax.place 16 List.[])))
 
 abbrev b14 : Syntax.Body
-b14 = Syntax.call "hnsr_circuit::records::circuits::is_circuit" ((Syntax.copy (Syntax.place 10 List.[])) ∷ List.[])
-    (Syntax.place 11 List.[])
+b14 = Syntax.call "hnsr_circuit::records::circuits::is_circuit" ((Syntax.copy (Syntax.place 11 List.[])) ∷ List.[])
+    (Syntax.place 12 List.[])
 
 abbrev b15 : Syntax.Body
-b15 = Syntax.call "hnsr_circuit::tables::scan::one_more" ((Syntax.copy (Syntax.place 7 List.[])) ∷
-    (Syntax.copy (Syntax.place 11 List.[])) ∷ List.[]) (Syntax.place 7 List.[])
+b15 = Syntax.call "hnsr_circuit::tables::scan::one_more" ((Syntax.copy (Syntax.place 8 List.[])) ∷
+    (Syntax.copy (Syntax.place 12 List.[])) ∷ List.[]) (Syntax.place 8 List.[])
 
 abbrev b16 : Syntax.Body
 b16 = Syntax.call "hnsr_circuit::tables::scan::circuit_turn" ((Syntax.copy (Syntax.place 3 List.[])) ∷
-    (Syntax.copy (Syntax.place 6 List.[])) ∷ (Syntax.copy (Syntax.place 8 List.[])) ∷
-    (Syntax.copy (Syntax.place 10 List.[])) ∷ (Syntax.copy (Syntax.place 9 List.[])) ∷ List.[])
-    (Syntax.place 8 List.[])
+    (Syntax.copy (Syntax.place 4 List.[])) ∷ (Syntax.copy (Syntax.place 7 List.[])) ∷
+    (Syntax.copy (Syntax.place 9 List.[])) ∷ (Syntax.copy (Syntax.place 11 List.[])) ∷
+    (Syntax.copy (Syntax.place 10 List.[])) ∷ List.[]) (Syntax.place 9 List.[])
 
 abbrev b17 : Syntax.Body
-b17 = Syntax.assign (Syntax.place 9 List.[]) (Syntax.op2 (Syntax.add Syntax.unsigned)
-    (Syntax.copy (Syntax.place 9 List.[])) (Syntax.int Syntax.w64 1))
+b17 = Syntax.assign (Syntax.place 10 List.[]) (Syntax.op2 (Syntax.add Syntax.unsigned)
+    (Syntax.copy (Syntax.place 10 List.[])) (Syntax.int Syntax.w64 1))
 
 abbrev b18 : Syntax.Body
 b18 = Syntax.seq b16 b17
@@ -214,8 +219,8 @@ abbrev b28 : Syntax.Body
 b28 = Syntax.block b27
 
 abbrev b29 : Syntax.Body
-b29 = Syntax.call "hnsr_circuit::tables::scan::surveyed" ((Syntax.copy (Syntax.place 7 List.[])) ∷
-    (Syntax.copy (Syntax.place 8 List.[])) ∷ List.[]) (Syntax.place 0 List.[])
+b29 = Syntax.call "hnsr_circuit::tables::scan::surveyed" ((Syntax.copy (Syntax.place 8 List.[])) ∷
+    (Syntax.copy (Syntax.place 9 List.[])) ∷ List.[]) (Syntax.place 0 List.[])
 
 abbrev b30 : Syntax.Body
 b30 = Syntax.return
@@ -253,283 +258,292 @@ Claims = Kinds.In 0 ps·0 × Kinds.Out 0 ps·0 r·0 × Kinds.In 0 ps·1 × Kinds
     Kinds.Out 0 ps·5 r·5
 
 abbrev e0 : Row.Entry
-e0 = (0, Rows.any-gone Laws''.mir)
+e0 = (0, Rows.any-gone Laws'''.mir)
 
 abbrev e1 : Row.Entry
 e1 = (1, Rows.sslice RelayCircuit.row ref0 0)
 
 abbrev e2 : Row.Entry
-e2 = (2, Rows.whole (Declared.row Places.the-type))
+e2 = (2, Rows.whole (Declared'.row Places.the-type))
 
 abbrev e3 : Row.Entry
-e3 = (3, Rows.whole (Declared.row Question.the-type))
+e3 = (3, Rows.whole (Declared.row RecordQuestion.the-type))
 
 abbrev e4 : Row.Entry
-e4 = (4, Rows.any-gone (Syntax.tyInt Syntax.w64))
+e4 = (4, Rows.whole (Declared'.row HnsrPeerId.the-type))
 
 abbrev e5 : Row.Entry
 e5 = (5, Rows.any-gone (Syntax.tyInt Syntax.w64))
 
 abbrev e6 : Row.Entry
-e6 = (6, Rows.any-gone Laws'''.mir)
+e6 = (6, Rows.any-gone (Syntax.tyInt Syntax.w64))
 
 abbrev e7 : Row.Entry
-e7 = (7, Rows.any-gone (Syntax.tyInt Syntax.w64))
+e7 = (7, Rows.any-gone Laws''''.mir)
 
 abbrev e8 : Row.Entry
-e8 = (8, Rows.any-gone Laws'''.mir)
+e8 = (8, Rows.any-gone (Syntax.tyInt Syntax.w64))
 
 abbrev e9 : Row.Entry
-e9 = (9, Rows.any-gone (Syntax.tyInt Syntax.w64))
+e9 = (9, Rows.any-gone Laws''''.mir)
 
 abbrev e10 : Row.Entry
-e10 = (10, Rows.any-gone RelayCircuit.ty)
+e10 = (10, Rows.any-gone (Syntax.tyInt Syntax.w64))
 
 abbrev e11 : Row.Entry
-e11 = (11, Rows.any-gone Syntax.tyBool)
+e11 = (11, Rows.any-gone RelayCircuit.ty)
 
 abbrev e12 : Row.Entry
 e12 = (12, Rows.any-gone Syntax.tyBool)
 
 abbrev e13 : Row.Entry
-e13 = (13, Rows.any-gone (Syntax.tyInt Syntax.w64))
+e13 = (13, Rows.any-gone Syntax.tyBool)
 
 abbrev e14 : Row.Entry
-e14 = (14, Rows.any-gone Syntax.tyPtr)
+e14 = (14, Rows.any-gone (Syntax.tyInt Syntax.w64))
 
 abbrev e15 : Row.Entry
-e15 = (15, Rows.any-gone RelayCircuit.ty)
+e15 = (15, Rows.any-gone Syntax.tyPtr)
+
+abbrev e16 : Row.Entry
+e16 = (16, Rows.any-gone RelayCircuit.ty)
 
 abbrev e0·1 : Row.Entry
-e0·1 = (0, Rows.whole (Declared.row Survey.the-type))
+e0·1 = (0, Rows.whole (Declared'.row Survey.the-type))
 
 abbrev e2·1 : Row.Entry
-e2·1 = (2, Rows.any-gone Laws.mir)
+e2·1 = (2, Rows.any-gone Laws'.mir)
 
 abbrev e3·1 : Row.Entry
-e3·1 = (3, Rows.any-gone Laws'.mir)
+e3·1 = (3, Rows.any-gone Laws''.mir)
 
 abbrev e4·1 : Row.Entry
-e4·1 = (4, Rows.sc-here (Row.sInt Syntax.w64))
+e4·1 = (4, Rows.any-gone Laws.mir)
 
 abbrev e5·1 : Row.Entry
 e5·1 = (5, Rows.sc-here (Row.sInt Syntax.w64))
 
 abbrev e6·1 : Row.Entry
-e6·1 = (6, Rows.whole (Declared.row Walked.the-type))
+e6·1 = (6, Rows.sc-here (Row.sInt Syntax.w64))
 
 abbrev e7·1 : Row.Entry
-e7·1 = (7, Rows.sc-here (Row.sInt Syntax.w64))
+e7·1 = (7, Rows.whole (Declared'.row Walked.the-type))
 
 abbrev e8·1 : Row.Entry
-e8·1 = (8, Rows.whole (Declared.row Walked.the-type))
+e8·1 = (8, Rows.sc-here (Row.sInt Syntax.w64))
 
 abbrev e9·1 : Row.Entry
-e9·1 = (9, Rows.sc-here (Row.sInt Syntax.w64))
+e9·1 = (9, Rows.whole (Declared'.row Walked.the-type))
+
+abbrev e10·1 : Row.Entry
+e10·1 = (10, Rows.sc-here (Row.sInt Syntax.w64))
+
+abbrev e13·1 : Row.Entry
+e13·1 = (13, Rows.sc-here Row.sBool)
+
+abbrev e14·1 : Row.Entry
+e14·1 = (14, Rows.sc-here (Row.sInt Syntax.w64))
+
+abbrev e15·1 : Row.Entry
+e15·1 = (15, Rows.sc-here Row.sPtr)
+
+abbrev e16·1 : Row.Entry
+e16·1 = (16, RelayCircuit.held)
+
+abbrev e11·1 : Row.Entry
+e11·1 = (11, RelayCircuit.held)
 
 abbrev e12·1 : Row.Entry
 e12·1 = (12, Rows.sc-here Row.sBool)
-
-abbrev e13·1 : Row.Entry
-e13·1 = (13, Rows.sc-here (Row.sInt Syntax.w64))
-
-abbrev e14·1 : Row.Entry
-e14·1 = (14, Rows.sc-here Row.sPtr)
-
-abbrev e15·1 : Row.Entry
-e15·1 = (15, RelayCircuit.held)
-
-abbrev e10·1 : Row.Entry
-e10·1 = (10, RelayCircuit.held)
-
-abbrev e11·1 : Row.Entry
-e11·1 = (11, Rows.sc-here Row.sBool)
 
 abbrev pub t0 : List.List Row.Entry
 t0 = e0 ∷ e1 ∷ e2 ∷ e3 ∷ e4 ∷ e5 ∷ e6 ∷ e7 ∷ e8 ∷ e9 ∷ e10 ∷ e11 ∷ e12 ∷ e13 ∷ e14 ∷ e15 ∷ List.[]
 
 abbrev pub t1 : List.List Row.Entry
-t1 = e0·1 ∷ e1 ∷ e2·1 ∷ e3·1 ∷ e4 ∷ e5 ∷ e6 ∷ e7 ∷ e8 ∷ e9 ∷ e10 ∷ e11 ∷ e12 ∷ e13 ∷ e14 ∷ e15 ∷ List.[]
+t1 = e16 ∷ List.[]
 
 abbrev pub t2 : List.List Row.Entry
-t2 = e0 ∷ e1 ∷ e2 ∷ e3 ∷ e4·1 ∷ e5 ∷ e6 ∷ e7 ∷ e8 ∷ e9 ∷ e10 ∷ e11 ∷ e12 ∷ e13 ∷ e14 ∷ e15 ∷ List.[]
+t2 = e0·1 ∷ e1 ∷ e2·1 ∷ e3·1 ∷ e4·1 ∷ e5 ∷ e6 ∷ e7 ∷ e8 ∷ e9 ∷ e10 ∷ e11 ∷ e12 ∷ e13 ∷ e14 ∷ e15 ∷ List.[]
 
 abbrev pub t3 : List.List Row.Entry
-t3 = e0 ∷ e1 ∷ e2 ∷ e3 ∷ e4·1 ∷ e5·1 ∷ e6 ∷ e7 ∷ e8 ∷ e9 ∷ e10 ∷ e11 ∷ e12 ∷ e13 ∷ e14 ∷ e15 ∷ List.[]
+t3 = e0 ∷ e1 ∷ e2 ∷ e3 ∷ e4 ∷ e5·1 ∷ e6 ∷ e7 ∷ e8 ∷ e9 ∷ e10 ∷ e11 ∷ e12 ∷ e13 ∷ e14 ∷ e15 ∷ List.[]
 
 abbrev pub t4 : List.List Row.Entry
-t4 = e0 ∷ e1 ∷ e2·1 ∷ e3 ∷ e4·1 ∷ e5·1 ∷ e6 ∷ e7 ∷ e8 ∷ e9 ∷ e10 ∷ e11 ∷ e12 ∷ e13 ∷ e14 ∷ e15 ∷ List.[]
+t4 = e0 ∷ e1 ∷ e2 ∷ e3 ∷ e4 ∷ e5·1 ∷ e6·1 ∷ e7 ∷ e8 ∷ e9 ∷ e10 ∷ e11 ∷ e12 ∷ e13 ∷ e14 ∷ e15 ∷ List.[]
 
 abbrev pub t5 : List.List Row.Entry
-t5 = e0 ∷ e1 ∷ e2·1 ∷ e3 ∷ e4·1 ∷ e5·1 ∷ e6·1 ∷ e7 ∷ e8 ∷ e9 ∷ e10 ∷ e11 ∷ e12 ∷ e13 ∷ e14 ∷ e15 ∷ List.[]
+t5 = e0 ∷ e1 ∷ e2·1 ∷ e3 ∷ e4 ∷ e5·1 ∷ e6·1 ∷ e7 ∷ e8 ∷ e9 ∷ e10 ∷ e11 ∷ e12 ∷ e13 ∷ e14 ∷ e15 ∷ List.[]
 
 abbrev pub t6 : List.List Row.Entry
-t6 = e0 ∷ e1 ∷ e2·1 ∷ e3 ∷ e4·1 ∷ e5·1 ∷ e6·1 ∷ e7·1 ∷ e8 ∷ e9 ∷ e10 ∷ e11 ∷ e12 ∷ e13 ∷ e14 ∷ e15 ∷ List.[]
+t6 = e0 ∷ e1 ∷ e2·1 ∷ e3 ∷ e4 ∷ e5·1 ∷ e6·1 ∷ e7·1 ∷ e8 ∷ e9 ∷ e10 ∷ e11 ∷ e12 ∷ e13 ∷ e14 ∷ e15 ∷ List.[]
 
 abbrev pub t7 : List.List Row.Entry
-t7 = e0 ∷ e1 ∷ e2·1 ∷ e3 ∷ e4·1 ∷ e5·1 ∷ e6·1 ∷ e7·1 ∷ e8·1 ∷ e9 ∷ e10 ∷ e11 ∷ e12 ∷ e13 ∷ e14 ∷ e15 ∷ List.[]
+t7 = e0 ∷ e1 ∷ e2·1 ∷ e3 ∷ e4 ∷ e5·1 ∷ e6·1 ∷ e7·1 ∷ e8·1 ∷ e9 ∷ e10 ∷ e11 ∷ e12 ∷ e13 ∷ e14 ∷ e15 ∷ List.[]
 
 abbrev pub t8 : List.List Row.Entry
-t8 = e0 ∷ e1 ∷ e2·1 ∷ e3 ∷ e4·1 ∷ e5·1 ∷ e6·1 ∷ e7·1 ∷ e8·1 ∷ e9·1 ∷ e10 ∷ e11 ∷ e12 ∷ e13 ∷ e14 ∷ e15 ∷ List.[]
+t8 = e0 ∷ e1 ∷ e2·1 ∷ e3 ∷ e4 ∷ e5·1 ∷ e6·1 ∷ e7·1 ∷ e8·1 ∷ e9·1 ∷ e10 ∷ e11 ∷ e12 ∷ e13 ∷ e14 ∷ e15 ∷ List.[]
 
 abbrev pub t9 : List.List Row.Entry
-t9 = e0 ∷ e1 ∷ e2·1 ∷ e3·1 ∷ e4·1 ∷ e5·1 ∷ e6 ∷ e7·1 ∷ e8·1 ∷ e9·1 ∷ e10 ∷ e11 ∷ e12 ∷ e13 ∷ e14 ∷ e15 ∷ List.[]
+t9 = e0 ∷ e1 ∷ e2·1 ∷ e3 ∷ e4 ∷ e5·1 ∷ e6·1 ∷ e7·1 ∷ e8·1 ∷ e9·1 ∷ e10·1 ∷ e11 ∷ e12 ∷ e13 ∷ e14 ∷ e15 ∷ List.[]
 
 abbrev pub t10 : List.List Row.Entry
-t10 = e0 ∷ e1 ∷ e2·1 ∷ e3 ∷ e4·1 ∷ e5·1 ∷ e6·1 ∷ e7·1 ∷ e8·1 ∷ e9·1 ∷ e10 ∷ e11 ∷ e12·1 ∷ e13 ∷ e14 ∷ e15 ∷ List.[]
+t10 = e0 ∷ e1 ∷ e2·1 ∷ e3·1 ∷ e4·1 ∷ e5·1 ∷ e6·1 ∷ e7 ∷ e8·1 ∷ e9·1 ∷ e10·1 ∷ e11 ∷ e12 ∷ e13 ∷ e14 ∷ e15 ∷ List.[]
 
 abbrev pub t11 : List.List Row.Entry
-t11 = e0 ∷ e1 ∷ e2·1 ∷ e3·1 ∷ e4·1 ∷ e5·1 ∷ e6·1 ∷ e7·1 ∷ e8·1 ∷ e9·1 ∷ e10 ∷ e11 ∷ e12·1 ∷ e13 ∷ e14 ∷ e15 ∷ List.[]
+t11 = e0 ∷ e1 ∷ e2·1 ∷ e3 ∷ e4 ∷ e5·1 ∷ e6·1 ∷ e7·1 ∷ e8·1 ∷ e9·1 ∷ e10·1 ∷ e11 ∷ e12 ∷ e13·1 ∷ e14 ∷ e15 ∷ List.[]
 
 abbrev pub t12 : List.List Row.Entry
-t12 = e0 ∷ e1 ∷ e2·1 ∷ e3·1 ∷ e4·1 ∷ e5·1 ∷ e6 ∷ e7·1 ∷ e8·1 ∷ e9·1 ∷ e10 ∷ e11 ∷ e12·1 ∷ e13 ∷ e14 ∷ e15 ∷ List.[]
+t12 = e0 ∷ e1 ∷ e2·1 ∷ e3·1 ∷ e4 ∷ e5·1 ∷ e6·1 ∷ e7·1 ∷ e8·1 ∷ e9·1 ∷ e10·1 ∷ e11 ∷ e12 ∷ e13·1 ∷ e14 ∷ e15 ∷ List.[]
 
 abbrev pub t13 : List.List Row.Entry
-t13 = e0 ∷ e1 ∷ e2·1 ∷ e3 ∷ e4·1 ∷ e5·1 ∷ e6·1 ∷ e7·1 ∷ e8·1 ∷ e9·1 ∷ e10 ∷ e11 ∷ e12 ∷ e13·1 ∷ e14 ∷ e15 ∷ List.[]
+t13 = e0 ∷ e1 ∷ e2·1 ∷ e3·1 ∷ e4·1 ∷ e5·1 ∷ e6·1 ∷ e7·1 ∷ e8·1 ∷ e9·1 ∷ e10·1 ∷ e11 ∷ e12 ∷ e13·1 ∷ e14 ∷ e15 ∷ List.[]
 
 abbrev pub t14 : List.List Row.Entry
-t14 = e0 ∷ e1 ∷ e2·1 ∷ e3 ∷ e4·1 ∷ e5·1 ∷ e6·1 ∷ e7·1 ∷ e8·1 ∷ e9·1 ∷ e10 ∷ e11 ∷ e12 ∷ e13·1 ∷ e14·1 ∷ e15 ∷ List.[]
+t14 = e0 ∷ e1 ∷ e2·1 ∷ e3·1 ∷ e4·1 ∷ e5·1 ∷ e6·1 ∷ e7 ∷ e8·1 ∷ e9·1 ∷ e10·1 ∷ e11 ∷ e12 ∷ e13·1 ∷ e14 ∷ e15 ∷ List.[]
 
 abbrev pub t15 : List.List Row.Entry
-t15 = e0 ∷ e1 ∷ e2·1 ∷ e3 ∷ e4·1 ∷ e5·1 ∷ e6·1 ∷ e7·1 ∷ e8·1 ∷ e9·1 ∷ e10 ∷ e11 ∷ e12 ∷ e13·1 ∷ e14·1 ∷ e15·1 ∷ List.[]
+t15 = e0 ∷ e1 ∷ e2·1 ∷ e3 ∷ e4 ∷ e5·1 ∷ e6·1 ∷ e7·1 ∷ e8·1 ∷ e9·1 ∷ e10·1 ∷ e11 ∷ e12 ∷ e13 ∷ e14·1 ∷ e15 ∷ List.[]
 
 abbrev pub t16 : List.List Row.Entry
-t16 = e0 ∷ e1 ∷ e2·1 ∷ e3 ∷ e4·1 ∷ e5·1 ∷ e6·1 ∷ e7·1 ∷ e8·1 ∷ e9·1 ∷ e10 ∷ e11 ∷ e12 ∷ e13 ∷ e14·1 ∷ e15·1 ∷ List.[]
+t16 = e0 ∷ e1 ∷ e2·1 ∷ e3 ∷ e4 ∷ e5·1 ∷ e6·1 ∷ e7·1 ∷ e8·1 ∷ e9·1 ∷ e10·1 ∷ e11 ∷ e12 ∷ e13 ∷ e14·1 ∷ e15·1 ∷ List.[]
 
 abbrev pub t17 : List.List Row.Entry
-t17 = e0 ∷ e1 ∷ e2·1 ∷ e3 ∷ e4·1 ∷ e5·1 ∷ e6·1 ∷ e7·1 ∷ e8·1 ∷ e9·1 ∷ e10 ∷ e11 ∷ e12 ∷ e13 ∷ e14 ∷ e15·1 ∷ List.[]
+t17 = e16·1 ∷ List.[]
 
 abbrev pub t18 : List.List Row.Entry
-t18 = e0 ∷ e1 ∷ e2·1 ∷ e3 ∷ e4·1 ∷ e5·1 ∷ e6·1 ∷ e7·1 ∷ e8·1 ∷ e9·1 ∷ e10·1 ∷ e11 ∷ e12 ∷ e13 ∷ e14 ∷ e15·1 ∷ List.[]
+t18 = e0 ∷ e1 ∷ e2·1 ∷ e3 ∷ e4 ∷ e5·1 ∷ e6·1 ∷ e7·1 ∷ e8·1 ∷ e9·1 ∷ e10·1 ∷ e11 ∷ e12 ∷ e13 ∷ e14 ∷ e15·1 ∷ List.[]
 
 abbrev pub t19 : List.List Row.Entry
-t19 = e0 ∷ e1 ∷ e2·1 ∷ e3 ∷ e4·1 ∷ e5·1 ∷ e6·1 ∷ e7·1 ∷ e8·1 ∷ e9·1 ∷ e10·1 ∷ e11 ∷ e12 ∷ e13 ∷ e14 ∷ e15 ∷ List.[]
+t19 = e0 ∷ e1 ∷ e2·1 ∷ e3 ∷ e4 ∷ e5·1 ∷ e6·1 ∷ e7·1 ∷ e8·1 ∷ e9·1 ∷ e10·1 ∷ e11·1 ∷ e12 ∷ e13 ∷ e14 ∷ e15 ∷ List.[]
 
 abbrev pub t20 : List.List Row.Entry
-t20 = e0 ∷ e1 ∷ e2·1 ∷ e3 ∷ e4·1 ∷ e5·1 ∷ e6·1 ∷ e7·1 ∷ e8·1 ∷ e9·1 ∷ e10·1 ∷ e11·1 ∷ e12 ∷ e13 ∷ e14 ∷ e15 ∷ List.[]
+t20 = e0 ∷ e1 ∷ e2·1 ∷ e3 ∷ e4 ∷ e5·1 ∷ e6·1 ∷ e7·1 ∷ e8·1 ∷ e9·1 ∷ e10·1 ∷ e11·1 ∷ e12·1 ∷ e13 ∷ e14 ∷ e15 ∷ List.[]
 
 abbrev pub t21 : List.List Row.Entry
-t21 = e0 ∷ e1 ∷ e2·1 ∷ e3 ∷ e4·1 ∷ e5·1 ∷ e6·1 ∷ e7·1 ∷ e8·1 ∷ e9·1 ∷ e10 ∷ e11·1 ∷ e12 ∷ e13 ∷ e14 ∷ e15 ∷ List.[]
+t21 = e0 ∷ e1 ∷ e2·1 ∷ e3 ∷ e4 ∷ e5·1 ∷ e6·1 ∷ e7·1 ∷ e8·1 ∷ e9·1 ∷ e10·1 ∷ e11 ∷ e12·1 ∷ e13 ∷ e14 ∷ e15 ∷ List.[]
 
 abbrev pub t22 : List.List Row.Entry
-t22 = e0·1 ∷ e1 ∷ e2·1 ∷ e3·1 ∷ e4·1 ∷ e5·1 ∷ e6 ∷ e7·1 ∷ e8·1 ∷ e9·1 ∷ e10 ∷ e11 ∷ e12 ∷ e13 ∷ e14 ∷ e15 ∷ List.[]
+t22 = e0·1 ∷ e1 ∷ e2·1 ∷ e3·1 ∷ e4·1 ∷ e5·1 ∷ e6·1 ∷ e7 ∷ e8·1 ∷ e9·1 ∷ e10·1 ∷ e11 ∷ e12 ∷ e13 ∷ e14 ∷ e15 ∷ List.[]
 
 abbrev pub t23 : List.List Row.Entry
-t23 = e0·1 ∷ e1 ∷ e2·1 ∷ e3·1 ∷ e4 ∷ e5·1 ∷ e6 ∷ e7·1 ∷ e8·1 ∷ e9·1 ∷ e10 ∷ e11 ∷ e12 ∷ e13 ∷ e14 ∷ e15 ∷ List.[]
+t23 = e0·1 ∷ e1 ∷ e2·1 ∷ e3·1 ∷ e4·1 ∷ e5 ∷ e6·1 ∷ e7 ∷ e8·1 ∷ e9·1 ∷ e10·1 ∷ e11 ∷ e12 ∷ e13 ∷ e14 ∷ e15 ∷ List.[]
 
 abbrev pub t24 : List.List Row.Entry
-t24 = e0·1 ∷ e1 ∷ e2·1 ∷ e3·1 ∷ e4 ∷ e5 ∷ e6 ∷ e7·1 ∷ e8·1 ∷ e9·1 ∷ e10 ∷ e11 ∷ e12 ∷ e13 ∷ e14 ∷ e15 ∷ List.[]
+t24 = e0·1 ∷ e1 ∷ e2·1 ∷ e3·1 ∷ e4·1 ∷ e5 ∷ e6 ∷ e7 ∷ e8·1 ∷ e9·1 ∷ e10·1 ∷ e11 ∷ e12 ∷ e13 ∷ e14 ∷ e15 ∷ List.[]
 
 abbrev pub t25 : List.List Row.Entry
-t25 = e0·1 ∷ e1 ∷ e2·1 ∷ e3·1 ∷ e4 ∷ e5 ∷ e6 ∷ e7 ∷ e8·1 ∷ e9·1 ∷ e10 ∷ e11 ∷ e12 ∷ e13 ∷ e14 ∷ e15 ∷ List.[]
+t25 = e0·1 ∷ e1 ∷ e2·1 ∷ e3·1 ∷ e4·1 ∷ e5 ∷ e6 ∷ e7 ∷ e8 ∷ e9·1 ∷ e10·1 ∷ e11 ∷ e12 ∷ e13 ∷ e14 ∷ e15 ∷ List.[]
 
 abbrev pub t26 : List.List Row.Entry
-t26 = e0·1 ∷ e1 ∷ e2·1 ∷ e3·1 ∷ e4 ∷ e5 ∷ e6 ∷ e7 ∷ e8 ∷ e9·1 ∷ e10 ∷ e11 ∷ e12 ∷ e13 ∷ e14 ∷ e15 ∷ List.[]
+t26 = e0·1 ∷ e1 ∷ e2·1 ∷ e3·1 ∷ e4·1 ∷ e5 ∷ e6 ∷ e7 ∷ e8 ∷ e9 ∷ e10·1 ∷ e11 ∷ e12 ∷ e13 ∷ e14 ∷ e15 ∷ List.[]
 
 abbrev pub T0 : Row.Cx
-T0 = record { locals = t0; slots = List.[] }
+T0 = record { locals = List._++_ t0 t1; slots = List.[] }
 
 abbrev pub T1 : Row.Cx
-T1 = record { locals = t1; slots = List.[] }
+T1 = record { locals = List._++_ t2 t1; slots = List.[] }
 
 abbrev pub T2 : Row.Cx
-T2 = record { locals = t2; slots = List.[] }
+T2 = record { locals = List._++_ t3 t1; slots = List.[] }
 
 abbrev pub T3 : Row.Cx
-T3 = record { locals = t3; slots = List.[] }
+T3 = record { locals = List._++_ t4 t1; slots = List.[] }
 
 abbrev pub T4 : Row.Cx
-T4 = record { locals = t4; slots = List.[] }
+T4 = record { locals = List._++_ t5 t1; slots = List.[] }
 
 abbrev pub T5 : Row.Cx
-T5 = record { locals = t5; slots = List.[] }
+T5 = record { locals = List._++_ t6 t1; slots = List.[] }
 
 abbrev pub T6 : Row.Cx
-T6 = record { locals = t6; slots = List.[] }
+T6 = record { locals = List._++_ t7 t1; slots = List.[] }
 
 abbrev pub T7 : Row.Cx
-T7 = record { locals = t7; slots = List.[] }
+T7 = record { locals = List._++_ t8 t1; slots = List.[] }
 
 abbrev pub T8 : Row.Cx
-T8 = record { locals = t8; slots = List.[] }
+T8 = record { locals = List._++_ t9 t1; slots = List.[] }
 
 abbrev pub T9 : Row.Cx
-T9 = record { locals = t9; slots = List.[] }
+T9 = record { locals = List._++_ t10 t1; slots = List.[] }
 
 abbrev pub T10 : Row.Cx
-T10 = record { locals = t10; slots = List.[] }
+T10 = record { locals = List._++_ t11 t1; slots = List.[] }
 
 abbrev pub T11 : Row.Cx
-T11 = record { locals = t8; slots = List.[] }
+T11 = record { locals = List._++_ t9 t1; slots = List.[] }
 
 abbrev pub T12 : Row.Cx
-T12 = record { locals = t8; slots = List.[] }
+T12 = record { locals = List._++_ t9 t1; slots = List.[] }
 
 abbrev pub T13 : Row.Cx
-T13 = record { locals = t11; slots = List.[] }
+T13 = record { locals = List._++_ t12 t1; slots = List.[] }
 
 abbrev pub T14 : Row.Cx
-T14 = record { locals = t12; slots = List.[] }
+T14 = record { locals = List._++_ t13 t1; slots = List.[] }
 
 abbrev pub T15 : Row.Cx
-T15 = record { locals = t9; slots = List.[] }
+T15 = record { locals = List._++_ t14 t1; slots = List.[] }
 
 abbrev pub T16 : Row.Cx
-T16 = record { locals = t13; slots = List.[] }
+T16 = record { locals = List._++_ t10 t1; slots = List.[] }
 
 abbrev pub T17 : Row.Cx
-T17 = record { locals = t14; slots = List.[] }
+T17 = record { locals = List._++_ t15 t1; slots = List.[] }
 
 abbrev pub T18 : Row.Cx
-T18 = record { locals = t15; slots = List.[] }
+T18 = record { locals = List._++_ t16 t1; slots = List.[] }
 
 abbrev pub T19 : Row.Cx
-T19 = record { locals = t16; slots = List.[] }
+T19 = record { locals = List._++_ t16 t17; slots = List.[] }
 
 abbrev pub T20 : Row.Cx
-T20 = record { locals = t17; slots = List.[] }
+T20 = record { locals = List._++_ t18 t17; slots = List.[] }
 
 abbrev pub T21 : Row.Cx
-T21 = record { locals = t18; slots = List.[] }
+T21 = record { locals = List._++_ t9 t17; slots = List.[] }
 
 abbrev pub T22 : Row.Cx
-T22 = record { locals = t19; slots = List.[] }
+T22 = record { locals = List._++_ t19 t17; slots = List.[] }
 
 abbrev pub T23 : Row.Cx
-T23 = record { locals = t20; slots = List.[] }
+T23 = record { locals = List._++_ t19 t1; slots = List.[] }
 
 abbrev pub T24 : Row.Cx
-T24 = record { locals = t20; slots = List.[] }
+T24 = record { locals = List._++_ t20 t1; slots = List.[] }
 
 abbrev pub T25 : Row.Cx
-T25 = record { locals = t20; slots = List.[] }
+T25 = record { locals = List._++_ t20 t1; slots = List.[] }
 
 abbrev pub T26 : Row.Cx
-T26 = record { locals = t21; slots = List.[] }
+T26 = record { locals = List._++_ t20 t1; slots = List.[] }
 
 abbrev pub T27 : Row.Cx
-T27 = record { locals = t21; slots = List.[] }
+T27 = record { locals = List._++_ t21 t1; slots = List.[] }
 
 abbrev pub T28 : Row.Cx
-T28 = record { locals = t8; slots = List.[] }
+T28 = record { locals = List._++_ t21 t1; slots = List.[] }
 
 abbrev pub T29 : Row.Cx
-T29 = record { locals = t22; slots = List.[] }
+T29 = record { locals = List._++_ t9 t1; slots = List.[] }
 
 abbrev pub T30 : Row.Cx
-T30 = record { locals = t23; slots = List.[] }
+T30 = record { locals = List._++_ t22 t1; slots = List.[] }
 
 abbrev pub T31 : Row.Cx
-T31 = record { locals = t24; slots = List.[] }
+T31 = record { locals = List._++_ t23 t1; slots = List.[] }
 
 abbrev pub T32 : Row.Cx
-T32 = record { locals = t25; slots = List.[] }
+T32 = record { locals = List._++_ t24 t1; slots = List.[] }
 
 abbrev pub T33 : Row.Cx
-T33 = record { locals = t26; slots = List.[] }
+T33 = record { locals = List._++_ t25 t1; slots = List.[] }
 
 abbrev pub T34 : Row.Cx
-T34 = record { locals = t1; slots = List.[] }
+T34 = record { locals = List._++_ t26 t1; slots = List.[] }
+
+abbrev pub T35 : Row.Cx
+T35 = record { locals = List._++_ t2 t1; slots = List.[] }
 
 abbrev pub O0 : Typed.Outs
 O0 = record { next = Option.none; exits = List.[]; returns = Option.some T1 }
@@ -547,152 +561,160 @@ abbrev pub O4 : Typed.Outs
 O4 = Typed.withNext (Option.some T11) O3
 
 abbrev pub InvT-loop : Type 1
-InvT-loop = List.List (RelayCircuit.row .Denot) → Rows.whole (Declared.row Question.the-type) .Mod → Rows.sc-here
-    (Row.sInt Syntax.w64) .Mod → Rows.sc-here (Row.sInt Syntax.w64) .Mod → Rows.whole (Declared.row Walked.the-type)
-    .Mod → Rows.sc-here (Row.sInt Syntax.w64) .Mod → Rows.whole (Declared.row Walked.the-type) .Mod → Rows.sc-here
-    (Row.sInt Syntax.w64) .Mod → Rows.sc-here (Row.sInt Syntax.w64) .Mod → Rows.whole (Declared.row Walked.the-type)
-    .Mod → Rows.sc-here (Row.sInt Syntax.w64) .Mod → Type 0
+InvT-loop = List.List (RelayCircuit.row .Denot) → Rows.whole (Declared.row RecordQuestion.the-type) .Mod → Rows.whole
+    (Declared'.row HnsrPeerId.the-type) .Mod → Rows.sc-here (Row.sInt Syntax.w64) .Mod → Rows.sc-here
+    (Row.sInt Syntax.w64) .Mod → Rows.whole (Declared'.row Walked.the-type) .Mod → Rows.sc-here (Row.sInt Syntax.w64)
+    .Mod → Rows.whole (Declared'.row Walked.the-type) .Mod → Rows.sc-here (Row.sInt Syntax.w64) .Mod → Rows.sc-here
+    (Row.sInt Syntax.w64) .Mod → Rows.whole (Declared'.row Walked.the-type) .Mod → Rows.sc-here (Row.sInt Syntax.w64)
+    .Mod → Type 0
 
 abbrev pub MeasureT-loop : Type 0
-MeasureT-loop = List.List (RelayCircuit.row .Denot) → Rows.whole (Declared.row Question.the-type) .Mod → Rows.sc-here
-    (Row.sInt Syntax.w64) .Mod → Rows.sc-here (Row.sInt Syntax.w64) .Mod → Rows.whole (Declared.row Walked.the-type)
-    .Mod → Rows.sc-here (Row.sInt Syntax.w64) .Mod → Rows.whole (Declared.row Walked.the-type) .Mod → Rows.sc-here
-    (Row.sInt Syntax.w64) .Mod → Rows.sc-here (Row.sInt Syntax.w64) .Mod → Rows.whole (Declared.row Walked.the-type)
-    .Mod → Rows.sc-here (Row.sInt Syntax.w64) .Mod → Nat.ℕ
+MeasureT-loop = List.List (RelayCircuit.row .Denot) → Rows.whole (Declared.row RecordQuestion.the-type) .Mod →
+    Rows.whole (Declared'.row HnsrPeerId.the-type) .Mod → Rows.sc-here (Row.sInt Syntax.w64) .Mod → Rows.sc-here
+    (Row.sInt Syntax.w64) .Mod → Rows.whole (Declared'.row Walked.the-type) .Mod → Rows.sc-here (Row.sInt Syntax.w64)
+    .Mod → Rows.whole (Declared'.row Walked.the-type) .Mod → Rows.sc-here (Row.sInt Syntax.w64) .Mod → Rows.sc-here
+    (Row.sInt Syntax.w64) .Mod → Rows.whole (Declared'.row Walked.the-type) .Mod → Rows.sc-here (Row.sInt Syntax.w64)
+    .Mod → Nat.ℕ
 
 module _ (claims· : Claims) where
   abbrev s0 : Typed.Mo T0 → Typed.Mo T2
-  s0 = Scalar.n-use T0 (Scalar.oFld 1 ((Syntax.field 1) ∷ List.[]) (Syntax.tyInt Syntax.w64) 8 Shared.lenV) 4
+  s0 = Scalar.n-use T0 (Scalar.oFld 1 ((Syntax.field 1) ∷ List.[]) (Syntax.tyInt Syntax.w64) 8 Shared.lenV) 5
       (Rows.sc-here (Row.sInt Syntax.w64)) (Row.sInt Syntax.w64 .of)
 
   abbrev args1 : Args'.ArgsT ps·0 (T2 .locals)
-  args1 = (Num.vFld 2 ((Syntax.field 1) ∷ List.[]) 8 λ x. Places.struct .as-values x .1 .0, (Num.vAt 4 λ x. x, tt))
+  args1 = (Num.vFld 2 ((Syntax.field 1) ∷ List.[]) 8 λ x. Places.struct .as-values x .1 .0, (Num.vAt 5 λ x. x, tt))
 
   abbrev s1 : Typed.Both T2 T3
-  s1 = Call.callB ps·0 r·0 (claims· .0) (claims· .1) T2 args1 5 List.[] (Syntax.tyInt Syntax.w64)
+  s1 = Call.callB ps·0 r·0 (claims· .0) (claims· .1) T2 args1 6 List.[] (Syntax.tyInt Syntax.w64)
 
   abbrev s2 : Typed.Mo T3 → Typed.Mo T4
-  s2 = Scalar.n-room T3 2 Laws.mir
+  s2 = Scalar.n-room T3 2 Laws'.mir
 
   abbrev s3 : Typed.Both T4 T5
-  s3 = Call.callB ps·1 r·1 (claims· .2) (claims· .3) T4 tt 6 List.[] Laws'''.mir
+  s3 = Call.callB ps·1 r·1 (claims· .2) (claims· .3) T4 tt 7 List.[] Laws''''.mir
 
   abbrev s4 : Typed.Mo T5 → Typed.Mo T6
-  s4 = Scalar.n-use T5 (Scalar.oInt Syntax.w64 0) 7 (Rows.sc-here (Row.sInt Syntax.w64)) (Row.sInt Syntax.w64 .of)
+  s4 = Scalar.n-use T5 (Scalar.oInt Syntax.w64 0) 8 (Rows.sc-here (Row.sInt Syntax.w64)) (Row.sInt Syntax.w64 .of)
 
   abbrev s5 : Typed.Mo T6 → Typed.Mo T7
-  s5 = LocalCopy.n-val-copy T6 6 8 (Declared.row Walked.the-type) (Rows.whole (Declared.row Walked.the-type))
-      (Rows.whole (Declared.row Walked.the-type)) (λ x. x) (λ x. x) λ x. x
+  s5 = LocalCopy.n-val-copy T6 7 9 (Declared'.row Walked.the-type) (Rows.whole (Declared'.row Walked.the-type))
+      (Rows.whole (Declared'.row Walked.the-type)) (λ x. x) (λ x. x) λ x. x
 
   abbrev s6 : Typed.Mo T7 → Typed.Mo T8
-  s6 = Scalar.n-use T7 (Scalar.oInt Syntax.w64 0) 9 (Rows.sc-here (Row.sInt Syntax.w64)) (Row.sInt Syntax.w64 .of)
+  s6 = Scalar.n-use T7 (Scalar.oInt Syntax.w64 0) 10 (Rows.sc-here (Row.sInt Syntax.w64)) (Row.sInt Syntax.w64 .of)
 
   abbrev s7 : Typed.Asks T8 T10
-  s7 = Scalar.k-op2 T8 (Syntax.lt Syntax.unsigned) (Scalar.oAt 9 (Syntax.tyInt Syntax.w64)
-      (Row.valS (Row.sInt Syntax.w64))) (Scalar.oAt 5 (Syntax.tyInt Syntax.w64) (Row.valS (Row.sInt Syntax.w64))) 12
+  s7 = Scalar.k-op2 T8 (Syntax.lt Syntax.unsigned) (Scalar.oAt 10 (Syntax.tyInt Syntax.w64)
+      (Row.valS (Row.sInt Syntax.w64))) (Scalar.oAt 6 (Syntax.tyInt Syntax.w64) (Row.valS (Row.sInt Syntax.w64))) 13
       (Rows.sc-here Row.sBool) (Row.sBool .of)
 
   abbrev s8 : Typed.Mo T10 → Typed.Mo T12
-  s8 = Scalar.n-room T10 12 Syntax.tyBool
+  s8 = Scalar.n-room T10 13 Syntax.tyBool
 
   abbrev s9 : Typed.Mo T10 → Typed.Mo T13
-  s9 = Scalar.n-room T10 3 Laws'.mir
+  s9 = Scalar.n-room T10 3 Laws''.mir
 
   abbrev s10 : Typed.Mo T13 → Typed.Mo T14
-  s10 = Scalar.n-room T13 6 Laws'''.mir
+  s10 = Scalar.n-room T13 4 Laws.mir
 
   abbrev s11 : Typed.Mo T14 → Typed.Mo T15
-  s11 = Scalar.n-room T14 12 Syntax.tyBool
+  s11 = Scalar.n-room T14 7 Laws''''.mir
 
-  abbrev s12 : Typed.Asks T11 T16
-  s12 = Scalar.k-op2 T11 (Syntax.mul Syntax.unsigned) (Scalar.oAt 9 (Syntax.tyInt Syntax.w64)
-      (Row.valS (Row.sInt Syntax.w64))) (Scalar.oInt Syntax.w64 360) 13 (Rows.sc-here (Row.sInt Syntax.w64))
+  abbrev s12 : Typed.Mo T15 → Typed.Mo T16
+  s12 = Scalar.n-room T15 13 Syntax.tyBool
+
+  abbrev s13 : Typed.Asks T11 T17
+  s13 = Scalar.k-op2 T11 (Syntax.mul Syntax.unsigned) (Scalar.oAt 10 (Syntax.tyInt Syntax.w64)
+      (Row.valS (Row.sInt Syntax.w64))) (Scalar.oInt Syntax.w64 360) 14 (Rows.sc-here (Row.sInt Syntax.w64))
       (Row.sInt Syntax.w64 .of)
 
-  abbrev s13 : Typed.Asks T16 T17
-  s13 = Scalar.k-op2 T16 Syntax.offset (Scalar.oFld 1 ((Syntax.field 0) ∷ List.[]) ref0 0 Reads'.ptrVal) (Scalar.oAt 13
-      (Syntax.tyInt Syntax.w64) (Row.valS (Row.sInt Syntax.w64))) 14 (Rows.sc-here Row.sPtr) (Row.sPtr .of)
+  abbrev s14 : Typed.Asks T17 T18
+  s14 = Scalar.k-op2 T17 Syntax.offset (Scalar.oFld 1 ((Syntax.field 0) ∷ List.[]) ref0 0 Reads'.ptrVal) (Scalar.oAt 14
+      (Syntax.tyInt Syntax.w64) (Row.valS (Row.sInt Syntax.w64))) 15 (Rows.sc-here Row.sPtr) (Row.sPtr .of)
 
-  abbrev s14 : Typed.Both T17 T18
-  s14 = Move.k-shs-copy-out RelayCircuit.row T17 1 14 15 0 ref0 Row.off RelayCircuit.held (Shared.bySize 360)
-      (λ u. u .1 .1 .1 .1 .1 .1 .1 .1 .1 .0) (λ x. x) RelayCircuit.none (λ x. Unit) (λ x. x) λ x. x
-
-  abbrev s15 : Typed.Mo T18 → Typed.Mo T19
-  s15 = Scalar.n-room T18 13 (Syntax.tyInt Syntax.w64)
+  abbrev s15 : Typed.Both T18 T19
+  s15 = Move.k-shs-copy-out RelayCircuit.row T18 1 15 16 0 ref0 Row.off RelayCircuit.held (Shared.bySize 360)
+      (λ u. u .1 .1 .1 .1 .1 .1 .1 .1 .1 .1 .0) (λ x. x) RelayCircuit.none (λ x. Unit) (λ x. x) λ x. x
 
   abbrev s16 : Typed.Mo T19 → Typed.Mo T20
-  s16 = Scalar.n-room T19 14 Syntax.tyPtr
+  s16 = Scalar.n-room T19 14 (Syntax.tyInt Syntax.w64)
 
   abbrev s17 : Typed.Mo T20 → Typed.Mo T21
-  s17 = LocalCopy.n-val-copy T20 15 10 RelayCircuit.row RelayCircuit.held RelayCircuit.held (λ x. x) (λ x. x) λ x. x
+  s17 = Scalar.n-room T20 15 Syntax.tyPtr
 
   abbrev s18 : Typed.Mo T21 → Typed.Mo T22
-  s18 = Scalar.n-room T21 15 RelayCircuit.ty
+  s18 = LocalCopy.n-val-copy T21 16 11 RelayCircuit.row RelayCircuit.held RelayCircuit.held (λ x. x) (λ x. x) λ x. x
 
-  abbrev args19 : Args'.ArgsT ps·2 (T22 .locals)
-  args19 = (record { pos = 10; st = List.[]; d = 0; at = λ x. x }, tt)
+  abbrev s19 : Typed.Mo T22 → Typed.Mo T23
+  s19 = Scalar.n-room T22 16 RelayCircuit.ty
 
-  abbrev s19 : Typed.Both T22 T23
-  s19 = Call.callB ps·2 r·2 (claims· .4) (claims· .5) T22 args19 11 List.[] Syntax.tyBool
-
-  abbrev args20 : Args'.ArgsT ps·3 (T23 .locals)
-  args20 = (Num.vAt 7 λ x. x, (Bool.bAt 11 λ x. x, tt))
+  abbrev args20 : Args'.ArgsT ps·2 (T23 .locals)
+  args20 = (record { pos = 11; st = List.[]; d = 0; at = λ x. x }, tt)
 
   abbrev s20 : Typed.Both T23 T24
-  s20 = Call.callB ps·3 r·3 (claims· .6) (claims· .7) T23 args20 7 List.[] (Syntax.tyInt Syntax.w64)
+  s20 = Call.callB ps·2 r·2 (claims· .4) (claims· .5) T23 args20 12 List.[] Syntax.tyBool
 
-  abbrev args21 : Args'.ArgsT ps·4 (T24 .locals)
-  args21 = (
+  abbrev args21 : Args'.ArgsT ps·3 (T24 .locals)
+  args21 = (Num.vAt 8 λ x. x, (Bool.bAt 12 λ x. x, tt))
+
+  abbrev s21 : Typed.Both T24 T25
+  s21 = Call.callB ps·3 r·3 (claims· .6) (claims· .7) T24 args21 8 List.[] (Syntax.tyInt Syntax.w64)
+
+  abbrev args22 : Args'.ArgsT ps·4 (T25 .locals)
+  args22 = (
     record { pos = 3; st = List.[]; d = 0; at = λ x. x },
     (
-      record { pos = 6; st = List.[]; d = 0; at = λ x. x },
+      record { pos = 4; st = List.[]; d = 0; at = λ x. x },
       (
-        record { pos = 8; st = List.[]; d = 0; at = λ x. x },
-        (record { pos = 10; st = List.[]; d = 0; at = λ x. x }, (Num.vAt 9 λ x. x, tt)),
+        record { pos = 7; st = List.[]; d = 0; at = λ x. x },
+        (
+          record { pos = 9; st = List.[]; d = 0; at = λ x. x },
+          (record { pos = 11; st = List.[]; d = 0; at = λ x. x }, (Num.vAt 10 λ x. x, tt)),
+        ),
       ),
     ),
   )
 
-  abbrev s21 : Typed.Both T24 T25
-  s21 = Call.callB ps·4 r·4 (claims· .8) (claims· .9) T24 args21 8 List.[] Laws'''.mir
+  abbrev s22 : Typed.Both T25 T26
+  s22 = Call.callB ps·4 r·4 (claims· .8) (claims· .9) T25 args22 9 List.[] Laws''''.mir
 
-  abbrev s22 : Typed.Mo T25 → Typed.Mo T26
-  s22 = Scalar.n-room T25 10 RelayCircuit.ty
+  abbrev s23 : Typed.Mo T26 → Typed.Mo T27
+  s23 = Scalar.n-room T26 11 RelayCircuit.ty
 
-  abbrev s23 : Typed.Asks T26 T27
-  s23 = Scalar.k-op2 T26 (Syntax.add Syntax.unsigned) (Scalar.oAt 9 (Syntax.tyInt Syntax.w64)
-      (Row.valS (Row.sInt Syntax.w64))) (Scalar.oInt Syntax.w64 1) 9 (Rows.sc-here (Row.sInt Syntax.w64))
+  abbrev s24 : Typed.Asks T27 T28
+  s24 = Scalar.k-op2 T27 (Syntax.add Syntax.unsigned) (Scalar.oAt 10 (Syntax.tyInt Syntax.w64)
+      (Row.valS (Row.sInt Syntax.w64))) (Scalar.oInt Syntax.w64 1) 10 (Rows.sc-here (Row.sInt Syntax.w64))
       (Row.sInt Syntax.w64 .of)
 
-  abbrev s24 : Typed.Mo T27 → Typed.Mo T28
-  s24 = Scalar.n-room T27 11 Syntax.tyBool
+  abbrev s25 : Typed.Mo T28 → Typed.Mo T29
+  s25 = Scalar.n-room T28 12 Syntax.tyBool
 
-  abbrev args25 : Args'.ArgsT ps·5 (T9 .locals)
-  args25 = (Num.vAt 7 λ x. x, (record { pos = 8; st = List.[]; d = 0; at = λ x. x }, tt))
+  abbrev args26 : Args'.ArgsT ps·5 (T9 .locals)
+  args26 = (Num.vAt 8 λ x. x, (record { pos = 9; st = List.[]; d = 0; at = λ x. x }, tt))
 
-  abbrev s25 : Typed.Both T9 T29
-  s25 = Call.callB ps·5 r·5 (claims· .10) (claims· .11) T9 args25 0 List.[] Laws''.mir
-
-  abbrev s26 : Typed.Mo T29 → Typed.Mo T30
-  s26 = Scalar.n-room T29 4 (Syntax.tyInt Syntax.w64)
+  abbrev s26 : Typed.Both T9 T30
+  s26 = Call.callB ps·5 r·5 (claims· .10) (claims· .11) T9 args26 0 List.[] Laws'''.mir
 
   abbrev s27 : Typed.Mo T30 → Typed.Mo T31
   s27 = Scalar.n-room T30 5 (Syntax.tyInt Syntax.w64)
 
   abbrev s28 : Typed.Mo T31 → Typed.Mo T32
-  s28 = Scalar.n-room T31 7 (Syntax.tyInt Syntax.w64)
+  s28 = Scalar.n-room T31 6 (Syntax.tyInt Syntax.w64)
 
   abbrev s29 : Typed.Mo T32 → Typed.Mo T33
-  s29 = Scalar.n-room T32 8 Laws'''.mir
+  s29 = Scalar.n-room T32 8 (Syntax.tyInt Syntax.w64)
 
   abbrev s30 : Typed.Mo T33 → Typed.Mo T34
-  s30 = Scalar.n-room T33 9 (Syntax.tyInt Syntax.w64)
+  s30 = Scalar.n-room T33 9 Laws''''.mir
 
-  abbrev put0 : Rows.sc-here (Row.sInt Syntax.w64) .Mod × Rows.whole (Declared.row Walked.the-type) .Mod × Rows.sc-here
-      (Row.sInt Syntax.w64) .Mod → Typed.Mo T8 → Typed.Mo T8
-  put0 = λ vs u. Row.set 9 (9, Rows.sc-here (Row.sInt Syntax.w64)) (vs .2) (T8 .locals) (Row.set 8
-      (8, Rows.whole (Declared.row Walked.the-type)) (vs .1) (T8 .locals) (Row.set 7
-      (7, Rows.sc-here (Row.sInt Syntax.w64)) (vs .0) (T8 .locals) u))
+  abbrev s31 : Typed.Mo T34 → Typed.Mo T35
+  s31 = Scalar.n-room T34 10 (Syntax.tyInt Syntax.w64)
+
+  abbrev put0 : Rows.sc-here (Row.sInt Syntax.w64) .Mod × Rows.whole (Declared'.row Walked.the-type) .Mod ×
+      Rows.sc-here (Row.sInt Syntax.w64) .Mod → Typed.Mo T8 → Typed.Mo T8
+  put0 = λ vs u. Row.set 10 (10, Rows.sc-here (Row.sInt Syntax.w64)) (vs .2) (T8 .locals) (Row.set 9
+      (9, Rows.whole (Declared'.row Walked.the-type)) (vs .1) (T8 .locals) (Row.set 8
+      (8, Rows.sc-here (Row.sInt Syntax.w64)) (vs .0) (T8 .locals) u))
 
   module _ (Pre· : (κs : Lifetimes.Lfts 1) → Kinds.Dens κs ps → Type 0) (Post· : (κs : Lifetimes.Lfts 1) →
       (a : Kinds.Dens κs ps) → Kinds.Plain 1 ps r κs) where
@@ -715,121 +737,124 @@ module _ (claims· : Claims) where
       abbrev at1 : Typed.TF T10 O4
       at1 = λ Ψ. Typed.pass T10 T12 s8 (at0 Ψ)
 
-      abbrev at2 : Typed.TF T15 O4
+      abbrev at2 : Typed.TF T16 O4
       at2 = Typed.atExit 1 O4
 
-      abbrev at3 : Typed.TF T14 O4
-      at3 = λ Ψ. Typed.pass T14 T15 s11 (at2 Ψ)
+      abbrev at3 : Typed.TF T15 O4
+      at3 = λ Ψ. Typed.pass T15 T16 s12 (at2 Ψ)
 
-      abbrev at4 : Typed.TF T13 O4
-      at4 = λ Ψ. Typed.pass T13 T14 s10 (at3 Ψ)
+      abbrev at4 : Typed.TF T14 O4
+      at4 = λ Ψ. Typed.pass T14 T15 s11 (at3 Ψ)
 
-      abbrev at5 : Typed.TF T10 O4
-      at5 = λ Ψ. Typed.pass T10 T13 s9 (at4 Ψ)
+      abbrev at5 : Typed.TF T13 O4
+      at5 = λ Ψ. Typed.pass T13 T14 s10 (at4 Ψ)
 
       abbrev at6 : Typed.TF T10 O4
-      at6 = Scalar.Φcond T10 O4 12 (λ x. x) at1 at5
+      at6 = λ Ψ. Typed.pass T10 T13 s9 (at5 Ψ)
 
-      abbrev at7 : Typed.TF T26 O3
-      at7 = λ Ψ. Typed.ask s23 (Typed.pass T27 T28 s24 (Typed.atNext O3 Ψ))
+      abbrev at7 : Typed.TF T10 O4
+      at7 = Scalar.Φcond T10 O4 13 (λ x. x) at1 at6
 
-      abbrev at8 : Typed.TF T25 O3
-      at8 = λ Ψ. Typed.pass T25 T26 s22 (at7 Ψ)
+      abbrev at8 : Typed.TF T27 O3
+      at8 = λ Ψ. Typed.ask s24 (Typed.pass T28 T29 s25 (Typed.atNext O3 Ψ))
 
-      abbrev at9 : Typed.TF T24 O3
-      at9 = λ Ψ. Typed.both s21 (at8 Ψ)
+      abbrev at9 : Typed.TF T26 O3
+      at9 = λ Ψ. Typed.pass T26 T27 s23 (at8 Ψ)
 
-      abbrev at10 : Typed.TF T23 O3
-      at10 = λ Ψ. Typed.both s20 (at9 Ψ)
+      abbrev at10 : Typed.TF T25 O3
+      at10 = λ Ψ. Typed.both s22 (at9 Ψ)
 
-      abbrev at11 : Typed.TF T22 O3
-      at11 = λ Ψ. Typed.both s19 (at10 Ψ)
+      abbrev at11 : Typed.TF T24 O3
+      at11 = λ Ψ. Typed.both s21 (at10 Ψ)
 
-      abbrev at12 : Typed.TF T21 O3
-      at12 = λ Ψ. Typed.pass T21 T22 s18 (at11 Ψ)
+      abbrev at12 : Typed.TF T23 O3
+      at12 = λ Ψ. Typed.both s20 (at11 Ψ)
 
-      abbrev at13 : Typed.TF T20 O3
-      at13 = λ Ψ. Typed.pass T20 T21 s17 (at12 Ψ)
+      abbrev at13 : Typed.TF T22 O3
+      at13 = λ Ψ. Typed.pass T22 T23 s19 (at12 Ψ)
 
-      abbrev at14 : Typed.TF T19 O3
-      at14 = λ Ψ. Typed.pass T19 T20 s16 (at13 Ψ)
+      abbrev at14 : Typed.TF T21 O3
+      at14 = λ Ψ. Typed.pass T21 T22 s18 (at13 Ψ)
 
-      abbrev at15 : Typed.TF T18 O3
-      at15 = λ Ψ. Typed.pass T18 T19 s15 (at14 Ψ)
+      abbrev at15 : Typed.TF T20 O3
+      at15 = λ Ψ. Typed.pass T20 T21 s17 (at14 Ψ)
 
-      abbrev at16 : Typed.TF T17 O3
-      at16 = λ Ψ. Typed.both s14 (at15 Ψ)
+      abbrev at16 : Typed.TF T19 O3
+      at16 = λ Ψ. Typed.pass T19 T20 s16 (at15 Ψ)
 
-      abbrev at17 : Typed.TF T16 O3
-      at17 = λ Ψ. Typed.ask s13 (at16 Ψ)
+      abbrev at17 : Typed.TF T18 O3
+      at17 = λ Ψ. Typed.both s15 (at16 Ψ)
 
-      abbrev at18 : Typed.TF T11 O3
-      at18 = λ Ψ. Typed.ask s12 (at17 Ψ)
+      abbrev at18 : Typed.TF T17 O3
+      at18 = λ Ψ. Typed.ask s14 (at17 Ψ)
 
-      abbrev at19 : Typed.TF T10 O3
-      at19 = λ Ψ. at6 (Typed.wantNext T11 O3 (at18 Ψ) Ψ)
+      abbrev at19 : Typed.TF T11 O3
+      at19 = λ Ψ. Typed.ask s13 (at18 Ψ)
 
-      abbrev at20 : Typed.TF T8 O3
-      at20 = λ Ψ. Typed.ask s7 (at19 Ψ)
+      abbrev at20 : Typed.TF T10 O3
+      at20 = λ Ψ. at7 (Typed.wantNext T11 O3 (at19 Ψ) Ψ)
 
-      abbrev at21 : Typed.TF T8 O2
-      at21 = Typed.LoopBy T8 O2 put0 (λ u vs. Inv·0 (Row.get 1 (T8 .locals) u .now) (Row.get 3 (T8 .locals) u)
+      abbrev at21 : Typed.TF T8 O3
+      at21 = λ Ψ. Typed.ask s7 (at20 Ψ)
+
+      abbrev at22 : Typed.TF T8 O2
+      at22 = Typed.LoopBy T8 O2 put0 (λ u vs. Inv·0 (Row.get 1 (T8 .locals) u .now) (Row.get 3 (T8 .locals) u)
           (Row.get 4 (T8 .locals) u) (Row.get 5 (T8 .locals) u) (Row.get 6 (T8 .locals) u) (Row.get 7 (T8 .locals) u)
-          (Row.get 8 (T8 .locals) u) (Row.get 9 (T8 .locals) u) (vs .0) (vs .1) (vs .2)) (λ u vs. μ·0
-          (Row.get 1 (T8 .locals) u .now) (Row.get 3 (T8 .locals) u) (Row.get 4 (T8 .locals) u)
+          (Row.get 8 (T8 .locals) u) (Row.get 9 (T8 .locals) u) (Row.get 10 (T8 .locals) u) (vs .0) (vs .1) (vs .2)) (λ
+          u vs. μ·0 (Row.get 1 (T8 .locals) u .now) (Row.get 3 (T8 .locals) u) (Row.get 4 (T8 .locals) u)
           (Row.get 5 (T8 .locals) u) (Row.get 6 (T8 .locals) u) (Row.get 7 (T8 .locals) u) (Row.get 8 (T8 .locals) u)
-          (Row.get 9 (T8 .locals) u) (vs .0) (vs .1) (vs .2)) at20
+          (Row.get 9 (T8 .locals) u) (Row.get 10 (T8 .locals) u) (vs .0) (vs .1) (vs .2)) at21
 
-      abbrev at22 : Typed.TF T8 O1
-      at22 = λ Ψ. at21 (Typed.inBlock O1 Ψ)
+      abbrev at23 : Typed.TF T8 O1
+      at23 = λ Ψ. at22 (Typed.inBlock O1 Ψ)
 
-      abbrev at23 : Typed.TF T34 O0
-      at23 = Typed.atRet O0
+      abbrev at24 : Typed.TF T35 O0
+      at24 = Typed.atRet O0
 
-      abbrev at24 : Typed.TF T33 O0
-      at24 = λ Ψ. Typed.pass T33 T34 s30 (at23 Ψ)
+      abbrev at25 : Typed.TF T34 O0
+      at25 = λ Ψ. Typed.pass T34 T35 s31 (at24 Ψ)
 
-      abbrev at25 : Typed.TF T32 O0
-      at25 = λ Ψ. Typed.pass T32 T33 s29 (at24 Ψ)
+      abbrev at26 : Typed.TF T33 O0
+      at26 = λ Ψ. Typed.pass T33 T34 s30 (at25 Ψ)
 
-      abbrev at26 : Typed.TF T31 O0
-      at26 = λ Ψ. Typed.pass T31 T32 s28 (at25 Ψ)
+      abbrev at27 : Typed.TF T32 O0
+      at27 = λ Ψ. Typed.pass T32 T33 s29 (at26 Ψ)
 
-      abbrev at27 : Typed.TF T30 O0
-      at27 = λ Ψ. Typed.pass T30 T31 s27 (at26 Ψ)
+      abbrev at28 : Typed.TF T31 O0
+      at28 = λ Ψ. Typed.pass T31 T32 s28 (at27 Ψ)
 
-      abbrev at28 : Typed.TF T29 O0
-      at28 = λ Ψ. Typed.pass T29 T30 s26 (at27 Ψ)
+      abbrev at29 : Typed.TF T30 O0
+      at29 = λ Ψ. Typed.pass T30 T31 s27 (at28 Ψ)
 
-      abbrev at29 : Typed.TF T9 O0
-      at29 = λ Ψ. Typed.both s25 (at28 Ψ)
+      abbrev at30 : Typed.TF T9 O0
+      at30 = λ Ψ. Typed.both s26 (at29 Ψ)
 
-      abbrev at30 : Typed.TF T8 O0
-      at30 = λ Ψ. at22 (Typed.wantNext T9 O0 (at29 Ψ) Ψ)
+      abbrev at31 : Typed.TF T8 O0
+      at31 = λ Ψ. at23 (Typed.wantNext T9 O0 (at30 Ψ) Ψ)
 
-      abbrev at31 : Typed.TF T7 O0
-      at31 = λ Ψ. Typed.pass T7 T8 s6 (at30 Ψ)
+      abbrev at32 : Typed.TF T7 O0
+      at32 = λ Ψ. Typed.pass T7 T8 s6 (at31 Ψ)
 
-      abbrev at32 : Typed.TF T6 O0
-      at32 = λ Ψ. Typed.pass T6 T7 s5 (at31 Ψ)
+      abbrev at33 : Typed.TF T6 O0
+      at33 = λ Ψ. Typed.pass T6 T7 s5 (at32 Ψ)
 
-      abbrev at33 : Typed.TF T5 O0
-      at33 = λ Ψ. Typed.pass T5 T6 s4 (at32 Ψ)
+      abbrev at34 : Typed.TF T5 O0
+      at34 = λ Ψ. Typed.pass T5 T6 s4 (at33 Ψ)
 
-      abbrev at34 : Typed.TF T4 O0
-      at34 = λ Ψ. Typed.both s3 (at33 Ψ)
+      abbrev at35 : Typed.TF T4 O0
+      at35 = λ Ψ. Typed.both s3 (at34 Ψ)
 
-      abbrev at35 : Typed.TF T3 O0
-      at35 = λ Ψ. Typed.pass T3 T4 s2 (at34 Ψ)
+      abbrev at36 : Typed.TF T3 O0
+      at36 = λ Ψ. Typed.pass T3 T4 s2 (at35 Ψ)
 
-      abbrev at36 : Typed.TF T2 O0
-      at36 = λ Ψ. Typed.both s1 (at35 Ψ)
+      abbrev at37 : Typed.TF T2 O0
+      at37 = λ Ψ. Typed.both s1 (at36 Ψ)
 
-      abbrev at37 : Typed.TF T0 O0
-      at37 = λ Ψ. Typed.pass T0 T2 s0 (at36 Ψ)
+      abbrev at38 : Typed.TF T0 O0
+      at38 = λ Ψ. Typed.pass T0 T2 s0 (at37 Ψ)
 
       abbrev pub Φ : Typed.TF T0 O0
-      Φ = at37
+      Φ = at38
 
       module _ {M : Type 1} (𝓤 : URA.URA M) (H : Wp.Heap 𝓤) (A : Atoms.Atoms 𝓤) (W : Kit.Given 𝓤 H A)
           (𝓣 : Wp.Tables 𝓤 H) where
@@ -846,109 +871,112 @@ module _ (claims· : Claims) where
         life0 = Row.lease (κs .0) (qs .0)
 
         abbrev G0 : Row.Cx
-        G0 = record { locals = t0; slots = life0 ∷ List.[] }
+        G0 = record { locals = List._++_ t0 t1; slots = life0 ∷ List.[] }
 
         abbrev G1 : Row.Cx
-        G1 = record { locals = t1; slots = life0 ∷ List.[] }
+        G1 = record { locals = List._++_ t2 t1; slots = life0 ∷ List.[] }
 
         abbrev G2 : Row.Cx
-        G2 = record { locals = t2; slots = life0 ∷ List.[] }
+        G2 = record { locals = List._++_ t3 t1; slots = life0 ∷ List.[] }
 
         abbrev G3 : Row.Cx
-        G3 = record { locals = t3; slots = life0 ∷ List.[] }
+        G3 = record { locals = List._++_ t4 t1; slots = life0 ∷ List.[] }
 
         abbrev G4 : Row.Cx
-        G4 = record { locals = t4; slots = life0 ∷ List.[] }
+        G4 = record { locals = List._++_ t5 t1; slots = life0 ∷ List.[] }
 
         abbrev G5 : Row.Cx
-        G5 = record { locals = t5; slots = life0 ∷ List.[] }
+        G5 = record { locals = List._++_ t6 t1; slots = life0 ∷ List.[] }
 
         abbrev G6 : Row.Cx
-        G6 = record { locals = t6; slots = life0 ∷ List.[] }
+        G6 = record { locals = List._++_ t7 t1; slots = life0 ∷ List.[] }
 
         abbrev G7 : Row.Cx
-        G7 = record { locals = t7; slots = life0 ∷ List.[] }
+        G7 = record { locals = List._++_ t8 t1; slots = life0 ∷ List.[] }
 
         abbrev G8 : Row.Cx
-        G8 = record { locals = t8; slots = life0 ∷ List.[] }
+        G8 = record { locals = List._++_ t9 t1; slots = life0 ∷ List.[] }
 
         abbrev G9 : Row.Cx
-        G9 = record { locals = t9; slots = life0 ∷ List.[] }
+        G9 = record { locals = List._++_ t10 t1; slots = life0 ∷ List.[] }
 
         abbrev G10 : Row.Cx
-        G10 = record { locals = t10; slots = life0 ∷ List.[] }
+        G10 = record { locals = List._++_ t11 t1; slots = life0 ∷ List.[] }
 
         abbrev G11 : Row.Cx
-        G11 = record { locals = t8; slots = life0 ∷ List.[] }
+        G11 = record { locals = List._++_ t9 t1; slots = life0 ∷ List.[] }
 
         abbrev G12 : Row.Cx
-        G12 = record { locals = t8; slots = life0 ∷ List.[] }
+        G12 = record { locals = List._++_ t9 t1; slots = life0 ∷ List.[] }
 
         abbrev G13 : Row.Cx
-        G13 = record { locals = t11; slots = life0 ∷ List.[] }
+        G13 = record { locals = List._++_ t12 t1; slots = life0 ∷ List.[] }
 
         abbrev G14 : Row.Cx
-        G14 = record { locals = t12; slots = life0 ∷ List.[] }
+        G14 = record { locals = List._++_ t13 t1; slots = life0 ∷ List.[] }
 
         abbrev G15 : Row.Cx
-        G15 = record { locals = t9; slots = life0 ∷ List.[] }
+        G15 = record { locals = List._++_ t14 t1; slots = life0 ∷ List.[] }
 
         abbrev G16 : Row.Cx
-        G16 = record { locals = t13; slots = life0 ∷ List.[] }
+        G16 = record { locals = List._++_ t10 t1; slots = life0 ∷ List.[] }
 
         abbrev G17 : Row.Cx
-        G17 = record { locals = t14; slots = life0 ∷ List.[] }
+        G17 = record { locals = List._++_ t15 t1; slots = life0 ∷ List.[] }
 
         abbrev G18 : Row.Cx
-        G18 = record { locals = t15; slots = life0 ∷ List.[] }
+        G18 = record { locals = List._++_ t16 t1; slots = life0 ∷ List.[] }
 
         abbrev G19 : Row.Cx
-        G19 = record { locals = t16; slots = life0 ∷ List.[] }
+        G19 = record { locals = List._++_ t16 t17; slots = life0 ∷ List.[] }
 
         abbrev G20 : Row.Cx
-        G20 = record { locals = t17; slots = life0 ∷ List.[] }
+        G20 = record { locals = List._++_ t18 t17; slots = life0 ∷ List.[] }
 
         abbrev G21 : Row.Cx
-        G21 = record { locals = t18; slots = life0 ∷ List.[] }
+        G21 = record { locals = List._++_ t9 t17; slots = life0 ∷ List.[] }
 
         abbrev G22 : Row.Cx
-        G22 = record { locals = t19; slots = life0 ∷ List.[] }
+        G22 = record { locals = List._++_ t19 t17; slots = life0 ∷ List.[] }
 
         abbrev G23 : Row.Cx
-        G23 = record { locals = t20; slots = life0 ∷ List.[] }
+        G23 = record { locals = List._++_ t19 t1; slots = life0 ∷ List.[] }
 
         abbrev G24 : Row.Cx
-        G24 = record { locals = t20; slots = life0 ∷ List.[] }
+        G24 = record { locals = List._++_ t20 t1; slots = life0 ∷ List.[] }
 
         abbrev G25 : Row.Cx
-        G25 = record { locals = t20; slots = life0 ∷ List.[] }
+        G25 = record { locals = List._++_ t20 t1; slots = life0 ∷ List.[] }
 
         abbrev G26 : Row.Cx
-        G26 = record { locals = t21; slots = life0 ∷ List.[] }
+        G26 = record { locals = List._++_ t20 t1; slots = life0 ∷ List.[] }
 
         abbrev G27 : Row.Cx
-        G27 = record { locals = t21; slots = life0 ∷ List.[] }
+        G27 = record { locals = List._++_ t21 t1; slots = life0 ∷ List.[] }
 
         abbrev G28 : Row.Cx
-        G28 = record { locals = t8; slots = life0 ∷ List.[] }
+        G28 = record { locals = List._++_ t21 t1; slots = life0 ∷ List.[] }
 
         abbrev G29 : Row.Cx
-        G29 = record { locals = t22; slots = life0 ∷ List.[] }
+        G29 = record { locals = List._++_ t9 t1; slots = life0 ∷ List.[] }
 
         abbrev G30 : Row.Cx
-        G30 = record { locals = t23; slots = life0 ∷ List.[] }
+        G30 = record { locals = List._++_ t22 t1; slots = life0 ∷ List.[] }
 
         abbrev G31 : Row.Cx
-        G31 = record { locals = t24; slots = life0 ∷ List.[] }
+        G31 = record { locals = List._++_ t23 t1; slots = life0 ∷ List.[] }
 
         abbrev G32 : Row.Cx
-        G32 = record { locals = t25; slots = life0 ∷ List.[] }
+        G32 = record { locals = List._++_ t24 t1; slots = life0 ∷ List.[] }
 
         abbrev G33 : Row.Cx
-        G33 = record { locals = t26; slots = life0 ∷ List.[] }
+        G33 = record { locals = List._++_ t25 t1; slots = life0 ∷ List.[] }
 
         abbrev G34 : Row.Cx
-        G34 = record { locals = t1; slots = life0 ∷ List.[] }
+        G34 = record { locals = List._++_ t26 t1; slots = life0 ∷ List.[] }
+
+        abbrev G35 : Row.Cx
+        G35 = record { locals = List._++_ t2 t1; slots = life0 ∷ List.[] }
 
         abbrev Δ0 : Typed.Outs
         Δ0 = record { next = Option.none; exits = List.[]; returns = Option.some G1 }
@@ -975,107 +1003,124 @@ module _ (claims· : Claims) where
           d0 = Typed.t-skip 𝓤 H A W 𝓣 E Δ4 tt
 
           d1 : Typed.Typed 𝓤 H A 𝓣 E G10 b7 Δ4 at1
-          d1 = Typed.g-pre 𝓤 H A W 𝓣 E G10 G12 b7 Δ4 (Typed.pass T10 T12 s8) at0 (Scalar.g-room 𝓤 H A W E G10 12
+          d1 = Typed.g-pre 𝓤 H A W 𝓣 E G10 G12 b7 Δ4 (Typed.pass T10 T12 s8) at0 (Scalar.g-room 𝓤 H A W E G10 13
               Syntax.tyBool (Scalar.room-sc 𝓤 H A W Row.sBool)) d0
 
-          d2 : Typed.Typed 𝓤 H A 𝓣 E G15 b8 Δ4 at2
+          d2 : Typed.Typed 𝓤 H A 𝓣 E G16 b8 Δ4 at2
           d2 = Typed.t-exit 𝓤 H A W 𝓣 E 1 Δ4 tt
 
-          d3 : Typed.Typed 𝓤 H A 𝓣 E G14 b8 Δ4 at3
-          d3 = Typed.g-pre 𝓤 H A W 𝓣 E G14 G15 b8 Δ4 (Typed.pass T14 T15 s11) at2 (Scalar.g-room 𝓤 H A W E G14 12
+          d3 : Typed.Typed 𝓤 H A 𝓣 E G15 b8 Δ4 at3
+          d3 = Typed.g-pre 𝓤 H A W 𝓣 E G15 G16 b8 Δ4 (Typed.pass T15 T16 s12) at2 (Scalar.g-room 𝓤 H A W E G15 13
               Syntax.tyBool (Scalar.room-sc 𝓤 H A W Row.sBool)) d2
 
-          d4 : Typed.Typed 𝓤 H A 𝓣 E G13 b8 Δ4 at4
-          d4 = Typed.g-pre 𝓤 H A W 𝓣 E G13 G14 b8 Δ4 (Typed.pass T13 T14 s10) at3 (Scalar.g-room 𝓤 H A W E G13 6
-              Laws'''.mir (Local.room-whole 𝓤 H A W (Declared.row Walked.the-type) Laws'''.mir Path.refl)) d3
+          d4 : Typed.Typed 𝓤 H A 𝓣 E G14 b8 Δ4 at4
+          d4 = Typed.g-pre 𝓤 H A W 𝓣 E G14 G15 b8 Δ4 (Typed.pass T14 T15 s11) at3 (Scalar.g-room 𝓤 H A W E G14 7
+              Laws''''.mir (Local.room-whole 𝓤 H A W (Declared'.row Walked.the-type) Laws''''.mir Path.refl)) d3
 
-          d5 : Typed.Typed 𝓤 H A 𝓣 E G10 b8 Δ4 at5
-          d5 = Typed.g-pre 𝓤 H A W 𝓣 E G10 G13 b8 Δ4 (Typed.pass T10 T13 s9) at4 (Scalar.g-room 𝓤 H A W E G10 3
-              Laws'.mir (Local.room-whole 𝓤 H A W (Declared.row Question.the-type) Laws'.mir Path.refl)) d4
+          d5 : Typed.Typed 𝓤 H A 𝓣 E G13 b8 Δ4 at5
+          d5 = Typed.g-pre 𝓤 H A W 𝓣 E G13 G14 b8 Δ4 (Typed.pass T13 T14 s10) at4 (Scalar.g-room 𝓤 H A W E G13 4
+              Laws.mir (Local.room-whole 𝓤 H A W (Declared'.row HnsrPeerId.the-type) Laws.mir Path.refl)) d4
 
-          d6 : Typed.Typed 𝓤 H A 𝓣 E G10 b9 Δ4 at6
-          d6 = Scalar.t-cond 𝓤 H A W E 𝓣 G10 12 (λ x. x) b7 b8 Δ4 at1 at5 (Scalar.reads-sc 𝓤 H A W Row.sBool) Path.refl
-              d1 d5
+          d6 : Typed.Typed 𝓤 H A 𝓣 E G10 b8 Δ4 at6
+          d6 = Typed.g-pre 𝓤 H A W 𝓣 E G10 G13 b8 Δ4 (Typed.pass T10 T13 s9) at5 (Scalar.g-room 𝓤 H A W E G10 3
+              Laws''.mir (Local.room-whole 𝓤 H A W (Declared.row RecordQuestion.the-type) Laws''.mir Path.refl)) d5
 
-          d7 : Typed.Typed 𝓤 H A 𝓣 E G26 b17 Δ3 at7
-          d7 = Typed.s-typed 𝓤 H A W 𝓣 E G26 b17 Δ3 (λ Ψ. Typed.ask s23 (Typed.pass T27 T28 s24 Ψ)) tt (Typed.g-post 𝓤
-              H A W 𝓣 E G26 G27 G28 b17 (Typed.ask s23) (Typed.pass T27 T28 s24) (Scalar.t-op2 𝓤 H A W E 𝓣 G26
-              (Syntax.add Syntax.unsigned) (Scalar.oAt 9 (Syntax.tyInt Syntax.w64) (Row.valS (Row.sInt Syntax.w64)))
-              (Scalar.oInt Syntax.w64 1) 9 (Rows.sc-here (Row.sInt Syntax.w64)) (Syntax.tyInt Syntax.w64)
+          d7 : Typed.Typed 𝓤 H A 𝓣 E G10 b9 Δ4 at7
+          d7 = Scalar.t-cond 𝓤 H A W E 𝓣 G10 13 (λ x. x) b7 b8 Δ4 at1 at6 (Scalar.reads-sc 𝓤 H A W Row.sBool) Path.refl
+              d1 d6
+
+          d8 : Typed.Typed 𝓤 H A 𝓣 E G27 b17 Δ3 at8
+          d8 = Typed.s-typed 𝓤 H A W 𝓣 E G27 b17 Δ3 (λ Ψ. Typed.ask s24 (Typed.pass T28 T29 s25 Ψ)) tt (Typed.g-post 𝓤
+              H A W 𝓣 E G27 G28 G29 b17 (Typed.ask s24) (Typed.pass T28 T29 s25) (Scalar.t-op2 𝓤 H A W E 𝓣 G27
+              (Syntax.add Syntax.unsigned) (Scalar.oAt 10 (Syntax.tyInt Syntax.w64) (Row.valS (Row.sInt Syntax.w64)))
+              (Scalar.oInt Syntax.w64 1) 10 (Rows.sc-here (Row.sInt Syntax.w64)) (Syntax.tyInt Syntax.w64)
               (Row.valS (Row.sInt Syntax.w64)) (Row.sInt Syntax.w64 .of)
               (Scalar.reads-sc 𝓤 H A W (Row.sInt Syntax.w64), Path.refl) tt
               (Scalar.room-sc 𝓤 H A W (Row.sInt Syntax.w64)) (Scalar.holds-sc 𝓤 H A W (Row.sInt Syntax.w64)) Path.refl
-              (λ u. Path.refl) λ u. tt) (Scalar.g-room 𝓤 H A W E G27 11 Syntax.tyBool
+              (λ u. Path.refl) λ u. tt) (Scalar.g-room 𝓤 H A W E G28 12 Syntax.tyBool
               (Scalar.room-sc 𝓤 H A W Row.sBool)))
 
-          d8 : Typed.Typed 𝓤 H A 𝓣 E G25 b17 Δ3 at8
-          d8 = Typed.g-pre 𝓤 H A W 𝓣 E G25 G26 b17 Δ3 (Typed.pass T25 T26 s22) at7 (Scalar.g-room 𝓤 H A W E G25 10
-              RelayCircuit.ty (Local.room-whole 𝓤 H A W RelayCircuit.row RelayCircuit.ty Path.refl)) d7
+          d9 : Typed.Typed 𝓤 H A 𝓣 E G26 b17 Δ3 at9
+          d9 = Typed.g-pre 𝓤 H A W 𝓣 E G26 G27 b17 Δ3 (Typed.pass T26 T27 s23) at8 (Scalar.g-room 𝓤 H A W E G26 11
+              RelayCircuit.ty (Local.room-whole 𝓤 H A W RelayCircuit.row RelayCircuit.ty Path.refl)) d8
 
-          d9 : Typed.Typed 𝓤 H A 𝓣 E G24 b18 Δ3 at9
-          d9 = Typed.s-seq 𝓤 H A W 𝓣 E G24 G25 b16 b17 Δ3 (Typed.both s21) at8 (Plain.t-call-plain 𝓤 H A W 𝓣 0 ps·4 r·4
-              (claims· .8) (claims· .9) "hnsr_circuit::tables::scan::circuit_turn" (known .4) E (λ pos β. β) G24 (
+          d10 : Typed.Typed 𝓤 H A 𝓣 E G25 b18 Δ3 at10
+          d10 = Typed.s-seq 𝓤 H A W 𝓣 E G25 G26 b16 b17 Δ3 (Typed.both s22) at9 (Plain.t-call-plain 𝓤 H A W 𝓣 0 ps·4
+              r·4 (claims· .8) (claims· .9) "hnsr_circuit::tables::scan::circuit_turn" (known .4) E (λ pos β. β) G25 (
                 record { pos = 3; st = List.[]; d = 0; at = λ x. x },
                 (
-                  record { pos = 6; st = List.[]; d = 0; at = λ x. x },
+                  record { pos = 4; st = List.[]; d = 0; at = λ x. x },
                   (
-                    record { pos = 8; st = List.[]; d = 0; at = λ x. x },
-                    (record { pos = 10; st = List.[]; d = 0; at = λ x. x }, (Num.vAt 9 λ x. x, tt)),
+                    record { pos = 7; st = List.[]; d = 0; at = λ x. x },
+                    (
+                      record { pos = 9; st = List.[]; d = 0; at = λ x. x },
+                      (record { pos = 11; st = List.[]; d = 0; at = λ x. x }, (Num.vAt 10 λ x. x, tt)),
+                    ),
                   ),
                 ),
-              ) 8 List.[] (Call.sub-id 𝓤 H A W (G24 .slots)) (
+              ) 9 List.[] (Call.sub-id 𝓤 H A W (G25 .slots)) (
                 (
-                  Yields.yields-copy 𝓤 H A W (λ ρ. Unit) (Declared.row Question.the-type) Path.refl (Copies.cStruct
-                      Question.the-type Laws'.the-laws Laws'.the-copy .copy 𝓤 H A W)
-                      (Rows.whole (Declared.row Question.the-type)) (λ x. x) (λ x. x) (λ ρ told. Local.mem-whole 𝓤 H A
-                      W (Declared.row Question.the-type) ρ) λ ρ told. Local.whole-mem 𝓤 H A W
-                      (Declared.row Question.the-type) ρ,
+                  Yields.yields-copy 𝓤 H A W (λ ρ. Unit) (Declared.row RecordQuestion.the-type) Path.refl (Copies.cEnum
+                      RecordQuestion.the-type Laws''.the-laws Laws''.the-copy .copy 𝓤 H A W)
+                      (Rows.whole (Declared.row RecordQuestion.the-type)) (λ x. x) (λ x. x) (λ ρ told. Local.mem-whole
+                      𝓤 H A W (Declared.row RecordQuestion.the-type) ρ) λ ρ told. Local.whole-mem 𝓤 H A W
+                      (Declared.row RecordQuestion.the-type) ρ,
                   Path.refl,
                 ),
                 (
                   (
-                    Yields.yields-copy 𝓤 H A W (λ ρ. Unit) (Declared.row Walked.the-type) Path.refl (Copies.cStruct
-                        Walked.the-type Laws'''.the-laws Laws'''.the-copy .copy 𝓤 H A W)
-                        (Rows.whole (Declared.row Walked.the-type)) (λ x. x) (λ x. x) (λ ρ told. Local.mem-whole 𝓤 H A
-                        W (Declared.row Walked.the-type) ρ) λ ρ told. Local.whole-mem 𝓤 H A W
-                        (Declared.row Walked.the-type) ρ,
+                    Yields.yields-copy 𝓤 H A W (λ ρ. Unit) (Declared'.row HnsrPeerId.the-type) Path.refl (Copies.cStruct
+                        HnsrPeerId.the-type Laws.the-laws Laws.the-copy .copy 𝓤 H A W)
+                        (Rows.whole (Declared'.row HnsrPeerId.the-type)) (λ x. x) (λ x. x) (λ ρ told. Local.mem-whole 𝓤
+                        H A W (Declared'.row HnsrPeerId.the-type) ρ) λ ρ told. Local.whole-mem 𝓤 H A W
+                        (Declared'.row HnsrPeerId.the-type) ρ,
                     Path.refl,
                   ),
                   (
                     (
-                      Yields.yields-copy 𝓤 H A W (λ ρ. Unit) (Declared.row Walked.the-type) Path.refl (Copies.cStruct
-                          Walked.the-type Laws'''.the-laws Laws'''.the-copy .copy 𝓤 H A W)
-                          (Rows.whole (Declared.row Walked.the-type)) (λ x. x) (λ x. x) (λ ρ told. Local.mem-whole 𝓤 H
-                          A W (Declared.row Walked.the-type) ρ) λ ρ told. Local.whole-mem 𝓤 H A W
-                          (Declared.row Walked.the-type) ρ,
+                      Yields.yields-copy 𝓤 H A W (λ ρ. Unit) (Declared'.row Walked.the-type) Path.refl (Copies.cStruct
+                          Walked.the-type Laws''''.the-laws Laws''''.the-copy .copy 𝓤 H A W)
+                          (Rows.whole (Declared'.row Walked.the-type)) (λ x. x) (λ x. x) (λ ρ told. Local.mem-whole 𝓤 H
+                          A W (Declared'.row Walked.the-type) ρ) λ ρ told. Local.whole-mem 𝓤 H A W
+                          (Declared'.row Walked.the-type) ρ,
                       Path.refl,
                     ),
                     (
                       (
-                        Yields.yields-copy 𝓤 H A W (λ ρ. Unit) RelayCircuit.row Path.refl
-                            (RelayCircuit.copies .copy 𝓤 H A W) RelayCircuit.held (λ x. x) (λ x. x)
-                            (λ ρ told. Local.mem-whole 𝓤 H A W RelayCircuit.row ρ) λ ρ told. Local.whole-mem 𝓤 H A W
-                            RelayCircuit.row ρ,
+                        Yields.yields-copy 𝓤 H A W (λ ρ. Unit) (Declared'.row Walked.the-type) Path.refl (Copies.cStruct
+                            Walked.the-type Laws''''.the-laws Laws''''.the-copy .copy 𝓤 H A W)
+                            (Rows.whole (Declared'.row Walked.the-type)) (λ x. x) (λ x. x) (λ ρ told. Local.mem-whole 𝓤
+                            H A W (Declared'.row Walked.the-type) ρ) λ ρ told. Local.whole-mem 𝓤 H A W
+                            (Declared'.row Walked.the-type) ρ,
                         Path.refl,
                       ),
-                      ((Scalar.reads-sc 𝓤 H A W (Row.sInt Syntax.w64), Path.refl), tt),
+                      (
+                        (
+                          Yields.yields-copy 𝓤 H A W (λ ρ. Unit) RelayCircuit.row Path.refl
+                              (RelayCircuit.copies .copy 𝓤 H A W) RelayCircuit.held (λ x. x) (λ x. x)
+                              (λ ρ told. Local.mem-whole 𝓤 H A W RelayCircuit.row ρ) λ ρ told. Local.whole-mem 𝓤 H A W
+                              RelayCircuit.row ρ,
+                          Path.refl,
+                        ),
+                        ((Scalar.reads-sc 𝓤 H A W (Row.sInt Syntax.w64), Path.refl), tt),
+                      ),
                     ),
                   ),
                 ),
-              ) (Local.room-whole 𝓤 H A W (Declared.row Walked.the-type) Laws'''.mir Path.refl) tt Path.refl) d8
+              ) (Local.room-whole 𝓤 H A W (Declared'.row Walked.the-type) Laws''''.mir Path.refl) tt Path.refl) d9
 
-          d10 : Typed.Typed 𝓤 H A 𝓣 E G23 b19 Δ3 at10
-          d10 = Typed.s-seq 𝓤 H A W 𝓣 E G23 G24 b15 b18 Δ3 (Typed.both s20) at9 (Plain.t-call-plain 𝓤 H A W 𝓣 0 ps·3
-              r·3 (claims· .6) (claims· .7) "hnsr_circuit::tables::scan::one_more" (known .3) E (λ pos β. β) G23
-              (Num.vAt 7 λ x. x, (Bool.bAt 11 λ x. x, tt)) 7 List.[] (Call.sub-id 𝓤 H A W (G23 .slots)) (
+          d11 : Typed.Typed 𝓤 H A 𝓣 E G24 b19 Δ3 at11
+          d11 = Typed.s-seq 𝓤 H A W 𝓣 E G24 G25 b15 b18 Δ3 (Typed.both s21) at10 (Plain.t-call-plain 𝓤 H A W 𝓣 0 ps·3
+              r·3 (claims· .6) (claims· .7) "hnsr_circuit::tables::scan::one_more" (known .3) E (λ pos β. β) G24
+              (Num.vAt 8 λ x. x, (Bool.bAt 12 λ x. x, tt)) 8 List.[] (Call.sub-id 𝓤 H A W (G24 .slots)) (
                 (Scalar.reads-sc 𝓤 H A W (Row.sInt Syntax.w64), Path.refl),
                 ((Scalar.reads-sc 𝓤 H A W Row.sBool, Path.refl), tt),
-              ) (Scalar.room-sc 𝓤 H A W (Row.sInt Syntax.w64)) tt Path.refl) d9
+              ) (Scalar.room-sc 𝓤 H A W (Row.sInt Syntax.w64)) tt Path.refl) d10
 
-          d11 : Typed.Typed 𝓤 H A 𝓣 E G22 b20 Δ3 at11
-          d11 = Typed.s-seq 𝓤 H A W 𝓣 E G22 G23 b14 b19 Δ3 (Typed.both s19) at10 (Plain.t-call-plain 𝓤 H A W 𝓣 0 ps·2
-              r·2 (claims· .4) (claims· .5) "hnsr_circuit::records::circuits::is_circuit" (known .2) E (λ pos β. β) G22
-              (record { pos = 10; st = List.[]; d = 0; at = λ x. x }, tt) 11 List.[] (Call.sub-id 𝓤 H A W (G22 .slots)) (
+          d12 : Typed.Typed 𝓤 H A 𝓣 E G23 b20 Δ3 at12
+          d12 = Typed.s-seq 𝓤 H A W 𝓣 E G23 G24 b14 b19 Δ3 (Typed.both s20) at11 (Plain.t-call-plain 𝓤 H A W 𝓣 0 ps·2
+              r·2 (claims· .4) (claims· .5) "hnsr_circuit::records::circuits::is_circuit" (known .2) E (λ pos β. β) G23
+              (record { pos = 11; st = List.[]; d = 0; at = λ x. x }, tt) 12 List.[] (Call.sub-id 𝓤 H A W (G23 .slots)) (
                 (
                   Yields.yields-copy 𝓤 H A W (λ ρ. Unit) RelayCircuit.row Path.refl (RelayCircuit.copies .copy 𝓤 H A W)
                       RelayCircuit.held (λ x. x) (λ x. x) (λ ρ told. Local.mem-whole 𝓤 H A W RelayCircuit.row ρ) λ ρ
@@ -1083,200 +1128,204 @@ module _ (claims· : Claims) where
                   Path.refl,
                 ),
                 tt,
-              ) (Reads'.room-gone 𝓤 H A Syntax.tyBool) tt Path.refl) d10
+              ) (Reads'.room-gone 𝓤 H A Syntax.tyBool) tt Path.refl) d11
 
-          d12 : Typed.Typed 𝓤 H A 𝓣 E G21 b20 Δ3 at12
-          d12 = Typed.g-pre 𝓤 H A W 𝓣 E G21 G22 b20 Δ3 (Typed.pass T21 T22 s18) at11 (Scalar.g-room 𝓤 H A W E G21 15
-              RelayCircuit.ty (Local.room-whole 𝓤 H A W RelayCircuit.row RelayCircuit.ty Path.refl)) d11
+          d13 : Typed.Typed 𝓤 H A 𝓣 E G22 b20 Δ3 at13
+          d13 = Typed.g-pre 𝓤 H A W 𝓣 E G22 G23 b20 Δ3 (Typed.pass T22 T23 s19) at12 (Scalar.g-room 𝓤 H A W E G22 16
+              RelayCircuit.ty (Local.room-whole 𝓤 H A W RelayCircuit.row RelayCircuit.ty Path.refl)) d12
 
-          d13 : Typed.Typed 𝓤 H A 𝓣 E G20 b21 Δ3 at13
-          d13 = Typed.s-seq 𝓤 H A W 𝓣 E G20 G21 b13 b20 Δ3 (Typed.pass T20 T21 s17) at12 (LocalCopy.t-val-copy 𝓤 H A W
-              E 𝓣 (λ ρ. Unit) G20 15 10 RelayCircuit.row RelayCircuit.ty RelayCircuit.ty RelayCircuit.held
-              RelayCircuit.held (λ x. x) (λ x. x) (λ x. x) Path.refl (Own.told-none 𝓤 H A (G20 .slots)) (Yields.yields-copy
+          d14 : Typed.Typed 𝓤 H A 𝓣 E G21 b21 Δ3 at14
+          d14 = Typed.s-seq 𝓤 H A W 𝓣 E G21 G22 b13 b20 Δ3 (Typed.pass T21 T22 s18) at13 (LocalCopy.t-val-copy 𝓤 H A W
+              E 𝓣 (λ ρ. Unit) G21 16 11 RelayCircuit.row RelayCircuit.ty RelayCircuit.ty RelayCircuit.held
+              RelayCircuit.held (λ x. x) (λ x. x) (λ x. x) Path.refl (Own.told-none 𝓤 H A (G21 .slots)) (Yields.yields-copy
               𝓤 H A W (λ ρ. Unit) RelayCircuit.row Path.refl (RelayCircuit.copies .copy 𝓤 H A W) RelayCircuit.held
               (λ x. x) (λ x. x) (λ ρ told. Local.mem-whole 𝓤 H A W RelayCircuit.row ρ) λ ρ told. Local.whole-mem 𝓤 H A
               W RelayCircuit.row ρ) (Reads'.room-gone 𝓤 H A RelayCircuit.ty) (Yields.makes-mem 𝓤 H A W (λ ρ. Unit)
               RelayCircuit.row Path.refl RelayCircuit.held (λ x. x) λ ρ told. Local.whole-mem 𝓤 H A W RelayCircuit.row
-              ρ) Path.refl Path.refl) d12
+              ρ) Path.refl Path.refl) d13
 
-          d14 : Typed.Typed 𝓤 H A 𝓣 E G19 b21 Δ3 at14
-          d14 = Typed.g-pre 𝓤 H A W 𝓣 E G19 G20 b21 Δ3 (Typed.pass T19 T20 s16) at13 (Scalar.g-room 𝓤 H A W E G19 14
-              Syntax.tyPtr (Scalar.room-sc 𝓤 H A W Row.sPtr)) d13
+          d15 : Typed.Typed 𝓤 H A 𝓣 E G20 b21 Δ3 at15
+          d15 = Typed.g-pre 𝓤 H A W 𝓣 E G20 G21 b21 Δ3 (Typed.pass T20 T21 s17) at14 (Scalar.g-room 𝓤 H A W E G20 15
+              Syntax.tyPtr (Scalar.room-sc 𝓤 H A W Row.sPtr)) d14
 
-          d15 : Typed.Typed 𝓤 H A 𝓣 E G18 b21 Δ3 at15
-          d15 = Typed.g-pre 𝓤 H A W 𝓣 E G18 G19 b21 Δ3 (Typed.pass T18 T19 s15) at14 (Scalar.g-room 𝓤 H A W E G18 13
-              (Syntax.tyInt Syntax.w64) (Scalar.room-sc 𝓤 H A W (Row.sInt Syntax.w64))) d14
+          d16 : Typed.Typed 𝓤 H A 𝓣 E G19 b21 Δ3 at16
+          d16 = Typed.g-pre 𝓤 H A W 𝓣 E G19 G20 b21 Δ3 (Typed.pass T19 T20 s16) at15 (Scalar.g-room 𝓤 H A W E G19 14
+              (Syntax.tyInt Syntax.w64) (Scalar.room-sc 𝓤 H A W (Row.sInt Syntax.w64))) d15
 
-          d16 : Typed.Typed 𝓤 H A 𝓣 E G17 b22 Δ3 at16
-          d16 = Typed.s-seq 𝓤 H A W 𝓣 E G17 G18 b12 b21 Δ3 (Typed.both s14) at15 (Move.t-shs-copy-out 𝓤 H A W E
+          d17 : Typed.Typed 𝓤 H A 𝓣 E G18 b22 Δ3 at17
+          d17 = Typed.s-seq 𝓤 H A W 𝓣 E G18 G19 b12 b21 Δ3 (Typed.both s15) at16 (Move.t-shs-copy-out 𝓤 H A W E
               RelayCircuit.row 𝓣 Path.refl (RelayCircuit.copies .copy 𝓤 H A W)
-              (Copies.halved 𝓤 H A W RelayCircuit.copies) (λ ρ. Unit) G17 1 14 15 0 ref0 life0 RelayCircuit.ty
-              RelayCircuit.ty RelayCircuit.held (Shared.bySize 360) (λ u. u .1 .1 .1 .1 .1 .1 .1 .1 .1 .0) (λ x. x)
+              (Copies.halved 𝓤 H A W RelayCircuit.copies) (λ ρ. Unit) G18 1 15 16 0 ref0 life0 RelayCircuit.ty
+              RelayCircuit.ty RelayCircuit.held (Shared.bySize 360) (λ u. u .1 .1 .1 .1 .1 .1 .1 .1 .1 .1 .0) (λ x. x)
               RelayCircuit.none (λ x. Unit) (λ x. x) (λ x. x) (λ i o. Elements.at-mul o 360 i) Path.refl Path.refl
-              (Own.told-none 𝓤 H A (G17 .slots)) (DerefMove.learns-nothing 𝓤 H A RelayCircuit.row)
+              (Own.told-none 𝓤 H A (G18 .slots)) (DerefMove.learns-nothing 𝓤 H A RelayCircuit.row)
               (Reads'.as-is 𝓤 H A (Rows.sslice RelayCircuit.row ref0 0)) (Reads'.as-is 𝓤 H A (Rows.sc-here Row.sPtr))
               (Reads'.room-gone 𝓤 H A RelayCircuit.ty) (Yields.makes-mem 𝓤 H A W (λ ρ. Unit) RelayCircuit.row Path.refl
               RelayCircuit.held (λ x. x) λ ρ told. Local.whole-mem 𝓤 H A W RelayCircuit.row ρ) Path.refl tt Path.refl
-              Path.refl) d15
+              Path.refl) d16
 
-          d17 : Typed.Typed 𝓤 H A 𝓣 E G16 b23 Δ3 at17
-          d17 = Typed.s-seq 𝓤 H A W 𝓣 E G16 G17 b11 b22 Δ3 (Typed.ask s13) at16 (Scalar.t-op2 𝓤 H A W E 𝓣 G16
-              Syntax.offset (Scalar.oFld 1 ((Syntax.field 0) ∷ List.[]) ref0 0 Reads'.ptrVal) (Scalar.oAt 13
-              (Syntax.tyInt Syntax.w64) (Row.valS (Row.sInt Syntax.w64))) 14 (Rows.sc-here Row.sPtr) Syntax.tyPtr
+          d18 : Typed.Typed 𝓤 H A 𝓣 E G17 b23 Δ3 at18
+          d18 = Typed.s-seq 𝓤 H A W 𝓣 E G17 G18 b11 b22 Δ3 (Typed.ask s14) at17 (Scalar.t-op2 𝓤 H A W E 𝓣 G17
+              Syntax.offset (Scalar.oFld 1 ((Syntax.field 0) ∷ List.[]) ref0 0 Reads'.ptrVal) (Scalar.oAt 14
+              (Syntax.tyInt Syntax.w64) (Row.valS (Row.sInt Syntax.w64))) 15 (Rows.sc-here Row.sPtr) Syntax.tyPtr
               (Row.valS Row.sPtr) (Row.sPtr .of) (
                 Shared.reads-sslice-ptr 𝓤 H A W RelayCircuit.row ref0 0 0 Path.refl,
                 Path.refl,
               ) (Scalar.reads-sc 𝓤 H A W (Row.sInt Syntax.w64), Path.refl) (Reads'.room-gone 𝓤 H A Syntax.tyPtr)
-              (Scalar.holds-sc 𝓤 H A W Row.sPtr) Path.refl (λ u. Path.refl) λ u. tt) d16
+              (Scalar.holds-sc 𝓤 H A W Row.sPtr) Path.refl (λ u. Path.refl) λ u. tt) d17
 
-          d18 : Typed.Typed 𝓤 H A 𝓣 E G11 b24 Δ3 at18
-          d18 = Typed.s-seq 𝓤 H A W 𝓣 E G11 G16 b10 b23 Δ3 (Typed.ask s12) at17 (Scalar.t-op2 𝓤 H A W E 𝓣 G11
-              (Syntax.mul Syntax.unsigned) (Scalar.oAt 9 (Syntax.tyInt Syntax.w64) (Row.valS (Row.sInt Syntax.w64)))
-              (Scalar.oInt Syntax.w64 360) 13 (Rows.sc-here (Row.sInt Syntax.w64)) (Syntax.tyInt Syntax.w64)
+          d19 : Typed.Typed 𝓤 H A 𝓣 E G11 b24 Δ3 at19
+          d19 = Typed.s-seq 𝓤 H A W 𝓣 E G11 G17 b10 b23 Δ3 (Typed.ask s13) at18 (Scalar.t-op2 𝓤 H A W E 𝓣 G11
+              (Syntax.mul Syntax.unsigned) (Scalar.oAt 10 (Syntax.tyInt Syntax.w64) (Row.valS (Row.sInt Syntax.w64)))
+              (Scalar.oInt Syntax.w64 360) 14 (Rows.sc-here (Row.sInt Syntax.w64)) (Syntax.tyInt Syntax.w64)
               (Row.valS (Row.sInt Syntax.w64)) (Row.sInt Syntax.w64 .of)
               (Scalar.reads-sc 𝓤 H A W (Row.sInt Syntax.w64), Path.refl) tt
               (Reads'.room-gone 𝓤 H A (Syntax.tyInt Syntax.w64)) (Scalar.holds-sc 𝓤 H A W (Row.sInt Syntax.w64))
-              Path.refl (λ u. Path.refl) λ u. tt) d17
+              Path.refl (λ u. Path.refl) λ u. tt) d18
 
-          d19 : Typed.Typed 𝓤 H A 𝓣 E G10 b25 Δ3 at19
-          d19 = Typed.t-seq 𝓤 H A W 𝓣 E G10 G11 b9 b24 Δ3 at6 at18 d6 d18
+          d20 : Typed.Typed 𝓤 H A 𝓣 E G10 b25 Δ3 at20
+          d20 = Typed.t-seq 𝓤 H A W 𝓣 E G10 G11 b9 b24 Δ3 at7 at19 d7 d19
 
-          d20 : Typed.Typed 𝓤 H A 𝓣 E G8 b26 Δ3 at20
-          d20 = Typed.s-seq 𝓤 H A W 𝓣 E G8 G10 b6 b25 Δ3 (Typed.ask s7) at19 (Scalar.t-op2 𝓤 H A W E 𝓣 G8
-              (Syntax.lt Syntax.unsigned) (Scalar.oAt 9 (Syntax.tyInt Syntax.w64) (Row.valS (Row.sInt Syntax.w64))) (Scalar.oAt
-              5 (Syntax.tyInt Syntax.w64) (Row.valS (Row.sInt Syntax.w64))) 12 (Rows.sc-here Row.sBool) Syntax.tyBool
+          d21 : Typed.Typed 𝓤 H A 𝓣 E G8 b26 Δ3 at21
+          d21 = Typed.s-seq 𝓤 H A W 𝓣 E G8 G10 b6 b25 Δ3 (Typed.ask s7) at20 (Scalar.t-op2 𝓤 H A W E 𝓣 G8
+              (Syntax.lt Syntax.unsigned) (Scalar.oAt 10 (Syntax.tyInt Syntax.w64) (Row.valS (Row.sInt Syntax.w64))) (Scalar.oAt
+              6 (Syntax.tyInt Syntax.w64) (Row.valS (Row.sInt Syntax.w64))) 13 (Rows.sc-here Row.sBool) Syntax.tyBool
               (Row.valS Row.sBool) (Row.sBool .of) (Scalar.reads-sc 𝓤 H A W (Row.sInt Syntax.w64), Path.refl)
               (Scalar.reads-sc 𝓤 H A W (Row.sInt Syntax.w64), Path.refl) (Reads'.room-gone 𝓤 H A Syntax.tyBool)
-              (Scalar.holds-sc 𝓤 H A W Row.sBool) Path.refl (λ u. Path.refl) λ u. tt) d19
+              (Scalar.holds-sc 𝓤 H A W Row.sBool) Path.refl (λ u. Path.refl) λ u. tt) d20
 
-          d21 : Typed.Typed 𝓤 H A 𝓣 E G8 b27 Δ2 at21
-          d21 = Typed.t-loop-by 𝓤 H A W 𝓣 E G8 b26 Δ2 put0 (λ u vs. Inv·0 (Row.get 1 (T8 .locals) u .now)
+          d22 : Typed.Typed 𝓤 H A 𝓣 E G8 b27 Δ2 at22
+          d22 = Typed.t-loop-by 𝓤 H A W 𝓣 E G8 b26 Δ2 put0 (λ u vs. Inv·0 (Row.get 1 (T8 .locals) u .now)
               (Row.get 3 (T8 .locals) u) (Row.get 4 (T8 .locals) u) (Row.get 5 (T8 .locals) u)
               (Row.get 6 (T8 .locals) u) (Row.get 7 (T8 .locals) u) (Row.get 8 (T8 .locals) u)
-              (Row.get 9 (T8 .locals) u) (vs .0) (vs .1) (vs .2)) (λ u vs. μ·0 (Row.get 1 (T8 .locals) u .now)
-              (Row.get 3 (T8 .locals) u) (Row.get 4 (T8 .locals) u) (Row.get 5 (T8 .locals) u)
-              (Row.get 6 (T8 .locals) u) (Row.get 7 (T8 .locals) u) (Row.get 8 (T8 .locals) u)
-              (Row.get 9 (T8 .locals) u) (vs .0) (vs .1) (vs .2)) at20 d20
+              (Row.get 9 (T8 .locals) u) (Row.get 10 (T8 .locals) u) (vs .0) (vs .1) (vs .2)) (λ u vs. μ·0
+              (Row.get 1 (T8 .locals) u .now) (Row.get 3 (T8 .locals) u) (Row.get 4 (T8 .locals) u)
+              (Row.get 5 (T8 .locals) u) (Row.get 6 (T8 .locals) u) (Row.get 7 (T8 .locals) u)
+              (Row.get 8 (T8 .locals) u) (Row.get 9 (T8 .locals) u) (Row.get 10 (T8 .locals) u) (vs .0) (vs .1) (vs .2))
+              at21 d21
 
-          d22 : Typed.Typed 𝓤 H A 𝓣 E G8 b28 Δ1 at22
-          d22 = Typed.t-block 𝓤 H A W 𝓣 E G8 b27 Δ1 at21 d21
+          d23 : Typed.Typed 𝓤 H A 𝓣 E G8 b28 Δ1 at23
+          d23 = Typed.t-block 𝓤 H A W 𝓣 E G8 b27 Δ1 at22 d22
 
-          d23 : Typed.Typed 𝓤 H A 𝓣 E G34 b30 Δ0 at23
-          d23 = Typed.t-return 𝓤 H A W 𝓣 E Δ0 tt
+          d24 : Typed.Typed 𝓤 H A 𝓣 E G35 b30 Δ0 at24
+          d24 = Typed.t-return 𝓤 H A W 𝓣 E Δ0 tt
 
-          d24 : Typed.Typed 𝓤 H A 𝓣 E G33 b30 Δ0 at24
-          d24 = Typed.g-pre 𝓤 H A W 𝓣 E G33 G34 b30 Δ0 (Typed.pass T33 T34 s30) at23 (Scalar.g-room 𝓤 H A W E G33 9
-              (Syntax.tyInt Syntax.w64) (Scalar.room-sc 𝓤 H A W (Row.sInt Syntax.w64))) d23
+          d25 : Typed.Typed 𝓤 H A 𝓣 E G34 b30 Δ0 at25
+          d25 = Typed.g-pre 𝓤 H A W 𝓣 E G34 G35 b30 Δ0 (Typed.pass T34 T35 s31) at24 (Scalar.g-room 𝓤 H A W E G34 10
+              (Syntax.tyInt Syntax.w64) (Scalar.room-sc 𝓤 H A W (Row.sInt Syntax.w64))) d24
 
-          d25 : Typed.Typed 𝓤 H A 𝓣 E G32 b30 Δ0 at25
-          d25 = Typed.g-pre 𝓤 H A W 𝓣 E G32 G33 b30 Δ0 (Typed.pass T32 T33 s29) at24 (Scalar.g-room 𝓤 H A W E G32 8
-              Laws'''.mir (Local.room-whole 𝓤 H A W (Declared.row Walked.the-type) Laws'''.mir Path.refl)) d24
+          d26 : Typed.Typed 𝓤 H A 𝓣 E G33 b30 Δ0 at26
+          d26 = Typed.g-pre 𝓤 H A W 𝓣 E G33 G34 b30 Δ0 (Typed.pass T33 T34 s30) at25 (Scalar.g-room 𝓤 H A W E G33 9
+              Laws''''.mir (Local.room-whole 𝓤 H A W (Declared'.row Walked.the-type) Laws''''.mir Path.refl)) d25
 
-          d26 : Typed.Typed 𝓤 H A 𝓣 E G31 b30 Δ0 at26
-          d26 = Typed.g-pre 𝓤 H A W 𝓣 E G31 G32 b30 Δ0 (Typed.pass T31 T32 s28) at25 (Scalar.g-room 𝓤 H A W E G31 7
-              (Syntax.tyInt Syntax.w64) (Scalar.room-sc 𝓤 H A W (Row.sInt Syntax.w64))) d25
-
-          d27 : Typed.Typed 𝓤 H A 𝓣 E G30 b30 Δ0 at27
-          d27 = Typed.g-pre 𝓤 H A W 𝓣 E G30 G31 b30 Δ0 (Typed.pass T30 T31 s27) at26 (Scalar.g-room 𝓤 H A W E G30 5
+          d27 : Typed.Typed 𝓤 H A 𝓣 E G32 b30 Δ0 at27
+          d27 = Typed.g-pre 𝓤 H A W 𝓣 E G32 G33 b30 Δ0 (Typed.pass T32 T33 s29) at26 (Scalar.g-room 𝓤 H A W E G32 8
               (Syntax.tyInt Syntax.w64) (Scalar.room-sc 𝓤 H A W (Row.sInt Syntax.w64))) d26
 
-          d28 : Typed.Typed 𝓤 H A 𝓣 E G29 b30 Δ0 at28
-          d28 = Typed.g-pre 𝓤 H A W 𝓣 E G29 G30 b30 Δ0 (Typed.pass T29 T30 s26) at27 (Scalar.g-room 𝓤 H A W E G29 4
+          d28 : Typed.Typed 𝓤 H A 𝓣 E G31 b30 Δ0 at28
+          d28 = Typed.g-pre 𝓤 H A W 𝓣 E G31 G32 b30 Δ0 (Typed.pass T31 T32 s28) at27 (Scalar.g-room 𝓤 H A W E G31 6
               (Syntax.tyInt Syntax.w64) (Scalar.room-sc 𝓤 H A W (Row.sInt Syntax.w64))) d27
 
-          d29 : Typed.Typed 𝓤 H A 𝓣 E G9 b31 Δ0 at29
-          d29 = Typed.s-seq 𝓤 H A W 𝓣 E G9 G29 b29 b30 Δ0 (Typed.both s25) at28 (Plain.t-call-plain 𝓤 H A W 𝓣 0 ps·5
+          d29 : Typed.Typed 𝓤 H A 𝓣 E G30 b30 Δ0 at29
+          d29 = Typed.g-pre 𝓤 H A W 𝓣 E G30 G31 b30 Δ0 (Typed.pass T30 T31 s27) at28 (Scalar.g-room 𝓤 H A W E G30 5
+              (Syntax.tyInt Syntax.w64) (Scalar.room-sc 𝓤 H A W (Row.sInt Syntax.w64))) d28
+
+          d30 : Typed.Typed 𝓤 H A 𝓣 E G9 b31 Δ0 at30
+          d30 = Typed.s-seq 𝓤 H A W 𝓣 E G9 G30 b29 b30 Δ0 (Typed.both s26) at29 (Plain.t-call-plain 𝓤 H A W 𝓣 0 ps·5
               r·5 (claims· .10) (claims· .11) "hnsr_circuit::tables::scan::surveyed" (known .5) E (λ pos β. β) G9 (
-                Num.vAt 7 λ x. x,
-                (record { pos = 8; st = List.[]; d = 0; at = λ x. x }, tt),
+                Num.vAt 8 λ x. x,
+                (record { pos = 9; st = List.[]; d = 0; at = λ x. x }, tt),
               ) 0 List.[] (Call.sub-id 𝓤 H A W (G9 .slots)) (
                 (Scalar.reads-sc 𝓤 H A W (Row.sInt Syntax.w64), Path.refl),
                 (
                   (
-                    Yields.yields-copy 𝓤 H A W (λ ρ. Unit) (Declared.row Walked.the-type) Path.refl (Copies.cStruct
-                        Walked.the-type Laws'''.the-laws Laws'''.the-copy .copy 𝓤 H A W)
-                        (Rows.whole (Declared.row Walked.the-type)) (λ x. x) (λ x. x) (λ ρ told. Local.mem-whole 𝓤 H A
-                        W (Declared.row Walked.the-type) ρ) λ ρ told. Local.whole-mem 𝓤 H A W
-                        (Declared.row Walked.the-type) ρ,
+                    Yields.yields-copy 𝓤 H A W (λ ρ. Unit) (Declared'.row Walked.the-type) Path.refl (Copies.cStruct
+                        Walked.the-type Laws''''.the-laws Laws''''.the-copy .copy 𝓤 H A W)
+                        (Rows.whole (Declared'.row Walked.the-type)) (λ x. x) (λ x. x) (λ ρ told. Local.mem-whole 𝓤 H A
+                        W (Declared'.row Walked.the-type) ρ) λ ρ told. Local.whole-mem 𝓤 H A W
+                        (Declared'.row Walked.the-type) ρ,
                     Path.refl,
                   ),
                   tt,
                 ),
-              ) (Reads'.room-gone 𝓤 H A Laws''.mir) tt Path.refl) d28
+              ) (Reads'.room-gone 𝓤 H A Laws'''.mir) tt Path.refl) d29
 
-          d30 : Typed.Typed 𝓤 H A 𝓣 E G8 b32 Δ0 at30
-          d30 = Typed.t-seq 𝓤 H A W 𝓣 E G8 G9 b28 b31 Δ0 at22 at29 d22 d29
+          d31 : Typed.Typed 𝓤 H A 𝓣 E G8 b32 Δ0 at31
+          d31 = Typed.t-seq 𝓤 H A W 𝓣 E G8 G9 b28 b31 Δ0 at23 at30 d23 d30
 
-          d31 : Typed.Typed 𝓤 H A 𝓣 E G7 b33 Δ0 at31
-          d31 = Typed.s-seq 𝓤 H A W 𝓣 E G7 G8 b5 b32 Δ0 (Typed.pass T7 T8 s6) at30 (Scalar.t-use 𝓤 H A W E 𝓣 G7
-              (Scalar.oInt Syntax.w64 0) 9 (Rows.sc-here (Row.sInt Syntax.w64)) (Syntax.tyInt Syntax.w64)
+          d32 : Typed.Typed 𝓤 H A 𝓣 E G7 b33 Δ0 at32
+          d32 = Typed.s-seq 𝓤 H A W 𝓣 E G7 G8 b5 b32 Δ0 (Typed.pass T7 T8 s6) at31 (Scalar.t-use 𝓤 H A W E 𝓣 G7
+              (Scalar.oInt Syntax.w64 0) 10 (Rows.sc-here (Row.sInt Syntax.w64)) (Syntax.tyInt Syntax.w64)
               (Row.valS (Row.sInt Syntax.w64)) (Row.sInt Syntax.w64 .of) tt
               (Reads'.room-gone 𝓤 H A (Syntax.tyInt Syntax.w64)) (Scalar.holds-sc 𝓤 H A W (Row.sInt Syntax.w64))
-              Path.refl (λ u. Path.refl) λ u. tt) d30
+              Path.refl (λ u. Path.refl) λ u. tt) d31
 
-          d32 : Typed.Typed 𝓤 H A 𝓣 E G6 b34 Δ0 at32
-          d32 = Typed.s-seq 𝓤 H A W 𝓣 E G6 G7 b4 b33 Δ0 (Typed.pass T6 T7 s5) at31 (LocalCopy.t-val-copy 𝓤 H A W E 𝓣
-              (λ ρ. Unit) G6 6 8 (Declared.row Walked.the-type) Laws'''.mir Laws'''.mir
-              (Rows.whole (Declared.row Walked.the-type)) (Rows.whole (Declared.row Walked.the-type)) (λ x. x) (λ x. x)
-              (λ x. x) Path.refl (Own.told-none 𝓤 H A (G6 .slots)) (Yields.yields-copy 𝓤 H A W (λ ρ. Unit)
-              (Declared.row Walked.the-type) Path.refl (Copies.cStruct Walked.the-type Laws'''.the-laws
-              Laws'''.the-copy .copy 𝓤 H A W) (Rows.whole (Declared.row Walked.the-type)) (λ x. x) (λ x. x) (λ ρ told.
-              Local.mem-whole 𝓤 H A W (Declared.row Walked.the-type) ρ) λ ρ told. Local.whole-mem 𝓤 H A W
-              (Declared.row Walked.the-type) ρ) (Reads'.room-gone 𝓤 H A Laws'''.mir) (Yields.makes-mem 𝓤 H A W
-              (λ ρ. Unit) (Declared.row Walked.the-type) Path.refl (Rows.whole (Declared.row Walked.the-type)) (λ x. x)
-              λ ρ told. Local.whole-mem 𝓤 H A W (Declared.row Walked.the-type) ρ) Path.refl Path.refl) d31
+          d33 : Typed.Typed 𝓤 H A 𝓣 E G6 b34 Δ0 at33
+          d33 = Typed.s-seq 𝓤 H A W 𝓣 E G6 G7 b4 b33 Δ0 (Typed.pass T6 T7 s5) at32 (LocalCopy.t-val-copy 𝓤 H A W E 𝓣
+              (λ ρ. Unit) G6 7 9 (Declared'.row Walked.the-type) Laws''''.mir Laws''''.mir
+              (Rows.whole (Declared'.row Walked.the-type)) (Rows.whole (Declared'.row Walked.the-type)) (λ x. x)
+              (λ x. x) (λ x. x) Path.refl (Own.told-none 𝓤 H A (G6 .slots)) (Yields.yields-copy 𝓤 H A W (λ ρ. Unit)
+              (Declared'.row Walked.the-type) Path.refl (Copies.cStruct Walked.the-type Laws''''.the-laws
+              Laws''''.the-copy .copy 𝓤 H A W) (Rows.whole (Declared'.row Walked.the-type)) (λ x. x) (λ x. x) (λ ρ
+              told. Local.mem-whole 𝓤 H A W (Declared'.row Walked.the-type) ρ) λ ρ told. Local.whole-mem 𝓤 H A W
+              (Declared'.row Walked.the-type) ρ) (Reads'.room-gone 𝓤 H A Laws''''.mir) (Yields.makes-mem 𝓤 H A W
+              (λ ρ. Unit) (Declared'.row Walked.the-type) Path.refl (Rows.whole (Declared'.row Walked.the-type))
+              (λ x. x) λ ρ told. Local.whole-mem 𝓤 H A W (Declared'.row Walked.the-type) ρ) Path.refl Path.refl) d32
 
-          d33 : Typed.Typed 𝓤 H A 𝓣 E G5 b35 Δ0 at33
-          d33 = Typed.s-seq 𝓤 H A W 𝓣 E G5 G6 b3 b34 Δ0 (Typed.pass T5 T6 s4) at32 (Scalar.t-use 𝓤 H A W E 𝓣 G5
-              (Scalar.oInt Syntax.w64 0) 7 (Rows.sc-here (Row.sInt Syntax.w64)) (Syntax.tyInt Syntax.w64)
+          d34 : Typed.Typed 𝓤 H A 𝓣 E G5 b35 Δ0 at34
+          d34 = Typed.s-seq 𝓤 H A W 𝓣 E G5 G6 b3 b34 Δ0 (Typed.pass T5 T6 s4) at33 (Scalar.t-use 𝓤 H A W E 𝓣 G5
+              (Scalar.oInt Syntax.w64 0) 8 (Rows.sc-here (Row.sInt Syntax.w64)) (Syntax.tyInt Syntax.w64)
               (Row.valS (Row.sInt Syntax.w64)) (Row.sInt Syntax.w64 .of) tt
               (Reads'.room-gone 𝓤 H A (Syntax.tyInt Syntax.w64)) (Scalar.holds-sc 𝓤 H A W (Row.sInt Syntax.w64))
-              Path.refl (λ u. Path.refl) λ u. tt) d32
+              Path.refl (λ u. Path.refl) λ u. tt) d33
 
-          d34 : Typed.Typed 𝓤 H A 𝓣 E G4 b36 Δ0 at34
-          d34 = Typed.s-seq 𝓤 H A W 𝓣 E G4 G5 b2 b35 Δ0 (Typed.both s3) at33 (Plain.t-call-plain 𝓤 H A W 𝓣 0 ps·1 r·1
-              (claims· .2) (claims· .3) "hnsr_circuit::tables::scan::not_yet" (known .1) E (λ pos β. β) G4 tt 6 List.[]
-              (Call.sub-id 𝓤 H A W (G4 .slots)) tt (Reads'.room-gone 𝓤 H A Laws'''.mir) tt Path.refl) d33
+          d35 : Typed.Typed 𝓤 H A 𝓣 E G4 b36 Δ0 at35
+          d35 = Typed.s-seq 𝓤 H A W 𝓣 E G4 G5 b2 b35 Δ0 (Typed.both s3) at34 (Plain.t-call-plain 𝓤 H A W 𝓣 0 ps·1 r·1
+              (claims· .2) (claims· .3) "hnsr_circuit::tables::scan::not_yet" (known .1) E (λ pos β. β) G4 tt 7 List.[]
+              (Call.sub-id 𝓤 H A W (G4 .slots)) tt (Reads'.room-gone 𝓤 H A Laws''''.mir) tt Path.refl) d34
 
-          d35 : Typed.Typed 𝓤 H A 𝓣 E G3 b36 Δ0 at35
-          d35 = Typed.g-pre 𝓤 H A W 𝓣 E G3 G4 b36 Δ0 (Typed.pass T3 T4 s2) at34 (Scalar.g-room 𝓤 H A W E G3 2 Laws.mir (Local.room-whole
-              𝓤 H A W (Declared.row Places.the-type) Laws.mir Path.refl)) d34
+          d36 : Typed.Typed 𝓤 H A 𝓣 E G3 b36 Δ0 at36
+          d36 = Typed.g-pre 𝓤 H A W 𝓣 E G3 G4 b36 Δ0 (Typed.pass T3 T4 s2) at35 (Scalar.g-room 𝓤 H A W E G3 2 Laws'.mir (Local.room-whole
+              𝓤 H A W (Declared'.row Places.the-type) Laws'.mir Path.refl)) d35
 
-          d36 : Typed.Typed 𝓤 H A 𝓣 E G2 b37 Δ0 at36
-          d36 = Typed.s-seq 𝓤 H A W 𝓣 E G2 G3 b1 b36 Δ0 (Typed.both s1) at35 (Plain.t-call-plain 𝓤 H A W 𝓣 0 ps·0 r·0
+          d37 : Typed.Typed 𝓤 H A 𝓣 E G2 b37 Δ0 at37
+          d37 = Typed.s-seq 𝓤 H A W 𝓣 E G2 G3 b1 b36 Δ0 (Typed.both s1) at36 (Plain.t-call-plain 𝓤 H A W 𝓣 0 ps·0 r·0
               (claims· .0) (claims· .1) "hns_encoding::numbers::min_usize" (known .0) E (λ pos β. β) G2 (
                 Num.vFld 2 ((Syntax.field 1) ∷ List.[]) 8 λ x. Places.struct .as-values x .1 .0,
-                (Num.vAt 4 λ x. x, tt),
-              ) 5 List.[] (Call.sub-id 𝓤 H A W (G2 .slots)) (
+                (Num.vAt 5 λ x. x, tt),
+              ) 6 List.[] (Call.sub-id 𝓤 H A W (G2 .slots)) (
                 (
-                  Reads.reads-field 𝓤 H A W Places.the-type Laws.the-laws 1 (Syntax.tyInt Syntax.w64) 8 Path.refl,
+                  Reads.reads-field 𝓤 H A W Places.the-type Laws'.the-laws 1 (Syntax.tyInt Syntax.w64) 8 Path.refl,
                   Path.refl,
                 ),
                 ((Scalar.reads-sc 𝓤 H A W (Row.sInt Syntax.w64), Path.refl), tt),
-              ) (Reads'.room-gone 𝓤 H A (Syntax.tyInt Syntax.w64)) tt Path.refl) d35
+              ) (Reads'.room-gone 𝓤 H A (Syntax.tyInt Syntax.w64)) tt Path.refl) d36
 
-          d37 : Typed.Typed 𝓤 H A 𝓣 E G0 b38 Δ0 at37
-          d37 = Typed.s-seq 𝓤 H A W 𝓣 E G0 G2 b0 b37 Δ0 (Typed.pass T0 T2 s0) at36 (Scalar.t-use 𝓤 H A W E 𝓣 G0 (Scalar.oFld
-              1 ((Syntax.field 1) ∷ List.[]) (Syntax.tyInt Syntax.w64) 8 Shared.lenV) 4
+          d38 : Typed.Typed 𝓤 H A 𝓣 E G0 b38 Δ0 at38
+          d38 = Typed.s-seq 𝓤 H A W 𝓣 E G0 G2 b0 b37 Δ0 (Typed.pass T0 T2 s0) at37 (Scalar.t-use 𝓤 H A W E 𝓣 G0 (Scalar.oFld
+              1 ((Syntax.field 1) ∷ List.[]) (Syntax.tyInt Syntax.w64) 8 Shared.lenV) 5
               (Rows.sc-here (Row.sInt Syntax.w64)) (Syntax.tyInt Syntax.w64) (Row.valS (Row.sInt Syntax.w64))
               (Row.sInt Syntax.w64 .of) (
                 Shared.reads-sslice-len 𝓤 H A W RelayCircuit.row ref0 0 8 Path.refl,
                 Path.refl,
               ) (Reads'.room-gone 𝓤 H A (Syntax.tyInt Syntax.w64)) (Scalar.holds-sc 𝓤 H A W (Row.sInt Syntax.w64))
-              Path.refl (λ u. Path.refl) λ u. tt) d36
+              Path.refl (λ u. Path.refl) λ u. tt) d37
 
           pub typed : Typed.Typed 𝓤 H A 𝓣 E (Function.Γin 1 ps r xs m κs qs) b38 (Function.Δret 1 ps r xs m κs qs) Φ
-          typed = d37
+          typed = d38
 
       module _ (κs : Lifetimes.Lfts 1) where
         pub record Args : Type 0 where
           pub circuits : Kinds.Den {n = 1} κs (ShrSlice.pShrS RelayCircuit.row 0 tt)
-          pub places : Kinds.Den {n = 1} κs (StructRow.param Places.the-type Laws.the-laws Laws.the-copy Laws.the-plain)
-          pub question : Kinds.Den {n = 1} κs (StructRow.param Question.the-type Laws'.the-laws Laws'.the-copy
+          pub places : Kinds.Den {n = 1} κs (StructRow.param Places.the-type Laws'.the-laws Laws'.the-copy
               Laws'.the-plain)
+          pub question : Kinds.Den {n = 1} κs (StructRow.enum-param RecordQuestion.the-type Laws''.the-laws
+              Laws''.the-copy Laws''.the-plain tt)
+          pub peer : Kinds.Den {n = 1} κs (StructRow.param HnsrPeerId.the-type Laws.the-laws Laws.the-copy
+              Laws.the-plain)
 
         abbrev pub dens : (a : Args) → Kinds.Dens κs ps
-        dens = λ a. (a .circuits, (a .places, (a .question, tt)))
+        dens = λ a. (a .circuits, (a .places, (a .question, (a .peer, tt))))
 
       abbrev pub m0 : (κs : Lifetimes.Lfts 1) → (args : Args κs) → Typed.Mo T0
       m0 = λ κs args. (tt, Enter.partsP κs 1 ps xs (dens κs args))
@@ -1354,7 +1403,7 @@ module _ (claims· : Claims) where
 
       abbrev W1 : (before : After-min-usize) → (given : s3 .gives (m3 (before .before) (After-min-usize·gave before)))
           → Typed.Want O1
-      W1 = λ before given. Typed.wantNext T9 O0 (at29 (W0 (before .before .κs) (before .before .args)))
+      W1 = λ before given. Typed.wantNext T9 O0 (at30 (W0 (before .before .κs) (before .before .args)))
           (W0 (before .before .κs) (before .before .args))
 
       abbrev W2 : (before : After-min-usize) → (given : s3 .gives (m3 (before .before) (After-min-usize·gave before)))
@@ -1367,45 +1416,47 @@ module _ (claims· : Claims) where
           (m7 (c .before) (After-not-yet·gave c))) (Row.get 5 (T8 .locals) (m7 (c .before) (After-not-yet·gave c))) (Row.get
           6 (T8 .locals) (m7 (c .before) (After-not-yet·gave c))) (Row.get 7 (T8 .locals)
           (m7 (c .before) (After-not-yet·gave c))) (Row.get 8 (T8 .locals) (m7 (c .before) (After-not-yet·gave c))) (Row.get
-          9 (T8 .locals) (m7 (c .before) (After-not-yet·gave c))) (Row.get 7 (T8 .locals)
+          9 (T8 .locals) (m7 (c .before) (After-not-yet·gave c))) (Row.get 10 (T8 .locals)
           (m7 (c .before) (After-not-yet·gave c))) (Row.get 8 (T8 .locals) (m7 (c .before) (After-not-yet·gave c))) (Row.get
-          9 (T8 .locals) (m7 (c .before) (After-not-yet·gave c)))
+          9 (T8 .locals) (m7 (c .before) (After-not-yet·gave c))) (Row.get 10 (T8 .locals)
+          (m7 (c .before) (After-not-yet·gave c)))
 
       abbrev pub m8 : (before : After-not-yet) → (used : Rows.sc-here (Row.sInt Syntax.w64) .Mod) →
-          (first : Rows.whole (Declared.row Walked.the-type) .Mod) → (i : Rows.sc-here (Row.sInt Syntax.w64) .Mod) →
+          (first : Rows.whole (Declared'.row Walked.the-type) .Mod) → (i : Rows.sc-here (Row.sInt Syntax.w64) .Mod) →
           Typed.Mo T8
-      m8 = λ before used first i. Row.set 9 (9, Rows.sc-here (Row.sInt Syntax.w64)) i (Row.setRow 8
-          (8, Rows.whole (Declared.row Walked.the-type)) (Row.setRow 7 (7, Rows.sc-here (Row.sInt Syntax.w64))
-          (T8 .locals))) (Row.set 8 (8, Rows.whole (Declared.row Walked.the-type)) first (Row.setRow 7
-          (7, Rows.sc-here (Row.sInt Syntax.w64)) (T8 .locals)) (Row.set 7 (7, Rows.sc-here (Row.sInt Syntax.w64)) used
+      m8 = λ before used first i. Row.set 10 (10, Rows.sc-here (Row.sInt Syntax.w64)) i (Row.setRow 9
+          (9, Rows.whole (Declared'.row Walked.the-type)) (Row.setRow 8 (8, Rows.sc-here (Row.sInt Syntax.w64))
+          (T8 .locals))) (Row.set 9 (9, Rows.whole (Declared'.row Walked.the-type)) first (Row.setRow 8
+          (8, Rows.sc-here (Row.sInt Syntax.w64)) (T8 .locals)) (Row.set 8 (8, Rows.sc-here (Row.sInt Syntax.w64)) used
           (T8 .locals) (m7 (before .before) (After-not-yet·gave before))))
 
       abbrev W3 : (before : After-not-yet) → (used : Rows.sc-here (Row.sInt Syntax.w64) .Mod) →
-          (first : Rows.whole (Declared.row Walked.the-type) .Mod) → (i : Rows.sc-here (Row.sInt Syntax.w64) .Mod) →
+          (first : Rows.whole (Declared'.row Walked.the-type) .Mod) → (i : Rows.sc-here (Row.sInt Syntax.w64) .Mod) →
           Typed.Want O3
       W3 = λ before used first i. Typed.inLoop T8 O2 (Typed.Round T8 O2 put0 (λ u vs. Inv·0
           (Row.get 1 (T8 .locals) u .now) (Row.get 3 (T8 .locals) u) (Row.get 4 (T8 .locals) u)
           (Row.get 5 (T8 .locals) u) (Row.get 6 (T8 .locals) u) (Row.get 7 (T8 .locals) u) (Row.get 8 (T8 .locals) u)
-          (Row.get 9 (T8 .locals) u) (vs .0) (vs .1) (vs .2)) (λ u vs. μ·0 (Row.get 1 (T8 .locals) u .now)
-          (Row.get 3 (T8 .locals) u) (Row.get 4 (T8 .locals) u) (Row.get 5 (T8 .locals) u) (Row.get 6 (T8 .locals) u)
-          (Row.get 7 (T8 .locals) u) (Row.get 8 (T8 .locals) u) (Row.get 9 (T8 .locals) u) (vs .0) (vs .1) (vs .2))
-          at20 (m7 (before .before) (After-not-yet·gave before)) (used, first, i))
+          (Row.get 9 (T8 .locals) u) (Row.get 10 (T8 .locals) u) (vs .0) (vs .1) (vs .2)) (λ u vs. μ·0
+          (Row.get 1 (T8 .locals) u .now) (Row.get 3 (T8 .locals) u) (Row.get 4 (T8 .locals) u)
+          (Row.get 5 (T8 .locals) u) (Row.get 6 (T8 .locals) u) (Row.get 7 (T8 .locals) u) (Row.get 8 (T8 .locals) u)
+          (Row.get 9 (T8 .locals) u) (Row.get 10 (T8 .locals) u) (vs .0) (vs .1) (vs .2)) at21
+          (m7 (before .before) (After-not-yet·gave before)) (used, first, i))
           (W2 (before .before) (After-not-yet·gave before))
 
       abbrev pub m9 : (before : After-not-yet) → (used : Rows.sc-here (Row.sInt Syntax.w64) .Mod) →
-          (first : Rows.whole (Declared.row Walked.the-type) .Mod) → (i : Rows.sc-here (Row.sInt Syntax.w64) .Mod) →
+          (first : Rows.whole (Declared'.row Walked.the-type) .Mod) → (i : Rows.sc-here (Row.sInt Syntax.w64) .Mod) →
           Typed.Mo T10
       m9 = λ before used first i. s7 .next (m8 before used first i)
 
       abbrev W4 : (before : After-not-yet) → (used : Rows.sc-here (Row.sInt Syntax.w64) .Mod) →
-          (first : Rows.whole (Declared.row Walked.the-type) .Mod) → (i : Rows.sc-here (Row.sInt Syntax.w64) .Mod) →
+          (first : Rows.whole (Declared'.row Walked.the-type) .Mod) → (i : Rows.sc-here (Row.sInt Syntax.w64) .Mod) →
           Typed.Want O4
-      W4 = λ before used first i. Typed.wantNext T11 O3 (at18 (W3 before used first i)) (W3 before used first i)
+      W4 = λ before used first i. Typed.wantNext T11 O3 (at19 (W3 before used first i)) (W3 before used first i)
 
       module _ (before· : After-not-yet) where
         pub record At-loop·own : Type 0 where
           pub used : Rows.sc-here (Row.sInt Syntax.w64) .Mod
-          pub first : Rows.whole (Declared.row Walked.the-type) .Mod
+          pub first : Rows.whole (Declared'.row Walked.the-type) .Mod
           pub i : Rows.sc-here (Row.sInt Syntax.w64) .Mod
           pub inv : Inv·0 (Row.get 1 (T8 .locals) (m7 (before· .before) (After-not-yet·gave before·)) .now) (Row.get 3
               (T8 .locals) (m7 (before· .before) (After-not-yet·gave before·))) (Row.get 4 (T8 .locals)
@@ -1414,6 +1465,7 @@ module _ (claims· : Claims) where
               (m7 (before· .before) (After-not-yet·gave before·))) (Row.get 7 (T8 .locals)
               (m7 (before· .before) (After-not-yet·gave before·))) (Row.get 8 (T8 .locals)
               (m7 (before· .before) (After-not-yet·gave before·))) (Row.get 9 (T8 .locals)
+              (m7 (before· .before) (After-not-yet·gave before·))) (Row.get 10 (T8 .locals)
               (m7 (before· .before) (After-not-yet·gave before·))) used first i
 
       pub record At-loop : Type 0 where
@@ -1422,8 +1474,8 @@ module _ (claims· : Claims) where
 
       module _ (before· : At-loop) where
         pub record In-loop·own : Type 0 where
-          pub taken : Nat._<_ (Row.get 9 (T8 .locals) (m8 (before· .before) (before· .loop .used)
-              (before· .loop .first) (before· .loop .i))) (Row.get 5 (T8 .locals) (m8 (before· .before)
+          pub taken : Nat._<_ (Row.get 10 (T8 .locals) (m8 (before· .before) (before· .loop .used)
+              (before· .loop .first) (before· .loop .i))) (Row.get 6 (T8 .locals) (m8 (before· .before)
               (before· .loop .used) (before· .loop .first) (before· .loop .i)))
 
       pub record In-loop : Type 0 where
@@ -1435,8 +1487,8 @@ module _ (claims· : Claims) where
 
       module _ (before· : At-loop) where
         pub record After-loop·own : Type 0 where
-          pub left : Nat._≤_ (Row.get 5 (T8 .locals) (m8 (before· .before) (before· .loop .used) (before· .loop .first)
-              (before· .loop .i))) (Row.get 9 (T8 .locals) (m8 (before· .before) (before· .loop .used)
+          pub left : Nat._≤_ (Row.get 6 (T8 .locals) (m8 (before· .before) (before· .loop .used) (before· .loop .first)
+              (before· .loop .i))) (Row.get 10 (T8 .locals) (m8 (before· .before) (before· .loop .used)
               (before· .loop .first) (before· .loop .i)))
 
       pub record After-loop : Type 0 where
@@ -1452,119 +1504,122 @@ module _ (claims· : Claims) where
       abbrev pub m13 : (before : At-loop) → Typed.Mo T15
       m13 = λ before. s11 (m12 before)
 
-      abbrev pub Need-mul-row : Type 0
-      Need-mul-row = (c : In-loop) → s12 .asks (m10 (c .before))
-
       abbrev pub m14 : (before : At-loop) → Typed.Mo T16
-      m14 = λ before. s12 .next (m10 before)
+      m14 = λ before. s12 (m13 before)
+
+      abbrev pub Need-mul-row : Type 0
+      Need-mul-row = (c : In-loop) → s13 .asks (m10 (c .before))
 
       abbrev pub m15 : (before : At-loop) → Typed.Mo T17
-      m15 = λ before. s13 .next (m14 before)
+      m15 = λ before. s13 .next (m10 before)
+
+      abbrev pub m16 : (before : At-loop) → Typed.Mo T18
+      m16 = λ before. s14 .next (m15 before)
 
       abbrev pub Need-shared-slice-copy-out-row : Type 0
-      Need-shared-slice-copy-out-row = (c : In-loop) → Shared.InSlice T17 1 14 (λ x. x)
-          (λ u. u .1 .1 .1 .1 .1 .1 .1 .1 .1 .0) (m15 (c .before))
+      Need-shared-slice-copy-out-row = (c : In-loop) → Shared.InSlice T18 1 15 (λ x. x)
+          (λ u. u .1 .1 .1 .1 .1 .1 .1 .1 .1 .1 .0) (m16 (c .before))
 
-      abbrev pub m16 : (before : In-loop) → (given : s14 .gives (m15 (before .before))) → Typed.Mo T18
-      m16 = λ before given. s14 .next (m15 (before .before)) given
+      abbrev pub m17 : (before : In-loop) → (given : s15 .gives (m16 (before .before))) → Typed.Mo T19
+      m17 = λ before given. s15 .next (m16 (before .before)) given
 
-      abbrev pub m17 : (before : In-loop) → (given : s14 .gives (m15 (before .before))) → Typed.Mo T19
-      m17 = λ before given. s15 (m16 before given)
-
-      abbrev pub m18 : (before : In-loop) → (given : s14 .gives (m15 (before .before))) → Typed.Mo T20
+      abbrev pub m18 : (before : In-loop) → (given : s15 .gives (m16 (before .before))) → Typed.Mo T20
       m18 = λ before given. s16 (m17 before given)
 
-      abbrev pub m19 : (before : In-loop) → (given : s14 .gives (m15 (before .before))) → Typed.Mo T21
+      abbrev pub m19 : (before : In-loop) → (given : s15 .gives (m16 (before .before))) → Typed.Mo T21
       m19 = λ before given. s17 (m18 before given)
 
-      abbrev pub m20 : (before : In-loop) → (given : s14 .gives (m15 (before .before))) → Typed.Mo T22
+      abbrev pub m20 : (before : In-loop) → (given : s15 .gives (m16 (before .before))) → Typed.Mo T22
       m20 = λ before given. s18 (m19 before given)
+
+      abbrev pub m21 : (before : In-loop) → (given : s15 .gives (m16 (before .before))) → Typed.Mo T23
+      m21 = λ before given. s19 (m20 before given)
 
       module _ (before· : In-loop) where
         pub record After-row·own : Type 0 where
-          pub given : s14 .gives (m15 (before· .before))
+          pub given : s15 .gives (m16 (before· .before))
 
       pub record After-row : Type 0 where
         pub before : In-loop
         pub row : After-row·own before
 
       abbrev pub Need-is-circuit-requires : Type 0
-      Need-is-circuit-requires = (c : After-row) → s19 .asks (m20 (c .before) (c .row .given))
+      Need-is-circuit-requires = (c : After-row) → s20 .asks (m21 (c .before) (c .row .given))
 
-      abbrev pub m21 : (before : After-row) → (given : s19 .gives (m20 (before .before) (before .row .given))) →
-          Typed.Mo T23
-      m21 = λ before given. s19 .next (m20 (before .before) (before .row .given)) given
+      abbrev pub m22 : (before : After-row) → (given : s20 .gives (m21 (before .before) (before .row .given))) →
+          Typed.Mo T24
+      m22 = λ before given. s20 .next (m21 (before .before) (before .row .given)) given
 
       module _ (before· : After-row) where
         abbrev pub After-is-circuit·own : Type 0
-        After-is-circuit·own = Called.Called ps·2 r·2 (claims· .5) T22 args19
-            (m20 (before· .before) (before· .row .given))
+        After-is-circuit·own = Called.Called ps·2 r·2 (claims· .5) T23 args20
+            (m21 (before· .before) (before· .row .given))
 
       pub record After-is-circuit : Type 0 where
         pub before : After-row
         pub is-circuit : After-is-circuit·own before
 
-      abbrev pub After-is-circuit·gave : (c : After-is-circuit) → s19 .gives
-          (m20 (c .before .before) (c .before .row .given))
-      After-is-circuit·gave = λ c. Called.given ps·2 r·2 (claims· .5) T22 args19
-          (m20 (c .before .before) (c .before .row .given)) (c .is-circuit)
+      abbrev pub After-is-circuit·gave : (c : After-is-circuit) → s20 .gives
+          (m21 (c .before .before) (c .before .row .given))
+      After-is-circuit·gave = λ c. Called.given ps·2 r·2 (claims· .5) T23 args20
+          (m21 (c .before .before) (c .before .row .given)) (c .is-circuit)
 
       abbrev pub Need-one-more-requires : Type 0
-      Need-one-more-requires = (c : After-is-circuit) → s20 .asks (m21 (c .before) (After-is-circuit·gave c))
+      Need-one-more-requires = (c : After-is-circuit) → s21 .asks (m22 (c .before) (After-is-circuit·gave c))
 
-      abbrev pub m22 : (before : After-is-circuit) → (given : s20 .gives
-          (m21 (before .before) (After-is-circuit·gave before))) → Typed.Mo T24
-      m22 = λ before given. s20 .next (m21 (before .before) (After-is-circuit·gave before)) given
+      abbrev pub m23 : (before : After-is-circuit) → (given : s21 .gives
+          (m22 (before .before) (After-is-circuit·gave before))) → Typed.Mo T25
+      m23 = λ before given. s21 .next (m22 (before .before) (After-is-circuit·gave before)) given
 
       module _ (before· : After-is-circuit) where
         abbrev pub After-one-more·own : Type 0
-        After-one-more·own = Called.Called ps·3 r·3 (claims· .7) T23 args20
-            (m21 (before· .before) (After-is-circuit·gave before·))
+        After-one-more·own = Called.Called ps·3 r·3 (claims· .7) T24 args21
+            (m22 (before· .before) (After-is-circuit·gave before·))
 
       pub record After-one-more : Type 0 where
         pub before : After-is-circuit
         pub one-more : After-one-more·own before
 
-      abbrev pub After-one-more·gave : (c : After-one-more) → s20 .gives (m21 (c .before .before)
+      abbrev pub After-one-more·gave : (c : After-one-more) → s21 .gives (m22 (c .before .before)
           (After-is-circuit·gave (c .before)))
-      After-one-more·gave = λ c. Called.given ps·3 r·3 (claims· .7) T23 args20 (m21 (c .before .before)
+      After-one-more·gave = λ c. Called.given ps·3 r·3 (claims· .7) T24 args21 (m22 (c .before .before)
           (After-is-circuit·gave (c .before))) (c .one-more)
 
       abbrev pub Need-circuit-turn-requires : Type 0
-      Need-circuit-turn-requires = (c : After-one-more) → s21 .asks (m22 (c .before) (After-one-more·gave c))
+      Need-circuit-turn-requires = (c : After-one-more) → s22 .asks (m23 (c .before) (After-one-more·gave c))
 
-      abbrev pub m23 : (before : After-one-more) → (given : s21 .gives
-          (m22 (before .before) (After-one-more·gave before))) → Typed.Mo T25
-      m23 = λ before given. s21 .next (m22 (before .before) (After-one-more·gave before)) given
+      abbrev pub m24 : (before : After-one-more) → (given : s22 .gives
+          (m23 (before .before) (After-one-more·gave before))) → Typed.Mo T26
+      m24 = λ before given. s22 .next (m23 (before .before) (After-one-more·gave before)) given
 
       module _ (before· : After-one-more) where
         abbrev pub After-circuit-turn·own : Type 0
-        After-circuit-turn·own = Called.Called ps·4 r·4 (claims· .9) T24 args21
-            (m22 (before· .before) (After-one-more·gave before·))
+        After-circuit-turn·own = Called.Called ps·4 r·4 (claims· .9) T25 args22
+            (m23 (before· .before) (After-one-more·gave before·))
 
       pub record After-circuit-turn : Type 0 where
         pub before : After-one-more
         pub circuit-turn : After-circuit-turn·own before
 
-      abbrev pub After-circuit-turn·gave : (c : After-circuit-turn) → s21 .gives
-          (m22 (c .before .before) (After-one-more·gave (c .before)))
-      After-circuit-turn·gave = λ c. Called.given ps·4 r·4 (claims· .9) T24 args21
-          (m22 (c .before .before) (After-one-more·gave (c .before))) (c .circuit-turn)
+      abbrev pub After-circuit-turn·gave : (c : After-circuit-turn) → s22 .gives
+          (m23 (c .before .before) (After-one-more·gave (c .before)))
+      After-circuit-turn·gave = λ c. Called.given ps·4 r·4 (claims· .9) T25 args22
+          (m23 (c .before .before) (After-one-more·gave (c .before))) (c .circuit-turn)
 
-      abbrev pub m24 : (before : After-one-more) → (given : s21 .gives
-          (m22 (before .before) (After-one-more·gave before))) → Typed.Mo T26
-      m24 = λ before given. s22 (m23 before given)
+      abbrev pub m25 : (before : After-one-more) → (given : s22 .gives
+          (m23 (before .before) (After-one-more·gave before))) → Typed.Mo T27
+      m25 = λ before given. s23 (m24 before given)
 
       abbrev pub Need-add-i : Type 0
-      Need-add-i = (c : After-circuit-turn) → s23 .asks (m24 (c .before) (After-circuit-turn·gave c))
+      Need-add-i = (c : After-circuit-turn) → s24 .asks (m25 (c .before) (After-circuit-turn·gave c))
 
-      abbrev pub m25 : (before : After-one-more) → (given : s21 .gives
-          (m22 (before .before) (After-one-more·gave before))) → Typed.Mo T27
-      m25 = λ before given. s23 .next (m24 before given)
+      abbrev pub m26 : (before : After-one-more) → (given : s22 .gives
+          (m23 (before .before) (After-one-more·gave before))) → Typed.Mo T28
+      m26 = λ before given. s24 .next (m25 before given)
 
-      abbrev pub m26 : (before : After-one-more) → (given : s21 .gives
-          (m22 (before .before) (After-one-more·gave before))) → Typed.Mo T28
-      m26 = λ before given. s24 (m25 before given)
+      abbrev pub m27 : (before : After-one-more) → (given : s22 .gives
+          (m23 (before .before) (After-one-more·gave before))) → Typed.Mo T29
+      m27 = λ before given. s25 (m26 before given)
 
       abbrev pub Need-loop-less : Type 0
       Need-loop-less = (c : After-circuit-turn) → Nat._<_ (μ·0 (Row.get 1 (T8 .locals) (m7
@@ -1583,10 +1638,12 @@ module _ (claims· : Claims) where
           (c .before .before .before .before .before .before .before) (After-not-yet·gave
           (c .before .before .before .before .before .before)))) (Row.get 9 (T8 .locals) (m7
           (c .before .before .before .before .before .before .before) (After-not-yet·gave
-          (c .before .before .before .before .before .before)))) (Row.get 7 (T8 .locals)
-          (m26 (c .before) (After-circuit-turn·gave c))) (Row.get 8 (T8 .locals)
-          (m26 (c .before) (After-circuit-turn·gave c))) (Row.get 9 (T8 .locals)
-          (m26 (c .before) (After-circuit-turn·gave c)))) (μ·0 (Row.get 1 (T8 .locals) (m7
+          (c .before .before .before .before .before .before)))) (Row.get 10 (T8 .locals) (m7
+          (c .before .before .before .before .before .before .before) (After-not-yet·gave
+          (c .before .before .before .before .before .before)))) (Row.get 8 (T8 .locals)
+          (m27 (c .before) (After-circuit-turn·gave c))) (Row.get 9 (T8 .locals)
+          (m27 (c .before) (After-circuit-turn·gave c))) (Row.get 10 (T8 .locals)
+          (m27 (c .before) (After-circuit-turn·gave c)))) (μ·0 (Row.get 1 (T8 .locals) (m7
           (c .before .before .before .before .before .before .before) (After-not-yet·gave
           (c .before .before .before .before .before .before))) .now) (Row.get 3 (T8 .locals) (m7
           (c .before .before .before .before .before .before .before) (After-not-yet·gave
@@ -1601,6 +1658,8 @@ module _ (claims· : Claims) where
           (c .before .before .before .before .before .before)))) (Row.get 8 (T8 .locals) (m7
           (c .before .before .before .before .before .before .before) (After-not-yet·gave
           (c .before .before .before .before .before .before)))) (Row.get 9 (T8 .locals) (m7
+          (c .before .before .before .before .before .before .before) (After-not-yet·gave
+          (c .before .before .before .before .before .before)))) (Row.get 10 (T8 .locals) (m7
           (c .before .before .before .before .before .before .before) (After-not-yet·gave
           (c .before .before .before .before .before .before))))
           (c .before .before .before .before .before .loop .used)
@@ -1623,51 +1682,53 @@ module _ (claims· : Claims) where
           (c .before .before .before .before .before .before .before) (After-not-yet·gave
           (c .before .before .before .before .before .before)))) (Row.get 9 (T8 .locals) (m7
           (c .before .before .before .before .before .before .before) (After-not-yet·gave
-          (c .before .before .before .before .before .before)))) (Row.get 7 (T8 .locals)
-          (m26 (c .before) (After-circuit-turn·gave c))) (Row.get 8 (T8 .locals)
-          (m26 (c .before) (After-circuit-turn·gave c))) (Row.get 9 (T8 .locals)
-          (m26 (c .before) (After-circuit-turn·gave c)))
+          (c .before .before .before .before .before .before)))) (Row.get 10 (T8 .locals) (m7
+          (c .before .before .before .before .before .before .before) (After-not-yet·gave
+          (c .before .before .before .before .before .before)))) (Row.get 8 (T8 .locals)
+          (m27 (c .before) (After-circuit-turn·gave c))) (Row.get 9 (T8 .locals)
+          (m27 (c .before) (After-circuit-turn·gave c))) (Row.get 10 (T8 .locals)
+          (m27 (c .before) (After-circuit-turn·gave c)))
 
       abbrev pub Need-surveyed-requires : Type 0
-      Need-surveyed-requires = (c : After-loop) → s25 .asks (m13 (c .before))
+      Need-surveyed-requires = (c : After-loop) → s26 .asks (m14 (c .before))
 
-      abbrev pub m27 : (before : After-loop) → (given : s25 .gives (m13 (before .before))) → Typed.Mo T29
-      m27 = λ before given. s25 .next (m13 (before .before)) given
+      abbrev pub m28 : (before : After-loop) → (given : s26 .gives (m14 (before .before))) → Typed.Mo T30
+      m28 = λ before given. s26 .next (m14 (before .before)) given
 
       module _ (before· : After-loop) where
         abbrev pub After-surveyed·own : Type 0
-        After-surveyed·own = Called.Called ps·5 r·5 (claims· .11) T9 args25 (m13 (before· .before))
+        After-surveyed·own = Called.Called ps·5 r·5 (claims· .11) T9 args26 (m14 (before· .before))
 
       pub record After-surveyed : Type 0 where
         pub before : After-loop
         pub surveyed : After-surveyed·own before
 
-      abbrev pub After-surveyed·gave : (c : After-surveyed) → s25 .gives (m13 (c .before .before))
-      After-surveyed·gave = λ c. Called.given ps·5 r·5 (claims· .11) T9 args25 (m13 (c .before .before)) (c .surveyed)
+      abbrev pub After-surveyed·gave : (c : After-surveyed) → s26 .gives (m14 (c .before .before))
+      After-surveyed·gave = λ c. Called.given ps·5 r·5 (claims· .11) T9 args26 (m14 (c .before .before)) (c .surveyed)
 
-      abbrev pub m28 : (before : After-loop) → (given : s25 .gives (m13 (before .before))) → Typed.Mo T30
-      m28 = λ before given. s26 (m27 before given)
-
-      abbrev pub m29 : (before : After-loop) → (given : s25 .gives (m13 (before .before))) → Typed.Mo T31
+      abbrev pub m29 : (before : After-loop) → (given : s26 .gives (m14 (before .before))) → Typed.Mo T31
       m29 = λ before given. s27 (m28 before given)
 
-      abbrev pub m30 : (before : After-loop) → (given : s25 .gives (m13 (before .before))) → Typed.Mo T32
+      abbrev pub m30 : (before : After-loop) → (given : s26 .gives (m14 (before .before))) → Typed.Mo T32
       m30 = λ before given. s28 (m29 before given)
 
-      abbrev pub m31 : (before : After-loop) → (given : s25 .gives (m13 (before .before))) → Typed.Mo T33
+      abbrev pub m31 : (before : After-loop) → (given : s26 .gives (m14 (before .before))) → Typed.Mo T33
       m31 = λ before given. s29 (m30 before given)
 
-      abbrev pub m32 : (before : After-loop) → (given : s25 .gives (m13 (before .before))) → Typed.Mo T34
+      abbrev pub m32 : (before : After-loop) → (given : s26 .gives (m14 (before .before))) → Typed.Mo T34
       m32 = λ before given. s30 (m31 before given)
+
+      abbrev pub m33 : (before : After-loop) → (given : s26 .gives (m14 (before .before))) → Typed.Mo T35
+      m33 = λ before given. s31 (m32 before given)
 
       abbrev pub Need-returns : Type 0
       Need-returns = (c : After-surveyed) → Post· (c .before .before .before .before .before .κs) (dens
           (c .before .before .before .before .before .κs) (c .before .before .before .before .before .args)) (Function.resV
-          r (c .before .before .before .before .before .κs) (m32 (c .before) (After-surveyed·gave c) .0)) (Clauses.atExit
+          r (c .before .before .before .before .before .κs) (m33 (c .before) (After-surveyed·gave c) .0)) (Clauses.atExit
           (Kinds.endedOf 1 ps r) (c .before .before .before .before .before .κs) (dens
           (c .before .before .before .before .before .κs) (c .before .before .before .before .before .args)) (Enter.lastsP
           (c .before .before .before .before .before .κs) 1 ps xs (dens (c .before .before .before .before .before .κs)
-          (c .before .before .before .before .before .args)) (m32 (c .before) (After-surveyed·gave c) .1)))
+          (c .before .before .before .before .before .args)) (m33 (c .before) (After-surveyed·gave c) .1)))
 
       module _ (min-usize-requires : Need-min-usize-requires) (not-yet-requires : Need-not-yet-requires)
           (loop-holds : Need-loop-holds) (mul-row : Need-mul-row) (shared-slice-copy-out-row :
@@ -1675,24 +1736,24 @@ module _ (claims· : Claims) where
           (one-more-requires : Need-one-more-requires) (circuit-turn-requires : Need-circuit-turn-requires)
           (add-i : Need-add-i) (loop-less : Need-loop-less) (loop-again : Need-loop-again)
           (surveyed-requires : Need-surveyed-requires) (returns : Need-returns) where
-        lay10 : (c : After-surveyed) → at28 (W0 (c .before .before .before .before .before .κs)
-            (c .before .before .before .before .before .args)) (m27 (c .before) (After-surveyed·gave c))
-        lay10 = λ c. ((Path.refl, (tt, (tt, tt))), returns record { before = c .before; surveyed = c .surveyed })
+        lay10 : (c : After-surveyed) → at29 (W0 (c .before .before .before .before .before .κs)
+            (c .before .before .before .before .before .args)) (m28 (c .before) (After-surveyed·gave c))
+        lay10 = λ c. ((Path.refl, (tt, (tt, (tt, tt)))), returns record { before = c .before; surveyed = c .surveyed })
 
-        lay9 : (c : After-loop) → at29 (W0 (c .before .before .before .before .κs)
-            (c .before .before .before .before .args)) (m13 (c .before))
+        lay9 : (c : After-loop) → at30 (W0 (c .before .before .before .before .κs)
+            (c .before .before .before .before .args)) (m14 (c .before))
         lay9 = λ c. (
           surveyed-requires record { before = c .before; loop-test = c .loop-test },
           λ g. lay10 record {
             before = record { before = c .before; loop-test = c .loop-test };
-            surveyed = Called.called ps·5 r·5 (claims· .11) T9 args25 (m13 (c .before)) g;
+            surveyed = Called.called ps·5 r·5 (claims· .11) T9 args26 (m14 (c .before)) g;
           },
         )
 
-        lay8 : (c : After-circuit-turn) → at8 (W3 (c .before .before .before .before .before .before)
+        lay8 : (c : After-circuit-turn) → at9 (W3 (c .before .before .before .before .before .before)
             (c .before .before .before .before .before .loop .used)
             (c .before .before .before .before .before .loop .first)
-            (c .before .before .before .before .before .loop .i)) (m23 (c .before) (After-circuit-turn·gave c))
+            (c .before .before .before .before .before .loop .i)) (m24 (c .before) (After-circuit-turn·gave c))
         lay8 = λ c. (
           add-i record { before = c .before; circuit-turn = c .circuit-turn },
           (
@@ -1711,18 +1772,20 @@ module _ (claims· : Claims) where
                 (c .before .before .before .before .before .before .before) (After-not-yet·gave
                 (c .before .before .before .before .before .before)))) (Row.get 9 (T8 .locals) (m7
                 (c .before .before .before .before .before .before .before) (After-not-yet·gave
-                (c .before .before .before .before .before .before)))) (Row.get 7 (T8 .locals)
-                (m26 (c .before) (After-circuit-turn·gave c))) (Row.get 8 (T8 .locals)
-                (m26 (c .before) (After-circuit-turn·gave c))) (Row.get 9 (T8 .locals)
-                (m26 (c .before) (After-circuit-turn·gave c))),
+                (c .before .before .before .before .before .before)))) (Row.get 10 (T8 .locals) (m7
+                (c .before .before .before .before .before .before .before) (After-not-yet·gave
+                (c .before .before .before .before .before .before)))) (Row.get 8 (T8 .locals)
+                (m27 (c .before) (After-circuit-turn·gave c))) (Row.get 9 (T8 .locals)
+                (m27 (c .before) (After-circuit-turn·gave c))) (Row.get 10 (T8 .locals)
+                (m27 (c .before) (After-circuit-turn·gave c))),
             loop-less record { before = c .before; circuit-turn = c .circuit-turn },
             (
               (
-                Row.get 7 (T8 .locals) (m26 (c .before) (After-circuit-turn·gave c)),
-                Row.get 8 (T8 .locals) (m26 (c .before) (After-circuit-turn·gave c)),
-                Row.get 9 (T8 .locals) (m26 (c .before) (After-circuit-turn·gave c)),
+                Row.get 8 (T8 .locals) (m27 (c .before) (After-circuit-turn·gave c)),
+                Row.get 9 (T8 .locals) (m27 (c .before) (After-circuit-turn·gave c)),
+                Row.get 10 (T8 .locals) (m27 (c .before) (After-circuit-turn·gave c)),
               ),
-              Path.refl {a = m26 (c .before) (After-circuit-turn·gave c)},
+              Path.refl {a = m27 (c .before) (After-circuit-turn·gave c)},
               loop-again record { before = c .before; circuit-turn = c .circuit-turn },
               Path.refl {a = μ·0 (Row.get 1 (T8 .locals) (m7
                   (c .before .before .before .before .before .before .before) (After-not-yet·gave
@@ -1740,37 +1803,39 @@ module _ (claims· : Claims) where
                   (c .before .before .before .before .before .before .before) (After-not-yet·gave
                   (c .before .before .before .before .before .before)))) (Row.get 9 (T8 .locals) (m7
                   (c .before .before .before .before .before .before .before) (After-not-yet·gave
-                  (c .before .before .before .before .before .before)))) (Row.get 7 (T8 .locals)
-                  (m26 (c .before) (After-circuit-turn·gave c))) (Row.get 8 (T8 .locals)
-                  (m26 (c .before) (After-circuit-turn·gave c))) (Row.get 9 (T8 .locals)
-                  (m26 (c .before) (After-circuit-turn·gave c)))},
+                  (c .before .before .before .before .before .before)))) (Row.get 10 (T8 .locals) (m7
+                  (c .before .before .before .before .before .before .before) (After-not-yet·gave
+                  (c .before .before .before .before .before .before)))) (Row.get 8 (T8 .locals)
+                  (m27 (c .before) (After-circuit-turn·gave c))) (Row.get 9 (T8 .locals)
+                  (m27 (c .before) (After-circuit-turn·gave c))) (Row.get 10 (T8 .locals)
+                  (m27 (c .before) (After-circuit-turn·gave c)))},
             ),
           ),
         )
 
-        lay7 : (c : After-one-more) → at9 (W3 (c .before .before .before .before .before)
+        lay7 : (c : After-one-more) → at10 (W3 (c .before .before .before .before .before)
             (c .before .before .before .before .loop .used) (c .before .before .before .before .loop .first)
-            (c .before .before .before .before .loop .i)) (m22 (c .before) (After-one-more·gave c))
+            (c .before .before .before .before .loop .i)) (m23 (c .before) (After-one-more·gave c))
         lay7 = λ c. (
           circuit-turn-requires record { before = c .before; one-more = c .one-more },
           λ g. lay8 record {
             before = record { before = c .before; one-more = c .one-more };
-            circuit-turn = Called.called ps·4 r·4 (claims· .9) T24 args21 (m22 (c .before) (After-one-more·gave c)) g;
+            circuit-turn = Called.called ps·4 r·4 (claims· .9) T25 args22 (m23 (c .before) (After-one-more·gave c)) g;
           },
         )
 
-        lay6 : (c : After-is-circuit) → at10 (W3 (c .before .before .before .before)
+        lay6 : (c : After-is-circuit) → at11 (W3 (c .before .before .before .before)
             (c .before .before .before .loop .used) (c .before .before .before .loop .first)
-            (c .before .before .before .loop .i)) (m21 (c .before) (After-is-circuit·gave c))
+            (c .before .before .before .loop .i)) (m22 (c .before) (After-is-circuit·gave c))
         lay6 = λ c. (
           one-more-requires record { before = c .before; is-circuit = c .is-circuit },
           λ g. lay7 record {
             before = record { before = c .before; is-circuit = c .is-circuit };
-            one-more = Called.called ps·3 r·3 (claims· .7) T23 args20 (m21 (c .before) (After-is-circuit·gave c)) g;
+            one-more = Called.called ps·3 r·3 (claims· .7) T24 args21 (m22 (c .before) (After-is-circuit·gave c)) g;
           },
         )
 
-        lay5 : (c : In-loop) → at18 (W3 (c .before .before) (c .before .loop .used) (c .before .loop .first)
+        lay5 : (c : In-loop) → at19 (W3 (c .before .before) (c .before .loop .used) (c .before .loop .first)
             (c .before .loop .i)) (m10 (c .before))
         lay5 = λ c. (
           mul-row record { before = c .before; loop-test = c .loop-test },
@@ -1792,7 +1857,7 @@ module _ (claims· : Claims) where
                     before = record { before = c .before; loop-test = c .loop-test };
                     row = record { given = g };
                   };
-                  is-circuit = Called.called ps·2 r·2 (claims· .5) T22 args19 (m20
+                  is-circuit = Called.called ps·2 r·2 (claims· .5) T23 args20 (m21
                       record { before = c .before; loop-test = c .loop-test } g) g';
                 },
               ),
@@ -1800,7 +1865,7 @@ module _ (claims· : Claims) where
           ),
         )
 
-        lay4 : (c : After-loop) → at5 (W4 (c .before .before) (c .before .loop .used) (c .before .loop .first)
+        lay4 : (c : After-loop) → at6 (W4 (c .before .before) (c .before .loop .used) (c .before .loop .first)
             (c .before .loop .i)) (m9 (c .before .before) (c .before .loop .used) (c .before .loop .first)
             (c .before .loop .i))
         lay4 = λ c. lay9 record { before = c .before; loop-test = c .loop-test }
@@ -1810,14 +1875,14 @@ module _ (claims· : Claims) where
             (c .before .loop .i))
         lay3 = λ c. lay5 record { before = c .before; loop-test = c .loop-test }
 
-        lay2 : (c : After-not-yet) → at33 (W0 (c .before .before .κs) (c .before .before .args))
+        lay2 : (c : After-not-yet) → at34 (W0 (c .before .before .κs) (c .before .before .args))
             (m4 (c .before) (After-not-yet·gave c))
         lay2 = λ c. (
           (
             (
-              Row.get 7 (T8 .locals) (m7 (c .before) (After-not-yet·gave c)),
               Row.get 8 (T8 .locals) (m7 (c .before) (After-not-yet·gave c)),
               Row.get 9 (T8 .locals) (m7 (c .before) (After-not-yet·gave c)),
+              Row.get 10 (T8 .locals) (m7 (c .before) (After-not-yet·gave c)),
             ),
             Path.refl {a = m7 (c .before) (After-not-yet·gave c)},
             loop-holds record { before = c .before; not-yet = c .not-yet },
@@ -1831,11 +1896,10 @@ module _ (claims· : Claims) where
                   loop = record { used = vs .0; first = vs .1; i = vs .2; inv = inv };
                 };
                 loop-test = record {
-                  taken = Tests.ltb-true (Row.get 9 (T8 .locals) (m8 record {
-                    before = c .before;
-                    not-yet = c .not-yet;
-                  } (vs .0) (vs .1) (vs .2))) (Row.get 5 (T8 .locals) (m8
-                      record { before = c .before; not-yet = c .not-yet } (vs .0) (vs .1) (vs .2))) taken;
+                  taken = Tests.ltb-true (Row.get 10 (T8 .locals) (m8
+                      record { before = c .before; not-yet = c .not-yet } (vs .0) (vs .1) (vs .2))) (Row.get 6
+                      (T8 .locals) (m8 record { before = c .before; not-yet = c .not-yet } (vs .0) (vs .1) (vs .2)))
+                      taken;
                 };
               },
               λ left. lay4 record {
@@ -1844,18 +1908,17 @@ module _ (claims· : Claims) where
                   loop = record { used = vs .0; first = vs .1; i = vs .2; inv = inv };
                 };
                 loop-test = record {
-                  left = Tests.ltb-false (Row.get 9 (T8 .locals) (m8 record {
-                    before = c .before;
-                    not-yet = c .not-yet;
-                  } (vs .0) (vs .1) (vs .2))) (Row.get 5 (T8 .locals) (m8
-                      record { before = c .before; not-yet = c .not-yet } (vs .0) (vs .1) (vs .2))) left;
+                  left = Tests.ltb-false (Row.get 10 (T8 .locals) (m8
+                      record { before = c .before; not-yet = c .not-yet } (vs .0) (vs .1) (vs .2))) (Row.get 6
+                      (T8 .locals) (m8 record { before = c .before; not-yet = c .not-yet } (vs .0) (vs .1) (vs .2)))
+                      left;
                 };
               },
             ),
           ),
         )
 
-        lay1 : (c : After-min-usize) → at35 (W0 (c .before .κs) (c .before .args))
+        lay1 : (c : After-min-usize) → at36 (W0 (c .before .κs) (c .before .args))
             (m2 (c .before) (After-min-usize·gave c))
         lay1 = λ c. (
           not-yet-requires record { before = c .before; min-usize = c .min-usize },
@@ -1865,7 +1928,7 @@ module _ (claims· : Claims) where
           },
         )
 
-        pub laid : (c : Start) → at37 (W0 (c .κs) (c .args)) (m0 (c .κs) (c .args))
+        pub laid : (c : Start) → at38 (W0 (c .κs) (c .args)) (m0 (c .κs) (c .args))
         laid = λ c. (
           min-usize-requires c,
           λ g. lay1 record {
@@ -1880,7 +1943,7 @@ module _ (claims· : Claims) where
               (Function.init 1 ps r xs m κs qs a)
           asked = λ a good pre bs. laid record {
             κs = κs;
-            args = record { circuits = a .0; places = a .1 .0; question = a .1 .1 .0 };
+            args = record { circuits = a .0; places = a .1 .0; question = a .1 .1 .0; peer = a .1 .1 .1 .0 };
             good = good;
             pre = pre;
           }

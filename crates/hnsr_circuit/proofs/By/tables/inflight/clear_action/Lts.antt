@@ -2,10 +2,12 @@
 use Prim.Native.Nat
 use Rattle.hnsr_circuit.proofs.By.InflightAction
 use Rattle.hnsr_circuit.proofs.StructRow
+use Rattle.hnsr_circuit.proofs.peer.HnsrPeerId
+use Rattle.hnsr_circuit.proofs.peer.HnsrPeerId.Laws
 use Rattle.hnsr_circuit.proofs.tables.places.Places
-use Rattle.hnsr_circuit.proofs.tables.places.Places.Laws
-use Rattle.hnsr_circuit.proofs.tables.question.Question
-use Rattle.hnsr_circuit.proofs.tables.question.Question.Laws as Laws'
+use Rattle.hnsr_circuit.proofs.tables.places.Places.Laws as Laws'
+use Rattle.hnsr_circuit.proofs.tables.question.ActionsDropped
+use Rattle.hnsr_circuit.proofs.tables.question.ActionsDropped.Laws as Laws''
 use borrow.Author.Called
 use borrow.Author.Tests
 use borrow.Fn.Any
@@ -39,7 +41,8 @@ use borrow.Table.Row
 use borrow.Table.Rows
 use borrow.Table.Typed
 use contract.Lifetimes
-use denote.Struct.Declared
+use denote.Enum.Declared
+use denote.Struct.Declared as Declared'
 use denote.Triple.Clauses
 use denote.Triple.Statement
 use ghost.Atoms
@@ -63,8 +66,9 @@ slice0 = Syntax.tyStruct (38 ∷ 91 ∷ 93 ∷ List.[]) (Syntax.tcons ref0
     (Syntax.tcons (Syntax.tyInt Syntax.w64) Syntax.tnil))
 
 abbrev pub ps : List.List (Kinds.PK 1)
-ps = (MutSlice.pMutS InflightAction.row 0 tt) ∷ (StructRow.param Places.the-type Laws.the-laws Laws.the-copy
-    Laws.the-plain) ∷ (StructRow.param Question.the-type Laws'.the-laws Laws'.the-copy Laws'.the-plain) ∷ List.[]
+ps = (MutSlice.pMutS InflightAction.row 0 tt) ∷ (StructRow.param Places.the-type Laws'.the-laws Laws'.the-copy
+    Laws'.the-plain) ∷ (StructRow.enum-param ActionsDropped.the-type Laws''.the-laws Laws''.the-copy Laws''.the-plain
+    tt) ∷ (StructRow.param HnsrPeerId.the-type Laws.the-laws Laws.the-copy Laws.the-plain) ∷ List.[]
 
 abbrev pub r : Kinds.RK 1
 r = Unit.rUnit
@@ -84,8 +88,8 @@ abbrev pub r·0 : Kinds.RK 0
 r·0 = Num.rNum Syntax.w64
 
 abbrev pub ps·1 : List.List (Kinds.PK 0)
-ps·1 = InflightAction.param ∷ (StructRow.param Question.the-type Laws'.the-laws Laws'.the-copy Laws'.the-plain) ∷
-    List.[]
+ps·1 = InflightAction.param ∷ (StructRow.enum-param ActionsDropped.the-type Laws''.the-laws Laws''.the-copy
+    Laws''.the-plain tt) ∷ (StructRow.param HnsrPeerId.the-type Laws.the-laws Laws.the-copy Laws.the-plain) ∷ List.[]
 
 abbrev pub r·1 : Kinds.RK 0
 r·1 = Bool.rBool
@@ -100,21 +104,21 @@ abbrev pub hs : List.List Syntax.Home
 hs = Syntax.valueLocal ∷ Syntax.valueLocal ∷ Syntax.valueLocal ∷ Syntax.valueLocal ∷ Syntax.valueLocal ∷
     Syntax.valueLocal ∷ Syntax.valueLocal ∷ Syntax.valueLocal ∷ Syntax.valueLocal ∷ Syntax.valueLocal ∷
     Syntax.valueLocal ∷ Syntax.valueLocal ∷ Syntax.valueLocal ∷ Syntax.valueLocal ∷ Syntax.valueLocal ∷
-    Syntax.valueLocal ∷ List.[]
+    Syntax.valueLocal ∷ Syntax.valueLocal ∷ List.[]
 
 abbrev b0 : Syntax.Body
-b0 = Syntax.assign (Syntax.place 4 List.[]) (Syntax.rvOpd (Syntax.copy (Syntax.place 1 ((Syntax.field 1) ∷ List.[]))))
+b0 = Syntax.assign (Syntax.place 5 List.[]) (Syntax.rvOpd (Syntax.copy (Syntax.place 1 ((Syntax.field 1) ∷ List.[]))))
 
 abbrev b1 : Syntax.Body
 b1 = Syntax.call "hns_encoding::numbers::min_usize" ((Syntax.copy (Syntax.place 2 ((Syntax.field 3) ∷ List.[]))) ∷
-    (Syntax.copy (Syntax.place 4 List.[])) ∷ List.[]) (Syntax.place 5 List.[])
+    (Syntax.copy (Syntax.place 5 List.[])) ∷ List.[]) (Syntax.place 6 List.[])
 
 abbrev b2 : Syntax.Body
-b2 = Syntax.assign (Syntax.place 6 List.[]) (Syntax.rvOpd (Syntax.int Syntax.w64 0))
+b2 = Syntax.assign (Syntax.place 7 List.[]) (Syntax.rvOpd (Syntax.int Syntax.w64 0))
 
 abbrev b3 : Syntax.Body
-b3 = Syntax.assign (Syntax.place 9 List.[]) (Syntax.op2 (Syntax.lt Syntax.unsigned)
-    (Syntax.copy (Syntax.place 6 List.[])) (Syntax.copy (Syntax.place 5 List.[])))
+b3 = Syntax.assign (Syntax.place 10 List.[]) (Syntax.op2 (Syntax.lt Syntax.unsigned)
+    (Syntax.copy (Syntax.place 7 List.[])) (Syntax.copy (Syntax.place 6 List.[])))
 
 abbrev b4 : Syntax.Body
 b4 = Syntax.skip
@@ -123,43 +127,43 @@ abbrev b5 : Syntax.Body
 b5 = Syntax.exit 1
 
 abbrev b6 : Syntax.Body
-b6 = Syntax.cond (Syntax.copy (Syntax.place 9 List.[])) b4 b5
+b6 = Syntax.cond (Syntax.copy (Syntax.place 10 List.[])) b4 b5
 
 abbrev b7 : Syntax.Body
-b7 = Syntax.assign (Syntax.place 10 List.[]) (Syntax.op2 (Syntax.mul Syntax.unsigned)
-    (Syntax.copy (Syntax.place 6 List.[])) (Syntax.int Syntax.w64 184))
+b7 = Syntax.assign (Syntax.place 11 List.[]) (Syntax.op2 (Syntax.mul Syntax.unsigned)
+    (Syntax.copy (Syntax.place 7 List.[])) (Syntax.int Syntax.w64 184))
 
 abbrev b8 : Syntax.Body
-b8 = Syntax.assign (Syntax.place 11 List.[]) (Syntax.op2 Syntax.offset
-    (Syntax.copy (Syntax.place 1 ((Syntax.field 0) ∷ List.[]))) (Syntax.copy (Syntax.place 10 List.[])))
+b8 = Syntax.assign (Syntax.place 12 List.[]) (Syntax.op2 Syntax.offset
+    (Syntax.copy (Syntax.place 1 ((Syntax.field 0) ∷ List.[]))) (Syntax.copy (Syntax.place 11 List.[])))
 
 abbrev b9 : Syntax.Body
-b9 = Syntax.assign (Syntax.place 12 List.[]) (Syntax.rvOpd (Syntax.copy (Syntax.place 11
+b9 = Syntax.assign (Syntax.place 13 List.[]) (Syntax.rvOpd (Syntax.copy (Syntax.place 12
     ((Syntax.deref InflightAction.ty) ∷ List.[]))))
 
 abbrev b10 : Syntax.Body
-b10 = Syntax.assign (Syntax.place 7 List.[]) (Syntax.rvOpd (Syntax.copy (Syntax.place 12 List.[])))
+b10 = Syntax.assign (Syntax.place 8 List.[]) (Syntax.rvOpd (Syntax.copy (Syntax.place 13 List.[])))
 
 abbrev b11 : Syntax.Body
-b11 = Syntax.call "hnsr_circuit::tables::question::action_has" ((Syntax.copy (Syntax.place 7 List.[])) ∷
-    (Syntax.copy (Syntax.place 3 List.[])) ∷ List.[]) (Syntax.place 8 List.[])
+b11 = Syntax.call "hnsr_circuit::tables::question::action_has" ((Syntax.copy (Syntax.place 8 List.[])) ∷
+    (Syntax.copy (Syntax.place 3 List.[])) ∷ (Syntax.copy (Syntax.place 4 List.[])) ∷ List.[]) (Syntax.place 9 List.[])
 
 abbrev b12 : Syntax.Body
-b12 = Syntax.assign (Syntax.place 14 List.[]) (Syntax.addrOf (Syntax.place 1 ((Syntax.field 0) ∷
+b12 = Syntax.assign (Syntax.place 15 List.[]) (Syntax.addrOf (Syntax.place 1 ((Syntax.field 0) ∷
     (Syntax.deref InflightAction.ty) ∷ List.[])))
 
 abbrev b13 : Syntax.Body
-b13 = Syntax.assign (Syntax.place 15 List.[]) (Syntax.aggregate ((Syntax.copy (Syntax.place 14 List.[])) ∷
+b13 = Syntax.assign (Syntax.place 16 List.[]) (Syntax.aggregate ((Syntax.copy (Syntax.place 15 List.[])) ∷
     (Syntax.copy (Syntax.place 1 ((Syntax.field 1) ∷ List.[]))) ∷ List.[]))
 
 abbrev b14 : Syntax.Body
-b14 = Syntax.call "hnsr_circuit::tables::inflight::unmark_action" ((Syntax.copy (Syntax.place 15 List.[])) ∷
-    (Syntax.copy (Syntax.place 8 List.[])) ∷ (Syntax.copy (Syntax.place 6 List.[])) ∷ List.[])
-    (Syntax.place 13 List.[])
+b14 = Syntax.call "hnsr_circuit::tables::inflight::unmark_action" ((Syntax.copy (Syntax.place 16 List.[])) ∷
+    (Syntax.copy (Syntax.place 9 List.[])) ∷ (Syntax.copy (Syntax.place 7 List.[])) ∷ List.[])
+    (Syntax.place 14 List.[])
 
 abbrev b15 : Syntax.Body
-b15 = Syntax.assign (Syntax.place 6 List.[]) (Syntax.op2 (Syntax.add Syntax.unsigned)
-    (Syntax.copy (Syntax.place 6 List.[])) (Syntax.int Syntax.w64 1))
+b15 = Syntax.assign (Syntax.place 7 List.[]) (Syntax.op2 (Syntax.add Syntax.unsigned)
+    (Syntax.copy (Syntax.place 7 List.[])) (Syntax.int Syntax.w64 1))
 
 abbrev b16 : Syntax.Body
 b16 = Syntax.seq b14 b15
@@ -232,13 +236,13 @@ abbrev e1 : Row.Entry
 e1 = (1, Mut.mslice InflightAction.row ref1 0)
 
 abbrev e2 : Row.Entry
-e2 = (2, Rows.whole (Declared.row Places.the-type))
+e2 = (2, Rows.whole (Declared'.row Places.the-type))
 
 abbrev e3 : Row.Entry
-e3 = (3, Rows.whole (Declared.row Question.the-type))
+e3 = (3, Rows.whole (Declared.row ActionsDropped.the-type))
 
 abbrev e4 : Row.Entry
-e4 = (4, Rows.any-gone (Syntax.tyInt Syntax.w64))
+e4 = (4, Rows.whole (Declared'.row HnsrPeerId.the-type))
 
 abbrev e5 : Row.Entry
 e5 = (5, Rows.any-gone (Syntax.tyInt Syntax.w64))
@@ -247,43 +251,46 @@ abbrev e6 : Row.Entry
 e6 = (6, Rows.any-gone (Syntax.tyInt Syntax.w64))
 
 abbrev e7 : Row.Entry
-e7 = (7, Rows.any-gone InflightAction.ty)
+e7 = (7, Rows.any-gone (Syntax.tyInt Syntax.w64))
 
 abbrev e8 : Row.Entry
-e8 = (8, Rows.any-gone Syntax.tyBool)
+e8 = (8, Rows.any-gone InflightAction.ty)
 
 abbrev e9 : Row.Entry
 e9 = (9, Rows.any-gone Syntax.tyBool)
 
 abbrev e10 : Row.Entry
-e10 = (10, Rows.any-gone (Syntax.tyInt Syntax.w64))
+e10 = (10, Rows.any-gone Syntax.tyBool)
 
 abbrev e11 : Row.Entry
-e11 = (11, Rows.any-gone Syntax.tyPtr)
+e11 = (11, Rows.any-gone (Syntax.tyInt Syntax.w64))
 
 abbrev e12 : Row.Entry
-e12 = (12, Rows.any-gone InflightAction.ty)
+e12 = (12, Rows.any-gone Syntax.tyPtr)
 
 abbrev e13 : Row.Entry
-e13 = (13, Rows.any-gone Syntax.tyUnit)
+e13 = (13, Rows.any-gone InflightAction.ty)
 
 abbrev e14 : Row.Entry
-e14 = (14, Rows.any-gone ref0)
+e14 = (14, Rows.any-gone Syntax.tyUnit)
 
 abbrev e15 : Row.Entry
-e15 = (15, Rows.any-gone slice0)
+e15 = (15, Rows.any-gone ref0)
+
+abbrev e16 : Row.Entry
+e16 = (16, Rows.any-gone slice0)
 
 abbrev e0·1 : Row.Entry
 e0·1 = (0, Rows.sc-here Row.sUnit)
 
 abbrev e2·1 : Row.Entry
-e2·1 = (2, Rows.any-gone Laws.mir)
+e2·1 = (2, Rows.any-gone Laws'.mir)
 
 abbrev e3·1 : Row.Entry
-e3·1 = (3, Rows.any-gone Laws'.mir)
+e3·1 = (3, Rows.any-gone Laws''.mir)
 
 abbrev e4·1 : Row.Entry
-e4·1 = (4, Rows.sc-here (Row.sInt Syntax.w64))
+e4·1 = (4, Rows.any-gone Laws.mir)
 
 abbrev e5·1 : Row.Entry
 e5·1 = (5, Rows.sc-here (Row.sInt Syntax.w64))
@@ -291,209 +298,224 @@ e5·1 = (5, Rows.sc-here (Row.sInt Syntax.w64))
 abbrev e6·1 : Row.Entry
 e6·1 = (6, Rows.sc-here (Row.sInt Syntax.w64))
 
-abbrev e9·1 : Row.Entry
-e9·1 = (9, Rows.sc-here Row.sBool)
+abbrev e7·1 : Row.Entry
+e7·1 = (7, Rows.sc-here (Row.sInt Syntax.w64))
 
 abbrev e10·1 : Row.Entry
-e10·1 = (10, Rows.sc-here (Row.sInt Syntax.w64))
+e10·1 = (10, Rows.sc-here Row.sBool)
 
 abbrev e11·1 : Row.Entry
-e11·1 = (11, Rows.sc-here Row.sPtr)
+e11·1 = (11, Rows.sc-here (Row.sInt Syntax.w64))
 
 abbrev e12·1 : Row.Entry
-e12·1 = (12, InflightAction.held)
+e12·1 = (12, Rows.sc-here Row.sPtr)
 
-abbrev e7·1 : Row.Entry
-e7·1 = (7, InflightAction.held)
+abbrev e13·1 : Row.Entry
+e13·1 = (13, InflightAction.held)
 
 abbrev e8·1 : Row.Entry
-e8·1 = (8, Rows.sc-here Row.sBool)
+e8·1 = (8, InflightAction.held)
+
+abbrev e9·1 : Row.Entry
+e9·1 = (9, Rows.sc-here Row.sBool)
 
 abbrev e1·1 : Row.Entry
 e1·1 = (1, Relend.mslice-owed InflightAction.row ref1 0 1 Row.off)
 
-abbrev e14·1 : Row.Entry
-e14·1 = (14, Relend.msptr InflightAction.row ref0 1)
-
 abbrev e15·1 : Row.Entry
-e15·1 = (15, Mut.mslice InflightAction.row ref0 1)
+e15·1 = (15, Relend.msptr InflightAction.row ref0 1)
 
-abbrev e13·1 : Row.Entry
-e13·1 = (13, Rows.sc-here Row.sUnit)
+abbrev e16·1 : Row.Entry
+e16·1 = (16, Mut.mslice InflightAction.row ref0 1)
 
-abbrev e15·2 : Row.Entry
-e15·2 = (15, Mut.msleft InflightAction.row ref0)
+abbrev e14·1 : Row.Entry
+e14·1 = (14, Rows.sc-here Row.sUnit)
+
+abbrev e16·2 : Row.Entry
+e16·2 = (16, Mut.msleft InflightAction.row ref0)
 
 abbrev pub t0 : List.List Row.Entry
 t0 = e0 ∷ e1 ∷ e2 ∷ e3 ∷ e4 ∷ e5 ∷ e6 ∷ e7 ∷ e8 ∷ e9 ∷ e10 ∷ e11 ∷ e12 ∷ e13 ∷ e14 ∷ e15 ∷ List.[]
 
 abbrev pub t1 : List.List Row.Entry
-t1 = e0·1 ∷ e1 ∷ e2·1 ∷ e3·1 ∷ e4 ∷ e5 ∷ e6 ∷ e7 ∷ e8 ∷ e9 ∷ e10 ∷ e11 ∷ e12 ∷ e13 ∷ e14 ∷ e15 ∷ List.[]
+t1 = e16 ∷ List.[]
 
 abbrev pub t2 : List.List Row.Entry
-t2 = e0 ∷ e1 ∷ e2 ∷ e3 ∷ e4·1 ∷ e5 ∷ e6 ∷ e7 ∷ e8 ∷ e9 ∷ e10 ∷ e11 ∷ e12 ∷ e13 ∷ e14 ∷ e15 ∷ List.[]
+t2 = e0·1 ∷ e1 ∷ e2·1 ∷ e3·1 ∷ e4·1 ∷ e5 ∷ e6 ∷ e7 ∷ e8 ∷ e9 ∷ e10 ∷ e11 ∷ e12 ∷ e13 ∷ e14 ∷ e15 ∷ List.[]
 
 abbrev pub t3 : List.List Row.Entry
-t3 = e0 ∷ e1 ∷ e2 ∷ e3 ∷ e4·1 ∷ e5·1 ∷ e6 ∷ e7 ∷ e8 ∷ e9 ∷ e10 ∷ e11 ∷ e12 ∷ e13 ∷ e14 ∷ e15 ∷ List.[]
+t3 = e0 ∷ e1 ∷ e2 ∷ e3 ∷ e4 ∷ e5·1 ∷ e6 ∷ e7 ∷ e8 ∷ e9 ∷ e10 ∷ e11 ∷ e12 ∷ e13 ∷ e14 ∷ e15 ∷ List.[]
 
 abbrev pub t4 : List.List Row.Entry
-t4 = e0 ∷ e1 ∷ e2·1 ∷ e3 ∷ e4·1 ∷ e5·1 ∷ e6 ∷ e7 ∷ e8 ∷ e9 ∷ e10 ∷ e11 ∷ e12 ∷ e13 ∷ e14 ∷ e15 ∷ List.[]
+t4 = e0 ∷ e1 ∷ e2 ∷ e3 ∷ e4 ∷ e5·1 ∷ e6·1 ∷ e7 ∷ e8 ∷ e9 ∷ e10 ∷ e11 ∷ e12 ∷ e13 ∷ e14 ∷ e15 ∷ List.[]
 
 abbrev pub t5 : List.List Row.Entry
-t5 = e0 ∷ e1 ∷ e2·1 ∷ e3 ∷ e4·1 ∷ e5·1 ∷ e6·1 ∷ e7 ∷ e8 ∷ e9 ∷ e10 ∷ e11 ∷ e12 ∷ e13 ∷ e14 ∷ e15 ∷ List.[]
+t5 = e0 ∷ e1 ∷ e2·1 ∷ e3 ∷ e4 ∷ e5·1 ∷ e6·1 ∷ e7 ∷ e8 ∷ e9 ∷ e10 ∷ e11 ∷ e12 ∷ e13 ∷ e14 ∷ e15 ∷ List.[]
 
 abbrev pub t6 : List.List Row.Entry
-t6 = e0 ∷ e1 ∷ e2·1 ∷ e3·1 ∷ e4·1 ∷ e5·1 ∷ e6·1 ∷ e7 ∷ e8 ∷ e9 ∷ e10 ∷ e11 ∷ e12 ∷ e13 ∷ e14 ∷ e15 ∷ List.[]
+t6 = e0 ∷ e1 ∷ e2·1 ∷ e3 ∷ e4 ∷ e5·1 ∷ e6·1 ∷ e7·1 ∷ e8 ∷ e9 ∷ e10 ∷ e11 ∷ e12 ∷ e13 ∷ e14 ∷ e15 ∷ List.[]
 
 abbrev pub t7 : List.List Row.Entry
-t7 = e0 ∷ e1 ∷ e2·1 ∷ e3 ∷ e4·1 ∷ e5·1 ∷ e6·1 ∷ e7 ∷ e8 ∷ e9·1 ∷ e10 ∷ e11 ∷ e12 ∷ e13 ∷ e14 ∷ e15 ∷ List.[]
+t7 = e0 ∷ e1 ∷ e2·1 ∷ e3·1 ∷ e4·1 ∷ e5·1 ∷ e6·1 ∷ e7·1 ∷ e8 ∷ e9 ∷ e10 ∷ e11 ∷ e12 ∷ e13 ∷ e14 ∷ e15 ∷ List.[]
 
 abbrev pub t8 : List.List Row.Entry
-t8 = e0 ∷ e1 ∷ e2·1 ∷ e3·1 ∷ e4·1 ∷ e5·1 ∷ e6·1 ∷ e7 ∷ e8 ∷ e9·1 ∷ e10 ∷ e11 ∷ e12 ∷ e13 ∷ e14 ∷ e15 ∷ List.[]
+t8 = e0 ∷ e1 ∷ e2·1 ∷ e3 ∷ e4 ∷ e5·1 ∷ e6·1 ∷ e7·1 ∷ e8 ∷ e9 ∷ e10·1 ∷ e11 ∷ e12 ∷ e13 ∷ e14 ∷ e15 ∷ List.[]
 
 abbrev pub t9 : List.List Row.Entry
-t9 = e0 ∷ e1 ∷ e2·1 ∷ e3 ∷ e4·1 ∷ e5·1 ∷ e6·1 ∷ e7 ∷ e8 ∷ e9 ∷ e10·1 ∷ e11 ∷ e12 ∷ e13 ∷ e14 ∷ e15 ∷ List.[]
+t9 = e0 ∷ e1 ∷ e2·1 ∷ e3·1 ∷ e4 ∷ e5·1 ∷ e6·1 ∷ e7·1 ∷ e8 ∷ e9 ∷ e10·1 ∷ e11 ∷ e12 ∷ e13 ∷ e14 ∷ e15 ∷ List.[]
 
 abbrev pub t10 : List.List Row.Entry
-t10 = e0 ∷ e1 ∷ e2·1 ∷ e3 ∷ e4·1 ∷ e5·1 ∷ e6·1 ∷ e7 ∷ e8 ∷ e9 ∷ e10·1 ∷ e11·1 ∷ e12 ∷ e13 ∷ e14 ∷ e15 ∷ List.[]
+t10 = e0 ∷ e1 ∷ e2·1 ∷ e3·1 ∷ e4·1 ∷ e5·1 ∷ e6·1 ∷ e7·1 ∷ e8 ∷ e9 ∷ e10·1 ∷ e11 ∷ e12 ∷ e13 ∷ e14 ∷ e15 ∷ List.[]
 
 abbrev pub t11 : List.List Row.Entry
-t11 = e0 ∷ e1 ∷ e2·1 ∷ e3 ∷ e4·1 ∷ e5·1 ∷ e6·1 ∷ e7 ∷ e8 ∷ e9 ∷ e10·1 ∷ e11·1 ∷ e12·1 ∷ e13 ∷ e14 ∷ e15 ∷ List.[]
+t11 = e0 ∷ e1 ∷ e2·1 ∷ e3 ∷ e4 ∷ e5·1 ∷ e6·1 ∷ e7·1 ∷ e8 ∷ e9 ∷ e10 ∷ e11·1 ∷ e12 ∷ e13 ∷ e14 ∷ e15 ∷ List.[]
 
 abbrev pub t12 : List.List Row.Entry
-t12 = e0 ∷ e1 ∷ e2·1 ∷ e3 ∷ e4·1 ∷ e5·1 ∷ e6·1 ∷ e7 ∷ e8 ∷ e9 ∷ e10 ∷ e11·1 ∷ e12·1 ∷ e13 ∷ e14 ∷ e15 ∷ List.[]
+t12 = e0 ∷ e1 ∷ e2·1 ∷ e3 ∷ e4 ∷ e5·1 ∷ e6·1 ∷ e7·1 ∷ e8 ∷ e9 ∷ e10 ∷ e11·1 ∷ e12·1 ∷ e13 ∷ e14 ∷ e15 ∷ List.[]
 
 abbrev pub t13 : List.List Row.Entry
-t13 = e0 ∷ e1 ∷ e2·1 ∷ e3 ∷ e4·1 ∷ e5·1 ∷ e6·1 ∷ e7 ∷ e8 ∷ e9 ∷ e10 ∷ e11 ∷ e12·1 ∷ e13 ∷ e14 ∷ e15 ∷ List.[]
+t13 = e0 ∷ e1 ∷ e2·1 ∷ e3 ∷ e4 ∷ e5·1 ∷ e6·1 ∷ e7·1 ∷ e8 ∷ e9 ∷ e10 ∷ e11·1 ∷ e12·1 ∷ e13·1 ∷ e14 ∷ e15 ∷ List.[]
 
 abbrev pub t14 : List.List Row.Entry
-t14 = e0 ∷ e1 ∷ e2·1 ∷ e3 ∷ e4·1 ∷ e5·1 ∷ e6·1 ∷ e7·1 ∷ e8 ∷ e9 ∷ e10 ∷ e11 ∷ e12·1 ∷ e13 ∷ e14 ∷ e15 ∷ List.[]
+t14 = e0 ∷ e1 ∷ e2·1 ∷ e3 ∷ e4 ∷ e5·1 ∷ e6·1 ∷ e7·1 ∷ e8 ∷ e9 ∷ e10 ∷ e11 ∷ e12·1 ∷ e13·1 ∷ e14 ∷ e15 ∷ List.[]
 
 abbrev pub t15 : List.List Row.Entry
-t15 = e0 ∷ e1 ∷ e2·1 ∷ e3 ∷ e4·1 ∷ e5·1 ∷ e6·1 ∷ e7·1 ∷ e8 ∷ e9 ∷ e10 ∷ e11 ∷ e12 ∷ e13 ∷ e14 ∷ e15 ∷ List.[]
+t15 = e0 ∷ e1 ∷ e2·1 ∷ e3 ∷ e4 ∷ e5·1 ∷ e6·1 ∷ e7·1 ∷ e8 ∷ e9 ∷ e10 ∷ e11 ∷ e12 ∷ e13·1 ∷ e14 ∷ e15 ∷ List.[]
 
 abbrev pub t16 : List.List Row.Entry
-t16 = e0 ∷ e1 ∷ e2·1 ∷ e3 ∷ e4·1 ∷ e5·1 ∷ e6·1 ∷ e7·1 ∷ e8·1 ∷ e9 ∷ e10 ∷ e11 ∷ e12 ∷ e13 ∷ e14 ∷ e15 ∷ List.[]
+t16 = e0 ∷ e1 ∷ e2·1 ∷ e3 ∷ e4 ∷ e5·1 ∷ e6·1 ∷ e7·1 ∷ e8·1 ∷ e9 ∷ e10 ∷ e11 ∷ e12 ∷ e13·1 ∷ e14 ∷ e15 ∷ List.[]
 
 abbrev pub t17 : List.List Row.Entry
-t17 = e0 ∷ e1 ∷ e2·1 ∷ e3 ∷ e4·1 ∷ e5·1 ∷ e6·1 ∷ e7 ∷ e8·1 ∷ e9 ∷ e10 ∷ e11 ∷ e12 ∷ e13 ∷ e14 ∷ e15 ∷ List.[]
+t17 = e0 ∷ e1 ∷ e2·1 ∷ e3 ∷ e4 ∷ e5·1 ∷ e6·1 ∷ e7·1 ∷ e8·1 ∷ e9 ∷ e10 ∷ e11 ∷ e12 ∷ e13 ∷ e14 ∷ e15 ∷ List.[]
 
 abbrev pub t18 : List.List Row.Entry
-t18 = e0 ∷ e1·1 ∷ e2·1 ∷ e3 ∷ e4·1 ∷ e5·1 ∷ e6·1 ∷ e7 ∷ e8·1 ∷ e9 ∷ e10 ∷ e11 ∷ e12 ∷ e13 ∷ e14·1 ∷ e15 ∷ List.[]
+t18 = e0 ∷ e1 ∷ e2·1 ∷ e3 ∷ e4 ∷ e5·1 ∷ e6·1 ∷ e7·1 ∷ e8·1 ∷ e9·1 ∷ e10 ∷ e11 ∷ e12 ∷ e13 ∷ e14 ∷ e15 ∷ List.[]
 
 abbrev pub t19 : List.List Row.Entry
-t19 = e0 ∷ e1·1 ∷ e2·1 ∷ e3 ∷ e4·1 ∷ e5·1 ∷ e6·1 ∷ e7 ∷ e8·1 ∷ e9 ∷ e10 ∷ e11 ∷ e12 ∷ e13 ∷ e14 ∷ e15·1 ∷ List.[]
+t19 = e0 ∷ e1 ∷ e2·1 ∷ e3 ∷ e4 ∷ e5·1 ∷ e6·1 ∷ e7·1 ∷ e8 ∷ e9·1 ∷ e10 ∷ e11 ∷ e12 ∷ e13 ∷ e14 ∷ e15 ∷ List.[]
 
 abbrev pub t20 : List.List Row.Entry
-t20 = e0 ∷ e1·1 ∷ e2·1 ∷ e3 ∷ e4·1 ∷ e5·1 ∷ e6·1 ∷ e7 ∷ e8·1 ∷ e9 ∷ e10 ∷ e11 ∷ e12 ∷ e13·1 ∷ e14 ∷ e15·2 ∷ List.[]
+t20 = e0 ∷ e1·1 ∷ e2·1 ∷ e3 ∷ e4 ∷ e5·1 ∷ e6·1 ∷ e7·1 ∷ e8 ∷ e9·1 ∷ e10 ∷ e11 ∷ e12 ∷ e13 ∷ e14 ∷ e15·1 ∷ List.[]
 
 abbrev pub t21 : List.List Row.Entry
-t21 = e0 ∷ e1·1 ∷ e2·1 ∷ e3 ∷ e4·1 ∷ e5·1 ∷ e6·1 ∷ e7 ∷ e8·1 ∷ e9 ∷ e10 ∷ e11 ∷ e12 ∷ e13 ∷ e14 ∷ e15·2 ∷ List.[]
+t21 = e0 ∷ e1·1 ∷ e2·1 ∷ e3 ∷ e4 ∷ e5·1 ∷ e6·1 ∷ e7·1 ∷ e8 ∷ e9·1 ∷ e10 ∷ e11 ∷ e12 ∷ e13 ∷ e14 ∷ e15 ∷ List.[]
 
 abbrev pub t22 : List.List Row.Entry
-t22 = e0·1 ∷ e1 ∷ e2·1 ∷ e3·1 ∷ e4·1 ∷ e5·1 ∷ e6·1 ∷ e7 ∷ e8 ∷ e9 ∷ e10 ∷ e11 ∷ e12 ∷ e13 ∷ e14 ∷ e15 ∷ List.[]
+t22 = e16·1 ∷ List.[]
 
 abbrev pub t23 : List.List Row.Entry
-t23 = e0·1 ∷ e1 ∷ e2·1 ∷ e3·1 ∷ e4 ∷ e5·1 ∷ e6·1 ∷ e7 ∷ e8 ∷ e9 ∷ e10 ∷ e11 ∷ e12 ∷ e13 ∷ e14 ∷ e15 ∷ List.[]
+t23 = e0 ∷ e1·1 ∷ e2·1 ∷ e3 ∷ e4 ∷ e5·1 ∷ e6·1 ∷ e7·1 ∷ e8 ∷ e9·1 ∷ e10 ∷ e11 ∷ e12 ∷ e13 ∷ e14·1 ∷ e15 ∷ List.[]
 
 abbrev pub t24 : List.List Row.Entry
-t24 = e0·1 ∷ e1 ∷ e2·1 ∷ e3·1 ∷ e4 ∷ e5 ∷ e6·1 ∷ e7 ∷ e8 ∷ e9 ∷ e10 ∷ e11 ∷ e12 ∷ e13 ∷ e14 ∷ e15 ∷ List.[]
+t24 = e16·2 ∷ List.[]
+
+abbrev pub t25 : List.List Row.Entry
+t25 = e0·1 ∷ e1 ∷ e2·1 ∷ e3·1 ∷ e4·1 ∷ e5·1 ∷ e6·1 ∷ e7·1 ∷ e8 ∷ e9 ∷ e10 ∷ e11 ∷ e12 ∷ e13 ∷ e14 ∷ e15 ∷ List.[]
+
+abbrev pub t26 : List.List Row.Entry
+t26 = e0·1 ∷ e1 ∷ e2·1 ∷ e3·1 ∷ e4·1 ∷ e5 ∷ e6·1 ∷ e7·1 ∷ e8 ∷ e9 ∷ e10 ∷ e11 ∷ e12 ∷ e13 ∷ e14 ∷ e15 ∷ List.[]
+
+abbrev pub t27 : List.List Row.Entry
+t27 = e0·1 ∷ e1 ∷ e2·1 ∷ e3·1 ∷ e4·1 ∷ e5 ∷ e6 ∷ e7·1 ∷ e8 ∷ e9 ∷ e10 ∷ e11 ∷ e12 ∷ e13 ∷ e14 ∷ e15 ∷ List.[]
 
 abbrev pub T0 : Row.Cx
-T0 = record { locals = t0; slots = List.[] }
+T0 = record { locals = List._++_ t0 t1; slots = List.[] }
 
 abbrev pub T1 : Row.Cx
-T1 = record { locals = t1; slots = List.[] }
+T1 = record { locals = List._++_ t2 t1; slots = List.[] }
 
 abbrev pub T2 : Row.Cx
-T2 = record { locals = t2; slots = List.[] }
+T2 = record { locals = List._++_ t3 t1; slots = List.[] }
 
 abbrev pub T3 : Row.Cx
-T3 = record { locals = t3; slots = List.[] }
+T3 = record { locals = List._++_ t4 t1; slots = List.[] }
 
 abbrev pub T4 : Row.Cx
-T4 = record { locals = t4; slots = List.[] }
+T4 = record { locals = List._++_ t5 t1; slots = List.[] }
 
 abbrev pub T5 : Row.Cx
-T5 = record { locals = t5; slots = List.[] }
+T5 = record { locals = List._++_ t6 t1; slots = List.[] }
 
 abbrev pub T6 : Row.Cx
-T6 = record { locals = t6; slots = List.[] }
+T6 = record { locals = List._++_ t7 t1; slots = List.[] }
 
 abbrev pub T7 : Row.Cx
-T7 = record { locals = t7; slots = List.[] }
+T7 = record { locals = List._++_ t8 t1; slots = List.[] }
 
 abbrev pub T8 : Row.Cx
-T8 = record { locals = t5; slots = List.[] }
+T8 = record { locals = List._++_ t6 t1; slots = List.[] }
 
 abbrev pub T9 : Row.Cx
-T9 = record { locals = t5; slots = List.[] }
+T9 = record { locals = List._++_ t6 t1; slots = List.[] }
 
 abbrev pub T10 : Row.Cx
-T10 = record { locals = t8; slots = List.[] }
+T10 = record { locals = List._++_ t9 t1; slots = List.[] }
 
 abbrev pub T11 : Row.Cx
-T11 = record { locals = t6; slots = List.[] }
+T11 = record { locals = List._++_ t10 t1; slots = List.[] }
 
 abbrev pub T12 : Row.Cx
-T12 = record { locals = t9; slots = List.[] }
+T12 = record { locals = List._++_ t7 t1; slots = List.[] }
 
 abbrev pub T13 : Row.Cx
-T13 = record { locals = t10; slots = List.[] }
+T13 = record { locals = List._++_ t11 t1; slots = List.[] }
 
 abbrev pub T14 : Row.Cx
-T14 = record { locals = t11; slots = List.[] }
+T14 = record { locals = List._++_ t12 t1; slots = List.[] }
 
 abbrev pub T15 : Row.Cx
-T15 = record { locals = t12; slots = List.[] }
+T15 = record { locals = List._++_ t13 t1; slots = List.[] }
 
 abbrev pub T16 : Row.Cx
-T16 = record { locals = t13; slots = List.[] }
+T16 = record { locals = List._++_ t14 t1; slots = List.[] }
 
 abbrev pub T17 : Row.Cx
-T17 = record { locals = t14; slots = List.[] }
+T17 = record { locals = List._++_ t15 t1; slots = List.[] }
 
 abbrev pub T18 : Row.Cx
-T18 = record { locals = t15; slots = List.[] }
+T18 = record { locals = List._++_ t16 t1; slots = List.[] }
 
 abbrev pub T19 : Row.Cx
-T19 = record { locals = t16; slots = List.[] }
+T19 = record { locals = List._++_ t17 t1; slots = List.[] }
 
 abbrev pub T20 : Row.Cx
-T20 = record { locals = t17; slots = List.[] }
+T20 = record { locals = List._++_ t18 t1; slots = List.[] }
 
-abbrev pub T22 : Row.Cx
-T22 = record { locals = t18; slots = List.[] }
+abbrev pub T21 : Row.Cx
+T21 = record { locals = List._++_ t19 t1; slots = List.[] }
 
 abbrev pub T23 : Row.Cx
-T23 = record { locals = t19; slots = List.[] }
+T23 = record { locals = List._++_ t20 t1; slots = List.[] }
 
 abbrev pub T24 : Row.Cx
-T24 = record { locals = t20; slots = List.[] }
+T24 = record { locals = List._++_ t21 t22; slots = List.[] }
 
 abbrev pub T25 : Row.Cx
-T25 = record { locals = t21; slots = List.[] }
+T25 = record { locals = List._++_ t23 t24; slots = List.[] }
 
-abbrev pub T27 : Row.Cx
-T27 = record { locals = t17; slots = List.[] }
+abbrev pub T26 : Row.Cx
+T26 = record { locals = List._++_ t21 t24; slots = List.[] }
 
-abbrev pub T29 : Row.Cx
-T29 = record { locals = t17; slots = List.[] }
+abbrev pub T28 : Row.Cx
+T28 = record { locals = List._++_ t19 t1; slots = List.[] }
 
 abbrev pub T30 : Row.Cx
-T30 = record { locals = t5; slots = List.[] }
+T30 = record { locals = List._++_ t19 t1; slots = List.[] }
 
 abbrev pub T31 : Row.Cx
-T31 = record { locals = t22; slots = List.[] }
+T31 = record { locals = List._++_ t6 t1; slots = List.[] }
 
 abbrev pub T32 : Row.Cx
-T32 = record { locals = t23; slots = List.[] }
+T32 = record { locals = List._++_ t25 t1; slots = List.[] }
 
 abbrev pub T33 : Row.Cx
-T33 = record { locals = t24; slots = List.[] }
+T33 = record { locals = List._++_ t26 t1; slots = List.[] }
 
 abbrev pub T34 : Row.Cx
-T34 = record { locals = t1; slots = List.[] }
+T34 = record { locals = List._++_ t27 t1; slots = List.[] }
+
+abbrev pub T35 : Row.Cx
+T35 = record { locals = List._++_ t2 t1; slots = List.[] }
 
 abbrev pub O0 : Typed.Outs
 O0 = record { next = Option.none; exits = List.[]; returns = Option.some T1 }
@@ -511,119 +533,121 @@ abbrev pub O4 : Typed.Outs
 O4 = Typed.withNext (Option.some T8) O3
 
 abbrev pub InvT-loop : Type 1
-InvT-loop = List.List (InflightAction.row .Denot) → Rows.whole (Declared.row Question.the-type) .Mod → Rows.sc-here
-    (Row.sInt Syntax.w64) .Mod → Rows.sc-here (Row.sInt Syntax.w64) .Mod → Rows.sc-here (Row.sInt Syntax.w64) .Mod →
-    List.List (InflightAction.row .Denot) → Rows.sc-here (Row.sInt Syntax.w64) .Mod → Type 0
+InvT-loop = List.List (InflightAction.row .Denot) → Rows.whole (Declared.row ActionsDropped.the-type) .Mod → Rows.whole
+    (Declared'.row HnsrPeerId.the-type) .Mod → Rows.sc-here (Row.sInt Syntax.w64) .Mod → Rows.sc-here
+    (Row.sInt Syntax.w64) .Mod → Rows.sc-here (Row.sInt Syntax.w64) .Mod → List.List (InflightAction.row .Denot) →
+    Rows.sc-here (Row.sInt Syntax.w64) .Mod → Type 0
 
 abbrev pub MeasureT-loop : Type 0
-MeasureT-loop = List.List (InflightAction.row .Denot) → Rows.whole (Declared.row Question.the-type) .Mod → Rows.sc-here
-    (Row.sInt Syntax.w64) .Mod → Rows.sc-here (Row.sInt Syntax.w64) .Mod → Rows.sc-here (Row.sInt Syntax.w64) .Mod →
-    List.List (InflightAction.row .Denot) → Rows.sc-here (Row.sInt Syntax.w64) .Mod → Nat.ℕ
+MeasureT-loop = List.List (InflightAction.row .Denot) → Rows.whole (Declared.row ActionsDropped.the-type) .Mod →
+    Rows.whole (Declared'.row HnsrPeerId.the-type) .Mod → Rows.sc-here (Row.sInt Syntax.w64) .Mod → Rows.sc-here
+    (Row.sInt Syntax.w64) .Mod → Rows.sc-here (Row.sInt Syntax.w64) .Mod → List.List (InflightAction.row .Denot) →
+    Rows.sc-here (Row.sInt Syntax.w64) .Mod → Nat.ℕ
 
 module _ (claims· : Claims) where
   abbrev s0 : Typed.Mo T0 → Typed.Mo T2
-  s0 = Scalar.n-use T0 (Scalar.oFld 1 ((Syntax.field 1) ∷ List.[]) (Syntax.tyInt Syntax.w64) 8 Shared.lenV) 4
+  s0 = Scalar.n-use T0 (Scalar.oFld 1 ((Syntax.field 1) ∷ List.[]) (Syntax.tyInt Syntax.w64) 8 Shared.lenV) 5
       (Rows.sc-here (Row.sInt Syntax.w64)) (Row.sInt Syntax.w64 .of)
 
   abbrev args1 : Args'.ArgsT ps·0 (T2 .locals)
   args1 = (
     Num.vFld 2 ((Syntax.field 3) ∷ List.[]) 24 λ x. Places.struct .as-values x .1 .1 .1 .0,
-    (Num.vAt 4 λ x. x, tt),
+    (Num.vAt 5 λ x. x, tt),
   )
 
   abbrev s1 : Typed.Both T2 T3
-  s1 = Call.callB ps·0 r·0 (claims· .0) (claims· .1) T2 args1 5 List.[] (Syntax.tyInt Syntax.w64)
+  s1 = Call.callB ps·0 r·0 (claims· .0) (claims· .1) T2 args1 6 List.[] (Syntax.tyInt Syntax.w64)
 
   abbrev s2 : Typed.Mo T3 → Typed.Mo T4
-  s2 = Scalar.n-room T3 2 Laws.mir
+  s2 = Scalar.n-room T3 2 Laws'.mir
 
   abbrev s3 : Typed.Mo T4 → Typed.Mo T5
-  s3 = Scalar.n-use T4 (Scalar.oInt Syntax.w64 0) 6 (Rows.sc-here (Row.sInt Syntax.w64)) (Row.sInt Syntax.w64 .of)
+  s3 = Scalar.n-use T4 (Scalar.oInt Syntax.w64 0) 7 (Rows.sc-here (Row.sInt Syntax.w64)) (Row.sInt Syntax.w64 .of)
 
   abbrev s4 : Typed.Asks T5 T7
-  s4 = Scalar.k-op2 T5 (Syntax.lt Syntax.unsigned) (Scalar.oAt 6 (Syntax.tyInt Syntax.w64)
-      (Row.valS (Row.sInt Syntax.w64))) (Scalar.oAt 5 (Syntax.tyInt Syntax.w64) (Row.valS (Row.sInt Syntax.w64))) 9
+  s4 = Scalar.k-op2 T5 (Syntax.lt Syntax.unsigned) (Scalar.oAt 7 (Syntax.tyInt Syntax.w64)
+      (Row.valS (Row.sInt Syntax.w64))) (Scalar.oAt 6 (Syntax.tyInt Syntax.w64) (Row.valS (Row.sInt Syntax.w64))) 10
       (Rows.sc-here Row.sBool) (Row.sBool .of)
 
   abbrev s5 : Typed.Mo T7 → Typed.Mo T9
-  s5 = Scalar.n-room T7 9 Syntax.tyBool
+  s5 = Scalar.n-room T7 10 Syntax.tyBool
 
   abbrev s6 : Typed.Mo T7 → Typed.Mo T10
-  s6 = Scalar.n-room T7 3 Laws'.mir
+  s6 = Scalar.n-room T7 3 Laws''.mir
 
   abbrev s7 : Typed.Mo T10 → Typed.Mo T11
-  s7 = Scalar.n-room T10 9 Syntax.tyBool
+  s7 = Scalar.n-room T10 4 Laws.mir
 
-  abbrev s8 : Typed.Asks T8 T12
-  s8 = Scalar.k-op2 T8 (Syntax.mul Syntax.unsigned) (Scalar.oAt 6 (Syntax.tyInt Syntax.w64)
-      (Row.valS (Row.sInt Syntax.w64))) (Scalar.oInt Syntax.w64 184) 10 (Rows.sc-here (Row.sInt Syntax.w64))
+  abbrev s8 : Typed.Mo T11 → Typed.Mo T12
+  s8 = Scalar.n-room T11 10 Syntax.tyBool
+
+  abbrev s9 : Typed.Asks T8 T13
+  s9 = Scalar.k-op2 T8 (Syntax.mul Syntax.unsigned) (Scalar.oAt 7 (Syntax.tyInt Syntax.w64)
+      (Row.valS (Row.sInt Syntax.w64))) (Scalar.oInt Syntax.w64 184) 11 (Rows.sc-here (Row.sInt Syntax.w64))
       (Row.sInt Syntax.w64 .of)
 
-  abbrev s9 : Typed.Asks T12 T13
-  s9 = Scalar.k-op2 T12 Syntax.offset (Scalar.oFld 1 ((Syntax.field 0) ∷ List.[]) ref1 0 Reads'.ptrVal) (Scalar.oAt 10
-      (Syntax.tyInt Syntax.w64) (Row.valS (Row.sInt Syntax.w64))) 11 (Rows.sc-here Row.sPtr) (Row.sPtr .of)
+  abbrev s10 : Typed.Asks T13 T14
+  s10 = Scalar.k-op2 T13 Syntax.offset (Scalar.oFld 1 ((Syntax.field 0) ∷ List.[]) ref1 0 Reads'.ptrVal) (Scalar.oAt 11
+      (Syntax.tyInt Syntax.w64) (Row.valS (Row.sInt Syntax.w64))) 12 (Rows.sc-here Row.sPtr) (Row.sPtr .of)
 
-  abbrev s10 : Typed.Both T13 T14
-  s10 = Move.k-sl-copy-out InflightAction.row T13 1 11 12 0 ref1 Row.off InflightAction.held (Shared.bySize 184)
-      (λ u. u .1 .1 .1 .1 .1 .1 .0) (λ x. x) InflightAction.none (λ x. Unit) (λ x. x) λ x. x
-
-  abbrev s11 : Typed.Mo T14 → Typed.Mo T15
-  s11 = Scalar.n-room T14 10 (Syntax.tyInt Syntax.w64)
+  abbrev s11 : Typed.Both T14 T15
+  s11 = Move.k-sl-copy-out InflightAction.row T14 1 12 13 0 ref1 Row.off InflightAction.held (Shared.bySize 184)
+      (λ u. u .1 .1 .1 .1 .1 .1 .1 .0) (λ x. x) InflightAction.none (λ x. Unit) (λ x. x) λ x. x
 
   abbrev s12 : Typed.Mo T15 → Typed.Mo T16
-  s12 = Scalar.n-room T15 11 Syntax.tyPtr
+  s12 = Scalar.n-room T15 11 (Syntax.tyInt Syntax.w64)
 
   abbrev s13 : Typed.Mo T16 → Typed.Mo T17
-  s13 = LocalCopy.n-val-copy T16 12 7 InflightAction.row InflightAction.held InflightAction.held (λ x. x) (λ x. x) λ x.
-      x
+  s13 = Scalar.n-room T16 12 Syntax.tyPtr
 
   abbrev s14 : Typed.Mo T17 → Typed.Mo T18
-  s14 = Scalar.n-room T17 12 InflightAction.ty
+  s14 = LocalCopy.n-val-copy T17 13 8 InflightAction.row InflightAction.held InflightAction.held (λ x. x) (λ x. x) λ x.
+      x
 
-  abbrev args15 : Args'.ArgsT ps·1 (T18 .locals)
-  args15 = (
-    record { pos = 7; st = List.[]; d = 0; at = λ x. x },
-    (record { pos = 3; st = List.[]; d = 0; at = λ x. x }, tt),
+  abbrev s15 : Typed.Mo T18 → Typed.Mo T19
+  s15 = Scalar.n-room T18 13 InflightAction.ty
+
+  abbrev args16 : Args'.ArgsT ps·1 (T19 .locals)
+  args16 = (
+    record { pos = 8; st = List.[]; d = 0; at = λ x. x },
+    (record { pos = 3; st = List.[]; d = 0; at = λ x. x }, (record { pos = 4; st = List.[]; d = 0; at = λ x. x }, tt)),
   )
 
-  abbrev s15 : Typed.Both T18 T19
-  s15 = Call.callB ps·1 r·1 (claims· .2) (claims· .3) T18 args15 8 List.[] Syntax.tyBool
+  abbrev s16 : Typed.Both T19 T20
+  s16 = Call.callB ps·1 r·1 (claims· .2) (claims· .3) T19 args16 9 List.[] Syntax.tyBool
 
-  abbrev s16 : Typed.Mo T19 → Typed.Mo T20
-  s16 = Scalar.n-room T19 7 InflightAction.ty
+  abbrev s17 : Typed.Mo T20 → Typed.Mo T21
+  s17 = Scalar.n-room T20 8 InflightAction.ty
 
-  abbrev s18 : Typed.Gives T20 T22
-  s18 = Relend.k-sl-relend InflightAction.row T20 1 14 0 1 ref1 ref0 Row.off λ x. x
+  abbrev s19 : Typed.Gives T21 T23
+  s19 = Relend.k-sl-relend InflightAction.row T21 1 15 0 1 ref1 ref0 Row.off λ x. x
 
-  abbrev s19 : Typed.Asks T22 T23
-  s19 = Relend.k-sl-aggregate InflightAction.row (Relend.asMut InflightAction.row) T22 14 15 1 ref0 ref0 (λ x. x) (Scalar.oFld
+  abbrev s20 : Typed.Asks T23 T24
+  s20 = Relend.k-sl-aggregate InflightAction.row (Relend.asMut InflightAction.row) T23 15 16 1 ref0 ref0 (λ x. x) (Scalar.oFld
       1 ((Syntax.field 1) ∷ List.[]) (Syntax.tyInt Syntax.w64) 8 λ v. Shared.lenV (v .0))
 
-  abbrev args20 : Args'.ArgsT ps·2 (T23 .locals)
-  args20 = (record { pos = 15; ty = ref0; ref = λ x. x }, (Bool.bAt 8 λ x. x, (Num.vAt 6 λ x. x, tt)))
+  abbrev args21 : Args'.ArgsT ps·2 (T24 .locals)
+  args21 = (record { pos = 16; ty = ref0; ref = λ x. x }, (Bool.bAt 9 λ x. x, (Num.vAt 7 λ x. x, tt)))
 
-  abbrev s20 : Typed.Both T23 T24
-  s20 = Call.callB ps·2 r·2 (claims· .4) (claims· .5) T23 args20 13 (1 ∷ List.[]) Syntax.tyUnit
+  abbrev s21 : Typed.Both T24 T25
+  s21 = Call.callB ps·2 r·2 (claims· .4) (claims· .5) T24 args21 14 (1 ∷ List.[]) Syntax.tyUnit
 
-  abbrev s21 : Typed.Mo T24 → Typed.Mo T25
-  s21 = Scalar.n-room T24 13 Syntax.tyUnit
+  abbrev s22 : Typed.Mo T25 → Typed.Mo T26
+  s22 = Scalar.n-room T25 14 Syntax.tyUnit
 
-  abbrev s23 : Typed.Both T25 T27
-  s23 = Relend.k-back-sl InflightAction.row T25 15 1 0 1 ref1 ref0 Row.off (λ x. x) λ x. x
+  abbrev s24 : Typed.Both T26 T28
+  s24 = Relend.k-back-sl InflightAction.row T26 16 1 0 1 ref1 ref0 Row.off (λ x. x) λ x. x
 
-  abbrev s25 : Typed.Asks T27 T29
-  s25 = Scalar.k-op2 T27 (Syntax.add Syntax.unsigned) (Scalar.oAt 6 (Syntax.tyInt Syntax.w64)
-      (Row.valS (Row.sInt Syntax.w64))) (Scalar.oInt Syntax.w64 1) 6 (Rows.sc-here (Row.sInt Syntax.w64))
+  abbrev s26 : Typed.Asks T28 T30
+  s26 = Scalar.k-op2 T28 (Syntax.add Syntax.unsigned) (Scalar.oAt 7 (Syntax.tyInt Syntax.w64)
+      (Row.valS (Row.sInt Syntax.w64))) (Scalar.oInt Syntax.w64 1) 7 (Rows.sc-here (Row.sInt Syntax.w64))
       (Row.sInt Syntax.w64 .of)
 
-  abbrev s26 : Typed.Mo T29 → Typed.Mo T30
-  s26 = Scalar.n-room T29 8 Syntax.tyBool
+  abbrev s27 : Typed.Mo T30 → Typed.Mo T31
+  s27 = Scalar.n-room T30 9 Syntax.tyBool
 
-  abbrev s27 : Typed.Mo T6 → Typed.Mo T31
-  s27 = Scalar.n-use T6 Scalar.oUnit 0 (Rows.sc-here Row.sUnit) (Row.sUnit .of)
-
-  abbrev s28 : Typed.Mo T31 → Typed.Mo T32
-  s28 = Scalar.n-room T31 4 (Syntax.tyInt Syntax.w64)
+  abbrev s28 : Typed.Mo T6 → Typed.Mo T32
+  s28 = Scalar.n-use T6 Scalar.oUnit 0 (Rows.sc-here Row.sUnit) (Row.sUnit .of)
 
   abbrev s29 : Typed.Mo T32 → Typed.Mo T33
   s29 = Scalar.n-room T32 5 (Syntax.tyInt Syntax.w64)
@@ -631,9 +655,12 @@ module _ (claims· : Claims) where
   abbrev s30 : Typed.Mo T33 → Typed.Mo T34
   s30 = Scalar.n-room T33 6 (Syntax.tyInt Syntax.w64)
 
+  abbrev s31 : Typed.Mo T34 → Typed.Mo T35
+  s31 = Scalar.n-room T34 7 (Syntax.tyInt Syntax.w64)
+
   abbrev put0 : List.List (InflightAction.row .Denot) × Rows.sc-here (Row.sInt Syntax.w64) .Mod → Typed.Mo T5 →
       Typed.Mo T5
-  put0 = λ vs u. Row.set 6 (6, Rows.sc-here (Row.sInt Syntax.w64)) (vs .1) (T5 .locals) (Row.set 1
+  put0 = λ vs u. Row.set 7 (7, Rows.sc-here (Row.sInt Syntax.w64)) (vs .1) (T5 .locals) (Row.set 1
       (1, Mut.mslice InflightAction.row ref1 0) record {
         ptr = Row.get 1 (T5 .locals) u .ptr;
         name = Row.get 1 (T5 .locals) u .name;
@@ -658,119 +685,123 @@ module _ (claims· : Claims) where
       abbrev at1 : Typed.TF T7 O4
       at1 = λ Ψ. Typed.pass T7 T9 s5 (at0 Ψ)
 
-      abbrev at2 : Typed.TF T11 O4
+      abbrev at2 : Typed.TF T12 O4
       at2 = Typed.atExit 1 O4
 
-      abbrev at3 : Typed.TF T10 O4
-      at3 = λ Ψ. Typed.pass T10 T11 s7 (at2 Ψ)
+      abbrev at3 : Typed.TF T11 O4
+      at3 = λ Ψ. Typed.pass T11 T12 s8 (at2 Ψ)
 
-      abbrev at4 : Typed.TF T7 O4
-      at4 = λ Ψ. Typed.pass T7 T10 s6 (at3 Ψ)
+      abbrev at4 : Typed.TF T10 O4
+      at4 = λ Ψ. Typed.pass T10 T11 s7 (at3 Ψ)
 
       abbrev at5 : Typed.TF T7 O4
-      at5 = Scalar.Φcond T7 O4 9 (λ x. x) at1 at4
+      at5 = λ Ψ. Typed.pass T7 T10 s6 (at4 Ψ)
 
-      abbrev at6 : Typed.TF T27 O3
-      at6 = λ Ψ. Typed.ask s25 (Typed.pass T29 T30 s26 (Typed.atNext O3 Ψ))
+      abbrev at6 : Typed.TF T7 O4
+      at6 = Scalar.Φcond T7 O4 10 (λ x. x) at1 at5
 
-      abbrev at7 : Typed.TF T27 O3
-      at7 = λ Ψ. at6 Ψ
+      abbrev at7 : Typed.TF T28 O3
+      at7 = λ Ψ. Typed.ask s26 (Typed.pass T30 T31 s27 (Typed.atNext O3 Ψ))
 
-      abbrev at8 : Typed.TF T25 O3
-      at8 = λ Ψ. Typed.both s23 (at7 Ψ)
+      abbrev at8 : Typed.TF T28 O3
+      at8 = λ Ψ. at7 Ψ
 
-      abbrev at9 : Typed.TF T25 O3
-      at9 = λ Ψ. at8 Ψ
+      abbrev at9 : Typed.TF T26 O3
+      at9 = λ Ψ. Typed.both s24 (at8 Ψ)
 
-      abbrev at10 : Typed.TF T24 O3
-      at10 = λ Ψ. Typed.pass T24 T25 s21 (at9 Ψ)
+      abbrev at10 : Typed.TF T26 O3
+      at10 = λ Ψ. at9 Ψ
 
-      abbrev at11 : Typed.TF T23 O3
-      at11 = λ Ψ. Typed.both s20 (at10 Ψ)
+      abbrev at11 : Typed.TF T25 O3
+      at11 = λ Ψ. Typed.pass T25 T26 s22 (at10 Ψ)
 
-      abbrev at12 : Typed.TF T22 O3
-      at12 = λ Ψ. Typed.ask s19 (at11 Ψ)
+      abbrev at12 : Typed.TF T24 O3
+      at12 = λ Ψ. Typed.both s21 (at11 Ψ)
 
-      abbrev at13 : Typed.TF T20 O3
-      at13 = λ Ψ. Typed.give s18 (at12 Ψ)
+      abbrev at13 : Typed.TF T23 O3
+      at13 = λ Ψ. Typed.ask s20 (at12 Ψ)
 
-      abbrev at14 : Typed.TF T20 O3
-      at14 = λ Ψ. at13 Ψ
+      abbrev at14 : Typed.TF T21 O3
+      at14 = λ Ψ. Typed.give s19 (at13 Ψ)
 
-      abbrev at15 : Typed.TF T19 O3
-      at15 = λ Ψ. Typed.pass T19 T20 s16 (at14 Ψ)
+      abbrev at15 : Typed.TF T21 O3
+      at15 = λ Ψ. at14 Ψ
 
-      abbrev at16 : Typed.TF T18 O3
-      at16 = λ Ψ. Typed.both s15 (at15 Ψ)
+      abbrev at16 : Typed.TF T20 O3
+      at16 = λ Ψ. Typed.pass T20 T21 s17 (at15 Ψ)
 
-      abbrev at17 : Typed.TF T17 O3
-      at17 = λ Ψ. Typed.pass T17 T18 s14 (at16 Ψ)
+      abbrev at17 : Typed.TF T19 O3
+      at17 = λ Ψ. Typed.both s16 (at16 Ψ)
 
-      abbrev at18 : Typed.TF T16 O3
-      at18 = λ Ψ. Typed.pass T16 T17 s13 (at17 Ψ)
+      abbrev at18 : Typed.TF T18 O3
+      at18 = λ Ψ. Typed.pass T18 T19 s15 (at17 Ψ)
 
-      abbrev at19 : Typed.TF T15 O3
-      at19 = λ Ψ. Typed.pass T15 T16 s12 (at18 Ψ)
+      abbrev at19 : Typed.TF T17 O3
+      at19 = λ Ψ. Typed.pass T17 T18 s14 (at18 Ψ)
 
-      abbrev at20 : Typed.TF T14 O3
-      at20 = λ Ψ. Typed.pass T14 T15 s11 (at19 Ψ)
+      abbrev at20 : Typed.TF T16 O3
+      at20 = λ Ψ. Typed.pass T16 T17 s13 (at19 Ψ)
 
-      abbrev at21 : Typed.TF T13 O3
-      at21 = λ Ψ. Typed.both s10 (at20 Ψ)
+      abbrev at21 : Typed.TF T15 O3
+      at21 = λ Ψ. Typed.pass T15 T16 s12 (at20 Ψ)
 
-      abbrev at22 : Typed.TF T12 O3
-      at22 = λ Ψ. Typed.ask s9 (at21 Ψ)
+      abbrev at22 : Typed.TF T14 O3
+      at22 = λ Ψ. Typed.both s11 (at21 Ψ)
 
-      abbrev at23 : Typed.TF T8 O3
-      at23 = λ Ψ. Typed.ask s8 (at22 Ψ)
+      abbrev at23 : Typed.TF T13 O3
+      at23 = λ Ψ. Typed.ask s10 (at22 Ψ)
 
-      abbrev at24 : Typed.TF T7 O3
-      at24 = λ Ψ. at5 (Typed.wantNext T8 O3 (at23 Ψ) Ψ)
+      abbrev at24 : Typed.TF T8 O3
+      at24 = λ Ψ. Typed.ask s9 (at23 Ψ)
 
-      abbrev at25 : Typed.TF T5 O3
-      at25 = λ Ψ. Typed.ask s4 (at24 Ψ)
+      abbrev at25 : Typed.TF T7 O3
+      at25 = λ Ψ. at6 (Typed.wantNext T8 O3 (at24 Ψ) Ψ)
 
-      abbrev at26 : Typed.TF T5 O2
-      at26 = Typed.LoopBy T5 O2 put0 (λ u vs. Inv·0 (Row.get 1 (T5 .locals) u .now) (Row.get 3 (T5 .locals) u)
-          (Row.get 4 (T5 .locals) u) (Row.get 5 (T5 .locals) u) (Row.get 6 (T5 .locals) u) (vs .0) (vs .1)) (λ u vs.
-          μ·0 (Row.get 1 (T5 .locals) u .now) (Row.get 3 (T5 .locals) u) (Row.get 4 (T5 .locals) u)
-          (Row.get 5 (T5 .locals) u) (Row.get 6 (T5 .locals) u) (vs .0) (vs .1)) at25
+      abbrev at26 : Typed.TF T5 O3
+      at26 = λ Ψ. Typed.ask s4 (at25 Ψ)
 
-      abbrev at27 : Typed.TF T5 O1
-      at27 = λ Ψ. at26 (Typed.inBlock O1 Ψ)
+      abbrev at27 : Typed.TF T5 O2
+      at27 = Typed.LoopBy T5 O2 put0 (λ u vs. Inv·0 (Row.get 1 (T5 .locals) u .now) (Row.get 3 (T5 .locals) u)
+          (Row.get 4 (T5 .locals) u) (Row.get 5 (T5 .locals) u) (Row.get 6 (T5 .locals) u) (Row.get 7 (T5 .locals) u)
+          (vs .0) (vs .1)) (λ u vs. μ·0 (Row.get 1 (T5 .locals) u .now) (Row.get 3 (T5 .locals) u)
+          (Row.get 4 (T5 .locals) u) (Row.get 5 (T5 .locals) u) (Row.get 6 (T5 .locals) u) (Row.get 7 (T5 .locals) u)
+          (vs .0) (vs .1)) at26
 
-      abbrev at28 : Typed.TF T34 O0
-      at28 = Typed.atRet O0
+      abbrev at28 : Typed.TF T5 O1
+      at28 = λ Ψ. at27 (Typed.inBlock O1 Ψ)
 
-      abbrev at29 : Typed.TF T33 O0
-      at29 = λ Ψ. Typed.pass T33 T34 s30 (at28 Ψ)
+      abbrev at29 : Typed.TF T35 O0
+      at29 = Typed.atRet O0
 
-      abbrev at30 : Typed.TF T32 O0
-      at30 = λ Ψ. Typed.pass T32 T33 s29 (at29 Ψ)
+      abbrev at30 : Typed.TF T34 O0
+      at30 = λ Ψ. Typed.pass T34 T35 s31 (at29 Ψ)
 
-      abbrev at31 : Typed.TF T31 O0
-      at31 = λ Ψ. Typed.pass T31 T32 s28 (at30 Ψ)
+      abbrev at31 : Typed.TF T33 O0
+      at31 = λ Ψ. Typed.pass T33 T34 s30 (at30 Ψ)
 
-      abbrev at32 : Typed.TF T6 O0
-      at32 = λ Ψ. Typed.pass T6 T31 s27 (at31 Ψ)
+      abbrev at32 : Typed.TF T32 O0
+      at32 = λ Ψ. Typed.pass T32 T33 s29 (at31 Ψ)
 
-      abbrev at33 : Typed.TF T5 O0
-      at33 = λ Ψ. at27 (Typed.wantNext T6 O0 (at32 Ψ) Ψ)
+      abbrev at33 : Typed.TF T6 O0
+      at33 = λ Ψ. Typed.pass T6 T32 s28 (at32 Ψ)
 
-      abbrev at34 : Typed.TF T4 O0
-      at34 = λ Ψ. Typed.pass T4 T5 s3 (at33 Ψ)
+      abbrev at34 : Typed.TF T5 O0
+      at34 = λ Ψ. at28 (Typed.wantNext T6 O0 (at33 Ψ) Ψ)
 
-      abbrev at35 : Typed.TF T3 O0
-      at35 = λ Ψ. Typed.pass T3 T4 s2 (at34 Ψ)
+      abbrev at35 : Typed.TF T4 O0
+      at35 = λ Ψ. Typed.pass T4 T5 s3 (at34 Ψ)
 
-      abbrev at36 : Typed.TF T2 O0
-      at36 = λ Ψ. Typed.both s1 (at35 Ψ)
+      abbrev at36 : Typed.TF T3 O0
+      at36 = λ Ψ. Typed.pass T3 T4 s2 (at35 Ψ)
 
-      abbrev at37 : Typed.TF T0 O0
-      at37 = λ Ψ. Typed.pass T0 T2 s0 (at36 Ψ)
+      abbrev at37 : Typed.TF T2 O0
+      at37 = λ Ψ. Typed.both s1 (at36 Ψ)
+
+      abbrev at38 : Typed.TF T0 O0
+      at38 = λ Ψ. Typed.pass T0 T2 s0 (at37 Ψ)
 
       abbrev pub Φ : Typed.TF T0 O0
-      Φ = at37
+      Φ = at38
 
       module _ {M : Type 1} (𝓤 : URA.URA M) (H : Wp.Heap 𝓤) (A : Atoms.Atoms 𝓤) (W : Kit.Given 𝓤 H A)
           (𝓣 : Wp.Tables 𝓤 H) where
@@ -786,123 +817,122 @@ module _ (claims· : Claims) where
         abbrev l1 : Row.Entry
         l1 = (1, Relend.mslice-owed InflightAction.row ref1 0 1 life0)
 
-        abbrev g18 : List.List Row.Entry
-        g18 = e0 ∷ l1 ∷ e2·1 ∷ e3 ∷ e4·1 ∷ e5·1 ∷ e6·1 ∷ e7 ∷ e8·1 ∷ e9 ∷ e10 ∷ e11 ∷ e12 ∷ e13 ∷ e14·1 ∷ e15 ∷ List.[]
-
-        abbrev g19 : List.List Row.Entry
-        g19 = e0 ∷ l1 ∷ e2·1 ∷ e3 ∷ e4·1 ∷ e5·1 ∷ e6·1 ∷ e7 ∷ e8·1 ∷ e9 ∷ e10 ∷ e11 ∷ e12 ∷ e13 ∷ e14 ∷ e15·1 ∷ List.[]
-
         abbrev g20 : List.List Row.Entry
-        g20 = e0 ∷ l1 ∷ e2·1 ∷ e3 ∷ e4·1 ∷ e5·1 ∷ e6·1 ∷ e7 ∷ e8·1 ∷ e9 ∷ e10 ∷ e11 ∷ e12 ∷ e13·1 ∷ e14 ∷ e15·2 ∷
-            List.[]
+        g20 = e0 ∷ l1 ∷ e2·1 ∷ e3 ∷ e4 ∷ e5·1 ∷ e6·1 ∷ e7·1 ∷ e8 ∷ e9·1 ∷ e10 ∷ e11 ∷ e12 ∷ e13 ∷ e14 ∷ e15·1 ∷ List.[]
 
         abbrev g21 : List.List Row.Entry
-        g21 = e0 ∷ l1 ∷ e2·1 ∷ e3 ∷ e4·1 ∷ e5·1 ∷ e6·1 ∷ e7 ∷ e8·1 ∷ e9 ∷ e10 ∷ e11 ∷ e12 ∷ e13 ∷ e14 ∷ e15·2 ∷ List.[]
+        g21 = e0 ∷ l1 ∷ e2·1 ∷ e3 ∷ e4 ∷ e5·1 ∷ e6·1 ∷ e7·1 ∷ e8 ∷ e9·1 ∷ e10 ∷ e11 ∷ e12 ∷ e13 ∷ e14 ∷ e15 ∷ List.[]
+
+        abbrev g23 : List.List Row.Entry
+        g23 = e0 ∷ l1 ∷ e2·1 ∷ e3 ∷ e4 ∷ e5·1 ∷ e6·1 ∷ e7·1 ∷ e8 ∷ e9·1 ∷ e10 ∷ e11 ∷ e12 ∷ e13 ∷ e14·1 ∷ e15 ∷ List.[]
 
         abbrev G0 : Row.Cx
-        G0 = record { locals = t0; slots = life0 ∷ Row.off ∷ List.[] }
+        G0 = record { locals = List._++_ t0 t1; slots = life0 ∷ Row.off ∷ List.[] }
 
         abbrev G1 : Row.Cx
-        G1 = record { locals = t1; slots = life0 ∷ Row.off ∷ List.[] }
+        G1 = record { locals = List._++_ t2 t1; slots = life0 ∷ Row.off ∷ List.[] }
 
         abbrev G2 : Row.Cx
-        G2 = record { locals = t2; slots = life0 ∷ Row.off ∷ List.[] }
+        G2 = record { locals = List._++_ t3 t1; slots = life0 ∷ Row.off ∷ List.[] }
 
         abbrev G3 : Row.Cx
-        G3 = record { locals = t3; slots = life0 ∷ Row.off ∷ List.[] }
+        G3 = record { locals = List._++_ t4 t1; slots = life0 ∷ Row.off ∷ List.[] }
 
         abbrev G4 : Row.Cx
-        G4 = record { locals = t4; slots = life0 ∷ Row.off ∷ List.[] }
+        G4 = record { locals = List._++_ t5 t1; slots = life0 ∷ Row.off ∷ List.[] }
 
         abbrev G5 : Row.Cx
-        G5 = record { locals = t5; slots = life0 ∷ Row.off ∷ List.[] }
+        G5 = record { locals = List._++_ t6 t1; slots = life0 ∷ Row.off ∷ List.[] }
 
         abbrev G6 : Row.Cx
-        G6 = record { locals = t6; slots = life0 ∷ Row.off ∷ List.[] }
+        G6 = record { locals = List._++_ t7 t1; slots = life0 ∷ Row.off ∷ List.[] }
 
         abbrev G7 : Row.Cx
-        G7 = record { locals = t7; slots = life0 ∷ Row.off ∷ List.[] }
+        G7 = record { locals = List._++_ t8 t1; slots = life0 ∷ Row.off ∷ List.[] }
 
         abbrev G8 : Row.Cx
-        G8 = record { locals = t5; slots = life0 ∷ Row.off ∷ List.[] }
+        G8 = record { locals = List._++_ t6 t1; slots = life0 ∷ Row.off ∷ List.[] }
 
         abbrev G9 : Row.Cx
-        G9 = record { locals = t5; slots = life0 ∷ Row.off ∷ List.[] }
+        G9 = record { locals = List._++_ t6 t1; slots = life0 ∷ Row.off ∷ List.[] }
 
         abbrev G10 : Row.Cx
-        G10 = record { locals = t8; slots = life0 ∷ Row.off ∷ List.[] }
+        G10 = record { locals = List._++_ t9 t1; slots = life0 ∷ Row.off ∷ List.[] }
 
         abbrev G11 : Row.Cx
-        G11 = record { locals = t6; slots = life0 ∷ Row.off ∷ List.[] }
+        G11 = record { locals = List._++_ t10 t1; slots = life0 ∷ Row.off ∷ List.[] }
 
         abbrev G12 : Row.Cx
-        G12 = record { locals = t9; slots = life0 ∷ Row.off ∷ List.[] }
+        G12 = record { locals = List._++_ t7 t1; slots = life0 ∷ Row.off ∷ List.[] }
 
         abbrev G13 : Row.Cx
-        G13 = record { locals = t10; slots = life0 ∷ Row.off ∷ List.[] }
+        G13 = record { locals = List._++_ t11 t1; slots = life0 ∷ Row.off ∷ List.[] }
 
         abbrev G14 : Row.Cx
-        G14 = record { locals = t11; slots = life0 ∷ Row.off ∷ List.[] }
+        G14 = record { locals = List._++_ t12 t1; slots = life0 ∷ Row.off ∷ List.[] }
 
         abbrev G15 : Row.Cx
-        G15 = record { locals = t12; slots = life0 ∷ Row.off ∷ List.[] }
+        G15 = record { locals = List._++_ t13 t1; slots = life0 ∷ Row.off ∷ List.[] }
 
         abbrev G16 : Row.Cx
-        G16 = record { locals = t13; slots = life0 ∷ Row.off ∷ List.[] }
+        G16 = record { locals = List._++_ t14 t1; slots = life0 ∷ Row.off ∷ List.[] }
 
         abbrev G17 : Row.Cx
-        G17 = record { locals = t14; slots = life0 ∷ Row.off ∷ List.[] }
+        G17 = record { locals = List._++_ t15 t1; slots = life0 ∷ Row.off ∷ List.[] }
 
         abbrev G18 : Row.Cx
-        G18 = record { locals = t15; slots = life0 ∷ Row.off ∷ List.[] }
+        G18 = record { locals = List._++_ t16 t1; slots = life0 ∷ Row.off ∷ List.[] }
 
         abbrev G19 : Row.Cx
-        G19 = record { locals = t16; slots = life0 ∷ Row.off ∷ List.[] }
+        G19 = record { locals = List._++_ t17 t1; slots = life0 ∷ Row.off ∷ List.[] }
 
         abbrev G20 : Row.Cx
-        G20 = record { locals = t17; slots = life0 ∷ Row.off ∷ List.[] }
+        G20 = record { locals = List._++_ t18 t1; slots = life0 ∷ Row.off ∷ List.[] }
 
         abbrev G21 : Row.Cx
-        G21 = record { locals = t17; slots = life0 ∷ Row.alive ∷ List.[] }
+        G21 = record { locals = List._++_ t19 t1; slots = life0 ∷ Row.off ∷ List.[] }
 
         abbrev G22 : Row.Cx
-        G22 = record { locals = g18; slots = Row.off ∷ Row.alive ∷ List.[] }
+        G22 = record { locals = List._++_ t19 t1; slots = life0 ∷ Row.alive ∷ List.[] }
 
         abbrev G23 : Row.Cx
-        G23 = record { locals = g19; slots = Row.off ∷ Row.alive ∷ List.[] }
+        G23 = record { locals = List._++_ g20 t1; slots = Row.off ∷ Row.alive ∷ List.[] }
 
         abbrev G24 : Row.Cx
-        G24 = record { locals = g20; slots = Row.off ∷ Row.alive ∷ List.[] }
+        G24 = record { locals = List._++_ g21 t22; slots = Row.off ∷ Row.alive ∷ List.[] }
 
         abbrev G25 : Row.Cx
-        G25 = record { locals = g21; slots = Row.off ∷ Row.alive ∷ List.[] }
+        G25 = record { locals = List._++_ g23 t24; slots = Row.off ∷ Row.alive ∷ List.[] }
 
         abbrev G26 : Row.Cx
-        G26 = record { locals = g21; slots = Row.off ∷ Row.dead ∷ List.[] }
+        G26 = record { locals = List._++_ g21 t24; slots = Row.off ∷ Row.alive ∷ List.[] }
 
         abbrev G27 : Row.Cx
-        G27 = record { locals = t17; slots = life0 ∷ Row.dead ∷ List.[] }
+        G27 = record { locals = List._++_ g21 t24; slots = Row.off ∷ Row.dead ∷ List.[] }
 
         abbrev G28 : Row.Cx
-        G28 = record { locals = t17; slots = life0 ∷ Row.off ∷ List.[] }
+        G28 = record { locals = List._++_ t19 t1; slots = life0 ∷ Row.dead ∷ List.[] }
 
         abbrev G29 : Row.Cx
-        G29 = record { locals = t17; slots = life0 ∷ Row.off ∷ List.[] }
+        G29 = record { locals = List._++_ t19 t1; slots = life0 ∷ Row.off ∷ List.[] }
 
         abbrev G30 : Row.Cx
-        G30 = record { locals = t5; slots = life0 ∷ Row.off ∷ List.[] }
+        G30 = record { locals = List._++_ t19 t1; slots = life0 ∷ Row.off ∷ List.[] }
 
         abbrev G31 : Row.Cx
-        G31 = record { locals = t22; slots = life0 ∷ Row.off ∷ List.[] }
+        G31 = record { locals = List._++_ t6 t1; slots = life0 ∷ Row.off ∷ List.[] }
 
         abbrev G32 : Row.Cx
-        G32 = record { locals = t23; slots = life0 ∷ Row.off ∷ List.[] }
+        G32 = record { locals = List._++_ t25 t1; slots = life0 ∷ Row.off ∷ List.[] }
 
         abbrev G33 : Row.Cx
-        G33 = record { locals = t24; slots = life0 ∷ Row.off ∷ List.[] }
+        G33 = record { locals = List._++_ t26 t1; slots = life0 ∷ Row.off ∷ List.[] }
 
         abbrev G34 : Row.Cx
-        G34 = record { locals = t1; slots = life0 ∷ Row.off ∷ List.[] }
+        G34 = record { locals = List._++_ t27 t1; slots = life0 ∷ Row.off ∷ List.[] }
+
+        abbrev G35 : Row.Cx
+        G35 = record { locals = List._++_ t2 t1; slots = life0 ∷ Row.off ∷ List.[] }
 
         abbrev Δ0 : Typed.Outs
         Δ0 = record { next = Option.none; exits = List.[]; returns = Option.some G1 }
@@ -929,57 +959,61 @@ module _ (claims· : Claims) where
           d0 = Typed.t-skip 𝓤 H A W 𝓣 E Δ4 tt
 
           d1 : Typed.Typed 𝓤 H A 𝓣 E G7 b4 Δ4 at1
-          d1 = Typed.g-pre 𝓤 H A W 𝓣 E G7 G9 b4 Δ4 (Typed.pass T7 T9 s5) at0 (Scalar.g-room 𝓤 H A W E G7 9
+          d1 = Typed.g-pre 𝓤 H A W 𝓣 E G7 G9 b4 Δ4 (Typed.pass T7 T9 s5) at0 (Scalar.g-room 𝓤 H A W E G7 10
               Syntax.tyBool (Scalar.room-sc 𝓤 H A W Row.sBool)) d0
 
-          d2 : Typed.Typed 𝓤 H A 𝓣 E G11 b5 Δ4 at2
+          d2 : Typed.Typed 𝓤 H A 𝓣 E G12 b5 Δ4 at2
           d2 = Typed.t-exit 𝓤 H A W 𝓣 E 1 Δ4 tt
 
-          d3 : Typed.Typed 𝓤 H A 𝓣 E G10 b5 Δ4 at3
-          d3 = Typed.g-pre 𝓤 H A W 𝓣 E G10 G11 b5 Δ4 (Typed.pass T10 T11 s7) at2 (Scalar.g-room 𝓤 H A W E G10 9
+          d3 : Typed.Typed 𝓤 H A 𝓣 E G11 b5 Δ4 at3
+          d3 = Typed.g-pre 𝓤 H A W 𝓣 E G11 G12 b5 Δ4 (Typed.pass T11 T12 s8) at2 (Scalar.g-room 𝓤 H A W E G11 10
               Syntax.tyBool (Scalar.room-sc 𝓤 H A W Row.sBool)) d2
 
-          d4 : Typed.Typed 𝓤 H A 𝓣 E G7 b5 Δ4 at4
-          d4 = Typed.g-pre 𝓤 H A W 𝓣 E G7 G10 b5 Δ4 (Typed.pass T7 T10 s6) at3 (Scalar.g-room 𝓤 H A W E G7 3 Laws'.mir (Local.room-whole
-              𝓤 H A W (Declared.row Question.the-type) Laws'.mir Path.refl)) d3
+          d4 : Typed.Typed 𝓤 H A 𝓣 E G10 b5 Δ4 at4
+          d4 = Typed.g-pre 𝓤 H A W 𝓣 E G10 G11 b5 Δ4 (Typed.pass T10 T11 s7) at3 (Scalar.g-room 𝓤 H A W E G10 4
+              Laws.mir (Local.room-whole 𝓤 H A W (Declared'.row HnsrPeerId.the-type) Laws.mir Path.refl)) d3
 
-          d5 : Typed.Typed 𝓤 H A 𝓣 E G7 b6 Δ4 at5
-          d5 = Scalar.t-cond 𝓤 H A W E 𝓣 G7 9 (λ x. x) b4 b5 Δ4 at1 at4 (Scalar.reads-sc 𝓤 H A W Row.sBool) Path.refl
-              d1 d4
+          d5 : Typed.Typed 𝓤 H A 𝓣 E G7 b5 Δ4 at5
+          d5 = Typed.g-pre 𝓤 H A W 𝓣 E G7 G10 b5 Δ4 (Typed.pass T7 T10 s6) at4 (Scalar.g-room 𝓤 H A W E G7 3 Laws''.mir (Local.room-whole
+              𝓤 H A W (Declared.row ActionsDropped.the-type) Laws''.mir Path.refl)) d4
 
-          d6 : Typed.Typed 𝓤 H A 𝓣 E G28 b15 Δ3 at6
-          d6 = Typed.s-typed 𝓤 H A W 𝓣 E G28 b15 Δ3 (λ Ψ. Typed.ask s25 (Typed.pass T29 T30 s26 Ψ)) tt (Typed.g-post 𝓤
-              H A W 𝓣 E G28 G29 G30 b15 (Typed.ask s25) (Typed.pass T29 T30 s26) (Scalar.t-op2 𝓤 H A W E 𝓣 G28
-              (Syntax.add Syntax.unsigned) (Scalar.oAt 6 (Syntax.tyInt Syntax.w64) (Row.valS (Row.sInt Syntax.w64)))
-              (Scalar.oInt Syntax.w64 1) 6 (Rows.sc-here (Row.sInt Syntax.w64)) (Syntax.tyInt Syntax.w64)
+          d6 : Typed.Typed 𝓤 H A 𝓣 E G7 b6 Δ4 at6
+          d6 = Scalar.t-cond 𝓤 H A W E 𝓣 G7 10 (λ x. x) b4 b5 Δ4 at1 at5 (Scalar.reads-sc 𝓤 H A W Row.sBool) Path.refl
+              d1 d5
+
+          d7 : Typed.Typed 𝓤 H A 𝓣 E G29 b15 Δ3 at7
+          d7 = Typed.s-typed 𝓤 H A W 𝓣 E G29 b15 Δ3 (λ Ψ. Typed.ask s26 (Typed.pass T30 T31 s27 Ψ)) tt (Typed.g-post 𝓤
+              H A W 𝓣 E G29 G30 G31 b15 (Typed.ask s26) (Typed.pass T30 T31 s27) (Scalar.t-op2 𝓤 H A W E 𝓣 G29
+              (Syntax.add Syntax.unsigned) (Scalar.oAt 7 (Syntax.tyInt Syntax.w64) (Row.valS (Row.sInt Syntax.w64)))
+              (Scalar.oInt Syntax.w64 1) 7 (Rows.sc-here (Row.sInt Syntax.w64)) (Syntax.tyInt Syntax.w64)
               (Row.valS (Row.sInt Syntax.w64)) (Row.sInt Syntax.w64 .of)
               (Scalar.reads-sc 𝓤 H A W (Row.sInt Syntax.w64), Path.refl) tt
               (Scalar.room-sc 𝓤 H A W (Row.sInt Syntax.w64)) (Scalar.holds-sc 𝓤 H A W (Row.sInt Syntax.w64)) Path.refl
-              (λ u. Path.refl) λ u. tt) (Scalar.g-room 𝓤 H A W E G29 8 Syntax.tyBool
+              (λ u. Path.refl) λ u. tt) (Scalar.g-room 𝓤 H A W E G30 9 Syntax.tyBool
               (Scalar.room-sc 𝓤 H A W Row.sBool)))
 
-          d7 : Typed.Typed 𝓤 H A 𝓣 E G27 b15 Δ3 at7
-          d7 = Typed.g-pre 𝓤 H A W 𝓣 E G27 G28 b15 Δ3 (λ Ψ. Ψ) at6
-              (Lifetime.g-forget 𝓤 H A W E G27 1 Row.dead Path.refl) d6
+          d8 : Typed.Typed 𝓤 H A 𝓣 E G28 b15 Δ3 at8
+          d8 = Typed.g-pre 𝓤 H A W 𝓣 E G28 G29 b15 Δ3 (λ Ψ. Ψ) at7
+              (Lifetime.g-forget 𝓤 H A W E G28 1 Row.dead Path.refl) d7
 
-          d8 : Typed.Typed 𝓤 H A 𝓣 E G26 b15 Δ3 at8
-          d8 = Typed.g-pre 𝓤 H A W 𝓣 E G26 G27 b15 Δ3 (Typed.both s23) at7 (Relend.g-back-sl 𝓤 H A W E
-              InflightAction.row G26 15 1 0 1 ref1 ref0 life0 (λ x. x) (λ x. x)
+          d9 : Typed.Typed 𝓤 H A 𝓣 E G27 b15 Δ3 at9
+          d9 = Typed.g-pre 𝓤 H A W 𝓣 E G27 G28 b15 Δ3 (Typed.both s24) at8 (Relend.g-back-sl 𝓤 H A W E
+              InflightAction.row G27 16 1 0 1 ref1 ref0 life0 (λ x. x) (λ x. x)
               (Reads'.as-is 𝓤 H A (Mut.msleft InflightAction.row ref0)) (Reads'.as-is 𝓤 H A
-              (Relend.mslice-owed InflightAction.row ref1 0 1 life0)) Path.refl Path.refl) d7
+              (Relend.mslice-owed InflightAction.row ref1 0 1 life0)) Path.refl Path.refl) d8
 
-          d9 : Typed.Typed 𝓤 H A 𝓣 E G25 b15 Δ3 at9
-          d9 = Typed.g-pre 𝓤 H A W 𝓣 E G25 G26 b15 Δ3 (λ Ψ. Ψ) at8 (Lifetime.g-end 𝓤 H A W E G25 1 Path.refl) d8
+          d10 : Typed.Typed 𝓤 H A 𝓣 E G26 b15 Δ3 at10
+          d10 = Typed.g-pre 𝓤 H A W 𝓣 E G26 G27 b15 Δ3 (λ Ψ. Ψ) at9 (Lifetime.g-end 𝓤 H A W E G26 1 Path.refl) d9
 
-          d10 : Typed.Typed 𝓤 H A 𝓣 E G24 b15 Δ3 at10
-          d10 = Typed.g-pre 𝓤 H A W 𝓣 E G24 G25 b15 Δ3 (Typed.pass T24 T25 s21) at9 (Scalar.g-room 𝓤 H A W E G24 13
-              Syntax.tyUnit (Scalar.room-sc 𝓤 H A W Row.sUnit)) d9
+          d11 : Typed.Typed 𝓤 H A 𝓣 E G25 b15 Δ3 at11
+          d11 = Typed.g-pre 𝓤 H A W 𝓣 E G25 G26 b15 Δ3 (Typed.pass T25 T26 s22) at10 (Scalar.g-room 𝓤 H A W E G25 14
+              Syntax.tyUnit (Scalar.room-sc 𝓤 H A W Row.sUnit)) d10
 
-          d11 : Typed.Typed 𝓤 H A 𝓣 E G23 b16 Δ3 at11
-          d11 = Typed.s-seq 𝓤 H A W 𝓣 E G23 G24 b14 b15 Δ3 (Typed.both s20) at10 (Plain.t-call-plain 𝓤 H A W 𝓣 1 ps·2
+          d12 : Typed.Typed 𝓤 H A 𝓣 E G24 b16 Δ3 at12
+          d12 = Typed.s-seq 𝓤 H A W 𝓣 E G24 G25 b14 b15 Δ3 (Typed.both s21) at11 (Plain.t-call-plain 𝓤 H A W 𝓣 1 ps·2
               r·2 (claims· .4) (claims· .5) "hnsr_circuit::tables::inflight::unmark_action" (known .2) E (λ pos β. β)
-              G23 (record { pos = 15; ty = ref0; ref = λ x. x }, (Bool.bAt 8 λ x. x, (Num.vAt 6 λ x. x, tt))) 13
-              (1 ∷ List.[]) (Call.sub-id 𝓤 H A W (G23 .slots)) (
+              G24 (record { pos = 16; ty = ref0; ref = λ x. x }, (Bool.bAt 9 λ x. x, (Num.vAt 7 λ x. x, tt))) 14
+              (1 ∷ List.[]) (Call.sub-id 𝓤 H A W (G24 .slots)) (
                 Reads'.as-is 𝓤 H A (Mut.mslice InflightAction.row ref0 1),
                 Mut.reads-mslice 𝓤 H A W InflightAction.row ref0 1,
                 Path.refl,
@@ -987,39 +1021,42 @@ module _ (claims· : Claims) where
                   (Scalar.reads-sc 𝓤 H A W Row.sBool, Path.refl),
                   ((Scalar.reads-sc 𝓤 H A W (Row.sInt Syntax.w64), Path.refl), tt),
                 ),
-              ) (Reads'.room-gone 𝓤 H A Syntax.tyUnit) (tt, tt) Path.refl) d10
+              ) (Reads'.room-gone 𝓤 H A Syntax.tyUnit) (tt, tt) Path.refl) d11
 
-          d12 : Typed.Typed 𝓤 H A 𝓣 E G22 b17 Δ3 at12
-          d12 = Typed.s-seq 𝓤 H A W 𝓣 E G22 G23 b13 b16 Δ3 (Typed.ask s19) at11 (Relend.t-sl-aggregate 𝓤 H A W E
-              InflightAction.row 𝓣 (Relend.asMut InflightAction.row) G22 14 15 1 ref0 ref0 (λ x. x) (Scalar.oFld 1
+          d13 : Typed.Typed 𝓤 H A 𝓣 E G23 b17 Δ3 at13
+          d13 = Typed.s-seq 𝓤 H A W 𝓣 E G23 G24 b13 b16 Δ3 (Typed.ask s20) at12 (Relend.t-sl-aggregate 𝓤 H A W E
+              InflightAction.row 𝓣 (Relend.asMut InflightAction.row) G23 15 16 1 ref0 ref0 (λ x. x) (Scalar.oFld 1
               ((Syntax.field 1) ∷ List.[]) (Syntax.tyInt Syntax.w64) 8 λ v. Shared.lenV (v .0)) (Reads'.as-is 𝓤 H A
               (Relend.msptr InflightAction.row ref0 1)) (Reads'.room-gone 𝓤 H A slice0) (
                 Relend.reads-owed-len 𝓤 H A W InflightAction.row ref1 0 1 life0 8 Path.refl,
                 Path.refl,
-              ) Path.refl Path.refl λ b o k. tt) d11
+              ) Path.refl Path.refl λ b o k. tt) d12
 
-          d13 : Typed.Typed 𝓤 H A 𝓣 E G21 b18 Δ3 at13
-          d13 = Typed.s-seq 𝓤 H A W 𝓣 E G21 G22 b12 b17 Δ3 (Typed.give s18) at12 (Relend.t-sl-relend 𝓤 H A W E
-              InflightAction.row 𝓣 G21 1 14 0 1 ref1 ref0 life0 0 (λ x. x)
+          d14 : Typed.Typed 𝓤 H A 𝓣 E G22 b18 Δ3 at14
+          d14 = Typed.s-seq 𝓤 H A W 𝓣 E G22 G23 b12 b17 Δ3 (Typed.give s19) at13 (Relend.t-sl-relend 𝓤 H A W E
+              InflightAction.row 𝓣 G22 1 15 0 1 ref1 ref0 life0 0 (λ x. x)
               (Reads'.as-is 𝓤 H A (Mut.mslice InflightAction.row ref1 0)) (Reads'.room-gone 𝓤 H A ref0) Path.refl tt
-              Path.refl Path.refl Path.refl λ b o. tt) d12
+              Path.refl Path.refl Path.refl λ b o. tt) d13
 
-          d14 : Typed.Typed 𝓤 H A 𝓣 E G20 b18 Δ3 at14
-          d14 = Typed.g-pre 𝓤 H A W 𝓣 E G20 G21 b18 Δ3 (λ Ψ. Ψ) at13 (Lifetime.g-begin 𝓤 H A W E G20 1 (
+          d15 : Typed.Typed 𝓤 H A 𝓣 E G21 b18 Δ3 at15
+          d15 = Typed.g-pre 𝓤 H A W 𝓣 E G21 G22 b18 Δ3 (λ Ψ. Ψ) at14 (Lifetime.g-begin 𝓤 H A W E G21 1 (
             tt,
-            (tt, (tt, (tt, (tt, (tt, (tt, (tt, (tt, (tt, (tt, (tt, (tt, (tt, (tt, (tt, tt))))))))))))))),
-          )) d13
+            (tt, (tt, (tt, (tt, (tt, (tt, (tt, (tt, (tt, (tt, (tt, (tt, (tt, (tt, (tt, (tt, tt)))))))))))))))),
+          )) d14
 
-          d15 : Typed.Typed 𝓤 H A 𝓣 E G19 b18 Δ3 at15
-          d15 = Typed.g-pre 𝓤 H A W 𝓣 E G19 G20 b18 Δ3 (Typed.pass T19 T20 s16) at14 (Scalar.g-room 𝓤 H A W E G19 7
-              InflightAction.ty (Local.room-whole 𝓤 H A W InflightAction.row InflightAction.ty Path.refl)) d14
+          d16 : Typed.Typed 𝓤 H A 𝓣 E G20 b18 Δ3 at16
+          d16 = Typed.g-pre 𝓤 H A W 𝓣 E G20 G21 b18 Δ3 (Typed.pass T20 T21 s17) at15 (Scalar.g-room 𝓤 H A W E G20 8
+              InflightAction.ty (Local.room-whole 𝓤 H A W InflightAction.row InflightAction.ty Path.refl)) d15
 
-          d16 : Typed.Typed 𝓤 H A 𝓣 E G18 b19 Δ3 at16
-          d16 = Typed.s-seq 𝓤 H A W 𝓣 E G18 G19 b11 b18 Δ3 (Typed.both s15) at15 (Plain.t-call-plain 𝓤 H A W 𝓣 0 ps·1
-              r·1 (claims· .2) (claims· .3) "hnsr_circuit::tables::question::action_has" (known .1) E (λ pos β. β) G18 (
-                record { pos = 7; st = List.[]; d = 0; at = λ x. x },
-                (record { pos = 3; st = List.[]; d = 0; at = λ x. x }, tt),
-              ) 8 List.[] (Call.sub-id 𝓤 H A W (G18 .slots)) (
+          d17 : Typed.Typed 𝓤 H A 𝓣 E G19 b19 Δ3 at17
+          d17 = Typed.s-seq 𝓤 H A W 𝓣 E G19 G20 b11 b18 Δ3 (Typed.both s16) at16 (Plain.t-call-plain 𝓤 H A W 𝓣 0 ps·1
+              r·1 (claims· .2) (claims· .3) "hnsr_circuit::tables::question::action_has" (known .1) E (λ pos β. β) G19 (
+                record { pos = 8; st = List.[]; d = 0; at = λ x. x },
+                (
+                  record { pos = 3; st = List.[]; d = 0; at = λ x. x },
+                  (record { pos = 4; st = List.[]; d = 0; at = λ x. x }, tt),
+                ),
+              ) 9 List.[] (Call.sub-id 𝓤 H A W (G19 .slots)) (
                 (
                   Yields.yields-copy 𝓤 H A W (λ ρ. Unit) InflightAction.row Path.refl
                       (InflightAction.copies .copy 𝓤 H A W) InflightAction.held (λ x. x) (λ x. x)
@@ -1029,158 +1066,173 @@ module _ (claims· : Claims) where
                 ),
                 (
                   (
-                    Yields.yields-copy 𝓤 H A W (λ ρ. Unit) (Declared.row Question.the-type) Path.refl (Copies.cStruct
-                        Question.the-type Laws'.the-laws Laws'.the-copy .copy 𝓤 H A W)
-                        (Rows.whole (Declared.row Question.the-type)) (λ x. x) (λ x. x) (λ ρ told. Local.mem-whole 𝓤 H
-                        A W (Declared.row Question.the-type) ρ) λ ρ told. Local.whole-mem 𝓤 H A W
-                        (Declared.row Question.the-type) ρ,
+                    Yields.yields-copy 𝓤 H A W (λ ρ. Unit) (Declared.row ActionsDropped.the-type) Path.refl (Copies.cEnum
+                        ActionsDropped.the-type Laws''.the-laws Laws''.the-copy .copy 𝓤 H A W)
+                        (Rows.whole (Declared.row ActionsDropped.the-type)) (λ x. x) (λ x. x) (λ ρ told.
+                        Local.mem-whole 𝓤 H A W (Declared.row ActionsDropped.the-type) ρ) λ ρ told. Local.whole-mem 𝓤 H
+                        A W (Declared.row ActionsDropped.the-type) ρ,
                     Path.refl,
                   ),
-                  tt,
+                  (
+                    (
+                      Yields.yields-copy 𝓤 H A W (λ ρ. Unit) (Declared'.row HnsrPeerId.the-type) Path.refl (Copies.cStruct
+                          HnsrPeerId.the-type Laws.the-laws Laws.the-copy .copy 𝓤 H A W)
+                          (Rows.whole (Declared'.row HnsrPeerId.the-type)) (λ x. x) (λ x. x) (λ ρ told. Local.mem-whole
+                          𝓤 H A W (Declared'.row HnsrPeerId.the-type) ρ) λ ρ told. Local.whole-mem 𝓤 H A W
+                          (Declared'.row HnsrPeerId.the-type) ρ,
+                      Path.refl,
+                    ),
+                    tt,
+                  ),
                 ),
-              ) (Reads'.room-gone 𝓤 H A Syntax.tyBool) tt Path.refl) d15
+              ) (Reads'.room-gone 𝓤 H A Syntax.tyBool) tt Path.refl) d16
 
-          d17 : Typed.Typed 𝓤 H A 𝓣 E G17 b19 Δ3 at17
-          d17 = Typed.g-pre 𝓤 H A W 𝓣 E G17 G18 b19 Δ3 (Typed.pass T17 T18 s14) at16 (Scalar.g-room 𝓤 H A W E G17 12
-              InflightAction.ty (Local.room-whole 𝓤 H A W InflightAction.row InflightAction.ty Path.refl)) d16
+          d18 : Typed.Typed 𝓤 H A 𝓣 E G18 b19 Δ3 at18
+          d18 = Typed.g-pre 𝓤 H A W 𝓣 E G18 G19 b19 Δ3 (Typed.pass T18 T19 s15) at17 (Scalar.g-room 𝓤 H A W E G18 13
+              InflightAction.ty (Local.room-whole 𝓤 H A W InflightAction.row InflightAction.ty Path.refl)) d17
 
-          d18 : Typed.Typed 𝓤 H A 𝓣 E G16 b20 Δ3 at18
-          d18 = Typed.s-seq 𝓤 H A W 𝓣 E G16 G17 b10 b19 Δ3 (Typed.pass T16 T17 s13) at17 (LocalCopy.t-val-copy 𝓤 H A W
-              E 𝓣 (λ ρ. Unit) G16 12 7 InflightAction.row InflightAction.ty InflightAction.ty InflightAction.held
-              InflightAction.held (λ x. x) (λ x. x) (λ x. x) Path.refl (Own.told-none 𝓤 H A (G16 .slots)) (Yields.yields-copy
+          d19 : Typed.Typed 𝓤 H A 𝓣 E G17 b20 Δ3 at19
+          d19 = Typed.s-seq 𝓤 H A W 𝓣 E G17 G18 b10 b19 Δ3 (Typed.pass T17 T18 s14) at18 (LocalCopy.t-val-copy 𝓤 H A W
+              E 𝓣 (λ ρ. Unit) G17 13 8 InflightAction.row InflightAction.ty InflightAction.ty InflightAction.held
+              InflightAction.held (λ x. x) (λ x. x) (λ x. x) Path.refl (Own.told-none 𝓤 H A (G17 .slots)) (Yields.yields-copy
               𝓤 H A W (λ ρ. Unit) InflightAction.row Path.refl (InflightAction.copies .copy 𝓤 H A W)
               InflightAction.held (λ x. x) (λ x. x) (λ ρ told. Local.mem-whole 𝓤 H A W InflightAction.row ρ) λ ρ told.
               Local.whole-mem 𝓤 H A W InflightAction.row ρ) (Reads'.room-gone 𝓤 H A InflightAction.ty) (Yields.makes-mem
               𝓤 H A W (λ ρ. Unit) InflightAction.row Path.refl InflightAction.held (λ x. x) λ ρ told. Local.whole-mem 𝓤
-              H A W InflightAction.row ρ) Path.refl Path.refl) d17
+              H A W InflightAction.row ρ) Path.refl Path.refl) d18
 
-          d19 : Typed.Typed 𝓤 H A 𝓣 E G15 b20 Δ3 at19
-          d19 = Typed.g-pre 𝓤 H A W 𝓣 E G15 G16 b20 Δ3 (Typed.pass T15 T16 s12) at18 (Scalar.g-room 𝓤 H A W E G15 11
-              Syntax.tyPtr (Scalar.room-sc 𝓤 H A W Row.sPtr)) d18
+          d20 : Typed.Typed 𝓤 H A 𝓣 E G16 b20 Δ3 at20
+          d20 = Typed.g-pre 𝓤 H A W 𝓣 E G16 G17 b20 Δ3 (Typed.pass T16 T17 s13) at19 (Scalar.g-room 𝓤 H A W E G16 12
+              Syntax.tyPtr (Scalar.room-sc 𝓤 H A W Row.sPtr)) d19
 
-          d20 : Typed.Typed 𝓤 H A 𝓣 E G14 b20 Δ3 at20
-          d20 = Typed.g-pre 𝓤 H A W 𝓣 E G14 G15 b20 Δ3 (Typed.pass T14 T15 s11) at19 (Scalar.g-room 𝓤 H A W E G14 10
-              (Syntax.tyInt Syntax.w64) (Scalar.room-sc 𝓤 H A W (Row.sInt Syntax.w64))) d19
+          d21 : Typed.Typed 𝓤 H A 𝓣 E G15 b20 Δ3 at21
+          d21 = Typed.g-pre 𝓤 H A W 𝓣 E G15 G16 b20 Δ3 (Typed.pass T15 T16 s12) at20 (Scalar.g-room 𝓤 H A W E G15 11
+              (Syntax.tyInt Syntax.w64) (Scalar.room-sc 𝓤 H A W (Row.sInt Syntax.w64))) d20
 
-          d21 : Typed.Typed 𝓤 H A 𝓣 E G13 b21 Δ3 at21
-          d21 = Typed.s-seq 𝓤 H A W 𝓣 E G13 G14 b9 b20 Δ3 (Typed.both s10) at20 (Move.t-sl-copy-out 𝓤 H A W E
-              InflightAction.row 𝓣 Path.refl (InflightAction.copies .copy 𝓤 H A W) (λ ρ. Unit) G13 1 11 12 0 ref1 life0
-              InflightAction.ty InflightAction.ty InflightAction.held (Shared.bySize 184) (λ u. u .1 .1 .1 .1 .1 .1 .0)
-              (λ x. x) InflightAction.none (λ x. Unit) (λ x. x) (λ x. x) (λ i o. Elements.at-mul o 184 i) Path.refl
-              Path.refl (Own.told-none 𝓤 H A (G13 .slots)) (DerefMove.learns-nothing 𝓤 H A InflightAction.row)
+          d22 : Typed.Typed 𝓤 H A 𝓣 E G14 b21 Δ3 at22
+          d22 = Typed.s-seq 𝓤 H A W 𝓣 E G14 G15 b9 b20 Δ3 (Typed.both s11) at21 (Move.t-sl-copy-out 𝓤 H A W E
+              InflightAction.row 𝓣 Path.refl (InflightAction.copies .copy 𝓤 H A W) (λ ρ. Unit) G14 1 12 13 0 ref1 life0
+              InflightAction.ty InflightAction.ty InflightAction.held (Shared.bySize 184)
+              (λ u. u .1 .1 .1 .1 .1 .1 .1 .0) (λ x. x) InflightAction.none (λ x. Unit) (λ x. x) (λ x. x)
+              (λ i o. Elements.at-mul o 184 i) Path.refl Path.refl (Own.told-none 𝓤 H A (G14 .slots))
+              (DerefMove.learns-nothing 𝓤 H A InflightAction.row)
               (Reads'.as-is 𝓤 H A (Mut.mslice InflightAction.row ref1 0)) (Reads'.as-is 𝓤 H A (Rows.sc-here Row.sPtr))
               (Reads'.room-gone 𝓤 H A InflightAction.ty) (Yields.makes-mem 𝓤 H A W (λ ρ. Unit) InflightAction.row
               Path.refl InflightAction.held (λ x. x) λ ρ told. Local.whole-mem 𝓤 H A W InflightAction.row ρ) Path.refl
-              tt Path.refl Path.refl) d20
+              tt Path.refl Path.refl) d21
 
-          d22 : Typed.Typed 𝓤 H A 𝓣 E G12 b22 Δ3 at22
-          d22 = Typed.s-seq 𝓤 H A W 𝓣 E G12 G13 b8 b21 Δ3 (Typed.ask s9) at21 (Scalar.t-op2 𝓤 H A W E 𝓣 G12
-              Syntax.offset (Scalar.oFld 1 ((Syntax.field 0) ∷ List.[]) ref1 0 Reads'.ptrVal) (Scalar.oAt 10
-              (Syntax.tyInt Syntax.w64) (Row.valS (Row.sInt Syntax.w64))) 11 (Rows.sc-here Row.sPtr) Syntax.tyPtr
+          d23 : Typed.Typed 𝓤 H A 𝓣 E G13 b22 Δ3 at23
+          d23 = Typed.s-seq 𝓤 H A W 𝓣 E G13 G14 b8 b21 Δ3 (Typed.ask s10) at22 (Scalar.t-op2 𝓤 H A W E 𝓣 G13
+              Syntax.offset (Scalar.oFld 1 ((Syntax.field 0) ∷ List.[]) ref1 0 Reads'.ptrVal) (Scalar.oAt 11
+              (Syntax.tyInt Syntax.w64) (Row.valS (Row.sInt Syntax.w64))) 12 (Rows.sc-here Row.sPtr) Syntax.tyPtr
               (Row.valS Row.sPtr) (Row.sPtr .of) (
                 Mut.reads-mslice-ptr 𝓤 H A W InflightAction.row ref1 0 0 Path.refl,
                 Path.refl,
               ) (Scalar.reads-sc 𝓤 H A W (Row.sInt Syntax.w64), Path.refl) (Reads'.room-gone 𝓤 H A Syntax.tyPtr)
-              (Scalar.holds-sc 𝓤 H A W Row.sPtr) Path.refl (λ u. Path.refl) λ u. tt) d21
+              (Scalar.holds-sc 𝓤 H A W Row.sPtr) Path.refl (λ u. Path.refl) λ u. tt) d22
 
-          d23 : Typed.Typed 𝓤 H A 𝓣 E G8 b23 Δ3 at23
-          d23 = Typed.s-seq 𝓤 H A W 𝓣 E G8 G12 b7 b22 Δ3 (Typed.ask s8) at22 (Scalar.t-op2 𝓤 H A W E 𝓣 G8
-              (Syntax.mul Syntax.unsigned) (Scalar.oAt 6 (Syntax.tyInt Syntax.w64) (Row.valS (Row.sInt Syntax.w64)))
-              (Scalar.oInt Syntax.w64 184) 10 (Rows.sc-here (Row.sInt Syntax.w64)) (Syntax.tyInt Syntax.w64)
+          d24 : Typed.Typed 𝓤 H A 𝓣 E G8 b23 Δ3 at24
+          d24 = Typed.s-seq 𝓤 H A W 𝓣 E G8 G13 b7 b22 Δ3 (Typed.ask s9) at23 (Scalar.t-op2 𝓤 H A W E 𝓣 G8
+              (Syntax.mul Syntax.unsigned) (Scalar.oAt 7 (Syntax.tyInt Syntax.w64) (Row.valS (Row.sInt Syntax.w64)))
+              (Scalar.oInt Syntax.w64 184) 11 (Rows.sc-here (Row.sInt Syntax.w64)) (Syntax.tyInt Syntax.w64)
               (Row.valS (Row.sInt Syntax.w64)) (Row.sInt Syntax.w64 .of)
               (Scalar.reads-sc 𝓤 H A W (Row.sInt Syntax.w64), Path.refl) tt
               (Reads'.room-gone 𝓤 H A (Syntax.tyInt Syntax.w64)) (Scalar.holds-sc 𝓤 H A W (Row.sInt Syntax.w64))
-              Path.refl (λ u. Path.refl) λ u. tt) d22
+              Path.refl (λ u. Path.refl) λ u. tt) d23
 
-          d24 : Typed.Typed 𝓤 H A 𝓣 E G7 b24 Δ3 at24
-          d24 = Typed.t-seq 𝓤 H A W 𝓣 E G7 G8 b6 b23 Δ3 at5 at23 d5 d23
+          d25 : Typed.Typed 𝓤 H A 𝓣 E G7 b24 Δ3 at25
+          d25 = Typed.t-seq 𝓤 H A W 𝓣 E G7 G8 b6 b23 Δ3 at6 at24 d6 d24
 
-          d25 : Typed.Typed 𝓤 H A 𝓣 E G5 b25 Δ3 at25
-          d25 = Typed.s-seq 𝓤 H A W 𝓣 E G5 G7 b3 b24 Δ3 (Typed.ask s4) at24 (Scalar.t-op2 𝓤 H A W E 𝓣 G5
-              (Syntax.lt Syntax.unsigned) (Scalar.oAt 6 (Syntax.tyInt Syntax.w64) (Row.valS (Row.sInt Syntax.w64))) (Scalar.oAt
-              5 (Syntax.tyInt Syntax.w64) (Row.valS (Row.sInt Syntax.w64))) 9 (Rows.sc-here Row.sBool) Syntax.tyBool
+          d26 : Typed.Typed 𝓤 H A 𝓣 E G5 b25 Δ3 at26
+          d26 = Typed.s-seq 𝓤 H A W 𝓣 E G5 G7 b3 b24 Δ3 (Typed.ask s4) at25 (Scalar.t-op2 𝓤 H A W E 𝓣 G5
+              (Syntax.lt Syntax.unsigned) (Scalar.oAt 7 (Syntax.tyInt Syntax.w64) (Row.valS (Row.sInt Syntax.w64))) (Scalar.oAt
+              6 (Syntax.tyInt Syntax.w64) (Row.valS (Row.sInt Syntax.w64))) 10 (Rows.sc-here Row.sBool) Syntax.tyBool
               (Row.valS Row.sBool) (Row.sBool .of) (Scalar.reads-sc 𝓤 H A W (Row.sInt Syntax.w64), Path.refl)
               (Scalar.reads-sc 𝓤 H A W (Row.sInt Syntax.w64), Path.refl) (Reads'.room-gone 𝓤 H A Syntax.tyBool)
-              (Scalar.holds-sc 𝓤 H A W Row.sBool) Path.refl (λ u. Path.refl) λ u. tt) d24
+              (Scalar.holds-sc 𝓤 H A W Row.sBool) Path.refl (λ u. Path.refl) λ u. tt) d25
 
-          d26 : Typed.Typed 𝓤 H A 𝓣 E G5 b26 Δ2 at26
-          d26 = Typed.t-loop-by 𝓤 H A W 𝓣 E G5 b25 Δ2 put0 (λ u vs. Inv·0 (Row.get 1 (T5 .locals) u .now)
+          d27 : Typed.Typed 𝓤 H A 𝓣 E G5 b26 Δ2 at27
+          d27 = Typed.t-loop-by 𝓤 H A W 𝓣 E G5 b25 Δ2 put0 (λ u vs. Inv·0 (Row.get 1 (T5 .locals) u .now)
               (Row.get 3 (T5 .locals) u) (Row.get 4 (T5 .locals) u) (Row.get 5 (T5 .locals) u)
-              (Row.get 6 (T5 .locals) u) (vs .0) (vs .1)) (λ u vs. μ·0 (Row.get 1 (T5 .locals) u .now)
-              (Row.get 3 (T5 .locals) u) (Row.get 4 (T5 .locals) u) (Row.get 5 (T5 .locals) u)
-              (Row.get 6 (T5 .locals) u) (vs .0) (vs .1)) at25 d25
+              (Row.get 6 (T5 .locals) u) (Row.get 7 (T5 .locals) u) (vs .0) (vs .1)) (λ u vs. μ·0
+              (Row.get 1 (T5 .locals) u .now) (Row.get 3 (T5 .locals) u) (Row.get 4 (T5 .locals) u)
+              (Row.get 5 (T5 .locals) u) (Row.get 6 (T5 .locals) u) (Row.get 7 (T5 .locals) u) (vs .0) (vs .1)) at26
+              d26
 
-          d27 : Typed.Typed 𝓤 H A 𝓣 E G5 b27 Δ1 at27
-          d27 = Typed.t-block 𝓤 H A W 𝓣 E G5 b26 Δ1 at26 d26
+          d28 : Typed.Typed 𝓤 H A 𝓣 E G5 b27 Δ1 at28
+          d28 = Typed.t-block 𝓤 H A W 𝓣 E G5 b26 Δ1 at27 d27
 
-          d28 : Typed.Typed 𝓤 H A 𝓣 E G34 b29 Δ0 at28
-          d28 = Typed.t-return 𝓤 H A W 𝓣 E Δ0 tt
+          d29 : Typed.Typed 𝓤 H A 𝓣 E G35 b29 Δ0 at29
+          d29 = Typed.t-return 𝓤 H A W 𝓣 E Δ0 tt
 
-          d29 : Typed.Typed 𝓤 H A 𝓣 E G33 b29 Δ0 at29
-          d29 = Typed.g-pre 𝓤 H A W 𝓣 E G33 G34 b29 Δ0 (Typed.pass T33 T34 s30) at28 (Scalar.g-room 𝓤 H A W E G33 6
-              (Syntax.tyInt Syntax.w64) (Scalar.room-sc 𝓤 H A W (Row.sInt Syntax.w64))) d28
-
-          d30 : Typed.Typed 𝓤 H A 𝓣 E G32 b29 Δ0 at30
-          d30 = Typed.g-pre 𝓤 H A W 𝓣 E G32 G33 b29 Δ0 (Typed.pass T32 T33 s29) at29 (Scalar.g-room 𝓤 H A W E G32 5
+          d30 : Typed.Typed 𝓤 H A 𝓣 E G34 b29 Δ0 at30
+          d30 = Typed.g-pre 𝓤 H A W 𝓣 E G34 G35 b29 Δ0 (Typed.pass T34 T35 s31) at29 (Scalar.g-room 𝓤 H A W E G34 7
               (Syntax.tyInt Syntax.w64) (Scalar.room-sc 𝓤 H A W (Row.sInt Syntax.w64))) d29
 
-          d31 : Typed.Typed 𝓤 H A 𝓣 E G31 b29 Δ0 at31
-          d31 = Typed.g-pre 𝓤 H A W 𝓣 E G31 G32 b29 Δ0 (Typed.pass T31 T32 s28) at30 (Scalar.g-room 𝓤 H A W E G31 4
+          d31 : Typed.Typed 𝓤 H A 𝓣 E G33 b29 Δ0 at31
+          d31 = Typed.g-pre 𝓤 H A W 𝓣 E G33 G34 b29 Δ0 (Typed.pass T33 T34 s30) at30 (Scalar.g-room 𝓤 H A W E G33 6
               (Syntax.tyInt Syntax.w64) (Scalar.room-sc 𝓤 H A W (Row.sInt Syntax.w64))) d30
 
-          d32 : Typed.Typed 𝓤 H A 𝓣 E G6 b30 Δ0 at32
-          d32 = Typed.s-seq 𝓤 H A W 𝓣 E G6 G31 b28 b29 Δ0 (Typed.pass T6 T31 s27) at31 (Scalar.t-use 𝓤 H A W E 𝓣 G6
+          d32 : Typed.Typed 𝓤 H A 𝓣 E G32 b29 Δ0 at32
+          d32 = Typed.g-pre 𝓤 H A W 𝓣 E G32 G33 b29 Δ0 (Typed.pass T32 T33 s29) at31 (Scalar.g-room 𝓤 H A W E G32 5
+              (Syntax.tyInt Syntax.w64) (Scalar.room-sc 𝓤 H A W (Row.sInt Syntax.w64))) d31
+
+          d33 : Typed.Typed 𝓤 H A 𝓣 E G6 b30 Δ0 at33
+          d33 = Typed.s-seq 𝓤 H A W 𝓣 E G6 G32 b28 b29 Δ0 (Typed.pass T6 T32 s28) at32 (Scalar.t-use 𝓤 H A W E 𝓣 G6
               Scalar.oUnit 0 (Rows.sc-here Row.sUnit) Syntax.tyUnit (Row.valS Row.sUnit) (Row.sUnit .of) tt
               (Reads'.room-gone 𝓤 H A Syntax.tyUnit) (Scalar.holds-sc 𝓤 H A W Row.sUnit) Path.refl (λ u. Path.refl) λ
-              u. tt) d31
+              u. tt) d32
 
-          d33 : Typed.Typed 𝓤 H A 𝓣 E G5 b31 Δ0 at33
-          d33 = Typed.t-seq 𝓤 H A W 𝓣 E G5 G6 b27 b30 Δ0 at27 at32 d27 d32
+          d34 : Typed.Typed 𝓤 H A 𝓣 E G5 b31 Δ0 at34
+          d34 = Typed.t-seq 𝓤 H A W 𝓣 E G5 G6 b27 b30 Δ0 at28 at33 d28 d33
 
-          d34 : Typed.Typed 𝓤 H A 𝓣 E G4 b32 Δ0 at34
-          d34 = Typed.s-seq 𝓤 H A W 𝓣 E G4 G5 b2 b31 Δ0 (Typed.pass T4 T5 s3) at33 (Scalar.t-use 𝓤 H A W E 𝓣 G4
-              (Scalar.oInt Syntax.w64 0) 6 (Rows.sc-here (Row.sInt Syntax.w64)) (Syntax.tyInt Syntax.w64)
+          d35 : Typed.Typed 𝓤 H A 𝓣 E G4 b32 Δ0 at35
+          d35 = Typed.s-seq 𝓤 H A W 𝓣 E G4 G5 b2 b31 Δ0 (Typed.pass T4 T5 s3) at34 (Scalar.t-use 𝓤 H A W E 𝓣 G4
+              (Scalar.oInt Syntax.w64 0) 7 (Rows.sc-here (Row.sInt Syntax.w64)) (Syntax.tyInt Syntax.w64)
               (Row.valS (Row.sInt Syntax.w64)) (Row.sInt Syntax.w64 .of) tt
               (Reads'.room-gone 𝓤 H A (Syntax.tyInt Syntax.w64)) (Scalar.holds-sc 𝓤 H A W (Row.sInt Syntax.w64))
-              Path.refl (λ u. Path.refl) λ u. tt) d33
+              Path.refl (λ u. Path.refl) λ u. tt) d34
 
-          d35 : Typed.Typed 𝓤 H A 𝓣 E G3 b32 Δ0 at35
-          d35 = Typed.g-pre 𝓤 H A W 𝓣 E G3 G4 b32 Δ0 (Typed.pass T3 T4 s2) at34 (Scalar.g-room 𝓤 H A W E G3 2 Laws.mir (Local.room-whole
-              𝓤 H A W (Declared.row Places.the-type) Laws.mir Path.refl)) d34
+          d36 : Typed.Typed 𝓤 H A 𝓣 E G3 b32 Δ0 at36
+          d36 = Typed.g-pre 𝓤 H A W 𝓣 E G3 G4 b32 Δ0 (Typed.pass T3 T4 s2) at35 (Scalar.g-room 𝓤 H A W E G3 2 Laws'.mir (Local.room-whole
+              𝓤 H A W (Declared'.row Places.the-type) Laws'.mir Path.refl)) d35
 
-          d36 : Typed.Typed 𝓤 H A 𝓣 E G2 b33 Δ0 at36
-          d36 = Typed.s-seq 𝓤 H A W 𝓣 E G2 G3 b1 b32 Δ0 (Typed.both s1) at35 (Plain.t-call-plain 𝓤 H A W 𝓣 0 ps·0 r·0
+          d37 : Typed.Typed 𝓤 H A 𝓣 E G2 b33 Δ0 at37
+          d37 = Typed.s-seq 𝓤 H A W 𝓣 E G2 G3 b1 b32 Δ0 (Typed.both s1) at36 (Plain.t-call-plain 𝓤 H A W 𝓣 0 ps·0 r·0
               (claims· .0) (claims· .1) "hns_encoding::numbers::min_usize" (known .0) E (λ pos β. β) G2 (
                 Num.vFld 2 ((Syntax.field 3) ∷ List.[]) 24 λ x. Places.struct .as-values x .1 .1 .1 .0,
-                (Num.vAt 4 λ x. x, tt),
-              ) 5 List.[] (Call.sub-id 𝓤 H A W (G2 .slots)) (
+                (Num.vAt 5 λ x. x, tt),
+              ) 6 List.[] (Call.sub-id 𝓤 H A W (G2 .slots)) (
                 (
-                  Reads.reads-field 𝓤 H A W Places.the-type Laws.the-laws 3 (Syntax.tyInt Syntax.w64) 24 Path.refl,
+                  Reads.reads-field 𝓤 H A W Places.the-type Laws'.the-laws 3 (Syntax.tyInt Syntax.w64) 24 Path.refl,
                   Path.refl,
                 ),
                 ((Scalar.reads-sc 𝓤 H A W (Row.sInt Syntax.w64), Path.refl), tt),
-              ) (Reads'.room-gone 𝓤 H A (Syntax.tyInt Syntax.w64)) tt Path.refl) d35
+              ) (Reads'.room-gone 𝓤 H A (Syntax.tyInt Syntax.w64)) tt Path.refl) d36
 
-          d37 : Typed.Typed 𝓤 H A 𝓣 E G0 b34 Δ0 at37
-          d37 = Typed.s-seq 𝓤 H A W 𝓣 E G0 G2 b0 b33 Δ0 (Typed.pass T0 T2 s0) at36 (Scalar.t-use 𝓤 H A W E 𝓣 G0 (Scalar.oFld
-              1 ((Syntax.field 1) ∷ List.[]) (Syntax.tyInt Syntax.w64) 8 Shared.lenV) 4
+          d38 : Typed.Typed 𝓤 H A 𝓣 E G0 b34 Δ0 at38
+          d38 = Typed.s-seq 𝓤 H A W 𝓣 E G0 G2 b0 b33 Δ0 (Typed.pass T0 T2 s0) at37 (Scalar.t-use 𝓤 H A W E 𝓣 G0 (Scalar.oFld
+              1 ((Syntax.field 1) ∷ List.[]) (Syntax.tyInt Syntax.w64) 8 Shared.lenV) 5
               (Rows.sc-here (Row.sInt Syntax.w64)) (Syntax.tyInt Syntax.w64) (Row.valS (Row.sInt Syntax.w64))
               (Row.sInt Syntax.w64 .of) (Mut.reads-mslice-len 𝓤 H A W InflightAction.row ref1 0 8 Path.refl, Path.refl)
               (Reads'.room-gone 𝓤 H A (Syntax.tyInt Syntax.w64)) (Scalar.holds-sc 𝓤 H A W (Row.sInt Syntax.w64))
-              Path.refl (λ u. Path.refl) λ u. tt) d36
+              Path.refl (λ u. Path.refl) λ u. tt) d37
 
           pub typed : Typed.Typed 𝓤 H A 𝓣 E (Function.Γin 1 ps r xs m κs qs) b34 (Function.Δret 1 ps r xs m κs qs) Φ
-          typed = d37
+          typed = d38
 
       module _ (κs : Lifetimes.Lfts 1) where
         pub record Args : Type 0 where
           pub inflight : Kinds.Den {n = 1} κs (MutSlice.pMutS InflightAction.row 0 tt)
-          pub places : Kinds.Den {n = 1} κs (StructRow.param Places.the-type Laws.the-laws Laws.the-copy Laws.the-plain)
-          pub question : Kinds.Den {n = 1} κs (StructRow.param Question.the-type Laws'.the-laws Laws'.the-copy
+          pub places : Kinds.Den {n = 1} κs (StructRow.param Places.the-type Laws'.the-laws Laws'.the-copy
               Laws'.the-plain)
+          pub dropped : Kinds.Den {n = 1} κs (StructRow.enum-param ActionsDropped.the-type Laws''.the-laws
+              Laws''.the-copy Laws''.the-plain tt)
+          pub peer : Kinds.Den {n = 1} κs (StructRow.param HnsrPeerId.the-type Laws.the-laws Laws.the-copy
+              Laws.the-plain)
 
         abbrev pub dens : (a : Args) → Kinds.Dens κs ps
-        dens = λ a. (a .inflight, (a .places, (a .question, tt)))
+        dens = λ a. (a .inflight, (a .places, (a .dropped, (a .peer, tt))))
 
       abbrev pub m0 : (κs : Lifetimes.Lfts 1) → (args : Args κs) → Typed.Mo T0
       m0 = λ κs args. (tt, Enter.partsP κs 1 ps xs (dens κs args))
@@ -1227,7 +1279,7 @@ module _ (claims· : Claims) where
       m4 = λ before given. s3 (m3 before given)
 
       abbrev W1 : (before : Start) → (given : s1 .gives (m1 (before .κs) (before .args))) → Typed.Want O1
-      W1 = λ before given. Typed.wantNext T6 O0 (at32 (W0 (before .κs) (before .args)))
+      W1 = λ before given. Typed.wantNext T6 O0 (at33 (W0 (before .κs) (before .args)))
           (W0 (before .κs) (before .args))
 
       abbrev W2 : (before : Start) → (given : s1 .gives (m1 (before .κs) (before .args))) → Typed.Want O2
@@ -1237,13 +1289,13 @@ module _ (claims· : Claims) where
       Need-loop-holds = (c : After-min-usize) → Inv·0 (Row.get 1 (T5 .locals) (m4 (c .before) (After-min-usize·gave c))
           .now) (Row.get 3 (T5 .locals) (m4 (c .before) (After-min-usize·gave c))) (Row.get 4 (T5 .locals)
           (m4 (c .before) (After-min-usize·gave c))) (Row.get 5 (T5 .locals) (m4 (c .before) (After-min-usize·gave c))) (Row.get
-          6 (T5 .locals) (m4 (c .before) (After-min-usize·gave c))) (Row.get 1 (T5 .locals)
-          (m4 (c .before) (After-min-usize·gave c)) .now) (Row.get 6 (T5 .locals)
-          (m4 (c .before) (After-min-usize·gave c)))
+          6 (T5 .locals) (m4 (c .before) (After-min-usize·gave c))) (Row.get 7 (T5 .locals)
+          (m4 (c .before) (After-min-usize·gave c))) (Row.get 1 (T5 .locals) (m4 (c .before) (After-min-usize·gave c))
+          .now) (Row.get 7 (T5 .locals) (m4 (c .before) (After-min-usize·gave c)))
 
       abbrev pub m5 : (before : After-min-usize) → (inflight : List.List (InflightAction.row .Denot)) →
           (i : Rows.sc-here (Row.sInt Syntax.w64) .Mod) → Typed.Mo T5
-      m5 = λ before inflight i. Row.set 6 (6, Rows.sc-here (Row.sInt Syntax.w64)) i (Row.setRow 1
+      m5 = λ before inflight i. Row.set 7 (7, Rows.sc-here (Row.sInt Syntax.w64)) i (Row.setRow 1
           (1, Mut.mslice InflightAction.row ref1 0) (T5 .locals)) (Row.set 1 (1, Mut.mslice InflightAction.row ref1 0)
           record {
             ptr = Row.get 1 (T5 .locals) (m4 (before .before) (After-min-usize·gave before)) .ptr;
@@ -1255,9 +1307,9 @@ module _ (claims· : Claims) where
           (i : Rows.sc-here (Row.sInt Syntax.w64) .Mod) → Typed.Want O3
       W3 = λ before inflight i. Typed.inLoop T5 O2 (Typed.Round T5 O2 put0 (λ u vs. Inv·0
           (Row.get 1 (T5 .locals) u .now) (Row.get 3 (T5 .locals) u) (Row.get 4 (T5 .locals) u)
-          (Row.get 5 (T5 .locals) u) (Row.get 6 (T5 .locals) u) (vs .0) (vs .1)) (λ u vs. μ·0
-          (Row.get 1 (T5 .locals) u .now) (Row.get 3 (T5 .locals) u) (Row.get 4 (T5 .locals) u)
-          (Row.get 5 (T5 .locals) u) (Row.get 6 (T5 .locals) u) (vs .0) (vs .1)) at25
+          (Row.get 5 (T5 .locals) u) (Row.get 6 (T5 .locals) u) (Row.get 7 (T5 .locals) u) (vs .0) (vs .1)) (λ u vs.
+          μ·0 (Row.get 1 (T5 .locals) u .now) (Row.get 3 (T5 .locals) u) (Row.get 4 (T5 .locals) u)
+          (Row.get 5 (T5 .locals) u) (Row.get 6 (T5 .locals) u) (Row.get 7 (T5 .locals) u) (vs .0) (vs .1)) at26
           (m4 (before .before) (After-min-usize·gave before)) (inflight, i))
           (W2 (before .before) (After-min-usize·gave before))
 
@@ -1267,7 +1319,7 @@ module _ (claims· : Claims) where
 
       abbrev W4 : (before : After-min-usize) → (inflight : List.List (InflightAction.row .Denot)) →
           (i : Rows.sc-here (Row.sInt Syntax.w64) .Mod) → Typed.Want O4
-      W4 = λ before inflight i. Typed.wantNext T8 O3 (at23 (W3 before inflight i)) (W3 before inflight i)
+      W4 = λ before inflight i. Typed.wantNext T8 O3 (at24 (W3 before inflight i)) (W3 before inflight i)
 
       module _ (before· : After-min-usize) where
         pub record At-loop·own : Type 0 where
@@ -1277,6 +1329,7 @@ module _ (claims· : Claims) where
               3 (T5 .locals) (m4 (before· .before) (After-min-usize·gave before·))) (Row.get 4 (T5 .locals)
               (m4 (before· .before) (After-min-usize·gave before·))) (Row.get 5 (T5 .locals)
               (m4 (before· .before) (After-min-usize·gave before·))) (Row.get 6 (T5 .locals)
+              (m4 (before· .before) (After-min-usize·gave before·))) (Row.get 7 (T5 .locals)
               (m4 (before· .before) (After-min-usize·gave before·))) inflight i
 
       pub record At-loop : Type 0 where
@@ -1285,8 +1338,8 @@ module _ (claims· : Claims) where
 
       module _ (before· : At-loop) where
         pub record In-loop·own : Type 0 where
-          pub taken : Nat._<_ (Row.get 6 (T5 .locals) (m5 (before· .before) (before· .loop .inflight)
-              (before· .loop .i))) (Row.get 5 (T5 .locals) (m5 (before· .before) (before· .loop .inflight)
+          pub taken : Nat._<_ (Row.get 7 (T5 .locals) (m5 (before· .before) (before· .loop .inflight)
+              (before· .loop .i))) (Row.get 6 (T5 .locals) (m5 (before· .before) (before· .loop .inflight)
               (before· .loop .i)))
 
       pub record In-loop : Type 0 where
@@ -1298,8 +1351,8 @@ module _ (claims· : Claims) where
 
       module _ (before· : At-loop) where
         pub record After-loop·own : Type 0 where
-          pub left : Nat._≤_ (Row.get 5 (T5 .locals) (m5 (before· .before) (before· .loop .inflight)
-              (before· .loop .i))) (Row.get 6 (T5 .locals) (m5 (before· .before) (before· .loop .inflight)
+          pub left : Nat._≤_ (Row.get 6 (T5 .locals) (m5 (before· .before) (before· .loop .inflight)
+              (before· .loop .i))) (Row.get 7 (T5 .locals) (m5 (before· .before) (before· .loop .inflight)
               (before· .loop .i)))
 
       pub record After-loop : Type 0 where
@@ -1312,131 +1365,134 @@ module _ (claims· : Claims) where
       abbrev pub m9 : (before : At-loop) → Typed.Mo T11
       m9 = λ before. s7 (m8 before)
 
-      abbrev pub Need-mul-row : Type 0
-      Need-mul-row = (c : In-loop) → s8 .asks (m7 (c .before))
-
       abbrev pub m10 : (before : At-loop) → Typed.Mo T12
-      m10 = λ before. s8 .next (m7 before)
+      m10 = λ before. s8 (m9 before)
+
+      abbrev pub Need-mul-row : Type 0
+      Need-mul-row = (c : In-loop) → s9 .asks (m7 (c .before))
 
       abbrev pub m11 : (before : At-loop) → Typed.Mo T13
-      m11 = λ before. s9 .next (m10 before)
+      m11 = λ before. s9 .next (m7 before)
+
+      abbrev pub m12 : (before : At-loop) → Typed.Mo T14
+      m12 = λ before. s10 .next (m11 before)
 
       abbrev pub Need-slice-copy-out-row : Type 0
-      Need-slice-copy-out-row = (c : In-loop) → Shared.InSlice T13 1 11 (λ x. x) (λ u. u .1 .1 .1 .1 .1 .1 .0)
-          (m11 (c .before))
+      Need-slice-copy-out-row = (c : In-loop) → Shared.InSlice T14 1 12 (λ x. x) (λ u. u .1 .1 .1 .1 .1 .1 .1 .0)
+          (m12 (c .before))
 
-      abbrev pub m12 : (before : In-loop) → (given : s10 .gives (m11 (before .before))) → Typed.Mo T14
-      m12 = λ before given. s10 .next (m11 (before .before)) given
+      abbrev pub m13 : (before : In-loop) → (given : s11 .gives (m12 (before .before))) → Typed.Mo T15
+      m13 = λ before given. s11 .next (m12 (before .before)) given
 
-      abbrev pub m13 : (before : In-loop) → (given : s10 .gives (m11 (before .before))) → Typed.Mo T15
-      m13 = λ before given. s11 (m12 before given)
-
-      abbrev pub m14 : (before : In-loop) → (given : s10 .gives (m11 (before .before))) → Typed.Mo T16
+      abbrev pub m14 : (before : In-loop) → (given : s11 .gives (m12 (before .before))) → Typed.Mo T16
       m14 = λ before given. s12 (m13 before given)
 
-      abbrev pub m15 : (before : In-loop) → (given : s10 .gives (m11 (before .before))) → Typed.Mo T17
+      abbrev pub m15 : (before : In-loop) → (given : s11 .gives (m12 (before .before))) → Typed.Mo T17
       m15 = λ before given. s13 (m14 before given)
 
-      abbrev pub m16 : (before : In-loop) → (given : s10 .gives (m11 (before .before))) → Typed.Mo T18
+      abbrev pub m16 : (before : In-loop) → (given : s11 .gives (m12 (before .before))) → Typed.Mo T18
       m16 = λ before given. s14 (m15 before given)
+
+      abbrev pub m17 : (before : In-loop) → (given : s11 .gives (m12 (before .before))) → Typed.Mo T19
+      m17 = λ before given. s15 (m16 before given)
 
       module _ (before· : In-loop) where
         pub record After-row·own : Type 0 where
-          pub given : s10 .gives (m11 (before· .before))
+          pub given : s11 .gives (m12 (before· .before))
 
       pub record After-row : Type 0 where
         pub before : In-loop
         pub row : After-row·own before
 
       abbrev pub Need-action-has-requires : Type 0
-      Need-action-has-requires = (c : After-row) → s15 .asks (m16 (c .before) (c .row .given))
+      Need-action-has-requires = (c : After-row) → s16 .asks (m17 (c .before) (c .row .given))
 
-      abbrev pub m17 : (before : After-row) → (given : s15 .gives (m16 (before .before) (before .row .given))) →
-          Typed.Mo T19
-      m17 = λ before given. s15 .next (m16 (before .before) (before .row .given)) given
+      abbrev pub m18 : (before : After-row) → (given : s16 .gives (m17 (before .before) (before .row .given))) →
+          Typed.Mo T20
+      m18 = λ before given. s16 .next (m17 (before .before) (before .row .given)) given
 
       module _ (before· : After-row) where
         abbrev pub After-action-has·own : Type 0
-        After-action-has·own = Called.Called ps·1 r·1 (claims· .3) T18 args15
-            (m16 (before· .before) (before· .row .given))
+        After-action-has·own = Called.Called ps·1 r·1 (claims· .3) T19 args16
+            (m17 (before· .before) (before· .row .given))
 
       pub record After-action-has : Type 0 where
         pub before : After-row
         pub action-has : After-action-has·own before
 
-      abbrev pub After-action-has·gave : (c : After-action-has) → s15 .gives
-          (m16 (c .before .before) (c .before .row .given))
-      After-action-has·gave = λ c. Called.given ps·1 r·1 (claims· .3) T18 args15
-          (m16 (c .before .before) (c .before .row .given)) (c .action-has)
+      abbrev pub After-action-has·gave : (c : After-action-has) → s16 .gives
+          (m17 (c .before .before) (c .before .row .given))
+      After-action-has·gave = λ c. Called.given ps·1 r·1 (claims· .3) T19 args16
+          (m17 (c .before .before) (c .before .row .given)) (c .action-has)
 
-      abbrev pub m18 : (before : After-row) → (given : s15 .gives (m16 (before .before) (before .row .given))) →
-          Typed.Mo T20
-      m18 = λ before given. s16 (m17 before given)
+      abbrev pub m19 : (before : After-row) → (given : s16 .gives (m17 (before .before) (before .row .given))) →
+          Typed.Mo T21
+      m19 = λ before given. s17 (m18 before given)
 
-      abbrev pub m19 : (before : After-action-has) → (given : s18 .gives
-          (m18 (before .before) (After-action-has·gave before))) → Typed.Mo T22
-      m19 = λ before given. s18 .next (m18 (before .before) (After-action-has·gave before)) given
+      abbrev pub m20 : (before : After-action-has) → (given : s19 .gives
+          (m19 (before .before) (After-action-has·gave before))) → Typed.Mo T23
+      m20 = λ before given. s19 .next (m19 (before .before) (After-action-has·gave before)) given
 
-      abbrev pub m20 : (before : After-action-has) → (given : s18 .gives
-          (m18 (before .before) (After-action-has·gave before))) → Typed.Mo T23
-      m20 = λ before given. s19 .next (m19 before given)
+      abbrev pub m21 : (before : After-action-has) → (given : s19 .gives
+          (m19 (before .before) (After-action-has·gave before))) → Typed.Mo T24
+      m21 = λ before given. s20 .next (m20 before given)
 
       module _ (before· : After-action-has) where
         pub record After-unmark-action-arg·own : Type 0 where
-          pub given : s18 .gives (m18 (before· .before) (After-action-has·gave before·))
+          pub given : s19 .gives (m19 (before· .before) (After-action-has·gave before·))
 
       pub record After-unmark-action-arg : Type 0 where
         pub before : After-action-has
         pub unmark-action-arg : After-unmark-action-arg·own before
 
       abbrev pub Need-unmark-action-requires : Type 0
-      Need-unmark-action-requires = (c : After-unmark-action-arg) → s20 .asks
-          (m20 (c .before) (c .unmark-action-arg .given))
+      Need-unmark-action-requires = (c : After-unmark-action-arg) → s21 .asks
+          (m21 (c .before) (c .unmark-action-arg .given))
 
-      abbrev pub m21 : (before : After-unmark-action-arg) → (given : s20 .gives
-          (m20 (before .before) (before .unmark-action-arg .given))) → Typed.Mo T24
-      m21 = λ before given. s20 .next (m20 (before .before) (before .unmark-action-arg .given)) given
+      abbrev pub m22 : (before : After-unmark-action-arg) → (given : s21 .gives
+          (m21 (before .before) (before .unmark-action-arg .given))) → Typed.Mo T25
+      m22 = λ before given. s21 .next (m21 (before .before) (before .unmark-action-arg .given)) given
 
       module _ (before· : After-unmark-action-arg) where
         abbrev pub After-unmark-action·own : Type 0
-        After-unmark-action·own = Called.Called ps·2 r·2 (claims· .5) T23 args20
-            (m20 (before· .before) (before· .unmark-action-arg .given))
+        After-unmark-action·own = Called.Called ps·2 r·2 (claims· .5) T24 args21
+            (m21 (before· .before) (before· .unmark-action-arg .given))
 
       pub record After-unmark-action : Type 0 where
         pub before : After-unmark-action-arg
         pub unmark-action : After-unmark-action·own before
 
-      abbrev pub After-unmark-action·gave : (c : After-unmark-action) → s20 .gives (m20 (c .before .before)
+      abbrev pub After-unmark-action·gave : (c : After-unmark-action) → s21 .gives (m21 (c .before .before)
           (c .before .unmark-action-arg .given))
-      After-unmark-action·gave = λ c. Called.given ps·2 r·2 (claims· .5) T23 args20 (m20 (c .before .before)
+      After-unmark-action·gave = λ c. Called.given ps·2 r·2 (claims· .5) T24 args21 (m21 (c .before .before)
           (c .before .unmark-action-arg .given)) (c .unmark-action)
 
-      abbrev pub m22 : (before : After-unmark-action-arg) → (given : s20 .gives
-          (m20 (before .before) (before .unmark-action-arg .given))) → Typed.Mo T25
-      m22 = λ before given. s21 (m21 before given)
+      abbrev pub m23 : (before : After-unmark-action-arg) → (given : s21 .gives
+          (m21 (before .before) (before .unmark-action-arg .given))) → Typed.Mo T26
+      m23 = λ before given. s22 (m22 before given)
 
-      abbrev pub m23 : (before : After-unmark-action) → (given : s23 .gives
-          (m22 (before .before) (After-unmark-action·gave before))) → Typed.Mo T27
-      m23 = λ before given. s23 .next (m22 (before .before) (After-unmark-action·gave before)) given
+      abbrev pub m24 : (before : After-unmark-action) → (given : s24 .gives
+          (m23 (before .before) (After-unmark-action·gave before))) → Typed.Mo T28
+      m24 = λ before given. s24 .next (m23 (before .before) (After-unmark-action·gave before)) given
 
       module _ (before· : After-unmark-action) where
         pub record After-inflight·own : Type 0 where
-          pub given : s23 .gives (m22 (before· .before) (After-unmark-action·gave before·))
+          pub given : s24 .gives (m23 (before· .before) (After-unmark-action·gave before·))
 
       pub record After-inflight : Type 0 where
         pub before : After-unmark-action
         pub inflight : After-inflight·own before
 
       abbrev pub Need-add-i : Type 0
-      Need-add-i = (c : After-inflight) → s25 .asks (m23 (c .before) (c .inflight .given))
+      Need-add-i = (c : After-inflight) → s26 .asks (m24 (c .before) (c .inflight .given))
 
-      abbrev pub m24 : (before : After-unmark-action) → (given : s23 .gives
-          (m22 (before .before) (After-unmark-action·gave before))) → Typed.Mo T29
-      m24 = λ before given. s25 .next (m23 before given)
+      abbrev pub m25 : (before : After-unmark-action) → (given : s24 .gives
+          (m23 (before .before) (After-unmark-action·gave before))) → Typed.Mo T30
+      m25 = λ before given. s26 .next (m24 before given)
 
-      abbrev pub m25 : (before : After-unmark-action) → (given : s23 .gives
-          (m22 (before .before) (After-unmark-action·gave before))) → Typed.Mo T30
-      m25 = λ before given. s26 (m24 before given)
+      abbrev pub m26 : (before : After-unmark-action) → (given : s24 .gives
+          (m23 (before .before) (After-unmark-action·gave before))) → Typed.Mo T31
+      m26 = λ before given. s27 (m25 before given)
 
       abbrev pub Need-loop-less : Type 0
       Need-loop-less = (c : After-inflight) → Nat._<_ (μ·0 (Row.get 1 (T5 .locals) (m4 (c .before .before .before
@@ -1448,15 +1504,18 @@ module _ (claims· : Claims) where
           .before .before .before .before .before .before) (After-min-usize·gave (c .before .before .before .before
           .before .before .before)))) (Row.get 6 (T5 .locals) (m4 (c .before .before .before .before .before .before
           .before .before) (After-min-usize·gave (c .before .before .before .before .before .before .before)))) (Row.get
-          1 (T5 .locals) (m25 (c .before) (c .inflight .given)) .now) (Row.get 6 (T5 .locals)
-          (m25 (c .before) (c .inflight .given)))) (μ·0 (Row.get 1 (T5 .locals) (m4 (c .before .before .before .before
-          .before .before .before .before) (After-min-usize·gave (c .before .before .before .before .before .before
-          .before))) .now) (Row.get 3 (T5 .locals) (m4 (c .before .before .before .before .before .before .before
-          .before) (After-min-usize·gave (c .before .before .before .before .before .before .before)))) (Row.get 4
-          (T5 .locals) (m4 (c .before .before .before .before .before .before .before .before) (After-min-usize·gave (c
-          .before .before .before .before .before .before .before)))) (Row.get 5 (T5 .locals) (m4 (c .before .before
+          7 (T5 .locals) (m4 (c .before .before .before .before .before .before .before .before) (After-min-usize·gave (c
+          .before .before .before .before .before .before .before)))) (Row.get 1 (T5 .locals)
+          (m26 (c .before) (c .inflight .given)) .now) (Row.get 7 (T5 .locals) (m26 (c .before) (c .inflight .given)))) (μ·0 (Row.get
+          1 (T5 .locals) (m4 (c .before .before .before .before .before .before .before .before) (After-min-usize·gave (c
+          .before .before .before .before .before .before .before))) .now) (Row.get 3 (T5 .locals) (m4 (c .before
+          .before .before .before .before .before .before .before) (After-min-usize·gave (c .before .before .before
+          .before .before .before .before)))) (Row.get 4 (T5 .locals) (m4 (c .before .before .before .before .before
+          .before .before .before) (After-min-usize·gave (c .before .before .before .before .before .before .before)))) (Row.get
+          5 (T5 .locals) (m4 (c .before .before .before .before .before .before .before .before) (After-min-usize·gave (c
+          .before .before .before .before .before .before .before)))) (Row.get 6 (T5 .locals) (m4 (c .before .before
           .before .before .before .before .before .before) (After-min-usize·gave (c .before .before .before .before
-          .before .before .before)))) (Row.get 6 (T5 .locals) (m4 (c .before .before .before .before .before .before
+          .before .before .before)))) (Row.get 7 (T5 .locals) (m4 (c .before .before .before .before .before .before
           .before .before) (After-min-usize·gave (c .before .before .before .before .before .before .before)))) (c
           .before .before .before .before .before .before .loop .inflight) (c .before .before .before .before .before
           .before .loop .i))
@@ -1471,14 +1530,12 @@ module _ (claims· : Claims) where
           .before .before .before .before .before .before) (After-min-usize·gave (c .before .before .before .before
           .before .before .before)))) (Row.get 6 (T5 .locals) (m4 (c .before .before .before .before .before .before
           .before .before) (After-min-usize·gave (c .before .before .before .before .before .before .before)))) (Row.get
-          1 (T5 .locals) (m25 (c .before) (c .inflight .given)) .now) (Row.get 6 (T5 .locals)
-          (m25 (c .before) (c .inflight .given)))
-
-      abbrev pub m26 : (before : At-loop) → Typed.Mo T31
-      m26 = λ before. s27 (m9 before)
+          7 (T5 .locals) (m4 (c .before .before .before .before .before .before .before .before) (After-min-usize·gave (c
+          .before .before .before .before .before .before .before)))) (Row.get 1 (T5 .locals)
+          (m26 (c .before) (c .inflight .given)) .now) (Row.get 7 (T5 .locals) (m26 (c .before) (c .inflight .given)))
 
       abbrev pub m27 : (before : At-loop) → Typed.Mo T32
-      m27 = λ before. s28 (m26 before)
+      m27 = λ before. s28 (m10 before)
 
       abbrev pub m28 : (before : At-loop) → Typed.Mo T33
       m28 = λ before. s29 (m27 before)
@@ -1486,37 +1543,40 @@ module _ (claims· : Claims) where
       abbrev pub m29 : (before : At-loop) → Typed.Mo T34
       m29 = λ before. s30 (m28 before)
 
+      abbrev pub m30 : (before : At-loop) → Typed.Mo T35
+      m30 = λ before. s31 (m29 before)
+
       abbrev pub Need-same-length : Type 0
-      Need-same-length = (c : After-loop) → MutSlice.SameLen (Row.get 1 (T34 .locals) (m29 (c .before))) (dens
+      Need-same-length = (c : After-loop) → MutSlice.SameLen (Row.get 1 (T35 .locals) (m30 (c .before))) (dens
           (c .before .before .before .κs) (c .before .before .before .args) .0)
 
       abbrev pub Need-returns : Type 0
       Need-returns = (c : After-loop) → Post· (c .before .before .before .κs) (dens (c .before .before .before .κs)
-          (c .before .before .before .args)) (Function.resV r (c .before .before .before .κs) (m29 (c .before) .0)) (Clauses.atExit
+          (c .before .before .before .args)) (Function.resV r (c .before .before .before .κs) (m30 (c .before) .0)) (Clauses.atExit
           (Kinds.endedOf 1 ps r) (c .before .before .before .κs) (dens (c .before .before .before .κs)
           (c .before .before .before .args)) (Enter.lastsP (c .before .before .before .κs) 1 ps xs (dens
-          (c .before .before .before .κs) (c .before .before .before .args)) (m29 (c .before) .1)))
+          (c .before .before .before .κs) (c .before .before .before .args)) (m30 (c .before) .1)))
 
       module _ (min-usize-requires : Need-min-usize-requires) (loop-holds : Need-loop-holds) (mul-row : Need-mul-row)
           (slice-copy-out-row : Need-slice-copy-out-row) (action-has-requires : Need-action-has-requires)
           (unmark-action-requires : Need-unmark-action-requires) (add-i : Need-add-i) (loop-less : Need-loop-less)
           (loop-again : Need-loop-again) (same-length : Need-same-length) (returns : Need-returns) where
-        lay7 : (c : After-loop) → at32 (W0 (c .before .before .before .κs) (c .before .before .before .args))
-            (m9 (c .before))
+        lay7 : (c : After-loop) → at33 (W0 (c .before .before .before .κs) (c .before .before .before .args))
+            (m10 (c .before))
         lay7 = λ c. (
           (
-            MutSlice.fix-len (Row.get 1 (T34 .locals) (m29 (c .before)) .ptr)
-                (Row.get 1 (T34 .locals) (m29 (c .before)) .name) (Row.get 1 (T34 .locals) (m29 (c .before)) .now) (dens
+            MutSlice.fix-len (Row.get 1 (T35 .locals) (m30 (c .before)) .ptr)
+                (Row.get 1 (T35 .locals) (m30 (c .before)) .name) (Row.get 1 (T35 .locals) (m30 (c .before)) .now) (dens
                 (c .before .before .before .κs) (c .before .before .before .args) .0 .now) (same-length
                 record { before = c .before; loop-test = c .loop-test }),
-            (tt, (tt, tt)),
+            (tt, (tt, (tt, tt))),
           ),
           returns record { before = c .before; loop-test = c .loop-test },
         )
 
-        lay6 : (c : After-unmark-action) → at10 (W3 (c .before .before .before .before .before .before)
+        lay6 : (c : After-unmark-action) → at11 (W3 (c .before .before .before .before .before .before)
             (c .before .before .before .before .before .loop .inflight)
-            (c .before .before .before .before .before .loop .i)) (m21 (c .before) (After-unmark-action·gave c))
+            (c .before .before .before .before .before .loop .i)) (m22 (c .before) (After-unmark-action·gave c))
         lay6 = λ c. (
           Path.refl,
           λ g. (
@@ -1534,8 +1594,10 @@ module _ (claims· : Claims) where
                   (c .before .before .before .before .before .before .before) (After-min-usize·gave
                   (c .before .before .before .before .before .before)))) (Row.get 6 (T5 .locals) (m4
                   (c .before .before .before .before .before .before .before) (After-min-usize·gave
-                  (c .before .before .before .before .before .before)))) (Row.get 1 (T5 .locals) (m25
-                  record { before = c .before; unmark-action = c .unmark-action } g) .now) (Row.get 6 (T5 .locals) (m25
+                  (c .before .before .before .before .before .before)))) (Row.get 7 (T5 .locals) (m4
+                  (c .before .before .before .before .before .before .before) (After-min-usize·gave
+                  (c .before .before .before .before .before .before)))) (Row.get 1 (T5 .locals) (m26
+                  record { before = c .before; unmark-action = c .unmark-action } g) .now) (Row.get 7 (T5 .locals) (m26
                   record { before = c .before; unmark-action = c .unmark-action } g)),
               loop-less record {
                 before = record { before = c .before; unmark-action = c .unmark-action };
@@ -1543,10 +1605,10 @@ module _ (claims· : Claims) where
               },
               (
                 (
-                  Row.get 1 (T5 .locals) (m25 record { before = c .before; unmark-action = c .unmark-action } g) .now,
-                  Row.get 6 (T5 .locals) (m25 record { before = c .before; unmark-action = c .unmark-action } g),
+                  Row.get 1 (T5 .locals) (m26 record { before = c .before; unmark-action = c .unmark-action } g) .now,
+                  Row.get 7 (T5 .locals) (m26 record { before = c .before; unmark-action = c .unmark-action } g),
                 ),
-                Path.refl {a = m25 record { before = c .before; unmark-action = c .unmark-action } g},
+                Path.refl {a = m26 record { before = c .before; unmark-action = c .unmark-action } g},
                 loop-again record {
                   before = record { before = c .before; unmark-action = c .unmark-action };
                   inflight = record { given = g };
@@ -1561,17 +1623,19 @@ module _ (claims· : Claims) where
                     (c .before .before .before .before .before .before .before) (After-min-usize·gave
                     (c .before .before .before .before .before .before)))) (Row.get 6 (T5 .locals) (m4
                     (c .before .before .before .before .before .before .before) (After-min-usize·gave
-                    (c .before .before .before .before .before .before)))) (Row.get 1 (T5 .locals) (m25
-                    record { before = c .before; unmark-action = c .unmark-action } g) .now) (Row.get 6 (T5 .locals) (m25
+                    (c .before .before .before .before .before .before)))) (Row.get 7 (T5 .locals) (m4
+                    (c .before .before .before .before .before .before .before) (After-min-usize·gave
+                    (c .before .before .before .before .before .before)))) (Row.get 1 (T5 .locals) (m26
+                    record { before = c .before; unmark-action = c .unmark-action } g) .now) (Row.get 7 (T5 .locals) (m26
                     record { before = c .before; unmark-action = c .unmark-action } g))},
               ),
             ),
           ),
         )
 
-        lay5 : (c : After-action-has) → at15 (W3 (c .before .before .before .before)
+        lay5 : (c : After-action-has) → at16 (W3 (c .before .before .before .before)
             (c .before .before .before .loop .inflight) (c .before .before .before .loop .i))
-            (m17 (c .before) (After-action-has·gave c))
+            (m18 (c .before) (After-action-has·gave c))
         lay5 = λ c. λ g. (
           Path.refl,
           (
@@ -1584,13 +1648,13 @@ module _ (claims· : Claims) where
                 before = record { before = c .before; action-has = c .action-has };
                 unmark-action-arg = record { given = g };
               };
-              unmark-action = Called.called ps·2 r·2 (claims· .5) T23 args20 (m20
+              unmark-action = Called.called ps·2 r·2 (claims· .5) T24 args21 (m21
                   record { before = c .before; action-has = c .action-has } g) g';
             },
           ),
         )
 
-        lay4 : (c : In-loop) → at23 (W3 (c .before .before) (c .before .loop .inflight) (c .before .loop .i))
+        lay4 : (c : In-loop) → at24 (W3 (c .before .before) (c .before .loop .inflight) (c .before .loop .i))
             (m7 (c .before))
         lay4 = λ c. (
           mul-row record { before = c .before; loop-test = c .loop-test },
@@ -1608,7 +1672,7 @@ module _ (claims· : Claims) where
                     before = record { before = c .before; loop-test = c .loop-test };
                     row = record { given = g };
                   };
-                  action-has = Called.called ps·1 r·1 (claims· .3) T18 args15 (m16
+                  action-has = Called.called ps·1 r·1 (claims· .3) T19 args16 (m17
                       record { before = c .before; loop-test = c .loop-test } g) g';
                 },
               ),
@@ -1616,7 +1680,7 @@ module _ (claims· : Claims) where
           ),
         )
 
-        lay3 : (c : After-loop) → at4 (W4 (c .before .before) (c .before .loop .inflight) (c .before .loop .i)) (m6
+        lay3 : (c : After-loop) → at5 (W4 (c .before .before) (c .before .loop .inflight) (c .before .loop .i)) (m6
             (c .before .before) (c .before .loop .inflight) (c .before .loop .i))
         lay3 = λ c. lay7 record { before = c .before; loop-test = c .loop-test }
 
@@ -1624,13 +1688,13 @@ module _ (claims· : Claims) where
             (c .before .before) (c .before .loop .inflight) (c .before .loop .i))
         lay2 = λ c. lay4 record { before = c .before; loop-test = c .loop-test }
 
-        lay1 : (c : After-min-usize) → at35 (W0 (c .before .κs) (c .before .args))
+        lay1 : (c : After-min-usize) → at36 (W0 (c .before .κs) (c .before .args))
             (m2 (c .before) (After-min-usize·gave c))
         lay1 = λ c. (
           (
             (
               Row.get 1 (T5 .locals) (m4 (c .before) (After-min-usize·gave c)) .now,
-              Row.get 6 (T5 .locals) (m4 (c .before) (After-min-usize·gave c)),
+              Row.get 7 (T5 .locals) (m4 (c .before) (After-min-usize·gave c)),
             ),
             Path.refl {a = m4 (c .before) (After-min-usize·gave c)},
             loop-holds record { before = c .before; min-usize = c .min-usize },
@@ -1644,8 +1708,8 @@ module _ (claims· : Claims) where
                   loop = record { inflight = vs .0; i = vs .1; inv = inv };
                 };
                 loop-test = record {
-                  taken = Tests.ltb-true (Row.get 6 (T5 .locals) (m5
-                      record { before = c .before; min-usize = c .min-usize } (vs .0) (vs .1))) (Row.get 5 (T5 .locals) (m5
+                  taken = Tests.ltb-true (Row.get 7 (T5 .locals) (m5
+                      record { before = c .before; min-usize = c .min-usize } (vs .0) (vs .1))) (Row.get 6 (T5 .locals) (m5
                       record { before = c .before; min-usize = c .min-usize } (vs .0) (vs .1))) taken;
                 };
               },
@@ -1655,8 +1719,8 @@ module _ (claims· : Claims) where
                   loop = record { inflight = vs .0; i = vs .1; inv = inv };
                 };
                 loop-test = record {
-                  left = Tests.ltb-false (Row.get 6 (T5 .locals) (m5
-                      record { before = c .before; min-usize = c .min-usize } (vs .0) (vs .1))) (Row.get 5 (T5 .locals) (m5
+                  left = Tests.ltb-false (Row.get 7 (T5 .locals) (m5
+                      record { before = c .before; min-usize = c .min-usize } (vs .0) (vs .1))) (Row.get 6 (T5 .locals) (m5
                       record { before = c .before; min-usize = c .min-usize } (vs .0) (vs .1))) left;
                 };
               },
@@ -1664,7 +1728,7 @@ module _ (claims· : Claims) where
           ),
         )
 
-        pub laid : (c : Start) → at37 (W0 (c .κs) (c .args)) (m0 (c .κs) (c .args))
+        pub laid : (c : Start) → at38 (W0 (c .κs) (c .args)) (m0 (c .κs) (c .args))
         laid = λ c. (
           min-usize-requires c,
           λ g. lay1 record {
@@ -1679,7 +1743,7 @@ module _ (claims· : Claims) where
               (Function.init 1 ps r xs m κs qs a)
           asked = λ a good pre bs. laid record {
             κs = κs;
-            args = record { inflight = a .0; places = a .1 .0; question = a .1 .1 .0 };
+            args = record { inflight = a .0; places = a .1 .0; dropped = a .1 .1 .0; peer = a .1 .1 .1 .0 };
             good = good;
             pre = pre;
           }

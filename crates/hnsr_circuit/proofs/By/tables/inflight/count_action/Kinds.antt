@@ -3,8 +3,6 @@ use Rattle.hnsr_circuit.proofs.By.InflightAction
 use Rattle.hnsr_circuit.proofs.StructRow
 use Rattle.hnsr_circuit.proofs.tables.places.Places
 use Rattle.hnsr_circuit.proofs.tables.places.Places.Laws
-use Rattle.hnsr_circuit.proofs.tables.question.Question
-use Rattle.hnsr_circuit.proofs.tables.question.Question.Laws as Laws'
 use borrow.Fn.Kinds
 use borrow.Kind.ShrSlice
 use mathlib.Core.List
@@ -13,7 +11,7 @@ use mathlib.Core.List.{_∷_}
 
 abbrev pub ps : List.List (Kinds.PK 1)
 ps = (ShrSlice.pShrS InflightAction.row 0 tt) ∷ (StructRow.param Places.the-type Laws.the-laws Laws.the-copy
-    Laws.the-plain) ∷ (StructRow.param Question.the-type Laws'.the-laws Laws'.the-copy Laws'.the-plain) ∷ List.[]
+    Laws.the-plain) ∷ List.[]
 
 abbrev pub r : Kinds.RK 1
 r = Kinds.rNum Syntax.w64

@@ -4,8 +4,6 @@ use Rattle.hnsr_circuit.proofs.By.RelayPending
 use Rattle.hnsr_circuit.proofs.StructRow
 use Rattle.hnsr_circuit.proofs.tables.places.Places
 use Rattle.hnsr_circuit.proofs.tables.places.Places.Laws
-use Rattle.hnsr_circuit.proofs.tables.question.Question
-use Rattle.hnsr_circuit.proofs.tables.question.Question.Laws as Laws'
 use borrow.Author.Called
 use borrow.Author.Tests
 use borrow.Fn.Any
@@ -53,7 +51,7 @@ ref0 = Syntax.tyRef (Syntax.named 0) Syntax.imm RelayPending.to
 
 abbrev pub ps : List.List (Kinds.PK 1)
 ps = (ShrSlice.pShrS RelayPending.row 0 tt) ∷ (StructRow.param Places.the-type Laws.the-laws Laws.the-copy
-    Laws.the-plain) ∷ (StructRow.param Question.the-type Laws'.the-laws Laws'.the-copy Laws'.the-plain) ∷ List.[]
+    Laws.the-plain) ∷ List.[]
 
 abbrev pub r : Kinds.RK 1
 r = Num.rNum Syntax.w64
@@ -73,7 +71,7 @@ abbrev pub r·0 : Kinds.RK 0
 r·0 = Num.rNum Syntax.w64
 
 abbrev pub ps·1 : List.List (Kinds.PK 0)
-ps·1 = RelayPending.param ∷ (StructRow.param Question.the-type Laws'.the-laws Laws'.the-copy Laws'.the-plain) ∷ List.[]
+ps·1 = RelayPending.param ∷ List.[]
 
 abbrev pub r·1 : Kinds.RK 0
 r·1 = Bool.rBool
@@ -87,24 +85,24 @@ r·2 = Num.rNum Syntax.w64
 abbrev pub hs : List.List Syntax.Home
 hs = Syntax.valueLocal ∷ Syntax.valueLocal ∷ Syntax.valueLocal ∷ Syntax.valueLocal ∷ Syntax.valueLocal ∷
     Syntax.valueLocal ∷ Syntax.valueLocal ∷ Syntax.valueLocal ∷ Syntax.valueLocal ∷ Syntax.valueLocal ∷
-    Syntax.valueLocal ∷ Syntax.valueLocal ∷ Syntax.valueLocal ∷ Syntax.valueLocal ∷ List.[]
+    Syntax.valueLocal ∷ Syntax.valueLocal ∷ Syntax.valueLocal ∷ List.[]
 
 abbrev b0 : Syntax.Body
-b0 = Syntax.assign (Syntax.place 4 List.[]) (Syntax.rvOpd (Syntax.copy (Syntax.place 1 ((Syntax.field 1) ∷ List.[]))))
+b0 = Syntax.assign (Syntax.place 3 List.[]) (Syntax.rvOpd (Syntax.copy (Syntax.place 1 ((Syntax.field 1) ∷ List.[]))))
 
 abbrev b1 : Syntax.Body
 b1 = Syntax.call "hns_encoding::numbers::min_usize" ((Syntax.copy (Syntax.place 2 ((Syntax.field 0) ∷ List.[]))) ∷
-    (Syntax.copy (Syntax.place 4 List.[])) ∷ List.[]) (Syntax.place 5 List.[])
+    (Syntax.copy (Syntax.place 3 List.[])) ∷ List.[]) (Syntax.place 4 List.[])
 
 abbrev b2 : Syntax.Body
-b2 = Syntax.assign (Syntax.place 6 List.[]) (Syntax.rvOpd (Syntax.int Syntax.w64 0))
+b2 = Syntax.assign (Syntax.place 5 List.[]) (Syntax.rvOpd (Syntax.int Syntax.w64 0))
 
 abbrev b3 : Syntax.Body
-b3 = Syntax.assign (Syntax.place 7 List.[]) (Syntax.rvOpd (Syntax.int Syntax.w64 0))
+b3 = Syntax.assign (Syntax.place 6 List.[]) (Syntax.rvOpd (Syntax.int Syntax.w64 0))
 
 abbrev b4 : Syntax.Body
-b4 = Syntax.assign (Syntax.place 10 List.[]) (Syntax.op2 (Syntax.lt Syntax.unsigned)
-    (Syntax.copy (Syntax.place 7 List.[])) (Syntax.copy (Syntax.place 5 List.[])))
+b4 = Syntax.assign (Syntax.place 9 List.[]) (Syntax.op2 (Syntax.lt Syntax.unsigned)
+    (Syntax.copy (Syntax.place 6 List.[])) (Syntax.copy (Syntax.place 4 List.[])))
 
 abbrev b5 : Syntax.Body
 b5 = Syntax.skip
@@ -113,34 +111,34 @@ abbrev b6 : Syntax.Body
 b6 = Syntax.exit 1
 
 abbrev b7 : Syntax.Body
-b7 = Syntax.cond (Syntax.copy (Syntax.place 10 List.[])) b5 b6
+b7 = Syntax.cond (Syntax.copy (Syntax.place 9 List.[])) b5 b6
 
 abbrev b8 : Syntax.Body
-b8 = Syntax.assign (Syntax.place 11 List.[]) (Syntax.op2 (Syntax.mul Syntax.unsigned)
-    (Syntax.copy (Syntax.place 7 List.[])) (Syntax.int Syntax.w64 360))
+b8 = Syntax.assign (Syntax.place 10 List.[]) (Syntax.op2 (Syntax.mul Syntax.unsigned)
+    (Syntax.copy (Syntax.place 6 List.[])) (Syntax.int Syntax.w64 360))
 
 abbrev b9 : Syntax.Body
-b9 = Syntax.assign (Syntax.place 12 List.[]) (Syntax.op2 Syntax.offset
-    (Syntax.copy (Syntax.place 1 ((Syntax.field 0) ∷ List.[]))) (Syntax.copy (Syntax.place 11 List.[])))
+b9 = Syntax.assign (Syntax.place 11 List.[]) (Syntax.op2 Syntax.offset
+    (Syntax.copy (Syntax.place 1 ((Syntax.field 0) ∷ List.[]))) (Syntax.copy (Syntax.place 10 List.[])))
 
 abbrev b10 : Syntax.Body
-b10 = Syntax.assign (Syntax.place 13 List.[]) (Syntax.rvOpd (Syntax.copy (Syntax.place 12
+b10 = Syntax.assign (Syntax.place 12 List.[]) (Syntax.rvOpd (Syntax.copy (Syntax.place 11
     ((Syntax.deref RelayPending.ty) ∷ List.[]))))
 
 abbrev b11 : Syntax.Body
-b11 = Syntax.assign (Syntax.place 8 List.[]) (Syntax.rvOpd (Syntax.copy (Syntax.place 13 List.[])))
+b11 = Syntax.assign (Syntax.place 7 List.[]) (Syntax.rvOpd (Syntax.copy (Syntax.place 12 List.[])))
 
 abbrev b12 : Syntax.Body
-b12 = Syntax.call "hnsr_circuit::tables::question::pending_has" ((Syntax.copy (Syntax.place 8 List.[])) ∷
-    (Syntax.copy (Syntax.place 3 List.[])) ∷ List.[]) (Syntax.place 9 List.[])
+b12 = Syntax.call "hnsr_circuit::records::pending::is_pending" ((Syntax.copy (Syntax.place 7 List.[])) ∷ List.[])
+    (Syntax.place 8 List.[])
 
 abbrev b13 : Syntax.Body
-b13 = Syntax.call "hnsr_circuit::tables::scan::one_more" ((Syntax.copy (Syntax.place 6 List.[])) ∷
-    (Syntax.copy (Syntax.place 9 List.[])) ∷ List.[]) (Syntax.place 6 List.[])
+b13 = Syntax.call "hnsr_circuit::tables::scan::one_more" ((Syntax.copy (Syntax.place 5 List.[])) ∷
+    (Syntax.copy (Syntax.place 8 List.[])) ∷ List.[]) (Syntax.place 5 List.[])
 
 abbrev b14 : Syntax.Body
-b14 = Syntax.assign (Syntax.place 7 List.[]) (Syntax.op2 (Syntax.add Syntax.unsigned)
-    (Syntax.copy (Syntax.place 7 List.[])) (Syntax.int Syntax.w64 1))
+b14 = Syntax.assign (Syntax.place 6 List.[]) (Syntax.op2 (Syntax.add Syntax.unsigned)
+    (Syntax.copy (Syntax.place 6 List.[])) (Syntax.int Syntax.w64 1))
 
 abbrev b15 : Syntax.Body
 b15 = Syntax.seq b13 b14
@@ -173,7 +171,7 @@ abbrev b24 : Syntax.Body
 b24 = Syntax.block b23
 
 abbrev b25 : Syntax.Body
-b25 = Syntax.assign (Syntax.place 0 List.[]) (Syntax.rvOpd (Syntax.copy (Syntax.place 6 List.[])))
+b25 = Syntax.assign (Syntax.place 0 List.[]) (Syntax.rvOpd (Syntax.copy (Syntax.place 5 List.[])))
 
 abbrev b26 : Syntax.Body
 b26 = Syntax.return
@@ -213,7 +211,7 @@ abbrev e2 : Row.Entry
 e2 = (2, Rows.whole (Declared.row Places.the-type))
 
 abbrev e3 : Row.Entry
-e3 = (3, Rows.whole (Declared.row Question.the-type))
+e3 = (3, Rows.any-gone (Syntax.tyInt Syntax.w64))
 
 abbrev e4 : Row.Entry
 e4 = (4, Rows.any-gone (Syntax.tyInt Syntax.w64))
@@ -225,25 +223,22 @@ abbrev e6 : Row.Entry
 e6 = (6, Rows.any-gone (Syntax.tyInt Syntax.w64))
 
 abbrev e7 : Row.Entry
-e7 = (7, Rows.any-gone (Syntax.tyInt Syntax.w64))
+e7 = (7, Rows.any-gone RelayPending.ty)
 
 abbrev e8 : Row.Entry
-e8 = (8, Rows.any-gone RelayPending.ty)
+e8 = (8, Rows.any-gone Syntax.tyBool)
 
 abbrev e9 : Row.Entry
 e9 = (9, Rows.any-gone Syntax.tyBool)
 
 abbrev e10 : Row.Entry
-e10 = (10, Rows.any-gone Syntax.tyBool)
+e10 = (10, Rows.any-gone (Syntax.tyInt Syntax.w64))
 
 abbrev e11 : Row.Entry
-e11 = (11, Rows.any-gone (Syntax.tyInt Syntax.w64))
+e11 = (11, Rows.any-gone Syntax.tyPtr)
 
 abbrev e12 : Row.Entry
-e12 = (12, Rows.any-gone Syntax.tyPtr)
-
-abbrev e13 : Row.Entry
-e13 = (13, Rows.any-gone RelayPending.ty)
+e12 = (12, Rows.any-gone RelayPending.ty)
 
 abbrev e0·1 : Row.Entry
 e0·1 = (0, Rows.sc-here (Row.sInt Syntax.w64))
@@ -252,7 +247,7 @@ abbrev e2·1 : Row.Entry
 e2·1 = (2, Rows.any-gone Laws.mir)
 
 abbrev e3·1 : Row.Entry
-e3·1 = (3, Rows.any-gone Laws'.mir)
+e3·1 = (3, Rows.sc-here (Row.sInt Syntax.w64))
 
 abbrev e4·1 : Row.Entry
 e4·1 = (4, Rows.sc-here (Row.sInt Syntax.w64))
@@ -263,95 +258,86 @@ e5·1 = (5, Rows.sc-here (Row.sInt Syntax.w64))
 abbrev e6·1 : Row.Entry
 e6·1 = (6, Rows.sc-here (Row.sInt Syntax.w64))
 
-abbrev e7·1 : Row.Entry
-e7·1 = (7, Rows.sc-here (Row.sInt Syntax.w64))
-
-abbrev e10·1 : Row.Entry
-e10·1 = (10, Rows.sc-here Row.sBool)
-
-abbrev e11·1 : Row.Entry
-e11·1 = (11, Rows.sc-here (Row.sInt Syntax.w64))
-
-abbrev e12·1 : Row.Entry
-e12·1 = (12, Rows.sc-here Row.sPtr)
-
-abbrev e13·1 : Row.Entry
-e13·1 = (13, RelayPending.held)
-
-abbrev e8·1 : Row.Entry
-e8·1 = (8, RelayPending.held)
-
 abbrev e9·1 : Row.Entry
 e9·1 = (9, Rows.sc-here Row.sBool)
 
+abbrev e10·1 : Row.Entry
+e10·1 = (10, Rows.sc-here (Row.sInt Syntax.w64))
+
+abbrev e11·1 : Row.Entry
+e11·1 = (11, Rows.sc-here Row.sPtr)
+
+abbrev e12·1 : Row.Entry
+e12·1 = (12, RelayPending.held)
+
+abbrev e7·1 : Row.Entry
+e7·1 = (7, RelayPending.held)
+
+abbrev e8·1 : Row.Entry
+e8·1 = (8, Rows.sc-here Row.sBool)
+
 abbrev pub t0 : List.List Row.Entry
-t0 = e0 ∷ e1 ∷ e2 ∷ e3 ∷ e4 ∷ e5 ∷ e6 ∷ e7 ∷ e8 ∷ e9 ∷ e10 ∷ e11 ∷ e12 ∷ e13 ∷ List.[]
+t0 = e0 ∷ e1 ∷ e2 ∷ e3 ∷ e4 ∷ e5 ∷ e6 ∷ e7 ∷ e8 ∷ e9 ∷ e10 ∷ e11 ∷ e12 ∷ List.[]
 
 abbrev pub t1 : List.List Row.Entry
-t1 = e0·1 ∷ e1 ∷ e2·1 ∷ e3·1 ∷ e4 ∷ e5 ∷ e6 ∷ e7 ∷ e8 ∷ e9 ∷ e10 ∷ e11 ∷ e12 ∷ e13 ∷ List.[]
+t1 = e0·1 ∷ e1 ∷ e2·1 ∷ e3 ∷ e4 ∷ e5 ∷ e6 ∷ e7 ∷ e8 ∷ e9 ∷ e10 ∷ e11 ∷ e12 ∷ List.[]
 
 abbrev pub t2 : List.List Row.Entry
-t2 = e0 ∷ e1 ∷ e2 ∷ e3 ∷ e4·1 ∷ e5 ∷ e6 ∷ e7 ∷ e8 ∷ e9 ∷ e10 ∷ e11 ∷ e12 ∷ e13 ∷ List.[]
+t2 = e0 ∷ e1 ∷ e2 ∷ e3·1 ∷ e4 ∷ e5 ∷ e6 ∷ e7 ∷ e8 ∷ e9 ∷ e10 ∷ e11 ∷ e12 ∷ List.[]
 
 abbrev pub t3 : List.List Row.Entry
-t3 = e0 ∷ e1 ∷ e2 ∷ e3 ∷ e4·1 ∷ e5·1 ∷ e6 ∷ e7 ∷ e8 ∷ e9 ∷ e10 ∷ e11 ∷ e12 ∷ e13 ∷ List.[]
+t3 = e0 ∷ e1 ∷ e2 ∷ e3·1 ∷ e4·1 ∷ e5 ∷ e6 ∷ e7 ∷ e8 ∷ e9 ∷ e10 ∷ e11 ∷ e12 ∷ List.[]
 
 abbrev pub t4 : List.List Row.Entry
-t4 = e0 ∷ e1 ∷ e2·1 ∷ e3 ∷ e4·1 ∷ e5·1 ∷ e6 ∷ e7 ∷ e8 ∷ e9 ∷ e10 ∷ e11 ∷ e12 ∷ e13 ∷ List.[]
+t4 = e0 ∷ e1 ∷ e2·1 ∷ e3·1 ∷ e4·1 ∷ e5 ∷ e6 ∷ e7 ∷ e8 ∷ e9 ∷ e10 ∷ e11 ∷ e12 ∷ List.[]
 
 abbrev pub t5 : List.List Row.Entry
-t5 = e0 ∷ e1 ∷ e2·1 ∷ e3 ∷ e4·1 ∷ e5·1 ∷ e6·1 ∷ e7 ∷ e8 ∷ e9 ∷ e10 ∷ e11 ∷ e12 ∷ e13 ∷ List.[]
+t5 = e0 ∷ e1 ∷ e2·1 ∷ e3·1 ∷ e4·1 ∷ e5·1 ∷ e6 ∷ e7 ∷ e8 ∷ e9 ∷ e10 ∷ e11 ∷ e12 ∷ List.[]
 
 abbrev pub t6 : List.List Row.Entry
-t6 = e0 ∷ e1 ∷ e2·1 ∷ e3 ∷ e4·1 ∷ e5·1 ∷ e6·1 ∷ e7·1 ∷ e8 ∷ e9 ∷ e10 ∷ e11 ∷ e12 ∷ e13 ∷ List.[]
+t6 = e0 ∷ e1 ∷ e2·1 ∷ e3·1 ∷ e4·1 ∷ e5·1 ∷ e6·1 ∷ e7 ∷ e8 ∷ e9 ∷ e10 ∷ e11 ∷ e12 ∷ List.[]
 
 abbrev pub t7 : List.List Row.Entry
-t7 = e0 ∷ e1 ∷ e2·1 ∷ e3·1 ∷ e4·1 ∷ e5·1 ∷ e6·1 ∷ e7·1 ∷ e8 ∷ e9 ∷ e10 ∷ e11 ∷ e12 ∷ e13 ∷ List.[]
+t7 = e0 ∷ e1 ∷ e2·1 ∷ e3·1 ∷ e4·1 ∷ e5·1 ∷ e6·1 ∷ e7 ∷ e8 ∷ e9·1 ∷ e10 ∷ e11 ∷ e12 ∷ List.[]
 
 abbrev pub t8 : List.List Row.Entry
-t8 = e0 ∷ e1 ∷ e2·1 ∷ e3 ∷ e4·1 ∷ e5·1 ∷ e6·1 ∷ e7·1 ∷ e8 ∷ e9 ∷ e10·1 ∷ e11 ∷ e12 ∷ e13 ∷ List.[]
+t8 = e0 ∷ e1 ∷ e2·1 ∷ e3·1 ∷ e4·1 ∷ e5·1 ∷ e6·1 ∷ e7 ∷ e8 ∷ e9 ∷ e10·1 ∷ e11 ∷ e12 ∷ List.[]
 
 abbrev pub t9 : List.List Row.Entry
-t9 = e0 ∷ e1 ∷ e2·1 ∷ e3·1 ∷ e4·1 ∷ e5·1 ∷ e6·1 ∷ e7·1 ∷ e8 ∷ e9 ∷ e10·1 ∷ e11 ∷ e12 ∷ e13 ∷ List.[]
+t9 = e0 ∷ e1 ∷ e2·1 ∷ e3·1 ∷ e4·1 ∷ e5·1 ∷ e6·1 ∷ e7 ∷ e8 ∷ e9 ∷ e10·1 ∷ e11·1 ∷ e12 ∷ List.[]
 
 abbrev pub t10 : List.List Row.Entry
-t10 = e0 ∷ e1 ∷ e2·1 ∷ e3 ∷ e4·1 ∷ e5·1 ∷ e6·1 ∷ e7·1 ∷ e8 ∷ e9 ∷ e10 ∷ e11·1 ∷ e12 ∷ e13 ∷ List.[]
+t10 = e0 ∷ e1 ∷ e2·1 ∷ e3·1 ∷ e4·1 ∷ e5·1 ∷ e6·1 ∷ e7 ∷ e8 ∷ e9 ∷ e10·1 ∷ e11·1 ∷ e12·1 ∷ List.[]
 
 abbrev pub t11 : List.List Row.Entry
-t11 = e0 ∷ e1 ∷ e2·1 ∷ e3 ∷ e4·1 ∷ e5·1 ∷ e6·1 ∷ e7·1 ∷ e8 ∷ e9 ∷ e10 ∷ e11·1 ∷ e12·1 ∷ e13 ∷ List.[]
+t11 = e0 ∷ e1 ∷ e2·1 ∷ e3·1 ∷ e4·1 ∷ e5·1 ∷ e6·1 ∷ e7 ∷ e8 ∷ e9 ∷ e10 ∷ e11·1 ∷ e12·1 ∷ List.[]
 
 abbrev pub t12 : List.List Row.Entry
-t12 = e0 ∷ e1 ∷ e2·1 ∷ e3 ∷ e4·1 ∷ e5·1 ∷ e6·1 ∷ e7·1 ∷ e8 ∷ e9 ∷ e10 ∷ e11·1 ∷ e12·1 ∷ e13·1 ∷ List.[]
+t12 = e0 ∷ e1 ∷ e2·1 ∷ e3·1 ∷ e4·1 ∷ e5·1 ∷ e6·1 ∷ e7 ∷ e8 ∷ e9 ∷ e10 ∷ e11 ∷ e12·1 ∷ List.[]
 
 abbrev pub t13 : List.List Row.Entry
-t13 = e0 ∷ e1 ∷ e2·1 ∷ e3 ∷ e4·1 ∷ e5·1 ∷ e6·1 ∷ e7·1 ∷ e8 ∷ e9 ∷ e10 ∷ e11 ∷ e12·1 ∷ e13·1 ∷ List.[]
+t13 = e0 ∷ e1 ∷ e2·1 ∷ e3·1 ∷ e4·1 ∷ e5·1 ∷ e6·1 ∷ e7·1 ∷ e8 ∷ e9 ∷ e10 ∷ e11 ∷ e12·1 ∷ List.[]
 
 abbrev pub t14 : List.List Row.Entry
-t14 = e0 ∷ e1 ∷ e2·1 ∷ e3 ∷ e4·1 ∷ e5·1 ∷ e6·1 ∷ e7·1 ∷ e8 ∷ e9 ∷ e10 ∷ e11 ∷ e12 ∷ e13·1 ∷ List.[]
+t14 = e0 ∷ e1 ∷ e2·1 ∷ e3·1 ∷ e4·1 ∷ e5·1 ∷ e6·1 ∷ e7·1 ∷ e8 ∷ e9 ∷ e10 ∷ e11 ∷ e12 ∷ List.[]
 
 abbrev pub t15 : List.List Row.Entry
-t15 = e0 ∷ e1 ∷ e2·1 ∷ e3 ∷ e4·1 ∷ e5·1 ∷ e6·1 ∷ e7·1 ∷ e8·1 ∷ e9 ∷ e10 ∷ e11 ∷ e12 ∷ e13·1 ∷ List.[]
+t15 = e0 ∷ e1 ∷ e2·1 ∷ e3·1 ∷ e4·1 ∷ e5·1 ∷ e6·1 ∷ e7·1 ∷ e8·1 ∷ e9 ∷ e10 ∷ e11 ∷ e12 ∷ List.[]
 
 abbrev pub t16 : List.List Row.Entry
-t16 = e0 ∷ e1 ∷ e2·1 ∷ e3 ∷ e4·1 ∷ e5·1 ∷ e6·1 ∷ e7·1 ∷ e8·1 ∷ e9 ∷ e10 ∷ e11 ∷ e12 ∷ e13 ∷ List.[]
+t16 = e0 ∷ e1 ∷ e2·1 ∷ e3·1 ∷ e4·1 ∷ e5·1 ∷ e6·1 ∷ e7 ∷ e8·1 ∷ e9 ∷ e10 ∷ e11 ∷ e12 ∷ List.[]
 
 abbrev pub t17 : List.List Row.Entry
-t17 = e0 ∷ e1 ∷ e2·1 ∷ e3 ∷ e4·1 ∷ e5·1 ∷ e6·1 ∷ e7·1 ∷ e8·1 ∷ e9·1 ∷ e10 ∷ e11 ∷ e12 ∷ e13 ∷ List.[]
+t17 = e0·1 ∷ e1 ∷ e2·1 ∷ e3·1 ∷ e4·1 ∷ e5·1 ∷ e6·1 ∷ e7 ∷ e8 ∷ e9 ∷ e10 ∷ e11 ∷ e12 ∷ List.[]
 
 abbrev pub t18 : List.List Row.Entry
-t18 = e0 ∷ e1 ∷ e2·1 ∷ e3 ∷ e4·1 ∷ e5·1 ∷ e6·1 ∷ e7·1 ∷ e8 ∷ e9·1 ∷ e10 ∷ e11 ∷ e12 ∷ e13 ∷ List.[]
+t18 = e0·1 ∷ e1 ∷ e2·1 ∷ e3 ∷ e4·1 ∷ e5·1 ∷ e6·1 ∷ e7 ∷ e8 ∷ e9 ∷ e10 ∷ e11 ∷ e12 ∷ List.[]
 
 abbrev pub t19 : List.List Row.Entry
-t19 = e0·1 ∷ e1 ∷ e2·1 ∷ e3·1 ∷ e4·1 ∷ e5·1 ∷ e6·1 ∷ e7·1 ∷ e8 ∷ e9 ∷ e10 ∷ e11 ∷ e12 ∷ e13 ∷ List.[]
+t19 = e0·1 ∷ e1 ∷ e2·1 ∷ e3 ∷ e4 ∷ e5·1 ∷ e6·1 ∷ e7 ∷ e8 ∷ e9 ∷ e10 ∷ e11 ∷ e12 ∷ List.[]
 
 abbrev pub t20 : List.List Row.Entry
-t20 = e0·1 ∷ e1 ∷ e2·1 ∷ e3·1 ∷ e4 ∷ e5·1 ∷ e6·1 ∷ e7·1 ∷ e8 ∷ e9 ∷ e10 ∷ e11 ∷ e12 ∷ e13 ∷ List.[]
-
-abbrev pub t21 : List.List Row.Entry
-t21 = e0·1 ∷ e1 ∷ e2·1 ∷ e3·1 ∷ e4 ∷ e5 ∷ e6·1 ∷ e7·1 ∷ e8 ∷ e9 ∷ e10 ∷ e11 ∷ e12 ∷ e13 ∷ List.[]
-
-abbrev pub t22 : List.List Row.Entry
-t22 = e0·1 ∷ e1 ∷ e2·1 ∷ e3·1 ∷ e4 ∷ e5 ∷ e6 ∷ e7·1 ∷ e8 ∷ e9 ∷ e10 ∷ e11 ∷ e12 ∷ e13 ∷ List.[]
+t20 = e0·1 ∷ e1 ∷ e2·1 ∷ e3 ∷ e4 ∷ e5 ∷ e6·1 ∷ e7 ∷ e8 ∷ e9 ∷ e10 ∷ e11 ∷ e12 ∷ List.[]
 
 abbrev pub T0 : Row.Cx
 T0 = record { locals = t0; slots = List.[] }
@@ -375,10 +361,10 @@ abbrev pub T6 : Row.Cx
 T6 = record { locals = t6; slots = List.[] }
 
 abbrev pub T7 : Row.Cx
-T7 = record { locals = t7; slots = List.[] }
+T7 = record { locals = t6; slots = List.[] }
 
 abbrev pub T8 : Row.Cx
-T8 = record { locals = t8; slots = List.[] }
+T8 = record { locals = t7; slots = List.[] }
 
 abbrev pub T9 : Row.Cx
 T9 = record { locals = t6; slots = List.[] }
@@ -387,61 +373,58 @@ abbrev pub T10 : Row.Cx
 T10 = record { locals = t6; slots = List.[] }
 
 abbrev pub T11 : Row.Cx
-T11 = record { locals = t9; slots = List.[] }
+T11 = record { locals = t6; slots = List.[] }
 
 abbrev pub T12 : Row.Cx
-T12 = record { locals = t7; slots = List.[] }
+T12 = record { locals = t8; slots = List.[] }
 
 abbrev pub T13 : Row.Cx
-T13 = record { locals = t10; slots = List.[] }
+T13 = record { locals = t9; slots = List.[] }
 
 abbrev pub T14 : Row.Cx
-T14 = record { locals = t11; slots = List.[] }
+T14 = record { locals = t10; slots = List.[] }
 
 abbrev pub T15 : Row.Cx
-T15 = record { locals = t12; slots = List.[] }
+T15 = record { locals = t11; slots = List.[] }
 
 abbrev pub T16 : Row.Cx
-T16 = record { locals = t13; slots = List.[] }
+T16 = record { locals = t12; slots = List.[] }
 
 abbrev pub T17 : Row.Cx
-T17 = record { locals = t14; slots = List.[] }
+T17 = record { locals = t13; slots = List.[] }
 
 abbrev pub T18 : Row.Cx
-T18 = record { locals = t15; slots = List.[] }
+T18 = record { locals = t14; slots = List.[] }
 
 abbrev pub T19 : Row.Cx
-T19 = record { locals = t16; slots = List.[] }
+T19 = record { locals = t15; slots = List.[] }
 
 abbrev pub T20 : Row.Cx
-T20 = record { locals = t17; slots = List.[] }
+T20 = record { locals = t16; slots = List.[] }
 
 abbrev pub T21 : Row.Cx
-T21 = record { locals = t18; slots = List.[] }
+T21 = record { locals = t16; slots = List.[] }
 
 abbrev pub T22 : Row.Cx
-T22 = record { locals = t18; slots = List.[] }
+T22 = record { locals = t16; slots = List.[] }
 
 abbrev pub T23 : Row.Cx
-T23 = record { locals = t18; slots = List.[] }
+T23 = record { locals = t6; slots = List.[] }
 
 abbrev pub T24 : Row.Cx
-T24 = record { locals = t6; slots = List.[] }
+T24 = record { locals = t17; slots = List.[] }
 
 abbrev pub T25 : Row.Cx
-T25 = record { locals = t19; slots = List.[] }
+T25 = record { locals = t18; slots = List.[] }
 
 abbrev pub T26 : Row.Cx
-T26 = record { locals = t20; slots = List.[] }
+T26 = record { locals = t19; slots = List.[] }
 
 abbrev pub T27 : Row.Cx
-T27 = record { locals = t21; slots = List.[] }
+T27 = record { locals = t20; slots = List.[] }
 
 abbrev pub T28 : Row.Cx
-T28 = record { locals = t22; slots = List.[] }
-
-abbrev pub T29 : Row.Cx
-T29 = record { locals = t1; slots = List.[] }
+T28 = record { locals = t1; slots = List.[] }
 
 abbrev pub O0 : Typed.Outs
 O0 = record { next = Option.none; exits = List.[]; returns = Option.some T1 }
@@ -459,105 +442,100 @@ abbrev pub O4 : Typed.Outs
 O4 = Typed.withNext (Option.some T9) O3
 
 abbrev pub InvT-loop : Type 1
-InvT-loop = List.List (RelayPending.row .Denot) → Rows.whole (Declared.row Question.the-type) .Mod → Rows.sc-here
+InvT-loop = List.List (RelayPending.row .Denot) → Rows.sc-here (Row.sInt Syntax.w64) .Mod → Rows.sc-here
     (Row.sInt Syntax.w64) .Mod → Rows.sc-here (Row.sInt Syntax.w64) .Mod → Rows.sc-here (Row.sInt Syntax.w64) .Mod →
-    Rows.sc-here (Row.sInt Syntax.w64) .Mod → Rows.sc-here (Row.sInt Syntax.w64) .Mod → Rows.sc-here
-    (Row.sInt Syntax.w64) .Mod → Type 0
+    Rows.sc-here (Row.sInt Syntax.w64) .Mod → Rows.sc-here (Row.sInt Syntax.w64) .Mod → Type 0
 
 abbrev pub MeasureT-loop : Type 0
-MeasureT-loop = List.List (RelayPending.row .Denot) → Rows.whole (Declared.row Question.the-type) .Mod → Rows.sc-here
+MeasureT-loop = List.List (RelayPending.row .Denot) → Rows.sc-here (Row.sInt Syntax.w64) .Mod → Rows.sc-here
     (Row.sInt Syntax.w64) .Mod → Rows.sc-here (Row.sInt Syntax.w64) .Mod → Rows.sc-here (Row.sInt Syntax.w64) .Mod →
-    Rows.sc-here (Row.sInt Syntax.w64) .Mod → Rows.sc-here (Row.sInt Syntax.w64) .Mod → Rows.sc-here
-    (Row.sInt Syntax.w64) .Mod → Nat.ℕ
+    Rows.sc-here (Row.sInt Syntax.w64) .Mod → Rows.sc-here (Row.sInt Syntax.w64) .Mod → Nat.ℕ
 
 module _ (claims· : Claims) where
   abbrev s0 : Typed.Mo T0 → Typed.Mo T2
-  s0 = Scalar.n-use T0 (Scalar.oFld 1 ((Syntax.field 1) ∷ List.[]) (Syntax.tyInt Syntax.w64) 8 Shared.lenV) 4
+  s0 = Scalar.n-use T0 (Scalar.oFld 1 ((Syntax.field 1) ∷ List.[]) (Syntax.tyInt Syntax.w64) 8 Shared.lenV) 3
       (Rows.sc-here (Row.sInt Syntax.w64)) (Row.sInt Syntax.w64 .of)
 
   abbrev args1 : Args'.ArgsT ps·0 (T2 .locals)
-  args1 = (Num.vFld 2 ((Syntax.field 0) ∷ List.[]) 0 λ x. Places.struct .as-values x .0, (Num.vAt 4 λ x. x, tt))
+  args1 = (Num.vFld 2 ((Syntax.field 0) ∷ List.[]) 0 λ x. Places.struct .as-values x .0, (Num.vAt 3 λ x. x, tt))
 
   abbrev s1 : Typed.Both T2 T3
-  s1 = Call.callB ps·0 r·0 (claims· .0) (claims· .1) T2 args1 5 List.[] (Syntax.tyInt Syntax.w64)
+  s1 = Call.callB ps·0 r·0 (claims· .0) (claims· .1) T2 args1 4 List.[] (Syntax.tyInt Syntax.w64)
 
   abbrev s2 : Typed.Mo T3 → Typed.Mo T4
   s2 = Scalar.n-room T3 2 Laws.mir
 
   abbrev s3 : Typed.Mo T4 → Typed.Mo T5
-  s3 = Scalar.n-use T4 (Scalar.oInt Syntax.w64 0) 6 (Rows.sc-here (Row.sInt Syntax.w64)) (Row.sInt Syntax.w64 .of)
+  s3 = Scalar.n-use T4 (Scalar.oInt Syntax.w64 0) 5 (Rows.sc-here (Row.sInt Syntax.w64)) (Row.sInt Syntax.w64 .of)
 
   abbrev s4 : Typed.Mo T5 → Typed.Mo T6
-  s4 = Scalar.n-use T5 (Scalar.oInt Syntax.w64 0) 7 (Rows.sc-here (Row.sInt Syntax.w64)) (Row.sInt Syntax.w64 .of)
+  s4 = Scalar.n-use T5 (Scalar.oInt Syntax.w64 0) 6 (Rows.sc-here (Row.sInt Syntax.w64)) (Row.sInt Syntax.w64 .of)
 
   abbrev s5 : Typed.Asks T6 T8
-  s5 = Scalar.k-op2 T6 (Syntax.lt Syntax.unsigned) (Scalar.oAt 7 (Syntax.tyInt Syntax.w64)
-      (Row.valS (Row.sInt Syntax.w64))) (Scalar.oAt 5 (Syntax.tyInt Syntax.w64) (Row.valS (Row.sInt Syntax.w64))) 10
+  s5 = Scalar.k-op2 T6 (Syntax.lt Syntax.unsigned) (Scalar.oAt 6 (Syntax.tyInt Syntax.w64)
+      (Row.valS (Row.sInt Syntax.w64))) (Scalar.oAt 4 (Syntax.tyInt Syntax.w64) (Row.valS (Row.sInt Syntax.w64))) 9
       (Rows.sc-here Row.sBool) (Row.sBool .of)
 
   abbrev s6 : Typed.Mo T8 → Typed.Mo T10
-  s6 = Scalar.n-room T8 10 Syntax.tyBool
+  s6 = Scalar.n-room T8 9 Syntax.tyBool
 
   abbrev s7 : Typed.Mo T8 → Typed.Mo T11
-  s7 = Scalar.n-room T8 3 Laws'.mir
+  s7 = Scalar.n-room T8 9 Syntax.tyBool
 
-  abbrev s8 : Typed.Mo T11 → Typed.Mo T12
-  s8 = Scalar.n-room T11 10 Syntax.tyBool
-
-  abbrev s9 : Typed.Asks T9 T13
-  s9 = Scalar.k-op2 T9 (Syntax.mul Syntax.unsigned) (Scalar.oAt 7 (Syntax.tyInt Syntax.w64)
-      (Row.valS (Row.sInt Syntax.w64))) (Scalar.oInt Syntax.w64 360) 11 (Rows.sc-here (Row.sInt Syntax.w64))
+  abbrev s8 : Typed.Asks T9 T12
+  s8 = Scalar.k-op2 T9 (Syntax.mul Syntax.unsigned) (Scalar.oAt 6 (Syntax.tyInt Syntax.w64)
+      (Row.valS (Row.sInt Syntax.w64))) (Scalar.oInt Syntax.w64 360) 10 (Rows.sc-here (Row.sInt Syntax.w64))
       (Row.sInt Syntax.w64 .of)
 
-  abbrev s10 : Typed.Asks T13 T14
-  s10 = Scalar.k-op2 T13 Syntax.offset (Scalar.oFld 1 ((Syntax.field 0) ∷ List.[]) ref0 0 Reads'.ptrVal) (Scalar.oAt 11
-      (Syntax.tyInt Syntax.w64) (Row.valS (Row.sInt Syntax.w64))) 12 (Rows.sc-here Row.sPtr) (Row.sPtr .of)
+  abbrev s9 : Typed.Asks T12 T13
+  s9 = Scalar.k-op2 T12 Syntax.offset (Scalar.oFld 1 ((Syntax.field 0) ∷ List.[]) ref0 0 Reads'.ptrVal) (Scalar.oAt 10
+      (Syntax.tyInt Syntax.w64) (Row.valS (Row.sInt Syntax.w64))) 11 (Rows.sc-here Row.sPtr) (Row.sPtr .of)
 
-  abbrev s11 : Typed.Both T14 T15
-  s11 = Move.k-shs-copy-out RelayPending.row T14 1 12 13 0 ref0 Row.off RelayPending.held (Shared.bySize 360)
-      (λ u. u .1 .1 .1 .1 .1 .1 .1 .0) (λ x. x) RelayPending.none (λ x. Unit) (λ x. x) λ x. x
+  abbrev s10 : Typed.Both T13 T14
+  s10 = Move.k-shs-copy-out RelayPending.row T13 1 11 12 0 ref0 Row.off RelayPending.held (Shared.bySize 360)
+      (λ u. u .1 .1 .1 .1 .1 .1 .0) (λ x. x) RelayPending.none (λ x. Unit) (λ x. x) λ x. x
+
+  abbrev s11 : Typed.Mo T14 → Typed.Mo T15
+  s11 = Scalar.n-room T14 10 (Syntax.tyInt Syntax.w64)
 
   abbrev s12 : Typed.Mo T15 → Typed.Mo T16
-  s12 = Scalar.n-room T15 11 (Syntax.tyInt Syntax.w64)
+  s12 = Scalar.n-room T15 11 Syntax.tyPtr
 
   abbrev s13 : Typed.Mo T16 → Typed.Mo T17
-  s13 = Scalar.n-room T16 12 Syntax.tyPtr
+  s13 = LocalCopy.n-val-copy T16 12 7 RelayPending.row RelayPending.held RelayPending.held (λ x. x) (λ x. x) λ x. x
 
   abbrev s14 : Typed.Mo T17 → Typed.Mo T18
-  s14 = LocalCopy.n-val-copy T17 13 8 RelayPending.row RelayPending.held RelayPending.held (λ x. x) (λ x. x) λ x. x
+  s14 = Scalar.n-room T17 12 RelayPending.ty
 
-  abbrev s15 : Typed.Mo T18 → Typed.Mo T19
-  s15 = Scalar.n-room T18 13 RelayPending.ty
+  abbrev args15 : Args'.ArgsT ps·1 (T18 .locals)
+  args15 = (record { pos = 7; st = List.[]; d = 0; at = λ x. x }, tt)
 
-  abbrev args16 : Args'.ArgsT ps·1 (T19 .locals)
-  args16 = (
-    record { pos = 8; st = List.[]; d = 0; at = λ x. x },
-    (record { pos = 3; st = List.[]; d = 0; at = λ x. x }, tt),
-  )
+  abbrev s15 : Typed.Both T18 T19
+  s15 = Call.callB ps·1 r·1 (claims· .2) (claims· .3) T18 args15 8 List.[] Syntax.tyBool
 
-  abbrev s16 : Typed.Both T19 T20
-  s16 = Call.callB ps·1 r·1 (claims· .2) (claims· .3) T19 args16 9 List.[] Syntax.tyBool
+  abbrev s16 : Typed.Mo T19 → Typed.Mo T20
+  s16 = Scalar.n-room T19 7 RelayPending.ty
 
-  abbrev s17 : Typed.Mo T20 → Typed.Mo T21
-  s17 = Scalar.n-room T20 8 RelayPending.ty
+  abbrev args17 : Args'.ArgsT ps·2 (T20 .locals)
+  args17 = (Num.vAt 5 λ x. x, (Bool.bAt 8 λ x. x, tt))
 
-  abbrev args18 : Args'.ArgsT ps·2 (T21 .locals)
-  args18 = (Num.vAt 6 λ x. x, (Bool.bAt 9 λ x. x, tt))
+  abbrev s17 : Typed.Both T20 T21
+  s17 = Call.callB ps·2 r·2 (claims· .4) (claims· .5) T20 args17 5 List.[] (Syntax.tyInt Syntax.w64)
 
-  abbrev s18 : Typed.Both T21 T22
-  s18 = Call.callB ps·2 r·2 (claims· .4) (claims· .5) T21 args18 6 List.[] (Syntax.tyInt Syntax.w64)
-
-  abbrev s19 : Typed.Asks T22 T23
-  s19 = Scalar.k-op2 T22 (Syntax.add Syntax.unsigned) (Scalar.oAt 7 (Syntax.tyInt Syntax.w64)
-      (Row.valS (Row.sInt Syntax.w64))) (Scalar.oInt Syntax.w64 1) 7 (Rows.sc-here (Row.sInt Syntax.w64))
+  abbrev s18 : Typed.Asks T21 T22
+  s18 = Scalar.k-op2 T21 (Syntax.add Syntax.unsigned) (Scalar.oAt 6 (Syntax.tyInt Syntax.w64)
+      (Row.valS (Row.sInt Syntax.w64))) (Scalar.oInt Syntax.w64 1) 6 (Rows.sc-here (Row.sInt Syntax.w64))
       (Row.sInt Syntax.w64 .of)
 
-  abbrev s20 : Typed.Mo T23 → Typed.Mo T24
-  s20 = Scalar.n-room T23 9 Syntax.tyBool
+  abbrev s19 : Typed.Mo T22 → Typed.Mo T23
+  s19 = Scalar.n-room T22 8 Syntax.tyBool
 
-  abbrev s21 : Typed.Mo T7 → Typed.Mo T25
-  s21 = Scalar.n-use T7 (Scalar.oAt 6 (Syntax.tyInt Syntax.w64) (Row.valS (Row.sInt Syntax.w64))) 0
+  abbrev s20 : Typed.Mo T7 → Typed.Mo T24
+  s20 = Scalar.n-use T7 (Scalar.oAt 5 (Syntax.tyInt Syntax.w64) (Row.valS (Row.sInt Syntax.w64))) 0
       (Rows.sc-here (Row.sInt Syntax.w64)) (Row.sInt Syntax.w64 .of)
+
+  abbrev s21 : Typed.Mo T24 → Typed.Mo T25
+  s21 = Scalar.n-room T24 3 (Syntax.tyInt Syntax.w64)
 
   abbrev s22 : Typed.Mo T25 → Typed.Mo T26
   s22 = Scalar.n-room T25 4 (Syntax.tyInt Syntax.w64)
@@ -568,13 +546,10 @@ module _ (claims· : Claims) where
   abbrev s24 : Typed.Mo T27 → Typed.Mo T28
   s24 = Scalar.n-room T27 6 (Syntax.tyInt Syntax.w64)
 
-  abbrev s25 : Typed.Mo T28 → Typed.Mo T29
-  s25 = Scalar.n-room T28 7 (Syntax.tyInt Syntax.w64)
-
   abbrev put0 : Rows.sc-here (Row.sInt Syntax.w64) .Mod × Rows.sc-here (Row.sInt Syntax.w64) .Mod → Typed.Mo T6 →
       Typed.Mo T6
-  put0 = λ vs u. Row.set 7 (7, Rows.sc-here (Row.sInt Syntax.w64)) (vs .1) (T6 .locals) (Row.set 6
-      (6, Rows.sc-here (Row.sInt Syntax.w64)) (vs .0) (T6 .locals) u)
+  put0 = λ vs u. Row.set 6 (6, Rows.sc-here (Row.sInt Syntax.w64)) (vs .1) (T6 .locals) (Row.set 5
+      (5, Rows.sc-here (Row.sInt Syntax.w64)) (vs .0) (T6 .locals) u)
 
   module _ (Pre· : (κs : Lifetimes.Lfts 1) → Kinds.Dens κs ps → Type 0) (Post· : (κs : Lifetimes.Lfts 1) →
       (a : Kinds.Dens κs ps) → Kinds.Plain 1 ps r κs) where
@@ -582,7 +557,7 @@ module _ (claims· : Claims) where
       abbrev pub Closed : Type 2
       Closed = (𝓤 : URA.URA M) (H : Wp.Heap 𝓤) (A : Atoms.Atoms 𝓤) (W : Kit.Given 𝓤 H A) (𝓣 : Wp.Tables 𝓤 H) (known0 :
           Plain.Known 𝓤 H A W 𝓣 0 ps·0 r·0 (claims· .0) (claims· .1) "hns_encoding::numbers::min_usize") (known1 :
-          Plain.Known 𝓤 H A W 𝓣 0 ps·1 r·1 (claims· .2) (claims· .3) "hnsr_circuit::tables::question::pending_has") (known2
+          Plain.Known 𝓤 H A W 𝓣 0 ps·1 r·1 (claims· .2) (claims· .3) "hnsr_circuit::records::pending::is_pending") (known2
           : Plain.Known 𝓤 H A W 𝓣 0 ps·2 r·2 (claims· .4) (claims· .5) "hnsr_circuit::tables::scan::one_more") →
           Statement.Triple 𝓤 (Wp.WpFn 𝓤 H (𝓣 .C) (𝓣 .Λ) (Function.fnOf 1 ps r xs m hs body))
           (Function.plainOf 𝓤 H A 1 ps r Pre· Post·)
@@ -594,111 +569,107 @@ module _ (claims· : Claims) where
       abbrev at1 : Typed.TF T8 O4
       at1 = λ Ψ. Typed.pass T8 T10 s6 (at0 Ψ)
 
-      abbrev at2 : Typed.TF T12 O4
+      abbrev at2 : Typed.TF T11 O4
       at2 = Typed.atExit 1 O4
 
-      abbrev at3 : Typed.TF T11 O4
-      at3 = λ Ψ. Typed.pass T11 T12 s8 (at2 Ψ)
+      abbrev at3 : Typed.TF T8 O4
+      at3 = λ Ψ. Typed.pass T8 T11 s7 (at2 Ψ)
 
       abbrev at4 : Typed.TF T8 O4
-      at4 = λ Ψ. Typed.pass T8 T11 s7 (at3 Ψ)
+      at4 = Scalar.Φcond T8 O4 9 (λ x. x) at1 at3
 
-      abbrev at5 : Typed.TF T8 O4
-      at5 = Scalar.Φcond T8 O4 10 (λ x. x) at1 at4
+      abbrev at5 : Typed.TF T21 O3
+      at5 = λ Ψ. Typed.ask s18 (Typed.pass T22 T23 s19 (Typed.atNext O3 Ψ))
 
-      abbrev at6 : Typed.TF T22 O3
-      at6 = λ Ψ. Typed.ask s19 (Typed.pass T23 T24 s20 (Typed.atNext O3 Ψ))
+      abbrev at6 : Typed.TF T20 O3
+      at6 = λ Ψ. Typed.both s17 (at5 Ψ)
 
-      abbrev at7 : Typed.TF T21 O3
-      at7 = λ Ψ. Typed.both s18 (at6 Ψ)
+      abbrev at7 : Typed.TF T19 O3
+      at7 = λ Ψ. Typed.pass T19 T20 s16 (at6 Ψ)
 
-      abbrev at8 : Typed.TF T20 O3
-      at8 = λ Ψ. Typed.pass T20 T21 s17 (at7 Ψ)
+      abbrev at8 : Typed.TF T18 O3
+      at8 = λ Ψ. Typed.both s15 (at7 Ψ)
 
-      abbrev at9 : Typed.TF T19 O3
-      at9 = λ Ψ. Typed.both s16 (at8 Ψ)
+      abbrev at9 : Typed.TF T17 O3
+      at9 = λ Ψ. Typed.pass T17 T18 s14 (at8 Ψ)
 
-      abbrev at10 : Typed.TF T18 O3
-      at10 = λ Ψ. Typed.pass T18 T19 s15 (at9 Ψ)
+      abbrev at10 : Typed.TF T16 O3
+      at10 = λ Ψ. Typed.pass T16 T17 s13 (at9 Ψ)
 
-      abbrev at11 : Typed.TF T17 O3
-      at11 = λ Ψ. Typed.pass T17 T18 s14 (at10 Ψ)
+      abbrev at11 : Typed.TF T15 O3
+      at11 = λ Ψ. Typed.pass T15 T16 s12 (at10 Ψ)
 
-      abbrev at12 : Typed.TF T16 O3
-      at12 = λ Ψ. Typed.pass T16 T17 s13 (at11 Ψ)
+      abbrev at12 : Typed.TF T14 O3
+      at12 = λ Ψ. Typed.pass T14 T15 s11 (at11 Ψ)
 
-      abbrev at13 : Typed.TF T15 O3
-      at13 = λ Ψ. Typed.pass T15 T16 s12 (at12 Ψ)
+      abbrev at13 : Typed.TF T13 O3
+      at13 = λ Ψ. Typed.both s10 (at12 Ψ)
 
-      abbrev at14 : Typed.TF T14 O3
-      at14 = λ Ψ. Typed.both s11 (at13 Ψ)
+      abbrev at14 : Typed.TF T12 O3
+      at14 = λ Ψ. Typed.ask s9 (at13 Ψ)
 
-      abbrev at15 : Typed.TF T13 O3
-      at15 = λ Ψ. Typed.ask s10 (at14 Ψ)
+      abbrev at15 : Typed.TF T9 O3
+      at15 = λ Ψ. Typed.ask s8 (at14 Ψ)
 
-      abbrev at16 : Typed.TF T9 O3
-      at16 = λ Ψ. Typed.ask s9 (at15 Ψ)
+      abbrev at16 : Typed.TF T8 O3
+      at16 = λ Ψ. at4 (Typed.wantNext T9 O3 (at15 Ψ) Ψ)
 
-      abbrev at17 : Typed.TF T8 O3
-      at17 = λ Ψ. at5 (Typed.wantNext T9 O3 (at16 Ψ) Ψ)
+      abbrev at17 : Typed.TF T6 O3
+      at17 = λ Ψ. Typed.ask s5 (at16 Ψ)
 
-      abbrev at18 : Typed.TF T6 O3
-      at18 = λ Ψ. Typed.ask s5 (at17 Ψ)
+      abbrev at18 : Typed.TF T6 O2
+      at18 = Typed.LoopBy T6 O2 put0 (λ u vs. Inv·0 (Row.get 1 (T6 .locals) u .now) (Row.get 3 (T6 .locals) u)
+          (Row.get 4 (T6 .locals) u) (Row.get 5 (T6 .locals) u) (Row.get 6 (T6 .locals) u) (vs .0) (vs .1)) (λ u vs.
+          μ·0 (Row.get 1 (T6 .locals) u .now) (Row.get 3 (T6 .locals) u) (Row.get 4 (T6 .locals) u)
+          (Row.get 5 (T6 .locals) u) (Row.get 6 (T6 .locals) u) (vs .0) (vs .1)) at17
 
-      abbrev at19 : Typed.TF T6 O2
-      at19 = Typed.LoopBy T6 O2 put0 (λ u vs. Inv·0 (Row.get 1 (T6 .locals) u .now) (Row.get 3 (T6 .locals) u)
-          (Row.get 4 (T6 .locals) u) (Row.get 5 (T6 .locals) u) (Row.get 6 (T6 .locals) u) (Row.get 7 (T6 .locals) u)
-          (vs .0) (vs .1)) (λ u vs. μ·0 (Row.get 1 (T6 .locals) u .now) (Row.get 3 (T6 .locals) u)
-          (Row.get 4 (T6 .locals) u) (Row.get 5 (T6 .locals) u) (Row.get 6 (T6 .locals) u) (Row.get 7 (T6 .locals) u)
-          (vs .0) (vs .1)) at18
+      abbrev at19 : Typed.TF T6 O1
+      at19 = λ Ψ. at18 (Typed.inBlock O1 Ψ)
 
-      abbrev at20 : Typed.TF T6 O1
-      at20 = λ Ψ. at19 (Typed.inBlock O1 Ψ)
+      abbrev at20 : Typed.TF T28 O0
+      at20 = Typed.atRet O0
 
-      abbrev at21 : Typed.TF T29 O0
-      at21 = Typed.atRet O0
+      abbrev at21 : Typed.TF T27 O0
+      at21 = λ Ψ. Typed.pass T27 T28 s24 (at20 Ψ)
 
-      abbrev at22 : Typed.TF T28 O0
-      at22 = λ Ψ. Typed.pass T28 T29 s25 (at21 Ψ)
+      abbrev at22 : Typed.TF T26 O0
+      at22 = λ Ψ. Typed.pass T26 T27 s23 (at21 Ψ)
 
-      abbrev at23 : Typed.TF T27 O0
-      at23 = λ Ψ. Typed.pass T27 T28 s24 (at22 Ψ)
+      abbrev at23 : Typed.TF T25 O0
+      at23 = λ Ψ. Typed.pass T25 T26 s22 (at22 Ψ)
 
-      abbrev at24 : Typed.TF T26 O0
-      at24 = λ Ψ. Typed.pass T26 T27 s23 (at23 Ψ)
+      abbrev at24 : Typed.TF T24 O0
+      at24 = λ Ψ. Typed.pass T24 T25 s21 (at23 Ψ)
 
-      abbrev at25 : Typed.TF T25 O0
-      at25 = λ Ψ. Typed.pass T25 T26 s22 (at24 Ψ)
+      abbrev at25 : Typed.TF T7 O0
+      at25 = λ Ψ. Typed.pass T7 T24 s20 (at24 Ψ)
 
-      abbrev at26 : Typed.TF T7 O0
-      at26 = λ Ψ. Typed.pass T7 T25 s21 (at25 Ψ)
+      abbrev at26 : Typed.TF T6 O0
+      at26 = λ Ψ. at19 (Typed.wantNext T7 O0 (at25 Ψ) Ψ)
 
-      abbrev at27 : Typed.TF T6 O0
-      at27 = λ Ψ. at20 (Typed.wantNext T7 O0 (at26 Ψ) Ψ)
+      abbrev at27 : Typed.TF T5 O0
+      at27 = λ Ψ. Typed.pass T5 T6 s4 (at26 Ψ)
 
-      abbrev at28 : Typed.TF T5 O0
-      at28 = λ Ψ. Typed.pass T5 T6 s4 (at27 Ψ)
+      abbrev at28 : Typed.TF T4 O0
+      at28 = λ Ψ. Typed.pass T4 T5 s3 (at27 Ψ)
 
-      abbrev at29 : Typed.TF T4 O0
-      at29 = λ Ψ. Typed.pass T4 T5 s3 (at28 Ψ)
+      abbrev at29 : Typed.TF T3 O0
+      at29 = λ Ψ. Typed.pass T3 T4 s2 (at28 Ψ)
 
-      abbrev at30 : Typed.TF T3 O0
-      at30 = λ Ψ. Typed.pass T3 T4 s2 (at29 Ψ)
+      abbrev at30 : Typed.TF T2 O0
+      at30 = λ Ψ. Typed.both s1 (at29 Ψ)
 
-      abbrev at31 : Typed.TF T2 O0
-      at31 = λ Ψ. Typed.both s1 (at30 Ψ)
-
-      abbrev at32 : Typed.TF T0 O0
-      at32 = λ Ψ. Typed.pass T0 T2 s0 (at31 Ψ)
+      abbrev at31 : Typed.TF T0 O0
+      at31 = λ Ψ. Typed.pass T0 T2 s0 (at30 Ψ)
 
       abbrev pub Φ : Typed.TF T0 O0
-      Φ = at32
+      Φ = at31
 
       module _ {M : Type 1} (𝓤 : URA.URA M) (H : Wp.Heap 𝓤) (A : Atoms.Atoms 𝓤) (W : Kit.Given 𝓤 H A)
           (𝓣 : Wp.Tables 𝓤 H) where
         abbrev Knowns : Type 1
         Knowns = Plain.Known 𝓤 H A W 𝓣 0 ps·0 r·0 (claims· .0) (claims· .1) "hns_encoding::numbers::min_usize" ×
-            Plain.Known 𝓤 H A W 𝓣 0 ps·1 r·1 (claims· .2) (claims· .3) "hnsr_circuit::tables::question::pending_has" ×
+            Plain.Known 𝓤 H A W 𝓣 0 ps·1 r·1 (claims· .2) (claims· .3) "hnsr_circuit::records::pending::is_pending" ×
             Plain.Known 𝓤 H A W 𝓣 0 ps·2 r·2 (claims· .4) (claims· .5) "hnsr_circuit::tables::scan::one_more"
 
       module _ (κs : Lifetimes.Lfts 1) (qs : Lifetimes.Shares 1) where
@@ -727,10 +698,10 @@ module _ (claims· : Claims) where
         G6 = record { locals = t6; slots = life0 ∷ List.[] }
 
         abbrev G7 : Row.Cx
-        G7 = record { locals = t7; slots = life0 ∷ List.[] }
+        G7 = record { locals = t6; slots = life0 ∷ List.[] }
 
         abbrev G8 : Row.Cx
-        G8 = record { locals = t8; slots = life0 ∷ List.[] }
+        G8 = record { locals = t7; slots = life0 ∷ List.[] }
 
         abbrev G9 : Row.Cx
         G9 = record { locals = t6; slots = life0 ∷ List.[] }
@@ -739,61 +710,58 @@ module _ (claims· : Claims) where
         G10 = record { locals = t6; slots = life0 ∷ List.[] }
 
         abbrev G11 : Row.Cx
-        G11 = record { locals = t9; slots = life0 ∷ List.[] }
+        G11 = record { locals = t6; slots = life0 ∷ List.[] }
 
         abbrev G12 : Row.Cx
-        G12 = record { locals = t7; slots = life0 ∷ List.[] }
+        G12 = record { locals = t8; slots = life0 ∷ List.[] }
 
         abbrev G13 : Row.Cx
-        G13 = record { locals = t10; slots = life0 ∷ List.[] }
+        G13 = record { locals = t9; slots = life0 ∷ List.[] }
 
         abbrev G14 : Row.Cx
-        G14 = record { locals = t11; slots = life0 ∷ List.[] }
+        G14 = record { locals = t10; slots = life0 ∷ List.[] }
 
         abbrev G15 : Row.Cx
-        G15 = record { locals = t12; slots = life0 ∷ List.[] }
+        G15 = record { locals = t11; slots = life0 ∷ List.[] }
 
         abbrev G16 : Row.Cx
-        G16 = record { locals = t13; slots = life0 ∷ List.[] }
+        G16 = record { locals = t12; slots = life0 ∷ List.[] }
 
         abbrev G17 : Row.Cx
-        G17 = record { locals = t14; slots = life0 ∷ List.[] }
+        G17 = record { locals = t13; slots = life0 ∷ List.[] }
 
         abbrev G18 : Row.Cx
-        G18 = record { locals = t15; slots = life0 ∷ List.[] }
+        G18 = record { locals = t14; slots = life0 ∷ List.[] }
 
         abbrev G19 : Row.Cx
-        G19 = record { locals = t16; slots = life0 ∷ List.[] }
+        G19 = record { locals = t15; slots = life0 ∷ List.[] }
 
         abbrev G20 : Row.Cx
-        G20 = record { locals = t17; slots = life0 ∷ List.[] }
+        G20 = record { locals = t16; slots = life0 ∷ List.[] }
 
         abbrev G21 : Row.Cx
-        G21 = record { locals = t18; slots = life0 ∷ List.[] }
+        G21 = record { locals = t16; slots = life0 ∷ List.[] }
 
         abbrev G22 : Row.Cx
-        G22 = record { locals = t18; slots = life0 ∷ List.[] }
+        G22 = record { locals = t16; slots = life0 ∷ List.[] }
 
         abbrev G23 : Row.Cx
-        G23 = record { locals = t18; slots = life0 ∷ List.[] }
+        G23 = record { locals = t6; slots = life0 ∷ List.[] }
 
         abbrev G24 : Row.Cx
-        G24 = record { locals = t6; slots = life0 ∷ List.[] }
+        G24 = record { locals = t17; slots = life0 ∷ List.[] }
 
         abbrev G25 : Row.Cx
-        G25 = record { locals = t19; slots = life0 ∷ List.[] }
+        G25 = record { locals = t18; slots = life0 ∷ List.[] }
 
         abbrev G26 : Row.Cx
-        G26 = record { locals = t20; slots = life0 ∷ List.[] }
+        G26 = record { locals = t19; slots = life0 ∷ List.[] }
 
         abbrev G27 : Row.Cx
-        G27 = record { locals = t21; slots = life0 ∷ List.[] }
+        G27 = record { locals = t20; slots = life0 ∷ List.[] }
 
         abbrev G28 : Row.Cx
-        G28 = record { locals = t22; slots = life0 ∷ List.[] }
-
-        abbrev G29 : Row.Cx
-        G29 = record { locals = t1; slots = life0 ∷ List.[] }
+        G28 = record { locals = t1; slots = life0 ∷ List.[] }
 
         abbrev Δ0 : Typed.Outs
         Δ0 = record { next = Option.none; exits = List.[]; returns = Option.some G1 }
@@ -820,230 +788,211 @@ module _ (claims· : Claims) where
           d0 = Typed.t-skip 𝓤 H A W 𝓣 E Δ4 tt
 
           d1 : Typed.Typed 𝓤 H A 𝓣 E G8 b5 Δ4 at1
-          d1 = Typed.g-pre 𝓤 H A W 𝓣 E G8 G10 b5 Δ4 (Typed.pass T8 T10 s6) at0 (Scalar.g-room 𝓤 H A W E G8 10
+          d1 = Typed.g-pre 𝓤 H A W 𝓣 E G8 G10 b5 Δ4 (Typed.pass T8 T10 s6) at0 (Scalar.g-room 𝓤 H A W E G8 9
               Syntax.tyBool (Scalar.room-sc 𝓤 H A W Row.sBool)) d0
 
-          d2 : Typed.Typed 𝓤 H A 𝓣 E G12 b6 Δ4 at2
+          d2 : Typed.Typed 𝓤 H A 𝓣 E G11 b6 Δ4 at2
           d2 = Typed.t-exit 𝓤 H A W 𝓣 E 1 Δ4 tt
 
-          d3 : Typed.Typed 𝓤 H A 𝓣 E G11 b6 Δ4 at3
-          d3 = Typed.g-pre 𝓤 H A W 𝓣 E G11 G12 b6 Δ4 (Typed.pass T11 T12 s8) at2 (Scalar.g-room 𝓤 H A W E G11 10
+          d3 : Typed.Typed 𝓤 H A 𝓣 E G8 b6 Δ4 at3
+          d3 = Typed.g-pre 𝓤 H A W 𝓣 E G8 G11 b6 Δ4 (Typed.pass T8 T11 s7) at2 (Scalar.g-room 𝓤 H A W E G8 9
               Syntax.tyBool (Scalar.room-sc 𝓤 H A W Row.sBool)) d2
 
-          d4 : Typed.Typed 𝓤 H A 𝓣 E G8 b6 Δ4 at4
-          d4 = Typed.g-pre 𝓤 H A W 𝓣 E G8 G11 b6 Δ4 (Typed.pass T8 T11 s7) at3 (Scalar.g-room 𝓤 H A W E G8 3 Laws'.mir (Local.room-whole
-              𝓤 H A W (Declared.row Question.the-type) Laws'.mir Path.refl)) d3
+          d4 : Typed.Typed 𝓤 H A 𝓣 E G8 b7 Δ4 at4
+          d4 = Scalar.t-cond 𝓤 H A W E 𝓣 G8 9 (λ x. x) b5 b6 Δ4 at1 at3 (Scalar.reads-sc 𝓤 H A W Row.sBool) Path.refl
+              d1 d3
 
-          d5 : Typed.Typed 𝓤 H A 𝓣 E G8 b7 Δ4 at5
-          d5 = Scalar.t-cond 𝓤 H A W E 𝓣 G8 10 (λ x. x) b5 b6 Δ4 at1 at4 (Scalar.reads-sc 𝓤 H A W Row.sBool) Path.refl
-              d1 d4
-
-          d6 : Typed.Typed 𝓤 H A 𝓣 E G22 b14 Δ3 at6
-          d6 = Typed.s-typed 𝓤 H A W 𝓣 E G22 b14 Δ3 (λ Ψ. Typed.ask s19 (Typed.pass T23 T24 s20 Ψ)) tt (Typed.g-post 𝓤
-              H A W 𝓣 E G22 G23 G24 b14 (Typed.ask s19) (Typed.pass T23 T24 s20) (Scalar.t-op2 𝓤 H A W E 𝓣 G22
-              (Syntax.add Syntax.unsigned) (Scalar.oAt 7 (Syntax.tyInt Syntax.w64) (Row.valS (Row.sInt Syntax.w64)))
-              (Scalar.oInt Syntax.w64 1) 7 (Rows.sc-here (Row.sInt Syntax.w64)) (Syntax.tyInt Syntax.w64)
+          d5 : Typed.Typed 𝓤 H A 𝓣 E G21 b14 Δ3 at5
+          d5 = Typed.s-typed 𝓤 H A W 𝓣 E G21 b14 Δ3 (λ Ψ. Typed.ask s18 (Typed.pass T22 T23 s19 Ψ)) tt (Typed.g-post 𝓤
+              H A W 𝓣 E G21 G22 G23 b14 (Typed.ask s18) (Typed.pass T22 T23 s19) (Scalar.t-op2 𝓤 H A W E 𝓣 G21
+              (Syntax.add Syntax.unsigned) (Scalar.oAt 6 (Syntax.tyInt Syntax.w64) (Row.valS (Row.sInt Syntax.w64)))
+              (Scalar.oInt Syntax.w64 1) 6 (Rows.sc-here (Row.sInt Syntax.w64)) (Syntax.tyInt Syntax.w64)
               (Row.valS (Row.sInt Syntax.w64)) (Row.sInt Syntax.w64 .of)
               (Scalar.reads-sc 𝓤 H A W (Row.sInt Syntax.w64), Path.refl) tt
               (Scalar.room-sc 𝓤 H A W (Row.sInt Syntax.w64)) (Scalar.holds-sc 𝓤 H A W (Row.sInt Syntax.w64)) Path.refl
-              (λ u. Path.refl) λ u. tt) (Scalar.g-room 𝓤 H A W E G23 9 Syntax.tyBool
+              (λ u. Path.refl) λ u. tt) (Scalar.g-room 𝓤 H A W E G22 8 Syntax.tyBool
               (Scalar.room-sc 𝓤 H A W Row.sBool)))
 
-          d7 : Typed.Typed 𝓤 H A 𝓣 E G21 b15 Δ3 at7
-          d7 = Typed.s-seq 𝓤 H A W 𝓣 E G21 G22 b13 b14 Δ3 (Typed.both s18) at6 (Plain.t-call-plain 𝓤 H A W 𝓣 0 ps·2 r·2
-              (claims· .4) (claims· .5) "hnsr_circuit::tables::scan::one_more" (known .2) E (λ pos β. β) G21
-              (Num.vAt 6 λ x. x, (Bool.bAt 9 λ x. x, tt)) 6 List.[] (Call.sub-id 𝓤 H A W (G21 .slots)) (
+          d6 : Typed.Typed 𝓤 H A 𝓣 E G20 b15 Δ3 at6
+          d6 = Typed.s-seq 𝓤 H A W 𝓣 E G20 G21 b13 b14 Δ3 (Typed.both s17) at5 (Plain.t-call-plain 𝓤 H A W 𝓣 0 ps·2 r·2
+              (claims· .4) (claims· .5) "hnsr_circuit::tables::scan::one_more" (known .2) E (λ pos β. β) G20
+              (Num.vAt 5 λ x. x, (Bool.bAt 8 λ x. x, tt)) 5 List.[] (Call.sub-id 𝓤 H A W (G20 .slots)) (
                 (Scalar.reads-sc 𝓤 H A W (Row.sInt Syntax.w64), Path.refl),
                 ((Scalar.reads-sc 𝓤 H A W Row.sBool, Path.refl), tt),
-              ) (Scalar.room-sc 𝓤 H A W (Row.sInt Syntax.w64)) tt Path.refl) d6
+              ) (Scalar.room-sc 𝓤 H A W (Row.sInt Syntax.w64)) tt Path.refl) d5
 
-          d8 : Typed.Typed 𝓤 H A 𝓣 E G20 b15 Δ3 at8
-          d8 = Typed.g-pre 𝓤 H A W 𝓣 E G20 G21 b15 Δ3 (Typed.pass T20 T21 s17) at7 (Scalar.g-room 𝓤 H A W E G20 8
-              RelayPending.ty (Local.room-whole 𝓤 H A W RelayPending.row RelayPending.ty Path.refl)) d7
+          d7 : Typed.Typed 𝓤 H A 𝓣 E G19 b15 Δ3 at7
+          d7 = Typed.g-pre 𝓤 H A W 𝓣 E G19 G20 b15 Δ3 (Typed.pass T19 T20 s16) at6 (Scalar.g-room 𝓤 H A W E G19 7
+              RelayPending.ty (Local.room-whole 𝓤 H A W RelayPending.row RelayPending.ty Path.refl)) d6
 
-          d9 : Typed.Typed 𝓤 H A 𝓣 E G19 b16 Δ3 at9
-          d9 = Typed.s-seq 𝓤 H A W 𝓣 E G19 G20 b12 b15 Δ3 (Typed.both s16) at8 (Plain.t-call-plain 𝓤 H A W 𝓣 0 ps·1 r·1
-              (claims· .2) (claims· .3) "hnsr_circuit::tables::question::pending_has" (known .1) E (λ pos β. β) G19 (
-                record { pos = 8; st = List.[]; d = 0; at = λ x. x },
-                (record { pos = 3; st = List.[]; d = 0; at = λ x. x }, tt),
-              ) 9 List.[] (Call.sub-id 𝓤 H A W (G19 .slots)) (
+          d8 : Typed.Typed 𝓤 H A 𝓣 E G18 b16 Δ3 at8
+          d8 = Typed.s-seq 𝓤 H A W 𝓣 E G18 G19 b12 b15 Δ3 (Typed.both s15) at7 (Plain.t-call-plain 𝓤 H A W 𝓣 0 ps·1 r·1
+              (claims· .2) (claims· .3) "hnsr_circuit::records::pending::is_pending" (known .1) E (λ pos β. β) G18
+              (record { pos = 7; st = List.[]; d = 0; at = λ x. x }, tt) 8 List.[] (Call.sub-id 𝓤 H A W (G18 .slots)) (
                 (
                   Yields.yields-copy 𝓤 H A W (λ ρ. Unit) RelayPending.row Path.refl (RelayPending.copies .copy 𝓤 H A W)
                       RelayPending.held (λ x. x) (λ x. x) (λ ρ told. Local.mem-whole 𝓤 H A W RelayPending.row ρ) λ ρ
                       told. Local.whole-mem 𝓤 H A W RelayPending.row ρ,
                   Path.refl,
                 ),
-                (
-                  (
-                    Yields.yields-copy 𝓤 H A W (λ ρ. Unit) (Declared.row Question.the-type) Path.refl (Copies.cStruct
-                        Question.the-type Laws'.the-laws Laws'.the-copy .copy 𝓤 H A W)
-                        (Rows.whole (Declared.row Question.the-type)) (λ x. x) (λ x. x) (λ ρ told. Local.mem-whole 𝓤 H
-                        A W (Declared.row Question.the-type) ρ) λ ρ told. Local.whole-mem 𝓤 H A W
-                        (Declared.row Question.the-type) ρ,
-                    Path.refl,
-                  ),
-                  tt,
-                ),
-              ) (Reads'.room-gone 𝓤 H A Syntax.tyBool) tt Path.refl) d8
+                tt,
+              ) (Reads'.room-gone 𝓤 H A Syntax.tyBool) tt Path.refl) d7
 
-          d10 : Typed.Typed 𝓤 H A 𝓣 E G18 b16 Δ3 at10
-          d10 = Typed.g-pre 𝓤 H A W 𝓣 E G18 G19 b16 Δ3 (Typed.pass T18 T19 s15) at9 (Scalar.g-room 𝓤 H A W E G18 13
-              RelayPending.ty (Local.room-whole 𝓤 H A W RelayPending.row RelayPending.ty Path.refl)) d9
+          d9 : Typed.Typed 𝓤 H A 𝓣 E G17 b16 Δ3 at9
+          d9 = Typed.g-pre 𝓤 H A W 𝓣 E G17 G18 b16 Δ3 (Typed.pass T17 T18 s14) at8 (Scalar.g-room 𝓤 H A W E G17 12
+              RelayPending.ty (Local.room-whole 𝓤 H A W RelayPending.row RelayPending.ty Path.refl)) d8
 
-          d11 : Typed.Typed 𝓤 H A 𝓣 E G17 b17 Δ3 at11
-          d11 = Typed.s-seq 𝓤 H A W 𝓣 E G17 G18 b11 b16 Δ3 (Typed.pass T17 T18 s14) at10 (LocalCopy.t-val-copy 𝓤 H A W
-              E 𝓣 (λ ρ. Unit) G17 13 8 RelayPending.row RelayPending.ty RelayPending.ty RelayPending.held
-              RelayPending.held (λ x. x) (λ x. x) (λ x. x) Path.refl (Own.told-none 𝓤 H A (G17 .slots)) (Yields.yields-copy
+          d10 : Typed.Typed 𝓤 H A 𝓣 E G16 b17 Δ3 at10
+          d10 = Typed.s-seq 𝓤 H A W 𝓣 E G16 G17 b11 b16 Δ3 (Typed.pass T16 T17 s13) at9 (LocalCopy.t-val-copy 𝓤 H A W E
+              𝓣 (λ ρ. Unit) G16 12 7 RelayPending.row RelayPending.ty RelayPending.ty RelayPending.held
+              RelayPending.held (λ x. x) (λ x. x) (λ x. x) Path.refl (Own.told-none 𝓤 H A (G16 .slots)) (Yields.yields-copy
               𝓤 H A W (λ ρ. Unit) RelayPending.row Path.refl (RelayPending.copies .copy 𝓤 H A W) RelayPending.held
               (λ x. x) (λ x. x) (λ ρ told. Local.mem-whole 𝓤 H A W RelayPending.row ρ) λ ρ told. Local.whole-mem 𝓤 H A
               W RelayPending.row ρ) (Reads'.room-gone 𝓤 H A RelayPending.ty) (Yields.makes-mem 𝓤 H A W (λ ρ. Unit)
               RelayPending.row Path.refl RelayPending.held (λ x. x) λ ρ told. Local.whole-mem 𝓤 H A W RelayPending.row
-              ρ) Path.refl Path.refl) d10
+              ρ) Path.refl Path.refl) d9
 
-          d12 : Typed.Typed 𝓤 H A 𝓣 E G16 b17 Δ3 at12
-          d12 = Typed.g-pre 𝓤 H A W 𝓣 E G16 G17 b17 Δ3 (Typed.pass T16 T17 s13) at11 (Scalar.g-room 𝓤 H A W E G16 12
-              Syntax.tyPtr (Scalar.room-sc 𝓤 H A W Row.sPtr)) d11
+          d11 : Typed.Typed 𝓤 H A 𝓣 E G15 b17 Δ3 at11
+          d11 = Typed.g-pre 𝓤 H A W 𝓣 E G15 G16 b17 Δ3 (Typed.pass T15 T16 s12) at10 (Scalar.g-room 𝓤 H A W E G15 11
+              Syntax.tyPtr (Scalar.room-sc 𝓤 H A W Row.sPtr)) d10
 
-          d13 : Typed.Typed 𝓤 H A 𝓣 E G15 b17 Δ3 at13
-          d13 = Typed.g-pre 𝓤 H A W 𝓣 E G15 G16 b17 Δ3 (Typed.pass T15 T16 s12) at12 (Scalar.g-room 𝓤 H A W E G15 11
-              (Syntax.tyInt Syntax.w64) (Scalar.room-sc 𝓤 H A W (Row.sInt Syntax.w64))) d12
+          d12 : Typed.Typed 𝓤 H A 𝓣 E G14 b17 Δ3 at12
+          d12 = Typed.g-pre 𝓤 H A W 𝓣 E G14 G15 b17 Δ3 (Typed.pass T14 T15 s11) at11 (Scalar.g-room 𝓤 H A W E G14 10
+              (Syntax.tyInt Syntax.w64) (Scalar.room-sc 𝓤 H A W (Row.sInt Syntax.w64))) d11
 
-          d14 : Typed.Typed 𝓤 H A 𝓣 E G14 b18 Δ3 at14
-          d14 = Typed.s-seq 𝓤 H A W 𝓣 E G14 G15 b10 b17 Δ3 (Typed.both s11) at13 (Move.t-shs-copy-out 𝓤 H A W E
+          d13 : Typed.Typed 𝓤 H A 𝓣 E G13 b18 Δ3 at13
+          d13 = Typed.s-seq 𝓤 H A W 𝓣 E G13 G14 b10 b17 Δ3 (Typed.both s10) at12 (Move.t-shs-copy-out 𝓤 H A W E
               RelayPending.row 𝓣 Path.refl (RelayPending.copies .copy 𝓤 H A W)
-              (Copies.halved 𝓤 H A W RelayPending.copies) (λ ρ. Unit) G14 1 12 13 0 ref0 life0 RelayPending.ty
-              RelayPending.ty RelayPending.held (Shared.bySize 360) (λ u. u .1 .1 .1 .1 .1 .1 .1 .0) (λ x. x)
+              (Copies.halved 𝓤 H A W RelayPending.copies) (λ ρ. Unit) G13 1 11 12 0 ref0 life0 RelayPending.ty
+              RelayPending.ty RelayPending.held (Shared.bySize 360) (λ u. u .1 .1 .1 .1 .1 .1 .0) (λ x. x)
               RelayPending.none (λ x. Unit) (λ x. x) (λ x. x) (λ i o. Elements.at-mul o 360 i) Path.refl Path.refl
-              (Own.told-none 𝓤 H A (G14 .slots)) (DerefMove.learns-nothing 𝓤 H A RelayPending.row)
+              (Own.told-none 𝓤 H A (G13 .slots)) (DerefMove.learns-nothing 𝓤 H A RelayPending.row)
               (Reads'.as-is 𝓤 H A (Rows.sslice RelayPending.row ref0 0)) (Reads'.as-is 𝓤 H A (Rows.sc-here Row.sPtr))
               (Reads'.room-gone 𝓤 H A RelayPending.ty) (Yields.makes-mem 𝓤 H A W (λ ρ. Unit) RelayPending.row Path.refl
               RelayPending.held (λ x. x) λ ρ told. Local.whole-mem 𝓤 H A W RelayPending.row ρ) Path.refl tt Path.refl
-              Path.refl) d13
+              Path.refl) d12
 
-          d15 : Typed.Typed 𝓤 H A 𝓣 E G13 b19 Δ3 at15
-          d15 = Typed.s-seq 𝓤 H A W 𝓣 E G13 G14 b9 b18 Δ3 (Typed.ask s10) at14 (Scalar.t-op2 𝓤 H A W E 𝓣 G13
-              Syntax.offset (Scalar.oFld 1 ((Syntax.field 0) ∷ List.[]) ref0 0 Reads'.ptrVal) (Scalar.oAt 11
-              (Syntax.tyInt Syntax.w64) (Row.valS (Row.sInt Syntax.w64))) 12 (Rows.sc-here Row.sPtr) Syntax.tyPtr
+          d14 : Typed.Typed 𝓤 H A 𝓣 E G12 b19 Δ3 at14
+          d14 = Typed.s-seq 𝓤 H A W 𝓣 E G12 G13 b9 b18 Δ3 (Typed.ask s9) at13 (Scalar.t-op2 𝓤 H A W E 𝓣 G12
+              Syntax.offset (Scalar.oFld 1 ((Syntax.field 0) ∷ List.[]) ref0 0 Reads'.ptrVal) (Scalar.oAt 10
+              (Syntax.tyInt Syntax.w64) (Row.valS (Row.sInt Syntax.w64))) 11 (Rows.sc-here Row.sPtr) Syntax.tyPtr
               (Row.valS Row.sPtr) (Row.sPtr .of) (
                 Shared.reads-sslice-ptr 𝓤 H A W RelayPending.row ref0 0 0 Path.refl,
                 Path.refl,
               ) (Scalar.reads-sc 𝓤 H A W (Row.sInt Syntax.w64), Path.refl) (Reads'.room-gone 𝓤 H A Syntax.tyPtr)
-              (Scalar.holds-sc 𝓤 H A W Row.sPtr) Path.refl (λ u. Path.refl) λ u. tt) d14
+              (Scalar.holds-sc 𝓤 H A W Row.sPtr) Path.refl (λ u. Path.refl) λ u. tt) d13
 
-          d16 : Typed.Typed 𝓤 H A 𝓣 E G9 b20 Δ3 at16
-          d16 = Typed.s-seq 𝓤 H A W 𝓣 E G9 G13 b8 b19 Δ3 (Typed.ask s9) at15 (Scalar.t-op2 𝓤 H A W E 𝓣 G9
-              (Syntax.mul Syntax.unsigned) (Scalar.oAt 7 (Syntax.tyInt Syntax.w64) (Row.valS (Row.sInt Syntax.w64)))
-              (Scalar.oInt Syntax.w64 360) 11 (Rows.sc-here (Row.sInt Syntax.w64)) (Syntax.tyInt Syntax.w64)
+          d15 : Typed.Typed 𝓤 H A 𝓣 E G9 b20 Δ3 at15
+          d15 = Typed.s-seq 𝓤 H A W 𝓣 E G9 G12 b8 b19 Δ3 (Typed.ask s8) at14 (Scalar.t-op2 𝓤 H A W E 𝓣 G9
+              (Syntax.mul Syntax.unsigned) (Scalar.oAt 6 (Syntax.tyInt Syntax.w64) (Row.valS (Row.sInt Syntax.w64)))
+              (Scalar.oInt Syntax.w64 360) 10 (Rows.sc-here (Row.sInt Syntax.w64)) (Syntax.tyInt Syntax.w64)
               (Row.valS (Row.sInt Syntax.w64)) (Row.sInt Syntax.w64 .of)
               (Scalar.reads-sc 𝓤 H A W (Row.sInt Syntax.w64), Path.refl) tt
               (Reads'.room-gone 𝓤 H A (Syntax.tyInt Syntax.w64)) (Scalar.holds-sc 𝓤 H A W (Row.sInt Syntax.w64))
-              Path.refl (λ u. Path.refl) λ u. tt) d15
+              Path.refl (λ u. Path.refl) λ u. tt) d14
 
-          d17 : Typed.Typed 𝓤 H A 𝓣 E G8 b21 Δ3 at17
-          d17 = Typed.t-seq 𝓤 H A W 𝓣 E G8 G9 b7 b20 Δ3 at5 at16 d5 d16
+          d16 : Typed.Typed 𝓤 H A 𝓣 E G8 b21 Δ3 at16
+          d16 = Typed.t-seq 𝓤 H A W 𝓣 E G8 G9 b7 b20 Δ3 at4 at15 d4 d15
 
-          d18 : Typed.Typed 𝓤 H A 𝓣 E G6 b22 Δ3 at18
-          d18 = Typed.s-seq 𝓤 H A W 𝓣 E G6 G8 b4 b21 Δ3 (Typed.ask s5) at17 (Scalar.t-op2 𝓤 H A W E 𝓣 G6
-              (Syntax.lt Syntax.unsigned) (Scalar.oAt 7 (Syntax.tyInt Syntax.w64) (Row.valS (Row.sInt Syntax.w64))) (Scalar.oAt
-              5 (Syntax.tyInt Syntax.w64) (Row.valS (Row.sInt Syntax.w64))) 10 (Rows.sc-here Row.sBool) Syntax.tyBool
+          d17 : Typed.Typed 𝓤 H A 𝓣 E G6 b22 Δ3 at17
+          d17 = Typed.s-seq 𝓤 H A W 𝓣 E G6 G8 b4 b21 Δ3 (Typed.ask s5) at16 (Scalar.t-op2 𝓤 H A W E 𝓣 G6
+              (Syntax.lt Syntax.unsigned) (Scalar.oAt 6 (Syntax.tyInt Syntax.w64) (Row.valS (Row.sInt Syntax.w64))) (Scalar.oAt
+              4 (Syntax.tyInt Syntax.w64) (Row.valS (Row.sInt Syntax.w64))) 9 (Rows.sc-here Row.sBool) Syntax.tyBool
               (Row.valS Row.sBool) (Row.sBool .of) (Scalar.reads-sc 𝓤 H A W (Row.sInt Syntax.w64), Path.refl)
               (Scalar.reads-sc 𝓤 H A W (Row.sInt Syntax.w64), Path.refl) (Reads'.room-gone 𝓤 H A Syntax.tyBool)
-              (Scalar.holds-sc 𝓤 H A W Row.sBool) Path.refl (λ u. Path.refl) λ u. tt) d17
+              (Scalar.holds-sc 𝓤 H A W Row.sBool) Path.refl (λ u. Path.refl) λ u. tt) d16
 
-          d19 : Typed.Typed 𝓤 H A 𝓣 E G6 b23 Δ2 at19
-          d19 = Typed.t-loop-by 𝓤 H A W 𝓣 E G6 b22 Δ2 put0 (λ u vs. Inv·0 (Row.get 1 (T6 .locals) u .now)
+          d18 : Typed.Typed 𝓤 H A 𝓣 E G6 b23 Δ2 at18
+          d18 = Typed.t-loop-by 𝓤 H A W 𝓣 E G6 b22 Δ2 put0 (λ u vs. Inv·0 (Row.get 1 (T6 .locals) u .now)
               (Row.get 3 (T6 .locals) u) (Row.get 4 (T6 .locals) u) (Row.get 5 (T6 .locals) u)
-              (Row.get 6 (T6 .locals) u) (Row.get 7 (T6 .locals) u) (vs .0) (vs .1)) (λ u vs. μ·0
-              (Row.get 1 (T6 .locals) u .now) (Row.get 3 (T6 .locals) u) (Row.get 4 (T6 .locals) u)
-              (Row.get 5 (T6 .locals) u) (Row.get 6 (T6 .locals) u) (Row.get 7 (T6 .locals) u) (vs .0) (vs .1)) at18
-              d18
+              (Row.get 6 (T6 .locals) u) (vs .0) (vs .1)) (λ u vs. μ·0 (Row.get 1 (T6 .locals) u .now)
+              (Row.get 3 (T6 .locals) u) (Row.get 4 (T6 .locals) u) (Row.get 5 (T6 .locals) u)
+              (Row.get 6 (T6 .locals) u) (vs .0) (vs .1)) at17 d17
 
-          d20 : Typed.Typed 𝓤 H A 𝓣 E G6 b24 Δ1 at20
-          d20 = Typed.t-block 𝓤 H A W 𝓣 E G6 b23 Δ1 at19 d19
+          d19 : Typed.Typed 𝓤 H A 𝓣 E G6 b24 Δ1 at19
+          d19 = Typed.t-block 𝓤 H A W 𝓣 E G6 b23 Δ1 at18 d18
 
-          d21 : Typed.Typed 𝓤 H A 𝓣 E G29 b26 Δ0 at21
-          d21 = Typed.t-return 𝓤 H A W 𝓣 E Δ0 tt
+          d20 : Typed.Typed 𝓤 H A 𝓣 E G28 b26 Δ0 at20
+          d20 = Typed.t-return 𝓤 H A W 𝓣 E Δ0 tt
 
-          d22 : Typed.Typed 𝓤 H A 𝓣 E G28 b26 Δ0 at22
-          d22 = Typed.g-pre 𝓤 H A W 𝓣 E G28 G29 b26 Δ0 (Typed.pass T28 T29 s25) at21 (Scalar.g-room 𝓤 H A W E G28 7
+          d21 : Typed.Typed 𝓤 H A 𝓣 E G27 b26 Δ0 at21
+          d21 = Typed.g-pre 𝓤 H A W 𝓣 E G27 G28 b26 Δ0 (Typed.pass T27 T28 s24) at20 (Scalar.g-room 𝓤 H A W E G27 6
+              (Syntax.tyInt Syntax.w64) (Scalar.room-sc 𝓤 H A W (Row.sInt Syntax.w64))) d20
+
+          d22 : Typed.Typed 𝓤 H A 𝓣 E G26 b26 Δ0 at22
+          d22 = Typed.g-pre 𝓤 H A W 𝓣 E G26 G27 b26 Δ0 (Typed.pass T26 T27 s23) at21 (Scalar.g-room 𝓤 H A W E G26 5
               (Syntax.tyInt Syntax.w64) (Scalar.room-sc 𝓤 H A W (Row.sInt Syntax.w64))) d21
 
-          d23 : Typed.Typed 𝓤 H A 𝓣 E G27 b26 Δ0 at23
-          d23 = Typed.g-pre 𝓤 H A W 𝓣 E G27 G28 b26 Δ0 (Typed.pass T27 T28 s24) at22 (Scalar.g-room 𝓤 H A W E G27 6
+          d23 : Typed.Typed 𝓤 H A 𝓣 E G25 b26 Δ0 at23
+          d23 = Typed.g-pre 𝓤 H A W 𝓣 E G25 G26 b26 Δ0 (Typed.pass T25 T26 s22) at22 (Scalar.g-room 𝓤 H A W E G25 4
               (Syntax.tyInt Syntax.w64) (Scalar.room-sc 𝓤 H A W (Row.sInt Syntax.w64))) d22
 
-          d24 : Typed.Typed 𝓤 H A 𝓣 E G26 b26 Δ0 at24
-          d24 = Typed.g-pre 𝓤 H A W 𝓣 E G26 G27 b26 Δ0 (Typed.pass T26 T27 s23) at23 (Scalar.g-room 𝓤 H A W E G26 5
+          d24 : Typed.Typed 𝓤 H A 𝓣 E G24 b26 Δ0 at24
+          d24 = Typed.g-pre 𝓤 H A W 𝓣 E G24 G25 b26 Δ0 (Typed.pass T24 T25 s21) at23 (Scalar.g-room 𝓤 H A W E G24 3
               (Syntax.tyInt Syntax.w64) (Scalar.room-sc 𝓤 H A W (Row.sInt Syntax.w64))) d23
 
-          d25 : Typed.Typed 𝓤 H A 𝓣 E G25 b26 Δ0 at25
-          d25 = Typed.g-pre 𝓤 H A W 𝓣 E G25 G26 b26 Δ0 (Typed.pass T25 T26 s22) at24 (Scalar.g-room 𝓤 H A W E G25 4
-              (Syntax.tyInt Syntax.w64) (Scalar.room-sc 𝓤 H A W (Row.sInt Syntax.w64))) d24
-
-          d26 : Typed.Typed 𝓤 H A 𝓣 E G7 b27 Δ0 at26
-          d26 = Typed.s-seq 𝓤 H A W 𝓣 E G7 G25 b25 b26 Δ0 (Typed.pass T7 T25 s21) at25 (Scalar.t-use 𝓤 H A W E 𝓣 G7 (Scalar.oAt
-              6 (Syntax.tyInt Syntax.w64) (Row.valS (Row.sInt Syntax.w64))) 0 (Rows.sc-here (Row.sInt Syntax.w64))
+          d25 : Typed.Typed 𝓤 H A 𝓣 E G7 b27 Δ0 at25
+          d25 = Typed.s-seq 𝓤 H A W 𝓣 E G7 G24 b25 b26 Δ0 (Typed.pass T7 T24 s20) at24 (Scalar.t-use 𝓤 H A W E 𝓣 G7 (Scalar.oAt
+              5 (Syntax.tyInt Syntax.w64) (Row.valS (Row.sInt Syntax.w64))) 0 (Rows.sc-here (Row.sInt Syntax.w64))
               (Syntax.tyInt Syntax.w64) (Row.valS (Row.sInt Syntax.w64)) (Row.sInt Syntax.w64 .of)
               (Scalar.reads-sc 𝓤 H A W (Row.sInt Syntax.w64), Path.refl)
               (Reads'.room-gone 𝓤 H A (Syntax.tyInt Syntax.w64)) (Scalar.holds-sc 𝓤 H A W (Row.sInt Syntax.w64))
-              Path.refl (λ u. Path.refl) λ u. tt) d25
+              Path.refl (λ u. Path.refl) λ u. tt) d24
 
-          d27 : Typed.Typed 𝓤 H A 𝓣 E G6 b28 Δ0 at27
-          d27 = Typed.t-seq 𝓤 H A W 𝓣 E G6 G7 b24 b27 Δ0 at20 at26 d20 d26
+          d26 : Typed.Typed 𝓤 H A 𝓣 E G6 b28 Δ0 at26
+          d26 = Typed.t-seq 𝓤 H A W 𝓣 E G6 G7 b24 b27 Δ0 at19 at25 d19 d25
 
-          d28 : Typed.Typed 𝓤 H A 𝓣 E G5 b29 Δ0 at28
-          d28 = Typed.s-seq 𝓤 H A W 𝓣 E G5 G6 b3 b28 Δ0 (Typed.pass T5 T6 s4) at27 (Scalar.t-use 𝓤 H A W E 𝓣 G5
-              (Scalar.oInt Syntax.w64 0) 7 (Rows.sc-here (Row.sInt Syntax.w64)) (Syntax.tyInt Syntax.w64)
+          d27 : Typed.Typed 𝓤 H A 𝓣 E G5 b29 Δ0 at27
+          d27 = Typed.s-seq 𝓤 H A W 𝓣 E G5 G6 b3 b28 Δ0 (Typed.pass T5 T6 s4) at26 (Scalar.t-use 𝓤 H A W E 𝓣 G5
+              (Scalar.oInt Syntax.w64 0) 6 (Rows.sc-here (Row.sInt Syntax.w64)) (Syntax.tyInt Syntax.w64)
+              (Row.valS (Row.sInt Syntax.w64)) (Row.sInt Syntax.w64 .of) tt
+              (Reads'.room-gone 𝓤 H A (Syntax.tyInt Syntax.w64)) (Scalar.holds-sc 𝓤 H A W (Row.sInt Syntax.w64))
+              Path.refl (λ u. Path.refl) λ u. tt) d26
+
+          d28 : Typed.Typed 𝓤 H A 𝓣 E G4 b30 Δ0 at28
+          d28 = Typed.s-seq 𝓤 H A W 𝓣 E G4 G5 b2 b29 Δ0 (Typed.pass T4 T5 s3) at27 (Scalar.t-use 𝓤 H A W E 𝓣 G4
+              (Scalar.oInt Syntax.w64 0) 5 (Rows.sc-here (Row.sInt Syntax.w64)) (Syntax.tyInt Syntax.w64)
               (Row.valS (Row.sInt Syntax.w64)) (Row.sInt Syntax.w64 .of) tt
               (Reads'.room-gone 𝓤 H A (Syntax.tyInt Syntax.w64)) (Scalar.holds-sc 𝓤 H A W (Row.sInt Syntax.w64))
               Path.refl (λ u. Path.refl) λ u. tt) d27
 
-          d29 : Typed.Typed 𝓤 H A 𝓣 E G4 b30 Δ0 at29
-          d29 = Typed.s-seq 𝓤 H A W 𝓣 E G4 G5 b2 b29 Δ0 (Typed.pass T4 T5 s3) at28 (Scalar.t-use 𝓤 H A W E 𝓣 G4
-              (Scalar.oInt Syntax.w64 0) 6 (Rows.sc-here (Row.sInt Syntax.w64)) (Syntax.tyInt Syntax.w64)
-              (Row.valS (Row.sInt Syntax.w64)) (Row.sInt Syntax.w64 .of) tt
-              (Reads'.room-gone 𝓤 H A (Syntax.tyInt Syntax.w64)) (Scalar.holds-sc 𝓤 H A W (Row.sInt Syntax.w64))
-              Path.refl (λ u. Path.refl) λ u. tt) d28
+          d29 : Typed.Typed 𝓤 H A 𝓣 E G3 b30 Δ0 at29
+          d29 = Typed.g-pre 𝓤 H A W 𝓣 E G3 G4 b30 Δ0 (Typed.pass T3 T4 s2) at28 (Scalar.g-room 𝓤 H A W E G3 2 Laws.mir (Local.room-whole
+              𝓤 H A W (Declared.row Places.the-type) Laws.mir Path.refl)) d28
 
-          d30 : Typed.Typed 𝓤 H A 𝓣 E G3 b30 Δ0 at30
-          d30 = Typed.g-pre 𝓤 H A W 𝓣 E G3 G4 b30 Δ0 (Typed.pass T3 T4 s2) at29 (Scalar.g-room 𝓤 H A W E G3 2 Laws.mir (Local.room-whole
-              𝓤 H A W (Declared.row Places.the-type) Laws.mir Path.refl)) d29
-
-          d31 : Typed.Typed 𝓤 H A 𝓣 E G2 b31 Δ0 at31
-          d31 = Typed.s-seq 𝓤 H A W 𝓣 E G2 G3 b1 b30 Δ0 (Typed.both s1) at30 (Plain.t-call-plain 𝓤 H A W 𝓣 0 ps·0 r·0
+          d30 : Typed.Typed 𝓤 H A 𝓣 E G2 b31 Δ0 at30
+          d30 = Typed.s-seq 𝓤 H A W 𝓣 E G2 G3 b1 b30 Δ0 (Typed.both s1) at29 (Plain.t-call-plain 𝓤 H A W 𝓣 0 ps·0 r·0
               (claims· .0) (claims· .1) "hns_encoding::numbers::min_usize" (known .0) E (λ pos β. β) G2 (
                 Num.vFld 2 ((Syntax.field 0) ∷ List.[]) 0 λ x. Places.struct .as-values x .0,
-                (Num.vAt 4 λ x. x, tt),
-              ) 5 List.[] (Call.sub-id 𝓤 H A W (G2 .slots)) (
+                (Num.vAt 3 λ x. x, tt),
+              ) 4 List.[] (Call.sub-id 𝓤 H A W (G2 .slots)) (
                 (
                   Reads.reads-field 𝓤 H A W Places.the-type Laws.the-laws 0 (Syntax.tyInt Syntax.w64) 0 Path.refl,
                   Path.refl,
                 ),
                 ((Scalar.reads-sc 𝓤 H A W (Row.sInt Syntax.w64), Path.refl), tt),
-              ) (Reads'.room-gone 𝓤 H A (Syntax.tyInt Syntax.w64)) tt Path.refl) d30
+              ) (Reads'.room-gone 𝓤 H A (Syntax.tyInt Syntax.w64)) tt Path.refl) d29
 
-          d32 : Typed.Typed 𝓤 H A 𝓣 E G0 b32 Δ0 at32
-          d32 = Typed.s-seq 𝓤 H A W 𝓣 E G0 G2 b0 b31 Δ0 (Typed.pass T0 T2 s0) at31 (Scalar.t-use 𝓤 H A W E 𝓣 G0 (Scalar.oFld
-              1 ((Syntax.field 1) ∷ List.[]) (Syntax.tyInt Syntax.w64) 8 Shared.lenV) 4
+          d31 : Typed.Typed 𝓤 H A 𝓣 E G0 b32 Δ0 at31
+          d31 = Typed.s-seq 𝓤 H A W 𝓣 E G0 G2 b0 b31 Δ0 (Typed.pass T0 T2 s0) at30 (Scalar.t-use 𝓤 H A W E 𝓣 G0 (Scalar.oFld
+              1 ((Syntax.field 1) ∷ List.[]) (Syntax.tyInt Syntax.w64) 8 Shared.lenV) 3
               (Rows.sc-here (Row.sInt Syntax.w64)) (Syntax.tyInt Syntax.w64) (Row.valS (Row.sInt Syntax.w64))
               (Row.sInt Syntax.w64 .of) (
                 Shared.reads-sslice-len 𝓤 H A W RelayPending.row ref0 0 8 Path.refl,
                 Path.refl,
               ) (Reads'.room-gone 𝓤 H A (Syntax.tyInt Syntax.w64)) (Scalar.holds-sc 𝓤 H A W (Row.sInt Syntax.w64))
-              Path.refl (λ u. Path.refl) λ u. tt) d31
+              Path.refl (λ u. Path.refl) λ u. tt) d30
 
           pub typed : Typed.Typed 𝓤 H A 𝓣 E (Function.Γin 1 ps r xs m κs qs) b32 (Function.Δret 1 ps r xs m κs qs) Φ
-          typed = d32
+          typed = d31
 
       module _ (κs : Lifetimes.Lfts 1) where
         pub record Args : Type 0 where
           pub pending : Kinds.Den {n = 1} κs (ShrSlice.pShrS RelayPending.row 0 tt)
           pub places : Kinds.Den {n = 1} κs (StructRow.param Places.the-type Laws.the-laws Laws.the-copy Laws.the-plain)
-          pub question : Kinds.Den {n = 1} κs (StructRow.param Question.the-type Laws'.the-laws Laws'.the-copy
-              Laws'.the-plain)
 
         abbrev pub dens : (a : Args) → Kinds.Dens κs ps
-        dens = λ a. (a .pending, (a .places, (a .question, tt)))
+        dens = λ a. (a .pending, (a .places, tt))
 
       abbrev pub m0 : (κs : Lifetimes.Lfts 1) → (args : Args κs) → Typed.Mo T0
       m0 = λ κs args. (tt, Enter.partsP κs 1 ps xs (dens κs args))
@@ -1093,7 +1042,7 @@ module _ (claims· : Claims) where
       m5 = λ before given. s4 (m4 before given)
 
       abbrev W1 : (before : Start) → (given : s1 .gives (m1 (before .κs) (before .args))) → Typed.Want O1
-      W1 = λ before given. Typed.wantNext T7 O0 (at26 (W0 (before .κs) (before .args)))
+      W1 = λ before given. Typed.wantNext T7 O0 (at25 (W0 (before .κs) (before .args)))
           (W0 (before .κs) (before .args))
 
       abbrev W2 : (before : Start) → (given : s1 .gives (m1 (before .κs) (before .args))) → Typed.Want O2
@@ -1103,23 +1052,22 @@ module _ (claims· : Claims) where
       Need-loop-holds = (c : After-min-usize) → Inv·0 (Row.get 1 (T6 .locals) (m5 (c .before) (After-min-usize·gave c))
           .now) (Row.get 3 (T6 .locals) (m5 (c .before) (After-min-usize·gave c))) (Row.get 4 (T6 .locals)
           (m5 (c .before) (After-min-usize·gave c))) (Row.get 5 (T6 .locals) (m5 (c .before) (After-min-usize·gave c))) (Row.get
-          6 (T6 .locals) (m5 (c .before) (After-min-usize·gave c))) (Row.get 7 (T6 .locals)
-          (m5 (c .before) (After-min-usize·gave c))) (Row.get 6 (T6 .locals) (m5 (c .before) (After-min-usize·gave c))) (Row.get
-          7 (T6 .locals) (m5 (c .before) (After-min-usize·gave c)))
+          6 (T6 .locals) (m5 (c .before) (After-min-usize·gave c))) (Row.get 5 (T6 .locals)
+          (m5 (c .before) (After-min-usize·gave c))) (Row.get 6 (T6 .locals) (m5 (c .before) (After-min-usize·gave c)))
 
       abbrev pub m6 : (before : After-min-usize) → (counted : Rows.sc-here (Row.sInt Syntax.w64) .Mod) →
           (i : Rows.sc-here (Row.sInt Syntax.w64) .Mod) → Typed.Mo T6
-      m6 = λ before counted i. Row.set 7 (7, Rows.sc-here (Row.sInt Syntax.w64)) i (Row.setRow 6
-          (6, Rows.sc-here (Row.sInt Syntax.w64)) (T6 .locals)) (Row.set 6 (6, Rows.sc-here (Row.sInt Syntax.w64))
+      m6 = λ before counted i. Row.set 6 (6, Rows.sc-here (Row.sInt Syntax.w64)) i (Row.setRow 5
+          (5, Rows.sc-here (Row.sInt Syntax.w64)) (T6 .locals)) (Row.set 5 (5, Rows.sc-here (Row.sInt Syntax.w64))
           counted (T6 .locals) (m5 (before .before) (After-min-usize·gave before)))
 
       abbrev W3 : (before : After-min-usize) → (counted : Rows.sc-here (Row.sInt Syntax.w64) .Mod) →
           (i : Rows.sc-here (Row.sInt Syntax.w64) .Mod) → Typed.Want O3
       W3 = λ before counted i. Typed.inLoop T6 O2 (Typed.Round T6 O2 put0 (λ u vs. Inv·0
           (Row.get 1 (T6 .locals) u .now) (Row.get 3 (T6 .locals) u) (Row.get 4 (T6 .locals) u)
-          (Row.get 5 (T6 .locals) u) (Row.get 6 (T6 .locals) u) (Row.get 7 (T6 .locals) u) (vs .0) (vs .1)) (λ u vs.
-          μ·0 (Row.get 1 (T6 .locals) u .now) (Row.get 3 (T6 .locals) u) (Row.get 4 (T6 .locals) u)
-          (Row.get 5 (T6 .locals) u) (Row.get 6 (T6 .locals) u) (Row.get 7 (T6 .locals) u) (vs .0) (vs .1)) at18
+          (Row.get 5 (T6 .locals) u) (Row.get 6 (T6 .locals) u) (vs .0) (vs .1)) (λ u vs. μ·0
+          (Row.get 1 (T6 .locals) u .now) (Row.get 3 (T6 .locals) u) (Row.get 4 (T6 .locals) u)
+          (Row.get 5 (T6 .locals) u) (Row.get 6 (T6 .locals) u) (vs .0) (vs .1)) at17
           (m5 (before .before) (After-min-usize·gave before)) (counted, i))
           (W2 (before .before) (After-min-usize·gave before))
 
@@ -1129,7 +1077,7 @@ module _ (claims· : Claims) where
 
       abbrev W4 : (before : After-min-usize) → (counted : Rows.sc-here (Row.sInt Syntax.w64) .Mod) →
           (i : Rows.sc-here (Row.sInt Syntax.w64) .Mod) → Typed.Want O4
-      W4 = λ before counted i. Typed.wantNext T9 O3 (at16 (W3 before counted i)) (W3 before counted i)
+      W4 = λ before counted i. Typed.wantNext T9 O3 (at15 (W3 before counted i)) (W3 before counted i)
 
       module _ (before· : After-min-usize) where
         pub record At-loop·own : Type 0 where
@@ -1139,7 +1087,6 @@ module _ (claims· : Claims) where
               3 (T6 .locals) (m5 (before· .before) (After-min-usize·gave before·))) (Row.get 4 (T6 .locals)
               (m5 (before· .before) (After-min-usize·gave before·))) (Row.get 5 (T6 .locals)
               (m5 (before· .before) (After-min-usize·gave before·))) (Row.get 6 (T6 .locals)
-              (m5 (before· .before) (After-min-usize·gave before·))) (Row.get 7 (T6 .locals)
               (m5 (before· .before) (After-min-usize·gave before·))) counted i
 
       pub record At-loop : Type 0 where
@@ -1148,8 +1095,8 @@ module _ (claims· : Claims) where
 
       module _ (before· : At-loop) where
         pub record In-loop·own : Type 0 where
-          pub taken : Nat._<_ (Row.get 7 (T6 .locals) (m6 (before· .before) (before· .loop .counted)
-              (before· .loop .i))) (Row.get 5 (T6 .locals) (m6 (before· .before) (before· .loop .counted)
+          pub taken : Nat._<_ (Row.get 6 (T6 .locals) (m6 (before· .before) (before· .loop .counted)
+              (before· .loop .i))) (Row.get 4 (T6 .locals) (m6 (before· .before) (before· .loop .counted)
               (before· .loop .i)))
 
       pub record In-loop : Type 0 where
@@ -1161,8 +1108,8 @@ module _ (claims· : Claims) where
 
       module _ (before· : At-loop) where
         pub record After-loop·own : Type 0 where
-          pub left : Nat._≤_ (Row.get 5 (T6 .locals) (m6 (before· .before) (before· .loop .counted) (before· .loop .i))) (Row.get
-              7 (T6 .locals) (m6 (before· .before) (before· .loop .counted) (before· .loop .i)))
+          pub left : Nat._≤_ (Row.get 4 (T6 .locals) (m6 (before· .before) (before· .loop .counted) (before· .loop .i))) (Row.get
+              6 (T6 .locals) (m6 (before· .before) (before· .loop .counted) (before· .loop .i)))
 
       pub record After-loop : Type 0 where
         pub before : At-loop
@@ -1171,101 +1118,98 @@ module _ (claims· : Claims) where
       abbrev pub m9 : (before : At-loop) → Typed.Mo T11
       m9 = λ before. s7 (m7 (before .before) (before .loop .counted) (before .loop .i))
 
-      abbrev pub m10 : (before : At-loop) → Typed.Mo T12
-      m10 = λ before. s8 (m9 before)
-
       abbrev pub Need-mul-row : Type 0
-      Need-mul-row = (c : In-loop) → s9 .asks (m8 (c .before))
+      Need-mul-row = (c : In-loop) → s8 .asks (m8 (c .before))
+
+      abbrev pub m10 : (before : At-loop) → Typed.Mo T12
+      m10 = λ before. s8 .next (m8 before)
 
       abbrev pub m11 : (before : At-loop) → Typed.Mo T13
-      m11 = λ before. s9 .next (m8 before)
-
-      abbrev pub m12 : (before : At-loop) → Typed.Mo T14
-      m12 = λ before. s10 .next (m11 before)
+      m11 = λ before. s9 .next (m10 before)
 
       abbrev pub Need-shared-slice-copy-out-row : Type 0
-      Need-shared-slice-copy-out-row = (c : In-loop) → Shared.InSlice T14 1 12 (λ x. x)
-          (λ u. u .1 .1 .1 .1 .1 .1 .1 .0) (m12 (c .before))
+      Need-shared-slice-copy-out-row = (c : In-loop) → Shared.InSlice T13 1 11 (λ x. x) (λ u. u .1 .1 .1 .1 .1 .1 .0)
+          (m11 (c .before))
 
-      abbrev pub m13 : (before : In-loop) → (given : s11 .gives (m12 (before .before))) → Typed.Mo T15
-      m13 = λ before given. s11 .next (m12 (before .before)) given
+      abbrev pub m12 : (before : In-loop) → (given : s10 .gives (m11 (before .before))) → Typed.Mo T14
+      m12 = λ before given. s10 .next (m11 (before .before)) given
 
-      abbrev pub m14 : (before : In-loop) → (given : s11 .gives (m12 (before .before))) → Typed.Mo T16
+      abbrev pub m13 : (before : In-loop) → (given : s10 .gives (m11 (before .before))) → Typed.Mo T15
+      m13 = λ before given. s11 (m12 before given)
+
+      abbrev pub m14 : (before : In-loop) → (given : s10 .gives (m11 (before .before))) → Typed.Mo T16
       m14 = λ before given. s12 (m13 before given)
 
-      abbrev pub m15 : (before : In-loop) → (given : s11 .gives (m12 (before .before))) → Typed.Mo T17
+      abbrev pub m15 : (before : In-loop) → (given : s10 .gives (m11 (before .before))) → Typed.Mo T17
       m15 = λ before given. s13 (m14 before given)
 
-      abbrev pub m16 : (before : In-loop) → (given : s11 .gives (m12 (before .before))) → Typed.Mo T18
+      abbrev pub m16 : (before : In-loop) → (given : s10 .gives (m11 (before .before))) → Typed.Mo T18
       m16 = λ before given. s14 (m15 before given)
-
-      abbrev pub m17 : (before : In-loop) → (given : s11 .gives (m12 (before .before))) → Typed.Mo T19
-      m17 = λ before given. s15 (m16 before given)
 
       module _ (before· : In-loop) where
         pub record After-row·own : Type 0 where
-          pub given : s11 .gives (m12 (before· .before))
+          pub given : s10 .gives (m11 (before· .before))
 
       pub record After-row : Type 0 where
         pub before : In-loop
         pub row : After-row·own before
 
-      abbrev pub Need-pending-has-requires : Type 0
-      Need-pending-has-requires = (c : After-row) → s16 .asks (m17 (c .before) (c .row .given))
+      abbrev pub Need-is-pending-requires : Type 0
+      Need-is-pending-requires = (c : After-row) → s15 .asks (m16 (c .before) (c .row .given))
 
-      abbrev pub m18 : (before : After-row) → (given : s16 .gives (m17 (before .before) (before .row .given))) →
-          Typed.Mo T20
-      m18 = λ before given. s16 .next (m17 (before .before) (before .row .given)) given
+      abbrev pub m17 : (before : After-row) → (given : s15 .gives (m16 (before .before) (before .row .given))) →
+          Typed.Mo T19
+      m17 = λ before given. s15 .next (m16 (before .before) (before .row .given)) given
 
       module _ (before· : After-row) where
-        abbrev pub After-pending-has·own : Type 0
-        After-pending-has·own = Called.Called ps·1 r·1 (claims· .3) T19 args16
-            (m17 (before· .before) (before· .row .given))
+        abbrev pub After-is-pending·own : Type 0
+        After-is-pending·own = Called.Called ps·1 r·1 (claims· .3) T18 args15
+            (m16 (before· .before) (before· .row .given))
 
-      pub record After-pending-has : Type 0 where
+      pub record After-is-pending : Type 0 where
         pub before : After-row
-        pub pending-has : After-pending-has·own before
+        pub is-pending : After-is-pending·own before
 
-      abbrev pub After-pending-has·gave : (c : After-pending-has) → s16 .gives
-          (m17 (c .before .before) (c .before .row .given))
-      After-pending-has·gave = λ c. Called.given ps·1 r·1 (claims· .3) T19 args16
-          (m17 (c .before .before) (c .before .row .given)) (c .pending-has)
+      abbrev pub After-is-pending·gave : (c : After-is-pending) → s15 .gives
+          (m16 (c .before .before) (c .before .row .given))
+      After-is-pending·gave = λ c. Called.given ps·1 r·1 (claims· .3) T18 args15
+          (m16 (c .before .before) (c .before .row .given)) (c .is-pending)
 
-      abbrev pub m19 : (before : After-row) → (given : s16 .gives (m17 (before .before) (before .row .given))) →
-          Typed.Mo T21
-      m19 = λ before given. s17 (m18 before given)
+      abbrev pub m18 : (before : After-row) → (given : s15 .gives (m16 (before .before) (before .row .given))) →
+          Typed.Mo T20
+      m18 = λ before given. s16 (m17 before given)
 
       abbrev pub Need-one-more-requires : Type 0
-      Need-one-more-requires = (c : After-pending-has) → s18 .asks (m19 (c .before) (After-pending-has·gave c))
+      Need-one-more-requires = (c : After-is-pending) → s17 .asks (m18 (c .before) (After-is-pending·gave c))
 
-      abbrev pub m20 : (before : After-pending-has) → (given : s18 .gives
-          (m19 (before .before) (After-pending-has·gave before))) → Typed.Mo T22
-      m20 = λ before given. s18 .next (m19 (before .before) (After-pending-has·gave before)) given
+      abbrev pub m19 : (before : After-is-pending) → (given : s17 .gives
+          (m18 (before .before) (After-is-pending·gave before))) → Typed.Mo T21
+      m19 = λ before given. s17 .next (m18 (before .before) (After-is-pending·gave before)) given
 
-      module _ (before· : After-pending-has) where
+      module _ (before· : After-is-pending) where
         abbrev pub After-one-more·own : Type 0
-        After-one-more·own = Called.Called ps·2 r·2 (claims· .5) T21 args18
-            (m19 (before· .before) (After-pending-has·gave before·))
+        After-one-more·own = Called.Called ps·2 r·2 (claims· .5) T20 args17
+            (m18 (before· .before) (After-is-pending·gave before·))
 
       pub record After-one-more : Type 0 where
-        pub before : After-pending-has
+        pub before : After-is-pending
         pub one-more : After-one-more·own before
 
-      abbrev pub After-one-more·gave : (c : After-one-more) → s18 .gives (m19 (c .before .before)
-          (After-pending-has·gave (c .before)))
-      After-one-more·gave = λ c. Called.given ps·2 r·2 (claims· .5) T21 args18 (m19 (c .before .before)
-          (After-pending-has·gave (c .before))) (c .one-more)
+      abbrev pub After-one-more·gave : (c : After-one-more) → s17 .gives (m18 (c .before .before)
+          (After-is-pending·gave (c .before)))
+      After-one-more·gave = λ c. Called.given ps·2 r·2 (claims· .5) T20 args17 (m18 (c .before .before)
+          (After-is-pending·gave (c .before))) (c .one-more)
 
       abbrev pub Need-add-i : Type 0
-      Need-add-i = (c : After-one-more) → s19 .asks (m20 (c .before) (After-one-more·gave c))
+      Need-add-i = (c : After-one-more) → s18 .asks (m19 (c .before) (After-one-more·gave c))
 
-      abbrev pub m21 : (before : After-pending-has) → (given : s18 .gives
-          (m19 (before .before) (After-pending-has·gave before))) → Typed.Mo T23
-      m21 = λ before given. s19 .next (m20 before given)
+      abbrev pub m20 : (before : After-is-pending) → (given : s17 .gives
+          (m18 (before .before) (After-is-pending·gave before))) → Typed.Mo T22
+      m20 = λ before given. s18 .next (m19 before given)
 
-      abbrev pub m22 : (before : After-pending-has) → (given : s18 .gives
-          (m19 (before .before) (After-pending-has·gave before))) → Typed.Mo T24
-      m22 = λ before given. s20 (m21 before given)
+      abbrev pub m21 : (before : After-is-pending) → (given : s17 .gives
+          (m18 (before .before) (After-is-pending·gave before))) → Typed.Mo T23
+      m21 = λ before given. s19 (m20 before given)
 
       abbrev pub Need-loop-less : Type 0
       Need-loop-less = (c : After-one-more) → Nat._<_ (μ·0 (Row.get 1 (T6 .locals) (m5
@@ -1278,10 +1222,8 @@ module _ (claims· : Claims) where
           (c .before .before .before .before .before .before) (After-min-usize·gave
           (c .before .before .before .before .before)))) (Row.get 6 (T6 .locals) (m5
           (c .before .before .before .before .before .before) (After-min-usize·gave
-          (c .before .before .before .before .before)))) (Row.get 7 (T6 .locals) (m5
-          (c .before .before .before .before .before .before) (After-min-usize·gave
-          (c .before .before .before .before .before)))) (Row.get 6 (T6 .locals)
-          (m22 (c .before) (After-one-more·gave c))) (Row.get 7 (T6 .locals) (m22 (c .before) (After-one-more·gave c)))) (μ·0 (Row.get
+          (c .before .before .before .before .before)))) (Row.get 5 (T6 .locals)
+          (m21 (c .before) (After-one-more·gave c))) (Row.get 6 (T6 .locals) (m21 (c .before) (After-one-more·gave c)))) (μ·0 (Row.get
           1 (T6 .locals) (m5 (c .before .before .before .before .before .before) (After-min-usize·gave
           (c .before .before .before .before .before))) .now) (Row.get 3 (T6 .locals) (m5
           (c .before .before .before .before .before .before) (After-min-usize·gave
@@ -1290,8 +1232,6 @@ module _ (claims· : Claims) where
           (c .before .before .before .before .before)))) (Row.get 5 (T6 .locals) (m5
           (c .before .before .before .before .before .before) (After-min-usize·gave
           (c .before .before .before .before .before)))) (Row.get 6 (T6 .locals) (m5
-          (c .before .before .before .before .before .before) (After-min-usize·gave
-          (c .before .before .before .before .before)))) (Row.get 7 (T6 .locals) (m5
           (c .before .before .before .before .before .before) (After-min-usize·gave
           (c .before .before .before .before .before)))) (c .before .before .before .before .loop .counted)
           (c .before .before .before .before .loop .i))
@@ -1307,13 +1247,14 @@ module _ (claims· : Claims) where
           (c .before .before .before .before .before .before) (After-min-usize·gave
           (c .before .before .before .before .before)))) (Row.get 6 (T6 .locals) (m5
           (c .before .before .before .before .before .before) (After-min-usize·gave
-          (c .before .before .before .before .before)))) (Row.get 7 (T6 .locals) (m5
-          (c .before .before .before .before .before .before) (After-min-usize·gave
-          (c .before .before .before .before .before)))) (Row.get 6 (T6 .locals)
-          (m22 (c .before) (After-one-more·gave c))) (Row.get 7 (T6 .locals) (m22 (c .before) (After-one-more·gave c)))
+          (c .before .before .before .before .before)))) (Row.get 5 (T6 .locals)
+          (m21 (c .before) (After-one-more·gave c))) (Row.get 6 (T6 .locals) (m21 (c .before) (After-one-more·gave c)))
+
+      abbrev pub m22 : (before : At-loop) → Typed.Mo T24
+      m22 = λ before. s20 (m9 before)
 
       abbrev pub m23 : (before : At-loop) → Typed.Mo T25
-      m23 = λ before. s21 (m10 before)
+      m23 = λ before. s21 (m22 before)
 
       abbrev pub m24 : (before : At-loop) → Typed.Mo T26
       m24 = λ before. s22 (m23 before)
@@ -1324,27 +1265,24 @@ module _ (claims· : Claims) where
       abbrev pub m26 : (before : At-loop) → Typed.Mo T28
       m26 = λ before. s24 (m25 before)
 
-      abbrev pub m27 : (before : At-loop) → Typed.Mo T29
-      m27 = λ before. s25 (m26 before)
-
       abbrev pub Need-returns : Type 0
       Need-returns = (c : After-loop) → Post· (c .before .before .before .κs) (dens (c .before .before .before .κs)
-          (c .before .before .before .args)) (Function.resV r (c .before .before .before .κs) (m27 (c .before) .0)) (Clauses.atExit
+          (c .before .before .before .args)) (Function.resV r (c .before .before .before .κs) (m26 (c .before) .0)) (Clauses.atExit
           (Kinds.endedOf 1 ps r) (c .before .before .before .κs) (dens (c .before .before .before .κs)
           (c .before .before .before .args)) (Enter.lastsP (c .before .before .before .κs) 1 ps xs (dens
-          (c .before .before .before .κs) (c .before .before .before .args)) (m27 (c .before) .1)))
+          (c .before .before .before .κs) (c .before .before .before .args)) (m26 (c .before) .1)))
 
       module _ (min-usize-requires : Need-min-usize-requires) (loop-holds : Need-loop-holds) (mul-row : Need-mul-row) (shared-slice-copy-out-row
-          : Need-shared-slice-copy-out-row) (pending-has-requires : Need-pending-has-requires)
+          : Need-shared-slice-copy-out-row) (is-pending-requires : Need-is-pending-requires)
           (one-more-requires : Need-one-more-requires) (add-i : Need-add-i) (loop-less : Need-loop-less)
           (loop-again : Need-loop-again) (returns : Need-returns) where
-        lay7 : (c : After-loop) → at26 (W0 (c .before .before .before .κs) (c .before .before .before .args))
-            (m10 (c .before))
-        lay7 = λ c. ((Path.refl, (tt, (tt, tt))), returns record { before = c .before; loop-test = c .loop-test })
+        lay7 : (c : After-loop) → at25 (W0 (c .before .before .before .κs) (c .before .before .before .args))
+            (m9 (c .before))
+        lay7 = λ c. ((Path.refl, (tt, tt)), returns record { before = c .before; loop-test = c .loop-test })
 
-        lay6 : (c : After-one-more) → at6 (W3 (c .before .before .before .before .before)
+        lay6 : (c : After-one-more) → at5 (W3 (c .before .before .before .before .before)
             (c .before .before .before .before .loop .counted) (c .before .before .before .before .loop .i))
-            (m20 (c .before) (After-one-more·gave c))
+            (m19 (c .before) (After-one-more·gave c))
         lay6 = λ c. (
           add-i record { before = c .before; one-more = c .one-more },
           (
@@ -1357,18 +1295,16 @@ module _ (claims· : Claims) where
                 (c .before .before .before .before .before .before) (After-min-usize·gave
                 (c .before .before .before .before .before)))) (Row.get 6 (T6 .locals) (m5
                 (c .before .before .before .before .before .before) (After-min-usize·gave
-                (c .before .before .before .before .before)))) (Row.get 7 (T6 .locals) (m5
-                (c .before .before .before .before .before .before) (After-min-usize·gave
-                (c .before .before .before .before .before)))) (Row.get 6 (T6 .locals)
-                (m22 (c .before) (After-one-more·gave c))) (Row.get 7 (T6 .locals)
-                (m22 (c .before) (After-one-more·gave c))),
+                (c .before .before .before .before .before)))) (Row.get 5 (T6 .locals)
+                (m21 (c .before) (After-one-more·gave c))) (Row.get 6 (T6 .locals)
+                (m21 (c .before) (After-one-more·gave c))),
             loop-less record { before = c .before; one-more = c .one-more },
             (
               (
-                Row.get 6 (T6 .locals) (m22 (c .before) (After-one-more·gave c)),
-                Row.get 7 (T6 .locals) (m22 (c .before) (After-one-more·gave c)),
+                Row.get 5 (T6 .locals) (m21 (c .before) (After-one-more·gave c)),
+                Row.get 6 (T6 .locals) (m21 (c .before) (After-one-more·gave c)),
               ),
-              Path.refl {a = m22 (c .before) (After-one-more·gave c)},
+              Path.refl {a = m21 (c .before) (After-one-more·gave c)},
               loop-again record { before = c .before; one-more = c .one-more },
               Path.refl {a = μ·0 (Row.get 1 (T6 .locals) (m5 (c .before .before .before .before .before .before) (After-min-usize·gave
                   (c .before .before .before .before .before))) .now) (Row.get 3 (T6 .locals) (m5
@@ -1379,27 +1315,25 @@ module _ (claims· : Claims) where
                   (c .before .before .before .before .before .before) (After-min-usize·gave
                   (c .before .before .before .before .before)))) (Row.get 6 (T6 .locals) (m5
                   (c .before .before .before .before .before .before) (After-min-usize·gave
-                  (c .before .before .before .before .before)))) (Row.get 7 (T6 .locals) (m5
-                  (c .before .before .before .before .before .before) (After-min-usize·gave
-                  (c .before .before .before .before .before)))) (Row.get 6 (T6 .locals)
-                  (m22 (c .before) (After-one-more·gave c))) (Row.get 7 (T6 .locals)
-                  (m22 (c .before) (After-one-more·gave c)))},
+                  (c .before .before .before .before .before)))) (Row.get 5 (T6 .locals)
+                  (m21 (c .before) (After-one-more·gave c))) (Row.get 6 (T6 .locals)
+                  (m21 (c .before) (After-one-more·gave c)))},
             ),
           ),
         )
 
-        lay5 : (c : After-pending-has) → at8 (W3 (c .before .before .before .before)
+        lay5 : (c : After-is-pending) → at7 (W3 (c .before .before .before .before)
             (c .before .before .before .loop .counted) (c .before .before .before .loop .i))
-            (m18 (c .before) (After-pending-has·gave c))
+            (m17 (c .before) (After-is-pending·gave c))
         lay5 = λ c. (
-          one-more-requires record { before = c .before; pending-has = c .pending-has },
+          one-more-requires record { before = c .before; is-pending = c .is-pending },
           λ g. lay6 record {
-            before = record { before = c .before; pending-has = c .pending-has };
-            one-more = Called.called ps·2 r·2 (claims· .5) T21 args18 (m19 (c .before) (After-pending-has·gave c)) g;
+            before = record { before = c .before; is-pending = c .is-pending };
+            one-more = Called.called ps·2 r·2 (claims· .5) T20 args17 (m18 (c .before) (After-is-pending·gave c)) g;
           },
         )
 
-        lay4 : (c : In-loop) → at16 (W3 (c .before .before) (c .before .loop .counted) (c .before .loop .i))
+        lay4 : (c : In-loop) → at15 (W3 (c .before .before) (c .before .loop .counted) (c .before .loop .i))
             (m8 (c .before))
         lay4 = λ c. (
           mul-row record { before = c .before; loop-test = c .loop-test },
@@ -1412,7 +1346,7 @@ module _ (claims· : Claims) where
                 shared-slice-copy-out-row record { before = c .before; loop-test = c .loop-test },
               ),
               λ g. (
-                pending-has-requires record {
+                is-pending-requires record {
                   before = record { before = c .before; loop-test = c .loop-test };
                   row = record { given = g };
                 },
@@ -1421,7 +1355,7 @@ module _ (claims· : Claims) where
                     before = record { before = c .before; loop-test = c .loop-test };
                     row = record { given = g };
                   };
-                  pending-has = Called.called ps·1 r·1 (claims· .3) T19 args16 (m17
+                  is-pending = Called.called ps·1 r·1 (claims· .3) T18 args15 (m16
                       record { before = c .before; loop-test = c .loop-test } g) g';
                 },
               ),
@@ -1429,7 +1363,7 @@ module _ (claims· : Claims) where
           ),
         )
 
-        lay3 : (c : After-loop) → at4 (W4 (c .before .before) (c .before .loop .counted) (c .before .loop .i)) (m7
+        lay3 : (c : After-loop) → at3 (W4 (c .before .before) (c .before .loop .counted) (c .before .loop .i)) (m7
             (c .before .before) (c .before .loop .counted) (c .before .loop .i))
         lay3 = λ c. lay7 record { before = c .before; loop-test = c .loop-test }
 
@@ -1437,13 +1371,13 @@ module _ (claims· : Claims) where
             (c .before .before) (c .before .loop .counted) (c .before .loop .i))
         lay2 = λ c. lay4 record { before = c .before; loop-test = c .loop-test }
 
-        lay1 : (c : After-min-usize) → at30 (W0 (c .before .κs) (c .before .args))
+        lay1 : (c : After-min-usize) → at29 (W0 (c .before .κs) (c .before .args))
             (m2 (c .before) (After-min-usize·gave c))
         lay1 = λ c. (
           (
             (
+              Row.get 5 (T6 .locals) (m5 (c .before) (After-min-usize·gave c)),
               Row.get 6 (T6 .locals) (m5 (c .before) (After-min-usize·gave c)),
-              Row.get 7 (T6 .locals) (m5 (c .before) (After-min-usize·gave c)),
             ),
             Path.refl {a = m5 (c .before) (After-min-usize·gave c)},
             loop-holds record { before = c .before; min-usize = c .min-usize },
@@ -1457,8 +1391,8 @@ module _ (claims· : Claims) where
                   loop = record { counted = vs .0; i = vs .1; inv = inv };
                 };
                 loop-test = record {
-                  taken = Tests.ltb-true (Row.get 7 (T6 .locals) (m6
-                      record { before = c .before; min-usize = c .min-usize } (vs .0) (vs .1))) (Row.get 5 (T6 .locals) (m6
+                  taken = Tests.ltb-true (Row.get 6 (T6 .locals) (m6
+                      record { before = c .before; min-usize = c .min-usize } (vs .0) (vs .1))) (Row.get 4 (T6 .locals) (m6
                       record { before = c .before; min-usize = c .min-usize } (vs .0) (vs .1))) taken;
                 };
               },
@@ -1468,8 +1402,8 @@ module _ (claims· : Claims) where
                   loop = record { counted = vs .0; i = vs .1; inv = inv };
                 };
                 loop-test = record {
-                  left = Tests.ltb-false (Row.get 7 (T6 .locals) (m6
-                      record { before = c .before; min-usize = c .min-usize } (vs .0) (vs .1))) (Row.get 5 (T6 .locals) (m6
+                  left = Tests.ltb-false (Row.get 6 (T6 .locals) (m6
+                      record { before = c .before; min-usize = c .min-usize } (vs .0) (vs .1))) (Row.get 4 (T6 .locals) (m6
                       record { before = c .before; min-usize = c .min-usize } (vs .0) (vs .1))) left;
                 };
               },
@@ -1477,7 +1411,7 @@ module _ (claims· : Claims) where
           ),
         )
 
-        pub laid : (c : Start) → at32 (W0 (c .κs) (c .args)) (m0 (c .κs) (c .args))
+        pub laid : (c : Start) → at31 (W0 (c .κs) (c .args)) (m0 (c .κs) (c .args))
         laid = λ c. (
           min-usize-requires c,
           λ g. lay1 record {
@@ -1492,7 +1426,7 @@ module _ (claims· : Claims) where
               (Function.init 1 ps r xs m κs qs a)
           asked = λ a good pre bs. laid record {
             κs = κs;
-            args = record { pending = a .0; places = a .1 .0; question = a .1 .1 .0 };
+            args = record { pending = a .0; places = a .1 .0 };
             good = good;
             pre = pre;
           }
@@ -1500,7 +1434,7 @@ module _ (claims· : Claims) where
         module _ {M : Type 1} (𝓤 : URA.URA M) (H : Wp.Heap 𝓤) (A : Atoms.Atoms 𝓤) (W : Kit.Given 𝓤 H A)
             (𝓣 : Wp.Tables 𝓤 H) (known0 : Plain.Known 𝓤 H A W 𝓣 0 ps·0 r·0 (claims· .0) (claims· .1)
             "hns_encoding::numbers::min_usize") (known1 : Plain.Known 𝓤 H A W 𝓣 0 ps·1 r·1 (claims· .2) (claims· .3)
-            "hnsr_circuit::tables::question::pending_has") (known2 : Plain.Known 𝓤 H A W 𝓣 0 ps·2 r·2 (claims· .4)
+            "hnsr_circuit::records::pending::is_pending") (known2 : Plain.Known 𝓤 H A W 𝓣 0 ps·2 r·2 (claims· .4)
             (claims· .5) "hnsr_circuit::tables::scan::one_more") where
           pub spec : Statement.Triple 𝓤 (Wp.WpFn 𝓤 H (𝓣 .C) (𝓣 .Λ) (Function.fnOf 1 ps r xs m hs body))
               (Function.plainOf 𝓤 H A 1 ps r Pre· Post·)

@@ -2,12 +2,14 @@
 use Prim.Native.Nat
 use Rattle.hnsr_circuit.proofs.By.RelayPending
 use Rattle.hnsr_circuit.proofs.StructRow
+use Rattle.hnsr_circuit.proofs.peer.HnsrPeerId
+use Rattle.hnsr_circuit.proofs.peer.HnsrPeerId.Laws
 use Rattle.hnsr_circuit.proofs.tables.places.Places
-use Rattle.hnsr_circuit.proofs.tables.places.Places.Laws
-use Rattle.hnsr_circuit.proofs.tables.question.Question
-use Rattle.hnsr_circuit.proofs.tables.question.Question.Laws as Laws'
+use Rattle.hnsr_circuit.proofs.tables.places.Places.Laws as Laws'
+use Rattle.hnsr_circuit.proofs.tables.question.RecordQuestion
+use Rattle.hnsr_circuit.proofs.tables.question.RecordQuestion.Laws as Laws''
 use Rattle.hnsr_circuit.proofs.tables.scan.Walked
-use Rattle.hnsr_circuit.proofs.tables.scan.Walked.Laws as Laws''
+use Rattle.hnsr_circuit.proofs.tables.scan.Walked.Laws as Laws'''
 use borrow.Author.Called
 use borrow.Author.Tests
 use borrow.Fn.Any
@@ -36,7 +38,8 @@ use borrow.Table.Row
 use borrow.Table.Rows
 use borrow.Table.Typed
 use contract.Lifetimes
-use denote.Struct.Declared
+use denote.Enum.Declared
+use denote.Struct.Declared as Declared'
 use denote.Triple.Clauses
 use denote.Triple.Statement
 use ghost.Atoms
@@ -53,16 +56,17 @@ abbrev ref0 : Syntax.Ty
 ref0 = Syntax.tyRef (Syntax.named 0) Syntax.imm RelayPending.to
 
 abbrev pub ps : List.List (Kinds.PK 1)
-ps = (ShrSlice.pShrS RelayPending.row 0 tt) ∷ (StructRow.param Places.the-type Laws.the-laws Laws.the-copy
-    Laws.the-plain) ∷ (StructRow.param Question.the-type Laws'.the-laws Laws'.the-copy Laws'.the-plain) ∷ (StructRow.param
-    Walked.the-type Laws''.the-laws Laws''.the-copy Laws''.the-plain) ∷ List.[]
+ps = (ShrSlice.pShrS RelayPending.row 0 tt) ∷ (StructRow.param Places.the-type Laws'.the-laws Laws'.the-copy
+    Laws'.the-plain) ∷ (StructRow.enum-param RecordQuestion.the-type Laws''.the-laws Laws''.the-copy Laws''.the-plain
+    tt) ∷ (StructRow.param HnsrPeerId.the-type Laws.the-laws Laws.the-copy Laws.the-plain) ∷ (StructRow.param
+    Walked.the-type Laws'''.the-laws Laws'''.the-copy Laws'''.the-plain) ∷ List.[]
 
 abbrev pub r : Kinds.RK 1
-r = StructRow.result Walked.the-type Laws''.the-laws Laws''.the-copy Laws''.the-plain
+r = StructRow.result Walked.the-type Laws'''.the-laws Laws'''.the-copy Laws'''.the-plain
 
 abbrev pub xs : List.List Syntax.Ty
-xs = (Syntax.tyInt Syntax.w64) ∷ (Syntax.tyInt Syntax.w64) ∷ Laws''.mir ∷ (Syntax.tyInt Syntax.w64) ∷ RelayPending.ty ∷
-    Syntax.tyBool ∷ (Syntax.tyInt Syntax.w64) ∷ Syntax.tyPtr ∷ RelayPending.ty ∷ List.[]
+xs = (Syntax.tyInt Syntax.w64) ∷ (Syntax.tyInt Syntax.w64) ∷ Laws'''.mir ∷ (Syntax.tyInt Syntax.w64) ∷ RelayPending.ty
+    ∷ Syntax.tyBool ∷ (Syntax.tyInt Syntax.w64) ∷ Syntax.tyPtr ∷ RelayPending.ty ∷ List.[]
 
 abbrev pub m : Nat.ℕ
 m = 0
@@ -77,37 +81,38 @@ abbrev pub ps·1 : List.List (Kinds.PK 0)
 ps·1 = List.[]
 
 abbrev pub r·1 : Kinds.RK 0
-r·1 = StructRow.result Walked.the-type Laws''.the-laws Laws''.the-copy Laws''.the-plain
+r·1 = StructRow.result Walked.the-type Laws'''.the-laws Laws'''.the-copy Laws'''.the-plain
 
 abbrev pub ps·2 : List.List (Kinds.PK 0)
-ps·2 = (StructRow.param Question.the-type Laws'.the-laws Laws'.the-copy Laws'.the-plain) ∷ (StructRow.param
-    Walked.the-type Laws''.the-laws Laws''.the-copy Laws''.the-plain) ∷ (StructRow.param Walked.the-type
-    Laws''.the-laws Laws''.the-copy Laws''.the-plain) ∷ RelayPending.param ∷ (Num.pNum Syntax.w64) ∷ List.[]
+ps·2 = (StructRow.enum-param RecordQuestion.the-type Laws''.the-laws Laws''.the-copy Laws''.the-plain tt) ∷ (StructRow.param
+    HnsrPeerId.the-type Laws.the-laws Laws.the-copy Laws.the-plain) ∷ (StructRow.param Walked.the-type Laws'''.the-laws
+    Laws'''.the-copy Laws'''.the-plain) ∷ (StructRow.param Walked.the-type Laws'''.the-laws Laws'''.the-copy
+    Laws'''.the-plain) ∷ RelayPending.param ∷ (Num.pNum Syntax.w64) ∷ List.[]
 
 abbrev pub r·2 : Kinds.RK 0
-r·2 = StructRow.result Walked.the-type Laws''.the-laws Laws''.the-copy Laws''.the-plain
+r·2 = StructRow.result Walked.the-type Laws'''.the-laws Laws'''.the-copy Laws'''.the-plain
 
 abbrev pub hs : List.List Syntax.Home
 hs = Syntax.valueLocal ∷ Syntax.valueLocal ∷ Syntax.valueLocal ∷ Syntax.valueLocal ∷ Syntax.valueLocal ∷
     Syntax.valueLocal ∷ Syntax.valueLocal ∷ Syntax.valueLocal ∷ Syntax.valueLocal ∷ Syntax.valueLocal ∷
-    Syntax.valueLocal ∷ Syntax.valueLocal ∷ Syntax.valueLocal ∷ Syntax.valueLocal ∷ List.[]
+    Syntax.valueLocal ∷ Syntax.valueLocal ∷ Syntax.valueLocal ∷ Syntax.valueLocal ∷ Syntax.valueLocal ∷ List.[]
 
 abbrev b0 : Syntax.Body
-b0 = Syntax.assign (Syntax.place 5 List.[]) (Syntax.rvOpd (Syntax.copy (Syntax.place 1 ((Syntax.field 1) ∷ List.[]))))
+b0 = Syntax.assign (Syntax.place 6 List.[]) (Syntax.rvOpd (Syntax.copy (Syntax.place 1 ((Syntax.field 1) ∷ List.[]))))
 
 abbrev b1 : Syntax.Body
 b1 = Syntax.call "hns_encoding::numbers::min_usize" ((Syntax.copy (Syntax.place 2 ((Syntax.field 0) ∷ List.[]))) ∷
-    (Syntax.copy (Syntax.place 5 List.[])) ∷ List.[]) (Syntax.place 6 List.[])
+    (Syntax.copy (Syntax.place 6 List.[])) ∷ List.[]) (Syntax.place 7 List.[])
 
 abbrev b2 : Syntax.Body
-b2 = Syntax.call "hnsr_circuit::tables::scan::not_yet" List.[] (Syntax.place 7 List.[])
+b2 = Syntax.call "hnsr_circuit::tables::scan::not_yet" List.[] (Syntax.place 8 List.[])
 
 abbrev b3 : Syntax.Body
-b3 = Syntax.assign (Syntax.place 8 List.[]) (Syntax.rvOpd (Syntax.int Syntax.w64 0))
+b3 = Syntax.assign (Syntax.place 9 List.[]) (Syntax.rvOpd (Syntax.int Syntax.w64 0))
 
 abbrev b4 : Syntax.Body
-b4 = Syntax.assign (Syntax.place 10 List.[]) (Syntax.op2 (Syntax.lt Syntax.unsigned)
-    (Syntax.copy (Syntax.place 8 List.[])) (Syntax.copy (Syntax.place 6 List.[])))
+b4 = Syntax.assign (Syntax.place 11 List.[]) (Syntax.op2 (Syntax.lt Syntax.unsigned)
+    (Syntax.copy (Syntax.place 9 List.[])) (Syntax.copy (Syntax.place 7 List.[])))
 
 abbrev b5 : Syntax.Body
 b5 = Syntax.skip
@@ -116,31 +121,32 @@ abbrev b6 : Syntax.Body
 b6 = Syntax.exit 1
 
 abbrev b7 : Syntax.Body
-b7 = Syntax.cond (Syntax.copy (Syntax.place 10 List.[])) b5 b6
+b7 = Syntax.cond (Syntax.copy (Syntax.place 11 List.[])) b5 b6
 
 abbrev b8 : Syntax.Body
-b8 = Syntax.assign (Syntax.place 11 List.[]) (Syntax.op2 (Syntax.mul Syntax.unsigned)
-    (Syntax.copy (Syntax.place 8 List.[])) (Syntax.int Syntax.w64 360))
+b8 = Syntax.assign (Syntax.place 12 List.[]) (Syntax.op2 (Syntax.mul Syntax.unsigned)
+    (Syntax.copy (Syntax.place 9 List.[])) (Syntax.int Syntax.w64 360))
 
 abbrev b9 : Syntax.Body
-b9 = Syntax.assign (Syntax.place 12 List.[]) (Syntax.op2 Syntax.offset
-    (Syntax.copy (Syntax.place 1 ((Syntax.field 0) ∷ List.[]))) (Syntax.copy (Syntax.place 11 List.[])))
+b9 = Syntax.assign (Syntax.place 13 List.[]) (Syntax.op2 Syntax.offset
+    (Syntax.copy (Syntax.place 1 ((Syntax.field 0) ∷ List.[]))) (Syntax.copy (Syntax.place 12 List.[])))
 
 abbrev b10 : Syntax.Body
-b10 = Syntax.assign (Syntax.place 13 List.[]) (Syntax.rvOpd (Syntax.copy (Syntax.place 12
+b10 = Syntax.assign (Syntax.place 14 List.[]) (Syntax.rvOpd (Syntax.copy (Syntax.place 13
     ((Syntax.deref RelayPending.ty) ∷ List.[]))))
 
 abbrev b11 : Syntax.Body
-b11 = Syntax.assign (Syntax.place 9 List.[]) (Syntax.rvOpd (Syntax.copy (Syntax.place 13 List.[])))
+b11 = Syntax.assign (Syntax.place 10 List.[]) (Syntax.rvOpd (Syntax.copy (Syntax.place 14 List.[])))
 
 abbrev b12 : Syntax.Body
 b12 = Syntax.call "hnsr_circuit::tables::scan::pending_turn" ((Syntax.copy (Syntax.place 3 List.[])) ∷
-    (Syntax.copy (Syntax.place 4 List.[])) ∷ (Syntax.copy (Syntax.place 7 List.[])) ∷
-    (Syntax.copy (Syntax.place 9 List.[])) ∷ (Syntax.copy (Syntax.place 8 List.[])) ∷ List.[]) (Syntax.place 7 List.[])
+    (Syntax.copy (Syntax.place 4 List.[])) ∷ (Syntax.copy (Syntax.place 5 List.[])) ∷
+    (Syntax.copy (Syntax.place 8 List.[])) ∷ (Syntax.copy (Syntax.place 10 List.[])) ∷
+    (Syntax.copy (Syntax.place 9 List.[])) ∷ List.[]) (Syntax.place 8 List.[])
 
 abbrev b13 : Syntax.Body
-b13 = Syntax.assign (Syntax.place 8 List.[]) (Syntax.op2 (Syntax.add Syntax.unsigned)
-    (Syntax.copy (Syntax.place 8 List.[])) (Syntax.int Syntax.w64 1))
+b13 = Syntax.assign (Syntax.place 9 List.[]) (Syntax.op2 (Syntax.add Syntax.unsigned)
+    (Syntax.copy (Syntax.place 9 List.[])) (Syntax.int Syntax.w64 1))
 
 abbrev b14 : Syntax.Body
 b14 = Syntax.seq b12 b13
@@ -170,7 +176,7 @@ abbrev b22 : Syntax.Body
 b22 = Syntax.block b21
 
 abbrev b23 : Syntax.Body
-b23 = Syntax.assign (Syntax.place 0 List.[]) (Syntax.rvOpd (Syntax.copy (Syntax.place 7 List.[])))
+b23 = Syntax.assign (Syntax.place 0 List.[]) (Syntax.rvOpd (Syntax.copy (Syntax.place 8 List.[])))
 
 abbrev b24 : Syntax.Body
 b24 = Syntax.return
@@ -201,151 +207,160 @@ Claims = Kinds.In 0 ps·0 × Kinds.Out 0 ps·0 r·0 × Kinds.In 0 ps·1 × Kinds
     0 ps·2 r·2
 
 abbrev e0 : Row.Entry
-e0 = (0, Rows.any-gone Laws''.mir)
+e0 = (0, Rows.any-gone Laws'''.mir)
 
 abbrev e1 : Row.Entry
 e1 = (1, Rows.sslice RelayPending.row ref0 0)
 
 abbrev e2 : Row.Entry
-e2 = (2, Rows.whole (Declared.row Places.the-type))
+e2 = (2, Rows.whole (Declared'.row Places.the-type))
 
 abbrev e3 : Row.Entry
-e3 = (3, Rows.whole (Declared.row Question.the-type))
+e3 = (3, Rows.whole (Declared.row RecordQuestion.the-type))
 
 abbrev e4 : Row.Entry
-e4 = (4, Rows.whole (Declared.row Walked.the-type))
+e4 = (4, Rows.whole (Declared'.row HnsrPeerId.the-type))
 
 abbrev e5 : Row.Entry
-e5 = (5, Rows.any-gone (Syntax.tyInt Syntax.w64))
+e5 = (5, Rows.whole (Declared'.row Walked.the-type))
 
 abbrev e6 : Row.Entry
 e6 = (6, Rows.any-gone (Syntax.tyInt Syntax.w64))
 
 abbrev e7 : Row.Entry
-e7 = (7, Rows.any-gone Laws''.mir)
+e7 = (7, Rows.any-gone (Syntax.tyInt Syntax.w64))
 
 abbrev e8 : Row.Entry
-e8 = (8, Rows.any-gone (Syntax.tyInt Syntax.w64))
+e8 = (8, Rows.any-gone Laws'''.mir)
 
 abbrev e9 : Row.Entry
-e9 = (9, Rows.any-gone RelayPending.ty)
+e9 = (9, Rows.any-gone (Syntax.tyInt Syntax.w64))
 
 abbrev e10 : Row.Entry
-e10 = (10, Rows.any-gone Syntax.tyBool)
+e10 = (10, Rows.any-gone RelayPending.ty)
 
 abbrev e11 : Row.Entry
-e11 = (11, Rows.any-gone (Syntax.tyInt Syntax.w64))
+e11 = (11, Rows.any-gone Syntax.tyBool)
 
 abbrev e12 : Row.Entry
-e12 = (12, Rows.any-gone Syntax.tyPtr)
+e12 = (12, Rows.any-gone (Syntax.tyInt Syntax.w64))
 
 abbrev e13 : Row.Entry
-e13 = (13, Rows.any-gone RelayPending.ty)
+e13 = (13, Rows.any-gone Syntax.tyPtr)
+
+abbrev e14 : Row.Entry
+e14 = (14, Rows.any-gone RelayPending.ty)
 
 abbrev e0·1 : Row.Entry
-e0·1 = (0, Rows.whole (Declared.row Walked.the-type))
+e0·1 = (0, Rows.whole (Declared'.row Walked.the-type))
 
 abbrev e2·1 : Row.Entry
-e2·1 = (2, Rows.any-gone Laws.mir)
+e2·1 = (2, Rows.any-gone Laws'.mir)
 
 abbrev e3·1 : Row.Entry
-e3·1 = (3, Rows.any-gone Laws'.mir)
+e3·1 = (3, Rows.any-gone Laws''.mir)
 
 abbrev e4·1 : Row.Entry
-e4·1 = (4, Rows.any-gone Laws''.mir)
+e4·1 = (4, Rows.any-gone Laws.mir)
 
 abbrev e5·1 : Row.Entry
-e5·1 = (5, Rows.sc-here (Row.sInt Syntax.w64))
+e5·1 = (5, Rows.any-gone Laws'''.mir)
 
 abbrev e6·1 : Row.Entry
 e6·1 = (6, Rows.sc-here (Row.sInt Syntax.w64))
 
 abbrev e7·1 : Row.Entry
-e7·1 = (7, Rows.whole (Declared.row Walked.the-type))
+e7·1 = (7, Rows.sc-here (Row.sInt Syntax.w64))
 
 abbrev e8·1 : Row.Entry
-e8·1 = (8, Rows.sc-here (Row.sInt Syntax.w64))
-
-abbrev e10·1 : Row.Entry
-e10·1 = (10, Rows.sc-here Row.sBool)
-
-abbrev e11·1 : Row.Entry
-e11·1 = (11, Rows.sc-here (Row.sInt Syntax.w64))
-
-abbrev e12·1 : Row.Entry
-e12·1 = (12, Rows.sc-here Row.sPtr)
-
-abbrev e13·1 : Row.Entry
-e13·1 = (13, RelayPending.held)
+e8·1 = (8, Rows.whole (Declared'.row Walked.the-type))
 
 abbrev e9·1 : Row.Entry
-e9·1 = (9, RelayPending.held)
+e9·1 = (9, Rows.sc-here (Row.sInt Syntax.w64))
+
+abbrev e11·1 : Row.Entry
+e11·1 = (11, Rows.sc-here Row.sBool)
+
+abbrev e12·1 : Row.Entry
+e12·1 = (12, Rows.sc-here (Row.sInt Syntax.w64))
+
+abbrev e13·1 : Row.Entry
+e13·1 = (13, Rows.sc-here Row.sPtr)
+
+abbrev e14·1 : Row.Entry
+e14·1 = (14, RelayPending.held)
+
+abbrev e10·1 : Row.Entry
+e10·1 = (10, RelayPending.held)
 
 abbrev pub t0 : List.List Row.Entry
-t0 = e0 ∷ e1 ∷ e2 ∷ e3 ∷ e4 ∷ e5 ∷ e6 ∷ e7 ∷ e8 ∷ e9 ∷ e10 ∷ e11 ∷ e12 ∷ e13 ∷ List.[]
+t0 = e0 ∷ e1 ∷ e2 ∷ e3 ∷ e4 ∷ e5 ∷ e6 ∷ e7 ∷ e8 ∷ e9 ∷ e10 ∷ e11 ∷ e12 ∷ e13 ∷ e14 ∷ List.[]
 
 abbrev pub t1 : List.List Row.Entry
-t1 = e0·1 ∷ e1 ∷ e2·1 ∷ e3·1 ∷ e4·1 ∷ e5 ∷ e6 ∷ e7 ∷ e8 ∷ e9 ∷ e10 ∷ e11 ∷ e12 ∷ e13 ∷ List.[]
+t1 = e0·1 ∷ e1 ∷ e2·1 ∷ e3·1 ∷ e4·1 ∷ e5·1 ∷ e6 ∷ e7 ∷ e8 ∷ e9 ∷ e10 ∷ e11 ∷ e12 ∷ e13 ∷ e14 ∷ List.[]
 
 abbrev pub t2 : List.List Row.Entry
-t2 = e0 ∷ e1 ∷ e2 ∷ e3 ∷ e4 ∷ e5·1 ∷ e6 ∷ e7 ∷ e8 ∷ e9 ∷ e10 ∷ e11 ∷ e12 ∷ e13 ∷ List.[]
+t2 = e0 ∷ e1 ∷ e2 ∷ e3 ∷ e4 ∷ e5 ∷ e6·1 ∷ e7 ∷ e8 ∷ e9 ∷ e10 ∷ e11 ∷ e12 ∷ e13 ∷ e14 ∷ List.[]
 
 abbrev pub t3 : List.List Row.Entry
-t3 = e0 ∷ e1 ∷ e2 ∷ e3 ∷ e4 ∷ e5·1 ∷ e6·1 ∷ e7 ∷ e8 ∷ e9 ∷ e10 ∷ e11 ∷ e12 ∷ e13 ∷ List.[]
+t3 = e0 ∷ e1 ∷ e2 ∷ e3 ∷ e4 ∷ e5 ∷ e6·1 ∷ e7·1 ∷ e8 ∷ e9 ∷ e10 ∷ e11 ∷ e12 ∷ e13 ∷ e14 ∷ List.[]
 
 abbrev pub t4 : List.List Row.Entry
-t4 = e0 ∷ e1 ∷ e2·1 ∷ e3 ∷ e4 ∷ e5·1 ∷ e6·1 ∷ e7 ∷ e8 ∷ e9 ∷ e10 ∷ e11 ∷ e12 ∷ e13 ∷ List.[]
+t4 = e0 ∷ e1 ∷ e2·1 ∷ e3 ∷ e4 ∷ e5 ∷ e6·1 ∷ e7·1 ∷ e8 ∷ e9 ∷ e10 ∷ e11 ∷ e12 ∷ e13 ∷ e14 ∷ List.[]
 
 abbrev pub t5 : List.List Row.Entry
-t5 = e0 ∷ e1 ∷ e2·1 ∷ e3 ∷ e4 ∷ e5·1 ∷ e6·1 ∷ e7·1 ∷ e8 ∷ e9 ∷ e10 ∷ e11 ∷ e12 ∷ e13 ∷ List.[]
+t5 = e0 ∷ e1 ∷ e2·1 ∷ e3 ∷ e4 ∷ e5 ∷ e6·1 ∷ e7·1 ∷ e8·1 ∷ e9 ∷ e10 ∷ e11 ∷ e12 ∷ e13 ∷ e14 ∷ List.[]
 
 abbrev pub t6 : List.List Row.Entry
-t6 = e0 ∷ e1 ∷ e2·1 ∷ e3 ∷ e4 ∷ e5·1 ∷ e6·1 ∷ e7·1 ∷ e8·1 ∷ e9 ∷ e10 ∷ e11 ∷ e12 ∷ e13 ∷ List.[]
+t6 = e0 ∷ e1 ∷ e2·1 ∷ e3 ∷ e4 ∷ e5 ∷ e6·1 ∷ e7·1 ∷ e8·1 ∷ e9·1 ∷ e10 ∷ e11 ∷ e12 ∷ e13 ∷ e14 ∷ List.[]
 
 abbrev pub t7 : List.List Row.Entry
-t7 = e0 ∷ e1 ∷ e2·1 ∷ e3·1 ∷ e4·1 ∷ e5·1 ∷ e6·1 ∷ e7·1 ∷ e8·1 ∷ e9 ∷ e10 ∷ e11 ∷ e12 ∷ e13 ∷ List.[]
+t7 = e0 ∷ e1 ∷ e2·1 ∷ e3·1 ∷ e4·1 ∷ e5·1 ∷ e6·1 ∷ e7·1 ∷ e8·1 ∷ e9·1 ∷ e10 ∷ e11 ∷ e12 ∷ e13 ∷ e14 ∷ List.[]
 
 abbrev pub t8 : List.List Row.Entry
-t8 = e0 ∷ e1 ∷ e2·1 ∷ e3 ∷ e4 ∷ e5·1 ∷ e6·1 ∷ e7·1 ∷ e8·1 ∷ e9 ∷ e10·1 ∷ e11 ∷ e12 ∷ e13 ∷ List.[]
+t8 = e0 ∷ e1 ∷ e2·1 ∷ e3 ∷ e4 ∷ e5 ∷ e6·1 ∷ e7·1 ∷ e8·1 ∷ e9·1 ∷ e10 ∷ e11·1 ∷ e12 ∷ e13 ∷ e14 ∷ List.[]
 
 abbrev pub t9 : List.List Row.Entry
-t9 = e0 ∷ e1 ∷ e2·1 ∷ e3·1 ∷ e4 ∷ e5·1 ∷ e6·1 ∷ e7·1 ∷ e8·1 ∷ e9 ∷ e10·1 ∷ e11 ∷ e12 ∷ e13 ∷ List.[]
+t9 = e0 ∷ e1 ∷ e2·1 ∷ e3·1 ∷ e4 ∷ e5 ∷ e6·1 ∷ e7·1 ∷ e8·1 ∷ e9·1 ∷ e10 ∷ e11·1 ∷ e12 ∷ e13 ∷ e14 ∷ List.[]
 
 abbrev pub t10 : List.List Row.Entry
-t10 = e0 ∷ e1 ∷ e2·1 ∷ e3·1 ∷ e4·1 ∷ e5·1 ∷ e6·1 ∷ e7·1 ∷ e8·1 ∷ e9 ∷ e10·1 ∷ e11 ∷ e12 ∷ e13 ∷ List.[]
+t10 = e0 ∷ e1 ∷ e2·1 ∷ e3·1 ∷ e4·1 ∷ e5 ∷ e6·1 ∷ e7·1 ∷ e8·1 ∷ e9·1 ∷ e10 ∷ e11·1 ∷ e12 ∷ e13 ∷ e14 ∷ List.[]
 
 abbrev pub t11 : List.List Row.Entry
-t11 = e0 ∷ e1 ∷ e2·1 ∷ e3 ∷ e4 ∷ e5·1 ∷ e6·1 ∷ e7·1 ∷ e8·1 ∷ e9 ∷ e10 ∷ e11·1 ∷ e12 ∷ e13 ∷ List.[]
+t11 = e0 ∷ e1 ∷ e2·1 ∷ e3·1 ∷ e4·1 ∷ e5·1 ∷ e6·1 ∷ e7·1 ∷ e8·1 ∷ e9·1 ∷ e10 ∷ e11·1 ∷ e12 ∷ e13 ∷ e14 ∷ List.[]
 
 abbrev pub t12 : List.List Row.Entry
-t12 = e0 ∷ e1 ∷ e2·1 ∷ e3 ∷ e4 ∷ e5·1 ∷ e6·1 ∷ e7·1 ∷ e8·1 ∷ e9 ∷ e10 ∷ e11·1 ∷ e12·1 ∷ e13 ∷ List.[]
+t12 = e0 ∷ e1 ∷ e2·1 ∷ e3 ∷ e4 ∷ e5 ∷ e6·1 ∷ e7·1 ∷ e8·1 ∷ e9·1 ∷ e10 ∷ e11 ∷ e12·1 ∷ e13 ∷ e14 ∷ List.[]
 
 abbrev pub t13 : List.List Row.Entry
-t13 = e0 ∷ e1 ∷ e2·1 ∷ e3 ∷ e4 ∷ e5·1 ∷ e6·1 ∷ e7·1 ∷ e8·1 ∷ e9 ∷ e10 ∷ e11·1 ∷ e12·1 ∷ e13·1 ∷ List.[]
+t13 = e0 ∷ e1 ∷ e2·1 ∷ e3 ∷ e4 ∷ e5 ∷ e6·1 ∷ e7·1 ∷ e8·1 ∷ e9·1 ∷ e10 ∷ e11 ∷ e12·1 ∷ e13·1 ∷ e14 ∷ List.[]
 
 abbrev pub t14 : List.List Row.Entry
-t14 = e0 ∷ e1 ∷ e2·1 ∷ e3 ∷ e4 ∷ e5·1 ∷ e6·1 ∷ e7·1 ∷ e8·1 ∷ e9 ∷ e10 ∷ e11 ∷ e12·1 ∷ e13·1 ∷ List.[]
+t14 = e0 ∷ e1 ∷ e2·1 ∷ e3 ∷ e4 ∷ e5 ∷ e6·1 ∷ e7·1 ∷ e8·1 ∷ e9·1 ∷ e10 ∷ e11 ∷ e12·1 ∷ e13·1 ∷ e14·1 ∷ List.[]
 
 abbrev pub t15 : List.List Row.Entry
-t15 = e0 ∷ e1 ∷ e2·1 ∷ e3 ∷ e4 ∷ e5·1 ∷ e6·1 ∷ e7·1 ∷ e8·1 ∷ e9 ∷ e10 ∷ e11 ∷ e12 ∷ e13·1 ∷ List.[]
+t15 = e0 ∷ e1 ∷ e2·1 ∷ e3 ∷ e4 ∷ e5 ∷ e6·1 ∷ e7·1 ∷ e8·1 ∷ e9·1 ∷ e10 ∷ e11 ∷ e12 ∷ e13·1 ∷ e14·1 ∷ List.[]
 
 abbrev pub t16 : List.List Row.Entry
-t16 = e0 ∷ e1 ∷ e2·1 ∷ e3 ∷ e4 ∷ e5·1 ∷ e6·1 ∷ e7·1 ∷ e8·1 ∷ e9·1 ∷ e10 ∷ e11 ∷ e12 ∷ e13·1 ∷ List.[]
+t16 = e0 ∷ e1 ∷ e2·1 ∷ e3 ∷ e4 ∷ e5 ∷ e6·1 ∷ e7·1 ∷ e8·1 ∷ e9·1 ∷ e10 ∷ e11 ∷ e12 ∷ e13 ∷ e14·1 ∷ List.[]
 
 abbrev pub t17 : List.List Row.Entry
-t17 = e0 ∷ e1 ∷ e2·1 ∷ e3 ∷ e4 ∷ e5·1 ∷ e6·1 ∷ e7·1 ∷ e8·1 ∷ e9·1 ∷ e10 ∷ e11 ∷ e12 ∷ e13 ∷ List.[]
+t17 = e0 ∷ e1 ∷ e2·1 ∷ e3 ∷ e4 ∷ e5 ∷ e6·1 ∷ e7·1 ∷ e8·1 ∷ e9·1 ∷ e10·1 ∷ e11 ∷ e12 ∷ e13 ∷ e14·1 ∷ List.[]
 
 abbrev pub t18 : List.List Row.Entry
-t18 = e0·1 ∷ e1 ∷ e2·1 ∷ e3·1 ∷ e4·1 ∷ e5·1 ∷ e6·1 ∷ e7·1 ∷ e8·1 ∷ e9 ∷ e10 ∷ e11 ∷ e12 ∷ e13 ∷ List.[]
+t18 = e0 ∷ e1 ∷ e2·1 ∷ e3 ∷ e4 ∷ e5 ∷ e6·1 ∷ e7·1 ∷ e8·1 ∷ e9·1 ∷ e10·1 ∷ e11 ∷ e12 ∷ e13 ∷ e14 ∷ List.[]
 
 abbrev pub t19 : List.List Row.Entry
-t19 = e0·1 ∷ e1 ∷ e2·1 ∷ e3·1 ∷ e4·1 ∷ e5 ∷ e6·1 ∷ e7·1 ∷ e8·1 ∷ e9 ∷ e10 ∷ e11 ∷ e12 ∷ e13 ∷ List.[]
+t19 = e0·1 ∷ e1 ∷ e2·1 ∷ e3·1 ∷ e4·1 ∷ e5·1 ∷ e6·1 ∷ e7·1 ∷ e8·1 ∷ e9·1 ∷ e10 ∷ e11 ∷ e12 ∷ e13 ∷ e14 ∷ List.[]
 
 abbrev pub t20 : List.List Row.Entry
-t20 = e0·1 ∷ e1 ∷ e2·1 ∷ e3·1 ∷ e4·1 ∷ e5 ∷ e6 ∷ e7·1 ∷ e8·1 ∷ e9 ∷ e10 ∷ e11 ∷ e12 ∷ e13 ∷ List.[]
+t20 = e0·1 ∷ e1 ∷ e2·1 ∷ e3·1 ∷ e4·1 ∷ e5·1 ∷ e6 ∷ e7·1 ∷ e8·1 ∷ e9·1 ∷ e10 ∷ e11 ∷ e12 ∷ e13 ∷ e14 ∷ List.[]
 
 abbrev pub t21 : List.List Row.Entry
-t21 = e0·1 ∷ e1 ∷ e2·1 ∷ e3·1 ∷ e4·1 ∷ e5 ∷ e6 ∷ e7 ∷ e8·1 ∷ e9 ∷ e10 ∷ e11 ∷ e12 ∷ e13 ∷ List.[]
+t21 = e0·1 ∷ e1 ∷ e2·1 ∷ e3·1 ∷ e4·1 ∷ e5·1 ∷ e6 ∷ e7 ∷ e8·1 ∷ e9·1 ∷ e10 ∷ e11 ∷ e12 ∷ e13 ∷ e14 ∷ List.[]
+
+abbrev pub t22 : List.List Row.Entry
+t22 = e0·1 ∷ e1 ∷ e2·1 ∷ e3·1 ∷ e4·1 ∷ e5·1 ∷ e6 ∷ e7 ∷ e8 ∷ e9·1 ∷ e10 ∷ e11 ∷ e12 ∷ e13 ∷ e14 ∷ List.[]
 
 abbrev pub T0 : Row.Cx
 T0 = record { locals = t0; slots = List.[] }
@@ -387,10 +402,10 @@ abbrev pub T12 : Row.Cx
 T12 = record { locals = t10; slots = List.[] }
 
 abbrev pub T13 : Row.Cx
-T13 = record { locals = t7; slots = List.[] }
+T13 = record { locals = t11; slots = List.[] }
 
 abbrev pub T14 : Row.Cx
-T14 = record { locals = t11; slots = List.[] }
+T14 = record { locals = t7; slots = List.[] }
 
 abbrev pub T15 : Row.Cx
 T15 = record { locals = t12; slots = List.[] }
@@ -411,16 +426,16 @@ abbrev pub T20 : Row.Cx
 T20 = record { locals = t17; slots = List.[] }
 
 abbrev pub T21 : Row.Cx
-T21 = record { locals = t17; slots = List.[] }
+T21 = record { locals = t18; slots = List.[] }
 
 abbrev pub T22 : Row.Cx
-T22 = record { locals = t6; slots = List.[] }
+T22 = record { locals = t18; slots = List.[] }
 
 abbrev pub T23 : Row.Cx
 T23 = record { locals = t6; slots = List.[] }
 
 abbrev pub T24 : Row.Cx
-T24 = record { locals = t18; slots = List.[] }
+T24 = record { locals = t6; slots = List.[] }
 
 abbrev pub T25 : Row.Cx
 T25 = record { locals = t19; slots = List.[] }
@@ -432,7 +447,10 @@ abbrev pub T27 : Row.Cx
 T27 = record { locals = t21; slots = List.[] }
 
 abbrev pub T28 : Row.Cx
-T28 = record { locals = t1; slots = List.[] }
+T28 = record { locals = t22; slots = List.[] }
+
+abbrev pub T29 : Row.Cx
+T29 = record { locals = t1; slots = List.[] }
 
 abbrev pub O0 : Typed.Outs
 O0 = record { next = Option.none; exits = List.[]; returns = Option.some T1 }
@@ -450,122 +468,130 @@ abbrev pub O4 : Typed.Outs
 O4 = Typed.withNext (Option.some T9) O3
 
 abbrev pub InvT-loop : Type 1
-InvT-loop = List.List (RelayPending.row .Denot) → Rows.whole (Declared.row Question.the-type) .Mod → Rows.whole
-    (Declared.row Walked.the-type) .Mod → Rows.sc-here (Row.sInt Syntax.w64) .Mod → Rows.sc-here (Row.sInt Syntax.w64)
-    .Mod → Rows.whole (Declared.row Walked.the-type) .Mod → Rows.sc-here (Row.sInt Syntax.w64) .Mod → Rows.whole
-    (Declared.row Walked.the-type) .Mod → Rows.sc-here (Row.sInt Syntax.w64) .Mod → Type 0
+InvT-loop = List.List (RelayPending.row .Denot) → Rows.whole (Declared.row RecordQuestion.the-type) .Mod → Rows.whole
+    (Declared'.row HnsrPeerId.the-type) .Mod → Rows.whole (Declared'.row Walked.the-type) .Mod → Rows.sc-here
+    (Row.sInt Syntax.w64) .Mod → Rows.sc-here (Row.sInt Syntax.w64) .Mod → Rows.whole (Declared'.row Walked.the-type)
+    .Mod → Rows.sc-here (Row.sInt Syntax.w64) .Mod → Rows.whole (Declared'.row Walked.the-type) .Mod → Rows.sc-here
+    (Row.sInt Syntax.w64) .Mod → Type 0
 
 abbrev pub MeasureT-loop : Type 0
-MeasureT-loop = List.List (RelayPending.row .Denot) → Rows.whole (Declared.row Question.the-type) .Mod → Rows.whole
-    (Declared.row Walked.the-type) .Mod → Rows.sc-here (Row.sInt Syntax.w64) .Mod → Rows.sc-here (Row.sInt Syntax.w64)
-    .Mod → Rows.whole (Declared.row Walked.the-type) .Mod → Rows.sc-here (Row.sInt Syntax.w64) .Mod → Rows.whole
-    (Declared.row Walked.the-type) .Mod → Rows.sc-here (Row.sInt Syntax.w64) .Mod → Nat.ℕ
+MeasureT-loop = List.List (RelayPending.row .Denot) → Rows.whole (Declared.row RecordQuestion.the-type) .Mod →
+    Rows.whole (Declared'.row HnsrPeerId.the-type) .Mod → Rows.whole (Declared'.row Walked.the-type) .Mod →
+    Rows.sc-here (Row.sInt Syntax.w64) .Mod → Rows.sc-here (Row.sInt Syntax.w64) .Mod → Rows.whole
+    (Declared'.row Walked.the-type) .Mod → Rows.sc-here (Row.sInt Syntax.w64) .Mod → Rows.whole
+    (Declared'.row Walked.the-type) .Mod → Rows.sc-here (Row.sInt Syntax.w64) .Mod → Nat.ℕ
 
 module _ (claims· : Claims) where
   abbrev s0 : Typed.Mo T0 → Typed.Mo T2
-  s0 = Scalar.n-use T0 (Scalar.oFld 1 ((Syntax.field 1) ∷ List.[]) (Syntax.tyInt Syntax.w64) 8 Shared.lenV) 5
+  s0 = Scalar.n-use T0 (Scalar.oFld 1 ((Syntax.field 1) ∷ List.[]) (Syntax.tyInt Syntax.w64) 8 Shared.lenV) 6
       (Rows.sc-here (Row.sInt Syntax.w64)) (Row.sInt Syntax.w64 .of)
 
   abbrev args1 : Args'.ArgsT ps·0 (T2 .locals)
-  args1 = (Num.vFld 2 ((Syntax.field 0) ∷ List.[]) 0 λ x. Places.struct .as-values x .0, (Num.vAt 5 λ x. x, tt))
+  args1 = (Num.vFld 2 ((Syntax.field 0) ∷ List.[]) 0 λ x. Places.struct .as-values x .0, (Num.vAt 6 λ x. x, tt))
 
   abbrev s1 : Typed.Both T2 T3
-  s1 = Call.callB ps·0 r·0 (claims· .0) (claims· .1) T2 args1 6 List.[] (Syntax.tyInt Syntax.w64)
+  s1 = Call.callB ps·0 r·0 (claims· .0) (claims· .1) T2 args1 7 List.[] (Syntax.tyInt Syntax.w64)
 
   abbrev s2 : Typed.Mo T3 → Typed.Mo T4
-  s2 = Scalar.n-room T3 2 Laws.mir
+  s2 = Scalar.n-room T3 2 Laws'.mir
 
   abbrev s3 : Typed.Both T4 T5
-  s3 = Call.callB ps·1 r·1 (claims· .2) (claims· .3) T4 tt 7 List.[] Laws''.mir
+  s3 = Call.callB ps·1 r·1 (claims· .2) (claims· .3) T4 tt 8 List.[] Laws'''.mir
 
   abbrev s4 : Typed.Mo T5 → Typed.Mo T6
-  s4 = Scalar.n-use T5 (Scalar.oInt Syntax.w64 0) 8 (Rows.sc-here (Row.sInt Syntax.w64)) (Row.sInt Syntax.w64 .of)
+  s4 = Scalar.n-use T5 (Scalar.oInt Syntax.w64 0) 9 (Rows.sc-here (Row.sInt Syntax.w64)) (Row.sInt Syntax.w64 .of)
 
   abbrev s5 : Typed.Asks T6 T8
-  s5 = Scalar.k-op2 T6 (Syntax.lt Syntax.unsigned) (Scalar.oAt 8 (Syntax.tyInt Syntax.w64)
-      (Row.valS (Row.sInt Syntax.w64))) (Scalar.oAt 6 (Syntax.tyInt Syntax.w64) (Row.valS (Row.sInt Syntax.w64))) 10
+  s5 = Scalar.k-op2 T6 (Syntax.lt Syntax.unsigned) (Scalar.oAt 9 (Syntax.tyInt Syntax.w64)
+      (Row.valS (Row.sInt Syntax.w64))) (Scalar.oAt 7 (Syntax.tyInt Syntax.w64) (Row.valS (Row.sInt Syntax.w64))) 11
       (Rows.sc-here Row.sBool) (Row.sBool .of)
 
   abbrev s6 : Typed.Mo T8 → Typed.Mo T10
-  s6 = Scalar.n-room T8 10 Syntax.tyBool
+  s6 = Scalar.n-room T8 11 Syntax.tyBool
 
   abbrev s7 : Typed.Mo T8 → Typed.Mo T11
-  s7 = Scalar.n-room T8 3 Laws'.mir
+  s7 = Scalar.n-room T8 3 Laws''.mir
 
   abbrev s8 : Typed.Mo T11 → Typed.Mo T12
-  s8 = Scalar.n-room T11 4 Laws''.mir
+  s8 = Scalar.n-room T11 4 Laws.mir
 
   abbrev s9 : Typed.Mo T12 → Typed.Mo T13
-  s9 = Scalar.n-room T12 10 Syntax.tyBool
+  s9 = Scalar.n-room T12 5 Laws'''.mir
 
-  abbrev s10 : Typed.Asks T9 T14
-  s10 = Scalar.k-op2 T9 (Syntax.mul Syntax.unsigned) (Scalar.oAt 8 (Syntax.tyInt Syntax.w64)
-      (Row.valS (Row.sInt Syntax.w64))) (Scalar.oInt Syntax.w64 360) 11 (Rows.sc-here (Row.sInt Syntax.w64))
+  abbrev s10 : Typed.Mo T13 → Typed.Mo T14
+  s10 = Scalar.n-room T13 11 Syntax.tyBool
+
+  abbrev s11 : Typed.Asks T9 T15
+  s11 = Scalar.k-op2 T9 (Syntax.mul Syntax.unsigned) (Scalar.oAt 9 (Syntax.tyInt Syntax.w64)
+      (Row.valS (Row.sInt Syntax.w64))) (Scalar.oInt Syntax.w64 360) 12 (Rows.sc-here (Row.sInt Syntax.w64))
       (Row.sInt Syntax.w64 .of)
 
-  abbrev s11 : Typed.Asks T14 T15
-  s11 = Scalar.k-op2 T14 Syntax.offset (Scalar.oFld 1 ((Syntax.field 0) ∷ List.[]) ref0 0 Reads'.ptrVal) (Scalar.oAt 11
-      (Syntax.tyInt Syntax.w64) (Row.valS (Row.sInt Syntax.w64))) 12 (Rows.sc-here Row.sPtr) (Row.sPtr .of)
+  abbrev s12 : Typed.Asks T15 T16
+  s12 = Scalar.k-op2 T15 Syntax.offset (Scalar.oFld 1 ((Syntax.field 0) ∷ List.[]) ref0 0 Reads'.ptrVal) (Scalar.oAt 12
+      (Syntax.tyInt Syntax.w64) (Row.valS (Row.sInt Syntax.w64))) 13 (Rows.sc-here Row.sPtr) (Row.sPtr .of)
 
-  abbrev s12 : Typed.Both T15 T16
-  s12 = Move.k-shs-copy-out RelayPending.row T15 1 12 13 0 ref0 Row.off RelayPending.held (Shared.bySize 360)
-      (λ u. u .1 .1 .1 .1 .1 .1 .1 .1 .0) (λ x. x) RelayPending.none (λ x. Unit) (λ x. x) λ x. x
-
-  abbrev s13 : Typed.Mo T16 → Typed.Mo T17
-  s13 = Scalar.n-room T16 11 (Syntax.tyInt Syntax.w64)
+  abbrev s13 : Typed.Both T16 T17
+  s13 = Move.k-shs-copy-out RelayPending.row T16 1 13 14 0 ref0 Row.off RelayPending.held (Shared.bySize 360)
+      (λ u. u .1 .1 .1 .1 .1 .1 .1 .1 .1 .0) (λ x. x) RelayPending.none (λ x. Unit) (λ x. x) λ x. x
 
   abbrev s14 : Typed.Mo T17 → Typed.Mo T18
-  s14 = Scalar.n-room T17 12 Syntax.tyPtr
+  s14 = Scalar.n-room T17 12 (Syntax.tyInt Syntax.w64)
 
   abbrev s15 : Typed.Mo T18 → Typed.Mo T19
-  s15 = LocalCopy.n-val-copy T18 13 9 RelayPending.row RelayPending.held RelayPending.held (λ x. x) (λ x. x) λ x. x
+  s15 = Scalar.n-room T18 13 Syntax.tyPtr
 
   abbrev s16 : Typed.Mo T19 → Typed.Mo T20
-  s16 = Scalar.n-room T19 13 RelayPending.ty
+  s16 = LocalCopy.n-val-copy T19 14 10 RelayPending.row RelayPending.held RelayPending.held (λ x. x) (λ x. x) λ x. x
 
-  abbrev args17 : Args'.ArgsT ps·2 (T20 .locals)
-  args17 = (
+  abbrev s17 : Typed.Mo T20 → Typed.Mo T21
+  s17 = Scalar.n-room T20 14 RelayPending.ty
+
+  abbrev args18 : Args'.ArgsT ps·2 (T21 .locals)
+  args18 = (
     record { pos = 3; st = List.[]; d = 0; at = λ x. x },
     (
       record { pos = 4; st = List.[]; d = 0; at = λ x. x },
       (
-        record { pos = 7; st = List.[]; d = 0; at = λ x. x },
-        (record { pos = 9; st = List.[]; d = 0; at = λ x. x }, (Num.vAt 8 λ x. x, tt)),
+        record { pos = 5; st = List.[]; d = 0; at = λ x. x },
+        (
+          record { pos = 8; st = List.[]; d = 0; at = λ x. x },
+          (record { pos = 10; st = List.[]; d = 0; at = λ x. x }, (Num.vAt 9 λ x. x, tt)),
+        ),
       ),
     ),
   )
 
-  abbrev s17 : Typed.Both T20 T21
-  s17 = Call.callB ps·2 r·2 (claims· .4) (claims· .5) T20 args17 7 List.[] Laws''.mir
+  abbrev s18 : Typed.Both T21 T22
+  s18 = Call.callB ps·2 r·2 (claims· .4) (claims· .5) T21 args18 8 List.[] Laws'''.mir
 
-  abbrev s18 : Typed.Mo T21 → Typed.Mo T22
-  s18 = Scalar.n-room T21 9 RelayPending.ty
+  abbrev s19 : Typed.Mo T22 → Typed.Mo T23
+  s19 = Scalar.n-room T22 10 RelayPending.ty
 
-  abbrev s19 : Typed.Asks T22 T23
-  s19 = Scalar.k-op2 T22 (Syntax.add Syntax.unsigned) (Scalar.oAt 8 (Syntax.tyInt Syntax.w64)
-      (Row.valS (Row.sInt Syntax.w64))) (Scalar.oInt Syntax.w64 1) 8 (Rows.sc-here (Row.sInt Syntax.w64))
+  abbrev s20 : Typed.Asks T23 T24
+  s20 = Scalar.k-op2 T23 (Syntax.add Syntax.unsigned) (Scalar.oAt 9 (Syntax.tyInt Syntax.w64)
+      (Row.valS (Row.sInt Syntax.w64))) (Scalar.oInt Syntax.w64 1) 9 (Rows.sc-here (Row.sInt Syntax.w64))
       (Row.sInt Syntax.w64 .of)
 
-  abbrev s20 : Typed.Mo T7 → Typed.Mo T24
-  s20 = LocalCopy.n-val-copy T7 7 0 (Declared.row Walked.the-type) (Rows.whole (Declared.row Walked.the-type))
-      (Rows.whole (Declared.row Walked.the-type)) (λ x. x) (λ x. x) λ x. x
-
-  abbrev s21 : Typed.Mo T24 → Typed.Mo T25
-  s21 = Scalar.n-room T24 5 (Syntax.tyInt Syntax.w64)
+  abbrev s21 : Typed.Mo T7 → Typed.Mo T25
+  s21 = LocalCopy.n-val-copy T7 8 0 (Declared'.row Walked.the-type) (Rows.whole (Declared'.row Walked.the-type))
+      (Rows.whole (Declared'.row Walked.the-type)) (λ x. x) (λ x. x) λ x. x
 
   abbrev s22 : Typed.Mo T25 → Typed.Mo T26
   s22 = Scalar.n-room T25 6 (Syntax.tyInt Syntax.w64)
 
   abbrev s23 : Typed.Mo T26 → Typed.Mo T27
-  s23 = Scalar.n-room T26 7 Laws''.mir
+  s23 = Scalar.n-room T26 7 (Syntax.tyInt Syntax.w64)
 
   abbrev s24 : Typed.Mo T27 → Typed.Mo T28
-  s24 = Scalar.n-room T27 8 (Syntax.tyInt Syntax.w64)
+  s24 = Scalar.n-room T27 8 Laws'''.mir
 
-  abbrev put0 : Rows.whole (Declared.row Walked.the-type) .Mod × Rows.sc-here (Row.sInt Syntax.w64) .Mod → Typed.Mo T6
+  abbrev s25 : Typed.Mo T28 → Typed.Mo T29
+  s25 = Scalar.n-room T28 9 (Syntax.tyInt Syntax.w64)
+
+  abbrev put0 : Rows.whole (Declared'.row Walked.the-type) .Mod × Rows.sc-here (Row.sInt Syntax.w64) .Mod → Typed.Mo T6
       → Typed.Mo T6
-  put0 = λ vs u. Row.set 8 (8, Rows.sc-here (Row.sInt Syntax.w64)) (vs .1) (T6 .locals) (Row.set 7
-      (7, Rows.whole (Declared.row Walked.the-type)) (vs .0) (T6 .locals) u)
+  put0 = λ vs u. Row.set 9 (9, Rows.sc-here (Row.sInt Syntax.w64)) (vs .1) (T6 .locals) (Row.set 8
+      (8, Rows.whole (Declared'.row Walked.the-type)) (vs .0) (T6 .locals) u)
 
   module _ (Pre· : (κs : Lifetimes.Lfts 1) → Kinds.Dens κs ps → Type 0) (Post· : (κs : Lifetimes.Lfts 1) →
       (a : Kinds.Dens κs ps) → Kinds.Plain 1 ps r κs) where
@@ -585,105 +611,109 @@ module _ (claims· : Claims) where
       abbrev at1 : Typed.TF T8 O4
       at1 = λ Ψ. Typed.pass T8 T10 s6 (at0 Ψ)
 
-      abbrev at2 : Typed.TF T13 O4
+      abbrev at2 : Typed.TF T14 O4
       at2 = Typed.atExit 1 O4
 
-      abbrev at3 : Typed.TF T12 O4
-      at3 = λ Ψ. Typed.pass T12 T13 s9 (at2 Ψ)
+      abbrev at3 : Typed.TF T13 O4
+      at3 = λ Ψ. Typed.pass T13 T14 s10 (at2 Ψ)
 
-      abbrev at4 : Typed.TF T11 O4
-      at4 = λ Ψ. Typed.pass T11 T12 s8 (at3 Ψ)
+      abbrev at4 : Typed.TF T12 O4
+      at4 = λ Ψ. Typed.pass T12 T13 s9 (at3 Ψ)
 
-      abbrev at5 : Typed.TF T8 O4
-      at5 = λ Ψ. Typed.pass T8 T11 s7 (at4 Ψ)
+      abbrev at5 : Typed.TF T11 O4
+      at5 = λ Ψ. Typed.pass T11 T12 s8 (at4 Ψ)
 
       abbrev at6 : Typed.TF T8 O4
-      at6 = Scalar.Φcond T8 O4 10 (λ x. x) at1 at5
+      at6 = λ Ψ. Typed.pass T8 T11 s7 (at5 Ψ)
 
-      abbrev at7 : Typed.TF T22 O3
-      at7 = λ Ψ. Typed.ask s19 (Typed.atNext O3 Ψ)
+      abbrev at7 : Typed.TF T8 O4
+      at7 = Scalar.Φcond T8 O4 11 (λ x. x) at1 at6
 
-      abbrev at8 : Typed.TF T21 O3
-      at8 = λ Ψ. Typed.pass T21 T22 s18 (at7 Ψ)
+      abbrev at8 : Typed.TF T23 O3
+      at8 = λ Ψ. Typed.ask s20 (Typed.atNext O3 Ψ)
 
-      abbrev at9 : Typed.TF T20 O3
-      at9 = λ Ψ. Typed.both s17 (at8 Ψ)
+      abbrev at9 : Typed.TF T22 O3
+      at9 = λ Ψ. Typed.pass T22 T23 s19 (at8 Ψ)
 
-      abbrev at10 : Typed.TF T19 O3
-      at10 = λ Ψ. Typed.pass T19 T20 s16 (at9 Ψ)
+      abbrev at10 : Typed.TF T21 O3
+      at10 = λ Ψ. Typed.both s18 (at9 Ψ)
 
-      abbrev at11 : Typed.TF T18 O3
-      at11 = λ Ψ. Typed.pass T18 T19 s15 (at10 Ψ)
+      abbrev at11 : Typed.TF T20 O3
+      at11 = λ Ψ. Typed.pass T20 T21 s17 (at10 Ψ)
 
-      abbrev at12 : Typed.TF T17 O3
-      at12 = λ Ψ. Typed.pass T17 T18 s14 (at11 Ψ)
+      abbrev at12 : Typed.TF T19 O3
+      at12 = λ Ψ. Typed.pass T19 T20 s16 (at11 Ψ)
 
-      abbrev at13 : Typed.TF T16 O3
-      at13 = λ Ψ. Typed.pass T16 T17 s13 (at12 Ψ)
+      abbrev at13 : Typed.TF T18 O3
+      at13 = λ Ψ. Typed.pass T18 T19 s15 (at12 Ψ)
 
-      abbrev at14 : Typed.TF T15 O3
-      at14 = λ Ψ. Typed.both s12 (at13 Ψ)
+      abbrev at14 : Typed.TF T17 O3
+      at14 = λ Ψ. Typed.pass T17 T18 s14 (at13 Ψ)
 
-      abbrev at15 : Typed.TF T14 O3
-      at15 = λ Ψ. Typed.ask s11 (at14 Ψ)
+      abbrev at15 : Typed.TF T16 O3
+      at15 = λ Ψ. Typed.both s13 (at14 Ψ)
 
-      abbrev at16 : Typed.TF T9 O3
-      at16 = λ Ψ. Typed.ask s10 (at15 Ψ)
+      abbrev at16 : Typed.TF T15 O3
+      at16 = λ Ψ. Typed.ask s12 (at15 Ψ)
 
-      abbrev at17 : Typed.TF T8 O3
-      at17 = λ Ψ. at6 (Typed.wantNext T9 O3 (at16 Ψ) Ψ)
+      abbrev at17 : Typed.TF T9 O3
+      at17 = λ Ψ. Typed.ask s11 (at16 Ψ)
 
-      abbrev at18 : Typed.TF T6 O3
-      at18 = λ Ψ. Typed.ask s5 (at17 Ψ)
+      abbrev at18 : Typed.TF T8 O3
+      at18 = λ Ψ. at7 (Typed.wantNext T9 O3 (at17 Ψ) Ψ)
 
-      abbrev at19 : Typed.TF T6 O2
-      at19 = Typed.LoopBy T6 O2 put0 (λ u vs. Inv·0 (Row.get 1 (T6 .locals) u .now) (Row.get 3 (T6 .locals) u)
+      abbrev at19 : Typed.TF T6 O3
+      at19 = λ Ψ. Typed.ask s5 (at18 Ψ)
+
+      abbrev at20 : Typed.TF T6 O2
+      at20 = Typed.LoopBy T6 O2 put0 (λ u vs. Inv·0 (Row.get 1 (T6 .locals) u .now) (Row.get 3 (T6 .locals) u)
           (Row.get 4 (T6 .locals) u) (Row.get 5 (T6 .locals) u) (Row.get 6 (T6 .locals) u) (Row.get 7 (T6 .locals) u)
-          (Row.get 8 (T6 .locals) u) (vs .0) (vs .1)) (λ u vs. μ·0 (Row.get 1 (T6 .locals) u .now)
-          (Row.get 3 (T6 .locals) u) (Row.get 4 (T6 .locals) u) (Row.get 5 (T6 .locals) u) (Row.get 6 (T6 .locals) u)
-          (Row.get 7 (T6 .locals) u) (Row.get 8 (T6 .locals) u) (vs .0) (vs .1)) at18
+          (Row.get 8 (T6 .locals) u) (Row.get 9 (T6 .locals) u) (vs .0) (vs .1)) (λ u vs. μ·0
+          (Row.get 1 (T6 .locals) u .now) (Row.get 3 (T6 .locals) u) (Row.get 4 (T6 .locals) u)
+          (Row.get 5 (T6 .locals) u) (Row.get 6 (T6 .locals) u) (Row.get 7 (T6 .locals) u) (Row.get 8 (T6 .locals) u)
+          (Row.get 9 (T6 .locals) u) (vs .0) (vs .1)) at19
 
-      abbrev at20 : Typed.TF T6 O1
-      at20 = λ Ψ. at19 (Typed.inBlock O1 Ψ)
+      abbrev at21 : Typed.TF T6 O1
+      at21 = λ Ψ. at20 (Typed.inBlock O1 Ψ)
 
-      abbrev at21 : Typed.TF T28 O0
-      at21 = Typed.atRet O0
+      abbrev at22 : Typed.TF T29 O0
+      at22 = Typed.atRet O0
 
-      abbrev at22 : Typed.TF T27 O0
-      at22 = λ Ψ. Typed.pass T27 T28 s24 (at21 Ψ)
+      abbrev at23 : Typed.TF T28 O0
+      at23 = λ Ψ. Typed.pass T28 T29 s25 (at22 Ψ)
 
-      abbrev at23 : Typed.TF T26 O0
-      at23 = λ Ψ. Typed.pass T26 T27 s23 (at22 Ψ)
+      abbrev at24 : Typed.TF T27 O0
+      at24 = λ Ψ. Typed.pass T27 T28 s24 (at23 Ψ)
 
-      abbrev at24 : Typed.TF T25 O0
-      at24 = λ Ψ. Typed.pass T25 T26 s22 (at23 Ψ)
+      abbrev at25 : Typed.TF T26 O0
+      at25 = λ Ψ. Typed.pass T26 T27 s23 (at24 Ψ)
 
-      abbrev at25 : Typed.TF T24 O0
-      at25 = λ Ψ. Typed.pass T24 T25 s21 (at24 Ψ)
+      abbrev at26 : Typed.TF T25 O0
+      at26 = λ Ψ. Typed.pass T25 T26 s22 (at25 Ψ)
 
-      abbrev at26 : Typed.TF T7 O0
-      at26 = λ Ψ. Typed.pass T7 T24 s20 (at25 Ψ)
+      abbrev at27 : Typed.TF T7 O0
+      at27 = λ Ψ. Typed.pass T7 T25 s21 (at26 Ψ)
 
-      abbrev at27 : Typed.TF T6 O0
-      at27 = λ Ψ. at20 (Typed.wantNext T7 O0 (at26 Ψ) Ψ)
+      abbrev at28 : Typed.TF T6 O0
+      at28 = λ Ψ. at21 (Typed.wantNext T7 O0 (at27 Ψ) Ψ)
 
-      abbrev at28 : Typed.TF T5 O0
-      at28 = λ Ψ. Typed.pass T5 T6 s4 (at27 Ψ)
+      abbrev at29 : Typed.TF T5 O0
+      at29 = λ Ψ. Typed.pass T5 T6 s4 (at28 Ψ)
 
-      abbrev at29 : Typed.TF T4 O0
-      at29 = λ Ψ. Typed.both s3 (at28 Ψ)
+      abbrev at30 : Typed.TF T4 O0
+      at30 = λ Ψ. Typed.both s3 (at29 Ψ)
 
-      abbrev at30 : Typed.TF T3 O0
-      at30 = λ Ψ. Typed.pass T3 T4 s2 (at29 Ψ)
+      abbrev at31 : Typed.TF T3 O0
+      at31 = λ Ψ. Typed.pass T3 T4 s2 (at30 Ψ)
 
-      abbrev at31 : Typed.TF T2 O0
-      at31 = λ Ψ. Typed.both s1 (at30 Ψ)
+      abbrev at32 : Typed.TF T2 O0
+      at32 = λ Ψ. Typed.both s1 (at31 Ψ)
 
-      abbrev at32 : Typed.TF T0 O0
-      at32 = λ Ψ. Typed.pass T0 T2 s0 (at31 Ψ)
+      abbrev at33 : Typed.TF T0 O0
+      at33 = λ Ψ. Typed.pass T0 T2 s0 (at32 Ψ)
 
       abbrev pub Φ : Typed.TF T0 O0
-      Φ = at32
+      Φ = at33
 
       module _ {M : Type 1} (𝓤 : URA.URA M) (H : Wp.Heap 𝓤) (A : Atoms.Atoms 𝓤) (W : Kit.Given 𝓤 H A)
           (𝓣 : Wp.Tables 𝓤 H) where
@@ -736,10 +766,10 @@ module _ (claims· : Claims) where
         G12 = record { locals = t10; slots = life0 ∷ List.[] }
 
         abbrev G13 : Row.Cx
-        G13 = record { locals = t7; slots = life0 ∷ List.[] }
+        G13 = record { locals = t11; slots = life0 ∷ List.[] }
 
         abbrev G14 : Row.Cx
-        G14 = record { locals = t11; slots = life0 ∷ List.[] }
+        G14 = record { locals = t7; slots = life0 ∷ List.[] }
 
         abbrev G15 : Row.Cx
         G15 = record { locals = t12; slots = life0 ∷ List.[] }
@@ -760,16 +790,16 @@ module _ (claims· : Claims) where
         G20 = record { locals = t17; slots = life0 ∷ List.[] }
 
         abbrev G21 : Row.Cx
-        G21 = record { locals = t17; slots = life0 ∷ List.[] }
+        G21 = record { locals = t18; slots = life0 ∷ List.[] }
 
         abbrev G22 : Row.Cx
-        G22 = record { locals = t6; slots = life0 ∷ List.[] }
+        G22 = record { locals = t18; slots = life0 ∷ List.[] }
 
         abbrev G23 : Row.Cx
         G23 = record { locals = t6; slots = life0 ∷ List.[] }
 
         abbrev G24 : Row.Cx
-        G24 = record { locals = t18; slots = life0 ∷ List.[] }
+        G24 = record { locals = t6; slots = life0 ∷ List.[] }
 
         abbrev G25 : Row.Cx
         G25 = record { locals = t19; slots = life0 ∷ List.[] }
@@ -781,7 +811,10 @@ module _ (claims· : Claims) where
         G27 = record { locals = t21; slots = life0 ∷ List.[] }
 
         abbrev G28 : Row.Cx
-        G28 = record { locals = t1; slots = life0 ∷ List.[] }
+        G28 = record { locals = t22; slots = life0 ∷ List.[] }
+
+        abbrev G29 : Row.Cx
+        G29 = record { locals = t1; slots = life0 ∷ List.[] }
 
         abbrev Δ0 : Typed.Outs
         Δ0 = record { next = Option.none; exits = List.[]; returns = Option.some G1 }
@@ -808,255 +841,276 @@ module _ (claims· : Claims) where
           d0 = Typed.t-skip 𝓤 H A W 𝓣 E Δ4 tt
 
           d1 : Typed.Typed 𝓤 H A 𝓣 E G8 b5 Δ4 at1
-          d1 = Typed.g-pre 𝓤 H A W 𝓣 E G8 G10 b5 Δ4 (Typed.pass T8 T10 s6) at0 (Scalar.g-room 𝓤 H A W E G8 10
+          d1 = Typed.g-pre 𝓤 H A W 𝓣 E G8 G10 b5 Δ4 (Typed.pass T8 T10 s6) at0 (Scalar.g-room 𝓤 H A W E G8 11
               Syntax.tyBool (Scalar.room-sc 𝓤 H A W Row.sBool)) d0
 
-          d2 : Typed.Typed 𝓤 H A 𝓣 E G13 b6 Δ4 at2
+          d2 : Typed.Typed 𝓤 H A 𝓣 E G14 b6 Δ4 at2
           d2 = Typed.t-exit 𝓤 H A W 𝓣 E 1 Δ4 tt
 
-          d3 : Typed.Typed 𝓤 H A 𝓣 E G12 b6 Δ4 at3
-          d3 = Typed.g-pre 𝓤 H A W 𝓣 E G12 G13 b6 Δ4 (Typed.pass T12 T13 s9) at2 (Scalar.g-room 𝓤 H A W E G12 10
+          d3 : Typed.Typed 𝓤 H A 𝓣 E G13 b6 Δ4 at3
+          d3 = Typed.g-pre 𝓤 H A W 𝓣 E G13 G14 b6 Δ4 (Typed.pass T13 T14 s10) at2 (Scalar.g-room 𝓤 H A W E G13 11
               Syntax.tyBool (Scalar.room-sc 𝓤 H A W Row.sBool)) d2
 
-          d4 : Typed.Typed 𝓤 H A 𝓣 E G11 b6 Δ4 at4
-          d4 = Typed.g-pre 𝓤 H A W 𝓣 E G11 G12 b6 Δ4 (Typed.pass T11 T12 s8) at3 (Scalar.g-room 𝓤 H A W E G11 4
-              Laws''.mir (Local.room-whole 𝓤 H A W (Declared.row Walked.the-type) Laws''.mir Path.refl)) d3
+          d4 : Typed.Typed 𝓤 H A 𝓣 E G12 b6 Δ4 at4
+          d4 = Typed.g-pre 𝓤 H A W 𝓣 E G12 G13 b6 Δ4 (Typed.pass T12 T13 s9) at3 (Scalar.g-room 𝓤 H A W E G12 5
+              Laws'''.mir (Local.room-whole 𝓤 H A W (Declared'.row Walked.the-type) Laws'''.mir Path.refl)) d3
 
-          d5 : Typed.Typed 𝓤 H A 𝓣 E G8 b6 Δ4 at5
-          d5 = Typed.g-pre 𝓤 H A W 𝓣 E G8 G11 b6 Δ4 (Typed.pass T8 T11 s7) at4 (Scalar.g-room 𝓤 H A W E G8 3 Laws'.mir (Local.room-whole
-              𝓤 H A W (Declared.row Question.the-type) Laws'.mir Path.refl)) d4
+          d5 : Typed.Typed 𝓤 H A 𝓣 E G11 b6 Δ4 at5
+          d5 = Typed.g-pre 𝓤 H A W 𝓣 E G11 G12 b6 Δ4 (Typed.pass T11 T12 s8) at4 (Scalar.g-room 𝓤 H A W E G11 4
+              Laws.mir (Local.room-whole 𝓤 H A W (Declared'.row HnsrPeerId.the-type) Laws.mir Path.refl)) d4
 
-          d6 : Typed.Typed 𝓤 H A 𝓣 E G8 b7 Δ4 at6
-          d6 = Scalar.t-cond 𝓤 H A W E 𝓣 G8 10 (λ x. x) b5 b6 Δ4 at1 at5 (Scalar.reads-sc 𝓤 H A W Row.sBool) Path.refl
-              d1 d5
+          d6 : Typed.Typed 𝓤 H A 𝓣 E G8 b6 Δ4 at6
+          d6 = Typed.g-pre 𝓤 H A W 𝓣 E G8 G11 b6 Δ4 (Typed.pass T8 T11 s7) at5 (Scalar.g-room 𝓤 H A W E G8 3 Laws''.mir (Local.room-whole
+              𝓤 H A W (Declared.row RecordQuestion.the-type) Laws''.mir Path.refl)) d5
 
-          d7 : Typed.Typed 𝓤 H A 𝓣 E G22 b13 Δ3 at7
-          d7 = Typed.s-typed 𝓤 H A W 𝓣 E G22 b13 Δ3 (Typed.ask s19) tt (Scalar.t-op2 𝓤 H A W E 𝓣 G22
-              (Syntax.add Syntax.unsigned) (Scalar.oAt 8 (Syntax.tyInt Syntax.w64) (Row.valS (Row.sInt Syntax.w64)))
-              (Scalar.oInt Syntax.w64 1) 8 (Rows.sc-here (Row.sInt Syntax.w64)) (Syntax.tyInt Syntax.w64)
+          d7 : Typed.Typed 𝓤 H A 𝓣 E G8 b7 Δ4 at7
+          d7 = Scalar.t-cond 𝓤 H A W E 𝓣 G8 11 (λ x. x) b5 b6 Δ4 at1 at6 (Scalar.reads-sc 𝓤 H A W Row.sBool) Path.refl
+              d1 d6
+
+          d8 : Typed.Typed 𝓤 H A 𝓣 E G23 b13 Δ3 at8
+          d8 = Typed.s-typed 𝓤 H A W 𝓣 E G23 b13 Δ3 (Typed.ask s20) tt (Scalar.t-op2 𝓤 H A W E 𝓣 G23
+              (Syntax.add Syntax.unsigned) (Scalar.oAt 9 (Syntax.tyInt Syntax.w64) (Row.valS (Row.sInt Syntax.w64)))
+              (Scalar.oInt Syntax.w64 1) 9 (Rows.sc-here (Row.sInt Syntax.w64)) (Syntax.tyInt Syntax.w64)
               (Row.valS (Row.sInt Syntax.w64)) (Row.sInt Syntax.w64 .of)
               (Scalar.reads-sc 𝓤 H A W (Row.sInt Syntax.w64), Path.refl) tt
               (Scalar.room-sc 𝓤 H A W (Row.sInt Syntax.w64)) (Scalar.holds-sc 𝓤 H A W (Row.sInt Syntax.w64)) Path.refl
               (λ u. Path.refl) λ u. tt)
 
-          d8 : Typed.Typed 𝓤 H A 𝓣 E G21 b13 Δ3 at8
-          d8 = Typed.g-pre 𝓤 H A W 𝓣 E G21 G22 b13 Δ3 (Typed.pass T21 T22 s18) at7 (Scalar.g-room 𝓤 H A W E G21 9
-              RelayPending.ty (Local.room-whole 𝓤 H A W RelayPending.row RelayPending.ty Path.refl)) d7
+          d9 : Typed.Typed 𝓤 H A 𝓣 E G22 b13 Δ3 at9
+          d9 = Typed.g-pre 𝓤 H A W 𝓣 E G22 G23 b13 Δ3 (Typed.pass T22 T23 s19) at8 (Scalar.g-room 𝓤 H A W E G22 10
+              RelayPending.ty (Local.room-whole 𝓤 H A W RelayPending.row RelayPending.ty Path.refl)) d8
 
-          d9 : Typed.Typed 𝓤 H A 𝓣 E G20 b14 Δ3 at9
-          d9 = Typed.s-seq 𝓤 H A W 𝓣 E G20 G21 b12 b13 Δ3 (Typed.both s17) at8 (Plain.t-call-plain 𝓤 H A W 𝓣 0 ps·2 r·2
-              (claims· .4) (claims· .5) "hnsr_circuit::tables::scan::pending_turn" (known .2) E (λ pos β. β) G20 (
+          d10 : Typed.Typed 𝓤 H A 𝓣 E G21 b14 Δ3 at10
+          d10 = Typed.s-seq 𝓤 H A W 𝓣 E G21 G22 b12 b13 Δ3 (Typed.both s18) at9 (Plain.t-call-plain 𝓤 H A W 𝓣 0 ps·2
+              r·2 (claims· .4) (claims· .5) "hnsr_circuit::tables::scan::pending_turn" (known .2) E (λ pos β. β) G21 (
                 record { pos = 3; st = List.[]; d = 0; at = λ x. x },
                 (
                   record { pos = 4; st = List.[]; d = 0; at = λ x. x },
                   (
-                    record { pos = 7; st = List.[]; d = 0; at = λ x. x },
-                    (record { pos = 9; st = List.[]; d = 0; at = λ x. x }, (Num.vAt 8 λ x. x, tt)),
+                    record { pos = 5; st = List.[]; d = 0; at = λ x. x },
+                    (
+                      record { pos = 8; st = List.[]; d = 0; at = λ x. x },
+                      (record { pos = 10; st = List.[]; d = 0; at = λ x. x }, (Num.vAt 9 λ x. x, tt)),
+                    ),
                   ),
                 ),
-              ) 7 List.[] (Call.sub-id 𝓤 H A W (G20 .slots)) (
+              ) 8 List.[] (Call.sub-id 𝓤 H A W (G21 .slots)) (
                 (
-                  Yields.yields-copy 𝓤 H A W (λ ρ. Unit) (Declared.row Question.the-type) Path.refl (Copies.cStruct
-                      Question.the-type Laws'.the-laws Laws'.the-copy .copy 𝓤 H A W)
-                      (Rows.whole (Declared.row Question.the-type)) (λ x. x) (λ x. x) (λ ρ told. Local.mem-whole 𝓤 H A
-                      W (Declared.row Question.the-type) ρ) λ ρ told. Local.whole-mem 𝓤 H A W
-                      (Declared.row Question.the-type) ρ,
+                  Yields.yields-copy 𝓤 H A W (λ ρ. Unit) (Declared.row RecordQuestion.the-type) Path.refl (Copies.cEnum
+                      RecordQuestion.the-type Laws''.the-laws Laws''.the-copy .copy 𝓤 H A W)
+                      (Rows.whole (Declared.row RecordQuestion.the-type)) (λ x. x) (λ x. x) (λ ρ told. Local.mem-whole
+                      𝓤 H A W (Declared.row RecordQuestion.the-type) ρ) λ ρ told. Local.whole-mem 𝓤 H A W
+                      (Declared.row RecordQuestion.the-type) ρ,
                   Path.refl,
                 ),
                 (
                   (
-                    Yields.yields-copy 𝓤 H A W (λ ρ. Unit) (Declared.row Walked.the-type) Path.refl (Copies.cStruct
-                        Walked.the-type Laws''.the-laws Laws''.the-copy .copy 𝓤 H A W)
-                        (Rows.whole (Declared.row Walked.the-type)) (λ x. x) (λ x. x) (λ ρ told. Local.mem-whole 𝓤 H A
-                        W (Declared.row Walked.the-type) ρ) λ ρ told. Local.whole-mem 𝓤 H A W
-                        (Declared.row Walked.the-type) ρ,
+                    Yields.yields-copy 𝓤 H A W (λ ρ. Unit) (Declared'.row HnsrPeerId.the-type) Path.refl (Copies.cStruct
+                        HnsrPeerId.the-type Laws.the-laws Laws.the-copy .copy 𝓤 H A W)
+                        (Rows.whole (Declared'.row HnsrPeerId.the-type)) (λ x. x) (λ x. x) (λ ρ told. Local.mem-whole 𝓤
+                        H A W (Declared'.row HnsrPeerId.the-type) ρ) λ ρ told. Local.whole-mem 𝓤 H A W
+                        (Declared'.row HnsrPeerId.the-type) ρ,
                     Path.refl,
                   ),
                   (
                     (
-                      Yields.yields-copy 𝓤 H A W (λ ρ. Unit) (Declared.row Walked.the-type) Path.refl (Copies.cStruct
-                          Walked.the-type Laws''.the-laws Laws''.the-copy .copy 𝓤 H A W)
-                          (Rows.whole (Declared.row Walked.the-type)) (λ x. x) (λ x. x) (λ ρ told. Local.mem-whole 𝓤 H
-                          A W (Declared.row Walked.the-type) ρ) λ ρ told. Local.whole-mem 𝓤 H A W
-                          (Declared.row Walked.the-type) ρ,
+                      Yields.yields-copy 𝓤 H A W (λ ρ. Unit) (Declared'.row Walked.the-type) Path.refl (Copies.cStruct
+                          Walked.the-type Laws'''.the-laws Laws'''.the-copy .copy 𝓤 H A W)
+                          (Rows.whole (Declared'.row Walked.the-type)) (λ x. x) (λ x. x) (λ ρ told. Local.mem-whole 𝓤 H
+                          A W (Declared'.row Walked.the-type) ρ) λ ρ told. Local.whole-mem 𝓤 H A W
+                          (Declared'.row Walked.the-type) ρ,
                       Path.refl,
                     ),
                     (
                       (
-                        Yields.yields-copy 𝓤 H A W (λ ρ. Unit) RelayPending.row Path.refl
-                            (RelayPending.copies .copy 𝓤 H A W) RelayPending.held (λ x. x) (λ x. x)
-                            (λ ρ told. Local.mem-whole 𝓤 H A W RelayPending.row ρ) λ ρ told. Local.whole-mem 𝓤 H A W
-                            RelayPending.row ρ,
+                        Yields.yields-copy 𝓤 H A W (λ ρ. Unit) (Declared'.row Walked.the-type) Path.refl (Copies.cStruct
+                            Walked.the-type Laws'''.the-laws Laws'''.the-copy .copy 𝓤 H A W)
+                            (Rows.whole (Declared'.row Walked.the-type)) (λ x. x) (λ x. x) (λ ρ told. Local.mem-whole 𝓤
+                            H A W (Declared'.row Walked.the-type) ρ) λ ρ told. Local.whole-mem 𝓤 H A W
+                            (Declared'.row Walked.the-type) ρ,
                         Path.refl,
                       ),
-                      ((Scalar.reads-sc 𝓤 H A W (Row.sInt Syntax.w64), Path.refl), tt),
+                      (
+                        (
+                          Yields.yields-copy 𝓤 H A W (λ ρ. Unit) RelayPending.row Path.refl
+                              (RelayPending.copies .copy 𝓤 H A W) RelayPending.held (λ x. x) (λ x. x)
+                              (λ ρ told. Local.mem-whole 𝓤 H A W RelayPending.row ρ) λ ρ told. Local.whole-mem 𝓤 H A W
+                              RelayPending.row ρ,
+                          Path.refl,
+                        ),
+                        ((Scalar.reads-sc 𝓤 H A W (Row.sInt Syntax.w64), Path.refl), tt),
+                      ),
                     ),
                   ),
                 ),
-              ) (Local.room-whole 𝓤 H A W (Declared.row Walked.the-type) Laws''.mir Path.refl) tt Path.refl) d8
+              ) (Local.room-whole 𝓤 H A W (Declared'.row Walked.the-type) Laws'''.mir Path.refl) tt Path.refl) d9
 
-          d10 : Typed.Typed 𝓤 H A 𝓣 E G19 b14 Δ3 at10
-          d10 = Typed.g-pre 𝓤 H A W 𝓣 E G19 G20 b14 Δ3 (Typed.pass T19 T20 s16) at9 (Scalar.g-room 𝓤 H A W E G19 13
-              RelayPending.ty (Local.room-whole 𝓤 H A W RelayPending.row RelayPending.ty Path.refl)) d9
+          d11 : Typed.Typed 𝓤 H A 𝓣 E G20 b14 Δ3 at11
+          d11 = Typed.g-pre 𝓤 H A W 𝓣 E G20 G21 b14 Δ3 (Typed.pass T20 T21 s17) at10 (Scalar.g-room 𝓤 H A W E G20 14
+              RelayPending.ty (Local.room-whole 𝓤 H A W RelayPending.row RelayPending.ty Path.refl)) d10
 
-          d11 : Typed.Typed 𝓤 H A 𝓣 E G18 b15 Δ3 at11
-          d11 = Typed.s-seq 𝓤 H A W 𝓣 E G18 G19 b11 b14 Δ3 (Typed.pass T18 T19 s15) at10 (LocalCopy.t-val-copy 𝓤 H A W
-              E 𝓣 (λ ρ. Unit) G18 13 9 RelayPending.row RelayPending.ty RelayPending.ty RelayPending.held
-              RelayPending.held (λ x. x) (λ x. x) (λ x. x) Path.refl (Own.told-none 𝓤 H A (G18 .slots)) (Yields.yields-copy
+          d12 : Typed.Typed 𝓤 H A 𝓣 E G19 b15 Δ3 at12
+          d12 = Typed.s-seq 𝓤 H A W 𝓣 E G19 G20 b11 b14 Δ3 (Typed.pass T19 T20 s16) at11 (LocalCopy.t-val-copy 𝓤 H A W
+              E 𝓣 (λ ρ. Unit) G19 14 10 RelayPending.row RelayPending.ty RelayPending.ty RelayPending.held
+              RelayPending.held (λ x. x) (λ x. x) (λ x. x) Path.refl (Own.told-none 𝓤 H A (G19 .slots)) (Yields.yields-copy
               𝓤 H A W (λ ρ. Unit) RelayPending.row Path.refl (RelayPending.copies .copy 𝓤 H A W) RelayPending.held
               (λ x. x) (λ x. x) (λ ρ told. Local.mem-whole 𝓤 H A W RelayPending.row ρ) λ ρ told. Local.whole-mem 𝓤 H A
               W RelayPending.row ρ) (Reads'.room-gone 𝓤 H A RelayPending.ty) (Yields.makes-mem 𝓤 H A W (λ ρ. Unit)
               RelayPending.row Path.refl RelayPending.held (λ x. x) λ ρ told. Local.whole-mem 𝓤 H A W RelayPending.row
-              ρ) Path.refl Path.refl) d10
+              ρ) Path.refl Path.refl) d11
 
-          d12 : Typed.Typed 𝓤 H A 𝓣 E G17 b15 Δ3 at12
-          d12 = Typed.g-pre 𝓤 H A W 𝓣 E G17 G18 b15 Δ3 (Typed.pass T17 T18 s14) at11 (Scalar.g-room 𝓤 H A W E G17 12
-              Syntax.tyPtr (Scalar.room-sc 𝓤 H A W Row.sPtr)) d11
+          d13 : Typed.Typed 𝓤 H A 𝓣 E G18 b15 Δ3 at13
+          d13 = Typed.g-pre 𝓤 H A W 𝓣 E G18 G19 b15 Δ3 (Typed.pass T18 T19 s15) at12 (Scalar.g-room 𝓤 H A W E G18 13
+              Syntax.tyPtr (Scalar.room-sc 𝓤 H A W Row.sPtr)) d12
 
-          d13 : Typed.Typed 𝓤 H A 𝓣 E G16 b15 Δ3 at13
-          d13 = Typed.g-pre 𝓤 H A W 𝓣 E G16 G17 b15 Δ3 (Typed.pass T16 T17 s13) at12 (Scalar.g-room 𝓤 H A W E G16 11
-              (Syntax.tyInt Syntax.w64) (Scalar.room-sc 𝓤 H A W (Row.sInt Syntax.w64))) d12
+          d14 : Typed.Typed 𝓤 H A 𝓣 E G17 b15 Δ3 at14
+          d14 = Typed.g-pre 𝓤 H A W 𝓣 E G17 G18 b15 Δ3 (Typed.pass T17 T18 s14) at13 (Scalar.g-room 𝓤 H A W E G17 12
+              (Syntax.tyInt Syntax.w64) (Scalar.room-sc 𝓤 H A W (Row.sInt Syntax.w64))) d13
 
-          d14 : Typed.Typed 𝓤 H A 𝓣 E G15 b16 Δ3 at14
-          d14 = Typed.s-seq 𝓤 H A W 𝓣 E G15 G16 b10 b15 Δ3 (Typed.both s12) at13 (Move.t-shs-copy-out 𝓤 H A W E
+          d15 : Typed.Typed 𝓤 H A 𝓣 E G16 b16 Δ3 at15
+          d15 = Typed.s-seq 𝓤 H A W 𝓣 E G16 G17 b10 b15 Δ3 (Typed.both s13) at14 (Move.t-shs-copy-out 𝓤 H A W E
               RelayPending.row 𝓣 Path.refl (RelayPending.copies .copy 𝓤 H A W)
-              (Copies.halved 𝓤 H A W RelayPending.copies) (λ ρ. Unit) G15 1 12 13 0 ref0 life0 RelayPending.ty
-              RelayPending.ty RelayPending.held (Shared.bySize 360) (λ u. u .1 .1 .1 .1 .1 .1 .1 .1 .0) (λ x. x)
+              (Copies.halved 𝓤 H A W RelayPending.copies) (λ ρ. Unit) G16 1 13 14 0 ref0 life0 RelayPending.ty
+              RelayPending.ty RelayPending.held (Shared.bySize 360) (λ u. u .1 .1 .1 .1 .1 .1 .1 .1 .1 .0) (λ x. x)
               RelayPending.none (λ x. Unit) (λ x. x) (λ x. x) (λ i o. Elements.at-mul o 360 i) Path.refl Path.refl
-              (Own.told-none 𝓤 H A (G15 .slots)) (DerefMove.learns-nothing 𝓤 H A RelayPending.row)
+              (Own.told-none 𝓤 H A (G16 .slots)) (DerefMove.learns-nothing 𝓤 H A RelayPending.row)
               (Reads'.as-is 𝓤 H A (Rows.sslice RelayPending.row ref0 0)) (Reads'.as-is 𝓤 H A (Rows.sc-here Row.sPtr))
               (Reads'.room-gone 𝓤 H A RelayPending.ty) (Yields.makes-mem 𝓤 H A W (λ ρ. Unit) RelayPending.row Path.refl
               RelayPending.held (λ x. x) λ ρ told. Local.whole-mem 𝓤 H A W RelayPending.row ρ) Path.refl tt Path.refl
-              Path.refl) d13
+              Path.refl) d14
 
-          d15 : Typed.Typed 𝓤 H A 𝓣 E G14 b17 Δ3 at15
-          d15 = Typed.s-seq 𝓤 H A W 𝓣 E G14 G15 b9 b16 Δ3 (Typed.ask s11) at14 (Scalar.t-op2 𝓤 H A W E 𝓣 G14
-              Syntax.offset (Scalar.oFld 1 ((Syntax.field 0) ∷ List.[]) ref0 0 Reads'.ptrVal) (Scalar.oAt 11
-              (Syntax.tyInt Syntax.w64) (Row.valS (Row.sInt Syntax.w64))) 12 (Rows.sc-here Row.sPtr) Syntax.tyPtr
+          d16 : Typed.Typed 𝓤 H A 𝓣 E G15 b17 Δ3 at16
+          d16 = Typed.s-seq 𝓤 H A W 𝓣 E G15 G16 b9 b16 Δ3 (Typed.ask s12) at15 (Scalar.t-op2 𝓤 H A W E 𝓣 G15
+              Syntax.offset (Scalar.oFld 1 ((Syntax.field 0) ∷ List.[]) ref0 0 Reads'.ptrVal) (Scalar.oAt 12
+              (Syntax.tyInt Syntax.w64) (Row.valS (Row.sInt Syntax.w64))) 13 (Rows.sc-here Row.sPtr) Syntax.tyPtr
               (Row.valS Row.sPtr) (Row.sPtr .of) (
                 Shared.reads-sslice-ptr 𝓤 H A W RelayPending.row ref0 0 0 Path.refl,
                 Path.refl,
               ) (Scalar.reads-sc 𝓤 H A W (Row.sInt Syntax.w64), Path.refl) (Reads'.room-gone 𝓤 H A Syntax.tyPtr)
-              (Scalar.holds-sc 𝓤 H A W Row.sPtr) Path.refl (λ u. Path.refl) λ u. tt) d14
+              (Scalar.holds-sc 𝓤 H A W Row.sPtr) Path.refl (λ u. Path.refl) λ u. tt) d15
 
-          d16 : Typed.Typed 𝓤 H A 𝓣 E G9 b18 Δ3 at16
-          d16 = Typed.s-seq 𝓤 H A W 𝓣 E G9 G14 b8 b17 Δ3 (Typed.ask s10) at15 (Scalar.t-op2 𝓤 H A W E 𝓣 G9
-              (Syntax.mul Syntax.unsigned) (Scalar.oAt 8 (Syntax.tyInt Syntax.w64) (Row.valS (Row.sInt Syntax.w64)))
-              (Scalar.oInt Syntax.w64 360) 11 (Rows.sc-here (Row.sInt Syntax.w64)) (Syntax.tyInt Syntax.w64)
+          d17 : Typed.Typed 𝓤 H A 𝓣 E G9 b18 Δ3 at17
+          d17 = Typed.s-seq 𝓤 H A W 𝓣 E G9 G15 b8 b17 Δ3 (Typed.ask s11) at16 (Scalar.t-op2 𝓤 H A W E 𝓣 G9
+              (Syntax.mul Syntax.unsigned) (Scalar.oAt 9 (Syntax.tyInt Syntax.w64) (Row.valS (Row.sInt Syntax.w64)))
+              (Scalar.oInt Syntax.w64 360) 12 (Rows.sc-here (Row.sInt Syntax.w64)) (Syntax.tyInt Syntax.w64)
               (Row.valS (Row.sInt Syntax.w64)) (Row.sInt Syntax.w64 .of)
               (Scalar.reads-sc 𝓤 H A W (Row.sInt Syntax.w64), Path.refl) tt
               (Reads'.room-gone 𝓤 H A (Syntax.tyInt Syntax.w64)) (Scalar.holds-sc 𝓤 H A W (Row.sInt Syntax.w64))
-              Path.refl (λ u. Path.refl) λ u. tt) d15
+              Path.refl (λ u. Path.refl) λ u. tt) d16
 
-          d17 : Typed.Typed 𝓤 H A 𝓣 E G8 b19 Δ3 at17
-          d17 = Typed.t-seq 𝓤 H A W 𝓣 E G8 G9 b7 b18 Δ3 at6 at16 d6 d16
+          d18 : Typed.Typed 𝓤 H A 𝓣 E G8 b19 Δ3 at18
+          d18 = Typed.t-seq 𝓤 H A W 𝓣 E G8 G9 b7 b18 Δ3 at7 at17 d7 d17
 
-          d18 : Typed.Typed 𝓤 H A 𝓣 E G6 b20 Δ3 at18
-          d18 = Typed.s-seq 𝓤 H A W 𝓣 E G6 G8 b4 b19 Δ3 (Typed.ask s5) at17 (Scalar.t-op2 𝓤 H A W E 𝓣 G6
-              (Syntax.lt Syntax.unsigned) (Scalar.oAt 8 (Syntax.tyInt Syntax.w64) (Row.valS (Row.sInt Syntax.w64))) (Scalar.oAt
-              6 (Syntax.tyInt Syntax.w64) (Row.valS (Row.sInt Syntax.w64))) 10 (Rows.sc-here Row.sBool) Syntax.tyBool
+          d19 : Typed.Typed 𝓤 H A 𝓣 E G6 b20 Δ3 at19
+          d19 = Typed.s-seq 𝓤 H A W 𝓣 E G6 G8 b4 b19 Δ3 (Typed.ask s5) at18 (Scalar.t-op2 𝓤 H A W E 𝓣 G6
+              (Syntax.lt Syntax.unsigned) (Scalar.oAt 9 (Syntax.tyInt Syntax.w64) (Row.valS (Row.sInt Syntax.w64))) (Scalar.oAt
+              7 (Syntax.tyInt Syntax.w64) (Row.valS (Row.sInt Syntax.w64))) 11 (Rows.sc-here Row.sBool) Syntax.tyBool
               (Row.valS Row.sBool) (Row.sBool .of) (Scalar.reads-sc 𝓤 H A W (Row.sInt Syntax.w64), Path.refl)
               (Scalar.reads-sc 𝓤 H A W (Row.sInt Syntax.w64), Path.refl) (Reads'.room-gone 𝓤 H A Syntax.tyBool)
-              (Scalar.holds-sc 𝓤 H A W Row.sBool) Path.refl (λ u. Path.refl) λ u. tt) d17
+              (Scalar.holds-sc 𝓤 H A W Row.sBool) Path.refl (λ u. Path.refl) λ u. tt) d18
 
-          d19 : Typed.Typed 𝓤 H A 𝓣 E G6 b21 Δ2 at19
-          d19 = Typed.t-loop-by 𝓤 H A W 𝓣 E G6 b20 Δ2 put0 (λ u vs. Inv·0 (Row.get 1 (T6 .locals) u .now)
+          d20 : Typed.Typed 𝓤 H A 𝓣 E G6 b21 Δ2 at20
+          d20 = Typed.t-loop-by 𝓤 H A W 𝓣 E G6 b20 Δ2 put0 (λ u vs. Inv·0 (Row.get 1 (T6 .locals) u .now)
               (Row.get 3 (T6 .locals) u) (Row.get 4 (T6 .locals) u) (Row.get 5 (T6 .locals) u)
-              (Row.get 6 (T6 .locals) u) (Row.get 7 (T6 .locals) u) (Row.get 8 (T6 .locals) u) (vs .0) (vs .1)) (λ u
-              vs. μ·0 (Row.get 1 (T6 .locals) u .now) (Row.get 3 (T6 .locals) u) (Row.get 4 (T6 .locals) u)
-              (Row.get 5 (T6 .locals) u) (Row.get 6 (T6 .locals) u) (Row.get 7 (T6 .locals) u)
-              (Row.get 8 (T6 .locals) u) (vs .0) (vs .1)) at18 d18
+              (Row.get 6 (T6 .locals) u) (Row.get 7 (T6 .locals) u) (Row.get 8 (T6 .locals) u)
+              (Row.get 9 (T6 .locals) u) (vs .0) (vs .1)) (λ u vs. μ·0 (Row.get 1 (T6 .locals) u .now)
+              (Row.get 3 (T6 .locals) u) (Row.get 4 (T6 .locals) u) (Row.get 5 (T6 .locals) u)
+              (Row.get 6 (T6 .locals) u) (Row.get 7 (T6 .locals) u) (Row.get 8 (T6 .locals) u)
+              (Row.get 9 (T6 .locals) u) (vs .0) (vs .1)) at19 d19
 
-          d20 : Typed.Typed 𝓤 H A 𝓣 E G6 b22 Δ1 at20
-          d20 = Typed.t-block 𝓤 H A W 𝓣 E G6 b21 Δ1 at19 d19
+          d21 : Typed.Typed 𝓤 H A 𝓣 E G6 b22 Δ1 at21
+          d21 = Typed.t-block 𝓤 H A W 𝓣 E G6 b21 Δ1 at20 d20
 
-          d21 : Typed.Typed 𝓤 H A 𝓣 E G28 b24 Δ0 at21
-          d21 = Typed.t-return 𝓤 H A W 𝓣 E Δ0 tt
+          d22 : Typed.Typed 𝓤 H A 𝓣 E G29 b24 Δ0 at22
+          d22 = Typed.t-return 𝓤 H A W 𝓣 E Δ0 tt
 
-          d22 : Typed.Typed 𝓤 H A 𝓣 E G27 b24 Δ0 at22
-          d22 = Typed.g-pre 𝓤 H A W 𝓣 E G27 G28 b24 Δ0 (Typed.pass T27 T28 s24) at21 (Scalar.g-room 𝓤 H A W E G27 8
-              (Syntax.tyInt Syntax.w64) (Scalar.room-sc 𝓤 H A W (Row.sInt Syntax.w64))) d21
+          d23 : Typed.Typed 𝓤 H A 𝓣 E G28 b24 Δ0 at23
+          d23 = Typed.g-pre 𝓤 H A W 𝓣 E G28 G29 b24 Δ0 (Typed.pass T28 T29 s25) at22 (Scalar.g-room 𝓤 H A W E G28 9
+              (Syntax.tyInt Syntax.w64) (Scalar.room-sc 𝓤 H A W (Row.sInt Syntax.w64))) d22
 
-          d23 : Typed.Typed 𝓤 H A 𝓣 E G26 b24 Δ0 at23
-          d23 = Typed.g-pre 𝓤 H A W 𝓣 E G26 G27 b24 Δ0 (Typed.pass T26 T27 s23) at22 (Scalar.g-room 𝓤 H A W E G26 7
-              Laws''.mir (Local.room-whole 𝓤 H A W (Declared.row Walked.the-type) Laws''.mir Path.refl)) d22
+          d24 : Typed.Typed 𝓤 H A 𝓣 E G27 b24 Δ0 at24
+          d24 = Typed.g-pre 𝓤 H A W 𝓣 E G27 G28 b24 Δ0 (Typed.pass T27 T28 s24) at23 (Scalar.g-room 𝓤 H A W E G27 8
+              Laws'''.mir (Local.room-whole 𝓤 H A W (Declared'.row Walked.the-type) Laws'''.mir Path.refl)) d23
 
-          d24 : Typed.Typed 𝓤 H A 𝓣 E G25 b24 Δ0 at24
-          d24 = Typed.g-pre 𝓤 H A W 𝓣 E G25 G26 b24 Δ0 (Typed.pass T25 T26 s22) at23 (Scalar.g-room 𝓤 H A W E G25 6
-              (Syntax.tyInt Syntax.w64) (Scalar.room-sc 𝓤 H A W (Row.sInt Syntax.w64))) d23
-
-          d25 : Typed.Typed 𝓤 H A 𝓣 E G24 b24 Δ0 at25
-          d25 = Typed.g-pre 𝓤 H A W 𝓣 E G24 G25 b24 Δ0 (Typed.pass T24 T25 s21) at24 (Scalar.g-room 𝓤 H A W E G24 5
+          d25 : Typed.Typed 𝓤 H A 𝓣 E G26 b24 Δ0 at25
+          d25 = Typed.g-pre 𝓤 H A W 𝓣 E G26 G27 b24 Δ0 (Typed.pass T26 T27 s23) at24 (Scalar.g-room 𝓤 H A W E G26 7
               (Syntax.tyInt Syntax.w64) (Scalar.room-sc 𝓤 H A W (Row.sInt Syntax.w64))) d24
 
-          d26 : Typed.Typed 𝓤 H A 𝓣 E G7 b25 Δ0 at26
-          d26 = Typed.s-seq 𝓤 H A W 𝓣 E G7 G24 b23 b24 Δ0 (Typed.pass T7 T24 s20) at25 (LocalCopy.t-val-copy 𝓤 H A W E
-              𝓣 (λ ρ. Unit) G7 7 0 (Declared.row Walked.the-type) Laws''.mir Laws''.mir
-              (Rows.whole (Declared.row Walked.the-type)) (Rows.whole (Declared.row Walked.the-type)) (λ x. x) (λ x. x)
-              (λ x. x) Path.refl (Own.told-none 𝓤 H A (G7 .slots)) (Yields.yields-copy 𝓤 H A W (λ ρ. Unit)
-              (Declared.row Walked.the-type) Path.refl (Copies.cStruct Walked.the-type Laws''.the-laws Laws''.the-copy
-              .copy 𝓤 H A W) (Rows.whole (Declared.row Walked.the-type)) (λ x. x) (λ x. x) (λ ρ told. Local.mem-whole 𝓤
-              H A W (Declared.row Walked.the-type) ρ) λ ρ told. Local.whole-mem 𝓤 H A W (Declared.row Walked.the-type)
-              ρ) (Reads'.room-gone 𝓤 H A Laws''.mir) (Yields.makes-mem 𝓤 H A W (λ ρ. Unit)
-              (Declared.row Walked.the-type) Path.refl (Rows.whole (Declared.row Walked.the-type)) (λ x. x) λ ρ told.
-              Local.whole-mem 𝓤 H A W (Declared.row Walked.the-type) ρ) Path.refl Path.refl) d25
+          d26 : Typed.Typed 𝓤 H A 𝓣 E G25 b24 Δ0 at26
+          d26 = Typed.g-pre 𝓤 H A W 𝓣 E G25 G26 b24 Δ0 (Typed.pass T25 T26 s22) at25 (Scalar.g-room 𝓤 H A W E G25 6
+              (Syntax.tyInt Syntax.w64) (Scalar.room-sc 𝓤 H A W (Row.sInt Syntax.w64))) d25
 
-          d27 : Typed.Typed 𝓤 H A 𝓣 E G6 b26 Δ0 at27
-          d27 = Typed.t-seq 𝓤 H A W 𝓣 E G6 G7 b22 b25 Δ0 at20 at26 d20 d26
+          d27 : Typed.Typed 𝓤 H A 𝓣 E G7 b25 Δ0 at27
+          d27 = Typed.s-seq 𝓤 H A W 𝓣 E G7 G25 b23 b24 Δ0 (Typed.pass T7 T25 s21) at26 (LocalCopy.t-val-copy 𝓤 H A W E
+              𝓣 (λ ρ. Unit) G7 8 0 (Declared'.row Walked.the-type) Laws'''.mir Laws'''.mir
+              (Rows.whole (Declared'.row Walked.the-type)) (Rows.whole (Declared'.row Walked.the-type)) (λ x. x)
+              (λ x. x) (λ x. x) Path.refl (Own.told-none 𝓤 H A (G7 .slots)) (Yields.yields-copy 𝓤 H A W (λ ρ. Unit)
+              (Declared'.row Walked.the-type) Path.refl (Copies.cStruct Walked.the-type Laws'''.the-laws
+              Laws'''.the-copy .copy 𝓤 H A W) (Rows.whole (Declared'.row Walked.the-type)) (λ x. x) (λ x. x) (λ ρ told.
+              Local.mem-whole 𝓤 H A W (Declared'.row Walked.the-type) ρ) λ ρ told. Local.whole-mem 𝓤 H A W
+              (Declared'.row Walked.the-type) ρ) (Reads'.room-gone 𝓤 H A Laws'''.mir) (Yields.makes-mem 𝓤 H A W
+              (λ ρ. Unit) (Declared'.row Walked.the-type) Path.refl (Rows.whole (Declared'.row Walked.the-type))
+              (λ x. x) λ ρ told. Local.whole-mem 𝓤 H A W (Declared'.row Walked.the-type) ρ) Path.refl Path.refl) d26
 
-          d28 : Typed.Typed 𝓤 H A 𝓣 E G5 b27 Δ0 at28
-          d28 = Typed.s-seq 𝓤 H A W 𝓣 E G5 G6 b3 b26 Δ0 (Typed.pass T5 T6 s4) at27 (Scalar.t-use 𝓤 H A W E 𝓣 G5
-              (Scalar.oInt Syntax.w64 0) 8 (Rows.sc-here (Row.sInt Syntax.w64)) (Syntax.tyInt Syntax.w64)
+          d28 : Typed.Typed 𝓤 H A 𝓣 E G6 b26 Δ0 at28
+          d28 = Typed.t-seq 𝓤 H A W 𝓣 E G6 G7 b22 b25 Δ0 at21 at27 d21 d27
+
+          d29 : Typed.Typed 𝓤 H A 𝓣 E G5 b27 Δ0 at29
+          d29 = Typed.s-seq 𝓤 H A W 𝓣 E G5 G6 b3 b26 Δ0 (Typed.pass T5 T6 s4) at28 (Scalar.t-use 𝓤 H A W E 𝓣 G5
+              (Scalar.oInt Syntax.w64 0) 9 (Rows.sc-here (Row.sInt Syntax.w64)) (Syntax.tyInt Syntax.w64)
               (Row.valS (Row.sInt Syntax.w64)) (Row.sInt Syntax.w64 .of) tt
               (Reads'.room-gone 𝓤 H A (Syntax.tyInt Syntax.w64)) (Scalar.holds-sc 𝓤 H A W (Row.sInt Syntax.w64))
-              Path.refl (λ u. Path.refl) λ u. tt) d27
+              Path.refl (λ u. Path.refl) λ u. tt) d28
 
-          d29 : Typed.Typed 𝓤 H A 𝓣 E G4 b28 Δ0 at29
-          d29 = Typed.s-seq 𝓤 H A W 𝓣 E G4 G5 b2 b27 Δ0 (Typed.both s3) at28 (Plain.t-call-plain 𝓤 H A W 𝓣 0 ps·1 r·1
-              (claims· .2) (claims· .3) "hnsr_circuit::tables::scan::not_yet" (known .1) E (λ pos β. β) G4 tt 7 List.[]
-              (Call.sub-id 𝓤 H A W (G4 .slots)) tt (Reads'.room-gone 𝓤 H A Laws''.mir) tt Path.refl) d28
+          d30 : Typed.Typed 𝓤 H A 𝓣 E G4 b28 Δ0 at30
+          d30 = Typed.s-seq 𝓤 H A W 𝓣 E G4 G5 b2 b27 Δ0 (Typed.both s3) at29 (Plain.t-call-plain 𝓤 H A W 𝓣 0 ps·1 r·1
+              (claims· .2) (claims· .3) "hnsr_circuit::tables::scan::not_yet" (known .1) E (λ pos β. β) G4 tt 8 List.[]
+              (Call.sub-id 𝓤 H A W (G4 .slots)) tt (Reads'.room-gone 𝓤 H A Laws'''.mir) tt Path.refl) d29
 
-          d30 : Typed.Typed 𝓤 H A 𝓣 E G3 b28 Δ0 at30
-          d30 = Typed.g-pre 𝓤 H A W 𝓣 E G3 G4 b28 Δ0 (Typed.pass T3 T4 s2) at29 (Scalar.g-room 𝓤 H A W E G3 2 Laws.mir (Local.room-whole
-              𝓤 H A W (Declared.row Places.the-type) Laws.mir Path.refl)) d29
+          d31 : Typed.Typed 𝓤 H A 𝓣 E G3 b28 Δ0 at31
+          d31 = Typed.g-pre 𝓤 H A W 𝓣 E G3 G4 b28 Δ0 (Typed.pass T3 T4 s2) at30 (Scalar.g-room 𝓤 H A W E G3 2 Laws'.mir (Local.room-whole
+              𝓤 H A W (Declared'.row Places.the-type) Laws'.mir Path.refl)) d30
 
-          d31 : Typed.Typed 𝓤 H A 𝓣 E G2 b29 Δ0 at31
-          d31 = Typed.s-seq 𝓤 H A W 𝓣 E G2 G3 b1 b28 Δ0 (Typed.both s1) at30 (Plain.t-call-plain 𝓤 H A W 𝓣 0 ps·0 r·0
+          d32 : Typed.Typed 𝓤 H A 𝓣 E G2 b29 Δ0 at32
+          d32 = Typed.s-seq 𝓤 H A W 𝓣 E G2 G3 b1 b28 Δ0 (Typed.both s1) at31 (Plain.t-call-plain 𝓤 H A W 𝓣 0 ps·0 r·0
               (claims· .0) (claims· .1) "hns_encoding::numbers::min_usize" (known .0) E (λ pos β. β) G2 (
                 Num.vFld 2 ((Syntax.field 0) ∷ List.[]) 0 λ x. Places.struct .as-values x .0,
-                (Num.vAt 5 λ x. x, tt),
-              ) 6 List.[] (Call.sub-id 𝓤 H A W (G2 .slots)) (
+                (Num.vAt 6 λ x. x, tt),
+              ) 7 List.[] (Call.sub-id 𝓤 H A W (G2 .slots)) (
                 (
-                  Reads.reads-field 𝓤 H A W Places.the-type Laws.the-laws 0 (Syntax.tyInt Syntax.w64) 0 Path.refl,
+                  Reads.reads-field 𝓤 H A W Places.the-type Laws'.the-laws 0 (Syntax.tyInt Syntax.w64) 0 Path.refl,
                   Path.refl,
                 ),
                 ((Scalar.reads-sc 𝓤 H A W (Row.sInt Syntax.w64), Path.refl), tt),
-              ) (Reads'.room-gone 𝓤 H A (Syntax.tyInt Syntax.w64)) tt Path.refl) d30
+              ) (Reads'.room-gone 𝓤 H A (Syntax.tyInt Syntax.w64)) tt Path.refl) d31
 
-          d32 : Typed.Typed 𝓤 H A 𝓣 E G0 b30 Δ0 at32
-          d32 = Typed.s-seq 𝓤 H A W 𝓣 E G0 G2 b0 b29 Δ0 (Typed.pass T0 T2 s0) at31 (Scalar.t-use 𝓤 H A W E 𝓣 G0 (Scalar.oFld
-              1 ((Syntax.field 1) ∷ List.[]) (Syntax.tyInt Syntax.w64) 8 Shared.lenV) 5
+          d33 : Typed.Typed 𝓤 H A 𝓣 E G0 b30 Δ0 at33
+          d33 = Typed.s-seq 𝓤 H A W 𝓣 E G0 G2 b0 b29 Δ0 (Typed.pass T0 T2 s0) at32 (Scalar.t-use 𝓤 H A W E 𝓣 G0 (Scalar.oFld
+              1 ((Syntax.field 1) ∷ List.[]) (Syntax.tyInt Syntax.w64) 8 Shared.lenV) 6
               (Rows.sc-here (Row.sInt Syntax.w64)) (Syntax.tyInt Syntax.w64) (Row.valS (Row.sInt Syntax.w64))
               (Row.sInt Syntax.w64 .of) (
                 Shared.reads-sslice-len 𝓤 H A W RelayPending.row ref0 0 8 Path.refl,
                 Path.refl,
               ) (Reads'.room-gone 𝓤 H A (Syntax.tyInt Syntax.w64)) (Scalar.holds-sc 𝓤 H A W (Row.sInt Syntax.w64))
-              Path.refl (λ u. Path.refl) λ u. tt) d31
+              Path.refl (λ u. Path.refl) λ u. tt) d32
 
           pub typed : Typed.Typed 𝓤 H A 𝓣 E (Function.Γin 1 ps r xs m κs qs) b30 (Function.Δret 1 ps r xs m κs qs) Φ
-          typed = d32
+          typed = d33
 
       module _ (κs : Lifetimes.Lfts 1) where
         pub record Args : Type 0 where
           pub pending : Kinds.Den {n = 1} κs (ShrSlice.pShrS RelayPending.row 0 tt)
-          pub places : Kinds.Den {n = 1} κs (StructRow.param Places.the-type Laws.the-laws Laws.the-copy Laws.the-plain)
-          pub question : Kinds.Den {n = 1} κs (StructRow.param Question.the-type Laws'.the-laws Laws'.the-copy
+          pub places : Kinds.Den {n = 1} κs (StructRow.param Places.the-type Laws'.the-laws Laws'.the-copy
               Laws'.the-plain)
-          pub cursor : Kinds.Den {n = 1} κs (StructRow.param Walked.the-type Laws''.the-laws Laws''.the-copy
-              Laws''.the-plain)
+          pub question : Kinds.Den {n = 1} κs (StructRow.enum-param RecordQuestion.the-type Laws''.the-laws
+              Laws''.the-copy Laws''.the-plain tt)
+          pub peer : Kinds.Den {n = 1} κs (StructRow.param HnsrPeerId.the-type Laws.the-laws Laws.the-copy
+              Laws.the-plain)
+          pub cursor : Kinds.Den {n = 1} κs (StructRow.param Walked.the-type Laws'''.the-laws Laws'''.the-copy
+              Laws'''.the-plain)
 
         abbrev pub dens : (a : Args) → Kinds.Dens κs ps
-        dens = λ a. (a .pending, (a .places, (a .question, (a .cursor, tt))))
+        dens = λ a. (a .pending, (a .places, (a .question, (a .peer, (a .cursor, tt)))))
 
       abbrev pub m0 : (κs : Lifetimes.Lfts 1) → (args : Args κs) → Typed.Mo T0
       m0 = λ κs args. (tt, Enter.partsP κs 1 ps xs (dens κs args))
@@ -1126,7 +1180,7 @@ module _ (claims· : Claims) where
 
       abbrev W1 : (before : After-min-usize) → (given : s3 .gives (m3 (before .before) (After-min-usize·gave before)))
           → Typed.Want O1
-      W1 = λ before given. Typed.wantNext T7 O0 (at26 (W0 (before .before .κs) (before .before .args)))
+      W1 = λ before given. Typed.wantNext T7 O0 (at27 (W0 (before .before .κs) (before .before .args)))
           (W0 (before .before .κs) (before .before .args))
 
       abbrev W2 : (before : After-min-usize) → (given : s3 .gives (m3 (before .before) (After-min-usize·gave before)))
@@ -1139,37 +1193,37 @@ module _ (claims· : Claims) where
           (m5 (c .before) (After-not-yet·gave c))) (Row.get 5 (T6 .locals) (m5 (c .before) (After-not-yet·gave c))) (Row.get
           6 (T6 .locals) (m5 (c .before) (After-not-yet·gave c))) (Row.get 7 (T6 .locals)
           (m5 (c .before) (After-not-yet·gave c))) (Row.get 8 (T6 .locals) (m5 (c .before) (After-not-yet·gave c))) (Row.get
-          7 (T6 .locals) (m5 (c .before) (After-not-yet·gave c))) (Row.get 8 (T6 .locals)
-          (m5 (c .before) (After-not-yet·gave c)))
+          9 (T6 .locals) (m5 (c .before) (After-not-yet·gave c))) (Row.get 8 (T6 .locals)
+          (m5 (c .before) (After-not-yet·gave c))) (Row.get 9 (T6 .locals) (m5 (c .before) (After-not-yet·gave c)))
 
-      abbrev pub m6 : (before : After-not-yet) → (best : Rows.whole (Declared.row Walked.the-type) .Mod) →
+      abbrev pub m6 : (before : After-not-yet) → (best : Rows.whole (Declared'.row Walked.the-type) .Mod) →
           (i : Rows.sc-here (Row.sInt Syntax.w64) .Mod) → Typed.Mo T6
-      m6 = λ before best i. Row.set 8 (8, Rows.sc-here (Row.sInt Syntax.w64)) i (Row.setRow 7
-          (7, Rows.whole (Declared.row Walked.the-type)) (T6 .locals)) (Row.set 7
-          (7, Rows.whole (Declared.row Walked.the-type)) best (T6 .locals)
+      m6 = λ before best i. Row.set 9 (9, Rows.sc-here (Row.sInt Syntax.w64)) i (Row.setRow 8
+          (8, Rows.whole (Declared'.row Walked.the-type)) (T6 .locals)) (Row.set 8
+          (8, Rows.whole (Declared'.row Walked.the-type)) best (T6 .locals)
           (m5 (before .before) (After-not-yet·gave before)))
 
-      abbrev W3 : (before : After-not-yet) → (best : Rows.whole (Declared.row Walked.the-type) .Mod) →
+      abbrev W3 : (before : After-not-yet) → (best : Rows.whole (Declared'.row Walked.the-type) .Mod) →
           (i : Rows.sc-here (Row.sInt Syntax.w64) .Mod) → Typed.Want O3
       W3 = λ before best i. Typed.inLoop T6 O2 (Typed.Round T6 O2 put0 (λ u vs. Inv·0 (Row.get 1 (T6 .locals) u .now)
           (Row.get 3 (T6 .locals) u) (Row.get 4 (T6 .locals) u) (Row.get 5 (T6 .locals) u) (Row.get 6 (T6 .locals) u)
-          (Row.get 7 (T6 .locals) u) (Row.get 8 (T6 .locals) u) (vs .0) (vs .1)) (λ u vs. μ·0
-          (Row.get 1 (T6 .locals) u .now) (Row.get 3 (T6 .locals) u) (Row.get 4 (T6 .locals) u)
+          (Row.get 7 (T6 .locals) u) (Row.get 8 (T6 .locals) u) (Row.get 9 (T6 .locals) u) (vs .0) (vs .1)) (λ u vs.
+          μ·0 (Row.get 1 (T6 .locals) u .now) (Row.get 3 (T6 .locals) u) (Row.get 4 (T6 .locals) u)
           (Row.get 5 (T6 .locals) u) (Row.get 6 (T6 .locals) u) (Row.get 7 (T6 .locals) u) (Row.get 8 (T6 .locals) u)
-          (vs .0) (vs .1)) at18 (m5 (before .before) (After-not-yet·gave before)) (best, i))
+          (Row.get 9 (T6 .locals) u) (vs .0) (vs .1)) at19 (m5 (before .before) (After-not-yet·gave before)) (best, i))
           (W2 (before .before) (After-not-yet·gave before))
 
-      abbrev pub m7 : (before : After-not-yet) → (best : Rows.whole (Declared.row Walked.the-type) .Mod) →
+      abbrev pub m7 : (before : After-not-yet) → (best : Rows.whole (Declared'.row Walked.the-type) .Mod) →
           (i : Rows.sc-here (Row.sInt Syntax.w64) .Mod) → Typed.Mo T8
       m7 = λ before best i. s5 .next (m6 before best i)
 
-      abbrev W4 : (before : After-not-yet) → (best : Rows.whole (Declared.row Walked.the-type) .Mod) →
+      abbrev W4 : (before : After-not-yet) → (best : Rows.whole (Declared'.row Walked.the-type) .Mod) →
           (i : Rows.sc-here (Row.sInt Syntax.w64) .Mod) → Typed.Want O4
-      W4 = λ before best i. Typed.wantNext T9 O3 (at16 (W3 before best i)) (W3 before best i)
+      W4 = λ before best i. Typed.wantNext T9 O3 (at17 (W3 before best i)) (W3 before best i)
 
       module _ (before· : After-not-yet) where
         pub record At-loop·own : Type 0 where
-          pub best : Rows.whole (Declared.row Walked.the-type) .Mod
+          pub best : Rows.whole (Declared'.row Walked.the-type) .Mod
           pub i : Rows.sc-here (Row.sInt Syntax.w64) .Mod
           pub inv : Inv·0 (Row.get 1 (T6 .locals) (m5 (before· .before) (After-not-yet·gave before·)) .now) (Row.get 3
               (T6 .locals) (m5 (before· .before) (After-not-yet·gave before·))) (Row.get 4 (T6 .locals)
@@ -1177,6 +1231,7 @@ module _ (claims· : Claims) where
               (m5 (before· .before) (After-not-yet·gave before·))) (Row.get 6 (T6 .locals)
               (m5 (before· .before) (After-not-yet·gave before·))) (Row.get 7 (T6 .locals)
               (m5 (before· .before) (After-not-yet·gave before·))) (Row.get 8 (T6 .locals)
+              (m5 (before· .before) (After-not-yet·gave before·))) (Row.get 9 (T6 .locals)
               (m5 (before· .before) (After-not-yet·gave before·))) best i
 
       pub record At-loop : Type 0 where
@@ -1185,8 +1240,8 @@ module _ (claims· : Claims) where
 
       module _ (before· : At-loop) where
         pub record In-loop·own : Type 0 where
-          pub taken : Nat._<_ (Row.get 8 (T6 .locals) (m6 (before· .before) (before· .loop .best) (before· .loop .i))) (Row.get
-              6 (T6 .locals) (m6 (before· .before) (before· .loop .best) (before· .loop .i)))
+          pub taken : Nat._<_ (Row.get 9 (T6 .locals) (m6 (before· .before) (before· .loop .best) (before· .loop .i))) (Row.get
+              7 (T6 .locals) (m6 (before· .before) (before· .loop .best) (before· .loop .i)))
 
       pub record In-loop : Type 0 where
         pub before : At-loop
@@ -1197,8 +1252,8 @@ module _ (claims· : Claims) where
 
       module _ (before· : At-loop) where
         pub record After-loop·own : Type 0 where
-          pub left : Nat._≤_ (Row.get 6 (T6 .locals) (m6 (before· .before) (before· .loop .best) (before· .loop .i))) (Row.get
-              8 (T6 .locals) (m6 (before· .before) (before· .loop .best) (before· .loop .i)))
+          pub left : Nat._≤_ (Row.get 7 (T6 .locals) (m6 (before· .before) (before· .loop .best) (before· .loop .i))) (Row.get
+              9 (T6 .locals) (m6 (before· .before) (before· .loop .best) (before· .loop .i)))
 
       pub record After-loop : Type 0 where
         pub before : At-loop
@@ -1213,73 +1268,76 @@ module _ (claims· : Claims) where
       abbrev pub m11 : (before : At-loop) → Typed.Mo T13
       m11 = λ before. s9 (m10 before)
 
-      abbrev pub Need-mul-row : Type 0
-      Need-mul-row = (c : In-loop) → s10 .asks (m8 (c .before))
-
       abbrev pub m12 : (before : At-loop) → Typed.Mo T14
-      m12 = λ before. s10 .next (m8 before)
+      m12 = λ before. s10 (m11 before)
+
+      abbrev pub Need-mul-row : Type 0
+      Need-mul-row = (c : In-loop) → s11 .asks (m8 (c .before))
 
       abbrev pub m13 : (before : At-loop) → Typed.Mo T15
-      m13 = λ before. s11 .next (m12 before)
+      m13 = λ before. s11 .next (m8 before)
+
+      abbrev pub m14 : (before : At-loop) → Typed.Mo T16
+      m14 = λ before. s12 .next (m13 before)
 
       abbrev pub Need-shared-slice-copy-out-row : Type 0
-      Need-shared-slice-copy-out-row = (c : In-loop) → Shared.InSlice T15 1 12 (λ x. x)
-          (λ u. u .1 .1 .1 .1 .1 .1 .1 .1 .0) (m13 (c .before))
+      Need-shared-slice-copy-out-row = (c : In-loop) → Shared.InSlice T16 1 13 (λ x. x)
+          (λ u. u .1 .1 .1 .1 .1 .1 .1 .1 .1 .0) (m14 (c .before))
 
-      abbrev pub m14 : (before : In-loop) → (given : s12 .gives (m13 (before .before))) → Typed.Mo T16
-      m14 = λ before given. s12 .next (m13 (before .before)) given
+      abbrev pub m15 : (before : In-loop) → (given : s13 .gives (m14 (before .before))) → Typed.Mo T17
+      m15 = λ before given. s13 .next (m14 (before .before)) given
 
-      abbrev pub m15 : (before : In-loop) → (given : s12 .gives (m13 (before .before))) → Typed.Mo T17
-      m15 = λ before given. s13 (m14 before given)
-
-      abbrev pub m16 : (before : In-loop) → (given : s12 .gives (m13 (before .before))) → Typed.Mo T18
+      abbrev pub m16 : (before : In-loop) → (given : s13 .gives (m14 (before .before))) → Typed.Mo T18
       m16 = λ before given. s14 (m15 before given)
 
-      abbrev pub m17 : (before : In-loop) → (given : s12 .gives (m13 (before .before))) → Typed.Mo T19
+      abbrev pub m17 : (before : In-loop) → (given : s13 .gives (m14 (before .before))) → Typed.Mo T19
       m17 = λ before given. s15 (m16 before given)
 
-      abbrev pub m18 : (before : In-loop) → (given : s12 .gives (m13 (before .before))) → Typed.Mo T20
+      abbrev pub m18 : (before : In-loop) → (given : s13 .gives (m14 (before .before))) → Typed.Mo T20
       m18 = λ before given. s16 (m17 before given)
+
+      abbrev pub m19 : (before : In-loop) → (given : s13 .gives (m14 (before .before))) → Typed.Mo T21
+      m19 = λ before given. s17 (m18 before given)
 
       module _ (before· : In-loop) where
         pub record After-row·own : Type 0 where
-          pub given : s12 .gives (m13 (before· .before))
+          pub given : s13 .gives (m14 (before· .before))
 
       pub record After-row : Type 0 where
         pub before : In-loop
         pub row : After-row·own before
 
       abbrev pub Need-pending-turn-requires : Type 0
-      Need-pending-turn-requires = (c : After-row) → s17 .asks (m18 (c .before) (c .row .given))
+      Need-pending-turn-requires = (c : After-row) → s18 .asks (m19 (c .before) (c .row .given))
 
-      abbrev pub m19 : (before : After-row) → (given : s17 .gives (m18 (before .before) (before .row .given))) →
-          Typed.Mo T21
-      m19 = λ before given. s17 .next (m18 (before .before) (before .row .given)) given
+      abbrev pub m20 : (before : After-row) → (given : s18 .gives (m19 (before .before) (before .row .given))) →
+          Typed.Mo T22
+      m20 = λ before given. s18 .next (m19 (before .before) (before .row .given)) given
 
       module _ (before· : After-row) where
         abbrev pub After-pending-turn·own : Type 0
-        After-pending-turn·own = Called.Called ps·2 r·2 (claims· .5) T20 args17
-            (m18 (before· .before) (before· .row .given))
+        After-pending-turn·own = Called.Called ps·2 r·2 (claims· .5) T21 args18
+            (m19 (before· .before) (before· .row .given))
 
       pub record After-pending-turn : Type 0 where
         pub before : After-row
         pub pending-turn : After-pending-turn·own before
 
-      abbrev pub After-pending-turn·gave : (c : After-pending-turn) → s17 .gives
-          (m18 (c .before .before) (c .before .row .given))
-      After-pending-turn·gave = λ c. Called.given ps·2 r·2 (claims· .5) T20 args17
-          (m18 (c .before .before) (c .before .row .given)) (c .pending-turn)
+      abbrev pub After-pending-turn·gave : (c : After-pending-turn) → s18 .gives
+          (m19 (c .before .before) (c .before .row .given))
+      After-pending-turn·gave = λ c. Called.given ps·2 r·2 (claims· .5) T21 args18
+          (m19 (c .before .before) (c .before .row .given)) (c .pending-turn)
 
-      abbrev pub m20 : (before : After-row) → (given : s17 .gives (m18 (before .before) (before .row .given))) →
-          Typed.Mo T22
-      m20 = λ before given. s18 (m19 before given)
+      abbrev pub m21 : (before : After-row) → (given : s18 .gives (m19 (before .before) (before .row .given))) →
+          Typed.Mo T23
+      m21 = λ before given. s19 (m20 before given)
 
       abbrev pub Need-add-i : Type 0
-      Need-add-i = (c : After-pending-turn) → s19 .asks (m20 (c .before) (After-pending-turn·gave c))
+      Need-add-i = (c : After-pending-turn) → s20 .asks (m21 (c .before) (After-pending-turn·gave c))
 
-      abbrev pub m21 : (before : After-row) → (given : s17 .gives (m18 (before .before) (before .row .given))) →
-          Typed.Mo T23
-      m21 = λ before given. s19 .next (m20 before given)
+      abbrev pub m22 : (before : After-row) → (given : s18 .gives (m19 (before .before) (before .row .given))) →
+          Typed.Mo T24
+      m22 = λ before given. s20 .next (m21 before given)
 
       abbrev pub Need-loop-less : Type 0
       Need-loop-less = (c : After-pending-turn) → Nat._<_ (μ·0 (Row.get 1 (T6 .locals) (m5
@@ -1293,8 +1351,10 @@ module _ (claims· : Claims) where
           7 (T6 .locals) (m5 (c .before .before .before .before .before)
           (After-not-yet·gave (c .before .before .before .before)))) (Row.get 8 (T6 .locals) (m5
           (c .before .before .before .before .before) (After-not-yet·gave (c .before .before .before .before)))) (Row.get
-          7 (T6 .locals) (m21 (c .before) (After-pending-turn·gave c))) (Row.get 8 (T6 .locals)
-          (m21 (c .before) (After-pending-turn·gave c)))) (μ·0 (Row.get 1 (T6 .locals) (m5
+          9 (T6 .locals) (m5 (c .before .before .before .before .before)
+          (After-not-yet·gave (c .before .before .before .before)))) (Row.get 8 (T6 .locals)
+          (m22 (c .before) (After-pending-turn·gave c))) (Row.get 9 (T6 .locals)
+          (m22 (c .before) (After-pending-turn·gave c)))) (μ·0 (Row.get 1 (T6 .locals) (m5
           (c .before .before .before .before .before) (After-not-yet·gave (c .before .before .before .before))) .now) (Row.get
           3 (T6 .locals) (m5 (c .before .before .before .before .before)
           (After-not-yet·gave (c .before .before .before .before)))) (Row.get 4 (T6 .locals) (m5
@@ -1304,8 +1364,10 @@ module _ (claims· : Claims) where
           (c .before .before .before .before .before) (After-not-yet·gave (c .before .before .before .before)))) (Row.get
           7 (T6 .locals) (m5 (c .before .before .before .before .before)
           (After-not-yet·gave (c .before .before .before .before)))) (Row.get 8 (T6 .locals) (m5
-          (c .before .before .before .before .before) (After-not-yet·gave (c .before .before .before .before))))
-          (c .before .before .before .loop .best) (c .before .before .before .loop .i))
+          (c .before .before .before .before .before) (After-not-yet·gave (c .before .before .before .before)))) (Row.get
+          9 (T6 .locals) (m5 (c .before .before .before .before .before)
+          (After-not-yet·gave (c .before .before .before .before)))) (c .before .before .before .loop .best)
+          (c .before .before .before .loop .i))
 
       abbrev pub Need-loop-again : Type 0
       Need-loop-again = (c : After-pending-turn) → Inv·0 (Row.get 1 (T6 .locals) (m5
@@ -1319,14 +1381,13 @@ module _ (claims· : Claims) where
           7 (T6 .locals) (m5 (c .before .before .before .before .before)
           (After-not-yet·gave (c .before .before .before .before)))) (Row.get 8 (T6 .locals) (m5
           (c .before .before .before .before .before) (After-not-yet·gave (c .before .before .before .before)))) (Row.get
-          7 (T6 .locals) (m21 (c .before) (After-pending-turn·gave c))) (Row.get 8 (T6 .locals)
-          (m21 (c .before) (After-pending-turn·gave c)))
-
-      abbrev pub m22 : (before : At-loop) → Typed.Mo T24
-      m22 = λ before. s20 (m11 before)
+          9 (T6 .locals) (m5 (c .before .before .before .before .before)
+          (After-not-yet·gave (c .before .before .before .before)))) (Row.get 8 (T6 .locals)
+          (m22 (c .before) (After-pending-turn·gave c))) (Row.get 9 (T6 .locals)
+          (m22 (c .before) (After-pending-turn·gave c)))
 
       abbrev pub m23 : (before : At-loop) → Typed.Mo T25
-      m23 = λ before. s21 (m22 before)
+      m23 = λ before. s21 (m12 before)
 
       abbrev pub m24 : (before : At-loop) → Typed.Mo T26
       m24 = λ before. s22 (m23 before)
@@ -1337,28 +1398,31 @@ module _ (claims· : Claims) where
       abbrev pub m26 : (before : At-loop) → Typed.Mo T28
       m26 = λ before. s24 (m25 before)
 
+      abbrev pub m27 : (before : At-loop) → Typed.Mo T29
+      m27 = λ before. s25 (m26 before)
+
       abbrev pub Need-returns : Type 0
       Need-returns = (c : After-loop) → Post· (c .before .before .before .before .κs) (dens
           (c .before .before .before .before .κs) (c .before .before .before .before .args)) (Function.resV r
-          (c .before .before .before .before .κs) (m26 (c .before) .0)) (Clauses.atExit (Kinds.endedOf 1 ps r)
+          (c .before .before .before .before .κs) (m27 (c .before) .0)) (Clauses.atExit (Kinds.endedOf 1 ps r)
           (c .before .before .before .before .κs) (dens (c .before .before .before .before .κs)
           (c .before .before .before .before .args)) (Enter.lastsP (c .before .before .before .before .κs) 1 ps xs (dens
-          (c .before .before .before .before .κs) (c .before .before .before .before .args)) (m26 (c .before) .1)))
+          (c .before .before .before .before .κs) (c .before .before .before .before .args)) (m27 (c .before) .1)))
 
       module _ (min-usize-requires : Need-min-usize-requires) (not-yet-requires : Need-not-yet-requires)
           (loop-holds : Need-loop-holds) (mul-row : Need-mul-row) (shared-slice-copy-out-row :
           Need-shared-slice-copy-out-row) (pending-turn-requires : Need-pending-turn-requires) (add-i : Need-add-i)
           (loop-less : Need-loop-less) (loop-again : Need-loop-again) (returns : Need-returns) where
-        lay7 : (c : After-loop) → at26 (W0 (c .before .before .before .before .κs)
-            (c .before .before .before .before .args)) (m11 (c .before))
+        lay7 : (c : After-loop) → at27 (W0 (c .before .before .before .before .κs)
+            (c .before .before .before .before .args)) (m12 (c .before))
         lay7 = λ c. (
-          (Path.refl, (tt, (tt, (tt, tt)))),
+          (Path.refl, (tt, (tt, (tt, (tt, tt))))),
           returns record { before = c .before; loop-test = c .loop-test },
         )
 
-        lay6 : (c : After-pending-turn) → at8 (W3 (c .before .before .before .before)
+        lay6 : (c : After-pending-turn) → at9 (W3 (c .before .before .before .before)
             (c .before .before .before .loop .best) (c .before .before .before .loop .i))
-            (m19 (c .before) (After-pending-turn·gave c))
+            (m20 (c .before) (After-pending-turn·gave c))
         lay6 = λ c. (
           add-i record { before = c .before; pending-turn = c .pending-turn },
           (
@@ -1372,16 +1436,17 @@ module _ (claims· : Claims) where
                 (After-not-yet·gave (c .before .before .before .before)))) (Row.get 7 (T6 .locals) (m5
                 (c .before .before .before .before .before) (After-not-yet·gave (c .before .before .before .before)))) (Row.get
                 8 (T6 .locals) (m5 (c .before .before .before .before .before)
-                (After-not-yet·gave (c .before .before .before .before)))) (Row.get 7 (T6 .locals)
-                (m21 (c .before) (After-pending-turn·gave c))) (Row.get 8 (T6 .locals)
-                (m21 (c .before) (After-pending-turn·gave c))),
+                (After-not-yet·gave (c .before .before .before .before)))) (Row.get 9 (T6 .locals) (m5
+                (c .before .before .before .before .before) (After-not-yet·gave (c .before .before .before .before)))) (Row.get
+                8 (T6 .locals) (m22 (c .before) (After-pending-turn·gave c))) (Row.get 9 (T6 .locals)
+                (m22 (c .before) (After-pending-turn·gave c))),
             loop-less record { before = c .before; pending-turn = c .pending-turn },
             (
               (
-                Row.get 7 (T6 .locals) (m21 (c .before) (After-pending-turn·gave c)),
-                Row.get 8 (T6 .locals) (m21 (c .before) (After-pending-turn·gave c)),
+                Row.get 8 (T6 .locals) (m22 (c .before) (After-pending-turn·gave c)),
+                Row.get 9 (T6 .locals) (m22 (c .before) (After-pending-turn·gave c)),
               ),
-              Path.refl {a = m21 (c .before) (After-pending-turn·gave c)},
+              Path.refl {a = m22 (c .before) (After-pending-turn·gave c)},
               loop-again record { before = c .before; pending-turn = c .pending-turn },
               Path.refl {a = μ·0 (Row.get 1 (T6 .locals) (m5 (c .before .before .before .before .before)
                   (After-not-yet·gave (c .before .before .before .before))) .now) (Row.get 3 (T6 .locals) (m5
@@ -1393,14 +1458,15 @@ module _ (claims· : Claims) where
                   (After-not-yet·gave (c .before .before .before .before)))) (Row.get 7 (T6 .locals) (m5
                   (c .before .before .before .before .before) (After-not-yet·gave (c .before .before .before .before)))) (Row.get
                   8 (T6 .locals) (m5 (c .before .before .before .before .before)
-                  (After-not-yet·gave (c .before .before .before .before)))) (Row.get 7 (T6 .locals)
-                  (m21 (c .before) (After-pending-turn·gave c))) (Row.get 8 (T6 .locals)
-                  (m21 (c .before) (After-pending-turn·gave c)))},
+                  (After-not-yet·gave (c .before .before .before .before)))) (Row.get 9 (T6 .locals) (m5
+                  (c .before .before .before .before .before) (After-not-yet·gave (c .before .before .before .before)))) (Row.get
+                  8 (T6 .locals) (m22 (c .before) (After-pending-turn·gave c))) (Row.get 9 (T6 .locals)
+                  (m22 (c .before) (After-pending-turn·gave c)))},
             ),
           ),
         )
 
-        lay5 : (c : In-loop) → at16 (W3 (c .before .before) (c .before .loop .best) (c .before .loop .i))
+        lay5 : (c : In-loop) → at17 (W3 (c .before .before) (c .before .loop .best) (c .before .loop .i))
             (m8 (c .before))
         lay5 = λ c. (
           mul-row record { before = c .before; loop-test = c .loop-test },
@@ -1422,7 +1488,7 @@ module _ (claims· : Claims) where
                     before = record { before = c .before; loop-test = c .loop-test };
                     row = record { given = g };
                   };
-                  pending-turn = Called.called ps·2 r·2 (claims· .5) T20 args17 (m18
+                  pending-turn = Called.called ps·2 r·2 (claims· .5) T21 args18 (m19
                       record { before = c .before; loop-test = c .loop-test } g) g';
                 },
               ),
@@ -1430,7 +1496,7 @@ module _ (claims· : Claims) where
           ),
         )
 
-        lay4 : (c : After-loop) → at5 (W4 (c .before .before) (c .before .loop .best) (c .before .loop .i)) (m7
+        lay4 : (c : After-loop) → at6 (W4 (c .before .before) (c .before .loop .best) (c .before .loop .i)) (m7
             (c .before .before) (c .before .loop .best) (c .before .loop .i))
         lay4 = λ c. lay7 record { before = c .before; loop-test = c .loop-test }
 
@@ -1438,13 +1504,13 @@ module _ (claims· : Claims) where
             (c .before .before) (c .before .loop .best) (c .before .loop .i))
         lay3 = λ c. lay5 record { before = c .before; loop-test = c .loop-test }
 
-        lay2 : (c : After-not-yet) → at28 (W0 (c .before .before .κs) (c .before .before .args))
+        lay2 : (c : After-not-yet) → at29 (W0 (c .before .before .κs) (c .before .before .args))
             (m4 (c .before) (After-not-yet·gave c))
         lay2 = λ c. (
           (
             (
-              Row.get 7 (T6 .locals) (m5 (c .before) (After-not-yet·gave c)),
               Row.get 8 (T6 .locals) (m5 (c .before) (After-not-yet·gave c)),
+              Row.get 9 (T6 .locals) (m5 (c .before) (After-not-yet·gave c)),
             ),
             Path.refl {a = m5 (c .before) (After-not-yet·gave c)},
             loop-holds record { before = c .before; not-yet = c .not-yet },
@@ -1458,10 +1524,10 @@ module _ (claims· : Claims) where
                   loop = record { best = vs .0; i = vs .1; inv = inv };
                 };
                 loop-test = record {
-                  taken = Tests.ltb-true (Row.get 8 (T6 .locals) (m6 record {
+                  taken = Tests.ltb-true (Row.get 9 (T6 .locals) (m6 record {
                     before = c .before;
                     not-yet = c .not-yet;
-                  } (vs .0) (vs .1))) (Row.get 6 (T6 .locals) (m6 record { before = c .before; not-yet = c .not-yet }
+                  } (vs .0) (vs .1))) (Row.get 7 (T6 .locals) (m6 record { before = c .before; not-yet = c .not-yet }
                       (vs .0) (vs .1))) taken;
                 };
               },
@@ -1471,10 +1537,10 @@ module _ (claims· : Claims) where
                   loop = record { best = vs .0; i = vs .1; inv = inv };
                 };
                 loop-test = record {
-                  left = Tests.ltb-false (Row.get 8 (T6 .locals) (m6 record {
+                  left = Tests.ltb-false (Row.get 9 (T6 .locals) (m6 record {
                     before = c .before;
                     not-yet = c .not-yet;
-                  } (vs .0) (vs .1))) (Row.get 6 (T6 .locals) (m6 record { before = c .before; not-yet = c .not-yet }
+                  } (vs .0) (vs .1))) (Row.get 7 (T6 .locals) (m6 record { before = c .before; not-yet = c .not-yet }
                       (vs .0) (vs .1))) left;
                 };
               },
@@ -1482,7 +1548,7 @@ module _ (claims· : Claims) where
           ),
         )
 
-        lay1 : (c : After-min-usize) → at30 (W0 (c .before .κs) (c .before .args))
+        lay1 : (c : After-min-usize) → at31 (W0 (c .before .κs) (c .before .args))
             (m2 (c .before) (After-min-usize·gave c))
         lay1 = λ c. (
           not-yet-requires record { before = c .before; min-usize = c .min-usize },
@@ -1492,7 +1558,7 @@ module _ (claims· : Claims) where
           },
         )
 
-        pub laid : (c : Start) → at32 (W0 (c .κs) (c .args)) (m0 (c .κs) (c .args))
+        pub laid : (c : Start) → at33 (W0 (c .κs) (c .args)) (m0 (c .κs) (c .args))
         laid = λ c. (
           min-usize-requires c,
           λ g. lay1 record {
@@ -1507,7 +1573,13 @@ module _ (claims· : Claims) where
               (Function.init 1 ps r xs m κs qs a)
           asked = λ a good pre bs. laid record {
             κs = κs;
-            args = record { pending = a .0; places = a .1 .0; question = a .1 .1 .0; cursor = a .1 .1 .1 .0 };
+            args = record {
+              pending = a .0;
+              places = a .1 .0;
+              question = a .1 .1 .0;
+              peer = a .1 .1 .1 .0;
+              cursor = a .1 .1 .1 .1 .0;
+            };
             good = good;
             pre = pre;
           }

@@ -6,8 +6,6 @@ use Rattle.hnsr_circuit.proofs.By.ReservationUsage
 use Rattle.hnsr_circuit.proofs.StructRow
 use Rattle.hnsr_circuit.proofs.tables.places.Places
 use Rattle.hnsr_circuit.proofs.tables.places.Places.Laws as Laws'
-use Rattle.hnsr_circuit.proofs.tables.question.Question
-use Rattle.hnsr_circuit.proofs.tables.question.Question.Laws as Laws''
 use borrow.Author.Called
 use borrow.Fn.Any
 use borrow.Fn.Args as Args'
@@ -75,143 +73,130 @@ abbrev pub r : Kinds.RK 1
 r = Unit.rUnit
 
 abbrev pub xs : List.List Syntax.Ty
-xs = Laws''.mir ∷ (Syntax.tyInt Syntax.w64) ∷ ReservationUsage.ty ∷ ReservationUsage.ty ∷ ref0 ∷ slice0 ∷ ref0 ∷ slice0
-    ∷ Syntax.tyUnit ∷ ref1 ∷ slice1 ∷ List.[]
+xs = (Syntax.tyInt Syntax.w64) ∷ ReservationUsage.ty ∷ ReservationUsage.ty ∷ ref0 ∷ slice0 ∷ ref0 ∷ slice0 ∷
+    Syntax.tyUnit ∷ ref1 ∷ slice1 ∷ List.[]
 
 abbrev pub m : Nat.ℕ
 m = 3
 
-abbrev pub ps·0 : List.List (Kinds.PK 0)
-ps·0 = (StructRow.param ReservationId.the-type Laws.the-laws Laws.the-copy Laws.the-plain) ∷ List.[]
+abbrev pub ps·0 : List.List (Kinds.PK 1)
+ps·0 = (ShrSlice.pShrS ReservationUsage.row 0 tt) ∷ (StructRow.param Places.the-type Laws'.the-laws Laws'.the-copy
+    Laws'.the-plain) ∷ (StructRow.param ReservationId.the-type Laws.the-laws Laws.the-copy Laws.the-plain) ∷ List.[]
 
-abbrev pub r·0 : Kinds.RK 0
-r·0 = StructRow.result Question.the-type Laws''.the-laws Laws''.the-copy Laws''.the-plain
+abbrev pub r·0 : Kinds.RK 1
+r·0 = Num.rNum Syntax.w64
 
 abbrev pub ps·1 : List.List (Kinds.PK 1)
 ps·1 = (ShrSlice.pShrS ReservationUsage.row 0 tt) ∷ (StructRow.param Places.the-type Laws'.the-laws Laws'.the-copy
-    Laws'.the-plain) ∷ (StructRow.param Question.the-type Laws''.the-laws Laws''.the-copy Laws''.the-plain) ∷ List.[]
-
-abbrev pub r·1 : Kinds.RK 1
-r·1 = Num.rNum Syntax.w64
-
-abbrev pub ps·2 : List.List (Kinds.PK 1)
-ps·2 = (ShrSlice.pShrS ReservationUsage.row 0 tt) ∷ (StructRow.param Places.the-type Laws'.the-laws Laws'.the-copy
     Laws'.the-plain) ∷ (Num.pNum Syntax.w64) ∷ List.[]
 
-abbrev pub r·2 : Kinds.RK 1
+abbrev pub r·1 : Kinds.RK 1
+r·1 = ReservationUsage.result
+
+abbrev pub ps·2 : List.List (Kinds.PK 0)
+ps·2 = ReservationUsage.param ∷ List.[]
+
+abbrev pub r·2 : Kinds.RK 0
 r·2 = ReservationUsage.result
 
-abbrev pub ps·3 : List.List (Kinds.PK 0)
-ps·3 = ReservationUsage.param ∷ List.[]
-
-abbrev pub r·3 : Kinds.RK 0
-r·3 = ReservationUsage.result
-
-abbrev pub ps·4 : List.List (Kinds.PK 1)
-ps·4 = (MutSlice.pMutS ReservationUsage.row 0 tt) ∷ Bool.pBool ∷ (Num.pNum Syntax.w64) ∷ ReservationUsage.param ∷
+abbrev pub ps·3 : List.List (Kinds.PK 1)
+ps·3 = (MutSlice.pMutS ReservationUsage.row 0 tt) ∷ Bool.pBool ∷ (Num.pNum Syntax.w64) ∷ ReservationUsage.param ∷
     List.[]
 
-abbrev pub r·4 : Kinds.RK 1
-r·4 = Unit.rUnit
+abbrev pub r·3 : Kinds.RK 1
+r·3 = Unit.rUnit
 
 abbrev pub hs : List.List Syntax.Home
 hs = Syntax.valueLocal ∷ Syntax.valueLocal ∷ Syntax.valueLocal ∷ Syntax.valueLocal ∷ Syntax.valueLocal ∷
     Syntax.valueLocal ∷ Syntax.valueLocal ∷ Syntax.valueLocal ∷ Syntax.valueLocal ∷ Syntax.valueLocal ∷
-    Syntax.valueLocal ∷ Syntax.valueLocal ∷ Syntax.valueLocal ∷ Syntax.valueLocal ∷ Syntax.valueLocal ∷ List.[]
+    Syntax.valueLocal ∷ Syntax.valueLocal ∷ Syntax.valueLocal ∷ Syntax.valueLocal ∷ List.[]
 
 abbrev b0 : Syntax.Body
-b0 = Syntax.call "hnsr_circuit::tables::question::at_reservation" ((Syntax.copy (Syntax.place 3 List.[])) ∷ List.[])
-    (Syntax.place 4 List.[])
+b0 = Syntax.assign (Syntax.place 7 List.[]) (Syntax.addrOf (Syntax.place 1 ((Syntax.field 0) ∷
+    (Syntax.deref ReservationUsage.ty) ∷ List.[])))
 
 abbrev b1 : Syntax.Body
-b1 = Syntax.assign (Syntax.place 8 List.[]) (Syntax.addrOf (Syntax.place 1 ((Syntax.field 0) ∷
-    (Syntax.deref ReservationUsage.ty) ∷ List.[])))
+b1 = Syntax.assign (Syntax.place 8 List.[]) (Syntax.aggregate ((Syntax.copy (Syntax.place 7 List.[])) ∷
+    (Syntax.copy (Syntax.place 1 ((Syntax.field 1) ∷ List.[]))) ∷ List.[]))
 
 abbrev b2 : Syntax.Body
-b2 = Syntax.assign (Syntax.place 9 List.[]) (Syntax.aggregate ((Syntax.copy (Syntax.place 8 List.[])) ∷
-    (Syntax.copy (Syntax.place 1 ((Syntax.field 1) ∷ List.[]))) ∷ List.[]))
+b2 = Syntax.call "hnsr_circuit::tables::ledger::find_usage" ((Syntax.copy (Syntax.place 8 List.[])) ∷
+    (Syntax.copy (Syntax.place 2 List.[])) ∷ (Syntax.copy (Syntax.place 3 List.[])) ∷ List.[]) (Syntax.place 4 List.[])
 
 abbrev b3 : Syntax.Body
-b3 = Syntax.call "hnsr_circuit::tables::ledger::find_usage" ((Syntax.copy (Syntax.place 9 List.[])) ∷
-    (Syntax.copy (Syntax.place 2 List.[])) ∷ (Syntax.copy (Syntax.place 4 List.[])) ∷ List.[]) (Syntax.place 5 List.[])
+b3 = Syntax.assign (Syntax.place 9 List.[]) (Syntax.addrOf (Syntax.place 1 ((Syntax.field 0) ∷
+    (Syntax.deref ReservationUsage.ty) ∷ List.[])))
 
 abbrev b4 : Syntax.Body
-b4 = Syntax.assign (Syntax.place 10 List.[]) (Syntax.addrOf (Syntax.place 1 ((Syntax.field 0) ∷
-    (Syntax.deref ReservationUsage.ty) ∷ List.[])))
+b4 = Syntax.assign (Syntax.place 10 List.[]) (Syntax.aggregate ((Syntax.copy (Syntax.place 9 List.[])) ∷
+    (Syntax.copy (Syntax.place 1 ((Syntax.field 1) ∷ List.[]))) ∷ List.[]))
 
 abbrev b5 : Syntax.Body
-b5 = Syntax.assign (Syntax.place 11 List.[]) (Syntax.aggregate ((Syntax.copy (Syntax.place 10 List.[])) ∷
-    (Syntax.copy (Syntax.place 1 ((Syntax.field 1) ∷ List.[]))) ∷ List.[]))
+b5 = Syntax.call "hnsr_circuit::tables::ledger::usage_at" ((Syntax.copy (Syntax.place 10 List.[])) ∷
+    (Syntax.copy (Syntax.place 2 List.[])) ∷ (Syntax.copy (Syntax.place 4 List.[])) ∷ List.[]) (Syntax.place 5 List.[])
 
 abbrev b6 : Syntax.Body
-b6 = Syntax.call "hnsr_circuit::tables::ledger::usage_at" ((Syntax.copy (Syntax.place 11 List.[])) ∷
-    (Syntax.copy (Syntax.place 2 List.[])) ∷ (Syntax.copy (Syntax.place 5 List.[])) ∷ List.[]) (Syntax.place 6 List.[])
+b6 = Syntax.call "hnsr_circuit::records::ledger::usage_unmarked" ((Syntax.copy (Syntax.place 5 List.[])) ∷ List.[])
+    (Syntax.place 6 List.[])
 
 abbrev b7 : Syntax.Body
-b7 = Syntax.call "hnsr_circuit::records::ledger::usage_unmarked" ((Syntax.copy (Syntax.place 6 List.[])) ∷ List.[])
-    (Syntax.place 7 List.[])
-
-abbrev b8 : Syntax.Body
-b8 = Syntax.assign (Syntax.place 13 List.[]) (Syntax.addrOf (Syntax.place 1 ((Syntax.field 0) ∷
+b7 = Syntax.assign (Syntax.place 12 List.[]) (Syntax.addrOf (Syntax.place 1 ((Syntax.field 0) ∷
     (Syntax.deref ReservationUsage.ty) ∷ List.[])))
 
-abbrev b9 : Syntax.Body
-b9 = Syntax.assign (Syntax.place 14 List.[]) (Syntax.aggregate ((Syntax.copy (Syntax.place 13 List.[])) ∷
+abbrev b8 : Syntax.Body
+b8 = Syntax.assign (Syntax.place 13 List.[]) (Syntax.aggregate ((Syntax.copy (Syntax.place 12 List.[])) ∷
     (Syntax.copy (Syntax.place 1 ((Syntax.field 1) ∷ List.[]))) ∷ List.[]))
 
+abbrev b9 : Syntax.Body
+b9 = Syntax.call "hnsr_circuit::tables::ledger::set_usage" ((Syntax.copy (Syntax.place 13 List.[])) ∷ Syntax.opdTrue ∷
+    (Syntax.copy (Syntax.place 4 List.[])) ∷ (Syntax.copy (Syntax.place 6 List.[])) ∷ List.[])
+    (Syntax.place 11 List.[])
+
 abbrev b10 : Syntax.Body
-b10 = Syntax.call "hnsr_circuit::tables::ledger::set_usage" ((Syntax.copy (Syntax.place 14 List.[])) ∷ Syntax.opdTrue ∷
-    (Syntax.copy (Syntax.place 5 List.[])) ∷ (Syntax.copy (Syntax.place 7 List.[])) ∷ List.[])
-    (Syntax.place 12 List.[])
+b10 = Syntax.assign (Syntax.place 0 List.[]) (Syntax.rvOpd Syntax.opdUnit)
 
 abbrev b11 : Syntax.Body
-b11 = Syntax.assign (Syntax.place 0 List.[]) (Syntax.rvOpd Syntax.opdUnit)
+b11 = Syntax.return
 
 abbrev b12 : Syntax.Body
-b12 = Syntax.return
+b12 = Syntax.seq b10 b11
 
 abbrev b13 : Syntax.Body
-b13 = Syntax.seq b11 b12
+b13 = Syntax.seq b9 b12
 
 abbrev b14 : Syntax.Body
-b14 = Syntax.seq b10 b13
+b14 = Syntax.seq b8 b13
 
 abbrev b15 : Syntax.Body
-b15 = Syntax.seq b9 b14
+b15 = Syntax.seq b7 b14
 
 abbrev b16 : Syntax.Body
-b16 = Syntax.seq b8 b15
+b16 = Syntax.seq b6 b15
 
 abbrev b17 : Syntax.Body
-b17 = Syntax.seq b7 b16
+b17 = Syntax.seq b5 b16
 
 abbrev b18 : Syntax.Body
-b18 = Syntax.seq b6 b17
+b18 = Syntax.seq b4 b17
 
 abbrev b19 : Syntax.Body
-b19 = Syntax.seq b5 b18
+b19 = Syntax.seq b3 b18
 
 abbrev b20 : Syntax.Body
-b20 = Syntax.seq b4 b19
+b20 = Syntax.seq b2 b19
 
 abbrev b21 : Syntax.Body
-b21 = Syntax.seq b3 b20
+b21 = Syntax.seq b1 b20
 
 abbrev b22 : Syntax.Body
-b22 = Syntax.seq b2 b21
-
-abbrev b23 : Syntax.Body
-b23 = Syntax.seq b1 b22
-
-abbrev b24 : Syntax.Body
-b24 = Syntax.seq b0 b23
+b22 = Syntax.seq b0 b21
 
 abbrev pub body : Syntax.Body
-body = b24
+body = b22
 
 abbrev pub Claims : Type 1
-Claims = Kinds.In 0 ps·0 × Kinds.Out 0 ps·0 r·0 × Kinds.In 1 ps·1 × Kinds.Out 1 ps·1 r·1 × Kinds.In 1 ps·2 × Kinds.Out
-    1 ps·2 r·2 × Kinds.In 0 ps·3 × Kinds.Out 0 ps·3 r·3 × Kinds.In 1 ps·4 × Kinds.Out 1 ps·4 r·4
+Claims = Kinds.In 1 ps·0 × Kinds.Out 1 ps·0 r·0 × Kinds.In 1 ps·1 × Kinds.Out 1 ps·1 r·1 × Kinds.In 0 ps·2 × Kinds.Out
+    0 ps·2 r·2 × Kinds.In 1 ps·3 × Kinds.Out 1 ps·3 r·3
 
 abbrev e0 : Row.Entry
 e0 = (0, Rows.any-gone Syntax.tyUnit)
@@ -226,37 +211,34 @@ abbrev e3 : Row.Entry
 e3 = (3, Rows.whole (Declared.row ReservationId.the-type))
 
 abbrev e4 : Row.Entry
-e4 = (4, Rows.any-gone Laws''.mir)
+e4 = (4, Rows.any-gone (Syntax.tyInt Syntax.w64))
 
 abbrev e5 : Row.Entry
-e5 = (5, Rows.any-gone (Syntax.tyInt Syntax.w64))
+e5 = (5, Rows.any-gone ReservationUsage.ty)
 
 abbrev e6 : Row.Entry
 e6 = (6, Rows.any-gone ReservationUsage.ty)
 
 abbrev e7 : Row.Entry
-e7 = (7, Rows.any-gone ReservationUsage.ty)
+e7 = (7, Rows.any-gone ref0)
 
 abbrev e8 : Row.Entry
-e8 = (8, Rows.any-gone ref0)
+e8 = (8, Rows.any-gone slice0)
 
 abbrev e9 : Row.Entry
-e9 = (9, Rows.any-gone slice0)
+e9 = (9, Rows.any-gone ref0)
 
 abbrev e10 : Row.Entry
-e10 = (10, Rows.any-gone ref0)
+e10 = (10, Rows.any-gone slice0)
 
 abbrev e11 : Row.Entry
-e11 = (11, Rows.any-gone slice0)
+e11 = (11, Rows.any-gone Syntax.tyUnit)
 
 abbrev e12 : Row.Entry
-e12 = (12, Rows.any-gone Syntax.tyUnit)
+e12 = (12, Rows.any-gone ref1)
 
 abbrev e13 : Row.Entry
-e13 = (13, Rows.any-gone ref1)
-
-abbrev e14 : Row.Entry
-e14 = (14, Rows.any-gone slice1)
+e13 = (13, Rows.any-gone slice1)
 
 abbrev e0·1 : Row.Entry
 e0·1 = (0, Rows.sc-here Row.sUnit)
@@ -267,125 +249,116 @@ e2·1 = (2, Rows.any-gone Laws'.mir)
 abbrev e3·1 : Row.Entry
 e3·1 = (3, Rows.any-gone Laws.mir)
 
-abbrev e4·1 : Row.Entry
-e4·1 = (4, Rows.whole (Declared.row Question.the-type))
-
 abbrev e1·1 : Row.Entry
 e1·1 = (1, Reshare.mslice-owedS ReservationUsage.row ref2 0 1 Row.off)
 
+abbrev e7·1 : Row.Entry
+e7·1 = (7, Relend.ssptr ReservationUsage.row ref0 1)
+
 abbrev e8·1 : Row.Entry
-e8·1 = (8, Relend.ssptr ReservationUsage.row ref0 1)
+e8·1 = (8, Rows.sslice ReservationUsage.row ref0 1)
 
-abbrev e9·1 : Row.Entry
-e9·1 = (9, Rows.sslice ReservationUsage.row ref0 1)
-
-abbrev e5·1 : Row.Entry
-e5·1 = (5, Rows.sc-here (Row.sInt Syntax.w64))
+abbrev e4·1 : Row.Entry
+e4·1 = (4, Rows.sc-here (Row.sInt Syntax.w64))
 
 abbrev e1·2 : Row.Entry
 e1·2 = (1, Reshare.mslice-owedS ReservationUsage.row ref2 0 2 Row.off)
 
-abbrev e10·1 : Row.Entry
-e10·1 = (10, Relend.ssptr ReservationUsage.row ref0 2)
+abbrev e9·1 : Row.Entry
+e9·1 = (9, Relend.ssptr ReservationUsage.row ref0 2)
 
-abbrev e11·1 : Row.Entry
-e11·1 = (11, Rows.sslice ReservationUsage.row ref0 2)
+abbrev e10·1 : Row.Entry
+e10·1 = (10, Rows.sslice ReservationUsage.row ref0 2)
+
+abbrev e5·1 : Row.Entry
+e5·1 = (5, ReservationUsage.held)
 
 abbrev e6·1 : Row.Entry
 e6·1 = (6, ReservationUsage.held)
 
-abbrev e7·1 : Row.Entry
-e7·1 = (7, ReservationUsage.held)
-
 abbrev e1·3 : Row.Entry
 e1·3 = (1, Relend.mslice-owed ReservationUsage.row ref2 0 3 Row.off)
 
-abbrev e13·1 : Row.Entry
-e13·1 = (13, Relend.msptr ReservationUsage.row ref1 3)
-
-abbrev e14·1 : Row.Entry
-e14·1 = (14, Mut.mslice ReservationUsage.row ref1 3)
-
 abbrev e12·1 : Row.Entry
-e12·1 = (12, Rows.sc-here Row.sUnit)
+e12·1 = (12, Relend.msptr ReservationUsage.row ref1 3)
 
-abbrev e14·2 : Row.Entry
-e14·2 = (14, Mut.msleft ReservationUsage.row ref1)
+abbrev e13·1 : Row.Entry
+e13·1 = (13, Mut.mslice ReservationUsage.row ref1 3)
+
+abbrev e11·1 : Row.Entry
+e11·1 = (11, Rows.sc-here Row.sUnit)
+
+abbrev e13·2 : Row.Entry
+e13·2 = (13, Mut.msleft ReservationUsage.row ref1)
 
 abbrev pub t0 : List.List Row.Entry
-t0 = e0 ∷ e1 ∷ e2 ∷ e3 ∷ e4 ∷ e5 ∷ e6 ∷ e7 ∷ e8 ∷ e9 ∷ e10 ∷ e11 ∷ e12 ∷ e13 ∷ e14 ∷ List.[]
+t0 = e0 ∷ e1 ∷ e2 ∷ e3 ∷ e4 ∷ e5 ∷ e6 ∷ e7 ∷ e8 ∷ e9 ∷ e10 ∷ e11 ∷ e12 ∷ e13 ∷ List.[]
 
 abbrev pub t1 : List.List Row.Entry
-t1 = e0·1 ∷ e1 ∷ e2·1 ∷ e3·1 ∷ e4 ∷ e5 ∷ e6 ∷ e7 ∷ e8 ∷ e9 ∷ e10 ∷ e11 ∷ e12 ∷ e13 ∷ e14 ∷ List.[]
+t1 = e0·1 ∷ e1 ∷ e2·1 ∷ e3·1 ∷ e4 ∷ e5 ∷ e6 ∷ e7 ∷ e8 ∷ e9 ∷ e10 ∷ e11 ∷ e12 ∷ e13 ∷ List.[]
 
 abbrev pub t2 : List.List Row.Entry
-t2 = e0 ∷ e1 ∷ e2 ∷ e3 ∷ e4·1 ∷ e5 ∷ e6 ∷ e7 ∷ e8 ∷ e9 ∷ e10 ∷ e11 ∷ e12 ∷ e13 ∷ e14 ∷ List.[]
+t2 = e0 ∷ e1·1 ∷ e2 ∷ e3 ∷ e4 ∷ e5 ∷ e6 ∷ e7·1 ∷ e8 ∷ e9 ∷ e10 ∷ e11 ∷ e12 ∷ e13 ∷ List.[]
 
 abbrev pub t3 : List.List Row.Entry
-t3 = e0 ∷ e1 ∷ e2 ∷ e3·1 ∷ e4·1 ∷ e5 ∷ e6 ∷ e7 ∷ e8 ∷ e9 ∷ e10 ∷ e11 ∷ e12 ∷ e13 ∷ e14 ∷ List.[]
+t3 = e0 ∷ e1·1 ∷ e2 ∷ e3 ∷ e4 ∷ e5 ∷ e6 ∷ e7 ∷ e8·1 ∷ e9 ∷ e10 ∷ e11 ∷ e12 ∷ e13 ∷ List.[]
 
 abbrev pub t4 : List.List Row.Entry
-t4 = e0 ∷ e1·1 ∷ e2 ∷ e3·1 ∷ e4·1 ∷ e5 ∷ e6 ∷ e7 ∷ e8·1 ∷ e9 ∷ e10 ∷ e11 ∷ e12 ∷ e13 ∷ e14 ∷ List.[]
+t4 = e0 ∷ e1·1 ∷ e2 ∷ e3 ∷ e4·1 ∷ e5 ∷ e6 ∷ e7 ∷ e8·1 ∷ e9 ∷ e10 ∷ e11 ∷ e12 ∷ e13 ∷ List.[]
 
 abbrev pub t5 : List.List Row.Entry
-t5 = e0 ∷ e1·1 ∷ e2 ∷ e3·1 ∷ e4·1 ∷ e5 ∷ e6 ∷ e7 ∷ e8 ∷ e9·1 ∷ e10 ∷ e11 ∷ e12 ∷ e13 ∷ e14 ∷ List.[]
+t5 = e0 ∷ e1·1 ∷ e2 ∷ e3 ∷ e4·1 ∷ e5 ∷ e6 ∷ e7 ∷ e8 ∷ e9 ∷ e10 ∷ e11 ∷ e12 ∷ e13 ∷ List.[]
 
 abbrev pub t6 : List.List Row.Entry
-t6 = e0 ∷ e1·1 ∷ e2 ∷ e3·1 ∷ e4·1 ∷ e5·1 ∷ e6 ∷ e7 ∷ e8 ∷ e9·1 ∷ e10 ∷ e11 ∷ e12 ∷ e13 ∷ e14 ∷ List.[]
+t6 = e0 ∷ e1·1 ∷ e2 ∷ e3·1 ∷ e4·1 ∷ e5 ∷ e6 ∷ e7 ∷ e8 ∷ e9 ∷ e10 ∷ e11 ∷ e12 ∷ e13 ∷ List.[]
 
 abbrev pub t7 : List.List Row.Entry
-t7 = e0 ∷ e1·1 ∷ e2 ∷ e3·1 ∷ e4·1 ∷ e5·1 ∷ e6 ∷ e7 ∷ e8 ∷ e9 ∷ e10 ∷ e11 ∷ e12 ∷ e13 ∷ e14 ∷ List.[]
+t7 = e0 ∷ e1 ∷ e2 ∷ e3·1 ∷ e4·1 ∷ e5 ∷ e6 ∷ e7 ∷ e8 ∷ e9 ∷ e10 ∷ e11 ∷ e12 ∷ e13 ∷ List.[]
 
 abbrev pub t8 : List.List Row.Entry
-t8 = e0 ∷ e1·1 ∷ e2 ∷ e3·1 ∷ e4 ∷ e5·1 ∷ e6 ∷ e7 ∷ e8 ∷ e9 ∷ e10 ∷ e11 ∷ e12 ∷ e13 ∷ e14 ∷ List.[]
+t8 = e0 ∷ e1·2 ∷ e2 ∷ e3·1 ∷ e4·1 ∷ e5 ∷ e6 ∷ e7 ∷ e8 ∷ e9·1 ∷ e10 ∷ e11 ∷ e12 ∷ e13 ∷ List.[]
 
 abbrev pub t9 : List.List Row.Entry
-t9 = e0 ∷ e1 ∷ e2 ∷ e3·1 ∷ e4 ∷ e5·1 ∷ e6 ∷ e7 ∷ e8 ∷ e9 ∷ e10 ∷ e11 ∷ e12 ∷ e13 ∷ e14 ∷ List.[]
+t9 = e0 ∷ e1·2 ∷ e2 ∷ e3·1 ∷ e4·1 ∷ e5 ∷ e6 ∷ e7 ∷ e8 ∷ e9 ∷ e10·1 ∷ e11 ∷ e12 ∷ e13 ∷ List.[]
 
 abbrev pub t10 : List.List Row.Entry
-t10 = e0 ∷ e1·2 ∷ e2 ∷ e3·1 ∷ e4 ∷ e5·1 ∷ e6 ∷ e7 ∷ e8 ∷ e9 ∷ e10·1 ∷ e11 ∷ e12 ∷ e13 ∷ e14 ∷ List.[]
+t10 = e0 ∷ e1·2 ∷ e2 ∷ e3·1 ∷ e4·1 ∷ e5·1 ∷ e6 ∷ e7 ∷ e8 ∷ e9 ∷ e10·1 ∷ e11 ∷ e12 ∷ e13 ∷ List.[]
 
 abbrev pub t11 : List.List Row.Entry
-t11 = e0 ∷ e1·2 ∷ e2 ∷ e3·1 ∷ e4 ∷ e5·1 ∷ e6 ∷ e7 ∷ e8 ∷ e9 ∷ e10 ∷ e11·1 ∷ e12 ∷ e13 ∷ e14 ∷ List.[]
+t11 = e0 ∷ e1·2 ∷ e2 ∷ e3·1 ∷ e4·1 ∷ e5·1 ∷ e6 ∷ e7 ∷ e8 ∷ e9 ∷ e10 ∷ e11 ∷ e12 ∷ e13 ∷ List.[]
 
 abbrev pub t12 : List.List Row.Entry
-t12 = e0 ∷ e1·2 ∷ e2 ∷ e3·1 ∷ e4 ∷ e5·1 ∷ e6·1 ∷ e7 ∷ e8 ∷ e9 ∷ e10 ∷ e11·1 ∷ e12 ∷ e13 ∷ e14 ∷ List.[]
+t12 = e0 ∷ e1·2 ∷ e2·1 ∷ e3·1 ∷ e4·1 ∷ e5·1 ∷ e6 ∷ e7 ∷ e8 ∷ e9 ∷ e10 ∷ e11 ∷ e12 ∷ e13 ∷ List.[]
 
 abbrev pub t13 : List.List Row.Entry
-t13 = e0 ∷ e1·2 ∷ e2 ∷ e3·1 ∷ e4 ∷ e5·1 ∷ e6·1 ∷ e7 ∷ e8 ∷ e9 ∷ e10 ∷ e11 ∷ e12 ∷ e13 ∷ e14 ∷ List.[]
+t13 = e0 ∷ e1 ∷ e2·1 ∷ e3·1 ∷ e4·1 ∷ e5·1 ∷ e6 ∷ e7 ∷ e8 ∷ e9 ∷ e10 ∷ e11 ∷ e12 ∷ e13 ∷ List.[]
 
 abbrev pub t14 : List.List Row.Entry
-t14 = e0 ∷ e1·2 ∷ e2·1 ∷ e3·1 ∷ e4 ∷ e5·1 ∷ e6·1 ∷ e7 ∷ e8 ∷ e9 ∷ e10 ∷ e11 ∷ e12 ∷ e13 ∷ e14 ∷ List.[]
+t14 = e0 ∷ e1 ∷ e2·1 ∷ e3·1 ∷ e4·1 ∷ e5·1 ∷ e6·1 ∷ e7 ∷ e8 ∷ e9 ∷ e10 ∷ e11 ∷ e12 ∷ e13 ∷ List.[]
 
 abbrev pub t15 : List.List Row.Entry
-t15 = e0 ∷ e1 ∷ e2·1 ∷ e3·1 ∷ e4 ∷ e5·1 ∷ e6·1 ∷ e7 ∷ e8 ∷ e9 ∷ e10 ∷ e11 ∷ e12 ∷ e13 ∷ e14 ∷ List.[]
+t15 = e0 ∷ e1 ∷ e2·1 ∷ e3·1 ∷ e4·1 ∷ e5 ∷ e6·1 ∷ e7 ∷ e8 ∷ e9 ∷ e10 ∷ e11 ∷ e12 ∷ e13 ∷ List.[]
 
 abbrev pub t16 : List.List Row.Entry
-t16 = e0 ∷ e1 ∷ e2·1 ∷ e3·1 ∷ e4 ∷ e5·1 ∷ e6·1 ∷ e7·1 ∷ e8 ∷ e9 ∷ e10 ∷ e11 ∷ e12 ∷ e13 ∷ e14 ∷ List.[]
+t16 = e0 ∷ e1·3 ∷ e2·1 ∷ e3·1 ∷ e4·1 ∷ e5 ∷ e6·1 ∷ e7 ∷ e8 ∷ e9 ∷ e10 ∷ e11 ∷ e12·1 ∷ e13 ∷ List.[]
 
 abbrev pub t17 : List.List Row.Entry
-t17 = e0 ∷ e1 ∷ e2·1 ∷ e3·1 ∷ e4 ∷ e5·1 ∷ e6 ∷ e7·1 ∷ e8 ∷ e9 ∷ e10 ∷ e11 ∷ e12 ∷ e13 ∷ e14 ∷ List.[]
+t17 = e0 ∷ e1·3 ∷ e2·1 ∷ e3·1 ∷ e4·1 ∷ e5 ∷ e6·1 ∷ e7 ∷ e8 ∷ e9 ∷ e10 ∷ e11 ∷ e12 ∷ e13·1 ∷ List.[]
 
 abbrev pub t18 : List.List Row.Entry
-t18 = e0 ∷ e1·3 ∷ e2·1 ∷ e3·1 ∷ e4 ∷ e5·1 ∷ e6 ∷ e7·1 ∷ e8 ∷ e9 ∷ e10 ∷ e11 ∷ e12 ∷ e13·1 ∷ e14 ∷ List.[]
+t18 = e0 ∷ e1·3 ∷ e2·1 ∷ e3·1 ∷ e4·1 ∷ e5 ∷ e6·1 ∷ e7 ∷ e8 ∷ e9 ∷ e10 ∷ e11·1 ∷ e12 ∷ e13·2 ∷ List.[]
 
 abbrev pub t19 : List.List Row.Entry
-t19 = e0 ∷ e1·3 ∷ e2·1 ∷ e3·1 ∷ e4 ∷ e5·1 ∷ e6 ∷ e7·1 ∷ e8 ∷ e9 ∷ e10 ∷ e11 ∷ e12 ∷ e13 ∷ e14·1 ∷ List.[]
+t19 = e0 ∷ e1·3 ∷ e2·1 ∷ e3·1 ∷ e4·1 ∷ e5 ∷ e6 ∷ e7 ∷ e8 ∷ e9 ∷ e10 ∷ e11·1 ∷ e12 ∷ e13·2 ∷ List.[]
 
 abbrev pub t20 : List.List Row.Entry
-t20 = e0 ∷ e1·3 ∷ e2·1 ∷ e3·1 ∷ e4 ∷ e5·1 ∷ e6 ∷ e7·1 ∷ e8 ∷ e9 ∷ e10 ∷ e11 ∷ e12·1 ∷ e13 ∷ e14·2 ∷ List.[]
+t20 = e0 ∷ e1·3 ∷ e2·1 ∷ e3·1 ∷ e4·1 ∷ e5 ∷ e6 ∷ e7 ∷ e8 ∷ e9 ∷ e10 ∷ e11 ∷ e12 ∷ e13·2 ∷ List.[]
 
 abbrev pub t21 : List.List Row.Entry
-t21 = e0 ∷ e1·3 ∷ e2·1 ∷ e3·1 ∷ e4 ∷ e5·1 ∷ e6 ∷ e7 ∷ e8 ∷ e9 ∷ e10 ∷ e11 ∷ e12·1 ∷ e13 ∷ e14·2 ∷ List.[]
+t21 = e0 ∷ e1 ∷ e2·1 ∷ e3·1 ∷ e4·1 ∷ e5 ∷ e6 ∷ e7 ∷ e8 ∷ e9 ∷ e10 ∷ e11 ∷ e12 ∷ e13 ∷ List.[]
 
 abbrev pub t22 : List.List Row.Entry
-t22 = e0 ∷ e1·3 ∷ e2·1 ∷ e3·1 ∷ e4 ∷ e5·1 ∷ e6 ∷ e7 ∷ e8 ∷ e9 ∷ e10 ∷ e11 ∷ e12 ∷ e13 ∷ e14·2 ∷ List.[]
-
-abbrev pub t23 : List.List Row.Entry
-t23 = e0 ∷ e1 ∷ e2·1 ∷ e3·1 ∷ e4 ∷ e5·1 ∷ e6 ∷ e7 ∷ e8 ∷ e9 ∷ e10 ∷ e11 ∷ e12 ∷ e13 ∷ e14 ∷ List.[]
-
-abbrev pub t24 : List.List Row.Entry
-t24 = e0·1 ∷ e1 ∷ e2·1 ∷ e3·1 ∷ e4 ∷ e5·1 ∷ e6 ∷ e7 ∷ e8 ∷ e9 ∷ e10 ∷ e11 ∷ e12 ∷ e13 ∷ e14 ∷ List.[]
+t22 = e0·1 ∷ e1 ∷ e2·1 ∷ e3·1 ∷ e4·1 ∷ e5 ∷ e6 ∷ e7 ∷ e8 ∷ e9 ∷ e10 ∷ e11 ∷ e12 ∷ e13 ∷ List.[]
 
 abbrev pub T0 : Row.Cx
 T0 = record { locals = t0; slots = List.[] }
@@ -393,11 +366,11 @@ T0 = record { locals = t0; slots = List.[] }
 abbrev pub T1 : Row.Cx
 T1 = record { locals = t1; slots = List.[] }
 
-abbrev pub T2 : Row.Cx
-T2 = record { locals = t2; slots = List.[] }
-
 abbrev pub T3 : Row.Cx
-T3 = record { locals = t3; slots = List.[] }
+T3 = record { locals = t2; slots = List.[] }
+
+abbrev pub T4 : Row.Cx
+T4 = record { locals = t3; slots = List.[] }
 
 abbrev pub T5 : Row.Cx
 T5 = record { locals = t4; slots = List.[] }
@@ -408,14 +381,14 @@ T6 = record { locals = t5; slots = List.[] }
 abbrev pub T7 : Row.Cx
 T7 = record { locals = t6; slots = List.[] }
 
-abbrev pub T8 : Row.Cx
-T8 = record { locals = t7; slots = List.[] }
-
 abbrev pub T9 : Row.Cx
-T9 = record { locals = t8; slots = List.[] }
+T9 = record { locals = t7; slots = List.[] }
 
-abbrev pub T11 : Row.Cx
-T11 = record { locals = t9; slots = List.[] }
+abbrev pub T12 : Row.Cx
+T12 = record { locals = t8; slots = List.[] }
+
+abbrev pub T13 : Row.Cx
+T13 = record { locals = t9; slots = List.[] }
 
 abbrev pub T14 : Row.Cx
 T14 = record { locals = t10; slots = List.[] }
@@ -426,20 +399,20 @@ T15 = record { locals = t11; slots = List.[] }
 abbrev pub T16 : Row.Cx
 T16 = record { locals = t12; slots = List.[] }
 
-abbrev pub T17 : Row.Cx
-T17 = record { locals = t13; slots = List.[] }
-
 abbrev pub T18 : Row.Cx
-T18 = record { locals = t14; slots = List.[] }
+T18 = record { locals = t13; slots = List.[] }
 
 abbrev pub T20 : Row.Cx
-T20 = record { locals = t15; slots = List.[] }
+T20 = record { locals = t14; slots = List.[] }
 
-abbrev pub T22 : Row.Cx
-T22 = record { locals = t16; slots = List.[] }
+abbrev pub T21 : Row.Cx
+T21 = record { locals = t15; slots = List.[] }
 
 abbrev pub T23 : Row.Cx
-T23 = record { locals = t17; slots = List.[] }
+T23 = record { locals = t16; slots = List.[] }
+
+abbrev pub T24 : Row.Cx
+T24 = record { locals = t17; slots = List.[] }
 
 abbrev pub T25 : Row.Cx
 T25 = record { locals = t18; slots = List.[] }
@@ -450,252 +423,228 @@ T26 = record { locals = t19; slots = List.[] }
 abbrev pub T27 : Row.Cx
 T27 = record { locals = t20; slots = List.[] }
 
-abbrev pub T28 : Row.Cx
-T28 = record { locals = t21; slots = List.[] }
-
 abbrev pub T29 : Row.Cx
-T29 = record { locals = t22; slots = List.[] }
+T29 = record { locals = t21; slots = List.[] }
 
 abbrev pub T31 : Row.Cx
-T31 = record { locals = t23; slots = List.[] }
+T31 = record { locals = t22; slots = List.[] }
 
-abbrev pub T33 : Row.Cx
-T33 = record { locals = t24; slots = List.[] }
-
-abbrev pub T34 : Row.Cx
-T34 = record { locals = t1; slots = List.[] }
+abbrev pub T32 : Row.Cx
+T32 = record { locals = t1; slots = List.[] }
 
 abbrev pub O0 : Typed.Outs
 O0 = record { next = Option.none; exits = List.[]; returns = Option.some T1 }
 
 module _ (claims· : Claims) where
-  abbrev args0 : Args'.ArgsT ps·0 (T0 .locals)
-  args0 = (record { pos = 3; st = List.[]; d = 0; at = λ x. x }, tt)
+  abbrev s1 : Typed.Gives T0 T3
+  s1 = Reshare.k-sl-reshare ReservationUsage.row T0 1 7 0 1 ref2 ref0 Row.off λ x. x
 
-  abbrev s0 : Typed.Both T0 T2
-  s0 = Call.callB ps·0 r·0 (claims· .0) (claims· .1) T0 args0 4 List.[] Laws''.mir
-
-  abbrev s1 : Typed.Mo T2 → Typed.Mo T3
-  s1 = Scalar.n-room T2 3 Laws.mir
-
-  abbrev s3 : Typed.Gives T3 T5
-  s3 = Reshare.k-sl-reshare ReservationUsage.row T3 1 8 0 1 ref2 ref0 Row.off λ x. x
-
-  abbrev s4 : Typed.Asks T5 T6
-  s4 = Relend.k-sl-aggregate ReservationUsage.row (Relend.asShr ReservationUsage.row) T5 8 9 1 ref0 ref0 (λ x. x) (Scalar.oFld
+  abbrev s2 : Typed.Asks T3 T4
+  s2 = Relend.k-sl-aggregate ReservationUsage.row (Relend.asShr ReservationUsage.row) T3 7 8 1 ref0 ref0 (λ x. x) (Scalar.oFld
       1 ((Syntax.field 1) ∷ List.[]) (Syntax.tyInt Syntax.w64) 8 λ v. Shared.lenV (v .0))
 
-  abbrev args5 : Args'.ArgsT ps·1 (T6 .locals)
-  args5 = (
-    record { pos = 9; ty = ref0; ref = λ x. x },
-    (record { pos = 2; st = List.[]; d = 0; at = λ x. x }, (record { pos = 4; st = List.[]; d = 0; at = λ x. x }, tt)),
+  abbrev args3 : Args'.ArgsT ps·0 (T4 .locals)
+  args3 = (
+    record { pos = 8; ty = ref0; ref = λ x. x },
+    (record { pos = 2; st = List.[]; d = 0; at = λ x. x }, (record { pos = 3; st = List.[]; d = 0; at = λ x. x }, tt)),
   )
 
-  abbrev s5 : Typed.Both T6 T7
-  s5 = Call.callB ps·1 r·1 (claims· .2) (claims· .3) T6 args5 5 (1 ∷ List.[]) (Syntax.tyInt Syntax.w64)
+  abbrev s3 : Typed.Both T4 T5
+  s3 = Call.callB ps·0 r·0 (claims· .0) (claims· .1) T4 args3 4 (1 ∷ List.[]) (Syntax.tyInt Syntax.w64)
 
-  abbrev s6 : Typed.Mo T7 → Typed.Mo T8
-  s6 = Scalar.n-room T7 9 slice0
+  abbrev s4 : Typed.Mo T5 → Typed.Mo T6
+  s4 = Scalar.n-room T5 8 slice0
 
-  abbrev s7 : Typed.Mo T8 → Typed.Mo T9
-  s7 = Scalar.n-room T8 4 Laws''.mir
+  abbrev s5 : Typed.Mo T6 → Typed.Mo T7
+  s5 = Scalar.n-room T6 3 Laws.mir
 
-  abbrev s9 : Typed.Mo T9 → Typed.Mo T11
-  s9 = Reshare.n-back-sl-shr ReservationUsage.row T9 1 0 1 ref2 Row.off λ x. x
+  abbrev s7 : Typed.Mo T7 → Typed.Mo T9
+  s7 = Reshare.n-back-sl-shr ReservationUsage.row T7 1 0 1 ref2 Row.off λ x. x
 
-  abbrev s12 : Typed.Gives T11 T14
-  s12 = Reshare.k-sl-reshare ReservationUsage.row T11 1 10 0 2 ref2 ref0 Row.off λ x. x
+  abbrev s10 : Typed.Gives T9 T12
+  s10 = Reshare.k-sl-reshare ReservationUsage.row T9 1 9 0 2 ref2 ref0 Row.off λ x. x
 
-  abbrev s13 : Typed.Asks T14 T15
-  s13 = Relend.k-sl-aggregate ReservationUsage.row (Relend.asShr ReservationUsage.row) T14 10 11 2 ref0 ref0 (λ x. x) (Scalar.oFld
+  abbrev s11 : Typed.Asks T12 T13
+  s11 = Relend.k-sl-aggregate ReservationUsage.row (Relend.asShr ReservationUsage.row) T12 9 10 2 ref0 ref0 (λ x. x) (Scalar.oFld
       1 ((Syntax.field 1) ∷ List.[]) (Syntax.tyInt Syntax.w64) 8 λ v. Shared.lenV (v .0))
 
-  abbrev args14 : Args'.ArgsT ps·2 (T15 .locals)
-  args14 = (
-    record { pos = 11; ty = ref0; ref = λ x. x },
-    (record { pos = 2; st = List.[]; d = 0; at = λ x. x }, (Num.vAt 5 λ x. x, tt)),
+  abbrev args12 : Args'.ArgsT ps·1 (T13 .locals)
+  args12 = (
+    record { pos = 10; ty = ref0; ref = λ x. x },
+    (record { pos = 2; st = List.[]; d = 0; at = λ x. x }, (Num.vAt 4 λ x. x, tt)),
   )
 
-  abbrev s14 : Typed.Both T15 T16
-  s14 = Call.callB ps·2 r·2 (claims· .4) (claims· .5) T15 args14 6 (2 ∷ List.[]) ReservationUsage.ty
+  abbrev s12 : Typed.Both T13 T14
+  s12 = Call.callB ps·1 r·1 (claims· .2) (claims· .3) T13 args12 5 (2 ∷ List.[]) ReservationUsage.ty
 
-  abbrev s15 : Typed.Mo T16 → Typed.Mo T17
-  s15 = Scalar.n-room T16 11 slice0
+  abbrev s13 : Typed.Mo T14 → Typed.Mo T15
+  s13 = Scalar.n-room T14 10 slice0
 
-  abbrev s16 : Typed.Mo T17 → Typed.Mo T18
-  s16 = Scalar.n-room T17 2 Laws'.mir
+  abbrev s14 : Typed.Mo T15 → Typed.Mo T16
+  s14 = Scalar.n-room T15 2 Laws'.mir
 
-  abbrev s18 : Typed.Mo T18 → Typed.Mo T20
-  s18 = Reshare.n-back-sl-shr ReservationUsage.row T18 1 0 2 ref2 Row.off λ x. x
+  abbrev s16 : Typed.Mo T16 → Typed.Mo T18
+  s16 = Reshare.n-back-sl-shr ReservationUsage.row T16 1 0 2 ref2 Row.off λ x. x
 
-  abbrev args20 : Args'.ArgsT ps·3 (T20 .locals)
-  args20 = (record { pos = 6; st = List.[]; d = 0; at = λ x. x }, tt)
+  abbrev args18 : Args'.ArgsT ps·2 (T18 .locals)
+  args18 = (record { pos = 5; st = List.[]; d = 0; at = λ x. x }, tt)
 
-  abbrev s20 : Typed.Both T20 T22
-  s20 = Call.callB ps·3 r·3 (claims· .6) (claims· .7) T20 args20 7 List.[] ReservationUsage.ty
+  abbrev s18 : Typed.Both T18 T20
+  s18 = Call.callB ps·2 r·2 (claims· .4) (claims· .5) T18 args18 6 List.[] ReservationUsage.ty
 
-  abbrev s21 : Typed.Mo T22 → Typed.Mo T23
-  s21 = Scalar.n-room T22 6 ReservationUsage.ty
+  abbrev s19 : Typed.Mo T20 → Typed.Mo T21
+  s19 = Scalar.n-room T20 5 ReservationUsage.ty
 
-  abbrev s23 : Typed.Gives T23 T25
-  s23 = Relend.k-sl-relend ReservationUsage.row T23 1 13 0 3 ref2 ref1 Row.off λ x. x
+  abbrev s21 : Typed.Gives T21 T23
+  s21 = Relend.k-sl-relend ReservationUsage.row T21 1 12 0 3 ref2 ref1 Row.off λ x. x
 
-  abbrev s24 : Typed.Asks T25 T26
-  s24 = Relend.k-sl-aggregate ReservationUsage.row (Relend.asMut ReservationUsage.row) T25 13 14 3 ref1 ref1 (λ x. x) (Scalar.oFld
+  abbrev s22 : Typed.Asks T23 T24
+  s22 = Relend.k-sl-aggregate ReservationUsage.row (Relend.asMut ReservationUsage.row) T23 12 13 3 ref1 ref1 (λ x. x) (Scalar.oFld
       1 ((Syntax.field 1) ∷ List.[]) (Syntax.tyInt Syntax.w64) 8 λ v. Shared.lenV (v .0))
 
-  abbrev args25 : Args'.ArgsT ps·4 (T26 .locals)
-  args25 = (
-    record { pos = 14; ty = ref1; ref = λ x. x },
-    (Bool.bLit Bool'.true, (Num.vAt 5 λ x. x, (record { pos = 7; st = List.[]; d = 0; at = λ x. x }, tt))),
+  abbrev args23 : Args'.ArgsT ps·3 (T24 .locals)
+  args23 = (
+    record { pos = 13; ty = ref1; ref = λ x. x },
+    (Bool.bLit Bool'.true, (Num.vAt 4 λ x. x, (record { pos = 6; st = List.[]; d = 0; at = λ x. x }, tt))),
   )
 
-  abbrev s25 : Typed.Both T26 T27
-  s25 = Call.callB ps·4 r·4 (claims· .8) (claims· .9) T26 args25 12 (3 ∷ List.[]) Syntax.tyUnit
+  abbrev s23 : Typed.Both T24 T25
+  s23 = Call.callB ps·3 r·3 (claims· .6) (claims· .7) T24 args23 11 (3 ∷ List.[]) Syntax.tyUnit
 
-  abbrev s26 : Typed.Mo T27 → Typed.Mo T28
-  s26 = Scalar.n-room T27 7 ReservationUsage.ty
+  abbrev s24 : Typed.Mo T25 → Typed.Mo T26
+  s24 = Scalar.n-room T25 6 ReservationUsage.ty
 
-  abbrev s27 : Typed.Mo T28 → Typed.Mo T29
-  s27 = Scalar.n-room T28 12 Syntax.tyUnit
+  abbrev s25 : Typed.Mo T26 → Typed.Mo T27
+  s25 = Scalar.n-room T26 11 Syntax.tyUnit
 
-  abbrev s29 : Typed.Both T29 T31
-  s29 = Relend.k-back-sl ReservationUsage.row T29 14 1 0 3 ref2 ref1 Row.off (λ x. x) λ x. x
+  abbrev s27 : Typed.Both T27 T29
+  s27 = Relend.k-back-sl ReservationUsage.row T27 13 1 0 3 ref2 ref1 Row.off (λ x. x) λ x. x
 
-  abbrev s31 : Typed.Mo T31 → Typed.Mo T33
-  s31 = Scalar.n-use T31 Scalar.oUnit 0 (Rows.sc-here Row.sUnit) (Row.sUnit .of)
+  abbrev s29 : Typed.Mo T29 → Typed.Mo T31
+  s29 = Scalar.n-use T29 Scalar.oUnit 0 (Rows.sc-here Row.sUnit) (Row.sUnit .of)
 
-  abbrev s32 : Typed.Mo T33 → Typed.Mo T34
-  s32 = Scalar.n-room T33 5 (Syntax.tyInt Syntax.w64)
+  abbrev s30 : Typed.Mo T31 → Typed.Mo T32
+  s30 = Scalar.n-room T31 4 (Syntax.tyInt Syntax.w64)
 
   module _ (Pre· : (κs : Lifetimes.Lfts 1) → Kinds.Dens κs ps → Type 0) (Post· : (κs : Lifetimes.Lfts 1) →
       (a : Kinds.Dens κs ps) → Kinds.Plain 1 ps r κs) where
     module _ (M : Type 1) where
       abbrev pub Closed : Type 2
       Closed = (𝓤 : URA.URA M) (H : Wp.Heap 𝓤) (A : Atoms.Atoms 𝓤) (W : Kit.Given 𝓤 H A) (𝓣 : Wp.Tables 𝓤 H) (known0 :
-          Plain.Known 𝓤 H A W 𝓣 0 ps·0 r·0 (claims· .0) (claims· .1) "hnsr_circuit::tables::question::at_reservation") (known1
-          : Plain.Known 𝓤 H A W 𝓣 1 ps·1 r·1 (claims· .2) (claims· .3) "hnsr_circuit::tables::ledger::find_usage") (known2
-          : Plain.Known 𝓤 H A W 𝓣 1 ps·2 r·2 (claims· .4) (claims· .5) "hnsr_circuit::tables::ledger::usage_at") (known3
-          : Plain.Known 𝓤 H A W 𝓣 0 ps·3 r·3 (claims· .6) (claims· .7) "hnsr_circuit::records::ledger::usage_unmarked") (known4
-          : Plain.Known 𝓤 H A W 𝓣 1 ps·4 r·4 (claims· .8) (claims· .9) "hnsr_circuit::tables::ledger::set_usage") →
+          Plain.Known 𝓤 H A W 𝓣 1 ps·0 r·0 (claims· .0) (claims· .1) "hnsr_circuit::tables::ledger::find_usage") (known1
+          : Plain.Known 𝓤 H A W 𝓣 1 ps·1 r·1 (claims· .2) (claims· .3) "hnsr_circuit::tables::ledger::usage_at") (known2
+          : Plain.Known 𝓤 H A W 𝓣 0 ps·2 r·2 (claims· .4) (claims· .5) "hnsr_circuit::records::ledger::usage_unmarked") (known3
+          : Plain.Known 𝓤 H A W 𝓣 1 ps·3 r·3 (claims· .6) (claims· .7) "hnsr_circuit::tables::ledger::set_usage") →
           Statement.Triple 𝓤 (Wp.WpFn 𝓤 H (𝓣 .C) (𝓣 .Λ) (Function.fnOf 1 ps r xs m hs body))
           (Function.plainOf 𝓤 H A 1 ps r Pre· Post·)
 
     module _ where
-      abbrev at0 : Typed.TF T34 O0
+      abbrev at0 : Typed.TF T32 O0
       at0 = Typed.atRet O0
 
-      abbrev at1 : Typed.TF T33 O0
-      at1 = λ Ψ. Typed.pass T33 T34 s32 (at0 Ψ)
+      abbrev at1 : Typed.TF T31 O0
+      at1 = λ Ψ. Typed.pass T31 T32 s30 (at0 Ψ)
 
-      abbrev at2 : Typed.TF T31 O0
-      at2 = λ Ψ. Typed.pass T31 T33 s31 (at1 Ψ)
+      abbrev at2 : Typed.TF T29 O0
+      at2 = λ Ψ. Typed.pass T29 T31 s29 (at1 Ψ)
 
-      abbrev at3 : Typed.TF T31 O0
+      abbrev at3 : Typed.TF T29 O0
       at3 = λ Ψ. at2 Ψ
 
-      abbrev at4 : Typed.TF T29 O0
-      at4 = λ Ψ. Typed.both s29 (at3 Ψ)
+      abbrev at4 : Typed.TF T27 O0
+      at4 = λ Ψ. Typed.both s27 (at3 Ψ)
 
-      abbrev at5 : Typed.TF T29 O0
+      abbrev at5 : Typed.TF T27 O0
       at5 = λ Ψ. at4 Ψ
 
-      abbrev at6 : Typed.TF T28 O0
-      at6 = λ Ψ. Typed.pass T28 T29 s27 (at5 Ψ)
+      abbrev at6 : Typed.TF T26 O0
+      at6 = λ Ψ. Typed.pass T26 T27 s25 (at5 Ψ)
 
-      abbrev at7 : Typed.TF T27 O0
-      at7 = λ Ψ. Typed.pass T27 T28 s26 (at6 Ψ)
+      abbrev at7 : Typed.TF T25 O0
+      at7 = λ Ψ. Typed.pass T25 T26 s24 (at6 Ψ)
 
-      abbrev at8 : Typed.TF T26 O0
-      at8 = λ Ψ. Typed.both s25 (at7 Ψ)
+      abbrev at8 : Typed.TF T24 O0
+      at8 = λ Ψ. Typed.both s23 (at7 Ψ)
 
-      abbrev at9 : Typed.TF T25 O0
-      at9 = λ Ψ. Typed.ask s24 (at8 Ψ)
+      abbrev at9 : Typed.TF T23 O0
+      at9 = λ Ψ. Typed.ask s22 (at8 Ψ)
 
-      abbrev at10 : Typed.TF T23 O0
-      at10 = λ Ψ. Typed.give s23 (at9 Ψ)
+      abbrev at10 : Typed.TF T21 O0
+      at10 = λ Ψ. Typed.give s21 (at9 Ψ)
 
-      abbrev at11 : Typed.TF T23 O0
+      abbrev at11 : Typed.TF T21 O0
       at11 = λ Ψ. at10 Ψ
 
-      abbrev at12 : Typed.TF T22 O0
-      at12 = λ Ψ. Typed.pass T22 T23 s21 (at11 Ψ)
+      abbrev at12 : Typed.TF T20 O0
+      at12 = λ Ψ. Typed.pass T20 T21 s19 (at11 Ψ)
 
-      abbrev at13 : Typed.TF T20 O0
-      at13 = λ Ψ. Typed.both s20 (at12 Ψ)
+      abbrev at13 : Typed.TF T18 O0
+      at13 = λ Ψ. Typed.both s18 (at12 Ψ)
 
-      abbrev at14 : Typed.TF T20 O0
+      abbrev at14 : Typed.TF T18 O0
       at14 = λ Ψ. at13 Ψ
 
-      abbrev at15 : Typed.TF T18 O0
-      at15 = λ Ψ. Typed.pass T18 T20 s18 (at14 Ψ)
+      abbrev at15 : Typed.TF T16 O0
+      at15 = λ Ψ. Typed.pass T16 T18 s16 (at14 Ψ)
 
-      abbrev at16 : Typed.TF T18 O0
+      abbrev at16 : Typed.TF T16 O0
       at16 = λ Ψ. at15 Ψ
 
-      abbrev at17 : Typed.TF T17 O0
-      at17 = λ Ψ. Typed.pass T17 T18 s16 (at16 Ψ)
+      abbrev at17 : Typed.TF T15 O0
+      at17 = λ Ψ. Typed.pass T15 T16 s14 (at16 Ψ)
 
-      abbrev at18 : Typed.TF T16 O0
-      at18 = λ Ψ. Typed.pass T16 T17 s15 (at17 Ψ)
+      abbrev at18 : Typed.TF T14 O0
+      at18 = λ Ψ. Typed.pass T14 T15 s13 (at17 Ψ)
 
-      abbrev at19 : Typed.TF T15 O0
-      at19 = λ Ψ. Typed.both s14 (at18 Ψ)
+      abbrev at19 : Typed.TF T13 O0
+      at19 = λ Ψ. Typed.both s12 (at18 Ψ)
 
-      abbrev at20 : Typed.TF T14 O0
-      at20 = λ Ψ. Typed.ask s13 (at19 Ψ)
+      abbrev at20 : Typed.TF T12 O0
+      at20 = λ Ψ. Typed.ask s11 (at19 Ψ)
 
-      abbrev at21 : Typed.TF T11 O0
-      at21 = λ Ψ. Typed.give s12 (at20 Ψ)
+      abbrev at21 : Typed.TF T9 O0
+      at21 = λ Ψ. Typed.give s10 (at20 Ψ)
 
-      abbrev at22 : Typed.TF T11 O0
+      abbrev at22 : Typed.TF T9 O0
       at22 = λ Ψ. at21 Ψ
 
-      abbrev at23 : Typed.TF T11 O0
+      abbrev at23 : Typed.TF T9 O0
       at23 = λ Ψ. at22 Ψ
 
-      abbrev at24 : Typed.TF T9 O0
-      at24 = λ Ψ. Typed.pass T9 T11 s9 (at23 Ψ)
+      abbrev at24 : Typed.TF T7 O0
+      at24 = λ Ψ. Typed.pass T7 T9 s7 (at23 Ψ)
 
-      abbrev at25 : Typed.TF T9 O0
+      abbrev at25 : Typed.TF T7 O0
       at25 = λ Ψ. at24 Ψ
 
-      abbrev at26 : Typed.TF T8 O0
-      at26 = λ Ψ. Typed.pass T8 T9 s7 (at25 Ψ)
+      abbrev at26 : Typed.TF T6 O0
+      at26 = λ Ψ. Typed.pass T6 T7 s5 (at25 Ψ)
 
-      abbrev at27 : Typed.TF T7 O0
-      at27 = λ Ψ. Typed.pass T7 T8 s6 (at26 Ψ)
+      abbrev at27 : Typed.TF T5 O0
+      at27 = λ Ψ. Typed.pass T5 T6 s4 (at26 Ψ)
 
-      abbrev at28 : Typed.TF T6 O0
-      at28 = λ Ψ. Typed.both s5 (at27 Ψ)
+      abbrev at28 : Typed.TF T4 O0
+      at28 = λ Ψ. Typed.both s3 (at27 Ψ)
 
-      abbrev at29 : Typed.TF T5 O0
-      at29 = λ Ψ. Typed.ask s4 (at28 Ψ)
+      abbrev at29 : Typed.TF T3 O0
+      at29 = λ Ψ. Typed.ask s2 (at28 Ψ)
 
-      abbrev at30 : Typed.TF T3 O0
-      at30 = λ Ψ. Typed.give s3 (at29 Ψ)
+      abbrev at30 : Typed.TF T0 O0
+      at30 = λ Ψ. Typed.give s1 (at29 Ψ)
 
-      abbrev at31 : Typed.TF T3 O0
+      abbrev at31 : Typed.TF T0 O0
       at31 = λ Ψ. at30 Ψ
 
-      abbrev at32 : Typed.TF T2 O0
-      at32 = λ Ψ. Typed.pass T2 T3 s1 (at31 Ψ)
-
-      abbrev at33 : Typed.TF T0 O0
-      at33 = λ Ψ. Typed.both s0 (at32 Ψ)
-
       abbrev pub Φ : Typed.TF T0 O0
-      Φ = at33
+      Φ = at31
 
       module _ {M : Type 1} (𝓤 : URA.URA M) (H : Wp.Heap 𝓤) (A : Atoms.Atoms 𝓤) (W : Kit.Given 𝓤 H A)
           (𝓣 : Wp.Tables 𝓤 H) where
         abbrev Knowns : Type 1
-        Knowns = Plain.Known 𝓤 H A W 𝓣 0 ps·0 r·0 (claims· .0) (claims· .1)
-            "hnsr_circuit::tables::question::at_reservation" × Plain.Known 𝓤 H A W 𝓣 1 ps·1 r·1 (claims· .2)
-            (claims· .3) "hnsr_circuit::tables::ledger::find_usage" × Plain.Known 𝓤 H A W 𝓣 1 ps·2 r·2 (claims· .4)
-            (claims· .5) "hnsr_circuit::tables::ledger::usage_at" × Plain.Known 𝓤 H A W 𝓣 0 ps·3 r·3 (claims· .6)
-            (claims· .7) "hnsr_circuit::records::ledger::usage_unmarked" × Plain.Known 𝓤 H A W 𝓣 1 ps·4 r·4
-            (claims· .8) (claims· .9) "hnsr_circuit::tables::ledger::set_usage"
+        Knowns = Plain.Known 𝓤 H A W 𝓣 1 ps·0 r·0 (claims· .0) (claims· .1) "hnsr_circuit::tables::ledger::find_usage"
+            × Plain.Known 𝓤 H A W 𝓣 1 ps·1 r·1 (claims· .2) (claims· .3) "hnsr_circuit::tables::ledger::usage_at" ×
+            Plain.Known 𝓤 H A W 𝓣 0 ps·2 r·2 (claims· .4) (claims· .5) "hnsr_circuit::records::ledger::usage_unmarked"
+            × Plain.Known 𝓤 H A W 𝓣 1 ps·3 r·3 (claims· .6) (claims· .7) "hnsr_circuit::tables::ledger::set_usage"
 
       module _ (κs : Lifetimes.Lfts 1) (qs : Lifetimes.Shares 1) where
         abbrev life0 : Row.Life
@@ -710,50 +659,50 @@ module _ (claims· : Claims) where
         abbrev l1·2 : Row.Entry
         l1·2 = (1, Relend.mslice-owed ReservationUsage.row ref2 0 3 life0)
 
+        abbrev g2 : List.List Row.Entry
+        g2 = e0 ∷ l1 ∷ e2 ∷ e3 ∷ e4 ∷ e5 ∷ e6 ∷ e7·1 ∷ e8 ∷ e9 ∷ e10 ∷ e11 ∷ e12 ∷ e13 ∷ List.[]
+
+        abbrev g3 : List.List Row.Entry
+        g3 = e0 ∷ l1 ∷ e2 ∷ e3 ∷ e4 ∷ e5 ∷ e6 ∷ e7 ∷ e8·1 ∷ e9 ∷ e10 ∷ e11 ∷ e12 ∷ e13 ∷ List.[]
+
         abbrev g4 : List.List Row.Entry
-        g4 = e0 ∷ l1 ∷ e2 ∷ e3·1 ∷ e4·1 ∷ e5 ∷ e6 ∷ e7 ∷ e8·1 ∷ e9 ∷ e10 ∷ e11 ∷ e12 ∷ e13 ∷ e14 ∷ List.[]
+        g4 = e0 ∷ l1 ∷ e2 ∷ e3 ∷ e4·1 ∷ e5 ∷ e6 ∷ e7 ∷ e8·1 ∷ e9 ∷ e10 ∷ e11 ∷ e12 ∷ e13 ∷ List.[]
 
         abbrev g5 : List.List Row.Entry
-        g5 = e0 ∷ l1 ∷ e2 ∷ e3·1 ∷ e4·1 ∷ e5 ∷ e6 ∷ e7 ∷ e8 ∷ e9·1 ∷ e10 ∷ e11 ∷ e12 ∷ e13 ∷ e14 ∷ List.[]
+        g5 = e0 ∷ l1 ∷ e2 ∷ e3 ∷ e4·1 ∷ e5 ∷ e6 ∷ e7 ∷ e8 ∷ e9 ∷ e10 ∷ e11 ∷ e12 ∷ e13 ∷ List.[]
 
         abbrev g6 : List.List Row.Entry
-        g6 = e0 ∷ l1 ∷ e2 ∷ e3·1 ∷ e4·1 ∷ e5·1 ∷ e6 ∷ e7 ∷ e8 ∷ e9·1 ∷ e10 ∷ e11 ∷ e12 ∷ e13 ∷ e14 ∷ List.[]
-
-        abbrev g7 : List.List Row.Entry
-        g7 = e0 ∷ l1 ∷ e2 ∷ e3·1 ∷ e4·1 ∷ e5·1 ∷ e6 ∷ e7 ∷ e8 ∷ e9 ∷ e10 ∷ e11 ∷ e12 ∷ e13 ∷ e14 ∷ List.[]
+        g6 = e0 ∷ l1 ∷ e2 ∷ e3·1 ∷ e4·1 ∷ e5 ∷ e6 ∷ e7 ∷ e8 ∷ e9 ∷ e10 ∷ e11 ∷ e12 ∷ e13 ∷ List.[]
 
         abbrev g8 : List.List Row.Entry
-        g8 = e0 ∷ l1 ∷ e2 ∷ e3·1 ∷ e4 ∷ e5·1 ∷ e6 ∷ e7 ∷ e8 ∷ e9 ∷ e10 ∷ e11 ∷ e12 ∷ e13 ∷ e14 ∷ List.[]
+        g8 = e0 ∷ l1·1 ∷ e2 ∷ e3·1 ∷ e4·1 ∷ e5 ∷ e6 ∷ e7 ∷ e8 ∷ e9·1 ∷ e10 ∷ e11 ∷ e12 ∷ e13 ∷ List.[]
+
+        abbrev g9 : List.List Row.Entry
+        g9 = e0 ∷ l1·1 ∷ e2 ∷ e3·1 ∷ e4·1 ∷ e5 ∷ e6 ∷ e7 ∷ e8 ∷ e9 ∷ e10·1 ∷ e11 ∷ e12 ∷ e13 ∷ List.[]
 
         abbrev g10 : List.List Row.Entry
-        g10 = e0 ∷ l1·1 ∷ e2 ∷ e3·1 ∷ e4 ∷ e5·1 ∷ e6 ∷ e7 ∷ e8 ∷ e9 ∷ e10·1 ∷ e11 ∷ e12 ∷ e13 ∷ e14 ∷ List.[]
+        g10 = e0 ∷ l1·1 ∷ e2 ∷ e3·1 ∷ e4·1 ∷ e5·1 ∷ e6 ∷ e7 ∷ e8 ∷ e9 ∷ e10·1 ∷ e11 ∷ e12 ∷ e13 ∷ List.[]
 
         abbrev g11 : List.List Row.Entry
-        g11 = e0 ∷ l1·1 ∷ e2 ∷ e3·1 ∷ e4 ∷ e5·1 ∷ e6 ∷ e7 ∷ e8 ∷ e9 ∷ e10 ∷ e11·1 ∷ e12 ∷ e13 ∷ e14 ∷ List.[]
+        g11 = e0 ∷ l1·1 ∷ e2 ∷ e3·1 ∷ e4·1 ∷ e5·1 ∷ e6 ∷ e7 ∷ e8 ∷ e9 ∷ e10 ∷ e11 ∷ e12 ∷ e13 ∷ List.[]
 
         abbrev g12 : List.List Row.Entry
-        g12 = e0 ∷ l1·1 ∷ e2 ∷ e3·1 ∷ e4 ∷ e5·1 ∷ e6·1 ∷ e7 ∷ e8 ∷ e9 ∷ e10 ∷ e11·1 ∷ e12 ∷ e13 ∷ e14 ∷ List.[]
+        g12 = e0 ∷ l1·1 ∷ e2·1 ∷ e3·1 ∷ e4·1 ∷ e5·1 ∷ e6 ∷ e7 ∷ e8 ∷ e9 ∷ e10 ∷ e11 ∷ e12 ∷ e13 ∷ List.[]
 
-        abbrev g13 : List.List Row.Entry
-        g13 = e0 ∷ l1·1 ∷ e2 ∷ e3·1 ∷ e4 ∷ e5·1 ∷ e6·1 ∷ e7 ∷ e8 ∷ e9 ∷ e10 ∷ e11 ∷ e12 ∷ e13 ∷ e14 ∷ List.[]
+        abbrev g16 : List.List Row.Entry
+        g16 = e0 ∷ l1·2 ∷ e2·1 ∷ e3·1 ∷ e4·1 ∷ e5 ∷ e6·1 ∷ e7 ∷ e8 ∷ e9 ∷ e10 ∷ e11 ∷ e12·1 ∷ e13 ∷ List.[]
 
-        abbrev g14 : List.List Row.Entry
-        g14 = e0 ∷ l1·1 ∷ e2·1 ∷ e3·1 ∷ e4 ∷ e5·1 ∷ e6·1 ∷ e7 ∷ e8 ∷ e9 ∷ e10 ∷ e11 ∷ e12 ∷ e13 ∷ e14 ∷ List.[]
+        abbrev g17 : List.List Row.Entry
+        g17 = e0 ∷ l1·2 ∷ e2·1 ∷ e3·1 ∷ e4·1 ∷ e5 ∷ e6·1 ∷ e7 ∷ e8 ∷ e9 ∷ e10 ∷ e11 ∷ e12 ∷ e13·1 ∷ List.[]
 
         abbrev g18 : List.List Row.Entry
-        g18 = e0 ∷ l1·2 ∷ e2·1 ∷ e3·1 ∷ e4 ∷ e5·1 ∷ e6 ∷ e7·1 ∷ e8 ∷ e9 ∷ e10 ∷ e11 ∷ e12 ∷ e13·1 ∷ e14 ∷ List.[]
+        g18 = e0 ∷ l1·2 ∷ e2·1 ∷ e3·1 ∷ e4·1 ∷ e5 ∷ e6·1 ∷ e7 ∷ e8 ∷ e9 ∷ e10 ∷ e11·1 ∷ e12 ∷ e13·2 ∷ List.[]
 
         abbrev g19 : List.List Row.Entry
-        g19 = e0 ∷ l1·2 ∷ e2·1 ∷ e3·1 ∷ e4 ∷ e5·1 ∷ e6 ∷ e7·1 ∷ e8 ∷ e9 ∷ e10 ∷ e11 ∷ e12 ∷ e13 ∷ e14·1 ∷ List.[]
+        g19 = e0 ∷ l1·2 ∷ e2·1 ∷ e3·1 ∷ e4·1 ∷ e5 ∷ e6 ∷ e7 ∷ e8 ∷ e9 ∷ e10 ∷ e11·1 ∷ e12 ∷ e13·2 ∷ List.[]
 
         abbrev g20 : List.List Row.Entry
-        g20 = e0 ∷ l1·2 ∷ e2·1 ∷ e3·1 ∷ e4 ∷ e5·1 ∷ e6 ∷ e7·1 ∷ e8 ∷ e9 ∷ e10 ∷ e11 ∷ e12·1 ∷ e13 ∷ e14·2 ∷ List.[]
-
-        abbrev g21 : List.List Row.Entry
-        g21 = e0 ∷ l1·2 ∷ e2·1 ∷ e3·1 ∷ e4 ∷ e5·1 ∷ e6 ∷ e7 ∷ e8 ∷ e9 ∷ e10 ∷ e11 ∷ e12·1 ∷ e13 ∷ e14·2 ∷ List.[]
-
-        abbrev g22 : List.List Row.Entry
-        g22 = e0 ∷ l1·2 ∷ e2·1 ∷ e3·1 ∷ e4 ∷ e5·1 ∷ e6 ∷ e7 ∷ e8 ∷ e9 ∷ e10 ∷ e11 ∷ e12 ∷ e13 ∷ e14·2 ∷ List.[]
+        g20 = e0 ∷ l1·2 ∷ e2·1 ∷ e3·1 ∷ e4·1 ∷ e5 ∷ e6 ∷ e7 ∷ e8 ∷ e9 ∷ e10 ∷ e11 ∷ e12 ∷ e13·2 ∷ List.[]
 
         abbrev G0 : Row.Cx
         G0 = record { locals = t0; slots = life0 ∷ Row.off ∷ Row.off ∷ Row.off ∷ List.[] }
@@ -762,13 +711,13 @@ module _ (claims· : Claims) where
         G1 = record { locals = t1; slots = life0 ∷ Row.off ∷ Row.off ∷ Row.off ∷ List.[] }
 
         abbrev G2 : Row.Cx
-        G2 = record { locals = t2; slots = life0 ∷ Row.off ∷ Row.off ∷ Row.off ∷ List.[] }
+        G2 = record { locals = t0; slots = life0 ∷ Row.alive ∷ Row.off ∷ Row.off ∷ List.[] }
 
         abbrev G3 : Row.Cx
-        G3 = record { locals = t3; slots = life0 ∷ Row.off ∷ Row.off ∷ Row.off ∷ List.[] }
+        G3 = record { locals = g2; slots = Row.off ∷ Row.alive ∷ Row.off ∷ Row.off ∷ List.[] }
 
         abbrev G4 : Row.Cx
-        G4 = record { locals = t3; slots = life0 ∷ Row.alive ∷ Row.off ∷ Row.off ∷ List.[] }
+        G4 = record { locals = g3; slots = Row.off ∷ Row.alive ∷ Row.off ∷ Row.off ∷ List.[] }
 
         abbrev G5 : Row.Cx
         G5 = record { locals = g4; slots = Row.off ∷ Row.alive ∷ Row.off ∷ Row.off ∷ List.[] }
@@ -780,22 +729,22 @@ module _ (claims· : Claims) where
         G7 = record { locals = g6; slots = Row.off ∷ Row.alive ∷ Row.off ∷ Row.off ∷ List.[] }
 
         abbrev G8 : Row.Cx
-        G8 = record { locals = g7; slots = Row.off ∷ Row.alive ∷ Row.off ∷ Row.off ∷ List.[] }
+        G8 = record { locals = g6; slots = Row.off ∷ Row.dead ∷ Row.off ∷ Row.off ∷ List.[] }
 
         abbrev G9 : Row.Cx
-        G9 = record { locals = g8; slots = Row.off ∷ Row.alive ∷ Row.off ∷ Row.off ∷ List.[] }
+        G9 = record { locals = t7; slots = life0 ∷ Row.dead ∷ Row.off ∷ Row.off ∷ List.[] }
 
         abbrev G10 : Row.Cx
-        G10 = record { locals = g8; slots = Row.off ∷ Row.dead ∷ Row.off ∷ Row.off ∷ List.[] }
+        G10 = record { locals = t7; slots = life0 ∷ Row.off ∷ Row.off ∷ Row.off ∷ List.[] }
 
         abbrev G11 : Row.Cx
-        G11 = record { locals = t9; slots = life0 ∷ Row.dead ∷ Row.off ∷ Row.off ∷ List.[] }
+        G11 = record { locals = t7; slots = life0 ∷ Row.off ∷ Row.alive ∷ Row.off ∷ List.[] }
 
         abbrev G12 : Row.Cx
-        G12 = record { locals = t9; slots = life0 ∷ Row.off ∷ Row.off ∷ Row.off ∷ List.[] }
+        G12 = record { locals = g8; slots = Row.off ∷ Row.off ∷ Row.alive ∷ Row.off ∷ List.[] }
 
         abbrev G13 : Row.Cx
-        G13 = record { locals = t9; slots = life0 ∷ Row.off ∷ Row.alive ∷ Row.off ∷ List.[] }
+        G13 = record { locals = g9; slots = Row.off ∷ Row.off ∷ Row.alive ∷ Row.off ∷ List.[] }
 
         abbrev G14 : Row.Cx
         G14 = record { locals = g10; slots = Row.off ∷ Row.off ∷ Row.alive ∷ Row.off ∷ List.[] }
@@ -807,28 +756,28 @@ module _ (claims· : Claims) where
         G16 = record { locals = g12; slots = Row.off ∷ Row.off ∷ Row.alive ∷ Row.off ∷ List.[] }
 
         abbrev G17 : Row.Cx
-        G17 = record { locals = g13; slots = Row.off ∷ Row.off ∷ Row.alive ∷ Row.off ∷ List.[] }
+        G17 = record { locals = g12; slots = Row.off ∷ Row.off ∷ Row.dead ∷ Row.off ∷ List.[] }
 
         abbrev G18 : Row.Cx
-        G18 = record { locals = g14; slots = Row.off ∷ Row.off ∷ Row.alive ∷ Row.off ∷ List.[] }
+        G18 = record { locals = t13; slots = life0 ∷ Row.off ∷ Row.dead ∷ Row.off ∷ List.[] }
 
         abbrev G19 : Row.Cx
-        G19 = record { locals = g14; slots = Row.off ∷ Row.off ∷ Row.dead ∷ Row.off ∷ List.[] }
+        G19 = record { locals = t13; slots = life0 ∷ Row.off ∷ Row.off ∷ Row.off ∷ List.[] }
 
         abbrev G20 : Row.Cx
-        G20 = record { locals = t15; slots = life0 ∷ Row.off ∷ Row.dead ∷ Row.off ∷ List.[] }
+        G20 = record { locals = t14; slots = life0 ∷ Row.off ∷ Row.off ∷ Row.off ∷ List.[] }
 
         abbrev G21 : Row.Cx
         G21 = record { locals = t15; slots = life0 ∷ Row.off ∷ Row.off ∷ Row.off ∷ List.[] }
 
         abbrev G22 : Row.Cx
-        G22 = record { locals = t16; slots = life0 ∷ Row.off ∷ Row.off ∷ Row.off ∷ List.[] }
+        G22 = record { locals = t15; slots = life0 ∷ Row.off ∷ Row.off ∷ Row.alive ∷ List.[] }
 
         abbrev G23 : Row.Cx
-        G23 = record { locals = t17; slots = life0 ∷ Row.off ∷ Row.off ∷ Row.off ∷ List.[] }
+        G23 = record { locals = g16; slots = Row.off ∷ Row.off ∷ Row.off ∷ Row.alive ∷ List.[] }
 
         abbrev G24 : Row.Cx
-        G24 = record { locals = t17; slots = life0 ∷ Row.off ∷ Row.off ∷ Row.alive ∷ List.[] }
+        G24 = record { locals = g17; slots = Row.off ∷ Row.off ∷ Row.off ∷ Row.alive ∷ List.[] }
 
         abbrev G25 : Row.Cx
         G25 = record { locals = g18; slots = Row.off ∷ Row.off ∷ Row.off ∷ Row.alive ∷ List.[] }
@@ -840,25 +789,19 @@ module _ (claims· : Claims) where
         G27 = record { locals = g20; slots = Row.off ∷ Row.off ∷ Row.off ∷ Row.alive ∷ List.[] }
 
         abbrev G28 : Row.Cx
-        G28 = record { locals = g21; slots = Row.off ∷ Row.off ∷ Row.off ∷ Row.alive ∷ List.[] }
+        G28 = record { locals = g20; slots = Row.off ∷ Row.off ∷ Row.off ∷ Row.dead ∷ List.[] }
 
         abbrev G29 : Row.Cx
-        G29 = record { locals = g22; slots = Row.off ∷ Row.off ∷ Row.off ∷ Row.alive ∷ List.[] }
+        G29 = record { locals = t21; slots = life0 ∷ Row.off ∷ Row.off ∷ Row.dead ∷ List.[] }
 
         abbrev G30 : Row.Cx
-        G30 = record { locals = g22; slots = Row.off ∷ Row.off ∷ Row.off ∷ Row.dead ∷ List.[] }
+        G30 = record { locals = t21; slots = life0 ∷ Row.off ∷ Row.off ∷ Row.off ∷ List.[] }
 
         abbrev G31 : Row.Cx
-        G31 = record { locals = t23; slots = life0 ∷ Row.off ∷ Row.off ∷ Row.dead ∷ List.[] }
+        G31 = record { locals = t22; slots = life0 ∷ Row.off ∷ Row.off ∷ Row.off ∷ List.[] }
 
         abbrev G32 : Row.Cx
-        G32 = record { locals = t23; slots = life0 ∷ Row.off ∷ Row.off ∷ Row.off ∷ List.[] }
-
-        abbrev G33 : Row.Cx
-        G33 = record { locals = t24; slots = life0 ∷ Row.off ∷ Row.off ∷ Row.off ∷ List.[] }
-
-        abbrev G34 : Row.Cx
-        G34 = record { locals = t1; slots = life0 ∷ Row.off ∷ Row.off ∷ Row.off ∷ List.[] }
+        G32 = record { locals = t1; slots = life0 ∷ Row.off ∷ Row.off ∷ Row.off ∷ List.[] }
 
         abbrev Δ0 : Typed.Outs
         Δ0 = record { next = Option.none; exits = List.[]; returns = Option.some G1 }
@@ -869,46 +812,46 @@ module _ (claims· : Claims) where
           abbrev E : Wp.Env 𝓤 H
           E = Frame.EnvOf 𝓤 H ((Kinds.tyR r) ∷ (Enter.tysP ps xs)) bs
 
-          d0 : Typed.Typed 𝓤 H A 𝓣 E G34 b12 Δ0 at0
+          d0 : Typed.Typed 𝓤 H A 𝓣 E G32 b11 Δ0 at0
           d0 = Typed.t-return 𝓤 H A W 𝓣 E Δ0 tt
 
-          d1 : Typed.Typed 𝓤 H A 𝓣 E G33 b12 Δ0 at1
-          d1 = Typed.g-pre 𝓤 H A W 𝓣 E G33 G34 b12 Δ0 (Typed.pass T33 T34 s32) at0 (Scalar.g-room 𝓤 H A W E G33 5
+          d1 : Typed.Typed 𝓤 H A 𝓣 E G31 b11 Δ0 at1
+          d1 = Typed.g-pre 𝓤 H A W 𝓣 E G31 G32 b11 Δ0 (Typed.pass T31 T32 s30) at0 (Scalar.g-room 𝓤 H A W E G31 4
               (Syntax.tyInt Syntax.w64) (Scalar.room-sc 𝓤 H A W (Row.sInt Syntax.w64))) d0
 
-          d2 : Typed.Typed 𝓤 H A 𝓣 E G32 b13 Δ0 at2
-          d2 = Typed.s-seq 𝓤 H A W 𝓣 E G32 G33 b11 b12 Δ0 (Typed.pass T31 T33 s31) at1 (Scalar.t-use 𝓤 H A W E 𝓣 G32
+          d2 : Typed.Typed 𝓤 H A 𝓣 E G30 b12 Δ0 at2
+          d2 = Typed.s-seq 𝓤 H A W 𝓣 E G30 G31 b10 b11 Δ0 (Typed.pass T29 T31 s29) at1 (Scalar.t-use 𝓤 H A W E 𝓣 G30
               Scalar.oUnit 0 (Rows.sc-here Row.sUnit) Syntax.tyUnit (Row.valS Row.sUnit) (Row.sUnit .of) tt
               (Reads.room-gone 𝓤 H A Syntax.tyUnit) (Scalar.holds-sc 𝓤 H A W Row.sUnit) Path.refl (λ u. Path.refl) λ u.
               tt) d1
 
-          d3 : Typed.Typed 𝓤 H A 𝓣 E G31 b13 Δ0 at3
-          d3 = Typed.g-pre 𝓤 H A W 𝓣 E G31 G32 b13 Δ0 (λ Ψ. Ψ) at2
-              (Lifetime.g-forget 𝓤 H A W E G31 3 Row.dead Path.refl) d2
+          d3 : Typed.Typed 𝓤 H A 𝓣 E G29 b12 Δ0 at3
+          d3 = Typed.g-pre 𝓤 H A W 𝓣 E G29 G30 b12 Δ0 (λ Ψ. Ψ) at2
+              (Lifetime.g-forget 𝓤 H A W E G29 3 Row.dead Path.refl) d2
 
-          d4 : Typed.Typed 𝓤 H A 𝓣 E G30 b13 Δ0 at4
-          d4 = Typed.g-pre 𝓤 H A W 𝓣 E G30 G31 b13 Δ0 (Typed.both s29) at3 (Relend.g-back-sl 𝓤 H A W E
-              ReservationUsage.row G30 14 1 0 3 ref2 ref1 life0 (λ x. x) (λ x. x)
+          d4 : Typed.Typed 𝓤 H A 𝓣 E G28 b12 Δ0 at4
+          d4 = Typed.g-pre 𝓤 H A W 𝓣 E G28 G29 b12 Δ0 (Typed.both s27) at3 (Relend.g-back-sl 𝓤 H A W E
+              ReservationUsage.row G28 13 1 0 3 ref2 ref1 life0 (λ x. x) (λ x. x)
               (Reads.as-is 𝓤 H A (Mut.msleft ReservationUsage.row ref1)) (Reads.as-is 𝓤 H A
               (Relend.mslice-owed ReservationUsage.row ref2 0 3 life0)) Path.refl Path.refl) d3
 
-          d5 : Typed.Typed 𝓤 H A 𝓣 E G29 b13 Δ0 at5
-          d5 = Typed.g-pre 𝓤 H A W 𝓣 E G29 G30 b13 Δ0 (λ Ψ. Ψ) at4 (Lifetime.g-end 𝓤 H A W E G29 3 Path.refl) d4
+          d5 : Typed.Typed 𝓤 H A 𝓣 E G27 b12 Δ0 at5
+          d5 = Typed.g-pre 𝓤 H A W 𝓣 E G27 G28 b12 Δ0 (λ Ψ. Ψ) at4 (Lifetime.g-end 𝓤 H A W E G27 3 Path.refl) d4
 
-          d6 : Typed.Typed 𝓤 H A 𝓣 E G28 b13 Δ0 at6
-          d6 = Typed.g-pre 𝓤 H A W 𝓣 E G28 G29 b13 Δ0 (Typed.pass T28 T29 s27) at5 (Scalar.g-room 𝓤 H A W E G28 12
+          d6 : Typed.Typed 𝓤 H A 𝓣 E G26 b12 Δ0 at6
+          d6 = Typed.g-pre 𝓤 H A W 𝓣 E G26 G27 b12 Δ0 (Typed.pass T26 T27 s25) at5 (Scalar.g-room 𝓤 H A W E G26 11
               Syntax.tyUnit (Scalar.room-sc 𝓤 H A W Row.sUnit)) d5
 
-          d7 : Typed.Typed 𝓤 H A 𝓣 E G27 b13 Δ0 at7
-          d7 = Typed.g-pre 𝓤 H A W 𝓣 E G27 G28 b13 Δ0 (Typed.pass T27 T28 s26) at6 (Scalar.g-room 𝓤 H A W E G27 7
+          d7 : Typed.Typed 𝓤 H A 𝓣 E G25 b12 Δ0 at7
+          d7 = Typed.g-pre 𝓤 H A W 𝓣 E G25 G26 b12 Δ0 (Typed.pass T25 T26 s24) at6 (Scalar.g-room 𝓤 H A W E G25 6
               ReservationUsage.ty (Local.room-whole 𝓤 H A W ReservationUsage.row ReservationUsage.ty Path.refl)) d6
 
-          d8 : Typed.Typed 𝓤 H A 𝓣 E G26 b14 Δ0 at8
-          d8 = Typed.s-seq 𝓤 H A W 𝓣 E G26 G27 b10 b13 Δ0 (Typed.both s25) at7 (Plain.t-call-plain 𝓤 H A W 𝓣 1 ps·4 r·4
-              (claims· .8) (claims· .9) "hnsr_circuit::tables::ledger::set_usage" (known .4) E (λ pos β. β) G26 (
-                record { pos = 14; ty = ref1; ref = λ x. x },
-                (Bool.bLit Bool'.true, (Num.vAt 5 λ x. x, (record { pos = 7; st = List.[]; d = 0; at = λ x. x }, tt))),
-              ) 12 (3 ∷ List.[]) (Call.sub-id 𝓤 H A W (G26 .slots)) (
+          d8 : Typed.Typed 𝓤 H A 𝓣 E G24 b13 Δ0 at8
+          d8 = Typed.s-seq 𝓤 H A W 𝓣 E G24 G25 b9 b12 Δ0 (Typed.both s23) at7 (Plain.t-call-plain 𝓤 H A W 𝓣 1 ps·3 r·3
+              (claims· .6) (claims· .7) "hnsr_circuit::tables::ledger::set_usage" (known .3) E (λ pos β. β) G24 (
+                record { pos = 13; ty = ref1; ref = λ x. x },
+                (Bool.bLit Bool'.true, (Num.vAt 4 λ x. x, (record { pos = 6; st = List.[]; d = 0; at = λ x. x }, tt))),
+              ) 11 (3 ∷ List.[]) (Call.sub-id 𝓤 H A W (G24 .slots)) (
                 Reads.as-is 𝓤 H A (Mut.mslice ReservationUsage.row ref1 3),
                 Mut.reads-mslice 𝓤 H A W ReservationUsage.row ref1 3,
                 Path.refl,
@@ -930,36 +873,36 @@ module _ (claims· : Claims) where
                 ),
               ) (Reads.room-gone 𝓤 H A Syntax.tyUnit) (tt, tt) Path.refl) d7
 
-          d9 : Typed.Typed 𝓤 H A 𝓣 E G25 b15 Δ0 at9
-          d9 = Typed.s-seq 𝓤 H A W 𝓣 E G25 G26 b9 b14 Δ0 (Typed.ask s24) at8 (Relend.t-sl-aggregate 𝓤 H A W E
-              ReservationUsage.row 𝓣 (Relend.asMut ReservationUsage.row) G25 13 14 3 ref1 ref1 (λ x. x) (Scalar.oFld 1
+          d9 : Typed.Typed 𝓤 H A 𝓣 E G23 b14 Δ0 at9
+          d9 = Typed.s-seq 𝓤 H A W 𝓣 E G23 G24 b8 b13 Δ0 (Typed.ask s22) at8 (Relend.t-sl-aggregate 𝓤 H A W E
+              ReservationUsage.row 𝓣 (Relend.asMut ReservationUsage.row) G23 12 13 3 ref1 ref1 (λ x. x) (Scalar.oFld 1
               ((Syntax.field 1) ∷ List.[]) (Syntax.tyInt Syntax.w64) 8 λ v. Shared.lenV (v .0)) (Reads.as-is 𝓤 H A
               (Relend.msptr ReservationUsage.row ref1 3)) (Reads.room-gone 𝓤 H A slice1) (
                 Relend.reads-owed-len 𝓤 H A W ReservationUsage.row ref2 0 3 life0 8 Path.refl,
                 Path.refl,
               ) Path.refl Path.refl λ b o k. tt) d8
 
-          d10 : Typed.Typed 𝓤 H A 𝓣 E G24 b16 Δ0 at10
-          d10 = Typed.s-seq 𝓤 H A W 𝓣 E G24 G25 b8 b15 Δ0 (Typed.give s23) at9 (Relend.t-sl-relend 𝓤 H A W E
-              ReservationUsage.row 𝓣 G24 1 13 0 3 ref2 ref1 life0 0 (λ x. x) (Reads.as-is 𝓤 H A
+          d10 : Typed.Typed 𝓤 H A 𝓣 E G22 b15 Δ0 at10
+          d10 = Typed.s-seq 𝓤 H A W 𝓣 E G22 G23 b7 b14 Δ0 (Typed.give s21) at9 (Relend.t-sl-relend 𝓤 H A W E
+              ReservationUsage.row 𝓣 G22 1 12 0 3 ref2 ref1 life0 0 (λ x. x) (Reads.as-is 𝓤 H A
               (Mut.mslice ReservationUsage.row ref2 0)) (Reads.room-gone 𝓤 H A ref1) Path.refl tt Path.refl Path.refl
               Path.refl λ b o. tt) d9
 
-          d11 : Typed.Typed 𝓤 H A 𝓣 E G23 b16 Δ0 at11
-          d11 = Typed.g-pre 𝓤 H A W 𝓣 E G23 G24 b16 Δ0 (λ Ψ. Ψ) at10 (Lifetime.g-begin 𝓤 H A W E G23 3 (
+          d11 : Typed.Typed 𝓤 H A 𝓣 E G21 b15 Δ0 at11
+          d11 = Typed.g-pre 𝓤 H A W 𝓣 E G21 G22 b15 Δ0 (λ Ψ. Ψ) at10 (Lifetime.g-begin 𝓤 H A W E G21 3 (
             tt,
-            (tt, (tt, (tt, (tt, (tt, (tt, (tt, (tt, (tt, (tt, (tt, (tt, (tt, (tt, tt)))))))))))))),
+            (tt, (tt, (tt, (tt, (tt, (tt, (tt, (tt, (tt, (tt, (tt, (tt, (tt, tt))))))))))))),
           )) d10
 
-          d12 : Typed.Typed 𝓤 H A 𝓣 E G22 b16 Δ0 at12
-          d12 = Typed.g-pre 𝓤 H A W 𝓣 E G22 G23 b16 Δ0 (Typed.pass T22 T23 s21) at11 (Scalar.g-room 𝓤 H A W E G22 6
+          d12 : Typed.Typed 𝓤 H A 𝓣 E G20 b15 Δ0 at12
+          d12 = Typed.g-pre 𝓤 H A W 𝓣 E G20 G21 b15 Δ0 (Typed.pass T20 T21 s19) at11 (Scalar.g-room 𝓤 H A W E G20 5
               ReservationUsage.ty (Local.room-whole 𝓤 H A W ReservationUsage.row ReservationUsage.ty Path.refl)) d11
 
-          d13 : Typed.Typed 𝓤 H A 𝓣 E G21 b17 Δ0 at13
-          d13 = Typed.s-seq 𝓤 H A W 𝓣 E G21 G22 b7 b16 Δ0 (Typed.both s20) at12 (Plain.t-call-plain 𝓤 H A W 𝓣 0 ps·3
-              r·3 (claims· .6) (claims· .7) "hnsr_circuit::records::ledger::usage_unmarked" (known .3) E (λ pos β. β)
-              G21 (record { pos = 6; st = List.[]; d = 0; at = λ x. x }, tt) 7 List.[]
-              (Call.sub-id 𝓤 H A W (G21 .slots)) (
+          d13 : Typed.Typed 𝓤 H A 𝓣 E G19 b16 Δ0 at13
+          d13 = Typed.s-seq 𝓤 H A W 𝓣 E G19 G20 b6 b15 Δ0 (Typed.both s18) at12 (Plain.t-call-plain 𝓤 H A W 𝓣 0 ps·2
+              r·2 (claims· .4) (claims· .5) "hnsr_circuit::records::ledger::usage_unmarked" (known .2) E (λ pos β. β)
+              G19 (record { pos = 5; st = List.[]; d = 0; at = λ x. x }, tt) 6 List.[]
+              (Call.sub-id 𝓤 H A W (G19 .slots)) (
                 (
                   Yields.yields-copy 𝓤 H A W (λ ρ. Unit) ReservationUsage.row Path.refl
                       (ReservationUsage.copies .copy 𝓤 H A W) ReservationUsage.held (λ x. x) (λ x. x)
@@ -970,32 +913,32 @@ module _ (claims· : Claims) where
                 tt,
               ) (Reads.room-gone 𝓤 H A ReservationUsage.ty) tt Path.refl) d12
 
-          d14 : Typed.Typed 𝓤 H A 𝓣 E G20 b17 Δ0 at14
-          d14 = Typed.g-pre 𝓤 H A W 𝓣 E G20 G21 b17 Δ0 (λ Ψ. Ψ) at13
-              (Lifetime.g-forget 𝓤 H A W E G20 2 Row.dead Path.refl) d13
+          d14 : Typed.Typed 𝓤 H A 𝓣 E G18 b16 Δ0 at14
+          d14 = Typed.g-pre 𝓤 H A W 𝓣 E G18 G19 b16 Δ0 (λ Ψ. Ψ) at13
+              (Lifetime.g-forget 𝓤 H A W E G18 2 Row.dead Path.refl) d13
 
-          d15 : Typed.Typed 𝓤 H A 𝓣 E G19 b17 Δ0 at15
-          d15 = Typed.g-pre 𝓤 H A W 𝓣 E G19 G20 b17 Δ0 (Typed.pass T18 T20 s18) at14 (Reshare.g-back-sl-shr 𝓤 H A W E
-              ReservationUsage.row G19 1 0 2 ref2 life0 (λ x. x) (Reads.as-is 𝓤 H A
+          d15 : Typed.Typed 𝓤 H A 𝓣 E G17 b16 Δ0 at15
+          d15 = Typed.g-pre 𝓤 H A W 𝓣 E G17 G18 b16 Δ0 (Typed.pass T16 T18 s16) at14 (Reshare.g-back-sl-shr 𝓤 H A W E
+              ReservationUsage.row G17 1 0 2 ref2 life0 (λ x. x) (Reads.as-is 𝓤 H A
               (Reshare.mslice-owedS ReservationUsage.row ref2 0 2 life0)) Path.refl Path.refl) d14
 
-          d16 : Typed.Typed 𝓤 H A 𝓣 E G18 b17 Δ0 at16
-          d16 = Typed.g-pre 𝓤 H A W 𝓣 E G18 G19 b17 Δ0 (λ Ψ. Ψ) at15 (Lifetime.g-end 𝓤 H A W E G18 2 Path.refl) d15
+          d16 : Typed.Typed 𝓤 H A 𝓣 E G16 b16 Δ0 at16
+          d16 = Typed.g-pre 𝓤 H A W 𝓣 E G16 G17 b16 Δ0 (λ Ψ. Ψ) at15 (Lifetime.g-end 𝓤 H A W E G16 2 Path.refl) d15
 
-          d17 : Typed.Typed 𝓤 H A 𝓣 E G17 b17 Δ0 at17
-          d17 = Typed.g-pre 𝓤 H A W 𝓣 E G17 G18 b17 Δ0 (Typed.pass T17 T18 s16) at16 (Scalar.g-room 𝓤 H A W E G17 2
+          d17 : Typed.Typed 𝓤 H A 𝓣 E G15 b16 Δ0 at17
+          d17 = Typed.g-pre 𝓤 H A W 𝓣 E G15 G16 b16 Δ0 (Typed.pass T15 T16 s14) at16 (Scalar.g-room 𝓤 H A W E G15 2
               Laws'.mir (Local.room-whole 𝓤 H A W (Declared.row Places.the-type) Laws'.mir Path.refl)) d16
 
-          d18 : Typed.Typed 𝓤 H A 𝓣 E G16 b17 Δ0 at18
-          d18 = Typed.g-pre 𝓤 H A W 𝓣 E G16 G17 b17 Δ0 (Typed.pass T16 T17 s15) at17 (Scalar.g-room 𝓤 H A W E G16 11
+          d18 : Typed.Typed 𝓤 H A 𝓣 E G14 b16 Δ0 at18
+          d18 = Typed.g-pre 𝓤 H A W 𝓣 E G14 G15 b16 Δ0 (Typed.pass T14 T15 s13) at17 (Scalar.g-room 𝓤 H A W E G14 10
               slice0 (Shared.room-sslice 𝓤 H A W ReservationUsage.row ref0 2)) d17
 
-          d19 : Typed.Typed 𝓤 H A 𝓣 E G15 b18 Δ0 at19
-          d19 = Typed.s-seq 𝓤 H A W 𝓣 E G15 G16 b6 b17 Δ0 (Typed.both s14) at18 (Plain.t-call-plain 𝓤 H A W 𝓣 1 ps·2
-              r·2 (claims· .4) (claims· .5) "hnsr_circuit::tables::ledger::usage_at" (known .2) E (λ pos β. β) G15 (
-                record { pos = 11; ty = ref0; ref = λ x. x },
-                (record { pos = 2; st = List.[]; d = 0; at = λ x. x }, (Num.vAt 5 λ x. x, tt)),
-              ) 6 (2 ∷ List.[]) (Call.sub-id 𝓤 H A W (G15 .slots)) (
+          d19 : Typed.Typed 𝓤 H A 𝓣 E G13 b17 Δ0 at19
+          d19 = Typed.s-seq 𝓤 H A W 𝓣 E G13 G14 b5 b16 Δ0 (Typed.both s12) at18 (Plain.t-call-plain 𝓤 H A W 𝓣 1 ps·1
+              r·1 (claims· .2) (claims· .3) "hnsr_circuit::tables::ledger::usage_at" (known .1) E (λ pos β. β) G13 (
+                record { pos = 10; ty = ref0; ref = λ x. x },
+                (record { pos = 2; st = List.[]; d = 0; at = λ x. x }, (Num.vAt 4 λ x. x, tt)),
+              ) 5 (2 ∷ List.[]) (Call.sub-id 𝓤 H A W (G13 .slots)) (
                 ShrSlice.spares-sslice 𝓤 H A W ReservationUsage.row ref0 2,
                 Shared.reads-sslice 𝓤 H A W ReservationUsage.row ref0 2,
                 Path.refl,
@@ -1012,56 +955,56 @@ module _ (claims· : Claims) where
                 ),
               ) (Reads.room-gone 𝓤 H A ReservationUsage.ty) (tt, tt) Path.refl) d18
 
-          d20 : Typed.Typed 𝓤 H A 𝓣 E G14 b19 Δ0 at20
-          d20 = Typed.s-seq 𝓤 H A W 𝓣 E G14 G15 b5 b18 Δ0 (Typed.ask s13) at19 (Relend.t-sl-aggregate 𝓤 H A W E
-              ReservationUsage.row 𝓣 (Relend.asShr ReservationUsage.row) G14 10 11 2 ref0 ref0 (λ x. x) (Scalar.oFld 1
+          d20 : Typed.Typed 𝓤 H A 𝓣 E G12 b18 Δ0 at20
+          d20 = Typed.s-seq 𝓤 H A W 𝓣 E G12 G13 b4 b17 Δ0 (Typed.ask s11) at19 (Relend.t-sl-aggregate 𝓤 H A W E
+              ReservationUsage.row 𝓣 (Relend.asShr ReservationUsage.row) G12 9 10 2 ref0 ref0 (λ x. x) (Scalar.oFld 1
               ((Syntax.field 1) ∷ List.[]) (Syntax.tyInt Syntax.w64) 8 λ v. Shared.lenV (v .0)) (Reads.as-is 𝓤 H A
               (Relend.ssptr ReservationUsage.row ref0 2)) (Reads.room-gone 𝓤 H A slice0) (
                 Reshare.reads-owedS-len 𝓤 H A W ReservationUsage.row ref2 0 2 life0 8 Path.refl,
                 Path.refl,
               ) Path.refl Path.refl λ b o k. tt) d19
 
-          d21 : Typed.Typed 𝓤 H A 𝓣 E G13 b20 Δ0 at21
-          d21 = Typed.s-seq 𝓤 H A W 𝓣 E G13 G14 b4 b19 Δ0 (Typed.give s12) at20 (Reshare.t-sl-reshare 𝓤 H A W E
-              ReservationUsage.row 𝓣 G13 1 10 0 2 ref2 ref0 life0 0 (λ x. x) (Reads.as-is 𝓤 H A
+          d21 : Typed.Typed 𝓤 H A 𝓣 E G11 b19 Δ0 at21
+          d21 = Typed.s-seq 𝓤 H A W 𝓣 E G11 G12 b3 b18 Δ0 (Typed.give s10) at20 (Reshare.t-sl-reshare 𝓤 H A W E
+              ReservationUsage.row 𝓣 G11 1 9 0 2 ref2 ref0 life0 0 (λ x. x) (Reads.as-is 𝓤 H A
               (Mut.mslice ReservationUsage.row ref2 0)) (Reads.room-gone 𝓤 H A ref0) Path.refl tt Path.refl Path.refl
               Path.refl λ b o. tt) d20
 
-          d22 : Typed.Typed 𝓤 H A 𝓣 E G12 b20 Δ0 at22
-          d22 = Typed.g-pre 𝓤 H A W 𝓣 E G12 G13 b20 Δ0 (λ Ψ. Ψ) at21 (Lifetime.g-begin 𝓤 H A W E G12 2 (
+          d22 : Typed.Typed 𝓤 H A 𝓣 E G10 b19 Δ0 at22
+          d22 = Typed.g-pre 𝓤 H A W 𝓣 E G10 G11 b19 Δ0 (λ Ψ. Ψ) at21 (Lifetime.g-begin 𝓤 H A W E G10 2 (
             tt,
-            (tt, (tt, (tt, (tt, (tt, (tt, (tt, (tt, (tt, (tt, (tt, (tt, (tt, (tt, tt)))))))))))))),
+            (tt, (tt, (tt, (tt, (tt, (tt, (tt, (tt, (tt, (tt, (tt, (tt, (tt, tt))))))))))))),
           )) d21
 
-          d23 : Typed.Typed 𝓤 H A 𝓣 E G11 b20 Δ0 at23
-          d23 = Typed.g-pre 𝓤 H A W 𝓣 E G11 G12 b20 Δ0 (λ Ψ. Ψ) at22
-              (Lifetime.g-forget 𝓤 H A W E G11 1 Row.dead Path.refl) d22
+          d23 : Typed.Typed 𝓤 H A 𝓣 E G9 b19 Δ0 at23
+          d23 = Typed.g-pre 𝓤 H A W 𝓣 E G9 G10 b19 Δ0 (λ Ψ. Ψ) at22
+              (Lifetime.g-forget 𝓤 H A W E G9 1 Row.dead Path.refl) d22
 
-          d24 : Typed.Typed 𝓤 H A 𝓣 E G10 b20 Δ0 at24
-          d24 = Typed.g-pre 𝓤 H A W 𝓣 E G10 G11 b20 Δ0 (Typed.pass T9 T11 s9) at23 (Reshare.g-back-sl-shr 𝓤 H A W E
-              ReservationUsage.row G10 1 0 1 ref2 life0 (λ x. x) (Reads.as-is 𝓤 H A
+          d24 : Typed.Typed 𝓤 H A 𝓣 E G8 b19 Δ0 at24
+          d24 = Typed.g-pre 𝓤 H A W 𝓣 E G8 G9 b19 Δ0 (Typed.pass T7 T9 s7) at23 (Reshare.g-back-sl-shr 𝓤 H A W E
+              ReservationUsage.row G8 1 0 1 ref2 life0 (λ x. x) (Reads.as-is 𝓤 H A
               (Reshare.mslice-owedS ReservationUsage.row ref2 0 1 life0)) Path.refl Path.refl) d23
 
-          d25 : Typed.Typed 𝓤 H A 𝓣 E G9 b20 Δ0 at25
-          d25 = Typed.g-pre 𝓤 H A W 𝓣 E G9 G10 b20 Δ0 (λ Ψ. Ψ) at24 (Lifetime.g-end 𝓤 H A W E G9 1 Path.refl) d24
+          d25 : Typed.Typed 𝓤 H A 𝓣 E G7 b19 Δ0 at25
+          d25 = Typed.g-pre 𝓤 H A W 𝓣 E G7 G8 b19 Δ0 (λ Ψ. Ψ) at24 (Lifetime.g-end 𝓤 H A W E G7 1 Path.refl) d24
 
-          d26 : Typed.Typed 𝓤 H A 𝓣 E G8 b20 Δ0 at26
-          d26 = Typed.g-pre 𝓤 H A W 𝓣 E G8 G9 b20 Δ0 (Typed.pass T8 T9 s7) at25 (Scalar.g-room 𝓤 H A W E G8 4
-              Laws''.mir (Local.room-whole 𝓤 H A W (Declared.row Question.the-type) Laws''.mir Path.refl)) d25
+          d26 : Typed.Typed 𝓤 H A 𝓣 E G6 b19 Δ0 at26
+          d26 = Typed.g-pre 𝓤 H A W 𝓣 E G6 G7 b19 Δ0 (Typed.pass T6 T7 s5) at25 (Scalar.g-room 𝓤 H A W E G6 3 Laws.mir (Local.room-whole
+              𝓤 H A W (Declared.row ReservationId.the-type) Laws.mir Path.refl)) d25
 
-          d27 : Typed.Typed 𝓤 H A 𝓣 E G7 b20 Δ0 at27
-          d27 = Typed.g-pre 𝓤 H A W 𝓣 E G7 G8 b20 Δ0 (Typed.pass T7 T8 s6) at26 (Scalar.g-room 𝓤 H A W E G7 9 slice0
+          d27 : Typed.Typed 𝓤 H A 𝓣 E G5 b19 Δ0 at27
+          d27 = Typed.g-pre 𝓤 H A W 𝓣 E G5 G6 b19 Δ0 (Typed.pass T5 T6 s4) at26 (Scalar.g-room 𝓤 H A W E G5 8 slice0
               (Shared.room-sslice 𝓤 H A W ReservationUsage.row ref0 1)) d26
 
-          d28 : Typed.Typed 𝓤 H A 𝓣 E G6 b21 Δ0 at28
-          d28 = Typed.s-seq 𝓤 H A W 𝓣 E G6 G7 b3 b20 Δ0 (Typed.both s5) at27 (Plain.t-call-plain 𝓤 H A W 𝓣 1 ps·1 r·1
-              (claims· .2) (claims· .3) "hnsr_circuit::tables::ledger::find_usage" (known .1) E (λ pos β. β) G6 (
-                record { pos = 9; ty = ref0; ref = λ x. x },
+          d28 : Typed.Typed 𝓤 H A 𝓣 E G4 b20 Δ0 at28
+          d28 = Typed.s-seq 𝓤 H A W 𝓣 E G4 G5 b2 b19 Δ0 (Typed.both s3) at27 (Plain.t-call-plain 𝓤 H A W 𝓣 1 ps·0 r·0
+              (claims· .0) (claims· .1) "hnsr_circuit::tables::ledger::find_usage" (known .0) E (λ pos β. β) G4 (
+                record { pos = 8; ty = ref0; ref = λ x. x },
                 (
                   record { pos = 2; st = List.[]; d = 0; at = λ x. x },
-                  (record { pos = 4; st = List.[]; d = 0; at = λ x. x }, tt),
+                  (record { pos = 3; st = List.[]; d = 0; at = λ x. x }, tt),
                 ),
-              ) 5 (1 ∷ List.[]) (Call.sub-id 𝓤 H A W (G6 .slots)) (
+              ) 4 (1 ∷ List.[]) (Call.sub-id 𝓤 H A W (G4 .slots)) (
                 ShrSlice.spares-sslice 𝓤 H A W ReservationUsage.row ref0 1,
                 Shared.reads-sslice 𝓤 H A W ReservationUsage.row ref0 1,
                 Path.refl,
@@ -1076,11 +1019,11 @@ module _ (claims· : Claims) where
                   ),
                   (
                     (
-                      Yields.yields-copy 𝓤 H A W (λ ρ. Unit) (Declared.row Question.the-type) Path.refl (Copies.cStruct
-                          Question.the-type Laws''.the-laws Laws''.the-copy .copy 𝓤 H A W)
-                          (Rows.whole (Declared.row Question.the-type)) (λ x. x) (λ x. x) (λ ρ told. Local.mem-whole 𝓤
-                          H A W (Declared.row Question.the-type) ρ) λ ρ told. Local.whole-mem 𝓤 H A W
-                          (Declared.row Question.the-type) ρ,
+                      Yields.yields-copy 𝓤 H A W (λ ρ. Unit) (Declared.row ReservationId.the-type) Path.refl (Copies.cStruct
+                          ReservationId.the-type Laws.the-laws Laws.the-copy .copy 𝓤 H A W)
+                          (Rows.whole (Declared.row ReservationId.the-type)) (λ x. x) (λ x. x) (λ ρ told.
+                          Local.mem-whole 𝓤 H A W (Declared.row ReservationId.the-type) ρ) λ ρ told. Local.whole-mem 𝓤
+                          H A W (Declared.row ReservationId.the-type) ρ,
                       Path.refl,
                     ),
                     tt,
@@ -1088,48 +1031,29 @@ module _ (claims· : Claims) where
                 ),
               ) (Reads.room-gone 𝓤 H A (Syntax.tyInt Syntax.w64)) (tt, tt) Path.refl) d27
 
-          d29 : Typed.Typed 𝓤 H A 𝓣 E G5 b22 Δ0 at29
-          d29 = Typed.s-seq 𝓤 H A W 𝓣 E G5 G6 b2 b21 Δ0 (Typed.ask s4) at28 (Relend.t-sl-aggregate 𝓤 H A W E
-              ReservationUsage.row 𝓣 (Relend.asShr ReservationUsage.row) G5 8 9 1 ref0 ref0 (λ x. x) (Scalar.oFld 1
+          d29 : Typed.Typed 𝓤 H A 𝓣 E G3 b21 Δ0 at29
+          d29 = Typed.s-seq 𝓤 H A W 𝓣 E G3 G4 b1 b20 Δ0 (Typed.ask s2) at28 (Relend.t-sl-aggregate 𝓤 H A W E
+              ReservationUsage.row 𝓣 (Relend.asShr ReservationUsage.row) G3 7 8 1 ref0 ref0 (λ x. x) (Scalar.oFld 1
               ((Syntax.field 1) ∷ List.[]) (Syntax.tyInt Syntax.w64) 8 λ v. Shared.lenV (v .0)) (Reads.as-is 𝓤 H A
               (Relend.ssptr ReservationUsage.row ref0 1)) (Reads.room-gone 𝓤 H A slice0) (
                 Reshare.reads-owedS-len 𝓤 H A W ReservationUsage.row ref2 0 1 life0 8 Path.refl,
                 Path.refl,
               ) Path.refl Path.refl λ b o k. tt) d28
 
-          d30 : Typed.Typed 𝓤 H A 𝓣 E G4 b23 Δ0 at30
-          d30 = Typed.s-seq 𝓤 H A W 𝓣 E G4 G5 b1 b22 Δ0 (Typed.give s3) at29 (Reshare.t-sl-reshare 𝓤 H A W E
-              ReservationUsage.row 𝓣 G4 1 8 0 1 ref2 ref0 life0 0 (λ x. x) (Reads.as-is 𝓤 H A
+          d30 : Typed.Typed 𝓤 H A 𝓣 E G2 b22 Δ0 at30
+          d30 = Typed.s-seq 𝓤 H A W 𝓣 E G2 G3 b0 b21 Δ0 (Typed.give s1) at29 (Reshare.t-sl-reshare 𝓤 H A W E
+              ReservationUsage.row 𝓣 G2 1 7 0 1 ref2 ref0 life0 0 (λ x. x) (Reads.as-is 𝓤 H A
               (Mut.mslice ReservationUsage.row ref2 0)) (Reads.room-gone 𝓤 H A ref0) Path.refl tt Path.refl Path.refl
               Path.refl λ b o. tt) d29
 
-          d31 : Typed.Typed 𝓤 H A 𝓣 E G3 b23 Δ0 at31
-          d31 = Typed.g-pre 𝓤 H A W 𝓣 E G3 G4 b23 Δ0 (λ Ψ. Ψ) at30 (Lifetime.g-begin 𝓤 H A W E G3 1 (
+          d31 : Typed.Typed 𝓤 H A 𝓣 E G0 b22 Δ0 at31
+          d31 = Typed.g-pre 𝓤 H A W 𝓣 E G0 G2 b22 Δ0 (λ Ψ. Ψ) at30 (Lifetime.g-begin 𝓤 H A W E G0 1 (
             tt,
-            (tt, (tt, (tt, (tt, (tt, (tt, (tt, (tt, (tt, (tt, (tt, (tt, (tt, (tt, tt)))))))))))))),
+            (tt, (tt, (tt, (tt, (tt, (tt, (tt, (tt, (tt, (tt, (tt, (tt, (tt, tt))))))))))))),
           )) d30
 
-          d32 : Typed.Typed 𝓤 H A 𝓣 E G2 b23 Δ0 at32
-          d32 = Typed.g-pre 𝓤 H A W 𝓣 E G2 G3 b23 Δ0 (Typed.pass T2 T3 s1) at31 (Scalar.g-room 𝓤 H A W E G2 3 Laws.mir (Local.room-whole
-              𝓤 H A W (Declared.row ReservationId.the-type) Laws.mir Path.refl)) d31
-
-          d33 : Typed.Typed 𝓤 H A 𝓣 E G0 b24 Δ0 at33
-          d33 = Typed.s-seq 𝓤 H A W 𝓣 E G0 G2 b0 b23 Δ0 (Typed.both s0) at32 (Plain.t-call-plain 𝓤 H A W 𝓣 0 ps·0 r·0
-              (claims· .0) (claims· .1) "hnsr_circuit::tables::question::at_reservation" (known .0) E (λ pos β. β) G0
-              (record { pos = 3; st = List.[]; d = 0; at = λ x. x }, tt) 4 List.[] (Call.sub-id 𝓤 H A W (G0 .slots)) (
-                (
-                  Yields.yields-copy 𝓤 H A W (λ ρ. Unit) (Declared.row ReservationId.the-type) Path.refl (Copies.cStruct
-                      ReservationId.the-type Laws.the-laws Laws.the-copy .copy 𝓤 H A W)
-                      (Rows.whole (Declared.row ReservationId.the-type)) (λ x. x) (λ x. x) (λ ρ told. Local.mem-whole 𝓤
-                      H A W (Declared.row ReservationId.the-type) ρ) λ ρ told. Local.whole-mem 𝓤 H A W
-                      (Declared.row ReservationId.the-type) ρ,
-                  Path.refl,
-                ),
-                tt,
-              ) (Reads.room-gone 𝓤 H A Laws''.mir) tt Path.refl) d32
-
-          pub typed : Typed.Typed 𝓤 H A 𝓣 E (Function.Γin 1 ps r xs m κs qs) b24 (Function.Δret 1 ps r xs m κs qs) Φ
-          typed = d33
+          pub typed : Typed.Typed 𝓤 H A 𝓣 E (Function.Γin 1 ps r xs m κs qs) b22 (Function.Δret 1 ps r xs m κs qs) Φ
+          typed = d31
 
       module _ (κs : Lifetimes.Lfts 1) where
         pub record Args : Type 0 where
@@ -1159,249 +1083,222 @@ module _ (claims· : Claims) where
         pub good : Kinds.GoodsP κs ps (dens κs args)
         pub pre : Pre· κs (dens κs args)
 
-      abbrev pub Need-at-reservation-requires : Type 0
-      Need-at-reservation-requires = (c : Start) → s0 .asks (m0 (c .κs) (c .args))
+      abbrev pub m1 : (before : Start) → (given : s1 .gives (m0 (before .κs) (before .args))) → Typed.Mo T3
+      m1 = λ before given. s1 .next (m0 (before .κs) (before .args)) given
 
-      abbrev pub m1 : (before : Start) → (given : s0 .gives (m0 (before .κs) (before .args))) → Typed.Mo T2
-      m1 = λ before given. s0 .next (m0 (before .κs) (before .args)) given
+      abbrev pub m2 : (before : Start) → (given : s1 .gives (m0 (before .κs) (before .args))) → Typed.Mo T4
+      m2 = λ before given. s2 .next (m1 before given)
 
       module _ (before· : Start) where
-        abbrev pub After-at-reservation·own : Type 0
-        After-at-reservation·own = Called.Called ps·0 r·0 (claims· .1) T0 args0 (m0 (before· .κs) (before· .args))
-
-      pub record After-at-reservation : Type 0 where
-        pub before : Start
-        pub at-reservation : After-at-reservation·own before
-
-      abbrev pub After-at-reservation·gave : (c : After-at-reservation) → s0 .gives
-          (m0 (c .before .κs) (c .before .args))
-      After-at-reservation·gave = λ c. Called.given ps·0 r·0 (claims· .1) T0 args0
-          (m0 (c .before .κs) (c .before .args)) (c .at-reservation)
-
-      abbrev pub m2 : (before : Start) → (given : s0 .gives (m0 (before .κs) (before .args))) → Typed.Mo T3
-      m2 = λ before given. s1 (m1 before given)
-
-      abbrev pub m3 : (before : After-at-reservation) → (given : s3 .gives
-          (m2 (before .before) (After-at-reservation·gave before))) → Typed.Mo T5
-      m3 = λ before given. s3 .next (m2 (before .before) (After-at-reservation·gave before)) given
-
-      abbrev pub m4 : (before : After-at-reservation) → (given : s3 .gives
-          (m2 (before .before) (After-at-reservation·gave before))) → Typed.Mo T6
-      m4 = λ before given. s4 .next (m3 before given)
-
-      module _ (before· : After-at-reservation) where
         pub record After-find-usage-arg·own : Type 0 where
-          pub given : s3 .gives (m2 (before· .before) (After-at-reservation·gave before·))
+          pub given : s1 .gives (m0 (before· .κs) (before· .args))
 
       pub record After-find-usage-arg : Type 0 where
-        pub before : After-at-reservation
+        pub before : Start
         pub find-usage-arg : After-find-usage-arg·own before
 
       abbrev pub Need-find-usage-requires : Type 0
-      Need-find-usage-requires = (c : After-find-usage-arg) → s5 .asks (m4 (c .before) (c .find-usage-arg .given))
+      Need-find-usage-requires = (c : After-find-usage-arg) → s3 .asks (m2 (c .before) (c .find-usage-arg .given))
 
-      abbrev pub m5 : (before : After-find-usage-arg) → (given : s5 .gives
-          (m4 (before .before) (before .find-usage-arg .given))) → Typed.Mo T7
-      m5 = λ before given. s5 .next (m4 (before .before) (before .find-usage-arg .given)) given
+      abbrev pub m3 : (before : After-find-usage-arg) → (given : s3 .gives
+          (m2 (before .before) (before .find-usage-arg .given))) → Typed.Mo T5
+      m3 = λ before given. s3 .next (m2 (before .before) (before .find-usage-arg .given)) given
 
       module _ (before· : After-find-usage-arg) where
         abbrev pub After-find-usage·own : Type 0
-        After-find-usage·own = Called.Called ps·1 r·1 (claims· .3) T6 args5
-            (m4 (before· .before) (before· .find-usage-arg .given))
+        After-find-usage·own = Called.Called ps·0 r·0 (claims· .1) T4 args3
+            (m2 (before· .before) (before· .find-usage-arg .given))
 
       pub record After-find-usage : Type 0 where
         pub before : After-find-usage-arg
         pub find-usage : After-find-usage·own before
 
-      abbrev pub After-find-usage·gave : (c : After-find-usage) → s5 .gives
-          (m4 (c .before .before) (c .before .find-usage-arg .given))
-      After-find-usage·gave = λ c. Called.given ps·1 r·1 (claims· .3) T6 args5
-          (m4 (c .before .before) (c .before .find-usage-arg .given)) (c .find-usage)
+      abbrev pub After-find-usage·gave : (c : After-find-usage) → s3 .gives
+          (m2 (c .before .before) (c .before .find-usage-arg .given))
+      After-find-usage·gave = λ c. Called.given ps·0 r·0 (claims· .1) T4 args3
+          (m2 (c .before .before) (c .before .find-usage-arg .given)) (c .find-usage)
 
-      abbrev pub m6 : (before : After-find-usage-arg) → (given : s5 .gives
-          (m4 (before .before) (before .find-usage-arg .given))) → Typed.Mo T8
-      m6 = λ before given. s6 (m5 before given)
+      abbrev pub m4 : (before : After-find-usage-arg) → (given : s3 .gives
+          (m2 (before .before) (before .find-usage-arg .given))) → Typed.Mo T6
+      m4 = λ before given. s4 (m3 before given)
 
-      abbrev pub m7 : (before : After-find-usage-arg) → (given : s5 .gives
-          (m4 (before .before) (before .find-usage-arg .given))) → Typed.Mo T9
-      m7 = λ before given. s7 (m6 before given)
+      abbrev pub m5 : (before : After-find-usage-arg) → (given : s3 .gives
+          (m2 (before .before) (before .find-usage-arg .given))) → Typed.Mo T7
+      m5 = λ before given. s5 (m4 before given)
 
-      abbrev pub m8 : (before : After-find-usage-arg) → (given : s5 .gives
-          (m4 (before .before) (before .find-usage-arg .given))) → Typed.Mo T11
-      m8 = λ before given. s9 (m7 before given)
+      abbrev pub m6 : (before : After-find-usage-arg) → (given : s3 .gives
+          (m2 (before .before) (before .find-usage-arg .given))) → Typed.Mo T9
+      m6 = λ before given. s7 (m5 before given)
 
-      abbrev pub m9 : (before : After-find-usage) → (given : s12 .gives
-          (m8 (before .before) (After-find-usage·gave before))) → Typed.Mo T14
-      m9 = λ before given. s12 .next (m8 (before .before) (After-find-usage·gave before)) given
+      abbrev pub m7 : (before : After-find-usage) → (given : s10 .gives
+          (m6 (before .before) (After-find-usage·gave before))) → Typed.Mo T12
+      m7 = λ before given. s10 .next (m6 (before .before) (After-find-usage·gave before)) given
 
-      abbrev pub m10 : (before : After-find-usage) → (given : s12 .gives
-          (m8 (before .before) (After-find-usage·gave before))) → Typed.Mo T15
-      m10 = λ before given. s13 .next (m9 before given)
+      abbrev pub m8 : (before : After-find-usage) → (given : s10 .gives
+          (m6 (before .before) (After-find-usage·gave before))) → Typed.Mo T13
+      m8 = λ before given. s11 .next (m7 before given)
 
       module _ (before· : After-find-usage) where
         pub record After-usage-at-arg·own : Type 0 where
-          pub given : s12 .gives (m8 (before· .before) (After-find-usage·gave before·))
+          pub given : s10 .gives (m6 (before· .before) (After-find-usage·gave before·))
 
       pub record After-usage-at-arg : Type 0 where
         pub before : After-find-usage
         pub usage-at-arg : After-usage-at-arg·own before
 
       abbrev pub Need-usage-at-requires : Type 0
-      Need-usage-at-requires = (c : After-usage-at-arg) → s14 .asks (m10 (c .before) (c .usage-at-arg .given))
+      Need-usage-at-requires = (c : After-usage-at-arg) → s12 .asks (m8 (c .before) (c .usage-at-arg .given))
 
-      abbrev pub m11 : (before : After-usage-at-arg) → (given : s14 .gives
-          (m10 (before .before) (before .usage-at-arg .given))) → Typed.Mo T16
-      m11 = λ before given. s14 .next (m10 (before .before) (before .usage-at-arg .given)) given
+      abbrev pub m9 : (before : After-usage-at-arg) → (given : s12 .gives
+          (m8 (before .before) (before .usage-at-arg .given))) → Typed.Mo T14
+      m9 = λ before given. s12 .next (m8 (before .before) (before .usage-at-arg .given)) given
 
       module _ (before· : After-usage-at-arg) where
         abbrev pub After-usage-at·own : Type 0
-        After-usage-at·own = Called.Called ps·2 r·2 (claims· .5) T15 args14
-            (m10 (before· .before) (before· .usage-at-arg .given))
+        After-usage-at·own = Called.Called ps·1 r·1 (claims· .3) T13 args12
+            (m8 (before· .before) (before· .usage-at-arg .given))
 
       pub record After-usage-at : Type 0 where
         pub before : After-usage-at-arg
         pub usage-at : After-usage-at·own before
 
-      abbrev pub After-usage-at·gave : (c : After-usage-at) → s14 .gives
-          (m10 (c .before .before) (c .before .usage-at-arg .given))
-      After-usage-at·gave = λ c. Called.given ps·2 r·2 (claims· .5) T15 args14
-          (m10 (c .before .before) (c .before .usage-at-arg .given)) (c .usage-at)
+      abbrev pub After-usage-at·gave : (c : After-usage-at) → s12 .gives
+          (m8 (c .before .before) (c .before .usage-at-arg .given))
+      After-usage-at·gave = λ c. Called.given ps·1 r·1 (claims· .3) T13 args12
+          (m8 (c .before .before) (c .before .usage-at-arg .given)) (c .usage-at)
 
-      abbrev pub m12 : (before : After-usage-at-arg) → (given : s14 .gives
-          (m10 (before .before) (before .usage-at-arg .given))) → Typed.Mo T17
-      m12 = λ before given. s15 (m11 before given)
+      abbrev pub m10 : (before : After-usage-at-arg) → (given : s12 .gives
+          (m8 (before .before) (before .usage-at-arg .given))) → Typed.Mo T15
+      m10 = λ before given. s13 (m9 before given)
 
-      abbrev pub m13 : (before : After-usage-at-arg) → (given : s14 .gives
-          (m10 (before .before) (before .usage-at-arg .given))) → Typed.Mo T18
-      m13 = λ before given. s16 (m12 before given)
+      abbrev pub m11 : (before : After-usage-at-arg) → (given : s12 .gives
+          (m8 (before .before) (before .usage-at-arg .given))) → Typed.Mo T16
+      m11 = λ before given. s14 (m10 before given)
 
-      abbrev pub m14 : (before : After-usage-at-arg) → (given : s14 .gives
-          (m10 (before .before) (before .usage-at-arg .given))) → Typed.Mo T20
-      m14 = λ before given. s18 (m13 before given)
+      abbrev pub m12 : (before : After-usage-at-arg) → (given : s12 .gives
+          (m8 (before .before) (before .usage-at-arg .given))) → Typed.Mo T18
+      m12 = λ before given. s16 (m11 before given)
 
       abbrev pub Need-usage-unmarked-requires : Type 0
-      Need-usage-unmarked-requires = (c : After-usage-at) → s20 .asks (m14 (c .before) (After-usage-at·gave c))
+      Need-usage-unmarked-requires = (c : After-usage-at) → s18 .asks (m12 (c .before) (After-usage-at·gave c))
 
-      abbrev pub m15 : (before : After-usage-at) → (given : s20 .gives
-          (m14 (before .before) (After-usage-at·gave before))) → Typed.Mo T22
-      m15 = λ before given. s20 .next (m14 (before .before) (After-usage-at·gave before)) given
+      abbrev pub m13 : (before : After-usage-at) → (given : s18 .gives
+          (m12 (before .before) (After-usage-at·gave before))) → Typed.Mo T20
+      m13 = λ before given. s18 .next (m12 (before .before) (After-usage-at·gave before)) given
 
       module _ (before· : After-usage-at) where
         abbrev pub After-usage-unmarked·own : Type 0
-        After-usage-unmarked·own = Called.Called ps·3 r·3 (claims· .7) T20 args20
-            (m14 (before· .before) (After-usage-at·gave before·))
+        After-usage-unmarked·own = Called.Called ps·2 r·2 (claims· .5) T18 args18
+            (m12 (before· .before) (After-usage-at·gave before·))
 
       pub record After-usage-unmarked : Type 0 where
         pub before : After-usage-at
         pub usage-unmarked : After-usage-unmarked·own before
 
-      abbrev pub After-usage-unmarked·gave : (c : After-usage-unmarked) → s20 .gives
-          (m14 (c .before .before) (After-usage-at·gave (c .before)))
-      After-usage-unmarked·gave = λ c. Called.given ps·3 r·3 (claims· .7) T20 args20
-          (m14 (c .before .before) (After-usage-at·gave (c .before))) (c .usage-unmarked)
+      abbrev pub After-usage-unmarked·gave : (c : After-usage-unmarked) → s18 .gives
+          (m12 (c .before .before) (After-usage-at·gave (c .before)))
+      After-usage-unmarked·gave = λ c. Called.given ps·2 r·2 (claims· .5) T18 args18
+          (m12 (c .before .before) (After-usage-at·gave (c .before))) (c .usage-unmarked)
 
-      abbrev pub m16 : (before : After-usage-at) → (given : s20 .gives
-          (m14 (before .before) (After-usage-at·gave before))) → Typed.Mo T23
-      m16 = λ before given. s21 (m15 before given)
+      abbrev pub m14 : (before : After-usage-at) → (given : s18 .gives
+          (m12 (before .before) (After-usage-at·gave before))) → Typed.Mo T21
+      m14 = λ before given. s19 (m13 before given)
 
-      abbrev pub m17 : (before : After-usage-unmarked) → (given : s23 .gives
-          (m16 (before .before) (After-usage-unmarked·gave before))) → Typed.Mo T25
-      m17 = λ before given. s23 .next (m16 (before .before) (After-usage-unmarked·gave before)) given
+      abbrev pub m15 : (before : After-usage-unmarked) → (given : s21 .gives
+          (m14 (before .before) (After-usage-unmarked·gave before))) → Typed.Mo T23
+      m15 = λ before given. s21 .next (m14 (before .before) (After-usage-unmarked·gave before)) given
 
-      abbrev pub m18 : (before : After-usage-unmarked) → (given : s23 .gives
-          (m16 (before .before) (After-usage-unmarked·gave before))) → Typed.Mo T26
-      m18 = λ before given. s24 .next (m17 before given)
+      abbrev pub m16 : (before : After-usage-unmarked) → (given : s21 .gives
+          (m14 (before .before) (After-usage-unmarked·gave before))) → Typed.Mo T24
+      m16 = λ before given. s22 .next (m15 before given)
 
       module _ (before· : After-usage-unmarked) where
         pub record After-set-usage-arg·own : Type 0 where
-          pub given : s23 .gives (m16 (before· .before) (After-usage-unmarked·gave before·))
+          pub given : s21 .gives (m14 (before· .before) (After-usage-unmarked·gave before·))
 
       pub record After-set-usage-arg : Type 0 where
         pub before : After-usage-unmarked
         pub set-usage-arg : After-set-usage-arg·own before
 
       abbrev pub Need-set-usage-requires : Type 0
-      Need-set-usage-requires = (c : After-set-usage-arg) → s25 .asks (m18 (c .before) (c .set-usage-arg .given))
+      Need-set-usage-requires = (c : After-set-usage-arg) → s23 .asks (m16 (c .before) (c .set-usage-arg .given))
 
-      abbrev pub m19 : (before : After-set-usage-arg) → (given : s25 .gives
-          (m18 (before .before) (before .set-usage-arg .given))) → Typed.Mo T27
-      m19 = λ before given. s25 .next (m18 (before .before) (before .set-usage-arg .given)) given
+      abbrev pub m17 : (before : After-set-usage-arg) → (given : s23 .gives
+          (m16 (before .before) (before .set-usage-arg .given))) → Typed.Mo T25
+      m17 = λ before given. s23 .next (m16 (before .before) (before .set-usage-arg .given)) given
 
       module _ (before· : After-set-usage-arg) where
         abbrev pub After-set-usage·own : Type 0
-        After-set-usage·own = Called.Called ps·4 r·4 (claims· .9) T26 args25
-            (m18 (before· .before) (before· .set-usage-arg .given))
+        After-set-usage·own = Called.Called ps·3 r·3 (claims· .7) T24 args23
+            (m16 (before· .before) (before· .set-usage-arg .given))
 
       pub record After-set-usage : Type 0 where
         pub before : After-set-usage-arg
         pub set-usage : After-set-usage·own before
 
-      abbrev pub After-set-usage·gave : (c : After-set-usage) → s25 .gives
-          (m18 (c .before .before) (c .before .set-usage-arg .given))
-      After-set-usage·gave = λ c. Called.given ps·4 r·4 (claims· .9) T26 args25
-          (m18 (c .before .before) (c .before .set-usage-arg .given)) (c .set-usage)
+      abbrev pub After-set-usage·gave : (c : After-set-usage) → s23 .gives
+          (m16 (c .before .before) (c .before .set-usage-arg .given))
+      After-set-usage·gave = λ c. Called.given ps·3 r·3 (claims· .7) T24 args23
+          (m16 (c .before .before) (c .before .set-usage-arg .given)) (c .set-usage)
 
-      abbrev pub m20 : (before : After-set-usage-arg) → (given : s25 .gives
-          (m18 (before .before) (before .set-usage-arg .given))) → Typed.Mo T28
-      m20 = λ before given. s26 (m19 before given)
+      abbrev pub m18 : (before : After-set-usage-arg) → (given : s23 .gives
+          (m16 (before .before) (before .set-usage-arg .given))) → Typed.Mo T26
+      m18 = λ before given. s24 (m17 before given)
 
-      abbrev pub m21 : (before : After-set-usage-arg) → (given : s25 .gives
-          (m18 (before .before) (before .set-usage-arg .given))) → Typed.Mo T29
-      m21 = λ before given. s27 (m20 before given)
+      abbrev pub m19 : (before : After-set-usage-arg) → (given : s23 .gives
+          (m16 (before .before) (before .set-usage-arg .given))) → Typed.Mo T27
+      m19 = λ before given. s25 (m18 before given)
 
-      abbrev pub m22 : (before : After-set-usage) → (given : s29 .gives
-          (m21 (before .before) (After-set-usage·gave before))) → Typed.Mo T31
-      m22 = λ before given. s29 .next (m21 (before .before) (After-set-usage·gave before)) given
+      abbrev pub m20 : (before : After-set-usage) → (given : s27 .gives
+          (m19 (before .before) (After-set-usage·gave before))) → Typed.Mo T29
+      m20 = λ before given. s27 .next (m19 (before .before) (After-set-usage·gave before)) given
 
-      abbrev pub m23 : (before : After-set-usage) → (given : s29 .gives
-          (m21 (before .before) (After-set-usage·gave before))) → Typed.Mo T33
-      m23 = λ before given. s31 (m22 before given)
+      abbrev pub m21 : (before : After-set-usage) → (given : s27 .gives
+          (m19 (before .before) (After-set-usage·gave before))) → Typed.Mo T31
+      m21 = λ before given. s29 (m20 before given)
 
-      abbrev pub m24 : (before : After-set-usage) → (given : s29 .gives
-          (m21 (before .before) (After-set-usage·gave before))) → Typed.Mo T34
-      m24 = λ before given. s32 (m23 before given)
+      abbrev pub m22 : (before : After-set-usage) → (given : s27 .gives
+          (m19 (before .before) (After-set-usage·gave before))) → Typed.Mo T32
+      m22 = λ before given. s30 (m21 before given)
 
       module _ (before· : After-set-usage) where
         pub record After-ledger·own : Type 0 where
-          pub given : s29 .gives (m21 (before· .before) (After-set-usage·gave before·))
+          pub given : s27 .gives (m19 (before· .before) (After-set-usage·gave before·))
 
       pub record After-ledger : Type 0 where
         pub before : After-set-usage
         pub ledger : After-ledger·own before
 
       abbrev pub Need-same-length : Type 0
-      Need-same-length = (c : After-ledger) → MutSlice.SameLen (Row.get 1 (T34 .locals)
-          (m24 (c .before) (c .ledger .given))) (dens (c .before .before .before .before .before .before .before
-          .before .before .κs) (c .before .before .before .before .before .before .before .before .before .args) .0)
+      Need-same-length = (c : After-ledger) → MutSlice.SameLen (Row.get 1 (T32 .locals)
+          (m22 (c .before) (c .ledger .given))) (dens (c .before .before .before .before .before .before .before
+          .before .κs) (c .before .before .before .before .before .before .before .before .args) .0)
 
       abbrev pub Need-returns : Type 0
-      Need-returns = (c : After-ledger) → Post· (c .before .before .before .before .before .before .before .before
-          .before .κs) (dens (c .before .before .before .before .before .before .before .before .before .κs) (c .before
-          .before .before .before .before .before .before .before .before .args)) (Function.resV r (c .before .before
-          .before .before .before .before .before .before .before .κs) (m24 (c .before) (c .ledger .given) .0)) (Clauses.atExit
-          (Kinds.endedOf 1 ps r) (c .before .before .before .before .before .before .before .before .before .κs) (dens (c
-          .before .before .before .before .before .before .before .before .before .κs) (c .before .before .before
-          .before .before .before .before .before .before .args)) (Enter.lastsP (c .before .before .before .before
-          .before .before .before .before .before .κs) 1 ps xs (dens (c .before .before .before .before .before .before
-          .before .before .before .κs) (c .before .before .before .before .before .before .before .before .before
-          .args)) (m24 (c .before) (c .ledger .given) .1)))
+      Need-returns = (c : After-ledger) → Post· (c .before .before .before .before .before .before .before .before .κs) (dens (c
+          .before .before .before .before .before .before .before .before .κs) (c .before .before .before .before
+          .before .before .before .before .args)) (Function.resV r (c .before .before .before .before .before .before
+          .before .before .κs) (m22 (c .before) (c .ledger .given) .0)) (Clauses.atExit (Kinds.endedOf 1 ps r) (c
+          .before .before .before .before .before .before .before .before .κs) (dens (c .before .before .before .before
+          .before .before .before .before .κs) (c .before .before .before .before .before .before .before .before
+          .args)) (Enter.lastsP (c .before .before .before .before .before .before .before .before .κs) 1 ps xs (dens (c
+          .before .before .before .before .before .before .before .before .κs) (c .before .before .before .before
+          .before .before .before .before .args)) (m22 (c .before) (c .ledger .given) .1)))
 
-      module _ (at-reservation-requires : Need-at-reservation-requires)
-          (find-usage-requires : Need-find-usage-requires) (usage-at-requires : Need-usage-at-requires)
+      module _ (find-usage-requires : Need-find-usage-requires) (usage-at-requires : Need-usage-at-requires)
           (usage-unmarked-requires : Need-usage-unmarked-requires) (set-usage-requires : Need-set-usage-requires)
           (same-length : Need-same-length) (returns : Need-returns) where
-        lay5 : (c : After-set-usage) → at7 (W0 (c .before .before .before .before .before .before .before .before .κs) (c
-            .before .before .before .before .before .before .before .before .args))
-            (m19 (c .before) (After-set-usage·gave c))
-        lay5 = λ c. (
+        lay4 : (c : After-set-usage) → at7 (W0 (c .before .before .before .before .before .before .before .κs) (c
+            .before .before .before .before .before .before .before .args)) (m17 (c .before) (After-set-usage·gave c))
+        lay4 = λ c. (
           Path.refl,
           λ g. (
             (
-              MutSlice.fix-len (Row.get 1 (T34 .locals) (m24 record { before = c .before; set-usage = c .set-usage } g)
-                  .ptr) (Row.get 1 (T34 .locals) (m24 record { before = c .before; set-usage = c .set-usage } g) .name) (Row.get
-                  1 (T34 .locals) (m24 record { before = c .before; set-usage = c .set-usage } g) .now) (dens (c
-                  .before .before .before .before .before .before .before .before .κs) (c .before .before .before
-                  .before .before .before .before .before .args) .0 .now) (same-length
+              MutSlice.fix-len (Row.get 1 (T32 .locals) (m22 record { before = c .before; set-usage = c .set-usage } g)
+                  .ptr) (Row.get 1 (T32 .locals) (m22 record { before = c .before; set-usage = c .set-usage } g) .name) (Row.get
+                  1 (T32 .locals) (m22 record { before = c .before; set-usage = c .set-usage } g) .now) (dens (c
+                  .before .before .before .before .before .before .before .κs) (c .before .before .before .before
+                  .before .before .before .args) .0 .now) (same-length
                   record {
                     before = record { before = c .before; set-usage = c .set-usage };
                     ledger = record { given = g };
@@ -1415,83 +1312,66 @@ module _ (claims· : Claims) where
           ),
         )
 
-        lay4 : (c : After-usage-unmarked) → at12 (W0 (c .before .before .before .before .before .before .κs)
-            (c .before .before .before .before .before .before .args)) (m15 (c .before) (After-usage-unmarked·gave c))
-        lay4 = λ c. λ g. (
+        lay3 : (c : After-usage-unmarked) → at12 (W0 (c .before .before .before .before .before .κs)
+            (c .before .before .before .before .before .args)) (m13 (c .before) (After-usage-unmarked·gave c))
+        lay3 = λ c. λ g. (
           Path.refl,
           (
             set-usage-requires record {
               before = record { before = c .before; usage-unmarked = c .usage-unmarked };
               set-usage-arg = record { given = g };
             },
-            λ g'. lay5 record {
+            λ g'. lay4 record {
               before = record {
                 before = record { before = c .before; usage-unmarked = c .usage-unmarked };
                 set-usage-arg = record { given = g };
               };
-              set-usage = Called.called ps·4 r·4 (claims· .9) T26 args25 (m18
+              set-usage = Called.called ps·3 r·3 (claims· .7) T24 args23 (m16
                   record { before = c .before; usage-unmarked = c .usage-unmarked } g) g';
             },
           ),
         )
 
-        lay3 : (c : After-usage-at) → at18 (W0 (c .before .before .before .before .before .κs)
-            (c .before .before .before .before .before .args)) (m11 (c .before) (After-usage-at·gave c))
-        lay3 = λ c. (
+        lay2 : (c : After-usage-at) → at18 (W0 (c .before .before .before .before .κs)
+            (c .before .before .before .before .args)) (m9 (c .before) (After-usage-at·gave c))
+        lay2 = λ c. (
           usage-unmarked-requires record { before = c .before; usage-at = c .usage-at },
-          λ g. lay4 record {
+          λ g. lay3 record {
             before = record { before = c .before; usage-at = c .usage-at };
-            usage-unmarked = Called.called ps·3 r·3 (claims· .7) T20 args20 (m14 (c .before) (After-usage-at·gave c)) g;
+            usage-unmarked = Called.called ps·2 r·2 (claims· .5) T18 args18 (m12 (c .before) (After-usage-at·gave c)) g;
           },
         )
 
-        lay2 : (c : After-find-usage) → at27 (W0 (c .before .before .before .κs) (c .before .before .before .args))
-            (m5 (c .before) (After-find-usage·gave c))
-        lay2 = λ c. λ g. (
+        lay1 : (c : After-find-usage) → at27 (W0 (c .before .before .κs) (c .before .before .args))
+            (m3 (c .before) (After-find-usage·gave c))
+        lay1 = λ c. λ g. (
           Path.refl,
           (
             usage-at-requires record {
               before = record { before = c .before; find-usage = c .find-usage };
               usage-at-arg = record { given = g };
             },
-            λ g'. lay3 record {
+            λ g'. lay2 record {
               before = record {
                 before = record { before = c .before; find-usage = c .find-usage };
                 usage-at-arg = record { given = g };
               };
-              usage-at = Called.called ps·2 r·2 (claims· .5) T15 args14 (m10
+              usage-at = Called.called ps·1 r·1 (claims· .3) T13 args12 (m8
                   record { before = c .before; find-usage = c .find-usage } g) g';
             },
           ),
         )
 
-        lay1 : (c : After-at-reservation) → at32 (W0 (c .before .κs) (c .before .args))
-            (m1 (c .before) (After-at-reservation·gave c))
-        lay1 = λ c. λ g. (
+        pub laid : (c : Start) → at31 (W0 (c .κs) (c .args)) (m0 (c .κs) (c .args))
+        laid = λ c. λ g. (
           Path.refl,
           (
-            find-usage-requires record {
-              before = record { before = c .before; at-reservation = c .at-reservation };
-              find-usage-arg = record { given = g };
-            },
-            λ g'. lay2 record {
-              before = record {
-                before = record { before = c .before; at-reservation = c .at-reservation };
-                find-usage-arg = record { given = g };
-              };
-              find-usage = Called.called ps·1 r·1 (claims· .3) T6 args5 (m4
-                  record { before = c .before; at-reservation = c .at-reservation } g) g';
+            find-usage-requires record { before = c; find-usage-arg = record { given = g } },
+            λ g'. lay1 record {
+              before = record { before = c; find-usage-arg = record { given = g } };
+              find-usage = Called.called ps·0 r·0 (claims· .1) T4 args3 (m2 c g) g';
             },
           ),
-        )
-
-        pub laid : (c : Start) → at33 (W0 (c .κs) (c .args)) (m0 (c .κs) (c .args))
-        laid = λ c. (
-          at-reservation-requires c,
-          λ g. lay1 record {
-            before = c;
-            at-reservation = Called.called ps·0 r·0 (claims· .1) T0 args0 (m0 (c .κs) (c .args)) g;
-          },
         )
 
         module _ (κs : Lifetimes.Lfts 1) (qs : Lifetimes.Shares 1) where
@@ -1506,13 +1386,12 @@ module _ (claims· : Claims) where
           }
 
         module _ {M : Type 1} (𝓤 : URA.URA M) (H : Wp.Heap 𝓤) (A : Atoms.Atoms 𝓤) (W : Kit.Given 𝓤 H A)
-            (𝓣 : Wp.Tables 𝓤 H) (known0 : Plain.Known 𝓤 H A W 𝓣 0 ps·0 r·0 (claims· .0) (claims· .1)
-            "hnsr_circuit::tables::question::at_reservation") (known1 : Plain.Known 𝓤 H A W 𝓣 1 ps·1 r·1 (claims· .2)
-            (claims· .3) "hnsr_circuit::tables::ledger::find_usage") (known2 : Plain.Known 𝓤 H A W 𝓣 1 ps·2 r·2
-            (claims· .4) (claims· .5) "hnsr_circuit::tables::ledger::usage_at") (known3 : Plain.Known 𝓤 H A W 𝓣 0 ps·3
-            r·3 (claims· .6) (claims· .7) "hnsr_circuit::records::ledger::usage_unmarked") (known4 : Plain.Known 𝓤 H A
-            W 𝓣 1 ps·4 r·4 (claims· .8) (claims· .9) "hnsr_circuit::tables::ledger::set_usage") where
+            (𝓣 : Wp.Tables 𝓤 H) (known0 : Plain.Known 𝓤 H A W 𝓣 1 ps·0 r·0 (claims· .0) (claims· .1)
+            "hnsr_circuit::tables::ledger::find_usage") (known1 : Plain.Known 𝓤 H A W 𝓣 1 ps·1 r·1 (claims· .2)
+            (claims· .3) "hnsr_circuit::tables::ledger::usage_at") (known2 : Plain.Known 𝓤 H A W 𝓣 0 ps·2 r·2
+            (claims· .4) (claims· .5) "hnsr_circuit::records::ledger::usage_unmarked") (known3 : Plain.Known 𝓤 H A W 𝓣
+            1 ps·3 r·3 (claims· .6) (claims· .7) "hnsr_circuit::tables::ledger::set_usage") where
           pub spec : Statement.Triple 𝓤 (Wp.WpFn 𝓤 H (𝓣 .C) (𝓣 .Λ) (Function.fnOf 1 ps r xs m hs body))
               (Function.plainOf 𝓤 H A 1 ps r Pre· Post·)
           spec = Plain.t-fn-plain 𝓤 H A W 𝓣 1 ps r xs m hs body (λ κs qs bs. Φ) (λ κs qs bs bd. typed κs qs 𝓤 H A W 𝓣
-              (known0, known1, known2, known3, known4) bs bd) Pre· Post· asked
+              (known0, known1, known2, known3) bs bd) Pre· Post· asked

@@ -4,8 +4,6 @@ use Rattle.hnsr_circuit.proofs.By.RelayCircuit
 use Rattle.hnsr_circuit.proofs.StructRow
 use Rattle.hnsr_circuit.proofs.tables.places.Places
 use Rattle.hnsr_circuit.proofs.tables.places.Places.Laws
-use Rattle.hnsr_circuit.proofs.tables.question.Question
-use Rattle.hnsr_circuit.proofs.tables.question.Question.Laws as Laws'
 use borrow.Author.Called
 use borrow.Fn.Any
 use borrow.Fn.Args as Args'
@@ -74,8 +72,8 @@ abbrev pub r : Kinds.RK 1
 r = Num.rNum Syntax.w64
 
 abbrev pub xs : List.List Syntax.Ty
-xs = (Syntax.tyInt Syntax.w64) ∷ (Syntax.tyInt Syntax.w64) ∷ Laws'.mir ∷ (Syntax.tyInt Syntax.w64) ∷
-    (Syntax.tyInt Syntax.w64) ∷ ref0 ∷ slice0 ∷ ref0 ∷ slice0 ∷ Syntax.tyUnit ∷ ref1 ∷ slice1 ∷ List.[]
+xs = (Syntax.tyInt Syntax.w64) ∷ (Syntax.tyInt Syntax.w64) ∷ (Syntax.tyInt Syntax.w64) ∷ (Syntax.tyInt Syntax.w64) ∷
+    ref0 ∷ slice0 ∷ ref0 ∷ slice0 ∷ Syntax.tyUnit ∷ ref1 ∷ slice1 ∷ List.[]
 
 abbrev pub m : Nat.ℕ
 m = 3
@@ -87,145 +85,131 @@ ps·0 = (ShrSlice.pShrS RelayCircuit.row 0 tt) ∷ (StructRow.param Places.the-t
 abbrev pub r·0 : Kinds.RK 1
 r·0 = Num.rNum Syntax.w64
 
-abbrev pub ps·1 : List.List (Kinds.PK 0)
-ps·1 = List.[]
+abbrev pub ps·1 : List.List (Kinds.PK 1)
+ps·1 = (ShrSlice.pShrS RelayCircuit.row 0 tt) ∷ (StructRow.param Places.the-type Laws.the-laws Laws.the-copy
+    Laws.the-plain) ∷ List.[]
 
-abbrev pub r·1 : Kinds.RK 0
-r·1 = StructRow.result Question.the-type Laws'.the-laws Laws'.the-copy Laws'.the-plain
+abbrev pub r·1 : Kinds.RK 1
+r·1 = Num.rNum Syntax.w64
 
-abbrev pub ps·2 : List.List (Kinds.PK 1)
-ps·2 = (ShrSlice.pShrS RelayCircuit.row 0 tt) ∷ (StructRow.param Places.the-type Laws.the-laws Laws.the-copy
-    Laws.the-plain) ∷ (StructRow.param Question.the-type Laws'.the-laws Laws'.the-copy Laws'.the-plain) ∷ List.[]
+abbrev pub ps·2 : List.List (Kinds.PK 0)
+ps·2 = (Num.pNum Syntax.w64) ∷ (Num.pNum Syntax.w64) ∷ (Num.pNum Syntax.w64) ∷ List.[]
 
-abbrev pub r·2 : Kinds.RK 1
+abbrev pub r·2 : Kinds.RK 0
 r·2 = Num.rNum Syntax.w64
 
-abbrev pub ps·3 : List.List (Kinds.PK 0)
-ps·3 = (Num.pNum Syntax.w64) ∷ (Num.pNum Syntax.w64) ∷ (Num.pNum Syntax.w64) ∷ List.[]
+abbrev pub ps·3 : List.List (Kinds.PK 1)
+ps·3 = (MutSlice.pMutS RelayCircuit.row 0 tt) ∷ Bool.pBool ∷ (Num.pNum Syntax.w64) ∷ RelayCircuit.param ∷ List.[]
 
-abbrev pub r·3 : Kinds.RK 0
-r·3 = Num.rNum Syntax.w64
+abbrev pub r·3 : Kinds.RK 1
+r·3 = Unit.rUnit
 
-abbrev pub ps·4 : List.List (Kinds.PK 1)
-ps·4 = (MutSlice.pMutS RelayCircuit.row 0 tt) ∷ Bool.pBool ∷ (Num.pNum Syntax.w64) ∷ RelayCircuit.param ∷ List.[]
+abbrev pub ps·4 : List.List (Kinds.PK 0)
+ps·4 = (Num.pNum Syntax.w64) ∷ Bool.pBool ∷ (Num.pNum Syntax.w64) ∷ (Num.pNum Syntax.w64) ∷ List.[]
 
-abbrev pub r·4 : Kinds.RK 1
-r·4 = Unit.rUnit
-
-abbrev pub ps·5 : List.List (Kinds.PK 0)
-ps·5 = (Num.pNum Syntax.w64) ∷ Bool.pBool ∷ (Num.pNum Syntax.w64) ∷ (Num.pNum Syntax.w64) ∷ List.[]
-
-abbrev pub r·5 : Kinds.RK 0
-r·5 = Num.rNum Syntax.w64
+abbrev pub r·4 : Kinds.RK 0
+r·4 = Num.rNum Syntax.w64
 
 abbrev pub hs : List.List Syntax.Home
 hs = Syntax.valueLocal ∷ Syntax.valueLocal ∷ Syntax.valueLocal ∷ Syntax.valueLocal ∷ Syntax.valueLocal ∷
     Syntax.valueLocal ∷ Syntax.valueLocal ∷ Syntax.valueLocal ∷ Syntax.valueLocal ∷ Syntax.valueLocal ∷
     Syntax.valueLocal ∷ Syntax.valueLocal ∷ Syntax.valueLocal ∷ Syntax.valueLocal ∷ Syntax.valueLocal ∷
-    Syntax.valueLocal ∷ Syntax.valueLocal ∷ Syntax.valueLocal ∷ List.[]
+    Syntax.valueLocal ∷ Syntax.valueLocal ∷ List.[]
 
 abbrev b0 : Syntax.Body
 b0 = Syntax.assign (Syntax.place 6 List.[]) (Syntax.rvOpd (Syntax.copy (Syntax.place 1 ((Syntax.field 1) ∷ List.[]))))
 
 abbrev b1 : Syntax.Body
-b1 = Syntax.assign (Syntax.place 11 List.[]) (Syntax.addrOf (Syntax.place 1 ((Syntax.field 0) ∷
+b1 = Syntax.assign (Syntax.place 10 List.[]) (Syntax.addrOf (Syntax.place 1 ((Syntax.field 0) ∷
     (Syntax.deref RelayCircuit.ty) ∷ List.[])))
 
 abbrev b2 : Syntax.Body
-b2 = Syntax.assign (Syntax.place 12 List.[]) (Syntax.aggregate ((Syntax.copy (Syntax.place 11 List.[])) ∷
+b2 = Syntax.assign (Syntax.place 11 List.[]) (Syntax.aggregate ((Syntax.copy (Syntax.place 10 List.[])) ∷
     (Syntax.copy (Syntax.place 1 ((Syntax.field 1) ∷ List.[]))) ∷ List.[]))
 
 abbrev b3 : Syntax.Body
-b3 = Syntax.call "hnsr_circuit::tables::circuits::find_circuit_id" ((Syntax.copy (Syntax.place 12 List.[])) ∷
+b3 = Syntax.call "hnsr_circuit::tables::circuits::find_circuit_id" ((Syntax.copy (Syntax.place 11 List.[])) ∷
     (Syntax.copy (Syntax.place 2 List.[])) ∷ (Syntax.copy (Syntax.place 4 List.[])) ∷ List.[]) (Syntax.place 7 List.[])
 
 abbrev b4 : Syntax.Body
-b4 = Syntax.call "hnsr_circuit::tables::question::unused" List.[] (Syntax.place 8 List.[])
+b4 = Syntax.assign (Syntax.place 12 List.[]) (Syntax.addrOf (Syntax.place 1 ((Syntax.field 0) ∷
+    (Syntax.deref RelayCircuit.ty) ∷ List.[])))
 
 abbrev b5 : Syntax.Body
-b5 = Syntax.assign (Syntax.place 13 List.[]) (Syntax.addrOf (Syntax.place 1 ((Syntax.field 0) ∷
-    (Syntax.deref RelayCircuit.ty) ∷ List.[])))
+b5 = Syntax.assign (Syntax.place 13 List.[]) (Syntax.aggregate ((Syntax.copy (Syntax.place 12 List.[])) ∷
+    (Syntax.copy (Syntax.place 1 ((Syntax.field 1) ∷ List.[]))) ∷ List.[]))
 
 abbrev b6 : Syntax.Body
-b6 = Syntax.assign (Syntax.place 14 List.[]) (Syntax.aggregate ((Syntax.copy (Syntax.place 13 List.[])) ∷
-    (Syntax.copy (Syntax.place 1 ((Syntax.field 1) ∷ List.[]))) ∷ List.[]))
+b6 = Syntax.call "hnsr_circuit::tables::circuits::spare_circuit" ((Syntax.copy (Syntax.place 13 List.[])) ∷
+    (Syntax.copy (Syntax.place 2 List.[])) ∷ List.[]) (Syntax.place 8 List.[])
 
 abbrev b7 : Syntax.Body
-b7 = Syntax.call "hnsr_circuit::tables::circuits::find_circuit" ((Syntax.copy (Syntax.place 14 List.[])) ∷
-    (Syntax.copy (Syntax.place 2 List.[])) ∷ (Syntax.copy (Syntax.place 8 List.[])) ∷ List.[]) (Syntax.place 9 List.[])
+b7 = Syntax.call "hnsr_circuit::tables::stores::put_place" ((Syntax.copy (Syntax.place 7 List.[])) ∷
+    (Syntax.copy (Syntax.place 6 List.[])) ∷ (Syntax.copy (Syntax.place 8 List.[])) ∷ List.[]) (Syntax.place 9 List.[])
 
 abbrev b8 : Syntax.Body
-b8 = Syntax.call "hnsr_circuit::tables::stores::put_place" ((Syntax.copy (Syntax.place 7 List.[])) ∷
-    (Syntax.copy (Syntax.place 6 List.[])) ∷ (Syntax.copy (Syntax.place 9 List.[])) ∷ List.[])
-    (Syntax.place 10 List.[])
-
-abbrev b9 : Syntax.Body
-b9 = Syntax.assign (Syntax.place 16 List.[]) (Syntax.addrOf (Syntax.place 1 ((Syntax.field 0) ∷
+b8 = Syntax.assign (Syntax.place 15 List.[]) (Syntax.addrOf (Syntax.place 1 ((Syntax.field 0) ∷
     (Syntax.deref RelayCircuit.ty) ∷ List.[])))
 
-abbrev b10 : Syntax.Body
-b10 = Syntax.assign (Syntax.place 17 List.[]) (Syntax.aggregate ((Syntax.copy (Syntax.place 16 List.[])) ∷
+abbrev b9 : Syntax.Body
+b9 = Syntax.assign (Syntax.place 16 List.[]) (Syntax.aggregate ((Syntax.copy (Syntax.place 15 List.[])) ∷
     (Syntax.copy (Syntax.place 1 ((Syntax.field 1) ∷ List.[]))) ∷ List.[]))
 
-abbrev b11 : Syntax.Body
-b11 = Syntax.call "hnsr_circuit::tables::circuits::set_circuit" ((Syntax.copy (Syntax.place 17 List.[])) ∷
-    (Syntax.copy (Syntax.place 3 List.[])) ∷ (Syntax.copy (Syntax.place 10 List.[])) ∷
-    (Syntax.copy (Syntax.place 5 List.[])) ∷ List.[]) (Syntax.place 15 List.[])
+abbrev b10 : Syntax.Body
+b10 = Syntax.call "hnsr_circuit::tables::circuits::set_circuit" ((Syntax.copy (Syntax.place 16 List.[])) ∷
+    (Syntax.copy (Syntax.place 3 List.[])) ∷ (Syntax.copy (Syntax.place 9 List.[])) ∷
+    (Syntax.copy (Syntax.place 5 List.[])) ∷ List.[]) (Syntax.place 14 List.[])
 
-abbrev b12 : Syntax.Body
-b12 = Syntax.call "hnsr_circuit::tables::places::raised" ((Syntax.copy (Syntax.place 2 ((Syntax.field 1) ∷ List.[]))) ∷
-    (Syntax.copy (Syntax.place 3 List.[])) ∷ (Syntax.copy (Syntax.place 10 List.[])) ∷
+abbrev b11 : Syntax.Body
+b11 = Syntax.call "hnsr_circuit::tables::places::raised" ((Syntax.copy (Syntax.place 2 ((Syntax.field 1) ∷ List.[]))) ∷
+    (Syntax.copy (Syntax.place 3 List.[])) ∷ (Syntax.copy (Syntax.place 9 List.[])) ∷
     (Syntax.copy (Syntax.place 6 List.[])) ∷ List.[]) (Syntax.place 0 List.[])
 
+abbrev b12 : Syntax.Body
+b12 = Syntax.return
+
 abbrev b13 : Syntax.Body
-b13 = Syntax.return
+b13 = Syntax.seq b11 b12
 
 abbrev b14 : Syntax.Body
-b14 = Syntax.seq b12 b13
+b14 = Syntax.seq b10 b13
 
 abbrev b15 : Syntax.Body
-b15 = Syntax.seq b11 b14
+b15 = Syntax.seq b9 b14
 
 abbrev b16 : Syntax.Body
-b16 = Syntax.seq b10 b15
+b16 = Syntax.seq b8 b15
 
 abbrev b17 : Syntax.Body
-b17 = Syntax.seq b9 b16
+b17 = Syntax.seq b7 b16
 
 abbrev b18 : Syntax.Body
-b18 = Syntax.seq b8 b17
+b18 = Syntax.seq b6 b17
 
 abbrev b19 : Syntax.Body
-b19 = Syntax.seq b7 b18
+b19 = Syntax.seq b5 b18
 
 abbrev b20 : Syntax.Body
-b20 = Syntax.seq b6 b19
+b20 = Syntax.seq b4 b19
 
 abbrev b21 : Syntax.Body
-b21 = Syntax.seq b5 b20
+b21 = Syntax.seq b3 b20
 
 abbrev b22 : Syntax.Body
-b22 = Syntax.seq b4 b21
+b22 = Syntax.seq b2 b21
 
 abbrev b23 : Syntax.Body
-b23 = Syntax.seq b3 b22
+b23 = Syntax.seq b1 b22
 
 abbrev b24 : Syntax.Body
-b24 = Syntax.seq b2 b23
-
-abbrev b25 : Syntax.Body
-b25 = Syntax.seq b1 b24
-
-abbrev b26 : Syntax.Body
-b26 = Syntax.seq b0 b25
+b24 = Syntax.seq b0 b23
 
 abbrev pub body : Syntax.Body
-body = b26
+body = b24
 
 abbrev pub Claims : Type 1
-Claims = Kinds.In 1 ps·0 × Kinds.Out 1 ps·0 r·0 × Kinds.In 0 ps·1 × Kinds.Out 0 ps·1 r·1 × Kinds.In 1 ps·2 × Kinds.Out
-    1 ps·2 r·2 × Kinds.In 0 ps·3 × Kinds.Out 0 ps·3 r·3 × Kinds.In 1 ps·4 × Kinds.Out 1 ps·4 r·4 × Kinds.In 0 ps·5 ×
-    Kinds.Out 0 ps·5 r·5
+Claims = Kinds.In 1 ps·0 × Kinds.Out 1 ps·0 r·0 × Kinds.In 1 ps·1 × Kinds.Out 1 ps·1 r·1 × Kinds.In 0 ps·2 × Kinds.Out
+    0 ps·2 r·2 × Kinds.In 1 ps·3 × Kinds.Out 1 ps·3 r·3 × Kinds.In 0 ps·4 × Kinds.Out 0 ps·4 r·4
 
 abbrev e0 : Row.Entry
 e0 = (0, Rows.any-gone (Syntax.tyInt Syntax.w64))
@@ -252,34 +236,31 @@ abbrev e7 : Row.Entry
 e7 = (7, Rows.any-gone (Syntax.tyInt Syntax.w64))
 
 abbrev e8 : Row.Entry
-e8 = (8, Rows.any-gone Laws'.mir)
+e8 = (8, Rows.any-gone (Syntax.tyInt Syntax.w64))
 
 abbrev e9 : Row.Entry
 e9 = (9, Rows.any-gone (Syntax.tyInt Syntax.w64))
 
 abbrev e10 : Row.Entry
-e10 = (10, Rows.any-gone (Syntax.tyInt Syntax.w64))
+e10 = (10, Rows.any-gone ref0)
 
 abbrev e11 : Row.Entry
-e11 = (11, Rows.any-gone ref0)
+e11 = (11, Rows.any-gone slice0)
 
 abbrev e12 : Row.Entry
-e12 = (12, Rows.any-gone slice0)
+e12 = (12, Rows.any-gone ref0)
 
 abbrev e13 : Row.Entry
-e13 = (13, Rows.any-gone ref0)
+e13 = (13, Rows.any-gone slice0)
 
 abbrev e14 : Row.Entry
-e14 = (14, Rows.any-gone slice0)
+e14 = (14, Rows.any-gone Syntax.tyUnit)
 
 abbrev e15 : Row.Entry
-e15 = (15, Rows.any-gone Syntax.tyUnit)
+e15 = (15, Rows.any-gone ref1)
 
 abbrev e16 : Row.Entry
-e16 = (16, Rows.any-gone ref1)
-
-abbrev e17 : Row.Entry
-e17 = (17, Rows.any-gone slice1)
+e16 = (16, Rows.any-gone slice1)
 
 abbrev e0·1 : Row.Entry
 e0·1 = (0, Rows.sc-here (Row.sInt Syntax.w64))
@@ -302,53 +283,50 @@ e6·1 = (6, Rows.sc-here (Row.sInt Syntax.w64))
 abbrev e1·1 : Row.Entry
 e1·1 = (1, Reshare.mslice-owedS RelayCircuit.row ref2 0 1 Row.off)
 
-abbrev e11·1 : Row.Entry
-e11·1 = (11, Relend.ssptr RelayCircuit.row ref0 1)
+abbrev e10·1 : Row.Entry
+e10·1 = (10, Relend.ssptr RelayCircuit.row ref0 1)
 
-abbrev e12·1 : Row.Entry
-e12·1 = (12, Rows.sslice RelayCircuit.row ref0 1)
+abbrev e11·1 : Row.Entry
+e11·1 = (11, Rows.sslice RelayCircuit.row ref0 1)
 
 abbrev e7·1 : Row.Entry
 e7·1 = (7, Rows.sc-here (Row.sInt Syntax.w64))
 
-abbrev e8·1 : Row.Entry
-e8·1 = (8, Rows.whole (Declared.row Question.the-type))
-
 abbrev e1·2 : Row.Entry
 e1·2 = (1, Reshare.mslice-owedS RelayCircuit.row ref2 0 2 Row.off)
 
-abbrev e13·1 : Row.Entry
-e13·1 = (13, Relend.ssptr RelayCircuit.row ref0 2)
+abbrev e12·1 : Row.Entry
+e12·1 = (12, Relend.ssptr RelayCircuit.row ref0 2)
 
-abbrev e14·1 : Row.Entry
-e14·1 = (14, Rows.sslice RelayCircuit.row ref0 2)
+abbrev e13·1 : Row.Entry
+e13·1 = (13, Rows.sslice RelayCircuit.row ref0 2)
+
+abbrev e8·1 : Row.Entry
+e8·1 = (8, Rows.sc-here (Row.sInt Syntax.w64))
 
 abbrev e9·1 : Row.Entry
 e9·1 = (9, Rows.sc-here (Row.sInt Syntax.w64))
 
-abbrev e10·1 : Row.Entry
-e10·1 = (10, Rows.sc-here (Row.sInt Syntax.w64))
-
 abbrev e1·3 : Row.Entry
 e1·3 = (1, Relend.mslice-owed RelayCircuit.row ref2 0 3 Row.off)
 
-abbrev e16·1 : Row.Entry
-e16·1 = (16, Relend.msptr RelayCircuit.row ref1 3)
-
-abbrev e17·1 : Row.Entry
-e17·1 = (17, Mut.mslice RelayCircuit.row ref1 3)
-
 abbrev e15·1 : Row.Entry
-e15·1 = (15, Rows.sc-here Row.sUnit)
+e15·1 = (15, Relend.msptr RelayCircuit.row ref1 3)
 
-abbrev e17·2 : Row.Entry
-e17·2 = (17, Mut.msleft RelayCircuit.row ref1)
+abbrev e16·1 : Row.Entry
+e16·1 = (16, Mut.mslice RelayCircuit.row ref1 3)
+
+abbrev e14·1 : Row.Entry
+e14·1 = (14, Rows.sc-here Row.sUnit)
+
+abbrev e16·2 : Row.Entry
+e16·2 = (16, Mut.msleft RelayCircuit.row ref1)
 
 abbrev pub t0 : List.List Row.Entry
 t0 = e0 ∷ e1 ∷ e2 ∷ e3 ∷ e4 ∷ e5 ∷ e6 ∷ e7 ∷ e8 ∷ e9 ∷ e10 ∷ e11 ∷ e12 ∷ e13 ∷ e14 ∷ e15 ∷ List.[]
 
 abbrev pub t1 : List.List Row.Entry
-t1 = e16 ∷ e17 ∷ List.[]
+t1 = e16 ∷ List.[]
 
 abbrev pub t2 : List.List Row.Entry
 t2 = e0·1 ∷ e1 ∷ e2·1 ∷ e3·1 ∷ e4·1 ∷ e5·1 ∷ e6 ∷ e7 ∷ e8 ∷ e9 ∷ e10 ∷ e11 ∷ e12 ∷ e13 ∷ e14 ∷ e15 ∷ List.[]
@@ -357,13 +335,13 @@ abbrev pub t3 : List.List Row.Entry
 t3 = e0 ∷ e1 ∷ e2 ∷ e3 ∷ e4 ∷ e5 ∷ e6·1 ∷ e7 ∷ e8 ∷ e9 ∷ e10 ∷ e11 ∷ e12 ∷ e13 ∷ e14 ∷ e15 ∷ List.[]
 
 abbrev pub t4 : List.List Row.Entry
-t4 = e0 ∷ e1·1 ∷ e2 ∷ e3 ∷ e4 ∷ e5 ∷ e6·1 ∷ e7 ∷ e8 ∷ e9 ∷ e10 ∷ e11·1 ∷ e12 ∷ e13 ∷ e14 ∷ e15 ∷ List.[]
+t4 = e0 ∷ e1·1 ∷ e2 ∷ e3 ∷ e4 ∷ e5 ∷ e6·1 ∷ e7 ∷ e8 ∷ e9 ∷ e10·1 ∷ e11 ∷ e12 ∷ e13 ∷ e14 ∷ e15 ∷ List.[]
 
 abbrev pub t5 : List.List Row.Entry
-t5 = e0 ∷ e1·1 ∷ e2 ∷ e3 ∷ e4 ∷ e5 ∷ e6·1 ∷ e7 ∷ e8 ∷ e9 ∷ e10 ∷ e11 ∷ e12·1 ∷ e13 ∷ e14 ∷ e15 ∷ List.[]
+t5 = e0 ∷ e1·1 ∷ e2 ∷ e3 ∷ e4 ∷ e5 ∷ e6·1 ∷ e7 ∷ e8 ∷ e9 ∷ e10 ∷ e11·1 ∷ e12 ∷ e13 ∷ e14 ∷ e15 ∷ List.[]
 
 abbrev pub t6 : List.List Row.Entry
-t6 = e0 ∷ e1·1 ∷ e2 ∷ e3 ∷ e4 ∷ e5 ∷ e6·1 ∷ e7·1 ∷ e8 ∷ e9 ∷ e10 ∷ e11 ∷ e12·1 ∷ e13 ∷ e14 ∷ e15 ∷ List.[]
+t6 = e0 ∷ e1·1 ∷ e2 ∷ e3 ∷ e4 ∷ e5 ∷ e6·1 ∷ e7·1 ∷ e8 ∷ e9 ∷ e10 ∷ e11·1 ∷ e12 ∷ e13 ∷ e14 ∷ e15 ∷ List.[]
 
 abbrev pub t7 : List.List Row.Entry
 t7 = e0 ∷ e1·1 ∷ e2 ∷ e3 ∷ e4 ∷ e5 ∷ e6·1 ∷ e7·1 ∷ e8 ∷ e9 ∷ e10 ∷ e11 ∷ e12 ∷ e13 ∷ e14 ∷ e15 ∷ List.[]
@@ -372,73 +350,67 @@ abbrev pub t8 : List.List Row.Entry
 t8 = e0 ∷ e1 ∷ e2 ∷ e3 ∷ e4 ∷ e5 ∷ e6·1 ∷ e7·1 ∷ e8 ∷ e9 ∷ e10 ∷ e11 ∷ e12 ∷ e13 ∷ e14 ∷ e15 ∷ List.[]
 
 abbrev pub t9 : List.List Row.Entry
-t9 = e0 ∷ e1 ∷ e2 ∷ e3 ∷ e4 ∷ e5 ∷ e6·1 ∷ e7·1 ∷ e8·1 ∷ e9 ∷ e10 ∷ e11 ∷ e12 ∷ e13 ∷ e14 ∷ e15 ∷ List.[]
+t9 = e0 ∷ e1·2 ∷ e2 ∷ e3 ∷ e4 ∷ e5 ∷ e6·1 ∷ e7·1 ∷ e8 ∷ e9 ∷ e10 ∷ e11 ∷ e12·1 ∷ e13 ∷ e14 ∷ e15 ∷ List.[]
 
 abbrev pub t10 : List.List Row.Entry
-t10 = e0 ∷ e1·2 ∷ e2 ∷ e3 ∷ e4 ∷ e5 ∷ e6·1 ∷ e7·1 ∷ e8·1 ∷ e9 ∷ e10 ∷ e11 ∷ e12 ∷ e13·1 ∷ e14 ∷ e15 ∷ List.[]
+t10 = e0 ∷ e1·2 ∷ e2 ∷ e3 ∷ e4 ∷ e5 ∷ e6·1 ∷ e7·1 ∷ e8 ∷ e9 ∷ e10 ∷ e11 ∷ e12 ∷ e13·1 ∷ e14 ∷ e15 ∷ List.[]
 
 abbrev pub t11 : List.List Row.Entry
-t11 = e0 ∷ e1·2 ∷ e2 ∷ e3 ∷ e4 ∷ e5 ∷ e6·1 ∷ e7·1 ∷ e8·1 ∷ e9 ∷ e10 ∷ e11 ∷ e12 ∷ e13 ∷ e14·1 ∷ e15 ∷ List.[]
+t11 = e0 ∷ e1·2 ∷ e2 ∷ e3 ∷ e4 ∷ e5 ∷ e6·1 ∷ e7·1 ∷ e8·1 ∷ e9 ∷ e10 ∷ e11 ∷ e12 ∷ e13·1 ∷ e14 ∷ e15 ∷ List.[]
 
 abbrev pub t12 : List.List Row.Entry
-t12 = e0 ∷ e1·2 ∷ e2 ∷ e3 ∷ e4 ∷ e5 ∷ e6·1 ∷ e7·1 ∷ e8·1 ∷ e9·1 ∷ e10 ∷ e11 ∷ e12 ∷ e13 ∷ e14·1 ∷ e15 ∷ List.[]
+t12 = e0 ∷ e1·2 ∷ e2 ∷ e3 ∷ e4 ∷ e5 ∷ e6·1 ∷ e7·1 ∷ e8·1 ∷ e9 ∷ e10 ∷ e11 ∷ e12 ∷ e13 ∷ e14 ∷ e15 ∷ List.[]
 
 abbrev pub t13 : List.List Row.Entry
-t13 = e0 ∷ e1·2 ∷ e2 ∷ e3 ∷ e4 ∷ e5 ∷ e6·1 ∷ e7·1 ∷ e8·1 ∷ e9·1 ∷ e10 ∷ e11 ∷ e12 ∷ e13 ∷ e14 ∷ e15 ∷ List.[]
+t13 = e0 ∷ e1 ∷ e2 ∷ e3 ∷ e4 ∷ e5 ∷ e6·1 ∷ e7·1 ∷ e8·1 ∷ e9 ∷ e10 ∷ e11 ∷ e12 ∷ e13 ∷ e14 ∷ e15 ∷ List.[]
 
 abbrev pub t14 : List.List Row.Entry
-t14 = e0 ∷ e1·2 ∷ e2 ∷ e3 ∷ e4 ∷ e5 ∷ e6·1 ∷ e7·1 ∷ e8 ∷ e9·1 ∷ e10 ∷ e11 ∷ e12 ∷ e13 ∷ e14 ∷ e15 ∷ List.[]
+t14 = e0 ∷ e1 ∷ e2 ∷ e3 ∷ e4 ∷ e5 ∷ e6·1 ∷ e7·1 ∷ e8·1 ∷ e9·1 ∷ e10 ∷ e11 ∷ e12 ∷ e13 ∷ e14 ∷ e15 ∷ List.[]
 
 abbrev pub t15 : List.List Row.Entry
-t15 = e0 ∷ e1 ∷ e2 ∷ e3 ∷ e4 ∷ e5 ∷ e6·1 ∷ e7·1 ∷ e8 ∷ e9·1 ∷ e10 ∷ e11 ∷ e12 ∷ e13 ∷ e14 ∷ e15 ∷ List.[]
+t15 = e0 ∷ e1·3 ∷ e2 ∷ e3 ∷ e4 ∷ e5 ∷ e6·1 ∷ e7·1 ∷ e8·1 ∷ e9·1 ∷ e10 ∷ e11 ∷ e12 ∷ e13 ∷ e14 ∷ e15·1 ∷ List.[]
 
 abbrev pub t16 : List.List Row.Entry
-t16 = e0 ∷ e1 ∷ e2 ∷ e3 ∷ e4 ∷ e5 ∷ e6·1 ∷ e7·1 ∷ e8 ∷ e9·1 ∷ e10·1 ∷ e11 ∷ e12 ∷ e13 ∷ e14 ∷ e15 ∷ List.[]
+t16 = e0 ∷ e1·3 ∷ e2 ∷ e3 ∷ e4 ∷ e5 ∷ e6·1 ∷ e7·1 ∷ e8·1 ∷ e9·1 ∷ e10 ∷ e11 ∷ e12 ∷ e13 ∷ e14 ∷ e15 ∷ List.[]
 
 abbrev pub t17 : List.List Row.Entry
-t17 = e0 ∷ e1·3 ∷ e2 ∷ e3 ∷ e4 ∷ e5 ∷ e6·1 ∷ e7·1 ∷ e8 ∷ e9·1 ∷ e10·1 ∷ e11 ∷ e12 ∷ e13 ∷ e14 ∷ e15 ∷ List.[]
+t17 = e16·1 ∷ List.[]
 
 abbrev pub t18 : List.List Row.Entry
-t18 = e16·1 ∷ e17 ∷ List.[]
+t18 = e0 ∷ e1·3 ∷ e2 ∷ e3 ∷ e4 ∷ e5 ∷ e6·1 ∷ e7·1 ∷ e8·1 ∷ e9·1 ∷ e10 ∷ e11 ∷ e12 ∷ e13 ∷ e14·1 ∷ e15 ∷ List.[]
 
 abbrev pub t19 : List.List Row.Entry
-t19 = e16 ∷ e17·1 ∷ List.[]
+t19 = e16·2 ∷ List.[]
 
 abbrev pub t20 : List.List Row.Entry
-t20 = e0 ∷ e1·3 ∷ e2 ∷ e3 ∷ e4 ∷ e5 ∷ e6·1 ∷ e7·1 ∷ e8 ∷ e9·1 ∷ e10·1 ∷ e11 ∷ e12 ∷ e13 ∷ e14 ∷ e15·1 ∷ List.[]
+t20 = e0 ∷ e1·3 ∷ e2 ∷ e3 ∷ e4 ∷ e5·1 ∷ e6·1 ∷ e7·1 ∷ e8·1 ∷ e9·1 ∷ e10 ∷ e11 ∷ e12 ∷ e13 ∷ e14·1 ∷ e15 ∷ List.[]
 
 abbrev pub t21 : List.List Row.Entry
-t21 = e16 ∷ e17·2 ∷ List.[]
+t21 = e0 ∷ e1·3 ∷ e2 ∷ e3 ∷ e4 ∷ e5·1 ∷ e6·1 ∷ e7·1 ∷ e8·1 ∷ e9·1 ∷ e10 ∷ e11 ∷ e12 ∷ e13 ∷ e14 ∷ e15 ∷ List.[]
 
 abbrev pub t22 : List.List Row.Entry
-t22 = e0 ∷ e1·3 ∷ e2 ∷ e3 ∷ e4 ∷ e5·1 ∷ e6·1 ∷ e7·1 ∷ e8 ∷ e9·1 ∷ e10·1 ∷ e11 ∷ e12 ∷ e13 ∷ e14 ∷ e15·1 ∷ List.[]
+t22 = e0 ∷ e1 ∷ e2 ∷ e3 ∷ e4 ∷ e5·1 ∷ e6·1 ∷ e7·1 ∷ e8·1 ∷ e9·1 ∷ e10 ∷ e11 ∷ e12 ∷ e13 ∷ e14 ∷ e15 ∷ List.[]
 
 abbrev pub t23 : List.List Row.Entry
-t23 = e0 ∷ e1·3 ∷ e2 ∷ e3 ∷ e4 ∷ e5·1 ∷ e6·1 ∷ e7·1 ∷ e8 ∷ e9·1 ∷ e10·1 ∷ e11 ∷ e12 ∷ e13 ∷ e14 ∷ e15 ∷ List.[]
+t23 = e0·1 ∷ e1 ∷ e2 ∷ e3 ∷ e4 ∷ e5·1 ∷ e6·1 ∷ e7·1 ∷ e8·1 ∷ e9·1 ∷ e10 ∷ e11 ∷ e12 ∷ e13 ∷ e14 ∷ e15 ∷ List.[]
 
 abbrev pub t24 : List.List Row.Entry
-t24 = e0 ∷ e1 ∷ e2 ∷ e3 ∷ e4 ∷ e5·1 ∷ e6·1 ∷ e7·1 ∷ e8 ∷ e9·1 ∷ e10·1 ∷ e11 ∷ e12 ∷ e13 ∷ e14 ∷ e15 ∷ List.[]
+t24 = e0·1 ∷ e1 ∷ e2·1 ∷ e3 ∷ e4 ∷ e5·1 ∷ e6·1 ∷ e7·1 ∷ e8·1 ∷ e9·1 ∷ e10 ∷ e11 ∷ e12 ∷ e13 ∷ e14 ∷ e15 ∷ List.[]
 
 abbrev pub t25 : List.List Row.Entry
-t25 = e0·1 ∷ e1 ∷ e2 ∷ e3 ∷ e4 ∷ e5·1 ∷ e6·1 ∷ e7·1 ∷ e8 ∷ e9·1 ∷ e10·1 ∷ e11 ∷ e12 ∷ e13 ∷ e14 ∷ e15 ∷ List.[]
+t25 = e0·1 ∷ e1 ∷ e2·1 ∷ e3 ∷ e4 ∷ e5·1 ∷ e6 ∷ e7·1 ∷ e8·1 ∷ e9·1 ∷ e10 ∷ e11 ∷ e12 ∷ e13 ∷ e14 ∷ e15 ∷ List.[]
 
 abbrev pub t26 : List.List Row.Entry
-t26 = e0·1 ∷ e1 ∷ e2·1 ∷ e3 ∷ e4 ∷ e5·1 ∷ e6·1 ∷ e7·1 ∷ e8 ∷ e9·1 ∷ e10·1 ∷ e11 ∷ e12 ∷ e13 ∷ e14 ∷ e15 ∷ List.[]
+t26 = e0·1 ∷ e1 ∷ e2·1 ∷ e3 ∷ e4 ∷ e5·1 ∷ e6 ∷ e7 ∷ e8·1 ∷ e9·1 ∷ e10 ∷ e11 ∷ e12 ∷ e13 ∷ e14 ∷ e15 ∷ List.[]
 
 abbrev pub t27 : List.List Row.Entry
-t27 = e0·1 ∷ e1 ∷ e2·1 ∷ e3 ∷ e4 ∷ e5·1 ∷ e6 ∷ e7·1 ∷ e8 ∷ e9·1 ∷ e10·1 ∷ e11 ∷ e12 ∷ e13 ∷ e14 ∷ e15 ∷ List.[]
+t27 = e0·1 ∷ e1 ∷ e2·1 ∷ e3 ∷ e4 ∷ e5·1 ∷ e6 ∷ e7 ∷ e8 ∷ e9·1 ∷ e10 ∷ e11 ∷ e12 ∷ e13 ∷ e14 ∷ e15 ∷ List.[]
 
 abbrev pub t28 : List.List Row.Entry
-t28 = e0·1 ∷ e1 ∷ e2·1 ∷ e3 ∷ e4 ∷ e5·1 ∷ e6 ∷ e7 ∷ e8 ∷ e9·1 ∷ e10·1 ∷ e11 ∷ e12 ∷ e13 ∷ e14 ∷ e15 ∷ List.[]
+t28 = e0·1 ∷ e1 ∷ e2·1 ∷ e3 ∷ e4 ∷ e5·1 ∷ e6 ∷ e7 ∷ e8 ∷ e9 ∷ e10 ∷ e11 ∷ e12 ∷ e13 ∷ e14 ∷ e15 ∷ List.[]
 
 abbrev pub t29 : List.List Row.Entry
-t29 = e0·1 ∷ e1 ∷ e2·1 ∷ e3 ∷ e4 ∷ e5·1 ∷ e6 ∷ e7 ∷ e8 ∷ e9 ∷ e10·1 ∷ e11 ∷ e12 ∷ e13 ∷ e14 ∷ e15 ∷ List.[]
-
-abbrev pub t30 : List.List Row.Entry
-t30 = e0·1 ∷ e1 ∷ e2·1 ∷ e3 ∷ e4 ∷ e5·1 ∷ e6 ∷ e7 ∷ e8 ∷ e9 ∷ e10 ∷ e11 ∷ e12 ∷ e13 ∷ e14 ∷ e15 ∷ List.[]
-
-abbrev pub t31 : List.List Row.Entry
-t31 = e0·1 ∷ e1 ∷ e2·1 ∷ e3·1 ∷ e4 ∷ e5·1 ∷ e6 ∷ e7 ∷ e8 ∷ e9 ∷ e10 ∷ e11 ∷ e12 ∷ e13 ∷ e14 ∷ e15 ∷ List.[]
+t29 = e0·1 ∷ e1 ∷ e2·1 ∷ e3·1 ∷ e4 ∷ e5·1 ∷ e6 ∷ e7 ∷ e8 ∷ e9 ∷ e10 ∷ e11 ∷ e12 ∷ e13 ∷ e14 ∷ e15 ∷ List.[]
 
 abbrev pub T0 : Row.Cx
 T0 = record { locals = List._++_ t0 t1; slots = List.[] }
@@ -464,8 +436,8 @@ T7 = record { locals = List._++_ t7 t1; slots = List.[] }
 abbrev pub T9 : Row.Cx
 T9 = record { locals = List._++_ t8 t1; slots = List.[] }
 
-abbrev pub T11 : Row.Cx
-T11 = record { locals = List._++_ t9 t1; slots = List.[] }
+abbrev pub T12 : Row.Cx
+T12 = record { locals = List._++_ t9 t1; slots = List.[] }
 
 abbrev pub T13 : Row.Cx
 T13 = record { locals = List._++_ t10 t1; slots = List.[] }
@@ -476,35 +448,35 @@ T14 = record { locals = List._++_ t11 t1; slots = List.[] }
 abbrev pub T15 : Row.Cx
 T15 = record { locals = List._++_ t12 t1; slots = List.[] }
 
-abbrev pub T16 : Row.Cx
-T16 = record { locals = List._++_ t13 t1; slots = List.[] }
-
 abbrev pub T17 : Row.Cx
-T17 = record { locals = List._++_ t14 t1; slots = List.[] }
+T17 = record { locals = List._++_ t13 t1; slots = List.[] }
 
 abbrev pub T19 : Row.Cx
-T19 = record { locals = List._++_ t15 t1; slots = List.[] }
+T19 = record { locals = List._++_ t14 t1; slots = List.[] }
 
 abbrev pub T21 : Row.Cx
-T21 = record { locals = List._++_ t16 t1; slots = List.[] }
+T21 = record { locals = List._++_ t15 t1; slots = List.[] }
+
+abbrev pub T22 : Row.Cx
+T22 = record { locals = List._++_ t16 t17; slots = List.[] }
 
 abbrev pub T23 : Row.Cx
-T23 = record { locals = List._++_ t17 t18; slots = List.[] }
+T23 = record { locals = List._++_ t18 t19; slots = List.[] }
 
 abbrev pub T24 : Row.Cx
-T24 = record { locals = List._++_ t17 t19; slots = List.[] }
+T24 = record { locals = List._++_ t20 t19; slots = List.[] }
 
 abbrev pub T25 : Row.Cx
-T25 = record { locals = List._++_ t20 t21; slots = List.[] }
-
-abbrev pub T26 : Row.Cx
-T26 = record { locals = List._++_ t22 t21; slots = List.[] }
+T25 = record { locals = List._++_ t21 t19; slots = List.[] }
 
 abbrev pub T27 : Row.Cx
-T27 = record { locals = List._++_ t23 t21; slots = List.[] }
+T27 = record { locals = List._++_ t22 t1; slots = List.[] }
 
 abbrev pub T29 : Row.Cx
-T29 = record { locals = List._++_ t24 t1; slots = List.[] }
+T29 = record { locals = List._++_ t23 t1; slots = List.[] }
+
+abbrev pub T30 : Row.Cx
+T30 = record { locals = List._++_ t24 t1; slots = List.[] }
 
 abbrev pub T31 : Row.Cx
 T31 = record { locals = List._++_ t25 t1; slots = List.[] }
@@ -522,13 +494,7 @@ abbrev pub T35 : Row.Cx
 T35 = record { locals = List._++_ t29 t1; slots = List.[] }
 
 abbrev pub T36 : Row.Cx
-T36 = record { locals = List._++_ t30 t1; slots = List.[] }
-
-abbrev pub T37 : Row.Cx
-T37 = record { locals = List._++_ t31 t1; slots = List.[] }
-
-abbrev pub T38 : Row.Cx
-T38 = record { locals = List._++_ t2 t1; slots = List.[] }
+T36 = record { locals = List._++_ t2 t1; slots = List.[] }
 
 abbrev pub O0 : Typed.Outs
 O0 = record { next = Option.none; exits = List.[]; returns = Option.some T1 }
@@ -539,15 +505,15 @@ module _ (claims· : Claims) where
       (Rows.sc-here (Row.sInt Syntax.w64)) (Row.sInt Syntax.w64 .of)
 
   abbrev s2 : Typed.Gives T2 T4
-  s2 = Reshare.k-sl-reshare RelayCircuit.row T2 1 11 0 1 ref2 ref0 Row.off λ x. x
+  s2 = Reshare.k-sl-reshare RelayCircuit.row T2 1 10 0 1 ref2 ref0 Row.off λ x. x
 
   abbrev s3 : Typed.Asks T4 T5
-  s3 = Relend.k-sl-aggregate RelayCircuit.row (Relend.asShr RelayCircuit.row) T4 11 12 1 ref0 ref0 (λ x. x) (Scalar.oFld
+  s3 = Relend.k-sl-aggregate RelayCircuit.row (Relend.asShr RelayCircuit.row) T4 10 11 1 ref0 ref0 (λ x. x) (Scalar.oFld
       1 ((Syntax.field 1) ∷ List.[]) (Syntax.tyInt Syntax.w64) 8 λ v. Shared.lenV (v .0))
 
   abbrev args4 : Args'.ArgsT ps·0 (T5 .locals)
   args4 = (
-    record { pos = 12; ty = ref0; ref = λ x. x },
+    record { pos = 11; ty = ref0; ref = λ x. x },
     (record { pos = 2; st = List.[]; d = 0; at = λ x. x }, (Num.vAt 4 λ x. x, tt)),
   )
 
@@ -555,99 +521,90 @@ module _ (claims· : Claims) where
   s4 = Call.callB ps·0 r·0 (claims· .0) (claims· .1) T5 args4 7 (1 ∷ List.[]) (Syntax.tyInt Syntax.w64)
 
   abbrev s5 : Typed.Mo T6 → Typed.Mo T7
-  s5 = Scalar.n-room T6 12 slice0
+  s5 = Scalar.n-room T6 11 slice0
 
   abbrev s7 : Typed.Mo T7 → Typed.Mo T9
   s7 = Reshare.n-back-sl-shr RelayCircuit.row T7 1 0 1 ref2 Row.off λ x. x
 
-  abbrev s9 : Typed.Both T9 T11
-  s9 = Call.callB ps·1 r·1 (claims· .2) (claims· .3) T9 tt 8 List.[] Laws'.mir
+  abbrev s10 : Typed.Gives T9 T12
+  s10 = Reshare.k-sl-reshare RelayCircuit.row T9 1 12 0 2 ref2 ref0 Row.off λ x. x
 
-  abbrev s11 : Typed.Gives T11 T13
-  s11 = Reshare.k-sl-reshare RelayCircuit.row T11 1 13 0 2 ref2 ref0 Row.off λ x. x
-
-  abbrev s12 : Typed.Asks T13 T14
-  s12 = Relend.k-sl-aggregate RelayCircuit.row (Relend.asShr RelayCircuit.row) T13 13 14 2 ref0 ref0 (λ x. x) (Scalar.oFld
+  abbrev s11 : Typed.Asks T12 T13
+  s11 = Relend.k-sl-aggregate RelayCircuit.row (Relend.asShr RelayCircuit.row) T12 12 13 2 ref0 ref0 (λ x. x) (Scalar.oFld
       1 ((Syntax.field 1) ∷ List.[]) (Syntax.tyInt Syntax.w64) 8 λ v. Shared.lenV (v .0))
 
-  abbrev args13 : Args'.ArgsT ps·2 (T14 .locals)
-  args13 = (
-    record { pos = 14; ty = ref0; ref = λ x. x },
-    (record { pos = 2; st = List.[]; d = 0; at = λ x. x }, (record { pos = 8; st = List.[]; d = 0; at = λ x. x }, tt)),
-  )
+  abbrev args12 : Args'.ArgsT ps·1 (T13 .locals)
+  args12 = (record { pos = 13; ty = ref0; ref = λ x. x }, (record { pos = 2; st = List.[]; d = 0; at = λ x. x }, tt))
 
-  abbrev s13 : Typed.Both T14 T15
-  s13 = Call.callB ps·2 r·2 (claims· .4) (claims· .5) T14 args13 9 (2 ∷ List.[]) (Syntax.tyInt Syntax.w64)
+  abbrev s12 : Typed.Both T13 T14
+  s12 = Call.callB ps·1 r·1 (claims· .2) (claims· .3) T13 args12 8 (2 ∷ List.[]) (Syntax.tyInt Syntax.w64)
 
-  abbrev s14 : Typed.Mo T15 → Typed.Mo T16
-  s14 = Scalar.n-room T15 14 slice0
+  abbrev s13 : Typed.Mo T14 → Typed.Mo T15
+  s13 = Scalar.n-room T14 13 slice0
 
-  abbrev s15 : Typed.Mo T16 → Typed.Mo T17
-  s15 = Scalar.n-room T16 8 Laws'.mir
+  abbrev s15 : Typed.Mo T15 → Typed.Mo T17
+  s15 = Reshare.n-back-sl-shr RelayCircuit.row T15 1 0 2 ref2 Row.off λ x. x
 
-  abbrev s17 : Typed.Mo T17 → Typed.Mo T19
-  s17 = Reshare.n-back-sl-shr RelayCircuit.row T17 1 0 2 ref2 Row.off λ x. x
+  abbrev args17 : Args'.ArgsT ps·2 (T17 .locals)
+  args17 = (Num.vAt 7 λ x. x, (Num.vAt 6 λ x. x, (Num.vAt 8 λ x. x, tt)))
 
-  abbrev args19 : Args'.ArgsT ps·3 (T19 .locals)
-  args19 = (Num.vAt 7 λ x. x, (Num.vAt 6 λ x. x, (Num.vAt 9 λ x. x, tt)))
+  abbrev s17 : Typed.Both T17 T19
+  s17 = Call.callB ps·2 r·2 (claims· .4) (claims· .5) T17 args17 9 List.[] (Syntax.tyInt Syntax.w64)
 
-  abbrev s19 : Typed.Both T19 T21
-  s19 = Call.callB ps·3 r·3 (claims· .6) (claims· .7) T19 args19 10 List.[] (Syntax.tyInt Syntax.w64)
+  abbrev s19 : Typed.Gives T19 T21
+  s19 = Relend.k-sl-relend RelayCircuit.row T19 1 15 0 3 ref2 ref1 Row.off λ x. x
 
-  abbrev s21 : Typed.Gives T21 T23
-  s21 = Relend.k-sl-relend RelayCircuit.row T21 1 16 0 3 ref2 ref1 Row.off λ x. x
-
-  abbrev s22 : Typed.Asks T23 T24
-  s22 = Relend.k-sl-aggregate RelayCircuit.row (Relend.asMut RelayCircuit.row) T23 16 17 3 ref1 ref1 (λ x. x) (Scalar.oFld
+  abbrev s20 : Typed.Asks T21 T22
+  s20 = Relend.k-sl-aggregate RelayCircuit.row (Relend.asMut RelayCircuit.row) T21 15 16 3 ref1 ref1 (λ x. x) (Scalar.oFld
       1 ((Syntax.field 1) ∷ List.[]) (Syntax.tyInt Syntax.w64) 8 λ v. Shared.lenV (v .0))
 
-  abbrev args23 : Args'.ArgsT ps·4 (T24 .locals)
-  args23 = (
-    record { pos = 17; ty = ref1; ref = λ x. x },
-    (Bool.bAt 3 λ x. x, (Num.vAt 10 λ x. x, (record { pos = 5; st = List.[]; d = 0; at = λ x. x }, tt))),
+  abbrev args21 : Args'.ArgsT ps·3 (T22 .locals)
+  args21 = (
+    record { pos = 16; ty = ref1; ref = λ x. x },
+    (Bool.bAt 3 λ x. x, (Num.vAt 9 λ x. x, (record { pos = 5; st = List.[]; d = 0; at = λ x. x }, tt))),
   )
 
-  abbrev s23 : Typed.Both T24 T25
-  s23 = Call.callB ps·4 r·4 (claims· .8) (claims· .9) T24 args23 15 (3 ∷ List.[]) Syntax.tyUnit
+  abbrev s21 : Typed.Both T22 T23
+  s21 = Call.callB ps·3 r·3 (claims· .6) (claims· .7) T22 args21 14 (3 ∷ List.[]) Syntax.tyUnit
 
-  abbrev s24 : Typed.Mo T25 → Typed.Mo T26
-  s24 = Scalar.n-room T25 5 RelayCircuit.ty
+  abbrev s22 : Typed.Mo T23 → Typed.Mo T24
+  s22 = Scalar.n-room T23 5 RelayCircuit.ty
 
-  abbrev s25 : Typed.Mo T26 → Typed.Mo T27
-  s25 = Scalar.n-room T26 15 Syntax.tyUnit
+  abbrev s23 : Typed.Mo T24 → Typed.Mo T25
+  s23 = Scalar.n-room T24 14 Syntax.tyUnit
+
+  abbrev s25 : Typed.Both T25 T27
+  s25 = Relend.k-back-sl RelayCircuit.row T25 16 1 0 3 ref2 ref1 Row.off (λ x. x) λ x. x
+
+  abbrev args27 : Args'.ArgsT ps·4 (T27 .locals)
+  args27 = (
+    Num.vFld 2 ((Syntax.field 1) ∷ List.[]) 8 λ x. Places.struct .as-values x .1 .0,
+    (Bool.bAt 3 λ x. x, (Num.vAt 9 λ x. x, (Num.vAt 6 λ x. x, tt))),
+  )
 
   abbrev s27 : Typed.Both T27 T29
-  s27 = Relend.k-back-sl RelayCircuit.row T27 17 1 0 3 ref2 ref1 Row.off (λ x. x) λ x. x
+  s27 = Call.callB ps·4 r·4 (claims· .8) (claims· .9) T27 args27 0 List.[] (Syntax.tyInt Syntax.w64)
 
-  abbrev args29 : Args'.ArgsT ps·5 (T29 .locals)
-  args29 = (
-    Num.vFld 2 ((Syntax.field 1) ∷ List.[]) 8 λ x. Places.struct .as-values x .1 .0,
-    (Bool.bAt 3 λ x. x, (Num.vAt 10 λ x. x, (Num.vAt 6 λ x. x, tt))),
-  )
+  abbrev s28 : Typed.Mo T29 → Typed.Mo T30
+  s28 = Scalar.n-room T29 2 Laws.mir
 
-  abbrev s29 : Typed.Both T29 T31
-  s29 = Call.callB ps·5 r·5 (claims· .10) (claims· .11) T29 args29 0 List.[] (Syntax.tyInt Syntax.w64)
+  abbrev s29 : Typed.Mo T30 → Typed.Mo T31
+  s29 = Scalar.n-room T30 6 (Syntax.tyInt Syntax.w64)
 
   abbrev s30 : Typed.Mo T31 → Typed.Mo T32
-  s30 = Scalar.n-room T31 2 Laws.mir
+  s30 = Scalar.n-room T31 7 (Syntax.tyInt Syntax.w64)
 
   abbrev s31 : Typed.Mo T32 → Typed.Mo T33
-  s31 = Scalar.n-room T32 6 (Syntax.tyInt Syntax.w64)
+  s31 = Scalar.n-room T32 8 (Syntax.tyInt Syntax.w64)
 
   abbrev s32 : Typed.Mo T33 → Typed.Mo T34
-  s32 = Scalar.n-room T33 7 (Syntax.tyInt Syntax.w64)
+  s32 = Scalar.n-room T33 9 (Syntax.tyInt Syntax.w64)
 
   abbrev s33 : Typed.Mo T34 → Typed.Mo T35
-  s33 = Scalar.n-room T34 9 (Syntax.tyInt Syntax.w64)
+  s33 = Scalar.n-room T34 3 Syntax.tyBool
 
   abbrev s34 : Typed.Mo T35 → Typed.Mo T36
-  s34 = Scalar.n-room T35 10 (Syntax.tyInt Syntax.w64)
-
-  abbrev s35 : Typed.Mo T36 → Typed.Mo T37
-  s35 = Scalar.n-room T36 3 Syntax.tyBool
-
-  abbrev s36 : Typed.Mo T37 → Typed.Mo T38
-  s36 = Scalar.n-room T37 4 (Syntax.tyInt Syntax.w64)
+  s34 = Scalar.n-room T35 4 (Syntax.tyInt Syntax.w64)
 
   module _ (Pre· : (κs : Lifetimes.Lfts 1) → Kinds.Dens κs ps → Type 0) (Post· : (κs : Lifetimes.Lfts 1) →
       (a : Kinds.Dens κs ps) → Kinds.Plain 1 ps r κs) where
@@ -655,142 +612,134 @@ module _ (claims· : Claims) where
       abbrev pub Closed : Type 2
       Closed = (𝓤 : URA.URA M) (H : Wp.Heap 𝓤) (A : Atoms.Atoms 𝓤) (W : Kit.Given 𝓤 H A) (𝓣 : Wp.Tables 𝓤 H) (known0 :
           Plain.Known 𝓤 H A W 𝓣 1 ps·0 r·0 (claims· .0) (claims· .1) "hnsr_circuit::tables::circuits::find_circuit_id") (known1
-          : Plain.Known 𝓤 H A W 𝓣 0 ps·1 r·1 (claims· .2) (claims· .3) "hnsr_circuit::tables::question::unused") (known2
-          : Plain.Known 𝓤 H A W 𝓣 1 ps·2 r·2 (claims· .4) (claims· .5) "hnsr_circuit::tables::circuits::find_circuit") (known3
-          : Plain.Known 𝓤 H A W 𝓣 0 ps·3 r·3 (claims· .6) (claims· .7) "hnsr_circuit::tables::stores::put_place") (known4
-          : Plain.Known 𝓤 H A W 𝓣 1 ps·4 r·4 (claims· .8) (claims· .9) "hnsr_circuit::tables::circuits::set_circuit") (known5
-          : Plain.Known 𝓤 H A W 𝓣 0 ps·5 r·5 (claims· .10) (claims· .11) "hnsr_circuit::tables::places::raised") →
+          : Plain.Known 𝓤 H A W 𝓣 1 ps·1 r·1 (claims· .2) (claims· .3) "hnsr_circuit::tables::circuits::spare_circuit") (known2
+          : Plain.Known 𝓤 H A W 𝓣 0 ps·2 r·2 (claims· .4) (claims· .5) "hnsr_circuit::tables::stores::put_place") (known3
+          : Plain.Known 𝓤 H A W 𝓣 1 ps·3 r·3 (claims· .6) (claims· .7) "hnsr_circuit::tables::circuits::set_circuit") (known4
+          : Plain.Known 𝓤 H A W 𝓣 0 ps·4 r·4 (claims· .8) (claims· .9) "hnsr_circuit::tables::places::raised") →
           Statement.Triple 𝓤 (Wp.WpFn 𝓤 H (𝓣 .C) (𝓣 .Λ) (Function.fnOf 1 ps r xs m hs body))
           (Function.plainOf 𝓤 H A 1 ps r Pre· Post·)
 
     module _ where
-      abbrev at0 : Typed.TF T38 O0
+      abbrev at0 : Typed.TF T36 O0
       at0 = Typed.atRet O0
 
-      abbrev at1 : Typed.TF T37 O0
-      at1 = λ Ψ. Typed.pass T37 T38 s36 (at0 Ψ)
+      abbrev at1 : Typed.TF T35 O0
+      at1 = λ Ψ. Typed.pass T35 T36 s34 (at0 Ψ)
 
-      abbrev at2 : Typed.TF T36 O0
-      at2 = λ Ψ. Typed.pass T36 T37 s35 (at1 Ψ)
+      abbrev at2 : Typed.TF T34 O0
+      at2 = λ Ψ. Typed.pass T34 T35 s33 (at1 Ψ)
 
-      abbrev at3 : Typed.TF T35 O0
-      at3 = λ Ψ. Typed.pass T35 T36 s34 (at2 Ψ)
+      abbrev at3 : Typed.TF T33 O0
+      at3 = λ Ψ. Typed.pass T33 T34 s32 (at2 Ψ)
 
-      abbrev at4 : Typed.TF T34 O0
-      at4 = λ Ψ. Typed.pass T34 T35 s33 (at3 Ψ)
+      abbrev at4 : Typed.TF T32 O0
+      at4 = λ Ψ. Typed.pass T32 T33 s31 (at3 Ψ)
 
-      abbrev at5 : Typed.TF T33 O0
-      at5 = λ Ψ. Typed.pass T33 T34 s32 (at4 Ψ)
+      abbrev at5 : Typed.TF T31 O0
+      at5 = λ Ψ. Typed.pass T31 T32 s30 (at4 Ψ)
 
-      abbrev at6 : Typed.TF T32 O0
-      at6 = λ Ψ. Typed.pass T32 T33 s31 (at5 Ψ)
+      abbrev at6 : Typed.TF T30 O0
+      at6 = λ Ψ. Typed.pass T30 T31 s29 (at5 Ψ)
 
-      abbrev at7 : Typed.TF T31 O0
-      at7 = λ Ψ. Typed.pass T31 T32 s30 (at6 Ψ)
+      abbrev at7 : Typed.TF T29 O0
+      at7 = λ Ψ. Typed.pass T29 T30 s28 (at6 Ψ)
 
-      abbrev at8 : Typed.TF T29 O0
-      at8 = λ Ψ. Typed.both s29 (at7 Ψ)
+      abbrev at8 : Typed.TF T27 O0
+      at8 = λ Ψ. Typed.both s27 (at7 Ψ)
 
-      abbrev at9 : Typed.TF T29 O0
+      abbrev at9 : Typed.TF T27 O0
       at9 = λ Ψ. at8 Ψ
 
-      abbrev at10 : Typed.TF T27 O0
-      at10 = λ Ψ. Typed.both s27 (at9 Ψ)
+      abbrev at10 : Typed.TF T25 O0
+      at10 = λ Ψ. Typed.both s25 (at9 Ψ)
 
-      abbrev at11 : Typed.TF T27 O0
+      abbrev at11 : Typed.TF T25 O0
       at11 = λ Ψ. at10 Ψ
 
-      abbrev at12 : Typed.TF T26 O0
-      at12 = λ Ψ. Typed.pass T26 T27 s25 (at11 Ψ)
+      abbrev at12 : Typed.TF T24 O0
+      at12 = λ Ψ. Typed.pass T24 T25 s23 (at11 Ψ)
 
-      abbrev at13 : Typed.TF T25 O0
-      at13 = λ Ψ. Typed.pass T25 T26 s24 (at12 Ψ)
+      abbrev at13 : Typed.TF T23 O0
+      at13 = λ Ψ. Typed.pass T23 T24 s22 (at12 Ψ)
 
-      abbrev at14 : Typed.TF T24 O0
-      at14 = λ Ψ. Typed.both s23 (at13 Ψ)
+      abbrev at14 : Typed.TF T22 O0
+      at14 = λ Ψ. Typed.both s21 (at13 Ψ)
 
-      abbrev at15 : Typed.TF T23 O0
-      at15 = λ Ψ. Typed.ask s22 (at14 Ψ)
+      abbrev at15 : Typed.TF T21 O0
+      at15 = λ Ψ. Typed.ask s20 (at14 Ψ)
 
-      abbrev at16 : Typed.TF T21 O0
-      at16 = λ Ψ. Typed.give s21 (at15 Ψ)
+      abbrev at16 : Typed.TF T19 O0
+      at16 = λ Ψ. Typed.give s19 (at15 Ψ)
 
-      abbrev at17 : Typed.TF T21 O0
+      abbrev at17 : Typed.TF T19 O0
       at17 = λ Ψ. at16 Ψ
 
-      abbrev at18 : Typed.TF T19 O0
-      at18 = λ Ψ. Typed.both s19 (at17 Ψ)
+      abbrev at18 : Typed.TF T17 O0
+      at18 = λ Ψ. Typed.both s17 (at17 Ψ)
 
-      abbrev at19 : Typed.TF T19 O0
+      abbrev at19 : Typed.TF T17 O0
       at19 = λ Ψ. at18 Ψ
 
-      abbrev at20 : Typed.TF T17 O0
-      at20 = λ Ψ. Typed.pass T17 T19 s17 (at19 Ψ)
+      abbrev at20 : Typed.TF T15 O0
+      at20 = λ Ψ. Typed.pass T15 T17 s15 (at19 Ψ)
 
-      abbrev at21 : Typed.TF T17 O0
+      abbrev at21 : Typed.TF T15 O0
       at21 = λ Ψ. at20 Ψ
 
-      abbrev at22 : Typed.TF T16 O0
-      at22 = λ Ψ. Typed.pass T16 T17 s15 (at21 Ψ)
+      abbrev at22 : Typed.TF T14 O0
+      at22 = λ Ψ. Typed.pass T14 T15 s13 (at21 Ψ)
 
-      abbrev at23 : Typed.TF T15 O0
-      at23 = λ Ψ. Typed.pass T15 T16 s14 (at22 Ψ)
+      abbrev at23 : Typed.TF T13 O0
+      at23 = λ Ψ. Typed.both s12 (at22 Ψ)
 
-      abbrev at24 : Typed.TF T14 O0
-      at24 = λ Ψ. Typed.both s13 (at23 Ψ)
+      abbrev at24 : Typed.TF T12 O0
+      at24 = λ Ψ. Typed.ask s11 (at23 Ψ)
 
-      abbrev at25 : Typed.TF T13 O0
-      at25 = λ Ψ. Typed.ask s12 (at24 Ψ)
+      abbrev at25 : Typed.TF T9 O0
+      at25 = λ Ψ. Typed.give s10 (at24 Ψ)
 
-      abbrev at26 : Typed.TF T11 O0
-      at26 = λ Ψ. Typed.give s11 (at25 Ψ)
+      abbrev at26 : Typed.TF T9 O0
+      at26 = λ Ψ. at25 Ψ
 
-      abbrev at27 : Typed.TF T11 O0
+      abbrev at27 : Typed.TF T9 O0
       at27 = λ Ψ. at26 Ψ
 
-      abbrev at28 : Typed.TF T9 O0
-      at28 = λ Ψ. Typed.both s9 (at27 Ψ)
+      abbrev at28 : Typed.TF T7 O0
+      at28 = λ Ψ. Typed.pass T7 T9 s7 (at27 Ψ)
 
-      abbrev at29 : Typed.TF T9 O0
+      abbrev at29 : Typed.TF T7 O0
       at29 = λ Ψ. at28 Ψ
 
-      abbrev at30 : Typed.TF T7 O0
-      at30 = λ Ψ. Typed.pass T7 T9 s7 (at29 Ψ)
+      abbrev at30 : Typed.TF T6 O0
+      at30 = λ Ψ. Typed.pass T6 T7 s5 (at29 Ψ)
 
-      abbrev at31 : Typed.TF T7 O0
-      at31 = λ Ψ. at30 Ψ
+      abbrev at31 : Typed.TF T5 O0
+      at31 = λ Ψ. Typed.both s4 (at30 Ψ)
 
-      abbrev at32 : Typed.TF T6 O0
-      at32 = λ Ψ. Typed.pass T6 T7 s5 (at31 Ψ)
+      abbrev at32 : Typed.TF T4 O0
+      at32 = λ Ψ. Typed.ask s3 (at31 Ψ)
 
-      abbrev at33 : Typed.TF T5 O0
-      at33 = λ Ψ. Typed.both s4 (at32 Ψ)
+      abbrev at33 : Typed.TF T2 O0
+      at33 = λ Ψ. Typed.give s2 (at32 Ψ)
 
-      abbrev at34 : Typed.TF T4 O0
-      at34 = λ Ψ. Typed.ask s3 (at33 Ψ)
+      abbrev at34 : Typed.TF T2 O0
+      at34 = λ Ψ. at33 Ψ
 
-      abbrev at35 : Typed.TF T2 O0
-      at35 = λ Ψ. Typed.give s2 (at34 Ψ)
-
-      abbrev at36 : Typed.TF T2 O0
-      at36 = λ Ψ. at35 Ψ
-
-      abbrev at37 : Typed.TF T0 O0
-      at37 = λ Ψ. Typed.pass T0 T2 s0 (at36 Ψ)
+      abbrev at35 : Typed.TF T0 O0
+      at35 = λ Ψ. Typed.pass T0 T2 s0 (at34 Ψ)
 
       abbrev pub Φ : Typed.TF T0 O0
-      Φ = at37
+      Φ = at35
 
       module _ {M : Type 1} (𝓤 : URA.URA M) (H : Wp.Heap 𝓤) (A : Atoms.Atoms 𝓤) (W : Kit.Given 𝓤 H A)
           (𝓣 : Wp.Tables 𝓤 H) where
         abbrev Knowns : Type 1
         Knowns = Plain.Known 𝓤 H A W 𝓣 1 ps·0 r·0 (claims· .0) (claims· .1)
-            "hnsr_circuit::tables::circuits::find_circuit_id" × Plain.Known 𝓤 H A W 𝓣 0 ps·1 r·1 (claims· .2)
-            (claims· .3) "hnsr_circuit::tables::question::unused" × Plain.Known 𝓤 H A W 𝓣 1 ps·2 r·2 (claims· .4)
-            (claims· .5) "hnsr_circuit::tables::circuits::find_circuit" × Plain.Known 𝓤 H A W 𝓣 0 ps·3 r·3 (claims· .6)
-            (claims· .7) "hnsr_circuit::tables::stores::put_place" × Plain.Known 𝓤 H A W 𝓣 1 ps·4 r·4 (claims· .8)
-            (claims· .9) "hnsr_circuit::tables::circuits::set_circuit" × Plain.Known 𝓤 H A W 𝓣 0 ps·5 r·5 (claims· .10)
-            (claims· .11) "hnsr_circuit::tables::places::raised"
+            "hnsr_circuit::tables::circuits::find_circuit_id" × Plain.Known 𝓤 H A W 𝓣 1 ps·1 r·1 (claims· .2)
+            (claims· .3) "hnsr_circuit::tables::circuits::spare_circuit" × Plain.Known 𝓤 H A W 𝓣 0 ps·2 r·2
+            (claims· .4) (claims· .5) "hnsr_circuit::tables::stores::put_place" × Plain.Known 𝓤 H A W 𝓣 1 ps·3 r·3
+            (claims· .6) (claims· .7) "hnsr_circuit::tables::circuits::set_circuit" × Plain.Known 𝓤 H A W 𝓣 0 ps·4 r·4
+            (claims· .8) (claims· .9) "hnsr_circuit::tables::places::raised"
 
       module _ (κs : Lifetimes.Lfts 1) (qs : Lifetimes.Shares 1) where
         abbrev life0 : Row.Life
@@ -806,44 +755,44 @@ module _ (claims· : Claims) where
         l1·2 = (1, Relend.mslice-owed RelayCircuit.row ref2 0 3 life0)
 
         abbrev g4 : List.List Row.Entry
-        g4 = e0 ∷ l1 ∷ e2 ∷ e3 ∷ e4 ∷ e5 ∷ e6·1 ∷ e7 ∷ e8 ∷ e9 ∷ e10 ∷ e11·1 ∷ e12 ∷ e13 ∷ e14 ∷ e15 ∷ List.[]
+        g4 = e0 ∷ l1 ∷ e2 ∷ e3 ∷ e4 ∷ e5 ∷ e6·1 ∷ e7 ∷ e8 ∷ e9 ∷ e10·1 ∷ e11 ∷ e12 ∷ e13 ∷ e14 ∷ e15 ∷ List.[]
 
         abbrev g5 : List.List Row.Entry
-        g5 = e0 ∷ l1 ∷ e2 ∷ e3 ∷ e4 ∷ e5 ∷ e6·1 ∷ e7 ∷ e8 ∷ e9 ∷ e10 ∷ e11 ∷ e12·1 ∷ e13 ∷ e14 ∷ e15 ∷ List.[]
+        g5 = e0 ∷ l1 ∷ e2 ∷ e3 ∷ e4 ∷ e5 ∷ e6·1 ∷ e7 ∷ e8 ∷ e9 ∷ e10 ∷ e11·1 ∷ e12 ∷ e13 ∷ e14 ∷ e15 ∷ List.[]
 
         abbrev g6 : List.List Row.Entry
-        g6 = e0 ∷ l1 ∷ e2 ∷ e3 ∷ e4 ∷ e5 ∷ e6·1 ∷ e7·1 ∷ e8 ∷ e9 ∷ e10 ∷ e11 ∷ e12·1 ∷ e13 ∷ e14 ∷ e15 ∷ List.[]
+        g6 = e0 ∷ l1 ∷ e2 ∷ e3 ∷ e4 ∷ e5 ∷ e6·1 ∷ e7·1 ∷ e8 ∷ e9 ∷ e10 ∷ e11·1 ∷ e12 ∷ e13 ∷ e14 ∷ e15 ∷ List.[]
 
         abbrev g7 : List.List Row.Entry
         g7 = e0 ∷ l1 ∷ e2 ∷ e3 ∷ e4 ∷ e5 ∷ e6·1 ∷ e7·1 ∷ e8 ∷ e9 ∷ e10 ∷ e11 ∷ e12 ∷ e13 ∷ e14 ∷ e15 ∷ List.[]
 
+        abbrev g9 : List.List Row.Entry
+        g9 = e0 ∷ l1·1 ∷ e2 ∷ e3 ∷ e4 ∷ e5 ∷ e6·1 ∷ e7·1 ∷ e8 ∷ e9 ∷ e10 ∷ e11 ∷ e12·1 ∷ e13 ∷ e14 ∷ e15 ∷ List.[]
+
         abbrev g10 : List.List Row.Entry
-        g10 = e0 ∷ l1·1 ∷ e2 ∷ e3 ∷ e4 ∷ e5 ∷ e6·1 ∷ e7·1 ∷ e8·1 ∷ e9 ∷ e10 ∷ e11 ∷ e12 ∷ e13·1 ∷ e14 ∷ e15 ∷ List.[]
+        g10 = e0 ∷ l1·1 ∷ e2 ∷ e3 ∷ e4 ∷ e5 ∷ e6·1 ∷ e7·1 ∷ e8 ∷ e9 ∷ e10 ∷ e11 ∷ e12 ∷ e13·1 ∷ e14 ∷ e15 ∷ List.[]
 
         abbrev g11 : List.List Row.Entry
-        g11 = e0 ∷ l1·1 ∷ e2 ∷ e3 ∷ e4 ∷ e5 ∷ e6·1 ∷ e7·1 ∷ e8·1 ∷ e9 ∷ e10 ∷ e11 ∷ e12 ∷ e13 ∷ e14·1 ∷ e15 ∷ List.[]
+        g11 = e0 ∷ l1·1 ∷ e2 ∷ e3 ∷ e4 ∷ e5 ∷ e6·1 ∷ e7·1 ∷ e8·1 ∷ e9 ∷ e10 ∷ e11 ∷ e12 ∷ e13·1 ∷ e14 ∷ e15 ∷ List.[]
 
         abbrev g12 : List.List Row.Entry
-        g12 = e0 ∷ l1·1 ∷ e2 ∷ e3 ∷ e4 ∷ e5 ∷ e6·1 ∷ e7·1 ∷ e8·1 ∷ e9·1 ∷ e10 ∷ e11 ∷ e12 ∷ e13 ∷ e14·1 ∷ e15 ∷ List.[]
+        g12 = e0 ∷ l1·1 ∷ e2 ∷ e3 ∷ e4 ∷ e5 ∷ e6·1 ∷ e7·1 ∷ e8·1 ∷ e9 ∷ e10 ∷ e11 ∷ e12 ∷ e13 ∷ e14 ∷ e15 ∷ List.[]
 
-        abbrev g13 : List.List Row.Entry
-        g13 = e0 ∷ l1·1 ∷ e2 ∷ e3 ∷ e4 ∷ e5 ∷ e6·1 ∷ e7·1 ∷ e8·1 ∷ e9·1 ∷ e10 ∷ e11 ∷ e12 ∷ e13 ∷ e14 ∷ e15 ∷ List.[]
+        abbrev g15 : List.List Row.Entry
+        g15 = e0 ∷ l1·2 ∷ e2 ∷ e3 ∷ e4 ∷ e5 ∷ e6·1 ∷ e7·1 ∷ e8·1 ∷ e9·1 ∷ e10 ∷ e11 ∷ e12 ∷ e13 ∷ e14 ∷ e15·1 ∷ List.[]
 
-        abbrev g14 : List.List Row.Entry
-        g14 = e0 ∷ l1·1 ∷ e2 ∷ e3 ∷ e4 ∷ e5 ∷ e6·1 ∷ e7·1 ∷ e8 ∷ e9·1 ∷ e10 ∷ e11 ∷ e12 ∷ e13 ∷ e14 ∷ e15 ∷ List.[]
+        abbrev g16 : List.List Row.Entry
+        g16 = e0 ∷ l1·2 ∷ e2 ∷ e3 ∷ e4 ∷ e5 ∷ e6·1 ∷ e7·1 ∷ e8·1 ∷ e9·1 ∷ e10 ∷ e11 ∷ e12 ∷ e13 ∷ e14 ∷ e15 ∷ List.[]
 
-        abbrev g17 : List.List Row.Entry
-        g17 = e0 ∷ l1·2 ∷ e2 ∷ e3 ∷ e4 ∷ e5 ∷ e6·1 ∷ e7·1 ∷ e8 ∷ e9·1 ∷ e10·1 ∷ e11 ∷ e12 ∷ e13 ∷ e14 ∷ e15 ∷ List.[]
+        abbrev g18 : List.List Row.Entry
+        g18 = e0 ∷ l1·2 ∷ e2 ∷ e3 ∷ e4 ∷ e5 ∷ e6·1 ∷ e7·1 ∷ e8·1 ∷ e9·1 ∷ e10 ∷ e11 ∷ e12 ∷ e13 ∷ e14·1 ∷ e15 ∷ List.[]
 
         abbrev g20 : List.List Row.Entry
-        g20 = e0 ∷ l1·2 ∷ e2 ∷ e3 ∷ e4 ∷ e5 ∷ e6·1 ∷ e7·1 ∷ e8 ∷ e9·1 ∷ e10·1 ∷ e11 ∷ e12 ∷ e13 ∷ e14 ∷ e15·1 ∷ List.[]
-
-        abbrev g22 : List.List Row.Entry
-        g22 = e0 ∷ l1·2 ∷ e2 ∷ e3 ∷ e4 ∷ e5·1 ∷ e6·1 ∷ e7·1 ∷ e8 ∷ e9·1 ∷ e10·1 ∷ e11 ∷ e12 ∷ e13 ∷ e14 ∷ e15·1 ∷
+        g20 = e0 ∷ l1·2 ∷ e2 ∷ e3 ∷ e4 ∷ e5·1 ∷ e6·1 ∷ e7·1 ∷ e8·1 ∷ e9·1 ∷ e10 ∷ e11 ∷ e12 ∷ e13 ∷ e14·1 ∷ e15 ∷
             List.[]
 
-        abbrev g23 : List.List Row.Entry
-        g23 = e0 ∷ l1·2 ∷ e2 ∷ e3 ∷ e4 ∷ e5·1 ∷ e6·1 ∷ e7·1 ∷ e8 ∷ e9·1 ∷ e10·1 ∷ e11 ∷ e12 ∷ e13 ∷ e14 ∷ e15 ∷ List.[]
+        abbrev g21 : List.List Row.Entry
+        g21 = e0 ∷ l1·2 ∷ e2 ∷ e3 ∷ e4 ∷ e5·1 ∷ e6·1 ∷ e7·1 ∷ e8·1 ∷ e9·1 ∷ e10 ∷ e11 ∷ e12 ∷ e13 ∷ e14 ∷ e15 ∷ List.[]
 
         abbrev G0 : Row.Cx
         G0 = record { locals = List._++_ t0 t1; slots = life0 ∷ Row.off ∷ Row.off ∷ Row.off ∷ List.[] }
@@ -879,10 +828,10 @@ module _ (claims· : Claims) where
         G10 = record { locals = List._++_ t8 t1; slots = life0 ∷ Row.off ∷ Row.off ∷ Row.off ∷ List.[] }
 
         abbrev G11 : Row.Cx
-        G11 = record { locals = List._++_ t9 t1; slots = life0 ∷ Row.off ∷ Row.off ∷ Row.off ∷ List.[] }
+        G11 = record { locals = List._++_ t8 t1; slots = life0 ∷ Row.off ∷ Row.alive ∷ Row.off ∷ List.[] }
 
         abbrev G12 : Row.Cx
-        G12 = record { locals = List._++_ t9 t1; slots = life0 ∷ Row.off ∷ Row.alive ∷ Row.off ∷ List.[] }
+        G12 = record { locals = List._++_ g9 t1; slots = Row.off ∷ Row.off ∷ Row.alive ∷ Row.off ∷ List.[] }
 
         abbrev G13 : Row.Cx
         G13 = record { locals = List._++_ g10 t1; slots = Row.off ∷ Row.off ∷ Row.alive ∷ Row.off ∷ List.[] }
@@ -894,46 +843,46 @@ module _ (claims· : Claims) where
         G15 = record { locals = List._++_ g12 t1; slots = Row.off ∷ Row.off ∷ Row.alive ∷ Row.off ∷ List.[] }
 
         abbrev G16 : Row.Cx
-        G16 = record { locals = List._++_ g13 t1; slots = Row.off ∷ Row.off ∷ Row.alive ∷ Row.off ∷ List.[] }
+        G16 = record { locals = List._++_ g12 t1; slots = Row.off ∷ Row.off ∷ Row.dead ∷ Row.off ∷ List.[] }
 
         abbrev G17 : Row.Cx
-        G17 = record { locals = List._++_ g14 t1; slots = Row.off ∷ Row.off ∷ Row.alive ∷ Row.off ∷ List.[] }
+        G17 = record { locals = List._++_ t13 t1; slots = life0 ∷ Row.off ∷ Row.dead ∷ Row.off ∷ List.[] }
 
         abbrev G18 : Row.Cx
-        G18 = record { locals = List._++_ g14 t1; slots = Row.off ∷ Row.off ∷ Row.dead ∷ Row.off ∷ List.[] }
+        G18 = record { locals = List._++_ t13 t1; slots = life0 ∷ Row.off ∷ Row.off ∷ Row.off ∷ List.[] }
 
         abbrev G19 : Row.Cx
-        G19 = record { locals = List._++_ t15 t1; slots = life0 ∷ Row.off ∷ Row.dead ∷ Row.off ∷ List.[] }
+        G19 = record { locals = List._++_ t14 t1; slots = life0 ∷ Row.off ∷ Row.off ∷ Row.off ∷ List.[] }
 
         abbrev G20 : Row.Cx
-        G20 = record { locals = List._++_ t15 t1; slots = life0 ∷ Row.off ∷ Row.off ∷ Row.off ∷ List.[] }
+        G20 = record { locals = List._++_ t14 t1; slots = life0 ∷ Row.off ∷ Row.off ∷ Row.alive ∷ List.[] }
 
         abbrev G21 : Row.Cx
-        G21 = record { locals = List._++_ t16 t1; slots = life0 ∷ Row.off ∷ Row.off ∷ Row.off ∷ List.[] }
+        G21 = record { locals = List._++_ g15 t1; slots = Row.off ∷ Row.off ∷ Row.off ∷ Row.alive ∷ List.[] }
 
         abbrev G22 : Row.Cx
-        G22 = record { locals = List._++_ t16 t1; slots = life0 ∷ Row.off ∷ Row.off ∷ Row.alive ∷ List.[] }
+        G22 = record { locals = List._++_ g16 t17; slots = Row.off ∷ Row.off ∷ Row.off ∷ Row.alive ∷ List.[] }
 
         abbrev G23 : Row.Cx
-        G23 = record { locals = List._++_ g17 t18; slots = Row.off ∷ Row.off ∷ Row.off ∷ Row.alive ∷ List.[] }
+        G23 = record { locals = List._++_ g18 t19; slots = Row.off ∷ Row.off ∷ Row.off ∷ Row.alive ∷ List.[] }
 
         abbrev G24 : Row.Cx
-        G24 = record { locals = List._++_ g17 t19; slots = Row.off ∷ Row.off ∷ Row.off ∷ Row.alive ∷ List.[] }
+        G24 = record { locals = List._++_ g20 t19; slots = Row.off ∷ Row.off ∷ Row.off ∷ Row.alive ∷ List.[] }
 
         abbrev G25 : Row.Cx
-        G25 = record { locals = List._++_ g20 t21; slots = Row.off ∷ Row.off ∷ Row.off ∷ Row.alive ∷ List.[] }
+        G25 = record { locals = List._++_ g21 t19; slots = Row.off ∷ Row.off ∷ Row.off ∷ Row.alive ∷ List.[] }
 
         abbrev G26 : Row.Cx
-        G26 = record { locals = List._++_ g22 t21; slots = Row.off ∷ Row.off ∷ Row.off ∷ Row.alive ∷ List.[] }
+        G26 = record { locals = List._++_ g21 t19; slots = Row.off ∷ Row.off ∷ Row.off ∷ Row.dead ∷ List.[] }
 
         abbrev G27 : Row.Cx
-        G27 = record { locals = List._++_ g23 t21; slots = Row.off ∷ Row.off ∷ Row.off ∷ Row.alive ∷ List.[] }
+        G27 = record { locals = List._++_ t22 t1; slots = life0 ∷ Row.off ∷ Row.off ∷ Row.dead ∷ List.[] }
 
         abbrev G28 : Row.Cx
-        G28 = record { locals = List._++_ g23 t21; slots = Row.off ∷ Row.off ∷ Row.off ∷ Row.dead ∷ List.[] }
+        G28 = record { locals = List._++_ t22 t1; slots = life0 ∷ Row.off ∷ Row.off ∷ Row.off ∷ List.[] }
 
         abbrev G29 : Row.Cx
-        G29 = record { locals = List._++_ t24 t1; slots = life0 ∷ Row.off ∷ Row.off ∷ Row.dead ∷ List.[] }
+        G29 = record { locals = List._++_ t23 t1; slots = life0 ∷ Row.off ∷ Row.off ∷ Row.off ∷ List.[] }
 
         abbrev G30 : Row.Cx
         G30 = record { locals = List._++_ t24 t1; slots = life0 ∷ Row.off ∷ Row.off ∷ Row.off ∷ List.[] }
@@ -954,13 +903,7 @@ module _ (claims· : Claims) where
         G35 = record { locals = List._++_ t29 t1; slots = life0 ∷ Row.off ∷ Row.off ∷ Row.off ∷ List.[] }
 
         abbrev G36 : Row.Cx
-        G36 = record { locals = List._++_ t30 t1; slots = life0 ∷ Row.off ∷ Row.off ∷ Row.off ∷ List.[] }
-
-        abbrev G37 : Row.Cx
-        G37 = record { locals = List._++_ t31 t1; slots = life0 ∷ Row.off ∷ Row.off ∷ Row.off ∷ List.[] }
-
-        abbrev G38 : Row.Cx
-        G38 = record { locals = List._++_ t2 t1; slots = life0 ∷ Row.off ∷ Row.off ∷ Row.off ∷ List.[] }
+        G36 = record { locals = List._++_ t2 t1; slots = life0 ∷ Row.off ∷ Row.off ∷ Row.off ∷ List.[] }
 
         abbrev Δ0 : Typed.Outs
         Δ0 = record { next = Option.none; exits = List.[]; returns = Option.some G1 }
@@ -971,43 +914,43 @@ module _ (claims· : Claims) where
           abbrev E : Wp.Env 𝓤 H
           E = Frame.EnvOf 𝓤 H ((Kinds.tyR r) ∷ (Enter.tysP ps xs)) bs
 
-          d0 : Typed.Typed 𝓤 H A 𝓣 E G38 b13 Δ0 at0
+          d0 : Typed.Typed 𝓤 H A 𝓣 E G36 b12 Δ0 at0
           d0 = Typed.t-return 𝓤 H A W 𝓣 E Δ0 tt
 
-          d1 : Typed.Typed 𝓤 H A 𝓣 E G37 b13 Δ0 at1
-          d1 = Typed.g-pre 𝓤 H A W 𝓣 E G37 G38 b13 Δ0 (Typed.pass T37 T38 s36) at0 (Scalar.g-room 𝓤 H A W E G37 4
+          d1 : Typed.Typed 𝓤 H A 𝓣 E G35 b12 Δ0 at1
+          d1 = Typed.g-pre 𝓤 H A W 𝓣 E G35 G36 b12 Δ0 (Typed.pass T35 T36 s34) at0 (Scalar.g-room 𝓤 H A W E G35 4
               (Syntax.tyInt Syntax.w64) (Scalar.room-sc 𝓤 H A W (Row.sInt Syntax.w64))) d0
 
-          d2 : Typed.Typed 𝓤 H A 𝓣 E G36 b13 Δ0 at2
-          d2 = Typed.g-pre 𝓤 H A W 𝓣 E G36 G37 b13 Δ0 (Typed.pass T36 T37 s35) at1 (Scalar.g-room 𝓤 H A W E G36 3
+          d2 : Typed.Typed 𝓤 H A 𝓣 E G34 b12 Δ0 at2
+          d2 = Typed.g-pre 𝓤 H A W 𝓣 E G34 G35 b12 Δ0 (Typed.pass T34 T35 s33) at1 (Scalar.g-room 𝓤 H A W E G34 3
               Syntax.tyBool (Scalar.room-sc 𝓤 H A W Row.sBool)) d1
 
-          d3 : Typed.Typed 𝓤 H A 𝓣 E G35 b13 Δ0 at3
-          d3 = Typed.g-pre 𝓤 H A W 𝓣 E G35 G36 b13 Δ0 (Typed.pass T35 T36 s34) at2 (Scalar.g-room 𝓤 H A W E G35 10
+          d3 : Typed.Typed 𝓤 H A 𝓣 E G33 b12 Δ0 at3
+          d3 = Typed.g-pre 𝓤 H A W 𝓣 E G33 G34 b12 Δ0 (Typed.pass T33 T34 s32) at2 (Scalar.g-room 𝓤 H A W E G33 9
               (Syntax.tyInt Syntax.w64) (Scalar.room-sc 𝓤 H A W (Row.sInt Syntax.w64))) d2
 
-          d4 : Typed.Typed 𝓤 H A 𝓣 E G34 b13 Δ0 at4
-          d4 = Typed.g-pre 𝓤 H A W 𝓣 E G34 G35 b13 Δ0 (Typed.pass T34 T35 s33) at3 (Scalar.g-room 𝓤 H A W E G34 9
+          d4 : Typed.Typed 𝓤 H A 𝓣 E G32 b12 Δ0 at4
+          d4 = Typed.g-pre 𝓤 H A W 𝓣 E G32 G33 b12 Δ0 (Typed.pass T32 T33 s31) at3 (Scalar.g-room 𝓤 H A W E G32 8
               (Syntax.tyInt Syntax.w64) (Scalar.room-sc 𝓤 H A W (Row.sInt Syntax.w64))) d3
 
-          d5 : Typed.Typed 𝓤 H A 𝓣 E G33 b13 Δ0 at5
-          d5 = Typed.g-pre 𝓤 H A W 𝓣 E G33 G34 b13 Δ0 (Typed.pass T33 T34 s32) at4 (Scalar.g-room 𝓤 H A W E G33 7
+          d5 : Typed.Typed 𝓤 H A 𝓣 E G31 b12 Δ0 at5
+          d5 = Typed.g-pre 𝓤 H A W 𝓣 E G31 G32 b12 Δ0 (Typed.pass T31 T32 s30) at4 (Scalar.g-room 𝓤 H A W E G31 7
               (Syntax.tyInt Syntax.w64) (Scalar.room-sc 𝓤 H A W (Row.sInt Syntax.w64))) d4
 
-          d6 : Typed.Typed 𝓤 H A 𝓣 E G32 b13 Δ0 at6
-          d6 = Typed.g-pre 𝓤 H A W 𝓣 E G32 G33 b13 Δ0 (Typed.pass T32 T33 s31) at5 (Scalar.g-room 𝓤 H A W E G32 6
+          d6 : Typed.Typed 𝓤 H A 𝓣 E G30 b12 Δ0 at6
+          d6 = Typed.g-pre 𝓤 H A W 𝓣 E G30 G31 b12 Δ0 (Typed.pass T30 T31 s29) at5 (Scalar.g-room 𝓤 H A W E G30 6
               (Syntax.tyInt Syntax.w64) (Scalar.room-sc 𝓤 H A W (Row.sInt Syntax.w64))) d5
 
-          d7 : Typed.Typed 𝓤 H A 𝓣 E G31 b13 Δ0 at7
-          d7 = Typed.g-pre 𝓤 H A W 𝓣 E G31 G32 b13 Δ0 (Typed.pass T31 T32 s30) at6 (Scalar.g-room 𝓤 H A W E G31 2
+          d7 : Typed.Typed 𝓤 H A 𝓣 E G29 b12 Δ0 at7
+          d7 = Typed.g-pre 𝓤 H A W 𝓣 E G29 G30 b12 Δ0 (Typed.pass T29 T30 s28) at6 (Scalar.g-room 𝓤 H A W E G29 2
               Laws.mir (Local.room-whole 𝓤 H A W (Declared.row Places.the-type) Laws.mir Path.refl)) d6
 
-          d8 : Typed.Typed 𝓤 H A 𝓣 E G30 b14 Δ0 at8
-          d8 = Typed.s-seq 𝓤 H A W 𝓣 E G30 G31 b12 b13 Δ0 (Typed.both s29) at7 (Plain.t-call-plain 𝓤 H A W 𝓣 0 ps·5 r·5
-              (claims· .10) (claims· .11) "hnsr_circuit::tables::places::raised" (known .5) E (λ pos β. β) G30 (
+          d8 : Typed.Typed 𝓤 H A 𝓣 E G28 b13 Δ0 at8
+          d8 = Typed.s-seq 𝓤 H A W 𝓣 E G28 G29 b11 b12 Δ0 (Typed.both s27) at7 (Plain.t-call-plain 𝓤 H A W 𝓣 0 ps·4 r·4
+              (claims· .8) (claims· .9) "hnsr_circuit::tables::places::raised" (known .4) E (λ pos β. β) G28 (
                 Num.vFld 2 ((Syntax.field 1) ∷ List.[]) 8 λ x. Places.struct .as-values x .1 .0,
-                (Bool.bAt 3 λ x. x, (Num.vAt 10 λ x. x, (Num.vAt 6 λ x. x, tt))),
-              ) 0 List.[] (Call.sub-id 𝓤 H A W (G30 .slots)) (
+                (Bool.bAt 3 λ x. x, (Num.vAt 9 λ x. x, (Num.vAt 6 λ x. x, tt))),
+              ) 0 List.[] (Call.sub-id 𝓤 H A W (G28 .slots)) (
                 (
                   Reads.reads-field 𝓤 H A W Places.the-type Laws.the-laws 1 (Syntax.tyInt Syntax.w64) 8 Path.refl,
                   Path.refl,
@@ -1021,33 +964,33 @@ module _ (claims· : Claims) where
                 ),
               ) (Reads'.room-gone 𝓤 H A (Syntax.tyInt Syntax.w64)) tt Path.refl) d7
 
-          d9 : Typed.Typed 𝓤 H A 𝓣 E G29 b14 Δ0 at9
-          d9 = Typed.g-pre 𝓤 H A W 𝓣 E G29 G30 b14 Δ0 (λ Ψ. Ψ) at8
-              (Lifetime.g-forget 𝓤 H A W E G29 3 Row.dead Path.refl) d8
+          d9 : Typed.Typed 𝓤 H A 𝓣 E G27 b13 Δ0 at9
+          d9 = Typed.g-pre 𝓤 H A W 𝓣 E G27 G28 b13 Δ0 (λ Ψ. Ψ) at8
+              (Lifetime.g-forget 𝓤 H A W E G27 3 Row.dead Path.refl) d8
 
-          d10 : Typed.Typed 𝓤 H A 𝓣 E G28 b14 Δ0 at10
-          d10 = Typed.g-pre 𝓤 H A W 𝓣 E G28 G29 b14 Δ0 (Typed.both s27) at9 (Relend.g-back-sl 𝓤 H A W E
-              RelayCircuit.row G28 17 1 0 3 ref2 ref1 life0 (λ x. x) (λ x. x)
+          d10 : Typed.Typed 𝓤 H A 𝓣 E G26 b13 Δ0 at10
+          d10 = Typed.g-pre 𝓤 H A W 𝓣 E G26 G27 b13 Δ0 (Typed.both s25) at9 (Relend.g-back-sl 𝓤 H A W E
+              RelayCircuit.row G26 16 1 0 3 ref2 ref1 life0 (λ x. x) (λ x. x)
               (Reads'.as-is 𝓤 H A (Mut.msleft RelayCircuit.row ref1)) (Reads'.as-is 𝓤 H A
               (Relend.mslice-owed RelayCircuit.row ref2 0 3 life0)) Path.refl Path.refl) d9
 
-          d11 : Typed.Typed 𝓤 H A 𝓣 E G27 b14 Δ0 at11
-          d11 = Typed.g-pre 𝓤 H A W 𝓣 E G27 G28 b14 Δ0 (λ Ψ. Ψ) at10 (Lifetime.g-end 𝓤 H A W E G27 3 Path.refl) d10
+          d11 : Typed.Typed 𝓤 H A 𝓣 E G25 b13 Δ0 at11
+          d11 = Typed.g-pre 𝓤 H A W 𝓣 E G25 G26 b13 Δ0 (λ Ψ. Ψ) at10 (Lifetime.g-end 𝓤 H A W E G25 3 Path.refl) d10
 
-          d12 : Typed.Typed 𝓤 H A 𝓣 E G26 b14 Δ0 at12
-          d12 = Typed.g-pre 𝓤 H A W 𝓣 E G26 G27 b14 Δ0 (Typed.pass T26 T27 s25) at11 (Scalar.g-room 𝓤 H A W E G26 15
+          d12 : Typed.Typed 𝓤 H A 𝓣 E G24 b13 Δ0 at12
+          d12 = Typed.g-pre 𝓤 H A W 𝓣 E G24 G25 b13 Δ0 (Typed.pass T24 T25 s23) at11 (Scalar.g-room 𝓤 H A W E G24 14
               Syntax.tyUnit (Scalar.room-sc 𝓤 H A W Row.sUnit)) d11
 
-          d13 : Typed.Typed 𝓤 H A 𝓣 E G25 b14 Δ0 at13
-          d13 = Typed.g-pre 𝓤 H A W 𝓣 E G25 G26 b14 Δ0 (Typed.pass T25 T26 s24) at12 (Scalar.g-room 𝓤 H A W E G25 5
+          d13 : Typed.Typed 𝓤 H A 𝓣 E G23 b13 Δ0 at13
+          d13 = Typed.g-pre 𝓤 H A W 𝓣 E G23 G24 b13 Δ0 (Typed.pass T23 T24 s22) at12 (Scalar.g-room 𝓤 H A W E G23 5
               RelayCircuit.ty (Local.room-whole 𝓤 H A W RelayCircuit.row RelayCircuit.ty Path.refl)) d12
 
-          d14 : Typed.Typed 𝓤 H A 𝓣 E G24 b15 Δ0 at14
-          d14 = Typed.s-seq 𝓤 H A W 𝓣 E G24 G25 b11 b14 Δ0 (Typed.both s23) at13 (Plain.t-call-plain 𝓤 H A W 𝓣 1 ps·4
-              r·4 (claims· .8) (claims· .9) "hnsr_circuit::tables::circuits::set_circuit" (known .4) E (λ pos β. β) G24 (
-                record { pos = 17; ty = ref1; ref = λ x. x },
-                (Bool.bAt 3 λ x. x, (Num.vAt 10 λ x. x, (record { pos = 5; st = List.[]; d = 0; at = λ x. x }, tt))),
-              ) 15 (3 ∷ List.[]) (Call.sub-id 𝓤 H A W (G24 .slots)) (
+          d14 : Typed.Typed 𝓤 H A 𝓣 E G22 b14 Δ0 at14
+          d14 = Typed.s-seq 𝓤 H A W 𝓣 E G22 G23 b10 b13 Δ0 (Typed.both s21) at13 (Plain.t-call-plain 𝓤 H A W 𝓣 1 ps·3
+              r·3 (claims· .6) (claims· .7) "hnsr_circuit::tables::circuits::set_circuit" (known .3) E (λ pos β. β) G22 (
+                record { pos = 16; ty = ref1; ref = λ x. x },
+                (Bool.bAt 3 λ x. x, (Num.vAt 9 λ x. x, (record { pos = 5; st = List.[]; d = 0; at = λ x. x }, tt))),
+              ) 14 (3 ∷ List.[]) (Call.sub-id 𝓤 H A W (G22 .slots)) (
                 Reads'.as-is 𝓤 H A (Mut.mslice RelayCircuit.row ref1 3),
                 Mut.reads-mslice 𝓤 H A W RelayCircuit.row ref1 3,
                 Path.refl,
@@ -1069,33 +1012,33 @@ module _ (claims· : Claims) where
                 ),
               ) (Reads'.room-gone 𝓤 H A Syntax.tyUnit) (tt, tt) Path.refl) d13
 
-          d15 : Typed.Typed 𝓤 H A 𝓣 E G23 b16 Δ0 at15
-          d15 = Typed.s-seq 𝓤 H A W 𝓣 E G23 G24 b10 b15 Δ0 (Typed.ask s22) at14 (Relend.t-sl-aggregate 𝓤 H A W E
-              RelayCircuit.row 𝓣 (Relend.asMut RelayCircuit.row) G23 16 17 3 ref1 ref1 (λ x. x) (Scalar.oFld 1
+          d15 : Typed.Typed 𝓤 H A 𝓣 E G21 b15 Δ0 at15
+          d15 = Typed.s-seq 𝓤 H A W 𝓣 E G21 G22 b9 b14 Δ0 (Typed.ask s20) at14 (Relend.t-sl-aggregate 𝓤 H A W E
+              RelayCircuit.row 𝓣 (Relend.asMut RelayCircuit.row) G21 15 16 3 ref1 ref1 (λ x. x) (Scalar.oFld 1
               ((Syntax.field 1) ∷ List.[]) (Syntax.tyInt Syntax.w64) 8 λ v. Shared.lenV (v .0))
               (Reads'.as-is 𝓤 H A (Relend.msptr RelayCircuit.row ref1 3)) (Reads'.room-gone 𝓤 H A slice1) (
                 Relend.reads-owed-len 𝓤 H A W RelayCircuit.row ref2 0 3 life0 8 Path.refl,
                 Path.refl,
               ) Path.refl Path.refl λ b o k. tt) d14
 
-          d16 : Typed.Typed 𝓤 H A 𝓣 E G22 b17 Δ0 at16
-          d16 = Typed.s-seq 𝓤 H A W 𝓣 E G22 G23 b9 b16 Δ0 (Typed.give s21) at15 (Relend.t-sl-relend 𝓤 H A W E
-              RelayCircuit.row 𝓣 G22 1 16 0 3 ref2 ref1 life0 0 (λ x. x)
+          d16 : Typed.Typed 𝓤 H A 𝓣 E G20 b16 Δ0 at16
+          d16 = Typed.s-seq 𝓤 H A W 𝓣 E G20 G21 b8 b15 Δ0 (Typed.give s19) at15 (Relend.t-sl-relend 𝓤 H A W E
+              RelayCircuit.row 𝓣 G20 1 15 0 3 ref2 ref1 life0 0 (λ x. x)
               (Reads'.as-is 𝓤 H A (Mut.mslice RelayCircuit.row ref2 0)) (Reads'.room-gone 𝓤 H A ref1) Path.refl tt
               Path.refl Path.refl Path.refl λ b o. tt) d15
 
-          d17 : Typed.Typed 𝓤 H A 𝓣 E G21 b17 Δ0 at17
-          d17 = Typed.g-pre 𝓤 H A W 𝓣 E G21 G22 b17 Δ0 (λ Ψ. Ψ) at16 (Lifetime.g-begin 𝓤 H A W E G21 3 (
+          d17 : Typed.Typed 𝓤 H A 𝓣 E G19 b16 Δ0 at17
+          d17 = Typed.g-pre 𝓤 H A W 𝓣 E G19 G20 b16 Δ0 (λ Ψ. Ψ) at16 (Lifetime.g-begin 𝓤 H A W E G19 3 (
             tt,
-            (tt, (tt, (tt, (tt, (tt, (tt, (tt, (tt, (tt, (tt, (tt, (tt, (tt, (tt, (tt, (tt, (tt, tt))))))))))))))))),
+            (tt, (tt, (tt, (tt, (tt, (tt, (tt, (tt, (tt, (tt, (tt, (tt, (tt, (tt, (tt, (tt, tt)))))))))))))))),
           )) d16
 
-          d18 : Typed.Typed 𝓤 H A 𝓣 E G20 b18 Δ0 at18
-          d18 = Typed.s-seq 𝓤 H A W 𝓣 E G20 G21 b8 b17 Δ0 (Typed.both s19) at17 (Plain.t-call-plain 𝓤 H A W 𝓣 0 ps·3
-              r·3 (claims· .6) (claims· .7) "hnsr_circuit::tables::stores::put_place" (known .3) E (λ pos β. β) G20 (
+          d18 : Typed.Typed 𝓤 H A 𝓣 E G18 b17 Δ0 at18
+          d18 = Typed.s-seq 𝓤 H A W 𝓣 E G18 G19 b7 b16 Δ0 (Typed.both s17) at17 (Plain.t-call-plain 𝓤 H A W 𝓣 0 ps·2
+              r·2 (claims· .4) (claims· .5) "hnsr_circuit::tables::stores::put_place" (known .2) E (λ pos β. β) G18 (
                 Num.vAt 7 λ x. x,
-                (Num.vAt 6 λ x. x, (Num.vAt 9 λ x. x, tt)),
-              ) 10 List.[] (Call.sub-id 𝓤 H A W (G20 .slots)) (
+                (Num.vAt 6 λ x. x, (Num.vAt 8 λ x. x, tt)),
+              ) 9 List.[] (Call.sub-id 𝓤 H A W (G18 .slots)) (
                 (Scalar.reads-sc 𝓤 H A W (Row.sInt Syntax.w64), Path.refl),
                 (
                   (Scalar.reads-sc 𝓤 H A W (Row.sInt Syntax.w64), Path.refl),
@@ -1103,36 +1046,29 @@ module _ (claims· : Claims) where
                 ),
               ) (Reads'.room-gone 𝓤 H A (Syntax.tyInt Syntax.w64)) tt Path.refl) d17
 
-          d19 : Typed.Typed 𝓤 H A 𝓣 E G19 b18 Δ0 at19
-          d19 = Typed.g-pre 𝓤 H A W 𝓣 E G19 G20 b18 Δ0 (λ Ψ. Ψ) at18
-              (Lifetime.g-forget 𝓤 H A W E G19 2 Row.dead Path.refl) d18
+          d19 : Typed.Typed 𝓤 H A 𝓣 E G17 b17 Δ0 at19
+          d19 = Typed.g-pre 𝓤 H A W 𝓣 E G17 G18 b17 Δ0 (λ Ψ. Ψ) at18
+              (Lifetime.g-forget 𝓤 H A W E G17 2 Row.dead Path.refl) d18
 
-          d20 : Typed.Typed 𝓤 H A 𝓣 E G18 b18 Δ0 at20
-          d20 = Typed.g-pre 𝓤 H A W 𝓣 E G18 G19 b18 Δ0 (Typed.pass T17 T19 s17) at19 (Reshare.g-back-sl-shr 𝓤 H A W E
-              RelayCircuit.row G18 1 0 2 ref2 life0 (λ x. x) (Reads'.as-is 𝓤 H A
+          d20 : Typed.Typed 𝓤 H A 𝓣 E G16 b17 Δ0 at20
+          d20 = Typed.g-pre 𝓤 H A W 𝓣 E G16 G17 b17 Δ0 (Typed.pass T15 T17 s15) at19 (Reshare.g-back-sl-shr 𝓤 H A W E
+              RelayCircuit.row G16 1 0 2 ref2 life0 (λ x. x) (Reads'.as-is 𝓤 H A
               (Reshare.mslice-owedS RelayCircuit.row ref2 0 2 life0)) Path.refl Path.refl) d19
 
-          d21 : Typed.Typed 𝓤 H A 𝓣 E G17 b18 Δ0 at21
-          d21 = Typed.g-pre 𝓤 H A W 𝓣 E G17 G18 b18 Δ0 (λ Ψ. Ψ) at20 (Lifetime.g-end 𝓤 H A W E G17 2 Path.refl) d20
+          d21 : Typed.Typed 𝓤 H A 𝓣 E G15 b17 Δ0 at21
+          d21 = Typed.g-pre 𝓤 H A W 𝓣 E G15 G16 b17 Δ0 (λ Ψ. Ψ) at20 (Lifetime.g-end 𝓤 H A W E G15 2 Path.refl) d20
 
-          d22 : Typed.Typed 𝓤 H A 𝓣 E G16 b18 Δ0 at22
-          d22 = Typed.g-pre 𝓤 H A W 𝓣 E G16 G17 b18 Δ0 (Typed.pass T16 T17 s15) at21 (Scalar.g-room 𝓤 H A W E G16 8
-              Laws'.mir (Local.room-whole 𝓤 H A W (Declared.row Question.the-type) Laws'.mir Path.refl)) d21
+          d22 : Typed.Typed 𝓤 H A 𝓣 E G14 b17 Δ0 at22
+          d22 = Typed.g-pre 𝓤 H A W 𝓣 E G14 G15 b17 Δ0 (Typed.pass T14 T15 s13) at21 (Scalar.g-room 𝓤 H A W E G14 13
+              slice0 (Shared.room-sslice 𝓤 H A W RelayCircuit.row ref0 2)) d21
 
-          d23 : Typed.Typed 𝓤 H A 𝓣 E G15 b18 Δ0 at23
-          d23 = Typed.g-pre 𝓤 H A W 𝓣 E G15 G16 b18 Δ0 (Typed.pass T15 T16 s14) at22 (Scalar.g-room 𝓤 H A W E G15 14
-              slice0 (Shared.room-sslice 𝓤 H A W RelayCircuit.row ref0 2)) d22
-
-          d24 : Typed.Typed 𝓤 H A 𝓣 E G14 b19 Δ0 at24
-          d24 = Typed.s-seq 𝓤 H A W 𝓣 E G14 G15 b7 b18 Δ0 (Typed.both s13) at23 (Plain.t-call-plain 𝓤 H A W 𝓣 1 ps·2
-              r·2 (claims· .4) (claims· .5) "hnsr_circuit::tables::circuits::find_circuit" (known .2) E (λ pos β. β)
-              G14 (
-                record { pos = 14; ty = ref0; ref = λ x. x },
-                (
-                  record { pos = 2; st = List.[]; d = 0; at = λ x. x },
-                  (record { pos = 8; st = List.[]; d = 0; at = λ x. x }, tt),
-                ),
-              ) 9 (2 ∷ List.[]) (Call.sub-id 𝓤 H A W (G14 .slots)) (
+          d23 : Typed.Typed 𝓤 H A 𝓣 E G13 b18 Δ0 at23
+          d23 = Typed.s-seq 𝓤 H A W 𝓣 E G13 G14 b6 b17 Δ0 (Typed.both s12) at22 (Plain.t-call-plain 𝓤 H A W 𝓣 1 ps·1
+              r·1 (claims· .2) (claims· .3) "hnsr_circuit::tables::circuits::spare_circuit" (known .1) E (λ pos β. β)
+              G13 (
+                record { pos = 13; ty = ref0; ref = λ x. x },
+                (record { pos = 2; st = List.[]; d = 0; at = λ x. x }, tt),
+              ) 8 (2 ∷ List.[]) (Call.sub-id 𝓤 H A W (G13 .slots)) (
                 ShrSlice.spares-sslice 𝓤 H A W RelayCircuit.row ref0 2,
                 Shared.reads-sslice 𝓤 H A W RelayCircuit.row ref0 2,
                 Path.refl,
@@ -1145,66 +1081,51 @@ module _ (claims· : Claims) where
                         (Declared.row Places.the-type) ρ,
                     Path.refl,
                   ),
-                  (
-                    (
-                      Yields.yields-copy 𝓤 H A W (λ ρ. Unit) (Declared.row Question.the-type) Path.refl (Copies.cStruct
-                          Question.the-type Laws'.the-laws Laws'.the-copy .copy 𝓤 H A W)
-                          (Rows.whole (Declared.row Question.the-type)) (λ x. x) (λ x. x) (λ ρ told. Local.mem-whole 𝓤
-                          H A W (Declared.row Question.the-type) ρ) λ ρ told. Local.whole-mem 𝓤 H A W
-                          (Declared.row Question.the-type) ρ,
-                      Path.refl,
-                    ),
-                    tt,
-                  ),
+                  tt,
                 ),
-              ) (Reads'.room-gone 𝓤 H A (Syntax.tyInt Syntax.w64)) (tt, tt) Path.refl) d23
+              ) (Reads'.room-gone 𝓤 H A (Syntax.tyInt Syntax.w64)) (tt, tt) Path.refl) d22
 
-          d25 : Typed.Typed 𝓤 H A 𝓣 E G13 b20 Δ0 at25
-          d25 = Typed.s-seq 𝓤 H A W 𝓣 E G13 G14 b6 b19 Δ0 (Typed.ask s12) at24 (Relend.t-sl-aggregate 𝓤 H A W E
-              RelayCircuit.row 𝓣 (Relend.asShr RelayCircuit.row) G13 13 14 2 ref0 ref0 (λ x. x) (Scalar.oFld 1
+          d24 : Typed.Typed 𝓤 H A 𝓣 E G12 b19 Δ0 at24
+          d24 = Typed.s-seq 𝓤 H A W 𝓣 E G12 G13 b5 b18 Δ0 (Typed.ask s11) at23 (Relend.t-sl-aggregate 𝓤 H A W E
+              RelayCircuit.row 𝓣 (Relend.asShr RelayCircuit.row) G12 12 13 2 ref0 ref0 (λ x. x) (Scalar.oFld 1
               ((Syntax.field 1) ∷ List.[]) (Syntax.tyInt Syntax.w64) 8 λ v. Shared.lenV (v .0))
               (Reads'.as-is 𝓤 H A (Relend.ssptr RelayCircuit.row ref0 2)) (Reads'.room-gone 𝓤 H A slice0) (
                 Reshare.reads-owedS-len 𝓤 H A W RelayCircuit.row ref2 0 2 life0 8 Path.refl,
                 Path.refl,
-              ) Path.refl Path.refl λ b o k. tt) d24
+              ) Path.refl Path.refl λ b o k. tt) d23
 
-          d26 : Typed.Typed 𝓤 H A 𝓣 E G12 b21 Δ0 at26
-          d26 = Typed.s-seq 𝓤 H A W 𝓣 E G12 G13 b5 b20 Δ0 (Typed.give s11) at25 (Reshare.t-sl-reshare 𝓤 H A W E
-              RelayCircuit.row 𝓣 G12 1 13 0 2 ref2 ref0 life0 0 (λ x. x)
+          d25 : Typed.Typed 𝓤 H A 𝓣 E G11 b20 Δ0 at25
+          d25 = Typed.s-seq 𝓤 H A W 𝓣 E G11 G12 b4 b19 Δ0 (Typed.give s10) at24 (Reshare.t-sl-reshare 𝓤 H A W E
+              RelayCircuit.row 𝓣 G11 1 12 0 2 ref2 ref0 life0 0 (λ x. x)
               (Reads'.as-is 𝓤 H A (Mut.mslice RelayCircuit.row ref2 0)) (Reads'.room-gone 𝓤 H A ref0) Path.refl tt
-              Path.refl Path.refl Path.refl λ b o. tt) d25
+              Path.refl Path.refl Path.refl λ b o. tt) d24
 
-          d27 : Typed.Typed 𝓤 H A 𝓣 E G11 b21 Δ0 at27
-          d27 = Typed.g-pre 𝓤 H A W 𝓣 E G11 G12 b21 Δ0 (λ Ψ. Ψ) at26 (Lifetime.g-begin 𝓤 H A W E G11 2 (
+          d26 : Typed.Typed 𝓤 H A 𝓣 E G10 b20 Δ0 at26
+          d26 = Typed.g-pre 𝓤 H A W 𝓣 E G10 G11 b20 Δ0 (λ Ψ. Ψ) at25 (Lifetime.g-begin 𝓤 H A W E G10 2 (
             tt,
-            (tt, (tt, (tt, (tt, (tt, (tt, (tt, (tt, (tt, (tt, (tt, (tt, (tt, (tt, (tt, (tt, (tt, tt))))))))))))))))),
-          )) d26
+            (tt, (tt, (tt, (tt, (tt, (tt, (tt, (tt, (tt, (tt, (tt, (tt, (tt, (tt, (tt, (tt, tt)))))))))))))))),
+          )) d25
 
-          d28 : Typed.Typed 𝓤 H A 𝓣 E G10 b22 Δ0 at28
-          d28 = Typed.s-seq 𝓤 H A W 𝓣 E G10 G11 b4 b21 Δ0 (Typed.both s9) at27 (Plain.t-call-plain 𝓤 H A W 𝓣 0 ps·1 r·1
-              (claims· .2) (claims· .3) "hnsr_circuit::tables::question::unused" (known .1) E (λ pos β. β) G10 tt 8
-              List.[] (Call.sub-id 𝓤 H A W (G10 .slots)) tt (Reads'.room-gone 𝓤 H A Laws'.mir) tt Path.refl) d27
+          d27 : Typed.Typed 𝓤 H A 𝓣 E G9 b20 Δ0 at27
+          d27 = Typed.g-pre 𝓤 H A W 𝓣 E G9 G10 b20 Δ0 (λ Ψ. Ψ) at26
+              (Lifetime.g-forget 𝓤 H A W E G9 1 Row.dead Path.refl) d26
 
-          d29 : Typed.Typed 𝓤 H A 𝓣 E G9 b22 Δ0 at29
-          d29 = Typed.g-pre 𝓤 H A W 𝓣 E G9 G10 b22 Δ0 (λ Ψ. Ψ) at28
-              (Lifetime.g-forget 𝓤 H A W E G9 1 Row.dead Path.refl) d28
-
-          d30 : Typed.Typed 𝓤 H A 𝓣 E G8 b22 Δ0 at30
-          d30 = Typed.g-pre 𝓤 H A W 𝓣 E G8 G9 b22 Δ0 (Typed.pass T7 T9 s7) at29 (Reshare.g-back-sl-shr 𝓤 H A W E
+          d28 : Typed.Typed 𝓤 H A 𝓣 E G8 b20 Δ0 at28
+          d28 = Typed.g-pre 𝓤 H A W 𝓣 E G8 G9 b20 Δ0 (Typed.pass T7 T9 s7) at27 (Reshare.g-back-sl-shr 𝓤 H A W E
               RelayCircuit.row G8 1 0 1 ref2 life0 (λ x. x) (Reads'.as-is 𝓤 H A
-              (Reshare.mslice-owedS RelayCircuit.row ref2 0 1 life0)) Path.refl Path.refl) d29
+              (Reshare.mslice-owedS RelayCircuit.row ref2 0 1 life0)) Path.refl Path.refl) d27
 
-          d31 : Typed.Typed 𝓤 H A 𝓣 E G7 b22 Δ0 at31
-          d31 = Typed.g-pre 𝓤 H A W 𝓣 E G7 G8 b22 Δ0 (λ Ψ. Ψ) at30 (Lifetime.g-end 𝓤 H A W E G7 1 Path.refl) d30
+          d29 : Typed.Typed 𝓤 H A 𝓣 E G7 b20 Δ0 at29
+          d29 = Typed.g-pre 𝓤 H A W 𝓣 E G7 G8 b20 Δ0 (λ Ψ. Ψ) at28 (Lifetime.g-end 𝓤 H A W E G7 1 Path.refl) d28
 
-          d32 : Typed.Typed 𝓤 H A 𝓣 E G6 b22 Δ0 at32
-          d32 = Typed.g-pre 𝓤 H A W 𝓣 E G6 G7 b22 Δ0 (Typed.pass T6 T7 s5) at31 (Scalar.g-room 𝓤 H A W E G6 12 slice0
-              (Shared.room-sslice 𝓤 H A W RelayCircuit.row ref0 1)) d31
+          d30 : Typed.Typed 𝓤 H A 𝓣 E G6 b20 Δ0 at30
+          d30 = Typed.g-pre 𝓤 H A W 𝓣 E G6 G7 b20 Δ0 (Typed.pass T6 T7 s5) at29 (Scalar.g-room 𝓤 H A W E G6 11 slice0
+              (Shared.room-sslice 𝓤 H A W RelayCircuit.row ref0 1)) d29
 
-          d33 : Typed.Typed 𝓤 H A 𝓣 E G5 b23 Δ0 at33
-          d33 = Typed.s-seq 𝓤 H A W 𝓣 E G5 G6 b3 b22 Δ0 (Typed.both s4) at32 (Plain.t-call-plain 𝓤 H A W 𝓣 1 ps·0 r·0
+          d31 : Typed.Typed 𝓤 H A 𝓣 E G5 b21 Δ0 at31
+          d31 = Typed.s-seq 𝓤 H A W 𝓣 E G5 G6 b3 b20 Δ0 (Typed.both s4) at30 (Plain.t-call-plain 𝓤 H A W 𝓣 1 ps·0 r·0
               (claims· .0) (claims· .1) "hnsr_circuit::tables::circuits::find_circuit_id" (known .0) E (λ pos β. β) G5 (
-                record { pos = 12; ty = ref0; ref = λ x. x },
+                record { pos = 11; ty = ref0; ref = λ x. x },
                 (record { pos = 2; st = List.[]; d = 0; at = λ x. x }, (Num.vAt 4 λ x. x, tt)),
               ) 7 (1 ∷ List.[]) (Call.sub-id 𝓤 H A W (G5 .slots)) (
                 ShrSlice.spares-sslice 𝓤 H A W RelayCircuit.row ref0 1,
@@ -1221,39 +1142,39 @@ module _ (claims· : Claims) where
                   ),
                   ((Scalar.reads-sc 𝓤 H A W (Row.sInt Syntax.w64), Path.refl), tt),
                 ),
-              ) (Reads'.room-gone 𝓤 H A (Syntax.tyInt Syntax.w64)) (tt, tt) Path.refl) d32
+              ) (Reads'.room-gone 𝓤 H A (Syntax.tyInt Syntax.w64)) (tt, tt) Path.refl) d30
 
-          d34 : Typed.Typed 𝓤 H A 𝓣 E G4 b24 Δ0 at34
-          d34 = Typed.s-seq 𝓤 H A W 𝓣 E G4 G5 b2 b23 Δ0 (Typed.ask s3) at33 (Relend.t-sl-aggregate 𝓤 H A W E
-              RelayCircuit.row 𝓣 (Relend.asShr RelayCircuit.row) G4 11 12 1 ref0 ref0 (λ x. x) (Scalar.oFld 1
+          d32 : Typed.Typed 𝓤 H A 𝓣 E G4 b22 Δ0 at32
+          d32 = Typed.s-seq 𝓤 H A W 𝓣 E G4 G5 b2 b21 Δ0 (Typed.ask s3) at31 (Relend.t-sl-aggregate 𝓤 H A W E
+              RelayCircuit.row 𝓣 (Relend.asShr RelayCircuit.row) G4 10 11 1 ref0 ref0 (λ x. x) (Scalar.oFld 1
               ((Syntax.field 1) ∷ List.[]) (Syntax.tyInt Syntax.w64) 8 λ v. Shared.lenV (v .0))
               (Reads'.as-is 𝓤 H A (Relend.ssptr RelayCircuit.row ref0 1)) (Reads'.room-gone 𝓤 H A slice0) (
                 Reshare.reads-owedS-len 𝓤 H A W RelayCircuit.row ref2 0 1 life0 8 Path.refl,
                 Path.refl,
-              ) Path.refl Path.refl λ b o k. tt) d33
+              ) Path.refl Path.refl λ b o k. tt) d31
 
-          d35 : Typed.Typed 𝓤 H A 𝓣 E G3 b25 Δ0 at35
-          d35 = Typed.s-seq 𝓤 H A W 𝓣 E G3 G4 b1 b24 Δ0 (Typed.give s2) at34 (Reshare.t-sl-reshare 𝓤 H A W E
-              RelayCircuit.row 𝓣 G3 1 11 0 1 ref2 ref0 life0 0 (λ x. x)
+          d33 : Typed.Typed 𝓤 H A 𝓣 E G3 b23 Δ0 at33
+          d33 = Typed.s-seq 𝓤 H A W 𝓣 E G3 G4 b1 b22 Δ0 (Typed.give s2) at32 (Reshare.t-sl-reshare 𝓤 H A W E
+              RelayCircuit.row 𝓣 G3 1 10 0 1 ref2 ref0 life0 0 (λ x. x)
               (Reads'.as-is 𝓤 H A (Mut.mslice RelayCircuit.row ref2 0)) (Reads'.room-gone 𝓤 H A ref0) Path.refl tt
-              Path.refl Path.refl Path.refl λ b o. tt) d34
+              Path.refl Path.refl Path.refl λ b o. tt) d32
 
-          d36 : Typed.Typed 𝓤 H A 𝓣 E G2 b25 Δ0 at36
-          d36 = Typed.g-pre 𝓤 H A W 𝓣 E G2 G3 b25 Δ0 (λ Ψ. Ψ) at35 (Lifetime.g-begin 𝓤 H A W E G2 1 (
+          d34 : Typed.Typed 𝓤 H A 𝓣 E G2 b23 Δ0 at34
+          d34 = Typed.g-pre 𝓤 H A W 𝓣 E G2 G3 b23 Δ0 (λ Ψ. Ψ) at33 (Lifetime.g-begin 𝓤 H A W E G2 1 (
             tt,
-            (tt, (tt, (tt, (tt, (tt, (tt, (tt, (tt, (tt, (tt, (tt, (tt, (tt, (tt, (tt, (tt, (tt, tt))))))))))))))))),
-          )) d35
+            (tt, (tt, (tt, (tt, (tt, (tt, (tt, (tt, (tt, (tt, (tt, (tt, (tt, (tt, (tt, (tt, tt)))))))))))))))),
+          )) d33
 
-          d37 : Typed.Typed 𝓤 H A 𝓣 E G0 b26 Δ0 at37
-          d37 = Typed.s-seq 𝓤 H A W 𝓣 E G0 G2 b0 b25 Δ0 (Typed.pass T0 T2 s0) at36 (Scalar.t-use 𝓤 H A W E 𝓣 G0 (Scalar.oFld
+          d35 : Typed.Typed 𝓤 H A 𝓣 E G0 b24 Δ0 at35
+          d35 = Typed.s-seq 𝓤 H A W 𝓣 E G0 G2 b0 b23 Δ0 (Typed.pass T0 T2 s0) at34 (Scalar.t-use 𝓤 H A W E 𝓣 G0 (Scalar.oFld
               1 ((Syntax.field 1) ∷ List.[]) (Syntax.tyInt Syntax.w64) 8 Shared.lenV) 6
               (Rows.sc-here (Row.sInt Syntax.w64)) (Syntax.tyInt Syntax.w64) (Row.valS (Row.sInt Syntax.w64))
               (Row.sInt Syntax.w64 .of) (Mut.reads-mslice-len 𝓤 H A W RelayCircuit.row ref2 0 8 Path.refl, Path.refl)
               (Reads'.room-gone 𝓤 H A (Syntax.tyInt Syntax.w64)) (Scalar.holds-sc 𝓤 H A W (Row.sInt Syntax.w64))
-              Path.refl (λ u. Path.refl) λ u. tt) d36
+              Path.refl (λ u. Path.refl) λ u. tt) d34
 
-          pub typed : Typed.Typed 𝓤 H A 𝓣 E (Function.Γin 1 ps r xs m κs qs) b26 (Function.Δret 1 ps r xs m κs qs) Φ
-          typed = d37
+          pub typed : Typed.Typed 𝓤 H A 𝓣 E (Function.Γin 1 ps r xs m κs qs) b24 (Function.Δret 1 ps r xs m κs qs) Φ
+          typed = d35
 
       module _ (κs : Lifetimes.Lfts 1) where
         pub record Args : Type 0 where
@@ -1335,324 +1256,287 @@ module _ (claims· : Claims) where
           (m3 (before .before) (before .find-circuit-id-arg .given))) → Typed.Mo T9
       m6 = λ before given. s7 (m5 before given)
 
-      abbrev pub Need-unused-requires : Type 0
-      Need-unused-requires = (c : After-find-circuit-id) → s9 .asks (m6 (c .before) (After-find-circuit-id·gave c))
+      abbrev pub m7 : (before : After-find-circuit-id) → (given : s10 .gives
+          (m6 (before .before) (After-find-circuit-id·gave before))) → Typed.Mo T12
+      m7 = λ before given. s10 .next (m6 (before .before) (After-find-circuit-id·gave before)) given
 
-      abbrev pub m7 : (before : After-find-circuit-id) → (given : s9 .gives
-          (m6 (before .before) (After-find-circuit-id·gave before))) → Typed.Mo T11
-      m7 = λ before given. s9 .next (m6 (before .before) (After-find-circuit-id·gave before)) given
+      abbrev pub m8 : (before : After-find-circuit-id) → (given : s10 .gives
+          (m6 (before .before) (After-find-circuit-id·gave before))) → Typed.Mo T13
+      m8 = λ before given. s11 .next (m7 before given)
 
       module _ (before· : After-find-circuit-id) where
-        abbrev pub After-unused·own : Type 0
-        After-unused·own = Called.Called ps·1 r·1 (claims· .3) T9 tt
-            (m6 (before· .before) (After-find-circuit-id·gave before·))
+        pub record After-spare-circuit-arg·own : Type 0 where
+          pub given : s10 .gives (m6 (before· .before) (After-find-circuit-id·gave before·))
 
-      pub record After-unused : Type 0 where
+      pub record After-spare-circuit-arg : Type 0 where
         pub before : After-find-circuit-id
-        pub unused : After-unused·own before
+        pub spare-circuit-arg : After-spare-circuit-arg·own before
 
-      abbrev pub After-unused·gave : (c : After-unused) → s9 .gives (m6 (c .before .before)
-          (After-find-circuit-id·gave (c .before)))
-      After-unused·gave = λ c. Called.given ps·1 r·1 (claims· .3) T9 tt (m6 (c .before .before)
-          (After-find-circuit-id·gave (c .before))) (c .unused)
+      abbrev pub Need-spare-circuit-requires : Type 0
+      Need-spare-circuit-requires = (c : After-spare-circuit-arg) → s12 .asks
+          (m8 (c .before) (c .spare-circuit-arg .given))
 
-      abbrev pub m8 : (before : After-unused) → (given : s11 .gives (m7 (before .before) (After-unused·gave before))) →
-          Typed.Mo T13
-      m8 = λ before given. s11 .next (m7 (before .before) (After-unused·gave before)) given
+      abbrev pub m9 : (before : After-spare-circuit-arg) → (given : s12 .gives
+          (m8 (before .before) (before .spare-circuit-arg .given))) → Typed.Mo T14
+      m9 = λ before given. s12 .next (m8 (before .before) (before .spare-circuit-arg .given)) given
 
-      abbrev pub m9 : (before : After-unused) → (given : s11 .gives (m7 (before .before) (After-unused·gave before))) →
-          Typed.Mo T14
-      m9 = λ before given. s12 .next (m8 before given)
+      module _ (before· : After-spare-circuit-arg) where
+        abbrev pub After-spare-circuit·own : Type 0
+        After-spare-circuit·own = Called.Called ps·1 r·1 (claims· .3) T13 args12
+            (m8 (before· .before) (before· .spare-circuit-arg .given))
 
-      module _ (before· : After-unused) where
-        pub record After-find-circuit-arg·own : Type 0 where
-          pub given : s11 .gives (m7 (before· .before) (After-unused·gave before·))
+      pub record After-spare-circuit : Type 0 where
+        pub before : After-spare-circuit-arg
+        pub spare-circuit : After-spare-circuit·own before
 
-      pub record After-find-circuit-arg : Type 0 where
-        pub before : After-unused
-        pub find-circuit-arg : After-find-circuit-arg·own before
+      abbrev pub After-spare-circuit·gave : (c : After-spare-circuit) → s12 .gives (m8 (c .before .before)
+          (c .before .spare-circuit-arg .given))
+      After-spare-circuit·gave = λ c. Called.given ps·1 r·1 (claims· .3) T13 args12 (m8 (c .before .before)
+          (c .before .spare-circuit-arg .given)) (c .spare-circuit)
 
-      abbrev pub Need-find-circuit-requires : Type 0
-      Need-find-circuit-requires = (c : After-find-circuit-arg) → s13 .asks
-          (m9 (c .before) (c .find-circuit-arg .given))
+      abbrev pub m10 : (before : After-spare-circuit-arg) → (given : s12 .gives
+          (m8 (before .before) (before .spare-circuit-arg .given))) → Typed.Mo T15
+      m10 = λ before given. s13 (m9 before given)
 
-      abbrev pub m10 : (before : After-find-circuit-arg) → (given : s13 .gives
-          (m9 (before .before) (before .find-circuit-arg .given))) → Typed.Mo T15
-      m10 = λ before given. s13 .next (m9 (before .before) (before .find-circuit-arg .given)) given
-
-      module _ (before· : After-find-circuit-arg) where
-        abbrev pub After-find-circuit·own : Type 0
-        After-find-circuit·own = Called.Called ps·2 r·2 (claims· .5) T14 args13
-            (m9 (before· .before) (before· .find-circuit-arg .given))
-
-      pub record After-find-circuit : Type 0 where
-        pub before : After-find-circuit-arg
-        pub find-circuit : After-find-circuit·own before
-
-      abbrev pub After-find-circuit·gave : (c : After-find-circuit) → s13 .gives (m9 (c .before .before)
-          (c .before .find-circuit-arg .given))
-      After-find-circuit·gave = λ c. Called.given ps·2 r·2 (claims· .5) T14 args13 (m9 (c .before .before)
-          (c .before .find-circuit-arg .given)) (c .find-circuit)
-
-      abbrev pub m11 : (before : After-find-circuit-arg) → (given : s13 .gives
-          (m9 (before .before) (before .find-circuit-arg .given))) → Typed.Mo T16
-      m11 = λ before given. s14 (m10 before given)
-
-      abbrev pub m12 : (before : After-find-circuit-arg) → (given : s13 .gives
-          (m9 (before .before) (before .find-circuit-arg .given))) → Typed.Mo T17
-      m12 = λ before given. s15 (m11 before given)
-
-      abbrev pub m13 : (before : After-find-circuit-arg) → (given : s13 .gives
-          (m9 (before .before) (before .find-circuit-arg .given))) → Typed.Mo T19
-      m13 = λ before given. s17 (m12 before given)
+      abbrev pub m11 : (before : After-spare-circuit-arg) → (given : s12 .gives
+          (m8 (before .before) (before .spare-circuit-arg .given))) → Typed.Mo T17
+      m11 = λ before given. s15 (m10 before given)
 
       abbrev pub Need-put-place-requires : Type 0
-      Need-put-place-requires = (c : After-find-circuit) → s19 .asks (m13 (c .before) (After-find-circuit·gave c))
+      Need-put-place-requires = (c : After-spare-circuit) → s17 .asks (m11 (c .before) (After-spare-circuit·gave c))
 
-      abbrev pub m14 : (before : After-find-circuit) → (given : s19 .gives
-          (m13 (before .before) (After-find-circuit·gave before))) → Typed.Mo T21
-      m14 = λ before given. s19 .next (m13 (before .before) (After-find-circuit·gave before)) given
+      abbrev pub m12 : (before : After-spare-circuit) → (given : s17 .gives
+          (m11 (before .before) (After-spare-circuit·gave before))) → Typed.Mo T19
+      m12 = λ before given. s17 .next (m11 (before .before) (After-spare-circuit·gave before)) given
 
-      module _ (before· : After-find-circuit) where
+      module _ (before· : After-spare-circuit) where
         abbrev pub After-put-place·own : Type 0
-        After-put-place·own = Called.Called ps·3 r·3 (claims· .7) T19 args19
-            (m13 (before· .before) (After-find-circuit·gave before·))
+        After-put-place·own = Called.Called ps·2 r·2 (claims· .5) T17 args17
+            (m11 (before· .before) (After-spare-circuit·gave before·))
 
       pub record After-put-place : Type 0 where
-        pub before : After-find-circuit
+        pub before : After-spare-circuit
         pub put-place : After-put-place·own before
 
-      abbrev pub After-put-place·gave : (c : After-put-place) → s19 .gives (m13 (c .before .before)
-          (After-find-circuit·gave (c .before)))
-      After-put-place·gave = λ c. Called.given ps·3 r·3 (claims· .7) T19 args19 (m13 (c .before .before)
-          (After-find-circuit·gave (c .before))) (c .put-place)
+      abbrev pub After-put-place·gave : (c : After-put-place) → s17 .gives (m11 (c .before .before)
+          (After-spare-circuit·gave (c .before)))
+      After-put-place·gave = λ c. Called.given ps·2 r·2 (claims· .5) T17 args17 (m11 (c .before .before)
+          (After-spare-circuit·gave (c .before))) (c .put-place)
 
-      abbrev pub m15 : (before : After-put-place) → (given : s21 .gives
-          (m14 (before .before) (After-put-place·gave before))) → Typed.Mo T23
-      m15 = λ before given. s21 .next (m14 (before .before) (After-put-place·gave before)) given
+      abbrev pub m13 : (before : After-put-place) → (given : s19 .gives
+          (m12 (before .before) (After-put-place·gave before))) → Typed.Mo T21
+      m13 = λ before given. s19 .next (m12 (before .before) (After-put-place·gave before)) given
 
-      abbrev pub m16 : (before : After-put-place) → (given : s21 .gives
-          (m14 (before .before) (After-put-place·gave before))) → Typed.Mo T24
-      m16 = λ before given. s22 .next (m15 before given)
+      abbrev pub m14 : (before : After-put-place) → (given : s19 .gives
+          (m12 (before .before) (After-put-place·gave before))) → Typed.Mo T22
+      m14 = λ before given. s20 .next (m13 before given)
 
       module _ (before· : After-put-place) where
         pub record After-set-circuit-arg·own : Type 0 where
-          pub given : s21 .gives (m14 (before· .before) (After-put-place·gave before·))
+          pub given : s19 .gives (m12 (before· .before) (After-put-place·gave before·))
 
       pub record After-set-circuit-arg : Type 0 where
         pub before : After-put-place
         pub set-circuit-arg : After-set-circuit-arg·own before
 
       abbrev pub Need-set-circuit-requires : Type 0
-      Need-set-circuit-requires = (c : After-set-circuit-arg) → s23 .asks (m16 (c .before) (c .set-circuit-arg .given))
+      Need-set-circuit-requires = (c : After-set-circuit-arg) → s21 .asks (m14 (c .before) (c .set-circuit-arg .given))
 
-      abbrev pub m17 : (before : After-set-circuit-arg) → (given : s23 .gives
-          (m16 (before .before) (before .set-circuit-arg .given))) → Typed.Mo T25
-      m17 = λ before given. s23 .next (m16 (before .before) (before .set-circuit-arg .given)) given
+      abbrev pub m15 : (before : After-set-circuit-arg) → (given : s21 .gives
+          (m14 (before .before) (before .set-circuit-arg .given))) → Typed.Mo T23
+      m15 = λ before given. s21 .next (m14 (before .before) (before .set-circuit-arg .given)) given
 
       module _ (before· : After-set-circuit-arg) where
         abbrev pub After-set-circuit·own : Type 0
-        After-set-circuit·own = Called.Called ps·4 r·4 (claims· .9) T24 args23
-            (m16 (before· .before) (before· .set-circuit-arg .given))
+        After-set-circuit·own = Called.Called ps·3 r·3 (claims· .7) T22 args21
+            (m14 (before· .before) (before· .set-circuit-arg .given))
 
       pub record After-set-circuit : Type 0 where
         pub before : After-set-circuit-arg
         pub set-circuit : After-set-circuit·own before
 
-      abbrev pub After-set-circuit·gave : (c : After-set-circuit) → s23 .gives (m16 (c .before .before)
+      abbrev pub After-set-circuit·gave : (c : After-set-circuit) → s21 .gives (m14 (c .before .before)
           (c .before .set-circuit-arg .given))
-      After-set-circuit·gave = λ c. Called.given ps·4 r·4 (claims· .9) T24 args23 (m16 (c .before .before)
+      After-set-circuit·gave = λ c. Called.given ps·3 r·3 (claims· .7) T22 args21 (m14 (c .before .before)
           (c .before .set-circuit-arg .given)) (c .set-circuit)
 
-      abbrev pub m18 : (before : After-set-circuit-arg) → (given : s23 .gives
-          (m16 (before .before) (before .set-circuit-arg .given))) → Typed.Mo T26
-      m18 = λ before given. s24 (m17 before given)
+      abbrev pub m16 : (before : After-set-circuit-arg) → (given : s21 .gives
+          (m14 (before .before) (before .set-circuit-arg .given))) → Typed.Mo T24
+      m16 = λ before given. s22 (m15 before given)
 
-      abbrev pub m19 : (before : After-set-circuit-arg) → (given : s23 .gives
-          (m16 (before .before) (before .set-circuit-arg .given))) → Typed.Mo T27
-      m19 = λ before given. s25 (m18 before given)
+      abbrev pub m17 : (before : After-set-circuit-arg) → (given : s21 .gives
+          (m14 (before .before) (before .set-circuit-arg .given))) → Typed.Mo T25
+      m17 = λ before given. s23 (m16 before given)
 
-      abbrev pub m20 : (before : After-set-circuit) → (given : s27 .gives
-          (m19 (before .before) (After-set-circuit·gave before))) → Typed.Mo T29
-      m20 = λ before given. s27 .next (m19 (before .before) (After-set-circuit·gave before)) given
+      abbrev pub m18 : (before : After-set-circuit) → (given : s25 .gives
+          (m17 (before .before) (After-set-circuit·gave before))) → Typed.Mo T27
+      m18 = λ before given. s25 .next (m17 (before .before) (After-set-circuit·gave before)) given
 
       module _ (before· : After-set-circuit) where
         pub record After-circuits·own : Type 0 where
-          pub given : s27 .gives (m19 (before· .before) (After-set-circuit·gave before·))
+          pub given : s25 .gives (m17 (before· .before) (After-set-circuit·gave before·))
 
       pub record After-circuits : Type 0 where
         pub before : After-set-circuit
         pub circuits : After-circuits·own before
 
       abbrev pub Need-raised-requires : Type 0
-      Need-raised-requires = (c : After-circuits) → s29 .asks (m20 (c .before) (c .circuits .given))
+      Need-raised-requires = (c : After-circuits) → s27 .asks (m18 (c .before) (c .circuits .given))
 
-      abbrev pub m21 : (before : After-circuits) → (given : s29 .gives (m20 (before .before) (before .circuits .given)))
-          → Typed.Mo T31
-      m21 = λ before given. s29 .next (m20 (before .before) (before .circuits .given)) given
+      abbrev pub m19 : (before : After-circuits) → (given : s27 .gives (m18 (before .before) (before .circuits .given)))
+          → Typed.Mo T29
+      m19 = λ before given. s27 .next (m18 (before .before) (before .circuits .given)) given
 
       module _ (before· : After-circuits) where
         abbrev pub After-raised·own : Type 0
-        After-raised·own = Called.Called ps·5 r·5 (claims· .11) T29 args29
-            (m20 (before· .before) (before· .circuits .given))
+        After-raised·own = Called.Called ps·4 r·4 (claims· .9) T27 args27
+            (m18 (before· .before) (before· .circuits .given))
 
       pub record After-raised : Type 0 where
         pub before : After-circuits
         pub raised : After-raised·own before
 
-      abbrev pub After-raised·gave : (c : After-raised) → s29 .gives
-          (m20 (c .before .before) (c .before .circuits .given))
-      After-raised·gave = λ c. Called.given ps·5 r·5 (claims· .11) T29 args29
-          (m20 (c .before .before) (c .before .circuits .given)) (c .raised)
+      abbrev pub After-raised·gave : (c : After-raised) → s27 .gives
+          (m18 (c .before .before) (c .before .circuits .given))
+      After-raised·gave = λ c. Called.given ps·4 r·4 (claims· .9) T27 args27
+          (m18 (c .before .before) (c .before .circuits .given)) (c .raised)
 
-      abbrev pub m22 : (before : After-circuits) → (given : s29 .gives (m20 (before .before) (before .circuits .given)))
+      abbrev pub m20 : (before : After-circuits) → (given : s27 .gives (m18 (before .before) (before .circuits .given)))
+          → Typed.Mo T30
+      m20 = λ before given. s28 (m19 before given)
+
+      abbrev pub m21 : (before : After-circuits) → (given : s27 .gives (m18 (before .before) (before .circuits .given)))
+          → Typed.Mo T31
+      m21 = λ before given. s29 (m20 before given)
+
+      abbrev pub m22 : (before : After-circuits) → (given : s27 .gives (m18 (before .before) (before .circuits .given)))
           → Typed.Mo T32
       m22 = λ before given. s30 (m21 before given)
 
-      abbrev pub m23 : (before : After-circuits) → (given : s29 .gives (m20 (before .before) (before .circuits .given)))
+      abbrev pub m23 : (before : After-circuits) → (given : s27 .gives (m18 (before .before) (before .circuits .given)))
           → Typed.Mo T33
       m23 = λ before given. s31 (m22 before given)
 
-      abbrev pub m24 : (before : After-circuits) → (given : s29 .gives (m20 (before .before) (before .circuits .given)))
+      abbrev pub m24 : (before : After-circuits) → (given : s27 .gives (m18 (before .before) (before .circuits .given)))
           → Typed.Mo T34
       m24 = λ before given. s32 (m23 before given)
 
-      abbrev pub m25 : (before : After-circuits) → (given : s29 .gives (m20 (before .before) (before .circuits .given)))
+      abbrev pub m25 : (before : After-circuits) → (given : s27 .gives (m18 (before .before) (before .circuits .given)))
           → Typed.Mo T35
       m25 = λ before given. s33 (m24 before given)
 
-      abbrev pub m26 : (before : After-circuits) → (given : s29 .gives (m20 (before .before) (before .circuits .given)))
+      abbrev pub m26 : (before : After-circuits) → (given : s27 .gives (m18 (before .before) (before .circuits .given)))
           → Typed.Mo T36
       m26 = λ before given. s34 (m25 before given)
 
-      abbrev pub m27 : (before : After-circuits) → (given : s29 .gives (m20 (before .before) (before .circuits .given)))
-          → Typed.Mo T37
-      m27 = λ before given. s35 (m26 before given)
-
-      abbrev pub m28 : (before : After-circuits) → (given : s29 .gives (m20 (before .before) (before .circuits .given)))
-          → Typed.Mo T38
-      m28 = λ before given. s36 (m27 before given)
-
       abbrev pub Need-same-length : Type 0
-      Need-same-length = (c : After-raised) → MutSlice.SameLen (Row.get 1 (T38 .locals)
-          (m28 (c .before) (After-raised·gave c))) (dens (c .before .before .before .before .before .before .before
-          .before .before .before .κs) (c .before .before .before .before .before .before .before .before .before
-          .before .args) .0)
+      Need-same-length = (c : After-raised) → MutSlice.SameLen (Row.get 1 (T36 .locals)
+          (m26 (c .before) (After-raised·gave c))) (dens (c .before .before .before .before .before .before .before
+          .before .before .κs) (c .before .before .before .before .before .before .before .before .before .args) .0)
 
       abbrev pub Need-returns : Type 0
       Need-returns = (c : After-raised) → Post· (c .before .before .before .before .before .before .before .before
-          .before .before .κs) (dens (c .before .before .before .before .before .before .before .before .before .before
-          .κs) (c .before .before .before .before .before .before .before .before .before .before .args)) (Function.resV
-          r (c .before .before .before .before .before .before .before .before .before .before .κs)
-          (m28 (c .before) (After-raised·gave c) .0)) (Clauses.atExit (Kinds.endedOf 1 ps r) (c .before .before .before
-          .before .before .before .before .before .before .before .κs) (dens (c .before .before .before .before .before
-          .before .before .before .before .before .κs) (c .before .before .before .before .before .before .before
-          .before .before .before .args)) (Enter.lastsP (c .before .before .before .before .before .before .before
-          .before .before .before .κs) 1 ps xs (dens (c .before .before .before .before .before .before .before .before
-          .before .before .κs) (c .before .before .before .before .before .before .before .before .before .before
-          .args)) (m28 (c .before) (After-raised·gave c) .1)))
+          .before .κs) (dens (c .before .before .before .before .before .before .before .before .before .κs) (c .before
+          .before .before .before .before .before .before .before .before .args)) (Function.resV r (c .before .before
+          .before .before .before .before .before .before .before .κs) (m26 (c .before) (After-raised·gave c) .0)) (Clauses.atExit
+          (Kinds.endedOf 1 ps r) (c .before .before .before .before .before .before .before .before .before .κs) (dens (c
+          .before .before .before .before .before .before .before .before .before .κs) (c .before .before .before
+          .before .before .before .before .before .before .args)) (Enter.lastsP (c .before .before .before .before
+          .before .before .before .before .before .κs) 1 ps xs (dens (c .before .before .before .before .before .before
+          .before .before .before .κs) (c .before .before .before .before .before .before .before .before .before
+          .args)) (m26 (c .before) (After-raised·gave c) .1)))
 
-      module _ (find-circuit-id-requires : Need-find-circuit-id-requires) (unused-requires : Need-unused-requires)
-          (find-circuit-requires : Need-find-circuit-requires) (put-place-requires : Need-put-place-requires)
+      module _ (find-circuit-id-requires : Need-find-circuit-id-requires)
+          (spare-circuit-requires : Need-spare-circuit-requires) (put-place-requires : Need-put-place-requires)
           (set-circuit-requires : Need-set-circuit-requires) (raised-requires : Need-raised-requires)
           (same-length : Need-same-length) (returns : Need-returns) where
-        lay6 : (c : After-raised) → at7 (W0 (c .before .before .before .before .before .before .before .before .before
-            .before .κs) (c .before .before .before .before .before .before .before .before .before .before .args))
-            (m21 (c .before) (After-raised·gave c))
-        lay6 = λ c. (
+        lay5 : (c : After-raised) → at7 (W0 (c .before .before .before .before .before .before .before .before .before
+            .κs) (c .before .before .before .before .before .before .before .before .before .args))
+            (m19 (c .before) (After-raised·gave c))
+        lay5 = λ c. (
           (
-            MutSlice.fix-len (Row.get 1 (T38 .locals) (m28 (c .before) (After-raised·gave c)) .ptr) (Row.get 1
-                (T38 .locals) (m28 (c .before) (After-raised·gave c)) .name) (Row.get 1 (T38 .locals)
-                (m28 (c .before) (After-raised·gave c)) .now) (dens (c .before .before .before .before .before .before
-                .before .before .before .before .κs) (c .before .before .before .before .before .before .before .before
-                .before .before .args) .0 .now) (same-length record { before = c .before; raised = c .raised }),
+            MutSlice.fix-len (Row.get 1 (T36 .locals) (m26 (c .before) (After-raised·gave c)) .ptr) (Row.get 1
+                (T36 .locals) (m26 (c .before) (After-raised·gave c)) .name) (Row.get 1 (T36 .locals)
+                (m26 (c .before) (After-raised·gave c)) .now) (dens (c .before .before .before .before .before .before
+                .before .before .before .κs) (c .before .before .before .before .before .before .before .before .before
+                .args) .0 .now) (same-length record { before = c .before; raised = c .raised }),
             (tt, (tt, (tt, (tt, tt)))),
           ),
           returns record { before = c .before; raised = c .raised },
         )
 
-        lay5 : (c : After-set-circuit) → at13 (W0 (c .before .before .before .before .before .before .before .before
-            .κs) (c .before .before .before .before .before .before .before .before .args))
-            (m17 (c .before) (After-set-circuit·gave c))
-        lay5 = λ c. (
+        lay4 : (c : After-set-circuit) → at13 (W0 (c .before .before .before .before .before .before .before .κs) (c
+            .before .before .before .before .before .before .before .args))
+            (m15 (c .before) (After-set-circuit·gave c))
+        lay4 = λ c. (
           Path.refl,
           λ g. (
             raised-requires record {
               before = record { before = c .before; set-circuit = c .set-circuit };
               circuits = record { given = g };
             },
-            λ g'. lay6 record {
+            λ g'. lay5 record {
               before = record {
                 before = record { before = c .before; set-circuit = c .set-circuit };
                 circuits = record { given = g };
               };
-              raised = Called.called ps·5 r·5 (claims· .11) T29 args29 (m20
+              raised = Called.called ps·4 r·4 (claims· .9) T27 args27 (m18
                   record { before = c .before; set-circuit = c .set-circuit } g) g';
             },
           ),
         )
 
-        lay4 : (c : After-put-place) → at17 (W0 (c .before .before .before .before .before .before .κs)
-            (c .before .before .before .before .before .before .args)) (m14 (c .before) (After-put-place·gave c))
-        lay4 = λ c. λ g. (
+        lay3 : (c : After-put-place) → at17 (W0 (c .before .before .before .before .before .κs)
+            (c .before .before .before .before .before .args)) (m12 (c .before) (After-put-place·gave c))
+        lay3 = λ c. λ g. (
           Path.refl,
           (
             set-circuit-requires record {
               before = record { before = c .before; put-place = c .put-place };
               set-circuit-arg = record { given = g };
             },
-            λ g'. lay5 record {
+            λ g'. lay4 record {
               before = record {
                 before = record { before = c .before; put-place = c .put-place };
                 set-circuit-arg = record { given = g };
               };
-              set-circuit = Called.called ps·4 r·4 (claims· .9) T24 args23 (m16
+              set-circuit = Called.called ps·3 r·3 (claims· .7) T22 args21 (m14
                   record { before = c .before; put-place = c .put-place } g) g';
             },
           ),
         )
 
-        lay3 : (c : After-find-circuit) → at23 (W0 (c .before .before .before .before .before .κs)
-            (c .before .before .before .before .before .args)) (m10 (c .before) (After-find-circuit·gave c))
-        lay3 = λ c. (
-          put-place-requires record { before = c .before; find-circuit = c .find-circuit },
-          λ g. lay4 record {
-            before = record { before = c .before; find-circuit = c .find-circuit };
-            put-place = Called.called ps·3 r·3 (claims· .7) T19 args19 (m13 (c .before) (After-find-circuit·gave c)) g;
+        lay2 : (c : After-spare-circuit) → at22 (W0 (c .before .before .before .before .κs)
+            (c .before .before .before .before .args)) (m9 (c .before) (After-spare-circuit·gave c))
+        lay2 = λ c. (
+          put-place-requires record { before = c .before; spare-circuit = c .spare-circuit },
+          λ g. lay3 record {
+            before = record { before = c .before; spare-circuit = c .spare-circuit };
+            put-place = Called.called ps·2 r·2 (claims· .5) T17 args17 (m11 (c .before) (After-spare-circuit·gave c)) g;
           },
         )
 
-        lay2 : (c : After-unused) → at27 (W0 (c .before .before .before .κs) (c .before .before .before .args))
-            (m7 (c .before) (After-unused·gave c))
-        lay2 = λ c. λ g. (
+        lay1 : (c : After-find-circuit-id) → at30 (W0 (c .before .before .κs) (c .before .before .args))
+            (m4 (c .before) (After-find-circuit-id·gave c))
+        lay1 = λ c. λ g. (
           Path.refl,
           (
-            find-circuit-requires record {
-              before = record { before = c .before; unused = c .unused };
-              find-circuit-arg = record { given = g };
+            spare-circuit-requires record {
+              before = record { before = c .before; find-circuit-id = c .find-circuit-id };
+              spare-circuit-arg = record { given = g };
             },
-            λ g'. lay3 record {
+            λ g'. lay2 record {
               before = record {
-                before = record { before = c .before; unused = c .unused };
-                find-circuit-arg = record { given = g };
+                before = record { before = c .before; find-circuit-id = c .find-circuit-id };
+                spare-circuit-arg = record { given = g };
               };
-              find-circuit = Called.called ps·2 r·2 (claims· .5) T14 args13
-                  (m9 record { before = c .before; unused = c .unused } g) g';
+              spare-circuit = Called.called ps·1 r·1 (claims· .3) T13 args12 (m8
+                  record { before = c .before; find-circuit-id = c .find-circuit-id } g) g';
             },
           ),
         )
 
-        lay1 : (c : After-find-circuit-id) → at32 (W0 (c .before .before .κs) (c .before .before .args))
-            (m4 (c .before) (After-find-circuit-id·gave c))
-        lay1 = λ c. (
-          unused-requires record { before = c .before; find-circuit-id = c .find-circuit-id },
-          λ g. lay2 record {
-            before = record { before = c .before; find-circuit-id = c .find-circuit-id };
-            unused = Called.called ps·1 r·1 (claims· .3) T9 tt (m6 (c .before) (After-find-circuit-id·gave c)) g;
-          },
-        )
-
-        pub laid : (c : Start) → at37 (W0 (c .κs) (c .args)) (m0 (c .κs) (c .args))
+        pub laid : (c : Start) → at35 (W0 (c .κs) (c .args)) (m0 (c .κs) (c .args))
         laid = λ c. λ g. (
           Path.refl,
           (
@@ -1684,13 +1568,12 @@ module _ (claims· : Claims) where
 
         module _ {M : Type 1} (𝓤 : URA.URA M) (H : Wp.Heap 𝓤) (A : Atoms.Atoms 𝓤) (W : Kit.Given 𝓤 H A)
             (𝓣 : Wp.Tables 𝓤 H) (known0 : Plain.Known 𝓤 H A W 𝓣 1 ps·0 r·0 (claims· .0) (claims· .1)
-            "hnsr_circuit::tables::circuits::find_circuit_id") (known1 : Plain.Known 𝓤 H A W 𝓣 0 ps·1 r·1 (claims· .2)
-            (claims· .3) "hnsr_circuit::tables::question::unused") (known2 : Plain.Known 𝓤 H A W 𝓣 1 ps·2 r·2
-            (claims· .4) (claims· .5) "hnsr_circuit::tables::circuits::find_circuit") (known3 : Plain.Known 𝓤 H A W 𝓣 0
-            ps·3 r·3 (claims· .6) (claims· .7) "hnsr_circuit::tables::stores::put_place") (known4 : Plain.Known 𝓤 H A W
-            𝓣 1 ps·4 r·4 (claims· .8) (claims· .9) "hnsr_circuit::tables::circuits::set_circuit") (known5 : Plain.Known
-            𝓤 H A W 𝓣 0 ps·5 r·5 (claims· .10) (claims· .11) "hnsr_circuit::tables::places::raised") where
+            "hnsr_circuit::tables::circuits::find_circuit_id") (known1 : Plain.Known 𝓤 H A W 𝓣 1 ps·1 r·1 (claims· .2)
+            (claims· .3) "hnsr_circuit::tables::circuits::spare_circuit") (known2 : Plain.Known 𝓤 H A W 𝓣 0 ps·2 r·2
+            (claims· .4) (claims· .5) "hnsr_circuit::tables::stores::put_place") (known3 : Plain.Known 𝓤 H A W 𝓣 1 ps·3
+            r·3 (claims· .6) (claims· .7) "hnsr_circuit::tables::circuits::set_circuit") (known4 : Plain.Known 𝓤 H A W
+            𝓣 0 ps·4 r·4 (claims· .8) (claims· .9) "hnsr_circuit::tables::places::raised") where
           pub spec : Statement.Triple 𝓤 (Wp.WpFn 𝓤 H (𝓣 .C) (𝓣 .Λ) (Function.fnOf 1 ps r xs m hs body))
               (Function.plainOf 𝓤 H A 1 ps r Pre· Post·)
           spec = Plain.t-fn-plain 𝓤 H A W 𝓣 1 ps r xs m hs body (λ κs qs bs. Φ) (λ κs qs bs bd. typed κs qs 𝓤 H A W 𝓣
-              (known0, known1, known2, known3, known4, known5) bs bd) Pre· Post· asked
+              (known0, known1, known2, known3, known4) bs bd) Pre· Post· asked

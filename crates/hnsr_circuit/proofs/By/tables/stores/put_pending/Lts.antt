@@ -4,8 +4,6 @@ use Rattle.hnsr_circuit.proofs.By.RelayPending
 use Rattle.hnsr_circuit.proofs.StructRow
 use Rattle.hnsr_circuit.proofs.tables.places.Places
 use Rattle.hnsr_circuit.proofs.tables.places.Places.Laws
-use Rattle.hnsr_circuit.proofs.tables.question.Question
-use Rattle.hnsr_circuit.proofs.tables.question.Question.Laws as Laws'
 use borrow.Author.Called
 use borrow.Fn.Any
 use borrow.Fn.Args as Args'
@@ -74,114 +72,101 @@ abbrev pub r : Kinds.RK 1
 r = Num.rNum Syntax.w64
 
 abbrev pub xs : List.List Syntax.Ty
-xs = (Syntax.tyInt Syntax.w64) ∷ Laws'.mir ∷ (Syntax.tyInt Syntax.w64) ∷ ref0 ∷ slice0 ∷ Syntax.tyUnit ∷ ref1 ∷ slice1
-    ∷ List.[]
+xs = (Syntax.tyInt Syntax.w64) ∷ (Syntax.tyInt Syntax.w64) ∷ ref0 ∷ slice0 ∷ Syntax.tyUnit ∷ ref1 ∷ slice1 ∷ List.[]
 
 abbrev pub m : Nat.ℕ
 m = 2
 
-abbrev pub ps·0 : List.List (Kinds.PK 0)
-ps·0 = List.[]
+abbrev pub ps·0 : List.List (Kinds.PK 1)
+ps·0 = (ShrSlice.pShrS RelayPending.row 0 tt) ∷ (StructRow.param Places.the-type Laws.the-laws Laws.the-copy
+    Laws.the-plain) ∷ List.[]
 
-abbrev pub r·0 : Kinds.RK 0
-r·0 = StructRow.result Question.the-type Laws'.the-laws Laws'.the-copy Laws'.the-plain
+abbrev pub r·0 : Kinds.RK 1
+r·0 = Num.rNum Syntax.w64
 
 abbrev pub ps·1 : List.List (Kinds.PK 1)
-ps·1 = (ShrSlice.pShrS RelayPending.row 0 tt) ∷ (StructRow.param Places.the-type Laws.the-laws Laws.the-copy
-    Laws.the-plain) ∷ (StructRow.param Question.the-type Laws'.the-laws Laws'.the-copy Laws'.the-plain) ∷ List.[]
+ps·1 = (MutSlice.pMutS RelayPending.row 0 tt) ∷ Bool.pBool ∷ (Num.pNum Syntax.w64) ∷ RelayPending.param ∷ List.[]
 
 abbrev pub r·1 : Kinds.RK 1
-r·1 = Num.rNum Syntax.w64
+r·1 = Unit.rUnit
 
-abbrev pub ps·2 : List.List (Kinds.PK 1)
-ps·2 = (MutSlice.pMutS RelayPending.row 0 tt) ∷ Bool.pBool ∷ (Num.pNum Syntax.w64) ∷ RelayPending.param ∷ List.[]
+abbrev pub ps·2 : List.List (Kinds.PK 0)
+ps·2 = (Num.pNum Syntax.w64) ∷ Bool.pBool ∷ (Num.pNum Syntax.w64) ∷ (Num.pNum Syntax.w64) ∷ List.[]
 
-abbrev pub r·2 : Kinds.RK 1
-r·2 = Unit.rUnit
-
-abbrev pub ps·3 : List.List (Kinds.PK 0)
-ps·3 = (Num.pNum Syntax.w64) ∷ Bool.pBool ∷ (Num.pNum Syntax.w64) ∷ (Num.pNum Syntax.w64) ∷ List.[]
-
-abbrev pub r·3 : Kinds.RK 0
-r·3 = Num.rNum Syntax.w64
+abbrev pub r·2 : Kinds.RK 0
+r·2 = Num.rNum Syntax.w64
 
 abbrev pub hs : List.List Syntax.Home
 hs = Syntax.valueLocal ∷ Syntax.valueLocal ∷ Syntax.valueLocal ∷ Syntax.valueLocal ∷ Syntax.valueLocal ∷
     Syntax.valueLocal ∷ Syntax.valueLocal ∷ Syntax.valueLocal ∷ Syntax.valueLocal ∷ Syntax.valueLocal ∷
-    Syntax.valueLocal ∷ Syntax.valueLocal ∷ List.[]
+    Syntax.valueLocal ∷ List.[]
 
 abbrev b0 : Syntax.Body
 b0 = Syntax.assign (Syntax.place 4 List.[]) (Syntax.rvOpd (Syntax.copy (Syntax.place 1 ((Syntax.field 1) ∷ List.[]))))
 
 abbrev b1 : Syntax.Body
-b1 = Syntax.call "hnsr_circuit::tables::question::unused" List.[] (Syntax.place 5 List.[])
+b1 = Syntax.assign (Syntax.place 6 List.[]) (Syntax.addrOf (Syntax.place 1 ((Syntax.field 0) ∷
+    (Syntax.deref RelayPending.ty) ∷ List.[])))
 
 abbrev b2 : Syntax.Body
-b2 = Syntax.assign (Syntax.place 7 List.[]) (Syntax.addrOf (Syntax.place 1 ((Syntax.field 0) ∷
-    (Syntax.deref RelayPending.ty) ∷ List.[])))
+b2 = Syntax.assign (Syntax.place 7 List.[]) (Syntax.aggregate ((Syntax.copy (Syntax.place 6 List.[])) ∷
+    (Syntax.copy (Syntax.place 1 ((Syntax.field 1) ∷ List.[]))) ∷ List.[]))
 
 abbrev b3 : Syntax.Body
-b3 = Syntax.assign (Syntax.place 8 List.[]) (Syntax.aggregate ((Syntax.copy (Syntax.place 7 List.[])) ∷
-    (Syntax.copy (Syntax.place 1 ((Syntax.field 1) ∷ List.[]))) ∷ List.[]))
+b3 = Syntax.call "hnsr_circuit::tables::pending::spare_pending" ((Syntax.copy (Syntax.place 7 List.[])) ∷
+    (Syntax.copy (Syntax.place 2 List.[])) ∷ List.[]) (Syntax.place 5 List.[])
 
 abbrev b4 : Syntax.Body
-b4 = Syntax.call "hnsr_circuit::tables::pending::find_pending" ((Syntax.copy (Syntax.place 8 List.[])) ∷
-    (Syntax.copy (Syntax.place 2 List.[])) ∷ (Syntax.copy (Syntax.place 5 List.[])) ∷ List.[]) (Syntax.place 6 List.[])
-
-abbrev b5 : Syntax.Body
-b5 = Syntax.assign (Syntax.place 10 List.[]) (Syntax.addrOf (Syntax.place 1 ((Syntax.field 0) ∷
+b4 = Syntax.assign (Syntax.place 9 List.[]) (Syntax.addrOf (Syntax.place 1 ((Syntax.field 0) ∷
     (Syntax.deref RelayPending.ty) ∷ List.[])))
 
-abbrev b6 : Syntax.Body
-b6 = Syntax.assign (Syntax.place 11 List.[]) (Syntax.aggregate ((Syntax.copy (Syntax.place 10 List.[])) ∷
+abbrev b5 : Syntax.Body
+b5 = Syntax.assign (Syntax.place 10 List.[]) (Syntax.aggregate ((Syntax.copy (Syntax.place 9 List.[])) ∷
     (Syntax.copy (Syntax.place 1 ((Syntax.field 1) ∷ List.[]))) ∷ List.[]))
 
-abbrev b7 : Syntax.Body
-b7 = Syntax.call "hnsr_circuit::tables::pending::set_pending" ((Syntax.copy (Syntax.place 11 List.[])) ∷ Syntax.opdTrue
-    ∷ (Syntax.copy (Syntax.place 6 List.[])) ∷ (Syntax.copy (Syntax.place 3 List.[])) ∷ List.[])
-    (Syntax.place 9 List.[])
+abbrev b6 : Syntax.Body
+b6 = Syntax.call "hnsr_circuit::tables::pending::set_pending" ((Syntax.copy (Syntax.place 10 List.[])) ∷ Syntax.opdTrue
+    ∷ (Syntax.copy (Syntax.place 5 List.[])) ∷ (Syntax.copy (Syntax.place 3 List.[])) ∷ List.[])
+    (Syntax.place 8 List.[])
 
-abbrev b8 : Syntax.Body
-b8 = Syntax.call "hnsr_circuit::tables::places::raised" ((Syntax.copy (Syntax.place 2 ((Syntax.field 0) ∷ List.[]))) ∷
-    Syntax.opdTrue ∷ (Syntax.copy (Syntax.place 6 List.[])) ∷ (Syntax.copy (Syntax.place 4 List.[])) ∷ List.[])
+abbrev b7 : Syntax.Body
+b7 = Syntax.call "hnsr_circuit::tables::places::raised" ((Syntax.copy (Syntax.place 2 ((Syntax.field 0) ∷ List.[]))) ∷
+    Syntax.opdTrue ∷ (Syntax.copy (Syntax.place 5 List.[])) ∷ (Syntax.copy (Syntax.place 4 List.[])) ∷ List.[])
     (Syntax.place 0 List.[])
 
+abbrev b8 : Syntax.Body
+b8 = Syntax.return
+
 abbrev b9 : Syntax.Body
-b9 = Syntax.return
+b9 = Syntax.seq b7 b8
 
 abbrev b10 : Syntax.Body
-b10 = Syntax.seq b8 b9
+b10 = Syntax.seq b6 b9
 
 abbrev b11 : Syntax.Body
-b11 = Syntax.seq b7 b10
+b11 = Syntax.seq b5 b10
 
 abbrev b12 : Syntax.Body
-b12 = Syntax.seq b6 b11
+b12 = Syntax.seq b4 b11
 
 abbrev b13 : Syntax.Body
-b13 = Syntax.seq b5 b12
+b13 = Syntax.seq b3 b12
 
 abbrev b14 : Syntax.Body
-b14 = Syntax.seq b4 b13
+b14 = Syntax.seq b2 b13
 
 abbrev b15 : Syntax.Body
-b15 = Syntax.seq b3 b14
+b15 = Syntax.seq b1 b14
 
 abbrev b16 : Syntax.Body
-b16 = Syntax.seq b2 b15
-
-abbrev b17 : Syntax.Body
-b17 = Syntax.seq b1 b16
-
-abbrev b18 : Syntax.Body
-b18 = Syntax.seq b0 b17
+b16 = Syntax.seq b0 b15
 
 abbrev pub body : Syntax.Body
-body = b18
+body = b16
 
 abbrev pub Claims : Type 1
-Claims = Kinds.In 0 ps·0 × Kinds.Out 0 ps·0 r·0 × Kinds.In 1 ps·1 × Kinds.Out 1 ps·1 r·1 × Kinds.In 1 ps·2 × Kinds.Out
-    1 ps·2 r·2 × Kinds.In 0 ps·3 × Kinds.Out 0 ps·3 r·3
+Claims = Kinds.In 1 ps·0 × Kinds.Out 1 ps·0 r·0 × Kinds.In 1 ps·1 × Kinds.Out 1 ps·1 r·1 × Kinds.In 0 ps·2 × Kinds.Out
+    0 ps·2 r·2
 
 abbrev e0 : Row.Entry
 e0 = (0, Rows.any-gone (Syntax.tyInt Syntax.w64))
@@ -199,25 +184,22 @@ abbrev e4 : Row.Entry
 e4 = (4, Rows.any-gone (Syntax.tyInt Syntax.w64))
 
 abbrev e5 : Row.Entry
-e5 = (5, Rows.any-gone Laws'.mir)
+e5 = (5, Rows.any-gone (Syntax.tyInt Syntax.w64))
 
 abbrev e6 : Row.Entry
-e6 = (6, Rows.any-gone (Syntax.tyInt Syntax.w64))
+e6 = (6, Rows.any-gone ref0)
 
 abbrev e7 : Row.Entry
-e7 = (7, Rows.any-gone ref0)
+e7 = (7, Rows.any-gone slice0)
 
 abbrev e8 : Row.Entry
-e8 = (8, Rows.any-gone slice0)
+e8 = (8, Rows.any-gone Syntax.tyUnit)
 
 abbrev e9 : Row.Entry
-e9 = (9, Rows.any-gone Syntax.tyUnit)
+e9 = (9, Rows.any-gone ref1)
 
 abbrev e10 : Row.Entry
-e10 = (10, Rows.any-gone ref1)
-
-abbrev e11 : Row.Entry
-e11 = (11, Rows.any-gone slice1)
+e10 = (10, Rows.any-gone slice1)
 
 abbrev e0·1 : Row.Entry
 e0·1 = (0, Rows.sc-here (Row.sInt Syntax.w64))
@@ -231,92 +213,83 @@ e3·1 = (3, Rows.any-gone RelayPending.ty)
 abbrev e4·1 : Row.Entry
 e4·1 = (4, Rows.sc-here (Row.sInt Syntax.w64))
 
-abbrev e5·1 : Row.Entry
-e5·1 = (5, Rows.whole (Declared.row Question.the-type))
-
 abbrev e1·1 : Row.Entry
 e1·1 = (1, Reshare.mslice-owedS RelayPending.row ref2 0 1 Row.off)
 
-abbrev e7·1 : Row.Entry
-e7·1 = (7, Relend.ssptr RelayPending.row ref0 1)
-
-abbrev e8·1 : Row.Entry
-e8·1 = (8, Rows.sslice RelayPending.row ref0 1)
-
 abbrev e6·1 : Row.Entry
-e6·1 = (6, Rows.sc-here (Row.sInt Syntax.w64))
+e6·1 = (6, Relend.ssptr RelayPending.row ref0 1)
+
+abbrev e7·1 : Row.Entry
+e7·1 = (7, Rows.sslice RelayPending.row ref0 1)
+
+abbrev e5·1 : Row.Entry
+e5·1 = (5, Rows.sc-here (Row.sInt Syntax.w64))
 
 abbrev e1·2 : Row.Entry
 e1·2 = (1, Relend.mslice-owed RelayPending.row ref2 0 2 Row.off)
 
-abbrev e10·1 : Row.Entry
-e10·1 = (10, Relend.msptr RelayPending.row ref1 2)
-
-abbrev e11·1 : Row.Entry
-e11·1 = (11, Mut.mslice RelayPending.row ref1 2)
-
 abbrev e9·1 : Row.Entry
-e9·1 = (9, Rows.sc-here Row.sUnit)
+e9·1 = (9, Relend.msptr RelayPending.row ref1 2)
 
-abbrev e11·2 : Row.Entry
-e11·2 = (11, Mut.msleft RelayPending.row ref1)
+abbrev e10·1 : Row.Entry
+e10·1 = (10, Mut.mslice RelayPending.row ref1 2)
+
+abbrev e8·1 : Row.Entry
+e8·1 = (8, Rows.sc-here Row.sUnit)
+
+abbrev e10·2 : Row.Entry
+e10·2 = (10, Mut.msleft RelayPending.row ref1)
 
 abbrev pub t0 : List.List Row.Entry
-t0 = e0 ∷ e1 ∷ e2 ∷ e3 ∷ e4 ∷ e5 ∷ e6 ∷ e7 ∷ e8 ∷ e9 ∷ e10 ∷ e11 ∷ List.[]
+t0 = e0 ∷ e1 ∷ e2 ∷ e3 ∷ e4 ∷ e5 ∷ e6 ∷ e7 ∷ e8 ∷ e9 ∷ e10 ∷ List.[]
 
 abbrev pub t1 : List.List Row.Entry
-t1 = e0·1 ∷ e1 ∷ e2·1 ∷ e3·1 ∷ e4 ∷ e5 ∷ e6 ∷ e7 ∷ e8 ∷ e9 ∷ e10 ∷ e11 ∷ List.[]
+t1 = e0·1 ∷ e1 ∷ e2·1 ∷ e3·1 ∷ e4 ∷ e5 ∷ e6 ∷ e7 ∷ e8 ∷ e9 ∷ e10 ∷ List.[]
 
 abbrev pub t2 : List.List Row.Entry
-t2 = e0 ∷ e1 ∷ e2 ∷ e3 ∷ e4·1 ∷ e5 ∷ e6 ∷ e7 ∷ e8 ∷ e9 ∷ e10 ∷ e11 ∷ List.[]
+t2 = e0 ∷ e1 ∷ e2 ∷ e3 ∷ e4·1 ∷ e5 ∷ e6 ∷ e7 ∷ e8 ∷ e9 ∷ e10 ∷ List.[]
 
 abbrev pub t3 : List.List Row.Entry
-t3 = e0 ∷ e1 ∷ e2 ∷ e3 ∷ e4·1 ∷ e5·1 ∷ e6 ∷ e7 ∷ e8 ∷ e9 ∷ e10 ∷ e11 ∷ List.[]
+t3 = e0 ∷ e1·1 ∷ e2 ∷ e3 ∷ e4·1 ∷ e5 ∷ e6·1 ∷ e7 ∷ e8 ∷ e9 ∷ e10 ∷ List.[]
 
 abbrev pub t4 : List.List Row.Entry
-t4 = e0 ∷ e1·1 ∷ e2 ∷ e3 ∷ e4·1 ∷ e5·1 ∷ e6 ∷ e7·1 ∷ e8 ∷ e9 ∷ e10 ∷ e11 ∷ List.[]
+t4 = e0 ∷ e1·1 ∷ e2 ∷ e3 ∷ e4·1 ∷ e5 ∷ e6 ∷ e7·1 ∷ e8 ∷ e9 ∷ e10 ∷ List.[]
 
 abbrev pub t5 : List.List Row.Entry
-t5 = e0 ∷ e1·1 ∷ e2 ∷ e3 ∷ e4·1 ∷ e5·1 ∷ e6 ∷ e7 ∷ e8·1 ∷ e9 ∷ e10 ∷ e11 ∷ List.[]
+t5 = e0 ∷ e1·1 ∷ e2 ∷ e3 ∷ e4·1 ∷ e5·1 ∷ e6 ∷ e7·1 ∷ e8 ∷ e9 ∷ e10 ∷ List.[]
 
 abbrev pub t6 : List.List Row.Entry
-t6 = e0 ∷ e1·1 ∷ e2 ∷ e3 ∷ e4·1 ∷ e5·1 ∷ e6·1 ∷ e7 ∷ e8·1 ∷ e9 ∷ e10 ∷ e11 ∷ List.[]
+t6 = e0 ∷ e1·1 ∷ e2 ∷ e3 ∷ e4·1 ∷ e5·1 ∷ e6 ∷ e7 ∷ e8 ∷ e9 ∷ e10 ∷ List.[]
 
 abbrev pub t7 : List.List Row.Entry
-t7 = e0 ∷ e1·1 ∷ e2 ∷ e3 ∷ e4·1 ∷ e5·1 ∷ e6·1 ∷ e7 ∷ e8 ∷ e9 ∷ e10 ∷ e11 ∷ List.[]
+t7 = e0 ∷ e1 ∷ e2 ∷ e3 ∷ e4·1 ∷ e5·1 ∷ e6 ∷ e7 ∷ e8 ∷ e9 ∷ e10 ∷ List.[]
 
 abbrev pub t8 : List.List Row.Entry
-t8 = e0 ∷ e1·1 ∷ e2 ∷ e3 ∷ e4·1 ∷ e5 ∷ e6·1 ∷ e7 ∷ e8 ∷ e9 ∷ e10 ∷ e11 ∷ List.[]
+t8 = e0 ∷ e1·2 ∷ e2 ∷ e3 ∷ e4·1 ∷ e5·1 ∷ e6 ∷ e7 ∷ e8 ∷ e9·1 ∷ e10 ∷ List.[]
 
 abbrev pub t9 : List.List Row.Entry
-t9 = e0 ∷ e1 ∷ e2 ∷ e3 ∷ e4·1 ∷ e5 ∷ e6·1 ∷ e7 ∷ e8 ∷ e9 ∷ e10 ∷ e11 ∷ List.[]
+t9 = e0 ∷ e1·2 ∷ e2 ∷ e3 ∷ e4·1 ∷ e5·1 ∷ e6 ∷ e7 ∷ e8 ∷ e9 ∷ e10·1 ∷ List.[]
 
 abbrev pub t10 : List.List Row.Entry
-t10 = e0 ∷ e1·2 ∷ e2 ∷ e3 ∷ e4·1 ∷ e5 ∷ e6·1 ∷ e7 ∷ e8 ∷ e9 ∷ e10·1 ∷ e11 ∷ List.[]
+t10 = e0 ∷ e1·2 ∷ e2 ∷ e3 ∷ e4·1 ∷ e5·1 ∷ e6 ∷ e7 ∷ e8·1 ∷ e9 ∷ e10·2 ∷ List.[]
 
 abbrev pub t11 : List.List Row.Entry
-t11 = e0 ∷ e1·2 ∷ e2 ∷ e3 ∷ e4·1 ∷ e5 ∷ e6·1 ∷ e7 ∷ e8 ∷ e9 ∷ e10 ∷ e11·1 ∷ List.[]
+t11 = e0 ∷ e1·2 ∷ e2 ∷ e3·1 ∷ e4·1 ∷ e5·1 ∷ e6 ∷ e7 ∷ e8·1 ∷ e9 ∷ e10·2 ∷ List.[]
 
 abbrev pub t12 : List.List Row.Entry
-t12 = e0 ∷ e1·2 ∷ e2 ∷ e3 ∷ e4·1 ∷ e5 ∷ e6·1 ∷ e7 ∷ e8 ∷ e9·1 ∷ e10 ∷ e11·2 ∷ List.[]
+t12 = e0 ∷ e1·2 ∷ e2 ∷ e3·1 ∷ e4·1 ∷ e5·1 ∷ e6 ∷ e7 ∷ e8 ∷ e9 ∷ e10·2 ∷ List.[]
 
 abbrev pub t13 : List.List Row.Entry
-t13 = e0 ∷ e1·2 ∷ e2 ∷ e3·1 ∷ e4·1 ∷ e5 ∷ e6·1 ∷ e7 ∷ e8 ∷ e9·1 ∷ e10 ∷ e11·2 ∷ List.[]
+t13 = e0 ∷ e1 ∷ e2 ∷ e3·1 ∷ e4·1 ∷ e5·1 ∷ e6 ∷ e7 ∷ e8 ∷ e9 ∷ e10 ∷ List.[]
 
 abbrev pub t14 : List.List Row.Entry
-t14 = e0 ∷ e1·2 ∷ e2 ∷ e3·1 ∷ e4·1 ∷ e5 ∷ e6·1 ∷ e7 ∷ e8 ∷ e9 ∷ e10 ∷ e11·2 ∷ List.[]
+t14 = e0·1 ∷ e1 ∷ e2 ∷ e3·1 ∷ e4·1 ∷ e5·1 ∷ e6 ∷ e7 ∷ e8 ∷ e9 ∷ e10 ∷ List.[]
 
 abbrev pub t15 : List.List Row.Entry
-t15 = e0 ∷ e1 ∷ e2 ∷ e3·1 ∷ e4·1 ∷ e5 ∷ e6·1 ∷ e7 ∷ e8 ∷ e9 ∷ e10 ∷ e11 ∷ List.[]
+t15 = e0·1 ∷ e1 ∷ e2·1 ∷ e3·1 ∷ e4·1 ∷ e5·1 ∷ e6 ∷ e7 ∷ e8 ∷ e9 ∷ e10 ∷ List.[]
 
 abbrev pub t16 : List.List Row.Entry
-t16 = e0·1 ∷ e1 ∷ e2 ∷ e3·1 ∷ e4·1 ∷ e5 ∷ e6·1 ∷ e7 ∷ e8 ∷ e9 ∷ e10 ∷ e11 ∷ List.[]
-
-abbrev pub t17 : List.List Row.Entry
-t17 = e0·1 ∷ e1 ∷ e2·1 ∷ e3·1 ∷ e4·1 ∷ e5 ∷ e6·1 ∷ e7 ∷ e8 ∷ e9 ∷ e10 ∷ e11 ∷ List.[]
-
-abbrev pub t18 : List.List Row.Entry
-t18 = e0·1 ∷ e1 ∷ e2·1 ∷ e3·1 ∷ e4 ∷ e5 ∷ e6·1 ∷ e7 ∷ e8 ∷ e9 ∷ e10 ∷ e11 ∷ List.[]
+t16 = e0·1 ∷ e1 ∷ e2·1 ∷ e3·1 ∷ e4 ∷ e5·1 ∷ e6 ∷ e7 ∷ e8 ∷ e9 ∷ e10 ∷ List.[]
 
 abbrev pub T0 : Row.Cx
 T0 = record { locals = t0; slots = List.[] }
@@ -327,8 +300,8 @@ T1 = record { locals = t1; slots = List.[] }
 abbrev pub T2 : Row.Cx
 T2 = record { locals = t2; slots = List.[] }
 
-abbrev pub T3 : Row.Cx
-T3 = record { locals = t3; slots = List.[] }
+abbrev pub T4 : Row.Cx
+T4 = record { locals = t3; slots = List.[] }
 
 abbrev pub T5 : Row.Cx
 T5 = record { locals = t4; slots = List.[] }
@@ -339,14 +312,14 @@ T6 = record { locals = t5; slots = List.[] }
 abbrev pub T7 : Row.Cx
 T7 = record { locals = t6; slots = List.[] }
 
-abbrev pub T8 : Row.Cx
-T8 = record { locals = t7; slots = List.[] }
-
 abbrev pub T9 : Row.Cx
-T9 = record { locals = t8; slots = List.[] }
+T9 = record { locals = t7; slots = List.[] }
 
-abbrev pub T11 : Row.Cx
-T11 = record { locals = t9; slots = List.[] }
+abbrev pub T12 : Row.Cx
+T12 = record { locals = t8; slots = List.[] }
+
+abbrev pub T13 : Row.Cx
+T13 = record { locals = t9; slots = List.[] }
 
 abbrev pub T14 : Row.Cx
 T14 = record { locals = t10; slots = List.[] }
@@ -357,26 +330,20 @@ T15 = record { locals = t11; slots = List.[] }
 abbrev pub T16 : Row.Cx
 T16 = record { locals = t12; slots = List.[] }
 
-abbrev pub T17 : Row.Cx
-T17 = record { locals = t13; slots = List.[] }
-
 abbrev pub T18 : Row.Cx
-T18 = record { locals = t14; slots = List.[] }
+T18 = record { locals = t13; slots = List.[] }
 
 abbrev pub T20 : Row.Cx
-T20 = record { locals = t15; slots = List.[] }
+T20 = record { locals = t14; slots = List.[] }
+
+abbrev pub T21 : Row.Cx
+T21 = record { locals = t15; slots = List.[] }
 
 abbrev pub T22 : Row.Cx
 T22 = record { locals = t16; slots = List.[] }
 
 abbrev pub T23 : Row.Cx
-T23 = record { locals = t17; slots = List.[] }
-
-abbrev pub T24 : Row.Cx
-T24 = record { locals = t18; slots = List.[] }
-
-abbrev pub T25 : Row.Cx
-T25 = record { locals = t1; slots = List.[] }
+T23 = record { locals = t1; slots = List.[] }
 
 abbrev pub O0 : Typed.Outs
 O0 = record { next = Option.none; exits = List.[]; returns = Option.some T1 }
@@ -386,175 +353,159 @@ module _ (claims· : Claims) where
   s0 = Scalar.n-use T0 (Scalar.oFld 1 ((Syntax.field 1) ∷ List.[]) (Syntax.tyInt Syntax.w64) 8 Shared.lenV) 4
       (Rows.sc-here (Row.sInt Syntax.w64)) (Row.sInt Syntax.w64 .of)
 
-  abbrev s1 : Typed.Both T2 T3
-  s1 = Call.callB ps·0 r·0 (claims· .0) (claims· .1) T2 tt 5 List.[] Laws'.mir
+  abbrev s2 : Typed.Gives T2 T4
+  s2 = Reshare.k-sl-reshare RelayPending.row T2 1 6 0 1 ref2 ref0 Row.off λ x. x
 
-  abbrev s3 : Typed.Gives T3 T5
-  s3 = Reshare.k-sl-reshare RelayPending.row T3 1 7 0 1 ref2 ref0 Row.off λ x. x
-
-  abbrev s4 : Typed.Asks T5 T6
-  s4 = Relend.k-sl-aggregate RelayPending.row (Relend.asShr RelayPending.row) T5 7 8 1 ref0 ref0 (λ x. x) (Scalar.oFld
+  abbrev s3 : Typed.Asks T4 T5
+  s3 = Relend.k-sl-aggregate RelayPending.row (Relend.asShr RelayPending.row) T4 6 7 1 ref0 ref0 (λ x. x) (Scalar.oFld
       1 ((Syntax.field 1) ∷ List.[]) (Syntax.tyInt Syntax.w64) 8 λ v. Shared.lenV (v .0))
 
-  abbrev args5 : Args'.ArgsT ps·1 (T6 .locals)
-  args5 = (
-    record { pos = 8; ty = ref0; ref = λ x. x },
-    (record { pos = 2; st = List.[]; d = 0; at = λ x. x }, (record { pos = 5; st = List.[]; d = 0; at = λ x. x }, tt)),
-  )
+  abbrev args4 : Args'.ArgsT ps·0 (T5 .locals)
+  args4 = (record { pos = 7; ty = ref0; ref = λ x. x }, (record { pos = 2; st = List.[]; d = 0; at = λ x. x }, tt))
 
-  abbrev s5 : Typed.Both T6 T7
-  s5 = Call.callB ps·1 r·1 (claims· .2) (claims· .3) T6 args5 6 (1 ∷ List.[]) (Syntax.tyInt Syntax.w64)
+  abbrev s4 : Typed.Both T5 T6
+  s4 = Call.callB ps·0 r·0 (claims· .0) (claims· .1) T5 args4 5 (1 ∷ List.[]) (Syntax.tyInt Syntax.w64)
 
-  abbrev s6 : Typed.Mo T7 → Typed.Mo T8
-  s6 = Scalar.n-room T7 8 slice0
+  abbrev s5 : Typed.Mo T6 → Typed.Mo T7
+  s5 = Scalar.n-room T6 7 slice0
 
-  abbrev s7 : Typed.Mo T8 → Typed.Mo T9
-  s7 = Scalar.n-room T8 5 Laws'.mir
+  abbrev s7 : Typed.Mo T7 → Typed.Mo T9
+  s7 = Reshare.n-back-sl-shr RelayPending.row T7 1 0 1 ref2 Row.off λ x. x
 
-  abbrev s9 : Typed.Mo T9 → Typed.Mo T11
-  s9 = Reshare.n-back-sl-shr RelayPending.row T9 1 0 1 ref2 Row.off λ x. x
+  abbrev s10 : Typed.Gives T9 T12
+  s10 = Relend.k-sl-relend RelayPending.row T9 1 9 0 2 ref2 ref1 Row.off λ x. x
 
-  abbrev s12 : Typed.Gives T11 T14
-  s12 = Relend.k-sl-relend RelayPending.row T11 1 10 0 2 ref2 ref1 Row.off λ x. x
-
-  abbrev s13 : Typed.Asks T14 T15
-  s13 = Relend.k-sl-aggregate RelayPending.row (Relend.asMut RelayPending.row) T14 10 11 2 ref1 ref1 (λ x. x) (Scalar.oFld
+  abbrev s11 : Typed.Asks T12 T13
+  s11 = Relend.k-sl-aggregate RelayPending.row (Relend.asMut RelayPending.row) T12 9 10 2 ref1 ref1 (λ x. x) (Scalar.oFld
       1 ((Syntax.field 1) ∷ List.[]) (Syntax.tyInt Syntax.w64) 8 λ v. Shared.lenV (v .0))
 
-  abbrev args14 : Args'.ArgsT ps·2 (T15 .locals)
-  args14 = (
-    record { pos = 11; ty = ref1; ref = λ x. x },
-    (Bool.bLit Bool'.true, (Num.vAt 6 λ x. x, (record { pos = 3; st = List.[]; d = 0; at = λ x. x }, tt))),
+  abbrev args12 : Args'.ArgsT ps·1 (T13 .locals)
+  args12 = (
+    record { pos = 10; ty = ref1; ref = λ x. x },
+    (Bool.bLit Bool'.true, (Num.vAt 5 λ x. x, (record { pos = 3; st = List.[]; d = 0; at = λ x. x }, tt))),
   )
 
-  abbrev s14 : Typed.Both T15 T16
-  s14 = Call.callB ps·2 r·2 (claims· .4) (claims· .5) T15 args14 9 (2 ∷ List.[]) Syntax.tyUnit
+  abbrev s12 : Typed.Both T13 T14
+  s12 = Call.callB ps·1 r·1 (claims· .2) (claims· .3) T13 args12 8 (2 ∷ List.[]) Syntax.tyUnit
 
-  abbrev s15 : Typed.Mo T16 → Typed.Mo T17
-  s15 = Scalar.n-room T16 3 RelayPending.ty
+  abbrev s13 : Typed.Mo T14 → Typed.Mo T15
+  s13 = Scalar.n-room T14 3 RelayPending.ty
 
-  abbrev s16 : Typed.Mo T17 → Typed.Mo T18
-  s16 = Scalar.n-room T17 9 Syntax.tyUnit
+  abbrev s14 : Typed.Mo T15 → Typed.Mo T16
+  s14 = Scalar.n-room T15 8 Syntax.tyUnit
+
+  abbrev s16 : Typed.Both T16 T18
+  s16 = Relend.k-back-sl RelayPending.row T16 10 1 0 2 ref2 ref1 Row.off (λ x. x) λ x. x
+
+  abbrev args18 : Args'.ArgsT ps·2 (T18 .locals)
+  args18 = (
+    Num.vFld 2 ((Syntax.field 0) ∷ List.[]) 0 λ x. Places.struct .as-values x .0,
+    (Bool.bLit Bool'.true, (Num.vAt 5 λ x. x, (Num.vAt 4 λ x. x, tt))),
+  )
 
   abbrev s18 : Typed.Both T18 T20
-  s18 = Relend.k-back-sl RelayPending.row T18 11 1 0 2 ref2 ref1 Row.off (λ x. x) λ x. x
+  s18 = Call.callB ps·2 r·2 (claims· .4) (claims· .5) T18 args18 0 List.[] (Syntax.tyInt Syntax.w64)
 
-  abbrev args20 : Args'.ArgsT ps·3 (T20 .locals)
-  args20 = (
-    Num.vFld 2 ((Syntax.field 0) ∷ List.[]) 0 λ x. Places.struct .as-values x .0,
-    (Bool.bLit Bool'.true, (Num.vAt 6 λ x. x, (Num.vAt 4 λ x. x, tt))),
-  )
+  abbrev s19 : Typed.Mo T20 → Typed.Mo T21
+  s19 = Scalar.n-room T20 2 Laws.mir
 
-  abbrev s20 : Typed.Both T20 T22
-  s20 = Call.callB ps·3 r·3 (claims· .6) (claims· .7) T20 args20 0 List.[] (Syntax.tyInt Syntax.w64)
+  abbrev s20 : Typed.Mo T21 → Typed.Mo T22
+  s20 = Scalar.n-room T21 4 (Syntax.tyInt Syntax.w64)
 
   abbrev s21 : Typed.Mo T22 → Typed.Mo T23
-  s21 = Scalar.n-room T22 2 Laws.mir
-
-  abbrev s22 : Typed.Mo T23 → Typed.Mo T24
-  s22 = Scalar.n-room T23 4 (Syntax.tyInt Syntax.w64)
-
-  abbrev s23 : Typed.Mo T24 → Typed.Mo T25
-  s23 = Scalar.n-room T24 6 (Syntax.tyInt Syntax.w64)
+  s21 = Scalar.n-room T22 5 (Syntax.tyInt Syntax.w64)
 
   module _ (Pre· : (κs : Lifetimes.Lfts 1) → Kinds.Dens κs ps → Type 0) (Post· : (κs : Lifetimes.Lfts 1) →
       (a : Kinds.Dens κs ps) → Kinds.Plain 1 ps r κs) where
     module _ (M : Type 1) where
       abbrev pub Closed : Type 2
       Closed = (𝓤 : URA.URA M) (H : Wp.Heap 𝓤) (A : Atoms.Atoms 𝓤) (W : Kit.Given 𝓤 H A) (𝓣 : Wp.Tables 𝓤 H) (known0 :
-          Plain.Known 𝓤 H A W 𝓣 0 ps·0 r·0 (claims· .0) (claims· .1) "hnsr_circuit::tables::question::unused") (known1
-          : Plain.Known 𝓤 H A W 𝓣 1 ps·1 r·1 (claims· .2) (claims· .3) "hnsr_circuit::tables::pending::find_pending") (known2
-          : Plain.Known 𝓤 H A W 𝓣 1 ps·2 r·2 (claims· .4) (claims· .5) "hnsr_circuit::tables::pending::set_pending") (known3
-          : Plain.Known 𝓤 H A W 𝓣 0 ps·3 r·3 (claims· .6) (claims· .7) "hnsr_circuit::tables::places::raised") →
+          Plain.Known 𝓤 H A W 𝓣 1 ps·0 r·0 (claims· .0) (claims· .1) "hnsr_circuit::tables::pending::spare_pending") (known1
+          : Plain.Known 𝓤 H A W 𝓣 1 ps·1 r·1 (claims· .2) (claims· .3) "hnsr_circuit::tables::pending::set_pending") (known2
+          : Plain.Known 𝓤 H A W 𝓣 0 ps·2 r·2 (claims· .4) (claims· .5) "hnsr_circuit::tables::places::raised") →
           Statement.Triple 𝓤 (Wp.WpFn 𝓤 H (𝓣 .C) (𝓣 .Λ) (Function.fnOf 1 ps r xs m hs body))
           (Function.plainOf 𝓤 H A 1 ps r Pre· Post·)
 
     module _ where
-      abbrev at0 : Typed.TF T25 O0
+      abbrev at0 : Typed.TF T23 O0
       at0 = Typed.atRet O0
 
-      abbrev at1 : Typed.TF T24 O0
-      at1 = λ Ψ. Typed.pass T24 T25 s23 (at0 Ψ)
+      abbrev at1 : Typed.TF T22 O0
+      at1 = λ Ψ. Typed.pass T22 T23 s21 (at0 Ψ)
 
-      abbrev at2 : Typed.TF T23 O0
-      at2 = λ Ψ. Typed.pass T23 T24 s22 (at1 Ψ)
+      abbrev at2 : Typed.TF T21 O0
+      at2 = λ Ψ. Typed.pass T21 T22 s20 (at1 Ψ)
 
-      abbrev at3 : Typed.TF T22 O0
-      at3 = λ Ψ. Typed.pass T22 T23 s21 (at2 Ψ)
+      abbrev at3 : Typed.TF T20 O0
+      at3 = λ Ψ. Typed.pass T20 T21 s19 (at2 Ψ)
 
-      abbrev at4 : Typed.TF T20 O0
-      at4 = λ Ψ. Typed.both s20 (at3 Ψ)
+      abbrev at4 : Typed.TF T18 O0
+      at4 = λ Ψ. Typed.both s18 (at3 Ψ)
 
-      abbrev at5 : Typed.TF T20 O0
+      abbrev at5 : Typed.TF T18 O0
       at5 = λ Ψ. at4 Ψ
 
-      abbrev at6 : Typed.TF T18 O0
-      at6 = λ Ψ. Typed.both s18 (at5 Ψ)
+      abbrev at6 : Typed.TF T16 O0
+      at6 = λ Ψ. Typed.both s16 (at5 Ψ)
 
-      abbrev at7 : Typed.TF T18 O0
+      abbrev at7 : Typed.TF T16 O0
       at7 = λ Ψ. at6 Ψ
 
-      abbrev at8 : Typed.TF T17 O0
-      at8 = λ Ψ. Typed.pass T17 T18 s16 (at7 Ψ)
+      abbrev at8 : Typed.TF T15 O0
+      at8 = λ Ψ. Typed.pass T15 T16 s14 (at7 Ψ)
 
-      abbrev at9 : Typed.TF T16 O0
-      at9 = λ Ψ. Typed.pass T16 T17 s15 (at8 Ψ)
+      abbrev at9 : Typed.TF T14 O0
+      at9 = λ Ψ. Typed.pass T14 T15 s13 (at8 Ψ)
 
-      abbrev at10 : Typed.TF T15 O0
-      at10 = λ Ψ. Typed.both s14 (at9 Ψ)
+      abbrev at10 : Typed.TF T13 O0
+      at10 = λ Ψ. Typed.both s12 (at9 Ψ)
 
-      abbrev at11 : Typed.TF T14 O0
-      at11 = λ Ψ. Typed.ask s13 (at10 Ψ)
+      abbrev at11 : Typed.TF T12 O0
+      at11 = λ Ψ. Typed.ask s11 (at10 Ψ)
 
-      abbrev at12 : Typed.TF T11 O0
-      at12 = λ Ψ. Typed.give s12 (at11 Ψ)
+      abbrev at12 : Typed.TF T9 O0
+      at12 = λ Ψ. Typed.give s10 (at11 Ψ)
 
-      abbrev at13 : Typed.TF T11 O0
+      abbrev at13 : Typed.TF T9 O0
       at13 = λ Ψ. at12 Ψ
 
-      abbrev at14 : Typed.TF T11 O0
+      abbrev at14 : Typed.TF T9 O0
       at14 = λ Ψ. at13 Ψ
 
-      abbrev at15 : Typed.TF T9 O0
-      at15 = λ Ψ. Typed.pass T9 T11 s9 (at14 Ψ)
+      abbrev at15 : Typed.TF T7 O0
+      at15 = λ Ψ. Typed.pass T7 T9 s7 (at14 Ψ)
 
-      abbrev at16 : Typed.TF T9 O0
+      abbrev at16 : Typed.TF T7 O0
       at16 = λ Ψ. at15 Ψ
 
-      abbrev at17 : Typed.TF T8 O0
-      at17 = λ Ψ. Typed.pass T8 T9 s7 (at16 Ψ)
+      abbrev at17 : Typed.TF T6 O0
+      at17 = λ Ψ. Typed.pass T6 T7 s5 (at16 Ψ)
 
-      abbrev at18 : Typed.TF T7 O0
-      at18 = λ Ψ. Typed.pass T7 T8 s6 (at17 Ψ)
+      abbrev at18 : Typed.TF T5 O0
+      at18 = λ Ψ. Typed.both s4 (at17 Ψ)
 
-      abbrev at19 : Typed.TF T6 O0
-      at19 = λ Ψ. Typed.both s5 (at18 Ψ)
+      abbrev at19 : Typed.TF T4 O0
+      at19 = λ Ψ. Typed.ask s3 (at18 Ψ)
 
-      abbrev at20 : Typed.TF T5 O0
-      at20 = λ Ψ. Typed.ask s4 (at19 Ψ)
+      abbrev at20 : Typed.TF T2 O0
+      at20 = λ Ψ. Typed.give s2 (at19 Ψ)
 
-      abbrev at21 : Typed.TF T3 O0
-      at21 = λ Ψ. Typed.give s3 (at20 Ψ)
+      abbrev at21 : Typed.TF T2 O0
+      at21 = λ Ψ. at20 Ψ
 
-      abbrev at22 : Typed.TF T3 O0
-      at22 = λ Ψ. at21 Ψ
-
-      abbrev at23 : Typed.TF T2 O0
-      at23 = λ Ψ. Typed.both s1 (at22 Ψ)
-
-      abbrev at24 : Typed.TF T0 O0
-      at24 = λ Ψ. Typed.pass T0 T2 s0 (at23 Ψ)
+      abbrev at22 : Typed.TF T0 O0
+      at22 = λ Ψ. Typed.pass T0 T2 s0 (at21 Ψ)
 
       abbrev pub Φ : Typed.TF T0 O0
-      Φ = at24
+      Φ = at22
 
       module _ {M : Type 1} (𝓤 : URA.URA M) (H : Wp.Heap 𝓤) (A : Atoms.Atoms 𝓤) (W : Kit.Given 𝓤 H A)
           (𝓣 : Wp.Tables 𝓤 H) where
         abbrev Knowns : Type 1
-        Knowns = Plain.Known 𝓤 H A W 𝓣 0 ps·0 r·0 (claims· .0) (claims· .1) "hnsr_circuit::tables::question::unused" ×
-            Plain.Known 𝓤 H A W 𝓣 1 ps·1 r·1 (claims· .2) (claims· .3) "hnsr_circuit::tables::pending::find_pending" ×
-            Plain.Known 𝓤 H A W 𝓣 1 ps·2 r·2 (claims· .4) (claims· .5) "hnsr_circuit::tables::pending::set_pending" ×
-            Plain.Known 𝓤 H A W 𝓣 0 ps·3 r·3 (claims· .6) (claims· .7) "hnsr_circuit::tables::places::raised"
+        Knowns = Plain.Known 𝓤 H A W 𝓣 1 ps·0 r·0 (claims· .0) (claims· .1)
+            "hnsr_circuit::tables::pending::spare_pending" × Plain.Known 𝓤 H A W 𝓣 1 ps·1 r·1 (claims· .2) (claims· .3)
+            "hnsr_circuit::tables::pending::set_pending" × Plain.Known 𝓤 H A W 𝓣 0 ps·2 r·2 (claims· .4) (claims· .5)
+            "hnsr_circuit::tables::places::raised"
 
       module _ (κs : Lifetimes.Lfts 1) (qs : Lifetimes.Shares 1) where
         abbrev life0 : Row.Life
@@ -566,35 +517,32 @@ module _ (claims· : Claims) where
         abbrev l1·1 : Row.Entry
         l1·1 = (1, Relend.mslice-owed RelayPending.row ref2 0 2 life0)
 
+        abbrev g3 : List.List Row.Entry
+        g3 = e0 ∷ l1 ∷ e2 ∷ e3 ∷ e4·1 ∷ e5 ∷ e6·1 ∷ e7 ∷ e8 ∷ e9 ∷ e10 ∷ List.[]
+
         abbrev g4 : List.List Row.Entry
-        g4 = e0 ∷ l1 ∷ e2 ∷ e3 ∷ e4·1 ∷ e5·1 ∷ e6 ∷ e7·1 ∷ e8 ∷ e9 ∷ e10 ∷ e11 ∷ List.[]
+        g4 = e0 ∷ l1 ∷ e2 ∷ e3 ∷ e4·1 ∷ e5 ∷ e6 ∷ e7·1 ∷ e8 ∷ e9 ∷ e10 ∷ List.[]
 
         abbrev g5 : List.List Row.Entry
-        g5 = e0 ∷ l1 ∷ e2 ∷ e3 ∷ e4·1 ∷ e5·1 ∷ e6 ∷ e7 ∷ e8·1 ∷ e9 ∷ e10 ∷ e11 ∷ List.[]
+        g5 = e0 ∷ l1 ∷ e2 ∷ e3 ∷ e4·1 ∷ e5·1 ∷ e6 ∷ e7·1 ∷ e8 ∷ e9 ∷ e10 ∷ List.[]
 
         abbrev g6 : List.List Row.Entry
-        g6 = e0 ∷ l1 ∷ e2 ∷ e3 ∷ e4·1 ∷ e5·1 ∷ e6·1 ∷ e7 ∷ e8·1 ∷ e9 ∷ e10 ∷ e11 ∷ List.[]
-
-        abbrev g7 : List.List Row.Entry
-        g7 = e0 ∷ l1 ∷ e2 ∷ e3 ∷ e4·1 ∷ e5·1 ∷ e6·1 ∷ e7 ∷ e8 ∷ e9 ∷ e10 ∷ e11 ∷ List.[]
+        g6 = e0 ∷ l1 ∷ e2 ∷ e3 ∷ e4·1 ∷ e5·1 ∷ e6 ∷ e7 ∷ e8 ∷ e9 ∷ e10 ∷ List.[]
 
         abbrev g8 : List.List Row.Entry
-        g8 = e0 ∷ l1 ∷ e2 ∷ e3 ∷ e4·1 ∷ e5 ∷ e6·1 ∷ e7 ∷ e8 ∷ e9 ∷ e10 ∷ e11 ∷ List.[]
+        g8 = e0 ∷ l1·1 ∷ e2 ∷ e3 ∷ e4·1 ∷ e5·1 ∷ e6 ∷ e7 ∷ e8 ∷ e9·1 ∷ e10 ∷ List.[]
+
+        abbrev g9 : List.List Row.Entry
+        g9 = e0 ∷ l1·1 ∷ e2 ∷ e3 ∷ e4·1 ∷ e5·1 ∷ e6 ∷ e7 ∷ e8 ∷ e9 ∷ e10·1 ∷ List.[]
 
         abbrev g10 : List.List Row.Entry
-        g10 = e0 ∷ l1·1 ∷ e2 ∷ e3 ∷ e4·1 ∷ e5 ∷ e6·1 ∷ e7 ∷ e8 ∷ e9 ∷ e10·1 ∷ e11 ∷ List.[]
+        g10 = e0 ∷ l1·1 ∷ e2 ∷ e3 ∷ e4·1 ∷ e5·1 ∷ e6 ∷ e7 ∷ e8·1 ∷ e9 ∷ e10·2 ∷ List.[]
 
         abbrev g11 : List.List Row.Entry
-        g11 = e0 ∷ l1·1 ∷ e2 ∷ e3 ∷ e4·1 ∷ e5 ∷ e6·1 ∷ e7 ∷ e8 ∷ e9 ∷ e10 ∷ e11·1 ∷ List.[]
+        g11 = e0 ∷ l1·1 ∷ e2 ∷ e3·1 ∷ e4·1 ∷ e5·1 ∷ e6 ∷ e7 ∷ e8·1 ∷ e9 ∷ e10·2 ∷ List.[]
 
         abbrev g12 : List.List Row.Entry
-        g12 = e0 ∷ l1·1 ∷ e2 ∷ e3 ∷ e4·1 ∷ e5 ∷ e6·1 ∷ e7 ∷ e8 ∷ e9·1 ∷ e10 ∷ e11·2 ∷ List.[]
-
-        abbrev g13 : List.List Row.Entry
-        g13 = e0 ∷ l1·1 ∷ e2 ∷ e3·1 ∷ e4·1 ∷ e5 ∷ e6·1 ∷ e7 ∷ e8 ∷ e9·1 ∷ e10 ∷ e11·2 ∷ List.[]
-
-        abbrev g14 : List.List Row.Entry
-        g14 = e0 ∷ l1·1 ∷ e2 ∷ e3·1 ∷ e4·1 ∷ e5 ∷ e6·1 ∷ e7 ∷ e8 ∷ e9 ∷ e10 ∷ e11·2 ∷ List.[]
+        g12 = e0 ∷ l1·1 ∷ e2 ∷ e3·1 ∷ e4·1 ∷ e5·1 ∷ e6 ∷ e7 ∷ e8 ∷ e9 ∷ e10·2 ∷ List.[]
 
         abbrev G0 : Row.Cx
         G0 = record { locals = t0; slots = life0 ∷ Row.off ∷ Row.off ∷ List.[] }
@@ -606,10 +554,10 @@ module _ (claims· : Claims) where
         G2 = record { locals = t2; slots = life0 ∷ Row.off ∷ Row.off ∷ List.[] }
 
         abbrev G3 : Row.Cx
-        G3 = record { locals = t3; slots = life0 ∷ Row.off ∷ Row.off ∷ List.[] }
+        G3 = record { locals = t2; slots = life0 ∷ Row.alive ∷ Row.off ∷ List.[] }
 
         abbrev G4 : Row.Cx
-        G4 = record { locals = t3; slots = life0 ∷ Row.alive ∷ Row.off ∷ List.[] }
+        G4 = record { locals = g3; slots = Row.off ∷ Row.alive ∷ Row.off ∷ List.[] }
 
         abbrev G5 : Row.Cx
         G5 = record { locals = g4; slots = Row.off ∷ Row.alive ∷ Row.off ∷ List.[] }
@@ -621,22 +569,22 @@ module _ (claims· : Claims) where
         G7 = record { locals = g6; slots = Row.off ∷ Row.alive ∷ Row.off ∷ List.[] }
 
         abbrev G8 : Row.Cx
-        G8 = record { locals = g7; slots = Row.off ∷ Row.alive ∷ Row.off ∷ List.[] }
+        G8 = record { locals = g6; slots = Row.off ∷ Row.dead ∷ Row.off ∷ List.[] }
 
         abbrev G9 : Row.Cx
-        G9 = record { locals = g8; slots = Row.off ∷ Row.alive ∷ Row.off ∷ List.[] }
+        G9 = record { locals = t7; slots = life0 ∷ Row.dead ∷ Row.off ∷ List.[] }
 
         abbrev G10 : Row.Cx
-        G10 = record { locals = g8; slots = Row.off ∷ Row.dead ∷ Row.off ∷ List.[] }
+        G10 = record { locals = t7; slots = life0 ∷ Row.off ∷ Row.off ∷ List.[] }
 
         abbrev G11 : Row.Cx
-        G11 = record { locals = t9; slots = life0 ∷ Row.dead ∷ Row.off ∷ List.[] }
+        G11 = record { locals = t7; slots = life0 ∷ Row.off ∷ Row.alive ∷ List.[] }
 
         abbrev G12 : Row.Cx
-        G12 = record { locals = t9; slots = life0 ∷ Row.off ∷ Row.off ∷ List.[] }
+        G12 = record { locals = g8; slots = Row.off ∷ Row.off ∷ Row.alive ∷ List.[] }
 
         abbrev G13 : Row.Cx
-        G13 = record { locals = t9; slots = life0 ∷ Row.off ∷ Row.alive ∷ List.[] }
+        G13 = record { locals = g9; slots = Row.off ∷ Row.off ∷ Row.alive ∷ List.[] }
 
         abbrev G14 : Row.Cx
         G14 = record { locals = g10; slots = Row.off ∷ Row.off ∷ Row.alive ∷ List.[] }
@@ -648,16 +596,16 @@ module _ (claims· : Claims) where
         G16 = record { locals = g12; slots = Row.off ∷ Row.off ∷ Row.alive ∷ List.[] }
 
         abbrev G17 : Row.Cx
-        G17 = record { locals = g13; slots = Row.off ∷ Row.off ∷ Row.alive ∷ List.[] }
+        G17 = record { locals = g12; slots = Row.off ∷ Row.off ∷ Row.dead ∷ List.[] }
 
         abbrev G18 : Row.Cx
-        G18 = record { locals = g14; slots = Row.off ∷ Row.off ∷ Row.alive ∷ List.[] }
+        G18 = record { locals = t13; slots = life0 ∷ Row.off ∷ Row.dead ∷ List.[] }
 
         abbrev G19 : Row.Cx
-        G19 = record { locals = g14; slots = Row.off ∷ Row.off ∷ Row.dead ∷ List.[] }
+        G19 = record { locals = t13; slots = life0 ∷ Row.off ∷ Row.off ∷ List.[] }
 
         abbrev G20 : Row.Cx
-        G20 = record { locals = t15; slots = life0 ∷ Row.off ∷ Row.dead ∷ List.[] }
+        G20 = record { locals = t14; slots = life0 ∷ Row.off ∷ Row.off ∷ List.[] }
 
         abbrev G21 : Row.Cx
         G21 = record { locals = t15; slots = life0 ∷ Row.off ∷ Row.off ∷ List.[] }
@@ -666,13 +614,7 @@ module _ (claims· : Claims) where
         G22 = record { locals = t16; slots = life0 ∷ Row.off ∷ Row.off ∷ List.[] }
 
         abbrev G23 : Row.Cx
-        G23 = record { locals = t17; slots = life0 ∷ Row.off ∷ Row.off ∷ List.[] }
-
-        abbrev G24 : Row.Cx
-        G24 = record { locals = t18; slots = life0 ∷ Row.off ∷ Row.off ∷ List.[] }
-
-        abbrev G25 : Row.Cx
-        G25 = record { locals = t1; slots = life0 ∷ Row.off ∷ Row.off ∷ List.[] }
+        G23 = record { locals = t1; slots = life0 ∷ Row.off ∷ Row.off ∷ List.[] }
 
         abbrev Δ0 : Typed.Outs
         Δ0 = record { next = Option.none; exits = List.[]; returns = Option.some G1 }
@@ -683,27 +625,27 @@ module _ (claims· : Claims) where
           abbrev E : Wp.Env 𝓤 H
           E = Frame.EnvOf 𝓤 H ((Kinds.tyR r) ∷ (Enter.tysP ps xs)) bs
 
-          d0 : Typed.Typed 𝓤 H A 𝓣 E G25 b9 Δ0 at0
+          d0 : Typed.Typed 𝓤 H A 𝓣 E G23 b8 Δ0 at0
           d0 = Typed.t-return 𝓤 H A W 𝓣 E Δ0 tt
 
-          d1 : Typed.Typed 𝓤 H A 𝓣 E G24 b9 Δ0 at1
-          d1 = Typed.g-pre 𝓤 H A W 𝓣 E G24 G25 b9 Δ0 (Typed.pass T24 T25 s23) at0 (Scalar.g-room 𝓤 H A W E G24 6
+          d1 : Typed.Typed 𝓤 H A 𝓣 E G22 b8 Δ0 at1
+          d1 = Typed.g-pre 𝓤 H A W 𝓣 E G22 G23 b8 Δ0 (Typed.pass T22 T23 s21) at0 (Scalar.g-room 𝓤 H A W E G22 5
               (Syntax.tyInt Syntax.w64) (Scalar.room-sc 𝓤 H A W (Row.sInt Syntax.w64))) d0
 
-          d2 : Typed.Typed 𝓤 H A 𝓣 E G23 b9 Δ0 at2
-          d2 = Typed.g-pre 𝓤 H A W 𝓣 E G23 G24 b9 Δ0 (Typed.pass T23 T24 s22) at1 (Scalar.g-room 𝓤 H A W E G23 4
+          d2 : Typed.Typed 𝓤 H A 𝓣 E G21 b8 Δ0 at2
+          d2 = Typed.g-pre 𝓤 H A W 𝓣 E G21 G22 b8 Δ0 (Typed.pass T21 T22 s20) at1 (Scalar.g-room 𝓤 H A W E G21 4
               (Syntax.tyInt Syntax.w64) (Scalar.room-sc 𝓤 H A W (Row.sInt Syntax.w64))) d1
 
-          d3 : Typed.Typed 𝓤 H A 𝓣 E G22 b9 Δ0 at3
-          d3 = Typed.g-pre 𝓤 H A W 𝓣 E G22 G23 b9 Δ0 (Typed.pass T22 T23 s21) at2 (Scalar.g-room 𝓤 H A W E G22 2
+          d3 : Typed.Typed 𝓤 H A 𝓣 E G20 b8 Δ0 at3
+          d3 = Typed.g-pre 𝓤 H A W 𝓣 E G20 G21 b8 Δ0 (Typed.pass T20 T21 s19) at2 (Scalar.g-room 𝓤 H A W E G20 2
               Laws.mir (Local.room-whole 𝓤 H A W (Declared.row Places.the-type) Laws.mir Path.refl)) d2
 
-          d4 : Typed.Typed 𝓤 H A 𝓣 E G21 b10 Δ0 at4
-          d4 = Typed.s-seq 𝓤 H A W 𝓣 E G21 G22 b8 b9 Δ0 (Typed.both s20) at3 (Plain.t-call-plain 𝓤 H A W 𝓣 0 ps·3 r·3
-              (claims· .6) (claims· .7) "hnsr_circuit::tables::places::raised" (known .3) E (λ pos β. β) G21 (
+          d4 : Typed.Typed 𝓤 H A 𝓣 E G19 b9 Δ0 at4
+          d4 = Typed.s-seq 𝓤 H A W 𝓣 E G19 G20 b7 b8 Δ0 (Typed.both s18) at3 (Plain.t-call-plain 𝓤 H A W 𝓣 0 ps·2 r·2
+              (claims· .4) (claims· .5) "hnsr_circuit::tables::places::raised" (known .2) E (λ pos β. β) G19 (
                 Num.vFld 2 ((Syntax.field 0) ∷ List.[]) 0 λ x. Places.struct .as-values x .0,
-                (Bool.bLit Bool'.true, (Num.vAt 6 λ x. x, (Num.vAt 4 λ x. x, tt))),
-              ) 0 List.[] (Call.sub-id 𝓤 H A W (G21 .slots)) (
+                (Bool.bLit Bool'.true, (Num.vAt 5 λ x. x, (Num.vAt 4 λ x. x, tt))),
+              ) 0 List.[] (Call.sub-id 𝓤 H A W (G19 .slots)) (
                 (
                   Reads.reads-field 𝓤 H A W Places.the-type Laws.the-laws 0 (Syntax.tyInt Syntax.w64) 0 Path.refl,
                   Path.refl,
@@ -717,32 +659,32 @@ module _ (claims· : Claims) where
                 ),
               ) (Reads'.room-gone 𝓤 H A (Syntax.tyInt Syntax.w64)) tt Path.refl) d3
 
-          d5 : Typed.Typed 𝓤 H A 𝓣 E G20 b10 Δ0 at5
-          d5 = Typed.g-pre 𝓤 H A W 𝓣 E G20 G21 b10 Δ0 (λ Ψ. Ψ) at4
-              (Lifetime.g-forget 𝓤 H A W E G20 2 Row.dead Path.refl) d4
+          d5 : Typed.Typed 𝓤 H A 𝓣 E G18 b9 Δ0 at5
+          d5 = Typed.g-pre 𝓤 H A W 𝓣 E G18 G19 b9 Δ0 (λ Ψ. Ψ) at4
+              (Lifetime.g-forget 𝓤 H A W E G18 2 Row.dead Path.refl) d4
 
-          d6 : Typed.Typed 𝓤 H A 𝓣 E G19 b10 Δ0 at6
-          d6 = Typed.g-pre 𝓤 H A W 𝓣 E G19 G20 b10 Δ0 (Typed.both s18) at5 (Relend.g-back-sl 𝓤 H A W E RelayPending.row
-              G19 11 1 0 2 ref2 ref1 life0 (λ x. x) (λ x. x) (Reads'.as-is 𝓤 H A (Mut.msleft RelayPending.row ref1)) (Reads'.as-is
+          d6 : Typed.Typed 𝓤 H A 𝓣 E G17 b9 Δ0 at6
+          d6 = Typed.g-pre 𝓤 H A W 𝓣 E G17 G18 b9 Δ0 (Typed.both s16) at5 (Relend.g-back-sl 𝓤 H A W E RelayPending.row
+              G17 10 1 0 2 ref2 ref1 life0 (λ x. x) (λ x. x) (Reads'.as-is 𝓤 H A (Mut.msleft RelayPending.row ref1)) (Reads'.as-is
               𝓤 H A (Relend.mslice-owed RelayPending.row ref2 0 2 life0)) Path.refl Path.refl) d5
 
-          d7 : Typed.Typed 𝓤 H A 𝓣 E G18 b10 Δ0 at7
-          d7 = Typed.g-pre 𝓤 H A W 𝓣 E G18 G19 b10 Δ0 (λ Ψ. Ψ) at6 (Lifetime.g-end 𝓤 H A W E G18 2 Path.refl) d6
+          d7 : Typed.Typed 𝓤 H A 𝓣 E G16 b9 Δ0 at7
+          d7 = Typed.g-pre 𝓤 H A W 𝓣 E G16 G17 b9 Δ0 (λ Ψ. Ψ) at6 (Lifetime.g-end 𝓤 H A W E G16 2 Path.refl) d6
 
-          d8 : Typed.Typed 𝓤 H A 𝓣 E G17 b10 Δ0 at8
-          d8 = Typed.g-pre 𝓤 H A W 𝓣 E G17 G18 b10 Δ0 (Typed.pass T17 T18 s16) at7 (Scalar.g-room 𝓤 H A W E G17 9
+          d8 : Typed.Typed 𝓤 H A 𝓣 E G15 b9 Δ0 at8
+          d8 = Typed.g-pre 𝓤 H A W 𝓣 E G15 G16 b9 Δ0 (Typed.pass T15 T16 s14) at7 (Scalar.g-room 𝓤 H A W E G15 8
               Syntax.tyUnit (Scalar.room-sc 𝓤 H A W Row.sUnit)) d7
 
-          d9 : Typed.Typed 𝓤 H A 𝓣 E G16 b10 Δ0 at9
-          d9 = Typed.g-pre 𝓤 H A W 𝓣 E G16 G17 b10 Δ0 (Typed.pass T16 T17 s15) at8 (Scalar.g-room 𝓤 H A W E G16 3
+          d9 : Typed.Typed 𝓤 H A 𝓣 E G14 b9 Δ0 at9
+          d9 = Typed.g-pre 𝓤 H A W 𝓣 E G14 G15 b9 Δ0 (Typed.pass T14 T15 s13) at8 (Scalar.g-room 𝓤 H A W E G14 3
               RelayPending.ty (Local.room-whole 𝓤 H A W RelayPending.row RelayPending.ty Path.refl)) d8
 
-          d10 : Typed.Typed 𝓤 H A 𝓣 E G15 b11 Δ0 at10
-          d10 = Typed.s-seq 𝓤 H A W 𝓣 E G15 G16 b7 b10 Δ0 (Typed.both s14) at9 (Plain.t-call-plain 𝓤 H A W 𝓣 1 ps·2 r·2
-              (claims· .4) (claims· .5) "hnsr_circuit::tables::pending::set_pending" (known .2) E (λ pos β. β) G15 (
-                record { pos = 11; ty = ref1; ref = λ x. x },
-                (Bool.bLit Bool'.true, (Num.vAt 6 λ x. x, (record { pos = 3; st = List.[]; d = 0; at = λ x. x }, tt))),
-              ) 9 (2 ∷ List.[]) (Call.sub-id 𝓤 H A W (G15 .slots)) (
+          d10 : Typed.Typed 𝓤 H A 𝓣 E G13 b10 Δ0 at10
+          d10 = Typed.s-seq 𝓤 H A W 𝓣 E G13 G14 b6 b9 Δ0 (Typed.both s12) at9 (Plain.t-call-plain 𝓤 H A W 𝓣 1 ps·1 r·1
+              (claims· .2) (claims· .3) "hnsr_circuit::tables::pending::set_pending" (known .1) E (λ pos β. β) G13 (
+                record { pos = 10; ty = ref1; ref = λ x. x },
+                (Bool.bLit Bool'.true, (Num.vAt 5 λ x. x, (record { pos = 3; st = List.[]; d = 0; at = λ x. x }, tt))),
+              ) 8 (2 ∷ List.[]) (Call.sub-id 𝓤 H A W (G13 .slots)) (
                 Reads'.as-is 𝓤 H A (Mut.mslice RelayPending.row ref1 2),
                 Mut.reads-mslice 𝓤 H A W RelayPending.row ref1 2,
                 Path.refl,
@@ -764,56 +706,49 @@ module _ (claims· : Claims) where
                 ),
               ) (Reads'.room-gone 𝓤 H A Syntax.tyUnit) (tt, tt) Path.refl) d9
 
-          d11 : Typed.Typed 𝓤 H A 𝓣 E G14 b12 Δ0 at11
-          d11 = Typed.s-seq 𝓤 H A W 𝓣 E G14 G15 b6 b11 Δ0 (Typed.ask s13) at10 (Relend.t-sl-aggregate 𝓤 H A W E
-              RelayPending.row 𝓣 (Relend.asMut RelayPending.row) G14 10 11 2 ref1 ref1 (λ x. x) (Scalar.oFld 1
+          d11 : Typed.Typed 𝓤 H A 𝓣 E G12 b11 Δ0 at11
+          d11 = Typed.s-seq 𝓤 H A W 𝓣 E G12 G13 b5 b10 Δ0 (Typed.ask s11) at10 (Relend.t-sl-aggregate 𝓤 H A W E
+              RelayPending.row 𝓣 (Relend.asMut RelayPending.row) G12 9 10 2 ref1 ref1 (λ x. x) (Scalar.oFld 1
               ((Syntax.field 1) ∷ List.[]) (Syntax.tyInt Syntax.w64) 8 λ v. Shared.lenV (v .0))
               (Reads'.as-is 𝓤 H A (Relend.msptr RelayPending.row ref1 2)) (Reads'.room-gone 𝓤 H A slice1) (
                 Relend.reads-owed-len 𝓤 H A W RelayPending.row ref2 0 2 life0 8 Path.refl,
                 Path.refl,
               ) Path.refl Path.refl λ b o k. tt) d10
 
-          d12 : Typed.Typed 𝓤 H A 𝓣 E G13 b13 Δ0 at12
-          d12 = Typed.s-seq 𝓤 H A W 𝓣 E G13 G14 b5 b12 Δ0 (Typed.give s12) at11 (Relend.t-sl-relend 𝓤 H A W E
-              RelayPending.row 𝓣 G13 1 10 0 2 ref2 ref1 life0 0 (λ x. x)
+          d12 : Typed.Typed 𝓤 H A 𝓣 E G11 b12 Δ0 at12
+          d12 = Typed.s-seq 𝓤 H A W 𝓣 E G11 G12 b4 b11 Δ0 (Typed.give s10) at11 (Relend.t-sl-relend 𝓤 H A W E
+              RelayPending.row 𝓣 G11 1 9 0 2 ref2 ref1 life0 0 (λ x. x)
               (Reads'.as-is 𝓤 H A (Mut.mslice RelayPending.row ref2 0)) (Reads'.room-gone 𝓤 H A ref1) Path.refl tt
               Path.refl Path.refl Path.refl λ b o. tt) d11
 
-          d13 : Typed.Typed 𝓤 H A 𝓣 E G12 b13 Δ0 at13
-          d13 = Typed.g-pre 𝓤 H A W 𝓣 E G12 G13 b13 Δ0 (λ Ψ. Ψ) at12 (Lifetime.g-begin 𝓤 H A W E G12 2 (
+          d13 : Typed.Typed 𝓤 H A 𝓣 E G10 b12 Δ0 at13
+          d13 = Typed.g-pre 𝓤 H A W 𝓣 E G10 G11 b12 Δ0 (λ Ψ. Ψ) at12 (Lifetime.g-begin 𝓤 H A W E G10 2 (
             tt,
-            (tt, (tt, (tt, (tt, (tt, (tt, (tt, (tt, (tt, (tt, (tt, tt))))))))))),
+            (tt, (tt, (tt, (tt, (tt, (tt, (tt, (tt, (tt, (tt, tt)))))))))),
           )) d12
 
-          d14 : Typed.Typed 𝓤 H A 𝓣 E G11 b13 Δ0 at14
-          d14 = Typed.g-pre 𝓤 H A W 𝓣 E G11 G12 b13 Δ0 (λ Ψ. Ψ) at13
-              (Lifetime.g-forget 𝓤 H A W E G11 1 Row.dead Path.refl) d13
+          d14 : Typed.Typed 𝓤 H A 𝓣 E G9 b12 Δ0 at14
+          d14 = Typed.g-pre 𝓤 H A W 𝓣 E G9 G10 b12 Δ0 (λ Ψ. Ψ) at13
+              (Lifetime.g-forget 𝓤 H A W E G9 1 Row.dead Path.refl) d13
 
-          d15 : Typed.Typed 𝓤 H A 𝓣 E G10 b13 Δ0 at15
-          d15 = Typed.g-pre 𝓤 H A W 𝓣 E G10 G11 b13 Δ0 (Typed.pass T9 T11 s9) at14 (Reshare.g-back-sl-shr 𝓤 H A W E
-              RelayPending.row G10 1 0 1 ref2 life0 (λ x. x) (Reads'.as-is 𝓤 H A
+          d15 : Typed.Typed 𝓤 H A 𝓣 E G8 b12 Δ0 at15
+          d15 = Typed.g-pre 𝓤 H A W 𝓣 E G8 G9 b12 Δ0 (Typed.pass T7 T9 s7) at14 (Reshare.g-back-sl-shr 𝓤 H A W E
+              RelayPending.row G8 1 0 1 ref2 life0 (λ x. x) (Reads'.as-is 𝓤 H A
               (Reshare.mslice-owedS RelayPending.row ref2 0 1 life0)) Path.refl Path.refl) d14
 
-          d16 : Typed.Typed 𝓤 H A 𝓣 E G9 b13 Δ0 at16
-          d16 = Typed.g-pre 𝓤 H A W 𝓣 E G9 G10 b13 Δ0 (λ Ψ. Ψ) at15 (Lifetime.g-end 𝓤 H A W E G9 1 Path.refl) d15
+          d16 : Typed.Typed 𝓤 H A 𝓣 E G7 b12 Δ0 at16
+          d16 = Typed.g-pre 𝓤 H A W 𝓣 E G7 G8 b12 Δ0 (λ Ψ. Ψ) at15 (Lifetime.g-end 𝓤 H A W E G7 1 Path.refl) d15
 
-          d17 : Typed.Typed 𝓤 H A 𝓣 E G8 b13 Δ0 at17
-          d17 = Typed.g-pre 𝓤 H A W 𝓣 E G8 G9 b13 Δ0 (Typed.pass T8 T9 s7) at16 (Scalar.g-room 𝓤 H A W E G8 5 Laws'.mir (Local.room-whole
-              𝓤 H A W (Declared.row Question.the-type) Laws'.mir Path.refl)) d16
+          d17 : Typed.Typed 𝓤 H A 𝓣 E G6 b12 Δ0 at17
+          d17 = Typed.g-pre 𝓤 H A W 𝓣 E G6 G7 b12 Δ0 (Typed.pass T6 T7 s5) at16 (Scalar.g-room 𝓤 H A W E G6 7 slice0
+              (Shared.room-sslice 𝓤 H A W RelayPending.row ref0 1)) d16
 
-          d18 : Typed.Typed 𝓤 H A 𝓣 E G7 b13 Δ0 at18
-          d18 = Typed.g-pre 𝓤 H A W 𝓣 E G7 G8 b13 Δ0 (Typed.pass T7 T8 s6) at17 (Scalar.g-room 𝓤 H A W E G7 8 slice0
-              (Shared.room-sslice 𝓤 H A W RelayPending.row ref0 1)) d17
-
-          d19 : Typed.Typed 𝓤 H A 𝓣 E G6 b14 Δ0 at19
-          d19 = Typed.s-seq 𝓤 H A W 𝓣 E G6 G7 b4 b13 Δ0 (Typed.both s5) at18 (Plain.t-call-plain 𝓤 H A W 𝓣 1 ps·1 r·1
-              (claims· .2) (claims· .3) "hnsr_circuit::tables::pending::find_pending" (known .1) E (λ pos β. β) G6 (
-                record { pos = 8; ty = ref0; ref = λ x. x },
-                (
-                  record { pos = 2; st = List.[]; d = 0; at = λ x. x },
-                  (record { pos = 5; st = List.[]; d = 0; at = λ x. x }, tt),
-                ),
-              ) 6 (1 ∷ List.[]) (Call.sub-id 𝓤 H A W (G6 .slots)) (
+          d18 : Typed.Typed 𝓤 H A 𝓣 E G5 b13 Δ0 at18
+          d18 = Typed.s-seq 𝓤 H A W 𝓣 E G5 G6 b3 b12 Δ0 (Typed.both s4) at17 (Plain.t-call-plain 𝓤 H A W 𝓣 1 ps·0 r·0
+              (claims· .0) (claims· .1) "hnsr_circuit::tables::pending::spare_pending" (known .0) E (λ pos β. β) G5 (
+                record { pos = 7; ty = ref0; ref = λ x. x },
+                (record { pos = 2; st = List.[]; d = 0; at = λ x. x }, tt),
+              ) 5 (1 ∷ List.[]) (Call.sub-id 𝓤 H A W (G5 .slots)) (
                 ShrSlice.spares-sslice 𝓤 H A W RelayPending.row ref0 1,
                 Shared.reads-sslice 𝓤 H A W RelayPending.row ref0 1,
                 Path.refl,
@@ -826,56 +761,41 @@ module _ (claims· : Claims) where
                         (Declared.row Places.the-type) ρ,
                     Path.refl,
                   ),
-                  (
-                    (
-                      Yields.yields-copy 𝓤 H A W (λ ρ. Unit) (Declared.row Question.the-type) Path.refl (Copies.cStruct
-                          Question.the-type Laws'.the-laws Laws'.the-copy .copy 𝓤 H A W)
-                          (Rows.whole (Declared.row Question.the-type)) (λ x. x) (λ x. x) (λ ρ told. Local.mem-whole 𝓤
-                          H A W (Declared.row Question.the-type) ρ) λ ρ told. Local.whole-mem 𝓤 H A W
-                          (Declared.row Question.the-type) ρ,
-                      Path.refl,
-                    ),
-                    tt,
-                  ),
+                  tt,
                 ),
-              ) (Reads'.room-gone 𝓤 H A (Syntax.tyInt Syntax.w64)) (tt, tt) Path.refl) d18
+              ) (Reads'.room-gone 𝓤 H A (Syntax.tyInt Syntax.w64)) (tt, tt) Path.refl) d17
 
-          d20 : Typed.Typed 𝓤 H A 𝓣 E G5 b15 Δ0 at20
-          d20 = Typed.s-seq 𝓤 H A W 𝓣 E G5 G6 b3 b14 Δ0 (Typed.ask s4) at19 (Relend.t-sl-aggregate 𝓤 H A W E
-              RelayPending.row 𝓣 (Relend.asShr RelayPending.row) G5 7 8 1 ref0 ref0 (λ x. x) (Scalar.oFld 1
+          d19 : Typed.Typed 𝓤 H A 𝓣 E G4 b14 Δ0 at19
+          d19 = Typed.s-seq 𝓤 H A W 𝓣 E G4 G5 b2 b13 Δ0 (Typed.ask s3) at18 (Relend.t-sl-aggregate 𝓤 H A W E
+              RelayPending.row 𝓣 (Relend.asShr RelayPending.row) G4 6 7 1 ref0 ref0 (λ x. x) (Scalar.oFld 1
               ((Syntax.field 1) ∷ List.[]) (Syntax.tyInt Syntax.w64) 8 λ v. Shared.lenV (v .0))
               (Reads'.as-is 𝓤 H A (Relend.ssptr RelayPending.row ref0 1)) (Reads'.room-gone 𝓤 H A slice0) (
                 Reshare.reads-owedS-len 𝓤 H A W RelayPending.row ref2 0 1 life0 8 Path.refl,
                 Path.refl,
-              ) Path.refl Path.refl λ b o k. tt) d19
+              ) Path.refl Path.refl λ b o k. tt) d18
 
-          d21 : Typed.Typed 𝓤 H A 𝓣 E G4 b16 Δ0 at21
-          d21 = Typed.s-seq 𝓤 H A W 𝓣 E G4 G5 b2 b15 Δ0 (Typed.give s3) at20 (Reshare.t-sl-reshare 𝓤 H A W E
-              RelayPending.row 𝓣 G4 1 7 0 1 ref2 ref0 life0 0 (λ x. x)
+          d20 : Typed.Typed 𝓤 H A 𝓣 E G3 b15 Δ0 at20
+          d20 = Typed.s-seq 𝓤 H A W 𝓣 E G3 G4 b1 b14 Δ0 (Typed.give s2) at19 (Reshare.t-sl-reshare 𝓤 H A W E
+              RelayPending.row 𝓣 G3 1 6 0 1 ref2 ref0 life0 0 (λ x. x)
               (Reads'.as-is 𝓤 H A (Mut.mslice RelayPending.row ref2 0)) (Reads'.room-gone 𝓤 H A ref0) Path.refl tt
-              Path.refl Path.refl Path.refl λ b o. tt) d20
+              Path.refl Path.refl Path.refl λ b o. tt) d19
 
-          d22 : Typed.Typed 𝓤 H A 𝓣 E G3 b16 Δ0 at22
-          d22 = Typed.g-pre 𝓤 H A W 𝓣 E G3 G4 b16 Δ0 (λ Ψ. Ψ) at21 (Lifetime.g-begin 𝓤 H A W E G3 1 (
+          d21 : Typed.Typed 𝓤 H A 𝓣 E G2 b15 Δ0 at21
+          d21 = Typed.g-pre 𝓤 H A W 𝓣 E G2 G3 b15 Δ0 (λ Ψ. Ψ) at20 (Lifetime.g-begin 𝓤 H A W E G2 1 (
             tt,
-            (tt, (tt, (tt, (tt, (tt, (tt, (tt, (tt, (tt, (tt, (tt, tt))))))))))),
-          )) d21
+            (tt, (tt, (tt, (tt, (tt, (tt, (tt, (tt, (tt, (tt, tt)))))))))),
+          )) d20
 
-          d23 : Typed.Typed 𝓤 H A 𝓣 E G2 b17 Δ0 at23
-          d23 = Typed.s-seq 𝓤 H A W 𝓣 E G2 G3 b1 b16 Δ0 (Typed.both s1) at22 (Plain.t-call-plain 𝓤 H A W 𝓣 0 ps·0 r·0
-              (claims· .0) (claims· .1) "hnsr_circuit::tables::question::unused" (known .0) E (λ pos β. β) G2 tt 5
-              List.[] (Call.sub-id 𝓤 H A W (G2 .slots)) tt (Reads'.room-gone 𝓤 H A Laws'.mir) tt Path.refl) d22
-
-          d24 : Typed.Typed 𝓤 H A 𝓣 E G0 b18 Δ0 at24
-          d24 = Typed.s-seq 𝓤 H A W 𝓣 E G0 G2 b0 b17 Δ0 (Typed.pass T0 T2 s0) at23 (Scalar.t-use 𝓤 H A W E 𝓣 G0 (Scalar.oFld
+          d22 : Typed.Typed 𝓤 H A 𝓣 E G0 b16 Δ0 at22
+          d22 = Typed.s-seq 𝓤 H A W 𝓣 E G0 G2 b0 b15 Δ0 (Typed.pass T0 T2 s0) at21 (Scalar.t-use 𝓤 H A W E 𝓣 G0 (Scalar.oFld
               1 ((Syntax.field 1) ∷ List.[]) (Syntax.tyInt Syntax.w64) 8 Shared.lenV) 4
               (Rows.sc-here (Row.sInt Syntax.w64)) (Syntax.tyInt Syntax.w64) (Row.valS (Row.sInt Syntax.w64))
               (Row.sInt Syntax.w64 .of) (Mut.reads-mslice-len 𝓤 H A W RelayPending.row ref2 0 8 Path.refl, Path.refl)
               (Reads'.room-gone 𝓤 H A (Syntax.tyInt Syntax.w64)) (Scalar.holds-sc 𝓤 H A W (Row.sInt Syntax.w64))
-              Path.refl (λ u. Path.refl) λ u. tt) d23
+              Path.refl (λ u. Path.refl) λ u. tt) d21
 
-          pub typed : Typed.Typed 𝓤 H A 𝓣 E (Function.Γin 1 ps r xs m κs qs) b18 (Function.Δret 1 ps r xs m κs qs) Φ
-          typed = d24
+          pub typed : Typed.Typed 𝓤 H A 𝓣 E (Function.Γin 1 ps r xs m κs qs) b16 (Function.Δret 1 ps r xs m κs qs) Φ
+          typed = d22
 
       module _ (κs : Lifetimes.Lfts 1) where
         pub record Args : Type 0 where
@@ -906,260 +826,225 @@ module _ (claims· : Claims) where
       abbrev pub m1 : (κs : Lifetimes.Lfts 1) → (args : Args κs) → Typed.Mo T2
       m1 = λ κs args. s0 (m0 κs args)
 
-      abbrev pub Need-unused-requires : Type 0
-      Need-unused-requires = (c : Start) → s1 .asks (m1 (c .κs) (c .args))
+      abbrev pub m2 : (before : Start) → (given : s2 .gives (m1 (before .κs) (before .args))) → Typed.Mo T4
+      m2 = λ before given. s2 .next (m1 (before .κs) (before .args)) given
 
-      abbrev pub m2 : (before : Start) → (given : s1 .gives (m1 (before .κs) (before .args))) → Typed.Mo T3
-      m2 = λ before given. s1 .next (m1 (before .κs) (before .args)) given
+      abbrev pub m3 : (before : Start) → (given : s2 .gives (m1 (before .κs) (before .args))) → Typed.Mo T5
+      m3 = λ before given. s3 .next (m2 before given)
 
       module _ (before· : Start) where
-        abbrev pub After-unused·own : Type 0
-        After-unused·own = Called.Called ps·0 r·0 (claims· .1) T2 tt (m1 (before· .κs) (before· .args))
+        pub record After-spare-pending-arg·own : Type 0 where
+          pub given : s2 .gives (m1 (before· .κs) (before· .args))
 
-      pub record After-unused : Type 0 where
+      pub record After-spare-pending-arg : Type 0 where
         pub before : Start
-        pub unused : After-unused·own before
+        pub spare-pending-arg : After-spare-pending-arg·own before
 
-      abbrev pub After-unused·gave : (c : After-unused) → s1 .gives (m1 (c .before .κs) (c .before .args))
-      After-unused·gave = λ c. Called.given ps·0 r·0 (claims· .1) T2 tt (m1 (c .before .κs) (c .before .args))
-          (c .unused)
+      abbrev pub Need-spare-pending-requires : Type 0
+      Need-spare-pending-requires = (c : After-spare-pending-arg) → s4 .asks
+          (m3 (c .before) (c .spare-pending-arg .given))
 
-      abbrev pub m3 : (before : After-unused) → (given : s3 .gives (m2 (before .before) (After-unused·gave before))) →
-          Typed.Mo T5
-      m3 = λ before given. s3 .next (m2 (before .before) (After-unused·gave before)) given
+      abbrev pub m4 : (before : After-spare-pending-arg) → (given : s4 .gives
+          (m3 (before .before) (before .spare-pending-arg .given))) → Typed.Mo T6
+      m4 = λ before given. s4 .next (m3 (before .before) (before .spare-pending-arg .given)) given
 
-      abbrev pub m4 : (before : After-unused) → (given : s3 .gives (m2 (before .before) (After-unused·gave before))) →
-          Typed.Mo T6
-      m4 = λ before given. s4 .next (m3 before given)
+      module _ (before· : After-spare-pending-arg) where
+        abbrev pub After-spare-pending·own : Type 0
+        After-spare-pending·own = Called.Called ps·0 r·0 (claims· .1) T5 args4
+            (m3 (before· .before) (before· .spare-pending-arg .given))
 
-      module _ (before· : After-unused) where
-        pub record After-find-pending-arg·own : Type 0 where
-          pub given : s3 .gives (m2 (before· .before) (After-unused·gave before·))
+      pub record After-spare-pending : Type 0 where
+        pub before : After-spare-pending-arg
+        pub spare-pending : After-spare-pending·own before
 
-      pub record After-find-pending-arg : Type 0 where
-        pub before : After-unused
-        pub find-pending-arg : After-find-pending-arg·own before
+      abbrev pub After-spare-pending·gave : (c : After-spare-pending) → s4 .gives (m3 (c .before .before)
+          (c .before .spare-pending-arg .given))
+      After-spare-pending·gave = λ c. Called.given ps·0 r·0 (claims· .1) T5 args4 (m3 (c .before .before)
+          (c .before .spare-pending-arg .given)) (c .spare-pending)
 
-      abbrev pub Need-find-pending-requires : Type 0
-      Need-find-pending-requires = (c : After-find-pending-arg) → s5 .asks
-          (m4 (c .before) (c .find-pending-arg .given))
+      abbrev pub m5 : (before : After-spare-pending-arg) → (given : s4 .gives
+          (m3 (before .before) (before .spare-pending-arg .given))) → Typed.Mo T7
+      m5 = λ before given. s5 (m4 before given)
 
-      abbrev pub m5 : (before : After-find-pending-arg) → (given : s5 .gives
-          (m4 (before .before) (before .find-pending-arg .given))) → Typed.Mo T7
-      m5 = λ before given. s5 .next (m4 (before .before) (before .find-pending-arg .given)) given
+      abbrev pub m6 : (before : After-spare-pending-arg) → (given : s4 .gives
+          (m3 (before .before) (before .spare-pending-arg .given))) → Typed.Mo T9
+      m6 = λ before given. s7 (m5 before given)
 
-      module _ (before· : After-find-pending-arg) where
-        abbrev pub After-find-pending·own : Type 0
-        After-find-pending·own = Called.Called ps·1 r·1 (claims· .3) T6 args5
-            (m4 (before· .before) (before· .find-pending-arg .given))
+      abbrev pub m7 : (before : After-spare-pending) → (given : s10 .gives
+          (m6 (before .before) (After-spare-pending·gave before))) → Typed.Mo T12
+      m7 = λ before given. s10 .next (m6 (before .before) (After-spare-pending·gave before)) given
 
-      pub record After-find-pending : Type 0 where
-        pub before : After-find-pending-arg
-        pub find-pending : After-find-pending·own before
+      abbrev pub m8 : (before : After-spare-pending) → (given : s10 .gives
+          (m6 (before .before) (After-spare-pending·gave before))) → Typed.Mo T13
+      m8 = λ before given. s11 .next (m7 before given)
 
-      abbrev pub After-find-pending·gave : (c : After-find-pending) → s5 .gives (m4 (c .before .before)
-          (c .before .find-pending-arg .given))
-      After-find-pending·gave = λ c. Called.given ps·1 r·1 (claims· .3) T6 args5 (m4 (c .before .before)
-          (c .before .find-pending-arg .given)) (c .find-pending)
-
-      abbrev pub m6 : (before : After-find-pending-arg) → (given : s5 .gives
-          (m4 (before .before) (before .find-pending-arg .given))) → Typed.Mo T8
-      m6 = λ before given. s6 (m5 before given)
-
-      abbrev pub m7 : (before : After-find-pending-arg) → (given : s5 .gives
-          (m4 (before .before) (before .find-pending-arg .given))) → Typed.Mo T9
-      m7 = λ before given. s7 (m6 before given)
-
-      abbrev pub m8 : (before : After-find-pending-arg) → (given : s5 .gives
-          (m4 (before .before) (before .find-pending-arg .given))) → Typed.Mo T11
-      m8 = λ before given. s9 (m7 before given)
-
-      abbrev pub m9 : (before : After-find-pending) → (given : s12 .gives
-          (m8 (before .before) (After-find-pending·gave before))) → Typed.Mo T14
-      m9 = λ before given. s12 .next (m8 (before .before) (After-find-pending·gave before)) given
-
-      abbrev pub m10 : (before : After-find-pending) → (given : s12 .gives
-          (m8 (before .before) (After-find-pending·gave before))) → Typed.Mo T15
-      m10 = λ before given. s13 .next (m9 before given)
-
-      module _ (before· : After-find-pending) where
+      module _ (before· : After-spare-pending) where
         pub record After-set-pending-arg·own : Type 0 where
-          pub given : s12 .gives (m8 (before· .before) (After-find-pending·gave before·))
+          pub given : s10 .gives (m6 (before· .before) (After-spare-pending·gave before·))
 
       pub record After-set-pending-arg : Type 0 where
-        pub before : After-find-pending
+        pub before : After-spare-pending
         pub set-pending-arg : After-set-pending-arg·own before
 
       abbrev pub Need-set-pending-requires : Type 0
-      Need-set-pending-requires = (c : After-set-pending-arg) → s14 .asks (m10 (c .before) (c .set-pending-arg .given))
+      Need-set-pending-requires = (c : After-set-pending-arg) → s12 .asks (m8 (c .before) (c .set-pending-arg .given))
 
-      abbrev pub m11 : (before : After-set-pending-arg) → (given : s14 .gives
-          (m10 (before .before) (before .set-pending-arg .given))) → Typed.Mo T16
-      m11 = λ before given. s14 .next (m10 (before .before) (before .set-pending-arg .given)) given
+      abbrev pub m9 : (before : After-set-pending-arg) → (given : s12 .gives
+          (m8 (before .before) (before .set-pending-arg .given))) → Typed.Mo T14
+      m9 = λ before given. s12 .next (m8 (before .before) (before .set-pending-arg .given)) given
 
       module _ (before· : After-set-pending-arg) where
         abbrev pub After-set-pending·own : Type 0
-        After-set-pending·own = Called.Called ps·2 r·2 (claims· .5) T15 args14
-            (m10 (before· .before) (before· .set-pending-arg .given))
+        After-set-pending·own = Called.Called ps·1 r·1 (claims· .3) T13 args12
+            (m8 (before· .before) (before· .set-pending-arg .given))
 
       pub record After-set-pending : Type 0 where
         pub before : After-set-pending-arg
         pub set-pending : After-set-pending·own before
 
-      abbrev pub After-set-pending·gave : (c : After-set-pending) → s14 .gives (m10 (c .before .before)
+      abbrev pub After-set-pending·gave : (c : After-set-pending) → s12 .gives (m8 (c .before .before)
           (c .before .set-pending-arg .given))
-      After-set-pending·gave = λ c. Called.given ps·2 r·2 (claims· .5) T15 args14 (m10 (c .before .before)
+      After-set-pending·gave = λ c. Called.given ps·1 r·1 (claims· .3) T13 args12 (m8 (c .before .before)
           (c .before .set-pending-arg .given)) (c .set-pending)
 
-      abbrev pub m12 : (before : After-set-pending-arg) → (given : s14 .gives
-          (m10 (before .before) (before .set-pending-arg .given))) → Typed.Mo T17
-      m12 = λ before given. s15 (m11 before given)
+      abbrev pub m10 : (before : After-set-pending-arg) → (given : s12 .gives
+          (m8 (before .before) (before .set-pending-arg .given))) → Typed.Mo T15
+      m10 = λ before given. s13 (m9 before given)
 
-      abbrev pub m13 : (before : After-set-pending-arg) → (given : s14 .gives
-          (m10 (before .before) (before .set-pending-arg .given))) → Typed.Mo T18
-      m13 = λ before given. s16 (m12 before given)
+      abbrev pub m11 : (before : After-set-pending-arg) → (given : s12 .gives
+          (m8 (before .before) (before .set-pending-arg .given))) → Typed.Mo T16
+      m11 = λ before given. s14 (m10 before given)
 
-      abbrev pub m14 : (before : After-set-pending) → (given : s18 .gives
-          (m13 (before .before) (After-set-pending·gave before))) → Typed.Mo T20
-      m14 = λ before given. s18 .next (m13 (before .before) (After-set-pending·gave before)) given
+      abbrev pub m12 : (before : After-set-pending) → (given : s16 .gives
+          (m11 (before .before) (After-set-pending·gave before))) → Typed.Mo T18
+      m12 = λ before given. s16 .next (m11 (before .before) (After-set-pending·gave before)) given
 
       module _ (before· : After-set-pending) where
         pub record After-pending·own : Type 0 where
-          pub given : s18 .gives (m13 (before· .before) (After-set-pending·gave before·))
+          pub given : s16 .gives (m11 (before· .before) (After-set-pending·gave before·))
 
       pub record After-pending : Type 0 where
         pub before : After-set-pending
         pub pending : After-pending·own before
 
       abbrev pub Need-raised-requires : Type 0
-      Need-raised-requires = (c : After-pending) → s20 .asks (m14 (c .before) (c .pending .given))
+      Need-raised-requires = (c : After-pending) → s18 .asks (m12 (c .before) (c .pending .given))
 
-      abbrev pub m15 : (before : After-pending) → (given : s20 .gives (m14 (before .before) (before .pending .given)))
-          → Typed.Mo T22
-      m15 = λ before given. s20 .next (m14 (before .before) (before .pending .given)) given
+      abbrev pub m13 : (before : After-pending) → (given : s18 .gives (m12 (before .before) (before .pending .given)))
+          → Typed.Mo T20
+      m13 = λ before given. s18 .next (m12 (before .before) (before .pending .given)) given
 
       module _ (before· : After-pending) where
         abbrev pub After-raised·own : Type 0
-        After-raised·own = Called.Called ps·3 r·3 (claims· .7) T20 args20
-            (m14 (before· .before) (before· .pending .given))
+        After-raised·own = Called.Called ps·2 r·2 (claims· .5) T18 args18
+            (m12 (before· .before) (before· .pending .given))
 
       pub record After-raised : Type 0 where
         pub before : After-pending
         pub raised : After-raised·own before
 
-      abbrev pub After-raised·gave : (c : After-raised) → s20 .gives
-          (m14 (c .before .before) (c .before .pending .given))
-      After-raised·gave = λ c. Called.given ps·3 r·3 (claims· .7) T20 args20
-          (m14 (c .before .before) (c .before .pending .given)) (c .raised)
+      abbrev pub After-raised·gave : (c : After-raised) → s18 .gives
+          (m12 (c .before .before) (c .before .pending .given))
+      After-raised·gave = λ c. Called.given ps·2 r·2 (claims· .5) T18 args18
+          (m12 (c .before .before) (c .before .pending .given)) (c .raised)
 
-      abbrev pub m16 : (before : After-pending) → (given : s20 .gives (m14 (before .before) (before .pending .given)))
+      abbrev pub m14 : (before : After-pending) → (given : s18 .gives (m12 (before .before) (before .pending .given)))
+          → Typed.Mo T21
+      m14 = λ before given. s19 (m13 before given)
+
+      abbrev pub m15 : (before : After-pending) → (given : s18 .gives (m12 (before .before) (before .pending .given)))
+          → Typed.Mo T22
+      m15 = λ before given. s20 (m14 before given)
+
+      abbrev pub m16 : (before : After-pending) → (given : s18 .gives (m12 (before .before) (before .pending .given)))
           → Typed.Mo T23
       m16 = λ before given. s21 (m15 before given)
 
-      abbrev pub m17 : (before : After-pending) → (given : s20 .gives (m14 (before .before) (before .pending .given)))
-          → Typed.Mo T24
-      m17 = λ before given. s22 (m16 before given)
-
-      abbrev pub m18 : (before : After-pending) → (given : s20 .gives (m14 (before .before) (before .pending .given)))
-          → Typed.Mo T25
-      m18 = λ before given. s23 (m17 before given)
-
       abbrev pub Need-same-length : Type 0
-      Need-same-length = (c : After-raised) → MutSlice.SameLen (Row.get 1 (T25 .locals)
-          (m18 (c .before) (After-raised·gave c))) (dens (c .before .before .before .before .before .before .before .κs) (c
-          .before .before .before .before .before .before .before .args) .0)
+      Need-same-length = (c : After-raised) → MutSlice.SameLen (Row.get 1 (T23 .locals)
+          (m16 (c .before) (After-raised·gave c))) (dens (c .before .before .before .before .before .before .κs)
+          (c .before .before .before .before .before .before .args) .0)
 
       abbrev pub Need-returns : Type 0
-      Need-returns = (c : After-raised) → Post· (c .before .before .before .before .before .before .before .κs) (dens (c
-          .before .before .before .before .before .before .before .κs) (c .before .before .before .before .before
-          .before .before .args)) (Function.resV r (c .before .before .before .before .before .before .before .κs)
-          (m18 (c .before) (After-raised·gave c) .0)) (Clauses.atExit (Kinds.endedOf 1 ps r) (c .before .before .before
-          .before .before .before .before .κs) (dens (c .before .before .before .before .before .before .before .κs) (c
-          .before .before .before .before .before .before .before .args)) (Enter.lastsP (c .before .before .before
-          .before .before .before .before .κs) 1 ps xs (dens (c .before .before .before .before .before .before .before
-          .κs) (c .before .before .before .before .before .before .before .args))
-          (m18 (c .before) (After-raised·gave c) .1)))
+      Need-returns = (c : After-raised) → Post· (c .before .before .before .before .before .before .κs) (dens
+          (c .before .before .before .before .before .before .κs)
+          (c .before .before .before .before .before .before .args)) (Function.resV r
+          (c .before .before .before .before .before .before .κs) (m16 (c .before) (After-raised·gave c) .0)) (Clauses.atExit
+          (Kinds.endedOf 1 ps r) (c .before .before .before .before .before .before .κs) (dens
+          (c .before .before .before .before .before .before .κs)
+          (c .before .before .before .before .before .before .args)) (Enter.lastsP
+          (c .before .before .before .before .before .before .κs) 1 ps xs (dens
+          (c .before .before .before .before .before .before .κs)
+          (c .before .before .before .before .before .before .args)) (m16 (c .before) (After-raised·gave c) .1)))
 
-      module _ (unused-requires : Need-unused-requires) (find-pending-requires : Need-find-pending-requires)
+      module _ (spare-pending-requires : Need-spare-pending-requires)
           (set-pending-requires : Need-set-pending-requires) (raised-requires : Need-raised-requires)
           (same-length : Need-same-length) (returns : Need-returns) where
-        lay4 : (c : After-raised) → at3 (W0 (c .before .before .before .before .before .before .before .κs) (c .before
-            .before .before .before .before .before .before .args)) (m15 (c .before) (After-raised·gave c))
-        lay4 = λ c. (
+        lay3 : (c : After-raised) → at3 (W0 (c .before .before .before .before .before .before .κs)
+            (c .before .before .before .before .before .before .args)) (m13 (c .before) (After-raised·gave c))
+        lay3 = λ c. (
           (
-            MutSlice.fix-len (Row.get 1 (T25 .locals) (m18 (c .before) (After-raised·gave c)) .ptr) (Row.get 1
-                (T25 .locals) (m18 (c .before) (After-raised·gave c)) .name) (Row.get 1 (T25 .locals)
-                (m18 (c .before) (After-raised·gave c)) .now) (dens (c .before .before .before .before .before .before
-                .before .κs) (c .before .before .before .before .before .before .before .args) .0 .now) (same-length
+            MutSlice.fix-len (Row.get 1 (T23 .locals) (m16 (c .before) (After-raised·gave c)) .ptr) (Row.get 1
+                (T23 .locals) (m16 (c .before) (After-raised·gave c)) .name) (Row.get 1 (T23 .locals)
+                (m16 (c .before) (After-raised·gave c)) .now) (dens
+                (c .before .before .before .before .before .before .κs)
+                (c .before .before .before .before .before .before .args) .0 .now) (same-length
                 record { before = c .before; raised = c .raised }),
             (tt, (tt, tt)),
           ),
           returns record { before = c .before; raised = c .raised },
         )
 
-        lay3 : (c : After-set-pending) → at9 (W0 (c .before .before .before .before .before .κs)
-            (c .before .before .before .before .before .args)) (m11 (c .before) (After-set-pending·gave c))
-        lay3 = λ c. (
+        lay2 : (c : After-set-pending) → at9 (W0 (c .before .before .before .before .κs)
+            (c .before .before .before .before .args)) (m9 (c .before) (After-set-pending·gave c))
+        lay2 = λ c. (
           Path.refl,
           λ g. (
             raised-requires record {
               before = record { before = c .before; set-pending = c .set-pending };
               pending = record { given = g };
             },
-            λ g'. lay4 record {
+            λ g'. lay3 record {
               before = record {
                 before = record { before = c .before; set-pending = c .set-pending };
                 pending = record { given = g };
               };
-              raised = Called.called ps·3 r·3 (claims· .7) T20 args20 (m14
+              raised = Called.called ps·2 r·2 (claims· .5) T18 args18 (m12
                   record { before = c .before; set-pending = c .set-pending } g) g';
             },
           ),
         )
 
-        lay2 : (c : After-find-pending) → at18 (W0 (c .before .before .before .κs) (c .before .before .before .args))
-            (m5 (c .before) (After-find-pending·gave c))
-        lay2 = λ c. λ g. (
-          Path.refl,
-          (
-            set-pending-requires record {
-              before = record { before = c .before; find-pending = c .find-pending };
-              set-pending-arg = record { given = g };
-            },
-            λ g'. lay3 record {
-              before = record {
-                before = record { before = c .before; find-pending = c .find-pending };
-                set-pending-arg = record { given = g };
-              };
-              set-pending = Called.called ps·2 r·2 (claims· .5) T15 args14 (m10
-                  record { before = c .before; find-pending = c .find-pending } g) g';
-            },
-          ),
-        )
-
-        lay1 : (c : After-unused) → at22 (W0 (c .before .κs) (c .before .args)) (m2 (c .before) (After-unused·gave c))
+        lay1 : (c : After-spare-pending) → at17 (W0 (c .before .before .κs) (c .before .before .args))
+            (m4 (c .before) (After-spare-pending·gave c))
         lay1 = λ c. λ g. (
           Path.refl,
           (
-            find-pending-requires record {
-              before = record { before = c .before; unused = c .unused };
-              find-pending-arg = record { given = g };
+            set-pending-requires record {
+              before = record { before = c .before; spare-pending = c .spare-pending };
+              set-pending-arg = record { given = g };
             },
             λ g'. lay2 record {
               before = record {
-                before = record { before = c .before; unused = c .unused };
-                find-pending-arg = record { given = g };
+                before = record { before = c .before; spare-pending = c .spare-pending };
+                set-pending-arg = record { given = g };
               };
-              find-pending = Called.called ps·1 r·1 (claims· .3) T6 args5
-                  (m4 record { before = c .before; unused = c .unused } g) g';
+              set-pending = Called.called ps·1 r·1 (claims· .3) T13 args12 (m8
+                  record { before = c .before; spare-pending = c .spare-pending } g) g';
             },
           ),
         )
 
-        pub laid : (c : Start) → at24 (W0 (c .κs) (c .args)) (m0 (c .κs) (c .args))
-        laid = λ c. (
-          unused-requires c,
-          λ g. lay1 record { before = c; unused = Called.called ps·0 r·0 (claims· .1) T2 tt (m1 (c .κs) (c .args)) g },
+        pub laid : (c : Start) → at22 (W0 (c .κs) (c .args)) (m0 (c .κs) (c .args))
+        laid = λ c. λ g. (
+          Path.refl,
+          (
+            spare-pending-requires record { before = c; spare-pending-arg = record { given = g } },
+            λ g'. lay1 record {
+              before = record { before = c; spare-pending-arg = record { given = g } };
+              spare-pending = Called.called ps·0 r·0 (claims· .1) T5 args4 (m3 c g) g';
+            },
+          ),
         )
 
         module _ (κs : Lifetimes.Lfts 1) (qs : Lifetimes.Shares 1) where
@@ -1174,12 +1059,11 @@ module _ (claims· : Claims) where
           }
 
         module _ {M : Type 1} (𝓤 : URA.URA M) (H : Wp.Heap 𝓤) (A : Atoms.Atoms 𝓤) (W : Kit.Given 𝓤 H A)
-            (𝓣 : Wp.Tables 𝓤 H) (known0 : Plain.Known 𝓤 H A W 𝓣 0 ps·0 r·0 (claims· .0) (claims· .1)
-            "hnsr_circuit::tables::question::unused") (known1 : Plain.Known 𝓤 H A W 𝓣 1 ps·1 r·1 (claims· .2)
-            (claims· .3) "hnsr_circuit::tables::pending::find_pending") (known2 : Plain.Known 𝓤 H A W 𝓣 1 ps·2 r·2
-            (claims· .4) (claims· .5) "hnsr_circuit::tables::pending::set_pending") (known3 : Plain.Known 𝓤 H A W 𝓣 0
-            ps·3 r·3 (claims· .6) (claims· .7) "hnsr_circuit::tables::places::raised") where
+            (𝓣 : Wp.Tables 𝓤 H) (known0 : Plain.Known 𝓤 H A W 𝓣 1 ps·0 r·0 (claims· .0) (claims· .1)
+            "hnsr_circuit::tables::pending::spare_pending") (known1 : Plain.Known 𝓤 H A W 𝓣 1 ps·1 r·1 (claims· .2)
+            (claims· .3) "hnsr_circuit::tables::pending::set_pending") (known2 : Plain.Known 𝓤 H A W 𝓣 0 ps·2 r·2
+            (claims· .4) (claims· .5) "hnsr_circuit::tables::places::raised") where
           pub spec : Statement.Triple 𝓤 (Wp.WpFn 𝓤 H (𝓣 .C) (𝓣 .Λ) (Function.fnOf 1 ps r xs m hs body))
               (Function.plainOf 𝓤 H A 1 ps r Pre· Post·)
           spec = Plain.t-fn-plain 𝓤 H A W 𝓣 1 ps r xs m hs body (λ κs qs bs. Φ) (λ κs qs bs bd. typed κs qs 𝓤 H A W 𝓣
-              (known0, known1, known2, known3) bs bd) Pre· Post· asked
+              (known0, known1, known2) bs bd) Pre· Post· asked

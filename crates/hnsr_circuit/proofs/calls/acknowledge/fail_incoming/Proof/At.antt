@@ -8,8 +8,8 @@ pub record Returns (c : Tie.After-slice-known2) : Type 0 where
   pub start : Tie.Start
   pub pending-by-id : Lts.After-pending-by-id·own Tie.readings Reads.Pre Reads.Post (c .before .before .before .before
       .before .before .before .before .before .before .before .before .before .before .before)
-  pub pending-gone : Lts.After-pending-gone·own Tie.readings Reads.Pre Reads.Post (c .before .before .before .before
-      .before .before .before .before .before .before .before .before .before .before)
+  pub found-unmarked : Lts.After-found-unmarked·own Tie.readings Reads.Pre Reads.Post (c .before .before .before
+      .before .before .before .before .before .before .before .before .before .before .before)
   pub fail-plan : Lts.After-fail-plan·own Tie.readings Reads.Pre Reads.Post (c .before .before .before .before .before
       .before .before .before .before .before .before .before .before)
   pub after : Lts.After-after·own Tie.readings Reads.Pre Reads.Post (c .before .before .before .before .before .before
@@ -32,8 +32,8 @@ returns c = record {
       .before .before .before .before;
   pending-by-id = c .before .before .before .before .before .before .before .before .before .before .before .before
       .before .before .pending-by-id;
-  pending-gone = c .before .before .before .before .before .before .before .before .before .before .before .before
-      .before .pending-gone;
+  found-unmarked = c .before .before .before .before .before .before .before .before .before .before .before .before
+      .before .found-unmarked;
   fail-plan = c .before .before .before .before .before .before .before .before .before .before .before .before
       .fail-plan;
   after = c .before .before .before .before .before .before .before .before .before .before .before .after;
@@ -50,7 +50,7 @@ pub record Returns-2 (c : Tie.After-taken-with) : Type 0 where
   pub start : Tie.Start
   pub pending-by-id : Lts.After-pending-by-id·own Tie.readings Reads.Pre Reads.Post
       (c .before .before .before .before .before .before .before)
-  pub pending-gone : Lts.After-pending-gone·own Tie.readings Reads.Pre Reads.Post
+  pub found-unmarked : Lts.After-found-unmarked·own Tie.readings Reads.Pre Reads.Post
       (c .before .before .before .before .before .before)
   pub fail-plan : Lts.After-fail-plan·own Tie.readings Reads.Pre Reads.Post (c .before .before .before .before .before)
   pub after : Lts.After-after·own Tie.readings Reads.Pre Reads.Post (c .before .before .before .before)
@@ -62,7 +62,7 @@ abbrev pub returns-2 : (c : Tie.After-taken-with) → Returns-2 c
 returns-2 c = record {
   start = c .before .before .before .before .before .before .before .before .before;
   pending-by-id = c .before .before .before .before .before .before .pending-by-id;
-  pending-gone = c .before .before .before .before .before .pending-gone;
+  found-unmarked = c .before .before .before .before .before .found-unmarked;
   fail-plan = c .before .before .before .before .fail-plan;
   after = c .before .before .before .after;
   message = c .before .before .message;
@@ -73,8 +73,8 @@ returns-2 c = record {
 pending-by-id-requires : Tie.Need-pending-by-id-requires
 pending-by-id-requires c = search needs
 
-pending-gone-requires : Tie.Need-pending-gone-requires
-pending-gone-requires c = search needs
+found-unmarked-requires : Tie.Need-found-unmarked-requires
+found-unmarked-requires c = search needs
 
 fail-plan-requires : Tie.Need-fail-plan-requires
 fail-plan-requires c = search needs
@@ -102,5 +102,5 @@ same-length-4 c = search needs
 
 module _ {M : Type 1} where
   pub spec : Tie.Need-returns → Tie.Need-returns-2 → Lts.Closed Tie.readings Reads.Pre Reads.Post M
-  spec = λ a0 a1. Tie.spec pending-by-id-requires pending-gone-requires fail-plan-requires set-pending-requires
+  spec = λ a0 a1. Tie.spec pending-by-id-requires found-unmarked-requires fail-plan-requires set-pending-requires
       send-notice-requires same-length same-length-2 same-length-3 a0 taken-with-requires same-length-4 a1

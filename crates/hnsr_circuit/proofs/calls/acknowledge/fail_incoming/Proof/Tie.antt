@@ -13,12 +13,12 @@ use Rattle.hnsr_circuit.proofs.calls.acknowledge.fail_plan.Reads as Rea
 use Rattle.hnsr_circuit.proofs.calls.acknowledge.fail_plan.Symbol
 use Rattle.hnsr_circuit.proofs.calls.acknowledge.send_notice.Met as Met'
 use Rattle.hnsr_circuit.proofs.calls.acknowledge.send_notice.Symbol as Symbol'
-use Rattle.hnsr_circuit.proofs.calls.revocation.pending_gone.Met as Met''
-use Rattle.hnsr_circuit.proofs.calls.revocation.pending_gone.Reads as Reads'''''
-use Rattle.hnsr_circuit.proofs.calls.revocation.pending_gone.Symbol as Symbol''
-use Rattle.hnsr_circuit.proofs.runtime.taken_with.Met as Met'''
-use Rattle.hnsr_circuit.proofs.runtime.taken_with.Reads as Reads''''''
-use Rattle.hnsr_circuit.proofs.runtime.taken_with.Symbol as Symbol'''
+use Rattle.hnsr_circuit.proofs.runtime.taken_with.Met as Met''
+use Rattle.hnsr_circuit.proofs.runtime.taken_with.Reads as Reads'''''
+use Rattle.hnsr_circuit.proofs.runtime.taken_with.Symbol as Symbol''
+use Rattle.hnsr_circuit.proofs.tables.lookup.found_unmarked.Met as Met'''
+use Rattle.hnsr_circuit.proofs.tables.lookup.found_unmarked.Reads as Reads''''''
+use Rattle.hnsr_circuit.proofs.tables.lookup.found_unmarked.Symbol as Symbol'''
 use Rattle.hnsr_circuit.proofs.tables.lookup.pending_by_id.Met as Met''''
 use Rattle.hnsr_circuit.proofs.tables.lookup.pending_by_id.Symbol as Symbol''''
 use Rattle.hnsr_circuit.proofs.tables.pending.set_pending.Met as Met'''''
@@ -31,16 +31,16 @@ abbrev pub readings : Lts.Claims
 readings = (
   Reads''.Asked,
   Reads''.Learnt,
-  Reads'''''.Asked,
-  Reads'''''.Learnt,
+  Reads''''''.Asked,
+  Reads''''''.Learnt,
   Reads''''.Asked,
   Reads''''.Learnt,
   Reads'''.Asked,
   Reads'''.Learnt,
   Reads'.Asked,
   Reads'.Learnt,
-  Reads''''''.Asked,
-  Reads''''''.Learnt,
+  Reads'''''.Asked,
+  Reads'''''.Learnt,
 )
 
 abbrev pub Start : Type 0
@@ -55,8 +55,8 @@ After-pending-by-id-arg = Lts.After-pending-by-id-arg readings Reads.Pre Reads.P
 abbrev pub After-pending-by-id : Type 0
 After-pending-by-id = Lts.After-pending-by-id readings Reads.Pre Reads.Post
 
-abbrev pub After-pending-gone : Type 0
-After-pending-gone = Lts.After-pending-gone readings Reads.Pre Reads.Post
+abbrev pub After-found-unmarked : Type 0
+After-found-unmarked = Lts.After-found-unmarked readings Reads.Pre Reads.Post
 
 abbrev pub After-fail-plan : Type 0
 After-fail-plan = Lts.After-fail-plan readings Reads.Pre Reads.Post
@@ -106,8 +106,8 @@ After-taken-with = Lts.After-taken-with readings Reads.Pre Reads.Post
 abbrev pub Need-pending-by-id-requires : Type 0
 Need-pending-by-id-requires = Lts.Need-pending-by-id-requires readings Reads.Pre Reads.Post
 
-abbrev pub Need-pending-gone-requires : Type 0
-Need-pending-gone-requires = Lts.Need-pending-gone-requires readings Reads.Pre Reads.Post
+abbrev pub Need-found-unmarked-requires : Type 0
+Need-found-unmarked-requires = Lts.Need-found-unmarked-requires readings Reads.Pre Reads.Post
 
 abbrev pub Need-fail-plan-requires : Type 0
 Need-fail-plan-requires = Lts.Need-fail-plan-requires readings Reads.Pre Reads.Post
@@ -140,7 +140,7 @@ abbrev pub Need-returns-2 : Type 0
 Need-returns-2 = Lts.Need-returns-2 readings Reads.Pre Reads.Post
 
 module _ {M : Type 1} where
-  pub spec : (answer : Need-pending-by-id-requires) → (answer : Need-pending-gone-requires) →
+  pub spec : (answer : Need-pending-by-id-requires) → (answer : Need-found-unmarked-requires) →
       (answer : Need-fail-plan-requires) → (answer : Need-set-pending-requires) → (answer : Need-send-notice-requires)
       → (answer : Need-same-length) → (answer : Need-same-length-2) → (answer : Need-same-length-3) →
       (answer : Need-returns) → (answer : Need-taken-with-requires) → (answer : Need-same-length-4) →
@@ -157,14 +157,14 @@ module _ {M : Type 1} where
       record { M = M; 𝓤 = 𝓤; H = H; 𝓜 = 𝓜; 𝓖 = 𝓖; 𝓡 = 𝓡 }) (Reads.passes
       record { M = M; 𝓤 = 𝓤; H = H; 𝓜 = 𝓜; 𝓖 = 𝓖; 𝓡 = 𝓡 }) λ g. closed 𝓤 H (𝓖 .A) (Running.givenOf 𝓤 H 𝓜 𝓖)
       (Run.Over 𝓤 H 𝓜 𝓖 𝓡 Code.env) (Reads''.known record { M = M; 𝓤 = 𝓤; H = H; 𝓜 = 𝓜; 𝓖 = 𝓖; 𝓡 = 𝓡 } Code.env
-      Symbol''''.name Symbol''''.routine Code.calls-hnsr-circuit·tables·lookup·pending-by-id (Met''''.met 𝓤 H 𝓜 𝓖 𝓡)) (Reads'''''.known
-      record { M = M; 𝓤 = 𝓤; H = H; 𝓜 = 𝓜; 𝓖 = 𝓖; 𝓡 = 𝓡 } Code.env Symbol''.name Symbol''.routine
-      Code.calls-hnsr-circuit·calls·revocation·pending-gone (Met''.met 𝓤 H 𝓜 𝓖 𝓡)) (Reads''''.known
+      Symbol''''.name Symbol''''.routine Code.calls-hnsr-circuit·tables·lookup·pending-by-id (Met''''.met 𝓤 H 𝓜 𝓖 𝓡)) (Reads''''''.known
+      record { M = M; 𝓤 = 𝓤; H = H; 𝓜 = 𝓜; 𝓖 = 𝓖; 𝓡 = 𝓡 } Code.env Symbol'''.name Symbol'''.routine
+      Code.calls-hnsr-circuit·tables·lookup·found-unmarked (Met'''.met 𝓤 H 𝓜 𝓖 𝓡)) (Reads''''.known
       record { M = M; 𝓤 = 𝓤; H = H; 𝓜 = 𝓜; 𝓖 = 𝓖; 𝓡 = 𝓡 } Code.env Symbol.name Symbol.routine
       Code.calls-hnsr-circuit·calls·acknowledge·fail-plan (Met.met 𝓤 H 𝓜 𝓖 𝓡)) (Reads'''.known
       record { M = M; 𝓤 = 𝓤; H = H; 𝓜 = 𝓜; 𝓖 = 𝓖; 𝓡 = 𝓡 } Code.env Symbol'''''.name Symbol'''''.routine
       Code.calls-hnsr-circuit·tables·pending·set-pending (Met'''''.met 𝓤 H 𝓜 𝓖 𝓡)) (Reads'.known
       record { M = M; 𝓤 = 𝓤; H = H; 𝓜 = 𝓜; 𝓖 = 𝓖; 𝓡 = 𝓡 } Code.env Symbol'.name Symbol'.routine
-      Code.calls-hnsr-circuit·calls·acknowledge·send-notice (Met'.met 𝓤 H 𝓜 𝓖 𝓡)) (Reads''''''.known
-      record { M = M; 𝓤 = 𝓤; H = H; 𝓜 = 𝓜; 𝓖 = 𝓖; 𝓡 = 𝓡 } Code.env Symbol'''.name Symbol'''.routine
-      Code.calls-hnsr-circuit·runtime·taken-with (Met'''.met 𝓤 H 𝓜 𝓖 𝓡))
+      Code.calls-hnsr-circuit·calls·acknowledge·send-notice (Met'.met 𝓤 H 𝓜 𝓖 𝓡)) (Reads'''''.known
+      record { M = M; 𝓤 = 𝓤; H = H; 𝓜 = 𝓜; 𝓖 = 𝓖; 𝓡 = 𝓡 } Code.env Symbol''.name Symbol''.routine
+      Code.calls-hnsr-circuit·runtime·taken-with (Met''.met 𝓤 H 𝓜 𝓖 𝓡))

@@ -10,7 +10,6 @@ readings = (Reads.Asked, Reads.Learnt, Reads'.Asked, Reads'.Learnt)
 
 pub record Returns (c : Tie.Then1) : Type 0 where
   pub start : Tie.Start
-  pub question : Lts.After-question·own readings Reads''.Pre Reads''.Post (c .before .before .before .before .before)
   pub peer : Lts.After-peer·own readings Reads''.Pre Reads''.Post (c .before .before .before .before)
   pub close-to-other : Lts.After-close-to-other·own readings Reads''.Pre Reads''.Post (c .before .before .before)
   pub error-to-requester : Lts.After-error-to-requester·own readings Reads''.Pre Reads''.Post (c .before .before)
@@ -18,8 +17,7 @@ pub record Returns (c : Tie.Then1) : Type 0 where
 
 abbrev pub returns : (c : Tie.Then1) → Returns c
 returns c = record {
-  start = c .before .before .before .before .before;
-  question = c .before .before .before .before .question;
+  start = c .before .before .before .before;
   peer = c .before .before .before .peer;
   close-to-other = c .before .before .close-to-other;
   error-to-requester = c .before .error-to-requester;

@@ -33,8 +33,8 @@ Start = λ Inv μ. Lts.Start readings Reads''.Pre Reads''.Post Inv μ
 abbrev pub After-slice-known : (Inv : InvT-loop) → (μ : MeasureT-loop) → Type 0
 After-slice-known = λ Inv μ. Lts.After-slice-known readings Reads''.Pre Reads''.Post Inv μ
 
-abbrev pub After-question : (Inv : InvT-loop) → (μ : MeasureT-loop) → Type 0
-After-question = λ Inv μ. Lts.After-question readings Reads''.Pre Reads''.Post Inv μ
+abbrev pub After-peer : (Inv : InvT-loop) → (μ : MeasureT-loop) → Type 0
+After-peer = λ Inv μ. Lts.After-peer readings Reads''.Pre Reads''.Post Inv μ
 
 abbrev pub At-loop : (Inv : InvT-loop) → (μ : MeasureT-loop) → Type 0
 At-loop = λ Inv μ. Lts.At-loop readings Reads''.Pre Reads''.Post Inv μ

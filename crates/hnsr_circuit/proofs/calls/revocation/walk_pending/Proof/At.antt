@@ -4,17 +4,16 @@ use Rattle.hnsr_circuit.proofs.By.calls.revocation.walk_pending.Reads
 use Rattle.hnsr_circuit.proofs.calls.revocation.walk_pending.Proof.Tie
 
 module _ (Inv : Tie.InvT-loop) (μ : Tie.MeasureT-loop) where
-  pub record Loop-holds (c : Tie.After-question Inv μ) : Type 0 where
+  pub record Loop-holds (c : Tie.After-peer Inv μ) : Type 0 where
     pub start : Tie.Start Inv μ
-    pub question : Lts.After-question·own Tie.readings Reads.Pre Reads.Post Inv μ (c .before)
+    pub peer : Lts.After-peer·own Tie.readings Reads.Pre Reads.Post Inv μ (c .before)
 
-  abbrev pub loop-holds : (c : Tie.After-question Inv μ) → Loop-holds c
-  loop-holds c = record { start = c .before .before; question = c .question }
+  abbrev pub loop-holds : (c : Tie.After-peer Inv μ) → Loop-holds c
+  loop-holds c = record { start = c .before .before; peer = c .peer }
 
   pub record Returns (c : Tie.Then1 Inv μ) : Type 0 where
     pub start : Tie.Start Inv μ
-    pub question : Lts.After-question·own Tie.readings Reads.Pre Reads.Post Inv μ
-        (c .before .before .before .before .before)
+    pub peer : Lts.After-peer·own Tie.readings Reads.Pre Reads.Post Inv μ (c .before .before .before .before .before)
     pub loop : Lts.At-loop·own Tie.readings Reads.Pre Reads.Post Inv μ (c .before .before .before .before)
     pub loop-test : Lts.In-loop·own Tie.readings Reads.Pre Reads.Post Inv μ (c .before .before .before)
     pub no : Lts.After-no·own Tie.readings Reads.Pre Reads.Post Inv μ (c .before .before)
@@ -23,52 +22,17 @@ module _ (Inv : Tie.InvT-loop) (μ : Tie.MeasureT-loop) where
   abbrev pub returns : (c : Tie.Then1 Inv μ) → Returns c
   returns c = record {
     start = c .before .before .before .before .before .before;
-    question = c .before .before .before .before .question;
+    peer = c .before .before .before .before .peer;
     loop = c .before .before .before .loop;
     loop-test = c .before .before .loop-test;
     no = c .before .no;
     if1 = c .if1;
   }
 
-  pub record Next-pending-requires (c : Tie.After-next-pending-arg Inv μ) : Type 0 where
-    pub start : Tie.Start Inv μ
-    pub question : Lts.After-question·own Tie.readings Reads.Pre Reads.Post Inv μ (c .before .before .before .before
-        .before .before .before .before .before .before .before .before .before .before)
-    pub loop : Lts.At-loop·own Tie.readings Reads.Pre Reads.Post Inv μ (c .before .before .before .before .before
-        .before .before .before .before .before .before .before .before)
-    pub loop-test : Lts.In-loop·own Tie.readings Reads.Pre Reads.Post Inv μ (c .before .before .before .before .before
-        .before .before .before .before .before .before .before)
-    pub no : Lts.After-no·own Tie.readings Reads.Pre Reads.Post Inv μ (c .before .before .before .before .before
-        .before .before .before .before .before .before)
-    pub if1 : Lts.Else1·own Tie.readings Reads.Pre Reads.Post Inv μ (c .before .before .before .before .before .before
-        .before .before .before .before)
-    pub revoke-pending : Lts.After-revoke-pending·own Tie.readings Reads.Pre Reads.Post Inv μ
-        (c .before .before .before .before .before .before)
-    pub pending : Lts.After-pending·own Tie.readings Reads.Pre Reads.Post Inv μ
-        (c .before .before .before .before .before)
-    pub inflight : Lts.After-inflight·own Tie.readings Reads.Pre Reads.Post Inv μ (c .before .before .before .before)
-    pub out : Lts.After-out·own Tie.readings Reads.Pre Reads.Post Inv μ (c .before .before .before)
-
-  abbrev pub next-pending-requires : (c : Tie.After-next-pending-arg Inv μ) → Next-pending-requires c
-  next-pending-requires c = record {
-    start = c .before .before .before .before .before .before .before .before .before .before .before .before .before
-        .before .before;
-    question = c .before .before .before .before .before .before .before .before .before .before .before .before
-        .before .question;
-    loop = c .before .before .before .before .before .before .before .before .before .before .before .before .loop;
-    loop-test = c .before .before .before .before .before .before .before .before .before .before .before .loop-test;
-    no = c .before .before .before .before .before .before .before .before .before .before .no;
-    if1 = c .before .before .before .before .before .before .before .before .before .if1;
-    revoke-pending = c .before .before .before .before .before .revoke-pending;
-    pending = c .before .before .before .before .pending;
-    inflight = c .before .before .before .inflight;
-    out = c .before .before .out;
-  }
-
   pub record Add-turn (c : Tie.After-next-pending Inv μ) : Type 0 where
     pub start : Tie.Start Inv μ
-    pub question : Lts.After-question·own Tie.readings Reads.Pre Reads.Post Inv μ (c .before .before .before .before
-        .before .before .before .before .before .before .before .before .before .before .before)
+    pub peer : Lts.After-peer·own Tie.readings Reads.Pre Reads.Post Inv μ (c .before .before .before .before .before
+        .before .before .before .before .before .before .before .before .before .before)
     pub loop : Lts.At-loop·own Tie.readings Reads.Pre Reads.Post Inv μ (c .before .before .before .before .before
         .before .before .before .before .before .before .before .before .before)
     pub loop-test : Lts.In-loop·own Tie.readings Reads.Pre Reads.Post Inv μ (c .before .before .before .before .before
@@ -90,8 +54,8 @@ module _ (Inv : Tie.InvT-loop) (μ : Tie.MeasureT-loop) where
   add-turn c = record {
     start = c .before .before .before .before .before .before .before .before .before .before .before .before .before
         .before .before .before;
-    question = c .before .before .before .before .before .before .before .before .before .before .before .before
-        .before .before .question;
+    peer = c .before .before .before .before .before .before .before .before .before .before .before .before .before
+        .before .peer;
     loop = c .before .before .before .before .before .before .before .before .before .before .before .before .before
         .loop;
     loop-test = c .before .before .before .before .before .before .before .before .before .before .before .before
@@ -107,8 +71,8 @@ module _ (Inv : Tie.InvT-loop) (μ : Tie.MeasureT-loop) where
 
   pub record Loop-again (c : Tie.After-next-pending Inv μ) : Type 0 where
     pub start : Tie.Start Inv μ
-    pub question : Lts.After-question·own Tie.readings Reads.Pre Reads.Post Inv μ (c .before .before .before .before
-        .before .before .before .before .before .before .before .before .before .before .before)
+    pub peer : Lts.After-peer·own Tie.readings Reads.Pre Reads.Post Inv μ (c .before .before .before .before .before
+        .before .before .before .before .before .before .before .before .before .before)
     pub loop : Lts.At-loop·own Tie.readings Reads.Pre Reads.Post Inv μ (c .before .before .before .before .before
         .before .before .before .before .before .before .before .before .before)
     pub loop-test : Lts.In-loop·own Tie.readings Reads.Pre Reads.Post Inv μ (c .before .before .before .before .before
@@ -130,8 +94,8 @@ module _ (Inv : Tie.InvT-loop) (μ : Tie.MeasureT-loop) where
   loop-again c = record {
     start = c .before .before .before .before .before .before .before .before .before .before .before .before .before
         .before .before .before;
-    question = c .before .before .before .before .before .before .before .before .before .before .before .before
-        .before .before .question;
+    peer = c .before .before .before .before .before .before .before .before .before .before .before .before .before
+        .before .peer;
     loop = c .before .before .before .before .before .before .before .before .before .before .before .before .before
         .loop;
     loop-test = c .before .before .before .before .before .before .before .before .before .before .before .before
@@ -147,14 +111,14 @@ module _ (Inv : Tie.InvT-loop) (μ : Tie.MeasureT-loop) where
 
   pub record Returns-2 (c : Tie.After-loop Inv μ) : Type 0 where
     pub start : Tie.Start Inv μ
-    pub question : Lts.After-question·own Tie.readings Reads.Pre Reads.Post Inv μ (c .before .before .before)
+    pub peer : Lts.After-peer·own Tie.readings Reads.Pre Reads.Post Inv μ (c .before .before .before)
     pub loop : Lts.At-loop·own Tie.readings Reads.Pre Reads.Post Inv μ (c .before .before)
     pub loop-test : Lts.After-loop·own Tie.readings Reads.Pre Reads.Post Inv μ (c .before)
 
   abbrev pub returns-2 : (c : Tie.After-loop Inv μ) → Returns-2 c
   returns-2 c = record {
     start = c .before .before .before .before;
-    question = c .before .before .question;
+    peer = c .before .before .peer;
     loop = c .before .loop;
     loop-test = c .loop-test;
   }

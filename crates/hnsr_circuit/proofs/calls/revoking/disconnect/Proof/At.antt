@@ -4,42 +4,26 @@ use Rattle.hnsr_circuit.proofs.By.calls.revoking.disconnect.Reads
 use Rattle.hnsr_circuit.proofs.calls.revoking.disconnect.Proof.Tie
 use borrow.Author.Needs.{needs}
 
-pub record Entry-answer-requires (c : Tie.After-entry-answer-arg2) : Type 0 where
-  pub start : Tie.Start
-  pub config : Lts.After-config·own Tie.readings Reads.Pre Reads.Post (c .before .before .before .before .before)
-  pub peer-of : Lts.After-peer-of·own Tie.readings Reads.Pre Reads.Post (c .before .before .before .before)
-  pub of-peer : Lts.After-of-peer·own Tie.readings Reads.Pre Reads.Post (c .before .before .before)
-
-abbrev pub entry-answer-requires : (c : Tie.After-entry-answer-arg2) → Entry-answer-requires c
-entry-answer-requires c = record {
-  start = c .before .before .before .before .before .before .before;
-  config = c .before .before .before .before .config;
-  peer-of = c .before .before .before .peer-of;
-  of-peer = c .before .before .of-peer;
-}
-
 pub record Revoke-all-requires (c : Tie.After-revoke-all-arg4) : Type 0 where
   pub start : Tie.Start
   pub config : Lts.After-config·own Tie.readings Reads.Pre Reads.Post (c .before .before .before .before .before
-      .before .before .before .before .before .before .before .before .before .before .before .before .before .before)
-  pub peer-of : Lts.After-peer-of·own Tie.readings Reads.Pre Reads.Post (c .before .before .before .before .before
       .before .before .before .before .before .before .before .before .before .before .before .before .before)
-  pub of-peer : Lts.After-of-peer·own Tie.readings Reads.Pre Reads.Post (c .before .before .before .before .before
+  pub peer-of : Lts.After-peer-of·own Tie.readings Reads.Pre Reads.Post (c .before .before .before .before .before
+      .before .before .before .before .before .before .before .before .before .before .before .before)
+  pub disconnecting : Lts.After-disconnecting·own Tie.readings Reads.Pre Reads.Post (c .before .before .before .before
       .before .before .before .before .before .before .before .before .before .before .before .before)
   pub entry-answer : Lts.After-entry-answer·own Tie.readings Reads.Pre Reads.Post (c .before .before .before .before
-      .before .before .before .before .before .before .before .before .before .before)
+      .before .before .before .before .before .before .before .before .before)
   pub first : Lts.After-first·own Tie.readings Reads.Pre Reads.Post (c .before .before .before .before .before .before
-      .before .before .before .before .before .before .before)
+      .before .before .before .before .before .before)
   pub peer-answer : Lts.After-peer-answer·own Tie.readings Reads.Pre Reads.Post (c .before .before .before .before
-      .before .before .before .before .before .before .before .before)
-  pub first-refusal : Lts.After-first-refusal·own Tie.readings Reads.Pre Reads.Post (c .before .before .before .before
       .before .before .before .before .before .before .before)
+  pub first-refusal : Lts.After-first-refusal·own Tie.readings Reads.Pre Reads.Post (c .before .before .before .before
+      .before .before .before .before .before .before)
   pub is-taken : Lts.After-is-taken·own Tie.readings Reads.Pre Reads.Post (c .before .before .before .before .before
-      .before .before .before .before .before)
-  pub if1 : Lts.Then1·own Tie.readings Reads.Pre Reads.Post (c .before .before .before .before .before .before .before
-      .before .before)
-  pub disconnecting : Lts.After-disconnecting·own Tie.readings Reads.Pre Reads.Post (c .before .before .before .before
       .before .before .before .before)
+  pub if1 : Lts.Then1·own Tie.readings Reads.Pre Reads.Post (c .before .before .before .before .before .before .before
+      .before)
   pub clear-action : Lts.After-clear-action·own Tie.readings Reads.Pre Reads.Post
       (c .before .before .before .before .before .before)
   pub inflight : Lts.After-inflight·own Tie.readings Reads.Pre Reads.Post (c .before .before .before .before .before)
@@ -47,21 +31,20 @@ pub record Revoke-all-requires (c : Tie.After-revoke-all-arg4) : Type 0 where
 abbrev pub revoke-all-requires : (c : Tie.After-revoke-all-arg4) → Revoke-all-requires c
 revoke-all-requires c = record {
   start = c .before .before .before .before .before .before .before .before .before .before .before .before .before
-      .before .before .before .before .before .before .before .before;
+      .before .before .before .before .before .before .before;
   config = c .before .before .before .before .before .before .before .before .before .before .before .before .before
-      .before .before .before .before .before .config;
+      .before .before .before .before .config;
   peer-of = c .before .before .before .before .before .before .before .before .before .before .before .before .before
-      .before .before .before .before .peer-of;
-  of-peer = c .before .before .before .before .before .before .before .before .before .before .before .before .before
-      .before .before .before .of-peer;
+      .before .before .before .peer-of;
+  disconnecting = c .before .before .before .before .before .before .before .before .before .before .before .before
+      .before .before .before .disconnecting;
   entry-answer = c .before .before .before .before .before .before .before .before .before .before .before .before
-      .before .entry-answer;
-  first = c .before .before .before .before .before .before .before .before .before .before .before .before .first;
-  peer-answer = c .before .before .before .before .before .before .before .before .before .before .before .peer-answer;
-  first-refusal = c .before .before .before .before .before .before .before .before .before .before .first-refusal;
-  is-taken = c .before .before .before .before .before .before .before .before .before .is-taken;
-  if1 = c .before .before .before .before .before .before .before .before .if1;
-  disconnecting = c .before .before .before .before .before .before .before .disconnecting;
+      .entry-answer;
+  first = c .before .before .before .before .before .before .before .before .before .before .before .first;
+  peer-answer = c .before .before .before .before .before .before .before .before .before .before .peer-answer;
+  first-refusal = c .before .before .before .before .before .before .before .before .before .first-refusal;
+  is-taken = c .before .before .before .before .before .before .before .before .is-taken;
+  if1 = c .before .before .before .before .before .before .before .if1;
   clear-action = c .before .before .before .before .before .clear-action;
   inflight = c .before .before .before .before .inflight;
 }
@@ -70,28 +53,26 @@ pub record Returns (c : Tie.After-slice-known2) : Type 0 where
   pub start : Tie.Start
   pub config : Lts.After-config·own Tie.readings Reads.Pre Reads.Post (c .before .before .before .before .before
       .before .before .before .before .before .before .before .before .before .before .before .before .before .before
-      .before .before .before .before .before .before)
+      .before .before .before .before .before)
   pub peer-of : Lts.After-peer-of·own Tie.readings Reads.Pre Reads.Post (c .before .before .before .before .before
       .before .before .before .before .before .before .before .before .before .before .before .before .before .before
-      .before .before .before .before .before)
-  pub of-peer : Lts.After-of-peer·own Tie.readings Reads.Pre Reads.Post (c .before .before .before .before .before
+      .before .before .before .before)
+  pub disconnecting : Lts.After-disconnecting·own Tie.readings Reads.Pre Reads.Post (c .before .before .before .before
       .before .before .before .before .before .before .before .before .before .before .before .before .before .before
       .before .before .before .before)
   pub entry-answer : Lts.After-entry-answer·own Tie.readings Reads.Pre Reads.Post (c .before .before .before .before
       .before .before .before .before .before .before .before .before .before .before .before .before .before .before
-      .before .before)
+      .before)
   pub first : Lts.After-first·own Tie.readings Reads.Pre Reads.Post (c .before .before .before .before .before .before
-      .before .before .before .before .before .before .before .before .before .before .before .before .before)
+      .before .before .before .before .before .before .before .before .before .before .before .before)
   pub peer-answer : Lts.After-peer-answer·own Tie.readings Reads.Pre Reads.Post (c .before .before .before .before
-      .before .before .before .before .before .before .before .before .before .before .before .before .before .before)
-  pub first-refusal : Lts.After-first-refusal·own Tie.readings Reads.Pre Reads.Post (c .before .before .before .before
       .before .before .before .before .before .before .before .before .before .before .before .before .before)
+  pub first-refusal : Lts.After-first-refusal·own Tie.readings Reads.Pre Reads.Post (c .before .before .before .before
+      .before .before .before .before .before .before .before .before .before .before .before .before)
   pub is-taken : Lts.After-is-taken·own Tie.readings Reads.Pre Reads.Post (c .before .before .before .before .before
-      .before .before .before .before .before .before .before .before .before .before .before)
-  pub if1 : Lts.Then1·own Tie.readings Reads.Pre Reads.Post (c .before .before .before .before .before .before .before
-      .before .before .before .before .before .before .before .before)
-  pub disconnecting : Lts.After-disconnecting·own Tie.readings Reads.Pre Reads.Post (c .before .before .before .before
       .before .before .before .before .before .before .before .before .before .before)
+  pub if1 : Lts.Then1·own Tie.readings Reads.Pre Reads.Post (c .before .before .before .before .before .before .before
+      .before .before .before .before .before .before .before)
   pub clear-action : Lts.After-clear-action·own Tie.readings Reads.Pre Reads.Post (c .before .before .before .before
       .before .before .before .before .before .before .before .before)
   pub inflight : Lts.After-inflight·own Tie.readings Reads.Pre Reads.Post (c .before .before .before .before .before
@@ -106,27 +87,24 @@ pub record Returns (c : Tie.After-slice-known2) : Type 0 where
 abbrev pub returns : (c : Tie.After-slice-known2) → Returns c
 returns c = record {
   start = c .before .before .before .before .before .before .before .before .before .before .before .before .before
-      .before .before .before .before .before .before .before .before .before .before .before .before .before .before;
+      .before .before .before .before .before .before .before .before .before .before .before .before .before;
   config = c .before .before .before .before .before .before .before .before .before .before .before .before .before
-      .before .before .before .before .before .before .before .before .before .before .before .config;
+      .before .before .before .before .before .before .before .before .before .before .config;
   peer-of = c .before .before .before .before .before .before .before .before .before .before .before .before .before
-      .before .before .before .before .before .before .before .before .before .before .peer-of;
-  of-peer = c .before .before .before .before .before .before .before .before .before .before .before .before .before
-      .before .before .before .before .before .before .before .before .before .of-peer;
-  entry-answer = c .before .before .before .before .before .before .before .before .before .before .before .before
-      .before .before .before .before .before .before .before .entry-answer;
-  first = c .before .before .before .before .before .before .before .before .before .before .before .before .before
-      .before .before .before .before .before .first;
-  peer-answer = c .before .before .before .before .before .before .before .before .before .before .before .before
-      .before .before .before .before .before .peer-answer;
-  first-refusal = c .before .before .before .before .before .before .before .before .before .before .before .before
-      .before .before .before .before .first-refusal;
-  is-taken = c .before .before .before .before .before .before .before .before .before .before .before .before .before
-      .before .before .is-taken;
-  if1 = c .before .before .before .before .before .before .before .before .before .before .before .before .before
-      .before .if1;
+      .before .before .before .before .before .before .before .before .before .peer-of;
   disconnecting = c .before .before .before .before .before .before .before .before .before .before .before .before
-      .before .disconnecting;
+      .before .before .before .before .before .before .before .before .before .disconnecting;
+  entry-answer = c .before .before .before .before .before .before .before .before .before .before .before .before
+      .before .before .before .before .before .before .entry-answer;
+  first = c .before .before .before .before .before .before .before .before .before .before .before .before .before
+      .before .before .before .before .first;
+  peer-answer = c .before .before .before .before .before .before .before .before .before .before .before .before
+      .before .before .before .before .peer-answer;
+  first-refusal = c .before .before .before .before .before .before .before .before .before .before .before .before
+      .before .before .before .first-refusal;
+  is-taken = c .before .before .before .before .before .before .before .before .before .before .before .before .before
+      .before .is-taken;
+  if1 = c .before .before .before .before .before .before .before .before .before .before .before .before .before .if1;
   clear-action = c .before .before .before .before .before .before .before .before .before .before .before
       .clear-action;
   inflight = c .before .before .before .before .before .before .before .before .before .before .inflight;
@@ -143,8 +121,8 @@ pub record Returns-2 (c : Tie.After-refused) : Type 0 where
       .before .before .before .before .before .before .before)
   pub peer-of : Lts.After-peer-of·own Tie.readings Reads.Pre Reads.Post (c .before .before .before .before .before
       .before .before .before .before .before .before)
-  pub of-peer : Lts.After-of-peer·own Tie.readings Reads.Pre Reads.Post (c .before .before .before .before .before
-      .before .before .before .before .before)
+  pub disconnecting : Lts.After-disconnecting·own Tie.readings Reads.Pre Reads.Post (c .before .before .before .before
+      .before .before .before .before .before .before)
   pub entry-answer : Lts.After-entry-answer·own Tie.readings Reads.Pre Reads.Post
       (c .before .before .before .before .before .before .before)
   pub first : Lts.After-first·own Tie.readings Reads.Pre Reads.Post (c .before .before .before .before .before .before)
@@ -161,7 +139,7 @@ returns-2 c = record {
       .before;
   config = c .before .before .before .before .before .before .before .before .before .before .before .config;
   peer-of = c .before .before .before .before .before .before .before .before .before .before .peer-of;
-  of-peer = c .before .before .before .before .before .before .before .before .before .of-peer;
+  disconnecting = c .before .before .before .before .before .before .before .before .before .disconnecting;
   entry-answer = c .before .before .before .before .before .before .entry-answer;
   first = c .before .before .before .before .before .first;
   peer-answer = c .before .before .before .before .peer-answer;
@@ -174,8 +152,11 @@ returns-2 c = record {
 peer-of-requires : Tie.Need-peer-of-requires
 peer-of-requires c = search needs
 
-of-peer-requires : Tie.Need-of-peer-requires
-of-peer-requires c = search needs
+disconnecting-requires : Tie.Need-disconnecting-requires
+disconnecting-requires c = search needs
+
+entry-answer-requires : Tie.Need-entry-answer-requires
+entry-answer-requires c = search needs
 
 peer-answer-requires : Tie.Need-peer-answer-requires
 peer-answer-requires c = search needs
@@ -185,9 +166,6 @@ first-refusal-requires c = search needs
 
 is-taken-requires : Tie.Need-is-taken-requires
 is-taken-requires c = search needs
-
-disconnecting-requires : Tie.Need-disconnecting-requires
-disconnecting-requires c = search needs
 
 clear-action-requires : Tie.Need-clear-action-requires
 clear-action-requires c = search needs
@@ -214,8 +192,8 @@ same-length-6 : Tie.Need-same-length-6
 same-length-6 c = search needs
 
 module _ {M : Type 1} where
-  pub spec : Tie.Need-entry-answer-requires → Tie.Need-revoke-all-requires → Tie.Need-returns → Tie.Need-returns-2 →
-      Lts.Closed Tie.readings Reads.Pre Reads.Post M
-  spec = λ a0 a1 a2 a3. Tie.spec peer-of-requires of-peer-requires a0 peer-answer-requires first-refusal-requires
-      is-taken-requires disconnecting-requires clear-action-requires a1 same-length same-length-2 same-length-3
-      same-length-4 a2 refused-requires same-length-5 same-length-6 a3
+  pub spec : Tie.Need-revoke-all-requires → Tie.Need-returns → Tie.Need-returns-2 → Lts.Closed Tie.readings Reads.Pre
+      Reads.Post M
+  spec = λ a0 a1 a2. Tie.spec peer-of-requires disconnecting-requires entry-answer-requires peer-answer-requires
+      first-refusal-requires is-taken-requires clear-action-requires a0 same-length same-length-2 same-length-3
+      same-length-4 a1 refused-requires same-length-5 same-length-6 a2

@@ -32,9 +32,6 @@ use Rattle.hnsr_circuit.proofs.runtime.refused.Reads as Reads'''''''''
 use Rattle.hnsr_circuit.proofs.runtime.refused.Symbol as Symbol'''''''
 use Rattle.hnsr_circuit.proofs.tables.inflight.clear_action.Met as Met''''''''
 use Rattle.hnsr_circuit.proofs.tables.inflight.clear_action.Symbol as Symbol''''''''
-use Rattle.hnsr_circuit.proofs.tables.question.of_peer.Met as Met'''''''''
-use Rattle.hnsr_circuit.proofs.tables.question.of_peer.Reads as Reads''''''''''
-use Rattle.hnsr_circuit.proofs.tables.question.of_peer.Symbol as Symbol'''''''''
 use borrow.Fn.Run
 use borrow.Fn.Written
 use contract.Running
@@ -43,8 +40,8 @@ abbrev pub readings : Lts.Claims
 readings = (
   Reads''''''''.Asked,
   Reads''''''''.Learnt,
-  Reads''''''''''.Asked,
-  Reads''''''''''.Learnt,
+  Reads''''''.Asked,
+  Reads''''''.Learnt,
   Reads''.Asked,
   Reads''.Learnt,
   Reads'''''''.Asked,
@@ -53,8 +50,6 @@ readings = (
   Reads''''.Learnt,
   Reads'''''.Asked,
   Reads'''''.Learnt,
-  Reads''''''.Asked,
-  Reads''''''.Learnt,
   Reads'''.Asked,
   Reads'''.Learnt,
   Reads.Asked,
@@ -78,8 +73,8 @@ After-config = Lts.After-config readings Reads'.Pre Reads'.Post
 abbrev pub After-peer-of : Type 0
 After-peer-of = Lts.After-peer-of readings Reads'.Pre Reads'.Post
 
-abbrev pub After-of-peer : Type 0
-After-of-peer = Lts.After-of-peer readings Reads'.Pre Reads'.Post
+abbrev pub After-disconnecting : Type 0
+After-disconnecting = Lts.After-disconnecting readings Reads'.Pre Reads'.Post
 
 abbrev pub After-entry-answer-arg : Type 0
 After-entry-answer-arg = Lts.After-entry-answer-arg readings Reads'.Pre Reads'.Post
@@ -104,9 +99,6 @@ After-is-taken = Lts.After-is-taken readings Reads'.Pre Reads'.Post
 
 abbrev pub Then1 : Type 0
 Then1 = Lts.Then1 readings Reads'.Pre Reads'.Post
-
-abbrev pub After-disconnecting : Type 0
-After-disconnecting = Lts.After-disconnecting readings Reads'.Pre Reads'.Post
 
 abbrev pub After-clear-action-arg : Type 0
 After-clear-action-arg = Lts.After-clear-action-arg readings Reads'.Pre Reads'.Post
@@ -156,8 +148,8 @@ After-refused = Lts.After-refused readings Reads'.Pre Reads'.Post
 abbrev pub Need-peer-of-requires : Type 0
 Need-peer-of-requires = Lts.Need-peer-of-requires readings Reads'.Pre Reads'.Post
 
-abbrev pub Need-of-peer-requires : Type 0
-Need-of-peer-requires = Lts.Need-of-peer-requires readings Reads'.Pre Reads'.Post
+abbrev pub Need-disconnecting-requires : Type 0
+Need-disconnecting-requires = Lts.Need-disconnecting-requires readings Reads'.Pre Reads'.Post
 
 abbrev pub Need-entry-answer-requires : Type 0
 Need-entry-answer-requires = Lts.Need-entry-answer-requires readings Reads'.Pre Reads'.Post
@@ -170,9 +162,6 @@ Need-first-refusal-requires = Lts.Need-first-refusal-requires readings Reads'.Pr
 
 abbrev pub Need-is-taken-requires : Type 0
 Need-is-taken-requires = Lts.Need-is-taken-requires readings Reads'.Pre Reads'.Post
-
-abbrev pub Need-disconnecting-requires : Type 0
-Need-disconnecting-requires = Lts.Need-disconnecting-requires readings Reads'.Pre Reads'.Post
 
 abbrev pub Need-clear-action-requires : Type 0
 Need-clear-action-requires = Lts.Need-clear-action-requires readings Reads'.Pre Reads'.Post
@@ -208,18 +197,17 @@ abbrev pub Need-returns-2 : Type 0
 Need-returns-2 = Lts.Need-returns-2 readings Reads'.Pre Reads'.Post
 
 module _ {M : Type 1} where
-  pub spec : (answer : Need-peer-of-requires) → (answer : Need-of-peer-requires) →
+  pub spec : (answer : Need-peer-of-requires) → (answer : Need-disconnecting-requires) →
       (answer : Need-entry-answer-requires) → (answer : Need-peer-answer-requires) →
       (answer : Need-first-refusal-requires) → (answer : Need-is-taken-requires) →
-      (answer : Need-disconnecting-requires) → (answer : Need-clear-action-requires) →
-      (answer : Need-revoke-all-requires) → (answer : Need-same-length) → (answer : Need-same-length-2) →
-      (answer : Need-same-length-3) → (answer : Need-same-length-4) → (answer : Need-returns) →
-      (answer : Need-refused-requires) → (answer : Need-same-length-5) → (answer : Need-same-length-6) →
-      (answer : Need-returns-2) → Lts.Closed readings Reads'.Pre Reads'.Post M
+      (answer : Need-clear-action-requires) → (answer : Need-revoke-all-requires) → (answer : Need-same-length) →
+      (answer : Need-same-length-2) → (answer : Need-same-length-3) → (answer : Need-same-length-4) →
+      (answer : Need-returns) → (answer : Need-refused-requires) → (answer : Need-same-length-5) →
+      (answer : Need-same-length-6) → (answer : Need-returns-2) → Lts.Closed readings Reads'.Pre Reads'.Post M
   spec = λ answer answer' answer'' answer'3 answer'4 answer'5 answer'6 answer'7 answer'8 answer'9 answer'10 answer'11
-      answer'12 answer'13 answer'14 answer'15 answer'16 answer'17. Lts.spec readings Reads'.Pre Reads'.Post answer
-      answer' answer'' answer'3 answer'4 answer'5 answer'6 answer'7 answer'8 answer'9 answer'10 answer'11 answer'12
-      answer'13 answer'14 answer'15 answer'16 answer'17
+      answer'12 answer'13 answer'14 answer'15 answer'16. Lts.spec readings Reads'.Pre Reads'.Post answer answer'
+      answer'' answer'3 answer'4 answer'5 answer'6 answer'7 answer'8 answer'9 answer'10 answer'11 answer'12 answer'13
+      answer'14 answer'15 answer'16
 
   pub close : Lts.Closed readings Reads'.Pre Reads'.Post M → Statement.statement M
   unfolding Code.routine Running.tablesOf
@@ -229,9 +217,9 @@ module _ {M : Type 1} where
       record { M = M; 𝓤 = 𝓤; H = H; 𝓜 = 𝓜; 𝓖 = 𝓖; 𝓡 = 𝓡 }) (Reads'.passes
       record { M = M; 𝓤 = 𝓤; H = H; 𝓜 = 𝓜; 𝓖 = 𝓖; 𝓡 = 𝓡 }) λ g. closed 𝓤 H (𝓖 .A) (Running.givenOf 𝓤 H 𝓜 𝓖)
       (Run.Over 𝓤 H 𝓜 𝓖 𝓡 Code.env) (Reads''''''''.known record { M = M; 𝓤 = 𝓤; H = H; 𝓜 = 𝓜; 𝓖 = 𝓖; 𝓡 = 𝓡 } Code.env
-      Symbol''''''.name Symbol''''''.routine Code.calls-hnsr-circuit·peer·peer-of (Met''''''.met 𝓤 H 𝓜 𝓖 𝓡)) (Reads''''''''''.known
-      record { M = M; 𝓤 = 𝓤; H = H; 𝓜 = 𝓜; 𝓖 = 𝓖; 𝓡 = 𝓡 } Code.env Symbol'''''''''.name Symbol'''''''''.routine
-      Code.calls-hnsr-circuit·tables·question·of-peer (Met'''''''''.met 𝓤 H 𝓜 𝓖 𝓡)) (Reads''.known
+      Symbol''''''.name Symbol''''''.routine Code.calls-hnsr-circuit·peer·peer-of (Met''''''.met 𝓤 H 𝓜 𝓖 𝓡)) (Reads''''''.known
+      record { M = M; 𝓤 = 𝓤; H = H; 𝓜 = 𝓜; 𝓖 = 𝓖; 𝓡 = 𝓡 } Code.env Symbol'''.name Symbol'''.routine
+      Code.calls-hnsr-circuit·calls·revoking·disconnecting (Met'''.met 𝓤 H 𝓜 𝓖 𝓡)) (Reads''.known
       record { M = M; 𝓤 = 𝓤; H = H; 𝓜 = 𝓜; 𝓖 = 𝓖; 𝓡 = 𝓡 } Code.env Symbol''''.name Symbol''''.routine
       Code.calls-hnsr-circuit·calls·revoking·entry-answer (Met''''.met 𝓤 H 𝓜 𝓖 𝓡)) (Reads'''''''.known
       record { M = M; 𝓤 = 𝓤; H = H; 𝓜 = 𝓜; 𝓖 = 𝓖; 𝓡 = 𝓡 } Code.env Symbol'''''.name Symbol'''''.routine
@@ -239,9 +227,7 @@ module _ {M : Type 1} where
       record { M = M; 𝓤 = 𝓤; H = H; 𝓜 = 𝓜; 𝓖 = 𝓖; 𝓡 = 𝓡 } Code.env Symbol.name Symbol.routine
       Code.calls-hnsr-circuit·answer·first-refusal (Met.met 𝓤 H 𝓜 𝓖 𝓡)) (Reads'''''.known
       record { M = M; 𝓤 = 𝓤; H = H; 𝓜 = 𝓜; 𝓖 = 𝓖; 𝓡 = 𝓡 } Code.env Symbol'.name Symbol'.routine
-      Code.calls-hnsr-circuit·answer·is-taken (Met'.met 𝓤 H 𝓜 𝓖 𝓡)) (Reads''''''.known
-      record { M = M; 𝓤 = 𝓤; H = H; 𝓜 = 𝓜; 𝓖 = 𝓖; 𝓡 = 𝓡 } Code.env Symbol'''.name Symbol'''.routine
-      Code.calls-hnsr-circuit·calls·revoking·disconnecting (Met'''.met 𝓤 H 𝓜 𝓖 𝓡)) (Reads'''.known
+      Code.calls-hnsr-circuit·answer·is-taken (Met'.met 𝓤 H 𝓜 𝓖 𝓡)) (Reads'''.known
       record { M = M; 𝓤 = 𝓤; H = H; 𝓜 = 𝓜; 𝓖 = 𝓖; 𝓡 = 𝓡 } Code.env Symbol''''''''.name Symbol''''''''.routine
       Code.calls-hnsr-circuit·tables·inflight·clear-action (Met''''''''.met 𝓤 H 𝓜 𝓖 𝓡)) (Reads.known
       record { M = M; 𝓤 = 𝓤; H = H; 𝓜 = 𝓜; 𝓖 = 𝓖; 𝓡 = 𝓡 } Code.env Symbol''.name Symbol''.routine

@@ -6,6 +6,7 @@ use borrow.Author.Needs.{needs}
 
 pub record Returns (c : Tie.After-entry-found) : Type 0 where
   pub start : Tie.Start
+  pub peer : Lts.After-peer·own Tie.readings Reads.Pre Reads.Post (c .before .before .before .before .before .before)
   pub survey-pending : Lts.After-survey-pending·own Tie.readings Reads.Pre Reads.Post
       (c .before .before .before .before .before)
   pub survey-circuit : Lts.After-survey-circuit·own Tie.readings Reads.Pre Reads.Post
@@ -16,13 +17,20 @@ pub record Returns (c : Tie.After-entry-found) : Type 0 where
 
 abbrev pub returns : (c : Tie.After-entry-found) → Returns c
 returns c = record {
-  start = c .before .before .before .before .before;
+  start = c .before .before .before .before .before .before;
+  peer = c .before .before .before .before .before .peer;
   survey-pending = c .before .before .before .before .survey-pending;
   survey-circuit = c .before .before .before .survey-circuit;
   room-short = c .before .before .room-short;
   room-answer = c .before .room-answer;
   entry-found = c .entry-found;
 }
+
+survey-pending-requires : Tie.Need-survey-pending-requires
+survey-pending-requires c = search needs
+
+survey-circuit-requires : Tie.Need-survey-circuit-requires
+survey-circuit-requires c = search needs
 
 room-short-requires : Tie.Need-room-short-requires
 room-short-requires c = search needs
@@ -34,6 +42,6 @@ entry-found-requires : Tie.Need-entry-found-requires
 entry-found-requires c = search needs
 
 module _ {M : Type 1} where
-  pub spec : Tie.Need-survey-pending-requires → Tie.Need-survey-circuit-requires → Tie.Need-returns → Lts.Closed
-      Tie.readings Reads.Pre Reads.Post M
-  spec = λ a0 a1 a2. Tie.spec a0 a1 room-short-requires room-answer-requires entry-found-requires a2
+  pub spec : Tie.Need-returns → Lts.Closed Tie.readings Reads.Pre Reads.Post M
+  spec = λ a0. Tie.spec survey-pending-requires survey-circuit-requires room-short-requires room-answer-requires
+      entry-found-requires a0

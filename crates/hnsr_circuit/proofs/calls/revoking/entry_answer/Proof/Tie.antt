@@ -41,6 +41,9 @@ readings = (
 abbrev pub Start : Type 0
 Start = Lts.Start readings Reads.Pre Reads.Post
 
+abbrev pub After-peer : Type 0
+After-peer = Lts.After-peer readings Reads.Pre Reads.Post
+
 abbrev pub After-survey-pending : Type 0
 After-survey-pending = Lts.After-survey-pending readings Reads.Pre Reads.Post
 

@@ -4,38 +4,24 @@ use Rattle.hnsr_circuit.proofs.By.calls.revoking.expire.Reads
 use Rattle.hnsr_circuit.proofs.calls.revoking.expire.Proof.Tie
 use borrow.Author.Needs.{needs}
 
-pub record Entry-answer-requires (c : Tie.After-entry-answer-arg2) : Type 0 where
-  pub start : Tie.Start
-  pub config : Lts.After-config·own Tie.readings Reads.Pre Reads.Post (c .before .before .before .before)
-  pub over : Lts.After-over·own Tie.readings Reads.Pre Reads.Post (c .before .before .before)
-
-abbrev pub entry-answer-requires : (c : Tie.After-entry-answer-arg2) → Entry-answer-requires c
-entry-answer-requires c = record {
-  start = c .before .before .before .before .before;
-  config = c .before .before .before .config;
-  over = c .before .before .over;
-}
-
 pub record Revoke-all-requires (c : Tie.After-revoke-all-arg4) : Type 0 where
   pub start : Tie.Start
   pub config : Lts.After-config·own Tie.readings Reads.Pre Reads.Post (c .before .before .before .before .before
-      .before .before .before .before .before .before .before .before .before .before .before .before .before .before)
-  pub over : Lts.After-over·own Tie.readings Reads.Pre Reads.Post (c .before .before .before .before .before .before
+      .before .before .before .before .before .before .before .before .before .before .before .before .before)
+  pub revoking : Lts.After-revoking·own Tie.readings Reads.Pre Reads.Post (c .before .before .before .before .before
       .before .before .before .before .before .before .before .before .before .before .before .before)
   pub entry-answer : Lts.After-entry-answer·own Tie.readings Reads.Pre Reads.Post (c .before .before .before .before
-      .before .before .before .before .before .before .before .before .before .before .before)
+      .before .before .before .before .before .before .before .before .before .before)
   pub first : Lts.After-first·own Tie.readings Reads.Pre Reads.Post (c .before .before .before .before .before .before
-      .before .before .before .before .before .before .before .before)
+      .before .before .before .before .before .before .before)
   pub clock-answer : Lts.After-clock-answer·own Tie.readings Reads.Pre Reads.Post (c .before .before .before .before
-      .before .before .before .before .before .before .before .before .before)
-  pub first-refusal : Lts.After-first-refusal·own Tie.readings Reads.Pre Reads.Post (c .before .before .before .before
       .before .before .before .before .before .before .before .before)
+  pub first-refusal : Lts.After-first-refusal·own Tie.readings Reads.Pre Reads.Post (c .before .before .before .before
+      .before .before .before .before .before .before .before)
   pub is-taken : Lts.After-is-taken·own Tie.readings Reads.Pre Reads.Post (c .before .before .before .before .before
-      .before .before .before .before .before .before)
+      .before .before .before .before .before)
   pub if1 : Lts.Then1·own Tie.readings Reads.Pre Reads.Post (c .before .before .before .before .before .before .before
-      .before .before .before)
-  pub revoking : Lts.After-revoking·own Tie.readings Reads.Pre Reads.Post (c .before .before .before .before .before
-      .before .before .before .before)
+      .before .before)
   pub with-clock : Lts.After-with-clock·own Tie.readings Reads.Pre Reads.Post (c .before .before .before .before
       .before .before .before .before)
   pub drop-lapsed : Lts.After-drop-lapsed·own Tie.readings Reads.Pre Reads.Post
@@ -45,22 +31,19 @@ pub record Revoke-all-requires (c : Tie.After-revoke-all-arg4) : Type 0 where
 abbrev pub revoke-all-requires : (c : Tie.After-revoke-all-arg4) → Revoke-all-requires c
 revoke-all-requires c = record {
   start = c .before .before .before .before .before .before .before .before .before .before .before .before .before
-      .before .before .before .before .before .before .before;
+      .before .before .before .before .before .before;
   config = c .before .before .before .before .before .before .before .before .before .before .before .before .before
-      .before .before .before .before .before .config;
-  over = c .before .before .before .before .before .before .before .before .before .before .before .before .before
-      .before .before .before .before .over;
+      .before .before .before .before .config;
+  revoking = c .before .before .before .before .before .before .before .before .before .before .before .before .before
+      .before .before .before .revoking;
   entry-answer = c .before .before .before .before .before .before .before .before .before .before .before .before
-      .before .before .entry-answer;
-  first = c .before .before .before .before .before .before .before .before .before .before .before .before .before
-      .first;
-  clock-answer = c .before .before .before .before .before .before .before .before .before .before .before .before
+      .before .entry-answer;
+  first = c .before .before .before .before .before .before .before .before .before .before .before .before .first;
+  clock-answer = c .before .before .before .before .before .before .before .before .before .before .before
       .clock-answer;
-  first-refusal = c .before .before .before .before .before .before .before .before .before .before .before
-      .first-refusal;
-  is-taken = c .before .before .before .before .before .before .before .before .before .before .is-taken;
-  if1 = c .before .before .before .before .before .before .before .before .before .if1;
-  revoking = c .before .before .before .before .before .before .before .before .revoking;
+  first-refusal = c .before .before .before .before .before .before .before .before .before .before .first-refusal;
+  is-taken = c .before .before .before .before .before .before .before .before .before .is-taken;
+  if1 = c .before .before .before .before .before .before .before .before .if1;
   with-clock = c .before .before .before .before .before .before .before .with-clock;
   drop-lapsed = c .before .before .before .before .before .drop-lapsed;
   ledger = c .before .before .before .before .ledger;
@@ -70,26 +53,23 @@ pub record Returns (c : Tie.After-slice-known2) : Type 0 where
   pub start : Tie.Start
   pub config : Lts.After-config·own Tie.readings Reads.Pre Reads.Post (c .before .before .before .before .before
       .before .before .before .before .before .before .before .before .before .before .before .before .before .before
-      .before .before .before .before .before .before)
-  pub over : Lts.After-over·own Tie.readings Reads.Pre Reads.Post (c .before .before .before .before .before .before
+      .before .before .before .before .before)
+  pub revoking : Lts.After-revoking·own Tie.readings Reads.Pre Reads.Post (c .before .before .before .before .before
       .before .before .before .before .before .before .before .before .before .before .before .before .before .before
       .before .before .before .before)
   pub entry-answer : Lts.After-entry-answer·own Tie.readings Reads.Pre Reads.Post (c .before .before .before .before
       .before .before .before .before .before .before .before .before .before .before .before .before .before .before
-      .before .before .before)
+      .before .before)
   pub first : Lts.After-first·own Tie.readings Reads.Pre Reads.Post (c .before .before .before .before .before .before
-      .before .before .before .before .before .before .before .before .before .before .before .before .before .before)
+      .before .before .before .before .before .before .before .before .before .before .before .before .before)
   pub clock-answer : Lts.After-clock-answer·own Tie.readings Reads.Pre Reads.Post (c .before .before .before .before
-      .before .before .before .before .before .before .before .before .before .before .before .before .before .before
-      .before)
-  pub first-refusal : Lts.After-first-refusal·own Tie.readings Reads.Pre Reads.Post (c .before .before .before .before
       .before .before .before .before .before .before .before .before .before .before .before .before .before .before)
+  pub first-refusal : Lts.After-first-refusal·own Tie.readings Reads.Pre Reads.Post (c .before .before .before .before
+      .before .before .before .before .before .before .before .before .before .before .before .before .before)
   pub is-taken : Lts.After-is-taken·own Tie.readings Reads.Pre Reads.Post (c .before .before .before .before .before
-      .before .before .before .before .before .before .before .before .before .before .before .before)
+      .before .before .before .before .before .before .before .before .before .before .before)
   pub if1 : Lts.Then1·own Tie.readings Reads.Pre Reads.Post (c .before .before .before .before .before .before .before
-      .before .before .before .before .before .before .before .before .before)
-  pub revoking : Lts.After-revoking·own Tie.readings Reads.Pre Reads.Post (c .before .before .before .before .before
-      .before .before .before .before .before .before .before .before .before .before)
+      .before .before .before .before .before .before .before .before)
   pub with-clock : Lts.After-with-clock·own Tie.readings Reads.Pre Reads.Post (c .before .before .before .before
       .before .before .before .before .before .before .before .before .before .before)
   pub drop-lapsed : Lts.After-drop-lapsed·own Tie.readings Reads.Pre Reads.Post (c .before .before .before .before
@@ -106,25 +86,23 @@ pub record Returns (c : Tie.After-slice-known2) : Type 0 where
 abbrev pub returns : (c : Tie.After-slice-known2) → Returns c
 returns c = record {
   start = c .before .before .before .before .before .before .before .before .before .before .before .before .before
-      .before .before .before .before .before .before .before .before .before .before .before .before .before;
+      .before .before .before .before .before .before .before .before .before .before .before .before;
   config = c .before .before .before .before .before .before .before .before .before .before .before .before .before
-      .before .before .before .before .before .before .before .before .before .before .before .config;
-  over = c .before .before .before .before .before .before .before .before .before .before .before .before .before
-      .before .before .before .before .before .before .before .before .before .before .over;
-  entry-answer = c .before .before .before .before .before .before .before .before .before .before .before .before
-      .before .before .before .before .before .before .before .before .entry-answer;
-  first = c .before .before .before .before .before .before .before .before .before .before .before .before .before
-      .before .before .before .before .before .before .first;
-  clock-answer = c .before .before .before .before .before .before .before .before .before .before .before .before
-      .before .before .before .before .before .before .clock-answer;
-  first-refusal = c .before .before .before .before .before .before .before .before .before .before .before .before
-      .before .before .before .before .before .first-refusal;
-  is-taken = c .before .before .before .before .before .before .before .before .before .before .before .before .before
-      .before .before .before .is-taken;
-  if1 = c .before .before .before .before .before .before .before .before .before .before .before .before .before
-      .before .before .if1;
+      .before .before .before .before .before .before .before .before .before .before .config;
   revoking = c .before .before .before .before .before .before .before .before .before .before .before .before .before
-      .before .revoking;
+      .before .before .before .before .before .before .before .before .before .revoking;
+  entry-answer = c .before .before .before .before .before .before .before .before .before .before .before .before
+      .before .before .before .before .before .before .before .entry-answer;
+  first = c .before .before .before .before .before .before .before .before .before .before .before .before .before
+      .before .before .before .before .before .first;
+  clock-answer = c .before .before .before .before .before .before .before .before .before .before .before .before
+      .before .before .before .before .before .clock-answer;
+  first-refusal = c .before .before .before .before .before .before .before .before .before .before .before .before
+      .before .before .before .before .first-refusal;
+  is-taken = c .before .before .before .before .before .before .before .before .before .before .before .before .before
+      .before .before .is-taken;
+  if1 = c .before .before .before .before .before .before .before .before .before .before .before .before .before
+      .before .if1;
   with-clock = c .before .before .before .before .before .before .before .before .before .before .before .before
       .before .with-clock;
   drop-lapsed = c .before .before .before .before .before .before .before .before .before .before .before .drop-lapsed;
@@ -140,8 +118,8 @@ pub record Returns-2 (c : Tie.After-refused) : Type 0 where
   pub start : Tie.Start
   pub config : Lts.After-config·own Tie.readings Reads.Pre Reads.Post (c .before .before .before .before .before
       .before .before .before .before .before .before)
-  pub over : Lts.After-over·own Tie.readings Reads.Pre Reads.Post (c .before .before .before .before .before .before
-      .before .before .before .before)
+  pub revoking : Lts.After-revoking·own Tie.readings Reads.Pre Reads.Post (c .before .before .before .before .before
+      .before .before .before .before .before)
   pub entry-answer : Lts.After-entry-answer·own Tie.readings Reads.Pre Reads.Post
       (c .before .before .before .before .before .before .before)
   pub first : Lts.After-first·own Tie.readings Reads.Pre Reads.Post (c .before .before .before .before .before .before)
@@ -156,7 +134,7 @@ abbrev pub returns-2 : (c : Tie.After-refused) → Returns-2 c
 returns-2 c = record {
   start = c .before .before .before .before .before .before .before .before .before .before .before .before;
   config = c .before .before .before .before .before .before .before .before .before .before .config;
-  over = c .before .before .before .before .before .before .before .before .before .over;
+  revoking = c .before .before .before .before .before .before .before .before .before .revoking;
   entry-answer = c .before .before .before .before .before .before .entry-answer;
   first = c .before .before .before .before .before .first;
   clock-answer = c .before .before .before .before .clock-answer;
@@ -166,8 +144,11 @@ returns-2 c = record {
   refused = c .refused;
 }
 
-over-requires : Tie.Need-over-requires
-over-requires c = search needs
+revoking-requires : Tie.Need-revoking-requires
+revoking-requires c = search needs
+
+entry-answer-requires : Tie.Need-entry-answer-requires
+entry-answer-requires c = search needs
 
 clock-answer-requires : Tie.Need-clock-answer-requires
 clock-answer-requires c = search needs
@@ -177,9 +158,6 @@ first-refusal-requires c = search needs
 
 is-taken-requires : Tie.Need-is-taken-requires
 is-taken-requires c = search needs
-
-revoking-requires : Tie.Need-revoking-requires
-revoking-requires c = search needs
 
 with-clock-requires : Tie.Need-with-clock-requires
 with-clock-requires c = search needs
@@ -212,8 +190,8 @@ same-length-7 : Tie.Need-same-length-7
 same-length-7 c = search needs
 
 module _ {M : Type 1} where
-  pub spec : Tie.Need-entry-answer-requires → Tie.Need-revoke-all-requires → Tie.Need-returns → Tie.Need-returns-2 →
-      Lts.Closed Tie.readings Reads.Pre Reads.Post M
-  spec = λ a0 a1 a2 a3. Tie.spec over-requires a0 clock-answer-requires first-refusal-requires is-taken-requires
-      revoking-requires with-clock-requires drop-lapsed-requires a1 same-length same-length-2 same-length-3
-      same-length-4 same-length-5 a2 refused-requires same-length-6 same-length-7 a3
+  pub spec : Tie.Need-revoke-all-requires → Tie.Need-returns → Tie.Need-returns-2 → Lts.Closed Tie.readings Reads.Pre
+      Reads.Post M
+  spec = λ a0 a1 a2. Tie.spec revoking-requires entry-answer-requires clock-answer-requires first-refusal-requires
+      is-taken-requires with-clock-requires drop-lapsed-requires a0 same-length same-length-2 same-length-3
+      same-length-4 same-length-5 a1 refused-requires same-length-6 same-length-7 a2

@@ -4,7 +4,7 @@ use Rattle.hnsr_circuit.proofs.By.calls.revoking.entry_answer.Reads as 
 use Rattle.hnsr_circuit.proofs.By.calls.revoking.expire.Kinds
 use Rattle.hnsr_circuit.proofs.By.calls.revoking.expire.Lts
 use Rattle.hnsr_circuit.proofs.By.calls.revoking.expire.Reads as Reads''
-use Rattle.hnsr_circuit.proofs.By.tables.stores.drop_lapsed.Reads as Reads'''
+use Rattle.hnsr_circuit.proofs.By.tables.ledger.drop_lapsed.Reads as Reads'''
 use Rattle.hnsr_circuit.proofs.answer.first_refusal.Met
 use Rattle.hnsr_circuit.proofs.answer.first_refusal.Reads as Reads''''
 use Rattle.hnsr_circuit.proofs.answer.first_refusal.Symbol
@@ -30,19 +30,16 @@ use Rattle.hnsr_circuit.proofs.records.header.with_clock.Symbol as Symb
 use Rattle.hnsr_circuit.proofs.runtime.refused.Met as Met'''''''
 use Rattle.hnsr_circuit.proofs.runtime.refused.Reads as Reads'''''''''
 use Rattle.hnsr_circuit.proofs.runtime.refused.Symbol as Symbol'''''''
-use Rattle.hnsr_circuit.proofs.tables.question.over.Met as Met''''''''
-use Rattle.hnsr_circuit.proofs.tables.question.over.Reads as Reads''''''''''
-use Rattle.hnsr_circuit.proofs.tables.question.over.Symbol as Symbol''''''''
-use Rattle.hnsr_circuit.proofs.tables.stores.drop_lapsed.Met as Met'''''''''
-use Rattle.hnsr_circuit.proofs.tables.stores.drop_lapsed.Symbol as Symbol'''''''''
+use Rattle.hnsr_circuit.proofs.tables.ledger.drop_lapsed.Met as Met''''''''
+use Rattle.hnsr_circuit.proofs.tables.ledger.drop_lapsed.Symbol as Symbol''''''''
 use borrow.Fn.Run
 use borrow.Fn.Written
 use contract.Running
 
 abbrev pub readings : Lts.Claims
 readings = (
-  Reads''''''''''.Asked,
-  Reads''''''''''.Learnt,
+  Reads''''''.Asked,
+  Reads''''''.Learnt,
   Reads'.Asked,
   Reads'.Learnt,
   Reads'''''''.Asked,
@@ -51,8 +48,6 @@ readings = (
   Reads''''.Learnt,
   Reads'''''.Asked,
   Reads'''''.Learnt,
-  Reads''''''.Asked,
-  Reads''''''.Learnt,
   Reads''''''''.Asked,
   Reads''''''''.Learnt,
   Reads'''.Asked,
@@ -72,8 +67,8 @@ After-slice-known = Lts.After-slice-known readings Reads''.Pre Reads''.Post
 abbrev pub After-config : Type 0
 After-config = Lts.After-config readings Reads''.Pre Reads''.Post
 
-abbrev pub After-over : Type 0
-After-over = Lts.After-over readings Reads''.Pre Reads''.Post
+abbrev pub After-revoking : Type 0
+After-revoking = Lts.After-revoking readings Reads''.Pre Reads''.Post
 
 abbrev pub After-entry-answer-arg : Type 0
 After-entry-answer-arg = Lts.After-entry-answer-arg readings Reads''.Pre Reads''.Post
@@ -98,9 +93,6 @@ After-is-taken = Lts.After-is-taken readings Reads''.Pre Reads''.Post
 
 abbrev pub Then1 : Type 0
 Then1 = Lts.Then1 readings Reads''.Pre Reads''.Post
-
-abbrev pub After-revoking : Type 0
-After-revoking = Lts.After-revoking readings Reads''.Pre Reads''.Post
 
 abbrev pub After-with-clock : Type 0
 After-with-clock = Lts.After-with-clock readings Reads''.Pre Reads''.Post
@@ -150,8 +142,8 @@ Else1 = Lts.Else1 readings Reads''.Pre Reads''.Post
 abbrev pub After-refused : Type 0
 After-refused = Lts.After-refused readings Reads''.Pre Reads''.Post
 
-abbrev pub Need-over-requires : Type 0
-Need-over-requires = Lts.Need-over-requires readings Reads''.Pre Reads''.Post
+abbrev pub Need-revoking-requires : Type 0
+Need-revoking-requires = Lts.Need-revoking-requires readings Reads''.Pre Reads''.Post
 
 abbrev pub Need-entry-answer-requires : Type 0
 Need-entry-answer-requires = Lts.Need-entry-answer-requires readings Reads''.Pre Reads''.Post
@@ -164,9 +156,6 @@ Need-first-refusal-requires = Lts.Need-first-refusal-requires readings Reads''.P
 
 abbrev pub Need-is-taken-requires : Type 0
 Need-is-taken-requires = Lts.Need-is-taken-requires readings Reads''.Pre Reads''.Post
-
-abbrev pub Need-revoking-requires : Type 0
-Need-revoking-requires = Lts.Need-revoking-requires readings Reads''.Pre Reads''.Post
 
 abbrev pub Need-with-clock-requires : Type 0
 Need-with-clock-requires = Lts.Need-with-clock-requires readings Reads''.Pre Reads''.Post
@@ -208,18 +197,17 @@ abbrev pub Need-returns-2 : Type 0
 Need-returns-2 = Lts.Need-returns-2 readings Reads''.Pre Reads''.Post
 
 module _ {M : Type 1} where
-  pub spec : (answer : Need-over-requires) → (answer : Need-entry-answer-requires) →
+  pub spec : (answer : Need-revoking-requires) → (answer : Need-entry-answer-requires) →
       (answer : Need-clock-answer-requires) → (answer : Need-first-refusal-requires) →
-      (answer : Need-is-taken-requires) → (answer : Need-revoking-requires) → (answer : Need-with-clock-requires) →
-      (answer : Need-drop-lapsed-requires) → (answer : Need-revoke-all-requires) → (answer : Need-same-length) →
-      (answer : Need-same-length-2) → (answer : Need-same-length-3) → (answer : Need-same-length-4) →
-      (answer : Need-same-length-5) → (answer : Need-returns) → (answer : Need-refused-requires) →
-      (answer : Need-same-length-6) → (answer : Need-same-length-7) → (answer : Need-returns-2) → Lts.Closed readings
-      Reads''.Pre Reads''.Post M
+      (answer : Need-is-taken-requires) → (answer : Need-with-clock-requires) → (answer : Need-drop-lapsed-requires) →
+      (answer : Need-revoke-all-requires) → (answer : Need-same-length) → (answer : Need-same-length-2) →
+      (answer : Need-same-length-3) → (answer : Need-same-length-4) → (answer : Need-same-length-5) →
+      (answer : Need-returns) → (answer : Need-refused-requires) → (answer : Need-same-length-6) →
+      (answer : Need-same-length-7) → (answer : Need-returns-2) → Lts.Closed readings Reads''.Pre Reads''.Post M
   spec = λ answer answer' answer'' answer'3 answer'4 answer'5 answer'6 answer'7 answer'8 answer'9 answer'10 answer'11
-      answer'12 answer'13 answer'14 answer'15 answer'16 answer'17 answer'18. Lts.spec readings Reads''.Pre Reads''.Post
-      answer answer' answer'' answer'3 answer'4 answer'5 answer'6 answer'7 answer'8 answer'9 answer'10 answer'11
-      answer'12 answer'13 answer'14 answer'15 answer'16 answer'17 answer'18
+      answer'12 answer'13 answer'14 answer'15 answer'16 answer'17. Lts.spec readings Reads''.Pre Reads''.Post answer
+      answer' answer'' answer'3 answer'4 answer'5 answer'6 answer'7 answer'8 answer'9 answer'10 answer'11 answer'12
+      answer'13 answer'14 answer'15 answer'16 answer'17
 
   pub close : Lts.Closed readings Reads''.Pre Reads''.Post M → Statement.statement M
   unfolding Code.routine Running.tablesOf
@@ -228,22 +216,20 @@ module _ {M : Type 1} where
       record { M = M; 𝓤 = 𝓤; H = H; 𝓜 = 𝓜; 𝓖 = 𝓖; 𝓡 = 𝓡 } Code.env Key.name Code.function (Code.unfolded 𝓤 H 𝓜 𝓡)
       (λ κs a g. tt) (λ κs. Reads''.owns κs record { M = M; 𝓤 = 𝓤; H = H; 𝓜 = 𝓜; 𝓖 = 𝓖; 𝓡 = 𝓡 }) (Reads''.passes
       record { M = M; 𝓤 = 𝓤; H = H; 𝓜 = 𝓜; 𝓖 = 𝓖; 𝓡 = 𝓡 }) λ g. closed 𝓤 H (𝓖 .A) (Running.givenOf 𝓤 H 𝓜 𝓖)
-      (Run.Over 𝓤 H 𝓜 𝓖 𝓡 Code.env) (Reads''''''''''.known record { M = M; 𝓤 = 𝓤; H = H; 𝓜 = 𝓜; 𝓖 = 𝓖; 𝓡 = 𝓡 } Code.env
-      Symbol''''''''.name Symbol''''''''.routine Code.calls-hnsr-circuit·tables·question·over
-      (Met''''''''.met 𝓤 H 𝓜 𝓖 𝓡)) (Reads'.known record { M = M; 𝓤 = 𝓤; H = H; 𝓜 = 𝓜; 𝓖 = 𝓖; 𝓡 = 𝓡 } Code.env
-      Symbol'''.name Symbol'''.routine Code.calls-hnsr-circuit·calls·revoking·entry-answer (Met'''.met 𝓤 H 𝓜 𝓖 𝓡)) (Reads'''''''.known
+      (Run.Over 𝓤 H 𝓜 𝓖 𝓡 Code.env) (Reads''''''.known record { M = M; 𝓤 = 𝓤; H = H; 𝓜 = 𝓜; 𝓖 = 𝓖; 𝓡 = 𝓡 } Code.env
+      Symbol''''.name Symbol''''.routine Code.calls-hnsr-circuit·calls·revoking·revoking (Met''''.met 𝓤 H 𝓜 𝓖 𝓡)) (Reads'.known
+      record { M = M; 𝓤 = 𝓤; H = H; 𝓜 = 𝓜; 𝓖 = 𝓖; 𝓡 = 𝓡 } Code.env Symbol'''.name Symbol'''.routine
+      Code.calls-hnsr-circuit·calls·revoking·entry-answer (Met'''.met 𝓤 H 𝓜 𝓖 𝓡)) (Reads'''''''.known
       record { M = M; 𝓤 = 𝓤; H = H; 𝓜 = 𝓜; 𝓖 = 𝓖; 𝓡 = 𝓡 } Code.env Symbol'''''.name Symbol'''''.routine
       Code.calls-hnsr-circuit·entry·clock-answer (Met'''''.met 𝓤 H 𝓜 𝓖 𝓡)) (Reads''''.known
       record { M = M; 𝓤 = 𝓤; H = H; 𝓜 = 𝓜; 𝓖 = 𝓖; 𝓡 = 𝓡 } Code.env Symbol.name Symbol.routine
       Code.calls-hnsr-circuit·answer·first-refusal (Met.met 𝓤 H 𝓜 𝓖 𝓡)) (Reads'''''.known
       record { M = M; 𝓤 = 𝓤; H = H; 𝓜 = 𝓜; 𝓖 = 𝓖; 𝓡 = 𝓡 } Code.env Symbol'.name Symbol'.routine
-      Code.calls-hnsr-circuit·answer·is-taken (Met'.met 𝓤 H 𝓜 𝓖 𝓡)) (Reads''''''.known
-      record { M = M; 𝓤 = 𝓤; H = H; 𝓜 = 𝓜; 𝓖 = 𝓖; 𝓡 = 𝓡 } Code.env Symbol''''.name Symbol''''.routine
-      Code.calls-hnsr-circuit·calls·revoking·revoking (Met''''.met 𝓤 H 𝓜 𝓖 𝓡)) (Reads''''''''.known
+      Code.calls-hnsr-circuit·answer·is-taken (Met'.met 𝓤 H 𝓜 𝓖 𝓡)) (Reads''''''''.known
       record { M = M; 𝓤 = 𝓤; H = H; 𝓜 = 𝓜; 𝓖 = 𝓖; 𝓡 = 𝓡 } Code.env Symbol''''''.name Symbol''''''.routine
       Code.calls-hnsr-circuit·records·header·with-clock (Met''''''.met 𝓤 H 𝓜 𝓖 𝓡)) (Reads'''.known
-      record { M = M; 𝓤 = 𝓤; H = H; 𝓜 = 𝓜; 𝓖 = 𝓖; 𝓡 = 𝓡 } Code.env Symbol'''''''''.name Symbol'''''''''.routine
-      Code.calls-hnsr-circuit·tables·stores·drop-lapsed (Met'''''''''.met 𝓤 H 𝓜 𝓖 𝓡)) (Reads.known
+      record { M = M; 𝓤 = 𝓤; H = H; 𝓜 = 𝓜; 𝓖 = 𝓖; 𝓡 = 𝓡 } Code.env Symbol''''''''.name Symbol''''''''.routine
+      Code.calls-hnsr-circuit·tables·ledger·drop-lapsed (Met''''''''.met 𝓤 H 𝓜 𝓖 𝓡)) (Reads.known
       record { M = M; 𝓤 = 𝓤; H = H; 𝓜 = 𝓜; 𝓖 = 𝓖; 𝓡 = 𝓡 } Code.env Symbol''.name Symbol''.routine
       Code.calls-hnsr-circuit·calls·revocation·revoke-all (Met''.met 𝓤 H 𝓜 𝓖 𝓡)) (Reads'''''''''.known
       record { M = M; 𝓤 = 𝓤; H = H; 𝓜 = 𝓜; 𝓖 = 𝓖; 𝓡 = 𝓡 } Code.env Symbol'''''''.name Symbol'''''''.routine

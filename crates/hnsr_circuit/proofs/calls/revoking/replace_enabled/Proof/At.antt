@@ -4,24 +4,12 @@ use Rattle.hnsr_circuit.proofs.By.calls.revoking.replace_enabled.Reads
 use Rattle.hnsr_circuit.proofs.calls.revoking.replace_enabled.Proof.Tie
 use borrow.Author.Needs.{needs}
 
-pub record Entry-answer-requires (c : Tie.After-entry-answer-arg2) : Type 0 where
-  pub start : Tie.Start
-  pub config : Lts.After-config·own Tie.readings Reads.Pre Reads.Post (c .before .before .before .before)
-  pub used : Lts.After-used·own Tie.readings Reads.Pre Reads.Post (c .before .before .before)
-
-abbrev pub entry-answer-requires : (c : Tie.After-entry-answer-arg2) → Entry-answer-requires c
-entry-answer-requires c = record {
-  start = c .before .before .before .before .before;
-  config = c .before .before .before .config;
-  used = c .before .before .used;
-}
-
 pub record Switch-to-requires (c : Tie.After-switch-to-arg4) : Type 0 where
   pub start : Tie.Start
   pub config : Lts.After-config·own Tie.readings Reads.Pre Reads.Post (c .before .before .before .before .before
       .before .before .before .before .before .before .before .before .before .before .before .before .before)
-  pub used : Lts.After-used·own Tie.readings Reads.Pre Reads.Post (c .before .before .before .before .before .before
-      .before .before .before .before .before .before .before .before .before .before .before)
+  pub revoking : Lts.After-revoking·own Tie.readings Reads.Pre Reads.Post (c .before .before .before .before .before
+      .before .before .before .before .before .before .before .before .before .before .before .before)
   pub entry-answer : Lts.After-entry-answer·own Tie.readings Reads.Pre Reads.Post (c .before .before .before .before
       .before .before .before .before .before .before .before .before .before .before)
   pub first : Lts.After-first·own Tie.readings Reads.Pre Reads.Post (c .before .before .before .before .before .before
@@ -47,8 +35,8 @@ switch-to-requires c = record {
       .before .before .before .before .before .before;
   config = c .before .before .before .before .before .before .before .before .before .before .before .before .before
       .before .before .before .before .config;
-  used = c .before .before .before .before .before .before .before .before .before .before .before .before .before
-      .before .before .before .used;
+  revoking = c .before .before .before .before .before .before .before .before .before .before .before .before .before
+      .before .before .before .revoking;
   entry-answer = c .before .before .before .before .before .before .before .before .before .before .before .before
       .before .entry-answer;
   first = c .before .before .before .before .before .before .before .before .before .before .before .before .first;
@@ -68,9 +56,9 @@ pub record Returns (c : Tie.After-slice-known2) : Type 0 where
   pub config : Lts.After-config·own Tie.readings Reads.Pre Reads.Post (c .before .before .before .before .before
       .before .before .before .before .before .before .before .before .before .before .before .before .before .before
       .before .before .before .before .before)
-  pub used : Lts.After-used·own Tie.readings Reads.Pre Reads.Post (c .before .before .before .before .before .before
+  pub revoking : Lts.After-revoking·own Tie.readings Reads.Pre Reads.Post (c .before .before .before .before .before
       .before .before .before .before .before .before .before .before .before .before .before .before .before .before
-      .before .before .before)
+      .before .before .before .before)
   pub entry-answer : Lts.After-entry-answer·own Tie.readings Reads.Pre Reads.Post (c .before .before .before .before
       .before .before .before .before .before .before .before .before .before .before .before .before .before .before
       .before .before)
@@ -106,8 +94,8 @@ returns c = record {
       .before .before .before .before .before .before .before .before .before .before .before .before;
   config = c .before .before .before .before .before .before .before .before .before .before .before .before .before
       .before .before .before .before .before .before .before .before .before .before .config;
-  used = c .before .before .before .before .before .before .before .before .before .before .before .before .before
-      .before .before .before .before .before .before .before .before .before .used;
+  revoking = c .before .before .before .before .before .before .before .before .before .before .before .before .before
+      .before .before .before .before .before .before .before .before .before .revoking;
   entry-answer = c .before .before .before .before .before .before .before .before .before .before .before .before
       .before .before .before .before .before .before .before .entry-answer;
   first = c .before .before .before .before .before .before .before .before .before .before .before .before .before
@@ -137,8 +125,8 @@ pub record Returns-2 (c : Tie.After-taken-with) : Type 0 where
   pub start : Tie.Start
   pub config : Lts.After-config·own Tie.readings Reads.Pre Reads.Post (c .before .before .before .before .before
       .before .before .before .before .before .before .before .before .before .before)
-  pub used : Lts.After-used·own Tie.readings Reads.Pre Reads.Post (c .before .before .before .before .before .before
-      .before .before .before .before .before .before .before .before)
+  pub revoking : Lts.After-revoking·own Tie.readings Reads.Pre Reads.Post (c .before .before .before .before .before
+      .before .before .before .before .before .before .before .before .before)
   pub entry-answer : Lts.After-entry-answer·own Tie.readings Reads.Pre Reads.Post (c .before .before .before .before
       .before .before .before .before .before .before .before)
   pub first : Lts.After-first·own Tie.readings Reads.Pre Reads.Post (c .before .before .before .before .before .before
@@ -164,8 +152,8 @@ returns-2 c = record {
       .before .before .before;
   config = c .before .before .before .before .before .before .before .before .before .before .before .before .before
       .before .config;
-  used = c .before .before .before .before .before .before .before .before .before .before .before .before .before
-      .used;
+  revoking = c .before .before .before .before .before .before .before .before .before .before .before .before .before
+      .revoking;
   entry-answer = c .before .before .before .before .before .before .before .before .before .before .entry-answer;
   first = c .before .before .before .before .before .before .before .before .before .first;
   generation-answer = c .before .before .before .before .before .before .before .before .generation-answer;
@@ -183,8 +171,8 @@ pub record Returns-3 (c : Tie.After-refused) : Type 0 where
   pub start : Tie.Start
   pub config : Lts.After-config·own Tie.readings Reads.Pre Reads.Post (c .before .before .before .before .before
       .before .before .before .before .before .before .before .before .before)
-  pub used : Lts.After-used·own Tie.readings Reads.Pre Reads.Post (c .before .before .before .before .before .before
-      .before .before .before .before .before .before .before)
+  pub revoking : Lts.After-revoking·own Tie.readings Reads.Pre Reads.Post (c .before .before .before .before .before
+      .before .before .before .before .before .before .before .before)
   pub entry-answer : Lts.After-entry-answer·own Tie.readings Reads.Pre Reads.Post (c .before .before .before .before
       .before .before .before .before .before .before)
   pub first : Lts.After-first·own Tie.readings Reads.Pre Reads.Post (c .before .before .before .before .before .before
@@ -209,7 +197,8 @@ returns-3 c = record {
       .before .before;
   config = c .before .before .before .before .before .before .before .before .before .before .before .before .before
       .config;
-  used = c .before .before .before .before .before .before .before .before .before .before .before .before .used;
+  revoking = c .before .before .before .before .before .before .before .before .before .before .before .before
+      .revoking;
   entry-answer = c .before .before .before .before .before .before .before .before .before .entry-answer;
   first = c .before .before .before .before .before .before .before .before .first;
   generation-answer = c .before .before .before .before .before .before .before .generation-answer;
@@ -222,8 +211,11 @@ returns-3 c = record {
   refused = c .refused;
 }
 
-used-requires : Tie.Need-used-requires
-used-requires c = search needs
+revoking-requires : Tie.Need-revoking-requires
+revoking-requires c = search needs
+
+entry-answer-requires : Tie.Need-entry-answer-requires
+entry-answer-requires c = search needs
 
 generation-answer-requires : Tie.Need-generation-answer-requires
 generation-answer-requires c = search needs
@@ -274,9 +266,9 @@ same-length-8 : Tie.Need-same-length-8
 same-length-8 c = search needs
 
 module _ {M : Type 1} where
-  pub spec : Tie.Need-entry-answer-requires → Tie.Need-switch-to-requires → Tie.Need-returns → Tie.Need-returns-2 →
-      Tie.Need-returns-3 → Lts.Closed Tie.readings Reads.Pre Reads.Post M
-  spec = λ a0 a1 a2 a3 a4. Tie.spec used-requires a0 generation-answer-requires changed-requires change-answer-requires
-      first-refusal-requires first-refusal-requires-2 is-taken-requires a1 same-length same-length-2 same-length-3
-      same-length-4 a2 taken-with-requires same-length-5 same-length-6 a3 refused-requires same-length-7 same-length-8
-      a4
+  pub spec : Tie.Need-switch-to-requires → Tie.Need-returns → Tie.Need-returns-2 → Tie.Need-returns-3 → Lts.Closed
+      Tie.readings Reads.Pre Reads.Post M
+  spec = λ a0 a1 a2 a3. Tie.spec revoking-requires entry-answer-requires generation-answer-requires changed-requires
+      change-answer-requires first-refusal-requires first-refusal-requires-2 is-taken-requires a0 same-length
+      same-length-2 same-length-3 same-length-4 a1 taken-with-requires same-length-5 same-length-6 a2 refused-requires
+      same-length-7 same-length-8 a3

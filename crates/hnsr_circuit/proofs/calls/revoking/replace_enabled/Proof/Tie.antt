@@ -21,32 +21,32 @@ use Rattle.hnsr_circuit.proofs.calls.revoking.entry_answer.Symbol as Sy
 use Rattle.hnsr_circuit.proofs.calls.revoking.replace_enabled.Code
 use Rattle.hnsr_circuit.proofs.calls.revoking.replace_enabled.Key
 use Rattle.hnsr_circuit.proofs.calls.revoking.replace_enabled.Statement
-use Rattle.hnsr_circuit.proofs.calls.revoking.switch_to.Met as Met'''''
-use Rattle.hnsr_circuit.proofs.calls.revoking.switch_to.Symbol as Symbol'''''
-use Rattle.hnsr_circuit.proofs.entry.generation_answer.Met as Met''''''
-use Rattle.hnsr_circuit.proofs.entry.generation_answer.Reads as Reads'''''''
-use Rattle.hnsr_circuit.proofs.entry.generation_answer.Symbol as Symbol''''''
-use Rattle.hnsr_circuit.proofs.runtime.refused.Met as Met'''''''
-use Rattle.hnsr_circuit.proofs.runtime.refused.Reads as Reads''''''''
-use Rattle.hnsr_circuit.proofs.runtime.refused.Symbol as Symbol'''''''
-use Rattle.hnsr_circuit.proofs.runtime.taken_with.Met as Met''''''''
-use Rattle.hnsr_circuit.proofs.runtime.taken_with.Reads as Reads'''''''''
-use Rattle.hnsr_circuit.proofs.runtime.taken_with.Symbol as Symbol''''''''
-use Rattle.hnsr_circuit.proofs.tables.question.used.Met as Met'''''''''
-use Rattle.hnsr_circuit.proofs.tables.question.used.Reads as Reads''''''''''
-use Rattle.hnsr_circuit.proofs.tables.question.used.Symbol as Symbol'''''''''
+use Rattle.hnsr_circuit.proofs.calls.revoking.revoking.Met as Met'''''
+use Rattle.hnsr_circuit.proofs.calls.revoking.revoking.Reads as Reads'''''''
+use Rattle.hnsr_circuit.proofs.calls.revoking.revoking.Symbol as Symbol'''''
+use Rattle.hnsr_circuit.proofs.calls.revoking.switch_to.Met as Met''''''
+use Rattle.hnsr_circuit.proofs.calls.revoking.switch_to.Symbol as Symbol''''''
+use Rattle.hnsr_circuit.proofs.entry.generation_answer.Met as Met'''''''
+use Rattle.hnsr_circuit.proofs.entry.generation_answer.Reads as Reads''''''''
+use Rattle.hnsr_circuit.proofs.entry.generation_answer.Symbol as Symbol'''''''
+use Rattle.hnsr_circuit.proofs.runtime.refused.Met as Met''''''''
+use Rattle.hnsr_circuit.proofs.runtime.refused.Reads as Reads'''''''''
+use Rattle.hnsr_circuit.proofs.runtime.refused.Symbol as Symbol''''''''
+use Rattle.hnsr_circuit.proofs.runtime.taken_with.Met as Met'''''''''
+use Rattle.hnsr_circuit.proofs.runtime.taken_with.Reads as Reads''''''''''
+use Rattle.hnsr_circuit.proofs.runtime.taken_with.Symbol as Symbol'''''''''
 use borrow.Fn.Run
 use borrow.Fn.Written
 use contract.Running
 
 abbrev pub readings : Lts.Claims
 readings = (
-  Reads''''''''''.Asked,
-  Reads''''''''''.Learnt,
-  Reads.Asked,
-  Reads.Learnt,
   Reads'''''''.Asked,
   Reads'''''''.Learnt,
+  Reads.Asked,
+  Reads.Learnt,
+  Reads''''''''.Asked,
+  Reads''''''''.Learnt,
   Reads''''''.Asked,
   Reads''''''.Learnt,
   Reads'''''.Asked,
@@ -57,10 +57,10 @@ readings = (
   Reads''''.Learnt,
   Reads''.Asked,
   Reads''.Learnt,
+  Reads''''''''''.Asked,
+  Reads''''''''''.Learnt,
   Reads'''''''''.Asked,
   Reads'''''''''.Learnt,
-  Reads''''''''.Asked,
-  Reads''''''''.Learnt,
 )
 
 abbrev pub Start : Type 0
@@ -72,8 +72,8 @@ After-slice-known = Lts.After-slice-known readings Reads'.Pre Reads'.Post
 abbrev pub After-config : Type 0
 After-config = Lts.After-config readings Reads'.Pre Reads'.Post
 
-abbrev pub After-used : Type 0
-After-used = Lts.After-used readings Reads'.Pre Reads'.Post
+abbrev pub After-revoking : Type 0
+After-revoking = Lts.After-revoking readings Reads'.Pre Reads'.Post
 
 abbrev pub After-entry-answer-arg : Type 0
 After-entry-answer-arg = Lts.After-entry-answer-arg readings Reads'.Pre Reads'.Post
@@ -153,8 +153,8 @@ Else1 = Lts.Else1 readings Reads'.Pre Reads'.Post
 abbrev pub After-refused : Type 0
 After-refused = Lts.After-refused readings Reads'.Pre Reads'.Post
 
-abbrev pub Need-used-requires : Type 0
-Need-used-requires = Lts.Need-used-requires readings Reads'.Pre Reads'.Post
+abbrev pub Need-revoking-requires : Type 0
+Need-revoking-requires = Lts.Need-revoking-requires readings Reads'.Pre Reads'.Post
 
 abbrev pub Need-entry-answer-requires : Type 0
 Need-entry-answer-requires = Lts.Need-entry-answer-requires readings Reads'.Pre Reads'.Post
@@ -220,7 +220,7 @@ abbrev pub Need-returns-3 : Type 0
 Need-returns-3 = Lts.Need-returns-3 readings Reads'.Pre Reads'.Post
 
 module _ {M : Type 1} where
-  pub spec : (answer : Need-used-requires) → (answer : Need-entry-answer-requires) →
+  pub spec : (answer : Need-revoking-requires) → (answer : Need-entry-answer-requires) →
       (answer : Need-generation-answer-requires) → (answer : Need-changed-requires) →
       (answer : Need-change-answer-requires) → (answer : Need-first-refusal-requires) →
       (answer : Need-first-refusal-requires-2) → (answer : Need-is-taken-requires) → (answer : Need-switch-to-requires)
@@ -242,12 +242,12 @@ module _ {M : Type 1} where
       Code.env Key.name Code.function (Code.unfolded 𝓤 H 𝓜 𝓡) (λ κs a g. tt) (λ κs. Reads'.owns κs
       record { M = M; 𝓤 = 𝓤; H = H; 𝓜 = 𝓜; 𝓖 = 𝓖; 𝓡 = 𝓡 }) (Reads'.passes
       record { M = M; 𝓤 = 𝓤; H = H; 𝓜 = 𝓜; 𝓖 = 𝓖; 𝓡 = 𝓡 }) λ g. closed 𝓤 H (𝓖 .A) (Running.givenOf 𝓤 H 𝓜 𝓖)
-      (Run.Over 𝓤 H 𝓜 𝓖 𝓡 Code.env) (Reads''''''''''.known record { M = M; 𝓤 = 𝓤; H = H; 𝓜 = 𝓜; 𝓖 = 𝓖; 𝓡 = 𝓡 } Code.env
-      Symbol'''''''''.name Symbol'''''''''.routine Code.calls-hnsr-circuit·tables·question·used
-      (Met'''''''''.met 𝓤 H 𝓜 𝓖 𝓡)) (Reads.known record { M = M; 𝓤 = 𝓤; H = H; 𝓜 = 𝓜; 𝓖 = 𝓖; 𝓡 = 𝓡 } Code.env
-      Symbol''''.name Symbol''''.routine Code.calls-hnsr-circuit·calls·revoking·entry-answer (Met''''.met 𝓤 H 𝓜 𝓖 𝓡)) (Reads'''''''.known
-      record { M = M; 𝓤 = 𝓤; H = H; 𝓜 = 𝓜; 𝓖 = 𝓖; 𝓡 = 𝓡 } Code.env Symbol''''''.name Symbol''''''.routine
-      Code.calls-hnsr-circuit·entry·generation-answer (Met''''''.met 𝓤 H 𝓜 𝓖 𝓡)) (Reads''''''.known
+      (Run.Over 𝓤 H 𝓜 𝓖 𝓡 Code.env) (Reads'''''''.known record { M = M; 𝓤 = 𝓤; H = H; 𝓜 = 𝓜; 𝓖 = 𝓖; 𝓡 = 𝓡 } Code.env
+      Symbol'''''.name Symbol'''''.routine Code.calls-hnsr-circuit·calls·revoking·revoking (Met'''''.met 𝓤 H 𝓜 𝓖 𝓡)) (Reads.known
+      record { M = M; 𝓤 = 𝓤; H = H; 𝓜 = 𝓜; 𝓖 = 𝓖; 𝓡 = 𝓡 } Code.env Symbol''''.name Symbol''''.routine
+      Code.calls-hnsr-circuit·calls·revoking·entry-answer (Met''''.met 𝓤 H 𝓜 𝓖 𝓡)) (Reads''''''''.known
+      record { M = M; 𝓤 = 𝓤; H = H; 𝓜 = 𝓜; 𝓖 = 𝓖; 𝓡 = 𝓡 } Code.env Symbol'''''''.name Symbol'''''''.routine
+      Code.calls-hnsr-circuit·entry·generation-answer (Met'''''''.met 𝓤 H 𝓜 𝓖 𝓡)) (Reads''''''.known
       record { M = M; 𝓤 = 𝓤; H = H; 𝓜 = 𝓜; 𝓖 = 𝓖; 𝓡 = 𝓡 } Code.env Symbol'''.name Symbol'''.routine
       Code.calls-hnsr-circuit·calls·revoking·changed (Met'''.met 𝓤 H 𝓜 𝓖 𝓡)) (Reads'''''.known
       record { M = M; 𝓤 = 𝓤; H = H; 𝓜 = 𝓜; 𝓖 = 𝓖; 𝓡 = 𝓡 } Code.env Symbol''.name Symbol''.routine
@@ -256,9 +256,9 @@ module _ {M : Type 1} where
       Code.calls-hnsr-circuit·answer·first-refusal (Met.met 𝓤 H 𝓜 𝓖 𝓡)) (Reads''''.known
       record { M = M; 𝓤 = 𝓤; H = H; 𝓜 = 𝓜; 𝓖 = 𝓖; 𝓡 = 𝓡 } Code.env Symbol'.name Symbol'.routine
       Code.calls-hnsr-circuit·answer·is-taken (Met'.met 𝓤 H 𝓜 𝓖 𝓡)) (Reads''.known
-      record { M = M; 𝓤 = 𝓤; H = H; 𝓜 = 𝓜; 𝓖 = 𝓖; 𝓡 = 𝓡 } Code.env Symbol'''''.name Symbol'''''.routine
-      Code.calls-hnsr-circuit·calls·revoking·switch-to (Met'''''.met 𝓤 H 𝓜 𝓖 𝓡)) (Reads'''''''''.known
+      record { M = M; 𝓤 = 𝓤; H = H; 𝓜 = 𝓜; 𝓖 = 𝓖; 𝓡 = 𝓡 } Code.env Symbol''''''.name Symbol''''''.routine
+      Code.calls-hnsr-circuit·calls·revoking·switch-to (Met''''''.met 𝓤 H 𝓜 𝓖 𝓡)) (Reads''''''''''.known
+      record { M = M; 𝓤 = 𝓤; H = H; 𝓜 = 𝓜; 𝓖 = 𝓖; 𝓡 = 𝓡 } Code.env Symbol'''''''''.name Symbol'''''''''.routine
+      Code.calls-hnsr-circuit·runtime·taken-with (Met'''''''''.met 𝓤 H 𝓜 𝓖 𝓡)) (Reads'''''''''.known
       record { M = M; 𝓤 = 𝓤; H = H; 𝓜 = 𝓜; 𝓖 = 𝓖; 𝓡 = 𝓡 } Code.env Symbol''''''''.name Symbol''''''''.routine
-      Code.calls-hnsr-circuit·runtime·taken-with (Met''''''''.met 𝓤 H 𝓜 𝓖 𝓡)) (Reads''''''''.known
-      record { M = M; 𝓤 = 𝓤; H = H; 𝓜 = 𝓜; 𝓖 = 𝓖; 𝓡 = 𝓡 } Code.env Symbol'''''''.name Symbol'''''''.routine
-      Code.calls-hnsr-circuit·runtime·refused (Met'''''''.met 𝓤 H 𝓜 𝓖 𝓡))
+      Code.calls-hnsr-circuit·runtime·refused (Met''''''''.met 𝓤 H 𝓜 𝓖 𝓡))

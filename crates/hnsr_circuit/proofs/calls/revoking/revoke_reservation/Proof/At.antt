@@ -4,34 +4,20 @@ use Rattle.hnsr_circuit.proofs.By.calls.revoking.revoke_reservation.Rea
 use Rattle.hnsr_circuit.proofs.calls.revoking.revoke_reservation.Proof.Tie
 use borrow.Author.Needs.{needs}
 
-pub record Entry-answer-requires (c : Tie.After-entry-answer-arg2) : Type 0 where
-  pub start : Tie.Start
-  pub config : Lts.After-config·own Tie.readings Reads.Pre Reads.Post (c .before .before .before .before)
-  pub under : Lts.After-under·own Tie.readings Reads.Pre Reads.Post (c .before .before .before)
-
-abbrev pub entry-answer-requires : (c : Tie.After-entry-answer-arg2) → Entry-answer-requires c
-entry-answer-requires c = record {
-  start = c .before .before .before .before .before;
-  config = c .before .before .before .config;
-  under = c .before .before .under;
-}
-
 pub record Revoke-all-requires (c : Tie.After-revoke-all-arg4) : Type 0 where
   pub start : Tie.Start
   pub config : Lts.After-config·own Tie.readings Reads.Pre Reads.Post (c .before .before .before .before .before
-      .before .before .before .before .before .before .before .before .before .before .before)
-  pub under : Lts.After-under·own Tie.readings Reads.Pre Reads.Post (c .before .before .before .before .before .before
+      .before .before .before .before .before .before .before .before .before .before)
+  pub revoking : Lts.After-revoking·own Tie.readings Reads.Pre Reads.Post (c .before .before .before .before .before
       .before .before .before .before .before .before .before .before .before)
   pub entry-answer : Lts.After-entry-answer·own Tie.readings Reads.Pre Reads.Post (c .before .before .before .before
-      .before .before .before .before .before .before .before .before)
+      .before .before .before .before .before .before .before)
   pub first : Lts.After-first·own Tie.readings Reads.Pre Reads.Post (c .before .before .before .before .before .before
-      .before .before .before .before .before)
+      .before .before .before .before)
   pub is-taken : Lts.After-is-taken·own Tie.readings Reads.Pre Reads.Post (c .before .before .before .before .before
-      .before .before .before .before .before)
+      .before .before .before .before)
   pub if1 : Lts.Then1·own Tie.readings Reads.Pre Reads.Post (c .before .before .before .before .before .before .before
-      .before .before)
-  pub revoking : Lts.After-revoking·own Tie.readings Reads.Pre Reads.Post (c .before .before .before .before .before
-      .before .before .before)
+      .before)
   pub drop-usage : Lts.After-drop-usage·own Tie.readings Reads.Pre Reads.Post
       (c .before .before .before .before .before .before)
   pub ledger : Lts.After-ledger·own Tie.readings Reads.Pre Reads.Post (c .before .before .before .before .before)
@@ -39,17 +25,15 @@ pub record Revoke-all-requires (c : Tie.After-revoke-all-arg4) : Type 0 where
 abbrev pub revoke-all-requires : (c : Tie.After-revoke-all-arg4) → Revoke-all-requires c
 revoke-all-requires c = record {
   start = c .before .before .before .before .before .before .before .before .before .before .before .before .before
-      .before .before .before .before;
+      .before .before .before;
   config = c .before .before .before .before .before .before .before .before .before .before .before .before .before
-      .before .before .config;
-  under = c .before .before .before .before .before .before .before .before .before .before .before .before .before
-      .before .under;
-  entry-answer = c .before .before .before .before .before .before .before .before .before .before .before
-      .entry-answer;
-  first = c .before .before .before .before .before .before .before .before .before .before .first;
-  is-taken = c .before .before .before .before .before .before .before .before .before .is-taken;
-  if1 = c .before .before .before .before .before .before .before .before .if1;
-  revoking = c .before .before .before .before .before .before .before .revoking;
+      .before .config;
+  revoking = c .before .before .before .before .before .before .before .before .before .before .before .before .before
+      .revoking;
+  entry-answer = c .before .before .before .before .before .before .before .before .before .before .entry-answer;
+  first = c .before .before .before .before .before .before .before .before .before .first;
+  is-taken = c .before .before .before .before .before .before .before .before .is-taken;
+  if1 = c .before .before .before .before .before .before .before .if1;
   drop-usage = c .before .before .before .before .before .drop-usage;
   ledger = c .before .before .before .before .ledger;
 }
@@ -58,20 +42,18 @@ pub record Returns (c : Tie.After-slice-known2) : Type 0 where
   pub start : Tie.Start
   pub config : Lts.After-config·own Tie.readings Reads.Pre Reads.Post (c .before .before .before .before .before
       .before .before .before .before .before .before .before .before .before .before .before .before .before .before
-      .before .before .before)
-  pub under : Lts.After-under·own Tie.readings Reads.Pre Reads.Post (c .before .before .before .before .before .before
+      .before .before)
+  pub revoking : Lts.After-revoking·own Tie.readings Reads.Pre Reads.Post (c .before .before .before .before .before
       .before .before .before .before .before .before .before .before .before .before .before .before .before .before
       .before)
   pub entry-answer : Lts.After-entry-answer·own Tie.readings Reads.Pre Reads.Post (c .before .before .before .before
-      .before .before .before .before .before .before .before .before .before .before .before .before .before .before)
+      .before .before .before .before .before .before .before .before .before .before .before .before .before)
   pub first : Lts.After-first·own Tie.readings Reads.Pre Reads.Post (c .before .before .before .before .before .before
-      .before .before .before .before .before .before .before .before .before .before .before)
+      .before .before .before .before .before .before .before .before .before .before)
   pub is-taken : Lts.After-is-taken·own Tie.readings Reads.Pre Reads.Post (c .before .before .before .before .before
-      .before .before .before .before .before .before .before .before .before .before .before)
+      .before .before .before .before .before .before .before .before .before .before)
   pub if1 : Lts.Then1·own Tie.readings Reads.Pre Reads.Post (c .before .before .before .before .before .before .before
-      .before .before .before .before .before .before .before .before)
-  pub revoking : Lts.After-revoking·own Tie.readings Reads.Pre Reads.Post (c .before .before .before .before .before
-      .before .before .before .before .before .before .before .before .before)
+      .before .before .before .before .before .before .before)
   pub drop-usage : Lts.After-drop-usage·own Tie.readings Reads.Pre Reads.Post (c .before .before .before .before
       .before .before .before .before .before .before .before .before)
   pub ledger : Lts.After-ledger·own Tie.readings Reads.Pre Reads.Post (c .before .before .before .before .before
@@ -86,21 +68,18 @@ pub record Returns (c : Tie.After-slice-known2) : Type 0 where
 abbrev pub returns : (c : Tie.After-slice-known2) → Returns c
 returns c = record {
   start = c .before .before .before .before .before .before .before .before .before .before .before .before .before
-      .before .before .before .before .before .before .before .before .before .before;
+      .before .before .before .before .before .before .before .before .before;
   config = c .before .before .before .before .before .before .before .before .before .before .before .before .before
-      .before .before .before .before .before .before .before .before .config;
-  under = c .before .before .before .before .before .before .before .before .before .before .before .before .before
-      .before .before .before .before .before .before .before .under;
-  entry-answer = c .before .before .before .before .before .before .before .before .before .before .before .before
-      .before .before .before .before .before .entry-answer;
-  first = c .before .before .before .before .before .before .before .before .before .before .before .before .before
-      .before .before .before .first;
-  is-taken = c .before .before .before .before .before .before .before .before .before .before .before .before .before
-      .before .before .is-taken;
-  if1 = c .before .before .before .before .before .before .before .before .before .before .before .before .before
-      .before .if1;
+      .before .before .before .before .before .before .before .config;
   revoking = c .before .before .before .before .before .before .before .before .before .before .before .before .before
-      .revoking;
+      .before .before .before .before .before .before .revoking;
+  entry-answer = c .before .before .before .before .before .before .before .before .before .before .before .before
+      .before .before .before .before .entry-answer;
+  first = c .before .before .before .before .before .before .before .before .before .before .before .before .before
+      .before .before .first;
+  is-taken = c .before .before .before .before .before .before .before .before .before .before .before .before .before
+      .before .is-taken;
+  if1 = c .before .before .before .before .before .before .before .before .before .before .before .before .before .if1;
   drop-usage = c .before .before .before .before .before .before .before .before .before .before .before .drop-usage;
   ledger = c .before .before .before .before .before .before .before .before .before .before .ledger;
   revoke-all = c .before .before .before .before .before .revoke-all;
@@ -114,8 +93,8 @@ pub record Returns-2 (c : Tie.After-refused) : Type 0 where
   pub start : Tie.Start
   pub config : Lts.After-config·own Tie.readings Reads.Pre Reads.Post (c .before .before .before .before .before
       .before .before .before .before)
-  pub under : Lts.After-under·own Tie.readings Reads.Pre Reads.Post (c .before .before .before .before .before .before
-      .before .before)
+  pub revoking : Lts.After-revoking·own Tie.readings Reads.Pre Reads.Post (c .before .before .before .before .before
+      .before .before .before)
   pub entry-answer : Lts.After-entry-answer·own Tie.readings Reads.Pre Reads.Post
       (c .before .before .before .before .before)
   pub first : Lts.After-first·own Tie.readings Reads.Pre Reads.Post (c .before .before .before .before)
@@ -127,7 +106,7 @@ abbrev pub returns-2 : (c : Tie.After-refused) → Returns-2 c
 returns-2 c = record {
   start = c .before .before .before .before .before .before .before .before .before .before;
   config = c .before .before .before .before .before .before .before .before .config;
-  under = c .before .before .before .before .before .before .before .under;
+  revoking = c .before .before .before .before .before .before .before .revoking;
   entry-answer = c .before .before .before .before .entry-answer;
   first = c .before .before .before .first;
   is-taken = c .before .before .is-taken;
@@ -135,14 +114,14 @@ returns-2 c = record {
   refused = c .refused;
 }
 
-under-requires : Tie.Need-under-requires
-under-requires c = search needs
+revoking-requires : Tie.Need-revoking-requires
+revoking-requires c = search needs
+
+entry-answer-requires : Tie.Need-entry-answer-requires
+entry-answer-requires c = search needs
 
 is-taken-requires : Tie.Need-is-taken-requires
 is-taken-requires c = search needs
-
-revoking-requires : Tie.Need-revoking-requires
-revoking-requires c = search needs
 
 drop-usage-requires : Tie.Need-drop-usage-requires
 drop-usage-requires c = search needs
@@ -172,8 +151,8 @@ same-length-7 : Tie.Need-same-length-7
 same-length-7 c = search needs
 
 module _ {M : Type 1} where
-  pub spec : Tie.Need-entry-answer-requires → Tie.Need-revoke-all-requires → Tie.Need-returns → Tie.Need-returns-2 →
-      Lts.Closed Tie.readings Reads.Pre Reads.Post M
-  spec = λ a0 a1 a2 a3. Tie.spec under-requires a0 is-taken-requires revoking-requires drop-usage-requires a1
-      same-length same-length-2 same-length-3 same-length-4 same-length-5 a2 refused-requires same-length-6
-      same-length-7 a3
+  pub spec : Tie.Need-revoke-all-requires → Tie.Need-returns → Tie.Need-returns-2 → Lts.Closed Tie.readings Reads.Pre
+      Reads.Post M
+  spec = λ a0 a1 a2. Tie.spec revoking-requires entry-answer-requires is-taken-requires drop-usage-requires a0
+      same-length same-length-2 same-length-3 same-length-4 same-length-5 a1 refused-requires same-length-6
+      same-length-7 a2

@@ -21,25 +21,20 @@ use Rattle.hnsr_circuit.proofs.calls.revoking.revoking.Symbol as Symbol
 use Rattle.hnsr_circuit.proofs.runtime.refused.Met as Met''''
 use Rattle.hnsr_circuit.proofs.runtime.refused.Reads as Reads''''''
 use Rattle.hnsr_circuit.proofs.runtime.refused.Symbol as Symbol''''
-use Rattle.hnsr_circuit.proofs.tables.question.under.Met as Met'''''
-use Rattle.hnsr_circuit.proofs.tables.question.under.Reads as Reads'''''''
-use Rattle.hnsr_circuit.proofs.tables.question.under.Symbol as Symbol'''''
-use Rattle.hnsr_circuit.proofs.tables.stores.drop_usage.Met as Met''''''
-use Rattle.hnsr_circuit.proofs.tables.stores.drop_usage.Symbol as Symbol''''''
+use Rattle.hnsr_circuit.proofs.tables.stores.drop_usage.Met as Met'''''
+use Rattle.hnsr_circuit.proofs.tables.stores.drop_usage.Symbol as Symbol'''''
 use borrow.Fn.Run
 use borrow.Fn.Written
 use contract.Running
 
 abbrev pub readings : Lts.Claims
 readings = (
-  Reads'''''''.Asked,
-  Reads'''''''.Learnt,
+  Reads'''''.Asked,
+  Reads'''''.Learnt,
   Reads'.Asked,
   Reads'.Learnt,
   Reads''''.Asked,
   Reads''''.Learnt,
-  Reads'''''.Asked,
-  Reads'''''.Learnt,
   Reads'''.Asked,
   Reads'''.Learnt,
   Reads.Asked,
@@ -57,8 +52,8 @@ After-slice-known = Lts.After-slice-known readings Reads''.Pre Reads''.Post
 abbrev pub After-config : Type 0
 After-config = Lts.After-config readings Reads''.Pre Reads''.Post
 
-abbrev pub After-under : Type 0
-After-under = Lts.After-under readings Reads''.Pre Reads''.Post
+abbrev pub After-revoking : Type 0
+After-revoking = Lts.After-revoking readings Reads''.Pre Reads''.Post
 
 abbrev pub After-entry-answer-arg : Type 0
 After-entry-answer-arg = Lts.After-entry-answer-arg readings Reads''.Pre Reads''.Post
@@ -77,9 +72,6 @@ After-is-taken = Lts.After-is-taken readings Reads''.Pre Reads''.Post
 
 abbrev pub Then1 : Type 0
 Then1 = Lts.Then1 readings Reads''.Pre Reads''.Post
-
-abbrev pub After-revoking : Type 0
-After-revoking = Lts.After-revoking readings Reads''.Pre Reads''.Post
 
 abbrev pub After-drop-usage-arg : Type 0
 After-drop-usage-arg = Lts.After-drop-usage-arg readings Reads''.Pre Reads''.Post
@@ -126,17 +118,14 @@ Else1 = Lts.Else1 readings Reads''.Pre Reads''.Post
 abbrev pub After-refused : Type 0
 After-refused = Lts.After-refused readings Reads''.Pre Reads''.Post
 
-abbrev pub Need-under-requires : Type 0
-Need-under-requires = Lts.Need-under-requires readings Reads''.Pre Reads''.Post
+abbrev pub Need-revoking-requires : Type 0
+Need-revoking-requires = Lts.Need-revoking-requires readings Reads''.Pre Reads''.Post
 
 abbrev pub Need-entry-answer-requires : Type 0
 Need-entry-answer-requires = Lts.Need-entry-answer-requires readings Reads''.Pre Reads''.Post
 
 abbrev pub Need-is-taken-requires : Type 0
 Need-is-taken-requires = Lts.Need-is-taken-requires readings Reads''.Pre Reads''.Post
-
-abbrev pub Need-revoking-requires : Type 0
-Need-revoking-requires = Lts.Need-revoking-requires readings Reads''.Pre Reads''.Post
 
 abbrev pub Need-drop-usage-requires : Type 0
 Need-drop-usage-requires = Lts.Need-drop-usage-requires readings Reads''.Pre Reads''.Post
@@ -175,16 +164,15 @@ abbrev pub Need-returns-2 : Type 0
 Need-returns-2 = Lts.Need-returns-2 readings Reads''.Pre Reads''.Post
 
 module _ {M : Type 1} where
-  pub spec : (answer : Need-under-requires) → (answer : Need-entry-answer-requires) → (answer : Need-is-taken-requires)
-      → (answer : Need-revoking-requires) → (answer : Need-drop-usage-requires) → (answer : Need-revoke-all-requires) →
+  pub spec : (answer : Need-revoking-requires) → (answer : Need-entry-answer-requires) →
+      (answer : Need-is-taken-requires) → (answer : Need-drop-usage-requires) → (answer : Need-revoke-all-requires) →
       (answer : Need-same-length) → (answer : Need-same-length-2) → (answer : Need-same-length-3) →
       (answer : Need-same-length-4) → (answer : Need-same-length-5) → (answer : Need-returns) →
       (answer : Need-refused-requires) → (answer : Need-same-length-6) → (answer : Need-same-length-7) →
       (answer : Need-returns-2) → Lts.Closed readings Reads''.Pre Reads''.Post M
   spec = λ answer answer' answer'' answer'3 answer'4 answer'5 answer'6 answer'7 answer'8 answer'9 answer'10 answer'11
-      answer'12 answer'13 answer'14 answer'15. Lts.spec readings Reads''.Pre Reads''.Post answer answer' answer''
-      answer'3 answer'4 answer'5 answer'6 answer'7 answer'8 answer'9 answer'10 answer'11 answer'12 answer'13 answer'14
-      answer'15
+      answer'12 answer'13 answer'14. Lts.spec readings Reads''.Pre Reads''.Post answer answer' answer'' answer'3
+      answer'4 answer'5 answer'6 answer'7 answer'8 answer'9 answer'10 answer'11 answer'12 answer'13 answer'14
 
   pub close : Lts.Closed readings Reads''.Pre Reads''.Post M → Statement.statement M
   unfolding Code.routine Running.tablesOf
@@ -193,16 +181,14 @@ module _ {M : Type 1} where
       record { M = M; 𝓤 = 𝓤; H = H; 𝓜 = 𝓜; 𝓖 = 𝓖; 𝓡 = 𝓡 } Code.env Key.name Code.function (Code.unfolded 𝓤 H 𝓜 𝓡)
       (λ κs a g. tt) (λ κs. Reads''.owns κs record { M = M; 𝓤 = 𝓤; H = H; 𝓜 = 𝓜; 𝓖 = 𝓖; 𝓡 = 𝓡 }) (Reads''.passes
       record { M = M; 𝓤 = 𝓤; H = H; 𝓜 = 𝓜; 𝓖 = 𝓖; 𝓡 = 𝓡 }) λ g. closed 𝓤 H (𝓖 .A) (Running.givenOf 𝓤 H 𝓜 𝓖)
-      (Run.Over 𝓤 H 𝓜 𝓖 𝓡 Code.env) (Reads'''''''.known record { M = M; 𝓤 = 𝓤; H = H; 𝓜 = 𝓜; 𝓖 = 𝓖; 𝓡 = 𝓡 } Code.env
-      Symbol'''''.name Symbol'''''.routine Code.calls-hnsr-circuit·tables·question·under (Met'''''.met 𝓤 H 𝓜 𝓖 𝓡)) (Reads'.known
+      (Run.Over 𝓤 H 𝓜 𝓖 𝓡 Code.env) (Reads'''''.known record { M = M; 𝓤 = 𝓤; H = H; 𝓜 = 𝓜; 𝓖 = 𝓖; 𝓡 = 𝓡 } Code.env
+      Symbol'''.name Symbol'''.routine Code.calls-hnsr-circuit·calls·revoking·revoking (Met'''.met 𝓤 H 𝓜 𝓖 𝓡)) (Reads'.known
       record { M = M; 𝓤 = 𝓤; H = H; 𝓜 = 𝓜; 𝓖 = 𝓖; 𝓡 = 𝓡 } Code.env Symbol''.name Symbol''.routine
       Code.calls-hnsr-circuit·calls·revoking·entry-answer (Met''.met 𝓤 H 𝓜 𝓖 𝓡)) (Reads''''.known
       record { M = M; 𝓤 = 𝓤; H = H; 𝓜 = 𝓜; 𝓖 = 𝓖; 𝓡 = 𝓡 } Code.env Symbol.name Symbol.routine
-      Code.calls-hnsr-circuit·answer·is-taken (Met.met 𝓤 H 𝓜 𝓖 𝓡)) (Reads'''''.known
-      record { M = M; 𝓤 = 𝓤; H = H; 𝓜 = 𝓜; 𝓖 = 𝓖; 𝓡 = 𝓡 } Code.env Symbol'''.name Symbol'''.routine
-      Code.calls-hnsr-circuit·calls·revoking·revoking (Met'''.met 𝓤 H 𝓜 𝓖 𝓡)) (Reads'''.known
-      record { M = M; 𝓤 = 𝓤; H = H; 𝓜 = 𝓜; 𝓖 = 𝓖; 𝓡 = 𝓡 } Code.env Symbol''''''.name Symbol''''''.routine
-      Code.calls-hnsr-circuit·tables·stores·drop-usage (Met''''''.met 𝓤 H 𝓜 𝓖 𝓡)) (Reads.known
+      Code.calls-hnsr-circuit·answer·is-taken (Met.met 𝓤 H 𝓜 𝓖 𝓡)) (Reads'''.known
+      record { M = M; 𝓤 = 𝓤; H = H; 𝓜 = 𝓜; 𝓖 = 𝓖; 𝓡 = 𝓡 } Code.env Symbol'''''.name Symbol'''''.routine
+      Code.calls-hnsr-circuit·tables·stores·drop-usage (Met'''''.met 𝓤 H 𝓜 𝓖 𝓡)) (Reads.known
       record { M = M; 𝓤 = 𝓤; H = H; 𝓜 = 𝓜; 𝓖 = 𝓖; 𝓡 = 𝓡 } Code.env Symbol'.name Symbol'.routine
       Code.calls-hnsr-circuit·calls·revocation·revoke-all (Met'.met 𝓤 H 𝓜 𝓖 𝓡)) (Reads''''''.known
       record { M = M; 𝓤 = 𝓤; H = H; 𝓜 = 𝓜; 𝓖 = 𝓖; 𝓡 = 𝓡 } Code.env Symbol''''.name Symbol''''.routine

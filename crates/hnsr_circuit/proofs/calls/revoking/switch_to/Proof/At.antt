@@ -6,9 +6,9 @@ use borrow.Author.Needs.{needs}
 
 pub record Returns (c : Tie.After-taken-with) : Type 0 where
   pub start : Tie.Start
-  pub used : Lts.After-used·own Tie.readings Reads.Pre Reads.Post
-      (c .before .before .before .before .before .before .before)
   pub with-enabled : Lts.After-with-enabled·own Tie.readings Reads.Pre Reads.Post
+      (c .before .before .before .before .before .before .before)
+  pub no-peer : Lts.After-no-peer·own Tie.readings Reads.Pre Reads.Post
       (c .before .before .before .before .before .before)
   pub clear-action : Lts.After-clear-action·own Tie.readings Reads.Pre Reads.Post (c .before .before .before .before)
   pub inflight : Lts.After-inflight·own Tie.readings Reads.Pre Reads.Post (c .before .before .before)
@@ -18,8 +18,8 @@ pub record Returns (c : Tie.After-taken-with) : Type 0 where
 abbrev pub returns : (c : Tie.After-taken-with) → Returns c
 returns c = record {
   start = c .before .before .before .before .before .before .before .before;
-  used = c .before .before .before .before .before .before .used;
-  with-enabled = c .before .before .before .before .before .with-enabled;
+  with-enabled = c .before .before .before .before .before .before .with-enabled;
+  no-peer = c .before .before .before .before .before .no-peer;
   clear-action = c .before .before .before .clear-action;
   inflight = c .before .before .inflight;
   if1 = c .before .if1;
@@ -28,42 +28,38 @@ returns c = record {
 
 pub record Revoke-all-requires (c : Tie.After-revoke-all-arg4) : Type 0 where
   pub start : Tie.Start
-  pub used : Lts.After-used·own Tie.readings Reads.Pre Reads.Post (c .before .before .before .before .before .before
-      .before .before .before .before .before)
   pub with-enabled : Lts.After-with-enabled·own Tie.readings Reads.Pre Reads.Post (c .before .before .before .before
       .before .before .before .before .before .before)
-  pub clear-action : Lts.After-clear-action·own Tie.readings Reads.Pre Reads.Post (c .before .before .before .before
+  pub no-peer : Lts.After-no-peer·own Tie.readings Reads.Pre Reads.Post (c .before .before .before .before .before
       .before .before .before .before)
-  pub inflight : Lts.After-inflight·own Tie.readings Reads.Pre Reads.Post
+  pub clear-action : Lts.After-clear-action·own Tie.readings Reads.Pre Reads.Post
       (c .before .before .before .before .before .before .before)
-  pub if1 : Lts.Else1·own Tie.readings Reads.Pre Reads.Post (c .before .before .before .before .before .before)
-  pub revoking : Lts.After-revoking·own Tie.readings Reads.Pre Reads.Post (c .before .before .before .before .before)
+  pub inflight : Lts.After-inflight·own Tie.readings Reads.Pre Reads.Post
+      (c .before .before .before .before .before .before)
+  pub if1 : Lts.Else1·own Tie.readings Reads.Pre Reads.Post (c .before .before .before .before .before)
 
 abbrev pub revoke-all-requires : (c : Tie.After-revoke-all-arg4) → Revoke-all-requires c
 revoke-all-requires c = record {
-  start = c .before .before .before .before .before .before .before .before .before .before .before .before;
-  used = c .before .before .before .before .before .before .before .before .before .before .used;
+  start = c .before .before .before .before .before .before .before .before .before .before .before;
   with-enabled = c .before .before .before .before .before .before .before .before .before .with-enabled;
-  clear-action = c .before .before .before .before .before .before .before .clear-action;
-  inflight = c .before .before .before .before .before .before .inflight;
-  if1 = c .before .before .before .before .before .if1;
-  revoking = c .before .before .before .before .revoking;
+  no-peer = c .before .before .before .before .before .before .before .before .no-peer;
+  clear-action = c .before .before .before .before .before .before .clear-action;
+  inflight = c .before .before .before .before .before .inflight;
+  if1 = c .before .before .before .before .if1;
 }
 
 pub record Returns-2 (c : Tie.After-slice-known2) : Type 0 where
   pub start : Tie.Start
-  pub used : Lts.After-used·own Tie.readings Reads.Pre Reads.Post (c .before .before .before .before .before .before
-      .before .before .before .before .before .before .before .before .before .before .before)
   pub with-enabled : Lts.After-with-enabled·own Tie.readings Reads.Pre Reads.Post (c .before .before .before .before
       .before .before .before .before .before .before .before .before .before .before .before .before)
-  pub clear-action : Lts.After-clear-action·own Tie.readings Reads.Pre Reads.Post (c .before .before .before .before
+  pub no-peer : Lts.After-no-peer·own Tie.readings Reads.Pre Reads.Post (c .before .before .before .before .before
       .before .before .before .before .before .before .before .before .before .before)
+  pub clear-action : Lts.After-clear-action·own Tie.readings Reads.Pre Reads.Post (c .before .before .before .before
+      .before .before .before .before .before .before .before .before .before)
   pub inflight : Lts.After-inflight·own Tie.readings Reads.Pre Reads.Post (c .before .before .before .before .before
-      .before .before .before .before .before .before .before .before)
+      .before .before .before .before .before .before .before)
   pub if1 : Lts.Else1·own Tie.readings Reads.Pre Reads.Post (c .before .before .before .before .before .before .before
-      .before .before .before .before .before)
-  pub revoking : Lts.After-revoking·own Tie.readings Reads.Pre Reads.Post (c .before .before .before .before .before
-      .before .before .before .before .before .before)
+      .before .before .before .before)
   pub revoke-all : Lts.After-revoke-all·own Tie.readings Reads.Pre Reads.Post
       (c .before .before .before .before .before .before)
   pub pending : Lts.After-pending·own Tie.readings Reads.Pre Reads.Post (c .before .before .before .before .before)
@@ -74,17 +70,15 @@ pub record Returns-2 (c : Tie.After-slice-known2) : Type 0 where
 abbrev pub returns-2 : (c : Tie.After-slice-known2) → Returns-2 c
 returns-2 c = record {
   start = c .before .before .before .before .before .before .before .before .before .before .before .before .before
-      .before .before .before .before .before;
-  used = c .before .before .before .before .before .before .before .before .before .before .before .before .before
-      .before .before .before .used;
+      .before .before .before .before;
   with-enabled = c .before .before .before .before .before .before .before .before .before .before .before .before
       .before .before .before .with-enabled;
+  no-peer = c .before .before .before .before .before .before .before .before .before .before .before .before .before
+      .before .no-peer;
   clear-action = c .before .before .before .before .before .before .before .before .before .before .before .before
-      .before .clear-action;
-  inflight = c .before .before .before .before .before .before .before .before .before .before .before .before
-      .inflight;
-  if1 = c .before .before .before .before .before .before .before .before .before .before .before .if1;
-  revoking = c .before .before .before .before .before .before .before .before .before .before .revoking;
+      .clear-action;
+  inflight = c .before .before .before .before .before .before .before .before .before .before .before .inflight;
+  if1 = c .before .before .before .before .before .before .before .before .before .before .if1;
   revoke-all = c .before .before .before .before .before .revoke-all;
   pending = c .before .before .before .before .pending;
   circuits = c .before .before .before .circuits;
@@ -92,11 +86,11 @@ returns-2 c = record {
   out = c .before .out;
 }
 
-used-requires : Tie.Need-used-requires
-used-requires c = search needs
-
 with-enabled-requires : Tie.Need-with-enabled-requires
 with-enabled-requires c = search needs
+
+no-peer-requires : Tie.Need-no-peer-requires
+no-peer-requires c = search needs
 
 clear-action-requires : Tie.Need-clear-action-requires
 clear-action-requires c = search needs
@@ -106,9 +100,6 @@ taken-with-requires c = search needs
 
 same-length : Tie.Need-same-length
 same-length c = search needs
-
-revoking-requires : Tie.Need-revoking-requires
-revoking-requires c = search needs
 
 same-length-2 : Tie.Need-same-length-2
 same-length-2 c = search needs
@@ -125,5 +116,5 @@ same-length-5 c = search needs
 module _ {M : Type 1} where
   pub spec : Tie.Need-returns → Tie.Need-revoke-all-requires → Tie.Need-returns-2 → Lts.Closed Tie.readings Reads.Pre
       Reads.Post M
-  spec = λ a0 a1 a2. Tie.spec used-requires with-enabled-requires clear-action-requires taken-with-requires same-length
-      a0 revoking-requires a1 same-length-2 same-length-3 same-length-4 same-length-5 a2
+  spec = λ a0 a1 a2. Tie.spec with-enabled-requires no-peer-requires clear-action-requires taken-with-requires
+      same-length a0 a1 same-length-2 same-length-3 same-length-4 same-length-5 a2

@@ -6,12 +6,12 @@ use Rattle.hnsr_circuit.proofs.By.calls.revoking.switch_to.Reads as Rea
 use Rattle.hnsr_circuit.proofs.By.tables.inflight.clear_action.Reads as Reads''
 use Rattle.hnsr_circuit.proofs.calls.revocation.revoke_all.Met
 use Rattle.hnsr_circuit.proofs.calls.revocation.revoke_all.Symbol
-use Rattle.hnsr_circuit.proofs.calls.revoking.revoking.Met as Met'
-use Rattle.hnsr_circuit.proofs.calls.revoking.revoking.Reads as Reads'''
-use Rattle.hnsr_circuit.proofs.calls.revoking.revoking.Symbol as Symbol'
 use Rattle.hnsr_circuit.proofs.calls.revoking.switch_to.Code
 use Rattle.hnsr_circuit.proofs.calls.revoking.switch_to.Key
 use Rattle.hnsr_circuit.proofs.calls.revoking.switch_to.Statement
+use Rattle.hnsr_circuit.proofs.peer.no_peer.Met as Met'
+use Rattle.hnsr_circuit.proofs.peer.no_peer.Reads as Reads'''
+use Rattle.hnsr_circuit.proofs.peer.no_peer.Symbol as Symbol'
 use Rattle.hnsr_circuit.proofs.records.header.with_enabled.Met as Met''
 use Rattle.hnsr_circuit.proofs.records.header.with_enabled.Reads as Reads''''
 use Rattle.hnsr_circuit.proofs.records.header.with_enabled.Symbol as Symbol''
@@ -20,25 +20,20 @@ use Rattle.hnsr_circuit.proofs.runtime.taken_with.Reads as Reads'''''
 use Rattle.hnsr_circuit.proofs.runtime.taken_with.Symbol as Symbol'''
 use Rattle.hnsr_circuit.proofs.tables.inflight.clear_action.Met as Met''''
 use Rattle.hnsr_circuit.proofs.tables.inflight.clear_action.Symbol as Symbol''''
-use Rattle.hnsr_circuit.proofs.tables.question.used.Met as Met'''''
-use Rattle.hnsr_circuit.proofs.tables.question.used.Reads as Reads''''''
-use Rattle.hnsr_circuit.proofs.tables.question.used.Symbol as Symbol'''''
 use borrow.Fn.Run
 use borrow.Fn.Written
 use contract.Running
 
 abbrev pub readings : Lts.Claims
 readings = (
-  Reads''''''.Asked,
-  Reads''''''.Learnt,
   Reads''''.Asked,
   Reads''''.Learnt,
+  Reads'''.Asked,
+  Reads'''.Learnt,
   Reads''.Asked,
   Reads''.Learnt,
   Reads'''''.Asked,
   Reads'''''.Learnt,
-  Reads'''.Asked,
-  Reads'''.Learnt,
   Reads.Asked,
   Reads.Learnt,
 )
@@ -49,11 +44,11 @@ Start = Lts.Start readings Reads'.Pre Reads'.Post
 abbrev pub After-slice-known : Type 0
 After-slice-known = Lts.After-slice-known readings Reads'.Pre Reads'.Post
 
-abbrev pub After-used : Type 0
-After-used = Lts.After-used readings Reads'.Pre Reads'.Post
-
 abbrev pub After-with-enabled : Type 0
 After-with-enabled = Lts.After-with-enabled readings Reads'.Pre Reads'.Post
+
+abbrev pub After-no-peer : Type 0
+After-no-peer = Lts.After-no-peer readings Reads'.Pre Reads'.Post
 
 abbrev pub After-clear-action-arg : Type 0
 After-clear-action-arg = Lts.After-clear-action-arg readings Reads'.Pre Reads'.Post
@@ -72,9 +67,6 @@ After-taken-with = Lts.After-taken-with readings Reads'.Pre Reads'.Post
 
 abbrev pub Else1 : Type 0
 Else1 = Lts.Else1 readings Reads'.Pre Reads'.Post
-
-abbrev pub After-revoking : Type 0
-After-revoking = Lts.After-revoking readings Reads'.Pre Reads'.Post
 
 abbrev pub After-revoke-all-arg : Type 0
 After-revoke-all-arg = Lts.After-revoke-all-arg readings Reads'.Pre Reads'.Post
@@ -106,11 +98,11 @@ After-out = Lts.After-out readings Reads'.Pre Reads'.Post
 abbrev pub After-slice-known2 : Type 0
 After-slice-known2 = Lts.After-slice-known2 readings Reads'.Pre Reads'.Post
 
-abbrev pub Need-used-requires : Type 0
-Need-used-requires = Lts.Need-used-requires readings Reads'.Pre Reads'.Post
-
 abbrev pub Need-with-enabled-requires : Type 0
 Need-with-enabled-requires = Lts.Need-with-enabled-requires readings Reads'.Pre Reads'.Post
+
+abbrev pub Need-no-peer-requires : Type 0
+Need-no-peer-requires = Lts.Need-no-peer-requires readings Reads'.Pre Reads'.Post
 
 abbrev pub Need-clear-action-requires : Type 0
 Need-clear-action-requires = Lts.Need-clear-action-requires readings Reads'.Pre Reads'.Post
@@ -123,9 +115,6 @@ Need-same-length = Lts.Need-same-length readings Reads'.Pre Reads'.Post
 
 abbrev pub Need-returns : Type 0
 Need-returns = Lts.Need-returns readings Reads'.Pre Reads'.Post
-
-abbrev pub Need-revoking-requires : Type 0
-Need-revoking-requires = Lts.Need-revoking-requires readings Reads'.Pre Reads'.Post
 
 abbrev pub Need-revoke-all-requires : Type 0
 Need-revoke-all-requires = Lts.Need-revoke-all-requires readings Reads'.Pre Reads'.Post
@@ -146,14 +135,14 @@ abbrev pub Need-returns-2 : Type 0
 Need-returns-2 = Lts.Need-returns-2 readings Reads'.Pre Reads'.Post
 
 module _ {M : Type 1} where
-  pub spec : (answer : Need-used-requires) → (answer : Need-with-enabled-requires) →
+  pub spec : (answer : Need-with-enabled-requires) → (answer : Need-no-peer-requires) →
       (answer : Need-clear-action-requires) → (answer : Need-taken-with-requires) → (answer : Need-same-length) →
-      (answer : Need-returns) → (answer : Need-revoking-requires) → (answer : Need-revoke-all-requires) →
-      (answer : Need-same-length-2) → (answer : Need-same-length-3) → (answer : Need-same-length-4) →
-      (answer : Need-same-length-5) → (answer : Need-returns-2) → Lts.Closed readings Reads'.Pre Reads'.Post M
-  spec = λ answer answer' answer'' answer'3 answer'4 answer'5 answer'6 answer'7 answer'8 answer'9 answer'10 answer'11
-      answer'12. Lts.spec readings Reads'.Pre Reads'.Post answer answer' answer'' answer'3 answer'4 answer'5 answer'6
-      answer'7 answer'8 answer'9 answer'10 answer'11 answer'12
+      (answer : Need-returns) → (answer : Need-revoke-all-requires) → (answer : Need-same-length-2) →
+      (answer : Need-same-length-3) → (answer : Need-same-length-4) → (answer : Need-same-length-5) →
+      (answer : Need-returns-2) → Lts.Closed readings Reads'.Pre Reads'.Post M
+  spec = λ answer answer' answer'' answer'3 answer'4 answer'5 answer'6 answer'7 answer'8 answer'9 answer'10 answer'11.
+      Lts.spec readings Reads'.Pre Reads'.Post answer answer' answer'' answer'3 answer'4 answer'5 answer'6 answer'7
+      answer'8 answer'9 answer'10 answer'11
 
   pub close : Lts.Closed readings Reads'.Pre Reads'.Post M → Statement.statement M
   unfolding Code.routine Running.tablesOf
@@ -162,15 +151,13 @@ module _ {M : Type 1} where
       Code.env Key.name Code.function (Code.unfolded 𝓤 H 𝓜 𝓡) (λ κs a g. tt) (λ κs. Reads'.owns κs
       record { M = M; 𝓤 = 𝓤; H = H; 𝓜 = 𝓜; 𝓖 = 𝓖; 𝓡 = 𝓡 }) (Reads'.passes
       record { M = M; 𝓤 = 𝓤; H = H; 𝓜 = 𝓜; 𝓖 = 𝓖; 𝓡 = 𝓡 }) λ g. closed 𝓤 H (𝓖 .A) (Running.givenOf 𝓤 H 𝓜 𝓖)
-      (Run.Over 𝓤 H 𝓜 𝓖 𝓡 Code.env) (Reads''''''.known record { M = M; 𝓤 = 𝓤; H = H; 𝓜 = 𝓜; 𝓖 = 𝓖; 𝓡 = 𝓡 } Code.env
-      Symbol'''''.name Symbol'''''.routine Code.calls-hnsr-circuit·tables·question·used (Met'''''.met 𝓤 H 𝓜 𝓖 𝓡)) (Reads''''.known
-      record { M = M; 𝓤 = 𝓤; H = H; 𝓜 = 𝓜; 𝓖 = 𝓖; 𝓡 = 𝓡 } Code.env Symbol''.name Symbol''.routine
-      Code.calls-hnsr-circuit·records·header·with-enabled (Met''.met 𝓤 H 𝓜 𝓖 𝓡)) (Reads''.known
+      (Run.Over 𝓤 H 𝓜 𝓖 𝓡 Code.env) (Reads''''.known record { M = M; 𝓤 = 𝓤; H = H; 𝓜 = 𝓜; 𝓖 = 𝓖; 𝓡 = 𝓡 } Code.env
+      Symbol''.name Symbol''.routine Code.calls-hnsr-circuit·records·header·with-enabled (Met''.met 𝓤 H 𝓜 𝓖 𝓡)) (Reads'''.known
+      record { M = M; 𝓤 = 𝓤; H = H; 𝓜 = 𝓜; 𝓖 = 𝓖; 𝓡 = 𝓡 } Code.env Symbol'.name Symbol'.routine
+      Code.calls-hnsr-circuit·peer·no-peer (Met'.met 𝓤 H 𝓜 𝓖 𝓡)) (Reads''.known
       record { M = M; 𝓤 = 𝓤; H = H; 𝓜 = 𝓜; 𝓖 = 𝓖; 𝓡 = 𝓡 } Code.env Symbol''''.name Symbol''''.routine
       Code.calls-hnsr-circuit·tables·inflight·clear-action (Met''''.met 𝓤 H 𝓜 𝓖 𝓡)) (Reads'''''.known
       record { M = M; 𝓤 = 𝓤; H = H; 𝓜 = 𝓜; 𝓖 = 𝓖; 𝓡 = 𝓡 } Code.env Symbol'''.name Symbol'''.routine
-      Code.calls-hnsr-circuit·runtime·taken-with (Met'''.met 𝓤 H 𝓜 𝓖 𝓡)) (Reads'''.known
-      record { M = M; 𝓤 = 𝓤; H = H; 𝓜 = 𝓜; 𝓖 = 𝓖; 𝓡 = 𝓡 } Code.env Symbol'.name Symbol'.routine
-      Code.calls-hnsr-circuit·calls·revoking·revoking (Met'.met 𝓤 H 𝓜 𝓖 𝓡)) (Reads.known
+      Code.calls-hnsr-circuit·runtime·taken-with (Met'''.met 𝓤 H 𝓜 𝓖 𝓡)) (Reads.known
       record { M = M; 𝓤 = 𝓤; H = H; 𝓜 = 𝓜; 𝓖 = 𝓖; 𝓡 = 𝓡 } Code.env Symbol.name Symbol.routine
       Code.calls-hnsr-circuit·calls·revocation·revoke-all (Met.met 𝓤 H 𝓜 𝓖 𝓡))

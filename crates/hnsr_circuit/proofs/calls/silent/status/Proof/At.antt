@@ -4,27 +4,9 @@ use Rattle.hnsr_circuit.proofs.By.calls.silent.status.Reads
 use Rattle.hnsr_circuit.proofs.calls.silent.status.Proof.Tie
 use borrow.Author.Needs.{needs}
 
-pub record Count-action-requires (c : Tie.After-circuit-totals) : Type 0 where
-  pub start : Tie.Start
-  pub config : Lts.After-config·own Tie.readings Reads.Pre Reads.Post (c .before .before .before .before)
-  pub used : Lts.After-used·own Tie.readings Reads.Pre Reads.Post (c .before .before .before)
-  pub count-pending : Lts.After-count-pending·own Tie.readings Reads.Pre Reads.Post (c .before .before)
-  pub circuit-totals : Lts.After-circuit-totals·own Tie.readings Reads.Pre Reads.Post (c .before)
-
-abbrev pub count-action-requires : (c : Tie.After-circuit-totals) → Count-action-requires c
-count-action-requires c = record {
-  start = c .before .before .before .before;
-  config = c .before .before .before .config;
-  used = c .before .before .used;
-  count-pending = c .before .count-pending;
-  circuit-totals = c .circuit-totals;
-}
-
 pub record Returns (c : Tie.After-status-told) : Type 0 where
   pub start : Tie.Start
-  pub config : Lts.After-config·own Tie.readings Reads.Pre Reads.Post (c .before .before .before .before .before
-      .before .before .before)
-  pub used : Lts.After-used·own Tie.readings Reads.Pre Reads.Post
+  pub config : Lts.After-config·own Tie.readings Reads.Pre Reads.Post
       (c .before .before .before .before .before .before .before)
   pub count-pending : Lts.After-count-pending·own Tie.readings Reads.Pre Reads.Post
       (c .before .before .before .before .before .before)
@@ -37,9 +19,8 @@ pub record Returns (c : Tie.After-status-told) : Type 0 where
 
 abbrev pub returns : (c : Tie.After-status-told) → Returns c
 returns c = record {
-  start = c .before .before .before .before .before .before .before .before;
-  config = c .before .before .before .before .before .before .before .config;
-  used = c .before .before .before .before .before .before .used;
+  start = c .before .before .before .before .before .before .before;
+  config = c .before .before .before .before .before .before .config;
   count-pending = c .before .before .before .before .before .count-pending;
   circuit-totals = c .before .before .before .before .circuit-totals;
   count-action = c .before .before .before .count-action;
@@ -48,11 +29,14 @@ returns c = record {
   status-told = c .status-told;
 }
 
-used-requires : Tie.Need-used-requires
-used-requires c = search needs
+count-pending-requires : Tie.Need-count-pending-requires
+count-pending-requires c = search needs
 
 circuit-totals-requires : Tie.Need-circuit-totals-requires
 circuit-totals-requires c = search needs
+
+count-action-requires : Tie.Need-count-action-requires
+count-action-requires c = search needs
 
 too-few-requires : Tie.Need-too-few-requires
 too-few-requires c = search needs
@@ -64,7 +48,6 @@ status-told-requires : Tie.Need-status-told-requires
 status-told-requires c = search needs
 
 module _ {M : Type 1} where
-  pub spec : Tie.Need-count-pending-requires → Tie.Need-count-action-requires → Tie.Need-returns → Lts.Closed
-      Tie.readings Reads.Pre Reads.Post M
-  spec = λ a0 a1 a2. Tie.spec used-requires a0 circuit-totals-requires a1 too-few-requires status-of-requires
-      status-told-requires a2
+  pub spec : Tie.Need-returns → Lts.Closed Tie.readings Reads.Pre Reads.Post M
+  spec = λ a0. Tie.spec count-pending-requires circuit-totals-requires count-action-requires too-few-requires
+      status-of-requires status-told-requires a0

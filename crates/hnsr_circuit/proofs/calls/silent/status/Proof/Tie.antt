@@ -23,17 +23,12 @@ use Rattle.hnsr_circuit.proofs.tables.inflight.count_action.Met as Met'
 use Rattle.hnsr_circuit.proofs.tables.inflight.count_action.Symbol as Symbol''''
 use Rattle.hnsr_circuit.proofs.tables.pending.count_pending.Met as Met'''''
 use Rattle.hnsr_circuit.proofs.tables.pending.count_pending.Symbol as Symbol'''''
-use Rattle.hnsr_circuit.proofs.tables.question.used.Met as Met''''''
-use Rattle.hnsr_circuit.proofs.tables.question.used.Reads as Reads'''''''
-use Rattle.hnsr_circuit.proofs.tables.question.used.Symbol as Symbol''''''
 use borrow.Fn.Run
 use borrow.Fn.Written
 use contract.Running
 
 abbrev pub readings : Lts.Claims
 readings = (
-  Reads'''''''.Asked,
-  Reads'''''''.Learnt,
   Reads'''.Asked,
   Reads'''.Learnt,
   Reads'.Asked,
@@ -54,9 +49,6 @@ Start = Lts.Start readings Reads.Pre Reads.Post
 abbrev pub After-config : Type 0
 After-config = Lts.After-config readings Reads.Pre Reads.Post
 
-abbrev pub After-used : Type 0
-After-used = Lts.After-used readings Reads.Pre Reads.Post
-
 abbrev pub After-count-pending : Type 0
 After-count-pending = Lts.After-count-pending readings Reads.Pre Reads.Post
 
@@ -74,9 +66,6 @@ After-status-of = Lts.After-status-of readings Reads.Pre Reads.Post
 
 abbrev pub After-status-told : Type 0
 After-status-told = Lts.After-status-told readings Reads.Pre Reads.Post
-
-abbrev pub Need-used-requires : Type 0
-Need-used-requires = Lts.Need-used-requires readings Reads.Pre Reads.Post
 
 abbrev pub Need-count-pending-requires : Type 0
 Need-count-pending-requires = Lts.Need-count-pending-requires readings Reads.Pre Reads.Post
@@ -100,12 +89,11 @@ abbrev pub Need-returns : Type 0
 Need-returns = Lts.Need-returns readings Reads.Pre Reads.Post
 
 module _ {M : Type 1} where
-  pub spec : (answer : Need-used-requires) → (answer : Need-count-pending-requires) →
-      (answer : Need-circuit-totals-requires) → (answer : Need-count-action-requires) →
-      (answer : Need-too-few-requires) → (answer : Need-status-of-requires) → (answer : Need-status-told-requires) →
-      (answer : Need-returns) → Lts.Closed readings Reads.Pre Reads.Post M
-  spec = λ answer answer' answer'' answer'3 answer'4 answer'5 answer'6 answer'7. Lts.spec readings Reads.Pre Reads.Post
-      answer answer' answer'' answer'3 answer'4 answer'5 answer'6 answer'7
+  pub spec : (answer : Need-count-pending-requires) → (answer : Need-circuit-totals-requires) →
+      (answer : Need-count-action-requires) → (answer : Need-too-few-requires) → (answer : Need-status-of-requires) →
+      (answer : Need-status-told-requires) → (answer : Need-returns) → Lts.Closed readings Reads.Pre Reads.Post M
+  spec = λ answer answer' answer'' answer'3 answer'4 answer'5 answer'6. Lts.spec readings Reads.Pre Reads.Post answer
+      answer' answer'' answer'3 answer'4 answer'5 answer'6
 
   pub close : Lts.Closed readings Reads.Pre Reads.Post M → Statement.statement M
   unfolding Code.routine Running.tablesOf
@@ -114,12 +102,10 @@ module _ {M : Type 1} where
       Code.function (Code.unfolded 𝓤 H 𝓜 𝓡) (λ κs a g. tt) (λ κs. Reads.owns κs
       record { M = M; 𝓤 = 𝓤; H = H; 𝓜 = 𝓜; 𝓖 = 𝓖; 𝓡 = 𝓡 }) (Reads.passes
       record { M = M; 𝓤 = 𝓤; H = H; 𝓜 = 𝓜; 𝓖 = 𝓖; 𝓡 = 𝓡 }) λ g. closed 𝓤 H (𝓖 .A) (Running.givenOf 𝓤 H 𝓜 𝓖)
-      (Run.Over 𝓤 H 𝓜 𝓖 𝓡 Code.env) (Reads'''''''.known record { M = M; 𝓤 = 𝓤; H = H; 𝓜 = 𝓜; 𝓖 = 𝓖; 𝓡 = 𝓡 } Code.env
-      Symbol''''''.name Symbol''''''.routine Code.calls-hnsr-circuit·tables·question·used (Met''''''.met 𝓤 H 𝓜 𝓖 𝓡)) (Reads'''.known
-      record { M = M; 𝓤 = 𝓤; H = H; 𝓜 = 𝓜; 𝓖 = 𝓖; 𝓡 = 𝓡 } Code.env Symbol'''''.name Symbol'''''.routine
-      Code.calls-hnsr-circuit·tables·pending·count-pending (Met'''''.met 𝓤 H 𝓜 𝓖 𝓡)) (Reads'.known
-      record { M = M; 𝓤 = 𝓤; H = H; 𝓜 = 𝓜; 𝓖 = 𝓖; 𝓡 = 𝓡 } Code.env Symbol'''.name Symbol'''.routine
-      Code.calls-hnsr-circuit·tables·circuits·circuit-totals (Met'''.met 𝓤 H 𝓜 𝓖 𝓡)) (Reads''.known
+      (Run.Over 𝓤 H 𝓜 𝓖 𝓡 Code.env) (Reads'''.known record { M = M; 𝓤 = 𝓤; H = H; 𝓜 = 𝓜; 𝓖 = 𝓖; 𝓡 = 𝓡 } Code.env
+      Symbol'''''.name Symbol'''''.routine Code.calls-hnsr-circuit·tables·pending·count-pending
+      (Met'''''.met 𝓤 H 𝓜 𝓖 𝓡)) (Reads'.known record { M = M; 𝓤 = 𝓤; H = H; 𝓜 = 𝓜; 𝓖 = 𝓖; 𝓡 = 𝓡 } Code.env
+      Symbol'''.name Symbol'''.routine Code.calls-hnsr-circuit·tables·circuits·circuit-totals (Met'''.met 𝓤 H 𝓜 𝓖 𝓡)) (Reads''.known
       record { M = M; 𝓤 = 𝓤; H = H; 𝓜 = 𝓜; 𝓖 = 𝓖; 𝓡 = 𝓡 } Code.env Symbol''''.name Symbol''''.routine
       Code.calls-hnsr-circuit·tables·inflight·count-action (Met''''.met 𝓤 H 𝓜 𝓖 𝓡)) (Reads''''''.known
       record { M = M; 𝓤 = 𝓤; H = H; 𝓜 = 𝓜; 𝓖 = 𝓖; 𝓡 = 𝓡 } Code.env Symbol''.name Symbol''.routine

@@ -18,26 +18,26 @@ use Rattle.hnsr_circuit.proofs.messages.accept.accept_plan.Symbol as Sy
 use Rattle.hnsr_circuit.proofs.messages.accept.circuit_for.Met as Met'''
 use Rattle.hnsr_circuit.proofs.messages.accept.circuit_for.Reads as Reads''''''''
 use Rattle.hnsr_circuit.proofs.messages.accept.circuit_for.Symbol as Symbol'''
-use Rattle.hnsr_circuit.proofs.messages.accept.found_unmarked.Met as Met''''
-use Rattle.hnsr_circuit.proofs.messages.accept.found_unmarked.Reads as Reads'''''''''
-use Rattle.hnsr_circuit.proofs.messages.accept.found_unmarked.Symbol as Symbol''''
-use Rattle.hnsr_circuit.proofs.messages.handle_accept.accept_answered.Met as Met'''''
-use Rattle.hnsr_circuit.proofs.messages.handle_accept.accept_answered.Symbol as Symbol'''''
+use Rattle.hnsr_circuit.proofs.messages.handle_accept.accept_answered.Met as Met''''
+use Rattle.hnsr_circuit.proofs.messages.handle_accept.accept_answered.Symbol as Symbol''''
 use Rattle.hnsr_circuit.proofs.messages.handle_accept.accept_found.Code
 use Rattle.hnsr_circuit.proofs.messages.handle_accept.accept_found.Key
 use Rattle.hnsr_circuit.proofs.messages.handle_accept.accept_found.Statement
-use Rattle.hnsr_circuit.proofs.messages.handle_accept.accept_written.Met as Met''''''
-use Rattle.hnsr_circuit.proofs.messages.handle_accept.accept_written.Symbol as Symbol''''''
-use Rattle.hnsr_circuit.proofs.output.queue.asking.Met as Met'''''''
-use Rattle.hnsr_circuit.proofs.output.queue.asking.Reads as Reads''''''''''
-use Rattle.hnsr_circuit.proofs.output.queue.asking.Symbol as Symbol'''''''
-use Rattle.hnsr_circuit.proofs.output.queue.send.Met as Met''''''''
-use Rattle.hnsr_circuit.proofs.output.queue.send.Symbol as Symbol''''''''
-use Rattle.hnsr_circuit.proofs.runtime.refused.Met as Met'''''''''
-use Rattle.hnsr_circuit.proofs.runtime.refused.Reads as Reads'''''''''''
-use Rattle.hnsr_circuit.proofs.runtime.refused.Symbol as Symbol'''''''''
-use Rattle.hnsr_circuit.proofs.tables.inflight.drop_and_scan.Met as Met''''''''''
-use Rattle.hnsr_circuit.proofs.tables.inflight.drop_and_scan.Symbol as Symbol''''''''''
+use Rattle.hnsr_circuit.proofs.messages.handle_accept.accept_written.Met as Met'''''
+use Rattle.hnsr_circuit.proofs.messages.handle_accept.accept_written.Symbol as Symbol'''''
+use Rattle.hnsr_circuit.proofs.output.queue.asking.Met as Met''''''
+use Rattle.hnsr_circuit.proofs.output.queue.asking.Reads as Reads'''''''''
+use Rattle.hnsr_circuit.proofs.output.queue.asking.Symbol as Symbol''''''
+use Rattle.hnsr_circuit.proofs.output.queue.send.Met as Met'''''''
+use Rattle.hnsr_circuit.proofs.output.queue.send.Symbol as Symbol'''''''
+use Rattle.hnsr_circuit.proofs.runtime.refused.Met as Met''''''''
+use Rattle.hnsr_circuit.proofs.runtime.refused.Reads as Reads''''''''''
+use Rattle.hnsr_circuit.proofs.runtime.refused.Symbol as Symbol''''''''
+use Rattle.hnsr_circuit.proofs.tables.inflight.drop_and_scan.Met as Met'''''''''
+use Rattle.hnsr_circuit.proofs.tables.inflight.drop_and_scan.Symbol as Symbol'''''''''
+use Rattle.hnsr_circuit.proofs.tables.lookup.found_unmarked.Met as Met''''''''''
+use Rattle.hnsr_circuit.proofs.tables.lookup.found_unmarked.Reads as Reads'''''''''''
+use Rattle.hnsr_circuit.proofs.tables.lookup.found_unmarked.Symbol as Symbol''''''''''
 use Rattle.hnsr_circuit.proofs.tables.places.with_circuits.Met as Met'''''''''''
 use Rattle.hnsr_circuit.proofs.tables.places.with_circuits.Reads as Reads''''''''''''
 use Rattle.hnsr_circuit.proofs.tables.places.with_circuits.Symbol as Symbol'''''''''''
@@ -53,12 +53,12 @@ readings = (
   Reads''''''.Learnt,
   Reads'''''''.Asked,
   Reads'''''''.Learnt,
-  Reads'''''''''.Asked,
-  Reads'''''''''.Learnt,
+  Reads'''''''''''.Asked,
+  Reads'''''''''''.Learnt,
   Reads''''''''.Asked,
   Reads''''''''.Learnt,
-  Reads''''''''''.Asked,
-  Reads''''''''''.Learnt,
+  Reads'''''''''.Asked,
+  Reads'''''''''.Learnt,
   Reads'''.Asked,
   Reads'''.Learnt,
   Reads''''''''''''.Asked,
@@ -69,8 +69,8 @@ readings = (
   Reads.Learnt,
   Reads''''.Asked,
   Reads''''.Learnt,
-  Reads'''''''''''.Asked,
-  Reads'''''''''''.Learnt,
+  Reads''''''''''.Asked,
+  Reads''''''''''.Learnt,
 )
 
 abbrev pub Start : Type 0
@@ -268,26 +268,26 @@ module _ {M : Type 1} where
       (λ κs a g. tt) (λ κs. Reads''.owns κs record { M = M; 𝓤 = 𝓤; H = H; 𝓜 = 𝓜; 𝓖 = 𝓖; 𝓡 = 𝓡 }) (Reads''.passes
       record { M = M; 𝓤 = 𝓤; H = H; 𝓜 = 𝓜; 𝓖 = 𝓖; 𝓡 = 𝓡 }) λ g. closed 𝓤 H (𝓖 .A) (Running.givenOf 𝓤 H 𝓜 𝓖)
       (Run.Over 𝓤 H 𝓜 𝓖 𝓡 Code.env) (Reads'.known record { M = M; 𝓤 = 𝓤; H = H; 𝓜 = 𝓜; 𝓖 = 𝓖; 𝓡 = 𝓡 } Code.env
-      Symbol'''''.name Symbol'''''.routine Code.calls-hnsr-circuit·messages·handle-accept·accept-answered
-      (Met'''''.met 𝓤 H 𝓜 𝓖 𝓡)) (Reads''''''.known record { M = M; 𝓤 = 𝓤; H = H; 𝓜 = 𝓜; 𝓖 = 𝓖; 𝓡 = 𝓡 } Code.env
+      Symbol''''.name Symbol''''.routine Code.calls-hnsr-circuit·messages·handle-accept·accept-answered
+      (Met''''.met 𝓤 H 𝓜 𝓖 𝓡)) (Reads''''''.known record { M = M; 𝓤 = 𝓤; H = H; 𝓜 = 𝓜; 𝓖 = 𝓖; 𝓡 = 𝓡 } Code.env
       Symbol'.name Symbol'.routine Code.calls-hnsr-circuit·answer·is-taken (Met'.met 𝓤 H 𝓜 𝓖 𝓡)) (Reads'''''''.known
       record { M = M; 𝓤 = 𝓤; H = H; 𝓜 = 𝓜; 𝓖 = 𝓖; 𝓡 = 𝓡 } Code.env Symbol''.name Symbol''.routine
-      Code.calls-hnsr-circuit·messages·accept·accept-plan (Met''.met 𝓤 H 𝓜 𝓖 𝓡)) (Reads'''''''''.known
-      record { M = M; 𝓤 = 𝓤; H = H; 𝓜 = 𝓜; 𝓖 = 𝓖; 𝓡 = 𝓡 } Code.env Symbol''''.name Symbol''''.routine
-      Code.calls-hnsr-circuit·messages·accept·found-unmarked (Met''''.met 𝓤 H 𝓜 𝓖 𝓡)) (Reads''''''''.known
+      Code.calls-hnsr-circuit·messages·accept·accept-plan (Met''.met 𝓤 H 𝓜 𝓖 𝓡)) (Reads'''''''''''.known
+      record { M = M; 𝓤 = 𝓤; H = H; 𝓜 = 𝓜; 𝓖 = 𝓖; 𝓡 = 𝓡 } Code.env Symbol''''''''''.name Symbol''''''''''.routine
+      Code.calls-hnsr-circuit·tables·lookup·found-unmarked (Met''''''''''.met 𝓤 H 𝓜 𝓖 𝓡)) (Reads''''''''.known
       record { M = M; 𝓤 = 𝓤; H = H; 𝓜 = 𝓜; 𝓖 = 𝓖; 𝓡 = 𝓡 } Code.env Symbol'''.name Symbol'''.routine
-      Code.calls-hnsr-circuit·messages·accept·circuit-for (Met'''.met 𝓤 H 𝓜 𝓖 𝓡)) (Reads''''''''''.known
-      record { M = M; 𝓤 = 𝓤; H = H; 𝓜 = 𝓜; 𝓖 = 𝓖; 𝓡 = 𝓡 } Code.env Symbol'''''''.name Symbol'''''''.routine
-      Code.calls-hnsr-circuit·output·queue·asking (Met'''''''.met 𝓤 H 𝓜 𝓖 𝓡)) (Reads'''.known
+      Code.calls-hnsr-circuit·messages·accept·circuit-for (Met'''.met 𝓤 H 𝓜 𝓖 𝓡)) (Reads'''''''''.known
       record { M = M; 𝓤 = 𝓤; H = H; 𝓜 = 𝓜; 𝓖 = 𝓖; 𝓡 = 𝓡 } Code.env Symbol''''''.name Symbol''''''.routine
-      Code.calls-hnsr-circuit·messages·handle-accept·accept-written (Met''''''.met 𝓤 H 𝓜 𝓖 𝓡)) (Reads''''''''''''.known
+      Code.calls-hnsr-circuit·output·queue·asking (Met''''''.met 𝓤 H 𝓜 𝓖 𝓡)) (Reads'''.known
+      record { M = M; 𝓤 = 𝓤; H = H; 𝓜 = 𝓜; 𝓖 = 𝓖; 𝓡 = 𝓡 } Code.env Symbol'''''.name Symbol'''''.routine
+      Code.calls-hnsr-circuit·messages·handle-accept·accept-written (Met'''''.met 𝓤 H 𝓜 𝓖 𝓡)) (Reads''''''''''''.known
       record { M = M; 𝓤 = 𝓤; H = H; 𝓜 = 𝓜; 𝓖 = 𝓖; 𝓡 = 𝓡 } Code.env Symbol'''''''''''.name Symbol'''''''''''.routine
       Code.calls-hnsr-circuit·tables·places·with-circuits (Met'''''''''''.met 𝓤 H 𝓜 𝓖 𝓡)) (Reads'''''.known
-      record { M = M; 𝓤 = 𝓤; H = H; 𝓜 = 𝓜; 𝓖 = 𝓖; 𝓡 = 𝓡 } Code.env Symbol''''''''''.name Symbol''''''''''.routine
-      Code.calls-hnsr-circuit·tables·inflight·drop-and-scan (Met''''''''''.met 𝓤 H 𝓜 𝓖 𝓡)) (Reads.known
+      record { M = M; 𝓤 = 𝓤; H = H; 𝓜 = 𝓜; 𝓖 = 𝓖; 𝓡 = 𝓡 } Code.env Symbol'''''''''.name Symbol'''''''''.routine
+      Code.calls-hnsr-circuit·tables·inflight·drop-and-scan (Met'''''''''.met 𝓤 H 𝓜 𝓖 𝓡)) (Reads.known
       record { M = M; 𝓤 = 𝓤; H = H; 𝓜 = 𝓜; 𝓖 = 𝓖; 𝓡 = 𝓡 } Code.env Symbol.name Symbol.routine
       Code.calls-hnsr-body·accept-body·OpenedBody·to-bytes (Met.met 𝓤 H 𝓜 𝓖 𝓡)) (Reads''''.known
+      record { M = M; 𝓤 = 𝓤; H = H; 𝓜 = 𝓜; 𝓖 = 𝓖; 𝓡 = 𝓡 } Code.env Symbol'''''''.name Symbol'''''''.routine
+      Code.calls-hnsr-circuit·output·queue·send (Met'''''''.met 𝓤 H 𝓜 𝓖 𝓡)) (Reads''''''''''.known
       record { M = M; 𝓤 = 𝓤; H = H; 𝓜 = 𝓜; 𝓖 = 𝓖; 𝓡 = 𝓡 } Code.env Symbol''''''''.name Symbol''''''''.routine
-      Code.calls-hnsr-circuit·output·queue·send (Met''''''''.met 𝓤 H 𝓜 𝓖 𝓡)) (Reads'''''''''''.known
-      record { M = M; 𝓤 = 𝓤; H = H; 𝓜 = 𝓜; 𝓖 = 𝓖; 𝓡 = 𝓡 } Code.env Symbol'''''''''.name Symbol'''''''''.routine
-      Code.calls-hnsr-circuit·runtime·refused (Met'''''''''.met 𝓤 H 𝓜 𝓖 𝓡))
+      Code.calls-hnsr-circuit·runtime·refused (Met''''''''.met 𝓤 H 𝓜 𝓖 𝓡))

@@ -6,27 +6,25 @@ use borrow.Author.Needs.{needs}
 
 pub record Returns (c : Tie.After-close-plan) : Type 0 where
   pub start : Tie.Start
-  pub named : Lts.After-named·own Tie.readings Reads.Pre Reads.Post (c .before .before .before .before .before)
-  pub count-pending : Lts.After-count-pending·own Tie.readings Reads.Pre Reads.Post (c .before .before .before .before)
-  pub look-up-pending : Lts.After-look-up-pending·own Tie.readings Reads.Pre Reads.Post (c .before .before .before)
+  pub count-named : Lts.After-count-named·own Tie.readings Reads.Pre Reads.Post (c .before .before .before .before)
+  pub look-up-named : Lts.After-look-up-named·own Tie.readings Reads.Pre Reads.Post (c .before .before .before)
   pub circuit-by-id : Lts.After-circuit-by-id·own Tie.readings Reads.Pre Reads.Post (c .before .before)
   pub close-plan : Lts.After-close-plan·own Tie.readings Reads.Pre Reads.Post (c .before)
 
 abbrev pub returns : (c : Tie.After-close-plan) → Returns c
 returns c = record {
-  start = c .before .before .before .before .before;
-  named = c .before .before .before .before .named;
-  count-pending = c .before .before .before .count-pending;
-  look-up-pending = c .before .before .look-up-pending;
+  start = c .before .before .before .before;
+  count-named = c .before .before .before .count-named;
+  look-up-named = c .before .before .look-up-named;
   circuit-by-id = c .before .circuit-by-id;
   close-plan = c .close-plan;
 }
 
-named-requires : Tie.Need-named-requires
-named-requires c = search needs
+count-named-requires : Tie.Need-count-named-requires
+count-named-requires c = search needs
 
-look-up-pending-requires : Tie.Need-look-up-pending-requires
-look-up-pending-requires c = search needs
+look-up-named-requires : Tie.Need-look-up-named-requires
+look-up-named-requires c = search needs
 
 circuit-by-id-requires : Tie.Need-circuit-by-id-requires
 circuit-by-id-requires c = search needs
@@ -35,5 +33,5 @@ close-plan-requires : Tie.Need-close-plan-requires
 close-plan-requires c = search needs
 
 module _ {M : Type 1} where
-  pub spec : Tie.Need-count-pending-requires → Tie.Need-returns → Lts.Closed Tie.readings Reads.Pre Reads.Post M
-  spec = λ a0 a1. Tie.spec named-requires a0 look-up-pending-requires circuit-by-id-requires close-plan-requires a1
+  pub spec : Tie.Need-returns → Lts.Closed Tie.readings Reads.Pre Reads.Post M
+  spec = λ a0. Tie.spec count-named-requires look-up-named-requires circuit-by-id-requires close-plan-requires a0

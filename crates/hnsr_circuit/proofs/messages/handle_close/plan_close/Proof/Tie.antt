@@ -3,8 +3,8 @@ use Rattle.hnsr_circuit.proofs.By.messages.handle_close.plan_close.Kind
 use Rattle.hnsr_circuit.proofs.By.messages.handle_close.plan_close.Lts
 use Rattle.hnsr_circuit.proofs.By.messages.handle_close.plan_close.Reads
 use Rattle.hnsr_circuit.proofs.By.tables.lookup.circuit_by_id.Reads as Reads'
-use Rattle.hnsr_circuit.proofs.By.tables.lookup.look_up_pending.Reads as Reads''
-use Rattle.hnsr_circuit.proofs.By.tables.pending.count_pending.Reads as Reads'''
+use Rattle.hnsr_circuit.proofs.By.tables.lookup.look_up_named.Reads as Reads''
+use Rattle.hnsr_circuit.proofs.By.tables.pending.count_named.Reads as Reads'''
 use Rattle.hnsr_circuit.proofs.messages.close.close_plan.Met
 use Rattle.hnsr_circuit.proofs.messages.close.close_plan.Reads as Reads''''
 use Rattle.hnsr_circuit.proofs.messages.close.close_plan.Symbol
@@ -13,21 +13,16 @@ use Rattle.hnsr_circuit.proofs.messages.handle_close.plan_close.Key
 use Rattle.hnsr_circuit.proofs.messages.handle_close.plan_close.Statement
 use Rattle.hnsr_circuit.proofs.tables.lookup.circuit_by_id.Met as Met'
 use Rattle.hnsr_circuit.proofs.tables.lookup.circuit_by_id.Symbol as Symbol'
-use Rattle.hnsr_circuit.proofs.tables.lookup.look_up_pending.Met as Met''
-use Rattle.hnsr_circuit.proofs.tables.lookup.look_up_pending.Symbol as Symbol''
-use Rattle.hnsr_circuit.proofs.tables.pending.count_pending.Met as Met'''
-use Rattle.hnsr_circuit.proofs.tables.pending.count_pending.Symbol as Symbol'''
-use Rattle.hnsr_circuit.proofs.tables.question.named.Met as Met''''
-use Rattle.hnsr_circuit.proofs.tables.question.named.Reads as Reads'''''
-use Rattle.hnsr_circuit.proofs.tables.question.named.Symbol as Symbol''''
+use Rattle.hnsr_circuit.proofs.tables.lookup.look_up_named.Met as Met''
+use Rattle.hnsr_circuit.proofs.tables.lookup.look_up_named.Symbol as Symbol''
+use Rattle.hnsr_circuit.proofs.tables.pending.count_named.Met as Met'''
+use Rattle.hnsr_circuit.proofs.tables.pending.count_named.Symbol as Symbol'''
 use borrow.Fn.Run
 use borrow.Fn.Written
 use contract.Running
 
 abbrev pub readings : Lts.Claims
 readings = (
-  Reads'''''.Asked,
-  Reads'''''.Learnt,
   Reads'''.Asked,
   Reads'''.Learnt,
   Reads''.Asked,
@@ -41,14 +36,11 @@ readings = (
 abbrev pub Start : Type 0
 Start = Lts.Start readings Reads.Pre Reads.Post
 
-abbrev pub After-named : Type 0
-After-named = Lts.After-named readings Reads.Pre Reads.Post
+abbrev pub After-count-named : Type 0
+After-count-named = Lts.After-count-named readings Reads.Pre Reads.Post
 
-abbrev pub After-count-pending : Type 0
-After-count-pending = Lts.After-count-pending readings Reads.Pre Reads.Post
-
-abbrev pub After-look-up-pending : Type 0
-After-look-up-pending = Lts.After-look-up-pending readings Reads.Pre Reads.Post
+abbrev pub After-look-up-named : Type 0
+After-look-up-named = Lts.After-look-up-named readings Reads.Pre Reads.Post
 
 abbrev pub After-circuit-by-id : Type 0
 After-circuit-by-id = Lts.After-circuit-by-id readings Reads.Pre Reads.Post
@@ -56,14 +48,11 @@ After-circuit-by-id = Lts.After-circuit-by-id readings Reads.Pre Reads.Post
 abbrev pub After-close-plan : Type 0
 After-close-plan = Lts.After-close-plan readings Reads.Pre Reads.Post
 
-abbrev pub Need-named-requires : Type 0
-Need-named-requires = Lts.Need-named-requires readings Reads.Pre Reads.Post
+abbrev pub Need-count-named-requires : Type 0
+Need-count-named-requires = Lts.Need-count-named-requires readings Reads.Pre Reads.Post
 
-abbrev pub Need-count-pending-requires : Type 0
-Need-count-pending-requires = Lts.Need-count-pending-requires readings Reads.Pre Reads.Post
-
-abbrev pub Need-look-up-pending-requires : Type 0
-Need-look-up-pending-requires = Lts.Need-look-up-pending-requires readings Reads.Pre Reads.Post
+abbrev pub Need-look-up-named-requires : Type 0
+Need-look-up-named-requires = Lts.Need-look-up-named-requires readings Reads.Pre Reads.Post
 
 abbrev pub Need-circuit-by-id-requires : Type 0
 Need-circuit-by-id-requires = Lts.Need-circuit-by-id-requires readings Reads.Pre Reads.Post
@@ -75,11 +64,11 @@ abbrev pub Need-returns : Type 0
 Need-returns = Lts.Need-returns readings Reads.Pre Reads.Post
 
 module _ {M : Type 1} where
-  pub spec : (answer : Need-named-requires) → (answer : Need-count-pending-requires) →
-      (answer : Need-look-up-pending-requires) → (answer : Need-circuit-by-id-requires) →
-      (answer : Need-close-plan-requires) → (answer : Need-returns) → Lts.Closed readings Reads.Pre Reads.Post M
-  spec = λ answer answer' answer'' answer'3 answer'4 answer'5. Lts.spec readings Reads.Pre Reads.Post answer answer'
-      answer'' answer'3 answer'4 answer'5
+  pub spec : (answer : Need-count-named-requires) → (answer : Need-look-up-named-requires) →
+      (answer : Need-circuit-by-id-requires) → (answer : Need-close-plan-requires) → (answer : Need-returns) →
+      Lts.Closed readings Reads.Pre Reads.Post M
+  spec = λ answer answer' answer'' answer'3 answer'4. Lts.spec readings Reads.Pre Reads.Post answer answer' answer''
+      answer'3 answer'4
 
   pub close : Lts.Closed readings Reads.Pre Reads.Post M → Statement.statement M
   unfolding Code.routine Running.tablesOf
@@ -88,12 +77,10 @@ module _ {M : Type 1} where
       Code.function (Code.unfolded 𝓤 H 𝓜 𝓡) (λ κs a g. tt) (λ κs. Reads.owns κs
       record { M = M; 𝓤 = 𝓤; H = H; 𝓜 = 𝓜; 𝓖 = 𝓖; 𝓡 = 𝓡 }) (Reads.passes
       record { M = M; 𝓤 = 𝓤; H = H; 𝓜 = 𝓜; 𝓖 = 𝓖; 𝓡 = 𝓡 }) λ g. closed 𝓤 H (𝓖 .A) (Running.givenOf 𝓤 H 𝓜 𝓖)
-      (Run.Over 𝓤 H 𝓜 𝓖 𝓡 Code.env) (Reads'''''.known record { M = M; 𝓤 = 𝓤; H = H; 𝓜 = 𝓜; 𝓖 = 𝓖; 𝓡 = 𝓡 } Code.env
-      Symbol''''.name Symbol''''.routine Code.calls-hnsr-circuit·tables·question·named (Met''''.met 𝓤 H 𝓜 𝓖 𝓡)) (Reads'''.known
-      record { M = M; 𝓤 = 𝓤; H = H; 𝓜 = 𝓜; 𝓖 = 𝓖; 𝓡 = 𝓡 } Code.env Symbol'''.name Symbol'''.routine
-      Code.calls-hnsr-circuit·tables·pending·count-pending (Met'''.met 𝓤 H 𝓜 𝓖 𝓡)) (Reads''.known
+      (Run.Over 𝓤 H 𝓜 𝓖 𝓡 Code.env) (Reads'''.known record { M = M; 𝓤 = 𝓤; H = H; 𝓜 = 𝓜; 𝓖 = 𝓖; 𝓡 = 𝓡 } Code.env
+      Symbol'''.name Symbol'''.routine Code.calls-hnsr-circuit·tables·pending·count-named (Met'''.met 𝓤 H 𝓜 𝓖 𝓡)) (Reads''.known
       record { M = M; 𝓤 = 𝓤; H = H; 𝓜 = 𝓜; 𝓖 = 𝓖; 𝓡 = 𝓡 } Code.env Symbol''.name Symbol''.routine
-      Code.calls-hnsr-circuit·tables·lookup·look-up-pending (Met''.met 𝓤 H 𝓜 𝓖 𝓡)) (Reads'.known
+      Code.calls-hnsr-circuit·tables·lookup·look-up-named (Met''.met 𝓤 H 𝓜 𝓖 𝓡)) (Reads'.known
       record { M = M; 𝓤 = 𝓤; H = H; 𝓜 = 𝓜; 𝓖 = 𝓖; 𝓡 = 𝓡 } Code.env Symbol'.name Symbol'.routine
       Code.calls-hnsr-circuit·tables·lookup·circuit-by-id (Met'.met 𝓤 H 𝓜 𝓖 𝓡)) (Reads''''.known
       record { M = M; 𝓤 = 𝓤; H = H; 𝓜 = 𝓜; 𝓖 = 𝓖; 𝓡 = 𝓡 } Code.env Symbol.name Symbol.routine

@@ -7,25 +7,20 @@ use borrow.Author.Needs.{needs}
 pub record Returns (c : Tie.After-data-plan) : Type 0 where
   pub start : Tie.Start
   pub data-on : Lts.After-data-on·own Tie.readings Reads.Pre Reads.Post
-      (c .before .before .before .before .before .before .before)
-  pub asking : Lts.After-asking·own Tie.readings Reads.Pre Reads.Post
       (c .before .before .before .before .before .before)
-  pub scan-actions : Lts.After-scan-actions·own Tie.readings Reads.Pre Reads.Post
-      (c .before .before .before .before .before)
-  pub reservation-of : Lts.After-reservation-of·own Tie.readings Reads.Pre Reads.Post
-      (c .before .before .before .before)
-  pub at-reservation : Lts.After-at-reservation·own Tie.readings Reads.Pre Reads.Post (c .before .before .before)
+  pub asking : Lts.After-asking·own Tie.readings Reads.Pre Reads.Post (c .before .before .before .before .before)
+  pub scan-actions : Lts.After-scan-actions·own Tie.readings Reads.Pre Reads.Post (c .before .before .before .before)
+  pub reservation-of : Lts.After-reservation-of·own Tie.readings Reads.Pre Reads.Post (c .before .before .before)
   pub look-up-usage : Lts.After-look-up-usage·own Tie.readings Reads.Pre Reads.Post (c .before .before)
   pub data-plan : Lts.After-data-plan·own Tie.readings Reads.Pre Reads.Post (c .before)
 
 abbrev pub returns : (c : Tie.After-data-plan) → Returns c
 returns c = record {
-  start = c .before .before .before .before .before .before .before;
-  data-on = c .before .before .before .before .before .before .data-on;
-  asking = c .before .before .before .before .before .asking;
-  scan-actions = c .before .before .before .before .scan-actions;
-  reservation-of = c .before .before .before .reservation-of;
-  at-reservation = c .before .before .at-reservation;
+  start = c .before .before .before .before .before .before;
+  data-on = c .before .before .before .before .before .data-on;
+  asking = c .before .before .before .before .asking;
+  scan-actions = c .before .before .before .scan-actions;
+  reservation-of = c .before .before .reservation-of;
   look-up-usage = c .before .look-up-usage;
   data-plan = c .data-plan;
 }
@@ -42,9 +37,6 @@ scan-actions-requires c = search needs
 reservation-of-requires : Tie.Need-reservation-of-requires
 reservation-of-requires c = search needs
 
-at-reservation-requires : Tie.Need-at-reservation-requires
-at-reservation-requires c = search needs
-
 look-up-usage-requires : Tie.Need-look-up-usage-requires
 look-up-usage-requires c = search needs
 
@@ -54,4 +46,4 @@ data-plan-requires c = search needs
 module _ {M : Type 1} where
   pub spec : Tie.Need-returns → Lts.Closed Tie.readings Reads.Pre Reads.Post M
   spec = λ a0. Tie.spec data-on-requires asking-requires scan-actions-requires reservation-of-requires
-      at-reservation-requires look-up-usage-requires data-plan-requires a0
+      look-up-usage-requires data-plan-requires a0

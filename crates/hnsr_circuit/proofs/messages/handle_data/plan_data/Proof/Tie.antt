@@ -23,9 +23,6 @@ use Rattle.hnsr_circuit.proofs.tables.inflight.scan_actions.Met as Met'
 use Rattle.hnsr_circuit.proofs.tables.inflight.scan_actions.Symbol as Symbol''''
 use Rattle.hnsr_circuit.proofs.tables.lookup.look_up_usage.Met as Met'''''
 use Rattle.hnsr_circuit.proofs.tables.lookup.look_up_usage.Symbol as Symbol'''''
-use Rattle.hnsr_circuit.proofs.tables.question.at_reservation.Met as Met''''''
-use Rattle.hnsr_circuit.proofs.tables.question.at_reservation.Reads as Reads'''''''
-use Rattle.hnsr_circuit.proofs.tables.question.at_reservation.Symbol as Symbol''''''
 use borrow.Fn.Run
 use borrow.Fn.Written
 use contract.Running
@@ -40,8 +37,6 @@ readings = (
   Reads'.Learnt,
   Reads'''''.Asked,
   Reads'''''.Learnt,
-  Reads'''''''.Asked,
-  Reads'''''''.Learnt,
   Reads''.Asked,
   Reads''.Learnt,
   Reads'''.Asked,
@@ -63,9 +58,6 @@ After-scan-actions = Lts.After-scan-actions readings Reads.Pre Reads.Post
 abbrev pub After-reservation-of : Type 0
 After-reservation-of = Lts.After-reservation-of readings Reads.Pre Reads.Post
 
-abbrev pub After-at-reservation : Type 0
-After-at-reservation = Lts.After-at-reservation readings Reads.Pre Reads.Post
-
 abbrev pub After-look-up-usage : Type 0
 After-look-up-usage = Lts.After-look-up-usage readings Reads.Pre Reads.Post
 
@@ -84,9 +76,6 @@ Need-scan-actions-requires = Lts.Need-scan-actions-requires readings Reads.Pre R
 abbrev pub Need-reservation-of-requires : Type 0
 Need-reservation-of-requires = Lts.Need-reservation-of-requires readings Reads.Pre Reads.Post
 
-abbrev pub Need-at-reservation-requires : Type 0
-Need-at-reservation-requires = Lts.Need-at-reservation-requires readings Reads.Pre Reads.Post
-
 abbrev pub Need-look-up-usage-requires : Type 0
 Need-look-up-usage-requires = Lts.Need-look-up-usage-requires readings Reads.Pre Reads.Post
 
@@ -98,11 +87,10 @@ Need-returns = Lts.Need-returns readings Reads.Pre Reads.Post
 
 module _ {M : Type 1} where
   pub spec : (answer : Need-data-on-requires) → (answer : Need-asking-requires) → (answer : Need-scan-actions-requires)
-      → (answer : Need-reservation-of-requires) → (answer : Need-at-reservation-requires) →
-      (answer : Need-look-up-usage-requires) → (answer : Need-data-plan-requires) → (answer : Need-returns) →
-      Lts.Closed readings Reads.Pre Reads.Post M
-  spec = λ answer answer' answer'' answer'3 answer'4 answer'5 answer'6 answer'7. Lts.spec readings Reads.Pre Reads.Post
-      answer answer' answer'' answer'3 answer'4 answer'5 answer'6 answer'7
+      → (answer : Need-reservation-of-requires) → (answer : Need-look-up-usage-requires) →
+      (answer : Need-data-plan-requires) → (answer : Need-returns) → Lts.Closed readings Reads.Pre Reads.Post M
+  spec = λ answer answer' answer'' answer'3 answer'4 answer'5 answer'6. Lts.spec readings Reads.Pre Reads.Post answer
+      answer' answer'' answer'3 answer'4 answer'5 answer'6
 
   pub close : Lts.Closed readings Reads.Pre Reads.Post M → Statement.statement M
   unfolding Code.routine Running.tablesOf
@@ -118,9 +106,7 @@ module _ {M : Type 1} where
       record { M = M; 𝓤 = 𝓤; H = H; 𝓜 = 𝓜; 𝓖 = 𝓖; 𝓡 = 𝓡 } Code.env Symbol''''.name Symbol''''.routine
       Code.calls-hnsr-circuit·tables·inflight·scan-actions (Met''''.met 𝓤 H 𝓜 𝓖 𝓡)) (Reads'''''.known
       record { M = M; 𝓤 = 𝓤; H = H; 𝓜 = 𝓜; 𝓖 = 𝓖; 𝓡 = 𝓡 } Code.env Symbol''.name Symbol''.routine
-      Code.calls-hnsr-circuit·messages·message·reservation-of (Met''.met 𝓤 H 𝓜 𝓖 𝓡)) (Reads'''''''.known
-      record { M = M; 𝓤 = 𝓤; H = H; 𝓜 = 𝓜; 𝓖 = 𝓖; 𝓡 = 𝓡 } Code.env Symbol''''''.name Symbol''''''.routine
-      Code.calls-hnsr-circuit·tables·question·at-reservation (Met''''''.met 𝓤 H 𝓜 𝓖 𝓡)) (Reads''.known
+      Code.calls-hnsr-circuit·messages·message·reservation-of (Met''.met 𝓤 H 𝓜 𝓖 𝓡)) (Reads''.known
       record { M = M; 𝓤 = 𝓤; H = H; 𝓜 = 𝓜; 𝓖 = 𝓖; 𝓡 = 𝓡 } Code.env Symbol'''''.name Symbol'''''.routine
       Code.calls-hnsr-circuit·tables·lookup·look-up-usage (Met'''''.met 𝓤 H 𝓜 𝓖 𝓡)) (Reads'''.known
       record { M = M; 𝓤 = 𝓤; H = H; 𝓜 = 𝓜; 𝓖 = 𝓖; 𝓡 = 𝓡 } Code.env Symbol.name Symbol.routine

@@ -4,7 +4,7 @@ use Rattle.hnsr_circuit.proofs.By.messages.handle_open.handle_open.Kind
 use Rattle.hnsr_circuit.proofs.By.messages.handle_open.handle_open.Lts
 use Rattle.hnsr_circuit.proofs.By.messages.handle_open.handle_open.Reads as Reads'
 use Rattle.hnsr_circuit.proofs.By.messages.handle_open.open_lapsed.Reads as Reads''
-use Rattle.hnsr_circuit.proofs.By.tables.stores.drop_lapsed.Reads as Reads'''
+use Rattle.hnsr_circuit.proofs.By.tables.ledger.drop_lapsed.Reads as Reads'''
 use Rattle.hnsr_circuit.proofs.answer.is_taken.Met
 use Rattle.hnsr_circuit.proofs.answer.is_taken.Reads as Reads''''
 use Rattle.hnsr_circuit.proofs.answer.is_taken.Symbol
@@ -21,8 +21,8 @@ use Rattle.hnsr_circuit.proofs.messages.open.open_rows.Symbol as Symbol
 use Rattle.hnsr_circuit.proofs.runtime.refused.Met as Met''''
 use Rattle.hnsr_circuit.proofs.runtime.refused.Reads as Reads''''''
 use Rattle.hnsr_circuit.proofs.runtime.refused.Symbol as Symbol''''
-use Rattle.hnsr_circuit.proofs.tables.stores.drop_lapsed.Met as Met'''''
-use Rattle.hnsr_circuit.proofs.tables.stores.drop_lapsed.Symbol as Symbol'''''
+use Rattle.hnsr_circuit.proofs.tables.ledger.drop_lapsed.Met as Met'''''
+use Rattle.hnsr_circuit.proofs.tables.ledger.drop_lapsed.Symbol as Symbol'''''
 use borrow.Fn.Run
 use borrow.Fn.Written
 use contract.Running
@@ -200,7 +200,7 @@ module _ {M : Type 1} where
       record { M = M; 𝓤 = 𝓤; H = H; 𝓜 = 𝓜; 𝓖 = 𝓖; 𝓡 = 𝓡 } Code.env Symbol.name Symbol.routine
       Code.calls-hnsr-circuit·answer·is-taken (Met.met 𝓤 H 𝓜 𝓖 𝓡)) (Reads'''.known
       record { M = M; 𝓤 = 𝓤; H = H; 𝓜 = 𝓜; 𝓖 = 𝓖; 𝓡 = 𝓡 } Code.env Symbol'''''.name Symbol'''''.routine
-      Code.calls-hnsr-circuit·tables·stores·drop-lapsed (Met'''''.met 𝓤 H 𝓜 𝓖 𝓡)) (Reads''.known
+      Code.calls-hnsr-circuit·tables·ledger·drop-lapsed (Met'''''.met 𝓤 H 𝓜 𝓖 𝓡)) (Reads''.known
       record { M = M; 𝓤 = 𝓤; H = H; 𝓜 = 𝓜; 𝓖 = 𝓖; 𝓡 = 𝓡 } Code.env Symbol''.name Symbol''.routine
       Code.calls-hnsr-circuit·messages·handle-open·open-lapsed (Met''.met 𝓤 H 𝓜 𝓖 𝓡)) (Reads''''''.known
       record { M = M; 𝓤 = 𝓤; H = H; 𝓜 = 𝓜; 𝓖 = 𝓖; 𝓡 = 𝓡 } Code.env Symbol''''.name Symbol''''.routine

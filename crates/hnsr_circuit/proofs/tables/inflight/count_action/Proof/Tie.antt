@@ -5,12 +5,12 @@ use Rattle.hns_encoding.proofs.numbers.min_usize.Symbol
 use Rattle.hnsr_circuit.proofs.By.tables.inflight.count_action.Kinds
 use Rattle.hnsr_circuit.proofs.By.tables.inflight.count_action.Lts
 use Rattle.hnsr_circuit.proofs.By.tables.inflight.count_action.Reads as Reads'
+use Rattle.hnsr_circuit.proofs.records.inflight.is_action.Met as Met'
+use Rattle.hnsr_circuit.proofs.records.inflight.is_action.Reads as Reads''
+use Rattle.hnsr_circuit.proofs.records.inflight.is_action.Symbol as Symbol'
 use Rattle.hnsr_circuit.proofs.tables.inflight.count_action.Code
 use Rattle.hnsr_circuit.proofs.tables.inflight.count_action.Key
 use Rattle.hnsr_circuit.proofs.tables.inflight.count_action.Statement
-use Rattle.hnsr_circuit.proofs.tables.question.action_has.Met as Met'
-use Rattle.hnsr_circuit.proofs.tables.question.action_has.Reads as Reads''
-use Rattle.hnsr_circuit.proofs.tables.question.action_has.Symbol as Symbol'
 use Rattle.hnsr_circuit.proofs.tables.scan.one_more.Met as Met''
 use Rattle.hnsr_circuit.proofs.tables.scan.one_more.Reads as Reads'''
 use Rattle.hnsr_circuit.proofs.tables.scan.one_more.Symbol as Symbol''
@@ -45,8 +45,8 @@ After-loop = λ Inv μ. Lts.After-loop readings Reads'.Pre Reads'.Post Inv μ
 abbrev pub After-row : (Inv : InvT-loop) → (μ : MeasureT-loop) → Type 0
 After-row = λ Inv μ. Lts.After-row readings Reads'.Pre Reads'.Post Inv μ
 
-abbrev pub After-action-has : (Inv : InvT-loop) → (μ : MeasureT-loop) → Type 0
-After-action-has = λ Inv μ. Lts.After-action-has readings Reads'.Pre Reads'.Post Inv μ
+abbrev pub After-is-action : (Inv : InvT-loop) → (μ : MeasureT-loop) → Type 0
+After-is-action = λ Inv μ. Lts.After-is-action readings Reads'.Pre Reads'.Post Inv μ
 
 abbrev pub After-one-more : (Inv : InvT-loop) → (μ : MeasureT-loop) → Type 0
 After-one-more = λ Inv μ. Lts.After-one-more readings Reads'.Pre Reads'.Post Inv μ
@@ -63,8 +63,8 @@ Need-mul-row = λ Inv μ. Lts.Need-mul-row readings Reads'.Pre Reads'.Post Inv �
 abbrev pub Need-shared-slice-copy-out-row : (Inv : InvT-loop) → (μ : MeasureT-loop) → Type 0
 Need-shared-slice-copy-out-row = λ Inv μ. Lts.Need-shared-slice-copy-out-row readings Reads'.Pre Reads'.Post Inv μ
 
-abbrev pub Need-action-has-requires : (Inv : InvT-loop) → (μ : MeasureT-loop) → Type 0
-Need-action-has-requires = λ Inv μ. Lts.Need-action-has-requires readings Reads'.Pre Reads'.Post Inv μ
+abbrev pub Need-is-action-requires : (Inv : InvT-loop) → (μ : MeasureT-loop) → Type 0
+Need-is-action-requires = λ Inv μ. Lts.Need-is-action-requires readings Reads'.Pre Reads'.Post Inv μ
 
 abbrev pub Need-one-more-requires : (Inv : InvT-loop) → (μ : MeasureT-loop) → Type 0
 Need-one-more-requires = λ Inv μ. Lts.Need-one-more-requires readings Reads'.Pre Reads'.Post Inv μ
@@ -84,7 +84,7 @@ Need-returns = λ Inv μ. Lts.Need-returns readings Reads'.Pre Reads'.Post Inv �
 module _ {M : Type 1} where
   pub spec : (Inv : InvT-loop) → (μ : MeasureT-loop) → (answer : Need-min-usize-requires Inv μ) →
       (answer : Need-loop-holds Inv μ) → (answer : Need-mul-row Inv μ) →
-      (answer : Need-shared-slice-copy-out-row Inv μ) → (answer : Need-action-has-requires Inv μ) →
+      (answer : Need-shared-slice-copy-out-row Inv μ) → (answer : Need-is-action-requires Inv μ) →
       (answer : Need-one-more-requires Inv μ) → (answer : Need-add-i Inv μ) → (answer : Need-loop-less Inv μ) →
       (answer : Need-loop-again Inv μ) → (answer : Need-returns Inv μ) → Lts.Closed readings Reads'.Pre Reads'.Post M
   spec = λ Inv μ answer answer' answer'' answer'3 answer'4 answer'5 answer'6 answer'7 answer'8 answer'9. Lts.spec
@@ -101,6 +101,6 @@ module _ {M : Type 1} where
       (Run.Over 𝓤 H 𝓜 𝓖 𝓡 Code.env) (Reads.known record { M = M; 𝓤 = 𝓤; H = H; 𝓜 = 𝓜; 𝓖 = 𝓖; 𝓡 = 𝓡 } Code.env
       Symbol.name Symbol.routine Code.calls-hns-encoding·numbers·min-usize (Met.met 𝓤 H 𝓜 𝓖 𝓡)) (Reads''.known
       record { M = M; 𝓤 = 𝓤; H = H; 𝓜 = 𝓜; 𝓖 = 𝓖; 𝓡 = 𝓡 } Code.env Symbol'.name Symbol'.routine
-      Code.calls-hnsr-circuit·tables·question·action-has (Met'.met 𝓤 H 𝓜 𝓖 𝓡)) (Reads'''.known
+      Code.calls-hnsr-circuit·records·inflight·is-action (Met'.met 𝓤 H 𝓜 𝓖 𝓡)) (Reads'''.known
       record { M = M; 𝓤 = 𝓤; H = H; 𝓜 = 𝓜; 𝓖 = 𝓖; 𝓡 = 𝓡 } Code.env Symbol''.name Symbol''.routine
       Code.calls-hnsr-circuit·tables·scan·one-more (Met''.met 𝓤 H 𝓜 𝓖 𝓡))

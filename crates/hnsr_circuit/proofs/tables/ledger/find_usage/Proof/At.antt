@@ -4,54 +4,65 @@ use Rattle.hnsr_circuit.proofs.By.tables.ledger.find_usage.Reads
 use Rattle.hnsr_circuit.proofs.tables.ledger.find_usage.Proof.Tie
 
 module _ (Inv : Tie.InvT-loop) (μ : Tie.MeasureT-loop) where
-  pub record Loop-holds (c : Tie.After-asks-unused Inv μ) : Type 0 where
+  pub record Loop-holds (c : Tie.After-min-usize Inv μ) : Type 0 where
     pub start : Tie.Start Inv μ
-    pub min-usize : Lts.After-min-usize·own Tie.readings Reads.Pre Reads.Post Inv μ (c .before .before)
-    pub asks-unused : Lts.After-asks-unused·own Tie.readings Reads.Pre Reads.Post Inv μ (c .before)
+    pub min-usize : Lts.After-min-usize·own Tie.readings Reads.Pre Reads.Post Inv μ (c .before)
 
-  abbrev pub loop-holds : (c : Tie.After-asks-unused Inv μ) → Loop-holds c
-  loop-holds c = record { start = c .before .before; min-usize = c .before .min-usize; asks-unused = c .asks-unused }
+  abbrev pub loop-holds : (c : Tie.After-min-usize Inv μ) → Loop-holds c
+  loop-holds c = record { start = c .before; min-usize = c .min-usize }
 
-  pub record Loop-again (c : Tie.Else1 Inv μ) : Type 0 where
+  pub record Returns (c : Tie.Then1 Inv μ) : Type 0 where
     pub start : Tie.Start Inv μ
     pub min-usize : Lts.After-min-usize·own Tie.readings Reads.Pre Reads.Post Inv μ
-        (c .before .before .before .before .before .before .before)
-    pub asks-unused : Lts.After-asks-unused·own Tie.readings Reads.Pre Reads.Post Inv μ
         (c .before .before .before .before .before .before)
     pub loop : Lts.At-loop·own Tie.readings Reads.Pre Reads.Post Inv μ (c .before .before .before .before .before)
     pub loop-test : Lts.In-loop·own Tie.readings Reads.Pre Reads.Post Inv μ (c .before .before .before .before)
     pub row : Lts.After-row·own Tie.readings Reads.Pre Reads.Post Inv μ (c .before .before .before)
-    pub usage-has : Lts.After-usage-has·own Tie.readings Reads.Pre Reads.Post Inv μ (c .before .before)
+    pub usage-is : Lts.After-usage-is·own Tie.readings Reads.Pre Reads.Post Inv μ (c .before .before)
+    pub if1 : Lts.Then1·own Tie.readings Reads.Pre Reads.Post Inv μ (c .before)
+
+  abbrev pub returns : (c : Tie.Then1 Inv μ) → Returns c
+  returns c = record {
+    start = c .before .before .before .before .before .before;
+    min-usize = c .before .before .before .before .before .min-usize;
+    loop = c .before .before .before .before .loop;
+    loop-test = c .before .before .before .loop-test;
+    row = c .before .before .row;
+    usage-is = c .before .usage-is;
+    if1 = c .if1;
+  }
+
+  pub record Loop-again (c : Tie.Else1 Inv μ) : Type 0 where
+    pub start : Tie.Start Inv μ
+    pub min-usize : Lts.After-min-usize·own Tie.readings Reads.Pre Reads.Post Inv μ
+        (c .before .before .before .before .before .before)
+    pub loop : Lts.At-loop·own Tie.readings Reads.Pre Reads.Post Inv μ (c .before .before .before .before .before)
+    pub loop-test : Lts.In-loop·own Tie.readings Reads.Pre Reads.Post Inv μ (c .before .before .before .before)
+    pub row : Lts.After-row·own Tie.readings Reads.Pre Reads.Post Inv μ (c .before .before .before)
+    pub usage-is : Lts.After-usage-is·own Tie.readings Reads.Pre Reads.Post Inv μ (c .before .before)
     pub if1 : Lts.Else1·own Tie.readings Reads.Pre Reads.Post Inv μ (c .before)
 
   abbrev pub loop-again : (c : Tie.Else1 Inv μ) → Loop-again c
   loop-again c = record {
-    start = c .before .before .before .before .before .before .before;
-    min-usize = c .before .before .before .before .before .before .min-usize;
-    asks-unused = c .before .before .before .before .before .asks-unused;
+    start = c .before .before .before .before .before .before;
+    min-usize = c .before .before .before .before .before .min-usize;
     loop = c .before .before .before .before .loop;
     loop-test = c .before .before .before .loop-test;
     row = c .before .before .row;
-    usage-has = c .before .usage-has;
+    usage-is = c .before .usage-is;
     if1 = c .if1;
   }
 
-  pub record Returns-2 (c : Tie.After-or-else Inv μ) : Type 0 where
+  pub record Returns-2 (c : Tie.After-loop Inv μ) : Type 0 where
     pub start : Tie.Start Inv μ
-    pub min-usize : Lts.After-min-usize·own Tie.readings Reads.Pre Reads.Post Inv μ
-        (c .before .before .before .before .before)
-    pub asks-unused : Lts.After-asks-unused·own Tie.readings Reads.Pre Reads.Post Inv μ
-        (c .before .before .before .before)
-    pub loop : Lts.At-loop·own Tie.readings Reads.Pre Reads.Post Inv μ (c .before .before .before)
-    pub loop-test : Lts.After-loop·own Tie.readings Reads.Pre Reads.Post Inv μ (c .before .before)
-    pub or-else : Lts.After-or-else·own Tie.readings Reads.Pre Reads.Post Inv μ (c .before)
+    pub min-usize : Lts.After-min-usize·own Tie.readings Reads.Pre Reads.Post Inv μ (c .before .before .before)
+    pub loop : Lts.At-loop·own Tie.readings Reads.Pre Reads.Post Inv μ (c .before .before)
+    pub loop-test : Lts.After-loop·own Tie.readings Reads.Pre Reads.Post Inv μ (c .before)
 
-  abbrev pub returns-2 : (c : Tie.After-or-else Inv μ) → Returns-2 c
+  abbrev pub returns-2 : (c : Tie.After-loop Inv μ) → Returns-2 c
   returns-2 c = record {
-    start = c .before .before .before .before .before;
-    min-usize = c .before .before .before .before .min-usize;
-    asks-unused = c .before .before .before .asks-unused;
-    loop = c .before .before .loop;
-    loop-test = c .before .loop-test;
-    or-else = c .or-else;
+    start = c .before .before .before;
+    min-usize = c .before .before .min-usize;
+    loop = c .before .loop;
+    loop-test = c .loop-test;
   }

@@ -5,33 +5,18 @@ use Rattle.hns_encoding.proofs.numbers.min_usize.Symbol
 use Rattle.hnsr_circuit.proofs.By.tables.ledger.find_usage.Kinds
 use Rattle.hnsr_circuit.proofs.By.tables.ledger.find_usage.Lts
 use Rattle.hnsr_circuit.proofs.By.tables.ledger.find_usage.Reads as Reads'
+use Rattle.hnsr_circuit.proofs.records.ledger.usage_is.Met as Met'
+use Rattle.hnsr_circuit.proofs.records.ledger.usage_is.Reads as Reads''
+use Rattle.hnsr_circuit.proofs.records.ledger.usage_is.Symbol as Symbol'
 use Rattle.hnsr_circuit.proofs.tables.ledger.find_usage.Code
 use Rattle.hnsr_circuit.proofs.tables.ledger.find_usage.Key
 use Rattle.hnsr_circuit.proofs.tables.ledger.find_usage.Statement
-use Rattle.hnsr_circuit.proofs.tables.places.asks_unused.Met as Met'
-use Rattle.hnsr_circuit.proofs.tables.places.asks_unused.Reads as Reads''
-use Rattle.hnsr_circuit.proofs.tables.places.asks_unused.Symbol as Symbol'
-use Rattle.hnsr_circuit.proofs.tables.places.or_else.Met as Met''
-use Rattle.hnsr_circuit.proofs.tables.places.or_else.Reads as Reads'''
-use Rattle.hnsr_circuit.proofs.tables.places.or_else.Symbol as Symbol''
-use Rattle.hnsr_circuit.proofs.tables.question.usage_has.Met as Met'''
-use Rattle.hnsr_circuit.proofs.tables.question.usage_has.Reads as Reads''''
-use Rattle.hnsr_circuit.proofs.tables.question.usage_has.Symbol as Symbol'''
 use borrow.Fn.Run
 use borrow.Fn.Written
 use contract.Running
 
 abbrev pub readings : Lts.Claims
-readings = (
-  Reads.Asked,
-  Reads.Learnt,
-  Reads''.Asked,
-  Reads''.Learnt,
-  Reads''''.Asked,
-  Reads''''.Learnt,
-  Reads'''.Asked,
-  Reads'''.Learnt,
-)
+readings = (Reads.Asked, Reads.Learnt, Reads''.Asked, Reads''.Learnt)
 
 abbrev pub InvT-loop : Type 1
 InvT-loop = Lts.InvT-loop
@@ -45,9 +30,6 @@ Start = λ Inv μ. Lts.Start readings Reads'.Pre Reads'.Post Inv μ
 abbrev pub After-min-usize : (Inv : InvT-loop) → (μ : MeasureT-loop) → Type 0
 After-min-usize = λ Inv μ. Lts.After-min-usize readings Reads'.Pre Reads'.Post Inv μ
 
-abbrev pub After-asks-unused : (Inv : InvT-loop) → (μ : MeasureT-loop) → Type 0
-After-asks-unused = λ Inv μ. Lts.After-asks-unused readings Reads'.Pre Reads'.Post Inv μ
-
 abbrev pub At-loop : (Inv : InvT-loop) → (μ : MeasureT-loop) → Type 0
 At-loop = λ Inv μ. Lts.At-loop readings Reads'.Pre Reads'.Post Inv μ
 
@@ -60,8 +42,8 @@ After-loop = λ Inv μ. Lts.After-loop readings Reads'.Pre Reads'.Post Inv μ
 abbrev pub After-row : (Inv : InvT-loop) → (μ : MeasureT-loop) → Type 0
 After-row = λ Inv μ. Lts.After-row readings Reads'.Pre Reads'.Post Inv μ
 
-abbrev pub After-usage-has : (Inv : InvT-loop) → (μ : MeasureT-loop) → Type 0
-After-usage-has = λ Inv μ. Lts.After-usage-has readings Reads'.Pre Reads'.Post Inv μ
+abbrev pub After-usage-is : (Inv : InvT-loop) → (μ : MeasureT-loop) → Type 0
+After-usage-is = λ Inv μ. Lts.After-usage-is readings Reads'.Pre Reads'.Post Inv μ
 
 abbrev pub Then1 : (Inv : InvT-loop) → (μ : MeasureT-loop) → Type 0
 Then1 = λ Inv μ. Lts.Then1 readings Reads'.Pre Reads'.Post Inv μ
@@ -69,14 +51,8 @@ Then1 = λ Inv μ. Lts.Then1 readings Reads'.Pre Reads'.Post Inv μ
 abbrev pub Else1 : (Inv : InvT-loop) → (μ : MeasureT-loop) → Type 0
 Else1 = λ Inv μ. Lts.Else1 readings Reads'.Pre Reads'.Post Inv μ
 
-abbrev pub After-or-else : (Inv : InvT-loop) → (μ : MeasureT-loop) → Type 0
-After-or-else = λ Inv μ. Lts.After-or-else readings Reads'.Pre Reads'.Post Inv μ
-
 abbrev pub Need-min-usize-requires : (Inv : InvT-loop) → (μ : MeasureT-loop) → Type 0
 Need-min-usize-requires = λ Inv μ. Lts.Need-min-usize-requires readings Reads'.Pre Reads'.Post Inv μ
-
-abbrev pub Need-asks-unused-requires : (Inv : InvT-loop) → (μ : MeasureT-loop) → Type 0
-Need-asks-unused-requires = λ Inv μ. Lts.Need-asks-unused-requires readings Reads'.Pre Reads'.Post Inv μ
 
 abbrev pub Need-loop-holds : (Inv : InvT-loop) → (μ : MeasureT-loop) → Type 0
 Need-loop-holds = λ Inv μ. Lts.Need-loop-holds readings Reads'.Pre Reads'.Post Inv μ
@@ -87,8 +63,8 @@ Need-mul-row = λ Inv μ. Lts.Need-mul-row readings Reads'.Pre Reads'.Post Inv �
 abbrev pub Need-shared-slice-copy-out-row : (Inv : InvT-loop) → (μ : MeasureT-loop) → Type 0
 Need-shared-slice-copy-out-row = λ Inv μ. Lts.Need-shared-slice-copy-out-row readings Reads'.Pre Reads'.Post Inv μ
 
-abbrev pub Need-usage-has-requires : (Inv : InvT-loop) → (μ : MeasureT-loop) → Type 0
-Need-usage-has-requires = λ Inv μ. Lts.Need-usage-has-requires readings Reads'.Pre Reads'.Post Inv μ
+abbrev pub Need-usage-is-requires : (Inv : InvT-loop) → (μ : MeasureT-loop) → Type 0
+Need-usage-is-requires = λ Inv μ. Lts.Need-usage-is-requires readings Reads'.Pre Reads'.Post Inv μ
 
 abbrev pub Need-returns : (Inv : InvT-loop) → (μ : MeasureT-loop) → Type 0
 Need-returns = λ Inv μ. Lts.Need-returns readings Reads'.Pre Reads'.Post Inv μ
@@ -102,22 +78,18 @@ Need-loop-less = λ Inv μ. Lts.Need-loop-less readings Reads'.Pre Reads'.Post I
 abbrev pub Need-loop-again : (Inv : InvT-loop) → (μ : MeasureT-loop) → Type 0
 Need-loop-again = λ Inv μ. Lts.Need-loop-again readings Reads'.Pre Reads'.Post Inv μ
 
-abbrev pub Need-or-else-requires : (Inv : InvT-loop) → (μ : MeasureT-loop) → Type 0
-Need-or-else-requires = λ Inv μ. Lts.Need-or-else-requires readings Reads'.Pre Reads'.Post Inv μ
-
 abbrev pub Need-returns-2 : (Inv : InvT-loop) → (μ : MeasureT-loop) → Type 0
 Need-returns-2 = λ Inv μ. Lts.Need-returns-2 readings Reads'.Pre Reads'.Post Inv μ
 
 module _ {M : Type 1} where
   pub spec : (Inv : InvT-loop) → (μ : MeasureT-loop) → (answer : Need-min-usize-requires Inv μ) →
-      (answer : Need-asks-unused-requires Inv μ) → (answer : Need-loop-holds Inv μ) → (answer : Need-mul-row Inv μ) →
-      (answer : Need-shared-slice-copy-out-row Inv μ) → (answer : Need-usage-has-requires Inv μ) →
+      (answer : Need-loop-holds Inv μ) → (answer : Need-mul-row Inv μ) →
+      (answer : Need-shared-slice-copy-out-row Inv μ) → (answer : Need-usage-is-requires Inv μ) →
       (answer : Need-returns Inv μ) → (answer : Need-add-i Inv μ) → (answer : Need-loop-less Inv μ) →
-      (answer : Need-loop-again Inv μ) → (answer : Need-or-else-requires Inv μ) → (answer : Need-returns-2 Inv μ) →
-      Lts.Closed readings Reads'.Pre Reads'.Post M
-  spec = λ Inv μ answer answer' answer'' answer'3 answer'4 answer'5 answer'6 answer'7 answer'8 answer'9 answer'10
-      answer'11. Lts.spec readings Reads'.Pre Reads'.Post Inv μ answer answer' answer'' answer'3 answer'4 answer'5
-      answer'6 answer'7 answer'8 answer'9 answer'10 answer'11
+      (answer : Need-loop-again Inv μ) → (answer : Need-returns-2 Inv μ) → Lts.Closed readings Reads'.Pre Reads'.Post M
+  spec = λ Inv μ answer answer' answer'' answer'3 answer'4 answer'5 answer'6 answer'7 answer'8 answer'9. Lts.spec
+      readings Reads'.Pre Reads'.Post Inv μ answer answer' answer'' answer'3 answer'4 answer'5 answer'6 answer'7
+      answer'8 answer'9
 
   pub close : Lts.Closed readings Reads'.Pre Reads'.Post M → Statement.statement M
   unfolding Code.routine Running.tablesOf
@@ -129,8 +101,4 @@ module _ {M : Type 1} where
       (Run.Over 𝓤 H 𝓜 𝓖 𝓡 Code.env) (Reads.known record { M = M; 𝓤 = 𝓤; H = H; 𝓜 = 𝓜; 𝓖 = 𝓖; 𝓡 = 𝓡 } Code.env
       Symbol.name Symbol.routine Code.calls-hns-encoding·numbers·min-usize (Met.met 𝓤 H 𝓜 𝓖 𝓡)) (Reads''.known
       record { M = M; 𝓤 = 𝓤; H = H; 𝓜 = 𝓜; 𝓖 = 𝓖; 𝓡 = 𝓡 } Code.env Symbol'.name Symbol'.routine
-      Code.calls-hnsr-circuit·tables·places·asks-unused (Met'.met 𝓤 H 𝓜 𝓖 𝓡)) (Reads''''.known
-      record { M = M; 𝓤 = 𝓤; H = H; 𝓜 = 𝓜; 𝓖 = 𝓖; 𝓡 = 𝓡 } Code.env Symbol'''.name Symbol'''.routine
-      Code.calls-hnsr-circuit·tables·question·usage-has (Met'''.met 𝓤 H 𝓜 𝓖 𝓡)) (Reads'''.known
-      record { M = M; 𝓤 = 𝓤; H = H; 𝓜 = 𝓜; 𝓖 = 𝓖; 𝓡 = 𝓡 } Code.env Symbol''.name Symbol''.routine
-      Code.calls-hnsr-circuit·tables·places·or-else (Met''.met 𝓤 H 𝓜 𝓖 𝓡))
+      Code.calls-hnsr-circuit·records·ledger·usage-is (Met'.met 𝓤 H 𝓜 𝓖 𝓡))

@@ -18,7 +18,7 @@ module _ (Inv : Tie.InvT-loop) (μ : Tie.MeasureT-loop) where
     pub loop : Lts.At-loop·own Tie.readings Reads.Pre Reads.Post Inv μ (c .before .before .before .before .before)
     pub loop-test : Lts.In-loop·own Tie.readings Reads.Pre Reads.Post Inv μ (c .before .before .before .before)
     pub row : Lts.After-row·own Tie.readings Reads.Pre Reads.Post Inv μ (c .before .before .before)
-    pub pending-has : Lts.After-pending-has·own Tie.readings Reads.Pre Reads.Post Inv μ (c .before .before)
+    pub is-pending : Lts.After-is-pending·own Tie.readings Reads.Pre Reads.Post Inv μ (c .before .before)
     pub one-more : Lts.After-one-more·own Tie.readings Reads.Pre Reads.Post Inv μ (c .before)
 
   abbrev pub loop-again : (c : Tie.After-one-more Inv μ) → Loop-again c
@@ -28,7 +28,7 @@ module _ (Inv : Tie.InvT-loop) (μ : Tie.MeasureT-loop) where
     loop = c .before .before .before .before .loop;
     loop-test = c .before .before .before .loop-test;
     row = c .before .before .row;
-    pending-has = c .before .pending-has;
+    is-pending = c .before .is-pending;
     one-more = c .one-more;
   }
 

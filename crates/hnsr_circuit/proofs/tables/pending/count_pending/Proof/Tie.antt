@@ -5,12 +5,12 @@ use Rattle.hns_encoding.proofs.numbers.min_usize.Symbol
 use Rattle.hnsr_circuit.proofs.By.tables.pending.count_pending.Kinds
 use Rattle.hnsr_circuit.proofs.By.tables.pending.count_pending.Lts
 use Rattle.hnsr_circuit.proofs.By.tables.pending.count_pending.Reads as Reads'
+use Rattle.hnsr_circuit.proofs.records.pending.is_pending.Met as Met'
+use Rattle.hnsr_circuit.proofs.records.pending.is_pending.Reads as Reads''
+use Rattle.hnsr_circuit.proofs.records.pending.is_pending.Symbol as Symbol'
 use Rattle.hnsr_circuit.proofs.tables.pending.count_pending.Code
 use Rattle.hnsr_circuit.proofs.tables.pending.count_pending.Key
 use Rattle.hnsr_circuit.proofs.tables.pending.count_pending.Statement
-use Rattle.hnsr_circuit.proofs.tables.question.pending_has.Met as Met'
-use Rattle.hnsr_circuit.proofs.tables.question.pending_has.Reads as Reads''
-use Rattle.hnsr_circuit.proofs.tables.question.pending_has.Symbol as Symbol'
 use Rattle.hnsr_circuit.proofs.tables.scan.one_more.Met as Met''
 use Rattle.hnsr_circuit.proofs.tables.scan.one_more.Reads as Reads'''
 use Rattle.hnsr_circuit.proofs.tables.scan.one_more.Symbol as Symbol''
@@ -45,8 +45,8 @@ After-loop = λ Inv μ. Lts.After-loop readings Reads'.Pre Reads'.Post Inv μ
 abbrev pub After-row : (Inv : InvT-loop) → (μ : MeasureT-loop) → Type 0
 After-row = λ Inv μ. Lts.After-row readings Reads'.Pre Reads'.Post Inv μ
 
-abbrev pub After-pending-has : (Inv : InvT-loop) → (μ : MeasureT-loop) → Type 0
-After-pending-has = λ Inv μ. Lts.After-pending-has readings Reads'.Pre Reads'.Post Inv μ
+abbrev pub After-is-pending : (Inv : InvT-loop) → (μ : MeasureT-loop) → Type 0
+After-is-pending = λ Inv μ. Lts.After-is-pending readings Reads'.Pre Reads'.Post Inv μ
 
 abbrev pub After-one-more : (Inv : InvT-loop) → (μ : MeasureT-loop) → Type 0
 After-one-more = λ Inv μ. Lts.After-one-more readings Reads'.Pre Reads'.Post Inv μ
@@ -63,8 +63,8 @@ Need-mul-row = λ Inv μ. Lts.Need-mul-row readings Reads'.Pre Reads'.Post Inv �
 abbrev pub Need-shared-slice-copy-out-row : (Inv : InvT-loop) → (μ : MeasureT-loop) → Type 0
 Need-shared-slice-copy-out-row = λ Inv μ. Lts.Need-shared-slice-copy-out-row readings Reads'.Pre Reads'.Post Inv μ
 
-abbrev pub Need-pending-has-requires : (Inv : InvT-loop) → (μ : MeasureT-loop) → Type 0
-Need-pending-has-requires = λ Inv μ. Lts.Need-pending-has-requires readings Reads'.Pre Reads'.Post Inv μ
+abbrev pub Need-is-pending-requires : (Inv : InvT-loop) → (μ : MeasureT-loop) → Type 0
+Need-is-pending-requires = λ Inv μ. Lts.Need-is-pending-requires readings Reads'.Pre Reads'.Post Inv μ
 
 abbrev pub Need-one-more-requires : (Inv : InvT-loop) → (μ : MeasureT-loop) → Type 0
 Need-one-more-requires = λ Inv μ. Lts.Need-one-more-requires readings Reads'.Pre Reads'.Post Inv μ
@@ -84,7 +84,7 @@ Need-returns = λ Inv μ. Lts.Need-returns readings Reads'.Pre Reads'.Post Inv �
 module _ {M : Type 1} where
   pub spec : (Inv : InvT-loop) → (μ : MeasureT-loop) → (answer : Need-min-usize-requires Inv μ) →
       (answer : Need-loop-holds Inv μ) → (answer : Need-mul-row Inv μ) →
-      (answer : Need-shared-slice-copy-out-row Inv μ) → (answer : Need-pending-has-requires Inv μ) →
+      (answer : Need-shared-slice-copy-out-row Inv μ) → (answer : Need-is-pending-requires Inv μ) →
       (answer : Need-one-more-requires Inv μ) → (answer : Need-add-i Inv μ) → (answer : Need-loop-less Inv μ) →
       (answer : Need-loop-again Inv μ) → (answer : Need-returns Inv μ) → Lts.Closed readings Reads'.Pre Reads'.Post M
   spec = λ Inv μ answer answer' answer'' answer'3 answer'4 answer'5 answer'6 answer'7 answer'8 answer'9. Lts.spec
@@ -101,6 +101,6 @@ module _ {M : Type 1} where
       (Run.Over 𝓤 H 𝓜 𝓖 𝓡 Code.env) (Reads.known record { M = M; 𝓤 = 𝓤; H = H; 𝓜 = 𝓜; 𝓖 = 𝓖; 𝓡 = 𝓡 } Code.env
       Symbol.name Symbol.routine Code.calls-hns-encoding·numbers·min-usize (Met.met 𝓤 H 𝓜 𝓖 𝓡)) (Reads''.known
       record { M = M; 𝓤 = 𝓤; H = H; 𝓜 = 𝓜; 𝓖 = 𝓖; 𝓡 = 𝓡 } Code.env Symbol'.name Symbol'.routine
-      Code.calls-hnsr-circuit·tables·question·pending-has (Met'.met 𝓤 H 𝓜 𝓖 𝓡)) (Reads'''.known
+      Code.calls-hnsr-circuit·records·pending·is-pending (Met'.met 𝓤 H 𝓜 𝓖 𝓡)) (Reads'''.known
       record { M = M; 𝓤 = 𝓤; H = H; 𝓜 = 𝓜; 𝓖 = 𝓖; 𝓡 = 𝓡 } Code.env Symbol''.name Symbol''.routine
       Code.calls-hnsr-circuit·tables·scan·one-more (Met''.met 𝓤 H 𝓜 𝓖 𝓡))

@@ -6,8 +6,6 @@ use borrow.Author.Needs.{needs}
 
 pub record Returns (c : Tie.After-ledger) : Type 0 where
   pub start : Tie.Start
-  pub at-reservation : Lts.After-at-reservation·own Tie.readings Reads.Pre Reads.Post (c .before .before .before
-      .before .before .before .before .before .before)
   pub find-usage : Lts.After-find-usage·own Tie.readings Reads.Pre Reads.Post
       (c .before .before .before .before .before .before .before)
   pub usage-at : Lts.After-usage-at·own Tie.readings Reads.Pre Reads.Post (c .before .before .before .before .before)
@@ -18,17 +16,13 @@ pub record Returns (c : Tie.After-ledger) : Type 0 where
 
 abbrev pub returns : (c : Tie.After-ledger) → Returns c
 returns c = record {
-  start = c .before .before .before .before .before .before .before .before .before;
-  at-reservation = c .before .before .before .before .before .before .before .before .at-reservation;
+  start = c .before .before .before .before .before .before .before .before;
   find-usage = c .before .before .before .before .before .before .find-usage;
   usage-at = c .before .before .before .before .usage-at;
   usage-unmarked = c .before .before .before .usage-unmarked;
   set-usage = c .before .set-usage;
   ledger = c .ledger;
 }
-
-at-reservation-requires : Tie.Need-at-reservation-requires
-at-reservation-requires c = search needs
 
 find-usage-requires : Tie.Need-find-usage-requires
 find-usage-requires c = search needs
@@ -47,5 +41,4 @@ same-length c = search needs
 
 module _ {M : Type 1} where
   pub spec : Tie.Need-returns → Lts.Closed Tie.readings Reads.Pre Reads.Post M
-  spec = λ a0. Tie.spec at-reservation-requires find-usage-requires usage-at-requires usage-unmarked-requires
-      set-usage-requires same-length a0
+  spec = λ a0. Tie.spec find-usage-requires usage-at-requires usage-unmarked-requires set-usage-requires same-length a0

@@ -14,9 +14,6 @@ use Rattle.hnsr_circuit.proofs.tables.ledger.set_usage.Met as Met''
 use Rattle.hnsr_circuit.proofs.tables.ledger.set_usage.Symbol as Symbol''
 use Rattle.hnsr_circuit.proofs.tables.ledger.usage_at.Met as Met'''
 use Rattle.hnsr_circuit.proofs.tables.ledger.usage_at.Symbol as Symbol'''
-use Rattle.hnsr_circuit.proofs.tables.question.at_reservation.Met as Met''''
-use Rattle.hnsr_circuit.proofs.tables.question.at_reservation.Reads as Reads'''''
-use Rattle.hnsr_circuit.proofs.tables.question.at_reservation.Symbol as Symbol''''
 use Rattle.hnsr_circuit.proofs.tables.stores.drop_usage.Code
 use Rattle.hnsr_circuit.proofs.tables.stores.drop_usage.Key
 use Rattle.hnsr_circuit.proofs.tables.stores.drop_usage.Statement
@@ -26,8 +23,6 @@ use contract.Running
 
 abbrev pub readings : Lts.Claims
 readings = (
-  Reads'''''.Asked,
-  Reads'''''.Learnt,
   Reads.Asked,
   Reads.Learnt,
   Reads''.Asked,
@@ -40,9 +35,6 @@ readings = (
 
 abbrev pub Start : Type 0
 Start = Lts.Start readings Reads'''.Pre Reads'''.Post
-
-abbrev pub After-at-reservation : Type 0
-After-at-reservation = Lts.After-at-reservation readings Reads'''.Pre Reads'''.Post
 
 abbrev pub After-find-usage-arg : Type 0
 After-find-usage-arg = Lts.After-find-usage-arg readings Reads'''.Pre Reads'''.Post
@@ -68,9 +60,6 @@ After-set-usage = Lts.After-set-usage readings Reads'''.Pre Reads'''.Post
 abbrev pub After-ledger : Type 0
 After-ledger = Lts.After-ledger readings Reads'''.Pre Reads'''.Post
 
-abbrev pub Need-at-reservation-requires : Type 0
-Need-at-reservation-requires = Lts.Need-at-reservation-requires readings Reads'''.Pre Reads'''.Post
-
 abbrev pub Need-find-usage-requires : Type 0
 Need-find-usage-requires = Lts.Need-find-usage-requires readings Reads'''.Pre Reads'''.Post
 
@@ -90,11 +79,11 @@ abbrev pub Need-returns : Type 0
 Need-returns = Lts.Need-returns readings Reads'''.Pre Reads'''.Post
 
 module _ {M : Type 1} where
-  pub spec : (answer : Need-at-reservation-requires) → (answer : Need-find-usage-requires) →
-      (answer : Need-usage-at-requires) → (answer : Need-usage-unmarked-requires) → (answer : Need-set-usage-requires)
-      → (answer : Need-same-length) → (answer : Need-returns) → Lts.Closed readings Reads'''.Pre Reads'''.Post M
-  spec = λ answer answer' answer'' answer'3 answer'4 answer'5 answer'6. Lts.spec readings Reads'''.Pre Reads'''.Post
-      answer answer' answer'' answer'3 answer'4 answer'5 answer'6
+  pub spec : (answer : Need-find-usage-requires) → (answer : Need-usage-at-requires) →
+      (answer : Need-usage-unmarked-requires) → (answer : Need-set-usage-requires) → (answer : Need-same-length) →
+      (answer : Need-returns) → Lts.Closed readings Reads'''.Pre Reads'''.Post M
+  spec = λ answer answer' answer'' answer'3 answer'4 answer'5. Lts.spec readings Reads'''.Pre Reads'''.Post answer
+      answer' answer'' answer'3 answer'4 answer'5
 
   pub close : Lts.Closed readings Reads'''.Pre Reads'''.Post M → Statement.statement M
   unfolding Code.routine Running.tablesOf
@@ -103,10 +92,8 @@ module _ {M : Type 1} where
       record { M = M; 𝓤 = 𝓤; H = H; 𝓜 = 𝓜; 𝓖 = 𝓖; 𝓡 = 𝓡 } Code.env Key.name Code.function (Code.unfolded 𝓤 H 𝓜 𝓡)
       (λ κs a g. tt) (λ κs. Reads'''.owns κs record { M = M; 𝓤 = 𝓤; H = H; 𝓜 = 𝓜; 𝓖 = 𝓖; 𝓡 = 𝓡 }) (Reads'''.passes
       record { M = M; 𝓤 = 𝓤; H = H; 𝓜 = 𝓜; 𝓖 = 𝓖; 𝓡 = 𝓡 }) λ g. closed 𝓤 H (𝓖 .A) (Running.givenOf 𝓤 H 𝓜 𝓖)
-      (Run.Over 𝓤 H 𝓜 𝓖 𝓡 Code.env) (Reads'''''.known record { M = M; 𝓤 = 𝓤; H = H; 𝓜 = 𝓜; 𝓖 = 𝓖; 𝓡 = 𝓡 } Code.env
-      Symbol''''.name Symbol''''.routine Code.calls-hnsr-circuit·tables·question·at-reservation (Met''''.met 𝓤 H 𝓜 𝓖 𝓡)) (Reads.known
-      record { M = M; 𝓤 = 𝓤; H = H; 𝓜 = 𝓜; 𝓖 = 𝓖; 𝓡 = 𝓡 } Code.env Symbol'.name Symbol'.routine
-      Code.calls-hnsr-circuit·tables·ledger·find-usage (Met'.met 𝓤 H 𝓜 𝓖 𝓡)) (Reads''.known
+      (Run.Over 𝓤 H 𝓜 𝓖 𝓡 Code.env) (Reads.known record { M = M; 𝓤 = 𝓤; H = H; 𝓜 = 𝓜; 𝓖 = 𝓖; 𝓡 = 𝓡 } Code.env
+      Symbol'.name Symbol'.routine Code.calls-hnsr-circuit·tables·ledger·find-usage (Met'.met 𝓤 H 𝓜 𝓖 𝓡)) (Reads''.known
       record { M = M; 𝓤 = 𝓤; H = H; 𝓜 = 𝓜; 𝓖 = 𝓖; 𝓡 = 𝓡 } Code.env Symbol'''.name Symbol'''.routine
       Code.calls-hnsr-circuit·tables·ledger·usage-at (Met'''.met 𝓤 H 𝓜 𝓖 𝓡)) (Reads''''.known
       record { M = M; 𝓤 = 𝓤; H = H; 𝓜 = 𝓜; 𝓖 = 𝓖; 𝓡 = 𝓡 } Code.env Symbol.name Symbol.routine

@@ -7,10 +7,8 @@ use borrow.Author.Needs.{needs}
 pub record Returns (c : Tie.After-raised) : Type 0 where
   pub start : Tie.Start
   pub find-circuit-id : Lts.After-find-circuit-id·own Tie.readings Reads.Pre Reads.Post (c .before .before .before
-      .before .before .before .before .before .before)
-  pub unused : Lts.After-unused·own Tie.readings Reads.Pre Reads.Post (c .before .before .before .before .before
-      .before .before .before)
-  pub find-circuit : Lts.After-find-circuit·own Tie.readings Reads.Pre Reads.Post
+      .before .before .before .before .before)
+  pub spare-circuit : Lts.After-spare-circuit·own Tie.readings Reads.Pre Reads.Post
       (c .before .before .before .before .before .before)
   pub put-place : Lts.After-put-place·own Tie.readings Reads.Pre Reads.Post (c .before .before .before .before .before)
   pub set-circuit : Lts.After-set-circuit·own Tie.readings Reads.Pre Reads.Post (c .before .before .before)
@@ -19,10 +17,9 @@ pub record Returns (c : Tie.After-raised) : Type 0 where
 
 abbrev pub returns : (c : Tie.After-raised) → Returns c
 returns c = record {
-  start = c .before .before .before .before .before .before .before .before .before .before;
-  find-circuit-id = c .before .before .before .before .before .before .before .before .find-circuit-id;
-  unused = c .before .before .before .before .before .before .before .unused;
-  find-circuit = c .before .before .before .before .before .find-circuit;
+  start = c .before .before .before .before .before .before .before .before .before;
+  find-circuit-id = c .before .before .before .before .before .before .before .find-circuit-id;
+  spare-circuit = c .before .before .before .before .before .spare-circuit;
   put-place = c .before .before .before .before .put-place;
   set-circuit = c .before .before .set-circuit;
   circuits = c .before .circuits;
@@ -32,11 +29,8 @@ returns c = record {
 find-circuit-id-requires : Tie.Need-find-circuit-id-requires
 find-circuit-id-requires c = search needs
 
-unused-requires : Tie.Need-unused-requires
-unused-requires c = search needs
-
-find-circuit-requires : Tie.Need-find-circuit-requires
-find-circuit-requires c = search needs
+spare-circuit-requires : Tie.Need-spare-circuit-requires
+spare-circuit-requires c = search needs
 
 put-place-requires : Tie.Need-put-place-requires
 put-place-requires c = search needs
@@ -52,5 +46,5 @@ same-length c = search needs
 
 module _ {M : Type 1} where
   pub spec : Tie.Need-returns → Lts.Closed Tie.readings Reads.Pre Reads.Post M
-  spec = λ a0. Tie.spec find-circuit-id-requires unused-requires find-circuit-requires put-place-requires
-      set-circuit-requires raised-requires same-length a0
+  spec = λ a0. Tie.spec find-circuit-id-requires spare-circuit-requires put-place-requires set-circuit-requires
+      raised-requires same-length a0

@@ -6,9 +6,7 @@ use borrow.Author.Needs.{needs}
 
 pub record Returns (c : Tie.After-raised) : Type 0 where
   pub start : Tie.Start
-  pub unused : Lts.After-unused·own Tie.readings Reads.Pre Reads.Post
-      (c .before .before .before .before .before .before .before)
-  pub find-pending : Lts.After-find-pending·own Tie.readings Reads.Pre Reads.Post
+  pub spare-pending : Lts.After-spare-pending·own Tie.readings Reads.Pre Reads.Post
       (c .before .before .before .before .before)
   pub set-pending : Lts.After-set-pending·own Tie.readings Reads.Pre Reads.Post (c .before .before .before)
   pub pending : Lts.After-pending·own Tie.readings Reads.Pre Reads.Post (c .before .before)
@@ -16,19 +14,15 @@ pub record Returns (c : Tie.After-raised) : Type 0 where
 
 abbrev pub returns : (c : Tie.After-raised) → Returns c
 returns c = record {
-  start = c .before .before .before .before .before .before .before;
-  unused = c .before .before .before .before .before .before .unused;
-  find-pending = c .before .before .before .before .find-pending;
+  start = c .before .before .before .before .before .before;
+  spare-pending = c .before .before .before .before .spare-pending;
   set-pending = c .before .before .set-pending;
   pending = c .before .pending;
   raised = c .raised;
 }
 
-unused-requires : Tie.Need-unused-requires
-unused-requires c = search needs
-
-find-pending-requires : Tie.Need-find-pending-requires
-find-pending-requires c = search needs
+spare-pending-requires : Tie.Need-spare-pending-requires
+spare-pending-requires c = search needs
 
 set-pending-requires : Tie.Need-set-pending-requires
 set-pending-requires c = search needs
@@ -41,4 +35,4 @@ same-length c = search needs
 
 module _ {M : Type 1} where
   pub spec : Tie.Need-returns → Lts.Closed Tie.readings Reads.Pre Reads.Post M
-  spec = λ a0. Tie.spec unused-requires find-pending-requires set-pending-requires raised-requires same-length a0
+  spec = λ a0. Tie.spec spare-pending-requires set-pending-requires raised-requires same-length a0

@@ -10,10 +10,11 @@ promises      of each function of src/: parameters, result, what it requires and
 laws          the rest of specs/, with their proofs
 proofs        each Proof.antt of proofs/
 
-Two texts are the same where their tokens are. Comments, line breaks, spaces and imports do not count; nor do `pub`,
-`abbrev` and `unfoldable`, and in a definition `unfolding`: they say who sees a name and what the checker may open, not
-what is meant. An item is known by its crate and name, and by its file where the name stands in two. Moved is what has
-the same text in another file or crate. Changed is what has another text, wherever it stands now.
+Two texts are the same where their tokens are. Comments, line breaks, spaces, imports and the separator that ends a list
+do not count; nor do `pub`, `abbrev` and `unfoldable`, and in a definition `unfolding`: they say who sees a name and
+what the checker may open, not what is meant. An item is known by its crate and name, and by its file where the name
+stands in two. Moved is what has the same text in another file or crate. Changed is what has another text, wherever it
+stands now.
 """
 import collections
 import re
@@ -82,8 +83,9 @@ def imported(texts, crate, modules):
 
 # ---- definitions, laws, proofs: antt
 def tokens(text):
-    """The path of a module in front of a name does not count."""
-    words = re.findall(r"[(){}\[\];,]|[^\s(){}\[\];,]+", re.sub(r"(^|\s)--.*", r"\1", text))
+    """The path of a module in front of a name does not count, nor does a separator before a closing bracket."""
+    text = re.sub(r"[;,](?=\s*[)}\]])", "", re.sub(r"(^|\s)--.*", r"\1", text))
+    words = re.findall(r"[(){}\[\];,]|[^\s(){}\[\];,]+", text)
     return [re.sub(r"^Rattle·\S*\.", "", word) for word in words if word not in SEEN_OR_OPENED]
 
 

@@ -44,6 +44,9 @@ hidden = 7
 pub record Pair : Type 0 where
   pub one : ℕ
 
+spread : Pair
+spread = record { one = (7) }
+
 module _ (A : Type 0) where
   unfoldable pub inside : A → A
   inside a = a
@@ -134,6 +137,11 @@ hidden = 7
 pub record Pair : Type 0 where
   pub one : ℕ
   pub two : ℕ
+
+spread : Pair
+spread = record {
+  one = (7);
+}
 
 module _ (A : Type 1) where
   unfoldable pub inside : A → A
@@ -237,7 +245,7 @@ EXPECTED = {
     "low: proofs changed": ["stronger  y/a/stronger/Proof.antt  from a/stronger/Proof.antt"],
 }
 ROWS = [
-    "| low | definitions | 3 | 1 | 4 | 1 | 1 |",
+    "| low | definitions | 4 | 1 | 4 | 1 | 1 |",
     "| hnsr_run | definitions | 1 | 0 | 1 | 0 | 0 |",
     "| low | types | 0 | 1 | 2 | 0 | 0 |",
     "| low | promises | 0 | 3 | 7 | 2 | 2 |",
@@ -287,7 +295,7 @@ def main():
         for row in ROWS:
             assert row in told.split("\n"), (row, told)
         same = said(folder, "old", "old")
-        assert lists(same) == {} and "| low | definitions | 9 | 0 | 0 | 0 | 0 |" in same, same
+        assert lists(same) == {} and "| low | definitions | 10 | 0 | 0 | 0 | 0 |" in same, same
         full = said(folder / "crates", "--full", "old", "new")
         assert "      - another n = n + 1\n" in full and "      + another n = n + 2\n" in full, full
         assert "laidOut n" not in full, full

@@ -19,7 +19,7 @@ use Rattle.hnsr_circuit.specs.Pending.{noPending, pendingAt, overdue, cl
 use Rattle.hnsr_circuit.specs.Circuits.{isCircuit, circuitAt}
 use Rattle.hnsr_circuit.specs.declared.records.InflightKind.the-variants.{Opened}
 use Rattle.hnsr_circuit.specs.Inflight.{actionUnder, dropped, tallied, capacityAnswer}
-use Rattle.hnsr_circuit.specs.Header.{countAccept}
+use Rattle.hnsr_circuit.specs.Runtime.{countAccept}
 use Rattle.hnsr_circuit.specs.World.{World, Outcome, configOf, proceed, withPending, withCircuits, withInflight, counting}
 use Rattle.hnsr_circuit.specs.Queue.{Message, message, send}
 use Rattle.hnsr_circuit.specs.Opcode.{opOpened}

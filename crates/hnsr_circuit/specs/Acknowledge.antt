@@ -17,7 +17,7 @@ use Rattle.hnsr_circuit.specs.Circuits.{circuitAt, lowered}
 use Rattle.hnsr_circuit.specs.declared.records.InflightKind.{InflightKind}
 use Rattle.hnsr_circuit.specs.declared.records.InflightKind.the-variants.{Incoming, Opened, Data, Control, Close}
 use Rattle.hnsr_circuit.specs.Inflight.{noAction, actionAt, clearAction, kindOf, towardSide}
-use Rattle.hnsr_circuit.specs.Header.{countRevoked}
+use Rattle.hnsr_circuit.specs.Runtime.{countRevoked}
 use Rattle.hnsr_circuit.specs.World.{World, Outcome, done, proceed, withCircuits, withInflight, counting}
 use Rattle.hnsr_circuit.specs.Queue.{finished, send, generationOf}
 use Rattle.hnsr_circuit.specs.Entry.{acknowledgeWords, roomAnswer}

@@ -19,7 +19,7 @@ use Rattle.hnsr_circuit.specs.Circuits.{circuitAt, sideOf, otherSide, cr
 use Rattle.hnsr_circuit.specs.Ledger.{usageAt, hasUsage, usageOf, spent}
 use Rattle.hnsr_circuit.specs.declared.records.InflightKind.the-variants.{Data}
 use Rattle.hnsr_circuit.specs.Inflight.{toEndpoint, tallied, capacityAnswer}
-use Rattle.hnsr_circuit.specs.Header.{countBytes}
+use Rattle.hnsr_circuit.specs.Runtime.{countBytes}
 use Rattle.hnsr_circuit.specs.World.{World, Outcome, configOf, proceed, withCircuits, withLedger, counting}
 use Rattle.hnsr_circuit.specs.Queue.{Message, send}
 use Rattle.hnsr_circuit.specs.Packet.{Packet, sender, hasCircuit, namedCircuit, circuitAnswer, receiver}

@@ -54,8 +54,8 @@ unfoldable pub gateAnswer : (enabled : Bool) → HnsrAnswer
 gateAnswer enabled = check (not enabled) Disabled
 
 unfoldable pub handleGate : World → Packet → Outcome
-handleGate w q = proceed w (gateAnswer (w .header .enabled)) (dispatch (handlingOf (q .opcode)) w q)
+handleGate w q = proceed w (gateAnswer (w .runtime .enabled)) (dispatch (handlingOf (q .opcode)) w q)
 
 unfoldable pub handle : World → Packet → (room : ℕ) → Outcome
 handle w q room =
-    proceed w (entryAnswer w q room then clockAnswer (w .header .«trusted_time_high_water») (q .now)) (handleGate (atTime w (q .now)) q)
+    proceed w (entryAnswer w q room then clockAnswer (w .runtime .«trusted_time_high_water») (q .now)) (handleGate (atTime w (q .now)) q)

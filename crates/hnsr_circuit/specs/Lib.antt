@@ -9,7 +9,7 @@ pub mod Pending
 pub mod Circuits
 pub mod Ledger
 pub mod Inflight
-pub mod Header
+pub mod Runtime
 -- ---- the world, routes, queueing, the entry
 pub mod Route
 pub mod World

@@ -16,7 +16,7 @@ use Rattle.hnsr_circuit.specs.Pending.{isPending, clearPending}
 use Rattle.hnsr_circuit.specs.Circuits.{isCircuit, clearCircuit}
 use Rattle.hnsr_circuit.specs.Ledger.{isUsage, clearUsage}
 use Rattle.hnsr_circuit.specs.Inflight.{isAction, dropped}
-use Rattle.hnsr_circuit.specs.Header.{newHeader}
+use Rattle.hnsr_circuit.specs.Runtime.{newRuntime}
 use Rattle.hnsr_circuit.specs.World.{World, Outcome, done, proceed, atTime}
 use Rattle.hnsr_circuit.specs.Entry.{tablesShort, clockAnswer}
 
@@ -33,7 +33,7 @@ newAnswer w session generation config =
 -- it marks every place unused
 unfoldable pub emptied : World → OpaqueRelayRuntime → World
 emptied w h = record {
-  header = h;
+  runtime = h;
   pending = clear clearPending isPending (w .pending);
   circuits = clear clearCircuit isCircuit (w .circuits);
   ledger = clear clearUsage isUsage (w .ledger);
@@ -42,8 +42,8 @@ emptied w h = record {
 
 unfoldable pub newRelay : World → (session : List ℕ) → (generation : ℕ) → OpaqueRelayConfig → (now : ℕ) → Outcome
 newRelay w session generation config now =
-    proceed w (newAnswer w session generation config) (done (emptied w (newHeader session generation config now)) [])
+    proceed w (newAnswer w session generation config) (done (emptied w (newRuntime session generation config now)) [])
 
 -- ---- observe_time is lent no table, and asks no 22
 unfoldable pub observeTime : World → (now : ℕ) → Outcome
-observeTime w now = proceed w (clockAnswer (w .header .«trusted_time_high_water») now) (done (atTime w now) [])
+observeTime w now = proceed w (clockAnswer (w .runtime .«trusted_time_high_water») now) (done (atTime w now) [])

@@ -25,7 +25,7 @@ use Rattle.hnsr_circuit.specs.Pending.{pendingRecord, isPending, pending
 use Rattle.hnsr_circuit.specs.Ledger.{isUsage, lapsed, hasUsage, usageOf, booked, ledgerAnswer, usageAnswer}
 use Rattle.hnsr_circuit.specs.declared.records.InflightKind.the-variants.{Incoming}
 use Rattle.hnsr_circuit.specs.Inflight.{tallied, capacityAnswer}
-use Rattle.hnsr_circuit.specs.Header.{countOpen}
+use Rattle.hnsr_circuit.specs.Runtime.{countOpen}
 use Rattle.hnsr_circuit.specs.World.{World, Outcome, configOf, proceed, withPending, withLedger, counting}
 use Rattle.hnsr_circuit.specs.Queue.{Message, message, send}
 use Rattle.hnsr_circuit.specs.Opcode.{opIncoming}

@@ -19,8 +19,8 @@ use Rattle.hnsr_circuit.specs.Answers.{check, _then_}
 use Rattle.hnsr_circuit.specs.declared.records.InflightKind.{InflightKind}
 use Rattle.hnsr_circuit.specs.Inflight.{actionRecord, kindNumber, isAction, actionAt, tallied, capacityAnswer}
 use Rattle.hnsr_circuit.specs.Route.{Route}
-use Rattle.hnsr_circuit.specs.Header.{withSequence}
-use Rattle.hnsr_circuit.specs.World.{World, Outcome, configOf, done, proceed, withHeader, withInflight}
+use Rattle.hnsr_circuit.specs.Runtime.{withSequence}
+use Rattle.hnsr_circuit.specs.World.{World, Outcome, configOf, done, proceed, withRuntime, withInflight}
 
 -- ---- a message: where it goes, the circuit that it is about, the packet, and what its action holds. The direction and the bytes are
 -- of Data alone
@@ -59,10 +59,10 @@ routeFor m generation sequence = record {
 }
 
 abbrev pub generationOf : World → ℕ
-generationOf w = w .header .generation
+generationOf w = w .runtime .generation
 
 abbrev pub sequenceOf : World → ℕ
-sequenceOf w = w .header .«next_action_sequence»
+sequenceOf w = w .runtime .«next_action_sequence»
 
 -- whether a message can be queued now
 unfoldable pub canQueue : Message → World → HnsrAnswer
@@ -71,10 +71,10 @@ canQueue m w = queueAnswer (configOf w) (tallied false (m .circuit) (m .destinat
 -- the action written and the sequence moved on
 unfoldable pub queued : Message → World → World
 queued m w =
-    withHeader
+    withRuntime
     (withInflight w
     (put isAction (actionAt (generationOf w) (sequenceOf w)) (actionFor m (generationOf w) (sequenceOf w)) (w .inflight)))
-    (withSequence (w .header) (sequenceOf w + 1))
+    (withSequence (w .runtime) (sequenceOf w + 1))
 
 abbrev pub routed : Message → World → Route
 routed m w = routeFor m (generationOf w) (sequenceOf w)

@@ -15,7 +15,7 @@ use Rattle.hnsr_circuit.specs.Pending.{noPending, pendingId, pendingAt, 
 use Rattle.hnsr_circuit.specs.Circuits.{noCircuit, circuitId, circuitAt, clearCircuit}
 use Rattle.hnsr_circuit.specs.declared.records.InflightKind.the-variants.{Close}
 use Rattle.hnsr_circuit.specs.Inflight.{actionUnder, dropped}
-use Rattle.hnsr_circuit.specs.Header.{countRevoked}
+use Rattle.hnsr_circuit.specs.Runtime.{countRevoked}
 use Rattle.hnsr_circuit.specs.World.{World, Outcome, withPending, withCircuits, withInflight, counting}
 use Rattle.hnsr_circuit.specs.Queue.{Message, message, Sent, silently, andThen, when, finished, tell}
 use Rattle.hnsr_circuit.specs.Opcode.{opClose, opError}

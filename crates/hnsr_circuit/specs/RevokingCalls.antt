@@ -18,8 +18,8 @@ use Rattle.hnsr_circuit.specs.Pending.{isPending, pendingOf, pendingUnde
 use Rattle.hnsr_circuit.specs.Circuits.{isCircuit, circuitOf, circuitUnder, circuitOver}
 use Rattle.hnsr_circuit.specs.Ledger.{usageAt, clearUsage, lapsed}
 use Rattle.hnsr_circuit.specs.Inflight.{isAction, actionToward, dropped}
-use Rattle.hnsr_circuit.specs.Header.{withEnabled}
-use Rattle.hnsr_circuit.specs.World.{World, Outcome, done, proceed, withHeader, withLedger, withInflight, atTime}
+use Rattle.hnsr_circuit.specs.Runtime.{withEnabled}
+use Rattle.hnsr_circuit.specs.World.{World, Outcome, done, proceed, withRuntime, withLedger, withInflight, atTime}
 use Rattle.hnsr_circuit.specs.Queue.{Message, Sent, tell, generationOf}
 use Rattle.hnsr_circuit.specs.Entry.{roomAnswer, revokingWords, peerAnswer, clockAnswer}
 use Rattle.hnsr_circuit.specs.Revocation.{endPendingThere, closeToRequester, closeToEndpoint, pendingThere, revokePending, revokeCircuitThere, revokeAll}
@@ -66,19 +66,19 @@ expireAt w now =
 
 unfoldable pub expire : World → (now room : ℕ) → Outcome
 expire w now room =
-    proceed w (roomAnswer w room (revokingWords w) then clockAnswer (w .header .«trusted_time_high_water») now) (expireAt w now)
+    proceed w (roomAnswer w room (revokingWords w) then clockAnswer (w .runtime .«trusted_time_high_water») now) (expireAt w now)
 
 -- ---- replace_enabled: a changed enabled state raises the generation, drops every action, sets the sequence to 1 and, if off, revokes all;
 -- the same state changes nothing
 abbrev pub changes : World → Bool → Bool
-changes w on = not (Bool·beq (w .header .enabled) on)
+changes w on = not (Bool·beq (w .runtime .enabled) on)
 
 -- 6: generation at 2^64 − 1 and the state would change
 unfoldable pub changeAnswer : (generation : ℕ) → (changes : Bool) → HnsrAnswer
 changeAnswer generation changes = check (changes && eqb generation (top 64)) GenerationExhausted
 
 abbrev pub switched : World → Bool → World
-switched w on = withHeader (withInflight w (dropped isAction (w .inflight))) (withEnabled (w .header) on)
+switched w on = withRuntime (withInflight w (dropped isAction (w .inflight))) (withEnabled (w .runtime) on)
 
 unfoldable pub switchTo : World → Bool → Outcome
 switchTo w true = done (switched w true) []

@@ -34,7 +34,7 @@ statusFrom h pending circuits actions = record {
 }
 
 unfoldable pub statusOf : World → HnsrRuntimeStatus
-statusOf w = statusFrom (w .header) (pendingCount w) (circuitTotals (w .circuits)) (count isAction (w .inflight))
+statusOf w = statusFrom (w .runtime) (pendingCount w) (circuitTotals (w .circuits)) (count isAction (w .inflight))
 
 unfoldable pub status : World → Outcome
 status w = proceed w (tablesAnswer w) (telling w (statusIs (statusOf w)))

@@ -1,4 +1,4 @@
--- The world that a call is given and leaves: the header by value and the four lent tables; and what a call gives back.
+-- The world that a call is given and leaves: the runtime by value and the four lent tables; and what a call gives back.
 use Prim.Native.Nat.{ℕ}
 use mathlib.Core.List.{List, []}
 use Rattle.hnsr_circuit.specs.declared.config.OpaqueRelayConfig.{OpaqueRelayConfig}
@@ -14,20 +14,20 @@ use Rattle.hnsr_circuit.specs.declared.answer.HnsrRuntimeError.{HnsrRunt
 use Rattle.hnsr_circuit.specs.declared.answer.HnsrAnswer.{HnsrAnswer}
 use Rattle.hnsr_circuit.specs.declared.answer.HnsrAnswer.the-variants.{Taken, Refused}
 use Rattle.hnsr_circuit.specs.Route.{Route}
-use Rattle.hnsr_circuit.specs.Header.{withClock, withCounters}
+use Rattle.hnsr_circuit.specs.Runtime.{withClock, withCounters}
 
 pub record World : Type 0 where
-  pub header : OpaqueRelayRuntime
+  pub runtime : OpaqueRelayRuntime
   pub pending : List RelayPending
   pub circuits : List RelayCircuit
   pub ledger : List ReservationUsage
   pub inflight : List InflightAction
 
 abbrev pub worldOf : OpaqueRelayRuntime → List RelayPending → List RelayCircuit → List ReservationUsage → List InflightAction → World
-worldOf h p c l i = record { header = h; pending = p; circuits = c; ledger = l; inflight = i }
+worldOf h p c l i = record { runtime = h; pending = p; circuits = c; ledger = l; inflight = i }
 
 abbrev pub configOf : World → OpaqueRelayConfig
-configOf w = w .header .config
+configOf w = w .runtime .config
 
 -- ---- what a call gives back
 -- what a call tells beside its answer and its routes
@@ -58,23 +58,23 @@ proceed w Taken o = o
 proceed w (Refused e) o = refuse w e
 
 -- ---- the world with one part replaced
-abbrev pub withHeader : World → OpaqueRelayRuntime → World
-withHeader w h = worldOf h (w .pending) (w .circuits) (w .ledger) (w .inflight)
+abbrev pub withRuntime : World → OpaqueRelayRuntime → World
+withRuntime w h = worldOf h (w .pending) (w .circuits) (w .ledger) (w .inflight)
 
 abbrev pub withPending : World → List RelayPending → World
-withPending w t = worldOf (w .header) t (w .circuits) (w .ledger) (w .inflight)
+withPending w t = worldOf (w .runtime) t (w .circuits) (w .ledger) (w .inflight)
 
 abbrev pub withCircuits : World → List RelayCircuit → World
-withCircuits w t = worldOf (w .header) (w .pending) t (w .ledger) (w .inflight)
+withCircuits w t = worldOf (w .runtime) (w .pending) t (w .ledger) (w .inflight)
 
 abbrev pub withLedger : World → List ReservationUsage → World
-withLedger w t = worldOf (w .header) (w .pending) (w .circuits) t (w .inflight)
+withLedger w t = worldOf (w .runtime) (w .pending) (w .circuits) t (w .inflight)
 
 abbrev pub withInflight : World → List InflightAction → World
-withInflight w t = worldOf (w .header) (w .pending) (w .circuits) (w .ledger) t
+withInflight w t = worldOf (w .runtime) (w .pending) (w .circuits) (w .ledger) t
 
 abbrev pub atTime : World → (now : ℕ) → World
-atTime w now = withHeader w (withClock (w .header) now)
+atTime w now = withRuntime w (withClock (w .runtime) now)
 
 abbrev pub counting : (RuntimeCounters → RuntimeCounters) → World → World
-counting f w = withHeader w (withCounters (w .header) (f (w .header .counters)))
+counting f w = withRuntime w (withCounters (w .runtime) (f (w .runtime .counters)))

@@ -50,14 +50,14 @@ module _ (r : Run relay) where
   base : Base none left told
   base = related .0 .rel .base
 
-  -- ---- header
+  -- ---- runtime
   pub generation-is : generationOf left ≡ told .head .generation
   generation-is = base .heads .generation
 
-  pub enabled-is : left .header .enabled ≡ told .head .enabled
+  pub enabled-is : left .runtime .enabled ≡ told .head .enabled
   enabled-is = base .heads .enabled
 
-  pub clock-is : left .header .«trusted_time_high_water» ≡ told .head .clock
+  pub clock-is : left .runtime .«trusted_time_high_water» ≡ told .head .clock
   clock-is = base .heads .clock
 
   pub config-is : configOf left ≡ told .head .config

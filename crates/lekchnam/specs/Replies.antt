@@ -14,7 +14,7 @@ use Rattle.hnsr_circuit.specs.declared.runtime.Relayed.{Relayed}
 use Rattle.hnsr_circuit.specs.declared.runtime.StatusTold.{StatusTold}
 use Rattle.hnsr_circuit.specs.declared.runtime.DueTold.{DueTold}
 use Rattle.hnsr_circuit.specs.Answers.{number, causeOf, taken}
-use Rattle.hnsr_circuit.specs.Header.{noHeader}
+use Rattle.hnsr_circuit.specs.Runtime.{noRuntime}
 use Rattle.hnsr_circuit.specs.World.{World, Outcome, worldOf}
 use Rattle.hnsr_circuit.specs.Code.Held.{noPlace, everyPlace, worldSeen}
 use Rattle.hnsr_circuit.specs.Code.Progress.{Result}
@@ -22,7 +22,7 @@ use Rattle.lekchnam.specs.declared.relay.RelayReply.{RelayReply}
 use Rattle.lekchnam.specs.declared.relay.StatusReply.{StatusReply}
 use Rattle.lekchnam.specs.declared.relay.DueReply.{DueReply}
 
--- header and tables, the answer's number and cause, how many words, and the output
+-- runtime and tables, the answer's number and cause, how many words, and the output
 pub record Replied : Type 0 where
   pub world : World
   pub answer : ℕ
@@ -59,8 +59,8 @@ numbered r = record {
 pub record MadeReply (r : RelayReply) (p : List RelayPending) (c : List RelayCircuit) (l : List ReservationUsage) (i : List InflightAction) (o : Outcome) : Type 0 where
   pub answer : r .answer ≡ number (o .answer)
   pub cause : r .cause ≡ causeOf (o .answer)
-  pub tables : worldOf (o .world .header) p c l i ≡ o .world
-  pub runtime : r .runtime ≡ cond (taken (o .answer)) (o .world .header) noHeader
+  pub tables : worldOf (o .world .runtime) p c l i ≡ o .world
+  pub runtime : r .runtime ≡ cond (taken (o .answer)) (o .world .runtime) noRuntime
   pub places : r .places ≡ cond (taken (o .answer)) noPlace everyPlace
   pub words : r .words ≡ 0
 

@@ -35,7 +35,7 @@ use Rattle.hnsr_circuit.specs.Pending.{pendingAt}
 use Rattle.hnsr_circuit.specs.Ledger.{ledgerAnswer}
 use Rattle.hnsr_circuit.specs.Circuits.{circuitAt}
 use Rattle.hnsr_circuit.specs.Inflight.{capacityAnswer}
-use Rattle.hnsr_circuit.specs.Header.{withCounters, countAccept}
+use Rattle.hnsr_circuit.specs.Runtime.{withCounters, countAccept}
 use Rattle.hnsr_circuit.specs.Opcode.{opOpened, opIncoming}
 use Rattle.hnsr_circuit.specs.Code.Question.{pendingWork, circuitWork}
 use Rattle.hnsr_circuit.specs.Entry.{peerAnswer}

@@ -31,7 +31,7 @@ use Rattle.hnsr_circuit.specs.Pending.{namedBy}
 use Rattle.hnsr_circuit.specs.Circuits.{sideOf, circuitAt}
 use Rattle.hnsr_circuit.specs.Ledger.{usageAt}
 use Rattle.hnsr_circuit.specs.Inflight.{capacityAnswer}
-use Rattle.hnsr_circuit.specs.Header.{withCounters, countBytes, countRevoked}
+use Rattle.hnsr_circuit.specs.Runtime.{withCounters, countBytes, countRevoked}
 use Rattle.hnsr_circuit.specs.Code.Lookup.{pendingFound, circuitFound, usageFound}
 use Rattle.hnsr_circuit.specs.Code.Turns.{actionsScanned}
 use Rattle.hnsr_circuit.specs.Code.Progress.{asking}

@@ -9,7 +9,7 @@ use Rattle.hnsr_circuit.specs.declared.output.queue.Queued.{Queued}
 use Rattle.hnsr_circuit.specs.declared.runtime.OpaqueRelayRuntime.{OpaqueRelayRuntime}
 use Rattle.hnsr_circuit.specs.declared.answer.HnsrAnswer.{HnsrAnswer}
 use Rattle.hnsr_circuit.specs.Answers.{taken, _then_}
-use Rattle.hnsr_circuit.specs.Header.{withSequence}
+use Rattle.hnsr_circuit.specs.Runtime.{withSequence}
 use Rattle.hnsr_circuit.specs.Queue.{queueAnswer, actionFor}
 use Rattle.hnsr_circuit.specs.Code.Progress.{messageOf, scanPlace}
 

@@ -13,7 +13,7 @@ use Rattle.hnsr_circuit.specs.declared.runtime.OpaqueRelayRuntime.{Opaqu
 use Rattle.hnsr_circuit.specs.declared.tables.question.RecordQuestion.{RecordQuestion}
 use Rattle.hnsr_circuit.specs.declared.tables.question.RecordQuestion.the-variants.{OfPeer}
 use Rattle.hnsr_circuit.specs.Peer.{samePeer, noPeer}
-use Rattle.hnsr_circuit.specs.Header.{countRevoked, withCounters}
+use Rattle.hnsr_circuit.specs.Runtime.{countRevoked, withCounters}
 use Rattle.hnsr_circuit.specs.World.{World, Outcome}
 use Rattle.hnsr_circuit.specs.Queue.{Sent}
 use Rattle.hnsr_circuit.specs.Opcode.{opClose, opError}

@@ -13,7 +13,7 @@ use Rattle.hnsr_circuit.specs.declared.runtime.StatusTold.{StatusTold}
 use Rattle.hnsr_circuit.specs.declared.runtime.DueTold.{DueTold}
 use Rattle.hnsr_circuit.specs.declared.runtime.Relayed.{Relayed}
 use Rattle.hnsr_circuit.specs.Answers.{taken}
-use Rattle.hnsr_circuit.specs.Header.{noHeader}
+use Rattle.hnsr_circuit.specs.Runtime.{noRuntime}
 use Rattle.hnsr_circuit.specs.Code.Held.{noPlace, everyPlace}
 use Rattle.hnsr_circuit.specs.World.{Told, silent, statusIs, dueIs, Outcome, worldOf}
 
@@ -54,7 +54,7 @@ dueTold o = record { answer = o .answer; due = dueIn (o .told) }
 -- zeros and off, with the marks alone to decide
 pub record Made (r : Relayed) (p : List RelayPending) (c : List RelayCircuit) (l : List ReservationUsage) (i : List InflightAction) (o : Outcome) : Type 0 where
   pub answer : r .answer ≡ o .answer
-  pub tables : worldOf (o .world .header) p c l i ≡ o .world
-  pub runtime : r .runtime ≡ cond (taken (o .answer)) (o .world .header) noHeader
+  pub tables : worldOf (o .world .runtime) p c l i ≡ o .world
+  pub runtime : r .runtime ≡ cond (taken (o .answer)) (o .world .runtime) noRuntime
   pub places : r .places ≡ cond (taken (o .answer)) noPlace everyPlace
   pub words : r .words ≡ 0

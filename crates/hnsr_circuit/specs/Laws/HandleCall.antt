@@ -23,7 +23,7 @@ use Rattle.hnsr_circuit.specs.declared.answer.HnsrAnswer.{HnsrAnswer}
 use Rattle.hnsr_circuit.specs.declared.answer.HnsrAnswer.the-variants.{Taken, Refused}
 use Rattle.hnsr_circuit.specs.declared.answer.HnsrRuntimeError.the-variants.{UnexpectedOpcode, Short}
 use Rattle.hnsr_circuit.specs.Answers.{check, bodyAnswer, taken, _then_}
-use Rattle.hnsr_circuit.specs.Header.{withClock}
+use Rattle.hnsr_circuit.specs.Runtime.{withClock}
 use Rattle.hnsr_circuit.specs.World.{World, atTime, worldOf}
 use Rattle.hnsr_circuit.specs.Packet.{Packet}
 use Rattle.hnsr_circuit.specs.Entry.{handleWords, tooFew, tablesShort, roomAnswer, peerAnswer, packetAnswer, clockAnswer}

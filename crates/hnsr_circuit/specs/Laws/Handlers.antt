@@ -43,7 +43,7 @@ use Rattle.hnsr_circuit.specs.Circuits.{noCircuit, circuitAt, sideOf, ot
 use Rattle.hnsr_circuit.specs.Ledger.{noUsage, usageAt, spent}
 use Rattle.hnsr_circuit.specs.Inflight.{actionUnder, dropped, capacityAnswer}
 use Rattle.hnsr_circuit.specs.Code.Lookup.{circuitFound}
-use Rattle.hnsr_circuit.specs.Header.{withCounters, countBytes, countRevoked}
+use Rattle.hnsr_circuit.specs.Runtime.{withCounters, countBytes, countRevoked}
 use Rattle.hnsr_circuit.specs.World.{proceed, worldOf}
 use Rattle.hnsr_circuit.specs.Queue.{Message, send}
 use Rattle.hnsr_circuit.specs.Code.Turns.{actionsScanned}

@@ -48,7 +48,7 @@ use Rattle.hnsr_circuit.specs.Pending.{noPending, isPending, pendingAt, 
 use Rattle.hnsr_circuit.specs.Ledger.{noUsage, isUsage, usageAt, clearUsage, freshUsage, lapsed, usageOf, booked, ledgerAnswer, usageAnswer}
 use Rattle.hnsr_circuit.specs.Circuits.{isCircuit, circuitAt}
 use Rattle.hnsr_circuit.specs.Inflight.{actionUnder, dropped, tallied, capacityAnswer}
-use Rattle.hnsr_circuit.specs.Header.{withCounters, countOpen}
+use Rattle.hnsr_circuit.specs.Runtime.{withCounters, countOpen}
 use Rattle.hnsr_circuit.specs.World.{World, Outcome, proceed, worldOf}
 use Rattle.hnsr_circuit.specs.Queue.{send}
 use Rattle.hnsr_circuit.specs.Code.Turns.{actionsScanned, ledgerAsked}

@@ -19,7 +19,7 @@ use Rattle.hnsr_body.specs.declared.messages.Notice.{Notice}
 use Rattle.hnsr_circuit.specs.Pending.{pendingId, clearPending}
 use Rattle.hnsr_circuit.specs.Circuits.{circuitId, circuitAt, clearCircuit}
 use Rattle.hnsr_circuit.specs.Inflight.{dropped}
-use Rattle.hnsr_circuit.specs.World.{World, withHeader, withPending, withCircuits, withLedger, withInflight}
+use Rattle.hnsr_circuit.specs.World.{World, withRuntime, withPending, withCircuits, withLedger, withInflight}
 use Rattle.hnsr_circuit.specs.Queue.{Message, queued, canQueue, Sent, when, tellIf, tell}
 use Rattle.hnsr_circuit.specs.RevokingCalls.{disconnectPending}
 use Rattle.hnsr_circuit.specs.Revocation.{withoutActions, pendingTable, circuitTable, withoutPending, endPending, endCircuit, endPendingThere, endCircuitThere, revokePending, revokeCircuitThere, revokeCircuit, walkFrom, walk, revokeAll}
@@ -44,8 +44,8 @@ onward s t = record {
 
 -- ---- one part replaced
 module _ {v w : World} (s : AsMany v w) where
-  pub header-kept : (h : OpaqueRelayRuntime) → AsMany v (withHeader w h)
-  header-kept h = record { pending = s .pending; circuits = s .circuits; ledger = s .ledger; inflight = s .inflight }
+  pub runtime-kept : (h : OpaqueRelayRuntime) → AsMany v (withRuntime w h)
+  runtime-kept h = record { pending = s .pending; circuits = s .circuits; ledger = s .ledger; inflight = s .inflight }
 
   pub pending-kept : (t : List RelayPending) → length t ≡ length (w .pending) → AsMany v (withPending w t)
   pending-kept t e = record { pending = e ∙ s .pending; circuits = s .circuits; ledger = s .ledger; inflight = s .inflight }
@@ -74,25 +74,25 @@ without-pending-kept w p s = pending-kept s _ (length-edit p clearPending (w .pe
 
 pub end-pending-kept : (w : World) (p : RelayPending → Bool) (id : ℕ) → AsMany w (endPending w p id)
 unfolding endPending
-end-pending-kept w p id = header-kept (without-actions-kept _ id (without-pending-kept w p (as-many w))) _
+end-pending-kept w p id = runtime-kept (without-actions-kept _ id (without-pending-kept w p (as-many w))) _
 
 pub end-circuit-kept : (w : World) (id : ℕ) → AsMany w (endCircuit w id)
 unfolding endCircuit
 end-circuit-kept w id =
-    header-kept (without-actions-kept _ id (circuits-kept (as-many w) _ (length-edit (circuitAt id) clearCircuit (w .circuits)))) _
+    runtime-kept (without-actions-kept _ id (circuits-kept (as-many w) _ (length-edit (circuitAt id) clearCircuit (w .circuits)))) _
 
 pub end-pending-there-kept : (w : World) (place : ℕ) → AsMany w (endPendingThere w place)
 unfolding endPendingThere
-end-pending-there-kept w place = header-kept (without-actions-kept _ _ (pending-kept (as-many w) _ (simp length-set))) _
+end-pending-there-kept w place = runtime-kept (without-actions-kept _ _ (pending-kept (as-many w) _ (simp length-set))) _
 
 pub end-circuit-there-kept : (w : World) (place : ℕ) → AsMany w (endCircuitThere w place)
 unfolding endCircuitThere
-end-circuit-there-kept w place = header-kept (without-actions-kept _ _ (circuits-kept (as-many w) _ (simp length-set))) _
+end-circuit-there-kept w place = runtime-kept (without-actions-kept _ _ (circuits-kept (as-many w) _ (simp length-set))) _
 
 -- ---- queueing, telling, walking
 pub queued-kept : (m : Message) (w : World) → AsMany w (queued m w)
 unfolding queued
-queued-kept m w = header-kept (inflight-kept (as-many w) _ (simp length-set)) _
+queued-kept m w = runtime-kept (inflight-kept (as-many w) _ (simp length-set)) _
 
 tell-if-kept : (a : HnsrAnswer) (m : Message) (w : World) → AsMany w (tellIf a m w .world)
 unfolding tellIf

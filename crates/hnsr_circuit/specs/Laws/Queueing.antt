@@ -29,7 +29,7 @@ use Rattle.hnsr_body.specs.declared.error.HnsrInvalid.the-variants.{ContextZero
 use Rattle.hnsr_body.specs.declared.error.HnsrProtocolError.the-variants.{Invalid}
 use Rattle.hnsr_circuit.specs.Inflight.{capacityAnswer}
 use Rattle.hnsr_circuit.specs.Answers.{check, taken, _then_}
-use Rattle.hnsr_circuit.specs.Header.{withSequence}
+use Rattle.hnsr_circuit.specs.Runtime.{withSequence}
 use Rattle.hnsr_circuit.specs.Route.{routeWords, headWords}
 use Rattle.hnsr_circuit.specs.World.{proceed, done, worldOf}
 use Rattle.hnsr_circuit.specs.Queue.{queueAnswer, routeFor, routed, canQueue, queued, send, when, tellIf, tell}

@@ -21,7 +21,7 @@ use Rattle.hnsr_circuit.specs.Pending.{isPending, clearPending}
 use Rattle.hnsr_circuit.specs.Circuits.{isCircuit, clearCircuit}
 use Rattle.hnsr_circuit.specs.Ledger.{isUsage, clearUsage}
 use Rattle.hnsr_circuit.specs.Inflight.{isAction, clearAction, dropped}
-use Rattle.hnsr_circuit.specs.Header.{withClock, noHeader}
+use Rattle.hnsr_circuit.specs.Runtime.{withClock, noRuntime}
 use Rattle.hnsr_circuit.specs.Code.Held.{noPlace, everyPlace}
 use Rattle.hnsr_circuit.specs.Route.{outWords, output}
 use Rattle.hnsr_circuit.specs.World.{World, statusIs, dueIs, done, proceed, telling, atTime, worldOf}
@@ -81,7 +81,7 @@ module _ (h n : OpaqueRelayRuntime) (p p′ : List RelayPending) (c c′ : List 
       subst (λ (z : HnsrAnswer). Made r p′ c′ l′ i′ (proceed (worldOf h p c l i) z (done (emptied (worldOf h p c l i) n) []))) (sym is ∙ e)
       (record { answer = f .1 ∙ is; tables = λ x. worldOf n (ep x) (ec x) (el x) (ei x); runtime = f .0; places = k; words = f .2 })
 
-  module _ (f : (r .runtime ≡ noHeader) × (r .answer ≡ a) × (r .words ≡ 0)) (k : r .places ≡ everyPlace) (ep : p′ ≡ p) (ec : c′ ≡ c) (el : l′ ≡ l) (ei : i′ ≡ i) where
+  module _ (f : (r .runtime ≡ noRuntime) × (r .answer ≡ a) × (r .words ≡ 0)) (k : r .places ≡ everyPlace) (ep : p′ ≡ p) (ec : c′ ≡ c) (el : l′ ≡ l) (ei : i′ ≡ i) where
     keeps : (z : HnsrAnswer) → r .answer ≡ z → taken z ≡ false
         → Made r p′ c′ l′ i′ (proceed (worldOf h p c l i) z (done (emptied (worldOf h p c l i) n) []))
     unfolding proceed

@@ -34,7 +34,7 @@ use Rattle.hns_encoding.specs.Numbers.{top}
 use Rattle.hns_encoding.specs.Laws.Tests.{on-true, on-false}
 use lib.Dec.{eqb}
 use borrow.Author.Tests.{eqb-false}
-use Rattle.hnsr_circuit.specs.Header.{withClock, withEnabled}
+use Rattle.hnsr_circuit.specs.Runtime.{withClock, withEnabled}
 use Rattle.hnsr_circuit.specs.Ledger.{usageAt, clearUsage, lapsed}
 use Rattle.hnsr_circuit.specs.Acknowledge.{generationAnswer}
 use Rattle.hnsr_circuit.specs.Laws.Answers.{check-taken, then-taken}

@@ -52,14 +52,14 @@ pub accept-without-context : (w : World) (q : Packet) (room : ℕ) → roomAnswe
 accept-without-context w q room enough named small is zero = zero-context w q room enough named small (ap (λ n. eqb n sampleRoutes) is) zero
 
 -- ---- an opcode from 21 on: 16, behind entry, clock and gate; the clock has moved
-pub opcode-from-21 : (w : World) (q : Packet) (room : ℕ) → entryAnswer w q room ≡ Taken → w .header .«trusted_time_high_water» ≤ q .now → w .header .enabled ≡ true
+pub opcode-from-21 : (w : World) (q : Packet) (room : ℕ) → entryAnswer w q room ≡ Taken → w .runtime .«trusted_time_high_water» ≤ q .now → w .runtime .enabled ≡ true
     → 21 ≤ q .opcode → TurnedAway (step w (callHandle q room)) 16 (atTime w (q .now))
 unfolding step handle handleGate gateAnswer clockAnswer handlingOf dispatch proceed
 opcode-from-21 w q room entry forward on high = record {
   error = UnexpectedOpcode;
   outcome = rw (
     entry,
-    le-ltb (q .now) (w .header .«trusted_time_high_water») forward,
+    le-ltb (q .now) (w .runtime .«trusted_time_high_water») forward,
     on,
     not-that opOpen (omega arith),
     not-that opAccept (omega arith),

@@ -33,7 +33,7 @@ use Rattle.hnsr_circuit.specs.New.{emptied, newRelay, observeTime}
 use Rattle.hnsr_circuit.specs.Status.{status}
 use Rattle.hnsr_circuit.specs.NextDue.{nextDue}
 use Rattle.hnsr_circuit.specs.Call.{Start, start, Call, callStatus, callNextDue, callObserveTime, callReplaceEnabled, callHandle, callAcknowledge, callDisconnect, callRevokeReservation, callExpire, step}
-use Rattle.hnsr_circuit.specs.Laws.Places.{AsMany, as-many, onward, header-kept, pending-kept, circuits-kept, ledger-kept, inflight-kept, length-dropped, without-pending-kept, end-pending-kept, end-circuit-kept, queued-kept, revoke-pending-kept, revoke-there-kept, revoke-circuit-kept, disconnect-pending-kept, revoke-all-kept}
+use Rattle.hnsr_circuit.specs.Laws.Places.{AsMany, as-many, onward, runtime-kept, pending-kept, circuits-kept, ledger-kept, inflight-kept, length-dropped, without-pending-kept, end-pending-kept, end-circuit-kept, queued-kept, revoke-pending-kept, revoke-there-kept, revoke-circuit-kept, disconnect-pending-kept, revoke-all-kept}
 
 proceed-kept : {v : World} (w : World) (a : HnsrAnswer) (o : Outcome) → AsMany v w → AsMany v (o .world) → AsMany v (proceed w a o .world)
 unfolding proceed
@@ -59,7 +59,7 @@ booked-kept w t s = ledger-kept s _ (simp length-set)
 
 open-with-kept : {v : World} (w : World) (o : Opening) → AsMany v w → AsMany v (withOpen w o)
 unfolding withOpen
-open-with-kept w o s = header-kept (pending-kept s _ (simp length-set)) _
+open-with-kept w o s = runtime-kept (pending-kept s _ (simp length-set)) _
 
 open-kept : (w : World) (q : Packet) → AsMany w (handleOpen w q .world)
 unfolding handleOpen openLapsed openGranted openBooked
@@ -73,7 +73,7 @@ unfolding handleAccept acceptWith withAccept
 accept-kept w q =
     proceed-kept w _ _ (as-many w)
     (send-kept _ _
-    (header-kept
+    (runtime-kept
     (circuits-kept (inflight-kept (pending-kept (as-many w) _ (length-edit _ clearPending (w .pending))) _ (length-dropped _ _)) _ (simp length-set)) _))
 
 data-kept : (w : World) (q : Packet) → AsMany w (handleData w q .world)
@@ -81,7 +81,7 @@ unfolding handleData dataWith withData
 data-kept w q =
     proceed-kept w _ _ (as-many w)
     (send-kept _ _
-    (header-kept
+    (runtime-kept
     (ledger-kept (circuits-kept (as-many w) _ (length-edit (circuitAt (q .context)) _ (w .circuits))) _ (length-edit (usageAt _) _ (w .ledger))) _))
 
 window-kept : (w : World) (q : Packet) → AsMany w (handleWindow w q .world)
@@ -119,7 +119,7 @@ undelivered-kept : (k : InflightKind) (w : World) (id : ℕ) → AsMany w (undel
 unfolding undelivered failIncoming failPending
 undelivered-kept Incoming w id =
     cond-kept (hasPending w id) (failPending w id (pendingIn w id)) (done w [])
-    (send-kept _ _ (header-kept (without-pending-kept w (pendingAt id) (as-many w)) _)) (as-many w)
+    (send-kept _ _ (runtime-kept (without-pending-kept w (pendingAt id) (as-many w)) _)) (as-many w)
 undelivered-kept Opened w id = revoke-circuit-kept _ w id
 undelivered-kept Data w id = revoke-circuit-kept _ w id
 undelivered-kept Control w id = revoke-circuit-kept _ w id
@@ -140,9 +140,9 @@ acknowledge-kept w generation sequence delivered room =
 -- ---- the revoking calls
 switch-kept : (w : World) (on : Bool) → AsMany w (switchTo w on .world)
 unfolding switchTo
-switch-kept w true = header-kept (inflight-kept (as-many w) _ (length-dropped _ _)) _
+switch-kept w true = runtime-kept (inflight-kept (as-many w) _ (length-dropped _ _)) _
 switch-kept w false =
-    revoke-all-kept _ _ _ _ w _ (revoke-pending-kept _) (revoke-there-kept _) (header-kept (inflight-kept (as-many w) _ (length-dropped _ _)) _)
+    revoke-all-kept _ _ _ _ w _ (revoke-pending-kept _) (revoke-there-kept _) (runtime-kept (inflight-kept (as-many w) _ (length-dropped _ _)) _)
 
 -- ---- every call
 pub start-places : (w : World) (s : Start) → AsMany w (start w s .world)
@@ -155,11 +155,11 @@ pub step-places : (w : World) (c : Call) → AsMany w (step w c .world)
 unfolding step status nextDue observeTime replaceEnabled handle handleGate disconnect disconnectPeer revokeReservation revokeUnder expire expireAt
 step-places w callStatus = proceed-kept w _ _ (as-many w) (as-many w)
 step-places w callNextDue = proceed-kept w _ _ (as-many w) (as-many w)
-step-places w (callObserveTime now) = proceed-kept w _ _ (as-many w) (header-kept (as-many w) _)
+step-places w (callObserveTime now) = proceed-kept w _ _ (as-many w) (runtime-kept (as-many w) _)
 step-places w (callReplaceEnabled expected enabled room) =
     proceed-kept w _ _ (as-many w) (cond-kept (changes w enabled) (switchTo w enabled) (done w []) (switch-kept w enabled) (as-many w))
 step-places w (callHandle packet room) =
-    let t = header-kept (as-many w) _ in
+    let t = runtime-kept (as-many w) _ in
     proceed-kept w _ _ (as-many w) (proceed-kept _ _ _ t (onward t (dispatch-kept _ (atTime w (packet .now)) packet)))
 step-places w (callAcknowledge generation sequence delivered room) = acknowledge-kept w generation sequence delivered room
 step-places w (callDisconnect peer room) =
@@ -170,4 +170,4 @@ step-places w (callRevokeReservation id room) =
     (revoke-all-kept _ _ _ _ w _ (revoke-pending-kept _) (revoke-there-kept _) (ledger-kept (as-many w) _ (length-edit (usageAt id) clearUsage (w .ledger))))
 step-places w (callExpire now room) =
     proceed-kept w _ _ (as-many w)
-    (revoke-all-kept _ _ _ _ w _ (revoke-pending-kept _) (revoke-there-kept _) (onward (header-kept (as-many w) _) (lapsed-kept (atTime w now) now)))
+    (revoke-all-kept _ _ _ _ w _ (revoke-pending-kept _) (revoke-there-kept _) (onward (runtime-kept (as-many w) _) (lapsed-kept (atTime w now) now)))

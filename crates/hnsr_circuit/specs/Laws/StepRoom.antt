@@ -25,7 +25,7 @@ use Rattle.hnsr_circuit.specs.declared.records.InflightKind.the-variants
 use Rattle.hnsr_circuit.specs.Inflight.{noAction, actionAt}
 use Rattle.hnsr_circuit.specs.Route.{outWords}
 use Rattle.hnsr_circuit.specs.Laws.Route.{notice-fits}
-use Rattle.hnsr_circuit.specs.Header.{countRevoked}
+use Rattle.hnsr_circuit.specs.Runtime.{countRevoked}
 use Rattle.hnsr_circuit.specs.World.{World, configOf, done, atTime, counting}
 use Rattle.hnsr_circuit.specs.Counts.{pendingCount, circuitCount}
 use Rattle.hnsr_body.specs.Messages.{noticeSize}

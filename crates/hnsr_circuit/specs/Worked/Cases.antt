@@ -16,7 +16,7 @@ use Rattle.hnsr_circuit.specs.Pending.{noTicket, noPending}
 use Rattle.hnsr_circuit.specs.Circuits.{noCircuit}
 use Rattle.hnsr_circuit.specs.Ledger.{noUsage}
 use Rattle.hnsr_circuit.specs.Inflight.{noAction}
-use Rattle.hnsr_circuit.specs.Header.{newHeader}
+use Rattle.hnsr_circuit.specs.Runtime.{newRuntime}
 use Rattle.hnsr_circuit.specs.World.{World, Outcome}
 use Rattle.hnsr_circuit.specs.Opcode.{opOpen, opAccept, opData, opWindow, opClose, opError}
 use Rattle.hnsr_circuit.specs.Entry.{handleWords, acknowledgeWords}
@@ -37,10 +37,10 @@ caseConfig queue = record {
   «accept_timeout_seconds» = defaultConfig .«accept_timeout_seconds»;
 }
 
--- what the host lends: so many places of each table, all unused; the header means nothing before `new`
+-- what the host lends: so many places of each table, all unused; the runtime means nothing before `new`
 unfoldable pub lent : (pending circuits inflight ledger : ℕ) → World
 lent pending circuits inflight ledger = record {
-  header = newHeader [] 0 defaultConfig 0;
+  runtime = newRuntime [] 0 defaultConfig 0;
   pending = replicate pending noPending;
   circuits = replicate circuits noCircuit;
   ledger = replicate ledger noUsage;

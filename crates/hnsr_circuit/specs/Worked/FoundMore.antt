@@ -18,7 +18,7 @@ use Rattle.hnsr_circuit.specs.World.{World}
 use Rattle.hnsr_circuit.specs.Opcode.{opClose, opError}
 use Rattle.hnsr_circuit.specs.Call.{callReplaceEnabled, callAcknowledge, callDisconnect, callExpire}
 use Rattle.hnsr_circuit.specs.Worked.Cases.{requesterPeer, openCall, acceptCall, dataCall}
-use Rattle.hnsr_circuit.specs.Worked.FoundWorlds.{peer, pendingOn, circuitOn, usageOn, actionOn, found, free, lastSequence, lastGeneration, answerOf, wordsOf, outputAfter, routes, firstCircuit, headerAfter, actionsAfter, bytesQueued}
+use Rattle.hnsr_circuit.specs.Worked.FoundWorlds.{peer, pendingOn, circuitOn, usageOn, actionOn, found, free, lastSequence, lastGeneration, answerOf, wordsOf, outputAfter, routes, firstCircuit, runtimeAfter, actionsAfter, bytesQueued}
 use Rattle.hnsr_circuit.specs.Worked.Found.{quiet, fewActions, one-of-each}
 
 -- ---- a peer length over the most reads as the most; what stands behind a name is not read
@@ -126,8 +126,8 @@ pub revocation-is-silent : routes exhausted (callExpire 1000 192) ≡ []
 unfolding routes exhausted
 revocation-is-silent = refl
 
-pub revocation-counts : headerAfter exhausted (callExpire 1000 192) .counters .«revoked_work» ≡ 2
-unfolding headerAfter exhausted
+pub revocation-counts : runtimeAfter exhausted (callExpire 1000 192) .counters .«revoked_work» ≡ 2
+unfolding runtimeAfter exhausted
 revocation-counts = refl
 
 -- ---- "6 generation at 2^64 − 1 and the state would change"; "the same state changes nothing"

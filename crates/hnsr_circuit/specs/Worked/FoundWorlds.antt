@@ -18,9 +18,9 @@ use Rattle.hnsr_circuit.specs.Circuits.{noCircuit}
 use Rattle.hnsr_circuit.specs.Pending.{pendingRecord}
 use Rattle.hnsr_circuit.specs.Ledger.{usageFor, usageWith}
 use Rattle.hnsr_circuit.specs.Inflight.{actionRecord, noAction}
-use Rattle.hnsr_circuit.specs.Header.{newHeader, withSequence}
+use Rattle.hnsr_circuit.specs.Runtime.{newRuntime, withSequence}
 use Rattle.hnsr_circuit.specs.Route.{Route, outWords, output}
-use Rattle.hnsr_circuit.specs.World.{World, Told, silent, statusIs, dueIs, withHeader}
+use Rattle.hnsr_circuit.specs.World.{World, Told, silent, statusIs, dueIs, withRuntime}
 use Rattle.hnsr_circuit.specs.Call.{Call, callStatus, callNextDue, step}
 use Rattle.hnsr_circuit.specs.Worked.All.{machine}
 use Rattle.hnsr_circuit.specs.Worked.Cases.{caseConfig}
@@ -79,18 +79,18 @@ actionOn sequence id kind bytes = actionRecord 1 sequence id (peer 2) kind true 
 unfoldable pub found : List RelayPending → List RelayCircuit → List ReservationUsage → List InflightAction → World
 unfolding caseConfig machine
 found pending circuits ledger inflight = record
-    { header = newHeader (replicate 16 1) 1 (caseConfig 65536) 100; pending = pending; circuits = circuits; ledger = ledger; inflight = inflight }
+    { runtime = newRuntime (replicate 16 1) 1 (caseConfig 65536) 100; pending = pending; circuits = circuits; ledger = ledger; inflight = inflight }
 
 unfoldable pub free : ℕ → List InflightAction
 free n = replicate n noAction
 
 -- the next action number and the generation at their tops
 unfoldable pub lastSequence : World → World
-lastSequence w = withHeader w (withSequence (w .header) (top 64))
+lastSequence w = withRuntime w (withSequence (w .runtime) (top 64))
 
 unfoldable pub lastGeneration : World → World
 unfolding caseConfig
-lastGeneration w = withHeader w (newHeader (replicate 16 1) (top 64) (caseConfig 65536) 100)
+lastGeneration w = withRuntime w (newRuntime (replicate 16 1) (top 64) (caseConfig 65536) 100)
 
 -- ---- what is looked at
 unfoldable pub answerOf : World → Call → HnsrAnswer
@@ -138,9 +138,9 @@ unfoldable pub firstAction : World → Call → InflightAction
 unfolding machine
 firstAction w c = getD (step w c .world .inflight) 0 noAction
 
-unfoldable pub headerAfter : World → Call → OpaqueRelayRuntime
+unfoldable pub runtimeAfter : World → Call → OpaqueRelayRuntime
 unfolding machine
-headerAfter w c = step w c .world .header
+runtimeAfter w c = step w c .world .runtime
 
 unfoldable pub queuedActions : Told → ℕ
 queuedActions silent = 0

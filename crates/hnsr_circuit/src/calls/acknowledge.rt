@@ -41,7 +41,7 @@ use crate::records::InflightKind;
 use crate::records::RelayCircuit;
 use crate::records::RelayPending;
 use crate::records::RelaySide;
-use crate::records::header::revoked;
+use crate::records::runtime::revoked;
 use crate::records::inflight::action_unmarked;
 use crate::records::inflight::kind_of;
 use crate::records::inflight::toward_side;

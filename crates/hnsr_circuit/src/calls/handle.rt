@@ -35,7 +35,7 @@ use crate::records::InflightAction;
 use crate::records::RelayCircuit;
 use crate::records::RelayPending;
 use crate::records::ReservationUsage;
-use crate::records::header::with_clock;
+use crate::records::runtime::with_clock;
 use crate::runtime::OpaqueRelayRuntime;
 use crate::runtime::RelayPacket;
 use crate::runtime::Relayed;

@@ -29,7 +29,7 @@ use crate::records::InflightAction;
 use crate::records::RelayCircuit;
 use crate::records::RelayPending;
 use crate::records::circuits::circuit_unmarked;
-use crate::records::header::revoked;
+use crate::records::runtime::revoked;
 use crate::records::pending::pending_unmarked;
 use crate::runtime::OpaqueRelayRuntime;
 use crate::runtime::Relayed;

@@ -32,9 +32,9 @@ use crate::records::InflightAction;
 use crate::records::RelayCircuit;
 use crate::records::RelayPending;
 use crate::records::ReservationUsage;
-use crate::records::header::new_header;
-use crate::records::header::no_runtime;
-use crate::records::header::with_clock;
+use crate::records::runtime::new_runtime;
+use crate::records::runtime::no_runtime;
+use crate::records::runtime::with_clock;
 use crate::runtime::DueTold;
 use crate::runtime::HnsrRuntimeStatus;
 use crate::runtime::NextDue;
@@ -99,7 +99,7 @@ pub fn new(
 {
     let few = too_few(config, pending.len(), circuits.len(), inflight.len());
     let answer = new_answer(session, generation, config, few, ledger.len());
-    let runtime = new_header(session, generation, config, time);
+    let runtime = new_runtime(session, generation, config, time);
     if is_taken(answer) {
         let none = no_place();
         return taken_with(runtime, none);

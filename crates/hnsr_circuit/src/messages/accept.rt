@@ -18,7 +18,7 @@ use crate::peer::same_peer;
 use crate::records::InflightKind;
 use crate::records::RelayCircuit;
 use crate::records::RelayPending;
-use crate::records::header::accepted;
+use crate::records::runtime::accepted;
 use crate::records::inflight::capacity_answer;
 use crate::records::pending::overdue;
 use crate::runtime::OpaqueRelayRuntime;

@@ -19,7 +19,7 @@ use crate::peer::HnsrPeerId;
 use crate::peer::same_peer;
 use crate::records::InflightKind;
 use crate::records::RelayPending;
-use crate::records::header::revoked;
+use crate::records::runtime::revoked;
 use crate::runtime::OpaqueRelayRuntime;
 use crate::runtime::RelayPacket;
 use crate::tables::lookup::CircuitFound;

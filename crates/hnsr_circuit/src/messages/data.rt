@@ -22,7 +22,7 @@ use crate::records::circuits::credit_of;
 use crate::records::circuits::other_side;
 use crate::records::circuits::queued_to;
 use crate::records::circuits::side_of;
-use crate::records::header::transferred;
+use crate::records::runtime::transferred;
 use crate::records::inflight::capacity_answer;
 use crate::runtime::OpaqueRelayRuntime;
 use crate::tables::lookup::CircuitFound;

@@ -45,7 +45,7 @@ use crate::records::InflightAction;
 use crate::records::RelayCircuit;
 use crate::records::RelayPending;
 use crate::records::ReservationUsage;
-use crate::records::header::opened;
+use crate::records::runtime::opened;
 use crate::records::ledger::usage_answer;
 use crate::runtime::OpaqueRelayRuntime;
 use crate::runtime::Relayed;

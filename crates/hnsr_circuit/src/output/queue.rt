@@ -31,7 +31,7 @@ use crate::output::route::route_size;
 use crate::peer::HnsrPeerId;
 use crate::records::InflightAction;
 use crate::records::InflightKind;
-use crate::records::header::with_sequence;
+use crate::records::runtime::with_sequence;
 use crate::records::inflight::capacity_answer;
 use crate::records::inflight::kind_number;
 use crate::runtime::OpaqueRelayRuntime;

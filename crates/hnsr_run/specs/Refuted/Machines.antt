@@ -62,7 +62,7 @@ telling-status f = record { new = start; step = replacing (record { handles = ha
 
 -- entry and clock, in front of what is replaced
 abbrev pub entering : World → Packet → (room : ℕ) → HnsrAnswer
-entering w q room = entryAnswer w q room then clockAnswer (w .header .«trusted_time_high_water») (q .now)
+entering w q room = entryAnswer w q room then clockAnswer (w .runtime .«trusted_time_high_water») (q .now)
 
 -- ---- the runs: a circuit, whose OPENED has the number 2; then DATA of 40 bytes toward the endpoint, whose route has the number 3
 abbrev pub opened : List Call

@@ -8,7 +8,7 @@ use lib.ListN.{replicate}
 use Rattle.hnsr_circuit.specs.declared.records.InflightAction.{InflightAction}
 use Rattle.hnsr_circuit.specs.Peer.{noPeer}
 use Rattle.hnsr_circuit.specs.Inflight.{noAction}
-use Rattle.hnsr_circuit.specs.World.{World, Outcome, withHeader, withInflight}
+use Rattle.hnsr_circuit.specs.World.{World, Outcome, withRuntime, withInflight}
 use Rattle.hnsr_circuit.specs.Worked.Cases.{lent}
 use Rattle.hnsr_circuit.specs.Call.{Start, start, step}
 use Rattle.hnsr_circuit.specs.Worked.All.{machine}
@@ -18,7 +18,7 @@ use Rattle.hnsr_run.specs.Refuted.Machines.{status-tells}
 
 -- ---- `new` leaves the marks that it finds: an action that nobody sent counts, and can never be acknowledged by a host that does not know it
 abbrev marksLeft : World → Start → Outcome
-marksLeft w s = let o = start w s in record { world = withHeader w (o .world .header); answer = o .answer; routes = o .routes; told = o .told }
+marksLeft w s = let o = start w s in record { world = withRuntime w (o .world .runtime); answer = o .answer; routes = o .routes; told = o .told }
 
 abbrev pub uncleared : Machine
 uncleared = record { new = marksLeft; step = step }

@@ -72,9 +72,9 @@ abbrev strangeTaken : World → Packet → RelayCircuit → RelaySide → (n : �
 strangeTaken w q c side n =
     bodyAnswer (dataChecked n)
     then check (not (hasCircuit w (q .context))) UnknownCircuit
-    then capacityAnswer (w .header .config) (tallied false (q .context) (receiver c (sender q)) (w .inflight))
+    then capacityAnswer (w .runtime .config) (tallied false (q .context) (receiver c (sender q)) (w .inflight))
     then bytesAnswer (hasUsage (c .«reservation_id») (w .ledger)) (usageOf (c .«reservation_id») (w .ledger)) c n
-    then flowAnswer (w .header .config) c side n
+    then flowAnswer (w .runtime .config) c side n
 
 abbrev strangeData : World → Packet → Outcome
 strangeData w q =
@@ -85,7 +85,7 @@ strangeData w q =
 
 abbrev pub stranger : Machine
 stranger = handling (λ w q room.
-    cond (eqb (q .opcode) opData && w .header .enabled)
+    cond (eqb (q .opcode) opData && w .runtime .enabled)
     (proceed w (entering w q room) (strangeData (atTime w (q .now)) q))
     (step w (callHandle q room)))
 

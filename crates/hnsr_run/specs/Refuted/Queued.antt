@@ -14,7 +14,7 @@ use Rattle.hnsr_circuit.specs.Answers.{number}
 use Rattle.hnsr_circuit.specs.Table.{any, edit, pick}
 use Rattle.hnsr_circuit.specs.Circuits.{circuitAt, sideOf, otherSide, queuedTo, moved, charged}
 use Rattle.hnsr_circuit.specs.Ledger.{usageAt, spent}
-use Rattle.hnsr_circuit.specs.Header.{countBytes}
+use Rattle.hnsr_circuit.specs.Runtime.{countBytes}
 use Rattle.hnsr_circuit.specs.Inflight.{noAction, isAction, actionAt, toEndpoint}
 use Rattle.hnsr_circuit.specs.World.{World, Outcome, done, proceed, withCircuits, withLedger, counting, atTime}
 use Rattle.hnsr_circuit.specs.Queue.{Message, canQueue, queued, routed, send}
@@ -100,7 +100,7 @@ unqueuedData w q =
 
 abbrev pub unqueued : Machine
 unqueued = handling (λ w q room.
-    cond (eqb (q .opcode) opData && w .header .enabled)
+    cond (eqb (q .opcode) opData && w .runtime .enabled)
     (proceed w (entering w q room) (unqueuedData (atTime w (q .now)) q))
     (step w (callHandle q room)))
 

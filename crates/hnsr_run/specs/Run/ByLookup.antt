@@ -13,7 +13,7 @@ use Rattle.hnsr_circuit.specs.declared.records.RelayCircuit.{RelayCircuit}
 use Rattle.hnsr_circuit.specs.Table.{placeOf}
 use Rattle.hnsr_circuit.specs.Pending.{noPending, pendingAt, clearPending}
 use Rattle.hnsr_circuit.specs.Circuits.{noCircuit, circuitAt, clearCircuit}
-use Rattle.hnsr_circuit.specs.Header.{countRevoked}
+use Rattle.hnsr_circuit.specs.Runtime.{countRevoked}
 use Rattle.hnsr_circuit.specs.World.{World, withPending, withCircuits, counting}
 use Rattle.hnsr_circuit.specs.Queue.{Sent, andThen, tell}
 use Rattle.hnsr_circuit.specs.Packet.{hasCircuit, circuitIn}

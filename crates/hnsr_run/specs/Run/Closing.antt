@@ -117,7 +117,7 @@ module _ {w : World} {h : Past} (R : Rel w h) (low : sequenceOf w < top 64) (q :
       → endPending w (pendingAt (found .«circuit_id»)) (found .«circuit_id») ≡ endPending w (namedBy p x) (found .«circuit_id»)
   unfolding endPending withoutPending withoutActions
   open-world e = λ i. record {
-    header = endPending w (namedBy p x) (found .«circuit_id») .header;
+    runtime = endPending w (namedBy p x) (found .«circuit_id») .runtime;
     pending = sym (found-same R p x e .1) i;
     circuits = w .circuits;
     ledger = w .ledger;

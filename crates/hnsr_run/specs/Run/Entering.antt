@@ -111,17 +111,17 @@ module _ {w : World} {h : Past} (R : Rel w h) (H : Places w) (q : Packet) (room 
       (q .opcode) sampleRoutes)) (Err (Invalid ContextZero)) Ok))) (le-ltb mostPacket (packetSize (length (q .body))) (omega (arith, s .fits)))
       ∙ ap (λ b. bodyAnswer (cond (b && not (eqb (q .opcode) sampleRoutes)) (Err (Invalid ContextZero)) Ok)) some-context
 
-  entry-taken : (entryAnswer w q room then clockAnswer (w .header .«trusted_time_high_water») (q .now)) ≡ Taken
+  entry-taken : (entryAnswer w q room then clockAnswer (w .runtime .«trusted_time_high_water») (q .now)) ≡ Taken
   unfolding entryAnswer peerAnswer clockAnswer
-  entry-taken = taken-then (entryAnswer w q room) (clockAnswer (w .header .«trusted_time_high_water») (q .now))
+  entry-taken = taken-then (entryAnswer w q room) (clockAnswer (w .runtime .«trusted_time_high_water») (q .now))
       (taken-then (roomAnswer w room handleWords) (peerAnswer (length (q .source)) then packetAnswer (q .opcode) (q .context) (length (q .body)))
       (room-same w H room handleWords ∙ ap (λ b. check b Short) (le-ltb room handleWords (s .words)))
       (taken-then (peerAnswer (length (q .source))) (packetAnswer (q .opcode) (q .context) (length (q .body))) (ap
       (λ b. check (not b) InvalidPeer) (s .named)) packet-taken))
-      (taken-check (ltb (q .now) (w .header .«trusted_time_high_water»)) ClockRollback (le-ltb (q .now) (w .header .«trusted_time_high_water») (omega
+      (taken-check (ltb (q .now) (w .runtime .«trusted_time_high_water»)) ClockRollback (le-ltb (q .now) (w .runtime .«trusted_time_high_water») (omega
       (arith, s .forward, R .base .heads .clock))))
 
-  on : w .header .enabled ≡ true
+  on : w .runtime .enabled ≡ true
   on = R .base .heads .enabled ∙ split (h .head .enabled) (λ e. e) (λ e. clash active (R .quiet e j))
 
   pub is-data : step w (callHandle q room) ≡ handleData (atTime w (q .now)) q

@@ -76,10 +76,10 @@ Full S w h = Body S (configOf w) (generationOf w) (sequenceOf w) (w .pending) (w
 -- ---- what the parts of a revocation leave alone; of the ledger, what the book is about
 pub record Rest (w v : World) : Type 0 where
   pub ledger : SameBooks (w .ledger) (v .ledger)
-  pub clock : v .header .«trusted_time_high_water» ≡ w .header .«trusted_time_high_water»
-  pub generation : v .header .generation ≡ w .header .generation
-  pub enabled : v .header .enabled ≡ w .header .enabled
-  pub config : v .header .config ≡ w .header .config
+  pub clock : v .runtime .«trusted_time_high_water» ≡ w .runtime .«trusted_time_high_water»
+  pub generation : v .runtime .generation ≡ w .runtime .generation
+  pub enabled : v .runtime .enabled ≡ w .runtime .enabled
+  pub config : v .runtime .config ≡ w .runtime .config
 
 pub rest-same : (w : World) → Rest w w
 rest-same w = record { ledger = one-ledger (w .ledger); clock = refl; generation = refl; enabled = refl; config = refl }

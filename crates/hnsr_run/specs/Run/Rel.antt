@@ -35,7 +35,7 @@ use Rattle.hnsr_run.specs.Run.Full.{Full, Rest, Keeps}
 use Rattle.hnsr_run.specs.Run.Books.{Books, same-books, later-books}
 
 -- ---- the invariant
--- over the header's fields, so that a world that leaves them alone needs no proof
+-- over the runtime's fields, so that a world that leaves them alone needs no proof
 pub record HeadIs (d : Head) (g : ℕ) (on : Bool) (now : ℕ) (c : OpaqueRelayConfig) : Type 0 where
   pub generation : g ≡ d .generation
   pub enabled : on ≡ d .enabled
@@ -43,7 +43,7 @@ pub record HeadIs (d : Head) (g : ℕ) (on : Bool) (now : ℕ) (c : OpaqueRelayC
   pub config : c ≡ d .config
 
 abbrev pub Heads : World → Head → Type 0
-Heads w d = HeadIs d (generationOf w) (w .header .enabled) (w .header .«trusted_time_high_water») (configOf w)
+Heads w d = HeadIs d (generationOf w) (w .runtime .enabled) (w .runtime .«trusted_time_high_water») (configOf w)
 
 -- the reservation r lives, and is due at e
 pub record Live (now : ℕ) (b : Book) (r : ReservationId) (e : ℕ) : Type 0 where

@@ -170,9 +170,9 @@ pub expire-keeps : {w : World} {h : Past} → Rel w h → (now room : ℕ)
     → let o = expire w now room in Rel (o .world) (after h (callExpire now room) (o .answer) (o .routes))
 unfolding expire expireAt revokeAll pendingOver circuitOver
 expire-keeps {w} {h} R now room = proceed-cases (λ (o : Outcome). Rel (o .world) (after h (callExpire now room) (o .answer) (o .routes))) w (roomAnswer w room
-    (revokingWords w) then clockAnswer (w .header .«trusted_time_high_water») now) (expireAt w now)
-    (λ e. let l = clock-taken (w .header .«trusted_time_high_water») now (then-taken (roomAnswer w room (revokingWords w)) (clockAnswer
-    (w .header .«trusted_time_high_water») now) e .1) in
+    (revokingWords w) then clockAnswer (w .runtime .«trusted_time_high_water») now) (expireAt w now)
+    (λ e. let l = clock-taken (w .runtime .«trusted_time_high_water») now (then-taken (roomAnswer w room (revokingWords w)) (clockAnswer
+    (w .runtime .«trusted_time_high_water») now) e .1) in
     let R₁ = moved-rel R now (omega (arith, R .base .heads .clock)) in
     let R₂ = reledger R₁ (lapsed now (w .ledger)) (lapse-books (R₁ .base .books)) in
     shrink R₂ _ _ _ (revoke-all byError (about h) (withoutLapsed (atTime w now) now) (movedTo h now) (revokePending AcceptanceExpired) TicketExpired

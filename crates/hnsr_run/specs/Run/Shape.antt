@@ -53,8 +53,8 @@ pub record CircuitShape (c : RelayCircuit) : Type 0 where
   pub credits : (side : RelaySide) → creditOf side c ≤ mostWindow
 
 -- ---- the world
--- what `new` tested of the header; a switch raises the generation
-pub record HeaderShape (s : List ℕ) (g : ℕ) (c : OpaqueRelayConfig) : Type 0 where
+-- what `new` tested of the runtime; a switch raises the generation
+pub record RuntimeShape (s : List ℕ) (g : ℕ) (c : OpaqueRelayConfig) : Type 0 where
   pub session : allZero s ≡ false
   pub generation : 0 < g
   pub config : configGood c ≡ true
@@ -75,7 +75,7 @@ CircuitsShape c t = Fits isCircuit noCircuit CircuitShape (c .«maximum_circuits
 -- `enabled`, and what the actions hold
 pub record ShapeOf (s : List ℕ) (g : ℕ) (c : OpaqueRelayConfig) (ps : List RelayPending) (cs : List RelayCircuit)
     (ls : List ReservationUsage) (places : ℕ) : Type 0 where
-  pub header : HeaderShape s g c
+  pub runtime : RuntimeShape s g c
   pub pending : PendingsShape c ps
   pub circuits : CircuitsShape c cs
   -- an id is in one used record at most, of both tables together
@@ -84,7 +84,7 @@ pub record ShapeOf (s : List ℕ) (g : ℕ) (c : OpaqueRelayConfig) (ps : List R
   pub actions : c .«maximum_inflight_actions» ≤ places
 
 abbrev pub Shape : World → Type 0
-Shape w = ShapeOf (w .header .session) (generationOf w) (configOf w) (w .pending) (w .circuits) (w .ledger)
+Shape w = ShapeOf (w .runtime .session) (generationOf w) (configOf w) (w .pending) (w .circuits) (w .ledger)
     (length (w .inflight))
 
 -- ---- by id: what a lookup finds

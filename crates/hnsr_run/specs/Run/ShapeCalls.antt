@@ -148,7 +148,7 @@ open-with-shape : (w : World) (o : Opening) → Shape w → count isPending (w .
     → Free (idTaken w) (o .id) → Named (o .requester) → Named (o .endpoint) → Shape (withOpen w o)
 unfolding withOpen
 open-with-shape w o S few free asker endpoint = record {
-  header = S .header;
+  runtime = S .runtime;
   pending = put-fits (S .pending) (pendingAt (o .id)) (pendingFor o) few
       (λ u. record { some = free .some; requester = asker; endpoint = endpoint });
   circuits = S .circuits;
@@ -237,7 +237,7 @@ accept-with-shape w id b S f few most =
     let F = pick-fits (S .pending) (pendingAt id) u in
     let c = circuitFor (configOf w) p b in
     record {
-      header = S .header;
+      runtime = S .runtime;
       pending = less-fits (S .pending)
           (less-edit isPending noPending (pendingAt (p .«circuit_id»)) clearPending (w .pending) pending-unmarked);
       circuits = put-fits (S .circuits) (circuitAt (p .«circuit_id»)) c few

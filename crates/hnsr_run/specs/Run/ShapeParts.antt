@@ -52,7 +52,7 @@ module _ {s : List ℕ} {g : ℕ} {c : OpaqueRelayConfig} {ps : List RelayPendin
     {ls : List ReservationUsage} {n : ℕ} (S : ShapeOf s g c ps cs ls n) where
   pub actions-shape : {m : ℕ} → m ≡ n → ShapeOf s g c ps cs ls m
   actions-shape e = record {
-    header = S .header;
+    runtime = S .runtime;
     pending = S .pending;
     circuits = S .circuits;
     once = S .once;
@@ -62,7 +62,7 @@ module _ {s : List ℕ} {g : ℕ} {c : OpaqueRelayConfig} {ps : List RelayPendin
 
   pub less-pending : {t : List RelayPending} → Less isPending noPending ps t → ShapeOf s g c t cs ls n
   less-pending L = record {
-    header = S .header;
+    runtime = S .runtime;
     pending = less-fits (S .pending) L;
     circuits = S .circuits;
     once = λ id. omega (arith, S .once id, L .counts (pendingAt id) (pending-off id));
@@ -74,7 +74,7 @@ module _ {s : List ℕ} {g : ℕ} {c : OpaqueRelayConfig} {ps : List RelayPendin
   pub circuits-shape : {t : List RelayCircuit} → CircuitsShape c t
       → ((id : ℕ) → count (circuitAt id) t ≤ count (circuitAt id) cs) → ShapeOf s g c ps t ls n
   circuits-shape F few = record {
-    header = S .header;
+    runtime = S .runtime;
     pending = S .pending;
     circuits = F;
     once = λ id. omega (arith, S .once id, few id);
@@ -87,7 +87,7 @@ module _ {s : List ℕ} {g : ℕ} {c : OpaqueRelayConfig} {ps : List RelayPendin
 
   pub ledger-shape : {t : List ReservationUsage} → LedgerShape t → ShapeOf s g c ps cs t n
   ledger-shape L = record {
-    header = S .header;
+    runtime = S .runtime;
     pending = S .pending;
     circuits = S .circuits;
     once = S .once;

@@ -22,7 +22,7 @@ use Rattle.hnsr_circuit.specs.declared.answer.HnsrRuntimeError.the-variants.{In
 use Rattle.hnsr_circuit.specs.Answers.{check, _then_}
 use Rattle.hnsr_circuit.specs.Table.{pick, clear}
 use Rattle.hnsr_circuit.specs.Config.{configGood, validateConfig}
-use Rattle.hnsr_circuit.specs.Header.{newHeader}
+use Rattle.hnsr_circuit.specs.Runtime.{newRuntime}
 use Rattle.hnsr_circuit.specs.Entry.{tooFew, tablesShort}
 use Rattle.hnsr_circuit.specs.Pending.{noPending, isPending, pendingAt, clearPending}
 use Rattle.hnsr_circuit.specs.Circuits.{noCircuit, isCircuit, circuitAt, creditOf, clearCircuit, lowered}
@@ -100,7 +100,7 @@ acknowledge-shape w generation sequence delivered room S = proceed-shape w _ _ S
 -- ---- the revoking calls. A switch raises the generation
 switched-shape : (w : World) (on : Bool) → Shape w → Shape (switched w on)
 switched-shape w on S = record {
-  header = record { session = S .header .session; generation = omega arith; config = S .header .config };
+  runtime = record { session = S .runtime .session; generation = omega arith; config = S .runtime .config };
   pending = S .pending;
   circuits = S .circuits;
   once = S .once;
@@ -147,10 +147,10 @@ new-taken : (w : World) (s : Start) → start w s .answer ≡ Taken
 unfolding start newRelay
 new-taken w s e =
     proceed-taken w (newAnswer w (s .session) (s .generation) (s .config))
-    (done (emptied w (newHeader (s .session) (s .generation) (s .config) (s .now))) []) e
+    (done (emptied w (newRuntime (s .session) (s .generation) (s .config) (s .now))) []) e
 
 new-world : (w : World) (s : Start) → newAnswer w (s .session) (s .generation) (s .config) ≡ Taken
-    → start w s .world ≡ emptied w (newHeader (s .session) (s .generation) (s .config) (s .now))
+    → start w s .world ≡ emptied w (newRuntime (s .session) (s .generation) (s .config) (s .now))
 unfolding start newRelay proceed
 new-world w s e = rw e
 
@@ -211,10 +211,10 @@ module _ {A : Type 0} (used : A → Bool) (unmark : A → A) (off : (a : A) → 
   }
 
 empty-shape : (w : World) (s : Start) → NewRows w s
-    → Shape (emptied w (newHeader (s .session) (s .generation) (s .config) (s .now)))
+    → Shape (emptied w (newRuntime (s .session) (s .generation) (s .config) (s .now)))
 unfolding emptied isPending isCircuit
 empty-shape w s D = record {
-  header = record { session = D .session; generation = D .generation; config = D .good };
+  runtime = record { session = D .session; generation = D .generation; config = D .good };
   pending = empty-fits isPending clearPending pending-unmarked noPending refl PendingShape
       (s .config .«maximum_pending») (w .pending) (D .pending);
   circuits = empty-fits isCircuit clearCircuit circuit-unmarked noCircuit refl CircuitShape

@@ -22,7 +22,7 @@ use Rattle.hnsr_circuit.specs.Pending.{isPending, pendingAt, clearPending}
 use Rattle.hnsr_circuit.specs.Circuits.{isCircuit, circuitAt, clearCircuit}
 use Rattle.hnsr_circuit.specs.Ledger.{isUsage, usageAt, clearUsage}
 use Rattle.hnsr_circuit.specs.Inflight.{isAction, clearAction, dropped}
-use Rattle.hnsr_circuit.specs.Header.{newHeader}
+use Rattle.hnsr_circuit.specs.Runtime.{newRuntime}
 use Rattle.hnsr_circuit.specs.World.{World, done, proceed}
 use Rattle.hnsr_circuit.specs.Queue.{sequenceOf}
 use Rattle.hnsr_circuit.specs.Entry.{tooFew, tablesShort}
@@ -55,12 +55,12 @@ new-taken : (w : World) (s : Start) → start w s .answer ≡ Taken → newAnswe
 unfolding start newRelay proceed
 new-taken w s e = from (newAnswer w (s .session) (s .generation) (s .config)) e
   where
-    from : (a : HnsrAnswer) → proceed w a (done (emptied w (newHeader (s .session) (s .generation) (s .config) (s .now))) []) .answer ≡ Taken → a ≡ Taken
+    from : (a : HnsrAnswer) → proceed w a (done (emptied w (newRuntime (s .session) (s .generation) (s .config) (s .now))) []) .answer ≡ Taken → a ≡ Taken
     from Taken h = refl
     from (Refused x) h = refused-differs h
 
 new-world : (w : World) (s : Start) → newAnswer w (s .session) (s .generation) (s .config) ≡ Taken
-    → start w s .world ≡ emptied w (newHeader (s .session) (s .generation) (s .config) (s .now))
+    → start w s .world ≡ emptied w (newRuntime (s .session) (s .generation) (s .config) (s .now))
 unfolding start newRelay proceed
 new-world w s e = rw e
 
@@ -102,7 +102,7 @@ long w c e =
 
 module _ (w : World) (s : Start) (D : NewRows w (s .config)) (low : s .config .«maximum_bytes_per_circuit» < top 64) where
   abbrev fresh : World
-  fresh = emptied w (newHeader (s .session) (s .generation) (s .config) (s .now))
+  fresh = emptied w (newRuntime (s .session) (s .generation) (s .config) (s .now))
 
   lengths : Long w (s .config)
   lengths = long w (s .config) (D .short)
@@ -176,7 +176,7 @@ module _ (w : World) (s : Start) (D : NewRows w (s .config)) (low : s .config .�
       gone true n = refl
       gone false n = refl
 
-empty-sequence : (w : World) (s : Start) → sequenceOf (emptied w (newHeader (s .session) (s .generation) (s .config) (s .now))) ≡ 1
+empty-sequence : (w : World) (s : Start) → sequenceOf (emptied w (newRuntime (s .session) (s .generation) (s .config) (s .now))) ≡ 1
 unfolding emptied
 empty-sequence w s = refl
 

@@ -58,7 +58,7 @@ room-same w H room needed = ap (λ b. check (ltb room needed || b) Short) (long-
 
 -- ---- entry and clock, in the world and in the past
 pub entry-same : {w : World} {h : Past} → Rel w h → Places w → (q : Packet) (room : ℕ)
-    → (entryAnswer w q room then clockAnswer (w .header .«trusted_time_high_water») (q .now)) ≡ entered h q room
+    → (entryAnswer w q room then clockAnswer (w .runtime .«trusted_time_high_water») (q .now)) ≡ entered h q room
 unfolding entryAnswer
 entry-same {w} {h} R H q room = λ i. (room-same w H room handleWords i then peerAnswer (length (q .source)) then packetAnswer (q .opcode) (q .context) (length
     (q .body))) then clockAnswer (R .base .heads .clock i) (q .now)
@@ -117,12 +117,12 @@ module _ {w : World} {h : Past} (R : Rel w h) (H : Places w) (low : sequenceOf w
   gated : let o = handleGate w q in Rel (o .world) (cond (h .head .enabled) (handledAs (handlingOf (q .opcode)) q (o .answer) (o .routes) h) h)
   unfolding handleGate gateAnswer
   gated = proceed-cases (λ (o : Outcome). Rel (o .world) (cond (h .head .enabled) (handledAs (handlingOf (q .opcode)) q (o .answer) (o .routes) h) h)) w
-      (gateAnswer (w .header .enabled)) (dispatch (handlingOf (q .opcode)) w q)
-      (λ e. let on = sym (R .base .heads .enabled) ∙ not-false (w .header .enabled) (check-taken (not (w .header .enabled)) Disabled e) in
+      (gateAnswer (w .runtime .enabled)) (dispatch (handlingOf (q .opcode)) w q)
+      (λ e. let on = sym (R .base .heads .enabled) ∙ not-false (w .runtime .enabled) (check-taken (not (w .runtime .enabled)) Disabled e) in
       subst (λ b. Rel (dispatch (handlingOf (q .opcode)) w q .world) (cond b (handledAs (handlingOf (q .opcode)) q (dispatch (handlingOf (q .opcode)) w q .answer)
       (dispatch (handlingOf (q .opcode)) w q .routes) h) h)) (sym on) (dispatched on))
       (λ e f. if-not (λ (g : Past). Rel w g) (h .head .enabled) _ h (sym (R .base .heads .enabled)
-      ∙ not-true (w .header .enabled) (check-refused (not (w .header .enabled)) Disabled e f)) R)
+      ∙ not-true (w .runtime .enabled) (check-refused (not (w .runtime .enabled)) Disabled e f)) R)
 
 open-limit : (q : Packet) (room : ℕ) → limitsBelow (callHandle q room) ≡ true → q .opcode ≡ opOpen → q .admission .admitted ≡ true
     → q .admission .ticket .«max_total_bytes» < top 64
@@ -151,14 +151,14 @@ handle-keeps {w} {h} R H low q room lim = proceed-cases
     (λ e f. if-not (λ (g : Past). Rel w g) (taken (entered h q room)) _ h (ap taken (sym (entry-same R H q room) ∙ f) ∙ not-taken e) R)
   where
     high : ℕ
-    high = w .header .«trusted_time_high_water»
+    high = w .runtime .«trusted_time_high_water»
 
 -- ---- every call
 observe-keeps : {w : World} {h : Past} → Rel w h → (now : ℕ) → let o = observeTime w now in Rel (o .world) (after h (callObserveTime now) (o .answer) (o .routes))
 unfolding observeTime
 observe-keeps {w} {h} R now = proceed-cases (λ (o : Outcome). Rel (o .world) (after h (callObserveTime now) (o .answer) (o .routes))) w (clockAnswer
-    (w .header .«trusted_time_high_water») now) (done (atTime w now) [])
-    (λ e. moved-rel R now (let l = clock-taken (w .header .«trusted_time_high_water») now e in omega (arith, R .base .heads .clock)))
+    (w .runtime .«trusted_time_high_water») now) (done (atTime w now) [])
+    (λ e. moved-rel R now (let l = clock-taken (w .runtime .«trusted_time_high_water») now e in omega (arith, R .base .heads .clock)))
     (λ e f. if-taken (λ (g : Past). Rel w g) e _ h R)
 
 -- what a call of the machine tells

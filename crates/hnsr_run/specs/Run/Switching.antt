@@ -127,10 +127,10 @@ unfolding replaceEnabled
 replace-keeps {w} {h} R expected on room = proceed-cases P w (roomAnswer w room (revokingWords w) then generationAnswer (generationOf w) expected then changeAnswer
     (generationOf w) (changes w on)) (cond (changes w on) (switchTo w on) (done w []))
     (λ e. choose P (changes w on) (switchTo w on) (done w [])
-    (λ c. let s = switch-keeps R on (ap (λ b. Bool·beq b on) (sym (R .base .heads .enabled)) ∙ not-true (Bool·beq (w .header .enabled) on) c) in
+    (λ c. let s = switch-keeps R on (ap (λ b. Bool·beq b on) (sym (R .base .heads .enabled)) ∙ not-true (Bool·beq (w .runtime .enabled) on) c) in
     subst (λ a. Rel (switchTo w on .world) (cond (taken a) (enableIn on (switchTo w on .routes) h) h)) (sym (s .1)) (s .0))
     (λ c. subst (λ b. Rel w (cond b h (cond on (emit (switchedTo h on) (heard (λ r. r .context)) []) (revoked (switchedTo h on) everyOpen everyCircuit [])))) (sym (ap
-    (λ b. Bool·beq b on) (sym (R .base .heads .enabled)) ∙ beq-off (w .header .enabled) on c)) R))
+    (λ b. Bool·beq b on) (sym (R .base .heads .enabled)) ∙ beq-off (w .runtime .enabled) on c)) R))
     (λ e f. if-taken (λ (g : Past). Rel w g) e _ h R)
   where
     P : Outcome → Type 0

@@ -25,7 +25,7 @@ use Rattle.hnsr_circuit.specs.World.{World, Outcome, configOf, done, counting}
 use Rattle.hnsr_circuit.specs.Queue.{Sent, finished, generationOf, sequenceOf}
 use Rattle.hnsr_circuit.specs.Opcode.{opClose, opError}
 use Rattle.hnsr_circuit.specs.Entry.{tablesShort, roomAnswer, acknowledgeWords}
-use Rattle.hnsr_circuit.specs.Header.{countRevoked}
+use Rattle.hnsr_circuit.specs.Runtime.{countRevoked}
 use Rattle.hnsr_circuit.specs.Revocation.{withoutPending, errorToRequester, closeTo, hasPending, pendingIn, revokeCircuit}
 use Rattle.hnsr_circuit.specs.Acknowledge.{generationAnswer, actionAnswer, withoutAction, released, failPending, failIncoming, undelivered, settled, acknowledgeTaken, acknowledgeAction, acknowledge}
 use Rattle.hnsr_circuit.specs.Call.{callAcknowledge}

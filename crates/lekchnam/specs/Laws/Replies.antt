@@ -24,7 +24,7 @@ pub made-in-numbers : {r : RelayReply} {d : Relayed} (p : List RelayPending) (c 
 made-in-numbers p c l i o e m = record {
   answer = ap (λ (q : RelayReply). q .answer) e ∙ ap number (m .answer);
   cause = ap (λ (q : RelayReply). q .cause) e ∙ ap causeOf (m .answer);
-  tables = ap (λ (q : RelayReply). worldSeen (o .world .header) (q .places) p c l i) e ∙ m .tables;
+  tables = ap (λ (q : RelayReply). worldSeen (o .world .runtime) (q .places) p c l i) e ∙ m .tables;
   runtime = ap (λ (q : RelayReply). q .runtime) e ∙ m .runtime;
   places = ap (λ (q : RelayReply). q .places) e ∙ m .places;
   words = ap (λ (q : RelayReply). q .words) e ∙ m .words;

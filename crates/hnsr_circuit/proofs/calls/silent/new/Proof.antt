@@ -24,7 +24,7 @@ use Rattle.hnsr_circuit.specs.Ledger.{isUsage, clearUsage}
 use Rattle.hnsr_circuit.specs.Code.Held.{heldPending, heldCircuits, heldLedger, heldActions}
 use Rattle.hnsr_circuit.specs.Laws.HeldTables.{pending-still, circuit-still, usage-still, action-still}
 use Rattle.hnsr_circuit.specs.declared.tables.places.Places.{Places}
-use Rattle.hnsr_circuit.specs.Header.{newHeader}
+use Rattle.hnsr_circuit.specs.Runtime.{newRuntime}
 use Rattle.hnsr_circuit.proofs.calls.silent.new.Statement.{statement}
 use Rattle.hnsr_circuit.proofs.calls.silent.new.Proof.Tie as tie
 use Rattle.hnsr_circuit.proofs.calls.silent.new.Proof.At as at
@@ -44,7 +44,7 @@ returns c =
     let t = sym (here .is-taken .ensures) ∙ here .if1 .taken in
     empties h _ (a .pending .now) _ (a .circuits .now) _ (a .ledger .now) _ (a .inflight .now) _ (here .taken-with .result) (here .new-answer .result) _
     (here .new-answer .ensures ∙ ap (λ (b : Bool). sessionAnswer (a .session) (a .generation) then validateConfig (a .config) then check (b || eqb (length (a .ledger .now)) 0) Short) (here .too-few .ensures))
-    (e .0 .0 ∙ here .new-header .ensures, e .0 .1 ∙ sym (taken-is (here .new-answer .result) t), e .0 .2) k
+    (e .0 .0 ∙ here .new-runtime .ensures, e .0 .1 ∙ sym (taken-is (here .new-answer .result) t), e .0 .2) k
     (ap (λ (n : Places). heldPending n (a .pending .now)) k ∙ held-cleared clearPending isPending pending-still (a .pending .now))
     (ap (λ (n : Places). heldCircuits n (a .circuits .now)) k ∙ held-cleared clearCircuit isCircuit circuit-still (a .circuits .now))
     (ap (λ (n : Places). heldLedger n (a .ledger .now)) k ∙ held-cleared clearUsage isUsage usage-still (a .ledger .now))
@@ -61,7 +61,7 @@ returns-2 c =
     let e = here .refused .ensures in
     let k = e .1 ∙ here .every-place .ensures in
     let b = bounds s in
-    refuses-new h (newHeader (a .session) (a .generation) (a .config) (a .time)) (a .pending .now) _ (a .circuits .now) _ (a .ledger .now) _ (a .inflight .now) _ (here .refused .result) (here .new-answer .result) _
+    refuses-new h (newRuntime (a .session) (a .generation) (a .config) (a .time)) (a .pending .now) _ (a .circuits .now) _ (a .ledger .now) _ (a .inflight .now) _ (here .refused .result) (here .new-answer .result) _
     (here .new-answer .ensures ∙ ap (λ (b : Bool). sessionAnswer (a .session) (a .generation) then validateConfig (a .config) then check (b || eqb (length (a .ledger .now)) 0) Short) (here .too-few .ensures))
     (e .0 .0 ∙ here .no-runtime .ensures, e .0 .1, e .0 .2) k
     (ap (λ (n : Places). heldPending n (a .pending .now)) k ∙ held-all clearPending 18446744073709551615 (a .pending .now) (omega (arith, b .0)))

@@ -8,7 +8,7 @@ use mathlib.Core.Bool.{true≢false, false≢true}
 use Rattle.hns_encoding.specs.Numbers.{top, saturatingAdd}
 use Rattle.hnsr_circuit.specs.declared.answer.HnsrAnswer.{HnsrAnswer}
 use Rattle.hnsr_circuit.specs.Answers.{taken, _then_}
-use Rattle.hnsr_circuit.specs.Header.{withSequence}
+use Rattle.hnsr_circuit.specs.Runtime.{withSequence}
 use Rattle.hnsr_circuit.specs.Laws.Queueing.{queue-sequence}
 use borrow.Author.Needs.{needs}
 use Rattle.hnsr_circuit.proofs.output.queue.queue.Statement.{statement}

@@ -297,7 +297,7 @@ b10 = Syntax.call "hnsr_circuit::answer::is_taken" ((Syntax.copy (Syntax.place 1
     (Syntax.place 22 List.[])
 
 abbrev b11 : Syntax.Body
-b11 = Syntax.call "hnsr_circuit::records::header::with_clock" ((Syntax.copy (Syntax.place 6 List.[])) ∷
+b11 = Syntax.call "hnsr_circuit::records::runtime::with_clock" ((Syntax.copy (Syntax.place 6 List.[])) ∷
     (Syntax.copy (Syntax.place 8 ((Syntax.field 2) ∷ List.[]))) ∷ List.[]) (Syntax.place 17 List.[])
 
 abbrev b12 : Syntax.Body
@@ -1552,7 +1552,7 @@ module _ (claims· : Claims) where
           Plain.Known 𝓤 H A W 𝓣 0 ps·1 r·1 (claims· .2) (claims· .3) "hnsr_circuit::calls::handle::room_answer") (known2
           : Plain.Known 𝓤 H A W 𝓣 0 ps·2 r·2 (claims· .4) (claims· .5) "hnsr_circuit::calls::handle::entry_answer") (known3
           : Plain.Known 𝓤 H A W 𝓣 0 ps·3 r·3 (claims· .6) (claims· .7) "hnsr_circuit::answer::is_taken") (known4 :
-          Plain.Known 𝓤 H A W 𝓣 0 ps·4 r·4 (claims· .8) (claims· .9) "hnsr_circuit::records::header::with_clock") (known5
+          Plain.Known 𝓤 H A W 𝓣 0 ps·4 r·4 (claims· .8) (claims· .9) "hnsr_circuit::records::runtime::with_clock") (known5
           : Plain.Known 𝓤 H A W 𝓣 4 ps·5 r·5 (claims· .10) (claims· .11) "hnsr_circuit::tables::lookup::trim") (known6
           : Plain.Known 𝓤 H A W 𝓣 9 ps·6 r·6 (claims· .12) (claims· .13) "hnsr_circuit::calls::handle::handle_gate") (known7
           : Plain.Known 𝓤 H A W 𝓣 0 ps·7 r·7 (claims· .14) (claims· .15) "hnsr_circuit::runtime::refused") →
@@ -1888,7 +1888,7 @@ module _ (claims· : Claims) where
             Plain.Known 𝓤 H A W 𝓣 0 ps·1 r·1 (claims· .2) (claims· .3) "hnsr_circuit::calls::handle::room_answer" ×
             Plain.Known 𝓤 H A W 𝓣 0 ps·2 r·2 (claims· .4) (claims· .5) "hnsr_circuit::calls::handle::entry_answer" ×
             Plain.Known 𝓤 H A W 𝓣 0 ps·3 r·3 (claims· .6) (claims· .7) "hnsr_circuit::answer::is_taken" × Plain.Known 𝓤
-            H A W 𝓣 0 ps·4 r·4 (claims· .8) (claims· .9) "hnsr_circuit::records::header::with_clock" × Plain.Known 𝓤 H
+            H A W 𝓣 0 ps·4 r·4 (claims· .8) (claims· .9) "hnsr_circuit::records::runtime::with_clock" × Plain.Known 𝓤 H
             A W 𝓣 4 ps·5 r·5 (claims· .10) (claims· .11) "hnsr_circuit::tables::lookup::trim" × Plain.Known 𝓤 H A W 𝓣 9
             ps·6 r·6 (claims· .12) (claims· .13) "hnsr_circuit::calls::handle::handle_gate" × Plain.Known 𝓤 H A W 𝓣 0
             ps·7 r·7 (claims· .14) (claims· .15) "hnsr_circuit::runtime::refused"
@@ -4195,7 +4195,7 @@ module _ (claims· : Claims) where
 
           d68 : Typed.Typed 𝓤 H A 𝓣 E G28 b53 Δ1 (at68 bs)
           d68 = Typed.s-seq 𝓤 H A W 𝓣 E G28 G29 b11 b52 Δ1 (Typed.both (s26 bs)) (at67 bs) (Plain.t-call-plain 𝓤 H A W
-              𝓣 0 ps·4 r·4 (claims· .8) (claims· .9) "hnsr_circuit::records::header::with_clock" (known .4) E
+              𝓣 0 ps·4 r·4 (claims· .8) (claims· .9) "hnsr_circuit::records::runtime::with_clock" (known .4) E
               (λ pos β. β) G28 (
                 record { pos = 6; st = List.[]; d = 0; at = λ x. x },
                 (Num.vFld 8 ((Syntax.field 2) ∷ List.[]) 16 λ x. RelayPacket.struct .as-values x .1 .1 .0, tt),
@@ -6399,7 +6399,7 @@ module _ (claims· : Claims) where
             "hnsr_circuit::calls::handle::room_answer") (known2 : Plain.Known 𝓤 H A W 𝓣 0 ps·2 r·2 (claims· .4)
             (claims· .5) "hnsr_circuit::calls::handle::entry_answer") (known3 : Plain.Known 𝓤 H A W 𝓣 0 ps·3 r·3
             (claims· .6) (claims· .7) "hnsr_circuit::answer::is_taken") (known4 : Plain.Known 𝓤 H A W 𝓣 0 ps·4 r·4
-            (claims· .8) (claims· .9) "hnsr_circuit::records::header::with_clock") (known5 : Plain.Known 𝓤 H A W 𝓣 4
+            (claims· .8) (claims· .9) "hnsr_circuit::records::runtime::with_clock") (known5 : Plain.Known 𝓤 H A W 𝓣 4
             ps·5 r·5 (claims· .10) (claims· .11) "hnsr_circuit::tables::lookup::trim") (known6 : Plain.Known 𝓤 H A W 𝓣
             9 ps·6 r·6 (claims· .12) (claims· .13) "hnsr_circuit::calls::handle::handle_gate") (known7 : Plain.Known 𝓤
             H A W 𝓣 0 ps·7 r·7 (claims· .14) (claims· .15) "hnsr_circuit::runtime::refused") where

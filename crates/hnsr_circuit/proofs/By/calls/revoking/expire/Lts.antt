@@ -320,7 +320,7 @@ b16 = Syntax.call "hnsr_circuit::answer::is_taken" ((Syntax.copy (Syntax.place 1
     (Syntax.place 26 List.[])
 
 abbrev b17 : Syntax.Body
-b17 = Syntax.call "hnsr_circuit::records::header::with_clock" ((Syntax.copy (Syntax.place 6 List.[])) ∷
+b17 = Syntax.call "hnsr_circuit::records::runtime::with_clock" ((Syntax.copy (Syntax.place 6 List.[])) ∷
     (Syntax.copy (Syntax.place 8 List.[])) ∷ List.[]) (Syntax.place 16 List.[])
 
 abbrev b18 : Syntax.Body
@@ -1479,7 +1479,7 @@ module _ (claims· : Claims) where
           : Plain.Known 𝓤 H A W 𝓣 0 ps·2 r·2 (claims· .4) (claims· .5) "hnsr_circuit::entry::clock_answer") (known3 :
           Plain.Known 𝓤 H A W 𝓣 0 ps·3 r·3 (claims· .6) (claims· .7) "hnsr_circuit::answer::first_refusal") (known4 :
           Plain.Known 𝓤 H A W 𝓣 0 ps·4 r·4 (claims· .8) (claims· .9) "hnsr_circuit::answer::is_taken") (known5 :
-          Plain.Known 𝓤 H A W 𝓣 0 ps·5 r·5 (claims· .10) (claims· .11) "hnsr_circuit::records::header::with_clock") (known6
+          Plain.Known 𝓤 H A W 𝓣 0 ps·5 r·5 (claims· .10) (claims· .11) "hnsr_circuit::records::runtime::with_clock") (known6
           : Plain.Known 𝓤 H A W 𝓣 1 ps·6 r·6 (claims· .12) (claims· .13) "hnsr_circuit::tables::ledger::drop_lapsed") (known7
           : Plain.Known 𝓤 H A W 𝓣 4 ps·7 r·7 (claims· .14) (claims· .15) "hnsr_circuit::calls::revocation::revoke_all") (known8
           : Plain.Known 𝓤 H A W 𝓣 0 ps·8 r·8 (claims· .16) (claims· .17) "hnsr_circuit::runtime::refused") →
@@ -1777,7 +1777,7 @@ module _ (claims· : Claims) where
             Plain.Known 𝓤 H A W 𝓣 0 ps·2 r·2 (claims· .4) (claims· .5) "hnsr_circuit::entry::clock_answer" ×
             Plain.Known 𝓤 H A W 𝓣 0 ps·3 r·3 (claims· .6) (claims· .7) "hnsr_circuit::answer::first_refusal" ×
             Plain.Known 𝓤 H A W 𝓣 0 ps·4 r·4 (claims· .8) (claims· .9) "hnsr_circuit::answer::is_taken" × Plain.Known 𝓤
-            H A W 𝓣 0 ps·5 r·5 (claims· .10) (claims· .11) "hnsr_circuit::records::header::with_clock" × Plain.Known 𝓤
+            H A W 𝓣 0 ps·5 r·5 (claims· .10) (claims· .11) "hnsr_circuit::records::runtime::with_clock" × Plain.Known 𝓤
             H A W 𝓣 1 ps·6 r·6 (claims· .12) (claims· .13) "hnsr_circuit::tables::ledger::drop_lapsed" × Plain.Known 𝓤
             H A W 𝓣 4 ps·7 r·7 (claims· .14) (claims· .15) "hnsr_circuit::calls::revocation::revoke_all" × Plain.Known
             𝓤 H A W 𝓣 0 ps·8 r·8 (claims· .16) (claims· .17) "hnsr_circuit::runtime::refused"
@@ -3293,7 +3293,7 @@ module _ (claims· : Claims) where
 
           d41 : Typed.Typed 𝓤 H A 𝓣 E G41 b43 Δ1 (at41 bs)
           d41 = Typed.s-seq 𝓤 H A W 𝓣 E G41 G42 b17 b42 Δ1 (Typed.both (s39 bs)) (at40 bs) (Plain.t-call-plain 𝓤 H A W
-              𝓣 0 ps·5 r·5 (claims· .10) (claims· .11) "hnsr_circuit::records::header::with_clock" (known .5) E
+              𝓣 0 ps·5 r·5 (claims· .10) (claims· .11) "hnsr_circuit::records::runtime::with_clock" (known .5) E
               (λ pos β. β) G41 (record { pos = 6; st = List.[]; d = 0; at = λ x. x }, (Num.vAt 8 λ x. x, tt)) 16
               List.[] (Call.sub-id 𝓤 H A W (G41 .slots)) (
                 (
@@ -5685,7 +5685,7 @@ module _ (claims· : Claims) where
             (claims· .4) (claims· .5) "hnsr_circuit::entry::clock_answer") (known3 : Plain.Known 𝓤 H A W 𝓣 0 ps·3 r·3
             (claims· .6) (claims· .7) "hnsr_circuit::answer::first_refusal") (known4 : Plain.Known 𝓤 H A W 𝓣 0 ps·4 r·4
             (claims· .8) (claims· .9) "hnsr_circuit::answer::is_taken") (known5 : Plain.Known 𝓤 H A W 𝓣 0 ps·5 r·5
-            (claims· .10) (claims· .11) "hnsr_circuit::records::header::with_clock") (known6 : Plain.Known 𝓤 H A W 𝓣 1
+            (claims· .10) (claims· .11) "hnsr_circuit::records::runtime::with_clock") (known6 : Plain.Known 𝓤 H A W 𝓣 1
             ps·6 r·6 (claims· .12) (claims· .13) "hnsr_circuit::tables::ledger::drop_lapsed") (known7 : Plain.Known 𝓤 H
             A W 𝓣 4 ps·7 r·7 (claims· .14) (claims· .15) "hnsr_circuit::calls::revocation::revoke_all") (known8 :
             Plain.Known 𝓤 H A W 𝓣 0 ps·8 r·8 (claims· .16) (claims· .17) "hnsr_circuit::runtime::refused") where

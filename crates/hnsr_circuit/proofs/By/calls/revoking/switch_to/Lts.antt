@@ -169,7 +169,7 @@ hs = Syntax.valueLocal ∷ Syntax.valueLocal ∷ Syntax.valueLocal ∷ Syntax.va
     Syntax.valueLocal ∷ Syntax.valueLocal ∷ Syntax.valueLocal ∷ Syntax.valueLocal ∷ Syntax.valueLocal ∷ List.[]
 
 abbrev b0 : Syntax.Body
-b0 = Syntax.call "hnsr_circuit::records::header::with_enabled" ((Syntax.copy (Syntax.place 5 List.[])) ∷
+b0 = Syntax.call "hnsr_circuit::records::runtime::with_enabled" ((Syntax.copy (Syntax.place 5 List.[])) ∷
     (Syntax.copy (Syntax.place 7 List.[])) ∷ List.[]) (Syntax.place 10 List.[])
 
 abbrev b1 : Syntax.Body
@@ -919,7 +919,7 @@ module _ (claims· : Claims) where
     module _ (M : Type 1) where
       abbrev pub Closed : Type 2
       Closed = (𝓤 : URA.URA M) (H : Wp.Heap 𝓤) (A : Atoms.Atoms 𝓤) (W : Kit.Given 𝓤 H A) (𝓣 : Wp.Tables 𝓤 H) (known0 :
-          Plain.Known 𝓤 H A W 𝓣 0 ps·0 r·0 (claims· .0) (claims· .1) "hnsr_circuit::records::header::with_enabled") (known1
+          Plain.Known 𝓤 H A W 𝓣 0 ps·0 r·0 (claims· .0) (claims· .1) "hnsr_circuit::records::runtime::with_enabled") (known1
           : Plain.Known 𝓤 H A W 𝓣 0 ps·1 r·1 (claims· .2) (claims· .3) "hnsr_circuit::peer::no_peer") (known2 :
           Plain.Known 𝓤 H A W 𝓣 1 ps·2 r·2 (claims· .4) (claims· .5) "hnsr_circuit::tables::inflight::clear_action") (known3
           : Plain.Known 𝓤 H A W 𝓣 0 ps·3 r·3 (claims· .6) (claims· .7) "hnsr_circuit::runtime::taken_with") (known4 :
@@ -1115,7 +1115,7 @@ module _ (claims· : Claims) where
           (𝓣 : Wp.Tables 𝓤 H) where
         abbrev Knowns : Type 1
         Knowns = Plain.Known 𝓤 H A W 𝓣 0 ps·0 r·0 (claims· .0) (claims· .1)
-            "hnsr_circuit::records::header::with_enabled" × Plain.Known 𝓤 H A W 𝓣 0 ps·1 r·1 (claims· .2) (claims· .3)
+            "hnsr_circuit::records::runtime::with_enabled" × Plain.Known 𝓤 H A W 𝓣 0 ps·1 r·1 (claims· .2) (claims· .3)
             "hnsr_circuit::peer::no_peer" × Plain.Known 𝓤 H A W 𝓣 1 ps·2 r·2 (claims· .4) (claims· .5)
             "hnsr_circuit::tables::inflight::clear_action" × Plain.Known 𝓤 H A W 𝓣 0 ps·3 r·3 (claims· .6) (claims· .7)
             "hnsr_circuit::runtime::taken_with" × Plain.Known 𝓤 H A W 𝓣 4 ps·4 r·4 (claims· .8) (claims· .9)
@@ -2170,7 +2170,7 @@ module _ (claims· : Claims) where
 
           d58 : Typed.Typed 𝓤 H A 𝓣 E G2 b38 Δ0 at58
           d58 = Typed.s-seq 𝓤 H A W 𝓣 E G2 G3 b0 b37 Δ0 (Typed.both s1) at57 (Plain.t-call-plain 𝓤 H A W 𝓣 0 ps·0 r·0
-              (claims· .0) (claims· .1) "hnsr_circuit::records::header::with_enabled" (known .0) E (λ pos β. β) G2 (
+              (claims· .0) (claims· .1) "hnsr_circuit::records::runtime::with_enabled" (known .0) E (λ pos β. β) G2 (
                 record { pos = 5; st = List.[]; d = 0; at = λ x. x },
                 (Bool.bAt 7 λ x. x, tt),
               ) 10 List.[] (Call.sub-id 𝓤 H A W (G2 .slots)) (
@@ -3101,7 +3101,7 @@ module _ (claims· : Claims) where
 
         module _ {M : Type 1} (𝓤 : URA.URA M) (H : Wp.Heap 𝓤) (A : Atoms.Atoms 𝓤) (W : Kit.Given 𝓤 H A)
             (𝓣 : Wp.Tables 𝓤 H) (known0 : Plain.Known 𝓤 H A W 𝓣 0 ps·0 r·0 (claims· .0) (claims· .1)
-            "hnsr_circuit::records::header::with_enabled") (known1 : Plain.Known 𝓤 H A W 𝓣 0 ps·1 r·1 (claims· .2)
+            "hnsr_circuit::records::runtime::with_enabled") (known1 : Plain.Known 𝓤 H A W 𝓣 0 ps·1 r·1 (claims· .2)
             (claims· .3) "hnsr_circuit::peer::no_peer") (known2 : Plain.Known 𝓤 H A W 𝓣 1 ps·2 r·2 (claims· .4)
             (claims· .5) "hnsr_circuit::tables::inflight::clear_action") (known3 : Plain.Known 𝓤 H A W 𝓣 0 ps·3 r·3
             (claims· .6) (claims· .7) "hnsr_circuit::runtime::taken_with") (known4 : Plain.Known 𝓤 H A W 𝓣 4 ps·4 r·4

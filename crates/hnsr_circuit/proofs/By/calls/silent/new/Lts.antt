@@ -176,7 +176,7 @@ b5 = Syntax.call "hnsr_circuit::calls::silent::new_answer" ((Syntax.copy (Syntax
     (Syntax.place 10 List.[])
 
 abbrev b6 : Syntax.Body
-b6 = Syntax.call "hnsr_circuit::records::header::new_header" ((Syntax.copy (Syntax.place 5 List.[])) ∷
+b6 = Syntax.call "hnsr_circuit::records::runtime::new_runtime" ((Syntax.copy (Syntax.place 5 List.[])) ∷
     (Syntax.copy (Syntax.place 6 List.[])) ∷ (Syntax.copy (Syntax.place 7 List.[])) ∷
     (Syntax.copy (Syntax.place 8 List.[])) ∷ List.[]) (Syntax.place 11 List.[])
 
@@ -207,7 +207,7 @@ abbrev b14 : Syntax.Body
 b14 = Syntax.cond (Syntax.copy (Syntax.place 18 List.[])) b12 b13
 
 abbrev b15 : Syntax.Body
-b15 = Syntax.call "hnsr_circuit::records::header::no_runtime" List.[] (Syntax.place 13 List.[])
+b15 = Syntax.call "hnsr_circuit::records::runtime::no_runtime" List.[] (Syntax.place 13 List.[])
 
 abbrev b16 : Syntax.Body
 b16 = Syntax.call "hnsr_circuit::tables::places::every_place" List.[] (Syntax.place 14 List.[])
@@ -730,11 +730,11 @@ module _ (claims· : Claims) where
       Closed = (𝓤 : URA.URA M) (H : Wp.Heap 𝓤) (A : Atoms.Atoms 𝓤) (W : Kit.Given 𝓤 H A) (𝓣 : Wp.Tables 𝓤 H) (known0 :
           Plain.Known 𝓤 H A W 𝓣 0 ps·0 r·0 (claims· .0) (claims· .1) "hnsr_circuit::entry::too_few") (known1 :
           Plain.Known 𝓤 H A W 𝓣 0 ps·1 r·1 (claims· .2) (claims· .3) "hnsr_circuit::calls::silent::new_answer") (known2
-          : Plain.Known 𝓤 H A W 𝓣 0 ps·2 r·2 (claims· .4) (claims· .5) "hnsr_circuit::records::header::new_header") (known3
+          : Plain.Known 𝓤 H A W 𝓣 0 ps·2 r·2 (claims· .4) (claims· .5) "hnsr_circuit::records::runtime::new_runtime") (known3
           : Plain.Known 𝓤 H A W 𝓣 0 ps·3 r·3 (claims· .6) (claims· .7) "hnsr_circuit::answer::is_taken") (known4 :
           Plain.Known 𝓤 H A W 𝓣 0 ps·4 r·4 (claims· .8) (claims· .9) "hnsr_circuit::tables::places::no_place") (known5
           : Plain.Known 𝓤 H A W 𝓣 0 ps·5 r·5 (claims· .10) (claims· .11) "hnsr_circuit::runtime::taken_with") (known6 :
-          Plain.Known 𝓤 H A W 𝓣 0 ps·6 r·6 (claims· .12) (claims· .13) "hnsr_circuit::records::header::no_runtime") (known7
+          Plain.Known 𝓤 H A W 𝓣 0 ps·6 r·6 (claims· .12) (claims· .13) "hnsr_circuit::records::runtime::no_runtime") (known7
           : Plain.Known 𝓤 H A W 𝓣 0 ps·7 r·7 (claims· .14) (claims· .15) "hnsr_circuit::tables::places::every_place") (known8
           : Plain.Known 𝓤 H A W 𝓣 0 ps·8 r·8 (claims· .16) (claims· .17) "hnsr_circuit::runtime::refused") →
           Statement.Triple 𝓤 (Wp.WpFn 𝓤 H (𝓣 .C) (𝓣 .Λ) (Function.fnOf 4 ps r xs m hs body))
@@ -866,11 +866,11 @@ module _ (claims· : Claims) where
         abbrev Knowns : Type 1
         Knowns = Plain.Known 𝓤 H A W 𝓣 0 ps·0 r·0 (claims· .0) (claims· .1) "hnsr_circuit::entry::too_few" ×
             Plain.Known 𝓤 H A W 𝓣 0 ps·1 r·1 (claims· .2) (claims· .3) "hnsr_circuit::calls::silent::new_answer" ×
-            Plain.Known 𝓤 H A W 𝓣 0 ps·2 r·2 (claims· .4) (claims· .5) "hnsr_circuit::records::header::new_header" ×
+            Plain.Known 𝓤 H A W 𝓣 0 ps·2 r·2 (claims· .4) (claims· .5) "hnsr_circuit::records::runtime::new_runtime" ×
             Plain.Known 𝓤 H A W 𝓣 0 ps·3 r·3 (claims· .6) (claims· .7) "hnsr_circuit::answer::is_taken" × Plain.Known 𝓤
             H A W 𝓣 0 ps·4 r·4 (claims· .8) (claims· .9) "hnsr_circuit::tables::places::no_place" × Plain.Known 𝓤 H A W
             𝓣 0 ps·5 r·5 (claims· .10) (claims· .11) "hnsr_circuit::runtime::taken_with" × Plain.Known 𝓤 H A W 𝓣 0 ps·6
-            r·6 (claims· .12) (claims· .13) "hnsr_circuit::records::header::no_runtime" × Plain.Known 𝓤 H A W 𝓣 0 ps·7
+            r·6 (claims· .12) (claims· .13) "hnsr_circuit::records::runtime::no_runtime" × Plain.Known 𝓤 H A W 𝓣 0 ps·7
             r·7 (claims· .14) (claims· .15) "hnsr_circuit::tables::places::every_place" × Plain.Known 𝓤 H A W 𝓣 0 ps·8
             r·8 (claims· .16) (claims· .17) "hnsr_circuit::runtime::refused"
 
@@ -1166,7 +1166,7 @@ module _ (claims· : Claims) where
 
           d23 : Typed.Typed 𝓤 H A 𝓣 E G16 b21 Δ0 at23
           d23 = Typed.s-seq 𝓤 H A W 𝓣 E G16 G28 b15 b20 Δ0 (Typed.both s25) at22 (Plain.t-call-plain 𝓤 H A W 𝓣 0 ps·6
-              r·6 (claims· .12) (claims· .13) "hnsr_circuit::records::header::no_runtime" (known .6) E (λ pos β. β) G16
+              r·6 (claims· .12) (claims· .13) "hnsr_circuit::records::runtime::no_runtime" (known .6) E (λ pos β. β) G16
               tt 13 List.[] (Call.sub-id 𝓤 H A W (G16 .slots)) tt (Reads.room-gone 𝓤 H A Laws''.mir) tt Path.refl) d22
 
           d24 : Typed.Typed 𝓤 H A 𝓣 E G15 b22 Δ0 at24
@@ -1198,7 +1198,7 @@ module _ (claims· : Claims) where
 
           d28 : Typed.Typed 𝓤 H A 𝓣 E G11 b24 Δ0 at28
           d28 = Typed.s-seq 𝓤 H A W 𝓣 E G11 G12 b6 b23 Δ0 (Typed.both s10) at27 (Plain.t-call-plain 𝓤 H A W 𝓣 0 ps·2
-              r·2 (claims· .4) (claims· .5) "hnsr_circuit::records::header::new_header" (known .2) E (λ pos β. β) G11 (
+              r·2 (claims· .4) (claims· .5) "hnsr_circuit::records::runtime::new_runtime" (known .2) E (λ pos β. β) G11 (
                 record { pos = 5; st = List.[]; d = 0; at = λ x. x },
                 (Num.vAt 6 λ x. x, (record { pos = 7; st = List.[]; d = 0; at = λ x. x }, (Num.vAt 8 λ x. x, tt))),
               ) 11 List.[] (Call.sub-id 𝓤 H A W (G11 .slots)) (
@@ -1435,26 +1435,26 @@ module _ (claims· : Claims) where
           → Typed.Mo T11
       m10 = λ before given. s9 (m9 before given)
 
-      abbrev pub Need-new-header-requires : Type 0
-      Need-new-header-requires = (c : After-new-answer) → s10 .asks (m10 (c .before) (After-new-answer·gave c))
+      abbrev pub Need-new-runtime-requires : Type 0
+      Need-new-runtime-requires = (c : After-new-answer) → s10 .asks (m10 (c .before) (After-new-answer·gave c))
 
       abbrev pub m11 : (before : After-new-answer) → (given : s10 .gives
           (m10 (before .before) (After-new-answer·gave before))) → Typed.Mo T12
       m11 = λ before given. s10 .next (m10 (before .before) (After-new-answer·gave before)) given
 
       module _ (before· : After-new-answer) where
-        abbrev pub After-new-header·own : Type 0
-        After-new-header·own = Called.Called ps·2 r·2 (claims· .5) T11 args10
+        abbrev pub After-new-runtime·own : Type 0
+        After-new-runtime·own = Called.Called ps·2 r·2 (claims· .5) T11 args10
             (m10 (before· .before) (After-new-answer·gave before·))
 
-      pub record After-new-header : Type 0 where
+      pub record After-new-runtime : Type 0 where
         pub before : After-new-answer
-        pub new-header : After-new-header·own before
+        pub new-runtime : After-new-runtime·own before
 
-      abbrev pub After-new-header·gave : (c : After-new-header) → s10 .gives (m10 (c .before .before)
+      abbrev pub After-new-runtime·gave : (c : After-new-runtime) → s10 .gives (m10 (c .before .before)
           (After-new-answer·gave (c .before)))
-      After-new-header·gave = λ c. Called.given ps·2 r·2 (claims· .5) T11 args10 (m10 (c .before .before)
-          (After-new-answer·gave (c .before))) (c .new-header)
+      After-new-runtime·gave = λ c. Called.given ps·2 r·2 (claims· .5) T11 args10 (m10 (c .before .before)
+          (After-new-answer·gave (c .before))) (c .new-runtime)
 
       abbrev pub m12 : (before : After-new-answer) → (given : s10 .gives
           (m10 (before .before) (After-new-answer·gave before))) → Typed.Mo T13
@@ -1465,28 +1465,28 @@ module _ (claims· : Claims) where
       m13 = λ before given. s12 (m12 before given)
 
       abbrev pub Need-is-taken-requires : Type 0
-      Need-is-taken-requires = (c : After-new-header) → s13 .asks (m13 (c .before) (After-new-header·gave c))
+      Need-is-taken-requires = (c : After-new-runtime) → s13 .asks (m13 (c .before) (After-new-runtime·gave c))
 
-      abbrev pub m14 : (before : After-new-header) → (given : s13 .gives
-          (m13 (before .before) (After-new-header·gave before))) → Typed.Mo T15
-      m14 = λ before given. s13 .next (m13 (before .before) (After-new-header·gave before)) given
+      abbrev pub m14 : (before : After-new-runtime) → (given : s13 .gives
+          (m13 (before .before) (After-new-runtime·gave before))) → Typed.Mo T15
+      m14 = λ before given. s13 .next (m13 (before .before) (After-new-runtime·gave before)) given
 
-      module _ (before· : After-new-header) where
+      module _ (before· : After-new-runtime) where
         abbrev pub After-is-taken·own : Type 0
         After-is-taken·own = Called.Called ps·3 r·3 (claims· .7) T14 args13
-            (m13 (before· .before) (After-new-header·gave before·))
+            (m13 (before· .before) (After-new-runtime·gave before·))
 
       pub record After-is-taken : Type 0 where
-        pub before : After-new-header
+        pub before : After-new-runtime
         pub is-taken : After-is-taken·own before
 
       abbrev pub After-is-taken·gave : (c : After-is-taken) → s13 .gives (m13 (c .before .before)
-          (After-new-header·gave (c .before)))
+          (After-new-runtime·gave (c .before)))
       After-is-taken·gave = λ c. Called.given ps·3 r·3 (claims· .7) T14 args13 (m13 (c .before .before)
-          (After-new-header·gave (c .before))) (c .is-taken)
+          (After-new-runtime·gave (c .before))) (c .is-taken)
 
-      abbrev W1 : (before : After-new-header) → (given : s13 .gives
-          (m13 (before .before) (After-new-header·gave before))) → Typed.Want O1
+      abbrev W1 : (before : After-new-runtime) → (given : s13 .gives
+          (m13 (before .before) (After-new-runtime·gave before))) → Typed.Want O1
       W1 = λ before given. Typed.wantNext T16 O0 (at23 (W0 (before .before .before .before .κs)
           (before .before .before .before .args))) (W0 (before .before .before .before .κs)
           (before .before .before .before .args))
@@ -1686,7 +1686,7 @@ module _ (claims· : Claims) where
           (m34 (c .before) (After-refused·gave c) .1)))
 
       module _ (too-few-requires : Need-too-few-requires) (new-answer-requires : Need-new-answer-requires)
-          (new-header-requires : Need-new-header-requires) (is-taken-requires : Need-is-taken-requires)
+          (new-runtime-requires : Need-new-runtime-requires) (is-taken-requires : Need-is-taken-requires)
           (no-place-requires : Need-no-place-requires) (taken-with-requires : Need-taken-with-requires)
           (returns : Need-returns) (no-runtime-requires : Need-no-runtime-requires)
           (every-place-requires : Need-every-place-requires) (refused-requires : Need-refused-requires)
@@ -1770,23 +1770,23 @@ module _ (claims· : Claims) where
           },
         )
 
-        lay3 : (c : After-new-header) → at27 (W0 (c .before .before .before .κs) (c .before .before .before .args))
-            (m11 (c .before) (After-new-header·gave c))
+        lay3 : (c : After-new-runtime) → at27 (W0 (c .before .before .before .κs) (c .before .before .before .args))
+            (m11 (c .before) (After-new-runtime·gave c))
         lay3 = λ c. (
-          is-taken-requires record { before = c .before; new-header = c .new-header },
+          is-taken-requires record { before = c .before; new-runtime = c .new-runtime },
           λ g. lay4 record {
-            before = record { before = c .before; new-header = c .new-header };
-            is-taken = Called.called ps·3 r·3 (claims· .7) T14 args13 (m13 (c .before) (After-new-header·gave c)) g;
+            before = record { before = c .before; new-runtime = c .new-runtime };
+            is-taken = Called.called ps·3 r·3 (claims· .7) T14 args13 (m13 (c .before) (After-new-runtime·gave c)) g;
           },
         )
 
         lay2 : (c : After-new-answer) → at29 (W0 (c .before .before .κs) (c .before .before .args))
             (m9 (c .before) (After-new-answer·gave c))
         lay2 = λ c. (
-          new-header-requires record { before = c .before; new-answer = c .new-answer },
+          new-runtime-requires record { before = c .before; new-answer = c .new-answer },
           λ g. lay3 record {
             before = record { before = c .before; new-answer = c .new-answer };
-            new-header = Called.called ps·2 r·2 (claims· .5) T11 args10 (m10 (c .before) (After-new-answer·gave c)) g;
+            new-runtime = Called.called ps·2 r·2 (claims· .5) T11 args10 (m10 (c .before) (After-new-answer·gave c)) g;
           },
         )
 
@@ -1837,11 +1837,11 @@ module _ (claims· : Claims) where
             (𝓣 : Wp.Tables 𝓤 H) (known0 : Plain.Known 𝓤 H A W 𝓣 0 ps·0 r·0 (claims· .0) (claims· .1)
             "hnsr_circuit::entry::too_few") (known1 : Plain.Known 𝓤 H A W 𝓣 0 ps·1 r·1 (claims· .2) (claims· .3)
             "hnsr_circuit::calls::silent::new_answer") (known2 : Plain.Known 𝓤 H A W 𝓣 0 ps·2 r·2 (claims· .4)
-            (claims· .5) "hnsr_circuit::records::header::new_header") (known3 : Plain.Known 𝓤 H A W 𝓣 0 ps·3 r·3
+            (claims· .5) "hnsr_circuit::records::runtime::new_runtime") (known3 : Plain.Known 𝓤 H A W 𝓣 0 ps·3 r·3
             (claims· .6) (claims· .7) "hnsr_circuit::answer::is_taken") (known4 : Plain.Known 𝓤 H A W 𝓣 0 ps·4 r·4
             (claims· .8) (claims· .9) "hnsr_circuit::tables::places::no_place") (known5 : Plain.Known 𝓤 H A W 𝓣 0 ps·5
             r·5 (claims· .10) (claims· .11) "hnsr_circuit::runtime::taken_with") (known6 : Plain.Known 𝓤 H A W 𝓣 0 ps·6
-            r·6 (claims· .12) (claims· .13) "hnsr_circuit::records::header::no_runtime") (known7 : Plain.Known 𝓤 H A W
+            r·6 (claims· .12) (claims· .13) "hnsr_circuit::records::runtime::no_runtime") (known7 : Plain.Known 𝓤 H A W
             𝓣 0 ps·7 r·7 (claims· .14) (claims· .15) "hnsr_circuit::tables::places::every_place") (known8 : Plain.Known
             𝓤 H A W 𝓣 0 ps·8 r·8 (claims· .16) (claims· .17) "hnsr_circuit::runtime::refused") where
           pub spec : Statement.Triple 𝓤 (Wp.WpFn 𝓤 H (𝓣 .C) (𝓣 .Λ) (Function.fnOf 4 ps r xs m hs body))

@@ -258,7 +258,7 @@ b7 = Syntax.call "hnsr_circuit::tables::places::with_pending" ((Syntax.copy (Syn
     (Syntax.copy (Syntax.place 12 List.[])) ∷ List.[]) (Syntax.place 13 List.[])
 
 abbrev b8 : Syntax.Body
-b8 = Syntax.call "hnsr_circuit::records::header::opened" (Syntax.opdTrue ∷ (Syntax.copy (Syntax.place 4 List.[])) ∷
+b8 = Syntax.call "hnsr_circuit::records::runtime::opened" (Syntax.opdTrue ∷ (Syntax.copy (Syntax.place 4 List.[])) ∷
     List.[]) (Syntax.place 14 List.[])
 
 abbrev b9 : Syntax.Body
@@ -1126,7 +1126,7 @@ module _ (claims· : Claims) where
           Plain.Known 𝓤 H A W 𝓣 0 ps·2 r·2 (claims· .4) (claims· .5) "hnsr_circuit::messages::open::pending_for") (known3
           : Plain.Known 𝓤 H A W 𝓣 1 ps·3 r·3 (claims· .6) (claims· .7) "hnsr_circuit::tables::stores::put_pending") (known4
           : Plain.Known 𝓤 H A W 𝓣 0 ps·4 r·4 (claims· .8) (claims· .9) "hnsr_circuit::tables::places::with_pending") (known5
-          : Plain.Known 𝓤 H A W 𝓣 0 ps·5 r·5 (claims· .10) (claims· .11) "hnsr_circuit::records::header::opened") (known6
+          : Plain.Known 𝓤 H A W 𝓣 0 ps·5 r·5 (claims· .10) (claims· .11) "hnsr_circuit::records::runtime::opened") (known6
           : Plain.Known 𝓤 H A W 𝓣 0 ps·6 r·6 (claims· .12) (claims· .13) "hnsr_circuit::messages::open::incoming_out") (known7
           : Plain.Known 𝓤 H A W 𝓣 0 ps·7 r·7 (claims· .14) (claims· .15) "hnsr_circuit::messages::open::incoming_for") (known8
           : Plain.Known 𝓤 H A W 𝓣 0 ps·8 r·8 (claims· .16) (claims· .17)
@@ -1349,7 +1349,7 @@ module _ (claims· : Claims) where
             "hnsr_circuit::messages::open::pending_for" × Plain.Known 𝓤 H A W 𝓣 1 ps·3 r·3 (claims· .6) (claims· .7)
             "hnsr_circuit::tables::stores::put_pending" × Plain.Known 𝓤 H A W 𝓣 0 ps·4 r·4 (claims· .8) (claims· .9)
             "hnsr_circuit::tables::places::with_pending" × Plain.Known 𝓤 H A W 𝓣 0 ps·5 r·5 (claims· .10) (claims· .11)
-            "hnsr_circuit::records::header::opened" × Plain.Known 𝓤 H A W 𝓣 0 ps·6 r·6 (claims· .12) (claims· .13)
+            "hnsr_circuit::records::runtime::opened" × Plain.Known 𝓤 H A W 𝓣 0 ps·6 r·6 (claims· .12) (claims· .13)
             "hnsr_circuit::messages::open::incoming_out" × Plain.Known 𝓤 H A W 𝓣 0 ps·7 r·7 (claims· .14) (claims· .15)
             "hnsr_circuit::messages::open::incoming_for" × Plain.Known 𝓤 H A W 𝓣 0 ps·8 r·8 (claims· .16) (claims· .17)
             "hnsr_body::incoming_body::IncomingBody::to_bytes" × Plain.Known 𝓤 H A W 𝓣 3 ps·9 r·9 (claims· .18)
@@ -2279,7 +2279,7 @@ module _ (claims· : Claims) where
 
           d37 : Typed.Typed 𝓤 H A 𝓣 E G20 b32 Δ1 (at37 bs)
           d37 = Typed.s-seq 𝓤 H A W 𝓣 E G20 G21 b8 b31 Δ1 (Typed.both (s18 bs)) (at36 bs) (Plain.t-call-plain 𝓤 H A W 𝓣
-              0 ps·5 r·5 (claims· .10) (claims· .11) "hnsr_circuit::records::header::opened" (known .5) E (λ pos β. β)
+              0 ps·5 r·5 (claims· .10) (claims· .11) "hnsr_circuit::records::runtime::opened" (known .5) E (λ pos β. β)
               G20 (Bool.bLit Bool'.true, (record { pos = 4; st = List.[]; d = 0; at = λ x. x }, tt)) 14 List.[]
               (Call.sub-id 𝓤 H A W (G20 .slots)) (
                 tt,
@@ -3850,7 +3850,7 @@ module _ (claims· : Claims) where
             (claims· .5) "hnsr_circuit::messages::open::pending_for") (known3 : Plain.Known 𝓤 H A W 𝓣 1 ps·3 r·3
             (claims· .6) (claims· .7) "hnsr_circuit::tables::stores::put_pending") (known4 : Plain.Known 𝓤 H A W 𝓣 0
             ps·4 r·4 (claims· .8) (claims· .9) "hnsr_circuit::tables::places::with_pending") (known5 : Plain.Known 𝓤 H
-            A W 𝓣 0 ps·5 r·5 (claims· .10) (claims· .11) "hnsr_circuit::records::header::opened") (known6 : Plain.Known
+            A W 𝓣 0 ps·5 r·5 (claims· .10) (claims· .11) "hnsr_circuit::records::runtime::opened") (known6 : Plain.Known
             𝓤 H A W 𝓣 0 ps·6 r·6 (claims· .12) (claims· .13) "hnsr_circuit::messages::open::incoming_out") (known7 :
             Plain.Known 𝓤 H A W 𝓣 0 ps·7 r·7 (claims· .14) (claims· .15) "hnsr_circuit::messages::open::incoming_for") (known8
             : Plain.Known 𝓤 H A W 𝓣 0 ps·8 r·8 (claims· .16) (claims· .17)

@@ -21,9 +21,9 @@ use Rattle.hnsr_circuit.proofs.calls.handle.room_answer.Symbol as Symbo
 use Rattle.hnsr_circuit.proofs.entry.too_few.Met as Met''''
 use Rattle.hnsr_circuit.proofs.entry.too_few.Reads as Reads''''''
 use Rattle.hnsr_circuit.proofs.entry.too_few.Symbol as Symbol''''
-use Rattle.hnsr_circuit.proofs.records.header.with_clock.Met as Met'''''
-use Rattle.hnsr_circuit.proofs.records.header.with_clock.Reads as Reads'''''''
-use Rattle.hnsr_circuit.proofs.records.header.with_clock.Symbol as Symbol'''''
+use Rattle.hnsr_circuit.proofs.records.runtime.with_clock.Met as Met'''''
+use Rattle.hnsr_circuit.proofs.records.runtime.with_clock.Reads as Reads'''''''
+use Rattle.hnsr_circuit.proofs.records.runtime.with_clock.Symbol as Symbol'''''
 use Rattle.hnsr_circuit.proofs.runtime.refused.Met as Met''''''
 use Rattle.hnsr_circuit.proofs.runtime.refused.Reads as Reads''''''''
 use Rattle.hnsr_circuit.proofs.runtime.refused.Symbol as Symbol''''''
@@ -221,7 +221,7 @@ module _ {M : Type 1} where
       record { M = M; 𝓤 = 𝓤; H = H; 𝓜 = 𝓜; 𝓖 = 𝓖; 𝓡 = 𝓡 } Code.env Symbol.name Symbol.routine
       Code.calls-hnsr-circuit·answer·is-taken (Met.met 𝓤 H 𝓜 𝓖 𝓡)) (Reads'''''''.known
       record { M = M; 𝓤 = 𝓤; H = H; 𝓜 = 𝓜; 𝓖 = 𝓖; 𝓡 = 𝓡 } Code.env Symbol'''''.name Symbol'''''.routine
-      Code.calls-hnsr-circuit·records·header·with-clock (Met'''''.met 𝓤 H 𝓜 𝓖 𝓡)) (Reads''.known
+      Code.calls-hnsr-circuit·records·runtime·with-clock (Met'''''.met 𝓤 H 𝓜 𝓖 𝓡)) (Reads''.known
       record { M = M; 𝓤 = 𝓤; H = H; 𝓜 = 𝓜; 𝓖 = 𝓖; 𝓡 = 𝓡 } Code.env Symbol'''''''.name Symbol'''''''.routine
       Code.calls-hnsr-circuit·tables·lookup·trim (Met'''''''.met 𝓤 H 𝓜 𝓖 𝓡)) (Reads'.known
       record { M = M; 𝓤 = 𝓤; H = H; 𝓜 = 𝓜; 𝓖 = 𝓖; 𝓡 = 𝓡 } Code.env Symbol''.name Symbol''.routine

@@ -12,9 +12,9 @@ use Rattle.hnsr_circuit.proofs.calls.revoking.switch_to.Statement
 use Rattle.hnsr_circuit.proofs.peer.no_peer.Met as Met'
 use Rattle.hnsr_circuit.proofs.peer.no_peer.Reads as Reads'''
 use Rattle.hnsr_circuit.proofs.peer.no_peer.Symbol as Symbol'
-use Rattle.hnsr_circuit.proofs.records.header.with_enabled.Met as Met''
-use Rattle.hnsr_circuit.proofs.records.header.with_enabled.Reads as Reads''''
-use Rattle.hnsr_circuit.proofs.records.header.with_enabled.Symbol as Symbol''
+use Rattle.hnsr_circuit.proofs.records.runtime.with_enabled.Met as Met''
+use Rattle.hnsr_circuit.proofs.records.runtime.with_enabled.Reads as Reads''''
+use Rattle.hnsr_circuit.proofs.records.runtime.with_enabled.Symbol as Symbol''
 use Rattle.hnsr_circuit.proofs.runtime.taken_with.Met as Met'''
 use Rattle.hnsr_circuit.proofs.runtime.taken_with.Reads as Reads'''''
 use Rattle.hnsr_circuit.proofs.runtime.taken_with.Symbol as Symbol'''
@@ -152,7 +152,7 @@ module _ {M : Type 1} where
       record { M = M; 𝓤 = 𝓤; H = H; 𝓜 = 𝓜; 𝓖 = 𝓖; 𝓡 = 𝓡 }) (Reads'.passes
       record { M = M; 𝓤 = 𝓤; H = H; 𝓜 = 𝓜; 𝓖 = 𝓖; 𝓡 = 𝓡 }) λ g. closed 𝓤 H (𝓖 .A) (Running.givenOf 𝓤 H 𝓜 𝓖)
       (Run.Over 𝓤 H 𝓜 𝓖 𝓡 Code.env) (Reads''''.known record { M = M; 𝓤 = 𝓤; H = H; 𝓜 = 𝓜; 𝓖 = 𝓖; 𝓡 = 𝓡 } Code.env
-      Symbol''.name Symbol''.routine Code.calls-hnsr-circuit·records·header·with-enabled (Met''.met 𝓤 H 𝓜 𝓖 𝓡)) (Reads'''.known
+      Symbol''.name Symbol''.routine Code.calls-hnsr-circuit·records·runtime·with-enabled (Met''.met 𝓤 H 𝓜 𝓖 𝓡)) (Reads'''.known
       record { M = M; 𝓤 = 𝓤; H = H; 𝓜 = 𝓜; 𝓖 = 𝓖; 𝓡 = 𝓡 } Code.env Symbol'.name Symbol'.routine
       Code.calls-hnsr-circuit·peer·no-peer (Met'.met 𝓤 H 𝓜 𝓖 𝓡)) (Reads''.known
       record { M = M; 𝓤 = 𝓤; H = H; 𝓜 = 𝓜; 𝓖 = 𝓖; 𝓡 = 𝓡 } Code.env Symbol''''.name Symbol''''.routine

@@ -10,7 +10,7 @@ pub record Returns (c : Tie.After-taken-with) : Type 0 where
       (c .before .before .before .before .before .before .before)
   pub new-answer : Lts.After-new-answer·own Tie.readings Reads.Pre Reads.Post
       (c .before .before .before .before .before .before)
-  pub new-header : Lts.After-new-header·own Tie.readings Reads.Pre Reads.Post
+  pub new-runtime : Lts.After-new-runtime·own Tie.readings Reads.Pre Reads.Post
       (c .before .before .before .before .before)
   pub is-taken : Lts.After-is-taken·own Tie.readings Reads.Pre Reads.Post (c .before .before .before .before)
   pub if1 : Lts.Then1·own Tie.readings Reads.Pre Reads.Post (c .before .before .before)
@@ -22,7 +22,7 @@ returns c = record {
   start = c .before .before .before .before .before .before .before;
   too-few = c .before .before .before .before .before .before .too-few;
   new-answer = c .before .before .before .before .before .new-answer;
-  new-header = c .before .before .before .before .new-header;
+  new-runtime = c .before .before .before .before .new-runtime;
   is-taken = c .before .before .before .is-taken;
   if1 = c .before .before .if1;
   no-place = c .before .no-place;
@@ -35,7 +35,7 @@ pub record Returns-2 (c : Tie.After-refused) : Type 0 where
       .before .before .before)
   pub new-answer : Lts.After-new-answer·own Tie.readings Reads.Pre Reads.Post
       (c .before .before .before .before .before .before .before)
-  pub new-header : Lts.After-new-header·own Tie.readings Reads.Pre Reads.Post
+  pub new-runtime : Lts.After-new-runtime·own Tie.readings Reads.Pre Reads.Post
       (c .before .before .before .before .before .before)
   pub is-taken : Lts.After-is-taken·own Tie.readings Reads.Pre Reads.Post (c .before .before .before .before .before)
   pub if1 : Lts.Else1·own Tie.readings Reads.Pre Reads.Post (c .before .before .before .before)
@@ -48,7 +48,7 @@ returns-2 c = record {
   start = c .before .before .before .before .before .before .before .before;
   too-few = c .before .before .before .before .before .before .before .too-few;
   new-answer = c .before .before .before .before .before .before .new-answer;
-  new-header = c .before .before .before .before .before .new-header;
+  new-runtime = c .before .before .before .before .before .new-runtime;
   is-taken = c .before .before .before .before .is-taken;
   if1 = c .before .before .before .if1;
   no-runtime = c .before .before .no-runtime;
@@ -62,8 +62,8 @@ too-few-requires c = search needs
 new-answer-requires : Tie.Need-new-answer-requires
 new-answer-requires c = search needs
 
-new-header-requires : Tie.Need-new-header-requires
-new-header-requires c = search needs
+new-runtime-requires : Tie.Need-new-runtime-requires
+new-runtime-requires c = search needs
 
 is-taken-requires : Tie.Need-is-taken-requires
 is-taken-requires c = search needs
@@ -85,5 +85,5 @@ refused-requires c = search needs
 
 module _ {M : Type 1} where
   pub spec : Tie.Need-returns → Tie.Need-returns-2 → Lts.Closed Tie.readings Reads.Pre Reads.Post M
-  spec = λ a0 a1. Tie.spec too-few-requires new-answer-requires new-header-requires is-taken-requires no-place-requires
+  spec = λ a0 a1. Tie.spec too-few-requires new-answer-requires new-runtime-requires is-taken-requires no-place-requires
       taken-with-requires a0 no-runtime-requires every-place-requires refused-requires a1

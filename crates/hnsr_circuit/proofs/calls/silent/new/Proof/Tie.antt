@@ -14,12 +14,12 @@ use Rattle.hnsr_circuit.proofs.calls.silent.new_answer.Symbol as Symbol
 use Rattle.hnsr_circuit.proofs.entry.too_few.Met as Met''
 use Rattle.hnsr_circuit.proofs.entry.too_few.Reads as Reads'''
 use Rattle.hnsr_circuit.proofs.entry.too_few.Symbol as Symbol''
-use Rattle.hnsr_circuit.proofs.records.header.new_header.Met as Met'''
-use Rattle.hnsr_circuit.proofs.records.header.new_header.Reads as Reads''''
-use Rattle.hnsr_circuit.proofs.records.header.new_header.Symbol as Symbol'''
-use Rattle.hnsr_circuit.proofs.records.header.no_runtime.Met as Met''''
-use Rattle.hnsr_circuit.proofs.records.header.no_runtime.Reads as Reads'''''
-use Rattle.hnsr_circuit.proofs.records.header.no_runtime.Symbol as Symbol''''
+use Rattle.hnsr_circuit.proofs.records.runtime.new_runtime.Met as Met'''
+use Rattle.hnsr_circuit.proofs.records.runtime.new_runtime.Reads as Reads''''
+use Rattle.hnsr_circuit.proofs.records.runtime.new_runtime.Symbol as Symbol'''
+use Rattle.hnsr_circuit.proofs.records.runtime.no_runtime.Met as Met''''
+use Rattle.hnsr_circuit.proofs.records.runtime.no_runtime.Reads as Reads'''''
+use Rattle.hnsr_circuit.proofs.records.runtime.no_runtime.Symbol as Symbol''''
 use Rattle.hnsr_circuit.proofs.runtime.refused.Met as Met'''''
 use Rattle.hnsr_circuit.proofs.runtime.refused.Reads as Reads''''''
 use Rattle.hnsr_circuit.proofs.runtime.refused.Symbol as Symbol'''''
@@ -67,8 +67,8 @@ After-too-few = Lts.After-too-few readings Reads.Pre Reads.Post
 abbrev pub After-new-answer : Type 0
 After-new-answer = Lts.After-new-answer readings Reads.Pre Reads.Post
 
-abbrev pub After-new-header : Type 0
-After-new-header = Lts.After-new-header readings Reads.Pre Reads.Post
+abbrev pub After-new-runtime : Type 0
+After-new-runtime = Lts.After-new-runtime readings Reads.Pre Reads.Post
 
 abbrev pub After-is-taken : Type 0
 After-is-taken = Lts.After-is-taken readings Reads.Pre Reads.Post
@@ -100,8 +100,8 @@ Need-too-few-requires = Lts.Need-too-few-requires readings Reads.Pre Reads.Post
 abbrev pub Need-new-answer-requires : Type 0
 Need-new-answer-requires = Lts.Need-new-answer-requires readings Reads.Pre Reads.Post
 
-abbrev pub Need-new-header-requires : Type 0
-Need-new-header-requires = Lts.Need-new-header-requires readings Reads.Pre Reads.Post
+abbrev pub Need-new-runtime-requires : Type 0
+Need-new-runtime-requires = Lts.Need-new-runtime-requires readings Reads.Pre Reads.Post
 
 abbrev pub Need-is-taken-requires : Type 0
 Need-is-taken-requires = Lts.Need-is-taken-requires readings Reads.Pre Reads.Post
@@ -129,7 +129,7 @@ Need-returns-2 = Lts.Need-returns-2 readings Reads.Pre Reads.Post
 
 module _ {M : Type 1} where
   pub spec : (answer : Need-too-few-requires) → (answer : Need-new-answer-requires) →
-      (answer : Need-new-header-requires) → (answer : Need-is-taken-requires) → (answer : Need-no-place-requires) →
+      (answer : Need-new-runtime-requires) → (answer : Need-is-taken-requires) → (answer : Need-no-place-requires) →
       (answer : Need-taken-with-requires) → (answer : Need-returns) → (answer : Need-no-runtime-requires) →
       (answer : Need-every-place-requires) → (answer : Need-refused-requires) → (answer : Need-returns-2) → Lts.Closed
       readings Reads.Pre Reads.Post M
@@ -149,7 +149,7 @@ module _ {M : Type 1} where
       record { M = M; 𝓤 = 𝓤; H = H; 𝓜 = 𝓜; 𝓖 = 𝓖; 𝓡 = 𝓡 } Code.env Symbol'.name Symbol'.routine
       Code.calls-hnsr-circuit·calls·silent·new-answer (Met'.met 𝓤 H 𝓜 𝓖 𝓡)) (Reads''''.known
       record { M = M; 𝓤 = 𝓤; H = H; 𝓜 = 𝓜; 𝓖 = 𝓖; 𝓡 = 𝓡 } Code.env Symbol'''.name Symbol'''.routine
-      Code.calls-hnsr-circuit·records·header·new-header (Met'''.met 𝓤 H 𝓜 𝓖 𝓡)) (Reads'.known
+      Code.calls-hnsr-circuit·records·runtime·new-runtime (Met'''.met 𝓤 H 𝓜 𝓖 𝓡)) (Reads'.known
       record { M = M; 𝓤 = 𝓤; H = H; 𝓜 = 𝓜; 𝓖 = 𝓖; 𝓡 = 𝓡 } Code.env Symbol.name Symbol.routine
       Code.calls-hnsr-circuit·answer·is-taken (Met.met 𝓤 H 𝓜 𝓖 𝓡)) (Reads'''''''''.known
       record { M = M; 𝓤 = 𝓤; H = H; 𝓜 = 𝓜; 𝓖 = 𝓖; 𝓡 = 𝓡 } Code.env Symbol''''''''.name Symbol''''''''.routine
@@ -157,7 +157,7 @@ module _ {M : Type 1} where
       record { M = M; 𝓤 = 𝓤; H = H; 𝓜 = 𝓜; 𝓖 = 𝓖; 𝓡 = 𝓡 } Code.env Symbol''''''.name Symbol''''''.routine
       Code.calls-hnsr-circuit·runtime·taken-with (Met''''''.met 𝓤 H 𝓜 𝓖 𝓡)) (Reads'''''.known
       record { M = M; 𝓤 = 𝓤; H = H; 𝓜 = 𝓜; 𝓖 = 𝓖; 𝓡 = 𝓡 } Code.env Symbol''''.name Symbol''''.routine
-      Code.calls-hnsr-circuit·records·header·no-runtime (Met''''.met 𝓤 H 𝓜 𝓖 𝓡)) (Reads''''''''.known
+      Code.calls-hnsr-circuit·records·runtime·no-runtime (Met''''.met 𝓤 H 𝓜 𝓖 𝓡)) (Reads''''''''.known
       record { M = M; 𝓤 = 𝓤; H = H; 𝓜 = 𝓜; 𝓖 = 𝓖; 𝓡 = 𝓡 } Code.env Symbol'''''''.name Symbol'''''''.routine
       Code.calls-hnsr-circuit·tables·places·every-place (Met'''''''.met 𝓤 H 𝓜 𝓖 𝓡)) (Reads''''''.known
       record { M = M; 𝓤 = 𝓤; H = H; 𝓜 = 𝓜; 𝓖 = 𝓖; 𝓡 = 𝓡 } Code.env Symbol'''''.name Symbol'''''.routine

@@ -4,7 +4,7 @@ use Rattle.hnsr_circuit.proofs.calls.silent.observe_time.Lts
 use Rattle.hnsr_circuit.proofs.calls.silent.observe_time.Reads as Reads'
 use Rattle.hnsr_circuit.proofs.calls.silent.observe_time.Tie
 use Rattle.hnsr_circuit.proofs.entry.clock_answer.Reads as Reads''
-use Rattle.hnsr_circuit.proofs.records.header.with_clock.Reads as Reads'''
+use Rattle.hnsr_circuit.proofs.records.runtime.with_clock.Reads as Reads'''
 use Rattle.hnsr_circuit.proofs.runtime.refused.Reads as Reads''''
 use Rattle.hnsr_circuit.proofs.runtime.taken_with.Reads as Reads'''''
 

@@ -3,7 +3,7 @@ use Rattle.hnsr_circuit.proofs.messages.accept.accept_plan.Lts
 use Rattle.hnsr_circuit.proofs.messages.accept.accept_plan.Reads
 use Rattle.hnsr_circuit.proofs.messages.accept.accept_plan.Tie
 use Rattle.hnsr_circuit.proofs.answer.is_taken.Reads as Reads'
-use Rattle.hnsr_circuit.proofs.records.header.accepted.Reads as Reads''
+use Rattle.hnsr_circuit.proofs.records.runtime.accepted.Reads as Reads''
 
 abbrev readings : Lts.Claims
 readings = (Reads'.Asked, Reads'.Learnt, Reads''.Asked, Reads''.Learnt)

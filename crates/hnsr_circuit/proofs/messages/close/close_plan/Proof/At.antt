@@ -8,7 +8,7 @@ use Rattle.hnsr_circuit.proofs.messages.close.close_plan.Lts
 use Rattle.hnsr_circuit.proofs.messages.close.close_plan.Reads as Reads'''''
 use Rattle.hnsr_circuit.proofs.messages.close.close_plan.Tie
 use Rattle.hnsr_circuit.proofs.messages.close.close_rows.Reads as Reads''''''
-use Rattle.hnsr_circuit.proofs.records.header.revoked.Reads as Reads'''''''
+use Rattle.hnsr_circuit.proofs.records.runtime.revoked.Reads as Reads'''''''
 
 abbrev readings : Lts.Claims
 readings = (

@@ -5,7 +5,7 @@ use Rattle.hnsr_circuit.proofs.messages.data.data_plan.Lts
 use Rattle.hnsr_circuit.proofs.messages.data.data_plan.Reads as Reads''
 use Rattle.hnsr_circuit.proofs.messages.data.data_plan.Tie
 use Rattle.hnsr_circuit.proofs.messages.data.data_rows.Reads as Reads'''
-use Rattle.hnsr_circuit.proofs.records.header.transferred.Reads as Reads''''
+use Rattle.hnsr_circuit.proofs.records.runtime.transferred.Reads as Reads''''
 
 abbrev readings : Lts.Claims
 readings = (

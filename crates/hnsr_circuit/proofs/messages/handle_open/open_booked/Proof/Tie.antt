@@ -24,9 +24,9 @@ use Rattle.hnsr_circuit.proofs.messages.open.pending_for.Reads as Reads
 use Rattle.hnsr_circuit.proofs.messages.open.pending_for.Symbol as Symbol''''
 use Rattle.hnsr_circuit.proofs.output.queue.send.Met as Met'''''
 use Rattle.hnsr_circuit.proofs.output.queue.send.Symbol as Symbol'''''
-use Rattle.hnsr_circuit.proofs.records.header.opened.Met as Met''''''
-use Rattle.hnsr_circuit.proofs.records.header.opened.Reads as Reads''''''''
-use Rattle.hnsr_circuit.proofs.records.header.opened.Symbol as Symbol''''''
+use Rattle.hnsr_circuit.proofs.records.runtime.opened.Met as Met''''''
+use Rattle.hnsr_circuit.proofs.records.runtime.opened.Reads as Reads''''''''
+use Rattle.hnsr_circuit.proofs.records.runtime.opened.Symbol as Symbol''''''
 use Rattle.hnsr_circuit.proofs.records.ledger.usage_answer.Met as Met'''''''
 use Rattle.hnsr_circuit.proofs.records.ledger.usage_answer.Reads as Reads'''''''''
 use Rattle.hnsr_circuit.proofs.records.ledger.usage_answer.Symbol as Symbol'''''''
@@ -222,7 +222,7 @@ module _ {M : Type 1} where
       record { M = M; 𝓤 = 𝓤; H = H; 𝓜 = 𝓜; 𝓖 = 𝓖; 𝓡 = 𝓡 } Code.env Symbol'''''''''.name Symbol'''''''''.routine
       Code.calls-hnsr-circuit·tables·places·with-pending (Met'''''''''.met 𝓤 H 𝓜 𝓖 𝓡)) (Reads''''''''.known
       record { M = M; 𝓤 = 𝓤; H = H; 𝓜 = 𝓜; 𝓖 = 𝓖; 𝓡 = 𝓡 } Code.env Symbol''''''.name Symbol''''''.routine
-      Code.calls-hnsr-circuit·records·header·opened (Met''''''.met 𝓤 H 𝓜 𝓖 𝓡)) (Reads''''''.known
+      Code.calls-hnsr-circuit·records·runtime·opened (Met''''''.met 𝓤 H 𝓜 𝓖 𝓡)) (Reads''''''.known
       record { M = M; 𝓤 = 𝓤; H = H; 𝓜 = 𝓜; 𝓖 = 𝓖; 𝓡 = 𝓡 } Code.env Symbol'''.name Symbol'''.routine
       Code.calls-hnsr-circuit·messages·open·incoming-out (Met'''.met 𝓤 H 𝓜 𝓖 𝓡)) (Reads'''''.known
       record { M = M; 𝓤 = 𝓤; H = H; 𝓜 = 𝓜; 𝓖 = 𝓖; 𝓡 = 𝓡 } Code.env Symbol''.name Symbol''.routine

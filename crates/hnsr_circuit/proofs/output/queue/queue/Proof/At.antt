@@ -2,7 +2,7 @@
 use Rattle.hns_encoding.proofs.numbers.saturating_add_u64.Reads
 use Rattle.hnsr_circuit.proofs.answer.first_refusal.Reads as Reads'
 use Rattle.hnsr_circuit.proofs.answer.is_taken.Reads as Reads''
-use Rattle.hnsr_circuit.proofs.records.header.with_sequence.Reads as Reads'''
+use Rattle.hnsr_circuit.proofs.records.runtime.with_sequence.Reads as Reads'''
 use Rattle.hnsr_circuit.proofs.output.queue.action_for.Reads as Reads''''
 use Rattle.hnsr_circuit.proofs.output.queue.queue.Lts
 use Rattle.hnsr_circuit.proofs.output.queue.queue.Reads as Reads'''''

@@ -1,4 +1,4 @@
--- The header with one part replaced, and the counters (document 01, "Down through the call": opened_circuits counts ACCEPTs, bytes_sent and
+-- The runtime with one part replaced, and the counters (document 01, "Down through the call": opened_circuits counts ACCEPTs, bytes_sent and
 -- bytes_received the bytes of each DATA, revoked_work every other end of a pending record or circuit).
 use Prim.Native.Nat.{ℕ, _+_}
 use mathlib.Core.Bool.{Bool, true, false}
@@ -29,10 +29,10 @@ countBytes n c =
 abbrev pub countRevoked : RuntimeCounters → RuntimeCounters
 countRevoked c = counters (c .«admitted_opens») (c .«opened_circuits») (c .«bytes_sent») (c .«bytes_received») (saturatingAdd 64 (c .«revoked_work») 1)
 
--- ---- the header
+-- ---- the runtime
 -- what `new` makes
-abbrev pub newHeader : (session : List ℕ) → (generation : ℕ) → OpaqueRelayConfig → (now : ℕ) → OpaqueRelayRuntime
-newHeader session generation config now = record {
+abbrev pub newRuntime : (session : List ℕ) → (generation : ℕ) → OpaqueRelayConfig → (now : ℕ) → OpaqueRelayRuntime
+newRuntime session generation config now = record {
   session = session;
   generation = generation;
   enabled = true;
@@ -43,8 +43,8 @@ newHeader session generation config now = record {
 }
 
 -- what calls change, replaced
-abbrev pub headerWith : OpaqueRelayRuntime → (generation : ℕ) → (enabled : Bool) → (clock next : ℕ) → RuntimeCounters → OpaqueRelayRuntime
-headerWith h generation enabled clock next counts = record {
+abbrev pub runtimeWith : OpaqueRelayRuntime → (generation : ℕ) → (enabled : Bool) → (clock next : ℕ) → RuntimeCounters → OpaqueRelayRuntime
+runtimeWith h generation enabled clock next counts = record {
   session = h .session;
   generation = generation;
   enabled = enabled;
@@ -55,17 +55,17 @@ headerWith h generation enabled clock next counts = record {
 }
 
 abbrev pub withClock : OpaqueRelayRuntime → (now : ℕ) → OpaqueRelayRuntime
-withClock h now = headerWith h (h .generation) (h .enabled) now (h .«next_action_sequence») (h .counters)
+withClock h now = runtimeWith h (h .generation) (h .enabled) now (h .«next_action_sequence») (h .counters)
 
 abbrev pub withSequence : OpaqueRelayRuntime → (next : ℕ) → OpaqueRelayRuntime
-withSequence h next = headerWith h (h .generation) (h .enabled) (h .«trusted_time_high_water») next (h .counters)
+withSequence h next = runtimeWith h (h .generation) (h .enabled) (h .«trusted_time_high_water») next (h .counters)
 
 abbrev pub withCounters : OpaqueRelayRuntime → RuntimeCounters → OpaqueRelayRuntime
-withCounters h c = headerWith h (h .generation) (h .enabled) (h .«trusted_time_high_water») (h .«next_action_sequence») c
+withCounters h c = runtimeWith h (h .generation) (h .enabled) (h .«trusted_time_high_water») (h .«next_action_sequence») c
 
 -- a changed enabled state raises the generation and sets the sequence to 1
 abbrev pub withEnabled : OpaqueRelayRuntime → Bool → OpaqueRelayRuntime
-withEnabled h on = headerWith h (h .generation + 1) on (h .«trusted_time_high_water») 1 (h .counters)
+withEnabled h on = runtimeWith h (h .generation + 1) on (h .«trusted_time_high_water») 1 (h .counters)
 
 -- what a refused `new` hands back: zeros, and off
 abbrev pub noConfig : OpaqueRelayConfig
@@ -81,5 +81,5 @@ noConfig = record {
   «accept_timeout_seconds» = 0;
 }
 
-abbrev pub noHeader : OpaqueRelayRuntime
-noHeader = headerWith (newHeader (replicate 16 0) 0 noConfig 0) 0 false 0 0 noCounts
+abbrev pub noRuntime : OpaqueRelayRuntime
+noRuntime = runtimeWith (newRuntime (replicate 16 0) 0 noConfig 0) 0 false 0 0 noCounts

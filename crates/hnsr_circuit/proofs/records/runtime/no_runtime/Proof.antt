@@ -1,7 +1,7 @@
 -- `no_runtime` meets its contract.
 use borrow.Author.Needs.{needs}
-use Rattle.hnsr_circuit.proofs.records.header.no_runtime.Statement.{statement}
-use Rattle.hnsr_circuit.proofs.records.header.no_runtime.Tie as tie
+use Rattle.hnsr_circuit.proofs.records.runtime.no_runtime.Statement.{statement}
+use Rattle.hnsr_circuit.proofs.records.runtime.no_runtime.Tie as tie
 
 no-counters-requires : tie.Need-no-counters-requires
 no-counters-requires c κs = search needs

@@ -1,7 +1,7 @@
 -- The counter counts where the call goes on.
 use borrow.Author.Needs.{needs}
-use Rattle.hnsr_circuit.proofs.records.header.transferred.Statement.{statement}
-use Rattle.hnsr_circuit.proofs.records.header.transferred.Tie as tie
+use Rattle.hnsr_circuit.proofs.records.runtime.transferred.Statement.{statement}
+use Rattle.hnsr_circuit.proofs.records.runtime.transferred.Tie as tie
 
 count-bytes-requires : tie.Need-count-bytes-requires
 count-bytes-requires c κs = search needs

@@ -1,7 +1,7 @@
 -- Two sums, and every other field as it was.
 use borrow.Author.Needs.{needs}
-use Rattle.hnsr_circuit.proofs.records.header.count_bytes.Statement.{statement}
-use Rattle.hnsr_circuit.proofs.records.header.count_bytes.Tie as tie
+use Rattle.hnsr_circuit.proofs.records.runtime.count_bytes.Statement.{statement}
+use Rattle.hnsr_circuit.proofs.records.runtime.count_bytes.Tie as tie
 
 saturating-add-u64-requires : tie.Need-saturating-add-u64-requires
 saturating-add-u64-requires c κs = search needs

@@ -1,7 +1,7 @@
 -- The counters where the call goes on.
 use borrow.Author.Needs.{needs}
-use Rattle.hnsr_circuit.proofs.records.header.counted.Statement.{statement}
-use Rattle.hnsr_circuit.proofs.records.header.counted.Tie as tie
+use Rattle.hnsr_circuit.proofs.records.runtime.counted.Statement.{statement}
+use Rattle.hnsr_circuit.proofs.records.runtime.counted.Tie as tie
 
 with-counters-requires : tie.Need-with-counters-requires
 with-counters-requires c κs = search needs

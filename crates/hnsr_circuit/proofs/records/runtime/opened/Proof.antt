@@ -1,7 +1,7 @@
 -- The counter counts where the call goes on.
 use borrow.Author.Needs.{needs}
-use Rattle.hnsr_circuit.proofs.records.header.opened.Statement.{statement}
-use Rattle.hnsr_circuit.proofs.records.header.opened.Tie as tie
+use Rattle.hnsr_circuit.proofs.records.runtime.opened.Statement.{statement}
+use Rattle.hnsr_circuit.proofs.records.runtime.opened.Tie as tie
 
 count-open-requires : tie.Need-count-open-requires
 count-open-requires c κs = search needs

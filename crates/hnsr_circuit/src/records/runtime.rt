@@ -1,6 +1,6 @@
-// The header with one part replaced, where a call goes on; and its counters, each of which stops at its top.
+// The runtime with one part replaced, where a call goes on; and its counters, each of which stops at its top.
 ghost use mathlib.Core.Path.{_≡_};
-ghost use Rattle.hnsr_circuit.specs.Header.{countOpen, countAccept, countBytes, countRevoked, withClock, withSequence, withCounters, withEnabled, newHeader, noHeader, noCounts};
+ghost use Rattle.hnsr_circuit.specs.Runtime.{countOpen, countAccept, countBytes, countRevoked, withClock, withSequence, withCounters, withEnabled, newRuntime, noRuntime, noCounts};
 ghost use mathlib.Core.Bool.{cond};
 ghost use Prim.Native.Nat.{_<_};
 use crate::config::OpaqueRelayConfig;
@@ -45,7 +45,7 @@ pub(crate) fn count_revoked(counters: RuntimeCounters) -> RuntimeCounters
     }
 }
 
-// ---- the header
+// ---- the runtime
 
 pub(crate) fn with_clock(runtime: OpaqueRelayRuntime, now: u64) -> OpaqueRelayRuntime
     ensures { λ r. ⌜ r ≡ withClock runtime now ⌝ }
@@ -102,13 +102,13 @@ fn no_counters() -> RuntimeCounters
     }
 }
 
-pub(crate) fn new_header(
+pub(crate) fn new_runtime(
     session: [u8; 16],
     generation: u64,
     config: OpaqueRelayConfig,
     now: u64,
 ) -> OpaqueRelayRuntime
-    ensures { λ r. ⌜ r ≡ newHeader session generation config now ⌝ }
+    ensures { λ r. ⌜ r ≡ newRuntime session generation config now ⌝ }
 {
     let counters = no_counters();
     OpaqueRelayRuntime {
@@ -124,7 +124,7 @@ pub(crate) fn new_header(
 
 // What a refused `new` hands back: zeros, and off.
 pub(crate) fn no_runtime() -> OpaqueRelayRuntime
-    ensures { λ r. ⌜ r ≡ noHeader ⌝ }
+    ensures { λ r. ⌜ r ≡ noRuntime ⌝ }
 {
     let config = OpaqueRelayConfig {
         maximum_pending: 0,

@@ -5,9 +5,9 @@ use native.Mathlib.Omega.{arith}
 use mathlib.Core.Path.{_≡_, ap, _∙_}
 use Rattle.hns_encoding.specs.Numbers.{saturatingAdd}
 use borrow.Author.Needs.{needs}
-use Rattle.hnsr_circuit.proofs.records.header.with_enabled.Statement.{statement}
-use Rattle.hnsr_circuit.proofs.records.header.with_enabled.Tie as tie
-use Rattle.hnsr_circuit.proofs.records.header.with_enabled.Proof.At as at
+use Rattle.hnsr_circuit.proofs.records.runtime.with_enabled.Statement.{statement}
+use Rattle.hnsr_circuit.proofs.records.runtime.with_enabled.Tie as tie
+use Rattle.hnsr_circuit.proofs.records.runtime.with_enabled.Proof.At as at
 
 saturating-add-u64-requires : tie.Need-saturating-add-u64-requires
 saturating-add-u64-requires c κs = search needs

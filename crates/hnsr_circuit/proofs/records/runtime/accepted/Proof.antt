@@ -1,7 +1,7 @@
 -- The counter counts where the call goes on.
 use borrow.Author.Needs.{needs}
-use Rattle.hnsr_circuit.proofs.records.header.accepted.Statement.{statement}
-use Rattle.hnsr_circuit.proofs.records.header.accepted.Tie as tie
+use Rattle.hnsr_circuit.proofs.records.runtime.accepted.Statement.{statement}
+use Rattle.hnsr_circuit.proofs.records.runtime.accepted.Tie as tie
 
 count-accept-requires : tie.Need-count-accept-requires
 count-accept-requires c κs = search needs

@@ -1,7 +1,7 @@
 -- The counter counts where the call goes on.
 use borrow.Author.Needs.{needs}
-use Rattle.hnsr_circuit.proofs.records.header.revoked.Statement.{statement}
-use Rattle.hnsr_circuit.proofs.records.header.revoked.Tie as tie
+use Rattle.hnsr_circuit.proofs.records.runtime.revoked.Statement.{statement}
+use Rattle.hnsr_circuit.proofs.records.runtime.revoked.Tie as tie
 
 count-revoked-requires : tie.Need-count-revoked-requires
 count-revoked-requires c κs = search needs

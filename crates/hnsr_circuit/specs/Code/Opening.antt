@@ -17,7 +17,7 @@ use Rattle.hnsr_circuit.specs.declared.records.RelayPending.{RelayPendin
 use Rattle.hnsr_circuit.specs.declared.records.RelayCircuit.{RelayCircuit}
 use Rattle.hnsr_circuit.specs.declared.tables.scan.InflightTally.{InflightTally}
 use Rattle.hnsr_circuit.specs.declared.tables.lookup.PendingFound.{PendingFound}
-use Rattle.hnsr_circuit.specs.declared.tables.scan.LedgerRoom.{LedgerRoom}
+use Rattle.hnsr_circuit.specs.declared.tables.scan.LedgerScan.{LedgerScan}
 use Rattle.hnsr_circuit.specs.declared.tables.scan.ActionScan.{ActionScan}
 use Rattle.hnsr_circuit.specs.declared.messages.draw.Drawing.{Drawing}
 use Rattle.hnsr_circuit.specs.declared.output.queue.Outgoing.{Outgoing}
@@ -123,7 +123,7 @@ placedEntry c g o d =
     (g .waiting .under + g .running .under)
     then drawAnswer d
 
-abbrev pub placedRows : OpaqueRelayConfig → OpenGathered → OpenPlan → Drawing → ActionScan → LedgerRoom → HnsrAnswer
+abbrev pub placedRows : OpaqueRelayConfig → OpenGathered → OpenPlan → Drawing → ActionScan → LedgerScan → HnsrAnswer
 placedRows c g o d s r =
     peerAnswer (g .size)
     then endpointAnswer c (o .ticket) (samePeer (o .endpoint) (o .requester)) (g .waiting .«of_other» + g .running .«of_other»)

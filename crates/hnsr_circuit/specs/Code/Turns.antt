@@ -14,7 +14,7 @@ use Rattle.hnsr_circuit.specs.declared.tables.scan.WorkQuestion.{WorkQue
 use Rattle.hnsr_circuit.specs.declared.tables.scan.ActionQuestion.{ActionQuestion}
 use Rattle.hnsr_circuit.specs.declared.tables.scan.ActionScan.{ActionScan}
 use Rattle.hnsr_circuit.specs.declared.tables.scan.CircuitTotals.{CircuitTotals}
-use Rattle.hnsr_circuit.specs.declared.tables.scan.LedgerRoom.{LedgerRoom}
+use Rattle.hnsr_circuit.specs.declared.tables.scan.LedgerScan.{LedgerScan}
 use Rattle.hnsr_circuit.specs.declared.records.ReservationUsage.{ReservationUsage}
 use Rattle.hns_encoding.specs.Numbers.{saturatingAdd}
 use Rattle.hns_encoding.specs.Sums.{non, one, total, count}
@@ -135,7 +135,7 @@ scanSpared s place places = record {
 }
 
 -- ---- what OPEN asks of the ledger
-abbrev pub ledgerAsked : ReservationId → List ReservationUsage → LedgerRoom
+abbrev pub ledgerAsked : ReservationId → List ReservationUsage → LedgerScan
 ledgerAsked id l = record {
   found = any (usageAt id) l;
   place = placeOf (usageAt id) l;
@@ -146,12 +146,12 @@ ledgerAsked id l = record {
   places = length l;
 }
 
-abbrev pub noRoom : (places : ℕ) → LedgerRoom
-noRoom places = record { found = false; place = places; usage = noUsage; used = 0; spare = false; «spare_place» = places; places = places }
+abbrev pub noLedgerScan : (places : ℕ) → LedgerScan
+noLedgerScan places = record { found = false; place = places; usage = noUsage; used = 0; spare = false; «spare_place» = places; places = places }
 
 module _ (id : ReservationId) where
-  abbrev pub roomOn : LedgerRoom → ReservationUsage → (place : ℕ) → LedgerRoom
-  roomOn r u place = record {
+  abbrev pub usageScanned : LedgerScan → ReservationUsage → (place : ℕ) → LedgerScan
+  usageScanned r u place = record {
     found = r .found || usageAt id u;
     place = firstPlace (r .found) (usageAt id u) place (r .place);
     usage = cond (r .found) (r .usage) (cond (usageAt id u) u (r .usage));
@@ -161,8 +161,8 @@ module _ (id : ReservationId) where
     places = r .places;
   }
 
-abbrev pub roomSpared : LedgerRoom → (place places : ℕ) → LedgerRoom
-roomSpared r place places = record {
+abbrev pub ledgerSpared : LedgerScan → (place places : ℕ) → LedgerScan
+ledgerSpared r place places = record {
   found = r .found;
   place = r .place;
   usage = r .usage;

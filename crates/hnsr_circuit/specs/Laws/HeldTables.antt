@@ -23,7 +23,7 @@ use Rattle.hnsr_circuit.specs.declared.records.InflightAction.{InflightA
 use Rattle.hnsr_circuit.specs.declared.records.RelayPending.{RelayPending}
 use Rattle.hnsr_circuit.specs.declared.records.RelayCircuit.{RelayCircuit}
 use Rattle.hnsr_circuit.specs.declared.records.ReservationUsage.{ReservationUsage}
-use Rattle.hnsr_circuit.specs.declared.tables.scan.LedgerRoom.{LedgerRoom}
+use Rattle.hnsr_circuit.specs.declared.tables.scan.LedgerScan.{LedgerScan}
 use Rattle.hnsr_circuit.specs.declared.tables.scan.Work.{Work}
 use Rattle.hnsr_circuit.specs.declared.tables.scan.WorkQuestion.{WorkQuestion}
 use Rattle.hnsr_circuit.specs.declared.tables.scan.CircuitTotals.{CircuitTotals}
@@ -42,7 +42,7 @@ use Rattle.hnsr_circuit.specs.Circuits.{isCircuit, circuitOf, circuitUnd
 use Rattle.hnsr_circuit.specs.Ledger.{isUsage, usageAt, usageMarked, clearUsage}
 use Rattle.hnsr_circuit.specs.Inflight.{isAction, actionAt, actionMarked, clearAction}
 use Rattle.hnsr_circuit.specs.Code.Question.{pendingHas, circuitHas}
-use Rattle.hnsr_circuit.specs.Code.Turns.{actionsScanned, firstPlace, scanned, pendingWorked, circuitWorked, totalled, roomOn, scanSpared, roomSpared}
+use Rattle.hnsr_circuit.specs.Code.Turns.{actionsScanned, firstPlace, scanned, pendingWorked, circuitWorked, totalled, usageScanned, scanSpared, ledgerSpared}
 use Rattle.hnsr_circuit.specs.Code.Progress.{scanPlace, handedBack, underway}
 use Rattle.hnsr_circuit.specs.Code.Held.{held, heldPending, heldCircuits, heldLedger, heldActions, handedSeen, underwaySeen}
 use Rattle.hnsr_circuit.specs.Laws.Held.{length-held, rest-held, place-below, place-upto}
@@ -186,10 +186,10 @@ kept true x = refl
 kept false x = refl
 
 -- by what is known of the test
-room-by : (r : LedgerRoom) (place : ℕ) (spare : Bool) (at : ℕ) (b : Bool) → spare ≡ (r .spare || b) → at ≡ firstPlace (r .spare) b place (r .«spare_place»)
+ledger-by : (r : LedgerScan) (place : ℕ) (spare : Bool) (at : ℕ) (b : Bool) → spare ≡ (r .spare || b) → at ≡ firstPlace (r .spare) b place (r .«spare_place»)
     → (places : ℕ) → b ≡ ltb place places
-    → record { found = r .found; place = r .place; usage = r .usage; used = r .used; spare = spare; «spare_place» = at; places = r .places } ≡ roomSpared r place places
-room-by r place spare at b es ep places e = λ j. record {
+    → record { found = r .found; place = r .place; usage = r .usage; used = r .used; spare = spare; «spare_place» = at; places = r .places } ≡ ledgerSpared r place places
+ledger-by r place spare at b es ep places e = λ j. record {
   found = r .found;
   place = r .place;
   usage = r .usage;
@@ -199,8 +199,8 @@ room-by r place spare at b es ep places e = λ j. record {
   places = r .places;
 }
 
-abbrev roomTaken : LedgerRoom → (place : ℕ) → LedgerRoom
-roomTaken r place = record {
+abbrev ledgerTaken : LedgerScan → (place : ℕ) → LedgerScan
+ledgerTaken r place = record {
   found = r .found;
   place = r .place;
   usage = r .usage;
@@ -211,9 +211,9 @@ roomTaken r place = record {
 }
 
 module _ (id : ReservationId) where
-  room-skips : (r : LedgerRoom) (u : ReservationUsage) (i : ℕ) → roomOn id r (clearUsage u) i ≡ roomTaken r i
+  ledger-skips : (r : LedgerScan) (u : ReservationUsage) (i : ℕ) → usageScanned id r (clearUsage u) i ≡ ledgerTaken r i
   unfolding usageAt isUsage
-  room-skips r u i = λ j. record {
+  ledger-skips r u i = λ j. record {
     found = or-false (r .found) j;
     place = kept (r .found) (r .place) j;
     usage = kept (r .found) (r .usage) j;
@@ -223,19 +223,19 @@ module _ (id : ReservationId) where
     places = r .places;
   }
 
-  room-unmarked : (t : List ReservationUsage) (i : ℕ) (r : LedgerRoom) (e : ℕ) → e ≡ i + length t → foldFrom (roomOn id) (map clearUsage t) i r ≡ roomSpared r i e
+  ledger-unmarked : (t : List ReservationUsage) (i : ℕ) (r : LedgerScan) (e : ℕ) → e ≡ i + length t → foldFrom (usageScanned id) (map clearUsage t) i r ≡ ledgerSpared r i e
   unfolding foldFrom
-  room-unmarked [] i r e h =
-      room-by r i (r .spare) (r .«spare_place») false (sym (or-false (r .spare))) (sym (kept (r .spare) (r .«spare_place»))) e (sym (le-ltb i e (omega arith)))
-  room-unmarked (x ∷ xs) i r e h =
-      ap (λ (s : LedgerRoom). foldFrom (roomOn id) (map clearUsage xs) (suc i) s) (room-skips r x i)
-      ∙ room-unmarked xs (suc i) (roomTaken r i) e (omega arith)
-      ∙ room-by r i true (firstPlace (r .spare) true i (r .«spare_place»)) true (sym (or-true (r .spare))) refl e (sym (lt-ltb i e (omega arith)))
+  ledger-unmarked [] i r e h =
+      ledger-by r i (r .spare) (r .«spare_place») false (sym (or-false (r .spare))) (sym (kept (r .spare) (r .«spare_place»))) e (sym (le-ltb i e (omega arith)))
+  ledger-unmarked (x ∷ xs) i r e h =
+      ap (λ (s : LedgerScan). foldFrom (usageScanned id) (map clearUsage xs) (suc i) s) (ledger-skips r x i)
+      ∙ ledger-unmarked xs (suc i) (ledgerTaken r i) e (omega arith)
+      ∙ ledger-by r i true (firstPlace (r .spare) true i (r .«spare_place»)) true (sym (or-true (r .spare))) refl e (sym (lt-ltb i e (omega arith)))
 
-  pub room-rest : (n : ℕ) (t : List ReservationUsage) (i : ℕ) (s r : LedgerRoom) → (i < n → length t ≤ i) → i ≤ length t
-      → foldFrom (roomOn id) (drop i (held clearUsage n t)) i s ≡ r → roomSpared s i (length t) ≡ r
-  room-rest n t i s r l m h =
-      sym (room-unmarked (drop i t) i s (length t) (let k = length-drop i t in omega arith))
+  pub ledger-rest : (n : ℕ) (t : List ReservationUsage) (i : ℕ) (s r : LedgerScan) → (i < n → length t ≤ i) → i ≤ length t
+      → foldFrom (usageScanned id) (drop i (held clearUsage n t)) i s ≡ r → ledgerSpared s i (length t) ≡ r
+  ledger-rest n t i s r l m h =
+      sym (ledger-unmarked (drop i t) i s (length t) (let k = length-drop i t in omega arith))
       ∙ (rw (rest-held clearUsage n t i l) at h)
 
 -- ---- what is handed back with the numbers that came in

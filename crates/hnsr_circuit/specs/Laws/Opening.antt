@@ -31,7 +31,7 @@ use Rattle.hnsr_circuit.specs.declared.records.RelayCircuit.{RelayCircui
 use Rattle.hnsr_circuit.specs.declared.records.ReservationUsage.{ReservationUsage}
 use Rattle.hnsr_circuit.specs.declared.records.InflightAction.{InflightAction}
 use Rattle.hnsr_circuit.specs.declared.tables.lookup.PendingFound.{PendingFound}
-use Rattle.hnsr_circuit.specs.declared.tables.scan.LedgerRoom.{LedgerRoom}
+use Rattle.hnsr_circuit.specs.declared.tables.scan.LedgerScan.{LedgerScan}
 use Rattle.hnsr_circuit.specs.declared.tables.scan.ActionScan.{ActionScan}
 use Rattle.hnsr_circuit.specs.declared.messages.draw.Drawing.{Drawing}
 use Rattle.hnsr_circuit.specs.declared.output.queue.Outgoing.{Outgoing}
@@ -312,7 +312,7 @@ booked-found t l h =
     (ap p (pick-none p (freshUsage t) l f) ∙ fresh-at t) .1)
 
 -- the rows as a whole are taken: each is
-module _ (c : OpaqueRelayConfig) (g : OpenGathered) (d : Drawing) (o : OpenPlan) (s : ActionScan) (r : LedgerRoom) (a : HnsrAnswer)
+module _ (c : OpaqueRelayConfig) (g : OpenGathered) (d : Drawing) (o : OpenPlan) (s : ActionScan) (r : LedgerScan) (a : HnsrAnswer)
     (ea : a ≡ placedRows c g o d s r) (t : taken a ≡ true) where
   rows-taken : (drawAnswer d ≡ Taken) × (ledgerAnswer (r .found) (r .used) (r .places) ≡ Taken)
   rows-taken =
@@ -333,8 +333,8 @@ module _ (c : OpaqueRelayConfig) (g : OpenGathered) (d : Drawing) (o : OpenPlan)
   booked-usage row l er e =
       let id = o .ticket .«reservation_id» in
       let k : ledgerAnswer (any (usageAt id) l) (count isUsage l) (length l) ≡ Taken =
-      ap (λ (x : LedgerRoom). ledgerAnswer (x .found) (x .used) (x .places)) (sym er) ∙ rows-taken .1 in
-      e ∙ ap (λ (x : LedgerRoom). cond (x .found) (x .usage) (freshUsage (o .ticket))) er ∙ pick-else (usageAt id) (freshUsage (o .ticket)) noUsage l
+      ap (λ (x : LedgerScan). ledgerAnswer (x .found) (x .used) (x .places)) (sym er) ∙ rows-taken .1 in
+      e ∙ ap (λ (x : LedgerScan). cond (x .found) (x .usage) (freshUsage (o .ticket))) er ∙ pick-else (usageAt id) (freshUsage (o .ticket)) noUsage l
       ∙ sym (booked-found (o .ticket) l k)
 
   pub booked-free : (p : List RelayPending) (q : List RelayCircuit) (ids : List ℕ) → d ≡ drawAll (isTaken p q) undrawn ids → o ≡ openPlan c g d
@@ -391,7 +391,7 @@ module _ (h : OpaqueRelayRuntime) (p : List RelayPending) (c : List RelayCircuit
   unfolding openPlaced peerWork reservationWork pendingWork circuitWork drawn idTaken decodeOpen actionsScanned sender
   open-placed = refl
 
-  module _ (g : OpenGathered) (d : Drawing) (o : OpenPlan) (m : Outgoing) (k : ActionQuestion) (s : ActionScan) (r : LedgerRoom) (a : HnsrAnswer)
+  module _ (g : OpenGathered) (d : Drawing) (o : OpenPlan) (m : Outgoing) (k : ActionQuestion) (s : ActionScan) (r : LedgerScan) (a : HnsrAnswer)
       (eg : g ≡ gathering q (peerOf source) body endpoint rs p c) (ed : d ≡ drawAll (isTaken p c) undrawn (draws rs)) (eo : o ≡ openPlan (h .config) g d)
       (em : m ≡ incomingOut o) (ek : k ≡ asking h m) (es : s ≡ actionsScanned k i) (er : r ≡ ledgerAsked (o .ticket .«reservation_id») l)
       (ea : a ≡ placedRows (h .config) g o d s r) where

@@ -28,7 +28,7 @@ use Rattle.hnsr_circuit.specs.Circuits.{isCircuit, circuitAt, circuitOf,
 use Rattle.hnsr_circuit.specs.Ledger.{isUsage, usageAt}
 use Rattle.hnsr_circuit.specs.Inflight.{isAction, actionAt, actionUnder, actionToward, retained}
 use Rattle.hnsr_circuit.specs.Code.Question.{pendingWork, circuitWork}
-use Rattle.hnsr_circuit.specs.Code.Turns.{noWork, workOn, WorkAtMost, workTurn, never, pendingWorked, circuitWorked, noTotals, totalled, TallyAtMost, tallyTurn, noTally, noScan, firstPlace, tallyOn, numbered, scanned, replaced, ledgerAsked, noRoom, roomOn, actionsScanned}
+use Rattle.hnsr_circuit.specs.Code.Turns.{noWork, workOn, WorkAtMost, workTurn, never, pendingWorked, circuitWorked, noTotals, totalled, TallyAtMost, tallyTurn, noTally, noScan, firstPlace, tallyOn, numbered, scanned, replaced, ledgerAsked, noLedgerScan, usageScanned, actionsScanned}
 use Rattle.hnsr_circuit.specs.Status.{circuitTotals}
 use Rattle.hnsr_circuit.specs.Laws.Folds.{fold-count, fold-stopping, fold-kept, fold-any, fold-place, fold-pick}
 use Rattle.hnsr_circuit.specs.Laws.Inflight.{tally-fold}
@@ -206,14 +206,14 @@ module _ (q : ActionQuestion) where
 
 -- ---- what OPEN asks of the ledger
 module _ (id : ReservationId) where
-  pub room-fold : (t : List ReservationUsage) → foldFrom (roomOn id) t 0 (noRoom (length t)) ≡ ledgerAsked id t
-  room-fold t =
-      let b = noRoom (length t) in
-      let found = fold-any (roomOn id) (λ r. r .found) (usageAt id) (λ r x i. refl) t 0 b in
-      let spare = fold-any (roomOn id) (λ r. r .spare) (non isUsage) (λ r x i. refl) t 0 b in
-      let place = fold-place (roomOn id) (λ r. r .found) (λ r. r .place) (usageAt id) (λ r x i. refl) (λ r x i. refl) t 0 b ∙ place-of (usageAt id) t in
-      let empty = fold-place (roomOn id) (λ r. r .spare) (λ r. r .«spare_place») (non isUsage) (λ r x i. refl) (λ r x i. refl) t 0 b ∙ place-of (non isUsage) t in
-      let usage = fold-pick (roomOn id) (λ r. r .found) (λ r. r .usage) (usageAt id) (λ r x i. refl) (λ r x i. refl) t 0 b in
-      let used = fold-count (roomOn id) (λ r. r .used) isUsage (λ r x i. refl) t 0 b ∙ zero-add (count isUsage t) in
-      let places = fold-kept (roomOn id) (λ r. r .places) (λ r x i. refl) t 0 b in
+  pub ledger-fold : (t : List ReservationUsage) → foldFrom (usageScanned id) t 0 (noLedgerScan (length t)) ≡ ledgerAsked id t
+  ledger-fold t =
+      let b = noLedgerScan (length t) in
+      let found = fold-any (usageScanned id) (λ r. r .found) (usageAt id) (λ r x i. refl) t 0 b in
+      let spare = fold-any (usageScanned id) (λ r. r .spare) (non isUsage) (λ r x i. refl) t 0 b in
+      let place = fold-place (usageScanned id) (λ r. r .found) (λ r. r .place) (usageAt id) (λ r x i. refl) (λ r x i. refl) t 0 b ∙ place-of (usageAt id) t in
+      let empty = fold-place (usageScanned id) (λ r. r .spare) (λ r. r .«spare_place») (non isUsage) (λ r x i. refl) (λ r x i. refl) t 0 b ∙ place-of (non isUsage) t in
+      let usage = fold-pick (usageScanned id) (λ r. r .found) (λ r. r .usage) (usageAt id) (λ r x i. refl) (λ r x i. refl) t 0 b in
+      let used = fold-count (usageScanned id) (λ r. r .used) isUsage (λ r x i. refl) t 0 b ∙ zero-add (count isUsage t) in
+      let places = fold-kept (usageScanned id) (λ r. r .places) (λ r x i. refl) t 0 b in
       λ j. record { found = found j; place = place j; usage = usage j; used = used j; spare = spare j; «spare_place» = empty j; places = places j }

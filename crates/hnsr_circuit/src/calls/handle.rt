@@ -72,18 +72,18 @@ fn packet_answer(packet: RelayPacket, body_size: usize) -> HnsrAnswer
 
 // 4, 1 and 7, in this order, behind 22.
 fn entry_answer(
-    room: HnsrAnswer,
+    lent: HnsrAnswer,
     runtime: OpaqueRelayRuntime,
     packet: RelayPacket,
     source: usize,
     body: usize,
 ) -> HnsrAnswer
-    ensures { λ r. ⌜ r ≡ ((room then peerAnswer source then packetAnswer (packet .opcode) (packet .«context_id») body) then clockAnswer (runtime .«trusted_time_high_water») (packet .now)) ⌝ }
+    ensures { λ r. ⌜ r ≡ ((lent then peerAnswer source then packetAnswer (packet .opcode) (packet .«context_id») body) then clockAnswer (runtime .«trusted_time_high_water») (packet .now)) ⌝ }
 {
     let named = peer_answer(source);
     let enveloped = packet_answer(packet, body);
     let rest = first_refusal(named, enveloped);
-    let entered = first_refusal(room, rest);
+    let entered = first_refusal(lent, rest);
     let clock = clock_answer(runtime.trusted_time_high_water, packet.now);
     first_refusal(entered, clock)
 }
@@ -201,8 +201,8 @@ pub fn handle(
 {
     let config = runtime.config;
     let few = too_few(config, pending.len(), circuits.len(), inflight.len());
-    let room = room_answer(out.len(), few);
-    let answer = entry_answer(room, runtime, packet, source.len(), body.len());
+    let lent = room_answer(out.len(), few);
+    let answer = entry_answer(lent, runtime, packet, source.len(), body.len());
     if is_taken(answer) {
         let moved = with_clock(runtime, packet.now);
         let fewer = trim(pending, circuits, ledger, inflight, places);

@@ -191,10 +191,10 @@ pub fn disconnect(
         config,
         all,
     );
-    let room = entry.answer;
+    let lent = entry.answer;
     let first = entry.first;
     let named = peer_answer(peer.len());
-    let answer = first_refusal(room, named);
+    let answer = first_refusal(lent, named);
     if is_taken(answer) {
         clear_action(inflight, places, ActionsDropped::Toward, name);
         return revoke_all(
@@ -285,10 +285,10 @@ pub fn expire(
         config,
         all,
     );
-    let room = entry.answer;
+    let lent = entry.answer;
     let first = entry.first;
     let clock = clock_answer(runtime.trusted_time_high_water, time);
-    let answer = first_refusal(room, clock);
+    let answer = first_refusal(lent, clock);
     if is_taken(answer) {
         let moved = with_clock(runtime, time);
         drop_lapsed(ledger, places, time);
@@ -371,13 +371,13 @@ pub fn replace_enabled(
         config,
         all,
     );
-    let room = entry.answer;
+    let lent = entry.answer;
     let first = entry.first;
     let current = generation_answer(runtime.generation, expected_generation);
     let changes = changed(runtime.enabled, enabled);
     let exhausted = change_answer(runtime.generation, changes);
     let rest = first_refusal(current, exhausted);
-    let answer = first_refusal(room, rest);
+    let answer = first_refusal(lent, rest);
     if is_taken(answer) {
         if changes {
             return switch_to(

@@ -79,8 +79,8 @@ fn new_answer(
     let named = session_answer(session, generation);
     let valid = config.validate();
     let short = either(few, ledger == 0);
-    let room = check(short, HnsrRuntimeError::Short);
-    let rest = first_refusal(valid, room);
+    let lent = check(short, HnsrRuntimeError::Short);
+    let rest = first_refusal(valid, lent);
     first_refusal(named, rest)
 }
 

@@ -74,7 +74,7 @@ pub(crate) fn request_answer(
 }
 
 // The reservation's count is that of its pending records and that of its circuits.
-pub(crate) fn accept_room(
+pub(crate) fn accept_limit(
     config: OpaqueRelayConfig,
     pending: RelayPending,
     body: AcceptBody,
@@ -122,7 +122,7 @@ pub(crate) fn accept_rows(
     let result = read.result;
     let request = request_answer(found.found, pending, peer, now);
     let shaped = body_answer(result);
-    let room = accept_room(
+    let limit = accept_limit(
         config,
         pending,
         body,
@@ -131,7 +131,7 @@ pub(crate) fn accept_rows(
         running.under,
     );
     let capacity = capacity_answer(config, tally);
-    let last = first_refusal(room, capacity);
+    let last = first_refusal(limit, capacity);
     let rest = first_refusal(shaped, last);
     first_refusal(request, rest)
 }

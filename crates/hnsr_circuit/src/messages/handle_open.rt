@@ -191,11 +191,11 @@ pub(crate) fn open_placed(
     let message = incoming_out(plan);
     let question = asking(runtime, message);
     let scan = scan_actions(inflight, places, question);
-    let room = scan_ledger(ledger, places, id);
-    let answer = placed_rows(config, gathered, plan, drawing, scan, room);
+    let booked = scan_ledger(ledger, places, id);
+    let answer = placed_rows(config, gathered, plan, drawing, scan, booked);
     if is_taken(answer) {
-        let row = booked_usage(room, ticket);
-        let place = booked_place(room);
+        let row = booked_usage(booked, ticket);
+        let place = booked_place(booked);
         set_usage(ledger, true, place, row);
         let number = raised(places.ledger, true, place, size);
         let after = with_ledger(places, number);

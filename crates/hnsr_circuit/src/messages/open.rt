@@ -27,7 +27,7 @@ use crate::records::ledger::fresh_usage;
 use crate::records::ledger::ledger_answer;
 use crate::runtime::RelayPacket;
 use crate::tables::scan::ActionScan;
-use crate::tables::scan::LedgerRoom;
+use crate::tables::scan::LedgerScan;
 use crate::tables::scan::Work;
 use crate::tables::scan::WorkQuestion;
 use crate::tables::scan::reservation_work;
@@ -173,7 +173,7 @@ pub(crate) fn known_taken(gathered: OpenGathered) -> bool
 }
 
 // The requester's work is its pending records and its circuits.
-pub(crate) fn open_room(config: OpaqueRelayConfig, waiting: Work, running: Work) -> HnsrAnswer
+pub(crate) fn open_limit(config: OpaqueRelayConfig, waiting: Work, running: Work) -> HnsrAnswer
     ensures { λ r. ⌜ r ≡ openAnswer config (waiting .used) (running .used) (waiting .«of_peer» + running .«of_peer») (waiting .repeated) ⌝ }
 {
     let work = saturating_add_usize(waiting.of_peer, running.of_peer);
@@ -181,7 +181,7 @@ pub(crate) fn open_room(config: OpaqueRelayConfig, waiting: Work, running: Work)
 }
 
 // The endpoint's work and the reservation's are their pending records and their circuits.
-pub(crate) fn endpoint_room(
+pub(crate) fn endpoint_limit(
     config: OpaqueRelayConfig,
     ticket: RelayTicket,
     same: bool,
@@ -205,11 +205,11 @@ pub(crate) fn open_rows(config: OpaqueRelayConfig, gathered: OpenGathered) -> Hn
     let running = gathered.running;
     let ticket = packet.ticket;
     let result = read.result;
-    let room = open_room(config, waiting, running);
+    let limit = open_limit(config, waiting, running);
     let shaped = body_answer(result);
     let admission = admission_answer(packet.admitted, ticket.expires_at, packet.now);
     let rest = first_refusal(shaped, admission);
-    first_refusal(room, rest)
+    first_refusal(limit, rest)
 }
 
 // What an OPEN writes and sends, once its grant is good.
@@ -312,7 +312,7 @@ pub(crate) fn placed_entry(
     let ticket = plan.ticket;
     let same = same_peer(plan.endpoint, plan.requester);
     let named = peer_answer(gathered.size);
-    let endpoint = endpoint_room(config, ticket, same, waiting, running);
+    let endpoint = endpoint_limit(config, ticket, same, waiting, running);
     let drawn = draw_answer(drawing);
     let rest = first_refusal(endpoint, drawn);
     first_refusal(named, rest)
@@ -325,9 +325,9 @@ pub(crate) fn placed_rows(
     plan: OpenPlan,
     drawing: Drawing,
     scan: ActionScan,
-    room: LedgerRoom,
+    booked: LedgerScan,
 ) -> HnsrAnswer
-    ensures { λ r. ⌜ r ≡ placedRows config gathered plan drawing scan room ⌝ }
+    ensures { λ r. ⌜ r ≡ placedRows config gathered plan drawing scan booked ⌝ }
 {
     let packet = gathered.packet;
     let waiting = gathered.waiting;
@@ -336,11 +336,11 @@ pub(crate) fn placed_rows(
     let tally = scan.tally;
     let same = same_peer(plan.endpoint, plan.requester);
     let named = peer_answer(gathered.size);
-    let endpoint = endpoint_room(config, ticket, same, waiting, running);
+    let endpoint = endpoint_limit(config, ticket, same, waiting, running);
     let drawn = draw_answer(drawing);
     let capacity = capacity_answer(config, tally);
     let deadline = deadline_answer(config, packet.now);
-    let held = ledger_answer(room.found, room.used, room.places);
+    let held = ledger_answer(booked.found, booked.used, booked.places);
     let fifth = first_refusal(deadline, held);
     let fourth = first_refusal(capacity, fifth);
     let third = first_refusal(drawn, fourth);
@@ -349,21 +349,21 @@ pub(crate) fn placed_rows(
 }
 
 // The ledger record of a grant: the one that is found, else a fresh one.
-pub(crate) fn booked_usage(room: LedgerRoom, ticket: RelayTicket) -> ReservationUsage
-    ensures { λ r. ⌜ r ≡ cond (room .found) (room .usage) (freshUsage ticket) ⌝ }
+pub(crate) fn booked_usage(booked: LedgerScan, ticket: RelayTicket) -> ReservationUsage
+    ensures { λ r. ⌜ r ≡ cond (booked .found) (booked .usage) (freshUsage ticket) ⌝ }
 {
     let fresh = fresh_usage(ticket);
-    if room.found {
-        return room.usage;
+    if booked.found {
+        return booked.usage;
     }
     fresh
 }
 
-pub(crate) fn booked_place(room: LedgerRoom) -> usize
-    ensures { λ r. ⌜ r ≡ cond (room .found) (room .place) (room .«spare_place») ⌝ }
+pub(crate) fn booked_place(booked: LedgerScan) -> usize
+    ensures { λ r. ⌜ r ≡ cond (booked .found) (booked .place) (booked .«spare_place») ⌝ }
 {
-    if room.found {
-        return room.place;
+    if booked.found {
+        return booked.place;
     }
-    room.spare_place
+    booked.spare_place
 }

@@ -15,10 +15,10 @@ use crate::records::ledger::usage_over;
 use crate::records::ledger::usage_unmarked;
 use crate::tables::places::Places;
 use crate::tables::places::held_usage;
-use crate::tables::places::room_spared;
-use crate::tables::scan::LedgerRoom;
-use crate::tables::scan::no_room;
-use crate::tables::scan::room_on;
+use crate::tables::places::ledger_spared;
+use crate::tables::scan::LedgerScan;
+use crate::tables::scan::no_ledger_scan;
+use crate::tables::scan::usage_scanned;
 use crate::tables::scan::within;
 use hns_encoding::numbers::min_usize;
 use hnsr_body::values::ReservationId;
@@ -45,19 +45,19 @@ pub(crate) fn scan_ledger(
     ledger: &[ReservationUsage],
     places: Places,
     id: ReservationId,
-) -> LedgerRoom
+) -> LedgerScan
     ensures { λ r. ⌜ r ≡ ledgerAsked id (heldLedger places (now (ledger .entry))) ⌝ }
 {
     let size = ledger.len();
     let end = min_usize(places.ledger, size);
-    let mut room = no_room(size);
+    let mut scan = no_ledger_scan(size);
     let mut i: usize = 0;
     while i < end {
         let row = ledger[i];
-        room = room_on(room, row, id, i);
+        scan = usage_scanned(scan, row, id, i);
         i += 1;
     }
-    room_spared(room, i, size)
+    ledger_spared(scan, i, size)
 }
 
 pub(crate) fn usage_at(

@@ -6,7 +6,7 @@ ghost use Rattle.hnsr_circuit.specs.Circuits.{clearCircuit};
 ghost use Rattle.hnsr_circuit.specs.Ledger.{clearUsage};
 ghost use Rattle.hnsr_circuit.specs.Inflight.{clearAction};
 ghost use Rattle.hnsr_circuit.specs.Code.Held.{noPlace, everyPlace, withPending, withCircuits, withLedger, withActions, raisedTo};
-ghost use Rattle.hnsr_circuit.specs.Code.Turns.{scanSpared, roomSpared};
+ghost use Rattle.hnsr_circuit.specs.Code.Turns.{scanSpared, ledgerSpared};
 use crate::records::InflightAction;
 use crate::records::RelayCircuit;
 use crate::records::RelayPending;
@@ -16,7 +16,7 @@ use crate::records::inflight::action_unmarked;
 use crate::records::ledger::usage_unmarked;
 use crate::records::pending::pending_unmarked;
 use crate::tables::scan::ActionScan;
-use crate::tables::scan::LedgerRoom;
+use crate::tables::scan::LedgerScan;
 use crate::tables::scan::first_place;
 use crate::tables::scan::within;
 use hns_encoding::logic::both;
@@ -127,19 +127,19 @@ pub(crate) fn spared(scan: ActionScan, place: usize, places: usize) -> ActionSca
     }
 }
 
-pub(crate) fn room_spared(room: LedgerRoom, place: usize, places: usize) -> LedgerRoom
-    ensures { λ r. ⌜ r ≡ roomSpared room place places ⌝ }
+pub(crate) fn ledger_spared(scan: LedgerScan, place: usize, places: usize) -> LedgerScan
+    ensures { λ r. ⌜ r ≡ ledgerSpared scan place places ⌝ }
 {
-    let usage = room.usage;
+    let usage = scan.usage;
     let here = place < places;
-    LedgerRoom {
-        found: room.found,
-        place: room.place,
+    LedgerScan {
+        found: scan.found,
+        place: scan.place,
         usage,
-        used: room.used,
-        spare: either(room.spare, here),
-        spare_place: first_place(room.spare, here, place, room.spare_place),
-        places: room.places,
+        used: scan.used,
+        spare: either(scan.spare, here),
+        spare_place: first_place(scan.spare, here, place, scan.spare_place),
+        places: scan.places,
     }
 }
 

@@ -9,7 +9,7 @@ ghost use Rattle.hnsr_circuit.specs.Pending.{pendingId, isPending};
 ghost use Rattle.hnsr_circuit.specs.Circuits.{circuitId, isCircuit};
 ghost use Rattle.hnsr_circuit.specs.Code.Question.{pendingHas, circuitHas};
 ghost use Rattle.hnsr_circuit.specs.NextDue.{earlier, dueTurn, deadlineOf, expiryOf};
-ghost use Rattle.hnsr_circuit.specs.Code.Turns.{noWork, workOn, WorkAtMost, pendingWorked, circuitWorked, noTotals, totalled, TallyAtMost, noScan, firstPlace, tallyOn, scanned, noRoom, roomOn};
+ghost use Rattle.hnsr_circuit.specs.Code.Turns.{noWork, workOn, WorkAtMost, pendingWorked, circuitWorked, noTotals, totalled, TallyAtMost, noScan, firstPlace, tallyOn, scanned, noLedgerScan, usageScanned};
 use crate::peer::HnsrPeerId;
 use crate::peer::same_peer_in_scan;
 use crate::records::InflightAction;
@@ -100,7 +100,7 @@ pub struct ActionScan {
 
 // What OPEN asks of all ledger records: whether its record is there, where, and itself; how many are used, the lowest unused place, and of how
 // many places.
-pub struct LedgerRoom {
+pub struct LedgerScan {
     pub found: bool,
     pub place: usize,
     pub usage: ReservationUsage,
@@ -409,11 +409,11 @@ pub(crate) fn action_scanned(
 // ---- what OPEN asks of the ledger
 
 // Nothing found yet stands at the number of places.
-pub(crate) fn no_room(places: usize) -> LedgerRoom
-    ensures { λ r. ⌜ r ≡ noRoom places ⌝ }
+pub(crate) fn no_ledger_scan(places: usize) -> LedgerScan
+    ensures { λ r. ⌜ r ≡ noLedgerScan places ⌝ }
 {
     let usage = no_usage();
-    LedgerRoom {
+    LedgerScan {
         found: false,
         place: places,
         usage,
@@ -442,27 +442,27 @@ fn first_usage(
     kept
 }
 
-pub(crate) fn room_on(
-    room: LedgerRoom,
+pub(crate) fn usage_scanned(
+    scan: LedgerScan,
     row: ReservationUsage,
     id: ReservationId,
     place: usize,
-) -> LedgerRoom
-    requires { ⌜ room .used < 18446744073709551615 ⌝ }
-    ensures { λ r. ⌜ r ≡ roomOn id room row place ⌝ }
+) -> LedgerScan
+    requires { ⌜ scan .used < 18446744073709551615 ⌝ }
+    ensures { λ r. ⌜ r ≡ usageScanned id scan row place ⌝ }
 {
     let is = usage_is(row, id);
     let marked = is_usage(row);
     let free = no(marked);
-    let kept = room.usage;
-    let usage = first_usage(room.found, is, row, kept);
-    LedgerRoom {
-        found: either(room.found, is),
-        place: first_place(room.found, is, place, room.place),
+    let kept = scan.usage;
+    let usage = first_usage(scan.found, is, row, kept);
+    LedgerScan {
+        found: either(scan.found, is),
+        place: first_place(scan.found, is, place, scan.place),
         usage,
-        used: one_more(room.used, marked),
-        spare: either(room.spare, free),
-        spare_place: first_place(room.spare, free, place, room.spare_place),
-        places: room.places,
+        used: one_more(scan.used, marked),
+        spare: either(scan.spare, free),
+        spare_place: first_place(scan.spare, free, place, scan.spare_place),
+        places: scan.places,
     }
 }

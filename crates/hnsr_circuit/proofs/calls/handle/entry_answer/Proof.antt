@@ -30,7 +30,7 @@ returns c =
     let here = at.returns c in
     let a = here .start .args in
     let rest = here .first-refusal .ensures ∙ (λ x. here .peer-answer .ensures x then here .packet-answer .ensures x) in
-    let entered = here .first-refusal2 .ensures ∙ (λ x. a .room then rest x) in
+    let entered = here .first-refusal2 .ensures ∙ (λ x. a .lent then rest x) in
     here .first-refusal3 .ensures ∙ (λ x. entered x then here .clock-answer .ensures x)
 
 pub entry-answer-spec : {M : Type 1} → statement M

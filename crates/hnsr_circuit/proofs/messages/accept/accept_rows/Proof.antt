@@ -11,8 +11,8 @@ request-answer-requires c κs = search needs
 body-answer-requires : tie.Need-body-answer-requires
 body-answer-requires c κs = search needs
 
-accept-room-requires : tie.Need-accept-room-requires
-accept-room-requires c κs = search needs
+accept-limit-requires : tie.Need-accept-limit-requires
+accept-limit-requires c κs = search needs
 
 capacity-answer-requires : tie.Need-capacity-answer-requires
 capacity-answer-requires c κs = search needs
@@ -29,7 +29,7 @@ first-refusal-requires-3 c κs = search needs
 returns : tie.Need-returns
 returns c =
     let here = at.returns c in
-    rw (here .first-refusal3 .ensures, here .first-refusal2 .ensures, here .first-refusal .ensures, here .capacity-answer .ensures, here .accept-room .ensures, here .body-answer .ensures, here .request-answer .ensures)
+    rw (here .first-refusal3 .ensures, here .first-refusal2 .ensures, here .first-refusal .ensures, here .capacity-answer .ensures, here .accept-limit .ensures, here .body-answer .ensures, here .request-answer .ensures)
 
 pub accept-rows-spec : {M : Type 1} → statement M
 accept-rows-spec =
@@ -37,7 +37,7 @@ accept-rows-spec =
     (tie.spec
     request-answer-requires
     body-answer-requires
-    accept-room-requires
+    accept-limit-requires
     capacity-answer-requires
     first-refusal-requires
     first-refusal-requires-2

@@ -13,12 +13,12 @@ fresh-usage-requires c κs = search needs
 returns : tie.Need-returns
 returns c =
     let here = at.returns c in
-    let a = here .start .args in sym (on-true _ (a .room .usage) _ (here .if1 .taken))
+    let a = here .start .args in sym (on-true _ (a .booked .usage) _ (here .if1 .taken))
 
 returns-2 : tie.Need-returns-2
 returns-2 c =
     let here = at.returns-2 c in
-    let a = here .start .args in here .fresh-usage .ensures ∙ sym (on-false _ (a .room .usage) _ (here .if1 .left))
+    let a = here .start .args in here .fresh-usage .ensures ∙ sym (on-false _ (a .booked .usage) _ (here .if1 .left))
 
 pub booked-usage-spec : {M : Type 1} → statement M
 booked-usage-spec = tie.close (tie.spec fresh-usage-requires returns returns-2)

@@ -5,8 +5,8 @@ use Rattle.hnsr_circuit.proofs.messages.open.open_rows.Statement.{state
 use Rattle.hnsr_circuit.proofs.messages.open.open_rows.Tie as tie
 use Rattle.hnsr_circuit.proofs.messages.open.open_rows.Proof.At as at
 
-open-room-requires : tie.Need-open-room-requires
-open-room-requires c κs = search needs
+open-limit-requires : tie.Need-open-limit-requires
+open-limit-requires c κs = search needs
 
 body-answer-requires : tie.Need-body-answer-requires
 body-answer-requires c κs = search needs
@@ -23,13 +23,13 @@ first-refusal-requires-2 c κs = search needs
 returns : tie.Need-returns
 returns c =
     let here = at.returns c in
-    rw (here .first-refusal2 .ensures, here .first-refusal .ensures, here .admission-answer .ensures, here .body-answer .ensures, here .open-room .ensures)
+    rw (here .first-refusal2 .ensures, here .first-refusal .ensures, here .admission-answer .ensures, here .body-answer .ensures, here .open-limit .ensures)
 
 pub open-rows-spec : {M : Type 1} → statement M
 open-rows-spec =
     tie.close
     (tie.spec
-    open-room-requires
+    open-limit-requires
     body-answer-requires
     admission-answer-requires
     first-refusal-requires

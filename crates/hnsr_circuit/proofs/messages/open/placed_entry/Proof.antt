@@ -9,8 +9,8 @@ same-peer-requires c κs = search needs
 peer-answer-requires : tie.Need-peer-answer-requires
 peer-answer-requires c κs = search needs
 
-endpoint-room-requires : tie.Need-endpoint-room-requires
-endpoint-room-requires c κs = search needs
+endpoint-limit-requires : tie.Need-endpoint-limit-requires
+endpoint-limit-requires c κs = search needs
 
 draw-answer-requires : tie.Need-draw-answer-requires
 draw-answer-requires c κs = search needs
@@ -30,7 +30,7 @@ placed-entry-spec =
     (tie.spec
     same-peer-requires
     peer-answer-requires
-    endpoint-room-requires
+    endpoint-limit-requires
     draw-answer-requires
     first-refusal-requires
     first-refusal-requires-2

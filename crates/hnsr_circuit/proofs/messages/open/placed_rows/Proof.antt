@@ -11,8 +11,8 @@ same-peer-requires c κs = search needs
 peer-answer-requires : tie.Need-peer-answer-requires
 peer-answer-requires c κs = search needs
 
-endpoint-room-requires : tie.Need-endpoint-room-requires
-endpoint-room-requires c κs = search needs
+endpoint-limit-requires : tie.Need-endpoint-limit-requires
+endpoint-limit-requires c κs = search needs
 
 draw-answer-requires : tie.Need-draw-answer-requires
 draw-answer-requires c κs = search needs
@@ -44,7 +44,7 @@ first-refusal-requires-5 c κs = search needs
 returns : tie.Need-returns
 returns c =
     let here = at.returns c in
-    rw (here .first-refusal5 .ensures, here .first-refusal4 .ensures, here .first-refusal3 .ensures, here .first-refusal2 .ensures, here .first-refusal .ensures, here .ledger-answer .ensures, here .deadline-answer .ensures, here .capacity-answer .ensures, here .draw-answer .ensures, here .endpoint-room .ensures, here .peer-answer .ensures, here .same-peer .ensures)
+    rw (here .first-refusal5 .ensures, here .first-refusal4 .ensures, here .first-refusal3 .ensures, here .first-refusal2 .ensures, here .first-refusal .ensures, here .ledger-answer .ensures, here .deadline-answer .ensures, here .capacity-answer .ensures, here .draw-answer .ensures, here .endpoint-limit .ensures, here .peer-answer .ensures, here .same-peer .ensures)
 
 pub placed-rows-spec : {M : Type 1} → statement M
 placed-rows-spec =
@@ -52,7 +52,7 @@ placed-rows-spec =
     (tie.spec
     same-peer-requires
     peer-answer-requires
-    endpoint-room-requires
+    endpoint-limit-requires
     draw-answer-requires
     capacity-answer-requires
     deadline-answer-requires

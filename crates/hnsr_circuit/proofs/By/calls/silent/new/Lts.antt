@@ -1166,8 +1166,9 @@ module _ (claims· : Claims) where
 
           d23 : Typed.Typed 𝓤 H A 𝓣 E G16 b21 Δ0 at23
           d23 = Typed.s-seq 𝓤 H A W 𝓣 E G16 G28 b15 b20 Δ0 (Typed.both s25) at22 (Plain.t-call-plain 𝓤 H A W 𝓣 0 ps·6
-              r·6 (claims· .12) (claims· .13) "hnsr_circuit::records::runtime::no_runtime" (known .6) E (λ pos β. β) G16
-              tt 13 List.[] (Call.sub-id 𝓤 H A W (G16 .slots)) tt (Reads.room-gone 𝓤 H A Laws''.mir) tt Path.refl) d22
+              r·6 (claims· .12) (claims· .13) "hnsr_circuit::records::runtime::no_runtime" (known .6) E (λ pos β. β)
+              G16 tt 13 List.[] (Call.sub-id 𝓤 H A W (G16 .slots)) tt (Reads.room-gone 𝓤 H A Laws''.mir) tt Path.refl)
+              d22
 
           d24 : Typed.Typed 𝓤 H A 𝓣 E G15 b22 Δ0 at24
           d24 = Typed.t-seq 𝓤 H A W 𝓣 E G15 G16 b14 b21 Δ0 at13 at23 d13 d23

@@ -3850,9 +3850,9 @@ module _ (claims· : Claims) where
             (claims· .5) "hnsr_circuit::messages::open::pending_for") (known3 : Plain.Known 𝓤 H A W 𝓣 1 ps·3 r·3
             (claims· .6) (claims· .7) "hnsr_circuit::tables::stores::put_pending") (known4 : Plain.Known 𝓤 H A W 𝓣 0
             ps·4 r·4 (claims· .8) (claims· .9) "hnsr_circuit::tables::places::with_pending") (known5 : Plain.Known 𝓤 H
-            A W 𝓣 0 ps·5 r·5 (claims· .10) (claims· .11) "hnsr_circuit::records::runtime::opened") (known6 : Plain.Known
-            𝓤 H A W 𝓣 0 ps·6 r·6 (claims· .12) (claims· .13) "hnsr_circuit::messages::open::incoming_out") (known7 :
-            Plain.Known 𝓤 H A W 𝓣 0 ps·7 r·7 (claims· .14) (claims· .15) "hnsr_circuit::messages::open::incoming_for") (known8
+            A W 𝓣 0 ps·5 r·5 (claims· .10) (claims· .11) "hnsr_circuit::records::runtime::opened") (known6 :
+            Plain.Known 𝓤 H A W 𝓣 0 ps·6 r·6 (claims· .12) (claims· .13) "hnsr_circuit::messages::open::incoming_out") (known7
+            : Plain.Known 𝓤 H A W 𝓣 0 ps·7 r·7 (claims· .14) (claims· .15) "hnsr_circuit::messages::open::incoming_for") (known8
             : Plain.Known 𝓤 H A W 𝓣 0 ps·8 r·8 (claims· .16) (claims· .17)
             "hnsr_body::incoming_body::IncomingBody::to_bytes") (known9 : Plain.Known 𝓤 H A W 𝓣 3 ps·9 r·9
             (claims· .18) (claims· .19) "hnsr_circuit::output::queue::send") (known10 : Plain.Known 𝓤 H A W 𝓣 0 ps·10

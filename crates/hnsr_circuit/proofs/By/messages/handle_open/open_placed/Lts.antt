@@ -30,8 +30,8 @@ use Rattle.hnsr_circuit.proofs.tables.scan.ActionQuestion
 use Rattle.hnsr_circuit.proofs.tables.scan.ActionQuestion.Laws as Laws'''''''''''
 use Rattle.hnsr_circuit.proofs.tables.scan.ActionScan
 use Rattle.hnsr_circuit.proofs.tables.scan.ActionScan.Laws as Laws''''''''''''
-use Rattle.hnsr_circuit.proofs.tables.scan.LedgerRoom
-use Rattle.hnsr_circuit.proofs.tables.scan.LedgerRoom.Laws as Laws'''''''''''''
+use Rattle.hnsr_circuit.proofs.tables.scan.LedgerScan
+use Rattle.hnsr_circuit.proofs.tables.scan.LedgerScan.Laws as Laws'''''''''''''
 use borrow.Author.Called
 use borrow.Fn.Any
 use borrow.Fn.Call
@@ -190,7 +190,7 @@ ps·3 = (ShrSlice.pShrS ReservationUsage.row 0 tt) ∷ (StructRow.param Places.t
     Laws.the-copy Laws.the-plain) ∷ List.[]
 
 abbrev pub r·3 : Kinds.RK 1
-r·3 = StructRow.result LedgerRoom.the-type Laws'''''''''''''.the-laws Laws'''''''''''''.the-copy
+r·3 = StructRow.result LedgerScan.the-type Laws'''''''''''''.the-laws Laws'''''''''''''.the-copy
     Laws'''''''''''''.the-plain
 
 abbrev pub ps·4 : List.List (Kinds.PK 0)
@@ -198,7 +198,7 @@ ps·4 = (StructRow.param OpaqueRelayConfig.the-type Laws''.the-laws Laws''.the-c
     OpenGathered.the-type Laws''''.the-laws Laws''''.the-copy Laws''''.the-plain) ∷ (StructRow.param OpenPlan.the-type
     Laws'''''.the-laws Laws'''''.the-copy Laws'''''.the-plain) ∷ (StructRow.param Drawing.the-type Laws'''.the-laws
     Laws'''.the-copy Laws'''.the-plain) ∷ (StructRow.param ActionScan.the-type Laws''''''''''''.the-laws
-    Laws''''''''''''.the-copy Laws''''''''''''.the-plain) ∷ (StructRow.param LedgerRoom.the-type
+    Laws''''''''''''.the-copy Laws''''''''''''.the-plain) ∷ (StructRow.param LedgerScan.the-type
     Laws'''''''''''''.the-laws Laws'''''''''''''.the-copy Laws'''''''''''''.the-plain) ∷ List.[]
 
 abbrev pub r·4 : Kinds.RK 0
@@ -211,7 +211,7 @@ abbrev pub r·5 : Kinds.RK 0
 r·5 = Bool.rBool
 
 abbrev pub ps·6 : List.List (Kinds.PK 0)
-ps·6 = (StructRow.param LedgerRoom.the-type Laws'''''''''''''.the-laws Laws'''''''''''''.the-copy
+ps·6 = (StructRow.param LedgerScan.the-type Laws'''''''''''''.the-laws Laws'''''''''''''.the-copy
     Laws'''''''''''''.the-plain) ∷ (StructRow.param RelayTicket.the-type Laws'''''''.the-laws Laws'''''''.the-copy
     Laws'''''''.the-plain) ∷ List.[]
 
@@ -219,7 +219,7 @@ abbrev pub r·6 : Kinds.RK 0
 r·6 = ReservationUsage.result
 
 abbrev pub ps·7 : List.List (Kinds.PK 0)
-ps·7 = (StructRow.param LedgerRoom.the-type Laws'''''''''''''.the-laws Laws'''''''''''''.the-copy
+ps·7 = (StructRow.param LedgerScan.the-type Laws'''''''''''''.the-laws Laws'''''''''''''.the-copy
     Laws'''''''''''''.the-plain) ∷ List.[]
 
 abbrev pub r·7 : Kinds.RK 0
@@ -677,7 +677,7 @@ abbrev e26·1 : Row.Entry
 e26·1 = (26, Rows.sslice ReservationUsage.row ref1 5)
 
 abbrev e17·1 : Row.Entry
-e17·1 = (17, Rows.whole (Declared'.row LedgerRoom.the-type))
+e17·1 = (17, Rows.whole (Declared'.row LedgerScan.the-type))
 
 abbrev e18·1 : Row.Entry
 e18·1 = (18, Rows.whole (Declared.row HnsrAnswer.the-type))
@@ -3140,7 +3140,7 @@ module _ (claims· : Claims) where
 
           d40 : Typed.Typed 𝓤 H A 𝓣 E G38 b40 Δ1 (at40 bs)
           d40 = Typed.g-pre 𝓤 H A W 𝓣 E G38 G39 b40 Δ1 (Typed.pass T38 T39 (s36 bs)) (at39 bs) (Scalar.g-room 𝓤 H A W E
-              G38 17 Laws'''''''''''''.mir (Local.room-whole 𝓤 H A W (Declared'.row LedgerRoom.the-type)
+              G38 17 Laws'''''''''''''.mir (Local.room-whole 𝓤 H A W (Declared'.row LedgerScan.the-type)
               Laws'''''''''''''.mir Path.refl)) d39
 
           d41 : Typed.Typed 𝓤 H A 𝓣 E G37 b41 Δ1 (at41 bs)
@@ -3149,11 +3149,11 @@ module _ (claims· : Claims) where
               (λ pos β. β) G37 (record { pos = 17; st = List.[]; d = 0; at = λ x. x }, tt) 20 List.[]
               (Call.sub-id 𝓤 H A W (G37 .slots)) (
                 (
-                  Yields.yields-copy 𝓤 H A W (λ ρ. Unit) (Declared'.row LedgerRoom.the-type) Path.refl (Copies.cStruct
-                      LedgerRoom.the-type Laws'''''''''''''.the-laws Laws'''''''''''''.the-copy .copy 𝓤 H A W)
-                      (Rows.whole (Declared'.row LedgerRoom.the-type)) (λ x. x) (λ x. x) (λ ρ told. Local.mem-whole 𝓤 H
-                      A W (Declared'.row LedgerRoom.the-type) ρ) λ ρ told. Local.whole-mem 𝓤 H A W
-                      (Declared'.row LedgerRoom.the-type) ρ,
+                  Yields.yields-copy 𝓤 H A W (λ ρ. Unit) (Declared'.row LedgerScan.the-type) Path.refl (Copies.cStruct
+                      LedgerScan.the-type Laws'''''''''''''.the-laws Laws'''''''''''''.the-copy .copy 𝓤 H A W)
+                      (Rows.whole (Declared'.row LedgerScan.the-type)) (λ x. x) (λ x. x) (λ ρ told. Local.mem-whole 𝓤 H
+                      A W (Declared'.row LedgerScan.the-type) ρ) λ ρ told. Local.whole-mem 𝓤 H A W
+                      (Declared'.row LedgerScan.the-type) ρ,
                   Path.refl,
                 ),
                 tt,
@@ -3172,11 +3172,11 @@ module _ (claims· : Claims) where
                 (record { pos = 12; st = List.[]; d = 0; at = λ x. x }, tt),
               ) 19 List.[] (Call.sub-id 𝓤 H A W (G35 .slots)) (
                 (
-                  Yields.yields-copy 𝓤 H A W (λ ρ. Unit) (Declared'.row LedgerRoom.the-type) Path.refl (Copies.cStruct
-                      LedgerRoom.the-type Laws'''''''''''''.the-laws Laws'''''''''''''.the-copy .copy 𝓤 H A W)
-                      (Rows.whole (Declared'.row LedgerRoom.the-type)) (λ x. x) (λ x. x) (λ ρ told. Local.mem-whole 𝓤 H
-                      A W (Declared'.row LedgerRoom.the-type) ρ) λ ρ told. Local.whole-mem 𝓤 H A W
-                      (Declared'.row LedgerRoom.the-type) ρ,
+                  Yields.yields-copy 𝓤 H A W (λ ρ. Unit) (Declared'.row LedgerScan.the-type) Path.refl (Copies.cStruct
+                      LedgerScan.the-type Laws'''''''''''''.the-laws Laws'''''''''''''.the-copy .copy 𝓤 H A W)
+                      (Rows.whole (Declared'.row LedgerScan.the-type)) (λ x. x) (λ x. x) (λ ρ told. Local.mem-whole 𝓤 H
+                      A W (Declared'.row LedgerScan.the-type) ρ) λ ρ told. Local.whole-mem 𝓤 H A W
+                      (Declared'.row LedgerScan.the-type) ρ,
                   Path.refl,
                 ),
                 (
@@ -3209,7 +3209,7 @@ module _ (claims· : Claims) where
 
           d48 : Typed.Typed 𝓤 H A 𝓣 E G81 b43 Δ1 (at48 bs)
           d48 = Typed.g-pre 𝓤 H A W 𝓣 E G81 G82 b43 Δ1 (Typed.pass T81 T82 (s79 bs)) (at47 bs) (Scalar.g-room 𝓤 H A W E
-              G81 17 Laws'''''''''''''.mir (Local.room-whole 𝓤 H A W (Declared'.row LedgerRoom.the-type)
+              G81 17 Laws'''''''''''''.mir (Local.room-whole 𝓤 H A W (Declared'.row LedgerScan.the-type)
               Laws'''''''''''''.mir Path.refl)) d47
 
           d49 : Typed.Typed 𝓤 H A 𝓣 E G80 b43 Δ1 (at49 bs)
@@ -3390,11 +3390,11 @@ module _ (claims· : Claims) where
                         ),
                         (
                           (
-                            Yields.yields-copy 𝓤 H A W (λ ρ. Unit) (Declared'.row LedgerRoom.the-type) Path.refl (Copies.cStruct
-                                LedgerRoom.the-type Laws'''''''''''''.the-laws Laws'''''''''''''.the-copy .copy 𝓤 H A W)
-                                (Rows.whole (Declared'.row LedgerRoom.the-type)) (λ x. x) (λ x. x) (λ ρ told.
-                                Local.mem-whole 𝓤 H A W (Declared'.row LedgerRoom.the-type) ρ) λ ρ told.
-                                Local.whole-mem 𝓤 H A W (Declared'.row LedgerRoom.the-type) ρ,
+                            Yields.yields-copy 𝓤 H A W (λ ρ. Unit) (Declared'.row LedgerScan.the-type) Path.refl (Copies.cStruct
+                                LedgerScan.the-type Laws'''''''''''''.the-laws Laws'''''''''''''.the-copy .copy 𝓤 H A W)
+                                (Rows.whole (Declared'.row LedgerScan.the-type)) (λ x. x) (λ x. x) (λ ρ told.
+                                Local.mem-whole 𝓤 H A W (Declared'.row LedgerScan.the-type) ρ) λ ρ told.
+                                Local.whole-mem 𝓤 H A W (Declared'.row LedgerScan.the-type) ρ,
                             Path.refl,
                           ),
                           tt,

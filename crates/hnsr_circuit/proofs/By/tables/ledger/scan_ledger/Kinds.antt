@@ -5,8 +5,8 @@ use Rattle.hnsr_circuit.proofs.By.ReservationUsage
 use Rattle.hnsr_circuit.proofs.StructRow
 use Rattle.hnsr_circuit.proofs.tables.places.Places
 use Rattle.hnsr_circuit.proofs.tables.places.Places.Laws as Laws'
-use Rattle.hnsr_circuit.proofs.tables.scan.LedgerRoom
-use Rattle.hnsr_circuit.proofs.tables.scan.LedgerRoom.Laws as Laws''
+use Rattle.hnsr_circuit.proofs.tables.scan.LedgerScan
+use Rattle.hnsr_circuit.proofs.tables.scan.LedgerScan.Laws as Laws''
 use borrow.Fn.Kinds
 use borrow.Kind.ShrSlice
 use mathlib.Core.List
@@ -17,4 +17,4 @@ ps = (ShrSlice.pShrS ReservationUsage.row 0 tt) ∷ (StructRow.param Places.the-
     Laws'.the-plain) ∷ (StructRow.param ReservationId.the-type Laws.the-laws Laws.the-copy Laws.the-plain) ∷ List.[]
 
 abbrev pub r : Kinds.RK 1
-r = StructRow.result LedgerRoom.the-type Laws''.the-laws Laws''.the-copy Laws''.the-plain
+r = StructRow.result LedgerScan.the-type Laws''.the-laws Laws''.the-copy Laws''.the-plain

@@ -6,8 +6,8 @@ use Rattle.hnsr_circuit.proofs.By.ReservationUsage
 use Rattle.hnsr_circuit.proofs.StructRow
 use Rattle.hnsr_circuit.proofs.tables.places.Places
 use Rattle.hnsr_circuit.proofs.tables.places.Places.Laws as Laws'
-use Rattle.hnsr_circuit.proofs.tables.scan.LedgerRoom
-use Rattle.hnsr_circuit.proofs.tables.scan.LedgerRoom.Laws as Laws''
+use Rattle.hnsr_circuit.proofs.tables.scan.LedgerScan
+use Rattle.hnsr_circuit.proofs.tables.scan.LedgerScan.Laws as Laws''
 use borrow.Author.Called
 use borrow.Author.Tests
 use borrow.Fn.Any
@@ -57,7 +57,7 @@ ps = (ShrSlice.pShrS ReservationUsage.row 0 tt) ∷ (StructRow.param Places.the-
     Laws'.the-plain) ∷ (StructRow.param ReservationId.the-type Laws.the-laws Laws.the-copy Laws.the-plain) ∷ List.[]
 
 abbrev pub r : Kinds.RK 1
-r = StructRow.result LedgerRoom.the-type Laws''.the-laws Laws''.the-copy Laws''.the-plain
+r = StructRow.result LedgerScan.the-type Laws''.the-laws Laws''.the-copy Laws''.the-plain
 
 abbrev pub xs : List.List Syntax.Ty
 xs = (Syntax.tyInt Syntax.w64) ∷ (Syntax.tyInt Syntax.w64) ∷ Laws''.mir ∷ (Syntax.tyInt Syntax.w64) ∷
@@ -76,22 +76,22 @@ abbrev pub ps·1 : List.List (Kinds.PK 0)
 ps·1 = (Num.pNum Syntax.w64) ∷ List.[]
 
 abbrev pub r·1 : Kinds.RK 0
-r·1 = StructRow.result LedgerRoom.the-type Laws''.the-laws Laws''.the-copy Laws''.the-plain
+r·1 = StructRow.result LedgerScan.the-type Laws''.the-laws Laws''.the-copy Laws''.the-plain
 
 abbrev pub ps·2 : List.List (Kinds.PK 0)
-ps·2 = (StructRow.param LedgerRoom.the-type Laws''.the-laws Laws''.the-copy Laws''.the-plain) ∷ ReservationUsage.param
+ps·2 = (StructRow.param LedgerScan.the-type Laws''.the-laws Laws''.the-copy Laws''.the-plain) ∷ ReservationUsage.param
     ∷ (StructRow.param ReservationId.the-type Laws.the-laws Laws.the-copy Laws.the-plain) ∷ (Num.pNum Syntax.w64) ∷
     List.[]
 
 abbrev pub r·2 : Kinds.RK 0
-r·2 = StructRow.result LedgerRoom.the-type Laws''.the-laws Laws''.the-copy Laws''.the-plain
+r·2 = StructRow.result LedgerScan.the-type Laws''.the-laws Laws''.the-copy Laws''.the-plain
 
 abbrev pub ps·3 : List.List (Kinds.PK 0)
-ps·3 = (StructRow.param LedgerRoom.the-type Laws''.the-laws Laws''.the-copy Laws''.the-plain) ∷ (Num.pNum Syntax.w64) ∷
+ps·3 = (StructRow.param LedgerScan.the-type Laws''.the-laws Laws''.the-copy Laws''.the-plain) ∷ (Num.pNum Syntax.w64) ∷
     (Num.pNum Syntax.w64) ∷ List.[]
 
 abbrev pub r·3 : Kinds.RK 0
-r·3 = StructRow.result LedgerRoom.the-type Laws''.the-laws Laws''.the-copy Laws''.the-plain
+r·3 = StructRow.result LedgerScan.the-type Laws''.the-laws Laws''.the-copy Laws''.the-plain
 
 abbrev pub hs : List.List Syntax.Home
 hs = Syntax.valueLocal ∷ Syntax.valueLocal ∷ Syntax.valueLocal ∷ Syntax.valueLocal ∷ Syntax.valueLocal ∷
@@ -106,7 +106,7 @@ b1 = Syntax.call "hns_encoding::numbers::min_usize" ((Syntax.copy (Syntax.place 
     (Syntax.copy (Syntax.place 4 List.[])) ∷ List.[]) (Syntax.place 5 List.[])
 
 abbrev b2 : Syntax.Body
-b2 = Syntax.call "hnsr_circuit::tables::scan::no_room" ((Syntax.copy (Syntax.place 4 List.[])) ∷ List.[])
+b2 = Syntax.call "hnsr_circuit::tables::scan::no_ledger_scan" ((Syntax.copy (Syntax.place 4 List.[])) ∷ List.[])
     (Syntax.place 6 List.[])
 
 abbrev b3 : Syntax.Body
@@ -141,7 +141,7 @@ abbrev b11 : Syntax.Body
 b11 = Syntax.assign (Syntax.place 8 List.[]) (Syntax.rvOpd (Syntax.copy (Syntax.place 12 List.[])))
 
 abbrev b12 : Syntax.Body
-b12 = Syntax.call "hnsr_circuit::tables::scan::room_on" ((Syntax.copy (Syntax.place 6 List.[])) ∷
+b12 = Syntax.call "hnsr_circuit::tables::scan::usage_scanned" ((Syntax.copy (Syntax.place 6 List.[])) ∷
     (Syntax.copy (Syntax.place 8 List.[])) ∷ (Syntax.copy (Syntax.place 3 List.[])) ∷
     (Syntax.copy (Syntax.place 7 List.[])) ∷ List.[]) (Syntax.place 6 List.[])
 
@@ -177,7 +177,7 @@ abbrev b22 : Syntax.Body
 b22 = Syntax.block b21
 
 abbrev b23 : Syntax.Body
-b23 = Syntax.call "hnsr_circuit::tables::places::room_spared" ((Syntax.copy (Syntax.place 6 List.[])) ∷
+b23 = Syntax.call "hnsr_circuit::tables::places::ledger_spared" ((Syntax.copy (Syntax.place 6 List.[])) ∷
     (Syntax.copy (Syntax.place 7 List.[])) ∷ (Syntax.copy (Syntax.place 4 List.[])) ∷ List.[]) (Syntax.place 0 List.[])
 
 abbrev b24 : Syntax.Body
@@ -248,7 +248,7 @@ abbrev e12 : Row.Entry
 e12 = (12, Rows.any-gone ReservationUsage.ty)
 
 abbrev e0·1 : Row.Entry
-e0·1 = (0, Rows.whole (Declared.row LedgerRoom.the-type))
+e0·1 = (0, Rows.whole (Declared.row LedgerScan.the-type))
 
 abbrev e2·1 : Row.Entry
 e2·1 = (2, Rows.any-gone Laws'.mir)
@@ -263,7 +263,7 @@ abbrev e5·1 : Row.Entry
 e5·1 = (5, Rows.sc-here (Row.sInt Syntax.w64))
 
 abbrev e6·1 : Row.Entry
-e6·1 = (6, Rows.whole (Declared.row LedgerRoom.the-type))
+e6·1 = (6, Rows.whole (Declared.row LedgerScan.the-type))
 
 abbrev e7·1 : Row.Entry
 e7·1 = (7, Rows.sc-here (Row.sInt Syntax.w64))
@@ -448,14 +448,14 @@ O4 = Typed.withNext (Option.some T9) O3
 abbrev pub InvT-loop : Type 1
 InvT-loop = List.List (ReservationUsage.row .Denot) → Rows.whole (Declared.row ReservationId.the-type) .Mod →
     Rows.sc-here (Row.sInt Syntax.w64) .Mod → Rows.sc-here (Row.sInt Syntax.w64) .Mod → Rows.whole
-    (Declared.row LedgerRoom.the-type) .Mod → Rows.sc-here (Row.sInt Syntax.w64) .Mod → Rows.whole
-    (Declared.row LedgerRoom.the-type) .Mod → Rows.sc-here (Row.sInt Syntax.w64) .Mod → Type 0
+    (Declared.row LedgerScan.the-type) .Mod → Rows.sc-here (Row.sInt Syntax.w64) .Mod → Rows.whole
+    (Declared.row LedgerScan.the-type) .Mod → Rows.sc-here (Row.sInt Syntax.w64) .Mod → Type 0
 
 abbrev pub MeasureT-loop : Type 0
 MeasureT-loop = List.List (ReservationUsage.row .Denot) → Rows.whole (Declared.row ReservationId.the-type) .Mod →
     Rows.sc-here (Row.sInt Syntax.w64) .Mod → Rows.sc-here (Row.sInt Syntax.w64) .Mod → Rows.whole
-    (Declared.row LedgerRoom.the-type) .Mod → Rows.sc-here (Row.sInt Syntax.w64) .Mod → Rows.whole
-    (Declared.row LedgerRoom.the-type) .Mod → Rows.sc-here (Row.sInt Syntax.w64) .Mod → Nat.ℕ
+    (Declared.row LedgerScan.the-type) .Mod → Rows.sc-here (Row.sInt Syntax.w64) .Mod → Rows.whole
+    (Declared.row LedgerScan.the-type) .Mod → Rows.sc-here (Row.sInt Syntax.w64) .Mod → Nat.ℕ
 
 module _ (claims· : Claims) where
   abbrev s0 : Typed.Mo T0 → Typed.Mo T2
@@ -558,10 +558,10 @@ module _ (claims· : Claims) where
   abbrev s23 : Typed.Mo T26 → Typed.Mo T27
   s23 = Scalar.n-room T26 7 (Syntax.tyInt Syntax.w64)
 
-  abbrev put0 : Rows.whole (Declared.row LedgerRoom.the-type) .Mod × Rows.sc-here (Row.sInt Syntax.w64) .Mod → Typed.Mo
+  abbrev put0 : Rows.whole (Declared.row LedgerScan.the-type) .Mod × Rows.sc-here (Row.sInt Syntax.w64) .Mod → Typed.Mo
       T6 → Typed.Mo T6
   put0 = λ vs u. Row.set 7 (7, Rows.sc-here (Row.sInt Syntax.w64)) (vs .1) (T6 .locals) (Row.set 6
-      (6, Rows.whole (Declared.row LedgerRoom.the-type)) (vs .0) (T6 .locals) u)
+      (6, Rows.whole (Declared.row LedgerScan.the-type)) (vs .0) (T6 .locals) u)
 
   module _ (Pre· : (κs : Lifetimes.Lfts 1) → Kinds.Dens κs ps → Type 0) (Post· : (κs : Lifetimes.Lfts 1) →
       (a : Kinds.Dens κs ps) → Kinds.Plain 1 ps r κs) where
@@ -569,9 +569,9 @@ module _ (claims· : Claims) where
       abbrev pub Closed : Type 2
       Closed = (𝓤 : URA.URA M) (H : Wp.Heap 𝓤) (A : Atoms.Atoms 𝓤) (W : Kit.Given 𝓤 H A) (𝓣 : Wp.Tables 𝓤 H) (known0 :
           Plain.Known 𝓤 H A W 𝓣 0 ps·0 r·0 (claims· .0) (claims· .1) "hns_encoding::numbers::min_usize") (known1 :
-          Plain.Known 𝓤 H A W 𝓣 0 ps·1 r·1 (claims· .2) (claims· .3) "hnsr_circuit::tables::scan::no_room") (known2 :
-          Plain.Known 𝓤 H A W 𝓣 0 ps·2 r·2 (claims· .4) (claims· .5) "hnsr_circuit::tables::scan::room_on") (known3 :
-          Plain.Known 𝓤 H A W 𝓣 0 ps·3 r·3 (claims· .6) (claims· .7) "hnsr_circuit::tables::places::room_spared") →
+          Plain.Known 𝓤 H A W 𝓣 0 ps·1 r·1 (claims· .2) (claims· .3) "hnsr_circuit::tables::scan::no_ledger_scan") (known2
+          : Plain.Known 𝓤 H A W 𝓣 0 ps·2 r·2 (claims· .4) (claims· .5) "hnsr_circuit::tables::scan::usage_scanned") (known3
+          : Plain.Known 𝓤 H A W 𝓣 0 ps·3 r·3 (claims· .6) (claims· .7) "hnsr_circuit::tables::places::ledger_spared") →
           Statement.Triple 𝓤 (Wp.WpFn 𝓤 H (𝓣 .C) (𝓣 .Λ) (Function.fnOf 1 ps r xs m hs body))
           (Function.plainOf 𝓤 H A 1 ps r Pre· Post·)
 
@@ -683,9 +683,9 @@ module _ (claims· : Claims) where
           (𝓣 : Wp.Tables 𝓤 H) where
         abbrev Knowns : Type 1
         Knowns = Plain.Known 𝓤 H A W 𝓣 0 ps·0 r·0 (claims· .0) (claims· .1) "hns_encoding::numbers::min_usize" ×
-            Plain.Known 𝓤 H A W 𝓣 0 ps·1 r·1 (claims· .2) (claims· .3) "hnsr_circuit::tables::scan::no_room" ×
-            Plain.Known 𝓤 H A W 𝓣 0 ps·2 r·2 (claims· .4) (claims· .5) "hnsr_circuit::tables::scan::room_on" ×
-            Plain.Known 𝓤 H A W 𝓣 0 ps·3 r·3 (claims· .6) (claims· .7) "hnsr_circuit::tables::places::room_spared"
+            Plain.Known 𝓤 H A W 𝓣 0 ps·1 r·1 (claims· .2) (claims· .3) "hnsr_circuit::tables::scan::no_ledger_scan" ×
+            Plain.Known 𝓤 H A W 𝓣 0 ps·2 r·2 (claims· .4) (claims· .5) "hnsr_circuit::tables::scan::usage_scanned" ×
+            Plain.Known 𝓤 H A W 𝓣 0 ps·3 r·3 (claims· .6) (claims· .7) "hnsr_circuit::tables::places::ledger_spared"
 
       module _ (κs : Lifetimes.Lfts 1) (qs : Lifetimes.Shares 1) where
         abbrev life0 : Row.Life
@@ -833,7 +833,7 @@ module _ (claims· : Claims) where
 
           d8 : Typed.Typed 𝓤 H A 𝓣 E G19 b14 Δ3 at8
           d8 = Typed.s-seq 𝓤 H A W 𝓣 E G19 G20 b12 b13 Δ3 (Typed.both s16) at7 (Plain.t-call-plain 𝓤 H A W 𝓣 0 ps·2 r·2
-              (claims· .4) (claims· .5) "hnsr_circuit::tables::scan::room_on" (known .2) E (λ pos β. β) G19 (
+              (claims· .4) (claims· .5) "hnsr_circuit::tables::scan::usage_scanned" (known .2) E (λ pos β. β) G19 (
                 record { pos = 6; st = List.[]; d = 0; at = λ x. x },
                 (
                   record { pos = 8; st = List.[]; d = 0; at = λ x. x },
@@ -841,11 +841,11 @@ module _ (claims· : Claims) where
                 ),
               ) 6 List.[] (Call.sub-id 𝓤 H A W (G19 .slots)) (
                 (
-                  Yields.yields-copy 𝓤 H A W (λ ρ. Unit) (Declared.row LedgerRoom.the-type) Path.refl (Copies.cStruct
-                      LedgerRoom.the-type Laws''.the-laws Laws''.the-copy .copy 𝓤 H A W)
-                      (Rows.whole (Declared.row LedgerRoom.the-type)) (λ x. x) (λ x. x) (λ ρ told. Local.mem-whole 𝓤 H
-                      A W (Declared.row LedgerRoom.the-type) ρ) λ ρ told. Local.whole-mem 𝓤 H A W
-                      (Declared.row LedgerRoom.the-type) ρ,
+                  Yields.yields-copy 𝓤 H A W (λ ρ. Unit) (Declared.row LedgerScan.the-type) Path.refl (Copies.cStruct
+                      LedgerScan.the-type Laws''.the-laws Laws''.the-copy .copy 𝓤 H A W)
+                      (Rows.whole (Declared.row LedgerScan.the-type)) (λ x. x) (λ x. x) (λ ρ told. Local.mem-whole 𝓤 H
+                      A W (Declared.row LedgerScan.the-type) ρ) λ ρ told. Local.whole-mem 𝓤 H A W
+                      (Declared.row LedgerScan.the-type) ρ,
                   Path.refl,
                 ),
                 (
@@ -868,7 +868,7 @@ module _ (claims· : Claims) where
                     ((Scalar.reads-sc 𝓤 H A W (Row.sInt Syntax.w64), Path.refl), tt),
                   ),
                 ),
-              ) (Local.room-whole 𝓤 H A W (Declared.row LedgerRoom.the-type) Laws''.mir Path.refl) tt Path.refl) d7
+              ) (Local.room-whole 𝓤 H A W (Declared.row LedgerScan.the-type) Laws''.mir Path.refl) tt Path.refl) d7
 
           d9 : Typed.Typed 𝓤 H A 𝓣 E G18 b14 Δ3 at9
           d9 = Typed.g-pre 𝓤 H A W 𝓣 E G18 G19 b14 Δ3 (Typed.pass T18 T19 s15) at8 (Scalar.g-room 𝓤 H A W E G18 12
@@ -954,7 +954,7 @@ module _ (claims· : Claims) where
 
           d22 : Typed.Typed 𝓤 H A 𝓣 E G25 b24 Δ0 at22
           d22 = Typed.g-pre 𝓤 H A W 𝓣 E G25 G26 b24 Δ0 (Typed.pass T25 T26 s22) at21 (Scalar.g-room 𝓤 H A W E G25 6
-              Laws''.mir (Local.room-whole 𝓤 H A W (Declared.row LedgerRoom.the-type) Laws''.mir Path.refl)) d21
+              Laws''.mir (Local.room-whole 𝓤 H A W (Declared.row LedgerScan.the-type) Laws''.mir Path.refl)) d21
 
           d23 : Typed.Typed 𝓤 H A 𝓣 E G24 b24 Δ0 at23
           d23 = Typed.g-pre 𝓤 H A W 𝓣 E G24 G25 b24 Δ0 (Typed.pass T24 T25 s21) at22 (Scalar.g-room 𝓤 H A W E G24 5
@@ -966,16 +966,16 @@ module _ (claims· : Claims) where
 
           d25 : Typed.Typed 𝓤 H A 𝓣 E G7 b25 Δ0 at25
           d25 = Typed.s-seq 𝓤 H A W 𝓣 E G7 G23 b23 b24 Δ0 (Typed.both s19) at24 (Plain.t-call-plain 𝓤 H A W 𝓣 0 ps·3
-              r·3 (claims· .6) (claims· .7) "hnsr_circuit::tables::places::room_spared" (known .3) E (λ pos β. β) G7 (
+              r·3 (claims· .6) (claims· .7) "hnsr_circuit::tables::places::ledger_spared" (known .3) E (λ pos β. β) G7 (
                 record { pos = 6; st = List.[]; d = 0; at = λ x. x },
                 (Num.vAt 7 λ x. x, (Num.vAt 4 λ x. x, tt)),
               ) 0 List.[] (Call.sub-id 𝓤 H A W (G7 .slots)) (
                 (
-                  Yields.yields-copy 𝓤 H A W (λ ρ. Unit) (Declared.row LedgerRoom.the-type) Path.refl (Copies.cStruct
-                      LedgerRoom.the-type Laws''.the-laws Laws''.the-copy .copy 𝓤 H A W)
-                      (Rows.whole (Declared.row LedgerRoom.the-type)) (λ x. x) (λ x. x) (λ ρ told. Local.mem-whole 𝓤 H
-                      A W (Declared.row LedgerRoom.the-type) ρ) λ ρ told. Local.whole-mem 𝓤 H A W
-                      (Declared.row LedgerRoom.the-type) ρ,
+                  Yields.yields-copy 𝓤 H A W (λ ρ. Unit) (Declared.row LedgerScan.the-type) Path.refl (Copies.cStruct
+                      LedgerScan.the-type Laws''.the-laws Laws''.the-copy .copy 𝓤 H A W)
+                      (Rows.whole (Declared.row LedgerScan.the-type)) (λ x. x) (λ x. x) (λ ρ told. Local.mem-whole 𝓤 H
+                      A W (Declared.row LedgerScan.the-type) ρ) λ ρ told. Local.whole-mem 𝓤 H A W
+                      (Declared.row LedgerScan.the-type) ρ,
                   Path.refl,
                 ),
                 (
@@ -996,7 +996,7 @@ module _ (claims· : Claims) where
 
           d28 : Typed.Typed 𝓤 H A 𝓣 E G4 b28 Δ0 at28
           d28 = Typed.s-seq 𝓤 H A W 𝓣 E G4 G5 b2 b27 Δ0 (Typed.both s3) at27 (Plain.t-call-plain 𝓤 H A W 𝓣 0 ps·1 r·1
-              (claims· .2) (claims· .3) "hnsr_circuit::tables::scan::no_room" (known .1) E (λ pos β. β) G4
+              (claims· .2) (claims· .3) "hnsr_circuit::tables::scan::no_ledger_scan" (known .1) E (λ pos β. β) G4
               (Num.vAt 4 λ x. x, tt) 6 List.[] (Call.sub-id 𝓤 H A W (G4 .slots)) (
                 (Scalar.reads-sc 𝓤 H A W (Row.sInt Syntax.w64), Path.refl),
                 tt,
@@ -1084,26 +1084,26 @@ module _ (claims· : Claims) where
       abbrev pub m3 : (before : Start) → (given : s1 .gives (m1 (before .κs) (before .args))) → Typed.Mo T4
       m3 = λ before given. s2 (m2 before given)
 
-      abbrev pub Need-no-room-requires : Type 0
-      Need-no-room-requires = (c : After-min-usize) → s3 .asks (m3 (c .before) (After-min-usize·gave c))
+      abbrev pub Need-no-ledger-scan-requires : Type 0
+      Need-no-ledger-scan-requires = (c : After-min-usize) → s3 .asks (m3 (c .before) (After-min-usize·gave c))
 
       abbrev pub m4 : (before : After-min-usize) → (given : s3 .gives
           (m3 (before .before) (After-min-usize·gave before))) → Typed.Mo T5
       m4 = λ before given. s3 .next (m3 (before .before) (After-min-usize·gave before)) given
 
       module _ (before· : After-min-usize) where
-        abbrev pub After-no-room·own : Type 0
-        After-no-room·own = Called.Called ps·1 r·1 (claims· .3) T4 args3
+        abbrev pub After-no-ledger-scan·own : Type 0
+        After-no-ledger-scan·own = Called.Called ps·1 r·1 (claims· .3) T4 args3
             (m3 (before· .before) (After-min-usize·gave before·))
 
-      pub record After-no-room : Type 0 where
+      pub record After-no-ledger-scan : Type 0 where
         pub before : After-min-usize
-        pub no-room : After-no-room·own before
+        pub no-ledger-scan : After-no-ledger-scan·own before
 
-      abbrev pub After-no-room·gave : (c : After-no-room) → s3 .gives
+      abbrev pub After-no-ledger-scan·gave : (c : After-no-ledger-scan) → s3 .gives
           (m3 (c .before .before) (After-min-usize·gave (c .before)))
-      After-no-room·gave = λ c. Called.given ps·1 r·1 (claims· .3) T4 args3
-          (m3 (c .before .before) (After-min-usize·gave (c .before))) (c .no-room)
+      After-no-ledger-scan·gave = λ c. Called.given ps·1 r·1 (claims· .3) T4 args3
+          (m3 (c .before .before) (After-min-usize·gave (c .before))) (c .no-ledger-scan)
 
       abbrev pub m5 : (before : After-min-usize) → (given : s3 .gives
           (m3 (before .before) (After-min-usize·gave before))) → Typed.Mo T6
@@ -1119,75 +1119,78 @@ module _ (claims· : Claims) where
       W2 = λ before given. Typed.inBlock O1 (W1 before given)
 
       abbrev pub Need-loop-holds : Type 0
-      Need-loop-holds = (c : After-no-room) → Inv·0 (Row.get 1 (T6 .locals) (m5 (c .before) (After-no-room·gave c))
-          .now) (Row.get 3 (T6 .locals) (m5 (c .before) (After-no-room·gave c))) (Row.get 4 (T6 .locals)
-          (m5 (c .before) (After-no-room·gave c))) (Row.get 5 (T6 .locals) (m5 (c .before) (After-no-room·gave c))) (Row.get
-          6 (T6 .locals) (m5 (c .before) (After-no-room·gave c))) (Row.get 7 (T6 .locals)
-          (m5 (c .before) (After-no-room·gave c))) (Row.get 6 (T6 .locals) (m5 (c .before) (After-no-room·gave c))) (Row.get
-          7 (T6 .locals) (m5 (c .before) (After-no-room·gave c)))
+      Need-loop-holds = (c : After-no-ledger-scan) → Inv·0 (Row.get 1 (T6 .locals)
+          (m5 (c .before) (After-no-ledger-scan·gave c)) .now) (Row.get 3 (T6 .locals)
+          (m5 (c .before) (After-no-ledger-scan·gave c))) (Row.get 4 (T6 .locals)
+          (m5 (c .before) (After-no-ledger-scan·gave c))) (Row.get 5 (T6 .locals)
+          (m5 (c .before) (After-no-ledger-scan·gave c))) (Row.get 6 (T6 .locals)
+          (m5 (c .before) (After-no-ledger-scan·gave c))) (Row.get 7 (T6 .locals)
+          (m5 (c .before) (After-no-ledger-scan·gave c))) (Row.get 6 (T6 .locals)
+          (m5 (c .before) (After-no-ledger-scan·gave c))) (Row.get 7 (T6 .locals)
+          (m5 (c .before) (After-no-ledger-scan·gave c)))
 
-      abbrev pub m6 : (before : After-no-room) → (room : Rows.whole (Declared.row LedgerRoom.the-type) .Mod) →
+      abbrev pub m6 : (before : After-no-ledger-scan) → (scan : Rows.whole (Declared.row LedgerScan.the-type) .Mod) →
           (i : Rows.sc-here (Row.sInt Syntax.w64) .Mod) → Typed.Mo T6
-      m6 = λ before room i. Row.set 7 (7, Rows.sc-here (Row.sInt Syntax.w64)) i (Row.setRow 6
-          (6, Rows.whole (Declared.row LedgerRoom.the-type)) (T6 .locals)) (Row.set 6
-          (6, Rows.whole (Declared.row LedgerRoom.the-type)) room (T6 .locals)
-          (m5 (before .before) (After-no-room·gave before)))
+      m6 = λ before scan i. Row.set 7 (7, Rows.sc-here (Row.sInt Syntax.w64)) i (Row.setRow 6
+          (6, Rows.whole (Declared.row LedgerScan.the-type)) (T6 .locals)) (Row.set 6
+          (6, Rows.whole (Declared.row LedgerScan.the-type)) scan (T6 .locals)
+          (m5 (before .before) (After-no-ledger-scan·gave before)))
 
-      abbrev W3 : (before : After-no-room) → (room : Rows.whole (Declared.row LedgerRoom.the-type) .Mod) →
+      abbrev W3 : (before : After-no-ledger-scan) → (scan : Rows.whole (Declared.row LedgerScan.the-type) .Mod) →
           (i : Rows.sc-here (Row.sInt Syntax.w64) .Mod) → Typed.Want O3
-      W3 = λ before room i. Typed.inLoop T6 O2 (Typed.Round T6 O2 put0 (λ u vs. Inv·0 (Row.get 1 (T6 .locals) u .now)
+      W3 = λ before scan i. Typed.inLoop T6 O2 (Typed.Round T6 O2 put0 (λ u vs. Inv·0 (Row.get 1 (T6 .locals) u .now)
           (Row.get 3 (T6 .locals) u) (Row.get 4 (T6 .locals) u) (Row.get 5 (T6 .locals) u) (Row.get 6 (T6 .locals) u)
           (Row.get 7 (T6 .locals) u) (vs .0) (vs .1)) (λ u vs. μ·0 (Row.get 1 (T6 .locals) u .now)
           (Row.get 3 (T6 .locals) u) (Row.get 4 (T6 .locals) u) (Row.get 5 (T6 .locals) u) (Row.get 6 (T6 .locals) u)
-          (Row.get 7 (T6 .locals) u) (vs .0) (vs .1)) at17 (m5 (before .before) (After-no-room·gave before)) (room, i))
-          (W2 (before .before) (After-no-room·gave before))
+          (Row.get 7 (T6 .locals) u) (vs .0) (vs .1)) at17 (m5 (before .before) (After-no-ledger-scan·gave before))
+          (scan, i)) (W2 (before .before) (After-no-ledger-scan·gave before))
 
-      abbrev pub m7 : (before : After-no-room) → (room : Rows.whole (Declared.row LedgerRoom.the-type) .Mod) →
+      abbrev pub m7 : (before : After-no-ledger-scan) → (scan : Rows.whole (Declared.row LedgerScan.the-type) .Mod) →
           (i : Rows.sc-here (Row.sInt Syntax.w64) .Mod) → Typed.Mo T8
-      m7 = λ before room i. s5 .next (m6 before room i)
+      m7 = λ before scan i. s5 .next (m6 before scan i)
 
-      abbrev W4 : (before : After-no-room) → (room : Rows.whole (Declared.row LedgerRoom.the-type) .Mod) →
+      abbrev W4 : (before : After-no-ledger-scan) → (scan : Rows.whole (Declared.row LedgerScan.the-type) .Mod) →
           (i : Rows.sc-here (Row.sInt Syntax.w64) .Mod) → Typed.Want O4
-      W4 = λ before room i. Typed.wantNext T9 O3 (at15 (W3 before room i)) (W3 before room i)
+      W4 = λ before scan i. Typed.wantNext T9 O3 (at15 (W3 before scan i)) (W3 before scan i)
 
-      module _ (before· : After-no-room) where
+      module _ (before· : After-no-ledger-scan) where
         pub record At-loop·own : Type 0 where
-          pub room : Rows.whole (Declared.row LedgerRoom.the-type) .Mod
+          pub scan : Rows.whole (Declared.row LedgerScan.the-type) .Mod
           pub i : Rows.sc-here (Row.sInt Syntax.w64) .Mod
-          pub inv : Inv·0 (Row.get 1 (T6 .locals) (m5 (before· .before) (After-no-room·gave before·)) .now) (Row.get 3
-              (T6 .locals) (m5 (before· .before) (After-no-room·gave before·))) (Row.get 4 (T6 .locals)
-              (m5 (before· .before) (After-no-room·gave before·))) (Row.get 5 (T6 .locals)
-              (m5 (before· .before) (After-no-room·gave before·))) (Row.get 6 (T6 .locals)
-              (m5 (before· .before) (After-no-room·gave before·))) (Row.get 7 (T6 .locals)
-              (m5 (before· .before) (After-no-room·gave before·))) room i
+          pub inv : Inv·0 (Row.get 1 (T6 .locals) (m5 (before· .before) (After-no-ledger-scan·gave before·)) .now) (Row.get
+              3 (T6 .locals) (m5 (before· .before) (After-no-ledger-scan·gave before·))) (Row.get 4 (T6 .locals)
+              (m5 (before· .before) (After-no-ledger-scan·gave before·))) (Row.get 5 (T6 .locals)
+              (m5 (before· .before) (After-no-ledger-scan·gave before·))) (Row.get 6 (T6 .locals)
+              (m5 (before· .before) (After-no-ledger-scan·gave before·))) (Row.get 7 (T6 .locals)
+              (m5 (before· .before) (After-no-ledger-scan·gave before·))) scan i
 
       pub record At-loop : Type 0 where
-        pub before : After-no-room
+        pub before : After-no-ledger-scan
         pub loop : At-loop·own before
 
       module _ (before· : At-loop) where
         pub record In-loop·own : Type 0 where
-          pub taken : Nat._<_ (Row.get 7 (T6 .locals) (m6 (before· .before) (before· .loop .room) (before· .loop .i))) (Row.get
-              5 (T6 .locals) (m6 (before· .before) (before· .loop .room) (before· .loop .i)))
+          pub taken : Nat._<_ (Row.get 7 (T6 .locals) (m6 (before· .before) (before· .loop .scan) (before· .loop .i))) (Row.get
+              5 (T6 .locals) (m6 (before· .before) (before· .loop .scan) (before· .loop .i)))
 
       pub record In-loop : Type 0 where
         pub before : At-loop
         pub loop-test : In-loop·own before
 
       abbrev pub m8 : (before : At-loop) → Typed.Mo T10
-      m8 = λ before. s6 (m7 (before .before) (before .loop .room) (before .loop .i))
+      m8 = λ before. s6 (m7 (before .before) (before .loop .scan) (before .loop .i))
 
       module _ (before· : At-loop) where
         pub record After-loop·own : Type 0 where
-          pub left : Nat._≤_ (Row.get 5 (T6 .locals) (m6 (before· .before) (before· .loop .room) (before· .loop .i))) (Row.get
-              7 (T6 .locals) (m6 (before· .before) (before· .loop .room) (before· .loop .i)))
+          pub left : Nat._≤_ (Row.get 5 (T6 .locals) (m6 (before· .before) (before· .loop .scan) (before· .loop .i))) (Row.get
+              7 (T6 .locals) (m6 (before· .before) (before· .loop .scan) (before· .loop .i)))
 
       pub record After-loop : Type 0 where
         pub before : At-loop
         pub loop-test : After-loop·own before
 
       abbrev pub m9 : (before : At-loop) → Typed.Mo T11
-      m9 = λ before. s7 (m7 (before .before) (before .loop .room) (before .loop .i))
+      m9 = λ before. s7 (m7 (before .before) (before .loop .scan) (before .loop .i))
 
       abbrev pub m10 : (before : At-loop) → Typed.Mo T12
       m10 = λ before. s8 (m9 before)
@@ -1228,91 +1231,91 @@ module _ (claims· : Claims) where
         pub before : In-loop
         pub row : After-row·own before
 
-      abbrev pub Need-room-on-requires : Type 0
-      Need-room-on-requires = (c : After-row) → s16 .asks (m17 (c .before) (c .row .given))
+      abbrev pub Need-usage-scanned-requires : Type 0
+      Need-usage-scanned-requires = (c : After-row) → s16 .asks (m17 (c .before) (c .row .given))
 
       abbrev pub m18 : (before : After-row) → (given : s16 .gives (m17 (before .before) (before .row .given))) →
           Typed.Mo T20
       m18 = λ before given. s16 .next (m17 (before .before) (before .row .given)) given
 
       module _ (before· : After-row) where
-        abbrev pub After-room-on·own : Type 0
-        After-room-on·own = Called.Called ps·2 r·2 (claims· .5) T19 args16
+        abbrev pub After-usage-scanned·own : Type 0
+        After-usage-scanned·own = Called.Called ps·2 r·2 (claims· .5) T19 args16
             (m17 (before· .before) (before· .row .given))
 
-      pub record After-room-on : Type 0 where
+      pub record After-usage-scanned : Type 0 where
         pub before : After-row
-        pub room-on : After-room-on·own before
+        pub usage-scanned : After-usage-scanned·own before
 
-      abbrev pub After-room-on·gave : (c : After-room-on) → s16 .gives
+      abbrev pub After-usage-scanned·gave : (c : After-usage-scanned) → s16 .gives
           (m17 (c .before .before) (c .before .row .given))
-      After-room-on·gave = λ c. Called.given ps·2 r·2 (claims· .5) T19 args16
-          (m17 (c .before .before) (c .before .row .given)) (c .room-on)
+      After-usage-scanned·gave = λ c. Called.given ps·2 r·2 (claims· .5) T19 args16
+          (m17 (c .before .before) (c .before .row .given)) (c .usage-scanned)
 
       abbrev pub m19 : (before : After-row) → (given : s16 .gives (m17 (before .before) (before .row .given))) →
           Typed.Mo T21
       m19 = λ before given. s17 (m18 before given)
 
       abbrev pub Need-add-i : Type 0
-      Need-add-i = (c : After-room-on) → s18 .asks (m19 (c .before) (After-room-on·gave c))
+      Need-add-i = (c : After-usage-scanned) → s18 .asks (m19 (c .before) (After-usage-scanned·gave c))
 
       abbrev pub m20 : (before : After-row) → (given : s16 .gives (m17 (before .before) (before .row .given))) →
           Typed.Mo T22
       m20 = λ before given. s18 .next (m19 before given)
 
       abbrev pub Need-loop-less : Type 0
-      Need-loop-less = (c : After-room-on) → Nat._<_ (μ·0 (Row.get 1 (T6 .locals) (m5
-          (c .before .before .before .before .before) (After-no-room·gave (c .before .before .before .before))) .now) (Row.get
-          3 (T6 .locals) (m5 (c .before .before .before .before .before)
-          (After-no-room·gave (c .before .before .before .before)))) (Row.get 4 (T6 .locals) (m5
-          (c .before .before .before .before .before) (After-no-room·gave (c .before .before .before .before)))) (Row.get
-          5 (T6 .locals) (m5 (c .before .before .before .before .before)
-          (After-no-room·gave (c .before .before .before .before)))) (Row.get 6 (T6 .locals) (m5
-          (c .before .before .before .before .before) (After-no-room·gave (c .before .before .before .before)))) (Row.get
-          7 (T6 .locals) (m5 (c .before .before .before .before .before)
-          (After-no-room·gave (c .before .before .before .before)))) (Row.get 6 (T6 .locals)
-          (m20 (c .before) (After-room-on·gave c))) (Row.get 7 (T6 .locals) (m20 (c .before) (After-room-on·gave c)))) (μ·0 (Row.get
-          1 (T6 .locals) (m5 (c .before .before .before .before .before)
-          (After-no-room·gave (c .before .before .before .before))) .now) (Row.get 3 (T6 .locals) (m5
-          (c .before .before .before .before .before) (After-no-room·gave (c .before .before .before .before)))) (Row.get
-          4 (T6 .locals) (m5 (c .before .before .before .before .before)
-          (After-no-room·gave (c .before .before .before .before)))) (Row.get 5 (T6 .locals) (m5
-          (c .before .before .before .before .before) (After-no-room·gave (c .before .before .before .before)))) (Row.get
-          6 (T6 .locals) (m5 (c .before .before .before .before .before)
-          (After-no-room·gave (c .before .before .before .before)))) (Row.get 7 (T6 .locals) (m5
-          (c .before .before .before .before .before) (After-no-room·gave (c .before .before .before .before))))
-          (c .before .before .before .loop .room) (c .before .before .before .loop .i))
+      Need-loop-less = (c : After-usage-scanned) → Nat._<_ (μ·0 (Row.get 1 (T6 .locals) (m5
+          (c .before .before .before .before .before) (After-no-ledger-scan·gave (c .before .before .before .before)))
+          .now) (Row.get 3 (T6 .locals) (m5 (c .before .before .before .before .before) (After-no-ledger-scan·gave
+          (c .before .before .before .before)))) (Row.get 4 (T6 .locals) (m5
+          (c .before .before .before .before .before) (After-no-ledger-scan·gave (c .before .before .before .before)))) (Row.get
+          5 (T6 .locals) (m5 (c .before .before .before .before .before) (After-no-ledger-scan·gave
+          (c .before .before .before .before)))) (Row.get 6 (T6 .locals) (m5
+          (c .before .before .before .before .before) (After-no-ledger-scan·gave (c .before .before .before .before)))) (Row.get
+          7 (T6 .locals) (m5 (c .before .before .before .before .before) (After-no-ledger-scan·gave
+          (c .before .before .before .before)))) (Row.get 6 (T6 .locals) (m20 (c .before) (After-usage-scanned·gave c))) (Row.get
+          7 (T6 .locals) (m20 (c .before) (After-usage-scanned·gave c)))) (μ·0 (Row.get 1 (T6 .locals) (m5
+          (c .before .before .before .before .before) (After-no-ledger-scan·gave (c .before .before .before .before)))
+          .now) (Row.get 3 (T6 .locals) (m5 (c .before .before .before .before .before) (After-no-ledger-scan·gave
+          (c .before .before .before .before)))) (Row.get 4 (T6 .locals) (m5
+          (c .before .before .before .before .before) (After-no-ledger-scan·gave (c .before .before .before .before)))) (Row.get
+          5 (T6 .locals) (m5 (c .before .before .before .before .before) (After-no-ledger-scan·gave
+          (c .before .before .before .before)))) (Row.get 6 (T6 .locals) (m5
+          (c .before .before .before .before .before) (After-no-ledger-scan·gave (c .before .before .before .before)))) (Row.get
+          7 (T6 .locals) (m5 (c .before .before .before .before .before) (After-no-ledger-scan·gave
+          (c .before .before .before .before)))) (c .before .before .before .loop .scan)
+          (c .before .before .before .loop .i))
 
       abbrev pub Need-loop-again : Type 0
-      Need-loop-again = (c : After-room-on) → Inv·0 (Row.get 1 (T6 .locals) (m5
-          (c .before .before .before .before .before) (After-no-room·gave (c .before .before .before .before))) .now) (Row.get
-          3 (T6 .locals) (m5 (c .before .before .before .before .before)
-          (After-no-room·gave (c .before .before .before .before)))) (Row.get 4 (T6 .locals) (m5
-          (c .before .before .before .before .before) (After-no-room·gave (c .before .before .before .before)))) (Row.get
-          5 (T6 .locals) (m5 (c .before .before .before .before .before)
-          (After-no-room·gave (c .before .before .before .before)))) (Row.get 6 (T6 .locals) (m5
-          (c .before .before .before .before .before) (After-no-room·gave (c .before .before .before .before)))) (Row.get
-          7 (T6 .locals) (m5 (c .before .before .before .before .before)
-          (After-no-room·gave (c .before .before .before .before)))) (Row.get 6 (T6 .locals)
-          (m20 (c .before) (After-room-on·gave c))) (Row.get 7 (T6 .locals) (m20 (c .before) (After-room-on·gave c)))
+      Need-loop-again = (c : After-usage-scanned) → Inv·0 (Row.get 1 (T6 .locals) (m5
+          (c .before .before .before .before .before) (After-no-ledger-scan·gave (c .before .before .before .before)))
+          .now) (Row.get 3 (T6 .locals) (m5 (c .before .before .before .before .before) (After-no-ledger-scan·gave
+          (c .before .before .before .before)))) (Row.get 4 (T6 .locals) (m5
+          (c .before .before .before .before .before) (After-no-ledger-scan·gave (c .before .before .before .before)))) (Row.get
+          5 (T6 .locals) (m5 (c .before .before .before .before .before) (After-no-ledger-scan·gave
+          (c .before .before .before .before)))) (Row.get 6 (T6 .locals) (m5
+          (c .before .before .before .before .before) (After-no-ledger-scan·gave (c .before .before .before .before)))) (Row.get
+          7 (T6 .locals) (m5 (c .before .before .before .before .before) (After-no-ledger-scan·gave
+          (c .before .before .before .before)))) (Row.get 6 (T6 .locals) (m20 (c .before) (After-usage-scanned·gave c))) (Row.get
+          7 (T6 .locals) (m20 (c .before) (After-usage-scanned·gave c)))
 
-      abbrev pub Need-room-spared-requires : Type 0
-      Need-room-spared-requires = (c : After-loop) → s19 .asks (m10 (c .before))
+      abbrev pub Need-ledger-spared-requires : Type 0
+      Need-ledger-spared-requires = (c : After-loop) → s19 .asks (m10 (c .before))
 
       abbrev pub m21 : (before : After-loop) → (given : s19 .gives (m10 (before .before))) → Typed.Mo T23
       m21 = λ before given. s19 .next (m10 (before .before)) given
 
       module _ (before· : After-loop) where
-        abbrev pub After-room-spared·own : Type 0
-        After-room-spared·own = Called.Called ps·3 r·3 (claims· .7) T7 args19 (m10 (before· .before))
+        abbrev pub After-ledger-spared·own : Type 0
+        After-ledger-spared·own = Called.Called ps·3 r·3 (claims· .7) T7 args19 (m10 (before· .before))
 
-      pub record After-room-spared : Type 0 where
+      pub record After-ledger-spared : Type 0 where
         pub before : After-loop
-        pub room-spared : After-room-spared·own before
+        pub ledger-spared : After-ledger-spared·own before
 
-      abbrev pub After-room-spared·gave : (c : After-room-spared) → s19 .gives (m10 (c .before .before))
-      After-room-spared·gave = λ c. Called.given ps·3 r·3 (claims· .7) T7 args19 (m10 (c .before .before))
-          (c .room-spared)
+      abbrev pub After-ledger-spared·gave : (c : After-ledger-spared) → s19 .gives (m10 (c .before .before))
+      After-ledger-spared·gave = λ c. Called.given ps·3 r·3 (claims· .7) T7 args19 (m10 (c .before .before))
+          (c .ledger-spared)
 
       abbrev pub m22 : (before : After-loop) → (given : s19 .gives (m10 (before .before))) → Typed.Mo T24
       m22 = λ before given. s20 (m21 before given)
@@ -1327,74 +1330,83 @@ module _ (claims· : Claims) where
       m25 = λ before given. s23 (m24 before given)
 
       abbrev pub Need-returns : Type 0
-      Need-returns = (c : After-room-spared) → Post· (c .before .before .before .before .before .κs) (dens
+      Need-returns = (c : After-ledger-spared) → Post· (c .before .before .before .before .before .κs) (dens
           (c .before .before .before .before .before .κs) (c .before .before .before .before .before .args)) (Function.resV
-          r (c .before .before .before .before .before .κs) (m25 (c .before) (After-room-spared·gave c) .0)) (Clauses.atExit
+          r (c .before .before .before .before .before .κs) (m25 (c .before) (After-ledger-spared·gave c) .0)) (Clauses.atExit
           (Kinds.endedOf 1 ps r) (c .before .before .before .before .before .κs) (dens
           (c .before .before .before .before .before .κs) (c .before .before .before .before .before .args)) (Enter.lastsP
           (c .before .before .before .before .before .κs) 1 ps xs (dens (c .before .before .before .before .before .κs)
-          (c .before .before .before .before .before .args)) (m25 (c .before) (After-room-spared·gave c) .1)))
+          (c .before .before .before .before .before .args)) (m25 (c .before) (After-ledger-spared·gave c) .1)))
 
-      module _ (min-usize-requires : Need-min-usize-requires) (no-room-requires : Need-no-room-requires)
+      module _ (min-usize-requires : Need-min-usize-requires) (no-ledger-scan-requires : Need-no-ledger-scan-requires)
           (loop-holds : Need-loop-holds) (mul-row : Need-mul-row) (shared-slice-copy-out-row :
-          Need-shared-slice-copy-out-row) (room-on-requires : Need-room-on-requires) (add-i : Need-add-i)
+          Need-shared-slice-copy-out-row) (usage-scanned-requires : Need-usage-scanned-requires) (add-i : Need-add-i)
           (loop-less : Need-loop-less) (loop-again : Need-loop-again)
-          (room-spared-requires : Need-room-spared-requires) (returns : Need-returns) where
-        lay8 : (c : After-room-spared) → at24 (W0 (c .before .before .before .before .before .κs)
-            (c .before .before .before .before .before .args)) (m21 (c .before) (After-room-spared·gave c))
-        lay8 = λ c. ((Path.refl, (tt, (tt, tt))), returns record { before = c .before; room-spared = c .room-spared })
+          (ledger-spared-requires : Need-ledger-spared-requires) (returns : Need-returns) where
+        lay8 : (c : After-ledger-spared) → at24 (W0 (c .before .before .before .before .before .κs)
+            (c .before .before .before .before .before .args)) (m21 (c .before) (After-ledger-spared·gave c))
+        lay8 = λ c. (
+          (Path.refl, (tt, (tt, tt))),
+          returns record { before = c .before; ledger-spared = c .ledger-spared },
+        )
 
         lay7 : (c : After-loop) → at25 (W0 (c .before .before .before .before .κs)
             (c .before .before .before .before .args)) (m10 (c .before))
         lay7 = λ c. (
-          room-spared-requires record { before = c .before; loop-test = c .loop-test },
+          ledger-spared-requires record { before = c .before; loop-test = c .loop-test },
           λ g. lay8 record {
             before = record { before = c .before; loop-test = c .loop-test };
-            room-spared = Called.called ps·3 r·3 (claims· .7) T7 args19 (m10 (c .before)) g;
+            ledger-spared = Called.called ps·3 r·3 (claims· .7) T7 args19 (m10 (c .before)) g;
           },
         )
 
-        lay6 : (c : After-room-on) → at7 (W3 (c .before .before .before .before)
-            (c .before .before .before .loop .room) (c .before .before .before .loop .i))
-            (m18 (c .before) (After-room-on·gave c))
+        lay6 : (c : After-usage-scanned) → at7 (W3 (c .before .before .before .before)
+            (c .before .before .before .loop .scan) (c .before .before .before .loop .i))
+            (m18 (c .before) (After-usage-scanned·gave c))
         lay6 = λ c. (
-          add-i record { before = c .before; room-on = c .room-on },
+          add-i record { before = c .before; usage-scanned = c .usage-scanned },
           (
-            μ·0 (Row.get 1 (T6 .locals) (m5 (c .before .before .before .before .before)
-                (After-no-room·gave (c .before .before .before .before))) .now) (Row.get 3 (T6 .locals) (m5
-                (c .before .before .before .before .before) (After-no-room·gave (c .before .before .before .before)))) (Row.get
-                4 (T6 .locals) (m5 (c .before .before .before .before .before)
-                (After-no-room·gave (c .before .before .before .before)))) (Row.get 5 (T6 .locals) (m5
-                (c .before .before .before .before .before) (After-no-room·gave (c .before .before .before .before)))) (Row.get
-                6 (T6 .locals) (m5 (c .before .before .before .before .before)
-                (After-no-room·gave (c .before .before .before .before)))) (Row.get 7 (T6 .locals) (m5
-                (c .before .before .before .before .before) (After-no-room·gave (c .before .before .before .before)))) (Row.get
-                6 (T6 .locals) (m20 (c .before) (After-room-on·gave c))) (Row.get 7 (T6 .locals)
-                (m20 (c .before) (After-room-on·gave c))),
-            loop-less record { before = c .before; room-on = c .room-on },
+            μ·0 (Row.get 1 (T6 .locals) (m5 (c .before .before .before .before .before) (After-no-ledger-scan·gave
+                (c .before .before .before .before))) .now) (Row.get 3 (T6 .locals) (m5
+                (c .before .before .before .before .before) (After-no-ledger-scan·gave
+                (c .before .before .before .before)))) (Row.get 4 (T6 .locals) (m5
+                (c .before .before .before .before .before) (After-no-ledger-scan·gave
+                (c .before .before .before .before)))) (Row.get 5 (T6 .locals) (m5
+                (c .before .before .before .before .before) (After-no-ledger-scan·gave
+                (c .before .before .before .before)))) (Row.get 6 (T6 .locals) (m5
+                (c .before .before .before .before .before) (After-no-ledger-scan·gave
+                (c .before .before .before .before)))) (Row.get 7 (T6 .locals) (m5
+                (c .before .before .before .before .before) (After-no-ledger-scan·gave
+                (c .before .before .before .before)))) (Row.get 6 (T6 .locals)
+                (m20 (c .before) (After-usage-scanned·gave c))) (Row.get 7 (T6 .locals)
+                (m20 (c .before) (After-usage-scanned·gave c))),
+            loop-less record { before = c .before; usage-scanned = c .usage-scanned },
             (
               (
-                Row.get 6 (T6 .locals) (m20 (c .before) (After-room-on·gave c)),
-                Row.get 7 (T6 .locals) (m20 (c .before) (After-room-on·gave c)),
+                Row.get 6 (T6 .locals) (m20 (c .before) (After-usage-scanned·gave c)),
+                Row.get 7 (T6 .locals) (m20 (c .before) (After-usage-scanned·gave c)),
               ),
-              Path.refl {a = m20 (c .before) (After-room-on·gave c)},
-              loop-again record { before = c .before; room-on = c .room-on },
-              Path.refl {a = μ·0 (Row.get 1 (T6 .locals) (m5 (c .before .before .before .before .before)
-                  (After-no-room·gave (c .before .before .before .before))) .now) (Row.get 3 (T6 .locals) (m5
-                  (c .before .before .before .before .before) (After-no-room·gave (c .before .before .before .before)))) (Row.get
-                  4 (T6 .locals) (m5 (c .before .before .before .before .before)
-                  (After-no-room·gave (c .before .before .before .before)))) (Row.get 5 (T6 .locals) (m5
-                  (c .before .before .before .before .before) (After-no-room·gave (c .before .before .before .before)))) (Row.get
-                  6 (T6 .locals) (m5 (c .before .before .before .before .before)
-                  (After-no-room·gave (c .before .before .before .before)))) (Row.get 7 (T6 .locals) (m5
-                  (c .before .before .before .before .before) (After-no-room·gave (c .before .before .before .before)))) (Row.get
-                  6 (T6 .locals) (m20 (c .before) (After-room-on·gave c))) (Row.get 7 (T6 .locals)
-                  (m20 (c .before) (After-room-on·gave c)))},
+              Path.refl {a = m20 (c .before) (After-usage-scanned·gave c)},
+              loop-again record { before = c .before; usage-scanned = c .usage-scanned },
+              Path.refl {a = μ·0 (Row.get 1 (T6 .locals) (m5 (c .before .before .before .before .before) (After-no-ledger-scan·gave
+                  (c .before .before .before .before))) .now) (Row.get 3 (T6 .locals) (m5
+                  (c .before .before .before .before .before) (After-no-ledger-scan·gave
+                  (c .before .before .before .before)))) (Row.get 4 (T6 .locals) (m5
+                  (c .before .before .before .before .before) (After-no-ledger-scan·gave
+                  (c .before .before .before .before)))) (Row.get 5 (T6 .locals) (m5
+                  (c .before .before .before .before .before) (After-no-ledger-scan·gave
+                  (c .before .before .before .before)))) (Row.get 6 (T6 .locals) (m5
+                  (c .before .before .before .before .before) (After-no-ledger-scan·gave
+                  (c .before .before .before .before)))) (Row.get 7 (T6 .locals) (m5
+                  (c .before .before .before .before .before) (After-no-ledger-scan·gave
+                  (c .before .before .before .before)))) (Row.get 6 (T6 .locals)
+                  (m20 (c .before) (After-usage-scanned·gave c))) (Row.get 7 (T6 .locals)
+                  (m20 (c .before) (After-usage-scanned·gave c)))},
             ),
           ),
         )
 
-        lay5 : (c : In-loop) → at15 (W3 (c .before .before) (c .before .loop .room) (c .before .loop .i))
+        lay5 : (c : In-loop) → at15 (W3 (c .before .before) (c .before .loop .scan) (c .before .loop .i))
             (m8 (c .before))
         lay5 = λ c. (
           mul-row record { before = c .before; loop-test = c .loop-test },
@@ -1407,7 +1419,7 @@ module _ (claims· : Claims) where
                 shared-slice-copy-out-row record { before = c .before; loop-test = c .loop-test },
               ),
               λ g. (
-                room-on-requires record {
+                usage-scanned-requires record {
                   before = record { before = c .before; loop-test = c .loop-test };
                   row = record { given = g };
                 },
@@ -1416,7 +1428,7 @@ module _ (claims· : Claims) where
                     before = record { before = c .before; loop-test = c .loop-test };
                     row = record { given = g };
                   };
-                  room-on = Called.called ps·2 r·2 (claims· .5) T19 args16 (m17
+                  usage-scanned = Called.called ps·2 r·2 (claims· .5) T19 args16 (m17
                       record { before = c .before; loop-test = c .loop-test } g) g';
                 },
               ),
@@ -1424,52 +1436,50 @@ module _ (claims· : Claims) where
           ),
         )
 
-        lay4 : (c : After-loop) → at4 (W4 (c .before .before) (c .before .loop .room) (c .before .loop .i)) (m7
-            (c .before .before) (c .before .loop .room) (c .before .loop .i))
+        lay4 : (c : After-loop) → at4 (W4 (c .before .before) (c .before .loop .scan) (c .before .loop .i)) (m7
+            (c .before .before) (c .before .loop .scan) (c .before .loop .i))
         lay4 = λ c. lay7 record { before = c .before; loop-test = c .loop-test }
 
-        lay3 : (c : In-loop) → at1 (W4 (c .before .before) (c .before .loop .room) (c .before .loop .i)) (m7
-            (c .before .before) (c .before .loop .room) (c .before .loop .i))
+        lay3 : (c : In-loop) → at1 (W4 (c .before .before) (c .before .loop .scan) (c .before .loop .i)) (m7
+            (c .before .before) (c .before .loop .scan) (c .before .loop .i))
         lay3 = λ c. lay5 record { before = c .before; loop-test = c .loop-test }
 
-        lay2 : (c : After-no-room) → at27 (W0 (c .before .before .κs) (c .before .before .args))
-            (m4 (c .before) (After-no-room·gave c))
+        lay2 : (c : After-no-ledger-scan) → at27 (W0 (c .before .before .κs) (c .before .before .args))
+            (m4 (c .before) (After-no-ledger-scan·gave c))
         lay2 = λ c. (
           (
             (
-              Row.get 6 (T6 .locals) (m5 (c .before) (After-no-room·gave c)),
-              Row.get 7 (T6 .locals) (m5 (c .before) (After-no-room·gave c)),
+              Row.get 6 (T6 .locals) (m5 (c .before) (After-no-ledger-scan·gave c)),
+              Row.get 7 (T6 .locals) (m5 (c .before) (After-no-ledger-scan·gave c)),
             ),
-            Path.refl {a = m5 (c .before) (After-no-room·gave c)},
-            loop-holds record { before = c .before; no-room = c .no-room },
+            Path.refl {a = m5 (c .before) (After-no-ledger-scan·gave c)},
+            loop-holds record { before = c .before; no-ledger-scan = c .no-ledger-scan },
           ),
           λ vs inv. (
             tt,
             (
               λ taken. lay3 record {
                 before = record {
-                  before = record { before = c .before; no-room = c .no-room };
-                  loop = record { room = vs .0; i = vs .1; inv = inv };
+                  before = record { before = c .before; no-ledger-scan = c .no-ledger-scan };
+                  loop = record { scan = vs .0; i = vs .1; inv = inv };
                 };
                 loop-test = record {
-                  taken = Tests.ltb-true (Row.get 7 (T6 .locals) (m6 record {
-                    before = c .before;
-                    no-room = c .no-room;
-                  } (vs .0) (vs .1))) (Row.get 5 (T6 .locals) (m6 record { before = c .before; no-room = c .no-room }
-                      (vs .0) (vs .1))) taken;
+                  taken = Tests.ltb-true (Row.get 7 (T6 .locals) (m6
+                      record { before = c .before; no-ledger-scan = c .no-ledger-scan } (vs .0) (vs .1))) (Row.get 5
+                      (T6 .locals) (m6 record { before = c .before; no-ledger-scan = c .no-ledger-scan } (vs .0)
+                      (vs .1))) taken;
                 };
               },
               λ left. lay4 record {
                 before = record {
-                  before = record { before = c .before; no-room = c .no-room };
-                  loop = record { room = vs .0; i = vs .1; inv = inv };
+                  before = record { before = c .before; no-ledger-scan = c .no-ledger-scan };
+                  loop = record { scan = vs .0; i = vs .1; inv = inv };
                 };
                 loop-test = record {
-                  left = Tests.ltb-false (Row.get 7 (T6 .locals) (m6 record {
-                    before = c .before;
-                    no-room = c .no-room;
-                  } (vs .0) (vs .1))) (Row.get 5 (T6 .locals) (m6 record { before = c .before; no-room = c .no-room }
-                      (vs .0) (vs .1))) left;
+                  left = Tests.ltb-false (Row.get 7 (T6 .locals) (m6
+                      record { before = c .before; no-ledger-scan = c .no-ledger-scan } (vs .0) (vs .1))) (Row.get 5
+                      (T6 .locals) (m6 record { before = c .before; no-ledger-scan = c .no-ledger-scan } (vs .0)
+                      (vs .1))) left;
                 };
               },
             ),
@@ -1479,10 +1489,10 @@ module _ (claims· : Claims) where
         lay1 : (c : After-min-usize) → at29 (W0 (c .before .κs) (c .before .args))
             (m2 (c .before) (After-min-usize·gave c))
         lay1 = λ c. (
-          no-room-requires record { before = c .before; min-usize = c .min-usize },
+          no-ledger-scan-requires record { before = c .before; min-usize = c .min-usize },
           λ g. lay2 record {
             before = record { before = c .before; min-usize = c .min-usize };
-            no-room = Called.called ps·1 r·1 (claims· .3) T4 args3 (m3 (c .before) (After-min-usize·gave c)) g;
+            no-ledger-scan = Called.called ps·1 r·1 (claims· .3) T4 args3 (m3 (c .before) (After-min-usize·gave c)) g;
           },
         )
 
@@ -1509,9 +1519,9 @@ module _ (claims· : Claims) where
         module _ {M : Type 1} (𝓤 : URA.URA M) (H : Wp.Heap 𝓤) (A : Atoms.Atoms 𝓤) (W : Kit.Given 𝓤 H A)
             (𝓣 : Wp.Tables 𝓤 H) (known0 : Plain.Known 𝓤 H A W 𝓣 0 ps·0 r·0 (claims· .0) (claims· .1)
             "hns_encoding::numbers::min_usize") (known1 : Plain.Known 𝓤 H A W 𝓣 0 ps·1 r·1 (claims· .2) (claims· .3)
-            "hnsr_circuit::tables::scan::no_room") (known2 : Plain.Known 𝓤 H A W 𝓣 0 ps·2 r·2 (claims· .4) (claims· .5)
-            "hnsr_circuit::tables::scan::room_on") (known3 : Plain.Known 𝓤 H A W 𝓣 0 ps·3 r·3 (claims· .6) (claims· .7)
-            "hnsr_circuit::tables::places::room_spared") where
+            "hnsr_circuit::tables::scan::no_ledger_scan") (known2 : Plain.Known 𝓤 H A W 𝓣 0 ps·2 r·2 (claims· .4)
+            (claims· .5) "hnsr_circuit::tables::scan::usage_scanned") (known3 : Plain.Known 𝓤 H A W 𝓣 0 ps·3 r·3
+            (claims· .6) (claims· .7) "hnsr_circuit::tables::places::ledger_spared") where
           pub spec : Statement.Triple 𝓤 (Wp.WpFn 𝓤 H (𝓣 .C) (𝓣 .Λ) (Function.fnOf 1 ps r xs m hs body))
               (Function.plainOf 𝓤 H A 1 ps r Pre· Post·)
           spec = Plain.t-fn-plain 𝓤 H A W 𝓣 1 ps r xs m hs body (λ κs qs bs. Φ) (λ κs qs bs bd. typed κs qs 𝓤 H A W 𝓣

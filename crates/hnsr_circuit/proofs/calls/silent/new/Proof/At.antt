@@ -85,5 +85,5 @@ refused-requires c = search needs
 
 module _ {M : Type 1} where
   pub spec : Tie.Need-returns → Tie.Need-returns-2 → Lts.Closed Tie.readings Reads.Pre Reads.Post M
-  spec = λ a0 a1. Tie.spec too-few-requires new-answer-requires new-runtime-requires is-taken-requires no-place-requires
-      taken-with-requires a0 no-runtime-requires every-place-requires refused-requires a1
+  spec = λ a0 a1. Tie.spec too-few-requires new-answer-requires new-runtime-requires is-taken-requires
+      no-place-requires taken-with-requires a0 no-runtime-requires every-place-requires refused-requires a1

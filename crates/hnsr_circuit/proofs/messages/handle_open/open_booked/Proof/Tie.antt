@@ -24,12 +24,12 @@ use Rattle.hnsr_circuit.proofs.messages.open.pending_for.Reads as Reads
 use Rattle.hnsr_circuit.proofs.messages.open.pending_for.Symbol as Symbol''''
 use Rattle.hnsr_circuit.proofs.output.queue.send.Met as Met'''''
 use Rattle.hnsr_circuit.proofs.output.queue.send.Symbol as Symbol'''''
-use Rattle.hnsr_circuit.proofs.records.runtime.opened.Met as Met''''''
-use Rattle.hnsr_circuit.proofs.records.runtime.opened.Reads as Reads''''''''
-use Rattle.hnsr_circuit.proofs.records.runtime.opened.Symbol as Symbol''''''
-use Rattle.hnsr_circuit.proofs.records.ledger.usage_answer.Met as Met'''''''
-use Rattle.hnsr_circuit.proofs.records.ledger.usage_answer.Reads as Reads'''''''''
-use Rattle.hnsr_circuit.proofs.records.ledger.usage_answer.Symbol as Symbol'''''''
+use Rattle.hnsr_circuit.proofs.records.ledger.usage_answer.Met as Met''''''
+use Rattle.hnsr_circuit.proofs.records.ledger.usage_answer.Reads as Reads''''''''
+use Rattle.hnsr_circuit.proofs.records.ledger.usage_answer.Symbol as Symbol''''''
+use Rattle.hnsr_circuit.proofs.records.runtime.opened.Met as Met'''''''
+use Rattle.hnsr_circuit.proofs.records.runtime.opened.Reads as Reads'''''''''
+use Rattle.hnsr_circuit.proofs.records.runtime.opened.Symbol as Symbol'''''''
 use Rattle.hnsr_circuit.proofs.runtime.refused.Met as Met''''''''
 use Rattle.hnsr_circuit.proofs.runtime.refused.Reads as Reads''''''''''
 use Rattle.hnsr_circuit.proofs.runtime.refused.Symbol as Symbol''''''''
@@ -44,8 +44,8 @@ use contract.Running
 
 abbrev pub readings : Lts.Claims
 readings = (
-  Reads'''''''''.Asked,
-  Reads'''''''''.Learnt,
+  Reads''''''''.Asked,
+  Reads''''''''.Learnt,
   Reads''''.Asked,
   Reads''''.Learnt,
   Reads'''''''.Asked,
@@ -54,8 +54,8 @@ readings = (
   Reads'''.Learnt,
   Reads'''''''''''.Asked,
   Reads'''''''''''.Learnt,
-  Reads''''''''.Asked,
-  Reads''''''''.Learnt,
+  Reads'''''''''.Asked,
+  Reads'''''''''.Learnt,
   Reads''''''.Asked,
   Reads''''''.Learnt,
   Reads'''''.Asked,
@@ -211,18 +211,18 @@ module _ {M : Type 1} where
       Code.env Key.name Code.function (Code.unfolded 𝓤 H 𝓜 𝓡) (λ κs a g. tt) (λ κs. Reads'.owns κs
       record { M = M; 𝓤 = 𝓤; H = H; 𝓜 = 𝓜; 𝓖 = 𝓖; 𝓡 = 𝓡 }) (Reads'.passes
       record { M = M; 𝓤 = 𝓤; H = H; 𝓜 = 𝓜; 𝓖 = 𝓖; 𝓡 = 𝓡 }) λ g. closed 𝓤 H (𝓖 .A) (Running.givenOf 𝓤 H 𝓜 𝓖)
-      (Run.Over 𝓤 H 𝓜 𝓖 𝓡 Code.env) (Reads'''''''''.known record { M = M; 𝓤 = 𝓤; H = H; 𝓜 = 𝓜; 𝓖 = 𝓖; 𝓡 = 𝓡 } Code.env
-      Symbol'''''''.name Symbol'''''''.routine Code.calls-hnsr-circuit·records·ledger·usage-answer
-      (Met'''''''.met 𝓤 H 𝓜 𝓖 𝓡)) (Reads''''.known record { M = M; 𝓤 = 𝓤; H = H; 𝓜 = 𝓜; 𝓖 = 𝓖; 𝓡 = 𝓡 } Code.env
+      (Run.Over 𝓤 H 𝓜 𝓖 𝓡 Code.env) (Reads''''''''.known record { M = M; 𝓤 = 𝓤; H = H; 𝓜 = 𝓜; 𝓖 = 𝓖; 𝓡 = 𝓡 } Code.env
+      Symbol''''''.name Symbol''''''.routine Code.calls-hnsr-circuit·records·ledger·usage-answer
+      (Met''''''.met 𝓤 H 𝓜 𝓖 𝓡)) (Reads''''.known record { M = M; 𝓤 = 𝓤; H = H; 𝓜 = 𝓜; 𝓖 = 𝓖; 𝓡 = 𝓡 } Code.env
       Symbol'.name Symbol'.routine Code.calls-hnsr-circuit·answer·is-taken (Met'.met 𝓤 H 𝓜 𝓖 𝓡)) (Reads'''''''.known
       record { M = M; 𝓤 = 𝓤; H = H; 𝓜 = 𝓜; 𝓖 = 𝓖; 𝓡 = 𝓡 } Code.env Symbol''''.name Symbol''''.routine
       Code.calls-hnsr-circuit·messages·open·pending-for (Met''''.met 𝓤 H 𝓜 𝓖 𝓡)) (Reads'''.known
       record { M = M; 𝓤 = 𝓤; H = H; 𝓜 = 𝓜; 𝓖 = 𝓖; 𝓡 = 𝓡 } Code.env Symbol''''''''''.name Symbol''''''''''.routine
       Code.calls-hnsr-circuit·tables·stores·put-pending (Met''''''''''.met 𝓤 H 𝓜 𝓖 𝓡)) (Reads'''''''''''.known
       record { M = M; 𝓤 = 𝓤; H = H; 𝓜 = 𝓜; 𝓖 = 𝓖; 𝓡 = 𝓡 } Code.env Symbol'''''''''.name Symbol'''''''''.routine
-      Code.calls-hnsr-circuit·tables·places·with-pending (Met'''''''''.met 𝓤 H 𝓜 𝓖 𝓡)) (Reads''''''''.known
-      record { M = M; 𝓤 = 𝓤; H = H; 𝓜 = 𝓜; 𝓖 = 𝓖; 𝓡 = 𝓡 } Code.env Symbol''''''.name Symbol''''''.routine
-      Code.calls-hnsr-circuit·records·runtime·opened (Met''''''.met 𝓤 H 𝓜 𝓖 𝓡)) (Reads''''''.known
+      Code.calls-hnsr-circuit·tables·places·with-pending (Met'''''''''.met 𝓤 H 𝓜 𝓖 𝓡)) (Reads'''''''''.known
+      record { M = M; 𝓤 = 𝓤; H = H; 𝓜 = 𝓜; 𝓖 = 𝓖; 𝓡 = 𝓡 } Code.env Symbol'''''''.name Symbol'''''''.routine
+      Code.calls-hnsr-circuit·records·runtime·opened (Met'''''''.met 𝓤 H 𝓜 𝓖 𝓡)) (Reads''''''.known
       record { M = M; 𝓤 = 𝓤; H = H; 𝓜 = 𝓜; 𝓖 = 𝓖; 𝓡 = 𝓡 } Code.env Symbol'''.name Symbol'''.routine
       Code.calls-hnsr-circuit·messages·open·incoming-out (Met'''.met 𝓤 H 𝓜 𝓖 𝓡)) (Reads'''''.known
       record { M = M; 𝓤 = 𝓤; H = H; 𝓜 = 𝓜; 𝓖 = 𝓖; 𝓡 = 𝓡 } Code.env Symbol''.name Symbol''.routine

@@ -2,7 +2,7 @@
 use Rattle.hnsr_circuit.proofs.answer.body_answer.Reads
 use Rattle.hnsr_circuit.proofs.answer.first_refusal.Reads as Reads'
 use Rattle.hnsr_circuit.proofs.messages.open.admission_answer.Reads as Reads''
-use Rattle.hnsr_circuit.proofs.messages.open.open_room.Reads as Reads'''
+use Rattle.hnsr_circuit.proofs.messages.open.open_limit.Reads as Reads'''
 use Rattle.hnsr_circuit.proofs.messages.open.open_rows.Lts
 use Rattle.hnsr_circuit.proofs.messages.open.open_rows.Reads as Reads''''
 use Rattle.hnsr_circuit.proofs.messages.open.open_rows.Tie
@@ -31,7 +31,7 @@ pub record Returns (c : Tie.After-first-refusal2) : Type 0 where
       (c .before .before .before .before .before .before .before)
   pub ticket : Lts.After-ticket·own readings Reads''''.Pre Reads''''.Post
       (c .before .before .before .before .before .before)
-  pub open-room : Lts.After-open-room·own readings Reads''''.Pre Reads''''.Post
+  pub open-limit : Lts.After-open-limit·own readings Reads''''.Pre Reads''''.Post
       (c .before .before .before .before .before)
   pub body-answer : Lts.After-body-answer·own readings Reads''''.Pre Reads''''.Post (c .before .before .before .before)
   pub admission-answer : Lts.After-admission-answer·own readings Reads''''.Pre Reads''''.Post
@@ -47,7 +47,7 @@ returns c = record {
   waiting = c .before .before .before .before .before .before .before .waiting;
   running = c .before .before .before .before .before .before .running;
   ticket = c .before .before .before .before .before .ticket;
-  open-room = c .before .before .before .before .open-room;
+  open-limit = c .before .before .before .before .open-limit;
   body-answer = c .before .before .before .body-answer;
   admission-answer = c .before .before .admission-answer;
   first-refusal = c .before .first-refusal;

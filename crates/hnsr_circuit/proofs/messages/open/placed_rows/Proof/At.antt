@@ -5,7 +5,7 @@ use Rattle.hnsr_circuit.proofs.entry.peer_answer.Reads as Reads''
 use Rattle.hnsr_circuit.proofs.records.inflight.capacity_answer.Reads as Reads'''
 use Rattle.hnsr_circuit.proofs.records.ledger.ledger_answer.Reads as Reads''''
 use Rattle.hnsr_circuit.proofs.messages.open.deadline_answer.Reads as Reads'''''
-use Rattle.hnsr_circuit.proofs.messages.open.endpoint_room.Reads as Reads''''''
+use Rattle.hnsr_circuit.proofs.messages.open.endpoint_limit.Reads as Reads''''''
 use Rattle.hnsr_circuit.proofs.messages.open.placed_rows.Lts
 use Rattle.hnsr_circuit.proofs.messages.open.placed_rows.Reads as Reads'''''''
 use Rattle.hnsr_circuit.proofs.messages.open.placed_rows.Tie
@@ -47,7 +47,7 @@ pub record Returns (c : Tie.After-first-refusal5) : Type 0 where
       .before .before .before .before .before .before .before .before .before)
   pub peer-answer : Lts.After-peer-answer·own readings Reads'''''''.Pre Reads'''''''.Post (c .before .before .before
       .before .before .before .before .before .before .before .before)
-  pub endpoint-room : Lts.After-endpoint-room·own readings Reads'''''''.Pre Reads'''''''.Post (c .before .before
+  pub endpoint-limit : Lts.After-endpoint-limit·own readings Reads'''''''.Pre Reads'''''''.Post (c .before .before
       .before .before .before .before .before .before .before .before)
   pub draw-answer : Lts.After-draw-answer·own readings Reads'''''''.Pre Reads'''''''.Post (c .before .before .before
       .before .before .before .before .before .before)
@@ -81,7 +81,7 @@ returns c = record {
   tally = c .before .before .before .before .before .before .before .before .before .before .before .before .tally;
   same-peer = c .before .before .before .before .before .before .before .before .before .before .before .same-peer;
   peer-answer = c .before .before .before .before .before .before .before .before .before .before .peer-answer;
-  endpoint-room = c .before .before .before .before .before .before .before .before .before .endpoint-room;
+  endpoint-limit = c .before .before .before .before .before .before .before .before .before .endpoint-limit;
   draw-answer = c .before .before .before .before .before .before .before .before .draw-answer;
   capacity-answer = c .before .before .before .before .before .before .before .capacity-answer;
   deadline-answer = c .before .before .before .before .before .before .deadline-answer;

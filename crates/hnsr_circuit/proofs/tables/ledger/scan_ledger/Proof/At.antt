@@ -4,70 +4,76 @@ use Rattle.hnsr_circuit.proofs.By.tables.ledger.scan_ledger.Reads
 use Rattle.hnsr_circuit.proofs.tables.ledger.scan_ledger.Proof.Tie
 
 module _ (Inv : Tie.InvT-loop) (μ : Tie.MeasureT-loop) where
-  pub record Loop-holds (c : Tie.After-no-room Inv μ) : Type 0 where
+  pub record Loop-holds (c : Tie.After-no-ledger-scan Inv μ) : Type 0 where
     pub start : Tie.Start Inv μ
     pub min-usize : Lts.After-min-usize·own Tie.readings Reads.Pre Reads.Post Inv μ (c .before .before)
-    pub no-room : Lts.After-no-room·own Tie.readings Reads.Pre Reads.Post Inv μ (c .before)
+    pub no-ledger-scan : Lts.After-no-ledger-scan·own Tie.readings Reads.Pre Reads.Post Inv μ (c .before)
 
-  abbrev pub loop-holds : (c : Tie.After-no-room Inv μ) → Loop-holds c
-  loop-holds c = record { start = c .before .before; min-usize = c .before .min-usize; no-room = c .no-room }
+  abbrev pub loop-holds : (c : Tie.After-no-ledger-scan Inv μ) → Loop-holds c
+  loop-holds c = record {
+    start = c .before .before;
+    min-usize = c .before .min-usize;
+    no-ledger-scan = c .no-ledger-scan;
+  }
 
-  pub record Room-on-requires (c : Tie.After-row Inv μ) : Type 0 where
+  pub record Usage-scanned-requires (c : Tie.After-row Inv μ) : Type 0 where
     pub start : Tie.Start Inv μ
     pub min-usize : Lts.After-min-usize·own Tie.readings Reads.Pre Reads.Post Inv μ
         (c .before .before .before .before .before)
-    pub no-room : Lts.After-no-room·own Tie.readings Reads.Pre Reads.Post Inv μ (c .before .before .before .before)
+    pub no-ledger-scan : Lts.After-no-ledger-scan·own Tie.readings Reads.Pre Reads.Post Inv μ
+        (c .before .before .before .before)
     pub loop : Lts.At-loop·own Tie.readings Reads.Pre Reads.Post Inv μ (c .before .before .before)
     pub loop-test : Lts.In-loop·own Tie.readings Reads.Pre Reads.Post Inv μ (c .before .before)
     pub row : Lts.After-row·own Tie.readings Reads.Pre Reads.Post Inv μ (c .before)
 
-  abbrev pub room-on-requires : (c : Tie.After-row Inv μ) → Room-on-requires c
-  room-on-requires c = record {
+  abbrev pub usage-scanned-requires : (c : Tie.After-row Inv μ) → Usage-scanned-requires c
+  usage-scanned-requires c = record {
     start = c .before .before .before .before .before;
     min-usize = c .before .before .before .before .min-usize;
-    no-room = c .before .before .before .no-room;
+    no-ledger-scan = c .before .before .before .no-ledger-scan;
     loop = c .before .before .loop;
     loop-test = c .before .loop-test;
     row = c .row;
   }
 
-  pub record Loop-again (c : Tie.After-room-on Inv μ) : Type 0 where
+  pub record Loop-again (c : Tie.After-usage-scanned Inv μ) : Type 0 where
     pub start : Tie.Start Inv μ
     pub min-usize : Lts.After-min-usize·own Tie.readings Reads.Pre Reads.Post Inv μ
         (c .before .before .before .before .before .before)
-    pub no-room : Lts.After-no-room·own Tie.readings Reads.Pre Reads.Post Inv μ
+    pub no-ledger-scan : Lts.After-no-ledger-scan·own Tie.readings Reads.Pre Reads.Post Inv μ
         (c .before .before .before .before .before)
     pub loop : Lts.At-loop·own Tie.readings Reads.Pre Reads.Post Inv μ (c .before .before .before .before)
     pub loop-test : Lts.In-loop·own Tie.readings Reads.Pre Reads.Post Inv μ (c .before .before .before)
     pub row : Lts.After-row·own Tie.readings Reads.Pre Reads.Post Inv μ (c .before .before)
-    pub room-on : Lts.After-room-on·own Tie.readings Reads.Pre Reads.Post Inv μ (c .before)
+    pub usage-scanned : Lts.After-usage-scanned·own Tie.readings Reads.Pre Reads.Post Inv μ (c .before)
 
-  abbrev pub loop-again : (c : Tie.After-room-on Inv μ) → Loop-again c
+  abbrev pub loop-again : (c : Tie.After-usage-scanned Inv μ) → Loop-again c
   loop-again c = record {
     start = c .before .before .before .before .before .before;
     min-usize = c .before .before .before .before .before .min-usize;
-    no-room = c .before .before .before .before .no-room;
+    no-ledger-scan = c .before .before .before .before .no-ledger-scan;
     loop = c .before .before .before .loop;
     loop-test = c .before .before .loop-test;
     row = c .before .row;
-    room-on = c .room-on;
+    usage-scanned = c .usage-scanned;
   }
 
-  pub record Returns (c : Tie.After-room-spared Inv μ) : Type 0 where
+  pub record Returns (c : Tie.After-ledger-spared Inv μ) : Type 0 where
     pub start : Tie.Start Inv μ
     pub min-usize : Lts.After-min-usize·own Tie.readings Reads.Pre Reads.Post Inv μ
         (c .before .before .before .before .before)
-    pub no-room : Lts.After-no-room·own Tie.readings Reads.Pre Reads.Post Inv μ (c .before .before .before .before)
+    pub no-ledger-scan : Lts.After-no-ledger-scan·own Tie.readings Reads.Pre Reads.Post Inv μ
+        (c .before .before .before .before)
     pub loop : Lts.At-loop·own Tie.readings Reads.Pre Reads.Post Inv μ (c .before .before .before)
     pub loop-test : Lts.After-loop·own Tie.readings Reads.Pre Reads.Post Inv μ (c .before .before)
-    pub room-spared : Lts.After-room-spared·own Tie.readings Reads.Pre Reads.Post Inv μ (c .before)
+    pub ledger-spared : Lts.After-ledger-spared·own Tie.readings Reads.Pre Reads.Post Inv μ (c .before)
 
-  abbrev pub returns : (c : Tie.After-room-spared Inv μ) → Returns c
+  abbrev pub returns : (c : Tie.After-ledger-spared Inv μ) → Returns c
   returns c = record {
     start = c .before .before .before .before .before;
     min-usize = c .before .before .before .before .min-usize;
-    no-room = c .before .before .before .no-room;
+    no-ledger-scan = c .before .before .before .no-ledger-scan;
     loop = c .before .before .loop;
     loop-test = c .before .loop-test;
-    room-spared = c .room-spared;
+    ledger-spared = c .ledger-spared;
   }

@@ -8,15 +8,15 @@ use Rattle.hnsr_circuit.proofs.By.tables.ledger.scan_ledger.Reads as Re
 use Rattle.hnsr_circuit.proofs.tables.ledger.scan_ledger.Code
 use Rattle.hnsr_circuit.proofs.tables.ledger.scan_ledger.Key
 use Rattle.hnsr_circuit.proofs.tables.ledger.scan_ledger.Statement
-use Rattle.hnsr_circuit.proofs.tables.places.room_spared.Met as Met'
-use Rattle.hnsr_circuit.proofs.tables.places.room_spared.Reads as Reads''
-use Rattle.hnsr_circuit.proofs.tables.places.room_spared.Symbol as Symbol'
-use Rattle.hnsr_circuit.proofs.tables.scan.no_room.Met as Met''
-use Rattle.hnsr_circuit.proofs.tables.scan.no_room.Reads as Reads'''
-use Rattle.hnsr_circuit.proofs.tables.scan.no_room.Symbol as Symbol''
-use Rattle.hnsr_circuit.proofs.tables.scan.room_on.Met as Met'''
-use Rattle.hnsr_circuit.proofs.tables.scan.room_on.Reads as Reads''''
-use Rattle.hnsr_circuit.proofs.tables.scan.room_on.Symbol as Symbol'''
+use Rattle.hnsr_circuit.proofs.tables.places.ledger_spared.Met as Met'
+use Rattle.hnsr_circuit.proofs.tables.places.ledger_spared.Reads as Reads''
+use Rattle.hnsr_circuit.proofs.tables.places.ledger_spared.Symbol as Symbol'
+use Rattle.hnsr_circuit.proofs.tables.scan.no_ledger_scan.Met as Met''
+use Rattle.hnsr_circuit.proofs.tables.scan.no_ledger_scan.Reads as Reads'''
+use Rattle.hnsr_circuit.proofs.tables.scan.no_ledger_scan.Symbol as Symbol''
+use Rattle.hnsr_circuit.proofs.tables.scan.usage_scanned.Met as Met'''
+use Rattle.hnsr_circuit.proofs.tables.scan.usage_scanned.Reads as Reads''''
+use Rattle.hnsr_circuit.proofs.tables.scan.usage_scanned.Symbol as Symbol'''
 use borrow.Fn.Run
 use borrow.Fn.Written
 use contract.Running
@@ -45,8 +45,8 @@ Start = λ Inv μ. Lts.Start readings Reads'.Pre Reads'.Post Inv μ
 abbrev pub After-min-usize : (Inv : InvT-loop) → (μ : MeasureT-loop) → Type 0
 After-min-usize = λ Inv μ. Lts.After-min-usize readings Reads'.Pre Reads'.Post Inv μ
 
-abbrev pub After-no-room : (Inv : InvT-loop) → (μ : MeasureT-loop) → Type 0
-After-no-room = λ Inv μ. Lts.After-no-room readings Reads'.Pre Reads'.Post Inv μ
+abbrev pub After-no-ledger-scan : (Inv : InvT-loop) → (μ : MeasureT-loop) → Type 0
+After-no-ledger-scan = λ Inv μ. Lts.After-no-ledger-scan readings Reads'.Pre Reads'.Post Inv μ
 
 abbrev pub At-loop : (Inv : InvT-loop) → (μ : MeasureT-loop) → Type 0
 At-loop = λ Inv μ. Lts.At-loop readings Reads'.Pre Reads'.Post Inv μ
@@ -60,17 +60,17 @@ After-loop = λ Inv μ. Lts.After-loop readings Reads'.Pre Reads'.Post Inv μ
 abbrev pub After-row : (Inv : InvT-loop) → (μ : MeasureT-loop) → Type 0
 After-row = λ Inv μ. Lts.After-row readings Reads'.Pre Reads'.Post Inv μ
 
-abbrev pub After-room-on : (Inv : InvT-loop) → (μ : MeasureT-loop) → Type 0
-After-room-on = λ Inv μ. Lts.After-room-on readings Reads'.Pre Reads'.Post Inv μ
+abbrev pub After-usage-scanned : (Inv : InvT-loop) → (μ : MeasureT-loop) → Type 0
+After-usage-scanned = λ Inv μ. Lts.After-usage-scanned readings Reads'.Pre Reads'.Post Inv μ
 
-abbrev pub After-room-spared : (Inv : InvT-loop) → (μ : MeasureT-loop) → Type 0
-After-room-spared = λ Inv μ. Lts.After-room-spared readings Reads'.Pre Reads'.Post Inv μ
+abbrev pub After-ledger-spared : (Inv : InvT-loop) → (μ : MeasureT-loop) → Type 0
+After-ledger-spared = λ Inv μ. Lts.After-ledger-spared readings Reads'.Pre Reads'.Post Inv μ
 
 abbrev pub Need-min-usize-requires : (Inv : InvT-loop) → (μ : MeasureT-loop) → Type 0
 Need-min-usize-requires = λ Inv μ. Lts.Need-min-usize-requires readings Reads'.Pre Reads'.Post Inv μ
 
-abbrev pub Need-no-room-requires : (Inv : InvT-loop) → (μ : MeasureT-loop) → Type 0
-Need-no-room-requires = λ Inv μ. Lts.Need-no-room-requires readings Reads'.Pre Reads'.Post Inv μ
+abbrev pub Need-no-ledger-scan-requires : (Inv : InvT-loop) → (μ : MeasureT-loop) → Type 0
+Need-no-ledger-scan-requires = λ Inv μ. Lts.Need-no-ledger-scan-requires readings Reads'.Pre Reads'.Post Inv μ
 
 abbrev pub Need-loop-holds : (Inv : InvT-loop) → (μ : MeasureT-loop) → Type 0
 Need-loop-holds = λ Inv μ. Lts.Need-loop-holds readings Reads'.Pre Reads'.Post Inv μ
@@ -81,8 +81,8 @@ Need-mul-row = λ Inv μ. Lts.Need-mul-row readings Reads'.Pre Reads'.Post Inv �
 abbrev pub Need-shared-slice-copy-out-row : (Inv : InvT-loop) → (μ : MeasureT-loop) → Type 0
 Need-shared-slice-copy-out-row = λ Inv μ. Lts.Need-shared-slice-copy-out-row readings Reads'.Pre Reads'.Post Inv μ
 
-abbrev pub Need-room-on-requires : (Inv : InvT-loop) → (μ : MeasureT-loop) → Type 0
-Need-room-on-requires = λ Inv μ. Lts.Need-room-on-requires readings Reads'.Pre Reads'.Post Inv μ
+abbrev pub Need-usage-scanned-requires : (Inv : InvT-loop) → (μ : MeasureT-loop) → Type 0
+Need-usage-scanned-requires = λ Inv μ. Lts.Need-usage-scanned-requires readings Reads'.Pre Reads'.Post Inv μ
 
 abbrev pub Need-add-i : (Inv : InvT-loop) → (μ : MeasureT-loop) → Type 0
 Need-add-i = λ Inv μ. Lts.Need-add-i readings Reads'.Pre Reads'.Post Inv μ
@@ -93,18 +93,18 @@ Need-loop-less = λ Inv μ. Lts.Need-loop-less readings Reads'.Pre Reads'.Post I
 abbrev pub Need-loop-again : (Inv : InvT-loop) → (μ : MeasureT-loop) → Type 0
 Need-loop-again = λ Inv μ. Lts.Need-loop-again readings Reads'.Pre Reads'.Post Inv μ
 
-abbrev pub Need-room-spared-requires : (Inv : InvT-loop) → (μ : MeasureT-loop) → Type 0
-Need-room-spared-requires = λ Inv μ. Lts.Need-room-spared-requires readings Reads'.Pre Reads'.Post Inv μ
+abbrev pub Need-ledger-spared-requires : (Inv : InvT-loop) → (μ : MeasureT-loop) → Type 0
+Need-ledger-spared-requires = λ Inv μ. Lts.Need-ledger-spared-requires readings Reads'.Pre Reads'.Post Inv μ
 
 abbrev pub Need-returns : (Inv : InvT-loop) → (μ : MeasureT-loop) → Type 0
 Need-returns = λ Inv μ. Lts.Need-returns readings Reads'.Pre Reads'.Post Inv μ
 
 module _ {M : Type 1} where
   pub spec : (Inv : InvT-loop) → (μ : MeasureT-loop) → (answer : Need-min-usize-requires Inv μ) →
-      (answer : Need-no-room-requires Inv μ) → (answer : Need-loop-holds Inv μ) → (answer : Need-mul-row Inv μ) →
-      (answer : Need-shared-slice-copy-out-row Inv μ) → (answer : Need-room-on-requires Inv μ) →
+      (answer : Need-no-ledger-scan-requires Inv μ) → (answer : Need-loop-holds Inv μ) → (answer : Need-mul-row Inv μ)
+      → (answer : Need-shared-slice-copy-out-row Inv μ) → (answer : Need-usage-scanned-requires Inv μ) →
       (answer : Need-add-i Inv μ) → (answer : Need-loop-less Inv μ) → (answer : Need-loop-again Inv μ) →
-      (answer : Need-room-spared-requires Inv μ) → (answer : Need-returns Inv μ) → Lts.Closed readings Reads'.Pre
+      (answer : Need-ledger-spared-requires Inv μ) → (answer : Need-returns Inv μ) → Lts.Closed readings Reads'.Pre
       Reads'.Post M
   spec = λ Inv μ answer answer' answer'' answer'3 answer'4 answer'5 answer'6 answer'7 answer'8 answer'9 answer'10.
       Lts.spec readings Reads'.Pre Reads'.Post Inv μ answer answer' answer'' answer'3 answer'4 answer'5 answer'6
@@ -120,8 +120,8 @@ module _ {M : Type 1} where
       (Run.Over 𝓤 H 𝓜 𝓖 𝓡 Code.env) (Reads.known record { M = M; 𝓤 = 𝓤; H = H; 𝓜 = 𝓜; 𝓖 = 𝓖; 𝓡 = 𝓡 } Code.env
       Symbol.name Symbol.routine Code.calls-hns-encoding·numbers·min-usize (Met.met 𝓤 H 𝓜 𝓖 𝓡)) (Reads'''.known
       record { M = M; 𝓤 = 𝓤; H = H; 𝓜 = 𝓜; 𝓖 = 𝓖; 𝓡 = 𝓡 } Code.env Symbol''.name Symbol''.routine
-      Code.calls-hnsr-circuit·tables·scan·no-room (Met''.met 𝓤 H 𝓜 𝓖 𝓡)) (Reads''''.known
+      Code.calls-hnsr-circuit·tables·scan·no-ledger-scan (Met''.met 𝓤 H 𝓜 𝓖 𝓡)) (Reads''''.known
       record { M = M; 𝓤 = 𝓤; H = H; 𝓜 = 𝓜; 𝓖 = 𝓖; 𝓡 = 𝓡 } Code.env Symbol'''.name Symbol'''.routine
-      Code.calls-hnsr-circuit·tables·scan·room-on (Met'''.met 𝓤 H 𝓜 𝓖 𝓡)) (Reads''.known
+      Code.calls-hnsr-circuit·tables·scan·usage-scanned (Met'''.met 𝓤 H 𝓜 𝓖 𝓡)) (Reads''.known
       record { M = M; 𝓤 = 𝓤; H = H; 𝓜 = 𝓜; 𝓖 = 𝓖; 𝓡 = 𝓡 } Code.env Symbol'.name Symbol'.routine
-      Code.calls-hnsr-circuit·tables·places·room-spared (Met'.met 𝓤 H 𝓜 𝓖 𝓡))
+      Code.calls-hnsr-circuit·tables·places·ledger-spared (Met'.met 𝓤 H 𝓜 𝓖 𝓡))

@@ -1,7 +1,7 @@
 -- What one record adds to each part.
 use borrow.Author.Needs.{needs}
-use Rattle.hnsr_circuit.proofs.tables.scan.room_on.Statement.{statement}
-use Rattle.hnsr_circuit.proofs.tables.scan.room_on.Tie as tie
+use Rattle.hnsr_circuit.proofs.tables.scan.usage_scanned.Statement.{statement}
+use Rattle.hnsr_circuit.proofs.tables.scan.usage_scanned.Tie as tie
 
 usage-is-requires : tie.Need-usage-is-requires
 usage-is-requires c κs = search needs
@@ -33,5 +33,5 @@ first-place-requires-2 c κs = search needs
 returns : tie.Need-returns
 returns c = cc
 
-pub room-on-spec : {M : Type 1} → statement M
-room-on-spec = tie.close (tie.spec usage-is-requires is-usage-requires no-requires first-usage-requires either-requires first-place-requires one-more-requires either-requires-2 first-place-requires-2 returns)
+pub usage-scanned-spec : {M : Type 1} → statement M
+usage-scanned-spec = tie.close (tie.spec usage-is-requires is-usage-requires no-requires first-usage-requires either-requires first-place-requires one-more-requires either-requires-2 first-place-requires-2 returns)

@@ -4,9 +4,9 @@ use Rattle.hnsr_circuit.specs.Open.{endpointAnswer}
 use Prim.Native.Nat.{_<_}
 use Rattle.hnsr_circuit.specs.Laws.Opening.{leb-sum}
 use borrow.Author.Needs.{needs}
-use Rattle.hnsr_circuit.proofs.messages.open.endpoint_room.Statement.{statement}
-use Rattle.hnsr_circuit.proofs.messages.open.endpoint_room.Tie as tie
-use Rattle.hnsr_circuit.proofs.messages.open.endpoint_room.Proof.At as at
+use Rattle.hnsr_circuit.proofs.messages.open.endpoint_limit.Statement.{statement}
+use Rattle.hnsr_circuit.proofs.messages.open.endpoint_limit.Tie as tie
+use Rattle.hnsr_circuit.proofs.messages.open.endpoint_limit.Proof.At as at
 
 -- a peer's and a ticket's most are numbers of 16 bits
 small : (c : tie.Start) → c .args .config .«maximum_circuits_per_peer» < 65536
@@ -37,8 +37,8 @@ returns c =
       leb-sum (s .args .ticket .«max_active_circuits») (s .args .waiting .under) (s .args .running .under) (small-ticket s),
     )
 
-pub endpoint-room-spec : {M : Type 1} → statement M
-endpoint-room-spec =
+pub endpoint-limit-spec : {M : Type 1} → statement M
+endpoint-limit-spec =
     tie.close
     (tie.spec
     saturating-add-usize-requires

@@ -119,9 +119,9 @@ use Rattle.hnsr_circuit.specs.declared.records.RelayPending.{RelayPending}
 use Rattle.hnsr_circuit.specs.declared.records.RelayCircuit.{RelayCircuit}
 use Rattle.hnsr_circuit.specs.declared.records.ReservationUsage.{ReservationUsage}
 use Rattle.hnsr_circuit.specs.declared.records.InflightAction.{InflightAction}
-use Rattle.hnsr_circuit.specs.declared.records.Walked.{Walked}
-use Rattle.hnsr_circuit.specs.declared.records.NextDue.{NextDue}
-use Rattle.hnsr_circuit.specs.declared.records.NextDue.the-variants.{Never, At}
+use Rattle.hnsr_circuit.specs.declared.tables.scan.Walked.{Walked}
+use Rattle.hnsr_circuit.specs.declared.runtime.NextDue.{NextDue}
+use Rattle.hnsr_circuit.specs.declared.runtime.NextDue.the-variants.{Never, At}
 use Rattle.hnsr_circuit.specs.declared.config.OpaqueRelayConfig.{OpaqueRelayConfig}
 use Rattle.hnsr_circuit.specs.declared.runtime.HnsrRuntimeStatus.{HnsrRuntimeStatus}
 use Rattle.hnsr_circuit.specs.declared.answer.HnsrAnswer.the-variants.{Taken}
@@ -134,8 +134,8 @@ use Rattle.hnsr_circuit.specs.Circuits.{noCircuit, circuitId, isCircuit}
 use Rattle.hnsr_circuit.specs.Ledger.{noUsage, isUsage}
 use Rattle.hnsr_circuit.specs.Inflight.{noAction, isAction}
 use Rattle.hnsr_circuit.specs.Route.{outWords}
-use Rattle.hnsr_circuit.specs.Header.{withSequence}
-use Rattle.hnsr_circuit.specs.World.{World, Outcome, Told, silent, statusIs, dueIs, withHeader}
+use Rattle.hnsr_circuit.specs.Runtime.{withSequence}
+use Rattle.hnsr_circuit.specs.World.{World, Outcome, Told, silent, statusIs, dueIs, withRuntime}
 use Rattle.hnsr_circuit.specs.Packet.{Admission, Packet}
 use Rattle.hnsr_circuit.specs.Call.{Start, Call, callHandle, callStatus, callNextDue, start, step}
 use Rattle.hnsr_circuit.specs.Worked.All.{machine}
@@ -310,7 +310,7 @@ actionRow a =
 unfoldable pub stateRows : World → List (List ℕ)
 unfolding rowsFrom pendingRow circuitRow usageRow usageKey actionRow actionKey machine
 stateRows w =
-    (0 ∷ w .header .«next_action_sequence» ∷ [])
+    (0 ∷ w .runtime .«next_action_sequence» ∷ [])
     ∷ (rowsFrom pendingId isPending noPending pendingRow (w .pending) (length (w .pending)) notYet
     ++ rowsFrom circuitId isCircuit noCircuit circuitRow (w .circuits) (length (w .circuits)) notYet
     ++ rowsFrom usageKey isUsage noUsage usageRow (w .ledger) (length (w .ledger)) notYet
@@ -322,7 +322,7 @@ unfolding machine
 moved w (begin s) = start w s
 moved w (item c) = step w c
 moved w (poke n) =
-    record { world = withHeader w (withSequence (w .header) n); answer = Taken; routes = []; told = silent }
+    record { world = withRuntime w (withSequence (w .runtime) n); answer = Taken; routes = []; told = silent }
 
 unfoldable pub seenOf : Outcome → Bool → Bool → List (List ℕ)
 unfolding answerRow worldRow stateRows machine

@@ -1,8 +1,8 @@
 //! The calls over tables and output words that the host keeps itself and lends for each call.
 //!
-//! Every call takes any records, any header, any words and any bytes, and answers with how many output words it wrote
+//! Every call takes any records, any runtime, any words and any bytes, and answers with how many output words it wrote
 //! or with a refusal. [`Routes`](crate::Routes) reads the words. What a refusal leaves is document 01's: the output
-//! always, and the tables and the header but where it says otherwise.
+//! always, and the tables and the runtime but where it says otherwise.
 //!
 //! With the tables go four numbers, [`Places`]: of each table how many places are in use. A call takes them from the
 //! tables and puts them back there, so a host has only to store them with the records.
@@ -54,7 +54,7 @@ pub struct Packet<'a> {
     pub random: &'a [u8],
 }
 
-/// Makes a relay: sets the numbers of places in use to 0, so that every place is unused, and gives its header. No
+/// Makes a relay: sets the numbers of places in use to 0, so that every place is unused, and gives its runtime. No
 /// place is read or written, whatever stands there. A refusal leaves the numbers.
 pub fn new(
     tables: &mut Tables,
@@ -157,7 +157,7 @@ pub fn next_due(tables: &Tables, runtime: &Runtime) -> Result<Option<u64>, HnsrR
     answered(reply.answer, Cause::NONE).map(|()| reply.some.then_some(reply.due))
 }
 
-/// The header and the numbers as the call leaves them, refused or not, and the answer.
+/// The runtime and the numbers as the call leaves them, refused or not, and the answer.
 fn kept(tables: &mut Tables, runtime: &mut Runtime, reply: ffi::RelayReply) -> Result<usize, HnsrRuntimeError> {
     *runtime = reply.runtime;
     tables.places = reply.places;

@@ -208,7 +208,7 @@ impl<Random> OpaqueRelayRuntime<Random> {
         &self.tables
     }
 
-    /// The parts to be stored, for [`from_parts`](Self::from_parts): the header, and the tables
+    /// The parts to be stored, for [`from_parts`](Self::from_parts): the runtime, and the tables
     /// with the numbers of places in use.
     pub fn into_parts(self) -> (Runtime, Tables) {
         (self.runtime, self.tables)

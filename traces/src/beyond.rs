@@ -1,11 +1,11 @@
-//! The library beyond document 01's domain: headers, tables, numbers of places, output words and names that no run has.
+//! The library beyond document 01's domain: runtimes, tables, numbers of places, output words and names that no run has.
 //!
 //! Each call is made on what the one before it left, or on a new world by chance. Whatever it is lent, the library
 //! must do what the second reading of document 01 does, and what `checks` says in words.
 
 mod calls;
 mod checks;
-mod found;
+mod lent;
 mod made;
 
 use crate::Call;
@@ -105,7 +105,7 @@ pub fn beyond(seed: u64, calls: u64) -> Result<Answers, String> {
         if rng.chance(NEW_WORLDS) {
             world = World::by_chance(&mut rng);
         } else if rng.chance(NEW_NUMBERS) {
-            world.tables.places = found::numbers(&mut rng, &world.tables);
+            world.tables.places = lent::numbers(&mut rng, &world.tables);
         }
         let case = Case::by_chance(&mut rng, world);
         let left = case.made();

@@ -1,4 +1,4 @@
-//! A second reading of document 01: the relay over tables as found, written for the tests to compare the library with.
+//! A second reading of document 01: the relay over tables as lent, written for the tests to compare the library with.
 //!
 //! It is short and slow, and takes of the library only the checks of bodies, packets and limits,
 //! which are compared by themselves.
@@ -25,7 +25,7 @@ pub use machine::Reading;
 /// The routes of a call that is taken, or the refusal.
 pub type Outcome = Result<Vec<Route>, Refused>;
 
-/// What a host keeps: the header, and the tables with their numbers.
+/// What a host keeps: the runtime, and the tables with their numbers.
 #[derive(Clone, Debug, Eq)]
 pub struct World {
     pub runtime: Runtime,

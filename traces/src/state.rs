@@ -93,13 +93,13 @@ impl State {
 
     /// Where another state first differs from this one: what is expected there and what came.
     pub fn difference(&self, came: &Self) -> Option<String> {
-        first_difference(&self.header_lines(), &came.header_lines())
+        first_difference(&self.runtime_lines(), &came.runtime_lines())
             .or_else(|| first_difference(&self.lines(), &came.lines()))
             .map(|what| format!("state: {what}"))
     }
 
     /// What no line of a trace says.
-    fn header_lines(&self) -> Vec<String> {
+    fn runtime_lines(&self) -> Vec<String> {
         vec![
             format!("session {}", hex(&self.session)),
             format!("generation {}", self.generation),

@@ -26,7 +26,7 @@ closingWords = 2 * (headWords + wordCount noticeSize)
 abbrev pub acknowledgeWords : ℕ
 acknowledgeWords = closingWords
 
--- for each pending record and circuit, as found
+-- for each pending record and circuit, as lent
 abbrev pub revokingWords : World → ℕ
 revokingWords w = closingWords * (pendingCount w + circuitCount w)
 

@@ -1,5 +1,5 @@
 -- OPEN (document 01, "Down through the call" and the two rows of OPEN in "Where a call is turned away"). Three worlds, three answers:
--- as found; ledger records past their expiry dropped; the missing ledger record made. Then all is written and INCOMING is queued.
+-- as lent; ledger records past their expiry dropped; the missing ledger record made. Then all is written and INCOMING is queued.
 -- The row "all written, then 1 context all zero" is left out: the entry refuses such a packet.
 use Prim.Native.Nat.{ℕ, _+_, min}
 use mathlib.Core.Bool.{Bool, false, not, _||_}

@@ -2,7 +2,7 @@
 pub mod All
 -- Document 01's cases
 pub mod Cases
--- Tables as found
-pub mod FoundWorlds
-pub mod Found
-pub mod FoundMore
+-- Tables as lent
+pub mod LentWorlds
+pub mod Lent
+pub mod LentMore

@@ -1,4 +1,4 @@
-//! The relay's calls. The header goes in and comes back by value, and so do the numbers of places in use; a table
+//! The relay's calls. The runtime goes in and comes back by value, and so do the numbers of places in use; a table
 //! that a call does not need is not lent to it.
 use super::Cause;
 use crate::config::OpaqueRelayConfig;
@@ -283,7 +283,7 @@ mod tests {
     }
 
     /// All zero, and switched off.
-    fn no_header() -> Runtime {
+    fn no_runtime() -> Runtime {
         let config = OpaqueRelayConfig {
             maximum_pending: 0,
             maximum_circuits: 0,
@@ -307,7 +307,7 @@ mod tests {
     }
 
     #[test]
-    fn a_refused_new_hands_back_a_fixed_header_and_every_place() {
+    fn a_refused_new_hands_back_a_fixed_runtime_and_every_place() {
         let config = OpaqueRelayConfig {
             maximum_pending: 2,
             maximum_circuits: 3,
@@ -335,7 +335,7 @@ mod tests {
         ];
         for (refusal, reply) in refused {
             assert_eq!((reply.answer, reply.words), (refusal.number(), 0));
-            assert_eq!((reply.runtime, reply.places), (no_header(), Places::EVERY));
+            assert_eq!((reply.runtime, reply.places), (no_runtime(), Places::EVERY));
         }
         let taken = new(&tables, [1; 16], 5, config, 9);
         let runtime = Runtime {
@@ -345,7 +345,7 @@ mod tests {
             trusted_time_high_water: 9,
             config,
             next_action_sequence: 1,
-            ..no_header()
+            ..no_runtime()
         };
         assert_eq!((taken.answer, taken.runtime, taken.places), (0, runtime, Places::NONE));
     }
@@ -353,7 +353,7 @@ mod tests {
     #[test]
     fn observe_time_hands_back_the_numbers() {
         for places in [Places::NONE, Places::EVERY, Places { pending: 1, circuits: 2, ledger: 3, actions: 4 }] {
-            let runtime = Runtime { trusted_time_high_water: 5, ..no_header() };
+            let runtime = Runtime { trusted_time_high_water: 5, ..no_runtime() };
             for (time, number) in [(4, ClockRollback.number()), (5, 0), (6, 0)] {
                 let reply = observe_time(runtime, places, time);
                 assert_eq!((reply.answer, reply.places), (number, places));

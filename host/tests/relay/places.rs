@@ -143,7 +143,7 @@ const LIFE: &[Step] = &[
     |relay| relay.observe_time(START + 11),
 ];
 
-/// Two relays give the same from here on: answers, words, header, what they tell, and every record at its place.
+/// Two relays give the same from here on: answers, words, runtime, what they tell, and every record at its place.
 fn live_alike(mut one: Relay, mut other: Relay) {
     for (number, step) in LIFE.iter().enumerate() {
         assert_eq!((one.status(), one.next_due()), (other.status(), other.next_due()), "before step {number}");

@@ -9,7 +9,7 @@ fn raw(tables: &Tables) -> String {
     format!("{tables:?}")
 }
 
-/// Whether two relays give the same from here on: answers, words, header and tables.
+/// Whether two relays give the same from here on: answers, words, runtime and tables.
 fn same(first: &mut Relay, second: &mut Relay, call: impl Fn(&mut Relay) -> Option<HnsrRuntimeError>) {
     assert_eq!(call(first), call(second));
     assert_eq!(first.words(), second.words());

@@ -1,6 +1,6 @@
 //! Calls by chance, most of them aimed at a record that stands in the tables with its mark set, below the number or
 //! not.
-use super::found::{config, given_name, id, reservation, time};
+use super::lent::{config, given_name, id, reservation, time};
 use crate::reading::World;
 use crate::rng::Rng;
 use crate::{Call, Grant};

@@ -35,7 +35,7 @@ fn output(case: &Case, left: &Left) -> Checked {
     ensure(left.out[written..] == case.out[written..], "the output is touched beyond the words that are written")
 }
 
-/// The answer, its cause, every word, the header and every record of a used place are those of the second reading. So
+/// The answer, its cause, every word, the runtime and every record of a used place are those of the second reading. So
 /// a refusal leaves what document 01's table says: "State too, except where marked."
 fn as_read(case: &Case, left: &Left) -> Checked {
     let mut world = case.world.clone();
@@ -45,7 +45,7 @@ fn as_read(case: &Case, left: &Left) -> Checked {
     if let Some(what) = expected.difference(&came) {
         return Err(what);
     }
-    ensure(world.runtime == left.world.runtime, "another header is left")?;
+    ensure(world.runtime == left.world.runtime, "another runtime is left")?;
     ensure(seen(&world) == seen(&left.world), "other records are left")
 }
 
@@ -78,7 +78,7 @@ fn new_alone(case: &Case, left: &Left) -> Checked {
     )
 }
 
-/// `status` tells the counts of used places, the sum of the queues, and the header; `next_due` the earliest end; both
+/// `status` tells the counts of used places, the sum of the queues, and the runtime; `next_due` the earliest end; both
 /// are 22 where a table is short.
 fn told(left: &Left) -> Checked {
     let World { runtime, tables } = &left.world;

@@ -1,4 +1,4 @@
-//! beyond SEED CALLS   makes so many calls on the library with headers, tables, output words and names that no run has
+//! beyond SEED CALLS   makes so many calls on the library with runtimes, tables, output words and names that no run has
 //!
 //! Exits 1 at the first call that is wrong, and prints it with what it was lent.
 use lekchnam_traces::beyond::beyond;

@@ -30,7 +30,7 @@ impl Reading {
     }
 }
 
-/// Tables for these limits, and a header that means nothing.
+/// Tables for these limits, and a runtime that means nothing.
 fn unstarted(config: &OpaqueRelayConfig, ledger_places: usize) -> World {
     let tables = config.validate().and_then(|config| Tables::new(&config, ledger_places)).unwrap_or_default();
     let runtime = Runtime {

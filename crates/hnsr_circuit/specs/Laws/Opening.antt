@@ -431,7 +431,7 @@ module _ (h : OpaqueRelayRuntime) (p : List RelayPending) (c : List RelayCircuit
       ∙ proceed-on a w x (λ y. openLapsed y v)
       ∙ ap (λ (b : HnsrAnswer). proceed w b (openLapsed x v)) a′)
 
-  -- refused as found, or once ledger records are dropped
+  -- refused as lent, or once ledger records are dropped
   pub open-refused : (g : OpenGathered) (a : HnsrAnswer) (r : Relayed) (out : List ℕ) → g ≡ gathering q (peerOf source) body endpoint rs p c → a ≡ openRows (h .config) g
       → taken a ≡ false → (r .runtime ≡ h) × (r .answer ≡ a) × (r .words ≡ 0)
       → handedBack r p c l i out ≡ ending out (handleOpen (worldOf h p c l i) (packetOf q source body endpoint rs))

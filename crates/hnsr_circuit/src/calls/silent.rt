@@ -84,7 +84,7 @@ fn new_answer(
     first_refusal(named, rest)
 }
 
-// No place is in use, whatever the tables hold: no table is touched. Where it is refused every place stays as found, and the runtime is zeros and off.
+// No place is in use, whatever the tables hold: no table is touched. Where it is refused every place stays as it is, and the runtime is zeros and off.
 pub fn new(
     pending: &[RelayPending],
     circuits: &[RelayCircuit],

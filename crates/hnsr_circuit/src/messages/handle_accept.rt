@@ -48,7 +48,7 @@ use crate::tables::stores::put_circuit;
 use hnsr_body::accept_body::AcceptBody;
 use hnsr_body::accept_body::AcceptRead;
 
-// The rows, over the tables as found.
+// The rows, over the tables as lent.
 pub(crate) fn accept_answered(
     pending: &[RelayPending],
     circuits: &[RelayCircuit],

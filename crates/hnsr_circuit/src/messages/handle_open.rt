@@ -241,7 +241,7 @@ pub(crate) fn open_lapsed(
     refused(runtime, places, entered)
 }
 
-// What the tables as found refuse costs no pass over ledger and actions.
+// What the tables as lent refuse costs no pass over ledger and actions.
 pub(crate) fn handle_open(
     pending: &mut [RelayPending],
     circuits: &mut [RelayCircuit],

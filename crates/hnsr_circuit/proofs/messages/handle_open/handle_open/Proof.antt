@@ -1,4 +1,4 @@
--- Three stages, each from the one before; what the tables as found refuse is refused.
+-- Three stages, each from the one before; what the tables as lent refuse is refused.
 mod Tie
 mod At
 use mathlib.Core.Path.{refl, sym, ap, _∙_}

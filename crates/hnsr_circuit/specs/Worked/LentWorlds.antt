@@ -1,4 +1,4 @@
--- Worlds as a host may lend them, and what is looked at, for the examples of Found and FoundMore. Names of one byte: the requester is 1,
+-- Worlds as a host may lend them, and what is looked at, for the examples of Lent and LentMore. Names of one byte: the requester is 1,
 -- the endpoint 2, as in the cases.
 use Prim.Native.Nat.{ℕ, _-_}
 use mathlib.Core.Bool.{Bool, true}

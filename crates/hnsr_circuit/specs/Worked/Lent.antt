@@ -1,5 +1,5 @@
--- Lent tables read as found (document 01, "What the host hands over"): examples that no trace of the Rust reaches, by computation. Here 22,
--- 23, equal ids and records that replace; the rest is in FoundMore. Above each stands what it reads.
+-- Tables as a host may lend them (document 01, "What the host hands over"): examples that no trace of the Rust reaches, by computation. Here 22,
+-- 23, equal ids and records that replace; the rest is in LentMore. Above each stands what it reads.
 use Prim.Native.Nat.{_-_}
 use mathlib.Core.Path.{_≡_, refl}
 use mathlib.Core.Bool.{true, false}
@@ -18,7 +18,7 @@ use Rattle.hnsr_circuit.specs.Opcode.{opClose, opError}
 use Rattle.hnsr_circuit.specs.Call.{callStatus, callNextDue, callObserveTime, callAcknowledge, callDisconnect, callExpire, start}
 use Rattle.hnsr_circuit.specs.Worked.All.{machine}
 use Rattle.hnsr_circuit.specs.Worked.Cases.{lent, newAt, requesterPeer, endpointPeer, openCall, acceptCall, packetCall}
-use Rattle.hnsr_circuit.specs.Worked.FoundWorlds.{peer, pendingBetween, pendingOn, until, circuitOn, usageOn, actionOn, found, free, answerOf, toldOf, dueAfter, routes, pendingAfter, firstCircuit, firstAction}
+use Rattle.hnsr_circuit.specs.Worked.LentWorlds.{peer, pendingBetween, pendingOn, until, circuitOn, usageOn, actionOn, found, free, answerOf, toldOf, dueAfter, routes, pendingAfter, firstCircuit, firstAction}
 
 -- ---- "22 output words too few or a table shorter than its maximum"
 unfoldable pub quiet : World

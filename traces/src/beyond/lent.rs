@@ -1,4 +1,4 @@
-//! Worlds that no run leaves: headers and tables by chance, of few names and ids, so that they meet.
+//! Worlds that no run leaves: runtimes and tables by chance, of few names and ids, so that they meet.
 use crate::Config;
 use crate::reading::World;
 use crate::rng::Rng;
@@ -181,11 +181,11 @@ fn usage(rng: &mut Rng, now: u64) -> ReservationUsage {
     ReservationUsage { used: rng.chance(60), reservation_id: reservation(rng), bytes, expires_at: time(rng, now) }
 }
 
-fn action(rng: &mut Rng, header: &Runtime) -> InflightAction {
+fn action(rng: &mut Rng, runtime: &Runtime) -> InflightAction {
     InflightAction {
         used: rng.chance(30),
-        generation: if rng.chance(80) { header.generation } else { rng.below(3) },
-        sequence: *rng.pick(&[0, 1, 2, 3, header.next_action_sequence, TOP]),
+        generation: if rng.chance(80) { runtime.generation } else { rng.below(3) },
+        sequence: *rng.pick(&[0, 1, 2, 3, runtime.next_action_sequence, TOP]),
         circuit_id: id(rng),
         destination: stored_name(rng),
         kind: *rng.pick(&[0, 0, 1, 1, 2, 2, 3, 3, 4, 4, 5, 6, 128, 255]),

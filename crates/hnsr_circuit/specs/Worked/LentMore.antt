@@ -1,4 +1,4 @@
--- Lent tables read as found, further examples: long and dirty names, a stored zero context, marks and counts that do not fit, kinds above 4,
+-- Tables as a host may lend them, further examples: long and dirty names, a stored zero context, marks and counts that do not fit, kinds above 4,
 -- numbers and sums at their tops, and the tail of the output. Above each stands what it reads of document 01.
 use Prim.Native.Nat.{ℕ, _+_, _-_}
 use mathlib.Core.Path.{_≡_, refl}
@@ -18,8 +18,8 @@ use Rattle.hnsr_circuit.specs.World.{World}
 use Rattle.hnsr_circuit.specs.Opcode.{opClose, opError}
 use Rattle.hnsr_circuit.specs.Call.{callReplaceEnabled, callAcknowledge, callDisconnect, callExpire}
 use Rattle.hnsr_circuit.specs.Worked.Cases.{requesterPeer, openCall, acceptCall, dataCall}
-use Rattle.hnsr_circuit.specs.Worked.FoundWorlds.{peer, pendingOn, circuitOn, usageOn, actionOn, found, free, lastSequence, lastGeneration, answerOf, wordsOf, outputAfter, routes, firstCircuit, runtimeAfter, actionsAfter, bytesQueued}
-use Rattle.hnsr_circuit.specs.Worked.Found.{quiet, fewActions, one-of-each}
+use Rattle.hnsr_circuit.specs.Worked.LentWorlds.{peer, pendingOn, circuitOn, usageOn, actionOn, found, free, lastSequence, lastGeneration, answerOf, wordsOf, outputAfter, routes, firstCircuit, runtimeAfter, actionsAfter, bytesQueued}
+use Rattle.hnsr_circuit.specs.Worked.Lent.{quiet, fewActions, one-of-each}
 
 -- ---- a peer length over the most reads as the most; what stands behind a name is not read
 unfoldable pub longPeer : HnsrPeerId

@@ -5,14 +5,10 @@ use lib.ListN.{length}
 use Rattle.hns_encoding.specs.Bytes.{leBytes}
 use Rattle.hns_encoding.specs.Laws.Bytes.{leBytes-length}
 use Rattle.hns_encoding.specs.Laws.Cursor.{there, puts-ok, puts-err}
-use borrow.Author.Needs.{needs}
 use native.Mathlib.Omega.{arith}
 use Rattle.hns_encoding.proofs.encoder.put_le.Statement.{statement}
 use Rattle.hns_encoding.proofs.encoder.put_le.Tie as tie
 use Rattle.hns_encoding.proofs.encoder.put_le.Proof.At as at
-
-fits-requires : tie.Need-fits-requires
-fits-requires c κs = search needs
 
 put-le-at-requires : tie.Need-put-le-at-requires
 put-le-at-requires c κs =
@@ -25,12 +21,6 @@ add-t11 c =
     let here = at.add-t11 c in
     let a = here .start .args in
     record { fits = omega (arith, there (length (a .out .now)) (a .at) (a .width) (here .fits2 .result) (here .fits2 .ensures) (here .if1 .taken)) }
-
-no-room-requires : tie.Need-no-room-requires
-no-room-requires c κs = search needs
-
-same-length : tie.Need-same-length
-same-length c = search needs
 
 returns : tie.Need-returns
 returns c =
@@ -46,12 +36,4 @@ returns-2 c =
 
 pub put-le-spec : {M : Type 1} → statement M
 put-le-spec =
-    tie.close
-    (tie.spec
-    fits-requires
-    put-le-at-requires
-    add-t11
-    no-room-requires
-    same-length
-    returns
-    returns-2)
+    tie.close (at.spec put-le-at-requires add-t11 returns returns-2)

@@ -2,14 +2,10 @@
 mod At
 use mathlib.Core.Path.{sym, _∙_}
 use Rattle.hns_encoding.specs.Laws.Bytes.{le-four}
-use borrow.Author.Needs.{needs}
 use native.Mathlib.Omega.{arith}
 use Rattle.hns_encoding.proofs.words.full_word_at.Statement.{statement}
 use Rattle.hns_encoding.proofs.words.full_word_at.Tie as tie
 use Rattle.hns_encoding.proofs.words.full_word_at.Proof.At as at
-
-word-of-requires : tie.Need-word-of-requires
-word-of-requires c κs = search needs
 
 returns : tie.Need-returns
 returns c =
@@ -19,4 +15,4 @@ returns c =
 
 pub full-word-at-spec : {M : Type 1} → statement M
 full-word-at-spec =
-    tie.close (at.spec word-of-requires returns)
+    tie.close (at.spec returns)

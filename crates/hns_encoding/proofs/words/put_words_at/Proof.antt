@@ -8,17 +8,10 @@ use Rattle.hns_encoding.specs.Words.{wordsOf}
 use Rattle.hns_encoding.specs.Cursor.{writtenAt}
 use Rattle.hns_encoding.specs.Laws.Lists.{field-rest, written-behind, written-length}
 use Rattle.hns_encoding.specs.Laws.Words.{wordsOf-length, wordsOf-add}
-use borrow.Author.Needs.{needs}
 use native.Mathlib.Omega.{arith}
 use Rattle.hns_encoding.proofs.words.put_words_at.Statement.{statement}
 use Rattle.hns_encoding.proofs.words.put_words_at.Tie as tie
 use Rattle.hns_encoding.proofs.words.put_words_at.Proof.At as at
-
-min-usize-requires : tie.Need-min-usize-requires
-min-usize-requires c κs = search needs
-
-put-full-words-at-requires : tie.Need-put-full-words-at-requires
-put-full-words-at-requires c κs = search needs
 
 put-short-words-at-requires : tie.Need-put-short-words-at-requires
 put-short-words-at-requires c κs =
@@ -45,4 +38,4 @@ returns c =
 
 pub put-words-at-spec : {M : Type 1} → statement M
 put-words-at-spec =
-    tie.close (at.spec min-usize-requires put-full-words-at-requires put-short-words-at-requires returns)
+    tie.close (at.spec put-short-words-at-requires returns)

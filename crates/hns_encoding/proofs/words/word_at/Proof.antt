@@ -6,7 +6,6 @@ use Rattle.hns_encoding.specs.Bytes.{le}
 use Rattle.hns_encoding.specs.Cursor.{field}
 use Rattle.hns_encoding.specs.Laws.Bytes.{below-more-digits, le-past}
 use Rattle.hns_encoding.specs.Laws.Lists.{field-short}
-use borrow.Author.Needs.{needs}
 use native.Mathlib.Omega.{arith}
 use Rattle.hns_encoding.proofs.words.word_at.Statement.{statement}
 use Rattle.hns_encoding.proofs.words.word_at.Tie as tie
@@ -16,15 +15,6 @@ returns : tie.Need-returns
 returns c =
     let here = at.returns c in
     let a = here .start .args in le-past (a .bytes .now) (a .at) 4 (here .if1 .taken)
-
-sub-min-usize : tie.Need-sub-min-usize
-sub-min-usize c = search needs
-
-min-usize-requires : tie.Need-min-usize-requires
-min-usize-requires c κs = search needs
-
-le-at-requires : tie.Need-le-at-requires
-le-at-requires c κs = search needs
 
 cast-result : tie.Need-cast-result
 cast-result c = record { fits = below-more-digits (c .le-at .result) (c .before .min-usize .result) 4 (c .le-at .ensures .1) (omega arith) }
@@ -37,5 +27,4 @@ returns-2 c =
 
 pub word-at-spec : {M : Type 1} → statement M
 word-at-spec =
-    tie.close
-    (tie.spec returns sub-min-usize min-usize-requires le-at-requires cast-result returns-2)
+    tie.close (at.spec returns cast-result returns-2)

@@ -6,19 +6,12 @@ use Rattle.hnsr_body.specs.declared.error.Cause.{Cause}
 use Rattle.hnsr_body.specs.declared.error.Checked.the-variants.{Err}
 use Rattle.hnsr_body.specs.declared.error.HnsrProtocolError.{HnsrProtocolError}
 use Rattle.hnsr_body.specs.Causes.{causeNumbers}
-use borrow.Author.Needs.{needs}
 use Rattle.hnsr_body.proofs.error.error_cause.Statement.{statement}
 use Rattle.hnsr_body.proofs.error.error_cause.Tie as tie
 use Rattle.hnsr_body.proofs.error.error_cause.Proof.At as at
 
 abbrev numbers : HnsrProtocolError → Cause
 numbers error = causeNumbers (Err error)
-
-decode-cause-requires : tie.Need-decode-cause-requires
-decode-cause-requires c κs = search needs
-
-text-number-requires : tie.Need-text-number-requires
-text-number-requires c κs = search needs
 
 returns : tie.Need-returns
 returns c =
@@ -38,4 +31,4 @@ returns-4 c = ap numbers (sym (c .enum-told .given .1))
 
 pub error-cause-spec : {M : Type 1} → statement M
 error-cause-spec =
-    tie.close (at.spec decode-cause-requires text-number-requires returns returns-2 returns-3 returns-4)
+    tie.close (at.spec returns returns-2 returns-3 returns-4)

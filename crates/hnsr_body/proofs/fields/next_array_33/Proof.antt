@@ -2,13 +2,9 @@
 mod At
 use mathlib.Core.Path.{sym, _∙_, ap}
 use Rattle.hnsr_body.specs.Fields.{stepped, fetched}
-use borrow.Author.Needs.{needs}
 use Rattle.hnsr_body.proofs.fields.next_array_33.Statement.{statement}
 use Rattle.hnsr_body.proofs.fields.next_array_33.Tie as tie
 use Rattle.hnsr_body.proofs.fields.next_array_33.Proof.At as at
-
-read-array-33-requires : tie.Need-read-array-33-requires
-read-array-33-requires c κs = search needs
 
 returns : tie.Need-returns
 unfolding stepped fetched
@@ -29,4 +25,4 @@ returns-2 c =
 
 pub next-array-33-spec : {M : Type 1} → statement M
 next-array-33-spec =
-    tie.close (at.spec read-array-33-requires returns returns-2)
+    tie.close (at.spec returns returns-2)

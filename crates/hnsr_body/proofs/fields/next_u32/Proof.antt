@@ -9,7 +9,6 @@ use Rattle.hns_encoding.specs.declared.decoder.Step.the-variants as Step
 use Rattle.hns_encoding.specs.Bytes.{le}
 use Rattle.hnsr_body.specs.Fields.{stepped, fetched}
 use Rattle.hnsr_body.specs.Laws.Fields.{number-step, number-value}
-use borrow.Author.Needs.{needs}
 use Rattle.hnsr_body.proofs.fields.next_u32.Statement.{statement}
 use Rattle.hnsr_body.proofs.fields.next_u32.Tie as tie
 use Rattle.hnsr_body.proofs.fields.next_u32.Proof.At as at
@@ -21,9 +20,6 @@ value (Err error) = 0
 abbrev step : ReadU32 → Step
 step (Ok n next) = Step.Ok next
 step (Err error) = Step.Err error
-
-read-u32-le-requires : tie.Need-read-u32-le-requires
-read-u32-le-requires c κs = search needs
 
 returns : tie.Need-returns
 unfolding stepped fetched le
@@ -57,4 +53,4 @@ returns-3 c =
 
 pub next-u32-spec : {M : Type 1} → statement M
 next-u32-spec =
-    tie.close (at.spec read-u32-le-requires returns returns-2 returns-3)
+    tie.close (at.spec returns returns-2 returns-3)

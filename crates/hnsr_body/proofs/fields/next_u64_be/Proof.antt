@@ -9,7 +9,6 @@ use Rattle.hns_encoding.specs.declared.decoder.Step.the-variants as Step
 use Rattle.hns_encoding.specs.Bytes.{be, beFrom}
 use Rattle.hnsr_body.specs.Fields.{stepped, fetched}
 use Rattle.hnsr_body.specs.Laws.Fields.{number-step, number-value}
-use borrow.Author.Needs.{needs}
 use Rattle.hnsr_body.proofs.fields.next_u64_be.Statement.{statement}
 use Rattle.hnsr_body.proofs.fields.next_u64_be.Tie as tie
 use Rattle.hnsr_body.proofs.fields.next_u64_be.Proof.At as at
@@ -21,9 +20,6 @@ value (Err error) = 0
 abbrev step : ReadU64 → Step
 step (Ok n next) = Step.Ok next
 step (Err error) = Step.Err error
-
-read-u64-be-requires : tie.Need-read-u64-be-requires
-read-u64-be-requires c κs = search needs
 
 returns : tie.Need-returns
 unfolding stepped fetched beFrom
@@ -57,4 +53,4 @@ returns-3 c =
 
 pub next-u64-be-spec : {M : Type 1} → statement M
 next-u64-be-spec =
-    tie.close (at.spec read-u64-be-requires returns returns-2 returns-3)
+    tie.close (at.spec returns returns-2 returns-3)

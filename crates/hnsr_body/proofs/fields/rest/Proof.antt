@@ -5,16 +5,9 @@ use mathlib.Core.Path.{sym, _∙_, ap}
 use Rattle.hns_encoding.specs.Cursor.{part}
 use Rattle.hnsr_body.specs.Fields.{left}
 use Rattle.hnsr_body.specs.Laws.Fields.{part-rest}
-use borrow.Author.Needs.{needs}
 use Rattle.hnsr_body.proofs.fields.rest.Statement.{statement}
 use Rattle.hnsr_body.proofs.fields.rest.Tie as tie
 use Rattle.hnsr_body.proofs.fields.rest.Proof.At as at
-
-remaining-requires : tie.Need-remaining-requires
-remaining-requires c κs = search needs
-
-read-slice-requires : tie.Need-read-slice-requires
-read-slice-requires c κs = search needs
 
 returns : tie.Need-returns
 unfolding left
@@ -32,4 +25,4 @@ returns-2 c =
 
 pub rest-spec : {M : Type 1} → statement M
 rest-spec =
-    tie.close (at.spec remaining-requires read-slice-requires returns returns-2)
+    tie.close (at.spec returns returns-2)

@@ -6,13 +6,9 @@ use Rattle.hns_encoding.specs.Laws.Cursor.{finish-ok, finish-err}
 use Rattle.hnsr_body.specs.declared.error.HnsrProtocolError.the-variants.{Decode}
 use Rattle.hnsr_body.specs.declared.error.Checked.the-variants.{Ok, Err}
 use Rattle.hnsr_body.specs.Layout.{finished}
-use borrow.Author.Needs.{needs}
 use Rattle.hnsr_body.proofs.layout.finish.Statement.{statement}
 use Rattle.hnsr_body.proofs.layout.finish.Tie as tie
 use Rattle.hnsr_body.proofs.layout.finish.Proof.At as at
-
-finish-requires : tie.Need-finish-requires
-finish-requires c κs = search needs
 
 returns : tie.Need-returns
 returns c =
@@ -36,4 +32,4 @@ returns-3 c =
 
 pub finish-spec : {M : Type 1} → statement M
 finish-spec =
-    tie.close (at.spec finish-requires returns returns-2 returns-3)
+    tie.close (at.spec returns returns-2 returns-3)

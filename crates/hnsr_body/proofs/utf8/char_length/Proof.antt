@@ -33,9 +33,6 @@ module _ (text : List ℕ) (n : ℕ) (e : n ≡ leadLength (getD text 0 0)) wher
   unfolding charLength
   broken h t = simp (← e, le-leb n (length text) h, t)
 
-lead-length-requires : tie.Need-lead-length-requires
-lead-length-requires c κs = search needs
-
 returns : tie.Need-returns
 returns c = one _ _ (c .before .lead-length .ensures) (search needs) (c .if1 .taken)
 
@@ -43,9 +40,6 @@ returns-2 : tie.Need-returns-2
 returns-2 c =
     let here = at.returns-2 c in
     short _ _ (here .lead-length .ensures) (omega arith)
-
-goes-on-requires : tie.Need-goes-on-requires
-goes-on-requires c κs = search needs
 
 returns-3 : tie.Need-returns-3
 returns-3 c =
@@ -59,4 +53,4 @@ returns-4 c =
 
 pub char-length-spec : {M : Type 1} → statement M
 char-length-spec =
-    tie.close (at.spec lead-length-requires returns returns-2 goes-on-requires returns-3 returns-4)
+    tie.close (at.spec returns returns-2 returns-3 returns-4)

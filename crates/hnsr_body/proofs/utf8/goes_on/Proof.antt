@@ -45,9 +45,6 @@ module _ (text : List ℕ) (n : ℕ) (more : 1 < n) where
       unfolding goesOn
       four t not-three = simp (lt-leb n 1 more, lt-leb n 2 (omega arith), lt-leb n 3 (omega arith), s, t)
 
-is-second-requires : tie.Need-is-second-requires
-is-second-requires c κs = search needs
-
 returns : tie.Need-returns
 returns c = not-second _ _ (search needs) (failed (c .before .is-second .ensures) (c .if1 .taken))
 
@@ -56,17 +53,11 @@ returns-2 c =
     let here = at.returns-2 c in
     two _ _ (search needs) (passed (here .is-second .ensures) (here .if1 .left)) (here .if2 .taken)
 
-is-tail-requires : tie.Need-is-tail-requires
-is-tail-requires c κs = search needs
-
 returns-3 : tie.Need-returns-3
 returns-3 c =
     let here = at.returns-3 c in
     not-third _ _ (search needs) (passed (here .is-second .ensures) (here .if1 .left)) (here .if2 .left)
     (failed (here .is-tail .ensures) (here .if3 .taken))
-
-is-tail-requires-2 : tie.Need-is-tail-requires-2
-is-tail-requires-2 c κs = search needs
 
 returns-4 : tie.Need-returns-4
 returns-4 c =
@@ -83,4 +74,4 @@ returns-5 c =
 
 pub goes-on-spec : {M : Type 1} → statement M
 goes-on-spec =
-    tie.close (at.spec is-second-requires returns returns-2 is-tail-requires returns-3 is-tail-requires-2 returns-4 returns-5)
+    tie.close (at.spec returns returns-2 returns-3 returns-4 returns-5)

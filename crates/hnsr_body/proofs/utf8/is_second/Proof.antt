@@ -1,26 +1,12 @@
 -- `utf8::is_second` meets its contract: at each of the four lead bytes the test is that byte's, and after any other it is the tail's.
 
+mod At
 use mathlib.Core.Path.{_∙_}
-use borrow.Author.Needs.{needs}
 use borrow.Author.Tests.{ne-eqb}
 use Rattle.hnsr_body.specs.Utf8Form.{second}
 use Rattle.hnsr_body.proofs.utf8.is_second.Statement.{statement}
 use Rattle.hnsr_body.proofs.utf8.is_second.Tie as tie
-
-is-between-requires : tie.Need-is-between-requires
-is-between-requires c κs = search needs
-
-is-between-requires-2 : tie.Need-is-between-requires-2
-is-between-requires-2 c κs = search needs
-
-is-between-requires-3 : tie.Need-is-between-requires-3
-is-between-requires-3 c κs = search needs
-
-is-between-requires-4 : tie.Need-is-between-requires-4
-is-between-requires-4 c κs = search needs
-
-is-tail-requires : tie.Need-is-tail-requires
-is-tail-requires c κs = search needs
+use Rattle.hnsr_body.proofs.utf8.is_second.Proof.At as at
 
 returns : tie.Need-returns
 unfolding second
@@ -47,15 +33,4 @@ returns-5 c =
 
 pub is-second-spec : {M : Type 1} → statement M
 is-second-spec =
-    tie.close
-    (tie.spec
-    is-between-requires
-    is-between-requires-2
-    is-between-requires-3
-    is-between-requires-4
-    is-tail-requires
-    returns
-    returns-2
-    returns-3
-    returns-4
-    returns-5)
+    tie.close (at.spec returns returns-2 returns-3 returns-4 returns-5)

@@ -3,19 +3,9 @@ mod At
 use Prim.Native.Nat.{ℕ}
 use mathlib.Core.List.{List, [], _∷_}
 use Rattle.hnsr_body.specs.Laws.Layout.{through-field}
-use borrow.Author.Needs.{needs}
 use Rattle.hnsr_body.proofs.values.reservation_of.Statement.{statement}
 use Rattle.hnsr_body.proofs.values.reservation_of.Tie as tie
 use Rattle.hnsr_body.proofs.values.reservation_of.Proof.At as at
-
-start-requires : tie.Need-start-requires
-start-requires c κs = search needs
-
-next-u64-be-requires : tie.Need-next-u64-be-requires
-next-u64-be-requires c κs = search needs
-
-next-u64-be-requires-2 : tie.Need-next-u64-be-requires-2
-next-u64-be-requires-2 c κs = search needs
 
 returns : tie.Need-returns
 returns c =
@@ -26,4 +16,4 @@ returns c =
 
 pub reservation-of-spec : {M : Type 1} → statement M
 reservation-of-spec =
-    tie.close (at.spec start-requires next-u64-be-requires next-u64-be-requires-2 returns)
+    tie.close (at.spec returns)

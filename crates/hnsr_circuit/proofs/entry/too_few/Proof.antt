@@ -1,16 +1,9 @@
 -- Three tests joined.
 mod At
 use Rattle.hnsr_circuit.specs.Entry.{tooFew}
-use borrow.Author.Needs.{needs}
 use Rattle.hnsr_circuit.proofs.entry.too_few.Statement.{statement}
 use Rattle.hnsr_circuit.proofs.entry.too_few.Tie as tie
 use Rattle.hnsr_circuit.proofs.entry.too_few.Proof.At as at
-
-either-requires : tie.Need-either-requires
-either-requires c κs = search needs
-
-either-requires-2 : tie.Need-either-requires-2
-either-requires-2 c κs = search needs
 
 returns : tie.Need-returns
 unfolding tooFew
@@ -19,4 +12,4 @@ returns c =
     rw (here .either2 .ensures, here .either .ensures)
 
 pub too-few-spec : {M : Type 1} → statement M
-too-few-spec = tie.close (tie.spec either-requires either-requires-2 returns)
+too-few-spec = tie.close (at.spec returns)

@@ -4,16 +4,9 @@ use mathlib.Core.Path.{ap}
 use lib.ListN.{length}
 use borrow.Author.Tests.{eq-eqb, ne-eqb, lt-ltb, le-ltb}
 use Rattle.hns_encoding.specs.declared.decoder.Finish.the-variants.{Err}
-use borrow.Author.Needs.{needs}
 use Rattle.hns_encoding.proofs.decoder.Decoder.finish.Statement.{statement}
 use Rattle.hns_encoding.proofs.decoder.Decoder.finish.Tie as tie
 use Rattle.hns_encoding.proofs.decoder.Decoder.finish.Proof.At as at
-
-sub-t9 : tie.Need-sub-t9
-sub-t9 c = search needs
-
-unexpected-end-requires : tie.Need-unexpected-end-requires
-unexpected-end-requires c κs = search needs
 
 returns : tie.Need-returns
 returns c =
@@ -35,4 +28,4 @@ returns-3 c =
     (ap Err (here .unexpected-end .ensures))
 
 pub finish-spec : {M : Type 1} → statement M
-finish-spec = tie.close (tie.spec sub-t9 unexpected-end-requires returns returns-2 returns-3)
+finish-spec = tie.close (at.spec returns returns-2 returns-3)

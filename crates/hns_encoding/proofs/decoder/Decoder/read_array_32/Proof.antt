@@ -7,17 +7,10 @@ use lib.ListN.{length}
 use Rattle.hns_encoding.specs.declared.decoder.Decoder.{Decoder}
 use Rattle.hns_encoding.specs.declared.decoder.Step.the-variants.{Ok, Err}
 use Rattle.hns_encoding.specs.Laws.Cursor.{there, read-ok, read-err, array-ok, array-err}
-use borrow.Author.Needs.{needs}
 use native.Mathlib.Omega.{arith}
 use Rattle.hns_encoding.proofs.decoder.Decoder.read_array_32.Statement.{statement}
 use Rattle.hns_encoding.proofs.decoder.Decoder.read_array_32.Tie as tie
 use Rattle.hns_encoding.proofs.decoder.Decoder.read_array_32.Proof.At as at
-
-fits-requires : tie.Need-fits-requires
-fits-requires c κs = search needs
-
-slice-aggregate-copy-at : tie.Need-slice-aggregate-copy-at
-slice-aggregate-copy-at c = search needs
 
 copy-at-requires : tie.Need-copy-at-requires
 copy-at-requires c κs =
@@ -30,9 +23,6 @@ add-t11 c =
     let here = at.add-t11 c in
     let a = here .start .args in
     record { fits = omega (arith, there (length (a .input .now)) (a .self .position) 32 (here .fits2 .result) (here .fits2 .ensures) (here .if1 .taken)) }
-
-unexpected-end-requires : tie.Need-unexpected-end-requires
-unexpected-end-requires c κs = search needs
 
 returns : tie.Need-returns
 returns c =
@@ -52,12 +42,4 @@ returns-2 c =
 
 pub read-array-32-spec : {M : Type 1} → statement M
 read-array-32-spec =
-    tie.close
-    (tie.spec
-    fits-requires
-    slice-aggregate-copy-at
-    copy-at-requires
-    add-t11
-    unexpected-end-requires
-    returns
-    returns-2)
+    tie.close (at.spec copy-at-requires add-t11 returns returns-2)

@@ -9,17 +9,10 @@ use Rattle.hns_encoding.specs.declared.decoder.Step.the-variants.{Ok, Er
 use Rattle.hns_encoding.specs.Words.{wordCount}
 use Rattle.hns_encoding.specs.Cursor.{within, unexpectedEnd}
 use Rattle.hns_encoding.specs.Laws.Cursor.{there, read-ok, read-err, filled-ok, filled-err}
-use borrow.Author.Needs.{needs}
 use native.Mathlib.Omega.{arith}
 use Rattle.hns_encoding.proofs.decoder.Decoder.read_bytes_from_words.Statement.{statement}
 use Rattle.hns_encoding.proofs.decoder.Decoder.read_bytes_from_words.Tie as tie
 use Rattle.hns_encoding.proofs.decoder.Decoder.read_bytes_from_words.Proof.At as at
-
-word-count-requires : tie.Need-word-count-requires
-word-count-requires c κs = search needs
-
-fits-requires : tie.Need-fits-requires
-fits-requires c κs = search needs
 
 copy-bytes-at-requires : tie.Need-copy-bytes-at-requires
 copy-bytes-at-requires c κs =
@@ -32,12 +25,6 @@ add-t12 c =
     let here = at.add-t12 c in
     let a = here .start .args in
     record { fits = omega (arith, there (length (a .input .now)) (a .self .position) (here .word-count .result) (here .fits2 .result) (here .fits2 .ensures) (here .if1 .taken)) }
-
-unexpected-end-requires : tie.Need-unexpected-end-requires
-unexpected-end-requires c κs = search needs
-
-same-length : tie.Need-same-length
-same-length c = search needs
 
 returns : tie.Need-returns
 returns c =
@@ -61,13 +48,4 @@ returns-2 c =
 
 pub read-bytes-from-words-spec : {M : Type 1} → statement M
 read-bytes-from-words-spec =
-    tie.close
-    (tie.spec
-    word-count-requires
-    fits-requires
-    copy-bytes-at-requires
-    add-t12
-    unexpected-end-requires
-    same-length
-    returns
-    returns-2)
+    tie.close (at.spec copy-bytes-at-requires add-t12 returns returns-2)

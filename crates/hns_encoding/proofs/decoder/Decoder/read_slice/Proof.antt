@@ -5,14 +5,10 @@ use native.Mathlib.Nat.{add-sub-cancel-left}
 use mathlib.Core.Path.{_∙_, ap}
 use lib.ListN.{length, take, drop}
 use Rattle.hns_encoding.specs.Laws.Cursor.{there, part-ok, part-err}
-use borrow.Author.Needs.{needs}
 use native.Mathlib.Omega.{arith}
 use Rattle.hns_encoding.proofs.decoder.Decoder.read_slice.Statement.{statement}
 use Rattle.hns_encoding.proofs.decoder.Decoder.read_slice.Tie as tie
 use Rattle.hns_encoding.proofs.decoder.Decoder.read_slice.Proof.At as at
-
-fits-requires : tie.Need-fits-requires
-fits-requires c κs = search needs
 
 add-result : tie.Need-add-result
 add-result c =
@@ -41,4 +37,4 @@ returns-2 c =
 
 pub read-slice-spec : {M : Type 1} → statement M
 read-slice-spec =
-    tie.close (at.spec fits-requires add-result part-result-end returns returns-2)
+    tie.close (at.spec add-result part-result-end returns returns-2)

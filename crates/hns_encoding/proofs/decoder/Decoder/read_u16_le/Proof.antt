@@ -11,13 +11,9 @@ use Rattle.hns_encoding.specs.declared.decoder.ReadU16.the-variants.{Ok,
 use Rattle.hns_encoding.specs.Bytes.{le}
 use Rattle.hns_encoding.specs.Cursor.{behind}
 use Rattle.hns_encoding.specs.Laws.Cursor.{there, read-ok, read-err}
-use borrow.Author.Needs.{needs}
 use Rattle.hns_encoding.proofs.decoder.Decoder.read_u16_le.Statement.{statement}
 use Rattle.hns_encoding.proofs.decoder.Decoder.read_u16_le.Tie as tie
 use Rattle.hns_encoding.proofs.decoder.Decoder.read_u16_le.Proof.At as at
-
-fits-requires : tie.Need-fits-requires
-fits-requires c κs = search needs
 
 le-at-requires : tie.Need-le-at-requires
 le-at-requires c κs =
@@ -25,17 +21,11 @@ le-at-requires c κs =
     let a = here .start .args in
     (there (length (a .input .now)) (a .self .position) 2 (here .fits2 .result) (here .fits2 .ensures) (here .if1 .taken), lit≤ tt)
 
-cast-t8 : tie.Need-cast-t8
-cast-t8 c = search needs
-
 add-t9 : tie.Need-add-t9
 add-t9 c =
     let here = at.add-t9 c in
     let a = here .start .args in
     record { fits = omega (arith, there (length (a .input .now)) (a .self .position) 2 (here .fits2 .result) (here .fits2 .ensures) (here .if1 .taken)) }
-
-unexpected-end-requires : tie.Need-unexpected-end-requires
-unexpected-end-requires c κs = search needs
 
 returns : tie.Need-returns
 returns c =
@@ -52,12 +42,4 @@ returns-2 c =
 
 pub read-u16-le-spec : {M : Type 1} → statement M
 read-u16-le-spec =
-    tie.close
-    (tie.spec
-    fits-requires
-    le-at-requires
-    cast-t8
-    add-t9
-    unexpected-end-requires
-    returns
-    returns-2)
+    tie.close (at.spec le-at-requires add-t9 returns returns-2)

@@ -12,14 +12,10 @@ use Rattle.hns_encoding.specs.Words.{fromHighLow}
 use Rattle.hns_encoding.specs.Cursor.{behind}
 use Rattle.hns_encoding.specs.Laws.Lists.{field-at}
 use Rattle.hns_encoding.specs.Laws.Cursor.{there, read-ok, read-err}
-use borrow.Author.Needs.{needs}
 use native.Mathlib.Omega.{arith}
 use Rattle.hns_encoding.proofs.decoder.Decoder.read_u64_from_words.Statement.{statement}
 use Rattle.hns_encoding.proofs.decoder.Decoder.read_u64_from_words.Tie as tie
 use Rattle.hns_encoding.proofs.decoder.Decoder.read_u64_from_words.Proof.At as at
-
-fits-requires : tie.Need-fits-requires
-fits-requires c κs = search needs
 
 get-word-requires : tie.Need-get-word-requires
 get-word-requires c κs =
@@ -39,17 +35,11 @@ get-word-requires-2 c κs =
     let a = here .start .args in
     omega (arith, there (length (a .input .now)) (a .self .position) 2 (here .fits2 .result) (here .fits2 .ensures) (here .if1 .taken))
 
-from-high-low-requires : tie.Need-from-high-low-requires
-from-high-low-requires c κs = search needs
-
 add-t9 : tie.Need-add-t9
 add-t9 c =
     let here = at.add-t9 c in
     let a = here .start .args in
     record { fits = omega (arith, there (length (a .input .now)) (a .self .position) 2 (here .fits2 .result) (here .fits2 .ensures) (here .if1 .taken)) }
-
-unexpected-end-requires : tie.Need-unexpected-end-requires
-unexpected-end-requires c κs = search needs
 
 returns : tie.Need-returns
 returns c =
@@ -69,14 +59,4 @@ returns-2 c =
 
 pub read-u64-from-words-spec : {M : Type 1} → statement M
 read-u64-from-words-spec =
-    tie.close
-    (tie.spec
-    fits-requires
-    get-word-requires
-    add-get-word
-    get-word-requires-2
-    from-high-low-requires
-    add-t9
-    unexpected-end-requires
-    returns
-    returns-2)
+    tie.close (at.spec get-word-requires add-get-word get-word-requires-2 add-t9 returns returns-2)

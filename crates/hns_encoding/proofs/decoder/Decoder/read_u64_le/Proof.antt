@@ -11,13 +11,9 @@ use Rattle.hns_encoding.specs.declared.decoder.ReadU64.the-variants.{Ok,
 use Rattle.hns_encoding.specs.Bytes.{le}
 use Rattle.hns_encoding.specs.Cursor.{behind}
 use Rattle.hns_encoding.specs.Laws.Cursor.{there, read-ok, read-err}
-use borrow.Author.Needs.{needs}
 use Rattle.hns_encoding.proofs.decoder.Decoder.read_u64_le.Statement.{statement}
 use Rattle.hns_encoding.proofs.decoder.Decoder.read_u64_le.Tie as tie
 use Rattle.hns_encoding.proofs.decoder.Decoder.read_u64_le.Proof.At as at
-
-fits-requires : tie.Need-fits-requires
-fits-requires c κs = search needs
 
 le-at-requires : tie.Need-le-at-requires
 le-at-requires c κs =
@@ -30,9 +26,6 @@ add-t8 c =
     let here = at.add-t8 c in
     let a = here .start .args in
     record { fits = omega (arith, there (length (a .input .now)) (a .self .position) 8 (here .fits2 .result) (here .fits2 .ensures) (here .if1 .taken)) }
-
-unexpected-end-requires : tie.Need-unexpected-end-requires
-unexpected-end-requires c κs = search needs
 
 returns : tie.Need-returns
 returns c =
@@ -49,5 +42,4 @@ returns-2 c =
 
 pub read-u64-le-spec : {M : Type 1} → statement M
 read-u64-le-spec =
-    tie.close
-    (tie.spec fits-requires le-at-requires add-t8 unexpected-end-requires returns returns-2)
+    tie.close (at.spec le-at-requires add-t8 returns returns-2)

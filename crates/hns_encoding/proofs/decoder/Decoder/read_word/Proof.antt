@@ -11,14 +11,10 @@ use Rattle.hns_encoding.specs.declared.decoder.ReadU32.the-variants.{Ok,
 use Rattle.hns_encoding.specs.Cursor.{behind}
 use Rattle.hns_encoding.specs.Laws.Lists.{field-at}
 use Rattle.hns_encoding.specs.Laws.Cursor.{there, read-ok, read-err}
-use borrow.Author.Needs.{needs}
 use native.Mathlib.Omega.{arith}
 use Rattle.hns_encoding.proofs.decoder.Decoder.read_word.Statement.{statement}
 use Rattle.hns_encoding.proofs.decoder.Decoder.read_word.Tie as tie
 use Rattle.hns_encoding.proofs.decoder.Decoder.read_word.Proof.At as at
-
-fits-requires : tie.Need-fits-requires
-fits-requires c κs = search needs
 
 get-word-requires : tie.Need-get-word-requires
 get-word-requires c κs =
@@ -31,9 +27,6 @@ add-t8 c =
     let here = at.add-t8 c in
     let a = here .start .args in
     record { fits = omega (arith, there (length (a .input .now)) (a .self .position) 1 (here .fits2 .result) (here .fits2 .ensures) (here .if1 .taken)) }
-
-unexpected-end-requires : tie.Need-unexpected-end-requires
-unexpected-end-requires c κs = search needs
 
 returns : tie.Need-returns
 returns c =
@@ -52,5 +45,4 @@ returns-2 c =
 
 pub read-word-spec : {M : Type 1} → statement M
 read-word-spec =
-    tie.close
-    (tie.spec fits-requires get-word-requires add-t8 unexpected-end-requires returns returns-2)
+    tie.close (at.spec get-word-requires add-t8 returns returns-2)

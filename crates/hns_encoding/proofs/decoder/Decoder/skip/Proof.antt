@@ -6,23 +6,16 @@ use lib.ListN.{length}
 use Rattle.hns_encoding.specs.declared.decoder.Decoder.{Decoder}
 use Rattle.hns_encoding.specs.declared.decoder.Step.the-variants.{Ok, Err}
 use Rattle.hns_encoding.specs.Laws.Cursor.{there, read-ok, read-err}
-use borrow.Author.Needs.{needs}
 use native.Mathlib.Omega.{arith}
 use Rattle.hns_encoding.proofs.decoder.Decoder.skip.Statement.{statement}
 use Rattle.hns_encoding.proofs.decoder.Decoder.skip.Tie as tie
 use Rattle.hns_encoding.proofs.decoder.Decoder.skip.Proof.At as at
-
-fits-requires : tie.Need-fits-requires
-fits-requires c κs = search needs
 
 add-t8 : tie.Need-add-t8
 add-t8 c =
     let here = at.add-t8 c in
     let a = here .start .args in
     record { fits = omega (arith, there (length (a .input .now)) (a .self .position) (a .width) (here .fits2 .result) (here .fits2 .ensures) (here .if1 .taken)) }
-
-unexpected-end-requires : tie.Need-unexpected-end-requires
-unexpected-end-requires c κs = search needs
 
 returns : tie.Need-returns
 returns c =
@@ -37,4 +30,4 @@ returns-2 c =
     read-err (λ (bytes : List ℕ) (next : Decoder). Ok next) Err (a .width) (a .input .now) (a .self) (here .fits2 .result) (here .fits2 .ensures) (here .unexpected-end .result) (here .if1 .left) (here .unexpected-end .ensures)
 
 pub skip-spec : {M : Type 1} → statement M
-skip-spec = tie.close (tie.spec fits-requires add-t8 unexpected-end-requires returns returns-2)
+skip-spec = tie.close (at.spec add-t8 returns returns-2)

@@ -8,14 +8,10 @@ use Prim.Native.Nat.{ℕ}
 use lib.Seq.{take-length}
 use Rattle.hns_encoding.specs.Cursor.{writtenAt}
 use Rattle.hns_encoding.specs.Laws.Cursor.{there, puts-ok, puts-err}
-use borrow.Author.Needs.{needs}
 use native.Mathlib.Omega.{arith}
 use Rattle.hns_encoding.proofs.encoder.Encoder.put_bytes.Statement.{statement}
 use Rattle.hns_encoding.proofs.encoder.Encoder.put_bytes.Tie as tie
 use Rattle.hns_encoding.proofs.encoder.Encoder.put_bytes.Proof.At as at
-
-fits-requires : tie.Need-fits-requires
-fits-requires c κs = search needs
 
 copy-at-requires : tie.Need-copy-at-requires
 copy-at-requires c κs =
@@ -28,12 +24,6 @@ add-t12 c =
     let here = at.add-t12 c in
     let a = here .start .args in
     record { fits = omega (arith, there (length (a .out .now)) (a .self .position) (length (a .bytes .now)) (here .fits2 .result) (here .fits2 .ensures) (here .if1 .taken)) }
-
-no-room-requires : tie.Need-no-room-requires
-no-room-requires c κs = search needs
-
-same-length : tie.Need-same-length
-same-length c = search needs
 
 returns : tie.Need-returns
 returns c =
@@ -50,12 +40,4 @@ returns-2 c =
 
 pub put-bytes-spec : {M : Type 1} → statement M
 put-bytes-spec =
-    tie.close
-    (tie.spec
-    fits-requires
-    copy-at-requires
-    add-t12
-    no-room-requires
-    same-length
-    returns
-    returns-2)
+    tie.close (at.spec copy-at-requires add-t12 returns returns-2)

@@ -4,19 +4,9 @@ use Prim.Native.Nat.{ℕ}
 use mathlib.Core.Path.{subst}
 use Rattle.hns_encoding.specs.Words.{wordsOf}
 use Rattle.hns_encoding.specs.Cursor.{Puts}
-use borrow.Author.Needs.{needs}
 use Rattle.hns_encoding.proofs.encoder.Encoder.put_bytes_as_words.Statement.{statement}
 use Rattle.hns_encoding.proofs.encoder.Encoder.put_bytes_as_words.Tie as tie
 use Rattle.hns_encoding.proofs.encoder.Encoder.put_bytes_as_words.Proof.At as at
-
-word-count-requires : tie.Need-word-count-requires
-word-count-requires c κs = search needs
-
-put-padded-as-words-requires : tie.Need-put-padded-as-words-requires
-put-padded-as-words-requires c κs = search needs
-
-same-length : tie.Need-same-length
-same-length c = search needs
 
 returns : tie.Need-returns
 returns c =
@@ -27,4 +17,4 @@ returns c =
 
 pub put-bytes-as-words-spec : {M : Type 1} → statement M
 put-bytes-as-words-spec =
-    tie.close (tie.spec word-count-requires put-padded-as-words-requires same-length returns)
+    tie.close (at.spec returns)

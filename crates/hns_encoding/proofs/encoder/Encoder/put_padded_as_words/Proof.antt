@@ -5,14 +5,10 @@ use lib.ListN.{length}
 use Rattle.hns_encoding.specs.Words.{wordsOf}
 use Rattle.hns_encoding.specs.Laws.Words.{wordsOf-length}
 use Rattle.hns_encoding.specs.Laws.Cursor.{there, puts-ok, puts-err}
-use borrow.Author.Needs.{needs}
 use native.Mathlib.Omega.{arith}
 use Rattle.hns_encoding.proofs.encoder.Encoder.put_padded_as_words.Statement.{statement}
 use Rattle.hns_encoding.proofs.encoder.Encoder.put_padded_as_words.Tie as tie
 use Rattle.hns_encoding.proofs.encoder.Encoder.put_padded_as_words.Proof.At as at
-
-fits-requires : tie.Need-fits-requires
-fits-requires c κs = search needs
 
 put-words-at-requires : tie.Need-put-words-at-requires
 put-words-at-requires c κs =
@@ -25,12 +21,6 @@ add-t12 c =
     let here = at.add-t12 c in
     let a = here .start .args in
     record { fits = omega (arith, there (length (a .out .now)) (a .self .position) (a .count) (here .fits2 .result) (here .fits2 .ensures) (here .if1 .taken)) }
-
-no-room-requires : tie.Need-no-room-requires
-no-room-requires c κs = search needs
-
-same-length : tie.Need-same-length
-same-length c = search needs
 
 returns : tie.Need-returns
 returns c =
@@ -46,12 +36,4 @@ returns-2 c =
 
 pub put-padded-as-words-spec : {M : Type 1} → statement M
 put-padded-as-words-spec =
-    tie.close
-    (tie.spec
-    fits-requires
-    put-words-at-requires
-    add-t12
-    no-room-requires
-    same-length
-    returns
-    returns-2)
+    tie.close (at.spec put-words-at-requires add-t12 returns returns-2)

@@ -7,14 +7,10 @@ use lib.ListN.{length, set, length-set}
 use Rattle.hns_encoding.specs.Words.{highLow}
 use Rattle.hns_encoding.specs.Laws.Lists.{written-two}
 use Rattle.hns_encoding.specs.Laws.Cursor.{there, puts-ok, puts-err}
-use borrow.Author.Needs.{needs}
 use native.Mathlib.Omega.{arith}
 use Rattle.hns_encoding.proofs.encoder.Encoder.put_u64_as_words.Statement.{statement}
 use Rattle.hns_encoding.proofs.encoder.Encoder.put_u64_as_words.Tie as tie
 use Rattle.hns_encoding.proofs.encoder.Encoder.put_u64_as_words.Proof.At as at
-
-fits-requires : tie.Need-fits-requires
-fits-requires c κs = search needs
 
 set-word-requires : tie.Need-set-word-requires
 set-word-requires c κs =
@@ -44,9 +40,6 @@ add-t15 c =
     let a = here .start .args in
     record { fits = omega (arith, there (length (a .out .now)) (a .self .position) 2 (here .fits2 .result) (here .fits2 .ensures) (here .if1 .taken)) }
 
-no-room-requires : tie.Need-no-room-requires
-no-room-requires c κs = search needs
-
 returns : tie.Need-returns
 returns c =
     let here = at.returns c in
@@ -67,4 +60,4 @@ returns-2 c =
 
 pub put-u64-as-words-spec : {M : Type 1} → statement M
 put-u64-as-words-spec =
-    tie.close (at.spec fits-requires set-word-requires add-set-word set-word-requires-2 add-t15 no-room-requires returns returns-2)
+    tie.close (at.spec set-word-requires add-set-word set-word-requires-2 add-t15 returns returns-2)

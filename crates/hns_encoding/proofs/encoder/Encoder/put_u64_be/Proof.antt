@@ -4,16 +4,9 @@ use Prim.Native.Nat.{ℕ}
 use mathlib.Core.Path.{subst}
 use mathlib.Core.List.{List}
 use Rattle.hns_encoding.specs.Cursor.{Puts}
-use borrow.Author.Needs.{needs}
 use Rattle.hns_encoding.proofs.encoder.Encoder.put_u64_be.Statement.{statement}
 use Rattle.hns_encoding.proofs.encoder.Encoder.put_u64_be.Tie as tie
 use Rattle.hns_encoding.proofs.encoder.Encoder.put_u64_be.Proof.At as at
-
-be-bytes-requires : tie.Need-be-bytes-requires
-be-bytes-requires c κs = search needs
-
-put-bytes-requires : tie.Need-put-bytes-requires
-put-bytes-requires c κs = search needs
 
 returns : tie.Need-returns
 returns c =
@@ -24,4 +17,4 @@ returns c =
 
 pub put-u64-be-spec : {M : Type 1} → statement M
 put-u64-be-spec =
-    tie.close (at.spec be-bytes-requires put-bytes-requires returns)
+    tie.close (at.spec returns)

@@ -7,16 +7,9 @@ use Rattle.hns_encoding.specs.Bytes.{beBytes}
 use Rattle.hns_encoding.specs.Words.{wordCount, wordsOf}
 use Rattle.hns_encoding.specs.Cursor.{Puts}
 use Rattle.hns_encoding.specs.Laws.Bytes.{beBytes-length}
-use borrow.Author.Needs.{needs}
 use Rattle.hns_encoding.proofs.encoder.Encoder.put_u64_be_as_words.Statement.{statement}
 use Rattle.hns_encoding.proofs.encoder.Encoder.put_u64_be_as_words.Tie as tie
 use Rattle.hns_encoding.proofs.encoder.Encoder.put_u64_be_as_words.Proof.At as at
-
-be-bytes-requires : tie.Need-be-bytes-requires
-be-bytes-requires c κs = search needs
-
-put-padded-as-words-requires : tie.Need-put-padded-as-words-requires
-put-padded-as-words-requires c κs = search needs
 
 returns : tie.Need-returns
 returns c =
@@ -30,4 +23,4 @@ returns c =
 
 pub put-u64-be-as-words-spec : {M : Type 1} → statement M
 put-u64-be-as-words-spec =
-    tie.close (at.spec be-bytes-requires put-padded-as-words-requires returns)
+    tie.close (at.spec returns)

@@ -6,14 +6,10 @@ use mathlib.Core.Path.{refl}
 use mathlib.Core.List.{[], _∷_}
 use Rattle.hns_encoding.specs.Laws.Lists.{written-one}
 use Rattle.hns_encoding.specs.Laws.Cursor.{there, puts-ok, puts-err}
-use borrow.Author.Needs.{needs}
 use native.Mathlib.Omega.{arith}
 use Rattle.hns_encoding.proofs.encoder.Encoder.put_word.Statement.{statement}
 use Rattle.hns_encoding.proofs.encoder.Encoder.put_word.Tie as tie
 use Rattle.hns_encoding.proofs.encoder.Encoder.put_word.Proof.At as at
-
-fits-requires : tie.Need-fits-requires
-fits-requires c κs = search needs
 
 set-word-requires : tie.Need-set-word-requires
 set-word-requires c κs =
@@ -26,12 +22,6 @@ add-t11 c =
     let here = at.add-t11 c in
     let a = here .start .args in
     record { fits = omega (arith, there (length (a .out .now)) (a .self .position) (1) (here .fits2 .result) (here .fits2 .ensures) (here .if1 .taken)) }
-
-no-room-requires : tie.Need-no-room-requires
-no-room-requires c κs = search needs
-
-same-length : tie.Need-same-length
-same-length c = search needs
 
 returns : tie.Need-returns
 returns c =
@@ -49,12 +39,4 @@ returns-2 c =
 
 pub put-word-spec : {M : Type 1} → statement M
 put-word-spec =
-    tie.close
-    (tie.spec
-    fits-requires
-    set-word-requires
-    add-t11
-    no-room-requires
-    same-length
-    returns
-    returns-2)
+    tie.close (at.spec set-word-requires add-t11 returns returns-2)

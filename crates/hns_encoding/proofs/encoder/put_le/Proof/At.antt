@@ -5,6 +5,7 @@ use Rattle.hns_encoding.proofs.encoder.put_le.Lts
 use Rattle.hns_encoding.proofs.encoder.put_le.Reads as Reads''
 use Rattle.hns_encoding.proofs.encoder.put_le.Tie
 use Rattle.hns_encoding.proofs.room.fits.Reads as Reads'''
+use borrow.Author.Needs.{needs}
 
 abbrev readings : Lts.Claims
 readings = (Reads'''.Asked, Reads'''.Learnt, Reads.Asked, Reads.Learnt, Reads'.Asked, Reads'.Learnt)
@@ -66,3 +67,17 @@ returns-2 c = record {
   if1 = c .before .if1;
   no-room = c .no-room;
 }
+
+fits-requires : Tie.Need-fits-requires
+fits-requires c = search needs
+
+no-room-requires : Tie.Need-no-room-requires
+no-room-requires c = search needs
+
+same-length : Tie.Need-same-length
+same-length c = search needs
+
+module _ {M : Type 1} where
+  pub spec : Tie.Need-put-le-at-requires → Tie.Need-add-t11 → Tie.Need-returns → Tie.Need-returns-2 → Lts.Closed
+      readings Reads''.Pre Reads''.Post M
+  spec = λ a0 a1 a2 a3. Tie.spec fits-requires a0 a1 no-room-requires same-length a2 a3

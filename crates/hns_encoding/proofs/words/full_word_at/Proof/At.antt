@@ -36,7 +36,10 @@ add-word-of-3 c = search needs
 shared-slice-read-word-of-4 : Tie.Need-shared-slice-read-word-of-4
 shared-slice-read-word-of-4 c = search needs
 
+word-of-requires : Tie.Need-word-of-requires
+word-of-requires c = search needs
+
 module _ {M : Type 1} where
-  pub spec : Tie.Need-word-of-requires → Tie.Need-returns → Lts.Closed readings Reads.Pre Reads.Post M
-  spec = λ a0 a1. Tie.spec shared-slice-read-word-of add-word-of shared-slice-read-word-of-2 add-word-of-2
-      shared-slice-read-word-of-3 add-word-of-3 shared-slice-read-word-of-4 a0 a1
+  pub spec : Tie.Need-returns → Lts.Closed readings Reads.Pre Reads.Post M
+  spec = λ a0. Tie.spec shared-slice-read-word-of add-word-of shared-slice-read-word-of-2 add-word-of-2
+      shared-slice-read-word-of-3 add-word-of-3 shared-slice-read-word-of-4 word-of-requires a0

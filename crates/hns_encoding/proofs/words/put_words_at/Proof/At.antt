@@ -48,8 +48,14 @@ returns c = record {
   out2 = c .before .out2;
 }
 
+min-usize-requires : Tie.Need-min-usize-requires
+min-usize-requires c = search needs
+
 mul-done : Tie.Need-mul-done
 mul-done c = search needs
+
+put-full-words-at-requires : Tie.Need-put-full-words-at-requires
+put-full-words-at-requires c = search needs
 
 add-put-short-words-at : Tie.Need-add-put-short-words-at
 add-put-short-words-at c = search needs
@@ -70,7 +76,7 @@ same-length : Tie.Need-same-length
 same-length c = search needs
 
 module _ {M : Type 1} where
-  pub spec : Tie.Need-min-usize-requires → Tie.Need-put-full-words-at-requires → Tie.Need-put-short-words-at-requires →
-      Tie.Need-returns → Lts.Closed readings Reads'''.Pre Reads'''.Post M
-  spec = λ a0 a1 a2 a3. Tie.spec a0 mul-done a1 add-put-short-words-at sub-put-short-words-at
-      part-put-short-words-at-start part-put-short-words-at-end sub-put-short-words-at-2 a2 same-length a3
+  pub spec : Tie.Need-put-short-words-at-requires → Tie.Need-returns → Lts.Closed readings Reads'''.Pre Reads'''.Post M
+  spec = λ a0 a1. Tie.spec min-usize-requires mul-done put-full-words-at-requires add-put-short-words-at
+      sub-put-short-words-at part-put-short-words-at-start part-put-short-words-at-end sub-put-short-words-at-2 a0
+      same-length a1

@@ -4,6 +4,7 @@ use Rattle.hns_encoding.proofs.numbers.min_usize.Reads as Reads'
 use Rattle.hns_encoding.proofs.words.word_at.Lts
 use Rattle.hns_encoding.proofs.words.word_at.Reads as Reads''
 use Rattle.hns_encoding.proofs.words.word_at.Tie
+use borrow.Author.Needs.{needs}
 
 abbrev readings : Lts.Claims
 readings = (Reads'.Asked, Reads'.Learnt, Reads.Asked, Reads.Learnt)
@@ -28,3 +29,17 @@ returns-2 c = record {
   min-usize = c .before .min-usize;
   le-at = c .le-at;
 }
+
+sub-min-usize : Tie.Need-sub-min-usize
+sub-min-usize c = search needs
+
+min-usize-requires : Tie.Need-min-usize-requires
+min-usize-requires c = search needs
+
+le-at-requires : Tie.Need-le-at-requires
+le-at-requires c = search needs
+
+module _ {M : Type 1} where
+  pub spec : Tie.Need-returns → Tie.Need-cast-result → Tie.Need-returns-2 → Lts.Closed readings Reads''.Pre
+      Reads''.Post M
+  spec = λ a0 a1 a2. Tie.spec a0 sub-min-usize min-usize-requires le-at-requires a1 a2

@@ -1,21 +1,13 @@
 -- `AcceptBody::decode` meets its contract: layout, fields and values are those of the definition.
+mod At
 use Rattle.hnsr_body.specs.Accept.{decodeAccept}
-use borrow.Author.Needs.{needs}
 use Rattle.hnsr_body.proofs.accept_body.AcceptBody.decode.Statement.{statement}
 use Rattle.hnsr_body.proofs.accept_body.AcceptBody.decode.Tie as tie
-
-fields-requires : tie.Need-fields-requires
-fields-requires c κs = search needs
-
-is-valid-requires : tie.Need-is-valid-requires
-is-valid-requires c κs = search needs
-
-answered-requires : tie.Need-answered-requires
-answered-requires c κs = search needs
+use Rattle.hnsr_body.proofs.accept_body.AcceptBody.decode.Proof.At as at
 
 returns : tie.Need-returns
 unfolding decodeAccept
 returns c = cc
 
 pub decode-spec : {M : Type 1} → statement M
-decode-spec = tie.close (tie.spec fields-requires is-valid-requires answered-requires returns)
+decode-spec = tie.close (at.spec returns)

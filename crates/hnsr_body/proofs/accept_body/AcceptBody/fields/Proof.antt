@@ -3,22 +3,9 @@ mod At
 use Rattle.hnsr_body.specs.Accept.{acceptFields, acceptWidths}
 use Rattle.hnsr_body.specs.Layout.{laidOut}
 use Rattle.hnsr_body.specs.Laws.Layout.{through-walked, through-field}
-use borrow.Author.Needs.{needs}
 use Rattle.hnsr_body.proofs.accept_body.AcceptBody.fields.Statement.{statement}
 use Rattle.hnsr_body.proofs.accept_body.AcceptBody.fields.Tie as tie
 use Rattle.hnsr_body.proofs.accept_body.AcceptBody.fields.Proof.At as at
-
-start-requires : tie.Need-start-requires
-start-requires c κs = search needs
-
-next-u32-requires : tie.Need-next-u32-requires
-next-u32-requires c κs = search needs
-
-next-array-16-requires : tie.Need-next-array-16-requires
-next-array-16-requires c κs = search needs
-
-finish-requires : tie.Need-finish-requires
-finish-requires c κs = search needs
 
 returns : tie.Need-returns
 unfolding laidOut acceptFields
@@ -31,5 +18,4 @@ returns c =
 
 pub fields-spec : {M : Type 1} → statement M
 fields-spec =
-    tie.close
-    (tie.spec start-requires next-u32-requires next-array-16-requires finish-requires returns)
+    tie.close (at.spec returns)

@@ -4,22 +4,9 @@ use mathlib.Core.Path.{sym, _∙_}
 use lib.ListN.{replicate}
 use Rattle.hns_encoding.specs.Laws.Tests.{on-true, on-false}
 use Rattle.hnsr_body.specs.Accept.{encodeOpened, openedBytes}
-use borrow.Author.Needs.{needs}
 use Rattle.hnsr_body.proofs.accept_body.OpenedBody.encode.Statement.{statement}
 use Rattle.hnsr_body.proofs.accept_body.OpenedBody.encode.Tie as tie
 use Rattle.hnsr_body.proofs.accept_body.OpenedBody.encode.Proof.At as at
-
-answered-requires : tie.Need-answered-requires
-answered-requires c κs = search needs
-
-is-valid-requires : tie.Need-is-valid-requires
-is-valid-requires c κs = search needs
-
-slice-aggregate-put : tie.Need-slice-aggregate-put
-slice-aggregate-put c = search needs
-
-put-requires : tie.Need-put-requires
-put-requires c κs = search needs
 
 returns : tie.Need-returns
 unfolding encodeOpened
@@ -39,11 +26,4 @@ returns-2 c =
 
 pub encode-spec : {M : Type 1} → statement M
 encode-spec =
-    tie.close
-    (tie.spec
-    answered-requires
-    is-valid-requires
-    slice-aggregate-put
-    put-requires
-    returns
-    returns-2)
+    tie.close (at.spec returns returns-2)

@@ -17,15 +17,6 @@ use Rattle.hnsr_body.proofs.accept_body.OpenedBody.put.Proof.At as at
 long : (c : tie.Start) → (length (c .args .self .«endpoint_nonce») ≡ 16)
 long c = search needs
 
-put-u64-be-at-requires : tie.Need-put-u64-be-at-requires
-put-u64-be-at-requires c κs = search needs
-
-put-u32-at-requires : tie.Need-put-u32-at-requires
-put-u32-at-requires c κs = search needs
-
-put-bytes-at-requires : tie.Need-put-bytes-at-requires
-put-bytes-at-requires c κs = search needs
-
 returns : tie.Need-returns
 unfolding openedBytes acceptBytes
 returns c =
@@ -42,4 +33,4 @@ returns c =
 
 pub put-spec : {M : Type 1} → statement M
 put-spec =
-    tie.close (at.spec put-u64-be-at-requires put-u32-at-requires put-bytes-at-requires returns)
+    tie.close (at.spec returns)

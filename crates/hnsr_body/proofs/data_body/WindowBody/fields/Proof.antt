@@ -3,19 +3,9 @@ mod At
 use Rattle.hnsr_body.specs.Data.{windowFields, windowWidths}
 use Rattle.hnsr_body.specs.Layout.{laidOut}
 use Rattle.hnsr_body.specs.Laws.Layout.{through-walked, through-field}
-use borrow.Author.Needs.{needs}
 use Rattle.hnsr_body.proofs.data_body.WindowBody.fields.Statement.{statement}
 use Rattle.hnsr_body.proofs.data_body.WindowBody.fields.Tie as tie
 use Rattle.hnsr_body.proofs.data_body.WindowBody.fields.Proof.At as at
-
-start-requires : tie.Need-start-requires
-start-requires c κs = search needs
-
-next-u32-requires : tie.Need-next-u32-requires
-next-u32-requires c κs = search needs
-
-finish-requires : tie.Need-finish-requires
-finish-requires c κs = search needs
 
 returns : tie.Need-returns
 unfolding laidOut windowFields
@@ -27,4 +17,4 @@ returns c =
     )
 
 pub fields-spec : {M : Type 1} → statement M
-fields-spec = tie.close (tie.spec start-requires next-u32-requires finish-requires returns)
+fields-spec = tie.close (at.spec returns)

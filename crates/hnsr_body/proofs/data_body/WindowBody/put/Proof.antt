@@ -4,17 +4,10 @@ use Rattle.hns_encoding.specs.Bytes.{leBytes}
 use Rattle.hns_encoding.specs.Laws.Bytes.{leBytes-length}
 use Rattle.hns_encoding.specs.Laws.Cursor.{wrote-none, wrote-next, wrote-all}
 use Rattle.hnsr_body.specs.Data.{windowBytes}
-use borrow.Author.Needs.{needs}
 use native.Mathlib.Omega.{arith}
 use Rattle.hnsr_body.proofs.data_body.WindowBody.put.Statement.{statement}
 use Rattle.hnsr_body.proofs.data_body.WindowBody.put.Tie as tie
 use Rattle.hnsr_body.proofs.data_body.WindowBody.put.Proof.At as at
-
-put-u32-at-requires : tie.Need-put-u32-at-requires
-put-u32-at-requires c κs = search needs
-
-same-length : tie.Need-same-length
-same-length c = search needs
 
 returns : tie.Need-returns
 unfolding windowBytes
@@ -27,4 +20,4 @@ returns c =
     wrote-all w1 (omega arith)
 
 pub put-spec : {M : Type 1} → statement M
-put-spec = tie.close (tie.spec put-u32-at-requires same-length returns)
+put-spec = tie.close (at.spec returns)

@@ -13,31 +13,9 @@ use Rattle.hnsr_body.specs.Detail.{decodeDetail, reasonDetail, detailWid
 use Rattle.hnsr_body.specs.Fields.{left}
 use Rattle.hnsr_body.specs.Laws.Layout.{walked-left}
 use Rattle.hnsr_body.specs.Utf8.{utf8}
-use borrow.Author.Needs.{needs}
 use Rattle.hnsr_body.proofs.detail_body.ReasonDetail.decode.Statement.{statement}
 use Rattle.hnsr_body.proofs.detail_body.ReasonDetail.decode.Tie as tie
 use Rattle.hnsr_body.proofs.detail_body.ReasonDetail.decode.Proof.At as at
-
-head-requires : tie.Need-head-requires
-head-requires c κs = search needs
-
-rest-requires : tie.Need-rest-requires
-rest-requires c κs = search needs
-
-headed-requires : tie.Need-headed-requires
-headed-requires c κs = search needs
-
-is-length-requires : tie.Need-is-length-requires
-is-length-requires c κs = search needs
-
-answered-requires : tie.Need-answered-requires
-answered-requires c κs = search needs
-
-is-utf8-requires : tie.Need-is-utf8-requires
-is-utf8-requires c κs = search needs
-
-answered-requires-2 : tie.Need-answered-requires-2
-answered-requires-2 c κs = search needs
 
 returns : tie.Need-returns
 unfolding decodeDetail reasonDetail
@@ -56,13 +34,4 @@ returns c =
 
 pub decode-spec : {M : Type 1} → statement M
 decode-spec =
-    tie.close
-    (tie.spec
-    head-requires
-    rest-requires
-    headed-requires
-    is-length-requires
-    answered-requires
-    is-utf8-requires
-    answered-requires-2
-    returns)
+    tie.close (at.spec returns)

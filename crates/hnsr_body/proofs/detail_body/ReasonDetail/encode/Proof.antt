@@ -7,7 +7,6 @@ use borrow.Author.Tests.{le-leb, lt-leb}
 use Rattle.hns_encoding.specs.Laws.Lists.{written-zeros}
 use Rattle.hnsr_body.specs.declared.error.Checked.the-variants.{Ok}
 use Rattle.hnsr_body.specs.Detail.{encodeDetail, detailBytes}
-use borrow.Author.Needs.{needs}
 use Rattle.hnsr_body.proofs.detail_body.ReasonDetail.encode.Statement.{statement}
 use Rattle.hnsr_body.proofs.detail_body.ReasonDetail.encode.Tie as tie
 use Rattle.hnsr_body.proofs.detail_body.ReasonDetail.encode.Proof.At as at
@@ -17,12 +16,6 @@ unfolding encodeDetail
 returns c =
     let here = at.returns c in
     let n = length (here .start .args .detail .now) in rw (lt-leb n 128 (here .if1 .taken))
-
-is-utf8-requires : tie.Need-is-utf8-requires
-is-utf8-requires c κs = search needs
-
-put-requires : tie.Need-put-requires
-put-requires c κs = search needs
 
 returns-2 : tie.Need-returns-2
 unfolding encodeDetail
@@ -45,4 +38,4 @@ returns-3 c =
 
 pub encode-spec : {M : Type 1} → statement M
 encode-spec =
-    tie.close (at.spec returns is-utf8-requires put-requires returns-2 returns-3)
+    tie.close (at.spec returns returns-2 returns-3)

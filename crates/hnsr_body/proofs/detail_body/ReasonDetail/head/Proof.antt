@@ -2,22 +2,9 @@
 mod At
 use Rattle.hnsr_body.specs.Detail.{reasonDetail, detailWidths}
 use Rattle.hnsr_body.specs.Laws.Layout.{through-walked, through-field}
-use borrow.Author.Needs.{needs}
 use Rattle.hnsr_body.proofs.detail_body.ReasonDetail.head.Statement.{statement}
 use Rattle.hnsr_body.proofs.detail_body.ReasonDetail.head.Tie as tie
 use Rattle.hnsr_body.proofs.detail_body.ReasonDetail.head.Proof.At as at
-
-start-requires : tie.Need-start-requires
-start-requires c κs = search needs
-
-next-u16-requires : tie.Need-next-u16-requires
-next-u16-requires c κs = search needs
-
-next-u8-requires : tie.Need-next-u8-requires
-next-u8-requires c κs = search needs
-
-cast-t7 : tie.Need-cast-t7
-cast-t7 c = search needs
 
 returns : tie.Need-returns
 unfolding reasonDetail
@@ -29,4 +16,4 @@ returns c =
     )
 
 pub head-spec : {M : Type 1} → statement M
-head-spec = tie.close (tie.spec start-requires next-u16-requires next-u8-requires cast-t7 returns)
+head-spec = tie.close (at.spec returns)

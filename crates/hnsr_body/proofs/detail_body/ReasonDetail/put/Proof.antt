@@ -10,20 +10,10 @@ use Rattle.hns_encoding.specs.Cursor.{writtenAt}
 use Rattle.hns_encoding.specs.Laws.Bytes.{leBytes-length}
 use Rattle.hns_encoding.specs.Laws.Cursor.{wrote-none, wrote-next}
 use Rattle.hnsr_body.specs.Detail.{detailBytes}
-use borrow.Author.Needs.{needs}
 use native.Mathlib.Omega.{arith}
 use Rattle.hnsr_body.proofs.detail_body.ReasonDetail.put.Statement.{statement}
 use Rattle.hnsr_body.proofs.detail_body.ReasonDetail.put.Tie as tie
 use Rattle.hnsr_body.proofs.detail_body.ReasonDetail.put.Proof.At as at
-
-put-u16-at-requires : tie.Need-put-u16-at-requires
-put-u16-at-requires c κs = search needs
-
-put-u8-at-requires : tie.Need-put-u8-at-requires
-put-u8-at-requires c κs = search needs
-
-put-bytes-at-requires : tie.Need-put-bytes-at-requires
-put-bytes-at-requires c κs = search needs
 
 returns : tie.Need-returns
 unfolding detailBytes leBytes
@@ -42,4 +32,4 @@ returns c =
 
 pub put-spec : {M : Type 1} → statement M
 put-spec =
-    tie.close (at.spec put-u16-at-requires put-u8-at-requires put-bytes-at-requires returns)
+    tie.close (at.spec returns)

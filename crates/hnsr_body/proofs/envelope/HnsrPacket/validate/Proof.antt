@@ -3,14 +3,10 @@ mod At
 use mathlib.Core.Path.{_≡_}
 use borrow.Author.Tests.{lt-ltb, le-ltb, eq-eqb, ne-eqb}
 use Rattle.hnsr_body.specs.Packet.{packetChecked, packetSize, mostPacket}
-use borrow.Author.Needs.{needs}
 use native.Mathlib.Omega.{arith}
 use Rattle.hnsr_body.proofs.envelope.HnsrPacket.validate.Statement.{statement}
 use Rattle.hnsr_body.proofs.envelope.HnsrPacket.validate.Tie as tie
 use Rattle.hnsr_body.proofs.envelope.HnsrPacket.validate.Proof.At as at
-
-saturating-add-usize-requires : tie.Need-saturating-add-usize-requires
-saturating-add-usize-requires c κs = search needs
 
 returns : tie.Need-returns
 unfolding packetChecked
@@ -52,4 +48,4 @@ returns-4 c =
 
 pub validate-spec : {M : Type 1} → statement M
 validate-spec =
-    tie.close (tie.spec saturating-add-usize-requires returns returns-2 returns-3 returns-4)
+    tie.close (at.spec returns returns-2 returns-3 returns-4)

@@ -2,13 +2,9 @@
 mod At
 use mathlib.Core.Path.{sym, _∙_, ap}
 use Rattle.hnsr_body.specs.Causes.{causeNumbers}
-use borrow.Author.Needs.{needs}
 use Rattle.hnsr_body.proofs.error.Checked.cause.Statement.{statement}
 use Rattle.hnsr_body.proofs.error.Checked.cause.Tie as tie
 use Rattle.hnsr_body.proofs.error.Checked.cause.Proof.At as at
-
-error-cause-requires : tie.Need-error-cause-requires
-error-cause-requires c κs = search needs
 
 returns : tie.Need-returns
 returns c = ap causeNumbers (sym (c .enum-told .given .1))
@@ -19,4 +15,4 @@ returns-2 c =
     here .error-cause .ensures ∙ ap causeNumbers (sym (here .self .given .1))
 
 pub cause-spec : {M : Type 1} → statement M
-cause-spec = tie.close (at.spec error-cause-requires returns returns-2)
+cause-spec = tie.close (at.spec returns returns-2)

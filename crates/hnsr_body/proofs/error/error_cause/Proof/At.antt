@@ -44,8 +44,14 @@ returns-2 c = record {
 enum-known-error : Tie.Need-enum-known-error
 enum-known-error c = search needs
 
+decode-cause-requires : Tie.Need-decode-cause-requires
+decode-cause-requires c = search needs
+
 enum-known-error-2 : Tie.Need-enum-known-error-2
 enum-known-error-2 c = search needs
+
+text-number-requires : Tie.Need-text-number-requires
+text-number-requires c = search needs
 
 enum-known-error-3 : Tie.Need-enum-known-error-3
 enum-known-error-3 c = search needs
@@ -54,7 +60,7 @@ enum-told : Tie.Need-enum-told
 enum-told c = search needs
 
 module _ {M : Type 1} where
-  pub spec : Tie.Need-decode-cause-requires → Tie.Need-text-number-requires → Tie.Need-returns → Tie.Need-returns-2 →
-      Tie.Need-returns-3 → Tie.Need-returns-4 → Lts.Closed readings Reads'.Pre Reads'.Post M
-  spec = λ a0 a1 a2 a3 a4 a5. Tie.spec enum-known-error a0 enum-known-error-2 a1 enum-known-error-3 enum-told a2 a3 a4
-      a5
+  pub spec : Tie.Need-returns → Tie.Need-returns-2 → Tie.Need-returns-3 → Tie.Need-returns-4 → Lts.Closed readings
+      Reads'.Pre Reads'.Post M
+  spec = λ a0 a1 a2 a3. Tie.spec enum-known-error decode-cause-requires enum-known-error-2 text-number-requires
+      enum-known-error-3 enum-told a0 a1 a2 a3

@@ -38,7 +38,9 @@ enum-told c = search needs
 enum-known-step : Tie.Need-enum-known-step
 enum-known-step c = search needs
 
+read-array-16-requires : Tie.Need-read-array-16-requires
+read-array-16-requires c = search needs
+
 module _ {M : Type 1} where
-  pub spec : Tie.Need-read-array-16-requires → Tie.Need-returns → Tie.Need-returns-2 → Lts.Closed readings Reads'.Pre
-      Reads'.Post M
-  spec = λ a0 a1 a2. Tie.spec enum-told enum-known-step a0 a1 a2
+  pub spec : Tie.Need-returns → Tie.Need-returns-2 → Lts.Closed readings Reads'.Pre Reads'.Post M
+  spec = λ a0 a1. Tie.spec enum-told enum-known-step read-array-16-requires a0 a1

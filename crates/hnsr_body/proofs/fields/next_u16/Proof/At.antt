@@ -68,6 +68,9 @@ enum-told c = search needs
 enum-known-step : Tie.Need-enum-known-step
 enum-known-step c = search needs
 
+read-u16-le-requires : Tie.Need-read-u16-le-requires
+read-u16-le-requires c = search needs
+
 enum-known-read : Tie.Need-enum-known-read
 enum-known-read c = search needs
 
@@ -75,6 +78,5 @@ enum-known-read-2 : Tie.Need-enum-known-read-2
 enum-known-read-2 c = search needs
 
 module _ {M : Type 1} where
-  pub spec : Tie.Need-read-u16-le-requires → Tie.Need-returns → Tie.Need-returns-2 → Tie.Need-returns-3 → Lts.Closed
-      readings Reads'.Pre Reads'.Post M
-  spec = λ a0 a1 a2 a3. Tie.spec enum-told enum-known-step a0 enum-known-read enum-known-read-2 a1 a2 a3
+  pub spec : Tie.Need-returns → Tie.Need-returns-2 → Tie.Need-returns-3 → Lts.Closed readings Reads'.Pre Reads'.Post M
+  spec = λ a0 a1 a2. Tie.spec enum-told enum-known-step read-u16-le-requires enum-known-read enum-known-read-2 a0 a1 a2

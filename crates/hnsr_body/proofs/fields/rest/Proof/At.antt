@@ -44,6 +44,12 @@ returns-2 c = record {
 enum-known-step : Tie.Need-enum-known-step
 enum-known-step c = search needs
 
+remaining-requires : Tie.Need-remaining-requires
+remaining-requires c = search needs
+
+read-slice-requires : Tie.Need-read-slice-requires
+read-slice-requires c = search needs
+
 enum-told : Tie.Need-enum-told
 enum-told c = search needs
 
@@ -51,6 +57,6 @@ slice-aggregate-result : Tie.Need-slice-aggregate-result
 slice-aggregate-result c = search needs
 
 module _ {M : Type 1} where
-  pub spec : Tie.Need-remaining-requires → Tie.Need-read-slice-requires → Tie.Need-returns → Tie.Need-returns-2 →
-      Lts.Closed readings Reads''.Pre Reads''.Post M
-  spec = λ a0 a1 a2 a3. Tie.spec enum-known-step a0 a1 enum-told slice-aggregate-result a2 a3
+  pub spec : Tie.Need-returns → Tie.Need-returns-2 → Lts.Closed readings Reads''.Pre Reads''.Post M
+  spec = λ a0 a1. Tie.spec enum-known-step remaining-requires read-slice-requires enum-told slice-aggregate-result a0
+      a1

@@ -16,21 +16,6 @@ use Rattle.hnsr_body.proofs.incoming_body.IncomingBody.put.Proof.At as 
 long : (c : tie.Start) → (length (c .args .self .«ticket_id») ≡ 32) × (length (c .args .self .«requester_nonce») ≡ 16)
 long c = (search needs, search needs)
 
-put-bytes-at-requires : tie.Need-put-bytes-at-requires
-put-bytes-at-requires c κs = search needs
-
-put-u64-be-at-requires : tie.Need-put-u64-be-at-requires
-put-u64-be-at-requires c κs = search needs
-
-put-u16-at-requires : tie.Need-put-u16-at-requires
-put-u16-at-requires c κs = search needs
-
-put-bytes-at-requires-2 : tie.Need-put-bytes-at-requires-2
-put-bytes-at-requires-2 c κs = search needs
-
-put-u32-at-requires : tie.Need-put-u32-at-requires
-put-u32-at-requires c κs = search needs
-
 returns : tie.Need-returns
 unfolding incomingBytes
 returns c =
@@ -48,4 +33,4 @@ returns c =
 
 pub put-spec : {M : Type 1} → statement M
 put-spec =
-    tie.close (at.spec put-bytes-at-requires put-u64-be-at-requires put-u16-at-requires put-bytes-at-requires-2 put-u32-at-requires returns)
+    tie.close (at.spec returns)

@@ -73,6 +73,9 @@ enum-known-step c = search needs
 enum-known-step-2 : Tie.Need-enum-known-step-2
 enum-known-step-2 c = search needs
 
+finish-requires : Tie.Need-finish-requires
+finish-requires c = search needs
+
 enum-told : Tie.Need-enum-told
 enum-told c = search needs
 
@@ -80,6 +83,5 @@ enum-known-end : Tie.Need-enum-known-end
 enum-known-end c = search needs
 
 module _ {M : Type 1} where
-  pub spec : Tie.Need-finish-requires → Tie.Need-returns → Tie.Need-returns-2 → Tie.Need-returns-3 → Lts.Closed
-      readings Reads'.Pre Reads'.Post M
-  spec = λ a0 a1 a2 a3. Tie.spec enum-known-step enum-known-step-2 a0 enum-told enum-known-end a1 a2 a3
+  pub spec : Tie.Need-returns → Tie.Need-returns-2 → Tie.Need-returns-3 → Lts.Closed readings Reads'.Pre Reads'.Post M
+  spec = λ a0 a1 a2. Tie.spec enum-known-step enum-known-step-2 finish-requires enum-told enum-known-end a0 a1 a2

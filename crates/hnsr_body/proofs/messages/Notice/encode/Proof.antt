@@ -9,23 +9,10 @@ use Rattle.hns_encoding.specs.Laws.Bytes.{leBytes-length}
 use Rattle.hns_encoding.specs.Laws.Cursor.{wrote-none, wrote-next, wrote-all}
 use Rattle.hnsr_body.specs.declared.messages.Message.{Message}
 use Rattle.hnsr_body.specs.Laws.Messages.{assembled-body, row-length, body-length}
-use borrow.Author.Needs.{needs}
 use native.Mathlib.Omega.{arith}
 use Rattle.hnsr_body.proofs.messages.Notice.encode.Statement.{statement}
 use Rattle.hnsr_body.proofs.messages.Notice.encode.Tie as tie
 use Rattle.hnsr_body.proofs.messages.Notice.encode.Proof.At as at
-
-message-requires : tie.Need-message-requires
-message-requires c κs = search needs
-
-put-u16-at-requires : tie.Need-put-u16-at-requires
-put-u16-at-requires c κs = search needs
-
-put-u8-at-requires : tie.Need-put-u8-at-requires
-put-u8-at-requires c κs = search needs
-
-put-bytes-at-requires : tie.Need-put-bytes-at-requires
-put-bytes-at-requires c κs = search needs
 
 returns : tie.Need-returns
 returns c =
@@ -43,4 +30,4 @@ returns c =
 
 pub encode-spec : {M : Type 1} → statement M
 encode-spec =
-    tie.close (at.spec message-requires put-u16-at-requires put-u8-at-requires put-bytes-at-requires returns)
+    tie.close (at.spec returns)

@@ -8,22 +8,9 @@ use Rattle.hnsr_body.specs.declared.error.Checked.the-variants.{Ok}
 use Rattle.hnsr_body.specs.declared.error.HnsrInvalid.the-variants.{OpenParameters}
 use Rattle.hnsr_body.specs.Causes.{answer}
 use Rattle.hnsr_body.specs.Open.{encodeOpen, openBytes}
-use borrow.Author.Needs.{needs}
 use Rattle.hnsr_body.proofs.open_body.OpenBody.encode.Statement.{statement}
 use Rattle.hnsr_body.proofs.open_body.OpenBody.encode.Tie as tie
 use Rattle.hnsr_body.proofs.open_body.OpenBody.encode.Proof.At as at
-
-is-valid-requires : tie.Need-is-valid-requires
-is-valid-requires c κs = search needs
-
-answered-requires : tie.Need-answered-requires
-answered-requires c κs = search needs
-
-slice-aggregate-put : tie.Need-slice-aggregate-put
-slice-aggregate-put c = search needs
-
-put-requires : tie.Need-put-requires
-put-requires c κs = search needs
 
 returns : tie.Need-returns
 unfolding encodeOpen
@@ -43,11 +30,4 @@ returns-2 c =
 
 pub encode-spec : {M : Type 1} → statement M
 encode-spec =
-    tie.close
-    (tie.spec
-    is-valid-requires
-    answered-requires
-    slice-aggregate-put
-    put-requires
-    returns
-    returns-2)
+    tie.close (at.spec returns returns-2)

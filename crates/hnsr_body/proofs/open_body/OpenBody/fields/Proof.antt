@@ -9,37 +9,9 @@ use Rattle.hnsr_body.specs.Layout.{laidOut, finished}
 use Rattle.hnsr_body.specs.Values.{reservationOf}
 use Rattle.hnsr_body.specs.Fields.{stepped, fetched}
 use Rattle.hnsr_body.specs.Laws.Layout.{through-walked, through-field}
-use borrow.Author.Needs.{needs}
 use Rattle.hnsr_body.proofs.open_body.OpenBody.fields.Statement.{statement}
 use Rattle.hnsr_body.proofs.open_body.OpenBody.fields.Tie as tie
 use Rattle.hnsr_body.proofs.open_body.OpenBody.fields.Proof.At as at
-
-start-requires : tie.Need-start-requires
-start-requires c κs = search needs
-
-next-array-32-requires : tie.Need-next-array-32-requires
-next-array-32-requires c κs = search needs
-
-next-array-16-requires : tie.Need-next-array-16-requires
-next-array-16-requires c κs = search needs
-
-next-array-33-requires : tie.Need-next-array-33-requires
-next-array-33-requires c κs = search needs
-
-next-u16-requires : tie.Need-next-u16-requires
-next-u16-requires c κs = search needs
-
-next-array-16-requires-2 : tie.Need-next-array-16-requires-2
-next-array-16-requires-2 c κs = search needs
-
-next-u32-requires : tie.Need-next-u32-requires
-next-u32-requires c κs = search needs
-
-finish-requires : tie.Need-finish-requires
-finish-requires c κs = search needs
-
-reservation-of-requires : tie.Need-reservation-of-requires
-reservation-of-requires c κs = search needs
 
 returns : tie.Need-returns
 unfolding laidOut openFields
@@ -67,15 +39,4 @@ returns c =
 
 pub fields-spec : {M : Type 1} → statement M
 fields-spec =
-    tie.close
-    (tie.spec
-    start-requires
-    next-array-32-requires
-    next-array-16-requires
-    next-array-33-requires
-    next-u16-requires
-    next-array-16-requires-2
-    next-u32-requires
-    finish-requires
-    reservation-of-requires
-    returns)
+    tie.close (at.spec returns)

@@ -18,31 +18,10 @@ use Rattle.hnsr_body.proofs.open_body.OpenBody.put.Proof.At as at
 long : (c : tie.Start) → (length (c .args .self .«ticket_id») ≡ 32) × (length (c .args .self .«endpoint_key») ≡ 33) × (length (c .args .self .«requester_nonce») ≡ 16)
 long c = (search needs, search needs, search needs)
 
-put-bytes-at-requires : tie.Need-put-bytes-at-requires
-put-bytes-at-requires c κs = search needs
-
-put-u64-be-at-requires : tie.Need-put-u64-be-at-requires
-put-u64-be-at-requires c κs = search needs
-
-put-u64-be-at-requires-2 : tie.Need-put-u64-be-at-requires-2
-put-u64-be-at-requires-2 c κs = search needs
-
-put-bytes-at-requires-2 : tie.Need-put-bytes-at-requires-2
-put-bytes-at-requires-2 c κs = search needs
-
-put-u16-at-requires : tie.Need-put-u16-at-requires
-put-u16-at-requires c κs = search needs
-
 slice-aggregate-put-bytes-at-3 : tie.Need-slice-aggregate-put-bytes-at-3
 slice-aggregate-put-bytes-at-3 c =
     let here = at.slice-aggregate-put-bytes-at-3 c in
     let h = long (here .start) in search needs
-
-put-bytes-at-requires-3 : tie.Need-put-bytes-at-requires-3
-put-bytes-at-requires-3 c κs = search needs
-
-put-u32-at-requires : tie.Need-put-u32-at-requires
-put-u32-at-requires c κs = search needs
 
 returns : tie.Need-returns
 unfolding openBytes
@@ -65,4 +44,4 @@ returns c =
 
 pub put-spec : {M : Type 1} → statement M
 put-spec =
-    tie.close (at.spec put-bytes-at-requires put-u64-be-at-requires put-u64-be-at-requires-2 put-bytes-at-requires-2 put-u16-at-requires slice-aggregate-put-bytes-at-3 put-bytes-at-requires-3 put-u32-at-requires returns)
+    tie.close (at.spec slice-aggregate-put-bytes-at-3 returns)

@@ -62,10 +62,16 @@ returns-4 c = record {
 shared-slice-read-lead-length : Tie.Need-shared-slice-read-lead-length
 shared-slice-read-lead-length c = search needs
 
+lead-length-requires : Tie.Need-lead-length-requires
+lead-length-requires c = search needs
+
 cast-n : Tie.Need-cast-n
 cast-n c = search needs
 
+goes-on-requires : Tie.Need-goes-on-requires
+goes-on-requires c = search needs
+
 module _ {M : Type 1} where
-  pub spec : Tie.Need-lead-length-requires → Tie.Need-returns → Tie.Need-returns-2 → Tie.Need-goes-on-requires →
-      Tie.Need-returns-3 → Tie.Need-returns-4 → Lts.Closed readings Reads.Pre Reads.Post M
-  spec = λ a0 a1 a2 a3 a4 a5. Tie.spec shared-slice-read-lead-length a0 cast-n a1 a2 a3 a4 a5
+  pub spec : Tie.Need-returns → Tie.Need-returns-2 → Tie.Need-returns-3 → Tie.Need-returns-4 → Lts.Closed readings
+      Reads.Pre Reads.Post M
+  spec = λ a0 a1 a2 a3. Tie.spec shared-slice-read-lead-length lead-length-requires cast-n a0 a1 goes-on-requires a2 a3

@@ -93,15 +93,23 @@ shared-slice-read-is-second c = search needs
 shared-slice-read-is-second-2 : Tie.Need-shared-slice-read-is-second-2
 shared-slice-read-is-second-2 c = search needs
 
+is-second-requires : Tie.Need-is-second-requires
+is-second-requires c = search needs
+
 shared-slice-read-is-tail : Tie.Need-shared-slice-read-is-tail
 shared-slice-read-is-tail c = search needs
+
+is-tail-requires : Tie.Need-is-tail-requires
+is-tail-requires c = search needs
 
 shared-slice-read-is-tail-2 : Tie.Need-shared-slice-read-is-tail-2
 shared-slice-read-is-tail-2 c = search needs
 
+is-tail-requires-2 : Tie.Need-is-tail-requires-2
+is-tail-requires-2 c = search needs
+
 module _ {M : Type 1} where
-  pub spec : Tie.Need-is-second-requires → Tie.Need-returns → Tie.Need-returns-2 → Tie.Need-is-tail-requires →
-      Tie.Need-returns-3 → Tie.Need-is-tail-requires-2 → Tie.Need-returns-4 → Tie.Need-returns-5 → Lts.Closed readings
-      Reads.Pre Reads.Post M
-  spec = λ a0 a1 a2 a3 a4 a5 a6 a7. Tie.spec shared-slice-read-is-second shared-slice-read-is-second-2 a0 a1 a2
-      shared-slice-read-is-tail a3 a4 shared-slice-read-is-tail-2 a5 a6 a7
+  pub spec : Tie.Need-returns → Tie.Need-returns-2 → Tie.Need-returns-3 → Tie.Need-returns-4 → Tie.Need-returns-5 →
+      Lts.Closed readings Reads.Pre Reads.Post M
+  spec = λ a0 a1 a2 a3 a4. Tie.spec shared-slice-read-is-second shared-slice-read-is-second-2 is-second-requires a0 a1
+      shared-slice-read-is-tail is-tail-requires a2 shared-slice-read-is-tail-2 is-tail-requires-2 a3 a4

@@ -27,13 +27,22 @@ returns c = record {
   next-u64-be2 = c .next-u64-be2;
 }
 
+start-requires : Tie.Need-start-requires
+start-requires c = search needs
+
 slice-aggregate-next-u64-be : Tie.Need-slice-aggregate-next-u64-be
 slice-aggregate-next-u64-be c = search needs
+
+next-u64-be-requires : Tie.Need-next-u64-be-requires
+next-u64-be-requires c = search needs
 
 slice-aggregate-next-u64-be-2 : Tie.Need-slice-aggregate-next-u64-be-2
 slice-aggregate-next-u64-be-2 c = search needs
 
+next-u64-be-requires-2 : Tie.Need-next-u64-be-requires-2
+next-u64-be-requires-2 c = search needs
+
 module _ {M : Type 1} where
-  pub spec : Tie.Need-start-requires → Tie.Need-next-u64-be-requires → Tie.Need-next-u64-be-requires-2 →
-      Tie.Need-returns → Lts.Closed readings Reads''.Pre Reads''.Post M
-  spec = λ a0 a1 a2 a3. Tie.spec a0 slice-aggregate-next-u64-be a1 slice-aggregate-next-u64-be-2 a2 a3
+  pub spec : Tie.Need-returns → Lts.Closed readings Reads''.Pre Reads''.Post M
+  spec = λ a0. Tie.spec start-requires slice-aggregate-next-u64-be next-u64-be-requires slice-aggregate-next-u64-be-2
+      next-u64-be-requires-2 a0

@@ -1,17 +1,10 @@
 -- Taken has no cause, a refusal its own.
 mod At
 use mathlib.Core.Path.{sym, _∙_, ap}
-use borrow.Author.Needs.{needs}
 use Rattle.hnsr_circuit.specs.Answers.{causeOf}
 use Rattle.hnsr_circuit.proofs.answer.HnsrAnswer.cause.Statement.{statement}
 use Rattle.hnsr_circuit.proofs.answer.HnsrAnswer.cause.Tie as tie
 use Rattle.hnsr_circuit.proofs.answer.HnsrAnswer.cause.Proof.At as at
-
-no-cause-requires : tie.Need-no-cause-requires
-no-cause-requires c κs = search needs
-
-error-cause-requires : tie.Need-error-cause-requires
-error-cause-requires c κs = search needs
 
 returns : tie.Need-returns
 returns c = c .no-cause .ensures ∙ ap causeOf (sym (c .before .enum-told .given .1))
@@ -22,4 +15,4 @@ returns-2 c =
     here .error-cause .ensures ∙ ap causeOf (sym (here .self .given .1))
 
 pub cause-spec : {M : Type 1} → statement M
-cause-spec = tie.close (at.spec no-cause-requires error-cause-requires returns returns-2)
+cause-spec = tie.close (at.spec returns returns-2)

@@ -1,14 +1,10 @@
 -- Taken is 0, a refusal its number.
 mod At
 use mathlib.Core.Path.{sym, _∙_, ap}
-use borrow.Author.Needs.{needs}
 use Rattle.hnsr_circuit.specs.Answers.{number}
 use Rattle.hnsr_circuit.proofs.answer.HnsrAnswer.number.Statement.{statement}
 use Rattle.hnsr_circuit.proofs.answer.HnsrAnswer.number.Tie as tie
 use Rattle.hnsr_circuit.proofs.answer.HnsrAnswer.number.Proof.At as at
-
-error-number-requires : tie.Need-error-number-requires
-error-number-requires c κs = search needs
 
 returns : tie.Need-returns
 returns c = ap number (sym (c .enum-told .given .1))
@@ -19,4 +15,4 @@ returns-2 c =
     here .error-number .ensures ∙ ap number (sym (here .self .given .1))
 
 pub number-spec : {M : Type 1} → statement M
-number-spec = tie.close (at.spec error-number-requires returns returns-2)
+number-spec = tie.close (at.spec returns returns-2)

@@ -335,8 +335,14 @@ returns-23 c = record {
   enum-told22 = c .enum-told22;
 }
 
+no-cause-requires : Tie.Need-no-cause-requires
+no-cause-requires c = search needs
+
 enum-known-error : Tie.Need-enum-known-error
 enum-known-error c = search needs
+
+cause-requires : Tie.Need-cause-requires
+cause-requires c = search needs
 
 enum-told : Tie.Need-enum-told
 enum-told c = search needs
@@ -405,14 +411,13 @@ enum-told-22 : Tie.Need-enum-told-22
 enum-told-22 c = search needs
 
 module _ {M : Type 1} where
-  pub spec : Tie.Need-no-cause-requires → Tie.Need-cause-requires → Tie.Need-returns → Tie.Need-returns-2 →
-      Tie.Need-returns-3 → Tie.Need-returns-4 → Tie.Need-returns-5 → Tie.Need-returns-6 → Tie.Need-returns-7 →
-      Tie.Need-returns-8 → Tie.Need-returns-9 → Tie.Need-returns-10 → Tie.Need-returns-11 → Tie.Need-returns-12 →
-      Tie.Need-returns-13 → Tie.Need-returns-14 → Tie.Need-returns-15 → Tie.Need-returns-16 → Tie.Need-returns-17 →
-      Tie.Need-returns-18 → Tie.Need-returns-19 → Tie.Need-returns-20 → Tie.Need-returns-21 → Tie.Need-returns-22 →
-      Tie.Need-returns-23 → Lts.Closed readings Reads'.Pre Reads'.Post M
-  spec = λ a0 a1 a2 a3 a4 a5 a6 a7 a8 a9 a10 a11 a12 a13 a14 a15 a16 a17 a18 a19 a20 a21 a22 a23 a24. Tie.spec a0
-      enum-known-error a1 enum-told enum-told-2 enum-told-3 enum-told-4 enum-told-5 enum-told-6 enum-told-7 enum-told-8
-      enum-told-9 enum-told-10 enum-told-11 enum-told-12 enum-told-13 enum-told-14 enum-told-15 enum-told-16
-      enum-told-17 enum-told-18 enum-told-19 enum-told-20 enum-told-21 enum-told-22 a2 a3 a4 a5 a6 a7 a8 a9 a10 a11 a12
-      a13 a14 a15 a16 a17 a18 a19 a20 a21 a22 a23 a24
+  pub spec : Tie.Need-returns → Tie.Need-returns-2 → Tie.Need-returns-3 → Tie.Need-returns-4 → Tie.Need-returns-5 →
+      Tie.Need-returns-6 → Tie.Need-returns-7 → Tie.Need-returns-8 → Tie.Need-returns-9 → Tie.Need-returns-10 →
+      Tie.Need-returns-11 → Tie.Need-returns-12 → Tie.Need-returns-13 → Tie.Need-returns-14 → Tie.Need-returns-15 →
+      Tie.Need-returns-16 → Tie.Need-returns-17 → Tie.Need-returns-18 → Tie.Need-returns-19 → Tie.Need-returns-20 →
+      Tie.Need-returns-21 → Tie.Need-returns-22 → Tie.Need-returns-23 → Lts.Closed readings Reads'.Pre Reads'.Post M
+  spec = λ a0 a1 a2 a3 a4 a5 a6 a7 a8 a9 a10 a11 a12 a13 a14 a15 a16 a17 a18 a19 a20 a21 a22. Tie.spec
+      no-cause-requires enum-known-error cause-requires enum-told enum-told-2 enum-told-3 enum-told-4 enum-told-5
+      enum-told-6 enum-told-7 enum-told-8 enum-told-9 enum-told-10 enum-told-11 enum-told-12 enum-told-13 enum-told-14
+      enum-told-15 enum-told-16 enum-told-17 enum-told-18 enum-told-19 enum-told-20 enum-told-21 enum-told-22 a0 a1 a2
+      a3 a4 a5 a6 a7 a8 a9 a10 a11 a12 a13 a14 a15 a16 a17 a18 a19 a20 a21 a22

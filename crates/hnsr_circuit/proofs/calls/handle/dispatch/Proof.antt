@@ -8,18 +8,11 @@ use Rattle.hnsr_circuit.specs.World.{Outcome}
 use Rattle.hnsr_circuit.specs.Handle.{handlingOf, dispatch}
 use Rattle.hnsr_circuit.specs.Code.Progress.{packetOf, ending}
 use Rattle.hnsr_circuit.specs.Laws.HandleCall.{closes, at-nineteen, other-below, other-above, other-incoming, other-opened, left-alone}
-use borrow.Author.Needs.{needs}
 use Rattle.hnsr_circuit.specs.Code.Held.{worldGiven, heldPending, heldCircuits, heldLedger, heldActions}
 use Rattle.hnsr_circuit.specs.Laws.HeldTables.{places-kept}
 use Rattle.hnsr_circuit.proofs.calls.handle.dispatch.Statement.{statement}
 use Rattle.hnsr_circuit.proofs.calls.handle.dispatch.Proof.Tie as tie
 use Rattle.hnsr_circuit.proofs.calls.handle.dispatch.Proof.At as at
-
-handle-open-requires : tie.Need-handle-open-requires
-handle-open-requires c κs = search needs
-
-handle-accept-requires : tie.Need-handle-accept-requires
-handle-accept-requires c κs = search needs
 
 handle-data-requires : tie.Need-handle-data-requires
 handle-data-requires c κs =
@@ -102,4 +95,4 @@ returns-6 c =
     (⊎-elim (λ k. ⊎-elim (other-incoming n) (other-opened n) (k .keys5)) (⊎-elim (λ k. other-below n (k .1 .taken)) (λ k. other-above n (k .2 .left))) (here .match .came))
 
 pub dispatch-spec : {M : Type 1} → statement M
-dispatch-spec = tie.close (at.spec handle-open-requires handle-accept-requires handle-data-requires handle-window-requires handle-close-requires returns returns-2 returns-3 returns-4 returns-5 returns-6)
+dispatch-spec = tie.close (at.spec handle-data-requires handle-window-requires handle-close-requires returns returns-2 returns-3 returns-4 returns-5 returns-6)

@@ -2,28 +2,9 @@
 mod At
 use mathlib.Core.Path.{_∙_}
 use Rattle.hnsr_circuit.specs.Answers.{_then_}
-use borrow.Author.Needs.{needs}
 use Rattle.hnsr_circuit.proofs.calls.handle.entry_answer.Statement.{statement}
 use Rattle.hnsr_circuit.proofs.calls.handle.entry_answer.Tie as tie
 use Rattle.hnsr_circuit.proofs.calls.handle.entry_answer.Proof.At as at
-
-peer-answer-requires : tie.Need-peer-answer-requires
-peer-answer-requires c κs = search needs
-
-packet-answer-requires : tie.Need-packet-answer-requires
-packet-answer-requires c κs = search needs
-
-first-refusal-requires : tie.Need-first-refusal-requires
-first-refusal-requires c κs = search needs
-
-first-refusal-requires-2 : tie.Need-first-refusal-requires-2
-first-refusal-requires-2 c κs = search needs
-
-clock-answer-requires : tie.Need-clock-answer-requires
-clock-answer-requires c κs = search needs
-
-first-refusal-requires-3 : tie.Need-first-refusal-requires-3
-first-refusal-requires-3 c κs = search needs
 
 returns : tie.Need-returns
 returns c =
@@ -35,12 +16,4 @@ returns c =
 
 pub entry-answer-spec : {M : Type 1} → statement M
 entry-answer-spec =
-    tie.close
-    (tie.spec
-    peer-answer-requires
-    packet-answer-requires
-    first-refusal-requires
-    first-refusal-requires-2
-    clock-answer-requires
-    first-refusal-requires-3
-    returns)
+    tie.close (at.spec returns)

@@ -2,19 +2,9 @@
 mod At
 use mathlib.Core.Path.{sym, _∙_}
 use Rattle.hns_encoding.specs.Laws.Tests.{on-true, on-false}
-use borrow.Author.Needs.{needs}
 use Rattle.hnsr_circuit.proofs.calls.revocation.close_to_other.Statement.{statement}
 use Rattle.hnsr_circuit.proofs.calls.revocation.close_to_other.Tie as tie
 use Rattle.hnsr_circuit.proofs.calls.revocation.close_to_other.Proof.At as at
-
-same-peer-requires : tie.Need-same-peer-requires
-same-peer-requires c κs = search needs
-
-close-to-endpoint-requires : tie.Need-close-to-endpoint-requires
-close-to-endpoint-requires c κs = search needs
-
-closing-requires : tie.Need-closing-requires
-closing-requires c κs = search needs
 
 returns : tie.Need-returns
 returns c =
@@ -28,5 +18,4 @@ returns-2 c =
 
 pub close-to-other-spec : {M : Type 1} → statement M
 close-to-other-spec =
-    tie.close
-    (tie.spec same-peer-requires close-to-endpoint-requires closing-requires returns returns-2)
+    tie.close (at.spec returns returns-2)

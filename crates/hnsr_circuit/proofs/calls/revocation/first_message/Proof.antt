@@ -2,16 +2,9 @@
 mod At
 use mathlib.Core.Path.{sym, _∙_}
 use Rattle.hns_encoding.specs.Laws.Tests.{on-true, on-false}
-use borrow.Author.Needs.{needs}
 use Rattle.hnsr_circuit.proofs.calls.revocation.first_message.Statement.{statement}
 use Rattle.hnsr_circuit.proofs.calls.revocation.first_message.Tie as tie
 use Rattle.hnsr_circuit.proofs.calls.revocation.first_message.Proof.At as at
-
-close-to-other-requires : tie.Need-close-to-other-requires
-close-to-other-requires c κs = search needs
-
-error-to-requester-requires : tie.Need-error-to-requester-requires
-error-to-requester-requires c κs = search needs
 
 returns : tie.Need-returns
 returns c =
@@ -23,4 +16,4 @@ returns-2 c = c .before .error-to-requester .ensures ∙ sym (on-false _ _ _ (c 
 
 pub first-message-spec : {M : Type 1} → statement M
 first-message-spec =
-    tie.close (tie.spec close-to-other-requires error-to-requester-requires returns returns-2)
+    tie.close (at.spec returns returns-2)

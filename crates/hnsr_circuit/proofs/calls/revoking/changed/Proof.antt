@@ -2,7 +2,6 @@
 mod At
 use mathlib.Core.Path.{_≡_, refl, _∙_}
 use mathlib.Core.Bool.{Bool, true, false, not, Bool·beq}
-use borrow.Author.Needs.{needs}
 use Rattle.hnsr_circuit.proofs.calls.revoking.changed.Statement.{statement}
 use Rattle.hnsr_circuit.proofs.calls.revoking.changed.Tie as tie
 use Rattle.hnsr_circuit.proofs.calls.revoking.changed.Proof.At as at
@@ -15,9 +14,6 @@ off : (b : Bool) → b ≡ not (Bool·beq false b)
 off true = refl
 off false = refl
 
-no-requires : tie.Need-no-requires
-no-requires c κs = search needs
-
 returns : tie.Need-returns
 returns c =
     let here = at.returns c in
@@ -27,4 +23,4 @@ returns-2 : tie.Need-returns-2
 returns-2 c = rw (c .if1 .left) (off (c .before .args .enabled))
 
 pub changed-spec : {M : Type 1} → statement M
-changed-spec = tie.close (tie.spec no-requires returns returns-2)
+changed-spec = tie.close (at.spec returns returns-2)

@@ -14,9 +14,6 @@ use Rattle.hnsr_circuit.proofs.calls.revoking.room_short.Proof.At as at
 small : (c : tie.Start) → c .args .room < 18446744073709551616
 small c = search needs
 
-saturating-add-usize-requires : tie.Need-saturating-add-usize-requires
-saturating-add-usize-requires c κs = search needs
-
 returns : tie.Need-returns
 returns c =
     let here = at.returns c in
@@ -25,4 +22,4 @@ returns c =
     ap (λ (n : ℕ). ltb (a .room / closingWords) n) (here .saturating-add-usize .ensures) ∙ room-tests (a .room) (a .pending) (a .circuits) (omega arith)
 
 pub room-short-spec : {M : Type 1} → statement M
-room-short-spec = tie.close (tie.spec saturating-add-usize-requires returns)
+room-short-spec = tie.close (at.spec returns)

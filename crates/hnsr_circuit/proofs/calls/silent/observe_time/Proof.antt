@@ -8,22 +8,9 @@ use Rattle.hnsr_circuit.specs.Call.{step}
 use Rattle.hnsr_circuit.specs.Entry.{clockAnswer}
 use Rattle.hnsr_circuit.specs.Laws.Queueing.{taken-is}
 use Rattle.hnsr_circuit.specs.Laws.QuietCalls.{observed, unobserved}
-use borrow.Author.Needs.{needs}
 use Rattle.hnsr_circuit.proofs.calls.silent.observe_time.Statement.{statement}
 use Rattle.hnsr_circuit.proofs.calls.silent.observe_time.Tie as tie
 use Rattle.hnsr_circuit.proofs.calls.silent.observe_time.Proof.At as at
-
-clock-answer-requires : tie.Need-clock-answer-requires
-clock-answer-requires c κs = search needs
-
-with-clock-requires : tie.Need-with-clock-requires
-with-clock-requires c κs = search needs
-
-is-taken-requires : tie.Need-is-taken-requires
-is-taken-requires c κs = search needs
-
-taken-with-requires : tie.Need-taken-with-requires
-taken-with-requires c κs = search needs
 
 returns : tie.Need-returns
 unfolding step observeTime
@@ -36,9 +23,6 @@ returns c =
     places-kept (here .taken-with .result) p cs l i out (a .places) (e .1)
     ∙ observed (heldPending (a .places) p) (heldCircuits (a .places) cs) (heldLedger (a .places) l) (heldActions (a .places) i) out (a .runtime) (a .time) (here .taken-with .result) (here .clock-answer .result) (clockAnswer (a .runtime .«trusted_time_high_water») (a .time)) t (here .clock-answer .ensures) (e .0 .0 ∙ here .with-clock .ensures, e .0 .1 ∙ sym (taken-is (here .clock-answer .result) t), e .0 .2)
 
-refused-requires : tie.Need-refused-requires
-refused-requires c κs = search needs
-
 returns-2 : tie.Need-returns-2
 unfolding step observeTime
 returns-2 c =
@@ -50,12 +34,4 @@ returns-2 c =
 
 pub observe-time-spec : {M : Type 1} → statement M
 observe-time-spec =
-    tie.close
-    (tie.spec
-    clock-answer-requires
-    with-clock-requires
-    is-taken-requires
-    taken-with-requires
-    returns
-    refused-requires
-    returns-2)
+    tie.close (at.spec returns returns-2)

@@ -2,16 +2,9 @@
 mod At
 use mathlib.Core.Path.{sym, _∙_}
 use Rattle.hns_encoding.specs.Laws.Tests.{on-true, on-false}
-use borrow.Author.Needs.{needs}
 use Rattle.hnsr_circuit.proofs.calls.silent.status_told.Statement.{statement}
 use Rattle.hnsr_circuit.proofs.calls.silent.status_told.Tie as tie
 use Rattle.hnsr_circuit.proofs.calls.silent.status_told.Proof.At as at
-
-check-requires : tie.Need-check-requires
-check-requires c κs = search needs
-
-no-status-requires : tie.Need-no-status-requires
-no-status-requires c κs = search needs
 
 returns : tie.Need-returns
 returns c =
@@ -24,4 +17,4 @@ returns-2 c =
     (here .check .ensures, sym (on-false _ _ _ (here .if1 .left)))
 
 pub status-told-spec : {M : Type 1} → statement M
-status-told-spec = tie.close (tie.spec check-requires no-status-requires returns returns-2)
+status-told-spec = tie.close (at.spec returns returns-2)

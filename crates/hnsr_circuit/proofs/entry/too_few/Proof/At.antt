@@ -3,6 +3,7 @@ use Rattle.hns_encoding.proofs.logic.either.Reads
 use Rattle.hnsr_circuit.proofs.entry.too_few.Lts
 use Rattle.hnsr_circuit.proofs.entry.too_few.Reads as Reads'
 use Rattle.hnsr_circuit.proofs.entry.too_few.Tie
+use borrow.Author.Needs.{needs}
 
 abbrev readings : Lts.Claims
 readings = (Reads.Asked, Reads.Learnt)
@@ -25,3 +26,13 @@ returns c = record {
   struct-known3 = c .before .struct-known3;
   either2 = c .either2;
 }
+
+either-requires : Tie.Need-either-requires
+either-requires c = search needs
+
+either-requires-2 : Tie.Need-either-requires-2
+either-requires-2 c = search needs
+
+module _ {M : Type 1} where
+  pub spec : Tie.Need-returns → Lts.Closed readings Reads'.Pre Reads'.Post M
+  spec = λ a0. Tie.spec either-requires either-requires-2 a0

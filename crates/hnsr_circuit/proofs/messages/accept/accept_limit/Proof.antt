@@ -12,12 +12,6 @@ use Rattle.hnsr_circuit.proofs.messages.accept.accept_limit.Proof.At as
 small : (c : tie.Start) → c .args .pending .ticket .«max_active_circuits» < 65536
 small c = search needs
 
-reservation-work-requires : tie.Need-reservation-work-requires
-reservation-work-requires c κs = search needs
-
-accept-answer-requires : tie.Need-accept-answer-requires
-accept-answer-requires c κs = search needs
-
 returns : tie.Need-returns
 unfolding acceptAnswer
 returns c =
@@ -26,4 +20,4 @@ returns c =
 
 pub accept-limit-spec : {M : Type 1} → statement M
 accept-limit-spec =
-    tie.close (tie.spec reservation-work-requires accept-answer-requires returns)
+    tie.close (at.spec returns)

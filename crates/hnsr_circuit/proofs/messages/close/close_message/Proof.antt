@@ -2,16 +2,9 @@
 mod At
 use mathlib.Core.Path.{sym, _∙_}
 use Rattle.hns_encoding.specs.Laws.Tests.{on-true, on-false}
-use borrow.Author.Needs.{needs}
 use Rattle.hnsr_circuit.proofs.messages.close.close_message.Statement.{statement}
 use Rattle.hnsr_circuit.proofs.messages.close.close_message.Tie as tie
 use Rattle.hnsr_circuit.proofs.messages.close.close_message.Proof.At as at
-
-translated-on-requires : tie.Need-translated-on-requires
-translated-on-requires c κs = search needs
-
-passed-on-requires : tie.Need-passed-on-requires
-passed-on-requires c κs = search needs
 
 returns : tie.Need-returns
 returns c =
@@ -23,4 +16,4 @@ returns-2 c = c .before .passed-on .ensures ∙ sym (on-false _ _ _ (c .if1 .lef
 
 pub close-message-spec : {M : Type 1} → statement M
 close-message-spec =
-    tie.close (tie.spec translated-on-requires passed-on-requires returns returns-2)
+    tie.close (at.spec returns returns-2)

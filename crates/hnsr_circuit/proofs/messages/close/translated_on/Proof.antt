@@ -2,24 +2,14 @@
 mod At
 use mathlib.Core.Path.{sym, _∙_}
 use Rattle.hns_encoding.specs.Laws.Tests.{on-true, on-false}
-use borrow.Author.Needs.{needs}
 use Rattle.hnsr_circuit.proofs.messages.close.translated_on.Statement.{statement}
 use Rattle.hnsr_circuit.proofs.messages.close.translated_on.Tie as tie
 use Rattle.hnsr_circuit.proofs.messages.close.translated_on.Proof.At as at
-
-same-peer-requires : tie.Need-same-peer-requires
-same-peer-requires c κs = search needs
-
-closing-requires : tie.Need-closing-requires
-closing-requires c κs = search needs
 
 returns : tie.Need-returns
 returns c =
     let here = at.returns c in
     here .closing .ensures ∙ sym (on-true _ _ _ (sym (here .same-peer .ensures) ∙ here .if1 .taken))
-
-closing-requires-2 : tie.Need-closing-requires-2
-closing-requires-2 c κs = search needs
 
 returns-2 : tie.Need-returns-2
 returns-2 c =
@@ -28,4 +18,4 @@ returns-2 c =
 
 pub translated-on-spec : {M : Type 1} → statement M
 translated-on-spec =
-    tie.close (tie.spec same-peer-requires closing-requires returns closing-requires-2 returns-2)
+    tie.close (at.spec returns returns-2)

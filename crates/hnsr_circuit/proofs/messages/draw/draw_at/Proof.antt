@@ -10,7 +10,6 @@ use Rattle.hns_encoding.specs.declared.decoder.ReadU64.the-variants.{Ok, Err}
 use Rattle.hns_encoding.specs.Bytes.{be}
 use Rattle.hns_encoding.specs.Cursor.{readsBe}
 use Rattle.hns_encoding.specs.Laws.Tests.{on-true}
-use borrow.Author.Needs.{needs}
 use Rattle.hnsr_circuit.proofs.messages.draw.draw_at.Statement.{statement}
 use Rattle.hnsr_circuit.proofs.messages.draw.draw_at.Tie as tie
 use Rattle.hnsr_circuit.proofs.messages.draw.draw_at.Proof.At as at
@@ -21,9 +20,6 @@ value (Err error) = 0
 
 number : (xs : List ℕ) (at : ℕ) → at + 8 ≤ length xs → value (readsBe Ok Err 8 xs (record { position = at })) ≡ be (take 8 (drop at xs))
 number xs at h = ap value (on-true _ (Ok (be (take 8 (drop at xs))) (record { position = at + 8 })) _ (le-leb (at + 8) (length xs) h))
-
-read-u64-be-requires : tie.Need-read-u64-be-requires
-read-u64-be-requires c κs = search needs
 
 returns : tie.Need-returns
 returns c =
@@ -39,4 +35,4 @@ returns-2 c =
 
 pub draw-at-spec : {M : Type 1} → statement M
 draw-at-spec =
-    tie.close (at.spec read-u64-be-requires returns returns-2)
+    tie.close (at.spec returns returns-2)

@@ -6,13 +6,9 @@ use lib.ListN.{length, take}
 use borrow.Author.Tests.{le-leb, lt-leb}
 use Rattle.hns_encoding.specs.Bytes.{be}
 use Rattle.hns_encoding.specs.Laws.Tests.{on-true, on-false}
-use borrow.Author.Needs.{needs}
 use Rattle.hnsr_circuit.proofs.messages.draw.first_draw.Statement.{statement}
 use Rattle.hnsr_circuit.proofs.messages.draw.first_draw.Tie as tie
 use Rattle.hnsr_circuit.proofs.messages.draw.first_draw.Proof.At as at
-
-draw-at-requires : tie.Need-draw-at-requires
-draw-at-requires c κs = search needs
 
 returns : tie.Need-returns
 returns c =
@@ -27,4 +23,4 @@ returns-2 c =
     sym (on-false (leb 8 (length xs)) (be (take 8 xs)) 0 (lt-leb 8 (length xs) (here .if1 .left)))
 
 pub first-draw-spec : {M : Type 1} → statement M
-first-draw-spec = tie.close (tie.spec draw-at-requires returns returns-2)
+first-draw-spec = tie.close (at.spec returns returns-2)

@@ -2,13 +2,9 @@
 mod At
 use mathlib.Core.Path.{sym, _∙_}
 use Rattle.hns_encoding.specs.Laws.Tests.{on-true, on-false}
-use borrow.Author.Needs.{needs}
 use Rattle.hnsr_circuit.proofs.messages.open.booked_usage.Statement.{statement}
 use Rattle.hnsr_circuit.proofs.messages.open.booked_usage.Tie as tie
 use Rattle.hnsr_circuit.proofs.messages.open.booked_usage.Proof.At as at
-
-fresh-usage-requires : tie.Need-fresh-usage-requires
-fresh-usage-requires c κs = search needs
 
 returns : tie.Need-returns
 returns c =
@@ -21,4 +17,4 @@ returns-2 c =
     let a = here .start .args in here .fresh-usage .ensures ∙ sym (on-false _ (a .booked .usage) _ (here .if1 .left))
 
 pub booked-usage-spec : {M : Type 1} → statement M
-booked-usage-spec = tie.close (tie.spec fresh-usage-requires returns returns-2)
+booked-usage-spec = tie.close (at.spec returns returns-2)

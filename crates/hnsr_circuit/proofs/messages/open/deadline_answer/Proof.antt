@@ -12,12 +12,6 @@ use Rattle.hnsr_circuit.proofs.messages.open.deadline_answer.Proof.At a
 small : (c : tie.Start) → c .args .now < 18446744073709551616
 small c = search needs
 
-sub-most : tie.Need-sub-most
-sub-most c = search needs
-
-check-requires : tie.Need-check-requires
-check-requires c κs = search needs
-
 returns : tie.Need-returns
 unfolding deadlineAnswer
 returns c =
@@ -25,4 +19,4 @@ returns c =
     let s = here .start in rw (here .check .ensures, ← (ltb-less (s .args .now) (s .args .config .«accept_timeout_seconds») (small s)))
 
 pub deadline-answer-spec : {M : Type 1} → statement M
-deadline-answer-spec = tie.close (tie.spec sub-most check-requires returns)
+deadline-answer-spec = tie.close (at.spec returns)

@@ -15,15 +15,6 @@ small c = search needs
 small-ticket : (c : tie.Start) → c .args .ticket .«max_active_circuits» < 65536
 small-ticket c = search needs
 
-saturating-add-usize-requires : tie.Need-saturating-add-usize-requires
-saturating-add-usize-requires c κs = search needs
-
-reservation-work-requires : tie.Need-reservation-work-requires
-reservation-work-requires c κs = search needs
-
-endpoint-answer-requires : tie.Need-endpoint-answer-requires
-endpoint-answer-requires c κs = search needs
-
 returns : tie.Need-returns
 unfolding endpointAnswer
 returns c =
@@ -39,9 +30,4 @@ returns c =
 
 pub endpoint-limit-spec : {M : Type 1} → statement M
 endpoint-limit-spec =
-    tie.close
-    (tie.spec
-    saturating-add-usize-requires
-    reservation-work-requires
-    endpoint-answer-requires
-    returns)
+    tie.close (at.spec returns)

@@ -12,12 +12,6 @@ use Rattle.hnsr_circuit.proofs.messages.open.open_limit.Proof.At as at
 small : (c : tie.Start) → c .args .config .«maximum_circuits_per_peer» < 65536
 small c = search needs
 
-saturating-add-usize-requires : tie.Need-saturating-add-usize-requires
-saturating-add-usize-requires c κs = search needs
-
-open-answer-requires : tie.Need-open-answer-requires
-open-answer-requires c κs = search needs
-
 returns : tie.Need-returns
 unfolding openAnswer
 returns c =
@@ -26,4 +20,4 @@ returns c =
     rw (here .open-answer .ensures, here .saturating-add-usize .ensures, leb-sum (s .args .config .«maximum_circuits_per_peer») (s .args .waiting .«of_peer») (s .args .running .«of_peer») (small s))
 
 pub open-limit-spec : {M : Type 1} → statement M
-open-limit-spec = tie.close (tie.spec saturating-add-usize-requires open-answer-requires returns)
+open-limit-spec = tie.close (at.spec returns)

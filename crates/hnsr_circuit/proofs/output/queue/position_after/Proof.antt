@@ -1,15 +1,8 @@
 -- The position moves by the route's words where it is queued.
 mod At
-use borrow.Author.Needs.{needs}
 use Rattle.hnsr_circuit.proofs.output.queue.position_after.Statement.{statement}
 use Rattle.hnsr_circuit.proofs.output.queue.position_after.Tie as tie
 use Rattle.hnsr_circuit.proofs.output.queue.position_after.Proof.At as at
-
-route-size-requires : tie.Need-route-size-requires
-route-size-requires c κs = search needs
-
-saturating-add-usize-requires : tie.Need-saturating-add-usize-requires
-saturating-add-usize-requires c κs = search needs
 
 returns : tie.Need-returns
 returns c =
@@ -21,4 +14,4 @@ returns-2 c = rw (c .if1 .left)
 
 pub position-after-spec : {M : Type 1} → statement M
 position-after-spec =
-    tie.close (tie.spec route-size-requires saturating-add-usize-requires returns returns-2)
+    tie.close (at.spec returns returns-2)

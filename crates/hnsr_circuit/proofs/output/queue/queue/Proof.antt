@@ -19,27 +19,6 @@ use Rattle.hnsr_circuit.proofs.output.queue.queue.Proof.At as at
 small : (c : tie.Start) → c .args .runtime .«next_action_sequence» < 18446744073709551616
 small c = search needs
 
-queue-answer-requires : tie.Need-queue-answer-requires
-queue-answer-requires c κs = search needs
-
-first-refusal-requires : tie.Need-first-refusal-requires
-first-refusal-requires c κs = search needs
-
-scan-place-requires : tie.Need-scan-place-requires
-scan-place-requires c κs = search needs
-
-action-for-requires : tie.Need-action-for-requires
-action-for-requires c κs = search needs
-
-saturating-add-u64-requires : tie.Need-saturating-add-u64-requires
-saturating-add-u64-requires c κs = search needs
-
-with-sequence-requires : tie.Need-with-sequence-requires
-with-sequence-requires c κs = search needs
-
-is-taken-requires : tie.Need-is-taken-requires
-is-taken-requires c κs = search needs
-
 returns : tie.Need-returns
 returns c =
     let here = at.returns c in
@@ -73,14 +52,4 @@ returns-2 c =
 
 pub queue-spec : {M : Type 1} → statement M
 queue-spec =
-    tie.close
-    (tie.spec
-    queue-answer-requires
-    first-refusal-requires
-    scan-place-requires
-    action-for-requires
-    saturating-add-u64-requires
-    with-sequence-requires
-    is-taken-requires
-    returns
-    returns-2)
+    tie.close (at.spec returns returns-2)

@@ -11,22 +11,9 @@ use Rattle.hns_encoding.specs.Laws.Bytes.{beBytes-length}
 use Rattle.hns_encoding.specs.Cursor.{written}
 use Rattle.hnsr_circuit.specs.Route.{packetWords}
 use Rattle.hnsr_circuit.specs.Laws.Route.{length-words, wrote-first, wrote-next, wrote-all}
-use borrow.Author.Needs.{needs}
 use Rattle.hnsr_circuit.proofs.output.route.put_packet_words.Statement.{statement}
 use Rattle.hnsr_circuit.proofs.output.route.put_packet_words.Tie as tie
 use Rattle.hnsr_circuit.proofs.output.route.put_packet_words.Proof.At as at
-
-packet-word-requires : tie.Need-packet-word-requires
-packet-word-requires c κs = search needs
-
-put-word-at-requires : tie.Need-put-word-at-requires
-put-word-at-requires c κs = search needs
-
-put-context-at-requires : tie.Need-put-context-at-requires
-put-context-at-requires c κs = search needs
-
-put-body-at-requires : tie.Need-put-body-at-requires
-put-body-at-requires c κs = search needs
 
 returns : tie.Need-returns
 unfolding packetWords
@@ -45,4 +32,4 @@ returns c =
 
 pub put-packet-words-spec : {M : Type 1} → statement M
 put-packet-words-spec =
-    tie.close (at.spec packet-word-requires put-word-at-requires put-context-at-requires put-body-at-requires returns)
+    tie.close (at.spec returns)

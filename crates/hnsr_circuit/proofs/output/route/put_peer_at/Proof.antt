@@ -18,9 +18,6 @@ use Rattle.hnsr_circuit.proofs.output.route.put_peer_at.Proof.At as at
 within : (c : tie.Start) → peerLength (c .args .peer) ≤ length (c .args .peer .bytes)
 within c = let long : length (c .args .peer .bytes) ≡ maximumPeer = search needs in omega arith
 
-peer-length-requires : tie.Need-peer-length-requires
-peer-length-requires c κs = search needs
-
 array-share-prefix-bytes : tie.Need-array-share-prefix-bytes
 array-share-prefix-bytes c =
     let here = at.array-share-prefix-bytes c in
@@ -31,12 +28,6 @@ slice-aggregate-put-padded-as-words c =
     let here = at.slice-aggregate-put-padded-as-words c in
     let s = here .start in let e = here .peer-length .ensures in let w = within s in sym (length-take-le (here .peer-length .result) (s .args .peer .bytes) (omega arith))
 
-put-padded-as-words-requires : tie.Need-put-padded-as-words-requires
-put-padded-as-words-requires c κs = search needs
-
-same-length : tie.Need-same-length
-same-length c = search needs
-
 returns : tie.Need-returns
 unfolding peerBytes
 returns c =
@@ -45,11 +36,4 @@ returns c =
 
 pub put-peer-at-spec : {M : Type 1} → statement M
 put-peer-at-spec =
-    tie.close
-    (tie.spec
-    peer-length-requires
-    array-share-prefix-bytes
-    slice-aggregate-put-padded-as-words
-    put-padded-as-words-requires
-    same-length
-    returns)
+    tie.close (at.spec array-share-prefix-bytes slice-aggregate-put-padded-as-words returns)

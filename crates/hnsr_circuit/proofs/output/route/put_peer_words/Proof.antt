@@ -10,28 +10,9 @@ use Rattle.hns_encoding.specs.Cursor.{written}
 use Rattle.hnsr_circuit.specs.Peer.{peerBytes}
 use Rattle.hnsr_circuit.specs.Route.{nameWords, kindWord, peerWords}
 use Rattle.hnsr_circuit.specs.Laws.Route.{wrote-first, wrote-next, wrote-all}
-use borrow.Author.Needs.{needs}
 use Rattle.hnsr_circuit.proofs.output.route.put_peer_words.Statement.{statement}
 use Rattle.hnsr_circuit.proofs.output.route.put_peer_words.Tie as tie
 use Rattle.hnsr_circuit.proofs.output.route.put_peer_words.Proof.At as at
-
-peer-length-requires : tie.Need-peer-length-requires
-peer-length-requires c κs = search needs
-
-peer-word-requires : tie.Need-peer-word-requires
-peer-word-requires c κs = search needs
-
-put-word-at-requires : tie.Need-put-word-at-requires
-put-word-at-requires c κs = search needs
-
-put-number-at-requires : tie.Need-put-number-at-requires
-put-number-at-requires c κs = search needs
-
-put-number-at-requires-2 : tie.Need-put-number-at-requires-2
-put-number-at-requires-2 c κs = search needs
-
-put-peer-at-requires : tie.Need-put-peer-at-requires
-put-peer-at-requires c κs = search needs
 
 returns : tie.Need-returns
 unfolding peerWords
@@ -50,4 +31,4 @@ returns c =
 
 pub put-peer-words-spec : {M : Type 1} → statement M
 put-peer-words-spec =
-    tie.close (at.spec peer-length-requires peer-word-requires put-word-at-requires put-number-at-requires put-number-at-requires-2 put-peer-at-requires returns)
+    tie.close (at.spec returns)

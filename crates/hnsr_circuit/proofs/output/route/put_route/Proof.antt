@@ -47,12 +47,6 @@ long c =
     let fits = room (c .before .before) in
     ap length (w .same) ∙ written-length (st (c .before .before) .args .out .now) (st (c .before .before) .args .at) (peerWords (the-route (st (c .before .before)))) (omega arith)
 
-route-size-requires : tie.Need-route-size-requires
-route-size-requires c κs = search needs
-
-fits-requires : tie.Need-fits-requires
-fits-requires c κs = search needs
-
 put-peer-words-requires : tie.Need-put-peer-words-requires
 put-peer-words-requires c κs = omega (arith, room (c .before))
 
@@ -63,9 +57,6 @@ put-packet-words-requires : tie.Need-put-packet-words-requires
 put-packet-words-requires c κs =
     let here = at.put-packet-words-requires c in
     let r = room (c .before .before .before .before .before) in let n = length-words (here .start .args .body .now) in (search needs, omega (arith, long (c .before .before .before)))
-
-same-length : tie.Need-same-length
-same-length c = search needs
 
 returns : tie.Need-returns
 unfolding routeWords packetWords
@@ -86,13 +77,4 @@ returns-2 c =
 
 pub put-route-spec : {M : Type 1} → statement M
 put-route-spec =
-    tie.close
-    (tie.spec
-    route-size-requires
-    fits-requires
-    put-peer-words-requires
-    add-put-packet-words
-    put-packet-words-requires
-    same-length
-    returns
-    returns-2)
+    tie.close (at.spec put-peer-words-requires add-put-packet-words put-packet-words-requires returns returns-2)

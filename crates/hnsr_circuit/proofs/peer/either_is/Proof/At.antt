@@ -3,6 +3,7 @@ use Rattle.hnsr_circuit.proofs.peer.either_is.Lts
 use Rattle.hnsr_circuit.proofs.peer.either_is.Reads
 use Rattle.hnsr_circuit.proofs.peer.either_is.Tie
 use Rattle.hnsr_circuit.proofs.peer.same_peer.Reads as Reads'
+use borrow.Author.Needs.{needs}
 
 abbrev readings : Lts.Claims
 readings = (Reads'.Asked, Reads'.Learnt)
@@ -20,3 +21,13 @@ returns-2 c = record {
   if1 = c .before .if1;
   same-peer2 = c .same-peer2;
 }
+
+same-peer-requires : Tie.Need-same-peer-requires
+same-peer-requires c = search needs
+
+same-peer-requires-2 : Tie.Need-same-peer-requires-2
+same-peer-requires-2 c = search needs
+
+module _ {M : Type 1} where
+  pub spec : Tie.Need-returns → Tie.Need-returns-2 → Lts.Closed readings Reads.Pre Reads.Post M
+  spec = λ a0 a1. Tie.spec same-peer-requires a0 same-peer-requires-2 a1

@@ -106,11 +106,20 @@ returns-4 c = record {
   differs3 = c .differs3;
 }
 
+peer-length-requires : Tie.Need-peer-length-requires
+peer-length-requires c = search needs
+
+peer-length-requires-2 : Tie.Need-peer-length-requires-2
+peer-length-requires-2 c = search needs
+
 array-read-differs : Tie.Need-array-read-differs
 array-read-differs c = search needs
 
 array-read-differs-2 : Tie.Need-array-read-differs-2
 array-read-differs-2 c = search needs
+
+differs-requires : Tie.Need-differs-requires
+differs-requires c = search needs
 
 array-read-differs-3 : Tie.Need-array-read-differs-3
 array-read-differs-3 c = search needs
@@ -118,15 +127,21 @@ array-read-differs-3 c = search needs
 array-read-differs-4 : Tie.Need-array-read-differs-4
 array-read-differs-4 c = search needs
 
+differs-requires-2 : Tie.Need-differs-requires-2
+differs-requires-2 c = search needs
+
 array-read-differs-5 : Tie.Need-array-read-differs-5
 array-read-differs-5 c = search needs
 
 array-read-differs-6 : Tie.Need-array-read-differs-6
 array-read-differs-6 c = search needs
 
+differs-requires-3 : Tie.Need-differs-requires-3
+differs-requires-3 c = search needs
+
 module _ {M : Type 1} where
-  pub spec : Tie.Need-peer-length-requires → Tie.Need-peer-length-requires-2 → Tie.Need-returns →
-      Tie.Need-differs-requires → Tie.Need-returns-2 → Tie.Need-differs-requires-2 → Tie.Need-returns-3 →
-      Tie.Need-differs-requires-3 → Tie.Need-returns-4 → Lts.Closed readings Reads''.Pre Reads''.Post M
-  spec = λ a0 a1 a2 a3 a4 a5 a6 a7 a8. Tie.spec a0 a1 a2 array-read-differs array-read-differs-2 a3 a4
-      array-read-differs-3 array-read-differs-4 a5 a6 array-read-differs-5 array-read-differs-6 a7 a8
+  pub spec : Tie.Need-returns → Tie.Need-returns-2 → Tie.Need-returns-3 → Tie.Need-returns-4 → Lts.Closed readings
+      Reads''.Pre Reads''.Post M
+  spec = λ a0 a1 a2 a3. Tie.spec peer-length-requires peer-length-requires-2 a0 array-read-differs array-read-differs-2
+      differs-requires a1 array-read-differs-3 array-read-differs-4 differs-requires-2 a2 array-read-differs-5
+      array-read-differs-6 differs-requires-3 a3

@@ -1,15 +1,8 @@
 -- One queue lowered on each side.
 mod At
-use borrow.Author.Needs.{needs}
 use Rattle.hnsr_circuit.proofs.records.circuits.circuit_lowered.Statement.{statement}
 use Rattle.hnsr_circuit.proofs.records.circuits.circuit_lowered.Tie as tie
 use Rattle.hnsr_circuit.proofs.records.circuits.circuit_lowered.Proof.At as at
-
-saturating-sub-usize-requires : tie.Need-saturating-sub-usize-requires
-saturating-sub-usize-requires c κs = search needs
-
-saturating-sub-usize-requires-2 : tie.Need-saturating-sub-usize-requires-2
-saturating-sub-usize-requires-2 c κs = search needs
 
 returns : tie.Need-returns
 returns c =
@@ -23,4 +16,4 @@ returns-2 c =
 
 pub circuit-lowered-spec : {M : Type 1} → statement M
 circuit-lowered-spec =
-    tie.close (at.spec saturating-sub-usize-requires saturating-sub-usize-requires-2 returns returns-2)
+    tie.close (at.spec returns returns-2)

@@ -1,15 +1,8 @@
 -- One credit raised on each side, where the sum fits.
 mod At
-use borrow.Author.Needs.{needs}
 use Rattle.hnsr_circuit.proofs.records.circuits.circuit_raised.Statement.{statement}
 use Rattle.hnsr_circuit.proofs.records.circuits.circuit_raised.Tie as tie
 use Rattle.hnsr_circuit.proofs.records.circuits.circuit_raised.Proof.At as at
-
-more-credit-requires : tie.Need-more-credit-requires
-more-credit-requires c κs = search needs
-
-more-credit-requires-2 : tie.Need-more-credit-requires-2
-more-credit-requires-2 c κs = search needs
 
 returns : tie.Need-returns
 returns c =
@@ -23,4 +16,4 @@ returns-2 c =
 
 pub circuit-raised-spec : {M : Type 1} → statement M
 circuit-raised-spec =
-    tie.close (at.spec more-credit-requires more-credit-requires-2 returns returns-2)
+    tie.close (at.spec returns returns-2)

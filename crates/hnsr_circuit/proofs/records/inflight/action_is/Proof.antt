@@ -1,13 +1,9 @@
 -- The used mark, then the test.
 mod At
 use Rattle.hnsr_circuit.specs.Inflight.{actionAt}
-use borrow.Author.Needs.{needs}
 use Rattle.hnsr_circuit.proofs.records.inflight.action_is.Statement.{statement}
 use Rattle.hnsr_circuit.proofs.records.inflight.action_is.Tie as tie
 use Rattle.hnsr_circuit.proofs.records.inflight.action_is.Proof.At as at
-
-both-requires : tie.Need-both-requires
-both-requires c κs = search needs
 
 returns : tie.Need-returns
 unfolding actionAt
@@ -20,4 +16,4 @@ unfolding actionAt
 returns-2 c = rw (c .if1 .left)
 
 pub action-is-spec : {M : Type 1} → statement M
-action-is-spec = tie.close (tie.spec both-requires returns returns-2)
+action-is-spec = tie.close (at.spec returns returns-2)

@@ -1,22 +1,15 @@
 -- The used mark, then the requester, then the endpoint.
 mod At
 use Rattle.hnsr_circuit.specs.Pending.{namedBy}
-use borrow.Author.Needs.{needs}
 use Rattle.hnsr_circuit.proofs.records.pending.named_by.Statement.{statement}
 use Rattle.hnsr_circuit.proofs.records.pending.named_by.Tie as tie
 use Rattle.hnsr_circuit.proofs.records.pending.named_by.Proof.At as at
-
-requester-names-requires : tie.Need-requester-names-requires
-requester-names-requires c κs = search needs
 
 returns : tie.Need-returns
 unfolding namedBy
 returns c =
     let here = at.returns c in
     rw (here .if1 .taken, ← (here .requester-names .ensures), here .if2 .taken)
-
-endpoint-names-requires : tie.Need-endpoint-names-requires
-endpoint-names-requires c κs = search needs
 
 returns-2 : tie.Need-returns-2
 unfolding namedBy
@@ -30,5 +23,4 @@ returns-3 c = rw (c .if1 .left)
 
 pub named-by-spec : {M : Type 1} → statement M
 named-by-spec =
-    tie.close
-    (tie.spec requester-names-requires returns endpoint-names-requires returns-2 returns-3)
+    tie.close (at.spec returns returns-2 returns-3)

@@ -1,13 +1,9 @@
 -- The used mark, then the test.
 mod At
 use Rattle.hnsr_circuit.specs.Pending.{pendingUnder}
-use borrow.Author.Needs.{needs}
 use Rattle.hnsr_circuit.proofs.records.pending.pending_under.Statement.{statement}
 use Rattle.hnsr_circuit.proofs.records.pending.pending_under.Tie as tie
 use Rattle.hnsr_circuit.proofs.records.pending.pending_under.Proof.At as at
-
-same-reservation-requires : tie.Need-same-reservation-requires
-same-reservation-requires c κs = search needs
 
 returns : tie.Need-returns
 unfolding pendingUnder
@@ -20,4 +16,4 @@ unfolding pendingUnder
 returns-2 c = rw (c .if1 .left)
 
 pub pending-under-spec : {M : Type 1} → statement M
-pending-under-spec = tie.close (tie.spec same-reservation-requires returns returns-2)
+pending-under-spec = tie.close (at.spec returns returns-2)

@@ -4,13 +4,9 @@ use Prim.Native.Nat.{ℕ, _+_}
 use native.Mathlib.Omega.{arith}
 use mathlib.Core.Path.{_≡_, ap, _∙_}
 use Rattle.hns_encoding.specs.Numbers.{saturatingAdd}
-use borrow.Author.Needs.{needs}
 use Rattle.hnsr_circuit.proofs.records.runtime.with_enabled.Statement.{statement}
 use Rattle.hnsr_circuit.proofs.records.runtime.with_enabled.Tie as tie
 use Rattle.hnsr_circuit.proofs.records.runtime.with_enabled.Proof.At as at
-
-saturating-add-u64-requires : tie.Need-saturating-add-u64-requires
-saturating-add-u64-requires c κs = search needs
 
 returns : tie.Need-returns
 returns c =
@@ -22,4 +18,4 @@ returns c =
     (here .saturating-add-u64 .ensures ∙ next)
 
 pub with-enabled-spec : {M : Type 1} → statement M
-with-enabled-spec = tie.close (tie.spec saturating-add-u64-requires returns)
+with-enabled-spec = tie.close (at.spec returns)

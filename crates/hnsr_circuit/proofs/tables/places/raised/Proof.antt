@@ -11,12 +11,6 @@ use Rattle.hnsr_circuit.proofs.tables.places.raised.Statement.{statemen
 use Rattle.hnsr_circuit.proofs.tables.places.raised.Tie as tie
 use Rattle.hnsr_circuit.proofs.tables.places.raised.Proof.At as at
 
-within-requires : tie.Need-within-requires
-within-requires c κs = search needs
-
-both-requires : tie.Need-both-requires
-both-requires c κs = search needs
-
 add-result : tie.Need-add-result
 add-result c =
     let here = at.add-result c in
@@ -42,4 +36,4 @@ returns-2 c =
     rw e
 
 pub raised-spec : {M : Type 1} → statement M
-raised-spec = tie.close (tie.spec within-requires both-requires add-result returns returns-2)
+raised-spec = tie.close (at.spec add-result returns returns-2)

@@ -5,25 +5,9 @@ use Rattle.hnsr_circuit.specs.Code.Turns.{never}
 use Rattle.hnsr_circuit.specs.Circuits.{circuitAt, circuitOf, circuitUnder, isCircuit}
 use mathlib.Core.Path.{refl}
 use mathlib.Core.Bool.{false}
-use borrow.Author.Needs.{needs}
 use Rattle.hnsr_circuit.proofs.tables.scan.circuit_worked.Statement.{statement}
 use Rattle.hnsr_circuit.proofs.tables.scan.circuit_worked.Tie as tie
 use Rattle.hnsr_circuit.proofs.tables.scan.circuit_worked.Proof.At as at
-
-circuit-of-requires : tie.Need-circuit-of-requires
-circuit-of-requires c κs = search needs
-
-circuit-of-requires-2 : tie.Need-circuit-of-requires-2
-circuit-of-requires-2 c κs = search needs
-
-circuit-under-requires : tie.Need-circuit-under-requires
-circuit-under-requires c κs = search needs
-
-circuit-is-requires : tie.Need-circuit-is-requires
-circuit-is-requires c κs = search needs
-
-work-on-requires : tie.Need-work-on-requires
-work-on-requires c κs = search needs
 
 returns : tie.Need-returns
 unfolding isCircuit
@@ -39,12 +23,4 @@ returns-2 c = rw (c .if1 .left)
 
 pub circuit-worked-spec : {M : Type 1} → statement M
 circuit-worked-spec =
-    tie.close
-    (tie.spec
-    circuit-of-requires
-    circuit-of-requires-2
-    circuit-under-requires
-    circuit-is-requires
-    work-on-requires
-    returns
-    returns-2)
+    tie.close (at.spec returns returns-2)

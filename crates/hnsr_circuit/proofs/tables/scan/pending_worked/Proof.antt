@@ -2,28 +2,9 @@
 mod At
 use Rattle.hnsr_circuit.specs.Laws.Turns.{works}
 use Rattle.hnsr_circuit.specs.Pending.{pendingAt, pendingOf, pendingUnder, requestedBy, isPending}
-use borrow.Author.Needs.{needs}
 use Rattle.hnsr_circuit.proofs.tables.scan.pending_worked.Statement.{statement}
 use Rattle.hnsr_circuit.proofs.tables.scan.pending_worked.Tie as tie
 use Rattle.hnsr_circuit.proofs.tables.scan.pending_worked.Proof.At as at
-
-pending-of-requires : tie.Need-pending-of-requires
-pending-of-requires c κs = search needs
-
-pending-of-requires-2 : tie.Need-pending-of-requires-2
-pending-of-requires-2 c κs = search needs
-
-pending-under-requires : tie.Need-pending-under-requires
-pending-under-requires c κs = search needs
-
-requested-by-requires : tie.Need-requested-by-requires
-requested-by-requires c κs = search needs
-
-pending-is-requires : tie.Need-pending-is-requires
-pending-is-requires c κs = search needs
-
-work-on-requires : tie.Need-work-on-requires
-work-on-requires c κs = search needs
 
 returns : tie.Need-returns
 unfolding isPending
@@ -39,13 +20,4 @@ returns-2 c = rw (c .if1 .left)
 
 pub pending-worked-spec : {M : Type 1} → statement M
 pending-worked-spec =
-    tie.close
-    (tie.spec
-    pending-of-requires
-    pending-of-requires-2
-    pending-under-requires
-    requested-by-requires
-    pending-is-requires
-    work-on-requires
-    returns
-    returns-2)
+    tie.close (at.spec returns returns-2)

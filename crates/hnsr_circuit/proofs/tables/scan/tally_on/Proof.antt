@@ -2,30 +2,14 @@
 mod At
 use mathlib.Core.Path.{sym, _∙_}
 use Rattle.hnsr_circuit.specs.Laws.Turns.{tally-counts, tally-replaces}
-use borrow.Author.Needs.{needs}
 use Rattle.hnsr_circuit.proofs.tables.scan.tally_on.Statement.{statement}
 use Rattle.hnsr_circuit.proofs.tables.scan.tally_on.Tie as tie
 use Rattle.hnsr_circuit.proofs.tables.scan.tally_on.Proof.At as at
-
-both-requires : tie.Need-both-requires
-both-requires c κs = search needs
 
 returns : tie.Need-returns
 returns c =
     let here = at.returns c in
     let b = here .start in λ u. tally-replaces (b .args .question) (b .args .tally) (b .args .row) 0 (sym (here .both .ensures) ∙ here .if1 .taken)
-
-same-peer-in-scan-requires : tie.Need-same-peer-in-scan-requires
-same-peer-in-scan-requires c κs = search needs
-
-add-t7 : tie.Need-add-t7
-add-t7 c = search needs
-
-one-more-requires : tie.Need-one-more-requires
-one-more-requires c κs = search needs
-
-one-more-requires-2 : tie.Need-one-more-requires-2
-one-more-requires-2 c κs = search needs
 
 returns-2 : tie.Need-returns-2
 returns-2 c =
@@ -36,12 +20,4 @@ returns-2 c =
 
 pub tally-on-spec : {M : Type 1} → statement M
 tally-on-spec =
-    tie.close
-    (tie.spec
-    both-requires
-    returns
-    same-peer-in-scan-requires
-    add-t7
-    one-more-requires
-    one-more-requires-2
-    returns-2)
+    tie.close (at.spec returns returns-2)

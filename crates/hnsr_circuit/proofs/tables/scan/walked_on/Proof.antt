@@ -1,21 +1,8 @@
 -- The three tests joined.
 mod At
-use borrow.Author.Needs.{needs}
 use Rattle.hnsr_circuit.proofs.tables.scan.walked_on.Statement.{statement}
 use Rattle.hnsr_circuit.proofs.tables.scan.walked_on.Tie as tie
 use Rattle.hnsr_circuit.proofs.tables.scan.walked_on.Proof.At as at
-
-above-requires : tie.Need-above-requires
-above-requires c κs = search needs
-
-both-requires : tie.Need-both-requires
-both-requires c κs = search needs
-
-better-requires : tie.Need-better-requires
-better-requires c κs = search needs
-
-both-requires-2 : tie.Need-both-requires-2
-both-requires-2 c κs = search needs
 
 returns : tie.Need-returns
 returns c =
@@ -29,5 +16,4 @@ returns-2 c =
 
 pub walked-on-spec : {M : Type 1} → statement M
 walked-on-spec =
-    tie.close
-    (tie.spec above-requires both-requires better-requires both-requires-2 returns returns-2)
+    tie.close (at.spec returns returns-2)

@@ -3,6 +3,7 @@ use Rattle.hns_encoding.proofs.decoder.Decoder.finish.Lts
 use Rattle.hns_encoding.proofs.decoder.Decoder.finish.Reads
 use Rattle.hns_encoding.proofs.decoder.Decoder.finish.Tie
 use Rattle.hns_encoding.proofs.decoder.unexpected_end.Reads as Reads'
+use borrow.Author.Needs.{needs}
 
 abbrev readings : Lts.Claims
 readings = (Reads'.Asked, Reads'.Learnt)
@@ -35,3 +36,13 @@ returns-3 c = record {
   if2 = c .before .if2;
   unexpected-end = c .unexpected-end;
 }
+
+sub-t9 : Tie.Need-sub-t9
+sub-t9 c = search needs
+
+unexpected-end-requires : Tie.Need-unexpected-end-requires
+unexpected-end-requires c = search needs
+
+module _ {M : Type 1} where
+  pub spec : Tie.Need-returns → Tie.Need-returns-2 → Tie.Need-returns-3 → Lts.Closed readings Reads.Pre Reads.Post M
+  spec = λ a0 a1 a2. Tie.spec sub-t9 unexpected-end-requires a0 a1 a2

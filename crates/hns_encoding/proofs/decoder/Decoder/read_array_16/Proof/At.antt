@@ -5,6 +5,7 @@ use Rattle.hns_encoding.proofs.decoder.Decoder.read_array_16.Reads as R
 use Rattle.hns_encoding.proofs.decoder.Decoder.read_array_16.Tie
 use Rattle.hns_encoding.proofs.decoder.unexpected_end.Reads as Reads''
 use Rattle.hns_encoding.proofs.room.fits.Reads as Reads'''
+use borrow.Author.Needs.{needs}
 
 abbrev readings : Lts.Claims
 readings = (Reads'''.Asked, Reads'''.Learnt, Reads.Asked, Reads.Learnt, Reads''.Asked, Reads''.Learnt)
@@ -72,3 +73,17 @@ returns-2 c = record {
   if1 = c .before .if1;
   unexpected-end = c .unexpected-end;
 }
+
+fits-requires : Tie.Need-fits-requires
+fits-requires c = search needs
+
+slice-aggregate-copy-at : Tie.Need-slice-aggregate-copy-at
+slice-aggregate-copy-at c = search needs
+
+unexpected-end-requires : Tie.Need-unexpected-end-requires
+unexpected-end-requires c = search needs
+
+module _ {M : Type 1} where
+  pub spec : Tie.Need-copy-at-requires → Tie.Need-add-t11 → Tie.Need-returns → Tie.Need-returns-2 → Lts.Closed readings
+      Reads'.Pre Reads'.Post M
+  spec = λ a0 a1 a2 a3. Tie.spec fits-requires slice-aggregate-copy-at a0 a1 unexpected-end-requires a2 a3

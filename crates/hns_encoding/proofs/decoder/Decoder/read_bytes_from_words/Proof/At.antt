@@ -6,6 +6,7 @@ use Rattle.hns_encoding.proofs.decoder.unexpected_end.Reads as Reads'
 use Rattle.hns_encoding.proofs.room.fits.Reads as Reads''
 use Rattle.hns_encoding.proofs.words.copy_bytes_at.Reads as Reads'''
 use Rattle.hns_encoding.proofs.words.word_count.Reads as Reads''''
+use borrow.Author.Needs.{needs}
 
 abbrev readings : Lts.Claims
 readings = (
@@ -86,3 +87,20 @@ returns-2 c = record {
   if1 = c .before .if1;
   unexpected-end = c .unexpected-end;
 }
+
+word-count-requires : Tie.Need-word-count-requires
+word-count-requires c = search needs
+
+fits-requires : Tie.Need-fits-requires
+fits-requires c = search needs
+
+unexpected-end-requires : Tie.Need-unexpected-end-requires
+unexpected-end-requires c = search needs
+
+same-length : Tie.Need-same-length
+same-length c = search needs
+
+module _ {M : Type 1} where
+  pub spec : Tie.Need-copy-bytes-at-requires → Tie.Need-add-t12 → Tie.Need-returns → Tie.Need-returns-2 → Lts.Closed
+      readings Reads.Pre Reads.Post M
+  spec = λ a0 a1 a2 a3. Tie.spec word-count-requires fits-requires a0 a1 unexpected-end-requires same-length a2 a3

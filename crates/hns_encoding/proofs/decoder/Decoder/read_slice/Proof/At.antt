@@ -52,6 +52,9 @@ returns-2 c = record {
   result2 = c .result2;
 }
 
+fits-requires : Tie.Need-fits-requires
+fits-requires c = search needs
+
 sub-result : Tie.Need-sub-result
 sub-result c = search needs
 
@@ -62,6 +65,6 @@ slice-aggregate-result : Tie.Need-slice-aggregate-result
 slice-aggregate-result c = search needs
 
 module _ {M : Type 1} where
-  pub spec : Tie.Need-fits-requires → Tie.Need-add-result → Tie.Need-part-result-end → Tie.Need-returns →
-      Tie.Need-returns-2 → Lts.Closed readings Reads.Pre Reads.Post M
-  spec = λ a0 a1 a2 a3 a4. Tie.spec a0 a1 sub-result part-result-start a2 slice-aggregate-result a3 a4
+  pub spec : Tie.Need-add-result → Tie.Need-part-result-end → Tie.Need-returns → Tie.Need-returns-2 → Lts.Closed
+      readings Reads.Pre Reads.Post M
+  spec = λ a0 a1 a2 a3. Tie.spec fits-requires a0 sub-result part-result-start a1 slice-aggregate-result a2 a3

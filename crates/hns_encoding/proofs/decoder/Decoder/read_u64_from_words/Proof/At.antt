@@ -6,6 +6,7 @@ use Rattle.hns_encoding.proofs.decoder.from_high_low.Reads as Reads'
 use Rattle.hns_encoding.proofs.decoder.unexpected_end.Reads as Reads''
 use Rattle.hns_encoding.proofs.room.fits.Reads as Reads'''
 use Rattle.hns_encoding.proofs.words.get_word.Reads as Reads''''
+use borrow.Author.Needs.{needs}
 
 abbrev readings : Lts.Claims
 readings = (
@@ -104,3 +105,17 @@ returns-2 c = record {
   if1 = c .before .if1;
   unexpected-end = c .unexpected-end;
 }
+
+fits-requires : Tie.Need-fits-requires
+fits-requires c = search needs
+
+from-high-low-requires : Tie.Need-from-high-low-requires
+from-high-low-requires c = search needs
+
+unexpected-end-requires : Tie.Need-unexpected-end-requires
+unexpected-end-requires c = search needs
+
+module _ {M : Type 1} where
+  pub spec : Tie.Need-get-word-requires → Tie.Need-add-get-word → Tie.Need-get-word-requires-2 → Tie.Need-add-t9 →
+      Tie.Need-returns → Tie.Need-returns-2 → Lts.Closed readings Reads.Pre Reads.Post M
+  spec = λ a0 a1 a2 a3 a4 a5. Tie.spec fits-requires a0 a1 a2 from-high-low-requires a3 unexpected-end-requires a4 a5

@@ -4,6 +4,7 @@ use Rattle.hns_encoding.proofs.encoder.Encoder.put_bytes_as_words.Reads
 use Rattle.hns_encoding.proofs.encoder.Encoder.put_bytes_as_words.Tie
 use Rattle.hns_encoding.proofs.encoder.Encoder.put_padded_as_words.Reads as Reads'
 use Rattle.hns_encoding.proofs.words.word_count.Reads as Reads''
+use borrow.Author.Needs.{needs}
 
 abbrev readings : Lts.Claims
 readings = (Reads''.Asked, Reads''.Learnt, Reads'.Asked, Reads'.Learnt)
@@ -21,3 +22,16 @@ returns c = record {
   put-padded-as-words = c .before .before .put-padded-as-words;
   out = c .before .out;
 }
+
+word-count-requires : Tie.Need-word-count-requires
+word-count-requires c = search needs
+
+put-padded-as-words-requires : Tie.Need-put-padded-as-words-requires
+put-padded-as-words-requires c = search needs
+
+same-length : Tie.Need-same-length
+same-length c = search needs
+
+module _ {M : Type 1} where
+  pub spec : Tie.Need-returns → Lts.Closed readings Reads.Pre Reads.Post M
+  spec = λ a0. Tie.spec word-count-requires put-padded-as-words-requires same-length a0

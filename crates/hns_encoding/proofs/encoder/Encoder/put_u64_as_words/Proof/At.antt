@@ -116,17 +116,23 @@ returns-2 c = record {
   no-room = c .no-room;
 }
 
+fits-requires : Tie.Need-fits-requires
+fits-requires c = search needs
+
 cast-set-word : Tie.Need-cast-set-word
 cast-set-word c = search needs
 
 cast-set-word-2 : Tie.Need-cast-set-word-2
 cast-set-word-2 c = search needs
 
+no-room-requires : Tie.Need-no-room-requires
+no-room-requires c = search needs
+
 same-length : Tie.Need-same-length
 same-length c = search needs
 
 module _ {M : Type 1} where
-  pub spec : Tie.Need-fits-requires → Tie.Need-set-word-requires → Tie.Need-add-set-word → Tie.Need-set-word-requires-2
-      → Tie.Need-add-t15 → Tie.Need-no-room-requires → Tie.Need-returns → Tie.Need-returns-2 → Lts.Closed readings
-      Reads.Pre Reads.Post M
-  spec = λ a0 a1 a2 a3 a4 a5 a6 a7. Tie.spec a0 cast-set-word a1 a2 cast-set-word-2 a3 a4 a5 same-length a6 a7
+  pub spec : Tie.Need-set-word-requires → Tie.Need-add-set-word → Tie.Need-set-word-requires-2 → Tie.Need-add-t15 →
+      Tie.Need-returns → Tie.Need-returns-2 → Lts.Closed readings Reads.Pre Reads.Post M
+  spec = λ a0 a1 a2 a3 a4 a5. Tie.spec fits-requires cast-set-word a0 a1 cast-set-word-2 a2 a3 no-room-requires
+      same-length a4 a5

@@ -26,13 +26,18 @@ returns c = record {
   out = c .before .out;
 }
 
+be-bytes-requires : Tie.Need-be-bytes-requires
+be-bytes-requires c = search needs
+
 slice-aggregate-put-bytes : Tie.Need-slice-aggregate-put-bytes
 slice-aggregate-put-bytes c = search needs
+
+put-bytes-requires : Tie.Need-put-bytes-requires
+put-bytes-requires c = search needs
 
 same-length : Tie.Need-same-length
 same-length c = search needs
 
 module _ {M : Type 1} where
-  pub spec : Tie.Need-be-bytes-requires → Tie.Need-put-bytes-requires → Tie.Need-returns → Lts.Closed readings
-      Reads'.Pre Reads'.Post M
-  spec = λ a0 a1 a2. Tie.spec a0 slice-aggregate-put-bytes a1 same-length a2
+  pub spec : Tie.Need-returns → Lts.Closed readings Reads'.Pre Reads'.Post M
+  spec = λ a0. Tie.spec be-bytes-requires slice-aggregate-put-bytes put-bytes-requires same-length a0

@@ -27,13 +27,19 @@ returns c = record {
   out = c .before .out;
 }
 
+be-bytes-requires : Tie.Need-be-bytes-requires
+be-bytes-requires c = search needs
+
 slice-aggregate-put-padded-as-words : Tie.Need-slice-aggregate-put-padded-as-words
 slice-aggregate-put-padded-as-words c = search needs
+
+put-padded-as-words-requires : Tie.Need-put-padded-as-words-requires
+put-padded-as-words-requires c = search needs
 
 same-length : Tie.Need-same-length
 same-length c = search needs
 
 module _ {M : Type 1} where
-  pub spec : Tie.Need-be-bytes-requires → Tie.Need-put-padded-as-words-requires → Tie.Need-returns → Lts.Closed
-      readings Reads'.Pre Reads'.Post M
-  spec = λ a0 a1 a2. Tie.spec a0 slice-aggregate-put-padded-as-words a1 same-length a2
+  pub spec : Tie.Need-returns → Lts.Closed readings Reads'.Pre Reads'.Post M
+  spec = λ a0. Tie.spec be-bytes-requires slice-aggregate-put-padded-as-words put-padded-as-words-requires same-length
+      a0

@@ -5,6 +5,7 @@ use Rattle.hnsr_body.proofs.accept_body.AcceptBody.encode.Tie
 use Rattle.hnsr_body.proofs.accept_body.AcceptBody.is_valid.Reads as Reads'
 use Rattle.hnsr_body.proofs.accept_body.AcceptBody.put.Reads as Reads''
 use Rattle.hnsr_body.proofs.layout.answered.Reads as Reads'''
+use borrow.Author.Needs.{needs}
 
 abbrev readings : Lts.Claims
 readings = (Reads'.Asked, Reads'.Learnt, Reads'''.Asked, Reads'''.Learnt, Reads''.Asked, Reads''.Learnt)
@@ -43,3 +44,19 @@ returns-2 c = record {
   answered = c .before .answered;
   if1 = c .if1;
 }
+
+is-valid-requires : Tie.Need-is-valid-requires
+is-valid-requires c = search needs
+
+answered-requires : Tie.Need-answered-requires
+answered-requires c = search needs
+
+slice-aggregate-put : Tie.Need-slice-aggregate-put
+slice-aggregate-put c = search needs
+
+put-requires : Tie.Need-put-requires
+put-requires c = search needs
+
+module _ {M : Type 1} where
+  pub spec : Tie.Need-returns → Tie.Need-returns-2 → Lts.Closed readings Reads.Pre Reads.Post M
+  spec = λ a0 a1. Tie.spec is-valid-requires answered-requires slice-aggregate-put put-requires a0 a1

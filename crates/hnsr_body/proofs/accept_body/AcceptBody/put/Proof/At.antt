@@ -31,13 +31,18 @@ returns c = record {
   out2 = c .before .out2;
 }
 
+put-u32-at-requires : Tie.Need-put-u32-at-requires
+put-u32-at-requires c = search needs
+
 slice-aggregate-put-bytes-at : Tie.Need-slice-aggregate-put-bytes-at
 slice-aggregate-put-bytes-at c = search needs
+
+put-bytes-at-requires : Tie.Need-put-bytes-at-requires
+put-bytes-at-requires c = search needs
 
 same-length : Tie.Need-same-length
 same-length c = search needs
 
 module _ {M : Type 1} where
-  pub spec : Tie.Need-put-u32-at-requires → Tie.Need-put-bytes-at-requires → Tie.Need-returns → Lts.Closed readings
-      Reads.Pre Reads.Post M
-  spec = λ a0 a1 a2. Tie.spec a0 slice-aggregate-put-bytes-at a1 same-length a2
+  pub spec : Tie.Need-returns → Lts.Closed readings Reads.Pre Reads.Post M
+  spec = λ a0. Tie.spec put-u32-at-requires slice-aggregate-put-bytes-at put-bytes-at-requires same-length a0

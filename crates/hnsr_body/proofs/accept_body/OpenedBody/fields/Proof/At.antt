@@ -7,6 +7,7 @@ use Rattle.hnsr_body.proofs.fields.next_u32.Reads as Reads''
 use Rattle.hnsr_body.proofs.fields.next_u64_be.Reads as Reads'''
 use Rattle.hnsr_body.proofs.fields.start.Reads as Reads''''
 use Rattle.hnsr_body.proofs.layout.finish.Reads as Reads'''''
+use borrow.Author.Needs.{needs}
 
 abbrev readings : Lts.Claims
 readings = (
@@ -41,3 +42,22 @@ returns c = record {
   endpoint-nonce = c .before .endpoint-nonce;
   finish = c .finish;
 }
+
+start-requires : Tie.Need-start-requires
+start-requires c = search needs
+
+next-u64-be-requires : Tie.Need-next-u64-be-requires
+next-u64-be-requires c = search needs
+
+next-u32-requires : Tie.Need-next-u32-requires
+next-u32-requires c = search needs
+
+next-array-16-requires : Tie.Need-next-array-16-requires
+next-array-16-requires c = search needs
+
+finish-requires : Tie.Need-finish-requires
+finish-requires c = search needs
+
+module _ {M : Type 1} where
+  pub spec : Tie.Need-returns → Lts.Closed readings Reads.Pre Reads.Post M
+  spec = λ a0. Tie.spec start-requires next-u64-be-requires next-u32-requires next-array-16-requires finish-requires a0

@@ -5,6 +5,7 @@ use Rattle.hnsr_body.proofs.data_body.WindowBody.fields.Tie
 use Rattle.hnsr_body.proofs.fields.next_u32.Reads as Reads'
 use Rattle.hnsr_body.proofs.fields.start.Reads as Reads''
 use Rattle.hnsr_body.proofs.layout.finish.Reads as Reads'''
+use borrow.Author.Needs.{needs}
 
 abbrev readings : Lts.Claims
 readings = (Reads''.Asked, Reads''.Learnt, Reads'.Asked, Reads'.Learnt, Reads'''.Asked, Reads'''.Learnt)
@@ -22,3 +23,16 @@ returns c = record {
   next-u32 = c .before .next-u32;
   finish = c .finish;
 }
+
+start-requires : Tie.Need-start-requires
+start-requires c = search needs
+
+next-u32-requires : Tie.Need-next-u32-requires
+next-u32-requires c = search needs
+
+finish-requires : Tie.Need-finish-requires
+finish-requires c = search needs
+
+module _ {M : Type 1} where
+  pub spec : Tie.Need-returns → Lts.Closed readings Reads.Pre Reads.Post M
+  spec = λ a0. Tie.spec start-requires next-u32-requires finish-requires a0

@@ -3,6 +3,7 @@ use Rattle.hnsr_body.proofs.data_body.WindowBody.put.Lts
 use Rattle.hnsr_body.proofs.data_body.WindowBody.put.Reads
 use Rattle.hnsr_body.proofs.data_body.WindowBody.put.Tie
 use Rattle.hnsr_body.proofs.fields.put_u32_at.Reads as Reads'
+use borrow.Author.Needs.{needs}
 
 abbrev readings : Lts.Claims
 readings = (Reads'.Asked, Reads'.Learnt)
@@ -18,3 +19,13 @@ returns c = record {
   put-u32-at = c .before .before .put-u32-at;
   out = c .before .out;
 }
+
+put-u32-at-requires : Tie.Need-put-u32-at-requires
+put-u32-at-requires c = search needs
+
+same-length : Tie.Need-same-length
+same-length c = search needs
+
+module _ {M : Type 1} where
+  pub spec : Tie.Need-returns → Lts.Closed readings Reads.Pre Reads.Post M
+  spec = λ a0. Tie.spec put-u32-at-requires same-length a0

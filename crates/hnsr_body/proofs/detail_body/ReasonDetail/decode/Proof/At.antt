@@ -8,6 +8,7 @@ use Rattle.hnsr_body.proofs.detail_body.ReasonDetail.is_length.Reads as
 use Rattle.hnsr_body.proofs.fields.rest.Reads as Reads''''
 use Rattle.hnsr_body.proofs.layout.answered.Reads as Reads'''''
 use Rattle.hnsr_body.proofs.utf8.is_utf8.Reads as Reads''''''
+use borrow.Author.Needs.{needs}
 
 abbrev readings : Lts.Claims
 readings = (
@@ -50,3 +51,29 @@ returns c = record {
   is-utf8 = c .before .is-utf8;
   answered2 = c .answered2;
 }
+
+head-requires : Tie.Need-head-requires
+head-requires c = search needs
+
+rest-requires : Tie.Need-rest-requires
+rest-requires c = search needs
+
+headed-requires : Tie.Need-headed-requires
+headed-requires c = search needs
+
+is-length-requires : Tie.Need-is-length-requires
+is-length-requires c = search needs
+
+answered-requires : Tie.Need-answered-requires
+answered-requires c = search needs
+
+is-utf8-requires : Tie.Need-is-utf8-requires
+is-utf8-requires c = search needs
+
+answered-requires-2 : Tie.Need-answered-requires-2
+answered-requires-2 c = search needs
+
+module _ {M : Type 1} where
+  pub spec : Tie.Need-returns → Lts.Closed readings Reads.Pre Reads.Post M
+  spec = λ a0. Tie.spec head-requires rest-requires headed-requires is-length-requires answered-requires
+      is-utf8-requires answered-requires-2 a0

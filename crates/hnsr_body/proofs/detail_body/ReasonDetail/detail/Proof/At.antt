@@ -4,6 +4,7 @@ use Rattle.hnsr_body.proofs.detail_body.ReasonDetail.detail.Reads
 use Rattle.hnsr_body.proofs.detail_body.ReasonDetail.detail.Tie
 use Rattle.hnsr_body.proofs.detail_body.ReasonDetail.head.Reads as Reads'
 use Rattle.hnsr_body.proofs.fields.rest.Reads as Reads''
+use borrow.Author.Needs.{needs}
 
 abbrev readings : Lts.Claims
 readings = (Reads'.Asked, Reads'.Learnt, Reads''.Asked, Reads''.Learnt)
@@ -15,3 +16,13 @@ pub record Returns (c : Tie.After-rest) : Type 0 where
 
 abbrev pub returns : (c : Tie.After-rest) → Returns c
 returns c = record { start = c .before .before .before; head = c .before .head; rest = c .rest }
+
+head-requires : Tie.Need-head-requires
+head-requires c = search needs
+
+rest-requires : Tie.Need-rest-requires
+rest-requires c = search needs
+
+module _ {M : Type 1} where
+  pub spec : Tie.Need-returns → Lts.Closed readings Reads.Pre Reads.Post M
+  spec = λ a0. Tie.spec head-requires rest-requires a0

@@ -50,13 +50,18 @@ returns-3 c = record {
   if2 = c .if2;
 }
 
+is-utf8-requires : Tie.Need-is-utf8-requires
+is-utf8-requires c = search needs
+
 slice-aggregate-put : Tie.Need-slice-aggregate-put
 slice-aggregate-put c = search needs
+
+put-requires : Tie.Need-put-requires
+put-requires c = search needs
 
 add-t15 : Tie.Need-add-t15
 add-t15 c = search needs
 
 module _ {M : Type 1} where
-  pub spec : Tie.Need-returns → Tie.Need-is-utf8-requires → Tie.Need-put-requires → Tie.Need-returns-2 →
-      Tie.Need-returns-3 → Lts.Closed readings Reads.Pre Reads.Post M
-  spec = λ a0 a1 a2 a3 a4. Tie.spec a0 a1 slice-aggregate-put a2 add-t15 a3 a4
+  pub spec : Tie.Need-returns → Tie.Need-returns-2 → Tie.Need-returns-3 → Lts.Closed readings Reads.Pre Reads.Post M
+  spec = λ a0 a1 a2. Tie.spec a0 is-utf8-requires slice-aggregate-put put-requires add-t15 a1 a2

@@ -5,6 +5,7 @@ use Rattle.hnsr_body.proofs.detail_body.ReasonDetail.head.Tie
 use Rattle.hnsr_body.proofs.fields.next_u16.Reads as Reads'
 use Rattle.hnsr_body.proofs.fields.next_u8.Reads as Reads''
 use Rattle.hnsr_body.proofs.fields.start.Reads as Reads'''
+use borrow.Author.Needs.{needs}
 
 abbrev readings : Lts.Claims
 readings = (Reads'''.Asked, Reads'''.Learnt, Reads'.Asked, Reads'.Learnt, Reads''.Asked, Reads''.Learnt)
@@ -24,3 +25,19 @@ returns c = record {
   next-u8 = c .before .next-u8;
   struct-known = c .struct-known;
 }
+
+start-requires : Tie.Need-start-requires
+start-requires c = search needs
+
+next-u16-requires : Tie.Need-next-u16-requires
+next-u16-requires c = search needs
+
+next-u8-requires : Tie.Need-next-u8-requires
+next-u8-requires c = search needs
+
+cast-t7 : Tie.Need-cast-t7
+cast-t7 c = search needs
+
+module _ {M : Type 1} where
+  pub spec : Tie.Need-returns → Lts.Closed readings Reads.Pre Reads.Post M
+  spec = λ a0. Tie.spec start-requires next-u16-requires next-u8-requires cast-t7 a0

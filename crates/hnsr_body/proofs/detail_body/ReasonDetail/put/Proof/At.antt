@@ -34,13 +34,21 @@ returns c = record {
   out3 = c .before .out3;
 }
 
+put-u16-at-requires : Tie.Need-put-u16-at-requires
+put-u16-at-requires c = search needs
+
 cast-put-u8-at : Tie.Need-cast-put-u8-at
 cast-put-u8-at c = search needs
+
+put-u8-at-requires : Tie.Need-put-u8-at-requires
+put-u8-at-requires c = search needs
+
+put-bytes-at-requires : Tie.Need-put-bytes-at-requires
+put-bytes-at-requires c = search needs
 
 same-length : Tie.Need-same-length
 same-length c = search needs
 
 module _ {M : Type 1} where
-  pub spec : Tie.Need-put-u16-at-requires → Tie.Need-put-u8-at-requires → Tie.Need-put-bytes-at-requires →
-      Tie.Need-returns → Lts.Closed readings Reads.Pre Reads.Post M
-  spec = λ a0 a1 a2 a3. Tie.spec a0 cast-put-u8-at a1 a2 same-length a3
+  pub spec : Tie.Need-returns → Lts.Closed readings Reads.Pre Reads.Post M
+  spec = λ a0. Tie.spec put-u16-at-requires cast-put-u8-at put-u8-at-requires put-bytes-at-requires same-length a0

@@ -3,6 +3,7 @@ use Rattle.hns_encoding.proofs.numbers.saturating_add_usize.Reads
 use Rattle.hnsr_body.proofs.envelope.HnsrPacket.validate.Lts
 use Rattle.hnsr_body.proofs.envelope.HnsrPacket.validate.Reads as Reads'
 use Rattle.hnsr_body.proofs.envelope.HnsrPacket.validate.Tie
+use borrow.Author.Needs.{needs}
 
 abbrev readings : Lts.Claims
 readings = (Reads.Asked, Reads.Learnt)
@@ -73,3 +74,11 @@ returns-4 c = record {
   struct-known2 = c .before .struct-known2;
   if3 = c .if3;
 }
+
+saturating-add-usize-requires : Tie.Need-saturating-add-usize-requires
+saturating-add-usize-requires c = search needs
+
+module _ {M : Type 1} where
+  pub spec : Tie.Need-returns → Tie.Need-returns-2 → Tie.Need-returns-3 → Tie.Need-returns-4 → Lts.Closed readings
+      Reads'.Pre Reads'.Post M
+  spec = λ a0 a1 a2 a3. Tie.spec saturating-add-usize-requires a0 a1 a2 a3

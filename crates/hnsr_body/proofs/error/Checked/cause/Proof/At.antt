@@ -30,7 +30,9 @@ enum-told c = search needs
 enum-known-self : Tie.Need-enum-known-self
 enum-known-self c = search needs
 
+error-cause-requires : Tie.Need-error-cause-requires
+error-cause-requires c = search needs
+
 module _ {M : Type 1} where
-  pub spec : Tie.Need-error-cause-requires → Tie.Need-returns → Tie.Need-returns-2 → Lts.Closed readings Reads.Pre
-      Reads.Post M
-  spec = λ a0 a1 a2. Tie.spec enum-told enum-known-self a0 a1 a2
+  pub spec : Tie.Need-returns → Tie.Need-returns-2 → Lts.Closed readings Reads.Pre Reads.Post M
+  spec = λ a0 a1. Tie.spec enum-told enum-known-self error-cause-requires a0 a1

@@ -9,6 +9,7 @@ use Rattle.hnsr_body.proofs.incoming_body.IncomingBody.fields.Lts
 use Rattle.hnsr_body.proofs.incoming_body.IncomingBody.fields.Reads as Reads''''''
 use Rattle.hnsr_body.proofs.incoming_body.IncomingBody.fields.Tie
 use Rattle.hnsr_body.proofs.layout.finish.Reads as Reads'''''''
+use borrow.Author.Needs.{needs}
 
 abbrev readings : Lts.Claims
 readings = (
@@ -58,3 +59,29 @@ returns c = record {
   requester-nonce = c .before .requester-nonce;
   finish = c .finish;
 }
+
+start-requires : Tie.Need-start-requires
+start-requires c = search needs
+
+next-array-32-requires : Tie.Need-next-array-32-requires
+next-array-32-requires c = search needs
+
+next-u64-be-requires : Tie.Need-next-u64-be-requires
+next-u64-be-requires c = search needs
+
+next-u16-requires : Tie.Need-next-u16-requires
+next-u16-requires c = search needs
+
+next-array-16-requires : Tie.Need-next-array-16-requires
+next-array-16-requires c = search needs
+
+next-u32-requires : Tie.Need-next-u32-requires
+next-u32-requires c = search needs
+
+finish-requires : Tie.Need-finish-requires
+finish-requires c = search needs
+
+module _ {M : Type 1} where
+  pub spec : Tie.Need-returns → Lts.Closed readings Reads''''''.Pre Reads''''''.Post M
+  spec = λ a0. Tie.spec start-requires next-array-32-requires next-u64-be-requires next-u16-requires
+      next-array-16-requires next-u32-requires finish-requires a0

@@ -83,15 +83,28 @@ returns c = record {
 slice-aggregate-put-bytes-at : Tie.Need-slice-aggregate-put-bytes-at
 slice-aggregate-put-bytes-at c = search needs
 
+put-bytes-at-requires : Tie.Need-put-bytes-at-requires
+put-bytes-at-requires c = search needs
+
+put-u64-be-at-requires : Tie.Need-put-u64-be-at-requires
+put-u64-be-at-requires c = search needs
+
+put-u16-at-requires : Tie.Need-put-u16-at-requires
+put-u16-at-requires c = search needs
+
 slice-aggregate-put-bytes-at-2 : Tie.Need-slice-aggregate-put-bytes-at-2
 slice-aggregate-put-bytes-at-2 c = search needs
+
+put-bytes-at-requires-2 : Tie.Need-put-bytes-at-requires-2
+put-bytes-at-requires-2 c = search needs
+
+put-u32-at-requires : Tie.Need-put-u32-at-requires
+put-u32-at-requires c = search needs
 
 same-length : Tie.Need-same-length
 same-length c = search needs
 
 module _ {M : Type 1} where
-  pub spec : Tie.Need-put-bytes-at-requires → Tie.Need-put-u64-be-at-requires → Tie.Need-put-u16-at-requires →
-      Tie.Need-put-bytes-at-requires-2 → Tie.Need-put-u32-at-requires → Tie.Need-returns → Lts.Closed readings
-      Reads''''.Pre Reads''''.Post M
-  spec = λ a0 a1 a2 a3 a4 a5. Tie.spec slice-aggregate-put-bytes-at a0 a1 a2 slice-aggregate-put-bytes-at-2 a3 a4
-      same-length a5
+  pub spec : Tie.Need-returns → Lts.Closed readings Reads''''.Pre Reads''''.Post M
+  spec = λ a0. Tie.spec slice-aggregate-put-bytes-at put-bytes-at-requires put-u64-be-at-requires put-u16-at-requires
+      slice-aggregate-put-bytes-at-2 put-bytes-at-requires-2 put-u32-at-requires same-length a0

@@ -62,17 +62,29 @@ returns c = record {
   struct-known = c .struct-known;
 }
 
+message-requires : Tie.Need-message-requires
+message-requires c = search needs
+
 slice-aggregate-put-u16-at : Tie.Need-slice-aggregate-put-u16-at
 slice-aggregate-put-u16-at c = search needs
 
+put-u16-at-requires : Tie.Need-put-u16-at-requires
+put-u16-at-requires c = search needs
+
 slice-aggregate-put-u8-at : Tie.Need-slice-aggregate-put-u8-at
 slice-aggregate-put-u8-at c = search needs
+
+put-u8-at-requires : Tie.Need-put-u8-at-requires
+put-u8-at-requires c = search needs
 
 slice-aggregate-put-bytes-at : Tie.Need-slice-aggregate-put-bytes-at
 slice-aggregate-put-bytes-at c = search needs
 
 slice-aggregate-put-bytes-at-2 : Tie.Need-slice-aggregate-put-bytes-at-2
 slice-aggregate-put-bytes-at-2 c = search needs
+
+put-bytes-at-requires : Tie.Need-put-bytes-at-requires
+put-bytes-at-requires c = search needs
 
 cast-t14 : Tie.Need-cast-t14
 cast-t14 c = search needs
@@ -81,7 +93,7 @@ add-t15 : Tie.Need-add-t15
 add-t15 c = search needs
 
 module _ {M : Type 1} where
-  pub spec : Tie.Need-message-requires → Tie.Need-put-u16-at-requires → Tie.Need-put-u8-at-requires →
-      Tie.Need-put-bytes-at-requires → Tie.Need-returns → Lts.Closed readings Reads'''.Pre Reads'''.Post M
-  spec = λ a0 a1 a2 a3 a4. Tie.spec a0 slice-aggregate-put-u16-at a1 slice-aggregate-put-u8-at a2
-      slice-aggregate-put-bytes-at slice-aggregate-put-bytes-at-2 a3 cast-t14 add-t15 a4
+  pub spec : Tie.Need-returns → Lts.Closed readings Reads'''.Pre Reads'''.Post M
+  spec = λ a0. Tie.spec message-requires slice-aggregate-put-u16-at put-u16-at-requires slice-aggregate-put-u8-at
+      put-u8-at-requires slice-aggregate-put-bytes-at slice-aggregate-put-bytes-at-2 put-bytes-at-requires cast-t14
+      add-t15 a0

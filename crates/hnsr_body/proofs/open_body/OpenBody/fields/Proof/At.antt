@@ -10,6 +10,7 @@ use Rattle.hnsr_body.proofs.open_body.OpenBody.fields.Lts
 use Rattle.hnsr_body.proofs.open_body.OpenBody.fields.Reads as Reads'''''''
 use Rattle.hnsr_body.proofs.open_body.OpenBody.fields.Tie
 use Rattle.hnsr_body.proofs.values.reservation_of.Reads as Reads''''''''
+use borrow.Author.Needs.{needs}
 
 abbrev readings : Lts.Claims
 readings = (
@@ -77,3 +78,35 @@ returns c = record {
   finish = c .before .finish;
   reservation-of = c .reservation-of;
 }
+
+start-requires : Tie.Need-start-requires
+start-requires c = search needs
+
+next-array-32-requires : Tie.Need-next-array-32-requires
+next-array-32-requires c = search needs
+
+next-array-16-requires : Tie.Need-next-array-16-requires
+next-array-16-requires c = search needs
+
+next-array-33-requires : Tie.Need-next-array-33-requires
+next-array-33-requires c = search needs
+
+next-u16-requires : Tie.Need-next-u16-requires
+next-u16-requires c = search needs
+
+next-array-16-requires-2 : Tie.Need-next-array-16-requires-2
+next-array-16-requires-2 c = search needs
+
+next-u32-requires : Tie.Need-next-u32-requires
+next-u32-requires c = search needs
+
+finish-requires : Tie.Need-finish-requires
+finish-requires c = search needs
+
+reservation-of-requires : Tie.Need-reservation-of-requires
+reservation-of-requires c = search needs
+
+module _ {M : Type 1} where
+  pub spec : Tie.Need-returns → Lts.Closed readings Reads'''''''.Pre Reads'''''''.Post M
+  spec = λ a0. Tie.spec start-requires next-array-32-requires next-array-16-requires next-array-33-requires
+      next-u16-requires next-array-16-requires-2 next-u32-requires finish-requires reservation-of-requires a0

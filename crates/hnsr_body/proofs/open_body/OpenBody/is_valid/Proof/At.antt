@@ -26,16 +26,44 @@ readings = (
 slice-aggregate-is-some : Tie.Need-slice-aggregate-is-some
 slice-aggregate-is-some c = search needs
 
+is-some-requires : Tie.Need-is-some-requires
+is-some-requires c = search needs
+
+is-some-requires-2 : Tie.Need-is-some-requires-2
+is-some-requires-2 c = search needs
+
+both-requires : Tie.Need-both-requires
+both-requires c = search needs
+
+both-requires-2 : Tie.Need-both-requires-2
+both-requires-2 c = search needs
+
 cast-is-nonzero : Tie.Need-cast-is-nonzero
 cast-is-nonzero c = search needs
+
+is-nonzero-requires : Tie.Need-is-nonzero-requires
+is-nonzero-requires c = search needs
+
+both-requires-3 : Tie.Need-both-requires-3
+both-requires-3 c = search needs
 
 slice-aggregate-is-some-2 : Tie.Need-slice-aggregate-is-some-2
 slice-aggregate-is-some-2 c = search needs
 
+is-some-requires-3 : Tie.Need-is-some-requires-3
+is-some-requires-3 c = search needs
+
+both-requires-4 : Tie.Need-both-requires-4
+both-requires-4 c = search needs
+
+is-window-requires : Tie.Need-is-window-requires
+is-window-requires c = search needs
+
+both-requires-5 : Tie.Need-both-requires-5
+both-requires-5 c = search needs
+
 module _ {M : Type 1} where
-  pub spec : Tie.Need-is-some-requires → Tie.Need-is-some-requires-2 → Tie.Need-both-requires →
-      Tie.Need-both-requires-2 → Tie.Need-is-nonzero-requires → Tie.Need-both-requires-3 → Tie.Need-is-some-requires-3
-      → Tie.Need-both-requires-4 → Tie.Need-is-window-requires → Tie.Need-both-requires-5 → Tie.Need-returns →
-      Lts.Closed readings Reads'.Pre Reads'.Post M
-  spec = λ a0 a1 a2 a3 a4 a5 a6 a7 a8 a9 a10. Tie.spec slice-aggregate-is-some a0 a1 a2 a3 cast-is-nonzero a4 a5
-      slice-aggregate-is-some-2 a6 a7 a8 a9 a10
+  pub spec : Tie.Need-returns → Lts.Closed readings Reads'.Pre Reads'.Post M
+  spec = λ a0. Tie.spec slice-aggregate-is-some is-some-requires is-some-requires-2 both-requires both-requires-2
+      cast-is-nonzero is-nonzero-requires both-requires-3 slice-aggregate-is-some-2 is-some-requires-3 both-requires-4
+      is-window-requires both-requires-5 a0

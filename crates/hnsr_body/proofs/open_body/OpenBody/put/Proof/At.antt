@@ -207,19 +207,39 @@ returns c = record {
 slice-aggregate-put-bytes-at : Tie.Need-slice-aggregate-put-bytes-at
 slice-aggregate-put-bytes-at c = search needs
 
+put-bytes-at-requires : Tie.Need-put-bytes-at-requires
+put-bytes-at-requires c = search needs
+
+put-u64-be-at-requires : Tie.Need-put-u64-be-at-requires
+put-u64-be-at-requires c = search needs
+
 add-put-u64-be-at : Tie.Need-add-put-u64-be-at
 add-put-u64-be-at c = search needs
 
+put-u64-be-at-requires-2 : Tie.Need-put-u64-be-at-requires-2
+put-u64-be-at-requires-2 c = search needs
+
 slice-aggregate-put-bytes-at-2 : Tie.Need-slice-aggregate-put-bytes-at-2
 slice-aggregate-put-bytes-at-2 c = search needs
+
+put-bytes-at-requires-2 : Tie.Need-put-bytes-at-requires-2
+put-bytes-at-requires-2 c = search needs
+
+put-u16-at-requires : Tie.Need-put-u16-at-requires
+put-u16-at-requires c = search needs
+
+put-bytes-at-requires-3 : Tie.Need-put-bytes-at-requires-3
+put-bytes-at-requires-3 c = search needs
+
+put-u32-at-requires : Tie.Need-put-u32-at-requires
+put-u32-at-requires c = search needs
 
 same-length : Tie.Need-same-length
 same-length c = search needs
 
 module _ {M : Type 1} where
-  pub spec : Tie.Need-put-bytes-at-requires → Tie.Need-put-u64-be-at-requires → Tie.Need-put-u64-be-at-requires-2 →
-      Tie.Need-put-bytes-at-requires-2 → Tie.Need-put-u16-at-requires → Tie.Need-slice-aggregate-put-bytes-at-3 →
-      Tie.Need-put-bytes-at-requires-3 → Tie.Need-put-u32-at-requires → Tie.Need-returns → Lts.Closed readings
-      Reads''''.Pre Reads''''.Post M
-  spec = λ a0 a1 a2 a3 a4 a5 a6 a7 a8. Tie.spec slice-aggregate-put-bytes-at a0 a1 add-put-u64-be-at a2
-      slice-aggregate-put-bytes-at-2 a3 a4 a5 a6 a7 same-length a8
+  pub spec : Tie.Need-slice-aggregate-put-bytes-at-3 → Tie.Need-returns → Lts.Closed readings Reads''''.Pre
+      Reads''''.Post M
+  spec = λ a0 a1. Tie.spec slice-aggregate-put-bytes-at put-bytes-at-requires put-u64-be-at-requires add-put-u64-be-at
+      put-u64-be-at-requires-2 slice-aggregate-put-bytes-at-2 put-bytes-at-requires-2 put-u16-at-requires a0
+      put-bytes-at-requires-3 put-u32-at-requires same-length a1

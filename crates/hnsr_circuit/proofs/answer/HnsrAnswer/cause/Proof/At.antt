@@ -28,10 +28,15 @@ returns-2 c = record {
 enum-told : Tie.Need-enum-told
 enum-told c = search needs
 
+no-cause-requires : Tie.Need-no-cause-requires
+no-cause-requires c = search needs
+
 enum-known-self : Tie.Need-enum-known-self
 enum-known-self c = search needs
 
+error-cause-requires : Tie.Need-error-cause-requires
+error-cause-requires c = search needs
+
 module _ {M : Type 1} where
-  pub spec : Tie.Need-no-cause-requires → Tie.Need-error-cause-requires → Tie.Need-returns → Tie.Need-returns-2 →
-      Lts.Closed readings Reads.Pre Reads.Post M
-  spec = λ a0 a1 a2 a3. Tie.spec enum-told a0 enum-known-self a1 a2 a3
+  pub spec : Tie.Need-returns → Tie.Need-returns-2 → Lts.Closed readings Reads.Pre Reads.Post M
+  spec = λ a0 a1. Tie.spec enum-told no-cause-requires enum-known-self error-cause-requires a0 a1

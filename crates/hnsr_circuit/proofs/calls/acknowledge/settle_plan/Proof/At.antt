@@ -7,6 +7,7 @@ use Rattle.hnsr_circuit.proofs.calls.acknowledge.settle_plan.Tie
 use Rattle.hnsr_circuit.proofs.calls.acknowledge.settlement_for.Reads as Reads'''
 use Rattle.hnsr_circuit.proofs.records.inflight.kind_of.Reads as Reads''''
 use Rattle.hnsr_circuit.proofs.records.inflight.toward_side.Reads as Reads'''''
+use borrow.Author.Needs.{needs}
 
 abbrev readings : Lts.Claims
 readings = (
@@ -46,3 +47,26 @@ returns c = record {
   both = c .before .both;
   both2 = c .both2;
 }
+
+kind-of-requires : Tie.Need-kind-of-requires
+kind-of-requires c = search needs
+
+settlement-for-requires : Tie.Need-settlement-for-requires
+settlement-for-requires c = search needs
+
+no-requires : Tie.Need-no-requires
+no-requires c = search needs
+
+toward-side-requires : Tie.Need-toward-side-requires
+toward-side-requires c = search needs
+
+both-requires : Tie.Need-both-requires
+both-requires c = search needs
+
+both-requires-2 : Tie.Need-both-requires-2
+both-requires-2 c = search needs
+
+module _ {M : Type 1} where
+  pub spec : Tie.Need-returns → Lts.Closed readings Reads''.Pre Reads''.Post M
+  spec = λ a0. Tie.spec kind-of-requires settlement-for-requires no-requires toward-side-requires both-requires
+      both-requires-2 a0

@@ -172,6 +172,12 @@ returns-6 c = record {
   unexpected = c .unexpected;
 }
 
+handle-open-requires : Tie.Need-handle-open-requires
+handle-open-requires c = search needs
+
+handle-accept-requires : Tie.Need-handle-accept-requires
+handle-accept-requires c = search needs
+
 unexpected-requires : Tie.Need-unexpected-requires
 unexpected-requires c = search needs
 
@@ -236,11 +242,10 @@ same-length-20 : Tie.Need-same-length-20
 same-length-20 c = search needs
 
 module _ {M : Type 1} where
-  pub spec : Tie.Need-handle-open-requires → Tie.Need-handle-accept-requires → Tie.Need-handle-data-requires →
-      Tie.Need-handle-window-requires → Tie.Need-handle-close-requires → Tie.Need-returns → Tie.Need-returns-2 →
-      Tie.Need-returns-3 → Tie.Need-returns-4 → Tie.Need-returns-5 → Tie.Need-returns-6 → Lts.Closed Tie.readings
-      Reads.Pre Reads.Post M
-  spec = λ a0 a1 a2 a3 a4 a5 a6 a7 a8 a9 a10. Tie.spec a0 a1 a2 a3 a4 unexpected-requires same-length same-length-2
-      same-length-3 same-length-4 same-length-5 a5 same-length-6 same-length-7 same-length-8 same-length-9 a6
-      same-length-10 same-length-11 same-length-12 same-length-13 a7 same-length-14 same-length-15 same-length-16 a8
-      same-length-17 same-length-18 same-length-19 same-length-20 a9 a10
+  pub spec : Tie.Need-handle-data-requires → Tie.Need-handle-window-requires → Tie.Need-handle-close-requires →
+      Tie.Need-returns → Tie.Need-returns-2 → Tie.Need-returns-3 → Tie.Need-returns-4 → Tie.Need-returns-5 →
+      Tie.Need-returns-6 → Lts.Closed Tie.readings Reads.Pre Reads.Post M
+  spec = λ a0 a1 a2 a3 a4 a5 a6 a7 a8. Tie.spec handle-open-requires handle-accept-requires a0 a1 a2
+      unexpected-requires same-length same-length-2 same-length-3 same-length-4 same-length-5 a3 same-length-6
+      same-length-7 same-length-8 same-length-9 a4 same-length-10 same-length-11 same-length-12 same-length-13 a5
+      same-length-14 same-length-15 same-length-16 a6 same-length-17 same-length-18 same-length-19 same-length-20 a7 a8

@@ -4,6 +4,7 @@ use Rattle.hnsr_circuit.proofs.calls.revocation.error_to_requester.Read
 use Rattle.hnsr_circuit.proofs.calls.revocation.first_message.Lts
 use Rattle.hnsr_circuit.proofs.calls.revocation.first_message.Reads as Reads''
 use Rattle.hnsr_circuit.proofs.calls.revocation.first_message.Tie
+use borrow.Author.Needs.{needs}
 
 abbrev readings : Lts.Claims
 readings = (Reads.Asked, Reads.Learnt, Reads'.Asked, Reads'.Learnt)
@@ -23,3 +24,13 @@ returns c = record {
   error-to-requester = c .before .error-to-requester;
   if1 = c .if1;
 }
+
+close-to-other-requires : Tie.Need-close-to-other-requires
+close-to-other-requires c = search needs
+
+error-to-requester-requires : Tie.Need-error-to-requester-requires
+error-to-requester-requires c = search needs
+
+module _ {M : Type 1} where
+  pub spec : Tie.Need-returns → Tie.Need-returns-2 → Lts.Closed readings Reads''.Pre Reads''.Post M
+  spec = λ a0 a1. Tie.spec close-to-other-requires error-to-requester-requires a0 a1

@@ -3,6 +3,7 @@ use Rattle.hns_encoding.proofs.logic.no.Reads
 use Rattle.hnsr_circuit.proofs.calls.revoking.changed.Lts
 use Rattle.hnsr_circuit.proofs.calls.revoking.changed.Reads as Reads'
 use Rattle.hnsr_circuit.proofs.calls.revoking.changed.Tie
+use borrow.Author.Needs.{needs}
 
 abbrev readings : Lts.Claims
 readings = (Reads.Asked, Reads.Learnt)
@@ -14,3 +15,10 @@ pub record Returns (c : Tie.After-no) : Type 0 where
 
 abbrev pub returns : (c : Tie.After-no) → Returns c
 returns c = record { start = c .before .before; if1 = c .before .if1; no = c .no }
+
+no-requires : Tie.Need-no-requires
+no-requires c = search needs
+
+module _ {M : Type 1} where
+  pub spec : Tie.Need-returns → Tie.Need-returns-2 → Lts.Closed readings Reads'.Pre Reads'.Post M
+  spec = λ a0 a1. Tie.spec no-requires a0 a1

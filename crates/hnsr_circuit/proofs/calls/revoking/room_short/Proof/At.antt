@@ -3,6 +3,7 @@ use Rattle.hns_encoding.proofs.numbers.saturating_add_usize.Reads
 use Rattle.hnsr_circuit.proofs.calls.revoking.room_short.Lts
 use Rattle.hnsr_circuit.proofs.calls.revoking.room_short.Reads as Reads'
 use Rattle.hnsr_circuit.proofs.calls.revoking.room_short.Tie
+use borrow.Author.Needs.{needs}
 
 abbrev readings : Lts.Claims
 readings = (Reads.Asked, Reads.Learnt)
@@ -13,3 +14,10 @@ pub record Returns (c : Tie.After-saturating-add-usize) : Type 0 where
 
 abbrev pub returns : (c : Tie.After-saturating-add-usize) → Returns c
 returns c = record { start = c .before; saturating-add-usize = c .saturating-add-usize }
+
+saturating-add-usize-requires : Tie.Need-saturating-add-usize-requires
+saturating-add-usize-requires c = search needs
+
+module _ {M : Type 1} where
+  pub spec : Tie.Need-returns → Lts.Closed readings Reads'.Pre Reads'.Post M
+  spec = λ a0. Tie.spec saturating-add-usize-requires a0

@@ -7,6 +7,7 @@ use Rattle.hnsr_circuit.proofs.calls.silent.new_answer.Reads as Reads''
 use Rattle.hnsr_circuit.proofs.calls.silent.new_answer.Tie
 use Rattle.hnsr_circuit.proofs.calls.silent.session_answer.Reads as Reads''''
 use Rattle.hnsr_circuit.proofs.config.OpaqueRelayConfig.validate.Reads as Reads'''''
+use borrow.Author.Needs.{needs}
 
 abbrev readings : Lts.Claims
 readings = (
@@ -42,3 +43,26 @@ returns c = record {
   first-refusal = c .before .first-refusal;
   first-refusal2 = c .first-refusal2;
 }
+
+session-answer-requires : Tie.Need-session-answer-requires
+session-answer-requires c = search needs
+
+validate-requires : Tie.Need-validate-requires
+validate-requires c = search needs
+
+either-requires : Tie.Need-either-requires
+either-requires c = search needs
+
+check-requires : Tie.Need-check-requires
+check-requires c = search needs
+
+first-refusal-requires : Tie.Need-first-refusal-requires
+first-refusal-requires c = search needs
+
+first-refusal-requires-2 : Tie.Need-first-refusal-requires-2
+first-refusal-requires-2 c = search needs
+
+module _ {M : Type 1} where
+  pub spec : Tie.Need-returns → Lts.Closed readings Reads'''.Pre Reads'''.Post M
+  spec = λ a0. Tie.spec session-answer-requires validate-requires either-requires check-requires first-refusal-requires
+      first-refusal-requires-2 a0

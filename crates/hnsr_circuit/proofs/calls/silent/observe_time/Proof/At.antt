@@ -7,6 +7,7 @@ use Rattle.hnsr_circuit.proofs.entry.clock_answer.Reads as Reads''
 use Rattle.hnsr_circuit.proofs.records.runtime.with_clock.Reads as Reads'''
 use Rattle.hnsr_circuit.proofs.runtime.refused.Reads as Reads''''
 use Rattle.hnsr_circuit.proofs.runtime.taken_with.Reads as Reads'''''
+use borrow.Author.Needs.{needs}
 
 abbrev readings : Lts.Claims
 readings = (
@@ -59,3 +60,23 @@ returns-2 c = record {
   if1 = c .before .if1;
   refused = c .refused;
 }
+
+clock-answer-requires : Tie.Need-clock-answer-requires
+clock-answer-requires c = search needs
+
+with-clock-requires : Tie.Need-with-clock-requires
+with-clock-requires c = search needs
+
+is-taken-requires : Tie.Need-is-taken-requires
+is-taken-requires c = search needs
+
+taken-with-requires : Tie.Need-taken-with-requires
+taken-with-requires c = search needs
+
+refused-requires : Tie.Need-refused-requires
+refused-requires c = search needs
+
+module _ {M : Type 1} where
+  pub spec : Tie.Need-returns → Tie.Need-returns-2 → Lts.Closed readings Reads'.Pre Reads'.Post M
+  spec = λ a0 a1. Tie.spec clock-answer-requires with-clock-requires is-taken-requires taken-with-requires a0
+      refused-requires a1

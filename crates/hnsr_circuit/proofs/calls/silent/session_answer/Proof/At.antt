@@ -5,6 +5,7 @@ use Rattle.hnsr_circuit.proofs.answer.check.Reads as Reads''
 use Rattle.hnsr_circuit.proofs.calls.silent.session_answer.Lts
 use Rattle.hnsr_circuit.proofs.calls.silent.session_answer.Reads as Reads'''
 use Rattle.hnsr_circuit.proofs.calls.silent.session_answer.Tie
+use borrow.Author.Needs.{needs}
 
 abbrev readings : Lts.Claims
 readings = (Reads'.Asked, Reads'.Learnt, Reads.Asked, Reads.Learnt, Reads''.Asked, Reads''.Learnt)
@@ -24,3 +25,19 @@ returns c = record {
   either = c .before .either;
   check = c .check;
 }
+
+slice-aggregate-is-zero : Tie.Need-slice-aggregate-is-zero
+slice-aggregate-is-zero c = search needs
+
+is-zero-requires : Tie.Need-is-zero-requires
+is-zero-requires c = search needs
+
+either-requires : Tie.Need-either-requires
+either-requires c = search needs
+
+check-requires : Tie.Need-check-requires
+check-requires c = search needs
+
+module _ {M : Type 1} where
+  pub spec : Tie.Need-returns → Lts.Closed readings Reads'''.Pre Reads'''.Post M
+  spec = λ a0. Tie.spec slice-aggregate-is-zero is-zero-requires either-requires check-requires a0

@@ -4,6 +4,7 @@ use Rattle.hnsr_circuit.proofs.calls.silent.no_status.Reads as Reads'
 use Rattle.hnsr_circuit.proofs.calls.silent.status_told.Lts
 use Rattle.hnsr_circuit.proofs.calls.silent.status_told.Reads as Reads''
 use Rattle.hnsr_circuit.proofs.calls.silent.status_told.Tie
+use borrow.Author.Needs.{needs}
 
 abbrev readings : Lts.Claims
 readings = (Reads.Asked, Reads.Learnt, Reads'.Asked, Reads'.Learnt)
@@ -35,3 +36,13 @@ returns-2 c = record {
   no-status = c .before .no-status;
   if1 = c .if1;
 }
+
+check-requires : Tie.Need-check-requires
+check-requires c = search needs
+
+no-status-requires : Tie.Need-no-status-requires
+no-status-requires c = search needs
+
+module _ {M : Type 1} where
+  pub spec : Tie.Need-returns → Tie.Need-returns-2 → Lts.Closed readings Reads''.Pre Reads''.Post M
+  spec = λ a0 a1. Tie.spec check-requires no-status-requires a0 a1

@@ -72,18 +72,66 @@ returns c = record {
   both8 = c .both8;
 }
 
+within-requires : Tie.Need-within-requires
+within-requires c = search needs
+
+within-requires-2 : Tie.Need-within-requires-2
+within-requires-2 c = search needs
+
 cast-within : Tie.Need-cast-within
 cast-within c = search needs
 
 cast-within-2 : Tie.Need-cast-within-2
 cast-within-2 c = search needs
 
+within-requires-3 : Tie.Need-within-requires-3
+within-requires-3 c = search needs
+
+within-requires-4 : Tie.Need-within-requires-4
+within-requires-4 c = search needs
+
+within-requires-5 : Tie.Need-within-requires-5
+within-requires-5 c = search needs
+
+within-requires-6 : Tie.Need-within-requires-6
+within-requires-6 c = search needs
+
+within-requires-7 : Tie.Need-within-requires-7
+within-requires-7 c = search needs
+
+some-requires : Tie.Need-some-requires
+some-requires c = search needs
+
+within-requires-8 : Tie.Need-within-requires-8
+within-requires-8 c = search needs
+
+both-requires : Tie.Need-both-requires
+both-requires c = search needs
+
+both-requires-2 : Tie.Need-both-requires-2
+both-requires-2 c = search needs
+
+both-requires-3 : Tie.Need-both-requires-3
+both-requires-3 c = search needs
+
+both-requires-4 : Tie.Need-both-requires-4
+both-requires-4 c = search needs
+
+both-requires-5 : Tie.Need-both-requires-5
+both-requires-5 c = search needs
+
+both-requires-6 : Tie.Need-both-requires-6
+both-requires-6 c = search needs
+
+both-requires-7 : Tie.Need-both-requires-7
+both-requires-7 c = search needs
+
+both-requires-8 : Tie.Need-both-requires-8
+both-requires-8 c = search needs
+
 module _ {M : Type 1} where
-  pub spec : Tie.Need-within-requires → Tie.Need-within-requires-2 → Tie.Need-within-requires-3 →
-      Tie.Need-within-requires-4 → Tie.Need-within-requires-5 → Tie.Need-within-requires-6 → Tie.Need-within-requires-7
-      → Tie.Need-some-requires → Tie.Need-within-requires-8 → Tie.Need-both-requires → Tie.Need-both-requires-2 →
-      Tie.Need-both-requires-3 → Tie.Need-both-requires-4 → Tie.Need-both-requires-5 → Tie.Need-both-requires-6 →
-      Tie.Need-both-requires-7 → Tie.Need-both-requires-8 → Tie.Need-returns → Lts.Closed readings Reads'.Pre
-      Reads'.Post M
-  spec = λ a0 a1 a2 a3 a4 a5 a6 a7 a8 a9 a10 a11 a12 a13 a14 a15 a16 a17. Tie.spec a0 a1 cast-within cast-within-2 a2
-      a3 a4 a5 a6 a7 a8 a9 a10 a11 a12 a13 a14 a15 a16 a17
+  pub spec : Tie.Need-returns → Lts.Closed readings Reads'.Pre Reads'.Post M
+  spec = λ a0. Tie.spec within-requires within-requires-2 cast-within cast-within-2 within-requires-3 within-requires-4
+      within-requires-5 within-requires-6 within-requires-7 some-requires within-requires-8 both-requires
+      both-requires-2 both-requires-3 both-requires-4 both-requires-5 both-requires-6 both-requires-7 both-requires-8
+      a0

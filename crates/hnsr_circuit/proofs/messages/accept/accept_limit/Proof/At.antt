@@ -4,6 +4,7 @@ use Rattle.hnsr_circuit.proofs.messages.accept.accept_limit.Lts
 use Rattle.hnsr_circuit.proofs.messages.accept.accept_limit.Reads as Reads'
 use Rattle.hnsr_circuit.proofs.messages.accept.accept_limit.Tie
 use Rattle.hnsr_circuit.proofs.tables.scan.reservation_work.Reads as Reads''
+use borrow.Author.Needs.{needs}
 
 abbrev readings : Lts.Claims
 readings = (Reads''.Asked, Reads''.Learnt, Reads.Asked, Reads.Learnt)
@@ -19,3 +20,13 @@ returns c = record {
   reservation-work = c .before .reservation-work;
   accept-answer = c .accept-answer;
 }
+
+reservation-work-requires : Tie.Need-reservation-work-requires
+reservation-work-requires c = search needs
+
+accept-answer-requires : Tie.Need-accept-answer-requires
+accept-answer-requires c = search needs
+
+module _ {M : Type 1} where
+  pub spec : Tie.Need-returns → Lts.Closed readings Reads'.Pre Reads'.Post M
+  spec = λ a0. Tie.spec reservation-work-requires accept-answer-requires a0

@@ -5,6 +5,7 @@ use Rattle.hnsr_circuit.proofs.messages.close.close_answer.Lts
 use Rattle.hnsr_circuit.proofs.messages.close.close_answer.Reads as Reads''
 use Rattle.hnsr_circuit.proofs.messages.close.close_answer.Tie
 use Rattle.hnsr_circuit.proofs.messages.close.unless_pending.Reads as Reads'''
+use borrow.Author.Needs.{needs}
 
 abbrev readings : Lts.Claims
 readings = (Reads.Asked, Reads.Learnt, Reads'''.Asked, Reads'''.Learnt, Reads'.Asked, Reads'.Learnt)
@@ -22,3 +23,16 @@ returns c = record {
   unless-pending = c .before .unless-pending;
   first-refusal = c .first-refusal;
 }
+
+check-requires : Tie.Need-check-requires
+check-requires c = search needs
+
+unless-pending-requires : Tie.Need-unless-pending-requires
+unless-pending-requires c = search needs
+
+first-refusal-requires : Tie.Need-first-refusal-requires
+first-refusal-requires c = search needs
+
+module _ {M : Type 1} where
+  pub spec : Tie.Need-returns → Lts.Closed readings Reads''.Pre Reads''.Post M
+  spec = λ a0. Tie.spec check-requires unless-pending-requires first-refusal-requires a0

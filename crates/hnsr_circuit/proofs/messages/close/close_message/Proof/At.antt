@@ -4,6 +4,7 @@ use Rattle.hnsr_circuit.proofs.messages.close.close_message.Reads
 use Rattle.hnsr_circuit.proofs.messages.close.close_message.Tie
 use Rattle.hnsr_circuit.proofs.messages.close.translated_on.Reads as Reads'
 use Rattle.hnsr_circuit.proofs.messages.message.passed_on.Reads as Reads''
+use borrow.Author.Needs.{needs}
 
 abbrev readings : Lts.Claims
 readings = (Reads'.Asked, Reads'.Learnt, Reads''.Asked, Reads''.Learnt)
@@ -23,3 +24,13 @@ returns c = record {
   passed-on = c .before .passed-on;
   if1 = c .if1;
 }
+
+translated-on-requires : Tie.Need-translated-on-requires
+translated-on-requires c = search needs
+
+passed-on-requires : Tie.Need-passed-on-requires
+passed-on-requires c = search needs
+
+module _ {M : Type 1} where
+  pub spec : Tie.Need-returns → Tie.Need-returns-2 → Lts.Closed readings Reads.Pre Reads.Post M
+  spec = λ a0 a1. Tie.spec translated-on-requires passed-on-requires a0 a1

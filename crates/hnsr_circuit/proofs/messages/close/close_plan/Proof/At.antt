@@ -9,6 +9,7 @@ use Rattle.hnsr_circuit.proofs.messages.close.close_plan.Reads as Reads
 use Rattle.hnsr_circuit.proofs.messages.close.close_plan.Tie
 use Rattle.hnsr_circuit.proofs.messages.close.close_rows.Reads as Reads''''''
 use Rattle.hnsr_circuit.proofs.records.runtime.revoked.Reads as Reads'''''''
+use borrow.Author.Needs.{needs}
 
 abbrev readings : Lts.Claims
 readings = (
@@ -54,3 +55,32 @@ returns c = record {
   close-id = c .before .close-id;
   close-message = c .close-message;
 }
+
+close-rows-requires : Tie.Need-close-rows-requires
+close-rows-requires c = search needs
+
+is-taken-requires : Tie.Need-is-taken-requires
+is-taken-requires c = search needs
+
+revoked-requires : Tie.Need-revoked-requires
+revoked-requires c = search needs
+
+no-requires : Tie.Need-no-requires
+no-requires c = search needs
+
+both-requires : Tie.Need-both-requires
+both-requires c = search needs
+
+both-requires-2 : Tie.Need-both-requires-2
+both-requires-2 c = search needs
+
+close-id-requires : Tie.Need-close-id-requires
+close-id-requires c = search needs
+
+close-message-requires : Tie.Need-close-message-requires
+close-message-requires c = search needs
+
+module _ {M : Type 1} where
+  pub spec : Tie.Need-returns → Lts.Closed readings Reads'''''.Pre Reads'''''.Post M
+  spec = λ a0. Tie.spec close-rows-requires is-taken-requires revoked-requires no-requires both-requires
+      both-requires-2 close-id-requires close-message-requires a0

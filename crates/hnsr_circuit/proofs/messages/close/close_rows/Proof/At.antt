@@ -6,6 +6,7 @@ use Rattle.hnsr_circuit.proofs.messages.close.close_rows.Lts
 use Rattle.hnsr_circuit.proofs.messages.close.close_rows.Reads as Reads'''
 use Rattle.hnsr_circuit.proofs.messages.close.close_rows.Tie
 use Rattle.hnsr_circuit.proofs.messages.message.circuit_answer.Reads as Reads''''
+use borrow.Author.Needs.{needs}
 
 abbrev readings : Lts.Claims
 readings = (
@@ -36,3 +37,19 @@ returns c = record {
   close-answer = c .before .close-answer;
   first-refusal = c .first-refusal;
 }
+
+body-answer-requires : Tie.Need-body-answer-requires
+body-answer-requires c = search needs
+
+circuit-answer-requires : Tie.Need-circuit-answer-requires
+circuit-answer-requires c = search needs
+
+close-answer-requires : Tie.Need-close-answer-requires
+close-answer-requires c = search needs
+
+first-refusal-requires : Tie.Need-first-refusal-requires
+first-refusal-requires c = search needs
+
+module _ {M : Type 1} where
+  pub spec : Tie.Need-returns → Lts.Closed readings Reads'''.Pre Reads'''.Post M
+  spec = λ a0. Tie.spec body-answer-requires circuit-answer-requires close-answer-requires first-refusal-requires a0

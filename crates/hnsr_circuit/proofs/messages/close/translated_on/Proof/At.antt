@@ -4,6 +4,7 @@ use Rattle.hnsr_circuit.proofs.messages.close.translated_on.Reads
 use Rattle.hnsr_circuit.proofs.messages.close.translated_on.Tie
 use Rattle.hnsr_circuit.proofs.messages.message.closing.Reads as Reads'
 use Rattle.hnsr_circuit.proofs.peer.same_peer.Reads as Reads''
+use borrow.Author.Needs.{needs}
 
 abbrev readings : Lts.Claims
 readings = (Reads''.Asked, Reads''.Learnt, Reads'.Asked, Reads'.Learnt)
@@ -43,3 +44,16 @@ returns-2 c = record {
   if1 = c .before .if1;
   closing2 = c .closing2;
 }
+
+same-peer-requires : Tie.Need-same-peer-requires
+same-peer-requires c = search needs
+
+closing-requires : Tie.Need-closing-requires
+closing-requires c = search needs
+
+closing-requires-2 : Tie.Need-closing-requires-2
+closing-requires-2 c = search needs
+
+module _ {M : Type 1} where
+  pub spec : Tie.Need-returns → Tie.Need-returns-2 → Lts.Closed readings Reads.Pre Reads.Post M
+  spec = λ a0 a1. Tie.spec same-peer-requires closing-requires a0 closing-requires-2 a1

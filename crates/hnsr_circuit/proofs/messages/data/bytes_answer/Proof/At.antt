@@ -5,6 +5,7 @@ use Rattle.hnsr_circuit.proofs.answer.check.Reads as Reads''
 use Rattle.hnsr_circuit.proofs.messages.data.bytes_answer.Lts
 use Rattle.hnsr_circuit.proofs.messages.data.bytes_answer.Reads as Reads'''
 use Rattle.hnsr_circuit.proofs.messages.data.bytes_answer.Tie
+use borrow.Author.Needs.{needs}
 
 abbrev readings : Lts.Claims
 readings = (Reads'.Asked, Reads'.Learnt, Reads.Asked, Reads.Learnt, Reads''.Asked, Reads''.Learnt)
@@ -34,3 +35,20 @@ returns c = record {
   if1 = c .before .if1;
   check = c .check;
 }
+
+saturating-add-u64-requires : Tie.Need-saturating-add-u64-requires
+saturating-add-u64-requires c = search needs
+
+saturating-add-u64-requires-2 : Tie.Need-saturating-add-u64-requires-2
+saturating-add-u64-requires-2 c = search needs
+
+either-requires : Tie.Need-either-requires
+either-requires c = search needs
+
+check-requires : Tie.Need-check-requires
+check-requires c = search needs
+
+module _ {M : Type 1} where
+  pub spec : Tie.Need-returns → Tie.Need-returns-2 → Lts.Closed readings Reads'''.Pre Reads'''.Post M
+  spec = λ a0 a1. Tie.spec saturating-add-u64-requires saturating-add-u64-requires-2 either-requires check-requires a0
+      a1

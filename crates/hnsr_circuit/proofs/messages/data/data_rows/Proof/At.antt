@@ -2,60 +2,61 @@
 use Rattle.hnsr_body.proofs.data_body.DataBody.check.Reads
 use Rattle.hnsr_circuit.proofs.answer.body_answer.Reads as Reads'
 use Rattle.hnsr_circuit.proofs.answer.first_refusal.Reads as Reads''
-use Rattle.hnsr_circuit.proofs.records.circuits.side_of.Reads as Reads'''
-use Rattle.hnsr_circuit.proofs.messages.data.bytes_answer.Reads as Reads''''
+use Rattle.hnsr_circuit.proofs.messages.data.bytes_answer.Reads as Reads'''
 use Rattle.hnsr_circuit.proofs.messages.data.data_rows.Lts
-use Rattle.hnsr_circuit.proofs.messages.data.data_rows.Reads as Reads'''''
+use Rattle.hnsr_circuit.proofs.messages.data.data_rows.Reads as Reads''''
 use Rattle.hnsr_circuit.proofs.messages.data.data_rows.Tie
-use Rattle.hnsr_circuit.proofs.messages.data.flow_answer.Reads as Reads''''''
-use Rattle.hnsr_circuit.proofs.records.inflight.capacity_answer.Reads as Reads'''''''
-use Rattle.hnsr_circuit.proofs.messages.message.circuit_answer.Reads as Reads''''''''
+use Rattle.hnsr_circuit.proofs.messages.data.flow_answer.Reads as Reads'''''
+use Rattle.hnsr_circuit.proofs.messages.message.circuit_answer.Reads as Reads''''''
+use Rattle.hnsr_circuit.proofs.records.circuits.side_of.Reads as Reads'''''''
+use Rattle.hnsr_circuit.proofs.records.inflight.capacity_answer.Reads as Reads''''''''
+use borrow.Author.Needs.{needs}
 
 abbrev readings : Lts.Claims
 readings = (
-  Reads'''.Asked,
-  Reads'''.Learnt,
+  Reads'''''''.Asked,
+  Reads'''''''.Learnt,
   Reads.Asked,
   Reads.Learnt,
   Reads'.Asked,
   Reads'.Learnt,
-  Reads''''''''.Asked,
-  Reads''''''''.Learnt,
-  Reads'''''''.Asked,
-  Reads'''''''.Learnt,
-  Reads''''.Asked,
-  Reads''''.Learnt,
   Reads''''''.Asked,
   Reads''''''.Learnt,
+  Reads''''''''.Asked,
+  Reads''''''''.Learnt,
+  Reads'''.Asked,
+  Reads'''.Learnt,
+  Reads'''''.Asked,
+  Reads'''''.Learnt,
   Reads''.Asked,
   Reads''.Learnt,
 )
 
 pub record Returns (c : Tie.After-first-refusal4) : Type 0 where
   pub start : Tie.Start
-  pub circuit : Lts.After-circuit·own readings Reads'''''.Pre Reads'''''.Post (c .before .before .before .before
-      .before .before .before .before .before .before .before .before .before)
-  pub usage : Lts.After-usage·own readings Reads'''''.Pre Reads'''''.Post (c .before .before .before .before .before
+  pub circuit : Lts.After-circuit·own readings Reads''''.Pre Reads''''.Post (c .before .before .before .before .before
+      .before .before .before .before .before .before .before .before)
+  pub usage : Lts.After-usage·own readings Reads''''.Pre Reads''''.Post (c .before .before .before .before .before
       .before .before .before .before .before .before .before)
-  pub side-of : Lts.After-side-of·own readings Reads'''''.Pre Reads'''''.Post (c .before .before .before .before
-      .before .before .before .before .before .before .before)
-  pub check : Lts.After-check·own readings Reads'''''.Pre Reads'''''.Post (c .before .before .before .before .before
-      .before .before .before .before .before)
-  pub body-answer : Lts.After-body-answer·own readings Reads'''''.Pre Reads'''''.Post (c .before .before .before
+  pub side-of : Lts.After-side-of·own readings Reads''''.Pre Reads''''.Post (c .before .before .before .before .before
       .before .before .before .before .before .before)
-  pub circuit-answer : Lts.After-circuit-answer·own readings Reads'''''.Pre Reads'''''.Post (c .before .before .before
+  pub check : Lts.After-check·own readings Reads''''.Pre Reads''''.Post (c .before .before .before .before .before
       .before .before .before .before .before)
-  pub capacity-answer : Lts.After-capacity-answer·own readings Reads'''''.Pre Reads'''''.Post
+  pub body-answer : Lts.After-body-answer·own readings Reads''''.Pre Reads''''.Post (c .before .before .before .before
+      .before .before .before .before .before)
+  pub circuit-answer : Lts.After-circuit-answer·own readings Reads''''.Pre Reads''''.Post (c .before .before .before
+      .before .before .before .before .before)
+  pub capacity-answer : Lts.After-capacity-answer·own readings Reads''''.Pre Reads''''.Post
       (c .before .before .before .before .before .before .before)
-  pub bytes-answer : Lts.After-bytes-answer·own readings Reads'''''.Pre Reads'''''.Post
+  pub bytes-answer : Lts.After-bytes-answer·own readings Reads''''.Pre Reads''''.Post
       (c .before .before .before .before .before .before)
-  pub flow-answer : Lts.After-flow-answer·own readings Reads'''''.Pre Reads'''''.Post
+  pub flow-answer : Lts.After-flow-answer·own readings Reads''''.Pre Reads''''.Post
       (c .before .before .before .before .before)
-  pub first-refusal : Lts.After-first-refusal·own readings Reads'''''.Pre Reads'''''.Post
+  pub first-refusal : Lts.After-first-refusal·own readings Reads''''.Pre Reads''''.Post
       (c .before .before .before .before)
-  pub first-refusal2 : Lts.After-first-refusal2·own readings Reads'''''.Pre Reads'''''.Post (c .before .before .before)
-  pub first-refusal3 : Lts.After-first-refusal3·own readings Reads'''''.Pre Reads'''''.Post (c .before .before)
-  pub first-refusal4 : Lts.After-first-refusal4·own readings Reads'''''.Pre Reads'''''.Post (c .before)
+  pub first-refusal2 : Lts.After-first-refusal2·own readings Reads''''.Pre Reads''''.Post (c .before .before .before)
+  pub first-refusal3 : Lts.After-first-refusal3·own readings Reads''''.Pre Reads''''.Post (c .before .before)
+  pub first-refusal4 : Lts.After-first-refusal4·own readings Reads''''.Pre Reads''''.Post (c .before)
 
 abbrev pub returns : (c : Tie.After-first-refusal4) → Returns c
 returns c = record {
@@ -74,3 +75,42 @@ returns c = record {
   first-refusal3 = c .before .first-refusal3;
   first-refusal4 = c .first-refusal4;
 }
+
+side-of-requires : Tie.Need-side-of-requires
+side-of-requires c = search needs
+
+check-requires : Tie.Need-check-requires
+check-requires c = search needs
+
+body-answer-requires : Tie.Need-body-answer-requires
+body-answer-requires c = search needs
+
+circuit-answer-requires : Tie.Need-circuit-answer-requires
+circuit-answer-requires c = search needs
+
+capacity-answer-requires : Tie.Need-capacity-answer-requires
+capacity-answer-requires c = search needs
+
+bytes-answer-requires : Tie.Need-bytes-answer-requires
+bytes-answer-requires c = search needs
+
+flow-answer-requires : Tie.Need-flow-answer-requires
+flow-answer-requires c = search needs
+
+first-refusal-requires : Tie.Need-first-refusal-requires
+first-refusal-requires c = search needs
+
+first-refusal-requires-2 : Tie.Need-first-refusal-requires-2
+first-refusal-requires-2 c = search needs
+
+first-refusal-requires-3 : Tie.Need-first-refusal-requires-3
+first-refusal-requires-3 c = search needs
+
+first-refusal-requires-4 : Tie.Need-first-refusal-requires-4
+first-refusal-requires-4 c = search needs
+
+module _ {M : Type 1} where
+  pub spec : Tie.Need-returns → Lts.Closed readings Reads''''.Pre Reads''''.Post M
+  spec = λ a0. Tie.spec side-of-requires check-requires body-answer-requires circuit-answer-requires
+      capacity-answer-requires bytes-answer-requires flow-answer-requires first-refusal-requires
+      first-refusal-requires-2 first-refusal-requires-3 first-refusal-requires-4 a0

@@ -2,21 +2,22 @@
 use Rattle.hns_encoding.proofs.logic.either.Reads
 use Rattle.hns_encoding.proofs.numbers.saturating_add_usize.Reads as Reads'
 use Rattle.hnsr_circuit.proofs.answer.check.Reads as Reads''
-use Rattle.hnsr_circuit.proofs.records.circuits.credit_of.Reads as Reads'''
-use Rattle.hnsr_circuit.proofs.records.circuits.other_side.Reads as Reads''''
-use Rattle.hnsr_circuit.proofs.records.circuits.queued_to.Reads as Reads'''''
 use Rattle.hnsr_circuit.proofs.messages.data.flow_answer.Lts
-use Rattle.hnsr_circuit.proofs.messages.data.flow_answer.Reads as Reads''''''
+use Rattle.hnsr_circuit.proofs.messages.data.flow_answer.Reads as Reads'''
 use Rattle.hnsr_circuit.proofs.messages.data.flow_answer.Tie
+use Rattle.hnsr_circuit.proofs.records.circuits.credit_of.Reads as Reads''''
+use Rattle.hnsr_circuit.proofs.records.circuits.other_side.Reads as Reads'''''
+use Rattle.hnsr_circuit.proofs.records.circuits.queued_to.Reads as Reads''''''
+use borrow.Author.Needs.{needs}
 
 abbrev readings : Lts.Claims
 readings = (
-  Reads'''.Asked,
-  Reads'''.Learnt,
   Reads''''.Asked,
   Reads''''.Learnt,
   Reads'''''.Asked,
   Reads'''''.Learnt,
+  Reads''''''.Asked,
+  Reads''''''.Learnt,
   Reads'.Asked,
   Reads'.Learnt,
   Reads.Asked,
@@ -27,17 +28,17 @@ readings = (
 
 pub record Returns (c : Tie.After-check) : Type 0 where
   pub start : Tie.Start
-  pub credit-of : Lts.After-credit-of·own readings Reads''''''.Pre Reads''''''.Post
+  pub credit-of : Lts.After-credit-of·own readings Reads'''.Pre Reads'''.Post
       (c .before .before .before .before .before .before .before)
-  pub other-side : Lts.After-other-side·own readings Reads''''''.Pre Reads''''''.Post
+  pub other-side : Lts.After-other-side·own readings Reads'''.Pre Reads'''.Post
       (c .before .before .before .before .before .before)
-  pub queued-to : Lts.After-queued-to·own readings Reads''''''.Pre Reads''''''.Post
+  pub queued-to : Lts.After-queued-to·own readings Reads'''.Pre Reads'''.Post
       (c .before .before .before .before .before)
-  pub saturating-add-usize : Lts.After-saturating-add-usize·own readings Reads''''''.Pre Reads''''''.Post
+  pub saturating-add-usize : Lts.After-saturating-add-usize·own readings Reads'''.Pre Reads'''.Post
       (c .before .before .before .before)
-  pub struct-known : Lts.After-struct-known·own readings Reads''''''.Pre Reads''''''.Post (c .before .before .before)
-  pub either : Lts.After-either·own readings Reads''''''.Pre Reads''''''.Post (c .before .before)
-  pub check : Lts.After-check·own readings Reads''''''.Pre Reads''''''.Post (c .before)
+  pub struct-known : Lts.After-struct-known·own readings Reads'''.Pre Reads'''.Post (c .before .before .before)
+  pub either : Lts.After-either·own readings Reads'''.Pre Reads'''.Post (c .before .before)
+  pub check : Lts.After-check·own readings Reads'''.Pre Reads'''.Post (c .before)
 
 abbrev pub returns : (c : Tie.After-check) → Returns c
 returns c = record {
@@ -50,3 +51,29 @@ returns c = record {
   either = c .before .either;
   check = c .check;
 }
+
+credit-of-requires : Tie.Need-credit-of-requires
+credit-of-requires c = search needs
+
+cast-credit : Tie.Need-cast-credit
+cast-credit c = search needs
+
+other-side-requires : Tie.Need-other-side-requires
+other-side-requires c = search needs
+
+queued-to-requires : Tie.Need-queued-to-requires
+queued-to-requires c = search needs
+
+saturating-add-usize-requires : Tie.Need-saturating-add-usize-requires
+saturating-add-usize-requires c = search needs
+
+either-requires : Tie.Need-either-requires
+either-requires c = search needs
+
+check-requires : Tie.Need-check-requires
+check-requires c = search needs
+
+module _ {M : Type 1} where
+  pub spec : Tie.Need-returns → Lts.Closed readings Reads'''.Pre Reads'''.Post M
+  spec = λ a0. Tie.spec credit-of-requires cast-credit other-side-requires queued-to-requires
+      saturating-add-usize-requires either-requires check-requires a0

@@ -38,6 +38,9 @@ returns-2 c = record {
   enum-told = c .enum-told;
 }
 
+read-u64-be-requires : Tie.Need-read-u64-be-requires
+read-u64-be-requires c = search needs
+
 enum-known-read : Tie.Need-enum-known-read
 enum-known-read c = search needs
 
@@ -45,6 +48,5 @@ enum-told : Tie.Need-enum-told
 enum-told c = search needs
 
 module _ {M : Type 1} where
-  pub spec : Tie.Need-read-u64-be-requires → Tie.Need-returns → Tie.Need-returns-2 → Lts.Closed readings Reads'.Pre
-      Reads'.Post M
-  spec = λ a0 a1 a2. Tie.spec a0 enum-known-read enum-told a1 a2
+  pub spec : Tie.Need-returns → Tie.Need-returns-2 → Lts.Closed readings Reads'.Pre Reads'.Post M
+  spec = λ a0 a1. Tie.spec read-u64-be-requires enum-known-read enum-told a0 a1

@@ -3,6 +3,7 @@ use Rattle.hnsr_circuit.proofs.messages.draw.draw_at.Reads
 use Rattle.hnsr_circuit.proofs.messages.draw.first_draw.Lts
 use Rattle.hnsr_circuit.proofs.messages.draw.first_draw.Reads as Reads'
 use Rattle.hnsr_circuit.proofs.messages.draw.first_draw.Tie
+use borrow.Author.Needs.{needs}
 
 abbrev readings : Lts.Claims
 readings = (Reads.Asked, Reads.Learnt)
@@ -21,3 +22,10 @@ pub record Returns-2 (c : Tie.Else1) : Type 0 where
 
 abbrev pub returns-2 : (c : Tie.Else1) → Returns-2 c
 returns-2 c = record { start = c .before .before; if1 = c .if1 }
+
+draw-at-requires : Tie.Need-draw-at-requires
+draw-at-requires c = search needs
+
+module _ {M : Type 1} where
+  pub spec : Tie.Need-returns → Tie.Need-returns-2 → Lts.Closed readings Reads'.Pre Reads'.Post M
+  spec = λ a0 a1. Tie.spec draw-at-requires a0 a1

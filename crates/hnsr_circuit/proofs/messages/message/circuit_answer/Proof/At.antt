@@ -2,15 +2,16 @@
 use Rattle.hns_encoding.proofs.logic.no.Reads
 use Rattle.hnsr_circuit.proofs.answer.check.Reads as Reads'
 use Rattle.hnsr_circuit.proofs.answer.first_refusal.Reads as Reads''
-use Rattle.hnsr_circuit.proofs.records.circuits.is_side.Reads as Reads'''
 use Rattle.hnsr_circuit.proofs.messages.message.circuit_answer.Lts
-use Rattle.hnsr_circuit.proofs.messages.message.circuit_answer.Reads as Reads''''
+use Rattle.hnsr_circuit.proofs.messages.message.circuit_answer.Reads as Reads'''
 use Rattle.hnsr_circuit.proofs.messages.message.circuit_answer.Tie
+use Rattle.hnsr_circuit.proofs.records.circuits.is_side.Reads as Reads''''
+use borrow.Author.Needs.{needs}
 
 abbrev readings : Lts.Claims
 readings = (
-  Reads'''.Asked,
-  Reads'''.Learnt,
+  Reads''''.Asked,
+  Reads''''.Learnt,
   Reads.Asked,
   Reads.Learnt,
   Reads'.Asked,
@@ -21,13 +22,13 @@ readings = (
 
 pub record Returns (c : Tie.After-first-refusal) : Type 0 where
   pub start : Tie.Start
-  pub is-side : Lts.After-is-side·own readings Reads''''.Pre Reads''''.Post
+  pub is-side : Lts.After-is-side·own readings Reads'''.Pre Reads'''.Post
       (c .before .before .before .before .before .before)
-  pub no : Lts.After-no·own readings Reads''''.Pre Reads''''.Post (c .before .before .before .before .before)
-  pub no2 : Lts.After-no2·own readings Reads''''.Pre Reads''''.Post (c .before .before .before .before)
-  pub check : Lts.After-check·own readings Reads''''.Pre Reads''''.Post (c .before .before .before)
-  pub check2 : Lts.After-check2·own readings Reads''''.Pre Reads''''.Post (c .before .before)
-  pub first-refusal : Lts.After-first-refusal·own readings Reads''''.Pre Reads''''.Post (c .before)
+  pub no : Lts.After-no·own readings Reads'''.Pre Reads'''.Post (c .before .before .before .before .before)
+  pub no2 : Lts.After-no2·own readings Reads'''.Pre Reads'''.Post (c .before .before .before .before)
+  pub check : Lts.After-check·own readings Reads'''.Pre Reads'''.Post (c .before .before .before)
+  pub check2 : Lts.After-check2·own readings Reads'''.Pre Reads'''.Post (c .before .before)
+  pub first-refusal : Lts.After-first-refusal·own readings Reads'''.Pre Reads'''.Post (c .before)
 
 abbrev pub returns : (c : Tie.After-first-refusal) → Returns c
 returns c = record {
@@ -39,3 +40,26 @@ returns c = record {
   check2 = c .before .check2;
   first-refusal = c .first-refusal;
 }
+
+is-side-requires : Tie.Need-is-side-requires
+is-side-requires c = search needs
+
+no-requires : Tie.Need-no-requires
+no-requires c = search needs
+
+no-requires-2 : Tie.Need-no-requires-2
+no-requires-2 c = search needs
+
+check-requires : Tie.Need-check-requires
+check-requires c = search needs
+
+check-requires-2 : Tie.Need-check-requires-2
+check-requires-2 c = search needs
+
+first-refusal-requires : Tie.Need-first-refusal-requires
+first-refusal-requires c = search needs
+
+module _ {M : Type 1} where
+  pub spec : Tie.Need-returns → Lts.Closed readings Reads'''.Pre Reads'''.Post M
+  spec = λ a0. Tie.spec is-side-requires no-requires no-requires-2 check-requires check-requires-2
+      first-refusal-requires a0

@@ -3,6 +3,7 @@ use Rattle.hnsr_circuit.proofs.answer.check.Reads
 use Rattle.hnsr_circuit.proofs.messages.open.deadline_answer.Lts
 use Rattle.hnsr_circuit.proofs.messages.open.deadline_answer.Reads as Reads'
 use Rattle.hnsr_circuit.proofs.messages.open.deadline_answer.Tie
+use borrow.Author.Needs.{needs}
 
 abbrev readings : Lts.Claims
 readings = (Reads.Asked, Reads.Learnt)
@@ -14,3 +15,13 @@ pub record Returns (c : Tie.After-check) : Type 0 where
 
 abbrev pub returns : (c : Tie.After-check) → Returns c
 returns c = record { start = c .before .before; struct-known = c .before .struct-known; check = c .check }
+
+sub-most : Tie.Need-sub-most
+sub-most c = search needs
+
+check-requires : Tie.Need-check-requires
+check-requires c = search needs
+
+module _ {M : Type 1} where
+  pub spec : Tie.Need-returns → Lts.Closed readings Reads'.Pre Reads'.Post M
+  spec = λ a0. Tie.spec sub-most check-requires a0

@@ -15,7 +15,15 @@ cast-most c = search needs
 cast-active : Tie.Need-cast-active
 cast-active c = search needs
 
+either-requires : Tie.Need-either-requires
+either-requires c = search needs
+
+either-requires-2 : Tie.Need-either-requires-2
+either-requires-2 c = search needs
+
+check-requires : Tie.Need-check-requires
+check-requires c = search needs
+
 module _ {M : Type 1} where
-  pub spec : Tie.Need-either-requires → Tie.Need-either-requires-2 → Tie.Need-check-requires → Tie.Need-returns →
-      Lts.Closed readings Reads''.Pre Reads''.Post M
-  spec = λ a0 a1 a2 a3. Tie.spec cast-most cast-active a0 a1 a2 a3
+  pub spec : Tie.Need-returns → Lts.Closed readings Reads''.Pre Reads''.Post M
+  spec = λ a0. Tie.spec cast-most cast-active either-requires either-requires-2 check-requires a0

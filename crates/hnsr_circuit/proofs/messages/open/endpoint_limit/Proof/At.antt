@@ -5,6 +5,7 @@ use Rattle.hnsr_circuit.proofs.messages.open.endpoint_limit.Lts
 use Rattle.hnsr_circuit.proofs.messages.open.endpoint_limit.Reads as Reads''
 use Rattle.hnsr_circuit.proofs.messages.open.endpoint_limit.Tie
 use Rattle.hnsr_circuit.proofs.tables.scan.reservation_work.Reads as Reads'''
+use borrow.Author.Needs.{needs}
 
 abbrev readings : Lts.Claims
 readings = (Reads.Asked, Reads.Learnt, Reads'''.Asked, Reads'''.Learnt, Reads'.Asked, Reads'.Learnt)
@@ -23,3 +24,16 @@ returns c = record {
   reservation-work = c .before .reservation-work;
   endpoint-answer = c .endpoint-answer;
 }
+
+saturating-add-usize-requires : Tie.Need-saturating-add-usize-requires
+saturating-add-usize-requires c = search needs
+
+reservation-work-requires : Tie.Need-reservation-work-requires
+reservation-work-requires c = search needs
+
+endpoint-answer-requires : Tie.Need-endpoint-answer-requires
+endpoint-answer-requires c = search needs
+
+module _ {M : Type 1} where
+  pub spec : Tie.Need-returns → Lts.Closed readings Reads''.Pre Reads''.Post M
+  spec = λ a0. Tie.spec saturating-add-usize-requires reservation-work-requires endpoint-answer-requires a0

@@ -4,6 +4,7 @@ use Rattle.hnsr_circuit.proofs.messages.open.open_answer.Reads as Reads
 use Rattle.hnsr_circuit.proofs.messages.open.open_limit.Lts
 use Rattle.hnsr_circuit.proofs.messages.open.open_limit.Reads as Reads''
 use Rattle.hnsr_circuit.proofs.messages.open.open_limit.Tie
+use borrow.Author.Needs.{needs}
 
 abbrev readings : Lts.Claims
 readings = (Reads.Asked, Reads.Learnt, Reads'.Asked, Reads'.Learnt)
@@ -19,3 +20,13 @@ returns c = record {
   saturating-add-usize = c .before .saturating-add-usize;
   open-answer = c .open-answer;
 }
+
+saturating-add-usize-requires : Tie.Need-saturating-add-usize-requires
+saturating-add-usize-requires c = search needs
+
+open-answer-requires : Tie.Need-open-answer-requires
+open-answer-requires c = search needs
+
+module _ {M : Type 1} where
+  pub spec : Tie.Need-returns → Lts.Closed readings Reads''.Pre Reads''.Post M
+  spec = λ a0. Tie.spec saturating-add-usize-requires open-answer-requires a0

@@ -6,6 +6,7 @@ use Rattle.hnsr_circuit.proofs.messages.open.open_limit.Reads as Reads'
 use Rattle.hnsr_circuit.proofs.messages.open.open_rows.Lts
 use Rattle.hnsr_circuit.proofs.messages.open.open_rows.Reads as Reads''''
 use Rattle.hnsr_circuit.proofs.messages.open.open_rows.Tie
+use borrow.Author.Needs.{needs}
 
 abbrev readings : Lts.Claims
 readings = (
@@ -53,3 +54,23 @@ returns c = record {
   first-refusal = c .before .first-refusal;
   first-refusal2 = c .first-refusal2;
 }
+
+open-limit-requires : Tie.Need-open-limit-requires
+open-limit-requires c = search needs
+
+body-answer-requires : Tie.Need-body-answer-requires
+body-answer-requires c = search needs
+
+admission-answer-requires : Tie.Need-admission-answer-requires
+admission-answer-requires c = search needs
+
+first-refusal-requires : Tie.Need-first-refusal-requires
+first-refusal-requires c = search needs
+
+first-refusal-requires-2 : Tie.Need-first-refusal-requires-2
+first-refusal-requires-2 c = search needs
+
+module _ {M : Type 1} where
+  pub spec : Tie.Need-returns → Lts.Closed readings Reads''''.Pre Reads''''.Post M
+  spec = λ a0. Tie.spec open-limit-requires body-answer-requires admission-answer-requires first-refusal-requires
+      first-refusal-requires-2 a0

@@ -4,6 +4,7 @@ use Rattle.hnsr_circuit.proofs.output.queue.position_after.Lts
 use Rattle.hnsr_circuit.proofs.output.queue.position_after.Reads as Reads'
 use Rattle.hnsr_circuit.proofs.output.queue.position_after.Tie
 use Rattle.hnsr_circuit.proofs.output.route.route_size.Reads as Reads''
+use borrow.Author.Needs.{needs}
 
 abbrev readings : Lts.Claims
 readings = (Reads''.Asked, Reads''.Learnt, Reads.Asked, Reads.Learnt)
@@ -21,3 +22,13 @@ returns c = record {
   saturating-add-usize = c .before .saturating-add-usize;
   if1 = c .if1;
 }
+
+route-size-requires : Tie.Need-route-size-requires
+route-size-requires c = search needs
+
+saturating-add-usize-requires : Tie.Need-saturating-add-usize-requires
+saturating-add-usize-requires c = search needs
+
+module _ {M : Type 1} where
+  pub spec : Tie.Need-returns → Tie.Need-returns-2 → Lts.Closed readings Reads'.Pre Reads'.Post M
+  spec = λ a0 a1. Tie.spec route-size-requires saturating-add-usize-requires a0 a1

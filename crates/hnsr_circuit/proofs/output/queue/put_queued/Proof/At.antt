@@ -3,6 +3,7 @@ use Rattle.hnsr_circuit.proofs.output.queue.put_queued.Lts
 use Rattle.hnsr_circuit.proofs.output.queue.put_queued.Reads
 use Rattle.hnsr_circuit.proofs.output.queue.put_queued.Tie
 use Rattle.hnsr_circuit.proofs.output.route.put_route.Reads as Reads'
+use borrow.Author.Needs.{needs}
 
 abbrev readings : Lts.Claims
 readings = (Reads'.Asked, Reads'.Learnt)
@@ -20,3 +21,13 @@ returns c = record {
   put-route = c .before .before .put-route;
   out = c .before .out;
 }
+
+put-route-requires : Tie.Need-put-route-requires
+put-route-requires c = search needs
+
+same-length : Tie.Need-same-length
+same-length c = search needs
+
+module _ {M : Type 1} where
+  pub spec : Tie.Need-returns → Tie.Need-returns-2 → Lts.Closed readings Reads.Pre Reads.Post M
+  spec = λ a0 a1. Tie.spec put-route-requires same-length a0 a1

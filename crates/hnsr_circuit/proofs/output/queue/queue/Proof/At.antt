@@ -2,51 +2,52 @@
 use Rattle.hns_encoding.proofs.numbers.saturating_add_u64.Reads
 use Rattle.hnsr_circuit.proofs.answer.first_refusal.Reads as Reads'
 use Rattle.hnsr_circuit.proofs.answer.is_taken.Reads as Reads''
-use Rattle.hnsr_circuit.proofs.records.runtime.with_sequence.Reads as Reads'''
-use Rattle.hnsr_circuit.proofs.output.queue.action_for.Reads as Reads''''
+use Rattle.hnsr_circuit.proofs.output.queue.action_for.Reads as Reads'''
 use Rattle.hnsr_circuit.proofs.output.queue.queue.Lts
-use Rattle.hnsr_circuit.proofs.output.queue.queue.Reads as Reads'''''
+use Rattle.hnsr_circuit.proofs.output.queue.queue.Reads as Reads''''
 use Rattle.hnsr_circuit.proofs.output.queue.queue.Tie
-use Rattle.hnsr_circuit.proofs.output.queue.queue_answer.Reads as Reads''''''
-use Rattle.hnsr_circuit.proofs.output.queue.scan_place.Reads as Reads'''''''
+use Rattle.hnsr_circuit.proofs.output.queue.queue_answer.Reads as Reads'''''
+use Rattle.hnsr_circuit.proofs.output.queue.scan_place.Reads as Reads''''''
+use Rattle.hnsr_circuit.proofs.records.runtime.with_sequence.Reads as Reads'''''''
+use borrow.Author.Needs.{needs}
 
 abbrev readings : Lts.Claims
 readings = (
-  Reads''''''.Asked,
-  Reads''''''.Learnt,
+  Reads'''''.Asked,
+  Reads'''''.Learnt,
   Reads'.Asked,
   Reads'.Learnt,
-  Reads'''''''.Asked,
-  Reads'''''''.Learnt,
-  Reads''''.Asked,
-  Reads''''.Learnt,
-  Reads.Asked,
-  Reads.Learnt,
+  Reads''''''.Asked,
+  Reads''''''.Learnt,
   Reads'''.Asked,
   Reads'''.Learnt,
+  Reads.Asked,
+  Reads.Learnt,
+  Reads'''''''.Asked,
+  Reads'''''''.Learnt,
   Reads''.Asked,
   Reads''.Learnt,
 )
 
 pub record Returns (c : Tie.Then1) : Type 0 where
   pub start : Tie.Start
-  pub config : Lts.After-config·own readings Reads'''''.Pre Reads'''''.Post (c .before .before .before .before .before
+  pub config : Lts.After-config·own readings Reads''''.Pre Reads''''.Post (c .before .before .before .before .before
       .before .before .before .before .before)
-  pub tally : Lts.After-tally·own readings Reads'''''.Pre Reads'''''.Post (c .before .before .before .before .before
+  pub tally : Lts.After-tally·own readings Reads''''.Pre Reads''''.Post (c .before .before .before .before .before
       .before .before .before .before)
-  pub queue-answer : Lts.After-queue-answer·own readings Reads'''''.Pre Reads'''''.Post (c .before .before .before
+  pub queue-answer : Lts.After-queue-answer·own readings Reads''''.Pre Reads''''.Post (c .before .before .before
       .before .before .before .before .before)
-  pub first-refusal : Lts.After-first-refusal·own readings Reads'''''.Pre Reads'''''.Post
+  pub first-refusal : Lts.After-first-refusal·own readings Reads''''.Pre Reads''''.Post
       (c .before .before .before .before .before .before .before)
-  pub scan-place : Lts.After-scan-place·own readings Reads'''''.Pre Reads'''''.Post
+  pub scan-place : Lts.After-scan-place·own readings Reads''''.Pre Reads''''.Post
       (c .before .before .before .before .before .before)
-  pub action-for : Lts.After-action-for·own readings Reads'''''.Pre Reads'''''.Post
+  pub action-for : Lts.After-action-for·own readings Reads''''.Pre Reads''''.Post
       (c .before .before .before .before .before)
-  pub saturating-add-u64 : Lts.After-saturating-add-u64·own readings Reads'''''.Pre Reads'''''.Post
+  pub saturating-add-u64 : Lts.After-saturating-add-u64·own readings Reads''''.Pre Reads''''.Post
       (c .before .before .before .before)
-  pub with-sequence : Lts.After-with-sequence·own readings Reads'''''.Pre Reads'''''.Post (c .before .before .before)
-  pub is-taken : Lts.After-is-taken·own readings Reads'''''.Pre Reads'''''.Post (c .before .before)
-  pub if1 : Lts.Then1·own readings Reads'''''.Pre Reads'''''.Post (c .before)
+  pub with-sequence : Lts.After-with-sequence·own readings Reads''''.Pre Reads''''.Post (c .before .before .before)
+  pub is-taken : Lts.After-is-taken·own readings Reads''''.Pre Reads''''.Post (c .before .before)
+  pub if1 : Lts.Then1·own readings Reads''''.Pre Reads''''.Post (c .before)
 
 abbrev pub returns : (c : Tie.Then1) → Returns c
 returns c = record {
@@ -65,23 +66,23 @@ returns c = record {
 
 pub record Returns-2 (c : Tie.Else1) : Type 0 where
   pub start : Tie.Start
-  pub config : Lts.After-config·own readings Reads'''''.Pre Reads'''''.Post (c .before .before .before .before .before
+  pub config : Lts.After-config·own readings Reads''''.Pre Reads''''.Post (c .before .before .before .before .before
       .before .before .before .before .before)
-  pub tally : Lts.After-tally·own readings Reads'''''.Pre Reads'''''.Post (c .before .before .before .before .before
+  pub tally : Lts.After-tally·own readings Reads''''.Pre Reads''''.Post (c .before .before .before .before .before
       .before .before .before .before)
-  pub queue-answer : Lts.After-queue-answer·own readings Reads'''''.Pre Reads'''''.Post (c .before .before .before
+  pub queue-answer : Lts.After-queue-answer·own readings Reads''''.Pre Reads''''.Post (c .before .before .before
       .before .before .before .before .before)
-  pub first-refusal : Lts.After-first-refusal·own readings Reads'''''.Pre Reads'''''.Post
+  pub first-refusal : Lts.After-first-refusal·own readings Reads''''.Pre Reads''''.Post
       (c .before .before .before .before .before .before .before)
-  pub scan-place : Lts.After-scan-place·own readings Reads'''''.Pre Reads'''''.Post
+  pub scan-place : Lts.After-scan-place·own readings Reads''''.Pre Reads''''.Post
       (c .before .before .before .before .before .before)
-  pub action-for : Lts.After-action-for·own readings Reads'''''.Pre Reads'''''.Post
+  pub action-for : Lts.After-action-for·own readings Reads''''.Pre Reads''''.Post
       (c .before .before .before .before .before)
-  pub saturating-add-u64 : Lts.After-saturating-add-u64·own readings Reads'''''.Pre Reads'''''.Post
+  pub saturating-add-u64 : Lts.After-saturating-add-u64·own readings Reads''''.Pre Reads''''.Post
       (c .before .before .before .before)
-  pub with-sequence : Lts.After-with-sequence·own readings Reads'''''.Pre Reads'''''.Post (c .before .before .before)
-  pub is-taken : Lts.After-is-taken·own readings Reads'''''.Pre Reads'''''.Post (c .before .before)
-  pub if1 : Lts.Else1·own readings Reads'''''.Pre Reads'''''.Post (c .before)
+  pub with-sequence : Lts.After-with-sequence·own readings Reads''''.Pre Reads''''.Post (c .before .before .before)
+  pub is-taken : Lts.After-is-taken·own readings Reads''''.Pre Reads''''.Post (c .before .before)
+  pub if1 : Lts.Else1·own readings Reads''''.Pre Reads''''.Post (c .before)
 
 abbrev pub returns-2 : (c : Tie.Else1) → Returns-2 c
 returns-2 c = record {
@@ -97,3 +98,29 @@ returns-2 c = record {
   is-taken = c .before .is-taken;
   if1 = c .if1;
 }
+
+queue-answer-requires : Tie.Need-queue-answer-requires
+queue-answer-requires c = search needs
+
+first-refusal-requires : Tie.Need-first-refusal-requires
+first-refusal-requires c = search needs
+
+scan-place-requires : Tie.Need-scan-place-requires
+scan-place-requires c = search needs
+
+action-for-requires : Tie.Need-action-for-requires
+action-for-requires c = search needs
+
+saturating-add-u64-requires : Tie.Need-saturating-add-u64-requires
+saturating-add-u64-requires c = search needs
+
+with-sequence-requires : Tie.Need-with-sequence-requires
+with-sequence-requires c = search needs
+
+is-taken-requires : Tie.Need-is-taken-requires
+is-taken-requires c = search needs
+
+module _ {M : Type 1} where
+  pub spec : Tie.Need-returns → Tie.Need-returns-2 → Lts.Closed readings Reads''''.Pre Reads''''.Post M
+  spec = λ a0 a1. Tie.spec queue-answer-requires first-refusal-requires scan-place-requires action-for-requires
+      saturating-add-u64-requires with-sequence-requires is-taken-requires a0 a1

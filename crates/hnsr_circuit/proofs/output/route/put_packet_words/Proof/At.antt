@@ -48,16 +48,28 @@ returns c = record {
   out3 = c .before .out3;
 }
 
+packet-word-requires : Tie.Need-packet-word-requires
+packet-word-requires c = search needs
+
+put-word-at-requires : Tie.Need-put-word-at-requires
+put-word-at-requires c = search needs
+
 add-put-context-at : Tie.Need-add-put-context-at
 add-put-context-at c = search needs
 
+put-context-at-requires : Tie.Need-put-context-at-requires
+put-context-at-requires c = search needs
+
 add-put-body-at : Tie.Need-add-put-body-at
 add-put-body-at c = search needs
+
+put-body-at-requires : Tie.Need-put-body-at-requires
+put-body-at-requires c = search needs
 
 same-length : Tie.Need-same-length
 same-length c = search needs
 
 module _ {M : Type 1} where
-  pub spec : Tie.Need-packet-word-requires → Tie.Need-put-word-at-requires → Tie.Need-put-context-at-requires →
-      Tie.Need-put-body-at-requires → Tie.Need-returns → Lts.Closed readings Reads'''.Pre Reads'''.Post M
-  spec = λ a0 a1 a2 a3 a4. Tie.spec a0 a1 add-put-context-at a2 add-put-body-at a3 same-length a4
+  pub spec : Tie.Need-returns → Lts.Closed readings Reads'''.Pre Reads'''.Post M
+  spec = λ a0. Tie.spec packet-word-requires put-word-at-requires add-put-context-at put-context-at-requires
+      add-put-body-at put-body-at-requires same-length a0

@@ -6,6 +6,7 @@ use Rattle.hnsr_circuit.proofs.output.route.put_route.Lts
 use Rattle.hnsr_circuit.proofs.output.route.put_route.Reads as Reads'''
 use Rattle.hnsr_circuit.proofs.output.route.put_route.Tie
 use Rattle.hnsr_circuit.proofs.output.route.route_size.Reads as Reads''''
+use borrow.Author.Needs.{needs}
 
 abbrev readings : Lts.Claims
 readings = (
@@ -79,3 +80,17 @@ returns-2 c = record {
   fits2 = c .before .fits2;
   if1 = c .if1;
 }
+
+route-size-requires : Tie.Need-route-size-requires
+route-size-requires c = search needs
+
+fits-requires : Tie.Need-fits-requires
+fits-requires c = search needs
+
+same-length : Tie.Need-same-length
+same-length c = search needs
+
+module _ {M : Type 1} where
+  pub spec : Tie.Need-put-peer-words-requires → Tie.Need-add-put-packet-words → Tie.Need-put-packet-words-requires →
+      Tie.Need-returns → Tie.Need-returns-2 → Lts.Closed readings Reads'''.Pre Reads'''.Post M
+  spec = λ a0 a1 a2 a3 a4. Tie.spec route-size-requires fits-requires a0 a1 a2 same-length a3 a4

@@ -68,15 +68,28 @@ returns-2 c = record {
   t25 = c .t25;
 }
 
+saturating-add-u64-requires : Tie.Need-saturating-add-u64-requires
+saturating-add-u64-requires c = search needs
+
 enum-told : Tie.Need-enum-told
 enum-told c = search needs
+
+less-credit-requires : Tie.Need-less-credit-requires
+less-credit-requires c = search needs
+
+saturating-add-usize-requires : Tie.Need-saturating-add-usize-requires
+saturating-add-usize-requires c = search needs
 
 enum-told-2 : Tie.Need-enum-told-2
 enum-told-2 c = search needs
 
+less-credit-requires-2 : Tie.Need-less-credit-requires-2
+less-credit-requires-2 c = search needs
+
+saturating-add-usize-requires-2 : Tie.Need-saturating-add-usize-requires-2
+saturating-add-usize-requires-2 c = search needs
+
 module _ {M : Type 1} where
-  pub spec : Tie.Need-saturating-add-u64-requires → Tie.Need-less-credit-requires →
-      Tie.Need-saturating-add-usize-requires → Tie.Need-less-credit-requires-2 →
-      Tie.Need-saturating-add-usize-requires-2 → Tie.Need-returns → Tie.Need-returns-2 → Lts.Closed readings
-      Reads''.Pre Reads''.Post M
-  spec = λ a0 a1 a2 a3 a4 a5 a6. Tie.spec a0 enum-told a1 a2 enum-told-2 a3 a4 a5 a6
+  pub spec : Tie.Need-returns → Tie.Need-returns-2 → Lts.Closed readings Reads''.Pre Reads''.Post M
+  spec = λ a0 a1. Tie.spec saturating-add-u64-requires enum-told less-credit-requires saturating-add-usize-requires
+      enum-told-2 less-credit-requires-2 saturating-add-usize-requires-2 a0 a1

@@ -51,10 +51,15 @@ returns-2 c = record {
 enum-told : Tie.Need-enum-told
 enum-told c = search needs
 
+more-credit-requires : Tie.Need-more-credit-requires
+more-credit-requires c = search needs
+
 enum-told-2 : Tie.Need-enum-told-2
 enum-told-2 c = search needs
 
+more-credit-requires-2 : Tie.Need-more-credit-requires-2
+more-credit-requires-2 c = search needs
+
 module _ {M : Type 1} where
-  pub spec : Tie.Need-more-credit-requires → Tie.Need-more-credit-requires-2 → Tie.Need-returns → Tie.Need-returns-2 →
-      Lts.Closed readings Reads.Pre Reads.Post M
-  spec = λ a0 a1 a2 a3. Tie.spec enum-told a0 enum-told-2 a1 a2 a3
+  pub spec : Tie.Need-returns → Tie.Need-returns-2 → Lts.Closed readings Reads.Pre Reads.Post M
+  spec = λ a0 a1. Tie.spec enum-told more-credit-requires enum-told-2 more-credit-requires-2 a0 a1

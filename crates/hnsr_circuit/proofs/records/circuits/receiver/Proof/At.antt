@@ -5,6 +5,7 @@ use Rattle.hnsr_circuit.proofs.records.circuits.receiver.Lts
 use Rattle.hnsr_circuit.proofs.records.circuits.receiver.Reads as Reads''
 use Rattle.hnsr_circuit.proofs.records.circuits.receiver.Tie
 use Rattle.hnsr_circuit.proofs.records.circuits.side_of.Reads as Reads'''
+use borrow.Author.Needs.{needs}
 
 abbrev readings : Lts.Claims
 readings = (Reads'''.Asked, Reads'''.Learnt, Reads.Asked, Reads.Learnt, Reads'.Asked, Reads'.Learnt)
@@ -22,3 +23,16 @@ returns c = record {
   other-side = c .before .other-side;
   peer-at = c .peer-at;
 }
+
+side-of-requires : Tie.Need-side-of-requires
+side-of-requires c = search needs
+
+other-side-requires : Tie.Need-other-side-requires
+other-side-requires c = search needs
+
+peer-at-requires : Tie.Need-peer-at-requires
+peer-at-requires c = search needs
+
+module _ {M : Type 1} where
+  pub spec : Tie.Need-returns → Lts.Closed readings Reads''.Pre Reads''.Post M
+  spec = λ a0. Tie.spec side-of-requires other-side-requires peer-at-requires a0

@@ -3,6 +3,7 @@ use Rattle.hns_encoding.proofs.logic.both.Reads
 use Rattle.hnsr_circuit.proofs.records.inflight.action_is.Lts
 use Rattle.hnsr_circuit.proofs.records.inflight.action_is.Reads as Reads'
 use Rattle.hnsr_circuit.proofs.records.inflight.action_is.Tie
+use borrow.Author.Needs.{needs}
 
 abbrev readings : Lts.Claims
 readings = (Reads.Asked, Reads.Learnt)
@@ -22,3 +23,10 @@ returns c = record {
   struct-known2 = c .before .struct-known2;
   both = c .both;
 }
+
+both-requires : Tie.Need-both-requires
+both-requires c = search needs
+
+module _ {M : Type 1} where
+  pub spec : Tie.Need-returns → Tie.Need-returns-2 → Lts.Closed readings Reads'.Pre Reads'.Post M
+  spec = λ a0 a1. Tie.spec both-requires a0 a1

@@ -4,6 +4,7 @@ use Rattle.hnsr_circuit.proofs.records.pending.named_by.Lts
 use Rattle.hnsr_circuit.proofs.records.pending.named_by.Reads as Reads'
 use Rattle.hnsr_circuit.proofs.records.pending.named_by.Tie
 use Rattle.hnsr_circuit.proofs.records.pending.requester_names.Reads as Reads''
+use borrow.Author.Needs.{needs}
 
 abbrev readings : Lts.Claims
 readings = (Reads''.Asked, Reads''.Learnt, Reads.Asked, Reads.Learnt)
@@ -37,3 +38,13 @@ returns-2 c = record {
   if2 = c .before .if2;
   endpoint-names = c .endpoint-names;
 }
+
+requester-names-requires : Tie.Need-requester-names-requires
+requester-names-requires c = search needs
+
+endpoint-names-requires : Tie.Need-endpoint-names-requires
+endpoint-names-requires c = search needs
+
+module _ {M : Type 1} where
+  pub spec : Tie.Need-returns → Tie.Need-returns-2 → Tie.Need-returns-3 → Lts.Closed readings Reads'.Pre Reads'.Post M
+  spec = λ a0 a1 a2. Tie.spec requester-names-requires a0 endpoint-names-requires a1 a2

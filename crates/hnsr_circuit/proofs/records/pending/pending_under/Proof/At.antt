@@ -3,6 +3,7 @@ use Rattle.hnsr_circuit.proofs.records.ledger.same_reservation.Reads
 use Rattle.hnsr_circuit.proofs.records.pending.pending_under.Lts
 use Rattle.hnsr_circuit.proofs.records.pending.pending_under.Reads as Reads'
 use Rattle.hnsr_circuit.proofs.records.pending.pending_under.Tie
+use borrow.Author.Needs.{needs}
 
 abbrev readings : Lts.Claims
 readings = (Reads.Asked, Reads.Learnt)
@@ -20,3 +21,10 @@ returns c = record {
   ticket = c .before .ticket;
   same-reservation = c .same-reservation;
 }
+
+same-reservation-requires : Tie.Need-same-reservation-requires
+same-reservation-requires c = search needs
+
+module _ {M : Type 1} where
+  pub spec : Tie.Need-returns → Tie.Need-returns-2 → Lts.Closed readings Reads'.Pre Reads'.Post M
+  spec = λ a0 a1. Tie.spec same-reservation-requires a0 a1

@@ -3,6 +3,7 @@ use Rattle.hns_encoding.proofs.numbers.saturating_add_u64.Reads
 use Rattle.hnsr_circuit.proofs.records.runtime.with_enabled.Lts
 use Rattle.hnsr_circuit.proofs.records.runtime.with_enabled.Reads as Reads'
 use Rattle.hnsr_circuit.proofs.records.runtime.with_enabled.Tie
+use borrow.Author.Needs.{needs}
 
 abbrev readings : Lts.Claims
 readings = (Reads.Asked, Reads.Learnt)
@@ -23,3 +24,10 @@ returns c = record {
   t6 = c .before .t6;
   t7 = c .t7;
 }
+
+saturating-add-u64-requires : Tie.Need-saturating-add-u64-requires
+saturating-add-u64-requires c = search needs
+
+module _ {M : Type 1} where
+  pub spec : Tie.Need-returns → Lts.Closed readings Reads'.Pre Reads'.Post M
+  spec = λ a0. Tie.spec saturating-add-u64-requires a0

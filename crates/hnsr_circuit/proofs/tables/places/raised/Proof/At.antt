@@ -4,6 +4,7 @@ use Rattle.hnsr_circuit.proofs.tables.places.raised.Lts
 use Rattle.hnsr_circuit.proofs.tables.places.raised.Reads as Reads'
 use Rattle.hnsr_circuit.proofs.tables.places.raised.Tie
 use Rattle.hnsr_circuit.proofs.tables.scan.within.Reads as Reads''
+use borrow.Author.Needs.{needs}
 
 abbrev readings : Lts.Claims
 readings = (Reads''.Asked, Reads''.Learnt, Reads.Asked, Reads.Learnt)
@@ -49,3 +50,13 @@ returns-2 c = record {
   both = c .before .both;
   if1 = c .if1;
 }
+
+within-requires : Tie.Need-within-requires
+within-requires c = search needs
+
+both-requires : Tie.Need-both-requires
+both-requires c = search needs
+
+module _ {M : Type 1} where
+  pub spec : Tie.Need-add-result → Tie.Need-returns → Tie.Need-returns-2 → Lts.Closed readings Reads'.Pre Reads'.Post M
+  spec = λ a0 a1 a2. Tie.spec within-requires both-requires a0 a1 a2

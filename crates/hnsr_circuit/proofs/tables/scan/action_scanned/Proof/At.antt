@@ -6,6 +6,7 @@ use Rattle.hnsr_circuit.proofs.tables.scan.action_scanned.Reads as Read
 use Rattle.hnsr_circuit.proofs.tables.scan.action_scanned.Tie
 use Rattle.hnsr_circuit.proofs.tables.scan.first_place.Reads as Reads'''
 use Rattle.hnsr_circuit.proofs.tables.scan.tally_on.Reads as Reads''''
+use borrow.Author.Needs.{needs}
 
 abbrev readings : Lts.Claims
 readings = (
@@ -50,3 +51,23 @@ returns-2 c = record {
   tally = c .before .tally;
   first-place2 = c .first-place2;
 }
+
+tally-on-requires : Tie.Need-tally-on-requires
+tally-on-requires c = search needs
+
+action-is-requires : Tie.Need-action-is-requires
+action-is-requires c = search needs
+
+either-requires : Tie.Need-either-requires
+either-requires c = search needs
+
+first-place-requires : Tie.Need-first-place-requires
+first-place-requires c = search needs
+
+first-place-requires-2 : Tie.Need-first-place-requires-2
+first-place-requires-2 c = search needs
+
+module _ {M : Type 1} where
+  pub spec : Tie.Need-returns → Tie.Need-returns-2 → Lts.Closed readings Reads''.Pre Reads''.Post M
+  spec = λ a0 a1. Tie.spec tally-on-requires action-is-requires either-requires first-place-requires a0
+      first-place-requires-2 a1

@@ -6,6 +6,7 @@ use Rattle.hnsr_circuit.proofs.tables.scan.circuit_worked.Lts
 use Rattle.hnsr_circuit.proofs.tables.scan.circuit_worked.Reads as Reads'''
 use Rattle.hnsr_circuit.proofs.tables.scan.circuit_worked.Tie
 use Rattle.hnsr_circuit.proofs.tables.scan.work_on.Reads as Reads''''
+use borrow.Author.Needs.{needs}
 
 abbrev readings : Lts.Claims
 readings = (
@@ -39,3 +40,23 @@ returns c = record {
   circuit-is = c .before .circuit-is;
   work-on = c .work-on;
 }
+
+circuit-of-requires : Tie.Need-circuit-of-requires
+circuit-of-requires c = search needs
+
+circuit-of-requires-2 : Tie.Need-circuit-of-requires-2
+circuit-of-requires-2 c = search needs
+
+circuit-under-requires : Tie.Need-circuit-under-requires
+circuit-under-requires c = search needs
+
+circuit-is-requires : Tie.Need-circuit-is-requires
+circuit-is-requires c = search needs
+
+work-on-requires : Tie.Need-work-on-requires
+work-on-requires c = search needs
+
+module _ {M : Type 1} where
+  pub spec : Tie.Need-returns → Tie.Need-returns-2 → Lts.Closed readings Reads'''.Pre Reads'''.Post M
+  spec = λ a0 a1. Tie.spec circuit-of-requires circuit-of-requires-2 circuit-under-requires circuit-is-requires
+      work-on-requires a0 a1

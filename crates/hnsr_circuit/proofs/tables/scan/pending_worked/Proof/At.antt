@@ -7,6 +7,7 @@ use Rattle.hnsr_circuit.proofs.tables.scan.pending_worked.Lts
 use Rattle.hnsr_circuit.proofs.tables.scan.pending_worked.Reads as Reads''''
 use Rattle.hnsr_circuit.proofs.tables.scan.pending_worked.Tie
 use Rattle.hnsr_circuit.proofs.tables.scan.work_on.Reads as Reads'''''
+use borrow.Author.Needs.{needs}
 
 abbrev readings : Lts.Claims
 readings = (
@@ -47,3 +48,26 @@ returns c = record {
   pending-is = c .before .pending-is;
   work-on = c .work-on;
 }
+
+pending-of-requires : Tie.Need-pending-of-requires
+pending-of-requires c = search needs
+
+pending-of-requires-2 : Tie.Need-pending-of-requires-2
+pending-of-requires-2 c = search needs
+
+pending-under-requires : Tie.Need-pending-under-requires
+pending-under-requires c = search needs
+
+requested-by-requires : Tie.Need-requested-by-requires
+requested-by-requires c = search needs
+
+pending-is-requires : Tie.Need-pending-is-requires
+pending-is-requires c = search needs
+
+work-on-requires : Tie.Need-work-on-requires
+work-on-requires c = search needs
+
+module _ {M : Type 1} where
+  pub spec : Tie.Need-returns → Tie.Need-returns-2 → Lts.Closed readings Reads''''.Pre Reads''''.Post M
+  spec = λ a0 a1. Tie.spec pending-of-requires pending-of-requires-2 pending-under-requires requested-by-requires
+      pending-is-requires work-on-requires a0 a1

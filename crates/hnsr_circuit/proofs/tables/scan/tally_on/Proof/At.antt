@@ -5,6 +5,7 @@ use Rattle.hnsr_circuit.proofs.tables.scan.one_more.Reads as Reads''
 use Rattle.hnsr_circuit.proofs.tables.scan.tally_on.Lts
 use Rattle.hnsr_circuit.proofs.tables.scan.tally_on.Reads as Reads'''
 use Rattle.hnsr_circuit.proofs.tables.scan.tally_on.Tie
+use borrow.Author.Needs.{needs}
 
 abbrev readings : Lts.Claims
 readings = (Reads.Asked, Reads.Learnt, Reads'.Asked, Reads'.Learnt, Reads''.Asked, Reads''.Learnt)
@@ -51,3 +52,22 @@ returns-2 c = record {
   one-more = c .before .one-more;
   one-more2 = c .one-more2;
 }
+
+both-requires : Tie.Need-both-requires
+both-requires c = search needs
+
+same-peer-in-scan-requires : Tie.Need-same-peer-in-scan-requires
+same-peer-in-scan-requires c = search needs
+
+add-t7 : Tie.Need-add-t7
+add-t7 c = search needs
+
+one-more-requires : Tie.Need-one-more-requires
+one-more-requires c = search needs
+
+one-more-requires-2 : Tie.Need-one-more-requires-2
+one-more-requires-2 c = search needs
+
+module _ {M : Type 1} where
+  pub spec : Tie.Need-returns → Tie.Need-returns-2 → Lts.Closed readings Reads'''.Pre Reads'''.Post M
+  spec = λ a0 a1. Tie.spec both-requires a0 same-peer-in-scan-requires add-t7 one-more-requires one-more-requires-2 a1

@@ -5,6 +5,7 @@ use Rattle.hnsr_circuit.proofs.tables.scan.better.Reads as Reads''
 use Rattle.hnsr_circuit.proofs.tables.scan.walked_on.Lts
 use Rattle.hnsr_circuit.proofs.tables.scan.walked_on.Reads as Reads'''
 use Rattle.hnsr_circuit.proofs.tables.scan.walked_on.Tie
+use borrow.Author.Needs.{needs}
 
 abbrev readings : Lts.Claims
 readings = (Reads'.Asked, Reads'.Learnt, Reads.Asked, Reads.Learnt, Reads''.Asked, Reads''.Learnt)
@@ -44,3 +45,19 @@ returns-2 c = record {
   both2 = c .before .both2;
   if1 = c .if1;
 }
+
+above-requires : Tie.Need-above-requires
+above-requires c = search needs
+
+both-requires : Tie.Need-both-requires
+both-requires c = search needs
+
+better-requires : Tie.Need-better-requires
+better-requires c = search needs
+
+both-requires-2 : Tie.Need-both-requires-2
+both-requires-2 c = search needs
+
+module _ {M : Type 1} where
+  pub spec : Tie.Need-returns → Tie.Need-returns-2 → Lts.Closed readings Reads'''.Pre Reads'''.Post M
+  spec = λ a0 a1. Tie.spec above-requires both-requires better-requires both-requires-2 a0 a1

@@ -4,6 +4,7 @@ use Rattle.hnsr_circuit.proofs.tables.scan.one_more.Reads as Reads'
 use Rattle.hnsr_circuit.proofs.tables.scan.work_on.Lts
 use Rattle.hnsr_circuit.proofs.tables.scan.work_on.Reads as Reads''
 use Rattle.hnsr_circuit.proofs.tables.scan.work_on.Tie
+use borrow.Author.Needs.{needs}
 
 abbrev readings : Lts.Claims
 readings = (Reads'.Asked, Reads'.Learnt, Reads.Asked, Reads.Learnt)
@@ -28,3 +29,26 @@ returns c = record {
   either = c .before .either;
   either2 = c .either2;
 }
+
+add-t7 : Tie.Need-add-t7
+add-t7 c = search needs
+
+one-more-requires : Tie.Need-one-more-requires
+one-more-requires c = search needs
+
+one-more-requires-2 : Tie.Need-one-more-requires-2
+one-more-requires-2 c = search needs
+
+one-more-requires-3 : Tie.Need-one-more-requires-3
+one-more-requires-3 c = search needs
+
+either-requires : Tie.Need-either-requires
+either-requires c = search needs
+
+either-requires-2 : Tie.Need-either-requires-2
+either-requires-2 c = search needs
+
+module _ {M : Type 1} where
+  pub spec : Tie.Need-returns → Lts.Closed readings Reads''.Pre Reads''.Post M
+  spec = λ a0. Tie.spec add-t7 one-more-requires one-more-requires-2 one-more-requires-3 either-requires
+      either-requires-2 a0

@@ -40,8 +40,18 @@ pub(crate) fn plan_close(
 ) -> ClosePlan
     ensures { λ r. ⌜ r ≡ closePlannedOn (request .runtime) (heldPending (request .places) (now (pending .entry))) (heldCircuits (request .places) (now (circuits .entry))) (request .packet) read (request .peer) ⌝ }
 {
-    let matches = count_named(pending, request.places, request.peer, request.packet.context_id);
-    let waiting = look_up_named(pending, request.places, request.peer, request.packet.context_id);
+    let matches = count_named(
+        pending,
+        request.places,
+        request.peer,
+        request.packet.context_id,
+    );
+    let waiting = look_up_named(
+        pending,
+        request.places,
+        request.peer,
+        request.packet.context_id,
+    );
     let circuit = circuit_by_id(circuits, request.places, request.packet.context_id);
     close_plan(
         request.runtime,

@@ -21,7 +21,8 @@ abbrev μ-loop : tie.MeasureT-loop
 
 loop-holds : tie.Need-loop-holds Inv-loop μ-loop
 loop-holds c =
-    let a = c .before .args in
+    let here = at.loop-holds Inv-loop μ-loop c in
+    let a = here .start .args in
     (search needs, ap be (field-same (a .input .now) (a .at + 0) (a .at) (a .width - 0) (a .width) (omega arith) (omega arith)), lit< tt)
 
 add-with-digit : tie.Need-add-with-digit Inv-loop μ-loop

@@ -22,7 +22,8 @@ abbrev μ-loop : tie.MeasureT-loop
 
 loop-holds : tie.Need-loop-holds Inv-loop μ-loop
 loop-holds c =
-    let a = c .before .args in
+    let here = at.loop-holds Inv-loop μ-loop c in
+    let a = here .start .args in
     (search needs, le-none (a .input .now) (a .at + a .width) (a .width - a .width) (omega arith), one-le-pow (a .width - a .width) 256 (lit< tt))
 
 sub-i : tie.Need-sub-i Inv-loop μ-loop

@@ -17,7 +17,9 @@ returns c =
     let a = here .start .args in le-past (a .bytes .now) (a .at) 4 (here .if1 .taken)
 
 cast-result : tie.Need-cast-result
-cast-result c = record { fits = below-more-digits (c .le-at .result) (c .before .min-usize .result) 4 (c .le-at .ensures .1) (omega arith) }
+cast-result c =
+    let here = at.cast-result c in
+    record { fits = below-more-digits (here .le-at .result) (here .min-usize .result) 4 (here .le-at .ensures .1) (omega arith) }
 
 returns-2 : tie.Need-returns-2
 returns-2 c =

@@ -14,10 +14,14 @@ abbrev numbers : DecodeError → Cause
 numbers error = causeNumbers (Err (Decode error))
 
 returns : tie.Need-returns
-returns c = ap numbers (sym (c .before .error .given .1))
+returns c =
+    let here = at.returns c in
+    ap numbers (sym (here .error .given .1))
 
 returns-2 : tie.Need-returns-2
-returns-2 c = ap numbers (sym (c .before .error2 .given .1))
+returns-2 c =
+    let here = at.returns-2 c in
+    ap numbers (sym (here .error2 .given .1))
 
 pub decode-cause-spec : {M : Type 1} → statement M
 decode-cause-spec = tie.close (at.spec returns returns-2)

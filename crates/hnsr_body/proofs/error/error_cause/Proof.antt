@@ -24,7 +24,9 @@ returns-2 c =
     ap (λ (k : ℕ). record { kind = 3; first = k; second = 0 }) (here .text-number .ensures) ∙ ap numbers (sym (here .error2 .given .1))
 
 returns-3 : tie.Need-returns-3
-returns-3 c = ap numbers (sym (c .before .error3 .given .1))
+returns-3 c =
+    let here = at.returns-3 c in
+    ap numbers (sym (here .error3 .given .1))
 
 returns-4 : tie.Need-returns-4
 returns-4 c = ap numbers (sym (c .enum-told .given .1))

@@ -39,7 +39,9 @@ loop-again c =
     skip-ascii _ _ _ (here .loop .inv) (omega arith) (omega arith)
 
 returns-2 : tie.Need-returns-2 Inv-loop μ-loop
-returns-2 c = c .before .loop .inv
+returns-2 c =
+    let here = at.returns-2 Inv-loop μ-loop c in
+    here .loop .inv
 
 pub after-ascii-spec : {M : Type 1} → statement M
 after-ascii-spec =

@@ -34,7 +34,9 @@ module _ (text : List ℕ) (n : ℕ) (e : n ≡ leadLength (getD text 0 0)) wher
   broken h t = simp (← e, le-leb n (length text) h, t)
 
 returns : tie.Need-returns
-returns c = one _ _ (c .before .lead-length .ensures) (search needs) (c .if1 .taken)
+returns c =
+    let here = at.returns c in
+    one _ _ (here .lead-length .ensures) (search needs) (here .if1 .taken)
 
 returns-2 : tie.Need-returns-2
 returns-2 c =

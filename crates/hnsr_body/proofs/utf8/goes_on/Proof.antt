@@ -46,7 +46,9 @@ module _ (text : List ℕ) (n : ℕ) (more : 1 < n) where
       four t not-three = simp (lt-leb n 1 more, lt-leb n 2 (omega arith), lt-leb n 3 (omega arith), s, t)
 
 returns : tie.Need-returns
-returns c = not-second _ _ (search needs) (failed (c .before .is-second .ensures) (c .if1 .taken))
+returns c =
+    let here = at.returns c in
+    not-second _ _ (search needs) (failed (here .is-second .ensures) (here .if1 .taken))
 
 returns-2 : tie.Need-returns-2
 returns-2 c =

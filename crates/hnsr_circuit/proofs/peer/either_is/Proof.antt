@@ -5,7 +5,9 @@ use Rattle.hnsr_circuit.proofs.peer.either_is.Tie as tie
 use Rattle.hnsr_circuit.proofs.peer.either_is.Proof.At as at
 
 returns : tie.Need-returns
-returns c = rw (← (c .before .same-peer .ensures), c .if1 .taken)
+returns c =
+    let here = at.returns c in
+    rw (← (here .same-peer .ensures), here .if1 .taken)
 
 returns-2 : tie.Need-returns-2
 returns-2 c =

@@ -1,21 +1,17 @@
 -- `detail_answer` meets its contract, by what the reader and the cause ensure.
+mod At
 use mathlib.Core.Path.{_∙_, ap}
 use Rattle.hnsr_body.specs.declared.detail_body.DetailRead.{DetailRead}
 use Rattle.hnsr_body.specs.Causes.{causeNumbers}
-use borrow.Author.Needs.{needs}
 use Rattle.lekchnam.proofs.body.detail_answer.Statement.{statement}
 use Rattle.lekchnam.proofs.body.detail_answer.Tie as tie
-
-decode-requires : tie.Need-decode-requires
-decode-requires c κs = search needs
-
-cause-requires : tie.Need-cause-requires
-cause-requires c κs = search needs
+use Rattle.lekchnam.proofs.body.detail_answer.Proof.At as at
 
 returns : tie.Need-returns
 returns c =
-    let d = c .before .before .decode .ensures in
-    (c .cause .ensures ∙ ap (λ (r : DetailRead). causeNumbers (r .result)) d, ap (λ (r : DetailRead). r .body) d)
+    let here = at.returns c in
+    let d = here .decode .ensures in
+    (here .cause .ensures ∙ ap (λ (r : DetailRead). causeNumbers (r .result)) d, ap (λ (r : DetailRead). r .body) d)
 
 pub detail-answer-spec : {M : Type 1} → statement M
-detail-answer-spec = tie.close (tie.spec decode-requires cause-requires returns)
+detail-answer-spec = tie.close (at.spec returns)

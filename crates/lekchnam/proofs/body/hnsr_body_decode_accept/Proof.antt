@@ -1,21 +1,17 @@
 -- `hnsr_body_decode_accept` meets its contract, by what the reader and the cause ensure.
+mod At
 use mathlib.Core.Path.{_∙_, ap}
 use Rattle.hnsr_body.specs.declared.accept_body.AcceptRead.{AcceptRead}
 use Rattle.hnsr_body.specs.Causes.{causeNumbers}
-use borrow.Author.Needs.{needs}
 use Rattle.lekchnam.proofs.body.hnsr_body_decode_accept.Statement.{statement}
 use Rattle.lekchnam.proofs.body.hnsr_body_decode_accept.Tie as tie
-
-decode-requires : tie.Need-decode-requires
-decode-requires c κs = search needs
-
-cause-requires : tie.Need-cause-requires
-cause-requires c κs = search needs
+use Rattle.lekchnam.proofs.body.hnsr_body_decode_accept.Proof.At as at
 
 returns : tie.Need-returns
 returns c =
-    let d = c .before .before .decode .ensures in
-    (c .cause .ensures ∙ ap (λ (r : AcceptRead). causeNumbers (r .result)) d, ap (λ (r : AcceptRead). r .body) d)
+    let here = at.returns c in
+    let d = here .decode .ensures in
+    (here .cause .ensures ∙ ap (λ (r : AcceptRead). causeNumbers (r .result)) d, ap (λ (r : AcceptRead). r .body) d)
 
 pub hnsr-body-decode-accept-spec : {M : Type 1} → statement M
-hnsr-body-decode-accept-spec = tie.close (tie.spec decode-requires cause-requires returns)
+hnsr-body-decode-accept-spec = tie.close (at.spec returns)

@@ -8,7 +8,10 @@ use Rattle.lekchnam.proofs.relay.opaque_relay_next_due.Proof.Tie as tie
 use Rattle.lekchnam.proofs.relay.opaque_relay_next_due.Proof.At as at
 
 returns : tie.Need-returns
-returns c l = c .due-reply .ensures ∙ ap dueNumbered (c .before .next-due .ensures l)
+returns c =
+    let here = at.returns c in
+    λ l.
+    here .due-reply .ensures ∙ ap dueNumbered (here .next-due .ensures l)
 
 pub opaque-relay-next-due-spec : {M : Type 1} → statement M
 opaque-relay-next-due-spec = tie.close (at.spec returns)

@@ -8,7 +8,10 @@ use Rattle.lekchnam.proofs.relay.opaque_relay_status.Proof.Tie as tie
 use Rattle.lekchnam.proofs.relay.opaque_relay_status.Proof.At as at
 
 returns : tie.Need-returns
-returns c l = c .status-reply .ensures ∙ ap statusNumbered (c .before .status .ensures l)
+returns c =
+    let here = at.returns c in
+    λ l.
+    here .status-reply .ensures ∙ ap statusNumbered (here .status .ensures l)
 
 pub opaque-relay-status-spec : {M : Type 1} → statement M
 opaque-relay-status-spec = tie.close (at.spec returns)

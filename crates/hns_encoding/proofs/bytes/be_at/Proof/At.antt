@@ -8,6 +8,12 @@ abbrev readings : Lts.Claims
 readings = (Reads'.Asked, Reads'.Learnt)
 
 module _ (Inv : Tie.InvT-loop) (μ : Tie.MeasureT-loop) where
+  pub record Loop-holds (c : Tie.After-shared-slice-known Inv μ) : Type 0 where
+    pub start : Tie.Start Inv μ
+
+  abbrev pub loop-holds : (c : Tie.After-shared-slice-known Inv μ) → Loop-holds c
+  loop-holds c = record { start = c .before }
+
   pub record With-digit-requires (c : Tie.After-shared-slice-known2 Inv μ) : Type 0 where
     pub start : Tie.Start Inv μ
     pub loop : Lts.At-loop·own readings Reads.Pre Reads.Post Inv μ (c .before .before .before)

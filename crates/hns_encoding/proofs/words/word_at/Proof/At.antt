@@ -16,6 +16,20 @@ pub record Returns (c : Tie.Then1) : Type 0 where
 abbrev pub returns : (c : Tie.Then1) → Returns c
 returns c = record { start = c .before .before; if1 = c .if1 }
 
+pub record Cast-result (c : Tie.After-le-at) : Type 0 where
+  pub start : Tie.Start
+  pub if1 : Lts.Else1·own readings Reads''.Pre Reads''.Post (c .before .before .before)
+  pub min-usize : Lts.After-min-usize·own readings Reads''.Pre Reads''.Post (c .before .before)
+  pub le-at : Lts.After-le-at·own readings Reads''.Pre Reads''.Post (c .before)
+
+abbrev pub cast-result : (c : Tie.After-le-at) → Cast-result c
+cast-result c = record {
+  start = c .before .before .before .before;
+  if1 = c .before .before .if1;
+  min-usize = c .before .min-usize;
+  le-at = c .le-at;
+}
+
 pub record Returns-2 (c : Tie.After-le-at) : Type 0 where
   pub start : Tie.Start
   pub if1 : Lts.Else1·own readings Reads''.Pre Reads''.Post (c .before .before .before)

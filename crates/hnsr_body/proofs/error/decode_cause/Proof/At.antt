@@ -4,6 +4,34 @@ use Rattle.hnsr_body.proofs.error.decode_cause.Reads
 use Rattle.hnsr_body.proofs.error.decode_cause.Tie
 use borrow.Author.Needs.{needs}
 
+pub record Returns (c : Tie.After-known-told) : Type 0 where
+  pub start : Tie.Start
+  pub match : Lts.At-match-keys1·own Reads.Pre Reads.Post (c .before .before .before)
+  pub error : Lts.After-error·own Reads.Pre Reads.Post (c .before .before)
+  pub known-told : Lts.After-known-told·own Reads.Pre Reads.Post (c .before)
+
+abbrev pub returns : (c : Tie.After-known-told) → Returns c
+returns c = record {
+  start = c .before .before .before;
+  match = c .before .before .match;
+  error = c .before .error;
+  known-told = c .known-told;
+}
+
+pub record Returns-2 (c : Tie.After-known-told2) : Type 0 where
+  pub start : Tie.Start
+  pub match : Lts.At-match-keys2·own Reads.Pre Reads.Post (c .before .before .before)
+  pub error2 : Lts.After-error2·own Reads.Pre Reads.Post (c .before .before)
+  pub known-told2 : Lts.After-known-told2·own Reads.Pre Reads.Post (c .before)
+
+abbrev pub returns-2 : (c : Tie.After-known-told2) → Returns-2 c
+returns-2 c = record {
+  start = c .before .before .before;
+  match = c .before .before .match;
+  error2 = c .before .error2;
+  known-told2 = c .known-told2;
+}
+
 enum-known-error : Tie.Need-enum-known-error
 enum-known-error c = search needs
 

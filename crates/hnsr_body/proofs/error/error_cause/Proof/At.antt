@@ -41,6 +41,20 @@ returns-2 c = record {
   text-number = c .text-number;
 }
 
+pub record Returns-3 (c : Tie.After-known-told3) : Type 0 where
+  pub start : Tie.Start
+  pub match : Lts.At-match-keys3·own readings Reads'.Pre Reads'.Post (c .before .before .before)
+  pub error3 : Lts.After-error3·own readings Reads'.Pre Reads'.Post (c .before .before)
+  pub known-told3 : Lts.After-known-told3·own readings Reads'.Pre Reads'.Post (c .before)
+
+abbrev pub returns-3 : (c : Tie.After-known-told3) → Returns-3 c
+returns-3 c = record {
+  start = c .before .before .before;
+  match = c .before .before .match;
+  error3 = c .before .error3;
+  known-told3 = c .known-told3;
+}
+
 enum-known-error : Tie.Need-enum-known-error
 enum-known-error c = search needs
 

@@ -31,3 +31,11 @@ module _ (Inv : Tie.InvT-loop) (μ : Tie.MeasureT-loop) where
     loop-test = c .before .before .loop-test;
     if1 = c .if1;
   }
+
+  pub record Returns-2 (c : Tie.After-loop Inv μ) : Type 0 where
+    pub start : Tie.Start Inv μ
+    pub loop : Lts.At-loop·own Reads.Pre Reads.Post Inv μ (c .before .before)
+    pub loop-test : Lts.After-loop·own Reads.Pre Reads.Post Inv μ (c .before)
+
+  abbrev pub returns-2 : (c : Tie.After-loop Inv μ) → Returns-2 c
+  returns-2 c = record { start = c .before .before; loop = c .before .loop; loop-test = c .loop-test }

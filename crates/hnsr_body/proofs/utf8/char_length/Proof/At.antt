@@ -9,6 +9,14 @@ use borrow.Author.Needs.{needs}
 abbrev readings : Lts.Claims
 readings = (Reads''.Asked, Reads''.Learnt, Reads'.Asked, Reads'.Learnt)
 
+pub record Returns (c : Tie.Then1) : Type 0 where
+  pub start : Tie.Start
+  pub lead-length : Lts.After-lead-length·own readings Reads.Pre Reads.Post (c .before .before)
+  pub if1 : Lts.Then1·own readings Reads.Pre Reads.Post (c .before)
+
+abbrev pub returns : (c : Tie.Then1) → Returns c
+returns c = record { start = c .before .before .before .before; lead-length = c .before .lead-length; if1 = c .if1 }
+
 pub record Returns-2 (c : Tie.Then2) : Type 0 where
   pub start : Tie.Start
   pub lead-length : Lts.After-lead-length·own readings Reads.Pre Reads.Post (c .before .before .before)

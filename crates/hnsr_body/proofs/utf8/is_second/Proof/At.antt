@@ -9,6 +9,46 @@ use borrow.Author.Needs.{needs}
 abbrev readings : Lts.Claims
 readings = (Reads.Asked, Reads.Learnt, Reads''.Asked, Reads''.Learnt)
 
+pub record Returns (c : Tie.After-is-between) : Type 0 where
+  pub start : Tie.Start
+  pub match : Lts.At-match-keys1·own readings Reads'.Pre Reads'.Post (c .before .before)
+  pub is-between : Lts.After-is-between·own readings Reads'.Pre Reads'.Post (c .before)
+
+abbrev pub returns : (c : Tie.After-is-between) → Returns c
+returns c = record { start = c .before .before; match = c .before .match; is-between = c .is-between }
+
+pub record Returns-2 (c : Tie.After-is-between2) : Type 0 where
+  pub start : Tie.Start
+  pub match : Lts.At-match-keys2·own readings Reads'.Pre Reads'.Post (c .before .before)
+  pub is-between2 : Lts.After-is-between2·own readings Reads'.Pre Reads'.Post (c .before)
+
+abbrev pub returns-2 : (c : Tie.After-is-between2) → Returns-2 c
+returns-2 c = record { start = c .before .before; match = c .before .match; is-between2 = c .is-between2 }
+
+pub record Returns-3 (c : Tie.After-is-between3) : Type 0 where
+  pub start : Tie.Start
+  pub match : Lts.At-match-keys3·own readings Reads'.Pre Reads'.Post (c .before .before)
+  pub is-between3 : Lts.After-is-between3·own readings Reads'.Pre Reads'.Post (c .before)
+
+abbrev pub returns-3 : (c : Tie.After-is-between3) → Returns-3 c
+returns-3 c = record { start = c .before .before; match = c .before .match; is-between3 = c .is-between3 }
+
+pub record Returns-4 (c : Tie.After-is-between4) : Type 0 where
+  pub start : Tie.Start
+  pub match : Lts.At-match-keys4·own readings Reads'.Pre Reads'.Post (c .before .before)
+  pub is-between4 : Lts.After-is-between4·own readings Reads'.Pre Reads'.Post (c .before)
+
+abbrev pub returns-4 : (c : Tie.After-is-between4) → Returns-4 c
+returns-4 c = record { start = c .before .before; match = c .before .match; is-between4 = c .is-between4 }
+
+pub record Returns-5 (c : Tie.After-is-tail) : Type 0 where
+  pub start : Tie.Start
+  pub match : Lts.At-match-rest·own readings Reads'.Pre Reads'.Post (c .before .before)
+  pub is-tail : Lts.After-is-tail·own readings Reads'.Pre Reads'.Post (c .before)
+
+abbrev pub returns-5 : (c : Tie.After-is-tail) → Returns-5 c
+returns-5 c = record { start = c .before .before; match = c .before .match; is-tail = c .is-tail }
+
 is-between-requires : Tie.Need-is-between-requires
 is-between-requires c = search needs
 

@@ -7,7 +7,9 @@ use Rattle.hnsr_circuit.proofs.answer.HnsrAnswer.cause.Tie as tie
 use Rattle.hnsr_circuit.proofs.answer.HnsrAnswer.cause.Proof.At as at
 
 returns : tie.Need-returns
-returns c = c .no-cause .ensures ∙ ap causeOf (sym (c .before .enum-told .given .1))
+returns c =
+    let here = at.returns c in
+    here .no-cause .ensures ∙ ap causeOf (sym (here .enum-told .given .1))
 
 returns-2 : tie.Need-returns-2
 returns-2 c =

@@ -20,7 +20,9 @@ returns c =
     rw (here .if1 .taken) (here .no .ensures ∙ on (here .start .args .enabled))
 
 returns-2 : tie.Need-returns-2
-returns-2 c = rw (c .if1 .left) (off (c .before .args .enabled))
+returns-2 c =
+    let here = at.returns-2 c in
+    rw (here .if1 .left) (off (here .start .args .enabled))
 
 pub changed-spec : {M : Type 1} → statement M
 changed-spec = tie.close (at.spec returns returns-2)

@@ -12,7 +12,9 @@ returns c =
     here .translated-on .ensures ∙ sym (on-true _ _ _ (here .if1 .taken))
 
 returns-2 : tie.Need-returns-2
-returns-2 c = c .before .passed-on .ensures ∙ sym (on-false _ _ _ (c .if1 .left))
+returns-2 c =
+    let here = at.returns-2 c in
+    here .passed-on .ensures ∙ sym (on-false _ _ _ (here .if1 .left))
 
 pub close-message-spec : {M : Type 1} → statement M
 close-message-spec =

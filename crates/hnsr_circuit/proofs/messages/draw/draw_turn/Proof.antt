@@ -12,7 +12,9 @@ use Rattle.hnsr_circuit.proofs.messages.draw.draw_turn.Proof.At as at
 
 returns : tie.Need-returns
 unfolding drawTurn
-returns c = let a = c .before .args in sym (on-true (a .drawing .ended) (a .drawing) _ (c .if1 .taken))
+returns c =
+    let here = at.returns c in
+    let a = here .start .args in sym (on-true (a .drawing .ended) (a .drawing) _ (here .if1 .taken))
 
 returns-2 : tie.Need-returns-2
 unfolding drawTurn

@@ -21,16 +21,17 @@ returns c =
 
 returns-2 : tie.Need-returns-2
 returns-2 c =
-    let a = c .before .before .before .before .args in
+    let here = at.returns-2 c in
+    let a = here .start .args in
     let p = heldPending (a .places) (a .pending .now) in
     let k = heldCircuits (a .places) (a .circuits .now) in
-    let waiting = c .before .before .find-pending-id .ensures in
-    let running = c .before .find-circuit-id .ensures in
+    let waiting = here .find-pending-id .ensures in
+    let running = here .find-circuit-id .ensures in
     let long = sym (length-held clearPending (a .places .pending) (a .pending .now)) in
     let wide = sym (length-held clearCircuit (a .places .circuits) (a .circuits .now)) in
-    let here = place-any (pendingAt (a .id)) p in
-    let there = place-any (circuitAt (a .id)) k in
-    c .either-found .ensures ∙ (λ x. ltb (waiting x) (long x) || ltb (running x) (wide x)) ∙ (λ x. here x || there x)
+    let waits = place-any (pendingAt (a .id)) p in
+    let runs = place-any (circuitAt (a .id)) k in
+    here .either-found .ensures ∙ (λ x. ltb (waiting x) (long x) || ltb (running x) (wide x)) ∙ (λ x. waits x || runs x)
 
 pub id-taken-spec : {M : Type 1} → statement M
 id-taken-spec = tie.close (at.spec returns returns-2)

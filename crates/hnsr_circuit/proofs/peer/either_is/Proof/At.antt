@@ -8,6 +8,14 @@ use borrow.Author.Needs.{needs}
 abbrev readings : Lts.Claims
 readings = (Reads'.Asked, Reads'.Learnt)
 
+pub record Returns (c : Tie.Then1) : Type 0 where
+  pub start : Tie.Start
+  pub same-peer : Lts.After-same-peer·own readings Reads.Pre Reads.Post (c .before .before)
+  pub if1 : Lts.Then1·own readings Reads.Pre Reads.Post (c .before)
+
+abbrev pub returns : (c : Tie.Then1) → Returns c
+returns c = record { start = c .before .before; same-peer = c .before .same-peer; if1 = c .if1 }
+
 pub record Returns-2 (c : Tie.After-same-peer2) : Type 0 where
   pub start : Tie.Start
   pub same-peer : Lts.After-same-peer·own readings Reads.Pre Reads.Post (c .before .before .before)

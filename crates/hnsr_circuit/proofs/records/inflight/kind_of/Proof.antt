@@ -12,7 +12,9 @@ returns c = rw (eq-eqb _ _ (c .if1 .taken))
 
 returns-2 : tie.Need-returns-2
 unfolding kindOf
-returns-2 c = rw (ne-eqb _ _ (c .before .if1 .left), eq-eqb _ _ (c .if2 .taken))
+returns-2 c =
+    let here = at.returns-2 c in
+    rw (ne-eqb _ _ (here .if1 .left), eq-eqb _ _ (here .if2 .taken))
 
 returns-3 : tie.Need-returns-3
 unfolding kindOf

@@ -1,13 +1,13 @@
 -- One sum, and every other field as it was.
-use borrow.Author.Needs.{needs}
+mod At
 use Rattle.hnsr_circuit.proofs.records.ledger.usage_spent.Statement.{statement}
 use Rattle.hnsr_circuit.proofs.records.ledger.usage_spent.Tie as tie
-
-saturating-add-u64-requires : tie.Need-saturating-add-u64-requires
-saturating-add-u64-requires c κs = search needs
+use Rattle.hnsr_circuit.proofs.records.ledger.usage_spent.Proof.At as at
 
 returns : tie.Need-returns
-returns c = rw (c .before .saturating-add-u64 .ensures)
+returns c =
+    let here = at.returns c in
+    rw (here .saturating-add-u64 .ensures)
 
 pub usage-spent-spec : {M : Type 1} → statement M
-usage-spent-spec = tie.close (tie.spec saturating-add-u64-requires returns)
+usage-spent-spec = tie.close (at.spec returns)

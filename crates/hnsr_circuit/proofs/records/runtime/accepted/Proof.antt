@@ -1,16 +1,13 @@
 -- The counter counts where the call goes on.
-use borrow.Author.Needs.{needs}
+mod At
 use Rattle.hnsr_circuit.proofs.records.runtime.accepted.Statement.{statement}
 use Rattle.hnsr_circuit.proofs.records.runtime.accepted.Tie as tie
-
-count-accept-requires : tie.Need-count-accept-requires
-count-accept-requires c κs = search needs
-
-counted-requires : tie.Need-counted-requires
-counted-requires c κs = search needs
+use Rattle.hnsr_circuit.proofs.records.runtime.accepted.Proof.At as at
 
 returns : tie.Need-returns
-returns c = rw (c .counted .ensures, c .before .count-accept .ensures)
+returns c =
+    let here = at.returns c in
+    rw (here .counted .ensures, here .count-accept .ensures)
 
 pub accepted-spec : {M : Type 1} → statement M
-accepted-spec = tie.close (tie.spec count-accept-requires counted-requires returns)
+accepted-spec = tie.close (at.spec returns)

@@ -26,7 +26,9 @@ min-usize-requires : tie.Need-min-usize-requires Inv-loop μ-loop
 min-usize-requires c = search needs
 
 loop-holds : tie.Need-loop-holds Inv-loop μ-loop
-loop-holds c = let a = c .before .args in (omega arith, omega arith, zero-add (placeOf (circuitAt (a .id)) (held clearCircuit (c .min-usize .result) (a .circuits .now))))
+loop-holds c =
+    let here = at.loop-holds Inv-loop μ-loop c in
+    let a = here .start .args in (omega arith, omega arith, zero-add (placeOf (circuitAt (a .id)) (held clearCircuit (here .min-usize .result) (a .circuits .now))))
 
 mul-row : tie.Need-mul-row Inv-loop μ-loop
 mul-row c = search needs
@@ -39,12 +41,15 @@ circuit-is-requires c = search needs
 
 returns : tie.Need-returns Inv-loop μ-loop
 returns c =
-    let a = c .before .before .before .before .before .before .args in
+    let here = at.returns Inv-loop μ-loop c in
+    let a = here .start .args in
     let t = a .circuits .now in
-    let n = c .before .before .before .before .before .min-usize .result in
-    let l = c .before .before .before .before .loop in
-    let seen = ap (λ (m : ℕ). held clearCircuit m t) (c .before .before .before .before .before .min-usize .ensures) ∙ held-min clearCircuit (a .places .circuits) t in
-    held-find-here clearCircuit n t noCircuit (l .i) (omega arith) (omega arith) (circuitAt (a .id)) (placeOf (circuitAt (a .id)) (held clearCircuit n t)) (sym (c .before .circuit-is .ensures) ∙ c .if1 .taken) (l .inv .2)
+    let n = here .min-usize .result in
+    let l = here .loop in
+    let less = here .loop-test .taken in
+    let most = l .inv .1 in
+    let seen = ap (λ (m : ℕ). held clearCircuit m t) (here .min-usize .ensures) ∙ held-min clearCircuit (a .places .circuits) t in
+    held-find-here clearCircuit n t noCircuit (l .i) (omega arith) (omega arith) (circuitAt (a .id)) (placeOf (circuitAt (a .id)) (held clearCircuit n t)) (sym (here .circuit-is .ensures) ∙ here .if1 .taken) (l .inv .2)
     ∙ ap (placeOf (circuitAt (a .id))) seen
 
 add-i : tie.Need-add-i Inv-loop μ-loop

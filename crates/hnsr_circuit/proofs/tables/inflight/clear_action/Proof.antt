@@ -44,7 +44,9 @@ add-i : tie.Need-add-i Inv-loop μ-loop
 add-i c = search needs
 
 loop-less : tie.Need-loop-less Inv-loop μ-loop
-loop-less c = let k = c .before .unmark-action .kept .0 in omega arith
+loop-less c =
+    let here = at.loop-less Inv-loop μ-loop c in
+    let k = here .unmark-action .kept .0 in omega arith
 
 loop-again : tie.Need-loop-again Inv-loop μ-loop
 loop-again c =

@@ -85,31 +85,34 @@ loop-less c =
 loop-again : tie.Need-loop-again Inv-loop μ-loop
 unfolding dropped
 loop-again c =
-    let a = c .before .before .before .before .before .before .before .before .before .before .before .args in
+    let here = at.loop-again Inv-loop μ-loop c in
+    let a = here .start .args in
     let q = a .question in
-    let n = c .before .before .before .before .before .before .before .before .before .before .min-usize .result in
-    let l = c .before .before .before .before .before .before .before .before .loop in
+    let n = here .min-usize .result in
+    let l = here .loop in
+    let less = here .loop-test .taken in
+    let most = here .loop .inv .1 in
     let d = actionUnder (a .id) in
     let t = l .inflight in
     let u = dropped d (held clearAction n (a .inflight .now)) in
     let row = getD t (l .i) noAction in
-    let s = c .before .before .unmark-action in
+    let s = here .unmark-action in
     let k = s .kept .0 in
-    let has = c .before .before .before .before .before .action-under .ensures in
+    let has = here .action-under .ensures in
     let inside : l .i < length (held clearAction n t) = rw (length-held clearAction n t) (omega arith) in
-    let left : c .before .before .before .before .action-left .result ≡ getD u (l .i) noAction =
-    c .before .before .before .before .action-left .ensures ∙ ap (λ (b : Bool). cond b (clearAction row) row) has
+    let left : here .action-left .result ≡ getD u (l .i) noAction =
+    here .action-left .ensures ∙ ap (λ (b : Bool). cond b (clearAction row) row) has
     ∙ ap (cleared clearAction d) (sym (held-at clearAction n t (l .i) noAction (omega arith)))
     ∙ sym (map-here (cleared clearAction d) (held clearAction n t) noAction (l .i) inside)
     ∙ ap (λ (x : List InflightAction). getD x (l .i) noAction) (l .inv .4) in
-    let after = c .action-scanned .ensures ∙ ap (λ (x : InflightAction). scanned q (l .scan) x (l .i)) left in
+    let after = here .action-scanned .ensures ∙ ap (λ (x : InflightAction). scanned q (l .scan) x (l .i)) left in
     let long : l .i < length u = rw (length-map (held clearAction n (a .inflight .now)) (cleared clearAction d), length-held clearAction n (a .inflight .now)) (omega arith) in (
       omega arith,
       l .inv .1,
       k ∙ l .inv .2,
-      rw (c .action-scanned .ensures) (tally-most q (l .i) (l .scan .tally) (c .before .before .before .before .action-left .result) (l .i) (l .inv .3)),
-      held-clear-step clearAction n t noAction (l .i) (omega arith) (omega arith) d (c .before .before .before .before .before .action-under .result) (s .last .0) u has (s .ensures) (l .inv .4),
-      fold-step (scanned q) u noAction (l .i) (l .scan) (c .action-scanned .result) (actionsScanned q u) long after (l .inv .5),
+      rw (here .action-scanned .ensures) (tally-most q (l .i) (l .scan .tally) (here .action-left .result) (l .i) (l .inv .3)),
+      held-clear-step clearAction n t noAction (l .i) (omega arith) (omega arith) d (here .action-under .result) (s .last .0) u has (s .ensures) (l .inv .4),
+      fold-step (scanned q) u noAction (l .i) (l .scan) (here .action-scanned .result) (actionsScanned q u) long after (l .inv .5),
     )
 
 spared-requires : tie.Need-spared-requires Inv-loop μ-loop

@@ -26,7 +26,9 @@ min-usize-requires : tie.Need-min-usize-requires Inv-loop μ-loop
 min-usize-requires c = search needs
 
 loop-holds : tie.Need-loop-holds Inv-loop μ-loop
-loop-holds c = let a = c .before .args in (omega arith, omega arith, zero-add (placeOf (actionAt (a .generation) (a .sequence)) (held clearAction (c .min-usize .result) (a .inflight .now))))
+loop-holds c =
+    let here = at.loop-holds Inv-loop μ-loop c in
+    let a = here .start .args in (omega arith, omega arith, zero-add (placeOf (actionAt (a .generation) (a .sequence)) (held clearAction (here .min-usize .result) (a .inflight .now))))
 
 mul-row : tie.Need-mul-row Inv-loop μ-loop
 mul-row c = search needs
@@ -39,12 +41,15 @@ action-is-requires c = search needs
 
 returns : tie.Need-returns Inv-loop μ-loop
 returns c =
-    let a = c .before .before .before .before .before .before .args in
+    let here = at.returns Inv-loop μ-loop c in
+    let a = here .start .args in
     let t = a .inflight .now in
-    let n = c .before .before .before .before .before .min-usize .result in
-    let l = c .before .before .before .before .loop in
-    let seen = ap (λ (m : ℕ). held clearAction m t) (c .before .before .before .before .before .min-usize .ensures) ∙ held-min clearAction (a .places .actions) t in
-    held-find-here clearAction n t noAction (l .i) (omega arith) (omega arith) (actionAt (a .generation) (a .sequence)) (placeOf (actionAt (a .generation) (a .sequence)) (held clearAction n t)) (sym (c .before .action-is .ensures) ∙ c .if1 .taken) (l .inv .2)
+    let n = here .min-usize .result in
+    let l = here .loop in
+    let less = here .loop-test .taken in
+    let most = l .inv .1 in
+    let seen = ap (λ (m : ℕ). held clearAction m t) (here .min-usize .ensures) ∙ held-min clearAction (a .places .actions) t in
+    held-find-here clearAction n t noAction (l .i) (omega arith) (omega arith) (actionAt (a .generation) (a .sequence)) (placeOf (actionAt (a .generation) (a .sequence)) (held clearAction n t)) (sym (here .action-is .ensures) ∙ here .if1 .taken) (l .inv .2)
     ∙ ap (placeOf (actionAt (a .generation) (a .sequence))) seen
 
 add-i : tie.Need-add-i Inv-loop μ-loop

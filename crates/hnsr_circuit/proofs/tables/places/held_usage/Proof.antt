@@ -1,17 +1,17 @@
 -- `held_usage` meets its contract.
+mod At
 use mathlib.Core.Path.{_∙_}
-use borrow.Author.Needs.{needs}
 use Rattle.hnsr_circuit.proofs.tables.places.held_usage.Statement.{statement}
 use Rattle.hnsr_circuit.proofs.tables.places.held_usage.Tie as tie
+use Rattle.hnsr_circuit.proofs.tables.places.held_usage.Proof.At as at
 
 returns : tie.Need-returns
 returns c = rw (c .if1 .taken)
 
-usage-unmarked-requires : tie.Need-usage-unmarked-requires
-usage-unmarked-requires c κs = search needs
-
 returns-2 : tie.Need-returns-2
-returns-2 c = c .usage-unmarked .ensures ∙ rw (c .before .if1 .left)
+returns-2 c =
+    let here = at.returns-2 c in
+    here .usage-unmarked .ensures ∙ rw (here .if1 .left)
 
 pub held-usage-spec : {M : Type 1} → statement M
-held-usage-spec = tie.close (tie.spec returns usage-unmarked-requires returns-2)
+held-usage-spec = tie.close (at.spec returns returns-2)

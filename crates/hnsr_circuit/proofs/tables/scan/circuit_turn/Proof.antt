@@ -1,16 +1,13 @@
 -- The question, then the turn.
-use borrow.Author.Needs.{needs}
+mod At
 use Rattle.hnsr_circuit.proofs.tables.scan.circuit_turn.Statement.{statement}
 use Rattle.hnsr_circuit.proofs.tables.scan.circuit_turn.Tie as tie
-
-circuit-has-requires : tie.Need-circuit-has-requires
-circuit-has-requires c κs = search needs
-
-walked-on-requires : tie.Need-walked-on-requires
-walked-on-requires c κs = search needs
+use Rattle.hnsr_circuit.proofs.tables.scan.circuit_turn.Proof.At as at
 
 returns : tie.Need-returns
-returns c = rw (c .walked-on .ensures, c .before .circuit-has .ensures)
+returns c =
+    let here = at.returns c in
+    rw (here .walked-on .ensures, here .circuit-has .ensures)
 
 pub circuit-turn-spec : {M : Type 1} → statement M
-circuit-turn-spec = tie.close (tie.spec circuit-has-requires walked-on-requires returns)
+circuit-turn-spec = tie.close (at.spec returns)

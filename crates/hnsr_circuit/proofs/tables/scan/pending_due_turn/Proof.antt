@@ -1,20 +1,20 @@
 -- The deadline of a used record.
+mod At
 use Rattle.hnsr_circuit.specs.NextDue.{dueTurn}
 use Rattle.hnsr_circuit.specs.Pending.{isPending}
-use borrow.Author.Needs.{needs}
 use Rattle.hnsr_circuit.proofs.tables.scan.pending_due_turn.Statement.{statement}
 use Rattle.hnsr_circuit.proofs.tables.scan.pending_due_turn.Tie as tie
-
-earlier-requires : tie.Need-earlier-requires
-earlier-requires c κs = search needs
+use Rattle.hnsr_circuit.proofs.tables.scan.pending_due_turn.Proof.At as at
 
 returns : tie.Need-returns
 unfolding dueTurn isPending
-returns c = rw (c .before .if1 .taken) (c .earlier .ensures)
+returns c =
+    let here = at.returns c in
+    rw (here .if1 .taken) (here .earlier .ensures)
 
 returns-2 : tie.Need-returns-2
 unfolding dueTurn isPending
 returns-2 c = rw (c .if1 .left)
 
 pub pending-due-turn-spec : {M : Type 1} → statement M
-pending-due-turn-spec = tie.close (tie.spec earlier-requires returns returns-2)
+pending-due-turn-spec = tie.close (at.spec returns returns-2)

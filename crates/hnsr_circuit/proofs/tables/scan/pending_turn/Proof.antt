@@ -1,16 +1,13 @@
 -- The question, then the turn.
-use borrow.Author.Needs.{needs}
+mod At
 use Rattle.hnsr_circuit.proofs.tables.scan.pending_turn.Statement.{statement}
 use Rattle.hnsr_circuit.proofs.tables.scan.pending_turn.Tie as tie
-
-pending-has-requires : tie.Need-pending-has-requires
-pending-has-requires c κs = search needs
-
-walked-on-requires : tie.Need-walked-on-requires
-walked-on-requires c κs = search needs
+use Rattle.hnsr_circuit.proofs.tables.scan.pending_turn.Proof.At as at
 
 returns : tie.Need-returns
-returns c = rw (c .walked-on .ensures, c .before .pending-has .ensures)
+returns c =
+    let here = at.returns c in
+    rw (here .walked-on .ensures, here .pending-has .ensures)
 
 pub pending-turn-spec : {M : Type 1} → statement M
-pending-turn-spec = tie.close (tie.spec pending-has-requires walked-on-requires returns)
+pending-turn-spec = tie.close (at.spec returns)

@@ -4,6 +4,14 @@ use Rattle.lekchnam.proofs.By.relay.opaque_relay_next_due.Reads
 use Rattle.lekchnam.proofs.relay.opaque_relay_next_due.Proof.Tie
 use borrow.Author.Needs.{needs}
 
+pub record Returns (c : Tie.After-due-reply) : Type 0 where
+  pub start : Tie.Start
+  pub next-due : Lts.After-next-due·own Tie.readings Reads.Pre Reads.Post (c .before .before)
+  pub due-reply : Lts.After-due-reply·own Tie.readings Reads.Pre Reads.Post (c .before)
+
+abbrev pub returns : (c : Tie.After-due-reply) → Returns c
+returns c = record { start = c .before .before; next-due = c .before .next-due; due-reply = c .due-reply }
+
 next-due-requires : Tie.Need-next-due-requires
 next-due-requires c = search needs
 

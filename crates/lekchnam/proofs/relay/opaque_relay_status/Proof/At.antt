@@ -4,6 +4,14 @@ use Rattle.lekchnam.proofs.By.relay.opaque_relay_status.Reads
 use Rattle.lekchnam.proofs.relay.opaque_relay_status.Proof.Tie
 use borrow.Author.Needs.{needs}
 
+pub record Returns (c : Tie.After-status-reply) : Type 0 where
+  pub start : Tie.Start
+  pub status : Lts.After-status·own Tie.readings Reads.Pre Reads.Post (c .before .before)
+  pub status-reply : Lts.After-status-reply·own Tie.readings Reads.Pre Reads.Post (c .before)
+
+abbrev pub returns : (c : Tie.After-status-reply) → Returns c
+returns c = record { start = c .before .before; status = c .before .status; status-reply = c .status-reply }
+
 status-requires : Tie.Need-status-requires
 status-requires c = search needs
 

@@ -4,6 +4,20 @@ use Rattle.hnsr_body.proofs.detail_body.ReasonDetail.headed.Reads
 use Rattle.hnsr_body.proofs.detail_body.ReasonDetail.headed.Tie
 use borrow.Author.Needs.{needs}
 
+pub record Returns-2 (c : Tie.After-known-told) : Type 0 where
+  pub start : Tie.Start
+  pub match : Lts.At-match-keys2·own Reads.Pre Reads.Post (c .before .before .before)
+  pub step : Lts.After-step·own Reads.Pre Reads.Post (c .before .before)
+  pub known-told : Lts.After-known-told·own Reads.Pre Reads.Post (c .before)
+
+abbrev pub returns-2 : (c : Tie.After-known-told) → Returns-2 c
+returns-2 c = record {
+  start = c .before .before .before;
+  match = c .before .before .match;
+  step = c .before .step;
+  known-told = c .known-told;
+}
+
 enum-told : Tie.Need-enum-told
 enum-told c = search needs
 

@@ -4,6 +4,104 @@ use Rattle.hnsr_body.proofs.messages.Notice.message.Reads
 use Rattle.hnsr_body.proofs.messages.Notice.message.Tie
 use borrow.Author.Needs.{needs}
 
+pub record Returns (c : Tie.After-result) : Type 0 where
+  pub start : Tie.Start
+  pub match : Lts.At-match-keys1·own Reads.Pre Reads.Post (c .before .before .before)
+  pub enum-told : Lts.After-enum-told·own Reads.Pre Reads.Post (c .before .before)
+  pub result : Lts.After-result·own Reads.Pre Reads.Post (c .before)
+
+abbrev pub returns : (c : Tie.After-result) → Returns c
+returns c = record {
+  start = c .before .before .before;
+  match = c .before .before .match;
+  enum-told = c .before .enum-told;
+  result = c .result;
+}
+
+pub record Returns-2 (c : Tie.After-result2) : Type 0 where
+  pub start : Tie.Start
+  pub match : Lts.At-match-keys2·own Reads.Pre Reads.Post (c .before .before .before)
+  pub enum-told2 : Lts.After-enum-told2·own Reads.Pre Reads.Post (c .before .before)
+  pub result2 : Lts.After-result2·own Reads.Pre Reads.Post (c .before)
+
+abbrev pub returns-2 : (c : Tie.After-result2) → Returns-2 c
+returns-2 c = record {
+  start = c .before .before .before;
+  match = c .before .before .match;
+  enum-told2 = c .before .enum-told2;
+  result2 = c .result2;
+}
+
+pub record Returns-3 (c : Tie.After-result3) : Type 0 where
+  pub start : Tie.Start
+  pub match : Lts.At-match-keys3·own Reads.Pre Reads.Post (c .before .before .before)
+  pub enum-told3 : Lts.After-enum-told3·own Reads.Pre Reads.Post (c .before .before)
+  pub result3 : Lts.After-result3·own Reads.Pre Reads.Post (c .before)
+
+abbrev pub returns-3 : (c : Tie.After-result3) → Returns-3 c
+returns-3 c = record {
+  start = c .before .before .before;
+  match = c .before .before .match;
+  enum-told3 = c .before .enum-told3;
+  result3 = c .result3;
+}
+
+pub record Returns-4 (c : Tie.After-result4) : Type 0 where
+  pub start : Tie.Start
+  pub match : Lts.At-match-keys4·own Reads.Pre Reads.Post (c .before .before .before)
+  pub enum-told4 : Lts.After-enum-told4·own Reads.Pre Reads.Post (c .before .before)
+  pub result4 : Lts.After-result4·own Reads.Pre Reads.Post (c .before)
+
+abbrev pub returns-4 : (c : Tie.After-result4) → Returns-4 c
+returns-4 c = record {
+  start = c .before .before .before;
+  match = c .before .before .match;
+  enum-told4 = c .before .enum-told4;
+  result4 = c .result4;
+}
+
+pub record Returns-5 (c : Tie.After-result5) : Type 0 where
+  pub start : Tie.Start
+  pub match : Lts.At-match-keys5·own Reads.Pre Reads.Post (c .before .before .before)
+  pub enum-told5 : Lts.After-enum-told5·own Reads.Pre Reads.Post (c .before .before)
+  pub result5 : Lts.After-result5·own Reads.Pre Reads.Post (c .before)
+
+abbrev pub returns-5 : (c : Tie.After-result5) → Returns-5 c
+returns-5 c = record {
+  start = c .before .before .before;
+  match = c .before .before .match;
+  enum-told5 = c .before .enum-told5;
+  result5 = c .result5;
+}
+
+pub record Returns-6 (c : Tie.After-result6) : Type 0 where
+  pub start : Tie.Start
+  pub match : Lts.At-match-keys6·own Reads.Pre Reads.Post (c .before .before .before)
+  pub enum-told6 : Lts.After-enum-told6·own Reads.Pre Reads.Post (c .before .before)
+  pub result6 : Lts.After-result6·own Reads.Pre Reads.Post (c .before)
+
+abbrev pub returns-6 : (c : Tie.After-result6) → Returns-6 c
+returns-6 c = record {
+  start = c .before .before .before;
+  match = c .before .before .match;
+  enum-told6 = c .before .enum-told6;
+  result6 = c .result6;
+}
+
+pub record Returns-7 (c : Tie.After-result7) : Type 0 where
+  pub start : Tie.Start
+  pub match : Lts.At-match-keys7·own Reads.Pre Reads.Post (c .before .before .before)
+  pub enum-told7 : Lts.After-enum-told7·own Reads.Pre Reads.Post (c .before .before)
+  pub result7 : Lts.After-result7·own Reads.Pre Reads.Post (c .before)
+
+abbrev pub returns-7 : (c : Tie.After-result7) → Returns-7 c
+returns-7 c = record {
+  start = c .before .before .before;
+  match = c .before .before .match;
+  enum-told7 = c .before .enum-told7;
+  result7 = c .result7;
+}
+
 enum-told : Tie.Need-enum-told
 enum-told c = search needs
 

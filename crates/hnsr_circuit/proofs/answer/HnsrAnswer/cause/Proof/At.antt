@@ -9,6 +9,20 @@ use borrow.Author.Needs.{needs}
 abbrev readings : Lts.Claims
 readings = (Reads''.Asked, Reads''.Learnt, Reads'.Asked, Reads'.Learnt)
 
+pub record Returns (c : Tie.After-no-cause) : Type 0 where
+  pub start : Tie.Start
+  pub match : Lts.At-match-keys1·own readings Reads.Pre Reads.Post (c .before .before .before)
+  pub enum-told : Lts.After-enum-told·own readings Reads.Pre Reads.Post (c .before .before)
+  pub no-cause : Lts.After-no-cause·own readings Reads.Pre Reads.Post (c .before)
+
+abbrev pub returns : (c : Tie.After-no-cause) → Returns c
+returns c = record {
+  start = c .before .before .before;
+  match = c .before .before .match;
+  enum-told = c .before .enum-told;
+  no-cause = c .no-cause;
+}
+
 pub record Returns-2 (c : Tie.After-error-cause) : Type 0 where
   pub start : Tie.Start
   pub match : Lts.At-match-keys2·own readings Reads.Pre Reads.Post (c .before .before .before .before)

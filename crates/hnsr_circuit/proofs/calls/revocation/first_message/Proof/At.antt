@@ -25,6 +25,22 @@ returns c = record {
   if1 = c .if1;
 }
 
+pub record Returns-2 (c : Tie.Else1) : Type 0 where
+  pub start : Tie.Start
+  pub peer : Lts.After-peer·own readings Reads''.Pre Reads''.Post (c .before .before .before .before)
+  pub close-to-other : Lts.After-close-to-other·own readings Reads''.Pre Reads''.Post (c .before .before .before)
+  pub error-to-requester : Lts.After-error-to-requester·own readings Reads''.Pre Reads''.Post (c .before .before)
+  pub if1 : Lts.Else1·own readings Reads''.Pre Reads''.Post (c .before)
+
+abbrev pub returns-2 : (c : Tie.Else1) → Returns-2 c
+returns-2 c = record {
+  start = c .before .before .before .before;
+  peer = c .before .before .before .peer;
+  close-to-other = c .before .before .close-to-other;
+  error-to-requester = c .before .error-to-requester;
+  if1 = c .if1;
+}
+
 close-to-other-requires : Tie.Need-close-to-other-requires
 close-to-other-requires c = search needs
 

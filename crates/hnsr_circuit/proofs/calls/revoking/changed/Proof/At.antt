@@ -16,6 +16,13 @@ pub record Returns (c : Tie.After-no) : Type 0 where
 abbrev pub returns : (c : Tie.After-no) → Returns c
 returns c = record { start = c .before .before; if1 = c .before .if1; no = c .no }
 
+pub record Returns-2 (c : Tie.Else1) : Type 0 where
+  pub start : Tie.Start
+  pub if1 : Lts.Else1·own readings Reads'.Pre Reads'.Post (c .before)
+
+abbrev pub returns-2 : (c : Tie.Else1) → Returns-2 c
+returns-2 c = record { start = c .before; if1 = c .if1 }
+
 no-requires : Tie.Need-no-requires
 no-requires c = search needs
 

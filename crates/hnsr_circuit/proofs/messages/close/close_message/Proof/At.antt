@@ -25,6 +25,22 @@ returns c = record {
   if1 = c .if1;
 }
 
+pub record Returns-2 (c : Tie.Else1) : Type 0 where
+  pub start : Tie.Start
+  pub pending : Lts.After-pending·own readings Reads.Pre Reads.Post (c .before .before .before .before)
+  pub translated-on : Lts.After-translated-on·own readings Reads.Pre Reads.Post (c .before .before .before)
+  pub passed-on : Lts.After-passed-on·own readings Reads.Pre Reads.Post (c .before .before)
+  pub if1 : Lts.Else1·own readings Reads.Pre Reads.Post (c .before)
+
+abbrev pub returns-2 : (c : Tie.Else1) → Returns-2 c
+returns-2 c = record {
+  start = c .before .before .before .before;
+  pending = c .before .before .before .pending;
+  translated-on = c .before .before .translated-on;
+  passed-on = c .before .passed-on;
+  if1 = c .if1;
+}
+
 translated-on-requires : Tie.Need-translated-on-requires
 translated-on-requires c = search needs
 

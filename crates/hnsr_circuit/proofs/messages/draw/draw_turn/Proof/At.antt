@@ -4,6 +4,13 @@ use Rattle.hnsr_circuit.proofs.messages.draw.draw_turn.Reads
 use Rattle.hnsr_circuit.proofs.messages.draw.draw_turn.Tie
 use borrow.Author.Needs.{needs}
 
+pub record Returns (c : Tie.Then1) : Type 0 where
+  pub start : Tie.Start
+  pub if1 : Lts.Then1·own Reads.Pre Reads.Post (c .before)
+
+abbrev pub returns : (c : Tie.Then1) → Returns c
+returns c = record { start = c .before; if1 = c .if1 }
+
 pub record Returns-2 (c : Tie.After-struct-known2) : Type 0 where
   pub start : Tie.Start
   pub if1 : Lts.Else1·own Reads.Pre Reads.Post (c .before .before .before .before)

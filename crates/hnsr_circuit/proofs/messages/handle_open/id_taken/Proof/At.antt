@@ -11,6 +11,22 @@ pub record Returns (c : Tie.Then1) : Type 0 where
 abbrev pub returns : (c : Tie.Then1) → Returns c
 returns c = record { start = c .before; if1 = c .if1 }
 
+pub record Returns-2 (c : Tie.After-either-found) : Type 0 where
+  pub start : Tie.Start
+  pub if1 : Lts.Else1·own Tie.readings Reads.Pre Reads.Post (c .before .before .before .before)
+  pub find-pending-id : Lts.After-find-pending-id·own Tie.readings Reads.Pre Reads.Post (c .before .before .before)
+  pub find-circuit-id : Lts.After-find-circuit-id·own Tie.readings Reads.Pre Reads.Post (c .before .before)
+  pub either-found : Lts.After-either-found·own Tie.readings Reads.Pre Reads.Post (c .before)
+
+abbrev pub returns-2 : (c : Tie.After-either-found) → Returns-2 c
+returns-2 c = record {
+  start = c .before .before .before .before;
+  if1 = c .before .before .before .if1;
+  find-pending-id = c .before .before .find-pending-id;
+  find-circuit-id = c .before .find-circuit-id;
+  either-found = c .either-found;
+}
+
 find-pending-id-requires : Tie.Need-find-pending-id-requires
 find-pending-id-requires c = search needs
 

@@ -4,6 +4,34 @@ use Rattle.hnsr_circuit.proofs.records.circuits.peer_at.Reads
 use Rattle.hnsr_circuit.proofs.records.circuits.peer_at.Tie
 use borrow.Author.Needs.{needs}
 
+pub record Returns (c : Tie.After-result) : Type 0 where
+  pub start : Tie.Start
+  pub match : Lts.At-match-keys1·own Reads.Pre Reads.Post (c .before .before .before)
+  pub enum-told : Lts.After-enum-told·own Reads.Pre Reads.Post (c .before .before)
+  pub result : Lts.After-result·own Reads.Pre Reads.Post (c .before)
+
+abbrev pub returns : (c : Tie.After-result) → Returns c
+returns c = record {
+  start = c .before .before .before;
+  match = c .before .before .match;
+  enum-told = c .before .enum-told;
+  result = c .result;
+}
+
+pub record Returns-2 (c : Tie.After-result2) : Type 0 where
+  pub start : Tie.Start
+  pub match : Lts.At-match-keys2·own Reads.Pre Reads.Post (c .before .before .before)
+  pub enum-told2 : Lts.After-enum-told2·own Reads.Pre Reads.Post (c .before .before)
+  pub result2 : Lts.After-result2·own Reads.Pre Reads.Post (c .before)
+
+abbrev pub returns-2 : (c : Tie.After-result2) → Returns-2 c
+returns-2 c = record {
+  start = c .before .before .before;
+  match = c .before .before .match;
+  enum-told2 = c .before .enum-told2;
+  result2 = c .result2;
+}
+
 enum-told : Tie.Need-enum-told
 enum-told c = search needs
 

@@ -3,6 +3,14 @@ use Rattle.hnsr_circuit.proofs.records.inflight.kind_of.Lts
 use Rattle.hnsr_circuit.proofs.records.inflight.kind_of.Reads
 use Rattle.hnsr_circuit.proofs.records.inflight.kind_of.Tie
 
+pub record Returns-2 (c : Tie.Then2) : Type 0 where
+  pub start : Tie.Start
+  pub if1 : Lts.Else1·own Reads.Pre Reads.Post (c .before .before)
+  pub if2 : Lts.Then2·own Reads.Pre Reads.Post (c .before)
+
+abbrev pub returns-2 : (c : Tie.Then2) → Returns-2 c
+returns-2 c = record { start = c .before .before; if1 = c .before .if1; if2 = c .if2 }
+
 pub record Returns-3 (c : Tie.Then3) : Type 0 where
   pub start : Tie.Start
   pub if1 : Lts.Else1·own Reads.Pre Reads.Post (c .before .before .before)

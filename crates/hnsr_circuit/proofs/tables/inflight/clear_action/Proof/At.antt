@@ -4,6 +4,32 @@ use Rattle.hnsr_circuit.proofs.By.tables.inflight.clear_action.Reads
 use Rattle.hnsr_circuit.proofs.tables.inflight.clear_action.Proof.Tie
 
 module _ (Inv : Tie.InvT-loop) (μ : Tie.MeasureT-loop) where
+  pub record Loop-less (c : Tie.After-inflight Inv μ) : Type 0 where
+    pub start : Tie.Start Inv μ
+    pub min-usize : Lts.After-min-usize·own Tie.readings Reads.Pre Reads.Post Inv μ (c .before .before .before .before
+        .before .before .before .before)
+    pub loop : Lts.At-loop·own Tie.readings Reads.Pre Reads.Post Inv μ
+        (c .before .before .before .before .before .before .before)
+    pub loop-test : Lts.In-loop·own Tie.readings Reads.Pre Reads.Post Inv μ
+        (c .before .before .before .before .before .before)
+    pub row : Lts.After-row·own Tie.readings Reads.Pre Reads.Post Inv μ (c .before .before .before .before .before)
+    pub action-has : Lts.After-action-has·own Tie.readings Reads.Pre Reads.Post Inv μ
+        (c .before .before .before .before)
+    pub unmark-action : Lts.After-unmark-action·own Tie.readings Reads.Pre Reads.Post Inv μ (c .before .before)
+    pub inflight : Lts.After-inflight·own Tie.readings Reads.Pre Reads.Post Inv μ (c .before)
+
+  abbrev pub loop-less : (c : Tie.After-inflight Inv μ) → Loop-less c
+  loop-less c = record {
+    start = c .before .before .before .before .before .before .before .before;
+    min-usize = c .before .before .before .before .before .before .before .min-usize;
+    loop = c .before .before .before .before .before .before .loop;
+    loop-test = c .before .before .before .before .before .loop-test;
+    row = c .before .before .before .before .row;
+    action-has = c .before .before .before .action-has;
+    unmark-action = c .before .unmark-action;
+    inflight = c .inflight;
+  }
+
   pub record Loop-again (c : Tie.After-inflight Inv μ) : Type 0 where
     pub start : Tie.Start Inv μ
     pub min-usize : Lts.After-min-usize·own Tie.readings Reads.Pre Reads.Post Inv μ (c .before .before .before .before

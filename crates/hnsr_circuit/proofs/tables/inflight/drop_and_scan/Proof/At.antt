@@ -80,6 +80,41 @@ module _ (Inv : Tie.InvT-loop) (μ : Tie.MeasureT-loop) where
     action-scanned = c .action-scanned;
   }
 
+  pub record Loop-again (c : Tie.After-action-scanned Inv μ) : Type 0 where
+    pub start : Tie.Start Inv μ
+    pub min-usize : Lts.After-min-usize·own Tie.readings Reads.Pre Reads.Post Inv μ (c .before .before .before .before
+        .before .before .before .before .before .before .before)
+    pub no-scan : Lts.After-no-scan·own Tie.readings Reads.Pre Reads.Post Inv μ (c .before .before .before .before
+        .before .before .before .before .before .before)
+    pub loop : Lts.At-loop·own Tie.readings Reads.Pre Reads.Post Inv μ (c .before .before .before .before .before
+        .before .before .before .before)
+    pub loop-test : Lts.In-loop·own Tie.readings Reads.Pre Reads.Post Inv μ (c .before .before .before .before .before
+        .before .before .before)
+    pub row : Lts.After-row·own Tie.readings Reads.Pre Reads.Post Inv μ
+        (c .before .before .before .before .before .before .before)
+    pub action-under : Lts.After-action-under·own Tie.readings Reads.Pre Reads.Post Inv μ
+        (c .before .before .before .before .before .before)
+    pub action-left : Lts.After-action-left·own Tie.readings Reads.Pre Reads.Post Inv μ
+        (c .before .before .before .before .before)
+    pub unmark-action : Lts.After-unmark-action·own Tie.readings Reads.Pre Reads.Post Inv μ (c .before .before .before)
+    pub inflight : Lts.After-inflight·own Tie.readings Reads.Pre Reads.Post Inv μ (c .before .before)
+    pub action-scanned : Lts.After-action-scanned·own Tie.readings Reads.Pre Reads.Post Inv μ (c .before)
+
+  abbrev pub loop-again : (c : Tie.After-action-scanned Inv μ) → Loop-again c
+  loop-again c = record {
+    start = c .before .before .before .before .before .before .before .before .before .before .before;
+    min-usize = c .before .before .before .before .before .before .before .before .before .before .min-usize;
+    no-scan = c .before .before .before .before .before .before .before .before .before .no-scan;
+    loop = c .before .before .before .before .before .before .before .before .loop;
+    loop-test = c .before .before .before .before .before .before .before .loop-test;
+    row = c .before .before .before .before .before .before .row;
+    action-under = c .before .before .before .before .before .action-under;
+    action-left = c .before .before .before .before .action-left;
+    unmark-action = c .before .before .unmark-action;
+    inflight = c .before .inflight;
+    action-scanned = c .action-scanned;
+  }
+
   pub record Returns (c : Tie.After-spared Inv μ) : Type 0 where
     pub start : Tie.Start Inv μ
     pub min-usize : Lts.After-min-usize·own Tie.readings Reads.Pre Reads.Post Inv μ

@@ -4,6 +4,34 @@ use Rattle.hnsr_circuit.proofs.By.tables.inflight.find_action.Reads
 use Rattle.hnsr_circuit.proofs.tables.inflight.find_action.Proof.Tie
 
 module _ (Inv : Tie.InvT-loop) (μ : Tie.MeasureT-loop) where
+  pub record Loop-holds (c : Tie.After-min-usize Inv μ) : Type 0 where
+    pub start : Tie.Start Inv μ
+    pub min-usize : Lts.After-min-usize·own Tie.readings Reads.Pre Reads.Post Inv μ (c .before)
+
+  abbrev pub loop-holds : (c : Tie.After-min-usize Inv μ) → Loop-holds c
+  loop-holds c = record { start = c .before; min-usize = c .min-usize }
+
+  pub record Returns (c : Tie.Then1 Inv μ) : Type 0 where
+    pub start : Tie.Start Inv μ
+    pub min-usize : Lts.After-min-usize·own Tie.readings Reads.Pre Reads.Post Inv μ
+        (c .before .before .before .before .before .before)
+    pub loop : Lts.At-loop·own Tie.readings Reads.Pre Reads.Post Inv μ (c .before .before .before .before .before)
+    pub loop-test : Lts.In-loop·own Tie.readings Reads.Pre Reads.Post Inv μ (c .before .before .before .before)
+    pub row : Lts.After-row·own Tie.readings Reads.Pre Reads.Post Inv μ (c .before .before .before)
+    pub action-is : Lts.After-action-is·own Tie.readings Reads.Pre Reads.Post Inv μ (c .before .before)
+    pub if1 : Lts.Then1·own Tie.readings Reads.Pre Reads.Post Inv μ (c .before)
+
+  abbrev pub returns : (c : Tie.Then1 Inv μ) → Returns c
+  returns c = record {
+    start = c .before .before .before .before .before .before;
+    min-usize = c .before .before .before .before .before .min-usize;
+    loop = c .before .before .before .before .loop;
+    loop-test = c .before .before .before .loop-test;
+    row = c .before .before .row;
+    action-is = c .before .action-is;
+    if1 = c .if1;
+  }
+
   pub record Loop-again (c : Tie.Else1 Inv μ) : Type 0 where
     pub start : Tie.Start Inv μ
     pub min-usize : Lts.After-min-usize·own Tie.readings Reads.Pre Reads.Post Inv μ

@@ -10,7 +10,8 @@ abbrev pub Below : ℕ → List ℕ → Type 0
 Below n [] = Unit {0}
 Below n (x ∷ xs) = (x < n) × Below n xs
 
--- the number that bytes are, the lowest first: the sum of each byte times 256 to the power of its place (`Laws.Bytes.le-sum`)
+-- the number that bytes are, the lowest first: the sum of each byte times 256 to the power of its place
+-- (`Laws.Bytes.le-sum`)
 unfoldable pub le : List ℕ → ℕ
 le [] = 0
 le (b ∷ bs) = b + 256 * le bs

@@ -1,5 +1,6 @@
--- The cursor (document 01, "Bodies and their cursor": "The cursor hands itself back after each field"). One definition of a field of any
--- width, over bytes and over words alike; each method of `Decoder` and `Encoder` is that definition at its own width and answer.
+-- The cursor (document 01, "Bodies and their cursor": "The cursor hands itself back after each field"). One definition
+-- of a field of any width, over bytes and over words alike; each method of `Decoder` and `Encoder` is that definition
+-- at its own width and answer.
 use Prim.Native.Nat.{ℕ, _+_, _-_, min}
 use mathlib.Core.Path.{_≡_}
 use mathlib.Core.Bool.{Bool, cond}
@@ -100,7 +101,8 @@ noRoom size position width = NoRoom position (lacking size position width)
 
 -- what a write of `width` elements answers: the cursor behind them, or where it stood and how much room is missing
 abbrev pub put : ℕ → ℕ → ℕ → Put
-put size position width = cond (within size position width) (Ok (record { position = position + width })) (noRoom size position width)
+put size position width =
+    cond (within size position width) (Ok (record { position = position + width })) (noRoom size position width)
 
 -- the whole outcome of a write: the answer, and the list that it leaves
 pub record Puts (r : Put) (before after : List ℕ) (position : ℕ) (ys : List ℕ) : Type 0 where

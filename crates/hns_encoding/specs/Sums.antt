@@ -1,4 +1,5 @@
--- Sums and counts over the elements of a list, of any type: what queued bytes, used places and outstanding actions are counted by.
+-- Sums and counts over the elements of a list, of any type: what queued bytes, used places and outstanding actions are
+-- counted by.
 use Prim.Native.Nat.{ℕ, _+_}
 use mathlib.Core.Bool.{Bool, cond, not}
 use mathlib.Core.List.{List, [], _∷_}

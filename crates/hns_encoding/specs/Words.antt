@@ -1,4 +1,5 @@
--- Bytes and numbers as 32-bit words (document 01, "Output words": four to a word, first lowest, zero padded; high word first).
+-- Bytes and numbers as 32-bit words (document 01, "Output words": four to a word, first lowest, zero padded; high word
+-- first).
 use Prim.Native.Nat.{ℕ, zero, suc, _+_, _*_, _/_, _%_, _^_}
 use mathlib.Core.List.{List, [], _∷_, _++_}
 use lib.ListN.{length, take, drop}

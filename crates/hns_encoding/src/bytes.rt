@@ -1,5 +1,5 @@
-// Bytes as numbers and numbers as bytes, at a place in a slice, for any width up to eight. The methods of the cursor are these at their
-// own widths.
+// Bytes as numbers and numbers as bytes, at a place in a slice, for any width up to eight. The methods of the cursor
+// are these at their own widths.
 ghost use mathlib.Core.Path.{_≡_};
 ghost use Prim.Native.Nat.{_+_, _*_, _<_, _≤_, _^_};
 ghost use lib.ListN.{length};

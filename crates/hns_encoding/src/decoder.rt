@@ -1,5 +1,6 @@
-// A cursor over a slice, by value: each method takes the cursor and the slice, and hands back the field with the cursor behind it, or where
-// and by how much the slice ends early. It counts elements, so that one type goes over bytes and over 32-bit words.
+// A cursor over a slice, by value: each method takes the cursor and the slice, and hands back the field with the cursor
+// behind it, or where and by how much the slice ends early. It counts elements, so that one type goes over bytes and
+// over 32-bit words.
 use crate::bytes::be_at;
 use crate::bytes::copy_at;
 use crate::bytes::le_at;
@@ -13,7 +14,8 @@ ghost use mathlib.Core.Path.{_≡_};
 ghost use Prim.Native.Nat.{_-_};
 ghost use lib.ListN.{length};
 ghost use Rattle.hns_encoding.specs.Words.{fromHighLow, wordCount};
-ghost use Rattle.hns_encoding.specs.Cursor.{arrayRead, bytesRead, finishes, part, readsBe, readsHighLow, readsLe, readsWord, steps, unexpectedEnd};
+ghost use Rattle.hns_encoding.specs.Cursor.{arrayRead, bytesRead, finishes, part, readsBe};
+ghost use Rattle.hns_encoding.specs.Cursor.{readsHighLow, readsLe, readsWord, steps, unexpectedEnd};
 
 pub enum DecodeError {
     // A field that starts at `offset` lacks `needed` bytes.
@@ -26,7 +28,8 @@ pub struct Decoder {
     pub position: usize,
 }
 
-// What a method answers: the field and the cursor behind it, or why not. An array stands beside the answer, since an enum holds none.
+// What a method answers: the field and the cursor behind it, or why not. An array stands beside the answer, since an
+// enum holds none.
 pub enum Step {
     Ok(Decoder),
     Err(DecodeError),
@@ -191,7 +194,9 @@ impl Decoder {
     }
 
     pub fn read_array_8(self, input: &[u8]) -> ReadArray8
-        ensures { λ r. ⌜ (r .step ≡ steps Step.Ok Step.Err 8 (now (input .entry)) self) × (r .bytes ≡ arrayRead 8 (now (input .entry)) self) ⌝ }
+        ensures { λ r. ⌜
+            (r .step ≡ steps Step.Ok Step.Err 8 (now (input .entry)) self)
+            × (r .bytes ≡ arrayRead 8 (now (input .entry)) self) ⌝ }
     {
         let at = self.position;
         let mut bytes = [0u8; 8];
@@ -210,7 +215,9 @@ impl Decoder {
     }
 
     pub fn read_array_16(self, input: &[u8]) -> ReadArray16
-        ensures { λ r. ⌜ (r .step ≡ steps Step.Ok Step.Err 16 (now (input .entry)) self) × (r .bytes ≡ arrayRead 16 (now (input .entry)) self) ⌝ }
+        ensures { λ r. ⌜
+            (r .step ≡ steps Step.Ok Step.Err 16 (now (input .entry)) self)
+            × (r .bytes ≡ arrayRead 16 (now (input .entry)) self) ⌝ }
     {
         let at = self.position;
         let mut bytes = [0u8; 16];
@@ -229,7 +236,9 @@ impl Decoder {
     }
 
     pub fn read_array_32(self, input: &[u8]) -> ReadArray32
-        ensures { λ r. ⌜ (r .step ≡ steps Step.Ok Step.Err 32 (now (input .entry)) self) × (r .bytes ≡ arrayRead 32 (now (input .entry)) self) ⌝ }
+        ensures { λ r. ⌜
+            (r .step ≡ steps Step.Ok Step.Err 32 (now (input .entry)) self)
+            × (r .bytes ≡ arrayRead 32 (now (input .entry)) self) ⌝ }
     {
         let at = self.position;
         let mut bytes = [0u8; 32];
@@ -248,7 +257,9 @@ impl Decoder {
     }
 
     pub fn read_array_33(self, input: &[u8]) -> ReadArray33
-        ensures { λ r. ⌜ (r .step ≡ steps Step.Ok Step.Err 33 (now (input .entry)) self) × (r .bytes ≡ arrayRead 33 (now (input .entry)) self) ⌝ }
+        ensures { λ r. ⌜
+            (r .step ≡ steps Step.Ok Step.Err 33 (now (input .entry)) self)
+            × (r .bytes ≡ arrayRead 33 (now (input .entry)) self) ⌝ }
     {
         let at = self.position;
         let mut bytes = [0u8; 33];
@@ -312,7 +323,9 @@ impl Decoder {
 
     // As many bytes as `out` holds, four from a word, the lowest first. Where the words end early `out` stays.
     pub fn read_bytes_from_words(self, input: &[u32], out: &mut [u8]) -> Step
-        ensures { λ r. ⌜ (r ≡ steps Step.Ok Step.Err (wordCount (length (now (out .entry)))) (now (input .entry)) self) × (now (out .exit) ≡ bytesRead (now (out .entry)) (now (input .entry)) self) ⌝ }
+        ensures { λ r. ⌜
+            (r ≡ steps Step.Ok Step.Err (wordCount (length (now (out .entry)))) (now (input .entry)) self)
+            × (now (out .exit) ≡ bytesRead (now (out .entry)) (now (input .entry)) self) ⌝ }
     {
         let at = self.position;
         let count = word_count(out.len());

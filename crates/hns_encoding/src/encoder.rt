@@ -1,5 +1,6 @@
-// A cursor over a lent slice that is written, by value: each method writes a field at the cursor and hands back the cursor behind it. Where
-// the field does not fit nothing is written, and the answer says by how much. It counts elements: bytes or 32-bit words.
+// A cursor over a lent slice that is written, by value: each method writes a field at the cursor and hands back the
+// cursor behind it. Where the field does not fit nothing is written, and the answer says by how much. It counts
+// elements: bytes or 32-bit words.
 use crate::bytes::copy_at;
 use crate::bytes::put_le_at;
 use crate::room::fits;
@@ -146,7 +147,8 @@ impl Encoder {
 
     // Bytes as exactly `count` words, four to a word, the first lowest, zero padded. Bytes past them are left off.
     pub fn put_padded_as_words(self, out: &mut [u32], bytes: &[u8], count: usize) -> Put
-        ensures { λ r. ⌜ Puts r (now (out .entry)) (now (out .exit)) (self .position) (wordsOf count (now (bytes .entry))) ⌝ }
+        ensures { λ r. ⌜
+            Puts r (now (out .entry)) (now (out .exit)) (self .position) (wordsOf count (now (bytes .entry))) ⌝ }
     {
         let at = self.position;
         if fits(out.len(), at, count) {

@@ -1,4 +1,5 @@
-// Tests by value, joined: each is worked out, and then they are joined. A chain of them is one straight line, whose proof is one equation.
+// Tests by value, joined: each is worked out, and then they are joined. A chain of them is one straight line, whose
+// proof is one equation.
 ghost use mathlib.Core.Path.{_≡_};
 ghost use mathlib.Core.Bool.{_&&_, _||_, not};
 

@@ -1,4 +1,5 @@
-// Sums, differences and the smaller of two, for every pair of operands. Each contract names a definition over the width in bits.
+// Sums, differences and the smaller of two, for every pair of operands. Each contract names a definition over the width
+// in bits.
 ghost use mathlib.Core.Path.{_≡_};
 ghost use Prim.Native.Nat.{_-_, min};
 ghost use Rattle.hns_encoding.specs.Numbers.{saturatingAdd};

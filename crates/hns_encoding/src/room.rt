@@ -1,4 +1,5 @@
-// Whether a field lies within a slice, and what is missing where it does not. A position past the end is answered like any other.
+// Whether a field lies within a slice, and what is missing where it does not. A position past the end is answered like
+// any other.
 use crate::numbers::saturating_add_usize;
 use crate::numbers::saturating_sub_usize;
 ghost use mathlib.Core.Path.{_≡_};

@@ -1,5 +1,5 @@
-// Bytes as 32-bit words and words as bytes, at a place in a slice: four bytes to a word, the first lowest. The methods of the encoder and
-// the decoder over words go by these.
+// Bytes as 32-bit words and words as bytes, at a place in a slice: four bytes to a word, the first lowest. The methods
+// of the encoder and the decoder over words go by these.
 use crate::bytes::le_at;
 use crate::numbers::min_usize;
 ghost use mathlib.Core.Path.{_≡_};

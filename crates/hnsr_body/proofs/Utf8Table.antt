@@ -1,4 +1,5 @@
--- A table that antt computes to be the list of a function's values has the function's value at each place, by induction on the place.
+-- A table that antt computes to be the list of a function's values has the function's value at each place, by induction
+-- on the place.
 
 use mathlib.Core.Path.{_≡_, _∙_, ap, sym}
 use mathlib.Core.List.{List, [], _∷_}

@@ -1,4 +1,5 @@
--- ACCEPT, 20 bytes, and OPENED, 28 bytes (document 01, "Bodies and their cursor": window 4, nonce 16; circuit 8, then ACCEPT).
+-- ACCEPT, 20 bytes, and OPENED, 28 bytes (document 01, "Bodies and their cursor": window 4, nonce 16; circuit 8, then
+-- ACCEPT).
 use Prim.Native.Nat.{ℕ}
 use mathlib.Core.Bool.{Bool, cond, _&&_}
 use mathlib.Core.List.{List, [], _∷_, _++_}
@@ -25,7 +26,8 @@ abbrev pub acceptSize : ℕ
 acceptSize = 20
 
 unfoldable pub acceptFields : List ℕ → AcceptBody
-acceptFields body = record { «accepted_window» = le (fieldOf acceptWidths 0 body); «endpoint_nonce» = fieldOf acceptWidths 1 body }
+acceptFields body =
+    record { «accepted_window» = le (fieldOf acceptWidths 0 body); «endpoint_nonce» = fieldOf acceptWidths 1 body }
 
 unfoldable pub acceptGood : AcceptBody → Bool
 acceptGood b = windowGood (b .«accepted_window») && someByte (b .«endpoint_nonce»)
@@ -65,16 +67,19 @@ openedRest b = record { «accepted_window» = b .«accepted_window»; «endpoint
 
 -- what its values answer
 abbrev pub openedAnswer : Checked → OpenedBody → Checked
-openedAnswer layout b = answer (answer layout (nonzero (b .«circuit_id»)) CircuitZero) (acceptGood (openedRest b)) AcceptResponse
+openedAnswer layout b =
+    answer (answer layout (nonzero (b .«circuit_id»)) CircuitZero) (acceptGood (openedRest b)) AcceptResponse
 
 unfoldable pub openedGood : OpenedBody → Bool
 openedGood b = nonzero (b .«circuit_id») && acceptGood (openedRest b)
 
 unfoldable pub decodeOpened : List ℕ → OpenedRead
-decodeOpened body = record { result = openedAnswer (laidOut openedWidths body) (openedFields body); body = openedFields body }
+decodeOpened body =
+    record { result = openedAnswer (laidOut openedWidths body) (openedFields body); body = openedFields body }
 
 unfoldable pub openedBytes : OpenedBody → List ℕ
 openedBytes b = beBytes 8 (b .«circuit_id») ++ acceptBytes (openedRest b)
 
 unfoldable pub encodeOpened : OpenedBody → OpenedWritten
-encodeOpened b = record { result = openedAnswer Ok b; bytes = cond (openedGood b) (openedBytes b) (replicate openedSize 0) }
+encodeOpened b =
+    record { result = openedAnswer Ok b; bytes = cond (openedGood b) (openedBytes b) (replicate openedSize 0) }

@@ -1,10 +1,14 @@
--- Document 01's number and values for each cause of a 1 ("Where a call is turned away": early end (offset, bytes missing), trailing (count),
--- Invalid (which text), too large (actual, maximum), admission). A host gets a cause as these three numbers; 0 is no cause.
+-- Document 01's number and values for each cause of a 1 ("Where a call is turned away": early end (offset, bytes
+-- missing), trailing (count), Invalid (which text), too large (actual, maximum), admission). A host gets a cause as
+-- these three numbers; 0 is no cause.
 use Prim.Native.Nat.{ℕ}
 use mathlib.Core.Bool.{Bool, true, false}
 use Rattle.hns_encoding.specs.declared.decoder.DecodeError.the-variants.{UnexpectedEnd, TrailingBytes}
 use Rattle.hnsr_body.specs.declared.error.HnsrInvalid.{HnsrInvalid}
-use Rattle.hnsr_body.specs.declared.error.HnsrInvalid.the-variants.{ContextZero, OpenParameters, IncomingParameters, AcceptResponse, CircuitZero, DataSize, WindowCredit, DiagnosticDetail, NotUtf8}
+use Rattle.hnsr_body.specs.declared.error.HnsrInvalid.the-variants.{ContextZero, OpenParameters}
+use Rattle.hnsr_body.specs.declared.error.HnsrInvalid.the-variants.{IncomingParameters, AcceptResponse}
+use Rattle.hnsr_body.specs.declared.error.HnsrInvalid.the-variants.{CircuitZero, DataSize, WindowCredit}
+use Rattle.hnsr_body.specs.declared.error.HnsrInvalid.the-variants.{DiagnosticDetail, NotUtf8}
 use Rattle.hnsr_body.specs.declared.error.HnsrProtocolError.{HnsrProtocolError}
 use Rattle.hnsr_body.specs.declared.error.HnsrProtocolError.the-variants.{Decode, Invalid, TooLarge, Admission}
 use Rattle.hnsr_body.specs.declared.error.Cause.{Cause}

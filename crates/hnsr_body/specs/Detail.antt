@@ -1,5 +1,6 @@
--- CLOSE and ERROR (document 01, "Bodies and their cursor": reason 2, length 1, detail to 128). "In CLOSE and ERROR a length over 128, or not the
--- count of bytes left, is Invalid": so they never report trailing bytes. Then the detail is UTF-8. Every reason is accepted, in ERROR too.
+-- CLOSE and ERROR (document 01, "Bodies and their cursor": reason 2, length 1, detail to 128). "In CLOSE and ERROR a
+-- length over 128, or not the count of bytes left, is Invalid": so they never report trailing bytes. Then the detail is
+-- UTF-8. Every reason is accepted, in ERROR too.
 use Prim.Native.Nat.{ℕ, _+_, _-_}
 use mathlib.Core.Bool.{Bool, cond, _&&_}
 use mathlib.Core.List.{List, [], _∷_, _++_}
@@ -58,7 +59,9 @@ headed (Step.Err e) = Err (Decode e)
 
 unfoldable pub decodeDetail : List ℕ → DetailRead
 decodeDetail body = record {
-  result = answer (answer (headed (walked detailWidths body (record { position = 0 }))) (lengthGood body) DiagnosticDetail) (utf8 (detailOf body)) NotUtf8;
+  result =
+      answer (answer (headed (walked detailWidths body (record { position = 0 }))) (lengthGood body) DiagnosticDetail)
+      (utf8 (detailOf body)) NotUtf8;
   body = reasonDetail body;
 }
 

@@ -1,4 +1,5 @@
--- Worked examples of the bodies, by computation (document 01, "Bodies and their cursor" and "Where a call is turned away").
+-- Worked examples of the bodies, by computation (document 01, "Bodies and their cursor" and "Where a call is turned
+-- away").
 use Prim.Native.Nat.{ℕ}
 use mathlib.Core.Path.{_≡_, refl}
 use mathlib.Core.Bool.{Bool, true, false}
@@ -6,7 +7,9 @@ use mathlib.Core.List.{List, [], _∷_, _++_}
 use lib.ListN.{replicate}
 use Rattle.hns_encoding.specs.Bytes.{le, beFrom, allZero}
 use Rattle.hns_encoding.specs.declared.decoder.DecodeError.the-variants.{UnexpectedEnd, TrailingBytes}
-use Rattle.hnsr_body.specs.declared.error.HnsrInvalid.the-variants.{ContextZero, OpenParameters, AcceptResponse, CircuitZero, DataSize, WindowCredit, DiagnosticDetail, NotUtf8}
+use Rattle.hnsr_body.specs.declared.error.HnsrInvalid.the-variants.{ContextZero, OpenParameters}
+use Rattle.hnsr_body.specs.declared.error.HnsrInvalid.the-variants.{AcceptResponse, CircuitZero, DataSize}
+use Rattle.hnsr_body.specs.declared.error.HnsrInvalid.the-variants.{WindowCredit, DiagnosticDetail, NotUtf8}
 use Rattle.hnsr_body.specs.declared.error.HnsrProtocolError.the-variants.{Decode, Invalid, TooLarge}
 use Rattle.hnsr_body.specs.declared.error.Checked.{Checked}
 use Rattle.hnsr_body.specs.declared.error.Checked.the-variants.{Ok, Err}

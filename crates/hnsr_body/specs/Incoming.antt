@@ -30,7 +30,8 @@ incomingFields body = record {
 
 unfoldable pub incomingGood : IncomingBody → Bool
 incomingGood b =
-    someByte (b .«ticket_id») && nonzero (b .«open_request_id») && nonzero (b .profile) && someByte (b .«requester_nonce»)
+    someByte (b .«ticket_id») && nonzero (b .«open_request_id») && nonzero (b .profile)
+    && someByte (b .«requester_nonce»)
     && windowGood (b .«initial_window»)
 
 unfoldable pub decodeIncoming : List ℕ → IncomingRead
@@ -41,7 +42,8 @@ decodeIncoming body = record {
 
 unfoldable pub incomingBytes : IncomingBody → List ℕ
 incomingBytes b =
-    b .«ticket_id» ++ beBytes 8 (b .«open_request_id») ++ leBytes 2 (b .profile) ++ b .«requester_nonce» ++ leBytes 4 (b .«initial_window»)
+    b .«ticket_id» ++ beBytes 8 (b .«open_request_id») ++ leBytes 2 (b .profile) ++ b .«requester_nonce»
+    ++ leBytes 4 (b .«initial_window»)
 
 unfoldable pub encodeIncoming : IncomingBody → IncomingWritten
 encodeIncoming b = record {

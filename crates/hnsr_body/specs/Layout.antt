@@ -1,5 +1,5 @@
--- A body of fixed size is fields of given widths, one after the other (document 01, "Where a call is turned away": "A body is checked for
--- early end, trailing bytes, then values").
+-- A body of fixed size is fields of given widths, one after the other (document 01, "Where a call is turned away": "A
+-- body is checked for early end, trailing bytes, then values").
 use Prim.Native.Nat.{ℕ, zero, suc, _+_}
 use mathlib.Core.List.{List, [], _∷_}
 use lib.ListN.{getD}
@@ -28,7 +28,8 @@ finished input (Step.Err e) = Err (Decode e)
 unfoldable pub laidOut : List ℕ → List ℕ → Checked
 laidOut widths input = finished input (walked widths input (record { position = 0 }))
 
--- where a field starts, and its bytes; fields are counted from 0. Where the body ends early, and is refused, a field reads as zeros
+-- where a field starts, and its bytes; fields are counted from 0. Where the body ends early, and is refused, a field
+-- reads as zeros
 abbrev pub offset : List ℕ → ℕ → ℕ
 offset [] i = 0
 offset (width ∷ widths) zero = 0

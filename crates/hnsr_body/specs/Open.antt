@@ -1,4 +1,5 @@
--- OPEN, 103 bytes (document 01, "Bodies and their cursor": ticket 32, reservation 16, key 33, profile 2, nonce 16, window 4).
+-- OPEN, 103 bytes (document 01, "Bodies and their cursor": ticket 32, reservation 16, key 33, profile 2, nonce 16,
+-- window 4).
 use Prim.Native.Nat.{ℕ}
 use mathlib.Core.Bool.{Bool, cond, _&&_}
 use mathlib.Core.List.{List, [], _∷_, _++_}
@@ -10,7 +11,8 @@ use Rattle.hnsr_body.specs.declared.open_body.OpenRead.{OpenRead}
 use Rattle.hnsr_body.specs.declared.open_body.OpenWritten.{OpenWritten}
 use Rattle.hnsr_body.specs.declared.error.Checked.the-variants.{Ok}
 use Rattle.hnsr_body.specs.Causes.{answer}
-use Rattle.hnsr_body.specs.Values.{nonzero, someByte, windowGood, reservationGood, reservationOf, reservationBytes}
+use Rattle.hnsr_body.specs.Values.{nonzero, someByte, windowGood, reservationGood}
+use Rattle.hnsr_body.specs.Values.{reservationOf, reservationBytes}
 use Rattle.hnsr_body.specs.Layout.{laidOut, fieldOf}
 
 abbrev pub openWidths : List ℕ
@@ -32,7 +34,8 @@ openFields body = record {
 -- the host says whether the key is valid
 unfoldable pub openGood : Bool → OpenBody → Bool
 openGood keyValid b =
-    someByte (b .«ticket_id») && reservationGood (b .«reservation_id») && keyValid && nonzero (b .profile) && someByte (b .«requester_nonce»)
+    someByte (b .«ticket_id») && reservationGood (b .«reservation_id») && keyValid && nonzero (b .profile)
+    && someByte (b .«requester_nonce»)
     && windowGood (b .«initial_window»)
 
 unfoldable pub decodeOpen : Bool → List ℕ → OpenRead
@@ -43,7 +46,8 @@ decodeOpen keyValid body = record {
 
 unfoldable pub openBytes : OpenBody → List ℕ
 openBytes b =
-    b .«ticket_id» ++ reservationBytes (b .«reservation_id») ++ b .«endpoint_key» ++ leBytes 2 (b .profile) ++ b .«requester_nonce»
+    b .«ticket_id» ++ reservationBytes (b .«reservation_id») ++ b .«endpoint_key» ++ leBytes 2 (b .profile)
+    ++ b .«requester_nonce»
     ++ leBytes 4 (b .«initial_window»)
 
 -- a body with bad values is not written

@@ -1,5 +1,5 @@
--- The packet rule, `HnsrPacket::validate`: 12 bytes of header and the body are at most 65,535, tested first; then the context is not all zero,
--- which only opcode 6, SampleRoutes, may have.
+-- The packet rule, `HnsrPacket::validate`: 12 bytes of header and the body are at most 65,535, tested first; then the
+-- context is not all zero, which only opcode 6, SampleRoutes, may have.
 use Prim.Native.Nat.{ℕ}
 use mathlib.Core.Bool.{cond, not, _&&_}
 use lib.Dec.{eqb, ltb}

@@ -36,7 +36,8 @@ utf8-4 a b c d =
     || between 0xF1 0xF3 a && tail b && tail c && tail d
     || between 0xF4 0xF4 a && between 0x80 0x8F b && tail c && tail d
 
--- UTF8-octets = *( UTF8-char ), UTF8-char = UTF8-1 / UTF8-2 / UTF8-3 / UTF8-4: no character, or one and then UTF8-octets
+-- UTF8-octets = *( UTF8-char ), UTF8-char = UTF8-1 / UTF8-2 / UTF8-3 / UTF8-4: no character, or one and then
+-- UTF8-octets
 unfoldable pub utf8 : List ℕ → Bool
 utf8 [] = true
 utf8 (a ∷ []) = utf8-1 a

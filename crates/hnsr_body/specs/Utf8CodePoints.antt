@@ -1,4 +1,5 @@
--- UTF-8 by the ABNF is the encoding of Unicode scalar values: no surrogate, nothing past U+10FFFF, and the shortest form only.
+-- UTF-8 by the ABNF is the encoding of Unicode scalar values: no surrogate, nothing past U+10FFFF, and the shortest
+-- form only.
 
 use Prim.Native.Nat.{ℕ}
 use mathlib.Core.Path.{_≡_, subst}

@@ -1,4 +1,5 @@
--- Worked examples of RFC 3629, by computation: the four of section 7, with their character numbers, and texts that are none.
+-- Worked examples of RFC 3629, by computation: the four of section 7, with their character numbers, and texts that are
+-- none.
 
 use Prim.Native.Nat.{ℕ}
 use mathlib.Core.Path.{_≡_, refl}
@@ -12,7 +13,8 @@ abbrev Spells : List ℕ → List ℕ → Type 0
 Spells text numbers = (utf8 text ≡ true) × (encodeAll numbers ≡ text)
 
 -- A, NOT IDENTICAL TO, ALPHA, full stop
-not-identical-to-alpha : Spells (0x41 ∷ 0xE2 ∷ 0x89 ∷ 0xA2 ∷ 0xCE ∷ 0x91 ∷ 0x2E ∷ []) (0x41 ∷ 0x2262 ∷ 0x391 ∷ 0x2E ∷ [])
+not-identical-to-alpha : Spells (0x41 ∷ 0xE2 ∷ 0x89 ∷ 0xA2 ∷ 0xCE ∷ 0x91 ∷ 0x2E ∷ [])
+    (0x41 ∷ 0x2262 ∷ 0x391 ∷ 0x2E ∷ [])
 unfolding utf8 utf8-1 utf8-2 utf8-3 utf8-4 encode encodeAll
 not-identical-to-alpha = (refl, refl)
 

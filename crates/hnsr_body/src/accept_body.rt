@@ -16,7 +16,10 @@ use crate::values::is_window;
 use hns_encoding::logic::both;
 ghost use mathlib.Core.Path.{_≡_};
 ghost use lib.ListN.{length};
-ghost use Rattle.hnsr_body.specs.Accept.{acceptBytes, acceptFields, acceptGood, acceptSize, acceptWidths, decodeAccept, decodeOpened, encodeAccept, encodeOpened, openedAnswer, openedBytes, openedFields, openedGood, openedRest, openedSize, openedWidths};
+ghost use Rattle.hnsr_body.specs.Accept.{acceptBytes, acceptFields, acceptGood, acceptSize};
+ghost use Rattle.hnsr_body.specs.Accept.{acceptWidths, decodeAccept, decodeOpened, encodeAccept};
+ghost use Rattle.hnsr_body.specs.Accept.{encodeOpened, openedAnswer, openedBytes, openedFields};
+ghost use Rattle.hnsr_body.specs.Accept.{openedGood, openedRest, openedSize, openedWidths};
 ghost use Rattle.hnsr_body.specs.Layout.{laidOut};
 
 #[repr(C)]
@@ -64,7 +67,8 @@ impl AcceptBody {
 
     // Field after field, each from the step that the one before handed back; the result is the layout's.
     fn fields(input: &[u8]) -> AcceptRead
-        ensures { λ r. ⌜ (r .result ≡ laidOut acceptWidths (now (input .entry))) × (r .body ≡ acceptFields (now (input .entry))) ⌝ }
+        ensures { λ r. ⌜
+            (r .result ≡ laidOut acceptWidths (now (input .entry))) × (r .body ≡ acceptFields (now (input .entry))) ⌝ }
     {
         let window = next_u32(start(), input);
         let step = window.step;
@@ -136,7 +140,8 @@ impl OpenedBody {
 
     // Field after field, each from the step that the one before handed back; the result is the layout's.
     fn fields(input: &[u8]) -> OpenedRead
-        ensures { λ r. ⌜ (r .result ≡ laidOut openedWidths (now (input .entry))) × (r .body ≡ openedFields (now (input .entry))) ⌝ }
+        ensures { λ r. ⌜
+            (r .result ≡ laidOut openedWidths (now (input .entry))) × (r .body ≡ openedFields (now (input .entry))) ⌝ }
     {
         let circuit = next_u64_be(start(), input);
         let step = circuit.step;

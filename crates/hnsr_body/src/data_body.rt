@@ -9,7 +9,8 @@ use crate::layout::finish;
 use crate::values::MAX_WINDOW;
 ghost use mathlib.Core.Path.{_≡_};
 ghost use lib.ListN.{length};
-ghost use Rattle.hnsr_body.specs.Data.{dataChecked, dataGood, decodeWindow, deltaGood, encodeWindow, windowBytes, windowFields, windowSize, windowWidths};
+ghost use Rattle.hnsr_body.specs.Data.{dataChecked, dataGood, decodeWindow, deltaGood, encodeWindow};
+ghost use Rattle.hnsr_body.specs.Data.{windowBytes, windowFields, windowSize, windowWidths};
 ghost use Rattle.hnsr_body.specs.Layout.{laidOut};
 
 pub struct DataBody {
@@ -69,7 +70,8 @@ impl WindowBody {
 
     // Its one field; the result is the layout's.
     fn fields(input: &[u8]) -> WindowRead
-        ensures { λ r. ⌜ (r .result ≡ laidOut windowWidths (now (input .entry))) × (r .body ≡ windowFields (now (input .entry))) ⌝ }
+        ensures { λ r. ⌜
+            (r .result ≡ laidOut windowWidths (now (input .entry))) × (r .body ≡ windowFields (now (input .entry))) ⌝ }
     {
         let delta = next_u32(start(), input);
         let step = delta.step;

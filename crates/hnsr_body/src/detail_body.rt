@@ -18,7 +18,8 @@ ghost use mathlib.Core.Bool.{_&&_};
 ghost use lib.Dec.{eqb, leb};
 ghost use lib.ListN.{drop, length};
 ghost use Rattle.hns_encoding.specs.Cursor.{writtenAt};
-ghost use Rattle.hnsr_body.specs.Detail.{decodeDetail, detailBytes, detailSize, detailWidths, encodeDetail, headSize, headed, mostDetail, reasonDetail};
+ghost use Rattle.hnsr_body.specs.Detail.{decodeDetail, detailBytes, detailSize, detailWidths};
+ghost use Rattle.hnsr_body.specs.Detail.{encodeDetail, headSize, headed, mostDetail, reasonDetail};
 ghost use Rattle.hnsr_body.specs.Layout.{walked};
 
 // The reason, and how long the detail is, which stands in the body from its fourth byte on.
@@ -61,7 +62,9 @@ impl ReasonDetail {
 
     // Each field from the step that the one before handed back.
     fn head(input: &[u8]) -> DetailHead
-        ensures { λ r. ⌜ (r .step ≡ walked detailWidths (now (input .entry)) (record { position = 0 })) × (r .body ≡ reasonDetail (now (input .entry))) ⌝ }
+        ensures { λ r. ⌜
+            (r .step ≡ walked detailWidths (now (input .entry)) (record { position = 0 }))
+            × (r .body ≡ reasonDetail (now (input .entry))) ⌝ }
     {
         let reason = next_u16(start(), input);
         let step = reason.step;

@@ -1,5 +1,6 @@
-// The fields of a body, one after the other. Reading goes from the step that the field before handed back: an early end is handed on, and
-// what stands behind it reads as zeros. Writing goes to an offset, and nothing is written where there is no room.
+// The fields of a body, one after the other. Reading goes from the step that the field before handed back: an early end
+// is handed on, and what stands behind it reads as zeros. Writing goes to an offset, and nothing is written where there
+// is no room.
 use hns_encoding::Decoder;
 use hns_encoding::Encoder;
 use hns_encoding::decoder::ReadArray16;
@@ -44,7 +45,8 @@ pub(crate) fn start() -> Step
 }
 
 pub(crate) fn next_u8(step: Step, input: &[u8]) -> NextU8
-    ensures { λ r. ⌜ (r .step ≡ stepped 1 (now (input .entry)) step) × (r .value ≡ le (fetched 1 (now (input .entry)) step)) ⌝ }
+    ensures { λ r. ⌜
+        (r .step ≡ stepped 1 (now (input .entry)) step) × (r .value ≡ le (fetched 1 (now (input .entry)) step)) ⌝ }
 {
     match step {
         Step::Err(_) => NextU8 { step, value: 0 },
@@ -65,7 +67,8 @@ pub(crate) fn next_u8(step: Step, input: &[u8]) -> NextU8
 }
 
 pub(crate) fn next_u16(step: Step, input: &[u8]) -> NextU16
-    ensures { λ r. ⌜ (r .step ≡ stepped 2 (now (input .entry)) step) × (r .value ≡ le (fetched 2 (now (input .entry)) step)) ⌝ }
+    ensures { λ r. ⌜
+        (r .step ≡ stepped 2 (now (input .entry)) step) × (r .value ≡ le (fetched 2 (now (input .entry)) step)) ⌝ }
 {
     match step {
         Step::Err(_) => NextU16 { step, value: 0 },
@@ -86,7 +89,8 @@ pub(crate) fn next_u16(step: Step, input: &[u8]) -> NextU16
 }
 
 pub(crate) fn next_u32(step: Step, input: &[u8]) -> NextU32
-    ensures { λ r. ⌜ (r .step ≡ stepped 4 (now (input .entry)) step) × (r .value ≡ le (fetched 4 (now (input .entry)) step)) ⌝ }
+    ensures { λ r. ⌜
+        (r .step ≡ stepped 4 (now (input .entry)) step) × (r .value ≡ le (fetched 4 (now (input .entry)) step)) ⌝ }
 {
     match step {
         Step::Err(_) => NextU32 { step, value: 0 },
@@ -108,7 +112,8 @@ pub(crate) fn next_u32(step: Step, input: &[u8]) -> NextU32
 
 // An id: eight bytes, the first weighing most.
 pub(crate) fn next_u64_be(step: Step, input: &[u8]) -> NextU64
-    ensures { λ r. ⌜ (r .step ≡ stepped 8 (now (input .entry)) step) × (r .value ≡ be (fetched 8 (now (input .entry)) step)) ⌝ }
+    ensures { λ r. ⌜
+        (r .step ≡ stepped 8 (now (input .entry)) step) × (r .value ≡ be (fetched 8 (now (input .entry)) step)) ⌝ }
 {
     match step {
         Step::Err(_) => NextU64 { step, value: 0 },
@@ -129,7 +134,8 @@ pub(crate) fn next_u64_be(step: Step, input: &[u8]) -> NextU64
 }
 
 pub(crate) fn next_array_16(step: Step, input: &[u8]) -> ReadArray16
-    ensures { λ r. ⌜ (r .step ≡ stepped 16 (now (input .entry)) step) × (r .bytes ≡ fetched 16 (now (input .entry)) step) ⌝ }
+    ensures { λ r. ⌜
+        (r .step ≡ stepped 16 (now (input .entry)) step) × (r .bytes ≡ fetched 16 (now (input .entry)) step) ⌝ }
 {
     match step {
         Step::Err(_) => ReadArray16 {
@@ -141,7 +147,8 @@ pub(crate) fn next_array_16(step: Step, input: &[u8]) -> ReadArray16
 }
 
 pub(crate) fn next_array_32(step: Step, input: &[u8]) -> ReadArray32
-    ensures { λ r. ⌜ (r .step ≡ stepped 32 (now (input .entry)) step) × (r .bytes ≡ fetched 32 (now (input .entry)) step) ⌝ }
+    ensures { λ r. ⌜
+        (r .step ≡ stepped 32 (now (input .entry)) step) × (r .bytes ≡ fetched 32 (now (input .entry)) step) ⌝ }
 {
     match step {
         Step::Err(_) => ReadArray32 {
@@ -153,7 +160,8 @@ pub(crate) fn next_array_32(step: Step, input: &[u8]) -> ReadArray32
 }
 
 pub(crate) fn next_array_33(step: Step, input: &[u8]) -> ReadArray33
-    ensures { λ r. ⌜ (r .step ≡ stepped 33 (now (input .entry)) step) × (r .bytes ≡ fetched 33 (now (input .entry)) step) ⌝ }
+    ensures { λ r. ⌜
+        (r .step ≡ stepped 33 (now (input .entry)) step) × (r .bytes ≡ fetched 33 (now (input .entry)) step) ⌝ }
 {
     match step {
         Step::Err(_) => ReadArray33 {

@@ -19,7 +19,8 @@ use crate::values::is_window;
 use hns_encoding::logic::both;
 ghost use mathlib.Core.Path.{_≡_};
 ghost use lib.ListN.{length};
-ghost use Rattle.hnsr_body.specs.Incoming.{decodeIncoming, encodeIncoming, incomingBytes, incomingFields, incomingGood, incomingSize, incomingWidths};
+ghost use Rattle.hnsr_body.specs.Incoming.{decodeIncoming, encodeIncoming, incomingBytes};
+ghost use Rattle.hnsr_body.specs.Incoming.{incomingFields, incomingGood, incomingSize, incomingWidths};
 ghost use Rattle.hnsr_body.specs.Layout.{laidOut};
 
 #[repr(C)]
@@ -59,7 +60,9 @@ impl IncomingBody {
 
     // Field after field, each from the step that the one before handed back; the result is the layout's.
     fn fields(input: &[u8]) -> IncomingRead
-        ensures { λ r. ⌜ (r .result ≡ laidOut incomingWidths (now (input .entry))) × (r .body ≡ incomingFields (now (input .entry))) ⌝ }
+        ensures { λ r. ⌜
+            (r .result ≡ laidOut incomingWidths (now (input .entry)))
+            × (r .body ≡ incomingFields (now (input .entry))) ⌝ }
     {
         let ticket = next_array_32(start(), input);
         let step = ticket.step;

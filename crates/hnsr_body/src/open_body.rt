@@ -21,7 +21,8 @@ use crate::values::reservation_of;
 use hns_encoding::logic::both;
 ghost use mathlib.Core.Path.{_≡_};
 ghost use lib.ListN.{length};
-ghost use Rattle.hnsr_body.specs.Open.{decodeOpen, encodeOpen, openBytes, openFields, openGood, openSize, openWidths};
+ghost use Rattle.hnsr_body.specs.Open.{decodeOpen, encodeOpen, openBytes};
+ghost use Rattle.hnsr_body.specs.Open.{openFields, openGood, openSize, openWidths};
 ghost use Rattle.hnsr_body.specs.Layout.{laidOut};
 
 #[repr(C)]
@@ -64,7 +65,8 @@ impl OpenBody {
 
     // Field after field, each from the step that the one before handed back; the result is the layout's.
     fn fields(input: &[u8]) -> OpenRead
-        ensures { λ r. ⌜ (r .result ≡ laidOut openWidths (now (input .entry))) × (r .body ≡ openFields (now (input .entry))) ⌝ }
+        ensures { λ r. ⌜
+            (r .result ≡ laidOut openWidths (now (input .entry))) × (r .body ≡ openFields (now (input .entry))) ⌝ }
     {
         let ticket = next_array_32(start(), input);
         let step = ticket.step;

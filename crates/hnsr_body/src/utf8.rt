@@ -1,5 +1,5 @@
-// UTF-8 by RFC 3629. What is proved: `is_utf8` says true of exactly the texts of the RFC's ABNF (specs/Utf8.antt), which are those that
-// encode Unicode scalar values (specs/Utf8CodePoints.antt), and no byte is read past a text's end.
+// UTF-8 by RFC 3629. What is proved: `is_utf8` says true of exactly the texts of the RFC's ABNF (specs/Utf8.antt),
+// which are those that encode Unicode scalar values (specs/Utf8CodePoints.antt), and no byte is read past a text's end.
 ghost use mathlib.Core.Path.{_≡_};
 ghost use Prim.Native.Nat.{_<_, _≤_};
 ghost use lib.ListN.{length};
@@ -100,7 +100,8 @@ pub fn is_utf8(text: &[u8]) -> bool
     true
 }
 
-// How many bytes the character has that a byte begins, by the byte; 0 of a byte that begins none. Each sixteenth says its place.
+// How many bytes the character has that a byte begins, by the byte; 0 of a byte that begins none. Each sixteenth says
+// its place.
 const LEAD_LENGTHS: [u8; 256] = [
     1, // 0x00
     1,

@@ -11,7 +11,8 @@ use Rattle.hnsr_circuit.specs.declared.config.OpaqueRelayConfig.{OpaqueR
 use Rattle.hnsr_circuit.specs.declared.records.RelayPending.{RelayPending}
 use Rattle.hnsr_circuit.specs.declared.records.RelayCircuit.{RelayCircuit}
 use Rattle.hnsr_circuit.specs.declared.answer.HnsrAnswer.{HnsrAnswer}
-use Rattle.hnsr_circuit.specs.declared.answer.HnsrRuntimeError.the-variants.{Capacity, InvalidAdmission, UnknownRequest, WrongPeer}
+use Rattle.hnsr_circuit.specs.declared.answer.HnsrRuntimeError.the-variants.{Capacity, InvalidAdmission}
+use Rattle.hnsr_circuit.specs.declared.answer.HnsrRuntimeError.the-variants.{UnknownRequest, WrongPeer}
 use Rattle.hnsr_circuit.specs.Table.{any, pick, put, edit}
 use Rattle.hnsr_circuit.specs.Answers.{check, bodyAnswer, _then_}
 use Rattle.hnsr_circuit.specs.Peer.{samePeer}
@@ -20,7 +21,8 @@ use Rattle.hnsr_circuit.specs.Circuits.{isCircuit, circuitAt}
 use Rattle.hnsr_circuit.specs.declared.records.InflightKind.the-variants.{Opened}
 use Rattle.hnsr_circuit.specs.Inflight.{actionUnder, dropped, tallied, capacityAnswer}
 use Rattle.hnsr_circuit.specs.Runtime.{countAccept}
-use Rattle.hnsr_circuit.specs.World.{World, Outcome, configOf, proceed, withPending, withCircuits, withInflight, counting}
+use Rattle.hnsr_circuit.specs.World.{World, Outcome, configOf, proceed, withPending}
+use Rattle.hnsr_circuit.specs.World.{withCircuits, withInflight, counting}
 use Rattle.hnsr_circuit.specs.Queue.{Message, message, send}
 use Rattle.hnsr_circuit.specs.Opcode.{opOpened}
 use Rattle.hnsr_circuit.specs.Counts.{circuitCount, reservationWork}
@@ -30,18 +32,22 @@ use Rattle.hnsr_circuit.specs.Packet.{Packet, sender}
 -- 13: not pending; 15: other peer; 11: deadline or expiry not after now
 unfoldable pub requestAnswer : (found : Bool) → RelayPending → HnsrPeerId → (now : ℕ) → HnsrAnswer
 requestAnswer found p peer now =
-    check (not found) UnknownRequest then check (not (samePeer (p .endpoint) peer)) WrongPeer then check (overdue now p) InvalidAdmission
+    check (not found) UnknownRequest
+    then check (not (samePeer (p .endpoint) peer)) WrongPeer
+    then check (overdue now p) InvalidAdmission
 
--- 10: accepted window over the offered one, circuits full, or the reservation's count over the ticket's most: it may equal it, since the
--- pending record counts itself
-unfoldable pub acceptAnswer : OpaqueRelayConfig → RelayPending → AcceptBody → (circuits reservationWork : ℕ) → HnsrAnswer
+-- 10: accepted window over the offered one, circuits full, or the reservation's count over the ticket's most: it may
+-- equal it, since the pending record counts itself
+unfoldable pub acceptAnswer : OpaqueRelayConfig → RelayPending → AcceptBody
+    → (circuits reservationWork : ℕ) → HnsrAnswer
 acceptAnswer c p b circuits under =
     check
-    (ltb (p .«initial_window») (b .«accepted_window») || leb (c .«maximum_circuits») circuits || ltb (p .ticket .«max_active_circuits») under)
-    Capacity
+    (ltb (p .«initial_window») (b .«accepted_window») || leb (c .«maximum_circuits») circuits
+    || ltb (p .ticket .«max_active_circuits») under) Capacity
 
 -- ---- what is written
--- the circuit starts with both credits at the accepted window and its byte limit at the smaller of the grant's and the configuration's
+-- the circuit starts with both credits at the accepted window and its byte limit at the smaller of the grant's and the
+-- configuration's
 abbrev pub circuitFor : OpaqueRelayConfig → RelayPending → AcceptBody → RelayCircuit
 circuitFor c p b = record {
   used = true;
@@ -69,13 +75,19 @@ withAccept w p b =
     (put isCircuit (circuitAt (p .«circuit_id»)) (circuitFor (configOf w) p b) (w .circuits)))
 
 abbrev pub openedFor : RelayPending → AcceptBody → OpenedBody
-openedFor p b = record { «circuit_id» = p .«circuit_id»; «accepted_window» = b .«accepted_window»; «endpoint_nonce» = b .«endpoint_nonce» }
+openedFor p b = record {
+  «circuit_id» = p .«circuit_id»;
+  «accepted_window» = b .«accepted_window»;
+  «endpoint_nonce» = b .«endpoint_nonce»;
+}
 
 -- OPENED goes to the requester's own context
 unfoldable pub openedMessage : RelayPending → AcceptBody → Message
-openedMessage p b = message (p .requester) (p .«circuit_id») opOpened (p .«requester_context») (openedBytes (openedFor p b)) Opened
+openedMessage p b =
+    message (p .requester) (p .«circuit_id») opOpened (p .«requester_context») (openedBytes (openedFor p b)) Opened
 
--- ---- the steps, in the table's order. The room for OPENED is counted without the pending's own actions, which ACCEPT drops
+-- ---- the steps, in the table's order. The room for OPENED is counted without the pending's own actions, which ACCEPT
+-- drops
 unfoldable pub acceptTaken : World → Packet → RelayPending → AcceptBody → HnsrAnswer
 acceptTaken w q p b =
     requestAnswer (any (pendingAt (q .context)) (w .pending)) p (sender q) (q .now)

@@ -1,5 +1,5 @@
--- Acknowledge: removes the action; for Data lowers that one circuit's queued count; undelivered, it ends what the action was for
--- (document 01, "Down through the call").
+-- Acknowledge: removes the action; for Data lowers that one circuit's queued count; undelivered, it ends what the
+-- action was for (document 01, "Down through the call").
 use Prim.Native.Nat.{ℕ}
 use mathlib.Core.Bool.{Bool, true, false, cond, not}
 use mathlib.Core.List.{List, []}
@@ -50,7 +50,8 @@ released w a = withCircuits w (lowerFor (kindOf (a .kind)) a (w .circuits))
 -- ---- undelivered
 -- Incoming ends the pending record, other actions staying, and sends ERROR; a refusal of that leaves all removed
 unfoldable pub failPending : World → (id : ℕ) → RelayPending → Outcome
-failPending w id p = send (counting countRevoked (withoutPending w (pendingAt id))) (errorToRequester EndpointWriteFailed p)
+failPending w id p =
+    send (counting countRevoked (withoutPending w (pendingAt id))) (errorToRequester EndpointWriteFailed p)
 
 unfoldable pub failIncoming : World → (id : ℕ) → Outcome
 failIncoming w id = cond (hasPending w id) (failPending w id (pendingIn w id)) (done w [])
@@ -75,7 +76,8 @@ acknowledgeTaken w generation sequence room =
     then actionAnswer (any (actionAt generation sequence) (w .inflight))
 
 unfoldable pub acknowledgeAction : World → (generation sequence : ℕ) → (delivered : Bool) → InflightAction → Outcome
-acknowledgeAction w generation sequence delivered a = settled (released (withoutAction w generation sequence) a) a delivered
+acknowledgeAction w generation sequence delivered a =
+    settled (released (withoutAction w generation sequence) a) a delivered
 
 unfoldable pub acknowledge : World → (generation sequence : ℕ) → (delivered : Bool) → (room : ℕ) → Outcome
 acknowledge w generation sequence delivered room =

@@ -1,5 +1,5 @@
--- What a call answers, and document 01's number for each answer ("Where a call is turned away"; 1 to 21 follow the order of the Rust's
--- HnsrRuntimeError). 19 and 21 are the requester's and the snapshot's: no call here gives them.
+-- What a call answers, and document 01's number for each answer ("Where a call is turned away"; 1 to 21 follow the
+-- order of the Rust's HnsrRuntimeError). 19 and 21 are the requester's and the snapshot's: no call here gives them.
 use Prim.Native.Nat.{ℕ}
 use mathlib.Core.Bool.{Bool, true, false}
 use Rattle.hnsr_body.specs.declared.error.Cause.{Cause}
@@ -7,7 +7,16 @@ use Rattle.hnsr_body.specs.declared.error.Checked.{Checked}
 use Rattle.hnsr_body.specs.declared.error.Checked.the-variants.{Ok, Err}
 use Rattle.hnsr_body.specs.Causes.{causeNumbers}
 use Rattle.hnsr_circuit.specs.declared.answer.HnsrRuntimeError.{HnsrRuntimeError}
-use Rattle.hnsr_circuit.specs.declared.answer.HnsrRuntimeError.the-variants.{Protocol, InvalidConfig, InvalidSession, InvalidPeer, StaleGeneration, GenerationExhausted, ClockRollback, Randomness, Disabled, Capacity, InvalidAdmission, Deadline, UnknownRequest, UnknownCircuit, WrongPeer, UnexpectedOpcode, FlowControl, ByteLimit, NoQueuedData, UnknownAction, CorruptSnapshot, Short, LedgerFull}
+use Rattle.hnsr_circuit.specs.declared.answer.HnsrRuntimeError.the-variants.{Protocol, InvalidConfig}
+use Rattle.hnsr_circuit.specs.declared.answer.HnsrRuntimeError.the-variants.{InvalidSession, InvalidPeer}
+use Rattle.hnsr_circuit.specs.declared.answer.HnsrRuntimeError.the-variants.{StaleGeneration, GenerationExhausted}
+use Rattle.hnsr_circuit.specs.declared.answer.HnsrRuntimeError.the-variants.{ClockRollback, Randomness, Disabled}
+use Rattle.hnsr_circuit.specs.declared.answer.HnsrRuntimeError.the-variants.{Capacity, InvalidAdmission, Deadline}
+use Rattle.hnsr_circuit.specs.declared.answer.HnsrRuntimeError.the-variants.{UnknownRequest, UnknownCircuit}
+use Rattle.hnsr_circuit.specs.declared.answer.HnsrRuntimeError.the-variants.{WrongPeer, UnexpectedOpcode}
+use Rattle.hnsr_circuit.specs.declared.answer.HnsrRuntimeError.the-variants.{FlowControl, ByteLimit, NoQueuedData}
+use Rattle.hnsr_circuit.specs.declared.answer.HnsrRuntimeError.the-variants.{UnknownAction, CorruptSnapshot}
+use Rattle.hnsr_circuit.specs.declared.answer.HnsrRuntimeError.the-variants.{Short, LedgerFull}
 use Rattle.hnsr_circuit.specs.declared.answer.HnsrAnswer.{HnsrAnswer}
 use Rattle.hnsr_circuit.specs.declared.answer.HnsrAnswer.the-variants.{Taken, Refused}
 
@@ -74,7 +83,8 @@ abbrev pub causeOf : HnsrAnswer → Cause
 causeOf Taken = noCause
 causeOf (Refused e) = errorCause e
 
--- ---- rows of document 01's table: a test and its refusal; a body and its cause; rows in order, of which the first refusal is the answer
+-- ---- rows of document 01's table: a test and its refusal; a body and its cause; rows in order, of which the first
+-- refusal is the answer
 abbrev pub check : Bool → HnsrRuntimeError → HnsrAnswer
 check true e = Refused e
 check false e = Taken

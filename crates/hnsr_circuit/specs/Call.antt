@@ -1,4 +1,5 @@
--- The calls, each with all its inputs, the room of the lent output included; one step; a run (document 01, "What the host hands over").
+-- The calls, each with all its inputs, the room of the lent output included; one step; a run (document 01, "What the
+-- host hands over").
 use Prim.Native.Nat.{ℕ}
 use mathlib.Core.Bool.{Bool}
 use mathlib.Core.List.{List, [], _∷_}

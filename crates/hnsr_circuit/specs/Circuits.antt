@@ -86,7 +86,8 @@ queuedIn c = cond (c .used) (queuedBytes c) 0
 
 -- ---- changes
 -- a circuit with its mark and its five moving counts replaced: credits, bytes, queues
-abbrev pub moved : RelayCircuit → Bool → (requesterCredit endpointCredit forwarded toRequester toEndpoint : ℕ) → RelayCircuit
+abbrev pub moved : RelayCircuit → Bool → (requesterCredit endpointCredit forwarded toRequester toEndpoint : ℕ)
+    → RelayCircuit
 moved c used requesterCredit endpointCredit forwarded toRequester toEndpoint = record {
   used = used;
   «circuit_id» = c .«circuit_id»;
@@ -106,7 +107,8 @@ moved c used requesterCredit endpointCredit forwarded toRequester toEndpoint = r
 -- the mark cleared, and nothing else
 abbrev pub circuitMarked : (used : Bool) → RelayCircuit → RelayCircuit
 circuitMarked used c =
-    moved c used (c .«requester_credit») (c .«endpoint_credit») (c .«forwarded_bytes») (c .«queued_to_requester») (c .«queued_to_endpoint»)
+    moved c used (c .«requester_credit») (c .«endpoint_credit») (c .«forwarded_bytes») (c .«queued_to_requester»)
+    (c .«queued_to_endpoint»)
 
 abbrev pub clearCircuit : RelayCircuit → RelayCircuit
 clearCircuit c = circuitMarked false c
@@ -114,22 +116,26 @@ clearCircuit c = circuitMarked false c
 -- DATA of n bytes from a side charges the sender's credit, circuit bytes and the queue toward the other side
 abbrev pub charged : RelaySide → ℕ → RelayCircuit → RelayCircuit
 charged Requester n c =
-    moved c (c .used) (c .«requester_credit» - n) (c .«endpoint_credit») (saturatingAdd 64 (c .«forwarded_bytes») n) (c .«queued_to_requester»)
-    (saturatingAdd 64 (c .«queued_to_endpoint») n)
+    moved c (c .used) (c .«requester_credit» - n) (c .«endpoint_credit») (saturatingAdd 64 (c .«forwarded_bytes») n)
+    (c .«queued_to_requester») (saturatingAdd 64 (c .«queued_to_endpoint») n)
 charged Endpoint n c =
-    moved c (c .used) (c .«requester_credit») (c .«endpoint_credit» - n) (saturatingAdd 64 (c .«forwarded_bytes») n) (saturatingAdd 64 (c .«queued_to_requester») n)
-    (c .«queued_to_endpoint»)
+    moved c (c .used) (c .«requester_credit») (c .«endpoint_credit» - n) (saturatingAdd 64 (c .«forwarded_bytes») n)
+    (saturatingAdd 64 (c .«queued_to_requester») n) (c .«queued_to_endpoint»)
 
 -- WINDOW from a side raises the other side's credit
 abbrev pub raised : RelaySide → ℕ → RelayCircuit → RelayCircuit
 raised Requester n c =
-    moved c (c .used) (c .«requester_credit») (c .«endpoint_credit» + n) (c .«forwarded_bytes») (c .«queued_to_requester») (c .«queued_to_endpoint»)
+    moved c (c .used) (c .«requester_credit») (c .«endpoint_credit» + n) (c .«forwarded_bytes»)
+    (c .«queued_to_requester») (c .«queued_to_endpoint»)
 raised Endpoint n c =
-    moved c (c .used) (c .«requester_credit» + n) (c .«endpoint_credit») (c .«forwarded_bytes») (c .«queued_to_requester») (c .«queued_to_endpoint»)
+    moved c (c .used) (c .«requester_credit» + n) (c .«endpoint_credit») (c .«forwarded_bytes»)
+    (c .«queued_to_requester») (c .«queued_to_endpoint»)
 
 -- an acknowledged Data lowers the queue that it stood in, toward the side that it went to
 abbrev pub lowered : RelaySide → ℕ → RelayCircuit → RelayCircuit
 lowered Requester n c =
-    moved c (c .used) (c .«requester_credit») (c .«endpoint_credit») (c .«forwarded_bytes») (c .«queued_to_requester» - n) (c .«queued_to_endpoint»)
+    moved c (c .used) (c .«requester_credit») (c .«endpoint_credit») (c .«forwarded_bytes»)
+    (c .«queued_to_requester» - n) (c .«queued_to_endpoint»)
 lowered Endpoint n c =
-    moved c (c .used) (c .«requester_credit») (c .«endpoint_credit») (c .«forwarded_bytes») (c .«queued_to_requester») (c .«queued_to_endpoint» - n)
+    moved c (c .used) (c .«requester_credit») (c .«endpoint_credit») (c .«forwarded_bytes») (c .«queued_to_requester»)
+    (c .«queued_to_endpoint» - n)

@@ -1,5 +1,6 @@
--- CLOSE and ERROR: end a pending record, which the requester names by its own context and the endpoint by circuit id (context
--- translated), or a circuit; its actions are dropped (document 01, "Down through the call"). A refusal after that leaves it ended.
+-- CLOSE and ERROR: end a pending record, which the requester names by its own context and the endpoint by circuit id
+-- (context translated), or a circuit; its actions are dropped (document 01, "Down through the call"). A refusal after
+-- that leaves it ended.
 use Prim.Native.Nat.{ℕ}
 use mathlib.Core.Bool.{cond}
 use lib.Dec.{leb}

@@ -1,4 +1,5 @@
--- The configuration (document 01, "Forms to replace": defaults and ceilings belong to the config type), and what `validate` refuses.
+-- The configuration (document 01, "Forms to replace": defaults and ceilings belong to the config type), and what
+-- `validate` refuses.
 use Prim.Native.Nat.{ℕ}
 use mathlib.Core.Bool.{Bool, not, _&&_}
 use lib.Dec.{leb}
@@ -52,8 +53,10 @@ configGood c =
     && withinLimits 1 (c .«maximum_circuits_per_peer») maxCircuits
     && withinLimits 1 (c .«maximum_queue_bytes») maxCircuitQueue
     && withinLimits 1 (c .«maximum_inflight_actions») maxRuntimeInflightActions
-    && withinLimits leastInflightActionsPerCircuit (c .«maximum_inflight_actions_per_circuit») (c .«maximum_inflight_actions»)
-    && withinLimits (c .«maximum_inflight_actions_per_circuit») (c .«maximum_inflight_actions_per_peer») (c .«maximum_inflight_actions»)
+    && withinLimits leastInflightActionsPerCircuit (c .«maximum_inflight_actions_per_circuit»)
+    (c .«maximum_inflight_actions»)
+    && withinLimits (c .«maximum_inflight_actions_per_circuit») (c .«maximum_inflight_actions_per_peer»)
+    (c .«maximum_inflight_actions»)
     && leb 1 (c .«maximum_bytes_per_circuit»)
     && withinLimits 1 (c .«accept_timeout_seconds») maxOpenDeadlineSeconds
 

@@ -1,5 +1,7 @@
--- DATA: charges the sender's credit, circuit bytes, ledger and the queue toward the other side (document 01, "Down through the call").
--- It goes on past the circuit's expiry while the ledger record lives ("Wrong turns"). If it is refused with 6, its charges stay.
+-- DATA: charges the sender's credit, circuit bytes, ledger and the queue toward the other side (document 01, "Down
+-- through the call").
+-- It goes on past the circuit's expiry while the ledger record lives ("Wrong turns"). If it is refused with 6, its
+-- charges stay.
 use Prim.Native.Nat.{ℕ}
 use mathlib.Core.Bool.{Bool, false, not, _||_}
 use lib.Dec.{ltb}
@@ -12,7 +14,8 @@ use Rattle.hnsr_circuit.specs.declared.records.RelayCircuit.{RelayCircui
 use Rattle.hnsr_circuit.specs.declared.records.RelaySide.{RelaySide}
 use Rattle.hnsr_circuit.specs.declared.records.ReservationUsage.{ReservationUsage}
 use Rattle.hnsr_circuit.specs.declared.answer.HnsrAnswer.{HnsrAnswer}
-use Rattle.hnsr_circuit.specs.declared.answer.HnsrRuntimeError.the-variants.{InvalidAdmission, FlowControl, ByteLimit}
+use Rattle.hnsr_circuit.specs.declared.answer.HnsrRuntimeError.the-variants.{InvalidAdmission}
+use Rattle.hnsr_circuit.specs.declared.answer.HnsrRuntimeError.the-variants.{FlowControl, ByteLimit}
 use Rattle.hnsr_circuit.specs.Table.{edit}
 use Rattle.hnsr_circuit.specs.Answers.{check, bodyAnswer, _then_}
 use Rattle.hnsr_circuit.specs.Circuits.{circuitAt, sideOf, otherSide, creditOf, queuedTo, charged}
@@ -30,13 +33,14 @@ unfoldable pub bytesAnswer : (found : Bool) → ReservationUsage → RelayCircui
 bytesAnswer found u c n =
     check (not found) InvalidAdmission
     then check
-    (ltb (c .«maximum_bytes») (saturatingAdd 64 (c .«forwarded_bytes») n) || ltb (c .«maximum_total_bytes») (saturatingAdd 64 (u .bytes) n))
-    ByteLimit
+    (ltb (c .«maximum_bytes») (saturatingAdd 64 (c .«forwarded_bytes») n)
+    || ltb (c .«maximum_total_bytes») (saturatingAdd 64 (u .bytes) n)) ByteLimit
 
 -- 17: credit or queue
 unfoldable pub flowAnswer : OpaqueRelayConfig → RelayCircuit → RelaySide → (n : ℕ) → HnsrAnswer
 flowAnswer k c side n =
-    check (ltb (creditOf side c) n || ltb (k .«maximum_queue_bytes») (saturatingAdd 64 (queuedTo (otherSide side) c) n)) FlowControl
+    check (ltb (creditOf side c) n || ltb (k .«maximum_queue_bytes») (saturatingAdd 64 (queuedTo (otherSide side) c) n))
+    FlowControl
 
 -- ---- what is written: both records and the byte counters charged
 unfoldable pub withData : World → (id : ℕ) → ReservationId → RelaySide → (n : ℕ) → World
@@ -68,7 +72,9 @@ dataTaken w q c side n =
     then flowAnswer (configOf w) c side n
 
 unfoldable pub dataWith : World → Packet → RelayCircuit → RelaySide → (n : ℕ) → Outcome
-dataWith w q c side n = proceed w (dataTaken w q c side n) (send (withData w (q .context) (c .«reservation_id») side n) (dataMessage q c side n))
+dataWith w q c side n =
+    proceed w (dataTaken w q c side n)
+    (send (withData w (q .context) (c .«reservation_id») side n) (dataMessage q c side n))
 
 unfoldable pub handleData : World → Packet → Outcome
 handleData w q = dataWith w q (namedCircuit w q) (sideOf (sender q) (namedCircuit w q)) (length (q .body))

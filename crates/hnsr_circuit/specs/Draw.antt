@@ -35,11 +35,23 @@ undrawn = record { zeros = 0; candidates = 0; ended = false; found = false; id =
 
 -- an all-zero draw is drawn again, 8 in a row refuse
 abbrev pub zeroDrawn : Drawing → Drawing
-zeroDrawn s = record { zeros = s .zeros + 1; candidates = s .candidates; ended = leb mostDraws (s .zeros + 1); found = false; id = 0 }
+zeroDrawn s = record {
+  zeros = s .zeros + 1;
+  candidates = s .candidates;
+  ended = leb mostDraws (s .zeros + 1);
+  found = false;
+  id = 0;
+}
 
 -- a draw that is already a pending or circuit id counts as one of 8 candidates
 abbrev pub takenDrawn : Drawing → Drawing
-takenDrawn s = record { zeros = 0; candidates = s .candidates + 1; ended = leb mostDraws (s .candidates + 1); found = false; id = 0 }
+takenDrawn s = record {
+  zeros = 0;
+  candidates = s .candidates + 1;
+  ended = leb mostDraws (s .candidates + 1);
+  found = false;
+  id = 0;
+}
 
 abbrev pub freshDrawn : Drawing → (id : ℕ) → Drawing
 freshDrawn s id = record { zeros = s .zeros; candidates = s .candidates; ended = true; found = true; id = id }

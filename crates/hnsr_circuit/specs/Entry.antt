@@ -16,7 +16,8 @@ use Rattle.hnsr_circuit.specs.Route.{headWords}
 use Rattle.hnsr_circuit.specs.Counts.{pendingCount, circuitCount}
 use Rattle.hnsr_circuit.specs.World.{World, configOf}
 
--- ---- words needed: `handle` one route with the longest DATA, acknowledge and each revoked record two with the longest notice
+-- ---- words needed: `handle` one route with the longest DATA, acknowledge and each revoked record two with the longest
+-- notice
 abbrev pub handleWords : ℕ
 handleWords = headWords + wordCount mostData
 
@@ -33,7 +34,8 @@ revokingWords w = closingWords * (pendingCount w + circuitCount w)
 -- ---- 22: a table shorter than its maximum (the ledger has none), or output words too few
 unfoldable pub tooFew : OpaqueRelayConfig → (pending circuits inflight : ℕ) → Bool
 tooFew c pending circuits inflight =
-    ltb pending (c .«maximum_pending») || ltb circuits (c .«maximum_circuits») || ltb inflight (c .«maximum_inflight_actions»)
+    ltb pending (c .«maximum_pending») || ltb circuits (c .«maximum_circuits»)
+    || ltb inflight (c .«maximum_inflight_actions»)
 
 unfoldable pub tablesShort : OpaqueRelayConfig → World → Bool
 tablesShort c w = tooFew c (length (w .pending)) (length (w .circuits)) (length (w .inflight))

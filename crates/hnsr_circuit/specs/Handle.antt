@@ -1,4 +1,5 @@
--- `handle`: entry, clock, gate, and the opcode picks the handling (document 01, "Down through the call", "Where a call is turned away").
+-- `handle`: entry, clock, gate, and the opcode picks the handling (document 01, "Down through the call", "Where a call
+-- is turned away").
 use Prim.Native.Nat.{ℕ}
 use mathlib.Core.Bool.{Bool, cond, not}
 use lib.Dec.{eqb}
@@ -48,7 +49,9 @@ dispatch other w q = refuse w UnexpectedOpcode
 -- ---- entry, clock, gate. From the clock's row on the clock has moved
 unfoldable pub entryAnswer : World → Packet → (room : ℕ) → HnsrAnswer
 entryAnswer w q room =
-    roomAnswer w room handleWords then peerAnswer (length (q .source)) then packetAnswer (q .opcode) (q .context) (length (q .body))
+    roomAnswer w room handleWords
+    then peerAnswer (length (q .source))
+    then packetAnswer (q .opcode) (q .context) (length (q .body))
 
 unfoldable pub gateAnswer : (enabled : Bool) → HnsrAnswer
 gateAnswer enabled = check (not enabled) Disabled
@@ -58,4 +61,5 @@ handleGate w q = proceed w (gateAnswer (w .runtime .enabled)) (dispatch (handlin
 
 unfoldable pub handle : World → Packet → (room : ℕ) → Outcome
 handle w q room =
-    proceed w (entryAnswer w q room then clockAnswer (w .runtime .«trusted_time_high_water») (q .now)) (handleGate (atTime w (q .now)) q)
+    proceed w (entryAnswer w q room then clockAnswer (w .runtime .«trusted_time_high_water») (q .now))
+    (handleGate (atTime w (q .now)) q)

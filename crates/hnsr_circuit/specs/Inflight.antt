@@ -19,7 +19,8 @@ use Rattle.hnsr_circuit.specs.Answers.{check}
 use Rattle.hnsr_circuit.specs.Peer.{noPeer, samePeer}
 
 -- a record in use; its mark replaced
-abbrev pub actionRecord : (generation sequence circuit : ℕ) → HnsrPeerId → (kind : ℕ) → (toEndpoint : Bool) → (bytes : ℕ) → InflightAction
+abbrev pub actionRecord : (generation sequence circuit : ℕ) → HnsrPeerId → (kind : ℕ) → (toEndpoint : Bool)
+    → (bytes : ℕ) → InflightAction
 actionRecord generation sequence circuit destination kind toEndpoint bytes = record {
   used = true;
   generation = generation;
@@ -47,7 +48,8 @@ actionMarked used a = record {
 abbrev pub noAction : InflightAction
 noAction = actionMarked false (actionRecord 0 0 0 noPeer 0 false 0)
 
--- ---- kinds: an action's kind is its message's name, but Control for WINDOW and Close for CLOSE and ERROR. A stored kind is a number
+-- ---- kinds: an action's kind is its message's name, but Control for WINDOW and Close for CLOSE and ERROR. A stored
+-- kind is a number
 abbrev pub kindNumber : InflightKind → ℕ
 kindNumber Incoming = 0
 kindNumber Opened = 1
@@ -88,8 +90,8 @@ clearAction a = actionMarked false a
 unfoldable pub dropped : (InflightAction → Bool) → List InflightAction → List InflightAction
 dropped p inflight = clear clearAction p inflight
 
--- ---- action capacity: three counts, of all actions, of those under the circuit, of those toward the peer. ACCEPT replaces the actions
--- of its own circuit: they are counted nowhere
+-- ---- action capacity: three counts, of all actions, of those under the circuit, of those toward the peer. ACCEPT
+-- replaces the actions of its own circuit: they are counted nowhere
 abbrev pub retained : (replacing : Bool) → (circuit : ℕ) → InflightAction → Bool
 retained replacing circuit a = a .used && not (replacing && eqb (a .«circuit_id») circuit)
 
@@ -104,7 +106,8 @@ tallied replacing circuit peer inflight = record {
 unfoldable pub capacityLeft : OpaqueRelayConfig → InflightTally → ℕ
 capacityLeft c t =
     min (c .«maximum_inflight_actions» - t .total)
-    (min (c .«maximum_inflight_actions_per_circuit» - t .«for_circuit») (c .«maximum_inflight_actions_per_peer» - t .«for_peer»))
+    (min (c .«maximum_inflight_actions_per_circuit» - t .«for_circuit»)
+    (c .«maximum_inflight_actions_per_peer» - t .«for_peer»))
 
 -- 10 actions: no capacity is 0 left
 unfoldable pub capacityAnswer : OpaqueRelayConfig → InflightTally → HnsrAnswer

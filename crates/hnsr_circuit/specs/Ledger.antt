@@ -1,4 +1,5 @@
--- The ledger (`reservation_usage`): what is asked of a record, what becomes of one, and the rules of OPEN and DATA that go by it.
+-- The ledger (`reservation_usage`): what is asked of a record, what becomes of one, and the rules of OPEN and DATA that
+-- go by it.
 use Prim.Native.Nat.{ℕ}
 use mathlib.Core.Bool.{Bool, true, false, not, _&&_, _||_}
 use mathlib.Core.List.{List}
@@ -19,7 +20,8 @@ abbrev pub usageFor : ReservationId → (expires : ℕ) → ReservationUsage
 usageFor id expires = record { used = true; «reservation_id» = id; bytes = 0; «expires_at» = expires }
 
 abbrev pub usageWith : ReservationUsage → (used : Bool) → (bytes : ℕ) → ReservationUsage
-usageWith u used bytes = record { used = used; «reservation_id» = u .«reservation_id»; bytes = bytes; «expires_at» = u .«expires_at» }
+usageWith u used bytes =
+    record { used = used; «reservation_id» = u .«reservation_id»; bytes = bytes; «expires_at» = u .«expires_at» }
 
 -- what a table has past its end
 abbrev pub noUsage : ReservationUsage
@@ -64,7 +66,8 @@ usageOf id ledger = pick (usageAt id) noUsage ledger
 
 -- a missing ledger record is made: the one that is found stays as it is. The ledger goes by the grant's id
 unfoldable pub booked : RelayTicket → List ReservationUsage → List ReservationUsage
-booked t ledger = put isUsage (usageAt (t .«reservation_id»)) (pick (usageAt (t .«reservation_id»)) (freshUsage t) ledger) ledger
+booked t ledger =
+    put isUsage (usageAt (t .«reservation_id»)) (pick (usageAt (t .«reservation_id»)) (freshUsage t) ledger) ledger
 
 -- ---- rows
 -- 23: ledger full and record missing
@@ -73,4 +76,5 @@ ledgerAnswer found used places = check (not found && leb places used) LedgerFull
 
 -- 18 (OPEN): expiry differs or bytes used up
 unfoldable pub usageAnswer : RelayTicket → ReservationUsage → HnsrAnswer
-usageAnswer t u = check (not (eqb (u .«expires_at») (t .«expires_at»)) || leb (t .«max_total_bytes») (u .bytes)) ByteLimit
+usageAnswer t u =
+    check (not (eqb (u .«expires_at») (t .«expires_at»)) || leb (t .«max_total_bytes») (u .bytes)) ByteLimit

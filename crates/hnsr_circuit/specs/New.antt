@@ -20,7 +20,8 @@ use Rattle.hnsr_circuit.specs.Runtime.{newRuntime}
 use Rattle.hnsr_circuit.specs.World.{World, Outcome, done, proceed, atTime}
 use Rattle.hnsr_circuit.specs.Entry.{tablesShort, clockAnswer}
 
--- ---- new: 3 session zero or generation 0; 2 what `validate` refuses; 22 a table has fewer places than its maximum, or the ledger none
+-- ---- new: 3 session zero or generation 0; 2 what `validate` refuses; 22 a table has fewer places than its maximum, or
+-- the ledger none
 unfoldable pub sessionAnswer : (session : List ℕ) → (generation : ℕ) → HnsrAnswer
 sessionAnswer session generation = check (allZero session || eqb generation 0) InvalidSession
 

@@ -1,5 +1,6 @@
--- OPEN (document 01, "Down through the call" and the two rows of OPEN in "Where a call is turned away"). Three worlds, three answers:
--- as lent; ledger records past their expiry dropped; the missing ledger record made. Then all is written and INCOMING is queued.
+-- OPEN (document 01, "Down through the call" and the two rows of OPEN in "Where a call is turned away"). Three worlds,
+-- three answers: as lent; ledger records past their expiry dropped; the missing ledger record made. Then all is written
+-- and INCOMING is queued.
 -- The row "all written, then 1 context all zero" is left out: the entry refuses such a packet.
 use Prim.Native.Nat.{ℕ, _+_, min}
 use mathlib.Core.Bool.{Bool, false, not, _||_}
@@ -39,15 +40,16 @@ use Rattle.hnsr_circuit.specs.Draw.{drawn, drawAnswer}
 unfoldable pub openAnswer : OpaqueRelayConfig → (pending circuits work : ℕ) → (repeated : Bool) → HnsrAnswer
 openAnswer c pending circuits work repeated =
     check
-    (leb (c .«maximum_pending») pending || leb (c .«maximum_circuits») circuits || leb (c .«maximum_circuits_per_peer») work || repeated)
-    Capacity
+    (leb (c .«maximum_pending») pending || leb (c .«maximum_circuits») circuits
+    || leb (c .«maximum_circuits_per_peer») work || repeated) Capacity
 
 -- 1: not admitted, or grant expiry not after now
 unfoldable pub admissionAnswer : (admitted : Bool) → (expiry now : ℕ) → HnsrAnswer
 admissionAnswer admitted expiry now = check (not admitted || leb expiry now) (Protocol Admission)
 
 -- 10: endpoint is requester, its work or the reservation's at its most
-unfoldable pub endpointAnswer : OpaqueRelayConfig → RelayTicket → (same : Bool) → (work reservationWork : ℕ) → HnsrAnswer
+unfoldable pub endpointAnswer : OpaqueRelayConfig → RelayTicket → (same : Bool)
+    → (work reservationWork : ℕ) → HnsrAnswer
 endpointAnswer c t same work under =
     check (same || leb (c .«maximum_circuits_per_peer») work || leb (t .«max_active_circuits») under) Capacity
 
@@ -71,7 +73,9 @@ pub record Opening : Type 0 where
   pub deadline : ℕ
 
 abbrev pub pendingFor : Opening → RelayPending
-pendingFor o = pendingRecord (o .id) (o .requester) (o .endpoint) (o .context) (o .ticket) (o .body .«initial_window») (o .deadline)
+pendingFor o =
+    pendingRecord (o .id) (o .requester) (o .endpoint) (o .context) (o .ticket) (o .body .«initial_window»)
+    (o .deadline)
 
 -- ticket, profile, nonce and window are the OPEN's
 abbrev pub incomingFor : Opening → IncomingBody
@@ -107,7 +111,8 @@ opening w q = record {
 
 unfoldable pub openAdmitted : World → Packet → HnsrAnswer
 openAdmitted w q =
-    openAnswer (configOf w) (pendingCount w) (circuitCount w) (peerWork w (sender q)) (any (requestedBy (sender q) (q .context)) (w .pending))
+    openAnswer (configOf w) (pendingCount w) (circuitCount w) (peerWork w (sender q))
+    (any (requestedBy (sender q) (q .context)) (w .pending))
     then bodyAnswer (decodeOpen (q .keyValid) (q .body) .result)
     then admissionAnswer (q .admission .admitted) (q .admission .ticket .«expires_at») (q .now)
 
@@ -120,12 +125,14 @@ openPlaced w q o =
     then drawAnswer (drawn w (q .random))
     then capacityAnswer (configOf w) (tallied false (o .id) (o .endpoint) (w .inflight))
     then deadlineAnswer (configOf w) (q .now)
-    then ledgerAnswer (hasUsage (o .ticket .«reservation_id») (w .ledger)) (count isUsage (w .ledger)) (length (w .ledger))
+    then ledgerAnswer (hasUsage (o .ticket .«reservation_id») (w .ledger)) (count isUsage (w .ledger))
+    (length (w .ledger))
 
 -- the ledger record has been made, and stays if its bytes or expiry refuse
 unfoldable pub openBooked : World → Opening → Outcome
 openBooked w o =
-    proceed w (usageAnswer (o .ticket) (usageOf (o .ticket .«reservation_id») (w .ledger))) (send (withOpen w o) (incomingMessage o))
+    proceed w (usageAnswer (o .ticket) (usageOf (o .ticket .«reservation_id») (w .ledger)))
+    (send (withOpen w o) (incomingMessage o))
 
 -- ledger records past their expiry have been dropped, and stay dropped if a later check refuses
 unfoldable pub openGranted : World → Packet → Opening → Outcome

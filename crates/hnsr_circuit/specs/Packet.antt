@@ -1,4 +1,5 @@
--- What the host hands over with a packet (document 01, "What the host hands over"), and the circuit that a packet names.
+-- What the host hands over with a packet (document 01, "What the host hands over"), and the circuit that a packet
+-- names.
 use Prim.Native.Nat.{ℕ}
 use mathlib.Core.Bool.{Bool, not}
 use mathlib.Core.List.{List}
@@ -15,14 +16,15 @@ use Rattle.hnsr_circuit.specs.declared.records.InflightKind.{InflightKin
 use Rattle.hnsr_circuit.specs.Queue.{Message, message}
 use Rattle.hnsr_circuit.specs.World.{World}
 
--- refused, or a grant: endpoint peer, and of the ticket reservation id, expiry, most active circuits, bytes per circuit, total bytes. Where
--- it is refused the rest means nothing
+-- refused, or a grant: endpoint peer, and of the ticket reservation id, expiry, most active circuits, bytes per
+-- circuit, total bytes. Where it is refused the rest means nothing
 pub record Admission : Type 0 where
   pub admitted : Bool
   pub endpoint : List ℕ
   pub ticket : RelayTicket
 
--- a packet and what comes with it: the sender's name, the clock, and with OPEN the key-valid flag, the admission and random bytes
+-- a packet and what comes with it: the sender's name, the clock, and with OPEN the key-valid flag, the admission and
+-- random bytes
 pub record Packet : Type 0 where
   pub source : List ℕ
   pub opcode : ℕ

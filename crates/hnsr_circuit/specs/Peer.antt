@@ -1,5 +1,6 @@
 -- A peer is 1 to 128 bytes; a stored length over 128 reads as 128 (document 01, "What the host hands over").
--- The limit is the one constant from which the words of a peer, of a route and the outputs needed follow (Route, Entry).
+-- The limit is the one constant from which the words of a peer, of a route and the outputs needed follow (Route,
+-- Entry).
 use Prim.Native.Nat.{ℕ, min}
 use mathlib.Core.Bool.{Bool, true, false, _&&_}
 use mathlib.Core.List.{List, [], _∷_}
@@ -15,7 +16,8 @@ maximumPeer = 128
 abbrev pub peerGood : (length : ℕ) → Bool
 peerGood n = leb 1 n && leb n maximumPeer
 
--- the stored form of a name that the host gives: as many bytes as a name may have, zeros behind them. A longer name is refused before it is stored
+-- the stored form of a name that the host gives: as many bytes as a name may have, zeros behind them. A longer name is
+-- refused before it is stored
 unfoldable pub peerOf : List ℕ → HnsrPeerId
 peerOf name = record { len = length name; bytes = padded maximumPeer (take maximumPeer name) }
 

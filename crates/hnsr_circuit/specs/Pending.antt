@@ -1,4 +1,5 @@
--- Pending records: what is asked of one, and what becomes of one. Every question tests the used mark too, and none more than one record.
+-- Pending records: what is asked of one, and what becomes of one. Every question tests the used mark too, and none more
+-- than one record.
 use Prim.Native.Nat.{ℕ}
 use mathlib.Core.Bool.{Bool, true, false, _&&_, _||_}
 use lib.Dec.{eqb, leb}
@@ -13,10 +14,17 @@ abbrev pub noReservation : ReservationId
 noReservation = record { high = 0; low = 0 }
 
 abbrev pub noTicket : RelayTicket
-noTicket = record { «reservation_id» = noReservation; «expires_at» = 0; «max_active_circuits» = 0; «max_bytes_per_circuit» = 0; «max_total_bytes» = 0 }
+noTicket = record {
+  «reservation_id» = noReservation;
+  «expires_at» = 0;
+  «max_active_circuits» = 0;
+  «max_bytes_per_circuit» = 0;
+  «max_total_bytes» = 0;
+}
 
 -- a record in use; its mark replaced
-abbrev pub pendingRecord : (id : ℕ) → (requester endpoint : HnsrPeerId) → (context : ℕ) → RelayTicket → (window deadline : ℕ) → RelayPending
+abbrev pub pendingRecord : (id : ℕ) → (requester endpoint : HnsrPeerId) → (context : ℕ) → RelayTicket
+    → (window deadline : ℕ) → RelayPending
 pendingRecord id requester endpoint context ticket window deadline = record {
   used = true;
   «circuit_id» = id;

@@ -22,8 +22,8 @@ use Rattle.hnsr_circuit.specs.Route.{Route}
 use Rattle.hnsr_circuit.specs.Runtime.{withSequence}
 use Rattle.hnsr_circuit.specs.World.{World, Outcome, configOf, done, proceed, withRuntime, withInflight}
 
--- ---- a message: where it goes, the circuit that it is about, the packet, and what its action holds. The direction and the bytes are
--- of Data alone
+-- ---- a message: where it goes, the circuit that it is about, the packet, and what its action holds. The direction and
+-- the bytes are of Data alone
 pub record Message : Type 0 where
   pub destination : HnsrPeerId
   pub circuit : ℕ
@@ -35,17 +35,28 @@ pub record Message : Type 0 where
   pub bytes : ℕ
 
 abbrev pub message : HnsrPeerId → (circuit opcode context : ℕ) → (body : List ℕ) → InflightKind → Message
-message destination circuit opcode context body kind = record
-    { destination = destination; circuit = circuit; opcode = opcode; context = context; body = body; kind = kind; toEndpoint = false; bytes = 0 }
+message destination circuit opcode context body kind = record {
+  destination = destination;
+  circuit = circuit;
+  opcode = opcode;
+  context = context;
+  body = body;
+  kind = kind;
+  toEndpoint = false;
+  bytes = 0;
+}
 
--- ---- any queueing: 1 `HnsrPacket::new` refuses the made message; 10 actions; 6 sequence at 2^64 − 1. A made body is never too large, so
--- of what `HnsrPacket::new` refuses only the zero context is left
+-- ---- any queueing: 1 `HnsrPacket::new` refuses the made message; 10 actions; 6 sequence at 2^64 − 1. A made body is
+-- never too large, so of what `HnsrPacket::new` refuses only the zero context is left
 unfoldable pub queueAnswer : OpaqueRelayConfig → InflightTally → (sequence context : ℕ) → HnsrAnswer
 queueAnswer c t sequence context =
-    check (eqb context 0) (Protocol (Invalid ContextZero)) then capacityAnswer c t then check (eqb sequence (top 64)) GenerationExhausted
+    check (eqb context 0) (Protocol (Invalid ContextZero))
+    then capacityAnswer c t
+    then check (eqb sequence (top 64)) GenerationExhausted
 
 abbrev pub actionFor : Message → (generation sequence : ℕ) → InflightAction
-actionFor m generation sequence = actionRecord generation sequence (m .circuit) (m .destination) (kindNumber (m .kind)) (m .toEndpoint) (m .bytes)
+actionFor m generation sequence =
+    actionRecord generation sequence (m .circuit) (m .destination) (kindNumber (m .kind)) (m .toEndpoint) (m .bytes)
 
 abbrev pub routeFor : Message → (generation sequence : ℕ) → Route
 routeFor m generation sequence = record {
@@ -66,15 +77,16 @@ sequenceOf w = w .runtime .«next_action_sequence»
 
 -- whether a message can be queued now
 unfoldable pub canQueue : Message → World → HnsrAnswer
-canQueue m w = queueAnswer (configOf w) (tallied false (m .circuit) (m .destination) (w .inflight)) (sequenceOf w) (m .context)
+canQueue m w =
+    queueAnswer (configOf w) (tallied false (m .circuit) (m .destination) (w .inflight)) (sequenceOf w) (m .context)
 
 -- the action written and the sequence moved on
 unfoldable pub queued : Message → World → World
 queued m w =
     withRuntime
     (withInflight w
-    (put isAction (actionAt (generationOf w) (sequenceOf w)) (actionFor m (generationOf w) (sequenceOf w)) (w .inflight)))
-    (withSequence (w .runtime) (sequenceOf w + 1))
+    (put isAction (actionAt (generationOf w) (sequenceOf w)) (actionFor m (generationOf w) (sequenceOf w))
+    (w .inflight))) (withSequence (w .runtime) (sequenceOf w + 1))
 
 abbrev pub routed : Message → World → Route
 routed m w = routeFor m (generationOf w) (sequenceOf w)

@@ -1,4 +1,5 @@
--- The end of a record, and revocation (document 01, "Down through the call"): it ends the record, drops its actions, then tells both sides.
+-- The end of a record, and revocation (document 01, "Down through the call"): it ends the record, drops its actions,
+-- then tells both sides.
 -- A walk revokes what has a property, by ascending id, each record at its place.
 use Prim.Native.Nat.{ℕ, zero, suc}
 use mathlib.Core.Bool.{Bool}
@@ -33,7 +34,8 @@ unfoldable pub endPending : World → (RelayPending → Bool) → (id : ℕ) →
 endPending w p id = counting countRevoked (withoutActions (withoutPending w p) id)
 
 unfoldable pub endCircuit : World → (id : ℕ) → World
-endCircuit w id = counting countRevoked (withoutActions (withCircuits w (edit (circuitAt id) clearCircuit (w .circuits))) id)
+endCircuit w id =
+    counting countRevoked (withoutActions (withCircuits w (edit (circuitAt id) clearCircuit (w .circuits))) id)
 
 -- the record at a place
 abbrev pub pendingThere : World → (place : ℕ) → RelayPending
@@ -81,7 +83,8 @@ revokePending n w place =
 unfoldable pub revokeCircuitThere : Notice → World → (place : ℕ) → Sent
 revokeCircuitThere n w place =
     let c = circuitThere w place in
-    andThen (tell (closeTo n (c .requester) (c .«circuit_id»)) (endCircuitThere w place)) (tell (closeTo n (c .endpoint) (c .«circuit_id»)))
+    andThen (tell (closeTo n (c .requester) (c .«circuit_id»)) (endCircuitThere w place))
+    (tell (closeTo n (c .endpoint) (c .«circuit_id»)))
 
 -- ---- by id: the record that a lookup finds; one no longer there is nothing to revoke
 abbrev pub hasPending : World → (id : ℕ) → Bool
@@ -93,8 +96,8 @@ pendingIn w id = pick (pendingAt id) noPending (w .pending)
 unfoldable pub revokeCircuit : Notice → World → (id : ℕ) → Sent
 revokeCircuit n w id = when (hasCircuit w id) (λ v. revokeCircuitThere n v (placeOf (circuitAt id) (v .circuits))) w
 
--- ---- a walk: again and again the least (id, place) above the last that has the property; the record at that place is ended. It takes at
--- most as many turns as there are places
+-- ---- a walk: again and again the least (id, place) above the last that has the property; the record at that place is
+-- ended. It takes at most as many turns as there are places
 module _ {A : Type 0} (idOf : A → ℕ) (table : World → List A) (p : A → Bool) (end : World → (place : ℕ) → Sent) where
   unfoldable pub walkFrom : (turns : ℕ) → Walked → World → Sent
   walkFrom zero c w = silently w
@@ -112,5 +115,7 @@ abbrev pub circuitTable : World → List RelayCircuit
 circuitTable w = w .circuits
 
 -- pending records come before circuits
-unfoldable pub revokeAll : (World → ℕ → Sent) → (RelayPending → Bool) → (World → ℕ → Sent) → (RelayCircuit → Bool) → World → Outcome
-revokeAll endP p endC c w = finished (andThen (walk pendingId pendingTable p endP w) (walk circuitId circuitTable c endC))
+unfoldable pub revokeAll : (World → ℕ → Sent) → (RelayPending → Bool) → (World → ℕ → Sent) → (RelayCircuit → Bool)
+    → World → Outcome
+revokeAll endP p endC c w =
+    finished (andThen (walk pendingId pendingTable p endP w) (walk circuitId circuitTable c endC))

@@ -6,7 +6,8 @@ use lib.Dec.{eqb}
 use lib.ListN.{length}
 use Rattle.hns_encoding.specs.Numbers.{top}
 use Rattle.hnsr_body.specs.declared.values.ReservationId.{ReservationId}
-use Rattle.hnsr_body.specs.declared.messages.Notice.the-variants.{PeerDisconnected, ReservationRevoked, AcceptanceExpired, TicketExpired, RelayDisabled}
+use Rattle.hnsr_body.specs.declared.messages.Notice.the-variants.{PeerDisconnected, ReservationRevoked}
+use Rattle.hnsr_body.specs.declared.messages.Notice.the-variants.{AcceptanceExpired, TicketExpired, RelayDisabled}
 use Rattle.hnsr_circuit.specs.declared.peer.HnsrPeerId.{HnsrPeerId}
 use Rattle.hnsr_circuit.specs.declared.records.RelayPending.{RelayPending}
 use Rattle.hnsr_circuit.specs.declared.answer.HnsrAnswer.{HnsrAnswer}
@@ -22,7 +23,8 @@ use Rattle.hnsr_circuit.specs.Runtime.{withEnabled}
 use Rattle.hnsr_circuit.specs.World.{World, Outcome, done, proceed, withRuntime, withLedger, withInflight, atTime}
 use Rattle.hnsr_circuit.specs.Queue.{Message, Sent, tell, generationOf}
 use Rattle.hnsr_circuit.specs.Entry.{roomAnswer, revokingWords, peerAnswer, clockAnswer}
-use Rattle.hnsr_circuit.specs.Revocation.{endPendingThere, closeToRequester, closeToEndpoint, pendingThere, revokePending, revokeCircuitThere, revokeAll}
+use Rattle.hnsr_circuit.specs.Revocation.{endPendingThere, closeToRequester, closeToEndpoint}
+use Rattle.hnsr_circuit.specs.Revocation.{pendingThere, revokePending, revokeCircuitThere, revokeAll}
 use Rattle.hnsr_circuit.specs.Acknowledge.{generationAnswer}
 
 -- ---- disconnect: first drops every action toward that peer, then revokes the records it is a side of
@@ -31,17 +33,20 @@ withoutActionsToward w peer = withInflight w (dropped (actionToward peer) (w .in
 
 -- on disconnect only the other peer of a pending record hears, by CLOSE
 unfoldable pub closeToOther : HnsrPeerId → RelayPending → Message
-closeToOther peer p = cond (samePeer (p .requester) peer) (closeToEndpoint PeerDisconnected p) (closeToRequester PeerDisconnected p)
+closeToOther peer p =
+    cond (samePeer (p .requester) peer) (closeToEndpoint PeerDisconnected p) (closeToRequester PeerDisconnected p)
 
 unfoldable pub disconnectPending : HnsrPeerId → World → (place : ℕ) → Sent
 disconnectPending peer w place = tell (closeToOther peer (pendingThere w place)) (endPendingThere w place)
 
 unfoldable pub disconnectPeer : World → HnsrPeerId → Outcome
 disconnectPeer w peer =
-    revokeAll (disconnectPending peer) (pendingOf peer) (revokeCircuitThere PeerDisconnected) (circuitOf peer) (withoutActionsToward w peer)
+    revokeAll (disconnectPending peer) (pendingOf peer) (revokeCircuitThere PeerDisconnected) (circuitOf peer)
+    (withoutActionsToward w peer)
 
 unfoldable pub disconnect : World → (peer : List ℕ) → (room : ℕ) → Outcome
-disconnect w peer room = proceed w (roomAnswer w room (revokingWords w) then peerAnswer (length peer)) (disconnectPeer w (peerOf peer))
+disconnect w peer room =
+    proceed w (roomAnswer w room (revokingWords w) then peerAnswer (length peer)) (disconnectPeer w (peerOf peer))
 
 -- ---- revoking a reservation revokes the records that store its id and removes its ledger record
 abbrev pub withoutUsage : World → ReservationId → World
@@ -49,13 +54,14 @@ withoutUsage w id = withLedger w (edit (usageAt id) clearUsage (w .ledger))
 
 unfoldable pub revokeUnder : World → ReservationId → Outcome
 revokeUnder w id =
-    revokeAll (revokePending ReservationRevoked) (pendingUnder id) (revokeCircuitThere ReservationRevoked) (circuitUnder id) (withoutUsage w id)
+    revokeAll (revokePending ReservationRevoked) (pendingUnder id) (revokeCircuitThere ReservationRevoked)
+    (circuitUnder id) (withoutUsage w id)
 
 unfoldable pub revokeReservation : World → ReservationId → (room : ℕ) → Outcome
 revokeReservation w id room = proceed w (roomAnswer w room (revokingWords w)) (revokeUnder w id)
 
--- ---- expire drops ledger records as OPEN does, then revokes pending records whose deadline or expiry, and circuits whose expiry, is not
--- after now
+-- ---- expire drops ledger records as OPEN does, then revokes pending records whose deadline or expiry, and circuits
+-- whose expiry, is not after now
 abbrev pub withoutLapsed : World → (now : ℕ) → World
 withoutLapsed w now = withLedger w (lapsed now (w .ledger))
 
@@ -66,10 +72,11 @@ expireAt w now =
 
 unfoldable pub expire : World → (now room : ℕ) → Outcome
 expire w now room =
-    proceed w (roomAnswer w room (revokingWords w) then clockAnswer (w .runtime .«trusted_time_high_water») now) (expireAt w now)
+    proceed w (roomAnswer w room (revokingWords w) then clockAnswer (w .runtime .«trusted_time_high_water») now)
+    (expireAt w now)
 
--- ---- replace_enabled: a changed enabled state raises the generation, drops every action, sets the sequence to 1 and, if off, revokes all;
--- the same state changes nothing
+-- ---- replace_enabled: a changed enabled state raises the generation, drops every action, sets the sequence to 1 and,
+-- if off, revokes all; the same state changes nothing
 abbrev pub changes : World → Bool → Bool
 changes w on = not (Bool·beq (w .runtime .enabled) on)
 
@@ -82,7 +89,8 @@ switched w on = withRuntime (withInflight w (dropped isAction (w .inflight))) (w
 
 unfoldable pub switchTo : World → Bool → Outcome
 switchTo w true = done (switched w true) []
-switchTo w false = revokeAll (revokePending RelayDisabled) isPending (revokeCircuitThere RelayDisabled) isCircuit (switched w false)
+switchTo w false =
+    revokeAll (revokePending RelayDisabled) isPending (revokeCircuitThere RelayDisabled) isCircuit (switched w false)
 
 unfoldable pub replaceEnabled : World → (expected : ℕ) → Bool → (room : ℕ) → Outcome
 replaceEnabled w expected on room =

@@ -1,5 +1,6 @@
--- The runtime with one part replaced, and the counters (document 01, "Down through the call": opened_circuits counts ACCEPTs, bytes_sent and
--- bytes_received the bytes of each DATA, revoked_work every other end of a pending record or circuit).
+-- The runtime with one part replaced, and the counters (document 01, "Down through the call": opened_circuits counts
+-- ACCEPTs, bytes_sent and bytes_received the bytes of each DATA, revoked_work every other end of a pending record or
+-- circuit).
 use Prim.Native.Nat.{ℕ, _+_}
 use mathlib.Core.Bool.{Bool, true, false}
 use mathlib.Core.List.{List, replicate}
@@ -10,24 +11,36 @@ use Rattle.hnsr_circuit.specs.declared.runtime.RuntimeCounters.{RuntimeC
 
 -- ---- counters: sums that stop at their top
 abbrev pub counters : (admitted opened sent received revoked : ℕ) → RuntimeCounters
-counters admitted opened sent received revoked = record
-    { «admitted_opens» = admitted; «opened_circuits» = opened; «bytes_sent» = sent; «bytes_received» = received; «revoked_work» = revoked }
+counters admitted opened sent received revoked = record {
+  «admitted_opens» = admitted;
+  «opened_circuits» = opened;
+  «bytes_sent» = sent;
+  «bytes_received» = received;
+  «revoked_work» = revoked;
+}
 
 abbrev pub noCounts : RuntimeCounters
 noCounts = counters 0 0 0 0 0
 
 abbrev pub countOpen : RuntimeCounters → RuntimeCounters
-countOpen c = counters (saturatingAdd 64 (c .«admitted_opens») 1) (c .«opened_circuits») (c .«bytes_sent») (c .«bytes_received») (c .«revoked_work»)
+countOpen c =
+    counters (saturatingAdd 64 (c .«admitted_opens») 1) (c .«opened_circuits») (c .«bytes_sent») (c .«bytes_received»)
+    (c .«revoked_work»)
 
 abbrev pub countAccept : RuntimeCounters → RuntimeCounters
-countAccept c = counters (c .«admitted_opens») (saturatingAdd 64 (c .«opened_circuits») 1) (c .«bytes_sent») (c .«bytes_received») (c .«revoked_work»)
+countAccept c =
+    counters (c .«admitted_opens») (saturatingAdd 64 (c .«opened_circuits») 1) (c .«bytes_sent») (c .«bytes_received»)
+    (c .«revoked_work»)
 
 abbrev pub countBytes : ℕ → RuntimeCounters → RuntimeCounters
 countBytes n c =
-    counters (c .«admitted_opens») (c .«opened_circuits») (saturatingAdd 64 (c .«bytes_sent») n) (saturatingAdd 64 (c .«bytes_received») n) (c .«revoked_work»)
+    counters (c .«admitted_opens») (c .«opened_circuits») (saturatingAdd 64 (c .«bytes_sent») n)
+    (saturatingAdd 64 (c .«bytes_received») n) (c .«revoked_work»)
 
 abbrev pub countRevoked : RuntimeCounters → RuntimeCounters
-countRevoked c = counters (c .«admitted_opens») (c .«opened_circuits») (c .«bytes_sent») (c .«bytes_received») (saturatingAdd 64 (c .«revoked_work») 1)
+countRevoked c =
+    counters (c .«admitted_opens») (c .«opened_circuits») (c .«bytes_sent») (c .«bytes_received»)
+    (saturatingAdd 64 (c .«revoked_work») 1)
 
 -- ---- the runtime
 -- what `new` makes
@@ -43,7 +56,8 @@ newRuntime session generation config now = record {
 }
 
 -- what calls change, replaced
-abbrev pub runtimeWith : OpaqueRelayRuntime → (generation : ℕ) → (enabled : Bool) → (clock next : ℕ) → RuntimeCounters → OpaqueRelayRuntime
+abbrev pub runtimeWith : OpaqueRelayRuntime → (generation : ℕ) → (enabled : Bool) → (clock next : ℕ) → RuntimeCounters
+    → OpaqueRelayRuntime
 runtimeWith h generation enabled clock next counts = record {
   session = h .session;
   generation = generation;
@@ -61,7 +75,8 @@ abbrev pub withSequence : OpaqueRelayRuntime → (next : ℕ) → OpaqueRelayRun
 withSequence h next = runtimeWith h (h .generation) (h .enabled) (h .«trusted_time_high_water») next (h .counters)
 
 abbrev pub withCounters : OpaqueRelayRuntime → RuntimeCounters → OpaqueRelayRuntime
-withCounters h c = runtimeWith h (h .generation) (h .enabled) (h .«trusted_time_high_water») (h .«next_action_sequence») c
+withCounters h c =
+    runtimeWith h (h .generation) (h .enabled) (h .«trusted_time_high_water») (h .«next_action_sequence») c
 
 -- a changed enabled state raises the generation and sets the sequence to 1
 abbrev pub withEnabled : OpaqueRelayRuntime → Bool → OpaqueRelayRuntime

@@ -1,7 +1,10 @@
--- A table as it is lent (document 01, "What the host hands over"): a list of records with used marks, over any record type.
--- A question p is a Bool test on a record, the used mark among what it tests. Every table of the machine is read and changed by these
--- alone, and their laws are proved once (Totals, Lookups, Marks, Walks; Folds joins them to the loops of code):
---     any p, pick p d    whether a record has p; the record at the lowest place that has it, else d: a lookup takes the lowest
+-- A table as it is lent (document 01, "What the host hands over"): a list of records with used marks, over any record
+-- type.
+-- A question p is a Bool test on a record, the used mark among what it tests. Every table of the machine is read and
+-- changed by these alone, and their laws are proved once (Totals, Lookups, Marks, Walks; Folds joins them to the loops
+-- of code):
+--     any p, pick p d    whether a record has p; the record at the lowest place that has it, else d: a lookup takes the
+--                        lowest
 --     placeOf p          that lowest place, else the number of places
 --     count p, total f   how many records have p; the sum of f: a count takes all
 --     put used p r       r replaces what the lookup of p finds, else takes the lowest unused place

@@ -1,4 +1,5 @@
--- WINDOW: raises the other side's credit (document 01, "Down through the call"). If it is refused with 6, the credit stays raised.
+-- WINDOW: raises the other side's credit (document 01, "Down through the call"). If it is refused with 6, the credit
+-- stays raised.
 use Prim.Native.Nat.{ℕ, _+_}
 use mathlib.Core.Bool.{false}
 use lib.Dec.{ltb}
@@ -15,7 +16,8 @@ use Rattle.hnsr_circuit.specs.declared.records.InflightKind.the-variants
 use Rattle.hnsr_circuit.specs.Inflight.{tallied, capacityAnswer}
 use Rattle.hnsr_circuit.specs.World.{World, Outcome, configOf, proceed, withCircuits}
 use Rattle.hnsr_circuit.specs.Queue.{send}
-use Rattle.hnsr_circuit.specs.Packet.{Packet, sender, hasCircuit, namedCircuit, circuitAnswer, receiver, forwarded}
+use Rattle.hnsr_circuit.specs.Packet.{Packet, sender, hasCircuit, namedCircuit}
+use Rattle.hnsr_circuit.specs.Packet.{circuitAnswer, receiver, forwarded}
 
 -- 17: credit would pass 1,048,576
 unfoldable pub creditAnswer : RelayCircuit → RelaySide → (delta : ℕ) → HnsrAnswer
@@ -33,7 +35,8 @@ windowTaken w q c side delta =
     then creditAnswer c side delta
 
 unfoldable pub windowWith : World → Packet → RelayCircuit → RelaySide → (delta : ℕ) → Outcome
-windowWith w q c side delta = proceed w (windowTaken w q c side delta) (send (withWindow w (q .context) side delta) (forwarded q c Control))
+windowWith w q c side delta =
+    proceed w (windowTaken w q c side delta) (send (withWindow w (q .context) side delta) (forwarded q c Control))
 
 unfoldable pub handleWindow : World → Packet → Outcome
 handleWindow w q =

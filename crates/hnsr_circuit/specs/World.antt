@@ -23,7 +23,8 @@ pub record World : Type 0 where
   pub ledger : List ReservationUsage
   pub inflight : List InflightAction
 
-abbrev pub worldOf : OpaqueRelayRuntime → List RelayPending → List RelayCircuit → List ReservationUsage → List InflightAction → World
+abbrev pub worldOf : OpaqueRelayRuntime → List RelayPending → List RelayCircuit → List ReservationUsage
+    → List InflightAction → World
 worldOf h p c l i = record { runtime = h; pending = p; circuits = c; ledger = l; inflight = i }
 
 abbrev pub configOf : World → OpaqueRelayConfig
@@ -51,8 +52,8 @@ done w routes = record { world = w; answer = Taken; routes = routes; told = sile
 abbrev pub telling : World → Told → Outcome
 telling w t = record { world = w; answer = Taken; routes = []; told = t }
 
--- the answer of a row, and what follows if it passes; a refusal leaves the world that it is given, so what stays after a refusal is
--- always the world named in front of its row
+-- the answer of a row, and what follows if it passes; a refusal leaves the world that it is given, so what stays after
+-- a refusal is always the world named in front of its row
 unfoldable pub proceed : World → HnsrAnswer → Outcome → Outcome
 proceed w Taken o = o
 proceed w (Refused e) o = refuse w e

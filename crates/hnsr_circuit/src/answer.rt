@@ -1,6 +1,8 @@
-// What a call answers (document 01, "Where a call is turned away"). Numbers 1 to 21 follow this order; specs/Answers.antt has them.
+// What a call answers (document 01, "Where a call is turned away"). Numbers 1 to 21 follow this order;
+// specs/Answers.antt has them.
 ghost use mathlib.Core.Path.{_≡_};
-ghost use Rattle.hnsr_circuit.specs.Answers.{number, errorNumber, causeOf, noCause, errorCause, check, bodyAnswer, taken, _then_};
+ghost use Rattle.hnsr_circuit.specs.Answers.{number, errorNumber, causeOf, noCause};
+ghost use Rattle.hnsr_circuit.specs.Answers.{errorCause, check, bodyAnswer, taken, _then_};
 use hnsr_body::error::Cause;
 use hnsr_body::error::Checked;
 use hnsr_body::error::HnsrProtocolError;

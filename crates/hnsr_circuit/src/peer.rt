@@ -76,8 +76,8 @@ fn differs(k: usize, n: usize, x: u8, y: u8) -> bool
     false
 }
 
-// Whether the lengths or three of the bytes tell two names apart; names that are numbered have their number behind. The places are
-// constant, so that a scan reads these bytes where the record stands and copies no name.
+// Whether the lengths or three of the bytes tell two names apart; names that are numbered have their number behind. The
+// places are constant, so that a scan reads these bytes where the record stands and copies no name.
 fn soon_differ(a: HnsrPeerId, b: HnsrPeerId) -> bool
     ensures { λ r. ⌜ (r ≡ true → samePeer a b ≡ false) ⌝ }
 {

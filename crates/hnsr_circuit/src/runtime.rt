@@ -13,7 +13,8 @@ pub enum NextDue {
     At(u64),
 }
 
-// A packet but for its body, the clock, and what the host says of an OPEN: whether the key is valid, whether it is admitted, and its grant.
+// A packet but for its body, the clock, and what the host says of an OPEN: whether the key is valid, whether it is
+// admitted, and its grant.
 #[repr(C)]
 pub struct RelayPacket {
     pub opcode: u8,
@@ -60,7 +61,8 @@ pub struct HnsrRuntimeStatus {
     pub revoked_work: u64,
 }
 
-// A packet past entry and gate: the runtime with its clock moved, the places in use, the packet, and the peer that sent it.
+// A packet past entry and gate: the runtime with its clock moved, the places in use, the packet, and the peer that sent
+// it.
 pub struct Request {
     pub runtime: OpaqueRelayRuntime,
     pub places: Places,
@@ -68,7 +70,8 @@ pub struct Request {
     pub peer: HnsrPeerId,
 }
 
-// What a call hands back: the answer, how many output words it wrote, and for the host to keep the runtime and the places in use.
+// What a call hands back: the answer, how many output words it wrote, and for the host to keep the runtime and the
+// places in use.
 pub struct Relayed {
     pub runtime: OpaqueRelayRuntime,
     pub answer: HnsrAnswer,

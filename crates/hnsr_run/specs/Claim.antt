@@ -1,4 +1,5 @@
--- Demand 3: one claim about any list of calls from a taken `new`, refused ones included, over a machine: its `new` and its step.
+-- Demand 3: one claim about any list of calls from a taken `new`, refused ones included, over a machine: its `new` and
+-- its step.
 use Prim.Native.Nat.{ℕ, _≤_, _<_}
 use mathlib.Core.Path.{_≡_}
 use mathlib.Core.Logic.{_↔_}
@@ -23,7 +24,8 @@ use Rattle.hnsr_circuit.specs.Call.{Start, Call, callStatus, callHandle, callAc
 use Rattle.hnsr_run.specs.Past.{Action, Past, peerOn, credit, circuitLeft, totalLeft, weight}
 use Rattle.hnsr_run.specs.History.{Event, begin, afterEvent, reckon}
 
--- the total that the grant of an admitted OPEN brings is below 2^64 − 1. Its bytes per circuit need no bound: the configuration's stands above them
+-- the total that the grant of an admitted OPEN brings is below 2^64 − 1. Its bytes per circuit need no bound: the
+-- configuration's stands above them
 abbrev pub limitsBelow : Call → Bool
 limitsBelow c =
     onHandle true
@@ -40,7 +42,8 @@ below h (e ∷ es) = ltb (h .head .next) (top 64) && (limitsBelow (e .call) && b
 abbrev pub Reordered : List Action → List Action → Type 0
 Reordered order out = (f : Action → ℕ) → total f order ≡ total f out
 
--- DATA from a side of a circuit: 1 to 16,384 bytes, within the queue limit, clock not back, circuit unexpired, output long enough
+-- DATA from a side of a circuit: 1 to 16,384 bytes, within the queue limit, clock not back, circuit unexpired, output
+-- long enough
 pub record Sends (h : Past) (j : ℕ) (side : RelaySide) (q : Packet) (room : ℕ) : Type 0 where
   pub opcode : q .opcode ≡ opData
   pub context : q .context ≡ j
@@ -75,7 +78,8 @@ module _ (step : World → Call → Outcome) where
 
   abbrev pub events : World → List Call → List Event
   events w [] = []
-  events w (c ∷ cs) = record { call = c; answer = step w c .answer; routes = step w c .routes } ∷ events (step w c .world) cs
+  events w (c ∷ cs) =
+      record { call = c; answer = step w c .answer; routes = step w c .routes } ∷ events (step w c .world) cs
 
   abbrev pub delivered : (rooms : Action → ℕ) → Action → Call
   delivered rooms a = callAcknowledge (a .generation) (a .sequence) true (rooms a)
@@ -83,18 +87,27 @@ module _ (step : World → Call → Outcome) where
   -- a world and what the events tell
   pub record Holds (w : World) (h : Past) : Type 0 where
     -- (a) `status` answers as many actions as are outstanding
-    pub status : (s : HnsrRuntimeStatus) × (step w callStatus .answer ≡ Taken) × (step w callStatus .told ≡ statusIs s) × (s .«queued_actions» ≡ length (h .out))
+    pub status : (s : HnsrRuntimeStatus)
+        × (step w callStatus .answer ≡ Taken)
+        × (step w callStatus .told ≡ statusIs s)
+        × (s .«queued_actions» ≡ length (h .out))
     -- (b) in every active circuit each direction's queued count equals the bytes of DATA taken and unacknowledged there
-    pub queued : (j : ℕ) → h .active j ≡ true → (side : RelaySide) → queuedTo side (circuitIn w j) ≡ total (weight j side) (h .out)
-    -- (c) for every order of the outstanding actions, acknowledging each once as delivered is taken each time; and then DATA from either
-    -- side of any active circuit passes unchanged if and only if it is within credit and what circuit and reservation have left
-    pub acknowledged : (order : List Action) → Reordered order (h .out) → (rooms : Action → ℕ) → ((a : Action) → acknowledgeWords ≤ rooms a)
+    pub queued : (j : ℕ) → h .active j ≡ true → (side : RelaySide)
+        → queuedTo side (circuitIn w j) ≡ total (weight j side) (h .out)
+    -- (c) for every order of the outstanding actions, acknowledging each once as delivered is taken each time; and then
+    -- DATA from either side of any active circuit passes unchanged if and only if it is within credit and what circuit
+    -- and reservation have left
+    pub acknowledged : (order : List Action) → Reordered order (h .out) → (rooms : Action → ℕ)
+        → ((a : Action) → acknowledgeWords ≤ rooms a)
         → (map (λ e. e .answer) (events w (map (delivered rooms) order)) ≡ replicate (length order) Taken)
         × ((j : ℕ) → h .active j ≡ true → (side : RelaySide) (q : Packet) (room : ℕ) → Sends h j side q room
         → Passes (step (leftBy w (map (delivered rooms) order)) (callHandle q room)) h j side q
-        ↔ ((length (q .body) ≤ credit side (h .known j)) × (length (q .body) ≤ circuitLeft (h .known j)) × (length (q .body) ≤ totalLeft (h .book) (h .known j))))
+        ↔ ((length (q .body) ≤ credit side (h .known j))
+        × (length (q .body) ≤ circuitLeft (h .known j))
+        × (length (q .body) ≤ totalLeft (h .book) (h .known j))))
 
--- a run of a machine: tables lent, a taken `new`, any list of the other calls, each given what the one before left; all limits below 2^64 − 1
+-- a run of a machine: tables lent, a taken `new`, any list of the other calls, each given what the one before left; all
+-- limits below 2^64 − 1
 pub record Run (m : Machine) : Type 0 where
   pub lent : World
   pub began : Start

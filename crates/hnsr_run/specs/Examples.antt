@@ -1,5 +1,6 @@
--- History, worked out where a refused call leaves something behind, or where one number means two things. Of each run the machine's answers stand beside
--- what the events tell; an answer that no run within the claim's bounds gives is handed to `after` by itself.
+-- History, worked out where a refused call leaves something behind, or where one number means two things. Of each run
+-- the machine's answers stand beside what the events tell; an answer that no run within the claim's bounds gives is
+-- handed to `after` by itself.
 use Prim.Native.Nat.{ℕ}
 use mathlib.Core.Path.{_≡_, refl}
 use mathlib.Core.Bool.{Bool, true, false}
@@ -7,7 +8,8 @@ use mathlib.Core.List.{List, [], _∷_, _++_, map}
 use Rattle.hnsr_body.specs.declared.messages.Notice.the-variants.{PeerDisconnected}
 use Rattle.hnsr_body.specs.Messages.{noticeBody}
 use Rattle.hnsr_circuit.specs.declared.answer.HnsrAnswer.the-variants.{Refused}
-use Rattle.hnsr_circuit.specs.declared.answer.HnsrRuntimeError.the-variants.{GenerationExhausted, ClockRollback, StaleGeneration}
+use Rattle.hnsr_circuit.specs.declared.answer.HnsrRuntimeError.the-variants.{GenerationExhausted}
+use Rattle.hnsr_circuit.specs.declared.answer.HnsrRuntimeError.the-variants.{ClockRollback, StaleGeneration}
 use Rattle.hnsr_circuit.specs.declared.records.RelayTicket.{RelayTicket}
 use Rattle.hnsr_circuit.specs.Route.{Route}
 use Rattle.hnsr_circuit.specs.Opcode.{opError, opClose}
@@ -18,7 +20,8 @@ use Rattle.hnsr_circuit.specs.Call.{Start, Call, callReplaceEnabled, callHandle
 use Rattle.hnsr_circuit.specs.Worked.All.{machine}
 use Rattle.hnsr_run.specs.Past.{Past}
 use Rattle.hnsr_run.specs.History.{Event, after}
-use Rattle.hnsr_run.specs.Talk.{fresh, tight, grant, opens, packet, accepts, sends, widens, closes, fails, acked, lost, ample, leaves, revokes, eventsFrom, pastFrom, pastAfter, numberOf}
+use Rattle.hnsr_run.specs.Talk.{fresh, tight, grant, opens, packet, accepts, sends, widens, closes, fails}
+use Rattle.hnsr_run.specs.Talk.{acked, lost, ample, leaves, revokes, eventsFrom, pastFrom, pastAfter, numberOf}
 
 -- the peer 1 asks 2 for the circuit 7 under its context 9; the circuit stands
 abbrev asked : List Call
@@ -50,7 +53,10 @@ accept-written = (refl, refl, refl)
 abbrev ownContext : List Call
 ownContext = standing ++ (opens 1 3 7 (8 ∷ []) (grant 5 4000) 100 ∷ closes 1 7 100 ∷ [])
 
-pub own-context-first : let h = pastAfter ownContext in (answersOf fresh ownContext ≡ 0 ∷ 0 ∷ 0 ∷ 0 ∷ []) × (circuits h ≡ true ∷ false ∷ []) × (pendings h ≡ false ∷ false ∷ [])
+pub own-context-first : let h = pastAfter ownContext in
+    (answersOf fresh ownContext ≡ 0 ∷ 0 ∷ 0 ∷ 0 ∷ [])
+    × (circuits h ≡ true ∷ false ∷ [])
+    × (pendings h ≡ false ∷ false ∷ [])
 unfolding machine lent notAdmitted
 own-context-first = (refl, refl, refl)
 
@@ -66,66 +72,87 @@ two-end-nothing = (refl, refl)
 abbrev drawnTwice : List Call
 drawnTwice = asked ++ (closes 1 9 100 ∷ opens 3 2 6 (7 ∷ []) (grant 5 4000) 100 ∷ closes 1 9 100 ∷ [])
 
-pub stale-context : (answersOf fresh drawnTwice ≡ 0 ∷ 0 ∷ 0 ∷ 14 ∷ []) × (pendings (pastAfter drawnTwice) ≡ true ∷ false ∷ [])
+pub stale-context : (answersOf fresh drawnTwice ≡ 0 ∷ 0 ∷ 0 ∷ 14 ∷ [])
+    × (pendings (pastAfter drawnTwice) ≡ true ∷ false ∷ [])
 unfolding machine lent notAdmitted
 stale-context = (refl, refl)
 
 -- ---- few actions, `tight`
 -- INCOMING lost: the OPEN ends, also where the ERROR finds no capacity and the answer is 10
-pub lost-incoming : (answersOf fresh (asked ++ (lost 1 1 ∷ [])) ≡ 0 ∷ 0 ∷ []) × (pendings (pastAfter (asked ++ (lost 1 1 ∷ []))) ≡ false ∷ false ∷ [])
+pub lost-incoming : (answersOf fresh (asked ++ (lost 1 1 ∷ [])) ≡ 0 ∷ 0 ∷ [])
+    × (pendings (pastAfter (asked ++ (lost 1 1 ∷ []))) ≡ false ∷ false ∷ [])
 unfolding machine lent notAdmitted
 lost-incoming = (refl, refl)
 
 abbrev lostFull : List Call
 lostFull = standing ++ (widens 2 7 1000 100 ∷ opens 1 3 6 (8 ∷ []) (grant 5 4000) 100 ∷ lost 1 4 ∷ [])
 
-pub lost-incoming-full : let h = pastFrom tight lostFull in (answersOf tight lostFull ≡ 0 ∷ 0 ∷ 0 ∷ 0 ∷ 10 ∷ []) × (pendings h ≡ false ∷ false ∷ []) × (numbers h ≡ 2 ∷ 3 ∷ [])
+pub lost-incoming-full : let h = pastFrom tight lostFull in
+    (answersOf tight lostFull ≡ 0 ∷ 0 ∷ 0 ∷ 0 ∷ 10 ∷ []) × (pendings h ≡ false ∷ false ∷ []) × (numbers h ≡ 2 ∷ 3 ∷ [])
 unfolding machine lent notAdmitted
 lost-incoming-full = (refl, refl, refl)
 
 -- ---- CLOSE and ERROR refused with 10 or 6 have ended the circuit; refused with 1 not
 abbrev otherFull : List Call
-otherFull = standing ++ (acked 1 2 ∷ opens 3 2 6 (8 ∷ []) (grant 5 4000) 100 ∷ accepts 2 8 100 ∷ acked 1 4 ∷ sends 3 8 10 100 ∷ sends 3 8 10 100 ∷ [])
+otherFull =
+    standing
+    ++ (acked 1 2 ∷ opens 3 2 6 (8 ∷ []) (grant 5 4000) 100 ∷ accepts 2 8 100 ∷ acked 1 4 ∷ sends 3 8 10 100
+    ∷ sends 3 8 10 100 ∷ [])
 
-pub close-full : let calls = otherFull ++ (closes 1 7 100 ∷ []) in (answersOf tight calls ≡ 0 ∷ 0 ∷ 0 ∷ 0 ∷ 0 ∷ 0 ∷ 0 ∷ 0 ∷ 10 ∷ []) × (circuits (pastFrom tight calls) ≡ false ∷ true ∷ [])
+pub close-full : let calls = otherFull ++ (closes 1 7 100 ∷ []) in
+    (answersOf tight calls ≡ 0 ∷ 0 ∷ 0 ∷ 0 ∷ 0 ∷ 0 ∷ 0 ∷ 0 ∷ 10 ∷ [])
+    × (circuits (pastFrom tight calls) ≡ false ∷ true ∷ [])
 unfolding machine lent notAdmitted
 close-full = (refl, refl)
 
-pub error-full : let calls = otherFull ++ (fails 1 7 100 ∷ []) in (answersOf tight calls ≡ 0 ∷ 0 ∷ 0 ∷ 0 ∷ 0 ∷ 0 ∷ 0 ∷ 0 ∷ 10 ∷ []) × (circuits (pastFrom tight calls) ≡ false ∷ true ∷ [])
+pub error-full : let calls = otherFull ++ (fails 1 7 100 ∷ []) in
+    (answersOf tight calls ≡ 0 ∷ 0 ∷ 0 ∷ 0 ∷ 0 ∷ 0 ∷ 0 ∷ 0 ∷ 10 ∷ [])
+    × (circuits (pastFrom tight calls) ≡ false ∷ true ∷ [])
 unfolding machine lent notAdmitted
 error-full = (refl, refl)
 
-pub close-exhausted : circuits (after (pastAfter standing) (closes 1 7 100) (Refused GenerationExhausted) []) ≡ false ∷ false ∷ []
+pub close-exhausted : circuits (after (pastAfter standing) (closes 1 7 100) (Refused GenerationExhausted) [])
+    ≡ false ∷ false ∷ []
 unfolding machine lent notAdmitted
 close-exhausted = refl
 
-pub error-exhausted : circuits (after (pastAfter standing) (fails 1 7 100) (Refused GenerationExhausted) []) ≡ false ∷ false ∷ []
+pub error-exhausted : circuits (after (pastAfter standing) (fails 1 7 100) (Refused GenerationExhausted) [])
+    ≡ false ∷ false ∷ []
 unfolding machine lent notAdmitted
 error-exhausted = refl
 
-pub close-bad-body : let calls = standing ++ (callHandle (packet 1 opClose 7 (0 ∷ 0 ∷ 1 ∷ []) 100) handleWords ∷ callHandle (packet 1 opError 7 [] 100) handleWords ∷ []) in
+pub close-bad-body : let calls = standing
+    ++ (callHandle (packet 1 opClose 7 (0 ∷ 0 ∷ 1 ∷ []) 100) handleWords
+    ∷ callHandle (packet 1 opError 7 [] 100) handleWords ∷ []) in
     (answersOf fresh calls ≡ 0 ∷ 0 ∷ 1 ∷ 1 ∷ []) × (circuits (pastAfter calls) ≡ true ∷ false ∷ [])
 unfolding machine lent notAdmitted
 close-bad-body = (refl, refl)
 
--- ---- disconnect over both tables: the OPEN 8 of the peer that goes, whose endpoint hears; the circuit 7, of which both sides hear. The CLOSE to the peer that
--- is gone stays outstanding
+-- ---- disconnect over both tables: the OPEN 8 of the peer that goes, whose endpoint hears; the circuit 7, of which
+-- both sides hear. The CLOSE to the peer that is gone stays outstanding
 abbrev gone : List Call
 gone = standing ++ (opens 1 3 6 (8 ∷ []) (grant 5 4000) 100 ∷ leaves 1 ∷ [])
 
-pub gone-from-both : let h = pastAfter gone in (circuits h ≡ false ∷ false ∷ []) × (pendings h ≡ false ∷ false ∷ []) × (map (λ a. a .destination) (h .out)
-    ≡ peerOf (3 ∷ []) ∷ peerOf (1 ∷ []) ∷ peerOf (2 ∷ []) ∷ []) × (map (λ a. a .circuit) (h .out) ≡ 8 ∷ 7 ∷ 7 ∷ [])
+pub gone-from-both : let h = pastAfter gone in
+    (circuits h ≡ false ∷ false ∷ [])
+    × (pendings h ≡ false ∷ false ∷ [])
+    × (map (λ a. a .destination) (h .out) ≡ peerOf (3 ∷ []) ∷ peerOf (1 ∷ []) ∷ peerOf (2 ∷ []) ∷ [])
+    × (map (λ a. a .circuit) (h .out) ≡ 8 ∷ 7 ∷ 7 ∷ [])
 unfolding machine lent notAdmitted
 gone-from-both = (refl, refl, refl, refl)
 
--- ---- what the words do not tell. The peer 1 has the circuit 7 with 2, and toward 2 an OPEN 8 under its own context 7; 2 goes. With two actions of circuit 7
--- toward 1 the CLOSE of the OPEN is skipped, and the one that 1 gets is the circuit's; with one action of another circuit it is the other way round. The
--- words of both are the same but for their number
+-- ---- what the words do not tell. The peer 1 has the circuit 7 with 2, and toward 2 an OPEN 8 under its own context 7;
+-- 2 goes. With two actions of circuit 7 toward 1 the CLOSE of the OPEN is skipped, and the one that 1 gets is the
+-- circuit's; with one action of another circuit it is the other way round. The words of both are the same but for their
+-- number
 abbrev circuitMeant : List Call
 circuitMeant = standing ++ (widens 2 7 1000 100 ∷ opens 1 2 7 (8 ∷ []) (grant 5 4000) 100 ∷ leaves 2 ∷ [])
 
 abbrev openMeant : List Call
-openMeant = standing ++ (acked 1 2 ∷ opens 1 3 6 (10 ∷ []) (grant 5 4000) 100 ∷ accepts 3 10 100 ∷ opens 1 2 7 (8 ∷ []) (grant 5 4000) 100 ∷ leaves 2 ∷ [])
+openMeant =
+    standing
+    ++ (acked 1 2 ∷ opens 1 3 6 (10 ∷ []) (grant 5 4000) 100 ∷ accepts 3 10 100
+    ∷ opens 1 2 7 (8 ∷ []) (grant 5 4000) 100 ∷ leaves 2 ∷ [])
 
 -- the routes of the last call
 abbrev lastRoutes : List Event → List Route
@@ -140,12 +167,16 @@ abbrev closing : List ℕ
 closing = opClose ∷ 7 ∷ noticeBody PeerDisconnected
 
 pub circuit-meant : let rs = lastRoutes (eventsFrom tight circuitMeant) in let h = pastFrom tight circuitMeant in
-    (map (λ r. r .destination) rs ≡ peerOf (1 ∷ []) ∷ peerOf (2 ∷ []) ∷ []) × (map shown rs ≡ closing ∷ closing ∷ []) × (map (λ a. a .circuit) (h .out) ≡ 7 ∷ 7 ∷ [])
+    (map (λ r. r .destination) rs ≡ peerOf (1 ∷ []) ∷ peerOf (2 ∷ []) ∷ [])
+    × (map shown rs ≡ closing ∷ closing ∷ [])
+    × (map (λ a. a .circuit) (h .out) ≡ 7 ∷ 7 ∷ [])
 unfolding machine lent notAdmitted
 circuit-meant = (refl, refl, refl)
 
 pub open-meant : let rs = lastRoutes (eventsFrom tight openMeant) in let h = pastFrom tight openMeant in
-    (map (λ r. r .destination) rs ≡ peerOf (1 ∷ []) ∷ peerOf (2 ∷ []) ∷ []) × (map shown rs ≡ closing ∷ closing ∷ []) × (map (λ a. a .circuit) (h .out) ≡ 10 ∷ 8 ∷ 7 ∷ [])
+    (map (λ r. r .destination) rs ≡ peerOf (1 ∷ []) ∷ peerOf (2 ∷ []) ∷ [])
+    × (map shown rs ≡ closing ∷ closing ∷ [])
+    × (map (λ a. a .circuit) (h .out) ≡ 10 ∷ 8 ∷ 7 ∷ [])
 unfolding machine lent notAdmitted
 open-meant = (refl, refl, refl)
 
@@ -154,11 +185,13 @@ pub expire-refused : after (pastAfter standing) (callExpire 99 ample) (Refused C
 unfolding machine lent notAdmitted
 expire-refused = refl
 
-pub replace-refused : after (pastAfter standing) (callReplaceEnabled 2 false ample) (Refused StaleGeneration) [] ≡ pastAfter standing
+pub replace-refused : after (pastAfter standing) (callReplaceEnabled 2 false ample) (Refused StaleGeneration) []
+    ≡ pastAfter standing
 unfolding machine lent notAdmitted
 replace-refused = refl
 
-pub refused-answers : answersOf fresh (standing ++ (callExpire 99 ample ∷ callReplaceEnabled 2 false ample ∷ [])) ≡ 0 ∷ 0 ∷ 7 ∷ 5 ∷ []
+pub refused-answers : answersOf fresh (standing ++ (callExpire 99 ample ∷ callReplaceEnabled 2 false ample ∷ []))
+    ≡ 0 ∷ 0 ∷ 7 ∷ 5 ∷ []
 unfolding machine lent notAdmitted
 refused-answers = refl
 
@@ -175,7 +208,9 @@ reserved r h = (h .book .made (record { high = 0; low = r }), h .book .spent (re
 abbrev usedUp : List Call
 usedUp = opens 1 2 9 (7 ∷ []) (grant 6 0) 100 ∷ []
 
-pub limit-makes : (answersOf fresh usedUp ≡ 18 ∷ []) × (reserved 6 (pastAfter usedUp) ≡ (true, 0)) × (pendings (pastAfter usedUp) ≡ false ∷ false ∷ [])
+pub limit-makes : (answersOf fresh usedUp ≡ 18 ∷ [])
+    × (reserved 6 (pastAfter usedUp) ≡ (true, 0))
+    × (pendings (pastAfter usedUp) ≡ false ∷ false ∷ [])
 unfolding machine lent notAdmitted
 limit-makes = (refl, refl, refl)
 
@@ -192,7 +227,9 @@ later = record {
 abbrev renewed : List Call
 renewed = standing ++ (sends 1 7 40 100 ∷ opens 3 2 6 (8 ∷ []) later 2000 ∷ sends 1 7 30 2000 ∷ [])
 
-pub old-counts-in-new : (answersOf fresh renewed ≡ 0 ∷ 0 ∷ 0 ∷ 0 ∷ 0 ∷ []) × (reserved 5 (pastAfter renewed) ≡ (true, 30)) × (pastAfter renewed .known 7 .bytes ≡ 70)
+pub old-counts-in-new : (answersOf fresh renewed ≡ 0 ∷ 0 ∷ 0 ∷ 0 ∷ 0 ∷ [])
+    × (reserved 5 (pastAfter renewed) ≡ (true, 30))
+    × (pastAfter renewed .known 7 .bytes ≡ 70)
 unfolding machine lent notAdmitted
 old-counts-in-new = (refl, refl, refl)
 
@@ -200,7 +237,9 @@ old-counts-in-new = (refl, refl, refl)
 abbrev revokedThen : List Call
 revokedThen = standing ++ (sends 1 7 40 100 ∷ revokes 5 ∷ opens 3 2 6 (8 ∷ []) (grant 5 4000) 100 ∷ [])
 
-pub revoked-then-opened : (answersOf fresh revokedThen ≡ 0 ∷ 0 ∷ 0 ∷ 0 ∷ 0 ∷ []) × (reserved 5 (pastAfter (standing ++ (sends 1 7 40 100 ∷ revokes 5 ∷ []))) ≡ (false, 40)) × (reserved 5
-    (pastAfter revokedThen) ≡ (true, 0)) × (circuits (pastAfter revokedThen) ≡ false ∷ false ∷ [])
+pub revoked-then-opened : (answersOf fresh revokedThen ≡ 0 ∷ 0 ∷ 0 ∷ 0 ∷ 0 ∷ [])
+    × (reserved 5 (pastAfter (standing ++ (sends 1 7 40 100 ∷ revokes 5 ∷ []))) ≡ (false, 40))
+    × (reserved 5 (pastAfter revokedThen) ≡ (true, 0))
+    × (circuits (pastAfter revokedThen) ≡ false ∷ false ∷ [])
 unfolding machine lent notAdmitted
 revoked-then-opened = (refl, refl, refl, refl)

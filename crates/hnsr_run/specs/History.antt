@@ -1,6 +1,7 @@
--- What each event changes (document 01, "Reckoned from history" and the two paragraphs after it; the rules of "Down through the call"), and what
--- the whole list of events tells. What a call ends or drops is document 01's rule applied to what is known; what a refused call left behind shows in its
--- number; what a route is about follows from the call and the route's words (`Words.words-alone`).
+-- What each event changes (document 01, "Reckoned from history" and the two paragraphs after it; the rules of "Down
+-- through the call"), and what the whole list of events tells. What a call ends or drops is document 01's rule applied
+-- to what is known; what a refused call left behind shows in its number; what a route is about follows from the call
+-- and the route's words (`Words.words-alone`).
 use Prim.Native.Nat.{ℕ, _+_, min}
 use mathlib.Core.Bool.{Bool, true, false, cond, not, _&&_, _||_, Bool·beq}
 use mathlib.Core.List.{List, [], _∷_, _++_, map}
@@ -15,7 +16,8 @@ use Rattle.hnsr_circuit.specs.declared.peer.HnsrPeerId.{HnsrPeerId}
 use Rattle.hnsr_circuit.specs.declared.config.OpaqueRelayConfig.{OpaqueRelayConfig}
 use Rattle.hnsr_circuit.specs.declared.answer.HnsrAnswer.{HnsrAnswer}
 use Rattle.hnsr_circuit.specs.declared.answer.HnsrRuntimeError.{HnsrRuntimeError}
-use Rattle.hnsr_circuit.specs.declared.answer.HnsrRuntimeError.the-variants.{Short, Capacity, GenerationExhausted, ByteLimit}
+use Rattle.hnsr_circuit.specs.declared.answer.HnsrRuntimeError.the-variants.{Short, Capacity}
+use Rattle.hnsr_circuit.specs.declared.answer.HnsrRuntimeError.the-variants.{GenerationExhausted, ByteLimit}
 use Rattle.hnsr_circuit.specs.declared.records.RelaySide.{RelaySide}
 use Rattle.hnsr_circuit.specs.declared.records.RelaySide.the-variants.{Requester, Endpoint}
 use Rattle.hnsr_circuit.specs.Answers.{errorNumber, number, check, _then_}
@@ -30,8 +32,12 @@ use Rattle.hnsr_circuit.specs.Packet.{Packet, sender}
 use Rattle.hnsr_circuit.specs.Draw.{undrawn, draws, drawAll}
 use Rattle.hnsr_circuit.specs.Open.{deadlineFor}
 use Rattle.hnsr_circuit.specs.Handle.{Handling, OPEN, ACCEPT, DATA, WINDOW, CLOSE, ERROR, other, handlingOf}
-use Rattle.hnsr_circuit.specs.Call.{Start, Call, callStatus, callNextDue, callObserveTime, callReplaceEnabled, callHandle, callAcknowledge, callDisconnect, callRevokeReservation, callExpire}
-use Rattle.hnsr_run.specs.Past.{Known, Asked, Action, Past, starting, counted, onCircuit, numbered, toward, tally, heard, carriedOnce, nothing, noOne, noOpens, noBook, headAt, withHead, withBook, withOut, fewer, emit, without, movedTo, numbering, stood, unstood, openEnded, begun, learnt, circuitEnded, remade, spentBy, unmade}
+use Rattle.hnsr_circuit.specs.Call.{Start, Call, callStatus, callNextDue, callObserveTime, callReplaceEnabled}
+use Rattle.hnsr_circuit.specs.Call.{callHandle, callAcknowledge, callDisconnect, callRevokeReservation, callExpire}
+use Rattle.hnsr_run.specs.Past.{Known, Asked, Action, Past, starting, counted, onCircuit, numbered, toward}
+use Rattle.hnsr_run.specs.Past.{tally, heard, carriedOnce, nothing, noOne, noOpens, noBook, headAt, withHead}
+use Rattle.hnsr_run.specs.Past.{withBook, withOut, fewer, emit, without, movedTo, numbering, stood, unstood}
+use Rattle.hnsr_run.specs.Past.{openEnded, begun, learnt, circuitEnded, remade, spentBy, unmade}
 
 pub record Event : Type 0 where
   pub call : Call
@@ -56,8 +62,9 @@ taken a = eqb (number a) 0
 abbrev pub refusedBy : HnsrRuntimeError → HnsrAnswer → Bool
 refusedBy e a = eqb (number a) (errorNumber e)
 
--- refused with 10 after a record was ended or an action removed (CLOSE, ERROR, acknowledge), or with 6 by the queueing: everything earlier stays. A 1 ends
--- nothing: that of a body comes before the end, and that of the queueing needs a stored context of zero, which no run makes
+-- refused with 10 after a record was ended or an action removed (CLOSE, ERROR, acknowledge), or with 6 by the queueing:
+-- everything earlier stays. A 1 ends nothing: that of a body comes before the end, and that of the queueing needs a
+-- stored context of zero, which no run makes
 abbrev pub ends : HnsrAnswer → Bool
 ends a = taken a || (refusedBy Capacity a || refusedBy GenerationExhausted a)
 
@@ -75,8 +82,8 @@ knownSide p k = samePeer (k .requester) p || samePeer (k .endpoint) p
 abbrev pub sideIn : HnsrPeerId → Known → RelaySide
 sideIn p k = cond (samePeer (k .requester) p) Requester Endpoint
 
--- ---- OPEN: the id is the one that document 01's rule draws, of those that neither stand nor are active; refused with 18 it has made the missing
--- ledger record
+-- ---- OPEN: the id is the one that document 01's rule draws, of those that neither stand nor are active; refused with
+-- 18 it has made the missing ledger record
 abbrev pub drawnIn : Past → Packet → ℕ
 drawnIn h q = drawAll (λ j. h .opens .standing j || h .active j) undrawn (draws (q .random)) .id
 
@@ -92,7 +99,9 @@ askedFor c q = record {
 abbrev pub openIn : Packet → HnsrAnswer → List Route → Past → Past
 openIn q a rs h =
     let b = remade (q .now) (h .book) (q .admission .ticket) in
-    cond (taken a) (emit (stood (withBook h b) (drawnIn h q) (askedFor (h .head .config) q)) (heard (λ r. drawnIn h q)) rs) (cond (refusedBy ByteLimit a) (withBook h b) h)
+    cond (taken a)
+    (emit (stood (withBook h b) (drawnIn h q) (askedFor (h .head .config) q)) (heard (λ r. drawnIn h q)) rs)
+    (cond (refusedBy ByteLimit a) (withBook h b) h)
 
 -- ---- ACCEPT: the pending's actions are dropped, and the circuit is active
 abbrev pub startedBy : OpaqueRelayConfig → Asked → (window : ℕ) → Known
@@ -101,7 +110,10 @@ startedBy c k window = starting k (min (k .ticket .«max_bytes_per_circuit») (c
 abbrev pub acceptIn : Packet → HnsrAnswer → List Route → Past → Past
 acceptIn q a rs h =
     let j = q .context in
-    cond (written a) (emit (begun (openEnded h j) j (startedBy (h .head .config) (h .opens .asked j) (acceptFields (q .body) .«accepted_window»))) (heard (λ r. j)) rs) h
+    cond (written a)
+    (emit (begun (openEnded h j) j
+    (startedBy (h .head .config) (h .opens .asked j) (acceptFields (q .body) .«accepted_window»))) (heard (λ r. j)) rs)
+    h
 
 -- ---- DATA and WINDOW
 abbrev pub sent : RelaySide → ℕ → Known → Known
@@ -122,14 +134,18 @@ dataIn q a rs h =
     let k = h .known j in
     let n = length (q .body) in
     let side = sideIn (sender q) k in
-    let g = withBook (learnt h j (cond (knownSide (sender q) k) (sent side n k) (strange n k))) (spentBy (h .book) (k .reservation) n) in
+    let g = withBook (learnt h j (cond (knownSide (sender q) k) (sent side n k) (strange n k)))
+    (spentBy (h .book) (k .reservation) n) in
     cond (taken a) (withOut g (g .out ++ carriedOnce j side n rs)) h
 
 abbrev pub windowIn : Packet → HnsrAnswer → List Route → Past → Past
 windowIn q a rs h =
     let j = q .context in
     let k = h .known j in
-    cond (taken a) (emit (learnt h j (cond (knownSide (sender q) k) (granted (sideIn (sender q) k) (windowFields (q .body) .«credit_delta») k) k)) (heard (λ r. j)) rs) h
+    cond (taken a)
+    (emit (learnt h j
+    (cond (knownSide (sender q) k) (granted (sideIn (sender q) k) (windowFields (q .body) .«credit_delta») k) k))
+    (heard (λ r. j)) rs) h
 
 -- ---- CLOSE, ERROR: the OPEN that the requester names by its own context, or the endpoint by id; else the circuit
 abbrev pub byContext : Past → HnsrPeerId → ℕ → Bool
@@ -150,10 +166,11 @@ abbrev pub endedBy : HnsrPeerId → ℕ → Past → ℕ
 endedBy p x h = cond (byContext h p x) (h .opens .named p x) x
 
 abbrev pub closeIn : Packet → HnsrAnswer → List Route → Past → Past
-closeIn q a rs h = cond (ends a) (emit (endIn (sender q) (q .context) h) (heard (λ r. endedBy (sender q) (q .context) h)) rs) h
+closeIn q a rs h =
+    cond (ends a) (emit (endIn (sender q) (q .context) h) (heard (λ r. endedBy (sender q) (q .context) h)) rs) h
 
--- ---- acknowledge: removes the action. Undelivered: Incoming ends the OPEN, other actions staying; Opened, Data, Control the circuit; Close, or
--- a record no longer there, nothing
+-- ---- acknowledge: removes the action. Undelivered: Incoming ends the OPEN, other actions staying; Opened, Data,
+-- Control the circuit; Close, or a record no longer there, nothing
 abbrev pub failedIn : Action → Past → Past
 failedIn x h =
     cond (eqb (x .kind) (kindNumber Incoming)) (cond (h .opens .standing (x .circuit)) (unstood h (x .circuit)) h)
@@ -179,22 +196,27 @@ revoked h qo qc told =
     (λ j. h .opens .standing j && not (qo (h .opens .asked j)))
     (keep (non (goneCircuit h qc)) (keep (non (goneOpen h qo)) (h .out)) ++ told)
 
--- ---- what a revocation says is about: ERROR, to the requester of an OPEN, goes under its own context; CLOSE goes under the id
+-- ---- what a revocation says is about: ERROR, to the requester of an OPEN, goes under its own context; CLOSE goes
+-- under the id
 abbrev pub about : Past → Route → ℕ
 about h r = cond (eqb (r .opcode) opError) (h .opens .named (r .destination) (r .context)) (r .context)
 
--- ---- what a disconnect of p says: of an OPEN only the other peer hears, by CLOSE, and a requester under its own context. So one number can be a context and
--- an id: a peer has an OPEN toward p under the number of another record that it shares with p
+-- ---- what a disconnect of p says: of an OPEN only the other peer hears, by CLOSE, and a requester under its own
+-- context. So one number can be a context and an id: a peer has an OPEN toward p under the number of another record
+-- that it shares with p
 abbrev pub ownOpen : Past → HnsrPeerId → Route → Bool
-ownOpen h p r = byContext h (r .destination) (r .context) && samePeer (h .opens .asked (h .opens .named (r .destination) (r .context)) .endpoint) p
+ownOpen h p r =
+    byContext h (r .destination) (r .context)
+    && samePeer (h .opens .asked (h .opens .named (r .destination) (r .context)) .endpoint) p
 
 abbrev pub sharedId : Past → HnsrPeerId → (peer : HnsrPeerId) → ℕ → Bool
 sharedId h p peer j =
     (h .active j && (knownSide p (h .known j) && knownSide peer (h .known j)))
     || (h .opens .standing j && (askedSide p (h .opens .asked j) && askedSide peer (h .opens .asked j)))
 
--- then it is the record whose turn comes first, if its CLOSE found capacity then and was not heard yet; else the other. OPENs come before circuits, by
--- ascending id; at the turn of the OPEN k its own actions and those of the OPENs before it are dropped, and what these said came on top
+-- then it is the record whose turn comes first, if its CLOSE found capacity then and was not heard yet; else the other.
+-- OPENs come before circuits, by ascending id; at the turn of the OPEN k its own actions and those of the OPENs before
+-- it are dropped, and what these said came on top
 abbrev pub atTurn : Past → HnsrPeerId → (k : ℕ) → (earlier : List Action) → List Action
 atTurn h p k earlier =
     keep (λ a. not (goneOpen h (askedSide p) a && leb (a .circuit) k)) (h .out)
@@ -260,7 +282,9 @@ enableIn on rs h =
 -- ---- handle: entry and clock; from here the clock has moved; then the gate, and the opcode picks the handling
 abbrev pub entered : Past → Packet → (room : ℕ) → HnsrAnswer
 entered h q room =
-    (check (ltb room handleWords) Short then peerAnswer (length (q .source)) then packetAnswer (q .opcode) (q .context) (length (q .body)))
+    (check (ltb room handleWords) Short
+    then peerAnswer (length (q .source))
+    then packetAnswer (q .opcode) (q .context) (length (q .body)))
     then clockAnswer (h .head .clock) (q .now)
 
 abbrev pub handledAs : Handling → Packet → HnsrAnswer → List Route → Past → Past
@@ -290,8 +314,10 @@ after h (callDisconnect peer room) a rs =
     let left = without h (toward p) in
     cond (taken a) (revoked left (askedSide p) (knownSide p) (heardOnLeaving p left [] rs)) h
 after h (callRevokeReservation id room) a rs =
-    cond (taken a) (revoked (withBook h (unmade (h .book) id)) (askedUnder id) (knownUnder id) (map (heard (about h)) rs)) h
-after h (callExpire now room) a rs = cond (taken a) (revoked (movedTo h now) (askedOver now) (knownOver now) (map (heard (about h)) rs)) h
+    cond (taken a)
+    (revoked (withBook h (unmade (h .book) id)) (askedUnder id) (knownUnder id) (map (heard (about h)) rs)) h
+after h (callExpire now room) a rs =
+    cond (taken a) (revoked (movedTo h now) (askedOver now) (knownOver now) (map (heard (about h)) rs)) h
 
 -- ---- one event: what its call changes, and one number for each route; and all of them
 abbrev pub afterEvent : Past → Event → Past

@@ -1,5 +1,5 @@
--- Every rearrangement of the outstanding actions is an order that the claim speaks of: a list in its own order, two neighbours swapped, the rest
--- rearranged, one rearrangement after another.
+-- Every rearrangement of the outstanding actions is an order that the claim speaks of: a list in its own order, two
+-- neighbours swapped, the rest rearranged, one rearrangement after another.
 use native.Mathlib.Omega.{arith}
 use mathlib.Core.Path.{refl, _∙_}
 use mathlib.Core.List.{List, _∷_}

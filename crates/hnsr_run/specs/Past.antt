@@ -1,6 +1,7 @@
--- What is known from the events of a run alone, that is from calls, answers, and of routes what their output words tell: circuits, OPENs that stand,
--- reservations, outstanding actions, and how each small change leaves it. No table of the machine is looked at, and no label of a route. Circuits and OPENs are
--- functions of the id, reservations of theirs; the actions are one list.
+-- What is known from the events of a run alone, that is from calls, answers, and of routes what their output words
+-- tell: circuits, OPENs that stand, reservations, outstanding actions, and how each small change leaves it. No table of
+-- the machine is looked at, and no label of a route. Circuits and OPENs are functions of the id, reservations of
+-- theirs; the actions are one list.
 use Prim.Native.Nat.{ℕ, _+_, _-_}
 use mathlib.Core.Bool.{Bool, true, false, cond, not, _&&_}
 use mathlib.Core.List.{List, [], _∷_, _++_, map}
@@ -25,8 +26,8 @@ use Rattle.hnsr_circuit.specs.Opcode.{opIncoming, opOpened, opData, opWindow}
 use Rattle.hnsr_circuit.specs.Route.{Route}
 
 -- ---- what is known
--- a circuit, from its ACCEPT on: its sides and limits, the accepted window, and DATA and WINDOW taken from each side, R from the requester and E
--- from the endpoint
+-- a circuit, from its ACCEPT on: its sides and limits, the accepted window, and DATA and WINDOW taken from each side, R
+-- from the requester and E from the endpoint
 pub record Known : Type 0 where
   pub requester : HnsrPeerId
   pub endpoint : HnsrPeerId
@@ -62,7 +63,8 @@ pub record Book : Type 0 where
   pub due : ReservationId → ℕ
   pub spent : ReservationId → ℕ
 
--- an outstanding action: the numbers of its route, the circuit that it is about, to whom, its kind, and of DATA the direction and the bytes
+-- an outstanding action: the numbers of its route, the circuit that it is about, to whom, its kind, and of DATA the
+-- direction and the bytes
 pub record Action : Type 0 where
   pub generation : ℕ
   pub sequence : ℕ
@@ -105,7 +107,8 @@ credit Endpoint k = k .window + k .windowR - k .dataE
 abbrev pub circuitLeft : Known → ℕ
 circuitLeft k = k .limit - k .bytes
 
--- the circuit's own total less all DATA taken under the reservation's id since the OPEN that last made its ledger record
+-- the circuit's own total less all DATA taken under the reservation's id since the OPEN that last made its ledger
+-- record
 abbrev pub totalLeft : Book → Known → ℕ
 totalLeft b k = k .total - b .spent (k .reservation)
 
@@ -136,7 +139,8 @@ weight j side a = only (λ x. isData x && (onCircuit j x && towardSide side x)) 
 
 -- the three counts that the action capacity goes by: all, those of a circuit, those toward a peer
 abbrev pub tally : ℕ → HnsrPeerId → List Action → InflightTally
-tally j peer out = record { total = length out; «for_circuit» = count (onCircuit j) out; «for_peer» = count (toward peer) out }
+tally j peer out =
+    record { total = length out; «for_circuit» = count (onCircuit j) out; «for_peer» = count (toward peer) out }
 
 -- an action's kind is its message's name, but Control for WINDOW and Close for CLOSE and ERROR
 abbrev pub kindFor : (opcode : ℕ) → ℕ
@@ -219,7 +223,8 @@ abbrev pub noBook : Book
 noBook = record { made = λ r. false; due = λ r. 0; spent = λ r. 0 }
 
 abbrev pub nothing : Action
-nothing = record { generation = 0; sequence = 0; circuit = 0; destination = noPeer; kind = 0; toEndpoint = false; bytes = 0 }
+nothing =
+    record { generation = 0; sequence = 0; circuit = 0; destination = noPeer; kind = 0; toEndpoint = false; bytes = 0 }
 
 -- ---- parts replaced, the others staying. Every other change goes by these, so that a new part is copied here alone
 -- all but the configuration, which no call changes

@@ -1,5 +1,5 @@
--- Wrong machines, refuted: of each the claim is false, by a run that is computed. A file for each part of the claim that they break; docs/RUN-THEOREM.md
--- has the table.
+-- Wrong machines, refuted: of each the claim is false, by a run that is computed. A file for each part of the claim
+-- that they break; docs/RUN-THEOREM.md has the table.
 pub mod Machines
 -- ---- (a) status
 pub mod Status

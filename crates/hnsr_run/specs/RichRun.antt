@@ -1,5 +1,6 @@
--- A run, computed. It shows that the claim speaks of something: every kind of call, taken and refused; every way in which an OPEN or a circuit ends; then
--- several circuits on a shared reservation, both directions queued, a relay switched off and on, an id drawn again, an expired OPEN, a disconnect.
+-- A run, computed. It shows that the claim speaks of something: every kind of call, taken and refused; every way in
+-- which an OPEN or a circuit ends; then several circuits on a shared reservation, both directions queued, a relay
+-- switched off and on, an id drawn again, an expired OPEN, a disconnect.
 use mathlib.Core.Path.{_≡_, refl}
 use mathlib.Core.Bool.{true, false}
 use mathlib.Core.List.{List, [], _∷_, _++_, map}
@@ -10,15 +11,18 @@ use Rattle.hnsr_circuit.specs.World.{World}
 use Rattle.hnsr_circuit.specs.Opcode.{opError}
 use Rattle.hnsr_circuit.specs.Entry.{handleWords, acknowledgeWords}
 use Rattle.hnsr_circuit.specs.Worked.Cases.{lent, notAdmitted}
-use Rattle.hnsr_circuit.specs.Call.{Call, start, step, callStatus, callNextDue, callObserveTime, callReplaceEnabled, callHandle, callDisconnect, callRevokeReservation, callExpire}
+use Rattle.hnsr_circuit.specs.Call.{Call, start, step, callStatus, callNextDue, callObserveTime, callReplaceEnabled}
+use Rattle.hnsr_circuit.specs.Call.{callHandle, callDisconnect, callRevokeReservation, callExpire}
 use Rattle.hnsr_circuit.specs.Worked.All.{machine}
 use Rattle.hnsr_run.specs.Past.{Action, credit, circuitLeft, totalLeft, weight}
 use Rattle.hnsr_run.specs.History.{begin}
 use Rattle.hnsr_run.specs.Claim.{leftBy, events, below, delivered}
-use Rattle.hnsr_run.specs.Talk.{tables, fresh, grant, opens, packet, accepts, sends, widens, closes, fails, acked, lost, ample, leaves, revokes, worldAfter, pastAfter, numberOf}
+use Rattle.hnsr_run.specs.Talk.{tables, fresh, grant, opens, packet, accepts, sends, widens, closes, fails}
+use Rattle.hnsr_run.specs.Talk.{acked, lost, ample, leaves, revokes, worldAfter, pastAfter, numberOf}
 
--- every way in which an OPEN or a circuit ends, and every kind of call taken and refused, as far as a run can refuse it: `status` and `next_due` are always
--- taken. `lost` and `acked` name a route by its generation and number; an end drops what is outstanding under its id
+-- every way in which an OPEN or a circuit ends, and every kind of call taken and refused, as far as a run can refuse
+-- it: `status` and `next_due` are always taken. `lost` and `acked` name a route by its generation and number; an end
+-- drops what is outstanding under its id
 abbrev endings : List Call
 endings =
     -- an OPEN: CLOSE by its endpoint, by id; ERROR by its requester, by its own context; INCOMING lost
@@ -117,12 +121,14 @@ unfolding machine lent notAdmitted
 answers-endings = refl
 
 -- after which only what the relay said of the ends is outstanding: ERRORs 4, 6 and 26, CLOSEs
-pub said-of-endings : map (λ a. a .sequence) (pastAfter endings .out) ≡ 4 ∷ 6 ∷ 10 ∷ 14 ∷ 15 ∷ 19 ∷ 20 ∷ 23 ∷ 26 ∷ 29 ∷ 30 ∷ []
+pub said-of-endings : map (λ a. a .sequence) (pastAfter endings .out)
+    ≡ 4 ∷ 6 ∷ 10 ∷ 14 ∷ 15 ∷ 19 ∷ 20 ∷ 23 ∷ 26 ∷ 29 ∷ 30 ∷ []
 unfolding machine lent notAdmitted
 said-of-endings = refl
 
 pub answers-sharing : map numberOf (events step (worldAfter endings) sharing)
-    ≡ 0 ∷ 0 ∷ 0 ∷ 0 ∷ 9 ∷ 0 ∷ 0 ∷ 0 ∷ 0 ∷ 0 ∷ 0 ∷ 18 ∷ 0 ∷ 0 ∷ 0 ∷ 0 ∷ 15 ∷ 1 ∷ 0 ∷ 0 ∷ 20 ∷ 5 ∷ 0 ∷ 0 ∷ 0 ∷ 0 ∷ 0 ∷ 15 ∷ 7 ∷ 0 ∷ []
+    ≡ 0 ∷ 0 ∷ 0 ∷ 0 ∷ 9 ∷ 0 ∷ 0 ∷ 0 ∷ 0 ∷ 0 ∷ 0 ∷ 18 ∷ 0 ∷ 0 ∷ 0 ∷ 0 ∷ 15 ∷ 1 ∷ 0 ∷ 0 ∷ 20 ∷ 5 ∷ 0 ∷ 0 ∷ 0 ∷ 0 ∷ 0 ∷ 15
+    ∷ 7 ∷ 0 ∷ []
 unfolding machine lent notAdmitted
 answers-sharing = refl
 
@@ -135,8 +141,9 @@ pub bounded : below (begin fresh) (events step (start tables fresh .world) richC
 unfolding machine lent notAdmitted
 bounded = refl
 
--- ---- what is reckoned: the circuits 7 and 8 are active, both under reservation 5, on which 2,150 bytes were taken, 1,000 of them before the relay was
--- switched off; the OPEN 11 and the circuit 12 have ended; OPENED, INCOMING, DATA, WINDOW and CLOSE are outstanding
+-- ---- what is reckoned: the circuits 7 and 8 are active, both under reservation 5, on which 2,150 bytes were taken,
+-- 1,000 of them before the relay was switched off; the OPEN 11 and the circuit 12 have ended; OPENED, INCOMING, DATA,
+-- WINDOW and CLOSE are outstanding
 pub circuits : map (pastAfter richCalls .active) (7 ∷ 8 ∷ 11 ∷ 12 ∷ []) ≡ true ∷ true ∷ false ∷ false ∷ []
 unfolding machine lent notAdmitted
 circuits = refl
@@ -159,21 +166,26 @@ pub next-number : pastAfter richCalls .head .next ≡ 18
 unfolding machine lent notAdmitted
 next-number = refl
 
--- bytes of DATA taken and unacknowledged toward the requester and the endpoint of each circuit: of circuit 7 the 500 toward the endpoint are acknowledged
-pub unacknowledged : total (weight 7 Requester) (pastAfter richCalls .out) ∷ total (weight 7 Endpoint) (pastAfter richCalls .out) ∷ total (weight 8 Requester)
-    (pastAfter richCalls .out) ∷ total (weight 8 Endpoint) (pastAfter richCalls .out) ∷ []
+-- bytes of DATA taken and unacknowledged toward the requester and the endpoint of each circuit: of circuit 7 the 500
+-- toward the endpoint are acknowledged
+pub unacknowledged : total (weight 7 Requester) (pastAfter richCalls .out)
+    ∷ total (weight 7 Endpoint) (pastAfter richCalls .out) ∷ total (weight 8 Requester) (pastAfter richCalls .out)
+    ∷ total (weight 8 Endpoint) (pastAfter richCalls .out) ∷ []
     ≡ 300 ∷ 0 ∷ 100 ∷ 200 ∷ []
 unfolding machine lent notAdmitted
 unacknowledged = refl
 
--- the requester of 7 has its window, 1,000 more from the endpoint, less 500; 7 has 3,200 bytes left of its own, 8 has 3,700, and the reservation 3,650
-pub left : credit Requester (pastAfter richCalls .known 7) ∷ circuitLeft (pastAfter richCalls .known 7) ∷ circuitLeft (pastAfter richCalls .known 8) ∷ totalLeft
-    (pastAfter richCalls .book) (pastAfter richCalls .known 8) ∷ []
+-- the requester of 7 has its window, 1,000 more from the endpoint, less 500; 7 has 3,200 bytes left of its own, 8 has
+-- 3,700, and the reservation 3,650
+pub left : credit Requester (pastAfter richCalls .known 7) ∷ circuitLeft (pastAfter richCalls .known 7)
+    ∷ circuitLeft (pastAfter richCalls .known 8)
+    ∷ totalLeft (pastAfter richCalls .book) (pastAfter richCalls .known 8) ∷ []
     ≡ 16884 ∷ 3200 ∷ 3700 ∷ 3650 ∷ []
 unfolding machine lent notAdmitted
 left = refl
 
--- ---- the outstanding actions acknowledged, last first: all taken; then DATA passes up to what is left, and fails by one byte
+-- ---- the outstanding actions acknowledged, last first: all taken; then DATA passes up to what is left, and fails by
+-- one byte
 abbrev backward : List Action → List Action
 backward [] = []
 backward (a ∷ more) = backward more ++ (a ∷ [])
@@ -184,7 +196,8 @@ acksOf calls = map (delivered step (λ a. acknowledgeWords)) (backward (pastAfte
 abbrev afterAcks : List Call → World
 afterAcks calls = leftBy step (worldAfter calls) (acksOf calls)
 
-pub all-acknowledged : map numberOf (events step (worldAfter richCalls) (acksOf richCalls)) ≡ 0 ∷ 0 ∷ 0 ∷ 0 ∷ 0 ∷ 0 ∷ 0 ∷ 0 ∷ 0 ∷ []
+pub all-acknowledged : map numberOf (events step (worldAfter richCalls) (acksOf richCalls))
+    ≡ 0 ∷ 0 ∷ 0 ∷ 0 ∷ 0 ∷ 0 ∷ 0 ∷ 0 ∷ 0 ∷ []
 unfolding machine lent notAdmitted
 all-acknowledged = refl
 
@@ -193,7 +206,7 @@ pub circuit-full : number (step (afterAcks richCalls) (sends 2 7 3200 200) .answ
 unfolding machine lent notAdmitted
 circuit-full = refl
 
-pub reservation-full : number (step (afterAcks richCalls) (sends 3 8 3650 200) .answer) ∷ number (step (afterAcks richCalls)
-    (sends 3 8 3651 200) .answer) ∷ [] ≡ 0 ∷ 18 ∷ []
+pub reservation-full : number (step (afterAcks richCalls) (sends 3 8 3650 200) .answer)
+    ∷ number (step (afterAcks richCalls) (sends 3 8 3651 200) .answer) ∷ [] ≡ 0 ∷ 18 ∷ []
 unfolding machine lent notAdmitted
 reservation-full = refl

@@ -17,9 +17,11 @@ use Rattle.hnsr_circuit.specs.Inflight.{kindNumber}
 use Rattle.hnsr_circuit.specs.Route.{Route}
 use Rattle.hnsr_circuit.specs.Packet.{Packet, sender}
 use Rattle.hnsr_circuit.specs.Handle.{Handling, OPEN, ACCEPT, DATA, WINDOW, CLOSE, ERROR, other, handlingOf}
-use Rattle.hnsr_circuit.specs.Call.{Call, callStatus, callNextDue, callObserveTime, callReplaceEnabled, callHandle, callAcknowledge, callDisconnect, callRevokeReservation, callExpire}
+use Rattle.hnsr_circuit.specs.Call.{Call, callStatus, callNextDue, callObserveTime, callReplaceEnabled, callHandle}
+use Rattle.hnsr_circuit.specs.Call.{callAcknowledge, callDisconnect, callRevokeReservation, callExpire}
 use Rattle.hnsr_run.specs.Past.{Action, Past, numbered, nothing, without, movedTo}
-use Rattle.hnsr_run.specs.History.{Event, taken, ends, written, entered, handledAs, byContext, byId, failedIn, endIn, after, afterEvent}
+use Rattle.hnsr_run.specs.History.{Event, taken, ends, written, entered, handledAs}
+use Rattle.hnsr_run.specs.History.{byContext, byId, failedIn, endIn, after, afterEvent}
 
 -- ---- no call changes configuration, generation or sequence, but a switch
 module _ (P : OpaqueRelayConfig → (generation next : ℕ) → Type 0) where

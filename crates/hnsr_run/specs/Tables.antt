@@ -1,6 +1,7 @@
--- Beside the claim: what the tables hold. The claim speaks of the circuits that history calls active; if history called too few of them so, it would
--- say too little. So: the circuits in the table are the active ones of history, the pending records are its standing OPENs, each at most once, with equal
--- fields; and of a reservation that lives the ledger holds what is reckoned.
+-- Beside the claim: what the tables hold. The claim speaks of the circuits that history calls active; if history called
+-- too few of them so, it would say too little. So: the circuits in the table are the active ones of history, the
+-- pending records are its standing OPENs, each at most once, with equal fields; and of a reservation that lives the
+-- ledger holds what is reckoned.
 use Prim.Native.Nat.{ℕ, _≤_}
 use mathlib.Core.Path.{_≡_}
 use mathlib.Core.Bool.{true}
@@ -44,7 +45,8 @@ pub record Tabled (w : World) (h : Past) : Type 0 where
   pub one-standing : (j : ℕ) → count (pendingAt j) (w .pending) ≤ 1
   pub asked : (j : ℕ) → h .opens .standing j ≡ true → SameOpen (pendingIn w j) (h .opens .asked j)
   pub reserved : (r : ReservationId) → lives (h .head .clock) (h .book) r ≡ true → hasUsage r (w .ledger) ≡ true
-  pub spent : (r : ReservationId) → lives (h .head .clock) (h .book) r ≡ true → usageOf r (w .ledger) .bytes ≡ h .book .spent r
+  pub spent : (r : ReservationId) → lives (h .head .clock) (h .book) r ≡ true
+      → usageOf r (w .ledger) .bytes ≡ h .book .spent r
 
 -- at the end of any run, so at every moment of one
 abbrev pub Companion : Machine → Type 0

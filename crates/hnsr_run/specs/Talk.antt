@@ -12,7 +12,8 @@ use Rattle.hnsr_circuit.specs.Opcode.{opOpen, opAccept, opData, opWindow, opClo
 use Rattle.hnsr_circuit.specs.Entry.{handleWords, acknowledgeWords}
 use Rattle.hnsr_circuit.specs.Packet.{Packet}
 use Rattle.hnsr_circuit.specs.Worked.Cases.{lent, notAdmitted}
-use Rattle.hnsr_circuit.specs.Call.{Start, start, Call, step, callHandle, callAcknowledge, callDisconnect, callRevokeReservation}
+use Rattle.hnsr_circuit.specs.Call.{Start, start, Call, step, callHandle, callAcknowledge}
+use Rattle.hnsr_circuit.specs.Call.{callDisconnect, callRevokeReservation}
 use Rattle.hnsr_run.specs.Past.{Past}
 use Rattle.hnsr_run.specs.History.{Event, begin, reckon}
 use Rattle.hnsr_run.specs.Claim.{leftBy, events}
@@ -79,7 +80,9 @@ opens from to context ids ticket now =
       source = from ∷ [];
       opcode = opOpen;
       context = context;
-      body = replicate 32 1 ++ beBytes 8 0 ++ beBytes 8 (ticket .«reservation_id» .low) ++ replicate 33 2 ++ leBytes 2 1 ++ replicate 16 3 ++ leBytes 4 32768;
+      body =
+          replicate 32 1 ++ beBytes 8 0 ++ beBytes 8 (ticket .«reservation_id» .low) ++ replicate 33 2 ++ leBytes 2 1
+          ++ replicate 16 3 ++ leBytes 4 32768;
       now = now;
       keyValid = true;
       admission = record { admitted = true; endpoint = to ∷ []; ticket = ticket };

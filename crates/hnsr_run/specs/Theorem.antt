@@ -1,4 +1,5 @@
--- The run theorem: the claim holds of the definition, its `start` and its `step`; so does what stands beside it. And both at the rich run.
+-- The run theorem: the claim holds of the definition, its `start` and its `step`; so does what stands beside it. And
+-- both at the rich run.
 use Prim.Native.Nat.{ℕ, _<_}
 use native.Mathlib.Omega.{arith}
 use mathlib.Core.Path.{_≡_, refl, sym, ap, _∙_, subst}
@@ -51,7 +52,8 @@ unfolding statusOf isAction
 actions-are {w} {h} R = R .base .full .acts .held .same (λ a. 1) ∙ ones-length (h .out)
 
 -- what was asked of a DATA before the acknowledgements is asked of it after
-sends-after : (h : Past) (j : ℕ) (side : RelaySide) (q : Packet) (room : ℕ) → Sends h j side q room → Sends (withOut h []) j side q room
+sends-after : (h : Past) (j : ℕ) (side : RelaySide) (q : Packet) (room : ℕ) → Sends h j side q room
+    → Sends (withOut h []) j side q room
 sends-after h j side q room s = record {
   opcode = s .opcode;
   context = s .context;
@@ -80,7 +82,8 @@ sends-then h j side q room s = record {
   words = s .words;
 }
 
-passes-same : (o : Outcome) (h g : Past) (j : ℕ) (side : RelaySide) (q : Packet) → h .known j ≡ g .known j → Passes o h j side q → Passes o g j side q
+passes-same : (o : Outcome) (h g : Past) (j : ℕ) (side : RelaySide) (q : Packet) → h .known j ≡ g .known j
+    → Passes o h j side q → Passes o g j side q
 passes-same o h g j side q e P = record {
   taken = P .taken;
   route = P .route;
@@ -93,7 +96,12 @@ passes-same o h g j side q e P = record {
 
 holds : (w : World) (h : Past) → Rel w h → Places w → sequenceOf w < top 64 → Holds step w h
 holds w h R H low = record {
-  status = (statusOf w, ap (λ (o : Outcome). o .answer) (status-is w H), ap (λ (o : Outcome). o .told) (status-is w H), actions-are R);
+  status = (
+    statusOf w,
+    ap (λ (o : Outcome). o .answer) (status-is w H),
+    ap (λ (o : Outcome). o .told) (status-is w H),
+    actions-are R,
+  );
   queued = λ j a side. sym (R .base .full .queue .queued j refl a side);
   acknowledged = λ order s rooms enough. let D = acknowledge-all rooms enough order w h R H low s in (
     D .answers,
@@ -104,8 +112,10 @@ holds w h R H low = record {
         let S₁ = sends-then h j side q room S in
         let g = movedTo (withOut h []) (q .now) in
         let o = handleData (atTime W (q .now)) q in (
-          λ P. only-if R₁ refl (D .low) q room j side a S₁ refl (passes-same o h g j side q refl (subst (λ (x : Outcome). Passes x h j side q) e P)),
-          λ c. subst (λ (x : Outcome). Passes x h j side q) (sym e) (passes-same o g h j side q refl (if R₁ refl (D .low) q room j side a S₁ refl c)),
+          λ P. only-if R₁ refl (D .low) q room j side a S₁ refl
+              (passes-same o h g j side q refl (subst (λ (x : Outcome). Passes x h j side q) e P)),
+          λ c. subst (λ (x : Outcome). Passes x h j side q) (sym e)
+              (passes-same o g h j side q refl (if R₁ refl (D .low) q room j side a S₁ refl c)),
         ),
   );
 }
@@ -149,8 +159,13 @@ tabled {w} {h} R = let F = R .base .full in record {
   known = λ j a. same-circuit (circuitIn w j) (h .known j) (F .circs .agree j a);
   standing = F .pends .found;
   one-standing = F .pends .once;
-  asked = λ j a. let A = F .pends .agree j a in
-      record { requester = A .requester; endpoint = A .endpoint; context = A .context; ticket = A .ticket; deadline = A .deadline };
+  asked = λ j a. let A = F .pends .agree j a in record {
+    requester = A .requester;
+    endpoint = A .endpoint;
+    context = A .context;
+    ticket = A .ticket;
+    deadline = A .deadline;
+  };
   reserved = R .base .books .there;
   spent = λ r l. R .base .books .stands r l .bytes;
 }

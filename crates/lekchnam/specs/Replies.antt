@@ -32,10 +32,17 @@ pub record Replied : Type 0 where
 
 -- what a call hands back, with its answer in numbers
 abbrev pub replyOf : Relayed → RelayReply
-replyOf r = record { answer = number (r .answer); cause = causeOf (r .answer); words = r .words; runtime = r .runtime; places = r .places }
+replyOf r = record {
+  answer = number (r .answer);
+  cause = causeOf (r .answer);
+  words = r .words;
+  runtime = r .runtime;
+  places = r .places;
+}
 
 -- what a C function hands back, with the tables that it leaves, as they are seen, and the output
-abbrev pub replied : RelayReply → List RelayPending → List RelayCircuit → List ReservationUsage → List InflightAction → (out : List ℕ) → Replied
+abbrev pub replied : RelayReply → List RelayPending → List RelayCircuit → List ReservationUsage → List InflightAction
+    → (out : List ℕ) → Replied
 replied r p c l i out = record {
   world = worldSeen (r .runtime) (r .places) p c l i;
   answer = r .answer;
@@ -54,9 +61,10 @@ numbered r = record {
   output = r .output;
 }
 
--- what `new` hands back: its answer; the tables as they are seen; the runtime that it makes with no place in use, or, where it is refused,
--- zeros and off, with the marks alone to decide
-pub record MadeReply (r : RelayReply) (p : List RelayPending) (c : List RelayCircuit) (l : List ReservationUsage) (i : List InflightAction) (o : Outcome) : Type 0 where
+-- what `new` hands back: its answer; the tables as they are seen; the runtime that it makes with no place in use, or,
+-- where it is refused, zeros and off, with the marks alone to decide
+pub record MadeReply (r : RelayReply) (p : List RelayPending) (c : List RelayCircuit) (l : List ReservationUsage)
+    (i : List InflightAction) (o : Outcome) : Type 0 where
   pub answer : r .answer ≡ number (o .answer)
   pub cause : r .cause ≡ causeOf (o .answer)
   pub tables : worldOf (o .world .runtime) p c l i ≡ o .world

@@ -1,5 +1,5 @@
-// What a host calls: the body checks and the UTF-8 check as C functions, on byte slices and numbers. An answer is the cause in numbers, its kind 0
-// where the body is accepted, and the fields; a field that the input ends before is zero.
+// What a host calls: the body checks and the UTF-8 check as C functions, on byte slices and numbers. An answer is the
+// cause in numbers, its kind 0 where the body is accepted, and the fields; a field that the input ends before is zero.
 use hnsr_body::accept_body::AcceptBody;
 use hnsr_body::accept_body::OpenedBody;
 use hnsr_body::data_body::DataBody;
@@ -66,7 +66,9 @@ pub extern "C" fn hnsr_body_is_utf8(text: &[u8]) -> bool
 
 #[no_mangle]
 pub extern "C" fn hnsr_body_decode_open(input: &[u8], key_valid: bool) -> OpenAnswer
-    ensures { λ r. ⌜ (r .cause ≡ causeNumbers (decodeOpen «key_valid» (now (input .entry)) .result)) × (r .body ≡ decodeOpen «key_valid» (now (input .entry)) .body) ⌝ }
+    ensures { λ r. ⌜
+        (r .cause ≡ causeNumbers (decodeOpen «key_valid» (now (input .entry)) .result))
+        × (r .body ≡ decodeOpen «key_valid» (now (input .entry)) .body) ⌝ }
 {
     let read = OpenBody::decode(input, key_valid);
     let result = read.result;
@@ -79,7 +81,9 @@ pub extern "C" fn hnsr_body_decode_open(input: &[u8], key_valid: bool) -> OpenAn
 
 #[no_mangle]
 pub extern "C" fn hnsr_body_decode_incoming(input: &[u8]) -> IncomingAnswer
-    ensures { λ r. ⌜ (r .cause ≡ causeNumbers (decodeIncoming (now (input .entry)) .result)) × (r .body ≡ decodeIncoming (now (input .entry)) .body) ⌝ }
+    ensures { λ r. ⌜
+        (r .cause ≡ causeNumbers (decodeIncoming (now (input .entry)) .result))
+        × (r .body ≡ decodeIncoming (now (input .entry)) .body) ⌝ }
 {
     let read = IncomingBody::decode(input);
     let result = read.result;
@@ -92,7 +96,9 @@ pub extern "C" fn hnsr_body_decode_incoming(input: &[u8]) -> IncomingAnswer
 
 #[no_mangle]
 pub extern "C" fn hnsr_body_decode_accept(input: &[u8]) -> AcceptAnswer
-    ensures { λ r. ⌜ (r .cause ≡ causeNumbers (decodeAccept (now (input .entry)) .result)) × (r .body ≡ decodeAccept (now (input .entry)) .body) ⌝ }
+    ensures { λ r. ⌜
+        (r .cause ≡ causeNumbers (decodeAccept (now (input .entry)) .result))
+        × (r .body ≡ decodeAccept (now (input .entry)) .body) ⌝ }
 {
     let read = AcceptBody::decode(input);
     let result = read.result;
@@ -105,7 +111,9 @@ pub extern "C" fn hnsr_body_decode_accept(input: &[u8]) -> AcceptAnswer
 
 #[no_mangle]
 pub extern "C" fn hnsr_body_decode_opened(input: &[u8]) -> OpenedAnswer
-    ensures { λ r. ⌜ (r .cause ≡ causeNumbers (decodeOpened (now (input .entry)) .result)) × (r .body ≡ decodeOpened (now (input .entry)) .body) ⌝ }
+    ensures { λ r. ⌜
+        (r .cause ≡ causeNumbers (decodeOpened (now (input .entry)) .result))
+        × (r .body ≡ decodeOpened (now (input .entry)) .body) ⌝ }
 {
     let read = OpenedBody::decode(input);
     let result = read.result;
@@ -118,7 +126,9 @@ pub extern "C" fn hnsr_body_decode_opened(input: &[u8]) -> OpenedAnswer
 
 #[no_mangle]
 pub extern "C" fn hnsr_body_decode_window(input: &[u8]) -> WindowAnswer
-    ensures { λ r. ⌜ (r .cause ≡ causeNumbers (decodeWindow (now (input .entry)) .result)) × (r .body ≡ decodeWindow (now (input .entry)) .body) ⌝ }
+    ensures { λ r. ⌜
+        (r .cause ≡ causeNumbers (decodeWindow (now (input .entry)) .result))
+        × (r .body ≡ decodeWindow (now (input .entry)) .body) ⌝ }
 {
     let read = WindowBody::decode(input);
     let result = read.result;
@@ -137,7 +147,9 @@ pub extern "C" fn hnsr_body_decode_data(input: &[u8]) -> Cause
 }
 
 fn detail_answer(input: &[u8]) -> DetailAnswer
-    ensures { λ r. ⌜ (r .cause ≡ causeNumbers (decodeDetail (now (input .entry)) .result)) × (r .body ≡ decodeDetail (now (input .entry)) .body) ⌝ }
+    ensures { λ r. ⌜
+        (r .cause ≡ causeNumbers (decodeDetail (now (input .entry)) .result))
+        × (r .body ≡ decodeDetail (now (input .entry)) .body) ⌝ }
 {
     let read = ReasonDetail::decode(input);
     let result = read.result;
@@ -150,14 +162,18 @@ fn detail_answer(input: &[u8]) -> DetailAnswer
 
 #[no_mangle]
 pub extern "C" fn hnsr_body_decode_close(input: &[u8]) -> DetailAnswer
-    ensures { λ r. ⌜ (r .cause ≡ causeNumbers (decodeDetail (now (input .entry)) .result)) × (r .body ≡ decodeDetail (now (input .entry)) .body) ⌝ }
+    ensures { λ r. ⌜
+        (r .cause ≡ causeNumbers (decodeDetail (now (input .entry)) .result))
+        × (r .body ≡ decodeDetail (now (input .entry)) .body) ⌝ }
 {
     detail_answer(input)
 }
 
 #[no_mangle]
 pub extern "C" fn hnsr_body_decode_error(input: &[u8]) -> DetailAnswer
-    ensures { λ r. ⌜ (r .cause ≡ causeNumbers (decodeDetail (now (input .entry)) .result)) × (r .body ≡ decodeDetail (now (input .entry)) .body) ⌝ }
+    ensures { λ r. ⌜
+        (r .cause ≡ causeNumbers (decodeDetail (now (input .entry)) .result))
+        × (r .body ≡ decodeDetail (now (input .entry)) .body) ⌝ }
 {
     detail_answer(input)
 }

@@ -1,5 +1,6 @@
-// The calls of the relay. Tables, output and bytes are lent; the runtime and the places in use go in and come back by value. An answer is document
-// 01's number, 0 where the call is taken, and the cause of a 1. No call asks anything of what it is lent.
+// The calls of the relay. Tables, output and bytes are lent; the runtime and the places in use go in and come back by
+// value. An answer is document 01's number, 0 where the call is taken, and the cause of a 1. No call asks anything of
+// what it is lent.
 ghost use mathlib.Core.Path.{_≡_};
 ghost use mathlib.Core.List.{List};
 ghost use Prim.Native.Nat.{ℕ};
@@ -15,8 +16,11 @@ ghost use Rattle.hnsr_circuit.specs.Code.Held.{heldPending, heldCircuits, heldL
 ghost use Rattle.hnsr_circuit.specs.Code.Progress.{packetOf, outcome};
 ghost use Rattle.hnsr_circuit.specs.World.{worldOf};
 ghost use Rattle.hnsr_circuit.specs.Code.Told.{statusTold, dueTold};
-ghost use Rattle.hnsr_circuit.specs.Call.{start, step, callHandle, callAcknowledge, callDisconnect, callRevokeReservation, callExpire, callReplaceEnabled, callObserveTime, callStatus, callNextDue};
-ghost use Rattle.lekchnam.specs.Replies.{replyOf, replied, numbered, MadeReply, statusNumbered, dueSome, dueTime, dueNumbered};
+ghost use Rattle.hnsr_circuit.specs.Call.{start, step, callHandle, callAcknowledge, callDisconnect};
+ghost use Rattle.hnsr_circuit.specs.Call.{callRevokeReservation, callExpire, callReplaceEnabled};
+ghost use Rattle.hnsr_circuit.specs.Call.{callObserveTime, callStatus, callNextDue};
+ghost use Rattle.lekchnam.specs.Replies.{replyOf, replied, numbered, MadeReply};
+ghost use Rattle.lekchnam.specs.Replies.{statusNumbered, dueSome, dueTime, dueNumbered};
 use hnsr_body::error::Cause;
 use hnsr_body::values::ReservationId;
 use hnsr_circuit::calls::acknowledge::acknowledge;
@@ -43,7 +47,8 @@ use hnsr_circuit::runtime::Relayed;
 use hnsr_circuit::runtime::StatusTold;
 use hnsr_circuit::tables::places::Places;
 
-// What a call hands back: the answer, how many output words it wrote, and what the host keeps: the runtime and the places in use.
+// What a call hands back: the answer, how many output words it wrote, and what the host keeps: the runtime and the
+// places in use.
 #[repr(C)]
 pub struct RelayReply {
     pub answer: u32,
@@ -156,7 +161,13 @@ pub extern "C" fn opaque_relay_new(
     config: OpaqueRelayConfig,
     time: u64,
 ) -> RelayReply
-    ensures { λ r. ⌜ ((h : OpaqueRelayRuntime) → MadeReply r (heldPending (r .places) (now (pending .entry))) (heldCircuits (r .places) (now (circuits .entry))) (heldLedger (r .places) (now (ledger .entry))) (heldActions (r .places) (now (inflight .entry))) (start (worldOf h (now (pending .entry)) (now (circuits .entry)) (now (ledger .entry)) (now (inflight .entry))) (record { session = now (session .entry); generation = generation; config = config; now = time }))) ⌝ }
+    ensures { λ r. ⌜
+        ((h : OpaqueRelayRuntime)
+        → MadeReply r (heldPending (r .places) (now (pending .entry)))
+        (heldCircuits (r .places) (now (circuits .entry))) (heldLedger (r .places) (now (ledger .entry)))
+        (heldActions (r .places) (now (inflight .entry)))
+        (start (worldOf h (now (pending .entry)) (now (circuits .entry)) (now (ledger .entry)) (now (inflight .entry)))
+        (record { session = now (session .entry); generation = generation; config = config; now = time }))) ⌝ }
 {
     let name = *session;
     let made = new(
@@ -187,7 +198,15 @@ pub extern "C" fn opaque_relay_handle(
     endpoint: &[u8],
     random: &[u8],
 ) -> RelayReply
-    ensures { λ r. ⌜ replied r (now (pending .exit)) (now (circuits .exit)) (now (ledger .exit)) (now (inflight .exit)) (now (out .exit)) ≡ numbered (outcome (now (out .entry)) (step (worldSeen runtime places (now (pending .entry)) (now (circuits .entry)) (now (ledger .entry)) (now (inflight .entry))) (callHandle (packetOf packet (now (source .entry)) (now (body .entry)) (now (endpoint .entry)) (now (random .entry))) (length (now (out .entry)))))) ⌝ }
+    ensures { λ r. ⌜
+        replied r (now (pending .exit)) (now (circuits .exit)) (now (ledger .exit)) (now (inflight .exit))
+        (now (out .exit))
+        ≡ numbered (outcome (now (out .entry))
+        (step (worldSeen runtime places (now (pending .entry)) (now (circuits .entry)) (now (ledger .entry))
+        (now (inflight .entry)))
+        (callHandle
+        (packetOf packet (now (source .entry)) (now (body .entry)) (now (endpoint .entry)) (now (random .entry)))
+        (length (now (out .entry)))))) ⌝ }
 {
     let relayed = handle(
         pending,
@@ -218,7 +237,12 @@ pub extern "C" fn opaque_relay_acknowledge(
     sequence: u64,
     delivered: bool,
 ) -> RelayReply
-    ensures { λ r. ⌜ ((l : List ReservationUsage) → replied r (now (pending .exit)) (now (circuits .exit)) l (now (inflight .exit)) (now (out .exit)) ≡ numbered (outcome (now (out .entry)) (step (worldSeen runtime places (now (pending .entry)) (now (circuits .entry)) l (now (inflight .entry))) (callAcknowledge generation sequence delivered (length (now (out .entry))))))) ⌝ }
+    ensures { λ r. ⌜
+        ((l : List ReservationUsage)
+        → replied r (now (pending .exit)) (now (circuits .exit)) l (now (inflight .exit)) (now (out .exit))
+        ≡ numbered (outcome (now (out .entry))
+        (step (worldSeen runtime places (now (pending .entry)) (now (circuits .entry)) l (now (inflight .entry)))
+        (callAcknowledge generation sequence delivered (length (now (out .entry))))))) ⌝ }
 {
     let relayed = acknowledge(
         pending,
@@ -244,7 +268,12 @@ pub extern "C" fn opaque_relay_disconnect(
     places: Places,
     peer: &[u8],
 ) -> RelayReply
-    ensures { λ r. ⌜ ((l : List ReservationUsage) → replied r (now (pending .exit)) (now (circuits .exit)) l (now (inflight .exit)) (now (out .exit)) ≡ numbered (outcome (now (out .entry)) (step (worldSeen runtime places (now (pending .entry)) (now (circuits .entry)) l (now (inflight .entry))) (callDisconnect (now (peer .entry)) (length (now (out .entry))))))) ⌝ }
+    ensures { λ r. ⌜
+        ((l : List ReservationUsage)
+        → replied r (now (pending .exit)) (now (circuits .exit)) l (now (inflight .exit)) (now (out .exit))
+        ≡ numbered (outcome (now (out .entry))
+        (step (worldSeen runtime places (now (pending .entry)) (now (circuits .entry)) l (now (inflight .entry)))
+        (callDisconnect (now (peer .entry)) (length (now (out .entry))))))) ⌝ }
 {
     let relayed = disconnect(pending, circuits, inflight, out, runtime, places, peer);
     reply(relayed)
@@ -261,7 +290,12 @@ pub extern "C" fn opaque_relay_revoke_reservation(
     places: Places,
     id: ReservationId,
 ) -> RelayReply
-    ensures { λ r. ⌜ replied r (now (pending .exit)) (now (circuits .exit)) (now (ledger .exit)) (now (inflight .exit)) (now (out .exit)) ≡ numbered (outcome (now (out .entry)) (step (worldSeen runtime places (now (pending .entry)) (now (circuits .entry)) (now (ledger .entry)) (now (inflight .entry))) (callRevokeReservation id (length (now (out .entry)))))) ⌝ }
+    ensures { λ r. ⌜
+        replied r (now (pending .exit)) (now (circuits .exit)) (now (ledger .exit)) (now (inflight .exit))
+        (now (out .exit))
+        ≡ numbered (outcome (now (out .entry))
+        (step (worldSeen runtime places (now (pending .entry)) (now (circuits .entry)) (now (ledger .entry))
+        (now (inflight .entry))) (callRevokeReservation id (length (now (out .entry)))))) ⌝ }
 {
     let relayed = revoke_reservation(
         pending,
@@ -287,7 +321,12 @@ pub extern "C" fn opaque_relay_expire(
     places: Places,
     time: u64,
 ) -> RelayReply
-    ensures { λ r. ⌜ replied r (now (pending .exit)) (now (circuits .exit)) (now (ledger .exit)) (now (inflight .exit)) (now (out .exit)) ≡ numbered (outcome (now (out .entry)) (step (worldSeen runtime places (now (pending .entry)) (now (circuits .entry)) (now (ledger .entry)) (now (inflight .entry))) (callExpire time (length (now (out .entry)))))) ⌝ }
+    ensures { λ r. ⌜
+        replied r (now (pending .exit)) (now (circuits .exit)) (now (ledger .exit)) (now (inflight .exit))
+        (now (out .exit))
+        ≡ numbered (outcome (now (out .entry))
+        (step (worldSeen runtime places (now (pending .entry)) (now (circuits .entry)) (now (ledger .entry))
+        (now (inflight .entry))) (callExpire time (length (now (out .entry)))))) ⌝ }
 {
     let relayed = expire(
         pending,
@@ -313,7 +352,12 @@ pub extern "C" fn opaque_relay_replace_enabled(
     expected_generation: u64,
     enabled: bool,
 ) -> RelayReply
-    ensures { λ r. ⌜ ((l : List ReservationUsage) → replied r (now (pending .exit)) (now (circuits .exit)) l (now (inflight .exit)) (now (out .exit)) ≡ numbered (outcome (now (out .entry)) (step (worldSeen runtime places (now (pending .entry)) (now (circuits .entry)) l (now (inflight .entry))) (callReplaceEnabled «expected_generation» enabled (length (now (out .entry))))))) ⌝ }
+    ensures { λ r. ⌜
+        ((l : List ReservationUsage)
+        → replied r (now (pending .exit)) (now (circuits .exit)) l (now (inflight .exit)) (now (out .exit))
+        ≡ numbered (outcome (now (out .entry))
+        (step (worldSeen runtime places (now (pending .entry)) (now (circuits .entry)) l (now (inflight .entry)))
+        (callReplaceEnabled «expected_generation» enabled (length (now (out .entry))))))) ⌝ }
 {
     let relayed = replace_enabled(
         pending,
@@ -334,7 +378,11 @@ pub extern "C" fn opaque_relay_observe_time(
     places: Places,
     time: u64,
 ) -> RelayReply
-    ensures { λ r. ⌜ ((p : List RelayPending) (c : List RelayCircuit) (l : List ReservationUsage) (i : List InflightAction) (out : List ℕ) → replied r p c l i out ≡ numbered (outcome out (step (worldSeen runtime places p c l i) (callObserveTime time)))) ⌝ }
+    ensures { λ r. ⌜
+        ((p : List RelayPending) (c : List RelayCircuit) (l : List ReservationUsage) (i : List InflightAction)
+        (out : List ℕ)
+        → replied r p c l i out
+        ≡ numbered (outcome out (step (worldSeen runtime places p c l i) (callObserveTime time)))) ⌝ }
 {
     let relayed = observe_time(runtime, places, time);
     reply(relayed)
@@ -348,7 +396,11 @@ pub extern "C" fn opaque_relay_status(
     runtime: OpaqueRelayRuntime,
     places: Places,
 ) -> StatusReply
-    ensures { λ r. ⌜ ((l : List ReservationUsage) → r ≡ statusNumbered (statusTold (step (worldSeen runtime places (now (pending .entry)) (now (circuits .entry)) l (now (inflight .entry))) callStatus))) ⌝ }
+    ensures { λ r. ⌜
+        ((l : List ReservationUsage)
+        → r ≡ statusNumbered (statusTold
+        (step (worldSeen runtime places (now (pending .entry)) (now (circuits .entry)) l (now (inflight .entry)))
+        callStatus))) ⌝ }
 {
     let told = status(pending, circuits, inflight, runtime, places);
     status_reply(told)
@@ -362,7 +414,11 @@ pub extern "C" fn opaque_relay_next_due(
     runtime: OpaqueRelayRuntime,
     places: Places,
 ) -> DueReply
-    ensures { λ r. ⌜ ((l : List ReservationUsage) → r ≡ dueNumbered (dueTold (step (worldSeen runtime places (now (pending .entry)) (now (circuits .entry)) l (now (inflight .entry))) callNextDue))) ⌝ }
+    ensures { λ r. ⌜
+        ((l : List ReservationUsage)
+        → r ≡ dueNumbered (dueTold
+        (step (worldSeen runtime places (now (pending .entry)) (now (circuits .entry)) l (now (inflight .entry)))
+        callNextDue))) ⌝ }
 {
     let told = next_due(pending, circuits, inflight, runtime, places);
     due_reply(told)

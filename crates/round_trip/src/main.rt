@@ -1,4 +1,5 @@
-// Writes a field of each width into sixteen bytes, prints them and the words that they fill, reads the fields back, and reads one too many.
+// Writes a field of each width into sixteen bytes, prints them and the words that they fill, reads the fields back, and
+// reads one too many.
 use hns_encoding::DecodeError;
 use hns_encoding::Decoder;
 use hns_encoding::Encoder;

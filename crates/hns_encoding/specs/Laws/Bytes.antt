@@ -1,7 +1,9 @@
--- Numbers to base 256, over the width: a number is the sum of its bytes, each byte of a number, how large a number of so many bytes is,
--- and that reading and writing undo one another.
+-- Numbers to base 256, over the width: a number is the sum of its bytes, each byte of a number, how large a number of
+-- so many bytes is, and that reading and writing undo one another.
 use Prim.Native.Nat.{ℕ, zero, suc, _+_, _*_, _/_, _%_, _^_, _<_, _≤_}
-use native.Mathlib.Nat.{pow-suc, pow-succ', pow-zero, pow-le-pow-right, one-le-pow, mul-le-mul-right, mul-comm, mul-assoc, add-mul, mul-add, zero-mul, div-one, div-div-eq-div-mul, zero-div, mod-one, mod-eq-of-lt, lt-of-lt-of-le, le-of-suc-le-suc, not-suc-le-zero}
+use native.Mathlib.Nat.{pow-suc, pow-succ', pow-zero, pow-le-pow-right, one-le-pow, mul-le-mul-right}
+use native.Mathlib.Nat.{mul-comm, mul-assoc, add-mul, mul-add, zero-mul, div-one, div-div-eq-div-mul}
+use native.Mathlib.Nat.{zero-div, mod-one, mod-eq-of-lt, lt-of-lt-of-le, le-of-suc-le-suc, not-suc-le-zero}
 use native.Mathlib.Numerals.{add-one}
 use native.Mathlib.Omega.{arith}
 use mathlib.Core.Path.{_≡_, refl, sym, _∙_, ap, ap₂}
@@ -25,11 +27,13 @@ pub below-more-digits : (n k j : ℕ) → n < 256 ^ k → k ≤ j → n < 256 ^ 
 below-more-digits n k j l h = lt-of-lt-of-le l (pow-le-pow-right (lit< tt) h)
 
 -- ---- a field as a number, by its first byte and the field behind it
-pub le-step : (xs : List ℕ) (p q w v : ℕ) → p < length xs → q ≡ p + 1 → v ≡ w + 1 → le (field xs p v) ≡ getD xs p 0 + 256 * le (field xs q w)
+pub le-step : (xs : List ℕ) (p q w v : ℕ) → p < length xs → q ≡ p + 1 → v ≡ w + 1
+    → le (field xs p v) ≡ getD xs p 0 + 256 * le (field xs q w)
 unfolding le
 le-step xs p q w v l e f = rw (e, f, add-one, add-one, field-step xs p w l)
 
-pub be-step : (n : ℕ) (xs : List ℕ) (p q w v : ℕ) → p < length xs → q ≡ p + 1 → v ≡ w + 1 → beFrom n (field xs p v) ≡ beFrom (n * 256 + getD xs p 0) (field xs q w)
+pub be-step : (n : ℕ) (xs : List ℕ) (p q w v : ℕ) → p < length xs → q ≡ p + 1 → v ≡ w + 1
+    → beFrom n (field xs p v) ≡ beFrom (n * 256 + getD xs p 0) (field xs q w)
 unfolding beFrom
 be-step n xs p q w v l e f = rw (e, f, add-one, add-one, field-step xs p w l)
 
@@ -68,7 +72,10 @@ pub byte-at : (w n i : ℕ) → i < w → getD (leBytes w n) i 0 ≡ n / 256 ^ i
 unfolding leBytes
 byte-at zero n i l = absurd (not-suc-le-zero l)
 byte-at (suc w) n zero l = rw (pow-zero, div-one)
-byte-at (suc w) n (suc i) l = byte-at w (n / 256) i (le-of-suc-le-suc l) ∙ ap (λ (k : ℕ). k % 256) (div-div-eq-div-mul n 256 (256 ^ i)) ∙ rw (pow-succ' 256 i)
+byte-at (suc w) n (suc i) l =
+    byte-at w (n / 256) i (le-of-suc-le-suc l)
+    ∙ ap (λ (k : ℕ). k % 256) (div-div-eq-div-mul n 256 (256 ^ i))
+    ∙ rw (pow-succ' 256 i)
 
 pub byte-next : (n i : ℕ) → n / 256 ^ i / 256 ≡ n / 256 ^ (i + 1)
 byte-next n i = rw (add-one, pow-suc) (div-div-eq-div-mul n (256 ^ i) 256)
@@ -83,7 +90,8 @@ unfolding sumFrom le
 sum-from i [] = omega arith
 sum-from i (b ∷ bs) =
     let p = 256 ^ i in
-    ap (λ (k : ℕ). b * p + k) (sum-from (suc i) bs ∙ ap (λ (k : ℕ). k * le bs) (pow-suc 256 i) ∙ mul-assoc p 256 (le bs))
+    ap (λ (k : ℕ). b * p + k)
+    (sum-from (suc i) bs ∙ ap (λ (k : ℕ). k * le bs) (pow-suc 256 i) ∙ mul-assoc p 256 (le bs))
     ∙ ap (λ (k : ℕ). k + p * (256 * le bs)) (mul-comm b p)
     ∙ sym (mul-add p b (256 * le bs))
 
@@ -94,7 +102,8 @@ le-sum bs = sym (sum-from 0 bs ∙ omega arith)
 pub le-below : (bs : List ℕ) → Below 256 bs → le bs < 256 ^ length bs
 unfolding le
 le-below [] h = lit< tt
-le-below (b ∷ bs) h = rw pow-suc (let e : b + 256 * le bs ≡ le bs * 256 + b = omega arith in rw e (digits-lt (le-below bs (h .1)) (h .0)))
+le-below (b ∷ bs) h =
+    rw pow-suc (let e : b + 256 * le bs ≡ le bs * 256 + b = omega arith in rw e (digits-lt (le-below bs (h .1)) (h .0)))
 
 -- ---- read after write, and write after read, lowest byte first
 pub le-leBytes : (w n : ℕ) → le (leBytes w n) ≡ n % 256 ^ w
@@ -129,14 +138,24 @@ unfolding beFrom
 be-split m [] = omega arith
 be-split m (b ∷ bs) =
     let p = 256 ^ length bs in
-    let q : m * 256 ^ suc (length bs) ≡ m * 256 * p = ap (λ (k : ℕ). m * k) (pow-succ' 256 (length bs)) ∙ sym (mul-assoc m 256 p) in
-    omega (arith, be-split (m * 256 + b) bs, be-split (0 * 256 + b) bs, q, add-mul (m * 256) b p, add-mul (0 * 256) b p, zero-mul p)
+    let q : m * 256 ^ suc (length bs) ≡ m * 256 * p =
+    ap (λ (k : ℕ). m * k) (pow-succ' 256 (length bs)) ∙ sym (mul-assoc m 256 p) in
+    omega (
+      arith,
+      be-split (m * 256 + b) bs,
+      be-split (0 * 256 + b) bs,
+      q,
+      add-mul (m * 256) b p,
+      add-mul (0 * 256) b p,
+      zero-mul p,
+    )
 
 pub be-below : (bs : List ℕ) → Below 256 bs → be bs < 256 ^ length bs
 unfolding beFrom
 be-below [] h = lit< tt
 be-below (b ∷ bs) h =
-    rw (pow-succ', be-split (0 * 256 + b) bs) (digits-lt {q = 0 * 256 + b} {m = 256} {r = be bs} {c = 256 ^ length bs} (omega (arith, h .0)) (be-below bs (h .1)))
+    rw (pow-succ', be-split (0 * 256 + b) bs)
+    (digits-lt {q = 0 * 256 + b} {m = 256} {r = be bs} {c = 256 ^ length bs} (omega (arith, h .0)) (be-below bs (h .1)))
 
 be-beBytes-from : (m w n : ℕ) → beFrom m (beBytes w n) ≡ m * 256 ^ w + n % 256 ^ w
 unfolding beFrom beBytes
@@ -145,7 +164,8 @@ be-beBytes-from m (suc w) n =
     let p = 256 ^ w in
     let d = n / p % 256 in
     let q : m * 256 ^ suc w ≡ m * 256 * p = ap (λ (k : ℕ). m * k) (pow-succ' 256 w) ∙ sym (mul-assoc m 256 p) in
-    let r : n % 256 ^ suc w ≡ d * p + n % p = ap (λ (k : ℕ). n % k) (pow-succ' 256 w) ∙ mod-mul n (lit< tt) (one-le-pow w 256 (lit< tt)) in
+    let r : n % 256 ^ suc w ≡ d * p + n % p =
+    ap (λ (k : ℕ). n % k) (pow-succ' 256 w) ∙ mod-mul n (lit< tt) (one-le-pow w 256 (lit< tt)) in
     omega (arith, be-beBytes-from (m * 256 + d) w n, q, r, add-mul (m * 256) d p)
 
 pub be-beBytes : (w n : ℕ) → be (beBytes w n) ≡ n % 256 ^ w
@@ -160,7 +180,8 @@ beBytes-be-from m [] h = refl
 beBytes-be-from m (b ∷ bs) h =
     let p = 256 ^ length bs in
     let n = beFrom (m * 256 + b) bs in
-    let q : n / p ≡ m * 256 + b = ap (λ (k : ℕ). k / p) (be-split (m * 256 + b) bs) ∙ digits-div (m * 256 + b) (be-below bs (h .1)) in
+    let q : n / p ≡ m * 256 + b =
+    ap (λ (k : ℕ). k / p) (be-split (m * 256 + b) bs) ∙ digits-div (m * 256 + b) (be-below bs (h .1)) in
     let d : n / p % 256 ≡ b = omega (arith, q, h .0) in
     ap₂ _∷_ d (beBytes-be-from (m * 256 + b) bs (h .1))
 
@@ -174,11 +195,15 @@ le-byte [] h i = ap (λ (k : ℕ). k % 256) (zero-div (256 ^ i))
 le-byte (b ∷ bs) h zero = omega (arith, h .0)
 le-byte (b ∷ bs) h (suc i) =
     let high : (b + 256 * le bs) / 256 ≡ le bs = omega (arith, h .0) in
-    ap (λ (k : ℕ). k % 256) (ap (λ (k : ℕ). (b + 256 * le bs) / k) (pow-succ' 256 i) ∙ sym (div-div-eq-div-mul (b + 256 * le bs) 256 (256 ^ i)) ∙ ap (λ (k : ℕ). k / 256 ^ i) high)
+    ap (λ (k : ℕ). k % 256)
+    (ap (λ (k : ℕ). (b + 256 * le bs) / k) (pow-succ' 256 i)
+    ∙ sym (div-div-eq-div-mul (b + 256 * le bs) 256 (256 ^ i))
+    ∙ ap (λ (k : ℕ). k / 256 ^ i) high)
     ∙ le-byte bs (h .1) i
 
 -- ---- whether every byte is zero, by one byte and the rest
-pub zero-step : (xs : List ℕ) (i : ℕ) → i < length xs → getD xs i 0 ≡ 0 → allZero (drop (i + 1) xs) ≡ allZero (drop i xs)
+pub zero-step : (xs : List ℕ) (i : ℕ) → i < length xs → getD xs i 0 ≡ 0
+    → allZero (drop (i + 1) xs) ≡ allZero (drop i xs)
 unfolding allZero
 zero-step xs i l e = rw (add-one, drop-cons xs i 0 l, eq-eqb (getD xs i 0) 0 e)
 

@@ -6,7 +6,8 @@ use native.Mathlib.Omega.{arith}
 use mathlib.Core.Path.{_≡_, refl, sym, _∙_, ap, ap₂}
 use mathlib.Core.List.{List, [], _∷_, _++_, append-assoc, append-nil}
 use lib.ListN.{length, take, drop, getD, set, replicate, length-append, length-drop, drop-of-length-le}
-use lib.Seq.{drop-cons, getD-take, getD-drop, take-nil, take-all, take-length, length-take-le, take-at, drop-at, drop-append-add, drop-drop, paste, paste-suc, paste-zero, length-paste, sets-eq}
+use lib.Seq.{drop-cons, getD-take, getD-drop, take-nil, take-all, take-length, length-take-le, take-at}
+use lib.Seq.{drop-at, drop-append-add, drop-drop, paste, paste-suc, paste-zero, length-paste, sets-eq}
 use lib.Dec.{leb}
 use borrow.Author.Tests.{leb-true, leb-false}
 use Rattle.hns_encoding.specs.Bytes.{Below, padded}
@@ -63,7 +64,8 @@ module _ (xs : List ℕ) (at : ℕ) (ys : List ℕ) where
   pub write-start : xs ≡ paste xs at ys 0
   write-start = paste-zero xs at ys
 
-  pub write-step : (now : List ℕ) (i v : ℕ) → at + i < length xs → i < length ys → v ≡ getD ys i 0 → now ≡ paste xs at ys i
+  pub write-step : (now : List ℕ) (i v : ℕ) → at + i < length xs → i < length ys → v ≡ getD ys i 0
+      → now ≡ paste xs at ys i
       → set now (at + i) v ≡ paste xs at ys (i + 1)
   write-step now i v l k e h = rw (h, e, add-one) (paste-suc xs at ys i 0 l k)
 
@@ -76,7 +78,8 @@ pub written-behind : (xs : List ℕ) (at : ℕ) (ys zs : List ℕ) (k : ℕ) →
 written-behind xs at ys zs k l e =
     let front = take at xs ++ ys in
     let rest = drop (at + length ys) xs in
-    let long : length front ≡ at + length ys = length-append (take at xs) ys ∙ ap (λ (n : ℕ). n + length ys) (length-take-le at xs (omega arith)) in
+    let long : length front ≡ at + length ys =
+    length-append (take at xs) ys ∙ ap (λ (n : ℕ). n + length ys) (length-take-le at xs (omega arith)) in
     let first : take k (front ++ rest) ≡ front = take-at front rest k (omega arith) in
     let end : at + length ys + length zs ≡ at + length (ys ++ zs) = omega (arith, length-append ys zs) in
     let second : drop (k + length zs) (front ++ rest) ≡ drop (at + length (ys ++ zs)) xs =
@@ -84,7 +87,8 @@ written-behind xs at ys zs k l e =
     ∙ drop-append-add front rest (length zs)
     ∙ drop-drop (length zs) (at + length ys) xs
     ∙ ap (λ (n : ℕ). drop n xs) end in
-    ap₂ (λ (a b : List ℕ). a ++ zs ++ b) first second ∙ ap (λ (a : List ℕ). a ++ drop (at + length (ys ++ zs)) xs) (append-assoc (take at xs) ys zs)
+    ap₂ (λ (a b : List ℕ). a ++ zs ++ b) first second
+    ∙ ap (λ (a : List ℕ). a ++ drop (at + length (ys ++ zs)) xs) (append-assoc (take at xs) ys zs)
 
 -- a list written over the whole of another
 pub written-whole : (xs ys : List ℕ) → length xs ≡ length ys → writtenAt xs 0 ys ≡ ys
@@ -92,21 +96,26 @@ written-whole xs ys e =
     let l : length xs ≤ 0 + length ys = omega arith in
     ap (λ (rest : List ℕ). ys ++ rest) (drop-of-length-le xs l) ∙ append-nil ys
 
-pub written-length : (xs : List ℕ) (at : ℕ) (ys : List ℕ) → at + length ys ≤ length xs → length (writtenAt xs at ys) ≡ length xs
-written-length xs at ys l = rw (← (write-done xs at ys (length ys) refl)) (length-paste xs at ys (length ys) l (le-refl (length ys)))
+pub written-length : (xs : List ℕ) (at : ℕ) (ys : List ℕ) → at + length ys ≤ length xs
+    → length (writtenAt xs at ys) ≡ length xs
+written-length xs at ys l =
+    rw (← (write-done xs at ys (length ys) refl)) (length-paste xs at ys (length ys) l (le-refl (length ys)))
 
 -- one and two elements stored are one write
 pub written-one : (xs : List ℕ) (at v : ℕ) → at + 1 ≤ length xs → set xs at v ≡ writtenAt xs at (v ∷ [])
 written-one xs at v l = sets-eq (v ∷ []) xs at l
 
-pub written-two : (xs : List ℕ) (at v w : ℕ) → at + 2 ≤ length xs → set (set xs at v) (at + 1) w ≡ writtenAt xs at (v ∷ w ∷ [])
+pub written-two : (xs : List ℕ) (at v w : ℕ) → at + 2 ≤ length xs
+    → set (set xs at v) (at + 1) w ≡ writtenAt xs at (v ∷ w ∷ [])
 written-two xs at v w l = rw add-one (sets-eq (v ∷ w ∷ []) xs at l)
 
 -- what was written is read there
-pub field-written : (xs : List ℕ) (at : ℕ) (ys : List ℕ) → at + length ys ≤ length xs → field (writtenAt xs at ys) at (length ys) ≡ ys
+pub field-written : (xs : List ℕ) (at : ℕ) (ys : List ℕ) → at + length ys ≤ length xs
+    → field (writtenAt xs at ys) at (length ys) ≡ ys
 field-written xs at ys l =
     let front : length (take at xs) ≡ at = length-take-le at xs (omega arith) in
-    rw (append-assoc, drop-at (take at xs) (ys ++ drop (at + length ys) xs) at front) (take-at ys (drop (at + length ys) xs) (length ys) refl)
+    rw (append-assoc, drop-at (take at xs) (ys ++ drop (at + length ys) xs) at front)
+    (take-at ys (drop (at + length ys) xs) (length ys) refl)
 
 -- bytes written over zeros are padded with zeros
 drop-replicate : (k n : ℕ) → drop {A = ℕ} k (replicate n 0) ≡ replicate (n - k) 0
@@ -116,4 +125,6 @@ drop-replicate (suc k) (suc n) = drop-replicate k n ∙ ap (λ (m : ℕ). replic
 
 pub written-zeros : (n : ℕ) (ys : List ℕ) → writtenAt (replicate n 0) 0 ys ≡ padded n ys
 unfolding padded
-written-zeros n ys = ap (λ (rest : List ℕ). ys ++ rest) (drop-replicate (0 + length ys) n ∙ ap (λ (m : ℕ). replicate (n - m) 0) (zero-add (length ys)))
+written-zeros n ys =
+    ap (λ (rest : List ℕ). ys ++ rest)
+    (drop-replicate (0 + length ys) n ∙ ap (λ (m : ℕ). replicate (n - m) 0) (zero-add (length ys)))

@@ -1,4 +1,5 @@
--- Sums over lists: at equal, lesser and added measures; of a list put together, mapped or changed at one place; split by a test.
+-- Sums over lists: at equal, lesser and added measures; of a list put together, mapped or changed at one place; split
+-- by a test.
 use Prim.Native.Nat.{ℕ, zero, suc, _+_, _≤_, _<_}
 use native.Mathlib.Nat.{not-suc-le-zero, le-of-suc-le-suc}
 use native.Mathlib.Omega.{arith}
@@ -37,14 +38,17 @@ module _ {A : Type 0} where
   -- what has p and what has not
   pub total-split : (p : A → Bool) (f : A → ℕ) (t : List A) → total f t ≡ total (only p f) t + total (only (non p) f) t
   total-split p f [] = refl
-  total-split p f (x ∷ xs) = split (p x) (λ e. rw e (omega (arith, total-split p f xs))) (λ e. rw e (omega (arith, total-split p f xs)))
+  total-split p f (x ∷ xs) =
+      split (p x) (λ e. rw e (omega (arith, total-split p f xs))) (λ e. rw e (omega (arith, total-split p f xs)))
 
   -- one place set: what was there goes out of the sum, what is there now comes in
-  pub total-set : (f : A → ℕ) (t : List A) (i : ℕ) (r d : A) → i < length t → total f (set t i r) + f (getD t i d) ≡ total f t + f r
+  pub total-set : (f : A → ℕ) (t : List A) (i : ℕ) (r d : A) → i < length t
+      → total f (set t i r) + f (getD t i d) ≡ total f t + f r
   total-set f [] i r d h = absurd (not-suc-le-zero h)
   total-set f (x ∷ xs) zero r d h = omega arith
   total-set f (x ∷ xs) (suc i) r d h = omega (arith, total-set f xs i r d (le-of-suc-le-suc h))
 
   pub count-length : (p : A → Bool) (t : List A) → count p t ≤ length t
   count-length p [] = omega arith
-  count-length p (x ∷ xs) = split (p x) (λ e. rw e (omega (arith, count-length p xs))) (λ e. rw e (omega (arith, count-length p xs)))
+  count-length p (x ∷ xs) =
+      split (p x) (λ e. rw e (omega (arith, count-length p xs))) (λ e. rw e (omega (arith, count-length p xs)))

@@ -67,7 +67,10 @@ same false false f g = refl
 
 -- small laws of tests
 pub eqb-comm : (m n : ℕ) → eqb m n ≡ eqb n m
-eqb-comm m n = split (eqb m n) (λ e. e ∙ sym (eq-eqb n m (sym (eqb-true m n e)))) (λ e. e ∙ sym (ne-eqb n m (λ q. eqb-false m n e (sym q))))
+eqb-comm m n =
+    split (eqb m n)
+    (λ e. e ∙ sym (eq-eqb n m (sym (eqb-true m n e))))
+    (λ e. e ∙ sym (ne-eqb n m (λ q. eqb-false m n e (sym q))))
 
 pub cond-le : (b : Bool) → cond b 1 0 ≤ 1
 cond-le true = omega arith

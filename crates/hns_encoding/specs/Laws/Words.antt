@@ -1,5 +1,5 @@
--- Words, over their number: how many there are, each of them, the first ones and the rest; each byte of words; and that reading and
--- writing undo one another.
+-- Words, over their number: how many there are, each of them, the first ones and the rest; each byte of words; and that
+-- reading and writing undo one another.
 use Prim.Native.Nat.{ℕ, zero, suc, _+_, _*_, _/_, _%_, _^_, _-_, _<_, _≤_}
 use native.Mathlib.Nat.{le-of-suc-le-suc, not-suc-le-zero, zero-add, suc-add}
 use native.Mathlib.Omega.{arith}
@@ -27,15 +27,18 @@ wordsOf-at zero bs i l = absurd (not-suc-le-zero l)
 wordsOf-at (suc count) bs zero l = refl
 wordsOf-at (suc count) bs (suc i) l =
     let e : 4 + 4 * i ≡ 4 * suc i = omega arith in
-    wordsOf-at count (drop 4 bs) i (le-of-suc-le-suc l) ∙ ap (λ (rest : List ℕ). le (take 4 rest)) (drop-drop (4 * i) 4 bs ∙ ap (λ (k : ℕ). drop k bs) e)
+    wordsOf-at count (drop 4 bs) i (le-of-suc-le-suc l)
+    ∙ ap (λ (rest : List ℕ). le (take 4 rest)) (drop-drop (4 * i) 4 bs ∙ ap (λ (k : ℕ). drop k bs) e)
 
 -- the first words, and the rest from the bytes behind them
-pub wordsOf-add : (first count : ℕ) (bs : List ℕ) → wordsOf first bs ++ wordsOf count (drop (4 * first) bs) ≡ wordsOf (first + count) bs
+pub wordsOf-add : (first count : ℕ) (bs : List ℕ)
+    → wordsOf first bs ++ wordsOf count (drop (4 * first) bs) ≡ wordsOf (first + count) bs
 unfolding wordsOf
 wordsOf-add zero count bs = rw zero-add
 wordsOf-add (suc first) count bs =
     let e : 4 * suc first ≡ 4 + 4 * first = omega arith in
-    rw (suc-add, e, ← (drop-drop (4 * first) 4 bs)) (ap (λ (rest : List ℕ). le (take 4 bs) ∷ rest) (wordsOf-add first count (drop 4 bs)))
+    rw (suc-add, e, ← (drop-drop (4 * first) 4 bs))
+    (ap (λ (rest : List ℕ). le (take 4 bs) ∷ rest) (wordsOf-add first count (drop 4 bs)))
 
 -- ---- bytes of words
 pub bytesOf-length : (ws : List ℕ) → length (bytesOf ws) ≡ 4 * length ws
@@ -47,18 +50,24 @@ bytesOf-behind : (w : ℕ) (ws : List ℕ) (j : ℕ) → getD (bytesOf (w ∷ ws
 unfolding bytesOf leBytes
 bytesOf-behind w ws j = let e : 4 + j ≡ suc (suc (suc (suc j))) = omega arith in rw e
 
-pub bytesOf-at : (ws : List ℕ) (i : ℕ) → i < 4 * length ws → getD (bytesOf ws) i 0 ≡ getD ws (i / 4) 0 / 256 ^ (i % 4) % 256
+pub bytesOf-at : (ws : List ℕ) (i : ℕ) → i < 4 * length ws
+    → getD (bytesOf ws) i 0 ≡ getD ws (i / 4) 0 / 256 ^ (i % 4) % 256
 unfolding bytesOf
 bytesOf-at [] i l = absurd (omega arith)
-bytesOf-at (w ∷ ws) i l = split (ltb i 4) (λ t. inside (ltb-true i 4 t)) (λ f. outside (ltb-false i 4 f) (bytesOf-at ws (i - 4) (omega (arith, ltb-false i 4 f))))
+bytesOf-at (w ∷ ws) i l =
+    split (ltb i 4)
+    (λ t. inside (ltb-true i 4 t))
+    (λ f. outside (ltb-false i 4 f) (bytesOf-at ws (i - 4) (omega (arith, ltb-false i 4 f))))
   where
     inside : i < 4 → getD (leBytes 4 w ++ bytesOf ws) i 0 ≡ getD (w ∷ ws) (i / 4) 0 / 256 ^ (i % 4) % 256
     inside h =
         let q : i / 4 ≡ 0 = omega arith in
         let r : i % 4 ≡ i = omega arith in
-        rw (q, r) (List·getD-append (leBytes 4 w) (bytesOf ws) 0 i (omega (arith, leBytes-length 4 w)) ∙ byte-at 4 w i h)
+        rw (q, r)
+        (List·getD-append (leBytes 4 w) (bytesOf ws) 0 i (omega (arith, leBytes-length 4 w)) ∙ byte-at 4 w i h)
 
-    outside : 4 ≤ i → getD (bytesOf ws) (i - 4) 0 ≡ getD ws ((i - 4) / 4) 0 / 256 ^ ((i - 4) % 4) % 256 → getD (leBytes 4 w ++ bytesOf ws) i 0 ≡ getD (w ∷ ws) (i / 4) 0 / 256 ^ (i % 4) % 256
+    outside : 4 ≤ i → getD (bytesOf ws) (i - 4) 0 ≡ getD ws ((i - 4) / 4) 0 / 256 ^ ((i - 4) % 4) % 256
+        → getD (leBytes 4 w ++ bytesOf ws) i 0 ≡ getD (w ∷ ws) (i / 4) 0 / 256 ^ (i % 4) % 256
     outside h ih =
         let e : i ≡ 4 + (i - 4) = omega arith in
         let q : i / 4 ≡ suc ((i - 4) / 4) = omega arith in
@@ -66,20 +75,25 @@ bytesOf-at (w ∷ ws) i l = split (ltb i 4) (λ t. inside (ltb-true i 4 t)) (λ 
         rw (q, r) (ap (λ (k : ℕ). getD (leBytes 4 w ++ bytesOf ws) k 0) e ∙ bytesOf-behind w ws (i - 4) ∙ ih)
 
 -- ---- read after write, and write after read
-pub bytes-again : (count : ℕ) (bs : List ℕ) → Below 256 bs → length bs ≤ 4 * count → take (length bs) (bytesOf (wordsOf count bs)) ≡ bs
+pub bytes-again : (count : ℕ) (bs : List ℕ) → Below 256 bs → length bs ≤ 4 * count
+    → take (length bs) (bytesOf (wordsOf count bs)) ≡ bs
 bytes-again count bs h l = ext-getD 0 (take (length bs) (bytesOf (wordsOf count bs))) bs long each
   where
     long : length (take (length bs) (bytesOf (wordsOf count bs))) ≡ length bs
-    long = length-take-le (length bs) (bytesOf (wordsOf count bs)) (omega (arith, bytesOf-length (wordsOf count bs), wordsOf-length count bs))
+    long =
+        length-take-le (length bs) (bytesOf (wordsOf count bs))
+        (omega (arith, bytesOf-length (wordsOf count bs), wordsOf-length count bs))
 
-    each : (i : ℕ) → i < length (take (length bs) (bytesOf (wordsOf count bs))) → getD (take (length bs) (bytesOf (wordsOf count bs))) i 0 ≡ getD bs i 0
+    each : (i : ℕ) → i < length (take (length bs) (bytesOf (wordsOf count bs)))
+        → getD (take (length bs) (bytesOf (wordsOf count bs))) i 0 ≡ getD bs i 0
     each i k =
         let within : i < length bs = omega (arith, long) in
         let e : 4 * (i / 4) + i % 4 ≡ i = omega arith in
         getD-take (length bs) (bytesOf (wordsOf count bs)) i 0 within
         ∙ bytesOf-at (wordsOf count bs) i (omega (arith, wordsOf-length count bs))
         ∙ ap (λ (w : ℕ). w / 256 ^ (i % 4) % 256) (wordsOf-at count bs (i / 4) (omega arith))
-        ∙ le-byte (field bs (4 * (i / 4)) 4) (below-take 256 (drop (4 * (i / 4)) bs) 4 (below-drop 256 bs (4 * (i / 4)) h)) (i % 4)
+        ∙ le-byte (field bs (4 * (i / 4)) 4)
+        (below-take 256 (drop (4 * (i / 4)) bs) 4 (below-drop 256 bs (4 * (i / 4)) h)) (i % 4)
         ∙ field-at bs (4 * (i / 4)) 4 (i % 4) (omega arith)
         ∙ ap (λ (k : ℕ). getD bs k 0) e
 

@@ -1,4 +1,5 @@
--- Round trips of CLOSE and ERROR: the reason, the length of the detail and the detail are the fields of a body, whose last width is what is left.
+-- Round trips of CLOSE and ERROR: the reason, the length of the detail and the detail are the fields of a body, whose
+-- last width is what is left.
 use Prim.Native.Nat.{ℕ, _+_, _-_, _%_, _<_, _≤_, _^_}
 use native.Mathlib.Omega.{arith}
 use mathlib.Core.Path.{_≡_, refl, sym, _∙_, ap}
@@ -20,8 +21,11 @@ use Rattle.hnsr_body.specs.declared.error.Checked.the-variants.{Ok, Err}
 use Rattle.hnsr_body.specs.Causes.{answer}
 use Rattle.hnsr_body.specs.Layout.{walked}
 use Rattle.hnsr_body.specs.Utf8.{utf8}
-use Rattle.hnsr_body.specs.Detail.{mostDetail, detailWidths, headSize, detailSize, reasonOf, lengthOf, detailOf, lengthGood, reasonDetail, headed, decodeDetail, detailBytes, detailGood, encodeDetail}
-use Rattle.hnsr_body.specs.Laws.Parts.{answered, answer-good, cut, joined, written-parts, read-parts, laid-whole, walk-through, walk-there, le-part}
+use Rattle.hnsr_body.specs.Detail.{mostDetail, detailWidths, headSize, detailSize, reasonOf}
+use Rattle.hnsr_body.specs.Detail.{lengthOf, detailOf, lengthGood, reasonDetail, headed}
+use Rattle.hnsr_body.specs.Detail.{decodeDetail, detailBytes, detailGood, encodeDetail}
+use Rattle.hnsr_body.specs.Laws.Parts.{answered, answer-good, cut, joined, written-parts}
+use Rattle.hnsr_body.specs.Laws.Parts.{read-parts, laid-whole, walk-through, walk-there, le-part}
 
 -- the widths where the detail has n bytes
 abbrev wholeWidths : ℕ → List ℕ
@@ -53,24 +57,30 @@ unfolding detailBytes leBytes
 detail-size reason detail = omega arith
 
 pub detail-read : (reason : ℕ) (detail : List ℕ) → reason < 2 ^ 16 → detailGood detail ≡ true
-    → decodeDetail (detailBytes reason detail) ≡ record { result = Ok; body = record { reason = reason; «detail_length» = length detail } }
+    → decodeDetail (detailBytes reason detail)
+    ≡ record { result = Ok; body = record { reason = reason; «detail_length» = length detail } }
 unfolding decodeDetail reasonDetail
 detail-read reason detail f g =
     let xs = detailBytes reason detail in
     let sizes : map length (detailParts reason detail) ≡ wholeWidths (length detail) = rw leBytes-length in
-    let P = written-parts (wholeWidths (length detail)) xs (detailParts reason detail) sizes (detail-joined reason detail) in
+    let P =
+    written-parts (wholeWidths (length detail)) xs (detailParts reason detail) sizes (detail-joined reason detail) in
     let size = detail-size reason detail in
     let good = both (leb (length detail) mostDetail) (utf8 detail) g in
     let long : lengthOf xs ≡ length detail = ap le (P .part 1) ∙ le-one (length detail) in
-    let head : headed (walked detailWidths xs (record { position = 0 })) ≡ Ok = ap headed (walk-through detailWidths xs 0 (omega arith)) in
-    let right : lengthGood xs ≡ true = join _ _ (ap (λ (n : ℕ). leb n mostDetail) long ∙ good .0) (eq-eqb (length xs - headSize) (lengthOf xs) (omega arith)) in
+    let head : headed (walked detailWidths xs (record { position = 0 })) ≡ Ok =
+    ap headed (walk-through detailWidths xs 0 (omega arith)) in
+    let right : lengthGood xs ≡ true = join _ _ (ap (λ (n : ℕ). leb n mostDetail) long ∙ good .0)
+    (eq-eqb (length xs - headSize) (lengthOf xs) (omega arith)) in
     λ i. record {
-      result = answered NotUtf8 (answered DiagnosticDetail head right) (ap utf8 (detail-again reason detail) ∙ good .1) i;
+      result =
+          answered NotUtf8 (answered DiagnosticDetail head right) (ap utf8 (detail-again reason detail) ∙ good .1) i;
       body = record { reason = (ap le (P .part 0) ∙ le-again 2 reason f) i; «detail_length» = long i };
     }
 
 -- ---- what was read is written
-head-there : (xs : List ℕ) (s : Step) → walked detailWidths xs (record { position = 0 }) ≡ s → headed s ≡ Ok → headSize ≤ length xs
+head-there : (xs : List ℕ) (s : Step) → walked detailWidths xs (record { position = 0 }) ≡ s → headed s ≡ Ok
+    → headSize ≤ length xs
 head-there xs (Step.Err error) w h = let z : _≡_ {A = ℕ} 0 1 = cc in absurd (omega arith)
 head-there xs (Step.Ok d) w h = omega (arith, walk-there detailWidths xs 0 d (omega arith) w)
 
@@ -101,13 +111,16 @@ module _ (xs : List ℕ) (bytes : Below 256 xs) (h : decodeDetail xs .result ≡
       let T = taken xs h in
       let widths = wholeWidths (length xs - headSize) in
       let laid = laid-whole widths xs (omega (arith, T .there)) in
-      let number : (length (detailOf xs) ∷ []) ≡ leBytes 1 (lengthOf xs) = ap (λ (n : ℕ). n ∷ []) (T .left) ∙ sym (leBytes-one (lengthOf xs) (omega (arith, T .most))) in
-      let rest : detailOf xs ≡ take (length xs - headSize) (drop 1 (drop 2 xs)) = rw (drop-drop 1 2 xs) (sym (field-rest xs headSize)) in
+      let number : (length (detailOf xs) ∷ []) ≡ leBytes 1 (lengthOf xs) =
+      ap (λ (n : ℕ). n ∷ []) (T .left) ∙ sym (leBytes-one (lengthOf xs) (omega (arith, T .most))) in
+      let rest : detailOf xs ≡ take (length xs - headSize) (drop 1 (drop 2 xs)) =
+      rw (drop-drop 1 2 xs) (sym (field-rest xs headSize)) in
       let same : detailParts (reasonOf xs) (detailOf xs) ≡ cut widths xs =
       λ i. le-part widths xs bytes laid 0 i ∷ (number ∙ le-part widths xs bytes laid 1) i ∷ rest i ∷ [] in
       sym (detail-joined (reasonOf xs) (detailOf xs)) ∙ ap joined same ∙ read-parts widths xs laid .whole
 
-  pub detail-taken : encodeDetail (reasonOf xs) (detailOf xs) ≡ record { result = Ok; length = length xs; bytes = padded detailSize xs }
+  pub detail-taken : encodeDetail (reasonOf xs) (detailOf xs)
+      ≡ record { result = Ok; length = length xs; bytes = padded detailSize xs }
   unfolding encodeDetail
   detail-taken =
       let T = taken xs h in
@@ -118,5 +131,7 @@ module _ (xs : List ℕ) (bytes : Below 256 xs) (h : decodeDetail xs .result ≡
       λ i. record {
         result = answered NotUtf8 (on-true _ Ok (Err (TooLarge n mostDetail)) small) (T .text) i;
         length = (on-true _ (headSize + n) 0 good ∙ size) i;
-        bytes = (on-true _ (padded detailSize (detailBytes (reasonOf xs) (detailOf xs))) (replicate detailSize 0) good ∙ ap (padded detailSize) detail-written) i;
+        bytes =
+            (on-true _ (padded detailSize (detailBytes (reasonOf xs) (detailOf xs))) (replicate detailSize 0) good
+            ∙ ap (padded detailSize) detail-written) i;
       }

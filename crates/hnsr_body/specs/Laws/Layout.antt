@@ -1,5 +1,5 @@
--- Fields one after the other, each read from the step that the one before handed back, over the list of widths: the last step is that of the
--- walk, each field that of the definition, and what is left stands behind them.
+-- Fields one after the other, each read from the step that the one before handed back, over the list of widths: the
+-- last step is that of the walk, each field that of the definition, and what is left stands behind them.
 use Prim.Native.Nat.{ℕ, zero, suc, _+_, _≤_}
 use native.Mathlib.Nat.{add-zero}
 use native.Mathlib.Omega.{arith}
@@ -38,7 +38,8 @@ module _ (input : List ℕ) where
       (λ f. rw f (through-err ws (unexpectedEnd (length input) (d .position) w)))
 
   field-from : (widths : List ℕ) (i p : ℕ)
-      → fetched (getD widths i 0) input (through (take i widths) input (Ok (record { position = p }))) ≡ bytesAt (getD widths i 0) input (p + offset widths i)
+      → fetched (getD widths i 0) input (through (take i widths) input (Ok (record { position = p })))
+      ≡ bytesAt (getD widths i 0) input (p + offset widths i)
   unfolding stepped fetched
   field-from [] zero p = ap (bytesAt 0 input) (sym (add-zero p))
   field-from [] (suc i) p = ap (bytesAt 0 input) (sym (add-zero p))
@@ -61,11 +62,13 @@ module _ (input : List ℕ) where
   pub through-walked : (widths : List ℕ) → through widths input start ≡ walked widths input (record { position = 0 })
   through-walked widths = through-from widths (record { position = 0 })
 
-  pub through-field : (widths : List ℕ) (i : ℕ) → fetched (getD widths i 0) input (through (take i widths) input start) ≡ fieldOf widths i input
+  pub through-field : (widths : List ℕ) (i : ℕ)
+      → fetched (getD widths i 0) input (through (take i widths) input start) ≡ fieldOf widths i input
   through-field widths i = field-from widths i 0 ∙ ap (bytesAt (getD widths i 0) input) (omega arith)
 
   -- and what is left behind them
-  pub walked-left : (widths : List ℕ) → left input (walked widths input (record { position = 0 })) ≡ drop (span widths) input
+  pub walked-left : (widths : List ℕ)
+      → left input (walked widths input (record { position = 0 })) ≡ drop (span widths) input
   unfolding left
   walked-left widths = go (walked widths input (record { position = 0 })) refl
     where
@@ -75,5 +78,7 @@ module _ (input : List ℕ) where
           ap (λ (k : ℕ). drop k input) e
       go (Err e) w =
           split (leb (span widths) (length input))
-          (λ t. let k = walk-through widths input 0 (omega (arith, leb-true (span widths) (length input) t)) in let z : _≡_ {A = ℕ} 0 1 = cc in absurd (omega arith))
-          (λ f. let h : length input ≤ span widths = omega (arith, leb-false (span widths) (length input) f) in sym (drop-of-length-le input h))
+          (λ t. let k = walk-through widths input 0 (omega (arith, leb-true (span widths) (length input) t)) in
+          let z : _≡_ {A = ℕ} 0 1 = cc in absurd (omega arith))
+          (λ f. let h : length input ≤ span widths = omega (arith, leb-false (span widths) (length input) f) in
+          sym (drop-of-length-le input h))

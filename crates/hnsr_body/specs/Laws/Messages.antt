@@ -1,4 +1,5 @@
--- The seven messages: the bytes of a row are the body that carries it; each detail is UTF-8 and within 128 bytes. By computation, row by row.
+-- The seven messages: the bytes of a row are the body that carries it; each detail is UTF-8 and within 128 bytes. By
+-- computation, row by row.
 use Prim.Native.Nat.{ℕ, _+_}
 use mathlib.Core.Path.{_≡_, refl}
 use mathlib.Core.Bool.{true}
@@ -7,7 +8,9 @@ use lib.Dec.{leb}
 use lib.ListN.{length}
 use Rattle.hns_encoding.specs.Bytes.{leBytes, padded}
 use Rattle.hnsr_body.specs.declared.messages.Notice.{Notice}
-use Rattle.hnsr_body.specs.declared.messages.Notice.the-variants.{PeerDisconnected, ReservationRevoked, AcceptanceExpired, TicketExpired, RelayDisabled, EndpointWriteFailed, OuterWriteFailed}
+use Rattle.hnsr_body.specs.declared.messages.Notice.the-variants.{PeerDisconnected, ReservationRevoked}
+use Rattle.hnsr_body.specs.declared.messages.Notice.the-variants.{AcceptanceExpired, TicketExpired, RelayDisabled}
+use Rattle.hnsr_body.specs.declared.messages.Notice.the-variants.{EndpointWriteFailed, OuterWriteFailed}
 use Rattle.hnsr_body.specs.Utf8.{utf8, utf8-1, utf8-2, utf8-3, utf8-4}
 use Rattle.hnsr_body.specs.Detail.{detailBytes, mostDetail}
 use Rattle.hnsr_body.specs.Messages.{detail, messageOf, noticeBody, noticeWritten}

@@ -1,4 +1,5 @@
--- Fields put together: a body is laid out just where it has the size of its fields, and then it is its fields, one after the other.
+-- Fields put together: a body is laid out just where it has the size of its fields, and then it is its fields, one
+-- after the other.
 use Prim.Native.Nat.{ℕ, zero, suc, _+_, _≤_}
 use native.Mathlib.Omega.{arith}
 use mathlib.Core.Path.{_≡_, refl, sym, _∙_, ap}
@@ -24,10 +25,12 @@ use Rattle.hnsr_body.specs.Causes.{answer}
 use Rattle.hnsr_body.specs.Layout.{walked, finished, laidOut, offset, fieldOf}
 
 -- ---- answers: taken where the layout and the values are good, and only there
-pub answered : {layout : Checked} {good : Bool} (text : HnsrInvalid) → layout ≡ Ok → good ≡ true → answer layout good text ≡ Ok
+pub answered : {layout : Checked} {good : Bool} (text : HnsrInvalid) → layout ≡ Ok → good ≡ true
+    → answer layout good text ≡ Ok
 answered text l g = rw (l, g)
 
-pub answer-good : (layout : Checked) (good : Bool) (text : HnsrInvalid) → answer layout good text ≡ Ok → (layout ≡ Ok) × (good ≡ true)
+pub answer-good : (layout : Checked) (good : Bool) (text : HnsrInvalid) → answer layout good text ≡ Ok
+    → (layout ≡ Ok) × (good ≡ true)
 answer-good (Err cause) good text h = let z : _≡_ {A = ℕ} 0 1 = cc in absurd (omega arith)
 answer-good Ok true text h = (refl, refl)
 answer-good Ok false text h = let z : _≡_ {A = ℕ} 0 1 = cc in absurd (omega arith)
@@ -56,7 +59,9 @@ cut-joined (p ∷ ps) = rw (take-at p (joined ps) (length p) refl, drop-at p (jo
 joined-cut : (widths xs : List ℕ) → length xs ≡ span widths → joined (cut widths xs) ≡ xs
 joined-cut [] [] e = refl
 joined-cut [] (x ∷ xs) e = absurd (omega arith)
-joined-cut (w ∷ ws) xs e = ap (λ (rest : List ℕ). take w xs ++ rest) (joined-cut ws (drop w xs) (length-drop w xs ∙ omega arith)) ∙ take-append-drop w xs
+joined-cut (w ∷ ws) xs e =
+    ap (λ (rest : List ℕ). take w xs ++ rest) (joined-cut ws (drop w xs) (length-drop w xs ∙ omega arith))
+    ∙ take-append-drop w xs
 
 -- ---- the walk over fields that are there, and that they are there where it came through
 pub walk-through : (widths xs : List ℕ) (p : ℕ) → p + span widths ≤ length xs
@@ -64,17 +69,21 @@ pub walk-through : (widths xs : List ℕ) (p : ℕ) → p + span widths ≤ leng
 unfolding walked
 walk-through [] xs p l = ap (λ (k : ℕ). Step.Ok (record { position = k })) (omega arith)
 walk-through (w ∷ ws) xs p l =
-    on-true _ (walked ws xs (record { position = p + w })) (Step.Err (unexpectedEnd (length xs) p w)) (le-leb (p + w) (length xs) (omega arith))
+    on-true _ (walked ws xs (record { position = p + w })) (Step.Err (unexpectedEnd (length xs) p w))
+    (le-leb (p + w) (length xs) (omega arith))
     ∙ walk-through ws xs (p + w) (omega arith)
     ∙ ap (λ (k : ℕ). Step.Ok (record { position = k })) (omega arith)
 
-pub walk-there : (widths xs : List ℕ) (p : ℕ) (d : Decoder) → p ≤ length xs → walked widths xs (record { position = p }) ≡ Step.Ok d
+pub walk-there : (widths xs : List ℕ) (p : ℕ) (d : Decoder) → p ≤ length xs
+    → walked widths xs (record { position = p }) ≡ Step.Ok d
     → (d .position ≡ p + span widths) × (p + span widths ≤ length xs)
 unfolding walked
-walk-there [] xs p d l h = let e : record { position = p } ≡ d = cc in (sym (ap (λ (c : Decoder). c .position) e) ∙ omega arith, omega arith)
+walk-there [] xs p d l h =
+    let e : record { position = p } ≡ d = cc in (sym (ap (λ (c : Decoder). c .position) e) ∙ omega arith, omega arith)
 walk-there (w ∷ ws) xs p d l h =
     split (leb (p + w) (length xs))
-    (λ t. let r = walk-there ws xs (p + w) d (leb-true (p + w) (length xs) t) (rw t at h) in (omega (arith, r), omega (arith, r)))
+    (λ t. let r = walk-there ws xs (p + w) d (leb-true (p + w) (length xs) t) (rw t at h) in
+    (omega (arith, r), omega (arith, r)))
     (λ f. let k = rw f at h in let z : _≡_ {A = ℕ} 0 1 = cc in absurd (omega arith))
 
 -- a body is laid out where it has the size of its fields, and only there
@@ -118,31 +127,42 @@ cut-parts : (widths xs : List ℕ) → length xs ≡ span widths → Parts width
 cut-parts widths xs e = record {
   laid = laid-whole widths xs e;
   part = λ i.
-      on-true _ (field xs (offset widths i) (getD widths i 0)) (replicate (getD widths i 0) 0) (le-leb (offset widths i + getD widths i 0) (length xs) (omega (arith, offset-span widths i)))
+      on-true _ (field xs (offset widths i) (getD widths i 0)) (replicate (getD widths i 0) 0)
+      (le-leb (offset widths i + getD widths i 0) (length xs) (omega (arith, offset-span widths i)))
       ∙ field-cut widths xs i;
   whole = joined-cut widths xs e;
 }
 
 -- of fields that were put together, and of a body that is laid out
-pub written-parts : (widths xs : List ℕ) (ps : List (List ℕ)) → map length ps ≡ widths → joined ps ≡ xs → Parts widths xs ps
-written-parts widths xs ps e j = rw (← e, ← j) (rw (cut-joined ps) at (cut-parts (map length ps) (joined ps) (joined-length ps)))
+pub written-parts : (widths xs : List ℕ) (ps : List (List ℕ)) → map length ps ≡ widths → joined ps ≡ xs
+    → Parts widths xs ps
+written-parts widths xs ps e j =
+    rw (← e, ← j) (rw (cut-joined ps) at (cut-parts (map length ps) (joined ps) (joined-length ps)))
 
 pub read-parts : (widths xs : List ℕ) → laidOut widths xs ≡ Ok → Parts widths xs (cut widths xs)
 read-parts widths xs h = cut-parts widths xs (laid-size widths xs h)
 
 -- a field that is read as a value and written again gives its bytes again, if the value of so many bytes does
 module _ (widths xs : List ℕ) (bytes : Below 256 xs) (laid : laidOut widths xs ≡ Ok) (i : ℕ) where
-  pub value-part : {A : Type 0} (read : List ℕ → A) (write : A → List ℕ) → ((bs : List ℕ) → Below 256 bs → length bs ≡ getD widths i 0 → write (read bs) ≡ bs)
+  pub value-part : {A : Type 0} (read : List ℕ → A) (write : A → List ℕ)
+      → ((bs : List ℕ) → Below 256 bs → length bs ≡ getD widths i 0 → write (read bs) ≡ bs)
       → write (read (fieldOf widths i xs)) ≡ getD (cut widths xs) i []
   value-part read write again =
       let w = getD widths i 0 in
       let at = offset widths i in
-      let size : length (field xs at w) ≡ w = field-length xs at w (omega (arith, offset-span widths i, laid-size widths xs laid)) in
-      let same : fieldOf widths i xs ≡ field xs at w = read-parts widths xs laid .part i ∙ sym (field-cut widths xs i) in
-      ap (λ (bs : List ℕ). write (read bs)) same ∙ again (field xs at w) (below-take 256 (drop at xs) w (below-drop 256 xs at bytes)) size ∙ field-cut widths xs i
+      let size : length (field xs at w) ≡ w =
+      field-length xs at w (omega (arith, offset-span widths i, laid-size widths xs laid)) in
+      let same : fieldOf widths i xs ≡ field xs at w =
+      read-parts widths xs laid .part i ∙ sym (field-cut widths xs i) in
+      ap (λ (bs : List ℕ). write (read bs)) same
+      ∙ again (field xs at w) (below-take 256 (drop at xs) w (below-drop 256 xs at bytes)) size
+      ∙ field-cut widths xs i
 
   pub le-part : leBytes (getD widths i 0) (le (fieldOf widths i xs)) ≡ getD (cut widths xs) i []
-  le-part = value-part le (leBytes (getD widths i 0)) (λ bs b e. ap (λ (w : ℕ). leBytes w (le bs)) (sym e) ∙ leBytes-le bs b)
+  le-part =
+      value-part le (leBytes (getD widths i 0)) (λ bs b e. ap (λ (w : ℕ). leBytes w (le bs)) (sym e) ∙ leBytes-le bs b)
 
   pub be-part : beBytes (getD widths i 0) (be (fieldOf widths i xs)) ≡ getD (cut widths xs) i []
-  be-part = value-part (λ bs. be bs) (beBytes (getD widths i 0)) (λ bs b e. ap (λ (w : ℕ). beBytes w (be bs)) (sym e) ∙ beBytes-be bs b)
+  be-part =
+      value-part (λ bs. be bs) (beBytes (getD widths i 0))
+      (λ bs b e. ap (λ (w : ℕ). beBytes w (be bs)) (sym e) ∙ beBytes-be bs b)

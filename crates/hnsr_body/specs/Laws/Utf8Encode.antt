@@ -1,4 +1,5 @@
--- Encodings are what the ABNF accepts: each line of it has the ranges of its code points, by linear arithmetic with / and %, and texts go by the definition's clauses.
+-- Encodings are what the ABNF accepts: each line of it has the ranges of its code points, by linear arithmetic with /
+-- and %, and texts go by the definition's clauses.
 
 use Prim.Native.Nat.{ℕ, _+_, _-_, _*_, _/_, _≤_, _<_}
 use mathlib.Core.Path.{_≡_, refl, ap₂, subst⁻¹, _∙_}
@@ -11,9 +12,12 @@ use borrow.Author.Tests.{ltb-true, lt-ltb, le-ltb}
 use lib.Dec.{ltb}
 use Rattle.hnsr_body.specs.Utf8.{between, utf8-1, utf8-2, utf8-3, utf8-4, utf8}
 use Rattle.hns_encoding.specs.Laws.Tests.{both, join, either}
-use Rattle.hnsr_body.specs.Laws.Utf8Tests.{left, right, any3, any4, order, Range, in-range, is-between, one-fits, one-test, Fit2, two-fits, two-test, Three, three-fits, three-test, Four, four-fits, four-test}
+use Rattle.hnsr_body.specs.Laws.Utf8Tests.{left, right, any3, any4, order, Range, in-range}
+use Rattle.hnsr_body.specs.Laws.Utf8Tests.{is-between, one-fits, one-test, Fit2, two-fits, two-test}
+use Rattle.hnsr_body.specs.Laws.Utf8Tests.{Three, three-fits, three-test, Four, four-fits, four-test}
 use Rattle.hnsr_body.specs.Laws.Utf8Form.{three-of, four-of}
-use Rattle.hnsr_body.specs.Utf8Encode.{utf8-char, scalar, low6, encode, decode, scalars, encodeAll, Encodes, Encoded}
+use Rattle.hnsr_body.specs.Utf8Encode.{utf8-char, scalar, low6, encode, decode}
+use Rattle.hnsr_body.specs.Utf8Encode.{scalars, encodeAll, Encodes, Encoded}
 
 -- a scalar value, as facts
 abbrev pub Scalar : ℕ → Type 0
@@ -73,8 +77,10 @@ module _ (a b c : ℕ) where
   from-3 ra rb rc low s =
       let p : 0xE0 + value3 / 0x1000 ≡ a = omega arith in
       let q : low6 (value3 / 0x40) ≡ b = omega arith in
-      let r : low6 value3 ≡ c = omega arith in
-      record { isScalar = scalar-test value3 s; encoding = encode-3 value3 low (omega arith) ∙ λ i. p i ∷ q i ∷ r i ∷ [] }
+      let r : low6 value3 ≡ c = omega arith in record {
+        isScalar = scalar-test value3 s;
+        encoding = encode-3 value3 low (omega arith) ∙ λ i. p i ∷ q i ∷ r i ∷ [];
+      }
 
   value-3 : Three a b c → Encodes (decode (a ∷ b ∷ c ∷ [])) (a ∷ b ∷ c ∷ [])
   unfolding decode
@@ -93,8 +99,10 @@ module _ (a b c d : ℕ) where
       let p : 0xF0 + value4 / 0x40000 ≡ a = omega arith in
       let q : low6 (value4 / 0x1000) ≡ b = omega arith in
       let r : low6 (value4 / 0x40) ≡ c = omega arith in
-      let s : low6 value4 ≡ d = omega arith in
-      record { isScalar = scalar-test value4 (inr (omega arith)); encoding = encode-4 value4 (v .0) ∙ λ i. p i ∷ q i ∷ r i ∷ s i ∷ [] }
+      let s : low6 value4 ≡ d = omega arith in record {
+        isScalar = scalar-test value4 (inr (omega arith));
+        encoding = encode-4 value4 (v .0) ∙ λ i. p i ∷ q i ∷ r i ∷ s i ∷ [];
+      }
 
   value-4 : Four a b c d → Encodes (decode (a ∷ b ∷ c ∷ d ∷ [])) (a ∷ b ∷ c ∷ d ∷ [])
   unfolding decode
@@ -138,10 +146,9 @@ by-lines : (P : List ℕ → Type 0) (n : ℕ)
 by-lines P n f₁ f₂ f₃ f₄ =
     ⊎-elim
     (λ l₄. subst⁻¹ P (encode-4 n l₄) (f₄ l₄))
-    (λ h₃.
-    ⊎-elim
-    (λ l₃. subst⁻¹ P (encode-3 n l₃ h₃) (f₃ l₃ h₃))
-    (λ h₂. ⊎-elim (λ l₂. subst⁻¹ P (encode-2 n l₂ h₂) (f₂ l₂ h₂)) (λ h₁. subst⁻¹ P (encode-1 n h₁) (f₁ h₁)) (order 0x80 n))
+    (λ h₃. ⊎-elim (λ l₃. subst⁻¹ P (encode-3 n l₃ h₃) (f₃ l₃ h₃))
+    (λ h₂.
+    ⊎-elim (λ l₂. subst⁻¹ P (encode-2 n l₂ h₂) (f₂ l₂ h₂)) (λ h₁. subst⁻¹ P (encode-1 n h₁) (f₁ h₁)) (order 0x80 n))
     (order 0x800 n))
     (order 0x10000 n)
 

@@ -1,4 +1,5 @@
--- The code's form is the ABNF: a lead byte's length decides which line can hold, and so how far the first character of a text goes.
+-- The code's form is the ABNF: a lead byte's length decides which line can hold, and so how far the first character of
+-- a text goes.
 
 use Prim.Native.Nat.{ℕ, suc, _+_, _-_, _≤_, _<_}
 use mathlib.Core.Path.{_≡_, refl, sym, ap, _∙_}
@@ -15,7 +16,8 @@ use native.Mathlib.Numerals.{add-one}
 use Rattle.hnsr_body.specs.Utf8.{between, tail, utf8-1, utf8-2, utf8-3, utf8-4, utf8}
 use Rattle.hnsr_body.specs.Utf8Form.{leadLength, second, goesOn, charLength, Skipped}
 use Rattle.hns_encoding.specs.Laws.Tests.{both, join, same}
-use Rattle.hnsr_body.specs.Laws.Utf8Tests.{order, Range, in-range, is-between, one-fits, one-test, two-fits, two-test, three-fits, three-test, four-fits, four-test, Three, Four}
+use Rattle.hnsr_body.specs.Laws.Utf8Tests.{order, Range, in-range, is-between, one-fits, one-test, two-fits}
+use Rattle.hnsr_body.specs.Laws.Utf8Tests.{two-test, three-fits, three-test, four-fits, four-test, Three, Four}
 
 -- which bytes announce how many
 pub data Lead (a : ℕ) : ℕ → Type 0 where
@@ -77,7 +79,8 @@ second-test a b s =
     λ _. pass (eqb a 0xF4) (λ e. is-between 0x80 0x8F b (s .low, s .f4 (eqb-true a 0xF4 e)))
     λ _. is-between 0x80 0xBF b (s .low, s .high)
 
-passed : {P : Type 0} {x y : Bool} (t : Bool) → (t ≡ true → x ≡ true → P) → (t ≡ false → y ≡ true → P) → cond t x y ≡ true → P
+passed : {P : Type 0} {x y : Bool} (t : Bool) → (t ≡ true → x ≡ true → P) → (t ≡ false → y ≡ true → P)
+    → cond t x y ≡ true → P
 passed true f g h = f refl h
 passed false f g h = g refl h
 
@@ -185,7 +188,8 @@ line-4 a b c d =
 abbrev rest-of : ℕ → List ℕ → Bool
 rest-of k text = ltb 0 k && utf8 (drop k text)
 
--- how far a character goes that announces n bytes: `enough` says that the text has n, and s, t, u are the tests of the bytes after the lead
+-- how far a character goes that announces n bytes: `enough` says that the text has n, and s, t, u are the tests of the
+-- bytes after the lead
 abbrev goes : ℕ → Bool → Bool → Bool → Bool → ℕ
 goes n enough s t u = cond (enough && ((leb n 1 || s) && (leb n 2 || t) && (leb n 3 || u))) n 0
 
@@ -249,7 +253,8 @@ four-fit : (a b c d : ℕ) (rest : List ℕ) → leadLength a ≤ length (a ∷ 
 four-fit a b c d rest = omega (arith, lead-small (lead a))
 
 -- a text that is not empty is UTF8-octets if a character begins it, and what follows that is
-pub utf8-by-length : (text : List ℕ) → 0 < length text → utf8 text ≡ (ltb 0 (charLength text) && utf8 (drop (charLength text) text))
+pub utf8-by-length : (text : List ℕ) → 0 < length text
+    → utf8 text ≡ (ltb 0 (charLength text) && utf8 (drop (charLength text) text))
 unfolding utf8 charLength goesOn
 utf8-by-length [] h = absurd (not-suc-le-zero h)
 utf8-by-length (a ∷ []) h = line-1 a ∙ step-1 (lead a) (second a 0) (tail 0) (tail 0)
@@ -294,7 +299,8 @@ utf8-ascii a text h =
 pub skip-none : (text : List ℕ) (at : ℕ) → at ≤ length text → Skipped text at at
 skip-none text at h = record { ahead = omega arith; inside = h; alike = refl }
 
-pub skip-ascii : (text : List ℕ) (at end : ℕ) → Skipped text at end → end < length text → getD text end 0 ≤ 0x7F → Skipped text at (end + 1)
+pub skip-ascii : (text : List ℕ) (at end : ℕ) → Skipped text at end → end < length text → getD text end 0 ≤ 0x7F
+    → Skipped text at (end + 1)
 skip-ascii text at end s h a =
     record {
       ahead = omega arith;

@@ -17,9 +17,13 @@ reservation-read r high low =
     let ps = beBytes 8 (r .high) ∷ beBytes 8 (r .low) ∷ [] in
     let sizes : map length ps ≡ reservationWidths = simp beBytes-length in
     let P = written-parts reservationWidths (reservationBytes r) ps sizes (rw append-nil) in
-    λ i. record { high = (ap be (P .part 0) ∙ be-again 8 (r .high) high) i; low = (ap be (P .part 1) ∙ be-again 8 (r .low) low) i }
+    λ i. record {
+      high = (ap be (P .part 0) ∙ be-again 8 (r .high) high) i;
+      low = (ap be (P .part 1) ∙ be-again 8 (r .low) low) i;
+    }
 
 pub reservation-written : (bs : List ℕ) → Below 256 bs → length bs ≡ 16 → reservationBytes (reservationOf bs) ≡ bs
 reservation-written bs b e =
     let laid = laid-whole reservationWidths bs e in
-    ap₂ _++_ (be-part reservationWidths bs b laid 0) (be-part reservationWidths bs b laid 1) ∙ (rw append-nil at (read-parts reservationWidths bs laid .whole))
+    ap₂ _++_ (be-part reservationWidths bs b laid 0) (be-part reservationWidths bs b laid 1)
+    ∙ (rw append-nil at (read-parts reservationWidths bs laid .whole))

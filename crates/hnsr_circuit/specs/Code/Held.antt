@@ -1,6 +1,6 @@
--- The places in use: a number by value beside each lent table. A place is used exactly if its record's mark is set and it lies below that
--- number; so a table is seen with the marks of the places at and above the number cleared, and what else stands there as it is. The machine's
--- definition speaks of tables as they are seen.
+-- The places in use: a number by value beside each lent table. A place is used exactly if its record's mark is set and
+-- it lies below that number; so a table is seen with the marks of the places at and above the number cleared, and what
+-- else stands there as it is. The machine's definition speaks of tables as they are seen.
 use Prim.Native.Nat.{ℕ, zero, suc, _+_}
 use mathlib.Core.Bool.{Bool, cond, _&&_}
 use mathlib.Core.List.{List, [], _∷_}
@@ -41,19 +41,25 @@ abbrev pub heldActions : Places → List InflightAction → List InflightAction
 heldActions n t = held clearAction (n .actions) t
 
 -- ---- the world as it is seen, handed over and handed back
-abbrev pub worldSeen : OpaqueRelayRuntime → Places → List RelayPending → List RelayCircuit → List ReservationUsage → List InflightAction → World
+abbrev pub worldSeen : OpaqueRelayRuntime → Places → List RelayPending → List RelayCircuit → List ReservationUsage
+    → List InflightAction → World
 worldSeen h n p c l i = worldOf h (heldPending n p) (heldCircuits n c) (heldLedger n l) (heldActions n i)
 
-abbrev pub worldGiven : Request → List RelayPending → List RelayCircuit → List ReservationUsage → List InflightAction → World
+abbrev pub worldGiven : Request → List RelayPending → List RelayCircuit → List ReservationUsage
+    → List InflightAction → World
 worldGiven r p c l i = worldSeen (r .runtime) (r .places) p c l i
 
-abbrev pub underwaySeen : Sending → List RelayPending → List RelayCircuit → List ReservationUsage → List InflightAction → (out : List ℕ) → Progress
+abbrev pub underwaySeen : Sending → List RelayPending → List RelayCircuit → List ReservationUsage → List InflightAction
+    → (out : List ℕ) → Progress
 underwaySeen s p c l i out =
-    underway s (heldPending (s .places) p) (heldCircuits (s .places) c) (heldLedger (s .places) l) (heldActions (s .places) i) out
+    underway s (heldPending (s .places) p) (heldCircuits (s .places) c) (heldLedger (s .places) l)
+    (heldActions (s .places) i) out
 
-abbrev pub handedSeen : Relayed → List RelayPending → List RelayCircuit → List ReservationUsage → List InflightAction → (out : List ℕ) → Result
+abbrev pub handedSeen : Relayed → List RelayPending → List RelayCircuit → List ReservationUsage → List InflightAction
+    → (out : List ℕ) → Result
 handedSeen r p c l i out =
-    handedBack r (heldPending (r .places) p) (heldCircuits (r .places) c) (heldLedger (r .places) l) (heldActions (r .places) i) out
+    handedBack r (heldPending (r .places) p) (heldCircuits (r .places) c) (heldLedger (r .places) l)
+    (heldActions (r .places) i) out
 
 -- ---- numbers
 -- none is in use
@@ -62,7 +68,12 @@ noPlace = record { pending = 0; circuits = 0; ledger = 0; actions = 0 }
 
 -- the marks alone decide: the largest numbers there are
 abbrev pub everyPlace : Places
-everyPlace = record { pending = 18446744073709551615; circuits = 18446744073709551615; ledger = 18446744073709551615; actions = 18446744073709551615 }
+everyPlace = record {
+  pending = 18446744073709551615;
+  circuits = 18446744073709551615;
+  ledger = 18446744073709551615;
+  actions = 18446744073709551615;
+}
 
 abbrev pub withPending : (number : ℕ) → Places → Places
 withPending number n = record { pending = number; circuits = n .circuits; ledger = n .ledger; actions = n .actions }

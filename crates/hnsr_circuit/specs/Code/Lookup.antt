@@ -1,4 +1,5 @@
--- What the code keeps of a lookup: whether a record has what is asked, the lowest place that has it, and the record there.
+-- What the code keeps of a lookup: whether a record has what is asked, the lowest place that has it, and the record
+-- there.
 use mathlib.Core.Bool.{Bool}
 use mathlib.Core.List.{List}
 use Rattle.hnsr_circuit.specs.declared.records.RelayPending.{RelayPending}

@@ -41,14 +41,16 @@ use Rattle.hnsr_circuit.specs.Code.Question.{pendingWork, circuitWork}
 use Rattle.hnsr_circuit.specs.Entry.{peerAnswer}
 use Rattle.hnsr_circuit.specs.Draw.{drawAnswer}
 use Rattle.hnsr_circuit.specs.Accept.{requestAnswer, acceptAnswer, openedFor}
-use Rattle.hnsr_circuit.specs.Open.{Opening, openAnswer, admissionAnswer, endpointAnswer, deadlineAnswer, deadlineFor}
+use Rattle.hnsr_circuit.specs.Open.{Opening, openAnswer, admissionAnswer}
+use Rattle.hnsr_circuit.specs.Open.{endpointAnswer, deadlineAnswer, deadlineFor}
 
 -- ---- a place for a record: what is found, else the lowest unused
 abbrev pub putPlace : (place places spare : ℕ) → ℕ
 putPlace place places spare = cond (ltb place places) place spare
 
 -- ---- ACCEPT
-abbrev pub acceptRows : OpaqueRelayConfig → PendingFound → HnsrPeerId → (now : ℕ) → AcceptRead → (waiting running : Work) → InflightTally → HnsrAnswer
+abbrev pub acceptRows : OpaqueRelayConfig → PendingFound → HnsrPeerId → (now : ℕ) → AcceptRead
+    → (waiting running : Work) → InflightTally → HnsrAnswer
 acceptRows c f peer now read waiting running t =
     requestAnswer (f .found) (f .pending) peer now
     then bodyAnswer (read .result)
@@ -65,7 +67,8 @@ acceptWork f = record {
 }
 
 abbrev pub replacing : PendingFound → (id : ℕ) → ActionQuestion
-replacing f id = record { replacing = true; «circuit_id» = id; peer = f .pending .requester; generation = 0; sequence = 0 }
+replacing f id =
+    record { replacing = true; «circuit_id» = id; peer = f .pending .requester; generation = 0; sequence = 0 }
 
 abbrev pub acceptPlan : HnsrAnswer → OpaqueRelayRuntime → PendingFound → AcceptRead → AcceptPlan
 acceptPlan a h f read = record {
@@ -95,14 +98,28 @@ firstDraw xs = cond (leb 8 (length xs)) (be (take 8 xs)) 0
 
 -- ---- OPEN: what is gathered
 abbrev pub openWork : RelayPacket → (requester endpoint : HnsrPeerId) → OpenRead → (id : ℕ) → WorkQuestion
-openWork q requester endpoint read id = record
-    { peer = requester; other = endpoint; reservation = read .body .«reservation_id»; context = q .«context_id»; id = id }
+openWork q requester endpoint read id = record {
+  peer = requester;
+  other = endpoint;
+  reservation = read .body .«reservation_id»;
+  context = q .«context_id»;
+  id = id;
+}
 
-abbrev pub openGathering : RelayPacket → (requester endpoint : HnsrPeerId) → (size : ℕ) → OpenRead → (waiting running : Work) → OpenGathered
-openGathering q requester endpoint size read waiting running = record
-    { packet = q; requester = requester; endpoint = endpoint; size = size; read = read; waiting = waiting; running = running }
+abbrev pub openGathering : RelayPacket → (requester endpoint : HnsrPeerId) → (size : ℕ) → OpenRead
+    → (waiting running : Work) → OpenGathered
+openGathering q requester endpoint size read waiting running = record {
+  packet = q;
+  requester = requester;
+  endpoint = endpoint;
+  size = size;
+  read = read;
+  waiting = waiting;
+  running = running;
+}
 
-abbrev pub gathering : RelayPacket → (requester : HnsrPeerId) → (body endpoint random : List ℕ) → List RelayPending → List RelayCircuit → OpenGathered
+abbrev pub gathering : RelayPacket → (requester : HnsrPeerId) → (body endpoint random : List ℕ) → List RelayPending
+    → List RelayCircuit → OpenGathered
 gathering q requester body endpoint random p c =
     let read = decodeOpen (q .«key_valid») body in
     let k = openWork q requester (peerOf endpoint) read (firstDraw random) in
@@ -111,7 +128,8 @@ gathering q requester body endpoint random p c =
 -- ---- OPEN: the rows
 abbrev pub openRows : OpaqueRelayConfig → OpenGathered → HnsrAnswer
 openRows c g =
-    openAnswer c (g .waiting .used) (g .running .used) (g .waiting .«of_peer» + g .running .«of_peer») (g .waiting .repeated)
+    openAnswer c (g .waiting .used) (g .running .used) (g .waiting .«of_peer» + g .running .«of_peer»)
+    (g .waiting .repeated)
     then bodyAnswer (g .read .result)
     then admissionAnswer (g .packet .admitted) (g .packet .ticket .«expires_at») (g .packet .now)
 
@@ -119,15 +137,15 @@ openRows c g =
 abbrev pub placedEntry : OpaqueRelayConfig → OpenGathered → OpenPlan → Drawing → HnsrAnswer
 placedEntry c g o d =
     peerAnswer (g .size)
-    then endpointAnswer c (o .ticket) (samePeer (o .endpoint) (o .requester)) (g .waiting .«of_other» + g .running .«of_other»)
-    (g .waiting .under + g .running .under)
+    then endpointAnswer c (o .ticket) (samePeer (o .endpoint) (o .requester))
+    (g .waiting .«of_other» + g .running .«of_other») (g .waiting .under + g .running .under)
     then drawAnswer d
 
 abbrev pub placedRows : OpaqueRelayConfig → OpenGathered → OpenPlan → Drawing → ActionScan → LedgerScan → HnsrAnswer
 placedRows c g o d s r =
     peerAnswer (g .size)
-    then endpointAnswer c (o .ticket) (samePeer (o .endpoint) (o .requester)) (g .waiting .«of_other» + g .running .«of_other»)
-    (g .waiting .under + g .running .under)
+    then endpointAnswer c (o .ticket) (samePeer (o .endpoint) (o .requester))
+    (g .waiting .«of_other» + g .running .«of_other») (g .waiting .under + g .running .under)
     then drawAnswer d
     then capacityAnswer c (s .tally)
     then deadlineAnswer c (g .packet .now)

@@ -50,7 +50,8 @@ dataRows k f u t peer n =
     then bytesAnswer (u .found) (u .usage) (f .circuit) n
     then flowAnswer k (f .circuit) (sideOf peer (f .circuit)) n
 
-abbrev pub dataPlan : OpaqueRelayRuntime → CircuitFound → UsageFound → ActionScan → HnsrPeerId → Outgoing → (n : ℕ) → DataPlan
+abbrev pub dataPlan : OpaqueRelayRuntime → CircuitFound → UsageFound → ActionScan → HnsrPeerId → Outgoing
+    → (n : ℕ) → DataPlan
 dataPlan h f u s peer m n = let a = dataRows (h .config) f u (s .tally) peer n in record {
   answer = a;
   go = taken a;
@@ -63,13 +64,15 @@ dataPlan h f u s peer m n = let a = dataRows (h .config) f u (s .tally) peer n i
 }
 
 -- on a circuit, from the tables: its reservation's ledger record, the actions
-abbrev pub dataPlannedOn : OpaqueRelayRuntime → CircuitFound → List ReservationUsage → List InflightAction → RelayPacket → HnsrPeerId → (n : ℕ) → DataPlan
+abbrev pub dataPlannedOn : OpaqueRelayRuntime → CircuitFound → List ReservationUsage → List InflightAction → RelayPacket
+    → HnsrPeerId → (n : ℕ) → DataPlan
 dataPlannedOn h f l i q peer n =
     let m = dataOn q (f .circuit) peer n in
     dataPlan h f (usageFound (usageAt (f .circuit .«reservation_id»)) l) (actionsScanned (asking h m) i) peer m n
 
 -- on the one that the packet names
-abbrev pub dataPlanned : OpaqueRelayRuntime → List RelayCircuit → List ReservationUsage → List InflightAction → RelayPacket → HnsrPeerId → (n : ℕ) → DataPlan
+abbrev pub dataPlanned : OpaqueRelayRuntime → List RelayCircuit → List ReservationUsage → List InflightAction
+    → RelayPacket → HnsrPeerId → (n : ℕ) → DataPlan
 dataPlanned h c l i q peer n = dataPlannedOn h (circuitFound (circuitAt (q .«context_id»)) c) l i q peer n
 
 -- ---- WINDOW
@@ -91,17 +94,21 @@ windowPlan k read f s peer m = let a = windowRows k read f (s .tally) peer in re
   scan = s;
 }
 
-abbrev pub windowPlannedOn : OpaqueRelayRuntime → WindowRead → CircuitFound → List InflightAction → RelayPacket → HnsrPeerId → WindowPlan
+abbrev pub windowPlannedOn : OpaqueRelayRuntime → WindowRead → CircuitFound → List InflightAction → RelayPacket
+    → HnsrPeerId → WindowPlan
 windowPlannedOn h read f i q peer =
     let m = passedOn q (f .circuit) peer Control in
     windowPlan (h .config) read f (actionsScanned (asking h m) i) peer m
 
-abbrev pub windowPlanned : OpaqueRelayRuntime → List RelayCircuit → List InflightAction → RelayPacket → HnsrPeerId → (body : List ℕ) → WindowPlan
-windowPlanned h c i q peer body = windowPlannedOn h (decodeWindow body) (circuitFound (circuitAt (q .«context_id»)) c) i q peer
+abbrev pub windowPlanned : OpaqueRelayRuntime → List RelayCircuit → List InflightAction → RelayPacket → HnsrPeerId
+    → (body : List ℕ) → WindowPlan
+windowPlanned h c i q peer body =
+    windowPlannedOn h (decodeWindow body) (circuitFound (circuitAt (q .«context_id»)) c) i q peer
 
 -- ---- CLOSE and ERROR
 abbrev pub closeRows : DetailRead → (matches : ℕ) → CircuitFound → HnsrPeerId → HnsrAnswer
-closeRows read matches f peer = bodyAnswer (read .result) then closeAnswer matches (circuitAnswer (f .found) (f .circuit) peer)
+closeRows read matches f peer =
+    bodyAnswer (read .result) then closeAnswer matches (circuitAnswer (f .found) (f .circuit) peer)
 
 -- of the pending record where there is one, else of the circuit
 abbrev pub closeId : RelayPacket → PendingFound → ℕ
@@ -110,7 +117,8 @@ closeId q w = cond (w .found) (w .pending .«circuit_id») (q .«context_id»)
 abbrev pub closeMessage : RelayPacket → PendingFound → CircuitFound → HnsrPeerId → Outgoing
 closeMessage q w f peer = cond (w .found) (translatedOn q (w .pending) peer) (passedOn q (f .circuit) peer Close)
 
-abbrev pub closePlan : OpaqueRelayRuntime → RelayPacket → DetailRead → (matches : ℕ) → PendingFound → CircuitFound → HnsrPeerId → ClosePlan
+abbrev pub closePlan : OpaqueRelayRuntime → RelayPacket → DetailRead → (matches : ℕ) → PendingFound → CircuitFound
+    → HnsrPeerId → ClosePlan
 closePlan h q read matches w f peer = let a = closeRows read matches f peer in record {
   answer = a;
   go = taken a;
@@ -123,10 +131,12 @@ closePlan h q read matches w f peer = let a = closeRows read matches f peer in r
   message = closeMessage q w f peer;
 }
 
-abbrev pub closePlannedOn : OpaqueRelayRuntime → List RelayPending → List RelayCircuit → RelayPacket → DetailRead → HnsrPeerId → ClosePlan
+abbrev pub closePlannedOn : OpaqueRelayRuntime → List RelayPending → List RelayCircuit → RelayPacket → DetailRead
+    → HnsrPeerId → ClosePlan
 closePlannedOn h p c q read peer =
     let naming = namedBy peer (q .«context_id») in
     closePlan h q read (count naming p) (pendingFound naming p) (circuitFound (circuitAt (q .«context_id»)) c) peer
 
-abbrev pub closePlanned : OpaqueRelayRuntime → List RelayPending → List RelayCircuit → RelayPacket → HnsrPeerId → (body : List ℕ) → ClosePlan
+abbrev pub closePlanned : OpaqueRelayRuntime → List RelayPending → List RelayCircuit → RelayPacket → HnsrPeerId
+    → (body : List ℕ) → ClosePlan
 closePlanned h p c q peer body = closePlannedOn h p c q (decodeDetail body) peer

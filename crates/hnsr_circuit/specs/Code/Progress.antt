@@ -1,6 +1,7 @@
--- The world, the output and the next output word while a call sends, as the code goes through them: each part of a call takes one such
--- state to the next. A route that finds no room is not written and counts all the same, so that every state has a next one; where all
--- routes fit, which `routes-fit` proves of every call, the output is document 01's (`Laws.Progress`).
+-- The world, the output and the next output word while a call sends, as the code goes through them: each part of a call
+-- takes one such state to the next. A route that finds no room is not written and counts all the same, so that every
+-- state has a next one; where all routes fit, which `routes-fit` proves of every call, the output is document 01's
+-- (`Laws.Progress`).
 use Prim.Native.Nat.{ℕ}
 use mathlib.Core.Bool.{false, cond}
 use mathlib.Core.List.{List, [], _∷_}
@@ -82,7 +83,8 @@ abbrev pub progress : World → (position : ℕ) → (output : List ℕ) → Pro
 progress w at out = record { world = w; position = at; output = out }
 
 -- what the code holds, with the tables that it was lent
-abbrev pub underway : Sending → List RelayPending → List RelayCircuit → List ReservationUsage → List InflightAction → (out : List ℕ) → Progress
+abbrev pub underway : Sending → List RelayPending → List RelayCircuit → List ReservationUsage → List InflightAction
+    → (out : List ℕ) → Progress
 underway s p c l i out = progress (worldOf (s .runtime) p c l i) (s .position) out
 
 abbrev pub advanced : Progress → Sent → Progress
@@ -102,13 +104,15 @@ pub record Result : Type 0 where
 abbrev pub result : World → HnsrAnswer → (words : ℕ) → (output : List ℕ) → Result
 result w a words out = record { world = w; answer = a; words = words; output = out }
 
-abbrev pub handedBack : Relayed → List RelayPending → List RelayCircuit → List ReservationUsage → List InflightAction → (out : List ℕ) → Result
+abbrev pub handedBack : Relayed → List RelayPending → List RelayCircuit → List ReservationUsage → List InflightAction
+    → (out : List ℕ) → Result
 handedBack r p c l i out = result (worldOf (r .runtime) p c l i) (r .answer) (r .words) out
 
 -- what a part of the code that ends a call leaves
 abbrev pub ending : (out : List ℕ) → Outcome → Result
 ending out o = result (o .world) (o .answer) (filledTo 0 (o .routes)) (placed out 0 (o .routes))
 
--- the whole outcome of a call: the world, the answer, how many words, and the output as the routes' words and then the old tail
+-- the whole outcome of a call: the world, the answer, how many words, and the output as the routes' words and then the
+-- old tail
 abbrev pub outcome : (out : List ℕ) → Outcome → Result
 outcome out o = result (o .world) (o .answer) (length (outWords (o .routes))) (output out (o .routes))

@@ -13,8 +13,10 @@ use Rattle.hnsr_circuit.specs.Runtime.{withSequence}
 use Rattle.hnsr_circuit.specs.Queue.{queueAnswer, actionFor}
 use Rattle.hnsr_circuit.specs.Code.Progress.{messageOf, scanPlace}
 
-pub record Queueing (before : HnsrAnswer) (h : OpaqueRelayRuntime) (m : Outgoing) (s : ActionScan) (r : Queued) : Type 0 where
-  pub answer : r .answer ≡ (before then queueAnswer (h .config) (s .tally) (h .«next_action_sequence») (m .«context_id»))
+pub record Queueing (before : HnsrAnswer) (h : OpaqueRelayRuntime) (m : Outgoing) (s : ActionScan)
+    (r : Queued) : Type 0 where
+  pub answer : r .answer ≡ (before
+      then queueAnswer (h .config) (s .tally) (h .«next_action_sequence») (m .«context_id»))
   pub go : r .go ≡ taken (r .answer)
   -- the sequence moved on
   pub moves : r .go ≡ true → r .runtime ≡ withSequence h (h .«next_action_sequence» + 1)

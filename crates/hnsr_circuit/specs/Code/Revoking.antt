@@ -35,7 +35,8 @@ closeSide c side = closeOn side (c .«circuit_id») opClose (c .«circuit_id»)
 -- on disconnect only the other peer of a pending record hears, by CLOSE
 abbrev pub otherOut : HnsrPeerId → RelayPending → Outgoing
 otherOut peer p =
-    cond (samePeer (p .requester) peer) (closeOut p) (closeOn (p .requester) (p .«circuit_id») opClose (p .«requester_context»))
+    cond (samePeer (p .requester) peer) (closeOut p)
+    (closeOn (p .requester) (p .«circuit_id») opClose (p .«requester_context»))
 
 abbrev pub firstOut : Revoking → RelayPending → Outgoing
 firstOut v p = cond (v .disconnecting) (otherOut (v .peer) p) (errorOut p)

@@ -50,9 +50,10 @@ statusTold o = record { answer = o .answer; status = statusIn (o .told) }
 abbrev pub dueTold : Outcome → DueTold
 dueTold o = record { answer = o .answer; due = dueIn (o .told) }
 
--- what `new` hands back: its answer; the tables as they are seen; the runtime that it makes with no place in use, or, where it is refused,
--- zeros and off, with the marks alone to decide
-pub record Made (r : Relayed) (p : List RelayPending) (c : List RelayCircuit) (l : List ReservationUsage) (i : List InflightAction) (o : Outcome) : Type 0 where
+-- what `new` hands back: its answer; the tables as they are seen; the runtime that it makes with no place in use, or,
+-- where it is refused, zeros and off, with the marks alone to decide
+pub record Made (r : Relayed) (p : List RelayPending) (c : List RelayCircuit) (l : List ReservationUsage)
+    (i : List InflightAction) (o : Outcome) : Type 0 where
   pub answer : r .answer ≡ o .answer
   pub tables : worldOf (o .world .runtime) p c l i ≡ o .world
   pub runtime : r .runtime ≡ cond (taken (o .answer)) (o .world .runtime) noRuntime

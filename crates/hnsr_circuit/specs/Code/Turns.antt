@@ -57,17 +57,22 @@ never c = false
 
 module _ (q : WorkQuestion) where
   abbrev pub pendingWorked : Work → RelayPending → (place : ℕ) → Work
-  pendingWorked = workTurn isPending (pendingOf (q .peer)) (pendingOf (q .other)) (pendingUnder (q .reservation)) (requestedBy (q .peer) (q .context)) (pendingAt (q .id))
+  pendingWorked =
+      workTurn isPending (pendingOf (q .peer)) (pendingOf (q .other)) (pendingUnder (q .reservation))
+      (requestedBy (q .peer) (q .context)) (pendingAt (q .id))
 
   abbrev pub circuitWorked : Work → RelayCircuit → (place : ℕ) → Work
-  circuitWorked = workTurn isCircuit (circuitOf (q .peer)) (circuitOf (q .other)) (circuitUnder (q .reservation)) never (circuitAt (q .id))
+  circuitWorked =
+      workTurn isCircuit (circuitOf (q .peer)) (circuitOf (q .other)) (circuitUnder (q .reservation)) never
+      (circuitAt (q .id))
 
 -- ---- what `status` asks of the circuits
 abbrev pub noTotals : CircuitTotals
 noTotals = record { used = 0; «queued_bytes» = 0 }
 
 abbrev pub totalled : CircuitTotals → RelayCircuit → (place : ℕ) → CircuitTotals
-totalled t c place = record { used = t .used + one isCircuit c; «queued_bytes» = saturatingAdd 64 (t .«queued_bytes») (queuedIn c) }
+totalled t c place =
+    record { used = t .used + one isCircuit c; «queued_bytes» = saturatingAdd 64 (t .«queued_bytes») (queuedIn c) }
 
 -- ---- what a message asks of all actions
 -- what a message asks of all actions: the tally; where its number stands already; the lowest unused place
@@ -147,7 +152,15 @@ ledgerAsked id l = record {
 }
 
 abbrev pub noLedgerScan : (places : ℕ) → LedgerScan
-noLedgerScan places = record { found = false; place = places; usage = noUsage; used = 0; spare = false; «spare_place» = places; places = places }
+noLedgerScan places = record {
+  found = false;
+  place = places;
+  usage = noUsage;
+  used = 0;
+  spare = false;
+  «spare_place» = places;
+  places = places;
+}
 
 module _ (id : ReservationId) where
   abbrev pub usageScanned : LedgerScan → ReservationUsage → (place : ℕ) → LedgerScan

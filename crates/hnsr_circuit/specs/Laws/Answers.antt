@@ -1,12 +1,21 @@
--- Laws of answers: rows in order are taken exactly where each is, a check exactly where its test is false, and which numbers a list of rows
--- never gives.
+-- Laws of answers: rows in order are taken exactly where each is, a check exactly where its test is false, and which
+-- numbers a list of rows never gives.
 use Prim.Native.Nat.{ℕ}
 use mathlib.Core.Path.{_≡_, refl}
 use mathlib.Core.Bool.{Bool, true, false, true≢false}
 use lib.Dec.{eqb}
 use borrow.Author.Tests.{eqb-false}
 use Rattle.hnsr_circuit.specs.declared.answer.HnsrRuntimeError.{HnsrRuntimeError}
-use Rattle.hnsr_circuit.specs.declared.answer.HnsrRuntimeError.the-variants.{Protocol, InvalidConfig, InvalidSession, InvalidPeer, StaleGeneration, GenerationExhausted, ClockRollback, Randomness, Disabled, Capacity, InvalidAdmission, Deadline, UnknownRequest, UnknownCircuit, WrongPeer, UnexpectedOpcode, FlowControl, ByteLimit, NoQueuedData, UnknownAction, CorruptSnapshot, Short, LedgerFull}
+use Rattle.hnsr_circuit.specs.declared.answer.HnsrRuntimeError.the-variants.{Protocol, InvalidConfig}
+use Rattle.hnsr_circuit.specs.declared.answer.HnsrRuntimeError.the-variants.{InvalidSession, InvalidPeer}
+use Rattle.hnsr_circuit.specs.declared.answer.HnsrRuntimeError.the-variants.{StaleGeneration, GenerationExhausted}
+use Rattle.hnsr_circuit.specs.declared.answer.HnsrRuntimeError.the-variants.{ClockRollback, Randomness, Disabled}
+use Rattle.hnsr_circuit.specs.declared.answer.HnsrRuntimeError.the-variants.{Capacity, InvalidAdmission, Deadline}
+use Rattle.hnsr_circuit.specs.declared.answer.HnsrRuntimeError.the-variants.{UnknownRequest, UnknownCircuit}
+use Rattle.hnsr_circuit.specs.declared.answer.HnsrRuntimeError.the-variants.{WrongPeer, UnexpectedOpcode}
+use Rattle.hnsr_circuit.specs.declared.answer.HnsrRuntimeError.the-variants.{FlowControl, ByteLimit, NoQueuedData}
+use Rattle.hnsr_circuit.specs.declared.answer.HnsrRuntimeError.the-variants.{UnknownAction, CorruptSnapshot}
+use Rattle.hnsr_circuit.specs.declared.answer.HnsrRuntimeError.the-variants.{Short, LedgerFull}
 use Rattle.hnsr_circuit.specs.declared.answer.HnsrAnswer.{HnsrAnswer}
 use Rattle.hnsr_circuit.specs.declared.answer.HnsrAnswer.the-variants.{Taken, Refused}
 use Rattle.hnsr_circuit.specs.Answers.{errorNumber, number, check, _then_, taken}
@@ -39,11 +48,13 @@ stop-three Taken b c x t = stop-two b c x t
 stop-three (Refused e) b c x t = refl
 
 -- ---- numbers that are never given
-pub check-never : (m : ℕ) (b : Bool) (e : HnsrRuntimeError) → eqb 0 m ≡ false → eqb (errorNumber e) m ≡ false → eqb (number (check b e)) m ≡ false
+pub check-never : (m : ℕ) (b : Bool) (e : HnsrRuntimeError) → eqb 0 m ≡ false → eqb (errorNumber e) m ≡ false
+    → eqb (number (check b e)) m ≡ false
 check-never m true e z h = h
 check-never m false e z h = z
 
-pub then-never : (m : ℕ) (a b : HnsrAnswer) → eqb (number a) m ≡ false → eqb (number b) m ≡ false → eqb (number (a then b)) m ≡ false
+pub then-never : (m : ℕ) (a b : HnsrAnswer) → eqb (number a) m ≡ false → eqb (number b) m ≡ false
+    → eqb (number (a then b)) m ≡ false
 then-never m Taken b h k = k
 then-never m (Refused e) b h k = h
 

@@ -1,5 +1,6 @@
--- A table as a bag: for every f, the total of f over the used places is the total over a list. Records are views of what the list holds, each has
--- a number, and the numbers are distinct and below the next. Generic over the record T and what it views, B.
+-- A table as a bag: for every f, the total of f over the used places is the total over a list. Records are views of
+-- what the list holds, each has a number, and the numbers are distinct and below the next. Generic over the record T
+-- and what it views, B.
 use Prim.Native.Nat.{ℕ, _+_, _≤_, _<_}
 use native.Mathlib.Omega.{arith}
 use mathlib.Core.Path.{_≡_, refl, sym, ap, _∙_}
@@ -64,22 +65,39 @@ module _ {T B : Type 0} (Y : Bag T B) where
         (λ e. rw e (count-any (holds p) t (omega (arith, held-count p, any-count p out e))))
         (λ e. rw e (count-none (holds p) t (held-count p ∙ none-count p out e)))
 
-    -- f of the record of a number is the total of f over the list at that number: so the table's record and the list's are the same to every f
-    pub only-list : (q : ℕ) (d : B) → any (numbered q) out ≡ true → (f : B → ℕ) → total (only (numbered q) f) out ≡ f (pick (numbered q) d out)
+    -- f of the record of a number is the total of f over the list at that number: so the table's record and the list's
+    -- are the same to every f
+    pub only-list : (q : ℕ) (d : B) → any (numbered q) out ≡ true → (f : B → ℕ)
+        → total (only (numbered q) f) out ≡ f (pick (numbered q) d out)
     only-list q d e f = total-key (numbered q) f d out (R .once q) e
 
-    pub only-table : (q : ℕ) → any (numbered q) out ≡ true → (f : B → ℕ) → total (only (numbered q) f) out ≡ f (Y .view (pick (holds (numbered q)) (Y .blank) t))
-    only-table q e f = sym (R .same (only (numbered q) f)) ∙ sym (total-also (Y .used) (λ i. numbered q (Y .view i)) (λ i. f (Y .view i)) t)
-        ∙ total-key (holds (numbered q)) (λ i. f (Y .view i)) (Y .blank) t (omega (arith, held-count (numbered q), R .once q)) (held-any (numbered q) ∙ e)
+    pub only-table : (q : ℕ) → any (numbered q) out ≡ true → (f : B → ℕ)
+        → total (only (numbered q) f) out ≡ f (Y .view (pick (holds (numbered q)) (Y .blank) t))
+    only-table q e f =
+        sym (R .same (only (numbered q) f))
+        ∙ sym (total-also (Y .used) (λ i. numbered q (Y .view i)) (λ i. f (Y .view i)) t)
+        ∙ total-key (holds (numbered q)) (λ i. f (Y .view i)) (Y .blank) t
+        (omega (arith, held-count (numbered q), R .once q)) (held-any (numbered q) ∙ e)
 
-    pub queue-held : (b : B) → count (Y .used) t < length t → Y .number b ≡ next → Held (queued b t) (out ++ (b ∷ [])) (next + 1)
+    pub queue-held : (b : B) → count (Y .used) t < length t → Y .number b ≡ next
+        → Held (queued b t) (out ++ (b ∷ [])) (next + 1)
     queue-held b l e = record { same = all; once = once′; below = below′ }
       where
         new : any (holds (numbered (Y .number b))) t ≡ false
-        new = count-none (holds (numbered (Y .number b))) t (held-count (numbered (Y .number b)) ∙ R .below (Y .number b) (omega arith))
+        new =
+            count-none (holds (numbered (Y .number b))) t
+            (held-count (numbered (Y .number b)) ∙ R .below (Y .number b) (omega arith))
 
         all : (f : B → ℕ) → total (only (Y .used) (λ i. f (Y .view i))) (queued b t) ≡ total f (out ++ (b ∷ []))
-        all f = omega (arith, put-new-total (Y .used) (Y .unmark) (holds (numbered (Y .number b))) (Y .mark b) t new (room (Y .used) (Y .unmark) t l) (λ i. f (Y .view i)) (Y .blank) (Y .used-mark b), ap f (Y .view-mark b), total-append f out (b ∷ []), R .same f)
+        all f =
+            omega (
+              arith,
+              put-new-total (Y .used) (Y .unmark) (holds (numbered (Y .number b))) (Y .mark b) t new
+                  (room (Y .used) (Y .unmark) t l) (λ i. f (Y .view i)) (Y .blank) (Y .used-mark b),
+              ap f (Y .view-mark b),
+              total-append f out (b ∷ []),
+              R .same f,
+            )
 
         once′ : (q : ℕ) → count (numbered q) (out ++ (b ∷ [])) ≤ 1
         once′ q = let k = total-append (one (numbered q)) out (b ∷ []) in split (eqb (Y .number b) q)
@@ -93,7 +111,10 @@ module _ {T B : Type 0} (Y : Bag T B) where
 
     pub drop-held : (p : B → Bool) → Held (dropped p t) (keep (non p) out) next
     drop-held p = record {
-      same = λ f. clear-total (Y .used) (Y .unmark) (Y .off) (λ i. p (Y .view i)) (λ i. f (Y .view i)) t ∙ R .same (only (non p) f) ∙ sym (total-keep f (non p) out);
+      same =
+          λ f. clear-total (Y .used) (Y .unmark) (Y .off) (λ i. p (Y .view i)) (λ i. f (Y .view i)) t
+          ∙ R .same (only (non p) f)
+          ∙ sym (total-keep f (non p) out);
       once = λ q. omega (arith, keep-le (one (numbered q)) (non p) out, R .once q);
       below = λ q l. omega (arith, keep-le (one (numbered q)) (non p) out, R .below q l);
     }
@@ -106,4 +127,11 @@ module _ {T B : Type 0} (Y : Bag T B) where
     lists-rest q qs s f =
         let a = rw (eq-eqb q q refl) at (s (one (λ x. eqb x q))) in
         let b = rw (eq-eqb q q refl) at (s (only (non (λ x. eqb x q)) f)) in
-        omega (arith, a, b, R .once q, total-others (λ x. eqb x q) f qs (omega (arith, a, R .once q)), total-keep (λ x. f (Y .number x)) (non (numbered q)) out)
+        omega (
+          arith,
+          a,
+          b,
+          R .once q,
+          total-others (λ x. eqb x q) f qs (omega (arith, a, R .once q)),
+          total-keep (λ x. f (Y .number x)) (non (numbered q)) out,
+        )

@@ -41,14 +41,18 @@ data-size body h =
 -- ---- WINDOW
 pub window-size : (body : List ℕ) → bodyAnswer (decodeWindow body .result) ≡ Taken → length body ≤ mostData
 unfolding decodeWindow
-window-size body h = omega (arith, laid-size windowWidths body (answer-good (laidOut windowWidths body) _ _ (taken-ok _ h) .0))
+window-size body h =
+    omega (arith, laid-size windowWidths body (answer-good (laidOut windowWidths body) _ _ (taken-ok _ h) .0))
 
 -- ---- CLOSE and ERROR
 pub detail-size : (body : List ℕ) → bodyAnswer (decodeDetail body .result) ≡ Taken → length body ≤ mostData
 unfolding decodeDetail
 detail-size body h =
-    let sized = answer-good (answer (headed (walked detailWidths body (record { position = 0 }))) (lengthGood body) DiagnosticDetail) (utf8 (detailOf body)) _ (taken-ok _ h) .0 in
-    let k = answer-good (headed (walked detailWidths body (record { position = 0 }))) (lengthGood body) DiagnosticDetail sized .1 in
+    let sized = answer-good
+    (answer (headed (walked detailWidths body (record { position = 0 }))) (lengthGood body) DiagnosticDetail)
+    (utf8 (detailOf body)) _ (taken-ok _ h) .0 in
+    let k = answer-good (headed (walked detailWidths body (record { position = 0 }))) (lengthGood body)
+    DiagnosticDetail sized .1 in
     let parts = both (leb (lengthOf body) 128) (eqb (length body - 3) (lengthOf body)) k in
     omega (arith, leb-true (lengthOf body) 128 (parts .0), eqb-true (length body - 3) (lengthOf body) (parts .1))
 
@@ -65,12 +69,19 @@ pub accept-nonce : (body : List ℕ) → length (acceptFields body .«endpoint_n
 unfolding acceptFields
 accept-nonce body = omega (arith, bytes-length 16 body 4)
 
-pub incoming-size : (b : IncomingBody) → length (b .«ticket_id») ≤ 32 → length (b .«requester_nonce») ≤ 16 → length (incomingBytes b) ≤ mostData
+pub incoming-size : (b : IncomingBody) → length (b .«ticket_id») ≤ 32 → length (b .«requester_nonce») ≤ 16
+    → length (incomingBytes b) ≤ mostData
 unfolding incomingBytes
 incoming-size b t n =
     simp length-append
-    (omega (arith, beBytes-length 8 (b .«open_request_id»), leBytes-length 2 (b .profile), leBytes-length 4 (b .«initial_window»)))
+    (omega (
+      arith,
+      beBytes-length 8 (b .«open_request_id»),
+      leBytes-length 2 (b .profile),
+      leBytes-length 4 (b .«initial_window»),
+    ))
 
 pub opened-size : (b : OpenedBody) → length (b .«endpoint_nonce») ≤ 16 → length (openedBytes b) ≤ mostData
 unfolding openedBytes acceptBytes
-opened-size b n = simp length-append (omega (arith, beBytes-length 8 (b .«circuit_id»), leBytes-length 4 (b .«accepted_window»)))
+opened-size b n =
+    simp length-append (omega (arith, beBytes-length 8 (b .«circuit_id»), leBytes-length 4 (b .«accepted_window»)))

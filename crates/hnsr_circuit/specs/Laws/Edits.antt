@@ -1,5 +1,5 @@
--- Laws of `edit`, the change of the one record that a lookup finds: it is one store at the place found, it is `put` of the changed record,
--- and where at most one record has p, clearing that one is clearing all.
+-- Laws of `edit`, the change of the one record that a lookup finds: it is one store at the place found, it is `put` of
+-- the changed record, and where at most one record has p, clearing that one is clearing all.
 use Prim.Native.Nat.{ℕ, suc, _+_, _≤_}
 use native.Mathlib.Omega.{arith}
 use mathlib.Core.Path.{_≡_, refl, sym, ap, _∙_}
@@ -21,7 +21,10 @@ module _ {A : Type 0} (p : A → Bool) (g : A → A) where
 
   pub edit-none : (t : List A) → any p t ≡ false → edit p g t ≡ t
   edit-none [] h = refl
-  edit-none (x ∷ xs) h = split (p x) (λ e. absurd (true≢false (rw e at h))) (λ e. rw e (ap {B = List A} (λ l. x ∷ l) (edit-none xs (rw e at h))))
+  edit-none (x ∷ xs) h =
+      split (p x)
+      (λ e. absurd (true≢false (rw e at h)))
+      (λ e. rw e (ap {B = List A} (λ l. x ∷ l) (edit-none xs (rw e at h))))
 
   -- what is found, changed and put back: so the laws of `put` where its lookup finds are those of `edit`
   pub edit-put : (used : A → Bool) (d : A) (t : List A) → any p t ≡ true → edit p g t ≡ put used p (g (pick p d t)) t
@@ -32,24 +35,29 @@ module _ {A : Type 0} (p : A → Bool) (g : A → A) where
   length-edit (x ∷ xs) = split (p x) (λ e. rw e) (λ e. rw e (ap suc (length-edit xs)))
 
   -- what was found goes out of the sum, what it became comes in
-  pub edit-total : (f : A → ℕ) (d : A) (t : List A) → any p t ≡ true → total f (edit p g t) + f (pick p d t) ≡ total f t + f (g (pick p d t))
+  pub edit-total : (f : A → ℕ) (d : A) (t : List A) → any p t ≡ true
+      → total f (edit p g t) + f (pick p d t) ≡ total f t + f (g (pick p d t))
   edit-total f d t h =
-      rw (edit-set d t, ← (pick-at p d t)) (total-set f t (placeOf p t) (g (getD t (placeOf p t) d)) d (place-found p t h))
+      rw (edit-set d t, ← (pick-at p d t))
+      (total-set f t (placeOf p t) (g (getD t (placeOf p t) d)) d (place-found p t h))
 
   -- a lookup of p finds the changed record, if it still has p; a lookup of q that neither record has finds as before
   pub edit-same : (d : A) (t : List A) → any p t ≡ true → p (g (pick p d t)) ≡ true
       → (any p (edit p g t) ≡ true) × (pick p d (edit p g t) ≡ g (pick p d t))
   edit-same d t h k = rw (edit-put p d t h) (put-old-same p g p (g (pick p d t)) t h d k)
 
-  pub edit-other : (q : A → Bool) (d : A) (t : List A) → any p t ≡ true → q (g (pick p d t)) ≡ false → q (pick p d t) ≡ false
+  pub edit-other : (q : A → Bool) (d : A) (t : List A) → any p t ≡ true → q (g (pick p d t)) ≡ false
+      → q (pick p d t) ≡ false
       → (any q (edit p g t) ≡ any q t) × (pick q d (edit p g t) ≡ pick q d t)
   edit-other q d t h k l = rw (edit-put p d t h) (put-old-other p g p (g (pick p d t)) t h q d k l)
 
 -- at most one has p: clearing it is clearing all that have it
-pub edit-clear : {A : Type 0} (p : A → Bool) (unmark : A → A) (t : List A) → count p t ≤ 1 → edit p unmark t ≡ clear unmark p t
+pub edit-clear : {A : Type 0} (p : A → Bool) (unmark : A → A) (t : List A) → count p t ≤ 1
+    → edit p unmark t ≡ clear unmark p t
 edit-clear p unmark [] h = refl
 edit-clear {A} p unmark (x ∷ xs) h = split (p x)
-    (λ e. let k = rw e at h in rw e (ap {B = List A} (λ l. unmark x ∷ l) (sym (none p unmark xs (count-none p xs (omega arith))))))
+    (λ e. let k = rw e at h in
+    rw e (ap {B = List A} (λ l. unmark x ∷ l) (sym (none p unmark xs (count-none p xs (omega arith))))))
     (λ e. let k = rw e at h in rw e (ap {B = List A} (λ l. x ∷ l) (edit-clear p unmark xs (omega arith))))
   where
     none : {A : Type 0} (p : A → Bool) (unmark : A → A) (t : List A) → any p t ≡ false → clear unmark p t ≡ t

@@ -24,18 +24,22 @@ use Rattle.hnsr_circuit.specs.Open.{incomingMessage, openBooked, openGra
 use Rattle.hnsr_circuit.specs.Accept.{openedMessage, acceptWith, handleAccept}
 use Rattle.hnsr_circuit.specs.Data.{dataMessage, dataTaken, dataWith, handleData}
 use Rattle.hnsr_circuit.specs.Window.{windowTaken, windowWith, handleWindow}
-use Rattle.hnsr_circuit.specs.Close.{detailAnswer, translated, closeTaken, closePending, closeCircuit, handleClose}
+use Rattle.hnsr_circuit.specs.Close.{detailAnswer, translated, closeTaken}
+use Rattle.hnsr_circuit.specs.Close.{closePending, closeCircuit, handleClose}
 use Rattle.hnsr_circuit.specs.Handle.{Handling, OPEN, ACCEPT, DATA, WINDOW, CLOSE, ERROR, other, dispatch}
-use Rattle.hnsr_circuit.specs.Laws.BodySizes.{data-size, window-size, detail-size, open-ticket, open-nonce, accept-nonce, incoming-size, opened-size}
+use Rattle.hnsr_circuit.specs.Laws.BodySizes.{data-size, window-size, detail-size, open-ticket}
+use Rattle.hnsr_circuit.specs.Laws.BodySizes.{open-nonce, accept-nonce, incoming-size, opened-size}
 use Rattle.hnsr_circuit.specs.Laws.Room.{filled, filled-one}
 
 -- ---- ways to make an outcome
-pub proceed-fits : (w : World) (a : HnsrAnswer) (o : Outcome) (n : ℕ) → (a ≡ Taken → filled (o .routes) ≤ n) → filled (proceed w a o .routes) ≤ n
+pub proceed-fits : (w : World) (a : HnsrAnswer) (o : Outcome) (n : ℕ) → (a ≡ Taken → filled (o .routes) ≤ n)
+    → filled (proceed w a o .routes) ≤ n
 unfolding proceed outWords
 proceed-fits w Taken o n h = h refl
 proceed-fits w (Refused e) o n h = omega arith
 
-pub cond-fits : (b : Bool) (x y : Outcome) (n : ℕ) → filled (x .routes) ≤ n → filled (y .routes) ≤ n → filled (cond b x y .routes) ≤ n
+pub cond-fits : (b : Bool) (x y : Outcome) (n : ℕ) → filled (x .routes) ≤ n → filled (y .routes) ≤ n
+    → filled (cond b x y .routes) ≤ n
 cond-fits true x y n s t = s
 cond-fits false x y n s t = t
 
@@ -43,9 +47,11 @@ pub none-fits : (w : World) (n : ℕ) → filled (done w [] .routes) ≤ n
 unfolding outWords
 none-fits w n = omega arith
 
-pub send-fits : (w : World) (m : Message) (k : ℕ) → length (m .body) ≤ k → filled (send w m .routes) ≤ headWords + wordCount k
+pub send-fits : (w : World) (m : Message) (k : ℕ) → length (m .body) ≤ k
+    → filled (send w m .routes) ≤ headWords + wordCount k
 unfolding send
-send-fits w m k h = proceed-fits w (canQueue m w) _ (headWords + wordCount k) (λ e. omega (arith, filled-one (routed m w)))
+send-fits w m k h =
+    proceed-fits w (canQueue m w) _ (headWords + wordCount k) (λ e. omega (arith, filled-one (routed m w)))
 
 -- ---- handle
 open-fits : (w : World) (q : Packet) → filled (handleOpen w q .routes) ≤ handleWords
@@ -76,7 +82,9 @@ translated-body : (q : Packet) (p : RelayPending) → translated q p .body ≡ q
 unfolding translated
 translated-body q p = by (samePeer (p .requester) (sender q))
   where
-    by : (b : Bool) → (cond b (message (p .endpoint) (p .«circuit_id») (q .opcode) (p .«circuit_id») (q .body) Close) (message (p .requester) (p .«circuit_id») (q .opcode) (p .«requester_context») (q .body) Close)) .body ≡ q .body
+    by : (b : Bool)
+        → (cond b (message (p .endpoint) (p .«circuit_id») (q .opcode) (p .«circuit_id») (q .body) Close)
+        (message (p .requester) (p .«circuit_id») (q .opcode) (p .«requester_context») (q .body) Close)) .body ≡ q .body
     by true = refl
     by false = refl
 
@@ -85,9 +93,11 @@ unfolding handleClose closeTaken closePending closeCircuit
 close-fits w q =
     proceed-fits _ _ _ _
     (λ a. let s = detail-fits q (then-taken _ _ a .0) in
-    cond-fits (any (namedBy (sender q) (q .context)) (w .pending)) (closePending w q (pick (namedBy (sender q) (q .context)) noPending (w .pending)))
+    cond-fits (any (namedBy (sender q) (q .context)) (w .pending))
+    (closePending w q (pick (namedBy (sender q) (q .context)) noPending (w .pending)))
     (closeCircuit w q (namedCircuit w q)) handleWords
-    (send-fits _ _ mostData (omega (arith, s, ap length (translated-body q (pick (namedBy (sender q) (q .context)) noPending (w .pending))))))
+    (send-fits _ _ mostData
+    (omega (arith, s, ap length (translated-body q (pick (namedBy (sender q) (q .context)) noPending (w .pending))))))
     (send-fits _ _ mostData s))
 
 pub dispatch-fits : (h : Handling) (w : World) (q : Packet) → filled (dispatch h w q .routes) ≤ handleWords

@@ -1,5 +1,5 @@
--- Laws of the four tables as they are seen: an unused record is its own clearing, what no unmarked record has, turns that do nothing at them, the
--- end of the scan of the actions, and what is handed back with the numbers that came in.
+-- Laws of the four tables as they are seen: an unused record is its own clearing, what no unmarked record has, turns
+-- that do nothing at them, the end of the scan of the actions, and what is handed back with the numbers that came in.
 use Prim.Native.Nat.{ℕ, suc, _+_, _≤_, _<_, min}
 use native.Mathlib.Nat.{add-zero}
 use native.Mathlib.Omega.{arith}
@@ -37,14 +37,18 @@ use Rattle.hnsr_circuit.specs.declared.answer.HnsrRuntimeError.{HnsrRunt
 use Rattle.hnsr_circuit.specs.Answers.{check}
 use Rattle.hnsr_circuit.specs.Entry.{tooFew}
 use Rattle.hnsr_circuit.specs.Table.{any}
-use Rattle.hnsr_circuit.specs.Pending.{isPending, pendingOf, pendingUnder, pendingOver, pendingMarked, clearPending}
-use Rattle.hnsr_circuit.specs.Circuits.{isCircuit, circuitOf, circuitUnder, circuitOver, queuedIn, circuitMarked, clearCircuit}
+use Rattle.hnsr_circuit.specs.Pending.{isPending, pendingOf, pendingUnder}
+use Rattle.hnsr_circuit.specs.Pending.{pendingOver, pendingMarked, clearPending}
+use Rattle.hnsr_circuit.specs.Circuits.{isCircuit, circuitOf, circuitUnder, circuitOver}
+use Rattle.hnsr_circuit.specs.Circuits.{queuedIn, circuitMarked, clearCircuit}
 use Rattle.hnsr_circuit.specs.Ledger.{isUsage, usageAt, usageMarked, clearUsage}
 use Rattle.hnsr_circuit.specs.Inflight.{isAction, actionAt, actionMarked, clearAction}
 use Rattle.hnsr_circuit.specs.Code.Question.{pendingHas, circuitHas}
-use Rattle.hnsr_circuit.specs.Code.Turns.{actionsScanned, firstPlace, scanned, pendingWorked, circuitWorked, totalled, usageScanned, scanSpared, ledgerSpared}
+use Rattle.hnsr_circuit.specs.Code.Turns.{actionsScanned, firstPlace, scanned, pendingWorked}
+use Rattle.hnsr_circuit.specs.Code.Turns.{circuitWorked, totalled, usageScanned, scanSpared, ledgerSpared}
 use Rattle.hnsr_circuit.specs.Code.Progress.{scanPlace, handedBack, underway}
-use Rattle.hnsr_circuit.specs.Code.Held.{held, heldPending, heldCircuits, heldLedger, heldActions, handedSeen, underwaySeen}
+use Rattle.hnsr_circuit.specs.Code.Held.{held, heldPending, heldCircuits, heldLedger}
+use Rattle.hnsr_circuit.specs.Code.Held.{heldActions, handedSeen, underwaySeen}
 use Rattle.hnsr_circuit.specs.Laws.Held.{length-held, rest-held, place-below, place-upto}
 use Rattle.hnsr_circuit.specs.Laws.Turns.{scan-unused}
 
@@ -101,16 +105,25 @@ unfolding dueTurn isCircuit
 circuit-due-idle d c i = refl
 
 -- a sum that has not gone past its top
-totals-idle : (t : CircuitTotals) (c : RelayCircuit) (i : ℕ) → t .«queued_bytes» ≤ top 64 → totalled t (clearCircuit c) i ≡ t
+totals-idle : (t : CircuitTotals) (c : RelayCircuit) (i : ℕ) → t .«queued_bytes» ≤ top 64
+    → totalled t (clearCircuit c) i ≡ t
 unfolding isCircuit queuedIn
-totals-idle t c i l = λ j. record { used = add-zero (t .used) j; «queued_bytes» = (let k : min (t .«queued_bytes» + 0) (top 64) ≡ t .«queued_bytes» = omega arith in k) j }
+totals-idle t c i l =
+    λ j. record {
+      used = add-zero (t .used) j;
+      «queued_bytes» = (let k : min (t .«queued_bytes» + 0) (top 64) ≡ t .«queued_bytes» = omega arith in k) j;
+    }
 
-totals-unmarked : (t : List RelayCircuit) (i : ℕ) (b : CircuitTotals) → b .«queued_bytes» ≤ top 64 → foldFrom totalled (map clearCircuit t) i b ≡ b
+totals-unmarked : (t : List RelayCircuit) (i : ℕ) (b : CircuitTotals) → b .«queued_bytes» ≤ top 64
+    → foldFrom totalled (map clearCircuit t) i b ≡ b
 unfolding foldFrom
 totals-unmarked [] i b l = refl
-totals-unmarked (x ∷ xs) i b l = ap (λ (c : CircuitTotals). foldFrom totalled (map clearCircuit xs) (suc i) c) (totals-idle b x i l) ∙ totals-unmarked xs (suc i) b l
+totals-unmarked (x ∷ xs) i b l =
+    ap (λ (c : CircuitTotals). foldFrom totalled (map clearCircuit xs) (suc i) c) (totals-idle b x i l)
+    ∙ totals-unmarked xs (suc i) b l
 
-pub totals-rest : (n : ℕ) (t : List RelayCircuit) (i : ℕ) (b r : CircuitTotals) → b .«queued_bytes» ≤ top 64 → (i < n → length t ≤ i)
+pub totals-rest : (n : ℕ) (t : List RelayCircuit) (i : ℕ) (b r : CircuitTotals) → b .«queued_bytes» ≤ top 64
+    → (i < n → length t ≤ i)
     → foldFrom totalled (drop i (held clearCircuit n t)) i b ≡ r → b ≡ r
 totals-rest n t i b r m l h = sym (totals-unmarked (drop i t) i b m) ∙ (rw (rest-held clearCircuit n t i l) at h)
 
@@ -135,7 +148,13 @@ stays s place b e = λ j. record {
     same false = refl
 
 abbrev spared : ActionScan → (place : ℕ) → ActionScan
-spared s place = record { tally = s .tally; found = s .found; place = s .place; spare = true; «spare_place» = firstPlace (s .spare) true place (s .«spare_place») }
+spared s place = record {
+  tally = s .tally;
+  found = s .found;
+  place = s .place;
+  spare = true;
+  «spare_place» = firstPlace (s .spare) true place (s .«spare_place»);
+}
 
 takes : (s : ActionScan) (place : ℕ) (b : Bool) → b ≡ true → spared s place ≡ record {
   tally = s .tally;
@@ -153,11 +172,13 @@ takes s place b e = λ j. record {
 }
 
 module _ (q : ActionQuestion) where
-  scan-unmarked : (t : List InflightAction) (i : ℕ) (s : ActionScan) (e : ℕ) → e ≡ i + length t → foldFrom (scanned q) (map clearAction t) i s ≡ scanSpared s i e
+  scan-unmarked : (t : List InflightAction) (i : ℕ) (s : ActionScan) (e : ℕ) → e ≡ i + length t
+      → foldFrom (scanned q) (map clearAction t) i s ≡ scanSpared s i e
   unfolding foldFrom
   scan-unmarked [] i s e h = stays s i (ltb i e) (le-ltb i e (omega arith))
   scan-unmarked (x ∷ xs) i s e h =
-      ap (λ (u : ActionScan). foldFrom (scanned q) (map clearAction xs) (suc i) u) (sym (scan-unused q s (clearAction x) i refl (firstPlace (s .spare) true i (s .«spare_place»)) refl))
+      ap (λ (u : ActionScan). foldFrom (scanned q) (map clearAction xs) (suc i) u)
+      (sym (scan-unused q s (clearAction x) i refl (firstPlace (s .spare) true i (s .«spare_place»)) refl))
       ∙ scan-unmarked xs (suc i) (spared s i) e (omega arith)
       ∙ takes s i (ltb i e) (lt-ltb i e (omega arith))
 
@@ -168,10 +189,15 @@ module _ (q : ActionQuestion) where
       ∙ (rw (rest-held clearAction n t i l) at h)
 
   -- where an action goes: at the number at most
-  pub scan-upto : (n : Places) (t : List InflightAction) (s : ActionScan) → s ≡ actionsScanned q (heldActions n t) → scanPlace s < length t → scanPlace s ≤ n .actions
+  pub scan-upto : (n : Places) (t : List InflightAction) (s : ActionScan) → s ≡ actionsScanned q (heldActions n t)
+      → scanPlace s < length t → scanPlace s ≤ n .actions
   unfolding actionsScanned actionAt isAction
-  scan-upto n t s e = rw e (split (any (actionAt (q .generation) (q .sequence)) (heldActions n t))
-      (λ f. rw f (λ l. let z = place-below clearAction (actionAt (q .generation) (q .sequence)) (λ a. not-at a) (n .actions) t l in omega arith))
+  scan-upto n t s e =
+      rw e
+      (split (any (actionAt (q .generation) (q .sequence)) (heldActions n t))
+      (λ f. rw f
+      (λ l. let z = place-below clearAction (actionAt (q .generation) (q .sequence)) (λ a. not-at a) (n .actions) t l in
+      omega arith))
       (λ f. rw f (λ l. place-upto clearAction (non isAction) (λ a. not-is a) (n .actions) t)))
     where
       not-at : (a : InflightAction) → actionAt (q .generation) (q .sequence) (clearAction a) ≡ false
@@ -186,9 +212,19 @@ kept true x = refl
 kept false x = refl
 
 -- by what is known of the test
-ledger-by : (r : LedgerScan) (place : ℕ) (spare : Bool) (at : ℕ) (b : Bool) → spare ≡ (r .spare || b) → at ≡ firstPlace (r .spare) b place (r .«spare_place»)
+ledger-by : (r : LedgerScan) (place : ℕ) (spare : Bool) (at : ℕ) (b : Bool) → spare ≡ (r .spare || b)
+    → at ≡ firstPlace (r .spare) b place (r .«spare_place»)
     → (places : ℕ) → b ≡ ltb place places
-    → record { found = r .found; place = r .place; usage = r .usage; used = r .used; spare = spare; «spare_place» = at; places = r .places } ≡ ledgerSpared r place places
+    → record {
+      found = r .found;
+      place = r .place;
+      usage = r .usage;
+      used = r .used;
+      spare = spare;
+      «spare_place» = at;
+      places = r .places;
+    }
+    ≡ ledgerSpared r place places
 ledger-by r place spare at b es ep places e = λ j. record {
   found = r .found;
   place = r .place;
@@ -223,35 +259,52 @@ module _ (id : ReservationId) where
     places = r .places;
   }
 
-  ledger-unmarked : (t : List ReservationUsage) (i : ℕ) (r : LedgerScan) (e : ℕ) → e ≡ i + length t → foldFrom (usageScanned id) (map clearUsage t) i r ≡ ledgerSpared r i e
+  ledger-unmarked : (t : List ReservationUsage) (i : ℕ) (r : LedgerScan) (e : ℕ) → e ≡ i + length t
+      → foldFrom (usageScanned id) (map clearUsage t) i r ≡ ledgerSpared r i e
   unfolding foldFrom
   ledger-unmarked [] i r e h =
-      ledger-by r i (r .spare) (r .«spare_place») false (sym (or-false (r .spare))) (sym (kept (r .spare) (r .«spare_place»))) e (sym (le-ltb i e (omega arith)))
+      ledger-by r i (r .spare) (r .«spare_place») false (sym (or-false (r .spare)))
+      (sym (kept (r .spare) (r .«spare_place»))) e (sym (le-ltb i e (omega arith)))
   ledger-unmarked (x ∷ xs) i r e h =
       ap (λ (s : LedgerScan). foldFrom (usageScanned id) (map clearUsage xs) (suc i) s) (ledger-skips r x i)
       ∙ ledger-unmarked xs (suc i) (ledgerTaken r i) e (omega arith)
-      ∙ ledger-by r i true (firstPlace (r .spare) true i (r .«spare_place»)) true (sym (or-true (r .spare))) refl e (sym (lt-ltb i e (omega arith)))
+      ∙ ledger-by r i true (firstPlace (r .spare) true i (r .«spare_place»)) true (sym (or-true (r .spare))) refl e
+      (sym (lt-ltb i e (omega arith)))
 
-  pub ledger-rest : (n : ℕ) (t : List ReservationUsage) (i : ℕ) (s r : LedgerScan) → (i < n → length t ≤ i) → i ≤ length t
+  pub ledger-rest : (n : ℕ) (t : List ReservationUsage) (i : ℕ) (s r : LedgerScan) → (i < n → length t ≤ i)
+      → i ≤ length t
       → foldFrom (usageScanned id) (drop i (held clearUsage n t)) i s ≡ r → ledgerSpared s i (length t) ≡ r
   ledger-rest n t i s r l m h =
       sym (ledger-unmarked (drop i t) i s (length t) (let k = length-drop i t in omega arith))
       ∙ (rw (rest-held clearUsage n t i l) at h)
 
 -- ---- what is handed back with the numbers that came in
-pub places-kept : (r : Relayed) (p : List RelayPending) (c : List RelayCircuit) (l : List ReservationUsage) (t : List InflightAction) (out : List ℕ) (n : Places)
-    → r .places ≡ n → handedSeen r p c l t out ≡ handedBack r (heldPending n p) (heldCircuits n c) (heldLedger n l) (heldActions n t) out
-places-kept r p c l t out n e = ap (λ (m : Places). handedBack r (heldPending m p) (heldCircuits m c) (heldLedger m l) (heldActions m t) out) e
+pub places-kept : (r : Relayed) (p : List RelayPending) (c : List RelayCircuit) (l : List ReservationUsage)
+    (t : List InflightAction) (out : List ℕ) (n : Places)
+    → r .places ≡ n
+    → handedSeen r p c l t out
+    ≡ handedBack r (heldPending n p) (heldCircuits n c) (heldLedger n l) (heldActions n t) out
+places-kept r p c l t out n e =
+    ap (λ (m : Places). handedBack r (heldPending m p) (heldCircuits m c) (heldLedger m l) (heldActions m t) out) e
 
-pub sending-kept : (s : Sending) (p : List RelayPending) (c : List RelayCircuit) (l : List ReservationUsage) (t : List InflightAction) (out : List ℕ) (n : Places)
-    → s .places ≡ n → underwaySeen s p c l t out ≡ underway s (heldPending n p) (heldCircuits n c) (heldLedger n l) (heldActions n t) out
-sending-kept s p c l t out n e = ap (λ (m : Places). underway s (heldPending m p) (heldCircuits m c) (heldLedger m l) (heldActions m t) out) e
+pub sending-kept : (s : Sending) (p : List RelayPending) (c : List RelayCircuit) (l : List ReservationUsage)
+    (t : List InflightAction) (out : List ℕ) (n : Places)
+    → s .places ≡ n
+    → underwaySeen s p c l t out
+    ≡ underway s (heldPending n p) (heldCircuits n c) (heldLedger n l) (heldActions n t) out
+sending-kept s p c l t out n e =
+    ap (λ (m : Places). underway s (heldPending m p) (heldCircuits m c) (heldLedger m l) (heldActions m t) out) e
 
 -- ---- tables are as long as they are seen
-pub few-held : (k : OpaqueRelayConfig) (n : Places) (p : List RelayPending) (c : List RelayCircuit) (t : List InflightAction)
-    → tooFew k (length p) (length c) (length t) ≡ tooFew k (length (heldPending n p)) (length (heldCircuits n c)) (length (heldActions n t))
-few-held k n p c t = sym (λ j. tooFew k (length-held clearPending (n .pending) p j) (length-held clearCircuit (n .circuits) c j) (length-held clearAction (n .actions) t j))
+pub few-held : (k : OpaqueRelayConfig) (n : Places) (p : List RelayPending) (c : List RelayCircuit)
+    (t : List InflightAction)
+    → tooFew k (length p) (length c) (length t)
+    ≡ tooFew k (length (heldPending n p)) (length (heldCircuits n c)) (length (heldActions n t))
+few-held k n p c t =
+    sym (λ j. tooFew k (length-held clearPending (n .pending) p j) (length-held clearCircuit (n .circuits) c j)
+    (length-held clearAction (n .actions) t j))
 
-pub entry-held : (b : Bool) (e : HnsrRuntimeError) (k : OpaqueRelayConfig) (x y : ℕ) (n : Places) (t : List InflightAction)
+pub entry-held : (b : Bool) (e : HnsrRuntimeError) (k : OpaqueRelayConfig) (x y : ℕ) (n : Places)
+    (t : List InflightAction)
     → check (b || tooFew k x y (length t)) e ≡ check (b || tooFew k x y (length (heldActions n t))) e
 entry-held b e k x y n t = ap (λ (m : ℕ). check (b || tooFew k x y m) e) (sym (length-held clearAction (n .actions) t))

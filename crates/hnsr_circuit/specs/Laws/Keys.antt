@@ -1,5 +1,5 @@
--- The tables by key, as Keyed wants them: a lookup by id of the machine is `keyed` there, so its laws hold of pending records, circuits and
--- ledger. `Agree` is what a proof about runs has a record agree with.
+-- The tables by key, as Keyed wants them: a lookup by id of the machine is `keyed` there, so its laws hold of pending
+-- records, circuits and ledger. `Agree` is what a proof about runs has a record agree with.
 use Prim.Native.Nat.{ℕ}
 use mathlib.Core.Path.{_≡_, refl, ap, _∙_}
 use mathlib.Core.Bool.{Bool, true}
@@ -75,14 +75,17 @@ module _ {K : Type 0} where
   }
 
   -- ---- the machine's lookups are theirs
-  pub pending-keyed : (Agree : RelayPending → K → Type 0) (id : ℕ) (p : RelayPending) → keyed (pendingKeys Agree) id p ≡ pendingAt id p
+  pub pending-keyed : (Agree : RelayPending → K → Type 0) (id : ℕ) (p : RelayPending)
+      → keyed (pendingKeys Agree) id p ≡ pendingAt id p
   unfolding isPending pendingAt pendingKeys
   pending-keyed Agree id p = refl
 
-  pub circuit-keyed : (Agree : RelayCircuit → K → Type 0) (id : ℕ) (c : RelayCircuit) → keyed (circuitKeys Agree) id c ≡ circuitAt id c
+  pub circuit-keyed : (Agree : RelayCircuit → K → Type 0) (id : ℕ) (c : RelayCircuit)
+      → keyed (circuitKeys Agree) id c ≡ circuitAt id c
   unfolding isCircuit circuitAt circuitKeys
   circuit-keyed Agree id c = refl
 
-  pub ledger-keyed : (Agree : ReservationUsage → K → Type 0) (id : ReservationId) (u : ReservationUsage) → keyed (ledgerKeys Agree) id u ≡ usageAt id u
+  pub ledger-keyed : (Agree : ReservationUsage → K → Type 0) (id : ReservationId) (u : ReservationUsage)
+      → keyed (ledgerKeys Agree) id u ≡ usageAt id u
   unfolding isUsage usageAt ledgerKeys
   ledger-keyed Agree id u = refl

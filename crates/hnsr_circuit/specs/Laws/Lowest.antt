@@ -14,7 +14,8 @@ module _ {A : Type 0} where
   abbrev pub keyIs : (A → ℕ) → ℕ → A → Bool
   keyIs k n a = eqb (k a) n
 
-  pub lowest-found : (p : A → Bool) (k : A → ℕ) (t : List A) → any p t ≡ true → any (also (keyIs k (lowest p k t)) p) t ≡ true
+  pub lowest-found : (p : A → Bool) (k : A → ℕ) (t : List A) → any p t ≡ true
+      → any (also (keyIs k (lowest p k t)) p) t ≡ true
   lowest-found p k [] h = absurd (false≢true h)
   lowest-found p k (x ∷ xs) h = split (p x)
       (λ e. split (any p xs)
@@ -28,15 +29,23 @@ module _ {A : Type 0} where
   below : (A → Bool) → (A → ℕ) → ℕ → A → Bool
   below p k b a = p a && ltb (k a) b
 
-  lowest-under : (p : A → Bool) (k : A → ℕ) (t : List A) (b : ℕ) → (any p t ≡ true → b ≤ lowest p k t) → count (below p k b) t ≡ 0
+  lowest-under : (p : A → Bool) (k : A → ℕ) (t : List A) (b : ℕ) → (any p t ≡ true → b ≤ lowest p k t)
+      → count (below p k b) t ≡ 0
   unfolding below
   lowest-under p k [] b h = refl
   lowest-under p k (x ∷ xs) b h = split (p x)
       (λ e. split (any p xs)
       (λ n. split (leb (k x) (lowest p k xs))
-      (λ l. let v = rw (e, n, l) at h in let m = v refl in rw (e, le-ltb (k x) b m) (omega (arith, lowest-under p k xs b (λ y. omega (arith, leb-true (k x) (lowest p k xs) l)))))
-      (λ l. let v = rw (e, n, l) at h in let m = v refl in rw (e, le-ltb (k x) b (omega (arith, leb-false (k x) (lowest p k xs) l))) (omega (arith, lowest-under p k xs b (λ y. m)))))
-      (λ n. let v = rw (e, n) at h in let m = v refl in rw (e, le-ltb (k x) b m) (omega (arith, lowest-under p k xs b (λ y. clash y n)))))
+      (λ l. let v = rw (e, n, l) at h in
+      let m = v refl in
+      rw (e, le-ltb (k x) b m)
+      (omega (arith, lowest-under p k xs b (λ y. omega (arith, leb-true (k x) (lowest p k xs) l)))))
+      (λ l. let v = rw (e, n, l) at h in
+      let m = v refl in
+      rw (e, le-ltb (k x) b (omega (arith, leb-false (k x) (lowest p k xs) l)))
+      (omega (arith, lowest-under p k xs b (λ y. m)))))
+      (λ n. let v = rw (e, n) at h in
+      let m = v refl in rw (e, le-ltb (k x) b m) (omega (arith, lowest-under p k xs b (λ y. clash y n)))))
       (λ e. let v = rw e at h in rw e (omega (arith, lowest-under p k xs b v)))
 
   pub lowest-least : (p : A → Bool) (k : A → ℕ) (t : List A) → count (λ a. p a && ltb (k a) (lowest p k t)) t ≡ 0

@@ -1,4 +1,5 @@
--- Names compared byte by byte, as a loop does: up to a place the names are the same, and what is left of them says the rest.
+-- Names compared byte by byte, as a loop does: up to a place the names are the same, and what is left of them says the
+-- rest.
 use Prim.Native.Nat.{ℕ, _+_, _≤_, _<_}
 use native.Mathlib.Numerals.{add-one}
 use native.Mathlib.Omega.{arith}
@@ -15,7 +16,8 @@ use Rattle.hnsr_circuit.specs.Peer.{maximumPeer, peerLength, peerBytes, 
 use Rattle.hnsr_circuit.specs.Laws.Peer.{same-names}
 
 bytes-step : (xs ys : List ℕ) (i : ℕ) → i < length xs → i < length ys
-    → sameBytes (drop i xs) (drop i ys) ≡ (eqb (getD xs i 0) (getD ys i 0) && sameBytes (drop (i + 1) xs) (drop (i + 1) ys))
+    → sameBytes (drop i xs) (drop i ys)
+    ≡ (eqb (getD xs i 0) (getD ys i 0) && sameBytes (drop (i + 1) xs) (drop (i + 1) ys))
 unfolding sameBytes
 bytes-step xs ys i k l = rw (add-one, drop-cons xs i 0 k, drop-cons ys i 0 l)
 
@@ -43,8 +45,11 @@ module _ (p q : HnsrPeerId) (hp : length (p .bytes) ≡ maximumPeer) (hq : lengt
       (λ e. absurd (d (sym (name-length p hp) ∙ ap length (same-names p q e) ∙ name-length q hq)))
       (λ e. sym e)
 
-  module _ (n i : ℕ) (r : Bool) (ep : n ≡ peerLength p) (eq : n ≡ peerLength q) (h : sameBytes (drop i (peerBytes p)) (drop i (peerBytes q)) ≡ r) where
-    at-place : i < n → (eqb (getD (p .bytes) i 0) (getD (q .bytes) i 0) && sameBytes (drop (i + 1) (peerBytes p)) (drop (i + 1) (peerBytes q))) ≡ r
+  module _ (n i : ℕ) (r : Bool) (ep : n ≡ peerLength p) (eq : n ≡ peerLength q)
+      (h : sameBytes (drop i (peerBytes p)) (drop i (peerBytes q)) ≡ r) where
+    at-place : i < n
+        → (eqb (getD (p .bytes) i 0) (getD (q .bytes) i 0)
+        && sameBytes (drop (i + 1) (peerBytes p)) (drop (i + 1) (peerBytes q))) ≡ r
     at-place l =
         let a = name-length p hp in
         let b = name-length q hq in
@@ -71,7 +76,8 @@ byte-differs p q n k ep eq t =
     let s = both (ltb k n) (not (eqb (getD (p .bytes) k 0) (getD (q .bytes) k 0))) t in
     let l = ltb-true k n (s .0) in
     split (samePeer p q)
-    (λ e.
-    let at = sym (name-at p k (omega arith)) ∙ ap (λ (name : List ℕ). getD name k 0) (same-names p q e) ∙ name-at q k (omega arith) in
+    (λ e. let at = sym (name-at p k (omega arith))
+    ∙ ap (λ (name : List ℕ). getD name k 0) (same-names p q e)
+    ∙ name-at q k (omega arith) in
     clash (s .1) (rw (eq-eqb (getD (p .bytes) k 0) (getD (q .bytes) k 0) at)))
     (λ e. e)

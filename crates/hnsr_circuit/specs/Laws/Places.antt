@@ -1,4 +1,5 @@
--- No call moves the number of places of a table, whatever the world: each change is a `put`, an `edit`, a `set` or a `clear`.
+-- No call moves the number of places of a table, whatever the world: each change is a `put`, an `edit`, a `set` or a
+-- `clear`.
 use Prim.Native.Nat.{ℕ, zero, suc}
 use mathlib.Core.Path.{_≡_, refl, _∙_}
 use mathlib.Core.Bool.{Bool, true, false}
@@ -22,7 +23,9 @@ use Rattle.hnsr_circuit.specs.Inflight.{dropped}
 use Rattle.hnsr_circuit.specs.World.{World, withRuntime, withPending, withCircuits, withLedger, withInflight}
 use Rattle.hnsr_circuit.specs.Queue.{Message, queued, canQueue, Sent, when, tellIf, tell}
 use Rattle.hnsr_circuit.specs.RevokingCalls.{disconnectPending}
-use Rattle.hnsr_circuit.specs.Revocation.{withoutActions, pendingTable, circuitTable, withoutPending, endPending, endCircuit, endPendingThere, endCircuitThere, revokePending, revokeCircuitThere, revokeCircuit, walkFrom, walk, revokeAll}
+use Rattle.hnsr_circuit.specs.Revocation.{withoutActions, pendingTable, circuitTable, withoutPending, endPending}
+use Rattle.hnsr_circuit.specs.Revocation.{endCircuit, endPendingThere, endCircuitThere, revokePending}
+use Rattle.hnsr_circuit.specs.Revocation.{revokeCircuitThere, revokeCircuit, walkFrom, walk, revokeAll}
 
 -- w has as many places of each table as v
 pub record AsMany (v w : World) : Type 0 where
@@ -48,16 +51,20 @@ module _ {v w : World} (s : AsMany v w) where
   runtime-kept h = record { pending = s .pending; circuits = s .circuits; ledger = s .ledger; inflight = s .inflight }
 
   pub pending-kept : (t : List RelayPending) → length t ≡ length (w .pending) → AsMany v (withPending w t)
-  pending-kept t e = record { pending = e ∙ s .pending; circuits = s .circuits; ledger = s .ledger; inflight = s .inflight }
+  pending-kept t e =
+      record { pending = e ∙ s .pending; circuits = s .circuits; ledger = s .ledger; inflight = s .inflight }
 
   pub circuits-kept : (t : List RelayCircuit) → length t ≡ length (w .circuits) → AsMany v (withCircuits w t)
-  circuits-kept t e = record { pending = s .pending; circuits = e ∙ s .circuits; ledger = s .ledger; inflight = s .inflight }
+  circuits-kept t e =
+      record { pending = s .pending; circuits = e ∙ s .circuits; ledger = s .ledger; inflight = s .inflight }
 
   pub ledger-kept : (t : List ReservationUsage) → length t ≡ length (w .ledger) → AsMany v (withLedger w t)
-  ledger-kept t e = record { pending = s .pending; circuits = s .circuits; ledger = e ∙ s .ledger; inflight = s .inflight }
+  ledger-kept t e =
+      record { pending = s .pending; circuits = s .circuits; ledger = e ∙ s .ledger; inflight = s .inflight }
 
   pub inflight-kept : (t : List InflightAction) → length t ≡ length (w .inflight) → AsMany v (withInflight w t)
-  inflight-kept t e = record { pending = s .pending; circuits = s .circuits; ledger = s .ledger; inflight = e ∙ s .inflight }
+  inflight-kept t e =
+      record { pending = s .pending; circuits = s .circuits; ledger = s .ledger; inflight = e ∙ s .inflight }
 
 -- ---- the changes: `put` is one store, `clear` a map
 pub length-dropped : (p : InflightAction → Bool) (t : List InflightAction) → length (dropped p t) ≡ length t
@@ -68,7 +75,8 @@ pub without-actions-kept : {v : World} (w : World) (id : ℕ) → AsMany v w →
 unfolding withoutActions
 without-actions-kept w id s = inflight-kept s _ (length-dropped _ _)
 
-pub without-pending-kept : {v : World} (w : World) (p : RelayPending → Bool) → AsMany v w → AsMany v (withoutPending w p)
+pub without-pending-kept : {v : World} (w : World) (p : RelayPending → Bool) → AsMany v w
+    → AsMany v (withoutPending w p)
 unfolding withoutPending
 without-pending-kept w p s = pending-kept s _ (length-edit p clearPending (w .pending))
 
@@ -79,15 +87,18 @@ end-pending-kept w p id = runtime-kept (without-actions-kept _ id (without-pendi
 pub end-circuit-kept : (w : World) (id : ℕ) → AsMany w (endCircuit w id)
 unfolding endCircuit
 end-circuit-kept w id =
-    runtime-kept (without-actions-kept _ id (circuits-kept (as-many w) _ (length-edit (circuitAt id) clearCircuit (w .circuits)))) _
+    runtime-kept
+    (without-actions-kept _ id (circuits-kept (as-many w) _ (length-edit (circuitAt id) clearCircuit (w .circuits)))) _
 
 pub end-pending-there-kept : (w : World) (place : ℕ) → AsMany w (endPendingThere w place)
 unfolding endPendingThere
-end-pending-there-kept w place = runtime-kept (without-actions-kept _ _ (pending-kept (as-many w) _ (simp length-set))) _
+end-pending-there-kept w place =
+    runtime-kept (without-actions-kept _ _ (pending-kept (as-many w) _ (simp length-set))) _
 
 pub end-circuit-there-kept : (w : World) (place : ℕ) → AsMany w (endCircuitThere w place)
 unfolding endCircuitThere
-end-circuit-there-kept w place = runtime-kept (without-actions-kept _ _ (circuits-kept (as-many w) _ (simp length-set))) _
+end-circuit-there-kept w place =
+    runtime-kept (without-actions-kept _ _ (circuits-kept (as-many w) _ (simp length-set))) _
 
 -- ---- queueing, telling, walking
 pub queued-kept : (m : Message) (w : World) → AsMany w (queued m w)
@@ -103,7 +114,8 @@ pub tell-kept : (m : Message) (w : World) → AsMany w (tell m w .world)
 unfolding tell
 tell-kept m w = tell-if-kept (canQueue m w) m w
 
-pub when-kept : (v : World) (b : Bool) (part : World → Sent) (w : World) → AsMany v w → AsMany v (part w .world) → AsMany v (when b part w .world)
+pub when-kept : (v : World) (b : Bool) (part : World → Sent) (w : World) → AsMany v w → AsMany v (part w .world)
+    → AsMany v (when b part w .world)
 unfolding when
 when-kept v true part w s t = t
 when-kept v false part w s t = s
@@ -112,7 +124,8 @@ pub revoke-pending-kept : (n : Notice) (w : World) (place : ℕ) → AsMany w (r
 unfolding revokePending
 revoke-pending-kept n w place = onward (onward (end-pending-there-kept w place) (tell-kept _ _)) (tell-kept _ _)
 
-pub disconnect-pending-kept : (peer : HnsrPeerId) (w : World) (place : ℕ) → AsMany w (disconnectPending peer w place .world)
+pub disconnect-pending-kept : (peer : HnsrPeerId) (w : World) (place : ℕ)
+    → AsMany w (disconnectPending peer w place .world)
 unfolding disconnectPending
 disconnect-pending-kept peer w place = onward (end-pending-there-kept w place) (tell-kept _ _)
 
@@ -124,7 +137,8 @@ pub revoke-circuit-kept : (n : Notice) (w : World) (id : ℕ) → AsMany w (revo
 unfolding revokeCircuit
 revoke-circuit-kept n w id = when-kept w _ _ w (as-many w) (revoke-there-kept n w _)
 
-module _ {A : Type 0} (idOf : A → ℕ) (table : World → List A) (p : A → Bool) (end : World → ℕ → Sent) (kept : (w : World) (place : ℕ) → AsMany w (end w place .world)) where
+module _ {A : Type 0} (idOf : A → ℕ) (table : World → List A) (p : A → Bool) (end : World → ℕ → Sent)
+    (kept : (w : World) (place : ℕ) → AsMany w (end w place .world)) where
   walk-from-kept : (turns : ℕ) (c : Walked) (w : World) → AsMany w (walkFrom idOf table p end turns c w .world)
   unfolding walkFrom
   walk-from-kept zero c w = as-many w
@@ -134,8 +148,10 @@ module _ {A : Type 0} (idOf : A → ℕ) (table : World → List A) (p : A → B
   unfolding walk
   walk-kept w = walk-from-kept (length (table w)) notYet w
 
-pub revoke-all-kept : (endP : World → ℕ → Sent) (p : RelayPending → Bool) (endC : World → ℕ → Sent) (c : RelayCircuit → Bool) (v w : World)
-    → ((w : World) (place : ℕ) → AsMany w (endP w place .world)) → ((w : World) (place : ℕ) → AsMany w (endC w place .world)) → AsMany v w
+pub revoke-all-kept : (endP : World → ℕ → Sent) (p : RelayPending → Bool) (endC : World → ℕ → Sent)
+    (c : RelayCircuit → Bool) (v w : World)
+    → ((w : World) (place : ℕ) → AsMany w (endP w place .world))
+    → ((w : World) (place : ℕ) → AsMany w (endC w place .world)) → AsMany v w
     → AsMany v (revokeAll endP p endC c w .world)
 unfolding revokeAll
 revoke-all-kept endP p endC c v w kp kc s =

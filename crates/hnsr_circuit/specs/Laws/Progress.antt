@@ -1,4 +1,5 @@
--- A call goes on where its last part left it; and where its routes fit, the output is the routes' words and then the old tail.
+-- A call goes on where its last part left it; and where its routes fit, the output is the routes' words and then the
+-- old tail.
 use Prim.Native.Nat.{ℕ, _+_, _≤_}
 use native.Mathlib.Omega.{arith}
 use native.Mathlib.Nat.{zero-add}
@@ -22,20 +23,29 @@ unfolding filledTo
 filled-append at [] ss = refl
 filled-append at (r ∷ rs) ss = filled-append (saturatingAdd 64 at (length (routeWords r))) rs ss
 
-placed-append : (out : List ℕ) (at : ℕ) (rs ss : List Route) → placed out at (rs ++ ss) ≡ placed (placed out at rs) (filledTo at rs) ss
+placed-append : (out : List ℕ) (at : ℕ) (rs ss : List Route)
+    → placed out at (rs ++ ss) ≡ placed (placed out at rs) (filledTo at rs) ss
 unfolding filledTo placed
 placed-append out at [] ss = refl
-placed-append out at (r ∷ rs) ss = placed-append (written out at (routeWords r)) (saturatingAdd 64 at (length (routeWords r))) rs ss
+placed-append out at (r ∷ rs) ss =
+    placed-append (written out at (routeWords r)) (saturatingAdd 64 at (length (routeWords r))) rs ss
 
 pub advance-then : (s : Progress) (r : Sent) (g : World → Sent) → advanced s (andThen r g) ≡ advance g (advanced s r)
 advance-then s r g =
-    rw (filled-append (s .position) (r .routes) (g (r .world) .routes), placed-append (s .output) (s .position) (r .routes) (g (r .world) .routes))
+    rw (
+      filled-append (s .position) (r .routes) (g (r .world) .routes),
+      placed-append (s .output) (s .position) (r .routes) (g (r .world) .routes),
+    )
 
 -- ---- where all fit
 placed-fits : (out : List ℕ) (at : ℕ) (rs : List Route) → at + length (outWords rs) ≤ length out → length out ≤ top 64
     → (filledTo at rs ≡ at + length (outWords rs)) × (placed out at rs ≡ writtenAt out at (outWords rs))
 unfolding filledTo placed outWords
-placed-fits out at [] h k = (omega arith, rw (append-nil (take at out)) (sym (take-append-drop at out) ∙ ap (λ (n : ℕ). take at out ++ drop n out) {x = at} {y = at + 0} (omega arith)))
+placed-fits out at [] h k = (
+  omega arith,
+  rw (append-nil (take at out))
+      (sym (take-append-drop at out) ∙ ap (λ (n : ℕ). take at out ++ drop n out) {x = at} {y = at + 0} (omega arith)),
+)
 placed-fits out at (r ∷ rs) h k =
     let ws = routeWords r in
     let long = length-append ws (outWords rs) in
@@ -45,9 +55,14 @@ placed-fits out at (r ∷ rs) h k =
     let same = written-length out at ws (omega arith) in
     let rest = placed-fits (writtenAt out at ws) (at + length ws) rs (omega arith) (omega arith) in (
       ap (λ (n : ℕ). filledTo n rs) next ∙ rest .0 ∙ omega arith,
-      ap₂ (λ (o : List ℕ) (n : ℕ). placed o n rs) one next ∙ rest .1 ∙ written-behind out at ws (outWords rs) (at + length ws) (omega arith) refl,
+      ap₂ (λ (o : List ℕ) (n : ℕ). placed o n rs) one next
+          ∙ rest .1
+          ∙ written-behind out at ws (outWords rs) (at + length ws) (omega arith) refl,
     )
 
-pub fits : (out : List ℕ) (o : Outcome) → length (outWords (o .routes)) ≤ length out → length out ≤ top 64 → ending out o ≡ outcome out o
+pub fits : (out : List ℕ) (o : Outcome) → length (outWords (o .routes)) ≤ length out → length out ≤ top 64
+    → ending out o ≡ outcome out o
 unfolding output
-fits out o h k = let all = placed-fits out 0 (o .routes) (omega arith) k in rw (all .0, all .1, zero-add (length (outWords (o .routes))))
+fits out o h k =
+    let all = placed-fits out 0 (o .routes) (omega arith) k in
+    rw (all .0, all .1, zero-add (length (outWords (o .routes))))

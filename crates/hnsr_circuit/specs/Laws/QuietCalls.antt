@@ -32,61 +32,89 @@ use Rattle.hnsr_circuit.specs.Laws.Queueing.{taken-is}
 
 -- ---- what is told
 pub tells-status : (few : Bool) (s : HnsrRuntimeStatus) (w : World)
-    → record { answer = check few Short; status = cond few noStatus s } ≡ statusTold (proceed w (check few Short) (telling w (statusIs s)))
+    → record { answer = check few Short; status = cond few noStatus s }
+    ≡ statusTold (proceed w (check few Short) (telling w (statusIs s)))
 unfolding proceed
 tells-status true s w = refl
 tells-status false s w = refl
 
 pub tells-due : (few : Bool) (d : NextDue) (w : World)
-    → record { answer = check few Short; due = cond few Never d } ≡ dueTold (proceed w (check few Short) (telling w (dueIs d)))
+    → record { answer = check few Short; due = cond few Never d }
+    ≡ dueTold (proceed w (check few Short) (telling w (dueIs d)))
 unfolding proceed
 tells-due true d w = refl
 tells-due false d w = refl
 
 -- ---- the clock observed
-module _ (p : List RelayPending) (c : List RelayCircuit) (l : List ReservationUsage) (i : List InflightAction) (out : List ℕ) (h : OpaqueRelayRuntime) (time : ℕ) where
+module _ (p : List RelayPending) (c : List RelayCircuit) (l : List ReservationUsage) (i : List InflightAction)
+    (out : List ℕ) (h : OpaqueRelayRuntime) (time : ℕ) where
   moved : (a : HnsrAnswer) → taken a ≡ true
-      → result (worldOf (withClock h time) p c l i) a 0 out ≡ outcome out (proceed (worldOf h p c l i) a (done (atTime (worldOf h p c l i) time) []))
+      → result (worldOf (withClock h time) p c l i) a 0 out
+      ≡ outcome out (proceed (worldOf h p c l i) a (done (atTime (worldOf h p c l i) time) []))
   unfolding proceed outWords output
   moved Taken t = refl
   moved (Refused e) t = absurd (false≢true t)
 
   stays : (a : HnsrAnswer) → taken a ≡ false
-      → result (worldOf h p c l i) a 0 out ≡ outcome out (proceed (worldOf h p c l i) a (done (atTime (worldOf h p c l i) time) []))
+      → result (worldOf h p c l i) a 0 out
+      ≡ outcome out (proceed (worldOf h p c l i) a (done (atTime (worldOf h p c l i) time) []))
   unfolding proceed outWords output
   stays Taken f = absurd (true≢false f)
   stays (Refused e) f = refl
 
-  pub observed : (r : Relayed) (a b : HnsrAnswer) → taken a ≡ true → a ≡ b → (r .runtime ≡ withClock h time) × (r .answer ≡ a) × (r .words ≡ 0)
-      → handedBack r p c l i out ≡ outcome out (proceed (worldOf h p c l i) b (done (atTime (worldOf h p c l i) time) []))
+  pub observed : (r : Relayed) (a b : HnsrAnswer) → taken a ≡ true → a ≡ b
+      → (r .runtime ≡ withClock h time) × (r .answer ≡ a) × (r .words ≡ 0)
+      → handedBack r p c l i out
+      ≡ outcome out (proceed (worldOf h p c l i) b (done (atTime (worldOf h p c l i) time) []))
   observed r a b t e f =
       (λ x. result (worldOf (f .0 x) p c l i) (f .1 x) (f .2 x) out) ∙ moved a t
-      ∙ ap (λ (z : HnsrAnswer). outcome out (proceed (worldOf h p c l i) z (done (atTime (worldOf h p c l i) time) []))) e
+      ∙ ap (λ (z : HnsrAnswer). outcome out (proceed (worldOf h p c l i) z (done (atTime (worldOf h p c l i) time) [])))
+      e
 
-  pub unobserved : (r : Relayed) (a b : HnsrAnswer) → taken a ≡ false → a ≡ b → (r .runtime ≡ h) × (r .answer ≡ a) × (r .words ≡ 0)
-      → handedBack r p c l i out ≡ outcome out (proceed (worldOf h p c l i) b (done (atTime (worldOf h p c l i) time) []))
+  pub unobserved : (r : Relayed) (a b : HnsrAnswer) → taken a ≡ false → a ≡ b
+      → (r .runtime ≡ h) × (r .answer ≡ a) × (r .words ≡ 0)
+      → handedBack r p c l i out
+      ≡ outcome out (proceed (worldOf h p c l i) b (done (atTime (worldOf h p c l i) time) []))
   unobserved r a b t e f =
       (λ x. result (worldOf (f .0 x) p c l i) (f .1 x) (f .2 x) out) ∙ stays a t
-      ∙ ap (λ (z : HnsrAnswer). outcome out (proceed (worldOf h p c l i) z (done (atTime (worldOf h p c l i) time) []))) e
+      ∙ ap (λ (z : HnsrAnswer). outcome out (proceed (worldOf h p c l i) z (done (atTime (worldOf h p c l i) time) [])))
+      e
 
 -- ---- new
-module _ (h n : OpaqueRelayRuntime) (p p′ : List RelayPending) (c c′ : List RelayCircuit) (l l′ : List ReservationUsage) (i i′ : List InflightAction) (r : Relayed)
-    (a b : HnsrAnswer) (e : a ≡ b) where
-  pub empties : (r .runtime ≡ n) × (r .answer ≡ a) × (r .words ≡ 0) → r .places ≡ noPlace → p′ ≡ clear clearPending isPending p → c′ ≡ clear clearCircuit isCircuit c
+module _ (h n : OpaqueRelayRuntime) (p p′ : List RelayPending) (c c′ : List RelayCircuit) (l l′ : List ReservationUsage)
+    (i i′ : List InflightAction) (r : Relayed) (a b : HnsrAnswer) (e : a ≡ b) where
+  pub empties : (r .runtime ≡ n) × (r .answer ≡ a) × (r .words ≡ 0) → r .places ≡ noPlace
+      → p′ ≡ clear clearPending isPending p → c′ ≡ clear clearCircuit isCircuit c
       → l′ ≡ clear clearUsage isUsage l → i′ ≡ clear clearAction isAction i → taken a ≡ true
       → Made r p′ c′ l′ i′ (proceed (worldOf h p c l i) b (done (emptied (worldOf h p c l i) n) []))
   unfolding proceed emptied dropped
   empties f k ep ec el ei t =
       let is = taken-is a t in
-      subst (λ (z : HnsrAnswer). Made r p′ c′ l′ i′ (proceed (worldOf h p c l i) z (done (emptied (worldOf h p c l i) n) []))) (sym is ∙ e)
-      (record { answer = f .1 ∙ is; tables = λ x. worldOf n (ep x) (ec x) (el x) (ei x); runtime = f .0; places = k; words = f .2 })
+      subst
+      (λ (z : HnsrAnswer). Made r p′ c′ l′ i′ (proceed (worldOf h p c l i) z (done (emptied (worldOf h p c l i) n) [])))
+      (sym is ∙ e)
+      (record {
+        answer = f .1 ∙ is;
+        tables = λ x. worldOf n (ep x) (ec x) (el x) (ei x);
+        runtime = f .0;
+        places = k;
+        words = f .2;
+      })
 
-  module _ (f : (r .runtime ≡ noRuntime) × (r .answer ≡ a) × (r .words ≡ 0)) (k : r .places ≡ everyPlace) (ep : p′ ≡ p) (ec : c′ ≡ c) (el : l′ ≡ l) (ei : i′ ≡ i) where
+  module _ (f : (r .runtime ≡ noRuntime) × (r .answer ≡ a) × (r .words ≡ 0)) (k : r .places ≡ everyPlace) (ep : p′ ≡ p)
+      (ec : c′ ≡ c) (el : l′ ≡ l) (ei : i′ ≡ i) where
     keeps : (z : HnsrAnswer) → r .answer ≡ z → taken z ≡ false
         → Made r p′ c′ l′ i′ (proceed (worldOf h p c l i) z (done (emptied (worldOf h p c l i) n) []))
     unfolding proceed
     keeps Taken ea t = absurd (true≢false t)
-    keeps (Refused x) ea t = record { answer = ea; tables = λ y. worldOf h (ep y) (ec y) (el y) (ei y); runtime = f .0; places = k; words = f .2 }
+    keeps (Refused x) ea t = record {
+      answer = ea;
+      tables = λ y. worldOf h (ep y) (ec y) (el y) (ei y);
+      runtime = f .0;
+      places = k;
+      words = f .2;
+    }
 
-    pub refuses-new : taken a ≡ false → Made r p′ c′ l′ i′ (proceed (worldOf h p c l i) b (done (emptied (worldOf h p c l i) n) []))
+    pub refuses-new : taken a ≡ false
+        → Made r p′ c′ l′ i′ (proceed (worldOf h p c l i) b (done (emptied (worldOf h p c l i) n) []))
     refuses-new t = keeps b (f .1 ∙ e) (ap taken (sym e) ∙ t)

@@ -1,4 +1,5 @@
--- "Output is untouched by every refusal" (document 01, "Where a call is turned away"): whatever the world, a call that is refused has no route.
+-- "Output is untouched by every refusal" (document 01, "Where a call is turned away"): whatever the world, a call that
+-- is refused has no route.
 -- An outcome is silent where this holds of it; every way to make one keeps it.
 use Prim.Native.Nat.{ℕ}
 use mathlib.Core.Path.{_≡_, refl}
@@ -21,14 +22,19 @@ use Rattle.hnsr_circuit.specs.Accept.{acceptWith, handleAccept}
 use Rattle.hnsr_circuit.specs.Data.{dataWith, handleData}
 use Rattle.hnsr_circuit.specs.Window.{windowWith, handleWindow}
 use Rattle.hnsr_circuit.specs.Close.{closePending, closeCircuit, handleClose}
-use Rattle.hnsr_circuit.specs.Handle.{Handling, OPEN, ACCEPT, DATA, WINDOW, CLOSE, ERROR, other, dispatch, handleGate, handle}
-use Rattle.hnsr_circuit.specs.Acknowledge.{failPending, failIncoming, undelivered, settled, acknowledgeAction, acknowledge}
+use Rattle.hnsr_circuit.specs.Handle.{Handling, OPEN, ACCEPT, DATA, WINDOW, CLOSE}
+use Rattle.hnsr_circuit.specs.Handle.{ERROR, other, dispatch, handleGate, handle}
+use Rattle.hnsr_circuit.specs.Acknowledge.{failPending, failIncoming, undelivered}
+use Rattle.hnsr_circuit.specs.Acknowledge.{settled, acknowledgeAction, acknowledge}
 use Rattle.hnsr_circuit.specs.Revocation.{hasPending, pendingIn, revokeAll}
-use Rattle.hnsr_circuit.specs.RevokingCalls.{changes, disconnectPeer, disconnect, revokeUnder, revokeReservation, expireAt, expire, switchTo, replaceEnabled}
+use Rattle.hnsr_circuit.specs.RevokingCalls.{changes, disconnectPeer, disconnect, revokeUnder}
+use Rattle.hnsr_circuit.specs.RevokingCalls.{revokeReservation, expireAt, expire, switchTo, replaceEnabled}
 use Rattle.hnsr_circuit.specs.New.{newRelay, observeTime}
 use Rattle.hnsr_circuit.specs.Status.{status}
 use Rattle.hnsr_circuit.specs.NextDue.{nextDue}
-use Rattle.hnsr_circuit.specs.Call.{Start, start, Call, callStatus, callNextDue, callObserveTime, callReplaceEnabled, callHandle, callAcknowledge, callDisconnect, callRevokeReservation, callExpire, step}
+use Rattle.hnsr_circuit.specs.Call.{Start, start, Call, callStatus, callNextDue, callObserveTime}
+use Rattle.hnsr_circuit.specs.Call.{callReplaceEnabled, callHandle, callAcknowledge}
+use Rattle.hnsr_circuit.specs.Call.{callDisconnect, callRevokeReservation, callExpire, step}
 
 pub record Silent (o : Outcome) : Type 0 where
   pub none : (e : HnsrRuntimeError) → o .answer ≡ Refused e → o .routes ≡ []
@@ -65,7 +71,8 @@ silent-close : (w : World) (q : Packet) → Silent (handleClose w q)
 unfolding handleClose closePending closeCircuit
 silent-close w q =
     silent-proceed _ _ _
-    (silent-cond (any (namedBy (sender q) (q .context)) (w .pending)) (closePending w q (pick (namedBy (sender q) (q .context)) noPending (w .pending)))
+    (silent-cond (any (namedBy (sender q) (q .context)) (w .pending))
+    (closePending w q (pick (namedBy (sender q) (q .context)) noPending (w .pending)))
     (closeCircuit w q (namedCircuit w q)) (silent-send _ _) (silent-send _ _))
 
 silent-dispatch : (h : Handling) (w : World) (q : Packet) → Silent (dispatch h w q)
@@ -81,7 +88,8 @@ silent-dispatch other w q = silent-refuse _ _
 -- ---- acknowledge
 silent-undelivered : (k : InflightKind) (w : World) (id : ℕ) → Silent (undelivered k w id)
 unfolding undelivered failIncoming failPending
-silent-undelivered Incoming w id = silent-cond (hasPending w id) (failPending w id (pendingIn w id)) (done w []) (silent-send _ _) (silent-done _ _)
+silent-undelivered Incoming w id =
+    silent-cond (hasPending w id) (failPending w id (pendingIn w id)) (done w []) (silent-send _ _) (silent-done _ _)
 silent-undelivered Opened w id = silent-done _ _
 silent-undelivered Data w id = silent-done _ _
 silent-undelivered Control w id = silent-done _ _
@@ -103,11 +111,14 @@ unfolding start newRelay
 start-silent w s = silent-proceed _ _ _ (silent-done _ _)
 
 pub step-silent : (w : World) (c : Call) → Silent (step w c)
-unfolding step status nextDue observeTime replaceEnabled handle handleGate acknowledge acknowledgeAction disconnect disconnectPeer revokeReservation revokeUnder expire expireAt revokeAll
+unfolding step status nextDue observeTime replaceEnabled handle handleGate acknowledge acknowledgeAction disconnect
+    disconnectPeer revokeReservation revokeUnder expire expireAt revokeAll
 step-silent w callStatus = silent-proceed _ _ _ (silent-telling _ _)
 step-silent w callNextDue = silent-proceed _ _ _ (silent-telling _ _)
 step-silent w (callObserveTime now) = silent-proceed _ _ _ (silent-done _ _)
-step-silent w (callReplaceEnabled expected enabled room) = silent-proceed _ _ _ (silent-cond (changes w enabled) (switchTo w enabled) (done w []) (silent-switch _ _) (silent-done _ _))
+step-silent w (callReplaceEnabled expected enabled room) =
+    silent-proceed _ _ _
+    (silent-cond (changes w enabled) (switchTo w enabled) (done w []) (silent-switch _ _) (silent-done _ _))
 step-silent w (callHandle packet room) = silent-proceed _ _ _ (silent-proceed _ _ _ (silent-dispatch _ _ _))
 step-silent w (callAcknowledge generation sequence delivered room) = silent-proceed _ _ _ (silent-settled _ _ _)
 step-silent w (callDisconnect peer room) = silent-proceed _ _ _ (silent-done _ _)
@@ -115,6 +126,7 @@ step-silent w (callRevokeReservation id room) = silent-proceed _ _ _ (silent-don
 step-silent w (callExpire now room) = silent-proceed _ _ _ (silent-done _ _)
 
 -- so the lent output is as it was
-pub refusal-leaves-output : (w : World) (c : Call) (e : HnsrRuntimeError) (old : List ℕ) → step w c .answer ≡ Refused e → output old (step w c .routes) ≡ old
+pub refusal-leaves-output : (w : World) (c : Call) (e : HnsrRuntimeError) (old : List ℕ) → step w c .answer ≡ Refused e
+    → output old (step w c .routes) ≡ old
 unfolding output outWords
 refusal-leaves-output w c e old h = rw (step-silent w c .none e h)

@@ -23,13 +23,15 @@ use Rattle.hnsr_circuit.specs.World.{Outcome, done, worldOf}
 use Rattle.hnsr_circuit.specs.Entry.{roomAnswer, revokingWords, peerAnswer, clockAnswer}
 use Rattle.hnsr_circuit.specs.Code.Question.{pendingHas, circuitHas, actionHas}
 use Rattle.hnsr_circuit.specs.Code.Progress.{filledTo, placed, result, handedBack, ending}
-use Rattle.hnsr_circuit.specs.RevokingCalls.{disconnect, disconnectPeer, revokeReservation, revokeUnder, expire, expireAt, changeAnswer, switchTo, replaceEnabled}
+use Rattle.hnsr_circuit.specs.RevokingCalls.{disconnect, disconnectPeer, revokeReservation, revokeUnder}
+use Rattle.hnsr_circuit.specs.RevokingCalls.{expire, expireAt, changeAnswer, switchTo, replaceEnabled}
 use Rattle.hnsr_circuit.specs.Code.Revoking.{endingPending, revokingAll, disconnectingAll, revokes}
 use Rattle.hnsr_circuit.specs.declared.runtime.Relayed.{Relayed}
 use Rattle.hnsr_circuit.specs.declared.answer.HnsrAnswer.the-variants.{Taken}
 use Rattle.hnsr_circuit.specs.declared.answer.HnsrRuntimeError.the-variants.{GenerationExhausted}
 use Rattle.hnsr_body.specs.declared.values.ReservationId.{ReservationId}
-use Rattle.hnsr_body.specs.declared.messages.Notice.the-variants.{ReservationRevoked, AcceptanceExpired, TicketExpired, RelayDisabled}
+use Rattle.hnsr_body.specs.declared.messages.Notice.the-variants.{ReservationRevoked, AcceptanceExpired}
+use Rattle.hnsr_body.specs.declared.messages.Notice.the-variants.{TicketExpired, RelayDisabled}
 use Rattle.hns_encoding.specs.Numbers.{top}
 use Rattle.hns_encoding.specs.Laws.Tests.{on-true, on-false}
 use lib.Dec.{eqb}
@@ -41,9 +43,12 @@ use Rattle.hnsr_circuit.specs.Laws.Answers.{check-taken, then-taken}
 use Rattle.hnsr_circuit.specs.Laws.Queueing.{taken-is}
 use Rattle.hnsr_circuit.specs.Laws.Calls.{gone-on}
 
-module _ (h : OpaqueRelayRuntime) (p : List RelayPending) (c : List RelayCircuit) (l : List ReservationUsage) (i : List InflightAction) where
-  pub disconnected : (peer : List ℕ) (room : ℕ) (a : HnsrAnswer) (name : HnsrPeerId) (v : Revoking) (i′ : List InflightAction)
-      → taken a ≡ true → a ≡ (roomAnswer (worldOf h p c l i) room (revokingWords (worldOf h p c l i)) then peerAnswer (length peer))
+module _ (h : OpaqueRelayRuntime) (p : List RelayPending) (c : List RelayCircuit) (l : List ReservationUsage)
+    (i : List InflightAction) where
+  pub disconnected : (peer : List ℕ) (room : ℕ) (a : HnsrAnswer) (name : HnsrPeerId) (v : Revoking)
+      (i′ : List InflightAction)
+      → taken a ≡ true
+      → a ≡ (roomAnswer (worldOf h p c l i) room (revokingWords (worldOf h p c l i)) then peerAnswer (length peer))
       → name ≡ peerOf peer → v ≡ disconnectingAll name → i′ ≡ clear clearAction (actionHas Toward name) i
       → revokingAll v (worldOf h p c l i′) ≡ disconnect (worldOf h p c l i) peer room
   unfolding disconnect disconnectPeer endingPending pendingHas circuitHas actionHas dropped
@@ -64,7 +69,9 @@ module _ (h : OpaqueRelayRuntime) (p : List RelayPending) (c : List RelayCircuit
       ∙ sym (gone-on (worldOf h p c l i) a _ (revokeUnder (worldOf h p c l i) id) t ea)
 
   pub expired : (time room : ℕ) (a : HnsrAnswer) (v : Revoking) (h′ : OpaqueRelayRuntime) (l′ : List ReservationUsage)
-      → taken a ≡ true → a ≡ (roomAnswer (worldOf h p c l i) room (revokingWords (worldOf h p c l i)) then clockAnswer (h .«trusted_time_high_water») time)
+      → taken a ≡ true
+      → a ≡ (roomAnswer (worldOf h p c l i) room (revokingWords (worldOf h p c l i))
+      then clockAnswer (h .«trusted_time_high_water») time)
       → v ≡ revokes (Over time) AcceptanceExpired TicketExpired → h′ ≡ withClock h time → l′ ≡ lapsed time l
       → revokingAll v (worldOf h′ p c l′ i) ≡ expire (worldOf h p c l i) time room
   unfolding expire expireAt endingPending pendingHas circuitHas
@@ -79,28 +86,34 @@ module _ (h : OpaqueRelayRuntime) (p : List RelayPending) (c : List RelayCircuit
     unfolding actionHas dropped
     drops = ei
 
-    pub switched-on : (r : Relayed) (out : List ℕ) → on ≡ true → (r .runtime ≡ h′) × (r .answer ≡ Taken) × (r .words ≡ 0)
+    pub switched-on : (r : Relayed) (out : List ℕ) → on ≡ true
+        → (r .runtime ≡ h′) × (r .answer ≡ Taken) × (r .words ≡ 0)
         → handedBack r p c l i′ out ≡ ending out (switchTo (worldOf h p c l i) on)
     unfolding switchTo filledTo placed
     switched-on r out t e =
         let runtime = e .0 ∙ eh ∙ ap (withEnabled h) t in
-        (λ x. result (worldOf (runtime x) p c l (drops x)) (e .1 x) (e .2 x) out) ∙ ap (λ (b : Bool). ending out (switchTo (worldOf h p c l i) b)) (sym t)
+        (λ x. result (worldOf (runtime x) p c l (drops x)) (e .1 x) (e .2 x) out)
+        ∙ ap (λ (b : Bool). ending out (switchTo (worldOf h p c l i) b)) (sym t)
 
     pub switched-off : (v : Revoking) → on ≡ false → v ≡ revokes Used RelayDisabled RelayDisabled
         → revokingAll v (worldOf h′ p c l i′) ≡ switchTo (worldOf h p c l i) on
     unfolding switchTo endingPending pendingHas circuitHas
     switched-off v f ev =
         let runtime = eh ∙ ap (withEnabled h) f in
-        (λ x. revokingAll (ev x) (worldOf (runtime x) p c l (drops x))) ∙ ap (λ (b : Bool). switchTo (worldOf h p c l i) b) (sym f)
+        (λ x. revokingAll (ev x) (worldOf (runtime x) p c l (drops x)))
+        ∙ ap (λ (b : Bool). switchTo (worldOf h p c l i) b) (sym f)
 
   module _ (expected room : ℕ) (on : Bool) (a : HnsrAnswer)
-      (ea : a ≡ (roomAnswer (worldOf h p c l i) room (revokingWords (worldOf h p c l i)) then generationAnswer (h .generation) expected then changeAnswer (h .generation) (not (Bool·beq (h .enabled) on)))) where
+      (ea : a ≡ (roomAnswer (worldOf h p c l i) room (revokingWords (worldOf h p c l i))
+      then generationAnswer (h .generation) expected
+      then changeAnswer (h .generation) (not (Bool·beq (h .enabled) on)))) where
     pub changed-state : taken a ≡ true → not (Bool·beq (h .enabled) on) ≡ true
         → switchTo (worldOf h p c l i) on ≡ replaceEnabled (worldOf h p c l i) expected on room
     unfolding replaceEnabled
     changed-state t e =
         sym (on-true _ (switchTo (worldOf h p c l i) on) (done (worldOf h p c l i) []) e)
-        ∙ sym (gone-on (worldOf h p c l i) a _ (cond (not (Bool·beq (h .enabled) on)) (switchTo (worldOf h p c l i) on) (done (worldOf h p c l i) [])) t ea)
+        ∙ sym (gone-on (worldOf h p c l i) a _
+        (cond (not (Bool·beq (h .enabled) on)) (switchTo (worldOf h p c l i) on) (done (worldOf h p c l i) [])) t ea)
 
     pub same-state : (r : Relayed) (out : List ℕ) → taken a ≡ true → not (Bool·beq (h .enabled) on) ≡ false
         → (r .runtime ≡ h) × (r .answer ≡ Taken) × (r .words ≡ 0)
@@ -109,15 +122,19 @@ module _ (h : OpaqueRelayRuntime) (p : List RelayPending) (c : List RelayCircuit
     same-state r out t f e =
         let o = cond (not (Bool·beq (h .enabled) on)) (switchTo (worldOf h p c l i) on) (done (worldOf h p c l i) []) in
         (λ x. result (worldOf (e .0 x) p c l i) (e .1 x) (e .2 x) out)
-        ∙ ap (λ (z : Outcome). ending out z) (sym (on-false _ (switchTo (worldOf h p c l i) on) (done (worldOf h p c l i) []) f) ∙ sym (gone-on (worldOf h p c l i) a _ o t ea))
+        ∙ ap (λ (z : Outcome). ending out z)
+        (sym (on-false _ (switchTo (worldOf h p c l i) on) (done (worldOf h p c l i) []) f)
+        ∙ sym (gone-on (worldOf h p c l i) a _ o t ea))
 
     -- a state that changes has a generation to go to
-    pub below-top : h .generation ≤ top 64 → taken a ≡ true → not (Bool·beq (h .enabled) on) ≡ true → h .generation < top 64
+    pub below-top : h .generation ≤ top 64 → taken a ≡ true → not (Bool·beq (h .enabled) on) ≡ true
+        → h .generation < top 64
     unfolding changeAnswer
     below-top k t e =
         let b = not (Bool·beq (h .enabled) on) in
         let rest = generationAnswer (h .generation) expected then changeAnswer (h .generation) b in
-        let all = then-taken (roomAnswer (worldOf h p c l i) room (revokingWords (worldOf h p c l i))) rest (taken-is _ (ap taken (sym ea) ∙ t)) .1 in
+        let all = then-taken (roomAnswer (worldOf h p c l i) room (revokingWords (worldOf h p c l i))) rest
+        (taken-is _ (ap taken (sym ea) ∙ t)) .1 in
         let last = then-taken (generationAnswer (h .generation) expected) (changeAnswer (h .generation) b) all .1 in
         let no-top = check-taken (b && eqb (h .generation) (top 64)) GenerationExhausted last in
         let differs = eqb-false (h .generation) (top 64) (rw e at no-top) in

@@ -1,5 +1,6 @@
--- What a call writes fits the room that it was given (document 01, "Output words"): a refusal writes nothing, and a taken call has asked for
--- as many words as its routes can fill. Here the parts: a message, two closings, a walk that ends one used record at each turn.
+-- What a call writes fits the room that it was given (document 01, "Output words"): a refusal writes nothing, and a
+-- taken call has asked for as many words as its routes can fill. Here the parts: a message, two closings, a walk that
+-- ends one used record at each turn.
 --
 use Prim.Native.Nat.{ℕ, zero, suc, _+_, _*_, _≤_, _<_}
 use native.Mathlib.Omega.{arith}
@@ -38,32 +39,43 @@ unfolding outWords
 filled-one r = simp length-append (omega (arith, route-words r, length-words (r .body)))
 
 -- ---- messages
-tell-if-fits : (a : HnsrAnswer) (m : Message) (w : World) (k : ℕ) → length (m .body) ≤ k → filled (tellIf a m w .routes) ≤ headWords + wordCount k
+tell-if-fits : (a : HnsrAnswer) (m : Message) (w : World) (k : ℕ) → length (m .body) ≤ k
+    → filled (tellIf a m w .routes) ≤ headWords + wordCount k
 unfolding tellIf outWords
 tell-if-fits Taken m w k h = omega (arith, filled-one (routed m w))
 tell-if-fits (Refused e) m w k h = omega arith
 
-pub tell-fits : (m : Message) (w : World) (k : ℕ) → length (m .body) ≤ k → filled (tell m w .routes) ≤ headWords + wordCount k
+pub tell-fits : (m : Message) (w : World) (k : ℕ) → length (m .body) ≤ k
+    → filled (tell m w .routes) ≤ headWords + wordCount k
 unfolding tell
 tell-fits m w k h = tell-if-fits (canQueue m w) m w k h
 
 -- a notice, to one peer or to two
-pub notice-told : (m : Message) (n : Notice) (w : World) → m .body ≡ noticeBody n → filled (tell m w .routes) ≤ headWords + wordCount noticeSize
+pub notice-told : (m : Message) (n : Notice) (w : World) → m .body ≡ noticeBody n
+    → filled (tell m w .routes) ≤ headWords + wordCount noticeSize
 notice-told m n w e = tell-fits m w noticeSize (omega (arith, notice-fits n, ap length e))
 
 pub two-told : (m k : Message) (n : Notice) (w : World) → m .body ≡ noticeBody n → k .body ≡ noticeBody n
     → filled (andThen (tell m w) (tell k) .routes) ≤ closingWords
 two-told m k n w e f =
-    omega (arith, filled-append (tell m w .routes) (tell k (tell m w .world) .routes), notice-told m n w e, notice-told k n (tell m w .world) f)
+    omega (
+      arith,
+      filled-append (tell m w .routes) (tell k (tell m w .world) .routes),
+      notice-told m n w e,
+      notice-told k n (tell m w .world) f,
+    )
 
-pub when-fits : (b : Bool) (part : World → Sent) (w : World) (n : ℕ) → (b ≡ true → filled (part w .routes) ≤ n) → filled (when b part w .routes) ≤ n
+pub when-fits : (b : Bool) (part : World → Sent) (w : World) (n : ℕ) → (b ≡ true → filled (part w .routes) ≤ n)
+    → filled (when b part w .routes) ≤ n
 unfolding when outWords
 when-fits true part w n h = h refl
 when-fits false part w n h = omega arith
 
 -- ---- the one record that is cleared is counted no more
-pub one-fewer : {A : Type 0} (used : A → Bool) (unmark : A → A) (d : A) (t : List A) → ((a : A) → used (unmark a) ≡ false)
-    → (place : ℕ) → place < length t → used (getD t place d) ≡ true → count used (set t place (unmark (getD t place d))) + 1 ≡ count used t
+pub one-fewer : {A : Type 0} (used : A → Bool) (unmark : A → A) (d : A) (t : List A)
+    → ((a : A) → used (unmark a) ≡ false)
+    → (place : ℕ) → place < length t → used (getD t place d) ≡ true
+    → count used (set t place (unmark (getD t place d))) + 1 ≡ count used t
 one-fewer used unmark d t off place l h =
     let k = total-set (one used) t place (unmark (getD t place d)) d l in
     let u = ap (λ b. cond {A = ℕ} b 1 0) h in
@@ -71,25 +83,37 @@ one-fewer used unmark d t off place l h =
     omega arith
 
 -- ---- a walk: at most so many words for each used record that stood at its start
-module _ {A : Type 0} (idOf : A → ℕ) (table : World → List A) (p : A → Bool) (end : World → ℕ → Sent) (used : A → Bool) (d : A)
-    (marked : (a : A) → p a ≡ true → used a ≡ true)
+module _ {A : Type 0} (idOf : A → ℕ) (table : World → List A) (p : A → Bool) (end : World → ℕ → Sent) (used : A → Bool)
+    (d : A) (marked : (a : A) → p a ≡ true → used a ≡ true)
     (each : (w : World) (place : ℕ) → filled (end w place .routes) ≤ closingWords)
-    (fewer : (w : World) (place : ℕ) → place < length (table w) → used (getD (table w) place d) ≡ true → count used (table (end w place .world)) + 1 ≡ count used (table w)) where
-  walk-from-fits : (turns : ℕ) (c : Walked) (w : World) → filled (walkFrom idOf table p end turns c w .routes) ≤ closingWords * count used (table w)
+    (fewer : (w : World) (place : ℕ) → place < length (table w) → used (getD (table w) place d) ≡ true
+    → count used (table (end w place .world)) + 1 ≡ count used (table w)) where
+  walk-from-fits : (turns : ℕ) (c : Walked) (w : World)
+      → filled (walkFrom idOf table p end turns c w .routes) ≤ closingWords * count used (table w)
   unfolding walkFrom outWords
   walk-from-fits zero c w = omega arith
   walk-from-fits (suc turns) c w =
       when-fits _ _ w _
-      (λ e. turn (next-stands idOf p c (table w) d e) (walk-from-fits turns (next idOf p c (table w)) (end w (next idOf p c (table w) .place) .world)))
+      (λ e. turn (next-stands idOf p c (table w) d e)
+      (walk-from-fits turns (next idOf p c (table w)) (end w (next idOf p c (table w) .place) .world)))
     where
       turn : Stands idOf p c (table w) d (next idOf p c (table w))
-          → filled (walkFrom idOf table p end turns (next idOf p c (table w)) (end w (next idOf p c (table w) .place) .world) .routes)
+          → filled (walkFrom idOf table p end turns (next idOf p c (table w))
+          (end w (next idOf p c (table w) .place) .world) .routes)
           ≤ closingWords * count used (table (end w (next idOf p c (table w) .place) .world))
-          → filled (andThen (end w (next idOf p c (table w) .place)) (walkFrom idOf table p end turns (next idOf p c (table w))) .routes)
+          → filled (andThen (end w (next idOf p c (table w) .place))
+          (walkFrom idOf table p end turns (next idOf p c (table w))) .routes)
           ≤ closingWords * count used (table w)
       turn s r =
           let n = next idOf p c (table w) in
-          omega (arith, fewer w (n .place) (s .within) (marked (getD (table w) (n .place) d) (s .has)), each w (n .place), r, filled-append (end w (n .place) .routes) (walkFrom idOf table p end turns n (end w (n .place) .world) .routes))
+          omega (
+            arith,
+            fewer w (n .place) (s .within) (marked (getD (table w) (n .place) d) (s .has)),
+            each w (n .place),
+            r,
+            filled-append (end w (n .place) .routes)
+                (walkFrom idOf table p end turns n (end w (n .place) .world) .routes),
+          )
 
   pub walk-fits : (w : World) → filled (walk idOf table p end w .routes) ≤ closingWords * count used (table w)
   unfolding walk

@@ -1,5 +1,5 @@
--- How many words: a route is its head and its body's, the head is 40 for peers of 128 bytes, and what the calls ask for follows from that
--- (document 01, "Output words"). No notice of the relay's own is longer than was reckoned with.
+-- How many words: a route is its head and its body's, the head is 40 for peers of 128 bytes, and what the calls ask for
+-- follows from that (document 01, "Output words"). No notice of the relay's own is longer than was reckoned with.
 use Prim.Native.Nat.{ℕ, _+_, _-_, _≤_, _<_}
 use native.Mathlib.Omega.{arith}
 use borrow.Author.Tests.{le-leb}
@@ -18,11 +18,14 @@ use Rattle.hns_encoding.specs.Laws.Words.{wordsOf-length}
 use Rattle.hnsr_body.specs.Detail.{detailBytes}
 use Rattle.hnsr_body.specs.declared.messages.Notice.{Notice}
 use Rattle.hnsr_body.specs.declared.messages.NoticeWritten.{NoticeWritten}
-use Rattle.hnsr_body.specs.declared.messages.Notice.the-variants.{PeerDisconnected, ReservationRevoked, AcceptanceExpired, TicketExpired, RelayDisabled, EndpointWriteFailed, OuterWriteFailed}
+use Rattle.hnsr_body.specs.declared.messages.Notice.the-variants.{PeerDisconnected, ReservationRevoked}
+use Rattle.hnsr_body.specs.declared.messages.Notice.the-variants.{AcceptanceExpired, TicketExpired, RelayDisabled}
+use Rattle.hnsr_body.specs.declared.messages.Notice.the-variants.{EndpointWriteFailed, OuterWriteFailed}
 use Rattle.hnsr_body.specs.Messages.{noticeBody, noticeSize, noticeWritten}
 use Rattle.hnsr_circuit.specs.Peer.{peerBytes}
 use Rattle.hns_encoding.specs.Words.{wordCount}
-use Rattle.hnsr_circuit.specs.Route.{Route, nameWords, addressWords, headWords, peerWords, packetWords, routeWords, outWords, output}
+use Rattle.hnsr_circuit.specs.Route.{Route, nameWords, addressWords, headWords, peerWords}
+use Rattle.hnsr_circuit.specs.Route.{packetWords, routeWords, outWords, output}
 use Rattle.hnsr_circuit.specs.Entry.{handleWords, acknowledgeWords}
 
 -- ---- the numbers of document 01
@@ -49,17 +52,21 @@ notice-fits EndpointWriteFailed = omega arith
 notice-fits OuterWriteFailed = omega arith
 
 -- what is written of a notice: its body, in front of the array
-pub notice-length : (w : NoticeWritten) (n : Notice) → w ≡ noticeWritten n → (w .length ≤ length (w .bytes)) × (w .length < 65536)
+pub notice-length : (w : NoticeWritten) (n : Notice) → w ≡ noticeWritten n
+    → (w .length ≤ length (w .bytes)) × (w .length < 65536)
 unfolding noticeWritten padded
 notice-length w n e =
     let long = notice-fits n in
     let a = ap (λ (v : NoticeWritten). v .length) e in
-    let b = ap (λ (v : NoticeWritten). length (v .bytes)) e ∙ length-append (noticeBody n) (replicate (noticeSize - length (noticeBody n)) 0) in
+    let b = ap (λ (v : NoticeWritten). length (v .bytes)) e
+    ∙ length-append (noticeBody n) (replicate (noticeSize - length (noticeBody n)) 0) in
     (omega arith, omega arith)
 
 pub notice-bytes : (w : NoticeWritten) (n : Notice) → w ≡ noticeWritten n → take (w .length) (w .bytes) ≡ noticeBody n
 unfolding noticeWritten padded
-notice-bytes w n e = ap (λ (v : NoticeWritten). take (v .length) (v .bytes)) e ∙ take-at (noticeBody n) (replicate (noticeSize - length (noticeBody n)) 0) (length (noticeBody n)) refl
+notice-bytes w n e =
+    ap (λ (v : NoticeWritten). take (v .length) (v .bytes)) e
+    ∙ take-at (noticeBody n) (replicate (noticeSize - length (noticeBody n)) 0) (length (noticeBody n)) refl
 
 -- ---- bytes four to a word
 pub length-words : (bs : List ℕ) → length (words bs) ≡ wordCount (length bs)
@@ -70,7 +77,12 @@ pub route-words : (r : Route) → length (routeWords r) ≡ headWords + length (
 unfolding routeWords peerWords packetWords
 route-words r =
     simp length-append
-    (omega (arith, wordsOf-length nameWords (peerBytes (r .destination)), length-words (beBytes 8 (r .context)), beBytes-length 8 (r .context)))
+    (omega (
+      arith,
+      wordsOf-length nameWords (peerBytes (r .destination)),
+      length-words (beBytes 8 (r .context)),
+      beBytes-length 8 (r .context),
+    ))
 
 pub peer-words : (r : Route) → length (peerWords r) ≡ addressWords
 unfolding peerWords
@@ -78,10 +90,12 @@ peer-words r = simp length-append (omega (arith, wordsOf-length nameWords (peerB
 
 pub packet-words : (r : Route) → length (packetWords r) ≡ 3 + length (words (r .body))
 unfolding packetWords
-packet-words r = simp length-append (omega (arith, length-words (beBytes 8 (r .context)), beBytes-length 8 (r .context)))
+packet-words r =
+    simp length-append (omega (arith, length-words (beBytes 8 (r .context)), beBytes-length 8 (r .context)))
 
 -- ---- the output keeps its length where the words fit
-pub output-length : (old : List ℕ) (rs : List Route) → length (outWords rs) ≤ length old → length (output old rs) ≡ length old
+pub output-length : (old : List ℕ) (rs : List Route) → length (outWords rs) ≤ length old
+    → length (output old rs) ≡ length old
 unfolding output
 output-length old rs h = simp (length-append, length-drop) (omega arith)
 
@@ -90,17 +104,22 @@ pub record Wrote (xs now done : List ℕ) (at n : ℕ) : Type 0 where
   pub same : now ≡ writtenAt xs at done
   pub size : length done ≡ n
 
-pub wrote-first : {xs : List ℕ} (after ys : List ℕ) (at k : ℕ) → length ys ≡ k → at + k ≤ length xs → after ≡ written xs at ys
+pub wrote-first : {xs : List ℕ} (after ys : List ℕ) (at k : ℕ) → length ys ≡ k → at + k ≤ length xs
+    → after ≡ written xs at ys
     → Wrote xs after ys at k
-wrote-first {xs} after ys at k e l h = record { same = h ∙ on-true _ (writtenAt xs at ys) xs (le-leb (at + length ys) (length xs) (omega arith)); size = e }
+wrote-first {xs} after ys at k e l h = record {
+  same = h ∙ on-true _ (writtenAt xs at ys) xs (le-leb (at + length ys) (length xs) (omega arith));
+  size = e;
+}
 
-pub wrote-next : {xs before done : List ℕ} {at n : ℕ} (after ys : List ℕ) (k : ℕ) → Wrote xs before done at n → length ys ≡ k
+pub wrote-next : {xs before done : List ℕ} {at n : ℕ} (after ys : List ℕ) (k : ℕ) → Wrote xs before done at n
+    → length ys ≡ k
     → at + n + k ≤ length xs → after ≡ written before (at + n) ys → Wrote xs after (done ++ ys) at (n + k)
 wrote-next {xs} {before} {done} {at} {n} after ys k w e l h =
     let size = w .size in
     let long : length before ≡ length xs = ap length (w .same) ∙ written-length xs at done (omega arith) in
-    let fits : within (length before) (at + n) (length ys) ≡ true = le-leb (at + n + length ys) (length before) (omega arith) in
-    record {
+    let fits : within (length before) (at + n) (length ys) ≡ true =
+    le-leb (at + n + length ys) (length before) (omega arith) in record {
       same =
           h
           ∙ on-true _ (writtenAt before (at + n) ys) before fits
@@ -109,7 +128,8 @@ wrote-next {xs} {before} {done} {at} {n} after ys k w e l h =
       size = length-append done ys ∙ omega arith;
     }
 
-pub wrote-all : {xs now done : List ℕ} {at n : ℕ} → Wrote xs now done at n → at + n ≤ length xs → now ≡ written xs at done
+pub wrote-all : {xs now done : List ℕ} {at n : ℕ} → Wrote xs now done at n → at + n ≤ length xs
+    → now ≡ written xs at done
 wrote-all {xs} {now} {done} {at} {n} w l =
     let size = w .size in
     w .same ∙ sym (on-true _ (writtenAt xs at done) xs (le-leb (at + length done) (length xs) (omega arith)))

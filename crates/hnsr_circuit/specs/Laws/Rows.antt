@@ -1,5 +1,6 @@
--- Rows of document 01's table where another row stands in front, over any world: an OPEN or ACCEPT without a context is a 1 and nothing has moved, so the
--- two rows "all written, then 1" are never reached; an opcode from 21 on is a 16 and the clock has moved.
+-- Rows of document 01's table where another row stands in front, over any world: an OPEN or ACCEPT without a context is
+-- a 1 and nothing has moved, so the two rows "all written, then 1" are never reached; an opcode from 21 on is a 16 and
+-- the clock has moved.
 use Prim.Native.Nat.{ℕ, _≤_}
 use native.Mathlib.Omega.{arith}
 use mathlib.Core.Path.{_≡_, refl, ap}
@@ -28,13 +29,16 @@ pub record TurnedAway (o : Outcome) (answered : ℕ) (left : World) : Type 0 whe
   pub number : errorNumber error ≡ answered
 
 -- ---- a context of zero: 1, behind the rows of 22 and 4 and the packet's size, in front of the clock
-packet-zero : (opcode context n : ℕ) → ltb mostPacket (packetSize n) ≡ false → eqb opcode sampleRoutes ≡ false → context ≡ 0
+packet-zero : (opcode context n : ℕ) → ltb mostPacket (packetSize n) ≡ false → eqb opcode sampleRoutes ≡ false
+    → context ≡ 0
     → packetAnswer opcode context n ≡ check true (Protocol (Invalid ContextZero))
 unfolding packetAnswer packetChecked bodyAnswer
 packet-zero opcode context n small other zero = rw (small, other, zero)
 
-pub zero-context : (w : World) (q : Packet) (room : ℕ) → roomAnswer w room handleWords ≡ Taken → peerAnswer (length (q .source)) ≡ Taken
-    → ltb mostPacket (packetSize (length (q .body))) ≡ false → eqb (q .opcode) sampleRoutes ≡ false → q .context ≡ 0 → TurnedAway (step w (callHandle q room)) 1 w
+pub zero-context : (w : World) (q : Packet) (room : ℕ) → roomAnswer w room handleWords ≡ Taken
+    → peerAnswer (length (q .source)) ≡ Taken
+    → ltb mostPacket (packetSize (length (q .body))) ≡ false → eqb (q .opcode) sampleRoutes ≡ false → q .context ≡ 0
+    → TurnedAway (step w (callHandle q room)) 1 w
 unfolding step handle entryAnswer proceed
 zero-context w q room enough named small other zero = record {
   error = Protocol (Invalid ContextZero);
@@ -43,16 +47,23 @@ zero-context w q room enough named small other zero = record {
 }
 
 -- so an OPEN (13) and an ACCEPT (15)
-pub open-without-context : (w : World) (q : Packet) (room : ℕ) → roomAnswer w room handleWords ≡ Taken → peerAnswer (length (q .source)) ≡ Taken
-    → ltb mostPacket (packetSize (length (q .body))) ≡ false → q .opcode ≡ opOpen → q .context ≡ 0 → TurnedAway (step w (callHandle q room)) 1 w
-open-without-context w q room enough named small is zero = zero-context w q room enough named small (ap (λ n. eqb n sampleRoutes) is) zero
+pub open-without-context : (w : World) (q : Packet) (room : ℕ) → roomAnswer w room handleWords ≡ Taken
+    → peerAnswer (length (q .source)) ≡ Taken
+    → ltb mostPacket (packetSize (length (q .body))) ≡ false → q .opcode ≡ opOpen → q .context ≡ 0
+    → TurnedAway (step w (callHandle q room)) 1 w
+open-without-context w q room enough named small is zero =
+    zero-context w q room enough named small (ap (λ n. eqb n sampleRoutes) is) zero
 
-pub accept-without-context : (w : World) (q : Packet) (room : ℕ) → roomAnswer w room handleWords ≡ Taken → peerAnswer (length (q .source)) ≡ Taken
-    → ltb mostPacket (packetSize (length (q .body))) ≡ false → q .opcode ≡ opAccept → q .context ≡ 0 → TurnedAway (step w (callHandle q room)) 1 w
-accept-without-context w q room enough named small is zero = zero-context w q room enough named small (ap (λ n. eqb n sampleRoutes) is) zero
+pub accept-without-context : (w : World) (q : Packet) (room : ℕ) → roomAnswer w room handleWords ≡ Taken
+    → peerAnswer (length (q .source)) ≡ Taken
+    → ltb mostPacket (packetSize (length (q .body))) ≡ false → q .opcode ≡ opAccept → q .context ≡ 0
+    → TurnedAway (step w (callHandle q room)) 1 w
+accept-without-context w q room enough named small is zero =
+    zero-context w q room enough named small (ap (λ n. eqb n sampleRoutes) is) zero
 
 -- ---- an opcode from 21 on: 16, behind entry, clock and gate; the clock has moved
-pub opcode-from-21 : (w : World) (q : Packet) (room : ℕ) → entryAnswer w q room ≡ Taken → w .runtime .«trusted_time_high_water» ≤ q .now → w .runtime .enabled ≡ true
+pub opcode-from-21 : (w : World) (q : Packet) (room : ℕ) → entryAnswer w q room ≡ Taken
+    → w .runtime .«trusted_time_high_water» ≤ q .now → w .runtime .enabled ≡ true
     → 21 ≤ q .opcode → TurnedAway (step w (callHandle q room)) 16 (atTime w (q .now))
 unfolding step handle handleGate gateAnswer clockAnswer handlingOf dispatch proceed
 opcode-from-21 w q room entry forward on high = record {

@@ -1,5 +1,5 @@
--- The loops over a table, over any record type: the step of a lookup and of a count, a store within and past the end, and the
--- parts of what a scan folds. The step and the end of a fold are `Loops`'.
+-- The loops over a table, over any record type: the step of a lookup and of a count, a store within and past the end,
+-- and the parts of what a scan folds. The step and the end of a fold are `Loops`'.
 use Prim.Native.Nat.{ℕ, zero, suc, _+_, _≤_, _<_}
 use native.Mathlib.Nat.{not-suc-le-zero, le-of-suc-le-suc}
 use native.Mathlib.Numerals.{add-one}
@@ -18,13 +18,15 @@ use Rattle.hnsr_circuit.specs.Table.{any, placeOf, cleared, clear}
 
 -- ---- lookups and counts: what is left of the table says the rest
 module _ {A : Type 0} (p : A → Bool) (t : List A) (d : A) (i r : ℕ) where
-  pub find-next : i < length t → p (getD t i d) ≡ false → i + placeOf p (drop i t) ≡ r → i + 1 + placeOf p (drop (i + 1) t) ≡ r
+  pub find-next : i < length t → p (getD t i d) ≡ false → i + placeOf p (drop i t) ≡ r
+      → i + 1 + placeOf p (drop (i + 1) t) ≡ r
   find-next l e h = let k = rw (drop-cons t i d l, e) at h in rw (add-one i) (omega arith)
 
   pub find-here : i < length t → p (getD t i d) ≡ true → i + placeOf p (drop i t) ≡ r → i ≡ r
   find-here l e h = let k = rw (drop-cons t i d l, e) at h in omega arith
 
-  pub count-next : (n m : ℕ) → i < length t → m ≡ n + one p (getD t i d) → n + count p (drop i t) ≡ r → m + count p (drop (i + 1) t) ≡ r
+  pub count-next : (n m : ℕ) → i < length t → m ≡ n + one p (getD t i d) → n + count p (drop i t) ≡ r
+      → m + count p (drop (i + 1) t) ≡ r
   count-next n m l e h = let k = rw (drop-cons t i d l) at h in rw (add-one i) (omega arith)
 
 -- ---- a store that is to be done, at a place that may be past the end
@@ -45,21 +47,26 @@ module _ {A : Type 0} (t : List A) (go does : Bool) (i : ℕ) (e : does ≡ (go 
 
 -- ---- a turn that clears the mark of a record, if it has what is asked, and else stores nothing
 module _ {A : Type 0} (unmark : A → A) (p : A → Bool) (t : List A) (d : A) (i : ℕ) where
-  one-cleared : (has : Bool) (x : A) → has ≡ p (getD t i d) → x ≡ unmark (getD t i d) → cond has (set t i x) t ≡ set t i (cleared unmark p (getD t i d))
+  one-cleared : (has : Bool) (x : A) → has ≡ p (getD t i d) → x ≡ unmark (getD t i d)
+      → cond has (set t i x) t ≡ set t i (cleared unmark p (getD t i d))
   one-cleared true x e f = rw (← e, f)
   one-cleared false x e f = rw (← e) (sym (set-getD t i d))
 
-  pub clear-step : (has : Bool) (x : A) (t′ r : List A) → i < length t → has ≡ p (getD t i d) → x ≡ unmark (getD t i d) → t′ ≡ cond has (set t i x) t
+  pub clear-step : (has : Bool) (x : A) (t′ r : List A) → i < length t → has ≡ p (getD t i d) → x ≡ unmark (getD t i d)
+      → t′ ≡ cond has (set t i x) t
       → take i t ++ clear unmark p (drop i t) ≡ r → take (i + 1) t′ ++ clear unmark p (drop (i + 1) t′) ≡ r
-  clear-step has x t′ r l e f k h = rw (k, one-cleared has x e f) (map-step (cleared unmark p) t d i (cleared unmark p (getD t i d)) r l refl h)
+  clear-step has x t′ r l e f k h =
+      rw (k, one-cleared has x e f) (map-step (cleared unmark p) t d i (cleared unmark p (getD t i d)) r l refl h)
 
 -- ---- a part of what a scan folds that moves by itself
 module _ {A B C : Type 0} (f : B → A → ℕ → B) where
-  pub fold-part : (g : B → C) (k : C → A → ℕ → C) → ((b : B) (x : A) (i : ℕ) → g (f b x i) ≡ k (g b) x i) → (t : List A) (i : ℕ) (b : B)
+  pub fold-part : (g : B → C) (k : C → A → ℕ → C) → ((b : B) (x : A) (i : ℕ) → g (f b x i) ≡ k (g b) x i)
+      → (t : List A) (i : ℕ) (b : B)
       → g (foldFrom f t i b) ≡ foldFrom k t i (g b)
   unfolding foldFrom
   fold-part g k e [] i b = refl
-  fold-part g k e (x ∷ xs) i b = fold-part g k e xs (suc i) (f b x i) ∙ ap (λ (c : C). foldFrom k xs (suc i) c) (e b x i)
+  fold-part g k e (x ∷ xs) i b =
+      fold-part g k e xs (suc i) (f b x i) ∙ ap (λ (c : C). foldFrom k xs (suc i) c) (e b x i)
 
 -- a test that none passes
 pub any-never : {A : Type 0} (t : List A) → any (λ (x : A). false) t ≡ false
@@ -67,7 +74,8 @@ any-never [] = refl
 any-never (x ∷ xs) = any-never xs
 
 -- ---- what stands at the place of a loop that maps what it has passed
-pub map-here : {A : Type 0} (g : A → A) (t : List A) (d : A) (i : ℕ) → i < length t → getD (take i t ++ map g (drop i t)) i d ≡ g (getD t i d)
+pub map-here : {A : Type 0} (g : A → A) (t : List A) (d : A) (i : ℕ) → i < length t
+    → getD (take i t ++ map g (drop i t)) i d ≡ g (getD t i d)
 map-here g [] d i l = absurd (not-suc-le-zero l)
 map-here g (x ∷ xs) d zero l = refl
 map-here g (x ∷ xs) d (suc i) l = map-here g xs d i (le-of-suc-le-suc l)

@@ -1,4 +1,5 @@
--- Every call keeps the number of places of every table, taken or refused: so a table that was long enough for `new` stays so.
+-- Every call keeps the number of places of every table, taken or refused: so a table that was long enough for `new`
+-- stays so.
 use Prim.Native.Nat.{ℕ}
 use mathlib.Core.Path.{_≡_, refl}
 use mathlib.Core.Bool.{Bool, true, false, cond}
@@ -25,22 +26,33 @@ use Rattle.hnsr_circuit.specs.Accept.{withAccept, acceptWith, handleAcce
 use Rattle.hnsr_circuit.specs.Data.{withData, dataWith, handleData}
 use Rattle.hnsr_circuit.specs.Window.{withWindow, windowWith, handleWindow}
 use Rattle.hnsr_circuit.specs.Close.{closePending, closeCircuit, handleClose}
-use Rattle.hnsr_circuit.specs.Handle.{Handling, OPEN, ACCEPT, DATA, WINDOW, CLOSE, ERROR, other, dispatch, handleGate, handle}
-use Rattle.hnsr_circuit.specs.Acknowledge.{lowerFor, released, failPending, failIncoming, undelivered, settled, acknowledgeAction, acknowledge}
+use Rattle.hnsr_circuit.specs.Handle.{Handling, OPEN, ACCEPT, DATA, WINDOW, CLOSE}
+use Rattle.hnsr_circuit.specs.Handle.{ERROR, other, dispatch, handleGate, handle}
+use Rattle.hnsr_circuit.specs.Acknowledge.{lowerFor, released, failPending, failIncoming}
+use Rattle.hnsr_circuit.specs.Acknowledge.{undelivered, settled, acknowledgeAction, acknowledge}
 use Rattle.hnsr_circuit.specs.Revocation.{hasPending, pendingIn}
-use Rattle.hnsr_circuit.specs.RevokingCalls.{changes, disconnectPeer, disconnect, revokeUnder, revokeReservation, expireAt, expire, switchTo, replaceEnabled}
+use Rattle.hnsr_circuit.specs.RevokingCalls.{changes, disconnectPeer, disconnect, revokeUnder}
+use Rattle.hnsr_circuit.specs.RevokingCalls.{revokeReservation, expireAt, expire, switchTo, replaceEnabled}
 use Rattle.hnsr_circuit.specs.New.{emptied, newRelay, observeTime}
 use Rattle.hnsr_circuit.specs.Status.{status}
 use Rattle.hnsr_circuit.specs.NextDue.{nextDue}
-use Rattle.hnsr_circuit.specs.Call.{Start, start, Call, callStatus, callNextDue, callObserveTime, callReplaceEnabled, callHandle, callAcknowledge, callDisconnect, callRevokeReservation, callExpire, step}
-use Rattle.hnsr_circuit.specs.Laws.Places.{AsMany, as-many, onward, runtime-kept, pending-kept, circuits-kept, ledger-kept, inflight-kept, length-dropped, without-pending-kept, end-pending-kept, end-circuit-kept, queued-kept, revoke-pending-kept, revoke-there-kept, revoke-circuit-kept, disconnect-pending-kept, revoke-all-kept}
+use Rattle.hnsr_circuit.specs.Call.{Start, start, Call, callStatus, callNextDue, callObserveTime}
+use Rattle.hnsr_circuit.specs.Call.{callReplaceEnabled, callHandle, callAcknowledge}
+use Rattle.hnsr_circuit.specs.Call.{callDisconnect, callRevokeReservation, callExpire, step}
+use Rattle.hnsr_circuit.specs.Laws.Places.{AsMany, as-many, onward, runtime-kept, pending-kept}
+use Rattle.hnsr_circuit.specs.Laws.Places.{circuits-kept, ledger-kept, inflight-kept, length-dropped}
+use Rattle.hnsr_circuit.specs.Laws.Places.{without-pending-kept, end-pending-kept, end-circuit-kept}
+use Rattle.hnsr_circuit.specs.Laws.Places.{queued-kept, revoke-pending-kept, revoke-there-kept}
+use Rattle.hnsr_circuit.specs.Laws.Places.{revoke-circuit-kept, disconnect-pending-kept, revoke-all-kept}
 
-proceed-kept : {v : World} (w : World) (a : HnsrAnswer) (o : Outcome) → AsMany v w → AsMany v (o .world) → AsMany v (proceed w a o .world)
+proceed-kept : {v : World} (w : World) (a : HnsrAnswer) (o : Outcome) → AsMany v w → AsMany v (o .world)
+    → AsMany v (proceed w a o .world)
 unfolding proceed
 proceed-kept w Taken o s t = t
 proceed-kept w (Refused e) o s t = s
 
-cond-kept : {v : World} (b : Bool) (x y : Outcome) → AsMany v (x .world) → AsMany v (y .world) → AsMany v (cond b x y .world)
+cond-kept : {v : World} (b : Bool) (x y : Outcome) → AsMany v (x .world) → AsMany v (y .world)
+    → AsMany v (cond b x y .world)
 cond-kept true x y s t = s
 cond-kept false x y s t = t
 
@@ -66,35 +78,40 @@ unfolding handleOpen openLapsed openGranted openBooked
 open-kept w q =
     let l = lapsed-kept w (q .now) in
     proceed-kept w _ _ (as-many w)
-    (proceed-kept _ _ _ l (proceed-kept _ _ _ (booked-kept _ _ l) (send-kept _ _ (open-with-kept _ _ (booked-kept _ _ l)))))
+    (proceed-kept _ _ _ l
+    (proceed-kept _ _ _ (booked-kept _ _ l) (send-kept _ _ (open-with-kept _ _ (booked-kept _ _ l)))))
 
 accept-kept : (w : World) (q : Packet) → AsMany w (handleAccept w q .world)
 unfolding handleAccept acceptWith withAccept
 accept-kept w q =
     proceed-kept w _ _ (as-many w)
     (send-kept _ _
-    (runtime-kept
-    (circuits-kept (inflight-kept (pending-kept (as-many w) _ (length-edit _ clearPending (w .pending))) _ (length-dropped _ _)) _ (simp length-set)) _))
+    (runtime-kept (circuits-kept
+    (inflight-kept (pending-kept (as-many w) _ (length-edit _ clearPending (w .pending))) _ (length-dropped _ _)) _
+    (simp length-set)) _))
 
 data-kept : (w : World) (q : Packet) → AsMany w (handleData w q .world)
 unfolding handleData dataWith withData
 data-kept w q =
     proceed-kept w _ _ (as-many w)
     (send-kept _ _
-    (runtime-kept
-    (ledger-kept (circuits-kept (as-many w) _ (length-edit (circuitAt (q .context)) _ (w .circuits))) _ (length-edit (usageAt _) _ (w .ledger))) _))
+    (runtime-kept (ledger-kept (circuits-kept (as-many w) _ (length-edit (circuitAt (q .context)) _ (w .circuits))) _
+    (length-edit (usageAt _) _ (w .ledger))) _))
 
 window-kept : (w : World) (q : Packet) → AsMany w (handleWindow w q .world)
 unfolding handleWindow windowWith withWindow
 window-kept w q =
-    proceed-kept w _ _ (as-many w) (send-kept _ _ (circuits-kept (as-many w) _ (length-edit (circuitAt (q .context)) _ (w .circuits))))
+    proceed-kept w _ _ (as-many w)
+    (send-kept _ _ (circuits-kept (as-many w) _ (length-edit (circuitAt (q .context)) _ (w .circuits))))
 
 close-kept : (w : World) (q : Packet) → AsMany w (handleClose w q .world)
 unfolding handleClose closePending closeCircuit
 close-kept w q =
     proceed-kept w _ _ (as-many w)
-    (cond-kept (any (namedBy (sender q) (q .context)) (w .pending)) (closePending w q (pick (namedBy (sender q) (q .context)) noPending (w .pending)))
-    (closeCircuit w q (namedCircuit w q)) (send-kept _ _ (end-pending-kept w _ _)) (send-kept _ _ (end-circuit-kept w _)))
+    (cond-kept (any (namedBy (sender q) (q .context)) (w .pending))
+    (closePending w q (pick (namedBy (sender q) (q .context)) noPending (w .pending)))
+    (closeCircuit w q (namedCircuit w q)) (send-kept _ _ (end-pending-kept w _ _))
+    (send-kept _ _ (end-circuit-kept w _)))
 
 dispatch-kept : (h : Handling) (w : World) (q : Packet) → AsMany w (dispatch h w q .world)
 unfolding dispatch
@@ -125,49 +142,64 @@ undelivered-kept Data w id = revoke-circuit-kept _ w id
 undelivered-kept Control w id = revoke-circuit-kept _ w id
 undelivered-kept Close w id = as-many w
 
-settled-kept : {v : World} (w : World) (a : InflightAction) (delivered : Bool) → AsMany v w → AsMany v (settled w a delivered .world)
+settled-kept : {v : World} (w : World) (a : InflightAction) (delivered : Bool) → AsMany v w
+    → AsMany v (settled w a delivered .world)
 unfolding settled
 settled-kept w a true s = s
 settled-kept w a false s = onward s (undelivered-kept _ w _)
 
-acknowledge-kept : (w : World) (generation sequence : ℕ) (delivered : Bool) (room : ℕ) → AsMany w (acknowledge w generation sequence delivered room .world)
+acknowledge-kept : (w : World) (generation sequence : ℕ) (delivered : Bool) (room : ℕ)
+    → AsMany w (acknowledge w generation sequence delivered room .world)
 unfolding acknowledge acknowledgeAction released
 acknowledge-kept w generation sequence delivered room =
     proceed-kept w _ _ (as-many w)
     (settled-kept _ _ delivered
-    (circuits-kept (inflight-kept (as-many w) _ (length-edit (actionAt generation sequence) clearAction (w .inflight))) _ (lower-kept _ _ _)))
+    (circuits-kept (inflight-kept (as-many w) _ (length-edit (actionAt generation sequence) clearAction (w .inflight)))
+    _ (lower-kept _ _ _)))
 
 -- ---- the revoking calls
 switch-kept : (w : World) (on : Bool) → AsMany w (switchTo w on .world)
 unfolding switchTo
 switch-kept w true = runtime-kept (inflight-kept (as-many w) _ (length-dropped _ _)) _
 switch-kept w false =
-    revoke-all-kept _ _ _ _ w _ (revoke-pending-kept _) (revoke-there-kept _) (runtime-kept (inflight-kept (as-many w) _ (length-dropped _ _)) _)
+    revoke-all-kept _ _ _ _ w _ (revoke-pending-kept _) (revoke-there-kept _)
+    (runtime-kept (inflight-kept (as-many w) _ (length-dropped _ _)) _)
 
 -- ---- every call
 pub start-places : (w : World) (s : Start) → AsMany w (start w s .world)
 unfolding start newRelay emptied
 start-places w s =
     proceed-kept w _ _ (as-many w)
-    (record { pending = simp length-map; circuits = simp length-map; ledger = simp length-map; inflight = length-dropped _ _ })
+    (record {
+      pending = simp length-map;
+      circuits = simp length-map;
+      ledger = simp length-map;
+      inflight = length-dropped _ _;
+    })
 
 pub step-places : (w : World) (c : Call) → AsMany w (step w c .world)
-unfolding step status nextDue observeTime replaceEnabled handle handleGate disconnect disconnectPeer revokeReservation revokeUnder expire expireAt
+unfolding step status nextDue observeTime replaceEnabled handle handleGate disconnect disconnectPeer revokeReservation
+    revokeUnder expire expireAt
 step-places w callStatus = proceed-kept w _ _ (as-many w) (as-many w)
 step-places w callNextDue = proceed-kept w _ _ (as-many w) (as-many w)
 step-places w (callObserveTime now) = proceed-kept w _ _ (as-many w) (runtime-kept (as-many w) _)
 step-places w (callReplaceEnabled expected enabled room) =
-    proceed-kept w _ _ (as-many w) (cond-kept (changes w enabled) (switchTo w enabled) (done w []) (switch-kept w enabled) (as-many w))
+    proceed-kept w _ _ (as-many w)
+    (cond-kept (changes w enabled) (switchTo w enabled) (done w []) (switch-kept w enabled) (as-many w))
 step-places w (callHandle packet room) =
     let t = runtime-kept (as-many w) _ in
     proceed-kept w _ _ (as-many w) (proceed-kept _ _ _ t (onward t (dispatch-kept _ (atTime w (packet .now)) packet)))
-step-places w (callAcknowledge generation sequence delivered room) = acknowledge-kept w generation sequence delivered room
+step-places w (callAcknowledge generation sequence delivered room) =
+    acknowledge-kept w generation sequence delivered room
 step-places w (callDisconnect peer room) =
     proceed-kept w _ _ (as-many w)
-    (revoke-all-kept _ _ _ _ w _ (disconnect-pending-kept _) (revoke-there-kept _) (inflight-kept (as-many w) _ (length-dropped _ _)))
+    (revoke-all-kept _ _ _ _ w _ (disconnect-pending-kept _) (revoke-there-kept _)
+    (inflight-kept (as-many w) _ (length-dropped _ _)))
 step-places w (callRevokeReservation id room) =
     proceed-kept w _ _ (as-many w)
-    (revoke-all-kept _ _ _ _ w _ (revoke-pending-kept _) (revoke-there-kept _) (ledger-kept (as-many w) _ (length-edit (usageAt id) clearUsage (w .ledger))))
+    (revoke-all-kept _ _ _ _ w _ (revoke-pending-kept _) (revoke-there-kept _)
+    (ledger-kept (as-many w) _ (length-edit (usageAt id) clearUsage (w .ledger))))
 step-places w (callExpire now room) =
     proceed-kept w _ _ (as-many w)
-    (revoke-all-kept _ _ _ _ w _ (revoke-pending-kept _) (revoke-there-kept _) (onward (runtime-kept (as-many w) _) (lapsed-kept (atTime w now) now)))
+    (revoke-all-kept _ _ _ _ w _ (revoke-pending-kept _) (revoke-there-kept _)
+    (onward (runtime-kept (as-many w) _) (lapsed-kept (atTime w now) now)))

@@ -1,5 +1,5 @@
--- Ending, one after another and by ascending key, the records that have Q: what each turn finds and leaves, and what the whole does to a past that knows
--- the records by key and the outstanding things as a list.
+-- Ending, one after another and by ascending key, the records that have Q: what each turn finds and leaves, and what
+-- the whole does to a past that knows the records by key and the outstanding things as a list.
 use Prim.Native.Nat.{ℕ, _≤_, _<_}
 use native.Mathlib.Omega.{arith}
 use mathlib.Core.Path.{_≡_, sym, _∙_}
@@ -27,7 +27,8 @@ module _ {A K : Type 0} (X : Keys A ℕ K) (by : (i j : ℕ) → eqb i j ≡ X .
   least t = lowest having (X .key) t
 
   -- a turn leaves fewer
-  pub fewer : (t : List A) (m : ℕ) → any (also (keyed X m) having) t ≡ true → count having (clear (X .unmark) (keyed X m) t) < count having t
+  pub fewer : (t : List A) (m : ℕ) → any (also (keyed X m) having) t ≡ true
+      → count having (clear (X .unmark) (keyed X m) t) < count having t
   fewer t m h =
       let a = total-also (X .used) Q (λ c. 1) (clear (X .unmark) (keyed X m) t) in
       let b = clear-total (X .used) (X .unmark) (X .off) (keyed X m) (one Q) t in
@@ -38,29 +39,40 @@ module _ {A K : Type 0} (X : Keys A ℕ K) (by : (i j : ℕ) → eqb i j ≡ X .
       omega arith
     where
       each : (x : A) → only (X .used) (only (non (keyed X m)) (one Q)) x ≤ only (non (keyed X m)) (one having) x
-      each x = split (X .used x) (λ u. split (X .same (X .key x) m) (λ v. rw (u, v) (omega arith)) (λ v. rw (u, v) (omega arith))) (λ u. rw u (omega arith))
+      each x =
+          split (X .used x)
+          (λ u. split (X .same (X .key x) m) (λ v. rw (u, v) (omega arith)) (λ v. rw (u, v) (omega arith)))
+          (λ u. rw u (omega arith))
 
   pub least-at : (t : List A) → any having t ≡ true → any (also (keyed X (least t)) having) t ≡ true
-  least-at t h = any-imp (also (rankIs (X .key) (least t)) having) (also (keyed X (least t)) having) t each (lowest-found having (X .key) t h)
+  least-at t h =
+      any-imp (also (rankIs (X .key) (least t)) having) (also (keyed X (least t)) having) t each
+      (lowest-found having (X .key) t h)
     where
       each : (c : A) → also (rankIs (X .key) (least t)) having c ≡ true → also (keyed X (least t)) having c ≡ true
       each c k = let a = both (eqb (X .key c) (least t)) (having c) k in
-          join (keyed X (least t) c) (having c) (join (X .used c) (X .same (X .key c) (least t)) (both (X .used c) (Q c) (a .1) .0) (sym (by (X .key c) (least t)) ∙ a .0)) (a .1)
+          join (keyed X (least t) c) (having c)
+          (join (X .used c) (X .same (X .key c) (least t)) (both (X .used c) (Q c) (a .1) .0)
+          (sym (by (X .key c) (least t)) ∙ a .0)) (a .1)
 
-  module _ (q : K → Bool) (same-q : (c : A) (k : K) → X .Agree c k → Q c ≡ q k) {t : List A} {st : ℕ → Bool} {kn : ℕ → K} (T : Tells X t st kn) where
+  module _ (q : K → Bool) (same-q : (c : A) (k : K) → X .Agree c k → Q c ≡ q k) {t : List A} {st : ℕ → Bool}
+      {kn : ℕ → K} (T : Tells X t st kn) where
     -- the least that has Q stands, and has q
     pub least-stands : any having t ≡ true → st (least t) ≡ true
     least-stands e = sym (T .found (least t)) ∙ any-also (keyed X (least t)) having t (least-at t e)
 
     pub least-has : (e : any having t ≡ true) → q (kn (least t)) ≡ true
     least-has e = sym (same-q (look X t (least t)) (kn (least t)) (T .agree (least t) (least-stands e)))
-        ∙ both (X .used (look X t (least t))) (Q (look X t (least t))) (pick-also (keyed X (least t)) having (X .nobody) t (T .once (least t)) (least-at t e)) .1
+        ∙ both (X .used (look X t (least t))) (Q (look X t (least t)))
+        (pick-also (keyed X (least t)) having (X .nobody) t (T .once (least t)) (least-at t e)) .1
 
     -- none has Q: of what stands, none has q
     pub none-has : any having t ≡ false → (i : ℕ) → st i ≡ true → q (kn i) ≡ false
     none-has n i a = let f = T .found i ∙ a in
-        let u = both (X .used (look X t i)) (X .same (X .key (look X t i)) i) (pick-has (keyed X i) (X .nobody) t f) .0 in
-        sym (same-q (look X t i) (kn i) (T .agree i a)) ∙ off (X .used (look X t i)) (Q (look X t i)) u (pick-not having (keyed X i) (X .nobody) t n f)
+        let u =
+        both (X .used (look X t i)) (X .same (X .key (look X t i)) i) (pick-has (keyed X i) (X .nobody) t f) .0 in
+        sym (same-q (look X t i) (kn i) (T .agree i a))
+        ∙ off (X .used (look X t i)) (Q (look X t i)) u (pick-not having (keyed X i) (X .nobody) t n f)
       where
         off : (x y : Bool) → x ≡ true → (x && y) ≡ false → y ≡ false
         off true y e f = f
@@ -80,7 +92,9 @@ module _ {K B : Type 0} (place : B → ℕ) (q : K → Bool) where
       none-ends i = split (st i) (λ e. rw (e, free i e)) (λ e. rw e)
 
       pub none-goes : (out : List B) → keep (non (goneAt st kn)) out ++ [] ≡ out
-      none-goes out = append-nil (keep (non (goneAt st kn)) out) ∙ keep-all (non (goneAt st kn)) out (λ a. split (st (place a)) (λ e. rw (e, free (place a) e)) (λ e. rw e))
+      none-goes out =
+          append-nil (keep (non (goneAt st kn)) out)
+          ∙ keep-all (non (goneAt st kn)) out (λ a. split (st (place a)) (λ e. rw (e, free (place a) e)) (λ e. rw e))
 
     -- m ended, its things dropped and r added, and then the rest swept: the same as all swept, and r added
     module _ (m : ℕ) (a : st m ≡ true) (s : q (kn m) ≡ true) where
@@ -90,8 +104,15 @@ module _ {K B : Type 0} (place : B → ℕ) (q : K → Bool) where
       pub one-ends : (i : ℕ) → (less i && not (q (kn i))) ≡ (st i && not (q (kn i)))
       one-ends i = split (eqb m i) (λ e. rw (e, ← (eqb-true m i e), a, s)) (λ e. rw e)
 
-      pub one-goes : (out r rs : List B) → count (non (isAt m)) r ≡ 0 → keep (non (goneAt less kn)) (keep (non (isAt m)) out ++ r) ++ rs ≡ keep (non (goneAt st kn)) out ++ (r ++ rs)
-      one-goes out r rs z = rw (keep-append (non (goneAt less kn)) (keep (non (isAt m)) out) r, keep-whole (non (goneAt less kn)) (isAt m) r z mine, keep-keep (non (goneAt less kn)) (non (isAt m)) (non (goneAt st kn)) out same) (append-assoc (keep (non (goneAt st kn)) out) r rs)
+      pub one-goes : (out r rs : List B) → count (non (isAt m)) r ≡ 0
+          → keep (non (goneAt less kn)) (keep (non (isAt m)) out ++ r) ++ rs
+          ≡ keep (non (goneAt st kn)) out ++ (r ++ rs)
+      one-goes out r rs z =
+          rw (
+            keep-append (non (goneAt less kn)) (keep (non (isAt m)) out) r,
+            keep-whole (non (goneAt less kn)) (isAt m) r z mine,
+            keep-keep (non (goneAt less kn)) (non (isAt m)) (non (goneAt st kn)) out same,
+          ) (append-assoc (keep (non (goneAt st kn)) out) r rs)
         where
           same : (x : B) → (non (isAt m) x && non (goneAt less kn) x) ≡ non (goneAt st kn) x
           same x = split (eqb m (place x))

@@ -13,12 +13,16 @@ use Rattle.hnsr_circuit.specs.Table.{also, keep}
 module _ {A : Type 0} where
   pub total-keep : (f : A → ℕ) (p : A → Bool) (t : List A) → total f (keep p t) ≡ total (only p f) t
   total-keep f p [] = refl
-  total-keep f p (x ∷ xs) = split (p x) (λ e. rw e (omega (arith, total-keep f p xs))) (λ e. rw e (omega (arith, total-keep f p xs)))
+  total-keep f p (x ∷ xs) =
+      split (p x) (λ e. rw e (omega (arith, total-keep f p xs))) (λ e. rw e (omega (arith, total-keep f p xs)))
 
   -- none has p: a total of what has p is 0, and a total is that of the others
   pub total-none : (p : A → Bool) (f : A → ℕ) (t : List A) → count p t ≡ 0 → total (only p f) t ≡ 0
   total-none p f [] h = refl
-  total-none p f (x ∷ xs) h = split (p x) (λ e. let k = rw e at h in omega arith) (λ e. let k = rw e at h in rw e (omega (arith, total-none p f xs (omega arith))))
+  total-none p f (x ∷ xs) h =
+      split (p x)
+      (λ e. let k = rw e at h in omega arith)
+      (λ e. let k = rw e at h in rw e (omega (arith, total-none p f xs (omega arith))))
 
   pub total-others : (p : A → Bool) (f : A → ℕ) (t : List A) → count p t ≡ 0 → total f t ≡ total (only (non p) f) t
   total-others p f t h = omega (arith, total-split p f t, total-none p f t h)
@@ -44,12 +48,16 @@ module _ {A : Type 0} where
   pub keep-keep : (p q r : A → Bool) (t : List A) → ((a : A) → (q a && p a) ≡ r a) → keep p (keep q t) ≡ keep r t
   keep-keep p q r [] h = refl
   keep-keep p q r (x ∷ xs) h = let i = keep-keep p q r xs h in let k = h x in split (q x)
-      (λ e. let k′ = rw e at k in split (p x) (λ f. rw (e, ← k′, f) (ap {B = List A} (λ l. x ∷ l) i)) (λ f. rw (e, ← k′, f) i))
+      (λ e. let k′ = rw e at k in
+      split (p x) (λ f. rw (e, ← k′, f) (ap {B = List A} (λ l. x ∷ l) i)) (λ f. rw (e, ← k′, f) i))
       (λ e. let k′ = rw e at k in rw (e, ← k′) i)
 
-  pub keep-whole : (p q : A → Bool) (t : List A) → count (non q) t ≡ 0 → ((a : A) → q a ≡ true → p a ≡ true) → keep p t ≡ t
+  pub keep-whole : (p q : A → Bool) (t : List A) → count (non q) t ≡ 0 → ((a : A) → q a ≡ true → p a ≡ true)
+      → keep p t ≡ t
   keep-whole p q [] z h = refl
-  keep-whole p q (x ∷ xs) z h = split (q x) (λ e. let k = rw e at z in rw (h x e) (ap {B = List A} (λ l. x ∷ l) (keep-whole p q xs (omega arith) h)))
+  keep-whole p q (x ∷ xs) z h =
+      split (q x)
+      (λ e. let k = rw e at z in rw (h x e) (ap {B = List A} (λ l. x ∷ l) (keep-whole p q xs (omega arith) h)))
       (λ e. let k = rw e at z in absurd (omega arith))
 
   pub keep-all : (p : A → Bool) (t : List A) → ((a : A) → p a ≡ true) → keep p t ≡ t

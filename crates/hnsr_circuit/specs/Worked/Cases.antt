@@ -1,7 +1,7 @@
 -- Document 01's sixteen cases as one table, and that the definition gives their last answers ("Sixteen cases").
--- Config default but 2 pending, 2 circuits and 8 for each of the three action limits; opened at 100, expiry 1,000, 20,000 bytes a
--- circuit, total 30,000, windows 32,768, most active circuits 1; each case a new relay, circuit active and requester sending
--- unless said.
+-- Config default but 2 pending, 2 circuits and 8 for each of the three action limits; opened at 100, expiry 1,000,
+-- 20,000 bytes a circuit, total 30,000, windows 32,768, most active circuits 1; each case a new relay, circuit active
+-- and requester sending unless said.
 use Prim.Native.Nat.{ℕ}
 use mathlib.Core.Path.{_≡_, refl}
 use mathlib.Core.Bool.{true, false}
@@ -82,8 +82,16 @@ unfoldable pub packetCall : (source : List ℕ) → (opcode context : ℕ) → (
 unfolding notAdmitted
 packetCall source opcode context body now =
     callHandle
-    (record { source = source; opcode = opcode; context = context; body = body; now = now; keyValid = true; admission = notAdmitted; random = [] })
-    handleWords
+    (record {
+      source = source;
+      opcode = opcode;
+      context = context;
+      body = body;
+      now = now;
+      keyValid = true;
+      admission = notAdmitted;
+      random = [];
+    }) handleWords
 
 unfoldable pub openCall : Call
 unfolding requesterPeer endpointPeer caseTicket circuit leBytes
@@ -93,7 +101,9 @@ openCall =
       source = requesterPeer;
       opcode = opOpen;
       context = 9;
-      body = replicate 32 1 ++ replicate 15 0 ++ (5 ∷ []) ++ replicate 33 2 ++ leBytes 2 1 ++ replicate 16 3 ++ leBytes 4 32768;
+      body =
+          replicate 32 1 ++ replicate 15 0 ++ (5 ∷ []) ++ replicate 33 2 ++ leBytes 2 1 ++ replicate 16 3
+          ++ leBytes 4 32768;
       now = 100;
       keyValid = true;
       admission = record { admitted = true; endpoint = endpointPeer; ticket = caseTicket };
@@ -149,8 +159,16 @@ table =
     ∷ record { queue = plain; calls = active (dataCall requesterPeer 1 99 ∷ []); answer = 7 }
     ∷ record { queue = plain; calls = openCall ∷ acceptCall 110 ∷ []; answer = 11 }
     ∷ record { queue = plain; calls = openCall ∷ acceptCall 109 ∷ []; answer = 0 }
-    ∷ record { queue = plain; calls = active (packetCall requesterPeer opError circuit (0xFF ∷ 0xFF ∷ 0x00 ∷ []) 100 ∷ []); answer = 0 }
-    ∷ record { queue = plain; calls = active (packetCall requesterPeer opClose circuit (0 ∷ 0 ∷ 2 ∷ 0xC0 ∷ 0x80 ∷ []) 100 ∷ []); answer = 1 }
+    ∷ record {
+      queue = plain;
+      calls = active (packetCall requesterPeer opError circuit (0xFF ∷ 0xFF ∷ 0x00 ∷ []) 100 ∷ []);
+      answer = 0;
+    }
+    ∷ record {
+      queue = plain;
+      calls = active (packetCall requesterPeer opClose circuit (0 ∷ 0 ∷ 2 ∷ 0xC0 ∷ 0x80 ∷ []) 100 ∷ []);
+      answer = 1;
+    }
     ∷ record { queue = plain; calls = active (dataCall thirdPeer 1 100 ∷ []); answer = 15 }
     ∷ record { queue = 16384; calls = active (sends 16384 ∷ sends 1 ∷ []); answer = 17 }
     ∷ record { queue = 16384; calls = active (sends 16384 ∷ delivered ∷ sends 1 ∷ []); answer = 0 }

@@ -1,5 +1,6 @@
--- Tables as a host may lend them (document 01, "What the host hands over"): examples that no trace of the Rust reaches, by computation. Here 22,
--- 23, equal ids and records that replace; the rest is in LentMore. Above each stands what it reads.
+-- Tables as a host may lend them (document 01, "What the host hands over"): examples that no trace of the Rust reaches,
+-- by computation. Here 22, 23, equal ids and records that replace; the rest is in LentMore. Above each stands what it
+-- reads.
 use Prim.Native.Nat.{_-_}
 use mathlib.Core.Path.{_≡_, refl}
 use mathlib.Core.Bool.{true, false}
@@ -7,7 +8,8 @@ use mathlib.Core.List.{[], _∷_}
 use lib.ListN.{replicate}
 use Rattle.hnsr_circuit.specs.declared.answer.HnsrAnswer.{HnsrAnswer}
 use Rattle.hnsr_circuit.specs.declared.answer.HnsrAnswer.the-variants.{Taken, Refused}
-use Rattle.hnsr_circuit.specs.declared.answer.HnsrRuntimeError.the-variants.{InvalidAdmission, UnknownAction, Short, LedgerFull}
+use Rattle.hnsr_circuit.specs.declared.answer.HnsrRuntimeError.the-variants.{InvalidAdmission, UnknownAction}
+use Rattle.hnsr_circuit.specs.declared.answer.HnsrRuntimeError.the-variants.{Short, LedgerFull}
 use Rattle.hnsr_circuit.specs.Peer.{maximumPeer}
 use Rattle.hnsr_circuit.specs.Pending.{noPending}
 use Rattle.hnsr_circuit.specs.Circuits.{noCircuit}
@@ -15,10 +17,14 @@ use Rattle.hnsr_circuit.specs.Ledger.{noUsage}
 use Rattle.hnsr_circuit.specs.declared.runtime.NextDue.the-variants.{At}
 use Rattle.hnsr_circuit.specs.World.{World, dueIs}
 use Rattle.hnsr_circuit.specs.Opcode.{opClose, opError}
-use Rattle.hnsr_circuit.specs.Call.{callStatus, callNextDue, callObserveTime, callAcknowledge, callDisconnect, callExpire, start}
+use Rattle.hnsr_circuit.specs.Call.{callStatus, callNextDue, callObserveTime}
+use Rattle.hnsr_circuit.specs.Call.{callAcknowledge, callDisconnect, callExpire, start}
 use Rattle.hnsr_circuit.specs.Worked.All.{machine}
-use Rattle.hnsr_circuit.specs.Worked.Cases.{lent, newAt, requesterPeer, endpointPeer, openCall, acceptCall, packetCall}
-use Rattle.hnsr_circuit.specs.Worked.LentWorlds.{peer, pendingBetween, pendingOn, until, circuitOn, usageOn, actionOn, found, free, answerOf, toldOf, dueAfter, routes, pendingAfter, firstCircuit, firstAction}
+use Rattle.hnsr_circuit.specs.Worked.Cases.{lent, newAt, requesterPeer, endpointPeer}
+use Rattle.hnsr_circuit.specs.Worked.Cases.{openCall, acceptCall, packetCall}
+use Rattle.hnsr_circuit.specs.Worked.LentWorlds.{peer, pendingBetween, pendingOn, until, circuitOn}
+use Rattle.hnsr_circuit.specs.Worked.LentWorlds.{usageOn, actionOn, found, free, answerOf, toldOf}
+use Rattle.hnsr_circuit.specs.Worked.LentWorlds.{dueAfter, routes, pendingAfter, firstCircuit, firstAction}
 
 -- ---- "22 output words too few or a table shorter than its maximum"
 unfoldable pub quiet : World
@@ -76,7 +82,9 @@ new-has-a-ledger = refl
 -- "the revoking calls 96 for each pending record and circuit"
 unfoldable pub one-of-each : World
 unfolding found pendingOn circuitOn usageOn free peer
-one-of-each = found (noPending ∷ pendingOn 7 9 ∷ []) (circuitOn 8 (peer 1) (peer 3) 0 0 ∷ noCircuit ∷ []) (usageOn 5 0 ∷ []) (free 8)
+one-of-each =
+    found (noPending ∷ pendingOn 7 9 ∷ []) (circuitOn 8 (peer 1) (peer 3) 0 0 ∷ noCircuit ∷ [])
+    (usageOn 5 0 ∷ []) (free 8)
 
 pub revoking-wants-192 : answerOf one-of-each (callExpire 100 191) ≡ Refused Short
 unfolding answerOf one-of-each
@@ -139,10 +147,13 @@ pub close-names-one : pendingAfter twins (packetCall requesterPeer opClose 11 (0
 unfolding pendingAfter twins packetCall requesterPeer
 close-names-one = refl
 
--- a walk ends the record that has the property, at its place: not the one that a lookup of its id finds, here a stranger's at the lower place
+-- a walk ends the record that has the property, at its place: not the one that a lookup of its id finds, here a
+-- stranger's at the lower place
 unfoldable pub strangers : World
 unfolding found pendingOn pendingBetween usageOn free peer
-strangers = found (pendingBetween 7 13 (peer 3) (peer 4) ∷ pendingOn 7 9 ∷ []) (replicate 2 noCircuit) (usageOn 5 0 ∷ []) (free 8)
+strangers =
+    found (pendingBetween 7 13 (peer 3) (peer 4) ∷ pendingOn 7 9 ∷ []) (replicate 2 noCircuit)
+    (usageOn 5 0 ∷ []) (free 8)
 
 pub walk-ends-its-own : pendingAfter strangers (callDisconnect requesterPeer 192) ≡ true ∷ false ∷ []
 unfolding pendingAfter strangers requesterPeer
@@ -165,11 +176,13 @@ pub due-lies-ahead : dueAfter oneOver (callExpire 110 192) ≡ dueIs (At 200)
 unfolding dueAfter oneOver
 due-lies-ahead = refl
 
--- ---- "a new record replaces the one its lookup finds": a circuit of the pending's id, an action of the next sequence number
+-- ---- "a new record replaces the one its lookup finds": a circuit of the pending's id, an action of the next sequence
+-- number
 unfoldable pub already : World
 unfolding found pendingOn circuitOn usageOn actionOn free peer
 already =
-    found (pendingOn 7 9 ∷ noPending ∷ []) (circuitOn 7 (peer 1) (peer 3) 5 5 ∷ noCircuit ∷ []) (usageOn 5 0 ∷ []) (actionOn 1 99 3 0 ∷ free 7)
+    found (pendingOn 7 9 ∷ noPending ∷ []) (circuitOn 7 (peer 1) (peer 3) 5 5 ∷ noCircuit ∷ []) (usageOn 5 0 ∷ [])
+    (actionOn 1 99 3 0 ∷ free 7)
 
 pub accept-replaces : firstCircuit already (acceptCall 100) .endpoint .bytes ≡ 2 ∷ replicate (maximumPeer - 1) 0
 unfolding firstCircuit already acceptCall

@@ -1,5 +1,6 @@
--- Tables as a host may lend them, further examples: long and dirty names, a stored zero context, marks and counts that do not fit, kinds above 4,
--- numbers and sums at their tops, and the tail of the output. Above each stands what it reads of document 01.
+-- Tables as a host may lend them, further examples: long and dirty names, a stored zero context, marks and counts that
+-- do not fit, kinds above 4, numbers and sums at their tops, and the tail of the output. Above each stands what it
+-- reads of document 01.
 use Prim.Native.Nat.{ℕ, _+_, _-_}
 use mathlib.Core.Path.{_≡_, refl}
 use mathlib.Core.Bool.{true, false}
@@ -10,7 +11,8 @@ use Rattle.hnsr_body.specs.declared.error.HnsrInvalid.the-variants.{ContextZero
 use Rattle.hnsr_body.specs.declared.error.HnsrProtocolError.the-variants.{Invalid}
 use Rattle.hnsr_circuit.specs.declared.peer.HnsrPeerId.{HnsrPeerId}
 use Rattle.hnsr_circuit.specs.declared.answer.HnsrAnswer.the-variants.{Taken, Refused}
-use Rattle.hnsr_circuit.specs.declared.answer.HnsrRuntimeError.the-variants.{Protocol, GenerationExhausted, Capacity}
+use Rattle.hnsr_circuit.specs.declared.answer.HnsrRuntimeError.the-variants.{Protocol, GenerationExhausted}
+use Rattle.hnsr_circuit.specs.declared.answer.HnsrRuntimeError.the-variants.{Capacity}
 use Rattle.hnsr_circuit.specs.Peer.{maximumPeer}
 use Rattle.hnsr_circuit.specs.Pending.{noPending}
 use Rattle.hnsr_circuit.specs.Circuits.{noCircuit}
@@ -18,7 +20,9 @@ use Rattle.hnsr_circuit.specs.World.{World}
 use Rattle.hnsr_circuit.specs.Opcode.{opClose, opError}
 use Rattle.hnsr_circuit.specs.Call.{callReplaceEnabled, callAcknowledge, callDisconnect, callExpire}
 use Rattle.hnsr_circuit.specs.Worked.Cases.{requesterPeer, openCall, acceptCall, dataCall}
-use Rattle.hnsr_circuit.specs.Worked.LentWorlds.{peer, pendingOn, circuitOn, usageOn, actionOn, found, free, lastSequence, lastGeneration, answerOf, wordsOf, outputAfter, routes, firstCircuit, runtimeAfter, actionsAfter, bytesQueued}
+use Rattle.hnsr_circuit.specs.Worked.LentWorlds.{peer, pendingOn, circuitOn, usageOn, actionOn, found, free}
+use Rattle.hnsr_circuit.specs.Worked.LentWorlds.{lastSequence, lastGeneration, answerOf, wordsOf, outputAfter}
+use Rattle.hnsr_circuit.specs.Worked.LentWorlds.{routes, firstCircuit, runtimeAfter, actionsAfter, bytesQueued}
 use Rattle.hnsr_circuit.specs.Worked.Lent.{quiet, fewActions, one-of-each}
 
 -- ---- a peer length over the most reads as the most; what stands behind a name is not read
@@ -30,7 +34,8 @@ dirtyPeer = record { len = 1; bytes = 1 ∷ replicate (maximumPeer - 1) 6 }
 
 unfoldable pub longNames : World
 unfolding found circuitOn usageOn free longPeer dirtyPeer
-longNames = found (replicate 2 noPending) (circuitOn 7 dirtyPeer longPeer 0 0 ∷ noCircuit ∷ []) (usageOn 5 0 ∷ []) (free 8)
+longNames =
+    found (replicate 2 noPending) (circuitOn 7 dirtyPeer longPeer 0 0 ∷ noCircuit ∷ []) (usageOn 5 0 ∷ []) (free 8)
 
 unfoldable pub firstWord : List ℕ → ℕ
 firstWord [] = 0
@@ -49,8 +54,8 @@ pub dirty-name-padded : getD (wordsOf longNames (dataCall (replicate maximumPeer
 unfolding wordsOf longNames dataCall
 dirty-name-padded = refl
 
--- ---- "1 `HnsrPacket::new` refuses the made message": a stored zero context refuses OPENED with all written, and a revocation skips the
--- message silently
+-- ---- "1 `HnsrPacket::new` refuses the made message": a stored zero context refuses OPENED with all written, and a
+-- revocation skips the message silently
 unfoldable pub zeroContext : World
 unfolding found pendingOn usageOn free
 zeroContext = found (pendingOn 7 0 ∷ noPending ∷ []) (replicate 2 noCircuit) (usageOn 5 0 ∷ []) (free 8)
@@ -70,7 +75,8 @@ revocation-skips = refl
 -- ---- "a count takes all": three used places where two are the most, and no unused place is looked for
 unfoldable pub crowded : World
 unfolding found pendingOn usageOn free
-crowded = found (pendingOn 7 9 ∷ pendingOn 8 10 ∷ pendingOn 9 11 ∷ []) (replicate 2 noCircuit) (usageOn 5 0 ∷ []) (free 8)
+crowded =
+    found (pendingOn 7 9 ∷ pendingOn 8 10 ∷ pendingOn 9 11 ∷ []) (replicate 2 noCircuit) (usageOn 5 0 ∷ []) (free 8)
 
 pub crowded-is-full : answerOf crowded openCall ≡ Refused Capacity
 unfolding answerOf crowded openCall
@@ -80,7 +86,8 @@ crowded-is-full = refl
 unfoldable pub brim : World
 unfolding found circuitOn usageOn actionOn free peer
 brim =
-    found (replicate 2 noPending) (circuitOn 7 (peer 1) (peer 2) (top 64) 3 ∷ circuitOn 8 (peer 1) (peer 2) 0 (top 64) ∷ []) (usageOn 5 (top 64) ∷ [])
+    found (replicate 2 noPending)
+    (circuitOn 7 (peer 1) (peer 2) (top 64) 3 ∷ circuitOn 8 (peer 1) (peer 2) 0 (top 64) ∷ []) (usageOn 5 (top 64) ∷ [])
     (actionOn 1 7 2 10 ∷ actionOn 2 8 77 0 ∷ free 6)
 
 pub data-taken-at-brim : answerOf brim (dataCall requesterPeer 2 100) ≡ Taken
@@ -105,14 +112,17 @@ pub kind-77-is-close : firstCircuit brim (callAcknowledge 1 2 false 96) .used �
 unfolding firstCircuit brim
 kind-77-is-close = refl
 
--- ---- "6 sequence at 2^64 − 1: everything earlier in the step stays"; a revocation finds "no sequence number" and is silent
+-- ---- "6 sequence at 2^64 − 1: everything earlier in the step stays"; a revocation finds "no sequence number" and is
+-- silent
 unfoldable pub exhausted : World
 unfolding lastSequence one-of-each
 exhausted = lastSequence one-of-each
 
 unfoldable pub sending : World
 unfolding lastSequence found circuitOn usageOn free peer
-sending = lastSequence (found (replicate 2 noPending) (circuitOn 7 (peer 1) (peer 2) 0 0 ∷ noCircuit ∷ []) (usageOn 5 0 ∷ []) (free 8))
+sending =
+    lastSequence
+    (found (replicate 2 noPending) (circuitOn 7 (peer 1) (peer 2) 0 0 ∷ noCircuit ∷ []) (usageOn 5 0 ∷ []) (free 8))
 
 pub data-refused-at-top : answerOf sending (dataCall requesterPeer 2 100) ≡ Refused GenerationExhausted
 unfolding answerOf sending dataCall requesterPeer
@@ -143,11 +153,13 @@ pub same-state-taken : answerOf oldest (callReplaceEnabled (top 64) true 0) ≡ 
 unfolding answerOf oldest
 same-state-taken = refl
 
--- ---- "if off, revokes all": a pending record and a circuit of one id are ended by the ordinary rule, so the circuit's end drops the actions
--- of the record before it. All four routes were written; two actions are left
+-- ---- "if off, revokes all": a pending record and a circuit of one id are ended by the ordinary rule, so the circuit's
+-- end drops the actions of the record before it. All four routes were written; two actions are left
 unfoldable pub oneId : World
 unfolding found pendingOn circuitOn usageOn free peer
-oneId = found (pendingOn 7 9 ∷ noPending ∷ []) (circuitOn 7 (peer 3) (peer 4) 0 0 ∷ noCircuit ∷ []) (usageOn 5 0 ∷ []) (free 8)
+oneId =
+    found (pendingOn 7 9 ∷ noPending ∷ []) (circuitOn 7 (peer 3) (peer 4) 0 0 ∷ noCircuit ∷ [])
+    (usageOn 5 0 ∷ []) (free 8)
 
 pub disabled-routes : routes oneId (callReplaceEnabled 1 false 192)
     ≡ (1 ∷ 1 ∷ opError ∷ 9 ∷ [])
@@ -161,7 +173,8 @@ pub disabled-actions : actionsAfter oneId (callReplaceEnabled 1 false 192) ≡ 2
 unfolding actionsAfter oneId
 disabled-actions = refl
 
--- ---- "Words beyond stay", "Output is untouched by every refusal". A CLOSE of 23 bytes of detail is 47 words; the 48th is as it was
+-- ---- "Words beyond stay", "Output is untouched by every refusal". A CLOSE of 23 bytes of detail is 47 words; the 48th
+-- is as it was
 pub tail-stays : drop 47 (outputAfter zeroContext (callDisconnect requesterPeer 96) (replicate 50 9)) ≡ 9 ∷ 9 ∷ 9 ∷ []
 unfolding outputAfter zeroContext requesterPeer
 tail-stays = refl

@@ -1,5 +1,5 @@
--- Worlds as a host may lend them, and what is looked at, for the examples of Lent and LentMore. Names of one byte: the requester is 1,
--- the endpoint 2, as in the cases.
+-- Worlds as a host may lend them, and what is looked at, for the examples of Lent and LentMore. Names of one byte: the
+-- requester is 1, the endpoint 2, as in the cases.
 use Prim.Native.Nat.{ℕ, _-_}
 use mathlib.Core.Bool.{Bool, true}
 use mathlib.Core.List.{List, [], _∷_}
@@ -49,7 +49,8 @@ pendingOn id context = pendingBetween id context (peer 1) (peer 2)
 -- another deadline, in use
 unfoldable pub until : (deadline : ℕ) → RelayPending → RelayPending
 until deadline p =
-    pendingRecord (p .«circuit_id») (p .requester) (p .endpoint) (p .«requester_context») (p .ticket) (p .«initial_window») deadline
+    pendingRecord (p .«circuit_id») (p .requester) (p .endpoint) (p .«requester_context») (p .ticket)
+    (p .«initial_window») deadline
 
 unfoldable pub circuitOn : (id : ℕ) → (requester endpoint : HnsrPeerId) → (forwarded queued : ℕ) → RelayCircuit
 circuitOn id requester endpoint forwarded queued = record {
@@ -78,8 +79,13 @@ actionOn sequence id kind bytes = actionRecord 1 sequence id (peer 2) kind true 
 -- ---- worlds
 unfoldable pub found : List RelayPending → List RelayCircuit → List ReservationUsage → List InflightAction → World
 unfolding caseConfig machine
-found pending circuits ledger inflight = record
-    { runtime = newRuntime (replicate 16 1) 1 (caseConfig 65536) 100; pending = pending; circuits = circuits; ledger = ledger; inflight = inflight }
+found pending circuits ledger inflight = record {
+  runtime = newRuntime (replicate 16 1) 1 (caseConfig 65536) 100;
+  pending = pending;
+  circuits = circuits;
+  ledger = ledger;
+  inflight = inflight;
+}
 
 unfoldable pub free : ℕ → List InflightAction
 free n = replicate n noAction

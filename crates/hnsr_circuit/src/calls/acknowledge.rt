@@ -1,5 +1,5 @@
-// Acknowledge: removes the action; for Data lowers that one circuit's queued count; undelivered, it ends what the action was for (document 01,
-// "Down through the call").
+// Acknowledge: removes the action; for Data lowers that one circuit's queued count; undelivered, it ends what the
+// action was for (document 01, "Down through the call").
 ghost use mathlib.Core.Path.{_≡_};
 ghost use mathlib.Core.Bool.{Bool, true, not, _&&_, _||_};
 ghost use mathlib.Core.List.{List};
@@ -15,7 +15,8 @@ ghost use Rattle.hnsr_circuit.specs.declared.records.ReservationUsage.{R
 ghost use Rattle.hnsr_circuit.specs.Answers.{check, _then_};
 ghost use Rattle.hnsr_circuit.specs.Inflight.{actionAt, clearAction, kindOf, towardSide};
 ghost use Rattle.hnsr_circuit.specs.Entry.{acknowledgeWords};
-ghost use Rattle.hnsr_circuit.specs.Acknowledge.{generationAnswer, actionAnswer, failIncoming, acknowledgeAction, settled};
+ghost use Rattle.hnsr_circuit.specs.Acknowledge.{generationAnswer, actionAnswer};
+ghost use Rattle.hnsr_circuit.specs.Acknowledge.{failIncoming, acknowledgeAction, settled};
 ghost use Rattle.hnsr_circuit.specs.Queue.{send};
 ghost use Rattle.hnsr_circuit.specs.Code.Progress.{messageOf, ending, outcome};
 ghost use Rattle.hnsr_circuit.specs.Code.Lookup.{actionFound};
@@ -78,7 +79,10 @@ fn acknowledge_answer(
     generation: u64,
     found: ActionFound,
 ) -> HnsrAnswer
-    ensures { λ r. ⌜ r ≡ (check (ltb room acknowledgeWords || few) Short then generationAnswer (runtime .generation) generation then actionAnswer (found .found)) ⌝ }
+    ensures { λ r. ⌜
+        r ≡ (check (ltb room acknowledgeWords || few) Short
+        then generationAnswer (runtime .generation) generation
+        then actionAnswer (found .found)) ⌝ }
 {
     let short = either(room < CLOSING_WORDS, few);
     let first = check(short, HnsrRuntimeError::Short);
@@ -90,8 +94,8 @@ fn acknowledge_answer(
 
 // ---- what becomes of an action
 
-// What a kind asks for: for Data that one circuit's queued count is lowered; undelivered, Incoming ends the pending record, and Opened, Data
-// and Control revoke the circuit.
+// What a kind asks for: for Data that one circuit's queued count is lowered; undelivered, Incoming ends the pending
+// record, and Opened, Data and Control revoke the circuit.
 pub struct Settlement {
     pub lowers: bool,
     pub fails: bool,
@@ -141,7 +145,14 @@ pub struct SettlePlan {
 }
 
 fn settle_plan(found: ActionFound, delivered: bool) -> SettlePlan
-    ensures { λ r. ⌜ (r .place ≡ found .place) × (r .id ≡ found .action .«circuit_id») × (r .lower ≡ settlementFor (kindOf (found .action .kind)) .lowers) × (r .side ≡ towardSide (found .action)) × (r .bytes ≡ found .action .bytes) × (r .fail ≡ (not delivered && settlementFor (kindOf (found .action .kind)) .fails)) × (r .revoke ≡ (not delivered && settlementFor (kindOf (found .action .kind)) .revokes)) ⌝ }
+    ensures { λ r. ⌜
+        (r .place ≡ found .place)
+        × (r .id ≡ found .action .«circuit_id»)
+        × (r .lower ≡ settlementFor (kindOf (found .action .kind)) .lowers)
+        × (r .side ≡ towardSide (found .action))
+        × (r .bytes ≡ found .action .bytes)
+        × (r .fail ≡ (not delivered && settlementFor (kindOf (found .action .kind)) .fails))
+        × (r .revoke ≡ (not delivered && settlementFor (kindOf (found .action .kind)) .revokes)) ⌝ }
 {
     let action = found.action;
     let kind = kind_of(action.kind);
@@ -178,7 +189,11 @@ pub struct FailPlan {
 }
 
 fn fail_plan(found: PendingFound, runtime: OpaqueRelayRuntime) -> FailPlan
-    ensures { λ r. ⌜ (r .go ≡ found .found) × (r .place ≡ found .place) × (r .runtime ≡ revokedIf true runtime) × (r .message ≡ errorOut (found .pending)) ⌝ }
+    ensures { λ r. ⌜
+        (r .go ≡ found .found)
+        × (r .place ≡ found .place)
+        × (r .runtime ≡ revokedIf true runtime)
+        × (r .message ≡ errorOut (found .pending)) ⌝ }
 {
     let pending = found.pending;
     let message = error_to_requester(pending);
@@ -200,7 +215,11 @@ pub(crate) fn send_notice(
     message: Outgoing,
     notice: Notice,
 ) -> Relayed
-    ensures { λ r. ⌜ ((p : List RelayPending) (c : List RelayCircuit) (l : List ReservationUsage) → handedSeen r p c l (now (inflight .exit)) (now (out .exit)) ≡ ending (now (out .entry)) (send (worldSeen runtime places p c l (now (inflight .entry))) (messageOf message (noticeBody notice)))) ⌝ }
+    ensures { λ r. ⌜
+        ((p : List RelayPending) (c : List RelayCircuit) (l : List ReservationUsage)
+        → handedSeen r p c l (now (inflight .exit)) (now (out .exit))
+        ≡ ending (now (out .entry))
+        (send (worldSeen runtime places p c l (now (inflight .entry))) (messageOf message (noticeBody notice)))) ⌝ }
 {
     let question = asking(runtime, message);
     let scan = scan_actions(inflight, places, question);
@@ -228,7 +247,11 @@ pub(crate) fn fail_incoming(
     places: Places,
     id: u64,
 ) -> Relayed
-    ensures { λ r. ⌜ ((c : List RelayCircuit) (l : List ReservationUsage) → handedSeen r (now (pending .exit)) c l (now (inflight .exit)) (now (out .exit)) ≡ ending (now (out .entry)) (failIncoming (worldSeen runtime places (now (pending .entry)) c l (now (inflight .entry))) id)) ⌝ }
+    ensures { λ r. ⌜
+        ((c : List RelayCircuit) (l : List ReservationUsage)
+        → handedSeen r (now (pending .exit)) c l (now (inflight .exit)) (now (out .exit))
+        ≡ ending (now (out .entry))
+        (failIncoming (worldSeen runtime places (now (pending .entry)) c l (now (inflight .entry))) id)) ⌝ }
 {
     let found = pending_by_id(pending, places, id);
     let gone = found_unmarked(found);
@@ -259,7 +282,12 @@ pub(crate) fn settle(
     places: Places,
     plan: SettlePlan,
 ) -> Relayed
-    ensures { λ r. ⌜ ((l : List ReservationUsage) (a : InflightAction) (delivered : Bool) → Settles plan a delivered → handedSeen r (now (pending .exit)) (now (circuits .exit)) l (now (inflight .exit)) (now (out .exit)) ≡ ending (now (out .entry)) (settled (worldSeen runtime places (now (pending .entry)) (now (circuits .entry)) l (now (inflight .entry))) a delivered)) ⌝ }
+    ensures { λ r. ⌜
+        ((l : List ReservationUsage) (a : InflightAction) (delivered : Bool) → Settles plan a delivered
+        → handedSeen r (now (pending .exit)) (now (circuits .exit)) l (now (inflight .exit)) (now (out .exit))
+        ≡ ending (now (out .entry))
+        (settled (worldSeen runtime places (now (pending .entry)) (now (circuits .entry)) l (now (inflight .entry)))
+        a delivered)) ⌝ }
 {
     if plan.fail {
         return fail_incoming(pending, inflight, out, runtime, places, plan.id);
@@ -288,7 +316,14 @@ pub(crate) fn acknowledge_action(
     found: ActionFound,
     delivered: bool,
 ) -> Relayed
-    ensures { λ r. ⌜ ((l : List ReservationUsage) (generation sequence : ℕ) → found ≡ actionFound (actionAt generation sequence) (heldActions places (now (inflight .entry))) → handedSeen r (now (pending .exit)) (now (circuits .exit)) l (now (inflight .exit)) (now (out .exit)) ≡ ending (now (out .entry)) (acknowledgeAction (worldSeen runtime places (now (pending .entry)) (now (circuits .entry)) l (now (inflight .entry))) generation sequence delivered (found .action))) ⌝ }
+    ensures { λ r. ⌜
+        ((l : List ReservationUsage) (generation sequence : ℕ)
+        → found ≡ actionFound (actionAt generation sequence) (heldActions places (now (inflight .entry)))
+        → handedSeen r (now (pending .exit)) (now (circuits .exit)) l (now (inflight .exit)) (now (out .exit))
+        ≡ ending (now (out .entry))
+        (acknowledgeAction
+        (worldSeen runtime places (now (pending .entry)) (now (circuits .entry)) l (now (inflight .entry))) generation
+        sequence delivered (found .action))) ⌝ }
 {
     let gone = action_gone(found);
     let plan = settle_plan(found, delivered);
@@ -309,7 +344,12 @@ pub fn acknowledge(
     sequence: u64,
     delivered: bool,
 ) -> Relayed
-    ensures { λ r. ⌜ ((l : List ReservationUsage) → handedSeen r (now (pending .exit)) (now (circuits .exit)) l (now (inflight .exit)) (now (out .exit)) ≡ outcome (now (out .entry)) (step (worldSeen runtime places (now (pending .entry)) (now (circuits .entry)) l (now (inflight .entry))) (callAcknowledge generation sequence delivered (length (now (out .entry)))))) ⌝ }
+    ensures { λ r. ⌜
+        ((l : List ReservationUsage)
+        → handedSeen r (now (pending .exit)) (now (circuits .exit)) l (now (inflight .exit)) (now (out .exit))
+        ≡ outcome (now (out .entry))
+        (step (worldSeen runtime places (now (pending .entry)) (now (circuits .entry)) l (now (inflight .entry)))
+        (callAcknowledge generation sequence delivered (length (now (out .entry)))))) ⌝ }
 {
     let config = runtime.config;
     let found = look_up_action(inflight, places, generation, sequence);

@@ -78,7 +78,9 @@ fn entry_answer(
     source: usize,
     body: usize,
 ) -> HnsrAnswer
-    ensures { λ r. ⌜ r ≡ ((lent then peerAnswer source then packetAnswer (packet .opcode) (packet .«context_id») body) then clockAnswer (runtime .«trusted_time_high_water») (packet .now)) ⌝ }
+    ensures { λ r. ⌜
+        r ≡ ((lent then peerAnswer source then packetAnswer (packet .opcode) (packet .«context_id») body)
+        then clockAnswer (runtime .«trusted_time_high_water») (packet .now)) ⌝ }
 {
     let named = peer_answer(source);
     let enveloped = packet_answer(packet, body);
@@ -99,7 +101,9 @@ pub(crate) fn gate_answer(enabled: bool) -> HnsrAnswer
 
 // 16: another opcode, 21 up included
 fn unexpected(request: Request) -> Relayed
-    ensures { λ r. ⌜ ((r .runtime ≡ request .runtime) × (r .answer ≡ Refused UnexpectedOpcode) × (r .words ≡ 0)) × (r .places ≡ request .places) ⌝ }
+    ensures { λ r. ⌜
+        ((r .runtime ≡ request .runtime) × (r .answer ≡ Refused UnexpectedOpcode) × (r .words ≡ 0))
+        × (r .places ≡ request .places) ⌝ }
 {
     let answer = HnsrAnswer::Refused(HnsrRuntimeError::UnexpectedOpcode);
     refused(request.runtime, request.places, answer)
@@ -118,7 +122,15 @@ pub(crate) fn dispatch(
     random: &[u8],
 ) -> Relayed
     requires { ⌜ length (now body) < 65536 ⌝ }
-    ensures { λ r. ⌜ ((source : List ℕ) → request .peer ≡ peerOf source → handedSeen r (now (pending .exit)) (now (circuits .exit)) (now (ledger .exit)) (now (inflight .exit)) (now (out .exit)) ≡ ending (now (out .entry)) (dispatch (handlingOf (request .packet .opcode)) (worldGiven request (now (pending .entry)) (now (circuits .entry)) (now (ledger .entry)) (now (inflight .entry))) (packetOf (request .packet) source (now (body .entry)) (now (endpoint .entry)) (now (random .entry))))) ⌝ }
+    ensures { λ r. ⌜
+        ((source : List ℕ) → request .peer ≡ peerOf source
+        → handedSeen r (now (pending .exit)) (now (circuits .exit)) (now (ledger .exit)) (now (inflight .exit))
+        (now (out .exit))
+        ≡ ending (now (out .entry))
+        (dispatch (handlingOf (request .packet .opcode))
+        (worldGiven request (now (pending .entry)) (now (circuits .entry)) (now (ledger .entry))
+        (now (inflight .entry)))
+        (packetOf (request .packet) source (now (body .entry)) (now (endpoint .entry)) (now (random .entry))))) ⌝ }
 {
     let opcode = request.packet.opcode;
     match opcode {
@@ -157,7 +169,13 @@ pub(crate) fn handle_gate(
     random: &[u8],
 ) -> Relayed
     requires { ⌜ length (now body) < 65536 ⌝ }
-    ensures { λ r. ⌜ handedSeen r (now (pending .exit)) (now (circuits .exit)) (now (ledger .exit)) (now (inflight .exit)) (now (out .exit)) ≡ ending (now (out .entry)) (handleGate (worldSeen runtime places (now (pending .entry)) (now (circuits .entry)) (now (ledger .entry)) (now (inflight .entry))) (packetOf packet (now (source .entry)) (now (body .entry)) (now (endpoint .entry)) (now (random .entry)))) ⌝ }
+    ensures { λ r. ⌜
+        handedSeen r (now (pending .exit)) (now (circuits .exit)) (now (ledger .exit)) (now (inflight .exit))
+        (now (out .exit))
+        ≡ ending (now (out .entry))
+        (handleGate (worldSeen runtime places (now (pending .entry)) (now (circuits .entry)) (now (ledger .entry))
+        (now (inflight .entry)))
+        (packetOf packet (now (source .entry)) (now (body .entry)) (now (endpoint .entry)) (now (random .entry)))) ⌝ }
 {
     let answer = gate_answer(runtime.enabled);
     if is_taken(answer) {
@@ -197,7 +215,15 @@ pub fn handle(
     endpoint: &[u8],
     random: &[u8],
 ) -> Relayed
-    ensures { λ r. ⌜ handedSeen r (now (pending .exit)) (now (circuits .exit)) (now (ledger .exit)) (now (inflight .exit)) (now (out .exit)) ≡ outcome (now (out .entry)) (step (worldSeen runtime places (now (pending .entry)) (now (circuits .entry)) (now (ledger .entry)) (now (inflight .entry))) (callHandle (packetOf packet (now (source .entry)) (now (body .entry)) (now (endpoint .entry)) (now (random .entry))) (length (now (out .entry))))) ⌝ }
+    ensures { λ r. ⌜
+        handedSeen r (now (pending .exit)) (now (circuits .exit)) (now (ledger .exit)) (now (inflight .exit))
+        (now (out .exit))
+        ≡ outcome (now (out .entry))
+        (step (worldSeen runtime places (now (pending .entry)) (now (circuits .entry)) (now (ledger .entry))
+        (now (inflight .entry)))
+        (callHandle
+        (packetOf packet (now (source .entry)) (now (body .entry)) (now (endpoint .entry)) (now (random .entry)))
+        (length (now (out .entry))))) ⌝ }
 {
     let config = runtime.config;
     let few = too_few(config, pending.len(), circuits.len(), inflight.len());

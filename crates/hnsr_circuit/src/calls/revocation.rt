@@ -1,5 +1,5 @@
-// The end of a record, and revocation: it ends the record, drops its actions, then tells both sides; a walk revokes what has a property, by
-// ascending id, each record at its place (document 01, "Down through the call").
+// The end of a record, and revocation: it ends the record, drops its actions, then tells both sides; a walk revokes
+// what has a property, by ascending id, each record at its place (document 01, "Down through the call").
 ghost use mathlib.Core.Path.{_≡_};
 ghost use mathlib.Core.Bool.{cond, true, not};
 ghost use mathlib.Core.List.{List};
@@ -14,8 +14,10 @@ ghost use Rattle.hnsr_circuit.specs.Table.{notYet, next};
 ghost use Rattle.hnsr_circuit.specs.Queue.{finished};
 ghost use Rattle.hnsr_circuit.specs.declared.answer.HnsrAnswer.the-variants.{Taken};
 ghost use Rattle.hnsr_circuit.specs.Code.Progress.{advance, ending};
-ghost use Rattle.hnsr_circuit.specs.Revocation.{revokeCircuitThere, revokeCircuit, walk, pendingTable, circuitTable};
-ghost use Rattle.hnsr_circuit.specs.Code.Revoking.{closeSide, errorOut, closeOut, otherOut, firstOut, revokedIf, endingPending, revokedPending, revokedCircuit, revokingAll};
+ghost use Rattle.hnsr_circuit.specs.Revocation.{revokeCircuitThere, revokeCircuit};
+ghost use Rattle.hnsr_circuit.specs.Revocation.{walk, pendingTable, circuitTable};
+ghost use Rattle.hnsr_circuit.specs.Code.Revoking.{closeSide, errorOut, closeOut, otherOut, firstOut, revokedIf};
+ghost use Rattle.hnsr_circuit.specs.Code.Revoking.{endingPending, revokedPending, revokedCircuit, revokingAll};
 use crate::answer::HnsrAnswer;
 use crate::messages::message::closing;
 use crate::messages::opcode::CLOSE;
@@ -127,7 +129,10 @@ fn first_message(revoking: Revoking, pending: RelayPending) -> Outgoing
 // ---- one record
 
 fn counted(sending: Sending) -> Sending
-    ensures { λ r. ⌜ (r .runtime ≡ revokedIf true (sending .runtime)) × (r .position ≡ sending .position) × (r .places ≡ sending .places) ⌝ }
+    ensures { λ r. ⌜
+        (r .runtime ≡ revokedIf true (sending .runtime))
+        × (r .position ≡ sending .position)
+        × (r .places ≡ sending .places) ⌝ }
 {
     let runtime = sending.runtime;
     Sending {
@@ -137,7 +142,14 @@ fn counted(sending: Sending) -> Sending
 }
 
 fn plan_pending(pending: RelayPending, sending: Sending, revoking: Revoking) -> EndPlan
-    ensures { λ r. ⌜ (r .id ≡ pending .«circuit_id») × (r .sending .runtime ≡ revokedIf true (sending .runtime)) × (r .sending .position ≡ sending .position) × (r .first ≡ firstOut revoking pending) × (r .also ≡ not (revoking .disconnecting)) × (r .second ≡ closeOut pending) × (r .sending .places ≡ sending .places) ⌝ }
+    ensures { λ r. ⌜
+        (r .id ≡ pending .«circuit_id»)
+        × (r .sending .runtime ≡ revokedIf true (sending .runtime))
+        × (r .sending .position ≡ sending .position)
+        × (r .first ≡ firstOut revoking pending)
+        × (r .also ≡ not (revoking .disconnecting))
+        × (r .second ≡ closeOut pending)
+        × (r .sending .places ≡ sending .places) ⌝ }
 {
     let first = first_message(revoking, pending);
     let second = close_to_endpoint(pending);
@@ -162,7 +174,8 @@ fn pending_notice(revoking: Revoking) -> Notice
     notice
 }
 
-// The pending record at a place: revoked it gives ERROR to the requester, CLOSE to the endpoint; on disconnect CLOSE to the other peer.
+// The pending record at a place: revoked it gives ERROR to the requester, CLOSE to the endpoint; on disconnect CLOSE to
+// the other peer.
 pub(crate) fn revoke_pending(
     pending: &mut [RelayPending],
     inflight: &mut [InflightAction],
@@ -171,7 +184,11 @@ pub(crate) fn revoke_pending(
     revoking: Revoking,
     place: usize,
 ) -> Sending
-    ensures { λ r. ⌜ ((c : List RelayCircuit) (l : List ReservationUsage) → underwaySeen r (now (pending .exit)) c l (now (inflight .exit)) (now (out .exit)) ≡ advance (λ w. endingPending revoking w place) (underwaySeen sending (now (pending .entry)) c l (now (inflight .entry)) (now (out .entry)))) ⌝ }
+    ensures { λ r. ⌜
+        ((c : List RelayCircuit) (l : List ReservationUsage)
+        → underwaySeen r (now (pending .exit)) c l (now (inflight .exit)) (now (out .exit))
+        ≡ advance (λ w. endingPending revoking w place)
+        (underwaySeen sending (now (pending .entry)) c l (now (inflight .entry)) (now (out .entry)))) ⌝ }
 {
     let places = sending.places;
     let notice = pending_notice(revoking);
@@ -187,7 +204,14 @@ pub(crate) fn revoke_pending(
 }
 
 fn plan_circuit(circuit: RelayCircuit, sending: Sending) -> EndPlan
-    ensures { λ r. ⌜ (r .id ≡ circuit .«circuit_id») × (r .sending .runtime ≡ revokedIf true (sending .runtime)) × (r .sending .position ≡ sending .position) × (r .first ≡ closeSide circuit (circuit .requester)) × (r .also ≡ true) × (r .second ≡ closeSide circuit (circuit .endpoint)) × (r .sending .places ≡ sending .places) ⌝ }
+    ensures { λ r. ⌜
+        (r .id ≡ circuit .«circuit_id»)
+        × (r .sending .runtime ≡ revokedIf true (sending .runtime))
+        × (r .sending .position ≡ sending .position)
+        × (r .first ≡ closeSide circuit (circuit .requester))
+        × (r .also ≡ true)
+        × (r .second ≡ closeSide circuit (circuit .endpoint))
+        × (r .sending .places ≡ sending .places) ⌝ }
 {
     let id = circuit.circuit_id;
     let requester = circuit.requester;
@@ -213,7 +237,11 @@ pub(crate) fn revoke_circuit(
     notice: Notice,
     place: usize,
 ) -> Sending
-    ensures { λ r. ⌜ ((p : List RelayPending) (l : List ReservationUsage) → underwaySeen r p (now (circuits .exit)) l (now (inflight .exit)) (now (out .exit)) ≡ advance (λ w. revokeCircuitThere notice w place) (underwaySeen sending p (now (circuits .entry)) l (now (inflight .entry)) (now (out .entry)))) ⌝ }
+    ensures { λ r. ⌜
+        ((p : List RelayPending) (l : List ReservationUsage)
+        → underwaySeen r p (now (circuits .exit)) l (now (inflight .exit)) (now (out .exit))
+        ≡ advance (λ w. revokeCircuitThere notice w place)
+        (underwaySeen sending p (now (circuits .entry)) l (now (inflight .entry)) (now (out .entry)))) ⌝ }
 {
     let places = sending.places;
     let row = circuit_at(circuits, places, place);
@@ -227,8 +255,8 @@ pub(crate) fn revoke_circuit(
     tell_notice(inflight, out, plan.also, told, second, notice)
 }
 
-// ---- walks: again and again the least id and place above the last that has the property, whose record is ended; it takes at most as many
-// turns as there are places
+// ---- walks: again and again the least id and place above the last that has the property, whose record is ended; it
+// takes at most as many turns as there are places
 
 pub(crate) fn walk_pending(
     pending: &mut [RelayPending],
@@ -240,7 +268,11 @@ pub(crate) fn walk_pending(
 ) -> Sending
     requires { ⌜ first
         ≡ next pendingId (revokedPending revoking) notYet (heldPending (sending .places) (now pending)) ⌝ }
-    ensures { λ r. ⌜ ((c : List RelayCircuit) (l : List ReservationUsage) → underwaySeen r (now (pending .exit)) c l (now (inflight .exit)) (now (out .exit)) ≡ advance (walk pendingId pendingTable (revokedPending revoking) (endingPending revoking)) (underwaySeen sending (now (pending .entry)) c l (now (inflight .entry)) (now (out .entry)))) ⌝ }
+    ensures { λ r. ⌜
+        ((c : List RelayCircuit) (l : List ReservationUsage)
+        → underwaySeen r (now (pending .exit)) c l (now (inflight .exit)) (now (out .exit))
+        ≡ advance (walk pendingId pendingTable (revokedPending revoking) (endingPending revoking))
+        (underwaySeen sending (now (pending .entry)) c l (now (inflight .entry)) (now (out .entry)))) ⌝ }
 {
     let question = revoking.question;
     let peer = revoking.peer;
@@ -269,7 +301,12 @@ pub(crate) fn walk_circuits(
 ) -> Sending
     requires { ⌜ first
         ≡ next circuitId (revokedCircuit revoking) notYet (heldCircuits (sending .places) (now circuits)) ⌝ }
-    ensures { λ r. ⌜ ((p : List RelayPending) (l : List ReservationUsage) → underwaySeen r p (now (circuits .exit)) l (now (inflight .exit)) (now (out .exit)) ≡ advance (walk circuitId circuitTable (revokedCircuit revoking) (revokeCircuitThere (revoking .«circuit_notice»))) (underwaySeen sending p (now (circuits .entry)) l (now (inflight .entry)) (now (out .entry)))) ⌝ }
+    ensures { λ r. ⌜
+        ((p : List RelayPending) (l : List ReservationUsage)
+        → underwaySeen r p (now (circuits .exit)) l (now (inflight .exit)) (now (out .exit))
+        ≡ advance
+        (walk circuitId circuitTable (revokedCircuit revoking) (revokeCircuitThere (revoking .«circuit_notice»)))
+        (underwaySeen sending p (now (circuits .entry)) l (now (inflight .entry)) (now (out .entry)))) ⌝ }
 {
     let question = revoking.question;
     let peer = revoking.peer;
@@ -302,7 +339,9 @@ fn started(runtime: OpaqueRelayRuntime, places: Places) -> Sending
 }
 
 pub(crate) fn finished(sending: Sending) -> Relayed
-    ensures { λ r. ⌜ ((r .runtime ≡ sending .runtime) × (r .answer ≡ Taken) × (r .words ≡ sending .position)) × (r .places ≡ sending .places) ⌝ }
+    ensures { λ r. ⌜
+        ((r .runtime ≡ sending .runtime) × (r .answer ≡ Taken) × (r .words ≡ sending .position))
+        × (r .places ≡ sending .places) ⌝ }
 {
     let runtime = sending.runtime;
     let places = sending.places;
@@ -326,7 +365,12 @@ pub(crate) fn revoke_all(
 ) -> Relayed
     requires { ⌜ (first .pending ≡ next pendingId (revokedPending revoking) notYet (heldPending places (now pending)))
         × (first .circuits ≡ next circuitId (revokedCircuit revoking) notYet (heldCircuits places (now circuits))) ⌝ }
-    ensures { λ r. ⌜ ((l : List ReservationUsage) → handedSeen r (now (pending .exit)) (now (circuits .exit)) l (now (inflight .exit)) (now (out .exit)) ≡ ending (now (out .entry)) (revokingAll revoking (worldSeen runtime places (now (pending .entry)) (now (circuits .entry)) l (now (inflight .entry))))) ⌝ }
+    ensures { λ r. ⌜
+        ((l : List ReservationUsage)
+        → handedSeen r (now (pending .exit)) (now (circuits .exit)) l (now (inflight .exit)) (now (out .exit))
+        ≡ ending (now (out .entry))
+        (revokingAll revoking
+        (worldSeen runtime places (now (pending .entry)) (now (circuits .entry)) l (now (inflight .entry))))) ⌝ }
 {
     let start = started(runtime, places);
     let waiting = first.pending;
@@ -346,7 +390,12 @@ pub(crate) fn revoke_one(
     notice: Notice,
     id: u64,
 ) -> Relayed
-    ensures { λ r. ⌜ ((p : List RelayPending) (l : List ReservationUsage) → handedSeen r p (now (circuits .exit)) l (now (inflight .exit)) (now (out .exit)) ≡ ending (now (out .entry)) (finished (revokeCircuit notice (worldSeen runtime places p (now (circuits .entry)) l (now (inflight .entry))) id))) ⌝ }
+    ensures { λ r. ⌜
+        ((p : List RelayPending) (l : List ReservationUsage)
+        → handedSeen r p (now (circuits .exit)) l (now (inflight .exit)) (now (out .exit))
+        ≡ ending (now (out .entry))
+        (finished
+        (revokeCircuit notice (worldSeen runtime places p (now (circuits .entry)) l (now (inflight .entry))) id))) ⌝ }
 {
     let start = started(runtime, places);
     let place = find_circuit_id(circuits, places, id);

@@ -16,7 +16,8 @@ ghost use Rattle.hnsr_circuit.specs.declared.tables.question.RecordQuest
 ghost use Rattle.hnsr_circuit.specs.Pending.{isPending, pendingId};
 ghost use Rattle.hnsr_circuit.specs.Circuits.{isCircuit, circuitId};
 ghost use Rattle.hnsr_circuit.specs.Entry.{closingWords, tooFew};
-ghost use Rattle.hnsr_circuit.specs.Call.{step, callDisconnect, callRevokeReservation, callExpire, callReplaceEnabled};
+ghost use Rattle.hnsr_circuit.specs.Call.{step, callDisconnect, callRevokeReservation};
+ghost use Rattle.hnsr_circuit.specs.Call.{callExpire, callReplaceEnabled};
 ghost use Rattle.hnsr_circuit.specs.Code.Progress.{outcome, ending};
 ghost use Rattle.hnsr_circuit.specs.RevokingCalls.{changeAnswer, switchTo};
 ghost use Rattle.hnsr_circuit.specs.Code.Revoking.{revokedPending, revokedCircuit, disconnectingAll, revokes};
@@ -102,7 +103,8 @@ pub struct Entered {
 }
 
 fn entry_found(answer: HnsrAnswer, waiting: Survey, active: Survey) -> Entered
-    ensures { λ r. ⌜ (r .answer ≡ answer) × (r .first .pending ≡ waiting .first) × (r .first .circuits ≡ active .first) ⌝ }
+    ensures { λ r. ⌜
+        (r .answer ≡ answer) × (r .first .pending ≡ waiting .first) × (r .first .circuits ≡ active .first) ⌝ }
 {
     let pending = waiting.first;
     let circuits = active.first;
@@ -177,7 +179,12 @@ pub fn disconnect(
     places: Places,
     peer: &[u8],
 ) -> Relayed
-    ensures { λ r. ⌜ ((l : List ReservationUsage) → handedSeen r (now (pending .exit)) (now (circuits .exit)) l (now (inflight .exit)) (now (out .exit)) ≡ outcome (now (out .entry)) (step (worldSeen runtime places (now (pending .entry)) (now (circuits .entry)) l (now (inflight .entry))) (callDisconnect (now (peer .entry)) (length (now (out .entry)))))) ⌝ }
+    ensures { λ r. ⌜
+        ((l : List ReservationUsage)
+        → handedSeen r (now (pending .exit)) (now (circuits .exit)) l (now (inflight .exit)) (now (out .exit))
+        ≡ outcome (now (out .entry))
+        (step (worldSeen runtime places (now (pending .entry)) (now (circuits .entry)) l (now (inflight .entry)))
+        (callDisconnect (now (peer .entry)) (length (now (out .entry)))))) ⌝ }
 {
     let config = runtime.config;
     let name = peer_of(peer);
@@ -222,7 +229,12 @@ pub fn revoke_reservation(
     places: Places,
     id: ReservationId,
 ) -> Relayed
-    ensures { λ r. ⌜ handedSeen r (now (pending .exit)) (now (circuits .exit)) (now (ledger .exit)) (now (inflight .exit)) (now (out .exit)) ≡ outcome (now (out .entry)) (step (worldSeen runtime places (now (pending .entry)) (now (circuits .entry)) (now (ledger .entry)) (now (inflight .entry))) (callRevokeReservation id (length (now (out .entry))))) ⌝ }
+    ensures { λ r. ⌜
+        handedSeen r (now (pending .exit)) (now (circuits .exit)) (now (ledger .exit)) (now (inflight .exit))
+        (now (out .exit))
+        ≡ outcome (now (out .entry))
+        (step (worldSeen runtime places (now (pending .entry)) (now (circuits .entry)) (now (ledger .entry))
+        (now (inflight .entry))) (callRevokeReservation id (length (now (out .entry))))) ⌝ }
 {
     let config = runtime.config;
     let all = revoking(
@@ -257,7 +269,8 @@ pub fn revoke_reservation(
     refused(runtime, places, answer)
 }
 
-// Drops ledger records as OPEN does, then revokes pending records whose deadline or expiry, and circuits whose expiry, is not after now.
+// Drops ledger records as OPEN does, then revokes pending records whose deadline or expiry, and circuits whose expiry,
+// is not after now.
 pub fn expire(
     pending: &mut [RelayPending],
     circuits: &mut [RelayCircuit],
@@ -268,7 +281,12 @@ pub fn expire(
     places: Places,
     time: u64,
 ) -> Relayed
-    ensures { λ r. ⌜ handedSeen r (now (pending .exit)) (now (circuits .exit)) (now (ledger .exit)) (now (inflight .exit)) (now (out .exit)) ≡ outcome (now (out .entry)) (step (worldSeen runtime places (now (pending .entry)) (now (circuits .entry)) (now (ledger .entry)) (now (inflight .entry))) (callExpire time (length (now (out .entry))))) ⌝ }
+    ensures { λ r. ⌜
+        handedSeen r (now (pending .exit)) (now (circuits .exit)) (now (ledger .exit)) (now (inflight .exit))
+        (now (out .exit))
+        ≡ outcome (now (out .entry))
+        (step (worldSeen runtime places (now (pending .entry)) (now (circuits .entry)) (now (ledger .entry))
+        (now (inflight .entry))) (callExpire time (length (now (out .entry))))) ⌝ }
 {
     let config = runtime.config;
     let all = revoking(
@@ -323,7 +341,12 @@ pub(crate) fn switch_to(
         × (all ≡ revokes Used RelayDisabled RelayDisabled)
         × (first .pending ≡ next pendingId (revokedPending all) notYet (heldPending places (now pending)))
         × (first .circuits ≡ next circuitId (revokedCircuit all) notYet (heldCircuits places (now circuits))) ⌝ }
-    ensures { λ r. ⌜ ((l : List ReservationUsage) → handedSeen r (now (pending .exit)) (now (circuits .exit)) l (now (inflight .exit)) (now (out .exit)) ≡ ending (now (out .entry)) (switchTo (worldSeen runtime places (now (pending .entry)) (now (circuits .entry)) l (now (inflight .entry))) enabled)) ⌝ }
+    ensures { λ r. ⌜
+        ((l : List ReservationUsage)
+        → handedSeen r (now (pending .exit)) (now (circuits .exit)) l (now (inflight .exit)) (now (out .exit))
+        ≡ ending (now (out .entry))
+        (switchTo (worldSeen runtime places (now (pending .entry)) (now (circuits .entry)) l (now (inflight .entry)))
+        enabled)) ⌝ }
 {
     let switched = with_enabled(runtime, enabled);
     let nobody = no_peer();
@@ -354,7 +377,12 @@ pub fn replace_enabled(
     expected_generation: u64,
     enabled: bool,
 ) -> Relayed
-    ensures { λ r. ⌜ ((l : List ReservationUsage) → handedSeen r (now (pending .exit)) (now (circuits .exit)) l (now (inflight .exit)) (now (out .exit)) ≡ outcome (now (out .entry)) (step (worldSeen runtime places (now (pending .entry)) (now (circuits .entry)) l (now (inflight .entry))) (callReplaceEnabled «expected_generation» enabled (length (now (out .entry)))))) ⌝ }
+    ensures { λ r. ⌜
+        ((l : List ReservationUsage)
+        → handedSeen r (now (pending .exit)) (now (circuits .exit)) l (now (inflight .exit)) (now (out .exit))
+        ≡ outcome (now (out .entry))
+        (step (worldSeen runtime places (now (pending .entry)) (now (circuits .entry)) l (now (inflight .entry)))
+        (callReplaceEnabled «expected_generation» enabled (length (now (out .entry)))))) ⌝ }
 {
     let config = runtime.config;
     let all = revoking(

@@ -4,7 +4,8 @@ ghost use mathlib.Core.Bool.{cond, _||_};
 ghost use mathlib.Core.List.{List};
 ghost use Prim.Native.Nat.{ℕ};
 ghost use lib.Dec.{eqb};
-ghost use Rattle.hnsr_circuit.specs.Code.Held.{heldPending, heldCircuits, heldLedger, heldActions, worldSeen, handedSeen};
+ghost use Rattle.hnsr_circuit.specs.Code.Held.{heldPending, heldCircuits, heldLedger};
+ghost use Rattle.hnsr_circuit.specs.Code.Held.{heldActions, worldSeen, handedSeen};
 ghost use Rattle.hnsr_circuit.specs.declared.records.RelayPending.{RelayPending};
 ghost use Rattle.hnsr_circuit.specs.declared.records.RelayCircuit.{RelayCircuit};
 ghost use Rattle.hnsr_circuit.specs.declared.records.ReservationUsage.{ReservationUsage};
@@ -74,7 +75,8 @@ fn new_answer(
     few: bool,
     ledger: usize,
 ) -> HnsrAnswer
-    ensures { λ r. ⌜ r ≡ (sessionAnswer session generation then validateConfig config then check (few || eqb ledger 0) Short) ⌝ }
+    ensures { λ r. ⌜
+        r ≡ (sessionAnswer session generation then validateConfig config then check (few || eqb ledger 0) Short) ⌝ }
 {
     let named = session_answer(session, generation);
     let valid = config.validate();
@@ -84,7 +86,8 @@ fn new_answer(
     first_refusal(named, rest)
 }
 
-// No place is in use, whatever the tables hold: no table is touched. Where it is refused every place stays as it is, and the runtime is zeros and off.
+// No place is in use, whatever the tables hold: no table is touched. Where it is refused every place stays as it is,
+// and the runtime is zeros and off.
 pub fn new(
     pending: &[RelayPending],
     circuits: &[RelayCircuit],
@@ -95,7 +98,12 @@ pub fn new(
     config: OpaqueRelayConfig,
     time: u64,
 ) -> Relayed
-    ensures { λ r. ⌜ ((h : OpaqueRelayRuntime) → Made r (heldPending (r .places) (now (pending .entry))) (heldCircuits (r .places) (now (circuits .entry))) (heldLedger (r .places) (now (ledger .entry))) (heldActions (r .places) (now (inflight .entry))) (start (worldOf h (now (pending .entry)) (now (circuits .entry)) (now (ledger .entry)) (now (inflight .entry))) (record { session = session; generation = generation; config = config; now = time }))) ⌝ }
+    ensures { λ r. ⌜
+        ((h : OpaqueRelayRuntime)
+        → Made r (heldPending (r .places) (now (pending .entry))) (heldCircuits (r .places) (now (circuits .entry)))
+        (heldLedger (r .places) (now (ledger .entry))) (heldActions (r .places) (now (inflight .entry)))
+        (start (worldOf h (now (pending .entry)) (now (circuits .entry)) (now (ledger .entry)) (now (inflight .entry)))
+        (record { session = session; generation = generation; config = config; now = time }))) ⌝ }
 {
     let few = too_few(config, pending.len(), circuits.len(), inflight.len());
     let answer = new_answer(session, generation, config, few, ledger.len());
@@ -176,7 +184,11 @@ pub fn status(
     runtime: OpaqueRelayRuntime,
     places: Places,
 ) -> StatusTold
-    ensures { λ r. ⌜ ((l : List ReservationUsage) → r ≡ statusTold (step (worldSeen runtime places (now (pending .entry)) (now (circuits .entry)) l (now (inflight .entry))) callStatus)) ⌝ }
+    ensures { λ r. ⌜
+        ((l : List ReservationUsage)
+        → r ≡ statusTold
+        (step (worldSeen runtime places (now (pending .entry)) (now (circuits .entry)) l (now (inflight .entry)))
+        callStatus)) ⌝ }
 {
     let config = runtime.config;
     let waiting = count_pending(pending, places);
@@ -210,7 +222,11 @@ pub fn next_due(
     runtime: OpaqueRelayRuntime,
     places: Places,
 ) -> DueTold
-    ensures { λ r. ⌜ ((l : List ReservationUsage) → r ≡ dueTold (step (worldSeen runtime places (now (pending .entry)) (now (circuits .entry)) l (now (inflight .entry))) callNextDue)) ⌝ }
+    ensures { λ r. ⌜
+        ((l : List ReservationUsage)
+        → r ≡ dueTold
+        (step (worldSeen runtime places (now (pending .entry)) (now (circuits .entry)) l (now (inflight .entry)))
+        callNextDue)) ⌝ }
 {
     let config = runtime.config;
     let first = pending_due(pending, places, NextDue::Never);
@@ -222,7 +238,10 @@ pub fn next_due(
 // ---- observe_time: it is lent no table, and asks no 22
 
 pub fn observe_time(runtime: OpaqueRelayRuntime, places: Places, time: u64) -> Relayed
-    ensures { λ r. ⌜ ((p : List RelayPending) (c : List RelayCircuit) (l : List ReservationUsage) (i : List InflightAction) (out : List ℕ) → handedSeen r p c l i out ≡ outcome out (step (worldSeen runtime places p c l i) (callObserveTime time))) ⌝ }
+    ensures { λ r. ⌜
+        ((p : List RelayPending) (c : List RelayCircuit) (l : List ReservationUsage) (i : List InflightAction)
+        (out : List ℕ)
+        → handedSeen r p c l i out ≡ outcome out (step (worldSeen runtime places p c l i) (callObserveTime time))) ⌝ }
 {
     let answer = clock_answer(runtime.trusted_time_high_water, time);
     let moved = with_clock(runtime, time);

@@ -35,8 +35,8 @@ use hnsr_body::accept_body::AcceptBody;
 use hnsr_body::accept_body::AcceptRead;
 use hnsr_body::accept_body::OpenedBody;
 
-// 10: accepted window over the offered one, circuits full, or the reservation's count over the ticket's most, which it may equal: the pending
-// record counts itself
+// 10: accepted window over the offered one, circuits full, or the reservation's count over the ticket's most, which it
+// may equal: the pending record counts itself
 pub(crate) fn accept_answer(
     config: OpaqueRelayConfig,
     pending: RelayPending,
@@ -168,7 +168,8 @@ pub(crate) fn replacing(found: PendingFound, id: u64) -> ActionQuestion
     }
 }
 
-// The circuit starts with both credits at the accepted window and its byte limit at the smaller of the grant's and the configuration's.
+// The circuit starts with both credits at the accepted window and its byte limit at the smaller of the grant's and the
+// configuration's.
 pub(crate) fn circuit_for(
     config: OpaqueRelayConfig,
     found: PendingFound,

@@ -118,8 +118,8 @@ fn close_message(
     forwarded
 }
 
-// What CLOSE or ERROR does: whether it goes on; which record it ends, by table and place, and under which id its actions are dropped; the
-// runtime with the end counted; and the message.
+// What CLOSE or ERROR does: whether it goes on; which record it ends, by table and place, and under which id its
+// actions are dropped; the runtime with the end counted; and the message.
 pub struct ClosePlan {
     pub answer: HnsrAnswer,
     pub go: bool,

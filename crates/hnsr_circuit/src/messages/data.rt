@@ -110,8 +110,8 @@ pub(crate) fn data_rows(
     first_refusal(body, rest)
 }
 
-// What DATA does: whether it goes on; the places of the circuit and of the ledger record, and the side that is charged; the runtime with its
-// bytes counted; and the message, with what it asked of the actions.
+// What DATA does: whether it goes on; the places of the circuit and of the ledger record, and the side that is charged;
+// the runtime with its bytes counted; and the message, with what it asked of the actions.
 pub struct DataPlan {
     pub answer: HnsrAnswer,
     pub go: bool,

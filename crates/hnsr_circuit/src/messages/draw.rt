@@ -15,7 +15,8 @@ use hns_encoding::decoder::ReadU64;
 use hns_encoding::logic::either;
 use hns_encoding::logic::no;
 
-// How far the drawing of a circuit id has come: zeros in a row, candidates that were taken, whether it ended, and with which id.
+// How far the drawing of a circuit id has come: zeros in a row, candidates that were taken, whether it ended, and with
+// which id.
 #[repr(C)]
 pub struct Drawing {
     pub zeros: u8,
@@ -44,7 +45,8 @@ pub(crate) fn undrawn() -> Drawing
     }
 }
 
-// One draw: an all-zero draw is drawn again, 8 in a row refuse; a draw that is already an id counts as one of 8 candidates.
+// One draw: an all-zero draw is drawn again, 8 in a row refuse; a draw that is already an id counts as one of 8
+// candidates.
 pub(crate) fn draw_turn(drawing: Drawing, id: u64, taken: bool) -> Drawing
     requires { ⌜ (drawing .zeros < 8) × (drawing .candidates < 8) ⌝ }
     ensures { λ r. ⌜ r ≡ drawTurn drawing id taken ⌝ }

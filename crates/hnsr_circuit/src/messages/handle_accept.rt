@@ -6,7 +6,8 @@ ghost use Prim.Native.Nat.{ℕ};
 ghost use lib.ListN.{set};
 ghost use Rattle.hnsr_body.specs.Accept.{decodeAccept};
 ghost use Rattle.hnsr_circuit.specs.Code.Lookup.{pendingFound};
-ghost use Rattle.hnsr_circuit.specs.Code.Held.{held, heldPending, heldCircuits, heldActions, worldGiven, handedSeen};
+ghost use Rattle.hnsr_circuit.specs.Code.Held.{held, heldPending, heldCircuits};
+ghost use Rattle.hnsr_circuit.specs.Code.Held.{heldActions, worldGiven, handedSeen};
 ghost use Rattle.hnsr_circuit.specs.Table.{put};
 ghost use Rattle.hnsr_circuit.specs.Pending.{pendingAt, clearPending};
 ghost use Rattle.hnsr_circuit.specs.Circuits.{isCircuit, circuitAt, clearCircuit};
@@ -57,7 +58,12 @@ pub(crate) fn accept_answered(
     found: PendingFound,
     read: AcceptRead,
 ) -> HnsrAnswer
-    ensures { λ r. ⌜ r ≡ acceptRows (request .runtime .config) found (request .peer) (request .packet .now) read (pendingWork (acceptWork found) (heldPending (request .places) (now (pending .entry)))) (circuitWork (acceptWork found) (heldCircuits (request .places) (now (circuits .entry)))) (tallied true (request .packet .«context_id») (found .pending .requester) (heldActions (request .places) (now (inflight .entry)))) ⌝ }
+    ensures { λ r. ⌜
+        r ≡ acceptRows (request .runtime .config) found (request .peer) (request .packet .now) read
+        (pendingWork (acceptWork found) (heldPending (request .places) (now (pending .entry))))
+        (circuitWork (acceptWork found) (heldCircuits (request .places) (now (circuits .entry))))
+        (tallied true (request .packet .«context_id») (found .pending .requester)
+        (heldActions (request .places) (now (inflight .entry)))) ⌝ }
 {
     let question = accept_work(found);
     let waiting = pending_work(pending, request.places, question);
@@ -87,13 +93,20 @@ pub(crate) fn accept_written(
     circuit: RelayCircuit,
 ) -> usize
     requires { ⌜ clearPending unmarked ≡ unmarked ⌝ }
-    ensures { λ r. ⌜ (heldPending places (now (pending .exit)) ≡ cond (plan .go) (set (heldPending places (now (pending .entry))) (plan .place) unmarked) (heldPending places (now (pending .entry)))) × (held clearCircuit r (now (circuits .exit)) ≡ cond (plan .go) (put isCircuit (circuitAt (plan .id)) circuit (heldCircuits places (now (circuits .entry)))) (heldCircuits places (now (circuits .entry)))) ⌝ }
+    ensures { λ r. ⌜
+        (heldPending places (now (pending .exit))
+        ≡ cond (plan .go) (set (heldPending places (now (pending .entry))) (plan .place) unmarked)
+        (heldPending places (now (pending .entry))))
+        × (held clearCircuit r (now (circuits .exit))
+        ≡ cond (plan .go) (put isCircuit (circuitAt (plan .id)) circuit (heldCircuits places (now (circuits .entry))))
+        (heldCircuits places (now (circuits .entry)))) ⌝ }
 {
     set_pending(pending, plan.go, plan.place, unmarked);
     put_circuit(circuits, places, plan.go, plan.id, circuit)
 }
 
-// An ACCEPT of a pending record, whose body is read: one pass over the actions for its rows, and one that drops the pending record's.
+// An ACCEPT of a pending record, whose body is read: one pass over the actions for its rows, and one that drops the
+// pending record's.
 pub(crate) fn accept_found(
     pending: &mut [RelayPending],
     circuits: &mut [RelayCircuit],
@@ -103,7 +116,15 @@ pub(crate) fn accept_found(
     found: PendingFound,
     read: AcceptRead,
 ) -> Relayed
-    ensures { λ r. ⌜ ((l : List ReservationUsage) (source body e rs : List ℕ) → request .peer ≡ peerOf source → found ≡ pendingFound (pendingAt (request .packet .«context_id»)) (heldPending (request .places) (now (pending .entry))) → read ≡ decodeAccept body → handedSeen r (now (pending .exit)) (now (circuits .exit)) l (now (inflight .exit)) (now (out .exit)) ≡ ending (now (out .entry)) (handleAccept (worldGiven request (now (pending .entry)) (now (circuits .entry)) l (now (inflight .entry))) (packetOf (request .packet) source body e rs))) ⌝ }
+    ensures { λ r. ⌜
+        ((l : List ReservationUsage) (source body e rs : List ℕ) → request .peer ≡ peerOf source
+        → found ≡ pendingFound (pendingAt (request .packet .«context_id»))
+        (heldPending (request .places) (now (pending .entry)))
+        → read ≡ decodeAccept body
+        → handedSeen r (now (pending .exit)) (now (circuits .exit)) l (now (inflight .exit)) (now (out .exit))
+        ≡ ending (now (out .entry))
+        (handleAccept (worldGiven request (now (pending .entry)) (now (circuits .entry)) l (now (inflight .entry)))
+        (packetOf (request .packet) source body e rs))) ⌝ }
 {
     let places = request.places;
     let answer = accept_answered(pending, circuits, inflight, request, found, read);
@@ -132,7 +153,12 @@ pub(crate) fn handle_accept(
     request: Request,
     body: &[u8],
 ) -> Relayed
-    ensures { λ r. ⌜ ((l : List ReservationUsage) (source e rs : List ℕ) → request .peer ≡ peerOf source → handedSeen r (now (pending .exit)) (now (circuits .exit)) l (now (inflight .exit)) (now (out .exit)) ≡ ending (now (out .entry)) (handleAccept (worldGiven request (now (pending .entry)) (now (circuits .entry)) l (now (inflight .entry))) (packetOf (request .packet) source (now (body .entry)) e rs))) ⌝ }
+    ensures { λ r. ⌜
+        ((l : List ReservationUsage) (source e rs : List ℕ) → request .peer ≡ peerOf source
+        → handedSeen r (now (pending .exit)) (now (circuits .exit)) l (now (inflight .exit)) (now (out .exit))
+        ≡ ending (now (out .entry))
+        (handleAccept (worldGiven request (now (pending .entry)) (now (circuits .entry)) l (now (inflight .entry)))
+        (packetOf (request .packet) source (now (body .entry)) e rs))) ⌝ }
 {
     let found = pending_by_id(pending, request.places, request.packet.context_id);
     let read = AcceptBody::decode(body);

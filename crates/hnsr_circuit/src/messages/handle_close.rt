@@ -38,7 +38,9 @@ pub(crate) fn plan_close(
     request: Request,
     read: DetailRead,
 ) -> ClosePlan
-    ensures { λ r. ⌜ r ≡ closePlannedOn (request .runtime) (heldPending (request .places) (now (pending .entry))) (heldCircuits (request .places) (now (circuits .entry))) (request .packet) read (request .peer) ⌝ }
+    ensures { λ r. ⌜
+        r ≡ closePlannedOn (request .runtime) (heldPending (request .places) (now (pending .entry)))
+        (heldCircuits (request .places) (now (circuits .entry))) (request .packet) read (request .peer) ⌝ }
 {
     let matches = count_named(
         pending,
@@ -75,7 +77,12 @@ pub(crate) fn close_read(
     body: &[u8],
 ) -> Relayed
     requires { ⌜ (read ≡ decodeDetail (now body)) × (length (now body) < 65536) ⌝ }
-    ensures { λ r. ⌜ ((l : List ReservationUsage) (source e rs : List ℕ) → request .peer ≡ peerOf source → handedSeen r (now (pending .exit)) (now (circuits .exit)) l (now (inflight .exit)) (now (out .exit)) ≡ ending (now (out .entry)) (handleClose (worldGiven request (now (pending .entry)) (now (circuits .entry)) l (now (inflight .entry))) (packetOf (request .packet) source (now (body .entry)) e rs))) ⌝ }
+    ensures { λ r. ⌜
+        ((l : List ReservationUsage) (source e rs : List ℕ) → request .peer ≡ peerOf source
+        → handedSeen r (now (pending .exit)) (now (circuits .exit)) l (now (inflight .exit)) (now (out .exit))
+        ≡ ending (now (out .entry))
+        (handleClose (worldGiven request (now (pending .entry)) (now (circuits .entry)) l (now (inflight .entry)))
+        (packetOf (request .packet) source (now (body .entry)) e rs))) ⌝ }
 {
     let places = request.places;
     let plan = plan_close(pending, circuits, request, read);
@@ -101,7 +108,12 @@ pub(crate) fn handle_close(
     body: &[u8],
 ) -> Relayed
     requires { ⌜ length (now body) < 65536 ⌝ }
-    ensures { λ r. ⌜ ((l : List ReservationUsage) (source e rs : List ℕ) → request .peer ≡ peerOf source → handedSeen r (now (pending .exit)) (now (circuits .exit)) l (now (inflight .exit)) (now (out .exit)) ≡ ending (now (out .entry)) (handleClose (worldGiven request (now (pending .entry)) (now (circuits .entry)) l (now (inflight .entry))) (packetOf (request .packet) source (now (body .entry)) e rs))) ⌝ }
+    ensures { λ r. ⌜
+        ((l : List ReservationUsage) (source e rs : List ℕ) → request .peer ≡ peerOf source
+        → handedSeen r (now (pending .exit)) (now (circuits .exit)) l (now (inflight .exit)) (now (out .exit))
+        ≡ ending (now (out .entry))
+        (handleClose (worldGiven request (now (pending .entry)) (now (circuits .entry)) l (now (inflight .entry)))
+        (packetOf (request .packet) source (now (body .entry)) e rs))) ⌝ }
 {
     let read = ReasonDetail::decode(body);
     let checked = read.result;

@@ -40,7 +40,9 @@ pub(crate) fn plan_data(
     named: CircuitFound,
     n: usize,
 ) -> DataPlan
-    ensures { λ r. ⌜ r ≡ dataPlannedOn (request .runtime) named (heldLedger (request .places) (now (ledger .entry))) (heldActions (request .places) (now (inflight .entry))) (request .packet) (request .peer) n ⌝ }
+    ensures { λ r. ⌜
+        r ≡ dataPlannedOn (request .runtime) named (heldLedger (request .places) (now (ledger .entry)))
+        (heldActions (request .places) (now (inflight .entry))) (request .packet) (request .peer) n ⌝ }
 {
     let message = data_on(request.packet, named, request.peer, n);
     let asked = asking(request.runtime, message);
@@ -68,8 +70,16 @@ pub(crate) fn pass_data(
     named: CircuitFound,
     body: &[u8],
 ) -> Relayed
-    requires { ⌜ (named ≡ circuitFound (circuitAt (request .packet .«context_id»)) (heldCircuits (request .places) (now circuits))) × (length (now body) < 65536) ⌝ }
-    ensures { λ r. ⌜ ((p : List RelayPending) (source e rs : List ℕ) → request .peer ≡ peerOf source → handedSeen r p (now (circuits .exit)) (now (ledger .exit)) (now (inflight .exit)) (now (out .exit)) ≡ ending (now (out .entry)) (handleData (worldGiven request p (now (circuits .entry)) (now (ledger .entry)) (now (inflight .entry))) (packetOf (request .packet) source (now (body .entry)) e rs))) ⌝ }
+    requires { ⌜
+        (named ≡ circuitFound (circuitAt (request .packet .«context_id»))
+        (heldCircuits (request .places) (now circuits)))
+        × (length (now body) < 65536) ⌝ }
+    ensures { λ r. ⌜
+        ((p : List RelayPending) (source e rs : List ℕ) → request .peer ≡ peerOf source
+        → handedSeen r p (now (circuits .exit)) (now (ledger .exit)) (now (inflight .exit)) (now (out .exit))
+        ≡ ending (now (out .entry))
+        (handleData (worldGiven request p (now (circuits .entry)) (now (ledger .entry)) (now (inflight .entry)))
+        (packetOf (request .packet) source (now (body .entry)) e rs))) ⌝ }
 {
     let n = body.len();
     let bytes = n as u64;
@@ -103,7 +113,12 @@ pub(crate) fn handle_data(
     body: &[u8],
 ) -> Relayed
     requires { ⌜ length (now body) < 65536 ⌝ }
-    ensures { λ r. ⌜ ((p : List RelayPending) (source e rs : List ℕ) → request .peer ≡ peerOf source → handedSeen r p (now (circuits .exit)) (now (ledger .exit)) (now (inflight .exit)) (now (out .exit)) ≡ ending (now (out .entry)) (handleData (worldGiven request p (now (circuits .entry)) (now (ledger .entry)) (now (inflight .entry))) (packetOf (request .packet) source (now (body .entry)) e rs))) ⌝ }
+    ensures { λ r. ⌜
+        ((p : List RelayPending) (source e rs : List ℕ) → request .peer ≡ peerOf source
+        → handedSeen r p (now (circuits .exit)) (now (ledger .exit)) (now (inflight .exit)) (now (out .exit))
+        ≡ ending (now (out .entry))
+        (handleData (worldGiven request p (now (circuits .entry)) (now (ledger .entry)) (now (inflight .entry)))
+        (packetOf (request .packet) source (now (body .entry)) e rs))) ⌝ }
 {
     let named = circuit_by_id(circuits, request.places, request.packet.context_id);
     let entered = data_entry(named, request.peer, body.len());

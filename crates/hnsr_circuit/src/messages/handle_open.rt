@@ -1,5 +1,5 @@
-// OPEN: a requester asks for a circuit. Three stages, as in specs/Open.antt: admitted, and ledger records past their expiry dropped; placed, and
-// the missing ledger record made; written, and INCOMING sent.
+// OPEN: a requester asks for a circuit. Three stages, as in specs/Open.antt: admitted, and ledger records past their
+// expiry dropped; placed, and the missing ledger record made; written, and INCOMING sent.
 ghost use mathlib.Core.Path.{_≡_};
 ghost use mathlib.Core.Bool.{false, _||_};
 ghost use mathlib.Core.List.{List};
@@ -7,13 +7,15 @@ ghost use Prim.Native.Nat.{ℕ};
 ghost use Rattle.hnsr_circuit.specs.Table.{any};
 ghost use Rattle.hnsr_circuit.specs.Pending.{pendingAt};
 ghost use Rattle.hnsr_circuit.specs.Ledger.{usageOf};
-ghost use Rattle.hnsr_circuit.specs.Code.Held.{heldPending, heldCircuits, heldLedger, heldActions, worldSeen, worldGiven, handedSeen};
+ghost use Rattle.hnsr_circuit.specs.Code.Held.{heldPending, heldCircuits, heldLedger};
+ghost use Rattle.hnsr_circuit.specs.Code.Held.{heldActions, worldSeen, worldGiven, handedSeen};
 ghost use Rattle.hnsr_circuit.specs.Code.Turns.{actionsScanned};
 ghost use Rattle.hnsr_circuit.specs.Draw.{undrawn, draws, drawAll};
 ghost use Rattle.hnsr_circuit.specs.Peer.{peerOf};
 ghost use Rattle.hnsr_circuit.specs.Code.Progress.{packetOf, asking, ending};
 ghost use Rattle.hnsr_circuit.specs.Open.{openBooked, openLapsed, handleOpen};
-ghost use Rattle.hnsr_circuit.specs.Code.Opening.{isTaken, firstDraw, gathering, openingOf, incomingOut, openPlan};
+ghost use Rattle.hnsr_circuit.specs.Code.Opening.{isTaken, firstDraw, gathering};
+ghost use Rattle.hnsr_circuit.specs.Code.Opening.{openingOf, incomingOut, openPlan};
 ghost use Rattle.hnsr_circuit.specs.declared.records.RelayCircuit.{RelayCircuit};
 ghost use Rattle.hnsr_circuit.specs.declared.runtime.RelayPacket.{RelayPacket};
 ghost use Rattle.hnsr_circuit.specs.declared.records.ReservationUsage.{ReservationUsage};
@@ -77,7 +79,8 @@ pub(crate) fn id_taken(
     id: u64,
 ) -> bool
     requires { ⌜ known ≡ isTaken (heldPending places (now pending)) (heldCircuits places (now circuits)) first ⌝ }
-    ensures { λ r. ⌜ r ≡ isTaken (heldPending places (now (pending .entry))) (heldCircuits places (now (circuits .entry))) id ⌝ }
+    ensures { λ r. ⌜
+        r ≡ isTaken (heldPending places (now (pending .entry))) (heldCircuits places (now (circuits .entry))) id ⌝ }
 {
     if id == first {
         return known;
@@ -97,7 +100,9 @@ pub(crate) fn draw(
     known: bool,
 ) -> Drawing
     requires { ⌜ known ≡ isTaken (heldPending places (now pending)) (heldCircuits places (now circuits)) first ⌝ }
-    ensures { λ r. ⌜ r ≡ drawAll (isTaken (heldPending places (now (pending .entry))) (heldCircuits places (now (circuits .entry)))) undrawn (draws (now (random .entry))) ⌝ }
+    ensures { λ r. ⌜
+        r ≡ drawAll (isTaken (heldPending places (now (pending .entry))) (heldCircuits places (now (circuits .entry))))
+        undrawn (draws (now (random .entry))) ⌝ }
 {
     let mut drawing = undrawn();
     let mut place: usize = 0;
@@ -122,7 +127,10 @@ pub(crate) fn gather(
     endpoint: &[u8],
     random: &[u8],
 ) -> OpenGathered
-    ensures { λ r. ⌜ r ≡ gathering (request .packet) (request .peer) (now (body .entry)) (now (endpoint .entry)) (now (random .entry)) (heldPending (request .places) (now (pending .entry))) (heldCircuits (request .places) (now (circuits .entry))) ⌝ }
+    ensures { λ r. ⌜
+        r ≡ gathering (request .packet) (request .peer) (now (body .entry)) (now (endpoint .entry))
+        (now (random .entry)) (heldPending (request .places) (now (pending .entry)))
+        (heldCircuits (request .places) (now (circuits .entry))) ⌝ }
 {
     let other = peer_of(endpoint);
     let read = OpenBody::decode(body, request.packet.key_valid);
@@ -141,7 +149,8 @@ pub(crate) fn gather(
     )
 }
 
-// The last stage: the ledger record stands; the pending record is written, under an id that no record has, and INCOMING sent.
+// The last stage: the ledger record stands; the pending record is written, under an id that no record has, and INCOMING
+// sent.
 pub(crate) fn open_booked(
     pending: &mut [RelayPending],
     inflight: &mut [InflightAction],
@@ -153,7 +162,13 @@ pub(crate) fn open_booked(
     scan: ActionScan,
 ) -> Relayed
     requires { ⌜ scan ≡ actionsScanned (asking runtime (incomingOut plan)) (heldActions places (now inflight)) ⌝ }
-    ensures { λ r. ⌜ ((c : List RelayCircuit) (l : List ReservationUsage) → usage ≡ usageOf (plan .ticket .«reservation_id») (heldLedger places l) → any (pendingAt (plan .id)) (heldPending places (now (pending .entry))) ≡ false → handedSeen r (now (pending .exit)) c l (now (inflight .exit)) (now (out .exit)) ≡ ending (now (out .entry)) (openBooked (worldSeen runtime places (now (pending .entry)) c l (now (inflight .entry))) (openingOf plan))) ⌝ }
+    ensures { λ r. ⌜
+        ((c : List RelayCircuit) (l : List ReservationUsage)
+        → usage ≡ usageOf (plan .ticket .«reservation_id») (heldLedger places l)
+        → any (pendingAt (plan .id)) (heldPending places (now (pending .entry))) ≡ false
+        → handedSeen r (now (pending .exit)) c l (now (inflight .exit)) (now (out .exit))
+        ≡ ending (now (out .entry))
+        (openBooked (worldSeen runtime places (now (pending .entry)) c l (now (inflight .entry))) (openingOf plan))) ⌝ }
 {
     let ticket = plan.ticket;
     let answer = usage_answer(ticket, usage);
@@ -170,7 +185,8 @@ pub(crate) fn open_booked(
     refused(runtime, places, answer)
 }
 
-// The second stage, past the rows that ask nothing of actions and ledger: the ledger record that is found stays as it is, a missing one is made.
+// The second stage, past the rows that ask nothing of actions and ledger: the ledger record that is found stays as it
+// is, a missing one is made.
 pub(crate) fn open_placed(
     pending: &mut [RelayPending],
     ledger: &mut [ReservationUsage],
@@ -182,7 +198,17 @@ pub(crate) fn open_placed(
     drawing: Drawing,
     plan: OpenPlan,
 ) -> Relayed
-    ensures { λ r. ⌜ ((c : List RelayCircuit) (q : RelayPacket) (source body endpoint rs : List ℕ) → gathered ≡ gathering q (peerOf source) body endpoint rs (heldPending places (now (pending .entry))) (heldCircuits places c) → drawing ≡ drawAll (isTaken (heldPending places (now (pending .entry))) (heldCircuits places c)) undrawn (draws rs) → plan ≡ openPlan (runtime .config) gathered drawing → handedSeen r (now (pending .exit)) c (now (ledger .exit)) (now (inflight .exit)) (now (out .exit)) ≡ ending (now (out .entry)) (openLapsed (worldSeen runtime places (now (pending .entry)) c (now (ledger .entry)) (now (inflight .entry))) (packetOf q source body endpoint rs))) ⌝ }
+    ensures { λ r. ⌜
+        ((c : List RelayCircuit) (q : RelayPacket) (source body endpoint rs : List ℕ)
+        → gathered ≡ gathering q (peerOf source) body endpoint rs (heldPending places (now (pending .entry)))
+        (heldCircuits places c)
+        → drawing ≡ drawAll (isTaken (heldPending places (now (pending .entry))) (heldCircuits places c))
+        undrawn (draws rs)
+        → plan ≡ openPlan (runtime .config) gathered drawing
+        → handedSeen r (now (pending .exit)) c (now (ledger .exit)) (now (inflight .exit)) (now (out .exit))
+        ≡ ending (now (out .entry))
+        (openLapsed (worldSeen runtime places (now (pending .entry)) c (now (ledger .entry)) (now (inflight .entry)))
+        (packetOf q source body endpoint rs))) ⌝ }
 {
     let size = ledger.len();
     let config = runtime.config;
@@ -216,8 +242,18 @@ pub(crate) fn open_lapsed(
     gathered: OpenGathered,
     random: &[u8],
 ) -> Relayed
-    requires { ⌜ (gathered .waiting .holds || gathered .running .holds) ≡ isTaken (heldPending places (now pending)) (heldCircuits places (now circuits)) (firstDraw (now random)) ⌝ }
-    ensures { λ r. ⌜ ((q : RelayPacket) (source body endpoint : List ℕ) → gathered ≡ gathering q (peerOf source) body endpoint (now (random .entry)) (heldPending places (now (pending .entry))) (heldCircuits places (now (circuits .entry))) → handedSeen r (now (pending .exit)) (now (circuits .entry)) (now (ledger .exit)) (now (inflight .exit)) (now (out .exit)) ≡ ending (now (out .entry)) (openLapsed (worldSeen runtime places (now (pending .entry)) (now (circuits .entry)) (now (ledger .entry)) (now (inflight .entry))) (packetOf q source body endpoint (now (random .entry))))) ⌝ }
+    requires { ⌜
+        (gathered .waiting .holds || gathered .running .holds)
+        ≡ isTaken (heldPending places (now pending)) (heldCircuits places (now circuits)) (firstDraw (now random)) ⌝ }
+    ensures { λ r. ⌜
+        ((q : RelayPacket) (source body endpoint : List ℕ)
+        → gathered ≡ gathering q (peerOf source) body endpoint (now (random .entry))
+        (heldPending places (now (pending .entry))) (heldCircuits places (now (circuits .entry)))
+        → handedSeen r (now (pending .exit)) (now (circuits .entry)) (now (ledger .exit)) (now (inflight .exit))
+        (now (out .exit))
+        ≡ ending (now (out .entry))
+        (openLapsed (worldSeen runtime places (now (pending .entry)) (now (circuits .entry)) (now (ledger .entry))
+        (now (inflight .entry))) (packetOf q source body endpoint (now (random .entry))))) ⌝ }
 {
     let config = runtime.config;
     let first = first_draw(random);
@@ -253,7 +289,14 @@ pub(crate) fn handle_open(
     endpoint: &[u8],
     random: &[u8],
 ) -> Relayed
-    ensures { λ r. ⌜ ((source : List ℕ) → request .peer ≡ peerOf source → handedSeen r (now (pending .exit)) (now (circuits .exit)) (now (ledger .exit)) (now (inflight .exit)) (now (out .exit)) ≡ ending (now (out .entry)) (handleOpen (worldGiven request (now (pending .entry)) (now (circuits .entry)) (now (ledger .entry)) (now (inflight .entry))) (packetOf (request .packet) source (now (body .entry)) (now (endpoint .entry)) (now (random .entry))))) ⌝ }
+    ensures { λ r. ⌜
+        ((source : List ℕ) → request .peer ≡ peerOf source
+        → handedSeen r (now (pending .exit)) (now (circuits .exit)) (now (ledger .exit)) (now (inflight .exit))
+        (now (out .exit))
+        ≡ ending (now (out .entry))
+        (handleOpen (worldGiven request (now (pending .entry)) (now (circuits .entry)) (now (ledger .entry))
+        (now (inflight .entry)))
+        (packetOf (request .packet) source (now (body .entry)) (now (endpoint .entry)) (now (random .entry))))) ⌝ }
 {
     let runtime = request.runtime;
     let places = request.places;

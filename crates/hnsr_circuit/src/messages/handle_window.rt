@@ -40,7 +40,9 @@ pub(crate) fn plan_window(
     read: WindowRead,
     named: CircuitFound,
 ) -> WindowPlan
-    ensures { λ r. ⌜ r ≡ windowPlannedOn (request .runtime) read named (heldActions (request .places) (now (inflight .entry))) (request .packet) (request .peer) ⌝ }
+    ensures { λ r. ⌜
+        r ≡ windowPlannedOn (request .runtime) read named (heldActions (request .places) (now (inflight .entry)))
+        (request .packet) (request .peer) ⌝ }
 {
     let kind = InflightKind::Control;
     let message = passed_on(request.packet, named, request.peer, kind);
@@ -66,8 +68,17 @@ pub(crate) fn pass_window(
     named: CircuitFound,
     body: &[u8],
 ) -> Relayed
-    requires { ⌜ (named ≡ circuitFound (circuitAt (request .packet .«context_id»)) (heldCircuits (request .places) (now circuits))) × (read ≡ decodeWindow (now body)) × (length (now body) < 65536) ⌝ }
-    ensures { λ r. ⌜ ((p : List RelayPending) (l : List ReservationUsage) (source e rs : List ℕ) → request .peer ≡ peerOf source → handedSeen r p (now (circuits .exit)) l (now (inflight .exit)) (now (out .exit)) ≡ ending (now (out .entry)) (handleWindow (worldGiven request p (now (circuits .entry)) l (now (inflight .entry))) (packetOf (request .packet) source (now (body .entry)) e rs))) ⌝ }
+    requires { ⌜
+        (named ≡ circuitFound (circuitAt (request .packet .«context_id»))
+        (heldCircuits (request .places) (now circuits)))
+        × (read ≡ decodeWindow (now body))
+        × (length (now body) < 65536) ⌝ }
+    ensures { λ r. ⌜
+        ((p : List RelayPending) (l : List ReservationUsage) (source e rs : List ℕ) → request .peer ≡ peerOf source
+        → handedSeen r p (now (circuits .exit)) l (now (inflight .exit)) (now (out .exit))
+        ≡ ending (now (out .entry))
+        (handleWindow (worldGiven request p (now (circuits .entry)) l (now (inflight .entry)))
+        (packetOf (request .packet) source (now (body .entry)) e rs))) ⌝ }
 {
     let plan = plan_window(inflight, request, read, named);
     let answer = plan.answer;
@@ -103,7 +114,12 @@ pub(crate) fn handle_window(
     body: &[u8],
 ) -> Relayed
     requires { ⌜ length (now body) < 65536 ⌝ }
-    ensures { λ r. ⌜ ((p : List RelayPending) (l : List ReservationUsage) (source e rs : List ℕ) → request .peer ≡ peerOf source → handedSeen r p (now (circuits .exit)) l (now (inflight .exit)) (now (out .exit)) ≡ ending (now (out .entry)) (handleWindow (worldGiven request p (now (circuits .entry)) l (now (inflight .entry))) (packetOf (request .packet) source (now (body .entry)) e rs))) ⌝ }
+    ensures { λ r. ⌜
+        ((p : List RelayPending) (l : List ReservationUsage) (source e rs : List ℕ) → request .peer ≡ peerOf source
+        → handedSeen r p (now (circuits .exit)) l (now (inflight .exit)) (now (out .exit))
+        ≡ ending (now (out .entry))
+        (handleWindow (worldGiven request p (now (circuits .entry)) l (now (inflight .entry)))
+        (packetOf (request .packet) source (now (body .entry)) e rs))) ⌝ }
 {
     let read = WindowBody::decode(body);
     let named = circuit_by_id(circuits, request.places, request.packet.context_id);

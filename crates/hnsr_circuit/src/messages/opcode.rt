@@ -1,4 +1,5 @@
-// The opcodes of the messages that the relay sends. Those that it handles stand in `calls::handle::dispatch` too: a pattern is a number.
+// The opcodes of the messages that the relay sends. Those that it handles stand in `calls::handle::dispatch` too: a
+// pattern is a number.
 
 pub(crate) const INCOMING: u8 = 14;
 

@@ -3,8 +3,10 @@ ghost use mathlib.Core.Path.{_≡_};
 ghost use mathlib.Core.Bool.{cond, _||_};
 ghost use Prim.Native.Nat.{_+_};
 ghost use Rattle.hnsr_circuit.specs.Ledger.{freshUsage};
-ghost use Rattle.hnsr_circuit.specs.Open.{openAnswer, admissionAnswer, endpointAnswer, deadlineAnswer, deadlineFor, pendingFor, incomingFor};
-ghost use Rattle.hnsr_circuit.specs.Code.Opening.{openWork, openGathering, openRows, openPlan, openingOf, incomingOut, placedRows, placedEntry};
+ghost use Rattle.hnsr_circuit.specs.Open.{openAnswer, admissionAnswer, endpointAnswer};
+ghost use Rattle.hnsr_circuit.specs.Open.{deadlineAnswer, deadlineFor, pendingFor, incomingFor};
+ghost use Rattle.hnsr_circuit.specs.Code.Opening.{openWork, openGathering, openRows, openPlan};
+ghost use Rattle.hnsr_circuit.specs.Code.Opening.{openingOf, incomingOut, placedRows, placedEntry};
 use crate::answer::HnsrAnswer;
 use crate::answer::HnsrRuntimeError;
 use crate::answer::body_answer;
@@ -108,8 +110,8 @@ pub(crate) fn deadline_for(config: OpaqueRelayConfig, ticket: RelayTicket, now: 
     min_u64(late, ticket.expires_at)
 }
 
-// What OPEN asks of all records: the work of both its peers and of its reservation, whether it repeats one, and whether its first draw is
-// an id already.
+// What OPEN asks of all records: the work of both its peers and of its reservation, whether it repeats one, and whether
+// its first draw is an id already.
 pub(crate) fn open_work(
     packet: RelayPacket,
     requester: HnsrPeerId,
@@ -174,7 +176,9 @@ pub(crate) fn known_taken(gathered: OpenGathered) -> bool
 
 // The requester's work is its pending records and its circuits.
 pub(crate) fn open_limit(config: OpaqueRelayConfig, waiting: Work, running: Work) -> HnsrAnswer
-    ensures { λ r. ⌜ r ≡ openAnswer config (waiting .used) (running .used) (waiting .«of_peer» + running .«of_peer») (waiting .repeated) ⌝ }
+    ensures { λ r. ⌜
+        r ≡ openAnswer config (waiting .used) (running .used) (waiting .«of_peer» + running .«of_peer»)
+        (waiting .repeated) ⌝ }
 {
     let work = saturating_add_usize(waiting.of_peer, running.of_peer);
     open_answer(config, waiting.used, running.used, work, waiting.repeated)
@@ -188,7 +192,9 @@ pub(crate) fn endpoint_limit(
     waiting: Work,
     running: Work,
 ) -> HnsrAnswer
-    ensures { λ r. ⌜ r ≡ endpointAnswer config ticket same (waiting .«of_other» + running .«of_other») (waiting .under + running .under) ⌝ }
+    ensures { λ r. ⌜
+        r ≡ endpointAnswer config ticket same (waiting .«of_other» + running .«of_other»)
+        (waiting .under + running .under) ⌝ }
 {
     let work = saturating_add_usize(waiting.of_other, running.of_other);
     let under = reservation_work(waiting.under, running.under);

@@ -70,8 +70,8 @@ pub(crate) fn window_rows(
     first_refusal(body, rest)
 }
 
-// What WINDOW does: whether it goes on; the place of the circuit, the side that it comes from and its credit; and the message, with what it
-// asked of the actions.
+// What WINDOW does: whether it goes on; the place of the circuit, the side that it comes from and its credit; and the
+// message, with what it asked of the actions.
 pub struct WindowPlan {
     pub answer: HnsrAnswer,
     pub go: bool,

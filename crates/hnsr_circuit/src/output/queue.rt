@@ -6,7 +6,8 @@ ghost use Prim.Native.Nat.{_+_, _<_};
 ghost use lib.ListN.{length};
 ghost use Rattle.hnsr_body.specs.Messages.{noticeBody};
 ghost use Rattle.hnsr_circuit.specs.Inflight.{actionUnder, dropped};
-ghost use Rattle.hnsr_circuit.specs.Code.Held.{heldActions, worldSeen, handedSeen, underwaySeen, heldPending, heldCircuits, heldLedger};
+ghost use Rattle.hnsr_circuit.specs.Code.Held.{heldActions, worldSeen, handedSeen, underwaySeen};
+ghost use Rattle.hnsr_circuit.specs.Code.Held.{heldPending, heldCircuits, heldLedger};
 ghost use Rattle.hnsr_circuit.specs.Answers.{taken};
 ghost use Rattle.hnsr_circuit.specs.Queue.{queueAnswer, actionFor, routeFor, send, tell, when};
 ghost use Rattle.hnsr_circuit.specs.Code.Turns.{actionsScanned};
@@ -52,7 +53,8 @@ use hnsr_body::error::HnsrInvalid;
 use hnsr_body::error::HnsrProtocolError;
 use hnsr_body::messages::Notice;
 
-// A message but for its body: where it goes, the circuit that it is about, opcode and context, and what its action holds.
+// A message but for its body: where it goes, the circuit that it is about, opcode and context, and what its action
+// holds.
 pub struct Outgoing {
     pub destination: HnsrPeerId,
     pub circuit_id: u64,
@@ -181,7 +183,8 @@ fn queued_place(queued: Queued) -> usize
 }
 
 fn relayed(queued: Queued, words: usize, places: Places) -> Relayed
-    ensures { λ r. ⌜ ((r .runtime ≡ queued .runtime) × (r .answer ≡ queued .answer) × (r .words ≡ words)) × (r .places ≡ places) ⌝ }
+    ensures { λ r. ⌜
+        ((r .runtime ≡ queued .runtime) × (r .answer ≡ queued .answer) × (r .words ≡ words)) × (r .places ≡ places) ⌝ }
 {
     let runtime = queued.runtime;
     let answer = queued.answer;
@@ -230,7 +233,13 @@ fn put_queued(
     body: &[u8],
 )
     requires { ⌜ length (now body) < 65536 ⌝ }
-    ensures { λ _. ⌜ now (out .exit) ≡ cond go (written (now (out .entry)) at (routeWords (routeFor (messageOf message (now (body .entry))) (runtime .generation) (runtime .«next_action_sequence»)))) (now (out .entry)) ⌝ }
+    ensures { λ _. ⌜
+        now (out .exit)
+        ≡ cond go
+        (written (now (out .entry)) at
+        (routeWords
+        (routeFor (messageOf message (now (body .entry))) (runtime .generation) (runtime .«next_action_sequence»))))
+        (now (out .entry)) ⌝ }
 {
     if go {
         put_route(
@@ -268,8 +277,15 @@ pub(crate) fn send(
     scan: ActionScan,
     body: &[u8],
 ) -> Relayed
-    requires { ⌜ (scan ≡ actionsScanned (asking runtime message) (heldActions places (now inflight))) × (length (now body) < 65536) ⌝ }
-    ensures { λ r. ⌜ ((p : List RelayPending) (c : List RelayCircuit) (l : List ReservationUsage) → handedSeen r p c l (now (inflight .exit)) (now (out .exit)) ≡ ending (now (out .entry)) (let w = worldSeen runtime places p c l (now (inflight .entry)) in proceed w before (send w (messageOf message (now (body .entry)))))) ⌝ }
+    requires { ⌜
+        (scan ≡ actionsScanned (asking runtime message) (heldActions places (now inflight)))
+        × (length (now body) < 65536) ⌝ }
+    ensures { λ r. ⌜
+        ((p : List RelayPending) (c : List RelayCircuit) (l : List ReservationUsage)
+        → handedSeen r p c l (now (inflight .exit)) (now (out .exit))
+        ≡ ending (now (out .entry))
+        (let w = worldSeen runtime places p c l (now (inflight .entry)) in
+        proceed w before (send w (messageOf message (now (body .entry)))))) ⌝ }
 {
     let size = inflight.len();
     let queued = queue(before, runtime, message, scan);
@@ -284,7 +300,8 @@ pub(crate) fn send(
     relayed(queued, words, after)
 }
 
-// A part of a call that cannot be refused: a message that cannot be formed, or finds no capacity or no sequence number, is skipped silently.
+// A part of a call that cannot be refused: a message that cannot be formed, or finds no capacity or no sequence number,
+// is skipped silently.
 pub(crate) fn tell_scanned(
     inflight: &mut [InflightAction],
     out: &mut [u32],
@@ -294,8 +311,14 @@ pub(crate) fn tell_scanned(
     scan: ActionScan,
     body: &[u8],
 ) -> Sending
-    requires { ⌜ (scan ≡ actionsScanned (asking (sending .runtime) message) (heldActions (sending .places) (now inflight))) × (length (now body) < 65536) ⌝ }
-    ensures { λ r. ⌜ ((p : List RelayPending) (c : List RelayCircuit) (l : List ReservationUsage) → underwaySeen r p c l (now (inflight .exit)) (now (out .exit)) ≡ advance (when go (tell (messageOf message (now (body .entry))))) (underwaySeen sending p c l (now (inflight .entry)) (now (out .entry)))) ⌝ }
+    requires { ⌜
+        (scan ≡ actionsScanned (asking (sending .runtime) message) (heldActions (sending .places) (now inflight)))
+        × (length (now body) < 65536) ⌝ }
+    ensures { λ r. ⌜
+        ((p : List RelayPending) (c : List RelayCircuit) (l : List ReservationUsage)
+        → underwaySeen r p c l (now (inflight .exit)) (now (out .exit))
+        ≡ advance (when go (tell (messageOf message (now (body .entry)))))
+        (underwaySeen sending p c l (now (inflight .entry)) (now (out .entry)))) ⌝ }
 {
     let runtime = sending.runtime;
     let at = sending.position;
@@ -323,7 +346,13 @@ pub(crate) fn drop_and_tell(
     message: Outgoing,
     notice: Notice,
 ) -> Sending
-    ensures { λ r. ⌜ ((p : List RelayPending) (c : List RelayCircuit) (l : List ReservationUsage) → underwaySeen r p c l (now (inflight .exit)) (now (out .exit)) ≡ advance (when true (tell (messageOf message (noticeBody notice)))) (underway sending (heldPending (sending .places) p) (heldCircuits (sending .places) c) (heldLedger (sending .places) l) (dropped (actionUnder id) (heldActions (sending .places) (now (inflight .entry)))) (now (out .entry)))) ⌝ }
+    ensures { λ r. ⌜
+        ((p : List RelayPending) (c : List RelayCircuit) (l : List ReservationUsage)
+        → underwaySeen r p c l (now (inflight .exit)) (now (out .exit))
+        ≡ advance (when true (tell (messageOf message (noticeBody notice))))
+        (underway sending (heldPending (sending .places) p) (heldCircuits (sending .places) c)
+        (heldLedger (sending .places) l)
+        (dropped (actionUnder id) (heldActions (sending .places) (now (inflight .entry)))) (now (out .entry)))) ⌝ }
 {
     let runtime = sending.runtime;
     let places = sending.places;
@@ -352,7 +381,11 @@ pub(crate) fn tell_notice(
     message: Outgoing,
     notice: Notice,
 ) -> Sending
-    ensures { λ r. ⌜ ((p : List RelayPending) (c : List RelayCircuit) (l : List ReservationUsage) → underwaySeen r p c l (now (inflight .exit)) (now (out .exit)) ≡ advance (when go (tell (messageOf message (noticeBody notice)))) (underwaySeen sending p c l (now (inflight .entry)) (now (out .entry)))) ⌝ }
+    ensures { λ r. ⌜
+        ((p : List RelayPending) (c : List RelayCircuit) (l : List ReservationUsage)
+        → underwaySeen r p c l (now (inflight .exit)) (now (out .exit))
+        ≡ advance (when go (tell (messageOf message (noticeBody notice))))
+        (underwaySeen sending p c l (now (inflight .entry)) (now (out .entry)))) ⌝ }
 {
     let runtime = sending.runtime;
     let places = sending.places;

@@ -7,7 +7,8 @@ ghost use Rattle.hns_encoding.specs.Bytes.{beBytes};
 ghost use Rattle.hns_encoding.specs.Cursor.{written};
 ghost use Rattle.hns_encoding.specs.Words.{highLow, wordCount, words, wordsOf};
 ghost use Rattle.hnsr_circuit.specs.Peer.{maximumPeer, peerBytes};
-ghost use Rattle.hnsr_circuit.specs.Route.{nameWords, addressWords, headWords, kindWord, peerWords, packetWords, routeWords};
+ghost use Rattle.hnsr_circuit.specs.Route.{nameWords, addressWords, headWords, kindWord};
+ghost use Rattle.hnsr_circuit.specs.Route.{peerWords, packetWords, routeWords};
 ghost use Rattle.hnsr_circuit.specs.Queue.{routeFor};
 ghost use Rattle.hnsr_circuit.specs.Code.Progress.{messageOf};
 use crate::output::queue::Outgoing;
@@ -20,7 +21,8 @@ use hns_encoding::words::word_count;
 use hnsr_body::data_body::DataBody;
 use hnsr_body::messages::Message;
 
-// Words of a peer, and of a route in front of its body: a kind word; generation and sequence; the peer; a kind word; the context.
+// Words of a peer, and of a route in front of its body: a kind word; generation and sequence; the peer; a kind word;
+// the context.
 const PEER_WORDS: usize = MAXIMUM_PEER / 4;
 
 const ADDRESS_WORDS: usize = 1 + 2 + 2 + PEER_WORDS;
@@ -87,7 +89,9 @@ fn put_peer_at(out: &mut [u32], at: usize, peer: HnsrPeerId)
 
 fn put_peer_words(out: &mut [u32], at: usize, message: Outgoing, generation: u64, sequence: u64)
     requires { ⌜ at + addressWords ≤ length (now out) ⌝ }
-    ensures { λ _. ⌜ now (out .exit) ≡ written (now (out .entry)) at (peerWords (routeFor (messageOf message []) generation sequence)) ⌝ }
+    ensures { λ _. ⌜
+        now (out .exit)
+        ≡ written (now (out .entry)) at (peerWords (routeFor (messageOf message []) generation sequence)) ⌝ }
 {
     let peer = message.destination;
     let length = peer_length(peer);
@@ -100,7 +104,9 @@ fn put_peer_words(out: &mut [u32], at: usize, message: Outgoing, generation: u64
 
 fn put_packet_words(out: &mut [u32], at: usize, message: Outgoing, body: &[u8])
     requires { ⌜ (length (now body) < 65536) × (at + 3 + length (words (now body)) ≤ length (now out)) ⌝ }
-    ensures { λ _. ⌜ now (out .exit) ≡ written (now (out .entry)) at (packetWords (routeFor (messageOf message (now (body .entry))) 0 0)) ⌝ }
+    ensures { λ _. ⌜
+        now (out .exit)
+        ≡ written (now (out .entry)) at (packetWords (routeFor (messageOf message (now (body .entry))) 0 0)) ⌝ }
 {
     let word = packet_word(message.opcode, body.len());
     put_word_at(out, at, word);
@@ -126,7 +132,10 @@ pub(crate) fn put_route(
     body: &[u8],
 )
     requires { ⌜ length (now body) < 65536 ⌝ }
-    ensures { λ _. ⌜ now (out .exit) ≡ written (now (out .entry)) at (routeWords (routeFor (messageOf message (now (body .entry))) generation sequence)) ⌝ }
+    ensures { λ _. ⌜
+        now (out .exit)
+        ≡ written (now (out .entry)) at
+        (routeWords (routeFor (messageOf message (now (body .entry))) generation sequence)) ⌝ }
 {
     let size = route_size(body.len());
     if fits(out.len(), at, size) {

@@ -1,7 +1,9 @@
 // Outstanding actions: what is asked of one, the kinds, the mark cleared, and the action capacity.
 ghost use mathlib.Core.Path.{_≡_};
 ghost use mathlib.Core.Bool.{cond};
-ghost use Rattle.hnsr_circuit.specs.Inflight.{noAction, kindNumber, kindOf, toEndpoint, towardSide, isAction, actionAt, actionUnder, actionToward, clearAction, capacityLeft, capacityAnswer};
+ghost use Rattle.hnsr_circuit.specs.Inflight.{noAction, kindNumber, kindOf, toEndpoint, towardSide};
+ghost use Rattle.hnsr_circuit.specs.Inflight.{isAction, actionAt, actionUnder, actionToward};
+ghost use Rattle.hnsr_circuit.specs.Inflight.{clearAction, capacityLeft, capacityAnswer};
 use crate::answer::HnsrAnswer;
 use crate::answer::HnsrRuntimeError;
 use crate::answer::check;

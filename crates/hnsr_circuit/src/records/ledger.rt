@@ -1,6 +1,7 @@
 // The ledger: what is asked of a record, what becomes of one, and the rows of OPEN that go by it.
 ghost use mathlib.Core.Path.{_≡_};
-ghost use Rattle.hnsr_circuit.specs.Ledger.{noUsage, isUsage, usageAt, usageOver, clearUsage, freshUsage, spent, ledgerAnswer, usageAnswer};
+ghost use Rattle.hnsr_circuit.specs.Ledger.{noUsage, isUsage, usageAt, usageOver, clearUsage};
+ghost use Rattle.hnsr_circuit.specs.Ledger.{freshUsage, spent, ledgerAnswer, usageAnswer};
 ghost use Rattle.hnsr_body.specs.Values.{sameReservation};
 use crate::answer::HnsrAnswer;
 use crate::answer::HnsrRuntimeError;

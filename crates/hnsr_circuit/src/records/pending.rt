@@ -1,6 +1,9 @@
-// Pending records: what is asked of one, and the mark cleared. An unused record answers no question but that it is unused.
+// Pending records: what is asked of one, and the mark cleared. An unused record answers no question but that it is
+// unused.
 ghost use mathlib.Core.Path.{_≡_};
-ghost use Rattle.hnsr_circuit.specs.Pending.{noPending, clearPending, isPending, pendingAt, pendingOf, pendingUnder, requesterNames, endpointNames, requestedBy, namedBy, overdue, pendingOver};
+ghost use Rattle.hnsr_circuit.specs.Pending.{noPending, clearPending, isPending, pendingAt};
+ghost use Rattle.hnsr_circuit.specs.Pending.{pendingOf, pendingUnder, requesterNames, endpointNames};
+ghost use Rattle.hnsr_circuit.specs.Pending.{requestedBy, namedBy, overdue, pendingOver};
 use crate::peer::HnsrPeerId;
 use crate::peer::either_is;
 use crate::peer::no_peer;

@@ -1,6 +1,8 @@
 // The runtime with one part replaced, where a call goes on; and its counters, each of which stops at its top.
 ghost use mathlib.Core.Path.{_≡_};
-ghost use Rattle.hnsr_circuit.specs.Runtime.{countOpen, countAccept, countBytes, countRevoked, withClock, withSequence, withCounters, withEnabled, newRuntime, noRuntime, noCounts};
+ghost use Rattle.hnsr_circuit.specs.Runtime.{countOpen, countAccept, countBytes, countRevoked};
+ghost use Rattle.hnsr_circuit.specs.Runtime.{withClock, withSequence, withCounters};
+ghost use Rattle.hnsr_circuit.specs.Runtime.{withEnabled, newRuntime, noRuntime, noCounts};
 ghost use mathlib.Core.Bool.{cond};
 ghost use Prim.Native.Nat.{_<_};
 use crate::config::OpaqueRelayConfig;

@@ -1,5 +1,5 @@
-// The table of circuits: the only functions that index it. Only places below its number are in use, whatever the marks above; a place past the end
-// has no record, and a store there stores nothing.
+// The table of circuits: the only functions that index it. Only places below its number are in use, whatever the marks
+// above; a place past the end has no record, and a store there stores nothing.
 ghost use mathlib.Core.Path.{_≡_};
 ghost use mathlib.Core.Bool.{cond};
 ghost use lib.ListN.{getD, set};
@@ -209,7 +209,10 @@ pub(crate) fn charge_circuit(
     side: RelaySide,
     n: usize,
 )
-    ensures { λ _. ⌜ now (circuits .exit) ≡ cond go (set (now (circuits .entry)) place (charged side n (getD (now (circuits .entry)) place noCircuit))) (now (circuits .entry)) ⌝ }
+    ensures { λ _. ⌜
+        now (circuits .exit)
+        ≡ cond go (set (now (circuits .entry)) place (charged side n (getD (now (circuits .entry)) place noCircuit)))
+        (now (circuits .entry)) ⌝ }
 {
     if within(go, place, circuits.len()) {
         charge(&mut circuits[place], side, n);

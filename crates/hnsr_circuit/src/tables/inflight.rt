@@ -1,5 +1,5 @@
-// The table of outstanding actions: the only functions that index it. Only places below its number are in use, whatever the marks above; a place past the end
-// has no record, and a store there stores nothing.
+// The table of outstanding actions: the only functions that index it. Only places below its number are in use, whatever
+// the marks above; a place past the end has no record, and a store there stores nothing.
 ghost use mathlib.Core.Path.{_≡_};
 ghost use mathlib.Core.Bool.{cond};
 ghost use lib.ListN.{getD, set};
@@ -94,7 +94,10 @@ pub(crate) fn set_action(
 
 // The mark of one record cleared.
 pub(crate) fn unmark_action(inflight: &mut [InflightAction], go: bool, place: usize)
-    ensures { λ _. ⌜ now (inflight .exit) ≡ cond go (set (now (inflight .entry)) place (clearAction (getD (now (inflight .entry)) place noAction))) (now (inflight .entry)) ⌝ }
+    ensures { λ _. ⌜
+        now (inflight .exit)
+        ≡ cond go (set (now (inflight .entry)) place (clearAction (getD (now (inflight .entry)) place noAction)))
+        (now (inflight .entry)) ⌝ }
 {
     if within(go, place, inflight.len()) {
         let row = inflight[place];
@@ -151,7 +154,10 @@ pub(crate) fn drop_and_scan(
     id: u64,
     question: ActionQuestion,
 ) -> ActionScan
-    ensures { λ r. ⌜ (heldActions places (now (inflight .exit)) ≡ dropped (actionUnder id) (heldActions places (now (inflight .entry)))) × (r ≡ actionsScanned question (dropped (actionUnder id) (heldActions places (now (inflight .entry))))) ⌝ }
+    ensures { λ r. ⌜
+        (heldActions places (now (inflight .exit))
+        ≡ dropped (actionUnder id) (heldActions places (now (inflight .entry))))
+        × (r ≡ actionsScanned question (dropped (actionUnder id) (heldActions places (now (inflight .entry))))) ⌝ }
 {
     let size = inflight.len();
     let end = min_usize(places.actions, size);

@@ -1,5 +1,5 @@
-// The table of ledger records: the only functions that index it. Only places below its number are in use, whatever the marks above; a place past the end
-// has no record, and a store there stores nothing.
+// The table of ledger records: the only functions that index it. Only places below its number are in use, whatever the
+// marks above; a place past the end has no record, and a store there stores nothing.
 ghost use mathlib.Core.Path.{_≡_};
 ghost use mathlib.Core.Bool.{cond};
 ghost use lib.ListN.{getD, set};
@@ -89,7 +89,10 @@ pub(crate) fn set_usage(
 
 // The mark of one record cleared.
 pub(crate) fn unmark_usage(ledger: &mut [ReservationUsage], go: bool, place: usize)
-    ensures { λ _. ⌜ now (ledger .exit) ≡ cond go (set (now (ledger .entry)) place (clearUsage (getD (now (ledger .entry)) place noUsage))) (now (ledger .entry)) ⌝ }
+    ensures { λ _. ⌜
+        now (ledger .exit)
+        ≡ cond go (set (now (ledger .entry)) place (clearUsage (getD (now (ledger .entry)) place noUsage)))
+        (now (ledger .entry)) ⌝ }
 {
     if within(go, place, ledger.len()) {
         let row = ledger[place];

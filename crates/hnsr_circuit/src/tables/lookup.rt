@@ -167,7 +167,11 @@ pub(crate) fn trim(
     inflight: &[InflightAction],
     places: Places,
 ) -> Places
-    ensures { λ r. ⌜ (heldPending r (now (pending .entry)) ≡ heldPending places (now (pending .entry))) × (heldCircuits r (now (circuits .entry)) ≡ heldCircuits places (now (circuits .entry))) × (heldLedger r (now (ledger .entry)) ≡ heldLedger places (now (ledger .entry))) × (heldActions r (now (inflight .entry)) ≡ heldActions places (now (inflight .entry))) ⌝ }
+    ensures { λ r. ⌜
+        (heldPending r (now (pending .entry)) ≡ heldPending places (now (pending .entry)))
+        × (heldCircuits r (now (circuits .entry)) ≡ heldCircuits places (now (circuits .entry)))
+        × (heldLedger r (now (ledger .entry)) ≡ heldLedger places (now (ledger .entry)))
+        × (heldActions r (now (inflight .entry)) ≡ heldActions places (now (inflight .entry))) ⌝ }
 {
     let waiting = trim_pending(pending, places);
     let running = trim_circuits(circuits, places);

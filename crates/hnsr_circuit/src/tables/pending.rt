@@ -1,5 +1,5 @@
-// The table of pending records: the only functions that index it. Only places below its number are in use, whatever the marks above; a place past the end
-// has no record, and a store there stores nothing.
+// The table of pending records: the only functions that index it. Only places below its number are in use, whatever the
+// marks above; a place past the end has no record, and a store there stores nothing.
 ghost use mathlib.Core.Path.{_≡_};
 ghost use mathlib.Core.Bool.{cond};
 ghost use lib.ListN.{getD, set};

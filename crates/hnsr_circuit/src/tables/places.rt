@@ -1,11 +1,13 @@
-// How many places of each lent table are in use, by value. A place is used exactly if its record's mark is set and it lies below its table's number.
+// How many places of each lent table are in use, by value. A place is used exactly if its record's mark is set and it
+// lies below its table's number.
 ghost use mathlib.Core.Path.{_≡_};
 ghost use mathlib.Core.Bool.{cond};
 ghost use Rattle.hnsr_circuit.specs.Pending.{clearPending};
 ghost use Rattle.hnsr_circuit.specs.Circuits.{clearCircuit};
 ghost use Rattle.hnsr_circuit.specs.Ledger.{clearUsage};
 ghost use Rattle.hnsr_circuit.specs.Inflight.{clearAction};
-ghost use Rattle.hnsr_circuit.specs.Code.Held.{noPlace, everyPlace, withPending, withCircuits, withLedger, withActions, raisedTo};
+ghost use Rattle.hnsr_circuit.specs.Code.Held.{noPlace, everyPlace, withPending, withCircuits};
+ghost use Rattle.hnsr_circuit.specs.Code.Held.{withLedger, withActions, raisedTo};
 ghost use Rattle.hnsr_circuit.specs.Code.Turns.{scanSpared, ledgerSpared};
 use crate::records::InflightAction;
 use crate::records::RelayCircuit;
@@ -31,7 +33,8 @@ pub struct Places {
 }
 
 pub(crate) fn places_of(pending: usize, circuits: usize, ledger: usize, actions: usize) -> Places
-    ensures { λ r. ⌜ (r .pending ≡ pending) × (r .circuits ≡ circuits) × (r .ledger ≡ ledger) × (r .actions ≡ actions) ⌝ }
+    ensures { λ r. ⌜
+        (r .pending ≡ pending) × (r .circuits ≡ circuits) × (r .ledger ≡ ledger) × (r .actions ≡ actions) ⌝ }
 {
     Places {
         pending,

@@ -1,4 +1,5 @@
-// What scans of a table find, and one turn of each, by value: what it makes of what was found so far and of one more record.
+// What scans of a table find, and one turn of each, by value: what it makes of what was found so far and of one more
+// record.
 ghost use mathlib.Core.Path.{_≡_};
 ghost use mathlib.Core.Bool.{cond, true, _&&_};
 ghost use Prim.Native.Nat.{_+_, _<_};
@@ -9,7 +10,9 @@ ghost use Rattle.hnsr_circuit.specs.Pending.{pendingId, isPending};
 ghost use Rattle.hnsr_circuit.specs.Circuits.{circuitId, isCircuit};
 ghost use Rattle.hnsr_circuit.specs.Code.Question.{pendingHas, circuitHas};
 ghost use Rattle.hnsr_circuit.specs.NextDue.{earlier, dueTurn, deadlineOf, expiryOf};
-ghost use Rattle.hnsr_circuit.specs.Code.Turns.{noWork, workOn, WorkAtMost, pendingWorked, circuitWorked, noTotals, totalled, TallyAtMost, noScan, firstPlace, tallyOn, scanned, noLedgerScan, usageScanned};
+ghost use Rattle.hnsr_circuit.specs.Code.Turns.{noWork, workOn, WorkAtMost, pendingWorked, circuitWorked};
+ghost use Rattle.hnsr_circuit.specs.Code.Turns.{noTotals, totalled, TallyAtMost, noScan, firstPlace};
+ghost use Rattle.hnsr_circuit.specs.Code.Turns.{tallyOn, scanned, noLedgerScan, usageScanned};
 use crate::peer::HnsrPeerId;
 use crate::peer::same_peer_in_scan;
 use crate::records::InflightAction;
@@ -62,8 +65,8 @@ pub struct Survey {
     pub first: Walked,
 }
 
-// What OPEN and ACCEPT ask of all records of a table: how many are used, are the work of two peers and of a reservation; whether one repeats an
-// OPEN, and whether one holds an id.
+// What OPEN and ACCEPT ask of all records of a table: how many are used, are the work of two peers and of a
+// reservation; whether one repeats an OPEN, and whether one holds an id.
 pub struct WorkQuestion {
     pub peer: HnsrPeerId,
     pub other: HnsrPeerId,
@@ -81,7 +84,8 @@ pub struct Work {
     pub holds: bool,
 }
 
-// What a message asks of all actions: the tally, whether its number stands there already and where, and the lowest unused place.
+// What a message asks of all actions: the tally, whether its number stands there already and where, and the lowest
+// unused place.
 pub struct ActionQuestion {
     pub replacing: bool,
     pub circuit_id: u64,
@@ -98,8 +102,8 @@ pub struct ActionScan {
     pub spare_place: usize,
 }
 
-// What OPEN asks of all ledger records: whether its record is there, where, and itself; how many are used, the lowest unused place, and of how
-// many places.
+// What OPEN asks of all ledger records: whether its record is there, where, and itself; how many are used, the lowest
+// unused place, and of how many places.
 pub struct LedgerScan {
     pub found: bool,
     pub place: usize,

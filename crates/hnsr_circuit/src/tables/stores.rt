@@ -9,7 +9,8 @@ ghost use Rattle.hnsr_circuit.specs.Pending.{isPending, clearPending, no
 ghost use Rattle.hnsr_circuit.specs.Ledger.{noUsage, usageAt, clearUsage, spent};
 ghost use Rattle.hnsr_circuit.specs.Code.Held.{held, heldPending, heldCircuits, heldLedger};
 ghost use Rattle.hnsr_circuit.specs.Code.Opening.{putPlace};
-ghost use Rattle.hnsr_circuit.specs.Circuits.{noCircuit, clearCircuit, creditOf, otherSide, raised, isCircuit, circuitAt, lowered};
+ghost use Rattle.hnsr_circuit.specs.Circuits.{noCircuit, clearCircuit, creditOf, otherSide};
+ghost use Rattle.hnsr_circuit.specs.Circuits.{raised, isCircuit, circuitAt, lowered};
 use crate::records::RelayCircuit;
 use crate::records::RelayPending;
 use crate::records::RelaySide;
@@ -36,7 +37,10 @@ use hnsr_body::values::ReservationId;
 
 // A pending record at the lowest unused place.
 pub(crate) fn put_pending(pending: &mut [RelayPending], places: Places, row: RelayPending) -> usize
-    ensures { λ r. ⌜ held clearPending r (now (pending .exit)) ≡ set (heldPending places (now (pending .entry))) (placeOf (non isPending) (heldPending places (now (pending .entry)))) row ⌝ }
+    ensures { λ r. ⌜
+        held clearPending r (now (pending .exit))
+        ≡ set (heldPending places (now (pending .entry)))
+        (placeOf (non isPending) (heldPending places (now (pending .entry)))) row ⌝ }
 {
     let size = pending.len();
     let place = spare_pending(pending, places);
@@ -46,7 +50,12 @@ pub(crate) fn put_pending(pending: &mut [RelayPending], places: Places, row: Rel
 
 // The mark cleared of the record at a place.
 pub(crate) fn unmark_pending(pending: &mut [RelayPending], places: Places, go: bool, place: usize)
-    ensures { λ _. ⌜ heldPending places (now (pending .exit)) ≡ cond go (set (heldPending places (now (pending .entry))) place (clearPending (getD (heldPending places (now (pending .entry))) place noPending))) (heldPending places (now (pending .entry))) ⌝ }
+    ensures { λ _. ⌜
+        heldPending places (now (pending .exit))
+        ≡ cond go
+        (set (heldPending places (now (pending .entry))) place
+        (clearPending (getD (heldPending places (now (pending .entry))) place noPending)))
+        (heldPending places (now (pending .entry))) ⌝ }
 {
     let before = pending_at(pending, places, place);
     let after = pending_unmarked(before);
@@ -54,7 +63,12 @@ pub(crate) fn unmark_pending(pending: &mut [RelayPending], places: Places, go: b
 }
 
 pub(crate) fn unmark_circuit(circuits: &mut [RelayCircuit], places: Places, go: bool, place: usize)
-    ensures { λ _. ⌜ heldCircuits places (now (circuits .exit)) ≡ cond go (set (heldCircuits places (now (circuits .entry))) place (clearCircuit (getD (heldCircuits places (now (circuits .entry))) place noCircuit))) (heldCircuits places (now (circuits .entry))) ⌝ }
+    ensures { λ _. ⌜
+        heldCircuits places (now (circuits .exit))
+        ≡ cond go
+        (set (heldCircuits places (now (circuits .entry))) place
+        (clearCircuit (getD (heldCircuits places (now (circuits .entry))) place noCircuit)))
+        (heldCircuits places (now (circuits .entry))) ⌝ }
 {
     let before = circuit_at(circuits, places, place);
     let after = circuit_unmarked(before);
@@ -70,8 +84,16 @@ pub(crate) fn raise_circuit(
     side: RelaySide,
     delta: u32,
 )
-    requires { ⌜ (go ≡ true → creditOf (otherSide side) (getD (heldCircuits places (now circuits)) place noCircuit) + delta < 4294967296) ⌝ }
-    ensures { λ _. ⌜ heldCircuits places (now (circuits .exit)) ≡ cond go (set (heldCircuits places (now (circuits .entry))) place (raised side delta (getD (heldCircuits places (now (circuits .entry))) place noCircuit))) (heldCircuits places (now (circuits .entry))) ⌝ }
+    requires { ⌜
+        (go ≡ true
+        → creditOf (otherSide side) (getD (heldCircuits places (now circuits)) place noCircuit) + delta
+        < 4294967296) ⌝ }
+    ensures { λ _. ⌜
+        heldCircuits places (now (circuits .exit))
+        ≡ cond go
+        (set (heldCircuits places (now (circuits .entry))) place
+        (raised side delta (getD (heldCircuits places (now (circuits .entry))) place noCircuit)))
+        (heldCircuits places (now (circuits .entry))) ⌝ }
 {
     let before = circuit_at(circuits, places, place);
     let after = circuit_raised(before, side, delta);
@@ -96,7 +118,10 @@ pub(crate) fn put_circuit(
     id: u64,
     row: RelayCircuit,
 ) -> usize
-    ensures { λ r. ⌜ held clearCircuit r (now (circuits .exit)) ≡ cond go (put isCircuit (circuitAt id) row (heldCircuits places (now (circuits .entry)))) (heldCircuits places (now (circuits .entry))) ⌝ }
+    ensures { λ r. ⌜
+        held clearCircuit r (now (circuits .exit))
+        ≡ cond go (put isCircuit (circuitAt id) row (heldCircuits places (now (circuits .entry))))
+        (heldCircuits places (now (circuits .entry))) ⌝ }
 {
     let size = circuits.len();
     let old = find_circuit_id(circuits, places, id);
@@ -108,7 +133,12 @@ pub(crate) fn put_circuit(
 
 // DATA of n bytes, charged to a ledger record.
 pub(crate) fn spend(ledger: &mut [ReservationUsage], places: Places, go: bool, place: usize, n: u64)
-    ensures { λ _. ⌜ heldLedger places (now (ledger .exit)) ≡ cond go (set (heldLedger places (now (ledger .entry))) place (spent n (getD (heldLedger places (now (ledger .entry))) place noUsage))) (heldLedger places (now (ledger .entry))) ⌝ }
+    ensures { λ _. ⌜
+        heldLedger places (now (ledger .exit))
+        ≡ cond go
+        (set (heldLedger places (now (ledger .entry))) place
+        (spent n (getD (heldLedger places (now (ledger .entry))) place noUsage)))
+        (heldLedger places (now (ledger .entry))) ⌝ }
 {
     let usage = usage_at(ledger, places, place);
     let after = usage_spent(usage, n);
@@ -117,7 +147,9 @@ pub(crate) fn spend(ledger: &mut [ReservationUsage], places: Places, go: bool, p
 
 // The ledger record of a reservation, dropped.
 pub(crate) fn drop_usage(ledger: &mut [ReservationUsage], places: Places, id: ReservationId)
-    ensures { λ _. ⌜ heldLedger places (now (ledger .exit)) ≡ edit (usageAt id) clearUsage (heldLedger places (now (ledger .entry))) ⌝ }
+    ensures { λ _. ⌜
+        heldLedger places (now (ledger .exit))
+        ≡ edit (usageAt id) clearUsage (heldLedger places (now (ledger .entry))) ⌝ }
 {
     let place = find_usage(ledger, places, id);
     let usage = usage_at(ledger, places, place);
@@ -134,7 +166,10 @@ pub(crate) fn lower_circuit(
     side: RelaySide,
     n: usize,
 )
-    ensures { λ _. ⌜ heldCircuits places (now (circuits .exit)) ≡ cond go (edit (circuitAt id) (lowered side n) (heldCircuits places (now (circuits .entry)))) (heldCircuits places (now (circuits .entry))) ⌝ }
+    ensures { λ _. ⌜
+        heldCircuits places (now (circuits .exit))
+        ≡ cond go (edit (circuitAt id) (lowered side n) (heldCircuits places (now (circuits .entry))))
+        (heldCircuits places (now (circuits .entry))) ⌝ }
 {
     let place = find_circuit_id(circuits, places, id);
     let circuit = circuit_at(circuits, places, place);

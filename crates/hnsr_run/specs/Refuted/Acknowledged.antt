@@ -52,7 +52,8 @@ deaf = acknowledging (λ w g s delivered room.
 pub deaf-refuted : Claim deaf → ⊥
 unfolding machine lent notAdmitted
 deaf-refuted C =
-    let d = C (run-of deaf refl (opened ++ (closes 1 7 100 ∷ [])) refl) .acknowledged (actionOf 3 2 Close false 0 ∷ []) (λ f. refl) (λ a. acknowledgeWords) (λ a. omega arith) in
+    let d = C (run-of deaf refl (opened ++ (closes 1 7 100 ∷ [])) refl) .acknowledged (actionOf 3 2 Close false 0 ∷ [])
+    (λ f. refl) (λ a. acknowledgeWords) (λ a. omega arith) in
     let k : _≡_ {A = ℕ} 20 0 = ap firstOf (d .0) in
     omega arith
 
@@ -69,7 +70,8 @@ unfolding machine lent notAdmitted
 in-order-refuted C =
     let first = actionOf 2 1 Opened false 0 in
     let last = actionOf 3 2 Data true 40 in
-    let d = C (run-of inOrder refl talk refl) .acknowledged (last ∷ first ∷ []) (any-order (last ∷ first ∷ []) (first ∷ last ∷ []) (swapped last first []))
-    (λ a. acknowledgeWords) (λ a. omega arith) in
+    let d = C (run-of inOrder refl talk refl) .acknowledged (last ∷ first ∷ [])
+    (any-order (last ∷ first ∷ []) (first ∷ last ∷ []) (swapped last first [])) (λ a. acknowledgeWords)
+    (λ a. omega arith) in
     let k : _≡_ {A = ℕ} 20 0 = ap firstOf (d .0) in
     omega arith

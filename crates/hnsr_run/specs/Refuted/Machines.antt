@@ -20,7 +20,8 @@ use Rattle.hnsr_circuit.specs.Opcode.{opData}
 use Rattle.hnsr_circuit.specs.Entry.{handleWords, clockAnswer}
 use Rattle.hnsr_circuit.specs.Handle.{entryAnswer}
 use Rattle.hnsr_circuit.specs.Packet.{Packet, sender}
-use Rattle.hnsr_circuit.specs.Call.{Start, Call, start, step, callStatus, callHandle, callAcknowledge, callDisconnect, onCall}
+use Rattle.hnsr_circuit.specs.Call.{Start, Call, start, step, callStatus, callHandle}
+use Rattle.hnsr_circuit.specs.Call.{callAcknowledge, callDisconnect, onCall}
 use Rattle.hnsr_run.specs.Past.{Past, peerOn}
 use Rattle.hnsr_run.specs.History.{begin}
 use Rattle.hnsr_run.specs.Claim.{Sends, Machine, events, below, Holds, Run}
@@ -49,33 +50,49 @@ abbrev told : World → Outcome
 told w = step w callStatus
 
 abbrev pub handling : (World → Packet → (room : ℕ) → Outcome) → Machine
-handling f = record { new = start; step = replacing (record { handles = f; acknowledges = acknowledged; disconnects = disconnected; tells = told }) }
+handling f = record {
+  new = start;
+  step = replacing (record { handles = f; acknowledges = acknowledged; disconnects = disconnected; tells = told });
+}
 
 abbrev pub acknowledging : (World → (generation sequence : ℕ) → (delivered : Bool) → (room : ℕ) → Outcome) → Machine
-acknowledging f = record { new = start; step = replacing (record { handles = handled; acknowledges = f; disconnects = disconnected; tells = told }) }
+acknowledging f = record {
+  new = start;
+  step = replacing (record { handles = handled; acknowledges = f; disconnects = disconnected; tells = told });
+}
 
 abbrev pub disconnecting : (World → (peer : List ℕ) → (room : ℕ) → Outcome) → Machine
-disconnecting f = record { new = start; step = replacing (record { handles = handled; acknowledges = acknowledged; disconnects = f; tells = told }) }
+disconnecting f = record {
+  new = start;
+  step = replacing (record { handles = handled; acknowledges = acknowledged; disconnects = f; tells = told });
+}
 
 abbrev pub telling-status : (World → Outcome) → Machine
-telling-status f = record { new = start; step = replacing (record { handles = handled; acknowledges = acknowledged; disconnects = disconnected; tells = f }) }
+telling-status f = record {
+  new = start;
+  step = replacing (record { handles = handled; acknowledges = acknowledged; disconnects = disconnected; tells = f });
+}
 
 -- entry and clock, in front of what is replaced
 abbrev pub entering : World → Packet → (room : ℕ) → HnsrAnswer
 entering w q room = entryAnswer w q room then clockAnswer (w .runtime .«trusted_time_high_water») (q .now)
 
--- ---- the runs: a circuit, whose OPENED has the number 2; then DATA of 40 bytes toward the endpoint, whose route has the number 3
+-- ---- the runs: a circuit, whose OPENED has the number 2; then DATA of 40 bytes toward the endpoint, whose route has
+-- the number 3
 abbrev pub opened : List Call
 opened = opens 1 2 9 (7 ∷ []) (grant 5 100) 100 ∷ accepts 2 7 100 ∷ []
 
 abbrev pub talk : List Call
 talk = opened ++ (sends 1 7 40 100 ∷ [])
 
-abbrev pub run-from : (s : Start) (m : Machine) → m .new tables s .answer ≡ Taken → s .config .«maximum_bytes_per_circuit» < top 64 → (calls : List Call)
+abbrev pub run-from : (s : Start) (m : Machine) → m .new tables s .answer ≡ Taken
+    → s .config .«maximum_bytes_per_circuit» < top 64 → (calls : List Call)
     → below (begin s) (events (m .step) (m .new tables s .world) calls) ≡ true → Run m
-run-from s m new-taken limit calls bounded = record { lent = tables; began = s; new-taken = new-taken; limit = limit; calls = calls; bounded = bounded }
+run-from s m new-taken limit calls bounded =
+    record { lent = tables; began = s; new-taken = new-taken; limit = limit; calls = calls; bounded = bounded }
 
-abbrev pub run-of : (m : Machine) → m .new tables fresh .answer ≡ Taken → (calls : List Call) → below (begin fresh) (events (m .step) (m .new tables fresh .world) calls) ≡ true
+abbrev pub run-of : (m : Machine) → m .new tables fresh .answer ≡ Taken → (calls : List Call)
+    → below (begin fresh) (events (m .step) (m .new tables fresh .world) calls) ≡ true
     → Run m
 run-of m new-taken calls bounded = run-from fresh m new-taken (omega arith) calls bounded
 
@@ -85,7 +102,8 @@ actionsIn silent = 0
 actionsIn (statusIs s) = s .«queued_actions»
 actionsIn (dueIs d) = 0
 
-pub status-tells : (f : World → Call → Outcome) (w : World) (h : Past) → Holds f w h → actionsIn (f w callStatus .told) ≡ length (h .out)
+pub status-tells : (f : World → Call → Outcome) (w : World) (h : Past) → Holds f w h
+    → actionsIn (f w callStatus .told) ≡ length (h .out)
 status-tells f w h H = ap actionsIn (H .status .2) ∙ H .status .3
 
 abbrev pub sendable : Past → (circuit : ℕ) → RelaySide → Packet → (room : ℕ) → Bool
@@ -101,7 +119,8 @@ sendable h j side q room =
     && (ltb (q .now) (h .known j .expires)
     && leb handleWords room))))))))
 
-pub can-send : (h : Past) (j : ℕ) (side : RelaySide) (q : Packet) (room : ℕ) → sendable h j side q room ≡ true → Sends h j side q room
+pub can-send : (h : Past) (j : ℕ) (side : RelaySide) (q : Packet) (room : ℕ) → sendable h j side q room ≡ true
+    → Sends h j side q room
 can-send h j side q room e =
     let a = both (eqb (q .opcode) opData) _ e in
     let b = both (eqb (q .context) j) _ (a .1) in

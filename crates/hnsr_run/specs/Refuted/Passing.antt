@@ -46,28 +46,31 @@ recircuited f q o = record {
 -- ---- DATA charges its reservation twice: 60 bytes are left, and 30 do not pass (if; reservation left)
 abbrev chargedAgain : Packet → Outcome → World → Outcome
 chargedAgain q o w =
-    let c = namedCircuit w q in
-    record {
-      world = withLedger (o .world) (edit (usageAt (c .«reservation_id»)) (spent (length (q .body))) (o .world .ledger));
+    let c = namedCircuit w q in record {
+      world =
+          withLedger (o .world) (edit (usageAt (c .«reservation_id»)) (spent (length (q .body))) (o .world .ledger));
       answer = o .answer;
       routes = o .routes;
       told = o .told;
     }
 
 abbrev pub doubly : Machine
-doubly = handling (λ w q room. cond (eqb (q .opcode) opData) (chargedAgain q (step w (callHandle q room)) w) (step w (callHandle q room)))
+doubly =
+    handling (λ w q room.
+    cond (eqb (q .opcode) opData) (chargedAgain q (step w (callHandle q room)) w) (step w (callHandle q room)))
 
 pub doubly-refuted : Claim doubly → ⊥
 unfolding machine lent notAdmitted
 doubly-refuted C =
     let r = run-of doubly refl (talk ++ (acked 1 2 ∷ acked 1 3 ∷ [])) refl in
     let d = C r .acknowledged [] (λ f. refl) (λ a. acknowledgeWords) (λ a. omega arith) in
-    let p = d .1 7 refl Requester (bytes 1 30) handleWords (can-send (pastAt doubly r) 7 Requester (bytes 1 30) handleWords refl) .1
-    (omega arith, omega arith, omega arith) in
+    let p = d .1 7 refl Requester (bytes 1 30) handleWords
+    (can-send (pastAt doubly r) 7 Requester (bytes 1 30) handleWords refl) .1 (omega arith, omega arith, omega arith) in
     let k : _≡_ {A = ℕ} 18 0 = ap number (p .taken) in
     omega arith
 
--- ---- a stranger's DATA is taken as the endpoint's, and spends its credit: 16,384 bytes are left, and they do not pass (if; credit)
+-- ---- a stranger's DATA is taken as the endpoint's, and spends its credit: 16,384 bytes are left, and they do not pass
+-- (if; credit)
 abbrev strangeTaken : World → Packet → RelayCircuit → RelaySide → (n : ℕ) → HnsrAnswer
 strangeTaken w q c side n =
     bodyAnswer (dataChecked n)
@@ -81,7 +84,8 @@ strangeData w q =
     let c = namedCircuit w q in
     let side = sideOf (sender q) c in
     let n = length (q .body) in
-    proceed w (strangeTaken w q c side n) (send (withData w (q .context) (c .«reservation_id») side n) (dataMessage q c side n))
+    proceed w (strangeTaken w q c side n)
+    (send (withData w (q .context) (c .«reservation_id») side n) (dataMessage q c side n))
 
 abbrev pub stranger : Machine
 stranger = handling (λ w q room.
@@ -97,7 +101,8 @@ unfolding machine lent notAdmitted
 stranger-refuted C =
     let r = run-of stranger refl (wide ++ (sends 3 7 10 100 ∷ acked 1 2 ∷ acked 1 3 ∷ [])) refl in
     let d = C r .acknowledged [] (λ f. refl) (λ a. acknowledgeWords) (λ a. omega arith) in
-    let p = d .1 7 refl Endpoint (bytes 2 16384) handleWords (can-send (pastAt stranger r) 7 Endpoint (bytes 2 16384) handleWords refl) .1
+    let p = d .1 7 refl Endpoint (bytes 2 16384) handleWords
+    (can-send (pastAt stranger r) 7 Endpoint (bytes 2 16384) handleWords refl) .1
     (omega arith, omega arith, omega arith) in
     let k : _≡_ {A = ℕ} 17 0 = ap number (p .taken) in
     omega arith
@@ -105,9 +110,11 @@ stranger-refuted C =
 -- ---- DATA does not lower the sender's credit: none is left, and one byte more passes (only if; credit)
 abbrev recredited : RelaySide → ℕ → RelayCircuit → RelayCircuit
 recredited Requester n c =
-    moved c (c .used) (c .«requester_credit» + n) (c .«endpoint_credit») (c .«forwarded_bytes») (c .«queued_to_requester») (c .«queued_to_endpoint»)
+    moved c (c .used) (c .«requester_credit» + n) (c .«endpoint_credit») (c .«forwarded_bytes»)
+    (c .«queued_to_requester») (c .«queued_to_endpoint»)
 recredited Endpoint n c =
-    moved c (c .used) (c .«requester_credit») (c .«endpoint_credit» + n) (c .«forwarded_bytes») (c .«queued_to_requester») (c .«queued_to_endpoint»)
+    moved c (c .used) (c .«requester_credit») (c .«endpoint_credit» + n) (c .«forwarded_bytes»)
+    (c .«queued_to_requester») (c .«queued_to_endpoint»)
 
 abbrev pub uncredited : Machine
 uncredited = handling (λ w q room.
@@ -121,14 +128,16 @@ unfolding machine lent notAdmitted
 uncredited-refuted C =
     let r = run-of uncredited refl (wide ++ (sends 1 7 16384 100 ∷ acked 1 2 ∷ acked 1 3 ∷ [])) refl in
     let d = C r .acknowledged [] (λ f. refl) (λ a. acknowledgeWords) (λ a. omega arith) in
-    let p = d .1 7 refl Requester (bytes 1 1) handleWords (can-send (pastAt uncredited r) 7 Requester (bytes 1 1) handleWords refl) .0
+    let p = d .1 7 refl Requester (bytes 1 1) handleWords
+    (can-send (pastAt uncredited r) 7 Requester (bytes 1 1) handleWords refl) .0
     (record { taken = refl; route = _; one = refl; to = refl; opcode = refl; context = refl; body = refl }) in
     omega (arith, p .0)
 
 -- ---- DATA is not counted in the circuit's own bytes: 10 are left of 50, and 20 pass (only if; circuit left)
 abbrev uncounted : ℕ → RelayCircuit → RelayCircuit
 uncounted n c =
-    moved c (c .used) (c .«requester_credit») (c .«endpoint_credit») (c .«forwarded_bytes» - n) (c .«queued_to_requester») (c .«queued_to_endpoint»)
+    moved c (c .used) (c .«requester_credit») (c .«endpoint_credit») (c .«forwarded_bytes» - n)
+    (c .«queued_to_requester») (c .«queued_to_endpoint»)
 
 abbrev pub unmeasured : Machine
 unmeasured = handling (λ w q room.
@@ -138,13 +147,17 @@ unmeasured = handling (λ w q room.
 pub unmeasured-refuted : Claim unmeasured → ⊥
 unfolding machine lent notAdmitted
 unmeasured-refuted C =
-    let r = run-of unmeasured refl (opens 1 2 9 (7 ∷ []) (granting 5 50 4000) 100 ∷ accepts 2 7 100 ∷ sends 1 7 40 100 ∷ acked 1 2 ∷ acked 1 3 ∷ []) refl in
+    let r = run-of unmeasured refl
+    (opens 1 2 9 (7 ∷ []) (granting 5 50 4000) 100 ∷ accepts 2 7 100 ∷ sends 1 7 40 100 ∷ acked 1 2 ∷ acked 1 3 ∷ [])
+    refl in
     let d = C r .acknowledged [] (λ f. refl) (λ a. acknowledgeWords) (λ a. omega arith) in
-    let p = d .1 7 refl Requester (bytes 1 20) handleWords (can-send (pastAt unmeasured r) 7 Requester (bytes 1 20) handleWords refl) .0
+    let p = d .1 7 refl Requester (bytes 1 20) handleWords
+    (can-send (pastAt unmeasured r) 7 Requester (bytes 1 20) handleWords refl) .0
     (record { taken = refl; route = _; one = refl; to = refl; opcode = refl; context = refl; body = refl }) in
     omega (arith, p .1)
 
--- ---- a circuit's first DATA is charged; later ones are routed and queued, and charge nothing: 40 bytes are left, and 50 pass (only if; reservation left)
+-- ---- a circuit's first DATA is charged; later ones are routed and queued, and charge nothing: 40 bytes are left, and
+-- 50 pass (only if; reservation left)
 abbrev uncharge : (bytes : ℕ) → RelaySide → RelayCircuit → RelayCircuit
 uncharge n side c = recredited side n (uncounted n c)
 
@@ -154,7 +167,8 @@ freeData w q =
     let side = sideOf (sender q) c in
     let n = length (q .body) in
     proceed w (dataTaken w q c side n)
-    (send (withCircuits w (edit (circuitAt (q .context)) (λ x. uncharge n side (charged side n x)) (w .circuits))) (dataMessage q c side n))
+    (send (withCircuits w (edit (circuitAt (q .context)) (λ x. uncharge n side (charged side n x)) (w .circuits)))
+    (dataMessage q c side n))
 
 abbrev pub uncharged : Machine
 uncharged = handling (λ w q room.
@@ -169,7 +183,8 @@ unfolding machine lent notAdmitted
 uncharged-refuted C =
     let r = run-of uncharged refl (talk ++ (sends 1 7 20 100 ∷ acked 1 2 ∷ acked 1 3 ∷ acked 1 4 ∷ [])) refl in
     let d = C r .acknowledged [] (λ f. refl) (λ a. acknowledgeWords) (λ a. omega arith) in
-    let p = d .1 7 refl Requester (bytes 1 50) handleWords (can-send (pastAt uncharged r) 7 Requester (bytes 1 50) handleWords refl) .0
+    let p = d .1 7 refl Requester (bytes 1 50) handleWords
+    (can-send (pastAt uncharged r) 7 Requester (bytes 1 50) handleWords refl) .0
     (record { taken = refl; route = _; one = refl; to = refl; opcode = refl; context = refl; body = refl }) in
     omega (arith, p .2)
 
@@ -186,13 +201,17 @@ restarted q o = record {
 }
 
 abbrev pub resetting : Machine
-resetting = handling (λ w q room. cond (eqb (q .opcode) opOpen) (restarted q (step w (callHandle q room))) (step w (callHandle q room)))
+resetting =
+    handling
+    (λ w q room. cond (eqb (q .opcode) opOpen) (restarted q (step w (callHandle q room))) (step w (callHandle q room)))
 
 pub resetting-refuted : Claim resetting → ⊥
 unfolding machine lent notAdmitted
 resetting-refuted C =
-    let r = run-of resetting refl (talk ++ (opens 3 2 9 (8 ∷ []) (grant 5 100) 100 ∷ acked 1 2 ∷ acked 1 3 ∷ acked 1 4 ∷ [])) refl in
+    let r = run-of resetting refl
+    (talk ++ (opens 3 2 9 (8 ∷ []) (grant 5 100) 100 ∷ acked 1 2 ∷ acked 1 3 ∷ acked 1 4 ∷ [])) refl in
     let d = C r .acknowledged [] (λ f. refl) (λ a. acknowledgeWords) (λ a. omega arith) in
-    let p = d .1 7 refl Requester (bytes 1 70) handleWords (can-send (pastAt resetting r) 7 Requester (bytes 1 70) handleWords refl) .0
+    let p = d .1 7 refl Requester (bytes 1 70) handleWords
+    (can-send (pastAt resetting r) 7 Requester (bytes 1 70) handleWords refl) .0
     (record { taken = refl; route = _; one = refl; to = refl; opcode = refl; context = refl; body = refl }) in
     omega (arith, p .2)

@@ -41,8 +41,9 @@ idle-refuted C =
 
 -- ---- an acknowledgement drops the action and forgets the queue
 abbrev pub forgetful : Machine
-forgetful = acknowledging (λ w g s delivered room.
-    proceed w (acknowledgeTaken w g s room) (settled (withoutAction w g s) (pick (actionAt g s) noAction (w .inflight)) delivered))
+forgetful =
+    acknowledging (λ w g s delivered room. proceed w (acknowledgeTaken w g s room)
+    (settled (withoutAction w g s) (pick (actionAt g s) noAction (w .inflight)) delivered))
 
 pub forgetful-refuted : Claim forgetful → ⊥
 unfolding machine lent notAdmitted
@@ -65,7 +66,8 @@ routedOnly = handling (λ w q room.
 pub routed-refuted : Claim routedOnly → ⊥
 unfolding machine lent notAdmitted
 routed-refuted C =
-    let k : _≡_ {A = ℕ} 40 50 = C (run-of routedOnly refl (talk ++ (sends 1 7 10 100 ∷ [])) refl) .queued 7 refl Endpoint in
+    let k : _≡_ {A = ℕ} 40 50 =
+    C (run-of routedOnly refl (talk ++ (sends 1 7 10 100 ∷ [])) refl) .queued 7 refl Endpoint in
     omega arith
 
 -- ---- no queue is kept: DATA is stored under circuit 0, and labelled so in its route, and is never queued
@@ -96,7 +98,8 @@ unqueuedData w q =
     let c = namedCircuit w q in
     let side = sideOf (sender q) c in
     let v = unqueuedWorld w q c side in
-    proceed w (dataTaken w q c side (length (q .body))) (done (queued (mislabelled q c side) v) (routed (mislabelled q c side) v ∷ []))
+    proceed w (dataTaken w q c side (length (q .body)))
+    (done (queued (mislabelled q c side) v) (routed (mislabelled q c side) v ∷ []))
 
 abbrev pub unqueued : Machine
 unqueued = handling (λ w q room.
@@ -113,9 +116,11 @@ unqueued-refuted C =
 -- ---- while DATA is under way toward a side, later DATA toward it is cut to one byte, and only that byte is queued
 abbrev cutTo : (bytes : ℕ) → RelaySide → RelayCircuit → RelayCircuit
 cutTo n Requester c =
-    moved c (c .used) (c .«requester_credit») (c .«endpoint_credit») (c .«forwarded_bytes») (c .«queued_to_requester») (c .«queued_to_endpoint» - n + 1)
+    moved c (c .used) (c .«requester_credit») (c .«endpoint_credit») (c .«forwarded_bytes») (c .«queued_to_requester»)
+    (c .«queued_to_endpoint» - n + 1)
 cutTo n Endpoint c =
-    moved c (c .used) (c .«requester_credit») (c .«endpoint_credit») (c .«forwarded_bytes») (c .«queued_to_requester» - n + 1) (c .«queued_to_endpoint»)
+    moved c (c .used) (c .«requester_credit») (c .«endpoint_credit») (c .«forwarded_bytes»)
+    (c .«queued_to_requester» - n + 1) (c .«queued_to_endpoint»)
 
 abbrev cutWorld : World → Packet → RelayCircuit → RelaySide → World
 cutWorld w q c side =
@@ -146,23 +151,26 @@ abbrev underWay : World → Packet → ℕ
 underWay w q = let c = namedCircuit w q in queuedTo (otherSide (sideOf (sender q) c)) c
 
 abbrev pub cutting : Machine
-cutting = handling (λ w q room.
-    cond (eqb (q .opcode) opData)
-    (cond (eqb (underWay w q) 0) (step w (callHandle q room)) (proceed w (entering w q room) (cutData (atTime w (q .now)) q)))
-    (step w (callHandle q room)))
+cutting =
+    handling (λ w q room. cond (eqb (q .opcode) opData)
+    (cond (eqb (underWay w q) 0) (step w (callHandle q room))
+    (proceed w (entering w q room) (cutData (atTime w (q .now)) q))) (step w (callHandle q room)))
 
 pub cutting-refuted : Claim cutting → ⊥
 unfolding machine lent notAdmitted
 cutting-refuted C =
-    let k : _≡_ {A = ℕ} 41 50 = C (run-of cutting refl (talk ++ (sends 1 7 10 100 ∷ [])) refl) .queued 7 refl Endpoint in
+    let k : _≡_ {A = ℕ} 41 50 =
+    C (run-of cutting refl (talk ++ (sends 1 7 10 100 ∷ [])) refl) .queued 7 refl Endpoint in
     omega arith
 
 -- ---- while anything is outstanding, DATA is sent and queued twice
 abbrev queuedAgain : (bytes : ℕ) → RelaySide → RelayCircuit → RelayCircuit
 queuedAgain n Requester c =
-    moved c (c .used) (c .«requester_credit») (c .«endpoint_credit») (c .«forwarded_bytes») (c .«queued_to_requester») (c .«queued_to_endpoint» + n)
+    moved c (c .used) (c .«requester_credit») (c .«endpoint_credit») (c .«forwarded_bytes») (c .«queued_to_requester»)
+    (c .«queued_to_endpoint» + n)
 queuedAgain n Endpoint c =
-    moved c (c .used) (c .«requester_credit») (c .«endpoint_credit») (c .«forwarded_bytes») (c .«queued_to_requester» + n) (c .«queued_to_endpoint»)
+    moved c (c .used) (c .«requester_credit») (c .«endpoint_credit») (c .«forwarded_bytes»)
+    (c .«queued_to_requester» + n) (c .«queued_to_endpoint»)
 
 abbrev again : World → Packet → Outcome → Outcome
 again w q o =
@@ -176,8 +184,9 @@ again w q o =
     o
 
 abbrev pub doubling : Machine
-doubling = handling (λ w q room.
-    cond (eqb (q .opcode) opData && any isAction (w .inflight)) (again w q (step w (callHandle q room))) (step w (callHandle q room)))
+doubling =
+    handling (λ w q room. cond (eqb (q .opcode) opData && any isAction (w .inflight))
+    (again w q (step w (callHandle q room))) (step w (callHandle q room)))
 
 pub doubling-refuted : Claim doubling → ⊥
 unfolding machine lent notAdmitted

@@ -23,7 +23,8 @@ use Rattle.hnsr_circuit.specs.Call.{step, callHandle, callDisconnect}
 use Rattle.hnsr_circuit.specs.Worked.All.{machine}
 use Rattle.hnsr_run.specs.Claim.{Machine, worldAt, pastAt, Claim}
 use Rattle.hnsr_run.specs.Talk.{tight, grant, opens, widens, closes, leaves}
-use Rattle.hnsr_run.specs.Refuted.Machines.{handling, disconnecting, telling-status, opened, talk, run-from, run-of, status-tells}
+use Rattle.hnsr_run.specs.Refuted.Machines.{handling, disconnecting, telling-status}
+use Rattle.hnsr_run.specs.Refuted.Machines.{opened, talk, run-from, run-of, status-tells}
 
 -- ---- status from an invented counter: the ACCEPTs so far
 abbrev inventedStatus : HnsrRuntimeStatus → ℕ → HnsrRuntimeStatus
@@ -77,10 +78,17 @@ mislabelled r = record {
 }
 
 abbrev astray : Outcome → Outcome
-astray o = record { world = withInflight (o .world) (map stray (o .world .inflight)); answer = o .answer; routes = map mislabelled (o .routes); told = o .told }
+astray o = record {
+  world = withInflight (o .world) (map stray (o .world .inflight));
+  answer = o .answer;
+  routes = map mislabelled (o .routes);
+  told = o .told;
+}
 
 abbrev pub lingering : Machine
-lingering = handling (λ w q room. cond (eqb (q .opcode) opOpen) (astray (step w (callHandle q room))) (step w (callHandle q room)))
+lingering =
+    handling
+    (λ w q room. cond (eqb (q .opcode) opOpen) (astray (step w (callHandle q room))) (step w (callHandle q room)))
 
 pub lingering-refuted : Claim lingering → ⊥
 unfolding machine lent notAdmitted
@@ -89,15 +97,19 @@ lingering-refuted C =
     let k : _≡_ {A = ℕ} 2 1 = status-tells (lingering .step) (worldAt lingering r) (pastAt lingering r) (C r) in
     omega arith
 
--- ---- an OPEN looks at pending records alone, and draws the id of a circuit that stands: its CLOSE drops that circuit's actions too
+-- ---- an OPEN looks at pending records alone, and draws the id of a circuit that stands: its CLOSE drops that
+-- circuit's actions too
 abbrev unseen : World → World
 unseen w = withCircuits w (clear clearCircuit isCircuit (w .circuits))
 
 abbrev restored : World → Outcome → Outcome
-restored w o = record { world = withCircuits (o .world) (w .circuits); answer = o .answer; routes = o .routes; told = o .told }
+restored w o =
+    record { world = withCircuits (o .world) (w .circuits); answer = o .answer; routes = o .routes; told = o .told }
 
 abbrev pub twice : Machine
-twice = handling (λ w q room. cond (eqb (q .opcode) opOpen) (restored w (step (unseen w) (callHandle q room))) (step w (callHandle q room)))
+twice =
+    handling (λ w q room.
+    cond (eqb (q .opcode) opOpen) (restored w (step (unseen w) (callHandle q room))) (step w (callHandle q room)))
 
 pub twice-refuted : Claim twice → ⊥
 unfolding machine lent notAdmitted
@@ -106,8 +118,9 @@ twice-refuted C =
     let k : _≡_ {A = ℕ} 1 3 = status-tells (twice .step) (worldAt twice r) (pastAt twice r) (C r) in
     omega arith
 
--- ---- after a disconnect a CLOSE is stored, and labelled, under the OPEN of its peer that has the CLOSE's number for its context, although it is the CLOSE
--- of the circuit of that number: the next record of that id ends without dropping it
+-- ---- after a disconnect a CLOSE is stored, and labelled, under the OPEN of its peer that has the CLOSE's number for
+-- its context, although it is the CLOSE of the circuit of that number: the next record of that id ends without dropping
+-- it
 abbrev asksUnder : InflightAction → RelayPending → Bool
 asksUnder a p = p .used && (samePeer (p .requester) (a .destination) && eqb (p .«requester_context») (a .«circuit_id»))
 
@@ -116,7 +129,8 @@ mistook w a = record {
   used = a .used;
   generation = a .generation;
   sequence = a .sequence;
-  «circuit_id» = cond (any (asksUnder a) (w .pending)) (pick (asksUnder a) noPending (w .pending) .«circuit_id») (a .«circuit_id»);
+  «circuit_id» =
+      cond (any (asksUnder a) (w .pending)) (pick (asksUnder a) noPending (w .pending) .«circuit_id») (a .«circuit_id»);
   destination = a .destination;
   kind = a .kind;
   «to_endpoint» = a .«to_endpoint»;
@@ -139,17 +153,24 @@ labelledAs t r = takenFor (pick (actionAt (r .generation) (r .sequence)) noActio
 
 abbrev mistaken-in : World → Outcome → Outcome
 mistaken-in w o =
-    let t = map (mistook w) (o .world .inflight) in
-    record { world = withInflight (o .world) t; answer = o .answer; routes = map (labelledAs t) (o .routes); told = o .told }
+    let t = map (mistook w) (o .world .inflight) in record {
+      world = withInflight (o .world) t;
+      answer = o .answer;
+      routes = map (labelledAs t) (o .routes);
+      told = o .told;
+    }
 
 abbrev pub mistaken : Machine
 mistaken = disconnecting (λ w peer room. mistaken-in w (step w (callDisconnect peer room)))
 
--- the peer 1 has the circuit 7 with 2, and toward 2 an OPEN 8 under its own context 7; two actions of circuit 7 toward 1 leave no capacity for the OPEN's CLOSE
+-- the peer 1 has the circuit 7 with 2, and toward 2 an OPEN 8 under its own context 7; two actions of circuit 7 toward
+-- 1 leave no capacity for the OPEN's CLOSE
 pub mistaken-refuted : Claim mistaken → ⊥
 unfolding machine lent notAdmitted
 mistaken-refuted C =
-    let r = run-from tight mistaken refl (omega arith) (opened ++ (widens 2 7 1000 100 ∷ opens 1 2 7 (8 ∷ []) (grant 5 100) 100 ∷ leaves 2
-    ∷ opens 3 4 6 (7 ∷ []) (grant 5 100) 100 ∷ closes 3 6 100 ∷ [])) refl in
+    let r = run-from tight mistaken refl (omega arith)
+    (opened
+    ++ (widens 2 7 1000 100 ∷ opens 1 2 7 (8 ∷ []) (grant 5 100) 100 ∷ leaves 2 ∷ opens 3 4 6 (7 ∷ []) (grant 5 100) 100
+    ∷ closes 3 6 100 ∷ [])) refl in
     let k : _≡_ {A = ℕ} 2 1 = status-tells (mistaken .step) (worldAt mistaken r) (pastAt mistaken r) (C r) in
     omega arith

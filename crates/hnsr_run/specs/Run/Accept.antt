@@ -46,8 +46,8 @@ use Rattle.hnsr_run.specs.Run.Rel.{Live, Rel, Places, proceed-cases, if-
 use Rattle.hnsr_run.specs.Run.AcceptRows.{AcceptRows, accept-rows, never-six}
 
 -- ---- the circuit starts
-module _ {w : World} {h : Past} (R : Rel w h) (H : Places w) (low : sequenceOf w < top 64) (q : Packet) (clock : h .head .clock ≡ q .now) (D : AcceptRows w q
-    (pendingIn w (q .context))) where
+module _ {w : World} {h : Past} (R : Rel w h) (H : Places w) (low : sequenceOf w < top 64) (q : Packet)
+    (clock : h .head .clock ≡ q .now) (D : AcceptRows w q (pendingIn w (q .context))) where
   abbrev j : ℕ
   j = q .context
 
@@ -119,24 +119,37 @@ module _ {w : World} {h : Past} (R : Rel w h) (H : Places w) (low : sequenceOf w
 
   begins : Full none (withAccept w p body) (begun (openEnded h j) j started)
   unfolding withAccept endPending withoutPending withoutActions circuit
-  begins = subst (λ i. Body none (configOf w) (generationOf w) (sequenceOf w) (edit (pendingAt i) clearPending (w .pending)) (put isCircuit (circuitAt i)
-      (circuitFor (configOf w) p body) (w .circuits)) (dropped (actionUnder i) (w .inflight)) (at j true (h .active)) (at j started (h .known)) (at j false
-      (h .opens .standing)) (h .opens .asked) (keep (non (onCircuit j)) (h .out))) (sym own)
-      (resume-at j (record {
+  begins =
+      subst (λ i. Body none (configOf w) (generationOf w) (sequenceOf w) (edit (pendingAt i) clearPending (w .pending))
+      (put isCircuit (circuitAt i) (circuitFor (configOf w) p body) (w .circuits))
+      (dropped (actionUnder i) (w .inflight)) (at j true (h .active)) (at j started (h .known))
+      (at j false (h .opens .standing)) (h .opens .asked) (keep (non (onCircuit j)) (h .out))) (sym own)
+      (resume-at j
+      (record {
         acts = E .acts;
-        circs = store-tells circuitKeys (E .circs) j circuit started (put isCircuit (circuitAt j) circuit (w .circuits)) (at j true (h .active)) (at j started
-            (h .known)) looks agrees (λ i. refl) (λ i. refl);
-        queue = store-queue (suspend (E .queue) (λ i. eqb j i)
-            (λ i e. refl)) j circuit started (put isCircuit (circuitAt j) circuit (w .circuits)) (at j true (h .active)) (at j started (h .known)) looks
-            (eq-eqb j j refl) (λ a. clash a apart) (λ i. refl) (λ i. refl);
+        circs =
+            store-tells circuitKeys (E .circs) j circuit started (put isCircuit (circuitAt j) circuit (w .circuits))
+            (at j true (h .active)) (at j started (h .known)) looks agrees
+            (λ i. refl)
+            (λ i. refl);
+        queue =
+            store-queue (suspend (E .queue) (λ i. eqb j i) (λ i e. refl)) j circuit started
+            (put isCircuit (circuitAt j) circuit (w .circuits)) (at j true (h .active)) (at j started (h .known)) looks
+            (eq-eqb j j refl)
+            (λ a. clash a apart)
+            (λ i. refl)
+            (λ i. refl);
         pends = E .pends;
-        disjoint = λ i s. split (eqb j i) (λ e. absurd (false≢true (sym (ap (λ b. cond b false (h .opens .standing i)) e) ∙ s))) (λ e. ap
-            (λ b. cond b true (h .active i)) e ∙ E .disjoint i s);
-        real = λ i a. split (eqb j i) (λ e. ap (λ x. eqb x 0) (sym (eqb-true j i e)) ∙ R .base .full .realP j stands) (λ e. E .real i (sym (ap
-            (λ b. cond b true (h .active i)) e) ∙ a));
+        disjoint =
+            λ i s. split (eqb j i)
+            (λ e. absurd (false≢true (sym (ap (λ b. cond b false (h .opens .standing i)) e) ∙ s)))
+            (λ e. ap (λ b. cond b true (h .active i)) e ∙ E .disjoint i s);
+        real =
+            λ i a. split (eqb j i)
+            (λ e. ap (λ x. eqb x 0) (sym (eqb-true j i e)) ∙ R .base .full .realP j stands)
+            (λ e. E .real i (sym (ap (λ b. cond b true (h .active i)) e) ∙ a));
         realP = E .realP;
-      })
-      (λ s. idle (E .queue) j apart s ∙ sym (ap (queuedTo s) (found-circuit) ∙ queue-none s)))
+      }) (λ s. idle (E .queue) j apart s ∙ sym (ap (queuedTo s) (found-circuit) ∙ queue-none s)))
     where
       E : Full none (endPending w (pendingAt j) j) (openEnded h j)
       E = ended .full
@@ -158,19 +171,28 @@ module _ {w : World} {h : Past} (R : Rel w h) (H : Places w) (low : sequenceOf w
   unfolding message openedMessage
   some = ap (λ x. eqb x 0) (A .context) ∙ A .some
 
-  has-room : capacityAnswer (configOf (withAccept w p body)) (tallied false (message .circuit) (message .destination) (withAccept w p body .inflight)) ≡ Taken
+  has-room : capacityAnswer (configOf (withAccept w p body))
+      (tallied false (message .circuit) (message .destination) (withAccept w p body .inflight)) ≡ Taken
   unfolding withAccept message openedMessage
-  has-room = subst (λ i. capacityAnswer (configOf w) (tallied false i (p .requester) (dropped (actionUnder i) (w .inflight))) ≡ Taken) (sym own)
-      (subst (λ (t : InflightTally). capacityAnswer (configOf w) t ≡ Taken) (replacing-tally j (p .requester) (w .inflight)) (D .room))
+  has-room =
+      subst (λ i.
+      capacityAnswer (configOf w) (tallied false i (p .requester) (dropped (actionUnder i) (w .inflight))) ≡ Taken)
+      (sym own)
+      (subst (λ (t : InflightTally). capacityAnswer (configOf w) t ≡ Taken)
+      (replacing-tally j (p .requester) (w .inflight)) (D .room))
 
   same-sequence : sequenceOf (withAccept w p body) ≡ sequenceOf w
   unfolding withAccept
   same-sequence = refl
 
-  can : send (withAccept w p body) message ≡ done (queued message (withAccept w p body)) (routed message (withAccept w p body) ∷ [])
-  can = send-taken (withAccept w p body) message (can-queue message (withAccept w p body) some (subst (λ n. n < top 64) (sym same-sequence) low) has-room)
+  can : send (withAccept w p body) message
+      ≡ done (queued message (withAccept w p body)) (routed message (withAccept w p body) ∷ [])
+  can =
+      send-taken (withAccept w p body) message
+      (can-queue message (withAccept w p body) some (subst (λ n. n < top 64) (sym same-sequence) low) has-room)
 
-  live : Live (h .head .clock) (h .book) (h .opens .asked j .ticket .«reservation_id») (h .opens .asked j .ticket .«expires_at»)
+  live : Live (h .head .clock) (h .book) (h .opens .asked j .ticket .«reservation_id»)
+      (h .opens .asked j .ticket .«expires_at»)
   live = R .base .keptP j stands (lt-ltb (h .head .clock) (h .opens .asked j .ticket .«expires_at») (omega (
     arith,
     clock,
@@ -180,18 +202,22 @@ module _ {w : World} {h : Past} (R : Rel w h) (H : Places w) (low : sequenceOf w
         (p .ticket .«expires_at») (q .now)) (D .fresh) .1),
   )))
 
-  rel : Rel (queued message (withAccept w p body)) (emit (begun (openEnded h j) j started) (heard (λ r. j)) (routed message (withAccept w p body) ∷ []))
+  rel : Rel (queued message (withAccept w p body))
+      (emit (begun (openEnded h j) j started) (heard (λ r. j)) (routed message (withAccept w p body) ∷ []))
   unfolding queued withAccept started
   rel = record {
     base = record {
-      full = queue-full (withAccept w p body) (begun (openEnded h j) j started) message begins quiet-opened (room-of (configOf w) (message .circuit)
-          (message .destination) (withAccept w p body .inflight) has-room);
+      full =
+          queue-full (withAccept w p body) (begun (openEnded h j) j started) message begins quiet-opened
+          (room-of (configOf w) (message .circuit) (message .destination) (withAccept w p body .inflight) has-room);
       books = R .base .books;
       kept = λ i a e. split (eqb j i)
-          (λ x. subst (λ (k : Known). Live (h .head .clock) (h .book) (k .reservation) (k .expires)) (sym (ap (λ b. cond b started (h .known i)) x)) own-live)
-          (λ x. subst (λ (k : Known). Live (h .head .clock) (h .book) (k .reservation) (k .expires)) (sym (ap
-          (λ b. cond b started (h .known i)) x)) (R .base .kept i (sym (ap (λ b. cond b true (h .active i)) x) ∙ a) (ap
-          (λ (k : Known). ltb (h .head .clock) (k .expires)) (sym (ap (λ b. cond b started (h .known i)) x)) ∙ e)));
+          (λ x. subst (λ (k : Known). Live (h .head .clock) (h .book) (k .reservation) (k .expires))
+          (sym (ap (λ b. cond b started (h .known i)) x)) own-live)
+          (λ x. subst (λ (k : Known). Live (h .head .clock) (h .book) (k .reservation) (k .expires))
+          (sym (ap (λ b. cond b started (h .known i)) x))
+          (R .base .kept i (sym (ap (λ b. cond b true (h .active i)) x) ∙ a)
+          (ap (λ (k : Known). ltb (h .head .clock) (k .expires)) (sym (ap (λ b. cond b started (h .known i)) x)) ∙ e)));
       keptP = λ i a. R .base .keptP i (at-false j (h .opens .standing) i a);
       heads = R .base .heads;
       names = λ i a. R .base .names i (at-false j (h .opens .standing) i a);
@@ -209,13 +235,17 @@ module _ {w : World} {h : Past} (R : Rel w h) (H : Places w) (low : sequenceOf w
       own-live : Live (h .head .clock) (h .book) (started .reservation) (started .expires)
       own-live = live
 
-pub accept-keeps : {w : World} {h : Past} → Rel w h → Places w → sequenceOf w < top 64 → (q : Packet) → h .head .clock ≡ q .now
+pub accept-keeps : {w : World} {h : Past} → Rel w h → Places w → sequenceOf w < top 64 → (q : Packet)
+    → h .head .clock ≡ q .now
     → let o = handleAccept w q in Rel (o .world) (acceptIn q (o .answer) (o .routes) h)
 unfolding handleAccept acceptWith message started
-accept-keeps {w} {h} R H low q clock = proceed-cases P w (acceptTaken w q x b) (send (withAccept w x b) (openedMessage x b))
+accept-keeps {w} {h} R H low q clock =
+    proceed-cases P w (acceptTaken w q x b) (send (withAccept w x b) (openedMessage x b))
     (λ e. let D = accept-rows w q x b e in subst P (sym (can R H low q clock D)) (rel R H low q clock D))
-    (λ e f. if-not (λ (g : Past). Rel w g) (written (Refused e)) _ h (ap (λ c. c || eqb (errorNumber e) 6) (not-taken e) ∙ ap
-    (λ (a : HnsrAnswer). eqb (number a) 6) (sym f) ∙ never-six w q x b) R)
+    (λ e f. if-not (λ (g : Past). Rel w g) (written (Refused e)) _ h
+    (ap (λ c. c || eqb (errorNumber e) 6) (not-taken e)
+    ∙ ap (λ (a : HnsrAnswer). eqb (number a) 6) (sym f)
+    ∙ never-six w q x b) R)
   where
     P : Outcome → Type 0
     P o = Rel (o .world) (acceptIn q (o .answer) (o .routes) h)

@@ -11,7 +11,8 @@ use Rattle.hnsr_body.specs.declared.accept_body.AcceptBody.{AcceptBody}
 use Rattle.hnsr_body.specs.Accept.{decodeAccept}
 use Rattle.hnsr_circuit.specs.declared.records.RelayPending.{RelayPending}
 use Rattle.hnsr_circuit.specs.declared.answer.HnsrAnswer.the-variants.{Taken}
-use Rattle.hnsr_circuit.specs.declared.answer.HnsrRuntimeError.the-variants.{Capacity, InvalidAdmission, UnknownRequest, WrongPeer}
+use Rattle.hnsr_circuit.specs.declared.answer.HnsrRuntimeError.the-variants.{Capacity, InvalidAdmission}
+use Rattle.hnsr_circuit.specs.declared.answer.HnsrRuntimeError.the-variants.{UnknownRequest, WrongPeer}
 use Rattle.hnsr_circuit.specs.Answers.{number, check, bodyAnswer, _then_}
 use Rattle.hnsr_circuit.specs.Table.{any}
 use Rattle.hnsr_circuit.specs.Peer.{samePeer}
@@ -31,7 +32,8 @@ pub record AcceptRows (w : World) (q : Packet) (p : RelayPending) : Type 0 where
   pub circuits : circuitCount w < configOf w .«maximum_circuits»
   pub room : capacityAnswer (configOf w) (tallied true (q .context) (p .requester) (w .inflight)) ≡ Taken
 
-pub accept-rows : (w : World) (q : Packet) (p : RelayPending) (b : AcceptBody) → acceptTaken w q p b ≡ Taken → AcceptRows w q p
+pub accept-rows : (w : World) (q : Packet) (p : RelayPending) (b : AcceptBody) → acceptTaken w q p b ≡ Taken
+    → AcceptRows w q p
 unfolding acceptTaken requestAnswer acceptAnswer
 accept-rows w q p b e =
     let f = any (pendingAt (q .context)) (w .pending) in
@@ -60,8 +62,10 @@ accept-rows w q p b e =
     }
 
 six-rows : (x y z u v : Bool) (b : Checked)
-    → eqb (number ((check x UnknownRequest then check y WrongPeer then check z InvalidAdmission) then bodyAnswer b then check u Capacity then check v Capacity)) 6 ≡
-    false
+    → eqb (number ((check x UnknownRequest then check y WrongPeer then check z InvalidAdmission)
+    then bodyAnswer b
+    then check u Capacity
+    then check v Capacity)) 6 ≡ false
 six-rows true y z u v b = refl
 six-rows false true z u v b = refl
 six-rows false false true u v b = refl
@@ -70,9 +74,13 @@ six-rows false false false true v Ok = refl
 six-rows false false false false true Ok = refl
 six-rows false false false false false Ok = refl
 
-pub never-six : (w : World) (q : Packet) (p : RelayPending) (b : AcceptBody) → eqb (number (acceptTaken w q p b)) 6 ≡ false
+pub never-six : (w : World) (q : Packet) (p : RelayPending) (b : AcceptBody)
+    → eqb (number (acceptTaken w q p b)) 6 ≡ false
 unfolding acceptTaken requestAnswer acceptAnswer capacityAnswer
-never-six w q p b = six-rows (not (any (pendingAt (q .context)) (w .pending))) (not (samePeer (p .endpoint) (sender q))) (overdue (q .now) p)
-    (ltb (p .«initial_window») (b .«accepted_window») || leb (configOf w .«maximum_circuits») (circuitCount w) || ltb (p .ticket .«max_active_circuits»)
-    (reservationWork w (p .ticket .«reservation_id»)))
-    (eqb (capacityLeft (configOf w) (tallied true (q .context) (p .requester) (w .inflight))) 0) (decodeAccept (q .body) .result)
+never-six w q p b =
+    six-rows (not (any (pendingAt (q .context)) (w .pending))) (not (samePeer (p .endpoint) (sender q)))
+    (overdue (q .now) p)
+    (ltb (p .«initial_window») (b .«accepted_window») || leb (configOf w .«maximum_circuits») (circuitCount w)
+    || ltb (p .ticket .«max_active_circuits») (reservationWork w (p .ticket .«reservation_id»)))
+    (eqb (capacityLeft (configOf w) (tallied true (q .context) (p .requester) (w .inflight))) 0)
+    (decodeAccept (q .body) .result)

@@ -1,5 +1,5 @@
--- The table of actions holds what is outstanding: for every f the total over the used places is the total over the list. What queueing, dropping
--- and removing one do to that.
+-- The table of actions holds what is outstanding: for every f the total over the used places is the total over the
+-- list. What queueing, dropping and removing one do to that.
 use Prim.Native.Nat.{ℕ, _+_, _≤_, _<_}
 use native.Mathlib.Omega.{arith}
 use mathlib.Core.Path.{_≡_, refl, sym, _∙_}
@@ -17,7 +17,8 @@ use Rattle.hnsr_circuit.specs.declared.records.InflightAction.{InflightAction}
 use Rattle.hnsr_circuit.specs.declared.answer.HnsrAnswer.the-variants.{Taken}
 use Rattle.hnsr_circuit.specs.declared.answer.HnsrRuntimeError.the-variants.{Capacity}
 use Rattle.hnsr_circuit.specs.Table.{also, any, pick, put, edit, clear, keep}
-use Rattle.hnsr_circuit.specs.Inflight.{noAction, isAction, actionAt, actionUnder, actionToward, clearAction, retained, tallied, capacityLeft, capacityAnswer}
+use Rattle.hnsr_circuit.specs.Inflight.{noAction, isAction, actionAt, actionUnder, actionToward}
+use Rattle.hnsr_circuit.specs.Inflight.{clearAction, retained, tallied, capacityLeft, capacityAnswer}
 use Rattle.hnsr_circuit.specs.Peer.{samePeer}
 use Rattle.hnsr_circuit.specs.Queue.{Message, actionFor}
 use Rattle.hnsr_circuit.specs.Laws.Totals.{total-keep, keep-le, total-also, ones-length}
@@ -80,35 +81,51 @@ pub record Acts (c : OpaqueRelayConfig) (g next : ℕ) (t : List InflightAction)
   pub ours : count (foreign g) out ≡ 0
 
 -- at most one has both numbers
-pub both-once : {t : List InflightAction} {out : List Action} {next : ℕ} → Held actions t out next → (g s : ℕ) → count (numbered g s) out ≤ 1
-both-once {t} {out} H g s = omega (arith, H .once s, total-le (one (numbered g s)) (one (λ a. eqb (a .sequence) s)) out each)
+pub both-once : {t : List InflightAction} {out : List Action} {next : ℕ} → Held actions t out next → (g s : ℕ)
+    → count (numbered g s) out ≤ 1
+both-once {t} {out} H g s =
+    omega (arith, H .once s, total-le (one (numbered g s)) (one (λ a. eqb (a .sequence) s)) out each)
   where
     each : (a : Action) → one (numbered g s) a ≤ one (λ a. eqb (a .sequence) s) a
     each a = split (eqb (a .generation) g) (λ e. rw e (omega arith)) (λ e. rw e (omega arith))
 
 -- a put of what no lookup finds does not depend on the lookup
-put-fresh : {A : Type 0} (used p q : A → Bool) (r : A) (t : List A) → any p t ≡ false → any q t ≡ false → put used p r t ≡ put used q r t
+put-fresh : {A : Type 0} (used p q : A → Bool) (r : A) (t : List A) → any p t ≡ false → any q t ≡ false
+    → put used p r t ≡ put used q r t
 put-fresh used p q r t e f = rw (e, f)
 
-module _ {c : OpaqueRelayConfig} {g next : ℕ} {t : List InflightAction} {out : List Action} (R : Acts c g next t out) where
-  queue-table : (r : InflightAction) → put isAction (actionAt g next) r t ≡ put inUse (λ i. i .used && eqb (i .sequence) next) r t
+module _ {c : OpaqueRelayConfig} {g next : ℕ} {t : List InflightAction} {out : List Action}
+    (R : Acts c g next t out) where
+  queue-table : (r : InflightAction)
+      → put isAction (actionAt g next) r t ≡ put inUse (λ i. i .used && eqb (i .sequence) next) r t
   unfolding isAction actionAt
-  queue-table r = put-fresh inUse (λ i. i .used && (eqb (i .generation) g && eqb (i .sequence) next)) (λ i. i .used && eqb (i .sequence) next) r t
+  queue-table r =
+      put-fresh inUse (λ i. i .used && (eqb (i .generation) g && eqb (i .sequence) next))
+      (λ i. i .used && eqb (i .sequence) next) r t
       (count-none _ t (held-count actions (R .held) (numbered g next) ∙ none))
       (count-none _ t (held-count actions (R .held) (λ a. eqb (a .sequence) next) ∙ R .held .below next (omega arith)))
     where
       none : count (numbered g next) out ≡ 0
       none = let z = R .held .below next (omega arith) in
-          let l = total-le (one (numbered g next)) (one (λ a. eqb (a .sequence) next)) out (λ a. split (eqb (a .generation) g) (λ e. rw e (omega arith))
-          (λ e. rw e (omega arith))) in omega arith
+          let l = total-le (one (numbered g next)) (one (λ a. eqb (a .sequence) next)) out
+          (λ a. split (eqb (a .generation) g) (λ e. rw e (omega arith)) (λ e. rw e (omega arith))) in
+          omega arith
 
   pub queue-acts : (m : Message) → count inUse t < c .«maximum_inflight_actions»
-      → Acts c g (next + 1) (put isAction (actionAt g next) (actionFor m g next) t) (out ++ (view (actionFor m g next) ∷ []))
-  queue-acts m l = rw (queue-table (actionFor m g next)) (record {
-    places = omega (arith, R .places, length-put inUse clearAction (λ i. i .used && eqb (i .sequence) next) (actionFor m g next) t);
-    held = queue-held actions (R .held) (view (actionFor m g next)) (omega (arith, R .places)) refl;
-    ours = omega (arith, total-append (one (foreign g)) out (view (actionFor m g next) ∷ []), R .ours, own);
-  })
+      → Acts c g (next + 1) (put isAction (actionAt g next) (actionFor m g next) t)
+      (out ++ (view (actionFor m g next) ∷ []))
+  queue-acts m l =
+      rw (queue-table (actionFor m g next))
+      (record {
+        places =
+            omega (
+              arith,
+              R .places,
+              length-put inUse clearAction (λ i. i .used && eqb (i .sequence) next) (actionFor m g next) t,
+            );
+        held = queue-held actions (R .held) (view (actionFor m g next)) (omega (arith, R .places)) refl;
+        ours = omega (arith, total-append (one (foreign g)) out (view (actionFor m g next) ∷ []), R .ours, own);
+      })
     where
       own : one (foreign g) (view (actionFor m g next)) ≡ 0
       own = rw (eq-eqb g g refl)
@@ -117,7 +134,9 @@ module _ {c : OpaqueRelayConfig} {g next : ℕ} {t : List InflightAction} {out :
   drop-acts p = record {
     places = omega (arith, R .places, clear-length inUse clearAction (λ i. refl) (holding p) t);
     held = record {
-      same = λ f. clear-total inUse clearAction (λ i. refl) (holding p) (λ i. f (view i)) t ∙ total-ext _ _ t (λ i. each (i .used) (p (view i)) (f (view i)))
+      same =
+          λ f. clear-total inUse clearAction (λ i. refl) (holding p) (λ i. f (view i)) t
+          ∙ total-ext _ _ t (λ i. each (i .used) (p (view i)) (f (view i)))
           ∙ R .held .same (only (non p) f) ∙ sym (total-keep f (non p) out);
       once = λ q. omega (arith, keep-le (one (λ a. eqb (a .sequence) q)) (non p) out, R .held .once q);
       below = λ q l. omega (arith, keep-le (one (λ a. eqb (a .sequence) q)) (non p) out, R .held .below q l);
@@ -140,26 +159,36 @@ module _ {c : OpaqueRelayConfig} {g next : ℕ} {t : List InflightAction} {out :
   ))) (drop-acts (numbered g′ s))
 
   -- f of the record found is f of the action in the list
-  pub found-is : (g′ s : ℕ) → any (numbered g′ s) out ≡ true → (f : Action → ℕ) → total (only (numbered g′ s) f) out ≡ f (view (pick (actionAt g′ s) noAction t))
+  pub found-is : (g′ s : ℕ) → any (numbered g′ s) out ≡ true → (f : Action → ℕ)
+      → total (only (numbered g′ s) f) out ≡ f (view (pick (actionAt g′ s) noAction t))
   unfolding actionAt
-  found-is g′ s e f = sym (R .held .same (only (numbered g′ s) f)) ∙ sym (total-also inUse (λ i. numbered g′ s (view i)) (λ i. f (view i)) t)
-      ∙ total-key (holding (numbered g′ s)) (λ i. f (view i)) noAction t (omega (arith, held-count actions (R .held) (numbered g′ s), both-once (R .held) g′ s))
+  found-is g′ s e f =
+      sym (R .held .same (only (numbered g′ s) f))
+      ∙ sym (total-also inUse (λ i. numbered g′ s (view i)) (λ i. f (view i)) t)
+      ∙ total-key (holding (numbered g′ s)) (λ i. f (view i)) noAction t
+      (omega (arith, held-count actions (R .held) (numbered g′ s), both-once (R .held) g′ s))
       (held-any actions (R .held) (numbered g′ s) ∙ e)
 
 -- ---- room
-pub room-of : (c : OpaqueRelayConfig) (circuit : ℕ) (peer : HnsrPeerId) (t : List InflightAction) → capacityAnswer c (tallied false circuit peer t) ≡ Taken
+pub room-of : (c : OpaqueRelayConfig) (circuit : ℕ) (peer : HnsrPeerId) (t : List InflightAction)
+    → capacityAnswer c (tallied false circuit peer t) ≡ Taken
     → count inUse t < c .«maximum_inflight_actions»
 unfolding capacityAnswer capacityLeft tallied
 room-of c circuit peer t h =
     let e = check-taken (eqb (capacityLeft c (tallied false circuit peer t)) 0) Capacity h in
-    omega (arith, eqb-false (capacityLeft c (tallied false circuit peer t)) 0 e, total-ext (one (retained false circuit)) (one inUse) t (λ a. plain (a .used)))
+    omega (
+      arith,
+      eqb-false (capacityLeft c (tallied false circuit peer t)) 0 e,
+      total-ext (one (retained false circuit)) (one inUse) t (λ a. plain (a .used)),
+    )
   where
     plain : (u : Bool) → cond {A = ℕ} (u && true) 1 0 ≡ cond u 1 0
     plain true = refl
     plain false = refl
 
 -- the counts of the table are those of the list
-pub tally-held : {c : OpaqueRelayConfig} {g next : ℕ} {t : List InflightAction} {out : List Action} → Acts c g next t out → (j : ℕ) (peer : HnsrPeerId)
+pub tally-held : {c : OpaqueRelayConfig} {g next : ℕ} {t : List InflightAction} {out : List Action}
+    → Acts c g next t out → (j : ℕ) (peer : HnsrPeerId)
     → tallied false j peer t ≡ tally j peer out
 unfolding tallied actionUnder actionToward
 tally-held {t = t} {out = out} R j peer = λ i. record { total = all i; «for_circuit» = on i; «for_peer» = to i }
@@ -173,12 +202,19 @@ tally-held {t = t} {out = out} R j peer = λ i. record { total = all i; «for_ci
     used false = refl
 
     all : count (retained false j) t ≡ length out
-    all = total-ext (one (retained false j)) (one inUse) t (λ i. used (i .used)) ∙ R .held .same (λ a. 1) ∙ ones-length out
+    all =
+        total-ext (one (retained false j)) (one inUse) t (λ i. used (i .used))
+        ∙ R .held .same (λ a. 1)
+        ∙ ones-length out
 
     on : count (also (retained false j) (λ i. i .used && eqb (i .«circuit_id») j)) t ≡ count (onCircuit j) out
-    on = total-ext (one (also (retained false j) (λ i. i .used && eqb (i .«circuit_id») j))) (one (holding (onCircuit j))) t (λ i. plain (i .used) (eqb (i .«circuit_id») j))
+    on =
+        total-ext (one (also (retained false j) (λ i. i .used && eqb (i .«circuit_id») j)))
+        (one (holding (onCircuit j))) t (λ i. plain (i .used) (eqb (i .«circuit_id») j))
         ∙ held-count actions (R .held) (onCircuit j)
 
     to : count (also (retained false j) (λ i. i .used && samePeer (i .destination) peer)) t ≡ count (toward peer) out
-    to = total-ext (one (also (retained false j) (λ i. i .used && samePeer (i .destination) peer))) (one (holding (toward peer))) t (λ i. plain (i .used) (samePeer
-        (i .destination) peer)) ∙ held-count actions (R .held) (toward peer)
+    to =
+        total-ext (one (also (retained false j) (λ i. i .used && samePeer (i .destination) peer)))
+        (one (holding (toward peer))) t (λ i. plain (i .used) (samePeer (i .destination) peer))
+        ∙ held-count actions (R .held) (toward peer)

@@ -1,4 +1,5 @@
--- Every order of the outstanding actions: acknowledging each once as delivered is taken each time, and leaves nothing outstanding.
+-- Every order of the outstanding actions: acknowledging each once as delivered is taken each time, and leaves nothing
+-- outstanding.
 use Prim.Native.Nat.{ℕ, _≤_, _<_}
 use native.Mathlib.Omega.{arith}
 use mathlib.Core.Path.{_≡_, refl, sym, ap, _∙_, subst}
@@ -18,7 +19,8 @@ use Rattle.hnsr_circuit.specs.Inflight.{noAction, actionAt}
 use Rattle.hnsr_circuit.specs.World.{World, Outcome, configOf, done, proceed}
 use Rattle.hnsr_circuit.specs.Queue.{generationOf, sequenceOf}
 use Rattle.hnsr_circuit.specs.Entry.{acknowledgeWords}
-use Rattle.hnsr_circuit.specs.Acknowledge.{generationAnswer, actionAnswer, withoutAction, released, settled, acknowledgeTaken, acknowledgeAction, acknowledge}
+use Rattle.hnsr_circuit.specs.Acknowledge.{generationAnswer, actionAnswer, withoutAction, released}
+use Rattle.hnsr_circuit.specs.Acknowledge.{settled, acknowledgeTaken, acknowledgeAction, acknowledge}
 use Rattle.hnsr_circuit.specs.Call.{callAcknowledge, step}
 use Rattle.hnsr_circuit.specs.Laws.Totals.{total-keep, total-others}
 use Rattle.hnsr_circuit.specs.Laws.Lookups.{count-any}
@@ -37,7 +39,9 @@ module _ (a : Action) (rest out : List Action) (s : Reordered (a ∷ rest) out) 
   me = numbered (a .generation) (a .sequence)
 
   itself : numbered (a .generation) (a .sequence) a ≡ true
-  itself = ap (λ b. b && eqb (a .sequence) (a .sequence)) (eq-eqb (a .generation) (a .generation) refl) ∙ eq-eqb (a .sequence) (a .sequence) refl
+  itself =
+      ap (λ b. b && eqb (a .sequence) (a .sequence)) (eq-eqb (a .generation) (a .generation) refl)
+      ∙ eq-eqb (a .sequence) (a .sequence) refl
 
   one-me : one me a ≡ 1
   one-me = ap (λ b. cond {A = ℕ} b 1 0) itself
@@ -46,7 +50,8 @@ module _ (a : Action) (rest out : List Action) (s : Reordered (a ∷ rest) out) 
   first-there = count-any me out (let k = s (one me) in omega (arith, one-me))
 
   pub first-ours : (g : ℕ) → count (foreign g) out ≡ 0 → a .generation ≡ g
-  first-ours g z = eqb-true (a .generation) g (flip (eqb (a .generation) g) (let k = s (one (foreign g)) in omega arith))
+  first-ours g z =
+      eqb-true (a .generation) g (flip (eqb (a .generation) g) (let k = s (one (foreign g)) in omega arith))
     where
       flip : (b : Bool) → cond {A = ℕ} (not b) 1 0 ≡ 0 → b ≡ true
       flip true e = refl
@@ -65,19 +70,24 @@ nothing-left [] h = refl
 nothing-left (x ∷ xs) h = absurd (omega arith)
 
 -- ---- one acknowledged
-ack-taken : (w : World) → Places w → (g s room : ℕ) → g ≡ generationOf w → any (actionAt g s) (w .inflight) ≡ true → acknowledgeWords ≤ room
+ack-taken : (w : World) → Places w → (g s room : ℕ) → g ≡ generationOf w → any (actionAt g s) (w .inflight) ≡ true
+    → acknowledgeWords ≤ room
     → acknowledgeTaken w g s room ≡ Taken
 unfolding acknowledgeTaken generationAnswer actionAnswer
 ack-taken w H g s room e f l =
-    ap (λ (a : HnsrAnswer). a then check (not (eqb g (generationOf w))) StaleGeneration then check (not (any (actionAt g s) (w .inflight))) UnknownAction)
+    ap (λ (a : HnsrAnswer). a
+    then check (not (eqb g (generationOf w))) StaleGeneration
+    then check (not (any (actionAt g s) (w .inflight))) UnknownAction)
     (room-same w H room acknowledgeWords ∙ ap (λ b. check b Short) (le-ltb room acknowledgeWords l))
-    ∙ ap (λ b. check (not b) StaleGeneration then check (not (any (actionAt g s) (w .inflight))) UnknownAction) (eq-eqb g (generationOf w) e)
+    ∙ ap (λ b. check (not b) StaleGeneration then check (not (any (actionAt g s) (w .inflight))) UnknownAction)
+    (eq-eqb g (generationOf w) e)
     ∙ ap (λ b. check (not b) UnknownAction) f
 
 abbrev next : World → ℕ → ℕ → World
 next w g s = released (withoutAction w g s) (pick (actionAt g s) noAction (w .inflight))
 
-ack-step : (w : World) (g s room : ℕ) → acknowledgeTaken w g s room ≡ Taken → step w (callAcknowledge g s true room) ≡ done (next w g s) []
+ack-step : (w : World) (g s room : ℕ) → acknowledgeTaken w g s room ≡ Taken
+    → step w (callAcknowledge g s true room) ≡ done (next w g s) []
 unfolding step acknowledge acknowledgeAction settled proceed
 ack-step w g s room e = rw e
 
@@ -92,17 +102,26 @@ pub record AllAcknowledged (rooms : Action → ℕ) (order : List Action) (w : W
   pub places : Places (leftBy step w (map (delivered step rooms) order))
   pub low : sequenceOf (leftBy step w (map (delivered step rooms) order)) < top 64
 
-acknowledge-one : (rooms : Action → ℕ) (a : Action) (rest : List Action) (w v : World) (h : Past) (p : Action → Bool) → step w (delivered step rooms a) ≡ done v []
+acknowledge-one : (rooms : Action → ℕ) (a : Action) (rest : List Action) (w v : World) (h : Past) (p : Action → Bool)
+    → step w (delivered step rooms a) ≡ done v []
     → AllAcknowledged rooms rest v (without h p) → AllAcknowledged rooms (a ∷ rest) w h
 acknowledge-one rooms a rest w v h p st D = record {
-  answers = subst (λ (o : Outcome). (o .answer ∷ map (λ e. e .answer) (events step (o .world) (map (delivered step rooms) rest))) ≡ replicate (length
-      (a ∷ rest)) Taken) (sym st) (ap {B = List HnsrAnswer} (λ l. Taken ∷ l) (D .answers));
-  rel = subst (λ (o : Outcome). Rel (leftBy step (o .world) (map (delivered step rooms) rest)) (withOut h [])) (sym st) (D .rel);
-  places = subst (λ (o : Outcome). Places (leftBy step (o .world) (map (delivered step rooms) rest))) (sym st) (D .places);
-  low = subst (λ (o : Outcome). sequenceOf (leftBy step (o .world) (map (delivered step rooms) rest)) < top 64) (sym st) (D .low);
+  answers =
+      subst
+      (λ (o : Outcome). (o .answer ∷ map (λ e. e .answer) (events step (o .world) (map (delivered step rooms) rest)))
+      ≡ replicate (length (a ∷ rest)) Taken) (sym st) (ap {B = List HnsrAnswer} (λ l. Taken ∷ l) (D .answers));
+  rel =
+      subst (λ (o : Outcome). Rel (leftBy step (o .world) (map (delivered step rooms) rest)) (withOut h []))
+      (sym st) (D .rel);
+  places =
+      subst (λ (o : Outcome). Places (leftBy step (o .world) (map (delivered step rooms) rest))) (sym st) (D .places);
+  low =
+      subst (λ (o : Outcome). sequenceOf (leftBy step (o .world) (map (delivered step rooms) rest)) < top 64)
+      (sym st) (D .low);
 }
 
-pub acknowledge-all : (rooms : Action → ℕ) → ((a : Action) → acknowledgeWords ≤ rooms a) → (order : List Action) (w : World) (h : Past) → Rel w h → Places w
+pub acknowledge-all : (rooms : Action → ℕ) → ((a : Action) → acknowledgeWords ≤ rooms a)
+    → (order : List Action) (w : World) (h : Past) → Rel w h → Places w
     → sequenceOf w < top 64 → Reordered order (h .out) → AllAcknowledged rooms order w h
 acknowledge-all rooms enough [] w h R H low s = record {
   answers = refl;
@@ -118,9 +137,11 @@ acknowledge-all rooms enough (a ∷ rest) w h R H low s =
     let e = first-ours a rest (h .out) s (generationOf w) (A .ours) in
     let t = ack-taken w H g q (rooms a) e (action-found w h (R .base .full) g q ∙ f) (enough a) in
     let st = ack-step w g q (rooms a) t in
-    let R₁ = shrink R (h .active) (h .opens .standing) (keep (non (numbered g q)) (h .out)) (settled-keeps w h (R .base .full) g q f) (λ i x. x) (λ i x. x) in
-    let H₁ = subst (λ (o : Outcome). Places (o .world)) st (places-kept (callAcknowledge g q true (rooms a)) H (ap (λ (o : Outcome). configOf (o .world)) st
-    ∙ R₁ .base .heads .config ∙ sym (R .base .heads .config))) in
+    let R₁ = shrink R (h .active) (h .opens .standing) (keep (non (numbered g q)) (h .out))
+    (settled-keeps w h (R .base .full) g q f) (λ i x. x) (λ i x. x) in
+    let H₁ = subst (λ (o : Outcome). Places (o .world)) st
+    (places-kept (callAcknowledge g q true (rooms a)) H
+    (ap (λ (o : Outcome). configOf (o .world)) st ∙ R₁ .base .heads .config ∙ sym (R .base .heads .config))) in
     acknowledge-one rooms a rest w (next w g q) h (numbered g q) st
     (acknowledge-all rooms enough rest (next w g q) (without h (numbered g q)) R₁ H₁ (subst
     (λ n. n < top 64) (sym (next-sequence w g q)) low) (rest-ordered a rest (h .out) s (both-once (A .held) g q)))

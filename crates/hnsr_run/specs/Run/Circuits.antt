@@ -1,5 +1,5 @@
--- The table of circuits tells what is known of the active ones, and their queued counts are the bytes of DATA outstanding, but for circuits in
--- suspense: those whose counts may be off between two moves of one call.
+-- The table of circuits tells what is known of the active ones, and their queued counts are the bytes of DATA
+-- outstanding, but for circuits in suspense: those whose counts may be off between two moves of one call.
 use Prim.Native.Nat.{ℕ, _+_, _≤_, _<_}
 use native.Mathlib.Omega.{arith}
 use mathlib.Core.Path.{_≡_, refl, ap, _∙_, subst}
@@ -64,19 +64,25 @@ Circs = Tells circuitKeys
 module _ {cs : List RelayCircuit} {ac : ℕ → Bool} {kn : ℕ → Known} (C : Circs cs ac kn) (j : ℕ) where
   mine : (i : ℕ) → ac i ≡ true → circuitAt j (pick (circuitAt i) noCircuit cs) ≡ eqb j i
   unfolding circuitAt
-  mine i a = keyed-at circuitKeys j i (pick (circuitAt i) noCircuit cs) (pick-has (circuitAt i) noCircuit cs (C .found i ∙ a)) ∙ eqb-comm i j
+  mine i a =
+      keyed-at circuitKeys j i (pick (circuitAt i) noCircuit cs) (pick-has (circuitAt i) noCircuit cs (C .found i ∙ a))
+      ∙ eqb-comm i j
 
   ended-table : edit (circuitAt j) clearCircuit cs ≡ clear clearCircuit (circuitAt j) cs
   unfolding circuitAt
   ended-table = edit-clear (circuitAt j) clearCircuit cs (C .once j)
 
-  pub remove-look : (i : ℕ) → ac i ≡ true → eqb j i ≡ false → pick (circuitAt i) noCircuit (edit (circuitAt j) clearCircuit cs) ≡ pick (circuitAt i) noCircuit cs
+  pub remove-look : (i : ℕ) → ac i ≡ true → eqb j i ≡ false
+      → pick (circuitAt i) noCircuit (edit (circuitAt j) clearCircuit cs) ≡ pick (circuitAt i) noCircuit cs
   unfolding circuitAt
   remove-look i a e = rw ended-table (clear-look circuitKeys C (circuitAt j) (λ i. eqb j i) mine i a e .1)
 
-  pub remove-circs : (ac′ : ℕ → Bool) → ((i : ℕ) → ac′ i ≡ cond (eqb j i) false (ac i)) → Circs (edit (circuitAt j) clearCircuit cs) ac′ kn
+  pub remove-circs : (ac′ : ℕ → Bool) → ((i : ℕ) → ac′ i ≡ cond (eqb j i) false (ac i))
+      → Circs (edit (circuitAt j) clearCircuit cs) ac′ kn
   unfolding circuitAt
-  remove-circs ac′ ea = rw ended-table (clear-tells circuitKeys C (circuitAt j) (λ i. eqb j i) mine ac′ (λ i. ea i ∙ end-test (eqb j i) (ac i)))
+  remove-circs ac′ ea =
+      rw ended-table
+      (clear-tells circuitKeys C (circuitAt j) (λ i. eqb j i) mine ac′ (λ i. ea i ∙ end-test (eqb j i) (ac i)))
 
 -- ---- the queues
 -- the side that an action of DATA goes to
@@ -88,40 +94,53 @@ abbrev pub stray : (ℕ → Bool) → (ℕ → Known) → Action → Bool
 stray ac kn a = isData a && not (ac (a .circuit) && samePeer (a .destination) (peerOn (sideTo a) (kn (a .circuit))))
 
 -- the circuits for which S holds are in suspense
-pub record Queue (S : ℕ → Bool) (cs : List RelayCircuit) (ac : ℕ → Bool) (kn : ℕ → Known) (out : List Action) : Type 0 where
-  pub queued : (j : ℕ) → S j ≡ false → ac j ≡ true → (side : RelaySide) → total (weight j side) out ≡ queuedTo side (pick (circuitAt j) noCircuit cs)
+pub record Queue (S : ℕ → Bool) (cs : List RelayCircuit) (ac : ℕ → Bool) (kn : ℕ → Known)
+    (out : List Action) : Type 0 where
+  pub queued : (j : ℕ) → S j ≡ false → ac j ≡ true → (side : RelaySide)
+      → total (weight j side) out ≡ queuedTo side (pick (circuitAt j) noCircuit cs)
   pub honest : count (stray ac kn) out ≡ 0
 
 abbrev pub none : ℕ → Bool
 none j = false
 
-module _ {S : ℕ → Bool} {cs : List RelayCircuit} {ac : ℕ → Bool} {kn : ℕ → Known} {out : List Action} (Q : Queue S cs ac kn out) where
+module _ {S : ℕ → Bool} {cs : List RelayCircuit} {ac : ℕ → Bool} {kn : ℕ → Known} {out : List Action}
+    (Q : Queue S cs ac kn out) where
   pub suspend : (S′ : ℕ → Bool) → ((i : ℕ) → S′ i ≡ false → S i ≡ false) → Queue S′ cs ac kn out
   suspend S′ w = record { queued = λ j s. Q .queued j (w j s); honest = Q .honest }
 
-  pub resume : ((j : ℕ) → S j ≡ true → ac j ≡ true → (side : RelaySide) → total (weight j side) out ≡ queuedTo side (pick (circuitAt j) noCircuit cs))
+  pub resume : ((j : ℕ) → S j ≡ true → ac j ≡ true → (side : RelaySide)
+      → total (weight j side) out ≡ queuedTo side (pick (circuitAt j) noCircuit cs))
       → Queue none cs ac kn out
   resume r = record { queued = λ j s a. split (S j) (λ t. r j t a) (λ t. Q .queued j t a); honest = Q .honest }
 
-  pub queue-queue : (a : Action) → stray ac kn a ≡ false → ((j : ℕ) → S j ≡ false → (side : RelaySide) → weight j side a ≡ 0) → Queue S cs ac kn (out ++ (a ∷ []))
+  pub queue-queue : (a : Action) → stray ac kn a ≡ false
+      → ((j : ℕ) → S j ≡ false → (side : RelaySide) → weight j side a ≡ 0) → Queue S cs ac kn (out ++ (a ∷ []))
   queue-queue a g z = record {
     queued = λ j s t b. omega (arith, total-append (weight j b) out (a ∷ []), z j s b, Q .queued j s t b);
     honest = omega (arith, ap (λ b. cond {A = ℕ} b 1 0) g, total-append (one (stray ac kn)) out (a ∷ []), Q .honest);
   }
 
-  pub drop-queue : (p : Action → Bool) → ((j : ℕ) → S j ≡ false → ac j ≡ true → (side : RelaySide) → total (only p (weight j side)) out ≡ 0)
+  pub drop-queue : (p : Action → Bool)
+      → ((j : ℕ) → S j ≡ false → ac j ≡ true → (side : RelaySide) → total (only p (weight j side)) out ≡ 0)
       → Queue S cs ac kn (keep (non p) out)
   drop-queue p z = record {
-    queued = λ j s t b. omega (arith, total-keep (weight j b) (non p) out, total-split p (weight j b) out, z j s t b, Q .queued j s t b);
+    queued =
+        λ j s t b. omega
+        (arith, total-keep (weight j b) (non p) out, total-split p (weight j b) out, z j s t b, Q .queued j s t b);
     honest = omega (arith, keep-le (one (stray ac kn)) (non p) out, Q .honest);
   }
 
-  pub store-queue : (j : ℕ) (c : RelayCircuit) (k : Known) (cs′ : List RelayCircuit) (ac′ : ℕ → Bool) (kn′ : ℕ → Known) → Looks circuitKeys j c cs cs′ → S j ≡ true
+  pub store-queue : (j : ℕ) (c : RelayCircuit) (k : Known) (cs′ : List RelayCircuit) (ac′ : ℕ → Bool) (kn′ : ℕ → Known)
+      → Looks circuitKeys j c cs cs′ → S j ≡ true
       → (ac j ≡ true → (side : RelaySide) → peerOn side k ≡ peerOn side (kn j))
-      → ((i : ℕ) → ac′ i ≡ cond (eqb j i) true (ac i)) → ((i : ℕ) → kn′ i ≡ cond (eqb j i) k (kn i)) → Queue S cs′ ac′ kn′ out
+      → ((i : ℕ) → ac′ i ≡ cond (eqb j i) true (ac i)) → ((i : ℕ) → kn′ i ≡ cond (eqb j i) k (kn i))
+      → Queue S cs′ ac′ kn′ out
   unfolding circuitAt
   store-queue j c k cs′ ac′ kn′ L sj peers ea ek = record {
-    queued = λ i s t b. split (eqb j i) (λ e. clash sj (rw (eqb-true j i e) s)) (λ e. rw (L .pickAt i, e) (Q .queued i s (rw (ea i, e) at t) b));
+    queued =
+        λ i s t b. split (eqb j i)
+        (λ e. clash sj (rw (eqb-true j i e) s))
+        (λ e. rw (L .pickAt i, e) (Q .queued i s (rw (ea i, e) at t) b));
     honest = omega (arith, total-le (one (stray ac′ kn′)) (one (stray ac kn)) out each, Q .honest);
   }
     where
@@ -135,18 +154,21 @@ module _ {S : ℕ → Bool} {cs : List RelayCircuit} {ac : ℕ → Bool} {kn : �
       each a = split (eqb j (a .circuit))
           (λ e. split (ac (a .circuit))
           (λ t. let q = eqb-true j (a .circuit) e in
-          let p : peerOn (sideTo a) k ≡ peerOn (sideTo a) (kn (a .circuit)) = subst (λ x. ac x ≡ true → peerOn (sideTo a) k ≡ peerOn (sideTo a) (kn x)) q
-          (λ u. peers u (sideTo a)) t in
+          let p : peerOn (sideTo a) k ≡ peerOn (sideTo a) (kn (a .circuit)) =
+          subst (λ x. ac x ≡ true → peerOn (sideTo a) k ≡ peerOn (sideTo a) (kn x)) q (λ u. peers u (sideTo a)) t in
           rw (ea (a .circuit), ek (a .circuit), e, t, p) (omega arith))
-          (λ t. rw t (off (isData a) (ac′ (a .circuit) && samePeer (a .destination) (peerOn (sideTo a) (kn′ (a .circuit)))))))
+          (λ t.
+          rw t (off (isData a) (ac′ (a .circuit) && samePeer (a .destination) (peerOn (sideTo a) (kn′ (a .circuit)))))))
           (λ e. rw (ea (a .circuit), ek (a .circuit), e) (omega arith))
 
   pub remove-queue : (C : Circs cs ac kn) (j : ℕ) (S′ ac′ : ℕ → Bool) → count (also isData (onCircuit j)) out ≡ 0
       → ((i : ℕ) → S′ i ≡ false → eqb j i ≡ false → S i ≡ false)
       → ((i : ℕ) → ac′ i ≡ cond (eqb j i) false (ac i)) → Queue S′ (edit (circuitAt j) clearCircuit cs) ac′ kn out
   remove-queue C j S′ ac′ z sw ea = record {
-    queued = λ i s t b. split (eqb j i) (λ e. absurd (false≢true (rw (ea i, e) at t))) (λ e. let t′ = rw (ea i, e) at t in
-        rw (remove-look C j i t′ e) (Q .queued i (sw i s e) t′ b));
+    queued =
+        λ i s t b. split (eqb j i)
+        (λ e. absurd (false≢true (rw (ea i, e) at t)))
+        (λ e. let t′ = rw (ea i, e) at t in rw (remove-look C j i t′ e) (Q .queued i (sw i s e) t′ b));
     honest = omega (
       arith,
       total-le (one (stray ac′ kn))
@@ -163,12 +185,14 @@ module _ {S : ℕ → Bool} {cs : List RelayCircuit} {ac : ℕ → Bool} {kn : �
 
       each : (a : Action) → one (stray ac′ kn) a ≤ one (stray ac kn) a + one (also isData (onCircuit j)) a
       each a = split (eqb j (a .circuit))
-          (λ e. rw (eqb-comm (a .circuit) j, e) (on (isData a) (ac′ (a .circuit) && samePeer (a .destination) (peerOn (sideTo a) (kn (a .circuit)))) (ac
-          (a .circuit) && samePeer (a .destination) (peerOn (sideTo a) (kn (a .circuit))))))
+          (λ e. rw (eqb-comm (a .circuit) j, e)
+          (on (isData a) (ac′ (a .circuit) && samePeer (a .destination) (peerOn (sideTo a) (kn (a .circuit))))
+          (ac (a .circuit) && samePeer (a .destination) (peerOn (sideTo a) (kn (a .circuit))))))
           (λ e. rw (ea (a .circuit), e) (omega arith))
 
 -- nothing is outstanding on a circuit that is not active
-pub idle : {S : ℕ → Bool} {cs : List RelayCircuit} {ac : ℕ → Bool} {kn : ℕ → Known} {out : List Action} → Queue S cs ac kn out → (j : ℕ) → ac j ≡ false
+pub idle : {S : ℕ → Bool} {cs : List RelayCircuit} {ac : ℕ → Bool} {kn : ℕ → Known} {out : List Action}
+    → Queue S cs ac kn out → (j : ℕ) → ac j ≡ false
     → (side : RelaySide) → total (weight j side) out ≡ 0
 idle {ac = ac} {kn = kn} {out = out} Q j n side = total-others (stray ac kn) (weight j side) out (Q .honest)
     ∙ total-zero (only (non (stray ac kn)) (weight j side)) out each
@@ -184,7 +208,8 @@ idle {ac = ac} {kn = kn} {out = out} Q j n side = total-others (stray ac kn) (we
 
     each : (a : Action) → only (non (stray ac kn)) (weight j side) a ≡ 0
     each a = split (eqb (a .circuit) j)
-        (λ e. inactive (isData a) (onCircuit j a && towardSide side a) (samePeer (a .destination) (peerOn (sideTo a) (kn (a .circuit)))) (ac (a .circuit))
-        (a .bytes) (ap ac (eqb-true (a .circuit) j e) ∙ n))
-        (λ e. elsewhere (isData a) (eqb (a .circuit) j) (towardSide side a) (ac (a .circuit) && samePeer (a .destination) (peerOn (sideTo a) (kn (a .circuit))))
-        (a .bytes) e)
+        (λ e. inactive (isData a) (onCircuit j a && towardSide side a)
+        (samePeer (a .destination) (peerOn (sideTo a) (kn (a .circuit)))) (ac (a .circuit)) (a .bytes)
+        (ap ac (eqb-true (a .circuit) j e) ∙ n))
+        (λ e. elsewhere (isData a) (eqb (a .circuit) j) (towardSide side a)
+        (ac (a .circuit) && samePeer (a .destination) (peerOn (sideTo a) (kn (a .circuit)))) (a .bytes) e)

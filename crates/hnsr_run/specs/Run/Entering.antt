@@ -21,7 +21,8 @@ use Rattle.hnsr_circuit.specs.declared.records.RelaySide.{RelaySide}
 use Rattle.hnsr_circuit.specs.declared.records.RelaySide.the-variants.{Requester, Endpoint}
 use Rattle.hnsr_circuit.specs.declared.answer.HnsrAnswer.{HnsrAnswer}
 use Rattle.hnsr_circuit.specs.declared.answer.HnsrAnswer.the-variants.{Taken}
-use Rattle.hnsr_circuit.specs.declared.answer.HnsrRuntimeError.the-variants.{Short, InvalidPeer, ClockRollback, Disabled, Capacity}
+use Rattle.hnsr_circuit.specs.declared.answer.HnsrRuntimeError.the-variants.{Short, InvalidPeer, ClockRollback}
+use Rattle.hnsr_circuit.specs.declared.answer.HnsrRuntimeError.the-variants.{Disabled, Capacity}
 use Rattle.hnsr_circuit.specs.Answers.{check, bodyAnswer, _then_}
 use Rattle.hnsr_circuit.specs.Table.{also}
 use Rattle.hnsr_circuit.specs.Peer.{samePeer}
@@ -44,7 +45,8 @@ use Rattle.hnsr_run.specs.Run.Rel.{Rel, Places}
 use Rattle.hnsr_run.specs.Run.Steps.{room-same, handling-data}
 
 -- ---- the side that sends
-pub side-is : (side : RelaySide) (q : Packet) {c : RelayCircuit} {k : Known} → Agrees c k → samePeer (peerOn side k) (sender q) ≡ true
+pub side-is : (side : RelaySide) (q : Packet) {c : RelayCircuit} {k : Known} → Agrees c k
+    → samePeer (peerOn side k) (sender q) ≡ true
     → (sideOf (sender q) c ≡ side) × (isSide (sender q) c ≡ true)
 unfolding sideOf
 side-is Requester q {c} {k} A e = let f = ap (λ (p : HnsrPeerId). samePeer p (sender q)) (A .requester) ∙ e in
@@ -52,9 +54,12 @@ side-is Requester q {c} {k} A e = let f = ap (λ (p : HnsrPeerId). samePeer p (s
 side-is Endpoint q {c} {k} A e =
     let f = ap (λ (p : HnsrPeerId). samePeer p (sender q)) (A .endpoint) ∙ e in
     let n : samePeer (c .requester) (sender q) ≡ false = split (samePeer (c .requester) (sender q))
-    (λ t. clash (names-same (k .requester) (k .endpoint) (same-names (k .requester) (sender q) (sym (ap
-    (λ (p : HnsrPeerId). samePeer p (sender q)) (A .requester)) ∙ t) ∙ sym (same-names (k .endpoint) (sender q) e))) (A .apart)) (λ t. t) in
-    (ap (λ b. cond {A = RelaySide} b Requester Endpoint) n, ap (λ b. samePeer (c .requester) (sender q) || b) f ∙ or-true (samePeer (c .requester) (sender q)))
+    (λ t. clash (names-same (k .requester) (k .endpoint)
+    (same-names (k .requester) (sender q) (sym (ap (λ (p : HnsrPeerId). samePeer p (sender q)) (A .requester)) ∙ t)
+    ∙ sym (same-names (k .endpoint) (sender q) e))) (A .apart)) (λ t. t) in (
+      ap (λ b. cond {A = RelaySide} b Requester Endpoint) n,
+      ap (λ b. samePeer (c .requester) (sender q) || b) f ∙ or-true (samePeer (c .requester) (sender q)),
+    )
 
 pub credit-is : (side : RelaySide) {c : RelayCircuit} {k : Known} → Agrees c k → creditOf side c ≡ credit side k
 credit-is Requester A = omega (arith, A .creditR)
@@ -65,18 +70,22 @@ peer-is Requester A = A .requester
 peer-is Endpoint A = A .endpoint
 
 -- ---- room, where nothing is outstanding
-pub has-room : {w : World} {h : Past} → Rel w h → h .out ≡ [] → (j : ℕ) (p : HnsrPeerId) → capacityAnswer (configOf w) (tallied false j p (w .inflight)) ≡ Taken
+pub has-room : {w : World} {h : Past} → Rel w h → h .out ≡ [] → (j : ℕ) (p : HnsrPeerId)
+    → capacityAnswer (configOf w) (tallied false j p (w .inflight)) ≡ Taken
 unfolding capacityAnswer capacityLeft tallied actionUnder actionToward
 has-room {w} {h} R e j p =
     let H = R .base .full .acts .held in
     let t = w .inflight in
     let all : count inUse t ≡ 0 = H .same (λ a. 1) ∙ ap (total (λ (a : Action). 1)) e in
     let a = total-le (one (retained false j)) (one inUse) t (λ i. most (i .used) true) in
-    let b = total-le (one (also (retained false j) (actionUnder j))) (one inUse) t (λ i. twice (i .used) true (i .used && eqb (i .«circuit_id») j)) in
-    let c = total-le (one (also (retained false j) (actionToward p))) (one inUse) t (λ i. twice (i .used) true (i .used && samePeer (i .destination) p)) in
+    let b = total-le (one (also (retained false j) (actionUnder j))) (one inUse) t
+    (λ i. twice (i .used) true (i .used && eqb (i .«circuit_id») j)) in
+    let c = total-le (one (also (retained false j) (actionToward p))) (one inUse) t
+    (λ i. twice (i .used) true (i .used && samePeer (i .destination) p)) in
     let L = limits (h .head .config) (R .base .good) in
     let x = R .base .heads .config in
-    taken-check (eqb (capacityLeft (configOf w) (tallied false j p t)) 0) Capacity (ne-eqb (capacityLeft (configOf w) (tallied false j p t)) 0
+    taken-check (eqb (capacityLeft (configOf w) (tallied false j p t)) 0) Capacity
+    (ne-eqb (capacityLeft (configOf w) (tallied false j p t)) 0
     (λ z. omega (
       arith,
       L .actions,
@@ -100,26 +109,30 @@ has-room {w} {h} R e j p =
     twice false b d = omega arith
 
 -- ---- entry, clock and gate are passed
-module _ {w : World} {h : Past} (R : Rel w h) (H : Places w) (q : Packet) (room j : ℕ) (side : RelaySide) (active : h .active j ≡ true)
-    (s : Sends h j side q room) where
+module _ {w : World} {h : Past} (R : Rel w h) (H : Places w) (q : Packet) (room j : ℕ) (side : RelaySide)
+    (active : h .active j ≡ true) (s : Sends h j side q room) where
   some-context : eqb (q .context) 0 ≡ false
   some-context = ap (λ x. eqb x 0) (s .context) ∙ R .base .full .real j active
 
   packet-taken : packetAnswer (q .opcode) (q .context) (length (q .body)) ≡ Taken
   unfolding packetAnswer packetChecked
-  packet-taken = ap (λ b. bodyAnswer (cond b (Err (TooLarge (packetSize (length (q .body))) mostPacket)) (cond (eqb (q .context) 0 && not (eqb
-      (q .opcode) sampleRoutes)) (Err (Invalid ContextZero)) Ok))) (le-ltb mostPacket (packetSize (length (q .body))) (omega (arith, s .fits)))
-      ∙ ap (λ b. bodyAnswer (cond (b && not (eqb (q .opcode) sampleRoutes)) (Err (Invalid ContextZero)) Ok)) some-context
+  packet-taken =
+      ap (λ b. bodyAnswer (cond b (Err (TooLarge (packetSize (length (q .body))) mostPacket))
+      (cond (eqb (q .context) 0 && not (eqb (q .opcode) sampleRoutes)) (Err (Invalid ContextZero)) Ok)))
+      (le-ltb mostPacket (packetSize (length (q .body))) (omega (arith, s .fits)))
+      ∙ ap (λ b. bodyAnswer (cond (b && not (eqb (q .opcode) sampleRoutes)) (Err (Invalid ContextZero)) Ok))
+      some-context
 
   entry-taken : (entryAnswer w q room then clockAnswer (w .runtime .«trusted_time_high_water») (q .now)) ≡ Taken
   unfolding entryAnswer peerAnswer clockAnswer
   entry-taken = taken-then (entryAnswer w q room) (clockAnswer (w .runtime .«trusted_time_high_water») (q .now))
-      (taken-then (roomAnswer w room handleWords) (peerAnswer (length (q .source)) then packetAnswer (q .opcode) (q .context) (length (q .body)))
+      (taken-then (roomAnswer w room handleWords)
+      (peerAnswer (length (q .source)) then packetAnswer (q .opcode) (q .context) (length (q .body)))
       (room-same w H room handleWords ∙ ap (λ b. check b Short) (le-ltb room handleWords (s .words)))
-      (taken-then (peerAnswer (length (q .source))) (packetAnswer (q .opcode) (q .context) (length (q .body))) (ap
-      (λ b. check (not b) InvalidPeer) (s .named)) packet-taken))
-      (taken-check (ltb (q .now) (w .runtime .«trusted_time_high_water»)) ClockRollback (le-ltb (q .now) (w .runtime .«trusted_time_high_water») (omega
-      (arith, s .forward, R .base .heads .clock))))
+      (taken-then (peerAnswer (length (q .source))) (packetAnswer (q .opcode) (q .context) (length (q .body)))
+      (ap (λ b. check (not b) InvalidPeer) (s .named)) packet-taken))
+      (taken-check (ltb (q .now) (w .runtime .«trusted_time_high_water»)) ClockRollback
+      (le-ltb (q .now) (w .runtime .«trusted_time_high_water») (omega (arith, s .forward, R .base .heads .clock))))
 
   on : w .runtime .enabled ≡ true
   on = R .base .heads .enabled ∙ split (h .head .enabled) (λ e. e) (λ e. clash active (R .quiet e j))
@@ -127,5 +140,6 @@ module _ {w : World} {h : Past} (R : Rel w h) (H : Places w) (q : Packet) (room 
   pub is-data : step w (callHandle q room) ≡ handleData (atTime w (q .now)) q
   unfolding step handle handleGate gateAnswer dispatch proceed
   is-data = ap (λ (a : HnsrAnswer). proceed w a (handleGate (atTime w (q .now)) q)) entry-taken
-      ∙ ap (λ b. proceed (atTime w (q .now)) (check (not b) Disabled) (dispatch (handlingOf (q .opcode)) (atTime w (q .now)) q)) on
+      ∙ ap (λ b.
+      proceed (atTime w (q .now)) (check (not b) Disabled) (dispatch (handlingOf (q .opcode)) (atTime w (q .now)) q)) on
       ∙ ap (λ k. dispatch k (atTime w (q .now)) q) (handling-data (q .opcode) (s .opcode))

@@ -25,7 +25,8 @@ use Rattle.hnsr_circuit.specs.Pending.{noPending, pendingId, clearPending}
 use Rattle.hnsr_circuit.specs.declared.records.InflightKind.the-variants.{Data}
 use Rattle.hnsr_circuit.specs.Inflight.{kindNumber, tallied, capacityAnswer}
 use Rattle.hnsr_circuit.specs.World.{World, configOf}
-use Rattle.hnsr_circuit.specs.Queue.{Message, routeFor, actionFor, generationOf, sequenceOf, queueAnswer, canQueue, queued, routed, andThen, tellIf, tell}
+use Rattle.hnsr_circuit.specs.Queue.{Message, routeFor, actionFor, generationOf, sequenceOf}
+use Rattle.hnsr_circuit.specs.Queue.{queueAnswer, canQueue, queued, routed, andThen, tellIf, tell}
 use Rattle.hnsr_circuit.specs.Route.{Route}
 use Rattle.hnsr_circuit.specs.Laws.Answers.{then-taken}
 use Rattle.hnsr_circuit.specs.Laws.Keyed.{Keys, Tells}
@@ -59,8 +60,9 @@ pendingKeys = record {
 }
 
 -- ---- all four; no id is both pending and a circuit, and none is 0
-pub record Body (S : ℕ → Bool) (c : OpaqueRelayConfig) (g next : ℕ) (ps : List RelayPending) (cs : List RelayCircuit) (t : List InflightAction) (ac : ℕ → Bool)
-    (kn : ℕ → Known) (st : ℕ → Bool) (ask : ℕ → Asked) (out : List Action) : Type 0 where
+pub record Body (S : ℕ → Bool) (c : OpaqueRelayConfig) (g next : ℕ) (ps : List RelayPending) (cs : List RelayCircuit)
+    (t : List InflightAction) (ac : ℕ → Bool) (kn : ℕ → Known) (st : ℕ → Bool) (ask : ℕ → Asked)
+    (out : List Action) : Type 0 where
   pub acts : Acts c g next t out
   pub circs : Circs cs ac kn
   pub queue : Queue S cs ac kn out
@@ -70,8 +72,9 @@ pub record Body (S : ℕ → Bool) (c : OpaqueRelayConfig) (g next : ℕ) (ps : 
   pub realP : (j : ℕ) → st j ≡ true → eqb j 0 ≡ false
 
 abbrev pub Full : (ℕ → Bool) → World → Past → Type 0
-Full S w h = Body S (configOf w) (generationOf w) (sequenceOf w) (w .pending) (w .circuits) (w .inflight) (h .active) (h .known) (h .opens .standing)
-    (h .opens .asked) (h .out)
+Full S w h =
+    Body S (configOf w) (generationOf w) (sequenceOf w) (w .pending) (w .circuits) (w .inflight) (h .active) (h .known)
+    (h .opens .standing) (h .opens .asked) (h .out)
 
 -- ---- what the parts of a revocation leave alone; of the ledger, what the book is about
 pub record Rest (w v : World) : Type 0 where
@@ -94,13 +97,15 @@ pub record Quiet (f : Route → Action) (m : Message) : Type 0 where
   pub plain : eqb (kindNumber (m .kind)) (kindNumber Data) ≡ false
   pub same : (g n : ℕ) → f (routeFor m g n) ≡ view (actionFor m g n)
 
-pub can-room : (m : Message) (w : World) → canQueue m w ≡ Taken → count inUse (w .inflight) < configOf w .«maximum_inflight_actions»
+pub can-room : (m : Message) (w : World) → canQueue m w ≡ Taken
+    → count inUse (w .inflight) < configOf w .«maximum_inflight_actions»
 unfolding canQueue queueAnswer
 can-room m w h =
     let cap = capacityAnswer (configOf w) (tallied false (m .circuit) (m .destination) (w .inflight)) in
     let last = check (eqb (sequenceOf w) (top 64)) GenerationExhausted in
-    room-of (configOf w) (m .circuit) (m .destination) (w .inflight) (then-taken cap last (then-taken (check (eqb (m .context) 0) (Protocol (Invalid ContextZero)))
-    (cap then last) h .1) .0)
+    room-of (configOf w) (m .circuit) (m .destination) (w .inflight)
+    (then-taken cap last
+    (then-taken (check (eqb (m .context) 0) (Protocol (Invalid ContextZero))) (cap then last) h .1) .0)
 
 pub queued-rest : (m : Message) (w : World) → Rest w (queued m w)
 unfolding queued
@@ -117,15 +122,18 @@ rest-then r s = record {
 }
 
 -- another list of actions that is the same
-pub reout : {S : ℕ → Bool} {c : OpaqueRelayConfig} {g next : ℕ} {ps : List RelayPending} {cs : List RelayCircuit} {t : List InflightAction} {ac : ℕ
-    → Bool} {kn : ℕ → Known} {st : ℕ → Bool} {ask : ℕ → Asked} {o o′ : List Action}
+pub reout : {S : ℕ → Bool} {c : OpaqueRelayConfig} {g next : ℕ} {ps : List RelayPending} {cs : List RelayCircuit}
+    {t : List InflightAction} {ac : ℕ → Bool} {kn : ℕ → Known} {st : ℕ → Bool} {ask : ℕ → Asked} {o o′ : List Action}
     → o ≡ o′ → Body S c g next ps cs t ac kn st ask o → Body S c g next ps cs t ac kn st ask o′
-reout {S} {c} {g} {next} {ps} {cs} {t} {ac} {kn} {st} {ask} e B = subst (λ o. Body S c g next ps cs t ac kn st ask o) e B
+reout {S} {c} {g} {next} {ps} {cs} {t} {ac} {kn} {st} {ask} e B =
+    subst (λ o. Body S c g next ps cs t ac kn st ask o) e B
 
 -- other circuits in suspense
-pub suspending : {S S′ : ℕ → Bool} {c : OpaqueRelayConfig} {g next : ℕ} {ps : List RelayPending} {cs : List RelayCircuit} {t : List InflightAction} {ac : ℕ
-    → Bool} {kn : ℕ → Known} {st : ℕ → Bool} {ask : ℕ → Asked} {o : List Action}
-    → ((j : ℕ) → S′ j ≡ false → ac j ≡ true → S j ≡ false) → Body S c g next ps cs t ac kn st ask o → Body S′ c g next ps cs t ac kn st ask o
+pub suspending : {S S′ : ℕ → Bool} {c : OpaqueRelayConfig} {g next : ℕ} {ps : List RelayPending}
+    {cs : List RelayCircuit} {t : List InflightAction} {ac : ℕ → Bool} {kn : ℕ → Known} {st : ℕ → Bool}
+    {ask : ℕ → Asked} {o : List Action}
+    → ((j : ℕ) → S′ j ≡ false → ac j ≡ true → S j ≡ false) → Body S c g next ps cs t ac kn st ask o
+    → Body S′ c g next ps cs t ac kn st ask o
 suspending sw F = record {
   acts = F .acts;
   circs = F .circs;
@@ -137,33 +145,41 @@ suspending sw F = record {
 }
 
 pub plain-stray : (ac : ℕ → Bool) (kn : ℕ → Known) (a : Action) → isData a ≡ false → stray ac kn a ≡ false
-plain-stray ac kn a e = ap (λ b. b && not (ac (a .circuit) && samePeer (a .destination) (peerOn (sideTo a) (kn (a .circuit))))) e
+plain-stray ac kn a e =
+    ap (λ b. b && not (ac (a .circuit) && samePeer (a .destination) (peerOn (sideTo a) (kn (a .circuit))))) e
 
 pub plain-weight : (j : ℕ) (side : RelaySide) (a : Action) → isData a ≡ false → weight j side a ≡ 0
 plain-weight j side a e = ap (λ b. cond (b && (onCircuit j a && towardSide side a)) (a .bytes) 0) e
 
 pub queue-full : {S : ℕ → Bool} {f : Route → Action} (w : World) (h : Past) (m : Message) → Full S w h → Quiet f m
-    → count inUse (w .inflight) < configOf w .«maximum_inflight_actions» → Full S (queued m w) (emit h f (routed m w ∷ []))
+    → count inUse (w .inflight) < configOf w .«maximum_inflight_actions»
+    → Full S (queued m w) (emit h f (routed m w ∷ []))
 unfolding queued
-queue-full {S} w h m F Q l = reout (ap (λ a. h .out ++ (a ∷ [])) (sym (Q .same (generationOf w) (sequenceOf w)))) (record {
-  acts = queue-acts (F .acts) m l;
-  circs = F .circs;
-  queue = queue-queue (F .queue) (view (actionFor m (generationOf w) (sequenceOf w))) (plain-stray (h .active) (h .known) (view (actionFor m (generationOf w)
-      (sequenceOf w))) (Q .plain)) (λ j s side. plain-weight j side (view (actionFor m (generationOf w) (sequenceOf w))) (Q .plain));
-  pends = F .pends;
-  disjoint = F .disjoint;
-  real = F .real;
-  realP = F .realP;
-})
+queue-full {S} w h m F Q l =
+    reout (ap (λ a. h .out ++ (a ∷ [])) (sym (Q .same (generationOf w) (sequenceOf w))))
+    (record {
+      acts = queue-acts (F .acts) m l;
+      circs = F .circs;
+      queue =
+          queue-queue (F .queue) (view (actionFor m (generationOf w) (sequenceOf w)))
+          (plain-stray (h .active) (h .known) (view (actionFor m (generationOf w) (sequenceOf w))) (Q .plain))
+          (λ j s side. plain-weight j side (view (actionFor m (generationOf w) (sequenceOf w))) (Q .plain));
+      pends = F .pends;
+      disjoint = F .disjoint;
+      real = F .real;
+      realP = F .realP;
+    })
 
-tell-if : {S : ℕ → Bool} {f : Route → Action} {u : World} (a : HnsrAnswer) (m : Message) (w : World) (h : Past) → (a ≡ Taken
-    → count inUse (w .inflight) < configOf w .«maximum_inflight_actions») → Keeps S u w h → Quiet f m
+tell-if : {S : ℕ → Bool} {f : Route → Action} {u : World} (a : HnsrAnswer) (m : Message) (w : World) (h : Past)
+    → (a ≡ Taken → count inUse (w .inflight) < configOf w .«maximum_inflight_actions») → Keeps S u w h → Quiet f m
     → Keeps S u (tellIf a m w .world) (emit h f (tellIf a m w .routes))
 unfolding tellIf
-tell-if Taken m w h l K Q = record { full = queue-full w h m (K .full) Q (l refl); rest = rest-then (K .rest) (queued-rest m w) }
+tell-if Taken m w h l K Q =
+    record { full = queue-full w h m (K .full) Q (l refl); rest = rest-then (K .rest) (queued-rest m w) }
 tell-if {S} (Refused e) m w h l K Q = record { full = reout (sym (append-nil (h .out))) (K .full); rest = K .rest }
 
-pub tell-keeps : {S : ℕ → Bool} {f : Route → Action} {u : World} (m : Message) (w : World) (h : Past) → Keeps S u w h → Quiet f m
+pub tell-keeps : {S : ℕ → Bool} {f : Route → Action} {u : World} (m : Message) (w : World) (h : Past) → Keeps S u w h
+    → Quiet f m
     → Keeps S u (tell m w .world) (emit h f (tell m w .routes))
 unfolding tell
 tell-keeps m w h K Q = tell-if (canQueue m w) m w h (can-room m w) K Q
@@ -172,7 +188,8 @@ pub map-append : {A B : Type 0} (f : A → B) (xs ys : List A) → map f (xs ++ 
 map-append f [] ys = refl
 map-append {B = B} f (x ∷ xs) ys = ap {B = List B} (λ l. f x ∷ l) (map-append f xs ys)
 
-pub two-tells : {S : ℕ → Bool} {f : Route → Action} {u : World} (m n : Message) (w : World) (h : Past) → Keeps S u w h → Quiet f m → Quiet f n
+pub two-tells : {S : ℕ → Bool} {f : Route → Action} {u : World} (m n : Message) (w : World) (h : Past) → Keeps S u w h
+    → Quiet f m → Quiet f n
     → Keeps S u (andThen (tell m w) (tell n) .world) (emit h f (andThen (tell m w) (tell n) .routes))
 two-tells {S} {f} {u} m n w h K Q P =
     let k = tell-keeps n (tell m w .world) (emit h f (tell m w .routes)) (tell-keeps m w h K Q) P in
@@ -181,7 +198,8 @@ two-tells {S} {f} {u} m n w h K Q P =
     record { full = reout e (k .full); rest = k .rest }
 
 -- its routes are about its circuit; it leaves the tables of records alone
-tell-if-on : {f : Route → Action} (a : HnsrAnswer) (m : Message) (w : World) (j : ℕ) → Quiet f m → eqb (m .circuit) j ≡ true
+tell-if-on : {f : Route → Action} (a : HnsrAnswer) (m : Message) (w : World) (j : ℕ) → Quiet f m
+    → eqb (m .circuit) j ≡ true
     → count (non (onCircuit j)) (map f (tellIf a m w .routes)) ≡ 0
 unfolding tellIf
 tell-if-on {f} Taken m w j Q e = rw (Q .same (generationOf w) (sequenceOf w), e)
@@ -192,7 +210,8 @@ pub tell-on : {f : Route → Action} (m : Message) (w : World) (j : ℕ) → Qui
 unfolding tell
 tell-on m w j Q e = tell-if-on (canQueue m w) m w j Q e
 
-pub two-on : {f : Route → Action} (m n : Message) (w : World) (j : ℕ) → Quiet f m → Quiet f n → eqb (m .circuit) j ≡ true → eqb (n .circuit) j ≡ true
+pub two-on : {f : Route → Action} (m n : Message) (w : World) (j : ℕ) → Quiet f m → Quiet f n
+    → eqb (m .circuit) j ≡ true → eqb (n .circuit) j ≡ true
     → count (non (onCircuit j)) (map f (andThen (tell m w) (tell n) .routes)) ≡ 0
 two-on {f} m n w j Q P e d = rw (map-append f (tell m w .routes) (tell n (tell m w .world) .routes)) (omega (
   arith,

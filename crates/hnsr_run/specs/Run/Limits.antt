@@ -8,7 +8,9 @@ use borrow.Author.Tests.{leb-true, ltb-false}
 use Rattle.hns_encoding.specs.Numbers.{top, saturatingAdd}
 use Rattle.hns_encoding.specs.Laws.Tests.{both}
 use Rattle.hnsr_circuit.specs.declared.config.OpaqueRelayConfig.{OpaqueRelayConfig}
-use Rattle.hnsr_circuit.specs.Config.{withinLimits, configGood, maxRuntimePending, maxRuntimeCircuits, maxCircuits, maxCircuitQueue, maxRuntimeInflightActions, leastInflightActionsPerCircuit, maxOpenDeadlineSeconds}
+use Rattle.hnsr_circuit.specs.Config.{withinLimits, configGood, maxRuntimePending, maxRuntimeCircuits}
+use Rattle.hnsr_circuit.specs.Config.{maxCircuits, maxCircuitQueue, maxRuntimeInflightActions}
+use Rattle.hnsr_circuit.specs.Config.{leastInflightActionsPerCircuit, maxOpenDeadlineSeconds}
 
 pub record Limits (c : OpaqueRelayConfig) : Type 0 where
   pub pending : 1 ≤ c .«maximum_pending»
@@ -32,14 +34,17 @@ limits c e =
     let g = both l₄ i (f .0) in
     let h = both l₃ q (g .0) in
     let m = both l₂ n (h .0) in
-    let o = both p u (m .0) in
-    record {
+    let o = both p u (m .0) in record {
       pending = within 1 (c .«maximum_pending») maxRuntimePending (o .0) .0;
       circuits = within 1 (c .«maximum_circuits») maxRuntimeCircuits (o .1) .0;
       queue = within 1 (c .«maximum_queue_bytes») maxCircuitQueue (h .1) .1;
       actions = within 1 (c .«maximum_inflight_actions») maxRuntimeInflightActions (g .1) .0;
-      perCircuit = within leastInflightActionsPerCircuit (c .«maximum_inflight_actions_per_circuit») (c .«maximum_inflight_actions») (f .1) .0;
-      perPeer = within (c .«maximum_inflight_actions_per_circuit») (c .«maximum_inflight_actions_per_peer») (c .«maximum_inflight_actions») (d .1) .0;
+      perCircuit =
+          within leastInflightActionsPerCircuit (c .«maximum_inflight_actions_per_circuit»)
+          (c .«maximum_inflight_actions») (f .1) .0;
+      perPeer =
+          within (c .«maximum_inflight_actions_per_circuit») (c .«maximum_inflight_actions_per_peer»)
+          (c .«maximum_inflight_actions») (d .1) .0;
     }
   where
     p : Bool
@@ -58,10 +63,14 @@ limits c e =
     i = withinLimits 1 (c .«maximum_inflight_actions») maxRuntimeInflightActions
 
     k : Bool
-    k = withinLimits leastInflightActionsPerCircuit (c .«maximum_inflight_actions_per_circuit») (c .«maximum_inflight_actions»)
+    k =
+        withinLimits leastInflightActionsPerCircuit (c .«maximum_inflight_actions_per_circuit»)
+        (c .«maximum_inflight_actions»)
 
     r : Bool
-    r = withinLimits (c .«maximum_inflight_actions_per_circuit») (c .«maximum_inflight_actions_per_peer») (c .«maximum_inflight_actions»)
+    r =
+        withinLimits (c .«maximum_inflight_actions_per_circuit») (c .«maximum_inflight_actions_per_peer»)
+        (c .«maximum_inflight_actions»)
 
     z : Bool
     z = leb 1 (c .«maximum_bytes_per_circuit»)

@@ -1,4 +1,5 @@
--- The whole invariant between a world and what the events tell, and the changes that most calls are made of: the clock, a refusal, records ended.
+-- The whole invariant between a world and what the events tell, and the changes that most calls are made of: the clock,
+-- a refusal, records ended.
 use Prim.Native.Nat.{ℕ, _≤_, _<_}
 use native.Mathlib.Omega.{arith}
 use mathlib.Core.Path.{_≡_, refl, sym, ap, _∙_, subst}
@@ -56,11 +57,14 @@ pub record Base (S : ℕ → Bool) (w : World) (h : Past) : Type 0 where
   -- what is not past its expiry has its reservation living, due at its own expiry
   pub kept : (j : ℕ) → h .active j ≡ true → ltb (h .head .clock) (h .known j .expires) ≡ true
       → Live (h .head .clock) (h .book) (h .known j .reservation) (h .known j .expires)
-  pub keptP : (j : ℕ) → h .opens .standing j ≡ true → ltb (h .head .clock) (h .opens .asked j .ticket .«expires_at») ≡ true
-      → Live (h .head .clock) (h .book) (h .opens .asked j .ticket .«reservation_id») (h .opens .asked j .ticket .«expires_at»)
+  pub keptP : (j : ℕ) → h .opens .standing j ≡ true
+      → ltb (h .head .clock) (h .opens .asked j .ticket .«expires_at») ≡ true
+      → Live (h .head .clock) (h .book) (h .opens .asked j .ticket .«reservation_id»)
+      (h .opens .asked j .ticket .«expires_at»)
   pub heads : Heads w (h .head)
   -- the requester's context leads to the id
-  pub names : (j : ℕ) → h .opens .standing j ≡ true → (p : HnsrPeerId) → samePeer (h .opens .asked j .requester) p ≡ true
+  pub names : (j : ℕ) → h .opens .standing j ≡ true → (p : HnsrPeerId)
+      → samePeer (h .opens .asked j .requester) p ≡ true
       → h .opens .named p (h .opens .asked j .context) ≡ j
   -- what is active or stands was drawn by an OPEN
   pub drawn : (j : ℕ) → h .active j ≡ true → any (λ i. eqb i j) (h .opens .ids) ≡ true
@@ -81,8 +85,8 @@ pub record Places (w : World) : Type 0 where
   pub inflight : configOf w .«maximum_inflight_actions» ≤ length (w .inflight)
 
 -- ---- answers
-pub proceed-cases : (P : Outcome → Type 0) (w : World) (a : HnsrAnswer) (o : Outcome) → (a ≡ Taken → P o) → ((e : HnsrRuntimeError) → a ≡ Refused e
-    → P (refuse w e)) → P (proceed w a o)
+pub proceed-cases : (P : Outcome → Type 0) (w : World) (a : HnsrAnswer) (o : Outcome) → (a ≡ Taken → P o)
+    → ((e : HnsrRuntimeError) → a ≡ Refused e → P (refuse w e)) → P (proceed w a o)
 unfolding proceed
 proceed-cases P w Taken o t f = t refl
 proceed-cases P w (Refused e) o t f = f e refl
@@ -94,7 +98,10 @@ pub refused-differs : {A : Type 0} {e : HnsrRuntimeError} → Refused e ≡ Take
 refused-differs h = absurd (true≢false (refused-not h))
 
 pub not-taken : (e : HnsrRuntimeError) → eqb (errorNumber e) 0 ≡ false
-not-taken e = split (eqb (errorNumber e) 0) (λ t. refused-differs (number-zero (Refused e) (eqb-true (errorNumber e) 0 t))) (λ t. t)
+not-taken e =
+    split (eqb (errorNumber e) 0)
+    (λ t. refused-differs (number-zero (Refused e) (eqb-true (errorNumber e) 0 t)))
+    (λ t. t)
 
 pub if-not : {A : Type 0} (P : A → Type 0) (b : Bool) (x y : A) → b ≡ false → P y → P (cond b x y)
 if-not P b x y e p = subst (λ b. P (cond b x y)) (sym e) p
@@ -105,18 +112,24 @@ if-taken P e x y p = subst (λ b. P (cond b x y)) (sym (not-taken e)) p
 
 -- ---- queueing: 10 alone refuses, where the context is not zero and the sequence is below its top
 queue-cases : (b : Bool) (n : ℕ) (x : Bool) → b ≡ false → eqb n (top 64) ≡ false
-    → ((check b (Protocol (Invalid ContextZero)) then check x Capacity then check (eqb n (top 64)) GenerationExhausted) ≡ Taken) ⊎ ((check b (Protocol
-    (Invalid ContextZero)) then check x Capacity then check (eqb n (top 64)) GenerationExhausted) ≡ Refused Capacity)
+    → ((check b (Protocol (Invalid ContextZero)) then check x Capacity then check (eqb n (top 64)) GenerationExhausted)
+    ≡ Taken)
+    ⊎ ((check b (Protocol (Invalid ContextZero)) then check x Capacity then check (eqb n (top 64)) GenerationExhausted)
+    ≡ Refused Capacity)
 queue-cases b n true e f = rw e (inr refl)
 queue-cases b n false e f = rw (e, f) (inl refl)
 
-pub can-or-full : (m : Message) (w : World) → eqb (m .context) 0 ≡ false → sequenceOf w < top 64 → (canQueue m w ≡ Taken) ⊎ (canQueue m w ≡ Refused Capacity)
+pub can-or-full : (m : Message) (w : World) → eqb (m .context) 0 ≡ false → sequenceOf w < top 64
+    → (canQueue m w ≡ Taken) ⊎ (canQueue m w ≡ Refused Capacity)
 unfolding canQueue queueAnswer capacityAnswer
-can-or-full m w e l = queue-cases (eqb (m .context) 0) (sequenceOf w) (eqb (capacityLeft (configOf w) (tallied false (m .circuit) (m .destination)
-    (w .inflight))) 0) e (ne-eqb (sequenceOf w) (top 64) (λ q. omega arith))
+can-or-full m w e l =
+    queue-cases (eqb (m .context) 0) (sequenceOf w)
+    (eqb (capacityLeft (configOf w) (tallied false (m .circuit) (m .destination) (w .inflight))) 0) e
+    (ne-eqb (sequenceOf w) (top 64) (λ q. omega arith))
 
 pub can-queue : (m : Message) (w : World) → eqb (m .context) 0 ≡ false → sequenceOf w < top 64
-    → capacityAnswer (configOf w) (tallied false (m .circuit) (m .destination) (w .inflight)) ≡ Taken → canQueue m w ≡ Taken
+    → capacityAnswer (configOf w) (tallied false (m .circuit) (m .destination) (w .inflight)) ≡ Taken
+    → canQueue m w ≡ Taken
 unfolding canQueue queueAnswer
 can-queue m w e l c = rw (e, c, ne-eqb (sequenceOf w) (top 64) (λ q. omega arith))
 
@@ -129,8 +142,8 @@ unfolding send proceed
 send-full w m h = rw h
 
 -- sent, or refused with 10
-pub send-cases : (P : Outcome → Type 0) (w : World) (m : Message) → eqb (m .context) 0 ≡ false → sequenceOf w < top 64 → (canQueue m w ≡ Taken
-    → P (done (queued m w) (routed m w ∷ []))) → P (refuse w Capacity) → P (send w m)
+pub send-cases : (P : Outcome → Type 0) (w : World) (m : Message) → eqb (m .context) 0 ≡ false → sequenceOf w < top 64
+    → (canQueue m w ≡ Taken → P (done (queued m w) (routed m w ∷ []))) → P (refuse w Capacity) → P (send w m)
 send-cases P w m e l t f = pick-one (can-or-full m w e l)
   where
     pick-one : (canQueue m w ≡ Taken) ⊎ (canQueue m w ≡ Refused Capacity) → P (send w m)
@@ -151,8 +164,10 @@ heads-rest r s = record {
       ∙ s .config;
 }
 
-pub shrink-base : {S : ℕ → Bool} {w : World} {h : Past} → Base S w h → {v : World} (ac st : ℕ → Bool) (out : List Action) → Keeps none w v (fewer h ac st out)
-    → ((i : ℕ) → ac i ≡ true → h .active i ≡ true) → ((i : ℕ) → st i ≡ true → h .opens .standing i ≡ true) → Base none v (fewer h ac st out)
+pub shrink-base : {S : ℕ → Bool} {w : World} {h : Past} → Base S w h
+    → {v : World} (ac st : ℕ → Bool) (out : List Action) → Keeps none w v (fewer h ac st out)
+    → ((i : ℕ) → ac i ≡ true → h .active i ≡ true) → ((i : ℕ) → st i ≡ true → h .opens .standing i ≡ true)
+    → Base none v (fewer h ac st out)
 shrink-base {S} {w} {h} R {v} ac st out K l m = record {
   full = K .full;
   books = same-books (K .rest .ledger) (R .books);
@@ -166,8 +181,10 @@ shrink-base {S} {w} {h} R {v} ac st out K l m = record {
   below = R .below;
 }
 
-pub shrink : {w : World} {h : Past} → Rel w h → {v : World} (ac st : ℕ → Bool) (out : List Action) → Keeps none w v (fewer h ac st out)
-    → ((i : ℕ) → ac i ≡ true → h .active i ≡ true) → ((i : ℕ) → st i ≡ true → h .opens .standing i ≡ true) → Rel v (fewer h ac st out)
+pub shrink : {w : World} {h : Past} → Rel w h → {v : World} (ac st : ℕ → Bool) (out : List Action)
+    → Keeps none w v (fewer h ac st out)
+    → ((i : ℕ) → ac i ≡ true → h .active i ≡ true) → ((i : ℕ) → st i ≡ true → h .opens .standing i ≡ true)
+    → Rel v (fewer h ac st out)
 shrink {w} {h} R {v} ac st out K l m = record {
   base = shrink-base (R .base) ac st out K l m;
   quiet = λ e j. split (ac j) (λ a. clash (l j a) (R .quiet e j)) (λ a. a);
@@ -191,8 +208,15 @@ moved-rel {w} {h} R t l = record {
     full = R .base .full;
     books = later-books (R .base .books) t l;
     kept = λ j a e. live-later (R .base .kept j a (earlier (h .head .clock) t (h .known j .expires) l e)) e;
-    keptP = λ j a e. live-later (R .base .keptP j a (earlier (h .head .clock) t (h .opens .asked j .ticket .«expires_at») l e)) e;
-    heads = record { generation = R .base .heads .generation; enabled = R .base .heads .enabled; clock = refl; config = R .base .heads .config };
+    keptP =
+        λ j a e.
+        live-later (R .base .keptP j a (earlier (h .head .clock) t (h .opens .asked j .ticket .«expires_at») l e)) e;
+    heads = record {
+      generation = R .base .heads .generation;
+      enabled = R .base .heads .enabled;
+      clock = refl;
+      config = R .base .heads .config;
+    };
     names = R .base .names;
     drawn = R .base .drawn;
     drawnP = R .base .drawnP;
@@ -223,7 +247,8 @@ numbering-rel R n = let H = R .base .heads in record {
 }
 
 -- ---- another ledger that holds the same book
-pub reledger : {w : World} {h : Past} → Rel w h → (t : List ReservationUsage) → Books t (h .head .clock) (h .book) → Rel (withLedger w t) h
+pub reledger : {w : World} {h : Past} → Rel w h → (t : List ReservationUsage) → Books t (h .head .clock) (h .book)
+    → Rel (withLedger w t) h
 reledger R t B = record {
   base = record {
     full = R .base .full;

@@ -1,4 +1,5 @@
--- The invariant over a whole run: the configuration stays, so the tables stay long enough, and each step keeps the rest.
+-- The invariant over a whole run: the configuration stays, so the tables stay long enough, and each step keeps the
+-- rest.
 use Prim.Native.Nat.{_+_, _<_}
 use native.Mathlib.Omega.{arith}
 use mathlib.Core.Path.{_≡_, sym, ap, _∙_}

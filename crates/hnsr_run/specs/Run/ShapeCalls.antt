@@ -33,19 +33,22 @@ use Rattle.hnsr_circuit.specs.Table.{any, pick, put, edit}
 use Rattle.hnsr_circuit.specs.Peer.{peerGood, peerOf}
 use Rattle.hnsr_circuit.specs.Pending.{noPending, isPending, pendingAt, namedBy, clearPending}
 use Rattle.hnsr_circuit.specs.Circuits.{isCircuit, circuitAt, otherSide, creditOf, charged, raised, sideOf}
-use Rattle.hnsr_circuit.specs.Ledger.{noUsage, isUsage, usageAt, clearUsage, usageOver, freshUsage, spent, lapsed, booked}
+use Rattle.hnsr_circuit.specs.Ledger.{noUsage, isUsage, usageAt, clearUsage}
+use Rattle.hnsr_circuit.specs.Ledger.{usageOver, freshUsage, spent, lapsed, booked}
 use Rattle.hnsr_circuit.specs.Inflight.{actionUnder, tallied, capacityAnswer}
 use Rattle.hnsr_circuit.specs.World.{World, Outcome, configOf, withLedger, atTime}
 use Rattle.hnsr_circuit.specs.Counts.{pendingCount, circuitCount}
 use Rattle.hnsr_circuit.specs.Entry.{handleWords, roomAnswer, peerAnswer}
 use Rattle.hnsr_circuit.specs.Packet.{Packet, sender, hasCircuit, namedCircuit, circuitAnswer, receiver}
 use Rattle.hnsr_circuit.specs.Draw.{draws, undrawn, idTaken, drawn}
-use Rattle.hnsr_circuit.specs.Open.{Opening, pendingFor, withOpen, opening, openPlaced, openBooked, openGranted, openLapsed, handleOpen}
+use Rattle.hnsr_circuit.specs.Open.{Opening, pendingFor, withOpen, opening, openPlaced}
+use Rattle.hnsr_circuit.specs.Open.{openBooked, openGranted, openLapsed, handleOpen}
 use Rattle.hnsr_circuit.specs.Accept.{requestAnswer, circuitFor, withAccept, acceptTaken, acceptWith, handleAccept}
 use Rattle.hnsr_circuit.specs.Data.{withData, dataWith, handleData}
 use Rattle.hnsr_circuit.specs.Window.{creditAnswer, withWindow, windowTaken, windowWith, handleWindow}
 use Rattle.hnsr_circuit.specs.Close.{closePending, closeCircuit, handleClose}
-use Rattle.hnsr_circuit.specs.Handle.{Handling, OPEN, ACCEPT, DATA, WINDOW, CLOSE, ERROR, other, dispatch, entryAnswer, handleGate, handle}
+use Rattle.hnsr_circuit.specs.Handle.{Handling, OPEN, ACCEPT, DATA, WINDOW, CLOSE, ERROR}
+use Rattle.hnsr_circuit.specs.Handle.{other, dispatch, entryAnswer, handleGate, handle}
 use Rattle.hnsr_circuit.specs.Revocation.{pendingIn}
 use Rattle.hnsr_circuit.specs.Laws.Answers.{then-taken, check-taken}
 use Rattle.hnsr_circuit.specs.Laws.Lookups.{pick-none, none-count}
@@ -56,9 +59,11 @@ use Rattle.hnsr_circuit.specs.Laws.Places.{length-dropped}
 use Rattle.hnsr_run.specs.Run.Booking.{Free, draw-free}
 use Rattle.hnsr_run.specs.Run.Open.{Admitted, admitted-rows, placed-rows}
 use Rattle.hnsr_run.specs.Run.AcceptRows.{AcceptRows, accept-rows}
-use Rattle.hnsr_run.specs.Run.ShapeTables.{count-put, count-edit, less-edit, less-clear, less-fits, put-fits, pick-fits}
+use Rattle.hnsr_run.specs.Run.ShapeTables.{count-put, count-edit, less-edit}
+use Rattle.hnsr_run.specs.Run.ShapeTables.{less-clear, less-fits, put-fits, pick-fits}
 use Rattle.hnsr_run.specs.Run.Shape.{Named, Shape, pending-used}
-use Rattle.hnsr_run.specs.Run.ShapeParts.{Recounted, recounted-shape, ledger-shape, less-ledger, proceed-shape, send-shape, pending-unmarked, end-pending-shape, end-circuit-shape}
+use Rattle.hnsr_run.specs.Run.ShapeParts.{Recounted, recounted-shape, ledger-shape, less-ledger, proceed-shape}
+use Rattle.hnsr_run.specs.Run.ShapeParts.{send-shape, pending-unmarked, end-pending-shape, end-circuit-shape}
 
 -- ---- names that were tested
 good-name : (n : ℕ) → peerAnswer n ≡ Taken → peerGood n ≡ true

@@ -27,7 +27,10 @@ use Rattle.hnsr_circuit.specs.Ledger.{noUsage, isUsage, usageAt}
 use Rattle.hnsr_circuit.specs.World.{World, Outcome, proceed, withCircuits}
 use Rattle.hnsr_circuit.specs.Queue.{Message, queued, canQueue, send, Sent, tellIf, tell}
 use Rattle.hnsr_circuit.specs.Packet.{hasCircuit}
-use Rattle.hnsr_circuit.specs.Revocation.{withoutActions, withoutPending, endPending, endCircuit, pendingThere, circuitThere, endPendingThere, endCircuitThere, revokePending, revokeCircuitThere, revokeCircuit, walkFrom, walk, pendingTable, circuitTable, revokeAll}
+use Rattle.hnsr_circuit.specs.Revocation.{withoutActions, withoutPending, endPending, endCircuit}
+use Rattle.hnsr_circuit.specs.Revocation.{pendingThere, circuitThere, endPendingThere, endCircuitThere}
+use Rattle.hnsr_circuit.specs.Revocation.{revokePending, revokeCircuitThere, revokeCircuit, walkFrom}
+use Rattle.hnsr_circuit.specs.Revocation.{walk, pendingTable, circuitTable, revokeAll}
 use Rattle.hnsr_circuit.specs.RevokingCalls.{disconnectPending}
 use Rattle.hnsr_circuit.specs.Laws.Places.{length-dropped}
 use Rattle.hnsr_run.specs.Run.Walks.{when-cases}

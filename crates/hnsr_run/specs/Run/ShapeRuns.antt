@@ -29,13 +29,17 @@ use Rattle.hnsr_circuit.specs.Circuits.{noCircuit, isCircuit, circuitAt, credit
 use Rattle.hnsr_circuit.specs.Ledger.{noUsage, isUsage, usageAt, clearUsage}
 use Rattle.hnsr_circuit.specs.Inflight.{isAction, towardSide, actionAt, clearAction}
 use Rattle.hnsr_circuit.specs.World.{World, Outcome, done, proceed, withCircuits, atTime}
-use Rattle.hnsr_circuit.specs.Acknowledge.{lowerFor, released, failPending, failIncoming, undelivered, settled, acknowledgeAction, acknowledge}
+use Rattle.hnsr_circuit.specs.Acknowledge.{lowerFor, released, failPending, failIncoming}
+use Rattle.hnsr_circuit.specs.Acknowledge.{undelivered, settled, acknowledgeAction, acknowledge}
 use Rattle.hnsr_circuit.specs.Revocation.{hasPending}
-use Rattle.hnsr_circuit.specs.RevokingCalls.{changes, disconnectPeer, disconnect, revokeUnder, revokeReservation, expireAt, expire, switched, switchTo, replaceEnabled}
+use Rattle.hnsr_circuit.specs.RevokingCalls.{changes, disconnectPeer, disconnect, revokeUnder, revokeReservation}
+use Rattle.hnsr_circuit.specs.RevokingCalls.{expireAt, expire, switched, switchTo, replaceEnabled}
 use Rattle.hnsr_circuit.specs.New.{sessionAnswer, newAnswer, emptied, newRelay, observeTime}
 use Rattle.hnsr_circuit.specs.Status.{status}
 use Rattle.hnsr_circuit.specs.NextDue.{nextDue}
-use Rattle.hnsr_circuit.specs.Call.{Start, Call, callStatus, callNextDue, callObserveTime, callReplaceEnabled, callHandle, callAcknowledge, callDisconnect, callRevokeReservation, callExpire, start, step, leftBy}
+use Rattle.hnsr_circuit.specs.Call.{Start, Call, callStatus, callNextDue, callObserveTime}
+use Rattle.hnsr_circuit.specs.Call.{callReplaceEnabled, callHandle, callAcknowledge, callDisconnect}
+use Rattle.hnsr_circuit.specs.Call.{callRevokeReservation, callExpire, start, step, leftBy}
 use Rattle.hnsr_circuit.specs.Laws.Answers.{then-taken, check-taken}
 use Rattle.hnsr_circuit.specs.Laws.Marks.{clear-length}
 use Rattle.hnsr_circuit.specs.Laws.Edits.{length-edit}
@@ -44,7 +48,11 @@ use Rattle.hnsr_run.specs.Run.Rel.{Places}
 use Rattle.hnsr_run.specs.Run.Start.{none-counted}
 use Rattle.hnsr_run.specs.Run.ShapeTables.{less-edit, Fits}
 use Rattle.hnsr_run.specs.Run.Shape.{PendingShape, CircuitShape, Shape}
-use Rattle.hnsr_run.specs.Run.ShapeParts.{Recounted, recounted-shape, pending-off, circuit-off, usage-off, pending-unmarked, circuit-unmarked, actions-shape, less-ledger, proceed-shape, send-shape, without-pending-shape, revoke-pending-shape, disconnect-pending-shape, revoke-there-shape, revoke-circuit-shape, revoke-all-shape}
+use Rattle.hnsr_run.specs.Run.ShapeParts.{Recounted, recounted-shape, pending-off, circuit-off}
+use Rattle.hnsr_run.specs.Run.ShapeParts.{usage-off, pending-unmarked, circuit-unmarked, actions-shape}
+use Rattle.hnsr_run.specs.Run.ShapeParts.{less-ledger, proceed-shape, send-shape, without-pending-shape}
+use Rattle.hnsr_run.specs.Run.ShapeParts.{revoke-pending-shape, disconnect-pending-shape}
+use Rattle.hnsr_run.specs.Run.ShapeParts.{revoke-there-shape, revoke-circuit-shape, revoke-all-shape}
 use Rattle.hnsr_run.specs.Run.ShapeCalls.{usage-unmarked, lapsed-shape, handle-shape}
 
 -- ---- acknowledge

@@ -37,13 +37,15 @@ use Rattle.hnsr_run.specs.Run.Actions.{view}
 use Rattle.hnsr_run.specs.Run.Rel.{Rel, Places, refused-differs}
 
 -- ---- `new` marks every place unused
-module _ {A : Type 0} (used : A → Bool) (unmark : A → A) (off : (a : A) → used (unmark a) ≡ false) (p : A → Bool) (under :
-    (a : A) → used a ≡ false → p a ≡ false) where
+module _ {A : Type 0} (used : A → Bool) (unmark : A → A) (off : (a : A) → used (unmark a) ≡ false) (p : A → Bool)
+    (under : (a : A) → used a ≡ false → p a ≡ false) where
   blank : (a : A) → p (cleared unmark used a) ≡ false
   blank a = choose (λ (x : A). p x ≡ false) (used a) (unmark a) a (λ e. under (unmark a) (off a)) (λ e. under a e)
 
   pub none-counted : (t : List A) → count p (clear unmark used t) ≡ 0
-  none-counted t = total-map (one p) (cleared unmark used) t ∙ total-zero (λ a. one p (cleared unmark used a)) t (λ a. ap (λ b. cond {A = ℕ} b 1 0) (blank a))
+  none-counted t =
+      total-map (one p) (cleared unmark used) t
+      ∙ total-zero (λ a. one p (cleared unmark used a)) t (λ a. ap (λ b. cond {A = ℕ} b 1 0) (blank a))
 
   pub none-found : (t : List A) → any p (clear unmark used t) ≡ false
   none-found t = count-none p (clear unmark used t) (none-counted t)
@@ -51,11 +53,14 @@ module _ {A : Type 0} (used : A → Bool) (unmark : A → A) (off : (a : A) → 
 unused : (u b : Bool) → u ≡ false → (u && b) ≡ false
 unused u b e = ap (λ x. x && b) e
 
-new-taken : (w : World) (s : Start) → start w s .answer ≡ Taken → newAnswer w (s .session) (s .generation) (s .config) ≡ Taken
+new-taken : (w : World) (s : Start) → start w s .answer ≡ Taken
+    → newAnswer w (s .session) (s .generation) (s .config) ≡ Taken
 unfolding start newRelay proceed
 new-taken w s e = from (newAnswer w (s .session) (s .generation) (s .config)) e
   where
-    from : (a : HnsrAnswer) → proceed w a (done (emptied w (newRuntime (s .session) (s .generation) (s .config) (s .now))) []) .answer ≡ Taken → a ≡ Taken
+    from : (a : HnsrAnswer)
+        → proceed w a (done (emptied w (newRuntime (s .session) (s .generation) (s .config) (s .now))) []) .answer
+        ≡ Taken → a ≡ Taken
     from Taken h = refl
     from (Refused x) h = refused-differs h
 
@@ -68,17 +73,18 @@ record NewRows (w : World) (c : OpaqueRelayConfig) : Type 0 where
   good : configGood c ≡ true
   short : tablesShort c w ≡ false
 
-new-rows : (w : World) (s : Start) → newAnswer w (s .session) (s .generation) (s .config) ≡ Taken → NewRows w (s .config)
+new-rows : (w : World) (s : Start) → newAnswer w (s .session) (s .generation) (s .config) ≡ Taken
+    → NewRows w (s .config)
 unfolding newAnswer validateConfig
 new-rows w s e =
     let session = sessionAnswer (s .session) (s .generation) in
     let valid = check (not (configGood (s .config))) InvalidConfig in
     let none = eqb (length (w .ledger)) 0 in
     let last = check (tablesShort (s .config) w || none) Short in
-    let a = then-taken valid last (then-taken session (valid then last) e .1) in
-    record {
+    let a = then-taken valid last (then-taken session (valid then last) e .1) in record {
       good = not-false (configGood (s .config)) (check-taken (not (configGood (s .config))) InvalidConfig (a .0));
-      short = neither (tablesShort (s .config) w) none (check-taken (tablesShort (s .config) w || none) Short (a .1)) .0;
+      short =
+          neither (tablesShort (s .config) w) none (check-taken (tablesShort (s .config) w || none) Short (a .1)) .0;
     }
 
 record Long (w : World) (c : OpaqueRelayConfig) : Type 0 where
@@ -100,7 +106,8 @@ long w c e =
       inflight = ltb-false (length (w .inflight)) (c .«maximum_inflight_actions») (a .1);
     }
 
-module _ (w : World) (s : Start) (D : NewRows w (s .config)) (low : s .config .«maximum_bytes_per_circuit» < top 64) where
+module _ (w : World) (s : Start) (D : NewRows w (s .config))
+    (low : s .config .«maximum_bytes_per_circuit» < top 64) where
   abbrev fresh : World
   fresh = emptied w (newRuntime (s .session) (s .generation) (s .config) (s .now))
 
@@ -111,7 +118,8 @@ module _ (w : World) (s : Start) (D : NewRows w (s .config)) (low : s .config .�
   unfolding emptied dropped isPending isCircuit isAction
   empty-places = record {
     pending = omega (arith, lengths .pending, clear-length isPending clearPending (λ p. refl) isPending (w .pending));
-    circuits = omega (arith, lengths .circuits, clear-length isCircuit clearCircuit (λ p. refl) isCircuit (w .circuits));
+    circuits =
+        omega (arith, lengths .circuits, clear-length isCircuit clearCircuit (λ p. refl) isCircuit (w .circuits));
     inflight = omega (arith, lengths .inflight, clear-length isAction clearAction (λ p. refl) isAction (w .inflight));
   }
 
@@ -123,8 +131,9 @@ module _ (w : World) (s : Start) (D : NewRows w (s .config)) (low : s .config .�
         acts = record {
           places = empty-places .inflight;
           held = record {
-            same = λ f. clear-total isAction clearAction (λ i. refl) isAction (λ i. f (view i)) (w .inflight) ∙ total-zero _ (w .inflight)
-                (λ i. gone (i .used) (f (view i)));
+            same =
+                λ f. clear-total isAction clearAction (λ i. refl) isAction (λ i. f (view i)) (w .inflight)
+                ∙ total-zero _ (w .inflight) (λ i. gone (i .used) (f (view i)));
             once = λ q. omega arith;
             below = λ q l. refl;
           };
@@ -136,7 +145,9 @@ module _ (w : World) (s : Start) (D : NewRows w (s .config)) (low : s .config .�
             none-counted isCircuit clearCircuit (λ c. refl) (circuitAt j)
                 (λ c e. unused (c .used) (eqb (c .«circuit_id») j) e) (w .circuits),
           );
-          found = λ j. none-found isCircuit clearCircuit (λ c. refl) (circuitAt j) (λ c e. unused (c .used) (eqb (c .«circuit_id») j) e) (w .circuits);
+          found =
+              λ j. none-found isCircuit clearCircuit (λ c. refl) (circuitAt j)
+              (λ c e. unused (c .used) (eqb (c .«circuit_id») j) e) (w .circuits);
           agree = λ j a. absurd (false≢true a);
         };
         queue = record { queued = λ j s a. absurd (false≢true a); honest = refl };
@@ -146,7 +157,9 @@ module _ (w : World) (s : Start) (D : NewRows w (s .config)) (low : s .config .�
             none-counted isPending clearPending (λ c. refl) (pendingAt j)
                 (λ c e. unused (c .used) (eqb (c .«circuit_id») j) e) (w .pending),
           );
-          found = λ j. none-found isPending clearPending (λ c. refl) (pendingAt j) (λ c e. unused (c .used) (eqb (c .«circuit_id») j) e) (w .pending);
+          found =
+              λ j. none-found isPending clearPending (λ c. refl) (pendingAt j)
+              (λ c e. unused (c .used) (eqb (c .«circuit_id») j) e) (w .pending);
           agree = λ j a. absurd (false≢true a);
         };
         disjoint = λ j s. refl;
@@ -154,10 +167,14 @@ module _ (w : World) (s : Start) (D : NewRows w (s .config)) (low : s .config .�
         realP = λ j a. absurd (false≢true a);
       };
       books = record {
-        once = λ r. omega (arith, none-counted isUsage clearUsage (λ c. refl) (usageAt r) (λ u e. unused (u .used) _ e) (w .ledger));
+        once =
+            λ r. omega
+            (arith, none-counted isUsage clearUsage (λ c. refl) (usageAt r) (λ u e. unused (u .used) _ e) (w .ledger));
         there = λ r e. absurd (false≢true e);
         stands = λ r e. absurd (false≢true e);
-        known = λ r f e. absurd (true≢false (sym f ∙ none-found isUsage clearUsage (λ c. refl) (usageAt r) (λ u e. unused (u .used) _ e) (w .ledger)));
+        known =
+            λ r f e. absurd (true≢false
+            (sym f ∙ none-found isUsage clearUsage (λ c. refl) (usageAt r) (λ u e. unused (u .used) _ e) (w .ledger)));
       };
       kept = λ j a. absurd (false≢true a);
       keptP = λ j a. absurd (false≢true a);
@@ -176,7 +193,8 @@ module _ (w : World) (s : Start) (D : NewRows w (s .config)) (low : s .config .�
       gone true n = refl
       gone false n = refl
 
-empty-sequence : (w : World) (s : Start) → sequenceOf (emptied w (newRuntime (s .session) (s .generation) (s .config) (s .now))) ≡ 1
+empty-sequence : (w : World) (s : Start)
+    → sequenceOf (emptied w (newRuntime (s .session) (s .generation) (s .config) (s .now))) ≡ 1
 unfolding emptied
 empty-sequence w s = refl
 
@@ -185,5 +203,8 @@ pub start-rel : (w : World) (s : Start) → start w s .answer ≡ Taken → s .c
 start-rel w s e low =
     let t = new-taken w s e in
     let D = new-rows w s t in
-    let p = sym (new-world w s t) in
-    (subst (λ v. Rel v (begin s)) p (empty-rel w s D low), subst Places p (empty-places w s D low), ap sequenceOf (new-world w s t) ∙ empty-sequence w s)
+    let p = sym (new-world w s t) in (
+      subst (λ v. Rel v (begin s)) p (empty-rel w s D low),
+      subst Places p (empty-places w s D low),
+      ap sequenceOf (new-world w s t) ∙ empty-sequence w s,
+    )

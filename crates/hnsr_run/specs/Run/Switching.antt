@@ -33,13 +33,16 @@ use Rattle.hnsr_run.specs.Run.Rel.{Base, Rel, proceed-cases, if-taken, s
 use Rattle.hnsr_run.specs.Run.Revoking.{less}
 
 -- ---- replace_enabled
-all-dropped : {c : OpaqueRelayConfig} {g next : ℕ} {t : List InflightAction} {out : List Action} → Acts c g next t out → (g′ : ℕ)
+all-dropped : {c : OpaqueRelayConfig} {g next : ℕ} {t : List InflightAction} {out : List Action} → Acts c g next t out
+    → (g′ : ℕ)
     → Acts c g′ 1 (dropped isAction t) []
 unfolding dropped isAction
 all-dropped {t = t} A g′ = record {
   places = omega (arith, A .places, clear-length inUse clearAction (λ i. refl) inUse t);
   held = record {
-    same = λ f. clear-total inUse clearAction (λ i. refl) inUse (λ i. f (view i)) t ∙ total-zero _ t (λ i. off (i .used) (f (view i)));
+    same =
+        λ f. clear-total inUse clearAction (λ i. refl) inUse (λ i. f (view i)) t
+        ∙ total-zero _ t (λ i. off (i .used) (f (view i)));
     once = λ q. omega arith;
     below = λ q l. refl;
   };
@@ -64,7 +67,12 @@ switched-base {w} {h} R on = record {
   books = R .base .books;
   kept = R .base .kept;
   keptP = R .base .keptP;
-  heads = record { generation = ap (λ n. n + 1) (R .base .heads .generation); enabled = refl; clock = R .base .heads .clock; config = R .base .heads .config };
+  heads = record {
+    generation = ap (λ n. n + 1) (R .base .heads .generation);
+    enabled = refl;
+    clock = R .base .heads .clock;
+    config = R .base .heads .config;
+  };
   names = R .base .names;
   drawn = R .base .drawn;
   drawnP = R .base .drawnP;
@@ -91,15 +99,23 @@ on-keeps {w} {h} R off = let B = switched-base R true in record {
   quietP = λ e. absurd (true≢false e);
 }
 
-off-keeps : {w : World} {h : Past} → Rel w h → let o = switchTo w false in Rel (o .world) (revoked (switchedTo h false) everyOpen everyCircuit (map (heard (about h)) (o .routes)))
+off-keeps : {w : World} {h : Past} → Rel w h
+    → let o = switchTo w false in
+    Rel (o .world) (revoked (switchedTo h false) everyOpen everyCircuit (map (heard (about h)) (o .routes)))
 unfolding switchTo revokeAll isPending isCircuit
 off-keeps {w} {h} R = let B = switched-base R false in
-    let K = revoke-all byError (about h) (switched w false) (switchedTo h false) (revokePending RelayDisabled) RelayDisabled
-    isPending (λ x. true) everyOpen (λ x. sym (and-true (x .used))) (λ x k A. refl)
+    let K = revoke-all byError (about h) (switched w false) (switchedTo h false) (revokePending RelayDisabled)
+    RelayDisabled isPending (λ x. true) everyOpen
+    (λ x. sym (and-true (x .used)))
+    (λ x k A. refl)
     isCircuit (λ x. true) everyCircuit (λ x. sym (and-true (x .used))) (λ x k A. refl)
-    (λ i s a. refl) (revoking everyOpen RelayDisabled) (labelled everyOpen everyCircuit (switchedTo h false) (R .base .names)) (record { full = B .full; rest = rest-same (switched w false) }) in
-    record {
-      base = shrink-base B _ _ _ K (λ i. less (h .active) (λ j. not true) i) (λ i. less (h .opens .standing) (λ j. not true) i);
+    (λ i s a. refl) (revoking everyOpen RelayDisabled)
+    (labelled everyOpen everyCircuit (switchedTo h false) (R .base .names))
+    (record { full = B .full; rest = rest-same (switched w false) }) in record {
+      base =
+          shrink-base B _ _ _ K
+          (λ i. less (h .active) (λ j. not true) i)
+          (λ i. less (h .opens .standing) (λ j. not true) i);
       quiet = λ e j. and-false (h .active j);
       quietP = λ e j. and-false (h .opens .standing j);
     }
@@ -114,23 +130,38 @@ beq-false false e = refl
 switch-keeps : {w : World} {h : Past} → Rel w h → (on : Bool) → Bool·beq (h .head .enabled) on ≡ false
     → let o = switchTo w on in Rel (o .world) (enableIn on (o .routes) h) × (o .answer ≡ Taken)
 unfolding switchTo revokeAll
-switch-keeps {w} {h} R true e = (subst (λ b. Rel (switched w true) (cond b h (switchedTo h true))) (sym e) (on-keeps R (beq-false (h .head .enabled) e)), refl)
+switch-keeps {w} {h} R true e = (
+  subst (λ b. Rel (switched w true) (cond b h (switchedTo h true))) (sym e)
+      (on-keeps R (beq-false (h .head .enabled) e)),
+  refl,
+)
 switch-keeps {w} {h} R false e = (
-  subst (λ b. Rel (switchTo w false .world) (cond b h (revoked (switchedTo h false) everyOpen everyCircuit (map (heard (about h))
-      (switchTo w false .routes))))) (sym e) (off-keeps R),
+  subst (λ b. Rel (switchTo w false .world)
+      (cond b h
+      (revoked (switchedTo h false) everyOpen everyCircuit (map (heard (about h)) (switchTo w false .routes))))) (sym e)
+      (off-keeps R),
   refl,
 )
 
 pub replace-keeps : {w : World} {h : Past} → Rel w h → (expected : ℕ) (on : Bool) (room : ℕ)
-    → let o = replaceEnabled w expected on room in Rel (o .world) (after h (callReplaceEnabled expected on room) (o .answer) (o .routes))
+    → let o = replaceEnabled w expected on room in
+    Rel (o .world) (after h (callReplaceEnabled expected on room) (o .answer) (o .routes))
 unfolding replaceEnabled
-replace-keeps {w} {h} R expected on room = proceed-cases P w (roomAnswer w room (revokingWords w) then generationAnswer (generationOf w) expected then changeAnswer
-    (generationOf w) (changes w on)) (cond (changes w on) (switchTo w on) (done w []))
+replace-keeps {w} {h} R expected on room =
+    proceed-cases P w
+    (roomAnswer w room (revokingWords w)
+    then generationAnswer (generationOf w) expected
+    then changeAnswer (generationOf w) (changes w on)) (cond (changes w on) (switchTo w on) (done w []))
     (λ e. choose P (changes w on) (switchTo w on) (done w [])
-    (λ c. let s = switch-keeps R on (ap (λ b. Bool·beq b on) (sym (R .base .heads .enabled)) ∙ not-true (Bool·beq (w .runtime .enabled) on) c) in
-    subst (λ a. Rel (switchTo w on .world) (cond (taken a) (enableIn on (switchTo w on .routes) h) h)) (sym (s .1)) (s .0))
-    (λ c. subst (λ b. Rel w (cond b h (cond on (emit (switchedTo h on) (heard (λ r. r .context)) []) (revoked (switchedTo h on) everyOpen everyCircuit [])))) (sym (ap
-    (λ b. Bool·beq b on) (sym (R .base .heads .enabled)) ∙ beq-off (w .runtime .enabled) on c)) R))
+    (λ c. let s = switch-keeps R on
+    (ap (λ b. Bool·beq b on) (sym (R .base .heads .enabled)) ∙ not-true (Bool·beq (w .runtime .enabled) on) c) in
+    subst (λ a. Rel (switchTo w on .world) (cond (taken a) (enableIn on (switchTo w on .routes) h) h))
+    (sym (s .1)) (s .0))
+    (λ c. subst (λ b. Rel w
+    (cond b h
+    (cond on (emit (switchedTo h on) (heard (λ r. r .context)) [])
+    (revoked (switchedTo h on) everyOpen everyCircuit []))))
+    (sym (ap (λ b. Bool·beq b on) (sym (R .base .heads .enabled)) ∙ beq-off (w .runtime .enabled) on c)) R))
     (λ e f. if-taken (λ (g : Past). Rel w g) e _ h R)
   where
     P : Outcome → Type 0

@@ -15,12 +15,17 @@ use Rattle.hnsr_circuit.specs.Code.Told.{Made}
 use Rattle.lekchnam.specs.declared.relay.RelayReply.{RelayReply}
 use Rattle.lekchnam.specs.Replies.{replyOf, replied, numbered, MadeReply}
 
-pub in-numbers : {r : RelayReply} {d : Relayed} (p : List RelayPending) (c : List RelayCircuit) (l : List ReservationUsage) (i : List InflightAction) (out : List ℕ) {R : Result} → r ≡ replyOf d → handedSeen d p c l i out ≡ R → replied r p c l i out ≡ numbered R
+pub in-numbers : {r : RelayReply} {d : Relayed} (p : List RelayPending) (c : List RelayCircuit)
+    (l : List ReservationUsage) (i : List InflightAction) (out : List ℕ) {R : Result}
+    → r ≡ replyOf d → handedSeen d p c l i out ≡ R → replied r p c l i out ≡ numbered R
 in-numbers p c l i out e h = ap (λ (q : RelayReply). replied q p c l i out) e ∙ ap numbered h
 
-pub made-in-numbers : {r : RelayReply} {d : Relayed} (p : List RelayPending) (c : List RelayCircuit) (l : List ReservationUsage) (i : List InflightAction) (o : Outcome) → r ≡ replyOf d
-    → Made d (heldPending (d .places) p) (heldCircuits (d .places) c) (heldLedger (d .places) l) (heldActions (d .places) i) o
-    → MadeReply r (heldPending (r .places) p) (heldCircuits (r .places) c) (heldLedger (r .places) l) (heldActions (r .places) i) o
+pub made-in-numbers : {r : RelayReply} {d : Relayed} (p : List RelayPending) (c : List RelayCircuit)
+    (l : List ReservationUsage) (i : List InflightAction) (o : Outcome) → r ≡ replyOf d
+    → Made d (heldPending (d .places) p) (heldCircuits (d .places) c) (heldLedger (d .places) l)
+    (heldActions (d .places) i) o
+    → MadeReply r (heldPending (r .places) p) (heldCircuits (r .places) c) (heldLedger (r .places) l)
+    (heldActions (r .places) i) o
 made-in-numbers p c l i o e m = record {
   answer = ap (λ (q : RelayReply). q .answer) e ∙ ap number (m .answer);
   cause = ap (λ (q : RelayReply). q .cause) e ∙ ap causeOf (m .answer);

@@ -9,7 +9,11 @@ use Rattle.cases.proofs.machine.run_all.Proof.Tie as tie
 
 abbrev Inv-loop : tie.InvT-loop
 Inv-loop pending circuits ledger inflight out body case₀ pending′ circuits′ ledger′ inflight′ out′ body′ case =
-    (case ≤ 17) × (length pending′ ≡ length pending) × (length circuits′ ≡ length circuits) × (length ledger′ ≡ length ledger) × (length inflight′ ≡ length inflight)
+    (case ≤ 17)
+    × (length pending′ ≡ length pending)
+    × (length circuits′ ≡ length circuits)
+    × (length ledger′ ≡ length ledger)
+    × (length inflight′ ≡ length inflight)
     × (length out′ ≡ length out) × (length body′ ≡ length body)
 
 abbrev μ-loop : tie.MeasureT-loop
@@ -52,4 +56,6 @@ returns : tie.Need-returns Inv-loop μ-loop
 returns c = search needs
 
 pub run-all-spec : {M : Type 1} → statement M
-run-all-spec = tie.close (tie.spec Inv-loop μ-loop loop-holds one-case-requires add-case loop-less loop-again same-length same-length-2 same-length-3 same-length-4 same-length-5 same-length-6 returns)
+run-all-spec =
+    tie.close (tie.spec Inv-loop μ-loop loop-holds one-case-requires add-case loop-less loop-again same-length
+    same-length-2 same-length-3 same-length-4 same-length-5 same-length-6 returns)

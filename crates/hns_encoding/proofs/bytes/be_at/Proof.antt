@@ -14,7 +14,8 @@ use Rattle.hns_encoding.proofs.bytes.be_at.Tie as tie
 use Rattle.hns_encoding.proofs.bytes.be_at.Proof.At as at
 
 abbrev Inv-loop : tie.InvT-loop
-Inv-loop input at width n₀ i₀ n i = (i ≤ width) × (beFrom n (field input (at + i) (width - i)) ≡ be (field input at width)) × (n < 256 ^ i)
+Inv-loop input at width n₀ i₀ n i =
+    (i ≤ width) × (beFrom n (field input (at + i) (width - i)) ≡ be (field input at width)) × (n < 256 ^ i)
 
 abbrev μ-loop : tie.MeasureT-loop
 μ-loop input at width n₀ i₀ n i = width - i
@@ -22,8 +23,11 @@ abbrev μ-loop : tie.MeasureT-loop
 loop-holds : tie.Need-loop-holds Inv-loop μ-loop
 loop-holds c =
     let here = at.loop-holds Inv-loop μ-loop c in
-    let a = here .start .args in
-    (search needs, ap be (field-same (a .input .now) (a .at + 0) (a .at) (a .width - 0) (a .width) (omega arith) (omega arith)), lit< tt)
+    let a = here .start .args in (
+      search needs,
+      ap be (field-same (a .input .now) (a .at + 0) (a .at) (a .width - 0) (a .width) (omega arith) (omega arith)),
+      lit< tt,
+    )
 
 add-with-digit : tie.Need-add-with-digit Inv-loop μ-loop
 add-with-digit c = search needs
@@ -50,7 +54,8 @@ loop-again c =
     let d = here .with-digit in (
       search needs,
       ap (λ (m : ℕ). beFrom m (field (a .input .now) (a .at + (i + 1)) (a .width - (i + 1)))) (d .ensures .0)
-          ∙ sym (be-step (here .loop .n) (a .input .now) (a .at + i) (a .at + (i + 1)) (a .width - (i + 1)) (a .width - i) (omega arith) (omega arith) (omega arith))
+          ∙ sym (be-step (here .loop .n) (a .input .now) (a .at + i) (a .at + (i + 1)) (a .width - (i + 1))
+          (a .width - i) (omega arith) (omega arith) (omega arith))
           ∙ here .loop .inv .1,
       digit-below (here .loop .n) (d .result) i (here .loop .inv .2) (d .ensures .1),
     )
@@ -59,7 +64,8 @@ returns : tie.Need-returns Inv-loop μ-loop
 returns c =
     let here = at.returns Inv-loop μ-loop c in
     let a = here .start .args in (
-      sym (be-none (here .loop .n) (a .input .now) (a .at + here .loop .i) (a .width - here .loop .i) (omega arith)) ∙ here .loop .inv .1,
+      sym (be-none (here .loop .n) (a .input .now) (a .at + here .loop .i) (a .width - here .loop .i) (omega arith))
+          ∙ here .loop .inv .1,
       below-more-digits (here .loop .n) (here .loop .i) (a .width) (here .loop .inv .2) (omega arith),
     )
 

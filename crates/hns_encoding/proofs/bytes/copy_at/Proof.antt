@@ -13,7 +13,8 @@ use Rattle.hns_encoding.proofs.bytes.copy_at.Tie as tie
 use Rattle.hns_encoding.proofs.bytes.copy_at.Proof.At as at
 
 abbrev Inv-loop : tie.InvT-loop
-Inv-loop out₀ at from start count i₀ out i = (i ≤ count) × (length out ≡ length out₀) × (out ≡ paste out₀ at (field from start count) i)
+Inv-loop out₀ at from start count i₀ out i =
+    (i ≤ count) × (length out ≡ length out₀) × (out ≡ paste out₀ at (field from start count) i)
 
 abbrev μ-loop : tie.MeasureT-loop
 μ-loop out₀ at from start count i₀ out i = count - i

@@ -23,8 +23,11 @@ abbrev μ-loop : tie.MeasureT-loop
 loop-holds : tie.Need-loop-holds Inv-loop μ-loop
 loop-holds c =
     let here = at.loop-holds Inv-loop μ-loop c in
-    let a = here .start .args in
-    (search needs, le-none (a .input .now) (a .at + a .width) (a .width - a .width) (omega arith), one-le-pow (a .width - a .width) 256 (lit< tt))
+    let a = here .start .args in (
+      search needs,
+      le-none (a .input .now) (a .at + a .width) (a .width - a .width) (omega arith),
+      one-le-pow (a .width - a .width) 256 (lit< tt),
+    )
 
 sub-i : tie.Need-sub-i Inv-loop μ-loop
 sub-i c = search needs
@@ -50,15 +53,25 @@ loop-again c =
     let i = here .loop .i in
     let d = here .with-digit in (
       search needs,
-      omega (arith, d .ensures .0, le-step (a .input .now) (a .at + (i - 1)) (a .at + i) (a .width - i) (a .width - (i - 1)) (omega arith) (omega arith) (omega arith), here .loop .inv .1),
-      below-more-digits (d .result) (a .width - i + 1) (a .width - (i - 1)) (digit-below (here .loop .n) (d .result) (a .width - i) (here .loop .inv .2) (d .ensures .1)) (omega arith),
+      omega (
+        arith,
+        d .ensures .0,
+        le-step (a .input .now) (a .at + (i - 1)) (a .at + i) (a .width - i) (a .width - (i - 1)) (omega arith)
+            (omega arith) (omega arith),
+        here .loop .inv .1,
+      ),
+      below-more-digits (d .result) (a .width - i + 1) (a .width - (i - 1))
+          (digit-below (here .loop .n) (d .result) (a .width - i) (here .loop .inv .2) (d .ensures .1)) (omega arith),
     )
 
 returns : tie.Need-returns Inv-loop μ-loop
 returns c =
     let here = at.returns Inv-loop μ-loop c in
     let a = here .start .args in (
-      here .loop .inv .1 ∙ ap le (field-same (a .input .now) (a .at + here .loop .i) (a .at) (a .width - here .loop .i) (a .width) (omega arith) (omega arith)),
+      here .loop .inv .1
+          ∙ ap le
+          (field-same (a .input .now) (a .at + here .loop .i) (a .at) (a .width - here .loop .i) (a .width)
+          (omega arith) (omega arith)),
       below-more-digits (here .loop .n) (a .width - here .loop .i) (a .width) (here .loop .inv .2) (omega arith),
     )
 

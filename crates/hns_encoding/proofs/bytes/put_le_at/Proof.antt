@@ -15,7 +15,8 @@ use Rattle.hns_encoding.proofs.bytes.put_le_at.Tie as tie
 use Rattle.hns_encoding.proofs.bytes.put_le_at.Proof.At as at
 
 abbrev Inv-loop : tie.InvT-loop
-Inv-loop out₀ at width value rest₀ i₀ out rest i = (i ≤ width) × (length out ≡ length out₀) × (out ≡ paste out₀ at (leBytes width value) i) × (rest ≡ value / 256 ^ i)
+Inv-loop out₀ at width value rest₀ i₀ out rest i =
+    (i ≤ width) × (length out ≡ length out₀) × (out ≡ paste out₀ at (leBytes width value) i) × (rest ≡ value / 256 ^ i)
 
 abbrev μ-loop : tie.MeasureT-loop
 μ-loop out₀ at width value rest₀ i₀ out rest i = width - i
@@ -63,7 +64,8 @@ returns c =
     let here = at.returns Inv-loop μ-loop c in
     let a = here .start .args in
     here .loop .inv .2
-    ∙ write-done (a .out .now) (a .at) (leBytes (a .width) (a .value)) (here .loop .i) (omega (arith, leBytes-length (a .width) (a .value)))
+    ∙ write-done (a .out .now) (a .at) (leBytes (a .width) (a .value)) (here .loop .i)
+    (omega (arith, leBytes-length (a .width) (a .value)))
 
 pub put-le-at-spec : {M : Type 1} → statement M
 put-le-at-spec =

@@ -12,7 +12,8 @@ use Rattle.hns_encoding.proofs.room.fits.Proof.At as at
 returns : tie.Need-returns
 returns c =
     let here = at.returns c in
-    let a = here .start .args in leb-same (a .width) (a .size - a .position) (a .position + a .width) (a .size) (λ h. omega arith) (λ h. omega arith)
+    let a = here .start .args in
+    leb-same (a .width) (a .size - a .position) (a .position + a .width) (a .size) (λ h. omega arith) (λ h. omega arith)
 
 returns-2 : tie.Need-returns-2
 returns-2 c =

@@ -17,10 +17,14 @@ use Rattle.hns_encoding.proofs.words.copy_bytes_at.Proof.At as at
 
 -- there are as many bytes in the words
 enough : (words : List ℕ) (at n : ℕ) → at + wordCount n ≤ length words → length (take n (bytesOf (drop at words))) ≡ n
-enough words at n h = length-take-le n (bytesOf (drop at words)) (omega (arith, bytesOf-length (drop at words), length-drop at words))
+enough words at n h =
+    length-take-le n (bytesOf (drop at words)) (omega (arith, bytesOf-length (drop at words), length-drop at words))
 
 abbrev Inv-loop : tie.InvT-loop
-Inv-loop out₀ words at i₀ out i = (i ≤ length out₀) × (length out ≡ length out₀) × (out ≡ paste out₀ 0 (take (length out₀) (bytesOf (drop at words))) i)
+Inv-loop out₀ words at i₀ out i =
+    (i ≤ length out₀)
+    × (length out ≡ length out₀)
+    × (out ≡ paste out₀ 0 (take (length out₀) (bytesOf (drop at words))) i)
 
 abbrev μ-loop : tie.MeasureT-loop
 μ-loop out₀ words at i₀ out i = length out₀ - i
@@ -28,8 +32,11 @@ abbrev μ-loop : tie.MeasureT-loop
 loop-holds : tie.Need-loop-holds Inv-loop μ-loop
 loop-holds c =
     let here = at.loop-holds Inv-loop μ-loop c in
-    let a = here .start .args in
-    (search needs, refl, write-start (a .out .now) 0 (take (length (a .out .now)) (bytesOf (drop (a .at) (a .words .now)))))
+    let a = here .start .args in (
+      search needs,
+      refl,
+      write-start (a .out .now) 0 (take (length (a .out .now)) (bytesOf (drop (a .at) (a .words .now)))),
+    )
 
 add-get-word : tie.Need-add-get-word Inv-loop μ-loop
 add-get-word c = search needs
@@ -61,12 +68,11 @@ loop-again c =
       ap (λ (k : ℕ). set (here .loop .out) k (here .byte-of .result)) (sym (zero-add i))
           ∙ write-step (a .out .now) 0 (take n (bytesOf ws)) (here .loop .out) i (here .byte-of .result) (omega arith)
           (omega (arith, enough (a .words .now) (a .at) n (omega arith)))
-          (
-          here .byte-of .ensures
-          ∙ ap (λ (w : ℕ). w / 256 ^ (i % 4) % 256) (here .get-word .ensures ∙ sym (getD-drop (a .at) (a .words .now) (i / 4) 0))
+          (here .byte-of .ensures
+          ∙ ap (λ (w : ℕ). w / 256 ^ (i % 4) % 256)
+          (here .get-word .ensures ∙ sym (getD-drop (a .at) (a .words .now) (i / 4) 0))
           ∙ sym (bytesOf-at ws i (omega (arith, length-drop (a .at) (a .words .now))))
-          ∙ sym (getD-take n (bytesOf ws) i 0 (omega arith))
-          )
+          ∙ sym (getD-take n (bytesOf ws) i 0 (omega arith)))
           (here .loop .inv .2),
     )
 
@@ -80,7 +86,9 @@ returns c =
     let n = length (a .out .now) in
     let ys = take n (bytesOf (drop (a .at) (a .words .now))) in
     let e = enough (a .words .now) (a .at) n (omega arith) in
-    here .loop .inv .2 ∙ write-done (a .out .now) 0 ys (here .loop .i) (omega (arith, e)) ∙ written-whole (a .out .now) ys (sym e)
+    here .loop .inv .2
+    ∙ write-done (a .out .now) 0 ys (here .loop .i) (omega (arith, e))
+    ∙ written-whole (a .out .now) ys (sym e)
 
 pub copy-bytes-at-spec : {M : Type 1} → statement M
 copy-bytes-at-spec =

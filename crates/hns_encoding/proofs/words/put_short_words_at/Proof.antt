@@ -14,7 +14,8 @@ use Rattle.hns_encoding.proofs.words.put_short_words_at.Tie as tie
 use Rattle.hns_encoding.proofs.words.put_short_words_at.Proof.At as at
 
 abbrev Inv-loop : tie.InvT-loop
-Inv-loop out₀ at bytes count i₀ out i = (i ≤ count) × (length out ≡ length out₀) × (out ≡ paste out₀ at (wordsOf count bytes) i)
+Inv-loop out₀ at bytes count i₀ out i =
+    (i ≤ count) × (length out ≡ length out₀) × (out ≡ paste out₀ at (wordsOf count bytes) i)
 
 abbrev μ-loop : tie.MeasureT-loop
 μ-loop out₀ at bytes count i₀ out i = count - i
@@ -50,7 +51,9 @@ loop-again c =
     let i = here .loop .i in
     let ys = wordsOf (a .count) (a .bytes .now) in (
       search needs,
-      ap length (here .set-word .ensures) ∙ length-set (here .loop .out) (a .at + i) (here .word-at .result) ∙ here .loop .inv .1,
+      ap length (here .set-word .ensures)
+          ∙ length-set (here .loop .out) (a .at + i) (here .word-at .result)
+          ∙ here .loop .inv .1,
       here .set-word .ensures
           ∙ write-step (a .out .now) (a .at) ys (here .loop .out) i (here .word-at .result) (omega arith)
           (omega (arith, wordsOf-length (a .count) (a .bytes .now)))
@@ -65,7 +68,9 @@ returns : tie.Need-returns Inv-loop μ-loop
 returns c =
     let here = at.returns Inv-loop μ-loop c in
     let a = here .start .args in
-    here .loop .inv .2 ∙ write-done (a .out .now) (a .at) (wordsOf (a .count) (a .bytes .now)) (here .loop .i) (omega (arith, wordsOf-length (a .count) (a .bytes .now)))
+    here .loop .inv .2
+    ∙ write-done (a .out .now) (a .at) (wordsOf (a .count) (a .bytes .now)) (here .loop .i)
+    (omega (arith, wordsOf-length (a .count) (a .bytes .now)))
 
 pub put-short-words-at-spec : {M : Type 1} → statement M
 put-short-words-at-spec =

@@ -19,7 +19,8 @@ put-short-words-at-requires c κs =
     let a = here .start .args in
     let ys = wordsOf (here .min-usize .result) (a .bytes .now) in
     let n = wordsOf-length (here .min-usize .result) (a .bytes .now) in
-    omega (arith, ap length (here .put-full-words-at .ensures), written-length (a .out .now) (a .at) ys (omega (arith, n)))
+    omega
+    (arith, ap length (here .put-full-words-at .ensures), written-length (a .out .now) (a .at) ys (omega (arith, n)))
 
 returns : tie.Need-returns
 returns c =
@@ -31,10 +32,12 @@ returns c =
     let n = wordsOf-length full (a .bytes .now) in
     let all : full + (a .count - full) ≡ a .count = omega arith in
     here .put-short-words-at .ensures
-    ∙ ap (λ (r : List ℕ). writtenAt (here .put-full-words-at .last .0) (a .at + full) (wordsOf (a .count - full) r)) (field-rest (a .bytes .now) (4 * full))
+    ∙ ap (λ (r : List ℕ). writtenAt (here .put-full-words-at .last .0) (a .at + full) (wordsOf (a .count - full) r))
+    (field-rest (a .bytes .now) (4 * full))
     ∙ ap (λ (l : List ℕ). writtenAt l (a .at + full) zs) (here .put-full-words-at .ensures)
     ∙ written-behind (a .out .now) (a .at) ys zs (a .at + full) (omega (arith, n)) (omega (arith, n))
-    ∙ ap (λ (l : List ℕ). writtenAt (a .out .now) (a .at) l) (wordsOf-add full (a .count - full) (a .bytes .now) ∙ ap (λ (k : ℕ). wordsOf k (a .bytes .now)) all)
+    ∙ ap (λ (l : List ℕ). writtenAt (a .out .now) (a .at) l)
+    (wordsOf-add full (a .count - full) (a .bytes .now) ∙ ap (λ (k : ℕ). wordsOf k (a .bytes .now)) all)
 
 pub put-words-at-spec : {M : Type 1} → statement M
 put-words-at-spec =

@@ -21,7 +21,8 @@ returns c =
 returns-2 : tie.Need-returns-2
 returns-2 c =
     let here = at.returns-2 c in
-    ap (λ (k : ℕ). record { kind = 3; first = k; second = 0 }) (here .text-number .ensures) ∙ ap numbers (sym (here .error2 .given .1))
+    ap (λ (k : ℕ). record { kind = 3; first = k; second = 0 }) (here .text-number .ensures)
+    ∙ ap numbers (sym (here .error2 .given .1))
 
 returns-3 : tie.Need-returns-3
 returns-3 c =

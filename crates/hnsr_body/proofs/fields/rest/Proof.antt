@@ -15,7 +15,10 @@ returns c =
     let here = at.returns c in
     let input = here .start .args .input .now in
     let s = here .step .given in
-    here .read-slice .ensures ∙ ap (λ (n : ℕ). part n input (s .0 .0)) (here .remaining .ensures) ∙ part-rest input (s .0 .0) ∙ ap (left input) (sym (s .1))
+    here .read-slice .ensures
+    ∙ ap (λ (n : ℕ). part n input (s .0 .0)) (here .remaining .ensures)
+    ∙ part-rest input (s .0 .0)
+    ∙ ap (left input) (sym (s .1))
 
 returns-2 : tie.Need-returns-2
 unfolding left

@@ -20,7 +20,9 @@ returns-2 c =
     let here = at.returns-2 c in
     let input = here .start .args .input .now in
     let s = here .step2 .given in
-    sym (finish-ok input (s .0 .0) Ok (λ (e : DecodeError). Err (Decode e)) (sym (here .finish .ensures) ∙ here .enum-told .given .1) .1) ∙ ap (finished input) (sym (s .1))
+    sym (finish-ok input (s .0 .0) Ok (λ (e : DecodeError). Err (Decode e))
+    (sym (here .finish .ensures) ∙ here .enum-told .given .1) .1)
+    ∙ ap (finished input) (sym (s .1))
 
 returns-3 : tie.Need-returns-3
 returns-3 c =
@@ -28,7 +30,9 @@ returns-3 c =
     let input = here .start .args .input .now in
     let s = here .step2 .given in
     let e = here .end .given in
-    sym (finish-err input (s .0 .0) Ok (λ (e : DecodeError). Err (Decode e)) (e .0 .0) (sym (here .finish .ensures) ∙ e .1)) ∙ ap (finished input) (sym (s .1))
+    sym
+    (finish-err input (s .0 .0) Ok (λ (e : DecodeError). Err (Decode e)) (e .0 .0) (sym (here .finish .ensures) ∙ e .1))
+    ∙ ap (finished input) (sym (s .1))
 
 pub finish-spec : {M : Type 1} → statement M
 finish-spec =

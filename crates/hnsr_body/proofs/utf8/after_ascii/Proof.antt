@@ -1,4 +1,5 @@
--- `utf8::after_ascii` meets its contract. The invariant is the contract at the present place: one ASCII byte more is skipped each turn.
+-- `utf8::after_ascii` meets its contract. The invariant is the contract at the present place: one ASCII byte more is
+-- skipped each turn.
 
 mod At
 use Prim.Native.Nat.{_-_}

@@ -1,4 +1,5 @@
--- `utf8::is_second` meets its contract: at each of the four lead bytes the test is that byte's, and after any other it is the tail's.
+-- `utf8::is_second` meets its contract: at each of the four lead bytes the test is that byte's, and after any other it
+-- is the tail's.
 
 mod At
 use mathlib.Core.Path.{_∙_}

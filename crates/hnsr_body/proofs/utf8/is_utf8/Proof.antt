@@ -1,4 +1,5 @@
--- `utf8::is_utf8` meets its contract. The invariant: the whole text is UTF-8 just where what is left is; the measure is what is left.
+-- `utf8::is_utf8` meets its contract. The invariant: the whole text is UTF-8 just where what is left is; the measure is
+-- what is left.
 
 mod At
 use Prim.Native.Nat.{_-_, _+_}

@@ -25,7 +25,8 @@ shared-slice-read-if1 c = search needs
 returns : tie.Need-returns Inv-loop μ-loop
 returns c =
     let here = at.returns Inv-loop μ-loop c in
-    zero-not (here .start .args .value .now) (here .loop .i) (here .loop-test .taken) (here .if1 .taken) ∙ here .loop .inv .1
+    zero-not (here .start .args .value .now) (here .loop .i) (here .loop-test .taken) (here .if1 .taken)
+    ∙ here .loop .inv .1
 
 add-i : tie.Need-add-i Inv-loop μ-loop
 add-i c = search needs
@@ -35,8 +36,11 @@ loop-less c = search needs
 
 loop-again : tie.Need-loop-again Inv-loop μ-loop
 loop-again c =
-    let here = at.loop-again Inv-loop μ-loop c in
-    (search needs, zero-step (here .start .args .value .now) (here .loop .i) (here .loop-test .taken) (here .if1 .left) ∙ here .loop .inv .1)
+    let here = at.loop-again Inv-loop μ-loop c in (
+      search needs,
+      zero-step (here .start .args .value .now) (here .loop .i) (here .loop-test .taken) (here .if1 .left)
+          ∙ here .loop .inv .1,
+    )
 
 returns-2 : tie.Need-returns-2 Inv-loop μ-loop
 returns-2 c =

@@ -122,4 +122,7 @@ returns-23 c =
     here .no-cause .ensures ∙ ap errorCause (sym (here .enum-told22 .given .1))
 
 pub error-cause-spec : {M : Type 1} → statement M
-error-cause-spec = tie.close (at.spec returns returns-2 returns-3 returns-4 returns-5 returns-6 returns-7 returns-8 returns-9 returns-10 returns-11 returns-12 returns-13 returns-14 returns-15 returns-16 returns-17 returns-18 returns-19 returns-20 returns-21 returns-22 returns-23)
+error-cause-spec =
+    tie.close (at.spec returns returns-2 returns-3 returns-4 returns-5 returns-6 returns-7 returns-8 returns-9
+    returns-10 returns-11 returns-12 returns-13 returns-14 returns-15 returns-16 returns-17 returns-18 returns-19
+    returns-20 returns-21 returns-22 returns-23)

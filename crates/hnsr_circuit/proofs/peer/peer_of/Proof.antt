@@ -14,7 +14,11 @@ use Rattle.hnsr_circuit.proofs.peer.peer_of.Tie as tie
 use Rattle.hnsr_circuit.proofs.peer.peer_of.Proof.At as at
 
 abbrev Inv-loop : tie.InvT-loop
-Inv-loop name bytes₀ most i₀ bytes i = (i ≤ most) × (most ≡ min (length name) maximumPeer) × (length bytes ≡ maximumPeer) × (bytes ≡ paste (replicate maximumPeer 0) 0 (take maximumPeer name) i)
+Inv-loop name bytes₀ most i₀ bytes i =
+    (i ≤ most)
+    × (most ≡ min (length name) maximumPeer)
+    × (length bytes ≡ maximumPeer)
+    × (bytes ≡ paste (replicate maximumPeer 0) 0 (take maximumPeer name) i)
 
 abbrev μ-loop : tie.MeasureT-loop
 μ-loop name bytes₀ most i₀ bytes i = most - i
@@ -24,8 +28,12 @@ min-usize-requires c κs = search needs
 
 loop-holds : tie.Need-loop-holds Inv-loop μ-loop
 loop-holds c =
-    let here = at.loop-holds Inv-loop μ-loop c in
-    (search needs, here .min-usize .ensures, refl, write-start (replicate maximumPeer 0) 0 (take maximumPeer (here .start .args .name .now)))
+    let here = at.loop-holds Inv-loop μ-loop c in (
+      search needs,
+      here .min-usize .ensures,
+      refl,
+      write-start (replicate maximumPeer 0) 0 (take maximumPeer (here .start .args .name .now)),
+    )
 
 shared-slice-read-bytes : tie.Need-shared-slice-read-bytes Inv-loop μ-loop
 shared-slice-read-bytes c = search needs
@@ -50,7 +58,9 @@ loop-again c =
       search needs,
       here .loop .inv .1,
       length-set (here .loop .bytes) i v ∙ here .loop .inv .2,
-      rw (zero-add i) at (write-step (replicate maximumPeer 0) 0 ys (here .loop .bytes) i v (omega arith) (omega arith) (sym (getD-take maximumPeer (a .name .now) i 0 (omega arith))) (here .loop .inv .3)),
+      rw (zero-add i) at
+          (write-step (replicate maximumPeer 0) 0 ys (here .loop .bytes) i v (omega arith) (omega arith)
+          (sym (getD-take maximumPeer (a .name .now) i 0 (omega arith))) (here .loop .inv .3)),
     )
 
 returns : tie.Need-returns Inv-loop μ-loop
@@ -60,7 +70,9 @@ returns c =
     let a = here .start .args in
     let ys = take maximumPeer (a .name .now) in
     let k : length ys ≡ min maximumPeer (length (a .name .now)) = length-take maximumPeer (a .name .now) in
-    let e = here .loop .inv .3 ∙ write-done (replicate maximumPeer 0) 0 ys (here .loop .i) (omega arith) ∙ written-zeros maximumPeer ys in
+    let e = here .loop .inv .3
+    ∙ write-done (replicate maximumPeer 0) 0 ys (here .loop .i) (omega arith)
+    ∙ written-zeros maximumPeer ys in
     λ j. record { len = length (a .name .now); bytes = e j }
 
 pub peer-of-spec : {M : Type 1} → statement M

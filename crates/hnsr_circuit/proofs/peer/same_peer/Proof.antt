@@ -13,7 +13,11 @@ use Rattle.hnsr_circuit.proofs.peer.same_peer.Tie as tie
 use Rattle.hnsr_circuit.proofs.peer.same_peer.Proof.At as at
 
 abbrev Inv-loop : tie.InvT-loop
-Inv-loop a b n i₀ i = (i ≤ n) × (n ≡ peerLength a) × (n ≡ peerLength b) × (sameBytes (drop i (peerBytes a)) (drop i (peerBytes b)) ≡ samePeer a b)
+Inv-loop a b n i₀ i =
+    (i ≤ n)
+    × (n ≡ peerLength a)
+    × (n ≡ peerLength b)
+    × (sameBytes (drop i (peerBytes a)) (drop i (peerBytes b)) ≡ samePeer a b)
 
 abbrev μ-loop : tie.MeasureT-loop
 μ-loop a b n i₀ i = n - i
@@ -28,7 +32,9 @@ returns : tie.Need-returns Inv-loop μ-loop
 returns c =
     let here = at.returns Inv-loop μ-loop c in
     let b = here .start in
-    lengths-differ (b .args .t1) (b .args .t2) (whole (b .args .t1) (b .good .0 .1 .1 .1 .0 .1 .0 .1)) (whole (b .args .t2) (b .good .1 .0 .1 .1 .1 .0 .1 .0 .1)) (λ e. here .if1 .taken (here .peer-length .ensures ∙ e ∙ sym (here .peer-length2 .ensures)))
+    lengths-differ (b .args .t1) (b .args .t2) (whole (b .args .t1) (b .good .0 .1 .1 .1 .0 .1 .0 .1))
+    (whole (b .args .t2) (b .good .1 .0 .1 .1 .1 .0 .1 .0 .1))
+    (λ e. here .if1 .taken (here .peer-length .ensures ∙ e ∙ sym (here .peer-length2 .ensures)))
 
 loop-holds : tie.Need-loop-holds Inv-loop μ-loop
 unfolding samePeer
@@ -46,7 +52,10 @@ returns-2 : tie.Need-returns-2 Inv-loop μ-loop
 returns-2 c =
     let here = at.returns-2 Inv-loop μ-loop c in
     let b = here .start in
-    names-differ (b .args .t1) (b .args .t2) (whole (b .args .t1) (b .good .0 .1 .1 .1 .0 .1 .0 .1)) (whole (b .args .t2) (b .good .1 .0 .1 .1 .1 .0 .1 .0 .1)) (here .peer-length .result) (here .loop .i) (samePeer (b .args .t1) (b .args .t2)) (here .loop .inv .1) (here .loop .inv .2) (here .loop .inv .3) (omega arith) (ne-eqb _ _ (here .if2 .taken))
+    names-differ (b .args .t1) (b .args .t2) (whole (b .args .t1) (b .good .0 .1 .1 .1 .0 .1 .0 .1))
+    (whole (b .args .t2) (b .good .1 .0 .1 .1 .1 .0 .1 .0 .1)) (here .peer-length .result) (here .loop .i)
+    (samePeer (b .args .t1) (b .args .t2)) (here .loop .inv .1) (here .loop .inv .2) (here .loop .inv .3) (omega arith)
+    (ne-eqb _ _ (here .if2 .taken))
 
 add-i : tie.Need-add-i Inv-loop μ-loop
 add-i c = search needs
@@ -61,14 +70,19 @@ loop-again c =
       search needs,
       here .loop .inv .1,
       here .loop .inv .2,
-      names-agree (b .args .t1) (b .args .t2) (whole (b .args .t1) (b .good .0 .1 .1 .1 .0 .1 .0 .1)) (whole (b .args .t2) (b .good .1 .0 .1 .1 .1 .0 .1 .0 .1)) (here .peer-length .result) (here .loop .i) (samePeer (b .args .t1) (b .args .t2)) (here .loop .inv .1) (here .loop .inv .2) (here .loop .inv .3) (omega arith) (eq-eqb _ _ (here .if2 .left)),
+      names-agree (b .args .t1) (b .args .t2) (whole (b .args .t1) (b .good .0 .1 .1 .1 .0 .1 .0 .1))
+          (whole (b .args .t2) (b .good .1 .0 .1 .1 .1 .0 .1 .0 .1)) (here .peer-length .result) (here .loop .i)
+          (samePeer (b .args .t1) (b .args .t2)) (here .loop .inv .1) (here .loop .inv .2) (here .loop .inv .3)
+          (omega arith) (eq-eqb _ _ (here .if2 .left)),
     )
 
 returns-3 : tie.Need-returns-3 Inv-loop μ-loop
 returns-3 c =
     let here = at.returns-3 Inv-loop μ-loop c in
     let b = here .start in
-    names-end (b .args .t1) (b .args .t2) (whole (b .args .t1) (b .good .0 .1 .1 .1 .0 .1 .0 .1)) (whole (b .args .t2) (b .good .1 .0 .1 .1 .1 .0 .1 .0 .1)) (here .peer-length .result) (here .loop .i) (samePeer (b .args .t1) (b .args .t2)) (here .loop .inv .1) (here .loop .inv .2) (here .loop .inv .3) (omega arith)
+    names-end (b .args .t1) (b .args .t2) (whole (b .args .t1) (b .good .0 .1 .1 .1 .0 .1 .0 .1))
+    (whole (b .args .t2) (b .good .1 .0 .1 .1 .1 .0 .1 .0 .1)) (here .peer-length .result) (here .loop .i)
+    (samePeer (b .args .t1) (b .args .t2)) (here .loop .inv .1) (here .loop .inv .2) (here .loop .inv .3) (omega arith)
 
 pub same-peer-spec : {M : Type 1} → statement M
 same-peer-spec =

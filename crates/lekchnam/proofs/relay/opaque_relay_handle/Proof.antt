@@ -10,7 +10,8 @@ returns : tie.Need-returns
 returns c =
     let here = at.returns c in
     let d = here .handle in
-    in-numbers (d .last .0) (d .last .1 .0) (d .last .1 .1 .0) (d .last .1 .1 .1 .0) (d .last .1 .1 .1 .1 .0) (here .reply .ensures) (d .ensures)
+    in-numbers (d .last .0) (d .last .1 .0) (d .last .1 .1 .0) (d .last .1 .1 .1 .0) (d .last .1 .1 .1 .1 .0)
+    (here .reply .ensures) (d .ensures)
 
 pub opaque-relay-handle-spec : {M : Type 1} → statement M
 opaque-relay-handle-spec = tie.close (at.spec returns)

@@ -9,7 +9,9 @@ use Rattle.lekchnam.proofs.relay.opaque_relay_new.Proof.At as at
 returns : tie.Need-returns
 returns c h =
     let here = at.returns c in
-    let a = here .start .args in made-in-numbers (a .pending .now) (a .circuits .now) (a .ledger .now) (a .inflight .now) _ (here .reply .ensures) (here .new .ensures h)
+    let a = here .start .args in
+    made-in-numbers (a .pending .now) (a .circuits .now) (a .ledger .now) (a .inflight .now) _ (here .reply .ensures)
+    (here .new .ensures h)
 
 pub opaque-relay-new-spec : {M : Type 1} → statement M
 opaque-relay-new-spec = tie.close (at.spec returns)

@@ -10,7 +10,8 @@ returns : tie.Need-returns
 returns c l =
     let here = at.returns c in
     let d = here .replace-enabled in
-    in-numbers (d .last .0) (d .last .1 .0) l (d .last .1 .1 .0) (d .last .1 .1 .1 .0) (here .reply .ensures) (d .ensures l)
+    in-numbers (d .last .0) (d .last .1 .0) l (d .last .1 .1 .0) (d .last .1 .1 .1 .0) (here .reply .ensures)
+    (d .ensures l)
 
 pub opaque-relay-replace-enabled-spec : {M : Type 1} → statement M
 opaque-relay-replace-enabled-spec = tie.close (at.spec returns)

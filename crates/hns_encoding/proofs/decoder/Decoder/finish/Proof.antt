@@ -18,14 +18,19 @@ returns-2 : tie.Need-returns-2
 returns-2 c =
     let here = at.returns-2 c in
     let a = here .start .args in
-    simp (ne-eqb (a .self .position) (length (a .input .now)) (here .if1 .left), lt-ltb (a .self .position) (length (a .input .now)) (here .if2 .taken))
+    simp (
+      ne-eqb (a .self .position) (length (a .input .now)) (here .if1 .left),
+      lt-ltb (a .self .position) (length (a .input .now)) (here .if2 .taken),
+    )
 
 returns-3 : tie.Need-returns-3
 returns-3 c =
     let here = at.returns-3 c in
     let a = here .start .args in
-    simp (ne-eqb (a .self .position) (length (a .input .now)) (here .if1 .left), le-ltb (a .self .position) (length (a .input .now)) (here .if2 .left))
-    (ap Err (here .unexpected-end .ensures))
+    simp (
+      ne-eqb (a .self .position) (length (a .input .now)) (here .if1 .left),
+      le-ltb (a .self .position) (length (a .input .now)) (here .if2 .left),
+    ) (ap Err (here .unexpected-end .ensures))
 
 pub finish-spec : {M : Type 1} → statement M
 finish-spec = tie.close (at.spec returns returns-2 returns-3)

@@ -13,20 +13,28 @@ use Rattle.hns_encoding.proofs.decoder.Decoder.read_slice.Proof.At as a
 add-result : tie.Need-add-result
 add-result c =
     let here = at.add-result c in
-    let a = here .start .args in
-    record { fits = omega (arith, there (length (a .input .now)) (a .self .position) (a .width) (here .fits2 .result) (here .fits2 .ensures) (here .if1 .taken)) }
+    let a = here .start .args in record {
+      fits =
+          omega (
+            arith,
+            there (length (a .input .now)) (a .self .position) (a .width) (here .fits2 .result) (here .fits2 .ensures)
+                (here .if1 .taken),
+          );
+    }
 
 part-result-end : tie.Need-part-result-end
 part-result-end c =
     let here = at.part-result-end c in
     let a = here .start .args in
-    there (length (a .input .now)) (a .self .position) (a .width) (here .fits2 .result) (here .fits2 .ensures) (here .if1 .taken)
+    there (length (a .input .now)) (a .self .position) (a .width) (here .fits2 .result) (here .fits2 .ensures)
+    (here .if1 .taken)
 
 returns : tie.Need-returns
 returns c =
     let here = at.returns c in
     let a = here .start .args in
-    ap (λ (k : ℕ). take k (drop (a .self .position) (a .input .now))) (add-sub-cancel-left (a .self .position) (a .width))
+    ap (λ (k : ℕ). take k (drop (a .self .position) (a .input .now)))
+    (add-sub-cancel-left (a .self .position) (a .width))
     ∙ part-ok (a .width) (a .input .now) (a .self) (here .fits2 .result) (here .fits2 .ensures) (here .if1 .taken)
 
 returns-2 : tie.Need-returns-2

@@ -18,27 +18,39 @@ use Rattle.hns_encoding.proofs.decoder.Decoder.read_u64_le.Proof.At as 
 le-at-requires : tie.Need-le-at-requires
 le-at-requires c κs =
     let here = at.le-at-requires c in
-    let a = here .start .args in
-    (there (length (a .input .now)) (a .self .position) 8 (here .fits2 .result) (here .fits2 .ensures) (here .if1 .taken), lit≤ tt)
+    let a = here .start .args in (
+      there (length (a .input .now)) (a .self .position) 8 (here .fits2 .result) (here .fits2 .ensures)
+          (here .if1 .taken),
+      lit≤ tt,
+    )
 
 add-t8 : tie.Need-add-t8
 add-t8 c =
     let here = at.add-t8 c in
-    let a = here .start .args in
-    record { fits = omega (arith, there (length (a .input .now)) (a .self .position) 8 (here .fits2 .result) (here .fits2 .ensures) (here .if1 .taken)) }
+    let a = here .start .args in record {
+      fits =
+          omega (
+            arith,
+            there (length (a .input .now)) (a .self .position) 8 (here .fits2 .result) (here .fits2 .ensures)
+                (here .if1 .taken),
+          );
+    }
 
 returns : tie.Need-returns
 returns c =
     let here = at.returns c in
     let a = here .start .args in
     ap (λ (n : ℕ). Ok n (behind 8 (a .self))) (here .le-at .ensures .0)
-    ∙ read-ok (λ (bytes : List ℕ) (next : Decoder). Ok (le bytes) next) Err 8 (a .input .now) (a .self) (here .fits2 .result) (here .fits2 .ensures) (here .if1 .taken)
+    ∙ read-ok (λ (bytes : List ℕ) (next : Decoder). Ok (le bytes) next) Err 8 (a .input .now) (a .self)
+    (here .fits2 .result) (here .fits2 .ensures) (here .if1 .taken)
 
 returns-2 : tie.Need-returns-2
 returns-2 c =
     let here = at.returns-2 c in
     let a = here .start .args in
-    read-err (λ (bytes : List ℕ) (next : Decoder). Ok (le bytes) next) Err 8 (a .input .now) (a .self) (here .fits2 .result) (here .fits2 .ensures) (here .unexpected-end .result) (here .if1 .left) (here .unexpected-end .ensures)
+    read-err (λ (bytes : List ℕ) (next : Decoder). Ok (le bytes) next) Err 8 (a .input .now) (a .self)
+    (here .fits2 .result) (here .fits2 .ensures) (here .unexpected-end .result) (here .if1 .left)
+    (here .unexpected-end .ensures)
 
 pub read-u64-le-spec : {M : Type 1} → statement M
 read-u64-le-spec =

@@ -20,13 +20,23 @@ get-word-requires : tie.Need-get-word-requires
 get-word-requires c κs =
     let here = at.get-word-requires c in
     let a = here .start .args in
-    omega (arith, there (length (a .input .now)) (a .self .position) 1 (here .fits2 .result) (here .fits2 .ensures) (here .if1 .taken))
+    omega (
+      arith,
+      there (length (a .input .now)) (a .self .position) 1 (here .fits2 .result) (here .fits2 .ensures)
+          (here .if1 .taken),
+    )
 
 add-t8 : tie.Need-add-t8
 add-t8 c =
     let here = at.add-t8 c in
-    let a = here .start .args in
-    record { fits = omega (arith, there (length (a .input .now)) (a .self .position) 1 (here .fits2 .result) (here .fits2 .ensures) (here .if1 .taken)) }
+    let a = here .start .args in record {
+      fits =
+          omega (
+            arith,
+            there (length (a .input .now)) (a .self .position) 1 (here .fits2 .result) (here .fits2 .ensures)
+                (here .if1 .taken),
+          );
+    }
 
 returns : tie.Need-returns
 returns c =
@@ -34,14 +44,19 @@ returns c =
     let a = here .start .args in
     let at = a .self .position in
     ap (λ (n : ℕ). Ok n (behind 1 (a .self)))
-    (here .get-word .ensures ∙ ap (λ (k : ℕ). getD (a .input .now) k 0) (sym (add-zero at)) ∙ sym (field-at (a .input .now) at 1 0 (lit< tt)))
-    ∙ read-ok (λ (ws : List ℕ) (next : Decoder). Ok (getD ws 0 0) next) Err 1 (a .input .now) (a .self) (here .fits2 .result) (here .fits2 .ensures) (here .if1 .taken)
+    (here .get-word .ensures
+    ∙ ap (λ (k : ℕ). getD (a .input .now) k 0) (sym (add-zero at))
+    ∙ sym (field-at (a .input .now) at 1 0 (lit< tt)))
+    ∙ read-ok (λ (ws : List ℕ) (next : Decoder). Ok (getD ws 0 0) next) Err 1 (a .input .now) (a .self)
+    (here .fits2 .result) (here .fits2 .ensures) (here .if1 .taken)
 
 returns-2 : tie.Need-returns-2
 returns-2 c =
     let here = at.returns-2 c in
     let a = here .start .args in
-    read-err (λ (ws : List ℕ) (next : Decoder). Ok (getD ws 0 0) next) Err 1 (a .input .now) (a .self) (here .fits2 .result) (here .fits2 .ensures) (here .unexpected-end .result) (here .if1 .left) (here .unexpected-end .ensures)
+    read-err (λ (ws : List ℕ) (next : Decoder). Ok (getD ws 0 0) next) Err 1 (a .input .now) (a .self)
+    (here .fits2 .result) (here .fits2 .ensures) (here .unexpected-end .result) (here .if1 .left)
+    (here .unexpected-end .ensures)
 
 pub read-word-spec : {M : Type 1} → statement M
 read-word-spec =

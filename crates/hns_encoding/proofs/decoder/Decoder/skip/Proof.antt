@@ -14,20 +14,29 @@ use Rattle.hns_encoding.proofs.decoder.Decoder.skip.Proof.At as at
 add-t8 : tie.Need-add-t8
 add-t8 c =
     let here = at.add-t8 c in
-    let a = here .start .args in
-    record { fits = omega (arith, there (length (a .input .now)) (a .self .position) (a .width) (here .fits2 .result) (here .fits2 .ensures) (here .if1 .taken)) }
+    let a = here .start .args in record {
+      fits =
+          omega (
+            arith,
+            there (length (a .input .now)) (a .self .position) (a .width) (here .fits2 .result) (here .fits2 .ensures)
+                (here .if1 .taken),
+          );
+    }
 
 returns : tie.Need-returns
 returns c =
     let here = at.returns c in
     let a = here .start .args in
-    read-ok (λ (bytes : List ℕ) (next : Decoder). Ok next) Err (a .width) (a .input .now) (a .self) (here .fits2 .result) (here .fits2 .ensures) (here .if1 .taken)
+    read-ok (λ (bytes : List ℕ) (next : Decoder). Ok next) Err (a .width) (a .input .now) (a .self)
+    (here .fits2 .result) (here .fits2 .ensures) (here .if1 .taken)
 
 returns-2 : tie.Need-returns-2
 returns-2 c =
     let here = at.returns-2 c in
     let a = here .start .args in
-    read-err (λ (bytes : List ℕ) (next : Decoder). Ok next) Err (a .width) (a .input .now) (a .self) (here .fits2 .result) (here .fits2 .ensures) (here .unexpected-end .result) (here .if1 .left) (here .unexpected-end .ensures)
+    read-err (λ (bytes : List ℕ) (next : Decoder). Ok next) Err (a .width) (a .input .now) (a .self)
+    (here .fits2 .result) (here .fits2 .ensures) (here .unexpected-end .result) (here .if1 .left)
+    (here .unexpected-end .ensures)
 
 pub skip-spec : {M : Type 1} → statement M
 skip-spec = tie.close (at.spec add-t8 returns returns-2)

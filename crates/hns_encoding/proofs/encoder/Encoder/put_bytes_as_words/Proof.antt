@@ -13,7 +13,8 @@ returns c =
     let here = at.returns c in
     let p = here .put-padded-as-words in
     let a = here .start .args in
-    subst (λ (n : ℕ). Puts (p .result) (a .out .now) (p .last .1 .0) (a .self .position) (wordsOf n (a .bytes .now))) (here .word-count .ensures) (p .ensures)
+    subst (λ (n : ℕ). Puts (p .result) (a .out .now) (p .last .1 .0) (a .self .position) (wordsOf n (a .bytes .now)))
+    (here .word-count .ensures) (p .ensures)
 
 pub put-bytes-as-words-spec : {M : Type 1} → statement M
 put-bytes-as-words-spec =

@@ -13,7 +13,8 @@ returns c =
     let here = at.returns c in
     let p = here .put-bytes in
     let a = here .start .args in
-    subst (λ (ys : List ℕ). Puts (p .result) (a .out .now) (p .last .1 .0) (a .self .position) ys) (here .be-bytes .ensures) (p .ensures)
+    subst (λ (ys : List ℕ). Puts (p .result) (a .out .now) (p .last .1 .0) (a .self .position) ys)
+    (here .be-bytes .ensures) (p .ensures)
 
 pub put-u64-be-spec : {M : Type 1} → statement M
 put-u64-be-spec =

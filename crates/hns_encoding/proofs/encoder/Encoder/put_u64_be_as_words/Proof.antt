@@ -18,8 +18,10 @@ returns c =
     let a = here .start .args in
     let ys = beBytes 8 (a .value) in
     let two : Puts (p .result) (a .out .now) (p .last .1 .0) (a .self .position) (wordsOf 2 ys) =
-    subst (λ (bytes : List ℕ). Puts (p .result) (a .out .now) (p .last .1 .0) (a .self .position) (wordsOf 2 bytes)) (here .be-bytes .ensures) (p .ensures) in
-    subst (λ (n : ℕ). Puts (p .result) (a .out .now) (p .last .1 .0) (a .self .position) (wordsOf (wordCount n) ys)) (sym (beBytes-length 8 (a .value))) two
+    subst (λ (bytes : List ℕ). Puts (p .result) (a .out .now) (p .last .1 .0) (a .self .position) (wordsOf 2 bytes))
+    (here .be-bytes .ensures) (p .ensures) in
+    subst (λ (n : ℕ). Puts (p .result) (a .out .now) (p .last .1 .0) (a .self .position) (wordsOf (wordCount n) ys))
+    (sym (beBytes-length 8 (a .value))) two
 
 pub put-u64-be-as-words-spec : {M : Type 1} → statement M
 put-u64-be-as-words-spec =

@@ -24,8 +24,11 @@ returns c =
     let a = s .args in
     let n = s .pre in
     let l = long s in
-    let w1 = wrote-next (here .put-u32-at .last .0) (leBytes 4 (a .self .«accepted_window»)) 4 (wrote-none (a .out .now)) (leBytes-length 4 (a .self .«accepted_window»)) (omega arith) (here .put-u32-at .ensures) in
-    let w2 = wrote-next (here .put-bytes-at .last .0) (a .self .«endpoint_nonce») 16 w1 (l) (omega arith) (here .put-bytes-at .ensures) in
+    let w1 = wrote-next (here .put-u32-at .last .0) (leBytes 4 (a .self .«accepted_window»)) 4
+    (wrote-none (a .out .now)) (leBytes-length 4 (a .self .«accepted_window»)) (omega arith)
+    (here .put-u32-at .ensures) in
+    let w2 = wrote-next (here .put-bytes-at .last .0) (a .self .«endpoint_nonce») 16 w1 (l) (omega arith)
+    (here .put-bytes-at .ensures) in
     wrote-all w2 (omega arith)
 
 pub put-spec : {M : Type 1} → statement M

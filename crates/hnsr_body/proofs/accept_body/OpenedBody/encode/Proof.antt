@@ -13,7 +13,9 @@ unfolding encodeOpened
 returns c =
     let here = at.returns c in
     let result = here .answered .ensures in
-    let bytes = here .put .ensures ∙ sym (on-true _ (openedBytes (here .start .args .self)) (replicate 28 0) (sym (here .is-valid .ensures) ∙ here .if1 .taken)) in
+    let bytes = here .put .ensures
+    ∙ sym (on-true _ (openedBytes (here .start .args .self)) (replicate 28 0)
+    (sym (here .is-valid .ensures) ∙ here .if1 .taken)) in
     λ i. record { result = result i; bytes = bytes i }
 
 returns-2 : tie.Need-returns-2
@@ -21,7 +23,8 @@ unfolding encodeOpened
 returns-2 c =
     let here = at.returns-2 c in
     let result = here .answered .ensures in
-    let bytes = sym (on-false _ (openedBytes (here .start .args .self)) (replicate 28 0) (sym (here .is-valid .ensures) ∙ here .if1 .left)) in
+    let bytes = sym (on-false _ (openedBytes (here .start .args .self)) (replicate 28 0)
+    (sym (here .is-valid .ensures) ∙ here .if1 .left)) in
     λ i. record { result = result i; bytes = bytes i }
 
 pub encode-spec : {M : Type 1} → statement M

@@ -25,11 +25,15 @@ returns c =
     let a = s .args in
     let n = s .pre in
     let l = long s in
-    let w1 = wrote-next (here .put-u64-be-at .last .0) (beBytes 8 (a .self .«circuit_id»)) 8 (wrote-none (a .out .now)) (beBytes-length 8 (a .self .«circuit_id»)) (omega arith) (here .put-u64-be-at .ensures) in
-    let w2 = wrote-next (here .put-u32-at .last .0) (leBytes 4 (a .self .«accepted_window»)) 4 w1 (leBytes-length 4 (a .self .«accepted_window»)) (omega arith) (here .put-u32-at .ensures) in
-    let w3 = wrote-next (here .put-bytes-at .last .0) (a .self .«endpoint_nonce») 16 w2 (l) (omega arith) (here .put-bytes-at .ensures) in
+    let w1 = wrote-next (here .put-u64-be-at .last .0) (beBytes 8 (a .self .«circuit_id»)) 8 (wrote-none (a .out .now))
+    (beBytes-length 8 (a .self .«circuit_id»)) (omega arith) (here .put-u64-be-at .ensures) in
+    let w2 = wrote-next (here .put-u32-at .last .0) (leBytes 4 (a .self .«accepted_window»)) 4 w1
+    (leBytes-length 4 (a .self .«accepted_window»)) (omega arith) (here .put-u32-at .ensures) in
+    let w3 = wrote-next (here .put-bytes-at .last .0) (a .self .«endpoint_nonce») 16 w2 (l) (omega arith)
+    (here .put-bytes-at .ensures) in
     wrote-all w3 (omega arith)
-    ∙ append-assoc (beBytes 8 (a .self .«circuit_id»)) (leBytes 4 (a .self .«accepted_window»)) (a .self .«endpoint_nonce»)
+    ∙ append-assoc (beBytes 8 (a .self .«circuit_id»)) (leBytes 4 (a .self .«accepted_window»))
+    (a .self .«endpoint_nonce»)
 
 pub put-spec : {M : Type 1} → statement M
 put-spec =

@@ -17,7 +17,9 @@ unfolding encodeWindow
 returns c =
     let here = at.returns c in
     let result = here .answered .ensures ∙ ap (λ (v : Bool). answer Ok v WindowCredit) (here .is-valid .ensures) in
-    let bytes = here .put .ensures ∙ sym (on-true _ (windowBytes (here .start .args .self)) (replicate 4 0) (sym (here .is-valid .ensures) ∙ here .if1 .taken)) in
+    let bytes = here .put .ensures
+    ∙ sym (on-true _ (windowBytes (here .start .args .self)) (replicate 4 0)
+    (sym (here .is-valid .ensures) ∙ here .if1 .taken)) in
     λ i. record { result = result i; bytes = bytes i }
 
 returns-2 : tie.Need-returns-2
@@ -25,7 +27,8 @@ unfolding encodeWindow
 returns-2 c =
     let here = at.returns-2 c in
     let result = here .answered .ensures ∙ ap (λ (v : Bool). answer Ok v WindowCredit) (here .is-valid .ensures) in
-    let bytes = sym (on-false _ (windowBytes (here .start .args .self)) (replicate 4 0) (sym (here .is-valid .ensures) ∙ here .if1 .left)) in
+    let bytes = sym (on-false _ (windowBytes (here .start .args .self)) (replicate 4 0)
+    (sym (here .is-valid .ensures) ∙ here .if1 .left)) in
     λ i. record { result = result i; bytes = bytes i }
 
 pub encode-spec : {M : Type 1} → statement M

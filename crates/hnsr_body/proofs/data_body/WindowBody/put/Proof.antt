@@ -16,7 +16,8 @@ returns c =
     let s = here .start in
     let a = s .args in
     let n = s .pre in
-    let w1 = wrote-next (here .put-u32-at .last .0) (leBytes 4 (a .self .«credit_delta»)) 4 (wrote-none (a .out .now)) (leBytes-length 4 (a .self .«credit_delta»)) (omega arith) (here .put-u32-at .ensures) in
+    let w1 = wrote-next (here .put-u32-at .last .0) (leBytes 4 (a .self .«credit_delta»)) 4 (wrote-none (a .out .now))
+    (leBytes-length 4 (a .self .«credit_delta»)) (omega arith) (here .put-u32-at .ensures) in
     wrote-all w1 (omega arith)
 
 pub put-spec : {M : Type 1} → statement M

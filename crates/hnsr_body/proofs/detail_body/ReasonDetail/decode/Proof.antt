@@ -30,7 +30,10 @@ returns c =
     let fits = here .is-length .ensures ∙ ap₂ (λ (n k : ℕ). leb n mostDetail && eqb k n) n size in
     let sized = here .answered .ensures ∙ ap₂ (λ (l : Checked) (v : Bool). answer l v DiagnosticDetail) there fits in
     let good = here .is-utf8 .ensures ∙ ap utf8 text in
-    λ i. record { result = (here .answered2 .ensures ∙ ap₂ (λ (l : Checked) (v : Bool). answer l v NotUtf8) sized good) i; body = h .1 i }
+    λ i. record {
+      result = (here .answered2 .ensures ∙ ap₂ (λ (l : Checked) (v : Bool). answer l v NotUtf8) sized good) i;
+      body = h .1 i;
+    }
 
 pub decode-spec : {M : Type 1} → statement M
 decode-spec =

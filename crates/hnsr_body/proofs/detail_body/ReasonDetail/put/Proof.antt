@@ -22,13 +22,17 @@ returns c =
     let a = here .start .args in
     let p = here .start .pre in
     let n = length (a .detail .now) in
-    let w1 = wrote-next (here .put-u16-at .last .0) (leBytes 2 (a .reason)) 2 (wrote-none (a .out .now)) (leBytes-length 2 (a .reason)) (omega arith) (here .put-u16-at .ensures) in
-    let w2 = wrote-next (here .put-u8-at .last .0) (leBytes 1 n) 1 w1 (leBytes-length 1 n) (omega arith) (here .put-u8-at .ensures) in
-    let w3 = wrote-next (here .put-bytes-at .last .0) (a .detail .now) n w2 refl (omega arith) (here .put-bytes-at .ensures) in
+    let w1 = wrote-next (here .put-u16-at .last .0) (leBytes 2 (a .reason)) 2 (wrote-none (a .out .now))
+    (leBytes-length 2 (a .reason)) (omega arith) (here .put-u16-at .ensures) in
+    let w2 = wrote-next (here .put-u8-at .last .0) (leBytes 1 n) 1 w1 (leBytes-length 1 n) (omega arith)
+    (here .put-u8-at .ensures) in
+    let w3 =
+    wrote-next (here .put-bytes-at .last .0) (a .detail .now) n w2 refl (omega arith) (here .put-bytes-at .ensures) in
     let one : n % 256 ≡ n = omega arith in
     w3 .same
     ∙ ap (λ (l : List ℕ). writtenAt (a .out .now) 0 l)
-    (ap (λ (k : ℕ). leBytes 2 (a .reason) ++ (k ∷ []) ++ a .detail .now) one ∙ append-snoc (leBytes 2 (a .reason)) n (a .detail .now))
+    (ap (λ (k : ℕ). leBytes 2 (a .reason) ++ (k ∷ []) ++ a .detail .now) one
+    ∙ append-snoc (leBytes 2 (a .reason)) n (a .detail .now))
 
 pub put-spec : {M : Type 1} → statement M
 put-spec =

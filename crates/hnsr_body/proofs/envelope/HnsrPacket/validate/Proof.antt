@@ -34,7 +34,11 @@ returns-3 c =
     let s = here .saturating-add-usize in
     let n = packetSize (p .«body_length») in
     let e : s .result ≡ n = s .ensures in
-    rw (le-ltb mostPacket n (omega arith), eq-eqb (p .«context_id») 0 (here .if2 .left), eq-eqb (p .opcode) 6 (here .if3 .taken))
+    rw (
+      le-ltb mostPacket n (omega arith),
+      eq-eqb (p .«context_id») 0 (here .if2 .left),
+      eq-eqb (p .opcode) 6 (here .if3 .taken),
+    )
 
 returns-4 : tie.Need-returns-4
 unfolding packetChecked
@@ -44,7 +48,11 @@ returns-4 c =
     let s = here .saturating-add-usize in
     let n = packetSize (p .«body_length») in
     let e : s .result ≡ n = s .ensures in
-    rw (le-ltb mostPacket n (omega arith), eq-eqb (p .«context_id») 0 (here .if2 .left), ne-eqb (p .opcode) 6 (here .if3 .left))
+    rw (
+      le-ltb mostPacket n (omega arith),
+      eq-eqb (p .«context_id») 0 (here .if2 .left),
+      ne-eqb (p .opcode) 6 (here .if3 .left),
+    )
 
 pub validate-spec : {M : Type 1} → statement M
 validate-spec =

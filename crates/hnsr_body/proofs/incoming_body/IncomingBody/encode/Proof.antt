@@ -16,16 +16,21 @@ returns : tie.Need-returns
 unfolding encodeIncoming
 returns c =
     let here = at.returns c in
-    let result = here .answered .ensures ∙ ap (λ (v : Bool). answer Ok v IncomingParameters) (here .is-valid .ensures) in
-    let bytes = here .put .ensures ∙ sym (on-true _ (incomingBytes (here .start .args .self)) (replicate 62 0) (sym (here .is-valid .ensures) ∙ here .if1 .taken)) in
+    let result =
+    here .answered .ensures ∙ ap (λ (v : Bool). answer Ok v IncomingParameters) (here .is-valid .ensures) in
+    let bytes = here .put .ensures
+    ∙ sym (on-true _ (incomingBytes (here .start .args .self)) (replicate 62 0)
+    (sym (here .is-valid .ensures) ∙ here .if1 .taken)) in
     λ i. record { result = result i; bytes = bytes i }
 
 returns-2 : tie.Need-returns-2
 unfolding encodeIncoming
 returns-2 c =
     let here = at.returns-2 c in
-    let result = here .answered .ensures ∙ ap (λ (v : Bool). answer Ok v IncomingParameters) (here .is-valid .ensures) in
-    let bytes = sym (on-false _ (incomingBytes (here .start .args .self)) (replicate 62 0) (sym (here .is-valid .ensures) ∙ here .if1 .left)) in
+    let result =
+    here .answered .ensures ∙ ap (λ (v : Bool). answer Ok v IncomingParameters) (here .is-valid .ensures) in
+    let bytes = sym (on-false _ (incomingBytes (here .start .args .self)) (replicate 62 0)
+    (sym (here .is-valid .ensures) ∙ here .if1 .left)) in
     λ i. record { result = result i; bytes = bytes i }
 
 pub encode-spec : {M : Type 1} → statement M

@@ -13,7 +13,13 @@ returns c =
     let here = at.returns c in
     let input = here .start .args .input .now in (
       cc (through-walked input incomingWidths),
-      cc (through-field input incomingWidths 0, through-field input incomingWidths 1, through-field input incomingWidths 2, through-field input incomingWidths 3, through-field input incomingWidths 4),
+      cc (
+        through-field input incomingWidths 0,
+        through-field input incomingWidths 1,
+        through-field input incomingWidths 2,
+        through-field input incomingWidths 3,
+        through-field input incomingWidths 4,
+      ),
     )
 
 pub fields-spec : {M : Type 1} → statement M

@@ -21,10 +21,15 @@ returns c =
     let m = here .message .result in
     let e = here .message .ensures in
     let long : length (m .detail) ≡ 27 = ap (λ (x : Message). length (x .detail)) e ∙ row-length n in
-    let w1 = wrote-next (here .put-u16-at .last .0) (leBytes 2 (m .reason)) 2 (wrote-none (replicate 30 0)) (leBytes-length 2 (m .reason)) (omega arith) (here .put-u16-at .ensures) in
-    let w2 = wrote-next (here .put-u8-at .last .0) (leBytes 1 (m .length)) 1 w1 (leBytes-length 1 (m .length)) (omega arith) (here .put-u8-at .ensures) in
-    let w3 = wrote-next (here .put-bytes-at .last .0) (m .detail) 27 w2 long (omega arith) (here .put-bytes-at .ensures) in
-    let bytes = wrote-all w3 refl ∙ ap (λ (x : Message). leBytes 2 (x .reason) ++ leBytes 1 (x .length) ++ x .detail) e ∙ assembled-body n in
+    let w1 = wrote-next (here .put-u16-at .last .0) (leBytes 2 (m .reason)) 2 (wrote-none (replicate 30 0))
+    (leBytes-length 2 (m .reason)) (omega arith) (here .put-u16-at .ensures) in
+    let w2 = wrote-next (here .put-u8-at .last .0) (leBytes 1 (m .length)) 1 w1 (leBytes-length 1 (m .length))
+    (omega arith) (here .put-u8-at .ensures) in
+    let w3 =
+    wrote-next (here .put-bytes-at .last .0) (m .detail) 27 w2 long (omega arith) (here .put-bytes-at .ensures) in
+    let bytes = wrote-all w3 refl
+    ∙ ap (λ (x : Message). leBytes 2 (x .reason) ++ leBytes 1 (x .length) ++ x .detail) e
+    ∙ assembled-body n in
     let size = ap (λ (x : Message). 3 + x .length) e ∙ body-length n in
     λ i. record { length = size i; bytes = bytes i }
 

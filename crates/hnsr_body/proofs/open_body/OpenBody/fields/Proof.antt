@@ -29,11 +29,16 @@ returns c =
       λ i. record {
         «ticket_id» = (here .next-array-32 .ensures .1 ∙ ap (fetched 32 input) s0 ∙ through-field input openWidths 0) i;
         «reservation_id» =
-            (here .reservation-of .ensures ∙ ap (λ (bytes : List ℕ). reservationOf bytes) (here .next-array-16 .ensures .1 ∙ ap (fetched 16 input) s1 ∙ through-field input openWidths 1)) i;
-        «endpoint_key» = (here .next-array-33 .ensures .1 ∙ ap (fetched 33 input) s2 ∙ through-field input openWidths 2) i;
+            (here .reservation-of .ensures
+            ∙ ap (λ (bytes : List ℕ). reservationOf bytes)
+            (here .next-array-16 .ensures .1 ∙ ap (fetched 16 input) s1 ∙ through-field input openWidths 1)) i;
+        «endpoint_key» =
+            (here .next-array-33 .ensures .1 ∙ ap (fetched 33 input) s2 ∙ through-field input openWidths 2) i;
         profile = (here .next-u16 .ensures .1 ∙ ap le (ap (fetched 2 input) s3 ∙ through-field input openWidths 3)) i;
-        «requester_nonce» = (here .next-array-162 .ensures .1 ∙ ap (fetched 16 input) s4 ∙ through-field input openWidths 4) i;
-        «initial_window» = (here .next-u32 .ensures .1 ∙ ap le (ap (fetched 4 input) s5 ∙ through-field input openWidths 5)) i;
+        «requester_nonce» =
+            (here .next-array-162 .ensures .1 ∙ ap (fetched 16 input) s4 ∙ through-field input openWidths 4) i;
+        «initial_window» =
+            (here .next-u32 .ensures .1 ∙ ap le (ap (fetched 4 input) s5 ∙ through-field input openWidths 5)) i;
       },
     )
 

@@ -15,7 +15,8 @@ use Rattle.hnsr_circuit.specs.Table.{pick}
 use Rattle.hnsr_circuit.specs.Inflight.{noAction, actionAt}
 use Rattle.hnsr_circuit.specs.Entry.{acknowledgeWords, roomAnswer, tablesShort}
 use Rattle.hnsr_circuit.specs.Code.Progress.{ending}
-use Rattle.hnsr_circuit.specs.Acknowledge.{generationAnswer, actionAnswer, acknowledgeTaken, acknowledgeAction, acknowledge}
+use Rattle.hnsr_circuit.specs.Acknowledge.{generationAnswer, actionAnswer, acknowledgeTaken}
+use Rattle.hnsr_circuit.specs.Acknowledge.{acknowledgeAction, acknowledge}
 use Rattle.hnsr_circuit.specs.Call.{step, callAcknowledge}
 use Rattle.hnsr_circuit.specs.Laws.Calls.{turned-away, gone-on, whole}
 use borrow.Author.Needs.{needs}
@@ -37,15 +38,26 @@ returns c =
     let s = here .start in
     let a = s .args in
     let l = heldLedger (a .places) l₀ in
-    let w = worldOf (a .runtime) (heldPending (a .places) (a .pending .now)) (heldCircuits (a .places) (a .circuits .now)) l (heldActions (a .places) (a .inflight .now)) in
+    let w = worldOf (a .runtime) (heldPending (a .places) (a .pending .now))
+    (heldCircuits (a .places) (a .circuits .now)) l (heldActions (a .places) (a .inflight .now)) in
     let call = callAcknowledge (a .generation) (a .sequence) (a .delivered) (length (a .out .now)) in
     let ef = here .look-up-action .ensures in
     let found = ap (λ (f : ActionFound). f .found) ef in
     let action = ap (λ (f : ActionFound). f .action) ef in
-    let answer = here .acknowledge-answer .ensures ∙ (λ x. check (ltb (length (a .out .now)) acknowledgeWords || (here .too-few .ensures ∙ few-held (a .runtime .config) (a .places) (a .pending .now) (a .circuits .now) (a .inflight .now)) x) Short then generationAnswer (a .runtime .generation) (a .generation) then actionAnswer (found x)) in
+    let answer = here .acknowledge-answer .ensures
+    ∙ (λ x. check (ltb (length (a .out .now)) acknowledgeWords
+    || (here .too-few .ensures
+    ∙ few-held (a .runtime .config) (a .places) (a .pending .now) (a .circuits .now) (a .inflight .now)) x) Short
+    then generationAnswer (a .runtime .generation) (a .generation)
+    then actionAnswer (found x)) in
     let small = bound s in
     here .acknowledge-action .ensures l₀ (a .generation) (a .sequence) ef
-    ∙ ap (λ (o : Outcome). ending (a .out .now) o) (ap (λ (x : InflightAction). acknowledgeAction w (a .generation) (a .sequence) (a .delivered) x) action ∙ sym (gone-on w (here .acknowledge-answer .result) _ (acknowledgeAction w (a .generation) (a .sequence) (a .delivered) (pick (actionAt (a .generation) (a .sequence)) noAction (heldActions (a .places) (a .inflight .now)))) (sym (here .is-taken .ensures) ∙ here .if1 .taken) answer))
+    ∙ ap (λ (o : Outcome). ending (a .out .now) o)
+    (ap (λ (x : InflightAction). acknowledgeAction w (a .generation) (a .sequence) (a .delivered) x) action
+    ∙ sym (gone-on w (here .acknowledge-answer .result) _
+    (acknowledgeAction w (a .generation) (a .sequence) (a .delivered)
+    (pick (actionAt (a .generation) (a .sequence)) noAction (heldActions (a .places) (a .inflight .now))))
+    (sym (here .is-taken .ensures) ∙ here .if1 .taken) answer))
     ∙ whole (a .out .now) w call (omega arith) (omega arith)
 
 returns-2 : tie.Need-returns-2
@@ -56,14 +68,26 @@ returns-2 c =
     let s = here .start in
     let a = s .args in
     let l = heldLedger (a .places) l₀ in
-    let w = worldOf (a .runtime) (heldPending (a .places) (a .pending .now)) (heldCircuits (a .places) (a .circuits .now)) l (heldActions (a .places) (a .inflight .now)) in
+    let w = worldOf (a .runtime) (heldPending (a .places) (a .pending .now))
+    (heldCircuits (a .places) (a .circuits .now)) l (heldActions (a .places) (a .inflight .now)) in
     let call = callAcknowledge (a .generation) (a .sequence) (a .delivered) (length (a .out .now)) in
     let ef = here .look-up-action .ensures in
     let found = ap (λ (f : ActionFound). f .found) ef in
-    let answer = here .acknowledge-answer .ensures ∙ (λ x. check (ltb (length (a .out .now)) acknowledgeWords || (here .too-few .ensures ∙ few-held (a .runtime .config) (a .places) (a .pending .now) (a .circuits .now) (a .inflight .now)) x) Short then generationAnswer (a .runtime .generation) (a .generation) then actionAnswer (found x)) in
+    let answer = here .acknowledge-answer .ensures
+    ∙ (λ x. check (ltb (length (a .out .now)) acknowledgeWords
+    || (here .too-few .ensures
+    ∙ few-held (a .runtime .config) (a .places) (a .pending .now) (a .circuits .now) (a .inflight .now)) x) Short
+    then generationAnswer (a .runtime .generation) (a .generation)
+    then actionAnswer (found x)) in
     let small = bound s in
-    places-kept (here .refused .result) (a .pending .now) (a .circuits .now) l₀ (a .inflight .now) (a .out .now) (a .places) (here .refused .ensures .1)
-    ∙ turned-away (a .runtime) (heldPending (a .places) (a .pending .now)) (heldCircuits (a .places) (a .circuits .now)) l (heldActions (a .places) (a .inflight .now)) (a .out .now) (here .refused .result) (here .acknowledge-answer .result) _ (acknowledgeAction w (a .generation) (a .sequence) (a .delivered) (pick (actionAt (a .generation) (a .sequence)) noAction (heldActions (a .places) (a .inflight .now)))) (here .refused .ensures .0) (sym (here .is-taken .ensures) ∙ here .if1 .left) answer
+    places-kept (here .refused .result) (a .pending .now) (a .circuits .now) l₀ (a .inflight .now) (a .out .now)
+    (a .places) (here .refused .ensures .1)
+    ∙ turned-away (a .runtime) (heldPending (a .places) (a .pending .now)) (heldCircuits (a .places) (a .circuits .now))
+    l (heldActions (a .places) (a .inflight .now)) (a .out .now) (here .refused .result)
+    (here .acknowledge-answer .result) _
+    (acknowledgeAction w (a .generation) (a .sequence) (a .delivered)
+    (pick (actionAt (a .generation) (a .sequence)) noAction (heldActions (a .places) (a .inflight .now))))
+    (here .refused .ensures .0) (sym (here .is-taken .ensures) ∙ here .if1 .left) answer
     ∙ whole (a .out .now) w call (omega arith) (omega arith)
 
 pub acknowledge-spec : {M : Type 1} → statement M

@@ -7,7 +7,14 @@ use Rattle.hnsr_circuit.proofs.calls.acknowledge.acknowledge_answer.Pro
 returns : tie.Need-returns
 returns c =
     let here = at.returns c in
-    rw (here .first-refusal2 .ensures, here .first-refusal .ensures, here .action-answer .ensures, here .generation-answer .ensures, here .check .ensures, here .either .ensures)
+    rw (
+      here .first-refusal2 .ensures,
+      here .first-refusal .ensures,
+      here .action-answer .ensures,
+      here .generation-answer .ensures,
+      here .check .ensures,
+      here .either .ensures,
+    )
 
 pub acknowledge-answer-spec : {M : Type 1} → statement M
 acknowledge-answer-spec =

@@ -32,9 +32,15 @@ returns c =
     let gone = here .found-unmarked .ensures ∙ ap (λ (f : PendingFound). clearPending (f .pending)) ef in
     let message = e .3 ∙ ap (λ (f : PendingFound). errorOut (f .pending)) ef in
     let r = here .found-unmarked .ensures in
-    let after = stored-seen clearPending (a .places .pending) (a .pending .now) _ true (here .fail-plan .result .place) (here .found-unmarked .result) (λ h. ap clearPending r ∙ sym r) (here .set-pending .ensures) ∙ (λ x. set p (place x) (gone x)) in
+    let after =
+    stored-seen clearPending (a .places .pending) (a .pending .now) _ true (here .fail-plan .result .place)
+    (here .found-unmarked .result) (λ h. ap clearPending r ∙ sym r) (here .set-pending .ensures)
+    ∙ (λ x. set p (place x) (gone x)) in
     here .send-notice .ensures (here .set-pending .last .0) cs₀ l₀
-    ∙ ap (λ (o : Outcome). ending (a .out .now) o) (incoming-failed (a .runtime) p cs l (heldActions (a .places) (a .inflight .now)) (a .id) (here .fail-plan .result .runtime) (heldPending (a .places) (here .set-pending .last .0)) (here .fail-plan .result .message) found (e .2) after message)
+    ∙ ap (λ (o : Outcome). ending (a .out .now) o)
+    (incoming-failed (a .runtime) p cs l (heldActions (a .places) (a .inflight .now)) (a .id)
+    (here .fail-plan .result .runtime) (heldPending (a .places) (here .set-pending .last .0))
+    (here .fail-plan .result .message) found (e .2) after message)
 
 returns-2 : tie.Need-returns-2
 returns-2 c =
@@ -45,8 +51,11 @@ returns-2 c =
     let l = heldLedger (a .places) l₀ in
     let ef = here .pending-by-id .ensures in
     let none = sym (here .fail-plan .ensures .0 ∙ ap (λ (f : PendingFound). f .found) ef) ∙ here .if1 .left in
-    places-kept (here .taken-with .result) (a .pending .now) cs₀ l₀ (a .inflight .now) (a .out .now) (a .places) (here .taken-with .ensures .1)
-    ∙ none-failed (a .runtime) (heldPending (a .places) (a .pending .now)) cs l (heldActions (a .places) (a .inflight .now)) (a .id) (here .taken-with .result) (a .out .now) none (here .taken-with .ensures .0)
+    places-kept (here .taken-with .result) (a .pending .now) cs₀ l₀ (a .inflight .now) (a .out .now) (a .places)
+    (here .taken-with .ensures .1)
+    ∙ none-failed (a .runtime) (heldPending (a .places) (a .pending .now)) cs l
+    (heldActions (a .places) (a .inflight .now)) (a .id) (here .taken-with .result) (a .out .now) none
+    (here .taken-with .ensures .0)
 
 pub fail-incoming-spec : {M : Type 1} → statement M
 fail-incoming-spec = tie.close (at.spec returns returns-2)

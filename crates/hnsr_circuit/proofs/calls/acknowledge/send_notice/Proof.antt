@@ -25,15 +25,21 @@ array-share-prefix-bytes c =
 slice-aggregate-send : tie.Need-slice-aggregate-send
 slice-aggregate-send c =
     let here = at.slice-aggregate-send c in
-    let w = here .encode .result in sym (length-take-le (w .length) (w .bytes) (notice-length w (here .start .args .notice) (here .encode .ensures) .0))
+    let w = here .encode .result in
+    sym (length-take-le (w .length) (w .bytes) (notice-length w (here .start .args .notice) (here .encode .ensures) .0))
 
 send-requires : tie.Need-send-requires
 send-requires c κs =
     let here = at.send-requires c in
     let w = here .encode .result in
     let k = notice-length w (here .start .args .notice) (here .encode .ensures) in
-    let e = length-take-le (w .length) (w .bytes) (k .0) in
-    (here .scan-actions .ensures ∙ ap (λ (x : ActionQuestion). actionsScanned x (heldActions (here .start .args .places) (here .start .args .inflight .now))) (here .asking .ensures), omega (arith, k .1))
+    let e = length-take-le (w .length) (w .bytes) (k .0) in (
+      here .scan-actions .ensures
+          ∙ ap (λ (x : ActionQuestion).
+          actionsScanned x (heldActions (here .start .args .places) (here .start .args .inflight .now)))
+          (here .asking .ensures),
+      omega (arith, k .1),
+    )
 
 returns : tie.Need-returns
 unfolding proceed
@@ -45,7 +51,9 @@ returns c =
     let cs = heldCircuits (a .places) cs₀ in
     let l = heldLedger (a .places) l₀ in
     here .send .ensures p₀ cs₀ l₀
-    ∙ ap (λ (b : List ℕ). ending (a .out .now) (send (worldOf (a .runtime) p cs l (heldActions (a .places) (a .inflight .now))) (messageOf (a .message) b))) (notice-bytes (here .encode .result) (a .notice) (here .encode .ensures))
+    ∙ ap (λ (b : List ℕ). ending (a .out .now)
+    (send (worldOf (a .runtime) p cs l (heldActions (a .places) (a .inflight .now))) (messageOf (a .message) b)))
+    (notice-bytes (here .encode .result) (a .notice) (here .encode .ensures))
 
 pub send-notice-spec : {M : Type 1} → statement M
 send-notice-spec = tie.close (at.spec array-share-prefix-bytes slice-aggregate-send send-requires returns)

@@ -12,8 +12,15 @@ returns : tie.Need-returns
 returns c =
     let here = at.returns c in
     let asked = here .settlement-for .ensures ∙ ap settlementFor (here .kind-of .ensures) in
-    let lost = here .no .ensures in
-    (refl, refl, ap (λ (s : Settlement). s .lowers) asked, here .toward-side .ensures, refl, here .both .ensures ∙ (λ x. lost x && asked x .fails), here .both2 .ensures ∙ (λ x. lost x && asked x .revokes))
+    let lost = here .no .ensures in (
+      refl,
+      refl,
+      ap (λ (s : Settlement). s .lowers) asked,
+      here .toward-side .ensures,
+      refl,
+      here .both .ensures ∙ (λ x. lost x && asked x .fails),
+      here .both2 .ensures ∙ (λ x. lost x && asked x .revokes),
+    )
 
 pub settle-plan-spec : {M : Type 1} → statement M
 settle-plan-spec =

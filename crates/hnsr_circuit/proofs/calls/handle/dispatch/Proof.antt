@@ -7,7 +7,8 @@ use mathlib.Core.Logic.{inl, inr, ⊎-elim}
 use Rattle.hnsr_circuit.specs.World.{Outcome}
 use Rattle.hnsr_circuit.specs.Handle.{handlingOf, dispatch}
 use Rattle.hnsr_circuit.specs.Code.Progress.{packetOf, ending}
-use Rattle.hnsr_circuit.specs.Laws.HandleCall.{closes, at-nineteen, other-below, other-above, other-incoming, other-opened, left-alone}
+use Rattle.hnsr_circuit.specs.Laws.HandleCall.{closes, at-nineteen, other-below, other-above}
+use Rattle.hnsr_circuit.specs.Laws.HandleCall.{other-incoming, other-opened, left-alone}
 use Rattle.hnsr_circuit.specs.Code.Held.{worldGiven, heldPending, heldCircuits, heldLedger, heldActions}
 use Rattle.hnsr_circuit.specs.Laws.HeldTables.{places-kept}
 use Rattle.hnsr_circuit.proofs.calls.handle.dispatch.Statement.{statement}
@@ -37,7 +38,8 @@ returns c =
     let a = here .start .args in
     let w = worldGiven (a .request) (a .pending .now) (a .circuits .now) (a .ledger .now) (a .inflight .now) in
     let q = packetOf (a .request .packet) source (a .body .now) (a .endpoint .now) (a .random .now) in
-    here .handle-open .ensures source en ∙ ap (λ (n : ℕ). ending (a .out .now) (dispatch (handlingOf n) w q)) (sym (here .match .keys1))
+    here .handle-open .ensures source en
+    ∙ ap (λ (n : ℕ). ending (a .out .now) (dispatch (handlingOf n) w q)) (sym (here .match .keys1))
 
 returns-2 : tie.Need-returns-2
 unfolding handlingOf dispatch
@@ -47,7 +49,8 @@ returns-2 c =
     let a = here .start .args in
     let w = worldGiven (a .request) (a .pending .now) (a .circuits .now) (a .ledger .now) (a .inflight .now) in
     let q = packetOf (a .request .packet) source (a .body .now) (a .endpoint .now) (a .random .now) in
-    here .handle-accept .ensures (a .ledger .now) source (a .endpoint .now) (a .random .now) en ∙ ap (λ (n : ℕ). ending (a .out .now) (dispatch (handlingOf n) w q)) (sym (here .match .keys2))
+    here .handle-accept .ensures (a .ledger .now) source (a .endpoint .now) (a .random .now) en
+    ∙ ap (λ (n : ℕ). ending (a .out .now) (dispatch (handlingOf n) w q)) (sym (here .match .keys2))
 
 returns-3 : tie.Need-returns-3
 unfolding handlingOf dispatch
@@ -57,7 +60,8 @@ returns-3 c =
     let a = here .start .args in
     let w = worldGiven (a .request) (a .pending .now) (a .circuits .now) (a .ledger .now) (a .inflight .now) in
     let q = packetOf (a .request .packet) source (a .body .now) (a .endpoint .now) (a .random .now) in
-    here .handle-data .ensures (a .pending .now) source (a .endpoint .now) (a .random .now) en ∙ ap (λ (n : ℕ). ending (a .out .now) (dispatch (handlingOf n) w q)) (sym (here .match .keys3))
+    here .handle-data .ensures (a .pending .now) source (a .endpoint .now) (a .random .now) en
+    ∙ ap (λ (n : ℕ). ending (a .out .now) (dispatch (handlingOf n) w q)) (sym (here .match .keys3))
 
 returns-4 : tie.Need-returns-4
 unfolding handlingOf dispatch
@@ -67,7 +71,8 @@ returns-4 c =
     let a = here .start .args in
     let w = worldGiven (a .request) (a .pending .now) (a .circuits .now) (a .ledger .now) (a .inflight .now) in
     let q = packetOf (a .request .packet) source (a .body .now) (a .endpoint .now) (a .random .now) in
-    here .handle-window .ensures (a .pending .now) (a .ledger .now) source (a .endpoint .now) (a .random .now) en ∙ ap (λ (n : ℕ). ending (a .out .now) (dispatch (handlingOf n) w q)) (sym (here .match .keys4))
+    here .handle-window .ensures (a .pending .now) (a .ledger .now) source (a .endpoint .now) (a .random .now) en
+    ∙ ap (λ (n : ℕ). ending (a .out .now) (dispatch (handlingOf n) w q)) (sym (here .match .keys4))
 
 returns-5 : tie.Need-returns-5
 returns-5 c =
@@ -80,7 +85,11 @@ returns-5 c =
     let low = here .if1 .left in
     let high = here .if2 .taken in
     let n = a .request .packet .opcode in
-    here .handle-close .ensures (a .ledger .now) source (a .endpoint .now) (a .random .now) en ∙ ap (λ (o : Outcome). ending (a .out .now) o) (closes n w q (at-nineteen n low (rest .0 .0 .0 .0 .1) (λ e. rest .1 (inl e)) (rest .0 .0 .0 .1) (λ e. rest .1 (inr e)) (rest .0 .0 .1) (rest .0 .1)) high)
+    here .handle-close .ensures (a .ledger .now) source (a .endpoint .now) (a .random .now) en
+    ∙ ap (λ (o : Outcome). ending (a .out .now) o)
+    (closes n w q
+    (at-nineteen n low (rest .0 .0 .0 .0 .1) (λ e. rest .1 (inl e)) (rest .0 .0 .0 .1) (λ e. rest .1 (inr e))
+    (rest .0 .0 .1) (rest .0 .1)) high)
 
 returns-6 : tie.Need-returns-6
 returns-6 c =
@@ -90,9 +99,15 @@ returns-6 c =
     let r = a .request in
     let n = r .packet .opcode in
     let q = packetOf (r .packet) source (a .body .now) (a .endpoint .now) (a .random .now) in
-    places-kept (here .unexpected .result) (a .pending .now) (a .circuits .now) (a .ledger .now) (a .inflight .now) (a .out .now) (r .places) (here .unexpected .ensures .1)
-    ∙ left-alone (r .runtime) (heldPending (r .places) (a .pending .now)) (heldCircuits (r .places) (a .circuits .now)) (heldLedger (r .places) (a .ledger .now)) (heldActions (r .places) (a .inflight .now)) (here .unexpected .result) n q (a .out .now) (here .unexpected .ensures .0)
-    (⊎-elim (λ k. ⊎-elim (other-incoming n) (other-opened n) (k .keys5)) (⊎-elim (λ k. other-below n (k .1 .taken)) (λ k. other-above n (k .2 .left))) (here .match .came))
+    places-kept (here .unexpected .result) (a .pending .now) (a .circuits .now) (a .ledger .now) (a .inflight .now)
+    (a .out .now) (r .places) (here .unexpected .ensures .1)
+    ∙ left-alone (r .runtime) (heldPending (r .places) (a .pending .now)) (heldCircuits (r .places) (a .circuits .now))
+    (heldLedger (r .places) (a .ledger .now)) (heldActions (r .places) (a .inflight .now)) (here .unexpected .result) n
+    q (a .out .now) (here .unexpected .ensures .0)
+    (⊎-elim (λ k. ⊎-elim (other-incoming n) (other-opened n) (k .keys5))
+    (⊎-elim (λ k. other-below n (k .1 .taken)) (λ k. other-above n (k .2 .left))) (here .match .came))
 
 pub dispatch-spec : {M : Type 1} → statement M
-dispatch-spec = tie.close (at.spec handle-data-requires handle-window-requires handle-close-requires returns returns-2 returns-3 returns-4 returns-5 returns-6)
+dispatch-spec =
+    tie.close (at.spec handle-data-requires handle-window-requires handle-close-requires returns returns-2 returns-3
+    returns-4 returns-5 returns-6)

@@ -22,22 +22,32 @@ unfolding handleGate
 returns c =
     let here = at.returns c in
     let a = here .start .args in
-    let w = worldOf (a .runtime) (heldPending (a .places) (a .pending .now)) (heldCircuits (a .places) (a .circuits .now)) (heldLedger (a .places) (a .ledger .now)) (heldActions (a .places) (a .inflight .now)) in
+    let w = worldOf (a .runtime) (heldPending (a .places) (a .pending .now))
+    (heldCircuits (a .places) (a .circuits .now)) (heldLedger (a .places) (a .ledger .now))
+    (heldActions (a .places) (a .inflight .now)) in
     let q = packetOf (a .packet) (a .source .now) (a .body .now) (a .endpoint .now) (a .random .now) in
     let answer = here .gate-answer in
     here .dispatch .ensures (a .source .now) (here .peer-of .ensures)
-    ∙ ap (λ (o : Outcome). ending (a .out .now) o) (sym (gone-on w (answer .result) (gateAnswer (a .runtime .enabled)) (dispatch (handlingOf (q .opcode)) w q) (sym (here .is-taken .ensures) ∙ here .if1 .taken) (answer .ensures)))
+    ∙ ap (λ (o : Outcome). ending (a .out .now) o)
+    (sym (gone-on w (answer .result) (gateAnswer (a .runtime .enabled)) (dispatch (handlingOf (q .opcode)) w q)
+    (sym (here .is-taken .ensures) ∙ here .if1 .taken) (answer .ensures)))
 
 returns-2 : tie.Need-returns-2
 unfolding handleGate
 returns-2 c =
     let here = at.returns-2 c in
     let a = here .start .args in
-    let w = worldOf (a .runtime) (heldPending (a .places) (a .pending .now)) (heldCircuits (a .places) (a .circuits .now)) (heldLedger (a .places) (a .ledger .now)) (heldActions (a .places) (a .inflight .now)) in
+    let w = worldOf (a .runtime) (heldPending (a .places) (a .pending .now))
+    (heldCircuits (a .places) (a .circuits .now)) (heldLedger (a .places) (a .ledger .now))
+    (heldActions (a .places) (a .inflight .now)) in
     let q = packetOf (a .packet) (a .source .now) (a .body .now) (a .endpoint .now) (a .random .now) in
     let answer = here .gate-answer in
-    places-kept (here .refused .result) (a .pending .now) (a .circuits .now) (a .ledger .now) (a .inflight .now) (a .out .now) (a .places) (here .refused .ensures .1)
-    ∙ turned-away (a .runtime) (heldPending (a .places) (a .pending .now)) (heldCircuits (a .places) (a .circuits .now)) (heldLedger (a .places) (a .ledger .now)) (heldActions (a .places) (a .inflight .now)) (a .out .now) (here .refused .result) (answer .result) (gateAnswer (a .runtime .enabled)) (dispatch (handlingOf (q .opcode)) w q) (here .refused .ensures .0) (sym (here .is-taken .ensures) ∙ here .if1 .left) (answer .ensures)
+    places-kept (here .refused .result) (a .pending .now) (a .circuits .now) (a .ledger .now) (a .inflight .now)
+    (a .out .now) (a .places) (here .refused .ensures .1)
+    ∙ turned-away (a .runtime) (heldPending (a .places) (a .pending .now)) (heldCircuits (a .places) (a .circuits .now))
+    (heldLedger (a .places) (a .ledger .now)) (heldActions (a .places) (a .inflight .now)) (a .out .now)
+    (here .refused .result) (answer .result) (gateAnswer (a .runtime .enabled)) (dispatch (handlingOf (q .opcode)) w q)
+    (here .refused .ensures .0) (sym (here .is-taken .ensures) ∙ here .if1 .left) (answer .ensures)
 
 pub handle-gate-spec : {M : Type 1} → statement M
 handle-gate-spec = tie.close (at.spec dispatch-requires returns returns-2)

@@ -49,15 +49,23 @@ returns c =
     let l = heldLedger (a .places) l₀ in
     let v = a .revoking in
     let cs = heldCircuits (a .places) (a .circuits .now) in
-    let w = worldOf (a .runtime) (heldPending (a .places) (a .pending .now)) cs l (heldActions (a .places) (a .inflight .now)) in
+    let w = worldOf (a .runtime) (heldPending (a .places) (a .pending .now)) cs l
+    (heldActions (a .places) (a .inflight .now)) in
     let p1 = here .walk-pending .last .0 in
     let first = walk pendingId pendingTable (revokedPending v) (endingPending v) in
     let second = walk circuitId circuitTable (revokedCircuit v) (revokeCircuitThere (v .«circuit_notice»)) in
-    let start = sending-kept (here .started .result) (a .pending .now) (a .circuits .now) l₀ (a .inflight .now) (a .out .now) (a .places) (here .started .ensures .1) ∙ begun (a .runtime) (heldPending (a .places) (a .pending .now)) cs l (heldActions (a .places) (a .inflight .now)) (a .out .now) (here .started .result) (here .started .ensures .0) in
-    places-kept (here .finished .result) p1 (here .walk-circuits .last .0) l₀ (here .walk-circuits .last .1 .0) (here .walk-circuits .last .1 .1 .0) (here .walk-circuits .result .places) (here .finished .ensures .1)
-    ∙ over (here .finished .result) (here .walk-circuits .result) _ _ _ _ _ (advanced (progress w 0 (a .out .now)) (andThen (first w) second)) (here .finished .ensures .0)
+    let start =
+    sending-kept (here .started .result) (a .pending .now) (a .circuits .now) l₀ (a .inflight .now) (a .out .now)
+    (a .places) (here .started .ensures .1)
+    ∙ begun (a .runtime) (heldPending (a .places) (a .pending .now)) cs l (heldActions (a .places) (a .inflight .now))
+    (a .out .now) (here .started .result) (here .started .ensures .0) in
+    places-kept (here .finished .result) p1 (here .walk-circuits .last .0) l₀ (here .walk-circuits .last .1 .0)
+    (here .walk-circuits .last .1 .1 .0) (here .walk-circuits .result .places) (here .finished .ensures .1)
+    ∙ over (here .finished .result) (here .walk-circuits .result) _ _ _ _ _
+    (advanced (progress w 0 (a .out .now)) (andThen (first w) second)) (here .finished .ensures .0)
     (here .walk-circuits .ensures p1 l₀
-    ∙ ap (λ (s : Progress). advance second s) (here .walk-pending .ensures (a .circuits .now) l₀ ∙ ap (λ (s : Progress). advance first s) start)
+    ∙ ap (λ (s : Progress). advance second s)
+    (here .walk-pending .ensures (a .circuits .now) l₀ ∙ ap (λ (s : Progress). advance first s) start)
     ∙ sym (advance-then (progress w 0 (a .out .now)) (first w) second))
 
 pub revoke-all-spec : {M : Type 1} → statement M

@@ -31,14 +31,22 @@ returns c =
     let l = heldLedger (a .places) l₀ in
     let cs = heldCircuits (a .places) (a .circuits .now) in
     let w = worldOf (a .runtime) p cs l (heldActions (a .places) (a .inflight .now)) in
-    let start = sending-kept (here .started .result) p₀ (a .circuits .now) l₀ (a .inflight .now) (a .out .now) (a .places) (here .started .ensures .1) ∙ begun (a .runtime) p cs l (heldActions (a .places) (a .inflight .now)) (a .out .now) (here .started .result) (here .started .ensures .0) in
+    let start =
+    sending-kept (here .started .result) p₀ (a .circuits .now) l₀ (a .inflight .now) (a .out .now) (a .places)
+    (here .started .ensures .1)
+    ∙ begun (a .runtime) p cs l (heldActions (a .places) (a .inflight .now)) (a .out .now) (here .started .result)
+    (here .started .ensures .0) in
     let place = here .find-circuit-id .ensures in
     let long = length-held clearCircuit (a .places .circuits) (a .circuits .now) in
     let less = here .if1 .taken in
-    let found : any (circuitAt (a .id)) cs ≡ true = sym (place-any (circuitAt (a .id)) cs) ∙ lt-ltb (placeOf (circuitAt (a .id)) cs) (length cs) (omega arith) in
-    places-kept (here .finished .result) p₀ (here .revoke-circuit .last .0) l₀ (here .revoke-circuit .last .1 .0) (here .revoke-circuit .last .1 .1 .0) (here .revoke-circuit .result .places) (here .finished .ensures .1)
-    ∙ over (here .finished .result) (here .revoke-circuit .result) _ _ _ _ _ (advanced (progress w 0 (a .out .now)) (revokeCircuit (a .notice) w (a .id))) (here .finished .ensures .0)
-    (here .revoke-circuit .ensures p₀ l₀ ∙ ap (λ (s : Progress). advance (λ x. revokeCircuitThere (a .notice) x (here .find-circuit-id .result)) s) start
+    let found : any (circuitAt (a .id)) cs ≡ true =
+    sym (place-any (circuitAt (a .id)) cs) ∙ lt-ltb (placeOf (circuitAt (a .id)) cs) (length cs) (omega arith) in
+    places-kept (here .finished .result) p₀ (here .revoke-circuit .last .0) l₀ (here .revoke-circuit .last .1 .0)
+    (here .revoke-circuit .last .1 .1 .0) (here .revoke-circuit .result .places) (here .finished .ensures .1)
+    ∙ over (here .finished .result) (here .revoke-circuit .result) _ _ _ _ _
+    (advanced (progress w 0 (a .out .now)) (revokeCircuit (a .notice) w (a .id))) (here .finished .ensures .0)
+    (here .revoke-circuit .ensures p₀ l₀
+    ∙ ap (λ (s : Progress). advance (λ x. revokeCircuitThere (a .notice) x (here .find-circuit-id .result)) s) start
     ∙ ap (λ (k : ℕ). advanced (progress w 0 (a .out .now)) (revokeCircuitThere (a .notice) w k)) place
     ∙ ap (advanced (progress w 0 (a .out .now))) (sym (revoked-found (a .notice) w (a .id) found)))
 
@@ -52,13 +60,20 @@ returns-2 c =
     let l = heldLedger (a .places) l₀ in
     let cs = heldCircuits (a .places) (a .circuits .now) in
     let w = worldOf (a .runtime) p cs l (heldActions (a .places) (a .inflight .now)) in
-    let start = sending-kept (here .started .result) p₀ (a .circuits .now) l₀ (a .inflight .now) (a .out .now) (a .places) (here .started .ensures .1) ∙ begun (a .runtime) p cs l (heldActions (a .places) (a .inflight .now)) (a .out .now) (here .started .result) (here .started .ensures .0) in
+    let start =
+    sending-kept (here .started .result) p₀ (a .circuits .now) l₀ (a .inflight .now) (a .out .now) (a .places)
+    (here .started .ensures .1)
+    ∙ begun (a .runtime) p cs l (heldActions (a .places) (a .inflight .now)) (a .out .now) (here .started .result)
+    (here .started .ensures .0) in
     let place = here .find-circuit-id .ensures in
     let long = length-held clearCircuit (a .places .circuits) (a .circuits .now) in
     let over-all = here .if1 .left in
-    let none : any (circuitAt (a .id)) cs ≡ false = sym (place-any (circuitAt (a .id)) cs) ∙ le-ltb (placeOf (circuitAt (a .id)) cs) (length cs) (omega arith) in
-    places-kept (here .finished2 .result) p₀ (a .circuits .now) l₀ (a .inflight .now) (a .out .now) (here .started .result .places) (here .finished2 .ensures .1)
-    ∙ over (here .finished2 .result) (here .started .result) _ _ _ _ _ (advanced (progress w 0 (a .out .now)) (revokeCircuit (a .notice) w (a .id))) (here .finished2 .ensures .0)
+    let none : any (circuitAt (a .id)) cs ≡ false =
+    sym (place-any (circuitAt (a .id)) cs) ∙ le-ltb (placeOf (circuitAt (a .id)) cs) (length cs) (omega arith) in
+    places-kept (here .finished2 .result) p₀ (a .circuits .now) l₀ (a .inflight .now) (a .out .now)
+    (here .started .result .places) (here .finished2 .ensures .1)
+    ∙ over (here .finished2 .result) (here .started .result) _ _ _ _ _
+    (advanced (progress w 0 (a .out .now)) (revokeCircuit (a .notice) w (a .id))) (here .finished2 .ensures .0)
     (start ∙ ap (advanced (progress w 0 (a .out .now))) (sym (revoked-none (a .notice) w (a .id) none)))
 
 pub revoke-one-spec : {M : Type 1} → statement M

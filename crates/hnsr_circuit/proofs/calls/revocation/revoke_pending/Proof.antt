@@ -1,4 +1,5 @@
--- The pending record at the place is unmarked, its actions dropped, its end counted; then the sides are told that are to hear.
+-- The pending record at the place is unmarked, its actions dropped, its end counted; then the sides are told that are
+-- to hear.
 mod Tie
 mod At
 use mathlib.Core.Path.{sym, ap, _∙_}
@@ -41,15 +42,27 @@ returns c =
     let two = e .5 ∙ ap (λ (k : RelayPending). closeOut k) row in
     let notice = here .pending-notice .ensures in
     let r = here .pending-unmarked .ensures in
-    let after = stored-seen clearPending (a .sending .places .pending) (a .pending .now) _ true (a .place) (here .pending-unmarked .result) (λ h. ap clearPending r ∙ sym r) (here .set-pending .ensures) ∙ ap (λ (k : RelayPending). set p (a .place) k) (r ∙ ap clearPending row) in
+    let after =
+    stored-seen clearPending (a .sending .places .pending) (a .pending .now) _ true (a .place)
+    (here .pending-unmarked .result) (λ h. ap clearPending r ∙ sym r) (here .set-pending .ensures)
+    ∙ ap (λ (k : RelayPending). set p (a .place) k) (r ∙ ap clearPending row) in
     let dropping = ap (λ (k : ℕ). dropped (actionUnder k) i) id in
     let p0 = here .set-pending .last .0 in
     let p1 = heldPending (a .sending .places) p0 in
     let i1 = dropped (actionUnder (P .id)) i in
     here .tell-notice .ensures p0 cs₀ l₀
-    ∙ ap (λ (s : Progress). advance (when (P .also) (tell (messageOf (P .second) (noticeBody n)))) s) (here .drop-and-tell .ensures p0 cs₀ l₀ ∙ ap (λ (m : Places). advance (when true (tell (messageOf (P .first) (noticeBody n)))) (underway (P .sending) (heldPending m p0) (heldCircuits m cs₀) (heldLedger m l₀) (dropped (actionUnder (P .id)) (heldActions m (a .inflight .now))) (a .out .now))) (e .6))
-    ∙ (λ x. advance (when (P .also) (tell (messageOf (P .second) (noticeBody n)))) (advance (when true (tell (messageOf (P .first) (noticeBody n)))) (progress (worldOf (P .sending .runtime) p1 cs l i1) (e .2 x) (a .out .now))))
-    ∙ pending-revoked v (a .place) (a .sending .runtime) p cs l i (a .sending .position) (a .out .now) (P .also) (messageOf (P .first) (noticeBody n)) (messageOf (P .second) (noticeBody n)) p1 i1 (P .sending .runtime) (e .4) (λ x. messageOf (one x) (noticeBody (notice x))) (λ x. messageOf (two x) (noticeBody (notice x))) after dropping (e .1)
+    ∙ ap (λ (s : Progress). advance (when (P .also) (tell (messageOf (P .second) (noticeBody n)))) s)
+    (here .drop-and-tell .ensures p0 cs₀ l₀
+    ∙ ap (λ (m : Places). advance (when true (tell (messageOf (P .first) (noticeBody n))))
+    (underway (P .sending) (heldPending m p0) (heldCircuits m cs₀) (heldLedger m l₀)
+    (dropped (actionUnder (P .id)) (heldActions m (a .inflight .now))) (a .out .now))) (e .6))
+    ∙ (λ x. advance (when (P .also) (tell (messageOf (P .second) (noticeBody n))))
+    (advance (when true (tell (messageOf (P .first) (noticeBody n))))
+    (progress (worldOf (P .sending .runtime) p1 cs l i1) (e .2 x) (a .out .now))))
+    ∙ pending-revoked v (a .place) (a .sending .runtime) p cs l i (a .sending .position) (a .out .now) (P .also)
+    (messageOf (P .first) (noticeBody n)) (messageOf (P .second) (noticeBody n)) p1 i1 (P .sending .runtime) (e .4)
+    (λ x. messageOf (one x) (noticeBody (notice x))) (λ x. messageOf (two x) (noticeBody (notice x))) after
+    dropping (e .1)
 
 pub revoke-pending-spec : {M : Type 1} → statement M
 revoke-pending-spec = tie.close (at.spec returns)

@@ -14,7 +14,8 @@ use Rattle.hnsr_circuit.specs.Code.Progress.{Progress, advance}
 use Rattle.hnsr_circuit.specs.Revocation.{revokeCircuitThere, walkFrom, walk, circuitTable}
 use Rattle.hnsr_circuit.specs.Code.Revoking.{revokedCircuit}
 use Rattle.hnsr_circuit.specs.Table.{notYet, next}
-use Rattle.hnsr_circuit.specs.Laws.Revocation.{not-true, not-false, walk-turn, walk-stops, walk-over, walkOn, walk-on}
+use Rattle.hnsr_circuit.specs.Laws.Revocation.{not-true, not-false, walk-turn}
+use Rattle.hnsr_circuit.specs.Laws.Revocation.{walk-stops, walk-over, walkOn, walk-on}
 use borrow.Author.Needs.{needs}
 use native.Mathlib.Omega.{arith}
 use Rattle.hnsr_circuit.specs.Laws.Held.{length-held}
@@ -25,11 +26,20 @@ use Rattle.hnsr_circuit.proofs.calls.revocation.walk_circuits.Proof.At 
 
 abbrev Inv-loop : tie.InvT-loop
 Inv-loop circuits inflight out question peer notice most told₀ next₀ turn₀ circuits′ inflight′ out′ told next turn =
-    (most ≡ length circuits) × (turn ≤ most) × (length circuits′ ≡ length circuits) × (length inflight′ ≡ length inflight) × (length out′ ≡ length out)
-    × ((p : List RelayPending) (l : List ReservationUsage) → advance (walkOn circuitId circuitTable (circuitHas question peer) (revokeCircuitThere notice) (most - turn) next) (underwaySeen told p circuits′ l inflight′ out′) ≡ advance (walk circuitId circuitTable (circuitHas question peer) (revokeCircuitThere notice)) (underwaySeen told₀ p circuits l inflight out))
+    (most ≡ length circuits)
+    × (turn ≤ most)
+    × (length circuits′ ≡ length circuits)
+    × (length inflight′ ≡ length inflight)
+    × (length out′ ≡ length out)
+    × ((p : List RelayPending) (l : List ReservationUsage)
+    → advance (walkOn circuitId circuitTable (circuitHas question peer) (revokeCircuitThere notice) (most - turn) next)
+    (underwaySeen told p circuits′ l inflight′ out′)
+    ≡ advance (walk circuitId circuitTable (circuitHas question peer) (revokeCircuitThere notice))
+    (underwaySeen told₀ p circuits l inflight out))
 
 abbrev μ-loop : tie.MeasureT-loop
-μ-loop circuits inflight out question peer notice most told₀ next₀ turn₀ circuits′ inflight′ out′ told next turn = most - turn
+μ-loop circuits inflight out question peer notice most told₀ next₀ turn₀ circuits′ inflight′ out′ told next turn =
+    most - turn
 
 -- how many places there are is a number of 64 bits
 small : (c : tie.Start Inv-loop μ-loop) → length (c .args .circuits .now) < 18446744073709551616
@@ -46,8 +56,15 @@ loop-holds c =
       search needs,
       search needs,
       λ p l.
-          walk-on circuitId circuitTable (revokedCircuit (a .revoking)) (revokeCircuitThere (a .revoking .«circuit_notice»)) (underwaySeen (a .sending) p (a .circuits .now) l (a .inflight .now) (a .out .now)) (length (a .circuits .now) - 0) notYet (a .first) (here .start .pre)
-          ∙ ap (λ (m : ℕ). advance (walkFrom circuitId circuitTable (revokedCircuit (a .revoking)) (revokeCircuitThere (a .revoking .«circuit_notice»)) m notYet) (underwaySeen (a .sending) p (a .circuits .now) l (a .inflight .now) (a .out .now))) (sub-zero (length (a .circuits .now)) ∙ sym (length-held clearCircuit (a .sending .places .circuits) (a .circuits .now))),
+          walk-on circuitId circuitTable (revokedCircuit (a .revoking))
+          (revokeCircuitThere (a .revoking .«circuit_notice»))
+          (underwaySeen (a .sending) p (a .circuits .now) l (a .inflight .now) (a .out .now))
+          (length (a .circuits .now) - 0) notYet (a .first) (here .start .pre)
+          ∙ ap (λ (m : ℕ). advance (walkFrom circuitId circuitTable (revokedCircuit (a .revoking))
+          (revokeCircuitThere (a .revoking .«circuit_notice»)) m notYet)
+          (underwaySeen (a .sending) p (a .circuits .now) l (a .inflight .now) (a .out .now)))
+          (sub-zero (length (a .circuits .now))
+          ∙ sym (length-held clearCircuit (a .sending .places .circuits) (a .circuits .now))),
     )
 
 no-requires : tie.Need-no-requires Inv-loop μ-loop
@@ -72,8 +89,12 @@ returns c =
     let less = here .loop-test .taken in
     let left : suc k ≡ length (a .circuits .now) - here .loop .turn = omega arith in
     let stopped = not-true (n .taken) (sym (here .no .ensures) ∙ here .if1 .taken) in
-    sym (walk-stops circuitId circuitTable (revokedCircuit (a .revoking)) (revokeCircuitThere (a .revoking .«circuit_notice»)) (underwaySeen (here .loop .told) p (here .loop .circuits) l (here .loop .inflight) (here .loop .out)) k n stopped)
-    ∙ ap (λ (m : ℕ). advance (walkOn circuitId circuitTable (revokedCircuit (a .revoking)) (revokeCircuitThere (a .revoking .«circuit_notice»)) m n) (underwaySeen (here .loop .told) p (here .loop .circuits) l (here .loop .inflight) (here .loop .out))) left
+    sym (walk-stops circuitId circuitTable (revokedCircuit (a .revoking))
+    (revokeCircuitThere (a .revoking .«circuit_notice»))
+    (underwaySeen (here .loop .told) p (here .loop .circuits) l (here .loop .inflight) (here .loop .out)) k n stopped)
+    ∙ ap (λ (m : ℕ). advance (walkOn circuitId circuitTable (revokedCircuit (a .revoking))
+    (revokeCircuitThere (a .revoking .«circuit_notice»)) m n)
+    (underwaySeen (here .loop .told) p (here .loop .circuits) l (here .loop .inflight) (here .loop .out))) left
     ∙ here .loop .inv .5 p l
 
 revoke-circuit-requires : tie.Need-revoke-circuit-requires Inv-loop μ-loop
@@ -105,10 +126,20 @@ loop-again c =
       search needs,
       search needs,
       λ p l.
-          walk-on circuitId circuitTable (revokedCircuit (a .revoking)) (revokeCircuitThere (a .revoking .«circuit_notice»)) (underwaySeen (here .revoke-circuit .result) p (here .revoke-circuit .last .0) l (here .revoke-circuit .last .1 .0) (here .revoke-circuit .last .1 .1 .0)) k n (here .next-circuit .result) (here .next-circuit .ensures)
-          ∙ ap (λ (s : Progress). advance (walkFrom circuitId circuitTable (revokedCircuit (a .revoking)) (revokeCircuitThere (a .revoking .«circuit_notice»)) k n) s) (here .revoke-circuit .ensures p l)
-          ∙ sym (walk-turn circuitId circuitTable (revokedCircuit (a .revoking)) (revokeCircuitThere (a .revoking .«circuit_notice»)) (underwaySeen (here .loop .told) p (here .loop .circuits) l (here .loop .inflight) (here .loop .out)) k n goes)
-          ∙ ap (λ (m : ℕ). advance (walkOn circuitId circuitTable (revokedCircuit (a .revoking)) (revokeCircuitThere (a .revoking .«circuit_notice»)) m n) (underwaySeen (here .loop .told) p (here .loop .circuits) l (here .loop .inflight) (here .loop .out))) left
+          walk-on circuitId circuitTable (revokedCircuit (a .revoking))
+          (revokeCircuitThere (a .revoking .«circuit_notice»))
+          (underwaySeen (here .revoke-circuit .result) p (here .revoke-circuit .last .0) l
+          (here .revoke-circuit .last .1 .0) (here .revoke-circuit .last .1 .1 .0)) k n (here .next-circuit .result)
+          (here .next-circuit .ensures)
+          ∙ ap (λ (s : Progress). advance (walkFrom circuitId circuitTable (revokedCircuit (a .revoking))
+          (revokeCircuitThere (a .revoking .«circuit_notice»)) k n) s) (here .revoke-circuit .ensures p l)
+          ∙ sym (walk-turn circuitId circuitTable (revokedCircuit (a .revoking))
+          (revokeCircuitThere (a .revoking .«circuit_notice»))
+          (underwaySeen (here .loop .told) p (here .loop .circuits) l (here .loop .inflight) (here .loop .out)) k
+          n goes)
+          ∙ ap (λ (m : ℕ). advance (walkOn circuitId circuitTable (revokedCircuit (a .revoking))
+          (revokeCircuitThere (a .revoking .«circuit_notice»)) m n)
+          (underwaySeen (here .loop .told) p (here .loop .circuits) l (here .loop .inflight) (here .loop .out))) left
           ∙ here .loop .inv .5 p l,
     )
 
@@ -128,9 +159,17 @@ returns-2 c =
     let a = here .start .args in
     let over = here .loop-test .left in
     let none : 0 ≡ length (a .circuits .now) - here .loop .turn = omega arith in
-    sym (walk-over circuitId circuitTable (revokedCircuit (a .revoking)) (revokeCircuitThere (a .revoking .«circuit_notice»)) (underwaySeen (here .loop .told) p (here .loop .circuits) l (here .loop .inflight) (here .loop .out)) 0 (here .loop .next))
-    ∙ ap (λ (m : ℕ). advance (walkOn circuitId circuitTable (revokedCircuit (a .revoking)) (revokeCircuitThere (a .revoking .«circuit_notice»)) m (here .loop .next)) (underwaySeen (here .loop .told) p (here .loop .circuits) l (here .loop .inflight) (here .loop .out))) none
+    sym (walk-over circuitId circuitTable (revokedCircuit (a .revoking))
+    (revokeCircuitThere (a .revoking .«circuit_notice»))
+    (underwaySeen (here .loop .told) p (here .loop .circuits) l (here .loop .inflight) (here .loop .out)) 0
+    (here .loop .next))
+    ∙ ap (λ (m : ℕ). advance (walkOn circuitId circuitTable (revokedCircuit (a .revoking))
+    (revokeCircuitThere (a .revoking .«circuit_notice»)) m (here .loop .next))
+    (underwaySeen (here .loop .told) p (here .loop .circuits) l (here .loop .inflight) (here .loop .out))) none
     ∙ here .loop .inv .5 p l
 
 pub walk-circuits-spec : {M : Type 1} → statement M
-walk-circuits-spec = tie.close (tie.spec Inv-loop μ-loop loop-holds no-requires same-length same-length-2 same-length-3 returns revoke-circuit-requires next-circuit-requires add-turn loop-less loop-again same-length-4 same-length-5 same-length-6 returns-2)
+walk-circuits-spec =
+    tie.close (tie.spec Inv-loop μ-loop loop-holds no-requires same-length same-length-2 same-length-3 returns
+    revoke-circuit-requires next-circuit-requires add-turn loop-less loop-again same-length-4 same-length-5
+    same-length-6 returns-2)

@@ -43,12 +43,26 @@ returns c =
     let s = here .start in
     let a = s .args in
     let l = heldLedger (a .places) l₀ in
-    let w = worldOf (a .runtime) (heldPending (a .places) (a .pending .now)) (heldCircuits (a .places) (a .circuits .now)) l (heldActions (a .places) (a .inflight .now)) in
+    let w = worldOf (a .runtime) (heldPending (a .places) (a .pending .now))
+    (heldCircuits (a .places) (a .circuits .now)) l (heldActions (a .places) (a .inflight .now)) in
     let call = callDisconnect (a .peer .now) (length (a .out .now)) in
-    let answer = here .first-refusal .ensures ∙ (λ x. (here .entry-answer .ensures .0 ∙ entry-held (ltb (length (a .out .now)) (closingWords * (count isPending (heldPending (a .places) (a .pending .now)) + count isCircuit (heldCircuits (a .places) (a .circuits .now))))) Short (a .runtime .config) (length (heldPending (a .places) (a .pending .now))) (length (heldCircuits (a .places) (a .circuits .now))) (a .places) (a .inflight .now)) x then here .peer-answer .ensures x) in
+    let answer = here .first-refusal .ensures
+    ∙ (λ x. (here .entry-answer .ensures .0
+    ∙ entry-held (ltb (length (a .out .now))
+    (closingWords
+    * (count isPending (heldPending (a .places) (a .pending .now))
+    + count isCircuit (heldCircuits (a .places) (a .circuits .now))))) Short (a .runtime .config)
+    (length (heldPending (a .places) (a .pending .now))) (length (heldCircuits (a .places) (a .circuits .now)))
+    (a .places) (a .inflight .now)) x
+    then here .peer-answer .ensures x) in
     let small = bound s in
     here .revoke-all .ensures l₀
-    ∙ ap (λ (o : Outcome). ending (a .out .now) o) (disconnected (a .runtime) (heldPending (a .places) (a .pending .now)) (heldCircuits (a .places) (a .circuits .now)) l (heldActions (a .places) (a .inflight .now)) (a .peer .now) (length (a .out .now)) (here .first-refusal .result) (here .peer-of .result) (here .disconnecting .result) (heldActions (a .places) (here .clear-action .last .0)) (sym (here .is-taken .ensures) ∙ here .if1 .taken) answer (here .peer-of .ensures) (here .disconnecting .ensures) (here .clear-action .ensures))
+    ∙ ap (λ (o : Outcome). ending (a .out .now) o)
+    (disconnected (a .runtime) (heldPending (a .places) (a .pending .now)) (heldCircuits (a .places) (a .circuits .now))
+    l (heldActions (a .places) (a .inflight .now)) (a .peer .now) (length (a .out .now)) (here .first-refusal .result)
+    (here .peer-of .result) (here .disconnecting .result) (heldActions (a .places) (here .clear-action .last .0))
+    (sym (here .is-taken .ensures) ∙ here .if1 .taken) answer (here .peer-of .ensures) (here .disconnecting .ensures)
+    (here .clear-action .ensures))
     ∙ whole (a .out .now) w call (omega arith) (omega arith)
 
 returns-2 : tie.Need-returns-2
@@ -59,12 +73,25 @@ returns-2 c =
     let s = here .start in
     let a = s .args in
     let l = heldLedger (a .places) l₀ in
-    let w = worldOf (a .runtime) (heldPending (a .places) (a .pending .now)) (heldCircuits (a .places) (a .circuits .now)) l (heldActions (a .places) (a .inflight .now)) in
+    let w = worldOf (a .runtime) (heldPending (a .places) (a .pending .now))
+    (heldCircuits (a .places) (a .circuits .now)) l (heldActions (a .places) (a .inflight .now)) in
     let call = callDisconnect (a .peer .now) (length (a .out .now)) in
-    let answer = here .first-refusal .ensures ∙ (λ x. (here .entry-answer .ensures .0 ∙ entry-held (ltb (length (a .out .now)) (closingWords * (count isPending (heldPending (a .places) (a .pending .now)) + count isCircuit (heldCircuits (a .places) (a .circuits .now))))) Short (a .runtime .config) (length (heldPending (a .places) (a .pending .now))) (length (heldCircuits (a .places) (a .circuits .now))) (a .places) (a .inflight .now)) x then here .peer-answer .ensures x) in
+    let answer = here .first-refusal .ensures
+    ∙ (λ x. (here .entry-answer .ensures .0
+    ∙ entry-held (ltb (length (a .out .now))
+    (closingWords
+    * (count isPending (heldPending (a .places) (a .pending .now))
+    + count isCircuit (heldCircuits (a .places) (a .circuits .now))))) Short (a .runtime .config)
+    (length (heldPending (a .places) (a .pending .now))) (length (heldCircuits (a .places) (a .circuits .now)))
+    (a .places) (a .inflight .now)) x
+    then here .peer-answer .ensures x) in
     let small = bound s in
-    places-kept (here .refused .result) (a .pending .now) (a .circuits .now) l₀ (a .inflight .now) (a .out .now) (a .places) (here .refused .ensures .1)
-    ∙ turned-away (a .runtime) (heldPending (a .places) (a .pending .now)) (heldCircuits (a .places) (a .circuits .now)) l (heldActions (a .places) (a .inflight .now)) (a .out .now) (here .refused .result) (here .first-refusal .result) _ (disconnectPeer w (peerOf (a .peer .now))) (here .refused .ensures .0) (sym (here .is-taken .ensures) ∙ here .if1 .left) answer
+    places-kept (here .refused .result) (a .pending .now) (a .circuits .now) l₀ (a .inflight .now) (a .out .now)
+    (a .places) (here .refused .ensures .1)
+    ∙ turned-away (a .runtime) (heldPending (a .places) (a .pending .now)) (heldCircuits (a .places) (a .circuits .now))
+    l (heldActions (a .places) (a .inflight .now)) (a .out .now) (here .refused .result) (here .first-refusal .result) _
+    (disconnectPeer w (peerOf (a .peer .now))) (here .refused .ensures .0)
+    (sym (here .is-taken .ensures) ∙ here .if1 .left) answer
     ∙ whole (a .out .now) w call (omega arith) (omega arith)
 
 pub disconnect-spec : {M : Type 1} → statement M

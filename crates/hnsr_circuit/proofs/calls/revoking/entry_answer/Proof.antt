@@ -24,8 +24,13 @@ returns c =
     let short = here .room-short .ensures ∙ (λ x. ltb (a .room) (closingWords * (waiting .0 x + active .0 x))) in
     let long = sym (length-held clearPending (a .places .pending) (a .pending .now)) in
     let wide = sym (length-held clearCircuit (a .places .circuits) (a .circuits .now)) in
-    let e = here .entry-found .ensures in
-    (e .0 ∙ here .room-answer .ensures ∙ (λ x. check (short x || tooFew (a .config) (long x) (wide x) (a .inflight)) Short), e .1 ∙ waiting .1, e .2 ∙ active .1)
+    let e = here .entry-found .ensures in (
+      e .0
+          ∙ here .room-answer .ensures
+          ∙ (λ x. check (short x || tooFew (a .config) (long x) (wide x) (a .inflight)) Short),
+      e .1 ∙ waiting .1,
+      e .2 ∙ active .1,
+    )
 
 pub entry-answer-spec : {M : Type 1} → statement M
 entry-answer-spec = tie.close (at.spec returns)

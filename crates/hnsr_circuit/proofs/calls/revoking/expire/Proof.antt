@@ -40,12 +40,27 @@ returns c =
     let here = at.returns c in
     let s = here .start in
     let a = s .args in
-    let w = worldOf (a .runtime) (heldPending (a .places) (a .pending .now)) (heldCircuits (a .places) (a .circuits .now)) (heldLedger (a .places) (a .ledger .now)) (heldActions (a .places) (a .inflight .now)) in
+    let w = worldOf (a .runtime) (heldPending (a .places) (a .pending .now))
+    (heldCircuits (a .places) (a .circuits .now)) (heldLedger (a .places) (a .ledger .now))
+    (heldActions (a .places) (a .inflight .now)) in
     let call = callExpire (a .time) (length (a .out .now)) in
-    let answer = here .first-refusal .ensures ∙ (λ x. (here .entry-answer .ensures .0 ∙ entry-held (ltb (length (a .out .now)) (closingWords * (count isPending (heldPending (a .places) (a .pending .now)) + count isCircuit (heldCircuits (a .places) (a .circuits .now))))) Short (a .runtime .config) (length (heldPending (a .places) (a .pending .now))) (length (heldCircuits (a .places) (a .circuits .now))) (a .places) (a .inflight .now)) x then here .clock-answer .ensures x) in
+    let answer = here .first-refusal .ensures
+    ∙ (λ x. (here .entry-answer .ensures .0
+    ∙ entry-held (ltb (length (a .out .now))
+    (closingWords
+    * (count isPending (heldPending (a .places) (a .pending .now))
+    + count isCircuit (heldCircuits (a .places) (a .circuits .now))))) Short (a .runtime .config)
+    (length (heldPending (a .places) (a .pending .now))) (length (heldCircuits (a .places) (a .circuits .now)))
+    (a .places) (a .inflight .now)) x
+    then here .clock-answer .ensures x) in
     let small = bound s in
     here .revoke-all .ensures (here .drop-lapsed .last .0)
-    ∙ ap (λ (o : Outcome). ending (a .out .now) o) (expired (a .runtime) (heldPending (a .places) (a .pending .now)) (heldCircuits (a .places) (a .circuits .now)) (heldLedger (a .places) (a .ledger .now)) (heldActions (a .places) (a .inflight .now)) (a .time) (length (a .out .now)) (here .first-refusal .result) (here .revoking .result) (here .with-clock .result) (heldLedger (a .places) (here .drop-lapsed .last .0)) (sym (here .is-taken .ensures) ∙ here .if1 .taken) answer (here .revoking .ensures) (here .with-clock .ensures) (here .drop-lapsed .ensures))
+    ∙ ap (λ (o : Outcome). ending (a .out .now) o)
+    (expired (a .runtime) (heldPending (a .places) (a .pending .now)) (heldCircuits (a .places) (a .circuits .now))
+    (heldLedger (a .places) (a .ledger .now)) (heldActions (a .places) (a .inflight .now)) (a .time)
+    (length (a .out .now)) (here .first-refusal .result) (here .revoking .result) (here .with-clock .result)
+    (heldLedger (a .places) (here .drop-lapsed .last .0)) (sym (here .is-taken .ensures) ∙ here .if1 .taken) answer
+    (here .revoking .ensures) (here .with-clock .ensures) (here .drop-lapsed .ensures))
     ∙ whole (a .out .now) w call (omega arith) (omega arith)
 
 returns-2 : tie.Need-returns-2
@@ -54,12 +69,26 @@ returns-2 c =
     let here = at.returns-2 c in
     let s = here .start in
     let a = s .args in
-    let w = worldOf (a .runtime) (heldPending (a .places) (a .pending .now)) (heldCircuits (a .places) (a .circuits .now)) (heldLedger (a .places) (a .ledger .now)) (heldActions (a .places) (a .inflight .now)) in
+    let w = worldOf (a .runtime) (heldPending (a .places) (a .pending .now))
+    (heldCircuits (a .places) (a .circuits .now)) (heldLedger (a .places) (a .ledger .now))
+    (heldActions (a .places) (a .inflight .now)) in
     let call = callExpire (a .time) (length (a .out .now)) in
-    let answer = here .first-refusal .ensures ∙ (λ x. (here .entry-answer .ensures .0 ∙ entry-held (ltb (length (a .out .now)) (closingWords * (count isPending (heldPending (a .places) (a .pending .now)) + count isCircuit (heldCircuits (a .places) (a .circuits .now))))) Short (a .runtime .config) (length (heldPending (a .places) (a .pending .now))) (length (heldCircuits (a .places) (a .circuits .now))) (a .places) (a .inflight .now)) x then here .clock-answer .ensures x) in
+    let answer = here .first-refusal .ensures
+    ∙ (λ x. (here .entry-answer .ensures .0
+    ∙ entry-held (ltb (length (a .out .now))
+    (closingWords
+    * (count isPending (heldPending (a .places) (a .pending .now))
+    + count isCircuit (heldCircuits (a .places) (a .circuits .now))))) Short (a .runtime .config)
+    (length (heldPending (a .places) (a .pending .now))) (length (heldCircuits (a .places) (a .circuits .now)))
+    (a .places) (a .inflight .now)) x
+    then here .clock-answer .ensures x) in
     let small = bound s in
-    places-kept (here .refused .result) (a .pending .now) (a .circuits .now) (a .ledger .now) (a .inflight .now) (a .out .now) (a .places) (here .refused .ensures .1)
-    ∙ turned-away (a .runtime) (heldPending (a .places) (a .pending .now)) (heldCircuits (a .places) (a .circuits .now)) (heldLedger (a .places) (a .ledger .now)) (heldActions (a .places) (a .inflight .now)) (a .out .now) (here .refused .result) (here .first-refusal .result) _ (expireAt w (a .time)) (here .refused .ensures .0) (sym (here .is-taken .ensures) ∙ here .if1 .left) answer
+    places-kept (here .refused .result) (a .pending .now) (a .circuits .now) (a .ledger .now) (a .inflight .now)
+    (a .out .now) (a .places) (here .refused .ensures .1)
+    ∙ turned-away (a .runtime) (heldPending (a .places) (a .pending .now)) (heldCircuits (a .places) (a .circuits .now))
+    (heldLedger (a .places) (a .ledger .now)) (heldActions (a .places) (a .inflight .now)) (a .out .now)
+    (here .refused .result) (here .first-refusal .result) _ (expireAt w (a .time)) (here .refused .ensures .0)
+    (sym (here .is-taken .ensures) ∙ here .if1 .left) answer
     ∙ whole (a .out .now) w call (omega arith) (omega arith)
 
 pub expire-spec : {M : Type 1} → statement M

@@ -40,9 +40,27 @@ switch-to-requires c κs =
     let here = at.switch-to-requires c in
     let s = here .start in
     let a = s .args in
-    let answer = here .first-refusal2 .ensures ∙ (λ x. (here .entry-answer .ensures .0 ∙ entry-held (ltb (length (a .out .now)) (closingWords * (count isPending (heldPending (a .places) (a .pending .now)) + count isCircuit (heldCircuits (a .places) (a .circuits .now))))) Short (a .runtime .config) (length (heldPending (a .places) (a .pending .now))) (length (heldCircuits (a .places) (a .circuits .now))) (a .places) (a .inflight .now)) x then (here .first-refusal .ensures ∙ (λ y. here .generation-answer .ensures y then (here .change-answer .ensures ∙ ap (λ (b : Bool). changeAnswer (a .runtime .generation) b) (here .changed .ensures)) y)) x) in
-    let g = generation s in
-    (below-top (a .runtime) (heldPending (a .places) (a .pending .now)) (heldCircuits (a .places) (a .circuits .now)) [] (heldActions (a .places) (a .inflight .now)) (a .expected-generation) (length (a .out .now)) (a .enabled) (here .first-refusal2 .result) answer (omega arith) (sym (here .is-taken .ensures) ∙ here .if1 .taken) (sym (here .changed .ensures) ∙ here .if2 .taken), here .revoking .ensures, here .entry-answer .ensures .1, here .entry-answer .ensures .2)
+    let answer = here .first-refusal2 .ensures
+    ∙ (λ x. (here .entry-answer .ensures .0
+    ∙ entry-held (ltb (length (a .out .now))
+    (closingWords
+    * (count isPending (heldPending (a .places) (a .pending .now))
+    + count isCircuit (heldCircuits (a .places) (a .circuits .now))))) Short (a .runtime .config)
+    (length (heldPending (a .places) (a .pending .now))) (length (heldCircuits (a .places) (a .circuits .now)))
+    (a .places) (a .inflight .now)) x
+    then (here .first-refusal .ensures
+    ∙ (λ y. here .generation-answer .ensures y
+    then (here .change-answer .ensures
+    ∙ ap (λ (b : Bool). changeAnswer (a .runtime .generation) b) (here .changed .ensures)) y)) x) in
+    let g = generation s in (
+      below-top (a .runtime) (heldPending (a .places) (a .pending .now)) (heldCircuits (a .places) (a .circuits .now))
+          [] (heldActions (a .places) (a .inflight .now)) (a .expected-generation) (length (a .out .now)) (a .enabled)
+          (here .first-refusal2 .result) answer (omega arith) (sym (here .is-taken .ensures) ∙ here .if1 .taken)
+          (sym (here .changed .ensures) ∙ here .if2 .taken),
+      here .revoking .ensures,
+      here .entry-answer .ensures .1,
+      here .entry-answer .ensures .2,
+    )
 
 returns : tie.Need-returns
 unfolding roomAnswer tablesShort pendingCount circuitCount step
@@ -52,12 +70,28 @@ returns c =
     let s = here .start in
     let a = s .args in
     let l = heldLedger (a .places) l₀ in
-    let w = worldOf (a .runtime) (heldPending (a .places) (a .pending .now)) (heldCircuits (a .places) (a .circuits .now)) l (heldActions (a .places) (a .inflight .now)) in
+    let w = worldOf (a .runtime) (heldPending (a .places) (a .pending .now))
+    (heldCircuits (a .places) (a .circuits .now)) l (heldActions (a .places) (a .inflight .now)) in
     let call = callReplaceEnabled (a .expected-generation) (a .enabled) (length (a .out .now)) in
-    let answer = here .first-refusal2 .ensures ∙ (λ x. (here .entry-answer .ensures .0 ∙ entry-held (ltb (length (a .out .now)) (closingWords * (count isPending (heldPending (a .places) (a .pending .now)) + count isCircuit (heldCircuits (a .places) (a .circuits .now))))) Short (a .runtime .config) (length (heldPending (a .places) (a .pending .now))) (length (heldCircuits (a .places) (a .circuits .now))) (a .places) (a .inflight .now)) x then (here .first-refusal .ensures ∙ (λ y. here .generation-answer .ensures y then (here .change-answer .ensures ∙ ap (λ (b : Bool). changeAnswer (a .runtime .generation) b) (here .changed .ensures)) y)) x) in
+    let answer = here .first-refusal2 .ensures
+    ∙ (λ x. (here .entry-answer .ensures .0
+    ∙ entry-held (ltb (length (a .out .now))
+    (closingWords
+    * (count isPending (heldPending (a .places) (a .pending .now))
+    + count isCircuit (heldCircuits (a .places) (a .circuits .now))))) Short (a .runtime .config)
+    (length (heldPending (a .places) (a .pending .now))) (length (heldCircuits (a .places) (a .circuits .now)))
+    (a .places) (a .inflight .now)) x
+    then (here .first-refusal .ensures
+    ∙ (λ y. here .generation-answer .ensures y
+    then (here .change-answer .ensures
+    ∙ ap (λ (b : Bool). changeAnswer (a .runtime .generation) b) (here .changed .ensures)) y)) x) in
     let small = bound s in
     here .switch-to .ensures l₀
-    ∙ ap (λ (o : Outcome). ending (a .out .now) o) (changed-state (a .runtime) (heldPending (a .places) (a .pending .now)) (heldCircuits (a .places) (a .circuits .now)) l (heldActions (a .places) (a .inflight .now)) (a .expected-generation) (length (a .out .now)) (a .enabled) (here .first-refusal2 .result) answer (sym (here .is-taken .ensures) ∙ here .if1 .taken) (sym (here .changed .ensures) ∙ here .if2 .taken))
+    ∙ ap (λ (o : Outcome). ending (a .out .now) o)
+    (changed-state (a .runtime) (heldPending (a .places) (a .pending .now))
+    (heldCircuits (a .places) (a .circuits .now)) l (heldActions (a .places) (a .inflight .now))
+    (a .expected-generation) (length (a .out .now)) (a .enabled) (here .first-refusal2 .result) answer
+    (sym (here .is-taken .ensures) ∙ here .if1 .taken) (sym (here .changed .ensures) ∙ here .if2 .taken))
     ∙ whole (a .out .now) w call (omega arith) (omega arith)
 
 returns-2 : tie.Need-returns-2
@@ -68,12 +102,29 @@ returns-2 c =
     let s = here .start in
     let a = s .args in
     let l = heldLedger (a .places) l₀ in
-    let w = worldOf (a .runtime) (heldPending (a .places) (a .pending .now)) (heldCircuits (a .places) (a .circuits .now)) l (heldActions (a .places) (a .inflight .now)) in
+    let w = worldOf (a .runtime) (heldPending (a .places) (a .pending .now))
+    (heldCircuits (a .places) (a .circuits .now)) l (heldActions (a .places) (a .inflight .now)) in
     let call = callReplaceEnabled (a .expected-generation) (a .enabled) (length (a .out .now)) in
-    let answer = here .first-refusal2 .ensures ∙ (λ x. (here .entry-answer .ensures .0 ∙ entry-held (ltb (length (a .out .now)) (closingWords * (count isPending (heldPending (a .places) (a .pending .now)) + count isCircuit (heldCircuits (a .places) (a .circuits .now))))) Short (a .runtime .config) (length (heldPending (a .places) (a .pending .now))) (length (heldCircuits (a .places) (a .circuits .now))) (a .places) (a .inflight .now)) x then (here .first-refusal .ensures ∙ (λ y. here .generation-answer .ensures y then (here .change-answer .ensures ∙ ap (λ (b : Bool). changeAnswer (a .runtime .generation) b) (here .changed .ensures)) y)) x) in
+    let answer = here .first-refusal2 .ensures
+    ∙ (λ x. (here .entry-answer .ensures .0
+    ∙ entry-held (ltb (length (a .out .now))
+    (closingWords
+    * (count isPending (heldPending (a .places) (a .pending .now))
+    + count isCircuit (heldCircuits (a .places) (a .circuits .now))))) Short (a .runtime .config)
+    (length (heldPending (a .places) (a .pending .now))) (length (heldCircuits (a .places) (a .circuits .now)))
+    (a .places) (a .inflight .now)) x
+    then (here .first-refusal .ensures
+    ∙ (λ y. here .generation-answer .ensures y
+    then (here .change-answer .ensures
+    ∙ ap (λ (b : Bool). changeAnswer (a .runtime .generation) b) (here .changed .ensures)) y)) x) in
     let small = bound s in
-    places-kept (here .taken-with .result) (a .pending .now) (a .circuits .now) l₀ (a .inflight .now) (a .out .now) (a .places) (here .taken-with .ensures .1)
-    ∙ same-state (a .runtime) (heldPending (a .places) (a .pending .now)) (heldCircuits (a .places) (a .circuits .now)) l (heldActions (a .places) (a .inflight .now)) (a .expected-generation) (length (a .out .now)) (a .enabled) (here .first-refusal2 .result) answer (here .taken-with .result) (a .out .now) (sym (here .is-taken .ensures) ∙ here .if1 .taken) (sym (here .changed .ensures) ∙ here .if2 .left) (here .taken-with .ensures .0)
+    places-kept (here .taken-with .result) (a .pending .now) (a .circuits .now) l₀ (a .inflight .now) (a .out .now)
+    (a .places) (here .taken-with .ensures .1)
+    ∙ same-state (a .runtime) (heldPending (a .places) (a .pending .now)) (heldCircuits (a .places) (a .circuits .now))
+    l (heldActions (a .places) (a .inflight .now)) (a .expected-generation) (length (a .out .now)) (a .enabled)
+    (here .first-refusal2 .result) answer (here .taken-with .result) (a .out .now)
+    (sym (here .is-taken .ensures) ∙ here .if1 .taken) (sym (here .changed .ensures) ∙ here .if2 .left)
+    (here .taken-with .ensures .0)
     ∙ whole (a .out .now) w call (omega arith) (omega arith)
 
 returns-3 : tie.Need-returns-3
@@ -84,12 +135,27 @@ returns-3 c =
     let s = here .start in
     let a = s .args in
     let l = heldLedger (a .places) l₀ in
-    let w = worldOf (a .runtime) (heldPending (a .places) (a .pending .now)) (heldCircuits (a .places) (a .circuits .now)) l (heldActions (a .places) (a .inflight .now)) in
+    let w = worldOf (a .runtime) (heldPending (a .places) (a .pending .now))
+    (heldCircuits (a .places) (a .circuits .now)) l (heldActions (a .places) (a .inflight .now)) in
     let call = callReplaceEnabled (a .expected-generation) (a .enabled) (length (a .out .now)) in
-    let answer = here .first-refusal2 .ensures ∙ (λ x. (here .entry-answer .ensures .0 ∙ entry-held (ltb (length (a .out .now)) (closingWords * (count isPending (heldPending (a .places) (a .pending .now)) + count isCircuit (heldCircuits (a .places) (a .circuits .now))))) Short (a .runtime .config) (length (heldPending (a .places) (a .pending .now))) (length (heldCircuits (a .places) (a .circuits .now))) (a .places) (a .inflight .now)) x then (here .first-refusal .ensures ∙ (λ y. here .generation-answer .ensures y then (here .change-answer .ensures ∙ ap (λ (b : Bool). changeAnswer (a .runtime .generation) b) (here .changed .ensures)) y)) x) in
+    let answer = here .first-refusal2 .ensures
+    ∙ (λ x. (here .entry-answer .ensures .0
+    ∙ entry-held (ltb (length (a .out .now))
+    (closingWords
+    * (count isPending (heldPending (a .places) (a .pending .now))
+    + count isCircuit (heldCircuits (a .places) (a .circuits .now))))) Short (a .runtime .config)
+    (length (heldPending (a .places) (a .pending .now))) (length (heldCircuits (a .places) (a .circuits .now)))
+    (a .places) (a .inflight .now)) x
+    then (here .first-refusal .ensures
+    ∙ (λ y. here .generation-answer .ensures y
+    then (here .change-answer .ensures
+    ∙ ap (λ (b : Bool). changeAnswer (a .runtime .generation) b) (here .changed .ensures)) y)) x) in
     let small = bound s in
-    places-kept (here .refused .result) (a .pending .now) (a .circuits .now) l₀ (a .inflight .now) (a .out .now) (a .places) (here .refused .ensures .1)
-    ∙ turned-away (a .runtime) (heldPending (a .places) (a .pending .now)) (heldCircuits (a .places) (a .circuits .now)) l (heldActions (a .places) (a .inflight .now)) (a .out .now) (here .refused .result) (here .first-refusal2 .result) _ _ (here .refused .ensures .0) (sym (here .is-taken .ensures) ∙ here .if1 .left) answer
+    places-kept (here .refused .result) (a .pending .now) (a .circuits .now) l₀ (a .inflight .now) (a .out .now)
+    (a .places) (here .refused .ensures .1)
+    ∙ turned-away (a .runtime) (heldPending (a .places) (a .pending .now)) (heldCircuits (a .places) (a .circuits .now))
+    l (heldActions (a .places) (a .inflight .now)) (a .out .now) (here .refused .result) (here .first-refusal2 .result)
+    _ _ (here .refused .ensures .0) (sym (here .is-taken .ensures) ∙ here .if1 .left) answer
     ∙ whole (a .out .now) w call (omega arith) (omega arith)
 
 pub replace-enabled-spec : {M : Type 1} → statement M

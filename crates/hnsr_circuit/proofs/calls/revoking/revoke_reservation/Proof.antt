@@ -39,11 +39,25 @@ returns c =
     let here = at.returns c in
     let s = here .start in
     let a = s .args in
-    let w = worldOf (a .runtime) (heldPending (a .places) (a .pending .now)) (heldCircuits (a .places) (a .circuits .now)) (heldLedger (a .places) (a .ledger .now)) (heldActions (a .places) (a .inflight .now)) in
+    let w = worldOf (a .runtime) (heldPending (a .places) (a .pending .now))
+    (heldCircuits (a .places) (a .circuits .now)) (heldLedger (a .places) (a .ledger .now))
+    (heldActions (a .places) (a .inflight .now)) in
     let call = callRevokeReservation (a .id) (length (a .out .now)) in
     let small = bound s in
     here .revoke-all .ensures (here .drop-usage .last .0)
-    ∙ ap (λ (o : Outcome). ending (a .out .now) o) (revoked-under (a .runtime) (heldPending (a .places) (a .pending .now)) (heldCircuits (a .places) (a .circuits .now)) (heldLedger (a .places) (a .ledger .now)) (heldActions (a .places) (a .inflight .now)) (a .id) (length (a .out .now)) (here .entry-answer .result .answer) (here .revoking .result) (heldLedger (a .places) (here .drop-usage .last .0)) (sym (here .is-taken .ensures) ∙ here .if1 .taken) (here .entry-answer .ensures .0 ∙ entry-held (ltb (length (a .out .now)) (closingWords * (count isPending (heldPending (a .places) (a .pending .now)) + count isCircuit (heldCircuits (a .places) (a .circuits .now))))) Short (a .runtime .config) (length (heldPending (a .places) (a .pending .now))) (length (heldCircuits (a .places) (a .circuits .now))) (a .places) (a .inflight .now)) (here .revoking .ensures) (here .drop-usage .ensures))
+    ∙ ap (λ (o : Outcome). ending (a .out .now) o)
+    (revoked-under (a .runtime) (heldPending (a .places) (a .pending .now))
+    (heldCircuits (a .places) (a .circuits .now)) (heldLedger (a .places) (a .ledger .now))
+    (heldActions (a .places) (a .inflight .now)) (a .id) (length (a .out .now)) (here .entry-answer .result .answer)
+    (here .revoking .result) (heldLedger (a .places) (here .drop-usage .last .0))
+    (sym (here .is-taken .ensures) ∙ here .if1 .taken)
+    (here .entry-answer .ensures .0
+    ∙ entry-held (ltb (length (a .out .now))
+    (closingWords
+    * (count isPending (heldPending (a .places) (a .pending .now))
+    + count isCircuit (heldCircuits (a .places) (a .circuits .now))))) Short (a .runtime .config)
+    (length (heldPending (a .places) (a .pending .now))) (length (heldCircuits (a .places) (a .circuits .now)))
+    (a .places) (a .inflight .now)) (here .revoking .ensures) (here .drop-usage .ensures))
     ∙ whole (a .out .now) w call (omega arith) (omega arith)
 
 returns-2 : tie.Need-returns-2
@@ -52,11 +66,24 @@ returns-2 c =
     let here = at.returns-2 c in
     let s = here .start in
     let a = s .args in
-    let w = worldOf (a .runtime) (heldPending (a .places) (a .pending .now)) (heldCircuits (a .places) (a .circuits .now)) (heldLedger (a .places) (a .ledger .now)) (heldActions (a .places) (a .inflight .now)) in
+    let w = worldOf (a .runtime) (heldPending (a .places) (a .pending .now))
+    (heldCircuits (a .places) (a .circuits .now)) (heldLedger (a .places) (a .ledger .now))
+    (heldActions (a .places) (a .inflight .now)) in
     let call = callRevokeReservation (a .id) (length (a .out .now)) in
     let small = bound s in
-    places-kept (here .refused .result) (a .pending .now) (a .circuits .now) (a .ledger .now) (a .inflight .now) (a .out .now) (a .places) (here .refused .ensures .1)
-    ∙ turned-away (a .runtime) (heldPending (a .places) (a .pending .now)) (heldCircuits (a .places) (a .circuits .now)) (heldLedger (a .places) (a .ledger .now)) (heldActions (a .places) (a .inflight .now)) (a .out .now) (here .refused .result) (here .entry-answer .result .answer) _ (revokeUnder w (a .id)) (here .refused .ensures .0) (sym (here .is-taken .ensures) ∙ here .if1 .left) (here .entry-answer .ensures .0 ∙ entry-held (ltb (length (a .out .now)) (closingWords * (count isPending (heldPending (a .places) (a .pending .now)) + count isCircuit (heldCircuits (a .places) (a .circuits .now))))) Short (a .runtime .config) (length (heldPending (a .places) (a .pending .now))) (length (heldCircuits (a .places) (a .circuits .now))) (a .places) (a .inflight .now))
+    places-kept (here .refused .result) (a .pending .now) (a .circuits .now) (a .ledger .now) (a .inflight .now)
+    (a .out .now) (a .places) (here .refused .ensures .1)
+    ∙ turned-away (a .runtime) (heldPending (a .places) (a .pending .now)) (heldCircuits (a .places) (a .circuits .now))
+    (heldLedger (a .places) (a .ledger .now)) (heldActions (a .places) (a .inflight .now)) (a .out .now)
+    (here .refused .result) (here .entry-answer .result .answer) _ (revokeUnder w (a .id)) (here .refused .ensures .0)
+    (sym (here .is-taken .ensures) ∙ here .if1 .left)
+    (here .entry-answer .ensures .0
+    ∙ entry-held (ltb (length (a .out .now))
+    (closingWords
+    * (count isPending (heldPending (a .places) (a .pending .now))
+    + count isCircuit (heldCircuits (a .places) (a .circuits .now))))) Short (a .runtime .config)
+    (length (heldPending (a .places) (a .pending .now))) (length (heldCircuits (a .places) (a .circuits .now)))
+    (a .places) (a .inflight .now))
     ∙ whole (a .out .now) w call (omega arith) (omega arith)
 
 pub revoke-reservation-spec : {M : Type 1} → statement M

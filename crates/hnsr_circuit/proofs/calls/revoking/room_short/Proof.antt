@@ -19,7 +19,8 @@ returns c =
     let here = at.returns c in
     let a = here .start .args in
     let k = small (here .start) in
-    ap (λ (n : ℕ). ltb (a .room / closingWords) n) (here .saturating-add-usize .ensures) ∙ room-tests (a .room) (a .pending) (a .circuits) (omega arith)
+    ap (λ (n : ℕ). ltb (a .room / closingWords) n) (here .saturating-add-usize .ensures)
+    ∙ room-tests (a .room) (a .pending) (a .circuits) (omega arith)
 
 pub room-short-spec : {M : Type 1} → statement M
 room-short-spec = tie.close (at.spec returns)

@@ -7,7 +7,14 @@ use Rattle.hnsr_circuit.proofs.calls.silent.new_answer.Proof.At as at
 returns : tie.Need-returns
 returns c =
     let here = at.returns c in
-    rw (here .first-refusal2 .ensures, here .first-refusal .ensures, here .check .ensures, here .either .ensures, here .validate .ensures, here .session-answer .ensures)
+    rw (
+      here .first-refusal2 .ensures,
+      here .first-refusal .ensures,
+      here .check .ensures,
+      here .either .ensures,
+      here .validate .ensures,
+      here .session-answer .ensures,
+    )
 
 pub new-answer-spec : {M : Type 1} → statement M
 new-answer-spec =

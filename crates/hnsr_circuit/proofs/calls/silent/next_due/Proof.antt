@@ -25,9 +25,12 @@ returns c =
     λ l₀.
     let a = here .start .args in
     let l = heldLedger (a .places) l₀ in
-    let w = worldOf (a .runtime) (heldPending (a .places) (a .pending .now)) (heldCircuits (a .places) (a .circuits .now)) l (heldActions (a .places) (a .inflight .now)) in
-    let few = here .too-few .ensures ∙ few-held (a .runtime .config) (a .places) (a .pending .now) (a .circuits .now) (a .inflight .now) in
-    let all = here .circuit-due .ensures ∙ ap (λ (d : NextDue). circuitDue (heldCircuits (a .places) (a .circuits .now)) d) (here .pending-due .ensures) in
+    let w = worldOf (a .runtime) (heldPending (a .places) (a .pending .now))
+    (heldCircuits (a .places) (a .circuits .now)) l (heldActions (a .places) (a .inflight .now)) in
+    let few = here .too-few .ensures
+    ∙ few-held (a .runtime .config) (a .places) (a .pending .now) (a .circuits .now) (a .inflight .now) in
+    let all = here .circuit-due .ensures
+    ∙ ap (λ (d : NextDue). circuitDue (heldCircuits (a .places) (a .circuits .now)) d) (here .pending-due .ensures) in
     let e = here .due-told .ensures in
     (λ x. record { answer = e .0 x; due = e .1 x })
     ∙ (λ x. record { answer = check (few x) Short; due = cond (few x) Never (all x) })

@@ -21,7 +21,10 @@ returns c =
     let e = here .taken-with .ensures in
     let t = sym (here .is-taken .ensures) ∙ here .if1 .taken in
     places-kept (here .taken-with .result) p cs l i out (a .places) (e .1)
-    ∙ observed (heldPending (a .places) p) (heldCircuits (a .places) cs) (heldLedger (a .places) l) (heldActions (a .places) i) out (a .runtime) (a .time) (here .taken-with .result) (here .clock-answer .result) (clockAnswer (a .runtime .«trusted_time_high_water») (a .time)) t (here .clock-answer .ensures) (e .0 .0 ∙ here .with-clock .ensures, e .0 .1 ∙ sym (taken-is (here .clock-answer .result) t), e .0 .2)
+    ∙ observed (heldPending (a .places) p) (heldCircuits (a .places) cs) (heldLedger (a .places) l)
+    (heldActions (a .places) i) out (a .runtime) (a .time) (here .taken-with .result) (here .clock-answer .result)
+    (clockAnswer (a .runtime .«trusted_time_high_water») (a .time)) t (here .clock-answer .ensures)
+    (e .0 .0 ∙ here .with-clock .ensures, e .0 .1 ∙ sym (taken-is (here .clock-answer .result) t), e .0 .2)
 
 returns-2 : tie.Need-returns-2
 unfolding step observeTime
@@ -30,7 +33,10 @@ returns-2 c =
     λ p cs l i out.
     let a = here .start .args in
     places-kept (here .refused .result) p cs l i out (a .places) (here .refused .ensures .1)
-    ∙ unobserved (heldPending (a .places) p) (heldCircuits (a .places) cs) (heldLedger (a .places) l) (heldActions (a .places) i) out (a .runtime) (a .time) (here .refused .result) (here .clock-answer .result) (clockAnswer (a .runtime .«trusted_time_high_water») (a .time)) (sym (here .is-taken .ensures) ∙ here .if1 .left) (here .clock-answer .ensures) (here .refused .ensures .0)
+    ∙ unobserved (heldPending (a .places) p) (heldCircuits (a .places) cs) (heldLedger (a .places) l)
+    (heldActions (a .places) i) out (a .runtime) (a .time) (here .refused .result) (here .clock-answer .result)
+    (clockAnswer (a .runtime .«trusted_time_high_water») (a .time)) (sym (here .is-taken .ensures) ∙ here .if1 .left)
+    (here .clock-answer .ensures) (here .refused .ensures .0)
 
 pub observe-time-spec : {M : Type 1} → statement M
 observe-time-spec =

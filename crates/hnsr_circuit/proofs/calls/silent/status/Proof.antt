@@ -25,11 +25,13 @@ returns c =
     λ l₀.
     let a = here .start .args in
     let l = heldLedger (a .places) l₀ in
-    let w = worldOf (a .runtime) (heldPending (a .places) (a .pending .now)) (heldCircuits (a .places) (a .circuits .now)) l (heldActions (a .places) (a .inflight .now)) in
+    let w = worldOf (a .runtime) (heldPending (a .places) (a .pending .now))
+    (heldCircuits (a .places) (a .circuits .now)) l (heldActions (a .places) (a .inflight .now)) in
     let n = here .count-pending .ensures in
     let t = here .circuit-totals .ensures in
     let m = here .count-action .ensures in
-    let few = here .too-few .ensures ∙ few-held (a .runtime .config) (a .places) (a .pending .now) (a .circuits .now) (a .inflight .now) in
+    let few = here .too-few .ensures
+    ∙ few-held (a .runtime .config) (a .places) (a .pending .now) (a .circuits .now) (a .inflight .now) in
     let all = here .status-of .ensures ∙ (λ x. statusFrom (a .runtime) (n x) (t x) (m x)) in
     let e = here .status-told .ensures in
     (λ x. record { answer = e .0 x; status = e .1 x })

@@ -16,7 +16,12 @@ returns : tie.Need-returns
 unfolding acceptAnswer
 returns c =
     let here = at.returns c in
-    let s = here .start in rw (here .accept-answer .ensures, here .reservation-work .ensures, ltb-sum (s .args .pending .ticket .«max_active_circuits») (s .args .waiting) (s .args .running) (small s))
+    let s = here .start in
+    rw (
+      here .accept-answer .ensures,
+      here .reservation-work .ensures,
+      ltb-sum (s .args .pending .ticket .«max_active_circuits») (s .args .waiting) (s .args .running) (small s),
+    )
 
 pub accept-limit-spec : {M : Type 1} → statement M
 accept-limit-spec =

@@ -7,7 +7,15 @@ use Rattle.hnsr_circuit.proofs.messages.accept.accept_rows.Proof.At as 
 returns : tie.Need-returns
 returns c =
     let here = at.returns c in
-    rw (here .first-refusal3 .ensures, here .first-refusal2 .ensures, here .first-refusal .ensures, here .capacity-answer .ensures, here .accept-limit .ensures, here .body-answer .ensures, here .request-answer .ensures)
+    rw (
+      here .first-refusal3 .ensures,
+      here .first-refusal2 .ensures,
+      here .first-refusal .ensures,
+      here .capacity-answer .ensures,
+      here .accept-limit .ensures,
+      here .body-answer .ensures,
+      here .request-answer .ensures,
+    )
 
 pub accept-rows-spec : {M : Type 1} → statement M
 accept-rows-spec =

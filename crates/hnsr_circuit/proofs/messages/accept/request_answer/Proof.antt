@@ -9,7 +9,17 @@ returns : tie.Need-returns
 unfolding requestAnswer
 returns c =
     let here = at.returns c in
-    rw (here .first-refusal2 .ensures, here .first-refusal .ensures, here .check3 .ensures, here .overdue .ensures, here .check2 .ensures, here .no2 .ensures, here .same-peer .ensures, here .check .ensures, here .no .ensures)
+    rw (
+      here .first-refusal2 .ensures,
+      here .first-refusal .ensures,
+      here .check3 .ensures,
+      here .overdue .ensures,
+      here .check2 .ensures,
+      here .no2 .ensures,
+      here .same-peer .ensures,
+      here .check .ensures,
+      here .no .ensures,
+    )
 
 pub request-answer-spec : {M : Type 1} → statement M
 request-answer-spec =

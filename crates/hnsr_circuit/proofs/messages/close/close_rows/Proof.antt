@@ -7,7 +7,12 @@ use Rattle.hnsr_circuit.proofs.messages.close.close_rows.Proof.At as at
 returns : tie.Need-returns
 returns c =
     let here = at.returns c in
-    rw (here .first-refusal .ensures, here .close-answer .ensures, here .circuit-answer .ensures, here .body-answer .ensures)
+    rw (
+      here .first-refusal .ensures,
+      here .close-answer .ensures,
+      here .circuit-answer .ensures,
+      here .body-answer .ensures,
+    )
 
 pub close-rows-spec : {M : Type 1} → statement M
 close-rows-spec =

@@ -9,7 +9,13 @@ returns : tie.Need-returns
 unfolding bytesAnswer
 returns c =
     let here = at.returns c in
-    rw (here .check .ensures, here .if1 .taken, here .either .ensures, here .saturating-add-u642 .ensures, here .saturating-add-u64 .ensures)
+    rw (
+      here .check .ensures,
+      here .if1 .taken,
+      here .either .ensures,
+      here .saturating-add-u642 .ensures,
+      here .saturating-add-u64 .ensures,
+    )
 
 returns-2 : tie.Need-returns-2
 unfolding bytesAnswer

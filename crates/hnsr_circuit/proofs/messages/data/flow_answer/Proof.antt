@@ -9,7 +9,14 @@ returns : tie.Need-returns
 unfolding flowAnswer
 returns c =
     let here = at.returns c in
-    rw (here .check .ensures, here .either .ensures, here .saturating-add-usize .ensures, here .queued-to .ensures, here .other-side .ensures, here .credit-of .ensures)
+    rw (
+      here .check .ensures,
+      here .either .ensures,
+      here .saturating-add-usize .ensures,
+      here .queued-to .ensures,
+      here .other-side .ensures,
+      here .credit-of .ensures,
+    )
 
 pub flow-answer-spec : {M : Type 1} → statement M
 flow-answer-spec =

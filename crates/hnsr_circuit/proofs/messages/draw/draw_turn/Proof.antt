@@ -21,7 +21,8 @@ unfolding drawTurn
 returns-2 c =
     let here = at.returns-2 c in
     let a = here .start .args in let s = a .drawing in let id = a .id in let t = a .taken in
-    sym (on-false (s .ended) s (cond (eqb id 0) (zeroDrawn s) (cond t (takenDrawn s) (freshDrawn s id))) (here .if1 .left)
+    sym
+    (on-false (s .ended) s (cond (eqb id 0) (zeroDrawn s) (cond t (takenDrawn s) (freshDrawn s id))) (here .if1 .left)
     ∙ on-true (eqb id 0) (zeroDrawn s) (cond t (takenDrawn s) (freshDrawn s id)) (eq-eqb id 0 (here .if2 .taken)))
 
 returns-3 : tie.Need-returns-3
@@ -29,7 +30,8 @@ unfolding drawTurn
 returns-3 c =
     let here = at.returns-3 c in
     let a = here .start .args in let s = a .drawing in let id = a .id in let t = a .taken in
-    sym (on-false (s .ended) s (cond (eqb id 0) (zeroDrawn s) (cond t (takenDrawn s) (freshDrawn s id))) (here .if1 .left)
+    sym
+    (on-false (s .ended) s (cond (eqb id 0) (zeroDrawn s) (cond t (takenDrawn s) (freshDrawn s id))) (here .if1 .left)
     ∙ on-false (eqb id 0) (zeroDrawn s) (cond t (takenDrawn s) (freshDrawn s id)) (ne-eqb id 0 (here .if2 .left))
     ∙ on-true t (takenDrawn s) (freshDrawn s id) (here .if3 .taken))
 
@@ -38,7 +40,8 @@ unfolding drawTurn
 returns-4 c =
     let here = at.returns-4 c in
     let a = here .start .args in let s = a .drawing in let id = a .id in let t = a .taken in
-    sym (on-false (s .ended) s (cond (eqb id 0) (zeroDrawn s) (cond t (takenDrawn s) (freshDrawn s id))) (here .if1 .left)
+    sym
+    (on-false (s .ended) s (cond (eqb id 0) (zeroDrawn s) (cond t (takenDrawn s) (freshDrawn s id))) (here .if1 .left)
     ∙ on-false (eqb id 0) (zeroDrawn s) (cond t (takenDrawn s) (freshDrawn s id)) (ne-eqb id 0 (here .if2 .left))
     ∙ on-false t (takenDrawn s) (freshDrawn s id) (here .if3 .left))
 

@@ -14,7 +14,8 @@ returns : tie.Need-returns
 returns c =
     let here = at.returns c in
     let xs = here .start .args .random .now in
-    here .draw-at .ensures ∙ sym (on-true (leb 8 (length xs)) (be (take 8 xs)) 0 (le-leb 8 (length xs) (here .if1 .taken)))
+    here .draw-at .ensures
+    ∙ sym (on-true (leb 8 (length xs)) (be (take 8 xs)) 0 (le-leb 8 (length xs) (here .if1 .taken)))
 
 returns-2 : tie.Need-returns-2
 returns-2 c =

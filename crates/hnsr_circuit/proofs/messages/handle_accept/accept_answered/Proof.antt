@@ -19,10 +19,16 @@ returns c =
     let a = here .start .args in
     let r = a .request in
     let question = here .accept-work .ensures in
-    let waiting = here .pending-work .ensures ∙ ap (λ (q : WorkQuestion). pendingWork q (heldPending (r .places) (a .pending .now))) question in
-    let running = here .circuit-work .ensures ∙ ap (λ (q : WorkQuestion). circuitWork q (heldCircuits (r .places) (a .circuits .now))) question in
-    let scan = here .scan-actions .ensures ∙ ap (λ (q : ActionQuestion). actionsScanned q (heldActions (r .places) (a .inflight .now))) (here .replacing .ensures) in
-    here .accept-rows .ensures ∙ (λ x. acceptRows (r .runtime .config) (a .found) (r .peer) (r .packet .now) (a .read) (waiting x) (running x) (scan x .tally))
+    let waiting = here .pending-work .ensures
+    ∙ ap (λ (q : WorkQuestion). pendingWork q (heldPending (r .places) (a .pending .now))) question in
+    let running = here .circuit-work .ensures
+    ∙ ap (λ (q : WorkQuestion). circuitWork q (heldCircuits (r .places) (a .circuits .now))) question in
+    let scan = here .scan-actions .ensures
+    ∙ ap (λ (q : ActionQuestion). actionsScanned q (heldActions (r .places) (a .inflight .now)))
+    (here .replacing .ensures) in
+    here .accept-rows .ensures
+    ∙ (λ x. acceptRows (r .runtime .config) (a .found) (r .peer) (r .packet .now) (a .read) (waiting x) (running x)
+    (scan x .tally))
 
 pub accept-answered-spec : {M : Type 1} → statement M
 accept-answered-spec = tie.close (at.spec returns)

@@ -11,8 +11,11 @@ returns : tie.Need-returns
 returns c =
     let here = at.returns c in
     let s = here .start in
-    let a = s .args in
-    (stored-seen clearPending (a .places .pending) (a .pending .now) _ (a .plan .go) (a .plan .place) (a .unmarked) (λ h. s .pre) (here .set-pending .ensures), here .put-circuit .ensures)
+    let a = s .args in (
+      stored-seen clearPending (a .places .pending) (a .pending .now) _ (a .plan .go) (a .plan .place) (a .unmarked)
+          (λ h. s .pre) (here .set-pending .ensures),
+      here .put-circuit .ensures,
+    )
 
 pub accept-written-spec : {M : Type 1} → statement M
 accept-written-spec = tie.close (at.spec returns)

@@ -35,8 +35,11 @@ returns c =
     let plan = here .plan-close in
     let ep = plan .ensures ∙ (λ x. closePlannedOn (q .runtime) p cs (q .packet) (s .pre .0 x) (en x)) in
     let i = heldActions n (a .inflight .now) in
-    let dropping = here .drop-and-scan .ensures .0 ∙ sym (on-true (plan .result .go) (dropped (actionUnder (plan .result .id)) i) i (here .if1 .taken)) in
-    close-handled (q .runtime) p cs i (q .packet) source (a .body .now) (plan .result) ep (a .out .now) (heldLedger n l₀) e rs _ _ _ _ (here .unmark-pending .ensures) (here .unmark-circuit .ensures) dropping (here .send .ensures (here .unmark-pending .last .0) (here .unmark-circuit .last .0) l₀)
+    let dropping = here .drop-and-scan .ensures .0
+    ∙ sym (on-true (plan .result .go) (dropped (actionUnder (plan .result .id)) i) i (here .if1 .taken)) in
+    close-handled (q .runtime) p cs i (q .packet) source (a .body .now) (plan .result) ep (a .out .now)
+    (heldLedger n l₀) e rs _ _ _ _ (here .unmark-pending .ensures) (here .unmark-circuit .ensures) dropping
+    (here .send .ensures (here .unmark-pending .last .0) (here .unmark-circuit .last .0) l₀)
 
 returns-2 : tie.Need-returns-2
 returns-2 c =
@@ -50,8 +53,11 @@ returns-2 c =
     let cs = heldCircuits n (a .circuits .now) in
     let plan = here .plan-close in
     let ep = plan .ensures ∙ (λ x. closePlannedOn (q .runtime) p cs (q .packet) (s .pre .0 x) (en x)) in
-    places-kept (here .refused .result) (a .pending .now) (a .circuits .now) l₀ (a .inflight .now) (a .out .now) n (here .refused .ensures .1)
-    ∙ close-refused (q .runtime) p cs (heldLedger n l₀) (heldActions n (a .inflight .now)) (q .packet) source (a .body .now) e rs (a .out .now) (plan .result) (here .refused .result) ep (here .if1 .left) (here .refused .ensures .0)
+    places-kept (here .refused .result) (a .pending .now) (a .circuits .now) l₀ (a .inflight .now) (a .out .now) n
+    (here .refused .ensures .1)
+    ∙ close-refused (q .runtime) p cs (heldLedger n l₀) (heldActions n (a .inflight .now)) (q .packet) source
+    (a .body .now) e rs (a .out .now) (plan .result) (here .refused .result) ep (here .if1 .left)
+    (here .refused .ensures .0)
 
 pub close-read-spec : {M : Type 1} → statement M
 close-read-spec = tie.close (at.spec send-requires returns returns-2)

@@ -20,8 +20,12 @@ returns-2 c =
     λ l₀ source e rs en.
     let a = here .start .args in
     let n = a .request .places in
-    places-kept (here .refused .result) (a .pending .now) (a .circuits .now) l₀ (a .inflight .now) (a .out .now) n (here .refused .ensures .1)
-    ∙ detail-refused (a .request .runtime) (heldPending n (a .pending .now)) (heldCircuits n (a .circuits .now)) (heldLedger n l₀) (heldActions n (a .inflight .now)) (a .request .packet) source (a .body .now) e rs (a .out .now) (here .decode .result) (here .body-answer .result) (here .refused .result) (here .decode .ensures) (here .body-answer .ensures) (sym (here .is-taken .ensures) ∙ here .if1 .left) (here .refused .ensures .0)
+    places-kept (here .refused .result) (a .pending .now) (a .circuits .now) l₀ (a .inflight .now) (a .out .now) n
+    (here .refused .ensures .1)
+    ∙ detail-refused (a .request .runtime) (heldPending n (a .pending .now)) (heldCircuits n (a .circuits .now))
+    (heldLedger n l₀) (heldActions n (a .inflight .now)) (a .request .packet) source (a .body .now) e rs (a .out .now)
+    (here .decode .result) (here .body-answer .result) (here .refused .result) (here .decode .ensures)
+    (here .body-answer .ensures) (sym (here .is-taken .ensures) ∙ here .if1 .left) (here .refused .ensures .0)
 
 pub handle-close-spec : {M : Type 1} → statement M
 handle-close-spec = tie.close (at.spec close-read-requires returns-2)

@@ -15,7 +15,8 @@ returns c =
     let matches = here .count-named .ensures in
     let waiting = here .look-up-named .ensures in
     let circuit = here .circuit-by-id .ensures in
-    here .close-plan .ensures ∙ (λ x. closePlan (r .runtime) (r .packet) (a .read) (matches x) (waiting x) (circuit x) (r .peer))
+    here .close-plan .ensures
+    ∙ (λ x. closePlan (r .runtime) (r .packet) (a .read) (matches x) (waiting x) (circuit x) (r .peer))
 
 pub plan-close-spec : {M : Type 1} → statement M
 plan-close-spec = tie.close (at.spec returns)

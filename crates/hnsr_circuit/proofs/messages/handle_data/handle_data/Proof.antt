@@ -25,9 +25,15 @@ returns-2 c =
     λ p₀ source e rs en.
     let a = here .start .args in
     let n = a .request .places in
-    let entered = here .data-entry .ensures ∙ ap (λ (x : HnsrPeerId). bodyAnswer (dataChecked (length (a .body .now))) then circuitAnswer (here .circuit-by-id .result .found) (here .circuit-by-id .result .circuit) x) en in
-    places-kept (here .refused .result) p₀ (a .circuits .now) (a .ledger .now) (a .inflight .now) (a .out .now) n (here .refused .ensures .1)
-    ∙ data-refused (a .request .runtime) (heldPending n p₀) (heldCircuits n (a .circuits .now)) (heldLedger n (a .ledger .now)) (heldActions n (a .inflight .now)) (a .request .packet) source (a .body .now) e rs (a .out .now) (here .circuit-by-id .result) (here .data-entry .result) (here .refused .result) (here .circuit-by-id .ensures) entered (sym (here .is-taken .ensures) ∙ here .if1 .left) (here .refused .ensures .0)
+    let entered = here .data-entry .ensures
+    ∙ ap (λ (x : HnsrPeerId). bodyAnswer (dataChecked (length (a .body .now)))
+    then circuitAnswer (here .circuit-by-id .result .found) (here .circuit-by-id .result .circuit) x) en in
+    places-kept (here .refused .result) p₀ (a .circuits .now) (a .ledger .now) (a .inflight .now) (a .out .now) n
+    (here .refused .ensures .1)
+    ∙ data-refused (a .request .runtime) (heldPending n p₀) (heldCircuits n (a .circuits .now))
+    (heldLedger n (a .ledger .now)) (heldActions n (a .inflight .now)) (a .request .packet) source (a .body .now) e rs
+    (a .out .now) (here .circuit-by-id .result) (here .data-entry .result) (here .refused .result)
+    (here .circuit-by-id .ensures) entered (sym (here .is-taken .ensures) ∙ here .if1 .left) (here .refused .ensures .0)
 
 pub handle-data-spec : {M : Type 1} → statement M
 handle-data-spec = tie.close (at.spec pass-data-requires returns-2)

@@ -22,8 +22,12 @@ send-requires c κs =
     let q = a .request in
     let l = heldLedger (q .places) (a .ledger .now) in
     let i = heldActions (q .places) (a .inflight .now) in
-    let ep = plan .ensures ∙ (λ x. dataPlannedOn (q .runtime) (s .pre .0 x) l i (q .packet) (q .peer) (length (a .body .now))) in
-    (data-scanned (q .runtime) (heldCircuits (q .places) (a .circuits .now)) l i (q .packet) (q .peer) (a .body .now) (plan .result) ep, s .pre .1)
+    let ep = plan .ensures
+    ∙ (λ x. dataPlannedOn (q .runtime) (s .pre .0 x) l i (q .packet) (q .peer) (length (a .body .now))) in (
+      data-scanned (q .runtime) (heldCircuits (q .places) (a .circuits .now)) l i (q .packet) (q .peer) (a .body .now)
+          (plan .result) ep,
+      s .pre .1,
+    )
 
 returns : tie.Need-returns
 unfolding circuitAt
@@ -37,10 +41,17 @@ returns c =
     let l = heldLedger (q .places) (a .ledger .now) in
     let i = heldActions (q .places) (a .inflight .now) in
     let plan = here .plan-data in
-    let ep = plan .ensures ∙ (λ x. dataPlannedOn (q .runtime) (s .pre .0 x) l i (q .packet) (en x) (length (a .body .now))) in
+    let ep =
+    plan .ensures ∙ (λ x. dataPlannedOn (q .runtime) (s .pre .0 x) l i (q .packet) (en x) (length (a .body .now))) in
     let place = ap (λ (x : DataPlan). x .place) ep in
-    let after = edited-held clearCircuit (q .places .circuits) (a .circuits .now) _ (plan .result .go) (plan .result .place) noCircuit (charged (plan .result .side) (length (a .body .now))) (λ h. rw place (place-below clearCircuit (circuitAt (q .packet .«context_id»)) (λ x. refl) (q .places .circuits) (a .circuits .now) (rw place at h))) (here .charge-circuit .ensures) in
-    data-handled (q .runtime) cs l i (q .packet) source (a .body .now) (plan .result) ep (a .out .now) (heldPending (q .places) p₀) e rs _ _ _ after (here .spend .ensures) (here .send .ensures p₀ (here .charge-circuit .last .0) (here .spend .last .0))
+    let after = edited-held clearCircuit (q .places .circuits) (a .circuits .now) _ (plan .result .go)
+    (plan .result .place) noCircuit (charged (plan .result .side) (length (a .body .now)))
+    (λ h. rw place
+    (place-below clearCircuit (circuitAt (q .packet .«context_id»)) (λ x. refl) (q .places .circuits) (a .circuits .now)
+    (rw place at h))) (here .charge-circuit .ensures) in
+    data-handled (q .runtime) cs l i (q .packet) source (a .body .now) (plan .result) ep (a .out .now)
+    (heldPending (q .places) p₀) e rs _ _ _ after (here .spend .ensures)
+    (here .send .ensures p₀ (here .charge-circuit .last .0) (here .spend .last .0))
 
 pub pass-data-spec : {M : Type 1} → statement M
 pass-data-spec = tie.close (at.spec send-requires returns)

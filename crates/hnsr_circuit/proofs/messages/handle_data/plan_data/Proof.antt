@@ -20,8 +20,10 @@ returns c =
     let q = a .request in
     let message = here .data-on .ensures in
     let asked = here .asking .ensures ∙ ap (λ (m : Outgoing). asking (q .runtime) m) message in
-    let scan = here .scan-actions .ensures ∙ (λ x. actionsScanned (asked x) (heldActions (q .places) (a .inflight .now))) in
-    let booked = here .look-up-usage .ensures ∙ (λ x. usageFound (usageAt (here .reservation-of .ensures x)) (heldLedger (q .places) (a .ledger .now))) in
+    let scan =
+    here .scan-actions .ensures ∙ (λ x. actionsScanned (asked x) (heldActions (q .places) (a .inflight .now))) in
+    let booked = here .look-up-usage .ensures
+    ∙ (λ x. usageFound (usageAt (here .reservation-of .ensures x)) (heldLedger (q .places) (a .ledger .now))) in
     here .data-plan .ensures ∙ (λ x. dataPlan (q .runtime) (a .named) (booked x) (scan x) (q .peer) (message x) (a .n))
 
 pub plan-data-spec : {M : Type 1} → statement M

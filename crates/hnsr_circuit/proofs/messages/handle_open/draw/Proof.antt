@@ -16,7 +16,11 @@ use Rattle.hnsr_circuit.proofs.messages.handle_open.draw.Proof.Tie as t
 use Rattle.hnsr_circuit.proofs.messages.handle_open.draw.Proof.At as at
 
 abbrev Inv-loop : tie.InvT-loop
-Inv-loop pending circuits places random first known drawing₀ place₀ drawing place = (place ≤ length random) × DrawSmall drawing × (drawAll (isTaken (heldPending places pending) (heldCircuits places circuits)) drawing (draws (drop place random)) ≡ drawAll (isTaken (heldPending places pending) (heldCircuits places circuits)) undrawn (draws random))
+Inv-loop pending circuits places random first known drawing₀ place₀ drawing place =
+    (place ≤ length random)
+    × DrawSmall drawing
+    × (drawAll (isTaken (heldPending places pending) (heldCircuits places circuits)) drawing (draws (drop place random))
+    ≡ drawAll (isTaken (heldPending places pending) (heldCircuits places circuits)) undrawn (draws random))
 
 abbrev μ-loop : tie.MeasureT-loop
 μ-loop pending circuits places random first known drawing₀ place₀ drawing place = length random - place
@@ -28,8 +32,13 @@ loop-holds : tie.Need-loop-holds Inv-loop μ-loop
 loop-holds c =
     let here = at.loop-holds Inv-loop μ-loop c in
     let a = here .start .args in
-    let e = here .undrawn .ensures in
-    (search needs, draw-start (here .undrawn .result) e, ap (λ (s : Drawing). drawAll (isTaken (heldPending (a .places) (a .pending .now)) (heldCircuits (a .places) (a .circuits .now))) s (draws (a .random .now))) e)
+    let e = here .undrawn .ensures in (
+      search needs,
+      draw-start (here .undrawn .result) e,
+      ap (λ (s : Drawing). drawAll
+          (isTaken (heldPending (a .places) (a .pending .now)) (heldCircuits (a .places) (a .circuits .now))) s
+          (draws (a .random .now))) e,
+    )
 
 sub-loop : tie.Need-sub-loop Inv-loop μ-loop
 sub-loop c = search needs
@@ -39,7 +48,8 @@ returns c =
     let here = at.returns Inv-loop μ-loop c in
     let l = here .loop in
     let a = here .start .args in
-    draw-stop (isTaken (heldPending (a .places) (a .pending .now)) (heldCircuits (a .places) (a .circuits .now))) (a .random .now) (l .place) (l .drawing) _ (l .inv .2) (here .if1 .taken)
+    draw-stop (isTaken (heldPending (a .places) (a .pending .now)) (heldCircuits (a .places) (a .circuits .now)))
+    (a .random .now) (l .place) (l .drawing) _ (l .inv .2) (here .if1 .taken)
 
 draw-at-requires : tie.Need-draw-at-requires Inv-loop μ-loop
 draw-at-requires c = search needs
@@ -67,8 +77,11 @@ loop-again c =
     let a = here .start .args in
     let e = here .draw-turn .ensures in (
       search needs,
-      draw-on (l .drawing) (here .draw-turn .result) (here .draw-at .result) (here .id-taken .result) (l .inv .1) (here .if1 .left) e,
-      draw-next (isTaken (heldPending (a .places) (a .pending .now)) (heldCircuits (a .places) (a .circuits .now))) (a .random .now) (l .place) (l .drawing) _ (l .inv .2) (here .draw-turn .result) (here .draw-at .result) (here .id-taken .result) (omega arith) (here .draw-at .ensures) (here .id-taken .ensures) e,
+      draw-on (l .drawing) (here .draw-turn .result) (here .draw-at .result) (here .id-taken .result) (l .inv .1)
+          (here .if1 .left) e,
+      draw-next (isTaken (heldPending (a .places) (a .pending .now)) (heldCircuits (a .places) (a .circuits .now)))
+          (a .random .now) (l .place) (l .drawing) _ (l .inv .2) (here .draw-turn .result) (here .draw-at .result)
+          (here .id-taken .result) (omega arith) (here .draw-at .ensures) (here .id-taken .ensures) e,
     )
 
 returns-2 : tie.Need-returns-2 Inv-loop μ-loop
@@ -76,7 +89,10 @@ returns-2 c =
     let here = at.returns-2 Inv-loop μ-loop c in
     let l = here .loop in
     let a = here .start .args in
-    draw-over (isTaken (heldPending (a .places) (a .pending .now)) (heldCircuits (a .places) (a .circuits .now))) (a .random .now) (l .place) (l .drawing) _ (l .inv .2) (omega arith)
+    draw-over (isTaken (heldPending (a .places) (a .pending .now)) (heldCircuits (a .places) (a .circuits .now)))
+    (a .random .now) (l .place) (l .drawing) _ (l .inv .2) (omega arith)
 
 pub draw-spec : {M : Type 1} → statement M
-draw-spec = tie.close (tie.spec Inv-loop μ-loop undrawn-requires loop-holds sub-loop returns draw-at-requires id-taken-requires draw-turn-requires add-place loop-less loop-again returns-2)
+draw-spec =
+    tie.close (tie.spec Inv-loop μ-loop undrawn-requires loop-holds sub-loop returns draw-at-requires id-taken-requires
+    draw-turn-requires add-place loop-less loop-again returns-2)

@@ -19,9 +19,12 @@ returns c =
     let read = here .decode .ensures in
     let first = here .first-draw .ensures in
     let question = here .open-work .ensures ∙ (λ x. openWork (r .packet) (r .peer) (other x) (read x) (first x)) in
-    let waiting = here .pending-work .ensures ∙ (λ x. pendingWork (question x) (heldPending (r .places) (a .pending .now))) in
-    let running = here .circuit-work .ensures ∙ (λ x. circuitWork (question x) (heldCircuits (r .places) (a .circuits .now))) in
-    here .open-gathering .ensures ∙ (λ x. openGathering (r .packet) (r .peer) (other x) (length (a .endpoint .now)) (read x) (waiting x) (running x))
+    let waiting =
+    here .pending-work .ensures ∙ (λ x. pendingWork (question x) (heldPending (r .places) (a .pending .now))) in
+    let running =
+    here .circuit-work .ensures ∙ (λ x. circuitWork (question x) (heldCircuits (r .places) (a .circuits .now))) in
+    here .open-gathering .ensures
+    ∙ (λ x. openGathering (r .packet) (r .peer) (other x) (length (a .endpoint .now)) (read x) (waiting x) (running x))
 
 pub gather-spec : {M : Type 1} → statement M
 gather-spec = tie.close (at.spec returns)

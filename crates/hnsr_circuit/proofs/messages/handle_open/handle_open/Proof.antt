@@ -30,14 +30,20 @@ returns c =
     let a = here .start .args in
     let r = a .request in
     let n = r .places in
-    let g = here .gather .ensures ∙ (λ x. gathering (r .packet) (en x) (a .body .now) (a .endpoint .now) (a .random .now) (heldPending n (a .pending .now)) (heldCircuits n (a .circuits .now))) in
+    let g = here .gather .ensures
+    ∙ (λ x. gathering (r .packet) (en x) (a .body .now) (a .endpoint .now) (a .random .now)
+    (heldPending n (a .pending .now)) (heldCircuits n (a .circuits .now))) in
     let t = sym (here .is-taken .ensures) ∙ here .if1 .taken in
     let q = packetOf (r .packet) source (a .body .now) (a .endpoint .now) (a .random .now) in
-    let w = worldSeen (r .runtime) n (a .pending .now) (a .circuits .now) (here .drop-lapsed .last .0) (a .inflight .now) in
+    let w =
+    worldSeen (r .runtime) n (a .pending .now) (a .circuits .now) (here .drop-lapsed .last .0) (a .inflight .now) in
     here .open-lapsed .ensures (r .packet) source (a .body .now) (a .endpoint .now) g
-    ∙ ap (λ (o : Outcome). ending (a .out .now) o) (sym (gone-on w (here .open-rows .result) (here .open-rows .result) (openLapsed w q) t refl)
-    ∙ open-ends (r .runtime) (heldPending n (a .pending .now)) (heldCircuits n (a .circuits .now)) (heldLedger n (a .ledger .now)) (heldActions n (a .inflight .now)) (r .packet) source (a .body .now) (a .endpoint .now) (a .random .now)
-    (here .gather .result) (here .open-rows .result) true _ g (here .open-rows .ensures) (sym t) (here .drop-lapsed .ensures))
+    ∙ ap (λ (o : Outcome). ending (a .out .now) o)
+    (sym (gone-on w (here .open-rows .result) (here .open-rows .result) (openLapsed w q) t refl)
+    ∙ open-ends (r .runtime) (heldPending n (a .pending .now)) (heldCircuits n (a .circuits .now))
+    (heldLedger n (a .ledger .now)) (heldActions n (a .inflight .now)) (r .packet) source (a .body .now)
+    (a .endpoint .now) (a .random .now) (here .gather .result) (here .open-rows .result) true _ g
+    (here .open-rows .ensures) (sym t) (here .drop-lapsed .ensures))
 
 returns-2 : tie.Need-returns-2
 returns-2 c =
@@ -46,9 +52,16 @@ returns-2 c =
     let a = here .start .args in
     let r = a .request in
     let n = r .places in
-    let g = here .gather .ensures ∙ (λ x. gathering (r .packet) (en x) (a .body .now) (a .endpoint .now) (a .random .now) (heldPending n (a .pending .now)) (heldCircuits n (a .circuits .now))) in
-    places-kept (here .refused .result) (a .pending .now) (a .circuits .now) (a .ledger .now) (a .inflight .now) (a .out .now) n (here .refused .ensures .1)
-    ∙ open-refused (r .runtime) (heldPending n (a .pending .now)) (heldCircuits n (a .circuits .now)) (heldLedger n (a .ledger .now)) (heldActions n (a .inflight .now)) (r .packet) source (a .body .now) (a .endpoint .now) (a .random .now) (here .gather .result) (here .open-rows .result) (here .refused .result) (a .out .now) g (here .open-rows .ensures) (sym (here .is-taken .ensures) ∙ here .if1 .left) (here .refused .ensures .0)
+    let g = here .gather .ensures
+    ∙ (λ x. gathering (r .packet) (en x) (a .body .now) (a .endpoint .now) (a .random .now)
+    (heldPending n (a .pending .now)) (heldCircuits n (a .circuits .now))) in
+    places-kept (here .refused .result) (a .pending .now) (a .circuits .now) (a .ledger .now) (a .inflight .now)
+    (a .out .now) n (here .refused .ensures .1)
+    ∙ open-refused (r .runtime) (heldPending n (a .pending .now)) (heldCircuits n (a .circuits .now))
+    (heldLedger n (a .ledger .now)) (heldActions n (a .inflight .now)) (r .packet) source (a .body .now)
+    (a .endpoint .now) (a .random .now) (here .gather .result) (here .open-rows .result) (here .refused .result)
+    (a .out .now) g (here .open-rows .ensures) (sym (here .is-taken .ensures) ∙ here .if1 .left)
+    (here .refused .ensures .0)
 
 pub handle-open-spec : {M : Type 1} → statement M
 handle-open-spec = tie.close (at.spec open-lapsed-requires returns returns-2)

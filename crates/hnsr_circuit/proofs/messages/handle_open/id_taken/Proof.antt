@@ -1,4 +1,5 @@
--- Of the id that is known nothing is looked up; else a lookup finds a place below the number of places exactly where a record has what is asked.
+-- Of the id that is known nothing is looked up; else a lookup finds a place below the number of places exactly where a
+-- record has what is asked.
 mod Tie
 mod At
 use mathlib.Core.Path.{sym, ap, _∙_}
@@ -17,7 +18,10 @@ use Rattle.hnsr_circuit.proofs.messages.handle_open.id_taken.Proof.At a
 returns : tie.Need-returns
 returns c =
     let here = at.returns c in
-    let a = here .start .args in here .start .pre ∙ ap (isTaken (heldPending (a .places) (a .pending .now)) (heldCircuits (a .places) (a .circuits .now))) (sym (here .if1 .taken))
+    let a = here .start .args in
+    here .start .pre
+    ∙ ap (isTaken (heldPending (a .places) (a .pending .now)) (heldCircuits (a .places) (a .circuits .now)))
+    (sym (here .if1 .taken))
 
 returns-2 : tie.Need-returns-2
 returns-2 c =

@@ -18,7 +18,8 @@ raise-circuit-requires c κs =
     let q = a .request in
     let i = heldActions (q .places) (a .inflight .now) in
     let ep = plan .ensures ∙ (λ x. windowPlannedOn (q .runtime) (s .pre .1 x) (s .pre .0 x) i (q .packet) (q .peer)) in
-    window-fits (q .runtime) (heldCircuits (q .places) (a .circuits .now)) i (q .packet) (q .peer) (a .body .now) (plan .result) ep
+    window-fits (q .runtime) (heldCircuits (q .places) (a .circuits .now)) i (q .packet) (q .peer) (a .body .now)
+    (plan .result) ep
 
 send-requires : tie.Need-send-requires
 send-requires c κs =
@@ -28,8 +29,12 @@ send-requires c κs =
     let plan = here .plan-window in
     let q = a .request in
     let i = heldActions (q .places) (a .inflight .now) in
-    let ep = plan .ensures ∙ (λ x. windowPlannedOn (q .runtime) (s .pre .1 x) (s .pre .0 x) i (q .packet) (q .peer)) in
-    (window-scanned (q .runtime) (heldCircuits (q .places) (a .circuits .now)) i (q .packet) (q .peer) (a .body .now) (plan .result) ep, s .pre .2)
+    let ep =
+    plan .ensures ∙ (λ x. windowPlannedOn (q .runtime) (s .pre .1 x) (s .pre .0 x) i (q .packet) (q .peer)) in (
+      window-scanned (q .runtime) (heldCircuits (q .places) (a .circuits .now)) i (q .packet) (q .peer) (a .body .now)
+          (plan .result) ep,
+      s .pre .2,
+    )
 
 returns : tie.Need-returns
 returns c =
@@ -43,7 +48,9 @@ returns c =
     let i = heldActions (q .places) (a .inflight .now) in
     let plan = here .plan-window in
     let ep = plan .ensures ∙ (λ x. windowPlannedOn (q .runtime) (s .pre .1 x) (s .pre .0 x) i (q .packet) (en x)) in
-    window-handled (q .runtime) (heldCircuits (q .places) (a .circuits .now)) i (q .packet) source (a .body .now) (plan .result) ep (a .out .now) p l e rs _ _ (here .raise-circuit .ensures) (here .send .ensures p₀ (here .raise-circuit .last .0) l₀)
+    window-handled (q .runtime) (heldCircuits (q .places) (a .circuits .now)) i (q .packet) source (a .body .now)
+    (plan .result) ep (a .out .now) p l e rs _ _ (here .raise-circuit .ensures)
+    (here .send .ensures p₀ (here .raise-circuit .last .0) l₀)
 
 pub pass-window-spec : {M : Type 1} → statement M
 pass-window-spec = tie.close (at.spec raise-circuit-requires send-requires returns)

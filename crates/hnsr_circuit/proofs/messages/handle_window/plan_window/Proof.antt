@@ -18,8 +18,10 @@ returns c =
     let q = a .request in
     let message = here .passed-on .ensures in
     let asked = here .asking .ensures ∙ ap (λ (m : Outgoing). asking (q .runtime) m) message in
-    let scan = here .scan-actions .ensures ∙ (λ x. actionsScanned (asked x) (heldActions (q .places) (a .inflight .now))) in
-    here .window-plan .ensures ∙ (λ x. windowPlan (q .runtime .config) (a .read) (a .named) (scan x) (q .peer) (message x))
+    let scan =
+    here .scan-actions .ensures ∙ (λ x. actionsScanned (asked x) (heldActions (q .places) (a .inflight .now))) in
+    here .window-plan .ensures
+    ∙ (λ x. windowPlan (q .runtime .config) (a .read) (a .named) (scan x) (q .peer) (message x))
 
 pub plan-window-spec : {M : Type 1} → statement M
 plan-window-spec = tie.close (at.spec returns)

@@ -9,7 +9,14 @@ returns : tie.Need-returns
 unfolding circuitAnswer
 returns c =
     let here = at.returns c in
-    rw (here .first-refusal .ensures, here .check2 .ensures, here .check .ensures, here .no2 .ensures, here .no .ensures, here .is-side .ensures)
+    rw (
+      here .first-refusal .ensures,
+      here .check2 .ensures,
+      here .check .ensures,
+      here .no2 .ensures,
+      here .no .ensures,
+      here .is-side .ensures,
+    )
 
 pub circuit-answer-spec : {M : Type 1} → statement M
 circuit-answer-spec =

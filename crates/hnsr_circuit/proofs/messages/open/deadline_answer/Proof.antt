@@ -16,7 +16,8 @@ returns : tie.Need-returns
 unfolding deadlineAnswer
 returns c =
     let here = at.returns c in
-    let s = here .start in rw (here .check .ensures, ← (ltb-less (s .args .now) (s .args .config .«accept_timeout_seconds») (small s)))
+    let s = here .start in
+    rw (here .check .ensures, ← (ltb-less (s .args .now) (s .args .config .«accept_timeout_seconds») (small s)))
 
 pub deadline-answer-spec : {M : Type 1} → statement M
 deadline-answer-spec = tie.close (at.spec returns)

@@ -24,8 +24,10 @@ returns c =
       here .endpoint-answer .ensures,
       here .reservation-work .ensures,
       here .saturating-add-usize .ensures,
-      leb-sum (s .args .config .«maximum_circuits_per_peer») (s .args .waiting .«of_other») (s .args .running .«of_other») (small s),
-      leb-sum (s .args .ticket .«max_active_circuits») (s .args .waiting .under) (s .args .running .under) (small-ticket s),
+      leb-sum (s .args .config .«maximum_circuits_per_peer») (s .args .waiting .«of_other»)
+          (s .args .running .«of_other») (small s),
+      leb-sum (s .args .ticket .«max_active_circuits») (s .args .waiting .under) (s .args .running .under)
+          (small-ticket s),
     )
 
 pub endpoint-limit-spec : {M : Type 1} → statement M

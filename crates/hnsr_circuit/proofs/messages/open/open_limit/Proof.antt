@@ -17,7 +17,12 @@ unfolding openAnswer
 returns c =
     let here = at.returns c in
     let s = here .start in
-    rw (here .open-answer .ensures, here .saturating-add-usize .ensures, leb-sum (s .args .config .«maximum_circuits_per_peer») (s .args .waiting .«of_peer») (s .args .running .«of_peer») (small s))
+    rw (
+      here .open-answer .ensures,
+      here .saturating-add-usize .ensures,
+      leb-sum (s .args .config .«maximum_circuits_per_peer») (s .args .waiting .«of_peer»)
+          (s .args .running .«of_peer») (small s),
+    )
 
 pub open-limit-spec : {M : Type 1} → statement M
 open-limit-spec = tie.close (at.spec returns)

@@ -7,7 +7,16 @@ use Rattle.hnsr_circuit.proofs.messages.window.window_rows.Proof.At as 
 returns : tie.Need-returns
 returns c =
     let here = at.returns c in
-    rw (here .first-refusal3 .ensures, here .first-refusal2 .ensures, here .first-refusal .ensures, here .credit-answer .ensures, here .capacity-answer .ensures, here .circuit-answer .ensures, here .body-answer .ensures, here .side-of .ensures)
+    rw (
+      here .first-refusal3 .ensures,
+      here .first-refusal2 .ensures,
+      here .first-refusal .ensures,
+      here .credit-answer .ensures,
+      here .capacity-answer .ensures,
+      here .circuit-answer .ensures,
+      here .body-answer .ensures,
+      here .side-of .ensures,
+    )
 
 pub window-rows-spec : {M : Type 1} → statement M
 window-rows-spec =

@@ -27,7 +27,8 @@ array-share-prefix-bytes c =
 slice-aggregate-tell-scanned : tie.Need-slice-aggregate-tell-scanned
 slice-aggregate-tell-scanned c =
     let here = at.slice-aggregate-tell-scanned c in
-    let w = here .encode .result in sym (length-take-le (w .length) (w .bytes) (notice-length w (here .start .args .notice) (here .encode .ensures) .0))
+    let w = here .encode .result in
+    sym (length-take-le (w .length) (w .bytes) (notice-length w (here .start .args .notice) (here .encode .ensures) .0))
 
 tell-scanned-requires : tie.Need-tell-scanned-requires
 tell-scanned-requires c κs =
@@ -47,8 +48,14 @@ returns c =
     let n = a .sending .places in
     let u = dropped (actionUnder (a .id)) (heldActions n (a .inflight .now)) in
     here .tell-scanned .ensures p₀ cs₀ l₀
-    ∙ ap (λ (i : List InflightAction). advance (when true (tell (messageOf (a .message) (take (here .encode .result .length) (here .encode .result .bytes))))) (underway (a .sending) (heldPending n p₀) (heldCircuits n cs₀) (heldLedger n l₀) i (a .out .now))) (here .drop-and-scan .ensures .0)
-    ∙ ap (λ (b : List ℕ). advance (when true (tell (messageOf (a .message) b))) (underway (a .sending) (heldPending n p₀) (heldCircuits n cs₀) (heldLedger n l₀) u (a .out .now))) (notice-bytes (here .encode .result) (a .notice) (here .encode .ensures))
+    ∙ ap (λ (i : List InflightAction). advance
+    (when true (tell (messageOf (a .message) (take (here .encode .result .length) (here .encode .result .bytes)))))
+    (underway (a .sending) (heldPending n p₀) (heldCircuits n cs₀) (heldLedger n l₀) i (a .out .now)))
+    (here .drop-and-scan .ensures .0)
+    ∙ ap (λ (b : List ℕ). advance (when true (tell (messageOf (a .message) b)))
+    (underway (a .sending) (heldPending n p₀) (heldCircuits n cs₀) (heldLedger n l₀) u (a .out .now)))
+    (notice-bytes (here .encode .result) (a .notice) (here .encode .ensures))
 
 pub drop-and-tell-spec : {M : Type 1} → statement M
-drop-and-tell-spec = tie.close (at.spec array-share-prefix-bytes slice-aggregate-tell-scanned tell-scanned-requires returns)
+drop-and-tell-spec =
+    tie.close (at.spec array-share-prefix-bytes slice-aggregate-tell-scanned tell-scanned-requires returns)

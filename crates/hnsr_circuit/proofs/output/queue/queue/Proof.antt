@@ -23,15 +23,19 @@ returns : tie.Need-returns
 returns c =
     let here = at.returns c in
     let s = here .start .args in
-    let answer = here .first-refusal .ensures ∙ ap (λ (x : HnsrAnswer). s .before then x) (here .queue-answer .ensures) in
+    let answer =
+    here .first-refusal .ensures ∙ ap (λ (x : HnsrAnswer). s .before then x) (here .queue-answer .ensures) in
     let go = sym (here .is-taken .ensures) ∙ here .if1 .taken in
-    let below = queue-sequence (s .before) (s .runtime .config) (s .scan .tally) (s .runtime .«next_action_sequence») (s .message .«context_id») (ap taken (sym answer) ∙ go) in
+    let below = queue-sequence (s .before) (s .runtime .config) (s .scan .tally) (s .runtime .«next_action_sequence»)
+    (s .message .«context_id») (ap taken (sym answer) ∙ go) in
     let top-not = eqb-false (s .runtime .«next_action_sequence») (top 64) below in
-    let next : saturatingAdd 64 (s .runtime .«next_action_sequence») 1 ≡ s .runtime .«next_action_sequence» + 1 = omega (arith, small (here .start)) in
-    record {
+    let next : saturatingAdd 64 (s .runtime .«next_action_sequence») 1 ≡ s .runtime .«next_action_sequence» + 1 =
+    omega (arith, small (here .start)) in record {
       answer = answer;
       go = sym go;
-      moves = λ t. here .with-sequence .ensures ∙ ap (λ (n : ℕ). withSequence (s .runtime) n) (here .saturating-add-u64 .ensures ∙ next);
+      moves =
+          λ t. here .with-sequence .ensures
+          ∙ ap (λ (n : ℕ). withSequence (s .runtime) n) (here .saturating-add-u64 .ensures ∙ next);
       stays = λ f. absurd (true≢false f);
       place = here .scan-place .ensures;
       action = here .action-for .ensures;

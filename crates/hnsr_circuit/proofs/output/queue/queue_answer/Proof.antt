@@ -9,7 +9,13 @@ returns : tie.Need-returns
 unfolding queueAnswer
 returns c =
     let here = at.returns c in
-    rw (here .first-refusal2 .ensures, here .first-refusal .ensures, here .check2 .ensures, here .capacity-answer .ensures, here .check .ensures)
+    rw (
+      here .first-refusal2 .ensures,
+      here .first-refusal .ensures,
+      here .check2 .ensures,
+      here .capacity-answer .ensures,
+      here .check .ensures,
+    )
 
 pub queue-answer-spec : {M : Type 1} → statement M
 queue-answer-spec =

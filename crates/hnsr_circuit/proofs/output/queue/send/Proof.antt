@@ -1,4 +1,5 @@
--- The message is queued by what the scan and the rows say; what was answered before it stays the answer; the number of places in use rises with it.
+-- The message is queued by what the scan and the rows say; what was answered before it stays the answer; the number of
+-- places in use rises with it.
 mod Tie
 mod At
 use Prim.Native.Nat.{_+_}
@@ -37,14 +38,24 @@ returns c =
     let ea = here .queued-action .ensures in
     let er = here .relayed .ensures in
     let z = el ∙ k .ensures .place in
-    let up = put-held clearAction (a .places .actions) t _ (here .queued-go .result) (here .queued-place .result) (here .queued-action .result) (here .raised .result)
-    (λ h. rw z (scan-upto (asking (a .runtime) (a .message)) (a .places) t (a .scan) (s .pre .0) (rw z at h))) (here .set-action .ensures) (here .raised .ensures) in
+    let up = put-held clearAction (a .places .actions) t _ (here .queued-go .result) (here .queued-place .result)
+    (here .queued-action .result) (here .raised .result)
+    (λ h. rw z (scan-upto (asking (a .runtime) (a .message)) (a .places) t (a .scan) (s .pre .0) (rw z at h)))
+    (here .set-action .ensures) (here .raised .ensures) in
     let i = heldActions (a .places) t in
     let ei = up ∙ (λ x. cond (eg x) (set i (el x) (ea x)) i) in
-    let eo = here .put-queued .ensures ∙ ap (λ (g : Bool). cond g (written (a .out .now) 0 (routeWords (routeFor (messageOf (a .message) (a .body .now)) (a .runtime .generation) (a .runtime .«next_action_sequence»)))) (a .out .now)) eg in
-    let ep = here .position-after .ensures ∙ ap (λ (g : Bool). cond g (saturatingAdd 64 0 (headWords + wordCount (length (a .body .now)))) 0) eg in
-    places-kept (here .relayed .result) p₀ cs₀ l₀ (here .set-action .last .0) (here .put-queued .last .0) (withActions (here .raised .result) (a .places)) (er .1 ∙ here .with-actions .ensures)
-    ∙ sent (a .runtime) p cs l i (a .out .now) (a .before) (a .message) (a .body .now) (a .scan) q (s .pre .0) (k .ensures) 0 _ _ _ ei eo ep (here .relayed .result) (er .0) refl
+    let eo = here .put-queued .ensures
+    ∙ ap (λ (g : Bool). cond g
+    (written (a .out .now) 0
+    (routeWords
+    (routeFor (messageOf (a .message) (a .body .now)) (a .runtime .generation) (a .runtime .«next_action_sequence»))))
+    (a .out .now)) eg in
+    let ep = here .position-after .ensures
+    ∙ ap (λ (g : Bool). cond g (saturatingAdd 64 0 (headWords + wordCount (length (a .body .now)))) 0) eg in
+    places-kept (here .relayed .result) p₀ cs₀ l₀ (here .set-action .last .0) (here .put-queued .last .0)
+    (withActions (here .raised .result) (a .places)) (er .1 ∙ here .with-actions .ensures)
+    ∙ sent (a .runtime) p cs l i (a .out .now) (a .before) (a .message) (a .body .now) (a .scan) q (s .pre .0)
+    (k .ensures) 0 _ _ _ ei eo ep (here .relayed .result) (er .0) refl
 
 pub send-spec : {M : Type 1} → statement M
 send-spec = tie.close (at.spec returns)

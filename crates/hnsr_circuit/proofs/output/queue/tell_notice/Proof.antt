@@ -24,7 +24,8 @@ array-share-prefix-bytes c =
 slice-aggregate-tell-scanned : tie.Need-slice-aggregate-tell-scanned
 slice-aggregate-tell-scanned c =
     let here = at.slice-aggregate-tell-scanned c in
-    let w = here .encode .result in sym (length-take-le (w .length) (w .bytes) (notice-length w (here .start .args .notice) (here .encode .ensures) .0))
+    let w = here .encode .result in
+    sym (length-take-le (w .length) (w .bytes) (notice-length w (here .start .args .notice) (here .encode .ensures) .0))
 
 tell-scanned-requires : tie.Need-tell-scanned-requires
 tell-scanned-requires c κs =
@@ -32,8 +33,12 @@ tell-scanned-requires c κs =
     let a = here .start .args in
     let w = here .encode .result in
     let k = notice-length w (a .notice) (here .encode .ensures) in
-    let e = length-take-le (w .length) (w .bytes) (k .0) in
-    (here .scan-actions .ensures ∙ ap (λ (q : ActionQuestion). actionsScanned q (heldActions (a .sending .places) (a .inflight .now))) (here .asking .ensures), omega (arith, k .1))
+    let e = length-take-le (w .length) (w .bytes) (k .0) in (
+      here .scan-actions .ensures
+          ∙ ap (λ (q : ActionQuestion). actionsScanned q (heldActions (a .sending .places) (a .inflight .now)))
+          (here .asking .ensures),
+      omega (arith, k .1),
+    )
 
 returns : tie.Need-returns
 returns c =
@@ -41,7 +46,10 @@ returns c =
     λ p₀ cs₀ l₀.
     let a = here .start .args in
     here .tell-scanned .ensures p₀ cs₀ l₀
-    ∙ ap (λ (b : List ℕ). advance (when (a .go) (tell (messageOf (a .message) b))) (underwaySeen (a .sending) p₀ cs₀ l₀ (a .inflight .now) (a .out .now))) (notice-bytes (here .encode .result) (a .notice) (here .encode .ensures))
+    ∙ ap (λ (b : List ℕ). advance (when (a .go) (tell (messageOf (a .message) b)))
+    (underwaySeen (a .sending) p₀ cs₀ l₀ (a .inflight .now) (a .out .now)))
+    (notice-bytes (here .encode .result) (a .notice) (here .encode .ensures))
 
 pub tell-notice-spec : {M : Type 1} → statement M
-tell-notice-spec = tie.close (at.spec array-share-prefix-bytes slice-aggregate-tell-scanned tell-scanned-requires returns)
+tell-notice-spec =
+    tie.close (at.spec array-share-prefix-bytes slice-aggregate-tell-scanned tell-scanned-requires returns)

@@ -53,13 +53,22 @@ returns c =
     let er = here .sending-on .ensures in
     let es = s .pre .0 in
     let z = el ∙ k .ensures .place in
-    let up = put-held clearAction (n .actions) t _ (here .queued-go .result) (here .queued-place .result) (here .queued-action .result) (here .raised .result)
-    (λ b. rw z (scan-upto (asking h (a .message)) n t (a .scan) es (rw z at b))) (here .set-action .ensures) (here .raised .ensures) in
+    let up = put-held clearAction (n .actions) t _ (here .queued-go .result) (here .queued-place .result)
+    (here .queued-action .result) (here .raised .result)
+    (λ b. rw z (scan-upto (asking h (a .message)) n t (a .scan) es (rw z at b))) (here .set-action .ensures)
+    (here .raised .ensures) in
     let ei = up ∙ (λ x. cond (eg x) (set i (el x) (ea x)) i) in
-    let eo = here .put-queued .ensures ∙ ap (λ (g : Bool). cond g (written (a .out .now) at (routeWords (routeFor (messageOf (a .message) (a .body .now)) (h .generation) (h .«next_action_sequence»)))) (a .out .now)) eg in
-    let ep = here .position-after .ensures ∙ ap (λ (g : Bool). cond g (saturatingAdd 64 at (headWords + wordCount (length (a .body .now)))) at) eg in
-    sending-kept (here .sending-on .result) p₀ cs₀ l₀ (here .set-action .last .0) (here .put-queued .last .0) (withActions (here .raised .result) n) (er .1 ∙ here .with-actions .ensures)
-    ∙ told h p cs l i (a .out .now) (g .result) (a .message) (a .body .now) (a .scan) q es (k .ensures) at _ _ _ ei eo ep (here .sending-on .result) (er .0) (a .go) (g .ensures)
+    let eo = here .put-queued .ensures
+    ∙ ap (λ (g : Bool). cond g
+    (written (a .out .now) at
+    (routeWords (routeFor (messageOf (a .message) (a .body .now)) (h .generation) (h .«next_action_sequence»))))
+    (a .out .now)) eg in
+    let ep = here .position-after .ensures
+    ∙ ap (λ (g : Bool). cond g (saturatingAdd 64 at (headWords + wordCount (length (a .body .now)))) at) eg in
+    sending-kept (here .sending-on .result) p₀ cs₀ l₀ (here .set-action .last .0) (here .put-queued .last .0)
+    (withActions (here .raised .result) n) (er .1 ∙ here .with-actions .ensures)
+    ∙ told h p cs l i (a .out .now) (g .result) (a .message) (a .body .now) (a .scan) q es (k .ensures) at _ _ _ ei eo
+    ep (here .sending-on .result) (er .0) (a .go) (g .ensures)
 
 pub tell-scanned-spec : {M : Type 1} → statement M
 tell-scanned-spec = tie.close (at.spec put-queued-requires position-after-requires returns)

@@ -26,13 +26,17 @@ array-share-prefix-bytes c =
 slice-aggregate-put-padded-as-words : tie.Need-slice-aggregate-put-padded-as-words
 slice-aggregate-put-padded-as-words c =
     let here = at.slice-aggregate-put-padded-as-words c in
-    let s = here .start in let e = here .peer-length .ensures in let w = within s in sym (length-take-le (here .peer-length .result) (s .args .peer .bytes) (omega arith))
+    let s = here .start in
+    let e = here .peer-length .ensures in
+    let w = within s in sym (length-take-le (here .peer-length .result) (s .args .peer .bytes) (omega arith))
 
 returns : tie.Need-returns
 unfolding peerBytes
 returns c =
     let here = at.returns c in
-    here .put-padded-as-words .ensures .leaves ∙ ap (λ (n : ℕ). written (here .start .args .out .now) (here .start .args .at) (wordsOf nameWords (take n (here .start .args .peer .bytes)))) (here .peer-length .ensures)
+    here .put-padded-as-words .ensures .leaves
+    ∙ ap (λ (n : ℕ). written (here .start .args .out .now) (here .start .args .at)
+    (wordsOf nameWords (take n (here .start .args .peer .bytes)))) (here .peer-length .ensures)
 
 pub put-peer-at-spec : {M : Type 1} → statement M
 put-peer-at-spec =

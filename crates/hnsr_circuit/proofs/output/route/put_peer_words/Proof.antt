@@ -23,11 +23,17 @@ returns c =
     let d = a .message .destination in
     let n = s .pre in
     let word = here .peer-word .ensures ∙ ap (kindWord 1) (here .peer-length .ensures) in
-    let w1 = wrote-first {xs = a .out .now} (here .put-word-at .last .0) (here .peer-word .result ∷ []) (a .at) 1 refl (omega arith) (here .put-word-at .ensures) in
-    let w2 = wrote-next (here .put-number-at .last .0) (highLow (a .generation)) 2 w1 refl (omega arith) (here .put-number-at .ensures) in
-    let w3 = wrote-next (here .put-number-at2 .last .0) (highLow (a .sequence)) 2 w2 refl (omega arith) (here .put-number-at2 .ensures) in
-    let w4 = wrote-next (here .put-peer-at .last .0) (wordsOf nameWords (peerBytes d)) nameWords w3 (wordsOf-length nameWords (peerBytes d)) (omega arith) (here .put-peer-at .ensures) in
-    wrote-all w4 (omega arith) ∙ ap (λ (x : ℕ). written (a .out .now) (a .at) (x ∷ (highLow (a .generation) ++ highLow (a .sequence) ++ wordsOf nameWords (peerBytes d)))) word
+    let w1 = wrote-first {xs = a .out .now} (here .put-word-at .last .0) (here .peer-word .result ∷ []) (a .at) 1 refl
+    (omega arith) (here .put-word-at .ensures) in
+    let w2 = wrote-next (here .put-number-at .last .0) (highLow (a .generation)) 2 w1 refl (omega arith)
+    (here .put-number-at .ensures) in
+    let w3 = wrote-next (here .put-number-at2 .last .0) (highLow (a .sequence)) 2 w2 refl (omega arith)
+    (here .put-number-at2 .ensures) in
+    let w4 = wrote-next (here .put-peer-at .last .0) (wordsOf nameWords (peerBytes d)) nameWords w3
+    (wordsOf-length nameWords (peerBytes d)) (omega arith) (here .put-peer-at .ensures) in
+    wrote-all w4 (omega arith)
+    ∙ ap (λ (x : ℕ). written (a .out .now) (a .at)
+    (x ∷ (highLow (a .generation) ++ highLow (a .sequence) ++ wordsOf nameWords (peerBytes d)))) word
 
 pub put-peer-words-spec : {M : Type 1} → statement M
 put-peer-words-spec =

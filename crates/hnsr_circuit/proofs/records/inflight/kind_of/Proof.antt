@@ -26,13 +26,23 @@ returns-4 : tie.Need-returns-4
 unfolding kindOf
 returns-4 c =
     let here = at.returns-4 c in
-    rw (ne-eqb _ _ (here .if1 .left), ne-eqb _ _ (here .if2 .left), ne-eqb _ _ (here .if3 .left), eq-eqb _ _ (here .if4 .taken))
+    rw (
+      ne-eqb _ _ (here .if1 .left),
+      ne-eqb _ _ (here .if2 .left),
+      ne-eqb _ _ (here .if3 .left),
+      eq-eqb _ _ (here .if4 .taken),
+    )
 
 returns-5 : tie.Need-returns-5
 unfolding kindOf
 returns-5 c =
     let here = at.returns-5 c in
-    rw (ne-eqb _ _ (here .if1 .left), ne-eqb _ _ (here .if2 .left), ne-eqb _ _ (here .if3 .left), ne-eqb _ _ (here .if4 .left))
+    rw (
+      ne-eqb _ _ (here .if1 .left),
+      ne-eqb _ _ (here .if2 .left),
+      ne-eqb _ _ (here .if3 .left),
+      ne-eqb _ _ (here .if4 .left),
+    )
 
 pub kind-of-spec : {M : Type 1} → statement M
 kind-of-spec = tie.close (tie.spec returns returns-2 returns-3 returns-4 returns-5)

@@ -14,8 +14,15 @@ returns c =
     λ below.
     let a = here .start .args in
     let next : saturatingAdd 64 (a .runtime .generation) 1 ≡ a .runtime .generation + 1 = omega arith in
-    ap (λ (g : ℕ). record { session = a .runtime .session; generation = g; enabled = a .on; «trusted_time_high_water» = a .runtime .«trusted_time_high_water»; config = a .runtime .config; «next_action_sequence» = 1; counters = a .runtime .counters })
-    (here .saturating-add-u64 .ensures ∙ next)
+    ap (λ (g : ℕ). record {
+      session = a .runtime .session;
+      generation = g;
+      enabled = a .on;
+      «trusted_time_high_water» = a .runtime .«trusted_time_high_water»;
+      config = a .runtime .config;
+      «next_action_sequence» = 1;
+      counters = a .runtime .counters;
+    }) (here .saturating-add-u64 .ensures ∙ next)
 
 pub with-enabled-spec : {M : Type 1} → statement M
 with-enabled-spec = tie.close (at.spec returns)

@@ -14,14 +14,16 @@ mul-charge : tie.Need-mul-charge
 mul-charge c =
     let here = at.mul-charge c in
     let a = here .start .args in
-    let l : a .place < length (a .circuits .now) = stores-inside (a .circuits .now) (a .go) (here .within .result) (a .place) (here .within .ensures) (here .if1 .taken) in
+    let l : a .place < length (a .circuits .now) = stores-inside (a .circuits .now) (a .go) (here .within .result)
+    (a .place) (here .within .ensures) (here .if1 .taken) in
     search needs
 
 index-1-charge : tie.Need-index-1-charge
 index-1-charge c =
     let here = at.index-1-charge c in
     let a = here .start .args in
-    stores-inside (a .circuits .now) (a .go) (here .within .result) (a .place) (here .within .ensures) (here .if1 .taken)
+    stores-inside (a .circuits .now) (a .go) (here .within .result) (a .place) (here .within .ensures)
+    (here .if1 .taken)
 
 returns : tie.Need-returns
 returns c =
@@ -29,7 +31,8 @@ returns c =
     let a = here .start .args in
     rw (here .charge .ensures)
     (stored (a .circuits .now) (a .go) (here .within .result) (a .place) (here .within .ensures)
-    (set (a .circuits .now) (a .place) (charged (a .side) (a .n) (getD (a .circuits .now) (a .place) noCircuit))) (here .if1 .taken))
+    (set (a .circuits .now) (a .place) (charged (a .side) (a .n) (getD (a .circuits .now) (a .place) noCircuit)))
+    (here .if1 .taken))
 
 returns-2 : tie.Need-returns-2
 returns-2 c =

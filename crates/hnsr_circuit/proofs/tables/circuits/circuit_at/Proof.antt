@@ -20,14 +20,20 @@ returns c =
     let a = here .start .args in
     let t = a .circuits .now in
     here .held-circuit .ensures ∙ split (ltb (a .place) (a .places .circuits))
-    (λ h. rw h (sym (held-at clearCircuit (a .places .circuits) t (a .place) noCircuit (ltb-true (a .place) (a .places .circuits) h))))
-    (λ h. rw h (sym (held-past clearCircuit (a .places .circuits) t (a .place) noCircuit (ltb-false (a .place) (a .places .circuits) h) (omega arith))))
+    (λ h. rw h
+    (sym
+    (held-at clearCircuit (a .places .circuits) t (a .place) noCircuit (ltb-true (a .place) (a .places .circuits) h))))
+    (λ h. rw h
+    (sym (held-past clearCircuit (a .places .circuits) t (a .place) noCircuit
+    (ltb-false (a .place) (a .places .circuits) h) (omega arith))))
 
 returns-2 : tie.Need-returns-2
 returns-2 c =
     let here = at.returns-2 c in
     let a = here .start .args in
-    here .no-circuit .ensures ∙ sym (List·getD-eq-default (heldCircuits (a .places) (a .circuits .now)) noCircuit (rw (length-held clearCircuit (a .places .circuits) (a .circuits .now)) (omega arith)))
+    here .no-circuit .ensures
+    ∙ sym (List·getD-eq-default (heldCircuits (a .places) (a .circuits .now)) noCircuit
+    (rw (length-held clearCircuit (a .places .circuits) (a .circuits .now)) (omega arith)))
 
 pub circuit-at-spec : {M : Type 1} → statement M
 circuit-at-spec = tie.close (at.spec returns returns-2)

@@ -1,4 +1,5 @@
--- `circuit_due` meets its contract: what is left, from the earliest so far, gives the earliest of all; past the number nothing is due.
+-- `circuit_due` meets its contract: what is left, from the earliest so far, gives the earliest of all; past the number
+-- nothing is due.
 mod Tie
 mod At
 use mathlib.Core.Path.{_≡_, refl, ap, _∙_}
@@ -19,7 +20,11 @@ use Rattle.hnsr_circuit.proofs.tables.circuits.circuit_due.Proof.Tie as
 use Rattle.hnsr_circuit.proofs.tables.circuits.circuit_due.Proof.At as at
 
 abbrev Inv-loop : tie.InvT-loop
-Inv-loop circuits size₀ end₀ earliest₀ i₀ earliest i = (i ≤ end₀) × (end₀ ≤ length circuits) × (foldFrom (dueTurn isCircuit expiryOf) (drop i (held clearCircuit end₀ circuits)) i earliest ≡ (circuitDue (held clearCircuit end₀ circuits) earliest₀))
+Inv-loop circuits size₀ end₀ earliest₀ i₀ earliest i =
+    (i ≤ end₀)
+    × (end₀ ≤ length circuits)
+    × (foldFrom (dueTurn isCircuit expiryOf) (drop i (held clearCircuit end₀ circuits)) i earliest
+    ≡ (circuitDue (held clearCircuit end₀ circuits) earliest₀))
 
 abbrev μ-loop : tie.MeasureT-loop
 μ-loop circuits size₀ end₀ earliest₀ i₀ earliest i = length circuits - i
@@ -55,7 +60,9 @@ loop-again c =
     let l = here .loop in (
       omega arith,
       l .inv .1,
-      held-fold-step clearCircuit n t noCircuit (l .i) (omega arith) (omega arith) (dueTurn isCircuit expiryOf) (l .earliest) (here .circuit-due-turn .result) (circuitDue (held clearCircuit n t) (a .due)) (here .circuit-due-turn .ensures) (l .inv .2),
+      held-fold-step clearCircuit n t noCircuit (l .i) (omega arith) (omega arith) (dueTurn isCircuit expiryOf)
+          (l .earliest) (here .circuit-due-turn .result) (circuitDue (held clearCircuit n t) (a .due))
+          (here .circuit-due-turn .ensures) (l .inv .2),
     )
 
 returns : tie.Need-returns Inv-loop μ-loop
@@ -65,8 +72,12 @@ returns c =
     let t = a .circuits .now in
     let n = here .min-usize .result in
     let l = here .loop in
-    fold-rest clearCircuit (dueTurn isCircuit expiryOf) circuit-due-idle n t (l .i) (l .earliest) (circuitDue (held clearCircuit n t) (a .due)) (λ h. omega arith) (l .inv .2)
-    ∙ ap (λ (s : List RelayCircuit). (circuitDue s (a .due))) (ap (λ (m : ℕ). held clearCircuit m t) (here .min-usize .ensures) ∙ held-min clearCircuit (a .places .circuits) t)
+    fold-rest clearCircuit (dueTurn isCircuit expiryOf) circuit-due-idle n t (l .i) (l .earliest)
+    (circuitDue (held clearCircuit n t) (a .due)) (λ h. omega arith) (l .inv .2)
+    ∙ ap (λ (s : List RelayCircuit). (circuitDue s (a .due)))
+    (ap (λ (m : ℕ). held clearCircuit m t) (here .min-usize .ensures) ∙ held-min clearCircuit (a .places .circuits) t)
 
 pub circuit-due-spec : {M : Type 1} → statement M
-circuit-due-spec = tie.close (tie.spec Inv-loop μ-loop min-usize-requires loop-holds mul-row shared-slice-copy-out-row circuit-due-turn-requires add-i loop-less loop-again returns)
+circuit-due-spec =
+    tie.close (tie.spec Inv-loop μ-loop min-usize-requires loop-holds mul-row shared-slice-copy-out-row
+    circuit-due-turn-requires add-i loop-less loop-again returns)

@@ -1,4 +1,5 @@
--- `circuit_work` meets its contract: what is left of the work, from what is counted so far, is the whole work; past the number there is none.
+-- `circuit_work` meets its contract: what is left of the work, from what is counted so far, is the whole work; past the
+-- number there is none.
 mod Tie
 mod At
 use mathlib.Core.Path.{_≡_, ap, _∙_}
@@ -22,7 +23,12 @@ use Rattle.hnsr_circuit.proofs.tables.circuits.circuit_work.Proof.Tie a
 use Rattle.hnsr_circuit.proofs.tables.circuits.circuit_work.Proof.At as at
 
 abbrev Inv-loop : tie.InvT-loop
-Inv-loop circuits question size₀ end₀ work₀ i₀ work i = (i ≤ end₀) × (end₀ ≤ length circuits) × (WorkAtMost i work) × (foldFrom (circuitWorked question) (drop i (held clearCircuit end₀ circuits)) i work ≡ (circuitWork question (held clearCircuit end₀ circuits)))
+Inv-loop circuits question size₀ end₀ work₀ i₀ work i =
+    (i ≤ end₀)
+    × (end₀ ≤ length circuits)
+    × (WorkAtMost i work)
+    × (foldFrom (circuitWorked question) (drop i (held clearCircuit end₀ circuits)) i work
+    ≡ (circuitWork question (held clearCircuit end₀ circuits)))
 
 abbrev μ-loop : tie.MeasureT-loop
 μ-loop circuits question size₀ end₀ work₀ i₀ work i = length circuits - i
@@ -37,8 +43,13 @@ loop-holds : tie.Need-loop-holds Inv-loop μ-loop
 loop-holds c =
     let here = at.loop-holds Inv-loop μ-loop c in
     let a = here .start .args in
-    let t = held clearCircuit (here .min-usize .result) (a .circuits .now) in
-    (omega arith, omega arith, rw (here .no-work .ensures) (work-none), ap (λ (b : Work). foldFrom (circuitWorked (a .question)) t 0 b) (here .no-work .ensures) ∙ circuit-work (a .question) t)
+    let t = held clearCircuit (here .min-usize .result) (a .circuits .now) in (
+      omega arith,
+      omega arith,
+      rw (here .no-work .ensures) (work-none),
+      ap (λ (b : Work). foldFrom (circuitWorked (a .question)) t 0 b) (here .no-work .ensures)
+          ∙ circuit-work (a .question) t,
+    )
 
 mul-row : tie.Need-mul-row Inv-loop μ-loop
 mul-row c = search needs
@@ -66,8 +77,11 @@ loop-again c =
     let l = here .loop in (
       omega arith,
       l .inv .1,
-      rw (here .circuit-worked .ensures) (circuit-most (a .question) (l .i) (l .work) (getD t (l .i) noCircuit) 0 (l .inv .2)),
-      held-fold-step clearCircuit n t noCircuit (l .i) (omega arith) (omega arith) (circuitWorked (a .question)) (l .work) (here .circuit-worked .result) (circuitWork (a .question) (held clearCircuit n t)) (here .circuit-worked .ensures) (l .inv .3),
+      rw (here .circuit-worked .ensures)
+          (circuit-most (a .question) (l .i) (l .work) (getD t (l .i) noCircuit) 0 (l .inv .2)),
+      held-fold-step clearCircuit n t noCircuit (l .i) (omega arith) (omega arith) (circuitWorked (a .question))
+          (l .work) (here .circuit-worked .result) (circuitWork (a .question) (held clearCircuit n t))
+          (here .circuit-worked .ensures) (l .inv .3),
     )
 
 returns : tie.Need-returns Inv-loop μ-loop
@@ -77,8 +91,12 @@ returns c =
     let t = a .circuits .now in
     let n = here .min-usize .result in
     let l = here .loop in
-    fold-rest clearCircuit (circuitWorked (a .question)) (circuit-idle (a .question)) n t (l .i) (l .work) (circuitWork (a .question) (held clearCircuit n t)) (λ h. omega arith) (l .inv .3)
-    ∙ ap (λ (s : List RelayCircuit). (circuitWork (a .question) s)) (ap (λ (m : ℕ). held clearCircuit m t) (here .min-usize .ensures) ∙ held-min clearCircuit (a .places .circuits) t)
+    fold-rest clearCircuit (circuitWorked (a .question)) (circuit-idle (a .question)) n t (l .i) (l .work)
+    (circuitWork (a .question) (held clearCircuit n t)) (λ h. omega arith) (l .inv .3)
+    ∙ ap (λ (s : List RelayCircuit). (circuitWork (a .question) s))
+    (ap (λ (m : ℕ). held clearCircuit m t) (here .min-usize .ensures) ∙ held-min clearCircuit (a .places .circuits) t)
 
 pub circuit-work-spec : {M : Type 1} → statement M
-circuit-work-spec = tie.close (tie.spec Inv-loop μ-loop min-usize-requires no-work-requires loop-holds mul-row shared-slice-copy-out-row circuit-worked-requires add-i loop-less loop-again returns)
+circuit-work-spec =
+    tie.close (tie.spec Inv-loop μ-loop min-usize-requires no-work-requires loop-holds mul-row shared-slice-copy-out-row
+    circuit-worked-requires add-i loop-less loop-again returns)

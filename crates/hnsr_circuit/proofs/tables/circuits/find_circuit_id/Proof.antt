@@ -17,7 +17,11 @@ use Rattle.hnsr_circuit.proofs.tables.circuits.find_circuit_id.Proof.Ti
 use Rattle.hnsr_circuit.proofs.tables.circuits.find_circuit_id.Proof.At as at
 
 abbrev Inv-loop : tie.InvT-loop
-Inv-loop circuits id size₀ end₀ i₀ i = (i ≤ end₀) × (end₀ ≤ length circuits) × (i + placeOf (circuitAt id) (drop i (held clearCircuit end₀ circuits)) ≡ placeOf (circuitAt id) (held clearCircuit end₀ circuits))
+Inv-loop circuits id size₀ end₀ i₀ i =
+    (i ≤ end₀)
+    × (end₀ ≤ length circuits)
+    × (i + placeOf (circuitAt id) (drop i (held clearCircuit end₀ circuits))
+    ≡ placeOf (circuitAt id) (held clearCircuit end₀ circuits))
 
 abbrev μ-loop : tie.MeasureT-loop
 μ-loop circuits id size₀ end₀ i₀ i = length circuits - i
@@ -28,7 +32,11 @@ min-usize-requires c = search needs
 loop-holds : tie.Need-loop-holds Inv-loop μ-loop
 loop-holds c =
     let here = at.loop-holds Inv-loop μ-loop c in
-    let a = here .start .args in (omega arith, omega arith, zero-add (placeOf (circuitAt (a .id)) (held clearCircuit (here .min-usize .result) (a .circuits .now))))
+    let a = here .start .args in (
+      omega arith,
+      omega arith,
+      zero-add (placeOf (circuitAt (a .id)) (held clearCircuit (here .min-usize .result) (a .circuits .now))),
+    )
 
 mul-row : tie.Need-mul-row Inv-loop μ-loop
 mul-row c = search needs
@@ -48,8 +56,11 @@ returns c =
     let l = here .loop in
     let less = here .loop-test .taken in
     let most = l .inv .1 in
-    let seen = ap (λ (m : ℕ). held clearCircuit m t) (here .min-usize .ensures) ∙ held-min clearCircuit (a .places .circuits) t in
-    held-find-here clearCircuit n t noCircuit (l .i) (omega arith) (omega arith) (circuitAt (a .id)) (placeOf (circuitAt (a .id)) (held clearCircuit n t)) (sym (here .circuit-is .ensures) ∙ here .if1 .taken) (l .inv .2)
+    let seen =
+    ap (λ (m : ℕ). held clearCircuit m t) (here .min-usize .ensures) ∙ held-min clearCircuit (a .places .circuits) t in
+    held-find-here clearCircuit n t noCircuit (l .i) (omega arith) (omega arith) (circuitAt (a .id))
+    (placeOf (circuitAt (a .id)) (held clearCircuit n t))
+    (sym (here .circuit-is .ensures) ∙ here .if1 .taken) (l .inv .2)
     ∙ ap (placeOf (circuitAt (a .id))) seen
 
 add-i : tie.Need-add-i Inv-loop μ-loop
@@ -64,8 +75,13 @@ loop-again c =
     let a = here .start .args in
     let t = a .circuits .now in
     let n = here .min-usize .result in
-    let l = here .loop in
-    (omega arith, l .inv .1, held-find-next clearCircuit n t noCircuit (l .i) (omega arith) (omega arith) (circuitAt (a .id)) (placeOf (circuitAt (a .id)) (held clearCircuit n t)) (sym (here .circuit-is .ensures) ∙ here .if1 .left) (l .inv .2))
+    let l = here .loop in (
+      omega arith,
+      l .inv .1,
+      held-find-next clearCircuit n t noCircuit (l .i) (omega arith) (omega arith) (circuitAt (a .id))
+          (placeOf (circuitAt (a .id)) (held clearCircuit n t))
+          (sym (here .circuit-is .ensures) ∙ here .if1 .left) (l .inv .2),
+    )
 
 returns-2 : tie.Need-returns-2 Inv-loop μ-loop
 unfolding circuitAt
@@ -75,9 +91,13 @@ returns-2 c =
     let t = a .circuits .now in
     let n = here .min-usize .result in
     let l = here .loop in
-    let seen = ap (λ (m : ℕ). held clearCircuit m t) (here .min-usize .ensures) ∙ held-min clearCircuit (a .places .circuits) t in
-    find-rest clearCircuit (circuitAt (a .id)) false (λ x. refl) n t (l .i) (placeOf (circuitAt (a .id)) (held clearCircuit n t)) (λ h. omega arith) (omega arith) (l .inv .2)
+    let seen =
+    ap (λ (m : ℕ). held clearCircuit m t) (here .min-usize .ensures) ∙ held-min clearCircuit (a .places .circuits) t in
+    find-rest clearCircuit (circuitAt (a .id)) false (λ x. refl) n t (l .i)
+    (placeOf (circuitAt (a .id)) (held clearCircuit n t)) (λ h. omega arith) (omega arith) (l .inv .2)
     ∙ ap (placeOf (circuitAt (a .id))) seen
 
 pub find-circuit-id-spec : {M : Type 1} → statement M
-find-circuit-id-spec = tie.close (tie.spec Inv-loop μ-loop min-usize-requires loop-holds mul-row shared-slice-copy-out-row circuit-is-requires returns add-i loop-less loop-again returns-2)
+find-circuit-id-spec =
+    tie.close (tie.spec Inv-loop μ-loop min-usize-requires loop-holds mul-row shared-slice-copy-out-row
+    circuit-is-requires returns add-i loop-less loop-again returns-2)

@@ -1,4 +1,5 @@
--- `next_circuit` meets its contract: what is left of the turn, from the best so far, gives the whole; past the number no record is offered.
+-- `next_circuit` meets its contract: what is left of the turn, from the best so far, gives the whole; past the number
+-- no record is offered.
 mod Tie
 mod At
 use mathlib.Core.Path.{_≡_, ap, _∙_}
@@ -21,7 +22,11 @@ use Rattle.hnsr_circuit.proofs.tables.circuits.next_circuit.Proof.Tie a
 use Rattle.hnsr_circuit.proofs.tables.circuits.next_circuit.Proof.At as at
 
 abbrev Inv-loop : tie.InvT-loop
-Inv-loop circuits question peer cursor size₀ end₀ best₀ i₀ best i = (i ≤ end₀) × (end₀ ≤ length circuits) × (foldFrom (nextTurn circuitId (circuitHas question peer) cursor) (drop i (held clearCircuit end₀ circuits)) i best ≡ (next circuitId (circuitHas question peer) cursor (held clearCircuit end₀ circuits)))
+Inv-loop circuits question peer cursor size₀ end₀ best₀ i₀ best i =
+    (i ≤ end₀)
+    × (end₀ ≤ length circuits)
+    × (foldFrom (nextTurn circuitId (circuitHas question peer) cursor) (drop i (held clearCircuit end₀ circuits)) i best
+    ≡ (next circuitId (circuitHas question peer) cursor (held clearCircuit end₀ circuits)))
 
 abbrev μ-loop : tie.MeasureT-loop
 μ-loop circuits question peer cursor size₀ end₀ best₀ i₀ best i = length circuits - i
@@ -37,8 +42,12 @@ unfolding next
 loop-holds c =
     let here = at.loop-holds Inv-loop μ-loop c in
     let a = here .start .args in
-    let t = held clearCircuit (here .min-usize .result) (a .circuits .now) in
-    (omega arith, omega arith, ap (λ (b : Walked). foldFrom (nextTurn circuitId (circuitHas (a .question) (a .peer)) (a .cursor)) t 0 b) (here .not-yet .ensures))
+    let t = held clearCircuit (here .min-usize .result) (a .circuits .now) in (
+      omega arith,
+      omega arith,
+      ap (λ (b : Walked). foldFrom (nextTurn circuitId (circuitHas (a .question) (a .peer)) (a .cursor)) t 0 b)
+          (here .not-yet .ensures),
+    )
 
 mul-row : tie.Need-mul-row Inv-loop μ-loop
 mul-row c = search needs
@@ -64,7 +73,10 @@ loop-again c =
     let l = here .loop in (
       omega arith,
       l .inv .1,
-      held-fold-step clearCircuit n t noCircuit (l .i) (omega arith) (omega arith) (nextTurn circuitId (circuitHas (a .question) (a .peer)) (a .cursor)) (l .best) (here .circuit-turn .result) (next circuitId (circuitHas (a .question) (a .peer)) (a .cursor) (held clearCircuit n t)) (here .circuit-turn .ensures) (l .inv .2),
+      held-fold-step clearCircuit n t noCircuit (l .i) (omega arith) (omega arith)
+          (nextTurn circuitId (circuitHas (a .question) (a .peer)) (a .cursor)) (l .best) (here .circuit-turn .result)
+          (next circuitId (circuitHas (a .question) (a .peer)) (a .cursor) (held clearCircuit n t))
+          (here .circuit-turn .ensures) (l .inv .2),
     )
 
 returns : tie.Need-returns Inv-loop μ-loop
@@ -74,8 +86,15 @@ returns c =
     let t = a .circuits .now in
     let n = here .min-usize .result in
     let l = here .loop in
-    fold-rest clearCircuit (nextTurn circuitId (circuitHas (a .question) (a .peer)) (a .cursor)) (next-idle clearCircuit circuitId (circuitHas (a .question) (a .peer)) (circuit-unmarked (a .question) (a .peer)) (a .cursor)) n t (l .i) (l .best) (next circuitId (circuitHas (a .question) (a .peer)) (a .cursor) (held clearCircuit n t)) (λ h. omega arith) (l .inv .2)
-    ∙ ap (λ (s : List RelayCircuit). (next circuitId (circuitHas (a .question) (a .peer)) (a .cursor) s)) (ap (λ (m : ℕ). held clearCircuit m t) (here .min-usize .ensures) ∙ held-min clearCircuit (a .places .circuits) t)
+    fold-rest clearCircuit (nextTurn circuitId (circuitHas (a .question) (a .peer)) (a .cursor))
+    (next-idle clearCircuit circuitId (circuitHas (a .question) (a .peer))
+    (circuit-unmarked (a .question) (a .peer)) (a .cursor)) n t (l .i) (l .best)
+    (next circuitId (circuitHas (a .question) (a .peer)) (a .cursor) (held clearCircuit n t))
+    (λ h. omega arith) (l .inv .2)
+    ∙ ap (λ (s : List RelayCircuit). (next circuitId (circuitHas (a .question) (a .peer)) (a .cursor) s))
+    (ap (λ (m : ℕ). held clearCircuit m t) (here .min-usize .ensures) ∙ held-min clearCircuit (a .places .circuits) t)
 
 pub next-circuit-spec : {M : Type 1} → statement M
-next-circuit-spec = tie.close (tie.spec Inv-loop μ-loop min-usize-requires not-yet-requires loop-holds mul-row shared-slice-copy-out-row circuit-turn-requires add-i loop-less loop-again returns)
+next-circuit-spec =
+    tie.close (tie.spec Inv-loop μ-loop min-usize-requires not-yet-requires loop-holds mul-row shared-slice-copy-out-row
+    circuit-turn-requires add-i loop-less loop-again returns)

@@ -1,5 +1,5 @@
--- `survey_circuit` meets its contract: what is left of the count and of the turn, with what is found so far, gives the whole; past the number no
--- record is marked.
+-- `survey_circuit` meets its contract: what is left of the count and of the turn, with what is found so far, gives the
+-- whole; past the number no record is marked.
 mod Tie
 mod At
 use Prim.Native.Nat.{ℕ, _+_, _-_, _≤_}
@@ -16,7 +16,8 @@ use Rattle.hnsr_circuit.specs.Circuits.{isCircuit, circuitId, noCircuit,
 use Rattle.hnsr_circuit.specs.Code.Question.{circuitHas}
 use Rattle.hnsr_circuit.specs.Code.Held.{held}
 use Rattle.hnsr_circuit.specs.Laws.HeldTables.{circuit-unmarked}
-use Rattle.hnsr_circuit.specs.Laws.Held.{held-min, count-rest, held-count-next, fold-rest, held-fold-step, next-idle}
+use Rattle.hnsr_circuit.specs.Laws.Held.{held-min, count-rest, held-count-next}
+use Rattle.hnsr_circuit.specs.Laws.Held.{fold-rest, held-fold-step, next-idle}
 use native.Mathlib.Omega.{arith}
 use borrow.Author.Needs.{needs}
 use Rattle.hnsr_circuit.proofs.tables.circuits.survey_circuit.Statement.{statement}
@@ -25,8 +26,14 @@ use Rattle.hnsr_circuit.proofs.tables.circuits.survey_circuit.Proof.At 
 
 abbrev Inv-loop : tie.InvT-loop
 Inv-loop circuits question peer size₀ end₀ start₀ used₀ first₀ i₀ used first i =
-    (i ≤ end₀) × (end₀ ≤ length circuits) × (used ≤ i) × (used + count isCircuit (drop i (held clearCircuit end₀ circuits)) ≡ count isCircuit (held clearCircuit end₀ circuits))
-    × (foldFrom (nextTurn circuitId (circuitHas question peer) start₀) (drop i (held clearCircuit end₀ circuits)) i first ≡ next circuitId (circuitHas question peer) start₀ (held clearCircuit end₀ circuits))
+    (i ≤ end₀)
+    × (end₀ ≤ length circuits)
+    × (used ≤ i)
+    × (used + count isCircuit (drop i (held clearCircuit end₀ circuits))
+    ≡ count isCircuit (held clearCircuit end₀ circuits))
+    × (foldFrom (nextTurn circuitId (circuitHas question peer) start₀) (drop i (held clearCircuit end₀ circuits))
+    i first
+    ≡ next circuitId (circuitHas question peer) start₀ (held clearCircuit end₀ circuits))
 
 abbrev μ-loop : tie.MeasureT-loop
 μ-loop circuits question peer size₀ end₀ start₀ used₀ first₀ i₀ used first i = length circuits - i
@@ -42,8 +49,15 @@ unfolding next
 loop-holds c =
     let here = at.loop-holds Inv-loop μ-loop c in
     let a = here .start .args in
-    let t = held clearCircuit (here .min-usize .result) (a .circuits .now) in
-    (omega arith, omega arith, omega arith, zero-add (count isCircuit t), ap (λ (b : Walked). foldFrom (nextTurn circuitId (circuitHas (a .question) (a .peer)) (here .not-yet .result)) t 0 b) (here .not-yet .ensures))
+    let t = held clearCircuit (here .min-usize .result) (a .circuits .now) in (
+      omega arith,
+      omega arith,
+      omega arith,
+      zero-add (count isCircuit t),
+      ap (λ (b : Walked).
+          foldFrom (nextTurn circuitId (circuitHas (a .question) (a .peer)) (here .not-yet .result)) t 0 b)
+          (here .not-yet .ensures),
+    )
 
 mul-row : tie.Need-mul-row Inv-loop μ-loop
 mul-row c = search needs
@@ -78,10 +92,13 @@ loop-again c =
       omega arith,
       l .inv .1,
       omega (arith, cond-le (h .result)),
-      held-count-next clearCircuit n t noCircuit (l .i) (omega arith) (omega arith) isCircuit (count isCircuit (held clearCircuit n t)) (l .used) (here .one-more .result)
+      held-count-next clearCircuit n t noCircuit (l .i) (omega arith) (omega arith) isCircuit
+          (count isCircuit (held clearCircuit n t)) (l .used) (here .one-more .result)
           (here .one-more .ensures ∙ ap (λ (b : Bool). l .used + cond b 1 0) (h .ensures)) (l .inv .3),
-      held-fold-step clearCircuit n t noCircuit (l .i) (omega arith) (omega arith) (nextTurn circuitId (circuitHas (a .question) (a .peer)) start) (l .first) (here .circuit-turn .result)
-          (next circuitId (circuitHas (a .question) (a .peer)) start (held clearCircuit n t)) (here .circuit-turn .ensures) (l .inv .4),
+      held-fold-step clearCircuit n t noCircuit (l .i) (omega arith) (omega arith)
+          (nextTurn circuitId (circuitHas (a .question) (a .peer)) start) (l .first) (here .circuit-turn .result)
+          (next circuitId (circuitHas (a .question) (a .peer)) start (held clearCircuit n t))
+          (here .circuit-turn .ensures) (l .inv .4),
     )
 
 surveyed-requires : tie.Need-surveyed-requires Inv-loop μ-loop
@@ -97,12 +114,20 @@ returns c =
     let l = here .loop in
     let q = circuitHas (a .question) (a .peer) in
     let start = here .not-yet .result in
-    let seen = ap (λ (m : ℕ). held clearCircuit m t) (here .min-usize .ensures) ∙ held-min clearCircuit (a .places .circuits) t in (
-      here .surveyed .ensures .0 ∙ count-rest clearCircuit isCircuit (λ x. refl) n t (l .i) (l .used) (count isCircuit (held clearCircuit n t)) (λ h. omega arith) (l .inv .3) ∙ ap (count isCircuit) seen,
+    let seen = ap (λ (m : ℕ). held clearCircuit m t) (here .min-usize .ensures)
+    ∙ held-min clearCircuit (a .places .circuits) t in (
+      here .surveyed .ensures .0
+          ∙ count-rest clearCircuit isCircuit (λ x. refl) n t (l .i) (l .used) (count isCircuit (held clearCircuit n t))
+          (λ h. omega arith) (l .inv .3)
+          ∙ ap (count isCircuit) seen,
       here .surveyed .ensures .1
-          ∙ fold-rest clearCircuit (nextTurn circuitId q start) (next-idle clearCircuit circuitId q (circuit-unmarked (a .question) (a .peer)) start) n t (l .i) (l .first) (next circuitId q start (held clearCircuit n t)) (λ h. omega arith) (l .inv .4)
+          ∙ fold-rest clearCircuit (nextTurn circuitId q start)
+          (next-idle clearCircuit circuitId q (circuit-unmarked (a .question) (a .peer)) start) n t (l .i) (l .first)
+          (next circuitId q start (held clearCircuit n t)) (λ h. omega arith) (l .inv .4)
           ∙ (λ x. next circuitId q (here .not-yet .ensures x) (seen x)),
     )
 
 pub survey-circuit-spec : {M : Type 1} → statement M
-survey-circuit-spec = tie.close (tie.spec Inv-loop μ-loop min-usize-requires not-yet-requires loop-holds mul-row shared-slice-copy-out-row is-circuit-requires one-more-requires circuit-turn-requires add-i loop-less loop-again surveyed-requires returns)
+survey-circuit-spec =
+    tie.close (tie.spec Inv-loop μ-loop min-usize-requires not-yet-requires loop-holds mul-row shared-slice-copy-out-row
+    is-circuit-requires one-more-requires circuit-turn-requires add-i loop-less loop-again surveyed-requires returns)

@@ -43,7 +43,9 @@ returns c =
     let here = at.returns Inv-loop μ-loop c in
     let a = here .start .args in
     let t = a .circuits .now in
-    here .loop .inv .1 ∙ ap (λ (m : ℕ). held clearCircuit m t) (here .min-usize .ensures) ∙ held-min clearCircuit (a .places .circuits) t
+    here .loop .inv .1
+    ∙ ap (λ (m : ℕ). held clearCircuit m t) (here .min-usize .ensures)
+    ∙ held-min clearCircuit (a .places .circuits) t
 
 loop-less : tie.Need-loop-less Inv-loop μ-loop
 loop-less c = search needs
@@ -52,15 +54,22 @@ loop-again : tie.Need-loop-again Inv-loop μ-loop
 loop-again c =
     let here = at.loop-again Inv-loop μ-loop c in
     let t = here .start .args .circuits .now in
-    let l = here .loop in
-    (omega arith, lower-step clearCircuit isCircuit circuit-still (l .n) t noCircuit (held clearCircuit (here .min-usize .result) t) (omega arith) (sym (here .is-circuit .ensures) ∙ here .if1 .left) (l .inv .1))
+    let l = here .loop in (
+      omega arith,
+      lower-step clearCircuit isCircuit circuit-still (l .n) t noCircuit (held clearCircuit (here .min-usize .result) t)
+          (omega arith) (sym (here .is-circuit .ensures) ∙ here .if1 .left) (l .inv .1),
+    )
 
 returns-2 : tie.Need-returns-2 Inv-loop μ-loop
 returns-2 c =
     let here = at.returns-2 Inv-loop μ-loop c in
     let a = here .start .args in
     let t = a .circuits .now in
-    here .loop .inv .1 ∙ ap (λ (m : ℕ). held clearCircuit m t) (here .min-usize .ensures) ∙ held-min clearCircuit (a .places .circuits) t
+    here .loop .inv .1
+    ∙ ap (λ (m : ℕ). held clearCircuit m t) (here .min-usize .ensures)
+    ∙ held-min clearCircuit (a .places .circuits) t
 
 pub trim-circuits-spec : {M : Type 1} → statement M
-trim-circuits-spec = tie.close (tie.spec Inv-loop μ-loop min-usize-requires loop-holds sub-last mul-row shared-slice-copy-out-row is-circuit-requires returns loop-less loop-again returns-2)
+trim-circuits-spec =
+    tie.close (tie.spec Inv-loop μ-loop min-usize-requires loop-holds sub-last mul-row shared-slice-copy-out-row
+    is-circuit-requires returns loop-less loop-again returns-2)

@@ -20,14 +20,19 @@ returns c =
     let a = here .start .args in
     let t = a .inflight .now in
     here .held-action .ensures ∙ split (ltb (a .place) (a .places .actions))
-    (λ h. rw h (sym (held-at clearAction (a .places .actions) t (a .place) noAction (ltb-true (a .place) (a .places .actions) h))))
-    (λ h. rw h (sym (held-past clearAction (a .places .actions) t (a .place) noAction (ltb-false (a .place) (a .places .actions) h) (omega arith))))
+    (λ h. rw h
+    (sym (held-at clearAction (a .places .actions) t (a .place) noAction (ltb-true (a .place) (a .places .actions) h))))
+    (λ h. rw h
+    (sym (held-past clearAction (a .places .actions) t (a .place) noAction (ltb-false (a .place) (a .places .actions) h)
+    (omega arith))))
 
 returns-2 : tie.Need-returns-2
 returns-2 c =
     let here = at.returns-2 c in
     let a = here .start .args in
-    here .no-action .ensures ∙ sym (List·getD-eq-default (heldActions (a .places) (a .inflight .now)) noAction (rw (length-held clearAction (a .places .actions) (a .inflight .now)) (omega arith)))
+    here .no-action .ensures
+    ∙ sym (List·getD-eq-default (heldActions (a .places) (a .inflight .now)) noAction
+    (rw (length-held clearAction (a .places .actions) (a .inflight .now)) (omega arith)))
 
 pub action-at-spec : {M : Type 1} → statement M
 action-at-spec = tie.close (at.spec returns returns-2)

@@ -1,4 +1,5 @@
--- `clear_action` meets its contract: what is done, with what is left cleared, is the whole table cleared; past the number there is no mark.
+-- `clear_action` meets its contract: what is done, with what is left cleared, is the whole table cleared; past the
+-- number there is no mark.
 mod Tie
 mod At
 use mathlib.Core.Path.{_≡_, refl, sym, ap, _∙_}
@@ -17,7 +18,13 @@ use Rattle.hnsr_circuit.proofs.tables.inflight.clear_action.Proof.Tie a
 use Rattle.hnsr_circuit.proofs.tables.inflight.clear_action.Proof.At as at
 
 abbrev Inv-loop : tie.InvT-loop
-Inv-loop inflight gone peer size₀ end₀ i₀ inflight′ i = (i ≤ end₀) × (end₀ ≤ length inflight) × (length inflight′ ≡ length inflight) × (take i (held clearAction end₀ inflight′) ++ clear clearAction (actionHas gone peer) (drop i (held clearAction end₀ inflight′)) ≡ clear clearAction (actionHas gone peer) (held clearAction end₀ inflight))
+Inv-loop inflight gone peer size₀ end₀ i₀ inflight′ i =
+    (i ≤ end₀)
+    × (end₀ ≤ length inflight)
+    × (length inflight′ ≡ length inflight)
+    × (take i (held clearAction end₀ inflight′)
+    ++ clear clearAction (actionHas gone peer) (drop i (held clearAction end₀ inflight′))
+    ≡ clear clearAction (actionHas gone peer) (held clearAction end₀ inflight))
 
 abbrev μ-loop : tie.MeasureT-loop
 μ-loop inflight gone peer size₀ end₀ i₀ inflight′ i = length inflight - i
@@ -61,7 +68,10 @@ loop-again c =
       omega arith,
       l .inv .1,
       k ∙ l .inv .2,
-      held-clear-step clearAction n (l .inflight) noAction (l .i) (omega arith) (omega arith) (actionHas (a .dropped) (a .peer)) (h .result) (s .last .0) (clear clearAction (actionHas (a .dropped) (a .peer)) (held clearAction n t)) (h .ensures) (s .ensures) (l .inv .3),
+      held-clear-step clearAction n (l .inflight) noAction (l .i) (omega arith) (omega arith)
+          (actionHas (a .dropped) (a .peer)) (h .result) (s .last .0)
+          (clear clearAction (actionHas (a .dropped) (a .peer)) (held clearAction n t)) (h .ensures)
+          (s .ensures) (l .inv .3),
     )
 
 same-length : tie.Need-same-length Inv-loop μ-loop
@@ -74,9 +84,15 @@ returns c =
     let t = a .inflight .now in
     let n = here .min-usize .result in
     let l = here .loop in
-    sym (ap (λ (m : ℕ). held clearAction m (l .inflight)) (here .min-usize .ensures ∙ ap (min (a .places .actions)) (sym (l .inv .2))) ∙ held-min clearAction (a .places .actions) (l .inflight))
-    ∙ clear-rest clearAction (actionHas (a .dropped) (a .peer)) (λ x. refl) n (l .inflight) (l .i) (clear clearAction (actionHas (a .dropped) (a .peer)) (held clearAction n t)) (λ h. omega arith) (l .inv .3)
-    ∙ ap (clear clearAction (actionHas (a .dropped) (a .peer))) (ap (λ (m : ℕ). held clearAction m t) (here .min-usize .ensures) ∙ held-min clearAction (a .places .actions) t)
+    sym (ap (λ (m : ℕ). held clearAction m (l .inflight))
+    (here .min-usize .ensures ∙ ap (min (a .places .actions)) (sym (l .inv .2)))
+    ∙ held-min clearAction (a .places .actions) (l .inflight))
+    ∙ clear-rest clearAction (actionHas (a .dropped) (a .peer)) (λ x. refl) n (l .inflight) (l .i)
+    (clear clearAction (actionHas (a .dropped) (a .peer)) (held clearAction n t)) (λ h. omega arith) (l .inv .3)
+    ∙ ap (clear clearAction (actionHas (a .dropped) (a .peer)))
+    (ap (λ (m : ℕ). held clearAction m t) (here .min-usize .ensures) ∙ held-min clearAction (a .places .actions) t)
 
 pub clear-action-spec : {M : Type 1} → statement M
-clear-action-spec = tie.close (tie.spec Inv-loop μ-loop min-usize-requires loop-holds mul-row slice-copy-out-row action-has-requires unmark-action-requires add-i loop-less loop-again same-length returns)
+clear-action-spec =
+    tie.close (tie.spec Inv-loop μ-loop min-usize-requires loop-holds mul-row slice-copy-out-row action-has-requires
+    unmark-action-requires add-i loop-less loop-again same-length returns)

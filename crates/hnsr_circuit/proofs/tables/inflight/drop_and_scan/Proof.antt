@@ -1,4 +1,5 @@
--- `drop_and_scan` meets its contract: what is passed is dropped, and what is left of the scan goes over the table as it will be.
+-- `drop_and_scan` meets its contract: what is passed is dropped, and what is left of the scan goes over the table as it
+-- will be.
 mod Tie
 mod At
 use mathlib.Core.Path.{_≡_, refl, sym, ap, _∙_}
@@ -26,8 +27,11 @@ use Rattle.hnsr_circuit.proofs.tables.inflight.drop_and_scan.Proof.At a
 abbrev Inv-loop : tie.InvT-loop
 Inv-loop inflight id question size₀ end₀ scan₀ i₀ inflight′ scan i =
     (i ≤ end₀) × (end₀ ≤ length inflight) × (length inflight′ ≡ length inflight) × (TallyAtMost i (scan .tally))
-    × (take i (held clearAction end₀ inflight′) ++ clear clearAction (actionUnder id) (drop i (held clearAction end₀ inflight′)) ≡ dropped (actionUnder id) (held clearAction end₀ inflight))
-    × (foldFrom (scanned question) (drop i (dropped (actionUnder id) (held clearAction end₀ inflight))) i scan ≡ actionsScanned question (dropped (actionUnder id) (held clearAction end₀ inflight)))
+    × (take i (held clearAction end₀ inflight′)
+    ++ clear clearAction (actionUnder id) (drop i (held clearAction end₀ inflight′))
+    ≡ dropped (actionUnder id) (held clearAction end₀ inflight))
+    × (foldFrom (scanned question) (drop i (dropped (actionUnder id) (held clearAction end₀ inflight))) i scan
+    ≡ actionsScanned question (dropped (actionUnder id) (held clearAction end₀ inflight)))
 
 abbrev μ-loop : tie.MeasureT-loop
 μ-loop inflight id question size₀ end₀ scan₀ i₀ inflight′ scan i = length inflight - i
@@ -51,7 +55,12 @@ loop-holds c =
       refl,
       rw (here .no-scan .ensures) (tally-none),
       refl,
-      ap (λ (b : ActionScan). foldFrom (scanned (a .question)) u 0 b) (here .no-scan .ensures ∙ ap noScan (sym (length-map t (cleared clearAction (actionUnder (a .id))) ∙ length-held clearAction n (a .inflight .now)))) ∙ scan-fold (a .question) u,
+      ap (λ (b : ActionScan). foldFrom (scanned (a .question)) u 0 b)
+          (here .no-scan .ensures
+          ∙ ap noScan
+          (sym
+          (length-map t (cleared clearAction (actionUnder (a .id))) ∙ length-held clearAction n (a .inflight .now))))
+          ∙ scan-fold (a .question) u,
     )
 
 mul-row : tie.Need-mul-row Inv-loop μ-loop
@@ -106,13 +115,19 @@ loop-again c =
     ∙ sym (map-here (cleared clearAction d) (held clearAction n t) noAction (l .i) inside)
     ∙ ap (λ (x : List InflightAction). getD x (l .i) noAction) (l .inv .4) in
     let after = here .action-scanned .ensures ∙ ap (λ (x : InflightAction). scanned q (l .scan) x (l .i)) left in
-    let long : l .i < length u = rw (length-map (held clearAction n (a .inflight .now)) (cleared clearAction d), length-held clearAction n (a .inflight .now)) (omega arith) in (
+    let long : l .i < length u = rw (
+      length-map (held clearAction n (a .inflight .now)) (cleared clearAction d),
+      length-held clearAction n (a .inflight .now),
+    ) (omega arith) in (
       omega arith,
       l .inv .1,
       k ∙ l .inv .2,
-      rw (here .action-scanned .ensures) (tally-most q (l .i) (l .scan .tally) (here .action-left .result) (l .i) (l .inv .3)),
-      held-clear-step clearAction n t noAction (l .i) (omega arith) (omega arith) d (here .action-under .result) (s .last .0) u has (s .ensures) (l .inv .4),
-      fold-step (scanned q) u noAction (l .i) (l .scan) (here .action-scanned .result) (actionsScanned q u) long after (l .inv .5),
+      rw (here .action-scanned .ensures)
+          (tally-most q (l .i) (l .scan .tally) (here .action-left .result) (l .i) (l .inv .3)),
+      held-clear-step clearAction n t noAction (l .i) (omega arith) (omega arith) d (here .action-under .result)
+          (s .last .0) u has (s .ensures) (l .inv .4),
+      fold-step (scanned q) u noAction (l .i) (l .scan) (here .action-scanned .result) (actionsScanned q u) long
+          after (l .inv .5),
     )
 
 spared-requires : tie.Need-spared-requires Inv-loop μ-loop
@@ -133,16 +148,23 @@ returns c =
     let r = a .inflight .now in
     let t = l .inflight in
     let u = dropped d (held clearAction n r) in
-    let seen = ap (λ (m : ℕ). held clearAction m r) (here .min-usize .ensures) ∙ held-min clearAction (a .places .actions) r in
-    let kept = ap (λ (m : ℕ). held clearAction m t) (here .min-usize .ensures ∙ ap (min (a .places .actions)) (sym (l .inv .2))) ∙ held-min clearAction (a .places .actions) t in
+    let seen =
+    ap (λ (m : ℕ). held clearAction m r) (here .min-usize .ensures) ∙ held-min clearAction (a .places .actions) r in
+    let kept =
+    ap (λ (m : ℕ). held clearAction m t) (here .min-usize .ensures ∙ ap (min (a .places .actions)) (sym (l .inv .2)))
+    ∙ held-min clearAction (a .places .actions) t in
     let done = clear-rest clearAction d (λ x. refl) n t (l .i) u (λ h. omega arith) (l .inv .4) in
     let same = ap (dropped d) seen in (
       sym kept ∙ done ∙ same,
       here .spared .ensures
           ∙ ap (λ (m : ℕ). scanSpared (l .scan) (l .i) m) (sym (l .inv .2))
-          ∙ scan-rest q n t (l .i) (l .scan) (actionsScanned q u) (λ h. omega arith) (omega arith) (ap (λ (x : List InflightAction). foldFrom (scanned q) (drop (l .i) x) (l .i) (l .scan)) done ∙ l .inv .5)
+          ∙ scan-rest q n t (l .i) (l .scan) (actionsScanned q u) (λ h. omega arith) (omega arith)
+          (ap (λ (x : List InflightAction). foldFrom (scanned q) (drop (l .i) x) (l .i) (l .scan)) done ∙ l .inv .5)
           ∙ ap (actionsScanned q) same,
     )
 
 pub drop-and-scan-spec : {M : Type 1} → statement M
-drop-and-scan-spec = tie.close (tie.spec Inv-loop μ-loop min-usize-requires no-scan-requires loop-holds mul-row slice-copy-out-row action-under-requires action-left-requires unmark-action-requires action-scanned-requires add-i loop-less loop-again spared-requires same-length returns)
+drop-and-scan-spec =
+    tie.close (tie.spec Inv-loop μ-loop min-usize-requires no-scan-requires loop-holds mul-row slice-copy-out-row
+    action-under-requires action-left-requires unmark-action-requires action-scanned-requires add-i loop-less loop-again
+    spared-requires same-length returns)

@@ -1,4 +1,5 @@
--- `find_action` meets its contract: the first `i` records have another number, and past the number of places no record is marked.
+-- `find_action` meets its contract: the first `i` records have another number, and past the number of places no record
+-- is marked.
 mod Tie
 mod At
 use mathlib.Core.Path.{_≡_, refl, sym, ap, _∙_}
@@ -17,7 +18,11 @@ use Rattle.hnsr_circuit.proofs.tables.inflight.find_action.Proof.Tie as
 use Rattle.hnsr_circuit.proofs.tables.inflight.find_action.Proof.At as at
 
 abbrev Inv-loop : tie.InvT-loop
-Inv-loop inflight generation sequence size₀ end₀ i₀ i = (i ≤ end₀) × (end₀ ≤ length inflight) × (i + placeOf (actionAt generation sequence) (drop i (held clearAction end₀ inflight)) ≡ placeOf (actionAt generation sequence) (held clearAction end₀ inflight))
+Inv-loop inflight generation sequence size₀ end₀ i₀ i =
+    (i ≤ end₀)
+    × (end₀ ≤ length inflight)
+    × (i + placeOf (actionAt generation sequence) (drop i (held clearAction end₀ inflight))
+    ≡ placeOf (actionAt generation sequence) (held clearAction end₀ inflight))
 
 abbrev μ-loop : tie.MeasureT-loop
 μ-loop inflight generation sequence size₀ end₀ i₀ i = length inflight - i
@@ -28,7 +33,12 @@ min-usize-requires c = search needs
 loop-holds : tie.Need-loop-holds Inv-loop μ-loop
 loop-holds c =
     let here = at.loop-holds Inv-loop μ-loop c in
-    let a = here .start .args in (omega arith, omega arith, zero-add (placeOf (actionAt (a .generation) (a .sequence)) (held clearAction (here .min-usize .result) (a .inflight .now))))
+    let a = here .start .args in (
+      omega arith,
+      omega arith,
+      zero-add (placeOf (actionAt (a .generation) (a .sequence))
+          (held clearAction (here .min-usize .result) (a .inflight .now))),
+    )
 
 mul-row : tie.Need-mul-row Inv-loop μ-loop
 mul-row c = search needs
@@ -48,8 +58,11 @@ returns c =
     let l = here .loop in
     let less = here .loop-test .taken in
     let most = l .inv .1 in
-    let seen = ap (λ (m : ℕ). held clearAction m t) (here .min-usize .ensures) ∙ held-min clearAction (a .places .actions) t in
-    held-find-here clearAction n t noAction (l .i) (omega arith) (omega arith) (actionAt (a .generation) (a .sequence)) (placeOf (actionAt (a .generation) (a .sequence)) (held clearAction n t)) (sym (here .action-is .ensures) ∙ here .if1 .taken) (l .inv .2)
+    let seen =
+    ap (λ (m : ℕ). held clearAction m t) (here .min-usize .ensures) ∙ held-min clearAction (a .places .actions) t in
+    held-find-here clearAction n t noAction (l .i) (omega arith) (omega arith) (actionAt (a .generation) (a .sequence))
+    (placeOf (actionAt (a .generation) (a .sequence)) (held clearAction n t))
+    (sym (here .action-is .ensures) ∙ here .if1 .taken) (l .inv .2)
     ∙ ap (placeOf (actionAt (a .generation) (a .sequence))) seen
 
 add-i : tie.Need-add-i Inv-loop μ-loop
@@ -64,8 +77,14 @@ loop-again c =
     let a = here .start .args in
     let t = a .inflight .now in
     let n = here .min-usize .result in
-    let l = here .loop in
-    (omega arith, l .inv .1, held-find-next clearAction n t noAction (l .i) (omega arith) (omega arith) (actionAt (a .generation) (a .sequence)) (placeOf (actionAt (a .generation) (a .sequence)) (held clearAction n t)) (sym (here .action-is .ensures) ∙ here .if1 .left) (l .inv .2))
+    let l = here .loop in (
+      omega arith,
+      l .inv .1,
+      held-find-next clearAction n t noAction (l .i) (omega arith) (omega arith)
+          (actionAt (a .generation) (a .sequence))
+          (placeOf (actionAt (a .generation) (a .sequence)) (held clearAction n t))
+          (sym (here .action-is .ensures) ∙ here .if1 .left) (l .inv .2),
+    )
 
 returns-2 : tie.Need-returns-2 Inv-loop μ-loop
 unfolding actionAt
@@ -75,9 +94,14 @@ returns-2 c =
     let t = a .inflight .now in
     let n = here .min-usize .result in
     let l = here .loop in
-    let seen = ap (λ (m : ℕ). held clearAction m t) (here .min-usize .ensures) ∙ held-min clearAction (a .places .actions) t in
-    find-rest clearAction (actionAt (a .generation) (a .sequence)) false (λ x. refl) n t (l .i) (placeOf (actionAt (a .generation) (a .sequence)) (held clearAction n t)) (λ h. omega arith) (omega arith) (l .inv .2)
+    let seen =
+    ap (λ (m : ℕ). held clearAction m t) (here .min-usize .ensures) ∙ held-min clearAction (a .places .actions) t in
+    find-rest clearAction (actionAt (a .generation) (a .sequence)) false (λ x. refl) n t (l .i)
+    (placeOf (actionAt (a .generation) (a .sequence)) (held clearAction n t)) (λ h. omega arith)
+    (omega arith) (l .inv .2)
     ∙ ap (placeOf (actionAt (a .generation) (a .sequence))) seen
 
 pub find-action-spec : {M : Type 1} → statement M
-find-action-spec = tie.close (tie.spec Inv-loop μ-loop min-usize-requires loop-holds mul-row shared-slice-copy-out-row action-is-requires returns add-i loop-less loop-again returns-2)
+find-action-spec =
+    tie.close (tie.spec Inv-loop μ-loop min-usize-requires loop-holds mul-row shared-slice-copy-out-row
+    action-is-requires returns add-i loop-less loop-again returns-2)

@@ -1,4 +1,5 @@
--- `scan_actions` meets its contract: what is left of the scan, from what is found so far, is the whole scan; past the number there is a spare place.
+-- `scan_actions` meets its contract: what is left of the scan, from what is found so far, is the whole scan; past the
+-- number there is a spare place.
 mod Tie
 mod At
 use mathlib.Core.Path.{_≡_, sym, ap, _∙_}
@@ -19,7 +20,12 @@ use Rattle.hnsr_circuit.proofs.tables.inflight.scan_actions.Proof.Tie a
 use Rattle.hnsr_circuit.proofs.tables.inflight.scan_actions.Proof.At as at
 
 abbrev Inv-loop : tie.InvT-loop
-Inv-loop inflight question size₀ end₀ scan₀ i₀ scan i = (i ≤ end₀) × (end₀ ≤ length inflight) × (TallyAtMost i (scan .tally)) × (foldFrom (scanned question) (drop i (held clearAction end₀ inflight)) i scan ≡ actionsScanned question (held clearAction end₀ inflight))
+Inv-loop inflight question size₀ end₀ scan₀ i₀ scan i =
+    (i ≤ end₀)
+    × (end₀ ≤ length inflight)
+    × (TallyAtMost i (scan .tally))
+    × (foldFrom (scanned question) (drop i (held clearAction end₀ inflight)) i scan
+    ≡ actionsScanned question (held clearAction end₀ inflight))
 
 abbrev μ-loop : tie.MeasureT-loop
 μ-loop inflight question size₀ end₀ scan₀ i₀ scan i = length inflight - i
@@ -38,7 +44,10 @@ loop-holds c =
       omega arith,
       omega arith,
       rw (here .no-scan .ensures) (tally-none),
-      ap (λ (b : ActionScan). foldFrom (scanned (a .question)) t 0 b) (here .no-scan .ensures ∙ ap noScan (sym (length-held clearAction (here .min-usize .result) (a .inflight .now)))) ∙ scan-fold (a .question) t,
+      ap (λ (b : ActionScan). foldFrom (scanned (a .question)) t 0 b)
+          (here .no-scan .ensures
+          ∙ ap noScan (sym (length-held clearAction (here .min-usize .result) (a .inflight .now))))
+          ∙ scan-fold (a .question) t,
     )
 
 mul-row : tie.Need-mul-row Inv-loop μ-loop
@@ -67,8 +76,11 @@ loop-again c =
     let l = here .loop in (
       omega arith,
       l .inv .1,
-      rw (here .action-scanned .ensures) (tally-most (a .question) (l .i) (l .scan .tally) (getD t (l .i) noAction) (l .i) (l .inv .2)),
-      held-fold-step clearAction n t noAction (l .i) (omega arith) (omega arith) (scanned (a .question)) (l .scan) (here .action-scanned .result) (actionsScanned (a .question) (held clearAction n t)) (here .action-scanned .ensures) (l .inv .3),
+      rw (here .action-scanned .ensures)
+          (tally-most (a .question) (l .i) (l .scan .tally) (getD t (l .i) noAction) (l .i) (l .inv .2)),
+      held-fold-step clearAction n t noAction (l .i) (omega arith) (omega arith) (scanned (a .question)) (l .scan)
+          (here .action-scanned .result) (actionsScanned (a .question) (held clearAction n t))
+          (here .action-scanned .ensures) (l .inv .3),
     )
 
 spared-requires : tie.Need-spared-requires Inv-loop μ-loop
@@ -82,8 +94,12 @@ returns c =
     let n = here .min-usize .result in
     let l = here .loop in
     here .spared .ensures
-    ∙ scan-rest (a .question) n t (l .i) (l .scan) (actionsScanned (a .question) (held clearAction n t)) (λ h. omega arith) (omega arith) (l .inv .3)
-    ∙ ap (actionsScanned (a .question)) (ap (λ (m : ℕ). held clearAction m t) (here .min-usize .ensures) ∙ held-min clearAction (a .places .actions) t)
+    ∙ scan-rest (a .question) n t (l .i) (l .scan) (actionsScanned (a .question) (held clearAction n t))
+    (λ h. omega arith) (omega arith) (l .inv .3)
+    ∙ ap (actionsScanned (a .question))
+    (ap (λ (m : ℕ). held clearAction m t) (here .min-usize .ensures) ∙ held-min clearAction (a .places .actions) t)
 
 pub scan-actions-spec : {M : Type 1} → statement M
-scan-actions-spec = tie.close (tie.spec Inv-loop μ-loop min-usize-requires no-scan-requires loop-holds mul-row shared-slice-copy-out-row action-scanned-requires add-i loop-less loop-again spared-requires returns)
+scan-actions-spec =
+    tie.close (tie.spec Inv-loop μ-loop min-usize-requires no-scan-requires loop-holds mul-row shared-slice-copy-out-row
+    action-scanned-requires add-i loop-less loop-again spared-requires returns)

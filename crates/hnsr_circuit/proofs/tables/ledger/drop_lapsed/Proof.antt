@@ -17,7 +17,13 @@ use Rattle.hnsr_circuit.proofs.tables.ledger.drop_lapsed.Proof.Tie as t
 use Rattle.hnsr_circuit.proofs.tables.ledger.drop_lapsed.Proof.At as at
 
 abbrev Inv-loop : tie.InvT-loop
-Inv-loop ledger time size₀ end₀ i₀ ledger′ i = (i ≤ end₀) × (end₀ ≤ length ledger) × (length ledger′ ≡ length ledger) × (take i (held clearUsage end₀ ledger′) ++ clear clearUsage (usageOver time) (drop i (held clearUsage end₀ ledger′)) ≡ clear clearUsage (usageOver time) (held clearUsage end₀ ledger))
+Inv-loop ledger time size₀ end₀ i₀ ledger′ i =
+    (i ≤ end₀)
+    × (end₀ ≤ length ledger)
+    × (length ledger′ ≡ length ledger)
+    × (take i (held clearUsage end₀ ledger′)
+    ++ clear clearUsage (usageOver time) (drop i (held clearUsage end₀ ledger′))
+    ≡ clear clearUsage (usageOver time) (held clearUsage end₀ ledger))
 
 abbrev μ-loop : tie.MeasureT-loop
 μ-loop ledger time size₀ end₀ i₀ ledger′ i = length ledger - i
@@ -62,7 +68,9 @@ loop-again c =
       omega arith,
       l .inv .1,
       k ∙ l .inv .2,
-      held-clear-step clearUsage n (l .ledger) noUsage (l .i) (omega arith) (omega arith) (usageOver (a .time)) (h .result) (s .last .0) (clear clearUsage (usageOver (a .time)) (held clearUsage n t)) (h .ensures) (s .ensures) (l .inv .3),
+      held-clear-step clearUsage n (l .ledger) noUsage (l .i) (omega arith) (omega arith) (usageOver (a .time))
+          (h .result) (s .last .0) (clear clearUsage (usageOver (a .time)) (held clearUsage n t)) (h .ensures)
+          (s .ensures) (l .inv .3),
     )
 
 same-length : tie.Need-same-length Inv-loop μ-loop
@@ -76,9 +84,13 @@ returns c =
     let t = a .ledger .now in
     let n = here .min-usize .result in
     let l = here .loop in
-    sym (ap (λ (m : ℕ). held clearUsage m (l .ledger)) (here .min-usize .ensures ∙ ap (min (a .places .ledger)) (sym (l .inv .2))) ∙ held-min clearUsage (a .places .ledger) (l .ledger))
-    ∙ clear-rest clearUsage (usageOver (a .time)) (λ x. refl) n (l .ledger) (l .i) (clear clearUsage (usageOver (a .time)) (held clearUsage n t)) (λ h. omega arith) (l .inv .3)
-    ∙ ap (clear clearUsage (usageOver (a .time))) (ap (λ (m : ℕ). held clearUsage m t) (here .min-usize .ensures) ∙ held-min clearUsage (a .places .ledger) t)
+    sym (ap (λ (m : ℕ). held clearUsage m (l .ledger))
+    (here .min-usize .ensures ∙ ap (min (a .places .ledger)) (sym (l .inv .2)))
+    ∙ held-min clearUsage (a .places .ledger) (l .ledger))
+    ∙ clear-rest clearUsage (usageOver (a .time)) (λ x. refl) n (l .ledger) (l .i)
+    (clear clearUsage (usageOver (a .time)) (held clearUsage n t)) (λ h. omega arith) (l .inv .3)
+    ∙ ap (clear clearUsage (usageOver (a .time)))
+    (ap (λ (m : ℕ). held clearUsage m t) (here .min-usize .ensures) ∙ held-min clearUsage (a .places .ledger) t)
 
 pub drop-lapsed-spec : {M : Type 1} → statement M
 drop-lapsed-spec = tie.close (tie.spec Inv-loop μ-loop min-usize-requires loop-holds mul-row

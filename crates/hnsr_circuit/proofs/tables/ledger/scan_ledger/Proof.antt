@@ -1,4 +1,5 @@
--- `scan_ledger` meets its contract: what is left of the scan, from what is found so far, is the whole scan; past the number there is a spare place.
+-- `scan_ledger` meets its contract: what is left of the scan, from what is found so far, is the whole scan; past the
+-- number there is a spare place.
 mod Tie
 mod At
 use mathlib.Core.Path.{_≡_, sym, ap, _∙_}
@@ -20,7 +21,12 @@ use Rattle.hnsr_circuit.proofs.tables.ledger.scan_ledger.Proof.Tie as t
 use Rattle.hnsr_circuit.proofs.tables.ledger.scan_ledger.Proof.At as at
 
 abbrev Inv-loop : tie.InvT-loop
-Inv-loop ledger id size₀ end₀ scan₀ i₀ scan i = (i ≤ end₀) × (end₀ ≤ length ledger) × (scan .used ≤ i) × (foldFrom (usageScanned id) (drop i (held clearUsage end₀ ledger)) i scan ≡ ledgerAsked id (held clearUsage end₀ ledger))
+Inv-loop ledger id size₀ end₀ scan₀ i₀ scan i =
+    (i ≤ end₀)
+    × (end₀ ≤ length ledger)
+    × (scan .used ≤ i)
+    × (foldFrom (usageScanned id) (drop i (held clearUsage end₀ ledger)) i scan
+    ≡ ledgerAsked id (held clearUsage end₀ ledger))
 
 abbrev μ-loop : tie.MeasureT-loop
 μ-loop ledger id size₀ end₀ scan₀ i₀ scan i = length ledger - i
@@ -39,7 +45,10 @@ loop-holds c =
       omega arith,
       omega arith,
       rw (here .no-ledger-scan .ensures) (omega arith),
-      ap (λ (b : LedgerScan). foldFrom (usageScanned (a .id)) t 0 b) (here .no-ledger-scan .ensures ∙ ap noLedgerScan (sym (length-held clearUsage (here .min-usize .result) (a .ledger .now)))) ∙ ledger-fold (a .id) t,
+      ap (λ (b : LedgerScan). foldFrom (usageScanned (a .id)) t 0 b)
+          (here .no-ledger-scan .ensures
+          ∙ ap noLedgerScan (sym (length-held clearUsage (here .min-usize .result) (a .ledger .now))))
+          ∙ ledger-fold (a .id) t,
     )
 
 mul-row : tie.Need-mul-row Inv-loop μ-loop
@@ -69,7 +78,9 @@ loop-again c =
       omega arith,
       l .inv .1,
       rw (here .usage-scanned .ensures) (omega (arith, cond-le (isUsage (getD t (l .i) noUsage)))),
-      held-fold-step clearUsage n t noUsage (l .i) (omega arith) (omega arith) (usageScanned (a .id)) (l .scan) (here .usage-scanned .result) (ledgerAsked (a .id) (held clearUsage n t)) (here .usage-scanned .ensures) (l .inv .3),
+      held-fold-step clearUsage n t noUsage (l .i) (omega arith) (omega arith) (usageScanned (a .id)) (l .scan)
+          (here .usage-scanned .result) (ledgerAsked (a .id) (held clearUsage n t))
+          (here .usage-scanned .ensures) (l .inv .3),
     )
 
 ledger-spared-requires : tie.Need-ledger-spared-requires Inv-loop μ-loop
@@ -83,8 +94,12 @@ returns c =
     let n = here .min-usize .result in
     let l = here .loop in
     here .ledger-spared .ensures
-    ∙ ledger-rest (a .id) n t (l .i) (l .scan) (ledgerAsked (a .id) (held clearUsage n t)) (λ h. omega arith) (omega arith) (l .inv .3)
-    ∙ ap (ledgerAsked (a .id)) (ap (λ (m : ℕ). held clearUsage m t) (here .min-usize .ensures) ∙ held-min clearUsage (a .places .ledger) t)
+    ∙ ledger-rest (a .id) n t (l .i) (l .scan) (ledgerAsked (a .id) (held clearUsage n t)) (λ h. omega arith)
+    (omega arith) (l .inv .3)
+    ∙ ap (ledgerAsked (a .id))
+    (ap (λ (m : ℕ). held clearUsage m t) (here .min-usize .ensures) ∙ held-min clearUsage (a .places .ledger) t)
 
 pub scan-ledger-spec : {M : Type 1} → statement M
-scan-ledger-spec = tie.close (tie.spec Inv-loop μ-loop min-usize-requires no-ledger-scan-requires loop-holds mul-row shared-slice-copy-out-row usage-scanned-requires add-i loop-less loop-again ledger-spared-requires returns)
+scan-ledger-spec =
+    tie.close (tie.spec Inv-loop μ-loop min-usize-requires no-ledger-scan-requires loop-holds mul-row
+    shared-slice-copy-out-row usage-scanned-requires add-i loop-less loop-again ledger-spared-requires returns)

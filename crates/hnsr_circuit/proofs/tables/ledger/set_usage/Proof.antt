@@ -13,7 +13,8 @@ mul-row : tie.Need-mul-row
 mul-row c =
     let here = at.mul-row c in
     let a = here .start .args in
-    let l : a .place < length (a .ledger .now) = stores-inside (a .ledger .now) (a .go) (here .within .result) (a .place) (here .within .ensures) (here .if1 .taken) in
+    let l : a .place < length (a .ledger .now) = stores-inside (a .ledger .now) (a .go) (here .within .result)
+    (a .place) (here .within .ensures) (here .if1 .taken) in
     search needs
 
 slice-set-from-row : tie.Need-slice-set-from-row
@@ -26,13 +27,15 @@ returns : tie.Need-returns
 returns c =
     let here = at.returns c in
     let a = here .start .args in
-    stored (a .ledger .now) (a .go) (here .within .result) (a .place) (here .within .ensures) (set (a .ledger .now) (a .place) (a .row)) (here .if1 .taken)
+    stored (a .ledger .now) (a .go) (here .within .result) (a .place) (here .within .ensures)
+    (set (a .ledger .now) (a .place) (a .row)) (here .if1 .taken)
 
 returns-2 : tie.Need-returns-2
 returns-2 c =
     let here = at.returns-2 c in
     let a = here .start .args in
-    unstored (a .ledger .now) (a .go) (here .within .result) (a .place) (here .within .ensures) (a .row) (here .if1 .left)
+    unstored (a .ledger .now) (a .go) (here .within .result) (a .place) (here .within .ensures) (a .row)
+    (here .if1 .left)
 
 pub set-usage-spec : {M : Type 1} → statement M
 set-usage-spec = tie.close (at.spec mul-row slice-set-from-row returns returns-2)

@@ -16,7 +16,8 @@ mul-row : tie.Need-mul-row
 mul-row c =
     let here = at.mul-row c in
     let a = here .start .args in
-    let l : a .place < length (a .ledger .now) = stores-inside (a .ledger .now) (a .go) (here .within .result) (a .place) (here .within .ensures) (here .if1 .taken) in
+    let l : a .place < length (a .ledger .now) = stores-inside (a .ledger .now) (a .go) (here .within .result)
+    (a .place) (here .within .ensures) (here .if1 .taken) in
     search needs
 
 slice-copy-out-row : tie.Need-slice-copy-out-row
@@ -29,7 +30,8 @@ mul-after : tie.Need-mul-after
 mul-after c =
     let here = at.mul-after c in
     let a = here .start .args in
-    let l : a .place < length (a .ledger .now) = stores-inside (a .ledger .now) (a .go) (here .within .result) (a .place) (here .within .ensures) (here .if1 .taken) in
+    let l : a .place < length (a .ledger .now) = stores-inside (a .ledger .now) (a .go) (here .within .result)
+    (a .place) (here .within .ensures) (here .if1 .taken) in
     search needs
 
 slice-set-from-after : tie.Need-slice-set-from-after
@@ -43,13 +45,15 @@ returns c =
     let here = at.returns c in
     let a = here .start .args in
     ap (λ (x : ReservationUsage). set (a .ledger .now) (a .place) x) (here .usage-unmarked .ensures)
-    ∙ stored (a .ledger .now) (a .go) (here .within .result) (a .place) (here .within .ensures) (set (a .ledger .now) (a .place) (clearUsage (getD (a .ledger .now) (a .place) noUsage))) (here .if1 .taken)
+    ∙ stored (a .ledger .now) (a .go) (here .within .result) (a .place) (here .within .ensures)
+    (set (a .ledger .now) (a .place) (clearUsage (getD (a .ledger .now) (a .place) noUsage))) (here .if1 .taken)
 
 returns-2 : tie.Need-returns-2
 returns-2 c =
     let here = at.returns-2 c in
     let a = here .start .args in
-    unstored (a .ledger .now) (a .go) (here .within .result) (a .place) (here .within .ensures) (clearUsage (getD (a .ledger .now) (a .place) noUsage)) (here .if1 .left)
+    unstored (a .ledger .now) (a .go) (here .within .result) (a .place) (here .within .ensures)
+    (clearUsage (getD (a .ledger .now) (a .place) noUsage)) (here .if1 .left)
 
 pub unmark-usage-spec : {M : Type 1} → statement M
 unmark-usage-spec = tie.close (at.spec mul-row slice-copy-out-row mul-after slice-set-from-after returns returns-2)

@@ -20,14 +20,19 @@ returns c =
     let a = here .start .args in
     let t = a .ledger .now in
     here .held-usage .ensures ∙ split (ltb (a .place) (a .places .ledger))
-    (λ h. rw h (sym (held-at clearUsage (a .places .ledger) t (a .place) noUsage (ltb-true (a .place) (a .places .ledger) h))))
-    (λ h. rw h (sym (held-past clearUsage (a .places .ledger) t (a .place) noUsage (ltb-false (a .place) (a .places .ledger) h) (omega arith))))
+    (λ h. rw h
+    (sym (held-at clearUsage (a .places .ledger) t (a .place) noUsage (ltb-true (a .place) (a .places .ledger) h))))
+    (λ h. rw h
+    (sym (held-past clearUsage (a .places .ledger) t (a .place) noUsage (ltb-false (a .place) (a .places .ledger) h)
+    (omega arith))))
 
 returns-2 : tie.Need-returns-2
 returns-2 c =
     let here = at.returns-2 c in
     let a = here .start .args in
-    here .no-usage .ensures ∙ sym (List·getD-eq-default (heldLedger (a .places) (a .ledger .now)) noUsage (rw (length-held clearUsage (a .places .ledger) (a .ledger .now)) (omega arith)))
+    here .no-usage .ensures
+    ∙ sym (List·getD-eq-default (heldLedger (a .places) (a .ledger .now)) noUsage
+    (rw (length-held clearUsage (a .places .ledger) (a .ledger .now)) (omega arith)))
 
 pub usage-at-spec : {M : Type 1} → statement M
 usage-at-spec = tie.close (at.spec returns returns-2)

@@ -21,7 +21,9 @@ returns c =
     let p = circuitAt (a .id) in
     let place = here .find-circuit-id .ensures in
     let e = here .circuit-found .ensures in
-    let found = e .0 ∙ (λ i. ltb (place i) (sym (length-held clearCircuit (a .places .circuits) (a .circuits .now)) i)) ∙ place-any p t in
+    let found = e .0
+    ∙ (λ i. ltb (place i) (sym (length-held clearCircuit (a .places .circuits) (a .circuits .now)) i))
+    ∙ place-any p t in
     let row = e .2 ∙ here .circuit-at .ensures ∙ ap (λ (n : ℕ). getD t n noCircuit) place ∙ pick-at p noCircuit t in
     let at = e .1 ∙ place in
     λ i. record { found = found i; place = at i; circuit = row i }

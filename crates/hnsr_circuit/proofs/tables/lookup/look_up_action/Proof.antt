@@ -21,7 +21,9 @@ returns c =
     let p = actionAt (a .generation) (a .sequence) in
     let place = here .find-action .ensures in
     let e = here .action-found .ensures in
-    let found = e .0 ∙ (λ i. ltb (place i) (sym (length-held clearAction (a .places .actions) (a .inflight .now)) i)) ∙ place-any p t in
+    let found = e .0
+    ∙ (λ i. ltb (place i) (sym (length-held clearAction (a .places .actions) (a .inflight .now)) i))
+    ∙ place-any p t in
     let row = e .2 ∙ here .action-at .ensures ∙ ap (λ (n : ℕ). getD t n noAction) place ∙ pick-at p noAction t in
     let at = e .1 ∙ place in
     λ i. record { found = found i; place = at i; action = row i }

@@ -21,7 +21,8 @@ returns c =
     let p = usageAt (a .id) in
     let place = here .find-usage .ensures in
     let e = here .usage-found .ensures in
-    let found = e .0 ∙ (λ i. ltb (place i) (sym (length-held clearUsage (a .places .ledger) (a .ledger .now)) i)) ∙ place-any p t in
+    let found =
+    e .0 ∙ (λ i. ltb (place i) (sym (length-held clearUsage (a .places .ledger) (a .ledger .now)) i)) ∙ place-any p t in
     let row = e .2 ∙ here .usage-at .ensures ∙ ap (λ (n : ℕ). getD t n noUsage) place ∙ pick-at p noUsage t in
     let at = e .1 ∙ place in
     λ i. record { found = found i; place = at i; usage = row i }

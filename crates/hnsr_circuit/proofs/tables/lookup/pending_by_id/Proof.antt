@@ -21,7 +21,9 @@ returns c =
     let p = pendingAt (a .id) in
     let place = here .find-pending-id .ensures in
     let e = here .pending-found .ensures in
-    let found = e .0 ∙ (λ i. ltb (place i) (sym (length-held clearPending (a .places .pending) (a .pending .now)) i)) ∙ place-any p t in
+    let found = e .0
+    ∙ (λ i. ltb (place i) (sym (length-held clearPending (a .places .pending) (a .pending .now)) i))
+    ∙ place-any p t in
     let row = e .2 ∙ here .pending-at .ensures ∙ ap (λ (n : ℕ). getD t n noPending) place ∙ pick-at p noPending t in
     let at = e .1 ∙ place in
     λ i. record { found = found i; place = at i; pending = row i }

@@ -17,7 +17,11 @@ use Rattle.hnsr_circuit.proofs.tables.pending.find_pending_id.Proof.Tie
 use Rattle.hnsr_circuit.proofs.tables.pending.find_pending_id.Proof.At as at
 
 abbrev Inv-loop : tie.InvT-loop
-Inv-loop pending id size₀ end₀ i₀ i = (i ≤ end₀) × (end₀ ≤ length pending) × (i + placeOf (pendingAt id) (drop i (held clearPending end₀ pending)) ≡ placeOf (pendingAt id) (held clearPending end₀ pending))
+Inv-loop pending id size₀ end₀ i₀ i =
+    (i ≤ end₀)
+    × (end₀ ≤ length pending)
+    × (i + placeOf (pendingAt id) (drop i (held clearPending end₀ pending))
+    ≡ placeOf (pendingAt id) (held clearPending end₀ pending))
 
 abbrev μ-loop : tie.MeasureT-loop
 μ-loop pending id size₀ end₀ i₀ i = length pending - i
@@ -28,7 +32,11 @@ min-usize-requires c = search needs
 loop-holds : tie.Need-loop-holds Inv-loop μ-loop
 loop-holds c =
     let here = at.loop-holds Inv-loop μ-loop c in
-    let a = here .start .args in (omega arith, omega arith, zero-add (placeOf (pendingAt (a .id)) (held clearPending (here .min-usize .result) (a .pending .now))))
+    let a = here .start .args in (
+      omega arith,
+      omega arith,
+      zero-add (placeOf (pendingAt (a .id)) (held clearPending (here .min-usize .result) (a .pending .now))),
+    )
 
 mul-row : tie.Need-mul-row Inv-loop μ-loop
 mul-row c = search needs
@@ -48,8 +56,11 @@ returns c =
     let l = here .loop in
     let less = here .loop-test .taken in
     let most = l .inv .1 in
-    let seen = ap (λ (m : ℕ). held clearPending m t) (here .min-usize .ensures) ∙ held-min clearPending (a .places .pending) t in
-    held-find-here clearPending n t noPending (l .i) (omega arith) (omega arith) (pendingAt (a .id)) (placeOf (pendingAt (a .id)) (held clearPending n t)) (sym (here .pending-is .ensures) ∙ here .if1 .taken) (l .inv .2)
+    let seen =
+    ap (λ (m : ℕ). held clearPending m t) (here .min-usize .ensures) ∙ held-min clearPending (a .places .pending) t in
+    held-find-here clearPending n t noPending (l .i) (omega arith) (omega arith) (pendingAt (a .id))
+    (placeOf (pendingAt (a .id)) (held clearPending n t))
+    (sym (here .pending-is .ensures) ∙ here .if1 .taken) (l .inv .2)
     ∙ ap (placeOf (pendingAt (a .id))) seen
 
 add-i : tie.Need-add-i Inv-loop μ-loop
@@ -64,8 +75,13 @@ loop-again c =
     let a = here .start .args in
     let t = a .pending .now in
     let n = here .min-usize .result in
-    let l = here .loop in
-    (omega arith, l .inv .1, held-find-next clearPending n t noPending (l .i) (omega arith) (omega arith) (pendingAt (a .id)) (placeOf (pendingAt (a .id)) (held clearPending n t)) (sym (here .pending-is .ensures) ∙ here .if1 .left) (l .inv .2))
+    let l = here .loop in (
+      omega arith,
+      l .inv .1,
+      held-find-next clearPending n t noPending (l .i) (omega arith) (omega arith) (pendingAt (a .id))
+          (placeOf (pendingAt (a .id)) (held clearPending n t))
+          (sym (here .pending-is .ensures) ∙ here .if1 .left) (l .inv .2),
+    )
 
 returns-2 : tie.Need-returns-2 Inv-loop μ-loop
 unfolding pendingAt
@@ -75,9 +91,13 @@ returns-2 c =
     let t = a .pending .now in
     let n = here .min-usize .result in
     let l = here .loop in
-    let seen = ap (λ (m : ℕ). held clearPending m t) (here .min-usize .ensures) ∙ held-min clearPending (a .places .pending) t in
-    find-rest clearPending (pendingAt (a .id)) false (λ x. refl) n t (l .i) (placeOf (pendingAt (a .id)) (held clearPending n t)) (λ h. omega arith) (omega arith) (l .inv .2)
+    let seen =
+    ap (λ (m : ℕ). held clearPending m t) (here .min-usize .ensures) ∙ held-min clearPending (a .places .pending) t in
+    find-rest clearPending (pendingAt (a .id)) false (λ x. refl) n t (l .i)
+    (placeOf (pendingAt (a .id)) (held clearPending n t)) (λ h. omega arith) (omega arith) (l .inv .2)
     ∙ ap (placeOf (pendingAt (a .id))) seen
 
 pub find-pending-id-spec : {M : Type 1} → statement M
-find-pending-id-spec = tie.close (tie.spec Inv-loop μ-loop min-usize-requires loop-holds mul-row shared-slice-copy-out-row pending-is-requires returns add-i loop-less loop-again returns-2)
+find-pending-id-spec =
+    tie.close (tie.spec Inv-loop μ-loop min-usize-requires loop-holds mul-row shared-slice-copy-out-row
+    pending-is-requires returns add-i loop-less loop-again returns-2)

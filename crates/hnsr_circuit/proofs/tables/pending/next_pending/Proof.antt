@@ -1,4 +1,5 @@
--- `next_pending` meets its contract: what is left of the turn, from the best so far, gives the whole; past the number no record is offered.
+-- `next_pending` meets its contract: what is left of the turn, from the best so far, gives the whole; past the number
+-- no record is offered.
 mod Tie
 mod At
 use mathlib.Core.Path.{_≡_, ap, _∙_}
@@ -21,7 +22,11 @@ use Rattle.hnsr_circuit.proofs.tables.pending.next_pending.Proof.Tie as
 use Rattle.hnsr_circuit.proofs.tables.pending.next_pending.Proof.At as at
 
 abbrev Inv-loop : tie.InvT-loop
-Inv-loop pending question peer cursor size₀ end₀ best₀ i₀ best i = (i ≤ end₀) × (end₀ ≤ length pending) × (foldFrom (nextTurn pendingId (pendingHas question peer) cursor) (drop i (held clearPending end₀ pending)) i best ≡ (next pendingId (pendingHas question peer) cursor (held clearPending end₀ pending)))
+Inv-loop pending question peer cursor size₀ end₀ best₀ i₀ best i =
+    (i ≤ end₀)
+    × (end₀ ≤ length pending)
+    × (foldFrom (nextTurn pendingId (pendingHas question peer) cursor) (drop i (held clearPending end₀ pending)) i best
+    ≡ (next pendingId (pendingHas question peer) cursor (held clearPending end₀ pending)))
 
 abbrev μ-loop : tie.MeasureT-loop
 μ-loop pending question peer cursor size₀ end₀ best₀ i₀ best i = length pending - i
@@ -37,8 +42,12 @@ unfolding next
 loop-holds c =
     let here = at.loop-holds Inv-loop μ-loop c in
     let a = here .start .args in
-    let t = held clearPending (here .min-usize .result) (a .pending .now) in
-    (omega arith, omega arith, ap (λ (b : Walked). foldFrom (nextTurn pendingId (pendingHas (a .question) (a .peer)) (a .cursor)) t 0 b) (here .not-yet .ensures))
+    let t = held clearPending (here .min-usize .result) (a .pending .now) in (
+      omega arith,
+      omega arith,
+      ap (λ (b : Walked). foldFrom (nextTurn pendingId (pendingHas (a .question) (a .peer)) (a .cursor)) t 0 b)
+          (here .not-yet .ensures),
+    )
 
 mul-row : tie.Need-mul-row Inv-loop μ-loop
 mul-row c = search needs
@@ -64,7 +73,10 @@ loop-again c =
     let l = here .loop in (
       omega arith,
       l .inv .1,
-      held-fold-step clearPending n t noPending (l .i) (omega arith) (omega arith) (nextTurn pendingId (pendingHas (a .question) (a .peer)) (a .cursor)) (l .best) (here .pending-turn .result) (next pendingId (pendingHas (a .question) (a .peer)) (a .cursor) (held clearPending n t)) (here .pending-turn .ensures) (l .inv .2),
+      held-fold-step clearPending n t noPending (l .i) (omega arith) (omega arith)
+          (nextTurn pendingId (pendingHas (a .question) (a .peer)) (a .cursor)) (l .best) (here .pending-turn .result)
+          (next pendingId (pendingHas (a .question) (a .peer)) (a .cursor) (held clearPending n t))
+          (here .pending-turn .ensures) (l .inv .2),
     )
 
 returns : tie.Need-returns Inv-loop μ-loop
@@ -74,8 +86,15 @@ returns c =
     let t = a .pending .now in
     let n = here .min-usize .result in
     let l = here .loop in
-    fold-rest clearPending (nextTurn pendingId (pendingHas (a .question) (a .peer)) (a .cursor)) (next-idle clearPending pendingId (pendingHas (a .question) (a .peer)) (pending-unmarked (a .question) (a .peer)) (a .cursor)) n t (l .i) (l .best) (next pendingId (pendingHas (a .question) (a .peer)) (a .cursor) (held clearPending n t)) (λ h. omega arith) (l .inv .2)
-    ∙ ap (λ (s : List RelayPending). (next pendingId (pendingHas (a .question) (a .peer)) (a .cursor) s)) (ap (λ (m : ℕ). held clearPending m t) (here .min-usize .ensures) ∙ held-min clearPending (a .places .pending) t)
+    fold-rest clearPending (nextTurn pendingId (pendingHas (a .question) (a .peer)) (a .cursor))
+    (next-idle clearPending pendingId (pendingHas (a .question) (a .peer))
+    (pending-unmarked (a .question) (a .peer)) (a .cursor)) n t (l .i) (l .best)
+    (next pendingId (pendingHas (a .question) (a .peer)) (a .cursor) (held clearPending n t))
+    (λ h. omega arith) (l .inv .2)
+    ∙ ap (λ (s : List RelayPending). (next pendingId (pendingHas (a .question) (a .peer)) (a .cursor) s))
+    (ap (λ (m : ℕ). held clearPending m t) (here .min-usize .ensures) ∙ held-min clearPending (a .places .pending) t)
 
 pub next-pending-spec : {M : Type 1} → statement M
-next-pending-spec = tie.close (tie.spec Inv-loop μ-loop min-usize-requires not-yet-requires loop-holds mul-row shared-slice-copy-out-row pending-turn-requires add-i loop-less loop-again returns)
+next-pending-spec =
+    tie.close (tie.spec Inv-loop μ-loop min-usize-requires not-yet-requires loop-holds mul-row shared-slice-copy-out-row
+    pending-turn-requires add-i loop-less loop-again returns)

@@ -20,14 +20,20 @@ returns c =
     let a = here .start .args in
     let t = a .pending .now in
     here .held-pending .ensures ∙ split (ltb (a .place) (a .places .pending))
-    (λ h. rw h (sym (held-at clearPending (a .places .pending) t (a .place) noPending (ltb-true (a .place) (a .places .pending) h))))
-    (λ h. rw h (sym (held-past clearPending (a .places .pending) t (a .place) noPending (ltb-false (a .place) (a .places .pending) h) (omega arith))))
+    (λ h. rw h
+    (sym
+    (held-at clearPending (a .places .pending) t (a .place) noPending (ltb-true (a .place) (a .places .pending) h))))
+    (λ h. rw h
+    (sym (held-past clearPending (a .places .pending) t (a .place) noPending
+    (ltb-false (a .place) (a .places .pending) h) (omega arith))))
 
 returns-2 : tie.Need-returns-2
 returns-2 c =
     let here = at.returns-2 c in
     let a = here .start .args in
-    here .no-pending .ensures ∙ sym (List·getD-eq-default (heldPending (a .places) (a .pending .now)) noPending (rw (length-held clearPending (a .places .pending) (a .pending .now)) (omega arith)))
+    here .no-pending .ensures
+    ∙ sym (List·getD-eq-default (heldPending (a .places) (a .pending .now)) noPending
+    (rw (length-held clearPending (a .places .pending) (a .pending .now)) (omega arith)))
 
 pub pending-at-spec : {M : Type 1} → statement M
 pending-at-spec = tie.close (at.spec returns returns-2)

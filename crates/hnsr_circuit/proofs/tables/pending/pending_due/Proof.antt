@@ -1,4 +1,5 @@
--- `pending_due` meets its contract: what is left, from the earliest so far, gives the earliest of all; past the number nothing is due.
+-- `pending_due` meets its contract: what is left, from the earliest so far, gives the earliest of all; past the number
+-- nothing is due.
 mod Tie
 mod At
 use mathlib.Core.Path.{_≡_, refl, ap, _∙_}
@@ -19,7 +20,11 @@ use Rattle.hnsr_circuit.proofs.tables.pending.pending_due.Proof.Tie as 
 use Rattle.hnsr_circuit.proofs.tables.pending.pending_due.Proof.At as at
 
 abbrev Inv-loop : tie.InvT-loop
-Inv-loop pending size₀ end₀ earliest₀ i₀ earliest i = (i ≤ end₀) × (end₀ ≤ length pending) × (foldFrom (dueTurn isPending deadlineOf) (drop i (held clearPending end₀ pending)) i earliest ≡ (pendingDue (held clearPending end₀ pending) earliest₀))
+Inv-loop pending size₀ end₀ earliest₀ i₀ earliest i =
+    (i ≤ end₀)
+    × (end₀ ≤ length pending)
+    × (foldFrom (dueTurn isPending deadlineOf) (drop i (held clearPending end₀ pending)) i earliest
+    ≡ (pendingDue (held clearPending end₀ pending) earliest₀))
 
 abbrev μ-loop : tie.MeasureT-loop
 μ-loop pending size₀ end₀ earliest₀ i₀ earliest i = length pending - i
@@ -55,7 +60,9 @@ loop-again c =
     let l = here .loop in (
       omega arith,
       l .inv .1,
-      held-fold-step clearPending n t noPending (l .i) (omega arith) (omega arith) (dueTurn isPending deadlineOf) (l .earliest) (here .pending-due-turn .result) (pendingDue (held clearPending n t) (a .due)) (here .pending-due-turn .ensures) (l .inv .2),
+      held-fold-step clearPending n t noPending (l .i) (omega arith) (omega arith) (dueTurn isPending deadlineOf)
+          (l .earliest) (here .pending-due-turn .result) (pendingDue (held clearPending n t) (a .due))
+          (here .pending-due-turn .ensures) (l .inv .2),
     )
 
 returns : tie.Need-returns Inv-loop μ-loop
@@ -65,8 +72,12 @@ returns c =
     let t = a .pending .now in
     let n = here .min-usize .result in
     let l = here .loop in
-    fold-rest clearPending (dueTurn isPending deadlineOf) pending-due-idle n t (l .i) (l .earliest) (pendingDue (held clearPending n t) (a .due)) (λ h. omega arith) (l .inv .2)
-    ∙ ap (λ (s : List RelayPending). (pendingDue s (a .due))) (ap (λ (m : ℕ). held clearPending m t) (here .min-usize .ensures) ∙ held-min clearPending (a .places .pending) t)
+    fold-rest clearPending (dueTurn isPending deadlineOf) pending-due-idle n t (l .i) (l .earliest)
+    (pendingDue (held clearPending n t) (a .due)) (λ h. omega arith) (l .inv .2)
+    ∙ ap (λ (s : List RelayPending). (pendingDue s (a .due)))
+    (ap (λ (m : ℕ). held clearPending m t) (here .min-usize .ensures) ∙ held-min clearPending (a .places .pending) t)
 
 pub pending-due-spec : {M : Type 1} → statement M
-pending-due-spec = tie.close (tie.spec Inv-loop μ-loop min-usize-requires loop-holds mul-row shared-slice-copy-out-row pending-due-turn-requires add-i loop-less loop-again returns)
+pending-due-spec =
+    tie.close (tie.spec Inv-loop μ-loop min-usize-requires loop-holds mul-row shared-slice-copy-out-row
+    pending-due-turn-requires add-i loop-less loop-again returns)

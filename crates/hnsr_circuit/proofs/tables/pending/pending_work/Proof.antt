@@ -1,4 +1,5 @@
--- `pending_work` meets its contract: what is left of the work, from what is counted so far, is the whole work; past the number there is none.
+-- `pending_work` meets its contract: what is left of the work, from what is counted so far, is the whole work; past the
+-- number there is none.
 mod Tie
 mod At
 use mathlib.Core.Path.{_≡_, ap, _∙_}
@@ -22,7 +23,12 @@ use Rattle.hnsr_circuit.proofs.tables.pending.pending_work.Proof.Tie as
 use Rattle.hnsr_circuit.proofs.tables.pending.pending_work.Proof.At as at
 
 abbrev Inv-loop : tie.InvT-loop
-Inv-loop pending question size₀ end₀ work₀ i₀ work i = (i ≤ end₀) × (end₀ ≤ length pending) × (WorkAtMost i work) × (foldFrom (pendingWorked question) (drop i (held clearPending end₀ pending)) i work ≡ (pendingWork question (held clearPending end₀ pending)))
+Inv-loop pending question size₀ end₀ work₀ i₀ work i =
+    (i ≤ end₀)
+    × (end₀ ≤ length pending)
+    × (WorkAtMost i work)
+    × (foldFrom (pendingWorked question) (drop i (held clearPending end₀ pending)) i work
+    ≡ (pendingWork question (held clearPending end₀ pending)))
 
 abbrev μ-loop : tie.MeasureT-loop
 μ-loop pending question size₀ end₀ work₀ i₀ work i = length pending - i
@@ -37,8 +43,13 @@ loop-holds : tie.Need-loop-holds Inv-loop μ-loop
 loop-holds c =
     let here = at.loop-holds Inv-loop μ-loop c in
     let a = here .start .args in
-    let t = held clearPending (here .min-usize .result) (a .pending .now) in
-    (omega arith, omega arith, rw (here .no-work .ensures) (work-none), ap (λ (b : Work). foldFrom (pendingWorked (a .question)) t 0 b) (here .no-work .ensures) ∙ pending-work (a .question) t)
+    let t = held clearPending (here .min-usize .result) (a .pending .now) in (
+      omega arith,
+      omega arith,
+      rw (here .no-work .ensures) (work-none),
+      ap (λ (b : Work). foldFrom (pendingWorked (a .question)) t 0 b) (here .no-work .ensures)
+          ∙ pending-work (a .question) t,
+    )
 
 mul-row : tie.Need-mul-row Inv-loop μ-loop
 mul-row c = search needs
@@ -66,8 +77,11 @@ loop-again c =
     let l = here .loop in (
       omega arith,
       l .inv .1,
-      rw (here .pending-worked .ensures) (pending-most (a .question) (l .i) (l .work) (getD t (l .i) noPending) 0 (l .inv .2)),
-      held-fold-step clearPending n t noPending (l .i) (omega arith) (omega arith) (pendingWorked (a .question)) (l .work) (here .pending-worked .result) (pendingWork (a .question) (held clearPending n t)) (here .pending-worked .ensures) (l .inv .3),
+      rw (here .pending-worked .ensures)
+          (pending-most (a .question) (l .i) (l .work) (getD t (l .i) noPending) 0 (l .inv .2)),
+      held-fold-step clearPending n t noPending (l .i) (omega arith) (omega arith) (pendingWorked (a .question))
+          (l .work) (here .pending-worked .result) (pendingWork (a .question) (held clearPending n t))
+          (here .pending-worked .ensures) (l .inv .3),
     )
 
 returns : tie.Need-returns Inv-loop μ-loop
@@ -77,8 +91,12 @@ returns c =
     let t = a .pending .now in
     let n = here .min-usize .result in
     let l = here .loop in
-    fold-rest clearPending (pendingWorked (a .question)) (pending-idle (a .question)) n t (l .i) (l .work) (pendingWork (a .question) (held clearPending n t)) (λ h. omega arith) (l .inv .3)
-    ∙ ap (λ (s : List RelayPending). (pendingWork (a .question) s)) (ap (λ (m : ℕ). held clearPending m t) (here .min-usize .ensures) ∙ held-min clearPending (a .places .pending) t)
+    fold-rest clearPending (pendingWorked (a .question)) (pending-idle (a .question)) n t (l .i) (l .work)
+    (pendingWork (a .question) (held clearPending n t)) (λ h. omega arith) (l .inv .3)
+    ∙ ap (λ (s : List RelayPending). (pendingWork (a .question) s))
+    (ap (λ (m : ℕ). held clearPending m t) (here .min-usize .ensures) ∙ held-min clearPending (a .places .pending) t)
 
 pub pending-work-spec : {M : Type 1} → statement M
-pending-work-spec = tie.close (tie.spec Inv-loop μ-loop min-usize-requires no-work-requires loop-holds mul-row shared-slice-copy-out-row pending-worked-requires add-i loop-less loop-again returns)
+pending-work-spec =
+    tie.close (tie.spec Inv-loop μ-loop min-usize-requires no-work-requires loop-holds mul-row shared-slice-copy-out-row
+    pending-worked-requires add-i loop-less loop-again returns)

@@ -1,5 +1,5 @@
--- `survey_pending` meets its contract: what is left of the count and of the turn, with what is found so far, gives the whole; past the number no
--- record is marked.
+-- `survey_pending` meets its contract: what is left of the count and of the turn, with what is found so far, gives the
+-- whole; past the number no record is marked.
 mod Tie
 mod At
 use Prim.Native.Nat.{ℕ, _+_, _-_, _≤_}
@@ -16,7 +16,8 @@ use Rattle.hnsr_circuit.specs.Pending.{isPending, pendingId, noPending, 
 use Rattle.hnsr_circuit.specs.Code.Question.{pendingHas}
 use Rattle.hnsr_circuit.specs.Code.Held.{held}
 use Rattle.hnsr_circuit.specs.Laws.HeldTables.{pending-unmarked}
-use Rattle.hnsr_circuit.specs.Laws.Held.{held-min, count-rest, held-count-next, fold-rest, held-fold-step, next-idle}
+use Rattle.hnsr_circuit.specs.Laws.Held.{held-min, count-rest, held-count-next}
+use Rattle.hnsr_circuit.specs.Laws.Held.{fold-rest, held-fold-step, next-idle}
 use native.Mathlib.Omega.{arith}
 use borrow.Author.Needs.{needs}
 use Rattle.hnsr_circuit.proofs.tables.pending.survey_pending.Statement.{statement}
@@ -25,8 +26,13 @@ use Rattle.hnsr_circuit.proofs.tables.pending.survey_pending.Proof.At a
 
 abbrev Inv-loop : tie.InvT-loop
 Inv-loop pending question peer size₀ end₀ start₀ used₀ first₀ i₀ used first i =
-    (i ≤ end₀) × (end₀ ≤ length pending) × (used ≤ i) × (used + count isPending (drop i (held clearPending end₀ pending)) ≡ count isPending (held clearPending end₀ pending))
-    × (foldFrom (nextTurn pendingId (pendingHas question peer) start₀) (drop i (held clearPending end₀ pending)) i first ≡ next pendingId (pendingHas question peer) start₀ (held clearPending end₀ pending))
+    (i ≤ end₀)
+    × (end₀ ≤ length pending)
+    × (used ≤ i)
+    × (used + count isPending (drop i (held clearPending end₀ pending))
+    ≡ count isPending (held clearPending end₀ pending))
+    × (foldFrom (nextTurn pendingId (pendingHas question peer) start₀) (drop i (held clearPending end₀ pending)) i first
+    ≡ next pendingId (pendingHas question peer) start₀ (held clearPending end₀ pending))
 
 abbrev μ-loop : tie.MeasureT-loop
 μ-loop pending question peer size₀ end₀ start₀ used₀ first₀ i₀ used first i = length pending - i
@@ -42,8 +48,15 @@ unfolding next
 loop-holds c =
     let here = at.loop-holds Inv-loop μ-loop c in
     let a = here .start .args in
-    let t = held clearPending (here .min-usize .result) (a .pending .now) in
-    (omega arith, omega arith, omega arith, zero-add (count isPending t), ap (λ (b : Walked). foldFrom (nextTurn pendingId (pendingHas (a .question) (a .peer)) (here .not-yet .result)) t 0 b) (here .not-yet .ensures))
+    let t = held clearPending (here .min-usize .result) (a .pending .now) in (
+      omega arith,
+      omega arith,
+      omega arith,
+      zero-add (count isPending t),
+      ap (λ (b : Walked).
+          foldFrom (nextTurn pendingId (pendingHas (a .question) (a .peer)) (here .not-yet .result)) t 0 b)
+          (here .not-yet .ensures),
+    )
 
 mul-row : tie.Need-mul-row Inv-loop μ-loop
 mul-row c = search needs
@@ -78,10 +91,13 @@ loop-again c =
       omega arith,
       l .inv .1,
       omega (arith, cond-le (h .result)),
-      held-count-next clearPending n t noPending (l .i) (omega arith) (omega arith) isPending (count isPending (held clearPending n t)) (l .used) (here .one-more .result)
+      held-count-next clearPending n t noPending (l .i) (omega arith) (omega arith) isPending
+          (count isPending (held clearPending n t)) (l .used) (here .one-more .result)
           (here .one-more .ensures ∙ ap (λ (b : Bool). l .used + cond b 1 0) (h .ensures)) (l .inv .3),
-      held-fold-step clearPending n t noPending (l .i) (omega arith) (omega arith) (nextTurn pendingId (pendingHas (a .question) (a .peer)) start) (l .first) (here .pending-turn .result)
-          (next pendingId (pendingHas (a .question) (a .peer)) start (held clearPending n t)) (here .pending-turn .ensures) (l .inv .4),
+      held-fold-step clearPending n t noPending (l .i) (omega arith) (omega arith)
+          (nextTurn pendingId (pendingHas (a .question) (a .peer)) start) (l .first) (here .pending-turn .result)
+          (next pendingId (pendingHas (a .question) (a .peer)) start (held clearPending n t))
+          (here .pending-turn .ensures) (l .inv .4),
     )
 
 surveyed-requires : tie.Need-surveyed-requires Inv-loop μ-loop
@@ -97,12 +113,20 @@ returns c =
     let l = here .loop in
     let q = pendingHas (a .question) (a .peer) in
     let start = here .not-yet .result in
-    let seen = ap (λ (m : ℕ). held clearPending m t) (here .min-usize .ensures) ∙ held-min clearPending (a .places .pending) t in (
-      here .surveyed .ensures .0 ∙ count-rest clearPending isPending (λ x. refl) n t (l .i) (l .used) (count isPending (held clearPending n t)) (λ h. omega arith) (l .inv .3) ∙ ap (count isPending) seen,
+    let seen =
+    ap (λ (m : ℕ). held clearPending m t) (here .min-usize .ensures) ∙ held-min clearPending (a .places .pending) t in (
+      here .surveyed .ensures .0
+          ∙ count-rest clearPending isPending (λ x. refl) n t (l .i) (l .used) (count isPending (held clearPending n t))
+          (λ h. omega arith) (l .inv .3)
+          ∙ ap (count isPending) seen,
       here .surveyed .ensures .1
-          ∙ fold-rest clearPending (nextTurn pendingId q start) (next-idle clearPending pendingId q (pending-unmarked (a .question) (a .peer)) start) n t (l .i) (l .first) (next pendingId q start (held clearPending n t)) (λ h. omega arith) (l .inv .4)
+          ∙ fold-rest clearPending (nextTurn pendingId q start)
+          (next-idle clearPending pendingId q (pending-unmarked (a .question) (a .peer)) start) n t (l .i) (l .first)
+          (next pendingId q start (held clearPending n t)) (λ h. omega arith) (l .inv .4)
           ∙ (λ x. next pendingId q (here .not-yet .ensures x) (seen x)),
     )
 
 pub survey-pending-spec : {M : Type 1} → statement M
-survey-pending-spec = tie.close (tie.spec Inv-loop μ-loop min-usize-requires not-yet-requires loop-holds mul-row shared-slice-copy-out-row is-pending-requires one-more-requires pending-turn-requires add-i loop-less loop-again surveyed-requires returns)
+survey-pending-spec =
+    tie.close (tie.spec Inv-loop μ-loop min-usize-requires not-yet-requires loop-holds mul-row shared-slice-copy-out-row
+    is-pending-requires one-more-requires pending-turn-requires add-i loop-less loop-again surveyed-requires returns)

@@ -15,8 +15,10 @@ add-result : tie.Need-add-result
 add-result c =
     let here = at.add-result c in
     let a = here .start .args in
-    let e = both (here .within .result) (leb (a .number) (a .place)) (sym (here .both .ensures) ∙ here .if1 .taken) .0 in
-    let l : a .place < a .size = ltb-true (a .place) (a .size) (both (a .go) (ltb (a .place) (a .size)) (sym (here .within .ensures) ∙ e) .1) in
+    let e =
+    both (here .within .result) (leb (a .number) (a .place)) (sym (here .both .ensures) ∙ here .if1 .taken) .0 in
+    let l : a .place < a .size =
+    ltb-true (a .place) (a .size) (both (a .go) (ltb (a .place) (a .size)) (sym (here .within .ensures) ∙ e) .1) in
     search needs
 
 returns : tie.Need-returns
@@ -24,7 +26,9 @@ returns c =
     let here = at.returns c in
     let a = here .start .args in
     let e : (a .go && ltb (a .place) (a .size) && leb (a .number) (a .place)) ≡ true =
-    ap (λ (b : Bool). b && leb (a .number) (a .place)) (sym (here .within .ensures)) ∙ sym (here .both .ensures) ∙ here .if1 .taken in
+    ap (λ (b : Bool). b && leb (a .number) (a .place)) (sym (here .within .ensures))
+    ∙ sym (here .both .ensures)
+    ∙ here .if1 .taken in
     rw e
 
 returns-2 : tie.Need-returns-2
@@ -32,7 +36,9 @@ returns-2 c =
     let here = at.returns-2 c in
     let a = here .start .args in
     let e : (a .go && ltb (a .place) (a .size) && leb (a .number) (a .place)) ≡ false =
-    ap (λ (b : Bool). b && leb (a .number) (a .place)) (sym (here .within .ensures)) ∙ sym (here .both .ensures) ∙ here .if1 .left in
+    ap (λ (b : Bool). b && leb (a .number) (a .place)) (sym (here .within .ensures))
+    ∙ sym (here .both .ensures)
+    ∙ here .if1 .left in
     rw e
 
 pub raised-spec : {M : Type 1} → statement M

@@ -14,8 +14,11 @@ unfolding isCircuit
 returns c =
     let here = at.returns c in
     let a = here .start .args in
-    works isCircuit (circuitOf (a .question .peer)) (circuitOf (a .question .other)) (circuitUnder (a .question .reservation)) never (circuitAt (a .question .id)) (a .work) (a .row) 0 (here .if1 .taken) (here .circuit-of .result) (here .circuit-of2 .result) (here .circuit-under .result) false (here .circuit-is .result)
-    (here .circuit-of .ensures) (here .circuit-of2 .ensures) (here .circuit-under .ensures) refl (here .circuit-is .ensures) (here .work-on .result) (here .work-on .ensures)
+    works isCircuit (circuitOf (a .question .peer)) (circuitOf (a .question .other))
+    (circuitUnder (a .question .reservation)) never (circuitAt (a .question .id)) (a .work) (a .row) 0
+    (here .if1 .taken) (here .circuit-of .result) (here .circuit-of2 .result) (here .circuit-under .result) false
+    (here .circuit-is .result) (here .circuit-of .ensures) (here .circuit-of2 .ensures) (here .circuit-under .ensures)
+    refl (here .circuit-is .ensures) (here .work-on .result) (here .work-on .ensures)
 
 returns-2 : tie.Need-returns-2
 unfolding isCircuit

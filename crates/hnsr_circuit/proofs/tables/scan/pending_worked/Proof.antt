@@ -11,8 +11,12 @@ unfolding isPending
 returns c =
     let here = at.returns c in
     let a = here .start .args in
-    works isPending (pendingOf (a .question .peer)) (pendingOf (a .question .other)) (pendingUnder (a .question .reservation)) (requestedBy (a .question .peer) (a .question .context)) (pendingAt (a .question .id)) (a .work) (a .row) 0 (here .if1 .taken) (here .pending-of .result) (here .pending-of2 .result) (here .pending-under .result) (here .requested-by .result) (here .pending-is .result)
-    (here .pending-of .ensures) (here .pending-of2 .ensures) (here .pending-under .ensures) (here .requested-by .ensures) (here .pending-is .ensures) (here .work-on .result) (here .work-on .ensures)
+    works isPending (pendingOf (a .question .peer)) (pendingOf (a .question .other))
+    (pendingUnder (a .question .reservation)) (requestedBy (a .question .peer) (a .question .context))
+    (pendingAt (a .question .id)) (a .work) (a .row) 0 (here .if1 .taken) (here .pending-of .result)
+    (here .pending-of2 .result) (here .pending-under .result) (here .requested-by .result) (here .pending-is .result)
+    (here .pending-of .ensures) (here .pending-of2 .ensures) (here .pending-under .ensures)
+    (here .requested-by .ensures) (here .pending-is .ensures) (here .work-on .result) (here .work-on .ensures)
 
 returns-2 : tie.Need-returns-2
 unfolding isPending

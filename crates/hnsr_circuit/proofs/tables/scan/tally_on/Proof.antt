@@ -9,7 +9,9 @@ use Rattle.hnsr_circuit.proofs.tables.scan.tally_on.Proof.At as at
 returns : tie.Need-returns
 returns c =
     let here = at.returns c in
-    let b = here .start in λ u. tally-replaces (b .args .question) (b .args .tally) (b .args .row) 0 (sym (here .both .ensures) ∙ here .if1 .taken)
+    let b = here .start in
+    λ u.
+    tally-replaces (b .args .question) (b .args .tally) (b .args .row) 0 (sym (here .both .ensures) ∙ here .if1 .taken)
 
 returns-2 : tie.Need-returns-2
 returns-2 c =

@@ -22,7 +22,8 @@ returns c =
     let place = here .find-usage .ensures in
     let e = here .usage-unmarked .ensures in
     let gone = e ∙ ap clearUsage (here .usage-at .ensures ∙ ap (λ (n : ℕ). getD t n noUsage) place) in
-    stored-seen clearUsage (a .places .ledger) r _ true (here .find-usage .result) (here .usage-unmarked .result) (λ h. ap clearUsage e ∙ sym e) (here .set-usage .ensures)
+    stored-seen clearUsage (a .places .ledger) r _ true (here .find-usage .result) (here .usage-unmarked .result)
+    (λ h. ap clearUsage e ∙ sym e) (here .set-usage .ensures)
     ∙ (λ x. set t (place x) (gone x)) ∙ sym (edit-set (usageAt (a .id)) clearUsage noUsage t)
 
 pub drop-usage-spec : {M : Type 1} → statement M

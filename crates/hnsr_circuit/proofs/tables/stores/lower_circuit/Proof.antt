@@ -24,10 +24,14 @@ returns c =
     let r = a .circuits .now in
     let t = heldCircuits (a .places) r in
     let place = here .find-circuit-id .ensures in
-    let after = here .circuit-lowered .ensures ∙ ap (lowered (a .side) (a .n)) (here .circuit-at .ensures ∙ ap (λ (m : ℕ). getD t m noCircuit) place) in
-    stored-held clearCircuit n r _ (a .go) (here .find-circuit-id .result) (here .circuit-lowered .result) (λ h. rw place (place-below clearCircuit (circuitAt (a .id)) (λ x. refl) n r (rw place at h))) (here .set-circuit .ensures)
+    let after = here .circuit-lowered .ensures
+    ∙ ap (lowered (a .side) (a .n)) (here .circuit-at .ensures ∙ ap (λ (m : ℕ). getD t m noCircuit) place) in
+    stored-held clearCircuit n r _ (a .go) (here .find-circuit-id .result) (here .circuit-lowered .result)
+    (λ h. rw place (place-below clearCircuit (circuitAt (a .id)) (λ x. refl) n r (rw place at h)))
+    (here .set-circuit .ensures)
     ∙ (λ x. cond (a .go) (set t (place x) (after x)) t)
-    ∙ ap (λ (u : List RelayCircuit). cond (a .go) u t) (sym (edit-set (circuitAt (a .id)) (lowered (a .side) (a .n)) noCircuit t))
+    ∙ ap (λ (u : List RelayCircuit). cond (a .go) u t)
+    (sym (edit-set (circuitAt (a .id)) (lowered (a .side) (a .n)) noCircuit t))
 
 pub lower-circuit-spec : {M : Type 1} → statement M
 lower-circuit-spec = tie.close (at.spec returns)

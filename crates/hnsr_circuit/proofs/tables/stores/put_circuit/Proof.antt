@@ -26,9 +26,12 @@ returns c =
     let old = here .find-circuit-id .ensures in
     let spare = here .spare-circuit .ensures in
     let long = sym (length-held clearCircuit n r) in
-    let place = here .put-place .ensures ∙ (λ x. putPlace (old x) (long x) (spare x)) ∙ put-place (circuitAt (a .id)) (non isCircuit) t in
+    let place = here .put-place .ensures
+    ∙ (λ x. putPlace (old x) (long x) (spare x))
+    ∙ put-place (circuitAt (a .id)) (non isCircuit) t in
     let most = put-upto clearCircuit isCircuit (circuitAt (a .id)) (λ x. refl) (λ x. refl) n r in
-    put-held clearCircuit n r _ (a .go) (here .put-place .result) (a .row) (here .raised .result) (λ h. rw place (most (rw place at h))) (here .set-circuit .ensures) (here .raised .ensures)
+    put-held clearCircuit n r _ (a .go) (here .put-place .result) (a .row) (here .raised .result)
+    (λ h. rw place (most (rw place at h))) (here .set-circuit .ensures) (here .raised .ensures)
     ∙ ap (λ (m : ℕ). cond (a .go) (set t m (a .row)) t) place
 
 pub put-circuit-spec : {M : Type 1} → statement M

@@ -22,7 +22,9 @@ returns c =
     let r = a .pending .now in
     let t = heldPending (a .places) r in
     let place = here .spare-pending .ensures in
-    put-held clearPending n r _ true (here .spare-pending .result) (a .row) (here .raised .result) (λ h. rw place (place-upto clearPending (non isPending) (λ x. refl) n r)) (here .set-pending .ensures) (here .raised .ensures)
+    put-held clearPending n r _ true (here .spare-pending .result) (a .row) (here .raised .result)
+    (λ h. rw place (place-upto clearPending (non isPending) (λ x. refl) n r)) (here .set-pending .ensures)
+    (here .raised .ensures)
     ∙ ap (λ (m : ℕ). set t m (a .row)) place
 
 pub put-pending-spec : {M : Type 1} → statement M

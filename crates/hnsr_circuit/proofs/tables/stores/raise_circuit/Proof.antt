@@ -35,9 +35,14 @@ returns c =
     let there = here .circuit-at .ensures in
     split (a .go)
     (λ g. let e = here .circuit-raised .ensures (rw there (s .pre g)) ∙ ap (raised (a .side) (a .delta)) there in
-    stored-seen clearCircuit n r _ (a .go) (a .place) (here .circuit-raised .result) (λ h. circuit-still (here .circuit-raised .result) (ap isCircuit e ∙ marks (a .side) (a .delta) (getD t (a .place) noCircuit) ∙ held-spare clearCircuit isCircuit (λ u. refl) n r (a .place) noCircuit refl h)) (here .set-circuit .ensures)
+    stored-seen clearCircuit n r _ (a .go) (a .place) (here .circuit-raised .result)
+    (λ h. circuit-still (here .circuit-raised .result)
+    (ap isCircuit e
+    ∙ marks (a .side) (a .delta) (getD t (a .place) noCircuit)
+    ∙ held-spare clearCircuit isCircuit (λ u. refl) n r (a .place) noCircuit refl h)) (here .set-circuit .ensures)
     ∙ ap (λ (x : RelayCircuit). cond (a .go) (set t (a .place) x) t) e)
-    (λ g. ap (held clearCircuit n) (here .set-circuit .ensures ∙ on-false (a .go) _ r g) ∙ sym (on-false (a .go) (set t (a .place) (raised (a .side) (a .delta) (getD t (a .place) noCircuit))) t g))
+    (λ g. ap (held clearCircuit n) (here .set-circuit .ensures ∙ on-false (a .go) _ r g)
+    ∙ sym (on-false (a .go) (set t (a .place) (raised (a .side) (a .delta) (getD t (a .place) noCircuit))) t g))
 
 pub raise-circuit-spec : {M : Type 1} → statement M
 raise-circuit-spec = tie.close (at.spec returns)

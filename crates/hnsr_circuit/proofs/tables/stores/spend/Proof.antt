@@ -22,7 +22,9 @@ returns c =
     let r = a .ledger .now in
     let t = heldLedger (a .places) r in
     let e = here .usage-spent .ensures ∙ ap (spent (a .n)) (here .usage-at .ensures) in
-    stored-seen clearUsage n r _ (a .go) (a .place) (here .usage-spent .result) (λ h. usage-still (here .usage-spent .result) (ap isUsage e ∙ held-spare clearUsage isUsage (λ u. refl) n r (a .place) noUsage refl h)) (here .set-usage .ensures)
+    stored-seen clearUsage n r _ (a .go) (a .place) (here .usage-spent .result)
+    (λ h. usage-still (here .usage-spent .result)
+    (ap isUsage e ∙ held-spare clearUsage isUsage (λ u. refl) n r (a .place) noUsage refl h)) (here .set-usage .ensures)
     ∙ ap (λ (u : ReservationUsage). cond (a .go) (set t (a .place) u) t) e
 
 pub spend-spec : {M : Type 1} → statement M

@@ -18,7 +18,8 @@ returns c =
     let a = here .start .args in
     let t = heldCircuits (a .places) (a .circuits .now) in
     let e = here .circuit-unmarked .ensures in
-    stored-seen clearCircuit (a .places .circuits) (a .circuits .now) _ (a .go) (a .place) (here .circuit-unmarked .result) (λ h. ap clearCircuit e ∙ sym e) (here .set-circuit .ensures)
+    stored-seen clearCircuit (a .places .circuits) (a .circuits .now) _ (a .go) (a .place)
+    (here .circuit-unmarked .result) (λ h. ap clearCircuit e ∙ sym e) (here .set-circuit .ensures)
     ∙ ap (λ (x : RelayCircuit). cond (a .go) (set t (a .place) x) t) (e ∙ ap clearCircuit (here .circuit-at .ensures))
 
 pub unmark-circuit-spec : {M : Type 1} → statement M

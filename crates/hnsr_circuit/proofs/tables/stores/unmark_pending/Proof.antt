@@ -18,7 +18,8 @@ returns c =
     let a = here .start .args in
     let t = heldPending (a .places) (a .pending .now) in
     let e = here .pending-unmarked .ensures in
-    stored-seen clearPending (a .places .pending) (a .pending .now) _ (a .go) (a .place) (here .pending-unmarked .result) (λ h. ap clearPending e ∙ sym e) (here .set-pending .ensures)
+    stored-seen clearPending (a .places .pending) (a .pending .now) _ (a .go) (a .place)
+    (here .pending-unmarked .result) (λ h. ap clearPending e ∙ sym e) (here .set-pending .ensures)
     ∙ ap (λ (x : RelayPending). cond (a .go) (set t (a .place) x) t) (e ∙ ap clearPending (here .pending-at .ensures))
 
 pub unmark-pending-spec : {M : Type 1} → statement M

@@ -3,8 +3,10 @@
 
     python3 tools/moved.py [--full] OLD NEW        --full shows both texts of what changed
 
-definitions   what a reader must believe: specs/ without Laws. Of hnsr_run: Past, History and Claim, with all that they
-              import of their own crate. All.antt, a list of names that tools/unfolding.py writes, is none.
+definitions   what a reader must believe: specs/ without the folders below. Of hnsr_run: Past, History and Claim, with
+              all that they import of their own crate.
+model         specs/Code: what the code holds between two steps
+worked        specs/Worked: examples. All.antt, a list of names that tools/unfolding.py writes, is none.
 types         structs, enums and constants of src/. Definitions are about those of the tables and of the answers.
 promises      of each function of src/: parameters, result, what it requires and what it ensures
 laws          the rest of specs/, with their proofs
@@ -21,7 +23,8 @@ import re
 import subprocess
 import sys
 
-KINDS = ["definitions", "types", "promises", "laws", "proofs"]
+KINDS = ["definitions", "model", "worked", "types", "promises", "laws", "proofs"]
+FOLDERS = {"Code": "model", "Worked": "worked"}  # of specs/, beside Laws
 FATES = ["stayed", "moved", "changed", "new", "gone"]
 BELIEVED = {"hnsr_run": ["Past", "History", "Claim"]}  # where it is not all of specs/ without Laws
 WRITTEN_BY_A_TOOL = "All.antt"
@@ -61,7 +64,7 @@ def items(commit):
         elif part == "proofs" and file.endswith("/Proof.antt"):
             proof = "\n".join(block for _, block, _ in declarations(text))
             yield Item("proofs", crate, folders[-2], file, tokens(proof), proof)
-        elif part == "specs" and file != WRITTEN_BY_A_TOOL:
+        elif part == "specs" and folders[-1] != WRITTEN_BY_A_TOOL:
             module = file.removesuffix(".antt").replace("/", ".")
             law = module not in believed[crate] if crate in believed else "Laws" in folders
             for name, block, around in declarations(text):
@@ -187,6 +190,14 @@ def fates(old, new):
     yield from (("new", None, item) for item in new)
 
 
+def listed(item, folders):
+    """The kind under which an item is listed; what is gone goes by the folder that its file has now."""
+    if item.kind != "definitions":
+        return item.kind
+    folder, _, file = item.file.rpartition("/")
+    return FOLDERS.get(folder or folders.get(file, ""), item.kind)
+
+
 def show(item, other, full):
     now = other or item
     line = f"    {now.name}  {now.file}"
@@ -202,9 +213,11 @@ def main():
     commits = [word for word in sys.argv[1:] if word != "--full"]
     if len(commits) != 2:
         sys.exit(__doc__)
+    old, new = (list(items(commit)) for commit in commits)
+    folders = {file: folder for folder, _, file in (item.file.rpartition("/") for item in new) if folder in FOLDERS}
     lists = collections.defaultdict(list)
-    for fate, item, other in fates(*(list(items(commit)) for commit in commits)):
-        lists[(other or item).kind, (other or item).crate, fate].append((item, other))
+    for fate, item, other in fates(old, new):
+        lists[listed(other or item, folders), (other or item).crate, fate].append((item, other))
     groups = [(kind, crate) for kind in KINDS for crate in sorted({crate for _, crate, _ in lists})]
     print(f"| crate | what | {' | '.join(FATES)} |\n{'|---' * (2 + len(FATES))}|")
     for kind, crate in groups:

@@ -1,4 +1,5 @@
-//! The library beyond document 01's domain: runtimes, tables, numbers of places, output words and names that no run has.
+//! The library beyond document 01's domain: runtimes, tables, numbers of places, output words and names that no run
+//! has.
 //!
 //! Each call is made on what the one before it left, or on a new world by chance. Whatever it is lent, the library
 //! must do what the second reading of document 01 does, and what `checks` says in words.

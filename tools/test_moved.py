@@ -60,7 +60,9 @@ pub data Gone : Type 0 where
 _then_ : ℕ → ℕ → ℕ
 a then b = a
 """,
-    "crates/low/specs/All.antt": number("machine", 1),
+    "crates/low/specs/Worked/All.antt": number("machine", 1),
+    "crates/low/specs/Held.antt": number("held", 1) + "\n" + number("dropped", 1),
+    "crates/low/specs/Worked/Cases.antt": number("first", 1),
     "crates/low/specs/Laws/Sums.antt": "pub law : 1 ≡ 1\nlaw = refl\n\npub weak : 2 ≡ 2\nweak = refl\n",
     "crates/low/src/a.rt": """
 use crate::b::Row;
@@ -155,7 +157,9 @@ _then_ : ℕ → ℕ → ℕ
 a then b = b
 """,
     "crates/low/specs/Part/Other.antt": "pub toOther : ℕ → ℕ\ntoOther n = laidOut n\n\n" + number("fresh", 1),
-    "crates/low/specs/All.antt": number("machine", 2),
+    "crates/low/specs/Worked/All.antt": number("machine", 2),
+    "crates/low/specs/Code/Held.antt": number("held", 1),
+    "crates/low/specs/Worked/Cases.antt": number("first", 2),
     "crates/low/specs/Laws/Sums.antt": "pub law : 1 ≡ 1\nlaw = sym refl\n",
     "crates/low/specs/Laws/More.antt": "pub weak : 2 ≡ 2\nweak = refl\n",
     "crates/low/src/y/a.rt": """
@@ -216,6 +220,7 @@ for name in ["a", "logic", "d", "e", "g", "h", "k"]:
     del NEW[f"crates/low/src/{name}.rt"]
 for name in ["stronger", "body_only"]:
     del NEW[f"crates/low/proofs/a/{name}/Proof.antt"]
+del NEW["crates/low/specs/Held.antt"]
 
 EXPECTED = {
     "low: definitions moved": ["toOther  Part/Other.antt  from Sums.antt"],
@@ -223,6 +228,9 @@ EXPECTED = {
     "low: definitions new": ["fresh  Part/Other.antt"],
     "low: definitions gone": ["Gone  Sums.antt"],
     "hnsr_run: definitions changed": ["head  Head.antt"],
+    "low: model moved": ["held  Code/Held.antt  from Held.antt"],
+    "low: model gone": ["dropped  Held.antt"],
+    "low: worked changed": ["first  Worked/Cases.antt"],
     "low: types moved": ["Kept  y/a.rt  from a.rt"],
     "low: types changed": ["MOST  y/a.rt  from a.rt", "Row  y/a.rt  from a.rt"],
     "low: promises moved": [f"{name}  y/a.rt  from a.rt" for name in ["Row::new", "body_only", "twice"]],
@@ -295,7 +303,7 @@ def main():
         for row in ROWS:
             assert row in told.split("\n"), (row, told)
         same = said(folder, "old", "old")
-        assert lists(same) == {} and "| low | definitions | 10 | 0 | 0 | 0 | 0 |" in same, same
+        assert lists(same) == {} and "| low | definitions | 12 | 0 | 0 | 0 | 0 |" in same, same
         full = said(folder / "crates", "--full", "old", "new")
         assert "      - another n = n + 1\n" in full and "      + another n = n + 2\n" in full, full
         assert "laidOut n" not in full, full

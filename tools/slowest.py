@@ -51,7 +51,8 @@ def main():
     root = pathlib.Path(__file__).resolve().parent.parent
     folder = root / "target" / "inc" / crate
     shutil.rmtree(folder, ignore_errors=True)
-    if subprocess.run(["rt", "dev", crate], cwd=root, stdout=subprocess.DEVNULL).returncode:
+    quiet = {"stdout": subprocess.DEVNULL, "stderr": subprocess.DEVNULL}
+    if subprocess.run(["rt", "dev", crate], cwd=root, **quiet).returncode:
         sys.exit(f"slowest: {crate} is not proved")
     functions, parts = spent(next(folder.glob("antt-checked-*")))
     total = sum(functions.values())

@@ -4,8 +4,9 @@
     python3 tools/refuted.py [CRATE..]
 
 An edit has the form of a must-fail edit. It is applied to a copy of the project, checked there by `rt dev`, which takes
-over what stays as it is, and undone. For each edit the place and the words of the first error are printed: whether a
-fact failed, and not a name, is for the reader to see. Exit 1 where an edit is not refused, or did not reach the prover.
+over what stays as it is, and undone. For each edit the first error is printed that does not follow from another:
+whether a fact failed, and not a name, is for the reader to see. Exit 1 where an edit is not refused, or did not reach
+the prover.
 The must-fail edits are those that the gate tries; these are too many for it.
 """
 import pathlib
@@ -37,7 +38,8 @@ def first_error(said, root):
     """The first line that says what is wrong, without the folder of the copy."""
     lines = [line for line in said.replace(f"{root}/", "").splitlines()
              if re.search(r": error: |is not proved that|: no proof: ", line)]
-    return lines[0][:300] if lines else "nothing was said"
+    own = [line for line in lines if "was not admitted" not in line]  # a caller's error follows from its callee's
+    return (own or lines or ["nothing was said"])[0][:300]
 
 
 def tried(root, crate, edit):

@@ -239,7 +239,7 @@ impl Generator {
                 }
             }
             4 => {
-                // both: document 01 has the peer first
+                // both: the peer comes first (ENTRY.2, ENTRY.3)
                 *source = peer;
                 *context = [0; 8];
             }

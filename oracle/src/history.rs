@@ -1,5 +1,5 @@
-//! Document 01, "Reckoned from history", and its sentence on the counters, held against the Rust's state after each
-//! call. This is a check of the document, not part of the oracle.
+//! What is reckoned from history (RUN.3 to RUN.8), and the counters (COUNT), held against the Rust's state after each
+//! call. This is a check of the rules, not part of the oracle.
 
 use lekchnam_host::{HnsrOpcode, HnsrRuntimeError};
 use lekchnam_traces::event::Change;
@@ -11,7 +11,7 @@ const COUNTERS: [&str; 5] = ["admitted_opens", "opened_circuits", "bytes_sent", 
 
 #[derive(Default)]
 pub struct History {
-    /// Count DATA and WINDOW refused with 6 as taken, which document 01 does not say.
+    /// Count DATA and WINDOW refused with 6 as taken, which the rules do not (RUN.13).
     lenient: bool,
     /// Of the requester and of the endpoint.
     credit: BTreeMap<[u8; 8], (u64, u64)>,
@@ -84,7 +84,7 @@ impl History {
         *other += delta;
     }
 
-    /// "revoked_work every other end of a pending record or circuit"
+    /// COUNT.4: what ended, and was not accepted.
     fn count_ends(&mut self, change: &Change<'_>, accepted: Option<[u8; 8]>) {
         let pending = change.ended_pending().into_iter().filter(|p| accepted != Some(p.id));
         self.counters[4] += (pending.count() + change.ended_circuits().len()) as u64;

@@ -35,7 +35,7 @@ fn peer(bytes: &[u8]) -> Result<HnsrPeerId, Refusal> {
     Ok(HnsrPeerId::new(bytes.to_vec())?)
 }
 
-/// Added by document 01; not in the Rust.
+/// Added (DUE); not in the Rust.
 fn next_due(state: &State) -> Option<u64> {
     state.pending.iter().map(|p| p.deadline).chain(state.circuits.iter().map(|c| c.expires_at)).min()
 }
@@ -67,9 +67,9 @@ impl Oracle {
         Ok(Self { runtime: OpaqueRelayRuntime::new(session, generation, config.into(), now)? })
     }
 
-    /// Peer length first (4), then the packet (1), as document 01's row "entry" has them: in the
-    /// Rust both are made before `handle`. An opcode of 21 up has no `HnsrPacket`; here it gives
-    /// the 1 of `HnsrOpcode::try_from` (document 01: 16 at the gate).
+    /// Peer length first (4), then the packet (1), as ENTRY.2 and ENTRY.3 have them: in the Rust both are made before
+    /// `handle`. An opcode of 21 up has no `HnsrPacket`; here it gives the 1 of `HnsrOpcode::try_from` (by HANDLE.3 it
+    /// is 16).
     pub fn handle(&mut self, call: &Packet<'_>) -> Outcome {
         let source = peer(call.source)?;
         let opcode = HnsrOpcode::try_from(call.opcode)?;
@@ -137,7 +137,7 @@ impl Oracle {
         self.runtime.probe()
     }
 
-    /// Not a call of document 01: sets the next sequence number.
+    /// Not a call of a relay: sets the next sequence number.
     pub fn poke_sequence(&mut self, value: u64) {
         self.runtime.probe_set_next_sequence(value);
     }

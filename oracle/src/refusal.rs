@@ -1,4 +1,4 @@
-//! Refusals by document 01's numbers, with the cause of a 1 and the Rust's words.
+//! Refusals by their numbers (ANS.5), with the cause of a 1 and the Rust's words.
 use hns_encoding::DecodeError;
 use hns_hnsr_protocol::runtime::{NOT_ACTIVE, REFUSED};
 use hns_hnsr_protocol::{HnsrProtocolError, HnsrRuntimeError};

@@ -1,4 +1,4 @@
-//! The proved library, and the second reading that it is held to beyond document 01's domain, against the Rust.
+//! The proved library, and the second reading that it is held to beyond the domain (DOMAIN.4), against the Rust.
 use lekchnam_traces::counts::Counts;
 use lekchnam_traces::file::Places;
 use lekchnam_traces::reading::Reading;

@@ -43,7 +43,7 @@ pub fn status_numbers(s: &HnsrRuntimeStatus) -> [u64; STATUS.len()] {
 
 #[derive(Clone, Debug, Eq, PartialEq)]
 pub struct Answer {
-    /// Document 01's number; 0 is taken.
+    /// The number (ANS.5); 0 is taken.
     pub number: u8,
     pub cause: Cause,
     pub words: Words,

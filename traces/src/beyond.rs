@@ -1,8 +1,8 @@
-//! The library beyond document 01's domain: runtimes, tables, numbers of places, output words and names that no run
+//! The library beyond the domain (DOMAIN.4): runtimes, tables, numbers of places, output words and names that no run
 //! has.
 //!
-//! Each call is made on what the one before it left, or on a new world by chance. Whatever it is lent, the library
-//! must do what the second reading of document 01 does, and what `checks` says in words.
+//! Each call is made on what the one before it left, or on a new world by chance. Whatever it is lent, the library must
+//! do what the second reading of the rules does, and what `checks` says in words.
 
 mod calls;
 mod checks;

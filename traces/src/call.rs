@@ -4,7 +4,7 @@ use lekchnam_host::HnsrOpcode;
 use lekchnam_host::lent::RelayTicket;
 use lekchnam_host::limits::{CLOSING_WORDS, HANDLE_WORDS};
 
-/// What the host hands over with an OPEN that it admits.
+/// What a host grants with an OPEN that it admits (HOST.5).
 #[derive(Clone, Debug, Eq, PartialEq)]
 pub struct Grant {
     pub endpoint: Vec<u8>,
@@ -48,12 +48,12 @@ pub enum Call {
     Expire { now: u64 },
     Observe { now: u64 },
     Replace { expected: u64, enabled: bool },
-    /// Not a call of document 01.
+    /// Not a call of a relay.
     Poke { sequence: u64 },
 }
 
-/// `d` in document 01's domain; `e` refused at entry by `HnsrPeerId::new` or `HnsrPacket::new`; `g` grant not after
-/// now; `o` opcode 21 up, answered as opcode 0 (document 01, not the Rust); `p` poke.
+/// `d` in the domain (DOMAIN.2); `e` refused at entry by `HnsrPeerId::new` or `HnsrPacket::new`; `g` grant not after
+/// now; `o` opcode 21 up, answered as opcode 0 (HANDLE.3, not the Rust); `p` poke.
 pub type Class = char;
 
 pub const CLASSES: [Class; 5] = ['d', 'e', 'g', 'o', 'p'];
@@ -97,8 +97,7 @@ impl Call {
         }
     }
 
-    /// The output words that it needs where there are so many pending records and circuits. Document 01: "`handle`
-    /// needs 4,136 words, acknowledge 96, the revoking calls 96 for each pending record and circuit".
+    /// The output words that it needs where there are so many pending records and circuits (OUT.8).
     pub fn words_needed(&self, records: usize) -> usize {
         match self {
             Self::Handle { .. } => HANDLE_WORDS,

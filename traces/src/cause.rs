@@ -19,7 +19,7 @@ pub enum Cause {
         maximum: usize,
     },
     Admission,
-    /// One that document 01 does not have.
+    /// One that no rule has.
     Other(String),
 }
 

@@ -1,7 +1,7 @@
-//! A second reading of document 01: the relay over tables as lent, written for the tests to compare the library with.
+//! A second reading of the rules: the relay over tables as lent, written for the tests to compare the library with.
 //!
-//! It is short and slow, and takes of the library only the checks of bodies, packets and limits,
-//! which are compared by themselves.
+//! It is short and slow, and takes of the library only the checks of bodies, packets and limits, which are compared by
+//! themselves.
 
 mod circuits;
 mod machine;
@@ -49,7 +49,7 @@ fn names(tables: &Tables) -> impl Iterator<Item = (usize, [u8; MAXIMUM_PEER])> {
     pending.chain(circuits).chain(actions).map(|name| (name.len, name.bytes))
 }
 
-/// A packet with what the host hands over.
+/// A packet with what comes with it (HOST.3, HOST.4).
 struct Packet<'call> {
     source: &'call [u8],
     opcode: u8,
@@ -95,9 +95,7 @@ impl World {
         }
     }
 
-    /// "new: 3 session zero or generation 0; 2 what `OpaqueRelayConfig::validate` refuses; 22 Short: a table
-    /// has fewer places than its maximum, or the ledger none". "`new` marks every place unused": by its
-    /// numbers, and no table is touched.
+    /// `new`: its refusals, and a relay with every place unused (NEW.1 to NEW.5).
     fn start(&mut self, session: [u8; 16], generation: u64, config: Config, now: u64) -> Outcome {
         refuse(session == [0; 16] || generation == 0, Refused::InvalidSession)?;
         config.validate()?;
@@ -115,7 +113,7 @@ impl World {
         Ok(Vec::new())
     }
 
-    /// "22 output words too few or a table shorter than its maximum".
+    /// 22 (ENTRY.1): the output or a table is too short.
     fn lent_enough(&self, call: &Call, room: usize) -> Result<(), Refused> {
         refuse(short(&self.runtime.config, &self.tables) || room < call.words_needed(self.records()), Refused::Short)
     }
@@ -125,15 +123,14 @@ impl World {
         count(&self.tables, |_: &RelayPending| true) + count(&self.tables, |_: &RelayCircuit| true)
     }
 
-    /// "7 now behind the high water; from here the clock has moved".
+    /// 7 (ENTRY.4), and then the clock (ENTRY.5).
     fn clock(&mut self, now: u64) -> Result<(), Refused> {
         refuse(now < self.runtime.trusted_time_high_water, Refused::ClockRollback)?;
         self.runtime.trusted_time_high_water = now;
         Ok(())
     }
 
-    /// "4 peer length; 1 packet that `HnsrPacket::validate` refuses"; the clock; "9 disabled; 16
-    /// another opcode, 21 up included".
+    /// 4 and 1 (ENTRY.2, ENTRY.3); the clock; 9 and 16 (HANDLE.2, HANDLE.3).
     fn handle(&mut self, packet: &Packet<'_>) -> Outcome {
         named(packet.source)?;
         validate_packet(packet.opcode, packet.context.to_be_bytes(), packet.body.len())?;
@@ -149,7 +146,7 @@ impl World {
         }
     }
 
-    /// "Ledger records with expiry not after now are dropped".
+    /// OPEN.12: lapsed ledger records go.
     fn drop_lapsed(&mut self, now: u64) {
         drop_all(&mut self.tables, |usage: &ReservationUsage| usage.expires_at <= now);
     }
@@ -193,12 +190,12 @@ fn short(config: &Config, tables: &Tables) -> bool {
         || tables.inflight.len() < config.maximum_inflight_actions
 }
 
-/// "A peer is 1 to 128 bytes."
+/// HOST.1: how long a name may be.
 fn named(name: &[u8]) -> Result<StoredPeer, Refused> {
     lekchnam_host::HnsrPeerId::new(name).map(StoredPeer::from)
 }
 
-/// "a peer length over 128 reads as 128".
+/// TAB.9: how a stored name is read.
 fn same(one: &StoredPeer, other: &StoredPeer) -> bool {
     one.as_bytes() == other.as_bytes()
 }

@@ -1,4 +1,4 @@
-//! Document 01, "Output words".
+//! Output words (OUT).
 use lekchnam_host::limits::PEER_WORDS;
 
 /// A packet on its way to a peer, and its number.

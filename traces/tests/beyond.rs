@@ -1,4 +1,4 @@
-//! The library beyond document 01's domain: a small part of what the command `beyond` does.
+//! The library beyond the domain (DOMAIN.4): a small part of what the command `beyond` does.
 use lekchnam_host::HnsrRuntimeError::{CorruptSnapshot, LedgerFull, NoQueuedData};
 use lekchnam_traces::beyond::{Number, beyond};
 

@@ -1,5 +1,6 @@
-// Document 01's sixteen cases, each by a new relay: reads nothing, and prints the case and the last answer, 0 taken.
-// Then RFC 3629 section 7's samples and what is not UTF-8 beside them: a wrong answer is printed, a right one is not.
+// The sixteen cases (CASE.1 to CASE.3), each by a new relay.
+// Then the samples of RFC 3629, section 7 (TEXT.4), and what is not UTF-8 beside them: a wrong answer is printed, a
+// right one is not.
 mod machine;
 mod samples;
 mod script;

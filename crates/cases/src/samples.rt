@@ -1,4 +1,4 @@
-// RFC 3629 section 7's samples, and beside each a text that is not UTF-8.
+// The samples of RFC 3629, section 7 (TEXT.4), and beside each a text that is not UTF-8.
 use hnsr_body::utf8::is_utf8;
 use libc::STDOUT_FILENO;
 

@@ -29,7 +29,7 @@ pub(crate) const REQUESTER: u8 = 1;
 
 pub(crate) const ENDPOINT: u8 = 2;
 
-// ---- what is lent, before `new` marks every place unused
+// ---- what is lent, before `new` (NEW.4)
 
 fn no_peer() -> HnsrPeerId {
     HnsrPeerId {
@@ -263,7 +263,7 @@ pub(crate) fn head_of(case: u8) -> [u8; 5] {
     }
 }
 
-// ---- document 01's number of an answer
+// ---- the number of an answer (ANS.5)
 
 pub(crate) fn answer_number(answer: HnsrAnswer) -> u64 {
     answer.number() as u64

@@ -1,4 +1,4 @@
--- Bytes as numbers and numbers as bytes, for any width (document 01, "Bodies and their cursor": little-endian).
+-- Bytes as numbers and numbers as bytes, for any width (BODY.1, HOST.7).
 use Prim.Native.Nat.{ℕ, zero, suc, _+_, _-_, _*_, _/_, _%_, _^_, _<_}
 use mathlib.Core.Bool.{Bool, true, _&&_}
 use mathlib.Core.List.{List, [], _∷_, _++_}

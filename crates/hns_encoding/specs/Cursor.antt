@@ -1,6 +1,5 @@
--- The cursor (document 01, "Bodies and their cursor": "The cursor hands itself back after each field"). One definition
--- of a field of any width, over bytes and over words alike; each method of `Decoder` and `Encoder` is that definition
--- at its own width and answer.
+-- The cursor (BODY.2). One definition of a field of any width, over bytes and over words alike; each method of
+-- `Decoder` and `Encoder` is that definition at its own width and answer.
 use Prim.Native.Nat.{ℕ, _+_, _-_, min}
 use mathlib.Core.Path.{_≡_}
 use mathlib.Core.Bool.{Bool, cond}

@@ -1,5 +1,5 @@
--- Sums that stop at their top, over the width in bits (document 01, "What the host hands over": "sums stop at their
--- top, differences at 0"). A difference that stops at 0 is the library's `-`, the smaller of two its `min`.
+-- Sums that stop, over the width in bits (TAB.10). A difference that stops at 0 is the library's `-`, the smaller of
+-- two its `min`.
 use Prim.Native.Nat.{ℕ, _+_, _-_, _^_, min}
 
 -- the largest number of so many bits

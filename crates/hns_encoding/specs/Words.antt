@@ -1,5 +1,4 @@
--- Bytes and numbers as 32-bit words (document 01, "Output words": four to a word, first lowest, zero padded; high word
--- first).
+-- Bytes and numbers as words of 32 bits (OUT.1, OUT.2).
 use Prim.Native.Nat.{ℕ, zero, suc, _+_, _*_, _/_, _%_, _^_}
 use mathlib.Core.List.{List, [], _∷_, _++_}
 use lib.ListN.{length, take, drop}
@@ -9,7 +8,7 @@ use Rattle.hns_encoding.specs.Bytes.{le, leBytes}
 abbrev pub wordCount : ℕ → ℕ
 wordCount n = (n + 3) / 4
 
--- bytes as exactly `count` words, four to a word, first lowest; a word that the bytes do not fill has zeros above them
+-- bytes as exactly `count` words; a word that the bytes do not fill has zeros above them
 unfoldable pub wordsOf : ℕ → List ℕ → List ℕ
 wordsOf zero bs = []
 wordsOf (suc count) bs = le (take 4 bs) ∷ wordsOf count (drop 4 bs)

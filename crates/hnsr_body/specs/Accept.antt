@@ -1,5 +1,4 @@
--- ACCEPT, 20 bytes, and OPENED, 28 bytes (document 01, "Bodies and their cursor": window 4, nonce 16; circuit 8, then
--- ACCEPT).
+-- ACCEPT, 20 bytes (BODY.8), and OPENED, 28 bytes (BODY.9).
 use Prim.Native.Nat.{ℕ}
 use mathlib.Core.Bool.{Bool, cond, _&&_}
 use mathlib.Core.List.{List, [], _∷_, _++_}

@@ -1,6 +1,5 @@
--- Document 01's number and values for each cause of a 1 ("Where a call is turned away": early end (offset, bytes
--- missing), trailing (count), Invalid (which text), too large (actual, maximum), admission). A host gets a cause as
--- these three numbers; 0 is no cause.
+-- The number and the values of each cause of a 1 (ANS.6, ANS.7). A host gets a cause as these three numbers; 0 is no
+-- cause.
 use Prim.Native.Nat.{ℕ}
 use mathlib.Core.Bool.{Bool, true, false}
 use Rattle.hns_encoding.specs.declared.decoder.DecodeError.the-variants.{UnexpectedEnd, TrailingBytes}

@@ -1,5 +1,4 @@
--- DATA, 1 to 16,384 bytes, and WINDOW, 4 bytes (document 01, "Bodies and their cursor"; WINDOW's delta is 1 to
--- 1,048,576).
+-- DATA, 1 to 16,384 bytes (BODY.10), and WINDOW, 4 bytes (BODY.11).
 use Prim.Native.Nat.{ℕ}
 use mathlib.Core.Bool.{Bool, cond, _&&_}
 use mathlib.Core.List.{List, [], _∷_}

@@ -1,6 +1,5 @@
--- CLOSE and ERROR (document 01, "Bodies and their cursor": reason 2, length 1, detail to 128). "In CLOSE and ERROR a
--- length over 128, or not the count of bytes left, is Invalid": so they never report trailing bytes. Then the detail is
--- UTF-8. Every reason is accepted, in ERROR too.
+-- CLOSE and ERROR (BODY.12, BODY.13): the length says how many bytes follow, so that none is ever left over. Every
+-- reason is accepted, in ERROR too (BODY.14).
 use Prim.Native.Nat.{ℕ, _+_, _-_}
 use mathlib.Core.Bool.{Bool, cond, _&&_}
 use mathlib.Core.List.{List, [], _∷_, _++_}
@@ -42,7 +41,7 @@ lengthOf body = le (fieldOf detailWidths 1 body)
 abbrev pub detailOf : List ℕ → List ℕ
 detailOf body = drop headSize body
 
--- a length over 128, or not the count of bytes left, is bad
+-- BODY.13: it is not too long, and no byte more or less follows it
 abbrev pub lengthIs : List ℕ → ℕ → Bool
 lengthIs body n = leb n mostDetail && eqb (length body - headSize) n
 

@@ -1,5 +1,4 @@
--- Worked examples of the bodies, by computation (document 01, "Bodies and their cursor" and "Where a call is turned
--- away").
+-- Worked examples of the bodies, by computation (BODY, PACKET).
 use Prim.Native.Nat.{ℕ}
 use mathlib.Core.Path.{_≡_, refl}
 use mathlib.Core.Bool.{Bool, true, false}
@@ -38,7 +37,7 @@ unfoldable pub detailAnswer : List ℕ → Checked
 unfolding walked reasonDetail decodeDetail le utf8 utf8-1 utf8-2 utf8-3 utf8-4
 detailAnswer body = decodeDetail body .result
 
--- ---- "A 102-byte OPEN ends early at 99, missing 1"; a 10-byte one at 0, missing 22
+-- ---- BODY.3: early ends
 pub open-102 : openAnswer true (replicate 102 1) ≡ Err (Decode (UnexpectedEnd 99 1))
 unfolding openAnswer
 open-102 = refl
@@ -47,7 +46,7 @@ pub open-10 : openAnswer true (replicate 10 1) ≡ Err (Decode (UnexpectedEnd 0 
 unfolding openAnswer
 open-10 = refl
 
--- "A body is checked for early end, trailing bytes, then values"
+-- BODY.4: the layout before the values
 pub open-104 : openAnswer false (replicate 104 0) ≡ Err (Decode (TrailingBytes 1))
 unfolding openAnswer
 open-104 = refl
@@ -87,7 +86,7 @@ pub window-over : windowAnswer (1 ∷ 0 ∷ 16 ∷ 0 ∷ []) ≡ Err (Invalid Wi
 unfolding windowAnswer
 window-over = refl
 
--- ---- ERROR: any reason; a length that is not the count of bytes left is Invalid, and comes before the UTF-8 test
+-- ---- ERROR: any reason (BODY.14); the length is asked before the text (BODY.13)
 pub error-any-reason : detailAnswer (0xFF ∷ 0xFF ∷ 0 ∷ []) ≡ Ok
 unfolding detailAnswer
 error-any-reason = refl

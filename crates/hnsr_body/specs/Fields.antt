@@ -1,5 +1,5 @@
--- A field read from the step that the field before handed back (document 01, "Bodies and their cursor": "The cursor
--- hands itself back after each field"). An early end is handed on, and what stands behind it reads as zeros.
+-- A field read from the step that the field before handed back (BODY.2). An early end is handed on, and what stands
+-- behind it reads as zeros.
 use Prim.Native.Nat.{ℕ}
 use mathlib.Core.List.{List, []}
 use lib.ListN.{drop, replicate}

@@ -1,4 +1,4 @@
--- INCOMING, 62 bytes (document 01, "Bodies and their cursor": ticket 32, request 8, profile 2, nonce 16, window 4).
+-- INCOMING, 62 bytes (BODY.7).
 use Prim.Native.Nat.{ℕ}
 use mathlib.Core.Bool.{Bool, cond, _&&_}
 use mathlib.Core.List.{List, [], _∷_, _++_}

@@ -1,5 +1,4 @@
--- A body of fixed size is fields of given widths, one after the other (document 01, "Where a call is turned away": "A
--- body is checked for early end, trailing bytes, then values").
+-- A body of fixed size is fields of given widths, one after the other (BODY.3, BODY.4).
 use Prim.Native.Nat.{ℕ, zero, suc, _+_}
 use mathlib.Core.List.{List, [], _∷_}
 use lib.ListN.{getD}

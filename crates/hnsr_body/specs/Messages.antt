@@ -1,5 +1,4 @@
--- "Reason and detail are constants" (document 01, "Down through the call"): the seven messages. A detail is its
--- characters' codes.
+-- The seven messages of the relay's own (NOTICE.1 to NOTICE.7). A detail is its characters' codes.
 use Prim.Native.Nat.{ℕ}
 use mathlib.Core.List.{List, [], _∷_}
 use lib.ListN.{length}

@@ -1,5 +1,4 @@
--- OPEN, 103 bytes (document 01, "Bodies and their cursor": ticket 32, reservation 16, key 33, profile 2, nonce 16,
--- window 4).
+-- OPEN, 103 bytes (BODY.6).
 use Prim.Native.Nat.{ℕ}
 use mathlib.Core.Bool.{Bool, cond, _&&_}
 use mathlib.Core.List.{List, [], _∷_, _++_}

@@ -1,4 +1,4 @@
--- Values (document 01, "Bodies and their cursor": "Ids, nonces and profile are not zero; windows 16,384 to 1,048,576").
+-- Which values a field may have (BODY.5).
 use Prim.Native.Nat.{ℕ}
 use mathlib.Core.Bool.{Bool, not, _&&_, _||_}
 use mathlib.Core.List.{List, _++_}

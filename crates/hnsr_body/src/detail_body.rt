@@ -89,7 +89,7 @@ impl ReasonDetail {
         }
     }
 
-    // A length over 128, or not the count of bytes left, is invalid.
+    // BODY.13: the length is not too large, and is that of what follows.
     fn is_length(self, left: usize) -> bool
         ensures { λ r. ⌜ r ≡ (leb (self .«detail_length») mostDetail && eqb left (self .«detail_length»)) ⌝ }
     {

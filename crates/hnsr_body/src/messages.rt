@@ -1,4 +1,4 @@
-// The seven messages by which the relay ends a record: reason and detail are constants.
+// The seven messages by which the relay ends a record (NOTICE.1 to NOTICE.7), as constants.
 use crate::detail_body::ReasonDetail;
 use crate::fields::put_bytes_at;
 use crate::fields::put_u8_at;

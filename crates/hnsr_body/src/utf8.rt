@@ -1,4 +1,4 @@
-// UTF-8 by RFC 3629. What is proved: `is_utf8` says true of exactly the texts of the RFC's ABNF (specs/Utf8.antt),
+// UTF-8 (TEXT.1). What is proved: `is_utf8` says true of exactly the texts of the ABNF in RFC 3629 (specs/Utf8.antt),
 // which are those that encode Unicode scalar values (specs/Utf8CodePoints.antt), and no byte is read past a text's end.
 ghost use mathlib.Core.Path.{_≡_};
 ghost use Prim.Native.Nat.{_<_, _≤_};
@@ -85,7 +85,7 @@ fn after_ascii(text: &[u8], at: usize) -> usize
     end
 }
 
-// Whether `text` is UTF-8 by RFC 3629.
+// Whether `text` is UTF-8 (TEXT.1).
 pub fn is_utf8(text: &[u8]) -> bool
     ensures { λ r. ⌜ r ≡ utf8 (now (text .entry)) ⌝ }
 {

@@ -1,5 +1,4 @@
--- ACCEPT (document 01, "Down through the call").
--- The row "all written, then 1 circuit id all zero" is left out: the entry refuses such a packet.
+-- ACCEPT (ACCEPT.1 to ACCEPT.13). A packet without a circuit id does not get here (ACCEPT.13).
 use Prim.Native.Nat.{ℕ, min}
 use mathlib.Core.Bool.{Bool, true, not, _||_}
 use lib.Dec.{ltb, leb}
@@ -29,15 +28,14 @@ use Rattle.hnsr_circuit.specs.Counts.{circuitCount, reservationWork}
 use Rattle.hnsr_circuit.specs.Packet.{Packet, sender}
 
 -- ---- rows
--- 13: not pending; 15: other peer; 11: deadline or expiry not after now
+-- 13, 15, 11 (ACCEPT.1 to ACCEPT.3): nothing such is pending, or not for this peer, or no longer
 unfoldable pub requestAnswer : (found : Bool) → RelayPending → HnsrPeerId → (now : ℕ) → HnsrAnswer
 requestAnswer found p peer now =
     check (not found) UnknownRequest
     then check (not (samePeer (p .endpoint) peer)) WrongPeer
     then check (overdue now p) InvalidAdmission
 
--- 10: accepted window over the offered one, circuits full, or the reservation's count over the ticket's most: it may
--- equal it, since the pending record counts itself
+-- 10 (ACCEPT.5); the reservation's work may reach its most, since the pending record is among it (ACCEPT.12)
 unfoldable pub acceptAnswer : OpaqueRelayConfig → RelayPending → AcceptBody
     → (circuits reservationWork : ℕ) → HnsrAnswer
 acceptAnswer c p b circuits under =
@@ -46,8 +44,7 @@ acceptAnswer c p b circuits under =
     || ltb (p .ticket .«max_active_circuits») under) Capacity
 
 -- ---- what is written
--- the circuit starts with both credits at the accepted window and its byte limit at the smaller of the grant's and the
--- configuration's
+-- ACCEPT.10: the circuit as it begins
 abbrev pub circuitFor : OpaqueRelayConfig → RelayPending → AcceptBody → RelayCircuit
 circuitFor c p b = record {
   used = true;
@@ -65,7 +62,7 @@ circuitFor c p b = record {
   «queued_to_endpoint» = 0;
 }
 
--- the pending record goes, its actions are dropped, the circuit starts, opened_circuits counts
+-- ACCEPT.9: the circuit in the place of the pending record
 unfoldable pub withAccept : World → RelayPending → AcceptBody → World
 withAccept w p b =
     counting countAccept
@@ -81,13 +78,13 @@ openedFor p b = record {
   «endpoint_nonce» = b .«endpoint_nonce»;
 }
 
--- OPENED goes to the requester's own context
+-- ACCEPT.11: under the context that the OPEN had
 unfoldable pub openedMessage : RelayPending → AcceptBody → Message
 openedMessage p b =
     message (p .requester) (p .«circuit_id») opOpened (p .«requester_context») (openedBytes (openedFor p b)) Opened
 
--- ---- the steps, in the table's order. The room for OPENED is counted without the pending's own actions, which ACCEPT
--- drops
+-- ---- the steps, in the order of the rows. The room for OPENED is counted without the pending's own actions, which
+-- ACCEPT drops (ACCEPT.6)
 unfoldable pub acceptTaken : World → Packet → RelayPending → AcceptBody → HnsrAnswer
 acceptTaken w q p b =
     requestAnswer (any (pendingAt (q .context)) (w .pending)) p (sender q) (q .now)

@@ -1,5 +1,4 @@
--- Acknowledge: removes the action; for Data lowers that one circuit's queued count; undelivered, it ends what the
--- action was for (document 01, "Down through the call").
+-- `acknowledge` (ACK.1 to ACK.9): an action goes, and with it what it held; what was not delivered ends its record.
 use Prim.Native.Nat.{ℕ}
 use mathlib.Core.Bool.{Bool, true, false, cond, not}
 use mathlib.Core.List.{List, []}
@@ -24,19 +23,19 @@ use Rattle.hnsr_circuit.specs.Entry.{acknowledgeWords, roomAnswer}
 use Rattle.hnsr_circuit.specs.Revocation.{withoutPending, errorToRequester, hasPending, pendingIn, revokeCircuit}
 
 -- ---- rows
--- 5: generation; also replace_enabled's
+-- 5 (ACK.1, SWITCH.1): another generation is current
 unfoldable pub generationAnswer : (current given : ℕ) → HnsrAnswer
 generationAnswer current given = check (not (eqb given current)) StaleGeneration
 
--- 20: unknown
+-- 20 (ACK.2): no such action
 unfoldable pub actionAnswer : (found : Bool) → HnsrAnswer
 actionAnswer found = check (not found) UnknownAction
 
--- ---- the action removed
+-- ---- the action removed (ACK.3)
 abbrev pub withoutAction : World → (generation sequence : ℕ) → World
 withoutAction w generation sequence = withInflight w (edit (actionAt generation sequence) clearAction (w .inflight))
 
--- for Data that one circuit's queued count is lowered; where the circuit is no longer there, nothing is
+-- ACK.4: a Data's bytes leave the queue
 unfoldable pub lowerFor : InflightKind → InflightAction → List RelayCircuit → List RelayCircuit
 lowerFor Data a circuits = edit (circuitAt (a .«circuit_id»)) (lowered (towardSide a) (a .bytes)) circuits
 lowerFor Incoming a circuits = circuits
@@ -48,7 +47,7 @@ unfoldable pub released : World → InflightAction → World
 released w a = withCircuits w (lowerFor (kindOf (a .kind)) a (w .circuits))
 
 -- ---- undelivered
--- Incoming ends the pending record, other actions staying, and sends ERROR; a refusal of that leaves all removed
+-- INCOMING: the pending record ends alone, and the requester hears (ACK.6, ACK.7)
 unfoldable pub failPending : World → (id : ℕ) → RelayPending → Outcome
 failPending w id p =
     send (counting countRevoked (withoutPending w (pendingAt id))) (errorToRequester EndpointWriteFailed p)
@@ -56,7 +55,7 @@ failPending w id p =
 unfoldable pub failIncoming : World → (id : ℕ) → Outcome
 failIncoming w id = cond (hasPending w id) (failPending w id (pendingIn w id)) (done w [])
 
--- Opened, Data, Control revoke the circuit; Close, or a record no longer there, does nothing
+-- ACK.6, ACK.8, ACK.9, by kind
 unfoldable pub undelivered : InflightKind → World → (id : ℕ) → Outcome
 undelivered Incoming w id = failIncoming w id
 undelivered Opened w id = finished (revokeCircuit OuterWriteFailed w id)
@@ -68,7 +67,7 @@ unfoldable pub settled : World → InflightAction → (delivered : Bool) → Out
 settled w a true = done w []
 settled w a false = undelivered (kindOf (a .kind)) w (a .«circuit_id»)
 
--- ---- the steps, in the table's order
+-- ---- the steps, in the order of the rows
 unfoldable pub acknowledgeTaken : World → (generation sequence room : ℕ) → HnsrAnswer
 acknowledgeTaken w generation sequence room =
     roomAnswer w room acknowledgeWords

@@ -1,5 +1,5 @@
--- What a call answers, and document 01's number for each answer ("Where a call is turned away"; 1 to 21 follow the
--- order of the Rust's HnsrRuntimeError). 19 and 21 are the requester's and the snapshot's: no call here gives them.
+-- What a call answers, and the number of each answer (ANS.5). 19 and 21 are the requester's and the snapshot's: no call
+-- here gives them.
 use Prim.Native.Nat.{ℕ}
 use mathlib.Core.Bool.{Bool, true, false}
 use Rattle.hnsr_body.specs.declared.error.Cause.{Cause}
@@ -83,8 +83,8 @@ abbrev pub causeOf : HnsrAnswer → Cause
 causeOf Taken = noCause
 causeOf (Refused e) = errorCause e
 
--- ---- rows of document 01's table: a test and its refusal; a body and its cause; rows in order, of which the first
--- refusal is the answer
+-- ---- rows (ANS.2): a test and its refusal; a body and its cause; rows in order, of which the first refusal is the
+-- answer
 abbrev pub check : Bool → HnsrRuntimeError → HnsrAnswer
 check true e = Refused e
 check false e = Taken

@@ -1,5 +1,4 @@
--- The calls, each with all its inputs, the room of the lent output included; one step; a run (document 01, "What the
--- host hands over").
+-- The calls, each with all its inputs, the room of the lent output included; one step; a run (RUN.1).
 use Prim.Native.Nat.{ℕ}
 use mathlib.Core.Bool.{Bool}
 use mathlib.Core.List.{List, [], _∷_}
@@ -68,12 +67,12 @@ step w (callDisconnect peer room) = disconnect w peer room
 step w (callRevokeReservation id room) = revokeReservation w id room
 step w (callExpire now room) = expire w now room
 
--- each call is given what the one before left
+-- each call goes on from the world of the last
 unfoldable pub steps : World → List Call → List Outcome
 steps w [] = []
 steps w (c ∷ cs) = let o = step w c in o ∷ steps (o .world) cs
 
--- a run is a taken `new`, then any list of the other calls
+-- RUN.1: a run
 unfoldable pub runAfter : HnsrAnswer → World → List Call → List Outcome
 runAfter Taken w calls = steps w calls
 runAfter (Refused e) w calls = []

@@ -113,7 +113,7 @@ circuitMarked used c =
 abbrev pub clearCircuit : RelayCircuit → RelayCircuit
 clearCircuit c = circuitMarked false c
 
--- DATA of n bytes from a side charges the sender's credit, circuit bytes and the queue toward the other side
+-- DATA of n bytes from a side, as far as the circuit is charged (DATA.9)
 abbrev pub charged : RelaySide → ℕ → RelayCircuit → RelayCircuit
 charged Requester n c =
     moved c (c .used) (c .«requester_credit» - n) (c .«endpoint_credit») (saturatingAdd 64 (c .«forwarded_bytes») n)
@@ -122,7 +122,7 @@ charged Endpoint n c =
     moved c (c .used) (c .«requester_credit») (c .«endpoint_credit» - n) (saturatingAdd 64 (c .«forwarded_bytes») n)
     (saturatingAdd 64 (c .«queued_to_requester») n) (c .«queued_to_endpoint»)
 
--- WINDOW from a side raises the other side's credit
+-- WINDOW of a side (WINDOW.7)
 abbrev pub raised : RelaySide → ℕ → RelayCircuit → RelayCircuit
 raised Requester n c =
     moved c (c .used) (c .«requester_credit») (c .«endpoint_credit» + n) (c .«forwarded_bytes»)

@@ -1,6 +1,4 @@
--- CLOSE and ERROR: end a pending record, which the requester names by its own context and the endpoint by circuit id
--- (context translated), or a circuit; its actions are dropped (document 01, "Down through the call"). A refusal after
--- that leaves it ended.
+-- CLOSE and ERROR (CLOSE.1 to CLOSE.12). A refusal behind the end leaves it ended.
 use Prim.Native.Nat.{ℕ}
 use mathlib.Core.Bool.{cond}
 use lib.Dec.{leb}
@@ -22,22 +20,22 @@ use Rattle.hnsr_circuit.specs.Packet.{Packet, sender, hasCircuit, namedC
 use Rattle.hnsr_circuit.specs.Revocation.{endPending, endCircuit}
 
 -- ---- rows
--- 1: body
+-- 1 (CLOSE.1): what the rule of the body refuses
 unfoldable pub detailAnswer : Packet → HnsrAnswer
 detailAnswer q = bodyAnswer (decodeDetail (q .body) .result)
 
--- 11: two pending records match. A pending record that the sender names comes before a circuit; else 14, 15
+-- 11 (CLOSE.2). What is pending and named comes before a circuit (CLOSE.10); else 14, 15 (CLOSE.3, CLOSE.4)
 unfoldable pub closeAnswer : (matches : ℕ) → (circuit : HnsrAnswer) → HnsrAnswer
 closeAnswer matches circuit = check (leb 2 matches) InvalidAdmission then cond (leb 1 matches) Taken circuit
 
--- ---- to the other side of a pending record: the endpoint hears the circuit id, the requester its own context
+-- ---- CLOSE.11: each side hears the number that it knows
 unfoldable pub translated : Packet → RelayPending → Message
 translated q p =
     cond (samePeer (p .requester) (sender q))
     (message (p .endpoint) (p .«circuit_id») (q .opcode) (p .«circuit_id») (q .body) Close)
     (message (p .requester) (p .«circuit_id») (q .opcode) (p .«requester_context») (q .body) Close)
 
--- ---- the steps, in the table's order
+-- ---- the steps, in the order of the rows
 unfoldable pub closeTaken : World → Packet → HnsrAnswer
 closeTaken w q =
     detailAnswer q

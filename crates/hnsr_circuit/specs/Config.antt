@@ -1,5 +1,4 @@
--- The configuration (document 01, "Forms to replace": defaults and ceilings belong to the config type), and what
--- `validate` refuses.
+-- The configuration (CFG): defaults, bounds, and what `validate` refuses.
 use Prim.Native.Nat.{ℕ}
 use mathlib.Core.Bool.{Bool, not, _&&_}
 use lib.Dec.{leb}

@@ -1,7 +1,5 @@
--- DATA: charges the sender's credit, circuit bytes, ledger and the queue toward the other side (document 01, "Down
--- through the call").
--- It goes on past the circuit's expiry while the ledger record lives ("Wrong turns"). If it is refused with 6, its
--- charges stay.
+-- DATA (DATA.1 to DATA.12). The circuit's expiry is not asked (DATA.11). If it is refused with 6, its charges stay
+-- (DATA.8).
 use Prim.Native.Nat.{ℕ}
 use mathlib.Core.Bool.{Bool, false, not, _||_}
 use lib.Dec.{ltb}
@@ -28,7 +26,7 @@ use Rattle.hnsr_circuit.specs.Queue.{Message, send}
 use Rattle.hnsr_circuit.specs.Packet.{Packet, sender, hasCircuit, namedCircuit, circuitAnswer, receiver}
 
 -- ---- rows
--- 11: no ledger record; 18: circuit or total
+-- 11, 18 (DATA.5, DATA.6): no such reservation, or it or the circuit has too few bytes left
 unfoldable pub bytesAnswer : (found : Bool) → ReservationUsage → RelayCircuit → (n : ℕ) → HnsrAnswer
 bytesAnswer found u c n =
     check (not found) InvalidAdmission
@@ -36,7 +34,7 @@ bytesAnswer found u c n =
     (ltb (c .«maximum_bytes») (saturatingAdd 64 (c .«forwarded_bytes») n)
     || ltb (c .«maximum_total_bytes») (saturatingAdd 64 (u .bytes) n)) ByteLimit
 
--- 17: credit or queue
+-- 17 (DATA.7): more than the sender's credit, or more than the queue still takes
 unfoldable pub flowAnswer : OpaqueRelayConfig → RelayCircuit → RelaySide → (n : ℕ) → HnsrAnswer
 flowAnswer k c side n =
     check (ltb (creditOf side c) n || ltb (k .«maximum_queue_bytes») (saturatingAdd 64 (queuedTo (otherSide side) c) n))
@@ -62,7 +60,7 @@ dataMessage q c side n = record {
   bytes = n;
 }
 
--- ---- the steps, in the table's order
+-- ---- the steps, in the order of the rows
 unfoldable pub dataTaken : World → Packet → RelayCircuit → RelaySide → (n : ℕ) → HnsrAnswer
 dataTaken w q c side n =
     bodyAnswer (dataChecked (length (q .body)))

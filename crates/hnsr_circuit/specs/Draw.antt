@@ -1,4 +1,4 @@
--- Random bytes, taken eight at a time, the first weighing most (document 01, "What the host hands over").
+-- Random bytes, and the circuit id that is drawn from them (DRAW.1 to DRAW.5).
 use Prim.Native.Nat.{ℕ, zero, suc, _+_, _/_}
 use mathlib.Core.Bool.{Bool, true, false, cond, not, _||_}
 use mathlib.Core.List.{List, [], _∷_}
@@ -21,7 +21,7 @@ drawBytes = 8
 abbrev pub mostDraws : ℕ
 mostDraws = 8
 
--- ---- the draws: a tail under eight is ignored
+-- ---- the draws (DRAW.1)
 unfoldable pub drawsFrom : (many : ℕ) → List ℕ → List ℕ
 drawsFrom zero random = []
 drawsFrom (suc many) random = be (take drawBytes random) ∷ drawsFrom many (drop drawBytes random)
@@ -33,7 +33,7 @@ draws random = drawsFrom (length random / drawBytes) random
 abbrev pub undrawn : Drawing
 undrawn = record { zeros = 0; candidates = 0; ended = false; found = false; id = 0 }
 
--- an all-zero draw is drawn again, 8 in a row refuse
+-- DRAW.2: a zero
 abbrev pub zeroDrawn : Drawing → Drawing
 zeroDrawn s = record {
   zeros = s .zeros + 1;
@@ -43,7 +43,7 @@ zeroDrawn s = record {
   id = 0;
 }
 
--- a draw that is already a pending or circuit id counts as one of 8 candidates
+-- DRAW.3: the id of another record
 abbrev pub takenDrawn : Drawing → Drawing
 takenDrawn s = record {
   zeros = 0;
@@ -70,6 +70,6 @@ idTaken w id = any (pendingAt id) (w .pending) || any (circuitAt id) (w .circuit
 unfoldable pub drawn : World → List ℕ → Drawing
 drawn w random = drawAll (idTaken w) undrawn (draws random)
 
--- 8
+-- 8 (OPEN.6): no id was drawn
 unfoldable pub drawAnswer : Drawing → HnsrAnswer
 drawAnswer s = check (not (s .found)) Randomness

@@ -1,4 +1,4 @@
--- The rows "entry" and "clock" of document 01's table, and how many output words a call needs ("Output words").
+-- The rows in front of calls (ENTRY.1 to ENTRY.4), and how many output words a call needs (OUT.8).
 use Prim.Native.Nat.{ℕ, _+_, _*_}
 use mathlib.Core.Bool.{Bool, not, _||_}
 use lib.Dec.{ltb}
@@ -27,11 +27,11 @@ closingWords = 2 * (headWords + wordCount noticeSize)
 abbrev pub acknowledgeWords : ℕ
 acknowledgeWords = closingWords
 
--- for each pending record and circuit, as lent
+-- for each used record, as lent
 abbrev pub revokingWords : World → ℕ
 revokingWords w = closingWords * (pendingCount w + circuitCount w)
 
--- ---- 22: a table shorter than its maximum (the ledger has none), or output words too few
+-- ---- 22 (ENTRY.1); the ledger has no maximum (ENTRY.6)
 unfoldable pub tooFew : OpaqueRelayConfig → (pending circuits inflight : ℕ) → Bool
 tooFew c pending circuits inflight =
     ltb pending (c .«maximum_pending») || ltb circuits (c .«maximum_circuits»)
@@ -46,14 +46,14 @@ tablesAnswer w = check (tablesShort (configOf w) w) Short
 unfoldable pub roomAnswer : World → (room needed : ℕ) → HnsrAnswer
 roomAnswer w room needed = check (ltb room needed || tablesShort (configOf w) w) Short
 
--- ---- 4: peer length, at the entry and for OPEN's endpoint
+-- ---- 4 (ENTRY.2), and for OPEN's endpoint (OPEN.4)
 unfoldable pub peerAnswer : (length : ℕ) → HnsrAnswer
 peerAnswer n = check (not (peerGood n)) InvalidPeer
 
--- ---- 1: what `HnsrPacket::validate` refuses
+-- ---- 1 (ENTRY.3): what the packet rule refuses
 unfoldable pub packetAnswer : (opcode context length : ℕ) → HnsrAnswer
 packetAnswer opcode context n = bodyAnswer (packetChecked opcode context n)
 
--- ---- clock (`handle`, `expire`, `observe_time`): 7 now behind the high water
+-- ---- 7 (ENTRY.4): the time goes back
 unfoldable pub clockAnswer : (highWater now : ℕ) → HnsrAnswer
 clockAnswer highWater now = check (ltb now highWater) ClockRollback

@@ -1,5 +1,4 @@
--- `handle`: entry, clock, gate, and the opcode picks the handling (document 01, "Down through the call", "Where a call
--- is turned away").
+-- `handle`: entry, clock, gate, and then the message that the opcode names (HANDLE.1 to HANDLE.5).
 use Prim.Native.Nat.{ℕ}
 use mathlib.Core.Bool.{Bool, cond, not}
 use lib.Dec.{eqb}
@@ -17,7 +16,7 @@ use Rattle.hnsr_circuit.specs.Data.{handleData}
 use Rattle.hnsr_circuit.specs.Window.{handleWindow}
 use Rattle.hnsr_circuit.specs.Close.{handleClose}
 
--- ---- the opcode picks the handling: 13, 15, 17, 18, 19 and 20
+-- ---- by opcode (HANDLE.4)
 pub data Handling : Type 0 where
   OPEN : Handling
   ACCEPT : Handling
@@ -36,7 +35,7 @@ handlingOf n =
     (cond (eqb n opClose) CLOSE
     (cond (eqb n opError) ERROR other)))))
 
--- 16: another opcode, 21 up included
+-- 16 (HANDLE.3): an opcode that a relay does not take
 unfoldable pub dispatch : Handling → World → Packet → Outcome
 dispatch OPEN w q = handleOpen w q
 dispatch ACCEPT w q = handleAccept w q

@@ -48,8 +48,7 @@ actionMarked used a = record {
 abbrev pub noAction : InflightAction
 noAction = actionMarked false (actionRecord 0 0 0 noPeer 0 false 0)
 
--- ---- kinds: an action's kind is its message's name, but Control for WINDOW and Close for CLOSE and ERROR. A stored
--- kind is a number
+-- ---- kinds (QUEUE.2). A stored kind is a number
 abbrev pub kindNumber : InflightKind → ℕ
 kindNumber Incoming = 0
 kindNumber Opened = 1

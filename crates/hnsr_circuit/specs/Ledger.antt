@@ -53,7 +53,7 @@ abbrev pub spent : ℕ → ReservationUsage → ReservationUsage
 spent n u = usageWith u (u .used) (saturatingAdd 64 (u .bytes) n)
 
 -- ---- the whole table
--- ledger records with expiry not after now are dropped
+-- OPEN.12: lapsed records go
 unfoldable pub lapsed : (now : ℕ) → List ReservationUsage → List ReservationUsage
 lapsed now ledger = clear clearUsage (usageOver now) ledger
 
@@ -64,17 +64,18 @@ hasUsage id ledger = any (usageAt id) ledger
 abbrev pub usageOf : ReservationId → List ReservationUsage → ReservationUsage
 usageOf id ledger = pick (usageAt id) noUsage ledger
 
--- a missing ledger record is made: the one that is found stays as it is. The ledger goes by the grant's id
+-- OPEN.16: a record is made where there is none, and stays as it is where there is one. The ledger goes by the grant's
+-- id (OPEN.15)
 unfoldable pub booked : RelayTicket → List ReservationUsage → List ReservationUsage
 booked t ledger =
     put isUsage (usageAt (t .«reservation_id»)) (pick (usageAt (t .«reservation_id»)) (freshUsage t) ledger) ledger
 
 -- ---- rows
--- 23: ledger full and record missing
+-- 23 (OPEN.9): no place for a new reservation
 unfoldable pub ledgerAnswer : (found : Bool) → (used places : ℕ) → HnsrAnswer
 ledgerAnswer found used places = check (not found && leb places used) LedgerFull
 
--- 18 (OPEN): expiry differs or bytes used up
+-- 18 (OPEN.10): the reservation has another end, or no bytes left
 unfoldable pub usageAnswer : RelayTicket → ReservationUsage → HnsrAnswer
 usageAnswer t u =
     check (not (eqb (u .«expires_at») (t .«expires_at»)) || leb (t .«max_total_bytes») (u .bytes)) ByteLimit

@@ -1,4 +1,4 @@
--- `new` and `observe_time` (document 01, "What the host hands over", "Where a call is turned away").
+-- `new` (NEW.1 to NEW.7) and `observe_time` (TIME.1).
 use Prim.Native.Nat.{ℕ}
 use mathlib.Core.Bool.{_||_}
 use mathlib.Core.List.{List, []}
@@ -20,8 +20,7 @@ use Rattle.hnsr_circuit.specs.Runtime.{newRuntime}
 use Rattle.hnsr_circuit.specs.World.{World, Outcome, done, proceed, atTime}
 use Rattle.hnsr_circuit.specs.Entry.{tablesShort, clockAnswer}
 
--- ---- new: 3 session zero or generation 0; 2 what `validate` refuses; 22 a table has fewer places than its maximum, or
--- the ledger none
+-- ---- new: 3, 2, 22 (NEW.1 to NEW.3)
 unfoldable pub sessionAnswer : (session : List ℕ) → (generation : ℕ) → HnsrAnswer
 sessionAnswer session generation = check (allZero session || eqb generation 0) InvalidSession
 
@@ -31,7 +30,7 @@ newAnswer w session generation config =
     then validateConfig config
     then check (tablesShort config w || eqb (length (w .ledger)) 0) Short
 
--- it marks every place unused
+-- NEW.4: every place is unused
 unfoldable pub emptied : World → OpaqueRelayRuntime → World
 emptied w h = record {
   runtime = h;

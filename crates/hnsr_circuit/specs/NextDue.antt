@@ -1,5 +1,4 @@
--- *Next due*, an added call: the earliest deadline of a pending record or expiry of a circuit, or none (document 01,
--- "What the host hands over"). A fold of "earlier of" over the tables.
+-- *Next due*, an added call (DUE.1 to DUE.4). A fold of "earlier of" over the tables.
 use Prim.Native.Nat.{ℕ, min}
 use mathlib.Core.Bool.{Bool, cond}
 use mathlib.Core.List.{List}

@@ -1,7 +1,6 @@
--- OPEN (document 01, "Down through the call" and the two rows of OPEN in "Where a call is turned away"). Three worlds,
--- three answers: as lent; ledger records past their expiry dropped; the missing ledger record made. Then all is written
--- and INCOMING is queued.
--- The row "all written, then 1 context all zero" is left out: the entry refuses such a packet.
+-- OPEN (OPEN.1 to OPEN.18). Three worlds, three answers: as lent; ledger records past their expiry dropped (OPEN.12);
+-- the missing ledger record made (OPEN.16). Then all is written and INCOMING is queued.
+-- A packet without a context does not get here (OPEN.18).
 use Prim.Native.Nat.{ℕ, _+_, min}
 use mathlib.Core.Bool.{Bool, false, not, _||_}
 use lib.Dec.{ltb, leb}
@@ -36,28 +35,28 @@ use Rattle.hnsr_circuit.specs.Packet.{Packet, sender}
 use Rattle.hnsr_circuit.specs.Draw.{drawn, drawAnswer}
 
 -- ---- rows
--- 10: pending or circuits full, requester's work at its most, same requester and context pending
+-- 10 (OPEN.1): no more fit for the relay or for the requester, or it is pending already
 unfoldable pub openAnswer : OpaqueRelayConfig → (pending circuits work : ℕ) → (repeated : Bool) → HnsrAnswer
 openAnswer c pending circuits work repeated =
     check
     (leb (c .«maximum_pending») pending || leb (c .«maximum_circuits») circuits
     || leb (c .«maximum_circuits_per_peer») work || repeated) Capacity
 
--- 1: not admitted, or grant expiry not after now
+-- 1 (OPEN.3): the host does not admit it, or what it granted is over
 unfoldable pub admissionAnswer : (admitted : Bool) → (expiry now : ℕ) → HnsrAnswer
 admissionAnswer admitted expiry now = check (not admitted || leb expiry now) (Protocol Admission)
 
--- 10: endpoint is requester, its work or the reservation's at its most
+-- 10 (OPEN.5): it asks for its own peer, or endpoint or reservation take no more
 unfoldable pub endpointAnswer : OpaqueRelayConfig → RelayTicket → (same : Bool)
     → (work reservationWork : ℕ) → HnsrAnswer
 endpointAnswer c t same work under =
     check (same || leb (c .«maximum_circuits_per_peer») work || leb (t .«max_active_circuits») under) Capacity
 
--- 12: now plus timeout over 64 bits
+-- 12 (OPEN.8): the deadline does not fit 64 bits
 unfoldable pub deadlineAnswer : OpaqueRelayConfig → (now : ℕ) → HnsrAnswer
 deadlineAnswer c now = check (ltb (top 64) (now + c .«accept_timeout_seconds»)) Deadline
 
--- the smaller of now plus the timeout and the grant's expiry
+-- OPEN.14: the deadline
 abbrev pub deadlineFor : OpaqueRelayConfig → RelayTicket → (now : ℕ) → ℕ
 deadlineFor c t now = min (now + c .«accept_timeout_seconds») (t .«expires_at»)
 
@@ -90,11 +89,11 @@ incomingFor o = record {
 unfoldable pub incomingMessage : Opening → Message
 incomingMessage o = message (o .endpoint) (o .id) opIncoming (o .id) (incomingBytes (incomingFor o)) Incoming
 
--- the pending record and admitted_opens
+-- OPEN.16: a record more, and a count
 unfoldable pub withOpen : World → Opening → World
 withOpen w o = counting countOpen (withPending w (put isPending (pendingAt (o .id)) (pendingFor o) (w .pending)))
 
--- ---- the steps, in the table's order
+-- ---- the steps, in the order of the rows
 abbrev pub openBody : Packet → OpenBody
 openBody q = openFields (q .body)
 
@@ -116,7 +115,7 @@ openAdmitted w q =
     then bodyAnswer (decodeOpen (q .keyValid) (q .body) .result)
     then admissionAnswer (q .admission .admitted) (q .admission .ticket .«expires_at») (q .now)
 
--- the reservation is counted by the OPEN's id; the ledger goes by the grant's
+-- two ids of a reservation: the body's is counted, the grant's is looked up (OPEN.15)
 unfoldable pub openPlaced : World → Packet → Opening → HnsrAnswer
 openPlaced w q o =
     peerAnswer (length (q .admission .endpoint))
@@ -134,7 +133,7 @@ openBooked w o =
     proceed w (usageAnswer (o .ticket) (usageOf (o .ticket .«reservation_id») (w .ledger)))
     (send (withOpen w o) (incomingMessage o))
 
--- ledger records past their expiry have been dropped, and stay dropped if a later check refuses
+-- lapsed ledger records are gone here, and stay gone (OPEN.12)
 unfoldable pub openGranted : World → Packet → Opening → Outcome
 openGranted w q o = proceed w (openPlaced w q o) (openBooked (withLedger w (booked (o .ticket) (w .ledger))) o)
 

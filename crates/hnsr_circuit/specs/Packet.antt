@@ -1,5 +1,4 @@
--- What the host hands over with a packet (document 01, "What the host hands over"), and the circuit that a packet
--- names.
+-- What comes with a packet (HOST.3 to HOST.5), and the circuit that a packet names.
 use Prim.Native.Nat.{ℕ}
 use mathlib.Core.Bool.{Bool, not}
 use mathlib.Core.List.{List}
@@ -16,8 +15,7 @@ use Rattle.hnsr_circuit.specs.declared.records.InflightKind.{InflightKin
 use Rattle.hnsr_circuit.specs.Queue.{Message, message}
 use Rattle.hnsr_circuit.specs.World.{World}
 
--- refused, or a grant: endpoint peer, and of the ticket reservation id, expiry, most active circuits, bytes per
--- circuit, total bytes. Where it is refused the rest means nothing
+-- HOST.5. Where it is refused the rest means nothing
 pub record Admission : Type 0 where
   pub admitted : Bool
   pub endpoint : List ℕ
@@ -48,7 +46,7 @@ circuitIn w id = pick (circuitAt id) noCircuit (w .circuits)
 abbrev pub namedCircuit : World → Packet → RelayCircuit
 namedCircuit w q = circuitIn w (q .context)
 
--- 14: no such circuit; 15: not a side of it
+-- 14, 15 (DATA.2, DATA.3 and their like): no such circuit, or the sender is no side of it
 unfoldable pub circuitAnswer : (found : Bool) → RelayCircuit → HnsrPeerId → HnsrAnswer
 circuitAnswer found c peer = check (not found) UnknownCircuit then check (not (isSide peer c)) WrongPeer
 
@@ -56,6 +54,6 @@ circuitAnswer found c peer = check (not found) UnknownCircuit then check (not (i
 abbrev pub receiver : RelayCircuit → HnsrPeerId → HnsrPeerId
 receiver c peer = peerAt (otherSide (sideOf peer c)) c
 
--- the packet itself, on to the other side: same opcode, context and body
+-- the packet itself, on to the other side, as it came (WINDOW.8, CLOSE.12)
 abbrev pub forwarded : Packet → RelayCircuit → InflightKind → Message
 forwarded q c kind = message (receiver c (sender q)) (q .context) (q .opcode) (q .context) (q .body) kind

@@ -1,4 +1,4 @@
--- A peer is 1 to 128 bytes; a stored length over 128 reads as 128 (document 01, "What the host hands over").
+-- Names (HOST.1, HOST.2), and how a stored one is read (TAB.9).
 -- The limit is the one constant from which the words of a peer, of a route and the outputs needed follow (Route,
 -- Entry).
 use Prim.Native.Nat.{ℕ, min}

@@ -80,11 +80,11 @@ endpointNames peer context p = samePeer (p .endpoint) peer && eqb (p .«circuit_
 unfoldable pub requestedBy : HnsrPeerId → (context : ℕ) → RelayPending → Bool
 requestedBy peer context p = p .used && requesterNames peer context p
 
--- the requester names it by its own context and the endpoint by circuit id
+-- CLOSE.9: by what number each side names it
 unfoldable pub namedBy : HnsrPeerId → (context : ℕ) → RelayPending → Bool
 namedBy peer context p = p .used && (requesterNames peer context p || endpointNames peer context p)
 
--- deadline or expiry not after now
+-- it is too late for it (ACCEPT.3, EXPIRE.4)
 abbrev pub overdue : (now : ℕ) → RelayPending → Bool
 overdue now p = leb (p .deadline) now || leb (p .ticket .«expires_at») now
 

@@ -1,5 +1,5 @@
--- Queueing: a message becomes a route and an outstanding action (document 01, "Where a call is turned away", last row).
--- The last step of a call sends, and can be refused; a revocation tells, and skips silently what cannot be sent.
+-- Queueing (QUEUE.1 to QUEUE.10): a message becomes a route and an outstanding action.
+-- The last step of a call sends, and can be refused; a revocation tells, and leaves out what cannot be sent.
 use Prim.Native.Nat.{ℕ, _+_}
 use mathlib.Core.Bool.{Bool, true, false}
 use mathlib.Core.List.{List, [], _∷_, _++_}
@@ -46,8 +46,8 @@ message destination circuit opcode context body kind = record {
   bytes = 0;
 }
 
--- ---- any queueing: 1 `HnsrPacket::new` refuses the made message; 10 actions; 6 sequence at 2^64 − 1. A made body is
--- never too large, so of what `HnsrPacket::new` refuses only the zero context is left
+-- ---- 1, 10, 6 (QUEUE.6). A made body is never too large, so of what `HnsrPacket::new` refuses only the zero context
+-- is left
 unfoldable pub queueAnswer : OpaqueRelayConfig → InflightTally → (sequence context : ℕ) → HnsrAnswer
 queueAnswer c t sequence context =
     check (eqb context 0) (Protocol (Invalid ContextZero))
@@ -91,7 +91,7 @@ queued m w =
 abbrev pub routed : Message → World → Route
 routed m w = routeFor m (generationOf w) (sequenceOf w)
 
--- ---- the last step of a call: everything earlier in the step stays, also if the message is refused
+-- ---- the last step of a call (QUEUE.7): what it has written stays, also if the message is refused
 unfoldable pub send : World → Message → Outcome
 send w m = proceed w (canQueue m w) (done (queued m w) (routed m w ∷ []))
 
@@ -114,7 +114,7 @@ when false part w = silently w
 abbrev pub finished : Sent → Outcome
 finished s = done (s .world) (s .routes)
 
--- a message that cannot be formed, or finds no capacity or no sequence number, is skipped silently
+-- QUEUE.8: what cannot be queued is left out
 unfoldable pub tellIf : HnsrAnswer → Message → World → Sent
 tellIf Taken m w = record { world = queued m w; routes = routed m w ∷ [] }
 tellIf (Refused e) m w = silently w

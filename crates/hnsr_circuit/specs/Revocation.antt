@@ -1,6 +1,5 @@
--- The end of a record, and revocation (document 01, "Down through the call"): it ends the record, drops its actions,
--- then tells both sides.
--- A walk revokes what has a property, by ascending id, each record at its place.
+-- The end of a record, and revocation (REVOKE.1 to REVOKE.7).
+-- A walk revokes what has a property, by ascending id, each record at its place (TAB.8).
 use Prim.Native.Nat.{ℕ, zero, suc}
 use mathlib.Core.Bool.{Bool}
 use mathlib.Core.List.{List}
@@ -73,13 +72,13 @@ unfoldable pub closeTo : Notice → HnsrPeerId → (id : ℕ) → Message
 closeTo n peer id = closing peer id opClose id n
 
 -- ---- revocation of the record at a place
--- a pending record revoked gives ERROR to the requester, CLOSE to the endpoint
+-- REVOKE.3: what the sides of a pending record hear
 unfoldable pub revokePending : Notice → World → (place : ℕ) → Sent
 revokePending n w place =
     let p = pendingThere w place in
     andThen (tell (errorToRequester n p) (endPendingThere w place)) (tell (closeToEndpoint n p))
 
--- a circuit revoked sends CLOSE to requester, then endpoint
+-- REVOKE.2: what the sides of a circuit hear
 unfoldable pub revokeCircuitThere : Notice → World → (place : ℕ) → Sent
 revokeCircuitThere n w place =
     let c = circuitThere w place in
@@ -114,7 +113,7 @@ pendingTable w = w .pending
 abbrev pub circuitTable : World → List RelayCircuit
 circuitTable w = w .circuits
 
--- pending records come before circuits
+-- REVOKE.5: both walks, one behind the other
 unfoldable pub revokeAll : (World → ℕ → Sent) → (RelayPending → Bool) → (World → ℕ → Sent) → (RelayCircuit → Bool)
     → World → Outcome
 revokeAll endP p endC c w =

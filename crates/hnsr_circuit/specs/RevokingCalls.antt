@@ -1,4 +1,4 @@
--- The revoking calls: disconnect, revoke_reservation, expire, replace_enabled (document 01, "Down through the call").
+-- The revoking calls: disconnect (DISC), revoke_reservation (RES), expire (EXPIRE), replace_enabled (SWITCH).
 use Prim.Native.Nat.{ℕ}
 use mathlib.Core.Bool.{Bool, true, false, cond, not, _&&_, Bool·beq}
 use mathlib.Core.List.{List, []}
@@ -27,11 +27,11 @@ use Rattle.hnsr_circuit.specs.Revocation.{endPendingThere, closeToReques
 use Rattle.hnsr_circuit.specs.Revocation.{pendingThere, revokePending, revokeCircuitThere, revokeAll}
 use Rattle.hnsr_circuit.specs.Acknowledge.{generationAnswer}
 
--- ---- disconnect: first drops every action toward that peer, then revokes the records it is a side of
+-- ---- disconnect (DISC.1 to DISC.5)
 abbrev pub withoutActionsToward : World → HnsrPeerId → World
 withoutActionsToward w peer = withInflight w (dropped (actionToward peer) (w .inflight))
 
--- on disconnect only the other peer of a pending record hears, by CLOSE
+-- DISC.4: of a pending record, the peer that is left
 unfoldable pub closeToOther : HnsrPeerId → RelayPending → Message
 closeToOther peer p =
     cond (samePeer (p .requester) peer) (closeToEndpoint PeerDisconnected p) (closeToRequester PeerDisconnected p)
@@ -48,7 +48,7 @@ unfoldable pub disconnect : World → (peer : List ℕ) → (room : ℕ) → Out
 disconnect w peer room =
     proceed w (roomAnswer w room (revokingWords w) then peerAnswer (length peer)) (disconnectPeer w (peerOf peer))
 
--- ---- revoking a reservation revokes the records that store its id and removes its ledger record
+-- ---- revoke_reservation (RES.1 to RES.3)
 abbrev pub withoutUsage : World → ReservationId → World
 withoutUsage w id = withLedger w (edit (usageAt id) clearUsage (w .ledger))
 
@@ -60,8 +60,7 @@ revokeUnder w id =
 unfoldable pub revokeReservation : World → ReservationId → (room : ℕ) → Outcome
 revokeReservation w id room = proceed w (roomAnswer w room (revokingWords w)) (revokeUnder w id)
 
--- ---- expire drops ledger records as OPEN does, then revokes pending records whose deadline or expiry, and circuits
--- whose expiry, is not after now
+-- ---- expire (EXPIRE.1 to EXPIRE.4)
 abbrev pub withoutLapsed : World → (now : ℕ) → World
 withoutLapsed w now = withLedger w (lapsed now (w .ledger))
 
@@ -75,12 +74,11 @@ expire w now room =
     proceed w (roomAnswer w room (revokingWords w) then clockAnswer (w .runtime .«trusted_time_high_water») now)
     (expireAt w now)
 
--- ---- replace_enabled: a changed enabled state raises the generation, drops every action, sets the sequence to 1 and,
--- if off, revokes all; the same state changes nothing
+-- ---- replace_enabled (SWITCH.1 to SWITCH.7)
 abbrev pub changes : World → Bool → Bool
 changes w on = not (Bool·beq (w .runtime .enabled) on)
 
--- 6: generation at 2^64 − 1 and the state would change
+-- 6 (SWITCH.2): a switch without a generation left
 unfoldable pub changeAnswer : (generation : ℕ) → (changes : Bool) → HnsrAnswer
 changeAnswer generation changes = check (changes && eqb generation (top 64)) GenerationExhausted
 

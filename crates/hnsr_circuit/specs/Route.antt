@@ -1,4 +1,4 @@
--- A queued route and its output words (document 01, "Output words").
+-- A queued route and its output words (OUT.3 to OUT.6).
 use Prim.Native.Nat.{ℕ, _+_, _*_}
 use mathlib.Core.List.{List, [], _∷_, _++_}
 use lib.ListN.{length, drop}
@@ -29,17 +29,17 @@ addressWords = 1 + 2 + 2 + nameWords
 abbrev pub headWords : ℕ
 headWords = addressWords + 1 + 2
 
--- ---- which words: a kind word's top four bits are its kind
+-- ---- which words: the four highest bits of a word that begins a part are its kind
 abbrev pub kindWord : (kind rest : ℕ) → ℕ
 kindWord kind rest = kind * 268435456 + rest
 
--- kind 1 with peer length in the low 8 bits; generation, sequence (high word first); the words of the peer, zero padded
+-- the address: kind and the name's length; generation, sequence; the name
 unfoldable pub peerWords : Route → List ℕ
 peerWords r =
     kindWord 1 (peerLength (r .destination))
     ∷ (highLow (r .generation) ++ highLow (r .sequence) ++ wordsOf nameWords (peerBytes (r .destination)))
 
--- kind 2 with opcode in bits 16 to 23 and body length in bits 0 to 15; 2 words of context; body
+-- the packet: kind, opcode and the body's length; the context; the body
 unfoldable pub packetWords : Route → List ℕ
 packetWords r = kindWord 2 (r .opcode * 65536 + length (r .body)) ∷ (words (beBytes 8 (r .context)) ++ words (r .body))
 

@@ -1,6 +1,4 @@
--- The runtime with one part replaced, and the counters (document 01, "Down through the call": opened_circuits counts
--- ACCEPTs, bytes_sent and bytes_received the bytes of each DATA, revoked_work every other end of a pending record or
--- circuit).
+-- The runtime with one part replaced (HOST.8), and the counters (COUNT.1 to COUNT.5).
 use Prim.Native.Nat.{ℕ, _+_}
 use mathlib.Core.Bool.{Bool, true, false}
 use mathlib.Core.List.{List, replicate}
@@ -78,7 +76,7 @@ abbrev pub withCounters : OpaqueRelayRuntime → RuntimeCounters → OpaqueRelay
 withCounters h c =
     runtimeWith h (h .generation) (h .enabled) (h .«trusted_time_high_water») (h .«next_action_sequence») c
 
--- a changed enabled state raises the generation and sets the sequence to 1
+-- SWITCH.4: a new generation, numbered from 1
 abbrev pub withEnabled : OpaqueRelayRuntime → Bool → OpaqueRelayRuntime
 withEnabled h on = runtimeWith h (h .generation + 1) on (h .«trusted_time_high_water») 1 (h .counters)
 

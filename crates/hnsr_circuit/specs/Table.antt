@@ -1,16 +1,14 @@
--- A table as it is lent (document 01, "What the host hands over"): a list of records with used marks, over any record
--- type.
+-- A table as it is lent (TAB): a list of records, each with its mark, over any record type.
 -- A question p is a Bool test on a record, the used mark among what it tests. Every table of the machine is read and
 -- changed by these alone, and their laws are proved once (Totals, Lookups, Marks, Walks; Folds joins them to the loops
 -- of code):
---     any p, pick p d    whether a record has p; the record at the lowest place that has it, else d: a lookup takes the
---                        lowest
+--     any p, pick p d    whether a record has p; the record at the lowest place that has it, else d (TAB.4)
 --     placeOf p          that lowest place, else the number of places
---     count p, total f   how many records have p; the sum of f: a count takes all
---     put used p r       r replaces what the lookup of p finds, else takes the lowest unused place
+--     count p, total f   how many records have p; the sum of f (TAB.5)
+--     put used p r       r in the place that a lookup of p finds, or else in the first that is free (TAB.6)
 --     edit p g           the record that the lookup of p finds, changed by g
---     clear unmark p     the mark cleared of every record that has p, and nothing else
---     next id p c        of the records with p above the cursor c the one with the least (id, place): a turn of a walk
+--     clear unmark p     the mark cleared of every record that has p, and nothing else (TAB.7)
+--     next id p c        of the records with p above the cursor c the one with the least (id, place) (TAB.8)
 use Prim.Native.Nat.{ℕ, suc}
 use mathlib.Core.Bool.{Bool, true, false, cond, not, _&&_, _||_}
 use mathlib.Core.List.{List, [], _∷_, map}

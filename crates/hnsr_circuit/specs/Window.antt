@@ -1,5 +1,4 @@
--- WINDOW: raises the other side's credit (document 01, "Down through the call"). If it is refused with 6, the credit
--- stays raised.
+-- WINDOW (WINDOW.1 to WINDOW.8). If it is refused with 6, the credit stays raised (WINDOW.6).
 use Prim.Native.Nat.{ℕ, _+_}
 use mathlib.Core.Bool.{false}
 use lib.Dec.{ltb}
@@ -19,14 +18,14 @@ use Rattle.hnsr_circuit.specs.Queue.{send}
 use Rattle.hnsr_circuit.specs.Packet.{Packet, sender, hasCircuit, namedCircuit}
 use Rattle.hnsr_circuit.specs.Packet.{circuitAnswer, receiver, forwarded}
 
--- 17: credit would pass 1,048,576
+-- 17 (WINDOW.5): the credit would get too large
 unfoldable pub creditAnswer : RelayCircuit → RelaySide → (delta : ℕ) → HnsrAnswer
 creditAnswer c side delta = check (ltb mostWindow (creditOf (otherSide side) c + delta)) FlowControl
 
 unfoldable pub withWindow : World → (id : ℕ) → RelaySide → (delta : ℕ) → World
 withWindow w id side delta = withCircuits w (edit (circuitAt id) (raised side delta) (w .circuits))
 
--- ---- the steps, in the table's order
+-- ---- the steps, in the order of the rows
 unfoldable pub windowTaken : World → Packet → RelayCircuit → RelaySide → (delta : ℕ) → HnsrAnswer
 windowTaken w q c side delta =
     bodyAnswer (decodeWindow (q .body) .result)

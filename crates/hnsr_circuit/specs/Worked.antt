@@ -1,6 +1,6 @@
 -- Every definition open
 pub mod All
--- Document 01's cases
+-- The sixteen cases
 pub mod Cases
 -- Tables as lent
 pub mod LentWorlds

@@ -1,5 +1,4 @@
-// What a call answers (document 01, "Where a call is turned away"). Numbers 1 to 21 follow this order;
-// specs/Answers.antt has them.
+// What a call answers (ANS.1), in the order of the numbers (ANS.5), which specs/Answers.antt has.
 ghost use mathlib.Core.Path.{_≡_};
 ghost use Rattle.hnsr_circuit.specs.Answers.{number, errorNumber, causeOf, noCause};
 ghost use Rattle.hnsr_circuit.specs.Answers.{errorCause, check, bodyAnswer, taken, _then_};
@@ -111,7 +110,7 @@ fn error_cause(error: HnsrRuntimeError) -> Cause
 }
 
 impl HnsrAnswer {
-    // Document 01's number; 0 is taken.
+    // ANS.5; 0 is taken.
     pub fn number(self) -> u32
         ensures { λ r. ⌜ r ≡ number self ⌝ }
     {
@@ -134,7 +133,7 @@ impl HnsrAnswer {
 
 // ---- rows
 
-// A row of the table: a test and its refusal.
+// A row: a test and its refusal.
 pub(crate) fn check(refuse: bool, error: HnsrRuntimeError) -> HnsrAnswer
     ensures { λ r. ⌜ r ≡ check refuse error ⌝ }
 {

@@ -1,4 +1,4 @@
-// The limits of a relay: defaults and ceilings belong to the type (document 01, "Forms to replace").
+// The limits of a relay, each with its default and its bounds (CFG).
 ghost use mathlib.Core.Path.{_≡_};
 ghost use lib.Dec.{leb};
 ghost use Rattle.hnsr_circuit.specs.Config.{withinLimits, configGood, defaultConfig, validateConfig};

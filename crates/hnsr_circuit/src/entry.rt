@@ -1,4 +1,4 @@
-// The rows "entry" and "clock" of document 01's table.
+// Rows that stand in front of calls: 22, 4, 7 (ENTRY), and 5.
 ghost use mathlib.Core.Path.{_≡_};
 ghost use Rattle.hnsr_circuit.specs.Entry.{tooFew, peerAnswer, clockAnswer};
 ghost use Rattle.hnsr_circuit.specs.Acknowledge.{generationAnswer};
@@ -11,7 +11,7 @@ use hns_encoding::logic::both;
 use hns_encoding::logic::either;
 use hns_encoding::logic::no;
 
-// 22: a table shorter than its maximum; the ledger has none.
+// 22 by tables (ENTRY.1); the ledger has no maximum (ENTRY.6).
 pub(crate) fn too_few(
     config: OpaqueRelayConfig,
     pending: usize,
@@ -27,7 +27,7 @@ pub(crate) fn too_few(
     either(records, inflight < config.maximum_inflight_actions)
 }
 
-// 4: peer length
+// 4 (ENTRY.2): a name too short or too long
 pub(crate) fn peer_answer(size: usize) -> HnsrAnswer
     ensures { λ r. ⌜ r ≡ peerAnswer size ⌝ }
 {
@@ -35,14 +35,14 @@ pub(crate) fn peer_answer(size: usize) -> HnsrAnswer
     check(no(good), HnsrRuntimeError::InvalidPeer)
 }
 
-// 7: now behind the high water
+// 7 (ENTRY.4): the time goes back
 pub(crate) fn clock_answer(high: u64, now: u64) -> HnsrAnswer
     ensures { λ r. ⌜ r ≡ clockAnswer high now ⌝ }
 {
     check(now < high, HnsrRuntimeError::ClockRollback)
 }
 
-// acknowledge and replace_enabled, 5: generation
+// 5 (ACK.1, SWITCH.1): another generation is current
 pub(crate) fn generation_answer(current: u64, given: u64) -> HnsrAnswer
     ensures { λ r. ⌜ r ≡ generationAnswer current given ⌝ }
 {

@@ -56,7 +56,7 @@ pub record Sends (h : Past) (j : ℕ) (side : RelaySide) (q : Packet) (room : �
   pub unexpired : q .now < h .known j .expires
   pub words : handleWords ≤ room
 
--- it passes unchanged: taken, one route, to the other side, same opcode, context and body
+-- it passes unchanged (RUN.9)
 pub record Passes (o : Outcome) (h : Past) (j : ℕ) (side : RelaySide) (q : Packet) : Type 0 where
   pub taken : o .answer ≡ Taken
   pub route : Route
@@ -66,7 +66,7 @@ pub record Passes (o : Outcome) (h : Past) (j : ℕ) (side : RelaySide) (q : Pac
   pub context : route .context ≡ q .context
   pub body : route .body ≡ q .body
 
--- a machine: what `new` does to the tables lent to it, and what each other call does to what the one before left
+-- a machine: what `new` does to the tables lent to it, and what each other call does to what it finds
 pub record Machine : Type 0 where
   pub new : World → Start → Outcome
   pub step : World → Call → Outcome
@@ -106,8 +106,7 @@ module _ (step : World → Call → Outcome) where
         × (length (q .body) ≤ circuitLeft (h .known j))
         × (length (q .body) ≤ totalLeft (h .book) (h .known j))))
 
--- a run of a machine: tables lent, a taken `new`, any list of the other calls, each given what the one before left; all
--- limits below 2^64 − 1
+-- a run of a machine (RUN.1): tables lent, a taken `new`, and calls; all limits below 2^64 − 1 (RUN.11)
 pub record Run (m : Machine) : Type 0 where
   pub lent : World
   pub began : Start

@@ -1,7 +1,6 @@
--- What each event changes (document 01, "Reckoned from history" and the two paragraphs after it; the rules of "Down
--- through the call"), and what the whole list of events tells. What a call ends or drops is document 01's rule applied
--- to what is known; what a refused call left behind shows in its number; what a route is about follows from the call
--- and the route's words (`Words.words-alone`).
+-- What each event changes (RUN.3 to RUN.8), and what the whole list of events tells. What a call ends or drops is its
+-- rule applied to what is known; what a refused call left behind shows in its number; what a route is about follows
+-- from the call and the route's words (`Words.words-alone`).
 use Prim.Native.Nat.{ℕ, _+_, min}
 use mathlib.Core.Bool.{Bool, true, false, cond, not, _&&_, _||_, Bool·beq}
 use mathlib.Core.List.{List, [], _∷_, _++_, map}
@@ -82,8 +81,8 @@ knownSide p k = samePeer (k .requester) p || samePeer (k .endpoint) p
 abbrev pub sideIn : HnsrPeerId → Known → RelaySide
 sideIn p k = cond (samePeer (k .requester) p) Requester Endpoint
 
--- ---- OPEN: the id is the one that document 01's rule draws, of those that neither stand nor are active; refused with
--- 18 it has made the missing ledger record
+-- ---- OPEN: the id is the one that is drawn of those that neither stand nor are active, and a refusal with 18 has made
+-- the missing ledger record (RUN.14)
 abbrev pub drawnIn : Past → Packet → ℕ
 drawnIn h q = drawAll (λ j. h .opens .standing j || h .active j) undrawn (draws (q .random)) .id
 
@@ -103,7 +102,7 @@ openIn q a rs h =
     (emit (stood (withBook h b) (drawnIn h q) (askedFor (h .head .config) q)) (heard (λ r. drawnIn h q)) rs)
     (cond (refusedBy ByteLimit a) (withBook h b) h)
 
--- ---- ACCEPT: the pending's actions are dropped, and the circuit is active
+-- ---- ACCEPT (ACCEPT.9): the OPEN ends, and the circuit is active
 abbrev pub startedBy : OpaqueRelayConfig → Asked → (window : ℕ) → Known
 startedBy c k window = starting k (min (k .ticket .«max_bytes_per_circuit») (c .«maximum_bytes_per_circuit»)) window
 
@@ -147,7 +146,7 @@ windowIn q a rs h =
     (cond (knownSide (sender q) k) (granted (sideIn (sender q) k) (windowFields (q .body) .«credit_delta») k) k))
     (heard (λ r. j)) rs) h
 
--- ---- CLOSE, ERROR: the OPEN that the requester names by its own context, or the endpoint by id; else the circuit
+-- ---- CLOSE, ERROR: the OPEN that the sender names (CLOSE.9); else the circuit
 abbrev pub byContext : Past → HnsrPeerId → ℕ → Bool
 byContext h p x =
     let k = h .opens .asked (h .opens .named p x) in
@@ -169,8 +168,8 @@ abbrev pub closeIn : Packet → HnsrAnswer → List Route → Past → Past
 closeIn q a rs h =
     cond (ends a) (emit (endIn (sender q) (q .context) h) (heard (λ r. endedBy (sender q) (q .context) h)) rs) h
 
--- ---- acknowledge: removes the action. Undelivered: Incoming ends the OPEN, other actions staying; Opened, Data,
--- Control the circuit; Close, or a record no longer there, nothing
+-- ---- acknowledge: the action goes (ACK.3). What was not delivered ends an OPEN and no other action (ACK.6), or a
+-- circuit (ACK.8), or nothing (ACK.9)
 abbrev pub failedIn : Action → Past → Past
 failedIn x h =
     cond (eqb (x .kind) (kindNumber Incoming)) (cond (h .opens .standing (x .circuit)) (unstood h (x .circuit)) h)
@@ -201,8 +200,8 @@ revoked h qo qc told =
 abbrev pub about : Past → Route → ℕ
 about h r = cond (eqb (r .opcode) opError) (h .opens .named (r .destination) (r .context)) (r .context)
 
--- ---- what a disconnect of p says: of an OPEN only the other peer hears, by CLOSE, and a requester under its own
--- context. So one number can be a context and an id: a peer has an OPEN toward p under the number of another record
+-- ---- what a disconnect of p says: of an OPEN the one that is left hears CLOSE, a requester under its own context
+-- (DISC.4). So one number can be a context and an id: a peer has an OPEN toward p under the number of another record
 -- that it shares with p
 abbrev pub ownOpen : Past → HnsrPeerId → Route → Bool
 ownOpen h p r =
@@ -267,8 +266,7 @@ everyOpen k = true
 abbrev pub everyCircuit : Known → Bool
 everyCircuit k = true
 
--- a changed enabled state raises the generation, starts the sequence at 1, drops every action and, if off, revokes all;
--- the same state changes nothing
+-- replace_enabled (SWITCH.3 to SWITCH.6)
 abbrev pub switchedTo : Past → Bool → Past
 switchedTo h on = let d = h .head in withOut (withHead h (headAt d (d .generation + 1) on (d .clock) 1)) []
 
@@ -279,7 +277,7 @@ enableIn on rs h =
     (emit (switchedTo h on) (heard (λ r. r .context)) rs)
     (revoked (switchedTo h on) everyOpen everyCircuit (map (heard (about h)) rs)))
 
--- ---- handle: entry and clock; from here the clock has moved; then the gate, and the opcode picks the handling
+-- ---- handle: entry and clock, which then has moved; the gate; and by the opcode (HANDLE.1 to HANDLE.4)
 abbrev pub entered : Past → Packet → (room : ℕ) → HnsrAnswer
 entered h q room =
     (check (ltb room handleWords) Short

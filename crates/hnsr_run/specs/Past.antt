@@ -57,7 +57,7 @@ pub record Opens : Type 0 where
   pub named : HnsrPeerId → ℕ → ℕ
   pub ids : List ℕ
 
--- reservations: whether an OPEN made the ledger record, its expiry, and the DATA taken under its id since then
+-- reservations (RUN.6): whether an OPEN made the ledger record, its expiry, and the DATA since then
 pub record Book : Type 0 where
   pub made : ReservationId → Bool
   pub due : ReservationId → ℕ
@@ -97,18 +97,17 @@ at j v g i = cond (eqb j i) v (g i)
 abbrev pub under : {B : Type 0} → ReservationId → B → (ReservationId → B) → ReservationId → B
 under r v g i = cond (sameReservation r i) v (g i)
 
--- ---- what is reckoned (document 01, "Reckoned from history")
--- a side's credit is the accepted window plus WINDOW taken from the other side less DATA taken from it
+-- ---- what is reckoned
+-- RUN.4: what a side may still send
 abbrev pub credit : RelaySide → Known → ℕ
 credit Requester k = k .window + k .windowE - k .dataR
 credit Endpoint k = k .window + k .windowR - k .dataE
 
--- a circuit's bytes are its DATA taken; left is the circuit's own limit less these
+-- RUN.5: what the circuit has left
 abbrev pub circuitLeft : Known → ℕ
 circuitLeft k = k .limit - k .bytes
 
--- the circuit's own total less all DATA taken under the reservation's id since the OPEN that last made its ledger
--- record
+-- RUN.6: what the reservation has left, for this circuit
 abbrev pub totalLeft : Book → Known → ℕ
 totalLeft b k = k .total - b .spent (k .reservation)
 
@@ -142,7 +141,7 @@ abbrev pub tally : ℕ → HnsrPeerId → List Action → InflightTally
 tally j peer out =
     record { total = length out; «for_circuit» = count (onCircuit j) out; «for_peer» = count (toward peer) out }
 
--- an action's kind is its message's name, but Control for WINDOW and Close for CLOSE and ERROR
+-- QUEUE.2: the kind by the opcode
 abbrev pub kindFor : (opcode : ℕ) → ℕ
 kindFor n =
     cond (eqb n opIncoming) (kindNumber Incoming)

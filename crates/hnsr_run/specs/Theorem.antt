@@ -39,7 +39,7 @@ use Rattle.hnsr_run.specs.Run.AllAcknowledged.{acknowledge-all}
 use Rattle.hnsr_run.specs.Run.Entering.{is-data}
 use Rattle.hnsr_run.specs.Run.Passing.{only-if, if}
 
--- the machine of document 01
+-- the machine of the definition
 abbrev pub relay : Machine
 relay = record { new = start; step = step }
 

@@ -1,4 +1,4 @@
-//! The sixteen cases of document 01. Prints its table and fails where an answer differs.
+//! The sixteen cases (CASE.1, CASE.2), by the Rust. Prints their table and fails where an answer differs.
 use lekchnam_host::HnsrOpcode;
 use lekchnam_host::limits::HEAD_WORDS;
 use lekchnam_traces::words::words;
@@ -128,7 +128,7 @@ fn main() {
         wrong += u32::from(answer != table[number as usize - 1]);
     }
     if wrong > 0 {
-        eprintln!("{wrong} differ from document 01");
+        eprintln!("{wrong} differ from the table");
         std::process::exit(1);
     }
 }

@@ -27,16 +27,16 @@ fn ensure(holds: bool, wrong: &str) -> Checked {
     if holds { Ok(()) } else { Err(wrong.to_owned()) }
 }
 
-/// "Output is untouched by every refusal." "Words beyond stay." And no more words are written than document 01 says.
+/// ANS.3, OUT.6, and no more words are written than OUT.8 asks for.
 fn output(case: &Case, left: &Left) -> Checked {
     let written = left.answer.unwrap_or(0);
     let needed = case.call.words_needed(case.world.records());
-    ensure(written <= needed.min(case.out.len()), "more words are written than document 01 says")?;
+    ensure(written <= needed.min(case.out.len()), "more words are written than OUT.8 asks for")?;
     ensure(left.out[written..] == case.out[written..], "the output is touched beyond the words that are written")
 }
 
 /// The answer, its cause, every word, the runtime and every record of a used place are those of the second reading. So
-/// a refusal leaves what document 01's table says: "State too, except where marked."
+/// a refusal leaves what ANS.4 lets it leave.
 fn as_read(case: &Case, left: &Left) -> Checked {
     let mut world = case.world.clone();
     let read = world.call(&case.call, case.out.len());
@@ -95,8 +95,7 @@ fn again(case: &Case, left: &Left) -> Checked {
     ensure(case.made() == *left, "the same call on a copy gives something else")
 }
 
-/// "Lent tables are read as found", by their marks below the numbers: what unused places hold changes nothing, nor
-/// does a mark at or above a number.
+/// TAB.1, TAB.3: what unused places hold changes nothing, nor does a mark at or above a number.
 fn unused_places(case: &Case, left: &Left, rng: &mut Rng) -> Checked {
     let other =
         Case { world: case.world.with_other_unused_places(rng), call: case.call.clone(), out: case.out.clone() }.made();
@@ -104,7 +103,7 @@ fn unused_places(case: &Case, left: &Left, rng: &mut Rng) -> Checked {
     ensure(same, "what unused places hold makes a difference")
 }
 
-/// "a peer length over 128 reads as 128", and what stands behind a name is not read.
+/// TAB.9: a length over 128 is read as 128, and what stands behind a name is not read.
 fn behind_names(case: &Case, left: &Left, rng: &mut Rng) -> Checked {
     let mut world = case.world.clone();
     for name in names(&mut world.tables) {

@@ -16,7 +16,7 @@ pub struct Left {
 }
 
 impl Left {
-    /// Document 01's number.
+    /// The number (ANS.5).
     pub fn number(&self) -> u8 {
         self.answer.err().map_or(0, |refused| refused.number() as u8)
     }

@@ -40,14 +40,14 @@ impl World {
             circuit: id,
             opcode: HnsrOpcode::Opened,
             context: p.requester_context,
-            // "OPENED 28: circuit 8, then ACCEPT."
+            // The body of OPENED (BODY.9).
             body: [&id.to_be_bytes()[..], packet.body].concat(),
             kind: Kind::Opened,
             to_endpoint: false,
         })
     }
 
-    /// "14; 15": no such circuit, or the sender is no side of it.
+    /// 14 and 15: no such circuit, or the sender is no side of it.
     fn named_circuit(&self, packet: &Packet<'_>) -> Result<Named, Refused> {
         let found = lowest(&self.tables, |c: &RelayCircuit| c.circuit_id == packet.context);
         let place = found.ok_or(Refused::UnknownCircuit)?;
@@ -63,7 +63,7 @@ impl World {
         if named.by_requester { circuit.endpoint } else { circuit.requester }
     }
 
-    /// "Charges the sender's credit, circuit bytes, ledger and the queue toward the other side."
+    /// DATA.
     pub(super) fn data(&mut self, packet: &Packet<'_>) -> Outcome {
         DataBody::decode(packet.body)?;
         let named = self.named_circuit(packet)?;
@@ -91,7 +91,7 @@ impl World {
         self.queue(Message { to_endpoint: named.by_requester, ..forwarded(packet, receiver, Kind::Data) })
     }
 
-    /// "Raises the other side's credit."
+    /// WINDOW.
     pub(super) fn window(&mut self, packet: &Packet<'_>) -> Outcome {
         let body = WindowBody::decode(packet.body)?;
         let named = self.named_circuit(packet)?;
@@ -105,8 +105,7 @@ impl World {
         self.queue(forwarded(packet, receiver, Kind::Control))
     }
 
-    /// "End a pending record, which the requester names by its own context and the endpoint by circuit id (context
-    /// translated), or a circuit; its actions are dropped."
+    /// CLOSE and ERROR (CLOSE).
     pub(super) fn close(&mut self, packet: &Packet<'_>) -> Outcome {
         CloseBody::decode(packet.body)?;
         let source = named(packet.source)?;
@@ -131,8 +130,7 @@ impl World {
     }
 }
 
-/// "the circuit starts with both credits at the accepted window and its byte limit at the smaller of the
-/// grant's and the configuration's".
+/// ACCEPT.10: the circuit as it begins.
 fn started(p: &RelayPending, window: u32, most_bytes: u64) -> RelayCircuit {
     RelayCircuit {
         used: true,

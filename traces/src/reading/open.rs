@@ -7,7 +7,7 @@ use lekchnam_host::HnsrOpcode;
 use lekchnam_host::body::{OpenBody, ProtocolError};
 use lekchnam_host::lent::{RelayCircuit, RelayPending, ReservationId, ReservationUsage, StoredPeer};
 
-/// "8 in a row refuse"; "one of 8 candidates".
+/// How many zeros, and how many taken ids, end a drawing (DRAW.2, DRAW.3).
 const MOST_DRAWS: usize = 8;
 
 impl World {
@@ -43,7 +43,7 @@ impl World {
         self.queue(incoming(&record, &body))
     }
 
-    /// "10 pending or circuits full, requester's work at its most, same requester and context pending".
+    /// 10 (OPEN.1): no more fit for the relay or for the requester, or it is pending already.
     fn open_room(&self, requester: &StoredPeer, context: u64) -> Result<(), Refused> {
         let (config, tables) = (&self.runtime.config, &self.tables);
         let repeated = |p: &RelayPending| same(&p.requester, requester) && p.requester_context == context;
@@ -67,8 +67,7 @@ impl World {
         pending + count(&self.tables, |c: &RelayCircuit| c.reservation_id == id)
     }
 
-    /// "An all-zero draw is drawn again, 8 in a row refuse. A draw that is already a pending or circuit id counts as
-    /// one of 8 candidates. Running out refuses; a tail under eight is ignored."
+    /// DRAW.1 to DRAW.5.
     fn drawn(&self, random: &[u8]) -> Option<u64> {
         let (mut zeros, mut candidates) = (0, 0);
         for draw in random.chunks_exact(8) {
@@ -87,8 +86,7 @@ impl World {
         None
     }
 
-    /// "23 ledger full and record missing"; "A missing ledger record is made before the ByteLimit test and stays";
-    /// "18 expiry differs or bytes used up".
+    /// 23 (OPEN.9); the ledger record, made if it is missing (OPEN.16); 18 (OPEN.10).
     fn book(&mut self, grant: &Grant) -> Result<(), Refused> {
         let id = ReservationId::from(grant.reservation_id);
         let tables = &mut self.tables;
@@ -106,7 +104,7 @@ impl World {
     }
 }
 
-/// "INCOMING 62: ticket 32, request 8, profile 2, nonce 16, window 4."
+/// The body of INCOMING (BODY.7).
 fn incoming(record: &RelayPending, open: &OpenBody) -> Message {
     let (request, profile, window) =
         (record.requester_context.to_be_bytes(), open.profile.to_le_bytes(), open.initial_window.to_le_bytes());

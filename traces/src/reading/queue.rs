@@ -5,7 +5,7 @@ use lekchnam_host::HnsrOpcode;
 use lekchnam_host::body::{Invalid, ProtocolError};
 use lekchnam_host::lent::{InflightAction, StoredPeer};
 
-/// "An action's kind is its message's name, but Control for WINDOW and Close for CLOSE and ERROR."
+/// QUEUE.2: the kind by the opcode.
 #[derive(Clone, Copy)]
 pub enum Kind {
     Incoming = 0,
@@ -36,7 +36,7 @@ pub struct Message {
 }
 
 impl World {
-    /// "10 actions": in all, about the circuit and toward the peer. ACCEPT does not count those that it drops.
+    /// QUEUE.5: in all, about the circuit and toward the peer. ACCEPT does not count those that it drops (ACCEPT.6).
     pub(super) fn action_room(&self, circuit: u64, peer: &StoredPeer, dropped: Option<u64>) -> Result<(), Refused> {
         let (config, tables) = (&self.runtime.config, &self.tables);
         let stays = |action: &InflightAction| dropped != Some(action.circuit_id);
@@ -49,8 +49,7 @@ impl World {
         refuse(full, Refused::Capacity)
     }
 
-    /// "1 `HnsrPacket::new` refuses the made message (before a 10 that follows an ended
-    /// record); 6 sequence at 2^64 − 1".
+    /// 1, 10, 6 (QUEUE.6): no context, no room, no number.
     pub(super) fn queue(&mut self, message: Message) -> Outcome {
         refuse(message.context == 0, ProtocolError::Invalid(Invalid::ContextZero).into())?;
         self.action_room(message.circuit, &message.destination, None)?;
@@ -83,7 +82,7 @@ impl World {
         }])
     }
 
-    /// "A message that cannot be formed, or finds no capacity or no sequence number, is skipped silently."
+    /// QUEUE.8: what cannot be queued is left out.
     pub(super) fn tell(&mut self, message: Message) -> Vec<Route> {
         self.queue(message).unwrap_or_default()
     }

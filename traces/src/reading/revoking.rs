@@ -5,7 +5,7 @@ use super::{Outcome, Refused, Route, World, named, refuse, same};
 use lekchnam_host::HnsrOpcode;
 use lekchnam_host::lent::{InflightAction, RelayCircuit, RelayPending, ReservationId, ReservationUsage, StoredPeer};
 
-/// "Reason and detail are constants".
+/// The relay's own messages (NOTICE.1 to NOTICE.7).
 type Notice = (u16, &'static str);
 
 const PEER_DISCONNECTED: Notice = (11, "outer peer disconnected");
@@ -56,15 +56,14 @@ impl World {
         self.count_revoked();
     }
 
-    /// "A pending record revoked gives ERROR to the requester, CLOSE to the endpoint".
+    /// REVOKE.3: what the sides of a pending record hear.
     fn revoke_pending(&mut self, place: usize, why: Notice) -> Vec<Route> {
         let p = self.tables.pending[place];
         self.end_pending(place);
         [self.tell(to_requester(&p, HnsrOpcode::Error, why)), self.tell(close_to_endpoint(&p, why))].concat()
     }
 
-    /// "Revocation ends the record, drops its actions, then sends CLOSE to requester, then endpoint, also to
-    /// a peer that just disconnected."
+    /// A circuit is ended and its sides are told (REVOKE.1, REVOKE.2).
     fn revoke_circuit_there(&mut self, place: usize, why: Notice) -> Vec<Route> {
         let c = self.tables.circuits[place];
         self.end_circuit(place);
@@ -79,7 +78,7 @@ impl World {
         found.map_or_else(Vec::new, |place| self.revoke_circuit_there(place, why))
     }
 
-    /// "on disconnect only the other peer hears, by CLOSE".
+    /// DISC.4: of a pending record, the peer that is left.
     fn disconnect_pending(&mut self, place: usize, peer: &StoredPeer) -> Vec<Route> {
         let p = self.tables.pending[place];
         self.end_pending(place);
@@ -90,7 +89,7 @@ impl World {
         self.tell(close)
     }
 
-    /// By ascending id, those that have the property, each at its place. "Pending records come before circuits."
+    /// By ascending id, those that have the property, each at its place (REVOKE.5).
     fn revoke_all(
         &mut self,
         pending: impl Fn(&RelayPending) -> bool,
@@ -112,7 +111,7 @@ impl World {
         routes
     }
 
-    /// "Disconnect first drops every action toward that peer, then revokes the records it is a side of."
+    /// `disconnect` (DISC).
     pub(super) fn disconnect(&mut self, peer: &[u8]) -> Outcome {
         let peer = named(peer)?;
         drop_all(&mut self.tables, |action: &InflightAction| same(&action.destination, &peer));
@@ -124,7 +123,7 @@ impl World {
         ))
     }
 
-    /// "Revoking a reservation revokes the records that store its id and removes its ledger record."
+    /// `revoke_reservation` (RES).
     pub(super) fn revoke_reservation(&mut self, id: ReservationId) -> Vec<Route> {
         if let Some(place) = lowest(&self.tables, |usage: &ReservationUsage| usage.reservation_id == id) {
             self.tables.ledger[place].used = false;
@@ -137,8 +136,7 @@ impl World {
         )
     }
 
-    /// "Expire drops ledger records as OPEN does, then revokes pending records whose deadline or expiry, and circuits
-    /// whose expiry, is not after now."
+    /// `expire` (EXPIRE).
     pub(super) fn expire(&mut self, now: u64) -> Outcome {
         self.clock(now)?;
         self.drop_lapsed(now);
@@ -150,8 +148,7 @@ impl World {
         ))
     }
 
-    /// "A changed enabled state raises the generation, drops every action, sets the sequence to 1 and, if off,
-    /// revokes all; the same state changes nothing."
+    /// `replace_enabled` (SWITCH).
     pub(super) fn replace_enabled(&mut self, expected: u64, enabled: bool) -> Outcome {
         refuse(expected != self.runtime.generation, Refused::StaleGeneration)?;
         if enabled == self.runtime.enabled {
@@ -170,7 +167,7 @@ impl World {
         ))
     }
 
-    /// "Removes the action; for Data lowers that one circuit's queued count."
+    /// The action goes, and a Data's bytes leave their queue (ACK.3, ACK.4).
     pub(super) fn acknowledge(&mut self, generation: u64, sequence: u64, delivered: bool) -> Outcome {
         refuse(generation != self.runtime.generation, Refused::StaleGeneration)?;
         let tables = &mut self.tables;
@@ -193,7 +190,7 @@ impl World {
         }
     }
 
-    /// "Incoming ends the pending record, other actions staying, and sends ERROR".
+    /// ACK.6: an INCOMING that was not delivered.
     fn fail_incoming(&mut self, id: u64) -> Outcome {
         let Some(place) = lowest(&self.tables, |p: &RelayPending| p.circuit_id == id) else { return Ok(Vec::new()) };
         let p = self.tables.pending[place];

@@ -1,6 +1,7 @@
-//! "Lent tables are read as found: of used places with one key a lookup takes the lowest, a count takes all".
+//! Tables as they are lent (TAB).
 //!
-//! A place is used exactly if its mark is set and it lies below the number that goes with its table.
+//! A place is used exactly if its mark is set and it lies below the number that goes with its table (TAB.1). A lookup
+//! goes by TAB.4, a count by TAB.5.
 use lekchnam_host::lent::{InflightAction, RelayCircuit, RelayPending, ReservationUsage, Tables};
 
 /// What stands in a place of one of the tables.
@@ -63,8 +64,7 @@ fn unused<R: Record>(tables: &Tables) -> Option<usize> {
     records.iter().enumerate().position(|(place, record)| !record.marked() || place >= number)
 }
 
-/// "A new record replaces the one its lookup finds, else takes the lowest unused place". A
-/// place at the number raises it.
+/// TAB.6. A place at the number raises it.
 pub fn put<R: Record>(tables: &mut Tables, same: impl Fn(&R) -> bool, record: R) {
     let place = lowest(tables, same).or_else(|| unused::<R>(tables)).expect("a limit is reached before the places are");
     let (records, number) = R::table_mut(tables);
@@ -79,7 +79,7 @@ pub fn drop_all<R: Record>(tables: &mut Tables, has: impl Fn(&R) -> bool) {
     records.iter_mut().take(*number).filter(|record| record.marked() && has(record)).for_each(R::unmark);
 }
 
-/// "walks take equal ids by place": the next record with the property above the last that was taken.
+/// TAB.8: the next record with the property above the last that was taken.
 pub fn next<R: Record>(
     tables: &Tables,
     id: impl Fn(&R) -> u64,

@@ -1,6 +1,6 @@
 -- The world, the output and the next output word while a call sends, as the code goes through them: each part of a call
 -- takes one such state to the next. A route that finds no room is not written and counts all the same, so that every
--- state has a next one; where all routes fit, which `routes-fit` proves of every call, the output is document 01's
+-- state has a next one; where all routes fit, which `routes-fit` proves of every call, the output is the definition's
 -- (`Laws.Progress`).
 use Prim.Native.Nat.{ℕ}
 use mathlib.Core.Bool.{false, cond}

@@ -32,7 +32,7 @@ closeOut p = closeOn (p .endpoint) (p .«circuit_id») opClose (p .«circuit_id�
 abbrev pub closeSide : RelayCircuit → HnsrPeerId → Outgoing
 closeSide c side = closeOn side (c .«circuit_id») opClose (c .«circuit_id»)
 
--- on disconnect only the other peer of a pending record hears, by CLOSE
+-- DISC.4: of a pending record, the peer that is left
 abbrev pub otherOut : HnsrPeerId → RelayPending → Outgoing
 otherOut peer p =
     cond (samePeer (p .requester) peer) (closeOut p)

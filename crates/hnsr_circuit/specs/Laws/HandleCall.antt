@@ -36,7 +36,7 @@ use Rattle.hnsr_circuit.specs.Laws.Answers.{then-taken}
 use Rattle.hnsr_circuit.specs.Laws.Queueing.{taken-is}
 use Rattle.hnsr_circuit.specs.Laws.Calls.{gone-on}
 
--- ---- the opcode picks the handling
+-- ---- by opcode
 -- 19 and 20 are closed alike
 pub closes : (n : ℕ) (w : World) (q : Packet) → 19 ≤ n → n < 21 → handleClose w q ≡ dispatch (handlingOf n) w q
 unfolding handlingOf dispatch

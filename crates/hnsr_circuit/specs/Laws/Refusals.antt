@@ -1,5 +1,4 @@
--- "Output is untouched by every refusal" (document 01, "Where a call is turned away"): whatever the world, a call that
--- is refused has no route.
+-- No refusal touches the output (ANS.3): whatever the world, a call that is refused has no route.
 -- An outcome is silent where this holds of it; every way to make one keeps it.
 use Prim.Native.Nat.{ℕ}
 use mathlib.Core.Path.{_≡_, refl}

@@ -1,6 +1,6 @@
--- What a call writes fits the room that it was given (document 01, "Output words"): a refusal writes nothing, and a
--- taken call has asked for as many words as its routes can fill. Here the parts: a message, two closings, a walk that
--- ends one used record at each turn.
+-- What a call writes fits the room that it was given (OUT.9): a refusal writes nothing, and a taken call has asked for
+-- as many words as its routes can fill. Here the parts: a message, two closings, a walk that ends one used record at
+-- each turn.
 --
 use Prim.Native.Nat.{ℕ, zero, suc, _+_, _*_, _≤_, _<_}
 use native.Mathlib.Omega.{arith}

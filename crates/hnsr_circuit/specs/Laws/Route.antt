@@ -1,5 +1,5 @@
--- How many words: a route is its head and its body's, the head is 40 for peers of 128 bytes, and what the calls ask for
--- follows from that (document 01, "Output words"). No notice of the relay's own is longer than was reckoned with.
+-- How many words: a route is its head and its body's (OUT.4), the head is 40 for peers of 128 bytes, and what the calls
+-- ask for follows from that (OUT.8). No notice of the relay's own is longer than was reckoned with.
 use Prim.Native.Nat.{ℕ, _+_, _-_, _≤_, _<_}
 use native.Mathlib.Omega.{arith}
 use borrow.Author.Tests.{le-leb}
@@ -28,7 +28,7 @@ use Rattle.hnsr_circuit.specs.Route.{Route, nameWords, addressWords, hea
 use Rattle.hnsr_circuit.specs.Route.{packetWords, routeWords, outWords, output}
 use Rattle.hnsr_circuit.specs.Entry.{handleWords, acknowledgeWords}
 
--- ---- the numbers of document 01
+-- ---- the numbers of OUT.4 and OUT.8
 pub head-is-40 : headWords ≡ 40
 head-is-40 = refl
 

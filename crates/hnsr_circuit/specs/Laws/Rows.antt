@@ -1,6 +1,5 @@
--- Rows of document 01's table where another row stands in front, over any world: an OPEN or ACCEPT without a context is
--- a 1 and nothing has moved, so the two rows "all written, then 1" are never reached; an opcode from 21 on is a 16 and
--- the clock has moved.
+-- Rows where another row stands in front, over any world: an OPEN or ACCEPT without a context is a 1 and nothing has
+-- moved (OPEN.18, ACCEPT.13); an opcode from 21 on is a 16 and the clock has moved (HANDLE.3).
 use Prim.Native.Nat.{ℕ, _≤_}
 use native.Mathlib.Omega.{arith}
 use mathlib.Core.Path.{_≡_, refl, ap}

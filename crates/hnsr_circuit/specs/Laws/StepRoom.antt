@@ -1,5 +1,5 @@
--- What a call writes fits the room that it was given, whatever the world (document 01, "Output words"): so code that
--- has passed the entry's 22 may write every route.
+-- What a call writes fits the room that it was given, whatever the world (OUT.9): so code that has passed the entry's
+-- 22 may write every route.
 use Prim.Native.Nat.{ℕ, _≤_}
 use native.Mathlib.Omega.{arith}
 use mathlib.Core.Path.{_≡_}

@@ -1,7 +1,4 @@
--- Document 01's sixteen cases as one table, and that the definition gives their last answers ("Sixteen cases").
--- Config default but 2 pending, 2 circuits and 8 for each of the three action limits; opened at 100, expiry 1,000,
--- 20,000 bytes a circuit, total 30,000, windows 32,768, most active circuits 1; each case a new relay, circuit active
--- and requester sending unless said.
+-- The sixteen cases as one table (CASE.1, CASE.2), and that the definition gives their last answers.
 use Prim.Native.Nat.{ℕ}
 use mathlib.Core.Path.{_≡_, refl}
 use mathlib.Core.Bool.{true, false}
@@ -174,7 +171,7 @@ table =
     ∷ record { queue = 16384; calls = active (sends 16384 ∷ delivered ∷ sends 1 ∷ []); answer = 0 }
     ∷ []
 
--- ---- the last answer of each case by the definition, and as document 01 has it
+-- ---- the last answer of each case by the definition, and as the table has it
 unfoldable pub lastAnswer : List Outcome → ℕ
 lastAnswer [] = 0
 lastAnswer (o ∷ []) = number (o .answer)

@@ -1,6 +1,5 @@
--- Tables as a host may lend them (document 01, "What the host hands over"): examples that no trace of the Rust reaches,
--- by computation. Here 22, 23, equal ids and records that replace; the rest is in LentMore. Above each stands what it
--- reads.
+-- Tables as a host may lend them (TAB): examples that no trace of the Rust reaches, by computation. Here 22, 23, equal
+-- ids and records that replace; the rest is in LentMore. Above each stands the rule that it reads.
 use Prim.Native.Nat.{_-_}
 use mathlib.Core.Path.{_≡_, refl}
 use mathlib.Core.Bool.{true, false}
@@ -26,7 +25,7 @@ use Rattle.hnsr_circuit.specs.Worked.LentWorlds.{peer, pendingBetween, p
 use Rattle.hnsr_circuit.specs.Worked.LentWorlds.{usageOn, actionOn, found, free, answerOf, toldOf}
 use Rattle.hnsr_circuit.specs.Worked.LentWorlds.{dueAfter, routes, pendingAfter, firstCircuit, firstAction}
 
--- ---- "22 output words too few or a table shorter than its maximum"
+-- ---- ENTRY.1: words and tables
 unfoldable pub quiet : World
 unfolding found free
 quiet = found (replicate 2 noPending) (replicate 2 noCircuit) (noUsage ∷ []) (free 8)
@@ -39,7 +38,7 @@ unfoldable pub fewActions : World
 unfolding found free
 fewActions = found (replicate 2 noPending) (replicate 2 noCircuit) (noUsage ∷ []) (free 7)
 
--- "acknowledge 96"
+-- OUT.8: 96 words
 pub acknowledge-wants-96 : answerOf quiet (callAcknowledge 1 9 true 95) ≡ Refused Short
 unfolding answerOf quiet
 acknowledge-wants-96 = refl
@@ -61,12 +60,12 @@ pub observe-wants-none : answerOf fewPending (callObserveTime 100) ≡ Taken
 unfolding answerOf fewPending
 observe-wants-none = refl
 
--- "22 ..; 4 peer length": in this order. The peer has no byte
+-- ENTRY.1 before ENTRY.2: the peer has no byte
 pub short-before-peer : answerOf fewActions (callDisconnect [] 0) ≡ Refused Short
 unfolding answerOf fewActions
 short-before-peer = refl
 
--- "or the ledger none"
+-- NEW.3: a ledger without a place
 unfoldable pub newAnswerOn : World → HnsrAnswer
 unfolding machine newAt
 newAnswerOn w = start w (newAt 65536) .answer
@@ -79,7 +78,7 @@ pub new-has-a-ledger : newAnswerOn (lent 2 2 8 1) ≡ Taken
 unfolding newAnswerOn lent
 new-has-a-ledger = refl
 
--- "the revoking calls 96 for each pending record and circuit"
+-- OUT.8: 96 words for each of two records
 unfoldable pub one-of-each : World
 unfolding found pendingOn circuitOn usageOn free peer
 one-of-each =
@@ -94,12 +93,12 @@ pub revoking-has-192 : answerOf one-of-each (callExpire 100 192) ≡ Taken
 unfolding answerOf one-of-each
 revoking-has-192 = refl
 
--- "the earliest deadline of a pending record or expiry of a circuit"
+-- DUE.2: what ends first
 pub due-of-both : toldOf one-of-each callNextDue ≡ dueIs (At 110)
 unfolding toldOf one-of-each
 due-of-both = refl
 
--- ---- "23 ledger full and record missing": with the record there the OPEN goes on
+-- ---- OPEN.9: with the record there the OPEN goes on
 unfoldable pub otherLedger : World
 unfolding found usageOn free
 otherLedger = found (replicate 2 noPending) (replicate 2 noCircuit) (usageOn 6 0 ∷ []) (free 8)
@@ -116,7 +115,7 @@ pub ledger-has-it : answerOf sameLedger openCall ≡ Taken
 unfolding answerOf sameLedger openCall
 ledger-has-it = refl
 
--- ---- "of used places with one key a lookup takes the lowest, a count takes all", "walks take equal ids by place"
+-- ---- lookups, counts and walks (TAB.4, TAB.5, TAB.8)
 unfoldable pub twins : World
 unfolding found pendingOn usageOn free
 twins = found (pendingOn 7 9 ∷ pendingOn 7 11 ∷ []) (replicate 2 noCircuit) (usageOn 5 0 ∷ []) (free 8)
@@ -137,12 +136,12 @@ pub expire-clears-both : pendingAfter twins (callExpire 110 192) ≡ false ∷ f
 unfolding pendingAfter twins
 expire-clears-both = refl
 
--- "11 two pending records match": the endpoint names both by circuit id
+-- CLOSE.2: the endpoint names both by circuit id
 pub close-names-two : answerOf twins (packetCall endpointPeer opClose 7 (0 ∷ 0 ∷ 0 ∷ []) 100) ≡ Refused InvalidAdmission
 unfolding answerOf twins packetCall endpointPeer
 close-names-two = refl
 
--- "which the requester names by its own context": the second alone
+-- CLOSE.9: the requester's context names the second alone
 pub close-names-one : pendingAfter twins (packetCall requesterPeer opClose 11 (0 ∷ 0 ∷ 0 ∷ []) 100) ≡ true ∷ false ∷ []
 unfolding pendingAfter twins packetCall requesterPeer
 close-names-one = refl
@@ -176,8 +175,7 @@ pub due-lies-ahead : dueAfter oneOver (callExpire 110 192) ≡ dueIs (At 200)
 unfolding dueAfter oneOver
 due-lies-ahead = refl
 
--- ---- "a new record replaces the one its lookup finds": a circuit of the pending's id, an action of the next sequence
--- number
+-- ---- TAB.6: a circuit of the pending's id, an action of the next sequence number
 unfoldable pub already : World
 unfolding found pendingOn circuitOn usageOn actionOn free peer
 already =

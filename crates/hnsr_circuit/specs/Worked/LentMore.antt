@@ -1,6 +1,6 @@
 -- Tables as a host may lend them, further examples: long and dirty names, a stored zero context, marks and counts that
--- do not fit, kinds above 4, numbers and sums at their tops, and the tail of the output. Above each stands what it
--- reads of document 01.
+-- do not fit, kinds above 4, numbers and sums at their tops, and the tail of the output. Above each stands the rule
+-- that it reads.
 use Prim.Native.Nat.{ℕ, _+_, _-_}
 use mathlib.Core.Path.{_≡_, refl}
 use mathlib.Core.Bool.{true, false}
@@ -25,7 +25,7 @@ use Rattle.hnsr_circuit.specs.Worked.LentWorlds.{lastSequence, lastGener
 use Rattle.hnsr_circuit.specs.Worked.LentWorlds.{routes, firstCircuit, runtimeAfter, actionsAfter, bytesQueued}
 use Rattle.hnsr_circuit.specs.Worked.Lent.{quiet, fewActions, one-of-each}
 
--- ---- a peer length over the most reads as the most; what stands behind a name is not read
+-- ---- TAB.9: a length over the most reads as the most; what stands behind a name is not read
 unfoldable pub longPeer : HnsrPeerId
 longPeer = record { len = maximumPeer + 72; bytes = replicate maximumPeer 5 }
 
@@ -49,13 +49,13 @@ pub long-name-sends : answerOf longNames (dataCall (replicate maximumPeer 5) 1 1
 unfolding answerOf longNames dataCall
 long-name-sends = refl
 
--- "zero padded": the name of one byte, though the record has other bytes behind it
+-- OUT.1: the name of one byte, though the record has other bytes behind it
 pub dirty-name-padded : getD (wordsOf longNames (dataCall (replicate maximumPeer 5) 1 100)) 5 0 ≡ 1
 unfolding wordsOf longNames dataCall
 dirty-name-padded = refl
 
--- ---- "1 `HnsrPacket::new` refuses the made message": a stored zero context refuses OPENED with all written, and a
--- revocation skips the message silently
+-- ---- QUEUE.6, ACCEPT.7: a stored zero context refuses OPENED with all written, and a revocation leaves the message
+-- out (QUEUE.8)
 unfoldable pub zeroContext : World
 unfolding found pendingOn usageOn free
 zeroContext = found (pendingOn 7 0 ∷ noPending ∷ []) (replicate 2 noCircuit) (usageOn 5 0 ∷ []) (free 8)
@@ -72,7 +72,7 @@ pub revocation-skips : routes zeroContext (callExpire 110 96) ≡ (1 ∷ 2 ∷ o
 unfolding routes zeroContext
 revocation-skips = refl
 
--- ---- "a count takes all": three used places where two are the most, and no unused place is looked for
+-- ---- TAB.5: three used places where two are the most, and no unused place is looked for
 unfoldable pub crowded : World
 unfolding found pendingOn usageOn free
 crowded =
@@ -82,7 +82,7 @@ pub crowded-is-full : answerOf crowded openCall ≡ Refused Capacity
 unfolding answerOf crowded openCall
 crowded-is-full = refl
 
--- ---- "sums stop at their top, differences at 0"; counts that do not fit the actions
+-- ---- TAB.10; counts that do not fit the actions
 unfoldable pub brim : World
 unfolding found circuitOn usageOn actionOn free peer
 brim =
@@ -107,13 +107,12 @@ pub queue-stops-at-zero : firstCircuit brim (callAcknowledge 1 1 true 96) .«que
 unfolding firstCircuit brim
 queue-stops-at-zero = refl
 
--- ---- an action's kind above 4 is Close, which "does nothing"
+-- ---- QUEUE.2, ACK.9: a kind above 4 is Close
 pub kind-77-is-close : firstCircuit brim (callAcknowledge 1 2 false 96) .used ≡ true
 unfolding firstCircuit brim
 kind-77-is-close = refl
 
--- ---- "6 sequence at 2^64 − 1: everything earlier in the step stays"; a revocation finds "no sequence number" and is
--- silent
+-- ---- QUEUE.7: refused with 6, DATA stays charged; QUEUE.8: a revocation then is silent
 unfoldable pub exhausted : World
 unfolding lastSequence one-of-each
 exhausted = lastSequence one-of-each
@@ -140,7 +139,7 @@ pub revocation-counts : runtimeAfter exhausted (callExpire 1000 192) .counters .
 unfolding runtimeAfter exhausted
 revocation-counts = refl
 
--- ---- "6 generation at 2^64 − 1 and the state would change"; "the same state changes nothing"
+-- ---- a switch at the last generation, and none (SWITCH.2, SWITCH.3)
 unfoldable pub oldest : World
 unfolding lastGeneration quiet
 oldest = lastGeneration quiet
@@ -153,8 +152,8 @@ pub same-state-taken : answerOf oldest (callReplaceEnabled (top 64) true 0) ≡ 
 unfolding answerOf oldest
 same-state-taken = refl
 
--- ---- "if off, revokes all": a pending record and a circuit of one id are ended by the ordinary rule, so the circuit's
--- end drops the actions of the record before it. All four routes were written; two actions are left
+-- ---- REVOKE.6: a pending record and a circuit of one id are ended by the ordinary rule, so the circuit's end drops
+-- the actions of the record before it. All four routes were written; two actions are left
 unfoldable pub oneId : World
 unfolding found pendingOn circuitOn usageOn free peer
 oneId =
@@ -173,8 +172,7 @@ pub disabled-actions : actionsAfter oneId (callReplaceEnabled 1 false 192) ≡ 2
 unfolding actionsAfter oneId
 disabled-actions = refl
 
--- ---- "Words beyond stay", "Output is untouched by every refusal". A CLOSE of 23 bytes of detail is 47 words; the 48th
--- is as it was
+-- ---- OUT.6. A CLOSE of 23 bytes of detail is 47 words; the 48th is as it was
 pub tail-stays : drop 47 (outputAfter zeroContext (callDisconnect requesterPeer 96) (replicate 50 9)) ≡ 9 ∷ 9 ∷ 9 ∷ []
 unfolding outputAfter zeroContext requesterPeer
 tail-stays = refl

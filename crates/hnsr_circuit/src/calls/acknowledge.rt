@@ -1,5 +1,4 @@
-// Acknowledge: removes the action; for Data lowers that one circuit's queued count; undelivered, it ends what the
-// action was for (document 01, "Down through the call").
+// `acknowledge` (ACK): an action goes, and with it what it held; what was not delivered ends its record.
 ghost use mathlib.Core.Path.{_≡_};
 ghost use mathlib.Core.Bool.{Bool, true, not, _&&_, _||_};
 ghost use mathlib.Core.List.{List};
@@ -65,7 +64,7 @@ use hns_encoding::logic::either;
 use hns_encoding::logic::no;
 use hnsr_body::messages::Notice;
 
-// 20: unknown
+// 20 (ACK.2): no such action
 pub(crate) fn action_answer(found: bool) -> HnsrAnswer
     ensures { λ r. ⌜ r ≡ actionAnswer found ⌝ }
 {
@@ -94,8 +93,8 @@ fn acknowledge_answer(
 
 // ---- what becomes of an action
 
-// What a kind asks for: for Data that one circuit's queued count is lowered; undelivered, Incoming ends the pending
-// record, and Opened, Data and Control revoke the circuit.
+// What a kind asks for: whether a queue gets lower (ACK.4), and which record ends where it was not delivered (ACK.6,
+// ACK.8).
 pub struct Settlement {
     pub lowers: bool,
     pub fails: bool,
@@ -238,7 +237,7 @@ pub(crate) fn send_notice(
     )
 }
 
-// An Incoming that was not delivered ends the pending record, other actions staying, and sends ERROR.
+// ACK.6: a lost Incoming ends its pending record and no other action.
 pub(crate) fn fail_incoming(
     pending: &mut [RelayPending],
     inflight: &mut [InflightAction],
@@ -272,7 +271,7 @@ pub(crate) fn fail_incoming(
     taken_with(runtime, places)
 }
 
-// Close, or a record no longer there, does nothing.
+// ACK.6 to ACK.9: by kind, and by what is still there.
 pub(crate) fn settle(
     pending: &mut [RelayPending],
     circuits: &mut [RelayCircuit],

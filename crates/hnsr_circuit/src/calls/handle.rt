@@ -1,4 +1,4 @@
-// `handle`: entry, clock, gate, and the opcode picks the handling (document 01, "Down through the call").
+// `handle`: entry, clock, gate, and then the message that the opcode names (HANDLE).
 ghost use mathlib.Core.Path.{_≡_};
 ghost use mathlib.Core.Bool.{_||_};
 ghost use Prim.Native.Nat.{_<_};
@@ -49,7 +49,7 @@ use hnsr_body::envelope::HnsrPacket;
 
 // ---- entry
 
-// 22: output words too few, or a table shorter than its maximum.
+// 22 (ENTRY.1): the output or a table is too short
 fn room_answer(room: usize, few: bool) -> HnsrAnswer
     ensures { λ r. ⌜ r ≡ check (ltb room handleWords || few) Short ⌝ }
 {
@@ -57,7 +57,7 @@ fn room_answer(room: usize, few: bool) -> HnsrAnswer
     check(short, HnsrRuntimeError::Short)
 }
 
-// 1: what `HnsrPacket::validate` refuses
+// 1 (ENTRY.3): what the packet rule refuses
 fn packet_answer(packet: RelayPacket, body_size: usize) -> HnsrAnswer
     ensures { λ r. ⌜ r ≡ packetAnswer (packet .opcode) (packet .«context_id») «body_size» ⌝ }
 {
@@ -90,16 +90,16 @@ fn entry_answer(
     first_refusal(entered, clock)
 }
 
-// 9: disabled
+// 9 (HANDLE.2): the relay is off
 pub(crate) fn gate_answer(enabled: bool) -> HnsrAnswer
     ensures { λ r. ⌜ r ≡ gateAnswer enabled ⌝ }
 {
     check(no(enabled), HnsrRuntimeError::Disabled)
 }
 
-// ---- the opcode picks the handling
+// ---- by opcode
 
-// 16: another opcode, 21 up included
+// 16 (HANDLE.3): an opcode that a relay does not take
 fn unexpected(request: Request) -> Relayed
     ensures { λ r. ⌜
         ((r .runtime ≡ request .runtime) × (r .answer ≡ Refused UnexpectedOpcode) × (r .words ≡ 0))
@@ -109,7 +109,7 @@ fn unexpected(request: Request) -> Relayed
     refused(request.runtime, request.places, answer)
 }
 
-// 13 OPEN, 15 ACCEPT, 17 DATA, 18 WINDOW, 19 CLOSE and 20 ERROR
+// HANDLE.4: six opcodes, and the rest
 pub(crate) fn dispatch(
     pending: &mut [RelayPending],
     circuits: &mut [RelayCircuit],
@@ -153,7 +153,7 @@ pub(crate) fn dispatch(
     }
 }
 
-// From here on the clock has moved.
+// ENTRY.5: the clock has moved.
 pub(crate) fn handle_gate(
     pending: &mut [RelayPending],
     circuits: &mut [RelayCircuit],

@@ -1,5 +1,5 @@
-// The end of a record, and revocation: it ends the record, drops its actions, then tells both sides; a walk revokes
-// what has a property, by ascending id, each record at its place (document 01, "Down through the call").
+// The end of a record, and revocation (REVOKE); a walk revokes what has a property, by ascending id, each record at its
+// place (TAB.8).
 ghost use mathlib.Core.Path.{_≡_};
 ghost use mathlib.Core.Bool.{cond, true, not};
 ghost use mathlib.Core.List.{List};
@@ -50,7 +50,7 @@ use hns_encoding::logic::no;
 use hnsr_body::messages::Notice;
 
 // What a revoking call hands its walks: which records, and by what message; the peer is nobody where none is asked for.
-// On disconnect only the other peer of a pending record hears.
+// DISC.4: of a pending record the peer that is gone hears nothing.
 pub struct Revoking {
     pub question: RecordQuestion,
     pub peer: HnsrPeerId,
@@ -174,8 +174,7 @@ fn pending_notice(revoking: Revoking) -> Notice
     notice
 }
 
-// The pending record at a place: revoked it gives ERROR to the requester, CLOSE to the endpoint; on disconnect CLOSE to
-// the other peer.
+// The pending record at a place, ended and told: REVOKE.3, or DISC.4.
 pub(crate) fn revoke_pending(
     pending: &mut [RelayPending],
     inflight: &mut [InflightAction],
@@ -228,7 +227,7 @@ fn plan_circuit(circuit: RelayCircuit, sending: Sending) -> EndPlan
     }
 }
 
-// The circuit at a place: revoked it sends CLOSE to requester, then endpoint.
+// The circuit at a place, ended and told: REVOKE.2.
 pub(crate) fn revoke_circuit(
     circuits: &mut [RelayCircuit],
     inflight: &mut [InflightAction],
@@ -326,7 +325,7 @@ pub(crate) fn walk_circuits(
     told
 }
 
-// ---- all that has the property: pending records come before circuits
+// ---- all that has the property (REVOKE.5)
 
 fn started(runtime: OpaqueRelayRuntime, places: Places) -> Sending
     ensures { λ r. ⌜ ((r .runtime ≡ runtime) × (r .position ≡ 0)) × (r .places ≡ places) ⌝ }

@@ -1,4 +1,4 @@
-// The revoking calls: disconnect, revoke_reservation, expire, replace_enabled (document 01, "Down through the call").
+// The revoking calls: disconnect (DISC), revoke_reservation (RES), expire (EXPIRE), replace_enabled (SWITCH).
 ghost use mathlib.Core.Path.{_≡_};
 ghost use mathlib.Core.Bool.{Bool·beq, not, _||_};
 ghost use mathlib.Core.List.{List};
@@ -64,7 +64,7 @@ use hns_encoding::numbers::saturating_add_usize;
 use hnsr_body::messages::Notice;
 use hnsr_body::values::ReservationId;
 
-// replace_enabled, 6: generation at 2^64 − 1 and the state would change
+// 6 (SWITCH.2): a switch without a generation left
 pub(crate) fn change_answer(generation: u64, changes: bool) -> HnsrAnswer
     ensures { λ r. ⌜ r ≡ changeAnswer generation changes ⌝ }
 {
@@ -112,7 +112,7 @@ fn entry_found(answer: HnsrAnswer, waiting: Survey, active: Survey) -> Entered
     Entered { answer, first }
 }
 
-// 22: output words too few, or a table shorter than its maximum. One pass over each table.
+// 22 (ENTRY.1). One pass over each table.
 pub(crate) fn entry_answer(
     pending: &[RelayPending],
     circuits: &[RelayCircuit],
@@ -169,7 +169,7 @@ fn revoking(question: RecordQuestion, notice: Notice, circuit_notice: Notice) ->
 
 // ---- the calls
 
-// First drops every action toward that peer, then revokes the records it is a side of.
+// The peer's actions go, and the records that it is a side of end (DISC.2 to DISC.5).
 pub fn disconnect(
     pending: &mut [RelayPending],
     circuits: &mut [RelayCircuit],
@@ -218,7 +218,7 @@ pub fn disconnect(
     refused(runtime, places, answer)
 }
 
-// Revokes the records that store the reservation's id and removes its ledger record.
+// The ledger record goes, and the records under the id end (RES.2, RES.3).
 pub fn revoke_reservation(
     pending: &mut [RelayPending],
     circuits: &mut [RelayCircuit],
@@ -269,8 +269,7 @@ pub fn revoke_reservation(
     refused(runtime, places, answer)
 }
 
-// Drops ledger records as OPEN does, then revokes pending records whose deadline or expiry, and circuits whose expiry,
-// is not after now.
+// What is over ends, in ledger, pending records and circuits (EXPIRE.3, EXPIRE.4).
 pub fn expire(
     pending: &mut [RelayPending],
     circuits: &mut [RelayCircuit],
@@ -325,7 +324,7 @@ fn changed(before: bool, enabled: bool) -> bool
     enabled
 }
 
-// A changed state raises the generation, drops every action, sets the sequence to 1 and, if off, revokes all.
+// SWITCH.4 to SWITCH.6: the state does change.
 pub(crate) fn switch_to(
     pending: &mut [RelayPending],
     circuits: &mut [RelayCircuit],
@@ -366,7 +365,7 @@ pub(crate) fn switch_to(
     )
 }
 
-// The same state changes nothing.
+// SWITCH.3 where the state is the one that it has.
 pub fn replace_enabled(
     pending: &mut [RelayPending],
     circuits: &mut [RelayCircuit],

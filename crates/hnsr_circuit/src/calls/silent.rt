@@ -58,7 +58,7 @@ use hnsr_body::values::is_zero;
 
 // ---- new
 
-// 3: session zero or generation 0
+// 3 (NEW.1): a session of zeros, or no generation
 fn session_answer(session: [u8; 16], generation: u64) -> HnsrAnswer
     ensures { λ r. ⌜ r ≡ sessionAnswer session generation ⌝ }
 {
@@ -67,7 +67,7 @@ fn session_answer(session: [u8; 16], generation: u64) -> HnsrAnswer
     check(refused, HnsrRuntimeError::InvalidSession)
 }
 
-// 3; 2: what `validate` refuses; 22: a table has fewer places than its maximum, or the ledger none
+// 3, 2, 22, in this order (NEW.1 to NEW.3)
 fn new_answer(
     session: [u8; 16],
     generation: u64,
@@ -86,8 +86,7 @@ fn new_answer(
     first_refusal(named, rest)
 }
 
-// No place is in use, whatever the tables hold: no table is touched. Where it is refused every place stays as it is,
-// and the runtime is zeros and off.
+// NEW.4, NEW.7: no place is in use, whatever the tables hold, and no table is touched.
 pub fn new(
     pending: &[RelayPending],
     circuits: &[RelayCircuit],
@@ -214,7 +213,7 @@ fn due_told(few: bool, due: NextDue) -> DueTold
     DueTold { answer, due }
 }
 
-// The earliest deadline of a pending record or expiry of a circuit.
+// DUE.2: what ends first.
 pub fn next_due(
     pending: &[RelayPending],
     circuits: &[RelayCircuit],

@@ -35,8 +35,7 @@ use hnsr_body::accept_body::AcceptBody;
 use hnsr_body::accept_body::AcceptRead;
 use hnsr_body::accept_body::OpenedBody;
 
-// 10: accepted window over the offered one, circuits full, or the reservation's count over the ticket's most, which it
-// may equal: the pending record counts itself
+// 10 (ACCEPT.5); the pending record is among the reservation's work (ACCEPT.12)
 pub(crate) fn accept_answer(
     config: OpaqueRelayConfig,
     pending: RelayPending,
@@ -55,7 +54,7 @@ pub(crate) fn accept_answer(
     check(refused, HnsrRuntimeError::Capacity)
 }
 
-// 13: not pending; 15: other peer; 11: deadline or expiry not after now
+// 13, 15, 11 (ACCEPT.1 to ACCEPT.3): nothing such is pending, or not for this peer, or no longer
 pub(crate) fn request_answer(
     found: bool,
     pending: RelayPending,
@@ -168,8 +167,7 @@ pub(crate) fn replacing(found: PendingFound, id: u64) -> ActionQuestion
     }
 }
 
-// The circuit starts with both credits at the accepted window and its byte limit at the smaller of the grant's and the
-// configuration's.
+// The circuit as it begins (ACCEPT.10).
 pub(crate) fn circuit_for(
     config: OpaqueRelayConfig,
     found: PendingFound,

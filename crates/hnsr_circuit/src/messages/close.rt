@@ -37,7 +37,7 @@ fn unless_pending(pending: bool, circuit: HnsrAnswer) -> HnsrAnswer
     circuit
 }
 
-// 11: two pending records match. A pending record that the sender names comes before a circuit; else 14, 15
+// 11 (CLOSE.2); what is pending comes before a circuit (CLOSE.10), whose 14 and 15 come else
 pub(crate) fn close_answer(matches: usize, circuit: HnsrAnswer) -> HnsrAnswer
     ensures { λ r. ⌜ r ≡ closeAnswer matches circuit ⌝ }
 {
@@ -63,7 +63,7 @@ pub(crate) fn close_rows(
     first_refusal(body, rest)
 }
 
-// To the other side of a pending record: the endpoint hears the circuit id, the requester its own context.
+// CLOSE.11: each side hears the number that it knows.
 pub(crate) fn translated_on(
     packet: RelayPacket,
     pending: RelayPending,

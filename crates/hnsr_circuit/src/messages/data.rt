@@ -34,7 +34,7 @@ use hns_encoding::numbers::saturating_add_u64;
 use hns_encoding::numbers::saturating_add_usize;
 use hnsr_body::data_body::DataBody;
 
-// 11: no ledger record; 18: circuit or total
+// 11, 18 (DATA.5, DATA.6): no such reservation, or it or the circuit has too few bytes left
 pub(crate) fn bytes_answer(
     found: bool,
     usage: ReservationUsage,
@@ -55,7 +55,7 @@ pub(crate) fn bytes_answer(
     HnsrAnswer::Refused(HnsrRuntimeError::InvalidAdmission)
 }
 
-// 17: credit or queue
+// 17 (DATA.7): more than the sender's credit, or more than the queue still takes
 pub(crate) fn flow_answer(
     config: OpaqueRelayConfig,
     circuit: RelayCircuit,

@@ -26,7 +26,7 @@ pub struct Drawing {
     pub id: u64,
 }
 
-// 8: no draw
+// 8 (OPEN.6): no id was drawn
 pub(crate) fn draw_answer(drawing: Drawing) -> HnsrAnswer
     ensures { λ r. ⌜ r ≡ drawAnswer drawing ⌝ }
 {
@@ -45,8 +45,7 @@ pub(crate) fn undrawn() -> Drawing
     }
 }
 
-// One draw: an all-zero draw is drawn again, 8 in a row refuse; a draw that is already an id counts as one of 8
-// candidates.
+// One draw (DRAW.2 to DRAW.4).
 pub(crate) fn draw_turn(drawing: Drawing, id: u64, taken: bool) -> Drawing
     requires { ⌜ (drawing .zeros < 8) × (drawing .candidates < 8) ⌝ }
     ensures { λ r. ⌜ r ≡ drawTurn drawing id taken ⌝ }

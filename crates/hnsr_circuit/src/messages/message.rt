@@ -20,7 +20,7 @@ use crate::tables::lookup::CircuitFound;
 use hns_encoding::logic::no;
 use hnsr_body::values::ReservationId;
 
-// 14: no such circuit; 15: not a side of it
+// 14, 15 (DATA.2, DATA.3 and their like): no such circuit, or the sender is no side of it
 pub(crate) fn circuit_answer(found: bool, circuit: RelayCircuit, peer: HnsrPeerId) -> HnsrAnswer
     ensures { λ r. ⌜ r ≡ circuitAnswer found circuit peer ⌝ }
 {

@@ -43,7 +43,7 @@ use hnsr_body::incoming_body::IncomingBody;
 use hnsr_body::open_body::OpenBody;
 use hnsr_body::open_body::OpenRead;
 
-// 10: pending or circuits full, requester's work at its most, same requester and context pending
+// 10 (OPEN.1): no more fit for the relay or for the requester, or it is pending already
 pub(crate) fn open_answer(
     config: OpaqueRelayConfig,
     pending: usize,
@@ -63,7 +63,7 @@ pub(crate) fn open_answer(
     check(refused, HnsrRuntimeError::Capacity)
 }
 
-// 1: not admitted, or grant expiry not after now
+// 1 (OPEN.3): the host does not admit it, or what it granted is over
 pub(crate) fn admission_answer(admitted: bool, expiry: u64, now: u64) -> HnsrAnswer
     ensures { λ r. ⌜ r ≡ admissionAnswer admitted expiry now ⌝ }
 {
@@ -74,7 +74,7 @@ pub(crate) fn admission_answer(admitted: bool, expiry: u64, now: u64) -> HnsrAns
     )
 }
 
-// 10: endpoint is requester, its work or the reservation's at its most
+// 10 (OPEN.5): it asks for its own peer, or endpoint or reservation take no more
 pub(crate) fn endpoint_answer(
     config: OpaqueRelayConfig,
     ticket: RelayTicket,
@@ -91,7 +91,7 @@ pub(crate) fn endpoint_answer(
     check(refused, HnsrRuntimeError::Capacity)
 }
 
-// 12: now plus timeout over 64 bits
+// 12 (OPEN.8): the deadline does not fit 64 bits
 pub(crate) fn deadline_answer(config: OpaqueRelayConfig, now: u64) -> HnsrAnswer
     ensures { λ r. ⌜ r ≡ deadlineAnswer config now ⌝ }
 {
@@ -102,7 +102,7 @@ pub(crate) fn deadline_answer(config: OpaqueRelayConfig, now: u64) -> HnsrAnswer
     )
 }
 
-// The smaller of now plus the timeout and the grant's expiry.
+// OPEN.14: the deadline.
 pub(crate) fn deadline_for(config: OpaqueRelayConfig, ticket: RelayTicket, now: u64) -> u64
     ensures { λ r. ⌜ r ≡ deadlineFor config ticket now ⌝ }
 {

@@ -26,7 +26,7 @@ use crate::tables::scan::InflightTally;
 use hnsr_body::data_body::WindowRead;
 use hnsr_body::values::MAX_WINDOW;
 
-// 17: credit would pass 1,048,576
+// 17 (WINDOW.5): the credit would get too large
 pub(crate) fn credit_answer(circuit: RelayCircuit, side: RelaySide, delta: u32) -> HnsrAnswer
     ensures { λ r. ⌜ r ≡ creditAnswer circuit side delta ⌝ }
 {

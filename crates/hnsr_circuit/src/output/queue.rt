@@ -1,4 +1,4 @@
-// Queueing: a message becomes a route and an outstanding action (document 01, "Where a call is turned away", last row).
+// Queueing (QUEUE): a message becomes a route and an outstanding action.
 ghost use mathlib.Core.Path.{_≡_};
 ghost use mathlib.Core.Bool.{cond, true};
 ghost use mathlib.Core.List.{List, []};
@@ -65,7 +65,7 @@ pub struct Outgoing {
     pub bytes: usize,
 }
 
-// 1: `HnsrPacket::new` refuses the made message; 10: actions; 6: sequence at 2^64 − 1.
+// 1, 10, 6 (QUEUE.6): no context, no room, no number.
 pub(crate) fn queue_answer(
     config: OpaqueRelayConfig,
     tally: InflightTally,
@@ -300,8 +300,7 @@ pub(crate) fn send(
     relayed(queued, words, after)
 }
 
-// A part of a call that cannot be refused: a message that cannot be formed, or finds no capacity or no sequence number,
-// is skipped silently.
+// A part of a call that cannot be refused: what cannot be queued is left out (QUEUE.8).
 pub(crate) fn tell_scanned(
     inflight: &mut [InflightAction],
     out: &mut [u32],

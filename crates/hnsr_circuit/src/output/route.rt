@@ -1,4 +1,4 @@
-// A queued route as output words (document 01, "Output words").
+// A queued route as output words (OUT.3).
 ghost use mathlib.Core.Path.{_≡_};
 ghost use mathlib.Core.List.{[], _∷_};
 ghost use Prim.Native.Nat.{_+_, _*_, _≤_, _<_};
@@ -34,7 +34,7 @@ pub(crate) const HANDLE_WORDS: usize = HEAD_WORDS + DataBody::MAX_SIZE / 4;
 
 pub(crate) const CLOSING_WORDS: usize = 2 * (HEAD_WORDS + (Message::MAX_SIZE + 3) / 4);
 
-// A kind word's top four bits are its kind: 1 for the peer, with its length in the low 8 bits.
+// The word in front of the address: kind 1, and how long the name is.
 fn peer_word(size: usize) -> u32
     requires { ⌜ size ≤ maximumPeer ⌝ }
     ensures { λ r. ⌜ r ≡ kindWord 1 size ⌝ }
@@ -42,7 +42,7 @@ fn peer_word(size: usize) -> u32
     0x1000_0000 + size as u32
 }
 
-// 2 for the packet, with the opcode in bits 16 to 23 and the body's length in bits 0 to 15.
+// The word in front of the packet: kind 2, the opcode, and how long the body is.
 fn packet_word(opcode: u8, size: usize) -> u32
     requires { ⌜ size < 65536 ⌝ }
     ensures { λ r. ⌜ r ≡ kindWord 2 (opcode * 65536 + size) ⌝ }

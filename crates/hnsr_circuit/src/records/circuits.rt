@@ -175,7 +175,7 @@ fn less_credit(credit: u32, n: usize) -> u32
     left as u32
 }
 
-// DATA of n bytes from a side charges the sender's credit, circuit bytes and the queue toward the other side.
+// DATA of n bytes from a side, as far as the circuit is charged (DATA.9).
 pub(crate) fn circuit_charged(c: RelayCircuit, side: RelaySide, n: usize) -> RelayCircuit
     ensures { λ r. ⌜ r ≡ charged side n c ⌝ }
 {
@@ -207,7 +207,7 @@ fn more_credit(credit: u32, n: u32) -> u32
     }
 }
 
-// WINDOW from a side raises the other side's credit.
+// WINDOW.7: the side that did not send gets more.
 pub(crate) fn circuit_raised(c: RelayCircuit, side: RelaySide, delta: u32) -> RelayCircuit
     ensures { λ r. ⌜ (creditOf (otherSide side) c + delta < 4294967296 → r ≡ raised side delta c) ⌝ }
 {

@@ -156,7 +156,7 @@ pub(crate) fn capacity_left(config: OpaqueRelayConfig, tally: InflightTally) -> 
     min_usize(all, least)
 }
 
-// 10: action capacity
+// 10 (QUEUE.5): one of three counts has reached its limit
 pub(crate) fn capacity_answer(config: OpaqueRelayConfig, tally: InflightTally) -> HnsrAnswer
     ensures { λ r. ⌜ r ≡ capacityAnswer config tally ⌝ }
 {

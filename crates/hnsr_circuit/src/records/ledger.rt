@@ -91,7 +91,7 @@ pub(crate) fn usage_spent(u: ReservationUsage, n: u64) -> ReservationUsage
 
 // ---- rows
 
-// 23: ledger full and record missing
+// 23 (OPEN.9): no place for a new reservation
 pub(crate) fn ledger_answer(found: bool, used: usize, places: usize) -> HnsrAnswer
     ensures { λ r. ⌜ r ≡ ledgerAnswer found used places ⌝ }
 {
@@ -99,7 +99,7 @@ pub(crate) fn ledger_answer(found: bool, used: usize, places: usize) -> HnsrAnsw
     check(refused, HnsrRuntimeError::LedgerFull)
 }
 
-// 18: expiry differs or bytes used up
+// 18 (OPEN.10): the reservation has another end, or no bytes left
 pub(crate) fn usage_answer(ticket: RelayTicket, usage: ReservationUsage) -> HnsrAnswer
     ensures { λ r. ⌜ r ≡ usageAnswer ticket usage ⌝ }
 {

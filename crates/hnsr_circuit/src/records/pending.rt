@@ -110,7 +110,7 @@ pub(crate) fn requested_by(p: RelayPending, peer: HnsrPeerId, context: u64) -> b
     false
 }
 
-// The requester names it by its own context and the endpoint by circuit id.
+// CLOSE.9: by what number each side names it.
 pub(crate) fn named_by(p: RelayPending, peer: HnsrPeerId, context: u64) -> bool
     ensures { λ r. ⌜ r ≡ namedBy peer context p ⌝ }
 {
@@ -123,7 +123,7 @@ pub(crate) fn named_by(p: RelayPending, peer: HnsrPeerId, context: u64) -> bool
     false
 }
 
-// Deadline or expiry not after now.
+// ACCEPT.3, EXPIRE.4: it is too late for it.
 pub(crate) fn overdue(now: u64, p: RelayPending) -> bool
     ensures { λ r. ⌜ r ≡ overdue now p ⌝ }
 {

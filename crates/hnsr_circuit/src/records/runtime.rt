@@ -79,7 +79,7 @@ pub(crate) fn with_counters(
     }
 }
 
-// A changed enabled state raises the generation and sets the sequence to 1.
+// SWITCH.4: a new generation, numbered from 1.
 pub(crate) fn with_enabled(runtime: OpaqueRelayRuntime, on: bool) -> OpaqueRelayRuntime
     ensures { λ r. ⌜ (runtime .generation < 18446744073709551615 → r ≡ withEnabled runtime on) ⌝ }
 {

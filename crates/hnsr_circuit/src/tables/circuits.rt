@@ -193,7 +193,7 @@ pub(crate) fn circuit_totals(circuits: &[RelayCircuit], places: Places) -> Circu
     totals
 }
 
-// One circuit, lent and charged in place: DATA of n bytes from a side.
+// DATA of n bytes from a side, in the one circuit that is lent (DATA.9).
 pub(crate) fn charge(circuit: &mut RelayCircuit, side: RelaySide, n: usize)
     ensures { λ _. ⌜ now (circuit .exit) ≡ charged side n (now (circuit .entry)) ⌝ }
 {

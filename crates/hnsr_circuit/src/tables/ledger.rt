@@ -101,7 +101,7 @@ pub(crate) fn unmark_usage(ledger: &mut [ReservationUsage], go: bool, place: usi
     }
 }
 
-// Ledger records with expiry not after now, dropped: their marks are cleared, no other record is stored.
+// OPEN.12: lapsed ledger records lose their marks; no other record is stored.
 pub(crate) fn drop_lapsed(ledger: &mut [ReservationUsage], places: Places, time: u64)
     ensures { λ _. ⌜ heldLedger places (now (ledger .exit)) ≡ lapsed time (heldLedger places (now (ledger .entry))) ⌝ }
 {

@@ -75,7 +75,7 @@ pub(crate) fn unmark_circuit(circuits: &mut [RelayCircuit], places: Places, go: 
     set_circuit(circuits, go, place, after);
 }
 
-// The other side's credit, raised in the circuit at a place.
+// WINDOW.7, in the circuit at a place.
 pub(crate) fn raise_circuit(
     circuits: &mut [RelayCircuit],
     places: Places,
@@ -110,7 +110,7 @@ pub(crate) fn put_place(place: usize, places: usize, spare: usize) -> usize
     spare
 }
 
-// A circuit replaces what its id finds, else takes the lowest unused place.
+// A circuit goes where TAB.6 has it.
 pub(crate) fn put_circuit(
     circuits: &mut [RelayCircuit],
     places: Places,

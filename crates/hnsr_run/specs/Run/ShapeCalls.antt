@@ -203,7 +203,7 @@ body-good (Err cause) good text h = cc
 body-good Ok true text h = refl
 body-good Ok false text h = cc
 
--- the window that is accepted is one of document 01's
+-- the window that is accepted is a window (BODY.5)
 accepted-most : (w : World) (q : Packet) (p : RelayPending) → acceptTaken w q p (acceptFields (q .body)) ≡ Taken
     → acceptFields (q .body) .«accepted_window» ≤ mostWindow
 unfolding acceptTaken decodeAccept acceptGood

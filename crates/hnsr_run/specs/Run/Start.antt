@@ -36,7 +36,7 @@ use Rattle.hnsr_run.specs.Claim.{below}
 use Rattle.hnsr_run.specs.Run.Actions.{view}
 use Rattle.hnsr_run.specs.Run.Rel.{Rel, Places, refused-differs}
 
--- ---- `new` marks every place unused
+-- ---- NEW.4: every place is unused
 module _ {A : Type 0} (used : A → Bool) (unmark : A → A) (off : (a : A) → used (unmark a) ≡ false) (p : A → Bool)
     (under : (a : A) → used a ≡ false → p a ≡ false) where
   blank : (a : A) → p (cleared unmark used a) ≡ false

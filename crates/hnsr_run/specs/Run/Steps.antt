@@ -93,7 +93,7 @@ packet-context opcode context n e h =
     from false true k = refused-differs k
     from false false k = refl
 
--- ---- the opcode picks the handling
+-- ---- by opcode (HANDLE.4)
 by-opcode : (P : Handling → Type 0) (n : ℕ) → (n ≡ opOpen → P OPEN) → (n ≡ opAccept → P ACCEPT) → (n ≡ opData → P DATA)
     → (n ≡ opWindow → P WINDOW) → (n ≡ opClose → P CLOSE) → (n ≡ opError → P ERROR) → P other → P (handlingOf n)
 unfolding handlingOf

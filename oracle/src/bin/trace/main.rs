@@ -53,7 +53,7 @@ fn one(seed: u64, calls: usize, options: Options, stats: &mut Stats) -> String {
     for event in run {
         let (count, limit) =
             (event.answer.words.count, event.call.words_needed(event.before.as_ref().map_or(0, State::records)));
-        assert!(count <= limit, "{count} words, document 01 allows {limit}: {}", event.call.text(event.class));
+        assert!(count <= limit, "{count} words, OUT.8 allows {limit}: {}", event.call.text(event.class));
         stats.count(&event);
         reckoning.step(&event, stats);
         trace.call(event.class, &event.call, &event.answer);

@@ -43,7 +43,7 @@ impl Stats {
             println!("  {:<70} {count}", item.to_string());
         }
         println!("\nmost output words {:?}", self.most_words);
-        println!("\nhistory mismatches (document's reckoning against the Rust's state): {:?}", self.history);
+        println!("\nhistory mismatches (the rules' reckoning against the Rust's state): {:?}", self.history);
         println!("the same with DATA and WINDOW refused with 6 counted as taken: {:?}", self.lenient);
     }
 

@@ -1,9 +1,9 @@
-//! What document 01 says of itself: that its rule of details is UTF-8, and that its sizes of output are enough.
+//! Whether the rules hold together: that the rule of details is UTF-8, and that the sizes of output are enough.
 use hns_hnsr_protocol as rust;
 use lekchnam_host::limits::*;
 use oracle::generate::{invalid_details, valid_details};
 
-/// Document 01, "Bodies and their cursor": the rule of details.
+/// TEXT.2 and TEXT.3: the rule of details.
 fn rule(bytes: &[u8]) -> bool {
     let mut at = 0;
     while at < bytes.len() {

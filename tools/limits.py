@@ -1,4 +1,4 @@
-"""Document 01's figures for the tools, by their names in host/src/limits.rs: MAXIMUM_PEER, HANDLE_WORDS and the rest.
+"""The rules' figures for the tools, by their names in host/src/limits.rs: MAXIMUM_PEER, HANDLE_WORDS and the rest.
 
 They are read from there, so that no number stands twice.
 """

@@ -1,5 +1,5 @@
 #!/usr/bin/env python3
-"""Whether tools/limits.py reads of host/src/limits.rs what stands there: every constant, with document 01's figures."""
+"""Whether tools/limits.py reads of host/src/limits.rs what stands there: every constant, with the rules' figures."""
 import re
 
 import limits

@@ -6,6 +6,9 @@
 //! tools/limits.py reads this file: a value is a number, or is reckoned from the names above it by sums, products and
 //! `words_of`.
 
+/// The least bytes that a name has.
+pub const MINIMUM_PEER: usize = 1;
+
 /// The most bytes that a name has.
 pub const MAXIMUM_PEER: usize = 128;
 
@@ -18,14 +21,31 @@ pub const HNSR_HEADER_SIZE: usize = 12;
 /// The most bytes of a packet's body.
 pub const MAX_BODY_SIZE: usize = MAX_PACKET_SIZE - HNSR_HEADER_SIZE;
 
+/// The bytes in front of each packet of a byte stream ([`stream`](crate::stream)): the packet's size. This crate's own;
+/// the relay knows of no stream.
+pub const FRAME_PREFIX_SIZE: usize = 2;
+
+/// The most bytes of a packet in a byte stream, its size in front.
+pub const MAX_FRAME_SIZE: usize = FRAME_PREFIX_SIZE + MAX_PACKET_SIZE;
+
+/// The least bytes of a DATA.
+pub const MIN_DATA_SIZE: usize = 1;
+
 /// The most bytes of a DATA.
 pub const MAX_DATA_SIZE: usize = 16_384;
 
 /// The least window that an OPEN offers or an ACCEPT takes.
 pub const MIN_WINDOW: u32 = 16_384;
 
+/// The window that hns-hnsr-protocol offers where nothing else is asked. It is no more than [`MAX_CIRCUIT_QUEUE`], so
+/// the sender's credit is used up before the queue is full.
+pub const DEFAULT_WINDOW: u32 = 65_536;
+
 /// The most window, the most that a WINDOW adds, and the most credit that a WINDOW leaves.
 pub const MAX_WINDOW: u32 = 1_048_576;
+
+/// The least that a WINDOW adds.
+pub const MIN_WINDOW_CREDIT: u32 = 1;
 
 /// The most bytes of the detail of a CLOSE or an ERROR.
 pub const MAX_DETAIL_SIZE: usize = 128;
@@ -47,6 +67,11 @@ pub const MAX_CIRCUIT_QUEUE: usize = 65_536;
 
 /// The most for [`maximum_inflight_actions`](crate::OpaqueRelayConfig::maximum_inflight_actions).
 pub const MAX_RUNTIME_INFLIGHT_ACTIONS: usize = 262_144;
+
+/// The least for
+/// [`maximum_inflight_actions_per_circuit`](crate::OpaqueRelayConfig::maximum_inflight_actions_per_circuit): the end of
+/// a circuit has a route for each side.
+pub const MIN_INFLIGHT_ACTIONS_PER_CIRCUIT: usize = 2;
 
 /// The most for [`accept_timeout_seconds`](crate::OpaqueRelayConfig::accept_timeout_seconds).
 pub const MAX_OPEN_DEADLINE_SECONDS: u64 = 10;

@@ -1,39 +1,48 @@
 //! A packet: opcode, context and body.
 use crate::body::{validate_packet, ProtocolError};
+use std::fmt::{self, Display, Formatter};
 
-/// The messages, each at the place that its number is.
-const NAMED: [HnsrOpcode; 21] = {
+/// The messages with their names, each at the place that its number is.
+const NAMED: [(HnsrOpcode, &str); 21] = {
     use HnsrOpcode::*;
     [
-        FindNode,
-        Nodes,
-        PutRoute,
-        PutResult,
-        GetRoute,
-        Routes,
-        SampleRoutes,
-        Reserve,
-        Offer,
-        Confirm,
-        Confirmed,
-        Renew,
-        Withdraw,
-        Open,
-        Incoming,
-        Accept,
-        Opened,
-        Data,
-        Window,
-        Close,
-        Error,
+        (FindNode, "FIND_NODE"),
+        (Nodes, "NODES"),
+        (PutRoute, "PUT_ROUTE"),
+        (PutResult, "PUT_RESULT"),
+        (GetRoute, "GET_ROUTE"),
+        (Routes, "ROUTES"),
+        (SampleRoutes, "SAMPLE_ROUTES"),
+        (Reserve, "RESERVE"),
+        (Offer, "OFFER"),
+        (Confirm, "CONFIRM"),
+        (Confirmed, "CONFIRMED"),
+        (Renew, "RENEW"),
+        (Withdraw, "WITHDRAW"),
+        (Open, "OPEN"),
+        (Incoming, "INCOMING"),
+        (Accept, "ACCEPT"),
+        (Opened, "OPENED"),
+        (Data, "DATA"),
+        (Window, "WINDOW"),
+        (Close, "CLOSE"),
+        (Error, "ERROR"),
     ]
 };
 
 /// What a packet is.
 ///
 /// The relay takes OPEN, ACCEPT, DATA, WINDOW, CLOSE and ERROR. It sends INCOMING, OPENED,
-/// DATA, WINDOW, CLOSE and ERROR.
-#[derive(Clone, Copy, Debug, Eq, Hash, PartialEq)]
+/// DATA, WINDOW, CLOSE and ERROR. Opcodes are ordered by number, and shown by name.
+///
+/// ```
+/// use lekchnam_host::HnsrOpcode;
+///
+/// assert_eq!(HnsrOpcode::Open.to_string(), "OPEN");
+/// assert_eq!(HnsrOpcode::from(21).to_string(), "UNKNOWN(21)");
+/// assert!(HnsrOpcode::Open < HnsrOpcode::Incoming && HnsrOpcode::Error < HnsrOpcode::from(21));
+/// ```
+#[derive(Clone, Copy, Debug, Eq, Hash, Ord, PartialEq, PartialOrd)]
 pub enum HnsrOpcode {
     /// 0, of the search for routes.
     FindNode,
@@ -97,7 +106,7 @@ pub enum HnsrOpcode {
 /// ```compile_fail
 /// lekchnam_host::UnknownOpcode(13);
 /// ```
-#[derive(Clone, Copy, Debug, Eq, Hash, PartialEq)]
+#[derive(Clone, Copy, Debug, Eq, Hash, Ord, PartialEq, PartialOrd)]
 pub struct UnknownOpcode(u8);
 
 impl UnknownOpcode {
@@ -114,7 +123,7 @@ impl HnsrOpcode {
 
 impl From<u8> for HnsrOpcode {
     fn from(number: u8) -> Self {
-        NAMED.get(usize::from(number)).copied().unwrap_or(Self::Unknown(UnknownOpcode(number)))
+        NAMED.get(usize::from(number)).map_or(Self::Unknown(UnknownOpcode(number)), |(opcode, _)| *opcode)
     }
 }
 
@@ -122,12 +131,21 @@ impl From<HnsrOpcode> for u8 {
     fn from(opcode: HnsrOpcode) -> Self {
         match opcode {
             HnsrOpcode::Unknown(unknown) => unknown.number(),
-            named => NAMED.iter().take_while(|other| **other != named).count() as u8,
+            named => NAMED.iter().take_while(|(other, _)| *other != named).count() as u8,
         }
     }
 }
 
-/// One packet. Its body is lent.
+impl Display for HnsrOpcode {
+    fn fmt(&self, f: &mut Formatter<'_>) -> fmt::Result {
+        match self {
+            Self::Unknown(unknown) => f.pad(&format!("UNKNOWN({})", unknown.number())),
+            named => f.pad(NAMED[usize::from(u8::from(*named))].1),
+        }
+    }
+}
+
+/// One packet. Its body is lent; [`HnsrPacketBuf`](crate::HnsrPacketBuf) owns it.
 #[derive(Clone, Copy, Debug, Eq, PartialEq)]
 pub struct HnsrPacket<'a> {
     /// What it is.

@@ -3,7 +3,7 @@ use crate::ffi::bytes_of;
 use crate::limits::{words_of, ADDRESS_WORDS, HEAD_WORDS, MAXIMUM_PEER};
 use crate::packet::HnsrPacket;
 use crate::peer::HnsrPeerId;
-use std::fmt::{self, Debug, Formatter};
+use std::fmt::{self, Debug, Display, Formatter};
 use std::iter::FusedIterator;
 
 // Document 01, "Output words": a kind word with the name's length; generation and sequence, high word first; the
@@ -14,13 +14,28 @@ const NAME: usize = SEQUENCE + 2;
 const PACKET: usize = ADDRESS_WORDS;
 const CONTEXT: usize = PACKET + 1;
 
-/// The number of a route, by which the host acknowledges it.
-#[derive(Clone, Copy, Debug, Eq, Hash, PartialEq)]
+/// The number of a route, by which the host acknowledges it. Numbers are ordered as their routes were written, and
+/// shown with a dot between generation and sequence.
+///
+/// ```
+/// use lekchnam_host::HnsrActionId;
+///
+/// let number = |generation, sequence| HnsrActionId { generation, sequence };
+/// assert!(number(1, 2) < number(1, 10) && number(1, 10) < number(2, 1));
+/// assert_eq!(number(1, 10).to_string(), "1.10");
+/// ```
+#[derive(Clone, Copy, Debug, Eq, Hash, Ord, PartialEq, PartialOrd)]
 pub struct HnsrActionId {
     /// The relay's generation when it was written.
     pub generation: u64,
     /// Its number in that generation, from 1 on.
     pub sequence: u64,
+}
+
+impl Display for HnsrActionId {
+    fn fmt(&self, f: &mut Formatter<'_>) -> fmt::Result {
+        f.pad(&format!("{}.{}", self.generation, self.sequence))
+    }
 }
 
 /// A packet and the peer that it goes to.
@@ -43,7 +58,43 @@ pub struct QueuedHnsrRoute<'a> {
 }
 
 /// The routes of a call, in the order in which they are to be sent. Nothing is copied: bodies
-/// are parts of the output words.
+/// are parts of the output words. [`to_vec`](Self::to_vec) copies them.
+///
+/// Each route is to be sent, and acknowledged whether it could be sent or not, also one to a peer that is gone. Until
+/// then it has a place among the unacknowledged ones, and no place comes back by itself. So the compiler warns where
+/// routes are dropped:
+///
+/// ```compile_fail
+/// #![deny(unused_must_use)]
+/// use lekchnam_host::{HnsrPeerId, HnsrRuntimeError, OpaqueRelayRuntime};
+///
+/// fn gone(relay: &mut OpaqueRelayRuntime, peer: &HnsrPeerId) -> Result<(), HnsrRuntimeError> {
+///     relay.disconnect(peer)?;
+///     Ok(())
+/// }
+/// ```
+///
+/// The routes of a connection that ended are told apart by their destination. What went to it is not delivered.
+///
+/// ```
+/// #![deny(unused_must_use)]
+/// use lekchnam_host::{HnsrPeerId, HnsrRuntimeError, OpaqueRelayRuntime, QueuedHnsrRouteBuf};
+///
+/// /// The routes that are to be sent.
+/// fn gone(
+///     relay: &mut OpaqueRelayRuntime,
+///     peer: &HnsrPeerId,
+/// ) -> Result<Vec<QueuedHnsrRouteBuf>, HnsrRuntimeError> {
+///     let routes = relay.disconnect(peer)?.to_vec();
+///     let (lost, live): (Vec<_>, Vec<_>) = routes.into_iter().partition(|queued| queued.route.destination == *peer);
+///     for queued in lost {
+///         // a CLOSE that was not delivered has no routes
+///         let _ = relay.acknowledge(queued.action_id, false)?;
+///     }
+///     Ok(live)
+/// }
+/// ```
+#[must_use = "each route is to be sent and acknowledged, or its place never comes back"]
 #[derive(Clone, Copy, Default, Eq, PartialEq)]
 pub struct Routes<'a>(&'a [u32]);
 
@@ -99,6 +150,7 @@ impl<'a> IntoIterator for &Routes<'a> {
 }
 
 /// The routes of a call, one by one.
+#[must_use = "each route is to be sent and acknowledged, or its place never comes back"]
 #[derive(Clone, Debug)]
 pub struct RouteIter<'a>(&'a [u32]);
 

@@ -1,8 +1,22 @@
 //! What a relay tells of itself.
+use std::fmt::{self, Display, Formatter};
 
-/// What a relay tells of itself, without names.
+/// What a relay tells of itself, without names. Shown, it is three lines: the relay, what there is now, and what there
+/// was since `new`. By default all is zero.
+///
+/// ```
+/// use lekchnam_host::HnsrRuntimeStatus;
+///
+/// let status = HnsrRuntimeStatus { generation: 1, enabled: true, active_circuits: 2, ..HnsrRuntimeStatus::default() };
+/// assert_eq!(
+///     status.to_string(),
+///     "relay on, generation 1, time 0\n\
+///      now: 0 waiting, 2 open, 0 actions queued, 0 bytes queued\n\
+///      so far: 0 asked, 0 opened, 0 ended, 0 bytes received, 0 sent on"
+/// );
+/// ```
 #[repr(C)]
-#[derive(Clone, Copy, Debug, Eq, PartialEq)]
+#[derive(Clone, Copy, Debug, Default, Eq, PartialEq)]
 pub struct HnsrRuntimeStatus {
     /// Raised by each change of `enabled`.
     pub generation: u64,
@@ -28,4 +42,21 @@ pub struct HnsrRuntimeStatus {
     pub bytes_received: u64,
     /// Pending records and circuits that ended since `new`, but for ACCEPTs.
     pub revoked_work: u64,
+}
+
+impl Display for HnsrRuntimeStatus {
+    fn fmt(&self, f: &mut Formatter<'_>) -> fmt::Result {
+        let state = if self.enabled { "on" } else { "off" };
+        writeln!(f, "relay {state}, generation {}, time {}", self.generation, self.trusted_time_high_water)?;
+        writeln!(
+            f,
+            "now: {} waiting, {} open, {} actions queued, {} bytes queued",
+            self.pending_circuits, self.active_circuits, self.queued_actions, self.queued_bytes
+        )?;
+        write!(
+            f,
+            "so far: {} asked, {} opened, {} ended, {} bytes received, {} sent on",
+            self.admitted_opens, self.opened_circuits, self.revoked_work, self.bytes_received, self.bytes_sent
+        )
+    }
 }

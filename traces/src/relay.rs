@@ -48,7 +48,7 @@ impl Relay {
             Call::Handle { .. } => return self.handle(call),
             Call::Acknowledge { generation, sequence, delivered } => {
                 let action_id = HnsrActionId { generation: *generation, sequence: *sequence };
-                self.library().acknowledge(action_id, *delivered)?;
+                _ = self.library().acknowledge(action_id, *delivered)?;
             }
             Call::Disconnect { peer } => match HnsrPeerId::new(&peer[..]) {
                 Ok(peer) => _ = self.library().disconnect(&peer)?,
@@ -84,8 +84,7 @@ impl Relay {
             None => Admission::Refused,
             Some(grant) => Admission::Granted(grant.lent()),
         };
-        self.library().handle(&admission, &peer, &packet, *now)?;
-        Ok(self.words())
+        Ok(self.library().handle(&admission, &peer, &packet, *now)?.words().to_vec())
     }
 
     /// Does what the relay's own calls do not let through: a name that is none goes to the library all

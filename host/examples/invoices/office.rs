@@ -3,8 +3,8 @@ use crate::bodies;
 use crate::reckoning::{Id, Reckoning, Work};
 use lekchnam_host::body::CloseBody;
 use lekchnam_host::{
-    Admission, Grant, HnsrActionId, HnsrOpcode, HnsrPacket, HnsrPeerId, HnsrRuntimeError, HnsrRuntimeStatus,
-    OpaqueRelayConfig, OpaqueRelayRuntime, QueuedHnsrRoute, Routes,
+    Admission, Grant, HnsrOpcode, HnsrPacket, HnsrPeerId, HnsrRuntimeError, OpaqueRelayConfig, OpaqueRelayRuntime,
+    QueuedHnsrRouteBuf,
 };
 use std::collections::VecDeque;
 use std::error::Error;
@@ -18,20 +18,7 @@ const LASTS: u64 = 3_600;
 const ACCEPT_WITHIN: u64 = 10;
 
 /// A route on its way.
-#[derive(Clone)]
-pub struct Letter {
-    action_id: HnsrActionId,
-    to: HnsrPeerId,
-    opcode: HnsrOpcode,
-    body: Vec<u8>,
-}
-
-impl Letter {
-    fn of(queued: QueuedHnsrRoute<'_>) -> Self {
-        let (to, packet) = (queued.route.destination, queued.route.packet);
-        Self { action_id: queued.action_id, to, opcode: packet.opcode, body: packet.body.to_vec() }
-    }
-}
+pub type Letter = QueuedHnsrRouteBuf;
 
 pub struct Office {
     relay: OpaqueRelayRuntime,
@@ -112,10 +99,10 @@ impl Office {
         };
         let packet = HnsrPacket::new(HnsrOpcode::Open, request, &body)?;
         println!("     box says OPEN");
-        let incoming = self.relay.handle(&Admission::Granted(grant), &supplier, &packet, self.now)?;
-        let circuit = incoming.iter().next().ok_or("no INCOMING")?.route.packet.context_id;
+        let letters = self.relay.handle(&Admission::Granted(grant), &supplier, &packet, self.now)?.to_vec();
+        let circuit = letters.first().ok_or("no INCOMING")?.route.packet.context_id;
         let due = expires_at.min(self.now + ACCEPT_WITHIN);
-        self.record(|reckoning, routes| {
+        self.record(letters, |reckoning, routes| {
             reckoning.asked(request, Work { sides: [supplier, merchant], due, expires_at }, routes)
         });
         Ok(circuit)
@@ -125,31 +112,30 @@ impl Office {
     pub fn circuit(&mut self) -> Result<Id> {
         let circuit = self.ask()?;
         self.settle()?;
-        self.say(self.merchant(), HnsrOpcode::Accept, circuit, &bodies::accept())?;
-        self.record(|reckoning, routes| reckoning.accepted(circuit, routes));
+        let letters = self.say(self.merchant(), HnsrOpcode::Accept, circuit, &bodies::accept())?;
+        self.record(letters, |reckoning, routes| reckoning.accepted(circuit, routes));
         self.settle()?;
         Ok(circuit)
     }
 
     pub fn invoice(&mut self, circuit: Id, number: u64) -> Result<()> {
         let invoice = bodies::invoice(number);
-        self.say(self.supplier(), HnsrOpcode::Data, circuit, &invoice)?;
-        self.record(|reckoning, routes| reckoning.data(invoice.len(), routes));
+        let letters = self.say(self.supplier(), HnsrOpcode::Data, circuit, &invoice)?;
+        self.record(letters, |reckoning, routes| reckoning.data(invoice.len(), routes));
         self.expected.push_back(invoice);
         Ok(())
     }
 
     pub fn hang_up(&mut self, circuit: Id) -> Result<()> {
-        self.say(self.merchant(), HnsrOpcode::Close, circuit, &bodies::close(0, "all paid"))?;
-        self.record(|reckoning, routes| reckoning.closed(circuit, routes));
+        let letters = self.say(self.merchant(), HnsrOpcode::Close, circuit, &bodies::close(0, "all paid"))?;
+        self.record(letters, |reckoning, routes| reckoning.closed(circuit, routes));
         Ok(())
     }
 
-    fn say(&mut self, from: HnsrPeerId, opcode: HnsrOpcode, circuit: Id, body: &[u8]) -> Result<()> {
-        println!("     {} says {}", self.name(from), shown(opcode, body));
+    fn say(&mut self, from: HnsrPeerId, opcode: HnsrOpcode, circuit: Id, body: &[u8]) -> Result<Vec<Letter>> {
         let packet = HnsrPacket::new(opcode, circuit, body)?;
-        self.relay.handle(&Admission::Refused, &from, &packet, self.now)?;
-        Ok(())
+        println!("     {} says {}", self.name(from), shown(packet));
+        Ok(self.relay.handle(&Admission::Refused, &from, &packet, self.now)?.to_vec())
     }
 }
 
@@ -158,11 +144,11 @@ impl Office {
     /// All letters arrive; nothing is acknowledged yet.
     pub fn deliver(&mut self) -> Result<Vec<Letter>> {
         let letters: Vec<Letter> = self.bag.drain(..).collect();
-        for letter in &letters {
-            println!("     {} gets {}", self.name(letter.to), shown(letter.opcode, &letter.body));
-            if letter.opcode == HnsrOpcode::Data {
+        for Letter { route, .. } in &letters {
+            println!("     {} gets {}", self.name(route.destination), shown(route.packet.as_packet()));
+            if route.packet.opcode == HnsrOpcode::Data {
                 let sent = self.expected.pop_front().ok_or("an invoice that nobody sent")?;
-                if letter.body != sent {
+                if route.packet.body != sent {
                     return Err("an invoice arrived changed".into());
                 }
                 self.arrived += 1;
@@ -176,7 +162,7 @@ impl Office {
     pub fn settle(&mut self) -> Result<()> {
         while !self.bag.is_empty() {
             for letter in self.deliver()? {
-                let reached = [self.merchant(), self.supplier()].contains(&letter.to);
+                let reached = [self.merchant(), self.supplier()].contains(&letter.route.destination);
                 self.acknowledge(letter, reached)?;
             }
         }
@@ -184,8 +170,8 @@ impl Office {
     }
 
     pub fn acknowledge(&mut self, letter: Letter, delivered: bool) -> Result<()> {
-        self.relay.acknowledge(letter.action_id, delivered)?;
-        self.record(|reckoning, routes| reckoning.acknowledged(letter.action_id, letter.opcode, delivered, routes));
+        let letters = self.relay.acknowledge(letter.action_id, delivered)?.to_vec();
+        self.record(letters, |reckoning, routes| reckoning.acknowledged(&letter, delivered, routes));
         Ok(())
     }
 
@@ -193,7 +179,7 @@ impl Office {
     pub fn lose(&mut self) -> Result<()> {
         let letter = self.bag.pop_back().ok_or("no letter")?;
         self.expected.pop_back();
-        println!("     {} -- lost on the way", shown(letter.opcode, &letter.body));
+        println!("     {} -- lost on the way", shown(letter.route.packet.as_packet()));
         self.acknowledge(letter, false)
     }
 
@@ -211,41 +197,42 @@ impl Office {
     /// The box comes back by a new connection.
     pub fn break_connection(&mut self) -> Result<()> {
         let broken = self.supplier();
-        self.relay.disconnect(&broken)?;
-        self.record(|reckoning, routes| reckoning.disconnected(broken, routes));
+        let letters = self.relay.disconnect(&broken)?.to_vec();
+        self.record(letters, |reckoning, routes| reckoning.disconnected(broken, routes));
         self.connections += 1;
         Ok(())
     }
 
     pub fn expire(&mut self) -> Result<()> {
         self.now = self.relay.next_due().ok_or("nothing is due")?;
-        self.relay.expire(self.now)?;
+        let letters = self.relay.expire(self.now)?.to_vec();
         let now = self.now;
-        self.record(|reckoning, routes| reckoning.expired(now, routes));
+        self.record(letters, |reckoning, routes| reckoning.expired(now, routes));
         Ok(())
     }
 
     pub fn switch(&mut self, enabled: bool) -> Result<()> {
         let generation = self.relay.status().generation;
-        self.relay.replace_enabled(generation, enabled)?;
-        self.record(|reckoning, routes| reckoning.switched(enabled, routes));
+        let letters = self.relay.replace_enabled(generation, enabled)?.to_vec();
+        self.record(letters, |reckoning, routes| reckoning.switched(enabled, routes));
         Ok(())
     }
 }
 
 /// The book beside the relay.
 impl Office {
-    /// Enters the last call, and takes its routes into the bag.
-    fn record(&mut self, enter: impl FnOnce(&mut Reckoning, Routes<'_>)) {
-        let routes = self.relay.routes();
-        enter(&mut self.reckoning, routes);
-        self.bag.extend(routes.iter().map(Letter::of));
+    /// Enters a call, and takes its routes into the bag.
+    fn record(&mut self, routes: Vec<Letter>, enter: impl FnOnce(&mut Reckoning, &[Letter])) {
+        enter(&mut self.reckoning, &routes);
+        self.bag.extend(routes);
     }
 
     /// Prints the status page, and holds it to the reckoning.
     pub fn check(&self) -> Result<()> {
         let (told, reckoned) = (self.relay.status(), self.reckoning.status());
-        print_page(&told);
+        for line in told.to_string().lines() {
+            println!("   | {line}");
+        }
         if told != reckoned {
             return Err(format!("the relay tells\n{told:#?}\nand the history makes\n{reckoned:#?}").into());
         }
@@ -258,26 +245,11 @@ impl Office {
 }
 
 /// A message as the log shows it: an invoice by its first line, a closing by its detail.
-fn shown(opcode: HnsrOpcode, body: &[u8]) -> String {
-    let name = format!("{opcode:?}").to_uppercase();
-    let text = match opcode {
-        HnsrOpcode::Data => std::str::from_utf8(body).ok().and_then(|invoice| invoice.lines().next()),
-        HnsrOpcode::Close | HnsrOpcode::Error => CloseBody::decode(body).ok().map(|close| close.detail),
+fn shown(packet: HnsrPacket<'_>) -> String {
+    let text = match packet.opcode {
+        HnsrOpcode::Data => std::str::from_utf8(packet.body).ok().and_then(|invoice| invoice.lines().next()),
+        HnsrOpcode::Close | HnsrOpcode::Error => CloseBody::decode(packet.body).ok().map(|close| close.detail),
         _ => None,
     };
-    text.map_or(name.clone(), |text| format!("{name}: {text}"))
-}
-
-fn print_page(status: &HnsrRuntimeStatus) {
-    let HnsrRuntimeStatus { generation, trusted_time_high_water: time, .. } = status;
-    let state = if status.enabled { "on" } else { "off" };
-    println!("   | relay {state}, generation {generation}, time {time}");
-    println!(
-        "   | now: {} waiting, {} open, {} actions queued, {} bytes queued",
-        status.pending_circuits, status.active_circuits, status.queued_actions, status.queued_bytes
-    );
-    println!(
-        "   | so far: {} asked, {} opened, {} ended, {} bytes received, {} sent on",
-        status.admitted_opens, status.opened_circuits, status.revoked_work, status.bytes_received, status.bytes_sent
-    );
+    text.map_or_else(|| packet.opcode.to_string(), |text| format!("{}: {text}", packet.opcode))
 }

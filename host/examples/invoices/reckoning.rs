@@ -1,6 +1,6 @@
 //! What the relay's counts must be, reckoned from the calls that were taken and the routes that they handed out.
 //! Nothing here looks into the relay.
-use lekchnam_host::{HnsrActionId, HnsrOpcode, HnsrPeerId, HnsrRuntimeStatus, Routes};
+use lekchnam_host::{HnsrOpcode, HnsrPeerId, HnsrRuntimeStatus, QueuedHnsrRouteBuf};
 use std::collections::BTreeMap;
 
 /// A circuit's id, or the context that the requester gave its OPEN.
@@ -42,8 +42,8 @@ impl Reckoning {
     }
 
     /// An OPEN: the INCOMING has the circuit's id.
-    pub fn asked(&mut self, request: Id, work: Work, routes: Routes<'_>) {
-        let id = routes.iter().next().map_or([0; 8], |incoming| incoming.route.packet.context_id);
+    pub fn asked(&mut self, request: Id, work: Work, routes: &[QueuedHnsrRouteBuf]) {
+        let id = routes.first().map_or([0; 8], |incoming| incoming.route.packet.context_id);
         self.asked += 1;
         self.requests.insert(request, id);
         self.waiting.insert(id, work);
@@ -51,7 +51,7 @@ impl Reckoning {
     }
 
     /// An ACCEPT: the routes of the OPEN no longer count.
-    pub fn accepted(&mut self, id: Id, routes: Routes<'_>) {
+    pub fn accepted(&mut self, id: Id, routes: &[QueuedHnsrRouteBuf]) {
         let work = self.waiting.remove(&id).expect("it waited");
         self.opened += 1;
         self.circuits.insert(id, Work { due: work.expires_at, ..work });
@@ -59,37 +59,37 @@ impl Reckoning {
         self.sent(routes);
     }
 
-    pub fn data(&mut self, bytes: usize, routes: Routes<'_>) {
+    pub fn data(&mut self, bytes: usize, routes: &[QueuedHnsrRouteBuf]) {
         self.passed += bytes as u64;
         self.sent(routes);
     }
 
-    pub fn closed(&mut self, id: Id, routes: Routes<'_>) {
+    pub fn closed(&mut self, id: Id, routes: &[QueuedHnsrRouteBuf]) {
         self.end(|other, _| *other == id);
         self.sent(routes);
     }
 
     /// Not delivered, anything but a closing ends what it was about.
-    pub fn acknowledged(&mut self, action_id: HnsrActionId, opcode: HnsrOpcode, delivered: bool, routes: Routes<'_>) {
-        let route = self.outstanding.remove(&action_id.sequence).expect("it was outstanding");
-        if !delivered && !matches!(opcode, HnsrOpcode::Close | HnsrOpcode::Error) {
+    pub fn acknowledged(&mut self, queued: &QueuedHnsrRouteBuf, delivered: bool, routes: &[QueuedHnsrRouteBuf]) {
+        let route = self.outstanding.remove(&queued.action_id.sequence).expect("it was outstanding");
+        if !delivered && !matches!(queued.route.packet.opcode, HnsrOpcode::Close | HnsrOpcode::Error) {
             self.closed(route.about, routes);
         }
     }
 
-    pub fn disconnected(&mut self, peer: HnsrPeerId, routes: Routes<'_>) {
+    pub fn disconnected(&mut self, peer: HnsrPeerId, routes: &[QueuedHnsrRouteBuf]) {
         self.outstanding.retain(|_, route| route.to != peer);
         self.end(|_, work| work.sides.contains(&peer));
         self.sent(routes);
     }
 
-    pub fn expired(&mut self, now: u64, routes: Routes<'_>) {
+    pub fn expired(&mut self, now: u64, routes: &[QueuedHnsrRouteBuf]) {
         self.time = now;
         self.end(|_, work| work.due <= now);
         self.sent(routes);
     }
 
-    pub fn switched(&mut self, enabled: bool, routes: Routes<'_>) {
+    pub fn switched(&mut self, enabled: bool, routes: &[QueuedHnsrRouteBuf]) {
         self.generation += 1;
         self.enabled = enabled;
         self.outstanding.clear();
@@ -111,9 +111,9 @@ impl Reckoning {
         }
     }
 
-    fn sent(&mut self, routes: Routes<'_>) {
+    fn sent(&mut self, routes: &[QueuedHnsrRouteBuf]) {
         for queued in routes {
-            let packet = queued.route.packet;
+            let packet = &queued.route.packet;
             let about = *self.requests.get(&packet.context_id).unwrap_or(&packet.context_id);
             let data = if packet.opcode == HnsrOpcode::Data { packet.body.len() } else { 0 };
             self.outstanding

@@ -2,11 +2,20 @@
 //! wire. Zero bytes are an unused record: `ffi::memory` goes by that.
 use crate::config::OpaqueRelayConfig;
 use crate::limits::MAXIMUM_PEER;
+use std::fmt::{self, Display, Formatter};
 use std::hash::{Hash, Hasher};
 
-/// A reservation's sixteen bytes.
+/// A reservation's sixteen bytes: ordered as the bytes are, and shown in hexadecimal.
+///
+/// ```
+/// use lekchnam_host::lent::ReservationId;
+///
+/// let id = ReservationId::from(*b"\x00\x01reservation \xff\xfe");
+/// assert_eq!(id.to_string(), "00017265736572766174696f6e20fffe");
+/// assert!(id < ReservationId::from([1; 16]));
+/// ```
 #[repr(C)]
-#[derive(Clone, Copy, Debug, Default, Eq, Hash, PartialEq)]
+#[derive(Clone, Copy, Debug, Default, Eq, Hash, Ord, PartialEq, PartialOrd)]
 pub struct ReservationId {
     /// The first eight.
     pub high: u64,
@@ -24,6 +33,12 @@ impl From<[u8; 16]> for ReservationId {
 impl From<ReservationId> for [u8; 16] {
     fn from(id: ReservationId) -> Self {
         (u128::from(id.high) << 64 | u128::from(id.low)).to_be_bytes()
+    }
+}
+
+impl Display for ReservationId {
+    fn fmt(&self, f: &mut Formatter<'_>) -> fmt::Result {
+        f.pad(&format!("{:016x}{:016x}", self.high, self.low))
     }
 }
 

@@ -65,7 +65,7 @@ fn deliver(
     let routes = relay.handle(&Admission::Refused, &peer(source), &packet, now)?;
     let action_id = routes.iter().next().expect("a route").action_id;
     if acknowledged {
-        relay.acknowledge(action_id, true)?;
+        assert!(relay.acknowledge(action_id, true)?.is_empty());
     }
     Ok(())
 }

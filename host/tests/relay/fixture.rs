@@ -100,6 +100,7 @@ pub fn say<'a>(
 /// A circuit between two peers.
 pub fn circuit(relay: &mut Relay, requester: &[u8], endpoint: &[u8], context: u64) -> u64 {
     let id = open(relay, requester, context, grant(endpoint)).expect("an OPEN");
-    say(relay, endpoint, HnsrOpcode::Accept, id, &accept_body()).expect("an ACCEPT");
+    let opened = say(relay, endpoint, HnsrOpcode::Accept, id, &accept_body()).expect("an ACCEPT");
+    assert_eq!(opened.len(), 1);
     id
 }

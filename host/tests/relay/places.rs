@@ -201,7 +201,8 @@ fn settled() -> (Runtime, Tables) {
     let mut relay = relay(config());
     for (context, grant) in [(1, grant(b"e")), (2, other_grant(b"e"))] {
         let id = open(&mut relay, b"r", context, grant).expect("an OPEN");
-        say(&mut relay, b"e", HnsrOpcode::Accept, id, &accept_body()).expect("an ACCEPT");
+        let opened = say(&mut relay, b"e", HnsrOpcode::Accept, id, &accept_body()).expect("an ACCEPT");
+        assert_eq!(opened.len(), 1);
     }
     for (context, grant) in [(3, grant(b"e")), (4, other_grant(b"e"))] {
         open(&mut relay, b"r", context, grant).expect("an OPEN");

@@ -76,7 +76,7 @@ fn a_relay_without_room_for_actions_can_be_ended_too() {
     let idle = open(&mut relay, b"r", 2, Grant { reservation_id: [6; 16], ..grant(b"e") }).expect("an OPEN");
     let opened = say(&mut relay, b"e", HnsrOpcode::Accept, idle, &accept_body()).expect("an ACCEPT");
     let action_id = opened.iter().next().expect("an OPENED").action_id;
-    relay.acknowledge(action_id, true).expect("it was outstanding");
+    assert!(relay.acknowledge(action_id, true).expect("it was outstanding").is_empty());
     while say(&mut relay, b"e", HnsrOpcode::Data, busy, b"x").is_ok() {}
     assert_eq!(relay.status().queued_actions, 8);
     assert!(relay.revoke_reservation([6; 16]).expect("not short").is_empty());

@@ -62,6 +62,7 @@ fn routes_follow_one_another() {
         read.push(queued);
     }
     assert_eq!(read, written);
+    assert_eq!(Routes::new(&words).to_vec(), written.map(QueuedHnsrRoute::to_buf));
     assert_eq!(Routes::new(&words).len(), 3);
     assert!(Routes::default().is_empty());
 }

@@ -23,7 +23,7 @@ fn a_stored_relay_goes_on_as_if_nothing_had_been() {
     let mut relay = relay(small());
     let id = circuit(&mut relay, b"r", b"e", 1);
     open(&mut relay, b"r", 2, grant(b"e")).expect("an OPEN");
-    say(&mut relay, b"r", HnsrOpcode::Data, id, b"on the way").expect("DATA");
+    assert_eq!(say(&mut relay, b"r", HnsrOpcode::Data, id, b"on the way").expect("DATA").len(), 1);
     let mut other = restored(&relay);
     assert!(other.words().is_empty());
 

@@ -68,8 +68,9 @@ mod random;
 mod relay;
 mod route;
 mod status;
+mod view;
 
-pub use admission::{Admission, Grant};
+pub use admission::{Admission, Grant, GrantBuf};
 pub use config::OpaqueRelayConfig;
 pub use error::HnsrRuntimeError;
 pub use limits::MAXIMUM_PEER;
@@ -80,3 +81,4 @@ pub use random::{OsRandom, RandomSource, RANDOM_BYTES};
 pub use relay::OpaqueRelayRuntime;
 pub use route::{HnsrActionId, HnsrRoute, QueuedHnsrRoute, RouteIter, Routes};
 pub use status::HnsrRuntimeStatus;
+pub use view::{Action, ActionKind, Circuit, PendingCircuit, Reservation};

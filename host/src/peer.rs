@@ -47,6 +47,11 @@ impl HnsrPeerId {
         stored.bytes[..name.len()].copy_from_slice(name);
         Self(stored)
     }
+
+    /// The name in a record, whatever it is: also one of no bytes.
+    pub(crate) fn found(stored: &StoredPeer) -> Self {
+        Self::padded(stored.as_bytes())
+    }
 }
 
 impl TryFrom<&[u8]> for HnsrPeerId {

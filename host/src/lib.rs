@@ -56,6 +56,7 @@
 mod admission;
 pub mod body;
 mod config;
+mod envelope;
 mod error;
 #[allow(unsafe_code)]
 mod ffi;
@@ -68,10 +69,12 @@ mod random;
 mod relay;
 mod route;
 mod status;
+pub mod stream;
 mod view;
 
 pub use admission::{Admission, Grant, GrantBuf};
 pub use config::OpaqueRelayConfig;
+pub use envelope::{EnvelopeError, HNSR_VERSION};
 pub use error::HnsrRuntimeError;
 pub use limits::MAXIMUM_PEER;
 pub use owned::{HnsrPacketBuf, HnsrRouteBuf, QueuedHnsrRouteBuf};

@@ -4,6 +4,7 @@ mod draws;
 mod errors;
 mod fixture;
 mod grants;
+mod notices;
 mod places;
 mod room;
 mod routes;

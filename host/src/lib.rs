@@ -55,6 +55,7 @@
 
 mod admission;
 pub mod body;
+mod clock;
 mod config;
 mod envelope;
 mod error;
@@ -74,6 +75,7 @@ pub mod stream;
 mod view;
 
 pub use admission::{Admission, Grant, GrantBuf};
+pub use clock::MonotonicClock;
 pub use config::OpaqueRelayConfig;
 pub use envelope::{EnvelopeError, HNSR_VERSION};
 pub use error::HnsrRuntimeError;

@@ -84,8 +84,12 @@ impl Tables {
 
     /// How many output words are enough for every call, whatever stands in these places.
     pub fn most_words(&self) -> usize {
-        let records = self.pending.len().saturating_add(self.circuits.len());
-        HANDLE_WORDS.max(CLOSING_WORDS.saturating_mul(records))
+        Self::words_for(self.pending.len(), self.circuits.len())
+    }
+
+    /// The same, by the numbers of places for OPENs and for circuits.
+    pub(crate) fn words_for(pending: usize, circuits: usize) -> usize {
+        HANDLE_WORDS.max(CLOSING_WORDS.saturating_mul(pending.saturating_add(circuits)))
     }
 }
 

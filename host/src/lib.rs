@@ -57,6 +57,7 @@ mod admission;
 pub mod body;
 mod clock;
 mod config;
+mod ending;
 mod envelope;
 mod error;
 #[allow(unsafe_code)]
@@ -73,12 +74,14 @@ mod route;
 mod status;
 pub mod stream;
 mod view;
+mod why;
 
 pub use admission::{Admission, Grant, GrantBuf};
 pub use clock::MonotonicClock;
 pub use config::OpaqueRelayConfig;
 pub use envelope::{EnvelopeError, HNSR_VERSION};
-pub use error::HnsrRuntimeError;
+pub use ending::EndedCircuit;
+pub use error::{Advice, HnsrRuntimeError};
 pub use limits::MAXIMUM_PEER;
 pub use owned::{HnsrPacketBuf, HnsrRouteBuf, QueuedHnsrRouteBuf};
 pub use packet::{HnsrOpcode, HnsrPacket, UnknownOpcode};
@@ -89,3 +92,4 @@ pub use relay::OpaqueRelayRuntime;
 pub use route::{HnsrActionId, HnsrRoute, QueuedHnsrRoute, RouteIter, Routes};
 pub use status::HnsrRuntimeStatus;
 pub use view::{Action, ActionKind, Circuit, PendingCircuit, Reservation};
+pub use why::{why, ActionLimit, Row};

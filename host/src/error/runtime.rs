@@ -1,59 +1,80 @@
-//! Why a call is refused, by document 01's numbers and the words of hns-hnsr-protocol.
+//! Why a call is refused, by the numbers of the rules and the words of hns-hnsr-protocol.
 use super::{checked, ProtocolError};
 use crate::ffi::Cause;
 use std::error::Error;
 use std::fmt::{self, Display, Formatter};
 
-/// Why a call is refused. The relay is unchanged by a refusal but where document 01 says otherwise: the
-/// clock may have moved, for one.
+/// Why a call is refused. [`advice`](Self::advice) says what to do then, by a table, and
+/// [`why`](crate::OpaqueRelayRuntime::why) which of the rows with this number it was.
+///
+/// The relay is unchanged by a refusal but where the rules say otherwise: the clock may have moved, for one.
 #[derive(Clone, Copy, Debug, Eq, Hash, PartialEq)]
 pub enum HnsrRuntimeError {
-    /// 1: a packet or its body is wrong, or the OPEN is not admitted.
+    /// 1: a packet or its body is wrong, which is its sender's fault: end the sender's connection. Or the OPEN is not
+    /// admitted, or by a grant that is over: turn it down.
     Protocol(ProtocolError),
-    /// 2: a limit of the configuration is out of its bounds.
+    /// 2: a limit of the configuration is out of its bounds. Only `new` answers it, and the host mends the limit.
     InvalidConfig,
-    /// 3: the session or the generation is zero.
+    /// 3: the session or the generation is zero. Only `new` answers it.
     InvalidSession,
-    /// 4: a name does not have 1 to [`MAXIMUM_PEER`](crate::MAXIMUM_PEER) bytes.
+    /// 4: a name does not have 1 to [`MAXIMUM_PEER`](crate::MAXIMUM_PEER) bytes: of an OPEN the name of the endpoint in
+    /// the host's grant.
     InvalidPeer,
-    /// 5: the relay has another generation.
+    /// 5: the relay has another generation. At `acknowledge` a normal race: the relay was switched, and the route's
+    /// place has been given back. Nothing is to be done.
     StaleGeneration,
-    /// 6: a generation or a route's number cannot grow.
+    /// 6: a generation or a route's number cannot grow. Switching the relay off and on gives routes new numbers, and
+    /// ends all.
     GenerationExhausted,
-    /// 7: the time is behind the latest one that was seen.
+    /// 7: the time is behind the latest one that was seen. The host needs a clock that does not go back; the packet is
+    /// offered again with a time that is not behind.
     ClockRollback,
     /// 8: no id could be drawn, or the random source had no bytes
-    /// ([`OsRandom::failure`](crate::OsRandom::failure) tells which).
+    /// ([`OsRandom::failure`](crate::OsRandom::failure) tells which). The OPEN may be offered again once there are
+    /// bytes.
     Randomness,
-    /// 9: the relay is switched off.
+    /// 9: the relay is switched off, by the host. All circuits ended then, so an OPEN is turned down and every other
+    /// packet is late.
     Disabled,
-    /// 10: a limit is reached.
+    /// 10: a limit is reached. Of DATA and WINDOW it is always the unacknowledged routes: hold the packet, and offer it
+    /// again after the next acknowledge. Of OPEN and ACCEPT it is one of several: turn it down. A CLOSE or an ERROR, and
+    /// an undelivered INCOMING, have ended what they were about all the same, and the other side was not told.
     Capacity,
-    /// 11: what was granted no longer holds, or two OPENs fit a CLOSE.
+    /// 11: an ACCEPT comes after its deadline: drop it. The ledger has no record of the reservation of a DATA's circuit
+    /// any more, since it ended or was revoked: end the circuit. Two OPENs that wait fit a CLOSE or an ERROR: its sender
+    /// chose a context that is also an id it was told.
     InvalidAdmission,
-    /// 12: a deadline would pass 2^64 - 1.
+    /// 12: a deadline would pass 2^64 - 1. The host's clock is not one of seconds.
     Deadline,
-    /// 13: no OPEN waits under this id.
+    /// 13: no OPEN waits under the id that an ACCEPT names: it was ended, or its time was over. A normal race: drop it.
     UnknownRequest,
-    /// 14: no circuit has this id.
+    /// 14: no circuit has this id: it has ended, and both sides are told. A normal race: drop the packet, a DATA too.
     UnknownCircuit,
-    /// 15: the sender is not a side of it.
+    /// 15: the sender is not a side of it. End the sender's connection, and leave alone what the packet names.
     WrongPeer,
     /// 16: the relay does not take such packets.
     UnexpectedOpcode,
-    /// 17: the sender's credit or the queue does not reach.
+    /// 17: of DATA, the sender's credit or the queue toward the other side does not reach. By the queue: hold the
+    /// packet, and offer it again after the next acknowledge. By credit: the sender broke a rule, end the circuit.
+    /// [`why`](crate::OpaqueRelayRuntime::why) tells them apart. Of WINDOW, the other side's credit would pass
+    /// [`MAX_WINDOW`](crate::limits::MAX_WINDOW): end the circuit.
     FlowControl,
-    /// 18: the circuit or the reservation has no such bytes left.
+    /// 18: of OPEN, one of two. Under the grant's reservation id lives a ledger record with another expiry: while it
+    /// lives, the host grants with the expiry that it has, or revokes the reservation first. Or the bytes of the
+    /// reservation are used up. Of DATA, the circuit's bytes or the reservation's do not reach: end the circuit.
     ByteLimit,
     /// 19: the requester's end in hns-hnsr-protocol has it; no call here answers it.
     NoQueuedData,
-    /// 20: no such route is unacknowledged.
+    /// 20: no such route is unacknowledged. A normal race: what the route was about ended, and its place has been given
+    /// back. Nothing is to be done.
     UnknownAction,
     /// 21: the snapshots of hns-hnsr-protocol have it; no call here answers it.
     CorruptSnapshot,
-    /// 22, added: the tables or the output words are too few, or the memory for them cannot be had.
+    /// 22, added: the tables or the output words are too few, or the memory for them cannot be had. Of calls, only those
+    /// over [`lent`](crate::lent) tables answer it.
     Short,
-    /// 23, added: the ledger is full.
+    /// 23, added: the ledger is full, and the OPEN's reservation has no record there yet. The host makes relays with
+    /// more [`ledger_places`](crate::OpaqueRelayConfig::ledger_places), or revokes reservations that it no longer needs.
     LedgerFull,
 }
 
@@ -90,7 +111,7 @@ const PLAIN: [(HnsrRuntimeError, &str); 22] = {
 };
 
 impl HnsrRuntimeError {
-    /// Document 01's number: 1 to 23.
+    /// The number that the rules have for it: 1 to 23.
     pub fn number(self) -> u32 {
         let place = PLAIN.iter().position(|(plain, _)| *plain == self);
         place.map_or(PROTOCOL, |place| PROTOCOL + 1 + place as u32)

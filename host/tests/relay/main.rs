@@ -1,5 +1,6 @@
 //! The safe calls over the archive.
 mod cases;
+mod chance;
 mod draws;
 mod errors;
 mod fixture;
@@ -10,3 +11,7 @@ mod room;
 mod routes;
 mod stored;
 mod views;
+mod why;
+
+#[path = "../support/random.rs"]
+mod random;

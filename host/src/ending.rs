@@ -1,0 +1,180 @@
+//! A call that ends one circuit.
+use crate::admission::Admission;
+use crate::body::CloseBody;
+use crate::error::HnsrRuntimeError;
+use crate::lent::{RelayCircuit, RelayPending, StoredPeer, Tables};
+use crate::packet::{HnsrOpcode, HnsrPacket};
+use crate::peer::HnsrPeerId;
+use crate::random::RandomSource;
+use crate::relay::OpaqueRelayRuntime;
+use crate::route::{HnsrActionId, HnsrRoute};
+use crate::why::names;
+use owned::{HnsrPacketBuf, HnsrRouteBuf};
+
+mod owned {
+    use super::{HnsrOpcode, HnsrPeerId};
+
+    /// A packet with its body.
+    #[derive(Clone, Debug, Eq, PartialEq)]
+    pub struct HnsrPacketBuf {
+        /// What it is.
+        pub opcode: HnsrOpcode,
+        /// The circuit that it is about, or the request.
+        pub context_id: [u8; 8],
+        /// The rest.
+        pub body: Vec<u8>,
+    }
+
+    /// A packet with its body, and the peer that it goes to.
+    #[derive(Clone, Debug, Eq, PartialEq)]
+    pub struct HnsrRouteBuf {
+        /// The peer.
+        pub destination: HnsrPeerId,
+        /// The packet.
+        pub packet: HnsrPacketBuf,
+    }
+}
+
+/// What [`end_circuit`](OpaqueRelayRuntime::end_circuit) has for the two sides: each hears once.
+#[must_use = "both sides are to be told, and the counted route is to be acknowledged"]
+#[derive(Clone, Debug, Eq, PartialEq)]
+pub struct EndedCircuit {
+    /// A route of the relay: to be sent, and to be acknowledged by its number. None where there was no room for it;
+    /// then its packet is among the others.
+    pub counted: Option<(HnsrActionId, HnsrRouteBuf)>,
+    /// To be sent. The relay does not count these, and there is nothing to acknowledge.
+    pub uncounted: Vec<HnsrRouteBuf>,
+}
+
+impl<Random: RandomSource> OpaqueRelayRuntime<Random> {
+    /// Ends one circuit, or one OPEN that waits, by its circuit id, and has a CLOSE for both sides. The requester of an
+    /// OPEN that waits hears under its own context, all others under the circuit id.
+    ///
+    /// The relay is handed a CLOSE in the name of one side, so the other hears by a route, which counts until it is
+    /// acknowledged. The side in whose name it was hears by a packet that does not count. Where there is no room for
+    /// the route (10), or no number (6), the circuit ends all the same, and both hear by packets that do not count.
+    ///
+    /// Refused, and nothing ended: 1 where the detail is longer than
+    /// [`MAX_DETAIL_SIZE`](crate::limits::MAX_DETAIL_SIZE); 14 where nothing has this id; 7 and 9 as
+    /// [`handle`](Self::handle) is; 11 where the CLOSE of neither side would name this one and nothing else: each side
+    /// has an OPEN of its own that waits, with this id for its context. Ending that one first helps.
+    ///
+    /// ```
+    /// use lekchnam_host::{HnsrRuntimeError, OpaqueRelayConfig, OpaqueRelayRuntime};
+    ///
+    /// let mut relay = OpaqueRelayRuntime::new([1; 16], 1, OpaqueRelayConfig::default(), 100)?;
+    /// let nothing = relay.end_circuit([9; 8], 11, "no such circuit", 100);
+    /// assert_eq!(nothing, Err(HnsrRuntimeError::UnknownCircuit));
+    /// # Ok::<(), HnsrRuntimeError>(())
+    /// ```
+    pub fn end_circuit(
+        &mut self,
+        circuit_id: [u8; 8],
+        reason: u16,
+        detail: &str,
+        now: u64,
+    ) -> Result<EndedCircuit, HnsrRuntimeError> {
+        let body = close_body(reason, detail);
+        CloseBody::decode(&body)?;
+        let found = Found::of(self.tables(), u64::from_be_bytes(circuit_id)).ok_or(HnsrRuntimeError::UnknownCircuit)?;
+        let speaks = found.speaks(self.tables()).ok_or(HnsrRuntimeError::InvalidAdmission)?;
+        let packet = HnsrPacket { opcode: HnsrOpcode::Close, context_id: speaks.context, body: &body };
+        let routed = self.handle(&Admission::Refused, &speaks.peer, &packet, now).map(|routes| {
+            let heard = |route: HnsrRoute<'_>| Side { peer: route.destination, context: route.packet.context_id };
+            routes.iter().next().map(|queued| (queued.action_id, heard(queued.route)))
+        });
+        let counted = match routed {
+            Ok(counted) => counted,
+            Err(refused) if found.stands(self.tables()) => return Err(refused),
+            Err(_) => None,
+        };
+        let told = |side: &Side| HnsrRouteBuf {
+            destination: side.peer,
+            packet: HnsrPacketBuf { opcode: HnsrOpcode::Close, context_id: side.context, body: body.clone() },
+        };
+        let heard = counted.map(|(_, side)| side);
+        let others = [found.requester, found.endpoint].into_iter().filter(|side| Some(*side) != heard && side.hears());
+        Ok(EndedCircuit {
+            uncounted: others.map(|side| told(&side)).collect(),
+            counted: counted.map(|(action_id, side)| (action_id, told(&side))),
+        })
+    }
+}
+
+/// The body of a CLOSE. A detail that is too long gets a length that every reader refuses.
+fn close_body(reason: u16, detail: &str) -> Vec<u8> {
+    let length = u8::try_from(detail.len()).unwrap_or(u8::MAX);
+    [&reason.to_le_bytes()[..], &[length], detail.as_bytes()].concat()
+}
+
+/// A side, and the context that a record has for it.
+#[derive(Clone, Copy, Eq, PartialEq)]
+struct Side {
+    peer: HnsrPeerId,
+    context: [u8; 8],
+}
+
+impl Side {
+    fn new(peer: &StoredPeer, context: u64) -> Self {
+        Self { peer: HnsrPeerId::padded(peer.as_bytes()), context: context.to_be_bytes() }
+    }
+
+    /// Whether it can be told: only tables that a host put together have a name of no bytes, or a context of zero.
+    fn hears(&self) -> bool {
+        !self.peer.as_bytes().is_empty() && self.context != [0; 8]
+    }
+}
+
+/// Where a record stands.
+#[derive(Clone, Copy)]
+enum Place {
+    Pending(usize),
+    Circuit(usize),
+}
+
+/// A record that is to end.
+#[derive(Clone, Copy)]
+struct Found {
+    place: Place,
+    requester: Side,
+    endpoint: Side,
+}
+
+impl Found {
+    /// The record that has this id: an OPEN that waits, else a circuit.
+    fn of(tables: &Tables, id: u64) -> Option<Self> {
+        let seen = tables.in_use();
+        let waits = |pending: &RelayPending| pending.used && pending.circuit_id == id;
+        let stands = |circuit: &RelayCircuit| circuit.used && circuit.circuit_id == id;
+        if let Some(place) = seen.pending.iter().position(waits) {
+            let pending = &seen.pending[place];
+            let requester = Side::new(&pending.requester, pending.requester_context);
+            return Some(Self { place: Place::Pending(place), requester, endpoint: Side::new(&pending.endpoint, id) });
+        }
+        let place = seen.circuits.iter().position(stands)?;
+        let circuit = &seen.circuits[place];
+        let (requester, endpoint) = (Side::new(&circuit.requester, id), Side::new(&circuit.endpoint, id));
+        Some(Self { place: Place::Circuit(place), requester, endpoint })
+    }
+
+    /// The side whose CLOSE names this record and no other: the endpoint if it can be.
+    fn speaks(&self, tables: &Tables) -> Option<Side> {
+        let own = match self.place {
+            Place::Pending(_) => 1,
+            Place::Circuit(_) => 0,
+        };
+        let named = |side: &Side| {
+            let context = u64::from_be_bytes(side.context);
+            tables.in_use().pending.iter().filter(|pending| names(pending, side.peer.as_bytes(), context)).count()
+        };
+        [self.endpoint, self.requester].into_iter().find(|side| side.hears() && named(side) == own)
+    }
+
+    /// Whether it is still there.
+    fn stands(&self, tables: &Tables) -> bool {
+        match self.place {
+            Place::Pending(place) => tables.pending[place].used,
+            Place::Circuit(place) => tables.circuits[place].used,
+        }
+    }
+}

@@ -53,18 +53,47 @@ impl<Random: RandomSource> OpaqueRelayRuntime<Random> {
     /// The relay is handed a CLOSE in the name of one side, so the other hears by a route, which counts until it is
     /// acknowledged. The side in whose name it was hears by a packet that does not count. Where there is no room for
     /// the route (10), or no number (6), the circuit ends all the same, and both hear by packets that do not count.
+    /// Routes of the circuit that were not acknowledged have gone with it: their acknowledge is refused with 20, which
+    /// is to be forgotten.
     ///
     /// Refused, and nothing ended: 1 where the detail is longer than
     /// [`MAX_DETAIL_SIZE`](crate::limits::MAX_DETAIL_SIZE); 14 where nothing has this id; 7 and 9 as
-    /// [`handle`](Self::handle) is; 11 where the CLOSE of neither side would name this one and nothing else: each side
-    /// has an OPEN of its own that waits, with this id for its context. Ending that one first helps.
+    /// [`handle`](Self::handle) is; 11 where the CLOSE of neither side would name this and nothing else: then another
+    /// OPEN that waits has this id for its context, or for its id the context of this one. Ending that one first helps.
     ///
     /// ```
-    /// use lekchnam_host::{HnsrRuntimeError, OpaqueRelayConfig, OpaqueRelayRuntime};
+    /// use lekchnam_host::body::CloseBody;
+    /// use lekchnam_host::{
+    ///     Admission, Grant, HnsrOpcode, HnsrPacket, HnsrPeerId, HnsrRuntimeError, OpaqueRelayConfig, OpaqueRelayRuntime,
+    /// };
     ///
+    /// let (supplier, merchant) = (HnsrPeerId::new("supplier")?, HnsrPeerId::new("merchant")?);
     /// let mut relay = OpaqueRelayRuntime::new([1; 16], 1, OpaqueRelayConfig::default(), 100)?;
-    /// let nothing = relay.end_circuit([9; 8], 11, "no such circuit", 100);
-    /// assert_eq!(nothing, Err(HnsrRuntimeError::UnknownCircuit));
+    /// # let window = 65_536_u32.to_le_bytes();
+    /// # let body = [&[1; 32][..], &[2; 16], &[3; 33], &[1, 0], &[4; 16], &window].concat();
+    /// # let open = HnsrPacket::new(HnsrOpcode::Open, *b"request1", &body)?;
+    /// # let grant = Grant {
+    /// #     endpoint: merchant.as_bytes(),
+    /// #     reservation_id: [2; 16],
+    /// #     expires_at: 3_700,
+    /// #     max_active_circuits: 1,
+    /// #     max_bytes_per_circuit: 1 << 20,
+    /// #     max_total_bytes: 1 << 20,
+    /// # };
+    /// // The supplier's OPEN, under `request1`, waits for the merchant.
+    /// let routes = relay.handle(&Admission::Granted(grant), &supplier, &open, 100)?;
+    /// let circuit = routes.iter().next().expect("one route").route.packet.context_id;
+    ///
+    /// let ended = relay.end_circuit(circuit, 11, "closing down", 101)?;
+    /// let (number, to_supplier) = ended.counted.expect("there was room");
+    /// assert_eq!((to_supplier.destination, to_supplier.packet.context_id), (supplier, *b"request1"));
+    /// assert_eq!(CloseBody::decode(&to_supplier.packet.body)?.detail, "closing down");
+    /// let [to_merchant] = &ended.uncounted[..] else { panic!("one packet") };
+    /// assert_eq!((to_merchant.destination, to_merchant.packet.context_id), (merchant, circuit));
+    ///
+    /// relay.acknowledge(number, true)?;
+    /// assert_eq!(relay.status().queued_actions, 0);
+    /// assert_eq!(relay.end_circuit(circuit, 11, "", 101), Err(HnsrRuntimeError::UnknownCircuit));
     /// # Ok::<(), HnsrRuntimeError>(())
     /// ```
     pub fn end_circuit(

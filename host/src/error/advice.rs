@@ -15,9 +15,9 @@ pub enum Advice {
     /// Hold the packet and offer it again after the next [`acknowledge`](crate::OpaqueRelayRuntime::acknowledge). Until
     /// it is taken, take nothing later of this sender about this circuit.
     OfferAgain,
-    /// What an OPEN or an ACCEPT asks for cannot be had now. The relay tells nobody: the host answers the sender by an
-    /// ERROR of its own, under the packet's context. After an ACCEPT the OPEN goes on waiting, until its deadline or
-    /// until [`end_circuit`](crate::OpaqueRelayRuntime::end_circuit).
+    /// What an OPEN or an ACCEPT asks for cannot be had now, and the relay tells nobody. An OPEN's sender is answered
+    /// by an ERROR of the host's own, under the packet's context. After an ACCEPT the OPEN goes on waiting:
+    /// [`end_circuit`](crate::OpaqueRelayRuntime::end_circuit) ends it and has a CLOSE for both sides.
     TurnDown,
     /// Drop the packet: what it names has ended, or is about to, and its sides are told of that. A normal race.
     Late,

@@ -37,12 +37,13 @@ pub enum HnsrRuntimeError {
     /// packet is late.
     Disabled,
     /// 10: a limit is reached. Of DATA and WINDOW it is always the unacknowledged routes: hold the packet, and offer it
-    /// again after the next acknowledge. Of OPEN and ACCEPT it is one of several: turn it down. A CLOSE or an ERROR, and
-    /// an undelivered INCOMING, have ended what they were about all the same, and the other side was not told.
+    /// again after the next acknowledge. Of OPEN and ACCEPT it is one of several: turn it down. A CLOSE or an ERROR,
+    /// and an INCOMING that is not delivered, have ended what they were about all the same, and the other side was not
+    /// told.
     Capacity,
-    /// 11: an ACCEPT comes after its deadline: drop it. The ledger has no record of the reservation of a DATA's circuit
-    /// any more, since it ended or was revoked: end the circuit. Two OPENs that wait fit a CLOSE or an ERROR: its sender
-    /// chose a context that is also an id it was told.
+    /// 11: an ACCEPT comes after its deadline: drop it. Of DATA, the reservation of its circuit has ended, and the
+    /// ledger has no record of it: end the circuit. Two OPENs that wait fit a CLOSE or an ERROR: its sender chose a
+    /// context that is also an id that it was told.
     InvalidAdmission,
     /// 12: a deadline would pass 2^64 - 1. The host's clock is not one of seconds.
     Deadline,
@@ -70,11 +71,11 @@ pub enum HnsrRuntimeError {
     UnknownAction,
     /// 21: the snapshots of hns-hnsr-protocol have it; no call here answers it.
     CorruptSnapshot,
-    /// 22, added: the tables or the output words are too few, or the memory for them cannot be had. Of calls, only those
-    /// over [`lent`](crate::lent) tables answer it.
+    /// 22, added: the tables or the output words are too few, or the memory for them cannot be had. A relay that owns
+    /// its tables answers it only when it is made.
     Short,
-    /// 23, added: the ledger is full, and the OPEN's reservation has no record there yet. The host makes relays with
-    /// more [`ledger_places`](crate::OpaqueRelayConfig::ledger_places), or revokes reservations that it no longer needs.
+    /// 23, added: the ledger is full, and the OPEN's reservation has no record there yet. The host gives the ledger
+    /// more places ([`new_with`](crate::OpaqueRelayRuntime::new_with)), or revokes reservations that it no longer needs.
     LedgerFull,
 }
 

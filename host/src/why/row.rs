@@ -249,14 +249,14 @@ impl Row {
     ///
     /// - [`Actions`](Self::Actions) of an OPEN or an ACCEPT: [`OfferAgain`](Advice::OfferAgain).
     /// - [`Credit`](Self::Credit): [`EndCircuit`](Advice::EndCircuit). The sender sent what it had no credit for.
-    /// - [`WindowOverOffered`](Self::WindowOverOffered): [`EndCircuit`](Advice::EndCircuit). The endpoint was told what
-    ///   is offered.
-    /// - [`ContextPending`](Self::ContextPending): [`EndConnection`](Advice::EndConnection). An answer under the context
-    ///   would be taken for the other OPEN's.
+    /// - [`WindowOverOffered`](Self::WindowOverOffered): [`EndCircuit`](Advice::EndCircuit). The endpoint was told the
+    ///   window that is offered.
+    /// - [`ContextPending`](Self::ContextPending): [`EndConnection`](Advice::EndConnection). An answer under the
+    ///   context would be taken for the other OPEN's.
     /// - [`ExpiryDiffers`](Self::ExpiryDiffers): [`MendHost`](Advice::MendHost). With the expiry that is recorded the
     ///   same OPEN passes.
-    /// - [`RequesterContextZero`](Self::RequesterContextZero): [`MendHost`](Advice::MendHost). The tables are wrong, not
-    ///   the sender.
+    /// - [`RequesterContextZero`](Self::RequesterContextZero): [`MendHost`](Advice::MendHost). The tables are wrong,
+    ///   not the sender.
     pub fn advice(self) -> Advice {
         match self {
             Self::Actions { .. } | Self::Queue { .. } => Advice::OfferAgain,

@@ -1,7 +1,9 @@
 //! The safe calls over the archive.
+mod advice;
 mod cases;
 mod chance;
 mod draws;
+mod ending;
 mod errors;
 mod fixture;
 mod grants;
@@ -9,9 +11,11 @@ mod notices;
 mod places;
 mod room;
 mod routes;
+mod rows;
 mod stored;
 mod views;
 mod why;
+mod why_lent;
 
 #[path = "../support/random.rs"]
 mod random;

@@ -1,6 +1,6 @@
 //! Which row a refusal was, held to the calls: by chance, and row by row.
 use crate::chance::{good_body, Call, Chance, Drawing, Draws, Parts, NAMES, NOBODY};
-use lekchnam_host::lent::{RelayCircuit, RelayPending, ReservationUsage, Tables};
+use lekchnam_host::lent::{Places, RelayCircuit, RelayPending, ReservationUsage, Tables};
 use lekchnam_host::{ActionLimit, Admission, Advice, Grant, HnsrOpcode, HnsrRuntimeError, Row};
 use std::collections::BTreeMap;
 
@@ -8,9 +8,9 @@ const RELAYS: u64 = 320;
 const CALLS: usize = 1_000;
 
 /// The rows of every message, in the order in which they are asked.
-const ENTRY: &[&str] = &["Packet", "Clock", "Disabled"];
+pub const ENTRY: &[&str] = &["Packet", "Clock", "Disabled"];
 /// Of each message its rows behind these, in their order.
-const ROWS: [(HnsrOpcode, &[&str]); 6] = [
+pub const ROWS: [(HnsrOpcode, &[&str]); 6] = [
     (
         HnsrOpcode::Open,
         &[
@@ -85,6 +85,7 @@ const ROWS: [(HnsrOpcode, &[&str]); 6] = [
     (HnsrOpcode::Close, ENDING),
     (HnsrOpcode::Error, ENDING),
 ];
+/// The record's own actions have gone when they are counted, so that the circuit's limit is never the one.
 const ENDING: &[&str] =
     &["Body", "NamesTwo", "NoCircuit", "OtherPeer", "EndedActions Relay", "EndedActions Peer", "EndedSequence"];
 
@@ -107,7 +108,7 @@ fn label(opcode: HnsrOpcode, row: Row) -> String {
     }
 }
 
-fn name(row: Row) -> String {
+pub fn name(row: Row) -> String {
     match row {
         Row::Actions { of, .. } => format!("Actions {of:?}"),
         Row::EndedActions { of, .. } => format!("EndedActions {of:?}"),
@@ -128,7 +129,7 @@ fn plain(tables: &mut Tables) {
     tables.circuits.iter_mut().skip(places.circuits).for_each(|record| record.used = false);
     tables.ledger.iter_mut().skip(places.ledger).for_each(|record| record.used = false);
     tables.inflight.iter_mut().skip(places.actions).for_each(|record| record.used = false);
-    tables.places = lekchnam_host::lent::Places::EVERY;
+    tables.places = Places::EVERY;
 }
 
 fn pending_of(tables: &mut Tables, id: u64) -> &mut RelayPending {
@@ -298,20 +299,15 @@ fn advice_fits(row: Row, refused: HnsrRuntimeError, opcode: HnsrOpcode) {
 
 /// What the advice rests on.
 fn advice_holds(row: Row, before: &Parts, relay: &Drawing, call: &Call) {
-    let records = |runtime: &lekchnam_host::lent::Runtime| runtime.counters.revoked_work;
-    let ended = records(relay.runtime()) - records(&before.runtime);
+    let ended = relay.runtime().counters.revoked_work - before.runtime.counters.revoked_work;
     assert_eq!(ended, u64::from(row.advice() == Advice::TellOtherSide), "{row:?}");
     if row.advice() == Advice::EndCircuit {
-        let found = relay.tables().in_use();
-        let sides = found.circuits.iter().filter(|record| record.used && record.circuit_id == call.context);
-        let mut sides = sides.map(|record| (record.requester, record.endpoint)).chain(
-            found
-                .pending
-                .iter()
-                .filter(|record| record.used && record.circuit_id == call.context)
-                .map(|record| (record.requester, record.endpoint)),
-        );
-        assert!(sides.any(|(one, other)| [one, other].iter().any(|side| side.as_bytes() == call.source)));
+        let seen = relay.tables().in_use();
+        let circuits = seen.circuits.iter().filter(|record| record.used && record.circuit_id == call.context);
+        let pending = seen.pending.iter().filter(|record| record.used && record.circuit_id == call.context);
+        let circuits = circuits.map(|record| [record.requester, record.endpoint]);
+        let mut sides = pending.map(|record| [record.requester, record.endpoint]).chain(circuits).flatten();
+        assert!(sides.any(|side| side.as_bytes() == call.source), "{row:?}");
     }
 }
 

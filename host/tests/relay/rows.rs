@@ -164,6 +164,12 @@ fn open_by_draws_actions_and_numbers() {
     assert_eq!(two.revoke_reservation([5; 16]).map(|routes| routes.len()), Ok(2));
     let full = Row::Actions { of: ActionLimit::Circuit, most: 2 };
     assert_eq!(refused_open(&mut two, b"s", 1, grant(b"f")), full);
+    assert!(two.acknowledge(HnsrActionId { generation: 1, sequence: 2 }, true).is_ok());
+    let body = open_body();
+    let packet = HnsrPacket { opcode: HnsrOpcode::Open, context_id: [1; 8], body: &body };
+    let granted = Admission::Granted(grant(b"f"));
+    assert_eq!(two.why(HnsrRuntimeError::Capacity, &granted, &peer(b"s"), &packet, START), None);
+    assert!(two.handle(&granted, &peer(b"s"), &packet, START).is_ok());
 
     let mut none = without_numbers(relay(small()));
     assert_eq!(refused_open(&mut none, b"r", 1, grant(b"e")), Row::Sequence);
@@ -253,7 +259,8 @@ fn accept_by_actions_and_numbers() {
     let mut two = relay(actions(8, 2, 2));
     let busy = circuit(&mut two, b"r", b"f", 1);
     say(&mut two, b"f", HnsrOpcode::Data, busy, b"x").expect("DATA");
-    let id = open(&mut two, b"r", 2, grant(b"e")).expect("an OPEN");
+    // the reservation is at its most, which an ACCEPT may be
+    let id = open(&mut two, b"r", 2, Grant { max_active_circuits: 2, ..grant(b"e") }).expect("an OPEN");
     let full = Row::Actions { of: ActionLimit::Peer, most: 2 };
     assert_eq!(refused_say(&mut two, b"e", HnsrOpcode::Accept, id, &body), full);
 
@@ -381,7 +388,11 @@ fn window_by_credit() {
     let most = MAX_WINDOW - WINDOW;
     let row = Row::CreditOverMost { left: u64::from(most), asked: u64::from(most) + 1 };
     assert_eq!(refused_say(&mut relay, b"r", HnsrOpcode::Window, id, &window(most + 1)), row);
-    assert!(say(&mut relay, b"r", HnsrOpcode::Window, id, &window(most)).is_ok());
+    let just = window(most);
+    let packet = HnsrPacket { opcode: HnsrOpcode::Window, context_id: id.to_be_bytes(), body: &just };
+    let flow = HnsrRuntimeError::FlowControl;
+    assert_eq!(relay.why(flow, &Admission::Refused, &peer(b"r"), &packet, START), None);
+    assert!(say(&mut relay, b"r", HnsrOpcode::Window, id, &just).is_ok());
 }
 
 #[test]
@@ -449,6 +460,15 @@ fn stored_tables() {
     let (mut relay, id) = stored(|_, runtime| runtime.config.maximum_inflight_actions_per_circuit = 0);
     let full = |most| Row::EndedActions { of: ActionLimit::Circuit, most };
     assert_eq!(refused_say(&mut relay, b"e", HnsrOpcode::Close, id, CLOSE), full(0));
+    // sums stop at their top, so a circuit without a limit is never over it
+    let (mut relay, id) = stored(|_, _| ());
+    say(&mut relay, b"e", HnsrOpcode::Accept, id, &accept_body()).expect("an ACCEPT");
+    let (runtime, mut tables) = relay.into_parts();
+    (tables.circuits[0].forwarded_bytes, tables.circuits[0].maximum_bytes) = (u64::MAX, u64::MAX);
+    tables.circuits[0].maximum_total_bytes = 1;
+    let mut relay = Relay::from_parts(runtime, tables, Counting::default()).expect("stored parts");
+    let total = Row::TotalBytes { left: 1, asked: 2 };
+    assert_eq!(refused_say(&mut relay, b"r", HnsrOpcode::Data, id, b"xx"), total);
     // the longest name, as it reads
     let (mut relay, id) = stored(|tables, _| tables.pending[0].endpoint = StoredPeer { len: 200, bytes: [7; 128] });
     assert_eq!(refused_say(&mut relay, b"e", HnsrOpcode::Accept, id, &accept_body()), Row::OtherPeer);

@@ -64,7 +64,8 @@ impl<Random: RandomSource> OpaqueRelayRuntime<Random> {
     /// ```
     /// use lekchnam_host::body::CloseBody;
     /// use lekchnam_host::{
-    ///     Admission, Grant, HnsrOpcode, HnsrPacket, HnsrPeerId, HnsrRuntimeError, OpaqueRelayConfig, OpaqueRelayRuntime,
+    ///     Admission, Grant, HnsrOpcode, HnsrPacket, HnsrPeerId, HnsrRuntimeError, OpaqueRelayConfig,
+    ///     OpaqueRelayRuntime,
     /// };
     ///
     /// let (supplier, merchant) = (HnsrPeerId::new("supplier")?, HnsrPeerId::new("merchant")?);

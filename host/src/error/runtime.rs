@@ -75,7 +75,7 @@ pub enum HnsrRuntimeError {
     /// its tables answers it only when it is made.
     Short,
     /// 23, added: the ledger is full, and the OPEN's reservation has no record there yet. The host gives the ledger
-    /// more places ([`new_with`](crate::OpaqueRelayRuntime::new_with)), or revokes reservations that it no longer needs.
+    /// more places ([`new_with`](crate::OpaqueRelayRuntime::new_with)), or revokes reservations that nobody needs.
     LedgerFull,
 }
 

@@ -1,9 +1,9 @@
 //! The rows asked again, over the tables as the refusal left them.
 //!
-//! A refusal leaves what its row is about, but for three things. The clock has moved, and records of the ledger whose
-//! time was over have gone: no row below asks for them. An OPEN has made its ledger record before its expiry and bytes
-//! are asked: a new record has the grant's expiry and no bytes. And a CLOSE or an ERROR has ended its record before its
-//! route is asked for.
+//! A refusal leaves what its row is about, but for four things. The clock has moved, and records of the ledger whose
+//! time was over have gone: no row below asks for them. An OPEN has made its ledger record before expiry and bytes are
+//! asked: a new record has the grant's expiry and no bytes. A CLOSE or an ERROR has ended its record before its route
+//! is asked for. And where a route finds no number, or no context, all is written: then only these are asked again.
 use super::row::{ActionLimit, Row};
 use crate::body::{
     validate_packet, AcceptBody, CloseBody, DataBody, ErrorBody, Invalid, OpenBody, ProtocolError, WindowBody,

@@ -1,5 +1,7 @@
 //! What a host does with a refusal: the table, and that it leads nowhere wrong.
-use crate::fixture::{accept_body, circuit, grant, open, peer, relay, say, small, Relay, EXPIRY, START, WINDOW};
+use crate::fixture::{
+    accept_body, circuit, grant, open, peer, relay, say, small, Relay, EXPIRY, START, WINDOW as CREDIT,
+};
 use crate::random::Random;
 use lekchnam_host::body::{Invalid, ProtocolError};
 use lekchnam_host::HnsrRuntimeError::{self, *};
@@ -12,7 +14,7 @@ const NOT_ADMITTED: HnsrRuntimeError = Protocol(ProtocolError::Admission);
 const OPEN: Option<HnsrOpcode> = Some(HnsrOpcode::Open);
 const ACCEPT: Option<HnsrOpcode> = Some(HnsrOpcode::Accept);
 const DATA: Option<HnsrOpcode> = Some(HnsrOpcode::Data);
-const WINDOW_: Option<HnsrOpcode> = Some(HnsrOpcode::Window);
+const WINDOW: Option<HnsrOpcode> = Some(HnsrOpcode::Window);
 const CLOSE: Option<HnsrOpcode> = Some(HnsrOpcode::Close);
 const ERROR: Option<HnsrOpcode> = Some(HnsrOpcode::Error);
 const OTHER: Option<HnsrOpcode> = Some(HnsrOpcode::Incoming);
@@ -20,7 +22,7 @@ const OTHER: Option<HnsrOpcode> = Some(HnsrOpcode::Incoming);
 /// The table of `HnsrRuntimeError::advice`: what each call and packet can be refused with.
 #[test]
 fn the_table() {
-    let every = [None, OPEN, ACCEPT, DATA, WINDOW_, CLOSE, ERROR, OTHER];
+    let every = [None, OPEN, ACCEPT, DATA, WINDOW, CLOSE, ERROR, OTHER];
     let packets = &every[1..];
     let table: &[(HnsrRuntimeError, &[Option<HnsrOpcode>], Advice)] = &[
         (NOT_ADMITTED, &[OPEN], Advice::TurnDown),
@@ -30,25 +32,25 @@ fn the_table() {
         (InvalidSession, &[None], Advice::MendHost),
         (InvalidPeer, &every, Advice::MendHost),
         (StaleGeneration, &[None], Advice::Forget),
-        (GenerationExhausted, &[None, OPEN, ACCEPT, DATA, WINDOW_], Advice::MendHost),
+        (GenerationExhausted, &[None, OPEN, ACCEPT, DATA, WINDOW], Advice::MendHost),
         (GenerationExhausted, &[CLOSE, ERROR], Advice::TellOtherSide),
         (ClockRollback, &every, Advice::MendHost),
         (Randomness, &[OPEN], Advice::MendHost),
         (Disabled, &[OPEN], Advice::TurnDown),
         (Disabled, &packets[1..], Advice::Late),
         (Capacity, &[OPEN, ACCEPT], Advice::TurnDown),
-        (Capacity, &[DATA, WINDOW_], Advice::OfferAgain),
+        (Capacity, &[DATA, WINDOW], Advice::OfferAgain),
         (Capacity, &[CLOSE, ERROR, None], Advice::TellOtherSide),
         (InvalidAdmission, &[ACCEPT], Advice::Late),
         (InvalidAdmission, &[DATA], Advice::EndCircuit),
         (InvalidAdmission, &[CLOSE, ERROR], Advice::EndConnection),
         (Deadline, &[OPEN], Advice::MendHost),
         (UnknownRequest, &[ACCEPT], Advice::Late),
-        (UnknownCircuit, &[DATA, WINDOW_, CLOSE, ERROR], Advice::Late),
-        (WrongPeer, &[ACCEPT, DATA, WINDOW_, CLOSE, ERROR], Advice::EndConnection),
+        (UnknownCircuit, &[DATA, WINDOW, CLOSE, ERROR], Advice::Late),
+        (WrongPeer, &[ACCEPT, DATA, WINDOW, CLOSE, ERROR], Advice::EndConnection),
         (UnexpectedOpcode, &[OTHER], Advice::EndConnection),
         (FlowControl, &[DATA], Advice::OfferAgain),
-        (FlowControl, &[WINDOW_], Advice::EndCircuit),
+        (FlowControl, &[WINDOW], Advice::EndCircuit),
         (ByteLimit, &[OPEN], Advice::TurnDown),
         (ByteLimit, &[DATA], Advice::EndCircuit),
         (UnknownAction, &[None], Advice::Forget),
@@ -127,13 +129,13 @@ fn offered_again_there_is_no_hole() {
     let under_way = opened.iter().map(|queued| queued.action_id).collect();
     let random = Random::new(1);
     let mut sending = Sending { relay, random, id, under_way, arrived: Vec::new(), again: [0; 2] };
-    let (mut sent, mut credit) = (Vec::new(), WINDOW as usize);
+    let (mut sent, mut credit) = (Vec::new(), CREDIT as usize);
     for _ in 0..2_000 {
         let size = 1 + sending.random.below(9_000);
         let body: Vec<u8> = (0..size).map(|_| sending.random.byte()).collect();
         if credit < size {
             // the endpoint gives back what arrived
-            let delta = WINDOW - credit as u32;
+            let delta = CREDIT - credit as u32;
             sending.offer(b"e", HnsrOpcode::Window, &delta.to_le_bytes());
             credit += delta as usize;
         }
@@ -160,8 +162,9 @@ fn races_at_acknowledge_are_forgotten() {
     let mut relay = relay(small());
     circuit(&mut relay, b"r", b"e", 1);
     let opened = HnsrActionId { generation: 1, sequence: 2 };
-    let closes = relay.disconnect(&peer(b"e")).expect("a good name").iter().map(|queued| queued.action_id).collect();
-    let closes: Vec<_> = closes;
+    let routes = relay.disconnect(&peer(b"e")).expect("a good name");
+    let closes: Vec<_> = routes.iter().map(|queued| queued.action_id).collect();
+    assert_eq!(closes.len(), 2);
     let gone = relay.acknowledge(opened, true).unwrap_err();
     assert_eq!((gone, gone.advice(None)), (UnknownAction, Advice::Forget));
     assert_eq!(relay.replace_enabled(1, false).map(|routes| routes.len()), Ok(0));

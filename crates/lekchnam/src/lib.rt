@@ -1,4 +1,5 @@
-// What a host links: the checks of bodies and the calls of the relay as C functions, over structs, lent slices and
-// numbers.
+// What a host links: the readers and writers of bodies, the calls of the relay, and what the archive tells of itself,
+// as C functions over structs, lent slices and numbers.
 pub mod body;
+pub mod interface;
 pub mod relay;

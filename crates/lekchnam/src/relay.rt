@@ -1,6 +1,6 @@
 // The calls of the relay. Tables, output and bytes are lent; the runtime and the places in use go in and come back by
-// value. An answer is document 01's number, 0 where the call is taken, and the cause of a 1. No call asks anything of
-// what it is lent.
+// value. An answer is the number that the rules (docs/RULES.md) have, 0 where the call is taken, and the cause of a 1.
+// No call asks anything of what it is lent.
 ghost use mathlib.Core.Path.{_≡_};
 ghost use mathlib.Core.List.{List};
 ghost use Prim.Native.Nat.{ℕ};

@@ -1,4 +1,4 @@
-//! The bodies of the circuit messages: reading and checking them.
+//! The bodies of the circuit messages: reading, checking and writing them. A writer refuses what its reader would.
 //!
 //! Names and field types are those of hns-hnsr-protocol. Two things are asked differently. Whether the endpoint's
 //! key is a point of the curve is the caller's word, since no curve arithmetic stands behind this. And what has no
@@ -8,7 +8,9 @@
 //! use lekchnam_host::body::{Invalid, ProtocolError, WindowBody};
 //!
 //! assert_eq!(WindowBody::decode(&[1, 0, 0, 0]), Ok(WindowBody { credit_delta: 1 }));
+//! assert_eq!(WindowBody { credit_delta: 1 }.encode(), Ok([1, 0, 0, 0]));
 //! assert_eq!(WindowBody::decode(&[0; 4]), Err(ProtocolError::Invalid(Invalid::WindowCredit)));
+//! assert_eq!(WindowBody { credit_delta: 0 }.encode(), Err(ProtocolError::Invalid(Invalid::WindowCredit)));
 //! assert_eq!(
 //!     WindowBody::decode(&[1]).unwrap_err().to_string(),
 //!     "unexpected end of input at byte 0; needed 3 more byte(s)"
@@ -16,6 +18,7 @@
 //! ```
 use crate::error::checked;
 use crate::ffi::body as ffi;
+use crate::limits::MAX_DETAIL_SIZE;
 
 pub use crate::error::{Invalid, ProtocolError};
 
@@ -45,6 +48,11 @@ impl<Body> Read<Body> {
     }
 }
 
+/// The bytes that a writer hands back, if it does.
+fn written<const SIZE: usize>(written: ffi::Written<SIZE>) -> Result<[u8; SIZE], ProtocolError> {
+    checked(written.cause).map(|()| written.bytes)
+}
+
 /// OPEN: a requester asks for a circuit under a reservation.
 #[derive(Clone, Copy, Debug, Eq, PartialEq)]
 pub struct OpenBody {
@@ -63,6 +71,9 @@ pub struct OpenBody {
 }
 
 impl OpenBody {
+    /// Its bytes: ticket, reservation, key, profile, nonce and window.
+    pub const SIZE: usize = 32 + 16 + 33 + 2 + 16 + 4;
+
     /// Reads and checks a body; `key_valid` says whether the bytes at `endpoint_key` are a valid key.
     pub fn decode(input: &[u8], key_valid: bool) -> Result<Self, ProtocolError> {
         Self::read(input, key_valid).accepted()
@@ -72,10 +83,45 @@ impl OpenBody {
     pub fn read(input: &[u8], key_valid: bool) -> Read<Self> {
         Read::of(ffi::decode_open(input, key_valid))
     }
+
+    /// Writes a body; `key_valid` says whether `endpoint_key` is a valid key.
+    ///
+    /// ```
+    /// use lekchnam_host::body::{Invalid, OpenBody, ProtocolError};
+    ///
+    /// let body = OpenBody {
+    ///     ticket_id: [1; 32],
+    ///     reservation_id: [2; 16],
+    ///     endpoint_key: [3; 33],
+    ///     profile: 1,
+    ///     requester_nonce: [4; 16],
+    ///     initial_window: 65_536,
+    /// };
+    /// let bytes = body.encode(true)?;
+    /// assert_eq!(OpenBody::decode(&bytes, true), Ok(body));
+    /// assert_eq!(body.encode(false), Err(ProtocolError::Invalid(Invalid::OpenParameters)));
+    /// # Ok::<(), ProtocolError>(())
+    /// ```
+    pub fn encode(&self, key_valid: bool) -> Result<[u8; Self::SIZE], ProtocolError> {
+        written(ffi::encode_open((*self).into(), key_valid))
+    }
 }
 
 impl From<ffi::OpenBody> for OpenBody {
     fn from(body: ffi::OpenBody) -> Self {
+        Self {
+            ticket_id: body.ticket_id,
+            reservation_id: body.reservation_id.into(),
+            endpoint_key: body.endpoint_key,
+            profile: body.profile,
+            requester_nonce: body.requester_nonce,
+            initial_window: body.initial_window,
+        }
+    }
+}
+
+impl From<OpenBody> for ffi::OpenBody {
+    fn from(body: OpenBody) -> Self {
         Self {
             ticket_id: body.ticket_id,
             reservation_id: body.reservation_id.into(),
@@ -103,6 +149,9 @@ pub struct IncomingBody {
 }
 
 impl IncomingBody {
+    /// Its bytes: ticket, request, profile, nonce and window.
+    pub const SIZE: usize = 32 + 8 + 2 + 16 + 4;
+
     /// Reads and checks a body.
     pub fn decode(input: &[u8]) -> Result<Self, ProtocolError> {
         Self::read(input).accepted()
@@ -112,6 +161,11 @@ impl IncomingBody {
     pub fn read(input: &[u8]) -> Read<Self> {
         Read::of(ffi::decode_incoming(input))
     }
+
+    /// Writes a body.
+    pub fn encode(&self) -> Result<[u8; Self::SIZE], ProtocolError> {
+        written(ffi::encode_incoming((*self).into()))
+    }
 }
 
 impl From<ffi::IncomingBody> for IncomingBody {
@@ -119,6 +173,18 @@ impl From<ffi::IncomingBody> for IncomingBody {
         Self {
             ticket_id: body.ticket_id,
             open_request_id: body.open_request_id.to_be_bytes(),
+            profile: body.profile,
+            requester_nonce: body.requester_nonce,
+            initial_window: body.initial_window,
+        }
+    }
+}
+
+impl From<IncomingBody> for ffi::IncomingBody {
+    fn from(body: IncomingBody) -> Self {
+        Self {
+            ticket_id: body.ticket_id,
+            open_request_id: u64::from_be_bytes(body.open_request_id),
             profile: body.profile,
             requester_nonce: body.requester_nonce,
             initial_window: body.initial_window,
@@ -136,6 +202,9 @@ pub struct AcceptBody {
 }
 
 impl AcceptBody {
+    /// Its bytes: window and nonce.
+    pub const SIZE: usize = 4 + 16;
+
     /// Reads and checks a body.
     pub fn decode(input: &[u8]) -> Result<Self, ProtocolError> {
         Self::read(input).accepted()
@@ -145,10 +214,21 @@ impl AcceptBody {
     pub fn read(input: &[u8]) -> Read<Self> {
         Read::of(ffi::decode_accept(input))
     }
+
+    /// Writes a body.
+    pub fn encode(&self) -> Result<[u8; Self::SIZE], ProtocolError> {
+        written(ffi::encode_accept((*self).into()))
+    }
 }
 
 impl From<ffi::AcceptBody> for AcceptBody {
     fn from(body: ffi::AcceptBody) -> Self {
+        Self { accepted_window: body.accepted_window, endpoint_nonce: body.endpoint_nonce }
+    }
+}
+
+impl From<AcceptBody> for ffi::AcceptBody {
+    fn from(body: AcceptBody) -> Self {
         Self { accepted_window: body.accepted_window, endpoint_nonce: body.endpoint_nonce }
     }
 }
@@ -165,6 +245,9 @@ pub struct OpenedBody {
 }
 
 impl OpenedBody {
+    /// Its bytes: the circuit, and an ACCEPT's.
+    pub const SIZE: usize = 8 + AcceptBody::SIZE;
+
     /// Reads and checks a body.
     pub fn decode(input: &[u8]) -> Result<Self, ProtocolError> {
         Self::read(input).accepted()
@@ -174,12 +257,27 @@ impl OpenedBody {
     pub fn read(input: &[u8]) -> Read<Self> {
         Read::of(ffi::decode_opened(input))
     }
+
+    /// Writes a body.
+    pub fn encode(&self) -> Result<[u8; Self::SIZE], ProtocolError> {
+        written(ffi::encode_opened((*self).into()))
+    }
 }
 
 impl From<ffi::OpenedBody> for OpenedBody {
     fn from(body: ffi::OpenedBody) -> Self {
         Self {
             circuit_id: body.circuit_id.to_be_bytes(),
+            accepted_window: body.accepted_window,
+            endpoint_nonce: body.endpoint_nonce,
+        }
+    }
+}
+
+impl From<OpenedBody> for ffi::OpenedBody {
+    fn from(body: OpenedBody) -> Self {
+        Self {
+            circuit_id: u64::from_be_bytes(body.circuit_id),
             accepted_window: body.accepted_window,
             endpoint_nonce: body.endpoint_nonce,
         }
@@ -198,6 +296,11 @@ impl<'input> DataBody<'input> {
     pub fn decode(input: &'input [u8]) -> Result<Self, ProtocolError> {
         checked(ffi::decode_data(input)).map(|()| Self { bytes: input })
     }
+
+    /// The bytes, if they are a DATA: they are the body as they are, and reading and writing are one check.
+    pub fn encode(&self) -> Result<&'input [u8], ProtocolError> {
+        Self::decode(self.bytes).map(|data| data.bytes)
+    }
 }
 
 /// WINDOW: credit for the other side.
@@ -208,6 +311,9 @@ pub struct WindowBody {
 }
 
 impl WindowBody {
+    /// Its bytes: one number.
+    pub const SIZE: usize = 4;
+
     /// Reads and checks a body.
     pub fn decode(input: &[u8]) -> Result<Self, ProtocolError> {
         Self::read(input).accepted()
@@ -217,10 +323,21 @@ impl WindowBody {
     pub fn read(input: &[u8]) -> Read<Self> {
         Read::of(ffi::decode_window(input))
     }
+
+    /// Writes a body.
+    pub fn encode(&self) -> Result<[u8; Self::SIZE], ProtocolError> {
+        written(ffi::encode_window((*self).into()))
+    }
 }
 
 impl From<ffi::WindowBody> for WindowBody {
     fn from(body: ffi::WindowBody) -> Self {
+        Self { credit_delta: body.credit_delta }
+    }
+}
+
+impl From<WindowBody> for ffi::WindowBody {
+    fn from(body: WindowBody) -> Self {
         Self { credit_delta: body.credit_delta }
     }
 }
@@ -235,6 +352,14 @@ pub struct ReasonDetail {
 }
 
 impl ReasonDetail {
+    /// The most bytes of a CLOSE or an ERROR: reason, length, and the longest detail.
+    pub const MAX_SIZE: usize = DETAIL + MAX_DETAIL_SIZE;
+
+    /// The bytes that a writer hands back, if it does.
+    fn written(written: &ffi::DetailBytes) -> Result<Vec<u8>, ProtocolError> {
+        checked(written.cause).map(|()| written.bytes[..written.length].to_vec())
+    }
+
     /// The detail of an accepted body.
     fn detail(input: &[u8]) -> &str {
         std::str::from_utf8(&input[DETAIL..]).expect("an accepted detail is UTF-8")
@@ -267,6 +392,11 @@ impl<'input> CloseBody<'input> {
     pub fn read(input: &[u8]) -> Read<ReasonDetail> {
         Read::of(ffi::decode_close(input))
     }
+
+    /// Writes a body. A detail over [`MAX_DETAIL_SIZE`] is too large.
+    pub fn encode(&self) -> Result<Vec<u8>, ProtocolError> {
+        ReasonDetail::written(&ffi::encode_close(self.reason, self.detail.as_bytes()))
+    }
 }
 
 /// ERROR: one side, or the relay, ends a circuit that went wrong.
@@ -288,6 +418,11 @@ impl<'input> ErrorBody<'input> {
     /// The fields in front of the detail, of a refused body too.
     pub fn read(input: &[u8]) -> Read<ReasonDetail> {
         Read::of(ffi::decode_error(input))
+    }
+
+    /// Writes a body. A detail over [`MAX_DETAIL_SIZE`] is too large.
+    pub fn encode(&self) -> Result<Vec<u8>, ProtocolError> {
+        ReasonDetail::written(&ffi::encode_error(self.reason, self.detail.as_bytes()))
     }
 }
 

@@ -1,14 +1,21 @@
-//! The archive's C functions, and the structs that only pass between; one of the C library; and memory that is zero
-//! from the start. A slice is passed as its pointer and its length. All that is unsafe stands here.
+//! The archive's C functions, and the structs that only pass between; whether the archive is the one that is meant; one
+//! function of the C library; and memory that is zero from the start. A slice is passed as its pointer and its length.
+//! All that is unsafe stands here.
 pub mod body;
+pub mod interface;
 #[cfg(test)]
 mod layout;
 pub mod memory;
 pub mod random;
 pub mod relay;
 
-// Numbers of 64 bits are taken for `usize` and back, and `bytes_of` reads words as they lie in memory.
-const _: () = assert!(usize::BITS == 64 && cfg!(target_endian = "little"));
+// Numbers of 64 bits are taken for `usize` and back, `bytes_of` reads words as they lie in memory, and random bytes are
+// the kernel's.
+#[cfg(not(all(target_arch = "x86_64", target_os = "linux", target_pointer_width = "64", target_endian = "little")))]
+compile_error!(
+    "liblekchnam.a has code for x86-64 Linux with pointers of 64 bits, and this target is another: build for one such as \
+     x86_64-unknown-linux-gnu"
+);
 
 /// Why an input is refused; `error` has the names of the kinds.
 #[repr(C)]

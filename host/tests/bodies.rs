@@ -1,4 +1,5 @@
-//! Every reader of the archive against a second reading, written here from document 01.
+//! Every reader of the archive against a second reading of the rules, written here, and every writer against its
+//! reader.
 use lekchnam_host::body::{
     validate_packet, AcceptBody, CloseBody, DataBody, ErrorBody, IncomingBody, Invalid, OpenBody, OpenedBody,
     ProtocolError, Read, ReasonDetail, WindowBody,
@@ -24,7 +25,7 @@ struct Reading {
     fields: Vec<u8>,
 }
 
-/// Document 01: "A body is checked for early end, trailing bytes, then values."
+/// A body ends early, or has bytes left, or has a wrong value: refused for the first of these that holds.
 fn documented(input: &Input) -> Reading {
     let Input { message, bytes, .. } = input;
     let result = match message {
@@ -44,7 +45,8 @@ fn part(bytes: &[u8], at: usize, field: Field) -> Vec<u8> {
     bytes.get(at..at + field.width()).map_or(vec![0; field.width()], <[u8]>::to_vec)
 }
 
-/// "early end (offset, bytes missing)": "A 102-byte OPEN ends early at 99, missing 1."
+/// Where the first field starts that does not fit, and how many bytes it lacks: an OPEN of 102 bytes ends at 99, and
+/// lacks 1.
 fn early_end(input: &Input) -> Result<(), ProtocolError> {
     let length = input.bytes.len();
     match input.message.places().find(|(at, field)| at + field.width() > length) {
@@ -60,7 +62,7 @@ fn trailing(input: &Input) -> Result<(), ProtocolError> {
     }
 }
 
-/// "Ids, nonces and profile are not zero; windows 16,384 to 1,048,576." In an OPENED the circuit comes first.
+/// No id, nonce or profile is zero, and a window is 16,384 to 1,048,576. In an OPENED the circuit comes first.
 fn values(input: &Input) -> Result<(), ProtocolError> {
     let wrong = |(at, field): &(usize, Field)| !allowed(*field, &part(&input.bytes, *at, *field), input.key_valid);
     let Some((at, _)) = input.message.places().find(wrong) else { return Ok(()) };
@@ -93,7 +95,7 @@ fn data_size(length: usize) -> Result<(), ProtocolError> {
     }
 }
 
-/// "a length over 128, or not the count of bytes left, is Invalid"; "Detail is UTF-8".
+/// The length is at most 128 and just the bytes that follow; then the detail is UTF-8.
 fn detail(length_and_text: &[u8]) -> Result<(), ProtocolError> {
     let (length, text) = (usize::from(length_and_text[0]), &length_and_text[1..]);
     if length > MAX_DETAIL_SIZE || length != text.len() {
@@ -105,8 +107,7 @@ fn detail(length_and_text: &[u8]) -> Result<(), ProtocolError> {
     Ok(())
 }
 
-/// "Bytes after the lead are 0x80 to 0xBF, except that after 0xE0 comes 0xA0 to 0xBF, 0xED 0x80 to 0x9F, 0xF0
-/// 0x90 to 0xBF, 0xF4 0x80 to 0x8F."
+/// RFC 3629's table of bytes, row by row.
 fn rfc_3629(mut text: &[u8]) -> bool {
     const TAIL: std::ops::RangeInclusive<u8> = 0x80..=0xbf;
     loop {
@@ -168,9 +169,11 @@ fn with_detail(read: Read<ReasonDetail>, decoded: Result<(u16, &str), ProtocolEr
     Reading { result: read.result, fields }
 }
 
-/// A body as it stands on the wire.
+/// A body as it stands on the wire, and by the archive's reader and writer.
 trait Wire: Copy + Eq + Debug {
     fn wire(&self) -> Vec<u8>;
+    fn decoded(input: &[u8], key_valid: bool) -> Result<Self, ProtocolError>;
+    fn encoded(&self, key_valid: bool) -> Result<Vec<u8>, ProtocolError>;
 }
 
 impl Wire for OpenBody {
@@ -179,6 +182,14 @@ impl Wire for OpenBody {
         let ids = [&self.ticket_id[..], &self.reservation_id, &self.endpoint_key].concat();
         [&ids[..], &profile, &self.requester_nonce, &window].concat()
     }
+
+    fn decoded(input: &[u8], key_valid: bool) -> Result<Self, ProtocolError> {
+        Self::decode(input, key_valid)
+    }
+
+    fn encoded(&self, key_valid: bool) -> Result<Vec<u8>, ProtocolError> {
+        self.encode(key_valid).map(Vec::from)
+    }
 }
 
 impl Wire for IncomingBody {
@@ -186,11 +197,27 @@ impl Wire for IncomingBody {
         let (profile, window) = (self.profile.to_le_bytes(), self.initial_window.to_le_bytes());
         [&self.ticket_id[..], &self.open_request_id, &profile, &self.requester_nonce, &window].concat()
     }
+
+    fn decoded(input: &[u8], _: bool) -> Result<Self, ProtocolError> {
+        Self::decode(input)
+    }
+
+    fn encoded(&self, _: bool) -> Result<Vec<u8>, ProtocolError> {
+        self.encode().map(Vec::from)
+    }
 }
 
 impl Wire for AcceptBody {
     fn wire(&self) -> Vec<u8> {
         [&self.accepted_window.to_le_bytes()[..], &self.endpoint_nonce].concat()
+    }
+
+    fn decoded(input: &[u8], _: bool) -> Result<Self, ProtocolError> {
+        Self::decode(input)
+    }
+
+    fn encoded(&self, _: bool) -> Result<Vec<u8>, ProtocolError> {
+        self.encode().map(Vec::from)
     }
 }
 
@@ -198,11 +225,27 @@ impl Wire for OpenedBody {
     fn wire(&self) -> Vec<u8> {
         [&self.circuit_id[..], &self.accepted_window.to_le_bytes(), &self.endpoint_nonce].concat()
     }
+
+    fn decoded(input: &[u8], _: bool) -> Result<Self, ProtocolError> {
+        Self::decode(input)
+    }
+
+    fn encoded(&self, _: bool) -> Result<Vec<u8>, ProtocolError> {
+        self.encode().map(Vec::from)
+    }
 }
 
 impl Wire for WindowBody {
     fn wire(&self) -> Vec<u8> {
         self.credit_delta.to_le_bytes().to_vec()
+    }
+
+    fn decoded(input: &[u8], _: bool) -> Result<Self, ProtocolError> {
+        Self::decode(input)
+    }
+
+    fn encoded(&self, _: bool) -> Result<Vec<u8>, ProtocolError> {
+        self.encode().map(Vec::from)
     }
 }
 
@@ -232,8 +275,105 @@ fn bodies_by_chance() {
     println!("compared: {COUNT} bodies by chance, {accepted} of them accepted");
 }
 
-/// Document 01 names the Rust's `HnsrPacket::validate` here: a header of 12 bytes, at most 65,535 in all,
-/// and the size before the context.
+/// Writes the body that an input has, refused or not, and says whether it is written. It is exactly where the reader
+/// accepts the layout written out here, as that layout, and else for the reader's reason.
+fn rewrite(input: &Input) -> bool {
+    let Input { message, bytes, key_valid } = input;
+    match message {
+        Message::Open => rewritten(OpenBody::read(bytes, *key_valid).body, *key_valid),
+        Message::Incoming => rewritten(IncomingBody::read(bytes).body, *key_valid),
+        Message::Accept => rewritten(AcceptBody::read(bytes).body, *key_valid),
+        Message::Opened => rewritten(OpenedBody::read(bytes).body, *key_valid),
+        Message::Window => rewritten(WindowBody::read(bytes).body, *key_valid),
+        Message::Data => {
+            let written = DataBody { bytes }.encode();
+            assert_eq!(written, data_size(bytes.len()).map(|()| &bytes[..]));
+            written.is_ok()
+        }
+        Message::Close | Message::Error => rewritten_detail(bytes),
+    }
+}
+
+fn rewritten<Body: Wire>(body: Body, key_valid: bool) -> bool {
+    let wire = body.wire();
+    let written = body.encoded(key_valid);
+    let read = Body::decoded(&wire, key_valid);
+    assert_eq!(written, read.map(|_| wire), "{body:02x?}");
+    assert!(read.is_err() || read == Ok(body), "{body:02x?}");
+    read.is_ok()
+}
+
+/// The text behind the two fields, in a CLOSE and in an ERROR.
+fn rewritten_detail(bytes: &[u8]) -> bool {
+    let Some((&[low, high, _], text)) = bytes.split_first_chunk() else { return false };
+    let Ok(detail) = std::str::from_utf8(text) else { return false };
+    let reason = u16::from_le_bytes([low, high]);
+    let expected = match u8::try_from(detail.len()) {
+        Ok(length) if detail.len() <= MAX_DETAIL_SIZE => Ok([&[low, high, length], text].concat()),
+        _ => Err(ProtocolError::TooLarge { actual: detail.len(), maximum: MAX_DETAIL_SIZE }),
+    };
+    let (close, error) = (CloseBody { reason, detail }, ErrorBody { reason, detail });
+    assert_eq!((&close.encode(), &error.encode()), (&expected, &expected));
+    if let Ok(written) = &expected {
+        assert_eq!((CloseBody::decode(written), ErrorBody::decode(written)), (Ok(close), Ok(error)));
+    }
+    expected.is_ok()
+}
+
+#[test]
+fn what_is_written_is_read_and_what_is_refused_is_refused_alike() {
+    for message in MESSAGES {
+        let list = inputs(message);
+        let written = list.iter().filter(|input| rewrite(input)).count();
+        assert!(written > 0 && written < list.len());
+        println!("compared: {} bodies of {message:?} with its writer, {written} of them written", list.len());
+    }
+}
+
+#[test]
+fn bodies_written_by_chance() {
+    const COUNT: usize = 500_000;
+    let mut random = Random::new(4);
+    let written = (0..COUNT).filter(|_| rewrite(&by_chance(&mut random))).count();
+    assert!(written > COUNT / 4 && written < COUNT * 19 / 20, "{written} written");
+    println!("compared: {COUNT} bodies by chance with their writers, {written} of them written");
+}
+
+/// Each value that a writer refuses, in a body that is good otherwise.
+#[test]
+fn a_writer_names_what_is_wrong() {
+    let open = OpenBody {
+        ticket_id: [1; 32],
+        reservation_id: [2; 16],
+        endpoint_key: [3; 33],
+        profile: 1,
+        requester_nonce: [4; 16],
+        initial_window: MIN_WINDOW,
+    };
+    let wrong = [
+        OpenBody { ticket_id: [0; 32], ..open },
+        OpenBody { reservation_id: [0; 16], ..open },
+        OpenBody { profile: 0, ..open },
+        OpenBody { requester_nonce: [0; 16], ..open },
+        OpenBody { initial_window: MIN_WINDOW - 1, ..open },
+        OpenBody { initial_window: MAX_WINDOW + 1, ..open },
+    ];
+    assert!(open.encode(true).is_ok() && OpenBody { initial_window: MAX_WINDOW, ..open }.encode(true).is_ok());
+    for body in [wrong.map(|body| body.encode(true)).as_slice(), &[open.encode(false)]].concat() {
+        assert_eq!(body, Err(ProtocolError::Invalid(Invalid::OpenParameters)));
+    }
+    let opened = OpenedBody { circuit_id: [0; 8], accepted_window: 0, endpoint_nonce: [0; 16] };
+    assert_eq!(opened.encode(), Err(ProtocolError::Invalid(Invalid::CircuitZero)));
+    let accept = OpenedBody { circuit_id: [1; 8], ..opened };
+    assert_eq!(accept.encode(), Err(ProtocolError::Invalid(Invalid::AcceptResponse)));
+    let detail = "a".repeat(MAX_DETAIL_SIZE + 1);
+    let too_large = ProtocolError::TooLarge { actual: MAX_DETAIL_SIZE + 1, maximum: MAX_DETAIL_SIZE };
+    assert_eq!(CloseBody { reason: 0, detail: &detail }.encode(), Err(too_large));
+    assert_eq!(DataBody { bytes: &[] }.encode(), Err(ProtocolError::Invalid(Invalid::DataSize)));
+}
+
+/// The rule is the Rust's `HnsrPacket::validate`: a header of 12 bytes, at most 65,535 in all, and the size before the
+/// context.
 #[test]
 fn packets_of_every_opcode() {
     let list = packets();

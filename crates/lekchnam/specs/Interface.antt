@@ -90,7 +90,7 @@ actionSample = record {
   «circuit_id» = wide 40;
   destination = record { len = wide 41; bytes = replicate 128 (byte 42) };
   kind = byte 43;
-  «to_endpoint» = true;
+  «to_endpoint» = false;
   bytes = wide 45;
 }
 

@@ -1,7 +1,7 @@
 // What the archive tells of itself, for a host to compare before its first call: the number of its C interface, and a
 // sample of every struct that passes, alone or in another. Each field of the sample has a number of its own, which
-// fills the field: one that is elsewhere or of another width in the host's struct reads as another number. Of a `bool`
-// there are two samples alone.
+// fills the field: one that is elsewhere or of another width in the host's struct reads as another number. Of two
+// `bool`s in a record one is true.
 ghost use mathlib.Core.Path.{_≡_};
 ghost use Rattle.lekchnam.specs.Interface.{interfaceVersion, layoutSample, pendingSample, circuitSample};
 ghost use Rattle.lekchnam.specs.Interface.{usageSample, actionSample, packetSample, runtimeSample};
@@ -143,7 +143,7 @@ fn action_sample() -> InflightAction
             bytes: [0xaau8; MAXIMUM_PEER],
         },
         kind: 0xab,
-        to_endpoint: true,
+        to_endpoint: false,
         bytes: 0x8000_0000_0000_002d,
     }
 }

@@ -1,13 +1,16 @@
 //! Every struct that passes the C interface: its size, its alignment and where each field
 //! starts, as C has them on x86-64.
-use super::body::{AcceptBody, Answer, IncomingBody, OpenBody, OpenedBody, ReasonDetail, WindowBody};
+use super::body::{
+    AcceptBody, Answer, DetailBytes, IncomingBody, OpenBody, OpenedBody, ReasonDetail, WindowBody, Written,
+};
+use super::interface::Layout;
 use super::relay::{DueReply, RelayReply, StatusReply};
 use super::Cause;
 use crate::lent::{
     InflightAction, Places, RelayCircuit, RelayPacket, RelayPending, RelayTicket, ReservationId, ReservationUsage,
     Runtime, RuntimeCounters, StoredPeer,
 };
-use crate::{HnsrRuntimeStatus, OpaqueRelayConfig};
+use crate::{body, HnsrRuntimeStatus, OpaqueRelayConfig};
 use std::mem::{align_of, offset_of, size_of};
 
 macro_rules! layout {
@@ -40,6 +43,16 @@ fn answers_are_laid_out_as_in_c() {
     layout!(Answer<OpenedBody>, size 56, align 8, cause at 0, body at 24);
     layout!(Answer<WindowBody>, size 32, align 8, cause at 0, body at 24);
     layout!(Answer<ReasonDetail>, size 40, align 8, cause at 0, body at 24);
+}
+
+#[test]
+fn written_bodies_are_laid_out_as_in_c() {
+    layout!(Written<{ body::OpenBody::SIZE }>, size 128, align 8, cause at 0, bytes at 24);
+    layout!(Written<{ body::IncomingBody::SIZE }>, size 88, align 8, cause at 0, bytes at 24);
+    layout!(Written<{ body::AcceptBody::SIZE }>, size 48, align 8, cause at 0, bytes at 24);
+    layout!(Written<{ body::OpenedBody::SIZE }>, size 56, align 8, cause at 0, bytes at 24);
+    layout!(Written<{ body::WindowBody::SIZE }>, size 32, align 8, cause at 0, bytes at 24);
+    layout!(DetailBytes, size 168, align 8, cause at 0, length at 24, bytes at 32);
 }
 
 #[test]
@@ -81,4 +94,11 @@ fn replies_are_laid_out_as_in_c() {
     layout!(RelayReply, size 232, align 8, answer at 0, cause at 8, words at 32, runtime at 40, places at 200);
     layout!(StatusReply, size 104, align 8, answer at 0, status at 8);
     layout!(DueReply, size 16, align 8, answer at 0, some at 4, due at 8);
+}
+
+#[test]
+fn what_the_archive_tells_of_itself_is_laid_out_as_in_c() {
+    layout!(Layout, size 1624, align 8, pending at 0, circuit at 360, usage at 720, action at 760, packet at 944,
+        reply at 1024, status_reply at 1256, due_reply at 1360, open_body at 1376, incoming_body at 1480,
+        accept_body at 1544, opened_body at 1568, window_body at 1600, reason_detail at 1608);
 }

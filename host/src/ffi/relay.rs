@@ -1,6 +1,7 @@
 //! The relay's calls. The runtime goes in and comes back by value, and so do the numbers of places in use; a table
-//! that a call does not need is not lent to it.
-use super::Cause;
+//! that a call does not need is not lent to it. `new` and `status`, of which every relay that is made or resumed goes
+//! through one, look whether the archive is the one that is declared here.
+use super::{interface, Cause};
 use crate::config::OpaqueRelayConfig;
 use crate::lent::{
     InflightAction, Packet, Places, RelayCircuit, RelayPacket, RelayPending, ReservationId, ReservationUsage, Runtime,
@@ -9,7 +10,7 @@ use crate::lent::{
 use crate::route::HnsrActionId;
 use crate::status::HnsrRuntimeStatus;
 
-/// `answer` is 0, or document 01's number of the refusal; `words` is how many output words are written.
+/// `answer` is 0, or the number of the refusal; `words` is how many output words are written.
 #[repr(C)]
 #[derive(Clone, Copy)]
 pub struct RelayReply {
@@ -199,6 +200,7 @@ pub fn validate_config(config: OpaqueRelayConfig) -> u32 {
 }
 
 pub fn new(tables: &Tables, session: [u8; 16], generation: u64, config: OpaqueRelayConfig, time: u64) -> RelayReply {
+    interface::checked();
     let Tables { pending, circuits, ledger, inflight, .. } = tables;
     call!(opaque_relay_new, read pending, circuits, ledger, inflight; &session, generation, config, time)
 }
@@ -256,6 +258,7 @@ pub fn observe_time(runtime: Runtime, places: Places, time: u64) -> RelayReply {
 }
 
 pub fn status(tables: &Tables, runtime: Runtime) -> StatusReply {
+    interface::checked();
     let Tables { pending, circuits, inflight, places, .. } = tables;
     call!(opaque_relay_status, read pending, circuits, inflight; runtime, *places)
 }

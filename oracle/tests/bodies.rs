@@ -1,5 +1,5 @@
-//! The archive's readers against the Rust's own: answers, causes with their values and words, and every field of an
-//! accepted body. The inputs are those of host/tests/bodies.rs.
+//! The archive's readers and writers against the Rust's own: answers, causes with their values and words, every field of
+//! an accepted body, and every byte of a written one. The inputs are those of host/tests/bodies.rs.
 use hns_encoding::DecodeError;
 use hns_hnsr_protocol::{self as rust, HnsrOpcode, HnsrPacket, HnsrProtocolError};
 use lekchnam_host::body::{self as archive, Invalid, ProtocolError};
@@ -81,6 +81,73 @@ fn compare(input: &Input) -> bool {
     let reading = by_rust(input);
     assert_eq!(by_archive(input), reading, "{input:02x?}");
     reading.is_ok()
+}
+
+/// What both writers make of one body, which the archive's reader has read, accepted or not.
+macro_rules! written {
+    ($body:ident $read:expr, $($field:ident),+ $(; $key:expr)?) => {{
+        let archive::$body { $($field),+ } = $read;
+        let by_rust = rust::$body { $($field),+ }.encode().map_err(refused);
+        let by_archive = archive::$body { $($field),+ }.encode($($key)?).map(Vec::from).map_err(with_words);
+        assert_eq!(by_archive, by_rust);
+        by_rust.is_ok()
+    }};
+}
+
+/// The text behind the reason and the length, where it is UTF-8: no other can be handed to either.
+fn detail_written(bytes: &[u8]) -> bool {
+    let Some((&[low, high, _], text)) = bytes.split_first_chunk() else { return false };
+    let Ok(detail) = std::str::from_utf8(text) else { return false };
+    let reason = u16::from_le_bytes([low, high]);
+    let closed = rust::CloseBody { reason, detail: detail.to_owned() }.encode().map_err(refused);
+    let failed = rust::ErrorBody { reason, detail: detail.to_owned() }.encode().map_err(refused);
+    assert_eq!(archive::CloseBody { reason, detail }.encode().map_err(with_words), closed);
+    assert_eq!(archive::ErrorBody { reason, detail }.encode().map_err(with_words), failed);
+    closed.is_ok()
+}
+
+/// Compares the writers on the body of one input and says whether it is written.
+fn compare_written(input: &Input) -> bool {
+    let Input { message, bytes, key_valid } = input;
+    k256::set_key_valid(*key_valid);
+    match message {
+        Message::Open => written!(OpenBody archive::OpenBody::read(bytes, *key_valid).body, ticket_id, reservation_id,
+            endpoint_key, profile, requester_nonce, initial_window; *key_valid),
+        Message::Incoming => written!(IncomingBody archive::IncomingBody::read(bytes).body, ticket_id, open_request_id,
+            profile, requester_nonce, initial_window),
+        Message::Accept => {
+            written!(AcceptBody archive::AcceptBody::read(bytes).body, accepted_window, endpoint_nonce)
+        }
+        Message::Opened => {
+            written!(OpenedBody archive::OpenedBody::read(bytes).body, circuit_id, accepted_window, endpoint_nonce)
+        }
+        Message::Window => written!(WindowBody archive::WindowBody::read(bytes).body, credit_delta),
+        Message::Data => {
+            let by_rust = rust::DataBody { bytes: bytes.clone() }.encode().map_err(refused);
+            let by_archive = archive::DataBody { bytes }.encode().map(Vec::from).map_err(with_words);
+            assert_eq!(by_archive, by_rust);
+            by_rust.is_ok()
+        }
+        Message::Close | Message::Error => detail_written(bytes),
+    }
+}
+
+#[test]
+fn what_is_written_of_each_input() {
+    for message in MESSAGES {
+        let list = inputs(message);
+        let written = list.iter().filter(|input| compare_written(input)).count();
+        assert!(written > 0 && written < list.len());
+        println!("compared with the Rust: {} bodies of {message:?}, {written} of them written", list.len());
+    }
+}
+
+#[test]
+fn what_is_written_by_chance() {
+    const COUNT: usize = 500_000;
+    let mut random = Random::new(5);
+    let written = (0..COUNT).filter(|_| compare_written(&by_chance(&mut random))).count();
+    println!("compared with the Rust: {COUNT} bodies by chance, {written} of them written");
 }
 
 #[test]

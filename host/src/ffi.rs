@@ -13,8 +13,8 @@ pub mod relay;
 // the kernel's.
 #[cfg(not(all(target_arch = "x86_64", target_os = "linux", target_pointer_width = "64", target_endian = "little")))]
 compile_error!(
-    "liblekchnam.a has code for x86-64 Linux with pointers of 64 bits, and this target is another: build for one such as \
-     x86_64-unknown-linux-gnu"
+    "liblekchnam.a has code for x86-64 Linux with pointers of 64 bits, and this target is another: build for one \
+     such as x86_64-unknown-linux-gnu"
 );
 
 /// Why an input is refused; `error` has the names of the kinds.

@@ -1,5 +1,5 @@
-//! The archive's readers and writers against the Rust's own: answers, causes with their values and words, every field of
-//! an accepted body, and every byte of a written one. The inputs are those of host/tests/bodies.rs.
+//! The archive's readers and writers against the Rust's own: answers, causes with their values and words, every field
+//! of an accepted body, and every byte of a written one. The inputs are those of host/tests/bodies.rs.
 use hns_encoding::DecodeError;
 use hns_hnsr_protocol::{self as rust, HnsrOpcode, HnsrPacket, HnsrProtocolError};
 use lekchnam_host::body::{self as archive, Invalid, ProtocolError};

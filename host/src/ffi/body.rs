@@ -60,8 +60,8 @@ pub struct Answer<Body> {
     pub body: Body,
 }
 
-/// `OpenBytes`, `IncomingBytes`, `AcceptBytes`, `OpenedBytes` and `WindowBytes` of the archive: zeros where the cause is
-/// a refusal.
+/// `OpenBytes`, `IncomingBytes`, `AcceptBytes`, `OpenedBytes` and `WindowBytes` of the archive: zeros where the cause
+/// is a refusal.
 #[repr(C)]
 #[derive(Clone, Copy)]
 pub struct Written<const SIZE: usize> {

@@ -1,5 +1,5 @@
-//! A sample of every struct that passes: as the archive defines it (crates/lekchnam/specs/Interface.antt), written out a
-//! second time.
+//! A sample of every struct that passes: as the archive defines it (crates/lekchnam/specs/Interface.antt), written out
+//! a second time.
 use crate::config::OpaqueRelayConfig;
 use crate::ffi::body::{AcceptBody, IncomingBody, OpenBody, OpenedBody, ReasonDetail, WindowBody};
 use crate::ffi::relay::{DueReply, RelayReply, StatusReply};

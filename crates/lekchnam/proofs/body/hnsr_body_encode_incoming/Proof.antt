@@ -10,8 +10,10 @@ use Rattle.lekchnam.proofs.body.hnsr_body_encode_incoming.Proof.At as a
 returns : tie.Need-returns
 returns c =
     let here = at.returns c in
-    let w = here .encode .ensures in
-    (here .cause .ensures ∙ ap (λ (r : IncomingWritten). causeNumbers (r .result)) w, ap (λ (r : IncomingWritten). r .bytes) w)
+    let w = here .encode .ensures in (
+      here .cause .ensures ∙ ap (λ (r : IncomingWritten). causeNumbers (r .result)) w,
+      ap (λ (r : IncomingWritten). r .bytes) w,
+    )
 
 pub hnsr-body-encode-incoming-spec : {M : Type 1} → statement M
 hnsr-body-encode-incoming-spec = tie.close (at.spec returns)

@@ -10,8 +10,10 @@ use Rattle.lekchnam.proofs.body.hnsr_body_encode_window.Proof.At as at
 returns : tie.Need-returns
 returns c =
     let here = at.returns c in
-    let w = here .encode .ensures in
-    (here .cause .ensures ∙ ap (λ (r : WindowWritten). causeNumbers (r .result)) w, ap (λ (r : WindowWritten). r .bytes) w)
+    let w = here .encode .ensures in (
+      here .cause .ensures ∙ ap (λ (r : WindowWritten). causeNumbers (r .result)) w,
+      ap (λ (r : WindowWritten). r .bytes) w,
+    )
 
 pub hnsr-body-encode-window-spec : {M : Type 1} → statement M
 hnsr-body-encode-window-spec = tie.close (at.spec returns)

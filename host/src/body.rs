@@ -71,7 +71,7 @@ pub struct OpenBody {
 }
 
 impl OpenBody {
-    /// Its bytes: ticket, reservation, key, profile, nonce and window.
+    /// How many bytes it has: ticket, reservation, key, profile, nonce and window.
     pub const SIZE: usize = 32 + 16 + 33 + 2 + 16 + 4;
 
     /// Reads and checks a body; `key_valid` says whether the bytes at `endpoint_key` are a valid key.
@@ -149,7 +149,7 @@ pub struct IncomingBody {
 }
 
 impl IncomingBody {
-    /// Its bytes: ticket, request, profile, nonce and window.
+    /// How many bytes it has: ticket, request, profile, nonce and window.
     pub const SIZE: usize = 32 + 8 + 2 + 16 + 4;
 
     /// Reads and checks a body.
@@ -202,7 +202,7 @@ pub struct AcceptBody {
 }
 
 impl AcceptBody {
-    /// Its bytes: window and nonce.
+    /// How many bytes it has: window and nonce.
     pub const SIZE: usize = 4 + 16;
 
     /// Reads and checks a body.
@@ -245,7 +245,7 @@ pub struct OpenedBody {
 }
 
 impl OpenedBody {
-    /// Its bytes: the circuit, and an ACCEPT's.
+    /// How many bytes it has: the circuit's, and those of an ACCEPT.
     pub const SIZE: usize = 8 + AcceptBody::SIZE;
 
     /// Reads and checks a body.
@@ -311,7 +311,7 @@ pub struct WindowBody {
 }
 
 impl WindowBody {
-    /// Its bytes: one number.
+    /// How many bytes it has: one number's.
     pub const SIZE: usize = 4;
 
     /// Reads and checks a body.
@@ -394,6 +394,15 @@ impl<'input> CloseBody<'input> {
     }
 
     /// Writes a body. A detail over [`MAX_DETAIL_SIZE`] is too large.
+    ///
+    /// ```
+    /// use lekchnam_host::body::{CloseBody, ProtocolError};
+    ///
+    /// assert_eq!(CloseBody { reason: 7, detail: "paid" }.encode(), Ok(b"\x07\x00\x04paid".to_vec()));
+    /// let long = "a".repeat(129);
+    /// let refused = ProtocolError::TooLarge { actual: 129, maximum: 128 };
+    /// assert_eq!(CloseBody { reason: 7, detail: &long }.encode(), Err(refused));
+    /// ```
     pub fn encode(&self) -> Result<Vec<u8>, ProtocolError> {
         ReasonDetail::written(&ffi::encode_close(self.reason, self.detail.as_bytes()))
     }

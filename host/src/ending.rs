@@ -3,37 +3,13 @@ use crate::admission::Admission;
 use crate::body::CloseBody;
 use crate::error::HnsrRuntimeError;
 use crate::lent::{RelayCircuit, RelayPending, StoredPeer, Tables};
+use crate::owned::{HnsrPacketBuf, HnsrRouteBuf, QueuedHnsrRouteBuf};
 use crate::packet::{HnsrOpcode, HnsrPacket};
 use crate::peer::HnsrPeerId;
 use crate::random::RandomSource;
 use crate::relay::OpaqueRelayRuntime;
-use crate::route::{HnsrActionId, HnsrRoute};
+use crate::route::HnsrRoute;
 use crate::why::names;
-use owned::{HnsrPacketBuf, HnsrRouteBuf};
-
-mod owned {
-    use super::{HnsrOpcode, HnsrPeerId};
-
-    /// A packet with its body.
-    #[derive(Clone, Debug, Eq, PartialEq)]
-    pub struct HnsrPacketBuf {
-        /// What it is.
-        pub opcode: HnsrOpcode,
-        /// The circuit that it is about, or the request.
-        pub context_id: [u8; 8],
-        /// The rest.
-        pub body: Vec<u8>,
-    }
-
-    /// A packet with its body, and the peer that it goes to.
-    #[derive(Clone, Debug, Eq, PartialEq)]
-    pub struct HnsrRouteBuf {
-        /// The peer.
-        pub destination: HnsrPeerId,
-        /// The packet.
-        pub packet: HnsrPacketBuf,
-    }
-}
 
 /// What [`end_circuit`](OpaqueRelayRuntime::end_circuit) has for the two sides: each hears once.
 #[must_use = "both sides are to be told, and the counted route is to be acknowledged"]
@@ -41,7 +17,7 @@ mod owned {
 pub struct EndedCircuit {
     /// A route of the relay: to be sent, and to be acknowledged by its number. None where there was no room for it;
     /// then its packet is among the others.
-    pub counted: Option<(HnsrActionId, HnsrRouteBuf)>,
+    pub counted: Option<QueuedHnsrRouteBuf>,
     /// To be sent. The relay does not count these, and there is nothing to acknowledge.
     pub uncounted: Vec<HnsrRouteBuf>,
 }
@@ -86,13 +62,13 @@ impl<Random: RandomSource> OpaqueRelayRuntime<Random> {
     /// let circuit = routes.iter().next().expect("one route").route.packet.context_id;
     ///
     /// let ended = relay.end_circuit(circuit, 11, "closing down", 101)?;
-    /// let (number, to_supplier) = ended.counted.expect("there was room");
-    /// assert_eq!((to_supplier.destination, to_supplier.packet.context_id), (supplier, *b"request1"));
-    /// assert_eq!(CloseBody::decode(&to_supplier.packet.body)?.detail, "closing down");
+    /// let queued = ended.counted.expect("there was room");
+    /// assert_eq!((queued.route.destination, queued.route.packet.context_id), (supplier, *b"request1"));
+    /// assert_eq!(CloseBody::decode(&queued.route.packet.body)?.detail, "closing down");
     /// let [to_merchant] = &ended.uncounted[..] else { panic!("one packet") };
     /// assert_eq!((to_merchant.destination, to_merchant.packet.context_id), (merchant, circuit));
     ///
-    /// relay.acknowledge(number, true)?;
+    /// assert!(relay.acknowledge(queued.action_id, true)?.is_empty());
     /// assert_eq!(relay.status().queued_actions, 0);
     /// assert_eq!(relay.end_circuit(circuit, 11, "", 101), Err(HnsrRuntimeError::UnknownCircuit));
     /// # Ok::<(), HnsrRuntimeError>(())
@@ -104,8 +80,7 @@ impl<Random: RandomSource> OpaqueRelayRuntime<Random> {
         detail: &str,
         now: u64,
     ) -> Result<EndedCircuit, HnsrRuntimeError> {
-        let body = close_body(reason, detail);
-        CloseBody::decode(&body)?;
+        let body = CloseBody { reason, detail }.encode()?;
         let found = Found::of(self.tables(), u64::from_be_bytes(circuit_id)).ok_or(HnsrRuntimeError::UnknownCircuit)?;
         let speaks = found.speaks(self.tables()).ok_or(HnsrRuntimeError::InvalidAdmission)?;
         let packet = HnsrPacket { opcode: HnsrOpcode::Close, context_id: speaks.context, body: &body };
@@ -126,15 +101,9 @@ impl<Random: RandomSource> OpaqueRelayRuntime<Random> {
         let others = [found.requester, found.endpoint].into_iter().filter(|side| Some(*side) != heard && side.hears());
         Ok(EndedCircuit {
             uncounted: others.map(|side| told(&side)).collect(),
-            counted: counted.map(|(action_id, side)| (action_id, told(&side))),
+            counted: counted.map(|(action_id, side)| QueuedHnsrRouteBuf { action_id, route: told(&side) }),
         })
     }
-}
-
-/// The body of a CLOSE. A detail that is too long gets a length that every reader refuses.
-fn close_body(reason: u16, detail: &str) -> Vec<u8> {
-    let length = u8::try_from(detail.len()).unwrap_or(u8::MAX);
-    [&reason.to_le_bytes()[..], &[length], detail.as_bytes()].concat()
 }
 
 /// A side, and the context that a record has for it.
@@ -146,7 +115,7 @@ struct Side {
 
 impl Side {
     fn new(peer: &StoredPeer, context: u64) -> Self {
-        Self { peer: HnsrPeerId::padded(peer.as_bytes()), context: context.to_be_bytes() }
+        Self { peer: HnsrPeerId::found(peer), context: context.to_be_bytes() }
     }
 
     /// Whether it can be told: only tables that a host put together have a name of no bytes, or a context of zero.

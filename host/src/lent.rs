@@ -1,8 +1,8 @@
 //! The calls over tables and output words that the host keeps itself and lends for each call.
 //!
 //! Every call takes any records, any runtime, any words and any bytes, and answers with how many output words it wrote
-//! or with a refusal. [`Routes`](crate::Routes) reads the words. What a refusal leaves is document 01's: the output
-//! always, and the tables and the runtime but where it says otherwise.
+//! or with a refusal. [`Routes`](crate::Routes) reads the words. A refusal leaves the output always, and the tables and
+//! the runtime but where the rules (docs/RULES.md) say that something stays.
 //!
 //! With the tables go four numbers, [`Places`]: of each table how many places are in use. A call takes them from the
 //! tables and puts them back there, so a host has only to store them with the records.
@@ -31,6 +31,7 @@ use crate::route::HnsrActionId;
 use crate::status::HnsrRuntimeStatus;
 
 pub use crate::limits::{CLOSING_WORDS, HANDLE_WORDS};
+pub use crate::why::why;
 pub use places::Places;
 pub use records::{
     InflightAction, RelayCircuit, RelayPacket, RelayPending, RelayTicket, ReservationId, ReservationUsage, Runtime,

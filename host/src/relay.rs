@@ -17,9 +17,15 @@ const PLACES_ARE_ENOUGH: &str = "the tables have the places that they need";
 
 /// A relay of circuits between two peers. It does not read their DATA, and it owns no socket and no clock.
 ///
-/// Each route that a call hands out counts until [`acknowledge`](Self::acknowledge) is called with its number. Memory
-/// is taken once, by `new`: for tables of as many places as the configuration allows, and for output words that are
-/// enough for every call. So no call is ever refused for want of places or words (22). Memory is touched where
+/// A host has four things to do. It hands packets to [`handle`](Self::handle). It sends every route that any call hands
+/// out, in order, and calls [`acknowledge`](Self::acknowledge) with its number once, delivered or not: till then the
+/// route keeps its place. It calls [`disconnect`](Self::disconnect) where a connection ends, and
+/// [`expire`](Self::expire) when [`next_due`](Self::next_due) has come. What it does with a refusal,
+/// [`HnsrRuntimeError::advice`] says, and [`why`](Self::why) which row of the rules it was. docs/HOSTING.md has all
+/// that a host author must know, and `host/examples/tcp` is such a host.
+///
+/// Memory is taken once, by `new`: for tables of as many places as the configuration allows, and for output words that
+/// are enough for every call. So no call is ever refused for want of places or words (22). Memory is touched where
 /// records and words come to stand: a new relay of any size uses hardly any, and a call looks through the places in
 /// use ([`Places`](lent::Places)), not through all.
 pub struct OpaqueRelayRuntime<Random = OsRandom> {
@@ -34,6 +40,12 @@ pub struct OpaqueRelayRuntime<Random = OsRandom> {
 impl OpaqueRelayRuntime {
     /// A new relay, switched on, that draws ids from the operating system and has
     /// [`OpaqueRelayConfig::ledger_places`] in its ledger.
+    ///
+    /// `session` names the process that the relay is in: any sixteen bytes that are not all zero, other ones at each
+    /// start. The relay keeps it for the host and does not look at it again. `generation` is 1 or more. It is a part of
+    /// every [`HnsrActionId`], and [`replace_enabled`](Self::replace_enabled) raises it: a word on a route of an
+    /// earlier generation is refused with 5. A host that makes a relay anew in one process, and may still hold numbers
+    /// of the one before, starts it with a generation that is higher than the last one's.
     pub fn new(
         session: [u8; 16],
         generation: u64,
@@ -92,7 +104,19 @@ impl<Random: RandomSource> OpaqueRelayRuntime<Random> {
         Ok(Self { runtime, tables, out, words: 0, random })
     }
 
-    /// Takes a packet of the peer `source`. Of an OPEN the host says whether it is admitted.
+    /// Takes a packet of the peer `source`. Of an OPEN the host says whether it is admitted; of any other packet the
+    /// relay does not look at `admission`.
+    ///
+    /// `source` is the connection that the packet came by. A peer is a side of at most 32 circuits and waiting OPENs
+    /// ([`MAX_CIRCUITS`](crate::limits::MAX_CIRCUITS)); one that needs more comes by several connections, each with a
+    /// name of its own. `now` is in seconds and never less than before, else 7: [`MonotonicClock`](crate::MonotonicClock)
+    /// has such. Whatever the answer behind the clock's test, the relay's clock has moved to it.
+    ///
+    /// DATA is taken until its circuit ends, also past `expires_at`: it is [`expire`](Self::expire) that ends it.
+    ///
+    /// A refused packet has sent nothing. **A refused DATA is offered again, or its circuit is ended**
+    /// ([`end_circuit`](Self::end_circuit)). A host that skips it and takes the next one leaves a hole in the stream.
+    /// [`HnsrRuntimeError::advice`] says which of the two.
     pub fn handle(
         &mut self,
         admission: &Admission<'_>,
@@ -109,44 +133,46 @@ impl<Random: RandomSource> OpaqueRelayRuntime<Random> {
             }
             _ => &[],
         };
-        let (key_valid, grant) = admission.parts();
-        let granted = grant.unwrap_or_default();
-        let head = RelayPacket {
-            opcode: packet.opcode.into(),
-            context_id: u64::from_be_bytes(packet.context_id),
-            now,
-            key_valid,
-            admitted: grant.is_some(),
-            ticket: granted.ticket(),
-        };
-        let (source, endpoint) = (source.as_bytes(), granted.endpoint);
-        let packet = Packet { head, source, body: packet.body, endpoint, random };
+        let packet = handed(admission, source, packet, now, random);
         let answer = lent::handle(&mut self.tables, &mut self.out, &mut self.runtime, &packet);
         self.routed(answer)
     }
 
-    /// Takes the word that a route was delivered, or was not: then what it was for ends.
+    /// Takes the word that a route was delivered, or was not: then what it was for ends, and the routes that come out
+    /// tell so.
+    ///
+    /// Each route is acknowledged once, in any order: `true` when its bytes are handed to the connection, `false` when
+    /// they cannot be, or its peer is not there. The place of one that is forgotten comes back with the end of its
+    /// circuit; that of a CLOSE or an ERROR, whose circuit has ended, only where its peer is disconnected (again) or the
+    /// relay is switched. [`actions`](Self::actions) shows them all, [`oldest_action`](Self::oldest_action) the oldest.
+    ///
+    /// 5 and 20 are normal: the route's circuit, peer or generation ended before its word came, and its place is free
+    /// already.
     pub fn acknowledge(&mut self, action_id: HnsrActionId, delivered: bool) -> Result<Routes<'_>, HnsrRuntimeError> {
         let answer = lent::acknowledge(&mut self.tables, &mut self.out, &mut self.runtime, action_id, delivered);
         self.routed(answer)
     }
 
-    /// Ends all that a peer is a side of. Refused, with 4, is only a name of no bytes, which no peer has: a route may
-    /// have it where stored tables do.
+    /// Ends all that a peer is a side of, and drops every route toward it. Refused, with 4, is only a name of no bytes,
+    /// which no peer has: a route may have it where stored tables do.
+    ///
+    /// Of each circuit both sides are told, so routes come out to the peer that is gone, too: acknowledge these with
+    /// `false`, or they keep their places.
     pub fn disconnect(&mut self, peer: &HnsrPeerId) -> Result<Routes<'_>, HnsrRuntimeError> {
         let answer = lent::disconnect(&mut self.tables, &mut self.out, &mut self.runtime, peer.as_bytes());
         self.routed(answer)
     }
 
-    /// Ends all that goes by a reservation. Its one refusal is 22, and the relay has places and words enough.
+    /// Ends all that goes by a reservation, and forgets what it has used: an OPEN may then come under the same id with
+    /// another expiry. Its one refusal is 22, and the relay has places and words enough.
     pub fn revoke_reservation(&mut self, reservation_id: [u8; 16]) -> Result<Routes<'_>, HnsrRuntimeError> {
         let answer =
             lent::revoke_reservation(&mut self.tables, &mut self.out, &mut self.runtime, reservation_id.into());
         self.routed(answer)
     }
 
-    /// Moves the clock and ends all whose time is over. [`next_due`](Self::next_due) says when there is something to
-    /// end.
+    /// Moves the clock and ends all whose time is over: OPENs that nobody accepted, circuits whose reservation ended.
+    /// Nothing ends by itself. [`next_due`](Self::next_due) says when there is something to end.
     pub fn expire(&mut self, now: u64) -> Result<Routes<'_>, HnsrRuntimeError> {
         let answer = lent::expire(&mut self.tables, &mut self.out, &mut self.runtime, now);
         self.routed(answer)
@@ -159,6 +185,9 @@ impl<Random: RandomSource> OpaqueRelayRuntime<Random> {
     }
 
     /// Switches the relay on or off. A change raises the generation and drops every unacknowledged route; off ends all.
+    ///
+    /// `expected_generation` is what the host takes the generation for: 5 where it is another, so that of two hosts'
+    /// parts that switch at once one hears that it came late.
     pub fn replace_enabled(&mut self, expected_generation: u64, enabled: bool) -> Result<Routes<'_>, HnsrRuntimeError> {
         let answer =
             lent::replace_enabled(&mut self.tables, &mut self.out, &mut self.runtime, expected_generation, enabled);
@@ -213,6 +242,27 @@ impl<Random> OpaqueRelayRuntime<Random> {
     pub fn into_parts(self) -> (Runtime, Tables) {
         (self.runtime, self.tables)
     }
+}
+
+/// What a call of `handle` hands over.
+pub(crate) fn handed<'a>(
+    admission: &Admission<'a>,
+    source: &'a HnsrPeerId,
+    packet: &HnsrPacket<'a>,
+    now: u64,
+    random: &'a [u8],
+) -> Packet<'a> {
+    let (key_valid, grant) = admission.parts();
+    let granted = grant.unwrap_or_default();
+    let head = RelayPacket {
+        opcode: packet.opcode.into(),
+        context_id: u64::from_be_bytes(packet.context_id),
+        now,
+        key_valid,
+        admitted: grant.is_some(),
+        ticket: granted.ticket(),
+    };
+    Packet { head, source: source.as_bytes(), body: packet.body, endpoint: granted.endpoint, random }
 }
 
 impl<Random> Debug for OpaqueRelayRuntime<Random> {

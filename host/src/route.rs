@@ -6,7 +6,7 @@ use crate::peer::HnsrPeerId;
 use std::fmt::{self, Debug, Display, Formatter};
 use std::iter::FusedIterator;
 
-// Document 01, "Output words": a kind word with the name's length; generation and sequence, high word first; the
+// OUT.2 to OUT.5: a kind word with the name's length; generation and sequence, high word first; the
 // name; a kind word with the opcode and the body's length; the context; and the body behind these.
 const GENERATION: usize = 1;
 const SEQUENCE: usize = GENERATION + 2;

@@ -3,11 +3,11 @@ mod asked;
 mod row;
 
 use crate::admission::Admission;
-use crate::error::HnsrRuntimeError;
-use crate::lent::{Packet, RelayPacket, Runtime, Tables};
+use crate::error::{Advice, HnsrRuntimeError};
+use crate::lent::{Packet, Runtime, Tables};
 use crate::packet::HnsrPacket;
 use crate::peer::HnsrPeerId;
-use crate::relay::OpaqueRelayRuntime;
+use crate::relay::{handed, OpaqueRelayRuntime};
 use asked::Asked;
 
 pub(crate) use asked::names;
@@ -74,21 +74,20 @@ impl<Random> OpaqueRelayRuntime<Random> {
         packet: &HnsrPacket<'_>,
         now: u64,
     ) -> Option<Row> {
-        why(self.tables(), self.runtime(), &handed(admission, source, packet, now), refused)
+        why(self.tables(), self.runtime(), &handed(admission, source, packet, now, &[]), refused)
     }
-}
 
-/// What `handle` hands over, but for random bytes, which no row reads.
-fn handed<'a>(admission: &Admission<'a>, source: &'a HnsrPeerId, packet: &HnsrPacket<'a>, now: u64) -> Packet<'a> {
-    let (key_valid, grant) = admission.parts();
-    let granted = grant.unwrap_or_default();
-    let head = RelayPacket {
-        opcode: packet.opcode.into(),
-        context_id: u64::from_be_bytes(packet.context_id),
-        now,
-        key_valid,
-        admitted: grant.is_some(),
-        ticket: granted.ticket(),
-    };
-    Packet { head, source: source.as_bytes(), body: packet.body, endpoint: granted.endpoint, random: &[] }
+    /// What to do with a packet that [`handle`](Self::handle) refused: asked straight after it, with the same arguments.
+    /// The row's advice where [`why`](Self::why) finds one, else the number's.
+    pub fn advice(
+        &self,
+        refused: HnsrRuntimeError,
+        admission: &Admission<'_>,
+        source: &HnsrPeerId,
+        packet: &HnsrPacket<'_>,
+        now: u64,
+    ) -> Advice {
+        self.why(refused, admission, source, packet, now)
+            .map_or_else(|| refused.advice(Some(packet.opcode)), Row::advice)
+    }
 }

@@ -1,6 +1,6 @@
 //! What a host does with a refusal: the table, and that it leads nowhere wrong.
 use crate::fixture::{
-    accept_body, circuit, grant, open, peer, relay, say, small, Relay, EXPIRY, START, WINDOW as CREDIT,
+    accept_body, circuit, grant, open, peer, relay, say, small, Relay, START, WINDOW as CREDIT,
 };
 use crate::random::Random;
 use lekchnam_host::body::{Invalid, ProtocolError};
@@ -182,7 +182,7 @@ fn an_undelivered_incoming_may_leave_the_requester_untold() {
         OpaqueRelayConfig { maximum_inflight_actions_per_circuit: 2, maximum_inflight_actions_per_peer: 2, ..small() };
     let mut relay = relay(config);
     let busy = circuit(&mut relay, b"r", b"f", 1);
-    say(&mut relay, b"f", HnsrOpcode::Data, busy, b"x").expect("DATA");
+    let _ = say(&mut relay, b"f", HnsrOpcode::Data, busy, b"x").expect("DATA");
     open(&mut relay, b"r", 2, grant(b"e")).expect("an OPEN");
     let incoming = HnsrActionId { generation: 1, sequence: 4 };
     let refused = relay.acknowledge(incoming, false).unwrap_err();
@@ -211,19 +211,4 @@ fn a_stranger_ends_nothing() {
     }
     assert_eq!(relay.status().active_circuits, 1);
     assert!(say(&mut relay, b"r", HnsrOpcode::Data, id, b"x").is_ok());
-}
-
-/// The recipe for renewing: under an id that lives the expiry stays, or the reservation is revoked first.
-#[test]
-fn renewing_a_reservation() {
-    let mut relay = relay(small());
-    circuit(&mut relay, b"r", b"e", 1);
-    let renewed = Grant { expires_at: EXPIRY + 500, ..grant(b"e") };
-    assert_eq!(open(&mut relay, b"r", 2, renewed), Err(ByteLimit));
-    assert!(open(&mut relay, b"r", 2, Grant { expires_at: EXPIRY, ..renewed }).is_ok());
-    // another id has an expiry of its own
-    let other = Grant { reservation_id: [6; 16], ..renewed };
-    assert_eq!(relay.revoke_reservation([5; 16]).map(|routes| routes.len()), Ok(4));
-    assert!(open(&mut relay, b"r", 3, renewed).is_ok());
-    assert!(open(&mut relay, b"r", 4, other).is_ok());
 }

@@ -1,4 +1,4 @@
-//! Document 01's sixteen cases.
+//! The sixteen cases (CASE.1 to CASE.3).
 use crate::fixture::{self, accept_body, grant, open, peer, Relay, START};
 use lekchnam_host::{Admission, Grant, HnsrOpcode, HnsrPacket, HnsrRuntimeError, OpaqueRelayConfig};
 
@@ -90,5 +90,5 @@ fn the_sixteen_cases() {
         let answer = run(case(number)).map_or_else(HnsrRuntimeError::number, |()| 0);
         assert_eq!(answer, expected, "case {number}");
     }
-    println!("compared: document 01's sixteen cases");
+    println!("compared: the sixteen cases");
 }

@@ -84,7 +84,7 @@ impl RandomSource for Failing {
     }
 }
 
-/// Both are an 8, at document 01's place among the rows; the source tells them apart.
+/// Both are an 8, at its place among the rows (OPEN.6); the source tells them apart.
 #[test]
 fn a_failing_source_can_be_told_from_an_unlucky_draw() {
     let broken = Rc::new(Cell::new(true));

@@ -1,11 +1,11 @@
 //! A call that ends one circuit.
 use crate::chance::{Chance, Parts};
 use crate::fixture::{circuit, grant, open, peer, relay, say, small, Counting, Relay, START};
-use lekchnam_host::body::{CloseBody, Invalid, ProtocolError};
+use lekchnam_host::body::{CloseBody, ProtocolError};
 use lekchnam_host::lent::{RelayCircuit, RelayPending, Tables};
 use lekchnam_host::limits::MAX_DETAIL_SIZE;
 use lekchnam_host::HnsrRuntimeError::{self, *};
-use lekchnam_host::{EndedCircuit, HnsrOpcode, HnsrPeerId, OpaqueRelayConfig};
+use lekchnam_host::{EndedCircuit, HnsrOpcode, HnsrPeerId, OpaqueRelayConfig, QueuedHnsrRouteBuf};
 
 const REASON: u16 = 11;
 const DETAIL: &str = "the host ended it";
@@ -23,7 +23,7 @@ fn told(name: &[u8], context: u64) -> Told {
 
 /// Who hears by a route that counts, and who by packets that do not; each packet is the CLOSE that was asked for.
 fn heard(ended: &EndedCircuit) -> (Option<Told>, Vec<Told>) {
-    let routes = ended.counted.iter().map(|(_, route)| route).chain(&ended.uncounted);
+    let routes = ended.counted.iter().map(|queued| &queued.route).chain(&ended.uncounted);
     let mut told = Vec::new();
     for route in routes {
         assert_eq!(route.packet.opcode, HnsrOpcode::Close);
@@ -37,7 +37,7 @@ fn heard(ended: &EndedCircuit) -> (Option<Told>, Vec<Told>) {
 
 /// With the counted route acknowledged, nothing is left of it.
 fn nothing_left(relay: &mut Relay, ended: &EndedCircuit) {
-    if let Some((action_id, _)) = ended.counted {
+    if let Some(QueuedHnsrRouteBuf { action_id, .. }) = ended.counted {
         assert_eq!(relay.acknowledge(action_id, true).map(|routes| routes.len()), Ok(0));
     }
     let status = relay.status();
@@ -50,7 +50,7 @@ fn nothing_left(relay: &mut Relay, ended: &EndedCircuit) {
 fn a_circuit() {
     let mut relay = relay(small());
     let id = circuit(&mut relay, b"r", b"e", 9);
-    say(&mut relay, b"r", HnsrOpcode::Data, id, b"on the way").expect("DATA");
+    let _ = say(&mut relay, b"r", HnsrOpcode::Data, id, b"on the way").expect("DATA");
     let ended = end(&mut relay, id).expect("a circuit");
     assert_eq!(heard(&ended), (Some(told(b"r", id)), vec![told(b"e", id)]));
     nothing_left(&mut relay, &ended);
@@ -165,9 +165,9 @@ fn refusals_end_nothing() {
     let mut ended = |id: u64, detail: &str, now| relay.end_circuit(id.to_be_bytes(), REASON, detail, now).map(drop);
     assert_eq!(ended(id + 1, DETAIL, START), Err(UnknownCircuit));
     assert_eq!(ended(id, DETAIL, START - 1), Err(ClockRollback));
-    let long = Err(Protocol(ProtocolError::Invalid(Invalid::DiagnosticDetail)));
-    for length in [MAX_DETAIL_SIZE + 1, 255, 256, 300, 512, 70_000] {
-        assert_eq!(ended(id, &"x".repeat(length), START), long);
+    for actual in [MAX_DETAIL_SIZE + 1, 255, 256, 300, 512, 70_000] {
+        let long = ProtocolError::TooLarge { actual, maximum: MAX_DETAIL_SIZE };
+        assert_eq!(ended(id, &"x".repeat(actual), START), Err(Protocol(long)));
     }
     let (mut runtime, tables) = relay.into_parts();
     assert_eq!(runtime.counters.revoked_work, 0);
@@ -245,7 +245,7 @@ fn each_record_by_chance() {
                     assert_eq!(after, before.into_iter().filter(|other| *other != record).collect::<Vec<_>>());
                     let queued = relay.status().queued_actions;
                     match ended.counted {
-                        Some((action_id, _)) => {
+                        Some(QueuedHnsrRouteBuf { action_id, .. }) => {
                             counted += 1;
                             assert!(relay.acknowledge(action_id, true).is_ok());
                             assert_eq!(relay.status().queued_actions, queued - 1);

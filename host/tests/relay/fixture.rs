@@ -22,7 +22,7 @@ impl RandomSource for Counting {
 
 pub type Relay = OpaqueRelayRuntime<Counting>;
 
-/// Document 01's configuration of the sixteen cases.
+/// The configuration of the sixteen cases (CASE.1).
 pub fn small() -> OpaqueRelayConfig {
     OpaqueRelayConfig {
         maximum_pending: 2,
@@ -51,7 +51,7 @@ pub fn peer(name: &[u8]) -> HnsrPeerId {
     HnsrPeerId::new(name).expect("a good name")
 }
 
-/// Document 01's grant of the sixteen cases, but that it allows more circuits.
+/// The grant of the sixteen cases, but that it allows more circuits.
 pub fn grant(endpoint: &[u8]) -> Grant<'_> {
     Grant {
         endpoint,

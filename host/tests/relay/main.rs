@@ -7,6 +7,7 @@ mod ending;
 mod errors;
 mod fixture;
 mod grants;
+mod hosting;
 mod notices;
 mod places;
 mod room;

@@ -11,7 +11,7 @@ fn bytes(length: usize) -> Vec<u8> {
     (0..length).map(|at| (at * 7 + at / 256 + 1) as u8).collect()
 }
 
-/// Document 01, "Output words", a second time.
+/// Output words (OUT), a second time.
 fn words(queued: &QueuedHnsrRoute<'_>) -> Vec<u32> {
     let pack = |bytes: &[u8], count: usize| -> Vec<u32> {
         let byte = |at: usize| u32::from(bytes.get(at).copied().unwrap_or(0));
@@ -135,7 +135,7 @@ fn opening_a_circuit_sends_incoming_and_opened() {
     assert_eq!((body.circuit_id, body.accepted_window), (id.to_be_bytes(), WINDOW));
 }
 
-/// Reason and detail are document 01's; a pending record comes before a circuit, the requester before the endpoint.
+/// Reason and detail are those of NOTICE; a pending record comes before a circuit, the requester before the endpoint.
 #[test]
 fn ending_tells_both_sides_why() {
     let mut relay = relay(small());

@@ -4,10 +4,10 @@ use crate::fixture::{
     START, WINDOW,
 };
 use lekchnam_host::body::{Invalid, ProtocolError};
-use lekchnam_host::lent::{self, Packet, RelayPacket, StoredPeer, HANDLE_WORDS};
+use lekchnam_host::lent::{self, why, Packet, RelayPacket, StoredPeer, HANDLE_WORDS};
 use lekchnam_host::limits::{MAXIMUM_PEER, MAX_WINDOW};
 use lekchnam_host::{
-    why, ActionLimit, Admission, Grant, HnsrActionId, HnsrOpcode, HnsrPacket, HnsrRuntimeError, OpaqueRelayConfig,
+    ActionLimit, Admission, Grant, HnsrActionId, HnsrOpcode, HnsrPacket, HnsrRuntimeError, OpaqueRelayConfig,
     OpaqueRelayRuntime, RandomSource, Row,
 };
 
@@ -186,7 +186,7 @@ fn open_by_the_ledger() {
 
     let mut relay = relay(small());
     let id = circuit(&mut relay, b"r", b"e", 1);
-    say(&mut relay, b"r", HnsrOpcode::Data, id, &[7; 9]).expect("DATA");
+    let _ = say(&mut relay, b"r", HnsrOpcode::Data, id, &[7; 9]).expect("DATA");
     let renewed = Grant { expires_at: EXPIRY + 1, ..grant(b"f") };
     let differs = Row::ExpiryDiffers { recorded: EXPIRY, granted: EXPIRY + 1 };
     assert_eq!(refused_open(&mut relay, b"s", 1, renewed), differs);
@@ -225,7 +225,7 @@ fn accept() {
 
     let mut one = relay(OpaqueRelayConfig { maximum_circuits: 1, ..small() });
     let (first, second) = (open(&mut one, b"r", 1, grant(b"e")), open(&mut one, b"r", 2, grant(b"e")));
-    say(&mut one, b"e", HnsrOpcode::Accept, first.expect("an OPEN"), &body).expect("an ACCEPT");
+    let _ = say(&mut one, b"e", HnsrOpcode::Accept, first.expect("an OPEN"), &body).expect("an ACCEPT");
     let second = second.expect("an OPEN");
     let full = Row::CircuitsFull { most: 1 };
     assert_eq!(refused_say(&mut one, b"e", HnsrOpcode::Accept, second, &body), full);
@@ -258,7 +258,7 @@ fn accept_by_actions_and_numbers() {
 
     let mut two = relay(actions(8, 2, 2));
     let busy = circuit(&mut two, b"r", b"f", 1);
-    say(&mut two, b"f", HnsrOpcode::Data, busy, b"x").expect("DATA");
+    let _ = say(&mut two, b"f", HnsrOpcode::Data, busy, b"x").expect("DATA");
     // the reservation is at its most, which an ACCEPT may be
     let id = open(&mut two, b"r", 2, Grant { max_active_circuits: 2, ..grant(b"e") }).expect("an OPEN");
     let full = Row::Actions { of: ActionLimit::Peer, most: 2 };
@@ -285,7 +285,7 @@ fn data_and_window_by_actions() {
 
         let mut two = relay(actions(8, 2, 8));
         let id = circuit(&mut two, b"r", b"e", 1);
-        say(&mut two, b"r", opcode, id, body).expect("a packet");
+        let _ = say(&mut two, b"r", opcode, id, body).expect("a packet");
         assert_eq!(refused_say(&mut two, b"r", opcode, id, body), full(ActionLimit::Circuit, 2));
         delivered(&mut two, 2);
         assert!(say(&mut two, b"r", opcode, id, body).is_ok());
@@ -318,7 +318,7 @@ fn data_by_bytes() {
     let size = Row::Body(ProtocolError::Invalid(Invalid::DataSize));
     assert_eq!(refused_say(&mut relay, b"r", HnsrOpcode::Data, id, b""), size);
     // of 20,000 a circuit
-    say(&mut relay, b"r", HnsrOpcode::Data, id, &[7; 16_000]).expect("DATA");
+    let _ = say(&mut relay, b"r", HnsrOpcode::Data, id, &[7; 16_000]).expect("DATA");
     let row = Row::CircuitBytes { left: 4_000, asked: 4_001 };
     assert_eq!(refused_say(&mut relay, b"e", HnsrOpcode::Data, id, &[7; 4_001]), row);
     // of 30,000 all together
@@ -343,15 +343,15 @@ fn data_by_credit_and_by_queue() {
     let opened = |queue| {
         let mut relay = relay(OpaqueRelayConfig { maximum_queue_bytes: queue, ..small() });
         let id = open(&mut relay, b"r", 1, plenty).expect("an OPEN");
-        say(&mut relay, b"e", HnsrOpcode::Accept, id, &accept_body()).expect("an ACCEPT");
+        let _ = say(&mut relay, b"e", HnsrOpcode::Accept, id, &accept_body()).expect("an ACCEPT");
         (relay, id)
     };
     let (mut relay, id) = opened(10_000);
-    say(&mut relay, b"r", HnsrOpcode::Data, id, &[7; 9_000]).expect("DATA");
+    let _ = say(&mut relay, b"r", HnsrOpcode::Data, id, &[7; 9_000]).expect("DATA");
     let row = Row::Queue { left: 1_000, asked: 1_001 };
     assert_eq!(refused_say(&mut relay, b"r", HnsrOpcode::Data, id, &[7; 1_001]), row);
     // the other direction has a queue of its own, and a WINDOW does not help
-    say(&mut relay, b"e", HnsrOpcode::Window, id, &window(1_000)).expect("a WINDOW");
+    let _ = say(&mut relay, b"e", HnsrOpcode::Window, id, &window(1_000)).expect("a WINDOW");
     assert!(say(&mut relay, b"e", HnsrOpcode::Data, id, &[7; 1_001]).is_ok());
     assert_eq!(refused_say(&mut relay, b"r", HnsrOpcode::Data, id, &[7; 1_001]), row);
     delivered(&mut relay, 3);
@@ -359,20 +359,20 @@ fn data_by_credit_and_by_queue() {
 
     let (mut relay, id) = opened(65_536);
     for sequence in [3, 4] {
-        say(&mut relay, b"r", HnsrOpcode::Data, id, &[7; 16_000]).expect("DATA");
+        let _ = say(&mut relay, b"r", HnsrOpcode::Data, id, &[7; 16_000]).expect("DATA");
         delivered(&mut relay, sequence);
     }
     let row = Row::Credit { left: 768, asked: 769 };
     assert_eq!(refused_say(&mut relay, b"r", HnsrOpcode::Data, id, &[7; 769]), row);
     // an acknowledge did not help, nor does one's own WINDOW
-    say(&mut relay, b"r", HnsrOpcode::Window, id, &window(1)).expect("a WINDOW");
+    let _ = say(&mut relay, b"r", HnsrOpcode::Window, id, &window(1)).expect("a WINDOW");
     assert_eq!(refused_say(&mut relay, b"r", HnsrOpcode::Data, id, &[7; 769]), row);
-    say(&mut relay, b"e", HnsrOpcode::Window, id, &window(1)).expect("a WINDOW");
+    let _ = say(&mut relay, b"e", HnsrOpcode::Window, id, &window(1)).expect("a WINDOW");
     assert!(say(&mut relay, b"r", HnsrOpcode::Data, id, &[7; 769]).is_ok());
 
     // where neither reaches, credit is asked first
     let (mut relay, id) = opened(1);
-    say(&mut relay, b"r", HnsrOpcode::Data, id, &[7]).expect("DATA");
+    let _ = say(&mut relay, b"r", HnsrOpcode::Data, id, &[7]).expect("DATA");
     let (runtime, mut tables) = relay.into_parts();
     tables.circuits[0].requester_credit = 0;
     let mut relay = Relay::from_parts(runtime, tables, Counting::default()).expect("stored parts");
@@ -462,7 +462,7 @@ fn stored_tables() {
     assert_eq!(refused_say(&mut relay, b"e", HnsrOpcode::Close, id, CLOSE), full(0));
     // sums stop at their top, so a circuit without a limit is never over it
     let (mut relay, id) = stored(|_, _| ());
-    say(&mut relay, b"e", HnsrOpcode::Accept, id, &accept_body()).expect("an ACCEPT");
+    let _ = say(&mut relay, b"e", HnsrOpcode::Accept, id, &accept_body()).expect("an ACCEPT");
     let (runtime, mut tables) = relay.into_parts();
     (tables.circuits[0].forwarded_bytes, tables.circuits[0].maximum_bytes) = (u64::MAX, u64::MAX);
     tables.circuits[0].maximum_total_bytes = 1;
@@ -508,7 +508,7 @@ fn lent_tables() {
 fn no_row_where_none_fits() {
     let mut relay = relay(OpaqueRelayConfig { maximum_queue_bytes: 1, ..small() });
     let id = circuit(&mut relay, b"r", b"e", 1);
-    say(&mut relay, b"r", HnsrOpcode::Data, id, b"x").expect("DATA");
+    let _ = say(&mut relay, b"r", HnsrOpcode::Data, id, b"x").expect("DATA");
     let packet = HnsrPacket { opcode: HnsrOpcode::Data, context_id: id.to_be_bytes(), body: b"x" };
     let why = |relay: &Relay, refused| relay.why(refused, &Admission::Refused, &peer(b"r"), &packet, START);
     let queue = Row::Queue { left: 0, asked: 1 };

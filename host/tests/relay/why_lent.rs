@@ -3,10 +3,10 @@ use crate::chance::good_body;
 use crate::random::Random;
 use crate::why::{name, ENTRY, ROWS};
 use lekchnam_host::lent::{
-    self, InflightAction, Packet, Places, RelayCircuit, RelayPacket, RelayPending, RelayTicket, ReservationUsage,
+    self, why, InflightAction, Packet, Places, RelayCircuit, RelayPacket, RelayPending, RelayTicket, ReservationUsage,
     Runtime, RuntimeCounters, StoredPeer, Tables, HANDLE_WORDS,
 };
-use lekchnam_host::{why, HnsrOpcode, OpaqueRelayConfig, Row};
+use lekchnam_host::{HnsrOpcode, OpaqueRelayConfig, Row};
 use std::collections::{BTreeMap, BTreeSet};
 
 /// Records of a table, by chance; of some the mark is not set.

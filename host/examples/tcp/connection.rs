@@ -3,9 +3,9 @@
 //! The reader hands over one packet and waits for the word to go on: while the relay has no room for that packet, its
 //! connection is not read, and TCP makes the sender wait. The writer writes what it is given, and tells of each route
 //! whether it was written.
-use crate::wire::{read_packet, write_packet, HnsrPacketBuf, ToBuf};
 use crate::Result;
-use lekchnam_host::{HnsrActionId, HnsrPeerId};
+use lekchnam_host::stream::{read_packet, write_packet};
+use lekchnam_host::{HnsrActionId, HnsrPacketBuf, HnsrPeerId};
 use std::io::BufReader;
 use std::net::{Shutdown, SocketAddr, TcpListener, TcpStream};
 use std::sync::atomic::{AtomicBool, Ordering};

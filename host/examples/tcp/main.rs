@@ -9,7 +9,6 @@
 mod connection;
 mod peer;
 mod relay;
-mod wire;
 
 use peer::{Merchant, Peer, Supplier};
 use relay::Figures;

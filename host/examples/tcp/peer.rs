@@ -3,11 +3,11 @@
 //! A peer reads and acts on one thread and has another one write, by a queue without a bound: so it goes on reading
 //! while its writing is stopped. The queue stays short all the same, since windows bound the DATA in it, and the DATA
 //! that came bounds the WINDOWs.
-use crate::wire::{read_packet, write_packet, Encode, EncodeOpen, HnsrErrorCode, HnsrPacketBuf};
 use crate::Result;
 use lekchnam_host::body::{AcceptBody, CloseBody, IncomingBody, OpenBody, OpenedBody, WindowBody};
 use lekchnam_host::limits::{MAX_CIRCUIT_QUEUE, MAX_DATA_SIZE};
-use lekchnam_host::{HnsrOpcode, HnsrPacket};
+use lekchnam_host::stream::{read_packet, write_packet};
+use lekchnam_host::{HnsrErrorCode, HnsrOpcode, HnsrPacket, HnsrPacketBuf};
 use std::collections::{BTreeMap, BTreeSet, HashMap};
 use std::io::BufReader;
 use std::mem;

@@ -4,13 +4,12 @@
 //! writer waits for its peer to read, and not for ever; and a peer reads whether or not its own writing is stopped.
 use crate::connection::{self, Connection, Event};
 use crate::peer::{KEY, RESERVATION};
-use crate::wire::{advice, Advice, Encode, HnsrErrorCode, HnsrPacketBuf, MonotonicClock, ToBuf};
 use crate::Result;
 use lekchnam_host::body::{CloseBody, OpenBody};
 use lekchnam_host::limits::MAX_CIRCUITS;
 use lekchnam_host::{
-    Admission, Grant, HnsrActionId, HnsrOpcode, HnsrPeerId, HnsrRuntimeError, HnsrRuntimeStatus, OpaqueRelayConfig,
-    OpaqueRelayRuntime, Routes,
+    Admission, Advice, Grant, HnsrActionId, HnsrErrorCode, HnsrOpcode, HnsrPacketBuf, HnsrPeerId, HnsrRouteBuf,
+    HnsrRuntimeError, HnsrRuntimeStatus, MonotonicClock, OpaqueRelayConfig, OpaqueRelayRuntime, Routes,
 };
 use std::collections::{BTreeMap, HashMap, VecDeque};
 use std::mem;
@@ -153,30 +152,44 @@ impl Host {
         }
     }
 
-    /// Makes a call, and gives its routes to the writers.
+    /// Makes a call, and sends its routes.
     fn call(&mut self, call: impl FnOnce(&mut OpaqueRelayRuntime) -> Answer<Routes<'_>>) -> Answer<()> {
         let routes = call(&mut self.relay).inspect_err(|refused| {
             *self.refused.entry(refused.number()).or_default() += 1;
         })?;
-        for queued in routes {
-            let outgoing = (Some(queued.action_id), queued.route.packet.to_buf());
-            match self.connections.get(&queued.route.destination) {
-                Some(connection) if connection.outgoing.send(outgoing).is_ok() => {}
-                _ => self.undeliverable.push_back(queued.action_id),
-            }
+        for queued in routes.to_vec() {
+            self.send(Some(queued.action_id), queued.route);
         }
         Ok(())
     }
 
+    /// Gives a packet to its writer.
+    fn send(&mut self, action_id: Option<HnsrActionId>, route: HnsrRouteBuf) {
+        match self.connections.get(&route.destination) {
+            Some(connection) if connection.outgoing.send((action_id, route.packet)).is_ok() => {}
+            _ => self.undeliverable.extend(action_id),
+        }
+    }
+
     /// Offers a packet to the relay. It comes back if it must be held; else its connection is read on, or ended.
     fn offer(&mut self, source: HnsrPeerId, packet: HnsrPacketBuf) -> Option<HnsrPacketBuf> {
+        if !self.connections.contains_key(&source) {
+            return None;
+        }
         let (now, reservation) = (self.clock.now(), self.reservation);
-        let admission = reservation.admission(&packet);
+        let (admission, other_side) = (reservation.admission(&packet), self.other_side(&source, &packet));
         if let Err(refused) = self.call(|relay| relay.handle(&admission, &source, &packet.as_packet(), now)) {
-            match advice(refused, packet.opcode) {
+            match self.relay.advice(refused, &admission, &source, &packet.as_packet(), now) {
                 Advice::OfferAgain => return Some(packet),
-                Advice::Late => {}
-                Advice::TurnDown => self.turn_down(&source, packet.context_id, &refused.to_string()),
+                Advice::Late | Advice::Forget => {}
+                Advice::TurnDown | Advice::MendHost if packet.opcode == HnsrOpcode::Open => {
+                    self.turn_down(source, packet.context_id, &refused.to_string());
+                }
+                Advice::TurnDown | Advice::MendHost | Advice::EndCircuit => {
+                    self.end_circuit(packet.context_id, &refused.to_string());
+                }
+                // So much is on its way to the other side that it does not even hear of an end: it ends itself.
+                Advice::TellOtherSide => other_side.iter().for_each(|other| self.end(other)),
                 Advice::EndConnection => self.end(&source),
             }
         }
@@ -186,12 +199,39 @@ impl Host {
         None
     }
 
+    /// Who else is to hear of a CLOSE or an ERROR. It ends what it names also where the relay has no room to pass it
+    /// on, so this is asked before.
+    fn other_side(&self, source: &HnsrPeerId, packet: &HnsrPacketBuf) -> Option<HnsrPeerId> {
+        if !matches!(packet.opcode, HnsrOpcode::Close | HnsrOpcode::Error) {
+            return None;
+        }
+        let named = |id: [u8; 8]| id == packet.context_id;
+        let circuits = self.relay.circuits().filter(|circuit| named(circuit.circuit_id));
+        let pending = self.relay.pending().filter(|open| named(open.circuit_id) || named(open.requester_context));
+        let mut sides = circuits
+            .map(|circuit| [circuit.requester, circuit.endpoint])
+            .chain(pending.map(|open| [open.requester, open.grant.endpoint]));
+        let [requester, endpoint] = sides.find(|sides| sides.contains(source))?;
+        Some(if requester == *source { endpoint } else { requester })
+    }
+
     /// The relay tells a requester nothing of an OPEN that it refused, so the host does.
-    fn turn_down(&self, requester: &HnsrPeerId, context_id: [u8; 8], detail: &str) {
-        let body = CloseBody { reason: HnsrErrorCode::Refused.into(), detail }.encode();
-        if let (Ok(body), Some(connection)) = (body, self.connections.get(requester)) {
-            let error = HnsrPacketBuf { opcode: HnsrOpcode::Error, context_id, body };
-            let _ = connection.outgoing.send((None, error));
+    fn turn_down(&mut self, requester: HnsrPeerId, context_id: [u8; 8], detail: &str) {
+        if let Ok(body) = (CloseBody { reason: HnsrErrorCode::Refused.into(), detail }).encode() {
+            let packet = HnsrPacketBuf { opcode: HnsrOpcode::Error, context_id, body };
+            self.send(None, HnsrRouteBuf { destination: requester, packet });
+        }
+    }
+
+    fn end_circuit(&mut self, circuit_id: [u8; 8], detail: &str) {
+        let now = self.clock.now();
+        if let Ok(ended) = self.relay.end_circuit(circuit_id, HnsrErrorCode::Protocol.into(), detail, now) {
+            if let Some(queued) = ended.counted {
+                self.send(Some(queued.action_id), queued.route);
+            }
+            for route in ended.uncounted {
+                self.send(None, route);
+            }
         }
     }
 

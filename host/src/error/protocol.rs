@@ -82,9 +82,9 @@ pub enum ProtocolError {
     },
     /// A value that is not allowed.
     Invalid(Invalid),
-    /// A packet over its size.
+    /// A packet over its size, or a detail that was to be written.
     TooLarge {
-        /// The size with the header.
+        /// The size, a packet's with its header.
         actual: usize,
         /// The most it may be.
         maximum: usize,

@@ -1,7 +1,5 @@
 //! What a host does with a refusal: the table, and that it leads nowhere wrong.
-use crate::fixture::{
-    accept_body, circuit, grant, open, peer, relay, say, small, Relay, START, WINDOW as CREDIT,
-};
+use crate::fixture::{accept_body, circuit, grant, open, peer, relay, say, small, Relay, START, WINDOW as CREDIT};
 use crate::random::Random;
 use lekchnam_host::body::{Invalid, ProtocolError};
 use lekchnam_host::HnsrRuntimeError::{self, *};

@@ -1,4 +1,5 @@
-//! The figures of the rules (docs/RULES.md), each written once: the rest of this crate, its tests, the traces and the tools use these.
+//! The figures of the rules (docs/RULES.md), each written once: the rest of this crate, its tests, the traces and the
+//! tools use these.
 //!
 //! The archive has the same figures in its own definitions, and the tests hold it to these. Names are those of
 //! hns-hnsr-protocol where it has one.

@@ -109,10 +109,13 @@ impl<Random: RandomSource> OpaqueRelayRuntime<Random> {
     ///
     /// `source` is the connection that the packet came by. A peer is a side of at most 32 circuits and waiting OPENs
     /// ([`MAX_CIRCUITS`](crate::limits::MAX_CIRCUITS)); one that needs more comes by several connections, each with a
-    /// name of its own. `now` is in seconds and never less than before, else 7: [`MonotonicClock`](crate::MonotonicClock)
-    /// has such. Whatever the answer behind the clock's test, the relay's clock has moved to it.
+    /// name of its own. `now` is in seconds and never less than before, else 7: a
+    /// [`MonotonicClock`](crate::MonotonicClock) has such. Whatever is refused behind the clock's test, the relay's
+    /// clock has moved to it.
     ///
-    /// DATA is taken until its circuit ends, also past `expires_at`: it is [`expire`](Self::expire) that ends it.
+    /// DATA passes also past its circuit's `expires_at`: it is [`expire`](Self::expire) that ends the circuit. Before
+    /// that an OPEN of anybody may drop the ledger record of a reservation that is over, and such DATA is refused with
+    /// 11.
     ///
     /// A refused packet has sent nothing. **A refused DATA is offered again, or its circuit is ended**
     /// ([`end_circuit`](Self::end_circuit)). A host that skips it and takes the next one leaves a hole in the stream.
@@ -143,8 +146,8 @@ impl<Random: RandomSource> OpaqueRelayRuntime<Random> {
     ///
     /// Each route is acknowledged once, in any order: `true` when its bytes are handed to the connection, `false` when
     /// they cannot be, or its peer is not there. The place of one that is forgotten comes back with the end of its
-    /// circuit; that of a CLOSE or an ERROR, whose circuit has ended, only where its peer is disconnected (again) or the
-    /// relay is switched. [`actions`](Self::actions) shows them all, [`oldest_action`](Self::oldest_action) the oldest.
+    /// circuit; that of a CLOSE or an ERROR, whose circuit has ended, only where its peer is disconnected (again) or
+    /// the relay is switched. [`actions`](Self::actions) shows all, [`oldest_action`](Self::oldest_action) the oldest.
     ///
     /// 5 and 20 are normal: the route's circuit, peer or generation ended before its word came, and its place is free
     /// already.

@@ -77,8 +77,8 @@ impl<Random> OpaqueRelayRuntime<Random> {
         why(self.tables(), self.runtime(), &handed(admission, source, packet, now, &[]), refused)
     }
 
-    /// What to do with a packet that [`handle`](Self::handle) refused: asked straight after it, with the same arguments.
-    /// The row's advice where [`why`](Self::why) finds one, else the number's.
+    /// What to do with a packet that [`handle`](Self::handle) refused: asked straight after it, with the same
+    /// arguments. The row's advice where [`why`](Self::why) finds one, else the number's.
     pub fn advice(
         &self,
         refused: HnsrRuntimeError,

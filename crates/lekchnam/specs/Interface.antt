@@ -9,6 +9,7 @@ use Rattle.hnsr_body.specs.declared.accept_body.AcceptBody.{AcceptBody}
 use Rattle.hnsr_body.specs.declared.accept_body.OpenedBody.{OpenedBody}
 use Rattle.hnsr_body.specs.declared.data_body.WindowBody.{WindowBody}
 use Rattle.hnsr_body.specs.declared.detail_body.ReasonDetail.{ReasonDetail}
+use Rattle.hnsr_circuit.specs.Peer.{maximumPeer}
 use Rattle.hnsr_circuit.specs.declared.records.RelayPending.{RelayPending}
 use Rattle.hnsr_circuit.specs.declared.records.RelayCircuit.{RelayCircuit}
 use Rattle.hnsr_circuit.specs.declared.records.ReservationUsage.{ReservationUsage}
@@ -43,8 +44,8 @@ abbrev pub pendingSample : RelayPending
 pendingSample = record {
   used = true;
   «circuit_id» = wide 2;
-  requester = record { len = wide 3; bytes = replicate 128 (byte 4) };
-  endpoint = record { len = wide 5; bytes = replicate 128 (byte 6) };
+  requester = record { len = wide 3; bytes = replicate maximumPeer (byte 4) };
+  endpoint = record { len = wide 5; bytes = replicate maximumPeer (byte 6) };
   «requester_context» = wide 7;
   ticket = record {
     «reservation_id» = record { high = wide 8; low = wide 9 };
@@ -61,8 +62,8 @@ abbrev pub circuitSample : RelayCircuit
 circuitSample = record {
   used = true;
   «circuit_id» = wide 17;
-  requester = record { len = wide 18; bytes = replicate 128 (byte 19) };
-  endpoint = record { len = wide 20; bytes = replicate 128 (byte 21) };
+  requester = record { len = wide 18; bytes = replicate maximumPeer (byte 19) };
+  endpoint = record { len = wide 20; bytes = replicate maximumPeer (byte 21) };
   «reservation_id» = record { high = wide 22; low = wide 23 };
   «expires_at» = wide 24;
   «maximum_bytes» = wide 25;
@@ -88,7 +89,7 @@ actionSample = record {
   generation = wide 38;
   sequence = wide 39;
   «circuit_id» = wide 40;
-  destination = record { len = wide 41; bytes = replicate 128 (byte 42) };
+  destination = record { len = wide 41; bytes = replicate maximumPeer (byte 42) };
   kind = byte 43;
   «to_endpoint» = false;
   bytes = wide 45;

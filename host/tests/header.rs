@@ -193,34 +193,6 @@ fn loud(name: &str) -> String {
     loud
 }
 
-fn refusals() -> [HnsrRuntimeError; 22] {
-    use HnsrRuntimeError::*;
-    [
-        InvalidConfig,
-        InvalidSession,
-        InvalidPeer,
-        StaleGeneration,
-        GenerationExhausted,
-        ClockRollback,
-        Randomness,
-        Disabled,
-        Capacity,
-        InvalidAdmission,
-        Deadline,
-        UnknownRequest,
-        UnknownCircuit,
-        WrongPeer,
-        UnexpectedOpcode,
-        FlowControl,
-        ByteLimit,
-        NoQueuedData,
-        UnknownAction,
-        CorruptSnapshot,
-        Short,
-        LedgerFull,
-    ]
-}
-
 macro_rules! limits {
     ($($name:ident),+) => { [$((stringify!($name), limits::$name as usize)),+] };
 }
@@ -228,7 +200,8 @@ macro_rules! limits {
 #[test]
 fn numbers_are_the_ones_here() {
     let mut numbers: Vec<(String, usize)> = vec![("TAKEN".to_owned(), 0), ("PROTOCOL".to_owned(), 1)];
-    numbers.extend(refusals().map(|refusal| (loud(&format!("{refusal:?}")), refusal.number() as usize)));
+    let refusals = (2..=23).map(|number| (HnsrRuntimeError::from_number(number).expect("a refusal"), number as usize));
+    numbers.extend(refusals.map(|(refusal, number)| (loud(&format!("{refusal:?}")), number)));
     let opcodes = (0..HnsrOpcode::COUNT).map(|number| (HnsrOpcode::from(number), usize::from(number)));
     numbers.extend(opcodes.map(|(opcode, number)| (format!("OPCODE_{}", loud(&format!("{opcode:?}"))), number)));
     numbers.extend(Invalid::ALL.map(|wrong| (format!("INVALID_{}", loud(&format!("{wrong:?}"))), wrong as usize)));

@@ -117,6 +117,18 @@ impl HnsrRuntimeError {
         let place = PLAIN.iter().position(|(plain, _)| *plain == self);
         place.map_or(PROTOCOL, |place| PROTOCOL + 1 + place as u32)
     }
+
+    /// The refusal that has this number, such as a log keeps; none for 1, which has a cause, and where none has it.
+    ///
+    /// ```
+    /// use lekchnam_host::HnsrRuntimeError;
+    ///
+    /// assert_eq!(HnsrRuntimeError::from_number(17), Some(HnsrRuntimeError::FlowControl));
+    /// assert_eq!([0, 1, 24].map(HnsrRuntimeError::from_number), [None; 3]);
+    /// ```
+    pub fn from_number(number: u32) -> Option<Self> {
+        by_number(number).map(|(plain, _)| *plain)
+    }
 }
 
 impl Display for HnsrRuntimeError {

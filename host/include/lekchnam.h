@@ -72,7 +72,7 @@ extern "C" {
 /*
  * Output words. A route is, in words of 32 bits: 1 in the top four bits with the length of the name in the lowest
  * eight; generation and sequence, two words each, the high one first; the name, padded with zeros; 2 in the top four
- * bits with the opcode in bits 16 to 23 and the length of the body in the lowest sixteen; the context, two words; the
+ * bits with the opcode (bits 16 to 23) and the length of the body (bits 0 to 15); the context, two words; the
  * body. Bytes stand four to a word, the first lowest: as bytes in memory they are in order. Routes follow each other.
  */
 #define LEKCHNAM_PEER_WORDS 32
@@ -548,7 +548,7 @@ LekchnamStatusReply opaque_relay_status(
     const LekchnamInflightAction *inflight, size_t inflight_places,
     LekchnamOpaqueRelayRuntime runtime, LekchnamPlaces places);
 
-/* When `expire` has work: the earliest deadline of a pending record or end of a circuit. */
+/* When `expire` has work: the first of all deadlines of pending records and ends of circuits. */
 LekchnamDueReply opaque_relay_next_due(
     const LekchnamRelayPending *pending, size_t pending_places,
     const LekchnamRelayCircuit *circuits, size_t circuit_places,

@@ -31,7 +31,7 @@ impl Cause {
     pub const NONE: Self = Self { kind: 0, first: 0, second: 0 };
 }
 
-/// The bytes of words, four to a word, first lowest.
+/// The bytes that words are made of (OUT.1).
 pub fn bytes_of(words: &[u32]) -> &[u8] {
     // SAFETY: the same memory for as long; a byte has no alignment, and every byte of a word is a byte.
     unsafe { std::slice::from_raw_parts(words.as_ptr().cast(), size_of_val(words)) }

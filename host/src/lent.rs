@@ -51,7 +51,7 @@ pub struct Packet<'a> {
     pub body: &'a [u8],
     /// Of an OPEN that is admitted: the endpoint's name.
     pub endpoint: &'a [u8],
-    /// Of an OPEN: random bytes, taken eight at a time. [`RANDOM_BYTES`](crate::RANDOM_BYTES) never run out.
+    /// Of an OPEN: random bytes, eight for each draw. [`RANDOM_BYTES`](crate::RANDOM_BYTES) never run out.
     pub random: &'a [u8],
 }
 
@@ -152,7 +152,7 @@ pub fn status(tables: &Tables, runtime: &Runtime) -> Result<HnsrRuntimeStatus, H
     answered(reply.answer, Cause::NONE).map(|()| reply.status)
 }
 
-/// When [`expire`] has work: the earliest deadline of a pending record or end of a circuit.
+/// When [`expire`] has work: the first of all deadlines of pending records and ends of circuits.
 pub fn next_due(tables: &Tables, runtime: &Runtime) -> Result<Option<u64>, HnsrRuntimeError> {
     let reply = ffi::next_due(tables, *runtime);
     answered(reply.answer, Cause::NONE).map(|()| reply.some.then_some(reply.due))

@@ -5,7 +5,7 @@
 //! hns-hnsr-protocol, so that one takes the other's place.
 //!
 //! - A **circuit** is a two-way stream of bytes between two peers.
-//! - A **reservation** is a peer's ticket to be called: until when, by how many circuits, for how many bytes.
+//! - A **reservation** is a peer's permission to be called: until when, by how many circuits, for how many bytes.
 //! - A **window** is how much a side may send before the other gives it more.
 //!
 //! ```

@@ -93,7 +93,7 @@ impl<Random: RandomSource> OpaqueRelayRuntime<Random> {
         Self::from_parts(runtime, tables, random)
     }
 
-    /// A relay that goes on from stored parts, whatever they hold; 22 where a table has fewer places than the
+    /// A relay that goes on from stored parts, whatever they hold; 22 where a table is shorter than the
     /// configuration allows, or where the memory for the output words cannot be had.
     ///
     /// The numbers of places in use are stored with the tables. A host that has lost them sets [`Tables::places`] to
@@ -210,7 +210,7 @@ impl<Random> OpaqueRelayRuntime<Random> {
         lent::status(&self.tables, &self.runtime).expect(PLACES_ARE_ENOUGH)
     }
 
-    /// When [`expire`](Self::expire) has work: the earliest deadline of a pending record or end of a circuit.
+    /// When [`expire`](Self::expire) has work: the first of all deadlines of pending records and ends of circuits.
     pub fn next_due(&self) -> Option<u64> {
         lent::next_due(&self.tables, &self.runtime).expect(PLACES_ARE_ENOUGH)
     }

@@ -184,7 +184,7 @@ fn first_route(words: &[u32]) -> Option<(QueuedHnsrRoute<'_>, &[u32])> {
     Some((QueuedHnsrRoute { action_id, route: HnsrRoute { destination: name(head), packet } }, rest))
 }
 
-/// A kind word's top four bits.
+/// The kind: the four highest bits.
 fn kind(word: u32) -> u32 {
     word >> 28
 }

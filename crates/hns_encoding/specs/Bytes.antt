@@ -21,7 +21,7 @@ unfoldable pub leBytes : ℕ → ℕ → List ℕ
 leBytes zero n = []
 leBytes (suc width) n = (n % 256) ∷ leBytes width (n / 256)
 
--- the number that bytes are, the first weighing most: how an id is read ("first byte weighs most")
+-- the number that bytes are, the first weighing most: how an id is read (HOST.7)
 unfoldable pub beFrom : ℕ → List ℕ → ℕ
 beFrom n [] = n
 beFrom n (b ∷ bs) = beFrom (n * 256 + b) bs

@@ -75,7 +75,7 @@ isAction a = a .used
 unfoldable pub actionAt : (generation sequence : ℕ) → InflightAction → Bool
 actionAt generation sequence a = a .used && (eqb (a .generation) generation && eqb (a .sequence) sequence)
 
--- "its actions" are all that are stored under the id
+-- QUEUE.10: all that are stored under the id
 unfoldable pub actionUnder : (id : ℕ) → InflightAction → Bool
 actionUnder id a = a .used && eqb (a .«circuit_id») id
 

@@ -1,4 +1,5 @@
--- Queueing (QUEUE.1 to QUEUE.10): a message becomes a route and an outstanding action.
+-- Queueing (QUEUE.1, QUEUE.3, QUEUE.6 to QUEUE.8; Inflight has the others): a message becomes a route and an
+-- outstanding action.
 -- The last step of a call sends, and can be refused; a revocation tells, and leaves out what cannot be sent.
 use Prim.Native.Nat.{ℕ, _+_}
 use mathlib.Core.Bool.{Bool, true, false}

@@ -1,4 +1,4 @@
-// The four lent tables (TAB.1). Nothing else indexes them.
+// The four lent tables (TAB). Nothing else indexes them.
 pub(crate) mod circuits;
 pub(crate) mod inflight;
 pub(crate) mod ledger;

@@ -1,5 +1,5 @@
--- Demand 3: one claim about any list of calls from a taken `new`, refused ones included, over a machine: its `new` and
--- its step.
+-- The run theorem (RUN.10): one claim about any list of calls from a taken `new`, refused ones included, over a
+-- machine: its `new` and its step.
 use Prim.Native.Nat.{ℕ, _≤_, _<_}
 use mathlib.Core.Path.{_≡_}
 use mathlib.Core.Logic.{_↔_}
@@ -42,8 +42,8 @@ below h (e ∷ es) = ltb (h .head .next) (top 64) && (limitsBelow (e .call) && b
 abbrev pub Reordered : List Action → List Action → Type 0
 Reordered order out = (f : Action → ℕ) → total f order ≡ total f out
 
--- DATA from a side of a circuit: 1 to 16,384 bytes, within the queue limit, clock not back, circuit unexpired, output
--- long enough
+-- RUN.12: DATA from a side of a circuit, neither longer than a DATA may be nor than the queue, at a time not behind the
+-- clock and before the circuit's expiry, output long enough
 pub record Sends (h : Past) (j : ℕ) (side : RelaySide) (q : Packet) (room : ℕ) : Type 0 where
   pub opcode : q .opcode ≡ opData
   pub context : q .context ≡ j

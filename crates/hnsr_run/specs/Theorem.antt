@@ -127,7 +127,7 @@ run-rel r =
     run-between (r .calls) (start (r .lent) (r .began) .world) (begin (r .began))
     (record { rel = b .0; places = b .1; next = b .2 }) (r .bounded)
 
--- ---- demand 3
+-- ---- the claim (RUN.10)
 pub claim : Claim relay
 claim r = let k = run-rel r in holds (worldAt relay r) (pastAt relay r) (k .0 .rel) (k .0 .places) (k .1)
 

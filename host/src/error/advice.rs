@@ -32,7 +32,8 @@ pub enum Advice {
     /// tells it by a packet of its own, or ends its connection. The packet must not be offered again.
     TellOtherSide,
     /// Nothing is wrong with the packet: what the host gave beside it is, or how it made the relay. Mend that, then
-    /// offer the packet again; or turn it down and end its circuit.
+    /// offer the packet again; or turn it down and end its circuit. But where all is written (6, and
+    /// [`RequesterContextZero`](crate::Row::RequesterContextZero)) never offer it again: what it did stays.
     MendHost,
 }
 
@@ -60,7 +61,7 @@ impl Display for Advice {
             Self::EndCircuit => "end the circuit",
             Self::EndConnection => "drop the packet and end the sender's connection",
             Self::TellOtherSide => "it has ended: tell the other side, and do not offer the packet again",
-            Self::MendHost => "mend what the host gave, then offer the packet again",
+            Self::MendHost => "mend what the host gave; unless all is written, offer the packet again",
         })
     }
 }

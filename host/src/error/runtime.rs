@@ -55,7 +55,7 @@ pub enum HnsrRuntimeError {
     WrongPeer,
     /// 16: the relay does not take such packets.
     UnexpectedOpcode,
-    /// 17: of DATA, the sender's credit or the queue toward the other side does not reach. By the queue: hold the
+    /// 17: of DATA, the sender's credit or the queue for the other side does not reach. By the queue: hold the
     /// packet, and offer it again after the next acknowledge. By credit: the sender broke a rule, end the circuit.
     /// [`why`](crate::OpaqueRelayRuntime::why) tells them apart. Of WINDOW, the other side's credit would pass
     /// [`MAX_WINDOW`](crate::limits::MAX_WINDOW): end the circuit.

@@ -8,7 +8,7 @@ use std::fmt::{self, Display, Formatter};
 /// named, in the order in which they are asked.
 #[derive(Clone, Copy, Debug, Eq, Hash, PartialEq)]
 pub enum Row {
-    /// 22: a table has fewer places than its limit.
+    /// 22: a table is shorter than its limit.
     TablesShort,
     /// 22: the output words are fewer than [`HANDLE_WORDS`](crate::lent::HANDLE_WORDS).
     WordsShort,
@@ -151,7 +151,7 @@ pub enum Row {
         /// How many bytes there are in the packet.
         asked: u64,
     },
-    /// 17, DATA: the queue toward the other side does not reach.
+    /// 17, DATA: the queue for the other side does not reach.
     Queue {
         /// How much of it is left.
         left: u64,
@@ -314,7 +314,7 @@ impl Display for ActionLimit {
 impl Display for Row {
     fn fmt(&self, f: &mut Formatter<'_>) -> fmt::Result {
         match self {
-            Self::TablesShort => write!(f, "a table has fewer places than its limit"),
+            Self::TablesShort => write!(f, "a table is shorter than its limit"),
             Self::WordsShort => write!(f, "the output words are too few"),
             Self::SourceName { length } => write!(f, "the sender's name has {length} bytes"),
             Self::Packet(cause) => write!(f, "the packet: {cause}"),

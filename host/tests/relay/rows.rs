@@ -460,7 +460,7 @@ fn stored_tables() {
     let (mut relay, id) = stored(|_, runtime| runtime.config.maximum_inflight_actions_per_circuit = 0);
     let full = |most| Row::EndedActions { of: ActionLimit::Circuit, most };
     assert_eq!(refused_say(&mut relay, b"e", HnsrOpcode::Close, id, CLOSE), full(0));
-    // sums stop at their top, so a circuit without a limit is never over it
+    // a sum stays at 2^64 - 1 (TAB.10), so a circuit without a limit is never over it
     let (mut relay, id) = stored(|_, _| ());
     let _ = say(&mut relay, b"e", HnsrOpcode::Accept, id, &accept_body()).expect("an ACCEPT");
     let (runtime, mut tables) = relay.into_parts();

@@ -75,7 +75,8 @@ fn stored_names_are_equal_where_they_read_the_same() {
     assert_ne!(name(3, 0), name(3, 9));
 }
 
-/// "a peer length over 128 reads as 128"; a name of no bytes is in a table only where a host put it there.
+/// TAB.9: of a length over 128 the first 128 bytes are the name. A name of no bytes is in a table only where a host put
+/// it there.
 #[test]
 fn names_in_tables_are_read_as_found() {
     for len in [0, 1, MAXIMUM_PEER, MAXIMUM_PEER + 1, usize::MAX] {

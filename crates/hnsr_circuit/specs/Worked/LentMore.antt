@@ -49,7 +49,7 @@ pub long-name-sends : answerOf longNames (dataCall (replicate maximumPeer 5) 1 1
 unfolding answerOf longNames dataCall
 long-name-sends = refl
 
--- OUT.1: the name of one byte, though the record has other bytes behind it
+-- TAB.9, OUT.3: the name of one byte, though the record has other bytes behind it
 pub dirty-name-padded : getD (wordsOf longNames (dataCall (replicate maximumPeer 5) 1 100)) 5 0 ≡ 1
 unfolding wordsOf longNames dataCall
 dirty-name-padded = refl

@@ -86,7 +86,8 @@ fn new_answer(
     first_refusal(named, rest)
 }
 
-// NEW.4, NEW.7: no place is in use, whatever the tables hold, and no table is touched.
+// NEW.4: taken, no place is in use, whatever the tables hold. NEW.7: refused, zeros, off, the largest numbers. No
+// table is touched.
 pub fn new(
     pending: &[RelayPending],
     circuits: &[RelayCircuit],

@@ -90,7 +90,7 @@ pub(crate) fn id_taken(
     either_found(waiting, pending.len(), running, circuits.len())
 }
 
-// The draws in order, until one ends the drawing (DRAW.1, DRAW.5).
+// The draws in order, until one ends the drawing (DRAW.1 to DRAW.5).
 pub(crate) fn draw(
     pending: &[RelayPending],
     circuits: &[RelayCircuit],

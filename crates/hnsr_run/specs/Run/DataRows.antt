@@ -158,7 +158,7 @@ pub to-side : (side : RelaySide) {c : RelayCircuit} {k : Known} → Agrees c k
 to-side Requester {c} {k} A = ap (λ p. samePeer p (k .endpoint)) (A .endpoint) ∙ same-refl (k .endpoint)
 to-side Endpoint {c} {k} A = ap (λ p. samePeer p (k .requester)) (A .requester) ∙ same-refl (k .requester)
 
--- the queue toward the other side
+-- what is queued for the other side
 pub charged-queue : (side s : RelaySide) (n : ℕ) (c : RelayCircuit) (a : Action)
     → a .toEndpoint ≡ toEndpoint (otherSide side)
     → queuedTo (otherSide side) c + n ≤ top 64

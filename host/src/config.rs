@@ -20,6 +20,7 @@ pub struct OpaqueRelayConfig {
     pub maximum_circuits_per_peer: u16,
     /// How many bytes of DATA may be unacknowledged toward each side of a circuit: 1 to [`MAX_CIRCUIT_QUEUE`]. Where a
     /// window is larger, a sender that keeps to its window is refused with 17 all the same once the queue is full.
+    /// Below [`MAX_DATA_SIZE`] a DATA that is longer than the queue never passes.
     pub maximum_queue_bytes: usize,
     /// How many routes may be unacknowledged: 1 to [`MAX_RUNTIME_INFLIGHT_ACTIONS`].
     pub maximum_inflight_actions: usize,

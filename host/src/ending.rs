@@ -2,13 +2,12 @@
 use crate::admission::Admission;
 use crate::body::CloseBody;
 use crate::error::HnsrRuntimeError;
-use crate::lent::{RelayCircuit, RelayPending, StoredPeer, Tables};
-use crate::owned::{HnsrPacketBuf, HnsrRouteBuf, QueuedHnsrRouteBuf};
+use crate::lent::Tables;
+use crate::owned::{HnsrRouteBuf, Outgoing, QueuedHnsrRouteBuf};
 use crate::packet::{HnsrOpcode, HnsrPacket};
-use crate::peer::HnsrPeerId;
 use crate::random::RandomSource;
 use crate::relay::OpaqueRelayRuntime;
-use crate::route::HnsrRoute;
+use crate::side::{CircuitSide, Record};
 use crate::why::names;
 
 /// What [`end_circuit`](OpaqueRelayRuntime::end_circuit) has for the two sides: each hears once.
@@ -20,6 +19,17 @@ pub struct EndedCircuit {
     pub counted: Option<QueuedHnsrRouteBuf>,
     /// To be sent. The relay does not count these, and there is nothing to acknowledge.
     pub uncounted: Vec<HnsrRouteBuf>,
+}
+
+/// All that is to be sent, the counted route first.
+impl IntoIterator for EndedCircuit {
+    type Item = Outgoing;
+    type IntoIter = std::vec::IntoIter<Outgoing>;
+
+    fn into_iter(self) -> Self::IntoIter {
+        let counted = self.counted.into_iter().map(Outgoing::from);
+        counted.chain(self.uncounted.into_iter().map(Outgoing::from)).collect::<Vec<_>>().into_iter()
+    }
 }
 
 impl<Random: RandomSource> OpaqueRelayRuntime<Random> {
@@ -81,99 +91,34 @@ impl<Random: RandomSource> OpaqueRelayRuntime<Random> {
         now: u64,
     ) -> Result<EndedCircuit, HnsrRuntimeError> {
         let body = CloseBody { reason, detail }.encode()?;
-        let found = Found::of(self.tables(), u64::from_be_bytes(circuit_id)).ok_or(HnsrRuntimeError::UnknownCircuit)?;
-        let speaks = found.speaks(self.tables()).ok_or(HnsrRuntimeError::InvalidAdmission)?;
-        let packet = HnsrPacket { opcode: HnsrOpcode::Close, context_id: speaks.context, body: &body };
-        let routed = self.handle(&Admission::Refused, &speaks.peer, &packet, now).map(|routes| {
-            let heard = |route: HnsrRoute<'_>| Side { peer: route.destination, context: route.packet.context_id };
-            routes.iter().next().map(|queued| (queued.action_id, heard(queued.route)))
-        });
+        let id = u64::from_be_bytes(circuit_id);
+        let record =
+            Record::all(self.tables()).find(|record| record.id == id).ok_or(HnsrRuntimeError::UnknownCircuit)?;
+        let speaks = speaks(&record, self.tables()).ok_or(HnsrRuntimeError::InvalidAdmission)?;
+        let packet = HnsrPacket { opcode: HnsrOpcode::Close, context_id: speaks.context_id, body: &body };
+        let routed = self.handle(&Admission::Refused, &speaks.peer, &packet, now).map(|routes| routes.to_vec().pop());
         let counted = match routed {
             Ok(counted) => counted,
-            Err(refused) if found.stands(self.tables()) => return Err(refused),
+            Err(refused) if record.stands(self.tables()) => return Err(refused),
             Err(_) => None,
         };
-        let told = |side: &Side| HnsrRouteBuf {
-            destination: side.peer,
-            packet: HnsrPacketBuf { opcode: HnsrOpcode::Close, context_id: side.context, body: body.clone() },
-        };
-        let heard = counted.map(|(_, side)| side);
-        let others = [found.requester, found.endpoint].into_iter().filter(|side| Some(*side) != heard && side.hears());
+        self.all_told();
+        let heard = counted.as_ref().map(|queued| (queued.route.destination, queued.route.packet.context_id));
+        let others = [record.requester, record.endpoint].into_iter();
+        let others = others.filter(|side| Some((side.peer, side.context_id)) != heard && side.hears());
         Ok(EndedCircuit {
-            uncounted: others.map(|side| told(&side)).collect(),
-            counted: counted.map(|(action_id, side)| QueuedHnsrRouteBuf { action_id, route: told(&side) }),
+            uncounted: others.map(|side| side.close(reason, detail)).collect::<Result<_, _>>()?,
+            counted,
         })
     }
 }
 
-/// A side, and the context that a record has for it.
-#[derive(Clone, Copy, Eq, PartialEq)]
-struct Side {
-    peer: HnsrPeerId,
-    context: [u8; 8],
-}
-
-impl Side {
-    fn new(peer: &StoredPeer, context: u64) -> Self {
-        Self { peer: HnsrPeerId::found(peer), context: context.to_be_bytes() }
-    }
-
-    /// Whether it can be told: only tables that a host put together have a name of no bytes, or a context of zero.
-    fn hears(&self) -> bool {
-        !self.peer.as_bytes().is_empty() && self.context != [0; 8]
-    }
-}
-
-/// Where a record stands.
-#[derive(Clone, Copy)]
-enum Place {
-    Pending(usize),
-    Circuit(usize),
-}
-
-/// A record that is to end.
-#[derive(Clone, Copy)]
-struct Found {
-    place: Place,
-    requester: Side,
-    endpoint: Side,
-}
-
-impl Found {
-    /// The record that has this id: an OPEN that waits, else a circuit.
-    fn of(tables: &Tables, id: u64) -> Option<Self> {
-        let seen = tables.in_use();
-        let waits = |pending: &RelayPending| pending.used && pending.circuit_id == id;
-        let stands = |circuit: &RelayCircuit| circuit.used && circuit.circuit_id == id;
-        if let Some(place) = seen.pending.iter().position(waits) {
-            let pending = &seen.pending[place];
-            let requester = Side::new(&pending.requester, pending.requester_context);
-            return Some(Self { place: Place::Pending(place), requester, endpoint: Side::new(&pending.endpoint, id) });
-        }
-        let place = seen.circuits.iter().position(stands)?;
-        let circuit = &seen.circuits[place];
-        let (requester, endpoint) = (Side::new(&circuit.requester, id), Side::new(&circuit.endpoint, id));
-        Some(Self { place: Place::Circuit(place), requester, endpoint })
-    }
-
-    /// The side whose CLOSE names this record and no other: the endpoint if it can be.
-    fn speaks(&self, tables: &Tables) -> Option<Side> {
-        let own = match self.place {
-            Place::Pending(_) => 1,
-            Place::Circuit(_) => 0,
-        };
-        let named = |side: &Side| {
-            let context = u64::from_be_bytes(side.context);
-            tables.in_use().pending.iter().filter(|pending| names(pending, side.peer.as_bytes(), context)).count()
-        };
-        [self.endpoint, self.requester].into_iter().find(|side| side.hears() && named(side) == own)
-    }
-
-    /// Whether it is still there.
-    fn stands(&self, tables: &Tables) -> bool {
-        match self.place {
-            Place::Pending(place) => tables.pending[place].used,
-            Place::Circuit(place) => tables.circuits[place].used,
-        }
-    }
+/// The side whose CLOSE names this record and no other: the endpoint if it can be.
+fn speaks(record: &Record, tables: &Tables) -> Option<CircuitSide> {
+    let own = usize::from(record.waits());
+    let named = |side: &CircuitSide| {
+        let context = u64::from_be_bytes(side.context_id);
+        tables.in_use().pending.iter().filter(|pending| names(pending, side.peer.as_bytes(), context)).count()
+    };
+    [record.endpoint, record.requester].into_iter().find(|side| side.hears() && named(side) == own)
 }

@@ -93,32 +93,6 @@ impl QueuedHnsrRoute<'_> {
 
 impl Routes<'_> {
     /// All, with copies of their bodies. So the relay is free for the next call, `acknowledge` for one.
-    ///
-    /// ```
-    /// use lekchnam_host::{HnsrRoute, HnsrRuntimeError, OpaqueRelayRuntime, QueuedHnsrRouteBuf};
-    /// use std::collections::VecDeque;
-    ///
-    /// /// Sends routes and acknowledges each, also those that come of that. `send` says whether it could.
-    /// fn deliver(
-    ///     relay: &mut OpaqueRelayRuntime,
-    ///     routes: Vec<QueuedHnsrRouteBuf>,
-    ///     mut send: impl FnMut(HnsrRoute<'_>) -> bool,
-    /// ) -> Result<(), HnsrRuntimeError> {
-    ///     let mut routes = VecDeque::from(routes);
-    ///     while let Some(queued) = routes.pop_front() {
-    ///         let delivered = send(queued.route.as_route());
-    ///         match relay.acknowledge(queued.action_id, delivered) {
-    ///             Ok(more) => routes.extend(more.to_vec()),
-    ///             // what it was for has ended since, or the relay was switched
-    ///             Err(HnsrRuntimeError::UnknownAction | HnsrRuntimeError::StaleGeneration) => {}
-    ///             // an INCOMING is lost, and there are too many routes to tell the requester; its OPEN has ended
-    ///             Err(HnsrRuntimeError::Capacity) => {}
-    ///             Err(refused) => return Err(refused),
-    ///         }
-    ///     }
-    ///     Ok(())
-    /// }
-    /// ```
     pub fn to_vec(self) -> Vec<QueuedHnsrRouteBuf> {
         self.iter().map(QueuedHnsrRoute::to_buf).collect()
     }
@@ -145,4 +119,26 @@ conversions! {
     HnsrPacket, HnsrPacketBuf, as_packet;
     HnsrRoute, HnsrRouteBuf, as_route;
     QueuedHnsrRoute, QueuedHnsrRouteBuf, as_queued;
+}
+
+/// A packet that a host is to send: a route of the relay, or a notice of the host's own.
+#[derive(Clone, Debug, Eq, Hash, PartialEq)]
+pub struct Outgoing {
+    /// Of a route its number, to be acknowledged once it is written, or cannot be. A notice has none: nobody counts it.
+    pub action_id: Option<HnsrActionId>,
+    /// What to send, and where.
+    pub route: HnsrRouteBuf,
+}
+
+impl From<QueuedHnsrRouteBuf> for Outgoing {
+    fn from(queued: QueuedHnsrRouteBuf) -> Self {
+        Self { action_id: Some(queued.action_id), route: queued.route }
+    }
+}
+
+/// A notice.
+impl From<HnsrRouteBuf> for Outgoing {
+    fn from(route: HnsrRouteBuf) -> Self {
+        Self { action_id: None, route }
+    }
 }

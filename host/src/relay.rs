@@ -2,12 +2,16 @@
 use crate::admission::Admission;
 use crate::config::OpaqueRelayConfig;
 use crate::error::HnsrRuntimeError;
-use crate::lent::{self, Packet, RelayPacket, Runtime, Tables};
+use crate::lent::{self, InflightAction, Packet, RelayPacket, Runtime, Tables};
+use crate::owned::Outgoing;
 use crate::packet::{HnsrOpcode, HnsrPacket};
 use crate::peer::HnsrPeerId;
 use crate::random::{OsRandom, RandomSource, RANDOM_BYTES};
+use crate::reason::HnsrErrorCode;
 use crate::route::{HnsrActionId, Routes};
+use crate::side::{Cause, CircuitSide, Standing};
 use crate::status::HnsrRuntimeStatus;
+use crate::view::{Action, ActionKind};
 use std::fmt::{self, Debug, Formatter};
 
 /// Why `status` and `next_due` cannot fail. Their one refusal is 22, a table with fewer places than its limit.
@@ -15,11 +19,14 @@ use std::fmt::{self, Debug, Formatter};
 /// length, and no call changes a limit.
 const PLACES_ARE_ENOUGH: &str = "the tables have the places that they need";
 
+/// What a side hears from the host, for whose notice the relay had no room.
+const UNTOLD: (HnsrErrorCode, &str) = (HnsrErrorCode::Capacity, "circuit ended, no room for its notice");
+
 /// A relay of circuits between two peers. It does not read their DATA, and it owns no socket and no clock.
 ///
 /// A host has four things to do. It hands packets to [`handle`](Self::handle). It sends every route that any call hands
-/// out, in order, and calls [`acknowledge`](Self::acknowledge) with its number once, delivered or not: till then the
-/// route keeps its place. It calls [`disconnect`](Self::disconnect) where a connection ends, and
+/// out ([`outgoing`](Self::outgoing)), in order, and calls [`acknowledge`](Self::acknowledge) with its number once,
+/// delivered or not: till then the route keeps its place. It calls [`disconnect`](Self::disconnect) where a connection ends, and
 /// [`expire`](Self::expire) when [`next_due`](Self::next_due) has come. What it does with a refusal,
 /// [`HnsrRuntimeError::advice`] says, and [`why`](Self::why) which row of the rules it was. docs/HOSTING.md has all
 /// that a host author must know, and `host/examples/tcp` is such a host.
@@ -34,6 +41,8 @@ pub struct OpaqueRelayRuntime<Random = OsRandom> {
     out: Vec<u32>,
     /// How many words of `out` are the last call's.
     words: usize,
+    /// Who was not told of what the last call ended.
+    untold: Vec<CircuitSide>,
     random: Random,
 }
 
@@ -101,7 +110,7 @@ impl<Random: RandomSource> OpaqueRelayRuntime<Random> {
     pub fn from_parts(runtime: Runtime, tables: Tables, random: Random) -> Result<Self, HnsrRuntimeError> {
         lent::status(&tables, &runtime)?;
         let out = lent::unused(tables.most_words())?;
-        Ok(Self { runtime, tables, out, words: 0, random })
+        Ok(Self { runtime, tables, out, words: 0, untold: Vec::new(), random })
     }
 
     /// Takes a packet of the peer `source`. Of an OPEN the host says whether it is admitted; of any other packet the
@@ -136,9 +145,12 @@ impl<Random: RandomSource> OpaqueRelayRuntime<Random> {
             }
             _ => &[],
         };
+        let cause = match packet.opcode {
+            HnsrOpcode::Close | HnsrOpcode::Error => Some(Cause::Said(source, packet.context_id)),
+            _ => None,
+        };
         let packet = handed(admission, source, packet, now, random);
-        let answer = lent::handle(&mut self.tables, &mut self.out, &mut self.runtime, &packet);
-        self.routed(answer)
+        self.call(cause, |tables, out, runtime| lent::handle(tables, out, runtime, &packet))
     }
 
     /// Takes the word that a route was delivered, or was not: then what it was for ends, and the routes that come out
@@ -152,39 +164,38 @@ impl<Random: RandomSource> OpaqueRelayRuntime<Random> {
     /// 5 and 20 are normal: the route's circuit, peer or generation ended before its word came, and its place is free
     /// already.
     pub fn acknowledge(&mut self, action_id: HnsrActionId, delivered: bool) -> Result<Routes<'_>, HnsrRuntimeError> {
-        let answer = lent::acknowledge(&mut self.tables, &mut self.out, &mut self.runtime, action_id, delivered);
-        self.routed(answer)
+        let cause = if delivered { None } else { self.lost(action_id) };
+        self.call(cause, |tables, out, runtime| lent::acknowledge(tables, out, runtime, action_id, delivered))
     }
 
     /// Ends all that a peer is a side of, and drops every route toward it. Refused, with 4, is only a name of no bytes,
     /// which no peer has: a route may have it where stored tables do.
     ///
-    /// Of each circuit both sides are told, so routes come out to the peer that is gone, too: acknowledge these with
-    /// `false`, or they keep their places.
+    /// Of each circuit both sides get a route, the peer that is gone too: acknowledge these with `false`, or they keep
+    /// their places.
     pub fn disconnect(&mut self, peer: &HnsrPeerId) -> Result<Routes<'_>, HnsrRuntimeError> {
-        let answer = lent::disconnect(&mut self.tables, &mut self.out, &mut self.runtime, peer.as_bytes());
-        self.routed(answer)
+        self.call(Some(Cause::Gone(peer)), |tables, out, runtime| {
+            lent::disconnect(tables, out, runtime, peer.as_bytes())
+        })
     }
 
     /// Ends all that goes by a reservation, and forgets what it has used: an OPEN may then come under the same id with
     /// another expiry. Its one refusal is 22, and the relay has places and words enough.
     pub fn revoke_reservation(&mut self, reservation_id: [u8; 16]) -> Result<Routes<'_>, HnsrRuntimeError> {
-        let answer =
-            lent::revoke_reservation(&mut self.tables, &mut self.out, &mut self.runtime, reservation_id.into());
-        self.routed(answer)
+        self.call(Some(Cause::Other), |tables, out, runtime| {
+            lent::revoke_reservation(tables, out, runtime, reservation_id.into())
+        })
     }
 
     /// Moves the clock and ends all whose time is over: OPENs that nobody accepted, circuits whose reservation ended.
     /// Nothing ends by itself. [`next_due`](Self::next_due) says when there is something to end.
     pub fn expire(&mut self, now: u64) -> Result<Routes<'_>, HnsrRuntimeError> {
-        let answer = lent::expire(&mut self.tables, &mut self.out, &mut self.runtime, now);
-        self.routed(answer)
+        self.call(Some(Cause::Other), |tables, out, runtime| lent::expire(tables, out, runtime, now))
     }
 
     /// Moves the clock.
     pub fn observe_time(&mut self, trusted_now: u64) -> Result<(), HnsrRuntimeError> {
-        let answer = lent::observe_time(&mut self.runtime, trusted_now);
-        self.routed(answer.map(|()| 0)).map(|_| ())
+        self.call(None, |_, _, runtime| lent::observe_time(runtime, trusted_now).map(|()| 0)).map(|_| ())
     }
 
     /// Switches the relay on or off. A change raises the generation and drops every unacknowledged route; off ends all.
@@ -192,15 +203,37 @@ impl<Random: RandomSource> OpaqueRelayRuntime<Random> {
     /// `expected_generation` is what the host takes the generation for: 5 where it is another, so that of two hosts'
     /// parts that switch at once one hears that it came late.
     pub fn replace_enabled(&mut self, expected_generation: u64, enabled: bool) -> Result<Routes<'_>, HnsrRuntimeError> {
-        let answer =
-            lent::replace_enabled(&mut self.tables, &mut self.out, &mut self.runtime, expected_generation, enabled);
-        self.routed(answer)
+        self.call(Some(Cause::Other), |tables, out, runtime| {
+            lent::replace_enabled(tables, out, runtime, expected_generation, enabled)
+        })
     }
 
-    /// The routes of a call that was taken.
-    fn routed(&mut self, answer: Result<usize, HnsrRuntimeError>) -> Result<Routes<'_>, HnsrRuntimeError> {
+    /// Makes a call, which ends records by this cause if it ends some: its routes, if it is taken.
+    fn call(
+        &mut self,
+        cause: Option<Cause<'_>>,
+        call: impl FnOnce(&mut Tables, &mut [u32], &mut Runtime) -> Result<usize, HnsrRuntimeError>,
+    ) -> Result<Routes<'_>, HnsrRuntimeError> {
+        let standing = cause.map(|cause| Standing::before(&self.tables, &self.runtime, cause));
+        let answer = call(&mut self.tables, &mut self.out, &mut self.runtime);
         self.words = answer.unwrap_or(0);
+        self.untold = standing.map_or_else(Vec::new, |standing| standing.untold(&self.tables, self.routes()));
         answer.map(|_| self.routes())
+    }
+
+    /// What a route that was not delivered ends.
+    fn lost(&self, action_id: HnsrActionId) -> Option<Cause<'static>> {
+        let HnsrActionId { generation, sequence } = action_id;
+        let is =
+            |action: &&InflightAction| action.used && (action.generation, action.sequence) == (generation, sequence);
+        let lost = self.tables.in_use().inflight.iter().find(is)?;
+        let incoming = Action::from(lost).kind == ActionKind::Incoming;
+        Some(if incoming { Cause::LostIncoming(lost.circuit_id) } else { Cause::Lost(lost.circuit_id) })
+    }
+
+    /// Both sides of what the last call ended are told, by the host.
+    pub(crate) fn all_told(&mut self) {
+        self.untold.clear();
     }
 }
 
@@ -218,6 +251,37 @@ impl<Random> OpaqueRelayRuntime<Random> {
     /// The routes of the last call; none if it was refused.
     pub fn routes(&self) -> Routes<'_> {
         Routes::new(self.words())
+    }
+
+    /// The sides of what the last call ended that no route tells of it, be the call taken or refused.
+    ///
+    /// The relay ends a circuit also where too many routes are unacknowledged for a notice, and leaves the notice out
+    /// without a word. The host tells these sides, by [`outgoing`](Self::outgoing) or by [`CircuitSide::close`]. A peer
+    /// that has just disconnected is not among them.
+    pub fn untold(&self) -> &[CircuitSide] {
+        &self.untold
+    }
+
+    /// All that is to be sent because of the last call, in this order: its routes, and a CLOSE for each side that
+    /// [`untold`](Self::untold) has. A refused call has no routes, but may have ended something.
+    ///
+    /// ```
+    /// use lekchnam_host::{HnsrActionId, OpaqueRelayRuntime, Outgoing};
+    ///
+    /// /// A route was written, or could not be. Refused with 5 or 20, what it was about had ended before.
+    /// fn written(relay: &mut OpaqueRelayRuntime, action_id: HnsrActionId, delivered: bool) -> Vec<Outgoing> {
+    ///     let refused = relay.acknowledge(action_id, delivered).err();
+    ///     if let Some(refused) = refused {
+    ///         println!("route {action_id}: {refused}: {}", refused.advice(None));
+    ///     }
+    ///     relay.outgoing()
+    /// }
+    /// ```
+    #[must_use = "this is to be sent, and each route is to be acknowledged"]
+    pub fn outgoing(&self) -> Vec<Outgoing> {
+        let notices = self.untold.iter().filter_map(|side| side.close(UNTOLD.0.into(), UNTOLD.1).ok());
+        let routes = self.routes().to_vec().into_iter().map(Outgoing::from);
+        routes.chain(notices.map(Outgoing::from)).collect()
     }
 
     /// The output words of the last call; none if it was refused.

@@ -19,7 +19,8 @@ pub enum Advice {
     /// by an ERROR of the host's own, under the packet's context. After an ACCEPT the OPEN goes on waiting:
     /// [`end_circuit`](crate::OpaqueRelayRuntime::end_circuit) ends it and has a CLOSE for both sides.
     TurnDown,
-    /// Drop the packet: what it names has ended, or is about to, and its sides are told of that. A normal race.
+    /// Drop the packet: what it names has ended, or is about to, and its sides hear of that
+    /// ([`outgoing`](crate::OpaqueRelayRuntime::outgoing)). A normal race.
     Late,
     /// End the circuit, or the OPEN that waits, that the packet names, by
     /// [`end_circuit`](crate::OpaqueRelayRuntime::end_circuit). The sender is a side of it.
@@ -28,8 +29,8 @@ pub enum Advice {
     /// [`disconnect`](crate::OpaqueRelayRuntime::disconnect) it: it does not keep to the protocol. The packet may name
     /// a circuit of others, so what is ended is the sender's, never what the packet names.
     EndConnection,
-    /// The call was refused, and what it was about has ended all the same, but the other side was not told: the host
-    /// tells it by a packet of its own, or ends its connection. The packet must not be offered again.
+    /// The call was refused, and what it was about has ended all the same, but no route tells the other side: the host
+    /// does, by what [`outgoing`](crate::OpaqueRelayRuntime::outgoing) has. The packet must not be offered again.
     TellOtherSide,
     /// Nothing is wrong with the packet: what the host gave beside it is, or how it made the relay. Mend that, then
     /// offer the packet again; or turn it down and end its circuit. But where all is written (6, and
@@ -93,10 +94,11 @@ impl HnsrRuntimeError {
     /// | 18 | OPEN | [`TurnDown`](Advice::TurnDown) |
     /// | 18 | DATA | [`EndCircuit`](Advice::EndCircuit) |
     ///
-    /// This holds of every row that has the number. Where the rows differ, [`why`](crate::OpaqueRelayRuntime::why) says
-    /// which it was and [`Row::advice`](crate::Row::advice) what to do: a DATA that its sender had no credit for (17)
-    /// can be held until the other side's WINDOW comes, but its sender broke a rule, and the row says to end the
-    /// circuit.
+    /// This is what to do without the row. Where rows of one number differ, [`why`](crate::OpaqueRelayRuntime::why) says
+    /// which it was and [`Row::advice`](crate::Row::advice) is exact: a DATA that its sender had no credit for (17), or
+    /// that is longer than the whole queue, would be held for nothing, and the row says to end the circuit.
+    ///
+    /// A 5 of `replace_enabled` says that somebody was faster: look at the status and decide again.
     ///
     /// 16 is also what a packet of another part of the protocol gets: a host that serves reservations hands it on there
     /// before it asks the relay.

@@ -49,7 +49,7 @@ pub enum HnsrRuntimeError {
     Deadline,
     /// 13: no OPEN waits under the id that an ACCEPT names: it was ended, or its time was over. A normal race: drop it.
     UnknownRequest,
-    /// 14: no circuit has this id: it has ended, and both sides are told. A normal race: drop the packet, a DATA too.
+    /// 14: no circuit has this id: it has ended. A normal race: drop the packet, a DATA too.
     UnknownCircuit,
     /// 15: the sender is not a side of it. End the sender's connection, and leave alone what the packet names.
     WrongPeer,

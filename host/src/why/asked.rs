@@ -252,6 +252,9 @@ impl<'a> Asked<'a> {
         if credit < sent {
             return Some(Row::Credit { left: credit, asked: sent });
         }
+        if asked > most {
+            return Some(Row::DataOverQueue { most: most as u64, asked: sent });
+        }
         let left = most.saturating_sub(other.queued) as u64;
         (other.queued.saturating_add(asked) > most).then_some(Row::Queue { left, asked: sent })
     }

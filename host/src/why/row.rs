@@ -151,6 +151,13 @@ pub enum Row {
         /// How many bytes there are in the packet.
         asked: u64,
     },
+    /// 17, DATA: it is longer than the whole queue, which is less than the longest DATA then. It never passes.
+    DataOverQueue {
+        /// The queue.
+        most: u64,
+        /// How many bytes there are in the packet.
+        asked: u64,
+    },
     /// 17, DATA: the queue for the other side does not reach.
     Queue {
         /// How much of it is left.
@@ -233,7 +240,9 @@ impl Row {
             Self::OtherPeer => Refusal::WrongPeer,
             Self::AcceptLate { .. } | Self::NoLedgerRecord | Self::NamesTwo => Refusal::InvalidAdmission,
             Self::NoCircuit => Refusal::UnknownCircuit,
-            Self::Credit { .. } | Self::Queue { .. } | Self::CreditOverMost { .. } => Refusal::FlowControl,
+            Self::Credit { .. } | Self::DataOverQueue { .. } | Self::Queue { .. } | Self::CreditOverMost { .. } => {
+                Refusal::FlowControl
+            }
             Self::EndedSequence | Self::Sequence => Refusal::GenerationExhausted,
         }
     }
@@ -249,6 +258,7 @@ impl Row {
     ///
     /// - [`Actions`](Self::Actions) of an OPEN or an ACCEPT: [`OfferAgain`](Advice::OfferAgain).
     /// - [`Credit`](Self::Credit): [`EndCircuit`](Advice::EndCircuit). The sender sent what it had no credit for.
+    /// - [`DataOverQueue`](Self::DataOverQueue): [`EndCircuit`](Advice::EndCircuit). No acknowledge makes room for it.
     /// - [`WindowOverOffered`](Self::WindowOverOffered): [`EndCircuit`](Advice::EndCircuit). The endpoint was told the
     ///   window that is offered.
     /// - [`ContextPending`](Self::ContextPending): [`EndConnection`](Advice::EndConnection). An answer under the
@@ -277,6 +287,7 @@ impl Row {
             | Self::CircuitBytes { .. }
             | Self::TotalBytes { .. }
             | Self::Credit { .. }
+            | Self::DataOverQueue { .. }
             | Self::CreditOverMost { .. }
             | Self::WindowOverOffered { .. } => Advice::EndCircuit,
             Self::Packet(_)
@@ -353,6 +364,7 @@ impl Display for Row {
             Self::CircuitBytes { left, asked } => write!(f, "{asked} bytes, and the circuit has {left} left"),
             Self::TotalBytes { left, asked } => write!(f, "{asked} bytes, and the reservation has {left} left"),
             Self::Credit { left, asked } => write!(f, "{asked} bytes, and the sender's credit is {left}"),
+            Self::DataOverQueue { most, asked } => write!(f, "{asked} bytes, and the whole queue has {most}"),
             Self::Queue { left, asked } => write!(f, "{asked} bytes, and the queue has room for {left}"),
             Self::CreditOverMost { left, asked } => {
                 write!(f, "a credit of {asked} is added, and the other side may have {left} more")

@@ -14,6 +14,7 @@ mod room;
 mod routes;
 mod rows;
 mod stored;
+mod untold;
 mod views;
 mod why;
 mod why_lent;

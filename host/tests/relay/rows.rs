@@ -347,6 +347,9 @@ fn data_by_credit_and_by_queue() {
         (relay, id)
     };
     let (mut relay, id) = opened(10_000);
+    // an empty queue, and yet it never passes
+    let row = Row::DataOverQueue { most: 10_000, asked: 10_001 };
+    assert_eq!(refused_say(&mut relay, b"r", HnsrOpcode::Data, id, &[7; 10_001]), row);
     let _ = say(&mut relay, b"r", HnsrOpcode::Data, id, &[7; 9_000]).expect("DATA");
     let row = Row::Queue { left: 1_000, asked: 1_001 };
     assert_eq!(refused_say(&mut relay, b"r", HnsrOpcode::Data, id, &[7; 1_001]), row);

@@ -65,6 +65,7 @@ pub const ROWS: [(HnsrOpcode, &[&str]); 6] = [
             "CircuitBytes",
             "TotalBytes",
             "Credit",
+            "DataOverQueue",
             "Queue",
             "Sequence",
         ],
@@ -220,6 +221,7 @@ fn cured(row: Row, parts: &mut Parts, call: &mut Call) -> bool {
                 false => circuit.endpoint_credit += more,
             }
         }
+        Row::DataOverQueue { asked, .. } => runtime.config.maximum_queue_bytes = asked as usize,
         Row::Queue { left, asked } => runtime.config.maximum_queue_bytes += (asked - left) as usize,
         Row::CreditOverMost { .. } => {
             let circuit = circuit_of(tables, call.context);
@@ -289,7 +291,9 @@ fn advice_fits(row: Row, refused: HnsrRuntimeError, opcode: HnsrOpcode) {
         (Row::Actions { .. }, HnsrOpcode::Open | HnsrOpcode::Accept) => {
             assert_eq!((exact, by_number), (Advice::OfferAgain, Advice::TurnDown));
         }
-        (Row::Credit { .. }, _) => assert_eq!((exact, by_number), (Advice::EndCircuit, Advice::OfferAgain)),
+        (Row::Credit { .. } | Row::DataOverQueue { .. }, _) => {
+            assert_eq!((exact, by_number), (Advice::EndCircuit, Advice::OfferAgain));
+        }
         (Row::WindowOverOffered { .. }, _) => assert_eq!((exact, by_number), (Advice::EndCircuit, Advice::TurnDown)),
         (Row::ContextPending, _) => assert_eq!((exact, by_number), (Advice::EndConnection, Advice::TurnDown)),
         (Row::ExpiryDiffers { .. }, _) => assert_eq!((exact, by_number), (Advice::MendHost, Advice::TurnDown)),

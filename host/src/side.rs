@@ -1,0 +1,160 @@
+//! The sides of circuits and of OPENs that wait, and who of them was not told of an end.
+use crate::body::{CloseBody, ProtocolError};
+use crate::lent::{RelayCircuit, RelayPending, Runtime, StoredPeer, Tables};
+use crate::owned::{HnsrPacketBuf, HnsrRouteBuf};
+use crate::packet::HnsrOpcode;
+use crate::peer::HnsrPeerId;
+use crate::route::Routes;
+
+/// A side of a circuit, or of an OPEN that waits.
+#[derive(Clone, Copy, Debug, Eq, Hash, PartialEq)]
+pub struct CircuitSide {
+    /// Who it is.
+    pub peer: HnsrPeerId,
+    /// By what it knows the circuit: its id, but to the requester of an OPEN that waits the context of that OPEN.
+    pub context_id: [u8; 8],
+}
+
+impl CircuitSide {
+    /// A CLOSE for it, of the host's own: the relay does not count it, and there is nothing to acknowledge.
+    pub fn close(&self, reason: u16, detail: &str) -> Result<HnsrRouteBuf, ProtocolError> {
+        let body = CloseBody { reason, detail }.encode()?;
+        let packet = HnsrPacketBuf { opcode: HnsrOpcode::Close, context_id: self.context_id, body };
+        Ok(HnsrRouteBuf { destination: self.peer, packet })
+    }
+
+    fn new(peer: &StoredPeer, context: u64) -> Self {
+        Self { peer: HnsrPeerId::found(peer), context_id: context.to_be_bytes() }
+    }
+
+    /// Whether it can be told: only tables that a host put together have a name of no bytes, or a context of zero.
+    pub(crate) fn hears(&self) -> bool {
+        !self.peer.as_bytes().is_empty() && self.context_id != [0; 8]
+    }
+}
+
+/// Where a record stands.
+#[derive(Clone, Copy)]
+enum Place {
+    Pending(usize),
+    Circuit(usize),
+}
+
+/// An OPEN that waits, or a circuit.
+#[derive(Clone, Copy)]
+pub struct Record {
+    place: Place,
+    pub id: u64,
+    pub requester: CircuitSide,
+    pub endpoint: CircuitSide,
+}
+
+impl Record {
+    /// Those that there are: OPENs that wait, then circuits.
+    pub fn all(tables: &Tables) -> impl Iterator<Item = Self> + '_ {
+        let seen = tables.in_use();
+        let pending = seen.pending.iter().enumerate().filter(|(_, record)| record.used).map(Self::pending);
+        let circuits = seen.circuits.iter().enumerate().filter(|(_, record)| record.used).map(Self::circuit);
+        pending.chain(circuits)
+    }
+
+    fn pending((place, record): (usize, &RelayPending)) -> Self {
+        let (id, context) = (record.circuit_id, record.requester_context);
+        let (requester, endpoint) = (&record.requester, &record.endpoint);
+        let (requester, endpoint) = (CircuitSide::new(requester, context), CircuitSide::new(endpoint, id));
+        Self { place: Place::Pending(place), id, requester, endpoint }
+    }
+
+    fn circuit((place, record): (usize, &RelayCircuit)) -> Self {
+        let id = record.circuit_id;
+        let (requester, endpoint) = (CircuitSide::new(&record.requester, id), CircuitSide::new(&record.endpoint, id));
+        Self { place: Place::Circuit(place), id, requester, endpoint }
+    }
+
+    /// Whether it waits.
+    pub fn waits(&self) -> bool {
+        matches!(self.place, Place::Pending(_))
+    }
+
+    /// Whether it is still there.
+    pub fn stands(&self, tables: &Tables) -> bool {
+        let seen = tables.in_use();
+        match self.place {
+            Place::Pending(place) => seen.pending.get(place).is_some_and(|record| record.used),
+            Place::Circuit(place) => seen.circuits.get(place).is_some_and(|record| record.used),
+        }
+    }
+}
+
+/// By what a call ends records.
+#[derive(Clone, Copy)]
+pub enum Cause<'a> {
+    /// A CLOSE or an ERROR: the sender, and the context.
+    Said(&'a HnsrPeerId, [u8; 8]),
+    /// An INCOMING that was not delivered: its id.
+    LostIncoming(u64),
+    /// Another route that was not delivered: its id.
+    Lost(u64),
+    /// A peer that is gone.
+    Gone(&'a HnsrPeerId),
+    /// Time, a reservation that is revoked, the switch.
+    Other,
+}
+
+impl Cause<'_> {
+    /// The sides that are to hear of the record's end, if this ends it.
+    fn told(&self, record: &Record) -> Vec<CircuitSide> {
+        let (requester, endpoint) = (record.requester, record.endpoint);
+        let said = |side: CircuitSide, peer: &HnsrPeerId, context| side.peer == *peer && side.context_id == context;
+        match *self {
+            Self::Said(peer, context) if said(requester, peer, context) => vec![endpoint],
+            Self::Said(peer, context) if said(endpoint, peer, context) => vec![requester],
+            Self::LostIncoming(id) if record.waits() && record.id == id => vec![requester],
+            Self::Lost(id) if !record.waits() && record.id == id => vec![requester, endpoint],
+            Self::Gone(peer) if requester.peer == *peer => vec![endpoint],
+            Self::Gone(peer) if endpoint.peer == *peer => vec![requester],
+            Self::Other => vec![requester, endpoint],
+            _ => Vec::new(),
+        }
+    }
+}
+
+/// The records that a call may end, as they are before it, each with the sides that are to hear.
+#[derive(Default)]
+pub struct Standing(Vec<(Record, Vec<CircuitSide>)>);
+
+impl Standing {
+    /// None where every notice will find its room, which is nearly always: then nothing is looked at.
+    pub fn before(tables: &Tables, runtime: &Runtime, cause: Cause<'_>) -> Self {
+        if room_for_all(tables, runtime) {
+            return Self::default();
+        }
+        let heard = |record: Record| (record, cause.told(&record));
+        Self(Record::all(tables).map(heard).filter(|(_, sides)| !sides.is_empty()).collect())
+    }
+
+    /// The sides of what has ended since that no route tells.
+    pub fn untold(self, tables: &Tables, routes: Routes<'_>) -> Vec<CircuitSide> {
+        let untold = |side: &CircuitSide| {
+            let routes = routes.iter().map(|queued| queued.route);
+            side.hears()
+                && !routes
+                    .map(|route| (route.destination, route.packet.context_id))
+                    .any(|to| to == (side.peer, side.context_id))
+        };
+        let ended = self.0.into_iter().filter(|(record, _)| !record.stands(tables));
+        ended.flat_map(|(_, sides)| sides).filter(untold).collect()
+    }
+}
+
+/// Whether there are places and numbers for two notices of every record. About one circuit there always are: its
+/// actions go with it, and two is the least limit.
+fn room_for_all(tables: &Tables, runtime: &Runtime) -> bool {
+    let (seen, limits) = (tables.in_use(), &runtime.config);
+    let notices = (seen.pending.len() + seen.circuits.len()).saturating_mul(2);
+    let actions = seen.inflight.len().saturating_add(notices);
+    actions <= limits.maximum_inflight_actions
+        && actions <= limits.maximum_inflight_actions_per_peer
+        && limits.maximum_inflight_actions_per_circuit >= 2
+        && runtime.next_action_sequence.checked_add(notices as u64).is_some()
+}

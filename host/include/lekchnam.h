@@ -43,8 +43,9 @@ extern "C" {
 /* The most bytes of a DATA; the least is 1. */
 #define LEKCHNAM_MAX_DATA_SIZE 16384
 
-/* The bounds of a window. A WINDOW adds 1 to the most. */
+/* The bounds of a window, and the one to offer where nothing else is asked. A WINDOW adds 1 to the most. */
 #define LEKCHNAM_MIN_WINDOW 16384
+#define LEKCHNAM_DEFAULT_WINDOW 65536
 #define LEKCHNAM_MAX_WINDOW 1048576
 
 /* The most bytes of a detail, in a CLOSE or an ERROR. */
@@ -58,12 +59,14 @@ extern "C" {
 #define LEKCHNAM_WINDOW_SIZE 4
 #define LEKCHNAM_DETAIL_SIZE (3 + LEKCHNAM_MAX_DETAIL_SIZE)
 
-/* The ceilings of a configuration. */
+/* The ceilings of a configuration, and the least of `maximum_inflight_actions_per_circuit`: the end of a circuit has a
+ * route for each side. */
 #define LEKCHNAM_MAX_RUNTIME_PENDING 65536
 #define LEKCHNAM_MAX_RUNTIME_CIRCUITS 65536
 #define LEKCHNAM_MAX_CIRCUITS 32
 #define LEKCHNAM_MAX_CIRCUIT_QUEUE 65536
 #define LEKCHNAM_MAX_RUNTIME_INFLIGHT_ACTIONS 262144
+#define LEKCHNAM_MIN_INFLIGHT_ACTIONS_PER_CIRCUIT 2
 #define LEKCHNAM_MAX_OPEN_DEADLINE_SECONDS 10
 
 /* The random bytes of an OPEN that never run out: they are taken eight at a time. */
@@ -74,6 +77,9 @@ extern "C" {
  * eight; generation and sequence, two words each, the high one first; the name, padded with zeros; 2 in the top four
  * bits with the opcode (bits 16 to 23) and the length of the body (bits 0 to 15); the context, two words; the
  * body. Bytes stand four to a word, the first lowest: as bytes in memory they are in order. Routes follow each other.
+ *
+ * The context, too, stands as its eight bytes in order. A `context_id` elsewhere is a number whose highest byte is the
+ * first on the wire, so `(uint64_t)out[38] << 32 | out[39]` is not it; `lekchnam_context(out)` is.
  */
 #define LEKCHNAM_PEER_WORDS 32
 #define LEKCHNAM_ADDRESS_WORDS (1 + 2 + 2 + LEKCHNAM_PEER_WORDS)
@@ -82,6 +88,16 @@ extern "C" {
 #define LEKCHNAM_HANDLE_WORDS (LEKCHNAM_HEAD_WORDS + LEKCHNAM_MAX_DATA_SIZE / 4)
 /* The words that `acknowledge` needs, and any other call for each record of the pending table and of the circuits. */
 #define LEKCHNAM_CLOSING_WORDS (2 * (LEKCHNAM_HEAD_WORDS + 8))
+
+/* The context of the route that starts here, as a number. */
+static inline uint64_t lekchnam_context(const uint32_t *route)
+{
+    uint64_t context = 0;
+    for (size_t place = 0; place < 8; place++) {
+        context = context << 8 | (route[LEKCHNAM_ADDRESS_WORDS + 1 + place / 4] >> 8 * (place % 4) & 0xff);
+    }
+    return context;
+}
 
 /* The opcodes. The relay takes OPEN, ACCEPT, DATA, WINDOW, CLOSE and ERROR, and refuses others with 16. */
 enum {
@@ -108,7 +124,29 @@ enum {
     LEKCHNAM_OPCODE_ERROR = 20
 };
 
-/* An answer: 0, or why the call is refused. */
+/* The reasons of a CLOSE or an ERROR that have a name. It may have any other number too. */
+enum {
+    LEKCHNAM_REASON_NORMAL = 0,
+    LEKCHNAM_REASON_REFUSED = 1,
+    LEKCHNAM_REASON_UNSUPPORTED = 2,
+    LEKCHNAM_REASON_BUSY = 3,
+    LEKCHNAM_REASON_INVALID = 4,
+    LEKCHNAM_REASON_NOT_FOUND = 5,
+    LEKCHNAM_REASON_EXPIRED = 6, /* the relay's own: a reservation has ended or is revoked */
+    LEKCHNAM_REASON_CAPACITY = 7,
+    LEKCHNAM_REASON_TIMEOUT = 8, /* the relay's own: no ACCEPT came in time */
+    LEKCHNAM_REASON_PROTOCOL = 9,
+    LEKCHNAM_REASON_INTERNAL = 10,
+    LEKCHNAM_REASON_ENDPOINT_GONE = 11, /* the relay's own: a peer is gone, or a route was not delivered */
+    LEKCHNAM_REASON_AUTHENTICATION_FAILED = 12,
+    LEKCHNAM_REASON_FLOW_CONTROL = 13,
+    LEKCHNAM_REASON_RATE_LIMITED = 14,
+    LEKCHNAM_REASON_SHUTDOWN = 15, /* the relay's own: it is switched off */
+    LEKCHNAM_REASON_PROFILE_DISABLED = 16,
+    LEKCHNAM_REASON_BYTE_LIMIT = 17
+};
+
+/* An answer: 0, or why the call is refused. What to do with a refusal: docs/HOSTING.md, "Refusals". */
 enum {
     LEKCHNAM_TAKEN = 0,
     LEKCHNAM_PROTOCOL = 1, /* a packet or its body is wrong, or the OPEN is not admitted; `cause` says which */

@@ -1,7 +1,7 @@
 //! include/lekchnam.h: it declares what the archive exports and no more, its structs and numbers are the ones here, and
 //! a C program makes the sixteen cases by it.
 use lekchnam_host::body::{AcceptBody, IncomingBody, Invalid, OpenBody, OpenedBody, ReasonDetail, WindowBody};
-use lekchnam_host::{limits, HnsrOpcode, HnsrRuntimeError, RANDOM_BYTES};
+use lekchnam_host::{limits, HnsrErrorCode, HnsrOpcode, HnsrRuntimeError, RANDOM_BYTES};
 use std::collections::{BTreeMap, BTreeSet};
 use std::env;
 use std::fs;
@@ -92,7 +92,10 @@ fn every_function_of_the_archive_is_declared_and_no_other() {
     let header = header();
     let words = header.split('(').filter_map(|part| part.rsplit(|c: char| !c.is_alphanumeric() && c != '_').next());
     let ours = ["lekchnam_", "opaque_relay_", "hnsr_body_"];
-    let declared: BTreeSet<&str> = words.filter(|word| ours.iter().any(|ours| word.starts_with(ours))).collect();
+    let named: BTreeSet<&str> = words.filter(|word| ours.iter().any(|ours| word.starts_with(ours))).collect();
+    // what the header defines itself is not the archive's
+    let defined = between(&header, "static inline ", "(").into_iter().filter_map(|part| part.rsplit(' ').next());
+    let declared = &named - &defined.collect();
     assert_eq!(declared, exported);
     assert!(exported.contains("lekchnam_layout") && exported.contains("opaque_relay_handle"));
     println!("compared: {} functions of the header with the archive's sources", declared.len());
@@ -204,6 +207,7 @@ fn numbers_are_the_ones_here() {
     numbers.extend(refusals.map(|(refusal, number)| (loud(&format!("{refusal:?}")), number)));
     let opcodes = (0..HnsrOpcode::COUNT).map(|number| (HnsrOpcode::from(number), usize::from(number)));
     numbers.extend(opcodes.map(|(opcode, number)| (format!("OPCODE_{}", loud(&format!("{opcode:?}"))), number)));
+    numbers.extend(HnsrErrorCode::ALL.map(|code| (format!("REASON_{}", loud(&format!("{code:?}"))), code as usize)));
     numbers.extend(Invalid::ALL.map(|wrong| (format!("INVALID_{}", loud(&format!("{wrong:?}"))), wrong as usize)));
     let limits = limits!(
         MAXIMUM_PEER,
@@ -212,6 +216,7 @@ fn numbers_are_the_ones_here() {
         MAX_BODY_SIZE,
         MAX_DATA_SIZE,
         MIN_WINDOW,
+        DEFAULT_WINDOW,
         MAX_WINDOW,
         MAX_DETAIL_SIZE,
         MAX_RUNTIME_PENDING,
@@ -219,6 +224,7 @@ fn numbers_are_the_ones_here() {
         MAX_CIRCUITS,
         MAX_CIRCUIT_QUEUE,
         MAX_RUNTIME_INFLIGHT_ACTIONS,
+        MIN_INFLIGHT_ACTIONS_PER_CIRCUIT,
         MAX_OPEN_DEADLINE_SECONDS,
         PEER_WORDS,
         ADDRESS_WORDS,

@@ -12,12 +12,15 @@ enum {
     EXPIRY = 1000,
     WINDOW = 32768,
     REQUEST = 9,
-    CIRCUIT = 7,
     REQUESTER = 1,
     ENDPOINT = 2,
     STRANGER = 3,
     CASES = 16
 };
+
+/* The circuit's id is drawn from these bytes, the first of which is the highest. */
+static const uint8_t RANDOM[8] = { 1, 2, 3, 4, 5, 6, 7, 8 };
+static const uint64_t CIRCUIT = UINT64_C(0x0102030405060708);
 
 typedef struct {
     LekchnamRelayPending pending[2];
@@ -153,11 +156,10 @@ static void begin(Relay *relay, size_t queue)
 static uint32_t handle(Relay *relay, LekchnamRelayPacket packet, uint8_t source, const Body *body)
 {
     const uint8_t endpoint = ENDPOINT;
-    const uint8_t random[8] = { 0, 0, 0, 0, 0, 0, 0, CIRCUIT };
     return kept(relay, opaque_relay_handle(
         relay->pending, 2, relay->circuits, 2, relay->ledger, 1, relay->inflight, 8, relay->out, LEKCHNAM_HANDLE_WORDS,
         relay->runtime, relay->places, packet, &source, 1, body->bytes, body->length, &endpoint, 1,
-        random, sizeof random));
+        RANDOM, sizeof RANDOM));
 }
 
 static void open_circuit(Relay *relay)
@@ -173,6 +175,7 @@ static void open_circuit(Relay *relay)
     };
     Body body = open_body();
     must(handle(relay, packet, REQUESTER, &body) == LEKCHNAM_TAKEN, "an OPEN");
+    must(lekchnam_context(relay->out) == CIRCUIT, "the context of an INCOMING is the circuit's id");
 }
 
 static uint32_t say(Relay *relay, const Packet *said)

@@ -8,9 +8,11 @@ use crate::peer::HnsrPeerId;
 /// not look at it, and `Refused` will do.
 #[derive(Clone, Copy, Debug, Eq, PartialEq)]
 pub enum Admission<'a> {
-    /// The endpoint's key is not a point of the curve.
+    /// The endpoint's key is not a point of the curve. The OPEN is refused with 1 by its body, which is wrong: the
+    /// advice is to end the connection ([`EndConnection`](crate::Advice::EndConnection)).
     KeyInvalid,
-    /// The key is valid, and no reservation fits the OPEN.
+    /// The key is valid, and no reservation fits the OPEN. It is refused with 1 by admission: the advice is to turn it
+    /// down ([`TurnDown`](crate::Advice::TurnDown)).
     Refused,
     /// The key is valid, and the OPEN goes by this grant.
     Granted(Grant<'a>),
@@ -45,13 +47,14 @@ pub struct Grant<'a> {
     /// The endpoint's name. An OPEN is refused with 4 where it does not have 1 to [`MAXIMUM_PEER`](crate::MAXIMUM_PEER)
     /// bytes.
     pub endpoint: &'a [u8],
-    /// The reservation.
+    /// The reservation. It must be the id that the OPEN's body names: the relay does not compare them, but counts
+    /// circuits by the body's and keeps the ledger by this one (OPEN.15).
     pub reservation_id: [u8; 16],
     /// When it ends: the same for every grant under one reservation. While the relay has the reservation in its
     /// ledger, an OPEN by a grant with another end is refused with 18. So a host that renews takes a new id, or first
     /// ends the old one by [`revoke_reservation`](crate::OpaqueRelayRuntime::revoke_reservation).
     pub expires_at: u64,
-    /// How many circuits it may have at once.
+    /// How many circuits it may have at once, OPENs that wait counted.
     pub max_active_circuits: u16,
     /// How many bytes each circuit may pass.
     pub max_bytes_per_circuit: u64,
@@ -109,11 +112,11 @@ impl Grant<'_> {
 pub struct GrantBuf {
     /// The endpoint.
     pub endpoint: HnsrPeerId,
-    /// The reservation.
+    /// The reservation. It must be the id that the OPEN's body names ([`Grant::reservation_id`]).
     pub reservation_id: [u8; 16],
     /// When it ends: the same for every grant under one reservation ([`Grant::expires_at`]).
     pub expires_at: u64,
-    /// How many circuits it may have at once.
+    /// How many circuits it may have at once, OPENs that wait counted.
     pub max_active_circuits: u16,
     /// How many bytes each circuit may pass.
     pub max_bytes_per_circuit: u64,

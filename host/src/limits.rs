@@ -38,8 +38,9 @@ pub const MAX_DATA_SIZE: usize = 16_384;
 /// The least window that an OPEN offers or an ACCEPT takes.
 pub const MIN_WINDOW: u32 = 16_384;
 
-/// The window that hns-hnsr-protocol offers where nothing else is asked. It is no more than [`MAX_CIRCUIT_QUEUE`], so
-/// the sender's credit is used up before the queue is full.
+/// The window that hns-hnsr-protocol offers where nothing else is asked. It is no more than [`MAX_CIRCUIT_QUEUE`]: with
+/// windows of this size, and a queue of the most, a sender that keeps to its window seldom meets a full queue. It can,
+/// where a WINDOW overtakes the host's acknowledge.
 pub const DEFAULT_WINDOW: u32 = 65_536;
 
 /// The most window, the most that a WINDOW adds, and the most credit that a WINDOW leaves.

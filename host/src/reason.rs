@@ -5,11 +5,11 @@ use std::fmt::{self, Display, Formatter};
 /// The reasons that have a name, by those of hns-hnsr-protocol. A CLOSE or an ERROR may have any other number too.
 ///
 /// ```
-/// use lekchnam_host::{HnsrErrorCode, UnknownErrorCode};
+/// use lekchnam_host::HnsrErrorCode;
 ///
 /// assert_eq!(u16::from(HnsrErrorCode::EndpointGone), 11);
 /// assert_eq!(HnsrErrorCode::try_from(11), Ok(HnsrErrorCode::EndpointGone));
-/// assert_eq!(HnsrErrorCode::try_from(18), Err(UnknownErrorCode(18)));
+/// assert!(matches!(HnsrErrorCode::try_from(18), Err(unknown) if unknown.number() == 18));
 /// ```
 #[derive(Clone, Copy, Debug, Eq, Hash, Ord, PartialEq, PartialOrd)]
 #[repr(u16)]
@@ -91,12 +91,21 @@ impl TryFrom<u16> for HnsrErrorCode {
     }
 }
 
-/// A reason without a name: 18 and above.
-#[derive(Clone, Copy, Debug, Eq, Hash, PartialEq)]
-pub struct UnknownErrorCode(
+/// A reason without a name: 18 and above. Only [`HnsrErrorCode::try_from`] makes one, so that none has a number that is
+/// named.
+///
+/// ```compile_fail
+/// lekchnam_host::UnknownErrorCode(11);
+/// ```
+#[derive(Clone, Copy, Debug, Eq, Hash, Ord, PartialEq, PartialOrd)]
+pub struct UnknownErrorCode(u16);
+
+impl UnknownErrorCode {
     /// The number.
-    pub u16,
-);
+    pub const fn number(self) -> u16 {
+        self.0
+    }
+}
 
 impl Display for UnknownErrorCode {
     fn fmt(&self, f: &mut Formatter<'_>) -> fmt::Result {

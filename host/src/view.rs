@@ -84,14 +84,15 @@ impl From<&RelayCircuit> for Circuit {
     }
 }
 
-/// A reservation that OPENs went by: it is in the ledger until it ends or is revoked.
+/// A reservation that OPENs went by. Its record stays in the ledger until the next admitted OPEN or
+/// [`expire`](OpaqueRelayRuntime::expire) at or after its end, or until it is revoked.
 #[derive(Clone, Copy, Debug, Eq, PartialEq)]
 pub struct Reservation {
     /// Its id.
     pub reservation_id: [u8; 16],
     /// How many bytes its circuits have passed.
     pub bytes: u64,
-    /// When it ends. A grant under this id with another end is refused with 18.
+    /// When it ends. While the record stays, an OPEN by a grant under this id with another end is refused with 18.
     pub expires_at: u64,
 }
 

@@ -1,5 +1,5 @@
-//! The readers and writers of bodies.
-use super::Cause;
+//! The readers and writers of bodies. Each looks first whether the archive is the one that is declared here.
+use super::{interface, Cause};
 use crate::body;
 use crate::lent::ReservationId;
 
@@ -86,6 +86,7 @@ macro_rules! readers {
         }
 
         $(pub fn $name(input: &[u8]) -> $out {
+            interface::checked();
             // SAFETY: pointer and length are of one slice, and the function only reads it, during the call.
             unsafe { $function(input.as_ptr(), input.len()) }
         })+
@@ -111,6 +112,7 @@ macro_rules! writers {
         }
 
         $(pub fn $name(body: $body) -> Written<{ body::$body::SIZE }> {
+            interface::checked();
             // SAFETY: numbers and bytes go in and come out, and every one is allowed.
             unsafe { $function(body) }
         })+
@@ -132,6 +134,7 @@ macro_rules! detail_writers {
         }
 
         $(pub fn $name(reason: u16, detail: &[u8]) -> DetailBytes {
+            interface::checked();
             // SAFETY: pointer and length are of one slice, and the function only reads it, during the call.
             unsafe { $function(reason, detail.as_ptr(), detail.len()) }
         })+
@@ -150,16 +153,19 @@ extern "C" {
 }
 
 pub fn decode_open(input: &[u8], key_valid: bool) -> Answer<OpenBody> {
+    interface::checked();
     // SAFETY: pointer and length are of one slice, and the function only reads it, during the call.
     unsafe { hnsr_body_decode_open(input.as_ptr(), input.len(), key_valid) }
 }
 
 pub fn encode_open(body: OpenBody, key_valid: bool) -> Written<{ body::OpenBody::SIZE }> {
+    interface::checked();
     // SAFETY: numbers and bytes go in and come out, and every one is allowed.
     unsafe { hnsr_body_encode_open(body, key_valid) }
 }
 
 pub fn validate_packet(opcode: u8, context_id: u64, body_length: usize) -> Cause {
+    interface::checked();
     // SAFETY: three numbers go in, three come out, and every number is allowed.
     unsafe { hnsr_body_validate_packet(opcode, context_id, body_length) }
 }

@@ -1,4 +1,4 @@
-//! What the archive tells of itself, held to what is declared here: once, before a relay is made or resumed.
+//! What the archive tells of itself, held to what is declared here: once, before the first call that passes a struct.
 //!
 //! Found is another version of the interface, and a struct in which a field is elsewhere, of another width, or in
 //! another's place. Not found is a field that was added where C leaves bytes unused and no other field moves.

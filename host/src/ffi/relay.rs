@@ -1,6 +1,5 @@
 //! The relay's calls. The runtime goes in and comes back by value, and so do the numbers of places in use; a table
-//! that a call does not need is not lent to it. `new` and `status`, of which every relay that is made or resumed goes
-//! through one, look whether the archive is the one that is declared here.
+//! that a call does not need is not lent to it. Each looks first whether the archive is the one that is declared here.
 use super::{interface, Cause};
 use crate::config::OpaqueRelayConfig;
 use crate::lent::{
@@ -176,31 +175,34 @@ extern "C" {
 /// Calls a function whose first parameters are slices, each as its pointer and its length: lent to be written, or
 /// only read.
 macro_rules! call {
-    ($function:ident, lent $($slice:expr),+; $($rest:expr),+) => {
+    ($function:ident, lent $($slice:expr),+; $($rest:expr),+) => {{
+        interface::checked();
         // SAFETY: pointer and length are of one slice that is borrowed for writing, no two slices overlap, and no
         // function keeps a pointer. The other arguments are numbers, or slices that are only read. Every record,
         // word, byte and number is allowed: the functions ask nothing of their caller.
         unsafe { $function($($slice.as_mut_ptr(), $slice.len(),)+ $($rest),+) }
-    };
-    ($function:ident, read $($slice:expr),+; $($rest:expr),+) => {
+    }};
+    ($function:ident, read $($slice:expr),+; $($rest:expr),+) => {{
+        interface::checked();
         // SAFETY: pointer and length are of one slice, and the function only reads it, during the call. The other
         // arguments are numbers, or bytes that are only read. Every record, byte and number is allowed.
         unsafe { $function($($slice.as_ptr(), $slice.len(),)+ $($rest),+) }
-    };
+    }};
 }
 
 pub fn default_config() -> OpaqueRelayConfig {
+    interface::checked();
     // SAFETY: nothing goes in, and numbers come out.
     unsafe { opaque_relay_default_config() }
 }
 
 pub fn validate_config(config: OpaqueRelayConfig) -> u32 {
+    interface::checked();
     // SAFETY: numbers go in, one comes out, and every number is allowed.
     unsafe { opaque_relay_validate_config(config) }
 }
 
 pub fn new(tables: &Tables, session: [u8; 16], generation: u64, config: OpaqueRelayConfig, time: u64) -> RelayReply {
-    interface::checked();
     let Tables { pending, circuits, ledger, inflight, .. } = tables;
     call!(opaque_relay_new, read pending, circuits, ledger, inflight; &session, generation, config, time)
 }
@@ -253,12 +255,12 @@ pub fn replace_enabled(
 }
 
 pub fn observe_time(runtime: Runtime, places: Places, time: u64) -> RelayReply {
+    interface::checked();
     // SAFETY: numbers go in and come out, and every number is allowed.
     unsafe { opaque_relay_observe_time(runtime, places, time) }
 }
 
 pub fn status(tables: &Tables, runtime: Runtime) -> StatusReply {
-    interface::checked();
     let Tables { pending, circuits, inflight, places, .. } = tables;
     call!(opaque_relay_status, read pending, circuits, inflight; runtime, *places)
 }

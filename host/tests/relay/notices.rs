@@ -2,7 +2,7 @@
 use crate::fixture::{circuit, grant, open, peer, relay, small, Relay, EXPIRY, START};
 use lekchnam_host::body::{CloseBody, ErrorBody};
 use lekchnam_host::limits::LONGEST_NOTICE;
-use lekchnam_host::{HnsrActionId, HnsrErrorCode, HnsrOpcode, HnsrRuntimeError, Notice, Routes, UnknownErrorCode};
+use lekchnam_host::{HnsrActionId, HnsrErrorCode, HnsrOpcode, HnsrRuntimeError, Notice, Routes};
 
 /// Reason and detail of each route, and its body's length.
 type Said = Vec<(u16, String, usize)>;
@@ -82,7 +82,10 @@ fn reasons_have_their_numbers() {
     for number in 0..=u16::MAX {
         match HnsrErrorCode::try_from(number) {
             Ok(code) => assert_eq!((u16::from(code), number < 18), (number, true)),
-            Err(UnknownErrorCode(unknown)) => assert_eq!((unknown, number >= 18), (number, true)),
+            Err(unknown) => {
+                assert_eq!((unknown.number(), number >= 18), (number, true));
+                assert_eq!(unknown.to_string(), "invalid HNSR value: unknown HNSR error code");
+            }
         }
     }
     let named = [
@@ -96,5 +99,4 @@ fn reasons_have_their_numbers() {
     for (number, code) in named {
         assert_eq!(HnsrErrorCode::try_from(number), Ok(code));
     }
-    assert_eq!(UnknownErrorCode(18).to_string(), "invalid HNSR value: unknown HNSR error code");
 }

@@ -26,10 +26,10 @@ const UNTOLD: (HnsrErrorCode, &str) = (HnsrErrorCode::Capacity, "circuit ended, 
 ///
 /// A host has four things to do. It hands packets to [`handle`](Self::handle). It sends every route that any call hands
 /// out ([`outgoing`](Self::outgoing)), in order, and calls [`acknowledge`](Self::acknowledge) with its number once,
-/// delivered or not: till then the route keeps its place. It calls [`disconnect`](Self::disconnect) where a connection ends, and
-/// [`expire`](Self::expire) when [`next_due`](Self::next_due) has come. What it does with a refusal,
-/// [`HnsrRuntimeError::advice`] says, and [`why`](Self::why) which row of the rules it was. docs/HOSTING.md has all
-/// that a host author must know, and `host/examples/tcp` is such a host.
+/// delivered or not: till then the route keeps its place. It calls [`disconnect`](Self::disconnect) where a connection
+/// ends, and [`expire`](Self::expire) when [`next_due`](Self::next_due) has come. What it does with a refusal,
+/// [`advice`](Self::advice) says, and [`why`](Self::why) which row of the rules it was. docs/HOSTING.md has all that a
+/// host author must know, and `host/examples/tcp` is such a host.
 ///
 /// Memory is taken once, by `new`: for tables of as many places as the configuration allows, and for output words that
 /// are enough for every call. So no call is ever refused for want of places or words (22). Memory is touched where

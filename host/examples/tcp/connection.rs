@@ -25,13 +25,20 @@ pub enum Event {
     Gone(HnsrPeerId),
 }
 
-/// A route with its number, or a packet of the host's own.
-type Outgoing = (Option<HnsrActionId>, HnsrPacketBuf);
+/// A packet to write.
+pub enum Job {
+    /// A route of the relay, which is to hear what became of it.
+    Route(HnsrActionId, HnsrPacketBuf),
+    /// A packet of the host's own.
+    Notice(HnsrPacketBuf),
+    /// The host's own answer to the peer's last packet: the next one is read when this is written.
+    Reply(HnsrPacketBuf),
+}
 
 /// The way to a connection's threads. Dropped, it ends them, the writer after all that it was given.
 pub struct Connection {
     pub go_on: Sender<()>,
-    pub outgoing: Sender<Outgoing>,
+    pub jobs: Sender<Job>,
 }
 
 /// A connection has a name of its own, so a new one inherits nothing.
@@ -55,12 +62,13 @@ pub fn accept<'scope>(
         }
         let (name, stream) = (name(number), Arc::new(stream));
         let (go_on, word) = channel();
-        let (outgoing, packets) = channel();
-        let _ = events.send(Event::Connected(name, Connection { go_on, outgoing }));
+        let (jobs, todo) = channel();
+        let replied = go_on.clone();
+        let _ = events.send(Event::Connected(name, Connection { go_on, jobs }));
         let (input, told) = (stream.clone(), events.clone());
         scope.spawn(move || read(name, &input, &word, &told));
         let told = events.clone();
-        scope.spawn(move || write(&stream, packets, &told));
+        scope.spawn(move || write(&stream, todo, &replied, &told));
     }
 }
 
@@ -82,17 +90,20 @@ fn read(name: HnsrPeerId, stream: &TcpStream, word: &Receiver<()>, events: &Send
     let _ = events.send(Event::Gone(name));
 }
 
-fn write(mut stream: &TcpStream, packets: Receiver<Outgoing>, events: &Sender<Event>) {
+fn write(mut stream: &TcpStream, jobs: Receiver<Job>, replied: &Sender<()>, events: &Sender<Event>) {
     let mut written = true;
-    for (action_id, packet) in packets {
+    for job in jobs {
+        let (Job::Route(_, packet) | Job::Notice(packet) | Job::Reply(packet)) = &job;
         // After a failure nothing more is written, but every route is told of.
         if written && write_packet(&mut stream, &packet.as_packet()).is_err() {
             written = false;
             let _ = stream.shutdown(Shutdown::Both); // the reader may be waiting for a packet
         }
-        if let Some(action_id) = action_id {
-            let _ = events.send(Event::Written(action_id, written));
+        match job {
+            Job::Route(action_id, _) => drop(events.send(Event::Written(action_id, written))),
+            Job::Reply(_) => drop(replied.send(())),
+            Job::Notice(_) => {}
         }
     }
-    let _ = stream.shutdown(Shutdown::Write);
+    let _ = stream.shutdown(Shutdown::Both); // and so here: the peer may say nothing more
 }

@@ -2,14 +2,14 @@
 //!
 //! Nothing waits in a circle: sending to another thread never waits. A held packet waits for routes to be written; a
 //! writer waits for its peer to read, and not for ever; and a peer reads whether or not its own writing is stopped.
-use crate::connection::{self, Connection, Event};
+use crate::connection::{self, Connection, Event, Job};
 use crate::peer::{KEY, RESERVATION};
 use crate::Result;
-use lekchnam_host::body::{CloseBody, OpenBody};
+use lekchnam_host::body::{ErrorBody, OpenBody};
 use lekchnam_host::limits::MAX_CIRCUITS;
 use lekchnam_host::{
-    Admission, Advice, Grant, HnsrActionId, HnsrErrorCode, HnsrOpcode, HnsrPacketBuf, HnsrPeerId, HnsrRouteBuf,
-    HnsrRuntimeError, HnsrRuntimeStatus, MonotonicClock, OpaqueRelayConfig, OpaqueRelayRuntime, Routes,
+    Admission, Advice, Grant, HnsrActionId, HnsrErrorCode, HnsrOpcode, HnsrPacketBuf, HnsrPeerId, HnsrRuntimeError,
+    HnsrRuntimeStatus, MonotonicClock, OpaqueRelayConfig, OpaqueRelayRuntime, Outgoing, Routes,
 };
 use std::collections::{BTreeMap, HashMap, VecDeque};
 use std::mem;
@@ -152,21 +152,27 @@ impl Host {
         }
     }
 
-    /// Makes a call, and sends its routes.
-    fn call(&mut self, call: impl FnOnce(&mut OpaqueRelayRuntime) -> Answer<Routes<'_>>) -> Answer<()> {
-        let routes = call(&mut self.relay).inspect_err(|refused| {
+    /// Makes a call, and sends what is to be sent because of it, also where it is refused.
+    fn call(&mut self, call: impl FnOnce(&mut OpaqueRelayRuntime) -> Answer<Routes<'_>>) -> Option<HnsrRuntimeError> {
+        let refused = call(&mut self.relay).err();
+        if let Some(refused) = refused {
             *self.refused.entry(refused.number()).or_default() += 1;
-        })?;
-        for queued in routes.to_vec() {
-            self.send(Some(queued.action_id), queued.route);
         }
-        Ok(())
+        for outgoing in self.relay.outgoing() {
+            self.send(outgoing);
+        }
+        refused
     }
 
     /// Gives a packet to its writer.
-    fn send(&mut self, action_id: Option<HnsrActionId>, route: HnsrRouteBuf) {
+    fn send(&mut self, outgoing: Outgoing) {
+        let Outgoing { action_id, route } = outgoing;
+        let job = match action_id {
+            Some(action_id) => Job::Route(action_id, route.packet),
+            None => Job::Notice(route.packet),
+        };
         match self.connections.get(&route.destination) {
-            Some(connection) if connection.outgoing.send((action_id, route.packet)).is_ok() => {}
+            Some(connection) if connection.jobs.send(job).is_ok() => {}
             _ => self.undeliverable.extend(action_id),
         }
     }
@@ -177,61 +183,48 @@ impl Host {
             return None;
         }
         let (now, reservation) = (self.clock.now(), self.reservation);
-        let (admission, other_side) = (reservation.admission(&packet), self.other_side(&source, &packet));
-        if let Err(refused) = self.call(|relay| relay.handle(&admission, &source, &packet.as_packet(), now)) {
+        let admission = reservation.admission(&packet);
+        if let Some(refused) = self.call(|relay| relay.handle(&admission, &source, &packet.as_packet(), now)) {
             match self.relay.advice(refused, &admission, &source, &packet.as_packet(), now) {
                 Advice::OfferAgain => return Some(packet),
-                Advice::Late | Advice::Forget => {}
+                // It had ended before, or has now, and whoever else is to hear of it has been sent a packet.
+                Advice::Late | Advice::Forget | Advice::TellOtherSide => {}
                 Advice::TurnDown | Advice::MendHost if packet.opcode == HnsrOpcode::Open => {
-                    self.turn_down(source, packet.context_id, &refused.to_string());
+                    self.turn_down(source, packet.context_id);
+                    return None;
                 }
                 Advice::TurnDown | Advice::MendHost | Advice::EndCircuit => {
-                    self.end_circuit(packet.context_id, &refused.to_string());
+                    self.end_circuit(&source, packet.context_id)
                 }
-                // So much is on its way to the other side that it does not even hear of an end: it ends itself.
-                Advice::TellOtherSide => other_side.iter().for_each(|other| self.end(other)),
                 Advice::EndConnection => self.end(&source),
             }
         }
-        if let Some(connection) = self.connections.get(&source) {
-            let _ = connection.go_on.send(());
-        }
+        self.read_on(&source);
         None
     }
 
-    /// Who else is to hear of a CLOSE or an ERROR. It ends what it names also where the relay has no room to pass it
-    /// on, so this is asked before.
-    fn other_side(&self, source: &HnsrPeerId, packet: &HnsrPacketBuf) -> Option<HnsrPeerId> {
-        if !matches!(packet.opcode, HnsrOpcode::Close | HnsrOpcode::Error) {
-            return None;
-        }
-        let named = |id: [u8; 8]| id == packet.context_id;
-        let circuits = self.relay.circuits().filter(|circuit| named(circuit.circuit_id));
-        let pending = self.relay.pending().filter(|open| named(open.circuit_id) || named(open.requester_context));
-        let mut sides = circuits
-            .map(|circuit| [circuit.requester, circuit.endpoint])
-            .chain(pending.map(|open| [open.requester, open.grant.endpoint]));
-        let [requester, endpoint] = sides.find(|sides| sides.contains(source))?;
-        Some(if requester == *source { endpoint } else { requester })
-    }
-
-    /// The relay tells a requester nothing of an OPEN that it refused, so the host does.
-    fn turn_down(&mut self, requester: HnsrPeerId, context_id: [u8; 8], detail: &str) {
-        if let Ok(body) = (CloseBody { reason: HnsrErrorCode::Refused.into(), detail }).encode() {
-            let packet = HnsrPacketBuf { opcode: HnsrOpcode::Error, context_id, body };
-            self.send(None, HnsrRouteBuf { destination: requester, packet });
+    fn read_on(&self, source: &HnsrPeerId) {
+        if let Some(connection) = self.connections.get(source) {
+            let _ = connection.go_on.send(());
         }
     }
 
-    fn end_circuit(&mut self, circuit_id: [u8; 8], detail: &str) {
-        let now = self.clock.now();
-        if let Ok(ended) = self.relay.end_circuit(circuit_id, HnsrErrorCode::Protocol.into(), detail, now) {
-            if let Some(queued) = ended.counted {
-                self.send(Some(queued.action_id), queued.route);
-            }
-            for route in ended.uncounted {
-                self.send(None, route);
-            }
+    /// The relay tells a requester nothing of an OPEN that it refused, so the host does. Nobody counts this packet: so
+    /// the requester is read on when it is written, and who asks without end and reads nothing fills no memory.
+    fn turn_down(&mut self, requester: HnsrPeerId, context_id: [u8; 8]) {
+        let error = ErrorBody { reason: HnsrErrorCode::Refused.into(), detail: "the circuit cannot be had" };
+        let body = error.encode().expect("the detail is short");
+        if let Some(connection) = self.connections.get(&requester) {
+            let _ = connection.jobs.send(Job::Reply(HnsrPacketBuf { opcode: HnsrOpcode::Error, context_id, body }));
+        }
+    }
+
+    /// Nothing more of the stream may pass, or there would be a hole in it.
+    fn end_circuit(&mut self, source: &HnsrPeerId, circuit_id: [u8; 8]) {
+        let (reason, now) = (HnsrErrorCode::Protocol.into(), self.clock.now());
+        match self.relay.end_circuit(circuit_id, reason, "no more of it passes", now) {
+            Ok(ended) => ended.into_iter().for_each(|outgoing| self.send(outgoing)),
+            Err(_) => self.end(source),
         }
     }
 

@@ -94,9 +94,10 @@ impl HnsrRuntimeError {
     /// | 18 | OPEN | [`TurnDown`](Advice::TurnDown) |
     /// | 18 | DATA | [`EndCircuit`](Advice::EndCircuit) |
     ///
-    /// This is what to do without the row. Where rows of one number differ, [`why`](crate::OpaqueRelayRuntime::why) says
-    /// which it was and [`Row::advice`](crate::Row::advice) is exact: a DATA that its sender had no credit for (17), or
-    /// that is longer than the whole queue, would be held for nothing, and the row says to end the circuit.
+    /// This is what to do without the row. Where rows of one number differ,
+    /// [`why`](crate::OpaqueRelayRuntime::why) says which it was and [`Row::advice`](crate::Row::advice) is exact: a
+    /// DATA that its sender had no credit for (17), or that is longer than the whole queue, would be held for nothing,
+    /// and the row says to end the circuit.
     ///
     /// A 5 of `replace_enabled` says that somebody was faster: look at the status and decide again.
     ///

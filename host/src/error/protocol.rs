@@ -21,8 +21,8 @@ pub enum Invalid {
     DataSize = 6,
     /// WINDOW: a delta of 0, or over [`MAX_WINDOW`](crate::limits::MAX_WINDOW).
     WindowCredit = 7,
-    /// CLOSE, ERROR: the length is over [`MAX_DETAIL_SIZE`](crate::limits::MAX_DETAIL_SIZE), or is not that of the bytes
-    /// behind it.
+    /// CLOSE, ERROR: the length is over [`MAX_DETAIL_SIZE`](crate::limits::MAX_DETAIL_SIZE), or is not that of what
+    /// follows.
     DiagnosticDetail = 8,
     /// CLOSE, ERROR: the detail is not UTF-8.
     NotUtf8 = 9,

@@ -23,16 +23,19 @@ fn records<Random>(relay: &OpaqueRelayRuntime<Random>) -> Vec<Record> {
     pending.chain(circuits).collect()
 }
 
+type Made = dyn Fn(&mut Drawing) -> Result<(), HnsrRuntimeError>;
+type Hears = dyn Fn(&Record, usize) -> bool;
+
 /// One call that may end records, and whom of a record's sides it tells.
-struct Ending<'a> {
-    made: Box<dyn Fn(&mut Drawing) -> Result<(), HnsrRuntimeError> + 'a>,
-    hears: Box<dyn Fn(&Record, usize) -> bool + 'a>,
+struct Ending {
+    made: Box<Made>,
+    hears: Box<Hears>,
 }
 
 /// Every such call over this relay.
-fn endings(relay: &Drawing) -> Vec<Ending<'static>> {
+fn endings(relay: &Drawing) -> Vec<Ending> {
     let (now, generation) = (relay.status().trusted_time_high_water, relay.status().generation);
-    let mut endings: Vec<Ending<'static>> = Vec::new();
+    let mut endings: Vec<Ending> = Vec::new();
     for name in NAMES {
         endings.push(Ending {
             made: Box::new(move |relay| relay.disconnect(&peer(name)).map(drop)),

@@ -42,10 +42,13 @@ impl<Random: RandomSource> OpaqueRelayRuntime<Random> {
     /// Routes of the circuit that were not acknowledged have gone with it: their acknowledge is refused with 20, which
     /// is to be forgotten.
     ///
-    /// Refused, and nothing ended: 1 where the detail is longer than
-    /// [`MAX_DETAIL_SIZE`](crate::limits::MAX_DETAIL_SIZE); 14 where nothing has this id; 7 and 9 as
-    /// [`handle`](Self::handle) is; 11 where the CLOSE of neither side would name this and nothing else: then another
-    /// OPEN that waits has this id for its context, or for its id the context of this one. Ending that one first helps.
+    /// [`outgoing`](Self::outgoing) is empty afterwards: what is handed out here is all of it.
+    ///
+    /// Refused, and nothing ended ([`HnsrRuntimeError::advice`] is not for this call): 1 where the detail is longer
+    /// than [`MAX_DETAIL_SIZE`](crate::limits::MAX_DETAIL_SIZE); 14 where nothing has this id, and nothing is to be
+    /// done; 7 and 9 as [`handle`](Self::handle) is; 11 where the CLOSE of neither side would name this and nothing
+    /// else: then another OPEN that waits has this id for its context, or for its id the context of this one. End that
+    /// one first, or a side's connection.
     ///
     /// ```
     /// use lekchnam_host::body::CloseBody;
@@ -90,10 +93,11 @@ impl<Random: RandomSource> OpaqueRelayRuntime<Random> {
         detail: &str,
         now: u64,
     ) -> Result<EndedCircuit, HnsrRuntimeError> {
+        self.nothing_outgoing();
         let body = CloseBody { reason, detail }.encode()?;
         let id = u64::from_be_bytes(circuit_id);
-        let record =
-            Record::all(self.tables()).find(|record| record.id == id).ok_or(HnsrRuntimeError::UnknownCircuit)?;
+        let record = Record::those(self.tables(), |one| one.circuit_id == id, |one| one.circuit_id == id).next();
+        let record = record.ok_or(HnsrRuntimeError::UnknownCircuit)?;
         let speaks = speaks(&record, self.tables()).ok_or(HnsrRuntimeError::InvalidAdmission)?;
         let packet = HnsrPacket { opcode: HnsrOpcode::Close, context_id: speaks.context_id, body: &body };
         let routed = self.handle(&Admission::Refused, &speaks.peer, &packet, now).map(|routes| routes.to_vec().pop());
@@ -102,7 +106,7 @@ impl<Random: RandomSource> OpaqueRelayRuntime<Random> {
             Err(refused) if record.stands(self.tables()) => return Err(refused),
             Err(_) => None,
         };
-        self.all_told();
+        self.nothing_outgoing();
         let heard = counted.as_ref().map(|queued| (queued.route.destination, queued.route.packet.context_id));
         let others = [record.requester, record.endpoint].into_iter();
         let others = others.filter(|side| Some((side.peer, side.context_id)) != heard && side.hears());

@@ -3,7 +3,7 @@ use crate::admission::Admission;
 use crate::config::OpaqueRelayConfig;
 use crate::error::HnsrRuntimeError;
 use crate::lent::{self, InflightAction, Packet, RelayPacket, Runtime, Tables};
-use crate::owned::Outgoing;
+use crate::owned::{HnsrPacketBuf, HnsrRouteBuf, Outgoing};
 use crate::packet::{HnsrOpcode, HnsrPacket};
 use crate::peer::HnsrPeerId;
 use crate::random::{OsRandom, RandomSource, RANDOM_BYTES};
@@ -43,6 +43,8 @@ pub struct OpaqueRelayRuntime<Random = OsRandom> {
     words: usize,
     /// Who was not told of what the last call ended.
     untold: Vec<CircuitSide>,
+    /// The CLOSE or the ERROR that ended it, if such a one did.
+    unsaid: Option<HnsrPacketBuf>,
     random: Random,
 }
 
@@ -110,7 +112,7 @@ impl<Random: RandomSource> OpaqueRelayRuntime<Random> {
     pub fn from_parts(runtime: Runtime, tables: Tables, random: Random) -> Result<Self, HnsrRuntimeError> {
         lent::status(&tables, &runtime)?;
         let out = lent::unused(tables.most_words())?;
-        Ok(Self { runtime, tables, out, words: 0, untold: Vec::new(), random })
+        Ok(Self { runtime, tables, out, words: 0, untold: Vec::new(), unsaid: None, random })
     }
 
     /// Takes a packet of the peer `source`. Of an OPEN the host says whether it is admitted; of any other packet the
@@ -128,7 +130,7 @@ impl<Random: RandomSource> OpaqueRelayRuntime<Random> {
     ///
     /// A refused packet has sent nothing. **A refused DATA is offered again, or its circuit is ended**
     /// ([`end_circuit`](Self::end_circuit)). A host that skips it and takes the next one leaves a hole in the stream.
-    /// [`HnsrRuntimeError::advice`] says which of the two.
+    /// [`advice`](Self::advice) says which of the two.
     pub fn handle(
         &mut self,
         admission: &Admission<'_>,
@@ -146,7 +148,7 @@ impl<Random: RandomSource> OpaqueRelayRuntime<Random> {
             _ => &[],
         };
         let cause = match packet.opcode {
-            HnsrOpcode::Close | HnsrOpcode::Error => Some(Cause::Said(source, packet.context_id)),
+            HnsrOpcode::Close | HnsrOpcode::Error => Some(Cause::Said(source, *packet)),
             _ => None,
         };
         let packet = handed(admission, source, packet, now, random);
@@ -156,8 +158,8 @@ impl<Random: RandomSource> OpaqueRelayRuntime<Random> {
     /// Takes the word that a route was delivered, or was not: then what it was for ends, and the routes that come out
     /// tell so.
     ///
-    /// Each route is acknowledged once, in any order: `true` when its bytes are handed to the connection, `false` when
-    /// they cannot be, or its peer is not there. The place of one that is forgotten comes back with the end of its
+    /// Each route is acknowledged once, in any order: `true` when the connection has taken its last byte, `false` when
+    /// it cannot, or its peer is not there. The place of one that is forgotten comes back with the end of its
     /// circuit; that of a CLOSE or an ERROR, whose circuit has ended, only where its peer is disconnected (again) or
     /// the relay is switched. [`actions`](Self::actions) shows all, [`oldest_action`](Self::oldest_action) the oldest.
     ///
@@ -168,8 +170,8 @@ impl<Random: RandomSource> OpaqueRelayRuntime<Random> {
         self.call(cause, |tables, out, runtime| lent::acknowledge(tables, out, runtime, action_id, delivered))
     }
 
-    /// Ends all that a peer is a side of, and drops every route toward it. Refused, with 4, is only a name of no bytes,
-    /// which no peer has: a route may have it where stored tables do.
+    /// Ends all that a peer is a side of, and frees the places of the routes toward it. Refused, with 4, is only a name
+    /// of no bytes, which no peer has: a route may have it where stored tables do.
     ///
     /// Of each circuit both sides get a route, the peer that is gone too: acknowledge these with `false`, or they keep
     /// their places.
@@ -198,7 +200,7 @@ impl<Random: RandomSource> OpaqueRelayRuntime<Random> {
         self.call(None, |_, _, runtime| lent::observe_time(runtime, trusted_now).map(|()| 0)).map(|_| ())
     }
 
-    /// Switches the relay on or off. A change raises the generation and drops every unacknowledged route; off ends all.
+    /// Switches the relay on or off. A change raises the generation and frees the places of all routes; off ends all.
     ///
     /// `expected_generation` is what the host takes the generation for: 5 where it is another, so that of two hosts'
     /// parts that switch at once one hears that it came late.
@@ -218,6 +220,10 @@ impl<Random: RandomSource> OpaqueRelayRuntime<Random> {
         let answer = call(&mut self.tables, &mut self.out, &mut self.runtime);
         self.words = answer.unwrap_or(0);
         self.untold = standing.map_or_else(Vec::new, |standing| standing.untold(&self.tables, self.routes()));
+        self.unsaid = match cause {
+            Some(Cause::Said(_, packet)) if !self.untold.is_empty() => Some(packet.to_buf()),
+            _ => None,
+        };
         answer.map(|_| self.routes())
     }
 
@@ -231,8 +237,9 @@ impl<Random: RandomSource> OpaqueRelayRuntime<Random> {
         Some(if incoming { Cause::LostIncoming(lost.circuit_id) } else { Cause::Lost(lost.circuit_id) })
     }
 
-    /// Both sides of what the last call ended are told, by the host.
-    pub(crate) fn all_told(&mut self) {
+    /// Nothing is to be sent because of the last call.
+    pub(crate) fn nothing_outgoing(&mut self) {
+        self.words = 0;
         self.untold.clear();
     }
 }
@@ -262,8 +269,13 @@ impl<Random> OpaqueRelayRuntime<Random> {
         &self.untold
     }
 
-    /// All that is to be sent because of the last call, in this order: its routes, and a CLOSE for each side that
-    /// [`untold`](Self::untold) has. A refused call has no routes, but may have ended something.
+    /// All that is to be sent because of the last call, in this order: its routes, and a notice for each side that
+    /// [`untold`](Self::untold) has. That is the CLOSE or the ERROR of the other side, where one ended it, and else a
+    /// CLOSE of the host's own, whose reason is [`Capacity`](HnsrErrorCode::Capacity). A refused call has no routes,
+    /// but may have ended something.
+    ///
+    /// To be asked once after each call: it does not take anything out. After [`end_circuit`](Self::end_circuit), which
+    /// hands all of it out itself, there is nothing.
     ///
     /// ```
     /// use lekchnam_host::{HnsrActionId, OpaqueRelayRuntime, Outgoing};
@@ -279,7 +291,14 @@ impl<Random> OpaqueRelayRuntime<Random> {
     /// ```
     #[must_use = "this is to be sent, and each route is to be acknowledged"]
     pub fn outgoing(&self) -> Vec<Outgoing> {
-        let notices = self.untold.iter().filter_map(|side| side.close(UNTOLD.0.into(), UNTOLD.1).ok());
+        let notice = |side: &CircuitSide| match &self.unsaid {
+            Some(said) => {
+                let packet = HnsrPacketBuf { context_id: side.context_id, ..said.clone() };
+                Some(HnsrRouteBuf { destination: side.peer, packet })
+            }
+            None => side.close(UNTOLD.0.into(), UNTOLD.1).ok(),
+        };
+        let notices = self.untold.iter().filter_map(notice);
         let routes = self.routes().to_vec().into_iter().map(Outgoing::from);
         routes.chain(notices.map(Outgoing::from)).collect()
     }

@@ -2,7 +2,7 @@
 use crate::body::{CloseBody, ProtocolError};
 use crate::lent::{RelayCircuit, RelayPending, Runtime, StoredPeer, Tables};
 use crate::owned::{HnsrPacketBuf, HnsrRouteBuf};
-use crate::packet::HnsrOpcode;
+use crate::packet::{HnsrOpcode, HnsrPacket};
 use crate::peer::HnsrPeerId;
 use crate::route::Routes;
 
@@ -44,31 +44,34 @@ enum Place {
 #[derive(Clone, Copy)]
 pub struct Record {
     place: Place,
-    pub id: u64,
     pub requester: CircuitSide,
     pub endpoint: CircuitSide,
 }
 
 impl Record {
-    /// Those that there are: OPENs that wait, then circuits.
-    pub fn all(tables: &Tables) -> impl Iterator<Item = Self> + '_ {
+    /// Those that fit: OPENs that wait, then circuits.
+    pub fn those<'a>(
+        tables: &'a Tables,
+        pending: impl Fn(&RelayPending) -> bool + 'a,
+        circuit: impl Fn(&RelayCircuit) -> bool + 'a,
+    ) -> impl Iterator<Item = Self> + 'a {
         let seen = tables.in_use();
-        let pending = seen.pending.iter().enumerate().filter(|(_, record)| record.used).map(Self::pending);
-        let circuits = seen.circuits.iter().enumerate().filter(|(_, record)| record.used).map(Self::circuit);
-        pending.chain(circuits)
+        let pending = seen.pending.iter().enumerate().filter(move |(_, record)| record.used && pending(record));
+        let circuits = seen.circuits.iter().enumerate().filter(move |(_, record)| record.used && circuit(record));
+        pending.map(Self::pending).chain(circuits.map(Self::circuit))
     }
 
     fn pending((place, record): (usize, &RelayPending)) -> Self {
         let (id, context) = (record.circuit_id, record.requester_context);
         let (requester, endpoint) = (&record.requester, &record.endpoint);
         let (requester, endpoint) = (CircuitSide::new(requester, context), CircuitSide::new(endpoint, id));
-        Self { place: Place::Pending(place), id, requester, endpoint }
+        Self { place: Place::Pending(place), requester, endpoint }
     }
 
     fn circuit((place, record): (usize, &RelayCircuit)) -> Self {
         let id = record.circuit_id;
         let (requester, endpoint) = (CircuitSide::new(&record.requester, id), CircuitSide::new(&record.endpoint, id));
-        Self { place: Place::Circuit(place), id, requester, endpoint }
+        Self { place: Place::Circuit(place), requester, endpoint }
     }
 
     /// Whether it waits.
@@ -89,8 +92,8 @@ impl Record {
 /// By what a call ends records.
 #[derive(Clone, Copy)]
 pub enum Cause<'a> {
-    /// A CLOSE or an ERROR: the sender, and the context.
-    Said(&'a HnsrPeerId, [u8; 8]),
+    /// A CLOSE or an ERROR, and its sender.
+    Said(&'a HnsrPeerId, HnsrPacket<'a>),
     /// An INCOMING that was not delivered: its id.
     LostIncoming(u64),
     /// Another route that was not delivered: its id.
@@ -102,21 +105,61 @@ pub enum Cause<'a> {
 }
 
 impl Cause<'_> {
-    /// The sides that are to hear of the record's end, if this ends it.
-    fn told(&self, record: &Record) -> Vec<CircuitSide> {
-        let (requester, endpoint) = (record.requester, record.endpoint);
-        let said = |side: CircuitSide, peer: &HnsrPeerId, context| side.peer == *peer && side.context_id == context;
-        match *self {
-            Self::Said(peer, context) if said(requester, peer, context) => vec![endpoint],
-            Self::Said(peer, context) if said(endpoint, peer, context) => vec![requester],
-            Self::LostIncoming(id) if record.waits() && record.id == id => vec![requester],
-            Self::Lost(id) if !record.waits() && record.id == id => vec![requester, endpoint],
-            Self::Gone(peer) if requester.peer == *peer => vec![endpoint],
-            Self::Gone(peer) if endpoint.peer == *peer => vec![requester],
-            Self::Other => vec![requester, endpoint],
-            _ => Vec::new(),
+    /// How many records end at the most.
+    fn most(&self, records: usize) -> usize {
+        match self {
+            Self::Said(..) | Self::LostIncoming(_) | Self::Lost(_) => 1,
+            Self::Gone(_) | Self::Other => records,
         }
     }
+
+    /// Whether this may end an OPEN that waits.
+    fn of_pending(&self, record: &RelayPending) -> bool {
+        match self {
+            Self::Said(_, packet) => {
+                [record.circuit_id, record.requester_context].contains(&u64::from_be_bytes(packet.context_id))
+            }
+            Self::LostIncoming(id) => record.circuit_id == *id,
+            Self::Lost(_) => false,
+            Self::Gone(peer) => has_side(peer, &record.requester, &record.endpoint),
+            Self::Other => true,
+        }
+    }
+
+    /// Whether this may end a circuit.
+    fn of_circuit(&self, record: &RelayCircuit) -> bool {
+        match self {
+            Self::Said(_, packet) => record.circuit_id == u64::from_be_bytes(packet.context_id),
+            Self::LostIncoming(_) => false,
+            Self::Lost(id) => record.circuit_id == *id,
+            Self::Gone(peer) => has_side(peer, &record.requester, &record.endpoint),
+            Self::Other => true,
+        }
+    }
+
+    /// The sides that are to hear of the end of such a record.
+    fn told(&self, record: &Record) -> Vec<CircuitSide> {
+        let (requester, endpoint) = (record.requester, record.endpoint);
+        match *self {
+            Self::Said(peer, packet) => {
+                let sender = CircuitSide { peer: *peer, context_id: packet.context_id };
+                if requester == sender {
+                    vec![endpoint]
+                } else if endpoint == sender {
+                    vec![requester]
+                } else {
+                    Vec::new()
+                }
+            }
+            Self::LostIncoming(_) => vec![requester],
+            Self::Gone(peer) => [requester, endpoint].into_iter().filter(|side| side.peer != *peer).collect(),
+            Self::Lost(_) | Self::Other => vec![requester, endpoint],
+        }
+    }
+}
+
+fn has_side(peer: &HnsrPeerId, requester: &StoredPeer, endpoint: &StoredPeer) -> bool {
+    [requester, endpoint].iter().any(|side| side.as_bytes() == peer.as_bytes())
 }
 
 /// The records that a call may end, as they are before it, each with the sides that are to hear.
@@ -124,13 +167,13 @@ impl Cause<'_> {
 pub struct Standing(Vec<(Record, Vec<CircuitSide>)>);
 
 impl Standing {
-    /// None where every notice will find its room, which is nearly always: then nothing is looked at.
+    /// None where every notice will find its room: then no record is looked at.
     pub fn before(tables: &Tables, runtime: &Runtime, cause: Cause<'_>) -> Self {
-        if room_for_all(tables, runtime) {
+        if has_room(tables, runtime, cause) {
             return Self::default();
         }
-        let heard = |record: Record| (record, cause.told(&record));
-        Self(Record::all(tables).map(heard).filter(|(_, sides)| !sides.is_empty()).collect())
+        let records = Record::those(tables, |record| cause.of_pending(record), |record| cause.of_circuit(record));
+        Self(records.map(|record| (record, cause.told(&record))).collect())
     }
 
     /// The sides of what has ended since that no route tells.
@@ -147,11 +190,11 @@ impl Standing {
     }
 }
 
-/// Whether there are places and numbers for two notices of every record. About one circuit there always are: its
-/// actions go with it, and two is the least limit.
-fn room_for_all(tables: &Tables, runtime: &Runtime) -> bool {
+/// Whether there are places and numbers for two notices of every record that may end. About one circuit there always
+/// are: its actions go with it, and two is the least limit.
+fn has_room(tables: &Tables, runtime: &Runtime, cause: Cause<'_>) -> bool {
     let (seen, limits) = (tables.in_use(), &runtime.config);
-    let notices = (seen.pending.len() + seen.circuits.len()).saturating_mul(2);
+    let notices = cause.most(seen.pending.len() + seen.circuits.len()).saturating_mul(2);
     let actions = seen.inflight.len().saturating_add(notices);
     actions <= limits.maximum_inflight_actions
         && actions <= limits.maximum_inflight_actions_per_peer

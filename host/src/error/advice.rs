@@ -12,15 +12,16 @@ use std::fmt::{self, Display, Formatter};
 pub enum Advice {
     /// Nothing: what the call was about ended before its word came. A normal race.
     Forget,
-    /// Hold the packet and offer it again after the next [`acknowledge`](crate::OpaqueRelayRuntime::acknowledge). Until
-    /// it is taken, take nothing later of this sender about this circuit.
+    /// Hold the packet and offer it again after each [`acknowledge`](crate::OpaqueRelayRuntime::acknowledge), and after
+    /// every other call that ends something. Until it is taken, take nothing later of its connection.
     OfferAgain,
     /// What an OPEN or an ACCEPT asks for cannot be had now, and the relay tells nobody. An OPEN's sender is answered
     /// by an ERROR of the host's own, under the packet's context. After an ACCEPT the OPEN goes on waiting:
     /// [`end_circuit`](crate::OpaqueRelayRuntime::end_circuit) ends it and has a CLOSE for both sides.
     TurnDown,
     /// Drop the packet: what it names has ended, or is about to, and its sides hear of that
-    /// ([`outgoing`](crate::OpaqueRelayRuntime::outgoing)). A normal race.
+    /// ([`outgoing`](crate::OpaqueRelayRuntime::outgoing)); or, of a CLOSE under an OPEN's context, has been accepted
+    /// before. A normal race.
     Late,
     /// End the circuit, or the OPEN that waits, that the packet names, by
     /// [`end_circuit`](crate::OpaqueRelayRuntime::end_circuit). The sender is a side of it.
@@ -56,8 +57,8 @@ impl Display for Advice {
     fn fmt(&self, f: &mut Formatter<'_>) -> fmt::Result {
         f.write_str(match self {
             Self::Forget => "nothing to do: it had ended before",
-            Self::OfferAgain => "hold the packet and offer it again after the next acknowledge",
-            Self::TurnDown => "tell the sender that it cannot be had now",
+            Self::OfferAgain => "hold the packet and offer it again after each acknowledge",
+            Self::TurnDown => "it cannot be had now: tell the sender of an OPEN so, end what an ACCEPT names",
             Self::Late => "drop the packet: what it names has ended",
             Self::EndCircuit => "end the circuit",
             Self::EndConnection => "drop the packet and end the sender's connection",

@@ -37,9 +37,10 @@ pub enum HnsrRuntimeError {
     /// packet is late.
     Disabled,
     /// 10: a limit is reached. Of DATA and WINDOW it is always the unacknowledged routes: hold the packet, and offer it
-    /// again after the next acknowledge. Of OPEN and ACCEPT it is one of several: turn it down. A CLOSE or an ERROR,
-    /// and an INCOMING that is not delivered, have ended what they were about all the same, and the other side was not
-    /// told.
+    /// again after each acknowledge. Of OPEN and ACCEPT it is one of several: by the routes the same, else turn it
+    /// down; [`why`](crate::OpaqueRelayRuntime::why) tells them apart. A CLOSE or an ERROR, and an INCOMING that is not
+    /// delivered, have ended what they were about all the same, and no route tells the other side
+    /// ([`untold`](crate::OpaqueRelayRuntime::untold)).
     Capacity,
     /// 11: an ACCEPT comes after its deadline: drop it. Of DATA, the reservation of its circuit has ended, and the
     /// ledger has no record of it: end the circuit. Two OPENs that wait fit a CLOSE or an ERROR: its sender chose a
@@ -49,16 +50,17 @@ pub enum HnsrRuntimeError {
     Deadline,
     /// 13: no OPEN waits under the id that an ACCEPT names: it was ended, or its time was over. A normal race: drop it.
     UnknownRequest,
-    /// 14: no circuit has this id: it has ended. A normal race: drop the packet, a DATA too.
+    /// 14: no circuit has this id. It has ended: a normal race, drop the packet, a DATA too. Or its OPEN is not
+    /// accepted yet, which [`why`](crate::OpaqueRelayRuntime::why) tells: end it.
     UnknownCircuit,
     /// 15: the sender is not a side of it. End the sender's connection, and leave alone what the packet names.
     WrongPeer,
     /// 16: the relay does not take such packets.
     UnexpectedOpcode,
     /// 17: of DATA, the sender's credit or the queue for the other side does not reach. By the queue: hold the
-    /// packet, and offer it again after the next acknowledge. By credit: the sender broke a rule, end the circuit.
-    /// [`why`](crate::OpaqueRelayRuntime::why) tells them apart. Of WINDOW, the other side's credit would pass
-    /// [`MAX_WINDOW`](crate::limits::MAX_WINDOW): end the circuit.
+    /// packet, and offer it again after each acknowledge, unless it is longer than the whole queue. By credit: the
+    /// sender broke a rule, end the circuit. [`why`](crate::OpaqueRelayRuntime::why) tells them apart. Of WINDOW, the
+    /// other side's credit would pass [`MAX_WINDOW`](crate::limits::MAX_WINDOW): end the circuit.
     FlowControl,
     /// 18: of OPEN, one of two. Under the grant's reservation id lives a ledger record with another expiry: while it
     /// lives, the host grants with the expiry that it has, or revokes the reservation first. Or the bytes of the

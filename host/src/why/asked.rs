@@ -55,6 +55,7 @@ impl<'a> Asked<'a> {
             (Refusal::WrongPeer, Accept) => (!self.is_sender(&self.pending()?.endpoint)).then_some(Row::OtherPeer),
             (Refusal::InvalidAdmission, Accept) => self.accept_late(),
             (Refusal::Capacity, Accept) => self.accept_capacity(),
+            (Refusal::UnknownCircuit, Data | Window) if self.waits() => Some(Row::Unaccepted),
             (Refusal::UnknownCircuit, Data | Window | Close | Error) => {
                 self.circuit().is_none().then_some(Row::NoCircuit)
             }
@@ -286,6 +287,12 @@ impl<'a> Asked<'a> {
     }
 
     // ---- lookups and counts
+
+    /// Whether no circuit has the packet's context as its id, but an OPEN that waits has, and the sender is a side.
+    fn waits(&self) -> bool {
+        let side = |pending: &RelayPending| self.is_sender(&pending.requester) || self.is_sender(&pending.endpoint);
+        self.circuit().is_none() && self.pending().is_some_and(side)
+    }
 
     /// The OPEN that waits under the packet's context, as an id.
     fn pending(&self) -> Option<&'a RelayPending> {

@@ -126,6 +126,8 @@ pub enum Row {
         /// The ACCEPT's.
         accepted: u32,
     },
+    /// 14, DATA and WINDOW: the OPEN under this id is not accepted yet, and the sender is a side of it.
+    Unaccepted,
     /// 14: no circuit has this id.
     NoCircuit,
     /// 11, DATA: the ledger has no record of the circuit's reservation.
@@ -239,7 +241,7 @@ impl Row {
             Self::NotPending => Refusal::UnknownRequest,
             Self::OtherPeer => Refusal::WrongPeer,
             Self::AcceptLate { .. } | Self::NoLedgerRecord | Self::NamesTwo => Refusal::InvalidAdmission,
-            Self::NoCircuit => Refusal::UnknownCircuit,
+            Self::Unaccepted | Self::NoCircuit => Refusal::UnknownCircuit,
             Self::Credit { .. } | Self::DataOverQueue { .. } | Self::Queue { .. } | Self::CreditOverMost { .. } => {
                 Refusal::FlowControl
             }
@@ -259,6 +261,8 @@ impl Row {
     /// - [`Actions`](Self::Actions) of an OPEN or an ACCEPT: [`OfferAgain`](Advice::OfferAgain).
     /// - [`Credit`](Self::Credit): [`EndCircuit`](Advice::EndCircuit). The sender sent what it had no credit for.
     /// - [`DataOverQueue`](Self::DataOverQueue): [`EndCircuit`](Advice::EndCircuit). No acknowledge makes room for it.
+    /// - [`Unaccepted`](Self::Unaccepted): [`EndCircuit`](Advice::EndCircuit). Dropped, it would leave a hole once the
+    ///   OPEN is accepted.
     /// - [`WindowOverOffered`](Self::WindowOverOffered): [`EndCircuit`](Advice::EndCircuit). The endpoint was told the
     ///   window that is offered.
     /// - [`ContextPending`](Self::ContextPending): [`EndConnection`](Advice::EndConnection). An answer under the
@@ -289,6 +293,7 @@ impl Row {
             | Self::Credit { .. }
             | Self::DataOverQueue { .. }
             | Self::CreditOverMost { .. }
+            | Self::Unaccepted
             | Self::WindowOverOffered { .. } => Advice::EndCircuit,
             Self::Packet(_)
             | Self::Body(_)
@@ -359,6 +364,7 @@ impl Display for Row {
             Self::WindowOverOffered { offered, accepted } => {
                 write!(f, "a window of {offered} was offered, and {accepted} is accepted")
             }
+            Self::Unaccepted => write!(f, "the OPEN under this id is not accepted yet"),
             Self::NoCircuit => write!(f, "no circuit has this id"),
             Self::NoLedgerRecord => write!(f, "the ledger has no record of the circuit's reservation"),
             Self::CircuitBytes { left, asked } => write!(f, "{asked} bytes, and the circuit has {left} left"),

@@ -174,3 +174,22 @@ fn generations_keep_old_words_apart() {
     assert_eq!(relay.acknowledge(old, false).map(|routes| routes.len()), Err(StaleGeneration));
     assert_eq!((relay.status().queued_actions, relay.status().pending_circuits), (2, 2));
 }
+
+/// Dropped as late it would be missing once the OPEN is accepted.
+#[test]
+fn data_in_front_of_its_accept_ends_the_open() {
+    let mut relay = relay(small());
+    let id = open(&mut relay, b"r", 1, grant(b"e")).expect("an OPEN");
+    let data = HnsrPacket { opcode: HnsrOpcode::Data, context_id: id.to_be_bytes(), body: b"too soon" };
+    let why = |relay: &Relay, sender: &[u8]| {
+        relay.why(UnknownCircuit, &Admission::Refused, &peer(sender), &data, START).map(|row| (row, row.advice()))
+    };
+    assert_eq!(
+        say(&mut relay, b"e", HnsrOpcode::Data, id, b"too soon").map(|routes| routes.len()),
+        Err(UnknownCircuit)
+    );
+    assert_eq!(why(&relay, b"e"), Some((Row::Unaccepted, Advice::EndCircuit)));
+    assert_eq!(why(&relay, b"stranger"), Some((Row::NoCircuit, Advice::Late)));
+    assert_eq!(relay.end_circuit(id.to_be_bytes(), 9, "DATA in front of its ACCEPT", START).map(|_| ()), Ok(()));
+    assert_eq!(why(&relay, b"e"), Some((Row::NoCircuit, Advice::Late)));
+}

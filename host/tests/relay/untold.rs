@@ -100,6 +100,12 @@ fn each_side_has_a_route_or_is_untold() {
                 hear.retain(|side| !told.contains(&(side.peer, side.context_id)));
                 untold += hear.len();
                 assert_eq!(relay.untold(), hear, "seed {seed}: {answer:?}");
+                let outgoing = relay.outgoing();
+                let sent = outgoing.iter().map(|one| (one.route.destination, one.route.packet.context_id));
+                let notices = hear.iter().map(|side| (side.peer, side.context_id));
+                assert_eq!(sent.collect::<Vec<_>>(), told.iter().copied().chain(notices).collect::<Vec<_>>());
+                assert!(outgoing.iter().take(told.len()).all(|one| one.action_id.is_some()));
+                assert!(outgoing.iter().skip(told.len()).all(|one| one.action_id.is_none()));
             }
         }
     }
@@ -134,11 +140,36 @@ fn a_peer_that_is_full_is_told_by_the_host() {
     assert!(relay.observe_time(200).is_ok() && relay.untold().is_empty());
 }
 
-/// Refused with 10, a CLOSE has ended its circuit all the same.
+/// Refused with 10, a CLOSE has ended its circuit all the same. The host passes it on as it is.
 #[test]
 fn the_other_side_of_a_refused_close_is_untold() {
     let (mut relay, id) = full();
-    assert_eq!(say(&mut relay, b"c", HnsrOpcode::Close, id, b"\0\0\0").map(|routes| routes.len()), Err(Capacity));
+    let said = CloseBody { reason: 0, detail: "all paid" }.encode().expect("a CLOSE");
+    assert_eq!(say(&mut relay, b"c", HnsrOpcode::Close, id, &said).map(|routes| routes.len()), Err(Capacity));
     assert_eq!(relay.untold(), [CircuitSide { peer: peer(b"b"), context_id: id.to_be_bytes() }]);
     assert_eq!(relay.status().active_circuits, 0);
+    let [outgoing] = &relay.outgoing()[..] else { panic!("one notice") };
+    let packet = HnsrPacket { opcode: HnsrOpcode::Close, context_id: id.to_be_bytes(), body: &said };
+    assert_eq!((outgoing.action_id, outgoing.route.destination), (None, peer(b"b")));
+    assert_eq!(outgoing.route.packet.as_packet(), packet);
+}
+
+/// It hands out itself what is to be sent, and what the call before it left is not sent twice.
+#[test]
+fn behind_end_circuit_nothing_is_outgoing() {
+    let mut one = relay(small());
+    let id = circuit(&mut one, b"c", b"b", 1);
+    let _ = say(&mut one, b"c", HnsrOpcode::Data, id, b"x").expect("DATA");
+    assert_eq!(one.outgoing().len(), 1);
+    assert_eq!(one.end_circuit([9; 8], 0, "", 100).map(drop), Err(UnknownCircuit));
+    assert!(one.outgoing().is_empty() && one.routes().is_empty());
+    let ended = one.end_circuit(id.to_be_bytes(), 0, "", 100).expect("a circuit");
+    let numbered = |ended: lekchnam_host::EndedCircuit| ended.into_iter().map(|one| one.action_id.is_some());
+    assert_eq!(numbered(ended).collect::<Vec<_>>(), [true, false]);
+    assert!(one.outgoing().is_empty());
+
+    let (mut full, id) = full();
+    let ended = full.end_circuit(id.to_be_bytes(), 0, "", 100).expect("a circuit");
+    let sides = ended.into_iter().map(|one| one.route.destination).collect::<Vec<_>>();
+    assert_eq!((sides.len(), full.outgoing().len()), (2, 0));
 }

@@ -56,6 +56,7 @@ pub const ROWS: [(HnsrOpcode, &[&str]); 6] = [
         HnsrOpcode::Data,
         &[
             "Body",
+            "Unaccepted",
             "NoCircuit",
             "OtherPeer",
             "Actions Relay",
@@ -74,6 +75,7 @@ pub const ROWS: [(HnsrOpcode, &[&str]); 6] = [
         HnsrOpcode::Window,
         &[
             "Body",
+            "Unaccepted",
             "NoCircuit",
             "OtherPeer",
             "Actions Relay",
@@ -295,6 +297,7 @@ fn advice_fits(row: Row, refused: HnsrRuntimeError, opcode: HnsrOpcode) {
             assert_eq!((exact, by_number), (Advice::EndCircuit, Advice::OfferAgain));
         }
         (Row::WindowOverOffered { .. }, _) => assert_eq!((exact, by_number), (Advice::EndCircuit, Advice::TurnDown)),
+        (Row::Unaccepted, _) => assert_eq!((exact, by_number), (Advice::EndCircuit, Advice::Late)),
         (Row::ContextPending, _) => assert_eq!((exact, by_number), (Advice::EndConnection, Advice::TurnDown)),
         (Row::ExpiryDiffers { .. }, _) => assert_eq!((exact, by_number), (Advice::MendHost, Advice::TurnDown)),
         _ => assert_eq!(exact, by_number, "{row:?} of {opcode:?}"),

@@ -184,15 +184,14 @@ impl<Random: RandomSource> OpaqueRelayRuntime<Random> {
     /// Ends all that goes by a reservation, and forgets what it has used: an OPEN may then come under the same id with
     /// another expiry. Its one refusal is 22, and the relay has places and words enough.
     pub fn revoke_reservation(&mut self, reservation_id: [u8; 16]) -> Result<Routes<'_>, HnsrRuntimeError> {
-        self.call(Some(Cause::Other), |tables, out, runtime| {
-            lent::revoke_reservation(tables, out, runtime, reservation_id.into())
-        })
+        let id = reservation_id.into();
+        self.call(Some(Cause::Revoked(id)), |tables, out, runtime| lent::revoke_reservation(tables, out, runtime, id))
     }
 
     /// Moves the clock and ends all whose time is over: OPENs that nobody accepted, circuits whose reservation ended.
     /// Nothing ends by itself. [`next_due`](Self::next_due) says when there is something to end.
     pub fn expire(&mut self, now: u64) -> Result<Routes<'_>, HnsrRuntimeError> {
-        self.call(Some(Cause::Other), |tables, out, runtime| lent::expire(tables, out, runtime, now))
+        self.call(Some(Cause::Expired(now)), |tables, out, runtime| lent::expire(tables, out, runtime, now))
     }
 
     /// Moves the clock.
@@ -205,7 +204,7 @@ impl<Random: RandomSource> OpaqueRelayRuntime<Random> {
     /// `expected_generation` is what the host takes the generation for: 5 where it is another, so that of two hosts'
     /// parts that switch at once one hears that it came late.
     pub fn replace_enabled(&mut self, expected_generation: u64, enabled: bool) -> Result<Routes<'_>, HnsrRuntimeError> {
-        self.call(Some(Cause::Other), |tables, out, runtime| {
+        self.call(Some(Cause::Switched), |tables, out, runtime| {
             lent::replace_enabled(tables, out, runtime, expected_generation, enabled)
         })
     }

@@ -1,6 +1,6 @@
 //! The sides of circuits and of OPENs that wait, and who of them was not told of an end.
 use crate::body::{CloseBody, ProtocolError};
-use crate::lent::{RelayCircuit, RelayPending, Runtime, StoredPeer, Tables};
+use crate::lent::{RelayCircuit, RelayPending, ReservationId, Runtime, StoredPeer, Tables};
 use crate::owned::{HnsrPacketBuf, HnsrRouteBuf};
 use crate::packet::{HnsrOpcode, HnsrPacket};
 use crate::peer::HnsrPeerId;
@@ -100,8 +100,12 @@ pub enum Cause<'a> {
     Lost(u64),
     /// A peer that is gone.
     Gone(&'a HnsrPeerId),
-    /// Time, a reservation that is revoked, the switch.
-    Other,
+    /// A reservation that is revoked.
+    Revoked(ReservationId),
+    /// The time.
+    Expired(u64),
+    /// The switch.
+    Switched,
 }
 
 impl Cause<'_> {
@@ -109,7 +113,7 @@ impl Cause<'_> {
     fn most(&self, records: usize) -> usize {
         match self {
             Self::Said(..) | Self::LostIncoming(_) | Self::Lost(_) => 1,
-            Self::Gone(_) | Self::Other => records,
+            Self::Gone(_) | Self::Revoked(_) | Self::Expired(_) | Self::Switched => records,
         }
     }
 
@@ -122,7 +126,9 @@ impl Cause<'_> {
             Self::LostIncoming(id) => record.circuit_id == *id,
             Self::Lost(_) => false,
             Self::Gone(peer) => has_side(peer, &record.requester, &record.endpoint),
-            Self::Other => true,
+            Self::Revoked(id) => record.ticket.reservation_id == *id,
+            Self::Expired(now) => record.deadline.min(record.ticket.expires_at) <= *now,
+            Self::Switched => true,
         }
     }
 
@@ -133,7 +139,9 @@ impl Cause<'_> {
             Self::LostIncoming(_) => false,
             Self::Lost(id) => record.circuit_id == *id,
             Self::Gone(peer) => has_side(peer, &record.requester, &record.endpoint),
-            Self::Other => true,
+            Self::Revoked(id) => record.reservation_id == *id,
+            Self::Expired(now) => record.expires_at <= *now,
+            Self::Switched => true,
         }
     }
 
@@ -153,7 +161,7 @@ impl Cause<'_> {
             }
             Self::LostIncoming(_) => vec![requester],
             Self::Gone(peer) => [requester, endpoint].into_iter().filter(|side| side.peer != *peer).collect(),
-            Self::Lost(_) | Self::Other => vec![requester, endpoint],
+            Self::Lost(_) | Self::Revoked(_) | Self::Expired(_) | Self::Switched => vec![requester, endpoint],
         }
     }
 }

@@ -43,8 +43,9 @@ fn endings(relay: &Drawing) -> Vec<Ending> {
         });
     }
     let both = || Box::new(|_: &Record, _| true);
-    for seconds in [0, 5, 200] {
-        let later = now.saturating_add(seconds);
+    // at the end of each record, and at times between
+    let ends = relay.circuits().map(|circuit| circuit.expires_at).chain(relay.pending().map(|open| open.deadline));
+    for later in [now, now.saturating_add(5), now.saturating_add(200)].into_iter().chain(ends) {
         endings.push(Ending { made: Box::new(move |relay| relay.expire(later).map(drop)), hears: both() });
     }
     for byte in [5, 6, 7] {

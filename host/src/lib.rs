@@ -69,10 +69,10 @@
 //! [`limits`]. [`lent`] has the same calls over tables that the host keeps itself. docs/HOSTING.md is the page for host
 //! authors, and `host/examples/tcp` a host over TCP.
 //!
-//! Proved is what stands behind the calls, in the crates of the project. This crate is not: it declares the C
-//! functions of the archive `liblekchnam.a`, and gives them these types. Before a relay is made, the archive's version
-//! and the layout of its structs are held to what is declared here. It runs on x86-64 Linux, as the archive does.
-//! `host/archive` makes the archive; where it was made elsewhere, `LEKCHNAM_STATICLIB` names its folder.
+//! Proved is what stands behind the calls, in the crates of the project. This crate is not: it declares the C functions
+//! of the archive `liblekchnam.a`, and gives them these types. At the first call the archive's version and the layout
+//! of its structs are held to what is declared here. It runs on x86-64 Linux, as the archive does. `host/archive` makes
+//! the archive; where it was made elsewhere, `LEKCHNAM_STATICLIB` names its folder.
 #![deny(missing_docs, unsafe_code)]
 
 mod admission;

@@ -240,6 +240,7 @@ impl<Random: RandomSource> OpaqueRelayRuntime<Random> {
     pub(crate) fn nothing_outgoing(&mut self) {
         self.words = 0;
         self.untold.clear();
+        self.unsaid = None;
     }
 }
 

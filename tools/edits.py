@@ -1,5 +1,6 @@
 """Edit files: `file:`, `old:`, `new:` lines, each `old` to be replaced in its file. refuted.py and wrong_readings.py
-try them.
+try them. A text that stands in a file more than once has a `behind:` line in front: the first `old` behind that text is
+meant. (The must-fail edits are the kit's, which knows no `behind:`.)
 
     python3 tools/edits.py REPO     lists those that do not fit the files as they are; exit 1 where there is one
 """
@@ -13,23 +14,31 @@ class BadEdit(Exception):
 
 
 def replacements(edit):
-    """The (file, old, new) of an edit file."""
-    found, name, old = [], None, None
+    """The (file, behind, old, new) of an edit file."""
+    found, name, behind, old = [], None, "", None
     for line in edit.read_text().splitlines():
         key, _, value = line.partition(": ")
         if key == "file":
             name = value
+        elif key == "behind":
+            behind = value
         elif key == "old":
             old = value
         elif key == "new":
-            found.append((name, old, value))
+            found.append((name, behind, old, value))
+            behind = ""
     return found
 
 
-def fitting(text, name, old):
-    """Raises where a text has not just one `old`."""
-    if text.count(old) != 1:
-        raise BadEdit(f"'old:' stands {text.count(old)} times in {name}")
+def edited(text, name, behind, old, new):
+    """A text with its `old` replaced. Raises where it is not clear which one is meant."""
+    mark = behind or old
+    if text.count(mark) != 1:
+        raise BadEdit(f"'{'behind' if behind else 'old'}:' stands {text.count(mark)} times in {name}")
+    front, found, rest = text.partition(behind) if behind else ("", "", text)
+    if old not in rest:
+        raise BadEdit(f"'old:' does not stand behind '{behind}' in {name}")
+    return front + found + rest.replace(old, new, 1)
 
 
 @contextlib.contextmanager
@@ -37,12 +46,11 @@ def applied(edit, folder):
     """An edit made in the files of a folder, and undone at the end."""
     before = {}
     try:
-        for name, old, new in replacements(edit):
+        for name, *change in replacements(edit):
             path = folder / name
             text = path.read_text()
-            fitting(text, name, old)
             before.setdefault(path, text)
-            path.write_text(text.replace(old, new))
+            path.write_text(edited(text, name, *change))
         yield
     finally:
         for path, text in before.items():
@@ -55,10 +63,9 @@ def misfits(root):
     for edit in sorted(edit for folder in folders for edit in root.glob(f"{folder}/*.edit")):
         texts = {}
         try:
-            for name, old, new in replacements(edit):
+            for name, *change in replacements(edit):
                 text = texts.get(name) or (edit.parent.parent / name).read_text()
-                fitting(text, name, old)
-                texts[name] = text.replace(old, new)
+                texts[name] = edited(text, name, *change)
             if not texts:
                 raise BadEdit("it replaces nothing")
         except (BadEdit, OSError) as error:

@@ -1,7 +1,7 @@
 #!/usr/bin/env python3
 """Tries the wrong programs of crates/*/refuted: the prover must refuse each.
 
-    python3 tools/refuted.py [CRATE..]
+    python3 tools/refuted.py [CRATE | CRATE/EDIT ..]
 
 An edit has the form of a must-fail edit. It is applied to a copy of the project, checked there by `rt dev`, which takes
 over what stays as it is, and undone. For each edit the first error is printed that does not follow from another:
@@ -53,9 +53,16 @@ def tried(root, crate, edit):
     return refused
 
 
+def chosen(project, names):
+    """The edits of each crate that are meant."""
+    for crate in sorted({name.partition("/")[0] for name in names}):
+        edits = sorted((project / "crates" / crate / "refuted").glob("*.edit"))
+        yield crate, [edit for edit in edits if {crate, f"{crate}/{edit.stem}"} & set(names)]
+
+
 def main():
     project = pathlib.Path(__file__).resolve().parent.parent
-    crates = sys.argv[1:] or sorted(p.parent.name for p in project.glob("crates/*/refuted"))
+    names = sys.argv[1:] or [p.parent.name for p in project.glob("crates/*/refuted")]
     with tempfile.TemporaryDirectory() as folder:
         root = pathlib.Path(folder)
         shutil.copy(project / "crates.txt", root)
@@ -63,11 +70,11 @@ def main():
         if (project / "target").is_dir():
             shutil.copytree(project / "target", root / "target")
         good = True
-        for crate in crates:
+        for crate, edits in chosen(project, names):
             words, _ = verdict(check(root, crate), root)
-            if words != "NOT REFUSED":
-                sys.exit(f"{crate} is not proved as it stands: {words}")
-            for edit in sorted((project / "crates" / crate / "refuted").glob("*.edit")):
+            if words != "NOT REFUSED" or not edits:
+                sys.exit(f"{crate} is not proved as it stands: {words}" if edits else f"{crate} has no such edit")
+            for edit in edits:
                 good = tried(root, crate, edit) and good
     sys.exit(0 if good else 1)
 

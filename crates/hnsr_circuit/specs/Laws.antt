@@ -26,6 +26,8 @@ pub mod Queueing
 pub mod Handlers
 pub mod Opening
 pub mod Revocation
+-- ---- what next due tells
+pub mod Due
 -- ---- what holds of every call
 pub mod Rows
 pub mod Refusals

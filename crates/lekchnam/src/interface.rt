@@ -34,7 +34,7 @@ use hnsr_circuit::runtime::RuntimeCounters;
 use hnsr_circuit::tables::places::Places;
 
 // Raised with every change of a C function or of a struct that passes.
-pub const VERSION: u32 = 1;
+pub const VERSION: u32 = 2;
 
 // One of each struct that passes; the answers of readers and writers are a cause and a body each.
 #[repr(C)]

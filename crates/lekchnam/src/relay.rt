@@ -410,16 +410,18 @@ pub extern "C" fn opaque_relay_status(
 pub extern "C" fn opaque_relay_next_due(
     pending: &[RelayPending],
     circuits: &[RelayCircuit],
+    ledger: &[ReservationUsage],
     inflight: &[InflightAction],
     runtime: OpaqueRelayRuntime,
     places: Places,
 ) -> DueReply
     ensures { λ r. ⌜
-        ((l : List ReservationUsage)
-        → r ≡ dueNumbered (dueTold
-        (step (worldSeen runtime places (now (pending .entry)) (now (circuits .entry)) l (now (inflight .entry)))
-        callNextDue))) ⌝ }
+        r ≡ dueNumbered (dueTold
+        (step
+        (worldSeen runtime places (now (pending .entry)) (now (circuits .entry)) (now (ledger .entry))
+        (now (inflight .entry)))
+        callNextDue)) ⌝ }
 {
-    let told = next_due(pending, circuits, inflight, runtime, places);
+    let told = next_due(pending, circuits, ledger, inflight, runtime, places);
     due_reply(told)
 }

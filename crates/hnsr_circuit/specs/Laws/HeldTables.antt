@@ -28,7 +28,7 @@ use Rattle.hnsr_circuit.specs.declared.tables.scan.Work.{Work}
 use Rattle.hnsr_circuit.specs.declared.tables.scan.WorkQuestion.{WorkQuestion}
 use Rattle.hnsr_circuit.specs.declared.tables.scan.CircuitTotals.{CircuitTotals}
 use Rattle.hnsr_circuit.specs.declared.runtime.NextDue.{NextDue}
-use Rattle.hnsr_circuit.specs.NextDue.{dueTurn, deadlineOf, expiryOf}
+use Rattle.hnsr_circuit.specs.NextDue.{dueTurn, deadlineOf, expiryOf, usageExpiryOf}
 use Rattle.hnsr_circuit.specs.declared.tables.places.Places.{Places}
 use Rattle.hnsr_circuit.specs.declared.runtime.Relayed.{Relayed}
 use Rattle.hnsr_circuit.specs.declared.runtime.Sending.{Sending}
@@ -103,6 +103,10 @@ pending-due-idle d p i = refl
 pub circuit-due-idle : (d : NextDue) (c : RelayCircuit) (i : ℕ) → dueTurn isCircuit expiryOf d (clearCircuit c) i ≡ d
 unfolding dueTurn isCircuit
 circuit-due-idle d c i = refl
+
+pub usage-due-idle : (d : NextDue) (u : ReservationUsage) (i : ℕ) → dueTurn isUsage usageExpiryOf d (clearUsage u) i ≡ d
+unfolding dueTurn isUsage
+usage-due-idle d u i = refl
 
 -- a sum that has not gone past its top
 totals-idle : (t : CircuitTotals) (c : RelayCircuit) (i : ℕ) → t .«queued_bytes» ≤ top 64

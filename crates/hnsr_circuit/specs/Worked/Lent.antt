@@ -12,8 +12,10 @@ use Rattle.hnsr_circuit.specs.declared.answer.HnsrRuntimeError.the-varia
 use Rattle.hnsr_circuit.specs.Peer.{maximumPeer}
 use Rattle.hnsr_circuit.specs.Pending.{noPending}
 use Rattle.hnsr_circuit.specs.Circuits.{noCircuit}
-use Rattle.hnsr_circuit.specs.Ledger.{noUsage}
-use Rattle.hnsr_circuit.specs.declared.runtime.NextDue.the-variants.{At}
+use Rattle.hnsr_circuit.specs.Ledger.{noUsage, usageFor}
+use Rattle.hnsr_circuit.specs.declared.records.InflightKind.the-variants.{Close}
+use Rattle.hnsr_circuit.specs.Inflight.{kindNumber}
+use Rattle.hnsr_circuit.specs.declared.runtime.NextDue.the-variants.{Never, At}
 use Rattle.hnsr_circuit.specs.World.{World, dueIs}
 use Rattle.hnsr_circuit.specs.Opcode.{opClose, opError}
 use Rattle.hnsr_circuit.specs.Call.{callStatus, callNextDue, callObserveTime}
@@ -93,10 +95,43 @@ pub revoking-has-192 : answerOf one-of-each (callExpire 100 192) ≡ Taken
 unfolding answerOf one-of-each
 revoking-has-192 = refl
 
--- DUE.2: what ends first
-pub due-of-both : toldOf one-of-each callNextDue ≡ dueIs (At 110)
+-- DUE.5: what ends first, of the three tables
+pub due-of-each : toldOf one-of-each callNextDue ≡ dueIs (At 110)
 unfolding toldOf one-of-each
-due-of-both = refl
+due-of-each = refl
+
+-- a ledger record alone, behind an unused place whose expiry is 0
+unfoldable pub ledgerAlone : World
+unfolding found usageOn free
+ledgerAlone = found (replicate 2 noPending) (replicate 2 noCircuit) (noUsage ∷ usageOn 5 40 ∷ []) (free 8)
+
+pub due-of-the-ledger : toldOf ledgerAlone callNextDue ≡ dueIs (At 1000)
+unfolding toldOf ledgerAlone
+due-of-the-ledger = refl
+
+-- no record of the three, and an action outstanding
+unfoldable pub actionAlone : World
+unfolding found actionOn free
+actionAlone =
+    found (replicate 2 noPending) (replicate 2 noCircuit) (noUsage ∷ []) (actionOn 3 7 (kindNumber Close) 0 ∷ free 7)
+
+pub nothing-is-due : toldOf actionAlone callNextDue ≡ dueIs Never
+unfolding toldOf actionAlone
+nothing-is-due = refl
+
+-- DUE.7: a ledger record past its expiry is due until it is dropped
+unfoldable pub ledgerLapsed : World
+unfolding found free
+ledgerLapsed =
+    found (replicate 2 noPending) (replicate 2 noCircuit) (usageFor (record { high = 0; low = 5 }) 90 ∷ []) (free 8)
+
+pub lapsed-is-due : toldOf ledgerLapsed callNextDue ≡ dueIs (At 90)
+unfolding toldOf ledgerLapsed
+lapsed-is-due = refl
+
+pub lapsed-is-dropped : dueAfter ledgerLapsed (callExpire 100 0) ≡ dueIs Never
+unfolding dueAfter ledgerLapsed
+lapsed-is-dropped = refl
 
 -- ---- OPEN.9: with the record there the OPEN goes on
 unfoldable pub otherLedger : World

@@ -47,6 +47,7 @@ use crate::runtime::taken_with;
 use crate::tables::circuits::circuit_due;
 use crate::tables::circuits::circuit_totals;
 use crate::tables::inflight::count_action;
+use crate::tables::ledger::usage_due;
 use crate::tables::pending::count_pending;
 use crate::tables::pending::pending_due;
 use crate::tables::places::Places;
@@ -214,25 +215,28 @@ fn due_told(few: bool, due: NextDue) -> DueTold
     DueTold { answer, due }
 }
 
-// DUE.2: what ends first.
+// DUE.5: what ends first.
 pub fn next_due(
     pending: &[RelayPending],
     circuits: &[RelayCircuit],
+    ledger: &[ReservationUsage],
     inflight: &[InflightAction],
     runtime: OpaqueRelayRuntime,
     places: Places,
 ) -> DueTold
     ensures { λ r. ⌜
-        ((l : List ReservationUsage)
-        → r ≡ dueTold
-        (step (worldSeen runtime places (now (pending .entry)) (now (circuits .entry)) l (now (inflight .entry)))
-        callNextDue)) ⌝ }
+        r ≡ dueTold
+        (step
+        (worldSeen runtime places (now (pending .entry)) (now (circuits .entry)) (now (ledger .entry))
+        (now (inflight .entry)))
+        callNextDue) ⌝ }
 {
     let config = runtime.config;
     let first = pending_due(pending, places, NextDue::Never);
     let second = circuit_due(circuits, places, first);
+    let third = usage_due(ledger, places, second);
     let few = too_few(config, pending.len(), circuits.len(), inflight.len());
-    due_told(few, second)
+    due_told(few, third)
 }
 
 // ---- observe_time: it is lent no table, and asks no 22

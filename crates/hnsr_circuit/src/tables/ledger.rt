@@ -6,6 +6,7 @@ ghost use lib.ListN.{getD, set};
 ghost use Rattle.hnsr_circuit.specs.Code.Held.{held, heldLedger};
 ghost use Rattle.hnsr_circuit.specs.Table.{placeOf};
 ghost use Rattle.hnsr_circuit.specs.Ledger.{noUsage, usageAt, clearUsage, lapsed};
+ghost use Rattle.hnsr_circuit.specs.NextDue.{usageDue};
 ghost use Rattle.hnsr_circuit.specs.Code.Turns.{ledgerAsked};
 use crate::records::ReservationUsage;
 use crate::records::ledger::is_usage;
@@ -13,11 +14,13 @@ use crate::records::ledger::no_usage;
 use crate::records::ledger::usage_is;
 use crate::records::ledger::usage_over;
 use crate::records::ledger::usage_unmarked;
+use crate::runtime::NextDue;
 use crate::tables::places::Places;
 use crate::tables::places::held_usage;
 use crate::tables::places::ledger_spared;
 use crate::tables::scan::LedgerScan;
 use crate::tables::scan::no_ledger_scan;
+use crate::tables::scan::usage_due_turn;
 use crate::tables::scan::usage_scanned;
 use crate::tables::scan::within;
 use hns_encoding::numbers::min_usize;
@@ -58,6 +61,21 @@ pub(crate) fn scan_ledger(
         i += 1;
     }
     ledger_spared(scan, i, size)
+}
+
+pub(crate) fn usage_due(ledger: &[ReservationUsage], places: Places, due: NextDue) -> NextDue
+    ensures { λ r. ⌜ r ≡ usageDue (heldLedger places (now (ledger .entry))) due ⌝ }
+{
+    let size = ledger.len();
+    let end = min_usize(places.ledger, size);
+    let mut earliest = due;
+    let mut i: usize = 0;
+    while i < end {
+        let row = ledger[i];
+        earliest = usage_due_turn(earliest, row);
+        i += 1;
+    }
+    earliest
 }
 
 pub(crate) fn usage_at(

@@ -9,7 +9,8 @@ ghost use Rattle.hnsr_circuit.specs.Table.{notYet, reached, above, bette
 ghost use Rattle.hnsr_circuit.specs.Pending.{pendingId, isPending};
 ghost use Rattle.hnsr_circuit.specs.Circuits.{circuitId, isCircuit};
 ghost use Rattle.hnsr_circuit.specs.Code.Question.{pendingHas, circuitHas};
-ghost use Rattle.hnsr_circuit.specs.NextDue.{earlier, dueTurn, deadlineOf, expiryOf};
+ghost use Rattle.hnsr_circuit.specs.Ledger.{isUsage};
+ghost use Rattle.hnsr_circuit.specs.NextDue.{earlier, dueTurn, deadlineOf, expiryOf, usageExpiryOf};
 ghost use Rattle.hnsr_circuit.specs.Code.Turns.{noWork, workOn, WorkAtMost, pendingWorked, circuitWorked};
 ghost use Rattle.hnsr_circuit.specs.Code.Turns.{noTotals, totalled, TallyAtMost, noScan, firstPlace};
 ghost use Rattle.hnsr_circuit.specs.Code.Turns.{tallyOn, scanned, noLedgerScan, usageScanned};
@@ -300,6 +301,15 @@ pub(crate) fn pending_due_turn(due: NextDue, row: RelayPending) -> NextDue
 
 pub(crate) fn circuit_due_turn(due: NextDue, row: RelayCircuit) -> NextDue
     ensures { λ r. ⌜ r ≡ dueTurn isCircuit expiryOf due row 0 ⌝ }
+{
+    if row.used {
+        return earlier(due, row.expires_at);
+    }
+    due
+}
+
+pub(crate) fn usage_due_turn(due: NextDue, row: ReservationUsage) -> NextDue
+    ensures { λ r. ⌜ r ≡ dueTurn isUsage usageExpiryOf due row 0 ⌝ }
 {
     if row.used {
         return earlier(due, row.expires_at);

@@ -5,3 +5,4 @@ pub mod set_usage
 pub mod trim_ledger
 pub mod unmark_usage
 pub mod usage_at
+pub mod usage_due

@@ -10,8 +10,7 @@ use Rattle.lekchnam.proofs.relay.opaque_relay_next_due.Proof.At as at
 returns : tie.Need-returns
 returns c =
     let here = at.returns c in
-    λ l.
-    here .due-reply .ensures ∙ ap dueNumbered (here .next-due .ensures l)
+    here .due-reply .ensures ∙ ap dueNumbered (here .next-due .ensures)
 
 pub opaque-relay-next-due-spec : {M : Type 1} → statement M
 opaque-relay-next-due-spec = tie.close (at.spec returns)

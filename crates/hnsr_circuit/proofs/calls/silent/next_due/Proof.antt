@@ -1,4 +1,4 @@
--- The earliest of both tables, and a table that is too short tells nothing.
+-- The earliest of the three tables, and a table that is too short tells nothing.
 mod Tie
 mod At
 use mathlib.Core.Path.{ap, _∙_}
@@ -9,7 +9,7 @@ use Rattle.hnsr_circuit.specs.Entry.{tablesAnswer, tablesShort}
 use Rattle.hnsr_circuit.specs.World.{worldOf}
 use Rattle.hnsr_circuit.specs.declared.runtime.NextDue.{NextDue}
 use Rattle.hnsr_circuit.specs.declared.runtime.NextDue.the-variants.{Never}
-use Rattle.hnsr_circuit.specs.NextDue.{circuitDue, dueOf, nextDue}
+use Rattle.hnsr_circuit.specs.NextDue.{circuitDue, usageDue, dueOf, nextDue}
 use Rattle.hnsr_circuit.specs.Call.{step}
 use Rattle.hnsr_circuit.specs.Laws.QuietCalls.{tells-due}
 use Rattle.hnsr_circuit.specs.Code.Held.{heldPending, heldCircuits, heldLedger, heldActions}
@@ -22,15 +22,16 @@ returns : tie.Need-returns
 unfolding step nextDue tablesAnswer tablesShort dueOf
 returns c =
     let here = at.returns c in
-    λ l₀.
     let a = here .start .args in
-    let l = heldLedger (a .places) l₀ in
-    let w = worldOf (a .runtime) (heldPending (a .places) (a .pending .now))
-    (heldCircuits (a .places) (a .circuits .now)) l (heldActions (a .places) (a .inflight .now)) in
+    let cs = heldCircuits (a .places) (a .circuits .now) in
+    let ls = heldLedger (a .places) (a .ledger .now) in
+    let w = worldOf (a .runtime) (heldPending (a .places) (a .pending .now)) cs ls
+    (heldActions (a .places) (a .inflight .now)) in
     let few = here .too-few .ensures
     ∙ few-held (a .runtime .config) (a .places) (a .pending .now) (a .circuits .now) (a .inflight .now) in
-    let all = here .circuit-due .ensures
-    ∙ ap (λ (d : NextDue). circuitDue (heldCircuits (a .places) (a .circuits .now)) d) (here .pending-due .ensures) in
+    let all = here .usage-due .ensures
+    ∙ ap (λ (d : NextDue). usageDue ls d)
+    (here .circuit-due .ensures ∙ ap (λ (d : NextDue). circuitDue cs d) (here .pending-due .ensures)) in
     let e = here .due-told .ensures in
     (λ x. record { answer = e .0 x; due = e .1 x })
     ∙ (λ x. record { answer = check (few x) Short; due = cond (few x) Never (all x) })

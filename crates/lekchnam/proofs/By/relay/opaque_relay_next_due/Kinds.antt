@@ -6,6 +6,7 @@ use Rattle.hnsr_circuit.proofs.tables.places.Places.Laws as Laws'
 use Rattle.lekchnam.proofs.By.InflightAction
 use Rattle.lekchnam.proofs.By.RelayCircuit
 use Rattle.lekchnam.proofs.By.RelayPending
+use Rattle.lekchnam.proofs.By.ReservationUsage
 use Rattle.lekchnam.proofs.StructRow
 use Rattle.lekchnam.proofs.relay.DueReply
 use Rattle.lekchnam.proofs.relay.DueReply.Laws as Laws''
@@ -14,10 +15,11 @@ use borrow.Kind.ShrSlice
 use mathlib.Core.List
 use mathlib.Core.List.{_∷_}
 
-abbrev pub ps : List.List (Kinds.PK 3)
+abbrev pub ps : List.List (Kinds.PK 4)
 ps = (ShrSlice.pShrS RelayPending.row 0 tt) ∷ (ShrSlice.pShrS RelayCircuit.row 1 tt) ∷
-    (ShrSlice.pShrS InflightAction.row 2 tt) ∷ (StructRow.param OpaqueRelayRuntime.the-type Laws.the-laws Laws.the-copy
-    Laws.the-plain) ∷ (StructRow.param Places.the-type Laws'.the-laws Laws'.the-copy Laws'.the-plain) ∷ List.[]
+    (ShrSlice.pShrS ReservationUsage.row 2 tt) ∷ (ShrSlice.pShrS InflightAction.row 3 tt) ∷ (StructRow.param
+    OpaqueRelayRuntime.the-type Laws.the-laws Laws.the-copy Laws.the-plain) ∷ (StructRow.param Places.the-type
+    Laws'.the-laws Laws'.the-copy Laws'.the-plain) ∷ List.[]
 
-abbrev pub r : Kinds.RK 3
+abbrev pub r : Kinds.RK 4
 r = StructRow.result DueReply.the-type Laws''.the-laws Laws''.the-copy Laws''.the-plain

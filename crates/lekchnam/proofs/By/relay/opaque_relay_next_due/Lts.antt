@@ -9,6 +9,7 @@ use Rattle.hnsr_circuit.proofs.tables.places.Places.Laws as Laws''
 use Rattle.lekchnam.proofs.By.InflightAction
 use Rattle.lekchnam.proofs.By.RelayCircuit
 use Rattle.lekchnam.proofs.By.RelayPending
+use Rattle.lekchnam.proofs.By.ReservationUsage
 use Rattle.lekchnam.proofs.StructRow
 use Rattle.lekchnam.proofs.relay.DueReply
 use Rattle.lekchnam.proofs.relay.DueReply.Laws as Laws'''
@@ -52,15 +53,18 @@ abbrev ref1 : Syntax.Ty
 ref1 = Syntax.tyRef (Syntax.named 1) Syntax.imm RelayCircuit.to
 
 abbrev ref2 : Syntax.Ty
-ref2 = Syntax.tyRef (Syntax.named 2) Syntax.imm InflightAction.to
+ref2 = Syntax.tyRef (Syntax.named 2) Syntax.imm ReservationUsage.to
 
-abbrev pub ps : List.List (Kinds.PK 3)
+abbrev ref3 : Syntax.Ty
+ref3 = Syntax.tyRef (Syntax.named 3) Syntax.imm InflightAction.to
+
+abbrev pub ps : List.List (Kinds.PK 4)
 ps = (ShrSlice.pShrS RelayPending.row 0 tt) ∷ (ShrSlice.pShrS RelayCircuit.row 1 tt) ∷
-    (ShrSlice.pShrS InflightAction.row 2 tt) ∷ (StructRow.param OpaqueRelayRuntime.the-type Laws'.the-laws
-    Laws'.the-copy Laws'.the-plain) ∷ (StructRow.param Places.the-type Laws''.the-laws Laws''.the-copy Laws''.the-plain)
-    ∷ List.[]
+    (ShrSlice.pShrS ReservationUsage.row 2 tt) ∷ (ShrSlice.pShrS InflightAction.row 3 tt) ∷ (StructRow.param
+    OpaqueRelayRuntime.the-type Laws'.the-laws Laws'.the-copy Laws'.the-plain) ∷ (StructRow.param Places.the-type
+    Laws''.the-laws Laws''.the-copy Laws''.the-plain) ∷ List.[]
 
-abbrev pub r : Kinds.RK 3
+abbrev pub r : Kinds.RK 4
 r = StructRow.result DueReply.the-type Laws'''.the-laws Laws'''.the-copy Laws'''.the-plain
 
 abbrev pub xs : List.List Syntax.Ty
@@ -69,13 +73,13 @@ xs = Laws.mir ∷ List.[]
 abbrev pub m : Nat.ℕ
 m = 0
 
-abbrev pub ps·0 : List.List (Kinds.PK 3)
+abbrev pub ps·0 : List.List (Kinds.PK 4)
 ps·0 = (ShrSlice.pShrS RelayPending.row 0 tt) ∷ (ShrSlice.pShrS RelayCircuit.row 1 tt) ∷
-    (ShrSlice.pShrS InflightAction.row 2 tt) ∷ (StructRow.param OpaqueRelayRuntime.the-type Laws'.the-laws
-    Laws'.the-copy Laws'.the-plain) ∷ (StructRow.param Places.the-type Laws''.the-laws Laws''.the-copy Laws''.the-plain)
-    ∷ List.[]
+    (ShrSlice.pShrS ReservationUsage.row 2 tt) ∷ (ShrSlice.pShrS InflightAction.row 3 tt) ∷ (StructRow.param
+    OpaqueRelayRuntime.the-type Laws'.the-laws Laws'.the-copy Laws'.the-plain) ∷ (StructRow.param Places.the-type
+    Laws''.the-laws Laws''.the-copy Laws''.the-plain) ∷ List.[]
 
-abbrev pub r·0 : Kinds.RK 3
+abbrev pub r·0 : Kinds.RK 4
 r·0 = StructRow.result DueTold.the-type Laws.the-laws Laws.the-copy Laws.the-plain
 
 abbrev pub ps·1 : List.List (Kinds.PK 0)
@@ -86,15 +90,16 @@ r·1 = StructRow.result DueReply.the-type Laws'''.the-laws Laws'''.the-copy Laws
 
 abbrev pub hs : List.List Syntax.Home
 hs = Syntax.valueLocal ∷ Syntax.valueLocal ∷ Syntax.valueLocal ∷ Syntax.valueLocal ∷ Syntax.valueLocal ∷
-    Syntax.valueLocal ∷ Syntax.valueLocal ∷ List.[]
+    Syntax.valueLocal ∷ Syntax.valueLocal ∷ Syntax.valueLocal ∷ List.[]
 
 abbrev b0 : Syntax.Body
 b0 = Syntax.call "hnsr_circuit::calls::silent::next_due" ((Syntax.copy (Syntax.place 1 List.[])) ∷
     (Syntax.copy (Syntax.place 2 List.[])) ∷ (Syntax.copy (Syntax.place 3 List.[])) ∷
-    (Syntax.copy (Syntax.place 4 List.[])) ∷ (Syntax.copy (Syntax.place 5 List.[])) ∷ List.[]) (Syntax.place 6 List.[])
+    (Syntax.copy (Syntax.place 4 List.[])) ∷ (Syntax.copy (Syntax.place 5 List.[])) ∷
+    (Syntax.copy (Syntax.place 6 List.[])) ∷ List.[]) (Syntax.place 7 List.[])
 
 abbrev b1 : Syntax.Body
-b1 = Syntax.call "lekchnam::relay::due_reply" ((Syntax.copy (Syntax.place 6 List.[])) ∷ List.[])
+b1 = Syntax.call "lekchnam::relay::due_reply" ((Syntax.copy (Syntax.place 7 List.[])) ∷ List.[])
     (Syntax.place 0 List.[])
 
 abbrev b2 : Syntax.Body
@@ -110,7 +115,7 @@ abbrev pub body : Syntax.Body
 body = b4
 
 abbrev pub Claims : Type 1
-Claims = Kinds.In 3 ps·0 × Kinds.Out 3 ps·0 r·0 × Kinds.In 0 ps·1 × Kinds.Out 0 ps·1 r·1
+Claims = Kinds.In 4 ps·0 × Kinds.Out 4 ps·0 r·0 × Kinds.In 0 ps·1 × Kinds.Out 0 ps·1 r·1
 
 abbrev e0 : Row.Entry
 e0 = (0, Rows.any-gone Laws'''.mir)
@@ -122,46 +127,49 @@ abbrev e2 : Row.Entry
 e2 = (2, Rows.sslice RelayCircuit.row ref1 1)
 
 abbrev e3 : Row.Entry
-e3 = (3, Rows.sslice InflightAction.row ref2 2)
+e3 = (3, Rows.sslice ReservationUsage.row ref2 2)
 
 abbrev e4 : Row.Entry
-e4 = (4, Rows.whole (Declared.row OpaqueRelayRuntime.the-type))
+e4 = (4, Rows.sslice InflightAction.row ref3 3)
 
 abbrev e5 : Row.Entry
-e5 = (5, Rows.whole (Declared.row Places.the-type))
+e5 = (5, Rows.whole (Declared.row OpaqueRelayRuntime.the-type))
 
 abbrev e6 : Row.Entry
-e6 = (6, Rows.any-gone Laws.mir)
+e6 = (6, Rows.whole (Declared.row Places.the-type))
+
+abbrev e7 : Row.Entry
+e7 = (7, Rows.any-gone Laws.mir)
 
 abbrev e0·1 : Row.Entry
 e0·1 = (0, Rows.whole (Declared.row DueReply.the-type))
 
-abbrev e4·1 : Row.Entry
-e4·1 = (4, Rows.any-gone Laws'.mir)
-
 abbrev e5·1 : Row.Entry
-e5·1 = (5, Rows.any-gone Laws''.mir)
+e5·1 = (5, Rows.any-gone Laws'.mir)
 
 abbrev e6·1 : Row.Entry
-e6·1 = (6, Rows.whole (Declared.row DueTold.the-type))
+e6·1 = (6, Rows.any-gone Laws''.mir)
+
+abbrev e7·1 : Row.Entry
+e7·1 = (7, Rows.whole (Declared.row DueTold.the-type))
 
 abbrev pub t0 : List.List Row.Entry
-t0 = e0 ∷ e1 ∷ e2 ∷ e3 ∷ e4 ∷ e5 ∷ e6 ∷ List.[]
+t0 = e0 ∷ e1 ∷ e2 ∷ e3 ∷ e4 ∷ e5 ∷ e6 ∷ e7 ∷ List.[]
 
 abbrev pub t1 : List.List Row.Entry
-t1 = e0·1 ∷ e1 ∷ e2 ∷ e3 ∷ e4·1 ∷ e5·1 ∷ e6 ∷ List.[]
+t1 = e0·1 ∷ e1 ∷ e2 ∷ e3 ∷ e4 ∷ e5·1 ∷ e6·1 ∷ e7 ∷ List.[]
 
 abbrev pub t2 : List.List Row.Entry
-t2 = e0 ∷ e1 ∷ e2 ∷ e3 ∷ e4 ∷ e5 ∷ e6·1 ∷ List.[]
+t2 = e0 ∷ e1 ∷ e2 ∷ e3 ∷ e4 ∷ e5 ∷ e6 ∷ e7·1 ∷ List.[]
 
 abbrev pub t3 : List.List Row.Entry
-t3 = e0 ∷ e1 ∷ e2 ∷ e3 ∷ e4·1 ∷ e5 ∷ e6·1 ∷ List.[]
+t3 = e0 ∷ e1 ∷ e2 ∷ e3 ∷ e4 ∷ e5·1 ∷ e6 ∷ e7·1 ∷ List.[]
 
 abbrev pub t4 : List.List Row.Entry
-t4 = e0 ∷ e1 ∷ e2 ∷ e3 ∷ e4·1 ∷ e5·1 ∷ e6·1 ∷ List.[]
+t4 = e0 ∷ e1 ∷ e2 ∷ e3 ∷ e4 ∷ e5·1 ∷ e6·1 ∷ e7·1 ∷ List.[]
 
 abbrev pub t5 : List.List Row.Entry
-t5 = e0·1 ∷ e1 ∷ e2 ∷ e3 ∷ e4·1 ∷ e5·1 ∷ e6·1 ∷ List.[]
+t5 = e0·1 ∷ e1 ∷ e2 ∷ e3 ∷ e4 ∷ e5·1 ∷ e6·1 ∷ e7·1 ∷ List.[]
 
 abbrev pub T0 : Row.Cx
 T0 = record { locals = t0; slots = List.[] }
@@ -196,39 +204,42 @@ module _ (claims· : Claims) where
       (
         record { pos = 3; ty = ref2; ref = λ x. x },
         (
-          record { pos = 4; st = List.[]; d = 0; at = λ x. x },
-          (record { pos = 5; st = List.[]; d = 0; at = λ x. x }, tt),
+          record { pos = 4; ty = ref3; ref = λ x. x },
+          (
+            record { pos = 5; st = List.[]; d = 0; at = λ x. x },
+            (record { pos = 6; st = List.[]; d = 0; at = λ x. x }, tt),
+          ),
         ),
       ),
     ),
   )
 
   abbrev s0 : Typed.Both T0 T2
-  s0 = Call.callB ps·0 r·0 (claims· .0) (claims· .1) T0 args0 6 (0 ∷ 1 ∷ 2 ∷ List.[]) Laws.mir
+  s0 = Call.callB ps·0 r·0 (claims· .0) (claims· .1) T0 args0 7 (0 ∷ 1 ∷ 2 ∷ 3 ∷ List.[]) Laws.mir
 
   abbrev s1 : Typed.Mo T2 → Typed.Mo T3
-  s1 = Scalar.n-room T2 4 Laws'.mir
+  s1 = Scalar.n-room T2 5 Laws'.mir
 
   abbrev s2 : Typed.Mo T3 → Typed.Mo T4
-  s2 = Scalar.n-room T3 5 Laws''.mir
+  s2 = Scalar.n-room T3 6 Laws''.mir
 
   abbrev args3 : Args'.ArgsT ps·1 (T4 .locals)
-  args3 = (record { pos = 6; st = List.[]; d = 0; at = λ x. x }, tt)
+  args3 = (record { pos = 7; st = List.[]; d = 0; at = λ x. x }, tt)
 
   abbrev s3 : Typed.Both T4 T5
   s3 = Call.callB ps·1 r·1 (claims· .2) (claims· .3) T4 args3 0 List.[] Laws'''.mir
 
   abbrev s4 : Typed.Mo T5 → Typed.Mo T6
-  s4 = Scalar.n-room T5 6 Laws.mir
+  s4 = Scalar.n-room T5 7 Laws.mir
 
-  module _ (Pre· : (κs : Lifetimes.Lfts 3) → Kinds.Dens κs ps → Type 0) (Post· : (κs : Lifetimes.Lfts 3) →
-      (a : Kinds.Dens κs ps) → Kinds.Plain 3 ps r κs) where
+  module _ (Pre· : (κs : Lifetimes.Lfts 4) → Kinds.Dens κs ps → Type 0) (Post· : (κs : Lifetimes.Lfts 4) →
+      (a : Kinds.Dens κs ps) → Kinds.Plain 4 ps r κs) where
     module _ (M : Type 1) where
       abbrev pub Closed : Type 2
       Closed = (𝓤 : URA.URA M) (H : Wp.Heap 𝓤) (A : Atoms.Atoms 𝓤) (W : Kit.Given 𝓤 H A) (𝓣 : Wp.Tables 𝓤 H) (known0 :
-          Plain.Known 𝓤 H A W 𝓣 3 ps·0 r·0 (claims· .0) (claims· .1) "hnsr_circuit::calls::silent::next_due") (known1 :
+          Plain.Known 𝓤 H A W 𝓣 4 ps·0 r·0 (claims· .0) (claims· .1) "hnsr_circuit::calls::silent::next_due") (known1 :
           Plain.Known 𝓤 H A W 𝓣 0 ps·1 r·1 (claims· .2) (claims· .3) "lekchnam::relay::due_reply") → Statement.Triple 𝓤 (Wp.WpFn
-          𝓤 H (𝓣 .C) (𝓣 .Λ) (Function.fnOf 3 ps r xs m hs body)) (Function.plainOf 𝓤 H A 3 ps r Pre· Post·)
+          𝓤 H (𝓣 .C) (𝓣 .Λ) (Function.fnOf 4 ps r xs m hs body)) (Function.plainOf 𝓤 H A 4 ps r Pre· Post·)
 
     module _ where
       abbrev at0 : Typed.TF T6 O0
@@ -255,10 +266,10 @@ module _ (claims· : Claims) where
       module _ {M : Type 1} (𝓤 : URA.URA M) (H : Wp.Heap 𝓤) (A : Atoms.Atoms 𝓤) (W : Kit.Given 𝓤 H A)
           (𝓣 : Wp.Tables 𝓤 H) where
         abbrev Knowns : Type 1
-        Knowns = Plain.Known 𝓤 H A W 𝓣 3 ps·0 r·0 (claims· .0) (claims· .1) "hnsr_circuit::calls::silent::next_due" ×
+        Knowns = Plain.Known 𝓤 H A W 𝓣 4 ps·0 r·0 (claims· .0) (claims· .1) "hnsr_circuit::calls::silent::next_due" ×
             Plain.Known 𝓤 H A W 𝓣 0 ps·1 r·1 (claims· .2) (claims· .3) "lekchnam::relay::due_reply"
 
-      module _ (κs : Lifetimes.Lfts 3) (qs : Lifetimes.Shares 3) where
+      module _ (κs : Lifetimes.Lfts 4) (qs : Lifetimes.Shares 4) where
         abbrev life0 : Row.Life
         life0 = Row.lease (κs .0) (qs .0)
 
@@ -268,33 +279,36 @@ module _ (claims· : Claims) where
         abbrev life2 : Row.Life
         life2 = Row.lease (κs .1 .1 .0) (qs .1 .1 .0)
 
+        abbrev life3 : Row.Life
+        life3 = Row.lease (κs .1 .1 .1 .0) (qs .1 .1 .1 .0)
+
         abbrev G0 : Row.Cx
-        G0 = record { locals = t0; slots = life0 ∷ life1 ∷ life2 ∷ List.[] }
+        G0 = record { locals = t0; slots = life0 ∷ life1 ∷ life2 ∷ life3 ∷ List.[] }
 
         abbrev G1 : Row.Cx
-        G1 = record { locals = t1; slots = life0 ∷ life1 ∷ life2 ∷ List.[] }
+        G1 = record { locals = t1; slots = life0 ∷ life1 ∷ life2 ∷ life3 ∷ List.[] }
 
         abbrev G2 : Row.Cx
-        G2 = record { locals = t2; slots = life0 ∷ life1 ∷ life2 ∷ List.[] }
+        G2 = record { locals = t2; slots = life0 ∷ life1 ∷ life2 ∷ life3 ∷ List.[] }
 
         abbrev G3 : Row.Cx
-        G3 = record { locals = t3; slots = life0 ∷ life1 ∷ life2 ∷ List.[] }
+        G3 = record { locals = t3; slots = life0 ∷ life1 ∷ life2 ∷ life3 ∷ List.[] }
 
         abbrev G4 : Row.Cx
-        G4 = record { locals = t4; slots = life0 ∷ life1 ∷ life2 ∷ List.[] }
+        G4 = record { locals = t4; slots = life0 ∷ life1 ∷ life2 ∷ life3 ∷ List.[] }
 
         abbrev G5 : Row.Cx
-        G5 = record { locals = t5; slots = life0 ∷ life1 ∷ life2 ∷ List.[] }
+        G5 = record { locals = t5; slots = life0 ∷ life1 ∷ life2 ∷ life3 ∷ List.[] }
 
         abbrev G6 : Row.Cx
-        G6 = record { locals = t1; slots = life0 ∷ life1 ∷ life2 ∷ List.[] }
+        G6 = record { locals = t1; slots = life0 ∷ life1 ∷ life2 ∷ life3 ∷ List.[] }
 
         abbrev Δ0 : Typed.Outs
         Δ0 = record { next = Option.none; exits = List.[]; returns = Option.some G1 }
 
         module _ {M : Type 1} (𝓤 : URA.URA M) (H : Wp.Heap 𝓤) (A : Atoms.Atoms 𝓤) (W : Kit.Given 𝓤 H A)
             (𝓣 : Wp.Tables 𝓤 H) (known : Knowns 𝓤 H A W 𝓣) (bs : List.List Nat.ℕ)
-            (bd : Lifetimes.AllOutlive 3 (Kinds.osR r) κs) where
+            (bd : Lifetimes.AllOutlive 4 (Kinds.osR r) κs) where
           abbrev E : Wp.Env 𝓤 H
           E = Frame.EnvOf 𝓤 H ((Kinds.tyR r) ∷ (Enter.tysP ps xs)) bs
 
@@ -302,13 +316,13 @@ module _ (claims· : Claims) where
           d0 = Typed.t-return 𝓤 H A W 𝓣 E Δ0 tt
 
           d1 : Typed.Typed 𝓤 H A 𝓣 E G5 b2 Δ0 at1
-          d1 = Typed.g-pre 𝓤 H A W 𝓣 E G5 G6 b2 Δ0 (Typed.pass T5 T6 s4) at0 (Scalar.g-room 𝓤 H A W E G5 6 Laws.mir (Local.room-whole
+          d1 = Typed.g-pre 𝓤 H A W 𝓣 E G5 G6 b2 Δ0 (Typed.pass T5 T6 s4) at0 (Scalar.g-room 𝓤 H A W E G5 7 Laws.mir (Local.room-whole
               𝓤 H A W (Declared.row DueTold.the-type) Laws.mir Path.refl)) d0
 
           d2 : Typed.Typed 𝓤 H A 𝓣 E G4 b3 Δ0 at2
           d2 = Typed.s-seq 𝓤 H A W 𝓣 E G4 G5 b1 b2 Δ0 (Typed.both s3) at1 (Plain.t-call-plain 𝓤 H A W 𝓣 0 ps·1 r·1
               (claims· .2) (claims· .3) "lekchnam::relay::due_reply" (known .1) E (λ pos β. β) G4
-              (record { pos = 6; st = List.[]; d = 0; at = λ x. x }, tt) 0 List.[] (Call.sub-id 𝓤 H A W (G4 .slots)) (
+              (record { pos = 7; st = List.[]; d = 0; at = λ x. x }, tt) 0 List.[] (Call.sub-id 𝓤 H A W (G4 .slots)) (
                 (
                   Yields.yields-copy 𝓤 H A W (λ ρ. Unit) (Declared.row DueTold.the-type) Path.refl (Copies.cStruct
                       DueTold.the-type Laws.the-laws Laws.the-copy .copy 𝓤 H A W)
@@ -321,15 +335,15 @@ module _ (claims· : Claims) where
               ) (Reads.room-gone 𝓤 H A Laws'''.mir) tt Path.refl) d1
 
           d3 : Typed.Typed 𝓤 H A 𝓣 E G3 b3 Δ0 at3
-          d3 = Typed.g-pre 𝓤 H A W 𝓣 E G3 G4 b3 Δ0 (Typed.pass T3 T4 s2) at2 (Scalar.g-room 𝓤 H A W E G3 5 Laws''.mir (Local.room-whole
+          d3 = Typed.g-pre 𝓤 H A W 𝓣 E G3 G4 b3 Δ0 (Typed.pass T3 T4 s2) at2 (Scalar.g-room 𝓤 H A W E G3 6 Laws''.mir (Local.room-whole
               𝓤 H A W (Declared.row Places.the-type) Laws''.mir Path.refl)) d2
 
           d4 : Typed.Typed 𝓤 H A 𝓣 E G2 b3 Δ0 at4
-          d4 = Typed.g-pre 𝓤 H A W 𝓣 E G2 G3 b3 Δ0 (Typed.pass T2 T3 s1) at3 (Scalar.g-room 𝓤 H A W E G2 4 Laws'.mir (Local.room-whole
+          d4 = Typed.g-pre 𝓤 H A W 𝓣 E G2 G3 b3 Δ0 (Typed.pass T2 T3 s1) at3 (Scalar.g-room 𝓤 H A W E G2 5 Laws'.mir (Local.room-whole
               𝓤 H A W (Declared.row OpaqueRelayRuntime.the-type) Laws'.mir Path.refl)) d3
 
           d5 : Typed.Typed 𝓤 H A 𝓣 E G0 b4 Δ0 at5
-          d5 = Typed.s-seq 𝓤 H A W 𝓣 E G0 G2 b0 b3 Δ0 (Typed.both s0) at4 (Plain.t-call-plain 𝓤 H A W 𝓣 3 ps·0 r·0
+          d5 = Typed.s-seq 𝓤 H A W 𝓣 E G0 G2 b0 b3 Δ0 (Typed.both s0) at4 (Plain.t-call-plain 𝓤 H A W 𝓣 4 ps·0 r·0
               (claims· .0) (claims· .1) "hnsr_circuit::calls::silent::next_due" (known .0) E (λ pos β. β) G0 (
                 record { pos = 1; ty = ref0; ref = λ x. x },
                 (
@@ -337,12 +351,15 @@ module _ (claims· : Claims) where
                   (
                     record { pos = 3; ty = ref2; ref = λ x. x },
                     (
-                      record { pos = 4; st = List.[]; d = 0; at = λ x. x },
-                      (record { pos = 5; st = List.[]; d = 0; at = λ x. x }, tt),
+                      record { pos = 4; ty = ref3; ref = λ x. x },
+                      (
+                        record { pos = 5; st = List.[]; d = 0; at = λ x. x },
+                        (record { pos = 6; st = List.[]; d = 0; at = λ x. x }, tt),
+                      ),
                     ),
                   ),
                 ),
-              ) 6 (0 ∷ 1 ∷ 2 ∷ List.[]) (Call.sub-id 𝓤 H A W (G0 .slots)) (
+              ) 7 (0 ∷ 1 ∷ 2 ∷ 3 ∷ List.[]) (Call.sub-id 𝓤 H A W (G0 .slots)) (
                 ShrSlice.spares-sslice 𝓤 H A W RelayPending.row ref0 0,
                 Shared.reads-sslice 𝓤 H A W RelayPending.row ref0 0,
                 Path.refl,
@@ -351,63 +368,69 @@ module _ (claims· : Claims) where
                   Shared.reads-sslice 𝓤 H A W RelayCircuit.row ref1 1,
                   Path.refl,
                   (
-                    ShrSlice.spares-sslice 𝓤 H A W InflightAction.row ref2 2,
-                    Shared.reads-sslice 𝓤 H A W InflightAction.row ref2 2,
+                    ShrSlice.spares-sslice 𝓤 H A W ReservationUsage.row ref2 2,
+                    Shared.reads-sslice 𝓤 H A W ReservationUsage.row ref2 2,
                     Path.refl,
                     (
-                      (
-                        Yields.yields-copy 𝓤 H A W (λ ρ. Unit) (Declared.row OpaqueRelayRuntime.the-type) Path.refl (Copies.cStruct
-                            OpaqueRelayRuntime.the-type Laws'.the-laws Laws'.the-copy .copy 𝓤 H A W)
-                            (Rows.whole (Declared.row OpaqueRelayRuntime.the-type)) (λ x. x) (λ x. x) (λ ρ told.
-                            Local.mem-whole 𝓤 H A W (Declared.row OpaqueRelayRuntime.the-type) ρ) λ ρ told.
-                            Local.whole-mem 𝓤 H A W (Declared.row OpaqueRelayRuntime.the-type) ρ,
-                        Path.refl,
-                      ),
+                      ShrSlice.spares-sslice 𝓤 H A W InflightAction.row ref3 3,
+                      Shared.reads-sslice 𝓤 H A W InflightAction.row ref3 3,
+                      Path.refl,
                       (
                         (
-                          Yields.yields-copy 𝓤 H A W (λ ρ. Unit) (Declared.row Places.the-type) Path.refl (Copies.cStruct
-                              Places.the-type Laws''.the-laws Laws''.the-copy .copy 𝓤 H A W)
-                              (Rows.whole (Declared.row Places.the-type)) (λ x. x) (λ x. x) (λ ρ told. Local.mem-whole
-                              𝓤 H A W (Declared.row Places.the-type) ρ) λ ρ told. Local.whole-mem 𝓤 H A W
-                              (Declared.row Places.the-type) ρ,
+                          Yields.yields-copy 𝓤 H A W (λ ρ. Unit) (Declared.row OpaqueRelayRuntime.the-type) Path.refl (Copies.cStruct
+                              OpaqueRelayRuntime.the-type Laws'.the-laws Laws'.the-copy .copy 𝓤 H A W)
+                              (Rows.whole (Declared.row OpaqueRelayRuntime.the-type)) (λ x. x) (λ x. x) (λ ρ told.
+                              Local.mem-whole 𝓤 H A W (Declared.row OpaqueRelayRuntime.the-type) ρ) λ ρ told.
+                              Local.whole-mem 𝓤 H A W (Declared.row OpaqueRelayRuntime.the-type) ρ,
                           Path.refl,
                         ),
-                        tt,
+                        (
+                          (
+                            Yields.yields-copy 𝓤 H A W (λ ρ. Unit) (Declared.row Places.the-type) Path.refl (Copies.cStruct
+                                Places.the-type Laws''.the-laws Laws''.the-copy .copy 𝓤 H A W)
+                                (Rows.whole (Declared.row Places.the-type)) (λ x. x) (λ x. x) (λ ρ told.
+                                Local.mem-whole 𝓤 H A W (Declared.row Places.the-type) ρ) λ ρ told. Local.whole-mem 𝓤 H
+                                A W (Declared.row Places.the-type) ρ,
+                            Path.refl,
+                          ),
+                          tt,
+                        ),
                       ),
                     ),
                   ),
                 ),
-              ) (Reads.room-gone 𝓤 H A Laws.mir) (tt, (tt, (tt, tt))) Path.refl) d4
+              ) (Reads.room-gone 𝓤 H A Laws.mir) (tt, (tt, (tt, (tt, tt)))) Path.refl) d4
 
-          pub typed : Typed.Typed 𝓤 H A 𝓣 E (Function.Γin 3 ps r xs m κs qs) b4 (Function.Δret 3 ps r xs m κs qs) Φ
+          pub typed : Typed.Typed 𝓤 H A 𝓣 E (Function.Γin 4 ps r xs m κs qs) b4 (Function.Δret 4 ps r xs m κs qs) Φ
           typed = d5
 
-      module _ (κs : Lifetimes.Lfts 3) where
+      module _ (κs : Lifetimes.Lfts 4) where
         pub record Args : Type 0 where
-          pub pending : Kinds.Den {n = 3} κs (ShrSlice.pShrS RelayPending.row 0 tt)
-          pub circuits : Kinds.Den {n = 3} κs (ShrSlice.pShrS RelayCircuit.row 1 tt)
-          pub inflight : Kinds.Den {n = 3} κs (ShrSlice.pShrS InflightAction.row 2 tt)
-          pub runtime : Kinds.Den {n = 3} κs (StructRow.param OpaqueRelayRuntime.the-type Laws'.the-laws Laws'.the-copy
+          pub pending : Kinds.Den {n = 4} κs (ShrSlice.pShrS RelayPending.row 0 tt)
+          pub circuits : Kinds.Den {n = 4} κs (ShrSlice.pShrS RelayCircuit.row 1 tt)
+          pub ledger : Kinds.Den {n = 4} κs (ShrSlice.pShrS ReservationUsage.row 2 tt)
+          pub inflight : Kinds.Den {n = 4} κs (ShrSlice.pShrS InflightAction.row 3 tt)
+          pub runtime : Kinds.Den {n = 4} κs (StructRow.param OpaqueRelayRuntime.the-type Laws'.the-laws Laws'.the-copy
               Laws'.the-plain)
-          pub places : Kinds.Den {n = 3} κs (StructRow.param Places.the-type Laws''.the-laws Laws''.the-copy
+          pub places : Kinds.Den {n = 4} κs (StructRow.param Places.the-type Laws''.the-laws Laws''.the-copy
               Laws''.the-plain)
 
         abbrev pub dens : (a : Args) → Kinds.Dens κs ps
-        dens = λ a. (a .pending, (a .circuits, (a .inflight, (a .runtime, (a .places, tt)))))
+        dens = λ a. (a .pending, (a .circuits, (a .ledger, (a .inflight, (a .runtime, (a .places, tt))))))
 
-      abbrev pub m0 : (κs : Lifetimes.Lfts 3) → (args : Args κs) → Typed.Mo T0
+      abbrev pub m0 : (κs : Lifetimes.Lfts 4) → (args : Args κs) → Typed.Mo T0
       m0 = λ κs args. (tt, Enter.partsP κs 1 ps xs (dens κs args))
 
-      abbrev W0 : (κs : Lifetimes.Lfts 3) → (args : Args κs) → Typed.Want O0
+      abbrev W0 : (κs : Lifetimes.Lfts 4) → (args : Args κs) → Typed.Want O0
       W0 = λ κs args. (
         λ u. ⊥,
         tt,
         λ u. Enter.Fixs κs 1 ps xs (dens κs args) (u .1) × Post· κs (dens κs args) (Function.resV r κs (u .0)) (Clauses.atExit
-            (Kinds.endedOf 3 ps r) κs (dens κs args) (Enter.lastsP κs 1 ps xs (dens κs args) (u .1))),
+            (Kinds.endedOf 4 ps r) κs (dens κs args) (Enter.lastsP κs 1 ps xs (dens κs args) (u .1))),
       )
 
       pub record Start : Type 0 where
-        pub κs : Lifetimes.Lfts 3
+        pub κs : Lifetimes.Lfts 4
         pub args : Args κs
         pub good : Kinds.GoodsP κs ps (dens κs args)
         pub pre : Pre· κs (dens κs args)
@@ -464,7 +487,7 @@ module _ (claims· : Claims) where
       abbrev pub Need-returns : Type 0
       Need-returns = (c : After-due-reply) → Post· (c .before .before .κs)
           (dens (c .before .before .κs) (c .before .before .args)) (Function.resV r (c .before .before .κs)
-          (m5 (c .before) (After-due-reply·gave c) .0)) (Clauses.atExit (Kinds.endedOf 3 ps r) (c .before .before .κs)
+          (m5 (c .before) (After-due-reply·gave c) .0)) (Clauses.atExit (Kinds.endedOf 4 ps r) (c .before .before .κs)
           (dens (c .before .before .κs) (c .before .before .args)) (Enter.lastsP (c .before .before .κs) 1 ps xs
           (dens (c .before .before .κs) (c .before .before .args)) (m5 (c .before) (After-due-reply·gave c) .1)))
 
@@ -473,7 +496,7 @@ module _ (claims· : Claims) where
         lay2 : (c : After-due-reply) → at1 (W0 (c .before .before .κs) (c .before .before .args))
             (m4 (c .before) (After-due-reply·gave c))
         lay2 = λ c. (
-          (Path.refl, (Path.refl, (Path.refl, (tt, (tt, tt))))),
+          (Path.refl, (Path.refl, (Path.refl, (Path.refl, (tt, (tt, tt)))))),
           returns record { before = c .before; due-reply = c .due-reply },
         )
 
@@ -496,28 +519,29 @@ module _ (claims· : Claims) where
           },
         )
 
-        module _ (κs : Lifetimes.Lfts 3) (qs : Lifetimes.Shares 3) where
+        module _ (κs : Lifetimes.Lfts 4) (qs : Lifetimes.Shares 4) where
           pub asked : (a : Kinds.Dens κs ps) → (good : Kinds.GoodsP κs ps a) → (pre : Pre· κs a) →
-              (bs : List.List Nat.ℕ) → Φ (Any.wantQ 3 ps r xs m κs qs a (Post· κs a))
-              (Function.init 3 ps r xs m κs qs a)
+              (bs : List.List Nat.ℕ) → Φ (Any.wantQ 4 ps r xs m κs qs a (Post· κs a))
+              (Function.init 4 ps r xs m κs qs a)
           asked = λ a good pre bs. laid record {
             κs = κs;
             args = record {
               pending = a .0;
               circuits = a .1 .0;
-              inflight = a .1 .1 .0;
-              runtime = a .1 .1 .1 .0;
-              places = a .1 .1 .1 .1 .0;
+              ledger = a .1 .1 .0;
+              inflight = a .1 .1 .1 .0;
+              runtime = a .1 .1 .1 .1 .0;
+              places = a .1 .1 .1 .1 .1 .0;
             };
             good = good;
             pre = pre;
           }
 
         module _ {M : Type 1} (𝓤 : URA.URA M) (H : Wp.Heap 𝓤) (A : Atoms.Atoms 𝓤) (W : Kit.Given 𝓤 H A)
-            (𝓣 : Wp.Tables 𝓤 H) (known0 : Plain.Known 𝓤 H A W 𝓣 3 ps·0 r·0 (claims· .0) (claims· .1)
+            (𝓣 : Wp.Tables 𝓤 H) (known0 : Plain.Known 𝓤 H A W 𝓣 4 ps·0 r·0 (claims· .0) (claims· .1)
             "hnsr_circuit::calls::silent::next_due") (known1 : Plain.Known 𝓤 H A W 𝓣 0 ps·1 r·1 (claims· .2)
             (claims· .3) "lekchnam::relay::due_reply") where
-          pub spec : Statement.Triple 𝓤 (Wp.WpFn 𝓤 H (𝓣 .C) (𝓣 .Λ) (Function.fnOf 3 ps r xs m hs body))
-              (Function.plainOf 𝓤 H A 3 ps r Pre· Post·)
-          spec = Plain.t-fn-plain 𝓤 H A W 𝓣 3 ps r xs m hs body (λ κs qs bs. Φ) (λ κs qs bs bd. typed κs qs 𝓤 H A W 𝓣
+          pub spec : Statement.Triple 𝓤 (Wp.WpFn 𝓤 H (𝓣 .C) (𝓣 .Λ) (Function.fnOf 4 ps r xs m hs body))
+              (Function.plainOf 𝓤 H A 4 ps r Pre· Post·)
+          spec = Plain.t-fn-plain 𝓤 H A W 𝓣 4 ps r xs m hs body (λ κs qs bs. Φ) (λ κs qs bs bd. typed κs qs 𝓤 H A W 𝓣
               (known0, known1) bs bd) Pre· Post· asked

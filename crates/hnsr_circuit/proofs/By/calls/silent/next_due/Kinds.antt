@@ -2,6 +2,7 @@
 use Rattle.hnsr_circuit.proofs.By.InflightAction
 use Rattle.hnsr_circuit.proofs.By.RelayCircuit
 use Rattle.hnsr_circuit.proofs.By.RelayPending
+use Rattle.hnsr_circuit.proofs.By.ReservationUsage
 use Rattle.hnsr_circuit.proofs.StructRow
 use Rattle.hnsr_circuit.proofs.runtime.DueTold
 use Rattle.hnsr_circuit.proofs.runtime.DueTold.Laws
@@ -14,11 +15,11 @@ use borrow.Kind.ShrSlice
 use mathlib.Core.List
 use mathlib.Core.List.{_∷_}
 
-abbrev pub ps : List.List (Kinds.PK 3)
+abbrev pub ps : List.List (Kinds.PK 4)
 ps = (ShrSlice.pShrS RelayPending.row 0 tt) ∷ (ShrSlice.pShrS RelayCircuit.row 1 tt) ∷
-    (ShrSlice.pShrS InflightAction.row 2 tt) ∷ (StructRow.param OpaqueRelayRuntime.the-type Laws'.the-laws
-    Laws'.the-copy Laws'.the-plain) ∷ (StructRow.param Places.the-type Laws''.the-laws Laws''.the-copy Laws''.the-plain)
-    ∷ List.[]
+    (ShrSlice.pShrS ReservationUsage.row 2 tt) ∷ (ShrSlice.pShrS InflightAction.row 3 tt) ∷ (StructRow.param
+    OpaqueRelayRuntime.the-type Laws'.the-laws Laws'.the-copy Laws'.the-plain) ∷ (StructRow.param Places.the-type
+    Laws''.the-laws Laws''.the-copy Laws''.the-plain) ∷ List.[]
 
-abbrev pub r : Kinds.RK 3
+abbrev pub r : Kinds.RK 4
 r = StructRow.result DueTold.the-type Laws.the-laws Laws.the-copy Laws.the-plain

@@ -3,6 +3,7 @@ use Prim.Native.Nat
 use Rattle.hnsr_circuit.proofs.By.InflightAction
 use Rattle.hnsr_circuit.proofs.By.RelayCircuit
 use Rattle.hnsr_circuit.proofs.By.RelayPending
+use Rattle.hnsr_circuit.proofs.By.ReservationUsage
 use Rattle.hnsr_circuit.proofs.StructRow
 use Rattle.hnsr_circuit.proofs.config.OpaqueRelayConfig
 use Rattle.hnsr_circuit.proofs.config.OpaqueRelayConfig.Laws
@@ -66,19 +67,22 @@ abbrev ref1 : Syntax.Ty
 ref1 = Syntax.tyRef (Syntax.named 1) Syntax.imm RelayCircuit.to
 
 abbrev ref2 : Syntax.Ty
-ref2 = Syntax.tyRef (Syntax.named 2) Syntax.imm InflightAction.to
+ref2 = Syntax.tyRef (Syntax.named 2) Syntax.imm ReservationUsage.to
 
-abbrev pub ps : List.List (Kinds.PK 3)
+abbrev ref3 : Syntax.Ty
+ref3 = Syntax.tyRef (Syntax.named 3) Syntax.imm InflightAction.to
+
+abbrev pub ps : List.List (Kinds.PK 4)
 ps = (ShrSlice.pShrS RelayPending.row 0 tt) ∷ (ShrSlice.pShrS RelayCircuit.row 1 tt) ∷
-    (ShrSlice.pShrS InflightAction.row 2 tt) ∷ (StructRow.param OpaqueRelayRuntime.the-type Laws'''.the-laws
-    Laws'''.the-copy Laws'''.the-plain) ∷ (StructRow.param Places.the-type Laws''''.the-laws Laws''''.the-copy
-    Laws''''.the-plain) ∷ List.[]
+    (ShrSlice.pShrS ReservationUsage.row 2 tt) ∷ (ShrSlice.pShrS InflightAction.row 3 tt) ∷ (StructRow.param
+    OpaqueRelayRuntime.the-type Laws'''.the-laws Laws'''.the-copy Laws'''.the-plain) ∷ (StructRow.param Places.the-type
+    Laws''''.the-laws Laws''''.the-copy Laws''''.the-plain) ∷ List.[]
 
-abbrev pub r : Kinds.RK 3
+abbrev pub r : Kinds.RK 4
 r = StructRow.result DueTold.the-type Laws'.the-laws Laws'.the-copy Laws'.the-plain
 
 abbrev pub xs : List.List Syntax.Ty
-xs = Laws.mir ∷ Laws''.mir ∷ Laws''.mir ∷ Syntax.tyBool ∷ Laws''.mir ∷ (Syntax.tyInt Syntax.w64) ∷
+xs = Laws.mir ∷ Laws''.mir ∷ Laws''.mir ∷ Laws''.mir ∷ Syntax.tyBool ∷ Laws''.mir ∷ (Syntax.tyInt Syntax.w64) ∷
     (Syntax.tyInt Syntax.w64) ∷ (Syntax.tyInt Syntax.w64) ∷ List.[]
 
 abbrev pub m : Nat.ℕ
@@ -100,94 +104,111 @@ ps·1 = (ShrSlice.pShrS RelayCircuit.row 0 tt) ∷ (StructRow.param Places.the-t
 abbrev pub r·1 : Kinds.RK 1
 r·1 = StructRow.enum-result NextDue.the-type Laws''.the-laws Laws''.the-copy Laws''.the-plain tt
 
-abbrev pub ps·2 : List.List (Kinds.PK 0)
-ps·2 = (StructRow.param OpaqueRelayConfig.the-type Laws.the-laws Laws.the-copy Laws.the-plain) ∷ (Num.pNum Syntax.w64)
-    ∷ (Num.pNum Syntax.w64) ∷ (Num.pNum Syntax.w64) ∷ List.[]
+abbrev pub ps·2 : List.List (Kinds.PK 1)
+ps·2 = (ShrSlice.pShrS ReservationUsage.row 0 tt) ∷ (StructRow.param Places.the-type Laws''''.the-laws
+    Laws''''.the-copy Laws''''.the-plain) ∷ (StructRow.enum-param NextDue.the-type Laws''.the-laws Laws''.the-copy
+    Laws''.the-plain tt) ∷ List.[]
 
-abbrev pub r·2 : Kinds.RK 0
-r·2 = Bool.rBool
+abbrev pub r·2 : Kinds.RK 1
+r·2 = StructRow.enum-result NextDue.the-type Laws''.the-laws Laws''.the-copy Laws''.the-plain tt
 
 abbrev pub ps·3 : List.List (Kinds.PK 0)
-ps·3 = Bool.pBool ∷ (StructRow.enum-param NextDue.the-type Laws''.the-laws Laws''.the-copy Laws''.the-plain tt) ∷
-    List.[]
+ps·3 = (StructRow.param OpaqueRelayConfig.the-type Laws.the-laws Laws.the-copy Laws.the-plain) ∷ (Num.pNum Syntax.w64)
+    ∷ (Num.pNum Syntax.w64) ∷ (Num.pNum Syntax.w64) ∷ List.[]
 
 abbrev pub r·3 : Kinds.RK 0
-r·3 = StructRow.result DueTold.the-type Laws'.the-laws Laws'.the-copy Laws'.the-plain
+r·3 = Bool.rBool
+
+abbrev pub ps·4 : List.List (Kinds.PK 0)
+ps·4 = Bool.pBool ∷ (StructRow.enum-param NextDue.the-type Laws''.the-laws Laws''.the-copy Laws''.the-plain tt) ∷
+    List.[]
+
+abbrev pub r·4 : Kinds.RK 0
+r·4 = StructRow.result DueTold.the-type Laws'.the-laws Laws'.the-copy Laws'.the-plain
 
 abbrev pub hs : List.List Syntax.Home
 hs = Syntax.valueLocal ∷ Syntax.valueLocal ∷ Syntax.valueLocal ∷ Syntax.valueLocal ∷ Syntax.valueLocal ∷
     Syntax.valueLocal ∷ Syntax.valueLocal ∷ Syntax.valueLocal ∷ Syntax.valueLocal ∷ Syntax.valueLocal ∷
-    Syntax.valueLocal ∷ Syntax.valueLocal ∷ Syntax.valueLocal ∷ Syntax.valueLocal ∷ List.[]
+    Syntax.valueLocal ∷ Syntax.valueLocal ∷ Syntax.valueLocal ∷ Syntax.valueLocal ∷ Syntax.valueLocal ∷
+    Syntax.valueLocal ∷ List.[]
 
 abbrev b0 : Syntax.Body
-b0 = Syntax.assign (Syntax.place 6 List.[]) (Syntax.rvOpd (Syntax.copy (Syntax.place 4 ((Syntax.field 4) ∷ List.[]))))
+b0 = Syntax.assign (Syntax.place 7 List.[]) (Syntax.rvOpd (Syntax.copy (Syntax.place 5 ((Syntax.field 4) ∷ List.[]))))
 
 abbrev b1 : Syntax.Body
-b1 = Syntax.assign (Syntax.place 10 List.[]) (Syntax.aggregate ((Syntax.int Syntax.w8 0) ∷ List.[]))
+b1 = Syntax.assign (Syntax.place 12 List.[]) (Syntax.aggregate ((Syntax.int Syntax.w8 0) ∷ List.[]))
 
 abbrev b2 : Syntax.Body
 b2 = Syntax.call "hnsr_circuit::tables::pending::pending_due" ((Syntax.copy (Syntax.place 1 List.[])) ∷
-    (Syntax.copy (Syntax.place 5 List.[])) ∷ (Syntax.copy (Syntax.place 10 List.[])) ∷ List.[])
-    (Syntax.place 7 List.[])
+    (Syntax.copy (Syntax.place 6 List.[])) ∷ (Syntax.copy (Syntax.place 12 List.[])) ∷ List.[])
+    (Syntax.place 8 List.[])
 
 abbrev b3 : Syntax.Body
 b3 = Syntax.call "hnsr_circuit::tables::circuits::circuit_due" ((Syntax.copy (Syntax.place 2 List.[])) ∷
-    (Syntax.copy (Syntax.place 5 List.[])) ∷ (Syntax.copy (Syntax.place 7 List.[])) ∷ List.[]) (Syntax.place 8 List.[])
+    (Syntax.copy (Syntax.place 6 List.[])) ∷ (Syntax.copy (Syntax.place 8 List.[])) ∷ List.[]) (Syntax.place 9 List.[])
 
 abbrev b4 : Syntax.Body
-b4 = Syntax.assign (Syntax.place 11 List.[]) (Syntax.rvOpd (Syntax.copy (Syntax.place 1 ((Syntax.field 1) ∷ List.[]))))
+b4 = Syntax.call "hnsr_circuit::tables::ledger::usage_due" ((Syntax.copy (Syntax.place 3 List.[])) ∷
+    (Syntax.copy (Syntax.place 6 List.[])) ∷ (Syntax.copy (Syntax.place 9 List.[])) ∷ List.[])
+    (Syntax.place 10 List.[])
 
 abbrev b5 : Syntax.Body
-b5 = Syntax.assign (Syntax.place 12 List.[]) (Syntax.rvOpd (Syntax.copy (Syntax.place 2 ((Syntax.field 1) ∷ List.[]))))
+b5 = Syntax.assign (Syntax.place 13 List.[]) (Syntax.rvOpd (Syntax.copy (Syntax.place 1 ((Syntax.field 1) ∷ List.[]))))
 
 abbrev b6 : Syntax.Body
-b6 = Syntax.assign (Syntax.place 13 List.[]) (Syntax.rvOpd (Syntax.copy (Syntax.place 3 ((Syntax.field 1) ∷ List.[]))))
+b6 = Syntax.assign (Syntax.place 14 List.[]) (Syntax.rvOpd (Syntax.copy (Syntax.place 2 ((Syntax.field 1) ∷ List.[]))))
 
 abbrev b7 : Syntax.Body
-b7 = Syntax.call "hnsr_circuit::entry::too_few" ((Syntax.copy (Syntax.place 6 List.[])) ∷
-    (Syntax.copy (Syntax.place 11 List.[])) ∷ (Syntax.copy (Syntax.place 12 List.[])) ∷
-    (Syntax.copy (Syntax.place 13 List.[])) ∷ List.[]) (Syntax.place 9 List.[])
+b7 = Syntax.assign (Syntax.place 15 List.[]) (Syntax.rvOpd (Syntax.copy (Syntax.place 4 ((Syntax.field 1) ∷ List.[]))))
 
 abbrev b8 : Syntax.Body
-b8 = Syntax.call "hnsr_circuit::calls::silent::due_told" ((Syntax.copy (Syntax.place 9 List.[])) ∷
-    (Syntax.copy (Syntax.place 8 List.[])) ∷ List.[]) (Syntax.place 0 List.[])
+b8 = Syntax.call "hnsr_circuit::entry::too_few" ((Syntax.copy (Syntax.place 7 List.[])) ∷
+    (Syntax.copy (Syntax.place 13 List.[])) ∷ (Syntax.copy (Syntax.place 14 List.[])) ∷
+    (Syntax.copy (Syntax.place 15 List.[])) ∷ List.[]) (Syntax.place 11 List.[])
 
 abbrev b9 : Syntax.Body
-b9 = Syntax.return
+b9 = Syntax.call "hnsr_circuit::calls::silent::due_told" ((Syntax.copy (Syntax.place 11 List.[])) ∷
+    (Syntax.copy (Syntax.place 10 List.[])) ∷ List.[]) (Syntax.place 0 List.[])
 
 abbrev b10 : Syntax.Body
-b10 = Syntax.seq b8 b9
+b10 = Syntax.return
 
 abbrev b11 : Syntax.Body
-b11 = Syntax.seq b7 b10
+b11 = Syntax.seq b9 b10
 
 abbrev b12 : Syntax.Body
-b12 = Syntax.seq b6 b11
+b12 = Syntax.seq b8 b11
 
 abbrev b13 : Syntax.Body
-b13 = Syntax.seq b5 b12
+b13 = Syntax.seq b7 b12
 
 abbrev b14 : Syntax.Body
-b14 = Syntax.seq b4 b13
+b14 = Syntax.seq b6 b13
 
 abbrev b15 : Syntax.Body
-b15 = Syntax.seq b3 b14
+b15 = Syntax.seq b5 b14
 
 abbrev b16 : Syntax.Body
-b16 = Syntax.seq b2 b15
+b16 = Syntax.seq b4 b15
 
 abbrev b17 : Syntax.Body
-b17 = Syntax.seq b1 b16
+b17 = Syntax.seq b3 b16
 
 abbrev b18 : Syntax.Body
-b18 = Syntax.seq b0 b17
+b18 = Syntax.seq b2 b17
+
+abbrev b19 : Syntax.Body
+b19 = Syntax.seq b1 b18
+
+abbrev b20 : Syntax.Body
+b20 = Syntax.seq b0 b19
 
 abbrev pub body : Syntax.Body
-body = b18
+body = b20
 
 abbrev pub Claims : Type 1
-Claims = Kinds.In 1 ps·0 × Kinds.Out 1 ps·0 r·0 × Kinds.In 1 ps·1 × Kinds.Out 1 ps·1 r·1 × Kinds.In 0 ps·2 × Kinds.Out
-    0 ps·2 r·2 × Kinds.In 0 ps·3 × Kinds.Out 0 ps·3 r·3
+Claims = Kinds.In 1 ps·0 × Kinds.Out 1 ps·0 r·0 × Kinds.In 1 ps·1 × Kinds.Out 1 ps·1 r·1 × Kinds.In 1 ps·2 × Kinds.Out
+    1 ps·2 r·2 × Kinds.In 0 ps·3 × Kinds.Out 0 ps·3 r·3 × Kinds.In 0 ps·4 × Kinds.Out 0 ps·4 r·4
 
 abbrev e0 : Row.Entry
 e0 = (0, Rows.any-gone Laws'.mir)
@@ -199,130 +220,145 @@ abbrev e2 : Row.Entry
 e2 = (2, Rows.sslice RelayCircuit.row ref1 1)
 
 abbrev e3 : Row.Entry
-e3 = (3, Rows.sslice InflightAction.row ref2 2)
+e3 = (3, Rows.sslice ReservationUsage.row ref2 2)
 
 abbrev e4 : Row.Entry
-e4 = (4, Rows.whole (Declared'.row OpaqueRelayRuntime.the-type))
+e4 = (4, Rows.sslice InflightAction.row ref3 3)
 
 abbrev e5 : Row.Entry
-e5 = (5, Rows.whole (Declared'.row Places.the-type))
+e5 = (5, Rows.whole (Declared'.row OpaqueRelayRuntime.the-type))
 
 abbrev e6 : Row.Entry
-e6 = (6, Rows.any-gone Laws.mir)
+e6 = (6, Rows.whole (Declared'.row Places.the-type))
 
 abbrev e7 : Row.Entry
-e7 = (7, Rows.any-gone Laws''.mir)
+e7 = (7, Rows.any-gone Laws.mir)
 
 abbrev e8 : Row.Entry
 e8 = (8, Rows.any-gone Laws''.mir)
 
 abbrev e9 : Row.Entry
-e9 = (9, Rows.any-gone Syntax.tyBool)
+e9 = (9, Rows.any-gone Laws''.mir)
 
 abbrev e10 : Row.Entry
 e10 = (10, Rows.any-gone Laws''.mir)
 
 abbrev e11 : Row.Entry
-e11 = (11, Rows.any-gone (Syntax.tyInt Syntax.w64))
+e11 = (11, Rows.any-gone Syntax.tyBool)
 
 abbrev e12 : Row.Entry
-e12 = (12, Rows.any-gone (Syntax.tyInt Syntax.w64))
+e12 = (12, Rows.any-gone Laws''.mir)
 
 abbrev e13 : Row.Entry
 e13 = (13, Rows.any-gone (Syntax.tyInt Syntax.w64))
 
+abbrev e14 : Row.Entry
+e14 = (14, Rows.any-gone (Syntax.tyInt Syntax.w64))
+
+abbrev e15 : Row.Entry
+e15 = (15, Rows.any-gone (Syntax.tyInt Syntax.w64))
+
 abbrev e0·1 : Row.Entry
 e0·1 = (0, Rows.whole (Declared'.row DueTold.the-type))
 
-abbrev e4·1 : Row.Entry
-e4·1 = (4, Rows.any-gone Laws'''.mir)
-
 abbrev e5·1 : Row.Entry
-e5·1 = (5, Rows.any-gone Laws''''.mir)
+e5·1 = (5, Rows.any-gone Laws'''.mir)
 
 abbrev e6·1 : Row.Entry
-e6·1 = (6, Rows.whole (Declared'.row OpaqueRelayConfig.the-type))
-
-abbrev e10·1 : Row.Entry
-e10·1 = (10, Rows.whole (Declared.row NextDue.the-type))
+e6·1 = (6, Rows.any-gone Laws''''.mir)
 
 abbrev e7·1 : Row.Entry
-e7·1 = (7, Rows.whole (Declared.row NextDue.the-type))
+e7·1 = (7, Rows.whole (Declared'.row OpaqueRelayConfig.the-type))
+
+abbrev e12·1 : Row.Entry
+e12·1 = (12, Rows.whole (Declared.row NextDue.the-type))
 
 abbrev e8·1 : Row.Entry
 e8·1 = (8, Rows.whole (Declared.row NextDue.the-type))
 
-abbrev e11·1 : Row.Entry
-e11·1 = (11, Rows.sc-here (Row.sInt Syntax.w64))
+abbrev e9·1 : Row.Entry
+e9·1 = (9, Rows.whole (Declared.row NextDue.the-type))
 
-abbrev e12·1 : Row.Entry
-e12·1 = (12, Rows.sc-here (Row.sInt Syntax.w64))
+abbrev e10·1 : Row.Entry
+e10·1 = (10, Rows.whole (Declared.row NextDue.the-type))
 
 abbrev e13·1 : Row.Entry
 e13·1 = (13, Rows.sc-here (Row.sInt Syntax.w64))
 
-abbrev e9·1 : Row.Entry
-e9·1 = (9, Rows.sc-here Row.sBool)
+abbrev e14·1 : Row.Entry
+e14·1 = (14, Rows.sc-here (Row.sInt Syntax.w64))
+
+abbrev e15·1 : Row.Entry
+e15·1 = (15, Rows.sc-here (Row.sInt Syntax.w64))
+
+abbrev e11·1 : Row.Entry
+e11·1 = (11, Rows.sc-here Row.sBool)
 
 abbrev pub t0 : List.List Row.Entry
-t0 = e0 ∷ e1 ∷ e2 ∷ e3 ∷ e4 ∷ e5 ∷ e6 ∷ e7 ∷ e8 ∷ e9 ∷ e10 ∷ e11 ∷ e12 ∷ e13 ∷ List.[]
+t0 = e0 ∷ e1 ∷ e2 ∷ e3 ∷ e4 ∷ e5 ∷ e6 ∷ e7 ∷ e8 ∷ e9 ∷ e10 ∷ e11 ∷ e12 ∷ e13 ∷ e14 ∷ e15 ∷ List.[]
 
 abbrev pub t1 : List.List Row.Entry
-t1 = e0·1 ∷ e1 ∷ e2 ∷ e3 ∷ e4·1 ∷ e5·1 ∷ e6 ∷ e7 ∷ e8 ∷ e9 ∷ e10 ∷ e11 ∷ e12 ∷ e13 ∷ List.[]
+t1 = e0·1 ∷ e1 ∷ e2 ∷ e3 ∷ e4 ∷ e5·1 ∷ e6·1 ∷ e7 ∷ e8 ∷ e9 ∷ e10 ∷ e11 ∷ e12 ∷ e13 ∷ e14 ∷ e15 ∷ List.[]
 
 abbrev pub t2 : List.List Row.Entry
-t2 = e0 ∷ e1 ∷ e2 ∷ e3 ∷ e4 ∷ e5 ∷ e6·1 ∷ e7 ∷ e8 ∷ e9 ∷ e10 ∷ e11 ∷ e12 ∷ e13 ∷ List.[]
+t2 = e0 ∷ e1 ∷ e2 ∷ e3 ∷ e4 ∷ e5 ∷ e6 ∷ e7·1 ∷ e8 ∷ e9 ∷ e10 ∷ e11 ∷ e12 ∷ e13 ∷ e14 ∷ e15 ∷ List.[]
 
 abbrev pub t3 : List.List Row.Entry
-t3 = e0 ∷ e1 ∷ e2 ∷ e3 ∷ e4·1 ∷ e5 ∷ e6·1 ∷ e7 ∷ e8 ∷ e9 ∷ e10 ∷ e11 ∷ e12 ∷ e13 ∷ List.[]
+t3 = e0 ∷ e1 ∷ e2 ∷ e3 ∷ e4 ∷ e5·1 ∷ e6 ∷ e7·1 ∷ e8 ∷ e9 ∷ e10 ∷ e11 ∷ e12 ∷ e13 ∷ e14 ∷ e15 ∷ List.[]
 
 abbrev pub t4 : List.List Row.Entry
-t4 = e0 ∷ e1 ∷ e2 ∷ e3 ∷ e4·1 ∷ e5 ∷ e6·1 ∷ e7 ∷ e8 ∷ e9 ∷ e10·1 ∷ e11 ∷ e12 ∷ e13 ∷ List.[]
+t4 = e0 ∷ e1 ∷ e2 ∷ e3 ∷ e4 ∷ e5·1 ∷ e6 ∷ e7·1 ∷ e8 ∷ e9 ∷ e10 ∷ e11 ∷ e12·1 ∷ e13 ∷ e14 ∷ e15 ∷ List.[]
 
 abbrev pub t5 : List.List Row.Entry
-t5 = e0 ∷ e1 ∷ e2 ∷ e3 ∷ e4·1 ∷ e5 ∷ e6·1 ∷ e7·1 ∷ e8 ∷ e9 ∷ e10·1 ∷ e11 ∷ e12 ∷ e13 ∷ List.[]
+t5 = e0 ∷ e1 ∷ e2 ∷ e3 ∷ e4 ∷ e5·1 ∷ e6 ∷ e7·1 ∷ e8·1 ∷ e9 ∷ e10 ∷ e11 ∷ e12·1 ∷ e13 ∷ e14 ∷ e15 ∷ List.[]
 
 abbrev pub t6 : List.List Row.Entry
-t6 = e0 ∷ e1 ∷ e2 ∷ e3 ∷ e4·1 ∷ e5 ∷ e6·1 ∷ e7·1 ∷ e8 ∷ e9 ∷ e10 ∷ e11 ∷ e12 ∷ e13 ∷ List.[]
+t6 = e0 ∷ e1 ∷ e2 ∷ e3 ∷ e4 ∷ e5·1 ∷ e6 ∷ e7·1 ∷ e8·1 ∷ e9 ∷ e10 ∷ e11 ∷ e12 ∷ e13 ∷ e14 ∷ e15 ∷ List.[]
 
 abbrev pub t7 : List.List Row.Entry
-t7 = e0 ∷ e1 ∷ e2 ∷ e3 ∷ e4·1 ∷ e5 ∷ e6·1 ∷ e7·1 ∷ e8·1 ∷ e9 ∷ e10 ∷ e11 ∷ e12 ∷ e13 ∷ List.[]
+t7 = e0 ∷ e1 ∷ e2 ∷ e3 ∷ e4 ∷ e5·1 ∷ e6 ∷ e7·1 ∷ e8·1 ∷ e9·1 ∷ e10 ∷ e11 ∷ e12 ∷ e13 ∷ e14 ∷ e15 ∷ List.[]
 
 abbrev pub t8 : List.List Row.Entry
-t8 = e0 ∷ e1 ∷ e2 ∷ e3 ∷ e4·1 ∷ e5·1 ∷ e6·1 ∷ e7·1 ∷ e8·1 ∷ e9 ∷ e10 ∷ e11 ∷ e12 ∷ e13 ∷ List.[]
+t8 = e0 ∷ e1 ∷ e2 ∷ e3 ∷ e4 ∷ e5·1 ∷ e6 ∷ e7·1 ∷ e8 ∷ e9·1 ∷ e10 ∷ e11 ∷ e12 ∷ e13 ∷ e14 ∷ e15 ∷ List.[]
 
 abbrev pub t9 : List.List Row.Entry
-t9 = e0 ∷ e1 ∷ e2 ∷ e3 ∷ e4·1 ∷ e5·1 ∷ e6·1 ∷ e7 ∷ e8·1 ∷ e9 ∷ e10 ∷ e11 ∷ e12 ∷ e13 ∷ List.[]
+t9 = e0 ∷ e1 ∷ e2 ∷ e3 ∷ e4 ∷ e5·1 ∷ e6 ∷ e7·1 ∷ e8 ∷ e9·1 ∷ e10·1 ∷ e11 ∷ e12 ∷ e13 ∷ e14 ∷ e15 ∷ List.[]
 
 abbrev pub t10 : List.List Row.Entry
-t10 = e0 ∷ e1 ∷ e2 ∷ e3 ∷ e4·1 ∷ e5·1 ∷ e6·1 ∷ e7 ∷ e8·1 ∷ e9 ∷ e10 ∷ e11·1 ∷ e12 ∷ e13 ∷ List.[]
+t10 = e0 ∷ e1 ∷ e2 ∷ e3 ∷ e4 ∷ e5·1 ∷ e6·1 ∷ e7·1 ∷ e8 ∷ e9·1 ∷ e10·1 ∷ e11 ∷ e12 ∷ e13 ∷ e14 ∷ e15 ∷ List.[]
 
 abbrev pub t11 : List.List Row.Entry
-t11 = e0 ∷ e1 ∷ e2 ∷ e3 ∷ e4·1 ∷ e5·1 ∷ e6·1 ∷ e7 ∷ e8·1 ∷ e9 ∷ e10 ∷ e11·1 ∷ e12·1 ∷ e13 ∷ List.[]
+t11 = e0 ∷ e1 ∷ e2 ∷ e3 ∷ e4 ∷ e5·1 ∷ e6·1 ∷ e7·1 ∷ e8 ∷ e9 ∷ e10·1 ∷ e11 ∷ e12 ∷ e13 ∷ e14 ∷ e15 ∷ List.[]
 
 abbrev pub t12 : List.List Row.Entry
-t12 = e0 ∷ e1 ∷ e2 ∷ e3 ∷ e4·1 ∷ e5·1 ∷ e6·1 ∷ e7 ∷ e8·1 ∷ e9 ∷ e10 ∷ e11·1 ∷ e12·1 ∷ e13·1 ∷ List.[]
+t12 = e0 ∷ e1 ∷ e2 ∷ e3 ∷ e4 ∷ e5·1 ∷ e6·1 ∷ e7·1 ∷ e8 ∷ e9 ∷ e10·1 ∷ e11 ∷ e12 ∷ e13·1 ∷ e14 ∷ e15 ∷ List.[]
 
 abbrev pub t13 : List.List Row.Entry
-t13 = e0 ∷ e1 ∷ e2 ∷ e3 ∷ e4·1 ∷ e5·1 ∷ e6·1 ∷ e7 ∷ e8·1 ∷ e9·1 ∷ e10 ∷ e11·1 ∷ e12·1 ∷ e13·1 ∷ List.[]
+t13 = e0 ∷ e1 ∷ e2 ∷ e3 ∷ e4 ∷ e5·1 ∷ e6·1 ∷ e7·1 ∷ e8 ∷ e9 ∷ e10·1 ∷ e11 ∷ e12 ∷ e13·1 ∷ e14·1 ∷ e15 ∷ List.[]
 
 abbrev pub t14 : List.List Row.Entry
-t14 = e0 ∷ e1 ∷ e2 ∷ e3 ∷ e4·1 ∷ e5·1 ∷ e6 ∷ e7 ∷ e8·1 ∷ e9·1 ∷ e10 ∷ e11·1 ∷ e12·1 ∷ e13·1 ∷ List.[]
+t14 = e0 ∷ e1 ∷ e2 ∷ e3 ∷ e4 ∷ e5·1 ∷ e6·1 ∷ e7·1 ∷ e8 ∷ e9 ∷ e10·1 ∷ e11 ∷ e12 ∷ e13·1 ∷ e14·1 ∷ e15·1 ∷ List.[]
 
 abbrev pub t15 : List.List Row.Entry
-t15 = e0 ∷ e1 ∷ e2 ∷ e3 ∷ e4·1 ∷ e5·1 ∷ e6 ∷ e7 ∷ e8·1 ∷ e9·1 ∷ e10 ∷ e11 ∷ e12·1 ∷ e13·1 ∷ List.[]
+t15 = e0 ∷ e1 ∷ e2 ∷ e3 ∷ e4 ∷ e5·1 ∷ e6·1 ∷ e7·1 ∷ e8 ∷ e9 ∷ e10·1 ∷ e11·1 ∷ e12 ∷ e13·1 ∷ e14·1 ∷ e15·1 ∷ List.[]
 
 abbrev pub t16 : List.List Row.Entry
-t16 = e0 ∷ e1 ∷ e2 ∷ e3 ∷ e4·1 ∷ e5·1 ∷ e6 ∷ e7 ∷ e8·1 ∷ e9·1 ∷ e10 ∷ e11 ∷ e12 ∷ e13·1 ∷ List.[]
+t16 = e0 ∷ e1 ∷ e2 ∷ e3 ∷ e4 ∷ e5·1 ∷ e6·1 ∷ e7 ∷ e8 ∷ e9 ∷ e10·1 ∷ e11·1 ∷ e12 ∷ e13·1 ∷ e14·1 ∷ e15·1 ∷ List.[]
 
 abbrev pub t17 : List.List Row.Entry
-t17 = e0 ∷ e1 ∷ e2 ∷ e3 ∷ e4·1 ∷ e5·1 ∷ e6 ∷ e7 ∷ e8·1 ∷ e9·1 ∷ e10 ∷ e11 ∷ e12 ∷ e13 ∷ List.[]
+t17 = e0 ∷ e1 ∷ e2 ∷ e3 ∷ e4 ∷ e5·1 ∷ e6·1 ∷ e7 ∷ e8 ∷ e9 ∷ e10·1 ∷ e11·1 ∷ e12 ∷ e13 ∷ e14·1 ∷ e15·1 ∷ List.[]
 
 abbrev pub t18 : List.List Row.Entry
-t18 = e0·1 ∷ e1 ∷ e2 ∷ e3 ∷ e4·1 ∷ e5·1 ∷ e6 ∷ e7 ∷ e8·1 ∷ e9·1 ∷ e10 ∷ e11 ∷ e12 ∷ e13 ∷ List.[]
+t18 = e0 ∷ e1 ∷ e2 ∷ e3 ∷ e4 ∷ e5·1 ∷ e6·1 ∷ e7 ∷ e8 ∷ e9 ∷ e10·1 ∷ e11·1 ∷ e12 ∷ e13 ∷ e14 ∷ e15·1 ∷ List.[]
 
 abbrev pub t19 : List.List Row.Entry
-t19 = e0·1 ∷ e1 ∷ e2 ∷ e3 ∷ e4·1 ∷ e5·1 ∷ e6 ∷ e7 ∷ e8 ∷ e9·1 ∷ e10 ∷ e11 ∷ e12 ∷ e13 ∷ List.[]
+t19 = e0 ∷ e1 ∷ e2 ∷ e3 ∷ e4 ∷ e5·1 ∷ e6·1 ∷ e7 ∷ e8 ∷ e9 ∷ e10·1 ∷ e11·1 ∷ e12 ∷ e13 ∷ e14 ∷ e15 ∷ List.[]
+
+abbrev pub t20 : List.List Row.Entry
+t20 = e0·1 ∷ e1 ∷ e2 ∷ e3 ∷ e4 ∷ e5·1 ∷ e6·1 ∷ e7 ∷ e8 ∷ e9 ∷ e10·1 ∷ e11·1 ∷ e12 ∷ e13 ∷ e14 ∷ e15 ∷ List.[]
+
+abbrev pub t21 : List.List Row.Entry
+t21 = e0·1 ∷ e1 ∷ e2 ∷ e3 ∷ e4 ∷ e5·1 ∷ e6·1 ∷ e7 ∷ e8 ∷ e9 ∷ e10 ∷ e11·1 ∷ e12 ∷ e13 ∷ e14 ∷ e15 ∷ List.[]
 
 abbrev pub T0 : Row.Cx
 T0 = record { locals = t0; slots = List.[] }
@@ -385,178 +421,202 @@ abbrev pub T19 : Row.Cx
 T19 = record { locals = t19; slots = List.[] }
 
 abbrev pub T20 : Row.Cx
-T20 = record { locals = t1; slots = List.[] }
+T20 = record { locals = t20; slots = List.[] }
+
+abbrev pub T21 : Row.Cx
+T21 = record { locals = t21; slots = List.[] }
+
+abbrev pub T22 : Row.Cx
+T22 = record { locals = t1; slots = List.[] }
 
 abbrev pub O0 : Typed.Outs
 O0 = record { next = Option.none; exits = List.[]; returns = Option.some T1 }
 
 module _ (claims· : Claims) where
   abbrev s0 : (bs : List.List Nat.ℕ) → Typed.Both T0 T2
-  s0 = λ bs. WayStmt.k-way-copy-out T0 (Row.out 4 (T0 .locals)) (λ u. Row.drop 4 (T0 .locals) u) 6
-      (Rows.whole (Declared'.row OpaqueRelayConfig.the-type)) (λ u. At.getAt (OpaqueRelayRuntime.the-type .parts) 4
-      (OpaqueRelayRuntime.struct .as-values (u .1 .1 .1 .1 .0))) (λ T′.
-      record { locals = Row.setRow 4 (4, Rows.whole (Declared'.row OpaqueRelayRuntime.the-type)) T′; slots = List.[] }) (λ
-      u T′ m′. Row.set 4 (4, Rows.whole (Declared'.row OpaqueRelayRuntime.the-type)) (u .1 .1 .1 .1 .0) T′ m′)
+  s0 = λ bs. WayStmt.k-way-copy-out T0 (Row.out 5 (T0 .locals)) (λ u. Row.drop 5 (T0 .locals) u) 7
+      (Rows.whole (Declared'.row OpaqueRelayConfig.the-type)) (λ u. At.getAt (OpaqueRelayRuntime.the-type .parts) 4 (OpaqueRelayRuntime.struct
+      .as-values (u .1 .1 .1 .1 .1 .0))) (λ T′. record {
+        locals = Row.setRow 5 (5, Rows.whole (Declared'.row OpaqueRelayRuntime.the-type)) T′;
+        slots = List.[];
+      }) (λ u T′ m′. Row.set 5 (5, Rows.whole (Declared'.row OpaqueRelayRuntime.the-type)) (u .1 .1 .1 .1 .1 .0) T′ m′)
       (λ u. Unit) λ u. Unit
 
   abbrev s1 : (bs : List.List Nat.ℕ) → Typed.Mo T2 → Typed.Mo T3
-  s1 = λ bs. Scalar.n-room T2 4 Laws'''.mir
+  s1 = λ bs. Scalar.n-room T2 5 Laws'''.mir
 
   abbrev s2 : (bs : List.List Nat.ℕ) → Typed.Mo T3 → Typed.Mo T4
-  s2 = λ bs. Make.n-enum-make NextDue.the-type T3 10 λ m. NextDue.enum .make (Logic.inl tt)
+  s2 = λ bs. Make.n-enum-make NextDue.the-type T3 12 λ m. NextDue.enum .make (Logic.inl tt)
 
   abbrev s3 : (bs : List.List Nat.ℕ) → Typed.Both T4 T5
   s3 = λ bs. Call.callB ps·0 r·0 (claims· .0) (claims· .1) T4 (
     record { pos = 1; ty = ref0; ref = λ x. x },
     (
-      record { pos = 5; st = List.[]; d = 0; at = λ x. x },
-      (record { pos = 10; st = List.[]; d = 0; at = λ x. x }, tt),
+      record { pos = 6; st = List.[]; d = 0; at = λ x. x },
+      (record { pos = 12; st = List.[]; d = 0; at = λ x. x }, tt),
     ),
-  ) 7 (0 ∷ List.[]) Laws''.mir
+  ) 8 (0 ∷ List.[]) Laws''.mir
 
   abbrev s4 : (bs : List.List Nat.ℕ) → Typed.Mo T5 → Typed.Mo T6
-  s4 = λ bs. Scalar.n-room T5 10 Laws''.mir
+  s4 = λ bs. Scalar.n-room T5 12 Laws''.mir
 
   abbrev s5 : (bs : List.List Nat.ℕ) → Typed.Both T6 T7
   s5 = λ bs. Call.callB ps·1 r·1 (claims· .2) (claims· .3) T6 (
     record { pos = 2; ty = ref1; ref = λ x. x },
-    (record { pos = 5; st = List.[]; d = 0; at = λ x. x }, (record { pos = 7; st = List.[]; d = 0; at = λ x. x }, tt)),
-  ) 8 (1 ∷ List.[]) Laws''.mir
+    (record { pos = 6; st = List.[]; d = 0; at = λ x. x }, (record { pos = 8; st = List.[]; d = 0; at = λ x. x }, tt)),
+  ) 9 (1 ∷ List.[]) Laws''.mir
 
   abbrev s6 : (bs : List.List Nat.ℕ) → Typed.Mo T7 → Typed.Mo T8
-  s6 = λ bs. Scalar.n-room T7 5 Laws''''.mir
+  s6 = λ bs. Scalar.n-room T7 8 Laws''.mir
 
-  abbrev s7 : (bs : List.List Nat.ℕ) → Typed.Mo T8 → Typed.Mo T9
-  s7 = λ bs. Scalar.n-room T8 7 Laws''.mir
+  abbrev s7 : (bs : List.List Nat.ℕ) → Typed.Both T8 T9
+  s7 = λ bs. Call.callB ps·2 r·2 (claims· .4) (claims· .5) T8 (
+    record { pos = 3; ty = ref2; ref = λ x. x },
+    (record { pos = 6; st = List.[]; d = 0; at = λ x. x }, (record { pos = 9; st = List.[]; d = 0; at = λ x. x }, tt)),
+  ) 10 (2 ∷ List.[]) Laws''.mir
 
   abbrev s8 : (bs : List.List Nat.ℕ) → Typed.Mo T9 → Typed.Mo T10
-  s8 = λ bs. Scalar.n-use T9 (Scalar.oFld 1 ((Syntax.field 1) ∷ List.[]) (Syntax.tyInt Syntax.w64) 8 Shared.lenV) 11
-      (Rows.sc-here (Row.sInt Syntax.w64)) (Row.sInt Syntax.w64 .of)
+  s8 = λ bs. Scalar.n-room T9 6 Laws''''.mir
 
   abbrev s9 : (bs : List.List Nat.ℕ) → Typed.Mo T10 → Typed.Mo T11
-  s9 = λ bs. Scalar.n-use T10 (Scalar.oFld 2 ((Syntax.field 1) ∷ List.[]) (Syntax.tyInt Syntax.w64) 8 Shared.lenV) 12
-      (Rows.sc-here (Row.sInt Syntax.w64)) (Row.sInt Syntax.w64 .of)
+  s9 = λ bs. Scalar.n-room T10 9 Laws''.mir
 
   abbrev s10 : (bs : List.List Nat.ℕ) → Typed.Mo T11 → Typed.Mo T12
-  s10 = λ bs. Scalar.n-use T11 (Scalar.oFld 3 ((Syntax.field 1) ∷ List.[]) (Syntax.tyInt Syntax.w64) 8 Shared.lenV) 13
+  s10 = λ bs. Scalar.n-use T11 (Scalar.oFld 1 ((Syntax.field 1) ∷ List.[]) (Syntax.tyInt Syntax.w64) 8 Shared.lenV) 13
       (Rows.sc-here (Row.sInt Syntax.w64)) (Row.sInt Syntax.w64 .of)
 
-  abbrev s11 : (bs : List.List Nat.ℕ) → Typed.Both T12 T13
-  s11 = λ bs. Call.callB ps·2 r·2 (claims· .4) (claims· .5) T12 (
-    record { pos = 6; st = List.[]; d = 0; at = λ x. x },
-    (Num.vAt 11 λ x. x, (Num.vAt 12 λ x. x, (Num.vAt 13 λ x. x, tt))),
-  ) 9 List.[] Syntax.tyBool
+  abbrev s11 : (bs : List.List Nat.ℕ) → Typed.Mo T12 → Typed.Mo T13
+  s11 = λ bs. Scalar.n-use T12 (Scalar.oFld 2 ((Syntax.field 1) ∷ List.[]) (Syntax.tyInt Syntax.w64) 8 Shared.lenV) 14
+      (Rows.sc-here (Row.sInt Syntax.w64)) (Row.sInt Syntax.w64 .of)
 
   abbrev s12 : (bs : List.List Nat.ℕ) → Typed.Mo T13 → Typed.Mo T14
-  s12 = λ bs. Scalar.n-room T13 6 Laws.mir
+  s12 = λ bs. Scalar.n-use T13 (Scalar.oFld 4 ((Syntax.field 1) ∷ List.[]) (Syntax.tyInt Syntax.w64) 8 Shared.lenV) 15
+      (Rows.sc-here (Row.sInt Syntax.w64)) (Row.sInt Syntax.w64 .of)
 
-  abbrev s13 : (bs : List.List Nat.ℕ) → Typed.Mo T14 → Typed.Mo T15
-  s13 = λ bs. Scalar.n-room T14 11 (Syntax.tyInt Syntax.w64)
+  abbrev s13 : (bs : List.List Nat.ℕ) → Typed.Both T14 T15
+  s13 = λ bs. Call.callB ps·3 r·3 (claims· .6) (claims· .7) T14 (
+    record { pos = 7; st = List.[]; d = 0; at = λ x. x },
+    (Num.vAt 13 λ x. x, (Num.vAt 14 λ x. x, (Num.vAt 15 λ x. x, tt))),
+  ) 11 List.[] Syntax.tyBool
 
   abbrev s14 : (bs : List.List Nat.ℕ) → Typed.Mo T15 → Typed.Mo T16
-  s14 = λ bs. Scalar.n-room T15 12 (Syntax.tyInt Syntax.w64)
+  s14 = λ bs. Scalar.n-room T15 7 Laws.mir
 
   abbrev s15 : (bs : List.List Nat.ℕ) → Typed.Mo T16 → Typed.Mo T17
   s15 = λ bs. Scalar.n-room T16 13 (Syntax.tyInt Syntax.w64)
 
-  abbrev s16 : (bs : List.List Nat.ℕ) → Typed.Both T17 T18
-  s16 = λ bs. Call.callB ps·3 r·3 (claims· .6) (claims· .7) T17 (
-    Bool.bAt 9 λ x. x,
-    (record { pos = 8; st = List.[]; d = 0; at = λ x. x }, tt),
-  ) 0 List.[] Laws'.mir
+  abbrev s16 : (bs : List.List Nat.ℕ) → Typed.Mo T17 → Typed.Mo T18
+  s16 = λ bs. Scalar.n-room T17 14 (Syntax.tyInt Syntax.w64)
 
   abbrev s17 : (bs : List.List Nat.ℕ) → Typed.Mo T18 → Typed.Mo T19
-  s17 = λ bs. Scalar.n-room T18 8 Laws''.mir
+  s17 = λ bs. Scalar.n-room T18 15 (Syntax.tyInt Syntax.w64)
 
-  abbrev s18 : (bs : List.List Nat.ℕ) → Typed.Mo T19 → Typed.Mo T20
-  s18 = λ bs. Scalar.n-room T19 9 Syntax.tyBool
+  abbrev s18 : (bs : List.List Nat.ℕ) → Typed.Both T19 T20
+  s18 = λ bs. Call.callB ps·4 r·4 (claims· .8) (claims· .9) T19 (
+    Bool.bAt 11 λ x. x,
+    (record { pos = 10; st = List.[]; d = 0; at = λ x. x }, tt),
+  ) 0 List.[] Laws'.mir
 
-  module _ (Pre· : (κs : Lifetimes.Lfts 3) → Kinds.Dens κs ps → Type 0) (Post· : (κs : Lifetimes.Lfts 3) →
-      (a : Kinds.Dens κs ps) → Kinds.Plain 3 ps r κs) where
+  abbrev s19 : (bs : List.List Nat.ℕ) → Typed.Mo T20 → Typed.Mo T21
+  s19 = λ bs. Scalar.n-room T20 10 Laws''.mir
+
+  abbrev s20 : (bs : List.List Nat.ℕ) → Typed.Mo T21 → Typed.Mo T22
+  s20 = λ bs. Scalar.n-room T21 11 Syntax.tyBool
+
+  module _ (Pre· : (κs : Lifetimes.Lfts 4) → Kinds.Dens κs ps → Type 0) (Post· : (κs : Lifetimes.Lfts 4) →
+      (a : Kinds.Dens κs ps) → Kinds.Plain 4 ps r κs) where
     module _ (M : Type 1) where
       abbrev pub Closed : Type 2
       Closed = (𝓤 : URA.URA M) (H : Wp.Heap 𝓤) (A : Atoms.Atoms 𝓤) (W : Kit.Given 𝓤 H A) (𝓣 : Wp.Tables 𝓤 H) (known0 :
           Plain.Known 𝓤 H A W 𝓣 1 ps·0 r·0 (claims· .0) (claims· .1) "hnsr_circuit::tables::pending::pending_due") (known1
           : Plain.Known 𝓤 H A W 𝓣 1 ps·1 r·1 (claims· .2) (claims· .3) "hnsr_circuit::tables::circuits::circuit_due") (known2
-          : Plain.Known 𝓤 H A W 𝓣 0 ps·2 r·2 (claims· .4) (claims· .5) "hnsr_circuit::entry::too_few") (known3 :
-          Plain.Known 𝓤 H A W 𝓣 0 ps·3 r·3 (claims· .6) (claims· .7) "hnsr_circuit::calls::silent::due_told") →
-          Statement.Triple 𝓤 (Wp.WpFn 𝓤 H (𝓣 .C) (𝓣 .Λ) (Function.fnOf 3 ps r xs m hs body))
-          (Function.plainOf 𝓤 H A 3 ps r Pre· Post·)
+          : Plain.Known 𝓤 H A W 𝓣 1 ps·2 r·2 (claims· .4) (claims· .5) "hnsr_circuit::tables::ledger::usage_due") (known3
+          : Plain.Known 𝓤 H A W 𝓣 0 ps·3 r·3 (claims· .6) (claims· .7) "hnsr_circuit::entry::too_few") (known4 :
+          Plain.Known 𝓤 H A W 𝓣 0 ps·4 r·4 (claims· .8) (claims· .9) "hnsr_circuit::calls::silent::due_told") →
+          Statement.Triple 𝓤 (Wp.WpFn 𝓤 H (𝓣 .C) (𝓣 .Λ) (Function.fnOf 4 ps r xs m hs body))
+          (Function.plainOf 𝓤 H A 4 ps r Pre· Post·)
 
     module _ where
-      abbrev at0 : (bs : List.List Nat.ℕ) → Typed.TF T20 O0
+      abbrev at0 : (bs : List.List Nat.ℕ) → Typed.TF T22 O0
       at0 = λ bs. Typed.atRet O0
 
-      abbrev at1 : (bs : List.List Nat.ℕ) → Typed.TF T19 O0
-      at1 = λ bs. λ Ψ. Typed.pass T19 T20 (s18 bs) (at0 bs Ψ)
+      abbrev at1 : (bs : List.List Nat.ℕ) → Typed.TF T21 O0
+      at1 = λ bs. λ Ψ. Typed.pass T21 T22 (s20 bs) (at0 bs Ψ)
 
-      abbrev at2 : (bs : List.List Nat.ℕ) → Typed.TF T18 O0
-      at2 = λ bs. λ Ψ. Typed.pass T18 T19 (s17 bs) (at1 bs Ψ)
+      abbrev at2 : (bs : List.List Nat.ℕ) → Typed.TF T20 O0
+      at2 = λ bs. λ Ψ. Typed.pass T20 T21 (s19 bs) (at1 bs Ψ)
 
-      abbrev at3 : (bs : List.List Nat.ℕ) → Typed.TF T17 O0
-      at3 = λ bs. λ Ψ. Typed.both (s16 bs) (at2 bs Ψ)
+      abbrev at3 : (bs : List.List Nat.ℕ) → Typed.TF T19 O0
+      at3 = λ bs. λ Ψ. Typed.both (s18 bs) (at2 bs Ψ)
 
-      abbrev at4 : (bs : List.List Nat.ℕ) → Typed.TF T16 O0
-      at4 = λ bs. λ Ψ. Typed.pass T16 T17 (s15 bs) (at3 bs Ψ)
+      abbrev at4 : (bs : List.List Nat.ℕ) → Typed.TF T18 O0
+      at4 = λ bs. λ Ψ. Typed.pass T18 T19 (s17 bs) (at3 bs Ψ)
 
-      abbrev at5 : (bs : List.List Nat.ℕ) → Typed.TF T15 O0
-      at5 = λ bs. λ Ψ. Typed.pass T15 T16 (s14 bs) (at4 bs Ψ)
+      abbrev at5 : (bs : List.List Nat.ℕ) → Typed.TF T17 O0
+      at5 = λ bs. λ Ψ. Typed.pass T17 T18 (s16 bs) (at4 bs Ψ)
 
-      abbrev at6 : (bs : List.List Nat.ℕ) → Typed.TF T14 O0
-      at6 = λ bs. λ Ψ. Typed.pass T14 T15 (s13 bs) (at5 bs Ψ)
+      abbrev at6 : (bs : List.List Nat.ℕ) → Typed.TF T16 O0
+      at6 = λ bs. λ Ψ. Typed.pass T16 T17 (s15 bs) (at5 bs Ψ)
 
-      abbrev at7 : (bs : List.List Nat.ℕ) → Typed.TF T13 O0
-      at7 = λ bs. λ Ψ. Typed.pass T13 T14 (s12 bs) (at6 bs Ψ)
+      abbrev at7 : (bs : List.List Nat.ℕ) → Typed.TF T15 O0
+      at7 = λ bs. λ Ψ. Typed.pass T15 T16 (s14 bs) (at6 bs Ψ)
 
-      abbrev at8 : (bs : List.List Nat.ℕ) → Typed.TF T12 O0
-      at8 = λ bs. λ Ψ. Typed.both (s11 bs) (at7 bs Ψ)
+      abbrev at8 : (bs : List.List Nat.ℕ) → Typed.TF T14 O0
+      at8 = λ bs. λ Ψ. Typed.both (s13 bs) (at7 bs Ψ)
 
-      abbrev at9 : (bs : List.List Nat.ℕ) → Typed.TF T11 O0
-      at9 = λ bs. λ Ψ. Typed.pass T11 T12 (s10 bs) (at8 bs Ψ)
+      abbrev at9 : (bs : List.List Nat.ℕ) → Typed.TF T13 O0
+      at9 = λ bs. λ Ψ. Typed.pass T13 T14 (s12 bs) (at8 bs Ψ)
 
-      abbrev at10 : (bs : List.List Nat.ℕ) → Typed.TF T10 O0
-      at10 = λ bs. λ Ψ. Typed.pass T10 T11 (s9 bs) (at9 bs Ψ)
+      abbrev at10 : (bs : List.List Nat.ℕ) → Typed.TF T12 O0
+      at10 = λ bs. λ Ψ. Typed.pass T12 T13 (s11 bs) (at9 bs Ψ)
 
-      abbrev at11 : (bs : List.List Nat.ℕ) → Typed.TF T9 O0
-      at11 = λ bs. λ Ψ. Typed.pass T9 T10 (s8 bs) (at10 bs Ψ)
+      abbrev at11 : (bs : List.List Nat.ℕ) → Typed.TF T11 O0
+      at11 = λ bs. λ Ψ. Typed.pass T11 T12 (s10 bs) (at10 bs Ψ)
 
-      abbrev at12 : (bs : List.List Nat.ℕ) → Typed.TF T8 O0
-      at12 = λ bs. λ Ψ. Typed.pass T8 T9 (s7 bs) (at11 bs Ψ)
+      abbrev at12 : (bs : List.List Nat.ℕ) → Typed.TF T10 O0
+      at12 = λ bs. λ Ψ. Typed.pass T10 T11 (s9 bs) (at11 bs Ψ)
 
-      abbrev at13 : (bs : List.List Nat.ℕ) → Typed.TF T7 O0
-      at13 = λ bs. λ Ψ. Typed.pass T7 T8 (s6 bs) (at12 bs Ψ)
+      abbrev at13 : (bs : List.List Nat.ℕ) → Typed.TF T9 O0
+      at13 = λ bs. λ Ψ. Typed.pass T9 T10 (s8 bs) (at12 bs Ψ)
 
-      abbrev at14 : (bs : List.List Nat.ℕ) → Typed.TF T6 O0
-      at14 = λ bs. λ Ψ. Typed.both (s5 bs) (at13 bs Ψ)
+      abbrev at14 : (bs : List.List Nat.ℕ) → Typed.TF T8 O0
+      at14 = λ bs. λ Ψ. Typed.both (s7 bs) (at13 bs Ψ)
 
-      abbrev at15 : (bs : List.List Nat.ℕ) → Typed.TF T5 O0
-      at15 = λ bs. λ Ψ. Typed.pass T5 T6 (s4 bs) (at14 bs Ψ)
+      abbrev at15 : (bs : List.List Nat.ℕ) → Typed.TF T7 O0
+      at15 = λ bs. λ Ψ. Typed.pass T7 T8 (s6 bs) (at14 bs Ψ)
 
-      abbrev at16 : (bs : List.List Nat.ℕ) → Typed.TF T4 O0
-      at16 = λ bs. λ Ψ. Typed.both (s3 bs) (at15 bs Ψ)
+      abbrev at16 : (bs : List.List Nat.ℕ) → Typed.TF T6 O0
+      at16 = λ bs. λ Ψ. Typed.both (s5 bs) (at15 bs Ψ)
 
-      abbrev at17 : (bs : List.List Nat.ℕ) → Typed.TF T3 O0
-      at17 = λ bs. λ Ψ. Typed.pass T3 T4 (s2 bs) (at16 bs Ψ)
+      abbrev at17 : (bs : List.List Nat.ℕ) → Typed.TF T5 O0
+      at17 = λ bs. λ Ψ. Typed.pass T5 T6 (s4 bs) (at16 bs Ψ)
 
-      abbrev at18 : (bs : List.List Nat.ℕ) → Typed.TF T2 O0
-      at18 = λ bs. λ Ψ. Typed.pass T2 T3 (s1 bs) (at17 bs Ψ)
+      abbrev at18 : (bs : List.List Nat.ℕ) → Typed.TF T4 O0
+      at18 = λ bs. λ Ψ. Typed.both (s3 bs) (at17 bs Ψ)
 
-      abbrev at19 : (bs : List.List Nat.ℕ) → Typed.TF T0 O0
-      at19 = λ bs. λ Ψ. Typed.both (s0 bs) (at18 bs Ψ)
+      abbrev at19 : (bs : List.List Nat.ℕ) → Typed.TF T3 O0
+      at19 = λ bs. λ Ψ. Typed.pass T3 T4 (s2 bs) (at18 bs Ψ)
+
+      abbrev at20 : (bs : List.List Nat.ℕ) → Typed.TF T2 O0
+      at20 = λ bs. λ Ψ. Typed.pass T2 T3 (s1 bs) (at19 bs Ψ)
+
+      abbrev at21 : (bs : List.List Nat.ℕ) → Typed.TF T0 O0
+      at21 = λ bs. λ Ψ. Typed.both (s0 bs) (at20 bs Ψ)
 
       abbrev pub Φ : (bs : List.List Nat.ℕ) → Typed.TF T0 O0
-      Φ = λ bs. at19 bs
+      Φ = λ bs. at21 bs
 
       module _ {M : Type 1} (𝓤 : URA.URA M) (H : Wp.Heap 𝓤) (A : Atoms.Atoms 𝓤) (W : Kit.Given 𝓤 H A)
           (𝓣 : Wp.Tables 𝓤 H) where
         abbrev Knowns : Type 1
         Knowns = Plain.Known 𝓤 H A W 𝓣 1 ps·0 r·0 (claims· .0) (claims· .1)
             "hnsr_circuit::tables::pending::pending_due" × Plain.Known 𝓤 H A W 𝓣 1 ps·1 r·1 (claims· .2) (claims· .3)
-            "hnsr_circuit::tables::circuits::circuit_due" × Plain.Known 𝓤 H A W 𝓣 0 ps·2 r·2 (claims· .4) (claims· .5)
-            "hnsr_circuit::entry::too_few" × Plain.Known 𝓤 H A W 𝓣 0 ps·3 r·3 (claims· .6) (claims· .7)
+            "hnsr_circuit::tables::circuits::circuit_due" × Plain.Known 𝓤 H A W 𝓣 1 ps·2 r·2 (claims· .4) (claims· .5)
+            "hnsr_circuit::tables::ledger::usage_due" × Plain.Known 𝓤 H A W 𝓣 0 ps·3 r·3 (claims· .6) (claims· .7)
+            "hnsr_circuit::entry::too_few" × Plain.Known 𝓤 H A W 𝓣 0 ps·4 r·4 (claims· .8) (claims· .9)
             "hnsr_circuit::calls::silent::due_told"
 
-      module _ (κs : Lifetimes.Lfts 3) (qs : Lifetimes.Shares 3) where
+      module _ (κs : Lifetimes.Lfts 4) (qs : Lifetimes.Shares 4) where
         abbrev life0 : Row.Life
         life0 = Row.lease (κs .0) (qs .0)
 
@@ -566,95 +626,104 @@ module _ (claims· : Claims) where
         abbrev life2 : Row.Life
         life2 = Row.lease (κs .1 .1 .0) (qs .1 .1 .0)
 
+        abbrev life3 : Row.Life
+        life3 = Row.lease (κs .1 .1 .1 .0) (qs .1 .1 .1 .0)
+
         abbrev G0 : Row.Cx
-        G0 = record { locals = t0; slots = life0 ∷ life1 ∷ life2 ∷ List.[] }
+        G0 = record { locals = t0; slots = life0 ∷ life1 ∷ life2 ∷ life3 ∷ List.[] }
 
         abbrev G1 : Row.Cx
-        G1 = record { locals = t1; slots = life0 ∷ life1 ∷ life2 ∷ List.[] }
+        G1 = record { locals = t1; slots = life0 ∷ life1 ∷ life2 ∷ life3 ∷ List.[] }
 
         abbrev G2 : Row.Cx
-        G2 = record { locals = t2; slots = life0 ∷ life1 ∷ life2 ∷ List.[] }
+        G2 = record { locals = t2; slots = life0 ∷ life1 ∷ life2 ∷ life3 ∷ List.[] }
 
         abbrev G3 : Row.Cx
-        G3 = record { locals = t3; slots = life0 ∷ life1 ∷ life2 ∷ List.[] }
+        G3 = record { locals = t3; slots = life0 ∷ life1 ∷ life2 ∷ life3 ∷ List.[] }
 
         abbrev G4 : Row.Cx
-        G4 = record { locals = t4; slots = life0 ∷ life1 ∷ life2 ∷ List.[] }
+        G4 = record { locals = t4; slots = life0 ∷ life1 ∷ life2 ∷ life3 ∷ List.[] }
 
         abbrev G5 : Row.Cx
-        G5 = record { locals = t5; slots = life0 ∷ life1 ∷ life2 ∷ List.[] }
+        G5 = record { locals = t5; slots = life0 ∷ life1 ∷ life2 ∷ life3 ∷ List.[] }
 
         abbrev G6 : Row.Cx
-        G6 = record { locals = t6; slots = life0 ∷ life1 ∷ life2 ∷ List.[] }
+        G6 = record { locals = t6; slots = life0 ∷ life1 ∷ life2 ∷ life3 ∷ List.[] }
 
         abbrev G7 : Row.Cx
-        G7 = record { locals = t7; slots = life0 ∷ life1 ∷ life2 ∷ List.[] }
+        G7 = record { locals = t7; slots = life0 ∷ life1 ∷ life2 ∷ life3 ∷ List.[] }
 
         abbrev G8 : Row.Cx
-        G8 = record { locals = t8; slots = life0 ∷ life1 ∷ life2 ∷ List.[] }
+        G8 = record { locals = t8; slots = life0 ∷ life1 ∷ life2 ∷ life3 ∷ List.[] }
 
         abbrev G9 : Row.Cx
-        G9 = record { locals = t9; slots = life0 ∷ life1 ∷ life2 ∷ List.[] }
+        G9 = record { locals = t9; slots = life0 ∷ life1 ∷ life2 ∷ life3 ∷ List.[] }
 
         abbrev G10 : Row.Cx
-        G10 = record { locals = t10; slots = life0 ∷ life1 ∷ life2 ∷ List.[] }
+        G10 = record { locals = t10; slots = life0 ∷ life1 ∷ life2 ∷ life3 ∷ List.[] }
 
         abbrev G11 : Row.Cx
-        G11 = record { locals = t11; slots = life0 ∷ life1 ∷ life2 ∷ List.[] }
+        G11 = record { locals = t11; slots = life0 ∷ life1 ∷ life2 ∷ life3 ∷ List.[] }
 
         abbrev G12 : Row.Cx
-        G12 = record { locals = t12; slots = life0 ∷ life1 ∷ life2 ∷ List.[] }
+        G12 = record { locals = t12; slots = life0 ∷ life1 ∷ life2 ∷ life3 ∷ List.[] }
 
         abbrev G13 : Row.Cx
-        G13 = record { locals = t13; slots = life0 ∷ life1 ∷ life2 ∷ List.[] }
+        G13 = record { locals = t13; slots = life0 ∷ life1 ∷ life2 ∷ life3 ∷ List.[] }
 
         abbrev G14 : Row.Cx
-        G14 = record { locals = t14; slots = life0 ∷ life1 ∷ life2 ∷ List.[] }
+        G14 = record { locals = t14; slots = life0 ∷ life1 ∷ life2 ∷ life3 ∷ List.[] }
 
         abbrev G15 : Row.Cx
-        G15 = record { locals = t15; slots = life0 ∷ life1 ∷ life2 ∷ List.[] }
+        G15 = record { locals = t15; slots = life0 ∷ life1 ∷ life2 ∷ life3 ∷ List.[] }
 
         abbrev G16 : Row.Cx
-        G16 = record { locals = t16; slots = life0 ∷ life1 ∷ life2 ∷ List.[] }
+        G16 = record { locals = t16; slots = life0 ∷ life1 ∷ life2 ∷ life3 ∷ List.[] }
 
         abbrev G17 : Row.Cx
-        G17 = record { locals = t17; slots = life0 ∷ life1 ∷ life2 ∷ List.[] }
+        G17 = record { locals = t17; slots = life0 ∷ life1 ∷ life2 ∷ life3 ∷ List.[] }
 
         abbrev G18 : Row.Cx
-        G18 = record { locals = t18; slots = life0 ∷ life1 ∷ life2 ∷ List.[] }
+        G18 = record { locals = t18; slots = life0 ∷ life1 ∷ life2 ∷ life3 ∷ List.[] }
 
         abbrev G19 : Row.Cx
-        G19 = record { locals = t19; slots = life0 ∷ life1 ∷ life2 ∷ List.[] }
+        G19 = record { locals = t19; slots = life0 ∷ life1 ∷ life2 ∷ life3 ∷ List.[] }
 
         abbrev G20 : Row.Cx
-        G20 = record { locals = t1; slots = life0 ∷ life1 ∷ life2 ∷ List.[] }
+        G20 = record { locals = t20; slots = life0 ∷ life1 ∷ life2 ∷ life3 ∷ List.[] }
+
+        abbrev G21 : Row.Cx
+        G21 = record { locals = t21; slots = life0 ∷ life1 ∷ life2 ∷ life3 ∷ List.[] }
+
+        abbrev G22 : Row.Cx
+        G22 = record { locals = t1; slots = life0 ∷ life1 ∷ life2 ∷ life3 ∷ List.[] }
 
         abbrev Δ0 : Typed.Outs
         Δ0 = record { next = Option.none; exits = List.[]; returns = Option.some G1 }
 
         module _ {M : Type 1} (𝓤 : URA.URA M) (H : Wp.Heap 𝓤) (A : Atoms.Atoms 𝓤) (W : Kit.Given 𝓤 H A)
             (𝓣 : Wp.Tables 𝓤 H) (known : Knowns 𝓤 H A W 𝓣) (bs : List.List Nat.ℕ)
-            (bd : Lifetimes.AllOutlive 3 (Kinds.osR r) κs) where
+            (bd : Lifetimes.AllOutlive 4 (Kinds.osR r) κs) where
           abbrev E : Wp.Env 𝓤 H
           E = Frame.EnvOf 𝓤 H ((Kinds.tyR r) ∷ (Enter.tysP ps xs)) bs
 
-          d0 : Typed.Typed 𝓤 H A 𝓣 E G20 b9 Δ0 (at0 bs)
+          d0 : Typed.Typed 𝓤 H A 𝓣 E G22 b10 Δ0 (at0 bs)
           d0 = Typed.t-return 𝓤 H A W 𝓣 E Δ0 tt
 
-          d1 : Typed.Typed 𝓤 H A 𝓣 E G19 b9 Δ0 (at1 bs)
-          d1 = Typed.g-pre 𝓤 H A W 𝓣 E G19 G20 b9 Δ0 (Typed.pass T19 T20 (s18 bs)) (at0 bs) (Scalar.g-room 𝓤 H A W E
-              G19 9 Syntax.tyBool (Scalar.room-sc 𝓤 H A W Row.sBool)) d0
+          d1 : Typed.Typed 𝓤 H A 𝓣 E G21 b10 Δ0 (at1 bs)
+          d1 = Typed.g-pre 𝓤 H A W 𝓣 E G21 G22 b10 Δ0 (Typed.pass T21 T22 (s20 bs)) (at0 bs) (Scalar.g-room 𝓤 H A W E
+              G21 11 Syntax.tyBool (Scalar.room-sc 𝓤 H A W Row.sBool)) d0
 
-          d2 : Typed.Typed 𝓤 H A 𝓣 E G18 b9 Δ0 (at2 bs)
-          d2 = Typed.g-pre 𝓤 H A W 𝓣 E G18 G19 b9 Δ0 (Typed.pass T18 T19 (s17 bs)) (at1 bs) (Scalar.g-room 𝓤 H A W E
-              G18 8 Laws''.mir (Local.room-whole 𝓤 H A W (Declared.row NextDue.the-type) Laws''.mir Path.refl)) d1
+          d2 : Typed.Typed 𝓤 H A 𝓣 E G20 b10 Δ0 (at2 bs)
+          d2 = Typed.g-pre 𝓤 H A W 𝓣 E G20 G21 b10 Δ0 (Typed.pass T20 T21 (s19 bs)) (at1 bs) (Scalar.g-room 𝓤 H A W E
+              G20 10 Laws''.mir (Local.room-whole 𝓤 H A W (Declared.row NextDue.the-type) Laws''.mir Path.refl)) d1
 
-          d3 : Typed.Typed 𝓤 H A 𝓣 E G17 b10 Δ0 (at3 bs)
-          d3 = Typed.s-seq 𝓤 H A W 𝓣 E G17 G18 b8 b9 Δ0 (Typed.both (s16 bs)) (at2 bs) (Plain.t-call-plain 𝓤 H A W 𝓣 0
-              ps·3 r·3 (claims· .6) (claims· .7) "hnsr_circuit::calls::silent::due_told" (known .3) E (λ pos β. β) G17 (
-                Bool.bAt 9 λ x. x,
-                (record { pos = 8; st = List.[]; d = 0; at = λ x. x }, tt),
-              ) 0 List.[] (Call.sub-id 𝓤 H A W (G17 .slots)) (
+          d3 : Typed.Typed 𝓤 H A 𝓣 E G19 b11 Δ0 (at3 bs)
+          d3 = Typed.s-seq 𝓤 H A W 𝓣 E G19 G20 b9 b10 Δ0 (Typed.both (s18 bs)) (at2 bs) (Plain.t-call-plain 𝓤 H A W 𝓣 0
+              ps·4 r·4 (claims· .8) (claims· .9) "hnsr_circuit::calls::silent::due_told" (known .4) E (λ pos β. β) G19 (
+                Bool.bAt 11 λ x. x,
+                (record { pos = 10; st = List.[]; d = 0; at = λ x. x }, tt),
+              ) 0 List.[] (Call.sub-id 𝓤 H A W (G19 .slots)) (
                 (Scalar.reads-sc 𝓤 H A W Row.sBool, Path.refl),
                 (
                   (
@@ -669,29 +738,29 @@ module _ (claims· : Claims) where
                 ),
               ) (Reads.room-gone 𝓤 H A Laws'.mir) tt Path.refl) d2
 
-          d4 : Typed.Typed 𝓤 H A 𝓣 E G16 b10 Δ0 (at4 bs)
-          d4 = Typed.g-pre 𝓤 H A W 𝓣 E G16 G17 b10 Δ0 (Typed.pass T16 T17 (s15 bs)) (at3 bs) (Scalar.g-room 𝓤 H A W E
-              G16 13 (Syntax.tyInt Syntax.w64) (Scalar.room-sc 𝓤 H A W (Row.sInt Syntax.w64))) d3
+          d4 : Typed.Typed 𝓤 H A 𝓣 E G18 b11 Δ0 (at4 bs)
+          d4 = Typed.g-pre 𝓤 H A W 𝓣 E G18 G19 b11 Δ0 (Typed.pass T18 T19 (s17 bs)) (at3 bs) (Scalar.g-room 𝓤 H A W E
+              G18 15 (Syntax.tyInt Syntax.w64) (Scalar.room-sc 𝓤 H A W (Row.sInt Syntax.w64))) d3
 
-          d5 : Typed.Typed 𝓤 H A 𝓣 E G15 b10 Δ0 (at5 bs)
-          d5 = Typed.g-pre 𝓤 H A W 𝓣 E G15 G16 b10 Δ0 (Typed.pass T15 T16 (s14 bs)) (at4 bs) (Scalar.g-room 𝓤 H A W E
-              G15 12 (Syntax.tyInt Syntax.w64) (Scalar.room-sc 𝓤 H A W (Row.sInt Syntax.w64))) d4
+          d5 : Typed.Typed 𝓤 H A 𝓣 E G17 b11 Δ0 (at5 bs)
+          d5 = Typed.g-pre 𝓤 H A W 𝓣 E G17 G18 b11 Δ0 (Typed.pass T17 T18 (s16 bs)) (at4 bs) (Scalar.g-room 𝓤 H A W E
+              G17 14 (Syntax.tyInt Syntax.w64) (Scalar.room-sc 𝓤 H A W (Row.sInt Syntax.w64))) d4
 
-          d6 : Typed.Typed 𝓤 H A 𝓣 E G14 b10 Δ0 (at6 bs)
-          d6 = Typed.g-pre 𝓤 H A W 𝓣 E G14 G15 b10 Δ0 (Typed.pass T14 T15 (s13 bs)) (at5 bs) (Scalar.g-room 𝓤 H A W E
-              G14 11 (Syntax.tyInt Syntax.w64) (Scalar.room-sc 𝓤 H A W (Row.sInt Syntax.w64))) d5
+          d6 : Typed.Typed 𝓤 H A 𝓣 E G16 b11 Δ0 (at6 bs)
+          d6 = Typed.g-pre 𝓤 H A W 𝓣 E G16 G17 b11 Δ0 (Typed.pass T16 T17 (s15 bs)) (at5 bs) (Scalar.g-room 𝓤 H A W E
+              G16 13 (Syntax.tyInt Syntax.w64) (Scalar.room-sc 𝓤 H A W (Row.sInt Syntax.w64))) d5
 
-          d7 : Typed.Typed 𝓤 H A 𝓣 E G13 b10 Δ0 (at7 bs)
-          d7 = Typed.g-pre 𝓤 H A W 𝓣 E G13 G14 b10 Δ0 (Typed.pass T13 T14 (s12 bs)) (at6 bs) (Scalar.g-room 𝓤 H A W E
-              G13 6 Laws.mir (Local.room-whole 𝓤 H A W (Declared'.row OpaqueRelayConfig.the-type) Laws.mir Path.refl))
+          d7 : Typed.Typed 𝓤 H A 𝓣 E G15 b11 Δ0 (at7 bs)
+          d7 = Typed.g-pre 𝓤 H A W 𝓣 E G15 G16 b11 Δ0 (Typed.pass T15 T16 (s14 bs)) (at6 bs) (Scalar.g-room 𝓤 H A W E
+              G15 7 Laws.mir (Local.room-whole 𝓤 H A W (Declared'.row OpaqueRelayConfig.the-type) Laws.mir Path.refl))
               d6
 
-          d8 : Typed.Typed 𝓤 H A 𝓣 E G12 b11 Δ0 (at8 bs)
-          d8 = Typed.s-seq 𝓤 H A W 𝓣 E G12 G13 b7 b10 Δ0 (Typed.both (s11 bs)) (at7 bs) (Plain.t-call-plain 𝓤 H A W 𝓣 0
-              ps·2 r·2 (claims· .4) (claims· .5) "hnsr_circuit::entry::too_few" (known .2) E (λ pos β. β) G12 (
-                record { pos = 6; st = List.[]; d = 0; at = λ x. x },
-                (Num.vAt 11 λ x. x, (Num.vAt 12 λ x. x, (Num.vAt 13 λ x. x, tt))),
-              ) 9 List.[] (Call.sub-id 𝓤 H A W (G12 .slots)) (
+          d8 : Typed.Typed 𝓤 H A 𝓣 E G14 b12 Δ0 (at8 bs)
+          d8 = Typed.s-seq 𝓤 H A W 𝓣 E G14 G15 b8 b11 Δ0 (Typed.both (s13 bs)) (at7 bs) (Plain.t-call-plain 𝓤 H A W 𝓣 0
+              ps·3 r·3 (claims· .6) (claims· .7) "hnsr_circuit::entry::too_few" (known .3) E (λ pos β. β) G14 (
+                record { pos = 7; st = List.[]; d = 0; at = λ x. x },
+                (Num.vAt 13 λ x. x, (Num.vAt 14 λ x. x, (Num.vAt 15 λ x. x, tt))),
+              ) 11 List.[] (Call.sub-id 𝓤 H A W (G14 .slots)) (
                 (
                   Yields.yields-copy 𝓤 H A W (λ ρ. Unit) (Declared'.row OpaqueRelayConfig.the-type) Path.refl (Copies.cStruct
                       OpaqueRelayConfig.the-type Laws.the-laws Laws.the-copy .copy 𝓤 H A W)
@@ -709,19 +778,19 @@ module _ (claims· : Claims) where
                 ),
               ) (Reads.room-gone 𝓤 H A Syntax.tyBool) tt Path.refl) d7
 
-          d9 : Typed.Typed 𝓤 H A 𝓣 E G11 b12 Δ0 (at9 bs)
-          d9 = Typed.s-seq 𝓤 H A W 𝓣 E G11 G12 b6 b11 Δ0 (Typed.pass T11 T12 (s10 bs)) (at8 bs) (Scalar.t-use 𝓤 H A W E
-              𝓣 G11 (Scalar.oFld 3 ((Syntax.field 1) ∷ List.[]) (Syntax.tyInt Syntax.w64) 8 Shared.lenV) 13
+          d9 : Typed.Typed 𝓤 H A 𝓣 E G13 b13 Δ0 (at9 bs)
+          d9 = Typed.s-seq 𝓤 H A W 𝓣 E G13 G14 b7 b12 Δ0 (Typed.pass T13 T14 (s12 bs)) (at8 bs) (Scalar.t-use 𝓤 H A W E
+              𝓣 G13 (Scalar.oFld 4 ((Syntax.field 1) ∷ List.[]) (Syntax.tyInt Syntax.w64) 8 Shared.lenV) 15
               (Rows.sc-here (Row.sInt Syntax.w64)) (Syntax.tyInt Syntax.w64) (Row.valS (Row.sInt Syntax.w64))
               (Row.sInt Syntax.w64 .of) (
-                Shared.reads-sslice-len 𝓤 H A W InflightAction.row ref2 2 8 Path.refl,
+                Shared.reads-sslice-len 𝓤 H A W InflightAction.row ref3 3 8 Path.refl,
                 Path.refl,
               ) (Reads.room-gone 𝓤 H A (Syntax.tyInt Syntax.w64)) (Scalar.holds-sc 𝓤 H A W (Row.sInt Syntax.w64))
               Path.refl (λ u. Path.refl) λ u. tt) d8
 
-          d10 : Typed.Typed 𝓤 H A 𝓣 E G10 b13 Δ0 (at10 bs)
-          d10 = Typed.s-seq 𝓤 H A W 𝓣 E G10 G11 b5 b12 Δ0 (Typed.pass T10 T11 (s9 bs)) (at9 bs) (Scalar.t-use 𝓤 H A W E
-              𝓣 G10 (Scalar.oFld 2 ((Syntax.field 1) ∷ List.[]) (Syntax.tyInt Syntax.w64) 8 Shared.lenV) 12
+          d10 : Typed.Typed 𝓤 H A 𝓣 E G12 b14 Δ0 (at10 bs)
+          d10 = Typed.s-seq 𝓤 H A W 𝓣 E G12 G13 b6 b13 Δ0 (Typed.pass T12 T13 (s11 bs)) (at9 bs) (Scalar.t-use 𝓤 H A W
+              E 𝓣 G12 (Scalar.oFld 2 ((Syntax.field 1) ∷ List.[]) (Syntax.tyInt Syntax.w64) 8 Shared.lenV) 14
               (Rows.sc-here (Row.sInt Syntax.w64)) (Syntax.tyInt Syntax.w64) (Row.valS (Row.sInt Syntax.w64))
               (Row.sInt Syntax.w64 .of) (
                 Shared.reads-sslice-len 𝓤 H A W RelayCircuit.row ref1 1 8 Path.refl,
@@ -729,9 +798,9 @@ module _ (claims· : Claims) where
               ) (Reads.room-gone 𝓤 H A (Syntax.tyInt Syntax.w64)) (Scalar.holds-sc 𝓤 H A W (Row.sInt Syntax.w64))
               Path.refl (λ u. Path.refl) λ u. tt) d9
 
-          d11 : Typed.Typed 𝓤 H A 𝓣 E G9 b14 Δ0 (at11 bs)
-          d11 = Typed.s-seq 𝓤 H A W 𝓣 E G9 G10 b4 b13 Δ0 (Typed.pass T9 T10 (s8 bs)) (at10 bs) (Scalar.t-use 𝓤 H A W E
-              𝓣 G9 (Scalar.oFld 1 ((Syntax.field 1) ∷ List.[]) (Syntax.tyInt Syntax.w64) 8 Shared.lenV) 11
+          d11 : Typed.Typed 𝓤 H A 𝓣 E G11 b15 Δ0 (at11 bs)
+          d11 = Typed.s-seq 𝓤 H A W 𝓣 E G11 G12 b5 b14 Δ0 (Typed.pass T11 T12 (s10 bs)) (at10 bs) (Scalar.t-use 𝓤 H A W
+              E 𝓣 G11 (Scalar.oFld 1 ((Syntax.field 1) ∷ List.[]) (Syntax.tyInt Syntax.w64) 8 Shared.lenV) 13
               (Rows.sc-here (Row.sInt Syntax.w64)) (Syntax.tyInt Syntax.w64) (Row.valS (Row.sInt Syntax.w64))
               (Row.sInt Syntax.w64 .of) (
                 Shared.reads-sslice-len 𝓤 H A W RelayPending.row ref0 0 8 Path.refl,
@@ -739,26 +808,25 @@ module _ (claims· : Claims) where
               ) (Reads.room-gone 𝓤 H A (Syntax.tyInt Syntax.w64)) (Scalar.holds-sc 𝓤 H A W (Row.sInt Syntax.w64))
               Path.refl (λ u. Path.refl) λ u. tt) d10
 
-          d12 : Typed.Typed 𝓤 H A 𝓣 E G8 b14 Δ0 (at12 bs)
-          d12 = Typed.g-pre 𝓤 H A W 𝓣 E G8 G9 b14 Δ0 (Typed.pass T8 T9 (s7 bs)) (at11 bs) (Scalar.g-room 𝓤 H A W E G8 7
-              Laws''.mir (Local.room-whole 𝓤 H A W (Declared.row NextDue.the-type) Laws''.mir Path.refl)) d11
+          d12 : Typed.Typed 𝓤 H A 𝓣 E G10 b15 Δ0 (at12 bs)
+          d12 = Typed.g-pre 𝓤 H A W 𝓣 E G10 G11 b15 Δ0 (Typed.pass T10 T11 (s9 bs)) (at11 bs) (Scalar.g-room 𝓤 H A W E
+              G10 9 Laws''.mir (Local.room-whole 𝓤 H A W (Declared.row NextDue.the-type) Laws''.mir Path.refl)) d11
 
-          d13 : Typed.Typed 𝓤 H A 𝓣 E G7 b14 Δ0 (at13 bs)
-          d13 = Typed.g-pre 𝓤 H A W 𝓣 E G7 G8 b14 Δ0 (Typed.pass T7 T8 (s6 bs)) (at12 bs) (Scalar.g-room 𝓤 H A W E G7 5
-              Laws''''.mir (Local.room-whole 𝓤 H A W (Declared'.row Places.the-type) Laws''''.mir Path.refl)) d12
+          d13 : Typed.Typed 𝓤 H A 𝓣 E G9 b15 Δ0 (at13 bs)
+          d13 = Typed.g-pre 𝓤 H A W 𝓣 E G9 G10 b15 Δ0 (Typed.pass T9 T10 (s8 bs)) (at12 bs) (Scalar.g-room 𝓤 H A W E G9
+              6 Laws''''.mir (Local.room-whole 𝓤 H A W (Declared'.row Places.the-type) Laws''''.mir Path.refl)) d12
 
-          d14 : Typed.Typed 𝓤 H A 𝓣 E G6 b15 Δ0 (at14 bs)
-          d14 = Typed.s-seq 𝓤 H A W 𝓣 E G6 G7 b3 b14 Δ0 (Typed.both (s5 bs)) (at13 bs) (Plain.t-call-plain 𝓤 H A W 𝓣 1
-              ps·1 r·1 (claims· .2) (claims· .3) "hnsr_circuit::tables::circuits::circuit_due" (known .1) E
-              (λ pos β. β) G6 (
-                record { pos = 2; ty = ref1; ref = λ x. x },
+          d14 : Typed.Typed 𝓤 H A 𝓣 E G8 b16 Δ0 (at14 bs)
+          d14 = Typed.s-seq 𝓤 H A W 𝓣 E G8 G9 b4 b15 Δ0 (Typed.both (s7 bs)) (at13 bs) (Plain.t-call-plain 𝓤 H A W 𝓣 1
+              ps·2 r·2 (claims· .4) (claims· .5) "hnsr_circuit::tables::ledger::usage_due" (known .2) E (λ pos β. β) G8 (
+                record { pos = 3; ty = ref2; ref = λ x. x },
                 (
-                  record { pos = 5; st = List.[]; d = 0; at = λ x. x },
-                  (record { pos = 7; st = List.[]; d = 0; at = λ x. x }, tt),
+                  record { pos = 6; st = List.[]; d = 0; at = λ x. x },
+                  (record { pos = 9; st = List.[]; d = 0; at = λ x. x }, tt),
                 ),
-              ) 8 (1 ∷ List.[]) (Call.sub-id 𝓤 H A W (G6 .slots)) (
-                ShrSlice.spares-sslice 𝓤 H A W RelayCircuit.row ref1 1,
-                Shared.reads-sslice 𝓤 H A W RelayCircuit.row ref1 1,
+              ) 10 (2 ∷ List.[]) (Call.sub-id 𝓤 H A W (G8 .slots)) (
+                ShrSlice.spares-sslice 𝓤 H A W ReservationUsage.row ref2 2,
+                Shared.reads-sslice 𝓤 H A W ReservationUsage.row ref2 2,
                 Path.refl,
                 (
                   (
@@ -783,22 +851,22 @@ module _ (claims· : Claims) where
                 ),
               ) (Reads.room-gone 𝓤 H A Laws''.mir) (tt, tt) Path.refl) d13
 
-          d15 : Typed.Typed 𝓤 H A 𝓣 E G5 b15 Δ0 (at15 bs)
-          d15 = Typed.g-pre 𝓤 H A W 𝓣 E G5 G6 b15 Δ0 (Typed.pass T5 T6 (s4 bs)) (at14 bs) (Scalar.g-room 𝓤 H A W E G5
-              10 Laws''.mir (Local.room-whole 𝓤 H A W (Declared.row NextDue.the-type) Laws''.mir Path.refl)) d14
+          d15 : Typed.Typed 𝓤 H A 𝓣 E G7 b16 Δ0 (at15 bs)
+          d15 = Typed.g-pre 𝓤 H A W 𝓣 E G7 G8 b16 Δ0 (Typed.pass T7 T8 (s6 bs)) (at14 bs) (Scalar.g-room 𝓤 H A W E G7 8
+              Laws''.mir (Local.room-whole 𝓤 H A W (Declared.row NextDue.the-type) Laws''.mir Path.refl)) d14
 
-          d16 : Typed.Typed 𝓤 H A 𝓣 E G4 b16 Δ0 (at16 bs)
-          d16 = Typed.s-seq 𝓤 H A W 𝓣 E G4 G5 b2 b15 Δ0 (Typed.both (s3 bs)) (at15 bs) (Plain.t-call-plain 𝓤 H A W 𝓣 1
-              ps·0 r·0 (claims· .0) (claims· .1) "hnsr_circuit::tables::pending::pending_due" (known .0) E (λ pos β. β)
-              G4 (
-                record { pos = 1; ty = ref0; ref = λ x. x },
+          d16 : Typed.Typed 𝓤 H A 𝓣 E G6 b17 Δ0 (at16 bs)
+          d16 = Typed.s-seq 𝓤 H A W 𝓣 E G6 G7 b3 b16 Δ0 (Typed.both (s5 bs)) (at15 bs) (Plain.t-call-plain 𝓤 H A W 𝓣 1
+              ps·1 r·1 (claims· .2) (claims· .3) "hnsr_circuit::tables::circuits::circuit_due" (known .1) E
+              (λ pos β. β) G6 (
+                record { pos = 2; ty = ref1; ref = λ x. x },
                 (
-                  record { pos = 5; st = List.[]; d = 0; at = λ x. x },
-                  (record { pos = 10; st = List.[]; d = 0; at = λ x. x }, tt),
+                  record { pos = 6; st = List.[]; d = 0; at = λ x. x },
+                  (record { pos = 8; st = List.[]; d = 0; at = λ x. x }, tt),
                 ),
-              ) 7 (0 ∷ List.[]) (Call.sub-id 𝓤 H A W (G4 .slots)) (
-                ShrSlice.spares-sslice 𝓤 H A W RelayPending.row ref0 0,
-                Shared.reads-sslice 𝓤 H A W RelayPending.row ref0 0,
+              ) 9 (1 ∷ List.[]) (Call.sub-id 𝓤 H A W (G6 .slots)) (
+                ShrSlice.spares-sslice 𝓤 H A W RelayCircuit.row ref1 1,
+                Shared.reads-sslice 𝓤 H A W RelayCircuit.row ref1 1,
                 Path.refl,
                 (
                   (
@@ -823,86 +891,126 @@ module _ (claims· : Claims) where
                 ),
               ) (Reads.room-gone 𝓤 H A Laws''.mir) (tt, tt) Path.refl) d15
 
-          d17 : Typed.Typed 𝓤 H A 𝓣 E G3 b17 Δ0 (at17 bs)
-          d17 = Typed.s-seq 𝓤 H A W 𝓣 E G3 G4 b1 b16 Δ0 (Typed.pass T3 T4 (s2 bs)) (at16 bs) (Make.t-enum-make-wt 𝓤 H A
-              W E 𝓣 NextDue.the-type Laws''.the-laws Laws''.the-plain tt G3 10 ((Scalar.oInt Syntax.w8 0) ∷ List.[])
+          d17 : Typed.Typed 𝓤 H A 𝓣 E G5 b17 Δ0 (at17 bs)
+          d17 = Typed.g-pre 𝓤 H A W 𝓣 E G5 G6 b17 Δ0 (Typed.pass T5 T6 (s4 bs)) (at16 bs) (Scalar.g-room 𝓤 H A W E G5
+              12 Laws''.mir (Local.room-whole 𝓤 H A W (Declared.row NextDue.the-type) Laws''.mir Path.refl)) d16
+
+          d18 : Typed.Typed 𝓤 H A 𝓣 E G4 b18 Δ0 (at18 bs)
+          d18 = Typed.s-seq 𝓤 H A W 𝓣 E G4 G5 b2 b17 Δ0 (Typed.both (s3 bs)) (at17 bs) (Plain.t-call-plain 𝓤 H A W 𝓣 1
+              ps·0 r·0 (claims· .0) (claims· .1) "hnsr_circuit::tables::pending::pending_due" (known .0) E (λ pos β. β)
+              G4 (
+                record { pos = 1; ty = ref0; ref = λ x. x },
+                (
+                  record { pos = 6; st = List.[]; d = 0; at = λ x. x },
+                  (record { pos = 12; st = List.[]; d = 0; at = λ x. x }, tt),
+                ),
+              ) 8 (0 ∷ List.[]) (Call.sub-id 𝓤 H A W (G4 .slots)) (
+                ShrSlice.spares-sslice 𝓤 H A W RelayPending.row ref0 0,
+                Shared.reads-sslice 𝓤 H A W RelayPending.row ref0 0,
+                Path.refl,
+                (
+                  (
+                    Yields.yields-copy 𝓤 H A W (λ ρ. Unit) (Declared'.row Places.the-type) Path.refl (Copies.cStruct
+                        Places.the-type Laws''''.the-laws Laws''''.the-copy .copy 𝓤 H A W)
+                        (Rows.whole (Declared'.row Places.the-type)) (λ x. x) (λ x. x) (λ ρ told. Local.mem-whole 𝓤 H A
+                        W (Declared'.row Places.the-type) ρ) λ ρ told. Local.whole-mem 𝓤 H A W
+                        (Declared'.row Places.the-type) ρ,
+                    Path.refl,
+                  ),
+                  (
+                    (
+                      Yields.yields-copy 𝓤 H A W (λ ρ. Unit) (Declared.row NextDue.the-type) Path.refl (Copies.cEnum
+                          NextDue.the-type Laws''.the-laws Laws''.the-copy .copy 𝓤 H A W)
+                          (Rows.whole (Declared.row NextDue.the-type)) (λ x. x) (λ x. x) (λ ρ told. Local.mem-whole 𝓤 H
+                          A W (Declared.row NextDue.the-type) ρ) λ ρ told. Local.whole-mem 𝓤 H A W
+                          (Declared.row NextDue.the-type) ρ,
+                      Path.refl,
+                    ),
+                    tt,
+                  ),
+                ),
+              ) (Reads.room-gone 𝓤 H A Laws''.mir) (tt, tt) Path.refl) d17
+
+          d19 : Typed.Typed 𝓤 H A 𝓣 E G3 b19 Δ0 (at19 bs)
+          d19 = Typed.s-seq 𝓤 H A W 𝓣 E G3 G4 b1 b18 Δ0 (Typed.pass T3 T4 (s2 bs)) (at18 bs) (Make.t-enum-make-wt 𝓤 H A
+              W E 𝓣 NextDue.the-type Laws''.the-laws Laws''.the-plain tt G3 12 ((Scalar.oInt Syntax.w8 0) ∷ List.[])
               (λ m. NextDue.enum .make (Logic.inl tt)) (Reads.room-gone 𝓤 H A Laws''.mir) (tt, tt) Path.refl (λ m wa.
               Make.made-val NextDue.the-type Laws''.the-laws List.[] (NextDue.enum .make (Logic.inl tt)) tt (wa .1)) λ
               m wa. Make.made-is NextDue.the-type Laws''.the-laws List.[] (NextDue.enum .make (Logic.inl tt)) tt
-              (wa .1)) d16
+              (wa .1)) d18
 
-          d18 : Typed.Typed 𝓤 H A 𝓣 E G2 b17 Δ0 (at18 bs)
-          d18 = Typed.g-pre 𝓤 H A W 𝓣 E G2 G3 b17 Δ0 (Typed.pass T2 T3 (s1 bs)) (at17 bs) (Scalar.g-room 𝓤 H A W E G2 4
+          d20 : Typed.Typed 𝓤 H A 𝓣 E G2 b19 Δ0 (at20 bs)
+          d20 = Typed.g-pre 𝓤 H A W 𝓣 E G2 G3 b19 Δ0 (Typed.pass T2 T3 (s1 bs)) (at19 bs) (Scalar.g-room 𝓤 H A W E G2 5
               Laws'''.mir (Local.room-whole 𝓤 H A W (Declared'.row OpaqueRelayRuntime.the-type) Laws'''.mir Path.refl))
-              d17
+              d19
 
-          d19 : Typed.Typed 𝓤 H A 𝓣 E G0 b18 Δ0 (at19 bs)
-          d19 = Typed.s-seq 𝓤 H A W 𝓣 E G0 G2 b0 b17 Δ0 (Typed.both (s0 bs)) (at18 bs) (WayStmt.t-way-copy-out 𝓤 H A W
+          d21 : Typed.Typed 𝓤 H A 𝓣 E G0 b20 Δ0 (at21 bs)
+          d21 = Typed.s-seq 𝓤 H A W 𝓣 E G0 G2 b0 b19 Δ0 (Typed.both (s0 bs)) (at20 bs) (WayStmt.t-way-copy-out 𝓤 H A W
               E 𝓣 (Declared'.row OpaqueRelayConfig.the-type) Path.refl (Copies.cStruct OpaqueRelayConfig.the-type
-              Laws.the-laws Laws.the-copy .copy 𝓤 H A W) (λ ρ. Unit) G0 (Row.out 4 (G0 .locals))
-              (λ u. Row.drop 4 (G0 .locals) u) (G0 .slots) 4 (λ t. (Syntax.field 4) ∷ t) Laws.mir Laws.mir 6
+              Laws.the-laws Laws.the-copy .copy 𝓤 H A W) (λ ρ. Unit) G0 (Row.out 5 (G0 .locals))
+              (λ u. Row.drop 5 (G0 .locals) u) (G0 .slots) 5 (λ t. (Syntax.field 4) ∷ t) Laws.mir Laws.mir 7
               (Rows.whole (Declared'.row OpaqueRelayConfig.the-type)) (λ x. x) (λ u. At.getAt
-              (OpaqueRelayRuntime.the-type .parts) 4 (OpaqueRelayRuntime.struct .as-values (u .1 .1 .1 .1 .0))) (λ u. (
-                Row.hd 0 (Row.tl (Row.tl (Row.tl (Row.tl bs)))),
-                Nat._+_ 0 40,
-              )) (λ T′. record {
-                locals = Row.setRow 4 (4, Rows.whole (Declared'.row OpaqueRelayRuntime.the-type)) T′;
+              (OpaqueRelayRuntime.the-type .parts) 4 (OpaqueRelayRuntime.struct .as-values (u .1 .1 .1 .1 .1 .0))) (λ
+              u. (Row.hd 0 (Row.tl (Row.tl (Row.tl (Row.tl (Row.tl bs))))), Nat._+_ 0 40)) (λ T′.
+              record {
+                locals = Row.setRow 5 (5, Rows.whole (Declared'.row OpaqueRelayRuntime.the-type)) T′;
                 slots = G0 .slots;
-              }) (λ u T′ m′. Row.set 4 (4, Rows.whole (Declared'.row OpaqueRelayRuntime.the-type)) (u .1 .1 .1 .1 .0)
-              T′ m′) (λ u. Unit) (λ x. Unit) (Own.told-none 𝓤 H A (G0 .slots)) (DerefMove.learns-nothing 𝓤 H A
-              (Declared'.row OpaqueRelayConfig.the-type)) (λ ρ told u asked. Way'.w-partˢ 𝓤 H A W E
+              }) (λ u T′ m′. Row.set 5 (5, Rows.whole (Declared'.row OpaqueRelayRuntime.the-type))
+              (u .1 .1 .1 .1 .1 .0) T′ m′) (λ u. Unit) (λ x. Unit) (Own.told-none 𝓤 H A (G0 .slots)) (DerefMove.learns-nothing
+              𝓤 H A (Declared'.row OpaqueRelayConfig.the-type)) (λ ρ told u asked. Way'.w-partˢ 𝓤 H A W E
               (Declared'.row OpaqueRelayRuntime.the-type) (Declared'.row OpaqueRelayConfig.the-type) Laws'''.mir
-              Laws.mir 4 40 (u .1 .1 .1 .1 .0) (At.getAt (OpaqueRelayRuntime.the-type .parts) 4
-              (OpaqueRelayRuntime.struct .as-values (u .1 .1 .1 .1 .0)))
-              (Row.hd 0 (Row.tl (Row.tl (Row.tl (Row.tl bs)))), 0) (Way.w-look 𝓤 H A W E (Way.w-local 𝓤 H A W E G0 ρ u
-              (G0 .slots) 4 (Declared'.row OpaqueRelayRuntime.the-type)
-              (Rows.whole (Declared'.row OpaqueRelayRuntime.the-type)) (λ x. x) (λ x. x) (u .1 .1 .1 .1 .0) (Local.mem-whole
-              𝓤 H A W (Declared'.row OpaqueRelayRuntime.the-type) ρ (u .1 .1 .1 .1 .0)
-              (Row.hd 0 (Row.tl (Row.tl (Row.tl (Row.tl bs)))))) (Local.whole-mem 𝓤 H A W
-              (Declared'.row OpaqueRelayRuntime.the-type) ρ (u .1 .1 .1 .1 .0)
-              (Row.hd 0 (Row.tl (Row.tl (Row.tl (Row.tl bs)))))))) Path.refl λ q. Inner.cut-record 𝓤 H A q
-              (Declared'.row OpaqueRelayRuntime.the-type) OpaqueRelayConfig.the-type 40 (u .1 .1 .1 .1 .0)
-              (u .1 .1 .1 .1 .0) (At.getAt (OpaqueRelayRuntime.the-type .parts) 4
-              (OpaqueRelayRuntime.struct .as-values (u .1 .1 .1 .1 .0))) (At.getAt (OpaqueRelayRuntime.the-type .parts)
-              4 (OpaqueRelayRuntime.struct .as-values (u .1 .1 .1 .1 .0)))
-              (Row.hd 0 (Row.tl (Row.tl (Row.tl (Row.tl bs)))), 0) (Behind.look-at 𝓤 H A W q
-              OpaqueRelayRuntime.the-type Laws'''.the-laws 4 40 Path.refl Path.refl
-              (Row.hd 0 (Row.tl (Row.tl (Row.tl (Row.tl bs)))), 0) (u .1 .1 .1 .1 .0)
-              (OpaqueRelayRuntime.struct .as-values (u .1 .1 .1 .1 .0)) Path.refl)) (Reads.room-gone 𝓤 H A Laws.mir) (Yields.makes-mem
-              𝓤 H A W (λ ρ. Unit) (Declared'.row OpaqueRelayConfig.the-type) Path.refl
+              Laws.mir 4 40 (u .1 .1 .1 .1 .1 .0) (At.getAt (OpaqueRelayRuntime.the-type .parts) 4 (OpaqueRelayRuntime.struct
+              .as-values (u .1 .1 .1 .1 .1 .0))) (Row.hd 0 (Row.tl (Row.tl (Row.tl (Row.tl (Row.tl bs))))), 0) (Way.w-look
+              𝓤 H A W E (Way.w-local 𝓤 H A W E G0 ρ u (G0 .slots) 5 (Declared'.row OpaqueRelayRuntime.the-type)
+              (Rows.whole (Declared'.row OpaqueRelayRuntime.the-type)) (λ x. x) (λ x. x) (u .1 .1 .1 .1 .1 .0) (Local.mem-whole
+              𝓤 H A W (Declared'.row OpaqueRelayRuntime.the-type) ρ (u .1 .1 .1 .1 .1 .0)
+              (Row.hd 0 (Row.tl (Row.tl (Row.tl (Row.tl (Row.tl bs))))))) (Local.whole-mem 𝓤 H A W
+              (Declared'.row OpaqueRelayRuntime.the-type) ρ (u .1 .1 .1 .1 .1 .0) (Row.hd 0
+              (Row.tl (Row.tl (Row.tl (Row.tl (Row.tl bs))))))))) Path.refl λ q. Inner.cut-record 𝓤 H A q
+              (Declared'.row OpaqueRelayRuntime.the-type) OpaqueRelayConfig.the-type 40 (u .1 .1 .1 .1 .1 .0)
+              (u .1 .1 .1 .1 .1 .0) (At.getAt (OpaqueRelayRuntime.the-type .parts) 4 (OpaqueRelayRuntime.struct
+              .as-values (u .1 .1 .1 .1 .1 .0))) (At.getAt (OpaqueRelayRuntime.the-type .parts) 4 (OpaqueRelayRuntime.struct
+              .as-values (u .1 .1 .1 .1 .1 .0))) (Row.hd 0 (Row.tl (Row.tl (Row.tl (Row.tl (Row.tl bs))))), 0) (Behind.look-at
+              𝓤 H A W q OpaqueRelayRuntime.the-type Laws'''.the-laws 4 40 Path.refl Path.refl (
+                Row.hd 0 (Row.tl (Row.tl (Row.tl (Row.tl (Row.tl bs))))),
+                0,
+              ) (u .1 .1 .1 .1 .1 .0) (OpaqueRelayRuntime.struct .as-values (u .1 .1 .1 .1 .1 .0)) Path.refl))
+              (Reads.room-gone 𝓤 H A Laws.mir) (Yields.makes-mem 𝓤 H A W (λ ρ. Unit)
+              (Declared'.row OpaqueRelayConfig.the-type) Path.refl
               (Rows.whole (Declared'.row OpaqueRelayConfig.the-type)) (λ x. x) λ ρ told. Local.whole-mem 𝓤 H A W
-              (Declared'.row OpaqueRelayConfig.the-type) ρ) Path.refl Path.refl Path.refl) d18
+              (Declared'.row OpaqueRelayConfig.the-type) ρ) Path.refl Path.refl Path.refl) d20
 
-          pub typed : Typed.Typed 𝓤 H A 𝓣 E (Function.Γin 3 ps r xs m κs qs) b18 (Function.Δret 3 ps r xs m κs qs)
+          pub typed : Typed.Typed 𝓤 H A 𝓣 E (Function.Γin 4 ps r xs m κs qs) b20 (Function.Δret 4 ps r xs m κs qs)
               (Φ bs)
-          typed = d19
+          typed = d21
 
-      module _ (κs : Lifetimes.Lfts 3) where
+      module _ (κs : Lifetimes.Lfts 4) where
         pub record Args : Type 0 where
-          pub pending : Kinds.Den {n = 3} κs (ShrSlice.pShrS RelayPending.row 0 tt)
-          pub circuits : Kinds.Den {n = 3} κs (ShrSlice.pShrS RelayCircuit.row 1 tt)
-          pub inflight : Kinds.Den {n = 3} κs (ShrSlice.pShrS InflightAction.row 2 tt)
-          pub runtime : Kinds.Den {n = 3} κs (StructRow.param OpaqueRelayRuntime.the-type Laws'''.the-laws
+          pub pending : Kinds.Den {n = 4} κs (ShrSlice.pShrS RelayPending.row 0 tt)
+          pub circuits : Kinds.Den {n = 4} κs (ShrSlice.pShrS RelayCircuit.row 1 tt)
+          pub ledger : Kinds.Den {n = 4} κs (ShrSlice.pShrS ReservationUsage.row 2 tt)
+          pub inflight : Kinds.Den {n = 4} κs (ShrSlice.pShrS InflightAction.row 3 tt)
+          pub runtime : Kinds.Den {n = 4} κs (StructRow.param OpaqueRelayRuntime.the-type Laws'''.the-laws
               Laws'''.the-copy Laws'''.the-plain)
-          pub places : Kinds.Den {n = 3} κs (StructRow.param Places.the-type Laws''''.the-laws Laws''''.the-copy
+          pub places : Kinds.Den {n = 4} κs (StructRow.param Places.the-type Laws''''.the-laws Laws''''.the-copy
               Laws''''.the-plain)
 
         abbrev pub dens : (a : Args) → Kinds.Dens κs ps
-        dens = λ a. (a .pending, (a .circuits, (a .inflight, (a .runtime, (a .places, tt)))))
+        dens = λ a. (a .pending, (a .circuits, (a .ledger, (a .inflight, (a .runtime, (a .places, tt))))))
 
-      abbrev pub m0 : (κs : Lifetimes.Lfts 3) → (args : Args κs) → (blocks : List.List Nat.ℕ) → Typed.Mo T0
+      abbrev pub m0 : (κs : Lifetimes.Lfts 4) → (args : Args κs) → (blocks : List.List Nat.ℕ) → Typed.Mo T0
       m0 = λ κs args blocks. (tt, Enter.partsP κs 1 ps xs (dens κs args))
 
-      abbrev W0 : (κs : Lifetimes.Lfts 3) → (args : Args κs) → (blocks : List.List Nat.ℕ) → Typed.Want O0
+      abbrev W0 : (κs : Lifetimes.Lfts 4) → (args : Args κs) → (blocks : List.List Nat.ℕ) → Typed.Want O0
       W0 = λ κs args blocks. (
         λ u. ⊥,
         tt,
         λ u. Enter.Fixs κs 1 ps xs (dens κs args) (u .1) × Post· κs (dens κs args) (Function.resV r κs (u .0)) (Clauses.atExit
-            (Kinds.endedOf 3 ps r) κs (dens κs args) (Enter.lastsP κs 1 ps xs (dens κs args) (u .1))),
+            (Kinds.endedOf 4 ps r) κs (dens κs args) (Enter.lastsP κs 1 ps xs (dens κs args) (u .1))),
       )
 
       pub record Start : Type 0 where
-        pub κs : Lifetimes.Lfts 3
+        pub κs : Lifetimes.Lfts 4
         pub args : Args κs
         pub blocks : List.List Nat.ℕ
         pub good : Kinds.GoodsP κs ps (dens κs args)
@@ -940,8 +1048,8 @@ module _ (claims· : Claims) where
         After-pending-due·own = Called.Called ps·0 r·0 (claims· .1) T4 (
           record { pos = 1; ty = ref0; ref = λ x. x },
           (
-            record { pos = 5; st = List.[]; d = 0; at = λ x. x },
-            (record { pos = 10; st = List.[]; d = 0; at = λ x. x }, tt),
+            record { pos = 6; st = List.[]; d = 0; at = λ x. x },
+            (record { pos = 12; st = List.[]; d = 0; at = λ x. x }, tt),
           ),
         ) (m3 (before· .before) (before· .config .given))
 
@@ -954,8 +1062,8 @@ module _ (claims· : Claims) where
       After-pending-due·gave = λ c. Called.given ps·0 r·0 (claims· .1) T4 (
         record { pos = 1; ty = ref0; ref = λ x. x },
         (
-          record { pos = 5; st = List.[]; d = 0; at = λ x. x },
-          (record { pos = 10; st = List.[]; d = 0; at = λ x. x }, tt),
+          record { pos = 6; st = List.[]; d = 0; at = λ x. x },
+          (record { pos = 12; st = List.[]; d = 0; at = λ x. x }, tt),
         ),
       ) (m3 (c .before .before) (c .before .config .given)) (c .pending-due)
 
@@ -977,8 +1085,8 @@ module _ (claims· : Claims) where
         After-circuit-due·own = Called.Called ps·1 r·1 (claims· .3) T6 (
           record { pos = 2; ty = ref1; ref = λ x. x },
           (
-            record { pos = 5; st = List.[]; d = 0; at = λ x. x },
-            (record { pos = 7; st = List.[]; d = 0; at = λ x. x }, tt),
+            record { pos = 6; st = List.[]; d = 0; at = λ x. x },
+            (record { pos = 8; st = List.[]; d = 0; at = λ x. x }, tt),
           ),
         ) (m5 (before· .before) (After-pending-due·gave before·))
 
@@ -991,8 +1099,8 @@ module _ (claims· : Claims) where
       After-circuit-due·gave = λ c. Called.given ps·1 r·1 (claims· .3) T6 (
         record { pos = 2; ty = ref1; ref = λ x. x },
         (
-          record { pos = 5; st = List.[]; d = 0; at = λ x. x },
-          (record { pos = 7; st = List.[]; d = 0; at = λ x. x }, tt),
+          record { pos = 6; st = List.[]; d = 0; at = λ x. x },
+          (record { pos = 8; st = List.[]; d = 0; at = λ x. x }, tt),
         ),
       ) (m5 (c .before .before) (After-pending-due·gave (c .before))) (c .circuit-due)
 
@@ -1000,149 +1108,208 @@ module _ (claims· : Claims) where
           (m5 (before .before) (After-pending-due·gave before))) → Typed.Mo T8
       m7 = λ before given. s6 (before .before .before .blocks) (m6 before given)
 
-      abbrev pub m8 : (before : After-pending-due) → (given : s5 (before .before .before .blocks) .gives
-          (m5 (before .before) (After-pending-due·gave before))) → Typed.Mo T9
-      m8 = λ before given. s7 (before .before .before .blocks) (m7 before given)
+      abbrev pub Need-usage-due-requires : Type 0
+      Need-usage-due-requires = (c : After-circuit-due) → s7 (c .before .before .before .blocks) .asks
+          (m7 (c .before) (After-circuit-due·gave c))
 
-      abbrev pub m9 : (before : After-pending-due) → (given : s5 (before .before .before .blocks) .gives
-          (m5 (before .before) (After-pending-due·gave before))) → Typed.Mo T10
-      m9 = λ before given. s8 (before .before .before .blocks) (m8 before given)
-
-      abbrev pub m10 : (before : After-pending-due) → (given : s5 (before .before .before .blocks) .gives
-          (m5 (before .before) (After-pending-due·gave before))) → Typed.Mo T11
-      m10 = λ before given. s9 (before .before .before .blocks) (m9 before given)
-
-      abbrev pub m11 : (before : After-pending-due) → (given : s5 (before .before .before .blocks) .gives
-          (m5 (before .before) (After-pending-due·gave before))) → Typed.Mo T12
-      m11 = λ before given. s10 (before .before .before .blocks) (m10 before given)
-
-      abbrev pub Need-too-few-requires : Type 0
-      Need-too-few-requires = (c : After-circuit-due) → s11 (c .before .before .before .blocks) .asks
-          (m11 (c .before) (After-circuit-due·gave c))
-
-      abbrev pub m12 : (before : After-circuit-due) → (given : s11 (before .before .before .before .blocks) .gives
-          (m11 (before .before) (After-circuit-due·gave before))) → Typed.Mo T13
-      m12 = λ before given. s11 (before .before .before .before .blocks) .next
-          (m11 (before .before) (After-circuit-due·gave before)) given
+      abbrev pub m8 : (before : After-circuit-due) → (given : s7 (before .before .before .before .blocks) .gives
+          (m7 (before .before) (After-circuit-due·gave before))) → Typed.Mo T9
+      m8 = λ before given. s7 (before .before .before .before .blocks) .next
+          (m7 (before .before) (After-circuit-due·gave before)) given
 
       module _ (before· : After-circuit-due) where
-        abbrev pub After-too-few·own : Type 0
-        After-too-few·own = Called.Called ps·2 r·2 (claims· .5) T12 (
-          record { pos = 6; st = List.[]; d = 0; at = λ x. x },
-          (Num.vAt 11 λ x. x, (Num.vAt 12 λ x. x, (Num.vAt 13 λ x. x, tt))),
-        ) (m11 (before· .before) (After-circuit-due·gave before·))
+        abbrev pub After-usage-due·own : Type 0
+        After-usage-due·own = Called.Called ps·2 r·2 (claims· .5) T8 (
+          record { pos = 3; ty = ref2; ref = λ x. x },
+          (
+            record { pos = 6; st = List.[]; d = 0; at = λ x. x },
+            (record { pos = 9; st = List.[]; d = 0; at = λ x. x }, tt),
+          ),
+        ) (m7 (before· .before) (After-circuit-due·gave before·))
 
-      pub record After-too-few : Type 0 where
+      pub record After-usage-due : Type 0 where
         pub before : After-circuit-due
-        pub too-few : After-too-few·own before
+        pub usage-due : After-usage-due·own before
 
-      abbrev pub After-too-few·gave : (c : After-too-few) → s11 (c .before .before .before .before .blocks) .gives (m11
+      abbrev pub After-usage-due·gave : (c : After-usage-due) → s7 (c .before .before .before .before .blocks) .gives (m7
           (c .before .before) (After-circuit-due·gave (c .before)))
-      After-too-few·gave = λ c. Called.given ps·2 r·2 (claims· .5) T12 (
-        record { pos = 6; st = List.[]; d = 0; at = λ x. x },
-        (Num.vAt 11 λ x. x, (Num.vAt 12 λ x. x, (Num.vAt 13 λ x. x, tt))),
-      ) (m11 (c .before .before) (After-circuit-due·gave (c .before))) (c .too-few)
+      After-usage-due·gave = λ c. Called.given ps·2 r·2 (claims· .5) T8 (
+        record { pos = 3; ty = ref2; ref = λ x. x },
+        (
+          record { pos = 6; st = List.[]; d = 0; at = λ x. x },
+          (record { pos = 9; st = List.[]; d = 0; at = λ x. x }, tt),
+        ),
+      ) (m7 (c .before .before) (After-circuit-due·gave (c .before))) (c .usage-due)
 
-      abbrev pub m13 : (before : After-circuit-due) → (given : s11 (before .before .before .before .blocks) .gives
-          (m11 (before .before) (After-circuit-due·gave before))) → Typed.Mo T14
+      abbrev pub m9 : (before : After-circuit-due) → (given : s7 (before .before .before .before .blocks) .gives
+          (m7 (before .before) (After-circuit-due·gave before))) → Typed.Mo T10
+      m9 = λ before given. s8 (before .before .before .before .blocks) (m8 before given)
+
+      abbrev pub m10 : (before : After-circuit-due) → (given : s7 (before .before .before .before .blocks) .gives
+          (m7 (before .before) (After-circuit-due·gave before))) → Typed.Mo T11
+      m10 = λ before given. s9 (before .before .before .before .blocks) (m9 before given)
+
+      abbrev pub m11 : (before : After-circuit-due) → (given : s7 (before .before .before .before .blocks) .gives
+          (m7 (before .before) (After-circuit-due·gave before))) → Typed.Mo T12
+      m11 = λ before given. s10 (before .before .before .before .blocks) (m10 before given)
+
+      abbrev pub m12 : (before : After-circuit-due) → (given : s7 (before .before .before .before .blocks) .gives
+          (m7 (before .before) (After-circuit-due·gave before))) → Typed.Mo T13
+      m12 = λ before given. s11 (before .before .before .before .blocks) (m11 before given)
+
+      abbrev pub m13 : (before : After-circuit-due) → (given : s7 (before .before .before .before .blocks) .gives
+          (m7 (before .before) (After-circuit-due·gave before))) → Typed.Mo T14
       m13 = λ before given. s12 (before .before .before .before .blocks) (m12 before given)
 
-      abbrev pub m14 : (before : After-circuit-due) → (given : s11 (before .before .before .before .blocks) .gives
-          (m11 (before .before) (After-circuit-due·gave before))) → Typed.Mo T15
-      m14 = λ before given. s13 (before .before .before .before .blocks) (m13 before given)
+      abbrev pub Need-too-few-requires : Type 0
+      Need-too-few-requires = (c : After-usage-due) → s13 (c .before .before .before .before .blocks) .asks
+          (m13 (c .before) (After-usage-due·gave c))
 
-      abbrev pub m15 : (before : After-circuit-due) → (given : s11 (before .before .before .before .blocks) .gives
-          (m11 (before .before) (After-circuit-due·gave before))) → Typed.Mo T16
-      m15 = λ before given. s14 (before .before .before .before .blocks) (m14 before given)
+      abbrev pub m14 : (before : After-usage-due) → (given : s13 (before .before .before .before .before .blocks)
+          .gives (m13 (before .before) (After-usage-due·gave before))) → Typed.Mo T15
+      m14 = λ before given. s13 (before .before .before .before .before .blocks) .next
+          (m13 (before .before) (After-usage-due·gave before)) given
 
-      abbrev pub m16 : (before : After-circuit-due) → (given : s11 (before .before .before .before .blocks) .gives
-          (m11 (before .before) (After-circuit-due·gave before))) → Typed.Mo T17
-      m16 = λ before given. s15 (before .before .before .before .blocks) (m15 before given)
+      module _ (before· : After-usage-due) where
+        abbrev pub After-too-few·own : Type 0
+        After-too-few·own = Called.Called ps·3 r·3 (claims· .7) T14 (
+          record { pos = 7; st = List.[]; d = 0; at = λ x. x },
+          (Num.vAt 13 λ x. x, (Num.vAt 14 λ x. x, (Num.vAt 15 λ x. x, tt))),
+        ) (m13 (before· .before) (After-usage-due·gave before·))
+
+      pub record After-too-few : Type 0 where
+        pub before : After-usage-due
+        pub too-few : After-too-few·own before
+
+      abbrev pub After-too-few·gave : (c : After-too-few) → s13 (c .before .before .before .before .before .blocks)
+          .gives (m13 (c .before .before) (After-usage-due·gave (c .before)))
+      After-too-few·gave = λ c. Called.given ps·3 r·3 (claims· .7) T14 (
+        record { pos = 7; st = List.[]; d = 0; at = λ x. x },
+        (Num.vAt 13 λ x. x, (Num.vAt 14 λ x. x, (Num.vAt 15 λ x. x, tt))),
+      ) (m13 (c .before .before) (After-usage-due·gave (c .before))) (c .too-few)
+
+      abbrev pub m15 : (before : After-usage-due) → (given : s13 (before .before .before .before .before .blocks)
+          .gives (m13 (before .before) (After-usage-due·gave before))) → Typed.Mo T16
+      m15 = λ before given. s14 (before .before .before .before .before .blocks) (m14 before given)
+
+      abbrev pub m16 : (before : After-usage-due) → (given : s13 (before .before .before .before .before .blocks)
+          .gives (m13 (before .before) (After-usage-due·gave before))) → Typed.Mo T17
+      m16 = λ before given. s15 (before .before .before .before .before .blocks) (m15 before given)
+
+      abbrev pub m17 : (before : After-usage-due) → (given : s13 (before .before .before .before .before .blocks)
+          .gives (m13 (before .before) (After-usage-due·gave before))) → Typed.Mo T18
+      m17 = λ before given. s16 (before .before .before .before .before .blocks) (m16 before given)
+
+      abbrev pub m18 : (before : After-usage-due) → (given : s13 (before .before .before .before .before .blocks)
+          .gives (m13 (before .before) (After-usage-due·gave before))) → Typed.Mo T19
+      m18 = λ before given. s17 (before .before .before .before .before .blocks) (m17 before given)
 
       abbrev pub Need-due-told-requires : Type 0
-      Need-due-told-requires = (c : After-too-few) → s16 (c .before .before .before .before .blocks) .asks
-          (m16 (c .before) (After-too-few·gave c))
+      Need-due-told-requires = (c : After-too-few) → s18 (c .before .before .before .before .before .blocks) .asks
+          (m18 (c .before) (After-too-few·gave c))
 
-      abbrev pub m17 : (before : After-too-few) → (given : s16 (before .before .before .before .before .blocks) .gives
-          (m16 (before .before) (After-too-few·gave before))) → Typed.Mo T18
-      m17 = λ before given. s16 (before .before .before .before .before .blocks) .next
-          (m16 (before .before) (After-too-few·gave before)) given
+      abbrev pub m19 : (before : After-too-few) → (given : s18 (before .before .before .before .before .before .blocks)
+          .gives (m18 (before .before) (After-too-few·gave before))) → Typed.Mo T20
+      m19 = λ before given. s18 (before .before .before .before .before .before .blocks) .next
+          (m18 (before .before) (After-too-few·gave before)) given
 
       module _ (before· : After-too-few) where
         abbrev pub After-due-told·own : Type 0
-        After-due-told·own = Called.Called ps·3 r·3 (claims· .7) T17 (
-          Bool.bAt 9 λ x. x,
-          (record { pos = 8; st = List.[]; d = 0; at = λ x. x }, tt),
-        ) (m16 (before· .before) (After-too-few·gave before·))
+        After-due-told·own = Called.Called ps·4 r·4 (claims· .9) T19 (
+          Bool.bAt 11 λ x. x,
+          (record { pos = 10; st = List.[]; d = 0; at = λ x. x }, tt),
+        ) (m18 (before· .before) (After-too-few·gave before·))
 
       pub record After-due-told : Type 0 where
         pub before : After-too-few
         pub due-told : After-due-told·own before
 
-      abbrev pub After-due-told·gave : (c : After-due-told) → s16 (c .before .before .before .before .before .blocks)
-          .gives (m16 (c .before .before) (After-too-few·gave (c .before)))
-      After-due-told·gave = λ c. Called.given ps·3 r·3 (claims· .7) T17 (
-        Bool.bAt 9 λ x. x,
-        (record { pos = 8; st = List.[]; d = 0; at = λ x. x }, tt),
-      ) (m16 (c .before .before) (After-too-few·gave (c .before))) (c .due-told)
+      abbrev pub After-due-told·gave : (c : After-due-told) → s18
+          (c .before .before .before .before .before .before .blocks) .gives
+          (m18 (c .before .before) (After-too-few·gave (c .before)))
+      After-due-told·gave = λ c. Called.given ps·4 r·4 (claims· .9) T19 (
+        Bool.bAt 11 λ x. x,
+        (record { pos = 10; st = List.[]; d = 0; at = λ x. x }, tt),
+      ) (m18 (c .before .before) (After-too-few·gave (c .before))) (c .due-told)
 
-      abbrev pub m18 : (before : After-too-few) → (given : s16 (before .before .before .before .before .blocks) .gives
-          (m16 (before .before) (After-too-few·gave before))) → Typed.Mo T19
-      m18 = λ before given. s17 (before .before .before .before .before .blocks) (m17 before given)
+      abbrev pub m20 : (before : After-too-few) → (given : s18 (before .before .before .before .before .before .blocks)
+          .gives (m18 (before .before) (After-too-few·gave before))) → Typed.Mo T21
+      m20 = λ before given. s19 (before .before .before .before .before .before .blocks) (m19 before given)
 
-      abbrev pub m19 : (before : After-too-few) → (given : s16 (before .before .before .before .before .blocks) .gives
-          (m16 (before .before) (After-too-few·gave before))) → Typed.Mo T20
-      m19 = λ before given. s18 (before .before .before .before .before .blocks) (m18 before given)
+      abbrev pub m21 : (before : After-too-few) → (given : s18 (before .before .before .before .before .before .blocks)
+          .gives (m18 (before .before) (After-too-few·gave before))) → Typed.Mo T22
+      m21 = λ before given. s20 (before .before .before .before .before .before .blocks) (m20 before given)
 
       abbrev pub Need-returns : Type 0
-      Need-returns = (c : After-due-told) → Post· (c .before .before .before .before .before .κs) (dens
-          (c .before .before .before .before .before .κs) (c .before .before .before .before .before .args)) (Function.resV
-          r (c .before .before .before .before .before .κs) (m19 (c .before) (After-due-told·gave c) .0)) (Clauses.atExit
-          (Kinds.endedOf 3 ps r) (c .before .before .before .before .before .κs) (dens
-          (c .before .before .before .before .before .κs) (c .before .before .before .before .before .args)) (Enter.lastsP
-          (c .before .before .before .before .before .κs) 1 ps xs (dens (c .before .before .before .before .before .κs)
-          (c .before .before .before .before .before .args)) (m19 (c .before) (After-due-told·gave c) .1)))
+      Need-returns = (c : After-due-told) → Post· (c .before .before .before .before .before .before .κs) (dens
+          (c .before .before .before .before .before .before .κs)
+          (c .before .before .before .before .before .before .args)) (Function.resV r
+          (c .before .before .before .before .before .before .κs) (m21 (c .before) (After-due-told·gave c) .0)) (Clauses.atExit
+          (Kinds.endedOf 4 ps r) (c .before .before .before .before .before .before .κs) (dens
+          (c .before .before .before .before .before .before .κs)
+          (c .before .before .before .before .before .before .args)) (Enter.lastsP
+          (c .before .before .before .before .before .before .κs) 1 ps xs (dens
+          (c .before .before .before .before .before .before .κs)
+          (c .before .before .before .before .before .before .args)) (m21 (c .before) (After-due-told·gave c) .1)))
 
       module _ (pending-due-requires : Need-pending-due-requires) (circuit-due-requires : Need-circuit-due-requires)
-          (too-few-requires : Need-too-few-requires) (due-told-requires : Need-due-told-requires)
-          (returns : Need-returns) where
-        lay4 : (c : After-due-told) → at2 (c .before .before .before .before .before .blocks) (W0
-            (c .before .before .before .before .before .κs) (c .before .before .before .before .before .args)
-            (c .before .before .before .before .before .blocks)) (m17 (c .before) (After-due-told·gave c))
-        lay4 = λ c. (
-          (Path.refl, (Path.refl, (Path.refl, (tt, (tt, tt))))),
+          (usage-due-requires : Need-usage-due-requires) (too-few-requires : Need-too-few-requires)
+          (due-told-requires : Need-due-told-requires) (returns : Need-returns) where
+        lay5 : (c : After-due-told) → at2 (c .before .before .before .before .before .before .blocks) (W0
+            (c .before .before .before .before .before .before .κs)
+            (c .before .before .before .before .before .before .args) (c .before .before .before .before .before
+            .before .blocks)) (m19 (c .before) (After-due-told·gave c))
+        lay5 = λ c. (
+          (Path.refl, (Path.refl, (Path.refl, (Path.refl, (tt, (tt, tt)))))),
           returns record { before = c .before; due-told = c .due-told },
         )
 
-        lay3 : (c : After-too-few) → at7 (c .before .before .before .before .blocks) (W0
-            (c .before .before .before .before .κs) (c .before .before .before .before .args)
-            (c .before .before .before .before .blocks)) (m12 (c .before) (After-too-few·gave c))
-        lay3 = λ c. (
+        lay4 : (c : After-too-few) → at7 (c .before .before .before .before .before .blocks) (W0
+            (c .before .before .before .before .before .κs) (c .before .before .before .before .before .args)
+            (c .before .before .before .before .before .blocks)) (m14 (c .before) (After-too-few·gave c))
+        lay4 = λ c. (
           due-told-requires record { before = c .before; too-few = c .too-few },
-          λ g. lay4 record {
+          λ g. lay5 record {
             before = record { before = c .before; too-few = c .too-few };
-            due-told = Called.called ps·3 r·3 (claims· .7) T17 (
-              Bool.bAt 9 λ x. x,
-              (record { pos = 8; st = List.[]; d = 0; at = λ x. x }, tt),
-            ) (m16 (c .before) (After-too-few·gave c)) g;
+            due-told = Called.called ps·4 r·4 (claims· .9) T19 (
+              Bool.bAt 11 λ x. x,
+              (record { pos = 10; st = List.[]; d = 0; at = λ x. x }, tt),
+            ) (m18 (c .before) (After-too-few·gave c)) g;
           },
         )
 
-        lay2 : (c : After-circuit-due) → at13 (c .before .before .before .blocks) (W0 (c .before .before .before .κs)
+        lay3 : (c : After-usage-due) → at13 (c .before .before .before .before .blocks) (W0
+            (c .before .before .before .before .κs) (c .before .before .before .before .args)
+            (c .before .before .before .before .blocks)) (m8 (c .before) (After-usage-due·gave c))
+        lay3 = λ c. (
+          too-few-requires record { before = c .before; usage-due = c .usage-due },
+          λ g. lay4 record {
+            before = record { before = c .before; usage-due = c .usage-due };
+            too-few = Called.called ps·3 r·3 (claims· .7) T14 (
+              record { pos = 7; st = List.[]; d = 0; at = λ x. x },
+              (Num.vAt 13 λ x. x, (Num.vAt 14 λ x. x, (Num.vAt 15 λ x. x, tt))),
+            ) (m13 (c .before) (After-usage-due·gave c)) g;
+          },
+        )
+
+        lay2 : (c : After-circuit-due) → at15 (c .before .before .before .blocks) (W0 (c .before .before .before .κs)
             (c .before .before .before .args) (c .before .before .before .blocks))
             (m6 (c .before) (After-circuit-due·gave c))
         lay2 = λ c. (
-          too-few-requires record { before = c .before; circuit-due = c .circuit-due },
+          usage-due-requires record { before = c .before; circuit-due = c .circuit-due },
           λ g. lay3 record {
             before = record { before = c .before; circuit-due = c .circuit-due };
-            too-few = Called.called ps·2 r·2 (claims· .5) T12 (
-              record { pos = 6; st = List.[]; d = 0; at = λ x. x },
-              (Num.vAt 11 λ x. x, (Num.vAt 12 λ x. x, (Num.vAt 13 λ x. x, tt))),
-            ) (m11 (c .before) (After-circuit-due·gave c)) g;
+            usage-due = Called.called ps·2 r·2 (claims· .5) T8 (
+              record { pos = 3; ty = ref2; ref = λ x. x },
+              (
+                record { pos = 6; st = List.[]; d = 0; at = λ x. x },
+                (record { pos = 9; st = List.[]; d = 0; at = λ x. x }, tt),
+              ),
+            ) (m7 (c .before) (After-circuit-due·gave c)) g;
           },
         )
 
-        lay1 : (c : After-pending-due) → at15 (c .before .before .blocks) (W0 (c .before .before .κs)
+        lay1 : (c : After-pending-due) → at17 (c .before .before .blocks) (W0 (c .before .before .κs)
             (c .before .before .args) (c .before .before .blocks)) (m4 (c .before) (After-pending-due·gave c))
         lay1 = λ c. (
           circuit-due-requires record { before = c .before; pending-due = c .pending-due },
@@ -1151,14 +1318,14 @@ module _ (claims· : Claims) where
             circuit-due = Called.called ps·1 r·1 (claims· .3) T6 (
               record { pos = 2; ty = ref1; ref = λ x. x },
               (
-                record { pos = 5; st = List.[]; d = 0; at = λ x. x },
-                (record { pos = 7; st = List.[]; d = 0; at = λ x. x }, tt),
+                record { pos = 6; st = List.[]; d = 0; at = λ x. x },
+                (record { pos = 8; st = List.[]; d = 0; at = λ x. x }, tt),
               ),
             ) (m5 (c .before) (After-pending-due·gave c)) g;
           },
         )
 
-        pub laid : (c : Start) → at19 (c .blocks) (W0 (c .κs) (c .args) (c .blocks)) (m0 (c .κs) (c .args) (c .blocks))
+        pub laid : (c : Start) → at21 (c .blocks) (W0 (c .κs) (c .args) (c .blocks)) (m0 (c .κs) (c .args) (c .blocks))
         laid = λ c. (
           tt,
           λ g. (
@@ -1168,26 +1335,27 @@ module _ (claims· : Claims) where
               pending-due = Called.called ps·0 r·0 (claims· .1) T4 (
                 record { pos = 1; ty = ref0; ref = λ x. x },
                 (
-                  record { pos = 5; st = List.[]; d = 0; at = λ x. x },
-                  (record { pos = 10; st = List.[]; d = 0; at = λ x. x }, tt),
+                  record { pos = 6; st = List.[]; d = 0; at = λ x. x },
+                  (record { pos = 12; st = List.[]; d = 0; at = λ x. x }, tt),
                 ),
               ) (m3 c g) g';
             },
           ),
         )
 
-        module _ (κs : Lifetimes.Lfts 3) (qs : Lifetimes.Shares 3) where
+        module _ (κs : Lifetimes.Lfts 4) (qs : Lifetimes.Shares 4) where
           pub asked : (a : Kinds.Dens κs ps) → (good : Kinds.GoodsP κs ps a) → (pre : Pre· κs a) →
-              (bs : List.List Nat.ℕ) → Φ bs (Any.wantQ 3 ps r xs m κs qs a (Post· κs a))
-              (Function.init 3 ps r xs m κs qs a)
+              (bs : List.List Nat.ℕ) → Φ bs (Any.wantQ 4 ps r xs m κs qs a (Post· κs a))
+              (Function.init 4 ps r xs m κs qs a)
           asked = λ a good pre bs. laid record {
             κs = κs;
             args = record {
               pending = a .0;
               circuits = a .1 .0;
-              inflight = a .1 .1 .0;
-              runtime = a .1 .1 .1 .0;
-              places = a .1 .1 .1 .1 .0;
+              ledger = a .1 .1 .0;
+              inflight = a .1 .1 .1 .0;
+              runtime = a .1 .1 .1 .1 .0;
+              places = a .1 .1 .1 .1 .1 .0;
             };
             blocks = bs;
             good = good;
@@ -1197,10 +1365,11 @@ module _ (claims· : Claims) where
         module _ {M : Type 1} (𝓤 : URA.URA M) (H : Wp.Heap 𝓤) (A : Atoms.Atoms 𝓤) (W : Kit.Given 𝓤 H A)
             (𝓣 : Wp.Tables 𝓤 H) (known0 : Plain.Known 𝓤 H A W 𝓣 1 ps·0 r·0 (claims· .0) (claims· .1)
             "hnsr_circuit::tables::pending::pending_due") (known1 : Plain.Known 𝓤 H A W 𝓣 1 ps·1 r·1 (claims· .2)
-            (claims· .3) "hnsr_circuit::tables::circuits::circuit_due") (known2 : Plain.Known 𝓤 H A W 𝓣 0 ps·2 r·2
-            (claims· .4) (claims· .5) "hnsr_circuit::entry::too_few") (known3 : Plain.Known 𝓤 H A W 𝓣 0 ps·3 r·3
-            (claims· .6) (claims· .7) "hnsr_circuit::calls::silent::due_told") where
-          pub spec : Statement.Triple 𝓤 (Wp.WpFn 𝓤 H (𝓣 .C) (𝓣 .Λ) (Function.fnOf 3 ps r xs m hs body))
-              (Function.plainOf 𝓤 H A 3 ps r Pre· Post·)
-          spec = Plain.t-fn-plain 𝓤 H A W 𝓣 3 ps r xs m hs body (λ κs qs bs. Φ bs) (λ κs qs bs bd. typed κs qs 𝓤 H A W
-              𝓣 (known0, known1, known2, known3) bs bd) Pre· Post· asked
+            (claims· .3) "hnsr_circuit::tables::circuits::circuit_due") (known2 : Plain.Known 𝓤 H A W 𝓣 1 ps·2 r·2
+            (claims· .4) (claims· .5) "hnsr_circuit::tables::ledger::usage_due") (known3 : Plain.Known 𝓤 H A W 𝓣 0 ps·3
+            r·3 (claims· .6) (claims· .7) "hnsr_circuit::entry::too_few") (known4 : Plain.Known 𝓤 H A W 𝓣 0 ps·4 r·4
+            (claims· .8) (claims· .9) "hnsr_circuit::calls::silent::due_told") where
+          pub spec : Statement.Triple 𝓤 (Wp.WpFn 𝓤 H (𝓣 .C) (𝓣 .Λ) (Function.fnOf 4 ps r xs m hs body))
+              (Function.plainOf 𝓤 H A 4 ps r Pre· Post·)
+          spec = Plain.t-fn-plain 𝓤 H A W 𝓣 4 ps r xs m hs body (λ κs qs bs. Φ bs) (λ κs qs bs bd. typed κs qs 𝓤 H A W
+              𝓣 (known0, known1, known2, known3, known4) bs bd) Pre· Post· asked

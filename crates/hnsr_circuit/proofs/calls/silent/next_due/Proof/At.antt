@@ -6,18 +6,22 @@ use borrow.Author.Needs.{needs}
 
 pub record Returns (c : Tie.After-due-told) : Type 0 where
   pub start : Tie.Start
-  pub config : Lts.After-config·own Tie.readings Reads.Pre Reads.Post (c .before .before .before .before .before)
-  pub pending-due : Lts.After-pending-due·own Tie.readings Reads.Pre Reads.Post (c .before .before .before .before)
-  pub circuit-due : Lts.After-circuit-due·own Tie.readings Reads.Pre Reads.Post (c .before .before .before)
+  pub config : Lts.After-config·own Tie.readings Reads.Pre Reads.Post
+      (c .before .before .before .before .before .before)
+  pub pending-due : Lts.After-pending-due·own Tie.readings Reads.Pre Reads.Post
+      (c .before .before .before .before .before)
+  pub circuit-due : Lts.After-circuit-due·own Tie.readings Reads.Pre Reads.Post (c .before .before .before .before)
+  pub usage-due : Lts.After-usage-due·own Tie.readings Reads.Pre Reads.Post (c .before .before .before)
   pub too-few : Lts.After-too-few·own Tie.readings Reads.Pre Reads.Post (c .before .before)
   pub due-told : Lts.After-due-told·own Tie.readings Reads.Pre Reads.Post (c .before)
 
 abbrev pub returns : (c : Tie.After-due-told) → Returns c
 returns c = record {
-  start = c .before .before .before .before .before;
-  config = c .before .before .before .before .config;
-  pending-due = c .before .before .before .pending-due;
-  circuit-due = c .before .before .circuit-due;
+  start = c .before .before .before .before .before .before;
+  config = c .before .before .before .before .before .config;
+  pending-due = c .before .before .before .before .pending-due;
+  circuit-due = c .before .before .before .circuit-due;
+  usage-due = c .before .before .usage-due;
   too-few = c .before .too-few;
   due-told = c .due-told;
 }
@@ -28,6 +32,9 @@ pending-due-requires c = search needs
 circuit-due-requires : Tie.Need-circuit-due-requires
 circuit-due-requires c = search needs
 
+usage-due-requires : Tie.Need-usage-due-requires
+usage-due-requires c = search needs
+
 too-few-requires : Tie.Need-too-few-requires
 too-few-requires c = search needs
 
@@ -36,4 +43,5 @@ due-told-requires c = search needs
 
 module _ {M : Type 1} where
   pub spec : Tie.Need-returns → Lts.Closed Tie.readings Reads.Pre Reads.Post M
-  spec = λ a0. Tie.spec pending-due-requires circuit-due-requires too-few-requires due-told-requires a0
+  spec = λ a0. Tie.spec pending-due-requires circuit-due-requires usage-due-requires too-few-requires due-told-requires
+      a0

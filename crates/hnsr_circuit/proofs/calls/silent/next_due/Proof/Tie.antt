@@ -3,34 +3,39 @@ use Rattle.hnsr_circuit.proofs.By.calls.silent.next_due.Kinds
 use Rattle.hnsr_circuit.proofs.By.calls.silent.next_due.Lts
 use Rattle.hnsr_circuit.proofs.By.calls.silent.next_due.Reads
 use Rattle.hnsr_circuit.proofs.By.tables.circuits.circuit_due.Reads as Reads'
-use Rattle.hnsr_circuit.proofs.By.tables.pending.pending_due.Reads as Reads''
+use Rattle.hnsr_circuit.proofs.By.tables.ledger.usage_due.Reads as Reads''
+use Rattle.hnsr_circuit.proofs.By.tables.pending.pending_due.Reads as Reads'''
 use Rattle.hnsr_circuit.proofs.calls.silent.due_told.Met
-use Rattle.hnsr_circuit.proofs.calls.silent.due_told.Reads as Reads'''
+use Rattle.hnsr_circuit.proofs.calls.silent.due_told.Reads as Reads''''
 use Rattle.hnsr_circuit.proofs.calls.silent.due_told.Symbol
 use Rattle.hnsr_circuit.proofs.calls.silent.next_due.Code
 use Rattle.hnsr_circuit.proofs.calls.silent.next_due.Key
 use Rattle.hnsr_circuit.proofs.calls.silent.next_due.Statement
 use Rattle.hnsr_circuit.proofs.entry.too_few.Met as Met'
-use Rattle.hnsr_circuit.proofs.entry.too_few.Reads as Reads''''
+use Rattle.hnsr_circuit.proofs.entry.too_few.Reads as Reads'''''
 use Rattle.hnsr_circuit.proofs.entry.too_few.Symbol as Symbol'
 use Rattle.hnsr_circuit.proofs.tables.circuits.circuit_due.Met as Met''
 use Rattle.hnsr_circuit.proofs.tables.circuits.circuit_due.Symbol as Symbol''
-use Rattle.hnsr_circuit.proofs.tables.pending.pending_due.Met as Met'''
-use Rattle.hnsr_circuit.proofs.tables.pending.pending_due.Symbol as Symbol'''
+use Rattle.hnsr_circuit.proofs.tables.ledger.usage_due.Met as Met'''
+use Rattle.hnsr_circuit.proofs.tables.ledger.usage_due.Symbol as Symbol'''
+use Rattle.hnsr_circuit.proofs.tables.pending.pending_due.Met as Met''''
+use Rattle.hnsr_circuit.proofs.tables.pending.pending_due.Symbol as Symbol''''
 use borrow.Fn.Run
 use borrow.Fn.Written
 use contract.Running
 
 abbrev pub readings : Lts.Claims
 readings = (
-  Reads''.Asked,
-  Reads''.Learnt,
-  Reads'.Asked,
-  Reads'.Learnt,
-  Reads''''.Asked,
-  Reads''''.Learnt,
   Reads'''.Asked,
   Reads'''.Learnt,
+  Reads'.Asked,
+  Reads'.Learnt,
+  Reads''.Asked,
+  Reads''.Learnt,
+  Reads'''''.Asked,
+  Reads'''''.Learnt,
+  Reads''''.Asked,
+  Reads''''.Learnt,
 )
 
 abbrev pub Start : Type 0
@@ -45,6 +50,9 @@ After-pending-due = Lts.After-pending-due readings Reads.Pre Reads.Post
 abbrev pub After-circuit-due : Type 0
 After-circuit-due = Lts.After-circuit-due readings Reads.Pre Reads.Post
 
+abbrev pub After-usage-due : Type 0
+After-usage-due = Lts.After-usage-due readings Reads.Pre Reads.Post
+
 abbrev pub After-too-few : Type 0
 After-too-few = Lts.After-too-few readings Reads.Pre Reads.Post
 
@@ -57,6 +65,9 @@ Need-pending-due-requires = Lts.Need-pending-due-requires readings Reads.Pre Rea
 abbrev pub Need-circuit-due-requires : Type 0
 Need-circuit-due-requires = Lts.Need-circuit-due-requires readings Reads.Pre Reads.Post
 
+abbrev pub Need-usage-due-requires : Type 0
+Need-usage-due-requires = Lts.Need-usage-due-requires readings Reads.Pre Reads.Post
+
 abbrev pub Need-too-few-requires : Type 0
 Need-too-few-requires = Lts.Need-too-few-requires readings Reads.Pre Reads.Post
 
@@ -68,23 +79,25 @@ Need-returns = Lts.Need-returns readings Reads.Pre Reads.Post
 
 module _ {M : Type 1} where
   pub spec : (answer : Need-pending-due-requires) → (answer : Need-circuit-due-requires) →
-      (answer : Need-too-few-requires) → (answer : Need-due-told-requires) → (answer : Need-returns) → Lts.Closed
-      readings Reads.Pre Reads.Post M
-  spec = λ answer answer' answer'' answer'3 answer'4. Lts.spec readings Reads.Pre Reads.Post answer answer' answer''
-      answer'3 answer'4
+      (answer : Need-usage-due-requires) → (answer : Need-too-few-requires) → (answer : Need-due-told-requires) →
+      (answer : Need-returns) → Lts.Closed readings Reads.Pre Reads.Post M
+  spec = λ answer answer' answer'' answer'3 answer'4 answer'5. Lts.spec readings Reads.Pre Reads.Post answer answer'
+      answer'' answer'3 answer'4 answer'5
 
   pub close : Lts.Closed readings Reads.Pre Reads.Post M → Statement.statement M
   unfolding Code.routine Running.tablesOf
-  close = λ closed 𝓤 H 𝓜 𝓖 𝓡. Written.close 3 Kinds.ps Kinds.r Reads.Ghost Reads.requires Reads.ensures Reads.pre-read
+  close = λ closed 𝓤 H 𝓜 𝓖 𝓡. Written.close 4 Kinds.ps Kinds.r Reads.Ghost Reads.requires Reads.ensures Reads.pre-read
       Reads.Pinned Reads.Owned Reads.post-read record { M = M; 𝓤 = 𝓤; H = H; 𝓜 = 𝓜; 𝓖 = 𝓖; 𝓡 = 𝓡 } Code.env Key.name
       Code.function (Code.unfolded 𝓤 H 𝓜 𝓡) (λ κs a g. tt) (λ κs. Reads.owns κs
       record { M = M; 𝓤 = 𝓤; H = H; 𝓜 = 𝓜; 𝓖 = 𝓖; 𝓡 = 𝓡 }) (Reads.passes
       record { M = M; 𝓤 = 𝓤; H = H; 𝓜 = 𝓜; 𝓖 = 𝓖; 𝓡 = 𝓡 }) λ g. closed 𝓤 H (𝓖 .A) (Running.givenOf 𝓤 H 𝓜 𝓖)
-      (Run.Over 𝓤 H 𝓜 𝓖 𝓡 Code.env) (Reads''.known record { M = M; 𝓤 = 𝓤; H = H; 𝓜 = 𝓜; 𝓖 = 𝓖; 𝓡 = 𝓡 } Code.env
-      Symbol'''.name Symbol'''.routine Code.calls-hnsr-circuit·tables·pending·pending-due (Met'''.met 𝓤 H 𝓜 𝓖 𝓡)) (Reads'.known
+      (Run.Over 𝓤 H 𝓜 𝓖 𝓡 Code.env) (Reads'''.known record { M = M; 𝓤 = 𝓤; H = H; 𝓜 = 𝓜; 𝓖 = 𝓖; 𝓡 = 𝓡 } Code.env
+      Symbol''''.name Symbol''''.routine Code.calls-hnsr-circuit·tables·pending·pending-due (Met''''.met 𝓤 H 𝓜 𝓖 𝓡)) (Reads'.known
       record { M = M; 𝓤 = 𝓤; H = H; 𝓜 = 𝓜; 𝓖 = 𝓖; 𝓡 = 𝓡 } Code.env Symbol''.name Symbol''.routine
-      Code.calls-hnsr-circuit·tables·circuits·circuit-due (Met''.met 𝓤 H 𝓜 𝓖 𝓡)) (Reads''''.known
+      Code.calls-hnsr-circuit·tables·circuits·circuit-due (Met''.met 𝓤 H 𝓜 𝓖 𝓡)) (Reads''.known
+      record { M = M; 𝓤 = 𝓤; H = H; 𝓜 = 𝓜; 𝓖 = 𝓖; 𝓡 = 𝓡 } Code.env Symbol'''.name Symbol'''.routine
+      Code.calls-hnsr-circuit·tables·ledger·usage-due (Met'''.met 𝓤 H 𝓜 𝓖 𝓡)) (Reads'''''.known
       record { M = M; 𝓤 = 𝓤; H = H; 𝓜 = 𝓜; 𝓖 = 𝓖; 𝓡 = 𝓡 } Code.env Symbol'.name Symbol'.routine
-      Code.calls-hnsr-circuit·entry·too-few (Met'.met 𝓤 H 𝓜 𝓖 𝓡)) (Reads'''.known
+      Code.calls-hnsr-circuit·entry·too-few (Met'.met 𝓤 H 𝓜 𝓖 𝓡)) (Reads''''.known
       record { M = M; 𝓤 = 𝓤; H = H; 𝓜 = 𝓜; 𝓖 = 𝓖; 𝓡 = 𝓡 } Code.env Symbol.name Symbol.routine
       Code.calls-hnsr-circuit·calls·silent·due-told (Met.met 𝓤 H 𝓜 𝓖 𝓡))

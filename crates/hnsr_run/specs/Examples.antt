@@ -1,6 +1,6 @@
 -- History, worked out where a refused call leaves something behind, or where one number means two things. Of each run
 -- the machine's answers stand beside what the events tell; an answer that no run within the claim's bounds gives is
--- handed to `after` by itself.
+-- handed to `after` by itself. At the end what next due tells.
 use Prim.Native.Nat.{ℕ}
 use mathlib.Core.Path.{_≡_, refl}
 use mathlib.Core.Bool.{Bool, true, false}
@@ -11,17 +11,20 @@ use Rattle.hnsr_circuit.specs.declared.answer.HnsrAnswer.the-variants.{Refused}
 use Rattle.hnsr_circuit.specs.declared.answer.HnsrRuntimeError.the-variants.{GenerationExhausted}
 use Rattle.hnsr_circuit.specs.declared.answer.HnsrRuntimeError.the-variants.{ClockRollback, StaleGeneration}
 use Rattle.hnsr_circuit.specs.declared.records.RelayTicket.{RelayTicket}
+use Rattle.hnsr_circuit.specs.declared.runtime.NextDue.the-variants.{Never, At}
+use Rattle.hnsr_circuit.specs.World.{Told, dueIs}
 use Rattle.hnsr_circuit.specs.Route.{Route}
 use Rattle.hnsr_circuit.specs.Opcode.{opError, opClose}
 use Rattle.hnsr_circuit.specs.Entry.{handleWords}
 use Rattle.hnsr_circuit.specs.Peer.{peerOf}
 use Rattle.hnsr_circuit.specs.Worked.Cases.{lent, notAdmitted}
-use Rattle.hnsr_circuit.specs.Call.{Start, Call, callReplaceEnabled, callHandle, callExpire}
+use Rattle.hnsr_circuit.specs.Call.{Start, Call, callNextDue, callReplaceEnabled, callHandle, callExpire, step}
 use Rattle.hnsr_circuit.specs.Worked.All.{machine}
 use Rattle.hnsr_run.specs.Past.{Past}
 use Rattle.hnsr_run.specs.History.{Event, after}
 use Rattle.hnsr_run.specs.Talk.{fresh, tight, grant, opens, packet, accepts, sends, widens, closes, fails}
-use Rattle.hnsr_run.specs.Talk.{acked, lost, ample, leaves, revokes, eventsFrom, pastFrom, pastAfter, numberOf}
+use Rattle.hnsr_run.specs.Talk.{acked, lost, ample, leaves, revokes, eventsFrom}
+use Rattle.hnsr_run.specs.Talk.{worldAfter, pastFrom, pastAfter, numberOf}
 
 -- the peer 1 asks 2 for the circuit 7 under its context 9; the circuit stands
 abbrev asked : List Call
@@ -243,3 +246,24 @@ pub revoked-then-opened : (answersOf fresh revokedThen ≡ 0 ∷ 0 ∷ 0 ∷ 0 �
     × (circuits (pastAfter revokedThen) ≡ false ∷ false ∷ [])
 unfolding machine lent notAdmitted
 revoked-then-opened = (refl, refl, refl, refl)
+
+-- ---- a host that sleeps until next due. Beside the circuit 7 the OPEN 8 stands, which nobody accepts; it ends at 110.
+-- Then 7 is closed, and its reservation is due alone; it ends at 1,000
+abbrev expires : (now : ℕ) → Call
+expires now = callExpire now ample
+
+abbrev dueAfter : List Call → Told
+dueAfter calls = step (worldAfter calls) callNextDue .told
+
+abbrev waiting : List Call
+waiting = standing ++ (opens 1 2 3 (8 ∷ []) (grant 5 4000) 100 ∷ [])
+
+abbrev woken : List Call
+woken = waiting ++ (expires 110 ∷ closes 1 7 110 ∷ [])
+
+pub wakes-twice : (dueAfter waiting ≡ dueIs (At 110))
+    × (dueAfter (waiting ++ (expires 110 ∷ [])) ≡ dueIs (At 1000))
+    × (dueAfter woken ≡ dueIs (At 1000))
+    × (dueAfter (woken ++ (expires 1000 ∷ [])) ≡ dueIs Never)
+unfolding machine lent notAdmitted
+wakes-twice = (refl, refl, refl, refl)

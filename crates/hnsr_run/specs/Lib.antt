@@ -5,6 +5,7 @@ pub mod Words
 pub mod Sequence
 pub mod Claim
 pub mod Tables
+pub mod Waking
 pub mod Orders
 -- ---- by computation
 pub mod Talk
@@ -16,3 +17,4 @@ pub mod Run
 pub mod SameRun
 pub mod Theorem
 pub mod Facts
+pub mod WakingTheorem

@@ -11,3 +11,5 @@ pub mod Acknowledged
 pub mod Passing
 -- ---- from a taken `new`
 pub mod New
+-- ---- a host that sleeps until next due
+pub mod Waking

@@ -8,6 +8,7 @@ pub mod InPlace
 pub mod Limits
 -- ---- revocation: one record, and all that have a property
 pub mod Walks
+pub mod WalkEnds
 pub mod ByLookup
 pub mod Ends
 pub mod Revocations
@@ -46,3 +47,5 @@ pub mod ShapeParts
 pub mod ShapeCalls
 pub mod ShapeRuns
 pub mod ShapeRefuted
+-- ---- next due, and what `expire` leaves
+pub mod Expiring

@@ -39,11 +39,12 @@ pub record Named (p : HnsrPeerId) : Type 0 where
   pub good : peerGood (length name) ≡ true
   pub stored : p ≡ peerOf name
 
--- a used pending record: its id is drawn and so not 0; its names were tested
+-- a used pending record: its id is drawn and so not 0; its names were tested; it may not be accepted past its expiry
 pub record PendingShape (p : RelayPending) : Type 0 where
   pub some : eqb (p .«circuit_id») 0 ≡ false
   pub requester : Named (p .requester)
   pub endpoint : Named (p .endpoint)
+  pub deadline : p .deadline ≤ p .ticket .«expires_at»
 
 -- a used circuit: the same, and no credit passes the most that ACCEPT and WINDOW let it have
 pub record CircuitShape (c : RelayCircuit) : Type 0 where

@@ -150,12 +150,13 @@ unfolding pendingCount
 pending-few w q D = D .pending
 
 open-with-shape : (w : World) (o : Opening) → Shape w → count isPending (w .pending) < configOf w .«maximum_pending»
-    → Free (idTaken w) (o .id) → Named (o .requester) → Named (o .endpoint) → Shape (withOpen w o)
+    → Free (idTaken w) (o .id) → Named (o .requester) → Named (o .endpoint) → o .deadline ≤ o .ticket .«expires_at»
+    → Shape (withOpen w o)
 unfolding withOpen
-open-with-shape w o S few free asker endpoint = record {
+open-with-shape w o S few free asker endpoint deadline = record {
   runtime = S .runtime;
   pending = put-fits (S .pending) (pendingAt (o .id)) (pendingFor o) few
-      (λ u. record { some = free .some; requester = asker; endpoint = endpoint });
+      (λ u. record { some = free .some; requester = asker; endpoint = endpoint; deadline = deadline });
   circuits = S .circuits;
   once = λ id. split (pendingAt id (pendingFor o))
       (λ e. let z = subst (λ i. idTaken w i ≡ false) (open-id id o e) (free .untaken) in let k = none-taken w id z in
@@ -194,7 +195,7 @@ open-shape w q good S =
     (λ c. send-shape (withOpen u o) _
     (open-with-shape u o U (pending-few w q (admitted-rows w q a))
     (drawn-free v (q .random) (placed-rows v q o b .drawn)) (sender-named q good)
-    (named-by (q .admission .endpoint) (endpoint-good v q o b))))))
+    (named-by (q .admission .endpoint) (endpoint-good v q o b)) (omega arith)))))
 
 -- ---- ACCEPT
 body-good : (laid : Checked) (good : Bool) (text : HnsrInvalid) → bodyAnswer (answer laid good text) ≡ Taken

@@ -11,6 +11,7 @@ use Rattle.hns_encoding.specs.Loops.{foldFrom}
 use Rattle.hnsr_circuit.specs.declared.runtime.NextDue.{NextDue}
 use Rattle.hnsr_circuit.specs.declared.runtime.NextDue.the-variants.{Never, At}
 use Rattle.hnsr_circuit.specs.declared.answer.HnsrAnswer.the-variants.{Taken}
+use Rattle.hnsr_circuit.specs.Table.{any}
 use Rattle.hnsr_circuit.specs.Pending.{isPending}
 use Rattle.hnsr_circuit.specs.Circuits.{isCircuit}
 use Rattle.hnsr_circuit.specs.Ledger.{isUsage}
@@ -79,6 +80,15 @@ unfolding machine lent notAdmitted
 ledgerless-refuted C =
     true≢false (told-in-time ledgerless C (run-of ledgerless refl closed refl) 1000
     (inr (inr (record { high = 0; low = 5 }, refl, refl))))
+
+-- and `expire`, before what is due, drops the reservation's record
+pub ledgerless-drops : Waking ledgerless → ⊥
+unfolding machine lent notAdmitted
+ledgerless-drops C =
+    let W = C tables fresh refl closed in
+    let none : later 1000 (W .due) ≡ true = ap (λ (o : Outcome). later 1000 (dueTold (o .told))) (sym (W .told)) in
+    false≢true (ap (λ (o : Outcome). any isUsage (o .world .ledger))
+    (W .before 1000 ample (omega arith) none (omega arith)))
 
 -- ---- the latest for the earliest: the OPEN's deadline 110 is missed for the reservation's 1,000
 abbrev laterOf : NextDue → ℕ → NextDue

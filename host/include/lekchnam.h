@@ -28,7 +28,7 @@ extern "C" {
 #endif
 
 /* Raised with every change of a function or of a struct below. */
-#define LEKCHNAM_VERSION 1
+#define LEKCHNAM_VERSION 2
 
 /* ---- numbers */
 
@@ -586,10 +586,13 @@ LekchnamStatusReply opaque_relay_status(
     const LekchnamInflightAction *inflight, size_t inflight_places,
     LekchnamOpaqueRelayRuntime runtime, LekchnamPlaces places);
 
-/* When `expire` has work: the first of all deadlines of pending records and ends of circuits. */
+/* When `expire` has work: the first of all deadlines of pending records, ends of circuits and ends of the ledger's
+ * records. Sleep until then, and call it: before, it would only move the clock; after, nothing is due or something
+ * later. The ledger may have no places here. */
 LekchnamDueReply opaque_relay_next_due(
     const LekchnamRelayPending *pending, size_t pending_places,
     const LekchnamRelayCircuit *circuits, size_t circuit_places,
+    const LekchnamReservationUsage *ledger, size_t ledger_places,
     const LekchnamInflightAction *inflight, size_t inflight_places,
     LekchnamOpaqueRelayRuntime runtime, LekchnamPlaces places);
 

@@ -152,7 +152,11 @@ pub fn status(tables: &Tables, runtime: &Runtime) -> Result<HnsrRuntimeStatus, H
     answered(reply.answer, Cause::NONE).map(|()| reply.status)
 }
 
-/// When [`expire`] has work: the first of all deadlines of pending records and ends of circuits.
+/// When [`expire`] has work: the first of all deadlines of pending records, ends of circuits and ends of the
+/// reservations in the ledger. `None` where there is no such record.
+///
+/// Tables may be found in which a pending record's ticket ends before its deadline. `expire` ends such a record by its
+/// ticket, and this tells its deadline (DUE.6).
 pub fn next_due(tables: &Tables, runtime: &Runtime) -> Result<Option<u64>, HnsrRuntimeError> {
     let reply = ffi::next_due(tables, *runtime);
     answered(reply.answer, Cause::NONE).map(|()| reply.some.then_some(reply.due))

@@ -189,7 +189,8 @@ impl<Random: RandomSource> OpaqueRelayRuntime<Random> {
     }
 
     /// Moves the clock and ends all whose time is over: OPENs that nobody accepted, circuits whose reservation ended.
-    /// Nothing ends by itself. [`next_due`](Self::next_due) says when there is something to end.
+    /// Reservations that ended go from the ledger, and nobody is told. Nothing ends by itself.
+    /// [`next_due`](Self::next_due) says when there is something to end.
     pub fn expire(&mut self, now: u64) -> Result<Routes<'_>, HnsrRuntimeError> {
         self.call(Some(Cause::Expired(now)), |tables, out, runtime| lent::expire(tables, out, runtime, now))
     }
@@ -250,7 +251,18 @@ impl<Random> OpaqueRelayRuntime<Random> {
         lent::status(&self.tables, &self.runtime).expect(PLACES_ARE_ENOUGH)
     }
 
-    /// When [`expire`](Self::expire) has work: the first of all deadlines of pending records and ends of circuits.
+    /// When [`expire`](Self::expire) has work: the first of all deadlines of pending records, ends of circuits and ends
+    /// of the reservations in the ledger. `None` where there is no such record; unacknowledged routes do not count.
+    ///
+    /// A host sleeps until then, or until a packet comes, and calls `expire`. Before that time `expire` moves the clock
+    /// and does nothing else. After an `expire` that was taken this is `None`, or later than the time that it was
+    /// given, so a host that sleeps until it does not spin.
+    ///
+    /// A reservation is due also where its circuits have all ended: with the `expire` at its end it goes from
+    /// [`reservations`](Self::reservations). One whose end has passed already is due at once.
+    ///
+    /// Stored tables may have a pending record whose ticket ends before its deadline, which no OPEN makes. `expire`
+    /// ends it by its ticket; here its deadline counts alone (DUE.6).
     pub fn next_due(&self) -> Option<u64> {
         lent::next_due(&self.tables, &self.runtime).expect(PLACES_ARE_ENOUGH)
     }

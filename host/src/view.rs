@@ -85,7 +85,8 @@ impl From<&RelayCircuit> for Circuit {
 }
 
 /// A reservation that OPENs went by. Its record stays in the ledger until the next admitted OPEN or
-/// [`expire`](OpaqueRelayRuntime::expire) at or after its end, or until it is revoked.
+/// [`expire`](OpaqueRelayRuntime::expire) at or after its end, or until it is revoked. Until then its end counts for
+/// [`next_due`](OpaqueRelayRuntime::next_due), also where it has no circuit.
 #[derive(Clone, Copy, Debug, Eq, PartialEq)]
 pub struct Reservation {
     /// Its id.

@@ -18,7 +18,7 @@ use sample::SAMPLE;
 use std::sync::OnceLock;
 
 /// The C interface that is declared here.
-const VERSION: u32 = 1;
+const VERSION: u32 = 2;
 
 /// The archive's `Layout`, by its bytes: of another archive they may be no `Layout`, and more than this one has.
 #[repr(C, align(8))]
@@ -160,7 +160,7 @@ mod tests {
     #[test]
     fn another_version_is_named() {
         let said = other_version(VERSION + 1);
-        assert_eq!(said.as_deref(), Some("its interface has the number 2, the one declared here 1"));
+        assert_eq!(said.as_deref(), Some("its interface has the number 3, the one declared here 2"));
     }
 
     /// Every byte of every field counts, and it is the field that is named.

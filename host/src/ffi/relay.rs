@@ -165,6 +165,8 @@ extern "C" {
         pending_places: usize,
         circuits: *const RelayCircuit,
         circuit_places: usize,
+        ledger: *const ReservationUsage,
+        ledger_places: usize,
         inflight: *const InflightAction,
         inflight_places: usize,
         runtime: Runtime,
@@ -266,8 +268,8 @@ pub fn status(tables: &Tables, runtime: Runtime) -> StatusReply {
 }
 
 pub fn next_due(tables: &Tables, runtime: Runtime) -> DueReply {
-    let Tables { pending, circuits, inflight, places, .. } = tables;
-    call!(opaque_relay_next_due, read pending, circuits, inflight; runtime, *places)
+    let Tables { pending, circuits, ledger, inflight, places } = tables;
+    call!(opaque_relay_next_due, read pending, circuits, ledger, inflight; runtime, *places)
 }
 
 #[cfg(test)]

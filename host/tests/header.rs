@@ -101,6 +101,36 @@ fn every_function_of_the_archive_is_declared_and_no_other() {
     println!("compared: {} functions of the header with the archive's sources", declared.len());
 }
 
+/// The relay's calls in a text, and of each the parameters, as they stand there.
+fn calls<'a>(text: &'a str, before: &str) -> BTreeMap<&'a str, Vec<&'a str>> {
+    let one = |call: &'a str| {
+        let (name, parameters) = call.split_once('(').expect("parameters");
+        (name, parameters.split(',').map(str::trim).filter(|one| !["", "void"].contains(one)).collect())
+    };
+    between(text, &format!("{before} opaque_relay_"), ")").into_iter().map(one).collect()
+}
+
+/// A slice is one parameter of the archive's source, and two of a declaration. A change of a call's parameters that
+/// only one of the three has would compile and link.
+#[test]
+fn calls_have_the_parameters_of_the_archives_source() {
+    let (header, source, here) = (header(), text("../crates/lekchnam/src/relay.rt"), text("src/ffi/relay.rs"));
+    let in_c = |one: &&str| {
+        let name = one.split('[').next().unwrap_or_default().rsplit(' ').next().unwrap_or_default();
+        name.trim_start_matches('*').to_owned()
+    };
+    let in_rust = |one: &&str| one.split(':').next().unwrap_or_default().to_owned();
+    let (declared, exported, called) = (calls(&header, ""), calls(&source, "fn"), calls(&here, "fn"));
+    assert_eq!(declared.len(), exported.len());
+    for (name, parameters) in &declared {
+        let mut names: Vec<String> = parameters.iter().map(in_c).collect();
+        assert_eq!(names, called[name].iter().map(in_rust).collect::<Vec<_>>(), "{name}");
+        names.retain(|one| !["_places", "_words", "_length"].iter().any(|length| one.ends_with(length)));
+        assert_eq!(names, exported[name].iter().map(in_rust).collect::<Vec<_>>(), "{name}");
+    }
+    println!("compared: the parameters of {} calls of the header with the archive's sources", declared.len());
+}
+
 /// The table that crates/cases prints, and the same program as C.
 #[test]
 fn the_sixteen_cases_by_c() {

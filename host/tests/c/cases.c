@@ -1,6 +1,7 @@
 /*
  * The sixteen cases by the C interface, each by a new relay: prints the case and the answer to its last call, as the
- * program in crates/cases does. Bodies are made by the archive's writers, but for those that a writer refuses.
+ * program in crates/cases does. Bodies are made by the archive's writers, but for those that a writer refuses. Before
+ * them it asks what is due, and prints nothing of that.
  */
 #include "lekchnam.h"
 #include <stdio.h>
@@ -200,6 +201,49 @@ static void delivered(Relay *relay)
     must(answer == LEKCHNAM_TAKEN, "an acknowledgement");
 }
 
+static LekchnamDueReply next_due(const Relay *relay, size_t ledger_places)
+{
+    return opaque_relay_next_due(relay->pending, 2, relay->circuits, 2, relay->ledger, ledger_places,
+        relay->inflight, 8, relay->runtime, relay->places);
+}
+
+static bool due_at(const Relay *relay, uint64_t time)
+{
+    LekchnamDueReply told = next_due(relay, 1);
+    return told.answer == LEKCHNAM_TAKEN && told.some && told.due == time;
+}
+
+static bool nothing_due(const Relay *relay, size_t ledger_places)
+{
+    LekchnamDueReply told = next_due(relay, ledger_places);
+    return told.answer == LEKCHNAM_TAKEN && !told.some;
+}
+
+static void expire(Relay *relay, uint64_t time)
+{
+    uint32_t answer = kept(relay, opaque_relay_expire(
+        relay->pending, 2, relay->circuits, 2, relay->ledger, 1, relay->inflight, 8, relay->out, LEKCHNAM_HANDLE_WORDS,
+        relay->runtime, relay->places, time));
+    must(answer == LEKCHNAM_TAKEN, "the clock moves on");
+}
+
+/* An OPEN that nobody accepts: its deadline is due, and then its reservation alone. */
+static void dues(void)
+{
+    static Relay relay;
+    begin(&relay, LEKCHNAM_MAX_CIRCUIT_QUEUE);
+    must(nothing_due(&relay, 1), "nothing is due in a new relay");
+    open_circuit(&relay);
+    must(due_at(&relay, START + LEKCHNAM_MAX_OPEN_DEADLINE_SECONDS), "an OPEN is due at its deadline");
+    expire(&relay, START + LEKCHNAM_MAX_OPEN_DEADLINE_SECONDS);
+    must(due_at(&relay, EXPIRY), "a reservation is due without a circuit");
+    must(nothing_due(&relay, 0), "no ledger is lent, and that is no refusal");
+    expire(&relay, EXPIRY - 1);
+    must(due_at(&relay, EXPIRY), "before its end a reservation stays");
+    expire(&relay, EXPIRY);
+    must(nothing_due(&relay, 1), "at its end it goes");
+}
+
 /* ---- cases */
 
 static Case packets(size_t count, Packet first, Packet second)
@@ -297,6 +341,7 @@ int main(void)
 {
     must(lekchnam_version() == LEKCHNAM_VERSION, "the header is of the archive's version");
     must(lekchnam_layout().reason_detail.detail_length == (UINT64_C(1) << 63 | 120), "the last field of the sample");
+    dues();
     puts("case answer");
     for (int number = 1; number <= CASES; number++) {
         Case script = case_of(number);

@@ -1,8 +1,9 @@
 //! Invoices over the relay, in one process: a box at the supplier, the merchant's purchasing
 //! system, and the relay between them.
 //!
-//! After each step the relay's status is held to a reckoning made from the history of the calls alone. The first
-//! count that differs, or the first invoice that arrives changed, ends this with exit code 1.
+//! After each step the relay's status, its reservations and what is due next are held to a reckoning made from the
+//! history of the calls alone. The first that differs, or the first invoice that arrives changed, ends this with exit
+//! code 1.
 mod bodies;
 mod office;
 mod reckoning;
@@ -102,7 +103,18 @@ fn time_runs_out(office: &mut Office) -> Result<()> {
     office.check()?;
     office.expire()?;
     office.settle()?;
-    office.check()
+    office.check()?;
+
+    office.step("By a new reservation a circuit is opened, and closed again. The reservation alone is due.");
+    let circuit = office.circuit()?;
+    office.hang_up(circuit)?;
+    office.settle()?;
+    office.check()?;
+
+    office.step("The clock moves to its end. It is no longer listed, and nothing is due.");
+    office.expire()?;
+    office.check()?;
+    office.idle()
 }
 
 fn off_and_on(office: &mut Office) -> Result<()> {

@@ -103,7 +103,8 @@ impl Office {
         let circuit = letters.first().ok_or("no INCOMING")?.route.packet.context_id;
         let due = expires_at.min(self.now + ACCEPT_WITHIN);
         self.record(letters, |reckoning, routes| {
-            reckoning.asked(request, Work { sides: [supplier, merchant], due, expires_at }, routes)
+            let reservation = bodies::RESERVATION;
+            reckoning.asked(request, Work { sides: [supplier, merchant], due, reservation, expires_at }, routes)
         });
         Ok(circuit)
     }
@@ -203,8 +204,10 @@ impl Office {
         Ok(())
     }
 
+    /// The host sleeps until something is due, and ends it.
     pub fn expire(&mut self) -> Result<()> {
         self.now = self.relay.next_due().ok_or("nothing is due")?;
+        println!("     the host wakes at {}", self.now);
         let letters = self.relay.expire(self.now)?.to_vec();
         let now = self.now;
         self.record(letters, |reckoning, routes| reckoning.expired(now, routes));
@@ -227,14 +230,28 @@ impl Office {
         self.bag.extend(routes);
     }
 
+    /// What must be where nothing is left to wake for.
+    pub fn idle(&self) -> Result<()> {
+        match (self.relay.reservations().count(), self.relay.next_due()) {
+            (0, None) => Ok(()),
+            left => Err(format!("reservations, and what is due next: {left:?}").into()),
+        }
+    }
+
     /// Prints the status page, and holds it to the reckoning.
     pub fn check(&self) -> Result<()> {
         let (told, reckoned) = (self.relay.status(), self.reckoning.status());
         for line in told.to_string().lines() {
             println!("   | {line}");
         }
+        let due = self.relay.next_due().map_or_else(|| "nothing".to_owned(), |due| due.to_string());
+        println!("   | reservations: {}, due next: {due}", self.relay.reservations().count());
         if told != reckoned {
             return Err(format!("the relay tells\n{told:#?}\nand the history makes\n{reckoned:#?}").into());
+        }
+        let listed = self.relay.reservations().map(|reservation| (reservation.reservation_id, reservation.expires_at));
+        if !listed.eq(self.reckoning.reservations()) {
+            return Err("the relay has other reservations than the history makes".into());
         }
         let (due, reckoned) = (self.relay.next_due(), self.reckoning.next_due());
         if due != reckoned {

@@ -6,11 +6,16 @@ use std::collections::BTreeMap;
 /// A circuit's id, or the context that the requester gave its OPEN.
 pub type Id = [u8; 8];
 
-/// An OPEN that waits, or a circuit: its two sides, and when its time is over.
+/// The id of a reservation.
+pub type ReservationId = [u8; 16];
+
+/// An OPEN that waits, or a circuit: its two sides, when its time is over, and the reservation that it goes by, with
+/// its end.
 #[derive(Clone, Copy)]
 pub struct Work {
     pub sides: [HnsrPeerId; 2],
     pub due: u64,
+    pub reservation: ReservationId,
     pub expires_at: u64,
 }
 
@@ -33,6 +38,8 @@ pub struct Reckoning {
     waiting: BTreeMap<Id, Work>,
     circuits: BTreeMap<Id, Work>,
     requests: BTreeMap<Id, Id>,
+    /// The end of each reservation that an OPEN went by.
+    reservations: BTreeMap<ReservationId, u64>,
     outstanding: BTreeMap<u64, Outstanding>,
 }
 
@@ -41,11 +48,12 @@ impl Reckoning {
         Self { generation, enabled: true, time, ..Self::default() }
     }
 
-    /// An OPEN: the INCOMING has the circuit's id.
+    /// An OPEN: the INCOMING has the circuit's id. The reservation stays, whatever becomes of the OPEN.
     pub fn asked(&mut self, request: Id, work: Work, routes: &[QueuedHnsrRouteBuf]) {
         let id = routes.first().map_or([0; 8], |incoming| incoming.route.packet.context_id);
         self.asked += 1;
         self.requests.insert(request, id);
+        self.reservations.insert(work.reservation, work.expires_at);
         self.waiting.insert(id, work);
         self.sent(routes);
     }
@@ -85,6 +93,7 @@ impl Reckoning {
 
     pub fn expired(&mut self, now: u64, routes: &[QueuedHnsrRouteBuf]) {
         self.time = now;
+        self.reservations.retain(|_, ends_at| *ends_at > now);
         self.end(|_, work| work.due <= now);
         self.sent(routes);
     }
@@ -139,8 +148,14 @@ impl Reckoning {
         }
     }
 
-    /// When the relay must have something to end.
+    /// The reservations that the relay must have, each with its end.
+    pub fn reservations(&self) -> impl Iterator<Item = (ReservationId, u64)> + '_ {
+        self.reservations.iter().map(|(id, ends_at)| (*id, *ends_at))
+    }
+
+    /// When the relay must have something to end: an OPEN, a circuit or a reservation.
     pub fn next_due(&self) -> Option<u64> {
-        self.waiting.values().chain(self.circuits.values()).map(|work| work.due).min()
+        let work = self.waiting.values().chain(self.circuits.values()).map(|work| work.due);
+        work.chain(self.reservations.values().copied()).min()
     }
 }

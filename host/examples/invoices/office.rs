@@ -206,7 +206,7 @@ impl Office {
 
     /// The host sleeps until something is due, and ends it.
     pub fn expire(&mut self) -> Result<()> {
-        self.now = self.relay.next_due().ok_or("nothing is due")?;
+        self.now = self.now.max(self.relay.next_due().ok_or("nothing is due")?);
         println!("     the host wakes at {}", self.now);
         let letters = self.relay.expire(self.now)?.to_vec();
         let now = self.now;

@@ -3,6 +3,7 @@ mod advice;
 mod cases;
 mod chance;
 mod draws;
+mod due;
 mod ending;
 mod errors;
 mod fixture;

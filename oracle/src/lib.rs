@@ -35,9 +35,12 @@ fn peer(bytes: &[u8]) -> Result<HnsrPeerId, Refusal> {
     Ok(HnsrPeerId::new(bytes.to_vec())?)
 }
 
-/// Added (DUE); not in the Rust.
+/// Added (DUE); not in the Rust. Its ledger is the Rust's `reservation_usage`.
 fn next_due(state: &State) -> Option<u64> {
-    state.pending.iter().map(|p| p.deadline).chain(state.circuits.iter().map(|c| c.expires_at)).min()
+    let pending = state.pending.iter().map(|pending| pending.deadline);
+    let circuits = state.circuits.iter().map(|circuit| circuit.expires_at);
+    let ledger = state.ledger.iter().map(|usage| usage.expires_at);
+    pending.chain(circuits).chain(ledger).min()
 }
 
 /// Inputs of `handle`.

@@ -6,6 +6,7 @@
 
 mod calls;
 mod checks;
+mod due;
 mod lent;
 mod made;
 
@@ -13,6 +14,7 @@ use crate::Call;
 use crate::counts::Counts;
 use crate::reading::World;
 use crate::rng::Rng;
+pub use due::Due;
 use lekchnam_host::lent::Tables;
 use made::Left;
 use std::collections::BTreeMap;
@@ -57,11 +59,12 @@ impl Number {
     }
 }
 
-/// How often each answer came, by call, and over which numbers.
+/// How often each answer came, by call, and over which numbers; and what next due went by after the calls.
 #[derive(Default)]
 pub struct Answers {
     by_call: BTreeMap<&'static str, Counts>,
     numbers: BTreeMap<Number, u64>,
+    due: BTreeMap<Due, u64>,
 }
 
 impl Answers {
@@ -76,6 +79,9 @@ impl Answers {
         ] {
             *self.numbers.entry(number).or_default() += 1;
         }
+        for due in Due::of(&left.world) {
+            *self.due.entry(due).or_default() += 1;
+        }
     }
 
     /// How often an answer came.
@@ -87,13 +93,20 @@ impl Answers {
     pub fn over(&self, number: Number) -> u64 {
         self.numbers.get(&number).copied().unwrap_or(0)
     }
+
+    /// After how many calls next due went by this.
+    pub fn due(&self, due: Due) -> u64 {
+        self.due.get(&due).copied().unwrap_or(0)
+    }
 }
 
 impl Display for Answers {
     fn fmt(&self, f: &mut Formatter<'_>) -> fmt::Result {
         self.by_call.iter().try_for_each(|(label, counts)| writeln!(f, "  {label:<19} {counts}"))?;
         let numbers: Vec<String> = self.numbers.iter().map(|(number, count)| format!("{number:?}:{count}")).collect();
-        writeln!(f, "numbers of places in use, four a call: {}", numbers.join(" "))
+        writeln!(f, "numbers of places in use, four a call: {}", numbers.join(" "))?;
+        let due: Vec<String> = self.due.iter().map(|(due, count)| format!("{due:?}:{count}")).collect();
+        writeln!(f, "next due after a call: {}", due.join(" "))
     }
 }
 

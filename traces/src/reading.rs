@@ -157,7 +157,9 @@ impl World {
         refuse(short(&runtime.config, tables), Refused::Short)?;
         let circuits = || used(tables).map(|(_, circuit): (_, &RelayCircuit)| circuit);
         let queues = circuits().flat_map(|circuit| [circuit.queued_to_requester, circuit.queued_to_endpoint]);
+        // DUE.5 to DUE.7
         let deadlines = used(tables).map(|(_, pending): (_, &RelayPending)| pending.deadline);
+        let reserved = used(tables).map(|(_, usage): (_, &ReservationUsage)| usage.expires_at);
         let counters = &runtime.counters;
         Ok(After {
             status: [
@@ -174,7 +176,7 @@ impl World {
                 counters.bytes_received,
                 counters.revoked_work,
             ],
-            due: deadlines.chain(circuits().map(|circuit| circuit.expires_at)).min(),
+            due: deadlines.chain(circuits().map(|circuit| circuit.expires_at)).chain(reserved).min(),
             ledger: count(tables, |_: &ReservationUsage| true),
         })
     }

@@ -1,6 +1,6 @@
 //! The library beyond the domain (DOMAIN.4): a small part of what the command `beyond` does.
 use lekchnam_host::HnsrRuntimeError::{CorruptSnapshot, LedgerFull, NoQueuedData};
-use lekchnam_traces::beyond::{Number, beyond};
+use lekchnam_traces::beyond::{Due, Number, beyond};
 
 const CALLS: u64 = 20_000;
 
@@ -14,6 +14,9 @@ fn every_answer_is_met_and_nothing_is_wrong() {
     }
     for number in Number::ALL {
         assert!(answers.over(number) > CALLS / 5, "few numbers are {number:?}: {answers}");
+    }
+    for due in Due::ALL {
+        assert!(answers.due(due) > CALLS / 100, "next due seldom goes by {due:?}: {answers}");
     }
     println!("compared with a second reading: {CALLS} calls beyond the domain");
 }

@@ -17,6 +17,7 @@ pub fn all(case: &Case, left: &Left, rng: &mut Rng) -> Checked {
     as_read(case, left)?;
     new_alone(case, left)?;
     told(left)?;
+    waking(left)?;
     again(case, left)?;
     unused_places(case, left, rng)?;
     behind_names(case, left, rng)?;
@@ -78,8 +79,8 @@ fn new_alone(case: &Case, left: &Left) -> Checked {
     )
 }
 
-/// `status` tells the counts of used places, the sum of the queues, and the runtime; `next_due` the earliest end; both
-/// are 22 where a table is short.
+/// `status` tells the counts of used places, the sum of the queues, and the runtime; `next_due` the earliest end of the
+/// three tables; both are 22 where a table is short.
 fn told(left: &Left) -> Checked {
     let World { runtime, tables } = &left.world;
     let told = (lent::status(tables, runtime), lent::next_due(tables, runtime));
@@ -88,6 +89,37 @@ fn told(left: &Left) -> Checked {
         Err(refused) => told == (Err(refused), Err(refused)) && refused == HnsrRuntimeError::Short,
     };
     ensure(holds, "`status` or `next_due` tells something else")
+}
+
+/// DUE.5 to DUE.7, as a host goes by them: before what is due next `expire` moves the clock and does nothing else; then
+/// it drops or ends something, and what is due after it is later.
+fn waking(left: &Left) -> Checked {
+    let World { runtime, tables } = &left.world;
+    let Ok(due) = lent::next_due(tables, runtime) else { return Ok(()) };
+    let clock = runtime.trusted_time_high_water;
+    let before = due.map_or(Some(u64::MAX), |due| due.checked_sub(1)).filter(|before| *before >= clock);
+    // of a pending record the deadline alone counts (DUE.6)
+    let by_ticket = |now| tables.pending().any(|pending| pending.grant.expires_at <= now);
+    if let Some(now) = before.filter(|now| !by_ticket(*now)) {
+        let slept = expired(&left.world, now);
+        let mut moved = seen(&left.world);
+        moved.runtime.trusted_time_high_water = now;
+        ensure(slept.answer == Ok(0) && seen(&slept.world) == moved, "before what is due `expire` does something")?;
+    }
+    let Some(due) = due else { return Ok(()) };
+    let now = due.max(clock);
+    let woken = expired(&left.world, now);
+    let changed = seen(&woken.world).tables != seen(&left.world).tables;
+    ensure(woken.answer.is_ok() && changed, "when something is due `expire` leaves the records")?;
+    let next = lent::next_due(&woken.world.tables, &woken.world.runtime);
+    ensure(next.is_ok_and(|next| next.is_none_or(|next| next > now)), "after `expire` something is due at once")
+}
+
+/// `expire` at this time, lent words enough.
+fn expired(world: &World, now: u64) -> Left {
+    let call = Call::Expire { now };
+    let out = vec![0; call.words_needed(world.records())];
+    Case { world: world.clone(), call, out }.made()
 }
 
 /// The same call on a copy gives the same.

@@ -3,8 +3,8 @@
 
     python3 tools/moved.py [--full] OLD NEW        --full shows both texts of what changed
 
-definitions   what a reader must believe: specs/ without the folders below. Of hnsr_run: Past, History and Claim, with
-              all that they import of their own crate.
+definitions   what a reader must believe: specs/ without the folders below. Of hnsr_run: Past, History, Claim and Waking,
+              with all that they import of their own crate.
 model         specs/Code: what the code holds between two steps
 worked        specs/Worked: examples. All.antt, a list of names that tools/unfolding.py writes, is none.
 types         structs, enums and constants of src/. Definitions are about those of the tables and of the answers.
@@ -26,7 +26,7 @@ import sys
 KINDS = ["definitions", "model", "worked", "types", "promises", "laws", "proofs"]
 FOLDERS = {"Code": "model", "Worked": "worked"}  # of specs/, beside Laws
 FATES = ["stayed", "moved", "changed", "new", "gone"]
-BELIEVED = {"hnsr_run": ["Past", "History", "Claim"]}  # where it is not all of specs/ without Laws
+BELIEVED = {"hnsr_run": ["Past", "History", "Claim", "Waking"]}  # where it is not all of specs/ without Laws
 WRITTEN_BY_A_TOOL = "All.antt"
 SEEN_OR_OPENED = {"pub", "abbrev", "unfoldable"}
 

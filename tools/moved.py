@@ -3,7 +3,7 @@
 
     python3 tools/moved.py [--full] OLD NEW        --full shows both texts of what changed
 
-definitions   what a reader must believe: specs/ without the folders below. Of hnsr_run: Past, History, Claim and Waking,
+definitions   what a reader must believe: specs/ without the folders below. Of hnsr_run: Past, History, Claim, Waking,
               with all that they import of their own crate.
 model         specs/Code: what the code holds between two steps
 worked        specs/Worked: examples. All.antt, a list of names that tools/unfolding.py writes, is none.

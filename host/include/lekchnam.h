@@ -587,8 +587,8 @@ LekchnamStatusReply opaque_relay_status(
     LekchnamOpaqueRelayRuntime runtime, LekchnamPlaces places);
 
 /* When `expire` has work: the first of all deadlines of pending records, ends of circuits and ends of the ledger's
- * records. Sleep until then, and call it: before, it would only move the clock; after, nothing is due or something
- * later. The ledger may have no places here. */
+ * records. Sleep until then, and call it. In a relay begun by `new` it would only move the clock before, and after it
+ * nothing is due, or something later. The ledger may have no places here. */
 LekchnamDueReply opaque_relay_next_due(
     const LekchnamRelayPending *pending, size_t pending_places,
     const LekchnamRelayCircuit *circuits, size_t circuit_places,

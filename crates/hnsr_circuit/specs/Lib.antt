@@ -31,6 +31,7 @@ pub mod RevokingCalls
 pub mod New
 pub mod Status
 pub mod NextDue
+pub mod Ends
 pub mod Call
 -- ---- how the code holds it
 pub mod Code

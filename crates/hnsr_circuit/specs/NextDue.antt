@@ -1,8 +1,7 @@
 -- *Next due*, an added call (DUE.1, DUE.4 to DUE.7). A fold of "earlier of" over the tables.
 use Prim.Native.Nat.{ℕ, min}
-use mathlib.Core.Bool.{Bool, true, cond}
+use mathlib.Core.Bool.{Bool, cond}
 use mathlib.Core.List.{List}
-use lib.Dec.{ltb}
 use Rattle.hnsr_circuit.specs.declared.records.RelayPending.{RelayPending}
 use Rattle.hnsr_circuit.specs.declared.records.RelayCircuit.{RelayCircuit}
 use Rattle.hnsr_circuit.specs.declared.records.ReservationUsage.{ReservationUsage}
@@ -18,11 +17,6 @@ use Rattle.hnsr_circuit.specs.Entry.{tablesAnswer}
 abbrev pub earlier : NextDue → ℕ → NextDue
 earlier Never n = At n
 earlier (At m) n = At (min m n)
-
--- whether it is later than now; never is
-abbrev pub later : (now : ℕ) → NextDue → Bool
-later now Never = true
-later now (At n) = ltb now n
 
 unfoldable pub dueTurn : {A : Type 0} → (used : A → Bool) → (time : A → ℕ) → NextDue → A → ℕ → NextDue
 dueTurn used time d r place = cond (used r) (earlier d (time r)) d

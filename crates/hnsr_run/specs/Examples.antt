@@ -247,7 +247,7 @@ pub revoked-then-opened : (answersOf fresh revokedThen ≡ 0 ∷ 0 ∷ 0 ∷ 0 �
 unfolding machine lent notAdmitted
 revoked-then-opened = (refl, refl, refl, refl)
 
--- ---- a host that sleeps until next due. Beside the circuit 7 the OPEN 8 stands, which nobody accepts; it ends at 110.
+-- ---- a host that waits for next due. Beside the circuit 7 the OPEN 8 stands, which nobody accepts; it ends at 110.
 -- Then 7 is closed, and its reservation is due alone; it ends at 1,000
 abbrev expires : (now : ℕ) → Call
 expires now = callExpire now ample

@@ -299,8 +299,8 @@ abbrev pub circuitEnded : Past → ℕ → Past
 circuitEnded h j = withCircuit (without h (onCircuit j)) (at j false (h .active)) (h .known)
 
 -- ---- reservations
--- of a ledger record past its expiry nothing is said: which call drops it does not show in the answers. Next due tells,
--- but is no part of history
+-- of a ledger record past its expiry nothing is said: which call drops it does not show in the answers. What next due
+-- tells would show it, but what is told is no part of an event
 abbrev pub lives : (now : ℕ) → Book → ReservationId → Bool
 lives now b r = b .made r && ltb now (b .due r)
 

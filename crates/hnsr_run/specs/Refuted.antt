@@ -1,4 +1,4 @@
--- Wrong machines, refuted: of each the claim is false, by a run that is computed. A file for each part of the claim
+-- Wrong machines, refuted: of each a claim is false, by a run that is computed. A file for each part of the claim
 -- that they break; docs/RUN-THEOREM.md has the table.
 pub mod Machines
 -- ---- (a) status
@@ -11,5 +11,5 @@ pub mod Acknowledged
 pub mod Passing
 -- ---- from a taken `new`
 pub mod New
--- ---- a host that sleeps until next due
+-- ---- a host that waits for next due
 pub mod Waking

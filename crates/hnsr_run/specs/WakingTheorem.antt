@@ -1,5 +1,5 @@
--- A host that sleeps until next due and then calls `expire`: both claims hold of the definition.
-use Prim.Native.Nat.{ℕ, _≤_, _<_}
+-- The two claims about a host that waits for next due hold of the definition.
+use Prim.Native.Nat.{ℕ, _+_, _*_, _≤_, _<_}
 use native.Mathlib.Omega.{arith}
 use mathlib.Core.Path.{_≡_, refl, sym, ap, _∙_, subst}
 use mathlib.Core.Logic.{_⊎_, inl, inr}
@@ -11,27 +11,34 @@ use Rattle.hns_encoding.specs.Laws.Tests.{split, both, join, either, clash}
 use Rattle.hns_encoding.specs.Sums.{count}
 use Rattle.hnsr_body.specs.declared.values.ReservationId.{ReservationId}
 use Rattle.hnsr_body.specs.Values.{sameReservation}
+use Rattle.hnsr_circuit.specs.declared.config.OpaqueRelayConfig.{OpaqueRelayConfig}
 use Rattle.hnsr_circuit.specs.declared.runtime.NextDue.the-variants.{At}
+use Rattle.hnsr_circuit.specs.declared.answer.HnsrAnswer.the-variants.{Taken}
 use Rattle.hnsr_circuit.specs.Table.{any, pick, also}
 use Rattle.hnsr_circuit.specs.Pending.{noPending, isPending, pendingAt}
 use Rattle.hnsr_circuit.specs.Circuits.{noCircuit, isCircuit, circuitAt}
 use Rattle.hnsr_circuit.specs.Ledger.{noUsage, isUsage, usageAt, usageOf}
 use Rattle.hnsr_circuit.specs.World.{World, Outcome}
-use Rattle.hnsr_circuit.specs.NextDue.{later, deadlineOf, expiryOf, usageExpiryOf, dueOf}
-use Rattle.hnsr_circuit.specs.Call.{start}
+use Rattle.hnsr_circuit.specs.Counts.{pendingCount, circuitCount}
+use Rattle.hnsr_circuit.specs.Entry.{closingWords}
+use Rattle.hnsr_circuit.specs.Revocation.{revokeAll}
+use Rattle.hnsr_circuit.specs.RevokingCalls.{expireAt}
+use Rattle.hnsr_circuit.specs.NextDue.{deadlineOf, expiryOf, usageExpiryOf, dueOf}
+use Rattle.hnsr_circuit.specs.Ends.{later, endsAt, endsBy, NoneEndsBy}
+use Rattle.hnsr_circuit.specs.Call.{start, step, callExpire}
 use Rattle.hnsr_circuit.specs.Laws.Keys.{reservation-refl}
 use Rattle.hnsr_circuit.specs.Laws.Lookups.{pick-has, pick-also, any-also, any-imp, any-pick}
-use Rattle.hnsr_circuit.specs.Laws.Due.{endsAt, endsBy, NoneOver, due-later, due-is-one}
+use Rattle.hnsr_circuit.specs.Laws.Due.{due-later, due-is-one}
 use Rattle.hnsr_run.specs.Past.{lives}
 use Rattle.hnsr_run.specs.Claim.{Run}
-use Rattle.hnsr_run.specs.Waking.{EndsAt, Waking, Awaiting}
+use Rattle.hnsr_run.specs.Waking.{KnownEnd, Waking, Awaiting}
 use Rattle.hnsr_run.specs.SameRun.{same-world}
 use Rattle.hnsr_run.specs.Theorem.{relay}
-use Rattle.hnsr_run.specs.Facts.{left, told, run-shape, circuit-there, circuit-known}
+use Rattle.hnsr_run.specs.Facts.{left, told, run-shape, clock-is, config-is, circuit-there, circuit-known}
 use Rattle.hnsr_run.specs.Facts.{open-there, open-asked, ledger-there, ledger-due, ledger-lives}
 use Rattle.hnsr_run.specs.Run.Shape.{Shape, pending-used, circuit-used, pending-once, circuit-once}
 use Rattle.hnsr_run.specs.Run.ShapeRuns.{run-shape as left-shape}
-use Rattle.hnsr_run.specs.Run.Expiring.{due-told, wakes}
+use Rattle.hnsr_run.specs.Run.Expiring.{due-told, expire-taken, wakes}
 
 -- ---- any run from a taken `new`
 pub waking : Waking relay
@@ -64,7 +71,7 @@ module _ {A : Type 0} (used : A → Bool) (time : A → ℕ) (at : A → Bool) (
           join (at x) (eqb (time x) t) (k .1) (both (used x) (eqb (time x) t) (k .0) .1)
 
 -- something ends not after t, and so next due is not later
-not-later : (w : World) (t : ℕ) → (NoneOver w t → ⊥) → later t (dueOf w) ≡ false
+not-later : (w : World) (t : ℕ) → (NoneEndsBy w t → ⊥) → later t (dueOf w) ≡ false
 not-later w t some = split (later t (dueOf w)) (λ e. absurd (some (due-later w t .0 e))) (λ e. e)
 
 -- ---- a run within the bounds, and its history
@@ -96,13 +103,13 @@ module _ (r : Run relay) where
   reservation-ends t i l e = let f = ledger-there r i l in
       ends-known isUsage usageExpiryOf (usageAt i) noUsage (w .ledger) t f (usage-used i f) (ledger-due r i l ∙ e)
 
-  in-time : (t : ℕ) → EndsAt (told r) t → later t (dueOf w) ≡ false
+  in-time : (t : ℕ) → KnownEnd (told r) t → later t (dueOf w) ≡ false
   in-time t (inl x) = not-later w t (λ z. clash (open-ends t (x .0) (x .1) (x .2)) (z .0))
   in-time t (inr (inl x)) = not-later w t (λ z. clash (circuit-ends t (x .0) (x .1) (x .2)) (z .1))
   in-time t (inr (inr x)) = not-later w t (λ z. clash (reservation-ends t (x .0) (x .1) (x .2)) (z .2))
 
   -- and what the tables hold, history knows
-  by-pending : (t : ℕ) → any (endsAt isPending deadlineOf t) (w .pending) ≡ true → EndsAt (told r) t
+  by-pending : (t : ℕ) → any (endsAt isPending deadlineOf t) (w .pending) ≡ true → KnownEnd (told r) t
   unfolding isPending pendingAt
   by-pending t h =
       let p = pick (endsAt isPending deadlineOf t) noPending (w .pending) in
@@ -114,7 +121,7 @@ module _ (r : Run relay) where
       let stands = sym (open-there r j) ∙ f .0 in
       inl (j, stands, sym (open-asked r j stands .deadline) ∙ f .1)
 
-  by-circuit : (t : ℕ) → any (endsAt isCircuit expiryOf t) (w .circuits) ≡ true → EndsAt (told r) t
+  by-circuit : (t : ℕ) → any (endsAt isCircuit expiryOf t) (w .circuits) ≡ true → KnownEnd (told r) t
   unfolding isCircuit circuitAt
   by-circuit t h =
       let c = pick (endsAt isCircuit expiryOf t) noCircuit (w .circuits) in
@@ -127,7 +134,7 @@ module _ (r : Run relay) where
       inr (inl (j, active, sym (circuit-known r j active .expires) ∙ f .1))
 
   by-usage : (t : ℕ) → told r .head .clock < t → any (endsAt isUsage usageExpiryOf t) (w .ledger) ≡ true
-      → EndsAt (told r) t
+      → KnownEnd (told r) t
   unfolding isUsage usageAt
   by-usage t l h =
       let u = pick (endsAt isUsage usageExpiryOf t) noUsage (w .ledger) in
@@ -140,7 +147,7 @@ module _ (r : Run relay) where
       let alive = ledger-lives r i (f .0) (ap (ltb clock) (f .1) ∙ lt-ltb clock t l) in
       inr (inr (i, alive, sym (ledger-due r i alive) ∙ f .1))
 
-  is-one : (t : ℕ) → dueOf w ≡ At t → told r .head .clock < t → EndsAt (told r) t
+  is-one : (t : ℕ) → dueOf w ≡ At t → told r .head .clock < t → KnownEnd (told r) t
   is-one t e l =
       third (either (p || c) (any (endsAt isUsage usageExpiryOf t) (w .ledger)) (due-is-one w t e))
     where
@@ -150,17 +157,32 @@ module _ (r : Run relay) where
       c : Bool
       c = any (endsAt isCircuit expiryOf t) (w .circuits)
 
-      second : (p ≡ true) ⊎ (c ≡ true) → EndsAt (told r) t
+      second : (p ≡ true) ⊎ (c ≡ true) → KnownEnd (told r) t
       second (inl h) = by-pending t h
       second (inr h) = by-circuit t h
 
-      third : ((p || c) ≡ true) ⊎ (any (endsAt isUsage usageExpiryOf t) (w .ledger) ≡ true) → EndsAt (told r) t
+      third : ((p || c) ≡ true) ⊎ (any (endsAt isUsage usageExpiryOf t) (w .ledger) ≡ true) → KnownEnd (told r) t
       third (inl h) = second (either p c h)
       third (inr h) = by-usage t l h
 
+  -- as many records as there may be
+  expire-is-taken : (now room : ℕ) → told r .head .clock ≤ now
+      → closingWords * (told r .head .config .«maximum_pending» + told r .head .config .«maximum_circuits») ≤ room
+      → step w (callExpire now room) .answer ≡ Taken
+  unfolding expireAt revokeAll pendingCount circuitCount
+  expire-is-taken now room l m =
+      let S = run-shape r in
+      let pending = ap (λ (c : OpaqueRelayConfig). c .«maximum_pending») (config-is r) in
+      let circuits = ap (λ (c : OpaqueRelayConfig). c .«maximum_circuits») (config-is r) in
+      ap (λ (o : Outcome). o .answer)
+      (expire-taken w S now room (omega (arith, clock-is r))
+      (omega (arith, S .pending .few, S .circuits .few, pending, circuits)))
+
 pub awaiting : Awaiting relay
-awaiting r = (
-  dueOf (left r),
-  ap (λ (o : Outcome). o .told) (due-told (left r) (run-shape r)),
-  record { in-time = in-time r; is-one = is-one r },
-)
+awaiting r = record {
+  due = dueOf (left r);
+  told = ap (λ (o : Outcome). o .told) (due-told (left r) (run-shape r));
+  in-time = in-time r;
+  is-one = is-one r;
+  taken = expire-is-taken r;
+}

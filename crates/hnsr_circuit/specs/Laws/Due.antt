@@ -1,5 +1,6 @@
 -- Laws of next due, without its fold: `due-none`, `due-is-one` and `due-is-least` leave no other that it could tell
--- (`due-only`), and `due-later` is what a call at a given time goes by. Each is proved once, over any record type.
+-- (`due-only`), and `due-later` is what a call at a given time goes by. What they need of a table is proved once, over
+-- any record type.
 use Prim.Native.Nat.{ℕ, suc, min, _≤_}
 use native.Mathlib.Omega.{arith}
 use mathlib.Core.Path.{_≡_, refl, sym, ap, _∙_}
@@ -17,11 +18,12 @@ use Rattle.hnsr_circuit.specs.Pending.{isPending}
 use Rattle.hnsr_circuit.specs.Circuits.{isCircuit}
 use Rattle.hnsr_circuit.specs.Ledger.{isUsage}
 use Rattle.hnsr_circuit.specs.World.{World}
-use Rattle.hnsr_circuit.specs.NextDue.{earlier, later, dueTurn, dueIn, deadlineOf, expiryOf, usageExpiryOf}
+use Rattle.hnsr_circuit.specs.NextDue.{earlier, dueTurn, dueIn, deadlineOf, expiryOf, usageExpiryOf}
 use Rattle.hnsr_circuit.specs.NextDue.{pendingDue, circuitDue, dueOf}
+use Rattle.hnsr_circuit.specs.Ends.{later, endsAt, endsBy, NoneUsed, OneEndsAt, NoneEndsBy}
 use Rattle.hnsr_circuit.specs.Laws.Lookups.{any-imp}
 
--- ---- the two ways to be due
+-- ---- never, and at a time
 abbrev timeIn : NextDue → ℕ
 timeIn Never = 0
 timeIn (At n) = n
@@ -55,29 +57,25 @@ later-earlier (At m) n now = split (leb n now)
 
 -- ---- a table, over any record type
 module _ {A : Type 0} (used : A → Bool) (time : A → ℕ) where
-  -- a used record that ends at n; one that ends not after now
-  abbrev pub endsAt : ℕ → A → Bool
-  endsAt n a = used a && eqb (time a) n
-
-  abbrev pub endsBy : ℕ → A → Bool
-  endsBy now a = used a && leb (time a) now
-
-  pub ends-none : (n : ℕ) (t : List A) → any (endsBy n) t ≡ false → any (endsAt n) t ≡ false
-  ends-none n t h = split (any (endsAt n) t) (λ e. clash (any-imp (endsAt n) (endsBy n) t there e) h) (λ e. e)
+  pub ends-none : (n : ℕ) (t : List A) → any (endsBy used time n) t ≡ false → any (endsAt used time n) t ≡ false
+  ends-none n t h =
+      split (any (endsAt used time n) t)
+      (λ e. clash (any-imp (endsAt used time n) (endsBy used time n) t there e) h)
+      (λ e. e)
     where
-      there : (a : A) → endsAt n a ≡ true → endsBy n a ≡ true
+      there : (a : A) → endsAt used time n a ≡ true → endsBy used time n a ≡ true
       there a e = let k = both (used a) (eqb (time a) n) e in
           join (used a) (leb (time a) n) (k .0) (le-leb (time a) n (let s = eqb-true (time a) n (k .1) in omega arith))
 
   later-from : (t : List A) (i : ℕ) (d : NextDue) (now : ℕ)
-      → later now (foldFrom (dueTurn used time) t i d) ≡ (later now d && not (any (endsBy now) t))
+      → later now (foldFrom (dueTurn used time) t i d) ≡ (later now d && not (any (endsBy used time now) t))
   unfolding foldFrom dueTurn
   later-from [] i d now = sym (and-true (later now d))
   later-from (x ∷ xs) i d now = split (used x)
       (λ e. rw e
       (later-from xs (suc i) (earlier d (time x)) now
-      ∙ ap (λ b. b && not (any (endsBy now) xs)) (later-earlier d (time x) now)
-      ∙ shift (later now d) (leb (time x) now) (any (endsBy now) xs)))
+      ∙ ap (λ b. b && not (any (endsBy used time now) xs)) (later-earlier d (time x) now)
+      ∙ shift (later now d) (leb (time x) now) (any (endsBy used time now) xs)))
       (λ e. rw e (later-from xs (suc i) d now))
     where
       shift : (a b c : Bool) → ((a && not b) && not c) ≡ (a && not (b || c))
@@ -86,7 +84,7 @@ module _ {A : Type 0} (used : A → Bool) (time : A → ℕ) where
       shift false b c = refl
 
   pub later-in : (t : List A) (d : NextDue) (now : ℕ)
-      → later now (dueIn used time t d) ≡ (later now d && not (any (endsBy now) t))
+      → later now (dueIn used time t d) ≡ (later now d && not (any (endsBy used time now) t))
   later-in t d now = later-from t 0 d now
 
   never-from : (t : List A) (i : ℕ) (d : NextDue) → foldFrom (dueTurn used time) t i d ≡ Never
@@ -113,15 +111,15 @@ module _ {A : Type 0} (used : A → Bool) (time : A → ℕ) where
   none-in t d h = none-from t 0 d h
 
   one-from : (t : List A) (i : ℕ) (d : NextDue) (n : ℕ) → foldFrom (dueTurn used time) t i d ≡ At n
-      → (d ≡ At n) ⊎ (any (endsAt n) t ≡ true)
+      → (d ≡ At n) ⊎ (any (endsAt used time n) t ≡ true)
   unfolding foldFrom dueTurn
   one-from [] i d n h = inl h
   one-from (x ∷ xs) i d n h = split (used x)
       (λ e. rw e (turn d (one-from xs (suc i) (earlier d (time x)) n (rw e at h))))
       (λ e. rw e (one-from xs (suc i) d n (rw e at h)))
     where
-      turn : (d : NextDue) → (earlier d (time x) ≡ At n) ⊎ (any (endsAt n) xs ≡ true)
-          → (d ≡ At n) ⊎ ((eqb (time x) n || any (endsAt n) xs) ≡ true)
+      turn : (d : NextDue) → (earlier d (time x) ≡ At n) ⊎ (any (endsAt used time n) xs ≡ true)
+          → (d ≡ At n) ⊎ ((eqb (time x) n || any (endsAt used time n) xs) ≡ true)
       turn d (inr h) = inr (rw h (or-true (eqb (time x) n)))
       turn Never (inl h) = inr (rw (eq-eqb (time x) n (at-same h)))
       turn (At m) (inl h) = split (eqb (time x) n) (λ e. inr (rw e))
@@ -131,26 +129,10 @@ module _ {A : Type 0} (used : A → Bool) (time : A → ℕ) where
           eqb-not e s = clash (eq-eqb (time x) n s) e
 
   pub one-in : (t : List A) (d : NextDue) (n : ℕ) → dueIn used time t d ≡ At n
-      → (d ≡ At n) ⊎ (any (endsAt n) t ≡ true)
+      → (d ≡ At n) ⊎ (any (endsAt used time n) t ≡ true)
   one-in t d n h = one-from t 0 d n h
 
 -- ---- the three tables
--- no record is used; a used record ends at n; one ends not after now
-abbrev pub NoneUsed : World → Type 0
-NoneUsed w =
-    (any isPending (w .pending) ≡ false) × (any isCircuit (w .circuits) ≡ false) × (any isUsage (w .ledger) ≡ false)
-
-abbrev pub endsThen : World → ℕ → Bool
-endsThen w n =
-    any (endsAt isPending deadlineOf n) (w .pending) || any (endsAt isCircuit expiryOf n) (w .circuits)
-    || any (endsAt isUsage usageExpiryOf n) (w .ledger)
-
-abbrev pub NoneOver : World → (now : ℕ) → Type 0
-NoneOver w now =
-    (any (endsBy isPending deadlineOf now) (w .pending) ≡ false)
-    × (any (endsBy isCircuit expiryOf now) (w .circuits) ≡ false)
-    × (any (endsBy isUsage usageExpiryOf now) (w .ledger) ≡ false)
-
 module _ (w : World) where
   -- none exactly where no record is used
   pub due-none : (dueOf w ≡ Never) ↔ NoneUsed w
@@ -171,7 +153,7 @@ module _ (w : World) where
           ∙ none-in isPending deadlineOf (w .pending) Never (h .0)
 
   -- else the end of a used record
-  pub due-is-one : (t : ℕ) → dueOf w ≡ At t → endsThen w t ≡ true
+  pub due-is-one : (t : ℕ) → dueOf w ≡ At t → OneEndsAt w t
   unfolding dueOf
   due-is-one t h = third (one-in isUsage usageExpiryOf (w .ledger) _ t h)
     where
@@ -197,7 +179,7 @@ module _ (w : World) where
       third (inr e) = rw (e, or-true)
 
   -- later than now exactly where no record ends by now
-  pub due-later : (now : ℕ) → (later now (dueOf w) ≡ true) ↔ NoneOver w now
+  pub due-later : (now : ℕ) → (later now (dueOf w) ≡ true) ↔ NoneEndsBy w now
   unfolding dueOf
   due-later now = (λ h. from p c l (sym same ∙ h), λ h. same ∙ rw (h .0, h .1, h .2))
     where
@@ -224,12 +206,15 @@ module _ (w : World) where
       from true c l h = absurd (false≢true h)
 
   -- and no used record ends before it
-  pub due-is-least : (t : ℕ) → dueOf w ≡ At t → (n : ℕ) → endsThen w n ≡ true → t ≤ n
+  pub due-is-least : (t : ℕ) → dueOf w ≡ At t → (n : ℕ) → OneEndsAt w n → t ≤ n
   due-is-least t h n e = split (ltb n t)
       (λ f. clash e (none (due-later n .0 (ap (later n) h ∙ f))))
       (λ f. ltb-false n t f)
     where
-      none : NoneOver w n → endsThen w n ≡ false
+      none : NoneEndsBy w n
+          → (any (endsAt isPending deadlineOf n) (w .pending) || any (endsAt isCircuit expiryOf n) (w .circuits)
+          || any (endsAt isUsage usageExpiryOf n) (w .ledger))
+          ≡ false
       none z =
           rw (
             ends-none isPending deadlineOf n (w .pending) (z .0),
@@ -238,8 +223,8 @@ module _ (w : World) where
           )
 
   -- so nothing else has these three
-  pub due-only : (d : NextDue) → ((d ≡ Never) ↔ NoneUsed w) → ((t : ℕ) → d ≡ At t → endsThen w t ≡ true)
-      → ((t : ℕ) → d ≡ At t → (n : ℕ) → endsThen w n ≡ true → t ≤ n)
+  pub due-only : (d : NextDue) → ((d ≡ Never) ↔ NoneUsed w) → ((t : ℕ) → d ≡ At t → OneEndsAt w t)
+      → ((t : ℕ) → d ≡ At t → (n : ℕ) → OneEndsAt w n → t ≤ n)
       → d ≡ dueOf w
   due-only Never none one least = sym (due-none .1 (none .0 refl))
   due-only (At t) none one least = against (dueOf w) refl

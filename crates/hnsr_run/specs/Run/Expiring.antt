@@ -30,11 +30,12 @@ use Rattle.hnsr_circuit.specs.Revocation.{endCircuitThere, revokePending, revok
 use Rattle.hnsr_circuit.specs.Revocation.{pendingTable, circuitTable, revokeAll}
 use Rattle.hnsr_circuit.specs.RevokingCalls.{withoutLapsed, expireAt, expire}
 use Rattle.hnsr_circuit.specs.NextDue.{deadlineOf, dueOf, nextDue}
+use Rattle.hnsr_circuit.specs.Ends.{endsBy, NoneEndsBy}
 use Rattle.hnsr_circuit.specs.Call.{step, callNextDue, callExpire}
 use Rattle.hnsr_circuit.specs.Laws.Answers.{taken-check, taken-then}
 use Rattle.hnsr_circuit.specs.Laws.Lookups.{pick-has, any-imp, any-pick}
 use Rattle.hnsr_circuit.specs.Laws.Marks.{clear-same}
-use Rattle.hnsr_circuit.specs.Laws.Due.{endsBy, NoneOver, due-later}
+use Rattle.hnsr_circuit.specs.Laws.Due.{due-none, due-is-one, due-later}
 use Rattle.hnsr_run.specs.Waking.{Wakes}
 use Rattle.hnsr_run.specs.Run.Rel.{proceed-cases, refused-differs}
 use Rattle.hnsr_run.specs.Run.Steps.{long-enough, room-same}
@@ -138,7 +139,7 @@ module _ (now : ℕ) where
   abbrev circuitWalk : World → Sent
   circuitWalk v = walk circuitId circuitTable (circuitOver now) (revokeCircuitThere TicketExpired) v
 
-  left-none-over : (w : World) → NoneOver (expireAt w now .world) now
+  left-none-over : (w : World) → NoneEndsBy (expireAt w now .world) now
   unfolding expireAt revokeAll isCircuit circuitOver isUsage usageOver lapsed
   left-none-over w =
       let v = withoutLapsed (atTime w now) now in
@@ -163,9 +164,9 @@ module _ (now : ℕ) where
       )
 
   taken-none-over : (w : World) (room : ℕ) → step w (callExpire now room) .answer ≡ Taken
-      → NoneOver (step w (callExpire now room) .world) now
+      → NoneEndsBy (step w (callExpire now room) .world) now
   unfolding step expire
-  taken-none-over w room = proceed-cases (λ (o : Outcome). o .answer ≡ Taken → NoneOver (o .world) now) w
+  taken-none-over w room = proceed-cases (λ (o : Outcome). o .answer ≡ Taken → NoneEndsBy (o .world) now) w
       (roomAnswer w room (revokingWords w) then clockAnswer (w .runtime .«trusted_time_high_water») now)
       (expireAt w now) (λ e x. left-none-over w) (λ e f x. refused-differs x)
 
@@ -212,7 +213,7 @@ module _ (w : World) (S : Shape w) where
           any-imp (also (pendingOver now) by) by (w .pending) (λ a x. both (pendingOver now a) (by a) x .1)
           (any-pick (pendingOver now) by noPending (w .pending) e (join (p .used) (leb (p .deadline) now) (k .0) late))
 
-  expire-taken : (now room : ℕ) → w .runtime .«trusted_time_high_water» ≤ now → revokingWords w ≤ room
+  pub expire-taken : (now room : ℕ) → w .runtime .«trusted_time_high_water» ≤ now → revokingWords w ≤ room
       → step w (callExpire now room) ≡ expireAt w now
   unfolding step expire clockAnswer proceed
   expire-taken now room l m =
@@ -228,6 +229,8 @@ unfolding isCircuit circuitOver isUsage usageOver
 wakes w S = record {
   due = dueOf w;
   told = due-told w S;
+  none = due-none w .0;
+  one = due-is-one w;
   before = λ now room l d m. let z = due-later w now .0 d in
       expire-taken w S now room l m ∙ expire-idle now w (none-overdue w S now (z .0)) (z .1) (z .2);
   after = λ now room t.
@@ -236,4 +239,5 @@ wakes w S = record {
         ap (λ (o : Outcome). o .told) (due-told v (step-shape w (callExpire now room) S)),
         due-later v now .1 (taken-none-over now w room t),
       );
+  ended = λ now room t. taken-none-over now w room t;
 }

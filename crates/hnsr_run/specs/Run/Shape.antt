@@ -39,7 +39,8 @@ pub record Named (p : HnsrPeerId) : Type 0 where
   pub good : peerGood (length name) ≡ true
   pub stored : p ≡ peerOf name
 
--- a used pending record: its id is drawn and so not 0; its names were tested; it may not be accepted past its expiry
+-- a used pending record: its id is drawn and so not 0; its names were tested; its deadline is not later than its
+-- ticket's expiry
 pub record PendingShape (p : RelayPending) : Type 0 where
   pub some : eqb (p .«circuit_id») 0 ≡ false
   pub requester : Named (p .requester)

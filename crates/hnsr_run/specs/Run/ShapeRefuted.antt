@@ -1,5 +1,5 @@
 -- What the invariant of the world alone rules out: of each of these machines it is false, by a run that is computed.
-use Prim.Native.Nat.{ℕ, _≤_}
+use Prim.Native.Nat.{ℕ, _+_, _≤_}
 use native.Mathlib.Omega.{arith}
 use mathlib.Core.Path.{_≡_, refl, ap}
 use mathlib.Core.Bool.{cond}
@@ -106,3 +106,31 @@ rebooking = handling (λ w q room. cond (eqb (q .opcode) opOpen) (rebooked q (st
 pub rebooking-refuted : Shape (after rebooking (opens 1 2 9 (7 ∷ []) (grant 5 100) 100 ∷ [])) → ⊥
 unfolding machine lent notAdmitted
 rebooking-refuted S = let k : 2 ≤ 1 = S .ledger .once (record { high = 0; low = 5 }) in omega arith
+
+-- ---- an OPEN may be accepted later than its ticket lasts
+abbrev patient : RelayPending → RelayPending
+patient p = record {
+  used = p .used;
+  «circuit_id» = p .«circuit_id»;
+  requester = p .requester;
+  endpoint = p .endpoint;
+  «requester_context» = p .«requester_context»;
+  ticket = p .ticket;
+  «initial_window» = p .«initial_window»;
+  deadline = p .deadline + 1000;
+}
+
+abbrev postponed : Outcome → Outcome
+postponed o = record {
+  world = withPending (o .world) (map patient (o .world .pending));
+  answer = o .answer;
+  routes = o .routes;
+  told = o .told;
+}
+
+abbrev pub postponing : Machine
+postponing = handling (λ w q room. postponed (step w (callHandle q room)))
+
+pub postponing-refuted : Shape (after postponing (opens 1 2 9 (7 ∷ []) (grant 5 100) 100 ∷ [])) → ⊥
+unfolding machine lent notAdmitted
+postponing-refuted S = let k : 1110 ≤ 1000 = S .pending .each 0 refl .deadline in omega arith

@@ -64,6 +64,8 @@ def misfits(root):
         texts = {}
         try:
             for name, *change in replacements(edit):
+                if change[0] and edit.parent.name == "must-fail":
+                    raise BadEdit("the kit knows no 'behind:'")
                 text = texts.get(name) or (edit.parent.parent / name).read_text()
                 texts[name] = edited(text, name, *change)
             if not texts:

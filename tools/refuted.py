@@ -3,7 +3,7 @@
 
     python3 tools/refuted.py [CRATE | CRATE/EDIT ..]
 
-An edit has the form of a must-fail edit. It is applied to a copy of the project, checked there by `rt dev`, which takes
+An edit has the form that edits.py reads. It is applied to a copy of the project, checked there by `rt dev`, which takes
 over what stays as it is, and undone. For each edit the first error is printed that does not follow from another:
 whether a fact failed, and not a name, is for the reader to see. Exit 1 where an edit is not refused, or did not reach
 the prover.
@@ -54,15 +54,20 @@ def tried(root, crate, edit):
 
 
 def chosen(project, names):
-    """The edits of each crate that are meant."""
-    for crate in sorted({name.partition("/")[0] for name in names}):
-        edits = sorted((project / "crates" / crate / "refuted").glob("*.edit"))
-        yield crate, [edit for edit in edits if {crate, f"{crate}/{edit.stem}"} & set(names)]
+    """The edits that are meant, by crate. Ends where a name has none."""
+    found = {}
+    for name in names:
+        crate, _, edit = name.partition("/")
+        edits = sorted((project / "crates" / crate / "refuted").glob(f"{edit or '*'}.edit"))
+        found.setdefault(crate, set()).update(edits)
+        if not edits:
+            sys.exit(f"{name}: no such edit")
+    return [(crate, sorted(edits)) for crate, edits in sorted(found.items())]
 
 
 def main():
     project = pathlib.Path(__file__).resolve().parent.parent
-    names = sys.argv[1:] or [p.parent.name for p in project.glob("crates/*/refuted")]
+    edits_of = chosen(project, sys.argv[1:] or [p.parent.name for p in project.glob("crates/*/refuted")])
     with tempfile.TemporaryDirectory() as folder:
         root = pathlib.Path(folder)
         shutil.copy(project / "crates.txt", root)
@@ -70,10 +75,10 @@ def main():
         if (project / "target").is_dir():
             shutil.copytree(project / "target", root / "target")
         good = True
-        for crate, edits in chosen(project, names):
+        for crate, edits in edits_of:
             words, _ = verdict(check(root, crate), root)
-            if words != "NOT REFUSED" or not edits:
-                sys.exit(f"{crate} is not proved as it stands: {words}" if edits else f"{crate} has no such edit")
+            if words != "NOT REFUSED":
+                sys.exit(f"{crate} is not proved as it stands: {words}")
             for edit in edits:
                 good = tried(root, crate, edit) and good
     sys.exit(0 if good else 1)

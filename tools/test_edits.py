@@ -56,6 +56,11 @@ class Edits(unittest.TestCase):
         self.edit.write_text("file: src\nbehind: fn second\nold: used\nnew: idle\n")
         self.assertEqual(list(misfits(self.root)), [])
 
+    def test_the_kit_knows_no_behind(self):
+        self.edit.write_text("file: src\nbehind: fn second\nold: used\nnew: idle\n")
+        (self.crate / "refuted").rename(self.crate / "must-fail")
+        self.assertEqual(len(list(misfits(self.root))), 1)
+
 
 if __name__ == "__main__":
     unittest.main()

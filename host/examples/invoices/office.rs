@@ -6,7 +6,7 @@ use lekchnam_host::{
     Admission, Grant, HnsrOpcode, HnsrPacket, HnsrPeerId, HnsrRuntimeError, OpaqueRelayConfig, OpaqueRelayRuntime,
     QueuedHnsrRouteBuf,
 };
-use std::collections::VecDeque;
+use std::collections::{BTreeMap, VecDeque};
 use std::error::Error;
 
 pub type Result<T> = std::result::Result<T, Box<dyn Error>>;
@@ -250,7 +250,7 @@ impl Office {
             return Err(format!("the relay tells\n{told:#?}\nand the history makes\n{reckoned:#?}").into());
         }
         let listed = self.relay.reservations().map(|reservation| (reservation.reservation_id, reservation.expires_at));
-        if !listed.eq(self.reckoning.reservations()) {
+        if listed.collect::<BTreeMap<_, _>>() != *self.reckoning.reservations() {
             return Err("the relay has other reservations than the history makes".into());
         }
         let (due, reckoned) = (self.relay.next_due(), self.reckoning.next_due());

@@ -149,8 +149,8 @@ impl Reckoning {
     }
 
     /// The reservations that the relay must have, each with its end.
-    pub fn reservations(&self) -> impl Iterator<Item = (ReservationId, u64)> + '_ {
-        self.reservations.iter().map(|(id, ends_at)| (*id, *ends_at))
+    pub const fn reservations(&self) -> &BTreeMap<ReservationId, u64> {
+        &self.reservations
     }
 
     /// When the relay must have something to end: an OPEN, a circuit or a reservation.

@@ -43,8 +43,8 @@ impl Tables {
     /// ([`Short`](HnsrRuntimeError::Short)) where the memory for them cannot be had.
     ///
     /// The limits are taken as they are: [`validate`](OpaqueRelayConfig::validate) says whether they are within their
-    /// bounds. For the ledger there is no such bound: a place of it takes 40 bytes, and an OPEN, a DATA and an
-    /// [`expire`](super::expire) look through those in use.
+    /// bounds. For the ledger there is no such bound: a place of it takes 40 bytes, and an OPEN, a DATA, an
+    /// [`expire`](super::expire) and a [`next_due`](super::next_due) look through those in use.
     ///
     /// The memory is asked for and not touched: the system hands it out where a record first stands. One that
     /// promises more than it has may end the process then. The marks alone decide ([`Places::EVERY`]) until

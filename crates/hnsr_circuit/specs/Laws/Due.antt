@@ -28,7 +28,7 @@ abbrev timeIn : NextDue → ℕ
 timeIn Never = 0
 timeIn (At n) = n
 
-pub at-same : {m n : ℕ} → At m ≡ At n → m ≡ n
+at-same : {m n : ℕ} → At m ≡ At n → m ≡ n
 at-same e = ap timeIn e
 
 unlike : {n : ℕ} → At n ≡ Never → true ≡ false

@@ -15,7 +15,7 @@ use Rattle.hnsr_circuit.specs.declared.records.RelayPending.{RelayPending}
 use Rattle.hnsr_circuit.specs.declared.records.RelayCircuit.{RelayCircuit}
 use Rattle.hnsr_circuit.specs.declared.records.ReservationUsage.{ReservationUsage}
 use Rattle.hnsr_circuit.specs.declared.answer.HnsrAnswer.{HnsrAnswer}
-use Rattle.hnsr_circuit.specs.declared.answer.HnsrAnswer.the-variants.{Taken, Refused}
+use Rattle.hnsr_circuit.specs.declared.answer.HnsrAnswer.the-variants.{Taken}
 use Rattle.hnsr_circuit.specs.declared.answer.HnsrRuntimeError.the-variants.{Short, ClockRollback}
 use Rattle.hnsr_circuit.specs.Answers.{check, _then_}
 use Rattle.hnsr_circuit.specs.Table.{any, pick, also}
@@ -23,7 +23,7 @@ use Rattle.hnsr_circuit.specs.Pending.{noPending, pendingId, isPending, overdue
 use Rattle.hnsr_circuit.specs.Circuits.{noCircuit, circuitId, isCircuit, circuitOver, clearCircuit}
 use Rattle.hnsr_circuit.specs.Ledger.{isUsage, usageOver, clearUsage, lapsed}
 use Rattle.hnsr_circuit.specs.World.{World, Outcome, dueIs, done, proceed, telling, withLedger, atTime}
-use Rattle.hnsr_circuit.specs.Queue.{Message, Sent, andThen, finished, canQueue, queued, tellIf, tell}
+use Rattle.hnsr_circuit.specs.Queue.{Sent, andThen, finished}
 use Rattle.hnsr_circuit.specs.Entry.{revokingWords, roomAnswer, tablesAnswer, clockAnswer}
 use Rattle.hnsr_circuit.specs.Revocation.{withoutActions, pendingThere, circuitThere, endPendingThere}
 use Rattle.hnsr_circuit.specs.Revocation.{endCircuitThere, revokePending, revokeCircuitThere, walk}
@@ -37,55 +37,31 @@ use Rattle.hnsr_circuit.specs.Laws.Lookups.{pick-has, any-imp, any-pick}
 use Rattle.hnsr_circuit.specs.Laws.Marks.{clear-same}
 use Rattle.hnsr_circuit.specs.Laws.Due.{due-none, due-is-one, due-later}
 use Rattle.hnsr_run.specs.Waking.{Wakes}
+use Rattle.hnsr_run.specs.Run.Full.{SameTables, two-tables}
 use Rattle.hnsr_run.specs.Run.Rel.{proceed-cases, refused-differs}
 use Rattle.hnsr_run.specs.Run.Steps.{long-enough, room-same}
 use Rattle.hnsr_run.specs.Run.WalkEnds.{nothing-cleared, walk-ends, walk-idle, walk-keeps}
 use Rattle.hnsr_run.specs.Run.ShapeTables.{pick-fits}
 use Rattle.hnsr_run.specs.Run.Shape.{Shape}
+use Rattle.hnsr_run.specs.Run.ShapeCalls.{usage-unmarked}
 use Rattle.hnsr_run.specs.Run.ShapeRuns.{step-shape, shape-places}
-
--- ---- the three tables of two worlds are the same
-record SameTables (w v : World) : Type 0 where
-  pending : v .pending ≡ w .pending
-  circuits : v .circuits ≡ w .circuits
-  ledger : v .ledger ≡ w .ledger
-
-then-same : {u w v : World} → SameTables u w → SameTables w v → SameTables u v
-then-same s t = record {
-  pending = t .pending ∙ s .pending;
-  circuits = t .circuits ∙ s .circuits;
-  ledger = t .ledger ∙ s .ledger;
-}
-
-tell-if-same : (a : HnsrAnswer) (m : Message) (w : World) → SameTables w (tellIf a m w .world)
-unfolding tellIf queued
-tell-if-same Taken m w = record { pending = refl; circuits = refl; ledger = refl }
-tell-if-same (Refused e) m w = record { pending = refl; circuits = refl; ledger = refl }
-
-tell-same : (m : Message) (w : World) → SameTables w (tell m w .world)
-unfolding tell
-tell-same m w = tell-if-same (canQueue m w) m w
 
 -- ---- an end clears the record at its place, and no other table
 pending-ended : (n : Notice) (w : World) (place : ℕ)
     → SameTables (endPendingThere w place) (revokePending n w place .world)
 unfolding revokePending
-pending-ended n w place = then-same (tell-same _ (endPendingThere w place)) (tell-same _ _)
+pending-ended n w place = two-tables _ _ (endPendingThere w place)
 
 circuit-ended : (n : Notice) (w : World) (place : ℕ)
     → SameTables (endCircuitThere w place) (revokeCircuitThere n w place .world)
 unfolding revokeCircuitThere
-circuit-ended n w place = then-same (tell-same _ (endCircuitThere w place)) (tell-same _ _)
+circuit-ended n w place = two-tables _ _ (endCircuitThere w place)
 
 module _ (n : Notice) (w : World) (place : ℕ) where
   pending-clears : revokePending n w place .world .pending
       ≡ set (w .pending) place (clearPending (pendingThere w place))
   unfolding endPendingThere withoutActions
   pending-clears = pending-ended n w place .pending
-
-  pending-keeps-circuits : revokePending n w place .world .circuits ≡ w .circuits
-  unfolding endPendingThere withoutActions
-  pending-keeps-circuits = pending-ended n w place .circuits
 
   pending-keeps-ledger : revokePending n w place .world .ledger ≡ w .ledger
   unfolding endPendingThere withoutActions
@@ -117,10 +93,6 @@ module _ (now : ℕ) where
   usage-off : (u : ReservationUsage) → isUsage u ≡ false → usageOver now u ≡ false
   unfolding isUsage usageOver
   usage-off u e = ap (λ b. b && leb (u .«expires_at») now) e
-
-  usage-unmarked : (u : ReservationUsage) → isUsage (clearUsage u) ≡ false
-  unfolding isUsage
-  usage-unmarked u = refl
 
   -- a deadline that is over makes a pending record over
   none-by-deadline : (t : List RelayPending) → any (pendingOver now) t ≡ false

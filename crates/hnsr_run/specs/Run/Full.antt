@@ -223,16 +223,20 @@ two-on {f} m n w j Q P e d = rw (map-append f (tell m w .routes) (tell n (tell m
 pub record SameTables (w v : World) : Type 0 where
   pub pending : v .pending ≡ w .pending
   pub circuits : v .circuits ≡ w .circuits
+  pub ledger : v .ledger ≡ w .ledger
 
 tell-if-tables : (a : HnsrAnswer) (m : Message) (w : World) → SameTables w (tellIf a m w .world)
 unfolding tellIf queued
-tell-if-tables Taken m w = record { pending = refl; circuits = refl }
-tell-if-tables (Refused e) m w = record { pending = refl; circuits = refl }
+tell-if-tables Taken m w = record { pending = refl; circuits = refl; ledger = refl }
+tell-if-tables (Refused e) m w = record { pending = refl; circuits = refl; ledger = refl }
 
 pub tell-tables : (m : Message) (w : World) → SameTables w (tell m w .world)
 unfolding tell
 tell-tables m w = tell-if-tables (canQueue m w) m w
 
 pub two-tables : (m n : Message) (w : World) → SameTables w (andThen (tell m w) (tell n) .world)
-two-tables m n w = let a = tell-tables m w in let b = tell-tables n (tell m w .world) in
-    record { pending = b .pending ∙ a .pending; circuits = b .circuits ∙ a .circuits }
+two-tables m n w = let a = tell-tables m w in let b = tell-tables n (tell m w .world) in record {
+  pending = b .pending ∙ a .pending;
+  circuits = b .circuits ∙ a .circuits;
+  ledger = b .ledger ∙ a .ledger;
+}

@@ -3,14 +3,15 @@
 use Prim.Native.Nat.{ℕ, zero, suc, _≤_, _<_}
 use native.Mathlib.Omega.{arith}
 use mathlib.Core.Path.{_≡_, refl, sym, ap, _∙_, subst}
-use mathlib.Core.Bool.{Bool, true, false, _&&_, _||_}
+use mathlib.Core.Bool.{Bool, true, false, cond, _&&_, _||_}
 use mathlib.Core.List.{List, [], _∷_}
 use lib.Dec.{leb, ltb, eqb}
 use lib.ListN.{length, getD, set, length-set}
+use lib.Seq.{getD-set-same, getD-set-other}
 use borrow.Author.Tests.{leb-true, eqb-true, lt-ltb, eqb-false}
 use Rattle.hns_encoding.specs.Laws.Tests.{split, both, neither, clash}
-use Rattle.hns_encoding.specs.Sums.{count}
-use Rattle.hns_encoding.specs.Laws.Sums.{count-length}
+use Rattle.hns_encoding.specs.Sums.{one, count}
+use Rattle.hns_encoding.specs.Laws.Sums.{total-set, count-length}
 use Rattle.hnsr_circuit.specs.declared.tables.scan.Walked.{Walked}
 use Rattle.hnsr_circuit.specs.Table.{any, placeOf, clear, notYet, above, next}
 use Rattle.hnsr_circuit.specs.World.{World}
@@ -23,30 +24,11 @@ use Rattle.hnsr_run.specs.Run.Walks.{when-cases}
 module _ {A : Type 0} where
   -- ---- tables
   -- what every place has not, no record has
-  pub no-place : (p : A → Bool) (d : A) (t : List A) → ((k : ℕ) → k < length t → p (getD t k d) ≡ false)
+  no-place : (p : A → Bool) (d : A) (t : List A) → ((k : ℕ) → k < length t → p (getD t k d) ≡ false)
       → any p t ≡ false
   no-place p d t h = split (any p t)
       (λ e. clash (ap p (pick-at p d t) ∙ pick-has p d t e) (h (placeOf p t) (place-found p t e)))
       (λ e. e)
-
-  set-here : (t : List A) (i : ℕ) (r d : A) → i < length t → getD (set t i r) i d ≡ r
-  set-here [] i r d l = absurd (omega arith)
-  set-here (x ∷ xs) zero r d l = refl
-  set-here (x ∷ xs) (suc i) r d l = set-here xs i r d (omega arith)
-
-  set-there : (t : List A) (i k : ℕ) (r d : A) → (i ≡ k → ⊥) → getD (set t i r) k d ≡ getD t k d
-  set-there [] i k r d n = refl
-  set-there (x ∷ xs) zero zero r d n = absurd (n refl)
-  set-there (x ∷ xs) zero (suc k) r d n = refl
-  set-there (x ∷ xs) (suc i) zero r d n = refl
-  set-there (x ∷ xs) (suc i) (suc k) r d n = set-there xs i k r d (λ e. n (ap suc e))
-
-  -- one fewer has p
-  set-fewer : (p : A → Bool) (t : List A) (i : ℕ) (r d : A) → i < length t → p (getD t i d) ≡ true → p r ≡ false
-      → suc (count p (set t i r)) ≡ count p t
-  set-fewer p [] i r d l h n = absurd (omega arith)
-  set-fewer p (x ∷ xs) zero r d l h n = rw (h, n) (omega arith)
-  set-fewer p (x ∷ xs) (suc i) r d l h n = omega (arith, set-fewer p xs i r d (omega arith) h n)
 
   -- nothing to clear
   pub nothing-cleared : (unmark : A → A) (p : A → Bool) (t : List A) → any p t ≡ false → clear unmark p t ≡ t
@@ -102,8 +84,9 @@ module _ {A : Type 0} (idOf : A → ℕ) (table : World → List A) (p : A → B
           subst (λ (u : List A). count p u ≤ turns) (sym (ends w (n .place)))
           (omega (
             arith,
-            set-fewer p t (n .place) (unmark (getD t (n .place) d)) d (s .within) (s .has)
-                (off (getD t (n .place) d)),
+            total-set (one p) t (n .place) (unmark (getD t (n .place) d)) d (s .within),
+            ap (λ b. cond {A = ℕ} b 1 0) (s .has),
+            ap (λ b. cond {A = ℕ} b 1 0) (off (getD t (n .place) d)),
           ))
 
       ahead : n .taken ≡ true → Ahead n (table (end w (n .place) .world))
@@ -120,12 +103,12 @@ module _ {A : Type 0} (idOf : A → ℕ) (table : World → List A) (p : A → B
 
               here : eqb (n .place) k ≡ true → p (getD (set t (n .place) r) k d) ≡ false
               here x = subst (λ i. p (getD (set t (n .place) r) i d) ≡ false) (eqb-true (n .place) k x)
-                  (ap p (set-here t (n .place) r d (next-stands idOf p c t d e .within))
+                  (ap p (getD-set-same t (n .place) r d (next-stands idOf p c t d e .within))
                   ∙ off (getD t (n .place) d))
 
               there : eqb (n .place) k ≡ false → above n (idOf (getD (set t (n .place) r) k d)) k ≡ true
               there x =
-                  let same = set-there t (n .place) k r d (eqb-false (n .place) k x) in
+                  let same = getD-set-other t (n .place) k r d (λ e. eqb-false (n .place) k x (sym e)) in
                   let has = ap p (sym same) ∙ f in
                   ap (λ (a : A). above n (idOf a) k) same
                   ∙ behind-it n (idOf (getD t k d)) k

@@ -249,13 +249,16 @@ dueRow (At n) = 1 ∷ n ∷ []
 unfoldable pub toldRow : Told → List ℕ
 unfolding statusRow dueRow
 toldRow silent = []
-toldRow (statusIs s) = statusRow s
+toldRow (statusIs s capacity) = statusRow s
 toldRow (dueIs d) = dueRow d
 
--- what `status` and `next_due` say of the world left, and how many ledger records there are
+-- what `status` (asked for any name and circuit) and `next_due` say of the world left, and how many ledger records there
+-- are
 unfoldable pub worldRow : World → List ℕ
 unfolding toldRow machine
-worldRow w = toldRow (step w callStatus .told) ++ toldRow (step w callNextDue .told) ++ (count isUsage (w .ledger) ∷ [])
+worldRow w =
+    toldRow (step w (callStatus (1 ∷ []) 0) .told)
+    ++ toldRow (step w callNextDue .told) ++ (count isUsage (w .ledger) ∷ [])
 
 -- ---- the whole state, by ascending key
 unfoldable pub peerNumber : HnsrPeerId → ℕ

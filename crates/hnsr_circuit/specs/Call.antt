@@ -24,7 +24,7 @@ pub record Start : Type 0 where
 
 -- the other calls
 pub data Call : Type 0 where
-  callStatus : Call
+  callStatus : (peer : List ℕ) → (circuit : ℕ) → Call
   callNextDue : Call
   callObserveTime : (now : ℕ) → Call
   callReplaceEnabled : (expected : ℕ) → (enabled : Bool) → (room : ℕ) → Call
@@ -35,10 +35,10 @@ pub data Call : Type 0 where
   callExpire : (now : ℕ) → (room : ℕ) → Call
 
 -- ---- what is said of some calls, and of all others alike
-abbrev pub onCall : {A : Type 0} → (status : A) → (handle : Packet → (room : ℕ) → A)
+abbrev pub onCall : {A : Type 0} → (status : (peer : List ℕ) → (circuit : ℕ) → A) → (handle : Packet → (room : ℕ) → A)
     → (acknowledge : (generation sequence : ℕ) → (delivered : Bool) → (room : ℕ) → A)
     → (disconnect : (peer : List ℕ) → (room : ℕ) → A) → (other : Call → A) → Call → A
-onCall s h a d o callStatus = s
+onCall s h a d o (callStatus peer circuit) = s peer circuit
 onCall s h a d o (callHandle q room) = h q room
 onCall s h a d o (callAcknowledge generation sequence delivered room) = a generation sequence delivered room
 onCall s h a d o (callDisconnect peer room) = d peer room
@@ -50,14 +50,14 @@ onCall s h a d o (callExpire now room) = o (callExpire now room)
 
 -- of `handle` alone
 abbrev pub onHandle : {A : Type 0} → (other : A) → (handle : Packet → (room : ℕ) → A) → Call → A
-onHandle o h c = onCall o h (λ generation sequence delivered room. o) (λ peer room. o) (λ x. o) c
+onHandle o h c = onCall (λ peer circuit. o) h (λ generation sequence delivered room. o) (λ peer room. o) (λ x. o) c
 
 -- ---- the steps
 unfoldable pub start : World → Start → Outcome
 start w s = newRelay w (s .session) (s .generation) (s .config) (s .now)
 
 unfoldable pub step : World → Call → Outcome
-step w callStatus = status w
+step w (callStatus peer circuit) = status w peer circuit
 step w callNextDue = nextDue w
 step w (callObserveTime now) = observeTime w now
 step w (callReplaceEnabled expected enabled room) = replaceEnabled w expected enabled room

@@ -28,6 +28,8 @@ pub mod Opening
 pub mod Revocation
 -- ---- what next due tells
 pub mod Due
+pub mod Capacity
+pub mod Fits
 -- ---- what holds of every call
 pub mod Rows
 pub mod Refusals

@@ -32,6 +32,7 @@ pub mod New
 pub mod Status
 pub mod NextDue
 pub mod Ends
+pub mod Fits
 pub mod Call
 -- ---- how the code holds it
 pub mod Code

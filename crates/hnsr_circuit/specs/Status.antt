@@ -1,17 +1,23 @@
--- `status` (its fields and their order are the Rust's HnsrRuntimeStatus).
+-- `status`: the fields of the Rust's HnsrRuntimeStatus, in its order, and beside them the action capacity that is left
+-- for a peer and a circuit.
 use Prim.Native.Nat.{ℕ, min}
+use mathlib.Core.Bool.{false}
 use mathlib.Core.List.{List}
+use lib.ListN.{length}
 use Rattle.hns_encoding.specs.Numbers.{top}
+use Rattle.hnsr_circuit.specs.declared.peer.HnsrPeerId.{HnsrPeerId}
 use Rattle.hnsr_circuit.specs.declared.records.RelayCircuit.{RelayCircuit}
 use Rattle.hnsr_circuit.specs.declared.tables.scan.CircuitTotals.{CircuitTotals}
 use Rattle.hnsr_circuit.specs.declared.runtime.OpaqueRelayRuntime.{OpaqueRelayRuntime}
 use Rattle.hnsr_circuit.specs.declared.runtime.HnsrRuntimeStatus.{HnsrRuntimeStatus}
 use Rattle.hns_encoding.specs.Sums.{count, total}
 use Rattle.hnsr_circuit.specs.Circuits.{isCircuit, queuedIn}
-use Rattle.hnsr_circuit.specs.Inflight.{isAction}
-use Rattle.hnsr_circuit.specs.World.{World, statusIs, Outcome, proceed, telling}
+use Rattle.hnsr_circuit.specs.Answers.{_then_}
+use Rattle.hnsr_circuit.specs.Peer.{peerOf}
+use Rattle.hnsr_circuit.specs.Inflight.{isAction, tallied, capacityLeft}
+use Rattle.hnsr_circuit.specs.World.{World, configOf, statusIs, Outcome, proceed, telling}
 use Rattle.hnsr_circuit.specs.Counts.{pendingCount}
-use Rattle.hnsr_circuit.specs.Entry.{tablesAnswer}
+use Rattle.hnsr_circuit.specs.Entry.{tablesAnswer, peerAnswer}
 
 -- what is asked of the circuits; the sum of the queues stops at its top
 abbrev pub circuitTotals : List RelayCircuit → CircuitTotals
@@ -36,5 +42,11 @@ statusFrom h pending circuits actions = record {
 unfoldable pub statusOf : World → HnsrRuntimeStatus
 statusOf w = statusFrom (w .runtime) (pendingCount w) (circuitTotals (w .circuits)) (count isAction (w .inflight))
 
-unfoldable pub status : World → Outcome
-status w = proceed w (tablesAnswer w) (telling w (statusIs (statusOf w)))
+-- STATUS.6: how many further actions fit, toward a peer and under a circuit, known or not
+unfoldable pub actionCapacity : World → HnsrPeerId → (circuit : ℕ) → ℕ
+actionCapacity w peer circuit = capacityLeft (configOf w) (tallied false circuit peer (w .inflight))
+
+unfoldable pub status : World → (peer : List ℕ) → (circuit : ℕ) → Outcome
+status w peer circuit =
+    proceed w (tablesAnswer w then peerAnswer (length peer))
+    (telling w (statusIs (statusOf w) (actionCapacity w (peerOf peer) circuit)))

@@ -34,7 +34,7 @@ configOf w = w .runtime .config
 -- what a call tells beside its answer and its routes
 pub data Told : Type 0 where
   silent : Told
-  statusIs : HnsrRuntimeStatus → Told
+  statusIs : HnsrRuntimeStatus → (capacity : ℕ) → Told
   dueIs : NextDue → Told
 
 pub record Outcome : Type 0 where

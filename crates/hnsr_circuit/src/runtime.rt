@@ -86,10 +86,12 @@ pub struct Sending {
     pub places: Places,
 }
 
-// What `status` and `next_due` hand back: the answer, and what they tell where it is taken.
+// What `status` and `next_due` hand back: the answer, and what they tell where it is taken. Beside the Rust's fields
+// `status` tells how many further actions fit for the peer and the circuit that it was asked for.
 pub struct StatusTold {
     pub answer: HnsrAnswer,
     pub status: HnsrRuntimeStatus,
+    pub action_capacity: usize,
 }
 
 pub struct DueTold {

@@ -14,14 +14,15 @@ use Rattle.hnsr_circuit.specs.declared.runtime.HnsrRuntimeStatus.{HnsrRuntimeSt
 use Rattle.hnsr_circuit.specs.declared.records.RelaySide.{RelaySide}
 use Rattle.hnsr_circuit.specs.declared.answer.HnsrAnswer.the-variants.{Taken}
 use Rattle.hnsr_circuit.specs.World.{World, Outcome, statusIs}
-use Rattle.hnsr_circuit.specs.Peer.{peerGood, samePeer}
+use Rattle.hnsr_circuit.specs.Peer.{peerGood, peerOf, samePeer}
 use Rattle.hnsr_circuit.specs.Circuits.{otherSide, queuedTo}
+use Rattle.hnsr_circuit.specs.Inflight.{capacityLeft}
 use Rattle.hnsr_circuit.specs.Route.{Route}
 use Rattle.hnsr_circuit.specs.Opcode.{opOpen, opData}
 use Rattle.hnsr_circuit.specs.Entry.{handleWords, acknowledgeWords}
 use Rattle.hnsr_circuit.specs.Packet.{Packet, sender, circuitIn}
 use Rattle.hnsr_circuit.specs.Call.{Start, Call, callStatus, callHandle, callAcknowledge, onHandle}
-use Rattle.hnsr_run.specs.Past.{Action, Past, peerOn, credit, circuitLeft, totalLeft, weight}
+use Rattle.hnsr_run.specs.Past.{Action, Past, peerOn, credit, circuitLeft, totalLeft, weight, tally}
 use Rattle.hnsr_run.specs.History.{Event, begin, afterEvent, reckon}
 
 -- the total that the grant of an admitted OPEN brings is below 2^64 − 1. Its bytes per circuit need no bound: the
@@ -86,11 +87,15 @@ module _ (step : World → Call → Outcome) where
 
   -- a world and what the events tell
   pub record Holds (w : World) (h : Past) : Type 0 where
-    -- (a) `status` answers as many actions as are outstanding
-    pub status : (s : HnsrRuntimeStatus)
-        × (step w callStatus .answer ≡ Taken)
-        × (step w callStatus .told ≡ statusIs s)
+    -- (a) `status`, for every name and circuit, answers as many actions as are outstanding, and as many further ones as
+    -- these leave room for
+    pub status : (peer : List ℕ) (circuit : ℕ) → peerGood (length peer) ≡ true
+        → (s : HnsrRuntimeStatus)
+        × (capacity : ℕ)
+        × (step w (callStatus peer circuit) .answer ≡ Taken)
+        × (step w (callStatus peer circuit) .told ≡ statusIs s capacity)
         × (s .«queued_actions» ≡ length (h .out))
+        × (capacity ≡ capacityLeft (h .head .config) (tally circuit (peerOf peer) (h .out)))
     -- (b) in every active circuit each direction's queued count equals the bytes of DATA taken and unacknowledged there
     pub queued : (j : ℕ) → h .active j ≡ true → (side : RelaySide)
         → queuedTo side (circuitIn w j) ≡ total (weight j side) (h .out)

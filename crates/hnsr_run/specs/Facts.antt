@@ -1,21 +1,29 @@
 -- What is known of the world that a run leaves, for work that builds on runs: first what is of the world alone, then
 -- how it agrees with history. Each is a theorem by itself, and its proof is in Run/. The list of calls is any, so these
 -- hold at every moment of a run.
-use Prim.Native.Nat.{ℕ, _≤_, _<_}
-use mathlib.Core.Path.{_≡_, refl, sym, subst}
+use Prim.Native.Nat.{ℕ, _+_, _≤_, _<_}
+use native.Mathlib.Omega.{arith}
+use mathlib.Core.Path.{_≡_, refl, sym, _∙_, subst}
 use mathlib.Core.Bool.{true, false, not}
+use mathlib.Core.List.{List}
 use lib.Dec.{ltb, eqb}
+use lib.ListN.{length, replicate}
 use Rattle.hns_encoding.specs.Numbers.{top}
 use Rattle.hns_encoding.specs.Sums.{only, total, count}
 use Rattle.hnsr_body.specs.declared.values.ReservationId.{ReservationId}
 use Rattle.hnsr_circuit.specs.declared.peer.HnsrPeerId.{HnsrPeerId}
 use Rattle.hnsr_circuit.specs.declared.records.RelaySide.{RelaySide}
+use Rattle.hnsr_circuit.specs.declared.answer.HnsrAnswer.the-variants.{Taken, Refused}
+use Rattle.hnsr_circuit.specs.declared.answer.HnsrRuntimeError.the-variants.{Capacity}
 use Rattle.hnsr_circuit.specs.Peer.{samePeer}
 use Rattle.hnsr_circuit.specs.Circuits.{creditOf, queuedTo}
 use Rattle.hnsr_circuit.specs.Ledger.{hasUsage, usageOf}
-use Rattle.hnsr_circuit.specs.Inflight.{isAction, tallied}
+use Rattle.hnsr_circuit.specs.Inflight.{isAction, tallied, capacityLeft}
 use Rattle.hnsr_circuit.specs.World.{World, configOf}
-use Rattle.hnsr_circuit.specs.Queue.{generationOf, sequenceOf}
+use Rattle.hnsr_circuit.specs.Queue.{Message, generationOf, sequenceOf, send}
+use Rattle.hnsr_circuit.specs.Status.{actionCapacity}
+use Rattle.hnsr_circuit.specs.Fits.{answersTo, sentAll, Toward, AllToward, Ready}
+use Rattle.hnsr_circuit.specs.Laws.Fits.{fits-exactly as exactly}
 use Rattle.hnsr_circuit.specs.Packet.{hasCircuit, circuitIn}
 use Rattle.hnsr_circuit.specs.Revocation.{hasPending, pendingIn}
 use Rattle.hnsr_circuit.specs.Call.{start}
@@ -23,8 +31,8 @@ use Rattle.hnsr_run.specs.Past.{Action, Past, credit, weight, tally, liv
 use Rattle.hnsr_run.specs.Claim.{Run, worldAt, pastAt}
 use Rattle.hnsr_run.specs.Tables.{SameCircuit, SameOpen}
 use Rattle.hnsr_run.specs.SameRun.{same-world}
-use Rattle.hnsr_run.specs.Theorem.{relay, run-rel, companion}
-use Rattle.hnsr_run.specs.Run.Actions.{view, tally-held}
+use Rattle.hnsr_run.specs.Theorem.{relay, capacity-is as capacity-reckoned, run-rel, companion}
+use Rattle.hnsr_run.specs.Run.Actions.{view, none-numbered, tally-held}
 use Rattle.hnsr_run.specs.Run.Circuits.{none, stray, idle}
 use Rattle.hnsr_run.specs.Run.Rel.{Live, Base}
 use Rattle.hnsr_run.specs.Run.Runs.{Between}
@@ -160,6 +168,27 @@ module _ (r : Run relay) where
   -- the three counts of the action capacity
   pub tally-is : (j : ℕ) (peer : HnsrPeerId) → tallied false j peer (left .inflight) ≡ tally j peer (told .out)
   tally-is = tally-held (base .full .acts)
+
+  -- so many further ones fit, reckoned from history
+  pub capacity-is : (peer : HnsrPeerId) (circuit : ℕ)
+      → actionCapacity left peer circuit ≡ capacityLeft (told .head .config) (tally circuit peer (told .out))
+  capacity-is = capacity-reckoned (related .0 .rel)
+
+  -- the table can take them: it has the places, and numbers are not in use
+  pub ready : Ready left
+  ready = record {
+    places = base .full .acts .places;
+    fresh = none-numbered (base .full .acts);
+  }
+
+  -- with n left exactly n messages to that peer about that circuit can be queued, and the next finds a 10
+  pub fits-exactly : (peer : HnsrPeerId) (circuit : ℕ) (ms : List Message) → AllToward peer circuit ms
+      → told .head .next + length ms ≤ top 64
+      → length ms ≡ capacityLeft (told .head .config) (tally circuit peer (told .out))
+      → (m : Message) → Toward peer circuit m
+      → (answersTo left ms ≡ replicate (length ms) Taken) × (send (sentAll left ms) m .answer ≡ Refused Capacity)
+  fits-exactly peer circuit ms aimed low exact m last =
+      exactly left ready peer circuit ms aimed (omega (arith, next-is)) (exact ∙ sym (capacity-is peer circuit)) m last
 
   -- ---- queues: each queued count is the bytes outstanding there, and no DATA is outstanding elsewhere
   pub queue-is : (j : ℕ) → told .active j ≡ true → (side : RelaySide)

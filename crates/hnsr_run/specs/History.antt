@@ -301,7 +301,7 @@ handleIn q room a rs h =
 
 -- ---- what a call changes
 abbrev pub after : Past → Call → HnsrAnswer → List Route → Past
-after h callStatus a rs = h
+after h (callStatus peer circuit) a rs = h
 after h callNextDue a rs = h
 after h (callObserveTime now) a rs = cond (taken a) (movedTo h now) h
 after h (callReplaceEnabled expected on room) a rs = cond (taken a) (enableIn on rs h) h

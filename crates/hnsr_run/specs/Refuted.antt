@@ -3,6 +3,7 @@
 pub mod Machines
 -- ---- (a) status
 pub mod Status
+pub mod Capacity
 -- ---- (b) queued counts
 pub mod Queued
 -- ---- (c) all are taken, in whatever order

@@ -1,6 +1,7 @@
 -- A run, computed. It shows that the claim speaks of something: every kind of call, taken and refused; every way in
 -- which an OPEN or a circuit ends; then several circuits on a shared reservation, both directions queued, a relay
 -- switched off and on, an id drawn again, an expired OPEN, a disconnect.
+use Prim.Native.Nat.{ℕ}
 use mathlib.Core.Path.{_≡_, refl}
 use mathlib.Core.Bool.{true, false}
 use mathlib.Core.List.{List, [], _∷_, _++_, map}
@@ -11,6 +12,7 @@ use Rattle.hnsr_circuit.specs.World.{World}
 use Rattle.hnsr_circuit.specs.Opcode.{opError}
 use Rattle.hnsr_circuit.specs.Entry.{handleWords, acknowledgeWords}
 use Rattle.hnsr_circuit.specs.Worked.Cases.{lent, notAdmitted}
+use Rattle.hnsr_circuit.specs.Code.Told.{capacityIn}
 use Rattle.hnsr_circuit.specs.Call.{Call, start, step, callStatus, callNextDue, callObserveTime, callReplaceEnabled}
 use Rattle.hnsr_circuit.specs.Call.{callHandle, callDisconnect, callRevokeReservation, callExpire}
 use Rattle.hnsr_circuit.specs.Worked.All.{machine}
@@ -63,6 +65,7 @@ endings =
     ∷ acked 1 99
     ∷ callReplaceEnabled 2 false ample
     ∷ callDisconnect [] ample
+    ∷ callStatus [] 15
     ∷ callRevokeReservation (record { high = 0; low = 4 }) 0
     ∷ callExpire 99 ample
     ∷ callObserveTime 99
@@ -72,7 +75,7 @@ endings =
     ∷ callExpire 100 ample
     ∷ callObserveTime 100
     ∷ callNextDue
-    ∷ callStatus
+    ∷ callStatus (2 ∷ []) 15
     ∷ revokes 4
     ∷ []
 
@@ -108,7 +111,7 @@ sharing =
     ∷ leaves 4
     ∷ closes 3 7 113
     ∷ sends 2 7 10 99
-    ∷ callStatus
+    ∷ callStatus (2 ∷ []) 7
     ∷ []
 
 abbrev pub richCalls : List Call
@@ -116,7 +119,7 @@ richCalls = endings ++ sharing
 
 pub answers-endings : map numberOf (events step (start tables fresh .world) endings)
     ≡ 0 ∷ 0 ∷ 0 ∷ 0 ∷ 0 ∷ 0 ∷ 0 ∷ 0 ∷ 0 ∷ 0 ∷ 0 ∷ 0 ∷ 0 ∷ 0 ∷ 0 ∷ 0 ∷ 0 ∷ 0 ∷ 0 ∷ 0 ∷ 0 ∷ 0 ∷ 0 ∷ 0 ∷ 0 ∷ 0
-    ∷ 10 ∷ 13 ∷ 17 ∷ 14 ∷ 1 ∷ 20 ∷ 5 ∷ 4 ∷ 22 ∷ 7 ∷ 7 ∷ 0 ∷ 0 ∷ 0 ∷ 0 ∷ 0 ∷ 0 ∷ 0 ∷ []
+    ∷ 10 ∷ 13 ∷ 17 ∷ 14 ∷ 1 ∷ 20 ∷ 5 ∷ 4 ∷ 4 ∷ 22 ∷ 7 ∷ 7 ∷ 0 ∷ 0 ∷ 0 ∷ 0 ∷ 0 ∷ 0 ∷ 0 ∷ []
 unfolding machine lent notAdmitted
 answers-endings = refl
 
@@ -165,6 +168,15 @@ drawn = refl
 pub next-number : pastAfter richCalls .head .next ≡ 18
 unfolding machine lent notAdmitted
 next-number = refl
+
+-- how many further actions `status` tells: nine of sixteen are outstanding, three of them on each circuit, of which
+-- eight may be
+abbrev fitting : (circuit : ℕ) → ℕ
+fitting circuit = capacityIn (step (worldAfter richCalls) (callStatus (2 ∷ []) circuit) .told)
+
+pub fit : map fitting (7 ∷ 8 ∷ 0 ∷ []) ≡ 5 ∷ 5 ∷ 7 ∷ []
+unfolding machine lent notAdmitted
+fit = refl
 
 -- bytes of DATA taken and unacknowledged toward the requester and the endpoint of each circuit: of circuit 7 the 500
 -- toward the endpoint are acknowledged

@@ -51,7 +51,7 @@ module _ (P : OpaqueRelayConfig → (generation next : ℕ) → Type 0) where
 
   of-after : (h : Past) (c : Call) (a : HnsrAnswer) (rs : List Route) → Of h
       → P (h .head .config) (h .head .generation + 1) 1 → Of (after h c a rs)
-  of-after h callStatus a rs e s = e
+  of-after h (callStatus peer circuit) a rs e s = e
   of-after h callNextDue a rs e s = e
   of-after h (callObserveTime now) a rs e s = choose Of (taken a) _ h (λ x. e) (λ x. e)
   of-after h (callReplaceEnabled expected on room) a rs e s = choose Of (taken a) _ h

@@ -3,33 +3,35 @@
 use Prim.Native.Nat.{ℕ, _<_}
 use native.Mathlib.Omega.{arith}
 use mathlib.Core.Path.{_≡_, refl, sym, ap, _∙_, subst}
-use mathlib.Core.List.{[], map}
+use mathlib.Core.Bool.{true}
+use mathlib.Core.List.{List, [], map}
 use lib.ListN.{length}
 use Rattle.hns_encoding.specs.Numbers.{top}
+use Rattle.hnsr_circuit.specs.declared.peer.HnsrPeerId.{HnsrPeerId}
 use Rattle.hnsr_circuit.specs.declared.records.RelayCircuit.{RelayCircuit}
 use Rattle.hnsr_circuit.specs.declared.records.RelaySide.{RelaySide}
 use Rattle.hnsr_circuit.specs.declared.records.RelaySide.the-variants.{Requester, Endpoint}
-use Rattle.hnsr_circuit.specs.declared.answer.HnsrRuntimeError.the-variants.{Short}
-use Rattle.hnsr_circuit.specs.Answers.{check}
-use Rattle.hnsr_circuit.specs.Inflight.{isAction}
+use Rattle.hnsr_circuit.specs.Peer.{peerGood, peerOf}
+use Rattle.hnsr_circuit.specs.Inflight.{isAction, capacityLeft}
 use Rattle.hnsr_circuit.specs.World.{World, Outcome, statusIs, telling, proceed, atTime}
 use Rattle.hnsr_circuit.specs.Queue.{sequenceOf}
-use Rattle.hnsr_circuit.specs.Entry.{tablesAnswer}
+use Rattle.hnsr_circuit.specs.Entry.{tablesAnswer, peerAnswer}
 use Rattle.hnsr_circuit.specs.Packet.{Packet, circuitIn}
 use Rattle.hnsr_circuit.specs.Data.{handleData}
-use Rattle.hnsr_circuit.specs.Status.{statusOf, status}
+use Rattle.hnsr_circuit.specs.Status.{statusOf, actionCapacity, status}
 use Rattle.hnsr_circuit.specs.Worked.Cases.{lent}
 use Rattle.hnsr_circuit.specs.Call.{start, callStatus, step}
 use Rattle.hnsr_circuit.specs.Pending.{pendingAt}
 use Rattle.hnsr_circuit.specs.Circuits.{circuitAt, otherSide, peerAt, creditOf}
 use Rattle.hnsr_circuit.specs.Laws.Answers.{number-zero}
 use Rattle.hnsr_circuit.specs.Laws.Totals.{ones-length}
-use Rattle.hnsr_run.specs.Past.{Known, Past, peerOn, credit, withOut, movedTo}
+use Rattle.hnsr_run.specs.Past.{Known, Past, peerOn, credit, tally, withOut, movedTo}
 use Rattle.hnsr_run.specs.History.{begin}
 use Rattle.hnsr_run.specs.Claim.{Sends, Passes, Machine, leftBy, delivered, Holds, Run, worldAt, pastAt, Claim}
 use Rattle.hnsr_run.specs.Tables.{SameCircuit, Tabled, Companion}
 use Rattle.hnsr_run.specs.Talk.{tables, fresh, worldAfter, pastAfter}
 use Rattle.hnsr_run.specs.RichRun.{richCalls, new-taken, bounded}
+use Rattle.hnsr_run.specs.Run.Actions.{tally-held}
 use Rattle.hnsr_run.specs.Run.Circuits.{Agrees}
 use Rattle.hnsr_run.specs.Run.Rel.{Rel, Places, moved-rel}
 use Rattle.hnsr_run.specs.Run.Steps.{long-enough}
@@ -43,13 +45,20 @@ use Rattle.hnsr_run.specs.Run.Passing.{only-if, if}
 abbrev pub relay : Machine
 relay = record { new = start; step = step }
 
-status-is : (w : World) → Places w → step w callStatus ≡ telling w (statusIs (statusOf w))
-unfolding step status tablesAnswer proceed
-status-is w H = ap (λ b. proceed w (check b Short) (telling w (statusIs (statusOf w)))) (long-enough w H)
+status-is : (w : World) → Places w → (peer : List ℕ) (circuit : ℕ) → peerGood (length peer) ≡ true
+    → step w (callStatus peer circuit) ≡ telling w (statusIs (statusOf w) (actionCapacity w (peerOf peer) circuit))
+unfolding step status tablesAnswer peerAnswer proceed
+status-is w H peer circuit good = rw (long-enough w H, good)
 
 actions-are : {w : World} {h : Past} → Rel w h → statusOf w .«queued_actions» ≡ length (h .out)
 unfolding statusOf isAction
 actions-are {w} {h} R = R .base .full .acts .held .same (λ a. 1) ∙ ones-length (h .out)
+
+pub capacity-is : {w : World} {h : Past} → Rel w h → (peer : HnsrPeerId) (circuit : ℕ)
+    → actionCapacity w peer circuit ≡ capacityLeft (h .head .config) (tally circuit peer (h .out))
+unfolding actionCapacity
+capacity-is R peer circuit i =
+    capacityLeft (R .base .heads .config i) (tally-held (R .base .full .acts) circuit peer i)
 
 -- what was asked of a DATA before the acknowledgements is asked of it after
 sends-after : (h : Past) (j : ℕ) (side : RelaySide) (q : Packet) (room : ℕ) → Sends h j side q room
@@ -96,11 +105,13 @@ passes-same o h g j side q e P = record {
 
 holds : (w : World) (h : Past) → Rel w h → Places w → sequenceOf w < top 64 → Holds step w h
 holds w h R H low = record {
-  status = (
+  status = λ peer circuit good. (
     statusOf w,
-    ap (λ (o : Outcome). o .answer) (status-is w H),
-    ap (λ (o : Outcome). o .told) (status-is w H),
+    actionCapacity w (peerOf peer) circuit,
+    ap (λ (o : Outcome). o .answer) (status-is w H peer circuit good),
+    ap (λ (o : Outcome). o .told) (status-is w H peer circuit good),
     actions-are R,
+    capacity-is R (peerOf peer) circuit,
   );
   queued = λ j a side. sym (R .base .full .queue .queued j refl a side);
   acknowledged = λ order s rooms enough. let D = acknowledge-all rooms enough order w h R H low s in (

@@ -102,7 +102,7 @@ same-handled other q a rs h = refl
 
 pub words-alone : (h : Past) (c : Call) (a : HnsrAnswer) (rs : List Route)
     → after h c a (map unlabelled rs) ≡ after h c a rs
-words-alone h callStatus a rs = refl
+words-alone h (callStatus peer circuit) a rs = refl
 words-alone h callNextDue a rs = refl
 words-alone h (callObserveTime now) a rs = refl
 words-alone h (callReplaceEnabled expected on room) a rs =

@@ -24,7 +24,7 @@ use Rattle.lekchnam.specs.declared.interface.Layout.{Layout}
 
 -- raised with every change of a C function or of a struct that passes
 abbrev pub interfaceVersion : ℕ
-interfaceVersion = 2
+interfaceVersion = 3
 
 -- ---- the sample of a field: its number, with the highest bit of its width set, so that it fills the width
 abbrev pub byte : ℕ → ℕ
@@ -172,6 +172,7 @@ statusReplySample = record {
     «bytes_received» = wide 96;
     «revoked_work» = wide 97;
   };
+  «action_capacity» = wide 121;
 }
 
 abbrev pub dueReplySample : DueReply

@@ -73,7 +73,8 @@ pub record MadeReply (r : RelayReply) (p : List RelayPending) (c : List RelayCir
   pub words : r .words ≡ 0
 
 abbrev pub statusNumbered : StatusTold → StatusReply
-statusNumbered t = record { answer = number (t .answer); status = t .status }
+statusNumbered t =
+    record { answer = number (t .answer); status = t .status; «action_capacity» = t .«action_capacity» }
 
 abbrev pub dueSome : NextDue → Bool
 dueSome Never = false

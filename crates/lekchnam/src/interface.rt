@@ -34,7 +34,7 @@ use hnsr_circuit::runtime::RuntimeCounters;
 use hnsr_circuit::tables::places::Places;
 
 // Raised with every change of a C function or of a struct that passes.
-pub const VERSION: u32 = 2;
+pub const VERSION: u32 = 3;
 
 // One of each struct that passes; the answers of readers and writers are a cause and a body each.
 #[repr(C)]
@@ -248,6 +248,7 @@ fn status_reply_sample() -> StatusReply
             bytes_received: 0x8000_0000_0000_0060,
             revoked_work: 0x8000_0000_0000_0061,
         },
+        action_capacity: 0x8000_0000_0000_0079,
     }
 }
 

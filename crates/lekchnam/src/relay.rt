@@ -58,11 +58,12 @@ pub struct RelayReply {
     pub places: Places,
 }
 
-// A refused one tells zeros.
+// A refused one tells zeros. The action capacity is that of the peer and the circuit which were asked for.
 #[repr(C)]
 pub struct StatusReply {
     pub answer: u32,
     pub status: HnsrRuntimeStatus,
+    pub action_capacity: usize,
 }
 
 // Whether something is due, and when; a refused one tells that nothing is.
@@ -99,6 +100,7 @@ fn status_reply(told: StatusTold) -> StatusReply
     StatusReply {
         answer: answer.number(),
         status,
+        action_capacity: told.action_capacity,
     }
 }
 
@@ -395,14 +397,24 @@ pub extern "C" fn opaque_relay_status(
     inflight: &[InflightAction],
     runtime: OpaqueRelayRuntime,
     places: Places,
+    peer: &[u8],
+    circuit_id: u64,
 ) -> StatusReply
     ensures { λ r. ⌜
         ((l : List ReservationUsage)
         → r ≡ statusNumbered (statusTold
         (step (worldSeen runtime places (now (pending .entry)) (now (circuits .entry)) l (now (inflight .entry)))
-        callStatus))) ⌝ }
+        (callStatus (now (peer .entry)) «circuit_id»)))) ⌝ }
 {
-    let told = status(pending, circuits, inflight, runtime, places);
+    let told = status(
+        pending,
+        circuits,
+        inflight,
+        runtime,
+        places,
+        peer,
+        circuit_id,
+    );
     status_reply(told)
 }
 

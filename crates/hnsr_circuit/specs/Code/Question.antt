@@ -1,5 +1,6 @@
 -- What a walk asks of each pending record and circuit, and which actions a call drops, as the code hands it over: the
--- peer that is asked for stands beside it. What OPEN and ACCEPT ask of all records.
+-- peer that is asked for stands beside it. What `status` asks of all actions, and OPEN and ACCEPT of all records.
+use Prim.Native.Nat.{ℕ}
 use mathlib.Core.Bool.{Bool, false}
 use mathlib.Core.List.{List}
 use Rattle.hnsr_circuit.specs.declared.peer.HnsrPeerId.{HnsrPeerId}
@@ -10,6 +11,7 @@ use Rattle.hnsr_circuit.specs.declared.tables.question.RecordQuestion.{R
 use Rattle.hnsr_circuit.specs.declared.tables.question.RecordQuestion.the-variants.{Used, OfPeer, Under, Over}
 use Rattle.hnsr_circuit.specs.declared.tables.question.ActionsDropped.{ActionsDropped}
 use Rattle.hnsr_circuit.specs.declared.tables.question.ActionsDropped.the-variants.{Every, Toward}
+use Rattle.hnsr_circuit.specs.declared.tables.scan.ActionQuestion.{ActionQuestion}
 use Rattle.hnsr_circuit.specs.declared.tables.scan.Work.{Work}
 use Rattle.hnsr_circuit.specs.declared.tables.scan.WorkQuestion.{WorkQuestion}
 use Rattle.hns_encoding.specs.Sums.{count}
@@ -35,6 +37,11 @@ circuitHas (Over now) peer c = circuitOver now c
 unfoldable pub actionHas : ActionsDropped → HnsrPeerId → InflightAction → Bool
 actionHas Every peer a = isAction a
 actionHas Toward peer a = actionToward peer a
+
+-- ---- the three counts of the action capacity: what `status` asks of all actions
+abbrev pub capacityQuestion : (circuit : ℕ) → HnsrPeerId → ActionQuestion
+capacityQuestion circuit peer =
+    record { replacing = false; «circuit_id» = circuit; peer = peer; generation = 0; sequence = 0 }
 
 -- ---- how much work there is: what OPEN and ACCEPT ask of all records
 unfoldable pub pendingWork : WorkQuestion → List RelayPending → Work

@@ -1,4 +1,5 @@
 -- What `status`, `next_due` and `new` hand back, as the code does: the answer, and what is told or made.
+use Prim.Native.Nat.{ℕ}
 use mathlib.Core.Path.{_≡_}
 use mathlib.Core.Bool.{false, cond}
 use mathlib.Core.List.{List}
@@ -36,16 +37,22 @@ noStatus = record {
 
 abbrev pub statusIn : Told → HnsrRuntimeStatus
 statusIn silent = noStatus
-statusIn (statusIs s) = s
+statusIn (statusIs s capacity) = s
 statusIn (dueIs d) = noStatus
+
+abbrev pub capacityIn : Told → ℕ
+capacityIn silent = 0
+capacityIn (statusIs s capacity) = capacity
+capacityIn (dueIs d) = 0
 
 abbrev pub dueIn : Told → NextDue
 dueIn silent = Never
-dueIn (statusIs s) = Never
+dueIn (statusIs s capacity) = Never
 dueIn (dueIs d) = d
 
 abbrev pub statusTold : Outcome → StatusTold
-statusTold o = record { answer = o .answer; status = statusIn (o .told) }
+statusTold o =
+    record { answer = o .answer; status = statusIn (o .told); «action_capacity» = capacityIn (o .told) }
 
 abbrev pub dueTold : Outcome → DueTold
 dueTold o = record { answer = o .answer; due = dueIn (o .told) }

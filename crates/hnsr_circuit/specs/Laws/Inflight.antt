@@ -1,10 +1,11 @@
 -- Laws of the action capacity: nothing is left exactly where one of the three counts is at its limit; the tally is one
--- scan; ACCEPT's tally is the ordinary one of the table after its own actions are dropped.
+-- scan, and where nothing is replaced its total is all actions; ACCEPT's tally is the ordinary one of the table after
+-- its own actions are dropped.
 use Prim.Native.Nat.{ℕ, _-_, min}
 use native.Mathlib.Nat.{zero-add}
 use native.Mathlib.Omega.{arith}
 use mathlib.Core.Path.{_≡_, refl, sym, _∙_}
-use mathlib.Core.Bool.{Bool, true, false, not, _&&_, _||_, true≢false, false≢true}
+use mathlib.Core.Bool.{Bool, true, false, cond, not, _&&_, _||_, true≢false, false≢true}
 use mathlib.Core.List.{List}
 use lib.Dec.{eqb, leb}
 use borrow.Author.Tests.{leb-true, leb-false, eq-eqb, ne-eqb}
@@ -20,7 +21,7 @@ use Rattle.hns_encoding.specs.Sums.{one, count}
 use Rattle.hnsr_circuit.specs.Table.{also, cleared}
 use Rattle.hns_encoding.specs.Laws.Sums.{total-ext, total-map}
 use Rattle.hnsr_circuit.specs.Peer.{samePeer}
-use Rattle.hnsr_circuit.specs.Inflight.{actionUnder, actionToward, clearAction}
+use Rattle.hnsr_circuit.specs.Inflight.{isAction, actionUnder, actionToward, clearAction}
 use Rattle.hnsr_circuit.specs.Inflight.{dropped, retained, tallied, capacityLeft}
 
 -- ---- the three tests of the Rust
@@ -62,6 +63,15 @@ module _ (replacing : Bool) (id : ℕ) (peer : HnsrPeerId) where
         ← (fold-count (tallyTurn replacing id peer) (λ t. t .«for_peer»)
             (also (retained replacing id) (actionToward peer)) (λ b x i. refl) inflight 0 noTally),
       )
+
+-- ---- nothing replaced, every used action is counted
+pub all-counted : (id : ℕ) (t : List InflightAction) → count (retained false id) t ≡ count isAction t
+unfolding isAction
+all-counted id t = total-ext (one (retained false id)) (one (λ a. a .used)) t (λ a. plain (a .used))
+  where
+    plain : (u : Bool) → cond {A = ℕ} (u && true) 1 0 ≡ cond u 1 0
+    plain true = refl
+    plain false = refl
 
 -- ---- ACCEPT's tally
 module _ (id : ℕ) (peer : HnsrPeerId) where

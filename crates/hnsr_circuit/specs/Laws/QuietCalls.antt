@@ -31,12 +31,20 @@ use Rattle.hnsr_circuit.specs.Code.Told.{noStatus, statusTold, dueTold, 
 use Rattle.hnsr_circuit.specs.Laws.Queueing.{taken-is}
 
 -- ---- what is told
-pub tells-status : (few : Bool) (s : HnsrRuntimeStatus) (w : World)
-    → record { answer = check few Short; status = cond few noStatus s }
-    ≡ statusTold (proceed w (check few Short) (telling w (statusIs s)))
-unfolding proceed
-tells-status true s w = refl
-tells-status false s w = refl
+module _ (s : HnsrRuntimeStatus) (capacity : ℕ) (w : World) where
+  pub tells-status : (a : HnsrAnswer) → taken a ≡ true
+      → record { answer = Taken; status = s; «action_capacity» = capacity }
+      ≡ statusTold (proceed w a (telling w (statusIs s capacity)))
+  unfolding proceed
+  tells-status Taken t = refl
+  tells-status (Refused e) t = absurd (false≢true t)
+
+  pub tells-nothing : (a : HnsrAnswer) → taken a ≡ false
+      → record { answer = a; status = noStatus; «action_capacity» = 0 }
+      ≡ statusTold (proceed w a (telling w (statusIs s capacity)))
+  unfolding proceed
+  tells-nothing Taken t = absurd (true≢false t)
+  tells-nothing (Refused e) t = refl
 
 pub tells-due : (few : Bool) (d : NextDue) (w : World)
     → record { answer = check few Short; due = cond few Never d }

@@ -112,7 +112,7 @@ start-silent w s = silent-proceed _ _ _ (silent-done _ _)
 pub step-silent : (w : World) (c : Call) → Silent (step w c)
 unfolding step status nextDue observeTime replaceEnabled handle handleGate acknowledge acknowledgeAction disconnect
     disconnectPeer revokeReservation revokeUnder expire expireAt revokeAll
-step-silent w callStatus = silent-proceed _ _ _ (silent-telling _ _)
+step-silent w (callStatus peer circuit) = silent-proceed _ _ _ (silent-telling _ _)
 step-silent w callNextDue = silent-proceed _ _ _ (silent-telling _ _)
 step-silent w (callObserveTime now) = silent-proceed _ _ _ (silent-done _ _)
 step-silent w (callReplaceEnabled expected enabled room) =

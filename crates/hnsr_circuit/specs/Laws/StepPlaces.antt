@@ -180,7 +180,7 @@ start-places w s =
 pub step-places : (w : World) (c : Call) → AsMany w (step w c .world)
 unfolding step status nextDue observeTime replaceEnabled handle handleGate disconnect disconnectPeer revokeReservation
     revokeUnder expire expireAt
-step-places w callStatus = proceed-kept w _ _ (as-many w) (as-many w)
+step-places w (callStatus peer circuit) = proceed-kept w _ _ (as-many w) (as-many w)
 step-places w callNextDue = proceed-kept w _ _ (as-many w) (as-many w)
 step-places w (callObserveTime now) = proceed-kept w _ _ (as-many w) (runtime-kept (as-many w) _)
 step-places w (callReplaceEnabled expected enabled room) =

@@ -106,7 +106,7 @@ expire-fits w now =
 -- ---- every call
 -- the room that a call is given
 abbrev pub roomOf : Call → ℕ
-roomOf callStatus = 0
+roomOf (callStatus peer circuit) = 0
 roomOf callNextDue = 0
 roomOf (callObserveTime now) = 0
 roomOf (callReplaceEnabled expected enabled room) = room
@@ -125,7 +125,7 @@ room-has w room needed h =
 pub routes-fit : (w : World) (c : Call) → filled (step w c .routes) ≤ roomOf c
 unfolding step status nextDue observeTime replaceEnabled handle entryAnswer handleGate acknowledge acknowledgeTaken
     disconnect revokeReservation expire outWords
-routes-fit w callStatus = proceed-fits _ _ _ _ (λ a. omega arith)
+routes-fit w (callStatus peer circuit) = proceed-fits _ _ _ _ (λ a. omega arith)
 routes-fit w callNextDue = proceed-fits _ _ _ _ (λ a. omega arith)
 routes-fit w (callObserveTime now) = proceed-fits _ _ _ _ (λ a. omega arith)
 routes-fit w (callReplaceEnabled expected enabled room) =

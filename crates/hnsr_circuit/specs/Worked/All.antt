@@ -39,7 +39,7 @@ use Rattle.hnsr_circuit.specs.Handle.{handlingOf, dispatch, entryAnswer,
 use Rattle.hnsr_circuit.specs.Acknowledge.{generationAnswer, actionAnswer, lowerFor, released, failPending, failIncoming, undelivered, settled, acknowledgeTaken, acknowledgeAction, acknowledge}
 use Rattle.hnsr_circuit.specs.RevokingCalls.{closeToOther, disconnectPending, disconnectPeer, disconnect, revokeUnder, revokeReservation, expireAt, expire, changeAnswer, switchTo, replaceEnabled}
 use Rattle.hnsr_circuit.specs.New.{sessionAnswer, newAnswer, emptied, newRelay, observeTime}
-use Rattle.hnsr_circuit.specs.Status.{statusOf, status}
+use Rattle.hnsr_circuit.specs.Status.{statusOf, actionCapacity, status}
 use Rattle.hnsr_circuit.specs.NextDue.{dueTurn, dueOf, nextDue}
 use Rattle.hnsr_circuit.specs.Call.{start, step, steps, runAfter, run, leftBy}
 use Rattle.hnsr_circuit.specs.Code.Question.{pendingHas, circuitHas, actionHas, pendingWork, circuitWork}
@@ -48,5 +48,5 @@ use Rattle.hnsr_circuit.specs.Code.Progress.{filledTo, placed}
 use Rattle.hnsr_circuit.specs.Code.Revoking.{endingPending}
 
 unfoldable pub machine : World → Start → List Call → List Outcome
-unfolding le leBytes beFrom beBytes allZero padded wordsOf bytesOf foldFrom utf8-1 utf8-2 utf8-3 utf8-4 utf8 walked laidOut stepped fetched left openFields openGood decodeOpen openBytes encodeOpen incomingFields incomingGood decodeIncoming incomingBytes encodeIncoming acceptFields acceptGood decodeAccept acceptBytes encodeAccept openedFields openedGood decodeOpened openedBytes encodeOpened dataChecked windowFields decodeWindow windowBytes encodeWindow reasonDetail decodeDetail detailBytes encodeDetail messageOf noticeBody noticeWritten packetChecked next withinLimits configGood validateConfig peerOf peerBytes sameBytes samePeer isPending pendingAt pendingOf pendingUnder requestedBy namedBy pendingOver isCircuit circuitAt circuitOf circuitUnder circuitOver sideOf queuedIn isUsage usageAt usageOver lapsed booked ledgerAnswer usageAnswer kindOf isAction actionAt actionUnder actionToward dropped tallied capacityLeft capacityAnswer peerWords packetWords routeWords outWords output proceed pendingCount circuitCount peerWork reservationWork queueAnswer canQueue queued send when tellIf tell tooFew tablesShort tablesAnswer roomAnswer peerAnswer packetAnswer clockAnswer sender circuitAnswer drawsFrom draws drawTurn drawAll idTaken drawn drawAnswer openAnswer admissionAnswer endpointAnswer deadlineAnswer incomingMessage withOpen openAdmitted openPlaced openBooked openGranted openLapsed handleOpen requestAnswer acceptAnswer withAccept openedMessage acceptTaken acceptWith handleAccept bytesAnswer flowAnswer withData dataMessage dataTaken dataWith handleData creditAnswer withWindow windowTaken windowWith handleWindow withoutActions withoutPending endPending endCircuit endPendingThere endCircuitThere errorToRequester closeToRequester closeToEndpoint closeTo revokePending revokeCircuitThere revokeCircuit walkFrom walk revokeAll detailAnswer closeAnswer translated closeTaken closePending closeCircuit handleClose handlingOf dispatch entryAnswer gateAnswer handleGate handle generationAnswer actionAnswer lowerFor released failPending failIncoming undelivered settled acknowledgeTaken acknowledgeAction acknowledge closeToOther disconnectPending disconnectPeer disconnect revokeUnder revokeReservation expireAt expire changeAnswer switchTo replaceEnabled sessionAnswer newAnswer emptied newRelay observeTime statusOf status dueTurn dueOf nextDue start step steps runAfter run leftBy pendingHas circuitHas actionHas pendingWork circuitWork actionsScanned tallyTurn filledTo placed endingPending
+unfolding le leBytes beFrom beBytes allZero padded wordsOf bytesOf foldFrom utf8-1 utf8-2 utf8-3 utf8-4 utf8 walked laidOut stepped fetched left openFields openGood decodeOpen openBytes encodeOpen incomingFields incomingGood decodeIncoming incomingBytes encodeIncoming acceptFields acceptGood decodeAccept acceptBytes encodeAccept openedFields openedGood decodeOpened openedBytes encodeOpened dataChecked windowFields decodeWindow windowBytes encodeWindow reasonDetail decodeDetail detailBytes encodeDetail messageOf noticeBody noticeWritten packetChecked next withinLimits configGood validateConfig peerOf peerBytes sameBytes samePeer isPending pendingAt pendingOf pendingUnder requestedBy namedBy pendingOver isCircuit circuitAt circuitOf circuitUnder circuitOver sideOf queuedIn isUsage usageAt usageOver lapsed booked ledgerAnswer usageAnswer kindOf isAction actionAt actionUnder actionToward dropped tallied capacityLeft capacityAnswer peerWords packetWords routeWords outWords output proceed pendingCount circuitCount peerWork reservationWork queueAnswer canQueue queued send when tellIf tell tooFew tablesShort tablesAnswer roomAnswer peerAnswer packetAnswer clockAnswer sender circuitAnswer drawsFrom draws drawTurn drawAll idTaken drawn drawAnswer openAnswer admissionAnswer endpointAnswer deadlineAnswer incomingMessage withOpen openAdmitted openPlaced openBooked openGranted openLapsed handleOpen requestAnswer acceptAnswer withAccept openedMessage acceptTaken acceptWith handleAccept bytesAnswer flowAnswer withData dataMessage dataTaken dataWith handleData creditAnswer withWindow windowTaken windowWith handleWindow withoutActions withoutPending endPending endCircuit endPendingThere endCircuitThere errorToRequester closeToRequester closeToEndpoint closeTo revokePending revokeCircuitThere revokeCircuit walkFrom walk revokeAll detailAnswer closeAnswer translated closeTaken closePending closeCircuit handleClose handlingOf dispatch entryAnswer gateAnswer handleGate handle generationAnswer actionAnswer lowerFor released failPending failIncoming undelivered settled acknowledgeTaken acknowledgeAction acknowledge closeToOther disconnectPending disconnectPeer disconnect revokeUnder revokeReservation expireAt expire changeAnswer switchTo replaceEnabled sessionAnswer newAnswer emptied newRelay observeTime statusOf actionCapacity status dueTurn dueOf nextDue start step steps runAfter run leftBy pendingHas circuitHas actionHas pendingWork circuitWork actionsScanned tallyTurn filledTo placed endingPending
 machine w s calls = run w s calls

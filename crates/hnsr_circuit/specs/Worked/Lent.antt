@@ -1,6 +1,6 @@
 -- Tables as a host may lend them (TAB): examples that no trace of the Rust reaches, by computation. Here 22, 23, equal
 -- ids and records that replace; the rest is in LentMore. Above each stands the rule that it reads.
-use Prim.Native.Nat.{_-_}
+use Prim.Native.Nat.{ℕ, suc, _-_}
 use mathlib.Core.Path.{_≡_, refl}
 use mathlib.Core.Bool.{true, false}
 use mathlib.Core.List.{[], _∷_}
@@ -8,13 +8,13 @@ use lib.ListN.{replicate}
 use Rattle.hnsr_circuit.specs.declared.answer.HnsrAnswer.{HnsrAnswer}
 use Rattle.hnsr_circuit.specs.declared.answer.HnsrAnswer.the-variants.{Taken, Refused}
 use Rattle.hnsr_circuit.specs.declared.answer.HnsrRuntimeError.the-variants.{InvalidAdmission, UnknownAction}
-use Rattle.hnsr_circuit.specs.declared.answer.HnsrRuntimeError.the-variants.{Short, LedgerFull}
+use Rattle.hnsr_circuit.specs.declared.answer.HnsrRuntimeError.the-variants.{InvalidPeer, Short, LedgerFull}
 use Rattle.hnsr_circuit.specs.Peer.{maximumPeer}
 use Rattle.hnsr_circuit.specs.Pending.{noPending}
 use Rattle.hnsr_circuit.specs.Circuits.{noCircuit}
 use Rattle.hnsr_circuit.specs.Ledger.{noUsage, usageFor}
 use Rattle.hnsr_circuit.specs.declared.records.InflightKind.the-variants.{Close}
-use Rattle.hnsr_circuit.specs.Inflight.{kindNumber}
+use Rattle.hnsr_circuit.specs.Inflight.{kindNumber, clearAction}
 use Rattle.hnsr_circuit.specs.declared.runtime.NextDue.the-variants.{Never, At}
 use Rattle.hnsr_circuit.specs.World.{World, dueIs}
 use Rattle.hnsr_circuit.specs.Opcode.{opClose, opError}
@@ -24,7 +24,8 @@ use Rattle.hnsr_circuit.specs.Worked.All.{machine}
 use Rattle.hnsr_circuit.specs.Worked.Cases.{lent, newAt, requesterPeer, endpointPeer}
 use Rattle.hnsr_circuit.specs.Worked.Cases.{openCall, acceptCall, packetCall}
 use Rattle.hnsr_circuit.specs.Worked.LentWorlds.{peer, pendingBetween, pendingOn, until, circuitOn}
-use Rattle.hnsr_circuit.specs.Worked.LentWorlds.{usageOn, actionOn, found, free, answerOf, toldOf}
+use Rattle.hnsr_circuit.specs.Worked.LentWorlds.{usageOn, actionOn, found, free, limits}
+use Rattle.hnsr_circuit.specs.Worked.LentWorlds.{limited, answerOf, toldOf, capacityOf}
 use Rattle.hnsr_circuit.specs.Worked.LentWorlds.{dueAfter, routes, pendingAfter, firstCircuit, firstAction}
 
 -- ---- ENTRY.1: words and tables
@@ -49,9 +50,74 @@ pub acknowledge-has-96 : answerOf quiet (callAcknowledge 1 9 true 96) ≡ Refuse
 unfolding answerOf quiet
 acknowledge-has-96 = refl
 
-pub status-wants-its-tables : answerOf fewPending callStatus ≡ Refused Short
+pub status-wants-its-tables : answerOf fewPending (callStatus (1 ∷ []) 7) ≡ Refused Short
 unfolding answerOf fewPending
 status-wants-its-tables = refl
+
+-- STATUS.5: then a name, of 1 to 128 bytes
+pub status-tables-first : answerOf fewPending (callStatus [] 7) ≡ Refused Short
+unfolding answerOf fewPending
+status-tables-first = refl
+
+pub status-wants-a-name : answerOf quiet (callStatus [] 7) ≡ Refused InvalidPeer
+unfolding answerOf quiet
+status-wants-a-name = refl
+
+pub status-of-the-longest : answerOf quiet (callStatus (replicate maximumPeer 9) 7) ≡ Taken
+unfolding answerOf quiet
+status-of-the-longest = refl
+
+pub status-wants-no-longer : answerOf quiet (callStatus (replicate (suc maximumPeer) 9) 7) ≡ Refused InvalidPeer
+unfolding answerOf quiet
+status-wants-no-longer = refl
+
+-- STATUS.6: three actions toward the peer 2, two of them on circuit 7 and one on 8, and one that is unused
+unfoldable pub busy : (all circuit peer : ℕ) → World
+unfolding found limited limits actionOn free
+busy all circuit peer =
+    limited (limits all circuit peer)
+    (found (replicate 2 noPending) (replicate 2 noCircuit) (noUsage ∷ [])
+    (actionOn 1 7 (kindNumber Close) 0 ∷ actionOn 2 8 (kindNumber Close) 0 ∷ clearAction
+    (actionOn 3 7 (kindNumber Close) 0) ∷ actionOn 4 7 (kindNumber Close) 0 ∷ free 5))
+
+-- the peer's limit is the least, then the circuit's, then that of all
+pub peer-is-least : capacityOf (busy 9 5 4) 2 7 ≡ 1
+unfolding capacityOf busy
+peer-is-least = refl
+
+pub circuit-is-least : capacityOf (busy 9 5 8) 2 7 ≡ 3
+unfolding capacityOf busy
+circuit-is-least = refl
+
+pub all-is-least : capacityOf (busy 5 5 8) 2 7 ≡ 2
+unfolding capacityOf busy
+all-is-least = refl
+
+-- an unknown peer, an unknown circuit, neither known, and circuit 0
+pub unknown-peer-fits : capacityOf (busy 9 5 4) 3 7 ≡ 3
+unfolding capacityOf busy
+unknown-peer-fits = refl
+
+pub unknown-circuit-fits : capacityOf (busy 9 5 8) 2 9 ≡ 5
+unfolding capacityOf busy
+unknown-circuit-fits = refl
+
+pub neither-known-fits : capacityOf (busy 9 5 4) 3 9 ≡ 4
+unfolding capacityOf busy
+neither-known-fits = refl
+
+pub no-circuit-fits : capacityOf (busy 9 5 4) 3 0 ≡ 4
+unfolding capacityOf busy
+no-circuit-fits = refl
+
+-- a table may hold as many as a limit allows, or more: nothing is left
+pub at-the-limit : capacityOf (busy 9 5 3) 2 9 ≡ 0
+unfolding capacityOf busy
+at-the-limit = refl
+
+pub over-the-limit : capacityOf (busy 2 1 1) 2 7 ≡ 0
+unfolding capacityOf busy
+over-the-limit = refl
 
 pub due-wants-its-tables : answerOf fewActions callNextDue ≡ Refused Short
 unfolding answerOf fewActions

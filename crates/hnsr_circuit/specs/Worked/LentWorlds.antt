@@ -11,6 +11,7 @@ use Rattle.hnsr_circuit.specs.declared.records.RelayPending.{RelayPendin
 use Rattle.hnsr_circuit.specs.declared.records.RelayCircuit.{RelayCircuit}
 use Rattle.hnsr_circuit.specs.declared.records.ReservationUsage.{ReservationUsage}
 use Rattle.hnsr_circuit.specs.declared.records.InflightAction.{InflightAction}
+use Rattle.hnsr_circuit.specs.declared.config.OpaqueRelayConfig.{OpaqueRelayConfig}
 use Rattle.hnsr_circuit.specs.declared.runtime.OpaqueRelayRuntime.{OpaqueRelayRuntime}
 use Rattle.hnsr_circuit.specs.declared.answer.HnsrAnswer.{HnsrAnswer}
 use Rattle.hnsr_circuit.specs.Peer.{maximumPeer}
@@ -22,6 +23,7 @@ use Rattle.hnsr_circuit.specs.Runtime.{newRuntime, withSequence}
 use Rattle.hnsr_circuit.specs.Route.{Route, outWords, output}
 use Rattle.hnsr_circuit.specs.World.{World, Told, silent, statusIs, dueIs, withRuntime}
 use Rattle.hnsr_circuit.specs.Call.{Call, callStatus, callNextDue, step}
+use Rattle.hnsr_circuit.specs.Code.Told.{capacityIn}
 use Rattle.hnsr_circuit.specs.Worked.All.{machine}
 use Rattle.hnsr_circuit.specs.Worked.Cases.{caseConfig}
 
@@ -98,6 +100,23 @@ unfoldable pub lastGeneration : World → World
 unfolding caseConfig
 lastGeneration w = withRuntime w (newRuntime (replicate 16 1) (top 64) (caseConfig 65536) 100)
 
+-- other limits of the actions: of all, of those of a circuit, of those toward a peer
+unfoldable pub limits : (all circuit peer : ℕ) → OpaqueRelayConfig
+limits all circuit peer = record {
+  «maximum_pending» = 2;
+  «maximum_circuits» = 2;
+  «maximum_circuits_per_peer» = 2;
+  «maximum_queue_bytes» = 65536;
+  «maximum_inflight_actions» = all;
+  «maximum_inflight_actions_per_circuit» = circuit;
+  «maximum_inflight_actions_per_peer» = peer;
+  «maximum_bytes_per_circuit» = 20000;
+  «accept_timeout_seconds» = 10;
+}
+
+unfoldable pub limited : OpaqueRelayConfig → World → World
+limited c w = withRuntime w (newRuntime (replicate 16 1) 1 c 100)
+
 -- ---- what is looked at
 unfoldable pub answerOf : World → Call → HnsrAnswer
 unfolding machine
@@ -150,18 +169,23 @@ runtimeAfter w c = step w c .world .runtime
 
 unfoldable pub queuedActions : Told → ℕ
 queuedActions silent = 0
-queuedActions (statusIs s) = s .«queued_actions»
+queuedActions (statusIs s capacity) = s .«queued_actions»
 queuedActions (dueIs d) = 0
 
 unfoldable pub bytesTold : Told → ℕ
 bytesTold silent = 0
-bytesTold (statusIs s) = s .«queued_bytes»
+bytesTold (statusIs s capacity) = s .«queued_bytes»
 bytesTold (dueIs d) = 0
+
+-- toward a peer, by the byte of its name, and on a circuit
+unfoldable pub capacityOf : World → (peer circuit : ℕ) → ℕ
+unfolding machine
+capacityOf w peer circuit = capacityIn (step w (callStatus (peer ∷ []) circuit) .told)
 
 unfoldable pub bytesQueued : World → ℕ
 unfolding machine bytesTold
-bytesQueued w = bytesTold (step w callStatus .told)
+bytesQueued w = bytesTold (step w (callStatus (1 ∷ []) 0) .told)
 
 unfoldable pub actionsAfter : World → Call → ℕ
 unfolding machine queuedActions
-actionsAfter w c = queuedActions (step (step w c .world) callStatus .told)
+actionsAfter w c = queuedActions (step (step w c .world) (callStatus (1 ∷ []) 0) .told)

@@ -11,9 +11,13 @@ ghost use Rattle.hnsr_circuit.specs.declared.records.RelayCircuit.{Relay
 ghost use Rattle.hnsr_circuit.specs.declared.records.ReservationUsage.{ReservationUsage};
 ghost use Rattle.hnsr_circuit.specs.declared.records.InflightAction.{InflightAction};
 ghost use Rattle.hnsr_circuit.specs.declared.runtime.OpaqueRelayRuntime.{OpaqueRelayRuntime};
+ghost use Rattle.hnsr_circuit.specs.declared.answer.HnsrAnswer.the-variants.{Taken};
 ghost use Rattle.hnsr_circuit.specs.declared.answer.HnsrRuntimeError.the-variants.{Short};
 ghost use Rattle.hnsr_circuit.specs.Answers.{check, _then_};
 ghost use Rattle.hnsr_circuit.specs.Config.{validateConfig};
+ghost use Rattle.hnsr_circuit.specs.Entry.{peerAnswer};
+ghost use Rattle.hnsr_circuit.specs.Inflight.{capacityLeft};
+ghost use Rattle.hnsr_circuit.specs.Code.Question.{capacityQuestion};
 ghost use Rattle.hnsr_circuit.specs.New.{sessionAnswer};
 ghost use Rattle.hnsr_circuit.specs.Code.Told.{noStatus, statusTold, dueTold, Made};
 ghost use Rattle.hnsr_circuit.specs.Status.{statusFrom};
@@ -28,11 +32,15 @@ use crate::answer::first_refusal;
 use crate::answer::is_taken;
 use crate::config::OpaqueRelayConfig;
 use crate::entry::clock_answer;
+use crate::entry::peer_answer;
 use crate::entry::too_few;
+use crate::peer::HnsrPeerId;
+use crate::peer::peer_of;
 use crate::records::InflightAction;
 use crate::records::RelayCircuit;
 use crate::records::RelayPending;
 use crate::records::ReservationUsage;
+use crate::records::inflight::capacity_left;
 use crate::records::runtime::new_runtime;
 use crate::records::runtime::no_runtime;
 use crate::records::runtime::with_clock;
@@ -46,14 +54,16 @@ use crate::runtime::refused;
 use crate::runtime::taken_with;
 use crate::tables::circuits::circuit_due;
 use crate::tables::circuits::circuit_totals;
-use crate::tables::inflight::count_action;
+use crate::tables::inflight::scan_actions;
 use crate::tables::ledger::usage_due;
 use crate::tables::pending::count_pending;
 use crate::tables::pending::pending_due;
 use crate::tables::places::Places;
 use crate::tables::places::every_place;
 use crate::tables::places::no_place;
+use crate::tables::scan::ActionQuestion;
 use crate::tables::scan::CircuitTotals;
+use crate::tables::scan::InflightTally;
 use hns_encoding::logic::either;
 use hnsr_body::values::is_zero;
 
@@ -164,18 +174,59 @@ fn status_of(
     }
 }
 
-fn status_told(few: bool, status: HnsrRuntimeStatus) -> StatusTold
-    ensures { λ r. ⌜ (r .answer ≡ check few Short) × (r .status ≡ cond few noStatus status) ⌝ }
+// 22, 4, in this order (STATUS.5)
+fn status_answer(few: bool, size: usize) -> HnsrAnswer
+    ensures { λ r. ⌜ r ≡ (check few Short then peerAnswer size) ⌝ }
 {
-    let answer = check(few, HnsrRuntimeError::Short);
-    let none = no_status();
-    if few {
-        return StatusTold {
-            answer,
-            status: none,
-        };
+    let lent = check(few, HnsrRuntimeError::Short);
+    let named = peer_answer(size);
+    first_refusal(lent, named)
+}
+
+// What is asked of the actions: the three counts that the action capacity goes by. The place of a number is not asked.
+fn capacity_question(circuit_id: u64, peer: HnsrPeerId) -> ActionQuestion
+    ensures { λ r. ⌜ r ≡ capacityQuestion «circuit_id» peer ⌝ }
+{
+    ActionQuestion {
+        replacing: false,
+        circuit_id,
+        peer,
+        generation: 0,
+        sequence: 0,
     }
-    StatusTold { answer, status }
+}
+
+// Taken: the twelve fields, and how many further actions fit (STATUS.2, STATUS.6).
+fn status_told(
+    runtime: OpaqueRelayRuntime,
+    waiting: usize,
+    totals: CircuitTotals,
+    tally: InflightTally,
+) -> StatusTold
+    ensures { λ r. ⌜
+        (r .answer ≡ Taken)
+        × (r .status ≡ statusFrom runtime waiting totals (tally .total))
+        × (r .«action_capacity» ≡ capacityLeft (runtime .config) tally) ⌝ }
+{
+    let status = status_of(runtime, waiting, totals, tally.total);
+    let action_capacity = capacity_left(runtime.config, tally);
+    StatusTold {
+        answer: HnsrAnswer::Taken,
+        status,
+        action_capacity,
+    }
+}
+
+// STATUS.7: a refusal tells zeros.
+fn status_refused(answer: HnsrAnswer) -> StatusTold
+    ensures { λ r. ⌜ (r .answer ≡ answer) × (r .status ≡ noStatus) × (r .«action_capacity» ≡ 0) ⌝ }
+{
+    let status = no_status();
+    StatusTold {
+        answer,
+        status,
+        action_capacity: 0,
+    }
 }
 
 pub fn status(
@@ -184,20 +235,31 @@ pub fn status(
     inflight: &[InflightAction],
     runtime: OpaqueRelayRuntime,
     places: Places,
+    peer: &[u8],
+    circuit_id: u64,
 ) -> StatusTold
     ensures { λ r. ⌜
         ((l : List ReservationUsage)
         → r ≡ statusTold
         (step (worldSeen runtime places (now (pending .entry)) (now (circuits .entry)) l (now (inflight .entry)))
-        callStatus)) ⌝ }
+        (callStatus (now (peer .entry)) «circuit_id»))) ⌝ }
 {
-    let config = runtime.config;
-    let waiting = count_pending(pending, places);
-    let totals = circuit_totals(circuits, places);
-    let outstanding = count_action(inflight, places);
-    let few = too_few(config, pending.len(), circuits.len(), inflight.len());
-    let all = status_of(runtime, waiting, totals, outstanding);
-    status_told(few, all)
+    let few = too_few(
+        runtime.config,
+        pending.len(),
+        circuits.len(),
+        inflight.len(),
+    );
+    let answer = status_answer(few, peer.len());
+    if is_taken(answer) {
+        let name = peer_of(peer);
+        let question = capacity_question(circuit_id, name);
+        let waiting = count_pending(pending, places);
+        let totals = circuit_totals(circuits, places);
+        let scan = scan_actions(inflight, places, question);
+        return status_told(runtime, waiting, totals, scan.tally);
+    }
+    status_refused(answer)
 }
 
 // ---- next due

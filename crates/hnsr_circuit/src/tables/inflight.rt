@@ -3,10 +3,9 @@
 ghost use mathlib.Core.Path.{_≡_};
 ghost use mathlib.Core.Bool.{cond};
 ghost use lib.ListN.{getD, set};
-ghost use Rattle.hns_encoding.specs.Sums.{count};
 ghost use Rattle.hnsr_circuit.specs.Code.Held.{held, heldActions};
 ghost use Rattle.hnsr_circuit.specs.Table.{clear, placeOf};
-ghost use Rattle.hnsr_circuit.specs.Inflight.{noAction, isAction, clearAction, actionAt, actionUnder, dropped};
+ghost use Rattle.hnsr_circuit.specs.Inflight.{noAction, clearAction, actionAt, actionUnder, dropped};
 ghost use Rattle.hnsr_circuit.specs.Code.Question.{actionHas};
 ghost use Rattle.hnsr_circuit.specs.Code.Turns.{actionsScanned};
 use crate::peer::HnsrPeerId;
@@ -26,7 +25,6 @@ use crate::tables::scan::ActionQuestion;
 use crate::tables::scan::ActionScan;
 use crate::tables::scan::action_scanned;
 use crate::tables::scan::no_scan;
-use crate::tables::scan::one_more;
 use crate::tables::scan::within;
 use hns_encoding::numbers::min_usize;
 
@@ -50,23 +48,6 @@ pub(crate) fn find_action(
         i += 1;
     }
     size
-}
-
-// How many records are used.
-pub(crate) fn count_action(inflight: &[InflightAction], places: Places) -> usize
-    ensures { λ r. ⌜ r ≡ count isAction (heldActions places (now (inflight .entry))) ⌝ }
-{
-    let size = inflight.len();
-    let end = min_usize(places.actions, size);
-    let mut counted: usize = 0;
-    let mut i: usize = 0;
-    while i < end {
-        let row = inflight[i];
-        let has = is_action(row);
-        counted = one_more(counted, has);
-        i += 1;
-    }
-    counted
 }
 
 pub(crate) fn action_at(inflight: &[InflightAction], places: Places, place: usize) -> InflightAction

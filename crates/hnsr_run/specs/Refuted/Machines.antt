@@ -1,7 +1,7 @@
 -- What the wrong machines are made of: the relay with one call replaced; and the runs that refute them.
 use Prim.Native.Nat.{ℕ, _<_}
 use native.Mathlib.Omega.{arith}
-use mathlib.Core.Path.{_≡_, ap, _∙_}
+use mathlib.Core.Path.{_≡_, refl, ap, _∙_}
 use mathlib.Core.Bool.{Bool, true, _&&_}
 use mathlib.Core.List.{List, [], _∷_, _++_}
 use lib.Dec.{eqb, leb, ltb}
@@ -14,7 +14,8 @@ use Rattle.hnsr_circuit.specs.declared.answer.HnsrAnswer.{HnsrAnswer}
 use Rattle.hnsr_circuit.specs.declared.answer.HnsrAnswer.the-variants.{Taken}
 use Rattle.hnsr_circuit.specs.declared.records.RelaySide.{RelaySide}
 use Rattle.hnsr_circuit.specs.Answers.{_then_}
-use Rattle.hnsr_circuit.specs.Peer.{peerGood, samePeer}
+use Rattle.hnsr_circuit.specs.Peer.{peerGood, peerOf, samePeer}
+use Rattle.hnsr_circuit.specs.Inflight.{capacityLeft}
 use Rattle.hnsr_circuit.specs.World.{World, Outcome, Told, silent, statusIs, dueIs}
 use Rattle.hnsr_circuit.specs.Opcode.{opData}
 use Rattle.hnsr_circuit.specs.Entry.{handleWords, clockAnswer}
@@ -22,7 +23,8 @@ use Rattle.hnsr_circuit.specs.Handle.{entryAnswer}
 use Rattle.hnsr_circuit.specs.Packet.{Packet, sender}
 use Rattle.hnsr_circuit.specs.Call.{Start, Call, start, step, callStatus, callHandle}
 use Rattle.hnsr_circuit.specs.Call.{callAcknowledge, callDisconnect, onCall}
-use Rattle.hnsr_run.specs.Past.{Past, peerOn}
+use Rattle.hnsr_circuit.specs.Code.Told.{capacityIn}
+use Rattle.hnsr_run.specs.Past.{Past, peerOn, tally}
 use Rattle.hnsr_run.specs.History.{begin}
 use Rattle.hnsr_run.specs.Claim.{Sends, Machine, events, below, Holds, Run}
 use Rattle.hnsr_run.specs.Talk.{tables, fresh, grant, opens, accepts, sends}
@@ -32,7 +34,7 @@ pub record Replaced : Type 0 where
   pub handles : World → Packet → (room : ℕ) → Outcome
   pub acknowledges : World → (generation sequence : ℕ) → (delivered : Bool) → (room : ℕ) → Outcome
   pub disconnects : World → (peer : List ℕ) → (room : ℕ) → Outcome
-  pub tells : World → Outcome
+  pub tells : World → (peer : List ℕ) → (circuit : ℕ) → Outcome
 
 abbrev replacing : Replaced → World → Call → Outcome
 replacing r w c = onCall (r .tells w) (r .handles w) (r .acknowledges w) (r .disconnects w) (step w) c
@@ -46,8 +48,8 @@ acknowledged w g s delivered room = step w (callAcknowledge g s delivered room)
 abbrev disconnected : World → (peer : List ℕ) → (room : ℕ) → Outcome
 disconnected w peer room = step w (callDisconnect peer room)
 
-abbrev told : World → Outcome
-told w = step w callStatus
+abbrev told : World → (peer : List ℕ) → (circuit : ℕ) → Outcome
+told w peer circuit = step w (callStatus peer circuit)
 
 abbrev pub handling : (World → Packet → (room : ℕ) → Outcome) → Machine
 handling f = record {
@@ -67,7 +69,7 @@ disconnecting f = record {
   step = replacing (record { handles = handled; acknowledges = acknowledged; disconnects = f; tells = told });
 }
 
-abbrev pub telling-status : (World → Outcome) → Machine
+abbrev pub telling-status : (World → (peer : List ℕ) → (circuit : ℕ) → Outcome) → Machine
 telling-status f = record {
   new = start;
   step = replacing (record { handles = handled; acknowledges = acknowledged; disconnects = disconnected; tells = f });
@@ -99,12 +101,18 @@ run-of m new-taken calls bounded = run-from fresh m new-taken (omega arith) call
 -- ---- the parts of the claim, for computing
 abbrev pub actionsIn : Told → ℕ
 actionsIn silent = 0
-actionsIn (statusIs s) = s .«queued_actions»
+actionsIn (statusIs s capacity) = s .«queued_actions»
 actionsIn (dueIs d) = 0
 
-pub status-tells : (f : World → Call → Outcome) (w : World) (h : Past) → Holds f w h
-    → actionsIn (f w callStatus .told) ≡ length (h .out)
-status-tells f w h H = ap actionsIn (H .status .2) ∙ H .status .3
+module _ (f : World → Call → Outcome) (w : World) (h : Past) (H : Holds f w h) where
+  -- asked for the name of the byte 1 and for circuit 0: for any others the actions are as many
+  pub status-tells : actionsIn (f w (callStatus (1 ∷ []) 0) .told) ≡ length (h .out)
+  status-tells = let s = H .status (1 ∷ []) 0 refl in ap actionsIn (s .3) ∙ s .4
+
+  pub capacity-tells : (peer : List ℕ) (circuit : ℕ) → peerGood (length peer) ≡ true
+      → capacityIn (f w (callStatus peer circuit) .told)
+      ≡ capacityLeft (h .head .config) (tally circuit (peerOf peer) (h .out))
+  capacity-tells peer circuit good = let s = H .status peer circuit good in ap capacityIn (s .3) ∙ s .5
 
 abbrev pub sendable : Past → (circuit : ℕ) → RelaySide → Packet → (room : ℕ) → Bool
 sendable h j side q room =

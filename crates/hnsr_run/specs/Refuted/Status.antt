@@ -10,14 +10,14 @@ use Rattle.hnsr_circuit.specs.declared.records.InflightAction.{InflightAction}
 use Rattle.hnsr_circuit.specs.declared.records.RelayPending.{RelayPending}
 use Rattle.hnsr_circuit.specs.declared.records.InflightKind.the-variants.{Incoming}
 use Rattle.hnsr_circuit.specs.Table.{any, pick, clear}
-use Rattle.hnsr_circuit.specs.Peer.{samePeer}
+use Rattle.hnsr_circuit.specs.Peer.{peerOf, samePeer}
 use Rattle.hnsr_circuit.specs.Pending.{noPending}
 use Rattle.hnsr_circuit.specs.Circuits.{isCircuit, clearCircuit}
 use Rattle.hnsr_circuit.specs.Inflight.{noAction, kindNumber, actionAt}
 use Rattle.hnsr_circuit.specs.World.{World, Outcome, statusIs, telling, withCircuits, withInflight}
 use Rattle.hnsr_circuit.specs.Route.{Route}
 use Rattle.hnsr_circuit.specs.Opcode.{opOpen, opIncoming}
-use Rattle.hnsr_circuit.specs.Status.{statusOf}
+use Rattle.hnsr_circuit.specs.Status.{statusOf, actionCapacity}
 use Rattle.hnsr_circuit.specs.Worked.Cases.{lent, notAdmitted}
 use Rattle.hnsr_circuit.specs.Call.{step, callHandle, callDisconnect}
 use Rattle.hnsr_circuit.specs.Worked.All.{machine}
@@ -44,7 +44,10 @@ inventedStatus s n = record {
 }
 
 abbrev pub invented : Machine
-invented = telling-status (λ w. telling w (statusIs (inventedStatus (statusOf w) (statusOf w .«opened_circuits»))))
+invented =
+    telling-status (λ w peer circuit.
+    telling w
+    (statusIs (inventedStatus (statusOf w) (statusOf w .«opened_circuits»)) (actionCapacity w (peerOf peer) circuit)))
 
 pub invented-refuted : Claim invented → ⊥
 unfolding machine lent notAdmitted

@@ -37,7 +37,7 @@ use Rattle.hnsr_run.specs.Refuted.Machines.{opened, talk, run-of}
 abbrev replacing : (due : World → Outcome) → (expires : World → (now room : ℕ) → Outcome) → World → Call → Outcome
 replacing due expires w callNextDue = due w
 replacing due expires w (callExpire now room) = expires w now room
-replacing due expires w callStatus = step w callStatus
+replacing due expires w (callStatus peer circuit) = step w (callStatus peer circuit)
 replacing due expires w (callObserveTime now) = step w (callObserveTime now)
 replacing due expires w (callReplaceEnabled expected on room) = step w (callReplaceEnabled expected on room)
 replacing due expires w (callHandle q room) = step w (callHandle q room)

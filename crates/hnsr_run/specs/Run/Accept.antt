@@ -34,6 +34,7 @@ use Rattle.hnsr_circuit.specs.Accept.{circuitFor, withAccept, openedMessage, ac
 use Rattle.hnsr_circuit.specs.Laws.Inflight.{replacing-tally}
 use Rattle.hnsr_circuit.specs.Laws.Marks.{room}
 use Rattle.hnsr_circuit.specs.Laws.Keyed.{Looks, store-looks, store-tells}
+use Rattle.hnsr_circuit.specs.Laws.Capacity.{can-queue, send-taken}
 use Rattle.hnsr_run.specs.Past.{Known, Past, at, onCircuit, ofRoute, heard, emit, openEnded, begun}
 use Rattle.hnsr_run.specs.History.{written, startedBy, acceptIn}
 use Rattle.hnsr_run.specs.Run.Actions.{room-of}
@@ -42,7 +43,7 @@ use Rattle.hnsr_run.specs.Run.Full.{AgreesP, Body, Full, Keeps, Quiet, r
 use Rattle.hnsr_run.specs.Run.Ended.{at-false, end-pending}
 use Rattle.hnsr_run.specs.Run.Ends.{pending-id, pending-there}
 use Rattle.hnsr_run.specs.Run.InPlace.{resume-at}
-use Rattle.hnsr_run.specs.Run.Rel.{Live, Rel, Places, proceed-cases, if-not, not-taken, can-queue, send-taken}
+use Rattle.hnsr_run.specs.Run.Rel.{Live, Rel, Places, proceed-cases, if-not, not-taken}
 use Rattle.hnsr_run.specs.Run.AcceptRows.{AcceptRows, accept-rows, never-six}
 
 -- ---- the circuit starts

@@ -96,20 +96,25 @@ put-fresh used p q r t e f = rw (e, f)
 
 module _ {c : OpaqueRelayConfig} {g next : ℕ} {t : List InflightAction} {out : List Action}
     (R : Acts c g next t out) where
+  -- no used action has the next number, or one behind it
+  pub none-numbered : (s : ℕ) → next ≤ s → any (actionAt g s) t ≡ false
+  unfolding actionAt
+  none-numbered s l = count-none _ t (held-count actions (R .held) (numbered g s) ∙ none)
+    where
+      none : count (numbered g s) out ≡ 0
+      none = let z = R .held .below s l in
+          let k = total-le (one (numbered g s)) (one (λ a. eqb (a .sequence) s)) out
+          (λ a. split (eqb (a .generation) g) (λ e. rw e (omega arith)) (λ e. rw e (omega arith))) in
+          omega arith
+
   queue-table : (r : InflightAction)
       → put isAction (actionAt g next) r t ≡ put inUse (λ i. i .used && eqb (i .sequence) next) r t
   unfolding isAction actionAt
   queue-table r =
       put-fresh inUse (λ i. i .used && (eqb (i .generation) g && eqb (i .sequence) next))
       (λ i. i .used && eqb (i .sequence) next) r t
-      (count-none _ t (held-count actions (R .held) (numbered g next) ∙ none))
+      (none-numbered next (omega arith))
       (count-none _ t (held-count actions (R .held) (λ a. eqb (a .sequence) next) ∙ R .held .below next (omega arith)))
-    where
-      none : count (numbered g next) out ≡ 0
-      none = let z = R .held .below next (omega arith) in
-          let l = total-le (one (numbered g next)) (one (λ a. eqb (a .sequence) next)) out
-          (λ a. split (eqb (a .generation) g) (λ e. rw e (omega arith)) (λ e. rw e (omega arith))) in
-          omega arith
 
   pub queue-acts : (m : Message) → count inUse t < c .«maximum_inflight_actions»
       → Acts c g (next + 1) (put isAction (actionAt g next) (actionFor m g next) t)

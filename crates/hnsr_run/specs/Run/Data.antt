@@ -26,6 +26,7 @@ use Rattle.hnsr_circuit.specs.Queue.{Message, actionFor, routeFor, generationOf
 use Rattle.hnsr_circuit.specs.Opcode.{opData}
 use Rattle.hnsr_circuit.specs.Packet.{Packet, sender, namedCircuit, receiver}
 use Rattle.hnsr_circuit.specs.Data.{withData, dataMessage, dataTaken, dataWith, handleData}
+use Rattle.hnsr_circuit.specs.Laws.Capacity.{can-queue, send-taken}
 use Rattle.hnsr_run.specs.Past.{Known, Action, Past, at, peerOn, isData, towardSide}
 use Rattle.hnsr_run.specs.Past.{weight, carried, emit, learnt, withBook, spentBy}
 use Rattle.hnsr_run.specs.History.{sideIn, sent, strange, dataIn}
@@ -36,7 +37,7 @@ use Rattle.hnsr_run.specs.Run.Books.{Books, spend-books}
 use Rattle.hnsr_run.specs.Run.InPlace.{only-one, agreed, place-circuit, looked}
 use Rattle.hnsr_run.specs.Run.InPlace.{resume-at, charged-at, charge-agrees, sent-peers}
 use Rattle.hnsr_run.specs.Run.Limits.{limits, within-top}
-use Rattle.hnsr_run.specs.Run.Rel.{Rel, proceed-cases, if-taken, can-queue, send-taken}
+use Rattle.hnsr_run.specs.Run.Rel.{Rel, proceed-cases, if-taken}
 use Rattle.hnsr_run.specs.Run.DataRows.{named-side, known-rel, named-active, side-same}
 use Rattle.hnsr_run.specs.Run.DataRows.{DataRows, data-rows, to-side, charged-queue}
 

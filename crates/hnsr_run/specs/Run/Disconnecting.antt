@@ -45,7 +45,7 @@ use Rattle.hnsr_run.specs.Run.Walks.{when-cases}
 use Rattle.hnsr_run.specs.Run.ByLookup.{byId, disconnected-by-id, circuit-by-id}
 use Rattle.hnsr_run.specs.Run.Ends.{pending-agrees, pending-is, pending-there, disconnecting, labelled-own}
 use Rattle.hnsr_run.specs.Run.Revocations.{walk-pending, walk-circuits, partedOpens}
-use Rattle.hnsr_run.specs.Run.Rel.{can-queue}
+use Rattle.hnsr_circuit.specs.Laws.Capacity.{can-queue}
 use Rattle.hnsr_run.specs.Run.Numbers.{disconnect-pending-counts}
 use Rattle.hnsr_run.specs.Run.Leaving.{All, all-append, all-imp, or-one, own, After}
 use Rattle.hnsr_run.specs.Run.Leaving.{Fits, Turn, own-turn, own-stands, later}

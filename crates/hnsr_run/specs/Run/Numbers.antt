@@ -264,7 +264,8 @@ replace-numbered w expected on room =
 pub step-numbered : (w : World) (c : Call) → Numbered w (step w c)
 unfolding step status nextDue observeTime handle handleGate acknowledge acknowledgeAction released disconnect
     disconnectPeer revokeReservation revokeUnder expire expireAt
-step-numbered w callStatus = same-generation w (step w callStatus) (proceed-counts w _ _ _ (stay w) (stay w))
+step-numbered w (callStatus peer circuit) =
+    same-generation w (step w (callStatus peer circuit)) (proceed-counts w _ _ _ (stay w) (stay w))
 step-numbered w callNextDue = same-generation w (step w callNextDue) (proceed-counts w _ _ _ (stay w) (stay w))
 step-numbered w (callObserveTime now) =
     same-generation w (step w (callObserveTime now)) (proceed-counts w _ _ _ (stay w) (still w _ refl refl))

@@ -21,11 +21,12 @@ use Rattle.hnsr_circuit.specs.Open.{Opening, pendingFor, incomingMessage, withO
 use Rattle.hnsr_circuit.specs.Laws.Marks.{room}
 use Rattle.hnsr_circuit.specs.Laws.Peer.{same-names, names-same}
 use Rattle.hnsr_circuit.specs.Laws.Keyed.{Looks, store-looks, store-tells, shown}
+use Rattle.hnsr_circuit.specs.Laws.Capacity.{can-queue, send-taken}
 use Rattle.hnsr_run.specs.Past.{Asked, Past, at, heard, emit, stood}
 use Rattle.hnsr_run.specs.Run.Actions.{room-of}
 use Rattle.hnsr_run.specs.Run.Circuits.{none}
 use Rattle.hnsr_run.specs.Run.Full.{AgreesP, pendingKeys, Full, Quiet, queue-full}
-use Rattle.hnsr_run.specs.Run.Rel.{Live, Rel, Places, can-queue, send-taken}
+use Rattle.hnsr_run.specs.Run.Rel.{Live, Rel, Places}
 
 -- ---- all is written, and INCOMING queued
 module _ {w : World} {h : Past} (R : Rel w h) (H : Places w) (low : sequenceOf w < top 64) (o : Opening) (k : Asked)

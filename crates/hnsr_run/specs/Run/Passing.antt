@@ -32,6 +32,7 @@ use Rattle.hnsr_circuit.specs.Queue.{Message, sequenceOf, queued, routed, send}
 use Rattle.hnsr_circuit.specs.Packet.{Packet, sender, hasCircuit, namedCircuit, circuitAnswer, receiver}
 use Rattle.hnsr_circuit.specs.Data.{bytesAnswer, flowAnswer, withData, dataMessage, dataTaken, dataWith, handleData}
 use Rattle.hnsr_circuit.specs.Laws.Answers.{taken-then}
+use Rattle.hnsr_circuit.specs.Laws.Capacity.{can-queue, send-taken}
 use Rattle.hnsr_run.specs.Past.{Past, credit, circuitLeft, totalLeft, weight}
 use Rattle.hnsr_run.specs.Claim.{Sends, Passes}
 use Rattle.hnsr_run.specs.Run.Circuits.{Agrees}
@@ -39,7 +40,7 @@ use Rattle.hnsr_run.specs.Run.Ends.{circuit-there}
 use Rattle.hnsr_run.specs.Run.InPlace.{agreed}
 use Rattle.hnsr_run.specs.Run.Limits.{within-top, top-within}
 use Rattle.hnsr_run.specs.Run.DataRows.{DataRows, data-rows}
-use Rattle.hnsr_run.specs.Run.Rel.{Live, Rel, refused-differs, can-queue, send-taken}
+use Rattle.hnsr_run.specs.Run.Rel.{Live, Rel, refused-differs}
 use Rattle.hnsr_run.specs.Run.Entering.{side-is, credit-is, peer-is, has-room}
 
 -- ---- DATA at its time

@@ -29,6 +29,7 @@ use Rattle.hnsr_circuit.specs.Inflight.{tallied, capacityLeft, capacityAnswer}
 use Rattle.hnsr_circuit.specs.World.{World, Outcome, configOf, refuse, done, proceed, withLedger, atTime}
 use Rattle.hnsr_circuit.specs.Queue.{Message, generationOf, sequenceOf, queueAnswer, canQueue, queued, routed, send}
 use Rattle.hnsr_circuit.specs.Laws.Answers.{number-zero}
+use Rattle.hnsr_circuit.specs.Laws.Capacity.{send-taken}
 use Rattle.hnsr_run.specs.Past.{Book, Action, Head, Past, lives, movedTo, numbering, withOut, fewer}
 use Rattle.hnsr_run.specs.History.{taken}
 use Rattle.hnsr_run.specs.Run.Circuits.{none}
@@ -126,16 +127,6 @@ can-or-full m w e l =
     queue-cases (eqb (m .context) 0) (sequenceOf w)
     (eqb (capacityLeft (configOf w) (tallied false (m .circuit) (m .destination) (w .inflight))) 0) e
     (ne-eqb (sequenceOf w) (top 64) (λ q. omega arith))
-
-pub can-queue : (m : Message) (w : World) → eqb (m .context) 0 ≡ false → sequenceOf w < top 64
-    → capacityAnswer (configOf w) (tallied false (m .circuit) (m .destination) (w .inflight)) ≡ Taken
-    → canQueue m w ≡ Taken
-unfolding canQueue queueAnswer
-can-queue m w e l c = rw (e, c, ne-eqb (sequenceOf w) (top 64) (λ q. omega arith))
-
-pub send-taken : (w : World) (m : Message) → canQueue m w ≡ Taken → send w m ≡ done (queued m w) (routed m w ∷ [])
-unfolding send proceed
-send-taken w m h = rw h
 
 send-full : (w : World) (m : Message) → canQueue m w ≡ Refused Capacity → send w m ≡ refuse w Capacity
 unfolding send proceed

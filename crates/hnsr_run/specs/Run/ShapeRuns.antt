@@ -126,7 +126,7 @@ switch-shape w false S = revoke-all-shape _ _ _ _ (switched w false) (revoke-pen
 pub step-shape : (w : World) (c : Call) → Shape w → Shape (step w c .world)
 unfolding step status nextDue observeTime replaceEnabled disconnect disconnectPeer revokeReservation revokeUnder expire
     expireAt
-step-shape w callStatus S = proceed-shape w _ _ S (λ e. S)
+step-shape w (callStatus peer circuit) S = proceed-shape w _ _ S (λ e. S)
 step-shape w callNextDue S = proceed-shape w _ _ S (λ e. S)
 step-shape w (callObserveTime now) S = proceed-shape w _ _ S (λ e. S)
 step-shape w (callReplaceEnabled expected on room) S = proceed-shape w _ _ S (λ e.

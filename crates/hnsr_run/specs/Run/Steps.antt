@@ -27,7 +27,8 @@ use Rattle.hnsr_circuit.specs.Packet.{Packet}
 use Rattle.hnsr_circuit.specs.Handle.{Handling, OPEN, ACCEPT, DATA, WINDOW, CLOSE, ERROR, other}
 use Rattle.hnsr_circuit.specs.Handle.{handlingOf, dispatch, entryAnswer, gateAnswer, handleGate, handle}
 use Rattle.hnsr_circuit.specs.New.{observeTime}
-use Rattle.hnsr_circuit.specs.Status.{statusOf, status}
+use Rattle.hnsr_circuit.specs.Peer.{peerOf}
+use Rattle.hnsr_circuit.specs.Status.{statusOf, actionCapacity, status}
 use Rattle.hnsr_circuit.specs.NextDue.{dueOf, nextDue}
 use Rattle.hnsr_circuit.specs.Call.{Call, callStatus, callNextDue, callObserveTime, callReplaceEnabled, callHandle}
 use Rattle.hnsr_circuit.specs.Call.{callAcknowledge, callDisconnect, callRevokeReservation, callExpire, step}
@@ -211,8 +212,9 @@ pub step-keeps : {w : World} {h : Past} → Rel w h → Places w → sequenceOf 
     → (c : Call) → limitsBelow c ≡ true → afterEvent h (eventOf w c) .head .next < top 64
     → Rel (step w c .world) (after h c (step w c .answer) (step w c .routes))
 unfolding step status nextDue
-step-keeps {w} {h} R H now low callStatus lim next =
-    proceed-cases (λ (o : Outcome). Rel (o .world) h) w (tablesAnswer w) (telling w (statusIs (statusOf w)))
+step-keeps {w} {h} R H now low (callStatus peer circuit) lim next =
+    proceed-cases (λ (o : Outcome). Rel (o .world) h) w (tablesAnswer w then peerAnswer (length peer))
+    (telling w (statusIs (statusOf w) (actionCapacity w (peerOf peer) circuit)))
     (λ e. R)
     (λ e f. R)
 step-keeps {w} {h} R H now low callNextDue lim next =

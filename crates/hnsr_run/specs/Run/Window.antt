@@ -22,6 +22,7 @@ use Rattle.hnsr_circuit.specs.Opcode.{opWindow}
 use Rattle.hnsr_circuit.specs.Packet.{Packet, sender, hasCircuit, namedCircuit, circuitAnswer, receiver, forwarded}
 use Rattle.hnsr_circuit.specs.Window.{creditAnswer, withWindow, windowTaken, windowWith, handleWindow}
 use Rattle.hnsr_circuit.specs.Laws.Answers.{then-taken}
+use Rattle.hnsr_circuit.specs.Laws.Capacity.{can-queue, send-taken}
 use Rattle.hnsr_run.specs.Past.{Past, at, kindFor, ofRoute, heard, emit, learnt}
 use Rattle.hnsr_run.specs.History.{sideIn, granted, windowIn}
 use Rattle.hnsr_run.specs.Run.Actions.{room-of}
@@ -30,7 +31,7 @@ use Rattle.hnsr_run.specs.Run.Full.{Full, Quiet, queue-full}
 use Rattle.hnsr_run.specs.Run.InPlace.{only-one, agreed, place-circuit, looked}
 use Rattle.hnsr_run.specs.Run.InPlace.{resume-at, raised-at, raise-agrees, granted-peers}
 use Rattle.hnsr_run.specs.Run.DataRows.{named-side, known-rel, named-active, side-same}
-use Rattle.hnsr_run.specs.Run.Rel.{Rel, proceed-cases, if-taken, can-queue, send-taken}
+use Rattle.hnsr_run.specs.Run.Rel.{Rel, proceed-cases, if-taken}
 
 -- a packet that is passed on, and is no DATA
 pub quiet-forwarded : (q : Packet) (c : RelayCircuit) (kind : InflightKind) (j n : ℕ) → j ≡ q .context → q .opcode ≡ n

@@ -1,6 +1,5 @@
 pub mod action_at
 pub mod clear_action
-pub mod count_action
 pub mod drop_and_scan
 pub mod find_action
 pub mod scan_actions

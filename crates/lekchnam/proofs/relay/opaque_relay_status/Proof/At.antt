@@ -10,7 +10,7 @@ pub record Returns (c : Tie.After-status-reply) : Type 0 where
   pub status-reply : Lts.After-status-reply·own Tie.readings Reads.Pre Reads.Post (c .before)
 
 abbrev pub returns : (c : Tie.After-status-reply) → Returns c
-returns c = record { start = c .before .before; status = c .before .status; status-reply = c .status-reply }
+returns c = record { start = c .before .before .before; status = c .before .status; status-reply = c .status-reply }
 
 status-requires : Tie.Need-status-requires
 status-requires c = search needs

@@ -21,6 +21,9 @@ readings = (Reads.Asked, Reads.Learnt, Reads''.Asked, Reads''.Learnt)
 abbrev pub Start : Type 0
 Start = Lts.Start readings Reads'.Pre Reads'.Post
 
+abbrev pub After-shared-slice-known : Type 0
+After-shared-slice-known = Lts.After-shared-slice-known readings Reads'.Pre Reads'.Post
+
 abbrev pub After-status : Type 0
 After-status = Lts.After-status readings Reads'.Pre Reads'.Post
 
@@ -43,7 +46,7 @@ module _ {M : Type 1} where
 
   pub close : Lts.Closed readings Reads'.Pre Reads'.Post M → Statement.statement M
   unfolding Code.routine Running.tablesOf
-  close = λ closed 𝓤 H 𝓜 𝓖 𝓡. Written.close 3 Kinds.ps Kinds.r Reads'.Ghost Reads'.requires Reads'.ensures
+  close = λ closed 𝓤 H 𝓜 𝓖 𝓡. Written.close 4 Kinds.ps Kinds.r Reads'.Ghost Reads'.requires Reads'.ensures
       Reads'.pre-read Reads'.Pinned Reads'.Owned Reads'.post-read record { M = M; 𝓤 = 𝓤; H = H; 𝓜 = 𝓜; 𝓖 = 𝓖; 𝓡 = 𝓡 }
       Code.env Key.name Code.function (Code.unfolded 𝓤 H 𝓜 𝓡) (λ κs a g. tt) (λ κs. Reads'.owns κs
       record { M = M; 𝓤 = 𝓤; H = H; 𝓜 = 𝓜; 𝓖 = 𝓖; 𝓡 = 𝓡 }) (Reads'.passes

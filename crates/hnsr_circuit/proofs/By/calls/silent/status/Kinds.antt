@@ -11,13 +11,16 @@ use Rattle.hnsr_circuit.proofs.tables.places.Places
 use Rattle.hnsr_circuit.proofs.tables.places.Places.Laws as Laws''
 use borrow.Fn.Kinds
 use borrow.Kind.ShrSlice
+use borrow.Table.Referent
 use mathlib.Core.List
+use mir.Syntax
 use mathlib.Core.List.{_∷_}
 
-abbrev pub ps : List.List (Kinds.PK 3)
+abbrev pub ps : List.List (Kinds.PK 4)
 ps = (ShrSlice.pShrS RelayPending.row 0 tt) ∷ (ShrSlice.pShrS RelayCircuit.row 1 tt) ∷
     (ShrSlice.pShrS InflightAction.row 2 tt) ∷ (StructRow.param OpaqueRelayRuntime.the-type Laws.the-laws Laws.the-copy
-    Laws.the-plain) ∷ (StructRow.param Places.the-type Laws''.the-laws Laws''.the-copy Laws''.the-plain) ∷ List.[]
+    Laws.the-plain) ∷ (StructRow.param Places.the-type Laws''.the-laws Laws''.the-copy Laws''.the-plain) ∷ (ShrSlice.pShrS
+    (Referent.rtF (Referent.fInt Syntax.w8)) 3 tt) ∷ (Kinds.pNum Syntax.w64) ∷ List.[]
 
-abbrev pub r : Kinds.RK 3
+abbrev pub r : Kinds.RK 4
 r = StructRow.result StatusTold.the-type Laws'.the-laws Laws'.the-copy Laws'.the-plain

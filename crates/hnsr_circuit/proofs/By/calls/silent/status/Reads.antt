@@ -16,29 +16,29 @@ use mathlib.Core.Path
 abbrev pub Ghost : Type 0
 Ghost = Unit {0}
 
-module _ (κs : Lifetimes.Lfts 3) where
+module _ (κs : Lifetimes.Lfts 4) where
   abbrev pub Pinned : (a : World.ArgsD status.signature κs) → (w : World.World) → Type 1
   Pinned = Learn.no-pin status.signature κs
 
-  abbrev pub Owned : (r : World.ResD status.signature κs) → (s : Clauses.AtExit (Kinds'.endedOf 3 Kinds.ps Kinds.r) κs)
+  abbrev pub Owned : (r : World.ResD status.signature κs) → (s : Clauses.AtExit (Kinds'.endedOf 4 Kinds.ps Kinds.r) κs)
       → (w : World.World) → Type 1
-  Owned = Learn.no-own (Kinds'.endedOf 3 Kinds.ps Kinds.r) κs
+  Owned = Learn.no-own (Kinds'.endedOf 4 Kinds.ps Kinds.r) κs
 
   abbrev pub Base : (a : World.ArgsD status.signature κs) → (w : World.World) → World.Pr w
-  Base = Written.Base 3 Kinds.ps Kinds.r (λ κs. Pinned) κs
+  Base = Written.Base 4 Kinds.ps Kinds.r (λ κs. Pinned) κs
 
   abbrev pub pins : (w : World.World) → Learn.PinOf status.signature κs w λ a. Pinned a w
   pins = λ w. Learn.no-pins status.signature κs w
 
-  abbrev pub owns : (w : World.World) → Learn.OwnOf (Kinds'.endedOf 3 Kinds.ps Kinds.r) (Kinds'.stays Kinds.ps) κs w λ
+  abbrev pub owns : (w : World.World) → Learn.OwnOf (Kinds'.endedOf 4 Kinds.ps Kinds.r) (Kinds'.stays Kinds.ps) κs w λ
       r s. Owned r s w
-  owns = λ w. Learn.no-owns (Kinds'.endedOf 3 Kinds.ps Kinds.r) (Kinds'.stays Kinds.ps) κs w
+  owns = λ w. Learn.no-owns (Kinds'.endedOf 4 Kinds.ps Kinds.r) (Kinds'.stays Kinds.ps) κs w
 
   abbrev pub requires : (a : World.ArgsD status.signature κs) → (g : Ghost) → (w : World.World) → World.Pr w
   requires = λ a g w. status.clauses (w .𝓤) (w .H) (w .𝓖 .A) (w .𝓜 .mem) (w .𝓡 .run) κs a .requires g
 
   abbrev pub ensures : (a : World.ArgsD status.signature κs) → (g : Ghost) → (r : World.ResD status.signature κs) →
-      (s : Clauses.AtExit (Kinds'.endedOf 3 Kinds.ps Kinds.r) κs) → (w : World.World) → World.Pr w
+      (s : Clauses.AtExit (Kinds'.endedOf 4 Kinds.ps Kinds.r) κs) → (w : World.World) → World.Pr w
   ensures = λ a g r s w. status.clauses (w .𝓤) (w .H) (w .𝓖 .A) (w .𝓜 .mem) (w .𝓡 .run) κs a .ensures g r s
 
   abbrev pub pre-read : (a : World.ArgsD status.signature κs) → (g : Ghost) → Read.Read
@@ -47,30 +47,30 @@ module _ (κs : Lifetimes.Lfts 3) where
       Path.refl
 
   abbrev pub post-read : (a : World.ArgsD status.signature κs) → (g : Ghost) → (r : World.ResD status.signature κs) →
-      (s : Clauses.AtExit (Kinds'.endedOf 3 Kinds.ps Kinds.r) κs) → Read.Read (Base a) (Owned r s) (ensures a g r s)
+      (s : Clauses.AtExit (Kinds'.endedOf 4 Kinds.ps Kinds.r) κs) → Read.Read (Base a) (Owned r s) (ensures a g r s)
   post-read = λ a g r s. Read.all-models (ensures a g r s) (λ w. search Read.reads) (λ w. Path.refl) (λ w. Path.refl)
       λ w. Path.refl
 
-abbrev pub Pre : Kinds'.In 3 Kinds.ps
-Pre = Written.Pre 3 Kinds.ps Kinds.r Ghost requires ensures pre-read Pinned Owned post-read tt
+abbrev pub Pre : Kinds'.In 4 Kinds.ps
+Pre = Written.Pre 4 Kinds.ps Kinds.r Ghost requires ensures pre-read Pinned Owned post-read tt
 
-abbrev pub Post : Kinds'.Out 3 Kinds.ps Kinds.r
-Post = Written.Post 3 Kinds.ps Kinds.r Ghost requires ensures pre-read Pinned Owned post-read tt
+abbrev pub Post : Kinds'.Out 4 Kinds.ps Kinds.r
+Post = Written.Post 4 Kinds.ps Kinds.r Ghost requires ensures pre-read Pinned Owned post-read tt
 
-abbrev pub Asked : Kinds'.In 3 Kinds.ps
-Asked = Written.Asked 3 Kinds.ps Kinds.r Ghost requires ensures pre-read Pinned Owned post-read tt
+abbrev pub Asked : Kinds'.In 4 Kinds.ps
+Asked = Written.Asked 4 Kinds.ps Kinds.r Ghost requires ensures pre-read Pinned Owned post-read tt
 
-abbrev pub Learnt : Kinds'.Out 3 Kinds.ps Kinds.r
-Learnt = Written.Learnt 3 Kinds.ps Kinds.r Ghost requires ensures pre-read Pinned Owned post-read tt
+abbrev pub Learnt : Kinds'.Out 4 Kinds.ps Kinds.r
+Learnt = Written.Learnt 4 Kinds.ps Kinds.r Ghost requires ensures pre-read Pinned Owned post-read tt
 
-pub passes : (w : World.World) → Written.Passes 3 Kinds.ps Kinds.r Ghost requires ensures pre-read Pinned Owned
+pub passes : (w : World.World) → Written.Passes 4 Kinds.ps Kinds.r Ghost requires ensures pre-read Pinned Owned
     post-read w
 passes = λ w κs a g r ws ft p q. Monad.top (w .𝓤) (Read.all∗ w (pre-read κs a g .held w))
 
-pub lent : (w : World.World) → (κs : Lifetimes.Lfts 3) → (a : World.ArgsD status.signature κs) → Logic.ent (w .𝓤)
+pub lent : (w : World.World) → (κs : Lifetimes.Lfts 4) → (a : World.ArgsD status.signature κs) → Logic.ent (w .𝓤)
     (Logic.emp (w .𝓤)) (Read.all∗ w (pre-read κs a tt .held w))
 lent = λ w κs a. Logic.id⊢ (w .𝓤) (Logic.emp (w .𝓤))
 
-pub known : Picked.KnownAs 3 Kinds.ps Kinds.r Ghost requires ensures Asked Learnt
-known = λ w γ k ρ same met. Written.cited 3 Kinds.ps Kinds.r Ghost requires ensures pre-read Pinned Owned post-read w γ
+pub known : Picked.KnownAs 4 Kinds.ps Kinds.r Ghost requires ensures Asked Learnt
+known = λ w γ k ρ same met. Written.cited 4 Kinds.ps Kinds.r Ghost requires ensures pre-read Pinned Owned post-read w γ
     k ρ same (λ κs a. tt) (lent w) (λ κs a r ws ft p. tt) (λ κs. pins κs w) met

@@ -6,28 +6,69 @@ use borrow.Author.Needs.{needs}
 
 pub record Returns (c : Tie.After-status-told) : Type 0 where
   pub start : Tie.Start
-  pub config : Lts.After-config·own Tie.readings Reads.Pre Reads.Post
-      (c .before .before .before .before .before .before .before)
-  pub count-pending : Lts.After-count-pending·own Tie.readings Reads.Pre Reads.Post
+  pub too-few : Lts.After-too-few·own Tie.readings Reads.Pre Reads.Post (c .before .before .before .before .before
+      .before .before .before .before .before)
+  pub status-answer : Lts.After-status-answer·own Tie.readings Reads.Pre Reads.Post (c .before .before .before .before
+      .before .before .before .before .before)
+  pub is-taken : Lts.After-is-taken·own Tie.readings Reads.Pre Reads.Post (c .before .before .before .before .before
+      .before .before .before)
+  pub if1 : Lts.Then1·own Tie.readings Reads.Pre Reads.Post (c .before .before .before .before .before .before .before)
+  pub peer-of : Lts.After-peer-of·own Tie.readings Reads.Pre Reads.Post
       (c .before .before .before .before .before .before)
-  pub circuit-totals : Lts.After-circuit-totals·own Tie.readings Reads.Pre Reads.Post
+  pub capacity-question : Lts.After-capacity-question·own Tie.readings Reads.Pre Reads.Post
       (c .before .before .before .before .before)
-  pub count-action : Lts.After-count-action·own Tie.readings Reads.Pre Reads.Post (c .before .before .before .before)
-  pub too-few : Lts.After-too-few·own Tie.readings Reads.Pre Reads.Post (c .before .before .before)
-  pub status-of : Lts.After-status-of·own Tie.readings Reads.Pre Reads.Post (c .before .before)
+  pub count-pending : Lts.After-count-pending·own Tie.readings Reads.Pre Reads.Post (c .before .before .before .before)
+  pub circuit-totals : Lts.After-circuit-totals·own Tie.readings Reads.Pre Reads.Post (c .before .before .before)
+  pub scan-actions : Lts.After-scan-actions·own Tie.readings Reads.Pre Reads.Post (c .before .before)
   pub status-told : Lts.After-status-told·own Tie.readings Reads.Pre Reads.Post (c .before)
 
 abbrev pub returns : (c : Tie.After-status-told) → Returns c
 returns c = record {
-  start = c .before .before .before .before .before .before .before;
-  config = c .before .before .before .before .before .before .config;
-  count-pending = c .before .before .before .before .before .count-pending;
-  circuit-totals = c .before .before .before .before .circuit-totals;
-  count-action = c .before .before .before .count-action;
-  too-few = c .before .before .too-few;
-  status-of = c .before .status-of;
+  start = c .before .before .before .before .before .before .before .before .before .before .before;
+  too-few = c .before .before .before .before .before .before .before .before .before .too-few;
+  status-answer = c .before .before .before .before .before .before .before .before .status-answer;
+  is-taken = c .before .before .before .before .before .before .before .is-taken;
+  if1 = c .before .before .before .before .before .before .if1;
+  peer-of = c .before .before .before .before .before .peer-of;
+  capacity-question = c .before .before .before .before .capacity-question;
+  count-pending = c .before .before .before .count-pending;
+  circuit-totals = c .before .before .circuit-totals;
+  scan-actions = c .before .scan-actions;
   status-told = c .status-told;
 }
+
+pub record Returns-2 (c : Tie.After-status-refused) : Type 0 where
+  pub start : Tie.Start
+  pub too-few : Lts.After-too-few·own Tie.readings Reads.Pre Reads.Post (c .before .before .before .before .before)
+  pub status-answer : Lts.After-status-answer·own Tie.readings Reads.Pre Reads.Post (c .before .before .before .before)
+  pub is-taken : Lts.After-is-taken·own Tie.readings Reads.Pre Reads.Post (c .before .before .before)
+  pub if1 : Lts.Else1·own Tie.readings Reads.Pre Reads.Post (c .before .before)
+  pub status-refused : Lts.After-status-refused·own Tie.readings Reads.Pre Reads.Post (c .before)
+
+abbrev pub returns-2 : (c : Tie.After-status-refused) → Returns-2 c
+returns-2 c = record {
+  start = c .before .before .before .before .before .before;
+  too-few = c .before .before .before .before .too-few;
+  status-answer = c .before .before .before .status-answer;
+  is-taken = c .before .before .is-taken;
+  if1 = c .before .if1;
+  status-refused = c .status-refused;
+}
+
+too-few-requires : Tie.Need-too-few-requires
+too-few-requires c = search needs
+
+status-answer-requires : Tie.Need-status-answer-requires
+status-answer-requires c = search needs
+
+is-taken-requires : Tie.Need-is-taken-requires
+is-taken-requires c = search needs
+
+peer-of-requires : Tie.Need-peer-of-requires
+peer-of-requires c = search needs
+
+capacity-question-requires : Tie.Need-capacity-question-requires
+capacity-question-requires c = search needs
 
 count-pending-requires : Tie.Need-count-pending-requires
 count-pending-requires c = search needs
@@ -35,19 +76,17 @@ count-pending-requires c = search needs
 circuit-totals-requires : Tie.Need-circuit-totals-requires
 circuit-totals-requires c = search needs
 
-count-action-requires : Tie.Need-count-action-requires
-count-action-requires c = search needs
-
-too-few-requires : Tie.Need-too-few-requires
-too-few-requires c = search needs
-
-status-of-requires : Tie.Need-status-of-requires
-status-of-requires c = search needs
+scan-actions-requires : Tie.Need-scan-actions-requires
+scan-actions-requires c = search needs
 
 status-told-requires : Tie.Need-status-told-requires
 status-told-requires c = search needs
 
+status-refused-requires : Tie.Need-status-refused-requires
+status-refused-requires c = search needs
+
 module _ {M : Type 1} where
-  pub spec : Tie.Need-returns → Lts.Closed Tie.readings Reads.Pre Reads.Post M
-  spec = λ a0. Tie.spec count-pending-requires circuit-totals-requires count-action-requires too-few-requires
-      status-of-requires status-told-requires a0
+  pub spec : Tie.Need-returns → Tie.Need-returns-2 → Lts.Closed Tie.readings Reads.Pre Reads.Post M
+  spec = λ a0 a1. Tie.spec too-few-requires status-answer-requires is-taken-requires peer-of-requires
+      capacity-question-requires count-pending-requires circuit-totals-requires scan-actions-requires
+      status-told-requires a0 status-refused-requires a1

@@ -3,51 +3,89 @@ use Rattle.hnsr_circuit.proofs.By.calls.silent.status.Kinds
 use Rattle.hnsr_circuit.proofs.By.calls.silent.status.Lts
 use Rattle.hnsr_circuit.proofs.By.calls.silent.status.Reads
 use Rattle.hnsr_circuit.proofs.By.tables.circuits.circuit_totals.Reads as Reads'
-use Rattle.hnsr_circuit.proofs.By.tables.inflight.count_action.Reads as Reads''
+use Rattle.hnsr_circuit.proofs.By.tables.inflight.scan_actions.Reads as Reads''
 use Rattle.hnsr_circuit.proofs.By.tables.pending.count_pending.Reads as Reads'''
+use Rattle.hnsr_circuit.proofs.answer.is_taken.Met
+use Rattle.hnsr_circuit.proofs.answer.is_taken.Reads as Reads''''
+use Rattle.hnsr_circuit.proofs.answer.is_taken.Symbol
+use Rattle.hnsr_circuit.proofs.calls.silent.capacity_question.Met as Met'
+use Rattle.hnsr_circuit.proofs.calls.silent.capacity_question.Reads as Reads'''''
+use Rattle.hnsr_circuit.proofs.calls.silent.capacity_question.Symbol as Symbol'
 use Rattle.hnsr_circuit.proofs.calls.silent.status.Code
 use Rattle.hnsr_circuit.proofs.calls.silent.status.Key
 use Rattle.hnsr_circuit.proofs.calls.silent.status.Statement
-use Rattle.hnsr_circuit.proofs.calls.silent.status_of.Met
-use Rattle.hnsr_circuit.proofs.calls.silent.status_of.Reads as Reads''''
-use Rattle.hnsr_circuit.proofs.calls.silent.status_of.Symbol
-use Rattle.hnsr_circuit.proofs.calls.silent.status_told.Met as Met'
-use Rattle.hnsr_circuit.proofs.calls.silent.status_told.Reads as Reads'''''
-use Rattle.hnsr_circuit.proofs.calls.silent.status_told.Symbol as Symbol'
-use Rattle.hnsr_circuit.proofs.entry.too_few.Met as Met''
-use Rattle.hnsr_circuit.proofs.entry.too_few.Reads as Reads''''''
-use Rattle.hnsr_circuit.proofs.entry.too_few.Symbol as Symbol''
-use Rattle.hnsr_circuit.proofs.tables.circuits.circuit_totals.Met as Met'''
-use Rattle.hnsr_circuit.proofs.tables.circuits.circuit_totals.Symbol as Symbol'''
-use Rattle.hnsr_circuit.proofs.tables.inflight.count_action.Met as Met''''
-use Rattle.hnsr_circuit.proofs.tables.inflight.count_action.Symbol as Symbol''''
-use Rattle.hnsr_circuit.proofs.tables.pending.count_pending.Met as Met'''''
-use Rattle.hnsr_circuit.proofs.tables.pending.count_pending.Symbol as Symbol'''''
+use Rattle.hnsr_circuit.proofs.calls.silent.status_answer.Met as Met''
+use Rattle.hnsr_circuit.proofs.calls.silent.status_answer.Reads as Reads''''''
+use Rattle.hnsr_circuit.proofs.calls.silent.status_answer.Symbol as Symbol''
+use Rattle.hnsr_circuit.proofs.calls.silent.status_refused.Met as Met'''
+use Rattle.hnsr_circuit.proofs.calls.silent.status_refused.Reads as Reads'''''''
+use Rattle.hnsr_circuit.proofs.calls.silent.status_refused.Symbol as Symbol'''
+use Rattle.hnsr_circuit.proofs.calls.silent.status_told.Met as Met''''
+use Rattle.hnsr_circuit.proofs.calls.silent.status_told.Reads as Reads''''''''
+use Rattle.hnsr_circuit.proofs.calls.silent.status_told.Symbol as Symbol''''
+use Rattle.hnsr_circuit.proofs.entry.too_few.Met as Met'''''
+use Rattle.hnsr_circuit.proofs.entry.too_few.Reads as Reads'''''''''
+use Rattle.hnsr_circuit.proofs.entry.too_few.Symbol as Symbol'''''
+use Rattle.hnsr_circuit.proofs.peer.peer_of.Met as Met''''''
+use Rattle.hnsr_circuit.proofs.peer.peer_of.Reads as Reads''''''''''
+use Rattle.hnsr_circuit.proofs.peer.peer_of.Symbol as Symbol''''''
+use Rattle.hnsr_circuit.proofs.tables.circuits.circuit_totals.Met as Met'''''''
+use Rattle.hnsr_circuit.proofs.tables.circuits.circuit_totals.Symbol as Symbol'''''''
+use Rattle.hnsr_circuit.proofs.tables.inflight.scan_actions.Met as Met''''''''
+use Rattle.hnsr_circuit.proofs.tables.inflight.scan_actions.Symbol as Symbol''''''''
+use Rattle.hnsr_circuit.proofs.tables.pending.count_pending.Met as Met'''''''''
+use Rattle.hnsr_circuit.proofs.tables.pending.count_pending.Symbol as Symbol'''''''''
 use borrow.Fn.Run
 use borrow.Fn.Written
 use contract.Running
 
 abbrev pub readings : Lts.Claims
 readings = (
+  Reads'''''''''.Asked,
+  Reads'''''''''.Learnt,
+  Reads''''''.Asked,
+  Reads''''''.Learnt,
+  Reads''''.Asked,
+  Reads''''.Learnt,
+  Reads''''''''''.Asked,
+  Reads''''''''''.Learnt,
+  Reads'''''.Asked,
+  Reads'''''.Learnt,
   Reads'''.Asked,
   Reads'''.Learnt,
   Reads'.Asked,
   Reads'.Learnt,
   Reads''.Asked,
   Reads''.Learnt,
-  Reads''''''.Asked,
-  Reads''''''.Learnt,
-  Reads''''.Asked,
-  Reads''''.Learnt,
-  Reads'''''.Asked,
-  Reads'''''.Learnt,
+  Reads''''''''.Asked,
+  Reads''''''''.Learnt,
+  Reads'''''''.Asked,
+  Reads'''''''.Learnt,
 )
 
 abbrev pub Start : Type 0
 Start = Lts.Start readings Reads.Pre Reads.Post
 
-abbrev pub After-config : Type 0
-After-config = Lts.After-config readings Reads.Pre Reads.Post
+abbrev pub After-shared-slice-known : Type 0
+After-shared-slice-known = Lts.After-shared-slice-known readings Reads.Pre Reads.Post
+
+abbrev pub After-too-few : Type 0
+After-too-few = Lts.After-too-few readings Reads.Pre Reads.Post
+
+abbrev pub After-status-answer : Type 0
+After-status-answer = Lts.After-status-answer readings Reads.Pre Reads.Post
+
+abbrev pub After-is-taken : Type 0
+After-is-taken = Lts.After-is-taken readings Reads.Pre Reads.Post
+
+abbrev pub Then1 : Type 0
+Then1 = Lts.Then1 readings Reads.Pre Reads.Post
+
+abbrev pub After-peer-of : Type 0
+After-peer-of = Lts.After-peer-of readings Reads.Pre Reads.Post
+
+abbrev pub After-capacity-question : Type 0
+After-capacity-question = Lts.After-capacity-question readings Reads.Pre Reads.Post
 
 abbrev pub After-count-pending : Type 0
 After-count-pending = Lts.After-count-pending readings Reads.Pre Reads.Post
@@ -55,17 +93,32 @@ After-count-pending = Lts.After-count-pending readings Reads.Pre Reads.Post
 abbrev pub After-circuit-totals : Type 0
 After-circuit-totals = Lts.After-circuit-totals readings Reads.Pre Reads.Post
 
-abbrev pub After-count-action : Type 0
-After-count-action = Lts.After-count-action readings Reads.Pre Reads.Post
-
-abbrev pub After-too-few : Type 0
-After-too-few = Lts.After-too-few readings Reads.Pre Reads.Post
-
-abbrev pub After-status-of : Type 0
-After-status-of = Lts.After-status-of readings Reads.Pre Reads.Post
+abbrev pub After-scan-actions : Type 0
+After-scan-actions = Lts.After-scan-actions readings Reads.Pre Reads.Post
 
 abbrev pub After-status-told : Type 0
 After-status-told = Lts.After-status-told readings Reads.Pre Reads.Post
+
+abbrev pub Else1 : Type 0
+Else1 = Lts.Else1 readings Reads.Pre Reads.Post
+
+abbrev pub After-status-refused : Type 0
+After-status-refused = Lts.After-status-refused readings Reads.Pre Reads.Post
+
+abbrev pub Need-too-few-requires : Type 0
+Need-too-few-requires = Lts.Need-too-few-requires readings Reads.Pre Reads.Post
+
+abbrev pub Need-status-answer-requires : Type 0
+Need-status-answer-requires = Lts.Need-status-answer-requires readings Reads.Pre Reads.Post
+
+abbrev pub Need-is-taken-requires : Type 0
+Need-is-taken-requires = Lts.Need-is-taken-requires readings Reads.Pre Reads.Post
+
+abbrev pub Need-peer-of-requires : Type 0
+Need-peer-of-requires = Lts.Need-peer-of-requires readings Reads.Pre Reads.Post
+
+abbrev pub Need-capacity-question-requires : Type 0
+Need-capacity-question-requires = Lts.Need-capacity-question-requires readings Reads.Pre Reads.Post
 
 abbrev pub Need-count-pending-requires : Type 0
 Need-count-pending-requires = Lts.Need-count-pending-requires readings Reads.Pre Reads.Post
@@ -73,14 +126,8 @@ Need-count-pending-requires = Lts.Need-count-pending-requires readings Reads.Pre
 abbrev pub Need-circuit-totals-requires : Type 0
 Need-circuit-totals-requires = Lts.Need-circuit-totals-requires readings Reads.Pre Reads.Post
 
-abbrev pub Need-count-action-requires : Type 0
-Need-count-action-requires = Lts.Need-count-action-requires readings Reads.Pre Reads.Post
-
-abbrev pub Need-too-few-requires : Type 0
-Need-too-few-requires = Lts.Need-too-few-requires readings Reads.Pre Reads.Post
-
-abbrev pub Need-status-of-requires : Type 0
-Need-status-of-requires = Lts.Need-status-of-requires readings Reads.Pre Reads.Post
+abbrev pub Need-scan-actions-requires : Type 0
+Need-scan-actions-requires = Lts.Need-scan-actions-requires readings Reads.Pre Reads.Post
 
 abbrev pub Need-status-told-requires : Type 0
 Need-status-told-requires = Lts.Need-status-told-requires readings Reads.Pre Reads.Post
@@ -88,29 +135,46 @@ Need-status-told-requires = Lts.Need-status-told-requires readings Reads.Pre Rea
 abbrev pub Need-returns : Type 0
 Need-returns = Lts.Need-returns readings Reads.Pre Reads.Post
 
+abbrev pub Need-status-refused-requires : Type 0
+Need-status-refused-requires = Lts.Need-status-refused-requires readings Reads.Pre Reads.Post
+
+abbrev pub Need-returns-2 : Type 0
+Need-returns-2 = Lts.Need-returns-2 readings Reads.Pre Reads.Post
+
 module _ {M : Type 1} where
-  pub spec : (answer : Need-count-pending-requires) → (answer : Need-circuit-totals-requires) →
-      (answer : Need-count-action-requires) → (answer : Need-too-few-requires) → (answer : Need-status-of-requires) →
-      (answer : Need-status-told-requires) → (answer : Need-returns) → Lts.Closed readings Reads.Pre Reads.Post M
-  spec = λ answer answer' answer'' answer'3 answer'4 answer'5 answer'6. Lts.spec readings Reads.Pre Reads.Post answer
-      answer' answer'' answer'3 answer'4 answer'5 answer'6
+  pub spec : (answer : Need-too-few-requires) → (answer : Need-status-answer-requires) →
+      (answer : Need-is-taken-requires) → (answer : Need-peer-of-requires) → (answer : Need-capacity-question-requires)
+      → (answer : Need-count-pending-requires) → (answer : Need-circuit-totals-requires) →
+      (answer : Need-scan-actions-requires) → (answer : Need-status-told-requires) → (answer : Need-returns) →
+      (answer : Need-status-refused-requires) → (answer : Need-returns-2) → Lts.Closed readings Reads.Pre Reads.Post M
+  spec = λ answer answer' answer'' answer'3 answer'4 answer'5 answer'6 answer'7 answer'8 answer'9 answer'10 answer'11.
+      Lts.spec readings Reads.Pre Reads.Post answer answer' answer'' answer'3 answer'4 answer'5 answer'6 answer'7
+      answer'8 answer'9 answer'10 answer'11
 
   pub close : Lts.Closed readings Reads.Pre Reads.Post M → Statement.statement M
   unfolding Code.routine Running.tablesOf
-  close = λ closed 𝓤 H 𝓜 𝓖 𝓡. Written.close 3 Kinds.ps Kinds.r Reads.Ghost Reads.requires Reads.ensures Reads.pre-read
+  close = λ closed 𝓤 H 𝓜 𝓖 𝓡. Written.close 4 Kinds.ps Kinds.r Reads.Ghost Reads.requires Reads.ensures Reads.pre-read
       Reads.Pinned Reads.Owned Reads.post-read record { M = M; 𝓤 = 𝓤; H = H; 𝓜 = 𝓜; 𝓖 = 𝓖; 𝓡 = 𝓡 } Code.env Key.name
       Code.function (Code.unfolded 𝓤 H 𝓜 𝓡) (λ κs a g. tt) (λ κs. Reads.owns κs
       record { M = M; 𝓤 = 𝓤; H = H; 𝓜 = 𝓜; 𝓖 = 𝓖; 𝓡 = 𝓡 }) (Reads.passes
       record { M = M; 𝓤 = 𝓤; H = H; 𝓜 = 𝓜; 𝓖 = 𝓖; 𝓡 = 𝓡 }) λ g. closed 𝓤 H (𝓖 .A) (Running.givenOf 𝓤 H 𝓜 𝓖)
-      (Run.Over 𝓤 H 𝓜 𝓖 𝓡 Code.env) (Reads'''.known record { M = M; 𝓤 = 𝓤; H = H; 𝓜 = 𝓜; 𝓖 = 𝓖; 𝓡 = 𝓡 } Code.env
-      Symbol'''''.name Symbol'''''.routine Code.calls-hnsr-circuit·tables·pending·count-pending
-      (Met'''''.met 𝓤 H 𝓜 𝓖 𝓡)) (Reads'.known record { M = M; 𝓤 = 𝓤; H = H; 𝓜 = 𝓜; 𝓖 = 𝓖; 𝓡 = 𝓡 } Code.env
-      Symbol'''.name Symbol'''.routine Code.calls-hnsr-circuit·tables·circuits·circuit-totals (Met'''.met 𝓤 H 𝓜 𝓖 𝓡)) (Reads''.known
-      record { M = M; 𝓤 = 𝓤; H = H; 𝓜 = 𝓜; 𝓖 = 𝓖; 𝓡 = 𝓡 } Code.env Symbol''''.name Symbol''''.routine
-      Code.calls-hnsr-circuit·tables·inflight·count-action (Met''''.met 𝓤 H 𝓜 𝓖 𝓡)) (Reads''''''.known
+      (Run.Over 𝓤 H 𝓜 𝓖 𝓡 Code.env) (Reads'''''''''.known record { M = M; 𝓤 = 𝓤; H = H; 𝓜 = 𝓜; 𝓖 = 𝓖; 𝓡 = 𝓡 } Code.env
+      Symbol'''''.name Symbol'''''.routine Code.calls-hnsr-circuit·entry·too-few (Met'''''.met 𝓤 H 𝓜 𝓖 𝓡)) (Reads''''''.known
       record { M = M; 𝓤 = 𝓤; H = H; 𝓜 = 𝓜; 𝓖 = 𝓖; 𝓡 = 𝓡 } Code.env Symbol''.name Symbol''.routine
-      Code.calls-hnsr-circuit·entry·too-few (Met''.met 𝓤 H 𝓜 𝓖 𝓡)) (Reads''''.known
+      Code.calls-hnsr-circuit·calls·silent·status-answer (Met''.met 𝓤 H 𝓜 𝓖 𝓡)) (Reads''''.known
       record { M = M; 𝓤 = 𝓤; H = H; 𝓜 = 𝓜; 𝓖 = 𝓖; 𝓡 = 𝓡 } Code.env Symbol.name Symbol.routine
-      Code.calls-hnsr-circuit·calls·silent·status-of (Met.met 𝓤 H 𝓜 𝓖 𝓡)) (Reads'''''.known
+      Code.calls-hnsr-circuit·answer·is-taken (Met.met 𝓤 H 𝓜 𝓖 𝓡)) (Reads''''''''''.known
+      record { M = M; 𝓤 = 𝓤; H = H; 𝓜 = 𝓜; 𝓖 = 𝓖; 𝓡 = 𝓡 } Code.env Symbol''''''.name Symbol''''''.routine
+      Code.calls-hnsr-circuit·peer·peer-of (Met''''''.met 𝓤 H 𝓜 𝓖 𝓡)) (Reads'''''.known
       record { M = M; 𝓤 = 𝓤; H = H; 𝓜 = 𝓜; 𝓖 = 𝓖; 𝓡 = 𝓡 } Code.env Symbol'.name Symbol'.routine
-      Code.calls-hnsr-circuit·calls·silent·status-told (Met'.met 𝓤 H 𝓜 𝓖 𝓡))
+      Code.calls-hnsr-circuit·calls·silent·capacity-question (Met'.met 𝓤 H 𝓜 𝓖 𝓡)) (Reads'''.known
+      record { M = M; 𝓤 = 𝓤; H = H; 𝓜 = 𝓜; 𝓖 = 𝓖; 𝓡 = 𝓡 } Code.env Symbol'''''''''.name Symbol'''''''''.routine
+      Code.calls-hnsr-circuit·tables·pending·count-pending (Met'''''''''.met 𝓤 H 𝓜 𝓖 𝓡)) (Reads'.known
+      record { M = M; 𝓤 = 𝓤; H = H; 𝓜 = 𝓜; 𝓖 = 𝓖; 𝓡 = 𝓡 } Code.env Symbol'''''''.name Symbol'''''''.routine
+      Code.calls-hnsr-circuit·tables·circuits·circuit-totals (Met'''''''.met 𝓤 H 𝓜 𝓖 𝓡)) (Reads''.known
+      record { M = M; 𝓤 = 𝓤; H = H; 𝓜 = 𝓜; 𝓖 = 𝓖; 𝓡 = 𝓡 } Code.env Symbol''''''''.name Symbol''''''''.routine
+      Code.calls-hnsr-circuit·tables·inflight·scan-actions (Met''''''''.met 𝓤 H 𝓜 𝓖 𝓡)) (Reads''''''''.known
+      record { M = M; 𝓤 = 𝓤; H = H; 𝓜 = 𝓜; 𝓖 = 𝓖; 𝓡 = 𝓡 } Code.env Symbol''''.name Symbol''''.routine
+      Code.calls-hnsr-circuit·calls·silent·status-told (Met''''.met 𝓤 H 𝓜 𝓖 𝓡)) (Reads'''''''.known
+      record { M = M; 𝓤 = 𝓤; H = H; 𝓜 = 𝓜; 𝓖 = 𝓖; 𝓡 = 𝓡 } Code.env Symbol'''.name Symbol'''.routine
+      Code.calls-hnsr-circuit·calls·silent·status-refused (Met'''.met 𝓤 H 𝓜 𝓖 𝓡))

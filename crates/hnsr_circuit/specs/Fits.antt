@@ -1,5 +1,5 @@
 -- Messages queued one after the other, in the words of the theorems about the action capacity.
-use Prim.Native.Nat.{ℕ, _≤_}
+use Prim.Native.Nat.{ℕ, _+_, _≤_}
 use Prim.{Unit}
 use mathlib.Core.Path.{_≡_}
 use mathlib.Core.Bool.{false}
@@ -45,3 +45,7 @@ pub record Within (w : World) (peer : HnsrPeerId) (circuit : ℕ) : Type 0 where
       ≤ configOf w .«maximum_inflight_actions_per_circuit»
   pub toward : tallied false circuit peer (w .inflight) .«for_peer»
       ≤ configOf w .«maximum_inflight_actions_per_peer»
+
+-- a number and another that is the same, or one more
+abbrev pub OneApart : (less more : ℕ) → Type 0
+OneApart less more = (less ≤ more) × (more ≤ less + 1)

@@ -1,35 +1,35 @@
 -- How many more actions fit. `fits-exactly`: with n left toward a peer and under a circuit, n messages for them can be
 -- queued one after the other, and the next finds a 10. `one-less` and `one-more`: how the number moves when an action
--- is queued or removed, for its own peer and circuit and for any others.
+-- is queued or removed, for its own peer and circuit and for any others; `dropped-more`: when actions are dropped.
 use Prim.Native.Nat.{ℕ, suc, _+_, _-_, min, _≤_, _<_}
 use native.Mathlib.Omega.{arith}
 use mathlib.Core.Path.{_≡_, refl, sym, ap, _∙_, subst}
-use mathlib.Core.Bool.{Bool, true, false, cond, not, _&&_}
+use mathlib.Core.Bool.{Bool, true, false, cond}
 use mathlib.Core.List.{List, [], _∷_}
 use lib.Dec.{eqb}
 use lib.ListN.{length, replicate}
 use borrow.Author.Tests.{eq-eqb, ne-eqb}
 use Rattle.hns_encoding.specs.Numbers.{top}
-use Rattle.hns_encoding.specs.Sums.{only, one, non, total, count}
+use Rattle.hns_encoding.specs.Sums.{only, non, total}
 use Rattle.hns_encoding.specs.Laws.Tests.{both, cond-le}
-use Rattle.hns_encoding.specs.Laws.Sums.{total-ext, total-le}
 use Rattle.hnsr_circuit.specs.declared.peer.HnsrPeerId.{HnsrPeerId}
 use Rattle.hnsr_circuit.specs.declared.records.InflightAction.{InflightAction}
 use Rattle.hnsr_circuit.specs.declared.answer.HnsrAnswer.{HnsrAnswer}
 use Rattle.hnsr_circuit.specs.declared.answer.HnsrAnswer.the-variants.{Taken, Refused}
 use Rattle.hnsr_circuit.specs.declared.answer.HnsrRuntimeError.the-variants.{Capacity}
-use Rattle.hnsr_circuit.specs.Table.{also, any, pick}
+use Rattle.hnsr_circuit.specs.Table.{any, pick}
 use Rattle.hnsr_circuit.specs.Peer.{samePeer}
 use Rattle.hnsr_circuit.specs.Inflight.{noAction, isAction, actionAt, actionUnder, actionToward, clearAction}
-use Rattle.hnsr_circuit.specs.Inflight.{retained, tallied, capacityLeft}
-use Rattle.hnsr_circuit.specs.World.{World, Outcome, configOf, done}
+use Rattle.hnsr_circuit.specs.Inflight.{dropped, tallied, capacityLeft}
+use Rattle.hnsr_circuit.specs.World.{World, Outcome, configOf, done, withInflight}
 use Rattle.hnsr_circuit.specs.Queue.{Message, actionFor, generationOf, sequenceOf, queued, routed, send}
 use Rattle.hnsr_circuit.specs.Acknowledge.{withoutAction}
 use Rattle.hnsr_circuit.specs.Status.{actionCapacity}
-use Rattle.hnsr_circuit.specs.Fits.{answersTo, sentAll, Toward, AllToward, Ready, Within}
+use Rattle.hnsr_circuit.specs.Fits.{answersTo, sentAll, Toward, AllToward, Ready, Within, OneApart}
 use Rattle.hnsr_circuit.specs.Laws.Peer.{same-refl}
+use Rattle.hnsr_circuit.specs.Laws.Inflight.{all-counted, some-counted, replacing-tally}
 use Rattle.hnsr_circuit.specs.Laws.Lookups.{pick-has}
-use Rattle.hnsr_circuit.specs.Laws.Marks.{length-put, room, put-new-total, put-new-other}
+use Rattle.hnsr_circuit.specs.Laws.Marks.{length-put, room, put-new-total, put-new-other, clear-le}
 use Rattle.hnsr_circuit.specs.Laws.Edits.{edit-total}
 use Rattle.hnsr_circuit.specs.Laws.Capacity.{capacity-passes, send-asks, can-queue, send-taken}
 
@@ -49,28 +49,16 @@ held f t = total (only isAction f) t
 
 module _ (circuit : ℕ) (peer : HnsrPeerId) (t : List InflightAction) where
   total-is : tallied false circuit peer t .total ≡ held all t
-  unfolding tallied isAction
-  total-is = total-ext _ _ t (λ a. plain (a .used))
-    where
-      plain : (u : Bool) → cond {A = ℕ} (u && true) 1 0 ≡ cond u 1 0
-      plain true = refl
-      plain false = refl
+  unfolding tallied
+  total-is = all-counted circuit t
 
   circuit-is : tallied false circuit peer t .«for_circuit» ≡ held (underIt circuit) t
-  unfolding tallied isAction actionUnder
-  circuit-is = total-ext _ _ t (λ a. plain (a .used) (eqb (a .«circuit_id») circuit))
-    where
-      plain : (u b : Bool) → cond {A = ℕ} ((u && true) && (u && b)) 1 0 ≡ cond u (cond b 1 0) 0
-      plain true b = refl
-      plain false b = refl
+  unfolding tallied actionUnder
+  circuit-is = some-counted circuit t (λ a. eqb (a .«circuit_id») circuit)
 
   peer-is : tallied false circuit peer t .«for_peer» ≡ held (towardIt peer) t
-  unfolding tallied isAction actionToward
-  peer-is = total-ext _ _ t (λ a. plain (a .used) (samePeer (a .destination) peer))
-    where
-      plain : (u b : Bool) → cond {A = ℕ} ((u && true) && (u && b)) 1 0 ≡ cond u (cond b 1 0) 0
-      plain true b = refl
-      plain false b = refl
+  unfolding tallied actionToward
+  peer-is = some-counted circuit t (λ a. samePeer (a .destination) peer)
 
 -- the number by these sums
 capacity-is : (w : World) (peer : HnsrPeerId) (circuit : ℕ)
@@ -83,9 +71,6 @@ capacity-is w peer circuit =
     rw (total-is circuit peer (w .inflight), circuit-is circuit peer (w .inflight), peer-is circuit peer (w .inflight))
 
 -- ---- numbers that are the same or one apart
-abbrev OneApart : (less more : ℕ) → Type 0
-OneApart m n = (m ≤ n) × (n ≤ m + 1)
-
 apart-min : {m n k l : ℕ} → OneApart m n → OneApart k l → OneApart (min m k) (min n l)
 apart-min a b = (omega (arith, a .0, b .0), omega (arith, a .1, b .1))
 
@@ -214,19 +199,19 @@ module _ (w : World) (generation sequence : ℕ) (there : any (actionAt generati
       let u = rw (eq-eqb i i refl) at (removed-sum (underIt i)) in
       let s = rw (same-refl p) at (removed-sum (towardIt p)) in
       let some : 0 < actionCapacity v p i = rw (capacity-is v p i)
-      (positive (positive′ (configOf v .«maximum_inflight_actions») (held all t)
+      (least (below (configOf v .«maximum_inflight_actions») (held all t)
       (omega (arith, within .all, total-is i p (w .inflight), removed-sum all)))
-      (positive (positive′ (configOf v .«maximum_inflight_actions_per_circuit») (held (underIt i) t)
+      (least (below (configOf v .«maximum_inflight_actions_per_circuit») (held (underIt i) t)
       (omega (arith, within .under, circuit-is i p (w .inflight), u)))
-      (positive′ (configOf v .«maximum_inflight_actions_per_peer») (held (towardIt p) t)
+      (below (configOf v .«maximum_inflight_actions_per_peer») (held (towardIt p) t)
       (omega (arith, within .toward, peer-is i p (w .inflight), s))))) in
       omega (arith, some, apart-own v w refl removed removed-sum)
     where
-      positive : {m n : ℕ} → 0 < m → 0 < n → 0 < min m n
-      positive a b = omega arith
+      least : {m n : ℕ} → 0 < m → 0 < n → 0 < min m n
+      least a b = omega arith
 
-      positive′ : (a x : ℕ) → x < a → 0 < a - x
-      positive′ a x l = omega arith
+      below : (a x : ℕ) → x < a → 0 < a - x
+      below a x l = omega arith
 
   -- of any other as many, or one more
   pub one-more-at-most : (peer : HnsrPeerId) (circuit : ℕ)
@@ -296,38 +281,31 @@ fits-exactly w R peer circuit ms aimed low exact m last =
       send-asks v m (last .formed) .1 (own v (k .ready) peer circuit m last ∙ omega (arith, k .left)),
     )
 
--- ---- ACCEPT, which replaces the actions of its circuit, finds as many as `status` tells or more
-pub replacing-more : (w : World) (peer : HnsrPeerId) (circuit : ℕ)
-    → actionCapacity w peer circuit ≤ capacityLeft (configOf w) (tallied true circuit peer (w .inflight))
-unfolding actionCapacity capacityLeft tallied
-replacing-more w peer circuit =
+-- ---- actions dropped: as many are left, or more
+dropped-sum : (p : InflightAction → Bool) (f : InflightAction → ℕ) (t : List InflightAction)
+    → held f (dropped p t) ≤ held f t
+unfolding dropped isAction
+dropped-sum p f t = clear-le isAction clearAction (λ a. refl) p f t
+
+pub dropped-more : (w : World) (p : InflightAction → Bool) (peer : HnsrPeerId) (circuit : ℕ)
+    → actionCapacity w peer circuit ≤ actionCapacity (withInflight w (dropped p (w .inflight))) peer circuit
+dropped-more w p peer circuit =
     let c = configOf w in
-    least (further (c .«maximum_inflight_actions»)
-    (fewer (retained true circuit) (retained false circuit) (λ a. kept (a .used) (eqb (a .«circuit_id») circuit))))
-    (least (further (c .«maximum_inflight_actions_per_circuit»)
-    (fewer (also (retained true circuit) (actionUnder circuit)) (also (retained false circuit) (actionUnder circuit))
-    (λ a. and-kept (a .used) (eqb (a .«circuit_id») circuit) (actionUnder circuit a))))
-    (further (c .«maximum_inflight_actions_per_peer»)
-    (fewer (also (retained true circuit) (actionToward peer)) (also (retained false circuit) (actionToward peer))
-    (λ a. and-kept (a .used) (eqb (a .«circuit_id») circuit) (actionToward peer a)))))
+    let t = w .inflight in
+    rw (capacity-is w peer circuit, capacity-is (withInflight w (dropped p t)) peer circuit)
+    (least (further (c .«maximum_inflight_actions») (dropped-sum p all t))
+    (least (further (c .«maximum_inflight_actions_per_circuit») (dropped-sum p (underIt circuit) t))
+    (further (c .«maximum_inflight_actions_per_peer») (dropped-sum p (towardIt peer) t))))
   where
-    fewer : (p q : InflightAction → Bool) → ((a : InflightAction) → one p a ≤ one q a)
-        → count p (w .inflight) ≤ count q (w .inflight)
-    fewer p q h = total-le (one p) (one q) (w .inflight) h
-
-    kept : (u e : Bool) → cond {A = ℕ} (u && not (true && e)) 1 0 ≤ cond (u && not (false && e)) 1 0
-    kept true true = omega arith
-    kept true false = omega arith
-    kept false e = omega arith
-
-    and-kept : (u e b : Bool)
-        → cond {A = ℕ} ((u && not (true && e)) && b) 1 0 ≤ cond ((u && not (false && e)) && b) 1 0
-    and-kept true true b = omega arith
-    and-kept true false b = omega arith
-    and-kept false e b = omega arith
-
     further : (a : ℕ) {x y : ℕ} → y ≤ x → a - x ≤ a - y
     further a l = omega arith
 
     least : {m n k l : ℕ} → m ≤ n → k ≤ l → min m k ≤ min n l
     least a b = omega arith
+
+-- so ACCEPT, which replaces the actions of its circuit, finds as many as `status` tells, or more
+pub replacing-more : (w : World) (peer : HnsrPeerId) (circuit : ℕ)
+    → actionCapacity w peer circuit ≤ capacityLeft (configOf w) (tallied true circuit peer (w .inflight))
+unfolding actionCapacity
+replacing-more w peer circuit =
+    rw (replacing-tally circuit peer (w .inflight)) (dropped-more w (actionUnder circuit) peer circuit)

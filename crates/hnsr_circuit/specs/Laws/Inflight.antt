@@ -17,7 +17,7 @@ use Rattle.hns_encoding.specs.Laws.Tests.{split, choose}
 use Rattle.hns_encoding.specs.Loops.{foldFrom}
 use Rattle.hnsr_circuit.specs.Code.Turns.{noTally, tallyTurn}
 use Rattle.hnsr_circuit.specs.Laws.Folds.{fold-count}
-use Rattle.hns_encoding.specs.Sums.{one, count}
+use Rattle.hns_encoding.specs.Sums.{only, one, total, count}
 use Rattle.hnsr_circuit.specs.Table.{also, cleared}
 use Rattle.hns_encoding.specs.Laws.Sums.{total-ext, total-map}
 use Rattle.hnsr_circuit.specs.Peer.{samePeer}
@@ -64,14 +64,26 @@ module _ (replacing : Bool) (id : ℕ) (peer : HnsrPeerId) where
             (also (retained replacing id) (actionToward peer)) (λ b x i. refl) inflight 0 noTally),
       )
 
--- ---- nothing replaced, every used action is counted
-pub all-counted : (id : ℕ) (t : List InflightAction) → count (retained false id) t ≡ count isAction t
-unfolding isAction
-all-counted id t = total-ext (one (retained false id)) (one (λ a. a .used)) t (λ a. plain (a .used))
-  where
-    plain : (u : Bool) → cond {A = ℕ} (u && true) 1 0 ≡ cond u 1 0
-    plain true = refl
-    plain false = refl
+-- ---- nothing replaced, the counts are sums over the used actions: of all, and of those that have a test
+module _ (id : ℕ) (t : List InflightAction) where
+  pub all-counted : count (retained false id) t ≡ count isAction t
+  unfolding isAction
+  all-counted = total-ext (one (retained false id)) (one (λ a. a .used)) t (λ a. each (a .used))
+    where
+      each : (u : Bool) → cond {A = ℕ} (u && true) 1 0 ≡ cond u 1 0
+      each true = refl
+      each false = refl
+
+  pub some-counted : (p : InflightAction → Bool)
+      → count (also (retained false id) (λ a. a .used && p a)) t ≡ total (only isAction (one p)) t
+  unfolding isAction
+  some-counted p =
+      total-ext (one (also (retained false id) (λ a. a .used && p a))) (only (λ a. a .used) (one p)) t
+      (λ a. each (a .used) (p a))
+    where
+      each : (u b : Bool) → cond {A = ℕ} ((u && true) && (u && b)) 1 0 ≡ cond u (cond b 1 0) 0
+      each true b = refl
+      each false b = refl
 
 -- ---- ACCEPT's tally
 module _ (id : ℕ) (peer : HnsrPeerId) where

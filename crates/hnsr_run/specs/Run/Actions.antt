@@ -26,6 +26,7 @@ use Rattle.hnsr_circuit.specs.Laws.Lookups.{count-none, total-key}
 use Rattle.hnsr_circuit.specs.Laws.Marks.{clear-total, clear-length, length-put}
 use Rattle.hnsr_circuit.specs.Laws.Edits.{edit-clear}
 use Rattle.hnsr_circuit.specs.Laws.Answers.{check-taken}
+use Rattle.hnsr_circuit.specs.Laws.Inflight.{all-counted, some-counted}
 use Rattle.hnsr_circuit.specs.Laws.Bag.{Bag, Held, held-count, held-any, queue-held}
 use Rattle.hnsr_run.specs.Past.{Action, onCircuit, toward, numbered, tally}
 
@@ -178,48 +179,27 @@ module _ {c : OpaqueRelayConfig} {g next : ℕ} {t : List InflightAction} {out :
 pub room-of : (c : OpaqueRelayConfig) (circuit : ℕ) (peer : HnsrPeerId) (t : List InflightAction)
     → capacityAnswer c (tallied false circuit peer t) ≡ Taken
     → count inUse t < c .«maximum_inflight_actions»
-unfolding capacityAnswer capacityLeft tallied
+unfolding capacityAnswer capacityLeft tallied isAction
 room-of c circuit peer t h =
     let e = check-taken (eqb (capacityLeft c (tallied false circuit peer t)) 0) Capacity h in
     omega (
       arith,
       eqb-false (capacityLeft c (tallied false circuit peer t)) 0 e,
-      total-ext (one (retained false circuit)) (one inUse) t (λ a. plain (a .used)),
+      all-counted circuit t,
     )
-  where
-    plain : (u : Bool) → cond {A = ℕ} (u && true) 1 0 ≡ cond u 1 0
-    plain true = refl
-    plain false = refl
 
 -- the counts of the table are those of the list
 pub tally-held : {c : OpaqueRelayConfig} {g next : ℕ} {t : List InflightAction} {out : List Action}
     → Acts c g next t out → (j : ℕ) (peer : HnsrPeerId)
     → tallied false j peer t ≡ tally j peer out
-unfolding tallied actionUnder actionToward
+unfolding tallied isAction actionUnder actionToward
 tally-held {t = t} {out = out} R j peer = λ i. record { total = all i; «for_circuit» = on i; «for_peer» = to i }
   where
-    plain : (u b : Bool) → cond {A = ℕ} ((u && true) && (u && b)) 1 0 ≡ cond (u && b) 1 0
-    plain true b = refl
-    plain false b = refl
-
-    used : (u : Bool) → cond {A = ℕ} (u && true) 1 0 ≡ cond u 1 0
-    used true = refl
-    used false = refl
-
     all : count (retained false j) t ≡ length out
-    all =
-        total-ext (one (retained false j)) (one inUse) t (λ i. used (i .used))
-        ∙ R .held .same (λ a. 1)
-        ∙ ones-length out
+    all = all-counted j t ∙ R .held .same (λ a. 1) ∙ ones-length out
 
     on : count (also (retained false j) (λ i. i .used && eqb (i .«circuit_id») j)) t ≡ count (onCircuit j) out
-    on =
-        total-ext (one (also (retained false j) (λ i. i .used && eqb (i .«circuit_id») j)))
-        (one (holding (onCircuit j))) t (λ i. plain (i .used) (eqb (i .«circuit_id») j))
-        ∙ held-count actions (R .held) (onCircuit j)
+    on = some-counted j t (λ i. onCircuit j (view i)) ∙ R .held .same (one (onCircuit j))
 
     to : count (also (retained false j) (λ i. i .used && samePeer (i .destination) peer)) t ≡ count (toward peer) out
-    to =
-        total-ext (one (also (retained false j) (λ i. i .used && samePeer (i .destination) peer)))
-        (one (holding (toward peer))) t (λ i. plain (i .used) (samePeer (i .destination) peer))
-        ∙ held-count actions (R .held) (toward peer)
+    to = some-counted j t (λ i. toward peer (view i)) ∙ R .held .same (one (toward peer))

@@ -28,7 +28,7 @@ extern "C" {
 #endif
 
 /* Raised with every change of a function or of a struct below. */
-#define LEKCHNAM_VERSION 2
+#define LEKCHNAM_VERSION 3
 
 /* ---- numbers */
 
@@ -357,9 +357,11 @@ typedef struct {
     uint64_t revoked_work;
 } LekchnamHnsrRuntimeStatus;
 
+/* `action_capacity` is how many more routes fit, toward the peer and about the circuit that were asked about. */
 typedef struct {
     uint32_t answer;
     LekchnamHnsrRuntimeStatus status;
+    size_t action_capacity;
 } LekchnamStatusReply;
 
 /* Nothing is due where `some` is false. */
@@ -579,12 +581,17 @@ LekchnamRelayReply opaque_relay_replace_enabled(
 /* Moves the clock. */
 LekchnamRelayReply opaque_relay_observe_time(LekchnamOpaqueRelayRuntime runtime, LekchnamPlaces places, uint64_t time);
 
-/* What the relay tells of itself; zeros where it is refused. */
+/* What the relay tells of itself, and how many more routes the three limits on unacknowledged ones leave toward a peer
+ * and about a circuit, known to the relay or not: the least of what is left in the relay, about the circuit and toward
+ * the peer. At 0, and only then, a DATA or a WINDOW to that peer by that circuit is refused with LEKCHNAM_CAPACITY.
+ * Zeros where it is refused: with LEKCHNAM_SHORT, and then with LEKCHNAM_INVALID_PEER where the name has no bytes or
+ * more than LEKCHNAM_MAXIMUM_PEER. The status is the same whoever is asked about. */
 LekchnamStatusReply opaque_relay_status(
     const LekchnamRelayPending *pending, size_t pending_places,
     const LekchnamRelayCircuit *circuits, size_t circuit_places,
     const LekchnamInflightAction *inflight, size_t inflight_places,
-    LekchnamOpaqueRelayRuntime runtime, LekchnamPlaces places);
+    LekchnamOpaqueRelayRuntime runtime, LekchnamPlaces places,
+    const uint8_t *peer, size_t peer_length, uint64_t circuit_id);
 
 /* When `expire` has work: the first of all deadlines of pending records, ends of circuits and ends of the ledger's
  * records. Sleep until then, and call it. In a relay begun by `new` it would only move the clock before, and after it

@@ -28,9 +28,9 @@ use crate::error::{answered, HnsrRuntimeError};
 use crate::ffi::relay as ffi;
 use crate::ffi::Cause;
 use crate::route::HnsrActionId;
-use crate::status::HnsrRuntimeStatus;
 
 pub use crate::limits::{CLOSING_WORDS, HANDLE_WORDS};
+pub use crate::status::StatusTold;
 pub use crate::why::why;
 pub use places::Places;
 pub use records::{
@@ -146,10 +146,44 @@ pub fn observe_time(runtime: &mut Runtime, now: u64) -> Result<(), HnsrRuntimeEr
     answered(reply.answer, reply.cause)
 }
 
-/// What the relay tells of itself.
-pub fn status(tables: &Tables, runtime: &Runtime) -> Result<HnsrRuntimeStatus, HnsrRuntimeError> {
-    let reply = ffi::status(tables, *runtime);
-    answered(reply.answer, Cause::NONE).map(|()| reply.status)
+/// What the relay tells of itself, and how many more routes fit toward a peer and about a circuit, known to the relay
+/// or not. That is the least of three differences, each of which stops at 0:
+///
+/// - [`maximum_inflight_actions`](OpaqueRelayConfig::maximum_inflight_actions) less all unacknowledged routes;
+/// - [`maximum_inflight_actions_per_circuit`](OpaqueRelayConfig::maximum_inflight_actions_per_circuit) less those about
+///   the circuit;
+/// - [`maximum_inflight_actions_per_peer`](OpaqueRelayConfig::maximum_inflight_actions_per_peer) less those toward the
+///   peer.
+///
+/// Refused with 22 where a table is shorter than its limit, and then with 4 where the name has no bytes or more than
+/// [`MAXIMUM_PEER`](crate::MAXIMUM_PEER). Any circuit's id is taken, 0 too, and also where the relay is switched off.
+/// Names are compared as [`StoredPeer`]s are.
+///
+/// ```
+/// use lekchnam_host::lent::{self, Tables};
+/// use lekchnam_host::{HnsrRuntimeError, OpaqueRelayConfig};
+///
+/// let config = OpaqueRelayConfig {
+///     maximum_inflight_actions: 8,
+///     maximum_inflight_actions_per_circuit: 4,
+///     maximum_inflight_actions_per_peer: 6,
+///     ..OpaqueRelayConfig::default()
+/// };
+/// let mut tables = Tables::new(&config, 1)?;
+/// let runtime = lent::new(&mut tables, [1; 16], 1, config, 100)?;
+/// assert_eq!(lent::status(&tables, &runtime, b"merchant", 7)?.action_capacity, 4);
+/// assert_eq!(lent::status(&tables, &runtime, b"", 7), Err(HnsrRuntimeError::InvalidPeer));
+/// # Ok::<(), HnsrRuntimeError>(())
+/// ```
+pub fn status(
+    tables: &Tables,
+    runtime: &Runtime,
+    peer: &[u8],
+    circuit_id: u64,
+) -> Result<StatusTold, HnsrRuntimeError> {
+    let reply = ffi::status(tables, *runtime, peer, circuit_id);
+    answered(reply.answer, Cause::NONE)
+        .map(|()| StatusTold { status: reply.status, action_capacity: reply.action_capacity })
 }
 
 /// When [`expire`] has work: the first of all deadlines of pending records, ends of circuits and ends of the

@@ -14,10 +14,13 @@ use crate::status::HnsrRuntimeStatus;
 use crate::view::{Action, ActionKind};
 use std::fmt::{self, Debug, Formatter};
 
-/// Why `status` and `next_due` cannot fail. Their one refusal is 22, a table with fewer places than its limit.
-/// `from_parts`, which makes every relay, has asked `status` of these tables; from then on no table changes its
-/// length, and no call changes a limit.
+/// Why `status` and `next_due` cannot fail. They are refused with 22 where a table has fewer places than its limit.
+/// `from_parts`, which makes every relay, has asked `status` of these tables; from then on no table changes its length,
+/// and no call changes a limit. The other refusal of `status` is 4, for a name that is none, and `ANYBODY` is a name.
 const PLACES_ARE_ENOUGH: &str = "the tables have the places that they need";
+
+/// Whom `status` asks about, whose own numbers are the same for everybody: any good name, and any circuit.
+const ANYBODY: (&[u8], u64) = (b"anybody", 0);
 
 /// What a side hears from the host, for whose notice the relay had no room.
 const UNTOLD: (HnsrErrorCode, &str) = (HnsrErrorCode::Capacity, "circuit ended, no room for its notice");
@@ -110,7 +113,7 @@ impl<Random: RandomSource> OpaqueRelayRuntime<Random> {
     /// The numbers of places in use are stored with the tables. A host that has lost them sets [`Tables::places`] to
     /// [`Places::EVERY`](lent::Places::EVERY), and the marks alone decide.
     pub fn from_parts(runtime: Runtime, tables: Tables, random: Random) -> Result<Self, HnsrRuntimeError> {
-        lent::status(&tables, &runtime)?;
+        lent::status(&tables, &runtime, ANYBODY.0, ANYBODY.1)?;
         let out = lent::unused(tables.most_words())?;
         Ok(Self { runtime, tables, out, words: 0, untold: Vec::new(), unsaid: None, random })
     }
@@ -246,9 +249,80 @@ impl<Random: RandomSource> OpaqueRelayRuntime<Random> {
 }
 
 impl<Random> OpaqueRelayRuntime<Random> {
-    /// What the relay tells of itself.
+    /// What the relay tells of itself. How much room it has toward a peer: [`action_capacity`](Self::action_capacity).
     pub fn status(&self) -> HnsrRuntimeStatus {
-        lent::status(&self.tables, &self.runtime).expect(PLACES_ARE_ENOUGH)
+        lent::status(&self.tables, &self.runtime, ANYBODY.0, ANYBODY.1).expect(PLACES_ARE_ENOUGH).status
+    }
+
+    /// How many more routes fit toward a peer and about a circuit, before one of the three limits on unacknowledged
+    /// routes is reached: the relay's, the circuit's or the peer's. The peer and the circuit may be unknown to the
+    /// relay, and it may be switched off: the number tells what the limits leave, and nothing else.
+    ///
+    /// It is what the next DATA or WINDOW to that peer by that circuit finds. At 0, and only there, such a packet is
+    /// refused with 10 ([`Capacity`](HnsrRuntimeError::Capacity)), if nothing refuses it before. One that is taken
+    /// lowers the number by one, and its acknowledge gives that back. Bytes, credit and queue are other limits, and may
+    /// refuse where the number is large.
+    ///
+    /// A notice of the relay's own goes by the same count when it is queued. But the end of a circuit frees the
+    /// circuit's routes before that, and an ACCEPT those of its OPEN before it asks for room: for these the number is a
+    /// lower bound. For the INCOMING of an OPEN ask about the endpoint and a circuit that has no route, such as
+    /// `[0; 8]`.
+    ///
+    /// Which of the limits is the least is not told. Of a packet that was refused [`why`](Self::why) tells which was
+    /// reached ([`Row::Actions`](crate::Row::Actions), [`ActionLimit`](crate::ActionLimit)).
+    ///
+    /// Refused, with 4, is only a name of no bytes, which no peer has.
+    ///
+    /// ```
+    /// use lekchnam_host::{
+    ///     Admission, Grant, HnsrOpcode, HnsrPacket, HnsrPeerId, HnsrRuntimeError, OpaqueRelayConfig,
+    ///     OpaqueRelayRuntime,
+    /// };
+    ///
+    /// let (supplier, merchant) = (HnsrPeerId::new("supplier")?, HnsrPeerId::new("merchant")?);
+    /// let config = OpaqueRelayConfig {
+    ///     maximum_inflight_actions: 8,
+    ///     maximum_inflight_actions_per_circuit: 2,
+    ///     maximum_inflight_actions_per_peer: 6,
+    ///     ..OpaqueRelayConfig::default()
+    /// };
+    /// let mut relay = OpaqueRelayRuntime::new([1; 16], 1, config, 100)?;
+    /// # let window = 65_536_u32.to_le_bytes();
+    /// # let body = [&[1; 32][..], &[2; 16], &[3; 33], &[1, 0], &[4; 16], &window].concat();
+    /// # let open = HnsrPacket::new(HnsrOpcode::Open, *b"request1", &body)?;
+    /// # let grant = Grant {
+    /// #     endpoint: merchant.as_bytes(),
+    /// #     reservation_id: [2; 16],
+    /// #     expires_at: 3_700,
+    /// #     max_active_circuits: 1,
+    /// #     max_bytes_per_circuit: 1 << 20,
+    /// #     max_total_bytes: 1 << 20,
+    /// # };
+    /// # let routes = relay.handle(&Admission::Granted(grant), &supplier, &open, 100)?;
+    /// # let circuit = routes.iter().next().expect("one route").route.packet.context_id;
+    /// # let body = [&window[..], &[5; 16]].concat();
+    /// # let accept = HnsrPacket::new(HnsrOpcode::Accept, circuit, &body)?;
+    /// # let opened = relay.handle(&Admission::Refused, &merchant, &accept, 101)?.to_vec();
+    /// # assert!(relay.acknowledge(opened[0].action_id, true)?.is_empty());
+    /// // A circuit is open, and nothing is under way. Two invoices fit, and a third does not.
+    /// assert_eq!(relay.action_capacity(&merchant, circuit), Ok(2));
+    /// let invoice = HnsrPacket::new(HnsrOpcode::Data, circuit, b"invoice")?;
+    /// let first = relay.handle(&Admission::Refused, &supplier, &invoice, 101)?.to_vec();
+    /// assert_eq!(relay.action_capacity(&merchant, circuit), Ok(1));
+    /// assert_eq!(relay.handle(&Admission::Refused, &supplier, &invoice, 101)?.len(), 1);
+    /// assert_eq!(relay.action_capacity(&merchant, circuit), Ok(0));
+    /// let refused = relay.handle(&Admission::Refused, &supplier, &invoice, 101).unwrap_err();
+    /// assert_eq!(refused, HnsrRuntimeError::Capacity);
+    ///
+    /// assert!(relay.acknowledge(first[0].action_id, true)?.is_empty());
+    /// assert_eq!(relay.action_capacity(&merchant, circuit), Ok(1));
+    /// // Toward anybody, by a circuit that has no route yet.
+    /// assert_eq!(relay.action_capacity(&HnsrPeerId::new("nobody yet")?, [0; 8]), Ok(2));
+    /// # Ok::<(), HnsrRuntimeError>(())
+    /// ```
+    pub fn action_capacity(&self, peer: &HnsrPeerId, circuit_id: [u8; 8]) -> Result<usize, HnsrRuntimeError> {
+        let circuit_id = u64::from_be_bytes(circuit_id);
+        lent::status(&self.tables, &self.runtime, peer.as_bytes(), circuit_id).map(|told| told.action_capacity)
     }
 
     /// When [`expire`](Self::expire) has work: the first of all deadlines of pending records, ends of circuits and ends

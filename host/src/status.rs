@@ -44,6 +44,15 @@ pub struct HnsrRuntimeStatus {
     pub revoked_work: u64,
 }
 
+/// What [`lent::status`](crate::lent::status) tells, asked about a peer and a circuit.
+#[derive(Clone, Copy, Debug, Default, Eq, PartialEq)]
+pub struct StatusTold {
+    /// The relay's counts, whoever is asked about.
+    pub status: HnsrRuntimeStatus,
+    /// How many more routes fit, toward the peer and about the circuit.
+    pub action_capacity: usize,
+}
+
 impl Display for HnsrRuntimeStatus {
     fn fmt(&self, f: &mut Formatter<'_>) -> fmt::Result {
         let state = if self.enabled { "on" } else { "off" };

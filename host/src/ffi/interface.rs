@@ -18,7 +18,7 @@ use sample::SAMPLE;
 use std::sync::OnceLock;
 
 /// The C interface that is declared here.
-const VERSION: u32 = 2;
+const VERSION: u32 = 3;
 
 /// The archive's `Layout`, by its bytes: of another archive they may be no `Layout`, and more than this one has.
 #[repr(C, align(8))]
@@ -122,7 +122,7 @@ fields! {
     InflightAction: used, generation, sequence, circuit_id, destination, kind, to_endpoint, bytes;
     RelayPacket: opcode, context_id, now, key_valid, admitted, ticket;
     RelayReply: answer, cause, words, runtime, places;
-    StatusReply: answer, status;
+    StatusReply: answer, status, action_capacity;
     DueReply: answer, some, due;
     StoredPeer: len, bytes;
     ReservationId: high, low;
@@ -160,7 +160,7 @@ mod tests {
     #[test]
     fn another_version_is_named() {
         let said = other_version(VERSION + 1);
-        assert_eq!(said.as_deref(), Some("its interface has the number 3, the one declared here 2"));
+        assert_eq!(said.as_deref(), Some("its interface has the number 4, the one declared here 3"));
     }
 
     /// Every byte of every field counts, and it is the field that is named.
@@ -177,7 +177,7 @@ mod tests {
                 assert_eq!(other_field(&other), Some(format!("{name} is laid out in another way")));
             }
         });
-        assert_eq!(fields, 120);
+        assert_eq!(fields, 121);
     }
 
     /// What a sample has in its first byte, but for the bit that fills a field of one byte, is the field's number.
@@ -189,7 +189,7 @@ mod tests {
             [first, ..] => assert!(numbers.insert(first & 0x7f), "{name}"),
             [] => panic!("{name} has no bytes"),
         });
-        assert_eq!((numbers.len(), marks), (110, 10));
+        assert_eq!((numbers.len(), marks), (111, 10));
     }
 
     /// A field in its neighbour's place, one that is wider there than here, one that is narrower, and structs that end

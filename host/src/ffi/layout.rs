@@ -92,13 +92,13 @@ fn a_runtime_is_laid_out_as_in_c() {
 #[test]
 fn replies_are_laid_out_as_in_c() {
     layout!(RelayReply, size 232, align 8, answer at 0, cause at 8, words at 32, runtime at 40, places at 200);
-    layout!(StatusReply, size 104, align 8, answer at 0, status at 8);
+    layout!(StatusReply, size 112, align 8, answer at 0, status at 8, action_capacity at 104);
     layout!(DueReply, size 16, align 8, answer at 0, some at 4, due at 8);
 }
 
 #[test]
 fn what_the_archive_tells_of_itself_is_laid_out_as_in_c() {
-    layout!(Layout, size 1624, align 8, pending at 0, circuit at 360, usage at 720, action at 760, packet at 944,
-        reply at 1024, status_reply at 1256, due_reply at 1360, open_body at 1376, incoming_body at 1480,
-        accept_body at 1544, opened_body at 1568, window_body at 1600, reason_detail at 1608);
+    layout!(Layout, size 1632, align 8, pending at 0, circuit at 360, usage at 720, action at 760, packet at 944,
+        reply at 1024, status_reply at 1256, due_reply at 1368, open_body at 1384, incoming_body at 1488,
+        accept_body at 1552, opened_body at 1576, window_body at 1608, reason_detail at 1616);
 }

@@ -20,11 +20,13 @@ pub struct RelayReply {
     pub places: Places,
 }
 
+/// Refused, all but `answer` is zero.
 #[repr(C)]
 #[derive(Clone, Copy)]
 pub struct StatusReply {
     pub answer: u32,
     pub status: HnsrRuntimeStatus,
+    pub action_capacity: usize,
 }
 
 /// Nothing is due where `some` is false.
@@ -159,6 +161,9 @@ extern "C" {
         inflight_places: usize,
         runtime: Runtime,
         places: Places,
+        peer: *const u8,
+        peer_length: usize,
+        circuit_id: u64,
     ) -> StatusReply;
     fn opaque_relay_next_due(
         pending: *const RelayPending,
@@ -262,9 +267,10 @@ pub fn observe_time(runtime: Runtime, places: Places, time: u64) -> RelayReply {
     unsafe { opaque_relay_observe_time(runtime, places, time) }
 }
 
-pub fn status(tables: &Tables, runtime: Runtime) -> StatusReply {
+pub fn status(tables: &Tables, runtime: Runtime, peer: &[u8], circuit_id: u64) -> StatusReply {
     let Tables { pending, circuits, inflight, places, .. } = tables;
-    call!(opaque_relay_status, read pending, circuits, inflight; runtime, *places)
+    call!(opaque_relay_status, read pending, circuits, inflight;
+        runtime, *places, peer.as_ptr(), peer.len(), circuit_id)
 }
 
 pub fn next_due(tables: &Tables, runtime: Runtime) -> DueReply {
@@ -275,7 +281,7 @@ pub fn next_due(tables: &Tables, runtime: Runtime) -> DueReply {
 #[cfg(test)]
 mod tests {
     use super::*;
-    use crate::error::HnsrRuntimeError::{ClockRollback, InvalidConfig, InvalidSession, Short};
+    use crate::error::HnsrRuntimeError::{ClockRollback, InvalidConfig, InvalidPeer, InvalidSession, Short};
     use crate::lent::RuntimeCounters;
 
     /// Of limits: as many places as they ask, every mark set.
@@ -355,6 +361,31 @@ mod tests {
             ..no_runtime()
         };
         assert_eq!((taken.answer, taken.runtime, taken.places), (0, runtime, Places::NONE));
+    }
+
+    #[test]
+    fn a_refused_status_tells_zeros() {
+        let config = OpaqueRelayConfig {
+            maximum_pending: 2,
+            maximum_circuits: 3,
+            maximum_inflight_actions: 8,
+            ..no_runtime().config
+        };
+        let runtime = Runtime { generation: 5, enabled: true, config, ..no_runtime() };
+        let tables = found(&config);
+        let mut shorter = [tables.clone(), tables.clone(), tables.clone()];
+        shorter[0].pending.pop();
+        shorter[1].circuits.pop();
+        shorter[2].inflight.pop();
+        // 22 comes before 4
+        let short = shorter.iter().flat_map(|tables| [(Short, tables, 1), (Short, tables, 0), (Short, tables, 129)]);
+        for (refusal, tables, length) in short.chain([(InvalidPeer, &tables, 0), (InvalidPeer, &tables, 129)]) {
+            let reply = status(tables, runtime, &[7; 129][..length], 9);
+            assert_eq!(reply.answer, refusal.number());
+            assert_eq!((reply.status, reply.action_capacity), (HnsrRuntimeStatus::default(), 0));
+        }
+        let taken = status(&tables, runtime, &[7; 128], 9);
+        assert_eq!((taken.answer, taken.status.generation, taken.action_capacity), (0, 5, 0));
     }
 
     #[test]

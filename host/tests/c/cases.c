@@ -1,7 +1,7 @@
 /*
  * The sixteen cases by the C interface, each by a new relay: prints the case and the answer to its last call, as the
  * program in crates/cases does. Bodies are made by the archive's writers, but for those that a writer refuses. Before
- * them it asks what is due, and prints nothing of that.
+ * them it asks what is due and how many more routes fit, and prints nothing of that.
  */
 #include "lekchnam.h"
 #include <stdio.h>
@@ -244,6 +244,49 @@ static void dues(void)
     must(nothing_due(&relay, 1), "at its end it goes");
 }
 
+static LekchnamStatusReply status(const Relay *relay, size_t places, const uint8_t *peer, size_t length, uint64_t id)
+{
+    return opaque_relay_status(relay->pending, 2, relay->circuits, 2, relay->inflight, places, relay->runtime,
+        relay->places, peer, length, id);
+}
+
+static bool room_for(const Relay *relay, uint8_t peer, uint64_t circuit, size_t routes)
+{
+    LekchnamStatusReply told = status(relay, 8, &peer, 1, circuit);
+    return told.answer == LEKCHNAM_TAKEN && told.status.enabled && told.action_capacity == routes;
+}
+
+/* Whether a status is refused so, and tells zeros. */
+static bool refused(LekchnamStatusReply told, uint32_t answer)
+{
+    LekchnamHnsrRuntimeStatus status = told.status;
+    return told.answer == answer && told.action_capacity == 0 && !status.enabled
+        && (status.generation | status.pending_circuits | status.active_circuits | status.queued_bytes
+            | status.queued_actions | status.trusted_time_high_water | status.admitted_opens | status.opened_circuits
+            | status.bytes_sent | status.bytes_received | status.revoked_work) == 0;
+}
+
+/* An INCOMING is under way to the endpoint. The relay's limit is 8, and here the circuit's 3 and the peer's 4. */
+static void rooms(void)
+{
+    static Relay relay;
+    static const uint8_t name[LEKCHNAM_MAXIMUM_PEER + 1];
+    begin(&relay, LEKCHNAM_MAX_CIRCUIT_QUEUE);
+    must(room_for(&relay, ENDPOINT, CIRCUIT, 8), "a new relay has room for all");
+    open_circuit(&relay);
+    must(room_for(&relay, STRANGER, 0, 7), "a route counts for everybody");
+    relay.runtime.config.maximum_inflight_actions_per_peer = 4;
+    must(room_for(&relay, ENDPOINT, 0, 3), "a route counts for its peer");
+    must(room_for(&relay, STRANGER, CIRCUIT, 4), "and for no other peer");
+    relay.runtime.config.maximum_inflight_actions_per_circuit = 3;
+    must(room_for(&relay, STRANGER, CIRCUIT, 2), "a route counts for its circuit");
+    must(room_for(&relay, STRANGER, CIRCUIT + 1, 3), "and for no other circuit");
+    must(status(&relay, 8, name, LEKCHNAM_MAXIMUM_PEER, 0).answer == LEKCHNAM_TAKEN, "the longest name is taken");
+    must(refused(status(&relay, 8, name, 0, CIRCUIT), LEKCHNAM_INVALID_PEER), "a name of no bytes is refused");
+    must(refused(status(&relay, 8, name, sizeof name, CIRCUIT), LEKCHNAM_INVALID_PEER), "a name of 129 bytes too");
+    must(refused(status(&relay, 7, name, 0, CIRCUIT), LEKCHNAM_SHORT), "a short table is refused before the name");
+}
+
 /* ---- cases */
 
 static Case packets(size_t count, Packet first, Packet second)
@@ -341,7 +384,9 @@ int main(void)
 {
     must(lekchnam_version() == LEKCHNAM_VERSION, "the header is of the archive's version");
     must(lekchnam_layout().reason_detail.detail_length == (UINT64_C(1) << 63 | 120), "the last field of the sample");
+    must(lekchnam_layout().status_reply.action_capacity == (UINT64_C(1) << 63 | 121), "its newest field");
     dues();
+    rooms();
     puts("case answer");
     for (int number = 1; number <= CASES; number++) {
         Case script = case_of(number);

@@ -143,10 +143,15 @@ const LIFE: &[Step] = &[
     |relay| relay.observe_time(START + 11),
 ];
 
+/// Status, what is due next, and how many more routes fit toward e by the first circuit.
+fn told(relay: &Relay) -> impl Debug + PartialEq {
+    (relay.status(), relay.next_due(), relay.action_capacity(&peer(b"e"), 1_u64.to_be_bytes()))
+}
+
 /// Two relays give the same from here on: answers, words, runtime, what they tell, and every record at its place.
 fn live_alike(mut one: Relay, mut other: Relay) {
     for (number, step) in LIFE.iter().enumerate() {
-        assert_eq!((one.status(), one.next_due()), (other.status(), other.next_due()), "before step {number}");
+        assert_eq!(told(&one), told(&other), "before step {number}");
         assert_eq!(step(&mut one), step(&mut other), "step {number}");
         assert_eq!(one.words(), other.words(), "step {number}");
         assert_eq!(one.runtime(), other.runtime(), "step {number}");
@@ -167,7 +172,10 @@ fn a_new_relay_touches_no_table() {
     let runtime = lent::new(&mut tables, [1; 16], 1, config(), START).expect("a relay");
     assert_eq!((raw(&tables), tables.places), (found, Places::NONE));
 
-    let told = lent::status(&tables, &runtime).expect("places enough");
+    let told = lent::status(&tables, &runtime, b"e", 1).expect("places enough");
+    // of the actions that stand in the places none counts
+    assert_eq!(told.action_capacity, 8);
+    let told = told.status;
     let counts = [told.pending_circuits, told.active_circuits, told.queued_bytes, told.queued_actions];
     assert_eq!((counts, lent::next_due(&tables, &runtime)), ([0; 4], Ok(None)));
     // the first record of each table takes its lowest place, over what stood there

@@ -1,6 +1,6 @@
 //! A relay that goes on from stored parts.
-use crate::fixture::{circuit, grant, open, relay, restored, say, small, Counting, Relay, START};
-use lekchnam_host::lent::{self, Packet, RelayPacket, RelayPending, StoredPeer, Tables};
+use crate::fixture::{circuit, grant, open, peer, relay, restored, say, small, Counting, Relay, START};
+use lekchnam_host::lent::{self, Packet, RelayPacket, RelayPending, StatusTold, StoredPeer, Tables};
 use lekchnam_host::{HnsrActionId, HnsrOpcode, HnsrRuntimeError, Routes, MAXIMUM_PEER};
 use std::collections::HashSet;
 
@@ -125,6 +125,10 @@ fn lent_and_owned_agree() {
     let routes = say(&mut relay, b"r", HnsrOpcode::Data, id, b"hello").expect("DATA");
     assert_eq!(Routes::new(&out[..words]), routes);
     assert_eq!((relay.runtime(), raw(relay.tables())), (&runtime, raw(&tables)));
-    assert_eq!(lent::status(&tables, &runtime), Ok(relay.status()));
+    let told = StatusTold {
+        status: relay.status(),
+        action_capacity: relay.action_capacity(&peer(b"e"), id.to_be_bytes()).expect("a name"),
+    };
+    assert_eq!(lent::status(&tables, &runtime, b"e", id), Ok(told));
     assert_eq!(lent::next_due(&tables, &runtime), Ok(relay.next_due()));
 }

@@ -83,7 +83,7 @@ fn new_alone(case: &Case, left: &Left) -> Checked {
 /// three tables; both are 22 where a table is short.
 fn told(left: &Left) -> Checked {
     let World { runtime, tables } = &left.world;
-    let told = (lent::status(tables, runtime), lent::next_due(tables, runtime));
+    let told = (lent::status(tables, runtime, b"a", 0).map(|told| told.status), lent::next_due(tables, runtime));
     let holds = match left.world.told() {
         Ok(after) => told.0.map(|status| status_numbers(&status)) == Ok(after.status) && told.1 == Ok(after.due),
         Err(refused) => told == (Err(refused), Err(refused)) && refused == HnsrRuntimeError::Short,

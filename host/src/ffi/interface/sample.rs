@@ -146,6 +146,7 @@ pub static SAMPLE: Layout = Layout {
             bytes_received: 0x8000_0000_0000_0060,
             revoked_work: 0x8000_0000_0000_0061,
         },
+        action_capacity: 0x8000_0000_0000_0079,
     },
     due_reply: DueReply { answer: 0x8000_0062, some: true, due: 0x8000_0000_0000_0064 },
     open_body: OpenBody {

@@ -1,5 +1,6 @@
 //! The safe calls over the archive.
 mod advice;
+mod capacity;
 mod cases;
 mod chance;
 mod draws;

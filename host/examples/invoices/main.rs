@@ -1,9 +1,9 @@
 //! Invoices over the relay, in one process: a box at the supplier, the merchant's purchasing
 //! system, and the relay between them.
 //!
-//! After each step the relay's status, its reservations and what is due next are held to a reckoning made from the
-//! history of the calls alone. The first that differs, or the first invoice that arrives changed, ends this with exit
-//! code 1.
+//! After each step the relay's status, its reservations, what is due next and how many more routes fit are held to a
+//! reckoning made from the history of the calls alone. The first that differs, or the first invoice that arrives
+//! changed, ends this with exit code 1.
 mod bodies;
 mod office;
 mod reckoning;
@@ -31,7 +31,8 @@ fn story(office: &mut Office) -> Result<()> {
     a_lost_invoice(office)?;
     a_broken_connection(office)?;
     time_runs_out(office)?;
-    off_and_on(office)
+    off_and_on(office)?;
+    a_busy_yard(office)
 }
 
 fn late_acknowledgements(office: &mut Office) -> Result<()> {
@@ -138,6 +139,31 @@ fn off_and_on(office: &mut Office) -> Result<()> {
     office.invoice(circuit, 7)?;
     office.settle()?;
     office.hang_up(circuit)?;
+    office.settle()?;
+    office.check()
+}
+
+fn a_busy_yard(office: &mut Office) -> Result<()> {
+    office.step("The yard is busy: each invoice that is not acknowledged yet takes a route.");
+    let circuit = office.circuit()?;
+    for number in 8..=11 {
+        office.invoice(circuit, number)?;
+        office.room()?;
+    }
+    let mut late = office.deliver()?;
+    office.check()?;
+
+    office.step("No more routes fit, so the next invoice is held. An acknowledgement comes, and it is offered again.");
+    office.held(circuit, 12)?;
+    office.acknowledge(late.pop().ok_or("four letters")?, true)?;
+    office.room()?;
+    office.invoice(circuit, 12)?;
+    office.check()?;
+
+    office.step("The other acknowledgements come.");
+    for letter in late {
+        office.acknowledge(letter, true)?;
+    }
     office.settle()?;
     office.check()
 }

@@ -17,6 +17,10 @@ const LASTS: u64 = 3_600;
 /// Seconds that an ACCEPT may take, by the default configuration.
 const ACCEPT_WITHIN: u64 = 10;
 
+/// How many routes may be unacknowledged: in all, about one circuit, toward one peer. So few that a busy yard fills
+/// them.
+const ROUTES: [usize; 3] = [8, 4, 6];
+
 /// A route on its way.
 pub type Letter = QueuedHnsrRouteBuf;
 
@@ -27,6 +31,8 @@ pub struct Office {
     steps: u32,
     connections: u8,
     requests: u64,
+    /// The last that was asked for.
+    circuit: Id,
     /// What the relay handed out and nobody has yet.
     bag: VecDeque<Letter>,
     /// Invoices that the purchasing system has yet to get.
@@ -36,14 +42,21 @@ pub struct Office {
 
 impl Office {
     pub fn new() -> Self {
-        let config = OpaqueRelayConfig::default();
+        let [all, per_circuit, per_peer] = ROUTES;
+        let config = OpaqueRelayConfig {
+            maximum_inflight_actions: all,
+            maximum_inflight_actions_per_circuit: per_circuit,
+            maximum_inflight_actions_per_peer: per_peer,
+            ..OpaqueRelayConfig::default()
+        };
         Self {
-            relay: OpaqueRelayRuntime::new([7; 16], 1, config, START).expect("the default is good"),
-            reckoning: Reckoning::new(1, START),
+            relay: OpaqueRelayRuntime::new([7; 16], 1, config, START).expect("good limits"),
+            reckoning: Reckoning::new(1, START, ROUTES),
             now: START,
             steps: 0,
             connections: 1,
             requests: 0,
+            circuit: Id::default(),
             bag: VecDeque::new(),
             expected: VecDeque::new(),
             arrived: 0,
@@ -101,6 +114,7 @@ impl Office {
         println!("     box says OPEN");
         let letters = self.relay.handle(&Admission::Granted(grant), &supplier, &packet, self.now)?.to_vec();
         let circuit = letters.first().ok_or("no INCOMING")?.route.packet.context_id;
+        self.circuit = circuit;
         let due = expires_at.min(self.now + ACCEPT_WITHIN);
         self.record(letters, |reckoning, routes| {
             let reservation = bodies::RESERVATION;
@@ -125,6 +139,18 @@ impl Office {
         self.record(letters, |reckoning, routes| reckoning.data(invoice.len(), routes));
         self.expected.push_back(invoice);
         Ok(())
+    }
+
+    /// An invoice that the relay has no room for, and must refuse so.
+    pub fn held(&mut self, circuit: Id, number: u64) -> Result<()> {
+        let answer = self.say(self.supplier(), HnsrOpcode::Data, circuit, &bodies::invoice(number));
+        match answer.map_err(|refusal| refusal.downcast_ref::<HnsrRuntimeError>().copied()) {
+            Err(Some(refusal @ HnsrRuntimeError::Capacity)) => {
+                println!("     it is refused, {}: {refusal}", refusal.number());
+                Ok(())
+            }
+            other => Err(format!("Capacity expected, not {other:?}").into()),
+        }
     }
 
     pub fn hang_up(&mut self, circuit: Id) -> Result<()> {
@@ -238,6 +264,25 @@ impl Office {
         }
     }
 
+    /// Prints how many more routes fit toward the merchant, and holds what fits toward everybody to the reckoning.
+    pub fn room(&self) -> Result<()> {
+        match self.relay.action_capacity(&self.merchant(), self.circuit)? {
+            1 => println!("   | 1 more route fits to purchasing"),
+            more => println!("   | {more} more routes fit to purchasing"),
+        }
+        let stranger = HnsrPeerId::new("stranger")?;
+        for peer in [self.merchant(), self.supplier(), stranger] {
+            for circuit in self.reckoning.asked_for().chain([Id::default()]) {
+                let (told, reckoned) =
+                    (self.relay.action_capacity(&peer, circuit)?, self.reckoning.action_capacity(peer, circuit));
+                if told != reckoned {
+                    return Err(format!("{told} more routes fit to {peer}, by the history {reckoned}").into());
+                }
+            }
+        }
+        Ok(())
+    }
+
     /// Prints the status page, and holds it to the reckoning.
     pub fn check(&self) -> Result<()> {
         let (told, reckoned) = (self.relay.status(), self.reckoning.status());
@@ -246,6 +291,7 @@ impl Office {
         }
         let due = self.relay.next_due().map_or_else(|| "nothing".to_owned(), |due| due.to_string());
         println!("   | reservations: {}, due next: {due}", self.relay.reservations().count());
+        self.room()?;
         if told != reckoned {
             return Err(format!("the relay tells\n{told:#?}\nand the history makes\n{reckoned:#?}").into());
         }

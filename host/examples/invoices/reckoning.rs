@@ -41,11 +41,13 @@ pub struct Reckoning {
     /// The end of each reservation that an OPEN went by.
     reservations: BTreeMap<ReservationId, u64>,
     outstanding: BTreeMap<u64, Outstanding>,
+    /// How many of these there may be: in all, about one circuit, toward one peer.
+    routes: [usize; 3],
 }
 
 impl Reckoning {
-    pub fn new(generation: u64, time: u64) -> Self {
-        Self { generation, enabled: true, time, ..Self::default() }
+    pub fn new(generation: u64, time: u64, routes: [usize; 3]) -> Self {
+        Self { generation, enabled: true, time, routes, ..Self::default() }
     }
 
     /// An OPEN: the INCOMING has the circuit's id. The reservation stays, whatever becomes of the OPEN.
@@ -151,6 +153,19 @@ impl Reckoning {
     /// The reservations that the relay must have, each with its end.
     pub const fn reservations(&self) -> &BTreeMap<ReservationId, u64> {
         &self.reservations
+    }
+
+    /// Every circuit that was asked for, ended or not.
+    pub fn asked_for(&self) -> impl Iterator<Item = Id> + '_ {
+        self.requests.values().copied()
+    }
+
+    /// How many more routes must fit toward a peer and about a circuit.
+    pub fn action_capacity(&self, peer: HnsrPeerId, circuit: Id) -> usize {
+        let [all, per_circuit, per_peer] = self.routes;
+        let about = self.outstanding.values().filter(|route| route.about == circuit).count();
+        let toward = self.outstanding.values().filter(|route| route.to == peer).count();
+        (all - self.outstanding.len()).min(per_circuit - about).min(per_peer - toward)
     }
 
     /// When the relay must have something to end: an OPEN, a circuit or a reservation.

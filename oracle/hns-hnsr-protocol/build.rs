@@ -3,7 +3,7 @@
 //!
 //! - envelope.rs, body.rs: nothing; they are compiled where they stand.
 //! - circuit.rs: T1: `HashMap` comes from `crate::ordered`. T2: one line behind the last adds `mod oracle_probe`, which
-//!   reads private state and sets the next sequence number.
+//!   reads private state, asks the private test for room, and sets the next sequence number.
 //! - lib.rs: T3: what stands before `use hns_encoding::DecodeError;`, a module list and re-exports, is blanked; the
 //!   rest is module `root`.
 //! - record.rs: T4: only `struct RelayTicket` with its derive is taken.

@@ -43,6 +43,19 @@ fn next_due(state: &State) -> Option<u64> {
     pending.chain(circuits).chain(ledger).min()
 }
 
+/// Added (STATUS); not in the Rust. How many more actions fit toward a peer and about a circuit: the least of what the
+/// three limits leave.
+pub fn action_capacity(state: &State, peer: &[u8], circuit: [u8; 8]) -> usize {
+    let about = state.actions.iter().filter(|action| action.circuit_id == circuit).count();
+    let toward = state.actions.iter().filter(|action| action.destination == peer).count();
+    let left = [
+        state.config.maximum_inflight_actions.saturating_sub(state.actions.len()),
+        state.config.maximum_inflight_actions_per_circuit.saturating_sub(about),
+        state.config.maximum_inflight_actions_per_peer.saturating_sub(toward),
+    ];
+    left.into_iter().min().expect("three of them")
+}
+
 /// Inputs of `handle`.
 #[derive(Clone, Debug, Eq, PartialEq)]
 pub struct Packet<'a> {
@@ -138,6 +151,11 @@ impl Oracle {
     /// All private state, ids ascending.
     pub fn probe(&self) -> State {
         self.runtime.probe()
+    }
+
+    /// The Rust's own word on whether one more action fits toward a peer of a good name and about a circuit.
+    pub fn action_fits(&self, name: &[u8], circuit: [u8; 8]) -> bool {
+        self.runtime.probe_action_fits(&peer(name).expect("a good name"), circuit)
     }
 
     /// Not a call of a relay: sets the next sequence number.

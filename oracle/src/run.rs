@@ -1,5 +1,5 @@
 //! The calls of a trace, run on the Rust.
-use crate::{Oracle, Outcome, Packet};
+use crate::{Oracle, Outcome, Packet, action_capacity};
 use lekchnam_traces::replay::Machine;
 use lekchnam_traces::words::words;
 use lekchnam_traces::{Answer, Call, Cause, Class, State, Words};
@@ -46,6 +46,11 @@ impl Rust {
         }
     }
 
+    /// The relay, once a `new` is taken.
+    pub fn relay(&self) -> Option<&Oracle> {
+        self.relay.as_ref()
+    }
+
     /// What a trace says of an outcome, and of the relay after it.
     pub fn answer(&self, outcome: &Outcome) -> Answer {
         let (number, cause, list) = match outcome {
@@ -64,5 +69,9 @@ impl Machine for Rust {
 
     fn state(&self) -> Option<State> {
         self.relay.as_ref().map(Oracle::probe)
+    }
+
+    fn action_capacity(&self, peer: &[u8], circuit: [u8; 8]) -> Option<usize> {
+        self.state().map(|state| action_capacity(&state, peer, circuit))
     }
 }

@@ -5,6 +5,7 @@
 //! do what the second reading of the rules does, and what `checks` says in words.
 
 mod calls;
+mod capacity;
 mod checks;
 mod due;
 mod lent;
@@ -14,6 +15,7 @@ use crate::Call;
 use crate::counts::Counts;
 use crate::reading::World;
 use crate::rng::Rng;
+pub use capacity::{Pair, Told};
 pub use due::Due;
 use lekchnam_host::lent::Tables;
 use made::Left;
@@ -59,16 +61,18 @@ impl Number {
     }
 }
 
-/// How often each answer came, by call, and over which numbers; and what next due went by after the calls.
+/// How often each answer came, by call, and over which numbers; what next due went by after the calls; and what was
+/// told of how many more actions fit.
 #[derive(Default)]
 pub struct Answers {
     by_call: BTreeMap<&'static str, Counts>,
     numbers: BTreeMap<Number, u64>,
     due: BTreeMap<Due, u64>,
+    capacity: BTreeMap<Pair, BTreeMap<Told, u64>>,
 }
 
 impl Answers {
-    fn add(&mut self, case: &Case, left: &Left) {
+    fn add(&mut self, case: &Case, left: &Left, asked: Vec<(Pair, Told)>) {
         self.by_call.entry(case.call.label()).or_default().add(left.number());
         let Tables { pending, circuits, ledger, inflight, places } = &case.world.tables;
         for number in [
@@ -81,6 +85,9 @@ impl Answers {
         }
         for due in Due::of(&left.world) {
             *self.due.entry(due).or_default() += 1;
+        }
+        for (pair, told) in asked {
+            *self.capacity.entry(pair).or_default().entry(told).or_default() += 1;
         }
     }
 
@@ -98,6 +105,11 @@ impl Answers {
     pub fn due(&self, due: Due) -> u64 {
         self.due.get(&due).copied().unwrap_or(0)
     }
+
+    /// How often such a pair was asked about, and this was told.
+    pub fn capacity(&self, pair: Pair, told: Told) -> u64 {
+        self.capacity.get(&pair).and_then(|counts| counts.get(&told)).copied().unwrap_or(0)
+    }
 }
 
 impl Display for Answers {
@@ -106,13 +118,19 @@ impl Display for Answers {
         let numbers: Vec<String> = self.numbers.iter().map(|(number, count)| format!("{number:?}:{count}")).collect();
         writeln!(f, "numbers of places in use, four a call: {}", numbers.join(" "))?;
         let due: Vec<String> = self.due.iter().map(|(due, count)| format!("{due:?}:{count}")).collect();
-        writeln!(f, "next due after a call: {}", due.join(" "))
+        writeln!(f, "next due after a call: {}", due.join(" "))?;
+        writeln!(f, "how many more actions fit after a call:")?;
+        self.capacity.iter().try_for_each(|(pair, counts)| {
+            let counts: Vec<String> = counts.iter().map(|(told, count)| format!("{told:?}:{count}")).collect();
+            writeln!(f, "  {:<19} {}", format!("{pair:?}"), counts.join(" "))
+        })
     }
 }
 
 /// So many calls by chance. The first that is wrong ends it, with all that is needed to make it again.
 pub fn beyond(seed: u64, calls: u64) -> Result<Answers, String> {
-    let mut rng = Rng::new(seed);
+    // what is asked between the calls does not change the calls of a seed
+    let (mut rng, mut asking) = (Rng::new(seed), Rng::new(!seed));
     let mut answers = Answers::default();
     let mut world = World::by_chance(&mut rng);
     for index in 0..calls {
@@ -123,14 +141,15 @@ pub fn beyond(seed: u64, calls: u64) -> Result<Answers, String> {
         }
         let case = Case::by_chance(&mut rng, world);
         let left = case.made();
-        checks::all(&case, &left, &mut rng).map_err(|wrong| {
+        let checked = checks::all(&case, &left, &mut rng).and_then(|()| capacity::asked(&left.world, &mut asking));
+        let asked = checked.map_err(|wrong| {
             let (call, room) = (case.call.text('d'), case.out.len());
             format!(
                 "call {index} of seed {seed}: {wrong}\n{call}\n{room} output words lent\n{:#?}\nleft\n{left:#?}",
                 case.world
             )
         })?;
-        answers.add(&case, &left);
+        answers.add(&case, &left, asked);
         world = left.world;
     }
     Ok(answers)

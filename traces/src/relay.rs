@@ -149,4 +149,8 @@ impl Machine for Relay {
     fn state(&self) -> Option<State> {
         self.library.as_ref().map(|library| State::stored(library.runtime(), library.tables()))
     }
+
+    fn action_capacity(&self, peer: &[u8], circuit: [u8; 8]) -> Option<usize> {
+        self.library.as_ref()?.action_capacity(&HnsrPeerId::new(peer).ok()?, circuit).ok()
+    }
 }

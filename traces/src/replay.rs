@@ -12,6 +12,10 @@ pub trait Machine {
 
     /// The private state, once a `new` is taken.
     fn state(&self) -> Option<State>;
+
+    /// How many more actions fit toward a peer of a good name and about a circuit, once a `new` is taken. No line of a
+    /// trace has it.
+    fn action_capacity(&self, peer: &[u8], circuit: [u8; 8]) -> Option<usize>;
 }
 
 /// The first line of a trace where the machine does something else.

@@ -1,6 +1,6 @@
 //! The library beyond the domain (DOMAIN.4): a small part of what the command `beyond` does.
 use lekchnam_host::HnsrRuntimeError::{CorruptSnapshot, LedgerFull, NoQueuedData};
-use lekchnam_traces::beyond::{Due, Number, beyond};
+use lekchnam_traces::beyond::{Due, Number, Pair, beyond};
 
 const CALLS: u64 = 20_000;
 
@@ -17,6 +17,12 @@ fn every_answer_is_met_and_nothing_is_wrong() {
     }
     for due in Due::ALL {
         assert!(answers.due(due) > CALLS / 100, "next due seldom goes by {due:?}: {answers}");
+    }
+    for pair in Pair::ALL {
+        for told in pair.expected() {
+            let times = answers.capacity(pair, *told);
+            assert!(times > CALLS / 500, "{times} times {told:?} is told of {pair:?}: {answers}");
+        }
     }
     println!("compared with a second reading: {CALLS} calls beyond the domain");
 }

@@ -82,6 +82,11 @@ impl OpaqueRelayRuntime {
         }
     }
 
+    /// Whether one more action fits: the private test that DATA, WINDOW and what the relay sends by itself go by.
+    pub fn probe_action_fits(&self, destination: &HnsrPeerId, circuit_id: [u8; 8]) -> bool {
+        self.ensure_action_capacity(destination, circuit_id, false).is_ok()
+    }
+
     /// Not part of a run: 2^64 - 1 cannot be reached by calls.
     pub fn probe_set_next_sequence(&mut self, value: u64) {
         self.next_action_sequence = value;

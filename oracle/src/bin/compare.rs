@@ -4,8 +4,7 @@
 //! Exits 1 at the first difference, with the seed, the line that the call has in the seed's trace, the call and both
 //! answers.
 use lekchnam_traces::Relay;
-use lekchnam_traces::counts::Counts;
-use oracle::compare::compare;
+use oracle::compare::{Compared, compare};
 use std::process::ExitCode;
 use std::time::Instant;
 
@@ -20,16 +19,14 @@ fn main() -> ExitCode {
         return ExitCode::from(2);
     };
     let start = Instant::now();
-    let mut counts = Counts::default();
+    let mut compared = Compared::default();
     for seed in first..first + count {
-        if let Err(difference) = compare(seed, calls as usize, Relay::new, &mut counts) {
+        if let Err(difference) = compare(seed, calls as usize, Relay::new, &mut compared) {
             println!("{difference}");
             return ExitCode::from(1);
         }
     }
-    let (calls, seconds) = (counts.total(), start.elapsed().as_secs_f64());
-    println!(
-        "compared with the Rust: {count} traces, {calls} calls, {seconds:.1} seconds, no difference; answers {counts}"
-    );
+    let seconds = start.elapsed().as_secs_f64();
+    println!("compared with the Rust: {count} traces, {seconds:.1} seconds, no difference; {compared}");
     ExitCode::SUCCESS
 }

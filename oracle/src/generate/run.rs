@@ -23,6 +23,11 @@ impl Run {
         Self { places: generator.places(), generator, opening, rust: Rust::default(), state: None, left: calls }
     }
 
+    /// The Rust, as the last call left it.
+    pub fn rust(&self) -> &Rust {
+        &self.rust
+    }
+
     fn next_call(&mut self) -> (Class, Call) {
         match self.opening.next() {
             Some(call) => ('d', call),

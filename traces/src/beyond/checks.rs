@@ -10,7 +10,7 @@ use lekchnam_host::lent::{self, Places, StoredPeer, Tables};
 use lekchnam_host::limits::{HEAD_WORDS, MAXIMUM_PEER};
 use lekchnam_host::{HnsrOpcode, HnsrRuntimeError};
 
-type Checked = Result<(), String>;
+pub type Checked = Result<(), String>;
 
 pub fn all(case: &Case, left: &Left, rng: &mut Rng) -> Checked {
     output(case, left)?;
@@ -24,7 +24,7 @@ pub fn all(case: &Case, left: &Left, rng: &mut Rng) -> Checked {
     opaque(case, left, rng)
 }
 
-fn ensure(holds: bool, wrong: &str) -> Checked {
+pub fn ensure(holds: bool, wrong: &str) -> Checked {
     if holds { Ok(()) } else { Err(wrong.to_owned()) }
 }
 
@@ -137,16 +137,22 @@ fn unused_places(case: &Case, left: &Left, rng: &mut Rng) -> Checked {
 
 /// TAB.9: a length over 128 is read as 128, and what stands behind a name is not read.
 fn behind_names(case: &Case, left: &Left, rng: &mut Rng) -> Checked {
-    let mut world = case.world.clone();
+    let world = other_behind_names(&case.world, rng);
+    let other = Case { world, call: case.call.clone(), out: case.out.clone() }.made();
+    let same = other.answer == left.answer && other.out == left.out && plain(&other.world) == plain(&left.world);
+    ensure(same, "what stands behind a name makes a difference")
+}
+
+/// The world with other bytes behind every name, and other lengths over the most.
+pub fn other_behind_names(world: &World, rng: &mut Rng) -> World {
+    let mut world = world.clone();
     for name in names(&mut world.tables) {
         match name.bytes.get_mut(name.len..) {
             Some(behind) => behind.iter_mut().for_each(|byte| *byte = rng.byte()),
             None => name.len = *rng.pick(&[MAXIMUM_PEER, MAXIMUM_PEER + 1, usize::MAX]),
         }
     }
-    let other = Case { world, call: case.call.clone(), out: case.out.clone() }.made();
-    let same = other.answer == left.answer && other.out == left.out && plain(&other.world) == plain(&left.world);
-    ensure(same, "what stands behind a name makes a difference")
+    world
 }
 
 fn names(tables: &mut Tables) -> impl Iterator<Item = &mut StoredPeer> {

@@ -55,4 +55,8 @@ impl Machine for Reading {
     fn state(&self) -> Option<State> {
         self.world.as_ref().map(|world| State::stored(&world.runtime, &world.tables))
     }
+
+    fn action_capacity(&self, peer: &[u8], circuit: [u8; 8]) -> Option<usize> {
+        self.world.as_ref()?.action_capacity(peer, u64::from_be_bytes(circuit)).ok()
+    }
 }

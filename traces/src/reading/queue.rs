@@ -1,6 +1,6 @@
 //! A message becomes a route and an outstanding action.
 use super::table::{count, put};
-use super::{Outcome, Refused, Route, World, refuse, same};
+use super::{Outcome, Refused, Route, World, named, refuse, same, short};
 use lekchnam_host::HnsrOpcode;
 use lekchnam_host::body::{Invalid, ProtocolError};
 use lekchnam_host::lent::{InflightAction, StoredPeer};
@@ -47,6 +47,19 @@ impl World {
             || about >= config.maximum_inflight_actions_per_circuit
             || toward >= config.maximum_inflight_actions_per_peer;
         refuse(full, Refused::Capacity)
+    }
+
+    /// What `status` tells of a peer and a circuit: how many more actions the same three limits leave; or its 22, and
+    /// then its 4.
+    pub fn action_capacity(&self, peer: &[u8], circuit: u64) -> Result<usize, Refused> {
+        let (config, tables) = (&self.runtime.config, &self.tables);
+        refuse(short(config, tables), Refused::Short)?;
+        let peer = named(peer)?;
+        let left = |most: usize, counts: &dyn Fn(&InflightAction) -> bool| most.saturating_sub(count(tables, counts));
+        let in_all = left(config.maximum_inflight_actions, &|_| true);
+        let about = left(config.maximum_inflight_actions_per_circuit, &|action| action.circuit_id == circuit);
+        let toward = left(config.maximum_inflight_actions_per_peer, &|action| same(&action.destination, &peer));
+        Ok(in_all.min(about).min(toward))
     }
 
     /// 1, 10, 6 (QUEUE.6): no context, no room, no number.

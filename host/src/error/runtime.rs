@@ -18,7 +18,7 @@ pub enum HnsrRuntimeError {
     /// 3: the session or the generation is zero. Only `new` answers it.
     InvalidSession,
     /// 4: a name does not have 1 to [`MAXIMUM_PEER`](crate::MAXIMUM_PEER) bytes: of an OPEN the name of the endpoint in
-    /// the host's grant.
+    /// the host's grant, of `disconnect` and `action_capacity` the peer's.
     InvalidPeer,
     /// 5: the relay has another generation. At `acknowledge` a normal race: the relay was switched, and the route's
     /// place has been given back. Nothing is to be done.

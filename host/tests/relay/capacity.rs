@@ -1,4 +1,5 @@
-//! How many more routes fit toward a peer and about a circuit: what the three limits of actions leave (QUEUE.5).
+//! How many more routes fit toward a peer and about a circuit: what the three limits of actions leave
+//! (QUEUE.11, STATUS.5, STATUS.6).
 use crate::chance::{Call, Chance, Drawing, Draws, Parts, FREE_ID, NAMES, NOBODY};
 use crate::fixture::{accept_body, circuit, grant, open, peer, relay, say, small, Relay};
 use lekchnam_host::lent::{self, InflightAction, Places, Runtime, StoredPeer, Tables};

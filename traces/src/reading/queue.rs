@@ -49,8 +49,8 @@ impl World {
         refuse(full, Refused::Capacity)
     }
 
-    /// What `status` tells of a peer and a circuit: how many more actions the same three limits leave; or its 22, and
-    /// then its 4.
+    /// STATUS.5, STATUS.6: what `status` tells of a peer and a circuit, how many more actions the same three limits
+    /// leave; or its 22, and then its 4.
     pub fn action_capacity(&self, peer: &[u8], circuit: u64) -> Result<usize, Refused> {
         let (config, tables) = (&self.runtime.config, &self.tables);
         refuse(short(config, tables), Refused::Short)?;

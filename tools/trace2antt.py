@@ -252,8 +252,7 @@ toldRow silent = []
 toldRow (statusIs s capacity) = statusRow s
 toldRow (dueIs d) = dueRow d
 
--- what `status` (asked for any name and circuit) and `next_due` say of the world left, and how many ledger records there
--- are
+-- what `status`, whoever is asked about, and `next_due` say of the world left, and how many ledger records there are
 unfoldable pub worldRow : World → List ℕ
 unfolding toldRow machine
 worldRow w =

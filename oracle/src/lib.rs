@@ -43,8 +43,8 @@ fn next_due(state: &State) -> Option<u64> {
     pending.chain(circuits).chain(ledger).min()
 }
 
-/// Added (STATUS.6); not in the Rust. How many more actions fit toward a peer and about a circuit: the least of what the
-/// three limits leave.
+/// Added (STATUS.6); not in the Rust. How many more actions fit toward a peer and about a circuit: the least of what
+/// the three limits leave.
 pub fn action_capacity(state: &State, peer: &[u8], circuit: [u8; 8]) -> usize {
     let about = state.actions.iter().filter(|action| action.circuit_id == circuit).count();
     let toward = state.actions.iter().filter(|action| action.destination == peer).count();

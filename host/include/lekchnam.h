@@ -583,9 +583,9 @@ LekchnamRelayReply opaque_relay_observe_time(LekchnamOpaqueRelayRuntime runtime,
 
 /* What the relay tells of itself, and how many more routes the three limits on unacknowledged ones leave toward a peer
  * and about a circuit, known to the relay or not: the least of what is left in the relay, about the circuit and toward
- * the peer. At 0, and only then, a DATA or a WINDOW to that peer by that circuit is refused with LEKCHNAM_CAPACITY.
- * Zeros where it is refused: with LEKCHNAM_SHORT, and then with LEKCHNAM_INVALID_PEER where the name has no bytes or
- * more than LEKCHNAM_MAXIMUM_PEER. The status is the same whoever is asked about. */
+ * the peer. At 0, and only then, a DATA or a WINDOW to that peer by that circuit is refused with LEKCHNAM_CAPACITY, if
+ * nothing refuses it before. Zeros where it is refused: with LEKCHNAM_SHORT, and then with LEKCHNAM_INVALID_PEER where
+ * the name has no bytes or more than LEKCHNAM_MAXIMUM_PEER. The status is the same whoever is asked about. */
 LekchnamStatusReply opaque_relay_status(
     const LekchnamRelayPending *pending, size_t pending_places,
     const LekchnamRelayCircuit *circuits, size_t circuit_places,

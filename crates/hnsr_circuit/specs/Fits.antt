@@ -32,8 +32,7 @@ abbrev pub AllToward : HnsrPeerId → (circuit : ℕ) → List Message → Type 
 AllToward peer circuit [] = Unit {0}
 AllToward peer circuit (m ∷ ms) = Toward peer circuit m × AllToward peer circuit ms
 
--- the table has the places of its limit, and no used action has the next number or one behind it: so every run leaves
--- it
+-- the table has the places of its limit, and no used action has the next number or one behind it: as a run leaves it
 pub record Ready (w : World) : Type 0 where
   pub places : configOf w .«maximum_inflight_actions» ≤ length (w .inflight)
   pub fresh : (s : ℕ) → sequenceOf w ≤ s → any (actionAt (generationOf w) s) (w .inflight) ≡ false

@@ -1,6 +1,8 @@
 """Edit files: `file:`, `old:`, `new:` lines, each `old` to be replaced in its file. refuted.py and wrong_readings.py
 try them. A text that stands in a file more than once has a `behind:` line in front: the first `old` behind that text is
-meant. (The must-fail edits are the kit's, which knows no `behind:`.)
+meant. `derive: m::f` names a function whose derivation is to be made anew for the edit: without that, an edit of a
+function that derive.py proves is refused for its stale derivation, whatever it means. (The must-fail edits are the
+kit's, which knows neither.)
 
     python3 tools/edits.py REPO     lists those that do not fit the files as they are; exit 1 where there is one
 """
@@ -28,6 +30,11 @@ def replacements(edit):
             found.append((name, behind, old, value))
             behind = ""
     return found
+
+
+def derived(edit):
+    """The functions that are to be derived anew for an edit."""
+    return [line.partition(": ")[2] for line in edit.read_text().splitlines() if line.startswith("derive: ")]
 
 
 def edited(text, name, behind, old, new):
@@ -64,8 +71,8 @@ def misfits(root):
         texts = {}
         try:
             for name, *change in replacements(edit):
-                if change[0] and edit.parent.name == "must-fail":
-                    raise BadEdit("the kit knows no 'behind:'")
+                if (change[0] or derived(edit)) and edit.parent.name == "must-fail":
+                    raise BadEdit("the kit knows no 'behind:' and no 'derive:'")
                 text = texts.get(name) or (edit.parent.parent / name).read_text()
                 texts[name] = edited(text, name, *change)
             if not texts:

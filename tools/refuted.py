@@ -3,12 +3,13 @@
 
     python3 tools/refuted.py [CRATE | CRATE/EDIT ..]
 
-An edit has the form that edits.py reads. It is applied to a copy of the project, checked there by `rt dev`, which takes
-over what stays as it is, and undone. For each edit the first error is printed that does not follow from another:
-whether a fact failed, and not a name, is for the reader to see. Exit 1 where an edit is not refused, or did not reach
-the prover.
+An edit has the form that edits.py reads. It is applied to a copy of the project, with the derivations that it says to
+make anew, checked there by `rt dev`, which takes over what stays as it is, and undone. For each edit the first error is
+printed that does not follow from another: whether a fact failed, and not a name, is for the reader to see. Exit 1 where
+an edit is not refused, or did not reach the prover.
 The must-fail edits are those that the gate tries; these are too many for it.
 """
+import contextlib
 import pathlib
 import re
 import shutil
@@ -16,7 +17,7 @@ import subprocess
 import sys
 import tempfile
 
-from edits import BadEdit, applied
+from edits import BadEdit, applied, derived
 
 
 def check(root, crate):
@@ -42,10 +43,30 @@ def first_error(said, root):
     return (own or lines or ["nothing was said"])[0][:300]
 
 
+@contextlib.contextmanager
+def derived_anew(root, crate, functions):
+    """The derivations of some functions made anew, and the old ones put back at the end."""
+    proofs = root / "crates" / crate / "proofs"
+    with tempfile.TemporaryDirectory() as folder:
+        kept = pathlib.Path(folder) / "proofs"
+        if functions:
+            shutil.copytree(proofs, kept)
+            tool = pathlib.Path(__file__).with_name("derive.py")
+            run = subprocess.run([sys.executable, tool, root, crate, *functions], capture_output=True, text=True)
+            if run.returncode:
+                raise BadEdit(f"no derivation: {run.stdout}{run.stderr}"[:300])
+        try:
+            yield
+        finally:
+            if functions:
+                shutil.rmtree(proofs)
+                shutil.copytree(kept, proofs)
+
+
 def tried(root, crate, edit):
     """Applies an edit, checks, undoes it: whether it was refused."""
     try:
-        with applied(edit, root / "crates" / crate):
+        with applied(edit, root / "crates" / crate), derived_anew(root, crate, derived(edit)):
             words, refused = verdict(check(root, crate), root)
     except BadEdit as bad:
         words, refused = f"BAD EDIT: {bad}", False

@@ -190,8 +190,7 @@ def named_entries(body):
         k[u[1]] = k.get(u[1], -1) + 1
         name[u] = 'l' + u[1] + ('' if k[u[1]] == 0 else '·%d' % k[u[1]])
         defs += definition(body[at][0], name[u], ['borrow.Table.Row.Entry'], u)
-    body = [(ind, replaced(t, name)) for ind, t in body]
-    return body[:at] + defs + body[at:]
+    return body[:at] + defs + [(ind, replaced(t, name)) for ind, t in body[at:]]
 
 def named_arguments(body):
     """a call's arguments, which the call's rule, its place and what it gives all write, after the same table's name"""

@@ -3,7 +3,7 @@ import pathlib
 import tempfile
 import unittest
 
-from edits import BadEdit, applied, misfits
+from edits import BadEdit, applied, derived, misfits
 
 TEXT = "fn first\n    used\nfn second\n    used\n    used\n"
 
@@ -55,6 +55,13 @@ class Edits(unittest.TestCase):
         self.assertEqual(len(list(misfits(self.root))), 1)
         self.edit.write_text("file: src\nbehind: fn second\nold: used\nnew: idle\n")
         self.assertEqual(list(misfits(self.root)), [])
+
+    def test_what_is_derived_anew(self):
+        self.edit.write_text("# wrong\nfile: src\nold: first\nnew: third\nderive: m::f\nderive: g\n")
+        self.assertEqual(derived(self.edit), ["m::f", "g"])
+        self.assertEqual(list(misfits(self.root)), [])
+        (self.crate / "refuted").rename(self.crate / "must-fail")
+        self.assertEqual(len(list(misfits(self.root))), 1)
 
     def test_the_kit_knows_no_behind(self):
         self.edit.write_text("file: src\nbehind: fn second\nold: used\nnew: idle\n")

@@ -1,8 +1,14 @@
+pub mod ActionQuestion
+pub mod HnsrPeerId
 pub mod InflightAction
 pub mod RelayCircuit
 pub mod RelayPending
+pub mod RelayTicket
 pub mod ReservationUsage
+pub mod WorkQuestion
 pub mod calls
 pub mod messages
 pub mod output
+pub mod peer
+pub mod records
 pub mod tables

@@ -1,4 +1,5 @@
--- What a scan asks, and what a lookup finds
+-- A name as the code is lent it, what a scan asks, and what a lookup finds
+pub mod Names
 pub mod Question
 pub mod Lookup
 pub mod Turns

@@ -1,8 +1,12 @@
 // A peer's name: 1 to MAXIMUM_PEER bytes, zero padded when the relay stores it.
 ghost use mathlib.Core.Path.{_≡_};
 ghost use mathlib.Core.Bool.{true, false, not, _&&_, _||_};
+ghost use Prim.Native.Nat.{_≤_};
 ghost use lib.Dec.{ltb, eqb};
-ghost use Rattle.hnsr_circuit.specs.Peer.{noPeer, peerLength, peerOf, samePeer};
+ghost use Rattle.hnsr_circuit.specs.Peer.{maximumPeer, noPeer, peerLength, peerOf, samePeer};
+ghost use Rattle.hnsr_circuit.specs.Code.Names.{Full, nameIn};
+use hns_encoding::logic::either;
+use hns_encoding::logic::no;
 use hns_encoding::numbers::min_usize;
 
 // The one limit: the words of a peer, of a route and the outputs that the calls need follow from it.
@@ -66,6 +70,18 @@ pub(crate) fn same_peer(a: HnsrPeerId, b: HnsrPeerId) -> bool
     true
 }
 
+// Whether one of two names is the peer's.
+pub fn either_is(a: HnsrPeerId, b: HnsrPeerId, peer: HnsrPeerId) -> bool
+    ensures { λ r. ⌜ r ≡ (samePeer a peer || samePeer b peer) ⌝ }
+{
+    if same_peer(a, peer) {
+        return true;
+    }
+    same_peer(b, peer)
+}
+
+// ---- the same of names that stand in records: none is copied
+
 // Whether the byte at a place within the names differs.
 fn differs(k: usize, n: usize, x: u8, y: u8) -> bool
     ensures { λ r. ⌜ r ≡ (ltb k n && not (eqb x y)) ⌝ }
@@ -76,44 +92,80 @@ fn differs(k: usize, n: usize, x: u8, y: u8) -> bool
     false
 }
 
-// Whether the lengths or three of the bytes tell two names apart; names that are numbered have their number behind. The
-// places are constant, so that a scan reads these bytes where the record stands and copies no name.
-fn soon_differ(a: HnsrPeerId, b: HnsrPeerId) -> bool
-    ensures { λ r. ⌜ (r ≡ true → samePeer a b ≡ false) ⌝ }
+// Whether one of four bytes tells two names of n bytes apart; names that are numbered have their number behind.
+fn soon_differ(a: &[u8; MAXIMUM_PEER], b: &[u8; MAXIMUM_PEER], n: usize) -> bool
+    requires { ⌜ n ≤ maximumPeer ⌝ }
+    ensures { λ r. ⌜ (r ≡ true → samePeer (nameIn n (now (a .entry))) (nameIn n (now (b .entry))) ≡ false) ⌝ }
 {
-    let n = peer_length(a);
-    if n != peer_length(b) {
+    if differs(15, n, a[15], b[15]) {
         return true;
     }
-    let p = a.bytes;
-    let q = b.bytes;
-    if differs(15, n, p[15], q[15]) {
+    if differs(11, n, a[11], b[11]) {
         return true;
     }
-    if differs(11, n, p[11], q[11]) {
+    if differs(7, n, a[7], b[7]) {
         return true;
     }
-    differs(7, n, p[7], q[7])
+    differs(0, n, a[0], b[0])
 }
 
-// For a scan of many records.
-pub(crate) fn same_peer_in_scan(a: HnsrPeerId, b: HnsrPeerId) -> bool
-    ensures { λ r. ⌜ r ≡ samePeer a b ⌝ }
+// Whether any of the n bytes does. All are read, so that many can be compared at a time.
+fn bytes_differ(a: &[u8; MAXIMUM_PEER], b: &[u8; MAXIMUM_PEER], n: usize) -> bool
+    requires { ⌜ Full (now a) × Full (now b) × (n ≤ maximumPeer) ⌝ }
+    ensures { λ r. ⌜ r ≡ not (samePeer (nameIn n (now (a .entry))) (nameIn n (now (b .entry)))) ⌝ }
 {
-    if soon_differ(a, b) {
+    let mut differ = false;
+    let mut i: usize = 0;
+    while i < n {
+        differ = either(differ, a[i] != b[i]);
+        i += 1;
+    }
+    differ
+}
+
+// Two names where they stand, by their bytes and their lengths.
+fn same_names(a: &[u8; MAXIMUM_PEER], n: usize, b: &[u8; MAXIMUM_PEER], m: usize) -> bool
+    requires { ⌜ Full (now a) × Full (now b) ⌝ }
+    ensures { λ r. ⌜ r ≡ samePeer (nameIn n (now (a .entry))) (nameIn m (now (b .entry))) ⌝ }
+{
+    let length = min_usize(n, MAXIMUM_PEER);
+    if length != min_usize(m, MAXIMUM_PEER) {
         return false;
     }
-    same_peer(a, b)
+    if soon_differ(a, b, length) {
+        return false;
+    }
+    no(bytes_differ(a, b, length))
 }
 
-// ---- a peer among two
-
-// Whether one of two names is the peer's.
-pub(crate) fn either_is(a: HnsrPeerId, b: HnsrPeerId, peer: HnsrPeerId) -> bool
-    ensures { λ r. ⌜ r ≡ (samePeer a peer || samePeer b peer) ⌝ }
+pub(crate) fn length_in_name(p: &HnsrPeerId) -> usize
+    ensures { λ r. ⌜ (r ≡ now (p .entry) .len) × Full (now (p .entry) .bytes) ⌝ }
 {
-    if same_peer(a, peer) {
+    p.len
+}
+
+pub(crate) fn bytes_in_name<'a>(p: &'a HnsrPeerId) -> &'a [u8; MAXIMUM_PEER]
+    ensures { λ r. ⌜ now r ≡ now (p .entry) .bytes ⌝ }
+{
+    &p.bytes
+}
+
+pub fn same_in_place(a: &HnsrPeerId, b: &HnsrPeerId) -> bool
+    ensures { λ r. ⌜ r ≡ samePeer (now (a .entry)) (now (b .entry)) ⌝ }
+{
+    let n = length_in_name(a);
+    let m = length_in_name(b);
+    let x = bytes_in_name(a);
+    let y = bytes_in_name(b);
+    same_names(x, n, y, m)
+}
+
+pub(crate) fn either_in_place(a: &HnsrPeerId, b: &HnsrPeerId, peer: &HnsrPeerId) -> bool
+    ensures { λ r. ⌜ r
+        ≡ (samePeer (now (a .entry)) (now (peer .entry)) || samePeer (now (b .entry)) (now (peer .entry))) ⌝ }
+{
+    if same_in_place(a, peer) {
         return true;
     }
-    same_peer(b, peer)
+    same_in_place(b, peer)
 }

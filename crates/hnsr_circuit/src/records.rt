@@ -1,8 +1,8 @@
 // The records of the four lent tables, by value; what is asked of each and what becomes of one has a file of its own.
-pub(crate) mod circuits;
+pub mod circuits;
 pub(crate) mod inflight;
 pub(crate) mod ledger;
-pub(crate) mod pending;
+pub mod pending;
 pub(crate) mod runtime;
 
 use crate::peer::HnsrPeerId;

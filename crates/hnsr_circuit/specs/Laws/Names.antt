@@ -1,18 +1,19 @@
 -- Names compared byte by byte, as a loop does: up to a place the names are the same, and what is left of them says the
 -- rest.
-use Prim.Native.Nat.{ℕ, _+_, _≤_, _<_}
+use Prim.Native.Nat.{ℕ, _+_, _≤_, _<_, min}
 use native.Mathlib.Numerals.{add-one}
 use native.Mathlib.Omega.{arith}
-use mathlib.Core.Path.{_≡_, sym, ap, _∙_}
-use mathlib.Core.Bool.{Bool, true, false, not, _&&_}
+use mathlib.Core.Path.{_≡_, refl, sym, ap, _∙_}
+use mathlib.Core.Bool.{Bool, true, false, not, _&&_, _||_, or-false}
 use mathlib.Core.List.{List, map}
 use lib.Dec.{eqb, ltb}
-use lib.ListN.{length, drop, getD, length-map, length-take, drop-of-length-le}
+use lib.ListN.{length, take, drop, getD, length-map, length-take, drop-of-length-le}
 use lib.Seq.{drop-cons, getD-take}
 use Rattle.hnsr_circuit.specs.declared.peer.HnsrPeerId.{HnsrPeerId}
 use borrow.Author.Tests.{ltb-true, eq-eqb}
 use Rattle.hns_encoding.specs.Laws.Tests.{split, both, clash}
 use Rattle.hnsr_circuit.specs.Peer.{maximumPeer, peerLength, peerBytes, sameBytes, samePeer}
+use Rattle.hnsr_circuit.specs.Code.Names.{nameIn}
 use Rattle.hnsr_circuit.specs.Laws.Peer.{same-names}
 
 bytes-step : (xs ys : List ℕ) (i : ℕ) → i < length xs → i < length ys
@@ -81,3 +82,44 @@ byte-differs p q n k ep eq t =
     ∙ name-at q k (omega arith) in
     clash (s .1) (rw (eq-eqb (getD (p .bytes) k 0) (getD (q .bytes) k 0) at)))
     (λ e. e)
+
+-- ---- byte by byte, all of them: whether one differs so far, or one of those that are left
+join : (d e s : Bool) → ((d || not e) || not s) ≡ (d || not (e && s))
+join true e s = refl
+join false true s = refl
+join false false s = refl
+
+module _ (p q : HnsrPeerId) (hp : length (p .bytes) ≡ maximumPeer) (hq : length (q .bytes) ≡ maximumPeer) (n i : ℕ)
+    (ep : n ≡ peerLength p) (eq : n ≡ peerLength q) (d r : Bool)
+    (h : (d || not (sameBytes (drop i (peerBytes p)) (drop i (peerBytes q)))) ≡ r) where
+  pub one-more-byte : i < n
+      → ((d || not (eqb (getD (p .bytes) i 0) (getD (q .bytes) i 0)))
+      || not (sameBytes (drop (i + 1) (peerBytes p)) (drop (i + 1) (peerBytes q)))) ≡ r
+  one-more-byte l =
+      let a = name-length p hp in
+      let b = name-length q hq in
+      let e = eqb (getD (p .bytes) i 0) (getD (q .bytes) i 0) in
+      let rest = sameBytes (drop (i + 1) (peerBytes p)) (drop (i + 1) (peerBytes q)) in
+      let here : (e && rest) ≡ sameBytes (drop i (peerBytes p)) (drop i (peerBytes q)) =
+      rw (← (name-at p i (omega arith)), ← (name-at q i (omega arith)))
+      (sym (bytes-step (peerBytes p) (peerBytes q) i (omega arith) (omega arith))) in
+      join d e rest ∙ ap (λ (same : Bool). d || not same) here ∙ h
+
+  pub no-more-bytes : n ≤ i → d ≡ r
+  no-more-bytes l =
+      let a = name-length p hp in
+      let b = name-length q hq in
+      sym (or-false d)
+      ∙ ap (λ (same : Bool). d || not same)
+      (sym (bytes-end (peerBytes p) (peerBytes q) i (omega arith) (omega arith)))
+      ∙ h
+
+-- ---- a length over the most is the most: two names of the clamped length are those of their own
+pub clamped : (xs ys : List ℕ) (n m k : ℕ) → k ≡ min n maximumPeer → k ≡ min m maximumPeer
+    → samePeer (nameIn k xs) (nameIn k ys) ≡ samePeer (nameIn n xs) (nameIn m ys)
+unfolding samePeer peerBytes
+clamped xs ys n m k e f =
+    let a : min k maximumPeer ≡ min n maximumPeer = omega arith in
+    let b : min k maximumPeer ≡ min m maximumPeer = omega arith in
+    ap (λ (l : ℕ). sameBytes (take l xs) (take (min k maximumPeer) ys)) a
+    ∙ ap (λ (l : ℕ). sameBytes (take (min n maximumPeer) xs) (take l ys)) b

@@ -9,7 +9,7 @@ use mathlib.Core.Bool.{Bool, true, false, cond, _&&_}
 use mathlib.Core.List.{List, [], _∷_, _++_, map}
 use lib.Dec.{ltb}
 use lib.ListN.{length, take, drop, getD, set}
-use lib.Seq.{drop-cons, set-getD}
+use lib.Seq.{drop-cons, set-getD, getD-set-same}
 use borrow.Author.Tests.{ltb-true, ltb-false}
 use Rattle.hns_encoding.specs.Laws.Tests.{split, both}
 use Rattle.hns_encoding.specs.Loops.{foldFrom, map-step}
@@ -44,6 +44,12 @@ module _ {A : Type 0} (t : List A) (go does : Bool) (i : ℕ) (e : does ≡ (go 
 
   pub unstored : (x : A) → does ≡ false → t ≡ cond go (set t i x) t
   unstored x h = split go (λ g. rw g (sym (set-past t i x (ltb-false i (length t) (sym (rw g at e) ∙ h))))) (λ g. rw g)
+
+-- what stands there afterwards
+pub stored-there : {A : Type 0} (go : Bool) (t : List A) (i : ℕ) (x d : A) → i < length t
+    → getD (cond go (set t i x) t) i d ≡ cond go x (getD t i d)
+stored-there true t i x d l = getD-set-same t i x d l
+stored-there false t i x d l = refl
 
 -- ---- a turn that clears the mark of a record, if it has what is asked, and else stores nothing
 module _ {A : Type 0} (unmark : A → A) (p : A → Bool) (t : List A) (d : A) (i : ℕ) where

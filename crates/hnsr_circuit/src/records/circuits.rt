@@ -1,4 +1,4 @@
-// Circuits: what is asked of one, what is asked of one by side, and what becomes of one.
+// Circuits: what is asked of one where it stands, what is asked of one by side, and what becomes of one.
 ghost use mathlib.Core.Path.{_≡_};
 ghost use Prim.Native.Nat.{_+_, _-_, _<_};
 ghost use Rattle.hnsr_circuit.specs.Circuits.{noCircuit, clearCircuit, charged, raised, lowered, isCircuit};
@@ -6,12 +6,14 @@ ghost use Rattle.hnsr_circuit.specs.Circuits.{circuitAt, isSide, circuit
 ghost use Rattle.hnsr_circuit.specs.Circuits.{sideOf, otherSide, peerAt, creditOf, queuedTo, queuedIn};
 ghost use Rattle.hnsr_circuit.specs.Packet.{receiver};
 use crate::peer::HnsrPeerId;
+use crate::peer::either_in_place;
 use crate::peer::either_is;
 use crate::peer::no_peer;
 use crate::peer::same_peer;
 use crate::records::RelayCircuit;
 use crate::records::RelaySide;
 use crate::records::ledger::same_reservation;
+use hns_encoding::logic::both;
 use hns_encoding::numbers::saturating_add_u64;
 use hns_encoding::numbers::saturating_add_usize;
 use hns_encoding::numbers::saturating_sub_usize;
@@ -38,60 +40,92 @@ pub(crate) fn no_circuit() -> RelayCircuit
     }
 }
 
-// ---- questions
+// ---- fields of a record, read or lent where it stands
 
-pub(crate) fn is_circuit(c: RelayCircuit) -> bool
-    ensures { λ r. ⌜ r ≡ isCircuit c ⌝ }
+pub(crate) fn is_circuit(c: &RelayCircuit) -> bool
+    ensures { λ r. ⌜ r ≡ isCircuit (now (c .entry)) ⌝ }
 {
     c.used
 }
 
-pub(crate) fn circuit_is(c: RelayCircuit, id: u64) -> bool
-    ensures { λ r. ⌜ r ≡ circuitAt id c ⌝ }
+pub(crate) fn id_in_circuit(c: &RelayCircuit) -> u64
+    ensures { λ r. ⌜ r ≡ now (c .entry) .«circuit_id» ⌝ }
 {
-    if c.used {
-        return c.circuit_id == id;
+    c.circuit_id
+}
+
+pub(crate) fn requester_in_circuit<'a>(c: &'a RelayCircuit) -> &'a HnsrPeerId
+    ensures { λ r. ⌜ now r ≡ now (c .entry) .requester ⌝ }
+{
+    &c.requester
+}
+
+pub(crate) fn endpoint_in_circuit<'a>(c: &'a RelayCircuit) -> &'a HnsrPeerId
+    ensures { λ r. ⌜ now r ≡ now (c .entry) .endpoint ⌝ }
+{
+    &c.endpoint
+}
+
+pub(crate) fn reservation_in_circuit(c: &RelayCircuit) -> ReservationId
+    ensures { λ r. ⌜ r ≡ now (c .entry) .«reservation_id» ⌝ }
+{
+    c.reservation_id
+}
+
+pub(crate) fn expiry_in_circuit(c: &RelayCircuit) -> u64
+    ensures { λ r. ⌜ r ≡ now (c .entry) .«expires_at» ⌝ }
+{
+    c.expires_at
+}
+
+// ---- questions
+
+pub(crate) fn circuit_is(c: &RelayCircuit, id: u64) -> bool
+    ensures { λ r. ⌜ r ≡ circuitAt id (now (c .entry)) ⌝ }
+{
+    let used = is_circuit(c);
+    let stored = id_in_circuit(c);
+    both(used, stored == id)
+}
+
+// The peer is a side of it.
+pub fn circuit_of(c: &RelayCircuit, peer: &HnsrPeerId) -> bool
+    ensures { λ r. ⌜ r ≡ circuitOf (now (peer .entry)) (now (c .entry)) ⌝ }
+{
+    if is_circuit(c) {
+        let requester = requester_in_circuit(c);
+        let endpoint = endpoint_in_circuit(c);
+        return either_in_place(requester, endpoint, peer);
     }
     false
 }
+
+// It stores the reservation's id.
+pub(crate) fn circuit_under(c: &RelayCircuit, id: ReservationId) -> bool
+    ensures { λ r. ⌜ r ≡ circuitUnder id (now (c .entry)) ⌝ }
+{
+    let used = is_circuit(c);
+    let stored = reservation_in_circuit(c);
+    let same = same_reservation(stored, id);
+    both(used, same)
+}
+
+// Expiry not after the time.
+pub(crate) fn circuit_over(c: &RelayCircuit, time: u64) -> bool
+    ensures { λ r. ⌜ r ≡ circuitOver time (now (c .entry)) ⌝ }
+{
+    let used = is_circuit(c);
+    let expiry = expiry_in_circuit(c);
+    both(used, expiry <= time)
+}
+
+// ---- sides, of a circuit that was found
 
 pub(crate) fn is_side(peer: HnsrPeerId, c: RelayCircuit) -> bool
     ensures { λ r. ⌜ r ≡ isSide peer c ⌝ }
 {
     either_is(c.requester, c.endpoint, peer)
 }
-
-// The peer is a side of it.
-pub(crate) fn circuit_of(c: RelayCircuit, peer: HnsrPeerId) -> bool
-    ensures { λ r. ⌜ r ≡ circuitOf peer c ⌝ }
-{
-    if c.used {
-        return is_side(peer, c);
-    }
-    false
-}
-
-// It stores the reservation's id.
-pub(crate) fn circuit_under(c: RelayCircuit, id: ReservationId) -> bool
-    ensures { λ r. ⌜ r ≡ circuitUnder id c ⌝ }
-{
-    if c.used {
-        return same_reservation(c.reservation_id, id);
-    }
-    false
-}
-
-// Expiry not after now.
-pub(crate) fn circuit_over(c: RelayCircuit, now: u64) -> bool
-    ensures { λ r. ⌜ r ≡ circuitOver now c ⌝ }
-{
-    if c.used {
-        return c.expires_at <= now;
-    }
-    false
-}
-
-// ---- sides
 
 // A peer that is both is the requester.
 pub(crate) fn side_of(peer: HnsrPeerId, c: RelayCircuit) -> RelaySide

@@ -1,6 +1,5 @@
-// Outstanding actions: what is asked of one, the kinds, the mark cleared, and the action capacity.
+// Outstanding actions: the kinds, what is asked of one where it stands, the mark cleared, and the action capacity.
 ghost use mathlib.Core.Path.{_≡_};
-ghost use mathlib.Core.Bool.{cond};
 ghost use Rattle.hnsr_circuit.specs.Inflight.{noAction, kindNumber, kindOf, toEndpoint, towardSide};
 ghost use Rattle.hnsr_circuit.specs.Inflight.{isAction, actionAt, actionUnder, actionToward};
 ghost use Rattle.hnsr_circuit.specs.Inflight.{clearAction, capacityLeft, capacityAnswer};
@@ -10,7 +9,7 @@ use crate::answer::check;
 use crate::config::OpaqueRelayConfig;
 use crate::peer::HnsrPeerId;
 use crate::peer::no_peer;
-use crate::peer::same_peer;
+use crate::peer::same_in_place;
 use crate::records::InflightAction;
 use crate::records::InflightKind;
 use crate::records::RelaySide;
@@ -87,37 +86,64 @@ pub(crate) fn toward_side(a: InflightAction) -> RelaySide
     RelaySide::Requester
 }
 
-// ---- questions
+// ---- fields of a record, read or lent where it stands
 
-pub(crate) fn is_action(a: InflightAction) -> bool
-    ensures { λ r. ⌜ r ≡ isAction a ⌝ }
+pub(crate) fn is_action(a: &InflightAction) -> bool
+    ensures { λ r. ⌜ r ≡ isAction (now (a .entry)) ⌝ }
 {
     a.used
 }
 
-pub(crate) fn action_is(a: InflightAction, generation: u64, sequence: u64) -> bool
-    ensures { λ r. ⌜ r ≡ actionAt generation sequence a ⌝ }
+pub(crate) fn generation_in_action(a: &InflightAction) -> u64
+    ensures { λ r. ⌜ r ≡ now (a .entry) .generation ⌝ }
 {
-    if a.used {
-        return both(a.generation == generation, a.sequence == sequence);
-    }
-    false
+    a.generation
 }
 
-pub(crate) fn action_under(a: InflightAction, id: u64) -> bool
-    ensures { λ r. ⌜ r ≡ actionUnder id a ⌝ }
+pub(crate) fn sequence_in_action(a: &InflightAction) -> u64
+    ensures { λ r. ⌜ r ≡ now (a .entry) .sequence ⌝ }
 {
-    if a.used {
-        return a.circuit_id == id;
-    }
-    false
+    a.sequence
 }
 
-pub(crate) fn action_toward(a: InflightAction, peer: HnsrPeerId) -> bool
-    ensures { λ r. ⌜ r ≡ actionToward peer a ⌝ }
+pub(crate) fn circuit_in_action(a: &InflightAction) -> u64
+    ensures { λ r. ⌜ r ≡ now (a .entry) .«circuit_id» ⌝ }
 {
-    if a.used {
-        return same_peer(a.destination, peer);
+    a.circuit_id
+}
+
+pub(crate) fn destination_in_action<'a>(a: &'a InflightAction) -> &'a HnsrPeerId
+    ensures { λ r. ⌜ now r ≡ now (a .entry) .destination ⌝ }
+{
+    &a.destination
+}
+
+// ---- questions
+
+pub(crate) fn action_is(a: &InflightAction, generation: u64, sequence: u64) -> bool
+    ensures { λ r. ⌜ r ≡ actionAt generation sequence (now (a .entry)) ⌝ }
+{
+    let used = is_action(a);
+    let made = generation_in_action(a);
+    let number = sequence_in_action(a);
+    let same = both(made == generation, number == sequence);
+    both(used, same)
+}
+
+pub(crate) fn action_under(a: &InflightAction, id: u64) -> bool
+    ensures { λ r. ⌜ r ≡ actionUnder id (now (a .entry)) ⌝ }
+{
+    let used = is_action(a);
+    let stored = circuit_in_action(a);
+    both(used, stored == id)
+}
+
+pub(crate) fn action_toward(a: &InflightAction, peer: &HnsrPeerId) -> bool
+    ensures { λ r. ⌜ r ≡ actionToward (now (peer .entry)) (now (a .entry)) ⌝ }
+{
+    if is_action(a) {
+        let destination = destination_in_action(a);
+        return same_in_place(destination, peer);
     }
     false
 }
@@ -128,16 +154,6 @@ pub(crate) fn action_unmarked(a: InflightAction) -> InflightAction
     ensures { λ r. ⌜ r ≡ clearAction a ⌝ }
 {
     InflightAction { used: false, ..a }
-}
-
-// What is left of a record that is dropped, or not.
-pub(crate) fn action_left(a: InflightAction, gone: bool) -> InflightAction
-    ensures { λ r. ⌜ r ≡ cond gone (clearAction a) a ⌝ }
-{
-    if gone {
-        return action_unmarked(a);
-    }
-    a
 }
 
 // ---- capacity

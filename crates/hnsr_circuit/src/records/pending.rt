@@ -1,16 +1,17 @@
-// Pending records: what is asked of one, and the mark cleared. An unused record answers no question but that it is
-// unused.
+// Pending records: what is asked of one where it stands, and the mark cleared. An unused record answers no question but
+// that it is unused.
 ghost use mathlib.Core.Path.{_≡_};
 ghost use Rattle.hnsr_circuit.specs.Pending.{noPending, clearPending, isPending, pendingAt};
 ghost use Rattle.hnsr_circuit.specs.Pending.{pendingOf, pendingUnder, requesterNames, endpointNames};
 ghost use Rattle.hnsr_circuit.specs.Pending.{requestedBy, namedBy, overdue, pendingOver};
 use crate::peer::HnsrPeerId;
-use crate::peer::either_is;
+use crate::peer::either_in_place;
 use crate::peer::no_peer;
-use crate::peer::same_peer;
+use crate::peer::same_in_place;
 use crate::records::RelayPending;
 use crate::records::RelayTicket;
 use crate::records::ledger::same_reservation;
+use hns_encoding::logic::both;
 use hns_encoding::logic::either;
 use hnsr_body::values::ReservationId;
 
@@ -44,77 +45,132 @@ pub(crate) fn pending_unmarked(p: RelayPending) -> RelayPending
     RelayPending { used: false, ..p }
 }
 
-// ---- questions
+// ---- fields of a record, read or lent where it stands
 
-pub(crate) fn is_pending(p: RelayPending) -> bool
-    ensures { λ r. ⌜ r ≡ isPending p ⌝ }
+pub(crate) fn is_pending(p: &RelayPending) -> bool
+    ensures { λ r. ⌜ r ≡ isPending (now (p .entry)) ⌝ }
 {
     p.used
 }
 
-pub(crate) fn pending_is(p: RelayPending, id: u64) -> bool
-    ensures { λ r. ⌜ r ≡ pendingAt id p ⌝ }
+pub(crate) fn id_in_pending(p: &RelayPending) -> u64
+    ensures { λ r. ⌜ r ≡ now (p .entry) .«circuit_id» ⌝ }
 {
-    if p.used {
-        return p.circuit_id == id;
-    }
-    false
+    p.circuit_id
+}
+
+pub(crate) fn requester_in_pending<'a>(p: &'a RelayPending) -> &'a HnsrPeerId
+    ensures { λ r. ⌜ now r ≡ now (p .entry) .requester ⌝ }
+{
+    &p.requester
+}
+
+pub(crate) fn endpoint_in_pending<'a>(p: &'a RelayPending) -> &'a HnsrPeerId
+    ensures { λ r. ⌜ now r ≡ now (p .entry) .endpoint ⌝ }
+{
+    &p.endpoint
+}
+
+pub(crate) fn context_in_pending(p: &RelayPending) -> u64
+    ensures { λ r. ⌜ r ≡ now (p .entry) .«requester_context» ⌝ }
+{
+    p.requester_context
+}
+
+pub(crate) fn ticket_in_pending<'a>(p: &'a RelayPending) -> &'a RelayTicket
+    ensures { λ r. ⌜ now r ≡ now (p .entry) .ticket ⌝ }
+{
+    &p.ticket
+}
+
+pub(crate) fn deadline_in_pending(p: &RelayPending) -> u64
+    ensures { λ r. ⌜ r ≡ now (p .entry) .deadline ⌝ }
+{
+    p.deadline
+}
+
+pub(crate) fn reservation_in_ticket(t: &RelayTicket) -> ReservationId
+    ensures { λ r. ⌜ r ≡ now (t .entry) .«reservation_id» ⌝ }
+{
+    t.reservation_id
+}
+
+pub(crate) fn expiry_in_ticket(t: &RelayTicket) -> u64
+    ensures { λ r. ⌜ r ≡ now (t .entry) .«expires_at» ⌝ }
+{
+    t.expires_at
+}
+
+// ---- questions
+
+pub(crate) fn pending_is(p: &RelayPending, id: u64) -> bool
+    ensures { λ r. ⌜ r ≡ pendingAt id (now (p .entry)) ⌝ }
+{
+    let used = is_pending(p);
+    let stored = id_in_pending(p);
+    both(used, stored == id)
 }
 
 // The peer is a side of it.
-pub(crate) fn pending_of(p: RelayPending, peer: HnsrPeerId) -> bool
-    ensures { λ r. ⌜ r ≡ pendingOf peer p ⌝ }
+pub fn pending_of(p: &RelayPending, peer: &HnsrPeerId) -> bool
+    ensures { λ r. ⌜ r ≡ pendingOf (now (peer .entry)) (now (p .entry)) ⌝ }
 {
-    if p.used {
-        return either_is(p.requester, p.endpoint, peer);
+    if is_pending(p) {
+        let requester = requester_in_pending(p);
+        let endpoint = endpoint_in_pending(p);
+        return either_in_place(requester, endpoint, peer);
     }
     false
 }
 
 // It stores the reservation's id.
-pub(crate) fn pending_under(p: RelayPending, id: ReservationId) -> bool
-    ensures { λ r. ⌜ r ≡ pendingUnder id p ⌝ }
+pub(crate) fn pending_under(p: &RelayPending, id: ReservationId) -> bool
+    ensures { λ r. ⌜ r ≡ pendingUnder id (now (p .entry)) ⌝ }
 {
-    if p.used {
-        let ticket = p.ticket;
-        return same_reservation(ticket.reservation_id, id);
+    let used = is_pending(p);
+    let ticket = ticket_in_pending(p);
+    let stored = reservation_in_ticket(ticket);
+    let same = same_reservation(stored, id);
+    both(used, same)
+}
+
+pub(crate) fn requester_names(p: &RelayPending, peer: &HnsrPeerId, context: u64) -> bool
+    ensures { λ r. ⌜ r ≡ requesterNames (now (peer .entry)) context (now (p .entry)) ⌝ }
+{
+    let stored = context_in_pending(p);
+    if stored == context {
+        let requester = requester_in_pending(p);
+        return same_in_place(requester, peer);
     }
     false
 }
 
-fn requester_names(p: RelayPending, peer: HnsrPeerId, context: u64) -> bool
-    ensures { λ r. ⌜ r ≡ requesterNames peer context p ⌝ }
+pub(crate) fn endpoint_names(p: &RelayPending, peer: &HnsrPeerId, context: u64) -> bool
+    ensures { λ r. ⌜ r ≡ endpointNames (now (peer .entry)) context (now (p .entry)) ⌝ }
 {
-    if p.requester_context == context {
-        return same_peer(p.requester, peer);
-    }
-    false
-}
-
-fn endpoint_names(p: RelayPending, peer: HnsrPeerId, context: u64) -> bool
-    ensures { λ r. ⌜ r ≡ endpointNames peer context p ⌝ }
-{
-    if p.circuit_id == context {
-        return same_peer(p.endpoint, peer);
+    let stored = id_in_pending(p);
+    if stored == context {
+        let endpoint = endpoint_in_pending(p);
+        return same_in_place(endpoint, peer);
     }
     false
 }
 
 // The same requester and context.
-pub(crate) fn requested_by(p: RelayPending, peer: HnsrPeerId, context: u64) -> bool
-    ensures { λ r. ⌜ r ≡ requestedBy peer context p ⌝ }
+pub(crate) fn requested_by(p: &RelayPending, peer: &HnsrPeerId, context: u64) -> bool
+    ensures { λ r. ⌜ r ≡ requestedBy (now (peer .entry)) context (now (p .entry)) ⌝ }
 {
-    if p.used {
+    if is_pending(p) {
         return requester_names(p, peer, context);
     }
     false
 }
 
 // CLOSE.9: by what number each side names it.
-pub(crate) fn named_by(p: RelayPending, peer: HnsrPeerId, context: u64) -> bool
-    ensures { λ r. ⌜ r ≡ namedBy peer context p ⌝ }
+pub(crate) fn named_by(p: &RelayPending, peer: &HnsrPeerId, context: u64) -> bool
+    ensures { λ r. ⌜ r ≡ namedBy (now (peer .entry)) context (now (p .entry)) ⌝ }
 {
-    if p.used {
+    if is_pending(p) {
         if requester_names(p, peer, context) {
             return true;
         }
@@ -131,11 +187,13 @@ pub(crate) fn overdue(now: u64, p: RelayPending) -> bool
     either(p.deadline <= now, ticket.expires_at <= now)
 }
 
-pub(crate) fn pending_over(p: RelayPending, now: u64) -> bool
-    ensures { λ r. ⌜ r ≡ pendingOver now p ⌝ }
+pub(crate) fn pending_over(p: &RelayPending, time: u64) -> bool
+    ensures { λ r. ⌜ r ≡ pendingOver time (now (p .entry)) ⌝ }
 {
-    if p.used {
-        return overdue(now, p);
-    }
-    false
+    let used = is_pending(p);
+    let deadline = deadline_in_pending(p);
+    let ticket = ticket_in_pending(p);
+    let expiry = expiry_in_ticket(ticket);
+    let late = either(deadline <= time, expiry <= time);
+    both(used, late)
 }

@@ -47,8 +47,7 @@ pub(crate) fn spare_circuit(circuits: &[RelayCircuit], places: Places) -> usize
     let end = min_usize(places.circuits, size);
     let mut i: usize = 0;
     while i < end {
-        let row = circuits[i];
-        let used = is_circuit(row);
+        let used = is_circuit(&circuits[i]);
         if no(used) {
             return i;
         }
@@ -65,8 +64,7 @@ pub(crate) fn find_circuit_id(circuits: &[RelayCircuit], places: Places, id: u64
     let end = min_usize(places.circuits, size);
     let mut i: usize = 0;
     while i < end {
-        let row = circuits[i];
-        if circuit_is(row, id) {
+        if circuit_is(&circuits[i], id) {
             return i;
         }
         i += 1;
@@ -108,8 +106,7 @@ pub(crate) fn next_circuit(
     let mut best = not_yet();
     let mut i: usize = 0;
     while i < end {
-        let row = circuits[i];
-        best = circuit_turn(question, peer, cursor, best, row, i);
+        best = circuit_turn(question, &peer, cursor, best, &circuits[i], i);
         i += 1;
     }
     best
@@ -133,10 +130,9 @@ pub(crate) fn survey_circuit(
     let mut first = start;
     let mut i: usize = 0;
     while i < end {
-        let row = circuits[i];
-        let has = is_circuit(row);
+        let has = is_circuit(&circuits[i]);
         used = one_more(used, has);
-        first = circuit_turn(question, peer, start, first, row, i);
+        first = circuit_turn(question, &peer, start, first, &circuits[i], i);
         i += 1;
     }
     surveyed(used, first)
@@ -155,8 +151,7 @@ pub(crate) fn circuit_work(
     let mut work = no_work();
     let mut i: usize = 0;
     while i < end {
-        let row = circuits[i];
-        work = circuit_worked(work, row, question);
+        work = circuit_worked(work, &circuits[i], &question);
         i += 1;
     }
     work
@@ -227,8 +222,7 @@ pub(crate) fn trim_circuits(circuits: &[RelayCircuit], places: Places) -> usize
     let mut n = min_usize(places.circuits, size);
     while 0 < n {
         let last = n - 1;
-        let row = circuits[last];
-        if is_circuit(row) {
+        if is_circuit(&circuits[last]) {
             return n;
         }
         n = last;

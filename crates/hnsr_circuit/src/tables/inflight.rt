@@ -11,7 +11,6 @@ ghost use Rattle.hnsr_circuit.specs.Code.Turns.{actionsScanned};
 use crate::peer::HnsrPeerId;
 use crate::records::InflightAction;
 use crate::records::inflight::action_is;
-use crate::records::inflight::action_left;
 use crate::records::inflight::action_under;
 use crate::records::inflight::action_unmarked;
 use crate::records::inflight::is_action;
@@ -25,6 +24,7 @@ use crate::tables::scan::ActionQuestion;
 use crate::tables::scan::ActionScan;
 use crate::tables::scan::action_scanned;
 use crate::tables::scan::no_scan;
+use crate::tables::scan::toward_asked;
 use crate::tables::scan::within;
 use hns_encoding::numbers::min_usize;
 
@@ -41,8 +41,7 @@ pub(crate) fn find_action(
     let end = min_usize(places.actions, size);
     let mut i: usize = 0;
     while i < end {
-        let row = inflight[i];
-        if action_is(row, generation, sequence) {
+        if action_is(&inflight[i], generation, sequence) {
             return i;
         }
         i += 1;
@@ -101,8 +100,7 @@ pub(crate) fn clear_action(
     let end = min_usize(places.actions, size);
     let mut i: usize = 0;
     while i < end {
-        let row = inflight[i];
-        let has = action_has(row, dropped, peer);
+        let has = action_has(&inflight[i], dropped, &peer);
         unmark_action(inflight, has, i);
         i += 1;
     }
@@ -121,8 +119,8 @@ pub(crate) fn scan_actions(
     let mut scan = no_scan(size);
     let mut i: usize = 0;
     while i < end {
-        let row = inflight[i];
-        scan = action_scanned(scan, row, question, i);
+        let toward = toward_asked(&inflight[i], &question);
+        scan = action_scanned(scan, &inflight[i], &question, toward, i);
         i += 1;
     }
     spared(scan, i, size)
@@ -145,11 +143,10 @@ pub(crate) fn drop_and_scan(
     let mut scan = no_scan(size);
     let mut i: usize = 0;
     while i < end {
-        let row = inflight[i];
-        let gone = action_under(row, id);
-        let left = action_left(row, gone);
+        let gone = action_under(&inflight[i], id);
         unmark_action(inflight, gone, i);
-        scan = action_scanned(scan, left, question, i);
+        let toward = toward_asked(&inflight[i], &question);
+        scan = action_scanned(scan, &inflight[i], &question, toward, i);
         i += 1;
     }
     spared(scan, i, size)
@@ -163,8 +160,7 @@ pub(crate) fn trim_actions(inflight: &[InflightAction], places: Places) -> usize
     let mut n = min_usize(places.actions, size);
     while 0 < n {
         let last = n - 1;
-        let row = inflight[last];
-        if is_action(row) {
+        if is_action(&inflight[last]) {
             return n;
         }
         n = last;

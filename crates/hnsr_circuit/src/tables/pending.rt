@@ -42,8 +42,7 @@ pub(crate) fn spare_pending(pending: &[RelayPending], places: Places) -> usize
     let end = min_usize(places.pending, size);
     let mut i: usize = 0;
     while i < end {
-        let row = pending[i];
-        let used = is_pending(row);
+        let used = is_pending(&pending[i]);
         if no(used) {
             return i;
         }
@@ -60,8 +59,7 @@ pub(crate) fn find_pending_id(pending: &[RelayPending], places: Places, id: u64)
     let end = min_usize(places.pending, size);
     let mut i: usize = 0;
     while i < end {
-        let row = pending[i];
-        if pending_is(row, id) {
+        if pending_is(&pending[i], id) {
             return i;
         }
         i += 1;
@@ -82,8 +80,7 @@ pub(crate) fn find_named(
     let end = min_usize(places.pending, size);
     let mut i: usize = 0;
     while i < end {
-        let row = pending[i];
-        if named_by(row, peer, context) {
+        if named_by(&pending[i], &peer, context) {
             return i;
         }
         i += 1;
@@ -105,8 +102,7 @@ pub(crate) fn count_named(
     let mut counted: usize = 0;
     let mut i: usize = 0;
     while i < end {
-        let row = pending[i];
-        let has = named_by(row, peer, context);
+        let has = named_by(&pending[i], &peer, context);
         counted = one_more(counted, has);
         i += 1;
     }
@@ -122,8 +118,7 @@ pub(crate) fn count_pending(pending: &[RelayPending], places: Places) -> usize
     let mut counted: usize = 0;
     let mut i: usize = 0;
     while i < end {
-        let row = pending[i];
-        let has = is_pending(row);
+        let has = is_pending(&pending[i]);
         counted = one_more(counted, has);
         i += 1;
     }
@@ -164,8 +159,7 @@ pub(crate) fn next_pending(
     let mut best = not_yet();
     let mut i: usize = 0;
     while i < end {
-        let row = pending[i];
-        best = pending_turn(question, peer, cursor, best, row, i);
+        best = pending_turn(question, &peer, cursor, best, &pending[i], i);
         i += 1;
     }
     best
@@ -188,10 +182,9 @@ pub(crate) fn survey_pending(
     let mut first = start;
     let mut i: usize = 0;
     while i < end {
-        let row = pending[i];
-        let has = is_pending(row);
+        let has = is_pending(&pending[i]);
         used = one_more(used, has);
-        first = pending_turn(question, peer, start, first, row, i);
+        first = pending_turn(question, &peer, start, first, &pending[i], i);
         i += 1;
     }
     surveyed(used, first)
@@ -206,8 +199,7 @@ pub(crate) fn pending_work(pending: &[RelayPending], places: Places, question: W
     let mut work = no_work();
     let mut i: usize = 0;
     while i < end {
-        let row = pending[i];
-        work = pending_worked(work, row, question);
+        work = pending_worked(work, &pending[i], &question);
         i += 1;
     }
     work
@@ -236,8 +228,7 @@ pub(crate) fn trim_pending(pending: &[RelayPending], places: Places) -> usize
     let mut n = min_usize(places.pending, size);
     while 0 < n {
         let last = n - 1;
-        let row = pending[last];
-        if is_pending(row) {
+        if is_pending(&pending[last]) {
             return n;
         }
         n = last;

@@ -1,5 +1,5 @@
-// What a walk asks of each pending record and circuit, and which actions a call drops, by value. The peer that is asked
-// for stands beside it.
+// What a walk asks of each pending record and circuit where it stands, and which actions a call drops. The peer that is
+// asked for stands beside it.
 ghost use mathlib.Core.Path.{_≡_};
 ghost use Rattle.hnsr_circuit.specs.Code.Question.{pendingHas, circuitHas, actionHas};
 use crate::peer::HnsrPeerId;
@@ -32,8 +32,8 @@ pub enum ActionsDropped {
     Toward,
 }
 
-pub(crate) fn pending_has(row: RelayPending, question: RecordQuestion, peer: HnsrPeerId) -> bool
-    ensures { λ r. ⌜ r ≡ pendingHas question peer row ⌝ }
+pub(crate) fn pending_has(row: &RelayPending, question: RecordQuestion, peer: &HnsrPeerId) -> bool
+    ensures { λ r. ⌜ r ≡ pendingHas question (now (peer .entry)) (now (row .entry)) ⌝ }
 {
     match question {
         RecordQuestion::Used => is_pending(row),
@@ -43,8 +43,8 @@ pub(crate) fn pending_has(row: RelayPending, question: RecordQuestion, peer: Hns
     }
 }
 
-pub(crate) fn circuit_has(row: RelayCircuit, question: RecordQuestion, peer: HnsrPeerId) -> bool
-    ensures { λ r. ⌜ r ≡ circuitHas question peer row ⌝ }
+pub(crate) fn circuit_has(row: &RelayCircuit, question: RecordQuestion, peer: &HnsrPeerId) -> bool
+    ensures { λ r. ⌜ r ≡ circuitHas question (now (peer .entry)) (now (row .entry)) ⌝ }
 {
     match question {
         RecordQuestion::Used => is_circuit(row),
@@ -54,8 +54,8 @@ pub(crate) fn circuit_has(row: RelayCircuit, question: RecordQuestion, peer: Hns
     }
 }
 
-pub(crate) fn action_has(row: InflightAction, dropped: ActionsDropped, peer: HnsrPeerId) -> bool
-    ensures { λ r. ⌜ r ≡ actionHas dropped peer row ⌝ }
+pub(crate) fn action_has(row: &InflightAction, dropped: ActionsDropped, peer: &HnsrPeerId) -> bool
+    ensures { λ r. ⌜ r ≡ actionHas dropped (now (peer .entry)) (now (row .entry)) ⌝ }
 {
     match dropped {
         ActionsDropped::Every => is_action(row),

@@ -1,5 +1,5 @@
-// What scans of a table find, and one turn of each, by value: what it makes of what was found so far and of one more
-// record.
+// What scans of a table find, and one turn of each: what it makes of what was found so far and of one more record. A
+// record that is compared by its names is read where it stands.
 ghost use mathlib.Core.Path.{_≡_};
 ghost use mathlib.Core.Bool.{cond, true, _&&_};
 ghost use Prim.Native.Nat.{_+_, _<_};
@@ -10,12 +10,12 @@ ghost use Rattle.hnsr_circuit.specs.Pending.{pendingId, isPending};
 ghost use Rattle.hnsr_circuit.specs.Circuits.{circuitId, isCircuit};
 ghost use Rattle.hnsr_circuit.specs.Code.Question.{pendingHas, circuitHas};
 ghost use Rattle.hnsr_circuit.specs.Ledger.{isUsage};
+ghost use Rattle.hnsr_circuit.specs.Inflight.{actionToward};
 ghost use Rattle.hnsr_circuit.specs.NextDue.{earlier, dueTurn, deadlineOf, expiryOf, usageExpiryOf};
 ghost use Rattle.hnsr_circuit.specs.Code.Turns.{noWork, workOn, WorkAtMost, pendingWorked, circuitWorked};
 ghost use Rattle.hnsr_circuit.specs.Code.Turns.{noTotals, totalled, TallyAtMost, noScan, firstPlace};
 ghost use Rattle.hnsr_circuit.specs.Code.Turns.{tallyOn, scanned, noLedgerScan, usageScanned};
 use crate::peer::HnsrPeerId;
-use crate::peer::same_peer_in_scan;
 use crate::records::InflightAction;
 use crate::records::RelayCircuit;
 use crate::records::RelayPending;
@@ -23,11 +23,18 @@ use crate::records::ReservationUsage;
 use crate::records::circuits::circuit_is;
 use crate::records::circuits::circuit_of;
 use crate::records::circuits::circuit_under;
+use crate::records::circuits::id_in_circuit;
+use crate::records::circuits::is_circuit;
 use crate::records::circuits::queued_in;
 use crate::records::inflight::action_is;
+use crate::records::inflight::action_toward;
+use crate::records::inflight::circuit_in_action;
+use crate::records::inflight::is_action;
 use crate::records::ledger::is_usage;
 use crate::records::ledger::no_usage;
 use crate::records::ledger::usage_is;
+use crate::records::pending::id_in_pending;
+use crate::records::pending::is_pending;
 use crate::records::pending::pending_is;
 use crate::records::pending::pending_of;
 use crate::records::pending::pending_under;
@@ -76,6 +83,37 @@ pub struct WorkQuestion {
     pub id: u64,
 }
 
+// Its fields, read or lent where it stands.
+pub(crate) fn peer_asked<'a>(q: &'a WorkQuestion) -> &'a HnsrPeerId
+    ensures { λ r. ⌜ now r ≡ now (q .entry) .peer ⌝ }
+{
+    &q.peer
+}
+
+pub(crate) fn other_asked<'a>(q: &'a WorkQuestion) -> &'a HnsrPeerId
+    ensures { λ r. ⌜ now r ≡ now (q .entry) .other ⌝ }
+{
+    &q.other
+}
+
+pub(crate) fn reservation_asked(q: &WorkQuestion) -> ReservationId
+    ensures { λ r. ⌜ r ≡ now (q .entry) .reservation ⌝ }
+{
+    q.reservation
+}
+
+pub(crate) fn context_asked(q: &WorkQuestion) -> u64
+    ensures { λ r. ⌜ r ≡ now (q .entry) .context ⌝ }
+{
+    q.context
+}
+
+pub(crate) fn id_asked(q: &WorkQuestion) -> u64
+    ensures { λ r. ⌜ r ≡ now (q .entry) .id ⌝ }
+{
+    q.id
+}
+
 pub struct Work {
     pub used: usize,
     pub of_peer: usize,
@@ -93,6 +131,37 @@ pub struct ActionQuestion {
     pub peer: HnsrPeerId,
     pub generation: u64,
     pub sequence: u64,
+}
+
+// Its fields, read or lent where it stands.
+pub(crate) fn replacing_asked(q: &ActionQuestion) -> bool
+    ensures { λ r. ⌜ r ≡ now (q .entry) .replacing ⌝ }
+{
+    q.replacing
+}
+
+pub(crate) fn circuit_asked(q: &ActionQuestion) -> u64
+    ensures { λ r. ⌜ r ≡ now (q .entry) .«circuit_id» ⌝ }
+{
+    q.circuit_id
+}
+
+pub(crate) fn destination_asked<'a>(q: &'a ActionQuestion) -> &'a HnsrPeerId
+    ensures { λ r. ⌜ now r ≡ now (q .entry) .peer ⌝ }
+{
+    &q.peer
+}
+
+pub(crate) fn generation_asked(q: &ActionQuestion) -> u64
+    ensures { λ r. ⌜ r ≡ now (q .entry) .generation ⌝ }
+{
+    q.generation
+}
+
+pub(crate) fn sequence_asked(q: &ActionQuestion) -> u64
+    ensures { λ r. ⌜ r ≡ now (q .entry) .sequence ⌝ }
+{
+    q.sequence
 }
 
 pub struct ActionScan {
@@ -187,30 +256,34 @@ fn walked_on(has: bool, cursor: Walked, best: Walked, id: u64, place: usize) -> 
 
 pub(crate) fn pending_turn(
     question: RecordQuestion,
-    peer: HnsrPeerId,
+    peer: &HnsrPeerId,
     cursor: Walked,
     best: Walked,
-    row: RelayPending,
+    row: &RelayPending,
     place: usize,
 ) -> Walked
-    ensures { λ r. ⌜ r ≡ nextTurn pendingId (pendingHas question peer) cursor best row place ⌝ }
+    ensures { λ r. ⌜ r
+        ≡ nextTurn pendingId (pendingHas question (now (peer .entry))) cursor best (now (row .entry)) place ⌝ }
 {
     let has = pending_has(row, question, peer);
-    walked_on(has, cursor, best, row.circuit_id, place)
+    let id = id_in_pending(row);
+    walked_on(has, cursor, best, id, place)
 }
 
 pub(crate) fn circuit_turn(
     question: RecordQuestion,
-    peer: HnsrPeerId,
+    peer: &HnsrPeerId,
     cursor: Walked,
     best: Walked,
-    row: RelayCircuit,
+    row: &RelayCircuit,
     place: usize,
 ) -> Walked
-    ensures { λ r. ⌜ r ≡ nextTurn circuitId (circuitHas question peer) cursor best row place ⌝ }
+    ensures { λ r. ⌜ r
+        ≡ nextTurn circuitId (circuitHas question (now (peer .entry))) cursor best (now (row .entry)) place ⌝ }
 {
     let has = circuit_has(row, question, peer);
-    walked_on(has, cursor, best, row.circuit_id, place)
+    let id = id_in_circuit(row);
+    walked_on(has, cursor, best, id, place)
 }
 
 // ---- how much work there is
@@ -242,31 +315,31 @@ fn work_on(work: Work, peer: bool, other: bool, under: bool, again: bool, is: bo
     }
 }
 
-pub(crate) fn pending_worked(work: Work, row: RelayPending, question: WorkQuestion) -> Work
+pub(crate) fn pending_worked(work: Work, row: &RelayPending, question: &WorkQuestion) -> Work
     requires { ⌜ WorkAtMost 18446744073709551614 work ⌝ }
-    ensures { λ r. ⌜ r ≡ pendingWorked question work row 0 ⌝ }
+    ensures { λ r. ⌜ r ≡ pendingWorked (now (question .entry)) work (now (row .entry)) 0 ⌝ }
 {
-    if row.used {
-        let peer = pending_of(row, question.peer);
-        let other = pending_of(row, question.other);
-        let under = pending_under(row, question.reservation);
-        let again = requested_by(row, question.peer, question.context);
-        let is = pending_is(row, question.id);
+    if is_pending(row) {
+        let peer = pending_of(row, peer_asked(question));
+        let other = pending_of(row, other_asked(question));
+        let under = pending_under(row, reservation_asked(question));
+        let again = requested_by(row, peer_asked(question), context_asked(question));
+        let is = pending_is(row, id_asked(question));
         return work_on(work, peer, other, under, again, is);
     }
     work
 }
 
 // A circuit repeats no OPEN.
-pub(crate) fn circuit_worked(work: Work, row: RelayCircuit, question: WorkQuestion) -> Work
+pub(crate) fn circuit_worked(work: Work, row: &RelayCircuit, question: &WorkQuestion) -> Work
     requires { ⌜ WorkAtMost 18446744073709551614 work ⌝ }
-    ensures { λ r. ⌜ r ≡ circuitWorked question work row 0 ⌝ }
+    ensures { λ r. ⌜ r ≡ circuitWorked (now (question .entry)) work (now (row .entry)) 0 ⌝ }
 {
-    if row.used {
-        let peer = circuit_of(row, question.peer);
-        let other = circuit_of(row, question.other);
-        let under = circuit_under(row, question.reservation);
-        let is = circuit_is(row, question.id);
+    if is_circuit(row) {
+        let peer = circuit_of(row, peer_asked(question));
+        let other = circuit_of(row, other_asked(question));
+        let under = circuit_under(row, reservation_asked(question));
+        let is = circuit_is(row, id_asked(question));
         return work_on(work, peer, other, under, false, is);
     }
     work
@@ -372,16 +445,32 @@ pub(crate) fn first_place(found: bool, here: bool, place: usize, kept: usize) ->
     kept
 }
 
-// A used action in the tally; one that is replaced is counted nowhere.
-fn tally_on(tally: InflightTally, row: InflightAction, question: ActionQuestion) -> InflightTally
-    requires { ⌜ TallyAtMost 18446744073709551614 tally ⌝ }
-    ensures { λ r. ⌜ (row .used ≡ true → r ≡ tallyOn question tally row 0) ⌝ }
+// Whether an action goes to the peer that is asked for. A function of its own: with it a turn would be too large to be
+// compiled into its loop, and what was found so far would go through memory.
+pub(crate) fn toward_asked(row: &InflightAction, question: &ActionQuestion) -> bool
+    ensures { λ r. ⌜ r ≡ actionToward (now (question .entry) .peer) (now (row .entry)) ⌝ }
 {
-    let mine = row.circuit_id == question.circuit_id;
-    if both(question.replacing, mine) {
+    let peer = destination_asked(question);
+    action_toward(row, peer)
+}
+
+// A used action in the tally; one that is replaced is counted nowhere.
+pub(crate) fn tally_on(
+    tally: InflightTally,
+    row: &InflightAction,
+    question: &ActionQuestion,
+    toward: bool,
+) -> InflightTally
+    requires { ⌜ TallyAtMost 18446744073709551614 tally × (toward ≡ actionToward (now question .peer) (now row)) ⌝ }
+    ensures { λ r. ⌜
+        (now (row .entry) .used ≡ true → r ≡ tallyOn (now (question .entry)) tally (now (row .entry)) 0) ⌝ }
+{
+    let id = circuit_in_action(row);
+    let mine = id == circuit_asked(question);
+    let replacing = replacing_asked(question);
+    if both(replacing, mine) {
         return tally;
     }
-    let toward = same_peer_in_scan(row.destination, question.peer);
     InflightTally {
         total: tally.total + 1,
         for_circuit: one_more(tally.for_circuit, mine),
@@ -391,16 +480,18 @@ fn tally_on(tally: InflightTally, row: InflightAction, question: ActionQuestion)
 
 pub(crate) fn action_scanned(
     scan: ActionScan,
-    row: InflightAction,
-    question: ActionQuestion,
+    row: &InflightAction,
+    question: &ActionQuestion,
+    toward: bool,
     place: usize,
 ) -> ActionScan
-    requires { ⌜ TallyAtMost 18446744073709551614 (scan .tally) ⌝ }
-    ensures { λ r. ⌜ r ≡ scanned question scan row place ⌝ }
+    requires { ⌜ TallyAtMost 18446744073709551614 (scan .tally)
+        × (toward ≡ actionToward (now question .peer) (now row)) ⌝ }
+    ensures { λ r. ⌜ r ≡ scanned (now (question .entry)) scan (now (row .entry)) place ⌝ }
 {
-    if row.used {
-        let tally = tally_on(scan.tally, row, question);
-        let is = action_is(row, question.generation, question.sequence);
+    if is_action(row) {
+        let tally = tally_on(scan.tally, row, question, toward);
+        let is = action_is(row, generation_asked(question), sequence_asked(question));
         let found = either(scan.found, is);
         return ActionScan {
             tally,

@@ -1,19 +1,16 @@
--- The used mark, then the test.
+-- The used mark, and the test.
+mod Tie
 mod At
-use Rattle.hnsr_circuit.specs.Circuits.{circuitOver}
+use Rattle.hnsr_circuit.specs.Circuits.{isCircuit, circuitOver}
 use Rattle.hnsr_circuit.proofs.records.circuits.circuit_over.Statement.{statement}
-use Rattle.hnsr_circuit.proofs.records.circuits.circuit_over.Tie as tie
+use Rattle.hnsr_circuit.proofs.records.circuits.circuit_over.Proof.Tie as tie
 use Rattle.hnsr_circuit.proofs.records.circuits.circuit_over.Proof.At as at
 
 returns : tie.Need-returns
-unfolding circuitOver
+unfolding isCircuit circuitOver
 returns c =
     let here = at.returns c in
-    rw (here .if1 .taken)
-
-returns-2 : tie.Need-returns-2
-unfolding circuitOver
-returns-2 c = rw (c .if1 .left)
+    rw (here .both .ensures, here .is-circuit .ensures, here .expiry-in-circuit .ensures)
 
 pub circuit-over-spec : {M : Type 1} → statement M
-circuit-over-spec = tie.close (at.spec returns returns-2)
+circuit-over-spec = tie.close (at.spec returns)

@@ -1,19 +1,23 @@
--- The used mark, then the test.
+-- The used mark, and the test.
+mod Tie
 mod At
-use Rattle.hnsr_circuit.specs.Pending.{pendingOver}
+use Rattle.hnsr_circuit.specs.Pending.{isPending, pendingOver}
 use Rattle.hnsr_circuit.proofs.records.pending.pending_over.Statement.{statement}
-use Rattle.hnsr_circuit.proofs.records.pending.pending_over.Tie as tie
+use Rattle.hnsr_circuit.proofs.records.pending.pending_over.Proof.Tie as tie
 use Rattle.hnsr_circuit.proofs.records.pending.pending_over.Proof.At as at
 
 returns : tie.Need-returns
-unfolding pendingOver
+unfolding isPending pendingOver
 returns c =
     let here = at.returns c in
-    rw (here .if1 .taken) (here .overdue .ensures)
-
-returns-2 : tie.Need-returns-2
-unfolding pendingOver
-returns-2 c = rw (c .if1 .left)
+    rw (
+      here .both .ensures,
+      here .is-pending .ensures,
+      here .either .ensures,
+      here .deadline-in-pending .ensures,
+      here .expiry-in-ticket .ensures,
+      here .ticket-in-pending .ensures,
+    )
 
 pub pending-over-spec : {M : Type 1} → statement M
-pending-over-spec = tie.close (at.spec returns returns-2)
+pending-over-spec = tie.close (at.spec returns)

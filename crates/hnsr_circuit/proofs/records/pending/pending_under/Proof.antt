@@ -1,19 +1,22 @@
--- The used mark, then the test.
+-- The used mark, and the test.
+mod Tie
 mod At
-use Rattle.hnsr_circuit.specs.Pending.{pendingUnder}
+use Rattle.hnsr_circuit.specs.Pending.{isPending, pendingUnder}
 use Rattle.hnsr_circuit.proofs.records.pending.pending_under.Statement.{statement}
-use Rattle.hnsr_circuit.proofs.records.pending.pending_under.Tie as tie
+use Rattle.hnsr_circuit.proofs.records.pending.pending_under.Proof.Tie as tie
 use Rattle.hnsr_circuit.proofs.records.pending.pending_under.Proof.At as at
 
 returns : tie.Need-returns
-unfolding pendingUnder
+unfolding isPending pendingUnder
 returns c =
     let here = at.returns c in
-    rw (here .if1 .taken) (here .same-reservation .ensures)
-
-returns-2 : tie.Need-returns-2
-unfolding pendingUnder
-returns-2 c = rw (c .if1 .left)
+    rw (
+      here .both .ensures,
+      here .is-pending .ensures,
+      here .same-reservation .ensures,
+      here .reservation-in-ticket .ensures,
+      here .ticket-in-pending .ensures,
+    )
 
 pub pending-under-spec : {M : Type 1} → statement M
-pending-under-spec = tie.close (at.spec returns returns-2)
+pending-under-spec = tie.close (at.spec returns)

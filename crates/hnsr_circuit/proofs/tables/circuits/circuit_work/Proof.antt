@@ -47,15 +47,15 @@ loop-holds c =
       omega arith,
       omega arith,
       rw (here .no-work .ensures) (work-none),
-      ap (λ (b : Work). foldFrom (circuitWorked (a .question)) t 0 b) (here .no-work .ensures)
-          ∙ circuit-work (a .question) t,
+      ap (λ (b : Work). foldFrom (circuitWorked (a .t3)) t 0 b) (here .no-work .ensures)
+          ∙ circuit-work (a .t3) t,
     )
 
-mul-row : tie.Need-mul-row Inv-loop μ-loop
-mul-row c = search needs
+mul-circuit-worked : tie.Need-mul-circuit-worked Inv-loop μ-loop
+mul-circuit-worked c = search needs
 
-shared-slice-copy-out-row : tie.Need-shared-slice-copy-out-row Inv-loop μ-loop
-shared-slice-copy-out-row c = search needs
+shared-slice-element-circuit-worked : tie.Need-shared-slice-element-circuit-worked Inv-loop μ-loop
+shared-slice-element-circuit-worked c = search needs
 
 circuit-worked-requires : tie.Need-circuit-worked-requires Inv-loop μ-loop
 circuit-worked-requires c =
@@ -78,9 +78,9 @@ loop-again c =
       omega arith,
       l .inv .1,
       rw (here .circuit-worked .ensures)
-          (circuit-most (a .question) (l .i) (l .work) (getD t (l .i) noCircuit) 0 (l .inv .2)),
-      held-fold-step clearCircuit n t noCircuit (l .i) (omega arith) (omega arith) (circuitWorked (a .question))
-          (l .work) (here .circuit-worked .result) (circuitWork (a .question) (held clearCircuit n t))
+          (circuit-most (a .t3) (l .i) (l .work) (getD t (l .i) noCircuit) 0 (l .inv .2)),
+      held-fold-step clearCircuit n t noCircuit (l .i) (omega arith) (omega arith) (circuitWorked (a .t3))
+          (l .work) (here .circuit-worked .result) (circuitWork (a .t3) (held clearCircuit n t))
           (here .circuit-worked .ensures) (l .inv .3),
     )
 
@@ -91,12 +91,12 @@ returns c =
     let t = a .circuits .now in
     let n = here .min-usize .result in
     let l = here .loop in
-    fold-rest clearCircuit (circuitWorked (a .question)) (circuit-idle (a .question)) n t (l .i) (l .work)
-    (circuitWork (a .question) (held clearCircuit n t)) (λ h. omega arith) (l .inv .3)
-    ∙ ap (λ (s : List RelayCircuit). (circuitWork (a .question) s))
+    fold-rest clearCircuit (circuitWorked (a .t3)) (circuit-idle (a .t3)) n t (l .i) (l .work)
+    (circuitWork (a .t3) (held clearCircuit n t)) (λ h. omega arith) (l .inv .3)
+    ∙ ap (λ (s : List RelayCircuit). (circuitWork (a .t3) s))
     (ap (λ (m : ℕ). held clearCircuit m t) (here .min-usize .ensures) ∙ held-min clearCircuit (a .places .circuits) t)
 
 pub circuit-work-spec : {M : Type 1} → statement M
 circuit-work-spec =
-    tie.close (tie.spec Inv-loop μ-loop min-usize-requires no-work-requires loop-holds mul-row shared-slice-copy-out-row
-    circuit-worked-requires add-i loop-less loop-again returns)
+    tie.close (tie.spec Inv-loop μ-loop min-usize-requires no-work-requires loop-holds mul-circuit-worked
+    shared-slice-element-circuit-worked circuit-worked-requires add-i loop-less loop-again returns)

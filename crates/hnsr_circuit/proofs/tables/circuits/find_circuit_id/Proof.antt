@@ -38,11 +38,11 @@ loop-holds c =
       zero-add (placeOf (circuitAt (a .id)) (held clearCircuit (here .min-usize .result) (a .circuits .now))),
     )
 
-mul-row : tie.Need-mul-row Inv-loop μ-loop
-mul-row c = search needs
+mul-circuit-is : tie.Need-mul-circuit-is Inv-loop μ-loop
+mul-circuit-is c = search needs
 
-shared-slice-copy-out-row : tie.Need-shared-slice-copy-out-row Inv-loop μ-loop
-shared-slice-copy-out-row c = search needs
+shared-slice-element-circuit-is : tie.Need-shared-slice-element-circuit-is Inv-loop μ-loop
+shared-slice-element-circuit-is c = search needs
 
 circuit-is-requires : tie.Need-circuit-is-requires Inv-loop μ-loop
 circuit-is-requires c = search needs
@@ -99,5 +99,5 @@ returns-2 c =
 
 pub find-circuit-id-spec : {M : Type 1} → statement M
 find-circuit-id-spec =
-    tie.close (tie.spec Inv-loop μ-loop min-usize-requires loop-holds mul-row shared-slice-copy-out-row
+    tie.close (tie.spec Inv-loop μ-loop min-usize-requires loop-holds mul-circuit-is shared-slice-element-circuit-is
     circuit-is-requires returns add-i loop-less loop-again returns-2)

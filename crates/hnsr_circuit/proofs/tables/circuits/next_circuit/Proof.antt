@@ -22,14 +22,14 @@ use Rattle.hnsr_circuit.proofs.tables.circuits.next_circuit.Proof.Tie a
 use Rattle.hnsr_circuit.proofs.tables.circuits.next_circuit.Proof.At as at
 
 abbrev Inv-loop : tie.InvT-loop
-Inv-loop circuits question peer cursor size₀ end₀ best₀ i₀ best i =
+Inv-loop circuits question cursor peer size₀ end₀ best₀ i₀ best i =
     (i ≤ end₀)
     × (end₀ ≤ length circuits)
     × (foldFrom (nextTurn circuitId (circuitHas question peer) cursor) (drop i (held clearCircuit end₀ circuits)) i best
     ≡ (next circuitId (circuitHas question peer) cursor (held clearCircuit end₀ circuits)))
 
 abbrev μ-loop : tie.MeasureT-loop
-μ-loop circuits question peer cursor size₀ end₀ best₀ i₀ best i = length circuits - i
+μ-loop circuits question cursor peer size₀ end₀ best₀ i₀ best i = length circuits - i
 
 min-usize-requires : tie.Need-min-usize-requires Inv-loop μ-loop
 min-usize-requires c = search needs
@@ -45,15 +45,15 @@ loop-holds c =
     let t = held clearCircuit (here .min-usize .result) (a .circuits .now) in (
       omega arith,
       omega arith,
-      ap (λ (b : Walked). foldFrom (nextTurn circuitId (circuitHas (a .question) (a .peer)) (a .cursor)) t 0 b)
+      ap (λ (b : Walked). foldFrom (nextTurn circuitId (circuitHas (a .question) (a .t4)) (a .cursor)) t 0 b)
           (here .not-yet .ensures),
     )
 
-mul-row : tie.Need-mul-row Inv-loop μ-loop
-mul-row c = search needs
+mul-circuit-turn : tie.Need-mul-circuit-turn Inv-loop μ-loop
+mul-circuit-turn c = search needs
 
-shared-slice-copy-out-row : tie.Need-shared-slice-copy-out-row Inv-loop μ-loop
-shared-slice-copy-out-row c = search needs
+shared-slice-element-circuit-turn : tie.Need-shared-slice-element-circuit-turn Inv-loop μ-loop
+shared-slice-element-circuit-turn c = search needs
 
 circuit-turn-requires : tie.Need-circuit-turn-requires Inv-loop μ-loop
 circuit-turn-requires c = search needs
@@ -74,8 +74,8 @@ loop-again c =
       omega arith,
       l .inv .1,
       held-fold-step clearCircuit n t noCircuit (l .i) (omega arith) (omega arith)
-          (nextTurn circuitId (circuitHas (a .question) (a .peer)) (a .cursor)) (l .best) (here .circuit-turn .result)
-          (next circuitId (circuitHas (a .question) (a .peer)) (a .cursor) (held clearCircuit n t))
+          (nextTurn circuitId (circuitHas (a .question) (a .t4)) (a .cursor)) (l .best) (here .circuit-turn .result)
+          (next circuitId (circuitHas (a .question) (a .t4)) (a .cursor) (held clearCircuit n t))
           (here .circuit-turn .ensures) (l .inv .2),
     )
 
@@ -86,15 +86,15 @@ returns c =
     let t = a .circuits .now in
     let n = here .min-usize .result in
     let l = here .loop in
-    fold-rest clearCircuit (nextTurn circuitId (circuitHas (a .question) (a .peer)) (a .cursor))
-    (next-idle clearCircuit circuitId (circuitHas (a .question) (a .peer))
-    (circuit-unmarked (a .question) (a .peer)) (a .cursor)) n t (l .i) (l .best)
-    (next circuitId (circuitHas (a .question) (a .peer)) (a .cursor) (held clearCircuit n t))
+    fold-rest clearCircuit (nextTurn circuitId (circuitHas (a .question) (a .t4)) (a .cursor))
+    (next-idle clearCircuit circuitId (circuitHas (a .question) (a .t4))
+    (circuit-unmarked (a .question) (a .t4)) (a .cursor)) n t (l .i) (l .best)
+    (next circuitId (circuitHas (a .question) (a .t4)) (a .cursor) (held clearCircuit n t))
     (λ h. omega arith) (l .inv .2)
-    ∙ ap (λ (s : List RelayCircuit). (next circuitId (circuitHas (a .question) (a .peer)) (a .cursor) s))
+    ∙ ap (λ (s : List RelayCircuit). (next circuitId (circuitHas (a .question) (a .t4)) (a .cursor) s))
     (ap (λ (m : ℕ). held clearCircuit m t) (here .min-usize .ensures) ∙ held-min clearCircuit (a .places .circuits) t)
 
 pub next-circuit-spec : {M : Type 1} → statement M
 next-circuit-spec =
-    tie.close (tie.spec Inv-loop μ-loop min-usize-requires not-yet-requires loop-holds mul-row shared-slice-copy-out-row
-    circuit-turn-requires add-i loop-less loop-again returns)
+    tie.close (tie.spec Inv-loop μ-loop min-usize-requires not-yet-requires loop-holds mul-circuit-turn
+    shared-slice-element-circuit-turn circuit-turn-requires add-i loop-less loop-again returns)

@@ -36,11 +36,11 @@ loop-holds c =
     let t = held clearCircuit (here .min-usize .result) (a .circuits .now) in
     (omega arith, omega arith, zero-add (placeOf (non isCircuit) t))
 
-mul-row : tie.Need-mul-row Inv-loop μ-loop
-mul-row c = search needs
+mul-is-circuit : tie.Need-mul-is-circuit Inv-loop μ-loop
+mul-is-circuit c = search needs
 
-shared-slice-copy-out-row : tie.Need-shared-slice-copy-out-row Inv-loop μ-loop
-shared-slice-copy-out-row c = search needs
+shared-slice-element-is-circuit : tie.Need-shared-slice-element-is-circuit Inv-loop μ-loop
+shared-slice-element-is-circuit c = search needs
 
 is-circuit-requires : tie.Need-is-circuit-requires Inv-loop μ-loop
 is-circuit-requires c = search needs
@@ -100,5 +100,6 @@ returns-2 c =
     ∙ ap (placeOf p) seen
 
 pub spare-circuit-spec : {M : Type 1} → statement M
-spare-circuit-spec = tie.close (tie.spec Inv-loop μ-loop min-usize-requires loop-holds mul-row
-    shared-slice-copy-out-row is-circuit-requires no-requires returns add-i loop-less loop-again returns-2)
+spare-circuit-spec =
+    tie.close (tie.spec Inv-loop μ-loop min-usize-requires loop-holds mul-is-circuit shared-slice-element-is-circuit
+    is-circuit-requires no-requires returns add-i loop-less loop-again returns-2)

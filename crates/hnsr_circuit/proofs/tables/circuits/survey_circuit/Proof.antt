@@ -55,15 +55,21 @@ loop-holds c =
       omega arith,
       zero-add (count isCircuit t),
       ap (λ (b : Walked).
-          foldFrom (nextTurn circuitId (circuitHas (a .question) (a .peer)) (here .not-yet .result)) t 0 b)
+          foldFrom (nextTurn circuitId (circuitHas (a .question) (a .t4)) (here .not-yet .result)) t 0 b)
           (here .not-yet .ensures),
     )
 
-mul-row : tie.Need-mul-row Inv-loop μ-loop
-mul-row c = search needs
+mul-is-circuit : tie.Need-mul-is-circuit Inv-loop μ-loop
+mul-is-circuit c = search needs
 
-shared-slice-copy-out-row : tie.Need-shared-slice-copy-out-row Inv-loop μ-loop
-shared-slice-copy-out-row c = search needs
+shared-slice-element-is-circuit : tie.Need-shared-slice-element-is-circuit Inv-loop μ-loop
+shared-slice-element-is-circuit c = search needs
+
+mul-circuit-turn : tie.Need-mul-circuit-turn Inv-loop μ-loop
+mul-circuit-turn c = search needs
+
+shared-slice-element-circuit-turn : tie.Need-shared-slice-element-circuit-turn Inv-loop μ-loop
+shared-slice-element-circuit-turn c = search needs
 
 is-circuit-requires : tie.Need-is-circuit-requires Inv-loop μ-loop
 is-circuit-requires c = search needs
@@ -96,8 +102,8 @@ loop-again c =
           (count isCircuit (held clearCircuit n t)) (l .used) (here .one-more .result)
           (here .one-more .ensures ∙ ap (λ (b : Bool). l .used + cond b 1 0) (h .ensures)) (l .inv .3),
       held-fold-step clearCircuit n t noCircuit (l .i) (omega arith) (omega arith)
-          (nextTurn circuitId (circuitHas (a .question) (a .peer)) start) (l .first) (here .circuit-turn .result)
-          (next circuitId (circuitHas (a .question) (a .peer)) start (held clearCircuit n t))
+          (nextTurn circuitId (circuitHas (a .question) (a .t4)) start) (l .first) (here .circuit-turn .result)
+          (next circuitId (circuitHas (a .question) (a .t4)) start (held clearCircuit n t))
           (here .circuit-turn .ensures) (l .inv .4),
     )
 
@@ -112,7 +118,7 @@ returns c =
     let t = a .circuits .now in
     let n = here .min-usize .result in
     let l = here .loop in
-    let q = circuitHas (a .question) (a .peer) in
+    let q = circuitHas (a .question) (a .t4) in
     let start = here .not-yet .result in
     let seen = ap (λ (m : ℕ). held clearCircuit m t) (here .min-usize .ensures)
     ∙ held-min clearCircuit (a .places .circuits) t in (
@@ -122,12 +128,13 @@ returns c =
           ∙ ap (count isCircuit) seen,
       here .surveyed .ensures .1
           ∙ fold-rest clearCircuit (nextTurn circuitId q start)
-          (next-idle clearCircuit circuitId q (circuit-unmarked (a .question) (a .peer)) start) n t (l .i) (l .first)
+          (next-idle clearCircuit circuitId q (circuit-unmarked (a .question) (a .t4)) start) n t (l .i) (l .first)
           (next circuitId q start (held clearCircuit n t)) (λ h. omega arith) (l .inv .4)
           ∙ (λ x. next circuitId q (here .not-yet .ensures x) (seen x)),
     )
 
 pub survey-circuit-spec : {M : Type 1} → statement M
 survey-circuit-spec =
-    tie.close (tie.spec Inv-loop μ-loop min-usize-requires not-yet-requires loop-holds mul-row shared-slice-copy-out-row
-    is-circuit-requires one-more-requires circuit-turn-requires add-i loop-less loop-again surveyed-requires returns)
+    tie.close (tie.spec Inv-loop μ-loop min-usize-requires not-yet-requires loop-holds mul-is-circuit
+    shared-slice-element-is-circuit is-circuit-requires one-more-requires mul-circuit-turn
+    shared-slice-element-circuit-turn circuit-turn-requires add-i loop-less loop-again surveyed-requires returns)

@@ -29,11 +29,11 @@ loop-holds c = (omega arith, refl)
 sub-last : tie.Need-sub-last Inv-loop μ-loop
 sub-last c = search needs
 
-mul-row : tie.Need-mul-row Inv-loop μ-loop
-mul-row c = search needs
+mul-is-circuit : tie.Need-mul-is-circuit Inv-loop μ-loop
+mul-is-circuit c = search needs
 
-shared-slice-copy-out-row : tie.Need-shared-slice-copy-out-row Inv-loop μ-loop
-shared-slice-copy-out-row c = search needs
+shared-slice-element-is-circuit : tie.Need-shared-slice-element-is-circuit Inv-loop μ-loop
+shared-slice-element-is-circuit c = search needs
 
 is-circuit-requires : tie.Need-is-circuit-requires Inv-loop μ-loop
 is-circuit-requires c = search needs
@@ -71,5 +71,5 @@ returns-2 c =
 
 pub trim-circuits-spec : {M : Type 1} → statement M
 trim-circuits-spec =
-    tie.close (tie.spec Inv-loop μ-loop min-usize-requires loop-holds sub-last mul-row shared-slice-copy-out-row
-    is-circuit-requires returns loop-less loop-again returns-2)
+    tie.close (tie.spec Inv-loop μ-loop min-usize-requires loop-holds sub-last mul-is-circuit
+    shared-slice-element-is-circuit is-circuit-requires returns loop-less loop-again returns-2)

@@ -35,11 +35,11 @@ min-usize-requires c = search needs
 loop-holds : tie.Need-loop-holds Inv-loop μ-loop
 loop-holds c = (omega arith, omega arith, refl, refl)
 
-mul-row : tie.Need-mul-row Inv-loop μ-loop
-mul-row c = search needs
+mul-action-has : tie.Need-mul-action-has Inv-loop μ-loop
+mul-action-has c = search needs
 
-slice-copy-out-row : tie.Need-slice-copy-out-row Inv-loop μ-loop
-slice-copy-out-row c = search needs
+index-1-action-has : tie.Need-index-1-action-has Inv-loop μ-loop
+index-1-action-has c = search needs
 
 action-has-requires : tie.Need-action-has-requires Inv-loop μ-loop
 action-has-requires c = search needs
@@ -69,8 +69,8 @@ loop-again c =
       l .inv .1,
       k ∙ l .inv .2,
       held-clear-step clearAction n (l .inflight) noAction (l .i) (omega arith) (omega arith)
-          (actionHas (a .dropped) (a .peer)) (h .result) (s .last .0)
-          (clear clearAction (actionHas (a .dropped) (a .peer)) (held clearAction n t)) (h .ensures)
+          (actionHas (a .dropped) (a .t4)) (h .result) (s .last .0)
+          (clear clearAction (actionHas (a .dropped) (a .t4)) (held clearAction n t)) (h .ensures)
           (s .ensures) (l .inv .3),
     )
 
@@ -87,12 +87,12 @@ returns c =
     sym (ap (λ (m : ℕ). held clearAction m (l .inflight))
     (here .min-usize .ensures ∙ ap (min (a .places .actions)) (sym (l .inv .2)))
     ∙ held-min clearAction (a .places .actions) (l .inflight))
-    ∙ clear-rest clearAction (actionHas (a .dropped) (a .peer)) (λ x. refl) n (l .inflight) (l .i)
-    (clear clearAction (actionHas (a .dropped) (a .peer)) (held clearAction n t)) (λ h. omega arith) (l .inv .3)
-    ∙ ap (clear clearAction (actionHas (a .dropped) (a .peer)))
+    ∙ clear-rest clearAction (actionHas (a .dropped) (a .t4)) (λ x. refl) n (l .inflight) (l .i)
+    (clear clearAction (actionHas (a .dropped) (a .t4)) (held clearAction n t)) (λ h. omega arith) (l .inv .3)
+    ∙ ap (clear clearAction (actionHas (a .dropped) (a .t4)))
     (ap (λ (m : ℕ). held clearAction m t) (here .min-usize .ensures) ∙ held-min clearAction (a .places .actions) t)
 
 pub clear-action-spec : {M : Type 1} → statement M
 clear-action-spec =
-    tie.close (tie.spec Inv-loop μ-loop min-usize-requires loop-holds mul-row slice-copy-out-row action-has-requires
-    unmark-action-requires add-i loop-less loop-again same-length returns)
+    tie.close (tie.spec Inv-loop μ-loop min-usize-requires loop-holds mul-action-has index-1-action-has
+    action-has-requires unmark-action-requires add-i loop-less loop-again same-length returns)

@@ -18,7 +18,7 @@ use Rattle.hnsr_circuit.specs.declared.tables.scan.ActionScan.{ActionSca
 use Rattle.hnsr_circuit.specs.Laws.Turns.{tally-more, tally-none, tally-most, scan-fold}
 use Rattle.hnsr_circuit.specs.Laws.HeldTables.{scan-rest}
 use Rattle.hnsr_circuit.specs.Laws.Held.{length-held, held-min, held-at, clear-rest, held-clear-step}
-use Rattle.hnsr_circuit.specs.Laws.Scans.{map-here}
+use Rattle.hnsr_circuit.specs.Laws.Scans.{map-here, stored-there}
 use Rattle.hnsr_circuit.specs.declared.records.InflightAction.{InflightAction}
 use Rattle.hnsr_circuit.proofs.tables.inflight.drop_and_scan.Statement.{statement}
 use Rattle.hnsr_circuit.proofs.tables.inflight.drop_and_scan.Proof.Tie as tie
@@ -55,25 +55,37 @@ loop-holds c =
       refl,
       rw (here .no-scan .ensures) (tally-none),
       refl,
-      ap (λ (b : ActionScan). foldFrom (scanned (a .question)) u 0 b)
+      ap (λ (b : ActionScan). foldFrom (scanned (a .t4)) u 0 b)
           (here .no-scan .ensures
           ∙ ap noScan
           (sym
           (length-map t (cleared clearAction (actionUnder (a .id))) ∙ length-held clearAction n (a .inflight .now))))
-          ∙ scan-fold (a .question) u,
+          ∙ scan-fold (a .t4) u,
     )
 
-mul-row : tie.Need-mul-row Inv-loop μ-loop
-mul-row c = search needs
+mul-action-under : tie.Need-mul-action-under Inv-loop μ-loop
+mul-action-under c = search needs
 
-slice-copy-out-row : tie.Need-slice-copy-out-row Inv-loop μ-loop
-slice-copy-out-row c = search needs
+index-1-action-under : tie.Need-index-1-action-under Inv-loop μ-loop
+index-1-action-under c = search needs
+
+mul-toward-asked : tie.Need-mul-toward-asked Inv-loop μ-loop
+mul-toward-asked c = search needs
+
+index-1-toward-asked : tie.Need-index-1-toward-asked Inv-loop μ-loop
+index-1-toward-asked c = search needs
+
+toward-asked-requires : tie.Need-toward-asked-requires Inv-loop μ-loop
+toward-asked-requires c = search needs
+
+mul-action-scanned : tie.Need-mul-action-scanned Inv-loop μ-loop
+mul-action-scanned c = search needs
+
+index-1-action-scanned : tie.Need-index-1-action-scanned Inv-loop μ-loop
+index-1-action-scanned c = search needs
 
 action-under-requires : tie.Need-action-under-requires Inv-loop μ-loop
 action-under-requires c = search needs
-
-action-left-requires : tie.Need-action-left-requires Inv-loop μ-loop
-action-left-requires c = search needs
 
 unmark-action-requires : tie.Need-unmark-action-requires Inv-loop μ-loop
 unmark-action-requires c = search needs
@@ -81,7 +93,10 @@ unmark-action-requires c = search needs
 action-scanned-requires : tie.Need-action-scanned-requires Inv-loop μ-loop
 action-scanned-requires c =
     let here = at.action-scanned-requires Inv-loop μ-loop c in
-    λ κs. tally-more (here .loop .i) 18446744073709551614 (here .loop .scan .tally) (omega arith) (here .loop .inv .3)
+    λ κs. (
+      tally-more (here .loop .i) 18446744073709551614 (here .loop .scan .tally) (omega arith) (here .loop .inv .3),
+      here .toward-asked .ensures,
+    )
 
 add-i : tie.Need-add-i Inv-loop μ-loop
 add-i c = search needs
@@ -96,7 +111,7 @@ unfolding dropped
 loop-again c =
     let here = at.loop-again Inv-loop μ-loop c in
     let a = here .start .args in
-    let q = a .question in
+    let q = a .t4 in
     let n = here .min-usize .result in
     let l = here .loop in
     let less = here .loop-test .taken in
@@ -109,8 +124,11 @@ loop-again c =
     let k = s .kept .0 in
     let has = here .action-under .ensures in
     let inside : l .i < length (held clearAction n t) = rw (length-held clearAction n t) (omega arith) in
-    let left : here .action-left .result ≡ getD u (l .i) noAction =
-    here .action-left .ensures ∙ ap (λ (b : Bool). cond b (clearAction row) row) has
+    let there = getD (s .last .0) (l .i) noAction in
+    let left : there ≡ getD u (l .i) noAction =
+    ap (λ (x : List InflightAction). getD x (l .i) noAction) (s .ensures)
+    ∙ stored-there (here .action-under .result) t (l .i) (clearAction row) noAction (omega arith)
+    ∙ ap (λ (b : Bool). cond b (clearAction row) row) has
     ∙ ap (cleared clearAction d) (sym (held-at clearAction n t (l .i) noAction (omega arith)))
     ∙ sym (map-here (cleared clearAction d) (held clearAction n t) noAction (l .i) inside)
     ∙ ap (λ (x : List InflightAction). getD x (l .i) noAction) (l .inv .4) in
@@ -123,7 +141,7 @@ loop-again c =
       l .inv .1,
       k ∙ l .inv .2,
       rw (here .action-scanned .ensures)
-          (tally-most q (l .i) (l .scan .tally) (here .action-left .result) (l .i) (l .inv .3)),
+          (tally-most q (l .i) (l .scan .tally) there (l .i) (l .inv .3)),
       held-clear-step clearAction n t noAction (l .i) (omega arith) (omega arith) d (here .action-under .result)
           (s .last .0) u has (s .ensures) (l .inv .4),
       fold-step (scanned q) u noAction (l .i) (l .scan) (here .action-scanned .result) (actionsScanned q u) long
@@ -141,7 +159,7 @@ unfolding dropped
 returns c =
     let here = at.returns Inv-loop μ-loop c in
     let a = here .start .args in
-    let q = a .question in
+    let q = a .t4 in
     let n = here .min-usize .result in
     let l = here .loop in
     let d = actionUnder (a .id) in
@@ -165,6 +183,7 @@ returns c =
 
 pub drop-and-scan-spec : {M : Type 1} → statement M
 drop-and-scan-spec =
-    tie.close (tie.spec Inv-loop μ-loop min-usize-requires no-scan-requires loop-holds mul-row slice-copy-out-row
-    action-under-requires action-left-requires unmark-action-requires action-scanned-requires add-i loop-less loop-again
+    tie.close (tie.spec Inv-loop μ-loop min-usize-requires no-scan-requires loop-holds mul-action-under
+    index-1-action-under action-under-requires unmark-action-requires mul-toward-asked index-1-toward-asked
+    toward-asked-requires mul-action-scanned index-1-action-scanned action-scanned-requires add-i loop-less loop-again
     spared-requires same-length returns)

@@ -40,11 +40,11 @@ loop-holds c =
           (held clearAction (here .min-usize .result) (a .inflight .now))),
     )
 
-mul-row : tie.Need-mul-row Inv-loop μ-loop
-mul-row c = search needs
+mul-action-is : tie.Need-mul-action-is Inv-loop μ-loop
+mul-action-is c = search needs
 
-shared-slice-copy-out-row : tie.Need-shared-slice-copy-out-row Inv-loop μ-loop
-shared-slice-copy-out-row c = search needs
+shared-slice-element-action-is : tie.Need-shared-slice-element-action-is Inv-loop μ-loop
+shared-slice-element-action-is c = search needs
 
 action-is-requires : tie.Need-action-is-requires Inv-loop μ-loop
 action-is-requires c = search needs
@@ -103,5 +103,5 @@ returns-2 c =
 
 pub find-action-spec : {M : Type 1} → statement M
 find-action-spec =
-    tie.close (tie.spec Inv-loop μ-loop min-usize-requires loop-holds mul-row shared-slice-copy-out-row
+    tie.close (tie.spec Inv-loop μ-loop min-usize-requires loop-holds mul-action-is shared-slice-element-action-is
     action-is-requires returns add-i loop-less loop-again returns-2)

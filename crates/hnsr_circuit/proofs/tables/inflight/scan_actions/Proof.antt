@@ -44,22 +44,34 @@ loop-holds c =
       omega arith,
       omega arith,
       rw (here .no-scan .ensures) (tally-none),
-      ap (λ (b : ActionScan). foldFrom (scanned (a .question)) t 0 b)
+      ap (λ (b : ActionScan). foldFrom (scanned (a .t3)) t 0 b)
           (here .no-scan .ensures
           ∙ ap noScan (sym (length-held clearAction (here .min-usize .result) (a .inflight .now))))
-          ∙ scan-fold (a .question) t,
+          ∙ scan-fold (a .t3) t,
     )
 
-mul-row : tie.Need-mul-row Inv-loop μ-loop
-mul-row c = search needs
+mul-toward-asked : tie.Need-mul-toward-asked Inv-loop μ-loop
+mul-toward-asked c = search needs
 
-shared-slice-copy-out-row : tie.Need-shared-slice-copy-out-row Inv-loop μ-loop
-shared-slice-copy-out-row c = search needs
+shared-slice-element-toward-asked : tie.Need-shared-slice-element-toward-asked Inv-loop μ-loop
+shared-slice-element-toward-asked c = search needs
+
+toward-asked-requires : tie.Need-toward-asked-requires Inv-loop μ-loop
+toward-asked-requires c = search needs
+
+mul-action-scanned : tie.Need-mul-action-scanned Inv-loop μ-loop
+mul-action-scanned c = search needs
+
+shared-slice-element-action-scanned : tie.Need-shared-slice-element-action-scanned Inv-loop μ-loop
+shared-slice-element-action-scanned c = search needs
 
 action-scanned-requires : tie.Need-action-scanned-requires Inv-loop μ-loop
 action-scanned-requires c =
     let here = at.action-scanned-requires Inv-loop μ-loop c in
-    λ κs. tally-more (here .loop .i) 18446744073709551614 (here .loop .scan .tally) (omega arith) (here .loop .inv .2)
+    λ κs. (
+      tally-more (here .loop .i) 18446744073709551614 (here .loop .scan .tally) (omega arith) (here .loop .inv .2),
+      here .toward-asked .ensures,
+    )
 
 add-i : tie.Need-add-i Inv-loop μ-loop
 add-i c = search needs
@@ -77,9 +89,9 @@ loop-again c =
       omega arith,
       l .inv .1,
       rw (here .action-scanned .ensures)
-          (tally-most (a .question) (l .i) (l .scan .tally) (getD t (l .i) noAction) (l .i) (l .inv .2)),
-      held-fold-step clearAction n t noAction (l .i) (omega arith) (omega arith) (scanned (a .question)) (l .scan)
-          (here .action-scanned .result) (actionsScanned (a .question) (held clearAction n t))
+          (tally-most (a .t3) (l .i) (l .scan .tally) (getD t (l .i) noAction) (l .i) (l .inv .2)),
+      held-fold-step clearAction n t noAction (l .i) (omega arith) (omega arith) (scanned (a .t3)) (l .scan)
+          (here .action-scanned .result) (actionsScanned (a .t3) (held clearAction n t))
           (here .action-scanned .ensures) (l .inv .3),
     )
 
@@ -94,12 +106,13 @@ returns c =
     let n = here .min-usize .result in
     let l = here .loop in
     here .spared .ensures
-    ∙ scan-rest (a .question) n t (l .i) (l .scan) (actionsScanned (a .question) (held clearAction n t))
+    ∙ scan-rest (a .t3) n t (l .i) (l .scan) (actionsScanned (a .t3) (held clearAction n t))
     (λ h. omega arith) (omega arith) (l .inv .3)
-    ∙ ap (actionsScanned (a .question))
+    ∙ ap (actionsScanned (a .t3))
     (ap (λ (m : ℕ). held clearAction m t) (here .min-usize .ensures) ∙ held-min clearAction (a .places .actions) t)
 
 pub scan-actions-spec : {M : Type 1} → statement M
 scan-actions-spec =
-    tie.close (tie.spec Inv-loop μ-loop min-usize-requires no-scan-requires loop-holds mul-row shared-slice-copy-out-row
+    tie.close (tie.spec Inv-loop μ-loop min-usize-requires no-scan-requires loop-holds mul-toward-asked
+    shared-slice-element-toward-asked toward-asked-requires mul-action-scanned shared-slice-element-action-scanned
     action-scanned-requires add-i loop-less loop-again spared-requires returns)

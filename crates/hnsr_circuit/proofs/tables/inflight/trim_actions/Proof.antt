@@ -29,11 +29,11 @@ loop-holds c = (omega arith, refl)
 sub-last : tie.Need-sub-last Inv-loop μ-loop
 sub-last c = search needs
 
-mul-row : tie.Need-mul-row Inv-loop μ-loop
-mul-row c = search needs
+mul-is-action : tie.Need-mul-is-action Inv-loop μ-loop
+mul-is-action c = search needs
 
-shared-slice-copy-out-row : tie.Need-shared-slice-copy-out-row Inv-loop μ-loop
-shared-slice-copy-out-row c = search needs
+shared-slice-element-is-action : tie.Need-shared-slice-element-is-action Inv-loop μ-loop
+shared-slice-element-is-action c = search needs
 
 is-action-requires : tie.Need-is-action-requires Inv-loop μ-loop
 is-action-requires c = search needs
@@ -71,5 +71,5 @@ returns-2 c =
 
 pub trim-actions-spec : {M : Type 1} → statement M
 trim-actions-spec =
-    tie.close (tie.spec Inv-loop μ-loop min-usize-requires loop-holds sub-last mul-row shared-slice-copy-out-row
-    is-action-requires returns loop-less loop-again returns-2)
+    tie.close (tie.spec Inv-loop μ-loop min-usize-requires loop-holds sub-last mul-is-action
+    shared-slice-element-is-action is-action-requires returns loop-less loop-again returns-2)

@@ -19,13 +19,13 @@ use Rattle.hnsr_circuit.proofs.tables.pending.count_named.Proof.Tie as 
 use Rattle.hnsr_circuit.proofs.tables.pending.count_named.Proof.At as at
 
 abbrev Inv-loop : tie.InvT-loop
-Inv-loop pending peer context size₀ end₀ counted₀ i₀ counted i =
+Inv-loop pending context peer size₀ end₀ counted₀ i₀ counted i =
     (i ≤ end₀) × (end₀ ≤ length pending) × (counted ≤ i)
     × (counted + count (namedBy peer context) (drop i (held clearPending end₀ pending))
     ≡ count (namedBy peer context) (held clearPending end₀ pending))
 
 abbrev μ-loop : tie.MeasureT-loop
-μ-loop pending peer context size₀ end₀ counted₀ i₀ counted i = length pending - i
+μ-loop pending context peer size₀ end₀ counted₀ i₀ counted i = length pending - i
 
 min-usize-requires : tie.Need-min-usize-requires Inv-loop μ-loop
 min-usize-requires c = search needs
@@ -35,13 +35,13 @@ loop-holds c =
     let here = at.loop-holds Inv-loop μ-loop c in
     let a = here .start .args in
     let t = held clearPending (here .min-usize .result) (a .pending .now) in
-    (omega arith, omega arith, omega arith, zero-add (count (namedBy (a .peer) (a .context)) t))
+    (omega arith, omega arith, omega arith, zero-add (count (namedBy (a .t3) (a .context)) t))
 
-mul-row : tie.Need-mul-row Inv-loop μ-loop
-mul-row c = search needs
+mul-named-by : tie.Need-mul-named-by Inv-loop μ-loop
+mul-named-by c = search needs
 
-shared-slice-copy-out-row : tie.Need-shared-slice-copy-out-row Inv-loop μ-loop
-shared-slice-copy-out-row c = search needs
+shared-slice-element-named-by : tie.Need-shared-slice-element-named-by Inv-loop μ-loop
+shared-slice-element-named-by c = search needs
 
 named-by-requires : tie.Need-named-by-requires Inv-loop μ-loop
 named-by-requires c = search needs
@@ -62,7 +62,7 @@ loop-again c =
     let t = a .pending .now in
     let n = here .min-usize .result in
     let l = here .loop in
-    let p = namedBy (a .peer) (a .context) in
+    let p = namedBy (a .t3) (a .context) in
     let h = here .named-by in (
       omega arith,
       l .inv .1,
@@ -80,7 +80,7 @@ returns c =
     let t = a .pending .now in
     let n = here .min-usize .result in
     let l = here .loop in
-    let p = namedBy (a .peer) (a .context) in
+    let p = namedBy (a .t3) (a .context) in
     let seen = ap (λ (m : ℕ). held clearPending m t) (here .min-usize .ensures)
     ∙ held-min clearPending (a .places .pending) t in
     count-rest clearPending p (λ x. refl) n t (l .i) (l .counted)
@@ -88,5 +88,6 @@ returns c =
     ∙ ap (count p) seen
 
 pub count-named-spec : {M : Type 1} → statement M
-count-named-spec = tie.close (tie.spec Inv-loop μ-loop min-usize-requires loop-holds mul-row
-    shared-slice-copy-out-row named-by-requires one-more-requires add-i loop-less loop-again returns)
+count-named-spec =
+    tie.close (tie.spec Inv-loop μ-loop min-usize-requires loop-holds mul-named-by shared-slice-element-named-by
+    named-by-requires one-more-requires add-i loop-less loop-again returns)

@@ -38,11 +38,11 @@ loop-holds c =
       zero-add (placeOf (pendingAt (a .id)) (held clearPending (here .min-usize .result) (a .pending .now))),
     )
 
-mul-row : tie.Need-mul-row Inv-loop μ-loop
-mul-row c = search needs
+mul-pending-is : tie.Need-mul-pending-is Inv-loop μ-loop
+mul-pending-is c = search needs
 
-shared-slice-copy-out-row : tie.Need-shared-slice-copy-out-row Inv-loop μ-loop
-shared-slice-copy-out-row c = search needs
+shared-slice-element-pending-is : tie.Need-shared-slice-element-pending-is Inv-loop μ-loop
+shared-slice-element-pending-is c = search needs
 
 pending-is-requires : tie.Need-pending-is-requires Inv-loop μ-loop
 pending-is-requires c = search needs
@@ -99,5 +99,5 @@ returns-2 c =
 
 pub find-pending-id-spec : {M : Type 1} → statement M
 find-pending-id-spec =
-    tie.close (tie.spec Inv-loop μ-loop min-usize-requires loop-holds mul-row shared-slice-copy-out-row
+    tie.close (tie.spec Inv-loop μ-loop min-usize-requires loop-holds mul-pending-is shared-slice-element-pending-is
     pending-is-requires returns add-i loop-less loop-again returns-2)

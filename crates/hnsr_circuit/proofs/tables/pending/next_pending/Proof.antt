@@ -22,14 +22,14 @@ use Rattle.hnsr_circuit.proofs.tables.pending.next_pending.Proof.Tie as
 use Rattle.hnsr_circuit.proofs.tables.pending.next_pending.Proof.At as at
 
 abbrev Inv-loop : tie.InvT-loop
-Inv-loop pending question peer cursor size₀ end₀ best₀ i₀ best i =
+Inv-loop pending question cursor peer size₀ end₀ best₀ i₀ best i =
     (i ≤ end₀)
     × (end₀ ≤ length pending)
     × (foldFrom (nextTurn pendingId (pendingHas question peer) cursor) (drop i (held clearPending end₀ pending)) i best
     ≡ (next pendingId (pendingHas question peer) cursor (held clearPending end₀ pending)))
 
 abbrev μ-loop : tie.MeasureT-loop
-μ-loop pending question peer cursor size₀ end₀ best₀ i₀ best i = length pending - i
+μ-loop pending question cursor peer size₀ end₀ best₀ i₀ best i = length pending - i
 
 min-usize-requires : tie.Need-min-usize-requires Inv-loop μ-loop
 min-usize-requires c = search needs
@@ -45,15 +45,15 @@ loop-holds c =
     let t = held clearPending (here .min-usize .result) (a .pending .now) in (
       omega arith,
       omega arith,
-      ap (λ (b : Walked). foldFrom (nextTurn pendingId (pendingHas (a .question) (a .peer)) (a .cursor)) t 0 b)
+      ap (λ (b : Walked). foldFrom (nextTurn pendingId (pendingHas (a .question) (a .t4)) (a .cursor)) t 0 b)
           (here .not-yet .ensures),
     )
 
-mul-row : tie.Need-mul-row Inv-loop μ-loop
-mul-row c = search needs
+mul-pending-turn : tie.Need-mul-pending-turn Inv-loop μ-loop
+mul-pending-turn c = search needs
 
-shared-slice-copy-out-row : tie.Need-shared-slice-copy-out-row Inv-loop μ-loop
-shared-slice-copy-out-row c = search needs
+shared-slice-element-pending-turn : tie.Need-shared-slice-element-pending-turn Inv-loop μ-loop
+shared-slice-element-pending-turn c = search needs
 
 pending-turn-requires : tie.Need-pending-turn-requires Inv-loop μ-loop
 pending-turn-requires c = search needs
@@ -74,8 +74,8 @@ loop-again c =
       omega arith,
       l .inv .1,
       held-fold-step clearPending n t noPending (l .i) (omega arith) (omega arith)
-          (nextTurn pendingId (pendingHas (a .question) (a .peer)) (a .cursor)) (l .best) (here .pending-turn .result)
-          (next pendingId (pendingHas (a .question) (a .peer)) (a .cursor) (held clearPending n t))
+          (nextTurn pendingId (pendingHas (a .question) (a .t4)) (a .cursor)) (l .best) (here .pending-turn .result)
+          (next pendingId (pendingHas (a .question) (a .t4)) (a .cursor) (held clearPending n t))
           (here .pending-turn .ensures) (l .inv .2),
     )
 
@@ -86,15 +86,15 @@ returns c =
     let t = a .pending .now in
     let n = here .min-usize .result in
     let l = here .loop in
-    fold-rest clearPending (nextTurn pendingId (pendingHas (a .question) (a .peer)) (a .cursor))
-    (next-idle clearPending pendingId (pendingHas (a .question) (a .peer))
-    (pending-unmarked (a .question) (a .peer)) (a .cursor)) n t (l .i) (l .best)
-    (next pendingId (pendingHas (a .question) (a .peer)) (a .cursor) (held clearPending n t))
+    fold-rest clearPending (nextTurn pendingId (pendingHas (a .question) (a .t4)) (a .cursor))
+    (next-idle clearPending pendingId (pendingHas (a .question) (a .t4))
+    (pending-unmarked (a .question) (a .t4)) (a .cursor)) n t (l .i) (l .best)
+    (next pendingId (pendingHas (a .question) (a .t4)) (a .cursor) (held clearPending n t))
     (λ h. omega arith) (l .inv .2)
-    ∙ ap (λ (s : List RelayPending). (next pendingId (pendingHas (a .question) (a .peer)) (a .cursor) s))
+    ∙ ap (λ (s : List RelayPending). (next pendingId (pendingHas (a .question) (a .t4)) (a .cursor) s))
     (ap (λ (m : ℕ). held clearPending m t) (here .min-usize .ensures) ∙ held-min clearPending (a .places .pending) t)
 
 pub next-pending-spec : {M : Type 1} → statement M
 next-pending-spec =
-    tie.close (tie.spec Inv-loop μ-loop min-usize-requires not-yet-requires loop-holds mul-row shared-slice-copy-out-row
-    pending-turn-requires add-i loop-less loop-again returns)
+    tie.close (tie.spec Inv-loop μ-loop min-usize-requires not-yet-requires loop-holds mul-pending-turn
+    shared-slice-element-pending-turn pending-turn-requires add-i loop-less loop-again returns)

@@ -47,15 +47,15 @@ loop-holds c =
       omega arith,
       omega arith,
       rw (here .no-work .ensures) (work-none),
-      ap (λ (b : Work). foldFrom (pendingWorked (a .question)) t 0 b) (here .no-work .ensures)
-          ∙ pending-work (a .question) t,
+      ap (λ (b : Work). foldFrom (pendingWorked (a .t3)) t 0 b) (here .no-work .ensures)
+          ∙ pending-work (a .t3) t,
     )
 
-mul-row : tie.Need-mul-row Inv-loop μ-loop
-mul-row c = search needs
+mul-pending-worked : tie.Need-mul-pending-worked Inv-loop μ-loop
+mul-pending-worked c = search needs
 
-shared-slice-copy-out-row : tie.Need-shared-slice-copy-out-row Inv-loop μ-loop
-shared-slice-copy-out-row c = search needs
+shared-slice-element-pending-worked : tie.Need-shared-slice-element-pending-worked Inv-loop μ-loop
+shared-slice-element-pending-worked c = search needs
 
 pending-worked-requires : tie.Need-pending-worked-requires Inv-loop μ-loop
 pending-worked-requires c =
@@ -78,9 +78,9 @@ loop-again c =
       omega arith,
       l .inv .1,
       rw (here .pending-worked .ensures)
-          (pending-most (a .question) (l .i) (l .work) (getD t (l .i) noPending) 0 (l .inv .2)),
-      held-fold-step clearPending n t noPending (l .i) (omega arith) (omega arith) (pendingWorked (a .question))
-          (l .work) (here .pending-worked .result) (pendingWork (a .question) (held clearPending n t))
+          (pending-most (a .t3) (l .i) (l .work) (getD t (l .i) noPending) 0 (l .inv .2)),
+      held-fold-step clearPending n t noPending (l .i) (omega arith) (omega arith) (pendingWorked (a .t3))
+          (l .work) (here .pending-worked .result) (pendingWork (a .t3) (held clearPending n t))
           (here .pending-worked .ensures) (l .inv .3),
     )
 
@@ -91,12 +91,12 @@ returns c =
     let t = a .pending .now in
     let n = here .min-usize .result in
     let l = here .loop in
-    fold-rest clearPending (pendingWorked (a .question)) (pending-idle (a .question)) n t (l .i) (l .work)
-    (pendingWork (a .question) (held clearPending n t)) (λ h. omega arith) (l .inv .3)
-    ∙ ap (λ (s : List RelayPending). (pendingWork (a .question) s))
+    fold-rest clearPending (pendingWorked (a .t3)) (pending-idle (a .t3)) n t (l .i) (l .work)
+    (pendingWork (a .t3) (held clearPending n t)) (λ h. omega arith) (l .inv .3)
+    ∙ ap (λ (s : List RelayPending). (pendingWork (a .t3) s))
     (ap (λ (m : ℕ). held clearPending m t) (here .min-usize .ensures) ∙ held-min clearPending (a .places .pending) t)
 
 pub pending-work-spec : {M : Type 1} → statement M
 pending-work-spec =
-    tie.close (tie.spec Inv-loop μ-loop min-usize-requires no-work-requires loop-holds mul-row shared-slice-copy-out-row
-    pending-worked-requires add-i loop-less loop-again returns)
+    tie.close (tie.spec Inv-loop μ-loop min-usize-requires no-work-requires loop-holds mul-pending-worked
+    shared-slice-element-pending-worked pending-worked-requires add-i loop-less loop-again returns)

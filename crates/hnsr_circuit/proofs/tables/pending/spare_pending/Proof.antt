@@ -36,11 +36,11 @@ loop-holds c =
     let t = held clearPending (here .min-usize .result) (a .pending .now) in
     (omega arith, omega arith, zero-add (placeOf (non isPending) t))
 
-mul-row : tie.Need-mul-row Inv-loop μ-loop
-mul-row c = search needs
+mul-is-pending : tie.Need-mul-is-pending Inv-loop μ-loop
+mul-is-pending c = search needs
 
-shared-slice-copy-out-row : tie.Need-shared-slice-copy-out-row Inv-loop μ-loop
-shared-slice-copy-out-row c = search needs
+shared-slice-element-is-pending : tie.Need-shared-slice-element-is-pending Inv-loop μ-loop
+shared-slice-element-is-pending c = search needs
 
 is-pending-requires : tie.Need-is-pending-requires Inv-loop μ-loop
 is-pending-requires c = search needs
@@ -100,5 +100,6 @@ returns-2 c =
     ∙ ap (placeOf p) seen
 
 pub spare-pending-spec : {M : Type 1} → statement M
-spare-pending-spec = tie.close (tie.spec Inv-loop μ-loop min-usize-requires loop-holds mul-row
-    shared-slice-copy-out-row is-pending-requires no-requires returns add-i loop-less loop-again returns-2)
+spare-pending-spec =
+    tie.close (tie.spec Inv-loop μ-loop min-usize-requires loop-holds mul-is-pending shared-slice-element-is-pending
+    is-pending-requires no-requires returns add-i loop-less loop-again returns-2)

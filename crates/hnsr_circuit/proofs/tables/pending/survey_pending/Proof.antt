@@ -54,15 +54,21 @@ loop-holds c =
       omega arith,
       zero-add (count isPending t),
       ap (λ (b : Walked).
-          foldFrom (nextTurn pendingId (pendingHas (a .question) (a .peer)) (here .not-yet .result)) t 0 b)
+          foldFrom (nextTurn pendingId (pendingHas (a .question) (a .t4)) (here .not-yet .result)) t 0 b)
           (here .not-yet .ensures),
     )
 
-mul-row : tie.Need-mul-row Inv-loop μ-loop
-mul-row c = search needs
+mul-is-pending : tie.Need-mul-is-pending Inv-loop μ-loop
+mul-is-pending c = search needs
 
-shared-slice-copy-out-row : tie.Need-shared-slice-copy-out-row Inv-loop μ-loop
-shared-slice-copy-out-row c = search needs
+shared-slice-element-is-pending : tie.Need-shared-slice-element-is-pending Inv-loop μ-loop
+shared-slice-element-is-pending c = search needs
+
+mul-pending-turn : tie.Need-mul-pending-turn Inv-loop μ-loop
+mul-pending-turn c = search needs
+
+shared-slice-element-pending-turn : tie.Need-shared-slice-element-pending-turn Inv-loop μ-loop
+shared-slice-element-pending-turn c = search needs
 
 is-pending-requires : tie.Need-is-pending-requires Inv-loop μ-loop
 is-pending-requires c = search needs
@@ -95,8 +101,8 @@ loop-again c =
           (count isPending (held clearPending n t)) (l .used) (here .one-more .result)
           (here .one-more .ensures ∙ ap (λ (b : Bool). l .used + cond b 1 0) (h .ensures)) (l .inv .3),
       held-fold-step clearPending n t noPending (l .i) (omega arith) (omega arith)
-          (nextTurn pendingId (pendingHas (a .question) (a .peer)) start) (l .first) (here .pending-turn .result)
-          (next pendingId (pendingHas (a .question) (a .peer)) start (held clearPending n t))
+          (nextTurn pendingId (pendingHas (a .question) (a .t4)) start) (l .first) (here .pending-turn .result)
+          (next pendingId (pendingHas (a .question) (a .t4)) start (held clearPending n t))
           (here .pending-turn .ensures) (l .inv .4),
     )
 
@@ -111,7 +117,7 @@ returns c =
     let t = a .pending .now in
     let n = here .min-usize .result in
     let l = here .loop in
-    let q = pendingHas (a .question) (a .peer) in
+    let q = pendingHas (a .question) (a .t4) in
     let start = here .not-yet .result in
     let seen =
     ap (λ (m : ℕ). held clearPending m t) (here .min-usize .ensures) ∙ held-min clearPending (a .places .pending) t in (
@@ -121,12 +127,13 @@ returns c =
           ∙ ap (count isPending) seen,
       here .surveyed .ensures .1
           ∙ fold-rest clearPending (nextTurn pendingId q start)
-          (next-idle clearPending pendingId q (pending-unmarked (a .question) (a .peer)) start) n t (l .i) (l .first)
+          (next-idle clearPending pendingId q (pending-unmarked (a .question) (a .t4)) start) n t (l .i) (l .first)
           (next pendingId q start (held clearPending n t)) (λ h. omega arith) (l .inv .4)
           ∙ (λ x. next pendingId q (here .not-yet .ensures x) (seen x)),
     )
 
 pub survey-pending-spec : {M : Type 1} → statement M
 survey-pending-spec =
-    tie.close (tie.spec Inv-loop μ-loop min-usize-requires not-yet-requires loop-holds mul-row shared-slice-copy-out-row
-    is-pending-requires one-more-requires pending-turn-requires add-i loop-less loop-again surveyed-requires returns)
+    tie.close (tie.spec Inv-loop μ-loop min-usize-requires not-yet-requires loop-holds mul-is-pending
+    shared-slice-element-is-pending is-pending-requires one-more-requires mul-pending-turn
+    shared-slice-element-pending-turn pending-turn-requires add-i loop-less loop-again surveyed-requires returns)

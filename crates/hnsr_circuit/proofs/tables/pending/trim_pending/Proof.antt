@@ -29,11 +29,11 @@ loop-holds c = (omega arith, refl)
 sub-last : tie.Need-sub-last Inv-loop μ-loop
 sub-last c = search needs
 
-mul-row : tie.Need-mul-row Inv-loop μ-loop
-mul-row c = search needs
+mul-is-pending : tie.Need-mul-is-pending Inv-loop μ-loop
+mul-is-pending c = search needs
 
-shared-slice-copy-out-row : tie.Need-shared-slice-copy-out-row Inv-loop μ-loop
-shared-slice-copy-out-row c = search needs
+shared-slice-element-is-pending : tie.Need-shared-slice-element-is-pending Inv-loop μ-loop
+shared-slice-element-is-pending c = search needs
 
 is-pending-requires : tie.Need-is-pending-requires Inv-loop μ-loop
 is-pending-requires c = search needs
@@ -71,5 +71,5 @@ returns-2 c =
 
 pub trim-pending-spec : {M : Type 1} → statement M
 trim-pending-spec =
-    tie.close (tie.spec Inv-loop μ-loop min-usize-requires loop-holds sub-last mul-row shared-slice-copy-out-row
-    is-pending-requires returns loop-less loop-again returns-2)
+    tie.close (tie.spec Inv-loop μ-loop min-usize-requires loop-holds sub-last mul-is-pending
+    shared-slice-element-is-pending is-pending-requires returns loop-less loop-again returns-2)

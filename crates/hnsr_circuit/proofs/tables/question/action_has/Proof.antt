@@ -1,8 +1,9 @@
 -- One arm for each question.
+mod Tie
 mod At
 use Rattle.hnsr_circuit.specs.Code.Question.{actionHas}
 use Rattle.hnsr_circuit.proofs.tables.question.action_has.Statement.{statement}
-use Rattle.hnsr_circuit.proofs.tables.question.action_has.Tie as tie
+use Rattle.hnsr_circuit.proofs.tables.question.action_has.Proof.Tie as tie
 use Rattle.hnsr_circuit.proofs.tables.question.action_has.Proof.At as at
 
 returns : tie.Need-returns

@@ -1,8 +1,9 @@
 -- One arm for each question.
+mod Tie
 mod At
 use Rattle.hnsr_circuit.specs.Code.Question.{pendingHas}
 use Rattle.hnsr_circuit.proofs.tables.question.pending_has.Statement.{statement}
-use Rattle.hnsr_circuit.proofs.tables.question.pending_has.Tie as tie
+use Rattle.hnsr_circuit.proofs.tables.question.pending_has.Proof.Tie as tie
 use Rattle.hnsr_circuit.proofs.tables.question.pending_has.Proof.At as at
 
 returns : tie.Need-returns

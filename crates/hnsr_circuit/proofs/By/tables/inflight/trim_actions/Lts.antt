@@ -16,18 +16,15 @@ use borrow.Fn.Kinds
 use borrow.Fn.Plain
 use borrow.Kind.Bool
 use borrow.Kind.Num
+use borrow.Kind.ShrRef
 use borrow.Kind.ShrSlice
-use borrow.Rule.DerefMove
 use borrow.Rule.Local
-use borrow.Rule.LocalCopy
 use borrow.Rule.Scalar
-use borrow.Rule.Slice.Move
+use borrow.Rule.Slice.Handed
 use borrow.Rule.Slice.Shared
-use borrow.Rule.Yields
 use borrow.Struct.Reads
 use borrow.Table.Copies
 use borrow.Table.Elements
-use borrow.Table.Own
 use borrow.Table.Reads as Reads'
 use borrow.Table.Row
 use borrow.Table.Rows
@@ -48,7 +45,10 @@ use types.Kit
 use mathlib.Core.List.{_∷_}
 
 abbrev ref0 : Syntax.Ty
-ref0 = Syntax.tyRef (Syntax.named 0) Syntax.imm InflightAction.to
+ref0 = Syntax.tyRef Syntax.erased Syntax.imm InflightAction.to
+
+abbrev ref1 : Syntax.Ty
+ref1 = Syntax.tyRef (Syntax.named 0) Syntax.imm InflightAction.to
 
 abbrev pub ps : List.List (Kinds.PK 1)
 ps = (ShrSlice.pShrS InflightAction.row 0 tt) ∷ (StructRow.param Places.the-type Laws.the-laws Laws.the-copy
@@ -58,8 +58,8 @@ abbrev pub r : Kinds.RK 1
 r = Num.rNum Syntax.w64
 
 abbrev pub xs : List.List Syntax.Ty
-xs = (Syntax.tyInt Syntax.w64) ∷ (Syntax.tyInt Syntax.w64) ∷ (Syntax.tyInt Syntax.w64) ∷ InflightAction.ty ∷
-    Syntax.tyBool ∷ (Syntax.tyInt Syntax.w64) ∷ Syntax.tyPtr ∷ InflightAction.ty ∷ Syntax.tyBool ∷ List.[]
+xs = (Syntax.tyInt Syntax.w64) ∷ (Syntax.tyInt Syntax.w64) ∷ (Syntax.tyInt Syntax.w64) ∷ Syntax.tyBool ∷ Syntax.tyBool
+    ∷ (Syntax.tyInt Syntax.w64) ∷ Syntax.tyPtr ∷ ref0 ∷ List.[]
 
 abbrev pub m : Nat.ℕ
 m = 0
@@ -70,16 +70,16 @@ ps·0 = (Num.pNum Syntax.w64) ∷ (Num.pNum Syntax.w64) ∷ List.[]
 abbrev pub r·0 : Kinds.RK 0
 r·0 = Num.rNum Syntax.w64
 
-abbrev pub ps·1 : List.List (Kinds.PK 0)
-ps·1 = InflightAction.param ∷ List.[]
+abbrev pub ps·1 : List.List (Kinds.PK 1)
+ps·1 = (ShrRef.pShr InflightAction.row 0 tt) ∷ List.[]
 
-abbrev pub r·1 : Kinds.RK 0
+abbrev pub r·1 : Kinds.RK 1
 r·1 = Bool.rBool
 
 abbrev pub hs : List.List Syntax.Home
 hs = Syntax.valueLocal ∷ Syntax.valueLocal ∷ Syntax.valueLocal ∷ Syntax.valueLocal ∷ Syntax.valueLocal ∷
     Syntax.valueLocal ∷ Syntax.valueLocal ∷ Syntax.valueLocal ∷ Syntax.valueLocal ∷ Syntax.valueLocal ∷
-    Syntax.valueLocal ∷ Syntax.valueLocal ∷ List.[]
+    Syntax.valueLocal ∷ List.[]
 
 abbrev b0 : Syntax.Body
 b0 = Syntax.assign (Syntax.place 3 List.[]) (Syntax.rvOpd (Syntax.copy (Syntax.place 1 ((Syntax.field 1) ∷ List.[]))))
@@ -89,7 +89,7 @@ b1 = Syntax.call "hns_encoding::numbers::min_usize" ((Syntax.copy (Syntax.place 
     (Syntax.copy (Syntax.place 3 List.[])) ∷ List.[]) (Syntax.place 4 List.[])
 
 abbrev b2 : Syntax.Body
-b2 = Syntax.assign (Syntax.place 7 List.[]) (Syntax.op2 (Syntax.lt Syntax.unsigned) (Syntax.int Syntax.w64 0)
+b2 = Syntax.assign (Syntax.place 6 List.[]) (Syntax.op2 (Syntax.lt Syntax.unsigned) (Syntax.int Syntax.w64 0)
     (Syntax.copy (Syntax.place 4 List.[])))
 
 abbrev b3 : Syntax.Body
@@ -99,7 +99,7 @@ abbrev b4 : Syntax.Body
 b4 = Syntax.exit 1
 
 abbrev b5 : Syntax.Body
-b5 = Syntax.cond (Syntax.copy (Syntax.place 7 List.[])) b3 b4
+b5 = Syntax.cond (Syntax.copy (Syntax.place 6 List.[])) b3 b4
 
 abbrev b6 : Syntax.Body
 b6 = Syntax.assign (Syntax.place 5 List.[]) (Syntax.op2 (Syntax.sub Syntax.unsigned)
@@ -114,96 +114,90 @@ b8 = Syntax.assign (Syntax.place 9 List.[]) (Syntax.op2 Syntax.offset
     (Syntax.copy (Syntax.place 1 ((Syntax.field 0) ∷ List.[]))) (Syntax.copy (Syntax.place 8 List.[])))
 
 abbrev b9 : Syntax.Body
-b9 = Syntax.assign (Syntax.place 10 List.[]) (Syntax.rvOpd (Syntax.copy (Syntax.place 9
-    ((Syntax.deref InflightAction.ty) ∷ List.[]))))
+b9 = Syntax.assign (Syntax.place 10 List.[]) (Syntax.addrOf (Syntax.place 9
+    ((Syntax.deref InflightAction.ty) ∷ List.[])))
 
 abbrev b10 : Syntax.Body
-b10 = Syntax.assign (Syntax.place 6 List.[]) (Syntax.rvOpd (Syntax.copy (Syntax.place 10 List.[])))
+b10 = Syntax.call "hnsr_circuit::records::inflight::is_action" ((Syntax.copy (Syntax.place 10 List.[])) ∷ List.[])
+    (Syntax.place 7 List.[])
 
 abbrev b11 : Syntax.Body
-b11 = Syntax.call "hnsr_circuit::records::inflight::is_action" ((Syntax.copy (Syntax.place 6 List.[])) ∷ List.[])
-    (Syntax.place 11 List.[])
+b11 = Syntax.assign (Syntax.place 0 List.[]) (Syntax.rvOpd (Syntax.copy (Syntax.place 4 List.[])))
 
 abbrev b12 : Syntax.Body
-b12 = Syntax.assign (Syntax.place 0 List.[]) (Syntax.rvOpd (Syntax.copy (Syntax.place 4 List.[])))
+b12 = Syntax.return
 
 abbrev b13 : Syntax.Body
-b13 = Syntax.return
+b13 = Syntax.seq b11 b12
 
 abbrev b14 : Syntax.Body
-b14 = Syntax.seq b12 b13
+b14 = Syntax.skip
 
 abbrev b15 : Syntax.Body
-b15 = Syntax.skip
+b15 = Syntax.cond (Syntax.copy (Syntax.place 7 List.[])) b13 b14
 
 abbrev b16 : Syntax.Body
-b16 = Syntax.cond (Syntax.copy (Syntax.place 11 List.[])) b14 b15
+b16 = Syntax.assign (Syntax.place 4 List.[]) (Syntax.rvOpd (Syntax.copy (Syntax.place 5 List.[])))
 
 abbrev b17 : Syntax.Body
-b17 = Syntax.assign (Syntax.place 4 List.[]) (Syntax.rvOpd (Syntax.copy (Syntax.place 5 List.[])))
+b17 = Syntax.seq b15 b16
 
 abbrev b18 : Syntax.Body
-b18 = Syntax.seq b16 b17
+b18 = Syntax.seq b10 b17
 
 abbrev b19 : Syntax.Body
-b19 = Syntax.seq b11 b18
+b19 = Syntax.seq b9 b18
 
 abbrev b20 : Syntax.Body
-b20 = Syntax.seq b10 b19
+b20 = Syntax.seq b8 b19
 
 abbrev b21 : Syntax.Body
-b21 = Syntax.seq b9 b20
+b21 = Syntax.seq b7 b20
 
 abbrev b22 : Syntax.Body
-b22 = Syntax.seq b8 b21
+b22 = Syntax.seq b6 b21
 
 abbrev b23 : Syntax.Body
-b23 = Syntax.seq b7 b22
+b23 = Syntax.seq b5 b22
 
 abbrev b24 : Syntax.Body
-b24 = Syntax.seq b6 b23
+b24 = Syntax.seq b2 b23
 
 abbrev b25 : Syntax.Body
-b25 = Syntax.seq b5 b24
+b25 = Syntax.loop b24
 
 abbrev b26 : Syntax.Body
-b26 = Syntax.seq b2 b25
+b26 = Syntax.block b25
 
 abbrev b27 : Syntax.Body
-b27 = Syntax.loop b26
+b27 = Syntax.assign (Syntax.place 0 List.[]) (Syntax.rvOpd (Syntax.copy (Syntax.place 4 List.[])))
 
 abbrev b28 : Syntax.Body
-b28 = Syntax.block b27
+b28 = Syntax.return
 
 abbrev b29 : Syntax.Body
-b29 = Syntax.assign (Syntax.place 0 List.[]) (Syntax.rvOpd (Syntax.copy (Syntax.place 4 List.[])))
+b29 = Syntax.seq b27 b28
 
 abbrev b30 : Syntax.Body
-b30 = Syntax.return
+b30 = Syntax.seq b26 b29
 
 abbrev b31 : Syntax.Body
-b31 = Syntax.seq b29 b30
+b31 = Syntax.seq b1 b30
 
 abbrev b32 : Syntax.Body
-b32 = Syntax.seq b28 b31
-
-abbrev b33 : Syntax.Body
-b33 = Syntax.seq b1 b32
-
-abbrev b34 : Syntax.Body
-b34 = Syntax.seq b0 b33
+b32 = Syntax.seq b0 b31
 
 abbrev pub body : Syntax.Body
-body = b34
+body = b32
 
 abbrev pub Claims : Type 1
-Claims = Kinds.In 0 ps·0 × Kinds.Out 0 ps·0 r·0 × Kinds.In 0 ps·1 × Kinds.Out 0 ps·1 r·1
+Claims = Kinds.In 0 ps·0 × Kinds.Out 0 ps·0 r·0 × Kinds.In 1 ps·1 × Kinds.Out 1 ps·1 r·1
 
 abbrev e0 : Row.Entry
 e0 = (0, Rows.any-gone (Syntax.tyInt Syntax.w64))
 
 abbrev e1 : Row.Entry
-e1 = (1, Rows.sslice InflightAction.row ref0 0)
+e1 = (1, Rows.sslice InflightAction.row ref1 0)
 
 abbrev e2 : Row.Entry
 e2 = (2, Rows.whole (Declared.row Places.the-type))
@@ -218,7 +212,7 @@ abbrev e5 : Row.Entry
 e5 = (5, Rows.any-gone (Syntax.tyInt Syntax.w64))
 
 abbrev e6 : Row.Entry
-e6 = (6, Rows.any-gone InflightAction.ty)
+e6 = (6, Rows.any-gone Syntax.tyBool)
 
 abbrev e7 : Row.Entry
 e7 = (7, Rows.any-gone Syntax.tyBool)
@@ -230,10 +224,7 @@ abbrev e9 : Row.Entry
 e9 = (9, Rows.any-gone Syntax.tyPtr)
 
 abbrev e10 : Row.Entry
-e10 = (10, Rows.any-gone InflightAction.ty)
-
-abbrev e11 : Row.Entry
-e11 = (11, Rows.any-gone Syntax.tyBool)
+e10 = (10, Rows.any-gone ref0)
 
 abbrev e0·1 : Row.Entry
 e0·1 = (0, Rows.sc-here (Row.sInt Syntax.w64))
@@ -247,8 +238,8 @@ e3·1 = (3, Rows.sc-here (Row.sInt Syntax.w64))
 abbrev e4·1 : Row.Entry
 e4·1 = (4, Rows.sc-here (Row.sInt Syntax.w64))
 
-abbrev e7·1 : Row.Entry
-e7·1 = (7, Rows.sc-here Row.sBool)
+abbrev e6·1 : Row.Entry
+e6·1 = (6, Rows.sc-here Row.sBool)
 
 abbrev e5·1 : Row.Entry
 e5·1 = (5, Rows.sc-here (Row.sInt Syntax.w64))
@@ -260,82 +251,73 @@ abbrev e9·1 : Row.Entry
 e9·1 = (9, Rows.sc-here Row.sPtr)
 
 abbrev e10·1 : Row.Entry
-e10·1 = (10, InflightAction.held)
+e10·1 = (10, Rows.sref InflightAction.row ref0 0)
 
-abbrev e6·1 : Row.Entry
-e6·1 = (6, InflightAction.held)
-
-abbrev e11·1 : Row.Entry
-e11·1 = (11, Rows.sc-here Row.sBool)
+abbrev e7·1 : Row.Entry
+e7·1 = (7, Rows.sc-here Row.sBool)
 
 abbrev pub t0 : List.List Row.Entry
-t0 = e0 ∷ e1 ∷ e2 ∷ e3 ∷ e4 ∷ e5 ∷ e6 ∷ e7 ∷ e8 ∷ e9 ∷ e10 ∷ e11 ∷ List.[]
+t0 = e0 ∷ e1 ∷ e2 ∷ e3 ∷ e4 ∷ e5 ∷ e6 ∷ e7 ∷ e8 ∷ e9 ∷ e10 ∷ List.[]
 
 abbrev pub t1 : List.List Row.Entry
-t1 = e0·1 ∷ e1 ∷ e2·1 ∷ e3 ∷ e4 ∷ e5 ∷ e6 ∷ e7 ∷ e8 ∷ e9 ∷ e10 ∷ e11 ∷ List.[]
+t1 = e0·1 ∷ e1 ∷ e2·1 ∷ e3 ∷ e4 ∷ e5 ∷ e6 ∷ e7 ∷ e8 ∷ e9 ∷ e10 ∷ List.[]
 
 abbrev pub t2 : List.List Row.Entry
-t2 = e0 ∷ e1 ∷ e2 ∷ e3·1 ∷ e4 ∷ e5 ∷ e6 ∷ e7 ∷ e8 ∷ e9 ∷ e10 ∷ e11 ∷ List.[]
+t2 = e0 ∷ e1 ∷ e2 ∷ e3·1 ∷ e4 ∷ e5 ∷ e6 ∷ e7 ∷ e8 ∷ e9 ∷ e10 ∷ List.[]
 
 abbrev pub t3 : List.List Row.Entry
-t3 = e0 ∷ e1 ∷ e2 ∷ e3·1 ∷ e4·1 ∷ e5 ∷ e6 ∷ e7 ∷ e8 ∷ e9 ∷ e10 ∷ e11 ∷ List.[]
+t3 = e0 ∷ e1 ∷ e2 ∷ e3·1 ∷ e4·1 ∷ e5 ∷ e6 ∷ e7 ∷ e8 ∷ e9 ∷ e10 ∷ List.[]
 
 abbrev pub t4 : List.List Row.Entry
-t4 = e0 ∷ e1 ∷ e2·1 ∷ e3·1 ∷ e4·1 ∷ e5 ∷ e6 ∷ e7 ∷ e8 ∷ e9 ∷ e10 ∷ e11 ∷ List.[]
+t4 = e0 ∷ e1 ∷ e2·1 ∷ e3·1 ∷ e4·1 ∷ e5 ∷ e6 ∷ e7 ∷ e8 ∷ e9 ∷ e10 ∷ List.[]
 
 abbrev pub t5 : List.List Row.Entry
-t5 = e0 ∷ e1 ∷ e2·1 ∷ e3·1 ∷ e4·1 ∷ e5 ∷ e6 ∷ e7·1 ∷ e8 ∷ e9 ∷ e10 ∷ e11 ∷ List.[]
+t5 = e0 ∷ e1 ∷ e2·1 ∷ e3·1 ∷ e4·1 ∷ e5 ∷ e6·1 ∷ e7 ∷ e8 ∷ e9 ∷ e10 ∷ List.[]
 
 abbrev pub t6 : List.List Row.Entry
-t6 = e0 ∷ e1 ∷ e2·1 ∷ e3·1 ∷ e4·1 ∷ e5·1 ∷ e6 ∷ e7 ∷ e8 ∷ e9 ∷ e10 ∷ e11 ∷ List.[]
+t6 = e0 ∷ e1 ∷ e2·1 ∷ e3·1 ∷ e4·1 ∷ e5·1 ∷ e6 ∷ e7 ∷ e8 ∷ e9 ∷ e10 ∷ List.[]
 
 abbrev pub t7 : List.List Row.Entry
-t7 = e0 ∷ e1 ∷ e2·1 ∷ e3·1 ∷ e4·1 ∷ e5·1 ∷ e6 ∷ e7 ∷ e8·1 ∷ e9 ∷ e10 ∷ e11 ∷ List.[]
+t7 = e0 ∷ e1 ∷ e2·1 ∷ e3·1 ∷ e4·1 ∷ e5·1 ∷ e6 ∷ e7 ∷ e8·1 ∷ e9 ∷ e10 ∷ List.[]
 
 abbrev pub t8 : List.List Row.Entry
-t8 = e0 ∷ e1 ∷ e2·1 ∷ e3·1 ∷ e4·1 ∷ e5·1 ∷ e6 ∷ e7 ∷ e8·1 ∷ e9·1 ∷ e10 ∷ e11 ∷ List.[]
+t8 = e0 ∷ e1 ∷ e2·1 ∷ e3·1 ∷ e4·1 ∷ e5·1 ∷ e6 ∷ e7 ∷ e8·1 ∷ e9·1 ∷ e10 ∷ List.[]
 
 abbrev pub t9 : List.List Row.Entry
-t9 = e0 ∷ e1 ∷ e2·1 ∷ e3·1 ∷ e4·1 ∷ e5·1 ∷ e6 ∷ e7 ∷ e8·1 ∷ e9·1 ∷ e10·1 ∷ e11 ∷ List.[]
+t9 = e0 ∷ e1 ∷ e2·1 ∷ e3·1 ∷ e4·1 ∷ e5·1 ∷ e6 ∷ e7 ∷ e8·1 ∷ e9·1 ∷ e10·1 ∷ List.[]
 
 abbrev pub t10 : List.List Row.Entry
-t10 = e0 ∷ e1 ∷ e2·1 ∷ e3·1 ∷ e4·1 ∷ e5·1 ∷ e6 ∷ e7 ∷ e8 ∷ e9·1 ∷ e10·1 ∷ e11 ∷ List.[]
+t10 = e0 ∷ e1 ∷ e2·1 ∷ e3·1 ∷ e4·1 ∷ e5·1 ∷ e6 ∷ e7 ∷ e8 ∷ e9·1 ∷ e10·1 ∷ List.[]
 
 abbrev pub t11 : List.List Row.Entry
-t11 = e0 ∷ e1 ∷ e2·1 ∷ e3·1 ∷ e4·1 ∷ e5·1 ∷ e6 ∷ e7 ∷ e8 ∷ e9 ∷ e10·1 ∷ e11 ∷ List.[]
+t11 = e0 ∷ e1 ∷ e2·1 ∷ e3·1 ∷ e4·1 ∷ e5·1 ∷ e6 ∷ e7 ∷ e8 ∷ e9 ∷ e10·1 ∷ List.[]
 
 abbrev pub t12 : List.List Row.Entry
-t12 = e0 ∷ e1 ∷ e2·1 ∷ e3·1 ∷ e4·1 ∷ e5·1 ∷ e6·1 ∷ e7 ∷ e8 ∷ e9 ∷ e10·1 ∷ e11 ∷ List.[]
+t12 = e0 ∷ e1 ∷ e2·1 ∷ e3·1 ∷ e4·1 ∷ e5·1 ∷ e6 ∷ e7·1 ∷ e8 ∷ e9 ∷ e10·1 ∷ List.[]
 
 abbrev pub t13 : List.List Row.Entry
-t13 = e0 ∷ e1 ∷ e2·1 ∷ e3·1 ∷ e4·1 ∷ e5·1 ∷ e6·1 ∷ e7 ∷ e8 ∷ e9 ∷ e10 ∷ e11 ∷ List.[]
+t13 = e0 ∷ e1 ∷ e2·1 ∷ e3·1 ∷ e4 ∷ e5·1 ∷ e6 ∷ e7 ∷ e8 ∷ e9 ∷ e10 ∷ List.[]
 
 abbrev pub t14 : List.List Row.Entry
-t14 = e0 ∷ e1 ∷ e2·1 ∷ e3·1 ∷ e4·1 ∷ e5·1 ∷ e6·1 ∷ e7 ∷ e8 ∷ e9 ∷ e10 ∷ e11·1 ∷ List.[]
+t14 = e0 ∷ e1 ∷ e2·1 ∷ e3·1 ∷ e4·1 ∷ e5·1 ∷ e6 ∷ e7·1 ∷ e8 ∷ e9 ∷ e10 ∷ List.[]
 
 abbrev pub t15 : List.List Row.Entry
-t15 = e0 ∷ e1 ∷ e2·1 ∷ e3·1 ∷ e4 ∷ e5·1 ∷ e6 ∷ e7 ∷ e8 ∷ e9 ∷ e10 ∷ e11 ∷ List.[]
+t15 = e0·1 ∷ e1 ∷ e2·1 ∷ e3·1 ∷ e4·1 ∷ e5·1 ∷ e6 ∷ e7 ∷ e8 ∷ e9 ∷ e10 ∷ List.[]
 
 abbrev pub t16 : List.List Row.Entry
-t16 = e0 ∷ e1 ∷ e2·1 ∷ e3·1 ∷ e4·1 ∷ e5·1 ∷ e6 ∷ e7 ∷ e8 ∷ e9 ∷ e10 ∷ e11·1 ∷ List.[]
+t16 = e0·1 ∷ e1 ∷ e2·1 ∷ e3 ∷ e4·1 ∷ e5·1 ∷ e6 ∷ e7 ∷ e8 ∷ e9 ∷ e10 ∷ List.[]
 
 abbrev pub t17 : List.List Row.Entry
-t17 = e0·1 ∷ e1 ∷ e2·1 ∷ e3·1 ∷ e4·1 ∷ e5·1 ∷ e6 ∷ e7 ∷ e8 ∷ e9 ∷ e10 ∷ e11 ∷ List.[]
+t17 = e0·1 ∷ e1 ∷ e2·1 ∷ e3 ∷ e4 ∷ e5·1 ∷ e6 ∷ e7 ∷ e8 ∷ e9 ∷ e10 ∷ List.[]
 
 abbrev pub t18 : List.List Row.Entry
-t18 = e0·1 ∷ e1 ∷ e2·1 ∷ e3 ∷ e4·1 ∷ e5·1 ∷ e6 ∷ e7 ∷ e8 ∷ e9 ∷ e10 ∷ e11 ∷ List.[]
+t18 = e0 ∷ e1 ∷ e2·1 ∷ e3·1 ∷ e4 ∷ e5·1 ∷ e6 ∷ e7·1 ∷ e8 ∷ e9 ∷ e10 ∷ List.[]
 
 abbrev pub t19 : List.List Row.Entry
-t19 = e0·1 ∷ e1 ∷ e2·1 ∷ e3 ∷ e4 ∷ e5·1 ∷ e6 ∷ e7 ∷ e8 ∷ e9 ∷ e10 ∷ e11 ∷ List.[]
+t19 = e0·1 ∷ e1 ∷ e2·1 ∷ e3·1 ∷ e4·1 ∷ e5 ∷ e6 ∷ e7 ∷ e8 ∷ e9 ∷ e10 ∷ List.[]
 
 abbrev pub t20 : List.List Row.Entry
-t20 = e0 ∷ e1 ∷ e2·1 ∷ e3·1 ∷ e4 ∷ e5·1 ∷ e6 ∷ e7 ∷ e8 ∷ e9 ∷ e10 ∷ e11·1 ∷ List.[]
-
-abbrev pub t21 : List.List Row.Entry
-t21 = e0·1 ∷ e1 ∷ e2·1 ∷ e3·1 ∷ e4·1 ∷ e5 ∷ e6 ∷ e7 ∷ e8 ∷ e9 ∷ e10 ∷ e11 ∷ List.[]
-
-abbrev pub t22 : List.List Row.Entry
-t22 = e0·1 ∷ e1 ∷ e2·1 ∷ e3 ∷ e4·1 ∷ e5 ∷ e6 ∷ e7 ∷ e8 ∷ e9 ∷ e10 ∷ e11 ∷ List.[]
+t20 = e0·1 ∷ e1 ∷ e2·1 ∷ e3 ∷ e4·1 ∷ e5 ∷ e6 ∷ e7 ∷ e8 ∷ e9 ∷ e10 ∷ List.[]
 
 abbrev pub T0 : Row.Cx
 T0 = record { locals = t0; slots = List.[] }
@@ -395,46 +377,40 @@ abbrev pub T18 : Row.Cx
 T18 = record { locals = t14; slots = List.[] }
 
 abbrev pub T19 : Row.Cx
-T19 = record { locals = t15; slots = List.[] }
+T19 = record { locals = t6; slots = List.[] }
 
 abbrev pub T20 : Row.Cx
-T20 = record { locals = t16; slots = List.[] }
+T20 = record { locals = t15; slots = List.[] }
 
 abbrev pub T21 : Row.Cx
-T21 = record { locals = t6; slots = List.[] }
+T21 = record { locals = t16; slots = List.[] }
 
 abbrev pub T22 : Row.Cx
 T22 = record { locals = t17; slots = List.[] }
 
 abbrev pub T23 : Row.Cx
-T23 = record { locals = t18; slots = List.[] }
+T23 = record { locals = t1; slots = List.[] }
 
 abbrev pub T24 : Row.Cx
-T24 = record { locals = t19; slots = List.[] }
+T24 = record { locals = t18; slots = List.[] }
 
 abbrev pub T25 : Row.Cx
-T25 = record { locals = t1; slots = List.[] }
+T25 = record { locals = t13; slots = List.[] }
 
 abbrev pub T26 : Row.Cx
-T26 = record { locals = t20; slots = List.[] }
+T26 = record { locals = t6; slots = List.[] }
 
 abbrev pub T27 : Row.Cx
-T27 = record { locals = t15; slots = List.[] }
+T27 = record { locals = t4; slots = List.[] }
 
 abbrev pub T28 : Row.Cx
-T28 = record { locals = t6; slots = List.[] }
+T28 = record { locals = t19; slots = List.[] }
 
 abbrev pub T29 : Row.Cx
-T29 = record { locals = t4; slots = List.[] }
+T29 = record { locals = t20; slots = List.[] }
 
 abbrev pub T30 : Row.Cx
-T30 = record { locals = t21; slots = List.[] }
-
-abbrev pub T31 : Row.Cx
-T31 = record { locals = t22; slots = List.[] }
-
-abbrev pub T32 : Row.Cx
-T32 = record { locals = t1; slots = List.[] }
+T30 = record { locals = t1; slots = List.[] }
 
 abbrev pub O0 : Typed.Outs
 O0 = record { next = Option.none; exits = List.[]; returns = Option.some T1 }
@@ -452,7 +428,7 @@ abbrev pub O4 : Typed.Outs
 O4 = Typed.withNext (Option.some T7) O3
 
 abbrev pub O5 : Typed.Outs
-O5 = Typed.withNext (Option.some T19) O3
+O5 = Typed.withNext (Option.some T17) O3
 
 abbrev pub InvT-loop : Type 1
 InvT-loop = List.List (InflightAction.row .Denot) → Rows.sc-here (Row.sInt Syntax.w64) .Mod → Rows.sc-here
@@ -481,13 +457,13 @@ module _ (claims· : Claims) where
 
   abbrev s3 : Typed.Asks T5 T6
   s3 = Scalar.k-op2 T5 (Syntax.lt Syntax.unsigned) (Scalar.oInt Syntax.w64 0) (Scalar.oAt 4 (Syntax.tyInt Syntax.w64)
-      (Row.valS (Row.sInt Syntax.w64))) 7 (Rows.sc-here Row.sBool) (Row.sBool .of)
+      (Row.valS (Row.sInt Syntax.w64))) 6 (Rows.sc-here Row.sBool) (Row.sBool .of)
 
   abbrev s4 : Typed.Mo T6 → Typed.Mo T8
-  s4 = Scalar.n-room T6 7 Syntax.tyBool
+  s4 = Scalar.n-room T6 6 Syntax.tyBool
 
   abbrev s5 : Typed.Mo T6 → Typed.Mo T9
-  s5 = Scalar.n-room T6 7 Syntax.tyBool
+  s5 = Scalar.n-room T6 6 Syntax.tyBool
 
   abbrev s6 : Typed.Asks T7 T10
   s6 = Scalar.k-op2 T7 (Syntax.sub Syntax.unsigned) (Scalar.oAt 4 (Syntax.tyInt Syntax.w64)
@@ -500,12 +476,12 @@ module _ (claims· : Claims) where
       (Row.sInt Syntax.w64 .of)
 
   abbrev s8 : Typed.Asks T11 T12
-  s8 = Scalar.k-op2 T11 Syntax.offset (Scalar.oFld 1 ((Syntax.field 0) ∷ List.[]) ref0 0 Reads'.ptrVal) (Scalar.oAt 8
+  s8 = Scalar.k-op2 T11 Syntax.offset (Scalar.oFld 1 ((Syntax.field 0) ∷ List.[]) ref1 0 Reads'.ptrVal) (Scalar.oAt 8
       (Syntax.tyInt Syntax.w64) (Row.valS (Row.sInt Syntax.w64))) 9 (Rows.sc-here Row.sPtr) (Row.sPtr .of)
 
   abbrev s9 : Typed.Both T12 T13
-  s9 = Move.k-shs-copy-out InflightAction.row T12 1 9 10 0 ref0 Row.off InflightAction.held (Shared.bySize 184)
-      (λ u. u .1 .1 .1 .1 .1 .0) (λ x. x) InflightAction.none (λ x. Unit) (λ x. x) λ x. x
+  s9 = Handed.k-shs-elem-same InflightAction.row T12 1 9 10 0 ref1 ref0 Row.off (Shared.bySize 184) InflightAction.none
+      (λ x. x) (λ x. x) λ u. u .1 .1 .1 .1 .1 .0
 
   abbrev s10 : Typed.Mo T13 → Typed.Mo T14
   s10 = Scalar.n-room T13 8 (Syntax.tyInt Syntax.w64)
@@ -513,60 +489,53 @@ module _ (claims· : Claims) where
   abbrev s11 : Typed.Mo T14 → Typed.Mo T15
   s11 = Scalar.n-room T14 9 Syntax.tyPtr
 
-  abbrev s12 : Typed.Mo T15 → Typed.Mo T16
-  s12 = LocalCopy.n-val-copy T15 10 6 InflightAction.row InflightAction.held InflightAction.held (λ x. x) (λ x. x) λ x.
-      x
+  abbrev args12 : Args'.ArgsT ps·1 (T15 .locals)
+  args12 = (record { pos = 10; ty = ref0; ref = λ x. x }, tt)
 
-  abbrev s13 : Typed.Mo T16 → Typed.Mo T17
-  s13 = Scalar.n-room T16 10 InflightAction.ty
+  abbrev s12 : Typed.Both T15 T16
+  s12 = Call.callB ps·1 r·1 (claims· .2) (claims· .3) T15 args12 7 (0 ∷ List.[]) Syntax.tyBool
 
-  abbrev args14 : Args'.ArgsT ps·1 (T17 .locals)
-  args14 = (record { pos = 6; st = List.[]; d = 0; at = λ x. x }, tt)
+  abbrev s13 : Typed.Mo T16 → Typed.Mo T18
+  s13 = Scalar.n-room T16 10 ref0
 
-  abbrev s14 : Typed.Both T17 T18
-  s14 = Call.callB ps·1 r·1 (claims· .2) (claims· .3) T17 args14 11 List.[] Syntax.tyBool
+  abbrev s14 : Typed.Mo T18 → Typed.Mo T19
+  s14 = Scalar.n-room T18 7 Syntax.tyBool
 
-  abbrev s15 : Typed.Mo T18 → Typed.Mo T20
-  s15 = Scalar.n-room T18 6 InflightAction.ty
-
-  abbrev s16 : Typed.Mo T20 → Typed.Mo T21
-  s16 = Scalar.n-room T20 11 Syntax.tyBool
-
-  abbrev s17 : Typed.Mo T21 → Typed.Mo T22
-  s17 = Scalar.n-use T21 (Scalar.oAt 4 (Syntax.tyInt Syntax.w64) (Row.valS (Row.sInt Syntax.w64))) 0
+  abbrev s15 : Typed.Mo T19 → Typed.Mo T20
+  s15 = Scalar.n-use T19 (Scalar.oAt 4 (Syntax.tyInt Syntax.w64) (Row.valS (Row.sInt Syntax.w64))) 0
       (Rows.sc-here (Row.sInt Syntax.w64)) (Row.sInt Syntax.w64 .of)
 
-  abbrev s18 : Typed.Mo T22 → Typed.Mo T23
-  s18 = Scalar.n-room T22 3 (Syntax.tyInt Syntax.w64)
+  abbrev s16 : Typed.Mo T20 → Typed.Mo T21
+  s16 = Scalar.n-room T20 3 (Syntax.tyInt Syntax.w64)
 
-  abbrev s19 : Typed.Mo T23 → Typed.Mo T24
-  s19 = Scalar.n-room T23 4 (Syntax.tyInt Syntax.w64)
+  abbrev s17 : Typed.Mo T21 → Typed.Mo T22
+  s17 = Scalar.n-room T21 4 (Syntax.tyInt Syntax.w64)
+
+  abbrev s18 : Typed.Mo T22 → Typed.Mo T23
+  s18 = Scalar.n-room T22 5 (Syntax.tyInt Syntax.w64)
+
+  abbrev s19 : Typed.Mo T18 → Typed.Mo T24
+  s19 = Scalar.n-room T18 4 (Syntax.tyInt Syntax.w64)
 
   abbrev s20 : Typed.Mo T24 → Typed.Mo T25
-  s20 = Scalar.n-room T24 5 (Syntax.tyInt Syntax.w64)
+  s20 = Scalar.n-room T24 7 Syntax.tyBool
 
-  abbrev s21 : Typed.Mo T20 → Typed.Mo T26
-  s21 = Scalar.n-room T20 4 (Syntax.tyInt Syntax.w64)
+  abbrev s21 : Typed.Mo T17 → Typed.Mo T26
+  s21 = Scalar.n-use T17 (Scalar.oAt 5 (Syntax.tyInt Syntax.w64) (Row.valS (Row.sInt Syntax.w64))) 4
+      (Rows.sc-here (Row.sInt Syntax.w64)) (Row.sInt Syntax.w64 .of)
 
   abbrev s22 : Typed.Mo T26 → Typed.Mo T27
-  s22 = Scalar.n-room T26 11 Syntax.tyBool
+  s22 = Scalar.n-room T26 5 (Syntax.tyInt Syntax.w64)
 
-  abbrev s23 : Typed.Mo T19 → Typed.Mo T28
-  s23 = Scalar.n-use T19 (Scalar.oAt 5 (Syntax.tyInt Syntax.w64) (Row.valS (Row.sInt Syntax.w64))) 4
+  abbrev s23 : Typed.Mo T4 → Typed.Mo T28
+  s23 = Scalar.n-use T4 (Scalar.oAt 4 (Syntax.tyInt Syntax.w64) (Row.valS (Row.sInt Syntax.w64))) 0
       (Rows.sc-here (Row.sInt Syntax.w64)) (Row.sInt Syntax.w64 .of)
 
   abbrev s24 : Typed.Mo T28 → Typed.Mo T29
-  s24 = Scalar.n-room T28 5 (Syntax.tyInt Syntax.w64)
+  s24 = Scalar.n-room T28 3 (Syntax.tyInt Syntax.w64)
 
-  abbrev s25 : Typed.Mo T4 → Typed.Mo T30
-  s25 = Scalar.n-use T4 (Scalar.oAt 4 (Syntax.tyInt Syntax.w64) (Row.valS (Row.sInt Syntax.w64))) 0
-      (Rows.sc-here (Row.sInt Syntax.w64)) (Row.sInt Syntax.w64 .of)
-
-  abbrev s26 : Typed.Mo T30 → Typed.Mo T31
-  s26 = Scalar.n-room T30 3 (Syntax.tyInt Syntax.w64)
-
-  abbrev s27 : Typed.Mo T31 → Typed.Mo T32
-  s27 = Scalar.n-room T31 4 (Syntax.tyInt Syntax.w64)
+  abbrev s25 : Typed.Mo T29 → Typed.Mo T30
+  s25 = Scalar.n-room T29 4 (Syntax.tyInt Syntax.w64)
 
   abbrev put0 : Rows.sc-here (Row.sInt Syntax.w64) .Mod → Typed.Mo T5 → Typed.Mo T5
   put0 = λ vs u. Row.set 4 (4, Rows.sc-here (Row.sInt Syntax.w64)) vs (T5 .locals) u
@@ -577,7 +546,7 @@ module _ (claims· : Claims) where
       abbrev pub Closed : Type 2
       Closed = (𝓤 : URA.URA M) (H : Wp.Heap 𝓤) (A : Atoms.Atoms 𝓤) (W : Kit.Given 𝓤 H A) (𝓣 : Wp.Tables 𝓤 H) (known0 :
           Plain.Known 𝓤 H A W 𝓣 0 ps·0 r·0 (claims· .0) (claims· .1) "hns_encoding::numbers::min_usize") (known1 :
-          Plain.Known 𝓤 H A W 𝓣 0 ps·1 r·1 (claims· .2) (claims· .3) "hnsr_circuit::records::inflight::is_action") →
+          Plain.Known 𝓤 H A W 𝓣 1 ps·1 r·1 (claims· .2) (claims· .3) "hnsr_circuit::records::inflight::is_action") →
           Statement.Triple 𝓤 (Wp.WpFn 𝓤 H (𝓣 .C) (𝓣 .Λ) (Function.fnOf 1 ps r xs m hs body))
           (Function.plainOf 𝓤 H A 1 ps r Pre· Post·)
 
@@ -595,120 +564,114 @@ module _ (claims· : Claims) where
       at3 = λ Ψ. Typed.pass T6 T9 s5 (at2 Ψ)
 
       abbrev at4 : Typed.TF T6 O4
-      at4 = Scalar.Φcond T6 O4 7 (λ x. x) at1 at3
+      at4 = Scalar.Φcond T6 O4 6 (λ x. x) at1 at3
 
-      abbrev at5 : Typed.TF T25 O5
+      abbrev at5 : Typed.TF T23 O5
       at5 = Typed.atRet O5
 
-      abbrev at6 : Typed.TF T24 O5
-      at6 = λ Ψ. Typed.pass T24 T25 s20 (at5 Ψ)
+      abbrev at6 : Typed.TF T22 O5
+      at6 = λ Ψ. Typed.pass T22 T23 s18 (at5 Ψ)
 
-      abbrev at7 : Typed.TF T23 O5
-      at7 = λ Ψ. Typed.pass T23 T24 s19 (at6 Ψ)
+      abbrev at7 : Typed.TF T21 O5
+      at7 = λ Ψ. Typed.pass T21 T22 s17 (at6 Ψ)
 
-      abbrev at8 : Typed.TF T22 O5
-      at8 = λ Ψ. Typed.pass T22 T23 s18 (at7 Ψ)
+      abbrev at8 : Typed.TF T20 O5
+      at8 = λ Ψ. Typed.pass T20 T21 s16 (at7 Ψ)
 
-      abbrev at9 : Typed.TF T21 O5
-      at9 = λ Ψ. Typed.pass T21 T22 s17 (at8 Ψ)
+      abbrev at9 : Typed.TF T19 O5
+      at9 = λ Ψ. Typed.pass T19 T20 s15 (at8 Ψ)
 
-      abbrev at10 : Typed.TF T20 O5
-      at10 = λ Ψ. Typed.pass T20 T21 s16 (at9 Ψ)
+      abbrev at10 : Typed.TF T18 O5
+      at10 = λ Ψ. Typed.pass T18 T19 s14 (at9 Ψ)
 
-      abbrev at11 : Typed.TF T27 O5
+      abbrev at11 : Typed.TF T25 O5
       at11 = Typed.atNext O5
 
-      abbrev at12 : Typed.TF T26 O5
-      at12 = λ Ψ. Typed.pass T26 T27 s22 (at11 Ψ)
+      abbrev at12 : Typed.TF T24 O5
+      at12 = λ Ψ. Typed.pass T24 T25 s20 (at11 Ψ)
 
-      abbrev at13 : Typed.TF T20 O5
-      at13 = λ Ψ. Typed.pass T20 T26 s21 (at12 Ψ)
+      abbrev at13 : Typed.TF T18 O5
+      at13 = λ Ψ. Typed.pass T18 T24 s19 (at12 Ψ)
 
-      abbrev at14 : Typed.TF T20 O5
-      at14 = Scalar.Φcond T20 O5 11 (λ x. x) at10 at13
+      abbrev at14 : Typed.TF T18 O5
+      at14 = Scalar.Φcond T18 O5 7 (λ x. x) at10 at13
 
-      abbrev at15 : Typed.TF T18 O5
-      at15 = λ Ψ. Typed.pass T18 T20 s15 (at14 Ψ)
+      abbrev at15 : Typed.TF T16 O5
+      at15 = λ Ψ. Typed.pass T16 T18 s13 (at14 Ψ)
 
-      abbrev at16 : Typed.TF T19 O3
-      at16 = λ Ψ. Typed.pass T19 T28 s23 (Typed.pass T28 T29 s24 (Typed.atNext O3 Ψ))
+      abbrev at16 : Typed.TF T17 O3
+      at16 = λ Ψ. Typed.pass T17 T26 s21 (Typed.pass T26 T27 s22 (Typed.atNext O3 Ψ))
 
-      abbrev at17 : Typed.TF T18 O3
-      at17 = λ Ψ. at15 (Typed.wantNext T19 O3 (at16 Ψ) Ψ)
+      abbrev at17 : Typed.TF T16 O3
+      at17 = λ Ψ. at15 (Typed.wantNext T17 O3 (at16 Ψ) Ψ)
 
-      abbrev at18 : Typed.TF T17 O3
-      at18 = λ Ψ. Typed.both s14 (at17 Ψ)
+      abbrev at18 : Typed.TF T15 O3
+      at18 = λ Ψ. Typed.both s12 (at17 Ψ)
 
-      abbrev at19 : Typed.TF T16 O3
-      at19 = λ Ψ. Typed.pass T16 T17 s13 (at18 Ψ)
+      abbrev at19 : Typed.TF T14 O3
+      at19 = λ Ψ. Typed.pass T14 T15 s11 (at18 Ψ)
 
-      abbrev at20 : Typed.TF T15 O3
-      at20 = λ Ψ. Typed.pass T15 T16 s12 (at19 Ψ)
+      abbrev at20 : Typed.TF T13 O3
+      at20 = λ Ψ. Typed.pass T13 T14 s10 (at19 Ψ)
 
-      abbrev at21 : Typed.TF T14 O3
-      at21 = λ Ψ. Typed.pass T14 T15 s11 (at20 Ψ)
+      abbrev at21 : Typed.TF T12 O3
+      at21 = λ Ψ. Typed.both s9 (at20 Ψ)
 
-      abbrev at22 : Typed.TF T13 O3
-      at22 = λ Ψ. Typed.pass T13 T14 s10 (at21 Ψ)
+      abbrev at22 : Typed.TF T11 O3
+      at22 = λ Ψ. Typed.ask s8 (at21 Ψ)
 
-      abbrev at23 : Typed.TF T12 O3
-      at23 = λ Ψ. Typed.both s9 (at22 Ψ)
+      abbrev at23 : Typed.TF T10 O3
+      at23 = λ Ψ. Typed.ask s7 (at22 Ψ)
 
-      abbrev at24 : Typed.TF T11 O3
-      at24 = λ Ψ. Typed.ask s8 (at23 Ψ)
+      abbrev at24 : Typed.TF T7 O3
+      at24 = λ Ψ. Typed.ask s6 (at23 Ψ)
 
-      abbrev at25 : Typed.TF T10 O3
-      at25 = λ Ψ. Typed.ask s7 (at24 Ψ)
+      abbrev at25 : Typed.TF T6 O3
+      at25 = λ Ψ. at4 (Typed.wantNext T7 O3 (at24 Ψ) Ψ)
 
-      abbrev at26 : Typed.TF T7 O3
-      at26 = λ Ψ. Typed.ask s6 (at25 Ψ)
+      abbrev at26 : Typed.TF T5 O3
+      at26 = λ Ψ. Typed.ask s3 (at25 Ψ)
 
-      abbrev at27 : Typed.TF T6 O3
-      at27 = λ Ψ. at4 (Typed.wantNext T7 O3 (at26 Ψ) Ψ)
-
-      abbrev at28 : Typed.TF T5 O3
-      at28 = λ Ψ. Typed.ask s3 (at27 Ψ)
-
-      abbrev at29 : Typed.TF T5 O2
-      at29 = Typed.LoopBy T5 O2 put0 (λ u vs. Inv·0 (Row.get 1 (T5 .locals) u .now) (Row.get 3 (T5 .locals) u)
+      abbrev at27 : Typed.TF T5 O2
+      at27 = Typed.LoopBy T5 O2 put0 (λ u vs. Inv·0 (Row.get 1 (T5 .locals) u .now) (Row.get 3 (T5 .locals) u)
           (Row.get 4 (T5 .locals) u) vs) (λ u vs. μ·0 (Row.get 1 (T5 .locals) u .now) (Row.get 3 (T5 .locals) u)
-          (Row.get 4 (T5 .locals) u) vs) at28
+          (Row.get 4 (T5 .locals) u) vs) at26
 
-      abbrev at30 : Typed.TF T5 O1
-      at30 = λ Ψ. at29 (Typed.inBlock O1 Ψ)
+      abbrev at28 : Typed.TF T5 O1
+      at28 = λ Ψ. at27 (Typed.inBlock O1 Ψ)
 
-      abbrev at31 : Typed.TF T3 O1
-      at31 = λ Ψ. Typed.pass T3 T5 s2 (at30 Ψ)
+      abbrev at29 : Typed.TF T3 O1
+      at29 = λ Ψ. Typed.pass T3 T5 s2 (at28 Ψ)
 
-      abbrev at32 : Typed.TF T32 O0
-      at32 = Typed.atRet O0
+      abbrev at30 : Typed.TF T30 O0
+      at30 = Typed.atRet O0
 
-      abbrev at33 : Typed.TF T31 O0
-      at33 = λ Ψ. Typed.pass T31 T32 s27 (at32 Ψ)
+      abbrev at31 : Typed.TF T29 O0
+      at31 = λ Ψ. Typed.pass T29 T30 s25 (at30 Ψ)
 
-      abbrev at34 : Typed.TF T30 O0
-      at34 = λ Ψ. Typed.pass T30 T31 s26 (at33 Ψ)
+      abbrev at32 : Typed.TF T28 O0
+      at32 = λ Ψ. Typed.pass T28 T29 s24 (at31 Ψ)
 
-      abbrev at35 : Typed.TF T4 O0
-      at35 = λ Ψ. Typed.pass T4 T30 s25 (at34 Ψ)
+      abbrev at33 : Typed.TF T4 O0
+      at33 = λ Ψ. Typed.pass T4 T28 s23 (at32 Ψ)
 
-      abbrev at36 : Typed.TF T3 O0
-      at36 = λ Ψ. at31 (Typed.wantNext T4 O0 (at35 Ψ) Ψ)
+      abbrev at34 : Typed.TF T3 O0
+      at34 = λ Ψ. at29 (Typed.wantNext T4 O0 (at33 Ψ) Ψ)
 
-      abbrev at37 : Typed.TF T2 O0
-      at37 = λ Ψ. Typed.both s1 (at36 Ψ)
+      abbrev at35 : Typed.TF T2 O0
+      at35 = λ Ψ. Typed.both s1 (at34 Ψ)
 
-      abbrev at38 : Typed.TF T0 O0
-      at38 = λ Ψ. Typed.pass T0 T2 s0 (at37 Ψ)
+      abbrev at36 : Typed.TF T0 O0
+      at36 = λ Ψ. Typed.pass T0 T2 s0 (at35 Ψ)
 
       abbrev pub Φ : Typed.TF T0 O0
-      Φ = at38
+      Φ = at36
 
       module _ {M : Type 1} (𝓤 : URA.URA M) (H : Wp.Heap 𝓤) (A : Atoms.Atoms 𝓤) (W : Kit.Given 𝓤 H A)
           (𝓣 : Wp.Tables 𝓤 H) where
         abbrev Knowns : Type 1
         Knowns = Plain.Known 𝓤 H A W 𝓣 0 ps·0 r·0 (claims· .0) (claims· .1) "hns_encoding::numbers::min_usize" ×
-            Plain.Known 𝓤 H A W 𝓣 0 ps·1 r·1 (claims· .2) (claims· .3) "hnsr_circuit::records::inflight::is_action"
+            Plain.Known 𝓤 H A W 𝓣 1 ps·1 r·1 (claims· .2) (claims· .3) "hnsr_circuit::records::inflight::is_action"
 
       module _ (κs : Lifetimes.Lfts 1) (qs : Lifetimes.Shares 1) where
         abbrev life0 : Row.Life
@@ -772,46 +735,40 @@ module _ (claims· : Claims) where
         G18 = record { locals = t14; slots = life0 ∷ List.[] }
 
         abbrev G19 : Row.Cx
-        G19 = record { locals = t15; slots = life0 ∷ List.[] }
+        G19 = record { locals = t6; slots = life0 ∷ List.[] }
 
         abbrev G20 : Row.Cx
-        G20 = record { locals = t16; slots = life0 ∷ List.[] }
+        G20 = record { locals = t15; slots = life0 ∷ List.[] }
 
         abbrev G21 : Row.Cx
-        G21 = record { locals = t6; slots = life0 ∷ List.[] }
+        G21 = record { locals = t16; slots = life0 ∷ List.[] }
 
         abbrev G22 : Row.Cx
         G22 = record { locals = t17; slots = life0 ∷ List.[] }
 
         abbrev G23 : Row.Cx
-        G23 = record { locals = t18; slots = life0 ∷ List.[] }
+        G23 = record { locals = t1; slots = life0 ∷ List.[] }
 
         abbrev G24 : Row.Cx
-        G24 = record { locals = t19; slots = life0 ∷ List.[] }
+        G24 = record { locals = t18; slots = life0 ∷ List.[] }
 
         abbrev G25 : Row.Cx
-        G25 = record { locals = t1; slots = life0 ∷ List.[] }
+        G25 = record { locals = t13; slots = life0 ∷ List.[] }
 
         abbrev G26 : Row.Cx
-        G26 = record { locals = t20; slots = life0 ∷ List.[] }
+        G26 = record { locals = t6; slots = life0 ∷ List.[] }
 
         abbrev G27 : Row.Cx
-        G27 = record { locals = t15; slots = life0 ∷ List.[] }
+        G27 = record { locals = t4; slots = life0 ∷ List.[] }
 
         abbrev G28 : Row.Cx
-        G28 = record { locals = t6; slots = life0 ∷ List.[] }
+        G28 = record { locals = t19; slots = life0 ∷ List.[] }
 
         abbrev G29 : Row.Cx
-        G29 = record { locals = t4; slots = life0 ∷ List.[] }
+        G29 = record { locals = t20; slots = life0 ∷ List.[] }
 
         abbrev G30 : Row.Cx
-        G30 = record { locals = t21; slots = life0 ∷ List.[] }
-
-        abbrev G31 : Row.Cx
-        G31 = record { locals = t22; slots = life0 ∷ List.[] }
-
-        abbrev G32 : Row.Cx
-        G32 = record { locals = t1; slots = life0 ∷ List.[] }
+        G30 = record { locals = t1; slots = life0 ∷ List.[] }
 
         abbrev Δ0 : Typed.Outs
         Δ0 = record { next = Option.none; exits = List.[]; returns = Option.some G1 }
@@ -829,7 +786,7 @@ module _ (claims· : Claims) where
         Δ4 = Typed.withNext (Option.some G7) Δ3
 
         abbrev Δ5 : Typed.Outs
-        Δ5 = Typed.withNext (Option.some G19) Δ3
+        Δ5 = Typed.withNext (Option.some G17) Δ3
 
         module _ {M : Type 1} (𝓤 : URA.URA M) (H : Wp.Heap 𝓤) (A : Atoms.Atoms 𝓤) (W : Kit.Given 𝓤 H A)
             (𝓣 : Wp.Tables 𝓤 H) (known : Knowns 𝓤 H A W 𝓣) (bs : List.List Nat.ℕ)
@@ -841,202 +798,180 @@ module _ (claims· : Claims) where
           d0 = Typed.t-skip 𝓤 H A W 𝓣 E Δ4 tt
 
           d1 : Typed.Typed 𝓤 H A 𝓣 E G6 b3 Δ4 at1
-          d1 = Typed.g-pre 𝓤 H A W 𝓣 E G6 G8 b3 Δ4 (Typed.pass T6 T8 s4) at0 (Scalar.g-room 𝓤 H A W E G6 7
+          d1 = Typed.g-pre 𝓤 H A W 𝓣 E G6 G8 b3 Δ4 (Typed.pass T6 T8 s4) at0 (Scalar.g-room 𝓤 H A W E G6 6
               Syntax.tyBool (Scalar.room-sc 𝓤 H A W Row.sBool)) d0
 
           d2 : Typed.Typed 𝓤 H A 𝓣 E G9 b4 Δ4 at2
           d2 = Typed.t-exit 𝓤 H A W 𝓣 E 1 Δ4 tt
 
           d3 : Typed.Typed 𝓤 H A 𝓣 E G6 b4 Δ4 at3
-          d3 = Typed.g-pre 𝓤 H A W 𝓣 E G6 G9 b4 Δ4 (Typed.pass T6 T9 s5) at2 (Scalar.g-room 𝓤 H A W E G6 7
+          d3 = Typed.g-pre 𝓤 H A W 𝓣 E G6 G9 b4 Δ4 (Typed.pass T6 T9 s5) at2 (Scalar.g-room 𝓤 H A W E G6 6
               Syntax.tyBool (Scalar.room-sc 𝓤 H A W Row.sBool)) d2
 
           d4 : Typed.Typed 𝓤 H A 𝓣 E G6 b5 Δ4 at4
-          d4 = Scalar.t-cond 𝓤 H A W E 𝓣 G6 7 (λ x. x) b3 b4 Δ4 at1 at3 (Scalar.reads-sc 𝓤 H A W Row.sBool) Path.refl
+          d4 = Scalar.t-cond 𝓤 H A W E 𝓣 G6 6 (λ x. x) b3 b4 Δ4 at1 at3 (Scalar.reads-sc 𝓤 H A W Row.sBool) Path.refl
               d1 d3
 
-          d5 : Typed.Typed 𝓤 H A 𝓣 E G25 b13 Δ5 at5
+          d5 : Typed.Typed 𝓤 H A 𝓣 E G23 b12 Δ5 at5
           d5 = Typed.t-return 𝓤 H A W 𝓣 E Δ5 tt
 
-          d6 : Typed.Typed 𝓤 H A 𝓣 E G24 b13 Δ5 at6
-          d6 = Typed.g-pre 𝓤 H A W 𝓣 E G24 G25 b13 Δ5 (Typed.pass T24 T25 s20) at5 (Scalar.g-room 𝓤 H A W E G24 5
+          d6 : Typed.Typed 𝓤 H A 𝓣 E G22 b12 Δ5 at6
+          d6 = Typed.g-pre 𝓤 H A W 𝓣 E G22 G23 b12 Δ5 (Typed.pass T22 T23 s18) at5 (Scalar.g-room 𝓤 H A W E G22 5
               (Syntax.tyInt Syntax.w64) (Scalar.room-sc 𝓤 H A W (Row.sInt Syntax.w64))) d5
 
-          d7 : Typed.Typed 𝓤 H A 𝓣 E G23 b13 Δ5 at7
-          d7 = Typed.g-pre 𝓤 H A W 𝓣 E G23 G24 b13 Δ5 (Typed.pass T23 T24 s19) at6 (Scalar.g-room 𝓤 H A W E G23 4
+          d7 : Typed.Typed 𝓤 H A 𝓣 E G21 b12 Δ5 at7
+          d7 = Typed.g-pre 𝓤 H A W 𝓣 E G21 G22 b12 Δ5 (Typed.pass T21 T22 s17) at6 (Scalar.g-room 𝓤 H A W E G21 4
               (Syntax.tyInt Syntax.w64) (Scalar.room-sc 𝓤 H A W (Row.sInt Syntax.w64))) d6
 
-          d8 : Typed.Typed 𝓤 H A 𝓣 E G22 b13 Δ5 at8
-          d8 = Typed.g-pre 𝓤 H A W 𝓣 E G22 G23 b13 Δ5 (Typed.pass T22 T23 s18) at7 (Scalar.g-room 𝓤 H A W E G22 3
+          d8 : Typed.Typed 𝓤 H A 𝓣 E G20 b12 Δ5 at8
+          d8 = Typed.g-pre 𝓤 H A W 𝓣 E G20 G21 b12 Δ5 (Typed.pass T20 T21 s16) at7 (Scalar.g-room 𝓤 H A W E G20 3
               (Syntax.tyInt Syntax.w64) (Scalar.room-sc 𝓤 H A W (Row.sInt Syntax.w64))) d7
 
-          d9 : Typed.Typed 𝓤 H A 𝓣 E G21 b14 Δ5 at9
-          d9 = Typed.s-seq 𝓤 H A W 𝓣 E G21 G22 b12 b13 Δ5 (Typed.pass T21 T22 s17) at8 (Scalar.t-use 𝓤 H A W E 𝓣 G21 (Scalar.oAt
+          d9 : Typed.Typed 𝓤 H A 𝓣 E G19 b13 Δ5 at9
+          d9 = Typed.s-seq 𝓤 H A W 𝓣 E G19 G20 b11 b12 Δ5 (Typed.pass T19 T20 s15) at8 (Scalar.t-use 𝓤 H A W E 𝓣 G19 (Scalar.oAt
               4 (Syntax.tyInt Syntax.w64) (Row.valS (Row.sInt Syntax.w64))) 0 (Rows.sc-here (Row.sInt Syntax.w64))
               (Syntax.tyInt Syntax.w64) (Row.valS (Row.sInt Syntax.w64)) (Row.sInt Syntax.w64 .of)
               (Scalar.reads-sc 𝓤 H A W (Row.sInt Syntax.w64), Path.refl)
               (Reads'.room-gone 𝓤 H A (Syntax.tyInt Syntax.w64)) (Scalar.holds-sc 𝓤 H A W (Row.sInt Syntax.w64))
               Path.refl (λ u. Path.refl) λ u. tt) d8
 
-          d10 : Typed.Typed 𝓤 H A 𝓣 E G20 b14 Δ5 at10
-          d10 = Typed.g-pre 𝓤 H A W 𝓣 E G20 G21 b14 Δ5 (Typed.pass T20 T21 s16) at9 (Scalar.g-room 𝓤 H A W E G20 11
+          d10 : Typed.Typed 𝓤 H A 𝓣 E G18 b13 Δ5 at10
+          d10 = Typed.g-pre 𝓤 H A W 𝓣 E G18 G19 b13 Δ5 (Typed.pass T18 T19 s14) at9 (Scalar.g-room 𝓤 H A W E G18 7
               Syntax.tyBool (Scalar.room-sc 𝓤 H A W Row.sBool)) d9
 
-          d11 : Typed.Typed 𝓤 H A 𝓣 E G27 b15 Δ5 at11
+          d11 : Typed.Typed 𝓤 H A 𝓣 E G25 b14 Δ5 at11
           d11 = Typed.t-skip 𝓤 H A W 𝓣 E Δ5 tt
 
-          d12 : Typed.Typed 𝓤 H A 𝓣 E G26 b15 Δ5 at12
-          d12 = Typed.g-pre 𝓤 H A W 𝓣 E G26 G27 b15 Δ5 (Typed.pass T26 T27 s22) at11 (Scalar.g-room 𝓤 H A W E G26 11
+          d12 : Typed.Typed 𝓤 H A 𝓣 E G24 b14 Δ5 at12
+          d12 = Typed.g-pre 𝓤 H A W 𝓣 E G24 G25 b14 Δ5 (Typed.pass T24 T25 s20) at11 (Scalar.g-room 𝓤 H A W E G24 7
               Syntax.tyBool (Scalar.room-sc 𝓤 H A W Row.sBool)) d11
 
-          d13 : Typed.Typed 𝓤 H A 𝓣 E G20 b15 Δ5 at13
-          d13 = Typed.g-pre 𝓤 H A W 𝓣 E G20 G26 b15 Δ5 (Typed.pass T20 T26 s21) at12 (Scalar.g-room 𝓤 H A W E G20 4
+          d13 : Typed.Typed 𝓤 H A 𝓣 E G18 b14 Δ5 at13
+          d13 = Typed.g-pre 𝓤 H A W 𝓣 E G18 G24 b14 Δ5 (Typed.pass T18 T24 s19) at12 (Scalar.g-room 𝓤 H A W E G18 4
               (Syntax.tyInt Syntax.w64) (Scalar.room-sc 𝓤 H A W (Row.sInt Syntax.w64))) d12
 
-          d14 : Typed.Typed 𝓤 H A 𝓣 E G20 b16 Δ5 at14
-          d14 = Scalar.t-cond 𝓤 H A W E 𝓣 G20 11 (λ x. x) b14 b15 Δ5 at10 at13 (Scalar.reads-sc 𝓤 H A W Row.sBool)
+          d14 : Typed.Typed 𝓤 H A 𝓣 E G18 b15 Δ5 at14
+          d14 = Scalar.t-cond 𝓤 H A W E 𝓣 G18 7 (λ x. x) b13 b14 Δ5 at10 at13 (Scalar.reads-sc 𝓤 H A W Row.sBool)
               Path.refl d10 d13
 
-          d15 : Typed.Typed 𝓤 H A 𝓣 E G18 b16 Δ5 at15
-          d15 = Typed.g-pre 𝓤 H A W 𝓣 E G18 G20 b16 Δ5 (Typed.pass T18 T20 s15) at14 (Scalar.g-room 𝓤 H A W E G18 6
-              InflightAction.ty (Local.room-whole 𝓤 H A W InflightAction.row InflightAction.ty Path.refl)) d14
+          d15 : Typed.Typed 𝓤 H A 𝓣 E G16 b15 Δ5 at15
+          d15 = Typed.g-pre 𝓤 H A W 𝓣 E G16 G18 b15 Δ5 (Typed.pass T16 T18 s13) at14 (Local.g-drop-sref 𝓤 H A W E G16
+              10 0 InflightAction.row ref0 (λ x. x) (Reads'.as-is 𝓤 H A (Rows.sref InflightAction.row ref0 0))) d14
 
-          d16 : Typed.Typed 𝓤 H A 𝓣 E G19 b17 Δ3 at16
-          d16 = Typed.s-typed 𝓤 H A W 𝓣 E G19 b17 Δ3 (λ Ψ. Typed.pass T19 T28 s23 (Typed.pass T28 T29 s24 Ψ)) tt (Typed.g-post
-              𝓤 H A W 𝓣 E G19 G28 G29 b17 (Typed.pass T19 T28 s23) (Typed.pass T28 T29 s24) (Scalar.t-use 𝓤 H A W E 𝓣
-              G19 (Scalar.oAt 5 (Syntax.tyInt Syntax.w64) (Row.valS (Row.sInt Syntax.w64))) 4
+          d16 : Typed.Typed 𝓤 H A 𝓣 E G17 b16 Δ3 at16
+          d16 = Typed.s-typed 𝓤 H A W 𝓣 E G17 b16 Δ3 (λ Ψ. Typed.pass T17 T26 s21 (Typed.pass T26 T27 s22 Ψ)) tt (Typed.g-post
+              𝓤 H A W 𝓣 E G17 G26 G27 b16 (Typed.pass T17 T26 s21) (Typed.pass T26 T27 s22) (Scalar.t-use 𝓤 H A W E 𝓣
+              G17 (Scalar.oAt 5 (Syntax.tyInt Syntax.w64) (Row.valS (Row.sInt Syntax.w64))) 4
               (Rows.sc-here (Row.sInt Syntax.w64)) (Syntax.tyInt Syntax.w64) (Row.valS (Row.sInt Syntax.w64))
               (Row.sInt Syntax.w64 .of) (Scalar.reads-sc 𝓤 H A W (Row.sInt Syntax.w64), Path.refl)
               (Reads'.room-gone 𝓤 H A (Syntax.tyInt Syntax.w64)) (Scalar.holds-sc 𝓤 H A W (Row.sInt Syntax.w64))
-              Path.refl (λ u. Path.refl) λ u. tt) (Scalar.g-room 𝓤 H A W E G28 5 (Syntax.tyInt Syntax.w64)
+              Path.refl (λ u. Path.refl) λ u. tt) (Scalar.g-room 𝓤 H A W E G26 5 (Syntax.tyInt Syntax.w64)
               (Scalar.room-sc 𝓤 H A W (Row.sInt Syntax.w64))))
 
-          d17 : Typed.Typed 𝓤 H A 𝓣 E G18 b18 Δ3 at17
-          d17 = Typed.t-seq 𝓤 H A W 𝓣 E G18 G19 b16 b17 Δ3 at15 at16 d15 d16
+          d17 : Typed.Typed 𝓤 H A 𝓣 E G16 b17 Δ3 at17
+          d17 = Typed.t-seq 𝓤 H A W 𝓣 E G16 G17 b15 b16 Δ3 at15 at16 d15 d16
 
-          d18 : Typed.Typed 𝓤 H A 𝓣 E G17 b19 Δ3 at18
-          d18 = Typed.s-seq 𝓤 H A W 𝓣 E G17 G18 b11 b18 Δ3 (Typed.both s14) at17 (Plain.t-call-plain 𝓤 H A W 𝓣 0 ps·1
-              r·1 (claims· .2) (claims· .3) "hnsr_circuit::records::inflight::is_action" (known .1) E (λ pos β. β) G17
-              (record { pos = 6; st = List.[]; d = 0; at = λ x. x }, tt) 11 List.[] (Call.sub-id 𝓤 H A W (G17 .slots)) (
-                (
-                  Yields.yields-copy 𝓤 H A W (λ ρ. Unit) InflightAction.row Path.refl
-                      (InflightAction.copies .copy 𝓤 H A W) InflightAction.held (λ x. x) (λ x. x)
-                      (λ ρ told. Local.mem-whole 𝓤 H A W InflightAction.row ρ) λ ρ told. Local.whole-mem 𝓤 H A W
-                      InflightAction.row ρ,
-                  Path.refl,
-                ),
+          d18 : Typed.Typed 𝓤 H A 𝓣 E G15 b18 Δ3 at18
+          d18 = Typed.s-seq 𝓤 H A W 𝓣 E G15 G16 b10 b17 Δ3 (Typed.both s12) at17 (Plain.t-call-plain 𝓤 H A W 𝓣 1 ps·1
+              r·1 (claims· .2) (claims· .3) "hnsr_circuit::records::inflight::is_action" (known .1) E (λ pos β. β) G15
+              (record { pos = 10; ty = ref0; ref = λ x. x }, tt) 7 (0 ∷ List.[]) (Call.sub-id 𝓤 H A W (G15 .slots)) (
+                ShrRef.spares-sref 𝓤 H A W InflightAction.row ref0 0,
+                Reads'.reads-sref 𝓤 H A W InflightAction.row ref0 0,
+                Path.refl,
                 tt,
-              ) (Reads'.room-gone 𝓤 H A Syntax.tyBool) tt Path.refl) d17
+              ) (Reads'.room-gone 𝓤 H A Syntax.tyBool) (tt, tt) Path.refl) d17
 
-          d19 : Typed.Typed 𝓤 H A 𝓣 E G16 b19 Δ3 at19
-          d19 = Typed.g-pre 𝓤 H A W 𝓣 E G16 G17 b19 Δ3 (Typed.pass T16 T17 s13) at18 (Scalar.g-room 𝓤 H A W E G16 10
-              InflightAction.ty (Local.room-whole 𝓤 H A W InflightAction.row InflightAction.ty Path.refl)) d18
+          d19 : Typed.Typed 𝓤 H A 𝓣 E G14 b18 Δ3 at19
+          d19 = Typed.g-pre 𝓤 H A W 𝓣 E G14 G15 b18 Δ3 (Typed.pass T14 T15 s11) at18 (Scalar.g-room 𝓤 H A W E G14 9
+              Syntax.tyPtr (Scalar.room-sc 𝓤 H A W Row.sPtr)) d18
 
-          d20 : Typed.Typed 𝓤 H A 𝓣 E G15 b20 Δ3 at20
-          d20 = Typed.s-seq 𝓤 H A W 𝓣 E G15 G16 b10 b19 Δ3 (Typed.pass T15 T16 s12) at19 (LocalCopy.t-val-copy 𝓤 H A W
-              E 𝓣 (λ ρ. Unit) G15 10 6 InflightAction.row InflightAction.ty InflightAction.ty InflightAction.held
-              InflightAction.held (λ x. x) (λ x. x) (λ x. x) Path.refl (Own.told-none 𝓤 H A (G15 .slots)) (Yields.yields-copy
-              𝓤 H A W (λ ρ. Unit) InflightAction.row Path.refl (InflightAction.copies .copy 𝓤 H A W)
-              InflightAction.held (λ x. x) (λ x. x) (λ ρ told. Local.mem-whole 𝓤 H A W InflightAction.row ρ) λ ρ told.
-              Local.whole-mem 𝓤 H A W InflightAction.row ρ) (Reads'.room-gone 𝓤 H A InflightAction.ty) (Yields.makes-mem
-              𝓤 H A W (λ ρ. Unit) InflightAction.row Path.refl InflightAction.held (λ x. x) λ ρ told. Local.whole-mem 𝓤
-              H A W InflightAction.row ρ) Path.refl Path.refl) d19
+          d20 : Typed.Typed 𝓤 H A 𝓣 E G13 b18 Δ3 at20
+          d20 = Typed.g-pre 𝓤 H A W 𝓣 E G13 G14 b18 Δ3 (Typed.pass T13 T14 s10) at19 (Scalar.g-room 𝓤 H A W E G13 8
+              (Syntax.tyInt Syntax.w64) (Scalar.room-sc 𝓤 H A W (Row.sInt Syntax.w64))) d19
 
-          d21 : Typed.Typed 𝓤 H A 𝓣 E G14 b20 Δ3 at21
-          d21 = Typed.g-pre 𝓤 H A W 𝓣 E G14 G15 b20 Δ3 (Typed.pass T14 T15 s11) at20 (Scalar.g-room 𝓤 H A W E G14 9
-              Syntax.tyPtr (Scalar.room-sc 𝓤 H A W Row.sPtr)) d20
+          d21 : Typed.Typed 𝓤 H A 𝓣 E G12 b19 Δ3 at21
+          d21 = Typed.s-seq 𝓤 H A W 𝓣 E G12 G13 b9 b18 Δ3 (Typed.both s9) at20 (Handed.t-shs-elem-same 𝓤 H A W E
+              InflightAction.row 𝓣 (Copies.halved 𝓤 H A W InflightAction.copies) G12 1 9 10 0 InflightAction.ty ref1
+              ref0 life0 (Shared.bySize 184) InflightAction.none (λ x. x) (λ x. x) (λ u. u .1 .1 .1 .1 .1 .0)
+              (λ i o. Elements.at-mul o 184 i) (Reads'.as-is 𝓤 H A (Rows.sslice InflightAction.row ref1 0))
+              (Reads'.as-is 𝓤 H A (Rows.sc-here Row.sPtr)) (Reads'.room-gone 𝓤 H A ref0) Path.refl tt Path.refl
+              Path.refl λ b o. tt) d20
 
-          d22 : Typed.Typed 𝓤 H A 𝓣 E G13 b20 Δ3 at22
-          d22 = Typed.g-pre 𝓤 H A W 𝓣 E G13 G14 b20 Δ3 (Typed.pass T13 T14 s10) at21 (Scalar.g-room 𝓤 H A W E G13 8
-              (Syntax.tyInt Syntax.w64) (Scalar.room-sc 𝓤 H A W (Row.sInt Syntax.w64))) d21
-
-          d23 : Typed.Typed 𝓤 H A 𝓣 E G12 b21 Δ3 at23
-          d23 = Typed.s-seq 𝓤 H A W 𝓣 E G12 G13 b9 b20 Δ3 (Typed.both s9) at22 (Move.t-shs-copy-out 𝓤 H A W E
-              InflightAction.row 𝓣 Path.refl (InflightAction.copies .copy 𝓤 H A W)
-              (Copies.halved 𝓤 H A W InflightAction.copies) (λ ρ. Unit) G12 1 9 10 0 ref0 life0 InflightAction.ty
-              InflightAction.ty InflightAction.held (Shared.bySize 184) (λ u. u .1 .1 .1 .1 .1 .0) (λ x. x)
-              InflightAction.none (λ x. Unit) (λ x. x) (λ x. x) (λ i o. Elements.at-mul o 184 i) Path.refl Path.refl
-              (Own.told-none 𝓤 H A (G12 .slots)) (DerefMove.learns-nothing 𝓤 H A InflightAction.row) (Reads'.as-is 𝓤 H
-              A (Rows.sslice InflightAction.row ref0 0)) (Reads'.as-is 𝓤 H A (Rows.sc-here Row.sPtr))
-              (Reads'.room-gone 𝓤 H A InflightAction.ty) (Yields.makes-mem 𝓤 H A W (λ ρ. Unit) InflightAction.row
-              Path.refl InflightAction.held (λ x. x) λ ρ told. Local.whole-mem 𝓤 H A W InflightAction.row ρ) Path.refl
-              tt Path.refl Path.refl) d22
-
-          d24 : Typed.Typed 𝓤 H A 𝓣 E G11 b22 Δ3 at24
-          d24 = Typed.s-seq 𝓤 H A W 𝓣 E G11 G12 b8 b21 Δ3 (Typed.ask s8) at23 (Scalar.t-op2 𝓤 H A W E 𝓣 G11
-              Syntax.offset (Scalar.oFld 1 ((Syntax.field 0) ∷ List.[]) ref0 0 Reads'.ptrVal) (Scalar.oAt 8
+          d22 : Typed.Typed 𝓤 H A 𝓣 E G11 b20 Δ3 at22
+          d22 = Typed.s-seq 𝓤 H A W 𝓣 E G11 G12 b8 b19 Δ3 (Typed.ask s8) at21 (Scalar.t-op2 𝓤 H A W E 𝓣 G11
+              Syntax.offset (Scalar.oFld 1 ((Syntax.field 0) ∷ List.[]) ref1 0 Reads'.ptrVal) (Scalar.oAt 8
               (Syntax.tyInt Syntax.w64) (Row.valS (Row.sInt Syntax.w64))) 9 (Rows.sc-here Row.sPtr) Syntax.tyPtr
               (Row.valS Row.sPtr) (Row.sPtr .of) (
-                Shared.reads-sslice-ptr 𝓤 H A W InflightAction.row ref0 0 0 Path.refl,
+                Shared.reads-sslice-ptr 𝓤 H A W InflightAction.row ref1 0 0 Path.refl,
                 Path.refl,
               ) (Scalar.reads-sc 𝓤 H A W (Row.sInt Syntax.w64), Path.refl) (Reads'.room-gone 𝓤 H A Syntax.tyPtr)
-              (Scalar.holds-sc 𝓤 H A W Row.sPtr) Path.refl (λ u. Path.refl) λ u. tt) d23
+              (Scalar.holds-sc 𝓤 H A W Row.sPtr) Path.refl (λ u. Path.refl) λ u. tt) d21
 
-          d25 : Typed.Typed 𝓤 H A 𝓣 E G10 b23 Δ3 at25
-          d25 = Typed.s-seq 𝓤 H A W 𝓣 E G10 G11 b7 b22 Δ3 (Typed.ask s7) at24 (Scalar.t-op2 𝓤 H A W E 𝓣 G10
+          d23 : Typed.Typed 𝓤 H A 𝓣 E G10 b21 Δ3 at23
+          d23 = Typed.s-seq 𝓤 H A W 𝓣 E G10 G11 b7 b20 Δ3 (Typed.ask s7) at22 (Scalar.t-op2 𝓤 H A W E 𝓣 G10
               (Syntax.mul Syntax.unsigned) (Scalar.oAt 5 (Syntax.tyInt Syntax.w64) (Row.valS (Row.sInt Syntax.w64)))
               (Scalar.oInt Syntax.w64 184) 8 (Rows.sc-here (Row.sInt Syntax.w64)) (Syntax.tyInt Syntax.w64)
               (Row.valS (Row.sInt Syntax.w64)) (Row.sInt Syntax.w64 .of)
               (Scalar.reads-sc 𝓤 H A W (Row.sInt Syntax.w64), Path.refl) tt
               (Reads'.room-gone 𝓤 H A (Syntax.tyInt Syntax.w64)) (Scalar.holds-sc 𝓤 H A W (Row.sInt Syntax.w64))
-              Path.refl (λ u. Path.refl) λ u. tt) d24
+              Path.refl (λ u. Path.refl) λ u. tt) d22
 
-          d26 : Typed.Typed 𝓤 H A 𝓣 E G7 b24 Δ3 at26
-          d26 = Typed.s-seq 𝓤 H A W 𝓣 E G7 G10 b6 b23 Δ3 (Typed.ask s6) at25 (Scalar.t-op2 𝓤 H A W E 𝓣 G7
+          d24 : Typed.Typed 𝓤 H A 𝓣 E G7 b22 Δ3 at24
+          d24 = Typed.s-seq 𝓤 H A W 𝓣 E G7 G10 b6 b21 Δ3 (Typed.ask s6) at23 (Scalar.t-op2 𝓤 H A W E 𝓣 G7
               (Syntax.sub Syntax.unsigned) (Scalar.oAt 4 (Syntax.tyInt Syntax.w64) (Row.valS (Row.sInt Syntax.w64)))
               (Scalar.oInt Syntax.w64 1) 5 (Rows.sc-here (Row.sInt Syntax.w64)) (Syntax.tyInt Syntax.w64)
               (Row.valS (Row.sInt Syntax.w64)) (Row.sInt Syntax.w64 .of)
               (Scalar.reads-sc 𝓤 H A W (Row.sInt Syntax.w64), Path.refl) tt
               (Reads'.room-gone 𝓤 H A (Syntax.tyInt Syntax.w64)) (Scalar.holds-sc 𝓤 H A W (Row.sInt Syntax.w64))
-              Path.refl (λ u. Path.refl) λ u. tt) d25
+              Path.refl (λ u. Path.refl) λ u. tt) d23
 
-          d27 : Typed.Typed 𝓤 H A 𝓣 E G6 b25 Δ3 at27
-          d27 = Typed.t-seq 𝓤 H A W 𝓣 E G6 G7 b5 b24 Δ3 at4 at26 d4 d26
+          d25 : Typed.Typed 𝓤 H A 𝓣 E G6 b23 Δ3 at25
+          d25 = Typed.t-seq 𝓤 H A W 𝓣 E G6 G7 b5 b22 Δ3 at4 at24 d4 d24
 
-          d28 : Typed.Typed 𝓤 H A 𝓣 E G5 b26 Δ3 at28
-          d28 = Typed.s-seq 𝓤 H A W 𝓣 E G5 G6 b2 b25 Δ3 (Typed.ask s3) at27 (Scalar.t-op2 𝓤 H A W E 𝓣 G5
+          d26 : Typed.Typed 𝓤 H A 𝓣 E G5 b24 Δ3 at26
+          d26 = Typed.s-seq 𝓤 H A W 𝓣 E G5 G6 b2 b23 Δ3 (Typed.ask s3) at25 (Scalar.t-op2 𝓤 H A W E 𝓣 G5
               (Syntax.lt Syntax.unsigned) (Scalar.oInt Syntax.w64 0) (Scalar.oAt 4 (Syntax.tyInt Syntax.w64)
-              (Row.valS (Row.sInt Syntax.w64))) 7 (Rows.sc-here Row.sBool) Syntax.tyBool (Row.valS Row.sBool)
+              (Row.valS (Row.sInt Syntax.w64))) 6 (Rows.sc-here Row.sBool) Syntax.tyBool (Row.valS Row.sBool)
               (Row.sBool .of) tt (Scalar.reads-sc 𝓤 H A W (Row.sInt Syntax.w64), Path.refl)
               (Reads'.room-gone 𝓤 H A Syntax.tyBool) (Scalar.holds-sc 𝓤 H A W Row.sBool) Path.refl (λ u. Path.refl) λ
-              u. tt) d27
+              u. tt) d25
 
-          d29 : Typed.Typed 𝓤 H A 𝓣 E G5 b27 Δ2 at29
-          d29 = Typed.t-loop-by 𝓤 H A W 𝓣 E G5 b26 Δ2 put0 (λ u vs. Inv·0 (Row.get 1 (T5 .locals) u .now)
+          d27 : Typed.Typed 𝓤 H A 𝓣 E G5 b25 Δ2 at27
+          d27 = Typed.t-loop-by 𝓤 H A W 𝓣 E G5 b24 Δ2 put0 (λ u vs. Inv·0 (Row.get 1 (T5 .locals) u .now)
               (Row.get 3 (T5 .locals) u) (Row.get 4 (T5 .locals) u) vs) (λ u vs. μ·0 (Row.get 1 (T5 .locals) u .now)
-              (Row.get 3 (T5 .locals) u) (Row.get 4 (T5 .locals) u) vs) at28 d28
+              (Row.get 3 (T5 .locals) u) (Row.get 4 (T5 .locals) u) vs) at26 d26
 
-          d30 : Typed.Typed 𝓤 H A 𝓣 E G5 b28 Δ1 at30
-          d30 = Typed.t-block 𝓤 H A W 𝓣 E G5 b27 Δ1 at29 d29
+          d28 : Typed.Typed 𝓤 H A 𝓣 E G5 b26 Δ1 at28
+          d28 = Typed.t-block 𝓤 H A W 𝓣 E G5 b25 Δ1 at27 d27
 
-          d31 : Typed.Typed 𝓤 H A 𝓣 E G3 b28 Δ1 at31
-          d31 = Typed.g-pre 𝓤 H A W 𝓣 E G3 G5 b28 Δ1 (Typed.pass T3 T5 s2) at30 (Scalar.g-room 𝓤 H A W E G3 2 Laws.mir (Local.room-whole
-              𝓤 H A W (Declared.row Places.the-type) Laws.mir Path.refl)) d30
+          d29 : Typed.Typed 𝓤 H A 𝓣 E G3 b26 Δ1 at29
+          d29 = Typed.g-pre 𝓤 H A W 𝓣 E G3 G5 b26 Δ1 (Typed.pass T3 T5 s2) at28 (Scalar.g-room 𝓤 H A W E G3 2 Laws.mir (Local.room-whole
+              𝓤 H A W (Declared.row Places.the-type) Laws.mir Path.refl)) d28
 
-          d32 : Typed.Typed 𝓤 H A 𝓣 E G32 b30 Δ0 at32
-          d32 = Typed.t-return 𝓤 H A W 𝓣 E Δ0 tt
+          d30 : Typed.Typed 𝓤 H A 𝓣 E G30 b28 Δ0 at30
+          d30 = Typed.t-return 𝓤 H A W 𝓣 E Δ0 tt
 
-          d33 : Typed.Typed 𝓤 H A 𝓣 E G31 b30 Δ0 at33
-          d33 = Typed.g-pre 𝓤 H A W 𝓣 E G31 G32 b30 Δ0 (Typed.pass T31 T32 s27) at32 (Scalar.g-room 𝓤 H A W E G31 4
-              (Syntax.tyInt Syntax.w64) (Scalar.room-sc 𝓤 H A W (Row.sInt Syntax.w64))) d32
+          d31 : Typed.Typed 𝓤 H A 𝓣 E G29 b28 Δ0 at31
+          d31 = Typed.g-pre 𝓤 H A W 𝓣 E G29 G30 b28 Δ0 (Typed.pass T29 T30 s25) at30 (Scalar.g-room 𝓤 H A W E G29 4
+              (Syntax.tyInt Syntax.w64) (Scalar.room-sc 𝓤 H A W (Row.sInt Syntax.w64))) d30
 
-          d34 : Typed.Typed 𝓤 H A 𝓣 E G30 b30 Δ0 at34
-          d34 = Typed.g-pre 𝓤 H A W 𝓣 E G30 G31 b30 Δ0 (Typed.pass T30 T31 s26) at33 (Scalar.g-room 𝓤 H A W E G30 3
-              (Syntax.tyInt Syntax.w64) (Scalar.room-sc 𝓤 H A W (Row.sInt Syntax.w64))) d33
+          d32 : Typed.Typed 𝓤 H A 𝓣 E G28 b28 Δ0 at32
+          d32 = Typed.g-pre 𝓤 H A W 𝓣 E G28 G29 b28 Δ0 (Typed.pass T28 T29 s24) at31 (Scalar.g-room 𝓤 H A W E G28 3
+              (Syntax.tyInt Syntax.w64) (Scalar.room-sc 𝓤 H A W (Row.sInt Syntax.w64))) d31
 
-          d35 : Typed.Typed 𝓤 H A 𝓣 E G4 b31 Δ0 at35
-          d35 = Typed.s-seq 𝓤 H A W 𝓣 E G4 G30 b29 b30 Δ0 (Typed.pass T4 T30 s25) at34 (Scalar.t-use 𝓤 H A W E 𝓣 G4 (Scalar.oAt
+          d33 : Typed.Typed 𝓤 H A 𝓣 E G4 b29 Δ0 at33
+          d33 = Typed.s-seq 𝓤 H A W 𝓣 E G4 G28 b27 b28 Δ0 (Typed.pass T4 T28 s23) at32 (Scalar.t-use 𝓤 H A W E 𝓣 G4 (Scalar.oAt
               4 (Syntax.tyInt Syntax.w64) (Row.valS (Row.sInt Syntax.w64))) 0 (Rows.sc-here (Row.sInt Syntax.w64))
               (Syntax.tyInt Syntax.w64) (Row.valS (Row.sInt Syntax.w64)) (Row.sInt Syntax.w64 .of)
               (Scalar.reads-sc 𝓤 H A W (Row.sInt Syntax.w64), Path.refl)
               (Reads'.room-gone 𝓤 H A (Syntax.tyInt Syntax.w64)) (Scalar.holds-sc 𝓤 H A W (Row.sInt Syntax.w64))
-              Path.refl (λ u. Path.refl) λ u. tt) d34
+              Path.refl (λ u. Path.refl) λ u. tt) d32
 
-          d36 : Typed.Typed 𝓤 H A 𝓣 E G3 b32 Δ0 at36
-          d36 = Typed.t-seq 𝓤 H A W 𝓣 E G3 G4 b28 b31 Δ0 at31 at35 d31 d35
+          d34 : Typed.Typed 𝓤 H A 𝓣 E G3 b30 Δ0 at34
+          d34 = Typed.t-seq 𝓤 H A W 𝓣 E G3 G4 b26 b29 Δ0 at29 at33 d29 d33
 
-          d37 : Typed.Typed 𝓤 H A 𝓣 E G2 b33 Δ0 at37
-          d37 = Typed.s-seq 𝓤 H A W 𝓣 E G2 G3 b1 b32 Δ0 (Typed.both s1) at36 (Plain.t-call-plain 𝓤 H A W 𝓣 0 ps·0 r·0
+          d35 : Typed.Typed 𝓤 H A 𝓣 E G2 b31 Δ0 at35
+          d35 = Typed.s-seq 𝓤 H A W 𝓣 E G2 G3 b1 b30 Δ0 (Typed.both s1) at34 (Plain.t-call-plain 𝓤 H A W 𝓣 0 ps·0 r·0
               (claims· .0) (claims· .1) "hns_encoding::numbers::min_usize" (known .0) E (λ pos β. β) G2 (
                 Num.vFld 2 ((Syntax.field 3) ∷ List.[]) 24 λ x. Places.struct .as-values x .1 .1 .1 .0,
                 (Num.vAt 3 λ x. x, tt),
@@ -1046,20 +981,20 @@ module _ (claims· : Claims) where
                   Path.refl,
                 ),
                 ((Scalar.reads-sc 𝓤 H A W (Row.sInt Syntax.w64), Path.refl), tt),
-              ) (Reads'.room-gone 𝓤 H A (Syntax.tyInt Syntax.w64)) tt Path.refl) d36
+              ) (Reads'.room-gone 𝓤 H A (Syntax.tyInt Syntax.w64)) tt Path.refl) d34
 
-          d38 : Typed.Typed 𝓤 H A 𝓣 E G0 b34 Δ0 at38
-          d38 = Typed.s-seq 𝓤 H A W 𝓣 E G0 G2 b0 b33 Δ0 (Typed.pass T0 T2 s0) at37 (Scalar.t-use 𝓤 H A W E 𝓣 G0 (Scalar.oFld
+          d36 : Typed.Typed 𝓤 H A 𝓣 E G0 b32 Δ0 at36
+          d36 = Typed.s-seq 𝓤 H A W 𝓣 E G0 G2 b0 b31 Δ0 (Typed.pass T0 T2 s0) at35 (Scalar.t-use 𝓤 H A W E 𝓣 G0 (Scalar.oFld
               1 ((Syntax.field 1) ∷ List.[]) (Syntax.tyInt Syntax.w64) 8 Shared.lenV) 3
               (Rows.sc-here (Row.sInt Syntax.w64)) (Syntax.tyInt Syntax.w64) (Row.valS (Row.sInt Syntax.w64))
               (Row.sInt Syntax.w64 .of) (
-                Shared.reads-sslice-len 𝓤 H A W InflightAction.row ref0 0 8 Path.refl,
+                Shared.reads-sslice-len 𝓤 H A W InflightAction.row ref1 0 8 Path.refl,
                 Path.refl,
               ) (Reads'.room-gone 𝓤 H A (Syntax.tyInt Syntax.w64)) (Scalar.holds-sc 𝓤 H A W (Row.sInt Syntax.w64))
-              Path.refl (λ u. Path.refl) λ u. tt) d37
+              Path.refl (λ u. Path.refl) λ u. tt) d35
 
-          pub typed : Typed.Typed 𝓤 H A 𝓣 E (Function.Γin 1 ps r xs m κs qs) b34 (Function.Δret 1 ps r xs m κs qs) Φ
-          typed = d38
+          pub typed : Typed.Typed 𝓤 H A 𝓣 E (Function.Γin 1 ps r xs m κs qs) b32 (Function.Δret 1 ps r xs m κs qs) Φ
+          typed = d36
 
       module _ (κs : Lifetimes.Lfts 1) where
         pub record Args : Type 0 where
@@ -1108,7 +1043,7 @@ module _ (claims· : Claims) where
           (c .min-usize)
 
       abbrev W1 : (before : Start) → (given : s1 .gives (m1 (before .κs) (before .args))) → Typed.Want O1
-      W1 = λ before given. Typed.wantNext T4 O0 (at35 (W0 (before .κs) (before .args)))
+      W1 = λ before given. Typed.wantNext T4 O0 (at33 (W0 (before .κs) (before .args)))
           (W0 (before .κs) (before .args))
 
       abbrev pub m3 : (before : Start) → (given : s1 .gives (m1 (before .κs) (before .args))) → Typed.Mo T5
@@ -1129,14 +1064,14 @@ module _ (claims· : Claims) where
       abbrev W3 : (before : After-min-usize) → (n : Rows.sc-here (Row.sInt Syntax.w64) .Mod) → Typed.Want O3
       W3 = λ before n. Typed.inLoop T5 O2 (Typed.Round T5 O2 put0 (λ u vs. Inv·0 (Row.get 1 (T5 .locals) u .now)
           (Row.get 3 (T5 .locals) u) (Row.get 4 (T5 .locals) u) vs) (λ u vs. μ·0 (Row.get 1 (T5 .locals) u .now)
-          (Row.get 3 (T5 .locals) u) (Row.get 4 (T5 .locals) u) vs) at28
+          (Row.get 3 (T5 .locals) u) (Row.get 4 (T5 .locals) u) vs) at26
           (m3 (before .before) (After-min-usize·gave before)) n) (W2 (before .before) (After-min-usize·gave before))
 
       abbrev pub m5 : (before : After-min-usize) → (n : Rows.sc-here (Row.sInt Syntax.w64) .Mod) → Typed.Mo T6
       m5 = λ before n. s3 .next (m4 before n)
 
       abbrev W4 : (before : After-min-usize) → (n : Rows.sc-here (Row.sInt Syntax.w64) .Mod) → Typed.Want O4
-      W4 = λ before n. Typed.wantNext T7 O3 (at26 (W3 before n)) (W3 before n)
+      W4 = λ before n. Typed.wantNext T7 O3 (at24 (W3 before n)) (W3 before n)
 
       module _ (before· : After-min-usize) where
         pub record At-loop·own : Type 0 where
@@ -1177,8 +1112,8 @@ module _ (claims· : Claims) where
       abbrev pub m8 : (before : At-loop) → Typed.Mo T10
       m8 = λ before. s6 .next (m6 before)
 
-      abbrev pub Need-mul-row : Type 0
-      Need-mul-row = (c : In-loop) → s7 .asks (m8 (c .before))
+      abbrev pub Need-mul-is-action : Type 0
+      Need-mul-is-action = (c : In-loop) → s7 .asks (m8 (c .before))
 
       abbrev pub m9 : (before : At-loop) → Typed.Mo T11
       m9 = λ before. s7 .next (m8 before)
@@ -1186,8 +1121,8 @@ module _ (claims· : Claims) where
       abbrev pub m10 : (before : At-loop) → Typed.Mo T12
       m10 = λ before. s8 .next (m9 before)
 
-      abbrev pub Need-shared-slice-copy-out-row : Type 0
-      Need-shared-slice-copy-out-row = (c : In-loop) → Shared.InSlice T12 1 9 (λ x. x) (λ u. u .1 .1 .1 .1 .1 .0)
+      abbrev pub Need-shared-slice-element-is-action : Type 0
+      Need-shared-slice-element-is-action = (c : In-loop) → Shared.InSlice T12 1 9 (λ x. x) (λ u. u .1 .1 .1 .1 .1 .0)
           (m10 (c .before))
 
       abbrev pub m11 : (before : In-loop) → (given : s9 .gives (m10 (before .before))) → Typed.Mo T13
@@ -1199,52 +1134,52 @@ module _ (claims· : Claims) where
       abbrev pub m13 : (before : In-loop) → (given : s9 .gives (m10 (before .before))) → Typed.Mo T15
       m13 = λ before given. s11 (m12 before given)
 
-      abbrev pub m14 : (before : In-loop) → (given : s9 .gives (m10 (before .before))) → Typed.Mo T16
-      m14 = λ before given. s12 (m13 before given)
-
-      abbrev pub m15 : (before : In-loop) → (given : s9 .gives (m10 (before .before))) → Typed.Mo T17
-      m15 = λ before given. s13 (m14 before given)
-
       module _ (before· : In-loop) where
-        pub record After-row·own : Type 0 where
+        pub record After-is-action-arg·own : Type 0 where
           pub given : s9 .gives (m10 (before· .before))
 
-      pub record After-row : Type 0 where
+      pub record After-is-action-arg : Type 0 where
         pub before : In-loop
-        pub row : After-row·own before
+        pub is-action-arg : After-is-action-arg·own before
 
       abbrev pub Need-is-action-requires : Type 0
-      Need-is-action-requires = (c : After-row) → s14 .asks (m15 (c .before) (c .row .given))
+      Need-is-action-requires = (c : After-is-action-arg) → s12 .asks (m13 (c .before) (c .is-action-arg .given))
 
-      abbrev pub m16 : (before : After-row) → (given : s14 .gives (m15 (before .before) (before .row .given))) →
-          Typed.Mo T18
-      m16 = λ before given. s14 .next (m15 (before .before) (before .row .given)) given
+      abbrev pub m14 : (before : After-is-action-arg) → (given : s12 .gives
+          (m13 (before .before) (before .is-action-arg .given))) → Typed.Mo T16
+      m14 = λ before given. s12 .next (m13 (before .before) (before .is-action-arg .given)) given
 
-      module _ (before· : After-row) where
+      module _ (before· : After-is-action-arg) where
         abbrev pub After-is-action·own : Type 0
-        After-is-action·own = Called.Called ps·1 r·1 (claims· .3) T17 args14
-            (m15 (before· .before) (before· .row .given))
+        After-is-action·own = Called.Called ps·1 r·1 (claims· .3) T15 args12
+            (m13 (before· .before) (before· .is-action-arg .given))
 
       pub record After-is-action : Type 0 where
-        pub before : After-row
+        pub before : After-is-action-arg
         pub is-action : After-is-action·own before
 
-      abbrev pub After-is-action·gave : (c : After-is-action) → s14 .gives
-          (m15 (c .before .before) (c .before .row .given))
-      After-is-action·gave = λ c. Called.given ps·1 r·1 (claims· .3) T17 args14
-          (m15 (c .before .before) (c .before .row .given)) (c .is-action)
+      abbrev pub After-is-action·gave : (c : After-is-action) → s12 .gives
+          (m13 (c .before .before) (c .before .is-action-arg .given))
+      After-is-action·gave = λ c. Called.given ps·1 r·1 (claims· .3) T15 args12
+          (m13 (c .before .before) (c .before .is-action-arg .given)) (c .is-action)
 
-      abbrev W5 : (before : After-row) → (given : s14 .gives (m15 (before .before) (before .row .given))) → Typed.Want
-          O5
-      W5 = λ before given. Typed.wantNext T19 O3 (at16 (W3 (before .before .before .before)
+      abbrev W5 : (before : After-is-action-arg) → (given : s12 .gives
+          (m13 (before .before) (before .is-action-arg .given))) → Typed.Want O5
+      W5 = λ before given. Typed.wantNext T17 O3 (at16 (W3 (before .before .before .before)
           (before .before .before .loop .n))) (W3 (before .before .before .before) (before .before .before .loop .n))
 
-      abbrev pub m17 : (before : After-row) → (given : s14 .gives (m15 (before .before) (before .row .given))) →
-          Typed.Mo T20
-      m17 = λ before given. s15 (m16 before given)
+      abbrev pub m15 : (before : After-is-action-arg) → (given : s12 .gives
+          (m13 (before .before) (before .is-action-arg .given))) → Typed.Mo T18
+      m15 = λ before given. s13 (m14 before given)
+
+      abbrev pub m16 : (before : After-is-action) → Typed.Mo T19
+      m16 = λ before. s14 (m15 (before .before) (After-is-action·gave before))
+
+      abbrev pub m17 : (before : After-is-action) → Typed.Mo T20
+      m17 = λ before. s15 (m16 before)
 
       abbrev pub m18 : (before : After-is-action) → Typed.Mo T21
-      m18 = λ before. s16 (m17 (before .before) (After-is-action·gave before))
+      m18 = λ before. s16 (m17 before)
 
       abbrev pub m19 : (before : After-is-action) → Typed.Mo T22
       m19 = λ before. s17 (m18 before)
@@ -1252,15 +1187,9 @@ module _ (claims· : Claims) where
       abbrev pub m20 : (before : After-is-action) → Typed.Mo T23
       m20 = λ before. s18 (m19 before)
 
-      abbrev pub m21 : (before : After-is-action) → Typed.Mo T24
-      m21 = λ before. s19 (m20 before)
-
-      abbrev pub m22 : (before : After-is-action) → Typed.Mo T25
-      m22 = λ before. s20 (m21 before)
-
       module _ (before· : After-is-action) where
         pub record Then1·own : Type 0 where
-          pub taken : Path._≡_ (Row.get 11 (T20 .locals) (m17 (before· .before) (After-is-action·gave before·)))
+          pub taken : Path._≡_ (Row.get 7 (T18 .locals) (m15 (before· .before) (After-is-action·gave before·)))
               Bool'.true
 
       pub record Then1 : Type 0 where
@@ -1271,34 +1200,34 @@ module _ (claims· : Claims) where
       Need-returns = (c : Then1) → Post· (c .before .before .before .before .before .before .κs) (dens
           (c .before .before .before .before .before .before .κs)
           (c .before .before .before .before .before .before .args)) (Function.resV r
-          (c .before .before .before .before .before .before .κs) (m22 (c .before) .0)) (Clauses.atExit
+          (c .before .before .before .before .before .before .κs) (m20 (c .before) .0)) (Clauses.atExit
           (Kinds.endedOf 1 ps r) (c .before .before .before .before .before .before .κs) (dens
           (c .before .before .before .before .before .before .κs)
           (c .before .before .before .before .before .before .args)) (Enter.lastsP
           (c .before .before .before .before .before .before .κs) 1 ps xs (dens
           (c .before .before .before .before .before .before .κs)
-          (c .before .before .before .before .before .before .args)) (m22 (c .before) .1)))
+          (c .before .before .before .before .before .before .args)) (m20 (c .before) .1)))
 
-      abbrev pub m23 : (before : After-is-action) → Typed.Mo T26
-      m23 = λ before. s21 (m17 (before .before) (After-is-action·gave before))
+      abbrev pub m21 : (before : After-is-action) → Typed.Mo T24
+      m21 = λ before. s19 (m15 (before .before) (After-is-action·gave before))
 
-      abbrev pub m24 : (before : After-is-action) → Typed.Mo T27
-      m24 = λ before. s22 (m23 before)
+      abbrev pub m22 : (before : After-is-action) → Typed.Mo T25
+      m22 = λ before. s20 (m21 before)
 
       module _ (before· : After-is-action) where
         pub record Else1·own : Type 0 where
-          pub left : Path._≡_ (Row.get 11 (T20 .locals) (m17 (before· .before) (After-is-action·gave before·)))
+          pub left : Path._≡_ (Row.get 7 (T18 .locals) (m15 (before· .before) (After-is-action·gave before·)))
               Bool'.false
 
       pub record Else1 : Type 0 where
         pub before : After-is-action
         pub if1 : Else1·own before
 
-      abbrev pub m25 : (before : After-is-action) → Typed.Mo T28
-      m25 = λ before. s23 (m24 before)
+      abbrev pub m23 : (before : After-is-action) → Typed.Mo T26
+      m23 = λ before. s21 (m22 before)
 
-      abbrev pub m26 : (before : After-is-action) → Typed.Mo T29
-      m26 = λ before. s24 (m25 before)
+      abbrev pub m24 : (before : After-is-action) → Typed.Mo T27
+      m24 = λ before. s22 (m23 before)
 
       abbrev pub Need-loop-less : Type 0
       Need-loop-less = (c : Else1) → Nat._<_ (μ·0 (Row.get 1 (T5 .locals) (m3
@@ -1307,7 +1236,7 @@ module _ (claims· : Claims) where
           (c .before .before .before .before .before .before) (After-min-usize·gave
           (c .before .before .before .before .before)))) (Row.get 4 (T5 .locals) (m3
           (c .before .before .before .before .before .before) (After-min-usize·gave
-          (c .before .before .before .before .before)))) (Row.get 4 (T5 .locals) (m26 (c .before)))) (μ·0 (Row.get 1
+          (c .before .before .before .before .before)))) (Row.get 4 (T5 .locals) (m24 (c .before)))) (μ·0 (Row.get 1
           (T5 .locals) (m3 (c .before .before .before .before .before .before) (After-min-usize·gave
           (c .before .before .before .before .before))) .now) (Row.get 3 (T5 .locals) (m3
           (c .before .before .before .before .before .before) (After-min-usize·gave
@@ -1322,57 +1251,57 @@ module _ (claims· : Claims) where
           (c .before .before .before .before .before .before) (After-min-usize·gave
           (c .before .before .before .before .before)))) (Row.get 4 (T5 .locals) (m3
           (c .before .before .before .before .before .before) (After-min-usize·gave
-          (c .before .before .before .before .before)))) (Row.get 4 (T5 .locals) (m26 (c .before)))
+          (c .before .before .before .before .before)))) (Row.get 4 (T5 .locals) (m24 (c .before)))
+
+      abbrev pub m25 : (before : At-loop) → Typed.Mo T28
+      m25 = λ before. s23 (m7 before)
+
+      abbrev pub m26 : (before : At-loop) → Typed.Mo T29
+      m26 = λ before. s24 (m25 before)
 
       abbrev pub m27 : (before : At-loop) → Typed.Mo T30
-      m27 = λ before. s25 (m7 before)
-
-      abbrev pub m28 : (before : At-loop) → Typed.Mo T31
-      m28 = λ before. s26 (m27 before)
-
-      abbrev pub m29 : (before : At-loop) → Typed.Mo T32
-      m29 = λ before. s27 (m28 before)
+      m27 = λ before. s25 (m26 before)
 
       abbrev pub Need-returns-2 : Type 0
       Need-returns-2 = (c : After-loop) → Post· (c .before .before .before .κs) (dens (c .before .before .before .κs)
-          (c .before .before .before .args)) (Function.resV r (c .before .before .before .κs) (m29 (c .before) .0)) (Clauses.atExit
+          (c .before .before .before .args)) (Function.resV r (c .before .before .before .κs) (m27 (c .before) .0)) (Clauses.atExit
           (Kinds.endedOf 1 ps r) (c .before .before .before .κs) (dens (c .before .before .before .κs)
           (c .before .before .before .args)) (Enter.lastsP (c .before .before .before .κs) 1 ps xs (dens
-          (c .before .before .before .κs) (c .before .before .before .args)) (m29 (c .before) .1)))
+          (c .before .before .before .κs) (c .before .before .before .args)) (m27 (c .before) .1)))
 
       module _ (min-usize-requires : Need-min-usize-requires) (loop-holds : Need-loop-holds) (sub-last : Need-sub-last)
-          (mul-row : Need-mul-row) (shared-slice-copy-out-row : Need-shared-slice-copy-out-row)
+          (mul-is-action : Need-mul-is-action) (shared-slice-element-is-action : Need-shared-slice-element-is-action)
           (is-action-requires : Need-is-action-requires) (returns : Need-returns) (loop-less : Need-loop-less)
           (loop-again : Need-loop-again) (returns-2 : Need-returns-2) where
-        lay7 : (c : After-loop) → at35 (W0 (c .before .before .before .κs) (c .before .before .before .args))
+        lay7 : (c : After-loop) → at33 (W0 (c .before .before .before .κs) (c .before .before .before .args))
             (m7 (c .before))
         lay7 = λ c. ((Path.refl, (tt, tt)), returns-2 record { before = c .before; loop-test = c .loop-test })
 
         lay6 : (c : Else1) → at16 (W3 (c .before .before .before .before .before)
-            (c .before .before .before .before .loop .n)) (m24 (c .before))
+            (c .before .before .before .before .loop .n)) (m22 (c .before))
         lay6 = λ c. (
           μ·0 (Row.get 1 (T5 .locals) (m3 (c .before .before .before .before .before .before) (After-min-usize·gave
               (c .before .before .before .before .before))) .now) (Row.get 3 (T5 .locals) (m3
               (c .before .before .before .before .before .before) (After-min-usize·gave
               (c .before .before .before .before .before)))) (Row.get 4 (T5 .locals) (m3
               (c .before .before .before .before .before .before) (After-min-usize·gave
-              (c .before .before .before .before .before)))) (Row.get 4 (T5 .locals) (m26 (c .before))),
+              (c .before .before .before .before .before)))) (Row.get 4 (T5 .locals) (m24 (c .before))),
           loop-less record { before = c .before; if1 = c .if1 },
           (
-            Row.get 4 (T5 .locals) (m26 (c .before)),
-            Path.refl {a = m26 (c .before)},
+            Row.get 4 (T5 .locals) (m24 (c .before)),
+            Path.refl {a = m24 (c .before)},
             loop-again record { before = c .before; if1 = c .if1 },
             Path.refl {a = μ·0 (Row.get 1 (T5 .locals) (m3 (c .before .before .before .before .before .before) (After-min-usize·gave
                 (c .before .before .before .before .before))) .now) (Row.get 3 (T5 .locals) (m3
                 (c .before .before .before .before .before .before) (After-min-usize·gave
                 (c .before .before .before .before .before)))) (Row.get 4 (T5 .locals) (m3
                 (c .before .before .before .before .before .before) (After-min-usize·gave
-                (c .before .before .before .before .before)))) (Row.get 4 (T5 .locals) (m26 (c .before)))},
+                (c .before .before .before .before .before)))) (Row.get 4 (T5 .locals) (m24 (c .before)))},
           ),
         )
 
         lay5 : (c : After-is-action) → at17 (W3 (c .before .before .before .before)
-            (c .before .before .before .loop .n)) (m16 (c .before) (After-is-action·gave c))
+            (c .before .before .before .loop .n)) (m14 (c .before) (After-is-action·gave c))
         lay5 = λ c. (
           λ taken. (
             (Path.refl, (tt, tt)),
@@ -1387,30 +1316,30 @@ module _ (claims· : Claims) where
           },
         )
 
-        lay4 : (c : In-loop) → at26 (W3 (c .before .before) (c .before .loop .n)) (m6 (c .before))
+        lay4 : (c : In-loop) → at24 (W3 (c .before .before) (c .before .loop .n)) (m6 (c .before))
         lay4 = λ c. (
           sub-last record { before = c .before; loop-test = c .loop-test },
           (
-            mul-row record { before = c .before; loop-test = c .loop-test },
+            mul-is-action record { before = c .before; loop-test = c .loop-test },
             (
               tt,
               (
                 (
                   Path.refl,
                   Path.refl,
-                  shared-slice-copy-out-row record { before = c .before; loop-test = c .loop-test },
+                  shared-slice-element-is-action record { before = c .before; loop-test = c .loop-test },
                 ),
                 λ g. (
                   is-action-requires record {
                     before = record { before = c .before; loop-test = c .loop-test };
-                    row = record { given = g };
+                    is-action-arg = record { given = g };
                   },
                   λ g'. lay5 record {
                     before = record {
                       before = record { before = c .before; loop-test = c .loop-test };
-                      row = record { given = g };
+                      is-action-arg = record { given = g };
                     };
-                    is-action = Called.called ps·1 r·1 (claims· .3) T17 args14 (m15
+                    is-action = Called.called ps·1 r·1 (claims· .3) T15 args12 (m13
                         record { before = c .before; loop-test = c .loop-test } g) g';
                   },
                 ),
@@ -1427,7 +1356,7 @@ module _ (claims· : Claims) where
             (m5 (c .before .before) (c .before .loop .n))
         lay2 = λ c. lay4 record { before = c .before; loop-test = c .loop-test }
 
-        lay1 : (c : After-min-usize) → at36 (W0 (c .before .κs) (c .before .args))
+        lay1 : (c : After-min-usize) → at34 (W0 (c .before .κs) (c .before .args))
             (m2 (c .before) (After-min-usize·gave c))
         lay1 = λ c. (
           (
@@ -1462,7 +1391,7 @@ module _ (claims· : Claims) where
           ),
         )
 
-        pub laid : (c : Start) → at38 (W0 (c .κs) (c .args)) (m0 (c .κs) (c .args))
+        pub laid : (c : Start) → at36 (W0 (c .κs) (c .args)) (m0 (c .κs) (c .args))
         laid = λ c. (
           min-usize-requires c,
           λ g. lay1 record {
@@ -1484,7 +1413,7 @@ module _ (claims· : Claims) where
 
         module _ {M : Type 1} (𝓤 : URA.URA M) (H : Wp.Heap 𝓤) (A : Atoms.Atoms 𝓤) (W : Kit.Given 𝓤 H A)
             (𝓣 : Wp.Tables 𝓤 H) (known0 : Plain.Known 𝓤 H A W 𝓣 0 ps·0 r·0 (claims· .0) (claims· .1)
-            "hns_encoding::numbers::min_usize") (known1 : Plain.Known 𝓤 H A W 𝓣 0 ps·1 r·1 (claims· .2) (claims· .3)
+            "hns_encoding::numbers::min_usize") (known1 : Plain.Known 𝓤 H A W 𝓣 1 ps·1 r·1 (claims· .2) (claims· .3)
             "hnsr_circuit::records::inflight::is_action") where
           pub spec : Statement.Triple 𝓤 (Wp.WpFn 𝓤 H (𝓣 .C) (𝓣 .Λ) (Function.fnOf 1 ps r xs m hs body))
               (Function.plainOf 𝓤 H A 1 ps r Pre· Post·)

@@ -16,18 +16,15 @@ use borrow.Fn.Kinds
 use borrow.Fn.Plain
 use borrow.Kind.Bool
 use borrow.Kind.Num
+use borrow.Kind.ShrRef
 use borrow.Kind.ShrSlice
-use borrow.Rule.DerefMove
 use borrow.Rule.Local
-use borrow.Rule.LocalCopy
 use borrow.Rule.Scalar
-use borrow.Rule.Slice.Move
+use borrow.Rule.Slice.Handed
 use borrow.Rule.Slice.Shared
-use borrow.Rule.Yields
 use borrow.Struct.Reads
 use borrow.Table.Copies
 use borrow.Table.Elements
-use borrow.Table.Own
 use borrow.Table.Reads as Reads'
 use borrow.Table.Row
 use borrow.Table.Rows
@@ -47,7 +44,10 @@ use types.Kit
 use mathlib.Core.List.{_∷_}
 
 abbrev ref0 : Syntax.Ty
-ref0 = Syntax.tyRef (Syntax.named 0) Syntax.imm RelayPending.to
+ref0 = Syntax.tyRef Syntax.erased Syntax.imm RelayPending.to
+
+abbrev ref1 : Syntax.Ty
+ref1 = Syntax.tyRef (Syntax.named 0) Syntax.imm RelayPending.to
 
 abbrev pub ps : List.List (Kinds.PK 1)
 ps = (ShrSlice.pShrS RelayPending.row 0 tt) ∷ (StructRow.param Places.the-type Laws.the-laws Laws.the-copy
@@ -58,8 +58,7 @@ r = Num.rNum Syntax.w64
 
 abbrev pub xs : List.List Syntax.Ty
 xs = (Syntax.tyInt Syntax.w64) ∷ (Syntax.tyInt Syntax.w64) ∷ (Syntax.tyInt Syntax.w64) ∷ (Syntax.tyInt Syntax.w64) ∷
-    RelayPending.ty ∷ Syntax.tyBool ∷ Syntax.tyBool ∷ (Syntax.tyInt Syntax.w64) ∷ Syntax.tyPtr ∷ RelayPending.ty ∷
-    List.[]
+    Syntax.tyBool ∷ Syntax.tyBool ∷ (Syntax.tyInt Syntax.w64) ∷ Syntax.tyPtr ∷ ref0 ∷ List.[]
 
 abbrev pub m : Nat.ℕ
 m = 0
@@ -70,10 +69,10 @@ ps·0 = (Num.pNum Syntax.w64) ∷ (Num.pNum Syntax.w64) ∷ List.[]
 abbrev pub r·0 : Kinds.RK 0
 r·0 = Num.rNum Syntax.w64
 
-abbrev pub ps·1 : List.List (Kinds.PK 0)
-ps·1 = RelayPending.param ∷ List.[]
+abbrev pub ps·1 : List.List (Kinds.PK 1)
+ps·1 = (ShrRef.pShr RelayPending.row 0 tt) ∷ List.[]
 
-abbrev pub r·1 : Kinds.RK 0
+abbrev pub r·1 : Kinds.RK 1
 r·1 = Bool.rBool
 
 abbrev pub ps·2 : List.List (Kinds.PK 0)
@@ -85,7 +84,7 @@ r·2 = Num.rNum Syntax.w64
 abbrev pub hs : List.List Syntax.Home
 hs = Syntax.valueLocal ∷ Syntax.valueLocal ∷ Syntax.valueLocal ∷ Syntax.valueLocal ∷ Syntax.valueLocal ∷
     Syntax.valueLocal ∷ Syntax.valueLocal ∷ Syntax.valueLocal ∷ Syntax.valueLocal ∷ Syntax.valueLocal ∷
-    Syntax.valueLocal ∷ Syntax.valueLocal ∷ Syntax.valueLocal ∷ List.[]
+    Syntax.valueLocal ∷ Syntax.valueLocal ∷ List.[]
 
 abbrev b0 : Syntax.Body
 b0 = Syntax.assign (Syntax.place 3 List.[]) (Syntax.rvOpd (Syntax.copy (Syntax.place 1 ((Syntax.field 1) ∷ List.[]))))
@@ -101,7 +100,7 @@ abbrev b3 : Syntax.Body
 b3 = Syntax.assign (Syntax.place 6 List.[]) (Syntax.rvOpd (Syntax.int Syntax.w64 0))
 
 abbrev b4 : Syntax.Body
-b4 = Syntax.assign (Syntax.place 9 List.[]) (Syntax.op2 (Syntax.lt Syntax.unsigned)
+b4 = Syntax.assign (Syntax.place 8 List.[]) (Syntax.op2 (Syntax.lt Syntax.unsigned)
     (Syntax.copy (Syntax.place 6 List.[])) (Syntax.copy (Syntax.place 4 List.[])))
 
 abbrev b5 : Syntax.Body
@@ -111,101 +110,95 @@ abbrev b6 : Syntax.Body
 b6 = Syntax.exit 1
 
 abbrev b7 : Syntax.Body
-b7 = Syntax.cond (Syntax.copy (Syntax.place 9 List.[])) b5 b6
+b7 = Syntax.cond (Syntax.copy (Syntax.place 8 List.[])) b5 b6
 
 abbrev b8 : Syntax.Body
-b8 = Syntax.assign (Syntax.place 10 List.[]) (Syntax.op2 (Syntax.mul Syntax.unsigned)
+b8 = Syntax.assign (Syntax.place 9 List.[]) (Syntax.op2 (Syntax.mul Syntax.unsigned)
     (Syntax.copy (Syntax.place 6 List.[])) (Syntax.int Syntax.w64 360))
 
 abbrev b9 : Syntax.Body
-b9 = Syntax.assign (Syntax.place 11 List.[]) (Syntax.op2 Syntax.offset
-    (Syntax.copy (Syntax.place 1 ((Syntax.field 0) ∷ List.[]))) (Syntax.copy (Syntax.place 10 List.[])))
+b9 = Syntax.assign (Syntax.place 10 List.[]) (Syntax.op2 Syntax.offset
+    (Syntax.copy (Syntax.place 1 ((Syntax.field 0) ∷ List.[]))) (Syntax.copy (Syntax.place 9 List.[])))
 
 abbrev b10 : Syntax.Body
-b10 = Syntax.assign (Syntax.place 12 List.[]) (Syntax.rvOpd (Syntax.copy (Syntax.place 11
-    ((Syntax.deref RelayPending.ty) ∷ List.[]))))
+b10 = Syntax.assign (Syntax.place 11 List.[]) (Syntax.addrOf (Syntax.place 10
+    ((Syntax.deref RelayPending.ty) ∷ List.[])))
 
 abbrev b11 : Syntax.Body
-b11 = Syntax.assign (Syntax.place 7 List.[]) (Syntax.rvOpd (Syntax.copy (Syntax.place 12 List.[])))
+b11 = Syntax.call "hnsr_circuit::records::pending::is_pending" ((Syntax.copy (Syntax.place 11 List.[])) ∷ List.[])
+    (Syntax.place 7 List.[])
 
 abbrev b12 : Syntax.Body
-b12 = Syntax.call "hnsr_circuit::records::pending::is_pending" ((Syntax.copy (Syntax.place 7 List.[])) ∷ List.[])
-    (Syntax.place 8 List.[])
+b12 = Syntax.call "hnsr_circuit::tables::scan::one_more" ((Syntax.copy (Syntax.place 5 List.[])) ∷
+    (Syntax.copy (Syntax.place 7 List.[])) ∷ List.[]) (Syntax.place 5 List.[])
 
 abbrev b13 : Syntax.Body
-b13 = Syntax.call "hnsr_circuit::tables::scan::one_more" ((Syntax.copy (Syntax.place 5 List.[])) ∷
-    (Syntax.copy (Syntax.place 8 List.[])) ∷ List.[]) (Syntax.place 5 List.[])
-
-abbrev b14 : Syntax.Body
-b14 = Syntax.assign (Syntax.place 6 List.[]) (Syntax.op2 (Syntax.add Syntax.unsigned)
+b13 = Syntax.assign (Syntax.place 6 List.[]) (Syntax.op2 (Syntax.add Syntax.unsigned)
     (Syntax.copy (Syntax.place 6 List.[])) (Syntax.int Syntax.w64 1))
 
+abbrev b14 : Syntax.Body
+b14 = Syntax.seq b12 b13
+
 abbrev b15 : Syntax.Body
-b15 = Syntax.seq b13 b14
+b15 = Syntax.seq b11 b14
 
 abbrev b16 : Syntax.Body
-b16 = Syntax.seq b12 b15
+b16 = Syntax.seq b10 b15
 
 abbrev b17 : Syntax.Body
-b17 = Syntax.seq b11 b16
+b17 = Syntax.seq b9 b16
 
 abbrev b18 : Syntax.Body
-b18 = Syntax.seq b10 b17
+b18 = Syntax.seq b8 b17
 
 abbrev b19 : Syntax.Body
-b19 = Syntax.seq b9 b18
+b19 = Syntax.seq b7 b18
 
 abbrev b20 : Syntax.Body
-b20 = Syntax.seq b8 b19
+b20 = Syntax.seq b4 b19
 
 abbrev b21 : Syntax.Body
-b21 = Syntax.seq b7 b20
+b21 = Syntax.loop b20
 
 abbrev b22 : Syntax.Body
-b22 = Syntax.seq b4 b21
+b22 = Syntax.block b21
 
 abbrev b23 : Syntax.Body
-b23 = Syntax.loop b22
+b23 = Syntax.assign (Syntax.place 0 List.[]) (Syntax.rvOpd (Syntax.copy (Syntax.place 5 List.[])))
 
 abbrev b24 : Syntax.Body
-b24 = Syntax.block b23
+b24 = Syntax.return
 
 abbrev b25 : Syntax.Body
-b25 = Syntax.assign (Syntax.place 0 List.[]) (Syntax.rvOpd (Syntax.copy (Syntax.place 5 List.[])))
+b25 = Syntax.seq b23 b24
 
 abbrev b26 : Syntax.Body
-b26 = Syntax.return
+b26 = Syntax.seq b22 b25
 
 abbrev b27 : Syntax.Body
-b27 = Syntax.seq b25 b26
+b27 = Syntax.seq b3 b26
 
 abbrev b28 : Syntax.Body
-b28 = Syntax.seq b24 b27
+b28 = Syntax.seq b2 b27
 
 abbrev b29 : Syntax.Body
-b29 = Syntax.seq b3 b28
+b29 = Syntax.seq b1 b28
 
 abbrev b30 : Syntax.Body
-b30 = Syntax.seq b2 b29
-
-abbrev b31 : Syntax.Body
-b31 = Syntax.seq b1 b30
-
-abbrev b32 : Syntax.Body
-b32 = Syntax.seq b0 b31
+b30 = Syntax.seq b0 b29
 
 abbrev pub body : Syntax.Body
-body = b32
+body = b30
 
 abbrev pub Claims : Type 1
-Claims = Kinds.In 0 ps·0 × Kinds.Out 0 ps·0 r·0 × Kinds.In 0 ps·1 × Kinds.Out 0 ps·1 r·1 × Kinds.In 0 ps·2 × Kinds.Out
+Claims = Kinds.In 0 ps·0 × Kinds.Out 0 ps·0 r·0 × Kinds.In 1 ps·1 × Kinds.Out 1 ps·1 r·1 × Kinds.In 0 ps·2 × Kinds.Out
     0 ps·2 r·2
 
 abbrev e0 : Row.Entry
 e0 = (0, Rows.any-gone (Syntax.tyInt Syntax.w64))
 
 abbrev e1 : Row.Entry
-e1 = (1, Rows.sslice RelayPending.row ref0 0)
+e1 = (1, Rows.sslice RelayPending.row ref1 0)
 
 abbrev e2 : Row.Entry
 e2 = (2, Rows.whole (Declared.row Places.the-type))
@@ -223,22 +216,19 @@ abbrev e6 : Row.Entry
 e6 = (6, Rows.any-gone (Syntax.tyInt Syntax.w64))
 
 abbrev e7 : Row.Entry
-e7 = (7, Rows.any-gone RelayPending.ty)
+e7 = (7, Rows.any-gone Syntax.tyBool)
 
 abbrev e8 : Row.Entry
 e8 = (8, Rows.any-gone Syntax.tyBool)
 
 abbrev e9 : Row.Entry
-e9 = (9, Rows.any-gone Syntax.tyBool)
+e9 = (9, Rows.any-gone (Syntax.tyInt Syntax.w64))
 
 abbrev e10 : Row.Entry
-e10 = (10, Rows.any-gone (Syntax.tyInt Syntax.w64))
+e10 = (10, Rows.any-gone Syntax.tyPtr)
 
 abbrev e11 : Row.Entry
-e11 = (11, Rows.any-gone Syntax.tyPtr)
-
-abbrev e12 : Row.Entry
-e12 = (12, Rows.any-gone RelayPending.ty)
+e11 = (11, Rows.any-gone ref0)
 
 abbrev e0·1 : Row.Entry
 e0·1 = (0, Rows.sc-here (Row.sInt Syntax.w64))
@@ -258,86 +248,77 @@ e5·1 = (5, Rows.sc-here (Row.sInt Syntax.w64))
 abbrev e6·1 : Row.Entry
 e6·1 = (6, Rows.sc-here (Row.sInt Syntax.w64))
 
-abbrev e9·1 : Row.Entry
-e9·1 = (9, Rows.sc-here Row.sBool)
-
-abbrev e10·1 : Row.Entry
-e10·1 = (10, Rows.sc-here (Row.sInt Syntax.w64))
-
-abbrev e11·1 : Row.Entry
-e11·1 = (11, Rows.sc-here Row.sPtr)
-
-abbrev e12·1 : Row.Entry
-e12·1 = (12, RelayPending.held)
-
-abbrev e7·1 : Row.Entry
-e7·1 = (7, RelayPending.held)
-
 abbrev e8·1 : Row.Entry
 e8·1 = (8, Rows.sc-here Row.sBool)
 
+abbrev e9·1 : Row.Entry
+e9·1 = (9, Rows.sc-here (Row.sInt Syntax.w64))
+
+abbrev e10·1 : Row.Entry
+e10·1 = (10, Rows.sc-here Row.sPtr)
+
+abbrev e11·1 : Row.Entry
+e11·1 = (11, Rows.sref RelayPending.row ref0 0)
+
+abbrev e7·1 : Row.Entry
+e7·1 = (7, Rows.sc-here Row.sBool)
+
 abbrev pub t0 : List.List Row.Entry
-t0 = e0 ∷ e1 ∷ e2 ∷ e3 ∷ e4 ∷ e5 ∷ e6 ∷ e7 ∷ e8 ∷ e9 ∷ e10 ∷ e11 ∷ e12 ∷ List.[]
+t0 = e0 ∷ e1 ∷ e2 ∷ e3 ∷ e4 ∷ e5 ∷ e6 ∷ e7 ∷ e8 ∷ e9 ∷ e10 ∷ e11 ∷ List.[]
 
 abbrev pub t1 : List.List Row.Entry
-t1 = e0·1 ∷ e1 ∷ e2·1 ∷ e3 ∷ e4 ∷ e5 ∷ e6 ∷ e7 ∷ e8 ∷ e9 ∷ e10 ∷ e11 ∷ e12 ∷ List.[]
+t1 = e0·1 ∷ e1 ∷ e2·1 ∷ e3 ∷ e4 ∷ e5 ∷ e6 ∷ e7 ∷ e8 ∷ e9 ∷ e10 ∷ e11 ∷ List.[]
 
 abbrev pub t2 : List.List Row.Entry
-t2 = e0 ∷ e1 ∷ e2 ∷ e3·1 ∷ e4 ∷ e5 ∷ e6 ∷ e7 ∷ e8 ∷ e9 ∷ e10 ∷ e11 ∷ e12 ∷ List.[]
+t2 = e0 ∷ e1 ∷ e2 ∷ e3·1 ∷ e4 ∷ e5 ∷ e6 ∷ e7 ∷ e8 ∷ e9 ∷ e10 ∷ e11 ∷ List.[]
 
 abbrev pub t3 : List.List Row.Entry
-t3 = e0 ∷ e1 ∷ e2 ∷ e3·1 ∷ e4·1 ∷ e5 ∷ e6 ∷ e7 ∷ e8 ∷ e9 ∷ e10 ∷ e11 ∷ e12 ∷ List.[]
+t3 = e0 ∷ e1 ∷ e2 ∷ e3·1 ∷ e4·1 ∷ e5 ∷ e6 ∷ e7 ∷ e8 ∷ e9 ∷ e10 ∷ e11 ∷ List.[]
 
 abbrev pub t4 : List.List Row.Entry
-t4 = e0 ∷ e1 ∷ e2·1 ∷ e3·1 ∷ e4·1 ∷ e5 ∷ e6 ∷ e7 ∷ e8 ∷ e9 ∷ e10 ∷ e11 ∷ e12 ∷ List.[]
+t4 = e0 ∷ e1 ∷ e2·1 ∷ e3·1 ∷ e4·1 ∷ e5 ∷ e6 ∷ e7 ∷ e8 ∷ e9 ∷ e10 ∷ e11 ∷ List.[]
 
 abbrev pub t5 : List.List Row.Entry
-t5 = e0 ∷ e1 ∷ e2·1 ∷ e3·1 ∷ e4·1 ∷ e5·1 ∷ e6 ∷ e7 ∷ e8 ∷ e9 ∷ e10 ∷ e11 ∷ e12 ∷ List.[]
+t5 = e0 ∷ e1 ∷ e2·1 ∷ e3·1 ∷ e4·1 ∷ e5·1 ∷ e6 ∷ e7 ∷ e8 ∷ e9 ∷ e10 ∷ e11 ∷ List.[]
 
 abbrev pub t6 : List.List Row.Entry
-t6 = e0 ∷ e1 ∷ e2·1 ∷ e3·1 ∷ e4·1 ∷ e5·1 ∷ e6·1 ∷ e7 ∷ e8 ∷ e9 ∷ e10 ∷ e11 ∷ e12 ∷ List.[]
+t6 = e0 ∷ e1 ∷ e2·1 ∷ e3·1 ∷ e4·1 ∷ e5·1 ∷ e6·1 ∷ e7 ∷ e8 ∷ e9 ∷ e10 ∷ e11 ∷ List.[]
 
 abbrev pub t7 : List.List Row.Entry
-t7 = e0 ∷ e1 ∷ e2·1 ∷ e3·1 ∷ e4·1 ∷ e5·1 ∷ e6·1 ∷ e7 ∷ e8 ∷ e9·1 ∷ e10 ∷ e11 ∷ e12 ∷ List.[]
+t7 = e0 ∷ e1 ∷ e2·1 ∷ e3·1 ∷ e4·1 ∷ e5·1 ∷ e6·1 ∷ e7 ∷ e8·1 ∷ e9 ∷ e10 ∷ e11 ∷ List.[]
 
 abbrev pub t8 : List.List Row.Entry
-t8 = e0 ∷ e1 ∷ e2·1 ∷ e3·1 ∷ e4·1 ∷ e5·1 ∷ e6·1 ∷ e7 ∷ e8 ∷ e9 ∷ e10·1 ∷ e11 ∷ e12 ∷ List.[]
+t8 = e0 ∷ e1 ∷ e2·1 ∷ e3·1 ∷ e4·1 ∷ e5·1 ∷ e6·1 ∷ e7 ∷ e8 ∷ e9·1 ∷ e10 ∷ e11 ∷ List.[]
 
 abbrev pub t9 : List.List Row.Entry
-t9 = e0 ∷ e1 ∷ e2·1 ∷ e3·1 ∷ e4·1 ∷ e5·1 ∷ e6·1 ∷ e7 ∷ e8 ∷ e9 ∷ e10·1 ∷ e11·1 ∷ e12 ∷ List.[]
+t9 = e0 ∷ e1 ∷ e2·1 ∷ e3·1 ∷ e4·1 ∷ e5·1 ∷ e6·1 ∷ e7 ∷ e8 ∷ e9·1 ∷ e10·1 ∷ e11 ∷ List.[]
 
 abbrev pub t10 : List.List Row.Entry
-t10 = e0 ∷ e1 ∷ e2·1 ∷ e3·1 ∷ e4·1 ∷ e5·1 ∷ e6·1 ∷ e7 ∷ e8 ∷ e9 ∷ e10·1 ∷ e11·1 ∷ e12·1 ∷ List.[]
+t10 = e0 ∷ e1 ∷ e2·1 ∷ e3·1 ∷ e4·1 ∷ e5·1 ∷ e6·1 ∷ e7 ∷ e8 ∷ e9·1 ∷ e10·1 ∷ e11·1 ∷ List.[]
 
 abbrev pub t11 : List.List Row.Entry
-t11 = e0 ∷ e1 ∷ e2·1 ∷ e3·1 ∷ e4·1 ∷ e5·1 ∷ e6·1 ∷ e7 ∷ e8 ∷ e9 ∷ e10 ∷ e11·1 ∷ e12·1 ∷ List.[]
+t11 = e0 ∷ e1 ∷ e2·1 ∷ e3·1 ∷ e4·1 ∷ e5·1 ∷ e6·1 ∷ e7 ∷ e8 ∷ e9 ∷ e10·1 ∷ e11·1 ∷ List.[]
 
 abbrev pub t12 : List.List Row.Entry
-t12 = e0 ∷ e1 ∷ e2·1 ∷ e3·1 ∷ e4·1 ∷ e5·1 ∷ e6·1 ∷ e7 ∷ e8 ∷ e9 ∷ e10 ∷ e11 ∷ e12·1 ∷ List.[]
+t12 = e0 ∷ e1 ∷ e2·1 ∷ e3·1 ∷ e4·1 ∷ e5·1 ∷ e6·1 ∷ e7 ∷ e8 ∷ e9 ∷ e10 ∷ e11·1 ∷ List.[]
 
 abbrev pub t13 : List.List Row.Entry
-t13 = e0 ∷ e1 ∷ e2·1 ∷ e3·1 ∷ e4·1 ∷ e5·1 ∷ e6·1 ∷ e7·1 ∷ e8 ∷ e9 ∷ e10 ∷ e11 ∷ e12·1 ∷ List.[]
+t13 = e0 ∷ e1 ∷ e2·1 ∷ e3·1 ∷ e4·1 ∷ e5·1 ∷ e6·1 ∷ e7·1 ∷ e8 ∷ e9 ∷ e10 ∷ e11·1 ∷ List.[]
 
 abbrev pub t14 : List.List Row.Entry
-t14 = e0 ∷ e1 ∷ e2·1 ∷ e3·1 ∷ e4·1 ∷ e5·1 ∷ e6·1 ∷ e7·1 ∷ e8 ∷ e9 ∷ e10 ∷ e11 ∷ e12 ∷ List.[]
+t14 = e0 ∷ e1 ∷ e2·1 ∷ e3·1 ∷ e4·1 ∷ e5·1 ∷ e6·1 ∷ e7·1 ∷ e8 ∷ e9 ∷ e10 ∷ e11 ∷ List.[]
 
 abbrev pub t15 : List.List Row.Entry
-t15 = e0 ∷ e1 ∷ e2·1 ∷ e3·1 ∷ e4·1 ∷ e5·1 ∷ e6·1 ∷ e7·1 ∷ e8·1 ∷ e9 ∷ e10 ∷ e11 ∷ e12 ∷ List.[]
+t15 = e0·1 ∷ e1 ∷ e2·1 ∷ e3·1 ∷ e4·1 ∷ e5·1 ∷ e6·1 ∷ e7 ∷ e8 ∷ e9 ∷ e10 ∷ e11 ∷ List.[]
 
 abbrev pub t16 : List.List Row.Entry
-t16 = e0 ∷ e1 ∷ e2·1 ∷ e3·1 ∷ e4·1 ∷ e5·1 ∷ e6·1 ∷ e7 ∷ e8·1 ∷ e9 ∷ e10 ∷ e11 ∷ e12 ∷ List.[]
+t16 = e0·1 ∷ e1 ∷ e2·1 ∷ e3 ∷ e4·1 ∷ e5·1 ∷ e6·1 ∷ e7 ∷ e8 ∷ e9 ∷ e10 ∷ e11 ∷ List.[]
 
 abbrev pub t17 : List.List Row.Entry
-t17 = e0·1 ∷ e1 ∷ e2·1 ∷ e3·1 ∷ e4·1 ∷ e5·1 ∷ e6·1 ∷ e7 ∷ e8 ∷ e9 ∷ e10 ∷ e11 ∷ e12 ∷ List.[]
+t17 = e0·1 ∷ e1 ∷ e2·1 ∷ e3 ∷ e4 ∷ e5·1 ∷ e6·1 ∷ e7 ∷ e8 ∷ e9 ∷ e10 ∷ e11 ∷ List.[]
 
 abbrev pub t18 : List.List Row.Entry
-t18 = e0·1 ∷ e1 ∷ e2·1 ∷ e3 ∷ e4·1 ∷ e5·1 ∷ e6·1 ∷ e7 ∷ e8 ∷ e9 ∷ e10 ∷ e11 ∷ e12 ∷ List.[]
-
-abbrev pub t19 : List.List Row.Entry
-t19 = e0·1 ∷ e1 ∷ e2·1 ∷ e3 ∷ e4 ∷ e5·1 ∷ e6·1 ∷ e7 ∷ e8 ∷ e9 ∷ e10 ∷ e11 ∷ e12 ∷ List.[]
-
-abbrev pub t20 : List.List Row.Entry
-t20 = e0·1 ∷ e1 ∷ e2·1 ∷ e3 ∷ e4 ∷ e5 ∷ e6·1 ∷ e7 ∷ e8 ∷ e9 ∷ e10 ∷ e11 ∷ e12 ∷ List.[]
+t18 = e0·1 ∷ e1 ∷ e2·1 ∷ e3 ∷ e4 ∷ e5 ∷ e6·1 ∷ e7 ∷ e8 ∷ e9 ∷ e10 ∷ e11 ∷ List.[]
 
 abbrev pub T0 : Row.Cx
 T0 = record { locals = t0; slots = List.[] }
@@ -397,19 +378,19 @@ abbrev pub T18 : Row.Cx
 T18 = record { locals = t14; slots = List.[] }
 
 abbrev pub T19 : Row.Cx
-T19 = record { locals = t15; slots = List.[] }
+T19 = record { locals = t14; slots = List.[] }
 
 abbrev pub T20 : Row.Cx
-T20 = record { locals = t16; slots = List.[] }
+T20 = record { locals = t14; slots = List.[] }
 
 abbrev pub T21 : Row.Cx
-T21 = record { locals = t16; slots = List.[] }
+T21 = record { locals = t6; slots = List.[] }
 
 abbrev pub T22 : Row.Cx
-T22 = record { locals = t16; slots = List.[] }
+T22 = record { locals = t15; slots = List.[] }
 
 abbrev pub T23 : Row.Cx
-T23 = record { locals = t6; slots = List.[] }
+T23 = record { locals = t16; slots = List.[] }
 
 abbrev pub T24 : Row.Cx
 T24 = record { locals = t17; slots = List.[] }
@@ -418,13 +399,7 @@ abbrev pub T25 : Row.Cx
 T25 = record { locals = t18; slots = List.[] }
 
 abbrev pub T26 : Row.Cx
-T26 = record { locals = t19; slots = List.[] }
-
-abbrev pub T27 : Row.Cx
-T27 = record { locals = t20; slots = List.[] }
-
-abbrev pub T28 : Row.Cx
-T28 = record { locals = t1; slots = List.[] }
+T26 = record { locals = t1; slots = List.[] }
 
 abbrev pub O0 : Typed.Outs
 O0 = record { next = Option.none; exits = List.[]; returns = Option.some T1 }
@@ -473,78 +448,72 @@ module _ (claims· : Claims) where
 
   abbrev s5 : Typed.Asks T6 T8
   s5 = Scalar.k-op2 T6 (Syntax.lt Syntax.unsigned) (Scalar.oAt 6 (Syntax.tyInt Syntax.w64)
-      (Row.valS (Row.sInt Syntax.w64))) (Scalar.oAt 4 (Syntax.tyInt Syntax.w64) (Row.valS (Row.sInt Syntax.w64))) 9
+      (Row.valS (Row.sInt Syntax.w64))) (Scalar.oAt 4 (Syntax.tyInt Syntax.w64) (Row.valS (Row.sInt Syntax.w64))) 8
       (Rows.sc-here Row.sBool) (Row.sBool .of)
 
   abbrev s6 : Typed.Mo T8 → Typed.Mo T10
-  s6 = Scalar.n-room T8 9 Syntax.tyBool
+  s6 = Scalar.n-room T8 8 Syntax.tyBool
 
   abbrev s7 : Typed.Mo T8 → Typed.Mo T11
-  s7 = Scalar.n-room T8 9 Syntax.tyBool
+  s7 = Scalar.n-room T8 8 Syntax.tyBool
 
   abbrev s8 : Typed.Asks T9 T12
   s8 = Scalar.k-op2 T9 (Syntax.mul Syntax.unsigned) (Scalar.oAt 6 (Syntax.tyInt Syntax.w64)
-      (Row.valS (Row.sInt Syntax.w64))) (Scalar.oInt Syntax.w64 360) 10 (Rows.sc-here (Row.sInt Syntax.w64))
+      (Row.valS (Row.sInt Syntax.w64))) (Scalar.oInt Syntax.w64 360) 9 (Rows.sc-here (Row.sInt Syntax.w64))
       (Row.sInt Syntax.w64 .of)
 
   abbrev s9 : Typed.Asks T12 T13
-  s9 = Scalar.k-op2 T12 Syntax.offset (Scalar.oFld 1 ((Syntax.field 0) ∷ List.[]) ref0 0 Reads'.ptrVal) (Scalar.oAt 10
-      (Syntax.tyInt Syntax.w64) (Row.valS (Row.sInt Syntax.w64))) 11 (Rows.sc-here Row.sPtr) (Row.sPtr .of)
+  s9 = Scalar.k-op2 T12 Syntax.offset (Scalar.oFld 1 ((Syntax.field 0) ∷ List.[]) ref1 0 Reads'.ptrVal) (Scalar.oAt 9
+      (Syntax.tyInt Syntax.w64) (Row.valS (Row.sInt Syntax.w64))) 10 (Rows.sc-here Row.sPtr) (Row.sPtr .of)
 
   abbrev s10 : Typed.Both T13 T14
-  s10 = Move.k-shs-copy-out RelayPending.row T13 1 11 12 0 ref0 Row.off RelayPending.held (Shared.bySize 360)
-      (λ u. u .1 .1 .1 .1 .1 .1 .0) (λ x. x) RelayPending.none (λ x. Unit) (λ x. x) λ x. x
+  s10 = Handed.k-shs-elem-same RelayPending.row T13 1 10 11 0 ref1 ref0 Row.off (Shared.bySize 360) RelayPending.none
+      (λ x. x) (λ x. x) λ u. u .1 .1 .1 .1 .1 .1 .0
 
   abbrev s11 : Typed.Mo T14 → Typed.Mo T15
-  s11 = Scalar.n-room T14 10 (Syntax.tyInt Syntax.w64)
+  s11 = Scalar.n-room T14 9 (Syntax.tyInt Syntax.w64)
 
   abbrev s12 : Typed.Mo T15 → Typed.Mo T16
-  s12 = Scalar.n-room T15 11 Syntax.tyPtr
+  s12 = Scalar.n-room T15 10 Syntax.tyPtr
 
-  abbrev s13 : Typed.Mo T16 → Typed.Mo T17
-  s13 = LocalCopy.n-val-copy T16 12 7 RelayPending.row RelayPending.held RelayPending.held (λ x. x) (λ x. x) λ x. x
+  abbrev args13 : Args'.ArgsT ps·1 (T16 .locals)
+  args13 = (record { pos = 11; ty = ref0; ref = λ x. x }, tt)
+
+  abbrev s13 : Typed.Both T16 T17
+  s13 = Call.callB ps·1 r·1 (claims· .2) (claims· .3) T16 args13 7 (0 ∷ List.[]) Syntax.tyBool
 
   abbrev s14 : Typed.Mo T17 → Typed.Mo T18
-  s14 = Scalar.n-room T17 12 RelayPending.ty
+  s14 = Scalar.n-room T17 11 ref0
 
-  abbrev args15 : Args'.ArgsT ps·1 (T18 .locals)
-  args15 = (record { pos = 7; st = List.[]; d = 0; at = λ x. x }, tt)
+  abbrev args15 : Args'.ArgsT ps·2 (T18 .locals)
+  args15 = (Num.vAt 5 λ x. x, (Bool.bAt 7 λ x. x, tt))
 
   abbrev s15 : Typed.Both T18 T19
-  s15 = Call.callB ps·1 r·1 (claims· .2) (claims· .3) T18 args15 8 List.[] Syntax.tyBool
+  s15 = Call.callB ps·2 r·2 (claims· .4) (claims· .5) T18 args15 5 List.[] (Syntax.tyInt Syntax.w64)
 
-  abbrev s16 : Typed.Mo T19 → Typed.Mo T20
-  s16 = Scalar.n-room T19 7 RelayPending.ty
-
-  abbrev args17 : Args'.ArgsT ps·2 (T20 .locals)
-  args17 = (Num.vAt 5 λ x. x, (Bool.bAt 8 λ x. x, tt))
-
-  abbrev s17 : Typed.Both T20 T21
-  s17 = Call.callB ps·2 r·2 (claims· .4) (claims· .5) T20 args17 5 List.[] (Syntax.tyInt Syntax.w64)
-
-  abbrev s18 : Typed.Asks T21 T22
-  s18 = Scalar.k-op2 T21 (Syntax.add Syntax.unsigned) (Scalar.oAt 6 (Syntax.tyInt Syntax.w64)
+  abbrev s16 : Typed.Asks T19 T20
+  s16 = Scalar.k-op2 T19 (Syntax.add Syntax.unsigned) (Scalar.oAt 6 (Syntax.tyInt Syntax.w64)
       (Row.valS (Row.sInt Syntax.w64))) (Scalar.oInt Syntax.w64 1) 6 (Rows.sc-here (Row.sInt Syntax.w64))
       (Row.sInt Syntax.w64 .of)
 
-  abbrev s19 : Typed.Mo T22 → Typed.Mo T23
-  s19 = Scalar.n-room T22 8 Syntax.tyBool
+  abbrev s17 : Typed.Mo T20 → Typed.Mo T21
+  s17 = Scalar.n-room T20 7 Syntax.tyBool
 
-  abbrev s20 : Typed.Mo T7 → Typed.Mo T24
-  s20 = Scalar.n-use T7 (Scalar.oAt 5 (Syntax.tyInt Syntax.w64) (Row.valS (Row.sInt Syntax.w64))) 0
+  abbrev s18 : Typed.Mo T7 → Typed.Mo T22
+  s18 = Scalar.n-use T7 (Scalar.oAt 5 (Syntax.tyInt Syntax.w64) (Row.valS (Row.sInt Syntax.w64))) 0
       (Rows.sc-here (Row.sInt Syntax.w64)) (Row.sInt Syntax.w64 .of)
 
+  abbrev s19 : Typed.Mo T22 → Typed.Mo T23
+  s19 = Scalar.n-room T22 3 (Syntax.tyInt Syntax.w64)
+
+  abbrev s20 : Typed.Mo T23 → Typed.Mo T24
+  s20 = Scalar.n-room T23 4 (Syntax.tyInt Syntax.w64)
+
   abbrev s21 : Typed.Mo T24 → Typed.Mo T25
-  s21 = Scalar.n-room T24 3 (Syntax.tyInt Syntax.w64)
+  s21 = Scalar.n-room T24 5 (Syntax.tyInt Syntax.w64)
 
   abbrev s22 : Typed.Mo T25 → Typed.Mo T26
-  s22 = Scalar.n-room T25 4 (Syntax.tyInt Syntax.w64)
-
-  abbrev s23 : Typed.Mo T26 → Typed.Mo T27
-  s23 = Scalar.n-room T26 5 (Syntax.tyInt Syntax.w64)
-
-  abbrev s24 : Typed.Mo T27 → Typed.Mo T28
-  s24 = Scalar.n-room T27 6 (Syntax.tyInt Syntax.w64)
+  s22 = Scalar.n-room T25 6 (Syntax.tyInt Syntax.w64)
 
   abbrev put0 : Rows.sc-here (Row.sInt Syntax.w64) .Mod × Rows.sc-here (Row.sInt Syntax.w64) .Mod → Typed.Mo T6 →
       Typed.Mo T6
@@ -557,7 +526,7 @@ module _ (claims· : Claims) where
       abbrev pub Closed : Type 2
       Closed = (𝓤 : URA.URA M) (H : Wp.Heap 𝓤) (A : Atoms.Atoms 𝓤) (W : Kit.Given 𝓤 H A) (𝓣 : Wp.Tables 𝓤 H) (known0 :
           Plain.Known 𝓤 H A W 𝓣 0 ps·0 r·0 (claims· .0) (claims· .1) "hns_encoding::numbers::min_usize") (known1 :
-          Plain.Known 𝓤 H A W 𝓣 0 ps·1 r·1 (claims· .2) (claims· .3) "hnsr_circuit::records::pending::is_pending") (known2
+          Plain.Known 𝓤 H A W 𝓣 1 ps·1 r·1 (claims· .2) (claims· .3) "hnsr_circuit::records::pending::is_pending") (known2
           : Plain.Known 𝓤 H A W 𝓣 0 ps·2 r·2 (claims· .4) (claims· .5) "hnsr_circuit::tables::scan::one_more") →
           Statement.Triple 𝓤 (Wp.WpFn 𝓤 H (𝓣 .C) (𝓣 .Λ) (Function.fnOf 1 ps r xs m hs body))
           (Function.plainOf 𝓤 H A 1 ps r Pre· Post·)
@@ -576,100 +545,94 @@ module _ (claims· : Claims) where
       at3 = λ Ψ. Typed.pass T8 T11 s7 (at2 Ψ)
 
       abbrev at4 : Typed.TF T8 O4
-      at4 = Scalar.Φcond T8 O4 9 (λ x. x) at1 at3
+      at4 = Scalar.Φcond T8 O4 8 (λ x. x) at1 at3
 
-      abbrev at5 : Typed.TF T21 O3
-      at5 = λ Ψ. Typed.ask s18 (Typed.pass T22 T23 s19 (Typed.atNext O3 Ψ))
+      abbrev at5 : Typed.TF T19 O3
+      at5 = λ Ψ. Typed.ask s16 (Typed.pass T20 T21 s17 (Typed.atNext O3 Ψ))
 
-      abbrev at6 : Typed.TF T20 O3
-      at6 = λ Ψ. Typed.both s17 (at5 Ψ)
+      abbrev at6 : Typed.TF T18 O3
+      at6 = λ Ψ. Typed.both s15 (at5 Ψ)
 
-      abbrev at7 : Typed.TF T19 O3
-      at7 = λ Ψ. Typed.pass T19 T20 s16 (at6 Ψ)
+      abbrev at7 : Typed.TF T17 O3
+      at7 = λ Ψ. Typed.pass T17 T18 s14 (at6 Ψ)
 
-      abbrev at8 : Typed.TF T18 O3
-      at8 = λ Ψ. Typed.both s15 (at7 Ψ)
+      abbrev at8 : Typed.TF T16 O3
+      at8 = λ Ψ. Typed.both s13 (at7 Ψ)
 
-      abbrev at9 : Typed.TF T17 O3
-      at9 = λ Ψ. Typed.pass T17 T18 s14 (at8 Ψ)
+      abbrev at9 : Typed.TF T15 O3
+      at9 = λ Ψ. Typed.pass T15 T16 s12 (at8 Ψ)
 
-      abbrev at10 : Typed.TF T16 O3
-      at10 = λ Ψ. Typed.pass T16 T17 s13 (at9 Ψ)
+      abbrev at10 : Typed.TF T14 O3
+      at10 = λ Ψ. Typed.pass T14 T15 s11 (at9 Ψ)
 
-      abbrev at11 : Typed.TF T15 O3
-      at11 = λ Ψ. Typed.pass T15 T16 s12 (at10 Ψ)
+      abbrev at11 : Typed.TF T13 O3
+      at11 = λ Ψ. Typed.both s10 (at10 Ψ)
 
-      abbrev at12 : Typed.TF T14 O3
-      at12 = λ Ψ. Typed.pass T14 T15 s11 (at11 Ψ)
+      abbrev at12 : Typed.TF T12 O3
+      at12 = λ Ψ. Typed.ask s9 (at11 Ψ)
 
-      abbrev at13 : Typed.TF T13 O3
-      at13 = λ Ψ. Typed.both s10 (at12 Ψ)
+      abbrev at13 : Typed.TF T9 O3
+      at13 = λ Ψ. Typed.ask s8 (at12 Ψ)
 
-      abbrev at14 : Typed.TF T12 O3
-      at14 = λ Ψ. Typed.ask s9 (at13 Ψ)
+      abbrev at14 : Typed.TF T8 O3
+      at14 = λ Ψ. at4 (Typed.wantNext T9 O3 (at13 Ψ) Ψ)
 
-      abbrev at15 : Typed.TF T9 O3
-      at15 = λ Ψ. Typed.ask s8 (at14 Ψ)
+      abbrev at15 : Typed.TF T6 O3
+      at15 = λ Ψ. Typed.ask s5 (at14 Ψ)
 
-      abbrev at16 : Typed.TF T8 O3
-      at16 = λ Ψ. at4 (Typed.wantNext T9 O3 (at15 Ψ) Ψ)
-
-      abbrev at17 : Typed.TF T6 O3
-      at17 = λ Ψ. Typed.ask s5 (at16 Ψ)
-
-      abbrev at18 : Typed.TF T6 O2
-      at18 = Typed.LoopBy T6 O2 put0 (λ u vs. Inv·0 (Row.get 1 (T6 .locals) u .now) (Row.get 3 (T6 .locals) u)
+      abbrev at16 : Typed.TF T6 O2
+      at16 = Typed.LoopBy T6 O2 put0 (λ u vs. Inv·0 (Row.get 1 (T6 .locals) u .now) (Row.get 3 (T6 .locals) u)
           (Row.get 4 (T6 .locals) u) (Row.get 5 (T6 .locals) u) (Row.get 6 (T6 .locals) u) (vs .0) (vs .1)) (λ u vs.
           μ·0 (Row.get 1 (T6 .locals) u .now) (Row.get 3 (T6 .locals) u) (Row.get 4 (T6 .locals) u)
-          (Row.get 5 (T6 .locals) u) (Row.get 6 (T6 .locals) u) (vs .0) (vs .1)) at17
+          (Row.get 5 (T6 .locals) u) (Row.get 6 (T6 .locals) u) (vs .0) (vs .1)) at15
 
-      abbrev at19 : Typed.TF T6 O1
-      at19 = λ Ψ. at18 (Typed.inBlock O1 Ψ)
+      abbrev at17 : Typed.TF T6 O1
+      at17 = λ Ψ. at16 (Typed.inBlock O1 Ψ)
 
-      abbrev at20 : Typed.TF T28 O0
-      at20 = Typed.atRet O0
+      abbrev at18 : Typed.TF T26 O0
+      at18 = Typed.atRet O0
 
-      abbrev at21 : Typed.TF T27 O0
-      at21 = λ Ψ. Typed.pass T27 T28 s24 (at20 Ψ)
+      abbrev at19 : Typed.TF T25 O0
+      at19 = λ Ψ. Typed.pass T25 T26 s22 (at18 Ψ)
 
-      abbrev at22 : Typed.TF T26 O0
-      at22 = λ Ψ. Typed.pass T26 T27 s23 (at21 Ψ)
+      abbrev at20 : Typed.TF T24 O0
+      at20 = λ Ψ. Typed.pass T24 T25 s21 (at19 Ψ)
 
-      abbrev at23 : Typed.TF T25 O0
-      at23 = λ Ψ. Typed.pass T25 T26 s22 (at22 Ψ)
+      abbrev at21 : Typed.TF T23 O0
+      at21 = λ Ψ. Typed.pass T23 T24 s20 (at20 Ψ)
 
-      abbrev at24 : Typed.TF T24 O0
-      at24 = λ Ψ. Typed.pass T24 T25 s21 (at23 Ψ)
+      abbrev at22 : Typed.TF T22 O0
+      at22 = λ Ψ. Typed.pass T22 T23 s19 (at21 Ψ)
 
-      abbrev at25 : Typed.TF T7 O0
-      at25 = λ Ψ. Typed.pass T7 T24 s20 (at24 Ψ)
+      abbrev at23 : Typed.TF T7 O0
+      at23 = λ Ψ. Typed.pass T7 T22 s18 (at22 Ψ)
 
-      abbrev at26 : Typed.TF T6 O0
-      at26 = λ Ψ. at19 (Typed.wantNext T7 O0 (at25 Ψ) Ψ)
+      abbrev at24 : Typed.TF T6 O0
+      at24 = λ Ψ. at17 (Typed.wantNext T7 O0 (at23 Ψ) Ψ)
 
-      abbrev at27 : Typed.TF T5 O0
-      at27 = λ Ψ. Typed.pass T5 T6 s4 (at26 Ψ)
+      abbrev at25 : Typed.TF T5 O0
+      at25 = λ Ψ. Typed.pass T5 T6 s4 (at24 Ψ)
 
-      abbrev at28 : Typed.TF T4 O0
-      at28 = λ Ψ. Typed.pass T4 T5 s3 (at27 Ψ)
+      abbrev at26 : Typed.TF T4 O0
+      at26 = λ Ψ. Typed.pass T4 T5 s3 (at25 Ψ)
 
-      abbrev at29 : Typed.TF T3 O0
-      at29 = λ Ψ. Typed.pass T3 T4 s2 (at28 Ψ)
+      abbrev at27 : Typed.TF T3 O0
+      at27 = λ Ψ. Typed.pass T3 T4 s2 (at26 Ψ)
 
-      abbrev at30 : Typed.TF T2 O0
-      at30 = λ Ψ. Typed.both s1 (at29 Ψ)
+      abbrev at28 : Typed.TF T2 O0
+      at28 = λ Ψ. Typed.both s1 (at27 Ψ)
 
-      abbrev at31 : Typed.TF T0 O0
-      at31 = λ Ψ. Typed.pass T0 T2 s0 (at30 Ψ)
+      abbrev at29 : Typed.TF T0 O0
+      at29 = λ Ψ. Typed.pass T0 T2 s0 (at28 Ψ)
 
       abbrev pub Φ : Typed.TF T0 O0
-      Φ = at31
+      Φ = at29
 
       module _ {M : Type 1} (𝓤 : URA.URA M) (H : Wp.Heap 𝓤) (A : Atoms.Atoms 𝓤) (W : Kit.Given 𝓤 H A)
           (𝓣 : Wp.Tables 𝓤 H) where
         abbrev Knowns : Type 1
         Knowns = Plain.Known 𝓤 H A W 𝓣 0 ps·0 r·0 (claims· .0) (claims· .1) "hns_encoding::numbers::min_usize" ×
-            Plain.Known 𝓤 H A W 𝓣 0 ps·1 r·1 (claims· .2) (claims· .3) "hnsr_circuit::records::pending::is_pending" ×
+            Plain.Known 𝓤 H A W 𝓣 1 ps·1 r·1 (claims· .2) (claims· .3) "hnsr_circuit::records::pending::is_pending" ×
             Plain.Known 𝓤 H A W 𝓣 0 ps·2 r·2 (claims· .4) (claims· .5) "hnsr_circuit::tables::scan::one_more"
 
       module _ (κs : Lifetimes.Lfts 1) (qs : Lifetimes.Shares 1) where
@@ -734,19 +697,19 @@ module _ (claims· : Claims) where
         G18 = record { locals = t14; slots = life0 ∷ List.[] }
 
         abbrev G19 : Row.Cx
-        G19 = record { locals = t15; slots = life0 ∷ List.[] }
+        G19 = record { locals = t14; slots = life0 ∷ List.[] }
 
         abbrev G20 : Row.Cx
-        G20 = record { locals = t16; slots = life0 ∷ List.[] }
+        G20 = record { locals = t14; slots = life0 ∷ List.[] }
 
         abbrev G21 : Row.Cx
-        G21 = record { locals = t16; slots = life0 ∷ List.[] }
+        G21 = record { locals = t6; slots = life0 ∷ List.[] }
 
         abbrev G22 : Row.Cx
-        G22 = record { locals = t16; slots = life0 ∷ List.[] }
+        G22 = record { locals = t15; slots = life0 ∷ List.[] }
 
         abbrev G23 : Row.Cx
-        G23 = record { locals = t6; slots = life0 ∷ List.[] }
+        G23 = record { locals = t16; slots = life0 ∷ List.[] }
 
         abbrev G24 : Row.Cx
         G24 = record { locals = t17; slots = life0 ∷ List.[] }
@@ -755,13 +718,7 @@ module _ (claims· : Claims) where
         G25 = record { locals = t18; slots = life0 ∷ List.[] }
 
         abbrev G26 : Row.Cx
-        G26 = record { locals = t19; slots = life0 ∷ List.[] }
-
-        abbrev G27 : Row.Cx
-        G27 = record { locals = t20; slots = life0 ∷ List.[] }
-
-        abbrev G28 : Row.Cx
-        G28 = record { locals = t1; slots = life0 ∷ List.[] }
+        G26 = record { locals = t1; slots = life0 ∷ List.[] }
 
         abbrev Δ0 : Typed.Outs
         Δ0 = record { next = Option.none; exits = List.[]; returns = Option.some G1 }
@@ -788,180 +745,159 @@ module _ (claims· : Claims) where
           d0 = Typed.t-skip 𝓤 H A W 𝓣 E Δ4 tt
 
           d1 : Typed.Typed 𝓤 H A 𝓣 E G8 b5 Δ4 at1
-          d1 = Typed.g-pre 𝓤 H A W 𝓣 E G8 G10 b5 Δ4 (Typed.pass T8 T10 s6) at0 (Scalar.g-room 𝓤 H A W E G8 9
+          d1 = Typed.g-pre 𝓤 H A W 𝓣 E G8 G10 b5 Δ4 (Typed.pass T8 T10 s6) at0 (Scalar.g-room 𝓤 H A W E G8 8
               Syntax.tyBool (Scalar.room-sc 𝓤 H A W Row.sBool)) d0
 
           d2 : Typed.Typed 𝓤 H A 𝓣 E G11 b6 Δ4 at2
           d2 = Typed.t-exit 𝓤 H A W 𝓣 E 1 Δ4 tt
 
           d3 : Typed.Typed 𝓤 H A 𝓣 E G8 b6 Δ4 at3
-          d3 = Typed.g-pre 𝓤 H A W 𝓣 E G8 G11 b6 Δ4 (Typed.pass T8 T11 s7) at2 (Scalar.g-room 𝓤 H A W E G8 9
+          d3 = Typed.g-pre 𝓤 H A W 𝓣 E G8 G11 b6 Δ4 (Typed.pass T8 T11 s7) at2 (Scalar.g-room 𝓤 H A W E G8 8
               Syntax.tyBool (Scalar.room-sc 𝓤 H A W Row.sBool)) d2
 
           d4 : Typed.Typed 𝓤 H A 𝓣 E G8 b7 Δ4 at4
-          d4 = Scalar.t-cond 𝓤 H A W E 𝓣 G8 9 (λ x. x) b5 b6 Δ4 at1 at3 (Scalar.reads-sc 𝓤 H A W Row.sBool) Path.refl
+          d4 = Scalar.t-cond 𝓤 H A W E 𝓣 G8 8 (λ x. x) b5 b6 Δ4 at1 at3 (Scalar.reads-sc 𝓤 H A W Row.sBool) Path.refl
               d1 d3
 
-          d5 : Typed.Typed 𝓤 H A 𝓣 E G21 b14 Δ3 at5
-          d5 = Typed.s-typed 𝓤 H A W 𝓣 E G21 b14 Δ3 (λ Ψ. Typed.ask s18 (Typed.pass T22 T23 s19 Ψ)) tt (Typed.g-post 𝓤
-              H A W 𝓣 E G21 G22 G23 b14 (Typed.ask s18) (Typed.pass T22 T23 s19) (Scalar.t-op2 𝓤 H A W E 𝓣 G21
+          d5 : Typed.Typed 𝓤 H A 𝓣 E G19 b13 Δ3 at5
+          d5 = Typed.s-typed 𝓤 H A W 𝓣 E G19 b13 Δ3 (λ Ψ. Typed.ask s16 (Typed.pass T20 T21 s17 Ψ)) tt (Typed.g-post 𝓤
+              H A W 𝓣 E G19 G20 G21 b13 (Typed.ask s16) (Typed.pass T20 T21 s17) (Scalar.t-op2 𝓤 H A W E 𝓣 G19
               (Syntax.add Syntax.unsigned) (Scalar.oAt 6 (Syntax.tyInt Syntax.w64) (Row.valS (Row.sInt Syntax.w64)))
               (Scalar.oInt Syntax.w64 1) 6 (Rows.sc-here (Row.sInt Syntax.w64)) (Syntax.tyInt Syntax.w64)
               (Row.valS (Row.sInt Syntax.w64)) (Row.sInt Syntax.w64 .of)
               (Scalar.reads-sc 𝓤 H A W (Row.sInt Syntax.w64), Path.refl) tt
               (Scalar.room-sc 𝓤 H A W (Row.sInt Syntax.w64)) (Scalar.holds-sc 𝓤 H A W (Row.sInt Syntax.w64)) Path.refl
-              (λ u. Path.refl) λ u. tt) (Scalar.g-room 𝓤 H A W E G22 8 Syntax.tyBool
+              (λ u. Path.refl) λ u. tt) (Scalar.g-room 𝓤 H A W E G20 7 Syntax.tyBool
               (Scalar.room-sc 𝓤 H A W Row.sBool)))
 
-          d6 : Typed.Typed 𝓤 H A 𝓣 E G20 b15 Δ3 at6
-          d6 = Typed.s-seq 𝓤 H A W 𝓣 E G20 G21 b13 b14 Δ3 (Typed.both s17) at5 (Plain.t-call-plain 𝓤 H A W 𝓣 0 ps·2 r·2
-              (claims· .4) (claims· .5) "hnsr_circuit::tables::scan::one_more" (known .2) E (λ pos β. β) G20
-              (Num.vAt 5 λ x. x, (Bool.bAt 8 λ x. x, tt)) 5 List.[] (Call.sub-id 𝓤 H A W (G20 .slots)) (
+          d6 : Typed.Typed 𝓤 H A 𝓣 E G18 b14 Δ3 at6
+          d6 = Typed.s-seq 𝓤 H A W 𝓣 E G18 G19 b12 b13 Δ3 (Typed.both s15) at5 (Plain.t-call-plain 𝓤 H A W 𝓣 0 ps·2 r·2
+              (claims· .4) (claims· .5) "hnsr_circuit::tables::scan::one_more" (known .2) E (λ pos β. β) G18
+              (Num.vAt 5 λ x. x, (Bool.bAt 7 λ x. x, tt)) 5 List.[] (Call.sub-id 𝓤 H A W (G18 .slots)) (
                 (Scalar.reads-sc 𝓤 H A W (Row.sInt Syntax.w64), Path.refl),
                 ((Scalar.reads-sc 𝓤 H A W Row.sBool, Path.refl), tt),
               ) (Scalar.room-sc 𝓤 H A W (Row.sInt Syntax.w64)) tt Path.refl) d5
 
-          d7 : Typed.Typed 𝓤 H A 𝓣 E G19 b15 Δ3 at7
-          d7 = Typed.g-pre 𝓤 H A W 𝓣 E G19 G20 b15 Δ3 (Typed.pass T19 T20 s16) at6 (Scalar.g-room 𝓤 H A W E G19 7
-              RelayPending.ty (Local.room-whole 𝓤 H A W RelayPending.row RelayPending.ty Path.refl)) d6
+          d7 : Typed.Typed 𝓤 H A 𝓣 E G17 b14 Δ3 at7
+          d7 = Typed.g-pre 𝓤 H A W 𝓣 E G17 G18 b14 Δ3 (Typed.pass T17 T18 s14) at6 (Local.g-drop-sref 𝓤 H A W E G17 11
+              0 RelayPending.row ref0 (λ x. x) (Reads'.as-is 𝓤 H A (Rows.sref RelayPending.row ref0 0))) d6
 
-          d8 : Typed.Typed 𝓤 H A 𝓣 E G18 b16 Δ3 at8
-          d8 = Typed.s-seq 𝓤 H A W 𝓣 E G18 G19 b12 b15 Δ3 (Typed.both s15) at7 (Plain.t-call-plain 𝓤 H A W 𝓣 0 ps·1 r·1
-              (claims· .2) (claims· .3) "hnsr_circuit::records::pending::is_pending" (known .1) E (λ pos β. β) G18
-              (record { pos = 7; st = List.[]; d = 0; at = λ x. x }, tt) 8 List.[] (Call.sub-id 𝓤 H A W (G18 .slots)) (
-                (
-                  Yields.yields-copy 𝓤 H A W (λ ρ. Unit) RelayPending.row Path.refl (RelayPending.copies .copy 𝓤 H A W)
-                      RelayPending.held (λ x. x) (λ x. x) (λ ρ told. Local.mem-whole 𝓤 H A W RelayPending.row ρ) λ ρ
-                      told. Local.whole-mem 𝓤 H A W RelayPending.row ρ,
-                  Path.refl,
-                ),
+          d8 : Typed.Typed 𝓤 H A 𝓣 E G16 b15 Δ3 at8
+          d8 = Typed.s-seq 𝓤 H A W 𝓣 E G16 G17 b11 b14 Δ3 (Typed.both s13) at7 (Plain.t-call-plain 𝓤 H A W 𝓣 1 ps·1 r·1
+              (claims· .2) (claims· .3) "hnsr_circuit::records::pending::is_pending" (known .1) E (λ pos β. β) G16
+              (record { pos = 11; ty = ref0; ref = λ x. x }, tt) 7 (0 ∷ List.[]) (Call.sub-id 𝓤 H A W (G16 .slots)) (
+                ShrRef.spares-sref 𝓤 H A W RelayPending.row ref0 0,
+                Reads'.reads-sref 𝓤 H A W RelayPending.row ref0 0,
+                Path.refl,
                 tt,
-              ) (Reads'.room-gone 𝓤 H A Syntax.tyBool) tt Path.refl) d7
+              ) (Reads'.room-gone 𝓤 H A Syntax.tyBool) (tt, tt) Path.refl) d7
 
-          d9 : Typed.Typed 𝓤 H A 𝓣 E G17 b16 Δ3 at9
-          d9 = Typed.g-pre 𝓤 H A W 𝓣 E G17 G18 b16 Δ3 (Typed.pass T17 T18 s14) at8 (Scalar.g-room 𝓤 H A W E G17 12
-              RelayPending.ty (Local.room-whole 𝓤 H A W RelayPending.row RelayPending.ty Path.refl)) d8
+          d9 : Typed.Typed 𝓤 H A 𝓣 E G15 b15 Δ3 at9
+          d9 = Typed.g-pre 𝓤 H A W 𝓣 E G15 G16 b15 Δ3 (Typed.pass T15 T16 s12) at8 (Scalar.g-room 𝓤 H A W E G15 10
+              Syntax.tyPtr (Scalar.room-sc 𝓤 H A W Row.sPtr)) d8
 
-          d10 : Typed.Typed 𝓤 H A 𝓣 E G16 b17 Δ3 at10
-          d10 = Typed.s-seq 𝓤 H A W 𝓣 E G16 G17 b11 b16 Δ3 (Typed.pass T16 T17 s13) at9 (LocalCopy.t-val-copy 𝓤 H A W E
-              𝓣 (λ ρ. Unit) G16 12 7 RelayPending.row RelayPending.ty RelayPending.ty RelayPending.held
-              RelayPending.held (λ x. x) (λ x. x) (λ x. x) Path.refl (Own.told-none 𝓤 H A (G16 .slots)) (Yields.yields-copy
-              𝓤 H A W (λ ρ. Unit) RelayPending.row Path.refl (RelayPending.copies .copy 𝓤 H A W) RelayPending.held
-              (λ x. x) (λ x. x) (λ ρ told. Local.mem-whole 𝓤 H A W RelayPending.row ρ) λ ρ told. Local.whole-mem 𝓤 H A
-              W RelayPending.row ρ) (Reads'.room-gone 𝓤 H A RelayPending.ty) (Yields.makes-mem 𝓤 H A W (λ ρ. Unit)
-              RelayPending.row Path.refl RelayPending.held (λ x. x) λ ρ told. Local.whole-mem 𝓤 H A W RelayPending.row
-              ρ) Path.refl Path.refl) d9
+          d10 : Typed.Typed 𝓤 H A 𝓣 E G14 b15 Δ3 at10
+          d10 = Typed.g-pre 𝓤 H A W 𝓣 E G14 G15 b15 Δ3 (Typed.pass T14 T15 s11) at9 (Scalar.g-room 𝓤 H A W E G14 9
+              (Syntax.tyInt Syntax.w64) (Scalar.room-sc 𝓤 H A W (Row.sInt Syntax.w64))) d9
 
-          d11 : Typed.Typed 𝓤 H A 𝓣 E G15 b17 Δ3 at11
-          d11 = Typed.g-pre 𝓤 H A W 𝓣 E G15 G16 b17 Δ3 (Typed.pass T15 T16 s12) at10 (Scalar.g-room 𝓤 H A W E G15 11
-              Syntax.tyPtr (Scalar.room-sc 𝓤 H A W Row.sPtr)) d10
+          d11 : Typed.Typed 𝓤 H A 𝓣 E G13 b16 Δ3 at11
+          d11 = Typed.s-seq 𝓤 H A W 𝓣 E G13 G14 b10 b15 Δ3 (Typed.both s10) at10 (Handed.t-shs-elem-same 𝓤 H A W E
+              RelayPending.row 𝓣 (Copies.halved 𝓤 H A W RelayPending.copies) G13 1 10 11 0 RelayPending.ty ref1 ref0
+              life0 (Shared.bySize 360) RelayPending.none (λ x. x) (λ x. x) (λ u. u .1 .1 .1 .1 .1 .1 .0)
+              (λ i o. Elements.at-mul o 360 i) (Reads'.as-is 𝓤 H A (Rows.sslice RelayPending.row ref1 0))
+              (Reads'.as-is 𝓤 H A (Rows.sc-here Row.sPtr)) (Reads'.room-gone 𝓤 H A ref0) Path.refl tt Path.refl
+              Path.refl λ b o. tt) d10
 
-          d12 : Typed.Typed 𝓤 H A 𝓣 E G14 b17 Δ3 at12
-          d12 = Typed.g-pre 𝓤 H A W 𝓣 E G14 G15 b17 Δ3 (Typed.pass T14 T15 s11) at11 (Scalar.g-room 𝓤 H A W E G14 10
-              (Syntax.tyInt Syntax.w64) (Scalar.room-sc 𝓤 H A W (Row.sInt Syntax.w64))) d11
-
-          d13 : Typed.Typed 𝓤 H A 𝓣 E G13 b18 Δ3 at13
-          d13 = Typed.s-seq 𝓤 H A W 𝓣 E G13 G14 b10 b17 Δ3 (Typed.both s10) at12 (Move.t-shs-copy-out 𝓤 H A W E
-              RelayPending.row 𝓣 Path.refl (RelayPending.copies .copy 𝓤 H A W)
-              (Copies.halved 𝓤 H A W RelayPending.copies) (λ ρ. Unit) G13 1 11 12 0 ref0 life0 RelayPending.ty
-              RelayPending.ty RelayPending.held (Shared.bySize 360) (λ u. u .1 .1 .1 .1 .1 .1 .0) (λ x. x)
-              RelayPending.none (λ x. Unit) (λ x. x) (λ x. x) (λ i o. Elements.at-mul o 360 i) Path.refl Path.refl
-              (Own.told-none 𝓤 H A (G13 .slots)) (DerefMove.learns-nothing 𝓤 H A RelayPending.row)
-              (Reads'.as-is 𝓤 H A (Rows.sslice RelayPending.row ref0 0)) (Reads'.as-is 𝓤 H A (Rows.sc-here Row.sPtr))
-              (Reads'.room-gone 𝓤 H A RelayPending.ty) (Yields.makes-mem 𝓤 H A W (λ ρ. Unit) RelayPending.row Path.refl
-              RelayPending.held (λ x. x) λ ρ told. Local.whole-mem 𝓤 H A W RelayPending.row ρ) Path.refl tt Path.refl
-              Path.refl) d12
-
-          d14 : Typed.Typed 𝓤 H A 𝓣 E G12 b19 Δ3 at14
-          d14 = Typed.s-seq 𝓤 H A W 𝓣 E G12 G13 b9 b18 Δ3 (Typed.ask s9) at13 (Scalar.t-op2 𝓤 H A W E 𝓣 G12
-              Syntax.offset (Scalar.oFld 1 ((Syntax.field 0) ∷ List.[]) ref0 0 Reads'.ptrVal) (Scalar.oAt 10
-              (Syntax.tyInt Syntax.w64) (Row.valS (Row.sInt Syntax.w64))) 11 (Rows.sc-here Row.sPtr) Syntax.tyPtr
+          d12 : Typed.Typed 𝓤 H A 𝓣 E G12 b17 Δ3 at12
+          d12 = Typed.s-seq 𝓤 H A W 𝓣 E G12 G13 b9 b16 Δ3 (Typed.ask s9) at11 (Scalar.t-op2 𝓤 H A W E 𝓣 G12
+              Syntax.offset (Scalar.oFld 1 ((Syntax.field 0) ∷ List.[]) ref1 0 Reads'.ptrVal) (Scalar.oAt 9
+              (Syntax.tyInt Syntax.w64) (Row.valS (Row.sInt Syntax.w64))) 10 (Rows.sc-here Row.sPtr) Syntax.tyPtr
               (Row.valS Row.sPtr) (Row.sPtr .of) (
-                Shared.reads-sslice-ptr 𝓤 H A W RelayPending.row ref0 0 0 Path.refl,
+                Shared.reads-sslice-ptr 𝓤 H A W RelayPending.row ref1 0 0 Path.refl,
                 Path.refl,
               ) (Scalar.reads-sc 𝓤 H A W (Row.sInt Syntax.w64), Path.refl) (Reads'.room-gone 𝓤 H A Syntax.tyPtr)
-              (Scalar.holds-sc 𝓤 H A W Row.sPtr) Path.refl (λ u. Path.refl) λ u. tt) d13
+              (Scalar.holds-sc 𝓤 H A W Row.sPtr) Path.refl (λ u. Path.refl) λ u. tt) d11
 
-          d15 : Typed.Typed 𝓤 H A 𝓣 E G9 b20 Δ3 at15
-          d15 = Typed.s-seq 𝓤 H A W 𝓣 E G9 G12 b8 b19 Δ3 (Typed.ask s8) at14 (Scalar.t-op2 𝓤 H A W E 𝓣 G9
+          d13 : Typed.Typed 𝓤 H A 𝓣 E G9 b18 Δ3 at13
+          d13 = Typed.s-seq 𝓤 H A W 𝓣 E G9 G12 b8 b17 Δ3 (Typed.ask s8) at12 (Scalar.t-op2 𝓤 H A W E 𝓣 G9
               (Syntax.mul Syntax.unsigned) (Scalar.oAt 6 (Syntax.tyInt Syntax.w64) (Row.valS (Row.sInt Syntax.w64)))
-              (Scalar.oInt Syntax.w64 360) 10 (Rows.sc-here (Row.sInt Syntax.w64)) (Syntax.tyInt Syntax.w64)
+              (Scalar.oInt Syntax.w64 360) 9 (Rows.sc-here (Row.sInt Syntax.w64)) (Syntax.tyInt Syntax.w64)
               (Row.valS (Row.sInt Syntax.w64)) (Row.sInt Syntax.w64 .of)
               (Scalar.reads-sc 𝓤 H A W (Row.sInt Syntax.w64), Path.refl) tt
               (Reads'.room-gone 𝓤 H A (Syntax.tyInt Syntax.w64)) (Scalar.holds-sc 𝓤 H A W (Row.sInt Syntax.w64))
-              Path.refl (λ u. Path.refl) λ u. tt) d14
+              Path.refl (λ u. Path.refl) λ u. tt) d12
 
-          d16 : Typed.Typed 𝓤 H A 𝓣 E G8 b21 Δ3 at16
-          d16 = Typed.t-seq 𝓤 H A W 𝓣 E G8 G9 b7 b20 Δ3 at4 at15 d4 d15
+          d14 : Typed.Typed 𝓤 H A 𝓣 E G8 b19 Δ3 at14
+          d14 = Typed.t-seq 𝓤 H A W 𝓣 E G8 G9 b7 b18 Δ3 at4 at13 d4 d13
 
-          d17 : Typed.Typed 𝓤 H A 𝓣 E G6 b22 Δ3 at17
-          d17 = Typed.s-seq 𝓤 H A W 𝓣 E G6 G8 b4 b21 Δ3 (Typed.ask s5) at16 (Scalar.t-op2 𝓤 H A W E 𝓣 G6
+          d15 : Typed.Typed 𝓤 H A 𝓣 E G6 b20 Δ3 at15
+          d15 = Typed.s-seq 𝓤 H A W 𝓣 E G6 G8 b4 b19 Δ3 (Typed.ask s5) at14 (Scalar.t-op2 𝓤 H A W E 𝓣 G6
               (Syntax.lt Syntax.unsigned) (Scalar.oAt 6 (Syntax.tyInt Syntax.w64) (Row.valS (Row.sInt Syntax.w64))) (Scalar.oAt
-              4 (Syntax.tyInt Syntax.w64) (Row.valS (Row.sInt Syntax.w64))) 9 (Rows.sc-here Row.sBool) Syntax.tyBool
+              4 (Syntax.tyInt Syntax.w64) (Row.valS (Row.sInt Syntax.w64))) 8 (Rows.sc-here Row.sBool) Syntax.tyBool
               (Row.valS Row.sBool) (Row.sBool .of) (Scalar.reads-sc 𝓤 H A W (Row.sInt Syntax.w64), Path.refl)
               (Scalar.reads-sc 𝓤 H A W (Row.sInt Syntax.w64), Path.refl) (Reads'.room-gone 𝓤 H A Syntax.tyBool)
-              (Scalar.holds-sc 𝓤 H A W Row.sBool) Path.refl (λ u. Path.refl) λ u. tt) d16
+              (Scalar.holds-sc 𝓤 H A W Row.sBool) Path.refl (λ u. Path.refl) λ u. tt) d14
 
-          d18 : Typed.Typed 𝓤 H A 𝓣 E G6 b23 Δ2 at18
-          d18 = Typed.t-loop-by 𝓤 H A W 𝓣 E G6 b22 Δ2 put0 (λ u vs. Inv·0 (Row.get 1 (T6 .locals) u .now)
+          d16 : Typed.Typed 𝓤 H A 𝓣 E G6 b21 Δ2 at16
+          d16 = Typed.t-loop-by 𝓤 H A W 𝓣 E G6 b20 Δ2 put0 (λ u vs. Inv·0 (Row.get 1 (T6 .locals) u .now)
               (Row.get 3 (T6 .locals) u) (Row.get 4 (T6 .locals) u) (Row.get 5 (T6 .locals) u)
               (Row.get 6 (T6 .locals) u) (vs .0) (vs .1)) (λ u vs. μ·0 (Row.get 1 (T6 .locals) u .now)
               (Row.get 3 (T6 .locals) u) (Row.get 4 (T6 .locals) u) (Row.get 5 (T6 .locals) u)
-              (Row.get 6 (T6 .locals) u) (vs .0) (vs .1)) at17 d17
+              (Row.get 6 (T6 .locals) u) (vs .0) (vs .1)) at15 d15
 
-          d19 : Typed.Typed 𝓤 H A 𝓣 E G6 b24 Δ1 at19
-          d19 = Typed.t-block 𝓤 H A W 𝓣 E G6 b23 Δ1 at18 d18
+          d17 : Typed.Typed 𝓤 H A 𝓣 E G6 b22 Δ1 at17
+          d17 = Typed.t-block 𝓤 H A W 𝓣 E G6 b21 Δ1 at16 d16
 
-          d20 : Typed.Typed 𝓤 H A 𝓣 E G28 b26 Δ0 at20
-          d20 = Typed.t-return 𝓤 H A W 𝓣 E Δ0 tt
+          d18 : Typed.Typed 𝓤 H A 𝓣 E G26 b24 Δ0 at18
+          d18 = Typed.t-return 𝓤 H A W 𝓣 E Δ0 tt
 
-          d21 : Typed.Typed 𝓤 H A 𝓣 E G27 b26 Δ0 at21
-          d21 = Typed.g-pre 𝓤 H A W 𝓣 E G27 G28 b26 Δ0 (Typed.pass T27 T28 s24) at20 (Scalar.g-room 𝓤 H A W E G27 6
+          d19 : Typed.Typed 𝓤 H A 𝓣 E G25 b24 Δ0 at19
+          d19 = Typed.g-pre 𝓤 H A W 𝓣 E G25 G26 b24 Δ0 (Typed.pass T25 T26 s22) at18 (Scalar.g-room 𝓤 H A W E G25 6
+              (Syntax.tyInt Syntax.w64) (Scalar.room-sc 𝓤 H A W (Row.sInt Syntax.w64))) d18
+
+          d20 : Typed.Typed 𝓤 H A 𝓣 E G24 b24 Δ0 at20
+          d20 = Typed.g-pre 𝓤 H A W 𝓣 E G24 G25 b24 Δ0 (Typed.pass T24 T25 s21) at19 (Scalar.g-room 𝓤 H A W E G24 5
+              (Syntax.tyInt Syntax.w64) (Scalar.room-sc 𝓤 H A W (Row.sInt Syntax.w64))) d19
+
+          d21 : Typed.Typed 𝓤 H A 𝓣 E G23 b24 Δ0 at21
+          d21 = Typed.g-pre 𝓤 H A W 𝓣 E G23 G24 b24 Δ0 (Typed.pass T23 T24 s20) at20 (Scalar.g-room 𝓤 H A W E G23 4
               (Syntax.tyInt Syntax.w64) (Scalar.room-sc 𝓤 H A W (Row.sInt Syntax.w64))) d20
 
-          d22 : Typed.Typed 𝓤 H A 𝓣 E G26 b26 Δ0 at22
-          d22 = Typed.g-pre 𝓤 H A W 𝓣 E G26 G27 b26 Δ0 (Typed.pass T26 T27 s23) at21 (Scalar.g-room 𝓤 H A W E G26 5
+          d22 : Typed.Typed 𝓤 H A 𝓣 E G22 b24 Δ0 at22
+          d22 = Typed.g-pre 𝓤 H A W 𝓣 E G22 G23 b24 Δ0 (Typed.pass T22 T23 s19) at21 (Scalar.g-room 𝓤 H A W E G22 3
               (Syntax.tyInt Syntax.w64) (Scalar.room-sc 𝓤 H A W (Row.sInt Syntax.w64))) d21
 
-          d23 : Typed.Typed 𝓤 H A 𝓣 E G25 b26 Δ0 at23
-          d23 = Typed.g-pre 𝓤 H A W 𝓣 E G25 G26 b26 Δ0 (Typed.pass T25 T26 s22) at22 (Scalar.g-room 𝓤 H A W E G25 4
-              (Syntax.tyInt Syntax.w64) (Scalar.room-sc 𝓤 H A W (Row.sInt Syntax.w64))) d22
-
-          d24 : Typed.Typed 𝓤 H A 𝓣 E G24 b26 Δ0 at24
-          d24 = Typed.g-pre 𝓤 H A W 𝓣 E G24 G25 b26 Δ0 (Typed.pass T24 T25 s21) at23 (Scalar.g-room 𝓤 H A W E G24 3
-              (Syntax.tyInt Syntax.w64) (Scalar.room-sc 𝓤 H A W (Row.sInt Syntax.w64))) d23
-
-          d25 : Typed.Typed 𝓤 H A 𝓣 E G7 b27 Δ0 at25
-          d25 = Typed.s-seq 𝓤 H A W 𝓣 E G7 G24 b25 b26 Δ0 (Typed.pass T7 T24 s20) at24 (Scalar.t-use 𝓤 H A W E 𝓣 G7 (Scalar.oAt
+          d23 : Typed.Typed 𝓤 H A 𝓣 E G7 b25 Δ0 at23
+          d23 = Typed.s-seq 𝓤 H A W 𝓣 E G7 G22 b23 b24 Δ0 (Typed.pass T7 T22 s18) at22 (Scalar.t-use 𝓤 H A W E 𝓣 G7 (Scalar.oAt
               5 (Syntax.tyInt Syntax.w64) (Row.valS (Row.sInt Syntax.w64))) 0 (Rows.sc-here (Row.sInt Syntax.w64))
               (Syntax.tyInt Syntax.w64) (Row.valS (Row.sInt Syntax.w64)) (Row.sInt Syntax.w64 .of)
               (Scalar.reads-sc 𝓤 H A W (Row.sInt Syntax.w64), Path.refl)
               (Reads'.room-gone 𝓤 H A (Syntax.tyInt Syntax.w64)) (Scalar.holds-sc 𝓤 H A W (Row.sInt Syntax.w64))
-              Path.refl (λ u. Path.refl) λ u. tt) d24
+              Path.refl (λ u. Path.refl) λ u. tt) d22
 
-          d26 : Typed.Typed 𝓤 H A 𝓣 E G6 b28 Δ0 at26
-          d26 = Typed.t-seq 𝓤 H A W 𝓣 E G6 G7 b24 b27 Δ0 at19 at25 d19 d25
+          d24 : Typed.Typed 𝓤 H A 𝓣 E G6 b26 Δ0 at24
+          d24 = Typed.t-seq 𝓤 H A W 𝓣 E G6 G7 b22 b25 Δ0 at17 at23 d17 d23
 
-          d27 : Typed.Typed 𝓤 H A 𝓣 E G5 b29 Δ0 at27
-          d27 = Typed.s-seq 𝓤 H A W 𝓣 E G5 G6 b3 b28 Δ0 (Typed.pass T5 T6 s4) at26 (Scalar.t-use 𝓤 H A W E 𝓣 G5
+          d25 : Typed.Typed 𝓤 H A 𝓣 E G5 b27 Δ0 at25
+          d25 = Typed.s-seq 𝓤 H A W 𝓣 E G5 G6 b3 b26 Δ0 (Typed.pass T5 T6 s4) at24 (Scalar.t-use 𝓤 H A W E 𝓣 G5
               (Scalar.oInt Syntax.w64 0) 6 (Rows.sc-here (Row.sInt Syntax.w64)) (Syntax.tyInt Syntax.w64)
               (Row.valS (Row.sInt Syntax.w64)) (Row.sInt Syntax.w64 .of) tt
               (Reads'.room-gone 𝓤 H A (Syntax.tyInt Syntax.w64)) (Scalar.holds-sc 𝓤 H A W (Row.sInt Syntax.w64))
-              Path.refl (λ u. Path.refl) λ u. tt) d26
+              Path.refl (λ u. Path.refl) λ u. tt) d24
 
-          d28 : Typed.Typed 𝓤 H A 𝓣 E G4 b30 Δ0 at28
-          d28 = Typed.s-seq 𝓤 H A W 𝓣 E G4 G5 b2 b29 Δ0 (Typed.pass T4 T5 s3) at27 (Scalar.t-use 𝓤 H A W E 𝓣 G4
+          d26 : Typed.Typed 𝓤 H A 𝓣 E G4 b28 Δ0 at26
+          d26 = Typed.s-seq 𝓤 H A W 𝓣 E G4 G5 b2 b27 Δ0 (Typed.pass T4 T5 s3) at25 (Scalar.t-use 𝓤 H A W E 𝓣 G4
               (Scalar.oInt Syntax.w64 0) 5 (Rows.sc-here (Row.sInt Syntax.w64)) (Syntax.tyInt Syntax.w64)
               (Row.valS (Row.sInt Syntax.w64)) (Row.sInt Syntax.w64 .of) tt
               (Reads'.room-gone 𝓤 H A (Syntax.tyInt Syntax.w64)) (Scalar.holds-sc 𝓤 H A W (Row.sInt Syntax.w64))
-              Path.refl (λ u. Path.refl) λ u. tt) d27
+              Path.refl (λ u. Path.refl) λ u. tt) d25
 
-          d29 : Typed.Typed 𝓤 H A 𝓣 E G3 b30 Δ0 at29
-          d29 = Typed.g-pre 𝓤 H A W 𝓣 E G3 G4 b30 Δ0 (Typed.pass T3 T4 s2) at28 (Scalar.g-room 𝓤 H A W E G3 2 Laws.mir (Local.room-whole
-              𝓤 H A W (Declared.row Places.the-type) Laws.mir Path.refl)) d28
+          d27 : Typed.Typed 𝓤 H A 𝓣 E G3 b28 Δ0 at27
+          d27 = Typed.g-pre 𝓤 H A W 𝓣 E G3 G4 b28 Δ0 (Typed.pass T3 T4 s2) at26 (Scalar.g-room 𝓤 H A W E G3 2 Laws.mir (Local.room-whole
+              𝓤 H A W (Declared.row Places.the-type) Laws.mir Path.refl)) d26
 
-          d30 : Typed.Typed 𝓤 H A 𝓣 E G2 b31 Δ0 at30
-          d30 = Typed.s-seq 𝓤 H A W 𝓣 E G2 G3 b1 b30 Δ0 (Typed.both s1) at29 (Plain.t-call-plain 𝓤 H A W 𝓣 0 ps·0 r·0
+          d28 : Typed.Typed 𝓤 H A 𝓣 E G2 b29 Δ0 at28
+          d28 = Typed.s-seq 𝓤 H A W 𝓣 E G2 G3 b1 b28 Δ0 (Typed.both s1) at27 (Plain.t-call-plain 𝓤 H A W 𝓣 0 ps·0 r·0
               (claims· .0) (claims· .1) "hns_encoding::numbers::min_usize" (known .0) E (λ pos β. β) G2 (
                 Num.vFld 2 ((Syntax.field 0) ∷ List.[]) 0 λ x. Places.struct .as-values x .0,
                 (Num.vAt 3 λ x. x, tt),
@@ -971,20 +907,20 @@ module _ (claims· : Claims) where
                   Path.refl,
                 ),
                 ((Scalar.reads-sc 𝓤 H A W (Row.sInt Syntax.w64), Path.refl), tt),
-              ) (Reads'.room-gone 𝓤 H A (Syntax.tyInt Syntax.w64)) tt Path.refl) d29
+              ) (Reads'.room-gone 𝓤 H A (Syntax.tyInt Syntax.w64)) tt Path.refl) d27
 
-          d31 : Typed.Typed 𝓤 H A 𝓣 E G0 b32 Δ0 at31
-          d31 = Typed.s-seq 𝓤 H A W 𝓣 E G0 G2 b0 b31 Δ0 (Typed.pass T0 T2 s0) at30 (Scalar.t-use 𝓤 H A W E 𝓣 G0 (Scalar.oFld
+          d29 : Typed.Typed 𝓤 H A 𝓣 E G0 b30 Δ0 at29
+          d29 = Typed.s-seq 𝓤 H A W 𝓣 E G0 G2 b0 b29 Δ0 (Typed.pass T0 T2 s0) at28 (Scalar.t-use 𝓤 H A W E 𝓣 G0 (Scalar.oFld
               1 ((Syntax.field 1) ∷ List.[]) (Syntax.tyInt Syntax.w64) 8 Shared.lenV) 3
               (Rows.sc-here (Row.sInt Syntax.w64)) (Syntax.tyInt Syntax.w64) (Row.valS (Row.sInt Syntax.w64))
               (Row.sInt Syntax.w64 .of) (
-                Shared.reads-sslice-len 𝓤 H A W RelayPending.row ref0 0 8 Path.refl,
+                Shared.reads-sslice-len 𝓤 H A W RelayPending.row ref1 0 8 Path.refl,
                 Path.refl,
               ) (Reads'.room-gone 𝓤 H A (Syntax.tyInt Syntax.w64)) (Scalar.holds-sc 𝓤 H A W (Row.sInt Syntax.w64))
-              Path.refl (λ u. Path.refl) λ u. tt) d30
+              Path.refl (λ u. Path.refl) λ u. tt) d28
 
-          pub typed : Typed.Typed 𝓤 H A 𝓣 E (Function.Γin 1 ps r xs m κs qs) b32 (Function.Δret 1 ps r xs m κs qs) Φ
-          typed = d31
+          pub typed : Typed.Typed 𝓤 H A 𝓣 E (Function.Γin 1 ps r xs m κs qs) b30 (Function.Δret 1 ps r xs m κs qs) Φ
+          typed = d29
 
       module _ (κs : Lifetimes.Lfts 1) where
         pub record Args : Type 0 where
@@ -1042,7 +978,7 @@ module _ (claims· : Claims) where
       m5 = λ before given. s4 (m4 before given)
 
       abbrev W1 : (before : Start) → (given : s1 .gives (m1 (before .κs) (before .args))) → Typed.Want O1
-      W1 = λ before given. Typed.wantNext T7 O0 (at25 (W0 (before .κs) (before .args)))
+      W1 = λ before given. Typed.wantNext T7 O0 (at23 (W0 (before .κs) (before .args)))
           (W0 (before .κs) (before .args))
 
       abbrev W2 : (before : Start) → (given : s1 .gives (m1 (before .κs) (before .args))) → Typed.Want O2
@@ -1067,7 +1003,7 @@ module _ (claims· : Claims) where
           (Row.get 1 (T6 .locals) u .now) (Row.get 3 (T6 .locals) u) (Row.get 4 (T6 .locals) u)
           (Row.get 5 (T6 .locals) u) (Row.get 6 (T6 .locals) u) (vs .0) (vs .1)) (λ u vs. μ·0
           (Row.get 1 (T6 .locals) u .now) (Row.get 3 (T6 .locals) u) (Row.get 4 (T6 .locals) u)
-          (Row.get 5 (T6 .locals) u) (Row.get 6 (T6 .locals) u) (vs .0) (vs .1)) at17
+          (Row.get 5 (T6 .locals) u) (Row.get 6 (T6 .locals) u) (vs .0) (vs .1)) at15
           (m5 (before .before) (After-min-usize·gave before)) (counted, i))
           (W2 (before .before) (After-min-usize·gave before))
 
@@ -1077,7 +1013,7 @@ module _ (claims· : Claims) where
 
       abbrev W4 : (before : After-min-usize) → (counted : Rows.sc-here (Row.sInt Syntax.w64) .Mod) →
           (i : Rows.sc-here (Row.sInt Syntax.w64) .Mod) → Typed.Want O4
-      W4 = λ before counted i. Typed.wantNext T9 O3 (at15 (W3 before counted i)) (W3 before counted i)
+      W4 = λ before counted i. Typed.wantNext T9 O3 (at13 (W3 before counted i)) (W3 before counted i)
 
       module _ (before· : After-min-usize) where
         pub record At-loop·own : Type 0 where
@@ -1118,8 +1054,8 @@ module _ (claims· : Claims) where
       abbrev pub m9 : (before : At-loop) → Typed.Mo T11
       m9 = λ before. s7 (m7 (before .before) (before .loop .counted) (before .loop .i))
 
-      abbrev pub Need-mul-row : Type 0
-      Need-mul-row = (c : In-loop) → s8 .asks (m8 (c .before))
+      abbrev pub Need-mul-is-pending : Type 0
+      Need-mul-is-pending = (c : In-loop) → s8 .asks (m8 (c .before))
 
       abbrev pub m10 : (before : At-loop) → Typed.Mo T12
       m10 = λ before. s8 .next (m8 before)
@@ -1127,9 +1063,9 @@ module _ (claims· : Claims) where
       abbrev pub m11 : (before : At-loop) → Typed.Mo T13
       m11 = λ before. s9 .next (m10 before)
 
-      abbrev pub Need-shared-slice-copy-out-row : Type 0
-      Need-shared-slice-copy-out-row = (c : In-loop) → Shared.InSlice T13 1 11 (λ x. x) (λ u. u .1 .1 .1 .1 .1 .1 .0)
-          (m11 (c .before))
+      abbrev pub Need-shared-slice-element-is-pending : Type 0
+      Need-shared-slice-element-is-pending = (c : In-loop) → Shared.InSlice T13 1 10 (λ x. x)
+          (λ u. u .1 .1 .1 .1 .1 .1 .0) (m11 (c .before))
 
       abbrev pub m12 : (before : In-loop) → (given : s10 .gives (m11 (before .before))) → Typed.Mo T14
       m12 = λ before given. s10 .next (m11 (before .before)) given
@@ -1140,76 +1076,70 @@ module _ (claims· : Claims) where
       abbrev pub m14 : (before : In-loop) → (given : s10 .gives (m11 (before .before))) → Typed.Mo T16
       m14 = λ before given. s12 (m13 before given)
 
-      abbrev pub m15 : (before : In-loop) → (given : s10 .gives (m11 (before .before))) → Typed.Mo T17
-      m15 = λ before given. s13 (m14 before given)
-
-      abbrev pub m16 : (before : In-loop) → (given : s10 .gives (m11 (before .before))) → Typed.Mo T18
-      m16 = λ before given. s14 (m15 before given)
-
       module _ (before· : In-loop) where
-        pub record After-row·own : Type 0 where
+        pub record After-is-pending-arg·own : Type 0 where
           pub given : s10 .gives (m11 (before· .before))
 
-      pub record After-row : Type 0 where
+      pub record After-is-pending-arg : Type 0 where
         pub before : In-loop
-        pub row : After-row·own before
+        pub is-pending-arg : After-is-pending-arg·own before
 
       abbrev pub Need-is-pending-requires : Type 0
-      Need-is-pending-requires = (c : After-row) → s15 .asks (m16 (c .before) (c .row .given))
+      Need-is-pending-requires = (c : After-is-pending-arg) → s13 .asks (m14 (c .before) (c .is-pending-arg .given))
 
-      abbrev pub m17 : (before : After-row) → (given : s15 .gives (m16 (before .before) (before .row .given))) →
-          Typed.Mo T19
-      m17 = λ before given. s15 .next (m16 (before .before) (before .row .given)) given
+      abbrev pub m15 : (before : After-is-pending-arg) → (given : s13 .gives
+          (m14 (before .before) (before .is-pending-arg .given))) → Typed.Mo T17
+      m15 = λ before given. s13 .next (m14 (before .before) (before .is-pending-arg .given)) given
 
-      module _ (before· : After-row) where
+      module _ (before· : After-is-pending-arg) where
         abbrev pub After-is-pending·own : Type 0
-        After-is-pending·own = Called.Called ps·1 r·1 (claims· .3) T18 args15
-            (m16 (before· .before) (before· .row .given))
+        After-is-pending·own = Called.Called ps·1 r·1 (claims· .3) T16 args13
+            (m14 (before· .before) (before· .is-pending-arg .given))
 
       pub record After-is-pending : Type 0 where
-        pub before : After-row
+        pub before : After-is-pending-arg
         pub is-pending : After-is-pending·own before
 
-      abbrev pub After-is-pending·gave : (c : After-is-pending) → s15 .gives
-          (m16 (c .before .before) (c .before .row .given))
-      After-is-pending·gave = λ c. Called.given ps·1 r·1 (claims· .3) T18 args15
-          (m16 (c .before .before) (c .before .row .given)) (c .is-pending)
+      abbrev pub After-is-pending·gave : (c : After-is-pending) → s13 .gives (m14 (c .before .before)
+          (c .before .is-pending-arg .given))
+      After-is-pending·gave = λ c. Called.given ps·1 r·1 (claims· .3) T16 args13 (m14 (c .before .before)
+          (c .before .is-pending-arg .given)) (c .is-pending)
 
-      abbrev pub m18 : (before : After-row) → (given : s15 .gives (m16 (before .before) (before .row .given))) →
-          Typed.Mo T20
-      m18 = λ before given. s16 (m17 before given)
+      abbrev pub m16 : (before : After-is-pending-arg) → (given : s13 .gives
+          (m14 (before .before) (before .is-pending-arg .given))) → Typed.Mo T18
+      m16 = λ before given. s14 (m15 before given)
 
       abbrev pub Need-one-more-requires : Type 0
-      Need-one-more-requires = (c : After-is-pending) → s17 .asks (m18 (c .before) (After-is-pending·gave c))
+      Need-one-more-requires = (c : After-is-pending) → s15 .asks (m16 (c .before) (After-is-pending·gave c))
 
-      abbrev pub m19 : (before : After-is-pending) → (given : s17 .gives
-          (m18 (before .before) (After-is-pending·gave before))) → Typed.Mo T21
-      m19 = λ before given. s17 .next (m18 (before .before) (After-is-pending·gave before)) given
+      abbrev pub m17 : (before : After-is-pending) → (given : s15 .gives
+          (m16 (before .before) (After-is-pending·gave before))) → Typed.Mo T19
+      m17 = λ before given. s15 .next (m16 (before .before) (After-is-pending·gave before)) given
 
       module _ (before· : After-is-pending) where
         abbrev pub After-one-more·own : Type 0
-        After-one-more·own = Called.Called ps·2 r·2 (claims· .5) T20 args17
-            (m18 (before· .before) (After-is-pending·gave before·))
+        After-one-more·own = Called.Called ps·2 r·2 (claims· .5) T18 args15
+            (m16 (before· .before) (After-is-pending·gave before·))
 
       pub record After-one-more : Type 0 where
         pub before : After-is-pending
         pub one-more : After-one-more·own before
 
-      abbrev pub After-one-more·gave : (c : After-one-more) → s17 .gives (m18 (c .before .before)
+      abbrev pub After-one-more·gave : (c : After-one-more) → s15 .gives (m16 (c .before .before)
           (After-is-pending·gave (c .before)))
-      After-one-more·gave = λ c. Called.given ps·2 r·2 (claims· .5) T20 args17 (m18 (c .before .before)
+      After-one-more·gave = λ c. Called.given ps·2 r·2 (claims· .5) T18 args15 (m16 (c .before .before)
           (After-is-pending·gave (c .before))) (c .one-more)
 
       abbrev pub Need-add-i : Type 0
-      Need-add-i = (c : After-one-more) → s18 .asks (m19 (c .before) (After-one-more·gave c))
+      Need-add-i = (c : After-one-more) → s16 .asks (m17 (c .before) (After-one-more·gave c))
 
-      abbrev pub m20 : (before : After-is-pending) → (given : s17 .gives
-          (m18 (before .before) (After-is-pending·gave before))) → Typed.Mo T22
-      m20 = λ before given. s18 .next (m19 before given)
+      abbrev pub m18 : (before : After-is-pending) → (given : s15 .gives
+          (m16 (before .before) (After-is-pending·gave before))) → Typed.Mo T20
+      m18 = λ before given. s16 .next (m17 before given)
 
-      abbrev pub m21 : (before : After-is-pending) → (given : s17 .gives
-          (m18 (before .before) (After-is-pending·gave before))) → Typed.Mo T23
-      m21 = λ before given. s19 (m20 before given)
+      abbrev pub m19 : (before : After-is-pending) → (given : s15 .gives
+          (m16 (before .before) (After-is-pending·gave before))) → Typed.Mo T21
+      m19 = λ before given. s17 (m18 before given)
 
       abbrev pub Need-loop-less : Type 0
       Need-loop-less = (c : After-one-more) → Nat._<_ (μ·0 (Row.get 1 (T6 .locals) (m5
@@ -1223,7 +1153,7 @@ module _ (claims· : Claims) where
           (c .before .before .before .before .before)))) (Row.get 6 (T6 .locals) (m5
           (c .before .before .before .before .before .before) (After-min-usize·gave
           (c .before .before .before .before .before)))) (Row.get 5 (T6 .locals)
-          (m21 (c .before) (After-one-more·gave c))) (Row.get 6 (T6 .locals) (m21 (c .before) (After-one-more·gave c)))) (μ·0 (Row.get
+          (m19 (c .before) (After-one-more·gave c))) (Row.get 6 (T6 .locals) (m19 (c .before) (After-one-more·gave c)))) (μ·0 (Row.get
           1 (T6 .locals) (m5 (c .before .before .before .before .before .before) (After-min-usize·gave
           (c .before .before .before .before .before))) .now) (Row.get 3 (T6 .locals) (m5
           (c .before .before .before .before .before .before) (After-min-usize·gave
@@ -1248,10 +1178,16 @@ module _ (claims· : Claims) where
           (c .before .before .before .before .before)))) (Row.get 6 (T6 .locals) (m5
           (c .before .before .before .before .before .before) (After-min-usize·gave
           (c .before .before .before .before .before)))) (Row.get 5 (T6 .locals)
-          (m21 (c .before) (After-one-more·gave c))) (Row.get 6 (T6 .locals) (m21 (c .before) (After-one-more·gave c)))
+          (m19 (c .before) (After-one-more·gave c))) (Row.get 6 (T6 .locals) (m19 (c .before) (After-one-more·gave c)))
+
+      abbrev pub m20 : (before : At-loop) → Typed.Mo T22
+      m20 = λ before. s18 (m9 before)
+
+      abbrev pub m21 : (before : At-loop) → Typed.Mo T23
+      m21 = λ before. s19 (m20 before)
 
       abbrev pub m22 : (before : At-loop) → Typed.Mo T24
-      m22 = λ before. s20 (m9 before)
+      m22 = λ before. s20 (m21 before)
 
       abbrev pub m23 : (before : At-loop) → Typed.Mo T25
       m23 = λ before. s21 (m22 before)
@@ -1259,30 +1195,25 @@ module _ (claims· : Claims) where
       abbrev pub m24 : (before : At-loop) → Typed.Mo T26
       m24 = λ before. s22 (m23 before)
 
-      abbrev pub m25 : (before : At-loop) → Typed.Mo T27
-      m25 = λ before. s23 (m24 before)
-
-      abbrev pub m26 : (before : At-loop) → Typed.Mo T28
-      m26 = λ before. s24 (m25 before)
-
       abbrev pub Need-returns : Type 0
       Need-returns = (c : After-loop) → Post· (c .before .before .before .κs) (dens (c .before .before .before .κs)
-          (c .before .before .before .args)) (Function.resV r (c .before .before .before .κs) (m26 (c .before) .0)) (Clauses.atExit
+          (c .before .before .before .args)) (Function.resV r (c .before .before .before .κs) (m24 (c .before) .0)) (Clauses.atExit
           (Kinds.endedOf 1 ps r) (c .before .before .before .κs) (dens (c .before .before .before .κs)
           (c .before .before .before .args)) (Enter.lastsP (c .before .before .before .κs) 1 ps xs (dens
-          (c .before .before .before .κs) (c .before .before .before .args)) (m26 (c .before) .1)))
+          (c .before .before .before .κs) (c .before .before .before .args)) (m24 (c .before) .1)))
 
-      module _ (min-usize-requires : Need-min-usize-requires) (loop-holds : Need-loop-holds) (mul-row : Need-mul-row) (shared-slice-copy-out-row
-          : Need-shared-slice-copy-out-row) (is-pending-requires : Need-is-pending-requires)
+      module _ (min-usize-requires : Need-min-usize-requires) (loop-holds : Need-loop-holds)
+          (mul-is-pending : Need-mul-is-pending) (shared-slice-element-is-pending :
+          Need-shared-slice-element-is-pending) (is-pending-requires : Need-is-pending-requires)
           (one-more-requires : Need-one-more-requires) (add-i : Need-add-i) (loop-less : Need-loop-less)
           (loop-again : Need-loop-again) (returns : Need-returns) where
-        lay7 : (c : After-loop) → at25 (W0 (c .before .before .before .κs) (c .before .before .before .args))
+        lay7 : (c : After-loop) → at23 (W0 (c .before .before .before .κs) (c .before .before .before .args))
             (m9 (c .before))
         lay7 = λ c. ((Path.refl, (tt, tt)), returns record { before = c .before; loop-test = c .loop-test })
 
         lay6 : (c : After-one-more) → at5 (W3 (c .before .before .before .before .before)
             (c .before .before .before .before .loop .counted) (c .before .before .before .before .loop .i))
-            (m19 (c .before) (After-one-more·gave c))
+            (m17 (c .before) (After-one-more·gave c))
         lay6 = λ c. (
           add-i record { before = c .before; one-more = c .one-more },
           (
@@ -1296,15 +1227,15 @@ module _ (claims· : Claims) where
                 (c .before .before .before .before .before)))) (Row.get 6 (T6 .locals) (m5
                 (c .before .before .before .before .before .before) (After-min-usize·gave
                 (c .before .before .before .before .before)))) (Row.get 5 (T6 .locals)
-                (m21 (c .before) (After-one-more·gave c))) (Row.get 6 (T6 .locals)
-                (m21 (c .before) (After-one-more·gave c))),
+                (m19 (c .before) (After-one-more·gave c))) (Row.get 6 (T6 .locals)
+                (m19 (c .before) (After-one-more·gave c))),
             loop-less record { before = c .before; one-more = c .one-more },
             (
               (
-                Row.get 5 (T6 .locals) (m21 (c .before) (After-one-more·gave c)),
-                Row.get 6 (T6 .locals) (m21 (c .before) (After-one-more·gave c)),
+                Row.get 5 (T6 .locals) (m19 (c .before) (After-one-more·gave c)),
+                Row.get 6 (T6 .locals) (m19 (c .before) (After-one-more·gave c)),
               ),
-              Path.refl {a = m21 (c .before) (After-one-more·gave c)},
+              Path.refl {a = m19 (c .before) (After-one-more·gave c)},
               loop-again record { before = c .before; one-more = c .one-more },
               Path.refl {a = μ·0 (Row.get 1 (T6 .locals) (m5 (c .before .before .before .before .before .before) (After-min-usize·gave
                   (c .before .before .before .before .before))) .now) (Row.get 3 (T6 .locals) (m5
@@ -1316,46 +1247,46 @@ module _ (claims· : Claims) where
                   (c .before .before .before .before .before)))) (Row.get 6 (T6 .locals) (m5
                   (c .before .before .before .before .before .before) (After-min-usize·gave
                   (c .before .before .before .before .before)))) (Row.get 5 (T6 .locals)
-                  (m21 (c .before) (After-one-more·gave c))) (Row.get 6 (T6 .locals)
-                  (m21 (c .before) (After-one-more·gave c)))},
+                  (m19 (c .before) (After-one-more·gave c))) (Row.get 6 (T6 .locals)
+                  (m19 (c .before) (After-one-more·gave c)))},
             ),
           ),
         )
 
         lay5 : (c : After-is-pending) → at7 (W3 (c .before .before .before .before)
             (c .before .before .before .loop .counted) (c .before .before .before .loop .i))
-            (m17 (c .before) (After-is-pending·gave c))
+            (m15 (c .before) (After-is-pending·gave c))
         lay5 = λ c. (
           one-more-requires record { before = c .before; is-pending = c .is-pending },
           λ g. lay6 record {
             before = record { before = c .before; is-pending = c .is-pending };
-            one-more = Called.called ps·2 r·2 (claims· .5) T20 args17 (m18 (c .before) (After-is-pending·gave c)) g;
+            one-more = Called.called ps·2 r·2 (claims· .5) T18 args15 (m16 (c .before) (After-is-pending·gave c)) g;
           },
         )
 
-        lay4 : (c : In-loop) → at15 (W3 (c .before .before) (c .before .loop .counted) (c .before .loop .i))
+        lay4 : (c : In-loop) → at13 (W3 (c .before .before) (c .before .loop .counted) (c .before .loop .i))
             (m8 (c .before))
         lay4 = λ c. (
-          mul-row record { before = c .before; loop-test = c .loop-test },
+          mul-is-pending record { before = c .before; loop-test = c .loop-test },
           (
             tt,
             (
               (
                 Path.refl,
                 Path.refl,
-                shared-slice-copy-out-row record { before = c .before; loop-test = c .loop-test },
+                shared-slice-element-is-pending record { before = c .before; loop-test = c .loop-test },
               ),
               λ g. (
                 is-pending-requires record {
                   before = record { before = c .before; loop-test = c .loop-test };
-                  row = record { given = g };
+                  is-pending-arg = record { given = g };
                 },
                 λ g'. lay5 record {
                   before = record {
                     before = record { before = c .before; loop-test = c .loop-test };
-                    row = record { given = g };
+                    is-pending-arg = record { given = g };
                   };
-                  is-pending = Called.called ps·1 r·1 (claims· .3) T18 args15 (m16
+                  is-pending = Called.called ps·1 r·1 (claims· .3) T16 args13 (m14
                       record { before = c .before; loop-test = c .loop-test } g) g';
                 },
               ),
@@ -1371,7 +1302,7 @@ module _ (claims· : Claims) where
             (c .before .before) (c .before .loop .counted) (c .before .loop .i))
         lay2 = λ c. lay4 record { before = c .before; loop-test = c .loop-test }
 
-        lay1 : (c : After-min-usize) → at29 (W0 (c .before .κs) (c .before .args))
+        lay1 : (c : After-min-usize) → at27 (W0 (c .before .κs) (c .before .args))
             (m2 (c .before) (After-min-usize·gave c))
         lay1 = λ c. (
           (
@@ -1411,7 +1342,7 @@ module _ (claims· : Claims) where
           ),
         )
 
-        pub laid : (c : Start) → at31 (W0 (c .κs) (c .args)) (m0 (c .κs) (c .args))
+        pub laid : (c : Start) → at29 (W0 (c .κs) (c .args)) (m0 (c .κs) (c .args))
         laid = λ c. (
           min-usize-requires c,
           λ g. lay1 record {
@@ -1433,7 +1364,7 @@ module _ (claims· : Claims) where
 
         module _ {M : Type 1} (𝓤 : URA.URA M) (H : Wp.Heap 𝓤) (A : Atoms.Atoms 𝓤) (W : Kit.Given 𝓤 H A)
             (𝓣 : Wp.Tables 𝓤 H) (known0 : Plain.Known 𝓤 H A W 𝓣 0 ps·0 r·0 (claims· .0) (claims· .1)
-            "hns_encoding::numbers::min_usize") (known1 : Plain.Known 𝓤 H A W 𝓣 0 ps·1 r·1 (claims· .2) (claims· .3)
+            "hns_encoding::numbers::min_usize") (known1 : Plain.Known 𝓤 H A W 𝓣 1 ps·1 r·1 (claims· .2) (claims· .3)
             "hnsr_circuit::records::pending::is_pending") (known2 : Plain.Known 𝓤 H A W 𝓣 0 ps·2 r·2 (claims· .4)
             (claims· .5) "hnsr_circuit::tables::scan::one_more") where
           pub spec : Statement.Triple 𝓤 (Wp.WpFn 𝓤 H (𝓣 .C) (𝓣 .Λ) (Function.fnOf 1 ps r xs m hs body))

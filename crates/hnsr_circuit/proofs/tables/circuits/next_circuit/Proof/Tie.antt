@@ -5,11 +5,11 @@ use Rattle.hns_encoding.proofs.numbers.min_usize.Symbol
 use Rattle.hnsr_circuit.proofs.By.tables.circuits.next_circuit.Kinds
 use Rattle.hnsr_circuit.proofs.By.tables.circuits.next_circuit.Lts
 use Rattle.hnsr_circuit.proofs.By.tables.circuits.next_circuit.Reads as Reads'
+use Rattle.hnsr_circuit.proofs.By.tables.scan.circuit_turn.Reads as Reads''
 use Rattle.hnsr_circuit.proofs.tables.circuits.next_circuit.Code
 use Rattle.hnsr_circuit.proofs.tables.circuits.next_circuit.Key
 use Rattle.hnsr_circuit.proofs.tables.circuits.next_circuit.Statement
 use Rattle.hnsr_circuit.proofs.tables.scan.circuit_turn.Met as Met'
-use Rattle.hnsr_circuit.proofs.tables.scan.circuit_turn.Reads as Reads''
 use Rattle.hnsr_circuit.proofs.tables.scan.circuit_turn.Symbol as Symbol'
 use Rattle.hnsr_circuit.proofs.tables.scan.not_yet.Met as Met''
 use Rattle.hnsr_circuit.proofs.tables.scan.not_yet.Reads as Reads'''
@@ -45,8 +45,11 @@ In-loop = λ Inv μ. Lts.In-loop readings Reads'.Pre Reads'.Post Inv μ
 abbrev pub After-loop : (Inv : InvT-loop) → (μ : MeasureT-loop) → Type 0
 After-loop = λ Inv μ. Lts.After-loop readings Reads'.Pre Reads'.Post Inv μ
 
-abbrev pub After-row : (Inv : InvT-loop) → (μ : MeasureT-loop) → Type 0
-After-row = λ Inv μ. Lts.After-row readings Reads'.Pre Reads'.Post Inv μ
+abbrev pub After-peer : (Inv : InvT-loop) → (μ : MeasureT-loop) → Type 0
+After-peer = λ Inv μ. Lts.After-peer readings Reads'.Pre Reads'.Post Inv μ
+
+abbrev pub After-circuit-turn-arg : (Inv : InvT-loop) → (μ : MeasureT-loop) → Type 0
+After-circuit-turn-arg = λ Inv μ. Lts.After-circuit-turn-arg readings Reads'.Pre Reads'.Post Inv μ
 
 abbrev pub After-circuit-turn : (Inv : InvT-loop) → (μ : MeasureT-loop) → Type 0
 After-circuit-turn = λ Inv μ. Lts.After-circuit-turn readings Reads'.Pre Reads'.Post Inv μ
@@ -60,11 +63,12 @@ Need-not-yet-requires = λ Inv μ. Lts.Need-not-yet-requires readings Reads'.Pre
 abbrev pub Need-loop-holds : (Inv : InvT-loop) → (μ : MeasureT-loop) → Type 0
 Need-loop-holds = λ Inv μ. Lts.Need-loop-holds readings Reads'.Pre Reads'.Post Inv μ
 
-abbrev pub Need-mul-row : (Inv : InvT-loop) → (μ : MeasureT-loop) → Type 0
-Need-mul-row = λ Inv μ. Lts.Need-mul-row readings Reads'.Pre Reads'.Post Inv μ
+abbrev pub Need-mul-circuit-turn : (Inv : InvT-loop) → (μ : MeasureT-loop) → Type 0
+Need-mul-circuit-turn = λ Inv μ. Lts.Need-mul-circuit-turn readings Reads'.Pre Reads'.Post Inv μ
 
-abbrev pub Need-shared-slice-copy-out-row : (Inv : InvT-loop) → (μ : MeasureT-loop) → Type 0
-Need-shared-slice-copy-out-row = λ Inv μ. Lts.Need-shared-slice-copy-out-row readings Reads'.Pre Reads'.Post Inv μ
+abbrev pub Need-shared-slice-element-circuit-turn : (Inv : InvT-loop) → (μ : MeasureT-loop) → Type 0
+Need-shared-slice-element-circuit-turn = λ Inv μ. Lts.Need-shared-slice-element-circuit-turn readings Reads'.Pre
+    Reads'.Post Inv μ
 
 abbrev pub Need-circuit-turn-requires : (Inv : InvT-loop) → (μ : MeasureT-loop) → Type 0
 Need-circuit-turn-requires = λ Inv μ. Lts.Need-circuit-turn-requires readings Reads'.Pre Reads'.Post Inv μ
@@ -83,10 +87,10 @@ Need-returns = λ Inv μ. Lts.Need-returns readings Reads'.Pre Reads'.Post Inv �
 
 module _ {M : Type 1} where
   pub spec : (Inv : InvT-loop) → (μ : MeasureT-loop) → (answer : Need-min-usize-requires Inv μ) →
-      (answer : Need-not-yet-requires Inv μ) → (answer : Need-loop-holds Inv μ) → (answer : Need-mul-row Inv μ) →
-      (answer : Need-shared-slice-copy-out-row Inv μ) → (answer : Need-circuit-turn-requires Inv μ) →
-      (answer : Need-add-i Inv μ) → (answer : Need-loop-less Inv μ) → (answer : Need-loop-again Inv μ) →
-      (answer : Need-returns Inv μ) → Lts.Closed readings Reads'.Pre Reads'.Post M
+      (answer : Need-not-yet-requires Inv μ) → (answer : Need-loop-holds Inv μ) →
+      (answer : Need-mul-circuit-turn Inv μ) → (answer : Need-shared-slice-element-circuit-turn Inv μ) →
+      (answer : Need-circuit-turn-requires Inv μ) → (answer : Need-add-i Inv μ) → (answer : Need-loop-less Inv μ) →
+      (answer : Need-loop-again Inv μ) → (answer : Need-returns Inv μ) → Lts.Closed readings Reads'.Pre Reads'.Post M
   spec = λ Inv μ answer answer' answer'' answer'3 answer'4 answer'5 answer'6 answer'7 answer'8 answer'9. Lts.spec
       readings Reads'.Pre Reads'.Post Inv μ answer answer' answer'' answer'3 answer'4 answer'5 answer'6 answer'7
       answer'8 answer'9

@@ -18,7 +18,6 @@ module _ (Inv : Tie.InvT-loop) (μ : Tie.MeasureT-loop) where
     pub loop : Lts.At-loop·own Tie.readings Reads.Pre Reads.Post Inv μ
         (c .before .before .before .before .before .before)
     pub loop-test : Lts.In-loop·own Tie.readings Reads.Pre Reads.Post Inv μ (c .before .before .before .before .before)
-    pub row : Lts.After-row·own Tie.readings Reads.Pre Reads.Post Inv μ (c .before .before .before .before)
     pub is-circuit : Lts.After-is-circuit·own Tie.readings Reads.Pre Reads.Post Inv μ (c .before .before .before)
     pub no : Lts.After-no·own Tie.readings Reads.Pre Reads.Post Inv μ (c .before .before)
     pub if1 : Lts.Then1·own Tie.readings Reads.Pre Reads.Post Inv μ (c .before)
@@ -29,7 +28,6 @@ module _ (Inv : Tie.InvT-loop) (μ : Tie.MeasureT-loop) where
     min-usize = c .before .before .before .before .before .before .min-usize;
     loop = c .before .before .before .before .before .loop;
     loop-test = c .before .before .before .before .loop-test;
-    row = c .before .before .before .row;
     is-circuit = c .before .before .is-circuit;
     no = c .before .no;
     if1 = c .if1;
@@ -42,7 +40,6 @@ module _ (Inv : Tie.InvT-loop) (μ : Tie.MeasureT-loop) where
     pub loop : Lts.At-loop·own Tie.readings Reads.Pre Reads.Post Inv μ
         (c .before .before .before .before .before .before)
     pub loop-test : Lts.In-loop·own Tie.readings Reads.Pre Reads.Post Inv μ (c .before .before .before .before .before)
-    pub row : Lts.After-row·own Tie.readings Reads.Pre Reads.Post Inv μ (c .before .before .before .before)
     pub is-circuit : Lts.After-is-circuit·own Tie.readings Reads.Pre Reads.Post Inv μ (c .before .before .before)
     pub no : Lts.After-no·own Tie.readings Reads.Pre Reads.Post Inv μ (c .before .before)
     pub if1 : Lts.Else1·own Tie.readings Reads.Pre Reads.Post Inv μ (c .before)
@@ -53,7 +50,6 @@ module _ (Inv : Tie.InvT-loop) (μ : Tie.MeasureT-loop) where
     min-usize = c .before .before .before .before .before .before .min-usize;
     loop = c .before .before .before .before .before .loop;
     loop-test = c .before .before .before .before .loop-test;
-    row = c .before .before .before .row;
     is-circuit = c .before .before .is-circuit;
     no = c .before .no;
     if1 = c .if1;

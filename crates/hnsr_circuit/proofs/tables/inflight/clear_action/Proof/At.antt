@@ -7,12 +7,12 @@ module _ (Inv : Tie.InvT-loop) (μ : Tie.MeasureT-loop) where
   pub record Loop-less (c : Tie.After-inflight Inv μ) : Type 0 where
     pub start : Tie.Start Inv μ
     pub min-usize : Lts.After-min-usize·own Tie.readings Reads.Pre Reads.Post Inv μ (c .before .before .before .before
-        .before .before .before .before)
-    pub loop : Lts.At-loop·own Tie.readings Reads.Pre Reads.Post Inv μ
-        (c .before .before .before .before .before .before .before)
+        .before .before .before .before .before)
+    pub loop : Lts.At-loop·own Tie.readings Reads.Pre Reads.Post Inv μ (c .before .before .before .before .before
+        .before .before .before)
     pub loop-test : Lts.In-loop·own Tie.readings Reads.Pre Reads.Post Inv μ
-        (c .before .before .before .before .before .before)
-    pub row : Lts.After-row·own Tie.readings Reads.Pre Reads.Post Inv μ (c .before .before .before .before .before)
+        (c .before .before .before .before .before .before .before)
+    pub peer : Lts.After-peer·own Tie.readings Reads.Pre Reads.Post Inv μ (c .before .before .before .before .before)
     pub action-has : Lts.After-action-has·own Tie.readings Reads.Pre Reads.Post Inv μ
         (c .before .before .before .before)
     pub unmark-action : Lts.After-unmark-action·own Tie.readings Reads.Pre Reads.Post Inv μ (c .before .before)
@@ -20,11 +20,11 @@ module _ (Inv : Tie.InvT-loop) (μ : Tie.MeasureT-loop) where
 
   abbrev pub loop-less : (c : Tie.After-inflight Inv μ) → Loop-less c
   loop-less c = record {
-    start = c .before .before .before .before .before .before .before .before;
-    min-usize = c .before .before .before .before .before .before .before .min-usize;
-    loop = c .before .before .before .before .before .before .loop;
-    loop-test = c .before .before .before .before .before .loop-test;
-    row = c .before .before .before .before .row;
+    start = c .before .before .before .before .before .before .before .before .before;
+    min-usize = c .before .before .before .before .before .before .before .before .min-usize;
+    loop = c .before .before .before .before .before .before .before .loop;
+    loop-test = c .before .before .before .before .before .before .loop-test;
+    peer = c .before .before .before .before .peer;
     action-has = c .before .before .before .action-has;
     unmark-action = c .before .unmark-action;
     inflight = c .inflight;
@@ -33,12 +33,12 @@ module _ (Inv : Tie.InvT-loop) (μ : Tie.MeasureT-loop) where
   pub record Loop-again (c : Tie.After-inflight Inv μ) : Type 0 where
     pub start : Tie.Start Inv μ
     pub min-usize : Lts.After-min-usize·own Tie.readings Reads.Pre Reads.Post Inv μ (c .before .before .before .before
-        .before .before .before .before)
-    pub loop : Lts.At-loop·own Tie.readings Reads.Pre Reads.Post Inv μ
-        (c .before .before .before .before .before .before .before)
+        .before .before .before .before .before)
+    pub loop : Lts.At-loop·own Tie.readings Reads.Pre Reads.Post Inv μ (c .before .before .before .before .before
+        .before .before .before)
     pub loop-test : Lts.In-loop·own Tie.readings Reads.Pre Reads.Post Inv μ
-        (c .before .before .before .before .before .before)
-    pub row : Lts.After-row·own Tie.readings Reads.Pre Reads.Post Inv μ (c .before .before .before .before .before)
+        (c .before .before .before .before .before .before .before)
+    pub peer : Lts.After-peer·own Tie.readings Reads.Pre Reads.Post Inv μ (c .before .before .before .before .before)
     pub action-has : Lts.After-action-has·own Tie.readings Reads.Pre Reads.Post Inv μ
         (c .before .before .before .before)
     pub unmark-action : Lts.After-unmark-action·own Tie.readings Reads.Pre Reads.Post Inv μ (c .before .before)
@@ -46,11 +46,11 @@ module _ (Inv : Tie.InvT-loop) (μ : Tie.MeasureT-loop) where
 
   abbrev pub loop-again : (c : Tie.After-inflight Inv μ) → Loop-again c
   loop-again c = record {
-    start = c .before .before .before .before .before .before .before .before;
-    min-usize = c .before .before .before .before .before .before .before .min-usize;
-    loop = c .before .before .before .before .before .before .loop;
-    loop-test = c .before .before .before .before .before .loop-test;
-    row = c .before .before .before .before .row;
+    start = c .before .before .before .before .before .before .before .before .before;
+    min-usize = c .before .before .before .before .before .before .before .before .min-usize;
+    loop = c .before .before .before .before .before .before .before .loop;
+    loop-test = c .before .before .before .before .before .before .loop-test;
+    peer = c .before .before .before .before .peer;
     action-has = c .before .before .before .action-has;
     unmark-action = c .before .unmark-action;
     inflight = c .inflight;

@@ -6,13 +6,13 @@ use Rattle.hnsr_circuit.proofs.By.tables.inflight.clear_action.Kinds
 use Rattle.hnsr_circuit.proofs.By.tables.inflight.clear_action.Lts
 use Rattle.hnsr_circuit.proofs.By.tables.inflight.clear_action.Reads as Reads'
 use Rattle.hnsr_circuit.proofs.By.tables.inflight.unmark_action.Reads as Reads''
+use Rattle.hnsr_circuit.proofs.By.tables.question.action_has.Reads as Reads'''
 use Rattle.hnsr_circuit.proofs.tables.inflight.clear_action.Code
 use Rattle.hnsr_circuit.proofs.tables.inflight.clear_action.Key
 use Rattle.hnsr_circuit.proofs.tables.inflight.clear_action.Statement
 use Rattle.hnsr_circuit.proofs.tables.inflight.unmark_action.Met as Met'
 use Rattle.hnsr_circuit.proofs.tables.inflight.unmark_action.Symbol as Symbol'
 use Rattle.hnsr_circuit.proofs.tables.question.action_has.Met as Met''
-use Rattle.hnsr_circuit.proofs.tables.question.action_has.Reads as Reads'''
 use Rattle.hnsr_circuit.proofs.tables.question.action_has.Symbol as Symbol''
 use borrow.Fn.Run
 use borrow.Fn.Written
@@ -42,8 +42,11 @@ In-loop = λ Inv μ. Lts.In-loop readings Reads'.Pre Reads'.Post Inv μ
 abbrev pub After-loop : (Inv : InvT-loop) → (μ : MeasureT-loop) → Type 0
 After-loop = λ Inv μ. Lts.After-loop readings Reads'.Pre Reads'.Post Inv μ
 
-abbrev pub After-row : (Inv : InvT-loop) → (μ : MeasureT-loop) → Type 0
-After-row = λ Inv μ. Lts.After-row readings Reads'.Pre Reads'.Post Inv μ
+abbrev pub After-action-has-arg : (Inv : InvT-loop) → (μ : MeasureT-loop) → Type 0
+After-action-has-arg = λ Inv μ. Lts.After-action-has-arg readings Reads'.Pre Reads'.Post Inv μ
+
+abbrev pub After-peer : (Inv : InvT-loop) → (μ : MeasureT-loop) → Type 0
+After-peer = λ Inv μ. Lts.After-peer readings Reads'.Pre Reads'.Post Inv μ
 
 abbrev pub After-action-has : (Inv : InvT-loop) → (μ : MeasureT-loop) → Type 0
 After-action-has = λ Inv μ. Lts.After-action-has readings Reads'.Pre Reads'.Post Inv μ
@@ -63,11 +66,11 @@ Need-min-usize-requires = λ Inv μ. Lts.Need-min-usize-requires readings Reads'
 abbrev pub Need-loop-holds : (Inv : InvT-loop) → (μ : MeasureT-loop) → Type 0
 Need-loop-holds = λ Inv μ. Lts.Need-loop-holds readings Reads'.Pre Reads'.Post Inv μ
 
-abbrev pub Need-mul-row : (Inv : InvT-loop) → (μ : MeasureT-loop) → Type 0
-Need-mul-row = λ Inv μ. Lts.Need-mul-row readings Reads'.Pre Reads'.Post Inv μ
+abbrev pub Need-mul-action-has : (Inv : InvT-loop) → (μ : MeasureT-loop) → Type 0
+Need-mul-action-has = λ Inv μ. Lts.Need-mul-action-has readings Reads'.Pre Reads'.Post Inv μ
 
-abbrev pub Need-slice-copy-out-row : (Inv : InvT-loop) → (μ : MeasureT-loop) → Type 0
-Need-slice-copy-out-row = λ Inv μ. Lts.Need-slice-copy-out-row readings Reads'.Pre Reads'.Post Inv μ
+abbrev pub Need-index-1-action-has : (Inv : InvT-loop) → (μ : MeasureT-loop) → Type 0
+Need-index-1-action-has = λ Inv μ. Lts.Need-index-1-action-has readings Reads'.Pre Reads'.Post Inv μ
 
 abbrev pub Need-action-has-requires : (Inv : InvT-loop) → (μ : MeasureT-loop) → Type 0
 Need-action-has-requires = λ Inv μ. Lts.Need-action-has-requires readings Reads'.Pre Reads'.Post Inv μ
@@ -92,10 +95,11 @@ Need-returns = λ Inv μ. Lts.Need-returns readings Reads'.Pre Reads'.Post Inv �
 
 module _ {M : Type 1} where
   pub spec : (Inv : InvT-loop) → (μ : MeasureT-loop) → (answer : Need-min-usize-requires Inv μ) →
-      (answer : Need-loop-holds Inv μ) → (answer : Need-mul-row Inv μ) → (answer : Need-slice-copy-out-row Inv μ) →
-      (answer : Need-action-has-requires Inv μ) → (answer : Need-unmark-action-requires Inv μ) →
-      (answer : Need-add-i Inv μ) → (answer : Need-loop-less Inv μ) → (answer : Need-loop-again Inv μ) →
-      (answer : Need-same-length Inv μ) → (answer : Need-returns Inv μ) → Lts.Closed readings Reads'.Pre Reads'.Post M
+      (answer : Need-loop-holds Inv μ) → (answer : Need-mul-action-has Inv μ) →
+      (answer : Need-index-1-action-has Inv μ) → (answer : Need-action-has-requires Inv μ) →
+      (answer : Need-unmark-action-requires Inv μ) → (answer : Need-add-i Inv μ) → (answer : Need-loop-less Inv μ) →
+      (answer : Need-loop-again Inv μ) → (answer : Need-same-length Inv μ) → (answer : Need-returns Inv μ) → Lts.Closed
+      readings Reads'.Pre Reads'.Post M
   spec = λ Inv μ answer answer' answer'' answer'3 answer'4 answer'5 answer'6 answer'7 answer'8 answer'9 answer'10.
       Lts.spec readings Reads'.Pre Reads'.Post Inv μ answer answer' answer'' answer'3 answer'4 answer'5 answer'6
       answer'7 answer'8 answer'9 answer'10

@@ -12,106 +12,125 @@ module _ (Inv : Tie.InvT-loop) (μ : Tie.MeasureT-loop) where
   abbrev pub loop-holds : (c : Tie.After-no-scan Inv μ) → Loop-holds c
   loop-holds c = record { start = c .before .before; min-usize = c .before .min-usize; no-scan = c .no-scan }
 
-  pub record Action-scanned-requires (c : Tie.After-inflight Inv μ) : Type 0 where
+  pub record Action-scanned-requires (c : Tie.After-question2 Inv μ) : Type 0 where
     pub start : Tie.Start Inv μ
     pub min-usize : Lts.After-min-usize·own Tie.readings Reads.Pre Reads.Post Inv μ (c .before .before .before .before
-        .before .before .before .before .before .before)
+        .before .before .before .before .before .before .before .before .before .before)
     pub no-scan : Lts.After-no-scan·own Tie.readings Reads.Pre Reads.Post Inv μ (c .before .before .before .before
-        .before .before .before .before .before)
+        .before .before .before .before .before .before .before .before .before)
     pub loop : Lts.At-loop·own Tie.readings Reads.Pre Reads.Post Inv μ (c .before .before .before .before .before
-        .before .before .before)
-    pub loop-test : Lts.In-loop·own Tie.readings Reads.Pre Reads.Post Inv μ
+        .before .before .before .before .before .before .before)
+    pub loop-test : Lts.In-loop·own Tie.readings Reads.Pre Reads.Post Inv μ (c .before .before .before .before .before
+        .before .before .before .before .before .before)
+    pub action-under : Lts.After-action-under·own Tie.readings Reads.Pre Reads.Post Inv μ (c .before .before .before
+        .before .before .before .before .before .before)
+    pub unmark-action : Lts.After-unmark-action·own Tie.readings Reads.Pre Reads.Post Inv μ
         (c .before .before .before .before .before .before .before)
-    pub row : Lts.After-row·own Tie.readings Reads.Pre Reads.Post Inv μ
+    pub inflight : Lts.After-inflight·own Tie.readings Reads.Pre Reads.Post Inv μ
         (c .before .before .before .before .before .before)
-    pub action-under : Lts.After-action-under·own Tie.readings Reads.Pre Reads.Post Inv μ
-        (c .before .before .before .before .before)
-    pub action-left : Lts.After-action-left·own Tie.readings Reads.Pre Reads.Post Inv μ
-        (c .before .before .before .before)
-    pub unmark-action : Lts.After-unmark-action·own Tie.readings Reads.Pre Reads.Post Inv μ (c .before .before)
-    pub inflight : Lts.After-inflight·own Tie.readings Reads.Pre Reads.Post Inv μ (c .before)
+    pub question : Lts.After-question·own Tie.readings Reads.Pre Reads.Post Inv μ (c .before .before .before .before)
+    pub toward-asked : Lts.After-toward-asked·own Tie.readings Reads.Pre Reads.Post Inv μ (c .before .before .before)
+    pub question2 : Lts.After-question2·own Tie.readings Reads.Pre Reads.Post Inv μ (c .before)
 
-  abbrev pub action-scanned-requires : (c : Tie.After-inflight Inv μ) → Action-scanned-requires c
+  abbrev pub action-scanned-requires : (c : Tie.After-question2 Inv μ) → Action-scanned-requires c
   action-scanned-requires c = record {
-    start = c .before .before .before .before .before .before .before .before .before .before;
-    min-usize = c .before .before .before .before .before .before .before .before .before .min-usize;
-    no-scan = c .before .before .before .before .before .before .before .before .no-scan;
-    loop = c .before .before .before .before .before .before .before .loop;
-    loop-test = c .before .before .before .before .before .before .loop-test;
-    row = c .before .before .before .before .before .row;
-    action-under = c .before .before .before .before .action-under;
-    action-left = c .before .before .before .action-left;
-    unmark-action = c .before .unmark-action;
-    inflight = c .inflight;
+    start = c .before .before .before .before .before .before .before .before .before .before .before .before .before
+        .before;
+    min-usize = c .before .before .before .before .before .before .before .before .before .before .before .before
+        .before .min-usize;
+    no-scan = c .before .before .before .before .before .before .before .before .before .before .before .before
+        .no-scan;
+    loop = c .before .before .before .before .before .before .before .before .before .before .before .loop;
+    loop-test = c .before .before .before .before .before .before .before .before .before .before .loop-test;
+    action-under = c .before .before .before .before .before .before .before .before .action-under;
+    unmark-action = c .before .before .before .before .before .before .unmark-action;
+    inflight = c .before .before .before .before .before .inflight;
+    question = c .before .before .before .question;
+    toward-asked = c .before .before .toward-asked;
+    question2 = c .question2;
   }
 
   pub record Loop-less (c : Tie.After-action-scanned Inv μ) : Type 0 where
     pub start : Tie.Start Inv μ
     pub min-usize : Lts.After-min-usize·own Tie.readings Reads.Pre Reads.Post Inv μ (c .before .before .before .before
-        .before .before .before .before .before .before .before)
+        .before .before .before .before .before .before .before .before .before .before .before)
     pub no-scan : Lts.After-no-scan·own Tie.readings Reads.Pre Reads.Post Inv μ (c .before .before .before .before
-        .before .before .before .before .before .before)
+        .before .before .before .before .before .before .before .before .before .before)
     pub loop : Lts.At-loop·own Tie.readings Reads.Pre Reads.Post Inv μ (c .before .before .before .before .before
-        .before .before .before .before)
+        .before .before .before .before .before .before .before .before)
     pub loop-test : Lts.In-loop·own Tie.readings Reads.Pre Reads.Post Inv μ (c .before .before .before .before .before
-        .before .before .before)
-    pub row : Lts.After-row·own Tie.readings Reads.Pre Reads.Post Inv μ
+        .before .before .before .before .before .before .before)
+    pub action-under : Lts.After-action-under·own Tie.readings Reads.Pre Reads.Post Inv μ (c .before .before .before
+        .before .before .before .before .before .before .before)
+    pub unmark-action : Lts.After-unmark-action·own Tie.readings Reads.Pre Reads.Post Inv μ (c .before .before .before
+        .before .before .before .before .before)
+    pub inflight : Lts.After-inflight·own Tie.readings Reads.Pre Reads.Post Inv μ
         (c .before .before .before .before .before .before .before)
-    pub action-under : Lts.After-action-under·own Tie.readings Reads.Pre Reads.Post Inv μ
-        (c .before .before .before .before .before .before)
-    pub action-left : Lts.After-action-left·own Tie.readings Reads.Pre Reads.Post Inv μ
+    pub question : Lts.After-question·own Tie.readings Reads.Pre Reads.Post Inv μ
         (c .before .before .before .before .before)
-    pub unmark-action : Lts.After-unmark-action·own Tie.readings Reads.Pre Reads.Post Inv μ (c .before .before .before)
-    pub inflight : Lts.After-inflight·own Tie.readings Reads.Pre Reads.Post Inv μ (c .before .before)
+    pub toward-asked : Lts.After-toward-asked·own Tie.readings Reads.Pre Reads.Post Inv μ
+        (c .before .before .before .before)
+    pub question2 : Lts.After-question2·own Tie.readings Reads.Pre Reads.Post Inv μ (c .before .before)
     pub action-scanned : Lts.After-action-scanned·own Tie.readings Reads.Pre Reads.Post Inv μ (c .before)
 
   abbrev pub loop-less : (c : Tie.After-action-scanned Inv μ) → Loop-less c
   loop-less c = record {
-    start = c .before .before .before .before .before .before .before .before .before .before .before;
-    min-usize = c .before .before .before .before .before .before .before .before .before .before .min-usize;
-    no-scan = c .before .before .before .before .before .before .before .before .before .no-scan;
-    loop = c .before .before .before .before .before .before .before .before .loop;
-    loop-test = c .before .before .before .before .before .before .before .loop-test;
-    row = c .before .before .before .before .before .before .row;
-    action-under = c .before .before .before .before .before .action-under;
-    action-left = c .before .before .before .before .action-left;
-    unmark-action = c .before .before .unmark-action;
-    inflight = c .before .inflight;
+    start = c .before .before .before .before .before .before .before .before .before .before .before .before .before
+        .before .before;
+    min-usize = c .before .before .before .before .before .before .before .before .before .before .before .before
+        .before .before .min-usize;
+    no-scan = c .before .before .before .before .before .before .before .before .before .before .before .before .before
+        .no-scan;
+    loop = c .before .before .before .before .before .before .before .before .before .before .before .before .loop;
+    loop-test = c .before .before .before .before .before .before .before .before .before .before .before .loop-test;
+    action-under = c .before .before .before .before .before .before .before .before .before .action-under;
+    unmark-action = c .before .before .before .before .before .before .before .unmark-action;
+    inflight = c .before .before .before .before .before .before .inflight;
+    question = c .before .before .before .before .question;
+    toward-asked = c .before .before .before .toward-asked;
+    question2 = c .before .question2;
     action-scanned = c .action-scanned;
   }
 
   pub record Loop-again (c : Tie.After-action-scanned Inv μ) : Type 0 where
     pub start : Tie.Start Inv μ
     pub min-usize : Lts.After-min-usize·own Tie.readings Reads.Pre Reads.Post Inv μ (c .before .before .before .before
-        .before .before .before .before .before .before .before)
+        .before .before .before .before .before .before .before .before .before .before .before)
     pub no-scan : Lts.After-no-scan·own Tie.readings Reads.Pre Reads.Post Inv μ (c .before .before .before .before
-        .before .before .before .before .before .before)
+        .before .before .before .before .before .before .before .before .before .before)
     pub loop : Lts.At-loop·own Tie.readings Reads.Pre Reads.Post Inv μ (c .before .before .before .before .before
-        .before .before .before .before)
+        .before .before .before .before .before .before .before .before)
     pub loop-test : Lts.In-loop·own Tie.readings Reads.Pre Reads.Post Inv μ (c .before .before .before .before .before
-        .before .before .before)
-    pub row : Lts.After-row·own Tie.readings Reads.Pre Reads.Post Inv μ
+        .before .before .before .before .before .before .before)
+    pub action-under : Lts.After-action-under·own Tie.readings Reads.Pre Reads.Post Inv μ (c .before .before .before
+        .before .before .before .before .before .before .before)
+    pub unmark-action : Lts.After-unmark-action·own Tie.readings Reads.Pre Reads.Post Inv μ (c .before .before .before
+        .before .before .before .before .before)
+    pub inflight : Lts.After-inflight·own Tie.readings Reads.Pre Reads.Post Inv μ
         (c .before .before .before .before .before .before .before)
-    pub action-under : Lts.After-action-under·own Tie.readings Reads.Pre Reads.Post Inv μ
-        (c .before .before .before .before .before .before)
-    pub action-left : Lts.After-action-left·own Tie.readings Reads.Pre Reads.Post Inv μ
+    pub question : Lts.After-question·own Tie.readings Reads.Pre Reads.Post Inv μ
         (c .before .before .before .before .before)
-    pub unmark-action : Lts.After-unmark-action·own Tie.readings Reads.Pre Reads.Post Inv μ (c .before .before .before)
-    pub inflight : Lts.After-inflight·own Tie.readings Reads.Pre Reads.Post Inv μ (c .before .before)
+    pub toward-asked : Lts.After-toward-asked·own Tie.readings Reads.Pre Reads.Post Inv μ
+        (c .before .before .before .before)
+    pub question2 : Lts.After-question2·own Tie.readings Reads.Pre Reads.Post Inv μ (c .before .before)
     pub action-scanned : Lts.After-action-scanned·own Tie.readings Reads.Pre Reads.Post Inv μ (c .before)
 
   abbrev pub loop-again : (c : Tie.After-action-scanned Inv μ) → Loop-again c
   loop-again c = record {
-    start = c .before .before .before .before .before .before .before .before .before .before .before;
-    min-usize = c .before .before .before .before .before .before .before .before .before .before .min-usize;
-    no-scan = c .before .before .before .before .before .before .before .before .before .no-scan;
-    loop = c .before .before .before .before .before .before .before .before .loop;
-    loop-test = c .before .before .before .before .before .before .before .loop-test;
-    row = c .before .before .before .before .before .before .row;
-    action-under = c .before .before .before .before .before .action-under;
-    action-left = c .before .before .before .before .action-left;
-    unmark-action = c .before .before .unmark-action;
-    inflight = c .before .inflight;
+    start = c .before .before .before .before .before .before .before .before .before .before .before .before .before
+        .before .before;
+    min-usize = c .before .before .before .before .before .before .before .before .before .before .before .before
+        .before .before .min-usize;
+    no-scan = c .before .before .before .before .before .before .before .before .before .before .before .before .before
+        .no-scan;
+    loop = c .before .before .before .before .before .before .before .before .before .before .before .before .loop;
+    loop-test = c .before .before .before .before .before .before .before .before .before .before .before .loop-test;
+    action-under = c .before .before .before .before .before .before .before .before .before .action-under;
+    unmark-action = c .before .before .before .before .before .before .before .unmark-action;
+    inflight = c .before .before .before .before .before .before .inflight;
+    question = c .before .before .before .before .question;
+    toward-asked = c .before .before .before .toward-asked;
+    question2 = c .before .question2;
     action-scanned = c .action-scanned;
   }
 

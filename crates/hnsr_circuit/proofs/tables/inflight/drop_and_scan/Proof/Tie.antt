@@ -2,30 +2,30 @@
 use Rattle.hns_encoding.proofs.numbers.min_usize.Met
 use Rattle.hns_encoding.proofs.numbers.min_usize.Reads
 use Rattle.hns_encoding.proofs.numbers.min_usize.Symbol
+use Rattle.hnsr_circuit.proofs.By.records.inflight.action_under.Reads as Reads'
 use Rattle.hnsr_circuit.proofs.By.tables.inflight.drop_and_scan.Kinds
 use Rattle.hnsr_circuit.proofs.By.tables.inflight.drop_and_scan.Lts
-use Rattle.hnsr_circuit.proofs.By.tables.inflight.drop_and_scan.Reads as Reads'
-use Rattle.hnsr_circuit.proofs.By.tables.inflight.unmark_action.Reads as Reads''
-use Rattle.hnsr_circuit.proofs.records.inflight.action_left.Met as Met'
-use Rattle.hnsr_circuit.proofs.records.inflight.action_left.Reads as Reads'''
-use Rattle.hnsr_circuit.proofs.records.inflight.action_left.Symbol as Symbol'
-use Rattle.hnsr_circuit.proofs.records.inflight.action_under.Met as Met''
-use Rattle.hnsr_circuit.proofs.records.inflight.action_under.Reads as Reads''''
-use Rattle.hnsr_circuit.proofs.records.inflight.action_under.Symbol as Symbol''
+use Rattle.hnsr_circuit.proofs.By.tables.inflight.drop_and_scan.Reads as Reads''
+use Rattle.hnsr_circuit.proofs.By.tables.inflight.unmark_action.Reads as Reads'''
+use Rattle.hnsr_circuit.proofs.By.tables.scan.action_scanned.Reads as Reads''''
+use Rattle.hnsr_circuit.proofs.By.tables.scan.toward_asked.Reads as Reads'''''
+use Rattle.hnsr_circuit.proofs.records.inflight.action_under.Met as Met'
+use Rattle.hnsr_circuit.proofs.records.inflight.action_under.Symbol as Symbol'
 use Rattle.hnsr_circuit.proofs.tables.inflight.drop_and_scan.Code
 use Rattle.hnsr_circuit.proofs.tables.inflight.drop_and_scan.Key
 use Rattle.hnsr_circuit.proofs.tables.inflight.drop_and_scan.Statement
-use Rattle.hnsr_circuit.proofs.tables.inflight.unmark_action.Met as Met'''
-use Rattle.hnsr_circuit.proofs.tables.inflight.unmark_action.Symbol as Symbol'''
-use Rattle.hnsr_circuit.proofs.tables.places.spared.Met as Met''''
-use Rattle.hnsr_circuit.proofs.tables.places.spared.Reads as Reads'''''
-use Rattle.hnsr_circuit.proofs.tables.places.spared.Symbol as Symbol''''
-use Rattle.hnsr_circuit.proofs.tables.scan.action_scanned.Met as Met'''''
-use Rattle.hnsr_circuit.proofs.tables.scan.action_scanned.Reads as Reads''''''
-use Rattle.hnsr_circuit.proofs.tables.scan.action_scanned.Symbol as Symbol'''''
-use Rattle.hnsr_circuit.proofs.tables.scan.no_scan.Met as Met''''''
+use Rattle.hnsr_circuit.proofs.tables.inflight.unmark_action.Met as Met''
+use Rattle.hnsr_circuit.proofs.tables.inflight.unmark_action.Symbol as Symbol''
+use Rattle.hnsr_circuit.proofs.tables.places.spared.Met as Met'''
+use Rattle.hnsr_circuit.proofs.tables.places.spared.Reads as Reads''''''
+use Rattle.hnsr_circuit.proofs.tables.places.spared.Symbol as Symbol'''
+use Rattle.hnsr_circuit.proofs.tables.scan.action_scanned.Met as Met''''
+use Rattle.hnsr_circuit.proofs.tables.scan.action_scanned.Symbol as Symbol''''
+use Rattle.hnsr_circuit.proofs.tables.scan.no_scan.Met as Met'''''
 use Rattle.hnsr_circuit.proofs.tables.scan.no_scan.Reads as Reads'''''''
-use Rattle.hnsr_circuit.proofs.tables.scan.no_scan.Symbol as Symbol''''''
+use Rattle.hnsr_circuit.proofs.tables.scan.no_scan.Symbol as Symbol'''''
+use Rattle.hnsr_circuit.proofs.tables.scan.toward_asked.Met as Met''''''
+use Rattle.hnsr_circuit.proofs.tables.scan.toward_asked.Symbol as Symbol''''''
 use borrow.Fn.Run
 use borrow.Fn.Written
 use contract.Running
@@ -36,16 +36,16 @@ readings = (
   Reads.Learnt,
   Reads'''''''.Asked,
   Reads'''''''.Learnt,
-  Reads''''.Asked,
-  Reads''''.Learnt,
+  Reads'.Asked,
+  Reads'.Learnt,
   Reads'''.Asked,
   Reads'''.Learnt,
-  Reads''.Asked,
-  Reads''.Learnt,
-  Reads''''''.Asked,
-  Reads''''''.Learnt,
   Reads'''''.Asked,
   Reads'''''.Learnt,
+  Reads''''.Asked,
+  Reads''''.Learnt,
+  Reads''''''.Asked,
+  Reads''''''.Learnt,
 )
 
 abbrev pub InvT-loop : Type 1
@@ -55,122 +55,150 @@ abbrev pub MeasureT-loop : Type 0
 MeasureT-loop = Lts.MeasureT-loop
 
 abbrev pub Start : (Inv : InvT-loop) → (μ : MeasureT-loop) → Type 0
-Start = λ Inv μ. Lts.Start readings Reads'.Pre Reads'.Post Inv μ
+Start = λ Inv μ. Lts.Start readings Reads''.Pre Reads''.Post Inv μ
 
 abbrev pub After-min-usize : (Inv : InvT-loop) → (μ : MeasureT-loop) → Type 0
-After-min-usize = λ Inv μ. Lts.After-min-usize readings Reads'.Pre Reads'.Post Inv μ
+After-min-usize = λ Inv μ. Lts.After-min-usize readings Reads''.Pre Reads''.Post Inv μ
 
 abbrev pub After-no-scan : (Inv : InvT-loop) → (μ : MeasureT-loop) → Type 0
-After-no-scan = λ Inv μ. Lts.After-no-scan readings Reads'.Pre Reads'.Post Inv μ
+After-no-scan = λ Inv μ. Lts.After-no-scan readings Reads''.Pre Reads''.Post Inv μ
 
 abbrev pub At-loop : (Inv : InvT-loop) → (μ : MeasureT-loop) → Type 0
-At-loop = λ Inv μ. Lts.At-loop readings Reads'.Pre Reads'.Post Inv μ
+At-loop = λ Inv μ. Lts.At-loop readings Reads''.Pre Reads''.Post Inv μ
 
 abbrev pub In-loop : (Inv : InvT-loop) → (μ : MeasureT-loop) → Type 0
-In-loop = λ Inv μ. Lts.In-loop readings Reads'.Pre Reads'.Post Inv μ
+In-loop = λ Inv μ. Lts.In-loop readings Reads''.Pre Reads''.Post Inv μ
 
 abbrev pub After-loop : (Inv : InvT-loop) → (μ : MeasureT-loop) → Type 0
-After-loop = λ Inv μ. Lts.After-loop readings Reads'.Pre Reads'.Post Inv μ
+After-loop = λ Inv μ. Lts.After-loop readings Reads''.Pre Reads''.Post Inv μ
 
-abbrev pub After-row : (Inv : InvT-loop) → (μ : MeasureT-loop) → Type 0
-After-row = λ Inv μ. Lts.After-row readings Reads'.Pre Reads'.Post Inv μ
+abbrev pub After-action-under-arg : (Inv : InvT-loop) → (μ : MeasureT-loop) → Type 0
+After-action-under-arg = λ Inv μ. Lts.After-action-under-arg readings Reads''.Pre Reads''.Post Inv μ
 
 abbrev pub After-action-under : (Inv : InvT-loop) → (μ : MeasureT-loop) → Type 0
-After-action-under = λ Inv μ. Lts.After-action-under readings Reads'.Pre Reads'.Post Inv μ
-
-abbrev pub After-action-left : (Inv : InvT-loop) → (μ : MeasureT-loop) → Type 0
-After-action-left = λ Inv μ. Lts.After-action-left readings Reads'.Pre Reads'.Post Inv μ
+After-action-under = λ Inv μ. Lts.After-action-under readings Reads''.Pre Reads''.Post Inv μ
 
 abbrev pub After-unmark-action-arg : (Inv : InvT-loop) → (μ : MeasureT-loop) → Type 0
-After-unmark-action-arg = λ Inv μ. Lts.After-unmark-action-arg readings Reads'.Pre Reads'.Post Inv μ
+After-unmark-action-arg = λ Inv μ. Lts.After-unmark-action-arg readings Reads''.Pre Reads''.Post Inv μ
 
 abbrev pub After-unmark-action : (Inv : InvT-loop) → (μ : MeasureT-loop) → Type 0
-After-unmark-action = λ Inv μ. Lts.After-unmark-action readings Reads'.Pre Reads'.Post Inv μ
+After-unmark-action = λ Inv μ. Lts.After-unmark-action readings Reads''.Pre Reads''.Post Inv μ
 
 abbrev pub After-inflight : (Inv : InvT-loop) → (μ : MeasureT-loop) → Type 0
-After-inflight = λ Inv μ. Lts.After-inflight readings Reads'.Pre Reads'.Post Inv μ
+After-inflight = λ Inv μ. Lts.After-inflight readings Reads''.Pre Reads''.Post Inv μ
+
+abbrev pub After-toward-asked-arg : (Inv : InvT-loop) → (μ : MeasureT-loop) → Type 0
+After-toward-asked-arg = λ Inv μ. Lts.After-toward-asked-arg readings Reads''.Pre Reads''.Post Inv μ
+
+abbrev pub After-question : (Inv : InvT-loop) → (μ : MeasureT-loop) → Type 0
+After-question = λ Inv μ. Lts.After-question readings Reads''.Pre Reads''.Post Inv μ
+
+abbrev pub After-toward-asked : (Inv : InvT-loop) → (μ : MeasureT-loop) → Type 0
+After-toward-asked = λ Inv μ. Lts.After-toward-asked readings Reads''.Pre Reads''.Post Inv μ
+
+abbrev pub After-action-scanned-arg : (Inv : InvT-loop) → (μ : MeasureT-loop) → Type 0
+After-action-scanned-arg = λ Inv μ. Lts.After-action-scanned-arg readings Reads''.Pre Reads''.Post Inv μ
+
+abbrev pub After-question2 : (Inv : InvT-loop) → (μ : MeasureT-loop) → Type 0
+After-question2 = λ Inv μ. Lts.After-question2 readings Reads''.Pre Reads''.Post Inv μ
 
 abbrev pub After-action-scanned : (Inv : InvT-loop) → (μ : MeasureT-loop) → Type 0
-After-action-scanned = λ Inv μ. Lts.After-action-scanned readings Reads'.Pre Reads'.Post Inv μ
+After-action-scanned = λ Inv μ. Lts.After-action-scanned readings Reads''.Pre Reads''.Post Inv μ
 
 abbrev pub After-spared : (Inv : InvT-loop) → (μ : MeasureT-loop) → Type 0
-After-spared = λ Inv μ. Lts.After-spared readings Reads'.Pre Reads'.Post Inv μ
+After-spared = λ Inv μ. Lts.After-spared readings Reads''.Pre Reads''.Post Inv μ
 
 abbrev pub Need-min-usize-requires : (Inv : InvT-loop) → (μ : MeasureT-loop) → Type 0
-Need-min-usize-requires = λ Inv μ. Lts.Need-min-usize-requires readings Reads'.Pre Reads'.Post Inv μ
+Need-min-usize-requires = λ Inv μ. Lts.Need-min-usize-requires readings Reads''.Pre Reads''.Post Inv μ
 
 abbrev pub Need-no-scan-requires : (Inv : InvT-loop) → (μ : MeasureT-loop) → Type 0
-Need-no-scan-requires = λ Inv μ. Lts.Need-no-scan-requires readings Reads'.Pre Reads'.Post Inv μ
+Need-no-scan-requires = λ Inv μ. Lts.Need-no-scan-requires readings Reads''.Pre Reads''.Post Inv μ
 
 abbrev pub Need-loop-holds : (Inv : InvT-loop) → (μ : MeasureT-loop) → Type 0
-Need-loop-holds = λ Inv μ. Lts.Need-loop-holds readings Reads'.Pre Reads'.Post Inv μ
+Need-loop-holds = λ Inv μ. Lts.Need-loop-holds readings Reads''.Pre Reads''.Post Inv μ
 
-abbrev pub Need-mul-row : (Inv : InvT-loop) → (μ : MeasureT-loop) → Type 0
-Need-mul-row = λ Inv μ. Lts.Need-mul-row readings Reads'.Pre Reads'.Post Inv μ
+abbrev pub Need-mul-action-under : (Inv : InvT-loop) → (μ : MeasureT-loop) → Type 0
+Need-mul-action-under = λ Inv μ. Lts.Need-mul-action-under readings Reads''.Pre Reads''.Post Inv μ
 
-abbrev pub Need-slice-copy-out-row : (Inv : InvT-loop) → (μ : MeasureT-loop) → Type 0
-Need-slice-copy-out-row = λ Inv μ. Lts.Need-slice-copy-out-row readings Reads'.Pre Reads'.Post Inv μ
+abbrev pub Need-index-1-action-under : (Inv : InvT-loop) → (μ : MeasureT-loop) → Type 0
+Need-index-1-action-under = λ Inv μ. Lts.Need-index-1-action-under readings Reads''.Pre Reads''.Post Inv μ
 
 abbrev pub Need-action-under-requires : (Inv : InvT-loop) → (μ : MeasureT-loop) → Type 0
-Need-action-under-requires = λ Inv μ. Lts.Need-action-under-requires readings Reads'.Pre Reads'.Post Inv μ
-
-abbrev pub Need-action-left-requires : (Inv : InvT-loop) → (μ : MeasureT-loop) → Type 0
-Need-action-left-requires = λ Inv μ. Lts.Need-action-left-requires readings Reads'.Pre Reads'.Post Inv μ
+Need-action-under-requires = λ Inv μ. Lts.Need-action-under-requires readings Reads''.Pre Reads''.Post Inv μ
 
 abbrev pub Need-unmark-action-requires : (Inv : InvT-loop) → (μ : MeasureT-loop) → Type 0
-Need-unmark-action-requires = λ Inv μ. Lts.Need-unmark-action-requires readings Reads'.Pre Reads'.Post Inv μ
+Need-unmark-action-requires = λ Inv μ. Lts.Need-unmark-action-requires readings Reads''.Pre Reads''.Post Inv μ
+
+abbrev pub Need-mul-toward-asked : (Inv : InvT-loop) → (μ : MeasureT-loop) → Type 0
+Need-mul-toward-asked = λ Inv μ. Lts.Need-mul-toward-asked readings Reads''.Pre Reads''.Post Inv μ
+
+abbrev pub Need-index-1-toward-asked : (Inv : InvT-loop) → (μ : MeasureT-loop) → Type 0
+Need-index-1-toward-asked = λ Inv μ. Lts.Need-index-1-toward-asked readings Reads''.Pre Reads''.Post Inv μ
+
+abbrev pub Need-toward-asked-requires : (Inv : InvT-loop) → (μ : MeasureT-loop) → Type 0
+Need-toward-asked-requires = λ Inv μ. Lts.Need-toward-asked-requires readings Reads''.Pre Reads''.Post Inv μ
+
+abbrev pub Need-mul-action-scanned : (Inv : InvT-loop) → (μ : MeasureT-loop) → Type 0
+Need-mul-action-scanned = λ Inv μ. Lts.Need-mul-action-scanned readings Reads''.Pre Reads''.Post Inv μ
+
+abbrev pub Need-index-1-action-scanned : (Inv : InvT-loop) → (μ : MeasureT-loop) → Type 0
+Need-index-1-action-scanned = λ Inv μ. Lts.Need-index-1-action-scanned readings Reads''.Pre Reads''.Post Inv μ
 
 abbrev pub Need-action-scanned-requires : (Inv : InvT-loop) → (μ : MeasureT-loop) → Type 0
-Need-action-scanned-requires = λ Inv μ. Lts.Need-action-scanned-requires readings Reads'.Pre Reads'.Post Inv μ
+Need-action-scanned-requires = λ Inv μ. Lts.Need-action-scanned-requires readings Reads''.Pre Reads''.Post Inv μ
 
 abbrev pub Need-add-i : (Inv : InvT-loop) → (μ : MeasureT-loop) → Type 0
-Need-add-i = λ Inv μ. Lts.Need-add-i readings Reads'.Pre Reads'.Post Inv μ
+Need-add-i = λ Inv μ. Lts.Need-add-i readings Reads''.Pre Reads''.Post Inv μ
 
 abbrev pub Need-loop-less : (Inv : InvT-loop) → (μ : MeasureT-loop) → Type 0
-Need-loop-less = λ Inv μ. Lts.Need-loop-less readings Reads'.Pre Reads'.Post Inv μ
+Need-loop-less = λ Inv μ. Lts.Need-loop-less readings Reads''.Pre Reads''.Post Inv μ
 
 abbrev pub Need-loop-again : (Inv : InvT-loop) → (μ : MeasureT-loop) → Type 0
-Need-loop-again = λ Inv μ. Lts.Need-loop-again readings Reads'.Pre Reads'.Post Inv μ
+Need-loop-again = λ Inv μ. Lts.Need-loop-again readings Reads''.Pre Reads''.Post Inv μ
 
 abbrev pub Need-spared-requires : (Inv : InvT-loop) → (μ : MeasureT-loop) → Type 0
-Need-spared-requires = λ Inv μ. Lts.Need-spared-requires readings Reads'.Pre Reads'.Post Inv μ
+Need-spared-requires = λ Inv μ. Lts.Need-spared-requires readings Reads''.Pre Reads''.Post Inv μ
 
 abbrev pub Need-same-length : (Inv : InvT-loop) → (μ : MeasureT-loop) → Type 0
-Need-same-length = λ Inv μ. Lts.Need-same-length readings Reads'.Pre Reads'.Post Inv μ
+Need-same-length = λ Inv μ. Lts.Need-same-length readings Reads''.Pre Reads''.Post Inv μ
 
 abbrev pub Need-returns : (Inv : InvT-loop) → (μ : MeasureT-loop) → Type 0
-Need-returns = λ Inv μ. Lts.Need-returns readings Reads'.Pre Reads'.Post Inv μ
+Need-returns = λ Inv μ. Lts.Need-returns readings Reads''.Pre Reads''.Post Inv μ
 
 module _ {M : Type 1} where
   pub spec : (Inv : InvT-loop) → (μ : MeasureT-loop) → (answer : Need-min-usize-requires Inv μ) →
-      (answer : Need-no-scan-requires Inv μ) → (answer : Need-loop-holds Inv μ) → (answer : Need-mul-row Inv μ) →
-      (answer : Need-slice-copy-out-row Inv μ) → (answer : Need-action-under-requires Inv μ) →
-      (answer : Need-action-left-requires Inv μ) → (answer : Need-unmark-action-requires Inv μ) →
-      (answer : Need-action-scanned-requires Inv μ) → (answer : Need-add-i Inv μ) → (answer : Need-loop-less Inv μ) →
-      (answer : Need-loop-again Inv μ) → (answer : Need-spared-requires Inv μ) → (answer : Need-same-length Inv μ) →
-      (answer : Need-returns Inv μ) → Lts.Closed readings Reads'.Pre Reads'.Post M
+      (answer : Need-no-scan-requires Inv μ) → (answer : Need-loop-holds Inv μ) →
+      (answer : Need-mul-action-under Inv μ) → (answer : Need-index-1-action-under Inv μ) →
+      (answer : Need-action-under-requires Inv μ) → (answer : Need-unmark-action-requires Inv μ) →
+      (answer : Need-mul-toward-asked Inv μ) → (answer : Need-index-1-toward-asked Inv μ) →
+      (answer : Need-toward-asked-requires Inv μ) → (answer : Need-mul-action-scanned Inv μ) →
+      (answer : Need-index-1-action-scanned Inv μ) → (answer : Need-action-scanned-requires Inv μ) →
+      (answer : Need-add-i Inv μ) → (answer : Need-loop-less Inv μ) → (answer : Need-loop-again Inv μ) →
+      (answer : Need-spared-requires Inv μ) → (answer : Need-same-length Inv μ) → (answer : Need-returns Inv μ) →
+      Lts.Closed readings Reads''.Pre Reads''.Post M
   spec = λ Inv μ answer answer' answer'' answer'3 answer'4 answer'5 answer'6 answer'7 answer'8 answer'9 answer'10
-      answer'11 answer'12 answer'13 answer'14. Lts.spec readings Reads'.Pre Reads'.Post Inv μ answer answer' answer''
-      answer'3 answer'4 answer'5 answer'6 answer'7 answer'8 answer'9 answer'10 answer'11 answer'12 answer'13 answer'14
+      answer'11 answer'12 answer'13 answer'14 answer'15 answer'16 answer'17 answer'18. Lts.spec readings Reads''.Pre
+      Reads''.Post Inv μ answer answer' answer'' answer'3 answer'4 answer'5 answer'6 answer'7 answer'8 answer'9
+      answer'10 answer'11 answer'12 answer'13 answer'14 answer'15 answer'16 answer'17 answer'18
 
-  pub close : Lts.Closed readings Reads'.Pre Reads'.Post M → Statement.statement M
+  pub close : Lts.Closed readings Reads''.Pre Reads''.Post M → Statement.statement M
   unfolding Code.routine Running.tablesOf
-  close = λ closed 𝓤 H 𝓜 𝓖 𝓡. Written.close 1 Kinds.ps Kinds.r Reads'.Ghost Reads'.requires Reads'.ensures
-      Reads'.pre-read Reads'.Pinned Reads'.Owned Reads'.post-read record { M = M; 𝓤 = 𝓤; H = H; 𝓜 = 𝓜; 𝓖 = 𝓖; 𝓡 = 𝓡 }
-      Code.env Key.name Code.function (Code.unfolded 𝓤 H 𝓜 𝓡) (λ κs a g. tt) (λ κs. Reads'.owns κs
-      record { M = M; 𝓤 = 𝓤; H = H; 𝓜 = 𝓜; 𝓖 = 𝓖; 𝓡 = 𝓡 }) (Reads'.passes
+  close = λ closed 𝓤 H 𝓜 𝓖 𝓡. Written.close 1 Kinds.ps Kinds.r Reads''.Ghost Reads''.requires Reads''.ensures
+      Reads''.pre-read Reads''.Pinned Reads''.Owned Reads''.post-read
+      record { M = M; 𝓤 = 𝓤; H = H; 𝓜 = 𝓜; 𝓖 = 𝓖; 𝓡 = 𝓡 } Code.env Key.name Code.function (Code.unfolded 𝓤 H 𝓜 𝓡)
+      (λ κs a g. tt) (λ κs. Reads''.owns κs record { M = M; 𝓤 = 𝓤; H = H; 𝓜 = 𝓜; 𝓖 = 𝓖; 𝓡 = 𝓡 }) (Reads''.passes
       record { M = M; 𝓤 = 𝓤; H = H; 𝓜 = 𝓜; 𝓖 = 𝓖; 𝓡 = 𝓡 }) λ g. closed 𝓤 H (𝓖 .A) (Running.givenOf 𝓤 H 𝓜 𝓖)
       (Run.Over 𝓤 H 𝓜 𝓖 𝓡 Code.env) (Reads.known record { M = M; 𝓤 = 𝓤; H = H; 𝓜 = 𝓜; 𝓖 = 𝓖; 𝓡 = 𝓡 } Code.env
       Symbol.name Symbol.routine Code.calls-hns-encoding·numbers·min-usize (Met.met 𝓤 H 𝓜 𝓖 𝓡)) (Reads'''''''.known
-      record { M = M; 𝓤 = 𝓤; H = H; 𝓜 = 𝓜; 𝓖 = 𝓖; 𝓡 = 𝓡 } Code.env Symbol''''''.name Symbol''''''.routine
-      Code.calls-hnsr-circuit·tables·scan·no-scan (Met''''''.met 𝓤 H 𝓜 𝓖 𝓡)) (Reads''''.known
-      record { M = M; 𝓤 = 𝓤; H = H; 𝓜 = 𝓜; 𝓖 = 𝓖; 𝓡 = 𝓡 } Code.env Symbol''.name Symbol''.routine
-      Code.calls-hnsr-circuit·records·inflight·action-under (Met''.met 𝓤 H 𝓜 𝓖 𝓡)) (Reads'''.known
-      record { M = M; 𝓤 = 𝓤; H = H; 𝓜 = 𝓜; 𝓖 = 𝓖; 𝓡 = 𝓡 } Code.env Symbol'.name Symbol'.routine
-      Code.calls-hnsr-circuit·records·inflight·action-left (Met'.met 𝓤 H 𝓜 𝓖 𝓡)) (Reads''.known
-      record { M = M; 𝓤 = 𝓤; H = H; 𝓜 = 𝓜; 𝓖 = 𝓖; 𝓡 = 𝓡 } Code.env Symbol'''.name Symbol'''.routine
-      Code.calls-hnsr-circuit·tables·inflight·unmark-action (Met'''.met 𝓤 H 𝓜 𝓖 𝓡)) (Reads''''''.known
       record { M = M; 𝓤 = 𝓤; H = H; 𝓜 = 𝓜; 𝓖 = 𝓖; 𝓡 = 𝓡 } Code.env Symbol'''''.name Symbol'''''.routine
-      Code.calls-hnsr-circuit·tables·scan·action-scanned (Met'''''.met 𝓤 H 𝓜 𝓖 𝓡)) (Reads'''''.known
+      Code.calls-hnsr-circuit·tables·scan·no-scan (Met'''''.met 𝓤 H 𝓜 𝓖 𝓡)) (Reads'.known
+      record { M = M; 𝓤 = 𝓤; H = H; 𝓜 = 𝓜; 𝓖 = 𝓖; 𝓡 = 𝓡 } Code.env Symbol'.name Symbol'.routine
+      Code.calls-hnsr-circuit·records·inflight·action-under (Met'.met 𝓤 H 𝓜 𝓖 𝓡)) (Reads'''.known
+      record { M = M; 𝓤 = 𝓤; H = H; 𝓜 = 𝓜; 𝓖 = 𝓖; 𝓡 = 𝓡 } Code.env Symbol''.name Symbol''.routine
+      Code.calls-hnsr-circuit·tables·inflight·unmark-action (Met''.met 𝓤 H 𝓜 𝓖 𝓡)) (Reads'''''.known
+      record { M = M; 𝓤 = 𝓤; H = H; 𝓜 = 𝓜; 𝓖 = 𝓖; 𝓡 = 𝓡 } Code.env Symbol''''''.name Symbol''''''.routine
+      Code.calls-hnsr-circuit·tables·scan·toward-asked (Met''''''.met 𝓤 H 𝓜 𝓖 𝓡)) (Reads''''.known
       record { M = M; 𝓤 = 𝓤; H = H; 𝓜 = 𝓜; 𝓖 = 𝓖; 𝓡 = 𝓡 } Code.env Symbol''''.name Symbol''''.routine
-      Code.calls-hnsr-circuit·tables·places·spared (Met''''.met 𝓤 H 𝓜 𝓖 𝓡))
+      Code.calls-hnsr-circuit·tables·scan·action-scanned (Met''''.met 𝓤 H 𝓜 𝓖 𝓡)) (Reads''''''.known
+      record { M = M; 𝓤 = 𝓤; H = H; 𝓜 = 𝓜; 𝓖 = 𝓖; 𝓡 = 𝓡 } Code.env Symbol'''.name Symbol'''.routine
+      Code.calls-hnsr-circuit·tables·places·spared (Met'''.met 𝓤 H 𝓜 𝓖 𝓡))

@@ -2,11 +2,11 @@
 use Rattle.hns_encoding.proofs.numbers.min_usize.Met
 use Rattle.hns_encoding.proofs.numbers.min_usize.Reads
 use Rattle.hns_encoding.proofs.numbers.min_usize.Symbol
+use Rattle.hnsr_circuit.proofs.By.records.inflight.action_is.Reads as Reads'
 use Rattle.hnsr_circuit.proofs.By.tables.inflight.find_action.Kinds
 use Rattle.hnsr_circuit.proofs.By.tables.inflight.find_action.Lts
-use Rattle.hnsr_circuit.proofs.By.tables.inflight.find_action.Reads as Reads'
+use Rattle.hnsr_circuit.proofs.By.tables.inflight.find_action.Reads as Reads''
 use Rattle.hnsr_circuit.proofs.records.inflight.action_is.Met as Met'
-use Rattle.hnsr_circuit.proofs.records.inflight.action_is.Reads as Reads''
 use Rattle.hnsr_circuit.proofs.records.inflight.action_is.Symbol as Symbol'
 use Rattle.hnsr_circuit.proofs.tables.inflight.find_action.Code
 use Rattle.hnsr_circuit.proofs.tables.inflight.find_action.Key
@@ -16,7 +16,7 @@ use borrow.Fn.Written
 use contract.Running
 
 abbrev pub readings : Lts.Claims
-readings = (Reads.Asked, Reads.Learnt, Reads''.Asked, Reads''.Learnt)
+readings = (Reads.Asked, Reads.Learnt, Reads'.Asked, Reads'.Learnt)
 
 abbrev pub InvT-loop : Type 1
 InvT-loop = Lts.InvT-loop
@@ -25,80 +25,82 @@ abbrev pub MeasureT-loop : Type 0
 MeasureT-loop = Lts.MeasureT-loop
 
 abbrev pub Start : (Inv : InvT-loop) → (μ : MeasureT-loop) → Type 0
-Start = λ Inv μ. Lts.Start readings Reads'.Pre Reads'.Post Inv μ
+Start = λ Inv μ. Lts.Start readings Reads''.Pre Reads''.Post Inv μ
 
 abbrev pub After-min-usize : (Inv : InvT-loop) → (μ : MeasureT-loop) → Type 0
-After-min-usize = λ Inv μ. Lts.After-min-usize readings Reads'.Pre Reads'.Post Inv μ
+After-min-usize = λ Inv μ. Lts.After-min-usize readings Reads''.Pre Reads''.Post Inv μ
 
 abbrev pub At-loop : (Inv : InvT-loop) → (μ : MeasureT-loop) → Type 0
-At-loop = λ Inv μ. Lts.At-loop readings Reads'.Pre Reads'.Post Inv μ
+At-loop = λ Inv μ. Lts.At-loop readings Reads''.Pre Reads''.Post Inv μ
 
 abbrev pub In-loop : (Inv : InvT-loop) → (μ : MeasureT-loop) → Type 0
-In-loop = λ Inv μ. Lts.In-loop readings Reads'.Pre Reads'.Post Inv μ
+In-loop = λ Inv μ. Lts.In-loop readings Reads''.Pre Reads''.Post Inv μ
 
 abbrev pub After-loop : (Inv : InvT-loop) → (μ : MeasureT-loop) → Type 0
-After-loop = λ Inv μ. Lts.After-loop readings Reads'.Pre Reads'.Post Inv μ
+After-loop = λ Inv μ. Lts.After-loop readings Reads''.Pre Reads''.Post Inv μ
 
-abbrev pub After-row : (Inv : InvT-loop) → (μ : MeasureT-loop) → Type 0
-After-row = λ Inv μ. Lts.After-row readings Reads'.Pre Reads'.Post Inv μ
+abbrev pub After-action-is-arg : (Inv : InvT-loop) → (μ : MeasureT-loop) → Type 0
+After-action-is-arg = λ Inv μ. Lts.After-action-is-arg readings Reads''.Pre Reads''.Post Inv μ
 
 abbrev pub After-action-is : (Inv : InvT-loop) → (μ : MeasureT-loop) → Type 0
-After-action-is = λ Inv μ. Lts.After-action-is readings Reads'.Pre Reads'.Post Inv μ
+After-action-is = λ Inv μ. Lts.After-action-is readings Reads''.Pre Reads''.Post Inv μ
 
 abbrev pub Then1 : (Inv : InvT-loop) → (μ : MeasureT-loop) → Type 0
-Then1 = λ Inv μ. Lts.Then1 readings Reads'.Pre Reads'.Post Inv μ
+Then1 = λ Inv μ. Lts.Then1 readings Reads''.Pre Reads''.Post Inv μ
 
 abbrev pub Else1 : (Inv : InvT-loop) → (μ : MeasureT-loop) → Type 0
-Else1 = λ Inv μ. Lts.Else1 readings Reads'.Pre Reads'.Post Inv μ
+Else1 = λ Inv μ. Lts.Else1 readings Reads''.Pre Reads''.Post Inv μ
 
 abbrev pub Need-min-usize-requires : (Inv : InvT-loop) → (μ : MeasureT-loop) → Type 0
-Need-min-usize-requires = λ Inv μ. Lts.Need-min-usize-requires readings Reads'.Pre Reads'.Post Inv μ
+Need-min-usize-requires = λ Inv μ. Lts.Need-min-usize-requires readings Reads''.Pre Reads''.Post Inv μ
 
 abbrev pub Need-loop-holds : (Inv : InvT-loop) → (μ : MeasureT-loop) → Type 0
-Need-loop-holds = λ Inv μ. Lts.Need-loop-holds readings Reads'.Pre Reads'.Post Inv μ
+Need-loop-holds = λ Inv μ. Lts.Need-loop-holds readings Reads''.Pre Reads''.Post Inv μ
 
-abbrev pub Need-mul-row : (Inv : InvT-loop) → (μ : MeasureT-loop) → Type 0
-Need-mul-row = λ Inv μ. Lts.Need-mul-row readings Reads'.Pre Reads'.Post Inv μ
+abbrev pub Need-mul-action-is : (Inv : InvT-loop) → (μ : MeasureT-loop) → Type 0
+Need-mul-action-is = λ Inv μ. Lts.Need-mul-action-is readings Reads''.Pre Reads''.Post Inv μ
 
-abbrev pub Need-shared-slice-copy-out-row : (Inv : InvT-loop) → (μ : MeasureT-loop) → Type 0
-Need-shared-slice-copy-out-row = λ Inv μ. Lts.Need-shared-slice-copy-out-row readings Reads'.Pre Reads'.Post Inv μ
+abbrev pub Need-shared-slice-element-action-is : (Inv : InvT-loop) → (μ : MeasureT-loop) → Type 0
+Need-shared-slice-element-action-is = λ Inv μ. Lts.Need-shared-slice-element-action-is readings Reads''.Pre
+    Reads''.Post Inv μ
 
 abbrev pub Need-action-is-requires : (Inv : InvT-loop) → (μ : MeasureT-loop) → Type 0
-Need-action-is-requires = λ Inv μ. Lts.Need-action-is-requires readings Reads'.Pre Reads'.Post Inv μ
+Need-action-is-requires = λ Inv μ. Lts.Need-action-is-requires readings Reads''.Pre Reads''.Post Inv μ
 
 abbrev pub Need-returns : (Inv : InvT-loop) → (μ : MeasureT-loop) → Type 0
-Need-returns = λ Inv μ. Lts.Need-returns readings Reads'.Pre Reads'.Post Inv μ
+Need-returns = λ Inv μ. Lts.Need-returns readings Reads''.Pre Reads''.Post Inv μ
 
 abbrev pub Need-add-i : (Inv : InvT-loop) → (μ : MeasureT-loop) → Type 0
-Need-add-i = λ Inv μ. Lts.Need-add-i readings Reads'.Pre Reads'.Post Inv μ
+Need-add-i = λ Inv μ. Lts.Need-add-i readings Reads''.Pre Reads''.Post Inv μ
 
 abbrev pub Need-loop-less : (Inv : InvT-loop) → (μ : MeasureT-loop) → Type 0
-Need-loop-less = λ Inv μ. Lts.Need-loop-less readings Reads'.Pre Reads'.Post Inv μ
+Need-loop-less = λ Inv μ. Lts.Need-loop-less readings Reads''.Pre Reads''.Post Inv μ
 
 abbrev pub Need-loop-again : (Inv : InvT-loop) → (μ : MeasureT-loop) → Type 0
-Need-loop-again = λ Inv μ. Lts.Need-loop-again readings Reads'.Pre Reads'.Post Inv μ
+Need-loop-again = λ Inv μ. Lts.Need-loop-again readings Reads''.Pre Reads''.Post Inv μ
 
 abbrev pub Need-returns-2 : (Inv : InvT-loop) → (μ : MeasureT-loop) → Type 0
-Need-returns-2 = λ Inv μ. Lts.Need-returns-2 readings Reads'.Pre Reads'.Post Inv μ
+Need-returns-2 = λ Inv μ. Lts.Need-returns-2 readings Reads''.Pre Reads''.Post Inv μ
 
 module _ {M : Type 1} where
   pub spec : (Inv : InvT-loop) → (μ : MeasureT-loop) → (answer : Need-min-usize-requires Inv μ) →
-      (answer : Need-loop-holds Inv μ) → (answer : Need-mul-row Inv μ) →
-      (answer : Need-shared-slice-copy-out-row Inv μ) → (answer : Need-action-is-requires Inv μ) →
+      (answer : Need-loop-holds Inv μ) → (answer : Need-mul-action-is Inv μ) →
+      (answer : Need-shared-slice-element-action-is Inv μ) → (answer : Need-action-is-requires Inv μ) →
       (answer : Need-returns Inv μ) → (answer : Need-add-i Inv μ) → (answer : Need-loop-less Inv μ) →
-      (answer : Need-loop-again Inv μ) → (answer : Need-returns-2 Inv μ) → Lts.Closed readings Reads'.Pre Reads'.Post M
+      (answer : Need-loop-again Inv μ) → (answer : Need-returns-2 Inv μ) → Lts.Closed readings Reads''.Pre Reads''.Post
+      M
   spec = λ Inv μ answer answer' answer'' answer'3 answer'4 answer'5 answer'6 answer'7 answer'8 answer'9. Lts.spec
-      readings Reads'.Pre Reads'.Post Inv μ answer answer' answer'' answer'3 answer'4 answer'5 answer'6 answer'7
+      readings Reads''.Pre Reads''.Post Inv μ answer answer' answer'' answer'3 answer'4 answer'5 answer'6 answer'7
       answer'8 answer'9
 
-  pub close : Lts.Closed readings Reads'.Pre Reads'.Post M → Statement.statement M
+  pub close : Lts.Closed readings Reads''.Pre Reads''.Post M → Statement.statement M
   unfolding Code.routine Running.tablesOf
-  close = λ closed 𝓤 H 𝓜 𝓖 𝓡. Written.close 1 Kinds.ps Kinds.r Reads'.Ghost Reads'.requires Reads'.ensures
-      Reads'.pre-read Reads'.Pinned Reads'.Owned Reads'.post-read record { M = M; 𝓤 = 𝓤; H = H; 𝓜 = 𝓜; 𝓖 = 𝓖; 𝓡 = 𝓡 }
-      Code.env Key.name Code.function (Code.unfolded 𝓤 H 𝓜 𝓡) (λ κs a g. tt) (λ κs. Reads'.owns κs
-      record { M = M; 𝓤 = 𝓤; H = H; 𝓜 = 𝓜; 𝓖 = 𝓖; 𝓡 = 𝓡 }) (Reads'.passes
+  close = λ closed 𝓤 H 𝓜 𝓖 𝓡. Written.close 1 Kinds.ps Kinds.r Reads''.Ghost Reads''.requires Reads''.ensures
+      Reads''.pre-read Reads''.Pinned Reads''.Owned Reads''.post-read
+      record { M = M; 𝓤 = 𝓤; H = H; 𝓜 = 𝓜; 𝓖 = 𝓖; 𝓡 = 𝓡 } Code.env Key.name Code.function (Code.unfolded 𝓤 H 𝓜 𝓡)
+      (λ κs a g. tt) (λ κs. Reads''.owns κs record { M = M; 𝓤 = 𝓤; H = H; 𝓜 = 𝓜; 𝓖 = 𝓖; 𝓡 = 𝓡 }) (Reads''.passes
       record { M = M; 𝓤 = 𝓤; H = H; 𝓜 = 𝓜; 𝓖 = 𝓖; 𝓡 = 𝓡 }) λ g. closed 𝓤 H (𝓖 .A) (Running.givenOf 𝓤 H 𝓜 𝓖)
       (Run.Over 𝓤 H 𝓜 𝓖 𝓡 Code.env) (Reads.known record { M = M; 𝓤 = 𝓤; H = H; 𝓜 = 𝓜; 𝓖 = 𝓖; 𝓡 = 𝓡 } Code.env
-      Symbol.name Symbol.routine Code.calls-hns-encoding·numbers·min-usize (Met.met 𝓤 H 𝓜 𝓖 𝓡)) (Reads''.known
+      Symbol.name Symbol.routine Code.calls-hns-encoding·numbers·min-usize (Met.met 𝓤 H 𝓜 𝓖 𝓡)) (Reads'.known
       record { M = M; 𝓤 = 𝓤; H = H; 𝓜 = 𝓜; 𝓖 = 𝓖; 𝓡 = 𝓡 } Code.env Symbol'.name Symbol'.routine
       Code.calls-hnsr-circuit·records·inflight·action-is (Met'.met 𝓤 H 𝓜 𝓖 𝓡))

@@ -5,18 +5,21 @@ use Rattle.hns_encoding.proofs.numbers.min_usize.Symbol
 use Rattle.hnsr_circuit.proofs.By.tables.inflight.scan_actions.Kinds
 use Rattle.hnsr_circuit.proofs.By.tables.inflight.scan_actions.Lts
 use Rattle.hnsr_circuit.proofs.By.tables.inflight.scan_actions.Reads as Reads'
+use Rattle.hnsr_circuit.proofs.By.tables.scan.action_scanned.Reads as Reads''
+use Rattle.hnsr_circuit.proofs.By.tables.scan.toward_asked.Reads as Reads'''
 use Rattle.hnsr_circuit.proofs.tables.inflight.scan_actions.Code
 use Rattle.hnsr_circuit.proofs.tables.inflight.scan_actions.Key
 use Rattle.hnsr_circuit.proofs.tables.inflight.scan_actions.Statement
 use Rattle.hnsr_circuit.proofs.tables.places.spared.Met as Met'
-use Rattle.hnsr_circuit.proofs.tables.places.spared.Reads as Reads''
+use Rattle.hnsr_circuit.proofs.tables.places.spared.Reads as Reads''''
 use Rattle.hnsr_circuit.proofs.tables.places.spared.Symbol as Symbol'
 use Rattle.hnsr_circuit.proofs.tables.scan.action_scanned.Met as Met''
-use Rattle.hnsr_circuit.proofs.tables.scan.action_scanned.Reads as Reads'''
 use Rattle.hnsr_circuit.proofs.tables.scan.action_scanned.Symbol as Symbol''
 use Rattle.hnsr_circuit.proofs.tables.scan.no_scan.Met as Met'''
-use Rattle.hnsr_circuit.proofs.tables.scan.no_scan.Reads as Reads''''
+use Rattle.hnsr_circuit.proofs.tables.scan.no_scan.Reads as Reads'''''
 use Rattle.hnsr_circuit.proofs.tables.scan.no_scan.Symbol as Symbol'''
+use Rattle.hnsr_circuit.proofs.tables.scan.toward_asked.Met as Met''''
+use Rattle.hnsr_circuit.proofs.tables.scan.toward_asked.Symbol as Symbol''''
 use borrow.Fn.Run
 use borrow.Fn.Written
 use contract.Running
@@ -25,12 +28,14 @@ abbrev pub readings : Lts.Claims
 readings = (
   Reads.Asked,
   Reads.Learnt,
-  Reads''''.Asked,
-  Reads''''.Learnt,
+  Reads'''''.Asked,
+  Reads'''''.Learnt,
   Reads'''.Asked,
   Reads'''.Learnt,
   Reads''.Asked,
   Reads''.Learnt,
+  Reads''''.Asked,
+  Reads''''.Learnt,
 )
 
 abbrev pub InvT-loop : Type 1
@@ -57,8 +62,20 @@ In-loop = λ Inv μ. Lts.In-loop readings Reads'.Pre Reads'.Post Inv μ
 abbrev pub After-loop : (Inv : InvT-loop) → (μ : MeasureT-loop) → Type 0
 After-loop = λ Inv μ. Lts.After-loop readings Reads'.Pre Reads'.Post Inv μ
 
-abbrev pub After-row : (Inv : InvT-loop) → (μ : MeasureT-loop) → Type 0
-After-row = λ Inv μ. Lts.After-row readings Reads'.Pre Reads'.Post Inv μ
+abbrev pub After-toward-asked-arg : (Inv : InvT-loop) → (μ : MeasureT-loop) → Type 0
+After-toward-asked-arg = λ Inv μ. Lts.After-toward-asked-arg readings Reads'.Pre Reads'.Post Inv μ
+
+abbrev pub After-question : (Inv : InvT-loop) → (μ : MeasureT-loop) → Type 0
+After-question = λ Inv μ. Lts.After-question readings Reads'.Pre Reads'.Post Inv μ
+
+abbrev pub After-toward-asked : (Inv : InvT-loop) → (μ : MeasureT-loop) → Type 0
+After-toward-asked = λ Inv μ. Lts.After-toward-asked readings Reads'.Pre Reads'.Post Inv μ
+
+abbrev pub After-action-scanned-arg : (Inv : InvT-loop) → (μ : MeasureT-loop) → Type 0
+After-action-scanned-arg = λ Inv μ. Lts.After-action-scanned-arg readings Reads'.Pre Reads'.Post Inv μ
+
+abbrev pub After-question2 : (Inv : InvT-loop) → (μ : MeasureT-loop) → Type 0
+After-question2 = λ Inv μ. Lts.After-question2 readings Reads'.Pre Reads'.Post Inv μ
 
 abbrev pub After-action-scanned : (Inv : InvT-loop) → (μ : MeasureT-loop) → Type 0
 After-action-scanned = λ Inv μ. Lts.After-action-scanned readings Reads'.Pre Reads'.Post Inv μ
@@ -75,11 +92,22 @@ Need-no-scan-requires = λ Inv μ. Lts.Need-no-scan-requires readings Reads'.Pre
 abbrev pub Need-loop-holds : (Inv : InvT-loop) → (μ : MeasureT-loop) → Type 0
 Need-loop-holds = λ Inv μ. Lts.Need-loop-holds readings Reads'.Pre Reads'.Post Inv μ
 
-abbrev pub Need-mul-row : (Inv : InvT-loop) → (μ : MeasureT-loop) → Type 0
-Need-mul-row = λ Inv μ. Lts.Need-mul-row readings Reads'.Pre Reads'.Post Inv μ
+abbrev pub Need-mul-toward-asked : (Inv : InvT-loop) → (μ : MeasureT-loop) → Type 0
+Need-mul-toward-asked = λ Inv μ. Lts.Need-mul-toward-asked readings Reads'.Pre Reads'.Post Inv μ
 
-abbrev pub Need-shared-slice-copy-out-row : (Inv : InvT-loop) → (μ : MeasureT-loop) → Type 0
-Need-shared-slice-copy-out-row = λ Inv μ. Lts.Need-shared-slice-copy-out-row readings Reads'.Pre Reads'.Post Inv μ
+abbrev pub Need-shared-slice-element-toward-asked : (Inv : InvT-loop) → (μ : MeasureT-loop) → Type 0
+Need-shared-slice-element-toward-asked = λ Inv μ. Lts.Need-shared-slice-element-toward-asked readings Reads'.Pre
+    Reads'.Post Inv μ
+
+abbrev pub Need-toward-asked-requires : (Inv : InvT-loop) → (μ : MeasureT-loop) → Type 0
+Need-toward-asked-requires = λ Inv μ. Lts.Need-toward-asked-requires readings Reads'.Pre Reads'.Post Inv μ
+
+abbrev pub Need-mul-action-scanned : (Inv : InvT-loop) → (μ : MeasureT-loop) → Type 0
+Need-mul-action-scanned = λ Inv μ. Lts.Need-mul-action-scanned readings Reads'.Pre Reads'.Post Inv μ
+
+abbrev pub Need-shared-slice-element-action-scanned : (Inv : InvT-loop) → (μ : MeasureT-loop) → Type 0
+Need-shared-slice-element-action-scanned = λ Inv μ. Lts.Need-shared-slice-element-action-scanned readings Reads'.Pre
+    Reads'.Post Inv μ
 
 abbrev pub Need-action-scanned-requires : (Inv : InvT-loop) → (μ : MeasureT-loop) → Type 0
 Need-action-scanned-requires = λ Inv μ. Lts.Need-action-scanned-requires readings Reads'.Pre Reads'.Post Inv μ
@@ -101,14 +129,16 @@ Need-returns = λ Inv μ. Lts.Need-returns readings Reads'.Pre Reads'.Post Inv �
 
 module _ {M : Type 1} where
   pub spec : (Inv : InvT-loop) → (μ : MeasureT-loop) → (answer : Need-min-usize-requires Inv μ) →
-      (answer : Need-no-scan-requires Inv μ) → (answer : Need-loop-holds Inv μ) → (answer : Need-mul-row Inv μ) →
-      (answer : Need-shared-slice-copy-out-row Inv μ) → (answer : Need-action-scanned-requires Inv μ) →
+      (answer : Need-no-scan-requires Inv μ) → (answer : Need-loop-holds Inv μ) →
+      (answer : Need-mul-toward-asked Inv μ) → (answer : Need-shared-slice-element-toward-asked Inv μ) →
+      (answer : Need-toward-asked-requires Inv μ) → (answer : Need-mul-action-scanned Inv μ) →
+      (answer : Need-shared-slice-element-action-scanned Inv μ) → (answer : Need-action-scanned-requires Inv μ) →
       (answer : Need-add-i Inv μ) → (answer : Need-loop-less Inv μ) → (answer : Need-loop-again Inv μ) →
       (answer : Need-spared-requires Inv μ) → (answer : Need-returns Inv μ) → Lts.Closed readings Reads'.Pre
       Reads'.Post M
-  spec = λ Inv μ answer answer' answer'' answer'3 answer'4 answer'5 answer'6 answer'7 answer'8 answer'9 answer'10.
-      Lts.spec readings Reads'.Pre Reads'.Post Inv μ answer answer' answer'' answer'3 answer'4 answer'5 answer'6
-      answer'7 answer'8 answer'9 answer'10
+  spec = λ Inv μ answer answer' answer'' answer'3 answer'4 answer'5 answer'6 answer'7 answer'8 answer'9 answer'10
+      answer'11 answer'12 answer'13. Lts.spec readings Reads'.Pre Reads'.Post Inv μ answer answer' answer'' answer'3
+      answer'4 answer'5 answer'6 answer'7 answer'8 answer'9 answer'10 answer'11 answer'12 answer'13
 
   pub close : Lts.Closed readings Reads'.Pre Reads'.Post M → Statement.statement M
   unfolding Code.routine Running.tablesOf
@@ -118,10 +148,12 @@ module _ {M : Type 1} where
       record { M = M; 𝓤 = 𝓤; H = H; 𝓜 = 𝓜; 𝓖 = 𝓖; 𝓡 = 𝓡 }) (Reads'.passes
       record { M = M; 𝓤 = 𝓤; H = H; 𝓜 = 𝓜; 𝓖 = 𝓖; 𝓡 = 𝓡 }) λ g. closed 𝓤 H (𝓖 .A) (Running.givenOf 𝓤 H 𝓜 𝓖)
       (Run.Over 𝓤 H 𝓜 𝓖 𝓡 Code.env) (Reads.known record { M = M; 𝓤 = 𝓤; H = H; 𝓜 = 𝓜; 𝓖 = 𝓖; 𝓡 = 𝓡 } Code.env
-      Symbol.name Symbol.routine Code.calls-hns-encoding·numbers·min-usize (Met.met 𝓤 H 𝓜 𝓖 𝓡)) (Reads''''.known
+      Symbol.name Symbol.routine Code.calls-hns-encoding·numbers·min-usize (Met.met 𝓤 H 𝓜 𝓖 𝓡)) (Reads'''''.known
       record { M = M; 𝓤 = 𝓤; H = H; 𝓜 = 𝓜; 𝓖 = 𝓖; 𝓡 = 𝓡 } Code.env Symbol'''.name Symbol'''.routine
       Code.calls-hnsr-circuit·tables·scan·no-scan (Met'''.met 𝓤 H 𝓜 𝓖 𝓡)) (Reads'''.known
+      record { M = M; 𝓤 = 𝓤; H = H; 𝓜 = 𝓜; 𝓖 = 𝓖; 𝓡 = 𝓡 } Code.env Symbol''''.name Symbol''''.routine
+      Code.calls-hnsr-circuit·tables·scan·toward-asked (Met''''.met 𝓤 H 𝓜 𝓖 𝓡)) (Reads''.known
       record { M = M; 𝓤 = 𝓤; H = H; 𝓜 = 𝓜; 𝓖 = 𝓖; 𝓡 = 𝓡 } Code.env Symbol''.name Symbol''.routine
-      Code.calls-hnsr-circuit·tables·scan·action-scanned (Met''.met 𝓤 H 𝓜 𝓖 𝓡)) (Reads''.known
+      Code.calls-hnsr-circuit·tables·scan·action-scanned (Met''.met 𝓤 H 𝓜 𝓖 𝓡)) (Reads''''.known
       record { M = M; 𝓤 = 𝓤; H = H; 𝓜 = 𝓜; 𝓖 = 𝓖; 𝓡 = 𝓡 } Code.env Symbol'.name Symbol'.routine
       Code.calls-hnsr-circuit·tables·places·spared (Met'.met 𝓤 H 𝓜 𝓖 𝓡))

@@ -14,20 +14,21 @@ module _ (Inv : Tie.InvT-loop) (μ : Tie.MeasureT-loop) where
   pub record Loop-again (c : Tie.After-one-more Inv μ) : Type 0 where
     pub start : Tie.Start Inv μ
     pub min-usize : Lts.After-min-usize·own Tie.readings Reads.Pre Reads.Post Inv μ
+        (c .before .before .before .before .before .before .before)
+    pub loop : Lts.At-loop·own Tie.readings Reads.Pre Reads.Post Inv μ
         (c .before .before .before .before .before .before)
-    pub loop : Lts.At-loop·own Tie.readings Reads.Pre Reads.Post Inv μ (c .before .before .before .before .before)
-    pub loop-test : Lts.In-loop·own Tie.readings Reads.Pre Reads.Post Inv μ (c .before .before .before .before)
-    pub row : Lts.After-row·own Tie.readings Reads.Pre Reads.Post Inv μ (c .before .before .before)
+    pub loop-test : Lts.In-loop·own Tie.readings Reads.Pre Reads.Post Inv μ (c .before .before .before .before .before)
+    pub peer : Lts.After-peer·own Tie.readings Reads.Pre Reads.Post Inv μ (c .before .before .before)
     pub named-by : Lts.After-named-by·own Tie.readings Reads.Pre Reads.Post Inv μ (c .before .before)
     pub one-more : Lts.After-one-more·own Tie.readings Reads.Pre Reads.Post Inv μ (c .before)
 
   abbrev pub loop-again : (c : Tie.After-one-more Inv μ) → Loop-again c
   loop-again c = record {
-    start = c .before .before .before .before .before .before;
-    min-usize = c .before .before .before .before .before .min-usize;
-    loop = c .before .before .before .before .loop;
-    loop-test = c .before .before .before .loop-test;
-    row = c .before .before .row;
+    start = c .before .before .before .before .before .before .before;
+    min-usize = c .before .before .before .before .before .before .min-usize;
+    loop = c .before .before .before .before .before .loop;
+    loop-test = c .before .before .before .before .loop-test;
+    peer = c .before .before .peer;
     named-by = c .before .named-by;
     one-more = c .one-more;
   }

@@ -17,7 +17,6 @@ module _ (Inv : Tie.InvT-loop) (μ : Tie.MeasureT-loop) where
         (c .before .before .before .before .before .before)
     pub loop : Lts.At-loop·own Tie.readings Reads.Pre Reads.Post Inv μ (c .before .before .before .before .before)
     pub loop-test : Lts.In-loop·own Tie.readings Reads.Pre Reads.Post Inv μ (c .before .before .before .before)
-    pub row : Lts.After-row·own Tie.readings Reads.Pre Reads.Post Inv μ (c .before .before .before)
     pub is-pending : Lts.After-is-pending·own Tie.readings Reads.Pre Reads.Post Inv μ (c .before .before)
     pub one-more : Lts.After-one-more·own Tie.readings Reads.Pre Reads.Post Inv μ (c .before)
 
@@ -27,7 +26,6 @@ module _ (Inv : Tie.InvT-loop) (μ : Tie.MeasureT-loop) where
     min-usize = c .before .before .before .before .before .min-usize;
     loop = c .before .before .before .before .loop;
     loop-test = c .before .before .before .loop-test;
-    row = c .before .before .row;
     is-pending = c .before .is-pending;
     one-more = c .one-more;
   }

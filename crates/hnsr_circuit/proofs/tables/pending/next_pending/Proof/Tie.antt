@@ -5,21 +5,21 @@ use Rattle.hns_encoding.proofs.numbers.min_usize.Symbol
 use Rattle.hnsr_circuit.proofs.By.tables.pending.next_pending.Kinds
 use Rattle.hnsr_circuit.proofs.By.tables.pending.next_pending.Lts
 use Rattle.hnsr_circuit.proofs.By.tables.pending.next_pending.Reads as Reads'
+use Rattle.hnsr_circuit.proofs.By.tables.scan.pending_turn.Reads as Reads''
 use Rattle.hnsr_circuit.proofs.tables.pending.next_pending.Code
 use Rattle.hnsr_circuit.proofs.tables.pending.next_pending.Key
 use Rattle.hnsr_circuit.proofs.tables.pending.next_pending.Statement
 use Rattle.hnsr_circuit.proofs.tables.scan.not_yet.Met as Met'
-use Rattle.hnsr_circuit.proofs.tables.scan.not_yet.Reads as Reads''
+use Rattle.hnsr_circuit.proofs.tables.scan.not_yet.Reads as Reads'''
 use Rattle.hnsr_circuit.proofs.tables.scan.not_yet.Symbol as Symbol'
 use Rattle.hnsr_circuit.proofs.tables.scan.pending_turn.Met as Met''
-use Rattle.hnsr_circuit.proofs.tables.scan.pending_turn.Reads as Reads'''
 use Rattle.hnsr_circuit.proofs.tables.scan.pending_turn.Symbol as Symbol''
 use borrow.Fn.Run
 use borrow.Fn.Written
 use contract.Running
 
 abbrev pub readings : Lts.Claims
-readings = (Reads.Asked, Reads.Learnt, Reads''.Asked, Reads''.Learnt, Reads'''.Asked, Reads'''.Learnt)
+readings = (Reads.Asked, Reads.Learnt, Reads'''.Asked, Reads'''.Learnt, Reads''.Asked, Reads''.Learnt)
 
 abbrev pub InvT-loop : Type 1
 InvT-loop = Lts.InvT-loop
@@ -45,8 +45,11 @@ In-loop = λ Inv μ. Lts.In-loop readings Reads'.Pre Reads'.Post Inv μ
 abbrev pub After-loop : (Inv : InvT-loop) → (μ : MeasureT-loop) → Type 0
 After-loop = λ Inv μ. Lts.After-loop readings Reads'.Pre Reads'.Post Inv μ
 
-abbrev pub After-row : (Inv : InvT-loop) → (μ : MeasureT-loop) → Type 0
-After-row = λ Inv μ. Lts.After-row readings Reads'.Pre Reads'.Post Inv μ
+abbrev pub After-peer : (Inv : InvT-loop) → (μ : MeasureT-loop) → Type 0
+After-peer = λ Inv μ. Lts.After-peer readings Reads'.Pre Reads'.Post Inv μ
+
+abbrev pub After-pending-turn-arg : (Inv : InvT-loop) → (μ : MeasureT-loop) → Type 0
+After-pending-turn-arg = λ Inv μ. Lts.After-pending-turn-arg readings Reads'.Pre Reads'.Post Inv μ
 
 abbrev pub After-pending-turn : (Inv : InvT-loop) → (μ : MeasureT-loop) → Type 0
 After-pending-turn = λ Inv μ. Lts.After-pending-turn readings Reads'.Pre Reads'.Post Inv μ
@@ -60,11 +63,12 @@ Need-not-yet-requires = λ Inv μ. Lts.Need-not-yet-requires readings Reads'.Pre
 abbrev pub Need-loop-holds : (Inv : InvT-loop) → (μ : MeasureT-loop) → Type 0
 Need-loop-holds = λ Inv μ. Lts.Need-loop-holds readings Reads'.Pre Reads'.Post Inv μ
 
-abbrev pub Need-mul-row : (Inv : InvT-loop) → (μ : MeasureT-loop) → Type 0
-Need-mul-row = λ Inv μ. Lts.Need-mul-row readings Reads'.Pre Reads'.Post Inv μ
+abbrev pub Need-mul-pending-turn : (Inv : InvT-loop) → (μ : MeasureT-loop) → Type 0
+Need-mul-pending-turn = λ Inv μ. Lts.Need-mul-pending-turn readings Reads'.Pre Reads'.Post Inv μ
 
-abbrev pub Need-shared-slice-copy-out-row : (Inv : InvT-loop) → (μ : MeasureT-loop) → Type 0
-Need-shared-slice-copy-out-row = λ Inv μ. Lts.Need-shared-slice-copy-out-row readings Reads'.Pre Reads'.Post Inv μ
+abbrev pub Need-shared-slice-element-pending-turn : (Inv : InvT-loop) → (μ : MeasureT-loop) → Type 0
+Need-shared-slice-element-pending-turn = λ Inv μ. Lts.Need-shared-slice-element-pending-turn readings Reads'.Pre
+    Reads'.Post Inv μ
 
 abbrev pub Need-pending-turn-requires : (Inv : InvT-loop) → (μ : MeasureT-loop) → Type 0
 Need-pending-turn-requires = λ Inv μ. Lts.Need-pending-turn-requires readings Reads'.Pre Reads'.Post Inv μ
@@ -83,10 +87,10 @@ Need-returns = λ Inv μ. Lts.Need-returns readings Reads'.Pre Reads'.Post Inv �
 
 module _ {M : Type 1} where
   pub spec : (Inv : InvT-loop) → (μ : MeasureT-loop) → (answer : Need-min-usize-requires Inv μ) →
-      (answer : Need-not-yet-requires Inv μ) → (answer : Need-loop-holds Inv μ) → (answer : Need-mul-row Inv μ) →
-      (answer : Need-shared-slice-copy-out-row Inv μ) → (answer : Need-pending-turn-requires Inv μ) →
-      (answer : Need-add-i Inv μ) → (answer : Need-loop-less Inv μ) → (answer : Need-loop-again Inv μ) →
-      (answer : Need-returns Inv μ) → Lts.Closed readings Reads'.Pre Reads'.Post M
+      (answer : Need-not-yet-requires Inv μ) → (answer : Need-loop-holds Inv μ) →
+      (answer : Need-mul-pending-turn Inv μ) → (answer : Need-shared-slice-element-pending-turn Inv μ) →
+      (answer : Need-pending-turn-requires Inv μ) → (answer : Need-add-i Inv μ) → (answer : Need-loop-less Inv μ) →
+      (answer : Need-loop-again Inv μ) → (answer : Need-returns Inv μ) → Lts.Closed readings Reads'.Pre Reads'.Post M
   spec = λ Inv μ answer answer' answer'' answer'3 answer'4 answer'5 answer'6 answer'7 answer'8 answer'9. Lts.spec
       readings Reads'.Pre Reads'.Post Inv μ answer answer' answer'' answer'3 answer'4 answer'5 answer'6 answer'7
       answer'8 answer'9
@@ -99,8 +103,8 @@ module _ {M : Type 1} where
       record { M = M; 𝓤 = 𝓤; H = H; 𝓜 = 𝓜; 𝓖 = 𝓖; 𝓡 = 𝓡 }) (Reads'.passes
       record { M = M; 𝓤 = 𝓤; H = H; 𝓜 = 𝓜; 𝓖 = 𝓖; 𝓡 = 𝓡 }) λ g. closed 𝓤 H (𝓖 .A) (Running.givenOf 𝓤 H 𝓜 𝓖)
       (Run.Over 𝓤 H 𝓜 𝓖 𝓡 Code.env) (Reads.known record { M = M; 𝓤 = 𝓤; H = H; 𝓜 = 𝓜; 𝓖 = 𝓖; 𝓡 = 𝓡 } Code.env
-      Symbol.name Symbol.routine Code.calls-hns-encoding·numbers·min-usize (Met.met 𝓤 H 𝓜 𝓖 𝓡)) (Reads''.known
+      Symbol.name Symbol.routine Code.calls-hns-encoding·numbers·min-usize (Met.met 𝓤 H 𝓜 𝓖 𝓡)) (Reads'''.known
       record { M = M; 𝓤 = 𝓤; H = H; 𝓜 = 𝓜; 𝓖 = 𝓖; 𝓡 = 𝓡 } Code.env Symbol'.name Symbol'.routine
-      Code.calls-hnsr-circuit·tables·scan·not-yet (Met'.met 𝓤 H 𝓜 𝓖 𝓡)) (Reads'''.known
+      Code.calls-hnsr-circuit·tables·scan·not-yet (Met'.met 𝓤 H 𝓜 𝓖 𝓡)) (Reads''.known
       record { M = M; 𝓤 = 𝓤; H = H; 𝓜 = 𝓜; 𝓖 = 𝓖; 𝓡 = 𝓡 } Code.env Symbol''.name Symbol''.routine
       Code.calls-hnsr-circuit·tables·scan·pending-turn (Met''.met 𝓤 H 𝓜 𝓖 𝓡))

@@ -12,26 +12,7 @@ module _ (Inv : Tie.InvT-loop) (μ : Tie.MeasureT-loop) where
   abbrev pub loop-holds : (c : Tie.After-no-work Inv μ) → Loop-holds c
   loop-holds c = record { start = c .before .before; min-usize = c .before .min-usize; no-work = c .no-work }
 
-  pub record Pending-worked-requires (c : Tie.After-row Inv μ) : Type 0 where
-    pub start : Tie.Start Inv μ
-    pub min-usize : Lts.After-min-usize·own Tie.readings Reads.Pre Reads.Post Inv μ
-        (c .before .before .before .before .before)
-    pub no-work : Lts.After-no-work·own Tie.readings Reads.Pre Reads.Post Inv μ (c .before .before .before .before)
-    pub loop : Lts.At-loop·own Tie.readings Reads.Pre Reads.Post Inv μ (c .before .before .before)
-    pub loop-test : Lts.In-loop·own Tie.readings Reads.Pre Reads.Post Inv μ (c .before .before)
-    pub row : Lts.After-row·own Tie.readings Reads.Pre Reads.Post Inv μ (c .before)
-
-  abbrev pub pending-worked-requires : (c : Tie.After-row Inv μ) → Pending-worked-requires c
-  pending-worked-requires c = record {
-    start = c .before .before .before .before .before;
-    min-usize = c .before .before .before .before .min-usize;
-    no-work = c .before .before .before .no-work;
-    loop = c .before .before .loop;
-    loop-test = c .before .loop-test;
-    row = c .row;
-  }
-
-  pub record Loop-again (c : Tie.After-pending-worked Inv μ) : Type 0 where
+  pub record Pending-worked-requires (c : Tie.After-question Inv μ) : Type 0 where
     pub start : Tie.Start Inv μ
     pub min-usize : Lts.After-min-usize·own Tie.readings Reads.Pre Reads.Post Inv μ
         (c .before .before .before .before .before .before)
@@ -39,17 +20,37 @@ module _ (Inv : Tie.InvT-loop) (μ : Tie.MeasureT-loop) where
         (c .before .before .before .before .before)
     pub loop : Lts.At-loop·own Tie.readings Reads.Pre Reads.Post Inv μ (c .before .before .before .before)
     pub loop-test : Lts.In-loop·own Tie.readings Reads.Pre Reads.Post Inv μ (c .before .before .before)
-    pub row : Lts.After-row·own Tie.readings Reads.Pre Reads.Post Inv μ (c .before .before)
-    pub pending-worked : Lts.After-pending-worked·own Tie.readings Reads.Pre Reads.Post Inv μ (c .before)
+    pub question : Lts.After-question·own Tie.readings Reads.Pre Reads.Post Inv μ (c .before)
 
-  abbrev pub loop-again : (c : Tie.After-pending-worked Inv μ) → Loop-again c
-  loop-again c = record {
+  abbrev pub pending-worked-requires : (c : Tie.After-question Inv μ) → Pending-worked-requires c
+  pending-worked-requires c = record {
     start = c .before .before .before .before .before .before;
     min-usize = c .before .before .before .before .before .min-usize;
     no-work = c .before .before .before .before .no-work;
     loop = c .before .before .before .loop;
     loop-test = c .before .before .loop-test;
-    row = c .before .row;
+    question = c .question;
+  }
+
+  pub record Loop-again (c : Tie.After-pending-worked Inv μ) : Type 0 where
+    pub start : Tie.Start Inv μ
+    pub min-usize : Lts.After-min-usize·own Tie.readings Reads.Pre Reads.Post Inv μ
+        (c .before .before .before .before .before .before .before)
+    pub no-work : Lts.After-no-work·own Tie.readings Reads.Pre Reads.Post Inv μ
+        (c .before .before .before .before .before .before)
+    pub loop : Lts.At-loop·own Tie.readings Reads.Pre Reads.Post Inv μ (c .before .before .before .before .before)
+    pub loop-test : Lts.In-loop·own Tie.readings Reads.Pre Reads.Post Inv μ (c .before .before .before .before)
+    pub question : Lts.After-question·own Tie.readings Reads.Pre Reads.Post Inv μ (c .before .before)
+    pub pending-worked : Lts.After-pending-worked·own Tie.readings Reads.Pre Reads.Post Inv μ (c .before)
+
+  abbrev pub loop-again : (c : Tie.After-pending-worked Inv μ) → Loop-again c
+  loop-again c = record {
+    start = c .before .before .before .before .before .before .before;
+    min-usize = c .before .before .before .before .before .before .min-usize;
+    no-work = c .before .before .before .before .before .no-work;
+    loop = c .before .before .before .before .loop;
+    loop-test = c .before .before .before .loop-test;
+    question = c .before .question;
     pending-worked = c .pending-worked;
   }
 

@@ -2,23 +2,23 @@
 use Rattle.hns_encoding.proofs.numbers.min_usize.Met
 use Rattle.hns_encoding.proofs.numbers.min_usize.Reads
 use Rattle.hns_encoding.proofs.numbers.min_usize.Symbol
+use Rattle.hnsr_circuit.proofs.By.records.pending.is_pending.Reads as Reads'
 use Rattle.hnsr_circuit.proofs.By.tables.pending.survey_pending.Kinds
 use Rattle.hnsr_circuit.proofs.By.tables.pending.survey_pending.Lts
-use Rattle.hnsr_circuit.proofs.By.tables.pending.survey_pending.Reads as Reads'
+use Rattle.hnsr_circuit.proofs.By.tables.pending.survey_pending.Reads as Reads''
+use Rattle.hnsr_circuit.proofs.By.tables.scan.pending_turn.Reads as Reads'''
 use Rattle.hnsr_circuit.proofs.records.pending.is_pending.Met as Met'
-use Rattle.hnsr_circuit.proofs.records.pending.is_pending.Reads as Reads''
 use Rattle.hnsr_circuit.proofs.records.pending.is_pending.Symbol as Symbol'
 use Rattle.hnsr_circuit.proofs.tables.pending.survey_pending.Code
 use Rattle.hnsr_circuit.proofs.tables.pending.survey_pending.Key
 use Rattle.hnsr_circuit.proofs.tables.pending.survey_pending.Statement
 use Rattle.hnsr_circuit.proofs.tables.scan.not_yet.Met as Met''
-use Rattle.hnsr_circuit.proofs.tables.scan.not_yet.Reads as Reads'''
+use Rattle.hnsr_circuit.proofs.tables.scan.not_yet.Reads as Reads''''
 use Rattle.hnsr_circuit.proofs.tables.scan.not_yet.Symbol as Symbol''
 use Rattle.hnsr_circuit.proofs.tables.scan.one_more.Met as Met'''
-use Rattle.hnsr_circuit.proofs.tables.scan.one_more.Reads as Reads''''
+use Rattle.hnsr_circuit.proofs.tables.scan.one_more.Reads as Reads'''''
 use Rattle.hnsr_circuit.proofs.tables.scan.one_more.Symbol as Symbol'''
 use Rattle.hnsr_circuit.proofs.tables.scan.pending_turn.Met as Met''''
-use Rattle.hnsr_circuit.proofs.tables.scan.pending_turn.Reads as Reads'''''
 use Rattle.hnsr_circuit.proofs.tables.scan.pending_turn.Symbol as Symbol''''
 use Rattle.hnsr_circuit.proofs.tables.scan.surveyed.Met as Met'''''
 use Rattle.hnsr_circuit.proofs.tables.scan.surveyed.Reads as Reads''''''
@@ -31,14 +31,14 @@ abbrev pub readings : Lts.Claims
 readings = (
   Reads.Asked,
   Reads.Learnt,
-  Reads'''.Asked,
-  Reads'''.Learnt,
-  Reads''.Asked,
-  Reads''.Learnt,
   Reads''''.Asked,
   Reads''''.Learnt,
+  Reads'.Asked,
+  Reads'.Learnt,
   Reads'''''.Asked,
   Reads'''''.Learnt,
+  Reads'''.Asked,
+  Reads'''.Learnt,
   Reads''''''.Asked,
   Reads''''''.Learnt,
 )
@@ -50,104 +50,119 @@ abbrev pub MeasureT-loop : Type 0
 MeasureT-loop = Lts.MeasureT-loop
 
 abbrev pub Start : (Inv : InvT-loop) → (μ : MeasureT-loop) → Type 0
-Start = λ Inv μ. Lts.Start readings Reads'.Pre Reads'.Post Inv μ
+Start = λ Inv μ. Lts.Start readings Reads''.Pre Reads''.Post Inv μ
 
 abbrev pub After-min-usize : (Inv : InvT-loop) → (μ : MeasureT-loop) → Type 0
-After-min-usize = λ Inv μ. Lts.After-min-usize readings Reads'.Pre Reads'.Post Inv μ
+After-min-usize = λ Inv μ. Lts.After-min-usize readings Reads''.Pre Reads''.Post Inv μ
 
 abbrev pub After-not-yet : (Inv : InvT-loop) → (μ : MeasureT-loop) → Type 0
-After-not-yet = λ Inv μ. Lts.After-not-yet readings Reads'.Pre Reads'.Post Inv μ
+After-not-yet = λ Inv μ. Lts.After-not-yet readings Reads''.Pre Reads''.Post Inv μ
 
 abbrev pub At-loop : (Inv : InvT-loop) → (μ : MeasureT-loop) → Type 0
-At-loop = λ Inv μ. Lts.At-loop readings Reads'.Pre Reads'.Post Inv μ
+At-loop = λ Inv μ. Lts.At-loop readings Reads''.Pre Reads''.Post Inv μ
 
 abbrev pub In-loop : (Inv : InvT-loop) → (μ : MeasureT-loop) → Type 0
-In-loop = λ Inv μ. Lts.In-loop readings Reads'.Pre Reads'.Post Inv μ
+In-loop = λ Inv μ. Lts.In-loop readings Reads''.Pre Reads''.Post Inv μ
 
 abbrev pub After-loop : (Inv : InvT-loop) → (μ : MeasureT-loop) → Type 0
-After-loop = λ Inv μ. Lts.After-loop readings Reads'.Pre Reads'.Post Inv μ
+After-loop = λ Inv μ. Lts.After-loop readings Reads''.Pre Reads''.Post Inv μ
 
-abbrev pub After-row : (Inv : InvT-loop) → (μ : MeasureT-loop) → Type 0
-After-row = λ Inv μ. Lts.After-row readings Reads'.Pre Reads'.Post Inv μ
+abbrev pub After-is-pending-arg : (Inv : InvT-loop) → (μ : MeasureT-loop) → Type 0
+After-is-pending-arg = λ Inv μ. Lts.After-is-pending-arg readings Reads''.Pre Reads''.Post Inv μ
 
 abbrev pub After-is-pending : (Inv : InvT-loop) → (μ : MeasureT-loop) → Type 0
-After-is-pending = λ Inv μ. Lts.After-is-pending readings Reads'.Pre Reads'.Post Inv μ
+After-is-pending = λ Inv μ. Lts.After-is-pending readings Reads''.Pre Reads''.Post Inv μ
 
 abbrev pub After-one-more : (Inv : InvT-loop) → (μ : MeasureT-loop) → Type 0
-After-one-more = λ Inv μ. Lts.After-one-more readings Reads'.Pre Reads'.Post Inv μ
+After-one-more = λ Inv μ. Lts.After-one-more readings Reads''.Pre Reads''.Post Inv μ
+
+abbrev pub After-peer : (Inv : InvT-loop) → (μ : MeasureT-loop) → Type 0
+After-peer = λ Inv μ. Lts.After-peer readings Reads''.Pre Reads''.Post Inv μ
+
+abbrev pub After-pending-turn-arg : (Inv : InvT-loop) → (μ : MeasureT-loop) → Type 0
+After-pending-turn-arg = λ Inv μ. Lts.After-pending-turn-arg readings Reads''.Pre Reads''.Post Inv μ
 
 abbrev pub After-pending-turn : (Inv : InvT-loop) → (μ : MeasureT-loop) → Type 0
-After-pending-turn = λ Inv μ. Lts.After-pending-turn readings Reads'.Pre Reads'.Post Inv μ
+After-pending-turn = λ Inv μ. Lts.After-pending-turn readings Reads''.Pre Reads''.Post Inv μ
 
 abbrev pub After-surveyed : (Inv : InvT-loop) → (μ : MeasureT-loop) → Type 0
-After-surveyed = λ Inv μ. Lts.After-surveyed readings Reads'.Pre Reads'.Post Inv μ
+After-surveyed = λ Inv μ. Lts.After-surveyed readings Reads''.Pre Reads''.Post Inv μ
 
 abbrev pub Need-min-usize-requires : (Inv : InvT-loop) → (μ : MeasureT-loop) → Type 0
-Need-min-usize-requires = λ Inv μ. Lts.Need-min-usize-requires readings Reads'.Pre Reads'.Post Inv μ
+Need-min-usize-requires = λ Inv μ. Lts.Need-min-usize-requires readings Reads''.Pre Reads''.Post Inv μ
 
 abbrev pub Need-not-yet-requires : (Inv : InvT-loop) → (μ : MeasureT-loop) → Type 0
-Need-not-yet-requires = λ Inv μ. Lts.Need-not-yet-requires readings Reads'.Pre Reads'.Post Inv μ
+Need-not-yet-requires = λ Inv μ. Lts.Need-not-yet-requires readings Reads''.Pre Reads''.Post Inv μ
 
 abbrev pub Need-loop-holds : (Inv : InvT-loop) → (μ : MeasureT-loop) → Type 0
-Need-loop-holds = λ Inv μ. Lts.Need-loop-holds readings Reads'.Pre Reads'.Post Inv μ
+Need-loop-holds = λ Inv μ. Lts.Need-loop-holds readings Reads''.Pre Reads''.Post Inv μ
 
-abbrev pub Need-mul-row : (Inv : InvT-loop) → (μ : MeasureT-loop) → Type 0
-Need-mul-row = λ Inv μ. Lts.Need-mul-row readings Reads'.Pre Reads'.Post Inv μ
+abbrev pub Need-mul-is-pending : (Inv : InvT-loop) → (μ : MeasureT-loop) → Type 0
+Need-mul-is-pending = λ Inv μ. Lts.Need-mul-is-pending readings Reads''.Pre Reads''.Post Inv μ
 
-abbrev pub Need-shared-slice-copy-out-row : (Inv : InvT-loop) → (μ : MeasureT-loop) → Type 0
-Need-shared-slice-copy-out-row = λ Inv μ. Lts.Need-shared-slice-copy-out-row readings Reads'.Pre Reads'.Post Inv μ
+abbrev pub Need-shared-slice-element-is-pending : (Inv : InvT-loop) → (μ : MeasureT-loop) → Type 0
+Need-shared-slice-element-is-pending = λ Inv μ. Lts.Need-shared-slice-element-is-pending readings Reads''.Pre
+    Reads''.Post Inv μ
 
 abbrev pub Need-is-pending-requires : (Inv : InvT-loop) → (μ : MeasureT-loop) → Type 0
-Need-is-pending-requires = λ Inv μ. Lts.Need-is-pending-requires readings Reads'.Pre Reads'.Post Inv μ
+Need-is-pending-requires = λ Inv μ. Lts.Need-is-pending-requires readings Reads''.Pre Reads''.Post Inv μ
 
 abbrev pub Need-one-more-requires : (Inv : InvT-loop) → (μ : MeasureT-loop) → Type 0
-Need-one-more-requires = λ Inv μ. Lts.Need-one-more-requires readings Reads'.Pre Reads'.Post Inv μ
+Need-one-more-requires = λ Inv μ. Lts.Need-one-more-requires readings Reads''.Pre Reads''.Post Inv μ
+
+abbrev pub Need-mul-pending-turn : (Inv : InvT-loop) → (μ : MeasureT-loop) → Type 0
+Need-mul-pending-turn = λ Inv μ. Lts.Need-mul-pending-turn readings Reads''.Pre Reads''.Post Inv μ
+
+abbrev pub Need-shared-slice-element-pending-turn : (Inv : InvT-loop) → (μ : MeasureT-loop) → Type 0
+Need-shared-slice-element-pending-turn = λ Inv μ. Lts.Need-shared-slice-element-pending-turn readings Reads''.Pre
+    Reads''.Post Inv μ
 
 abbrev pub Need-pending-turn-requires : (Inv : InvT-loop) → (μ : MeasureT-loop) → Type 0
-Need-pending-turn-requires = λ Inv μ. Lts.Need-pending-turn-requires readings Reads'.Pre Reads'.Post Inv μ
+Need-pending-turn-requires = λ Inv μ. Lts.Need-pending-turn-requires readings Reads''.Pre Reads''.Post Inv μ
 
 abbrev pub Need-add-i : (Inv : InvT-loop) → (μ : MeasureT-loop) → Type 0
-Need-add-i = λ Inv μ. Lts.Need-add-i readings Reads'.Pre Reads'.Post Inv μ
+Need-add-i = λ Inv μ. Lts.Need-add-i readings Reads''.Pre Reads''.Post Inv μ
 
 abbrev pub Need-loop-less : (Inv : InvT-loop) → (μ : MeasureT-loop) → Type 0
-Need-loop-less = λ Inv μ. Lts.Need-loop-less readings Reads'.Pre Reads'.Post Inv μ
+Need-loop-less = λ Inv μ. Lts.Need-loop-less readings Reads''.Pre Reads''.Post Inv μ
 
 abbrev pub Need-loop-again : (Inv : InvT-loop) → (μ : MeasureT-loop) → Type 0
-Need-loop-again = λ Inv μ. Lts.Need-loop-again readings Reads'.Pre Reads'.Post Inv μ
+Need-loop-again = λ Inv μ. Lts.Need-loop-again readings Reads''.Pre Reads''.Post Inv μ
 
 abbrev pub Need-surveyed-requires : (Inv : InvT-loop) → (μ : MeasureT-loop) → Type 0
-Need-surveyed-requires = λ Inv μ. Lts.Need-surveyed-requires readings Reads'.Pre Reads'.Post Inv μ
+Need-surveyed-requires = λ Inv μ. Lts.Need-surveyed-requires readings Reads''.Pre Reads''.Post Inv μ
 
 abbrev pub Need-returns : (Inv : InvT-loop) → (μ : MeasureT-loop) → Type 0
-Need-returns = λ Inv μ. Lts.Need-returns readings Reads'.Pre Reads'.Post Inv μ
+Need-returns = λ Inv μ. Lts.Need-returns readings Reads''.Pre Reads''.Post Inv μ
 
 module _ {M : Type 1} where
   pub spec : (Inv : InvT-loop) → (μ : MeasureT-loop) → (answer : Need-min-usize-requires Inv μ) →
-      (answer : Need-not-yet-requires Inv μ) → (answer : Need-loop-holds Inv μ) → (answer : Need-mul-row Inv μ) →
-      (answer : Need-shared-slice-copy-out-row Inv μ) → (answer : Need-is-pending-requires Inv μ) →
-      (answer : Need-one-more-requires Inv μ) → (answer : Need-pending-turn-requires Inv μ) →
+      (answer : Need-not-yet-requires Inv μ) → (answer : Need-loop-holds Inv μ) → (answer : Need-mul-is-pending Inv μ)
+      → (answer : Need-shared-slice-element-is-pending Inv μ) → (answer : Need-is-pending-requires Inv μ) →
+      (answer : Need-one-more-requires Inv μ) → (answer : Need-mul-pending-turn Inv μ) →
+      (answer : Need-shared-slice-element-pending-turn Inv μ) → (answer : Need-pending-turn-requires Inv μ) →
       (answer : Need-add-i Inv μ) → (answer : Need-loop-less Inv μ) → (answer : Need-loop-again Inv μ) →
-      (answer : Need-surveyed-requires Inv μ) → (answer : Need-returns Inv μ) → Lts.Closed readings Reads'.Pre
-      Reads'.Post M
+      (answer : Need-surveyed-requires Inv μ) → (answer : Need-returns Inv μ) → Lts.Closed readings Reads''.Pre
+      Reads''.Post M
   spec = λ Inv μ answer answer' answer'' answer'3 answer'4 answer'5 answer'6 answer'7 answer'8 answer'9 answer'10
-      answer'11 answer'12. Lts.spec readings Reads'.Pre Reads'.Post Inv μ answer answer' answer'' answer'3 answer'4
-      answer'5 answer'6 answer'7 answer'8 answer'9 answer'10 answer'11 answer'12
+      answer'11 answer'12 answer'13 answer'14. Lts.spec readings Reads''.Pre Reads''.Post Inv μ answer answer' answer''
+      answer'3 answer'4 answer'5 answer'6 answer'7 answer'8 answer'9 answer'10 answer'11 answer'12 answer'13 answer'14
 
-  pub close : Lts.Closed readings Reads'.Pre Reads'.Post M → Statement.statement M
+  pub close : Lts.Closed readings Reads''.Pre Reads''.Post M → Statement.statement M
   unfolding Code.routine Running.tablesOf
-  close = λ closed 𝓤 H 𝓜 𝓖 𝓡. Written.close 1 Kinds.ps Kinds.r Reads'.Ghost Reads'.requires Reads'.ensures
-      Reads'.pre-read Reads'.Pinned Reads'.Owned Reads'.post-read record { M = M; 𝓤 = 𝓤; H = H; 𝓜 = 𝓜; 𝓖 = 𝓖; 𝓡 = 𝓡 }
-      Code.env Key.name Code.function (Code.unfolded 𝓤 H 𝓜 𝓡) (λ κs a g. tt) (λ κs. Reads'.owns κs
-      record { M = M; 𝓤 = 𝓤; H = H; 𝓜 = 𝓜; 𝓖 = 𝓖; 𝓡 = 𝓡 }) (Reads'.passes
+  close = λ closed 𝓤 H 𝓜 𝓖 𝓡. Written.close 1 Kinds.ps Kinds.r Reads''.Ghost Reads''.requires Reads''.ensures
+      Reads''.pre-read Reads''.Pinned Reads''.Owned Reads''.post-read
+      record { M = M; 𝓤 = 𝓤; H = H; 𝓜 = 𝓜; 𝓖 = 𝓖; 𝓡 = 𝓡 } Code.env Key.name Code.function (Code.unfolded 𝓤 H 𝓜 𝓡)
+      (λ κs a g. tt) (λ κs. Reads''.owns κs record { M = M; 𝓤 = 𝓤; H = H; 𝓜 = 𝓜; 𝓖 = 𝓖; 𝓡 = 𝓡 }) (Reads''.passes
       record { M = M; 𝓤 = 𝓤; H = H; 𝓜 = 𝓜; 𝓖 = 𝓖; 𝓡 = 𝓡 }) λ g. closed 𝓤 H (𝓖 .A) (Running.givenOf 𝓤 H 𝓜 𝓖)
       (Run.Over 𝓤 H 𝓜 𝓖 𝓡 Code.env) (Reads.known record { M = M; 𝓤 = 𝓤; H = H; 𝓜 = 𝓜; 𝓖 = 𝓖; 𝓡 = 𝓡 } Code.env
-      Symbol.name Symbol.routine Code.calls-hns-encoding·numbers·min-usize (Met.met 𝓤 H 𝓜 𝓖 𝓡)) (Reads'''.known
+      Symbol.name Symbol.routine Code.calls-hns-encoding·numbers·min-usize (Met.met 𝓤 H 𝓜 𝓖 𝓡)) (Reads''''.known
       record { M = M; 𝓤 = 𝓤; H = H; 𝓜 = 𝓜; 𝓖 = 𝓖; 𝓡 = 𝓡 } Code.env Symbol''.name Symbol''.routine
-      Code.calls-hnsr-circuit·tables·scan·not-yet (Met''.met 𝓤 H 𝓜 𝓖 𝓡)) (Reads''.known
+      Code.calls-hnsr-circuit·tables·scan·not-yet (Met''.met 𝓤 H 𝓜 𝓖 𝓡)) (Reads'.known
       record { M = M; 𝓤 = 𝓤; H = H; 𝓜 = 𝓜; 𝓖 = 𝓖; 𝓡 = 𝓡 } Code.env Symbol'.name Symbol'.routine
-      Code.calls-hnsr-circuit·records·pending·is-pending (Met'.met 𝓤 H 𝓜 𝓖 𝓡)) (Reads''''.known
+      Code.calls-hnsr-circuit·records·pending·is-pending (Met'.met 𝓤 H 𝓜 𝓖 𝓡)) (Reads'''''.known
       record { M = M; 𝓤 = 𝓤; H = H; 𝓜 = 𝓜; 𝓖 = 𝓖; 𝓡 = 𝓡 } Code.env Symbol'''.name Symbol'''.routine
-      Code.calls-hnsr-circuit·tables·scan·one-more (Met'''.met 𝓤 H 𝓜 𝓖 𝓡)) (Reads'''''.known
+      Code.calls-hnsr-circuit·tables·scan·one-more (Met'''.met 𝓤 H 𝓜 𝓖 𝓡)) (Reads'''.known
       record { M = M; 𝓤 = 𝓤; H = H; 𝓜 = 𝓜; 𝓖 = 𝓖; 𝓡 = 𝓡 } Code.env Symbol''''.name Symbol''''.routine
       Code.calls-hnsr-circuit·tables·scan·pending-turn (Met''''.met 𝓤 H 𝓜 𝓖 𝓡)) (Reads''''''.known
       record { M = M; 𝓤 = 𝓤; H = H; 𝓜 = 𝓜; 𝓖 = 𝓖; 𝓡 = 𝓡 } Code.env Symbol'''''.name Symbol'''''.routine

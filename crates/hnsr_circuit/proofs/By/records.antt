@@ -1,0 +1,3 @@
+pub mod circuits
+pub mod inflight
+pub mod pending

@@ -1,0 +1,10 @@
+pub mod circuit_is
+pub mod circuit_of
+pub mod circuit_over
+pub mod circuit_under
+pub mod endpoint_in_circuit
+pub mod expiry_in_circuit
+pub mod id_in_circuit
+pub mod is_circuit
+pub mod requester_in_circuit
+pub mod reservation_in_circuit

@@ -1,0 +1,17 @@
+pub mod context_in_pending
+pub mod deadline_in_pending
+pub mod endpoint_in_pending
+pub mod endpoint_names
+pub mod expiry_in_ticket
+pub mod id_in_pending
+pub mod is_pending
+pub mod named_by
+pub mod pending_is
+pub mod pending_of
+pub mod pending_over
+pub mod pending_under
+pub mod requested_by
+pub mod requester_in_pending
+pub mod requester_names
+pub mod reservation_in_ticket
+pub mod ticket_in_pending

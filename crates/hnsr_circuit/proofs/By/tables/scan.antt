@@ -1,0 +1,17 @@
+pub mod action_scanned
+pub mod circuit_asked
+pub mod circuit_turn
+pub mod circuit_worked
+pub mod context_asked
+pub mod destination_asked
+pub mod generation_asked
+pub mod id_asked
+pub mod other_asked
+pub mod peer_asked
+pub mod pending_turn
+pub mod pending_worked
+pub mod replacing_asked
+pub mod reservation_asked
+pub mod sequence_asked
+pub mod tally_on
+pub mod toward_asked

@@ -4,7 +4,7 @@ mod answer;
 
 pub use answer::answer;
 
-use crate::times::median;
+use crate::median::median;
 use std::env;
 use std::process::Command;
 

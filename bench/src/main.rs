@@ -5,6 +5,8 @@ mod call;
 mod circuit;
 mod level;
 mod load;
+mod median;
+mod page;
 mod pair;
 mod plan;
 mod plot;
@@ -17,9 +19,10 @@ use alone::{ALONE, End, ended, made};
 use call::Turn;
 use level::{Level, config, few_circuits};
 use load::Fill;
+use page::write_between;
 use pair::Pair;
 use plan::Plan;
-use report::{Endings, Figure, Outstanding, between};
+use report::{Endings, Figure, Outstanding};
 use std::path::Path;
 use std::{env, fs};
 
@@ -59,12 +62,6 @@ fn write(docs: &Path, plan: &Plan) {
         ("sizes", report::sizes(&by_size)),
     ];
     write_between(&docs.join("BENCHMARKS.md"), &parts);
-}
-
-fn write_between(path: &Path, parts: &[(&str, String)]) {
-    let document = fs::read_to_string(path).expect("BENCHMARKS.md is there");
-    let document = parts.iter().fold(document, |document, (name, text)| between(&document, name, text));
-    fs::write(path, document).expect("BENCHMARKS.md is written");
 }
 
 /// One relay of each side, filled step by step.

@@ -1,7 +1,8 @@
 //! The chosen calls as a picture: cost against use, both sides, on a scale of powers of ten.
 use crate::call::{Call, Refusal};
+use crate::page::grouped;
 use crate::pair::Cost;
-use crate::report::{CHOSEN, Figure, grouped};
+use crate::report::{CHOSEN, Figure};
 use std::fmt::Write;
 
 const COLUMNS: usize = 3;

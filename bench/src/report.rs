@@ -1,4 +1,4 @@
-//! The figures as tables of Markdown, put between marks of a document.
+//! The figures as tables of Markdown.
 mod goal;
 mod once;
 
@@ -7,6 +7,7 @@ pub use once::{Endings, endings, new};
 
 use crate::call::{Call, Refusal};
 use crate::level::{Level, config, records};
+use crate::page::{grouped, short, table, texts};
 use crate::pair::Cost;
 
 /// What every call costs at a level, in the order of `Call::ALL`.
@@ -33,38 +34,6 @@ const AGAINST_USE: [Call; 8] = [
 /// The calls of the table of sizes, and of the plot.
 pub const CHOSEN: [Call; 6] =
     [Call::Open, Call::Data(1), Call::Acknowledge, Call::Close, Call::Disconnect, Call::Expire];
-
-/// A number with a comma at each thousand.
-pub fn grouped(number: f64) -> String {
-    let digits = format!("{number:.0}");
-    let mut text = String::new();
-    for (place, digit) in digits.chars().enumerate() {
-        if place > 0 && (digits.len() - place) % 3 == 0 {
-            text.push(',');
-        }
-        text.push(digit);
-    }
-    text
-}
-
-/// Three digits that count.
-fn short(number: f64) -> String {
-    match number {
-        100.0.. => grouped(number),
-        10.0.. => format!("{number:.1}"),
-        _ => format!("{number:.2}"),
-    }
-}
-
-fn table(titles: &[String], rows: &[Vec<String>]) -> String {
-    let line = |cells: &[String]| format!("| {} |\n", cells.join(" | "));
-    let body: String = rows.iter().map(|row| line(row)).collect();
-    line(titles) + "|" + &"---|".repeat(titles.len()) + "\n" + &body
-}
-
-fn texts(list: &[&str]) -> Vec<String> {
-    list.iter().map(|text| text.to_string()).collect()
-}
 
 /// Library / Rust: calls by levels.
 pub fn ratios(figures: &[Figure]) -> String {
@@ -119,29 +88,4 @@ fn outstanding_titles(list: &[Outstanding]) -> Vec<String> {
 /// Library / Rust = ratio.
 fn both(cost: Cost) -> String {
     format!("{} / {} = {}", grouped(cost.library), grouped(cost.rust), short(cost.ratio()))
-}
-
-/// The document with what stands between two marks replaced.
-pub fn between(document: &str, name: &str, text: &str) -> String {
-    let (start, end) = (format!("<!-- {name} -->\n"), format!("<!-- end of {name} -->"));
-    let (before, rest) = document.split_once(&start).unwrap_or_else(|| panic!("the document has no {start}"));
-    let (_, after) = rest.split_once(&end).unwrap_or_else(|| panic!("the document has no {end}"));
-    format!("{before}{start}{text}{end}{after}")
-}
-
-#[cfg(test)]
-mod tests {
-    use super::{between, grouped, short};
-
-    #[test]
-    fn numbers_are_short_and_grouped() {
-        assert_eq!([0.0, 999.4, 1_000.0, 1_234_567.0].map(grouped), ["0", "999", "1,000", "1,234,567"]);
-        assert_eq!([0.954, 9.5, 12.34, 1_234.5].map(short), ["0.95", "9.50", "12.3", "1,234"]);
-    }
-
-    #[test]
-    fn what_stands_between_marks_is_replaced() {
-        let document = "a\n<!-- b -->\nold\n<!-- end of b -->\nc\n";
-        assert_eq!(between(document, "b", "new\n"), "a\n<!-- b -->\nnew\n<!-- end of b -->\nc\n");
-    }
 }

@@ -1,5 +1,6 @@
 //! How long calls take.
 use crate::call::Call;
+use crate::median::median;
 use std::time::{Duration, Instant};
 
 /// Calls that take longer are timed one by one: the clock does not show then, and a pause of the process spoils one
@@ -44,10 +45,4 @@ impl Times {
 pub fn clock() -> Duration {
     let mut readings: Vec<f64> = (0..10_000).map(|_| Instant::now().elapsed().as_nanos() as f64).collect();
     Duration::from_nanos(median(&mut readings) as u64)
-}
-
-/// Of no numbers it is not a number.
-pub fn median(list: &mut [f64]) -> f64 {
-    list.sort_unstable_by(f64::total_cmp);
-    list.get(list.len() / 2).copied().unwrap_or(f64::NAN)
 }

@@ -2,8 +2,9 @@
 use super::{End, Question, Told};
 use crate::level::config;
 use crate::load::{Fill, Load};
+use crate::median::median;
 use crate::side::{Library, Rust, Seen, Side};
-use crate::times::{clock, median};
+use crate::times::clock;
 use lekchnam_traces::Config;
 use std::fs;
 use std::hint::black_box;

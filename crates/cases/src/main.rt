@@ -1,6 +1,7 @@
 // The sixteen cases (CASE.1 to CASE.3), each by a new relay.
 // Then the samples of RFC 3629, section 7 (TEXT.4), and what is not UTF-8 beside them: a wrong answer is printed, a
 // right one is not.
+#![tactic(auto)]
 mod machine;
 mod samples;
 mod script;

@@ -161,7 +161,7 @@ pub(crate) fn packet(opcode: u8, time: u64) -> RelayPacket {
 }
 
 // ---- a case: the queue limit, when ACCEPT comes, and one or two packets after it, the first perhaps delivered between
-#[derive(Drop)]
+#[derive(Clone, Copy)]
 pub struct Script {
     pub queue: usize,
     pub accept_at: u64,

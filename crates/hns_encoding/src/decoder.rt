@@ -11,7 +11,7 @@ use crate::numbers::saturating_sub_usize;
 use crate::room::{fits, missing};
 use crate::words::{copy_bytes_at, get_word, word_count};
 
-#[derive(Drop)]
+#[derive(Clone, Copy)]
 pub enum DecodeError {
     // A field that starts at `offset` lacks `needed` bytes.
     UnexpectedEnd { offset: usize, needed: usize },
@@ -19,68 +19,68 @@ pub enum DecodeError {
     TrailingBytes { remaining: usize },
 }
 
-#[derive(Drop)]
+#[derive(Clone, Copy)]
 pub struct Decoder {
     pub position: usize,
 }
 
 // What a method answers: the field and the cursor behind it, or why not. An array stands beside the answer, since an
 // enum holds none.
-#[derive(Drop)]
+#[derive(Clone, Copy)]
 pub enum Step {
     Ok(Decoder),
     Err(DecodeError),
 }
 
-#[derive(Drop)]
+#[derive(Clone, Copy)]
 pub enum ReadU8 {
     Ok(u8, Decoder),
     Err(DecodeError),
 }
 
-#[derive(Drop)]
+#[derive(Clone, Copy)]
 pub enum ReadU16 {
     Ok(u16, Decoder),
     Err(DecodeError),
 }
 
-#[derive(Drop)]
+#[derive(Clone, Copy)]
 pub enum ReadU32 {
     Ok(u32, Decoder),
     Err(DecodeError),
 }
 
-#[derive(Drop)]
+#[derive(Clone, Copy)]
 pub enum ReadU64 {
     Ok(u64, Decoder),
     Err(DecodeError),
 }
 
-#[derive(Drop)]
+#[derive(Clone, Copy)]
 pub struct ReadArray8 {
     pub step: Step,
     pub bytes: [u8; 8],
 }
 
-#[derive(Drop)]
+#[derive(Clone, Copy)]
 pub struct ReadArray16 {
     pub step: Step,
     pub bytes: [u8; 16],
 }
 
-#[derive(Drop)]
+#[derive(Clone, Copy)]
 pub struct ReadArray32 {
     pub step: Step,
     pub bytes: [u8; 32],
 }
 
-#[derive(Drop)]
+#[derive(Clone, Copy)]
 pub struct ReadArray33 {
     pub step: Step,
     pub bytes: [u8; 33],
 }
 
-#[derive(Drop)]
+#[derive(Clone, Copy)]
 pub enum Finish {
     Ok,
     Err(DecodeError),

@@ -10,12 +10,12 @@ use crate::bytes::{copy_at, put_le_at};
 use crate::room::{fits, missing};
 use crate::words::{put_words_at, set_word, word_count};
 
-#[derive(Drop)]
+#[derive(Clone, Copy)]
 pub struct Encoder {
     pub position: usize,
 }
 
-#[derive(Drop)]
+#[derive(Clone, Copy)]
 pub enum Put {
     Ok(Encoder),
     // A field at `offset` finds `needed` elements too few.

@@ -1,5 +1,7 @@
 // Little-endian fields, a cursor that hands itself back, bytes as 32-bit words, sums that stop at their top, tests
 // joined. The lowest crate: it knows no message. Port of hns-encoding's lib.rs as far as the relay needs it.
+#![tactic(auto)]
+
 mod bytes;
 pub mod decoder;
 pub mod encoder;

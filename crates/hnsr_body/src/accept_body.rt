@@ -15,14 +15,14 @@ use crate::values::{is_nonzero, is_some, is_window};
 use hns_encoding::logic::both;
 
 #[repr(C)]
-#[derive(Drop)]
+#[derive(Clone, Copy)]
 pub struct AcceptBody {
     pub accepted_window: u32,
     pub endpoint_nonce: [u8; 16],
 }
 
 #[repr(C)]
-#[derive(Drop)]
+#[derive(Clone, Copy)]
 pub struct OpenedBody {
     pub circuit_id: u64,
     pub accepted_window: u32,
@@ -30,26 +30,26 @@ pub struct OpenedBody {
 }
 
 // A field that the input ends before reads as zeros; the result then says so.
-#[derive(Drop)]
+#[derive(Clone, Copy)]
 pub struct AcceptRead {
     pub result: Checked,
     pub body: AcceptBody,
 }
 
-#[derive(Drop)]
+#[derive(Clone, Copy)]
 pub struct OpenedRead {
     pub result: Checked,
     pub body: OpenedBody,
 }
 
 // Zeros where the result is a refusal.
-#[derive(Drop)]
+#[derive(Clone, Copy)]
 pub struct AcceptWritten {
     pub result: Checked,
     pub bytes: [u8; AcceptBody::SIZE],
 }
 
-#[derive(Drop)]
+#[derive(Clone, Copy)]
 pub struct OpenedWritten {
     pub result: Checked,
     pub bytes: [u8; OpenedBody::SIZE],

@@ -9,26 +9,26 @@ use crate::fields::{next_u32, put_u32_at, start};
 use crate::layout::{answered, finish};
 use crate::values::MAX_WINDOW;
 
-#[derive(Drop)]
+#[derive(Clone, Copy)]
 pub struct DataBody {
     pub length: usize,
 }
 
 #[repr(C)]
-#[derive(Drop)]
+#[derive(Clone, Copy)]
 pub struct WindowBody {
     pub credit_delta: u32,
 }
 
 // A delta that the input ends before reads as 0; the result then says so.
-#[derive(Drop)]
+#[derive(Clone, Copy)]
 pub struct WindowRead {
     pub result: Checked,
     pub body: WindowBody,
 }
 
 // Zeros where the result is a refusal.
-#[derive(Drop)]
+#[derive(Clone, Copy)]
 pub struct WindowWritten {
     pub result: Checked,
     pub bytes: [u8; WindowBody::SIZE],

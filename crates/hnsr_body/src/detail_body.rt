@@ -13,28 +13,28 @@ use hns_encoding::decoder::Step;
 
 // The reason, and how long the detail is, which stands in the body from its fourth byte on.
 #[repr(C)]
-#[derive(Drop)]
+#[derive(Clone, Copy)]
 pub struct ReasonDetail {
     pub reason: u16,
     pub detail_length: usize,
 }
 
 // A field that the input ends before reads as 0; the result then says so.
-#[derive(Drop)]
+#[derive(Clone, Copy)]
 pub struct DetailRead {
     pub result: Checked,
     pub body: ReasonDetail,
 }
 
 // The two fields in front of the detail, and the step behind them.
-#[derive(Drop)]
+#[derive(Clone, Copy)]
 struct DetailHead {
     pub step: Step,
     pub body: ReasonDetail,
 }
 
 // `length` bytes, with zeros behind them; none where the result is a refusal.
-#[derive(Drop)]
+#[derive(Clone, Copy)]
 pub struct DetailWritten {
     pub result: Checked,
     pub length: usize,

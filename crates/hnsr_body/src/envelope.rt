@@ -6,7 +6,7 @@ use crate::error::{Checked, HnsrInvalid, HnsrProtocolError};
 use hns_encoding::numbers::saturating_add_usize;
 
 // A packet: its opcode, context and how long its body is, which stands beside it.
-#[derive(Drop)]
+#[derive(Clone, Copy)]
 pub struct HnsrPacket {
     pub opcode: u8,
     pub context_id: u64,

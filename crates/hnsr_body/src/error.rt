@@ -5,7 +5,7 @@ ghost use Rattle.hnsr_body.specs.Causes.{cause_numbers, text_number};
 use hns_encoding::DecodeError;
 
 // Which text an `Invalid` carries.
-#[derive(Drop)]
+#[derive(Clone, Copy)]
 pub enum HnsrInvalid {
     // HNSR context ID is zero
     ContextZero,
@@ -27,7 +27,7 @@ pub enum HnsrInvalid {
     NotUtf8,
 }
 
-#[derive(Drop)]
+#[derive(Clone, Copy)]
 pub enum HnsrProtocolError {
     Decode(DecodeError),
     Invalid(HnsrInvalid),
@@ -37,7 +37,7 @@ pub enum HnsrProtocolError {
 }
 
 // What a check answers that hands nothing out.
-#[derive(Drop)]
+#[derive(Clone, Copy)]
 pub enum Checked {
     Ok,
     Err(HnsrProtocolError),
@@ -45,7 +45,7 @@ pub enum Checked {
 
 // A cause in numbers, for a host: its kind, 0 where there is none, and its values.
 #[repr(C)]
-#[derive(Drop)]
+#[derive(Clone, Copy)]
 pub struct Cause {
     pub kind: u32,
     pub first: u64,

@@ -12,25 +12,25 @@ use hns_encoding::decoder::{
 use hns_encoding::{Decoder, Encoder};
 
 // A number that was read, and the step behind it.
-#[derive(Drop)]
+#[derive(Clone, Copy)]
 pub(crate) struct NextU8 {
     pub step: Step,
     pub value: u8,
 }
 
-#[derive(Drop)]
+#[derive(Clone, Copy)]
 pub(crate) struct NextU16 {
     pub step: Step,
     pub value: u16,
 }
 
-#[derive(Drop)]
+#[derive(Clone, Copy)]
 pub(crate) struct NextU32 {
     pub step: Step,
     pub value: u32,
 }
 
-#[derive(Drop)]
+#[derive(Clone, Copy)]
 pub(crate) struct NextU64 {
     pub step: Step,
     pub value: u64,

@@ -14,7 +14,7 @@ use crate::values::{is_nonzero, is_some, is_window};
 use hns_encoding::logic::both;
 
 #[repr(C)]
-#[derive(Drop)]
+#[derive(Clone, Copy)]
 pub struct IncomingBody {
     pub ticket_id: [u8; 32],
     pub open_request_id: u64,
@@ -24,14 +24,14 @@ pub struct IncomingBody {
 }
 
 // A field that the input ends before reads as zeros; the result then says so.
-#[derive(Drop)]
+#[derive(Clone, Copy)]
 pub struct IncomingRead {
     pub result: Checked,
     pub body: IncomingBody,
 }
 
 // Zeros where the result is a refusal.
-#[derive(Drop)]
+#[derive(Clone, Copy)]
 pub struct IncomingWritten {
     pub result: Checked,
     pub bytes: [u8; IncomingBody::SIZE],

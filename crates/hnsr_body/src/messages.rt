@@ -5,7 +5,7 @@ ghost use Rattle.hnsr_body.specs.Messages.{message_of, notice_written};
 use crate::detail_body::ReasonDetail;
 use crate::fields::{put_bytes_at, put_u8_at, put_u16_at};
 
-#[derive(Drop)]
+#[derive(Clone, Copy)]
 pub enum Notice {
     PeerDisconnected,
     ReservationRevoked,
@@ -17,7 +17,7 @@ pub enum Notice {
 }
 
 // The detail is `length` bytes, with zeros behind them.
-#[derive(Drop)]
+#[derive(Clone, Copy)]
 pub struct Message {
     pub reason: u16,
     pub length: u8,
@@ -32,7 +32,7 @@ impl Message {
 }
 
 // The body of the CLOSE or ERROR that carries it: `length` bytes, with zeros behind them.
-#[derive(Drop)]
+#[derive(Clone, Copy)]
 pub struct NoticeWritten {
     pub length: usize,
     pub bytes: [u8; Message::MAX_SIZE],

@@ -14,7 +14,7 @@ use crate::values::{ReservationId, is_nonzero, is_some, is_window, reservation_o
 use hns_encoding::logic::both;
 
 #[repr(C)]
-#[derive(Drop)]
+#[derive(Clone, Copy)]
 pub struct OpenBody {
     pub ticket_id: [u8; 32],
     pub reservation_id: ReservationId,
@@ -25,14 +25,14 @@ pub struct OpenBody {
 }
 
 // A field that the input ends before reads as zeros; the result then says so.
-#[derive(Drop)]
+#[derive(Clone, Copy)]
 pub struct OpenRead {
     pub result: Checked,
     pub body: OpenBody,
 }
 
 // Zeros where the result is a refusal.
-#[derive(Drop)]
+#[derive(Clone, Copy)]
 pub struct OpenWritten {
     pub result: Checked,
     pub bytes: [u8; OpenBody::SIZE],

@@ -11,7 +11,7 @@ pub const MAX_WINDOW: u32 = 1_048_576;
 
 // A reservation id: the first eight bytes on the wire, then the other eight; the first byte of each weighs most.
 #[repr(C)]
-#[derive(Drop)]
+#[derive(Clone, Copy)]
 pub struct ReservationId {
     pub high: u64,
     pub low: u64,

@@ -5,7 +5,7 @@ ghost use Rattle.hnsr_circuit.specs.Answers.{error_cause, check, body_answer, ta
 
 use hnsr_body::error::{Cause, Checked, HnsrProtocolError};
 
-#[derive(Drop)]
+#[derive(Clone, Copy)]
 pub enum HnsrRuntimeError {
     Protocol(HnsrProtocolError),
     InvalidConfig,
@@ -34,7 +34,7 @@ pub enum HnsrRuntimeError {
     LedgerFull,
 }
 
-#[derive(Drop)]
+#[derive(Clone, Copy)]
 pub enum HnsrAnswer {
     Taken,
     Refused(HnsrRuntimeError),

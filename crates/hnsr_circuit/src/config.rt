@@ -6,7 +6,7 @@ use crate::answer::{HnsrAnswer, HnsrRuntimeError};
 use hns_encoding::logic::both;
 
 #[repr(C)]
-#[derive(Drop)]
+#[derive(Clone, Copy)]
 pub struct OpaqueRelayConfig {
     pub maximum_pending: usize,
     pub maximum_circuits: usize,

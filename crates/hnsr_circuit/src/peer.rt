@@ -10,7 +10,7 @@ use hns_encoding::numbers::min_usize;
 pub const MAXIMUM_PEER: usize = 128;
 
 #[repr(C)]
-#[derive(Drop)]
+#[derive(Clone, Copy)]
 pub struct HnsrPeerId {
     pub len: usize,
     pub bytes: [u8; MAXIMUM_PEER],

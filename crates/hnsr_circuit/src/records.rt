@@ -10,7 +10,7 @@ use hnsr_body::values::ReservationId;
 
 // Of the Rust's ticket the fields that the relay reads.
 #[repr(C)]
-#[derive(Drop)]
+#[derive(Clone, Copy)]
 pub struct RelayTicket {
     pub reservation_id: ReservationId,
     pub expires_at: u64,
@@ -20,7 +20,7 @@ pub struct RelayTicket {
 }
 
 #[repr(C)]
-#[derive(Drop)]
+#[derive(Clone, Copy)]
 pub struct RelayPending {
     pub used: bool,
     pub circuit_id: u64,
@@ -33,7 +33,7 @@ pub struct RelayPending {
 }
 
 #[repr(C)]
-#[derive(Drop)]
+#[derive(Clone, Copy)]
 pub struct RelayCircuit {
     pub used: bool,
     pub circuit_id: u64,
@@ -51,14 +51,14 @@ pub struct RelayCircuit {
 }
 
 // A side of a circuit or pending record.
-#[derive(Drop)]
+#[derive(Clone, Copy)]
 pub enum RelaySide {
     Requester,
     Endpoint,
 }
 
 #[repr(C)]
-#[derive(Drop)]
+#[derive(Clone, Copy)]
 pub struct ReservationUsage {
     pub used: bool,
     pub reservation_id: ReservationId,
@@ -68,7 +68,7 @@ pub struct ReservationUsage {
 
 // kind: 0 Incoming, 1 Opened, 2 Data, 3 Control, anything else Close. to_endpoint and bytes are of Data.
 #[repr(C)]
-#[derive(Drop)]
+#[derive(Clone, Copy)]
 pub struct InflightAction {
     pub used: bool,
     pub generation: u64,
@@ -81,7 +81,7 @@ pub struct InflightAction {
 }
 
 // What an action is for. Stored it is a number (`kind`).
-#[derive(Drop)]
+#[derive(Clone, Copy)]
 pub enum InflightKind {
     Incoming,
     Opened,

@@ -9,7 +9,7 @@ use crate::records::RelayTicket;
 use crate::tables::places::Places;
 
 // The earliest time, if there is one.
-#[derive(Drop)]
+#[derive(Clone, Copy)]
 pub enum NextDue {
     Never,
     At(u64),
@@ -18,7 +18,7 @@ pub enum NextDue {
 // A packet but for its body, the clock, and what the host says of an OPEN: whether the key is valid, whether it is
 // admitted, and its grant.
 #[repr(C)]
-#[derive(Drop)]
+#[derive(Clone, Copy)]
 pub struct RelayPacket {
     pub opcode: u8,
     pub context_id: u64,
@@ -29,7 +29,7 @@ pub struct RelayPacket {
 }
 
 #[repr(C)]
-#[derive(Drop)]
+#[derive(Clone, Copy)]
 pub struct RuntimeCounters {
     pub admitted_opens: u64,
     pub opened_circuits: u64,
@@ -39,7 +39,7 @@ pub struct RuntimeCounters {
 }
 
 #[repr(C)]
-#[derive(Drop)]
+#[derive(Clone, Copy)]
 pub struct OpaqueRelayRuntime {
     pub session: [u8; 16],
     pub generation: u64,
@@ -51,7 +51,7 @@ pub struct OpaqueRelayRuntime {
 }
 
 #[repr(C)]
-#[derive(Drop)]
+#[derive(Clone, Copy)]
 pub struct HnsrRuntimeStatus {
     pub generation: u64,
     pub enabled: bool,
@@ -69,7 +69,7 @@ pub struct HnsrRuntimeStatus {
 
 // A packet past entry and gate: the runtime with its clock moved, the places in use, the packet, and the peer that sent
 // it.
-#[derive(Drop)]
+#[derive(Clone, Copy)]
 pub struct Request {
     pub runtime: OpaqueRelayRuntime,
     pub places: Places,
@@ -79,7 +79,7 @@ pub struct Request {
 
 // What a call hands back: the answer, how many output words it wrote, and for the host to keep the runtime and the
 // places in use.
-#[derive(Drop)]
+#[derive(Clone, Copy)]
 pub struct Relayed {
     pub runtime: OpaqueRelayRuntime,
     pub answer: HnsrAnswer,
@@ -88,7 +88,7 @@ pub struct Relayed {
 }
 
 // A call under way: the runtime, the output word that is next, and the places in use.
-#[derive(Drop)]
+#[derive(Clone, Copy)]
 pub struct Sending {
     pub runtime: OpaqueRelayRuntime,
     pub position: usize,
@@ -97,14 +97,14 @@ pub struct Sending {
 
 // What `status` and `next_due` hand back: the answer, and what they tell where it is taken. Beside the Rust's fields
 // `status` tells how many further actions fit for the peer and the circuit that it was asked for.
-#[derive(Drop)]
+#[derive(Clone, Copy)]
 pub struct StatusTold {
     pub answer: HnsrAnswer,
     pub status: HnsrRuntimeStatus,
     pub action_capacity: usize,
 }
 
-#[derive(Drop)]
+#[derive(Clone, Copy)]
 pub struct DueTold {
     pub answer: HnsrAnswer,
     pub due: NextDue,

@@ -22,77 +22,77 @@ use hnsr_body::open_body::OpenBody;
 use hnsr_body::utf8::is_utf8;
 
 #[repr(C)]
-#[derive(Drop)]
+#[derive(Clone, Copy)]
 pub struct OpenAnswer {
     pub cause: Cause,
     pub body: OpenBody,
 }
 
 #[repr(C)]
-#[derive(Drop)]
+#[derive(Clone, Copy)]
 pub struct IncomingAnswer {
     pub cause: Cause,
     pub body: IncomingBody,
 }
 
 #[repr(C)]
-#[derive(Drop)]
+#[derive(Clone, Copy)]
 pub struct AcceptAnswer {
     pub cause: Cause,
     pub body: AcceptBody,
 }
 
 #[repr(C)]
-#[derive(Drop)]
+#[derive(Clone, Copy)]
 pub struct OpenedAnswer {
     pub cause: Cause,
     pub body: OpenedBody,
 }
 
 #[repr(C)]
-#[derive(Drop)]
+#[derive(Clone, Copy)]
 pub struct WindowAnswer {
     pub cause: Cause,
     pub body: WindowBody,
 }
 
 #[repr(C)]
-#[derive(Drop)]
+#[derive(Clone, Copy)]
 pub struct DetailAnswer {
     pub cause: Cause,
     pub body: ReasonDetail,
 }
 
 #[repr(C)]
-#[derive(Drop)]
+#[derive(Clone, Copy)]
 pub struct OpenBytes {
     pub cause: Cause,
     pub bytes: [u8; OpenBody::SIZE],
 }
 
 #[repr(C)]
-#[derive(Drop)]
+#[derive(Clone, Copy)]
 pub struct IncomingBytes {
     pub cause: Cause,
     pub bytes: [u8; IncomingBody::SIZE],
 }
 
 #[repr(C)]
-#[derive(Drop)]
+#[derive(Clone, Copy)]
 pub struct AcceptBytes {
     pub cause: Cause,
     pub bytes: [u8; AcceptBody::SIZE],
 }
 
 #[repr(C)]
-#[derive(Drop)]
+#[derive(Clone, Copy)]
 pub struct OpenedBytes {
     pub cause: Cause,
     pub bytes: [u8; OpenedBody::SIZE],
 }
 
 #[repr(C)]
-#[derive(Drop)]
+#[derive(Clone, Copy)]
 pub struct WindowBytes {
     pub cause: Cause,
     pub bytes: [u8; WindowBody::SIZE],
@@ -100,7 +100,7 @@ pub struct WindowBytes {
 
 // The first `length` bytes are the body.
 #[repr(C)]
-#[derive(Drop)]
+#[derive(Clone, Copy)]
 pub struct DetailBytes {
     pub cause: Cause,
     pub length: usize,

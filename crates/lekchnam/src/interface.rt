@@ -30,7 +30,7 @@ pub const VERSION: u32 = 3;
 
 // One of each struct that passes; the answers of readers and writers are a cause and a body each.
 #[repr(C)]
-#[derive(Drop)]
+#[derive(Clone, Copy)]
 pub struct Layout {
     pub pending: RelayPending,
     pub circuit: RelayCircuit,

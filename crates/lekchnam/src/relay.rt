@@ -35,7 +35,7 @@ use hnsr_circuit::tables::places::Places;
 // What a call hands back: the answer, how many output words it wrote, and what the host keeps: the runtime and the
 // places in use.
 #[repr(C)]
-#[derive(Drop)]
+#[derive(Clone, Copy)]
 pub struct RelayReply {
     pub answer: u32,
     pub cause: Cause,
@@ -46,7 +46,7 @@ pub struct RelayReply {
 
 // A refused one tells zeros. The action capacity is that of the peer and the circuit which were asked for.
 #[repr(C)]
-#[derive(Drop)]
+#[derive(Clone, Copy)]
 pub struct StatusReply {
     pub answer: u32,
     pub status: HnsrRuntimeStatus,
@@ -55,7 +55,7 @@ pub struct StatusReply {
 
 // Whether something is due, and when; a refused one tells that nothing is.
 #[repr(C)]
-#[derive(Drop)]
+#[derive(Clone, Copy)]
 pub struct DueReply {
     pub answer: u32,
     pub some: bool,

@@ -1,5 +1,6 @@
 // Writes a field of each width into sixteen bytes, prints them and the words that they fill, reads the fields back, and
 // reads one too many.
+#![tactic(auto)]
 use hns_encoding::decoder::{Finish, ReadU8, ReadU16, ReadU32, ReadU64};
 use hns_encoding::encoder::Put;
 use hns_encoding::{DecodeError, Decoder, Encoder};

@@ -68,7 +68,7 @@ fn acknowledge_answer(
 
 // What a kind asks for: whether a queue gets lower (ACK.4), and which record ends where it was not delivered (ACK.6,
 // ACK.8).
-#[derive(Drop)]
+#[derive(Clone, Copy)]
 pub struct Settlement {
     pub lowers: bool,
     pub fails: bool,
@@ -107,7 +107,7 @@ fn settlement_for(kind: InflightKind) -> Settlement
     }
 }
 
-#[derive(Drop)]
+#[derive(Clone, Copy)]
 pub struct SettlePlan {
     pub place: usize,
     pub id: u64,
@@ -154,7 +154,7 @@ fn action_gone(found: ActionFound) -> InflightAction
 
 // ---- undelivered
 
-#[derive(Drop)]
+#[derive(Clone, Copy)]
 pub struct FailPlan {
     pub go: bool,
     pub place: usize,

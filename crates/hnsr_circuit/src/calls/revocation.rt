@@ -37,7 +37,7 @@ use hnsr_body::messages::Notice;
 
 // What a revoking call hands its walks: which records, and by what message; the peer is nobody where none is asked for.
 // DISC.4: of a pending record the peer that is gone hears nothing.
-#[derive(Drop)]
+#[derive(Clone, Copy)]
 pub struct Revoking {
     pub question: RecordQuestion,
     pub peer: HnsrPeerId,
@@ -47,14 +47,14 @@ pub struct Revoking {
 }
 
 // The first record that each walk takes: the pass at entry finds it.
-#[derive(Drop)]
+#[derive(Clone, Copy)]
 pub struct Firsts {
     pub pending: Walked,
     pub circuits: Walked,
 }
 
 // How a record ends: its id, the runtime that has counted it, and the messages.
-#[derive(Drop)]
+#[derive(Clone, Copy)]
 pub struct EndPlan {
     pub id: u64,
     pub sending: Sending,

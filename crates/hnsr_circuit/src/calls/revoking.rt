@@ -73,7 +73,7 @@ fn room_answer(
 }
 
 // What a revoking call finds at entry: its answer, and the first record that each walk takes.
-#[derive(Drop)]
+#[derive(Clone, Copy)]
 pub struct Entered {
     pub answer: HnsrAnswer,
     pub first: Firsts,

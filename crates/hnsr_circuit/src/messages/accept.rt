@@ -188,7 +188,7 @@ pub(crate) fn circuit_for(
 }
 
 // What ACCEPT does: whether, where the pending record stands, the circuit's id, the runtime after it, and OPENED.
-#[derive(Drop)]
+#[derive(Clone, Copy)]
 pub struct AcceptPlan {
     pub go: bool,
     pub place: usize,

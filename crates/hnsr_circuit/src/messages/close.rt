@@ -108,7 +108,7 @@ fn close_message(
 
 // What CLOSE or ERROR does: whether it goes on; which record it ends, by table and place, and under which id its
 // actions are dropped; the runtime with the end counted; and the message.
-#[derive(Drop)]
+#[derive(Clone, Copy)]
 pub struct ClosePlan {
     pub answer: HnsrAnswer,
     pub go: bool,

@@ -100,7 +100,7 @@ pub(crate) fn data_rows(
 
 // What DATA does: whether it goes on; the places of the circuit and of the ledger record, and the side that is charged;
 // the runtime with its bytes counted; and the message, with what it asked of the actions.
-#[derive(Drop)]
+#[derive(Clone, Copy)]
 pub struct DataPlan {
     pub answer: HnsrAnswer,
     pub go: bool,

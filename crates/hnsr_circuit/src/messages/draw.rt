@@ -11,7 +11,7 @@ use hns_encoding::logic::{either, no};
 // How far the drawing of a circuit id has come: zeros in a row, candidates that were taken, whether it ended, and with
 // which id.
 #[repr(C)]
-#[derive(Drop)]
+#[derive(Clone, Copy)]
 pub struct Drawing {
     pub zeros: u8,
     pub candidates: u8,

@@ -114,7 +114,7 @@ pub(crate) fn open_work(
 }
 
 // What an OPEN comes with: the packet, both peers, the endpoint's length, the body, and the work that there is.
-#[derive(Drop)]
+#[derive(Clone, Copy)]
 pub struct OpenGathered {
     pub packet: RelayPacket,
     pub requester: HnsrPeerId,
@@ -199,7 +199,7 @@ pub(crate) fn open_rows(config: OpaqueRelayConfig, gathered: OpenGathered) -> Hn
 }
 
 // What an OPEN writes and sends, once its grant is good.
-#[derive(Drop)]
+#[derive(Clone, Copy)]
 pub struct OpenPlan {
     pub requester: HnsrPeerId,
     pub context: u64,

@@ -64,7 +64,7 @@ pub(crate) fn window_rows(
 
 // What WINDOW does: whether it goes on; the place of the circuit, the side that it comes from and its credit; and the
 // message, with what it asked of the actions.
-#[derive(Drop)]
+#[derive(Clone, Copy)]
 pub struct WindowPlan {
     pub answer: HnsrAnswer,
     pub go: bool,

@@ -35,7 +35,7 @@ use hnsr_body::messages::Notice;
 
 // A message but for its body: where it goes, the circuit that it is about, opcode and context, and what its action
 // holds.
-#[derive(Drop)]
+#[derive(Clone, Copy)]
 pub struct Outgoing {
     pub destination: HnsrPeerId,
     pub circuit_id: u64,
@@ -107,7 +107,7 @@ pub(crate) fn scan_place(scan: ActionScan) -> usize
 }
 
 // Whether a message is queued: the answer, the runtime with the sequence moved on, and the action with its place.
-#[derive(Drop)]
+#[derive(Clone, Copy)]
 pub struct Queued {
     pub answer: HnsrAnswer,
     pub go: bool,

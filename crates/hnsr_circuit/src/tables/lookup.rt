@@ -18,28 +18,28 @@ use crate::tables::places::{Places, places_of};
 use hnsr_body::values::ReservationId;
 
 // What a lookup finds: whether there is such a record, its place and itself.
-#[derive(Drop)]
+#[derive(Clone, Copy)]
 pub struct PendingFound {
     pub found: bool,
     pub place: usize,
     pub pending: RelayPending,
 }
 
-#[derive(Drop)]
+#[derive(Clone, Copy)]
 pub struct CircuitFound {
     pub found: bool,
     pub place: usize,
     pub circuit: RelayCircuit,
 }
 
-#[derive(Drop)]
+#[derive(Clone, Copy)]
 pub struct UsageFound {
     pub found: bool,
     pub place: usize,
     pub usage: ReservationUsage,
 }
 
-#[derive(Drop)]
+#[derive(Clone, Copy)]
 pub struct ActionFound {
     pub found: bool,
     pub place: usize,

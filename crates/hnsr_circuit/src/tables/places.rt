@@ -18,7 +18,7 @@ use crate::tables::scan::{ActionScan, LedgerScan, first_place, within};
 use hns_encoding::logic::{both, either};
 
 #[repr(C)]
-#[derive(Drop)]
+#[derive(Clone, Copy)]
 pub struct Places {
     pub pending: usize,
     pub circuits: usize,

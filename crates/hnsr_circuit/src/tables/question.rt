@@ -11,7 +11,7 @@ use crate::records::{InflightAction, RelayCircuit, RelayPending};
 use hnsr_body::values::ReservationId;
 
 // Every used record, or those with the peer for a side, those that store a reservation's id, those over at a time.
-#[derive(Drop)]
+#[derive(Clone, Copy)]
 pub enum RecordQuestion {
     Used,
     OfPeer,
@@ -20,7 +20,7 @@ pub enum RecordQuestion {
 }
 
 // Every action, or those that go to the peer.
-#[derive(Drop)]
+#[derive(Clone, Copy)]
 pub enum ActionsDropped {
     Every,
     Toward,

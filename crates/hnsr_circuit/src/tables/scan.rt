@@ -31,7 +31,7 @@ use hnsr_body::values::ReservationId;
 
 // How many actions stand in the way of a further one: all, those under its circuit, those toward its peer.
 #[repr(C)]
-#[derive(Drop)]
+#[derive(Clone, Copy)]
 pub struct InflightTally {
     pub total: usize,
     pub for_circuit: usize,
@@ -40,7 +40,7 @@ pub struct InflightTally {
 
 // How far a walk has come: whether it took a record, and that record's id and place.
 #[repr(C)]
-#[derive(Drop)]
+#[derive(Clone, Copy)]
 pub struct Walked {
     pub taken: bool,
     pub id: u64,
@@ -49,7 +49,7 @@ pub struct Walked {
 
 // What a revoking call asks of a table, in one pass: how many records are used, and the first that its walk takes.
 #[repr(C)]
-#[derive(Drop)]
+#[derive(Clone, Copy)]
 pub struct Survey {
     pub used: usize,
     pub first: Walked,
@@ -57,7 +57,7 @@ pub struct Survey {
 
 // What OPEN and ACCEPT ask of all records of a table: how many are used, are the work of two peers and of a
 // reservation; whether one repeats an OPEN, and whether one holds an id.
-#[derive(Drop)]
+#[derive(Clone, Copy)]
 pub struct WorkQuestion {
     pub peer: HnsrPeerId,
     pub other: HnsrPeerId,
@@ -97,7 +97,7 @@ pub(crate) fn id_asked(q: &WorkQuestion) -> u64
     q.id
 }
 
-#[derive(Drop)]
+#[derive(Clone, Copy)]
 pub struct Work {
     pub used: usize,
     pub of_peer: usize,
@@ -109,7 +109,7 @@ pub struct Work {
 
 // What a message asks of all actions: the tally, whether its number stands there already and where, and the lowest
 // unused place.
-#[derive(Drop)]
+#[derive(Clone, Copy)]
 pub struct ActionQuestion {
     pub replacing: bool,
     pub circuit_id: u64,
@@ -149,7 +149,7 @@ pub(crate) fn sequence_asked(q: &ActionQuestion) -> u64
     q.sequence
 }
 
-#[derive(Drop)]
+#[derive(Clone, Copy)]
 pub struct ActionScan {
     pub tally: InflightTally,
     pub found: bool,
@@ -160,7 +160,7 @@ pub struct ActionScan {
 
 // What OPEN asks of all ledger records: whether its record is there, where, and itself; how many are used, the lowest
 // unused place, and of how many places.
-#[derive(Drop)]
+#[derive(Clone, Copy)]
 pub struct LedgerScan {
     pub found: bool,
     pub place: usize,
@@ -172,7 +172,7 @@ pub struct LedgerScan {
 }
 
 // What `status` asks of all circuits: how many are used, and the bytes of their queues.
-#[derive(Drop)]
+#[derive(Clone, Copy)]
 pub struct CircuitTotals {
     pub used: usize,
     pub queued_bytes: usize,

@@ -1,6 +1,6 @@
 -- The least key of the records that have p: some record with p has it, and none with p has a lesser one.
 use Rattle.std.specs.Prelude.{ℕ, ◌≤◌, ◌≡◌, Bool, true, ◌&&◌, leb, ltb, eqb}
-use Rattle.std.proofs.Common.{arith}
+use Rattle.std.proofs.Common.{arith, sym, subst}
 use Rattle.std.proofs.Math.Path.{refl}
 use Rattle.std.proofs.Math.Bool.{or-true}
 use Rattle.std.proofs.lemmas.Bool.{false≢true}
@@ -21,9 +21,14 @@ module _ {A : Type 0} where
       (λ e. split (any p xs)
       (λ n. split (leb (k x) (lowest p k xs))
       (λ l. rw (e, n, l, eq-eqb (k x) (k x) refl))
-      (λ l. rw (e, n, l, lowest-found p k xs n, or-true)))
+      (λ l. let m : lowest p k (x ∷ xs) ≡ lowest p k xs = rw (e, n, l) in
+      subst (λ (b : ℕ). any (also (key_is k b) p) (x ∷ xs) ≡ true) (sym m)
+      (rw (lowest-found p k xs n, or-true))))
       (λ n. rw (e, n, eq-eqb (k x) (k x) refl)))
-      (λ e. rw (e, lowest-found p k xs (rw e at h), or-true))
+      (λ e. let m : lowest p k (x ∷ xs) ≡ lowest p k xs = rw e in
+      let v = rw e at h in
+      subst (λ (b : ℕ). any (also (key_is k b) p) (x ∷ xs) ≡ true) (sym m)
+      (rw (lowest-found p k xs v, or-true)))
 
   -- none that has p has a lesser key
   below : (A → Bool) → (A → ℕ) → ℕ → A → Bool

@@ -1,0 +1,27 @@
+-- `AcceptBody::encode` meets its contract: the bytes are put where the values are good.
+use mathlib.Core.Path.{sym, ◌∙◌, ap}
+use mathlib.Core.Bool.{Bool}
+use lib.ListN.{replicate}
+use Rattle.hns_encoding.specs.Laws.Tests.{on-true, on-false}
+use Rattle.hnsr_body.specs.declared.error.Checked.TheVariants.{Ok}
+use Rattle.hnsr_body.specs.declared.error.HnsrInvalid.TheVariants.{AcceptResponse}
+use Rattle.hnsr_body.specs.Causes.{answer}
+use Rattle.hnsr_body.specs.Accept.{encode_accept, accept_bytes}
+use Rattle.hnsr_body.proofs.accept_body.AcceptBody.encode.Goals as goal
+
+pub returns-then-valid : goal.returns-then-valid
+unfolding encode_accept
+returns-then-valid c =
+    let result = c.answered-result.ensures ∙ ap (λ (v : Bool). answer Ok v AcceptResponse) c.is_valid-valid.ensures in
+    let bytes = c.put.ensures
+    ∙ sym (on-true _ (accept_bytes c.args.self) (replicate 20 0)
+    (sym c.is_valid-valid.ensures ∙ c.if-valid.true)) in
+    λ i. record { result = result i; bytes = bytes i }
+
+pub returns-else-valid : goal.returns-else-valid
+unfolding encode_accept
+returns-else-valid c =
+    let result = c.answered-result.ensures ∙ ap (λ (v : Bool). answer Ok v AcceptResponse) c.is_valid-valid.ensures in
+    let bytes = sym (on-false _ (accept_bytes c.args.self) (replicate 20 0)
+    (sym c.is_valid-valid.ensures ∙ c.if-valid.false)) in
+    λ i. record { result = result i; bytes = bytes i }

@@ -1,5 +1,0 @@
-pub mod acknowledge
-pub mod handle
-pub mod revocation
-pub mod revoking
-pub mod silent

@@ -1,3 +1,0 @@
-pub mod dispatch
-pub mod handle
-pub mod handle_gate

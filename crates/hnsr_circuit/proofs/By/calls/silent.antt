@@ -1,3 +1,0 @@
-pub mod new
-pub mod next_due
-pub mod status

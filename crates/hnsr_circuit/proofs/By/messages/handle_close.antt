@@ -1,3 +1,0 @@
-pub mod close_read
-pub mod handle_close
-pub mod plan_close

@@ -1,3 +1,0 @@
-pub mod handle_window
-pub mod pass_window
-pub mod plan_window

@@ -1,3 +1,0 @@
-pub mod circuits
-pub mod inflight
-pub mod pending

@@ -1,3 +1,0 @@
-pub mod action_has
-pub mod circuit_has
-pub mod pending_has

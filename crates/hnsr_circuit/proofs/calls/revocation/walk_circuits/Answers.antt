@@ -1,0 +1,102 @@
+-- What is left of the walk, from where it has come to, leaves what the whole walk leaves.
+-- how many places there are is a number of 64 bits
+use Prim.Native.Nat.{ℕ, suc, ◌+◌, ◌-◌}
+use native.Mathlib.Nat.{sub-zero}
+use mathlib.Core.Path.{◌≡◌, sym, ap, ◌∙◌}
+use lib.ListN.{length}
+use Rattle.hnsr_circuit.specs.Circuits.{circuit_id, clear_circuit}
+use Rattle.hnsr_circuit.specs.Code.Progress.{Progress, advance}
+use Rattle.hnsr_circuit.specs.Revocation.{revoke_circuit_there, walk_from, walk, circuit_table}
+use Rattle.hnsr_circuit.specs.Code.Revoking.{revoked_circuit}
+use Rattle.hnsr_circuit.specs.Table.{not_yet, next}
+use Rattle.hnsr_circuit.specs.Laws.Revocation.{not-true, not-false, walk_turn}
+use Rattle.hnsr_circuit.specs.Laws.Revocation.{walk_stops, walk-over, walk_on, walk-on}
+use borrow.Author.Rules.{rules}
+use native.Mathlib.Omega.{arith}
+use Rattle.hnsr_circuit.specs.Laws.Held.{length-held}
+use Rattle.hnsr_circuit.specs.Code.Held.{underway_seen}
+use Rattle.hnsr_circuit.proofs.calls.revocation.walk_circuits.Goals as goal
+
+pub loop-turn-init : goal.loop-turn-init
+unfolding walk
+loop-turn-init c =
+    let a = c.args in (
+      search rules,
+      search rules,
+      search rules,
+      search rules,
+      search rules,
+      λ p l.
+          walk-on circuit_id circuit_table (revoked_circuit a.revoking)
+          (revoke_circuit_there a.revoking.circuit_notice)
+          (underway_seen a.sending p a.circuits.now l a.inflight.now a.out.now)
+          (length a.circuits.now - 0) not_yet a.first c.requires
+          ∙ ap (λ (m : ℕ). advance (walk_from circuit_id circuit_table (revoked_circuit a.revoking)
+          (revoke_circuit_there a.revoking.circuit_notice) m not_yet)
+          (underway_seen a.sending p a.circuits.now l a.inflight.now a.out.now))
+          (sub-zero (length a.circuits.now)
+          ∙ sym (length-held clear_circuit a.sending.places.circuits a.circuits.now)),
+    )
+
+pub returns-then-no : goal.returns-then-no
+returns-then-no c =
+    λ p l.
+    let a = c.args in
+    let n = c.loop-turn.next in
+    let k = length a.circuits.now - (c.loop-turn.turn + 1) in
+    let less = c.loop-turn-test.true in
+    let left : suc k ≡ length a.circuits.now - c.loop-turn.turn = omega arith in
+    let stopped = not-true n.taken (sym c.no.ensures ∙ c.if-no.true) in
+    sym (walk_stops circuit_id circuit_table (revoked_circuit a.revoking)
+    (revoke_circuit_there a.revoking.circuit_notice)
+    (underway_seen c.loop-turn.told p c.loop-turn.circuits l c.loop-turn.inflight c.loop-turn.out) k n stopped)
+    ∙ ap (λ (m : ℕ). advance (walk_on circuit_id circuit_table (revoked_circuit a.revoking)
+    (revoke_circuit_there a.revoking.circuit_notice) m n)
+    (underway_seen c.loop-turn.told p c.loop-turn.circuits l c.loop-turn.inflight c.loop-turn.out)) left
+    ∙ c.loop-turn.invariant.5 p l
+
+pub loop-turn-preserved : goal.loop-turn-preserved
+loop-turn-preserved c =
+    let a = c.args in
+    let n = c.loop-turn.next in
+    let k = length a.circuits.now - (c.loop-turn.turn + 1) in
+    let less = c.loop-turn-test.true in
+    let left : suc k ≡ length a.circuits.now - c.loop-turn.turn = omega arith in
+    let goes = not-false n.taken (sym c.no.ensures ∙ c.if-no.false) in (
+      search rules,
+      search rules,
+      search rules,
+      search rules,
+      search rules,
+      λ p l.
+          walk-on circuit_id circuit_table (revoked_circuit a.revoking)
+          (revoke_circuit_there a.revoking.circuit_notice)
+          (underway_seen c.revoke_circuit-told.result p c.revoke_circuit-told.new.circuits l
+          c.revoke_circuit-told.new.inflight c.revoke_circuit-told.new.out) k n c.next_circuit-next.result
+          c.next_circuit-next.ensures
+          ∙ ap (λ (s : Progress). advance (walk_from circuit_id circuit_table (revoked_circuit a.revoking)
+          (revoke_circuit_there a.revoking.circuit_notice) k n) s) (c.revoke_circuit-told.ensures p l)
+          ∙ sym (walk_turn circuit_id circuit_table (revoked_circuit a.revoking)
+          (revoke_circuit_there a.revoking.circuit_notice)
+          (underway_seen c.loop-turn.told p c.loop-turn.circuits l c.loop-turn.inflight c.loop-turn.out) k
+          n goes)
+          ∙ ap (λ (m : ℕ). advance (walk_on circuit_id circuit_table (revoked_circuit a.revoking)
+          (revoke_circuit_there a.revoking.circuit_notice) m n)
+          (underway_seen c.loop-turn.told p c.loop-turn.circuits l c.loop-turn.inflight c.loop-turn.out)) left
+          ∙ c.loop-turn.invariant.5 p l,
+    )
+
+pub returns : goal.returns
+returns c =
+    λ p l.
+    let a = c.args in
+    let over = c.loop-turn-test.false in
+    let none : 0 ≡ length a.circuits.now - c.loop-turn.turn = omega arith in
+    sym (walk-over circuit_id circuit_table (revoked_circuit a.revoking)
+    (revoke_circuit_there a.revoking.circuit_notice)
+    (underway_seen c.loop-turn.told p c.loop-turn.circuits l c.loop-turn.inflight c.loop-turn.out) 0
+    c.loop-turn.next)
+    ∙ ap (λ (m : ℕ). advance (walk_on circuit_id circuit_table (revoked_circuit a.revoking)
+    (revoke_circuit_there a.revoking.circuit_notice) m c.loop-turn.next)
+    (underway_seen c.loop-turn.told p c.loop-turn.circuits l c.loop-turn.inflight c.loop-turn.out)) none
+    ∙ c.loop-turn.invariant.5 p l

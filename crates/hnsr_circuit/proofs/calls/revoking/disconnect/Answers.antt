@@ -1,0 +1,82 @@
+-- Turned away by its rows, or gone on: the actions toward the peer dropped, then its records revoked.
+use borrow.Author.Rules.{rules}
+use Prim.Native.Nat.{◌<◌}
+use Prim.Native.Nat.{◌*◌, ◌+◌}
+use mathlib.Core.Path.{sym, ap, ◌∙◌}
+use lib.ListN.{length}
+use lib.Dec.{ltb}
+use Rattle.hns_encoding.specs.Sums.{count}
+use Rattle.hnsr_circuit.specs.Pending.{is_pending}
+use Rattle.hnsr_circuit.specs.Circuits.{is_circuit}
+use Rattle.hnsr_circuit.specs.declared.answer.HnsrRuntimeError.TheVariants.{Short}
+use Rattle.hnsr_circuit.specs.Answers.{◌then◌}
+use Rattle.hnsr_circuit.specs.World.{Outcome, world_of}
+use Rattle.hnsr_circuit.specs.Counts.{pending_count, circuit_count}
+use Rattle.hnsr_circuit.specs.Entry.{room_answer, tables_short, closing_words}
+use Rattle.hnsr_circuit.specs.Code.Progress.{ending}
+use Rattle.hnsr_circuit.specs.Peer.{peer_of}
+use Rattle.hnsr_circuit.specs.Call.{step, call_disconnect}
+use Rattle.hnsr_circuit.specs.RevokingCalls.{disconnect, disconnect_peer}
+use Rattle.hnsr_circuit.specs.Laws.Calls.{turned_away, whole}
+use Rattle.hnsr_circuit.specs.Laws.RevokingCalls.{disconnected}
+use native.Mathlib.Omega.{arith}
+use Rattle.hnsr_circuit.specs.Laws.HeldTables.{places-kept, entry-held}
+use Rattle.hnsr_circuit.specs.Code.Held.{held_pending, held_circuits, held_ledger, held_actions}
+use Rattle.hnsr_circuit.proofs.calls.revoking.disconnect.Goals as goal
+
+pub returns-then-is_taken : goal.returns-then-is_taken
+unfolding room_answer tables_short pending_count circuit_count step
+returns-then-is_taken c =
+    λ l₀.
+    let s = c in
+    let a = s.args in
+    let l = held_ledger a.places l₀ in
+    let w = world_of a.runtime (held_pending a.places a.pending.now)
+    (held_circuits a.places a.circuits.now) l (held_actions a.places a.inflight.now) in
+    let call = call_disconnect a.peer.now (length a.out.now) in
+    let answer = c.first_refusal-answer.ensures
+    ∙ (λ x. (c.entry_answer-entry.ensures.0
+    ∙ entry-held (ltb (length a.out.now)
+    (closing_words
+    * (count is_pending (held_pending a.places a.pending.now)
+    + count is_circuit (held_circuits a.places a.circuits.now)))) Short a.runtime.config
+    (length (held_pending a.places a.pending.now)) (length (held_circuits a.places a.circuits.now))
+    a.places a.inflight.now) x
+    then c.peer_answer-named.ensures x) in
+    let small : length c.args.out.now < 18446744073709551616 = search rules in
+    c.revoke_all.ensures l₀
+    ∙ ap (λ (o : Outcome). ending a.out.now o)
+    (disconnected a.runtime (held_pending a.places a.pending.now) (held_circuits a.places a.circuits.now)
+    l (held_actions a.places a.inflight.now) a.peer.now (length a.out.now) c.first_refusal-answer.result
+    c.peer_of-name.result c.disconnecting-all.result (held_actions a.places c.clear_action.new.inflight)
+    (sym c.is_taken.ensures ∙ c.if-is_taken.true) answer c.peer_of-name.ensures c.disconnecting-all.ensures
+    c.clear_action.ensures)
+    ∙ whole a.out.now w call (omega arith) (omega arith)
+
+pub returns : goal.returns
+unfolding room_answer tables_short pending_count circuit_count step disconnect
+returns c =
+    λ l₀.
+    let s = c in
+    let a = s.args in
+    let l = held_ledger a.places l₀ in
+    let w = world_of a.runtime (held_pending a.places a.pending.now)
+    (held_circuits a.places a.circuits.now) l (held_actions a.places a.inflight.now) in
+    let call = call_disconnect a.peer.now (length a.out.now) in
+    let answer = c.first_refusal-answer.ensures
+    ∙ (λ x. (c.entry_answer-entry.ensures.0
+    ∙ entry-held (ltb (length a.out.now)
+    (closing_words
+    * (count is_pending (held_pending a.places a.pending.now)
+    + count is_circuit (held_circuits a.places a.circuits.now)))) Short a.runtime.config
+    (length (held_pending a.places a.pending.now)) (length (held_circuits a.places a.circuits.now))
+    a.places a.inflight.now) x
+    then c.peer_answer-named.ensures x) in
+    let small : length c.args.out.now < 18446744073709551616 = search rules in
+    places-kept c.refused.result a.pending.now a.circuits.now l₀ a.inflight.now a.out.now
+    a.places c.refused.ensures.1
+    ∙ turned_away a.runtime (held_pending a.places a.pending.now) (held_circuits a.places a.circuits.now)
+    l (held_actions a.places a.inflight.now) a.out.now c.refused.result c.first_refusal-answer.result _
+    (disconnect_peer w (peer_of a.peer.now)) c.refused.ensures.0
+    (sym c.is_taken.ensures ∙ c.if-is_taken.false) answer
+    ∙ whole a.out.now w call (omega arith) (omega arith)

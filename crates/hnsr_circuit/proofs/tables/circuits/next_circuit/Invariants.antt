@@ -1,0 +1,21 @@
+-- `next_circuit` meets its contract: what is left of the turn, from the best so far, gives the whole; past the number
+-- no record is offered.
+use mathlib.Core.Path.{◌≡◌}
+use Prim.Native.Nat.{◌-◌, ◌≤◌}
+use lib.ListN.{length, drop}
+use Rattle.hns_encoding.specs.Loops.{fold_from}
+use Rattle.hnsr_circuit.specs.Table.{next_turn, next}
+use Rattle.hnsr_circuit.specs.Circuits.{clear_circuit, circuit_id}
+use Rattle.hnsr_circuit.specs.Code.Question.{circuit_has}
+use Rattle.hnsr_circuit.specs.Code.Held.{held}
+use Rattle.hnsr_circuit.proofs.tables.circuits.next_circuit.Given as goal
+
+abbrev pub invariant-loop-i : goal.invariant-loop-i
+invariant-loop-i l =
+    (l.i ≤ l.initial.end)
+    × (l.initial.end ≤ length l.circuits)
+    × (fold_from (next_turn circuit_id (circuit_has l.question l.peer) l.cursor) (drop l.i (held clear_circuit l.initial.end l.circuits)) l.i l.best
+    ≡ (next circuit_id (circuit_has l.question l.peer) l.cursor (held clear_circuit l.initial.end l.circuits)))
+
+abbrev pub decreases-loop-i : goal.decreases-loop-i
+decreases-loop-i l = length l.circuits - l.i

@@ -1,0 +1,53 @@
+-- `spare_circuit` meets its contract: the first `i` records are used, and past the number none is.
+use mathlib.Core.Path.{refl, sym, ap, ◌∙◌}
+use mathlib.Core.Bool.{not, true}
+use Prim.Native.Nat.{ℕ, ◌-◌}
+use native.Mathlib.Omega.{arith}
+use Rattle.hns_encoding.specs.Sums.{non}
+use Rattle.hnsr_circuit.specs.Table.{place_of}
+use Rattle.hnsr_circuit.specs.Circuits.{no_circuit, clear_circuit, is_circuit}
+use Rattle.hnsr_circuit.specs.Code.Held.{held}
+use Rattle.hnsr_circuit.specs.Laws.Held.{held-min, find_rest, held_find_next, held_find_here}
+use Rattle.hnsr_circuit.proofs.tables.circuits.spare_circuit.Goals as goal
+
+pub returns-then-no : goal.returns-then-no
+returns-then-no c =
+    let a = c.args in
+    let t = a.circuits.now in
+    let n = c.min_usize-end.result in
+    let l = c.loop-i in
+    let p = non is_circuit in
+    let less = c.loop-i-test.true in
+    let most = l.invariant.1 in
+    let seen = ap (λ (m : ℕ). held clear_circuit m t) c.min_usize-end.ensures
+    ∙ held-min clear_circuit a.places.circuits t in
+    held_find_here clear_circuit n t _ l.i (omega arith) (omega arith) p (place_of p (held clear_circuit n t))
+    (sym (ap not c.is_circuit-used.ensures) ∙ sym c.no.ensures ∙ c.if-no.true) l.invariant.2
+    ∙ ap (place_of p) seen
+
+pub loop-i-preserved : goal.loop-i-preserved
+loop-i-preserved c =
+    let a = c.args in
+    let t = a.circuits.now in
+    let n = c.min_usize-end.result in
+    let l = c.loop-i in
+    let p = non is_circuit in (
+      omega arith,
+      l.invariant.1,
+      held_find_next clear_circuit n t _ l.i (omega arith) (omega arith) p (place_of p (held clear_circuit n t))
+          (sym (ap not c.is_circuit-used.ensures) ∙ sym c.no.ensures ∙ c.if-no.false) l.invariant.2,
+    )
+
+pub returns : goal.returns
+unfolding is_circuit
+returns c =
+    let a = c.args in
+    let t = a.circuits.now in
+    let n = c.min_usize-end.result in
+    let l = c.loop-i in
+    let p = non is_circuit in
+    let seen = ap (λ (m : ℕ). held clear_circuit m t) c.min_usize-end.ensures
+    ∙ held-min clear_circuit a.places.circuits t in
+    find_rest clear_circuit p true (λ x. refl) n t l.i
+    (place_of p (held clear_circuit n t)) (λ h. omega arith) (omega arith) l.invariant.2
+    ∙ ap (place_of p) seen

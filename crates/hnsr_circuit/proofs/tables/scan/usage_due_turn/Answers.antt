@@ -1,0 +1,13 @@
+-- The expiry of a used record.
+use Rattle.hnsr_circuit.specs.NextDue.{due_turn}
+use Rattle.hnsr_circuit.specs.Ledger.{is_usage}
+use Rattle.hnsr_circuit.proofs.tables.scan.usage_due_turn.Goals as goal
+
+pub returns-then-row : goal.returns-then-row
+unfolding due_turn is_usage
+returns-then-row c =
+    rw c.if-row.true c.earlier.ensures
+
+pub returns : goal.returns
+unfolding due_turn is_usage
+returns c = rw c.if-row.false

@@ -1,10 +1,11 @@
 // Writes a field of each width into sixteen bytes, prints them and the words that they fill, reads the fields back, and
 // reads one too many.
 #![tactic(auto)]
+
 use hns_encoding::decoder::{Finish, ReadU8, ReadU16, ReadU32, ReadU64};
 use hns_encoding::encoder::Put;
 use hns_encoding::{DecodeError, Decoder, Encoder};
-use libc::STDOUT_FILENO;
+use std::io;
 
 // The cursor behind a field, or where it stood if there was no room.
 fn behind(put: Put) -> Encoder {
@@ -14,112 +15,106 @@ fn behind(put: Put) -> Encoder {
     }
 }
 
-fn say(text: &[u8], number: u64) {
-    io::write_all(STDOUT_FILENO, text);
-    io::print_decimal(STDOUT_FILENO, number);
-    io::write_all(STDOUT_FILENO, b"\n");
+fn say(rt: &impl Print, text: &str, number: u64) -> io::Result<()> {
+    println!(rt; "{text}{number}")
 }
 
-fn say_error(error: DecodeError) {
+fn say_error(rt: &impl Print, error: DecodeError) -> io::Result<()> {
     match error {
         DecodeError::UnexpectedEnd { offset, needed } => {
-            say(b"ends early at ", offset as u64);
-            say(b"missing ", needed as u64);
+            say(rt, "ends early at ", offset as u64)?;
+            say(rt, "missing ", needed as u64)
         }
-        DecodeError::TrailingBytes { remaining } => say(b"trailing ", remaining as u64),
+        DecodeError::TrailingBytes { remaining } => say(rt, "trailing ", remaining as u64),
     }
 }
 
-fn say_byte(byte: u8) {
-    io::print_hex(STDOUT_FILENO, byte as u64, 2);
-    io::write_all(STDOUT_FILENO, b" ");
+fn say_byte(rt: &impl Print, byte: u8) -> io::Result<()> {
+    print!(rt; "{byte:02x} ")
 }
 
-fn say_word(word: u32) {
-    io::print_hex(STDOUT_FILENO, word as u64, 8);
-    io::write_all(STDOUT_FILENO, b" ");
+fn say_word(rt: &impl Print, word: u32) -> io::Result<()> {
+    print!(rt; "{word:08x} ")
 }
 
-fn end_line() {
-    io::write_all(STDOUT_FILENO, b"\n");
+fn end_line(rt: &impl Print) -> io::Result<()> {
+    println!(rt;)
 }
 
-fn print_bytes(bytes: &[u8]) {
+fn print_bytes(rt: &impl Print, bytes: &[u8]) -> io::Result<()> {
     let mut i = 0;
     while i < bytes.len() {
-        say_byte(bytes[i]);
+        say_byte(rt, bytes[i])?;
         i += 1;
     }
-    end_line();
+    end_line(rt)
 }
 
-fn print_words(words: &[u32]) {
+fn print_words(rt: &impl Print, words: &[u32]) -> io::Result<()> {
     let mut i = 0;
     while i < words.len() {
-        say_word(words[i]);
+        say_word(rt, words[i])?;
         i += 1;
     }
-    end_line();
+    end_line(rt)
 }
 
-fn read_u8(d: Decoder, input: &[u8]) -> Decoder {
+fn read_u8(rt: &impl Print, d: Decoder, input: &[u8]) -> io::Result<Decoder> {
     match d.read_u8(input) {
         ReadU8::Ok(n, next) => {
-            say(b"u8 ", n as u64);
-            next
+            say(rt, "u8 ", n as u64)?;
+            Ok(next)
         }
         ReadU8::Err(error) => {
-            say_error(error);
-            d
+            say_error(rt, error)?;
+            Ok(d)
         }
     }
 }
 
-fn read_u16(d: Decoder, input: &[u8]) -> Decoder {
+fn read_u16(rt: &impl Print, d: Decoder, input: &[u8]) -> io::Result<Decoder> {
     match d.read_u16_le(input) {
         ReadU16::Ok(n, next) => {
-            say(b"u16 ", n as u64);
-            next
+            say(rt, "u16 ", n as u64)?;
+            Ok(next)
         }
         ReadU16::Err(error) => {
-            say_error(error);
-            d
+            say_error(rt, error)?;
+            Ok(d)
         }
     }
 }
 
-fn read_u32(d: Decoder, input: &[u8]) -> Decoder {
+fn read_u32(rt: &impl Print, d: Decoder, input: &[u8]) -> io::Result<Decoder> {
     match d.read_u32_le(input) {
         ReadU32::Ok(n, next) => {
-            say(b"u32 ", n as u64);
-            next
+            say(rt, "u32 ", n as u64)?;
+            Ok(next)
         }
         ReadU32::Err(error) => {
-            say_error(error);
-            d
+            say_error(rt, error)?;
+            Ok(d)
         }
     }
 }
 
-fn read_u64(d: Decoder, input: &[u8]) -> Decoder {
+fn read_u64(rt: &impl Print, d: Decoder, input: &[u8]) -> io::Result<Decoder> {
     match d.read_u64_le(input) {
         ReadU64::Ok(n, next) => {
-            say(b"u64 ", n);
-            next
+            say(rt, "u64 ", n)?;
+            Ok(next)
         }
         ReadU64::Err(error) => {
-            say_error(error);
-            d
+            say_error(rt, error)?;
+            Ok(d)
         }
     }
 }
 
-fn finish(d: Decoder, input: &[u8]) {
+fn finish(rt: &impl Print, d: Decoder, input: &[u8]) -> io::Result<()> {
     match d.finish(input) {
-        Finish::Ok => {
-            io::write_all(STDOUT_FILENO, b"read whole\n");
-        }
-        Finish::Err(error) => say_error(error),
+        Finish::Ok => println!(rt; "read whole"),
+        Finish::Err(error) => say_error(rt, error),
     }
 }
 
@@ -130,27 +125,27 @@ fn write_fields(bytes: &mut [u8; 16]) -> usize {
     behind(c.put_u64_le(bytes, 0x0123_4567_89ab_cdef)).position
 }
 
-fn print_both(bytes: &[u8; 16]) {
-    print_bytes(bytes);
+fn print_both(rt: &impl Print, bytes: &[u8; 16]) -> io::Result<()> {
+    print_bytes(rt, bytes)?;
     let mut words = [0u32; 4];
     behind(Encoder::new().put_bytes_as_words(&mut words, bytes));
-    print_words(&words);
+    print_words(rt, &words)
 }
 
-fn read_fields(bytes: &[u8; 16]) {
-    let end = read_u64(
-        read_u32(read_u16(read_u8(Decoder::new(), bytes), bytes), bytes),
-        bytes,
-    );
-    finish(end, bytes);
-    finish(read_u16(end, bytes), bytes);
-    finish(read_u8(end, bytes), bytes);
+fn read_fields(rt: &impl Print, bytes: &[u8; 16]) -> io::Result<()> {
+    let a = read_u8(rt, Decoder::new(), bytes)?;
+    let b = read_u16(rt, a, bytes)?;
+    let c = read_u32(rt, b, bytes)?;
+    let end = read_u64(rt, c, bytes)?;
+    finish(rt, end, bytes)?;
+    finish(rt, read_u16(rt, end, bytes)?, bytes)?;
+    finish(rt, read_u8(rt, end, bytes)?, bytes)
 }
 
-fn main() {
+fn main(rt: HostRuntime) -> io::Result<()> {
     let mut bytes = [0u8; 16];
     let written = write_fields(&mut bytes);
-    say(b"written up to ", written as u64);
-    print_both(&bytes);
-    read_fields(&bytes);
+    say(&rt, "written up to ", written as u64)?;
+    print_both(&rt, &bytes)?;
+    read_fields(&rt, &bytes)
 }

@@ -10,17 +10,14 @@ use hnsr_circuit::calls::handle::handle;
 use hnsr_circuit::calls::silent::new;
 use hnsr_circuit::records::{InflightAction, RelayCircuit, RelayPending, ReservationUsage};
 use hnsr_circuit::runtime::{RelayPacket, Relayed};
-use libc::STDOUT_FILENO;
+use std::io;
 
 fn put_head(body: &mut [u8], head: [u8; 5]) {
     Encoder { position: 0 }.put_bytes(body, &head);
 }
 
-fn say(case: u8, answer: u64) {
-    io::print_decimal(STDOUT_FILENO, case as u64);
-    io::write_all(STDOUT_FILENO, b" ");
-    io::print_decimal(STDOUT_FILENO, answer);
-    io::write_all(STDOUT_FILENO, b"\n");
+fn say(rt: &impl Print, case: u8, answer: u64) -> io::Result<()> {
+    println!(rt; "{case} {answer}")
 }
 
 // A packet on the circuit, from one peer.
@@ -231,6 +228,7 @@ pub(crate) fn again(
 }
 
 pub(crate) fn one_case(
+    rt: &impl Print,
     pending: &mut [RelayPending],
     circuits: &mut [RelayCircuit],
     ledger: &mut [ReservationUsage],
@@ -238,25 +236,27 @@ pub(crate) fn one_case(
     out: &mut [u32],
     body: &mut [u8],
     case: u8,
-) {
+) -> io::Result<()> {
     let script = script_of(case);
     let head = head_of(case);
     put_head(body, head);
     let answer = run_case(pending, circuits, ledger, inflight, out, body, script);
-    say(case, answer);
+    say(rt, case, answer)
 }
 
 pub(crate) fn run_all(
+    rt: &impl Print,
     pending: &mut [RelayPending],
     circuits: &mut [RelayCircuit],
     ledger: &mut [ReservationUsage],
     inflight: &mut [InflightAction],
     out: &mut [u32],
     body: &mut [u8],
-) {
+) -> io::Result<()> {
     let mut case: u8 = 1;
     while case < 17 {
-        one_case(pending, circuits, ledger, inflight, out, body, case);
+        one_case(rt, pending, circuits, ledger, inflight, out, body, case)?;
         case += 1;
     }
+    Ok(())
 }

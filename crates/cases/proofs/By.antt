@@ -1,6 +1,0 @@
-pub mod InflightAction
-pub mod RelayCircuit
-pub mod RelayPending
-pub mod ReservationUsage
-pub mod machine
-pub mod main

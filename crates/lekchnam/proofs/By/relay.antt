@@ -1,9 +1,0 @@
-pub mod opaque_relay_acknowledge
-pub mod opaque_relay_disconnect
-pub mod opaque_relay_expire
-pub mod opaque_relay_handle
-pub mod opaque_relay_new
-pub mod opaque_relay_next_due
-pub mod opaque_relay_replace_enabled
-pub mod opaque_relay_revoke_reservation
-pub mod opaque_relay_status

@@ -156,7 +156,7 @@ pub extern "C" fn opaque_relay_new(
         (held_circuits result.places circuits.now) (held_ledger result.places ledger.now)
         (held_actions result.places inflight.now)
         (start (world_of h pending.now circuits.now ledger.now inflight.now)
-        (record { session = session.entry.now; generation = generation; config = config; now = time })) }
+        (record { session = session.now; generation = generation; config = config; now = time })) }
 {
     let name = *session;
     let made = new(

@@ -8,17 +8,18 @@ use std::process::{Command, Output};
 const RT: &str = r#"#!/bin/sh
 case $1 in
 version) cat version ;;
-staticlib)
-    echo "$2" >>made
-    [ ! -f broken ] || { echo "rt: $2 NOT PROVED"; exit 1; }
-    mkdir -p target/staticlib
-    cat crates/*/src/lib.rt >"target/staticlib/lib$2.a"
-    echo "rt: made"
+lib)
+    crate=$(basename "$PWD")
+    echo "$crate" >>../../made
+    [ ! -f ../../broken ] || { echo "rt: $crate NOT PROVED"; exit 1; }
+    mkdir -p out
+    cat ../*/src/lib.rt >"out/lib$crate.a"
+    echo "logic=proved"
     ;;
 esac
 "#;
 
-const CRATES: &str = "# what the crates stand on\nbase:\nmiddle: base\nlekchnam: middle io # of the kit\nother: base\n";
+const CRATES: &str = "# what the crates stand on\nbase:\nmiddle: base\nlekchnam staticlib: middle io # of the kit\nother: base\n";
 
 /// A project of four crates; the archive's stands on two of them.
 struct Project(PathBuf);

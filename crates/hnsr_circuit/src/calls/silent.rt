@@ -37,7 +37,7 @@ use crate::tables::circuits::{circuit_due, circuit_totals};
 use crate::tables::inflight::scan_actions;
 use crate::tables::ledger::usage_due;
 use crate::tables::pending::{count_pending, pending_due};
-use crate::tables::places::{Places, every_place, no_place_lem};
+use crate::tables::places::{Places, every_place, no_place};
 use crate::tables::scan::{ActionQuestion, CircuitTotals, InflightTally};
 use hns_encoding::logic::either;
 use hnsr_body::values::is_zero;
@@ -93,7 +93,7 @@ pub fn new(
     let answer = new_answer(session, generation, config, few, ledger.len());
     let runtime = new_runtime(session, generation, config, time);
     if is_taken(answer) {
-        let none = no_place_lem();
+        let none = no_place();
         return taken_with(runtime, none);
     }
     let off = no_runtime();

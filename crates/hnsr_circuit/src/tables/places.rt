@@ -38,7 +38,7 @@ pub(crate) fn places_of(pending: usize, circuits: usize, ledger: usize, actions:
 }
 
 // None is in use: a table's marks mean nothing.
-pub(crate) fn no_place_lem() -> Places
+pub(crate) fn no_place() -> Places
     ensures { result ≡ no_place }
 {
     Places {

@@ -32,7 +32,7 @@ returns-then-is_taken c =
     λ h.
     let a = c.args in
     let e = c.taken_with.ensures in
-    let k = e.1 ∙ c.no_place_lem-none.ensures in
+    let k = e.1 ∙ c.no_place-none.ensures in
     let t = sym c.is_taken.ensures ∙ c.if-is_taken.true in
     empties h _ a.pending.now _ a.circuits.now _ a.ledger.now _ a.inflight.now _
     c.taken_with.result c.new_answer-answer.result _

@@ -14,7 +14,7 @@ use Rattle.hnsr_circuit.specs.Code.Turns.{actions_scanned, no_scan, scanned, sca
 use Rattle.hnsr_circuit.specs.Code.Held.{held}
 use Rattle.hnsr_circuit.specs.declared.tables.scan.ActionScan.{ActionScan}
 use Rattle.hnsr_circuit.specs.Laws.Turns.{tally-none, tally-most, scan_fold}
-use Rattle.hnsr_circuit.specs.Laws.HeldTables.{scan-rest}
+use Rattle.hnsr_circuit.specs.Laws.HeldTables.{scan_rest}
 use Rattle.hnsr_circuit.specs.Laws.Held.{length-held, held-min, held_at, clear-rest, held-clear-step}
 use Rattle.hnsr_circuit.specs.Laws.Scans.{map-here, stored_there}
 use Rattle.hnsr_circuit.specs.declared.records.InflightAction.{InflightAction}
@@ -105,7 +105,7 @@ returns c =
       sym kept ∙ done ∙ same,
       c.spared.ensures
           ∙ ap (λ (m : ℕ). scan_spared l.scan l.i m) (sym l.invariant.2)
-          ∙ scan-rest q n t l.i l.scan (actions_scanned q u) (λ h. omega arith) (omega arith)
+          ∙ scan_rest q n t l.i l.scan (actions_scanned q u) (λ h. omega arith) (omega arith)
           (ap (λ (x : List InflightAction). fold_from (scanned q) (drop l.i x) l.i l.scan) done ∙ l.invariant.5)
           ∙ ap (actions_scanned q) same,
     )

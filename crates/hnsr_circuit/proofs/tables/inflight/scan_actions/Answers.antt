@@ -10,7 +10,7 @@ use Rattle.hnsr_circuit.specs.Code.Turns.{actions_scanned, no_scan, scanned}
 use Rattle.hnsr_circuit.specs.Code.Held.{held}
 use Rattle.hnsr_circuit.specs.declared.tables.scan.ActionScan.{ActionScan}
 use Rattle.hnsr_circuit.specs.Laws.Turns.{tally-none, tally-most, scan_fold}
-use Rattle.hnsr_circuit.specs.Laws.HeldTables.{scan-rest}
+use Rattle.hnsr_circuit.specs.Laws.HeldTables.{scan_rest}
 use Rattle.hnsr_circuit.specs.Laws.Held.{length-held, held-min, held_fold_step}
 use Rattle.hnsr_circuit.proofs.tables.inflight.scan_actions.Goals as goal
 
@@ -49,7 +49,7 @@ returns c =
     let n = c.min_usize-end.result in
     let l = c.loop-i in
     c.spared.ensures
-    ∙ scan-rest a.question n t l.i l.scan (actions_scanned a.question (held clear_action n t))
+    ∙ scan_rest a.question n t l.i l.scan (actions_scanned a.question (held clear_action n t))
     (λ h. omega arith) (omega arith) l.invariant.3
     ∙ ap (actions_scanned a.question)
     (ap (λ (m : ℕ). held clear_action m t) c.min_usize-end.ensures ∙ held-min clear_action a.places.actions t)

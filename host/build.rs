@@ -4,7 +4,7 @@ use std::env;
 use std::path::PathBuf;
 
 const LIBRARY: &str = "lekchnam";
-/// The folder that has the archive, seen from this one; if it is not set or empty, where `host/archive` writes.
+/// The folder that has the archive, seen from this one; if it is not set or empty, where `host/archive` puts it.
 const SETTING: &str = "LEKCHNAM_STATICLIB";
 
 fn main() {

@@ -158,7 +158,7 @@ def formatted(crate_dir, files):
     for f in files:
         to = f'{tmp}/crates/c/' + os.path.relpath(f, crate_dir)
         os.makedirs(os.path.dirname(to), exist_ok=True); shutil.copy(f, to)
-    p = subprocess.run(['rt', 'fmt'], cwd=tmp, capture_output=True, text=True)
+    p = subprocess.run(['rt', 'fmt'], cwd=f'{tmp}/crates/c', capture_output=True, text=True)
     if p.returncode: raise SystemExit('rt fmt: ' + p.stdout + p.stderr)
     for f in files: shutil.copyfile(f'{tmp}/crates/c/' + os.path.relpath(f, crate_dir), f)
     shutil.rmtree(tmp)

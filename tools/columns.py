@@ -7,8 +7,8 @@
 A file keeps its tokens, save that a long `use` becomes several and that a list with an item to a line ends in a
 separator, as `rt fmt` writes it. A comment is filled again from its long line on. In a definition the lines that are
 short stay; a long one is broken at its outermost structure: after the `=`, after each `in`, before `→` and the
-operators, then between arguments, and within an argument only where it is longer than a line. A contract's fact
-begins a line of its own. The indentation is that of `rt fmt`, which has the last word.
+operators, then between arguments, and within an argument only where it is longer than a line. The indentation is that
+of `rt fmt`, which has the last word.
 """
 import os, re, subprocess, sys, tempfile
 from antt import WIDTH, formatted
@@ -406,12 +406,14 @@ def clause(lines):
     """a contract's clause: the fact on lines of its own"""
     ind = len(lines[0]) - len(lines[0].lstrip())
     items = tree(tokens(lines))
-    if len(items) != 2 or is_tok(items[1]) or items[1].o != '{' or items[1].sep: raise Odd('a clause of another form')
-    inner = items[1].parts[0]
+    *head, body = items
+    if len(head) not in (1, 2) or not all(map(is_tok, head)) or is_tok(body) or body.o != '{' or body.sep:
+        raise Odd('a clause of another form')
+    inner = body.parts[0]
     fact = inner[-1]
     page = Page(lines)
     page.cur = ' ' * ind
-    page.put(items[0] + ' {', False)
+    page.put(' '.join(head) + ' {', False)
     if is_tok(fact) or fact.o != '⌜': page.emit(inner, ind + 4, 2)
     else:
         if len(inner) > 1: page.emit(inner[:-1], ind + 4, 2)
@@ -433,7 +435,7 @@ def units(lines, rust):
         elif not line.strip(): yield '', lines[a:n]
         elif is_use(line): yield 'use', lines[a:n]
         elif rust:
-            if re.match(r'\s*(ensures|requires) \{', line):
+            if re.match(r'\s*(ensures|requires)\*?( \w+)? \{', line):
                 d = depth(line)
                 while d > 0 and n < len(lines): d += depth(lines[n]); n += 1
                 yield 'clause', lines[a:n]
@@ -494,7 +496,10 @@ def hand_written(paths):
 def laid_out(texts):
     """path to text: as `rt fmt` lays the files out"""
     with tempfile.TemporaryDirectory(prefix='columns-') as tmp:
-        names = {path: f'{tmp}/f{n}{os.path.splitext(path)[1]}' for n, path in enumerate(texts)}
+        part = {'.rt': 'src', '.antt': 'specs'}                           # rt fmt reads no other folders
+        for folder in part.values(): os.mkdir(f'{tmp}/{folder}')
+        ends = [(path, os.path.splitext(path)[1]) for path in texts]
+        names = {path: f'{tmp}/{part[end]}/f{n}{end}' for n, (path, end) in enumerate(ends)}
         for path, name in names.items(): open(name, 'w').write(texts[path])
         if names: formatted(tmp, list(names.values()))
         return {path: open(name).read() for path, name in names.items()}

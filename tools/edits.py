@@ -1,8 +1,7 @@
 """Edit files: `file:`, `old:`, `new:` lines, each `old` to be replaced in its file. refuted.py and wrong_readings.py
 try them. A text that stands in a file more than once has a `behind:` line in front: the first `old` behind that text is
-meant. `derive: m::f` names a function whose derivation is to be made anew for the edit: without that, an edit of a
-function that derive.py proves is refused for its stale derivation, whatever it means. (The must-fail edits are the
-kit's, which knows neither.)
+meant. (The must-fail edits are the kit's, which does not know it.) `derive: m::f` was a word of the older kit, for a
+function whose derivation derive.py had to make anew; no edit has it now.
 
     python3 tools/edits.py REPO     lists those that do not fit the files as they are; exit 1 where there is one
 """

@@ -6,8 +6,9 @@
     --check                        exit status 1 if there is one
 
 A name is used if it stands anywhere outside the `use` lines and the comments: alone, before a `.` or a `::`, in an
-`unfolding` line, in a pattern; an operator `_≡_`, also by its parts. A `pub use` and a `use M.*` are kept. This is a
-reader's guess: prove again after --write.
+`unfolding` line, in a pattern; an operator `◌≡◌`, also by its parts. A `pub use` and a `use M.*` are kept. This is a
+reader's guess: prove again after --write. (`rt tidy` drops those of .antt files, by what the check says, in a crate
+that is proved; this asks .rt files and crates that are not.)
 """
 import os, re, sys
 
@@ -16,7 +17,7 @@ USE = re.compile(r'^(?:ghost )?use (?P<path>[^\s{;]+?)(?:(?:\.|::)\{(?P<names>[^
 
 def stands(name, used):
     """a name, or every part of an operator"""
-    return name in used or bool(re.search(r'^_|_$', name)) and all(p in used for p in name.split('_') if p)
+    return name in used or '◌' in name and all(p in used for p in name.split('◌') if p)
 
 def seen(text, rust):
     """every name that stands in the text"""

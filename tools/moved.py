@@ -10,7 +10,7 @@ worked        specs/Worked: examples. All.antt, a list of names that tools/unfol
 types         structs, enums and constants of src/. Definitions are about those of the tables and of the answers.
 promises      of each function of src/: parameters, result, what it requires and what it ensures
 laws          the rest of specs/, with their proofs
-proofs        each Proof.antt of proofs/
+proofs        of each function its Answers.antt and its Invariants.antt in proofs/; in an older commit its Proof.antt
 
 Two texts are the same where their tokens are. Comments, line breaks, spaces, imports and the separator that ends a list
 do not count; nor do `pub`, `abbrev` and `unfoldable`, and in a definition `unfolding`: they say who sees a name and
@@ -28,6 +28,7 @@ FOLDERS = {"Code": "model", "Worked": "worked"}  # of specs/, beside Laws
 FATES = ["stayed", "moved", "changed", "new", "gone"]
 BELIEVED = {"hnsr_run": ["Past", "History", "Claim", "Waking"]}  # where it is not all of specs/ without Laws
 WRITTEN_BY_A_TOOL = "All.antt"
+PROOFS = ["Answers.antt", "Invariants.antt", "Proof.antt"]
 SEEN_OR_OPENED = {"pub", "abbrev", "unfoldable"}
 
 Item = collections.namedtuple("Item", "kind crate name file tokens text")
@@ -61,7 +62,7 @@ def items(commit):
         file = "/".join(folders)
         if part == "src":
             yield from (Item(kind, crate, name, file, *compared) for kind, name, compared in of_source(text))
-        elif part == "proofs" and file.endswith("/Proof.antt"):
+        elif part == "proofs" and len(folders) > 1 and folders[-1] in PROOFS:
             proof = "\n".join(block for _, block, _ in declarations(text))
             yield Item("proofs", crate, folders[-2], file, tokens(proof), proof)
         elif part == "specs" and folders[-1] != WRITTEN_BY_A_TOOL:
@@ -80,7 +81,8 @@ def imported(texts, crate, modules):
         path = f"crates/{crate}/specs/{module.replace('.', '/')}.antt"
         if module not in reached and path in texts:
             reached.add(module)
-            todo += re.findall(rf"^\s*(?:pub )?use Rattle·{crate}·specs\.specs\.([\w.]*\w)", texts[path], re.M)
+            own = rf"Rattle(?:\.{crate}|·{crate}·specs)\.specs\."
+            todo += re.findall(rf"^\s*(?:pub )?use {own}([\w.]*\w)", texts[path], re.M)
     return reached
 
 
@@ -89,7 +91,7 @@ def tokens(text):
     """The path of a module in front of a name does not count, nor does a separator before a closing bracket."""
     text = re.sub(r"[;,](?=\s*[)}\]])", "", re.sub(r"(^|\s)--.*", r"\1", text))
     words = re.findall(r"[(){}\[\];,]|[^\s(){}\[\];,]+", text)
-    return [re.sub(r"^Rattle·\S*\.", "", word) for word in words if word not in SEEN_OR_OPENED]
+    return [re.sub(r"^Rattle[·.]\S*\.", "", word) for word in words if word not in SEEN_OR_OPENED]
 
 
 def declarations(text):
@@ -150,7 +152,7 @@ def end_of(text, at, keyword):
     """Where a declaration ends; a function at its body's brace, behind `requires {..}` and `ensures {..}`."""
     while True:
         brace = BRACE_OR_END.search(text, at)
-        clause = re.search(r"^\s*\w+\s*\Z", text[text.rfind("\n", 0, brace.start()) + 1:brace.start()])
+        clause = re.search(r"^\s*\w+\*?(?: \w+)?\s*\Z", text[text.rfind("\n", 0, brace.start()) + 1:brace.start()])
         if brace.group() == ";" or (keyword == "fn" and not clause):
             return brace.start()
         at, depth = brace.end(), 1

@@ -3,13 +3,12 @@
 
     python3 tools/refuted.py [CRATE | CRATE/EDIT ..]
 
-An edit has the form that edits.py reads. It is applied to a copy of the project, with the derivations that it says to
-make anew, checked there by `rt dev`, which takes over what stays as it is, and undone. For each edit the first error is
-printed that does not follow from another: whether a fact failed, and not a name, is for the reader to see. Exit 1 where
-an edit is not refused, or did not reach the prover.
+An edit has the form that edits.py reads. It is applied to a copy of the project, checked there by `rt check`, which
+begins with what was kept of the crate, and undone. For each edit the first error is printed that does not follow from
+another: whether a fact failed, and not a name, is for the reader to see. Exit 1 where an edit is not refused, or did
+not reach the prover.
 The must-fail edits are those that the gate tries; these are too many for it.
 """
-import contextlib
 import pathlib
 import re
 import shutil
@@ -17,56 +16,44 @@ import subprocess
 import sys
 import tempfile
 
-from edits import BadEdit, applied, derived
+from edits import BadEdit, applied
+
+# what antt says of a text that it cannot read, rather than of a fact that fails
+UNREAD = re.compile(r": error: .*(is not in scope|has no field|is no name|operand is missing|expected the end)")
 
 
 def check(root, crate):
     """What was said of a crate, proved or not."""
-    run = subprocess.run(["rt", "dev", crate], cwd=root, capture_output=True, text=True)
+    run = subprocess.run(["rt", "check"], cwd=root / "crates" / crate, capture_output=True, text=True)
     return run.stdout + run.stderr
 
 
 def verdict(said, root):
     """The prover's verdict in words, and whether it refused."""
-    if "\nlogic=proved" in said:
+    last = ([line for line in said.splitlines() if line.startswith("logic=")] or [""])[-1]
+    if last.startswith("logic=proved"):
         return "NOT REFUSED", False
-    if "\nlogic=not-proved" in said:
-        return "refused: " + first_error(said, root), True
-    return "BAD EDIT: it did not reach the prover: " + first_error(said, root), False
+    first = first_error(said, root)
+    if not last.startswith("logic=not-proved"):
+        return "BAD EDIT: it did not reach the prover: " + first, False
+    if UNREAD.search(first):
+        return "BAD EDIT: the prover cannot read it: " + first, False
+    return "refused: " + first, True
 
 
 def first_error(said, root):
     """The first line that says what is wrong, without the folder of the copy."""
     lines = [line for line in said.replace(f"{root}/", "").splitlines()
-             if re.search(r": error: |is not proved that|: no proof: ", line)]
-    own = [line for line in lines if "was not admitted" not in line]  # a caller's error follows from its callee's
+             if re.search(r": error: |\berror\[|is not proved that|: no proof: ", line)]
+    # a caller's error follows from its callee's
+    own = [line for line in lines if "was not admitted" not in line and "which is not proved" not in line]
     return (own or lines or ["nothing was said"])[0][:300]
-
-
-@contextlib.contextmanager
-def derived_anew(root, crate, functions):
-    """The derivations of some functions made anew, and the old ones put back at the end."""
-    proofs = root / "crates" / crate / "proofs"
-    with tempfile.TemporaryDirectory() as folder:
-        kept = pathlib.Path(folder) / "proofs"
-        if functions:
-            shutil.copytree(proofs, kept)
-            tool = pathlib.Path(__file__).with_name("derive.py")
-            run = subprocess.run([sys.executable, tool, root, crate, *functions], capture_output=True, text=True)
-            if run.returncode:
-                raise BadEdit(f"no derivation: {run.stdout}{run.stderr}"[:300])
-        try:
-            yield
-        finally:
-            if functions:
-                shutil.rmtree(proofs)
-                shutil.copytree(kept, proofs)
 
 
 def tried(root, crate, edit):
     """Applies an edit, checks, undoes it: whether it was refused."""
     try:
-        with applied(edit, root / "crates" / crate), derived_anew(root, crate, derived(edit)):
+        with applied(edit, root / "crates" / crate):
             words, refused = verdict(check(root, crate), root)
     except BadEdit as bad:
         words, refused = f"BAD EDIT: {bad}", False
@@ -92,9 +79,7 @@ def main():
     with tempfile.TemporaryDirectory() as folder:
         root = pathlib.Path(folder)
         shutil.copy(project / "crates.txt", root)
-        shutil.copytree(project / "crates", root / "crates")
-        if (project / "target").is_dir():
-            shutil.copytree(project / "target", root / "target")
+        shutil.copytree(project / "crates", root / "crates", ignore=shutil.ignore_patterns("out"))
         good = True
         for crate, edits in edits_of:
             words, _ = verdict(check(root, crate), root)

@@ -18,7 +18,7 @@ PAGE = "docs/RULES.md"
 CRATE = "hnsr_circuit"
 RULE = re.compile(r"^(?:- |\| )\*\*([A-Z]+)\.(\d+)\*\*", re.M)
 CITED = re.compile(r"\b[A-Z]{2,}\.[1-9]\d*\b")
-NAMED = re.compile(r"([`*])((?:[a-z]\w*\.)?(?:[A-Z]\w*\.)+[A-Za-z_][\w-]*)\1")
+NAMED = re.compile(r"([`*])((?:[a-z]\w*\.)?(?:[A-Z]\w*\.)+[A-Za-z_◌][\w◌'-]*)\1")
 # what begins a comment; "": the whole text counts
 COMMENT = {".antt": "--", ".rt": "//", ".rs": "//", ".c": "", ".h": "", ".py": "", ".sh": "#", ".md": "", ".edit": ""}
 

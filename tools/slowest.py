@@ -3,10 +3,11 @@
 
     python3 tools/slowest.py CRATE [N]      the N slowest (30), and what the seconds go to
 
-Proves the crate with `rt dev` from nothing. That saves each module as soon as it is checked, so the time between two
-saved files is the second one's. A function's seconds are those of all its modules: its code, its derivation (Lts,
-written by derive.py or made by Rattle), Tie, At, Proof. Run it with nothing beside it; what the crate stands on must be
-proved before.
+Proves the crate with `rt check` by one job, from nothing: crates/CRATE/out is removed. That saves each module as soon
+as it is checked, so the time between two saved files is the second one's. A function's seconds are those of all its
+modules: its code, its derivation (Lts), what Rattle makes of its goals (Goals, Given, Proof), Invariants, Answers. Run
+it with nothing beside it; what the crate stands on must be built before (`rt lib`). Where another checkout on this
+machine has kept work of the crate, rt begins with that, and the figures would say nothing: then this stops.
 """
 import collections
 import pathlib
@@ -16,21 +17,18 @@ import subprocess
 import sys
 
 LONGEST = 60  # seconds: a longer pause between two files is not a module's
-MODULE = re.compile(r"(?P<path>.+?)\.(?P<kind>Lts|Reads|Kinds|Tie|At|Proof|Code|Statement|Met|Key|Symbol|Layout)\b.*")
+KINDS = "Lts|Reads|Kinds|Goals|Given|Invariants|Answers|Proof|Tie|Code|Statement|Met|Key|Symbol|Layout"
+MODULE = re.compile(rf"(?P<path>.+?)\.(?P<kind>{KINDS})\b.*")
 
 
 def owner(name):
     """The function or file that a saved module belongs to, and which part of it the module is."""
-    part = name.removesuffix(".oantt").split("·", 1)[-1]
-    if not re.match(r"\w+·proofs\.proofs\.", part):
+    part = re.sub(r"^Rattle[-.]", "", name.removesuffix(".oantt"))
+    found = re.match(r"\w+[-.]proofs\.(.+)", part)
+    if not found:
         return part, "specs"
-    path = part.split(".proofs.", 1)[1].removeprefix("By.")
-    module = MODULE.fullmatch(path)
-    if not module:
-        return path, "other"
-    rest = path[len(module["path"]) + 1:]
-    kind = next((k for k in ("At", "Tie") if rest == f"Proof.{k}"), module["kind"])
-    return module["path"], kind
+    module = MODULE.fullmatch(found[1])
+    return (module["path"], module["kind"]) if module else (found[1], "other")
 
 
 def spent(folder):
@@ -48,13 +46,15 @@ def spent(folder):
 
 def main():
     crate, most = sys.argv[1], int(sys.argv[2]) if len(sys.argv) > 2 else 30
-    root = pathlib.Path(__file__).resolve().parent.parent
-    folder = root / "target" / "inc" / crate
-    shutil.rmtree(folder, ignore_errors=True)
-    quiet = {"stdout": subprocess.DEVNULL, "stderr": subprocess.DEVNULL}
-    if subprocess.run(["rt", "dev", crate], cwd=root, **quiet).returncode:
+    folder = pathlib.Path(__file__).resolve().parent.parent / "crates" / crate
+    shutil.rmtree(folder / "out", ignore_errors=True)
+    run = subprocess.run(["rt", "check", "--jobs", "1"], cwd=folder, capture_output=True, text=True)
+    if run.returncode:
         sys.exit(f"slowest: {crate} is not proved")
-    functions, parts = spent(next(folder.glob("antt-checked-*")))
+    if f"rt: {crate}: begins with what a check kept" in run.stdout + run.stderr:
+        sys.exit(f"slowest: rt began with what a check of {crate} kept in another checkout")
+    functions, parts = spent(next(path for path in folder.glob("out/incremental/antt-checked-*")
+                                  if not path.name.endswith("-offers")))
     total = sum(functions.values())
     print(f"{crate}: {total:.0f} s in {len(functions)} functions and files")
     for part, seconds in parts.most_common():

@@ -11,7 +11,7 @@ FILLED = "a comment that is longer than the width, which is filled again"
 ROW = "a row of a table stays a row, and goes on under its own text"
 FIVE = "one-name, two-name, three-name, four-name, five-name"
 MORE = "six-name, seven-name, eight-name, nine-name"
-HANDED = "handed r (now (pending .exit)) (now (out .exit))"
+HANDED = "handed result (rows_of pending.new) (words_of out.new)"
 ANTT = f"""\
 -- {FILLED} from its long line on, together with the line after it,
 -- this one, but not with what is said apart:
@@ -91,8 +91,8 @@ RUST = f"""// code
 ghost use some.Module.{{{FIVE}, {MORE}}};
 
 pub fn f(a: u64) -> u64
-    requires {{ ⌜ a < 5 ⌝ }}
-    ensures {{ λ r. ⌜ (({W} : List ℕ) → {HANDED} ≡ ending (now (out .entry)) a) ⌝ }}
+    requires {{ a < 5 }}
+    ensures ok {{ ({W} : List ℕ) → {HANDED} ≡ ending out.old a }}
 {{
     a
 }}
@@ -102,10 +102,9 @@ ghost use some.Module.{{{FIVE}}};
 ghost use some.Module.{{{MORE}}};
 
 pub fn f(a: u64) -> u64
-    requires {{ ⌜ a < 5 ⌝ }}
-    ensures {{ λ r. ⌜
-        (({W} : List ℕ)
-        → {HANDED} ≡ ending (now (out .entry)) a) ⌝ }}
+    requires {{ a < 5 }}
+    ensures ok {{ ({W} : List ℕ)
+        → {HANDED} ≡ ending out.old a }}
 {{
     a
 }}

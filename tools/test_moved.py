@@ -11,11 +11,11 @@ MOVED = pathlib.Path(__file__).resolve().parent / "moved.py"
 
 
 def promising(name, fact):
-    return f"fn {name}(a: u64) -> u64\n    ensures {{ λ r. ⌜ {fact} ⌝ }}\n{{\n    a\n}}\n"
+    return f"fn {name}(a: u64) -> u64\n    ensures {{ {fact} }}\n{{\n    a\n}}\n"
 
 
 def proof(path, text):
-    return f"use {path}.Statement.{{statement}}\nproof : statement\nproof = {text}\n"
+    return f"use {path}.Goals as goal\npub returns : goal.returns\nreturns c = {text}\n"
 
 
 def number(name, value):
@@ -25,7 +25,7 @@ def number(name, value):
 OLD = {
     "crates/low/specs/Sums.antt": """
 -- a comment
-use Prim.Native.Nat.{ℕ, _+_}
+use Rattle.std.specs.Prelude.{ℕ, ◌+◌}
 pub mod Other
 
 unfoldable pub laidOut : ℕ → ℕ
@@ -57,7 +57,7 @@ module _ (A : Type 0) where
 pub data Gone : Type 0 where
   only : Gone
 
-_then_ : ℕ → ℕ → ℕ
+◌then◌ : ℕ → ℕ → ℕ
 a then b = a
 """,
     "crates/low/specs/Worked/All.antt": number("machine", 1),
@@ -76,14 +76,15 @@ pub struct Kept {
 
 // Same promise, another body.
 pub(crate) fn body_only(a: u64, session: [u8; 16]) -> u64
-    requires { ⌜ a < 5 ⌝ }
-    ensures { λ r. ⌜ r ≡ one (record { x = a }) ⌝ }
+    requires { a < 5 }
+    ensures { result ≡ one (record { x = a }) }
 {
     a
 }
 
 fn stronger(a: u64) -> u64
-    ensures { λ r. ⌜ r ≤ a ⌝ }
+    ensures low { 0 ≤ result }
+    ensures high { result ≤ a }
 {
     a
 }
@@ -94,24 +95,24 @@ fn twice(a: u64) -> u64 {
 
 impl Row {
     pub fn new() -> Row
-        ensures { λ r. ⌜ r ≡ row ⌝ }
+        ensures { result ≡ row }
     {
         Row { key: 0 }
     }
 }
 """,
-    "crates/low/src/b.rt": promising("twice", "r ≡ a + a"),
-    "crates/low/src/logic.rt": promising("both", "r ≡ a"),
-    "crates/low/src/c.rt": promising("same_stem", "r ≡ 1"),
-    "crates/low/src/s/c.rt": promising("same_stem", "r ≡ 2"),
-    "crates/low/src/d.rt": promising("unsure", "r ≡ 1"),
-    "crates/low/src/e.rt": promising("unsure", "r ≡ 2"),
-    "crates/low/src/g.rt": promising("by_file", "r ≡ 1"),
-    "crates/low/src/h.rt": promising("by_file", "r ≡ 2"),
-    "crates/low/src/k.rt": promising("by_name", "r ≡ 1"),
-    "crates/low/proofs/a/stronger/Proof.antt": proof("low.a", "refl"),
-    "crates/low/proofs/a/body_only/Proof.antt": proof("low.a", "refl"),
-    "crates/hnsr_run/specs/Past.antt": "use Rattle·hnsr_run·specs.specs.Head.{head}\n" + number("past", "head"),
+    "crates/low/src/b.rt": promising("twice", "result ≡ a + a"),
+    "crates/low/src/logic.rt": promising("both", "result ≡ a"),
+    "crates/low/src/c.rt": promising("same_stem", "result ≡ 1"),
+    "crates/low/src/s/c.rt": promising("same_stem", "result ≡ 2"),
+    "crates/low/src/d.rt": promising("unsure", "result ≡ 1"),
+    "crates/low/src/e.rt": promising("unsure", "result ≡ 2"),
+    "crates/low/src/g.rt": promising("by_file", "result ≡ 1"),
+    "crates/low/src/h.rt": promising("by_file", "result ≡ 2"),
+    "crates/low/src/k.rt": promising("by_name", "result ≡ 1"),
+    "crates/low/proofs/a/stronger/Answers.antt": proof("low.a", "refl"),
+    "crates/low/proofs/a/body_only/Answers.antt": proof("low.a", "refl"),
+    "crates/hnsr_run/specs/Past.antt": "use Rattle.hnsr_run.specs.Head.{head}\n" + number("past", "head"),
     "crates/hnsr_run/specs/Head.antt": number("head", 1),
     "crates/hnsr_run/specs/Run/Rel.antt": number("rel", 1),
 }
@@ -119,8 +120,8 @@ impl Row {
 NEW = {
     **OLD,
     "crates/low/specs/Sums.antt": """
-use Prim.Native.Nat.{
-  ℕ, _+_
+use Rattle.std.specs.Prelude.{
+  ℕ, ◌+◌
 }
 unfoldable pub laidOut : ℕ
     → ℕ
@@ -153,7 +154,7 @@ module _ (A : Type 0) where
   unfoldable pub beside : A → A
   beside a = a
 
-_then_ : ℕ → ℕ → ℕ
+◌then◌ : ℕ → ℕ → ℕ
 a then b = b
 """,
     "crates/low/specs/Part/Other.antt": "pub toOther : ℕ → ℕ\ntoOther n = laidOut n\n\n" + number("fresh", 1),
@@ -176,9 +177,9 @@ pub fn body_only(
     a: u64,
     session: [u8; 16],
 ) -> u64
-    requires { ⌜ a < 5 ⌝ }
+    requires { a < 5 }
     ensures {
-        λ r. ⌜ r ≡ one (record { x = a }) ⌝
+        result ≡ one (record { x = a })
     }
 {
     let b = a;
@@ -186,7 +187,8 @@ pub fn body_only(
 }
 
 fn stronger(a: u64) -> u64
-    ensures { λ r. ⌜ r ≡ a ⌝ }
+    ensures low { 0 ≤ result }
+    ensures high { result ≡ a }
 {
     a
 }
@@ -197,34 +199,34 @@ fn twice(a: u64) -> u64 {
 
 impl Row {
     pub fn new() -> Row
-        ensures { λ r. ⌜ r ≡ row ⌝ }
+        ensures { result ≡ row }
     {
         Row { key: 0, mark: false }
     }
 }
 """,
-    "crates/low/src/b.rt": promising("twice", "r ≡ 2 * a") + "\nfn added() {\n}\n",
-    "crates/low/src/c.rt": promising("same_stem", "r ≡ 3"),
-    "crates/low/src/s/c.rt": promising("same_stem", "r ≡ 4"),
-    "crates/low/src/f.rt": promising("unsure", "r ≡ 3"),
-    "crates/low/src/y/g.rt": promising("by_file", "r ≡ 3"),
-    "crates/low/src/y/h.rt": promising("by_file", "r ≡ 4"),
-    "crates/low/src/l.rt": promising("by_name", "r ≡ 2"),
+    "crates/low/src/b.rt": promising("twice", "result ≡ 2 * a") + "\nfn added() {\n}\n",
+    "crates/low/src/c.rt": promising("same_stem", "result ≡ 3"),
+    "crates/low/src/s/c.rt": promising("same_stem", "result ≡ 4"),
+    "crates/low/src/f.rt": promising("unsure", "result ≡ 3"),
+    "crates/low/src/y/g.rt": promising("by_file", "result ≡ 3"),
+    "crates/low/src/y/h.rt": promising("by_file", "result ≡ 4"),
+    "crates/low/src/l.rt": promising("by_name", "result ≡ 2"),
     "crates/high/src/logic.rt": OLD["crates/low/src/logic.rt"],
-    "crates/low/proofs/y/a/stronger/Proof.antt": proof("low.y.a", "sym refl"),
-    "crates/low/proofs/y/a/body_only/Proof.antt": proof("low.y.a", "refl"),
+    "crates/low/proofs/y/a/stronger/Answers.antt": proof("low.y.a", "sym refl"),
+    "crates/low/proofs/y/a/body_only/Answers.antt": proof("low.y.a", "refl"),
     "crates/hnsr_run/specs/Head.antt": number("head", 2),
     "crates/hnsr_run/specs/Run/Rel.antt": number("rel", 2),
 }
 for name in ["a", "logic", "d", "e", "g", "h", "k"]:
     del NEW[f"crates/low/src/{name}.rt"]
 for name in ["stronger", "body_only"]:
-    del NEW[f"crates/low/proofs/a/{name}/Proof.antt"]
+    del NEW[f"crates/low/proofs/a/{name}/Answers.antt"]
 del NEW["crates/low/specs/Held.antt"]
 
 EXPECTED = {
     "low: definitions moved": ["toOther  Part/Other.antt  from Sums.antt"],
-    "low: definitions changed": ["Pair  Sums.antt", "_then_  Sums.antt", "another  Sums.antt", "inside  Sums.antt"],
+    "low: definitions changed": ["Pair  Sums.antt", "another  Sums.antt", "inside  Sums.antt", "◌then◌  Sums.antt"],
     "low: definitions new": ["fresh  Part/Other.antt"],
     "low: definitions gone": ["Gone  Sums.antt"],
     "hnsr_run: definitions changed": ["head  Head.antt"],
@@ -249,8 +251,8 @@ EXPECTED = {
     "low: laws moved": ["weak  Laws/More.antt  from Laws/Sums.antt"],
     "low: laws changed": ["law  Laws/Sums.antt"],
     "hnsr_run: laws changed": ["rel  Run/Rel.antt"],
-    "low: proofs moved": ["body_only  y/a/body_only/Proof.antt  from a/body_only/Proof.antt"],
-    "low: proofs changed": ["stronger  y/a/stronger/Proof.antt  from a/stronger/Proof.antt"],
+    "low: proofs moved": ["body_only  y/a/body_only/Answers.antt  from a/body_only/Answers.antt"],
+    "low: proofs changed": ["stronger  y/a/stronger/Answers.antt  from a/stronger/Answers.antt"],
 }
 ROWS = [
     "| low | definitions | 4 | 1 | 4 | 1 | 1 |",

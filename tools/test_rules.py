@@ -9,12 +9,12 @@ import rules
 ONE, TWO, THREE = (f"DUE.{n}" for n in (1, 2, 3))
 SPEC = """\
 -- {one}: a comment
-abbrev pub dueOf : World
+abbrev pub due_of : World
 unfoldable pub earlier : Due
 pub record Due (w : World) : Type 0 where
 """
 PAGE = f"""\
-- **{ONE}** a rule. `Due.dueOf`, `Due.Due`, `Laws.Due`; *Lent.both-due*.
+- **{ONE}** a rule. `Due.due_of`, `Due.Due`, `Laws.Due`; *Lent.both_due*.
 
 | **{TWO}** | a row | `hnsr_body.Due.due` |
 """
@@ -27,7 +27,7 @@ def made(root, page=PAGE, spec=SPEC, source=SOURCE):
         "docs/RULES.md": page,
         "crates/hnsr_circuit/specs/Due.antt": spec.format(one=ONE),
         "crates/hnsr_circuit/specs/Laws/Due.antt": "",
-        "crates/hnsr_circuit/specs/Worked/Lent.antt": "both-due : Type 0\n",
+        "crates/hnsr_circuit/specs/Worked/Lent.antt": "both_due : Type 0\n",
         "crates/hnsr_body/specs/Due.antt": "  due : Type 0\n",
         "host/src/due.rs": source.format(two=TWO, three=THREE, dot="."),
     }
@@ -48,9 +48,9 @@ def main():
             "a citation of no rule": (dict(source="// {three}\n"), f"host/src/due.rs:1: no rule {THREE}"),
             "a number twice": (dict(page=PAGE.replace(TWO, ONE)), f"docs/RULES.md: {ONE} stands twice"),
             "a number left out": (dict(page=PAGE.replace(ONE, THREE)), f"docs/RULES.md: {ONE} is missing"),
-            "no such definition": (dict(spec=SPEC.replace("dueOf", "dueAt")), "docs/RULES.md: no Due.dueOf"),
+            "no such definition": (dict(spec=SPEC.replace("due_of", "due_at")), "docs/RULES.md: no Due.due_of"),
             "no such file": (dict(page=PAGE.replace("Laws.Due", "Laws.Late")), "docs/RULES.md: no Laws.Late"),
-            "no such theorem": (dict(page=PAGE.replace("both-due", "one-due")), "docs/RULES.md: no Lent.one-due"),
+            "no such theorem": (dict(page=PAGE.replace("both_due", "one_due")), "docs/RULES.md: no Lent.one_due"),
             "no such crate": (dict(page=PAGE.replace("hnsr_body", "hnsr")), "docs/RULES.md: no hnsr.Due.due"),
         }
         for what, (changed, fault) in wrong.items():

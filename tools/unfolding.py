@@ -24,13 +24,12 @@ def main():
                 if n in seen: raise SystemExit(f'{n} is declared in {seen[n]} and in {crate}.{m}')
                 seen[n] = f'{crate}.{m}'
             if not ns: continue
-            path = f'Rattle·{crate}·specs.specs.{m}' if crate == 'hnsr_circuit' else f'Rattle·{crate}.specs.{m}'
-            uses.append(f'use {path}.{{' + ', '.join(ns) + '}')
+            uses.append(f'use Rattle.{crate}.specs.{m}.{{' + ', '.join(ns) + '}')
             every += ns
     text = '''-- A run of the machine with every definition open. Made by tools/unfolding.py: not edited by hand.
-use mathlib.Core.List.{List}
-use Rattle·hnsr_circuit·specs.specs.World.{World, Outcome}
-use Rattle·hnsr_circuit·specs.specs.Call.{Start, Call}
+use Rattle.std.specs.Prelude.{List}
+use Rattle.hnsr_circuit.specs.World.{World, Outcome}
+use Rattle.hnsr_circuit.specs.Call.{Start, Call}
 ''' + '\n'.join(uses) + '''
 
 unfoldable pub machine : World → Start → List Call → List Outcome

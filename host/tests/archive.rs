@@ -4,22 +4,24 @@ use std::os::unix::fs::PermissionsExt;
 use std::path::{Path, PathBuf};
 use std::process::{Command, Output};
 
-/// Counts what it is asked to make in a file `made`, and fails where there is a file `broken`.
+/// Counts what it is asked to make in a file `made`, and fails where there is a file `broken`; both at the root.
 const RT: &str = r#"#!/bin/sh
 case $1 in
 version) cat version ;;
 lib)
-    crate=$(basename "$PWD")
-    echo "$crate" >>../../made
-    [ ! -f ../../broken ] || { echo "rt: $crate NOT PROVED"; exit 1; }
-    mkdir -p out
-    cat ../*/src/lib.rt >"out/lib$crate.a"
-    echo "logic=proved"
+    name=${PWD##*/}
+    cd ../..
+    echo "$name" >>made
+    [ ! -f broken ] || { echo "rt: $name NOT PROVED"; exit 1; }
+    mkdir -p "crates/$name/out"
+    cat crates/*/src/lib.rt >"crates/$name/out/lib$name.a"
+    echo "rt: made"
     ;;
 esac
 "#;
 
-const CRATES: &str = "# what the crates stand on\nbase:\nmiddle: base\nlekchnam staticlib: middle io # of the kit\nother: base\n";
+const CRATES: &str =
+    "# what the crates stand on\nbase:\nmiddle: base\nlekchnam staticlib: middle io # of the kit\nother: base\n";
 
 /// A project of four crates; the archive's stands on two of them.
 struct Project(PathBuf);

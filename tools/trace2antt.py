@@ -4,7 +4,7 @@ gives, for every call, the trace's answer number, cause, word count, all words, 
 where the trace has state lines (`--state`), the whole private state. Each theorem is closed by refl.
 
     trace2antt.py REPO OUT FILE..        REPO: the repository with the definition; OUT: a folder to write
-    cd OUT && rt check traces            (or: rt dev traces)
+    cd OUT/crates/traces && rt check
 
 A trace file is made with `trace gen SEED COUNT CALLS DIR --full [--state]`.
     --skip-state   leave the state lines aside
@@ -15,7 +15,7 @@ A trace file is made with `trace gen SEED COUNT CALLS DIR --full [--state]`.
                    the status shows it)
 Of a trace that needs tables of more than LIMIT places only answers and words are compared.
 """
-import os, sys
+import os, shutil, sys
 from limits import CLOSING_WORDS, HANDLE_WORDS
 ROOM = 1000000  # output words lent to a call that revokes: more than any trace's records need
 LIMIT = 3000  # places of the largest table that is still lent
@@ -38,12 +38,12 @@ def reservation(b): return f'(reservation_of 0x{b.hex()})'
 
 def call(name, f):
     if name == 'new':
-        return f'begin (startOf {byte_list(hx(f[0]))} {f[1]} (configFrom {" ".join(f[2:11])}) {f[11]})'
+        return f'begin (start_of {byte_list(hx(f[0]))} {f[1]} (config_from {" ".join(f[2:11])}) {f[11]})'
     if name == 'handle':
         if f[6] == '-': adm = 'refused'
         else:
             e, r, x, m, b, t = f[6].split(':')
-            adm = f'(grantOf {byte_list(hx(e) if e else b"")} {reservation(hx(r))} {x} {m} {b} {t})'
+            adm = f'(grant_of {byte_list(hx(e) if e else b"")} {reservation(hx(r))} {x} {m} {b} {t})'
         return (f'item (packet_of {byte_list(hx(f[0]))} {f[1]} {number(hx(f[2]))} {body(f[3])} {f[4]} {boolean(f[5])} '
                 f'{adm} {byte_list(hx(f[7]))})')
     if name == 'acknowledge': return f'item (call_acknowledge {f[0]} {f[1]} {boolean(f[2])} {CLOSING_WORDS})'
@@ -106,39 +106,36 @@ def status_row(st):
     return st[:12] + due + [st[13]]
 
 HELP = '''-- What a theorem of a trace says of a call. Made by tools/trace2antt.py.
-use Prim.Native.Nat.{ℕ, zero, suc, _+_, _*_, _/_, _%_}
-use mathlib.Core.Bool.{Bool, true, false, cond}
-use mathlib.Core.List.{List, [], _∷_, _++_}
-use lib.Dec.{eqb}
-use lib.ListN.{length, getD}
-use Rattle·hns_encoding.specs.Bytes.{be_bytes, be_from}
-use Rattle·hnsr_body.specs.declared.values.ReservationId.{ReservationId}
-use Rattle·hnsr_body.specs.declared.error.Cause.{Cause}
-use Rattle·hnsr_circuit.specs.declared.peer.HnsrPeerId.{HnsrPeerId}
-use Rattle·hnsr_circuit.specs.declared.records.RelayPending.{RelayPending}
-use Rattle·hnsr_circuit.specs.declared.records.RelayCircuit.{RelayCircuit}
-use Rattle·hnsr_circuit.specs.declared.records.ReservationUsage.{ReservationUsage}
-use Rattle·hnsr_circuit.specs.declared.records.InflightAction.{InflightAction}
-use Rattle·hnsr_circuit.specs.declared.tables.scan.Walked.{Walked}
-use Rattle·hnsr_circuit.specs.declared.runtime.NextDue.{NextDue}
-use Rattle·hnsr_circuit.specs.declared.runtime.NextDue.the-variants.{Never, At}
-use Rattle·hnsr_circuit.specs.declared.config.OpaqueRelayConfig.{OpaqueRelayConfig}
-use Rattle·hnsr_circuit.specs.declared.runtime.HnsrRuntimeStatus.{HnsrRuntimeStatus}
-use Rattle·hnsr_circuit.specs.declared.answer.HnsrAnswer.the-variants.{Taken}
-use Rattle·hnsr_circuit.specs.Table.{not_yet, next}
-use Rattle·hns_encoding.specs.Sums.{count}
-use Rattle·hnsr_circuit.specs.Peer.{peer_bytes}
-use Rattle·hnsr_circuit.specs.Answers.{number, cause_of}
-use Rattle·hnsr_circuit.specs.Pending.{no_ticket, no_pending, pending_id, is_pending}
-use Rattle·hnsr_circuit.specs.Circuits.{no_circuit, circuit_id, is_circuit}
-use Rattle·hnsr_circuit.specs.Ledger.{no_usage, is_usage}
-use Rattle·hnsr_circuit.specs.Inflight.{no_action, is_action}
-use Rattle·hnsr_circuit.specs.Route.{out_words}
-use Rattle·hnsr_circuit.specs.Runtime.{with_sequence}
-use Rattle·hnsr_circuit.specs.World.{World, Outcome, Told, silent, status_is, due_is, with_runtime}
-use Rattle·hnsr_circuit.specs.Packet.{Admission, Packet}
-use Rattle·hnsr_circuit.specs.Call.{Start, Call, call_handle, call_status, call_next_due, start, step}
-use Rattle·hnsr_circuit.specs.Worked.All.{machine}
+use Rattle.std.specs.Prelude.{ℕ, zero, suc, ◌+◌, ◌*◌, ◌/◌, ◌%◌, Bool, true, false, cond, eqb}
+use Rattle.std.specs.Prelude.{List, [], ◌∷◌, ◌++◌, length, get_or}
+use Rattle.hns_encoding.specs.Bytes.{be_bytes, be_from}
+use Rattle.hnsr_body.specs.declared.values.ReservationId.{ReservationId}
+use Rattle.hnsr_body.specs.declared.error.Cause.{Cause}
+use Rattle.hnsr_circuit.specs.declared.peer.HnsrPeerId.{HnsrPeerId}
+use Rattle.hnsr_circuit.specs.declared.records.RelayPending.{RelayPending}
+use Rattle.hnsr_circuit.specs.declared.records.RelayCircuit.{RelayCircuit}
+use Rattle.hnsr_circuit.specs.declared.records.ReservationUsage.{ReservationUsage}
+use Rattle.hnsr_circuit.specs.declared.records.InflightAction.{InflightAction}
+use Rattle.hnsr_circuit.specs.declared.tables.scan.Walked.{Walked}
+use Rattle.hnsr_circuit.specs.declared.runtime.NextDue.{NextDue}
+use Rattle.hnsr_circuit.specs.declared.runtime.NextDue.TheVariants.{Never, At}
+use Rattle.hnsr_circuit.specs.declared.config.OpaqueRelayConfig.{OpaqueRelayConfig}
+use Rattle.hnsr_circuit.specs.declared.runtime.HnsrRuntimeStatus.{HnsrRuntimeStatus}
+use Rattle.hnsr_circuit.specs.declared.answer.HnsrAnswer.TheVariants.{Taken}
+use Rattle.hnsr_circuit.specs.Table.{not_yet, next}
+use Rattle.hns_encoding.specs.Sums.{count}
+use Rattle.hnsr_circuit.specs.Peer.{peer_bytes}
+use Rattle.hnsr_circuit.specs.Answers.{number, cause_of}
+use Rattle.hnsr_circuit.specs.Pending.{no_ticket, no_pending, pending_id, is_pending}
+use Rattle.hnsr_circuit.specs.Circuits.{no_circuit, circuit_id, is_circuit}
+use Rattle.hnsr_circuit.specs.Ledger.{no_usage, is_usage}
+use Rattle.hnsr_circuit.specs.Inflight.{no_action, is_action}
+use Rattle.hnsr_circuit.specs.Route.{out_words}
+use Rattle.hnsr_circuit.specs.Runtime.{with_sequence}
+use Rattle.hnsr_circuit.specs.World.{World, Outcome, Told, silent, status_is, due_is, with_runtime}
+use Rattle.hnsr_circuit.specs.Packet.{Admission, Packet}
+use Rattle.hnsr_circuit.specs.Call.{Start, Call, call_handle, call_status, call_next_due, start, step}
+use Rattle.hnsr_circuit.specs.Worked.All.{machine}
 
 pub data Item : Type 0 where
   begin : Start → Item
@@ -150,47 +147,47 @@ unfoldable pub bytes : ℕ → ℕ → List ℕ
 unfolding be_bytes
 bytes n x = be_bytes n x
 
-unfoldable pub patternFrom : ℕ → ℕ → ℕ → List ℕ
-patternFrom zero i start = []
-patternFrom (suc n) i start = ((start + 7 * i + i / 256) % 256) ∷ patternFrom n (suc i) start
+unfoldable pub pattern_from : ℕ → ℕ → ℕ → List ℕ
+pattern_from zero i start = []
+pattern_from (suc n) i start = ((start + 7 * i + i / 256) % 256) ∷ pattern_from n (suc i) start
 
 unfoldable pub pattern : ℕ → ℕ → List ℕ
-unfolding patternFrom
-pattern n start = patternFrom n 0 start
+unfolding pattern_from
+pattern n start = pattern_from n 0 start
 
 unfoldable pub reservation_of : ℕ → ReservationId
 reservation_of n = record { high = n / 18446744073709551616; low = n % 18446744073709551616 }
 
-unfoldable pub configFrom : ℕ → ℕ → ℕ → ℕ → ℕ → ℕ → ℕ → ℕ → ℕ → OpaqueRelayConfig
-configFrom a b c d e f g h i = record
-  { «maximum_pending» = a
-  ; «maximum_circuits» = b
-  ; «maximum_circuits_per_peer» = c
-  ; «maximum_queue_bytes» = d
-  ; «maximum_inflight_actions» = e
-  ; «maximum_inflight_actions_per_circuit» = f
-  ; «maximum_inflight_actions_per_peer» = g
-  ; «maximum_bytes_per_circuit» = h
-  ; «accept_timeout_seconds» = i
+unfoldable pub config_from : ℕ → ℕ → ℕ → ℕ → ℕ → ℕ → ℕ → ℕ → ℕ → OpaqueRelayConfig
+config_from a b c d e f g h i = record
+  { maximum_pending = a
+  ; maximum_circuits = b
+  ; maximum_circuits_per_peer = c
+  ; maximum_queue_bytes = d
+  ; maximum_inflight_actions = e
+  ; maximum_inflight_actions_per_circuit = f
+  ; maximum_inflight_actions_per_peer = g
+  ; maximum_bytes_per_circuit = h
+  ; accept_timeout_seconds = i
   }
 
-unfoldable pub startOf : List ℕ → ℕ → OpaqueRelayConfig → ℕ → Start
-startOf session generation config now =
+unfoldable pub start_of : List ℕ → ℕ → OpaqueRelayConfig → ℕ → Start
+start_of session generation config now =
     record { session = session; generation = generation; config = config; now = now }
 
 unfoldable pub refused : Admission
 refused = record { admitted = false; endpoint = []; ticket = no_ticket }
 
-unfoldable pub grantOf : List ℕ → ReservationId → ℕ → ℕ → ℕ → ℕ → Admission
-grantOf endpoint id expiry most each total = record
+unfoldable pub grant_of : List ℕ → ReservationId → ℕ → ℕ → ℕ → ℕ → Admission
+grant_of endpoint id expiry most each total = record
     { admitted = true
     ; endpoint = endpoint
     ; ticket = record
-        { «reservation_id» = id
-        ; «expires_at» = expiry
-        ; «max_active_circuits» = most
-        ; «max_bytes_per_circuit» = each
-        ; «max_total_bytes» = total
+        { reservation_id = id
+        ; expires_at = expiry
+        ; max_active_circuits = most
+        ; max_bytes_per_circuit = each
+        ; max_total_bytes = total
         }
     }
 
@@ -220,103 +217,104 @@ pack ws =
     pairs 0x10000000000000000000000000000000000000000000000000000000000000000
         (pairs 0x100000000000000000000000000000000 (pairs 0x10000000000000000 (pairs 0x100000000 ws)))
 
-unfoldable pub causeRow : Cause → List ℕ
-causeRow c = c .kind ∷ c .first ∷ c .second ∷ []
+unfoldable pub cause_row : Cause → List ℕ
+cause_row c = c.kind ∷ c.first ∷ c.second ∷ []
 
-unfoldable pub wordRow : List ℕ → List ℕ
+unfoldable pub word_row : List ℕ → List ℕ
 unfolding pack
-wordRow ws = length ws ∷ pack ws
+word_row ws = length ws ∷ pack ws
 
-unfoldable pub answerRow : Outcome → List ℕ
-unfolding causeRow wordRow
-answerRow o = number (o .answer) ∷ (causeRow (cause_of (o .answer)) ++ wordRow (out_words (o .routes)))
+unfoldable pub answer_row : Outcome → List ℕ
+unfolding cause_row word_row
+answer_row o = number o.answer ∷ (cause_row (cause_of o.answer) ++ word_row (out_words o.routes))
 
 unfoldable pub bit : Bool → ℕ
 bit true = 1
 bit false = 0
 
-unfoldable pub statusRow : HnsrRuntimeStatus → List ℕ
+unfoldable pub status_row : HnsrRuntimeStatus → List ℕ
 unfolding bit
-statusRow s =
-    s .generation ∷ bit (s .enabled) ∷ s .«pending_circuits» ∷ s .«active_circuits» ∷ s .«queued_bytes»
-    ∷ s .«queued_actions» ∷ s .«trusted_time_high_water» ∷ s .«admitted_opens» ∷ s .«opened_circuits»
-    ∷ s .«bytes_sent» ∷ s .«bytes_received» ∷ s .«revoked_work» ∷ []
+status_row s =
+    s.generation ∷ bit s.enabled ∷ s.pending_circuits ∷ s.active_circuits ∷ s.queued_bytes
+    ∷ s.queued_actions ∷ s.trusted_time_high_water ∷ s.admitted_opens ∷ s.opened_circuits
+    ∷ s.bytes_sent ∷ s.bytes_received ∷ s.revoked_work ∷ []
 
-unfoldable pub dueRow : NextDue → List ℕ
-dueRow Never = 0 ∷ 0 ∷ []
-dueRow (At n) = 1 ∷ n ∷ []
+unfoldable pub due_row : NextDue → List ℕ
+due_row Never = 0 ∷ 0 ∷ []
+due_row (At n) = 1 ∷ n ∷ []
 
-unfoldable pub toldRow : Told → List ℕ
-unfolding statusRow dueRow
-toldRow silent = []
-toldRow (status_is s capacity) = statusRow s
-toldRow (due_is d) = dueRow d
+unfoldable pub told_row : Told → List ℕ
+unfolding status_row due_row
+told_row silent = []
+told_row (status_is s capacity) = status_row s
+told_row (due_is d) = due_row d
 
 -- what `status`, whoever is asked about, and `next_due` say of the world left, and how many ledger records there are
-unfoldable pub worldRow : World → List ℕ
-unfolding toldRow machine
-worldRow w =
-    toldRow (step w (call_status (1 ∷ []) 0) .told)
-    ++ toldRow (step w call_next_due .told) ++ (count is_usage (w .ledger) ∷ [])
+unfoldable pub world_row : World → List ℕ
+unfolding told_row machine
+world_row w =
+    told_row (step w (call_status (1 ∷ []) 0)).told
+    ++ told_row (step w call_next_due).told ++ (count is_usage w.ledger ∷ [])
 
 -- ---- the whole state, by ascending key
-unfoldable pub peerNumber : HnsrPeerId → ℕ
+unfoldable pub peer_number : HnsrPeerId → ℕ
 unfolding be_from
-peerNumber p = be_from 1 (peer_bytes p)
+peer_number p = be_from 1 (peer_bytes p)
 
 unfoldable pub wide : ReservationId → ℕ
-wide r = r .high * 18446744073709551616 + r .low
+wide r = r.high * 18446744073709551616 + r.low
 
-unfoldable pub rowsFrom : {A : Type 0} → (A → ℕ) → (A → Bool) → A → (A → List ℕ) → List A → ℕ → Walked → List (List ℕ)
-rowsFrom key used none row t zero c = []
-rowsFrom key used none row t (suc n) c =
+unfoldable pub rows_from : {A : Type 0} → (A → ℕ) → (A → Bool) → A → (A → List ℕ) → List A → ℕ → Walked
+    → List (List ℕ)
+rows_from key used none row t zero c = []
+rows_from key used none row t (suc n) c =
     let k = next key used c t in
-    elim (k .taken) [ true ↦ row (getD t (k .place) none) ∷ rowsFrom key used none row t n k | false ↦ [] ]
+    elim k.taken [ true ↦ row (get_or t k.place none) ∷ rows_from key used none row t n k | false ↦ [] ]
 
-unfoldable pub pendingRow : RelayPending → List ℕ
-unfolding peerNumber wide
-pendingRow p =
-    1 ∷ p .«circuit_id» ∷ peerNumber (p .requester) ∷ peerNumber (p .endpoint) ∷ p .«requester_context»
-    ∷ wide (p .ticket .«reservation_id») ∷ p .ticket .«expires_at» ∷ p .ticket .«max_active_circuits»
-    ∷ p .ticket .«max_bytes_per_circuit» ∷ p .ticket .«max_total_bytes» ∷ p .«initial_window» ∷ p .deadline ∷ []
+unfoldable pub pending_row : RelayPending → List ℕ
+unfolding peer_number wide
+pending_row p =
+    1 ∷ p.circuit_id ∷ peer_number p.requester ∷ peer_number p.endpoint ∷ p.requester_context
+    ∷ wide p.ticket.reservation_id ∷ p.ticket.expires_at ∷ p.ticket.max_active_circuits
+    ∷ p.ticket.max_bytes_per_circuit ∷ p.ticket.max_total_bytes ∷ p.initial_window ∷ p.deadline ∷ []
 
-unfoldable pub circuitRow : RelayCircuit → List ℕ
-unfolding peerNumber wide
-circuitRow c =
-    2 ∷ c .«circuit_id» ∷ peerNumber (c .requester) ∷ peerNumber (c .endpoint) ∷ wide (c .«reservation_id»)
-    ∷ c .«expires_at» ∷ c .«maximum_bytes» ∷ c .«maximum_total_bytes» ∷ c .«requester_credit» ∷ c .«endpoint_credit»
-    ∷ c .«forwarded_bytes» ∷ c .«queued_to_requester» ∷ c .«queued_to_endpoint» ∷ []
+unfoldable pub circuit_row : RelayCircuit → List ℕ
+unfolding peer_number wide
+circuit_row c =
+    2 ∷ c.circuit_id ∷ peer_number c.requester ∷ peer_number c.endpoint ∷ wide c.reservation_id
+    ∷ c.expires_at ∷ c.maximum_bytes ∷ c.maximum_total_bytes ∷ c.requester_credit ∷ c.endpoint_credit
+    ∷ c.forwarded_bytes ∷ c.queued_to_requester ∷ c.queued_to_endpoint ∷ []
 
-unfoldable pub usageKey : ReservationUsage → ℕ
+unfoldable pub usage_key : ReservationUsage → ℕ
 unfolding wide
-usageKey u = wide (u .«reservation_id»)
+usage_key u = wide u.reservation_id
 
-unfoldable pub usageRow : ReservationUsage → List ℕ
-unfolding usageKey
-usageRow u = 3 ∷ usageKey u ∷ u .bytes ∷ u .«expires_at» ∷ []
+unfoldable pub usage_row : ReservationUsage → List ℕ
+unfolding usage_key
+usage_row u = 3 ∷ usage_key u ∷ u.bytes ∷ u.expires_at ∷ []
 
-unfoldable pub actionKey : InflightAction → ℕ
-actionKey a = a .generation * 18446744073709551616 + a .sequence
+unfoldable pub action_key : InflightAction → ℕ
+action_key a = a.generation * 18446744073709551616 + a.sequence
 
 -- the trace's kinds: 0 Incoming, 1 Opened, 2 Data to requester, 3 Data to endpoint, 4 Control, 5 Close
-unfoldable pub kindCode : InflightAction → ℕ
+unfoldable pub kind_code : InflightAction → ℕ
 unfolding bit
-kindCode a =
-    cond (eqb (a .kind) 2) (2 + bit (a .«to_endpoint»)) (cond (eqb (a .kind) 3) 4 (cond (eqb (a .kind) 4) 5 (a .kind)))
+kind_code a =
+    cond (eqb a.kind 2) (2 + bit a.to_endpoint) (cond (eqb a.kind 3) 4 (cond (eqb a.kind 4) 5 a.kind))
 
-unfoldable pub actionRow : InflightAction → List ℕ
-unfolding peerNumber kindCode
-actionRow a =
-    4 ∷ a .generation ∷ a .sequence ∷ a .«circuit_id» ∷ peerNumber (a .destination) ∷ kindCode a ∷ a .bytes ∷ []
+unfoldable pub action_row : InflightAction → List ℕ
+unfolding peer_number kind_code
+action_row a =
+    4 ∷ a.generation ∷ a.sequence ∷ a.circuit_id ∷ peer_number a.destination ∷ kind_code a ∷ a.bytes ∷ []
 
-unfoldable pub stateRows : World → List (List ℕ)
-unfolding rowsFrom pendingRow circuitRow usageRow usageKey actionRow actionKey machine
-stateRows w =
-    (0 ∷ w .runtime .«next_action_sequence» ∷ [])
-    ∷ (rowsFrom pending_id is_pending no_pending pendingRow (w .pending) (length (w .pending)) not_yet
-    ++ rowsFrom circuit_id is_circuit no_circuit circuitRow (w .circuits) (length (w .circuits)) not_yet
-    ++ rowsFrom usageKey is_usage no_usage usageRow (w .ledger) (length (w .ledger)) not_yet
-    ++ rowsFrom actionKey is_action no_action actionRow (w .inflight) (length (w .inflight)) not_yet)
+unfoldable pub state_rows : World → List (List ℕ)
+unfolding rows_from pending_row circuit_row usage_row usage_key action_row action_key machine
+state_rows w =
+    (0 ∷ w.runtime.next_action_sequence ∷ [])
+    ∷ (rows_from pending_id is_pending no_pending pending_row w.pending (length w.pending) not_yet
+    ++ rows_from circuit_id is_circuit no_circuit circuit_row w.circuits (length w.circuits) not_yet
+    ++ rows_from usage_key is_usage no_usage usage_row w.ledger (length w.ledger) not_yet
+    ++ rows_from action_key is_action no_action action_row w.inflight (length w.inflight) not_yet)
 
 -- ---- a trace: of each item what is seen. `full` asks for the state too
 unfoldable pub moved : World → Item → Outcome
@@ -324,14 +322,14 @@ unfolding machine
 moved w (begin s) = start w s
 moved w (item c) = step w c
 moved w (poke n) =
-    record { world = with_runtime w (with_sequence (w .runtime) n); answer = Taken; routes = []; told = silent }
+    record { world = with_runtime w (with_sequence w.runtime n); answer = Taken; routes = []; told = silent }
 
-unfoldable pub seenOf : Outcome → Bool → Bool → List (List ℕ)
-unfolding answerRow worldRow stateRows machine
-seenOf o false false = answerRow o ∷ []
-seenOf o true false = answerRow o ∷ worldRow (o .world) ∷ []
-seenOf o true true = answerRow o ∷ worldRow (o .world) ∷ stateRows (o .world)
-seenOf o false true = answerRow o ∷ []
+unfoldable pub seen_of : Outcome → Bool → Bool → List (List ℕ)
+unfolding answer_row world_row state_rows machine
+seen_of o false false = answer_row o ∷ []
+seen_of o true false = answer_row o ∷ world_row o.world ∷ []
+seen_of o true true = answer_row o ∷ world_row o.world ∷ state_rows o.world
+seen_of o false true = answer_row o ∷ []
 
 pub record Line : Type 0 where
   pub does : Item
@@ -340,13 +338,13 @@ pub record Line : Type 0 where
   pub state : Bool
 
 unfoldable pub observed : World → List Line → List (List (List ℕ))
-unfolding moved seenOf
+unfolding moved seen_of
 observed w [] = []
-observed w (l ∷ ls) = let o = moved w (l .does) in seenOf o (l .status) (l .state) ∷ observed (o .world) ls
+observed w (l ∷ ls) = let o = moved w l.does in seen_of o l.status l.state ∷ observed o.world ls
 
 unfoldable pub recorded : List Line → List (List (List ℕ))
 recorded [] = []
-recorded (l ∷ ls) = l .seen ∷ recorded ls
+recorded (l ∷ ls) = l.seen ∷ recorded ls
 '''
 
 def parts(rows, per):
@@ -371,7 +369,7 @@ def theorem(n, places, rows):
         if r['state']: seen += [listed(x) for x in r['state']]
         status, state = (boolean('1' if r[part] else '0') for part in ('status', 'state'))
         out += [f'-- {r["line"]}', f'l{n}-{i} : Line',
-                'unfolding bytes pattern reservation_of configFrom startOf refused grantOf packetOf',
+                'unfolding bytes pattern reservation_of config_from start_of refused grant_of packet_of',
                 f'l{n}-{i} = record {{ does = {r["call"]}; status = {status}; state = {state}; seen =\n'
                 f'      {nested(seen)} }}', '']
     names = [f'l{n}-{i}' for i in range(len(rows))]
@@ -382,13 +380,12 @@ def theorem(n, places, rows):
 
 def module(path, places, rows, per):
     out = [f'-- {os.path.basename(path)}. Made by tools/trace2antt.py.',
-           'use mathlib.Core.Path.{_≡_, refl}', 'use mathlib.Core.Bool.{true, false}',
-           'use mathlib.Core.List.{List, [], _∷_}',
-           'use Rattle·hnsr_circuit.specs.Call.{call_acknowledge, call_disconnect, call_revoke_reservation, call_expire, '
-           'callObserveTime, call_replace_enabled}',
-           'use Rattle·hnsr_circuit.specs.Worked.Cases.{lent}',
-           'use Rattle·traces·specs.specs.Help.{Item, begin, item, poke, Line, bytes, pattern, reservation_of, '
-           'configFrom, startOf, refused, grantOf, packet_of, observed, recorded}', '']
+           'use Rattle.std.specs.Prelude.{◌≡◌, refl, true, false, List, [], ◌∷◌}',
+           'use Rattle.hnsr_circuit.specs.Call.{call_acknowledge, call_disconnect, call_revoke_reservation, call_expire, '
+           'call_observe_time, call_replace_enabled}',
+           'use Rattle.hnsr_circuit.specs.Worked.Cases.{lent}',
+           'use Rattle.traces.specs.Help.{Item, begin, item, poke, Line, bytes, pattern, reservation_of, '
+           'config_from, start_of, refused, grant_of, packet_of, observed, recorded}', '']
     for n, part in enumerate(parts(rows, per)): out += theorem(n, places, part)
     return '\n'.join(out)
 
@@ -403,13 +400,15 @@ def main():
     repo, out, *files = args
     os.makedirs(f'{out}/crates/traces/src', exist_ok=True)
     os.makedirs(f'{out}/crates/traces/specs', exist_ok=True)
-    for c in ('hns_encoding', 'hnsr_body', 'hnsr_circuit'):
-        if not os.path.lexists(f'{out}/crates/{c}'):
-            os.symlink(os.path.abspath(f'{repo}/crates/{c}'), f'{out}/crates/{c}')
+    for c in ('hns_encoding', 'hnsr_body', 'hnsr_circuit'):               # copies: rt follows no link
+        for part in ('src', 'specs', 'proofs'):
+            shutil.rmtree(f'{out}/crates/{c}/{part}', ignore_errors=True)
+            if os.path.isdir(f'{repo}/crates/{c}/{part}'):
+                shutil.copytree(f'{repo}/crates/{c}/{part}', f'{out}/crates/{c}/{part}')
     open(f'{out}/crates.txt', 'w').write(
         'hns_encoding:\nhnsr_body: hns_encoding\nhnsr_circuit: hnsr_body hns_encoding\n'
         'traces: hnsr_circuit hnsr_body hns_encoding\n')
-    open(f'{out}/crates/traces/src/lib.rt', 'w').write('pub fn one() -> u64 {\n    1\n}\n')
+    open(f'{out}/crates/traces/src/lib.rt', 'w').write('#![tactic(auto)]\n\npub fn one() -> u64 {\n    1\n}\n')
     S = f'{out}/crates/traces/specs'
     for n in os.listdir(S): os.remove(f'{S}/{n}')
     open(f'{S}/Help.antt', 'w').write(HELP.replace('HANDLE_WORDS', str(HANDLE_WORDS)))

@@ -1,4 +1,6 @@
-"""antt text by tokens: a reader, and a printer in the layout that `rt fmt` leaves as it is."""
+"""antt text by tokens: a reader, and a printer in the layout that the older kit's `rt fmt` left as it was, for
+derive.py and places.py, which are of that kit. columns.py takes `WIDTH` and `formatted`.
+"""
 import os, re, shutil, subprocess, tempfile
 
 WIDTH = 120

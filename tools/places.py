@@ -1,5 +1,8 @@
 #!/usr/bin/env python3
-"""Names for what is bound on the way to a need, in place of `c .before .before ..`; and the needs that a search closes.
+"""Of the older kit, and runs with that alone. Today's check names what is bound itself (`c.args`, `c.scan.ensures`),
+and closes by its own search what it can; the other goals are answered in Answers.antt.
+
+Names for what is bound on the way to a need, in place of `c .before .before ..`; and the needs that a search closes.
 
     places.py REPO CRATE [FUNCTION ..]   FUNCTION as m::f; none: every function of CRATE whose Proof.antt has `mod At`
     --check                              writes nothing, lists what is stale, exit status 1 if anything is

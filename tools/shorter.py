@@ -1,4 +1,5 @@
-"""Names for what the text of a derivation repeats, and other shortenings: the same terms, in fewer tokens."""
+"""Of the older kit, for derive.py: names for what the text of a derivation repeats, and other shortenings: the same
+terms, in fewer tokens."""
 import re
 from antt import close_at, is_use, toks
 

@@ -381,8 +381,8 @@ def theorem(n, places, rows):
 def module(path, places, rows, per):
     out = [f'-- {os.path.basename(path)}. Made by tools/trace2antt.py.',
            'use Rattle.std.specs.Prelude.{◌≡◌, refl, true, false, List, [], ◌∷◌}',
-           'use Rattle.hnsr_circuit.specs.Call.{call_acknowledge, call_disconnect, call_revoke_reservation, call_expire, '
-           'call_observe_time, call_replace_enabled}',
+           'use Rattle.hnsr_circuit.specs.Call.{call_acknowledge, call_disconnect, call_revoke_reservation, '
+           'call_expire, call_observe_time, call_replace_enabled}',
            'use Rattle.hnsr_circuit.specs.Worked.Cases.{lent}',
            'use Rattle.traces.specs.Help.{Item, begin, item, poke, Line, bytes, pattern, reservation_of, '
            'config_from, start_of, refused, grant_of, packet_of, observed, recorded}', '']

@@ -1,5 +1,6 @@
 -- Bytes as numbers and numbers as bytes, for any width (BODY.1, HOST.7).
-use Rattle.std.specs.Prelude.{ℕ, zero, suc, ◌+◌, ◌-◌, ◌*◌, ◌/◌, ◌%◌, ◌^◌, ◌<◌, Bool, true, ◌&&◌, List, [], ◌∷◌, ◌++◌, eqb, length, replicate}
+use Rattle.std.specs.Prelude.{ℕ, zero, suc, ◌+◌, ◌-◌, ◌*◌, ◌/◌, ◌%◌, ◌^◌, ◌<◌, Bool}
+use Rattle.std.specs.Prelude.{true, ◌&&◌, List, [], ◌∷◌, ◌++◌, eqb, length, replicate}
 
 -- every element is below a bound: bytes are below 256, words below 2 ^ 32
 abbrev pub Below : ℕ → List ℕ → Type 0

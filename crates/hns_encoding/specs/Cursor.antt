@@ -1,6 +1,7 @@
 -- The cursor (BODY.2). One definition of a field of any width, over bytes and over words alike; each method of
 -- `Decoder` and `Encoder` is that definition at its own width and answer.
-use Rattle.std.specs.Prelude.{ℕ, ◌+◌, ◌-◌, min, ◌≡◌, Bool, cond, List, [], ◌++◌, eqb, ltb, leb, length, get_or, take, drop, replicate}
+use Rattle.std.specs.Prelude.{ℕ, ◌+◌, ◌-◌, min, ◌≡◌, Bool, cond, List, [], ◌++◌}
+use Rattle.std.specs.Prelude.{eqb, ltb, leb, length, get_or, take, drop, replicate}
 use Rattle.hns_encoding.specs.Numbers.{top}
 use Rattle.hns_encoding.specs.Bytes.{le, be}
 use Rattle.hns_encoding.specs.Words.{bytes_of, from_high_low, word_count}

@@ -5,8 +5,10 @@
 --     map-step, map-done     a turn of `t[i] = f(t[i]); i += 1;`, and the end, at the invariant `take i ys ++ map f
 --                            (drop i ys) ≡ r`
 --     in_range               an element in range does not depend on the default
-use Rattle.std.specs.Prelude.{ℕ, zero, suc, ◌+◌, ◌<◌, ◌≤◌, ◌≡◌, refl, List, [], ◌∷◌, ◌++◌, map, length, take, drop, get_or, set}
-use Rattle.std.proofs.Common.{lt-suc_self, not-suc-le-zero, le_of_suc-le-suc, add-one, append_assoc, append-nil, drop_of_length-le, take_all, drop-cons, take-suc-set, drop-set-lt}
+use Rattle.std.specs.Prelude.{ℕ, zero, suc, ◌+◌, ◌<◌, ◌≤◌, ◌≡◌, refl, List, []}
+use Rattle.std.specs.Prelude.{◌∷◌, ◌++◌, map, length, take, drop, get_or, set}
+use Rattle.std.proofs.Common.{lt-suc_self, not-suc-le-zero, le_of_suc-le-suc, add-one, append_assoc}
+use Rattle.std.proofs.Common.{append-nil, drop_of_length-le, take_all, drop-cons, take-suc-set, drop-set-lt}
 
 module _ {A B : Type 0} (f : B → A → ℕ → B) where
   unfoldable pub fold_from : List A → ℕ → B → B

@@ -2,7 +2,6 @@
 use Rattle.std.specs.Prelude.{ℕ, zero, suc, ◌+◌, List, [], ◌∷◌, get_or}
 use Rattle.hns_encoding.specs.declared.decoder.Decoder.{Decoder}
 use Rattle.hns_encoding.specs.declared.decoder.Step.{Step}
-use Rattle.hns_encoding.specs.declared.decoder.Step.TheVariants as Step
 use Rattle.hns_encoding.specs.Cursor.{array_read, steps, finishes}
 use Rattle.hnsr_body.specs.declared.error.HnsrProtocolError.TheVariants.{Decode}
 use Rattle.hnsr_body.specs.declared.error.Checked.{Checked}

@@ -1,6 +1,7 @@
 -- Code points and their encodings, from RFC 3629 section 3.
 
-use Rattle.std.specs.Prelude.{ℕ, ◌+◌, ◌-◌, ◌*◌, ◌/◌, ◌%◌, ◌≡◌, Bool, true, false, cond, ◌&&◌, ◌||◌, List, [], ◌∷◌, ◌++◌, ltb}
+use Rattle.std.specs.Prelude.{ℕ, ◌+◌, ◌-◌, ◌*◌, ◌/◌, ◌%◌, ◌≡◌, Bool, true}
+use Rattle.std.specs.Prelude.{false, cond, ◌&&◌, ◌||◌, List, [], ◌∷◌, ◌++◌, ltb}
 use Rattle.hnsr_body.specs.Utf8.{between, utf8_1, utf8_2, utf8_3, utf8_4}
 
 -- UTF8-char = UTF8-1 / UTF8-2 / UTF8-3 / UTF8-4

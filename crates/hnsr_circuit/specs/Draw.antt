@@ -1,5 +1,6 @@
 -- Random bytes, and the circuit id that is drawn from them (DRAW.1 to DRAW.5).
-use Rattle.std.specs.Prelude.{ℕ, zero, suc, ◌+◌, ◌/◌, Bool, true, false, cond, not, ◌||◌, List, [], ◌∷◌, eqb, leb, length, take, drop}
+use Rattle.std.specs.Prelude.{ℕ, zero, suc, ◌+◌, ◌/◌, Bool, true, false, cond, not}
+use Rattle.std.specs.Prelude.{◌||◌, List, [], ◌∷◌, eqb, leb, length, take, drop}
 use Rattle.hns_encoding.specs.Bytes.{be}
 use Rattle.hnsr_circuit.specs.declared.messages.draw.Drawing.{Drawing}
 use Rattle.hnsr_circuit.specs.declared.answer.HnsrAnswer.{HnsrAnswer}

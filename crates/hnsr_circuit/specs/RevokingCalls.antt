@@ -63,8 +63,8 @@ without_lapsed w now = with_ledger w (lapsed now w.ledger)
 
 unfoldable pub expire_at : World → (now : ℕ) → Outcome
 expire_at w now =
-    revoke_all (revoke_pending AcceptanceExpired) (pending_over now) (revoke_circuit_there TicketExpired) (circuit_over now)
-    (without_lapsed (at_time w now) now)
+    revoke_all (revoke_pending AcceptanceExpired) (pending_over now) (revoke_circuit_there TicketExpired)
+    (circuit_over now) (without_lapsed (at_time w now) now)
 
 unfoldable pub expire : World → (now room : ℕ) → Outcome
 expire w now room =
@@ -85,7 +85,8 @@ switched w on = with_runtime (with_inflight w (dropped is_action w.inflight)) (w
 unfoldable pub switch_to : World → Bool → Outcome
 switch_to w true = done (switched w true) []
 switch_to w false =
-    revoke_all (revoke_pending RelayDisabled) is_pending (revoke_circuit_there RelayDisabled) is_circuit (switched w false)
+    revoke_all (revoke_pending RelayDisabled) is_pending (revoke_circuit_there RelayDisabled) is_circuit
+    (switched w false)
 
 unfoldable pub replace_enabled : World → (expected : ℕ) → Bool → (room : ℕ) → Outcome
 replace_enabled w expected on room =

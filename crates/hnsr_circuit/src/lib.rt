@@ -2,6 +2,7 @@
 // front.
 // Circuit and context ids are numbers whose highest byte is the first byte on the wire.
 #![tactic(auto)]
+
 pub mod answer;
 pub mod calls;
 pub mod config;

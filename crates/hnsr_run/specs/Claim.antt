@@ -1,6 +1,7 @@
 -- The run theorem (RUN.10): one claim about any list of calls from a taken `new`, refused ones included, over a
 -- machine: its `new` and its step.
-use Rattle.std.specs.Prelude.{ℕ, ◌≤◌, ◌<◌, ◌≡◌, ◌↔◌, Bool, true, not, ◌&&◌, ◌||◌, List, [], ◌∷◌, map, ltb, eqb, length, replicate}
+use Rattle.std.specs.Prelude.{ℕ, ◌≤◌, ◌<◌, ◌≡◌, ◌↔◌, Bool, true, not, ◌&&◌, ◌||◌}
+use Rattle.std.specs.Prelude.{List, [], ◌∷◌, map, ltb, eqb, length, replicate}
 use Rattle.hns_encoding.specs.Numbers.{top}
 use Rattle.hns_encoding.specs.Sums.{total}
 use Rattle.hnsr_body.specs.Data.{most_data}

@@ -64,7 +64,8 @@ own-context-first = (refl, refl, refl)
 abbrev two_meant : List Call
 two_meant = asked ++ (opens 2 3 7 (8 ∷ []) (grant 5 4000) 100 ∷ closes 2 7 100 ∷ [])
 
-pub two_end_nothing : (answers_of fresh two_meant ≡ 0 ∷ 0 ∷ 11 ∷ []) × (pendings (past_after two_meant) ≡ true ∷ true ∷ [])
+pub two_end_nothing : (answers_of fresh two_meant ≡ 0 ∷ 0 ∷ 11 ∷ [])
+    × (pendings (past_after two_meant) ≡ true ∷ true ∷ [])
 unfolding machine lent not_admitted
 two_end_nothing = (refl, refl)
 
@@ -88,7 +89,9 @@ abbrev lost_full : List Call
 lost_full = standing ++ (widens 2 7 1000 100 ∷ opens 1 3 6 (8 ∷ []) (grant 5 4000) 100 ∷ lost 1 4 ∷ [])
 
 pub lost-incoming-full : let h = past_from tight lost_full in
-    (answers_of tight lost_full ≡ 0 ∷ 0 ∷ 0 ∷ 0 ∷ 10 ∷ []) × (pendings h ≡ false ∷ false ∷ []) × (numbers h ≡ 2 ∷ 3 ∷ [])
+    (answers_of tight lost_full ≡ 0 ∷ 0 ∷ 0 ∷ 0 ∷ 10 ∷ [])
+    × (pendings h ≡ false ∷ false ∷ [])
+    × (numbers h ≡ 2 ∷ 3 ∷ [])
 unfolding machine lent not_admitted
 lost-incoming-full = (refl, refl, refl)
 
@@ -196,7 +199,8 @@ unfolding machine lent not_admitted
 refused_answers = refl
 
 -- ---- DATA refused with 6, which the claim's bounds exclude: nothing is reckoned
-pub data_exhausted : after (past_after standing) (sends 1 7 40 100) (Refused GenerationExhausted) [] ≡ past_after standing
+pub data_exhausted : after (past_after standing) (sends 1 7 40 100) (Refused GenerationExhausted) []
+    ≡ past_after standing
 unfolding machine lent not_admitted
 data_exhausted = refl
 

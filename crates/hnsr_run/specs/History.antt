@@ -1,7 +1,8 @@
 -- What each event changes (RUN.3 to RUN.8), and what the whole list of events tells. What a call ends or drops is its
 -- rule applied to what is known; what a refused call left behind shows in its number; what a route is about follows
 -- from the call and the route's words (`Words.words-alone`).
-use Rattle.std.specs.Prelude.{ℕ, ◌+◌, min, Bool, true, false, cond, not, ◌&&◌, ◌||◌, List, [], ◌∷◌, ◌++◌, map, leb, ltb, eqb, length}
+use Rattle.std.specs.Prelude.{ℕ, ◌+◌, min, Bool, true, false, cond, not, ◌&&◌, ◌||◌}
+use Rattle.std.specs.Prelude.{List, [], ◌∷◌, ◌++◌, map, leb, ltb, eqb, length}
 use Rattle.std.specs.Bool.{beq}
 use Rattle.hns_encoding.specs.Sums.{non}
 use Rattle.hnsr_body.specs.declared.values.ReservationId.{ReservationId}
@@ -29,7 +30,8 @@ use Rattle.hnsr_circuit.specs.Draw.{undrawn, draws, draw_all}
 use Rattle.hnsr_circuit.specs.Open.{deadline_for}
 use Rattle.hnsr_circuit.specs.Handle.{Handling, OPEN, ACCEPT, DATA, WINDOW, CLOSE, ERROR, other, handling_of}
 use Rattle.hnsr_circuit.specs.Call.{Start, Call, call_status, call_next_due, call_observe_time, call_replace_enabled}
-use Rattle.hnsr_circuit.specs.Call.{call_handle, call_acknowledge, call_disconnect, call_revoke_reservation, call_expire}
+use Rattle.hnsr_circuit.specs.Call.{call_handle, call_acknowledge, call_disconnect}
+use Rattle.hnsr_circuit.specs.Call.{call_revoke_reservation, call_expire}
 use Rattle.hnsr_run.specs.Past.{Known, Asked, Action, Past, starting, counted, on_circuit, numbered, toward}
 use Rattle.hnsr_run.specs.Past.{tally, heard, carried_once, nothing, no_one, no_opens, no_book, head_at, with_head}
 use Rattle.hnsr_run.specs.Past.{with_book, with_out, fewer, emit, without, moved_to, numbering, stood, unstood}

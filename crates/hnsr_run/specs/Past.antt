@@ -2,7 +2,8 @@
 -- tell: circuits, OPENs that stand, reservations, outstanding actions, and how each small change leaves it. No table of
 -- the machine is looked at, and no label of a route. Circuits and OPENs are functions of the id, reservations of
 -- theirs; the actions are one list.
-use Rattle.std.specs.Prelude.{ℕ, ◌+◌, ◌-◌, Bool, true, false, cond, not, ◌&&◌, List, [], ◌∷◌, ◌++◌, map, ltb, eqb, length}
+use Rattle.std.specs.Prelude.{ℕ, ◌+◌, ◌-◌, Bool, true, false, cond, not, ◌&&◌}
+use Rattle.std.specs.Prelude.{List, [], ◌∷◌, ◌++◌, map, ltb, eqb, length}
 use Rattle.hns_encoding.specs.Sums.{only, non, count}
 use Rattle.hnsr_body.specs.declared.values.ReservationId.{ReservationId}
 use Rattle.hnsr_body.specs.Values.{same_reservation}
@@ -218,8 +219,15 @@ abbrev pub no_book : Book
 no_book = record { made = λ r. false; due = λ r. 0; spent = λ r. 0 }
 
 abbrev pub nothing : Action
-nothing =
-    record { generation = 0; sequence = 0; circuit = 0; destination = no_peer; kind = 0; to_endpoint = false; bytes = 0 }
+nothing = record {
+  generation = 0;
+  sequence = 0;
+  circuit = 0;
+  destination = no_peer;
+  kind = 0;
+  to_endpoint = false;
+  bytes = 0;
+}
 
 -- ---- parts replaced, the others staying. Every other change goes by these, so that a new part is copied here alone
 -- all but the configuration, which no call changes

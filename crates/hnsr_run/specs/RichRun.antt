@@ -10,7 +10,8 @@ use Rattle.hnsr_circuit.specs.Opcode.{op_error}
 use Rattle.hnsr_circuit.specs.Entry.{handle_words, acknowledge_words}
 use Rattle.hnsr_circuit.specs.Worked.Cases.{lent, not_admitted}
 use Rattle.hnsr_circuit.specs.Code.Told.{capacity_in}
-use Rattle.hnsr_circuit.specs.Call.{Call, start, step, call_status, call_next_due, call_observe_time, call_replace_enabled}
+use Rattle.hnsr_circuit.specs.Call.{Call, start, step, call_status, call_next_due}
+use Rattle.hnsr_circuit.specs.Call.{call_observe_time, call_replace_enabled}
 use Rattle.hnsr_circuit.specs.Call.{call_handle, call_disconnect, call_revoke_reservation, call_expire}
 use Rattle.hnsr_circuit.specs.Worked.All.{machine}
 use Rattle.hnsr_run.specs.Past.{Action, credit, circuit_left, total_left, weight}
@@ -210,8 +211,8 @@ pub all-acknowledged : map number_of (events step (world_after rich_calls) (acks
 unfolding machine lent not_admitted
 all-acknowledged = refl
 
-pub circuit-full : number (step (after_acks rich_calls) (sends 2 7 3200 200)).answer ∷ number (step (after_acks rich_calls)
-    (sends 2 7 3201 200)).answer ∷ [] ≡ 0 ∷ 18 ∷ []
+pub circuit-full : number (step (after_acks rich_calls) (sends 2 7 3200 200)).answer
+    ∷ number (step (after_acks rich_calls) (sends 2 7 3201 200)).answer ∷ [] ≡ 0 ∷ 18 ∷ []
 unfolding machine lent not_admitted
 circuit-full = refl
 

@@ -12,7 +12,8 @@ use Rattle.hnsr_circuit.specs.Inflight.{kind_number}
 use Rattle.hnsr_circuit.specs.Route.{Route}
 use Rattle.hnsr_circuit.specs.Packet.{Packet, sender}
 use Rattle.hnsr_circuit.specs.Handle.{Handling, OPEN, ACCEPT, DATA, WINDOW, CLOSE, ERROR, other, handling_of}
-use Rattle.hnsr_circuit.specs.Call.{Call, call_status, call_next_due, call_observe_time, call_replace_enabled, call_handle}
+use Rattle.hnsr_circuit.specs.Call.{Call, call_status, call_next_due, call_observe_time}
+use Rattle.hnsr_circuit.specs.Call.{call_replace_enabled, call_handle}
 use Rattle.hnsr_circuit.specs.Call.{call_acknowledge, call_disconnect, call_revoke_reservation, call_expire}
 use Rattle.hnsr_run.specs.Past.{Action, Past, numbered, nothing, without, moved_to}
 use Rattle.hnsr_run.specs.History.{Event, taken, ends, written, entered, handled_as}

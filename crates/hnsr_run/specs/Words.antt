@@ -14,7 +14,8 @@ use Rattle.hnsr_circuit.specs.Peer.{peer_of}
 use Rattle.hnsr_circuit.specs.Route.{Route, peer_words, packet_words, route_words}
 use Rattle.hnsr_circuit.specs.Packet.{Packet, sender}
 use Rattle.hnsr_circuit.specs.Handle.{Handling, OPEN, ACCEPT, DATA, WINDOW, CLOSE, ERROR, other, handling_of}
-use Rattle.hnsr_circuit.specs.Call.{Call, call_status, call_next_due, call_observe_time, call_replace_enabled, call_handle}
+use Rattle.hnsr_circuit.specs.Call.{Call, call_status, call_next_due, call_observe_time}
+use Rattle.hnsr_circuit.specs.Call.{call_replace_enabled, call_handle}
 use Rattle.hnsr_circuit.specs.Call.{call_acknowledge, call_disconnect, call_revoke_reservation, call_expire}
 use Rattle.hnsr_run.specs.Past.{Action, Past, numbered, toward, nothing, carried, carried_once}
 use Rattle.hnsr_run.specs.Past.{heard, with_book, with_out, emit, without, moved_to, numbering}
@@ -75,7 +76,8 @@ same-handled : (k : Handling) (q : Packet) (a : HnsrAnswer) (rs : List Route) (h
 same-handled OPEN q a rs h =
     let b = remade q.now h.book q.admission.ticket in
     let g = stood (with_book h b) (drawn_in h q) (asked_for h.head.config q) in
-    ap (λ (x : Past). cond (taken a) x (cond (refused_by ByteLimit a) (with_book h b) h)) (same-emit g (drawn_in h q) rs)
+    ap (λ (x : Past). cond (taken a) x (cond (refused_by ByteLimit a) (with_book h b) h))
+    (same-emit g (drawn_in h q) rs)
 same-handled ACCEPT q a rs h =
     let j = q.context in
     let g = begun (open_ended h j) j
@@ -107,7 +109,8 @@ words-alone h (call_observe_time now) a rs = refl
 words-alone h (call_replace_enabled expected on room) a rs =
     λ i. cond (taken a)
     (cond (beq h.head.enabled on) h
-    (cond on (with_out (switched_to h on) ((switched_to h on).out ++ same_map (heard (λ r. r.context)) (λ r. refl) rs i))
+    (cond on
+    (with_out (switched_to h on) ((switched_to h on).out ++ same_map (heard (λ r. r.context)) (λ r. refl) rs i))
     (revoked (switched_to h on) every_open every_circuit (same_map (heard (about h)) (λ r. refl) rs i)))) h
 words-alone h (call_handle q room) a rs =
     ap (λ (g : Past). cond (taken (entered h q room)) (cond h.head.enabled g (moved_to h q.now)) h)
@@ -117,8 +120,8 @@ words-alone h (call_acknowledge g s delivered room) a rs =
     let rest = without h (numbered g s) in
     ap (λ (k : Past). cond (ends a) k h) (same-emit (cond delivered rest (failed_in x rest)) x.circuit rs)
 words-alone h (call_disconnect peer room) a rs =
-    ap (λ l.
-    cond (taken a) (revoked (without h (toward (peer_of peer))) (asked_side (peer_of peer)) (known_side (peer_of peer)) l) h)
+    ap (λ l. cond (taken a)
+    (revoked (without h (toward (peer_of peer))) (asked_side (peer_of peer)) (known_side (peer_of peer)) l) h)
     (same_leaving (peer_of peer) (without h (toward (peer_of peer))) [] rs)
 words-alone h (call_revoke_reservation id room) a rs =
     ap (λ l. cond (taken a) (revoked (with_book h (unmade h.book id)) (asked_under id) (known_under id) l) h)

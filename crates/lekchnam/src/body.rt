@@ -240,7 +240,8 @@ pub extern "C" fn hnsr_body_encode_open(body: OpenBody, key_valid: bool) -> Open
 
 #[unsafe(no_mangle)]
 pub extern "C" fn hnsr_body_encode_incoming(body: IncomingBody) -> IncomingBytes
-    ensures { (result.cause ≡ cause_numbers (encode_incoming body).result) × (result.bytes ≡ (encode_incoming body).bytes) }
+    ensures { (result.cause ≡ cause_numbers (encode_incoming body).result)
+        × (result.bytes ≡ (encode_incoming body).bytes) }
 {
     let written = body.encode();
     let result = written.result;

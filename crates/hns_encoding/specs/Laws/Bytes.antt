@@ -1,8 +1,12 @@
 -- Numbers to base 256, over the width: a number is the sum of its bytes, each byte of a number, how large a number of
 -- so many bytes is, and that reading and writing undo one another.
-use Rattle.std.specs.Prelude.{ℕ, zero, suc, ◌+◌, ◌*◌, ◌/◌, ◌%◌, ◌^◌, ◌<◌, ◌≤◌, ◌≡◌, refl, true, false, List, [], ◌∷◌, length, get_or, drop}
-use Rattle.std.proofs.Common.{pow-suc, mul-le-mul_right, mul_comm, mul_assoc, add-mul, mul-add, zero-mul, div-one, mod-eq_of_lt, lt_of_lt_of_le, le_of_suc-le-suc, not-suc-le-zero, add-one, arith, sym, ◌∙◌, ap, ap₂, eq-eqb, ne_eqb, lit<, drop_of_length-le, drop-cons}
-use Rattle.std.proofs.Math.Nat.{pow-succ', pow-zero, pow-le-pow_right, one-le-pow, div-div-eq-div-mul, zero-div, mod-one}
+use Rattle.std.specs.Prelude.{ℕ, zero, suc, ◌+◌, ◌*◌, ◌/◌, ◌%◌, ◌^◌, ◌<◌, ◌≤◌, ◌≡◌}
+use Rattle.std.specs.Prelude.{refl, true, false, List, [], ◌∷◌, length, get_or, drop}
+use Rattle.std.proofs.Common.{pow-suc, mul-le-mul_right, mul_comm, mul_assoc, add-mul, mul-add, zero-mul}
+use Rattle.std.proofs.Common.{div-one, mod-eq_of_lt, lt_of_lt_of_le, le_of_suc-le-suc, not-suc-le-zero, add-one}
+use Rattle.std.proofs.Common.{arith, sym, ◌∙◌, ap, ap₂, eq-eqb, ne_eqb, lit<, drop_of_length-le, drop-cons}
+use Rattle.std.proofs.Math.Nat.{pow-succ', pow-zero, pow-le-pow_right, one-le-pow}
+use Rattle.std.proofs.Math.Nat.{div-div-eq-div-mul, zero-div, mod-one}
 use Rattle.std.proofs.Math.Arith.{mod-mul, digits_lt, digits_div}
 use Rattle.hns_encoding.specs.Bytes.{Below, le, le_bytes, be, be_from, be_bytes, all_zero}
 use Rattle.hns_encoding.specs.Cursor.{field}
@@ -37,7 +41,8 @@ le-past xs p w l = ap le (sym (field_past xs p w l))
 
 -- four bytes at a place as a number
 pub le_four : (xs : List ℕ) (p : ℕ) → p + 4 ≤ length xs
-    → le (field xs p 4) ≡ get_or xs p 0 + 256 * (get_or xs (p + 1) 0 + 256 * (get_or xs (p + 2) 0 + 256 * get_or xs (p + 3) 0))
+    → le (field xs p 4)
+    ≡ get_or xs p 0 + 256 * (get_or xs (p + 1) 0 + 256 * (get_or xs (p + 2) 0 + 256 * get_or xs (p + 3) 0))
 le_four xs p l =
     omega (
       arith,

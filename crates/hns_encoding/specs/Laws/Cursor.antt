@@ -1,6 +1,7 @@
 -- What a method of the cursor answers, over the width and the answer's type: the field and the cursor behind it where
 -- the test passed, the early end where it did not. `b` is what the code's test gave.
-use Rattle.std.specs.Prelude.{ℕ, ◌+◌, ◌-◌, ◌≤◌, ◌≡◌, refl, Bool, true, false, List, [], ◌++◌, length, take, drop, replicate, eqb, ltb}
+use Rattle.std.specs.Prelude.{ℕ, ◌+◌, ◌-◌, ◌≤◌, ◌≡◌, refl, Bool, true, false, List}
+use Rattle.std.specs.Prelude.{[], ◌++◌, length, take, drop, replicate, eqb, ltb}
 use Rattle.std.proofs.Common.{arith, sym, ◌∙◌, ap, length-append, leb-true, le-leb, eqb-true}
 use Rattle.std.proofs.lemmas.List.{length-replicate}
 use Rattle.hns_encoding.specs.Words.{word_count, bytes_of}

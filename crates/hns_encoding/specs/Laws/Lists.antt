@@ -1,6 +1,9 @@
 -- Parts of lists and lists written into lists: what a loop that reads or stores one element a turn goes by.
-use Rattle.std.specs.Prelude.{ℕ, zero, suc, ◌+◌, ◌-◌, ◌<◌, ◌≤◌, min, ◌≡◌, refl, List, [], ◌∷◌, ◌++◌, length, take, drop, get_or, set, replicate, leb}
-use Rattle.std.proofs.Common.{le_refl, zero-add, add-one, arith, sym, ◌∙◌, ap, ap₂, append_assoc, append-nil, length-append, length-drop, drop_of_length-le, drop-cons, get_or-take, get_or-drop, take_all, length-take-le, take_at, drop_at, drop-drop, leb-true, leb-false}
+use Rattle.std.specs.Prelude.{ℕ, zero, suc, ◌+◌, ◌-◌, ◌<◌, ◌≤◌, min, ◌≡◌, refl, List, []}
+use Rattle.std.specs.Prelude.{◌∷◌, ◌++◌, length, take, drop, get_or, set, replicate, leb}
+use Rattle.std.proofs.Common.{le_refl, zero-add, add-one, arith, sym, ◌∙◌, ap, ap₂, append_assoc, append-nil}
+use Rattle.std.proofs.Common.{length-append, length-drop, drop_of_length-le, drop-cons, get_or-take, get_or-drop}
+use Rattle.std.proofs.Common.{take_all, length-take-le, take_at, drop_at, drop-drop, leb-true, leb-false}
 use Rattle.std.proofs.Math.Nat.{sub-zero, zero-sub, suc-sub-suc}
 use Rattle.std.proofs.Math.Seq.{take-nil, take-length, drop-append-add, paste, paste-suc, paste-zero}
 use Rattle.std.proofs.lemmas.List.Edits.{length-paste, sets-eq}

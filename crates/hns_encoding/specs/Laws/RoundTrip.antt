@@ -35,7 +35,8 @@ module _ {R : Type 0} (ok : ℕ → Decoder → R) (err : DecodeError → R) (xs
       ≡ ok n (record { position = position + width })
   le_round l h =
       let w = le_bytes-length width n in
-      ap (λ (k : ℕ). reads_le ok err k (written xs position (le_bytes width n)) (record { position = position })) (sym w)
+      ap (λ (k : ℕ). reads_le ok err k (written xs position (le_bytes width n)) (record { position = position }))
+      (sym w)
       ∙ reads-written (λ bytes next. ok (le bytes) next) err xs position (le_bytes width n) (omega arith)
       ∙ ap₂ (λ (m k : ℕ). ok m (record { position = position + k })) (le-again width n h) w
 
@@ -45,7 +46,8 @@ module _ {R : Type 0} (ok : ℕ → Decoder → R) (err : DecodeError → R) (xs
       ≡ ok n (record { position = position + width })
   be_round l h =
       let w = be_bytes-length width n in
-      ap (λ (k : ℕ). reads_be ok err k (written xs position (be_bytes width n)) (record { position = position })) (sym w)
+      ap (λ (k : ℕ). reads_be ok err k (written xs position (be_bytes width n)) (record { position = position }))
+      (sym w)
       ∙ reads-written (λ bytes next. ok (be bytes) next) err xs position (be_bytes width n) (omega arith)
       ∙ ap₂ (λ (m k : ℕ). ok m (record { position = position + k })) (be-again width n h) w
 

@@ -1,6 +1,7 @@
 -- Sums over lists: at equal, lesser and added measures; of a list put together, mapped or changed at one place; split
 -- by a test.
-use Rattle.std.specs.Prelude.{ℕ, zero, suc, ◌+◌, ◌≤◌, ◌<◌, ◌≡◌, refl, Bool, List, [], ◌∷◌, ◌++◌, map, length, get_or, set}
+use Rattle.std.specs.Prelude.{ℕ, zero, suc, ◌+◌, ◌≤◌, ◌<◌, ◌≡◌, refl, Bool}
+use Rattle.std.specs.Prelude.{List, [], ◌∷◌, ◌++◌, map, length, get_or, set}
 use Rattle.std.proofs.Common.{not-suc-le-zero, le_of_suc-le-suc, arith}
 use Rattle.hns_encoding.specs.Sums.{only, non, total, count}
 use Rattle.hns_encoding.specs.Laws.Tests.{split}

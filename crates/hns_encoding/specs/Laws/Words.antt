@@ -1,7 +1,9 @@
 -- Words, over their number: how many there are, each of them, the first ones and the rest; each byte of words; and that
 -- reading and writing undo one another.
-use Rattle.std.specs.Prelude.{ℕ, zero, suc, ◌+◌, ◌*◌, ◌/◌, ◌%◌, ◌^◌, ◌-◌, ◌<◌, ◌≤◌, ◌≡◌, refl, List, [], ◌∷◌, ◌++◌, ltb, length, get_or, take, drop}
-use Rattle.std.proofs.Common.{le_of_suc-le-suc, not-suc-le-zero, zero-add, suc-add, arith, ◌∙◌, ap, ap₂, length-append, drop-drop, length-take-le, get_or-take, ext_get_or, ltb-true, ltb-false}
+use Rattle.std.specs.Prelude.{ℕ, zero, suc, ◌+◌, ◌*◌, ◌/◌, ◌%◌, ◌^◌, ◌-◌, ◌<◌, ◌≤◌, ◌≡◌}
+use Rattle.std.specs.Prelude.{refl, List, [], ◌∷◌, ◌++◌, ltb, length, get_or, take, drop}
+use Rattle.std.proofs.Common.{le_of_suc-le-suc, not-suc-le-zero, zero-add, suc-add, arith, ◌∙◌, ap, ap₂}
+use Rattle.std.proofs.Common.{length-append, drop-drop, length-take-le, get_or-take, ext_get_or, ltb-true, ltb-false}
 use Rattle.std.proofs.Math.ListN.{get_or-append}
 use Rattle.hns_encoding.specs.Bytes.{Below, le, le_bytes}
 use Rattle.hns_encoding.specs.Words.{word_count, words_of, words, bytes_of, high_low, from_high_low}
@@ -15,7 +17,8 @@ unfolding words_of
 words_of-length zero bs = refl
 words_of-length (suc count) bs = ap suc (words_of-length count (drop 4 bs))
 
-pub words_of-at : (count : ℕ) (bs : List ℕ) (i : ℕ) → i < count → get_or (words_of count bs) i 0 ≡ le (field bs (4 * i) 4)
+pub words_of-at : (count : ℕ) (bs : List ℕ) (i : ℕ) → i < count
+    → get_or (words_of count bs) i 0 ≡ le (field bs (4 * i) 4)
 unfolding words_of
 words_of-at zero bs i l = absurd (not-suc-le-zero l)
 words_of-at (suc count) bs zero l = refl
@@ -38,7 +41,8 @@ words_of-add (suc first) count bs =
 pub bytes_of-length : (ws : List ℕ) → length (bytes_of ws) ≡ 4 * length ws
 unfolding bytes_of
 bytes_of-length [] = refl
-bytes_of-length (w ∷ ws) = omega (arith, length-append (le_bytes 4 w) (bytes_of ws), le_bytes-length 4 w, bytes_of-length ws)
+bytes_of-length (w ∷ ws) =
+    omega (arith, length-append (le_bytes 4 w) (bytes_of ws), le_bytes-length 4 w, bytes_of-length ws)
 
 bytes_of-behind : (w : ℕ) (ws : List ℕ) (j : ℕ) → get_or (bytes_of (w ∷ ws)) (4 + j) 0 ≡ get_or (bytes_of ws) j 0
 unfolding bytes_of le_bytes

@@ -1,6 +1,7 @@
 -- Round trips of CLOSE and ERROR: the reason, the length of the detail and the detail are the fields of a body, whose
 -- last width is what is left.
-use Rattle.std.specs.Prelude.{ℕ, ◌+◌, ◌-◌, ◌%◌, ◌<◌, ◌≤◌, ◌^◌, ◌≡◌, refl, List, [], ◌∷◌, map, eqb, take, drop, replicate}
+use Rattle.std.specs.Prelude.{ℕ, ◌+◌, ◌-◌, ◌%◌, ◌<◌, ◌≤◌, ◌^◌, ◌≡◌, refl}
+use Rattle.std.specs.Prelude.{List, [], ◌∷◌, map, eqb, take, drop, replicate}
 use Rattle.std.proofs.Common.{arith, sym, ◌∙◌, append-nil, drop-drop}
 use Rattle.std.proofs.Math.Path.{ap}
 use Rattle.std.proofs.Math.Bool.{true}
@@ -8,7 +9,6 @@ use Rattle.std.proofs.Math.Dec.{leb}
 use Rattle.std.proofs.Math.ListN.{length, length-drop}
 use borrow.Author.Tests.{leb-true, le-leb, eqb-true, eq-eqb}
 use Rattle.hns_encoding.specs.declared.decoder.Step.{Step}
-use Rattle.hns_encoding.specs.declared.decoder.Step.TheVariants as Step
 use Rattle.hns_encoding.specs.Bytes.{Below, le, le_bytes, padded}
 use Rattle.hns_encoding.specs.Laws.Tests.{on-true, join, both}
 use Rattle.hns_encoding.specs.Laws.Lists.{field-rest}

@@ -8,7 +8,6 @@ use Rattle.std.proofs.lemmas.List.{length-replicate}
 use Rattle.hns_encoding.specs.declared.decoder.Decoder.{Decoder}
 use Rattle.hns_encoding.specs.declared.decoder.DecodeError.{DecodeError}
 use Rattle.hns_encoding.specs.declared.decoder.Step.{Step}
-use Rattle.hns_encoding.specs.declared.decoder.Step.TheVariants as Step
 use Rattle.hns_encoding.specs.Cursor.{has, behind, field, unexpected_end, reads, part}
 use Rattle.hns_encoding.specs.Laws.Tests.{cond_map, on-true, on-false, split}
 use Rattle.hns_encoding.specs.Laws.Lists.{field-length, field-rest}

@@ -1,10 +1,11 @@
 -- Fields put together: a body is laid out just where it has the size of its fields, and then it is its fields, one
 -- after the other.
-use Rattle.std.specs.Prelude.{ℕ, zero, suc, ◌+◌, ◌≤◌, ◌≡◌, refl, Bool, true, false, List, [], ◌∷◌, ◌++◌, map, leb, eqb, ltb, length, get_or, take, drop, replicate}
-use Rattle.std.proofs.Common.{arith, sym, ◌∙◌, ap, length-append, length-drop, take-append-drop, drop-drop, take_at, drop_at, leb-true, le-leb, eqb-true, eq-eqb}
+use Rattle.std.specs.Prelude.{ℕ, zero, suc, ◌+◌, ◌≤◌, ◌≡◌, refl, Bool, true, false, List, [], ◌∷◌}
+use Rattle.std.specs.Prelude.{◌++◌, map, leb, eqb, ltb, length, get_or, take, drop, replicate}
+use Rattle.std.proofs.Common.{arith, sym, ◌∙◌, ap, length-append, length-drop, take-append-drop}
+use Rattle.std.proofs.Common.{drop-drop, take_at, drop_at, leb-true, le-leb, eqb-true, eq-eqb}
 use Rattle.hns_encoding.specs.declared.decoder.Decoder.{Decoder}
 use Rattle.hns_encoding.specs.declared.decoder.Step.{Step}
-use Rattle.hns_encoding.specs.declared.decoder.Step.TheVariants as Step
 use Rattle.hns_encoding.specs.Bytes.{Below, le, le_bytes, be, be_bytes}
 use Rattle.hns_encoding.specs.Cursor.{field, unexpected_end}
 use Rattle.hns_encoding.specs.Sums.{total}
@@ -153,7 +154,8 @@ module _ (widths xs : List ℕ) (bytes : Below 256 xs) (laid : laid_out widths x
 
   pub le-part : le_bytes (get_or widths i 0) (le (field_of widths i xs)) ≡ get_or (cut widths xs) i []
   le-part =
-      value_part le (le_bytes (get_or widths i 0)) (λ bs b e. ap (λ (w : ℕ). le_bytes w (le bs)) (sym e) ∙ le_bytes-le bs b)
+      value_part le (le_bytes (get_or widths i 0))
+      (λ bs b e. ap (λ (w : ℕ). le_bytes w (le bs)) (sym e) ∙ le_bytes-le bs b)
 
   pub be-part : be_bytes (get_or widths i 0) (be (field_of widths i xs)) ≡ get_or (cut widths xs) i []
   be-part =

@@ -220,7 +220,8 @@ module _ (xs : List ℕ) (bytes : Below 256 xs) (h : (decode_incoming xs).result
   pub incoming-written : incoming_bytes (decode_incoming xs).body ≡ xs
   unfolding decode_incoming incoming_fields
   incoming-written =
-      let laid = (answer-good (laid_out incoming_widths xs) (incoming_good (incoming_fields xs)) IncomingParameters h).0 in
+      let laid =
+      (answer-good (laid_out incoming_widths xs) (incoming_good (incoming_fields xs)) IncomingParameters h).0 in
       let P = read_parts incoming_widths xs laid in
       let same : incoming_parts (incoming_fields xs) ≡ cut incoming_widths xs =
       λ i. P.part 0 i ∷ be-part incoming_widths xs bytes laid 1 i ∷ le-part incoming_widths xs bytes laid 2 i
@@ -230,7 +231,8 @@ module _ (xs : List ℕ) (bytes : Below 256 xs) (h : (decode_incoming xs).result
   pub incoming-taken : encode_incoming (decode_incoming xs).body ≡ record { result = Ok; bytes = xs }
   unfolding decode_incoming encode_incoming
   incoming-taken =
-      let good = (answer-good (laid_out incoming_widths xs) (incoming_good (incoming_fields xs)) IncomingParameters h).1 in
+      let good =
+      (answer-good (laid_out incoming_widths xs) (incoming_good (incoming_fields xs)) IncomingParameters h).1 in
       λ i. record {
         result = answered {layout = Ok} IncomingParameters refl good i;
         bytes = (on-true _ (incoming_bytes (incoming_fields xs)) (replicate incoming_size 0) good ∙ incoming-written) i;

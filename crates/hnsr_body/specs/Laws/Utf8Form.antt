@@ -1,8 +1,11 @@
 -- The code's form is the ABNF: a lead byte's length decides which line can hold, and so how far the first character of
 -- a text goes.
 
-use Rattle.std.specs.Prelude.{ℕ, suc, ◌+◌, ◌-◌, ◌≤◌, ◌<◌, ◌≡◌, refl, Bool, true, false, cond, ◌&&◌, ◌||◌, List, [], ◌∷◌, ◌↔◌, leb, ltb, eqb, length, take, drop, get_or}
-use Rattle.std.proofs.Common.{sym, ap, ◌∙◌, inl, inr, ⊎_elim, not-suc-le-zero, le_of_eq, arith, leb-true, leb-false, le-leb, lt-ltb, eqb-true, eq-eqb, length-drop, drop_of_length-le, drop-cons, drop-drop, take_all, add-one}
+use Rattle.std.specs.Prelude.{ℕ, suc, ◌+◌, ◌-◌, ◌≤◌, ◌<◌, ◌≡◌, refl, Bool, true, false, cond, ◌&&◌}
+use Rattle.std.specs.Prelude.{◌||◌, List, [], ◌∷◌, ◌↔◌, leb, ltb, eqb, length, take, drop, get_or}
+use Rattle.std.proofs.Common.{sym, ap, ◌∙◌, inl, inr, ⊎_elim, not-suc-le-zero, le_of_eq, arith}
+use Rattle.std.proofs.Common.{leb-true, leb-false, le-leb, lt-ltb, eqb-true, eq-eqb, length-drop}
+use Rattle.std.proofs.Common.{drop_of_length-le, drop-cons, drop-drop, take_all, add-one}
 use Rattle.std.proofs.Math.Bool.{or-false}
 use Rattle.std.proofs.lemmas.Bool.{false≢true, eqb-false}
 use Rattle.hnsr_body.specs.Utf8.{between, tail, utf8_1, utf8_2, utf8_3, utf8_4, utf8}

@@ -62,7 +62,8 @@ data_plan h f u s peer m n = let a = data_rows h.config f u s.tally peer n in re
 }
 
 -- on a circuit, from the tables: its reservation's ledger record, the actions
-abbrev pub data_planned_on : OpaqueRelayRuntime → CircuitFound → List ReservationUsage → List InflightAction → RelayPacket
+abbrev pub data_planned_on : OpaqueRelayRuntime → CircuitFound → List ReservationUsage → List InflightAction
+    → RelayPacket
     → HnsrPeerId → (n : ℕ) → DataPlan
 data_planned_on h f l i q peer n =
     let m = data_on q f.circuit peer n in

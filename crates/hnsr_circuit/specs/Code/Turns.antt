@@ -13,7 +13,7 @@ use Rattle.hnsr_circuit.specs.declared.tables.scan.CircuitTotals.{CircuitTotals}
 use Rattle.hnsr_circuit.specs.declared.tables.scan.LedgerScan.{LedgerScan}
 use Rattle.hnsr_circuit.specs.declared.records.ReservationUsage.{ReservationUsage}
 use Rattle.hns_encoding.specs.Numbers.{saturating_add}
-use Rattle.hns_encoding.specs.Sums.{non, one, total, count}
+use Rattle.hns_encoding.specs.Sums.{non, one, count}
 use Rattle.hnsr_circuit.specs.Table.{also, any, pick, place_of}
 use Rattle.hnsr_circuit.specs.Pending.{is_pending, pending_at, pending_of, pending_under, requested_by}
 use Rattle.hnsr_circuit.specs.Circuits.{is_circuit, circuit_at, circuit_of, circuit_under, queued_in}

@@ -49,7 +49,8 @@ module _ (h : OpaqueRelayRuntime) (p : List RelayPending) (c : List RelayCircuit
       → h' ≡ revoked_if true h
       → p' ≡ set p (place_of (pending_at id) p) (clear_pending (pick (pending_at id) no_pending p))
       → m ≡ error_out (pick (pending_at id) no_pending p)
-      → send (world_of h' p' c l i) (message_of m (notice_body EndpointWriteFailed)) ≡ fail_incoming (world_of h p c l i) id
+      → send (world_of h' p' c l i) (message_of m (notice_body EndpointWriteFailed))
+      ≡ fail_incoming (world_of h p c l i) id
   unfolding fail_incoming fail_pending without_pending error_to_requester
   incoming_failed h' p' m t eh ep em =
       let k = pick (pending_at id) no_pending p in

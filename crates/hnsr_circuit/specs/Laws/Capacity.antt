@@ -182,7 +182,8 @@ flow_other k c side n =
 
 credit-other : (c : RelayCircuit) (side : RelaySide) (delta : ℕ) → Other (credit_answer c side delta)
 unfolding credit_answer
-credit-other c side delta = check-never 10 (ltb most_window (credit_of (other_side side) c + delta)) FlowControl refl refl
+credit-other c side delta =
+    check-never 10 (ltb most_window (credit_of (other_side side) c + delta)) FlowControl refl refl
 
 late_other : (c : OpaqueRelayConfig) (now : ℕ) → Other (deadline_answer c now)
 unfolding deadline_answer

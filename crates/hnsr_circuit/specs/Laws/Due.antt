@@ -2,7 +2,8 @@
 -- (`due-only`), and `due-later` is what a call at a given time goes by. What they need of a table is proved once, over
 -- any record type.
 use Rattle.std.specs.Prelude.{ℕ, suc, min, ◌≤◌, ◌≡◌, ◌&&◌, ◌||◌, ◌↔◌, ◌⊎◌, leb, ltb}
-use Rattle.std.proofs.Common.{arith, ◌∙◌, true≢false, leb-true, leb-false, ltb-true, ltb-false, lt-ltb, le-ltb, le-leb, eqb-true, eq-eqb}
+use Rattle.std.proofs.Common.{arith, ◌∙◌, true≢false, leb-true, leb-false, ltb-true}
+use Rattle.std.proofs.Common.{ltb-false, lt-ltb, le-ltb, le-leb, eqb-true, eq-eqb}
 use Rattle.std.proofs.Math.Path.{refl, sym, ap}
 use Rattle.std.proofs.Math.Bool.{Bool, true, false, not, and-true, or-true}
 use Rattle.std.proofs.lemmas.Bool.{false≢true}

@@ -1,7 +1,8 @@
 -- Laws of `held`, over any record type with a used mark: what stands where, the loops that stop at the number, stores,
 -- and the number itself raised by a store and lowered past unused places.
 use Prim.Native.Nat.{ℕ, zero, suc, ◌+◌, ◌-◌, ◌≤◌, ◌<◌, min}
-use Rattle.std.proofs.Common.{not-suc-le-zero, le_of_suc-le-suc, add-one, arith, sym, ◌∙◌, ltb-true, ltb-false, leb-true, leb-false, length-drop, take-append-drop}
+use Rattle.std.proofs.Common.{not-suc-le-zero, le_of_suc-le-suc, add-one, arith, sym, ◌∙◌, ltb-true}
+use Rattle.std.proofs.Common.{ltb-false, leb-true, leb-false, length-drop, take-append-drop}
 use Rattle.std.specs.Prelude.{◌≡◌, Bool, true, false, cond, ◌||◌, leb, ltb, length, take, drop, get_or, set}
 use Rattle.std.proofs.Math.Path.{refl, ap}
 use mathlib.Core.List.{List, [], ◌∷◌, ◌++◌, map}
@@ -116,7 +117,8 @@ module _ {A : Type 0} (unmark : A → A) where
     fold_unmarked (x ∷ xs) i b =
         ap (λ (c : B). fold_from f (map unmark xs) (suc i) c) (idle b x i) ∙ fold_unmarked xs (suc i) b
 
-    pub fold_held : (n : ℕ) (t : List A) (i : ℕ) (b : B) → fold_from f (held unmark n t) i b ≡ fold_from f (take n t) i b
+    pub fold_held : (n : ℕ) (t : List A) (i : ℕ) (b : B)
+        → fold_from f (held unmark n t) i b ≡ fold_from f (take n t) i b
     unfolding fold_from
     fold_held zero t i b = ap (λ (l : List A). fold_from f l i b) (held_none t) ∙ fold_unmarked t i b
     fold_held (suc n) [] i b = refl
@@ -300,7 +302,8 @@ module _ {A : Type 0} (unmark : A → A) where
     within : i < length (held unmark n t)
     within = rw (length-held n t) l
 
-    pub held_find_next : (p : A → Bool) (r : ℕ) → p (get_or t i d) ≡ false → i + place_of p (drop i (held unmark n t)) ≡ r
+    pub held_find_next : (p : A → Bool) (r : ℕ) → p (get_or t i d) ≡ false
+        → i + place_of p (drop i (held unmark n t)) ≡ r
         → i + 1 + place_of p (drop (i + 1) (held unmark n t)) ≡ r
     held_find_next p r e h = find_next p (held unmark n t) d i r within (ap p (held_at n t i d b) ∙ e) h
 

@@ -93,15 +93,18 @@ module _ (q : WorkQuestion) where
   unfolding is_circuit
   circuit-idle w c i = refl
 
-pub pending-due-idle : (d : NextDue) (p : RelayPending) (i : ℕ) → due_turn is_pending deadline_of d (clear_pending p) i ≡ d
+pub pending-due-idle : (d : NextDue) (p : RelayPending) (i : ℕ)
+    → due_turn is_pending deadline_of d (clear_pending p) i ≡ d
 unfolding due_turn is_pending
 pending-due-idle d p i = refl
 
-pub circuit-due-idle : (d : NextDue) (c : RelayCircuit) (i : ℕ) → due_turn is_circuit expiry_of d (clear_circuit c) i ≡ d
+pub circuit-due-idle : (d : NextDue) (c : RelayCircuit) (i : ℕ)
+    → due_turn is_circuit expiry_of d (clear_circuit c) i ≡ d
 unfolding due_turn is_circuit
 circuit-due-idle d c i = refl
 
-pub usage_due_idle : (d : NextDue) (u : ReservationUsage) (i : ℕ) → due_turn is_usage usage_expiry_of d (clear_usage u) i ≡ d
+pub usage_due_idle : (d : NextDue) (u : ReservationUsage) (i : ℕ)
+    → due_turn is_usage usage_expiry_of d (clear_usage u) i ≡ d
 unfolding due_turn is_usage
 usage_due_idle d u i = refl
 
@@ -248,7 +251,8 @@ ledger_taken r place = record {
 }
 
 module _ (id : ReservationId) where
-  ledger_skips : (r : LedgerScan) (u : ReservationUsage) (i : ℕ) → usage_scanned id r (clear_usage u) i ≡ ledger_taken r i
+  ledger_skips : (r : LedgerScan) (u : ReservationUsage) (i : ℕ)
+      → usage_scanned id r (clear_usage u) i ≡ ledger_taken r i
   unfolding usage_at is_usage
   ledger_skips r u i = λ j. record {
     found = or-false r.found j;

@@ -96,7 +96,8 @@ module _ (id : ℕ) (peer : HnsrPeerId) where
   -- the three questions: of an action under the id nothing is counted, of another the same
   all : (a : InflightAction) → retained true id a ≡ retained false id (cleared clear_action (action_under id) a)
   unfolding action_under
-  all a = choose (λ (x : InflightAction). retained true id a ≡ retained false id x) (action_under id a) (clear_action a) a
+  all a =
+      choose (λ (x : InflightAction). retained true id a ≡ retained false id x) (action_under id a) (clear_action a) a
       (gone a.used (eqb a.circuit_id id)) (stays a.used (eqb a.circuit_id id))
     where
       gone : (u e : Bool) → (u && e) ≡ true → (u && not (true && e)) ≡ false
@@ -115,7 +116,8 @@ module _ (id : ℕ) (peer : HnsrPeerId) where
   unfolding action_under
   under a =
       choose
-      (λ (x : InflightAction). also (retained true id) (action_under id) a ≡ also (retained false id) (action_under id) x)
+      (λ (x : InflightAction).
+      also (retained true id) (action_under id) a ≡ also (retained false id) (action_under id) x)
       (action_under id a) (clear_action a) a (gone a.used (eqb a.circuit_id id))
       (stays a.used (eqb a.circuit_id id))
     where

@@ -1,6 +1,7 @@
 -- Laws of tables with a used mark: what a table counts, sums and finds after `put`, `edit` and `clear`, and that no
 -- change moves the number of places. `sum` is a total over the used places.
-use Rattle.std.specs.Prelude.{ℕ, suc, ◌+◌, ◌≤◌, ◌<◌, ◌≡◌, refl, Bool, true, false, not, List, [], ◌∷◌, length, get_or, set}
+use Rattle.std.specs.Prelude.{ℕ, suc, ◌+◌, ◌≤◌, ◌<◌, ◌≡◌, refl, Bool, true}
+use Rattle.std.specs.Prelude.{false, not, List, [], ◌∷◌, length, get_or, set}
 use Rattle.std.proofs.Common.{arith, sym, ap, ◌∙◌, true≢false, length-set}
 use Rattle.std.proofs.lemmas.Bool.{false≢true}
 use Rattle.hns_encoding.specs.Laws.Tests.{split, clash}

@@ -1,7 +1,9 @@
 -- Names compared byte by byte, as a loop does: up to a place the names are the same, and what is left of them says the
 -- rest.
-use Rattle.std.specs.Prelude.{ℕ, ◌+◌, ◌≤◌, ◌<◌, min, ◌≡◌, refl, Bool, true, false, not, ◌&&◌, ◌||◌, List, map, eqb, ltb, length, take, drop, get_or}
-use Rattle.std.proofs.Common.{add-one, arith, sym, ap, ◌∙◌, length-take, drop_of_length-le, drop-cons, get_or-take, ltb-true, eq-eqb}
+use Rattle.std.specs.Prelude.{ℕ, ◌+◌, ◌≤◌, ◌<◌, min, ◌≡◌, refl, Bool, true, false, not}
+use Rattle.std.specs.Prelude.{◌&&◌, ◌||◌, List, map, eqb, ltb, length, take, drop, get_or}
+use Rattle.std.proofs.Common.{add-one, arith, sym, ap, ◌∙◌, length-take}
+use Rattle.std.proofs.Common.{drop_of_length-le, drop-cons, get_or-take, ltb-true, eq-eqb}
 use Rattle.std.proofs.Math.Bool.{or-false}
 use Rattle.std.proofs.lemmas.List.{length-map}
 use Rattle.hnsr_circuit.specs.declared.peer.HnsrPeerId.{HnsrPeerId}

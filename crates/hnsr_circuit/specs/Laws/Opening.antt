@@ -1,7 +1,9 @@
 -- What the code of ACCEPT and OPEN writes where it goes on is the definition's world, while a refusal leaves everything
 -- as it was.
-use Rattle.std.specs.Prelude.{ℕ, suc, ◌+◌, ◌-◌, ◌/◌, ◌≤◌, ◌<◌, ◌≡◌, Bool, true, false, cond, not, ◌&&◌, ◌||◌, eqb, ltb, leb, length, take, drop, set}
-use Rattle.std.proofs.Common.{arith, ◌∙◌, true≢false, drop-drop, eqb-true, lt-ltb, le-ltb, le-leb, ltb-true, ltb-false, leb-true, leb-false}
+use Rattle.std.specs.Prelude.{ℕ, suc, ◌+◌, ◌-◌, ◌/◌, ◌≤◌, ◌<◌, ◌≡◌, Bool, true, false, cond}
+use Rattle.std.specs.Prelude.{not, ◌&&◌, ◌||◌, eqb, ltb, leb, length, take, drop, set}
+use Rattle.std.proofs.Common.{arith, ◌∙◌, true≢false, drop-drop, eqb-true, lt-ltb}
+use Rattle.std.proofs.Common.{le-ltb, le-leb, ltb-true, ltb-false, leb-true, leb-false}
 use Rattle.std.proofs.Math.Path.{refl, sym, ap}
 use Rattle.std.proofs.lemmas.Bool.{false≢true, lt-leb}
 use mathlib.Core.List.{List, [], ◌∷◌}
@@ -97,8 +99,8 @@ proceed-on (Refused e) w x f = refl
 
 -- ---- ACCEPT
 -- the rows over the tables are the definition's
-pub accept_taken_lem : (h : OpaqueRelayRuntime) (p : List RelayPending) (c : List RelayCircuit) (l : List ReservationUsage)
-    (i : List InflightAction) (q : RelayPacket) (source body e rs : List ℕ)
+pub accept_taken_lem : (h : OpaqueRelayRuntime) (p : List RelayPending) (c : List RelayCircuit)
+    (l : List ReservationUsage) (i : List InflightAction) (q : RelayPacket) (source body e rs : List ℕ)
     → (let f = pending_found (pending_at q.context_id) p in
     accept_rows h.config f (peer_of source) q.now (decode_accept body) (pending_work (accept_work f) p)
     (circuit_work (accept_work f) c) (tallied true q.context_id f.pending.requester i))
@@ -126,8 +128,10 @@ unmarked id t h =
     let p = pick (pending_at id) no_pending t in
     let k = eqb-true p.circuit_id id
     (both p.used (eqb p.circuit_id id) (pick-has (pending_at id) no_pending t h)).1 in
-    sym (ap (λ (n : ℕ). edit (pending_at n) clear_pending t) k ∙ edit-set (pending_at id) clear_pending no_pending t
-    ∙ ap (λ (x : RelayPending). set t (place_of (pending_at id) t) (clear_pending x)) (pick_at (pending_at id) no_pending t))
+    sym (ap (λ (n : ℕ). edit (pending_at n) clear_pending t) k
+    ∙ edit-set (pending_at id) clear_pending no_pending t
+    ∙ ap (λ (x : RelayPending). set t (place_of (pending_at id) t) (clear_pending x))
+    (pick_at (pending_at id) no_pending t))
 
 module _ (h : OpaqueRelayRuntime) (p : List RelayPending) (c : List RelayCircuit) (l : List ReservationUsage)
     (i : List InflightAction) (q : RelayPacket) (source body e rs : List ℕ) where
@@ -441,7 +445,8 @@ module _ (h : OpaqueRelayRuntime) (p : List RelayPending) (c : List RelayCircuit
   open_placed_lem : placed_rows h.config (gathering q (peer_of source) body endpoint rs p c) plan drawing
       (actions_scanned (asking h (incoming_out plan)) i) (ledger_asked q.ticket.reservation_id l)
       ≡ open_placed (world_of h p c l i) (packet_of q source body endpoint rs) (opening_of plan)
-  unfolding open_placed peer_work reservation_work pending_work circuit_work drawn id_taken decode_open actions_scanned sender
+  unfolding open_placed peer_work reservation_work pending_work circuit_work drawn id_taken decode_open
+      actions_scanned sender
   open_placed_lem = refl
 
   module _ (g : OpenGathered) (d : Drawing) (o : OpenPlan) (m : Outgoing) (k : ActionQuestion) (s : ActionScan)
@@ -466,7 +471,8 @@ module _ (h : OpaqueRelayRuntime) (p : List RelayPending) (c : List RelayCircuit
 
     pub lapsed_refused : (y : Relayed) (out : List ℕ) → taken a ≡ false
         → (y.runtime ≡ h) × (y.answer ≡ a) × (y.words ≡ 0)
-        → handed_back y p c l i out ≡ ending out (open_lapsed (world_of h p c l i) (packet_of q source body endpoint rs))
+        → handed_back y p c l i out
+        ≡ ending out (open_lapsed (world_of h p c l i) (packet_of q source body endpoint rs))
     unfolding open_lapsed open_granted
     lapsed_refused y out t e =
         let w = world_of h p c l i in
@@ -497,7 +503,8 @@ module _ (h : OpaqueRelayRuntime) (p : List RelayPending) (c : List RelayCircuit
       → handed_back r p c l i out ≡ ending out (handle_open (world_of h p c l i) (packet_of q source body endpoint rs))
   unfolding handle_open
   open_refused g a r out eg ea t k =
-      turned_away h p c l i out r a _ _ k t (ea ∙ ap (λ (y : OpenGathered). open_rows h.config y) eg ∙ open_admitted_lem)
+      turned_away h p c l i out r a _ _ k t
+      (ea ∙ ap (λ (y : OpenGathered). open_rows h.config y) eg ∙ open_admitted_lem)
 
   placed_first : placed_entry h.config (gathering q (peer_of source) body endpoint rs p c) plan drawing
       ≡ (peer_answer (length endpoint)

@@ -154,4 +154,5 @@ pub revoke-all-kept : (end_p : World → ℕ → Sent) (p : RelayPending → Boo
     → AsMany v (revoke_all end_p p end_c c w).world
 unfolding revoke_all
 revoke-all-kept end_p p end_c c v w kp kc s =
-    onward s (onward (walk_kept pending_id pending_table p end_p kp w) (walk_kept circuit_id circuit_table c end_c kc _))
+    onward s
+    (onward (walk_kept pending_id pending_table p end_p kp w) (walk_kept circuit_id circuit_table c end_c kc _))

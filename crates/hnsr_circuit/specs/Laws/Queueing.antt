@@ -6,7 +6,7 @@ use Rattle.std.proofs.Common.{sym, ap₂, ◌∙◌}
 use Rattle.std.proofs.Math.Bool.{true, false}
 use Rattle.std.proofs.lemmas.Bool.{false≢true}
 use Rattle.hns_encoding.specs.Numbers.{top, saturating_add}
-use Rattle.hns_encoding.specs.Words.{word_count, words}
+use Rattle.hns_encoding.specs.Words.{word_count}
 use Rattle.hns_encoding.specs.Cursor.{written}
 use Rattle.hns_encoding.specs.Laws.Tests.{on-true, on-false}
 use Rattle.hnsr_circuit.specs.declared.config.OpaqueRelayConfig.{OpaqueRelayConfig}
@@ -82,7 +82,8 @@ module _ (h : OpaqueRelayRuntime) (p : List RelayPending) (c : List RelayCircuit
       (written out at (route_words (route_for (message_of m body) h.generation h.next_action_sequence))) out)
       (ep : position ≡ cond q.go (saturating_add 64 at (head_words + word_count (length body))) at) where
     -- how long the route is
-    long : head_words + word_count (length body) ≡ length (route_words (routed (message_of m body) (world_of h p c l i)))
+    long : head_words + word_count (length body)
+        ≡ length (route_words (routed (message_of m body) (world_of h p c l i)))
     long =
         ap (λ (n : ℕ). head_words + n) (sym (length-words body))
         ∙ sym (route-words (routed (message_of m body) (world_of h p c l i)))
@@ -129,7 +130,8 @@ module _ (h : OpaqueRelayRuntime) (p : List RelayPending) (c : List RelayCircuit
           ≡ ending out
           (proceed (world_of h p c l i) b
           (proceed (world_of h p c l i) k
-          (done (queued (message_of m body) (world_of h p c l i)) (routed (message_of m body) (world_of h p c l i) ∷ []))))
+          (done (queued (message_of m body) (world_of h p c l i))
+          (routed (message_of m body) (world_of h p c l i) ∷ []))))
       unfolding proceed filled_to placed queued
       ends (Refused e) k eb ek z = let a = answers (Refused e) k eb ek in arrived a (quiet (goes (Refused e) a)) ∙ rw z
       ends Taken (Refused e) eb ek z =
@@ -161,7 +163,8 @@ module _ (h : OpaqueRelayRuntime) (p : List RelayPending) (c : List RelayCircuit
       goes_on Taken Taken eb ek = let a = answers Taken Taken eb ek in come (moves (goes Taken a))
 
       pub told : (go : Bool) → taken before ≡ go
-          → underway r p c l i' out' ≡ advance (when go (tell (message_of m body))) (progress (world_of h p c l i) at out)
+          → underway r p c l i' out'
+          ≡ advance (when go (tell (message_of m body))) (progress (world_of h p c l i) at out)
       unfolding when tell
       told true e = goes_on before (can_queue (message_of m body) (world_of h p c l i)) refl refl ∙ rw e
       told false e = goes_on before (can_queue (message_of m body) (world_of h p c l i)) refl refl ∙ rw e

@@ -76,8 +76,8 @@ module _ (p : List RelayPending) (c : List RelayCircuit) (l : List ReservationUs
       ≡ outcome out (proceed (world_of h p c l i) b (done (at_time (world_of h p c l i) time) []))
   observed r a b t e f =
       (λ x. result (world_of (f.0 x) p c l i) (f.1 x) (f.2 x) out) ∙ moved a t
-      ∙ ap (λ (z : HnsrAnswer). outcome out (proceed (world_of h p c l i) z (done (at_time (world_of h p c l i) time) [])))
-      e
+      ∙ ap
+      (λ (z : HnsrAnswer). outcome out (proceed (world_of h p c l i) z (done (at_time (world_of h p c l i) time) []))) e
 
   pub unobserved : (r : Relayed) (a b : HnsrAnswer) → taken a ≡ false → a ≡ b
       → (r.runtime ≡ h) × (r.answer ≡ a) × (r.words ≡ 0)
@@ -85,8 +85,8 @@ module _ (p : List RelayPending) (c : List RelayCircuit) (l : List ReservationUs
       ≡ outcome out (proceed (world_of h p c l i) b (done (at_time (world_of h p c l i) time) []))
   unobserved r a b t e f =
       (λ x. result (world_of (f.0 x) p c l i) (f.1 x) (f.2 x) out) ∙ stays a t
-      ∙ ap (λ (z : HnsrAnswer). outcome out (proceed (world_of h p c l i) z (done (at_time (world_of h p c l i) time) [])))
-      e
+      ∙ ap
+      (λ (z : HnsrAnswer). outcome out (proceed (world_of h p c l i) z (done (at_time (world_of h p c l i) time) []))) e
 
 -- ---- new
 module _ (h n : OpaqueRelayRuntime) (p p' : List RelayPending) (c c' : List RelayCircuit) (l l' : List ReservationUsage)
@@ -99,8 +99,8 @@ module _ (h n : OpaqueRelayRuntime) (p p' : List RelayPending) (c c' : List Rela
   empties f k ep ec el ei t =
       let is = taken_is a t in
       subst
-      (λ (z : HnsrAnswer). Made r p' c' l' i' (proceed (world_of h p c l i) z (done (emptied (world_of h p c l i) n) [])))
-      (sym is ∙ e)
+      (λ (z : HnsrAnswer).
+      Made r p' c' l' i' (proceed (world_of h p c l i) z (done (emptied (world_of h p c l i) n) []))) (sym is ∙ e)
       (record {
         answer = f.1 ∙ is;
         tables = λ x. world_of n (ep x) (ec x) (el x) (ei x);

@@ -69,7 +69,8 @@ unfolding is_circuit end_circuit_there without_actions
 circuit-fewer w place l h = one_fewer is_circuit clear_circuit no_circuit w.circuits (λ a. refl) place l h
 
 -- ---- a pending record revoked
-pub revoke-pending-fits : (n : Notice) (w : World) (place : ℕ) → filled (revoke_pending n w place).routes ≤ closing_words
+pub revoke-pending-fits : (n : Notice) (w : World) (place : ℕ)
+    → filled (revoke_pending n w place).routes ≤ closing_words
 unfolding revoke_pending error_to_requester close_to_endpoint
 revoke-pending-fits n w place = two-told _ _ n _ refl refl
 
@@ -119,7 +120,8 @@ pub disconnect-pending-fewer : (peer : HnsrPeerId) (w : World) (place : ℕ) →
     → count is_pending (disconnect_pending peer w place).world.pending + 1 ≡ count is_pending w.pending
 unfolding disconnect_pending
 disconnect-pending-fewer peer w place l h =
-    ap (λ t. count is_pending t + 1) (tell-pending (close_to_other peer (pending_there w place)) (end_pending_there w place))
+    ap (λ t. count is_pending t + 1)
+    (tell-pending (close_to_other peer (pending_there w place)) (end_pending_there w place))
     ∙ pending-fewer w place l h
 
 -- ---- a circuit revoked

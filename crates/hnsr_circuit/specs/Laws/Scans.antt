@@ -1,7 +1,9 @@
 -- The loops over a table, over any record type: the step of a lookup and of a count, a store within and past the end,
 -- and the parts of what a scan folds. The step and the end of a fold are `Loops`'.
-use Rattle.std.specs.Prelude.{ℕ, zero, suc, ◌+◌, ◌≤◌, ◌<◌, ◌≡◌, Bool, true, false, cond, ◌&&◌, ltb, length, take, drop, get_or, set}
-use Rattle.std.proofs.Common.{not-suc-le-zero, le_of_suc-le-suc, add-one, arith, sym, ◌∙◌, drop-cons, get_or-set_same, ltb-true, ltb-false}
+use Rattle.std.specs.Prelude.{ℕ, zero, suc, ◌+◌, ◌≤◌, ◌<◌, ◌≡◌, Bool, true, false}
+use Rattle.std.specs.Prelude.{cond, ◌&&◌, ltb, length, take, drop, get_or, set}
+use Rattle.std.proofs.Common.{not-suc-le-zero, le_of_suc-le-suc, add-one, arith, sym}
+use Rattle.std.proofs.Common.{◌∙◌, drop-cons, get_or-set_same, ltb-true, ltb-false}
 use Rattle.std.proofs.Math.Path.{refl, ap}
 use mathlib.Core.List.{List, [], ◌∷◌, ◌++◌, map}
 use Rattle.std.proofs.lemmas.List.{set-get_or}
@@ -52,7 +54,8 @@ module _ {A : Type 0} (unmark : A → A) (p : A → Bool) (t : List A) (d : A) (
   one-cleared true x e f = rw (← e, f)
   one-cleared false x e f = rw (← e) (sym (set-get_or t i d))
 
-  pub clear_step : (has : Bool) (x : A) (t' r : List A) → i < length t → has ≡ p (get_or t i d) → x ≡ unmark (get_or t i d)
+  pub clear_step : (has : Bool) (x : A) (t' r : List A) → i < length t → has ≡ p (get_or t i d)
+      → x ≡ unmark (get_or t i d)
       → t' ≡ cond has (set t i x) t
       → take i t ++ clear unmark p (drop i t) ≡ r → take (i + 1) t' ++ clear unmark p (drop (i + 1) t') ≡ r
   clear_step has x t' r l e f k h =

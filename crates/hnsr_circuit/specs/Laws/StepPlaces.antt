@@ -176,8 +176,8 @@ start-places w s =
     })
 
 pub step-places : (w : World) (c : Call) → AsMany w (step w c).world
-unfolding step status next_due observe_time replace_enabled handle handle_gate disconnect disconnect_peer revoke_reservation
-    revoke_under expire expire_at
+unfolding step status next_due observe_time replace_enabled handle handle_gate disconnect disconnect_peer
+    revoke_reservation revoke_under expire expire_at
 step-places w (call_status peer circuit) = proceed-kept w _ _ (as_many w) (as_many w)
 step-places w call_next_due = proceed-kept w _ _ (as_many w) (as_many w)
 step-places w (call_observe_time now) = proceed-kept w _ _ (as_many w) (runtime-kept (as_many w) _)

@@ -118,8 +118,8 @@ room-has w room needed h =
     ltb-false room needed (neither (ltb room needed) (tables_short (config_of w) w) k).0
 
 pub routes-fit : (w : World) (c : Call) → filled (step w c).routes ≤ room_of c
-unfolding step status next_due observe_time replace_enabled handle entry_answer handle_gate acknowledge acknowledge_taken
-    disconnect revoke_reservation expire out_words
+unfolding step status next_due observe_time replace_enabled handle entry_answer handle_gate acknowledge
+    acknowledge_taken disconnect revoke_reservation expire out_words
 routes-fit w (call_status peer circuit) = proceed-fits _ _ _ _ (λ a. omega arith)
 routes-fit w call_next_due = proceed-fits _ _ _ _ (λ a. omega arith)
 routes-fit w (call_observe_time now) = proceed-fits _ _ _ _ (λ a. omega arith)

@@ -31,7 +31,8 @@ module _ {A : Type 0} (id_of : A → ℕ) (p : A → Bool) (c : Walked) where
     pub id : id_of (get_or t r.place d) ≡ r.id
     pub past : above c r.id r.place ≡ true
 
-  stands_from : (t : List A) (d : A) (xs : List A) (i : ℕ) (best : Walked) → ((k : ℕ) → get_or t (i + k) d ≡ get_or xs k d)
+  stands_from : (t : List A) (d : A) (xs : List A) (i : ℕ) (best : Walked)
+      → ((k : ℕ) → get_or t (i + k) d ≡ get_or xs k d)
       → i + length xs ≡ length t
       → (best.taken ≡ true → Stands t d best) → (fold_from (next_turn id_of p c) xs i best).taken ≡ true
       → Stands t d (fold_from (next_turn id_of p c) xs i best)
@@ -59,7 +60,8 @@ module _ {A : Type 0} (id_of : A → ℕ) (p : A → Bool) (c : Walked) where
   pub next-stands : (t : List A) (d : A) → (next id_of p c t).taken ≡ true → Stands t d (next id_of p c t)
   unfolding next
   next-stands t d e =
-      stands_from t d t 0 not_yet (λ k. ap (λ n. get_or t n d) (omega arith)) (omega arith) (λ f. absurd (false≢true f)) e
+      stands_from t d t 0 not_yet (λ k. ap (λ n. get_or t n d) (omega arith)) (omega arith)
+      (λ f. absurd (false≢true f)) e
 
   -- ---- nothing comes before it
   keeps : (xs : List A) (i : ℕ) (best : Walked) (id place : ℕ) → not_after best id place ≡ true
@@ -94,8 +96,8 @@ module _ {A : Type 0} (id_of : A → ℕ) (p : A → Bool) (c : Walked) where
   least-from d [] i best b k l h a = absurd (not-suc-le-zero l)
   least-from d (x ∷ xs) i best b zero l h a =
       keeps xs (suc i) (next_turn id_of p c best x i) (id_of x) (i + 0)
-      (choose (λ (r : Walked). not_after r (id_of x) (i + 0) ≡ true) (offered id_of p c best x i) (reached (id_of x) i) best
-      (λ o. itself) before)
+      (choose (λ (r : Walked). not_after r (id_of x) (i + 0) ≡ true) (offered id_of p c best x i) (reached (id_of x) i)
+      best (λ o. itself) before)
     where
       itself : not_after (reached (id_of x) i) (id_of x) (i + 0) ≡ true
       itself = rw (eq-eqb (id_of x) (id_of x) refl, le-leb i (i + 0) (omega arith), or-true)
@@ -118,7 +120,8 @@ module _ {A : Type 0} (id_of : A → ℕ) (p : A → Bool) (c : Walked) where
           (sym (ap (λ v. v && better best (id_of x)) (join (p x) (above c (id_of x) i) h at_i)) ∙ o)
           (λ e. omega (arith, b e))
   least-from d (x ∷ xs) i best b (suc k) l h a =
-      ap (not_after (fold_from (next_turn id_of p c) xs (suc i) (next_turn id_of p c best x i)) (id_of (get_or xs k d))) later
+      ap (not_after (fold_from (next_turn id_of p c) xs (suc i) (next_turn id_of p c best x i)) (id_of (get_or xs k d)))
+      later
       ∙ least-from d xs (suc i) (next_turn id_of p c best x i)
       (choose (λ (r : Walked). r.taken ≡ true → r.place < suc i) (offered id_of p c best x i) (reached (id_of x) i) best
       (λ o u. omega arith)
@@ -133,13 +136,15 @@ module _ {A : Type 0} (id_of : A → ℕ) (p : A → Bool) (c : Walked) where
   unfolding next
   next-least t d k l h a =
       ap (not_after (fold_from (next_turn id_of p c) t 0 not_yet) (id_of (get_or t k d))) plain
-      ∙ least-from d t 0 not_yet (λ f. absurd (false≢true f)) k l h (ap (above c (id_of (get_or t k d))) (sym plain) ∙ a)
+      ∙ least-from d t 0 not_yet (λ f. absurd (false≢true f)) k l h
+      (ap (above c (id_of (get_or t k d))) (sym plain) ∙ a)
     where
       plain : k ≡ 0 + k
       plain = omega arith
 
   -- nothing taken: nothing that has p is above the cursor
-  pub next-none : (t : List A) (d : A) (k : ℕ) → (next id_of p c t).taken ≡ false → k < length t → p (get_or t k d) ≡ true
+  pub next-none : (t : List A) (d : A) (k : ℕ) → (next id_of p c t).taken ≡ false → k < length t
+      → p (get_or t k d) ≡ true
       → above c (id_of (get_or t k d)) k ≡ false
   next-none t d k e l h =
       split (above c (id_of (get_or t k d)) k)

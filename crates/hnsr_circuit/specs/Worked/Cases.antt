@@ -139,7 +139,8 @@ unfolding data_call requester_peer
 sends size = data_call requester_peer size 100
 
 unfoldable pub table : List Case
-unfolding active open_call accept_call data_call sends window_call packet_call requester_peer third_peer circuit delivered
+unfolding active open_call accept_call data_call sends window_call packet_call requester_peer third_peer
+    circuit delivered
 table =
     record { queue = plain; calls = active (sends 0 ∷ []); answer = 1 }
     ∷ record { queue = plain; calls = active (sends 16384 ∷ []); answer = 0 }

@@ -175,7 +175,8 @@ due_of_the_ledger = refl
 unfoldable pub action_alone : World
 unfolding found action_on free
 action_alone =
-    found (replicate 2 no_pending) (replicate 2 no_circuit) (no_usage ∷ []) (action_on 3 7 (kind_number Close) 0 ∷ free 7)
+    found (replicate 2 no_pending) (replicate 2 no_circuit) (no_usage ∷ [])
+    (action_on 3 7 (kind_number Close) 0 ∷ free 7)
 
 pub nothing-is-due : told_of action_alone call_next_due ≡ due_is Never
 unfolding told_of action_alone
@@ -234,12 +235,14 @@ unfolding pending_after twins
 expire_clears_both = refl
 
 -- CLOSE.2: the endpoint names both by circuit id
-pub close_names_two : answer_of twins (packet_call endpoint_peer op_close 7 (0 ∷ 0 ∷ 0 ∷ []) 100) ≡ Refused InvalidAdmission
+pub close_names_two : answer_of twins (packet_call endpoint_peer op_close 7 (0 ∷ 0 ∷ 0 ∷ []) 100)
+    ≡ Refused InvalidAdmission
 unfolding answer_of twins packet_call endpoint_peer
 close_names_two = refl
 
 -- CLOSE.9: the requester's context names the second alone
-pub close_names_one : pending_after twins (packet_call requester_peer op_close 11 (0 ∷ 0 ∷ 0 ∷ []) 100) ≡ true ∷ false ∷ []
+pub close_names_one : pending_after twins (packet_call requester_peer op_close 11 (0 ∷ 0 ∷ 0 ∷ []) 100)
+    ≡ true ∷ false ∷ []
 unfolding pending_after twins packet_call requester_peer
 close_names_one = refl
 
@@ -262,7 +265,8 @@ walk_tells_its_own = refl
 -- one of two is over: that one ends, and what is due next lies ahead
 unfoldable pub one_over : World
 unfolding found pending_on until usage_on free
-one_over = found (until 200 (pending_on 7 13) ∷ pending_on 7 9 ∷ []) (replicate 2 no_circuit) (usage_on 5 0 ∷ []) (free 8)
+one_over =
+    found (until 200 (pending_on 7 13) ∷ pending_on 7 9 ∷ []) (replicate 2 no_circuit) (usage_on 5 0 ∷ []) (free 8)
 
 pub expire_ends_its_own : pending_after one_over (call_expire 110 192) ≡ true ∷ false ∷ []
 unfolding pending_after one_over

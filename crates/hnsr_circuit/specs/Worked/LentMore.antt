@@ -31,7 +31,8 @@ dirty_peer = record { len = 1; bytes = 1 ∷ replicate (maximum_peer - 1) 6 }
 unfoldable pub long_names : World
 unfolding found circuit_on usage_on free long_peer dirty_peer
 long_names =
-    found (replicate 2 no_pending) (circuit_on 7 dirty_peer long_peer 0 0 ∷ no_circuit ∷ []) (usage_on 5 0 ∷ []) (free 8)
+    found (replicate 2 no_pending) (circuit_on 7 dirty_peer long_peer 0 0 ∷ no_circuit ∷ [])
+    (usage_on 5 0 ∷ []) (free 8)
 
 unfoldable pub first_word : List ℕ → ℕ
 first_word [] = 0
@@ -72,7 +73,8 @@ revocation_skips = refl
 unfoldable pub crowded : World
 unfolding found pending_on usage_on free
 crowded =
-    found (pending_on 7 9 ∷ pending_on 8 10 ∷ pending_on 9 11 ∷ []) (replicate 2 no_circuit) (usage_on 5 0 ∷ []) (free 8)
+    found (pending_on 7 9 ∷ pending_on 8 10 ∷ pending_on 9 11 ∷ []) (replicate 2 no_circuit)
+    (usage_on 5 0 ∷ []) (free 8)
 
 pub crowded-is-full : answer_of crowded open_call ≡ Refused Capacity
 unfolding answer_of crowded open_call
@@ -83,8 +85,8 @@ unfoldable pub brim : World
 unfolding found circuit_on usage_on action_on free peer
 brim =
     found (replicate 2 no_pending)
-    (circuit_on 7 (peer 1) (peer 2) (top 64) 3 ∷ circuit_on 8 (peer 1) (peer 2) 0 (top 64) ∷ []) (usage_on 5 (top 64) ∷ [])
-    (action_on 1 7 2 10 ∷ action_on 2 8 77 0 ∷ free 6)
+    (circuit_on 7 (peer 1) (peer 2) (top 64) 3 ∷ circuit_on 8 (peer 1) (peer 2) 0 (top 64) ∷ [])
+    (usage_on 5 (top 64) ∷ []) (action_on 1 7 2 10 ∷ action_on 2 8 77 0 ∷ free 6)
 
 pub data_taken_at_brim : answer_of brim (data_call requester_peer 2 100) ≡ Taken
 unfolding answer_of brim data_call requester_peer
@@ -169,7 +171,8 @@ unfolding actions_after one_id
 disabled_actions = refl
 
 -- ---- OUT.6. A CLOSE of 23 bytes of detail is 47 words; the 48th is as it was
-pub tail-stays : drop 47 (output_after zero_context (call_disconnect requester_peer 96) (replicate 50 9)) ≡ 9 ∷ 9 ∷ 9 ∷ []
+pub tail-stays : drop 47 (output_after zero_context (call_disconnect requester_peer 96) (replicate 50 9))
+    ≡ 9 ∷ 9 ∷ 9 ∷ []
 unfolding output_after zero_context requester_peer
 tail-stays = refl
 

@@ -80,7 +80,9 @@ pub struct Entered {
 }
 
 fn entry_found(answer: HnsrAnswer, waiting: Survey, active: Survey) -> Entered
-    ensures { (result.answer ≡ answer) × (result.first.pending ≡ waiting.first) × (result.first.circuits ≡ active.first) }
+    ensures { (result.answer ≡ answer)
+        × (result.first.pending ≡ waiting.first)
+        × (result.first.circuits ≡ active.first) }
 {
     let pending = waiting.first;
     let circuits = active.first;

@@ -61,7 +61,9 @@ fn new_answer(
     few: bool,
     ledger: usize,
 ) -> HnsrAnswer
-    ensures { result ≡ (session_answer session generation then validate_config config then check (few || eqb ledger 0) Short) }
+    ensures { result ≡ (session_answer session generation
+        then validate_config config
+        then check (few || eqb ledger 0) Short) }
 {
     let named = session_answer(session, generation);
     let valid = config.validate();
@@ -276,7 +278,8 @@ pub fn next_due(
 pub fn observe_time(runtime: OpaqueRelayRuntime, places: Places, time: u64) -> Relayed
     ensures { (p : List RelayPending) (c : List RelayCircuit) (l : List ReservationUsage) (i : List InflightAction)
         (out : List ℕ)
-        → handed_seen result p c l i out ≡ outcome out (step (world_seen runtime places p c l i) (call_observe_time time)) }
+        → handed_seen result p c l i out
+        ≡ outcome out (step (world_seen runtime places p c l i) (call_observe_time time)) }
 {
     let answer = clock_answer(runtime.trusted_time_high_water, time);
     let moved = with_clock(runtime, time);

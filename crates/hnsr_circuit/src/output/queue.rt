@@ -165,7 +165,8 @@ fn queued_place(queued: Queued) -> usize
 }
 
 fn relayed(queued: Queued, words: usize, places: Places) -> Relayed
-    ensures { ((result.runtime ≡ queued.runtime) × (result.answer ≡ queued.answer) × (result.words ≡ words)) × (result.places ≡ places) }
+    ensures { ((result.runtime ≡ queued.runtime) × (result.answer ≡ queued.answer) × (result.words ≡ words))
+        × (result.places ≡ places) }
 {
     let runtime = queued.runtime;
     let answer = queued.answer;

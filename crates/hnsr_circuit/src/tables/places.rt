@@ -27,7 +27,10 @@ pub struct Places {
 }
 
 pub(crate) fn places_of(pending: usize, circuits: usize, ledger: usize, actions: usize) -> Places
-    ensures { (result.pending ≡ pending) × (result.circuits ≡ circuits) × (result.ledger ≡ ledger) × (result.actions ≡ actions) }
+    ensures { (result.pending ≡ pending)
+        × (result.circuits ≡ circuits)
+        × (result.ledger ≡ ledger)
+        × (result.actions ≡ actions) }
 {
     Places {
         pending,

@@ -48,8 +48,8 @@ deaf = acknowledging (λ w g s delivered room.
 pub deaf_refuted : Claim deaf → ⊥
 unfolding machine lent not_admitted
 deaf_refuted C =
-    let d = (C (run_of deaf refl (opened ++ (closes 1 7 100 ∷ [])) refl)).acknowledged (action_of 3 2 Close false 0 ∷ [])
-    (λ f. refl) (λ a. acknowledge_words) (λ a. omega arith) in
+    let d = (C (run_of deaf refl (opened ++ (closes 1 7 100 ∷ [])) refl)).acknowledged
+    (action_of 3 2 Close false 0 ∷ []) (λ f. refl) (λ a. acknowledge_words) (λ a. omega arith) in
     let k : ◌≡◌ {A = ℕ} 20 0 = ap first_of d.0 in
     omega arith
 

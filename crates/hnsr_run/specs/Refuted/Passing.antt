@@ -1,5 +1,6 @@
 -- Machines in which, all acknowledged, DATA within what is left does not pass, or DATA beyond it does.
-use Rattle.std.specs.Prelude.{ℕ, ◌+◌, ◌-◌, ◌≡◌, refl, false, cond, not, ◌&&◌, List, [], ◌∷◌, ◌++◌, eqb, length, replicate}
+use Rattle.std.specs.Prelude.{ℕ, ◌+◌, ◌-◌, ◌≡◌, refl, false, cond, not, ◌&&◌}
+use Rattle.std.specs.Prelude.{List, [], ◌∷◌, ◌++◌, eqb, length, replicate}
 use Rattle.std.proofs.Common.{arith, ap}
 use Rattle.hnsr_body.specs.Data.{data_checked}
 use Rattle.hnsr_circuit.specs.declared.answer.HnsrAnswer.{HnsrAnswer}
@@ -60,7 +61,8 @@ doubly_refuted C =
     let r = run_of doubly refl (talk ++ (acked 1 2 ∷ acked 1 3 ∷ [])) refl in
     let d = (C r).acknowledged [] (λ f. refl) (λ a. acknowledge_words) (λ a. omega arith) in
     let p = (d.1 7 refl Requester (bytes 1 30) handle_words
-    (can-send (past_at doubly r) 7 Requester (bytes 1 30) handle_words refl)).1 (omega arith, omega arith, omega arith) in
+    (can-send (past_at doubly r) 7 Requester (bytes 1 30) handle_words refl)).1
+    (omega arith, omega arith, omega arith) in
     let k : ◌≡◌ {A = ℕ} 18 0 = ap number p.taken in
     omega arith
 

@@ -41,9 +41,9 @@ invented_status s n = record {
 
 abbrev pub invented : Machine
 invented =
-    telling-status (λ w peer circuit.
-    telling w
-    (status_is (invented_status (status_of w) (status_of w).opened_circuits) (action_capacity w (peer_of peer) circuit)))
+    telling-status (λ w peer circuit. telling w
+    (status_is (invented_status (status_of w) (status_of w).opened_circuits)
+    (action_capacity w (peer_of peer) circuit)))
 
 pub invented_refuted : Claim invented → ⊥
 unfolding machine lent not_admitted

@@ -20,8 +20,10 @@ use Rattle.hnsr_circuit.specs.Ends.{later}
 use Rattle.hnsr_circuit.specs.Code.Told.{due_in as due_told}
 use Rattle.hnsr_circuit.specs.Worked.Cases.{lent, not_admitted}
 use Rattle.hnsr_circuit.specs.Worked.All.{machine}
-use Rattle.hnsr_circuit.specs.Call.{Call, start, step, call_status, call_next_due, call_observe_time, call_replace_enabled}
-use Rattle.hnsr_circuit.specs.Call.{call_handle, call_acknowledge, call_disconnect, call_revoke_reservation, call_expire}
+use Rattle.hnsr_circuit.specs.Call.{Call, start, step, call_status, call_next_due}
+use Rattle.hnsr_circuit.specs.Call.{call_observe_time, call_replace_enabled}
+use Rattle.hnsr_circuit.specs.Call.{call_handle, call_acknowledge, call_disconnect}
+use Rattle.hnsr_circuit.specs.Call.{call_revoke_reservation, call_expire}
 use Rattle.hnsr_run.specs.Claim.{Machine, left_by, Run, world_at, past_at}
 use Rattle.hnsr_run.specs.Waking.{KnownEnd, Waking, Awaiting}
 use Rattle.hnsr_run.specs.Talk.{tables, fresh, grant, opens, closes, ample}

@@ -31,7 +31,8 @@ use Rattle.hnsr_circuit.specs.Queue.{Message, route_for, generation_of, sequence
 use Rattle.hnsr_circuit.specs.Counts.{circuit_count}
 use Rattle.hnsr_circuit.specs.Packet.{Packet}
 use Rattle.hnsr_circuit.specs.Revocation.{without_actions, without_pending, end_pending, pending_in}
-use Rattle.hnsr_circuit.specs.Accept.{circuit_for, with_accept, opened_message, accept_taken, accept_with, handle_accept}
+use Rattle.hnsr_circuit.specs.Accept.{circuit_for, with_accept, opened_message}
+use Rattle.hnsr_circuit.specs.Accept.{accept_taken, accept_with, handle_accept}
 use Rattle.hnsr_circuit.specs.Laws.Inflight.{replacing-tally}
 use Rattle.hnsr_circuit.specs.Laws.Marks.{room}
 use Rattle.hnsr_circuit.specs.Laws.Keyed.{Looks, store_looks, store_tells}
@@ -122,10 +123,11 @@ module _ {w : World} {h : Past} (R : Rel w h) (H : Places w) (low : sequence_of 
   begins : Full none (with_accept w p body) (begun (open_ended h j) j started)
   unfolding with_accept end_pending without_pending without_actions circuit
   begins =
-      subst (λ i. Body none (config_of w) (generation_of w) (sequence_of w) (edit (pending_at i) clear_pending w.pending)
+      subst
+      (λ i. Body none (config_of w) (generation_of w) (sequence_of w) (edit (pending_at i) clear_pending w.pending)
       (put is_circuit (circuit_at i) (circuit_for (config_of w) p body) w.circuits)
-      (dropped (action_under i) w.inflight) (at j true h.active) (at j started h.known)
-      (at j false h.opens.standing) h.opens.asked (keep (non (on_circuit j)) h.out)) (sym own)
+      (dropped (action_under i) w.inflight) (at j true h.active) (at j started h.known) (at j false h.opens.standing)
+      h.opens.asked (keep (non (on_circuit j)) h.out)) (sym own)
       (resume-at j
       (record {
         acts = E.acts;

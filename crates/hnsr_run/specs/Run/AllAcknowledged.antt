@@ -1,6 +1,7 @@
 -- Every order of the outstanding actions: acknowledging each once as delivered is taken each time, and leaves nothing
 -- outstanding.
-use Rattle.std.specs.Prelude.{ℕ, ◌≤◌, ◌<◌, ◌≡◌, refl, Bool, true, false, cond, not, ◌&&◌, List, [], ◌∷◌, map, eqb, length, replicate}
+use Rattle.std.specs.Prelude.{ℕ, ◌≤◌, ◌<◌, ◌≡◌, refl, Bool, true, false, cond, not}
+use Rattle.std.specs.Prelude.{◌&&◌, List, [], ◌∷◌, map, eqb, length, replicate}
 use Rattle.std.proofs.Common.{arith, sym, ap, ◌∙◌, subst, eqb-true, eq-eqb, le-ltb}
 use Rattle.hns_encoding.specs.Numbers.{top}
 use Rattle.hns_encoding.specs.Sums.{only, one, non, total, count}

@@ -38,8 +38,8 @@ module _ {ls : List ReservationUsage} {now : ℕ} {b : Book} (B : Books ls now b
       subst (λ (u : ReservationUsage). Books (put is_usage (usage_at r) u ls) now b)
       (pick_default (usage_at r) no_usage (fresh_usage t) ls f)
       (store_books B r (usage_of r ls) (put is_usage (usage_at r) (usage_of r ls) ls) b
-      (usage_looks r (usage_of r ls) ls (pick-has (usage_at r) no_usage ls f) (λ x. clash f x)) (λ i q. (refl, refl, refl))
-      (B.stands r) (B.known r f))
+      (usage_looks r (usage_of r ls) ls (pick-has (usage_at r) no_usage ls f) (λ x. clash f x))
+      (λ i q. (refl, refl, refl)) (B.stands r) (B.known r f))
 
   pub book-made : any (usage_at r) ls ≡ false → any (non is_usage) ls ≡ true → ltb now t.expires_at ≡ true
       → Books (booked t ls) now (anew b t)

@@ -80,7 +80,8 @@ lives-earlier n m b r l e = let k = both (b.made r) (ltb m (b.due r)) e in
 
 -- a record stored at its key
 pub usage_looks : (r : ReservationId) (u : ReservationUsage) (t : List ReservationUsage) → usage_at r u ≡ true
-    → (any (usage_at r) t ≡ false → any (non is_usage) t ≡ true) → Looks usage_keys r u t (put is_usage (usage_at r) u t)
+    → (any (usage_at r) t ≡ false → any (non is_usage) t ≡ true)
+    → Looks usage_keys r u t (put is_usage (usage_at r) u t)
 unfolding usage_at is_usage
 usage_looks r u t k space = store_looks usage_keys r u t k space
 
@@ -128,7 +129,8 @@ module _ {t : List ReservationUsage} {now : ℕ} {b : Book} (B : Books t now b) 
   used-at : (r : ReservationId) → any (usage_at r) t ≡ true → (usage_of r t).used ≡ true
   unfolding usage_at
   used-at r f =
-      (both (usage_of r t).used (same_reservation (usage_of r t).reservation_id r) (pick-has (usage_at r) no_usage t f)).0
+      (both (usage_of r t).used (same_reservation (usage_of r t).reservation_id r)
+      (pick-has (usage_at r) no_usage t f)).0
 
   over-is : (r : ReservationId) → any (usage_at r) t ≡ true → over r ≡ leb (usage_of r t).expires_at now
   unfolding over usage_over
@@ -237,13 +239,16 @@ module _ {t : List ReservationUsage} {now : ℕ} {b : Book} (B : Books t now b) 
   -- a record is taken out
   unmake_mine : (r i : ReservationId) → any (usage_at i) t ≡ true → usage_at r (usage_of i t) ≡ same_reservation r i
   unfolding usage_at
-  unmake_mine r i f = keyed-at usage_keys r i (usage_of i t) (pick-has (usage_at i) no_usage t f) ∙ same_comm usage_keys i r
+  unmake_mine r i f =
+      keyed-at usage_keys r i (usage_of i t) (pick-has (usage_at i) no_usage t f) ∙ same_comm usage_keys i r
 
   unmake_table : (r : ReservationId) → edit (usage_at r) clear_usage t ≡ clear clear_usage (usage_at r) t
   unmake_table r = edit-clear (usage_at r) clear_usage t (B.once r)
 
   gone : (r : ReservationId)
-      → Tells usage_keys (edit (usage_at r) clear_usage t) (λ i. any (usage_at i) t && not (same_reservation r i)) (λ i. 0)
+      → Tells usage_keys (edit (usage_at r) clear_usage t)
+      (λ i. any (usage_at i) t && not (same_reservation r i))
+      (λ i. 0)
   unfolding usage_at
   gone r =
       subst (λ (t' : List ReservationUsage).
@@ -284,5 +289,6 @@ module _ {t : List ReservationUsage} {now : ℕ} {b : Book} (B : Books t now b) 
       dead : {P : Type 0} (i : ReservationId) → same_reservation r i ≡ true → lives now (unmade b r) i ≡ true → P
       dead i q e = absurd (false≢true (sym (ap (λ x. cond x false (b.made i) && ltb now (b.due i)) q) ∙ e))
 
-      alive : (i : ReservationId) → same_reservation r i ≡ false → lives now (unmade b r) i ≡ true → lives now b i ≡ true
+      alive : (i : ReservationId) → same_reservation r i ≡ false → lives now (unmade b r) i ≡ true
+          → lives now b i ≡ true
       alive i q e = sym (ap (λ x. cond x false (b.made i) && ltb now (b.due i)) q) ∙ e

@@ -56,7 +56,8 @@ module _ (w : World) (id : ℕ) (e : has_pending w id ≡ true) where
       λ i. and_then (tell (error_to_requester n (same i)) (pending-ended i)) (tell (close_to_endpoint n (same i)))
 
   pub disconnected-by-id : (peer : HnsrPeerId)
-      → by_id (disconnect_pending peer) w id ≡ tell (close_to_other peer (pending_in w id)) (end_pending w (pending_at id) id)
+      → by_id (disconnect_pending peer) w id
+      ≡ tell (close_to_other peer (pending_in w id)) (end_pending w (pending_at id) id)
   unfolding disconnect_pending
   disconnected-by-id peer =
       λ i. tell (close_to_other peer (pick_at (pending_at id) no_pending w.pending i)) (pending-ended i)

@@ -64,7 +64,8 @@ module _ {cs : List RelayCircuit} {ac : ℕ → Bool} {kn : ℕ → Known} (C : 
   mine : (i : ℕ) → ac i ≡ true → circuit_at j (pick (circuit_at i) no_circuit cs) ≡ eqb j i
   unfolding circuit_at
   mine i a =
-      keyed-at circuit_keys j i (pick (circuit_at i) no_circuit cs) (pick-has (circuit_at i) no_circuit cs (C.found i ∙ a))
+      keyed-at circuit_keys j i (pick (circuit_at i) no_circuit cs)
+      (pick-has (circuit_at i) no_circuit cs (C.found i ∙ a))
       ∙ eqb_comm i j
 
   ended-table : edit (circuit_at j) clear_circuit cs ≡ clear clear_circuit (circuit_at j) cs
@@ -153,8 +154,8 @@ module _ {S : ℕ → Bool} {cs : List RelayCircuit} {ac : ℕ → Bool} {kn : �
       each a = split (eqb j a.circuit)
           (λ e. split (ac a.circuit)
           (λ t. let q = eqb-true j a.circuit e in
-          let p : peer_on (side_to a) k ≡ peer_on (side_to a) (kn a.circuit) =
-          subst (λ x. ac x ≡ true → peer_on (side_to a) k ≡ peer_on (side_to a) (kn x)) q (λ u. peers u (side_to a)) t in
+          let p : peer_on (side_to a) k ≡ peer_on (side_to a) (kn a.circuit) = subst
+          (λ x. ac x ≡ true → peer_on (side_to a) k ≡ peer_on (side_to a) (kn x)) q (λ u. peers u (side_to a)) t in
           rw (ea a.circuit, ek a.circuit, e, t, p) (omega arith))
           (λ t.
           rw t (off (is_data a) (ac' a.circuit && same_peer a.destination (peer_on (side_to a) (kn' a.circuit))))))

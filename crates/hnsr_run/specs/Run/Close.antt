@@ -211,8 +211,8 @@ module _ {w : World} {h : Past} (R : Rel w h) (p : HnsrPeerId) (x : ℕ) where
   pub ends-circuit : any (named_by p x) w.pending ≡ false → end_in p x h ≡ circuit_ended h x
   ends-circuit e = split (by_context h p x)
       (λ c. let i = by-context c in clash (is-shown (h.opens.named p x) i.0 i.1) e)
-      (λ c. ap (λ b. cond b (open_ended h (h.opens.named p x)) (cond (by_id h p x) (open_ended h x) (circuit_ended h x)))
-      c
+      (λ c. ap
+      (λ b. cond b (open_ended h (h.opens.named p x)) (cond (by_id h p x) (open_ended h x) (circuit_ended h x))) c
       ∙ split (by_id h p x)
       (λ d. let i = by-id d in clash (is-shown x i.0 i.1) e)
       (λ d. ap (λ b. cond b (open_ended h x) (circuit_ended h x)) d))

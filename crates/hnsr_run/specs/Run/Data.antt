@@ -15,7 +15,8 @@ use Rattle.hnsr_circuit.specs.declared.records.RelaySide.{RelaySide}
 use Rattle.hnsr_circuit.specs.declared.records.RelaySide.TheVariants.{Requester, Endpoint}
 use Rattle.hnsr_circuit.specs.Table.{pick, edit}
 use Rattle.hnsr_circuit.specs.Peer.{same_peer}
-use Rattle.hnsr_circuit.specs.Circuits.{no_circuit, circuit_at, side_of, other_side, peer_at, credit_of, queued_to, charged}
+use Rattle.hnsr_circuit.specs.Circuits.{no_circuit, circuit_at, side_of, other_side}
+use Rattle.hnsr_circuit.specs.Circuits.{peer_at, credit_of, queued_to, charged}
 use Rattle.hnsr_circuit.specs.Ledger.{usage_of}
 use Rattle.hnsr_circuit.specs.Inflight.{to_endpoint}
 use Rattle.hnsr_circuit.specs.World.{World, Outcome, config_of, done}
@@ -39,7 +40,8 @@ use Rattle.hnsr_run.specs.Run.DataRows.{named-side, known-rel, named-active, sid
 use Rattle.hnsr_run.specs.Run.DataRows.{DataRows, data_rows_lem, to-side, charged-queue}
 
 -- ---- DATA, taken: the circuit charged, the ledger charged, the action queued
-module _ {w : World} {h : Past} (R : Rel w h) (q : Packet) (op : q.opcode ≡ op_data) (low : sequence_of w < top 64) where
+module _ {w : World} {h : Past} (R : Rel w h) (q : Packet) (op : q.opcode ≡ op_data)
+    (low : sequence_of w < top 64) where
   abbrev id : ℕ
   id = q.context
 
@@ -117,7 +119,8 @@ module _ {w : World} {h : Past} (R : Rel w h) (q : Packet) (op : q.opcode ≡ op
         (sym (sent_peers side bytes (h.known id) (cond (to_endpoint (other_side side)) Endpoint Requester)))
         (ap not
         (subst (λ (s : RelaySide). same_peer (peer_at (other_side s) circuit)
-        (peer_on (cond (to_endpoint (other_side side)) Endpoint Requester) (h.known id)) ≡ true) from (to-side side A)))))
+        (peer_on (cond (to_endpoint (other_side side)) Endpoint Requester) (h.known id)) ≡ true) from
+        (to-side side A)))))
 
     heard_it : carried id side bytes (route_for message (generation_of w) (sequence_of w)) ≡ act
     unfolding act message data_message

@@ -106,7 +106,8 @@ pub record DataRows (w : World) (q : Packet) (c : RelayCircuit) (side : RelaySid
   pub credit : ltb (credit_of side c) n ≡ false
   pub queue : ltb (config_of w).maximum_queue_bytes (saturating_add 64 (queued_to (other_side side) c) n) ≡ false
 
-pub data_rows_lem : (w : World) (q : Packet) (c : RelayCircuit) (side : RelaySide) (n : ℕ) → data_taken w q c side n ≡ Taken
+pub data_rows_lem : (w : World) (q : Packet) (c : RelayCircuit) (side : RelaySide) (n : ℕ)
+    → data_taken w q c side n ≡ Taken
     → DataRows w q c side n
 unfolding data_taken bytes_answer flow_answer
 data_rows_lem w q c side n e =
@@ -149,7 +150,8 @@ to-endpoint Endpoint {c} {k} A =
     ap (same_peer k.endpoint) A.requester ∙ same_comm k.endpoint k.requester ∙ A.apart
 
 pub to-side : (side : RelaySide) {c : RelayCircuit} {k : Known} → Agrees c k
-    → same_peer (peer_at (other_side side) c) (peer_on (cond (to_endpoint (other_side side)) Endpoint Requester) k) ≡ true
+    → same_peer (peer_at (other_side side) c) (peer_on (cond (to_endpoint (other_side side)) Endpoint Requester) k)
+    ≡ true
 to-side Requester {c} {k} A = ap (λ p. same_peer p k.endpoint) A.endpoint ∙ same_refl k.endpoint
 to-side Endpoint {c} {k} A = ap (λ p. same_peer p k.requester) A.requester ∙ same_refl k.requester
 

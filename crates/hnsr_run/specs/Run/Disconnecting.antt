@@ -26,7 +26,8 @@ use Rattle.hnsr_circuit.specs.Queue.{Message, Sent, sequence_of, queue_answer, c
 use Rattle.hnsr_circuit.specs.Opcode.{op_close}
 use Rattle.hnsr_circuit.specs.Packet.{circuit_in}
 use Rattle.hnsr_circuit.specs.Revocation.{without_pending, without_actions, end_pending, end_circuit, closing}
-use Rattle.hnsr_circuit.specs.Revocation.{close_to_requester, close_to_endpoint, close_to, pending_in, revoke_circuit_there}
+use Rattle.hnsr_circuit.specs.Revocation.{close_to_requester, close_to_endpoint}
+use Rattle.hnsr_circuit.specs.Revocation.{close_to, pending_in, revoke_circuit_there}
 use Rattle.hnsr_circuit.specs.Revocation.{revoke_circuit, walk, pending_table, circuit_table, revoke_all}
 use Rattle.hnsr_circuit.specs.RevokingCalls.{close_to_other, disconnect_pending}
 use Rattle.hnsr_circuit.specs.Laws.Peer.{same_refl}
@@ -457,7 +458,8 @@ module _ (p : HnsrPeerId) where
   -- ---- both: history's reading is what the machine labelled
   pub leaving_heard : {u : World} (w : World) (h : Past) → Keeps (λ i. known_side p (h.known i)) u w h → Leads h
       → config_of w ≡ h.head.config
-      → let o = revoke_all (disconnect_pending p) (pending_of p) (revoke_circuit_there PeerDisconnected) (circuit_of p) w in
+      → let o =
+      revoke_all (disconnect_pending p) (pending_of p) (revoke_circuit_there PeerDisconnected) (circuit_of p) w in
       sequence_of w + length o.routes < top 64 → heard_on_leaving p h [] o.routes ≡ map own o.routes
   unfolding revoke_all pending_of circuit_of
   leaving_heard {u} w h K leads conf low =
@@ -467,8 +469,11 @@ module _ (p : HnsrPeerId) where
       let a = walk-pending (known_side p) (λ opcode k. true) (λ x. same_peer x.requester p || same_peer x.endpoint p)
       (asked_side p) same_open (disconnect_pending p) (disconnecting p) own S u (λ w h rs. Unit {0}) (λ w h K n. tt)
       (λ w h m rs K a s l n. tt) (pending_of p) (λ x. refl) w h (K, L) in
-      let b = walk-circuits (asked_side p) (λ opcode k. true) PeerDisconnected (is_side p) (known_side p) same-circuit own
-      u (λ h rs. All (Shared h) rs) (λ h. tt) (λ w h m rs K a s n. more_shared w h m rs K.0.full a s n)
+      let b = walk-circuits (asked_side p) (λ opcode k. true) PeerDisconnected (is_side p) (known_side p) same-circuit
+      own u
+      (λ h rs. All (Shared h) rs)
+      (λ h. tt)
+      (λ w h m rs K a s n. more_shared w h m rs K.0.full a s n)
       (circuit_of p) (λ x. refl) first.world (parted_opens own h (asked_side p) first.routes) a.0 in
       let c = walk-pending (known_side p) (λ opcode k. true) (λ x. same_peer x.requester p || same_peer x.endpoint p)
       (asked_side p) same_open (disconnect_pending p) (disconnecting p) own S u (Heard S u second.routes)

@@ -66,7 +66,8 @@ heard_as told peer id opcode context n k e = record {
   same = λ g s i. of_route (route_for (closing peer id opcode context n) g s) (e g s i) (k i) false 0;
 }
 
-pub labelled : (qo : Asked → Bool) (qc : Known → Bool) (h : Past) → Leads h → Labelled qo qc by_error (heard (about h)) h
+pub labelled : (qo : Asked → Bool) (qc : Known → Bool) (h : Past) → Leads h
+    → Labelled qo qc by_error (heard (about h)) h
 labelled qo qc h leads = record {
   endpoint = λ j n a s. heard_as (about h) (h.opens.asked j).endpoint j op_close j n refl (λ g i. refl);
   sides = λ j n side a s. heard_as (about h) (peer_on side (h.known j)) j op_close j n refl (λ g i. refl);
@@ -227,13 +228,15 @@ revoking qo n = record {
       λ {qc} {f} S u w h j L K a s. let A = pending-agrees w h K.full j a in let i = pending-is w h K.full j a in
       subst (λ (o : Sent). Keeps S u o.world (emit (open_ended h j) f o.routes))
       (sym (revoked-by-id w j (pending-there w h K.full j ∙ a) n))
-      (two-tells (error_to_requester n (pending_in w j)) (close_to_endpoint n (pending_in w j)) (end_pending w (pending_at j) j)
-      (open_ended h j) (end_pending_lem w h j a K) (quiet-error L n _ j a A i refl) (quiet_close L n _ j a A i s));
+      (two-tells (error_to_requester n (pending_in w j)) (close_to_endpoint n (pending_in w j))
+      (end_pending w (pending_at j) j) (open_ended h j) (end_pending_lem w h j a K) (quiet-error L n _ j a A i refl)
+      (quiet_close L n _ j a A i s));
   about = λ {qc} {f} w h j L F a s. let A = pending-agrees w h F j a in let i = pending-is w h F j a in
       subst (λ (o : Sent). count (non (on_circuit j)) (map f o.routes) ≡ 0)
       (sym (revoked-by-id w j (pending-there w h F j ∙ a) n))
-      (two-on (error_to_requester n (pending_in w j)) (close_to_endpoint n (pending_in w j)) (end_pending w (pending_at j) j) j
-      (quiet-error L n _ j a A i refl) (quiet_close L n _ j a A i s) (error-id n w h F j a) (close_id_lem n w h F j a));
+      (two-on (error_to_requester n (pending_in w j)) (close_to_endpoint n (pending_in w j))
+      (end_pending w (pending_at j) j) j (quiet-error L n _ j a A i refl) (quiet_close L n _ j a A i s)
+      (error-id n w h F j a) (close_id_lem n w h F j a));
   table = λ w h j F a. ap (λ (o : Sent). o.world.pending) (revoked-by-id w j (pending-there w h F j ∙ a) n)
       ∙ (two-tables (error_to_requester n (pending_in w j)) (close_to_endpoint n (pending_in w j))
       (end_pending w (pending_at j) j)).pending
@@ -254,7 +257,8 @@ disconnecting peer = record {
       (tell-on (close_to_other peer (pending_in w j)) (end_pending w (pending_at j) j) j
       (quiet-other peer L _ j a s (pending-agrees w h F j a) (pending-is w h F j a)) (other-id peer w h F j a));
   table = λ w h j F a. ap (λ (o : Sent). o.world.pending) (disconnected-by-id w j (pending-there w h F j ∙ a) peer)
-      ∙ (tell-tables (close_to_other peer (pending_in w j)) (end_pending w (pending_at j) j)).pending ∙ ended-pendings w j;
+      ∙ (tell-tables (close_to_other peer (pending_in w j)) (end_pending w (pending_at j) j)).pending
+      ∙ ended-pendings w j;
 }
 
 pub revoke-circuit : {f : Route → Action} {S : ℕ → Bool} {u : World} (n : Notice) (w : World) (h : Past) (j : ℕ)

@@ -126,8 +126,8 @@ module _ (now : ℕ) where
             (ap (λ (t : List RelayPending). any (pending_over now) t) same
             ∙ walk_ends pending_id pending_table (pending_over now) no_pending clear_pending
             (revoke_pending AcceptanceExpired) (pending_clears AcceptanceExpired) pending-off v),
-        walk_ends circuit_id circuit_table (circuit_over now) no_circuit clear_circuit (revoke_circuit_there TicketExpired)
-            (circuit_clears TicketExpired) circuit-off u,
+        walk_ends circuit_id circuit_table (circuit_over now) no_circuit clear_circuit
+            (revoke_circuit_there TicketExpired) (circuit_clears TicketExpired) circuit-off u,
         ap (λ (t : List ReservationUsage). any (usage_over now) t) kept
             ∙ clear-same is_usage clear_usage usage_unmarked (usage_over now) (usage_over now) w.ledger usage_off
             (λ a e. e),
@@ -152,8 +152,8 @@ module _ (now : ℕ) where
       (walk-idle pending_id pending_table (pending_over now) no_pending clear_pending (revoke_pending AcceptanceExpired)
       (pending_clears AcceptanceExpired) pending-off v p)
       ∙ ap (λ (s : Sent). finished (record { world = s.world; routes = s.routes }))
-      (walk-idle circuit_id circuit_table (circuit_over now) no_circuit clear_circuit (revoke_circuit_there TicketExpired)
-      (circuit_clears TicketExpired) circuit-off v c)
+      (walk-idle circuit_id circuit_table (circuit_over now) no_circuit clear_circuit
+      (revoke_circuit_there TicketExpired) (circuit_clears TicketExpired) circuit-off v c)
 
 -- ---- next due, where the tables are long enough
 module _ (w : World) (S : Shape w) where

@@ -33,7 +33,8 @@ edit-looks j f cs h u =
     (sym (edit-put (circuit_at j) f (λ c. c.used) no_circuit cs h))
     (store_looks circuit_keys j (f (pick (circuit_at j) no_circuit cs)) cs u (λ x. clash h x))
 
-pub charged-at : (j : ℕ) (side : RelaySide) (n : ℕ) (c : RelayCircuit) → circuit_at j (charged side n c) ≡ circuit_at j c
+pub charged-at : (j : ℕ) (side : RelaySide) (n : ℕ) (c : RelayCircuit)
+    → circuit_at j (charged side n c) ≡ circuit_at j c
 unfolding circuit_at
 charged-at j Requester n c = refl
 charged-at j Endpoint n c = refl
@@ -43,7 +44,8 @@ unfolding circuit_at
 raised_at j Requester n c = refl
 raised_at j Endpoint n c = refl
 
-pub lowered-at : (j : ℕ) (side : RelaySide) (n : ℕ) (c : RelayCircuit) → circuit_at j (lowered side n c) ≡ circuit_at j c
+pub lowered-at : (j : ℕ) (side : RelaySide) (n : ℕ) (c : RelayCircuit)
+    → circuit_at j (lowered side n c) ≡ circuit_at j c
 unfolding circuit_at
 lowered-at j Requester n c = refl
 lowered-at j Endpoint n c = refl

@@ -34,7 +34,8 @@ use Rattle.hnsr_circuit.specs.Handle.{ERROR, other, dispatch, handle_gate, handl
 use Rattle.hnsr_circuit.specs.Acknowledge.{generation_answer, released, fail_pending, fail_incoming}
 use Rattle.hnsr_circuit.specs.Acknowledge.{undelivered, settled, acknowledge_action, acknowledge}
 use Rattle.hnsr_circuit.specs.Revocation.{without_actions, without_pending, end_pending, end_circuit, end_pending_there}
-use Rattle.hnsr_circuit.specs.Revocation.{end_circuit_there, has_pending, pending_in, revoke_pending, revoke_circuit_there}
+use Rattle.hnsr_circuit.specs.Revocation.{end_circuit_there, has_pending, pending_in}
+use Rattle.hnsr_circuit.specs.Revocation.{revoke_pending, revoke_circuit_there}
 use Rattle.hnsr_circuit.specs.Revocation.{revoke_circuit, walk_from, walk, pending_table, circuit_table, revoke_all}
 use Rattle.hnsr_circuit.specs.RevokingCalls.{disconnect_pending, disconnect_peer, disconnect}
 use Rattle.hnsr_circuit.specs.RevokingCalls.{revoke_under, revoke_reservation, expire_at, expire, changes}
@@ -42,7 +43,8 @@ use Rattle.hnsr_circuit.specs.RevokingCalls.{change_answer, switched, switch_to,
 use Rattle.hnsr_circuit.specs.New.{observe_time}
 use Rattle.hnsr_circuit.specs.Status.{status}
 use Rattle.hnsr_circuit.specs.NextDue.{next_due}
-use Rattle.hnsr_circuit.specs.Call.{Call, call_status, call_next_due, call_observe_time, call_replace_enabled, call_handle}
+use Rattle.hnsr_circuit.specs.Call.{Call, call_status, call_next_due, call_observe_time}
+use Rattle.hnsr_circuit.specs.Call.{call_replace_enabled, call_handle}
 use Rattle.hnsr_circuit.specs.Call.{call_acknowledge, call_disconnect, call_revoke_reservation, call_expire, step}
 use Rattle.hnsr_run.specs.Run.Walks.{when-cases}
 
@@ -110,12 +112,14 @@ end_circuit_counts : {rs : List Route} {u : World} (w : World) (id : ℕ) → Co
 unfolding end_circuit without_actions
 end_circuit_counts w id c = from w refl refl c
 
-end_pending_there_counts : {rs : List Route} {u : World} (w : World) (place : ℕ) → Counts (end_pending_there w place) u rs
+end_pending_there_counts : {rs : List Route} {u : World} (w : World) (place : ℕ)
+    → Counts (end_pending_there w place) u rs
     → Counts w u rs
 unfolding end_pending_there without_actions
 end_pending_there_counts w place c = from w refl refl c
 
-end_circuit_there_counts : {rs : List Route} {u : World} (w : World) (place : ℕ) → Counts (end_circuit_there w place) u rs
+end_circuit_there_counts : {rs : List Route} {u : World} (w : World) (place : ℕ)
+    → Counts (end_circuit_there w place) u rs
     → Counts w u rs
 unfolding end_circuit_there without_actions
 end_circuit_there_counts w place c = from w refl refl c

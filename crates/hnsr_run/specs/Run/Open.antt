@@ -1,6 +1,7 @@
 -- OPEN keeps the invariant: refused, it may have dropped or made a ledger record; taken, an OPEN stands and INCOMING is
 -- queued.
-use Rattle.std.specs.Prelude.{ℕ, ◌+◌, ◌<◌, ◌≡◌, refl, Bool, true, false, cond, not, ◌&&◌, ◌||◌, [], leb, ltb, eqb, length}
+use Rattle.std.specs.Prelude.{ℕ, ◌+◌, ◌<◌, ◌≡◌, refl, Bool, true, false, cond}
+use Rattle.std.specs.Prelude.{not, ◌&&◌, ◌||◌, [], leb, ltb, eqb, length}
 use Rattle.std.proofs.Common.{sym, ap, ◌∙◌, leb-false}
 use Rattle.std.proofs.lemmas.Bool.{not-false}
 use Rattle.hns_encoding.specs.Numbers.{top}

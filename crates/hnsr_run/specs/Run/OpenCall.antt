@@ -41,7 +41,8 @@ use Rattle.hnsr_run.specs.Run.Rel.{Live, Rel, Places, proceed-cases, if-not, not
 use Rattle.hnsr_run.specs.Run.Opening.{j, message, can, rel}
 
 -- ---- the call
-check-number : (b : Bool) (x e : HnsrRuntimeError) → check b x ≡ Refused e → eqb (error_number e) (error_number x) ≡ true
+check-number : (b : Bool) (x e : HnsrRuntimeError) → check b x ≡ Refused e
+    → eqb (error_number e) (error_number x) ≡ true
 check-number true x e f = eq-eqb (error_number e) (error_number x) (sym (ap number f))
 check-number false x e f = eq-eqb (error_number e) (error_number x) (absurd (true≢false (unlike f)))
   where

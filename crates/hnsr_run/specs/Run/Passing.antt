@@ -28,7 +28,8 @@ use Rattle.hnsr_circuit.specs.Inflight.{tallied, capacity_answer}
 use Rattle.hnsr_circuit.specs.World.{World, Outcome, config_of, done, proceed}
 use Rattle.hnsr_circuit.specs.Queue.{Message, sequence_of, queued, routed, send}
 use Rattle.hnsr_circuit.specs.Packet.{Packet, sender, has_circuit, named_circuit, circuit_answer, receiver}
-use Rattle.hnsr_circuit.specs.Data.{bytes_answer, flow_answer, with_data, data_message, data_taken, data_with, handle_data}
+use Rattle.hnsr_circuit.specs.Data.{bytes_answer, flow_answer, with_data}
+use Rattle.hnsr_circuit.specs.Data.{data_message, data_taken, data_with, handle_data}
 use Rattle.hnsr_circuit.specs.Laws.Answers.{taken_then}
 use Rattle.hnsr_circuit.specs.Laws.Capacity.{can-queue, send-taken}
 use Rattle.hnsr_run.specs.Past.{Past, credit, circuit_left, total_left, weight}

@@ -1,7 +1,9 @@
 -- The whole invariant between a world and what the events tell, and the changes that most calls are made of: the clock,
 -- a refusal, records ended.
-use Rattle.std.specs.Prelude.{ℕ, ◌≤◌, ◌<◌, ◌≡◌, refl, Bool, true, false, cond, List, [], ◌∷◌, ◌++◌, ◌⊎◌, ltb, eqb, length}
-use Rattle.std.proofs.Common.{arith, sym, ap, ◌∙◌, subst, true≢false, append-nil, inl, inr, eqb-true, ltb-true, lt-ltb, ne_eqb}
+use Rattle.std.specs.Prelude.{ℕ, ◌≤◌, ◌<◌, ◌≡◌, refl, Bool, true, false, cond}
+use Rattle.std.specs.Prelude.{List, [], ◌∷◌, ◌++◌, ◌⊎◌, ltb, eqb, length}
+use Rattle.std.proofs.Common.{arith, sym, ap, ◌∙◌, subst, true≢false, append-nil}
+use Rattle.std.proofs.Common.{inl, inr, eqb-true, ltb-true, lt-ltb, ne_eqb}
 use Rattle.hns_encoding.specs.Numbers.{top}
 use Rattle.hns_encoding.specs.Laws.Tests.{split, clash, both, join}
 use Rattle.hnsr_body.specs.declared.values.ReservationId.{ReservationId}

@@ -96,7 +96,8 @@ module _ (qc : Known → Bool) (T : ℕ → Asked → Bool) (Q : RelayPending �
       → ((i : ℕ) → h.opens.standing i ≡ true → q (h.opens.asked i) ≡ false) → N w h [])
       → ((w : World) (h : Past) (m : ℕ) (rs : List Route) → Told w h → h.opens.standing m ≡ true
       → q (h.opens.asked m) ≡ true → ((i : ℕ) → h.opens.standing i ≡ true → q (h.opens.asked i) ≡ true → m ≤ i)
-      → N (by_id end w m).world (emit (open_ended h m) f (by_id end w m).routes) rs → N w h ((by_id end w m).routes ++ rs))
+      → N (by_id end w m).world (emit (open_ended h m) f (by_id end w m).routes) rs
+      → N w h ((by_id end w m).routes ++ rs))
       → (p : RelayPending → Bool) → ((x : RelayPending) → p x ≡ (x.used && Q x)) → (w : World) (h : Past) → Told w h
       → Told (walk pending_id pending_table p end w).world
       (parted_opens f h q (walk pending_id pending_table p end w).routes)
@@ -158,8 +159,8 @@ module _ (qo : Asked → Bool) (T : ℕ → Asked → Bool) (n : Notice) (Q : Re
       × N h (walk circuit_id circuit_table p (revoke_circuit_there n) w).routes
   unfolding circuit_at
   walk-circuits N N-none N-more p same w h K =
-      let r = walked circuit_keys (λ i j. refl) Q q same-q circuit_table (revoke_circuit_there n) (revoke_circuit n) Going
-      (λ h. h.active)
+      let r = walked circuit_keys (λ i j. refl) Q q same-q circuit_table (revoke_circuit_there n) (revoke_circuit n)
+      Going (λ h. h.active)
       (λ h. h.known)
       (λ h m rs. emit (circuit_ended h m) f rs)
       (λ h rs. parted_circuits f h q rs)
@@ -177,7 +178,8 @@ module _ (qo : Asked → Bool) (T : ℕ → Asked → Bool) (n : Notice) (Q : Re
 -- ---- both
 both_path : (told : Route → ℕ) (h : Past) (qo : Asked → Bool) (qc : Known → Bool) (r rs : List Route)
     → count (active_on h) (map (heard told) r) ≡ 0
-    → parted_circuits (heard told) (parted_opens (heard told) h qo r) qc rs ≡ revoked h qo qc (map (heard told) (r ++ rs))
+    → parted_circuits (heard told) (parted_opens (heard told) h qo r) qc rs
+    ≡ revoked h qo qc (map (heard told) (r ++ rs))
 both_path told h qo qc r rs z = λ i.
     fewer h (λ j. h.active j && not (qc (h.known j)))
     (λ j. h.opens.standing j && not (qo (h.opens.asked j))) (outs i)

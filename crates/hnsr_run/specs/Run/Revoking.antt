@@ -1,5 +1,6 @@
 -- Disconnect, revoke_reservation and expire keep the invariant.
-use Rattle.std.specs.Prelude.{ℕ, ◌+◌, ◌≤◌, ◌<◌, ◌≡◌, refl, Bool, true, false, cond, not, ◌&&◌, ◌||◌, List, [], leb, ltb, length}
+use Rattle.std.specs.Prelude.{ℕ, ◌+◌, ◌≤◌, ◌<◌, ◌≡◌, refl, Bool, true, false}
+use Rattle.std.specs.Prelude.{cond, not, ◌&&◌, ◌||◌, List, [], leb, ltb, length}
 use Rattle.std.proofs.Common.{arith, sym, ap, ◌∙◌, subst, true≢false, eqb-true, ltb-false}
 use Rattle.std.proofs.lemmas.Bool.{false≢true, not-true}
 use Rattle.std.proofs.Math.Bool.{or-true}
@@ -48,7 +49,8 @@ use Rattle.hnsr_run.specs.Run.Books.{usage_keys, one-ledger, same_books, lapse_b
 use Rattle.hnsr_run.specs.Run.Rel.{Live, Rel, proceed-cases, if-taken, shrink, moved-rel, reledger, heads-rest}
 
 -- ---- disconnect
-side-known : (side : RelaySide) (k : Known) (p : HnsrPeerId) → same_peer (peer_on side k) p ≡ true → known_side p k ≡ true
+side-known : (side : RelaySide) (k : Known) (p : HnsrPeerId) → same_peer (peer_on side k) p ≡ true
+    → known_side p k ≡ true
 side-known Requester k p e = ap (λ b. b || same_peer k.endpoint p) e
 side-known Endpoint k p e = ap (λ b. same_peer k.requester p || b) e ∙ or-true (same_peer k.requester p)
 
@@ -199,8 +201,8 @@ expire-keeps {w} {h} R now room =
     let R₁ = moved-rel R now (omega (arith, R.base.heads.clock)) in
     let R₂ = reledger R₁ (lapsed now w.ledger) (lapse_books R₁.base.books) in
     shrink R₂ _ _ _
-    (revoke-all by_error (about h) (without_lapsed (at_time w now) now) (moved_to h now) (revoke_pending AcceptanceExpired)
-    TicketExpired (pending_over now) (overdue now) (asked_over now) (λ x. refl)
+    (revoke-all by_error (about h) (without_lapsed (at_time w now) now) (moved_to h now)
+    (revoke_pending AcceptanceExpired) TicketExpired (pending_over now) (overdue now) (asked_over now) (λ x. refl)
     (λ x k A i. leb (A.deadline i) now || leb (A.ticket i).expires_at now) (circuit_over now)
     (λ x. leb x.expires_at now) (known_over now) (λ x. refl) (λ x k A i. leb (A.expires i) now)
     (λ i s a. absurd (false≢true s)) (revoking (asked_over now) AcceptanceExpired)

@@ -1,7 +1,9 @@
 -- An invariant of runs that is of the world alone: no history, no bound on the action sequence, every answer
 -- (`start_shape`, `step_shape`, `run_shape` of ShapeRuns). And what it says by id.
-use Rattle.std.specs.Prelude.{ℕ, ◌+◌, ◌-◌, ◌≤◌, ◌<◌, min, ◌≡◌, refl, true, false, List, ◌++◌, leb, eqb, length, take, replicate}
-use Rattle.std.proofs.Common.{arith, sym, ap, ◌∙◌, append-nil, take-append-drop, drop_of_length-le, take_at, leb-true, eqb-true}
+use Rattle.std.specs.Prelude.{ℕ, ◌+◌, ◌-◌, ◌≤◌, ◌<◌, min, ◌≡◌, refl, true, false}
+use Rattle.std.specs.Prelude.{List, ◌++◌, leb, eqb, length, take, replicate}
+use Rattle.std.proofs.Common.{arith, sym, ap, ◌∙◌, append-nil, take-append-drop}
+use Rattle.std.proofs.Common.{drop_of_length-le, take_at, leb-true, eqb-true}
 use Rattle.hns_encoding.specs.Bytes.{all_zero, padded}
 use Rattle.hns_encoding.specs.Laws.Tests.{split, both, clash}
 use Rattle.hns_encoding.specs.Sums.{count}

@@ -38,7 +38,8 @@ use Rattle.hnsr_circuit.specs.Packet.{Packet, sender, has_circuit, named_circuit
 use Rattle.hnsr_circuit.specs.Draw.{draws, undrawn, id_taken, drawn}
 use Rattle.hnsr_circuit.specs.Open.{Opening, pending_for, with_open, opening, open_placed}
 use Rattle.hnsr_circuit.specs.Open.{open_booked, open_granted, open_lapsed, handle_open}
-use Rattle.hnsr_circuit.specs.Accept.{request_answer, circuit_for, with_accept, accept_taken, accept_with, handle_accept}
+use Rattle.hnsr_circuit.specs.Accept.{request_answer, circuit_for, with_accept}
+use Rattle.hnsr_circuit.specs.Accept.{accept_taken, accept_with, handle_accept}
 use Rattle.hnsr_circuit.specs.Data.{with_data, data_with, handle_data}
 use Rattle.hnsr_circuit.specs.Window.{credit_answer, with_window, window_taken, window_with, handle_window}
 use Rattle.hnsr_circuit.specs.Close.{close_pending, close_circuit, handle_close}
@@ -287,7 +288,8 @@ charged-moves : (side : RelaySide) (n : ℕ) (c : RelayCircuit) → Recounted c 
 charged-moves Requester n c = record { used = refl; id = refl; requester = refl; endpoint = refl }
 charged-moves Endpoint n c = record { used = refl; id = refl; requester = refl; endpoint = refl }
 
-charged-credit : (from side : RelaySide) (n : ℕ) (c : RelayCircuit) → credit_of side (charged from n c) ≤ credit_of side c
+charged-credit : (from side : RelaySide) (n : ℕ) (c : RelayCircuit)
+    → credit_of side (charged from n c) ≤ credit_of side c
 charged-credit Requester Requester n c = omega arith
 charged-credit Requester Endpoint n c = omega arith
 charged-credit Endpoint Requester n c = omega arith

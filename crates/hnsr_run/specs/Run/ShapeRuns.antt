@@ -1,6 +1,7 @@
 -- Every call keeps the invariant of the world alone, whatever it answers, 6 included; a taken `new` starts it; so the
 -- world that any list of calls leaves has it.
-use Rattle.std.specs.Prelude.{ℕ, zero, suc, ◌≤◌, ◌<◌, ◌≡◌, refl, Bool, true, false, not, ◌||◌, List, [], ◌∷◌, ltb, eqb, length, get_or}
+use Rattle.std.specs.Prelude.{ℕ, zero, suc, ◌≤◌, ◌<◌, ◌≡◌, refl, Bool, true, false}
+use Rattle.std.specs.Prelude.{not, ◌||◌, List, [], ◌∷◌, ltb, eqb, length, get_or}
 use Rattle.std.proofs.Common.{arith, sym, subst, ltb-false}
 use Rattle.std.proofs.lemmas.Bool.{eqb-false, not-false}
 use Rattle.hns_encoding.specs.Bytes.{all_zero}
@@ -119,8 +120,8 @@ switch_shape w false S = revoke_all_shape _ _ _ _ (switched w false) (revoke_pen
 
 -- ---- every call, every answer
 pub step_shape : (w : World) (c : Call) → Shape w → Shape (step w c).world
-unfolding step status next_due observe_time replace_enabled disconnect disconnect_peer revoke_reservation revoke_under expire
-    expire_at
+unfolding step status next_due observe_time replace_enabled disconnect disconnect_peer revoke_reservation revoke_under
+    expire expire_at
 step_shape w (call_status peer circuit) S = proceed_shape w _ _ S (λ e. S)
 step_shape w call_next_due S = proceed_shape w _ _ S (λ e. S)
 step_shape w (call_observe_time now) S = proceed_shape w _ _ S (λ e. S)

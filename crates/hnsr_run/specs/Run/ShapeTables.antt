@@ -1,6 +1,7 @@
 -- Laws of tables for an invariant of the tables alone: what holds at every place, and what is counted, after `set`,
 -- `put`, `edit` and `clear`. Over any record type, and without keys.
-use Rattle.std.specs.Prelude.{ℕ, zero, suc, ◌+◌, ◌≤◌, ◌<◌, ◌≡◌, refl, Bool, true, false, cond, List, [], ◌∷◌, map, length, get_or, set}
+use Rattle.std.specs.Prelude.{ℕ, zero, suc, ◌+◌, ◌≤◌, ◌<◌, ◌≡◌, refl, Bool, true}
+use Rattle.std.specs.Prelude.{false, cond, List, [], ◌∷◌, map, length, get_or, set}
 use Rattle.std.proofs.Common.{arith, ap, length-set}
 use Rattle.std.proofs.lemmas.List.{length-map}
 use Rattle.hns_encoding.specs.Laws.Tests.{split, choose, clash, cond-le}

@@ -26,7 +26,8 @@ use Rattle.hnsr_circuit.specs.New.{observe_time}
 use Rattle.hnsr_circuit.specs.Peer.{peer_of}
 use Rattle.hnsr_circuit.specs.Status.{status_of, action_capacity, status}
 use Rattle.hnsr_circuit.specs.NextDue.{due_of, next_due}
-use Rattle.hnsr_circuit.specs.Call.{Call, call_status, call_next_due, call_observe_time, call_replace_enabled, call_handle}
+use Rattle.hnsr_circuit.specs.Call.{Call, call_status, call_next_due, call_observe_time}
+use Rattle.hnsr_circuit.specs.Call.{call_replace_enabled, call_handle}
 use Rattle.hnsr_circuit.specs.Call.{call_acknowledge, call_disconnect, call_revoke_reservation, call_expire, step}
 use Rattle.hnsr_circuit.specs.Laws.Answers.{then_taken, check-taken}
 use Rattle.hnsr_run.specs.Past.{Past, moved_to}
@@ -91,7 +92,8 @@ packet-context opcode context n e h =
     from false false k = refl
 
 -- ---- by opcode (HANDLE.4)
-by-opcode : (P : Handling → Type 0) (n : ℕ) → (n ≡ op_open → P OPEN) → (n ≡ op_accept → P ACCEPT) → (n ≡ op_data → P DATA)
+by-opcode : (P : Handling → Type 0) (n : ℕ) → (n ≡ op_open → P OPEN) → (n ≡ op_accept → P ACCEPT)
+    → (n ≡ op_data → P DATA)
     → (n ≡ op_window → P WINDOW) → (n ≡ op_close → P CLOSE) → (n ≡ op_error → P ERROR) → P other → P (handling_of n)
 unfolding handling_of
 by-opcode P n a b c d e f g =

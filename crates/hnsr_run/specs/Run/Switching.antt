@@ -137,8 +137,8 @@ switch_keeps {w} {h} R true e = (
 switch_keeps {w} {h} R false e = (
   subst (λ b. Rel (switch_to w false).world
       (cond b h
-      (revoked (switched_to h false) every_open every_circuit (map (heard (about h)) (switch_to w false).routes)))) (sym e)
-      (off-keeps R),
+      (revoked (switched_to h false) every_open every_circuit (map (heard (about h)) (switch_to w false).routes))))
+      (sym e) (off-keeps R),
   refl,
 )
 

@@ -67,7 +67,8 @@ less-pending {w} {g} R j = let F = R.base.full in record {
   rest = record { ledger = one-ledger w.ledger; clock = refl; generation = refl; enabled = refl; config = refl };
 }
 
-same-sequence : (w : World) (j : ℕ) → sequence_of (counting count_revoked (without_pending w (pending_at j))) ≡ sequence_of w
+same-sequence : (w : World) (j : ℕ)
+    → sequence_of (counting count_revoked (without_pending w (pending_at j))) ≡ sequence_of w
 unfolding without_pending
 same-sequence w j = refl
 
@@ -126,7 +127,8 @@ module _ {w : World} {g : Past} (R : Rel w g) (n j : ℕ) (l : sequence_of w < t
       (cond (leb 4 n) g (cond (g.active j) (circuit_ended g j) g))) (fail_incoming w j)) (sym e)
       (split (g.opens.standing j)
       (λ a. subst (λ (b : Bool). Ends j (cond b (unstood g j) g) (fail_incoming w j)) (sym a)
-      (choose (λ (o : Outcome). Ends j (unstood g j) o) (has_pending w j) (fail_pending w j (pending_in w j)) (done w [])
+      (choose (λ (o : Outcome). Ends j (unstood g j) o) (has_pending w j) (fail_pending w j (pending_in w j))
+      (done w [])
       (λ x. fail-pending R j a l)
       (λ x. clash (pending-there w g R.base.full j ∙ a) x)))
       (λ a. subst (λ (b : Bool). Ends j (cond b (unstood g j) g) (fail_incoming w j)) (sym a)
@@ -134,7 +136,8 @@ module _ {w : World} {g : Past} (R : Rel w g) (n j : ℕ) (l : sequence_of w < t
       (λ x. clash x (pending-there w g R.base.full j ∙ a))
       (λ x. stays))))
 
-  circuit : eqb n 0 ≡ false → leb 4 n ≡ false → Ends j (failed_as n j g) (finished (revoke_circuit OuterWriteFailed w j))
+  circuit : eqb n 0 ≡ false → leb 4 n ≡ false
+      → Ends j (failed_as n j g) (finished (revoke_circuit OuterWriteFailed w j))
   unfolding revoke_circuit
   circuit e f =
       subst (λ (b : Bool). Ends j

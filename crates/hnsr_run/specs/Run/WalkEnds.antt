@@ -1,7 +1,8 @@
 -- What a walk leaves: no record that has the property, whatever the ids are; and where no record has it, the walk
 -- changes nothing and says nothing. Over any table and any end that clears the record at its place.
 use Prim.Native.Nat.{ℕ, zero, suc, ◌≤◌, ◌<◌}
-use Rattle.std.proofs.Common.{arith, sym, ap, ◌∙◌, subst, length-set, get_or-set_same, get_or-set_other, leb-true, eqb-true, lt-ltb}
+use Rattle.std.proofs.Common.{arith, sym, ap, ◌∙◌, subst, length-set, get_or-set_same}
+use Rattle.std.proofs.Common.{get_or-set_other, leb-true, eqb-true, lt-ltb}
 use Rattle.std.specs.Prelude.{◌≡◌, Bool, true, cond, ◌&&◌, ◌||◌, leb, ltb, eqb, length, get_or, set}
 use Rattle.std.proofs.Math.Path.{refl}
 use Rattle.std.proofs.Math.Bool.{false}

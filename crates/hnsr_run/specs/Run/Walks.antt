@@ -255,7 +255,8 @@ module _ {A K : Type 0} (X : Keys A ℕ K) (by : (i j : ℕ) → eqb i j ≡ X.s
         (swept h (walk_from X.key table p there (length (table w)) not_yet w).routes)
         × J w h (walk_from X.key table p there (length (table w)) not_yet w).routes)
         (sym (λ i a. same a i))
-        (walk_from_lem (length (table w)) not_yet w h R (count-length (having X by Q) (table w)) (nothing-behind (table w)))
+        (walk_from_lem (length (table w)) not_yet w h R (count-length (having X by Q) (table w))
+        (nothing-behind (table w)))
       where
         nothing-behind : (t : List A) → any (behind X.key (having X by Q) not_yet) t ≡ false
         nothing-behind [] = refl

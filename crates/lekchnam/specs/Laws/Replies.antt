@@ -8,7 +8,8 @@ use Rattle.hnsr_circuit.specs.declared.records.InflightAction.{InflightAction}
 use Rattle.hnsr_circuit.specs.declared.runtime.Relayed.{Relayed}
 use Rattle.hnsr_circuit.specs.Answers.{number, cause_of}
 use Rattle.hnsr_circuit.specs.World.{Outcome}
-use Rattle.hnsr_circuit.specs.Code.Held.{held_pending, held_circuits, held_ledger, held_actions, world_seen, handed_seen}
+use Rattle.hnsr_circuit.specs.Code.Held.{held_pending, held_circuits, held_ledger}
+use Rattle.hnsr_circuit.specs.Code.Held.{held_actions, world_seen, handed_seen}
 use Rattle.hnsr_circuit.specs.Code.Progress.{Result}
 use Rattle.hnsr_circuit.specs.Code.Told.{Made}
 use Rattle.lekchnam.specs.declared.relay.RelayReply.{RelayReply}

@@ -4,7 +4,6 @@ use mathlib.Core.Path.{refl, sym, ◌∙◌, ap}
 use Rattle.hns_encoding.specs.declared.decoder.ReadU16.{ReadU16}
 use Rattle.hns_encoding.specs.declared.decoder.ReadU16.TheVariants.{Ok, Err}
 use Rattle.hns_encoding.specs.declared.decoder.Step.{Step}
-use Rattle.hns_encoding.specs.declared.decoder.Step.TheVariants as Step
 use Rattle.hns_encoding.specs.Bytes.{le}
 use Rattle.hnsr_body.specs.Fields.{stepped, fetched}
 use Rattle.hnsr_body.specs.Laws.Fields.{number_step, number_value}

@@ -4,7 +4,6 @@ use mathlib.Core.Path.{refl, sym, ◌∙◌, ap}
 use Rattle.hns_encoding.specs.declared.decoder.ReadU64.{ReadU64}
 use Rattle.hns_encoding.specs.declared.decoder.ReadU64.TheVariants.{Ok, Err}
 use Rattle.hns_encoding.specs.declared.decoder.Step.{Step}
-use Rattle.hns_encoding.specs.declared.decoder.Step.TheVariants as Step
 use Rattle.hns_encoding.specs.Bytes.{be, be_from}
 use Rattle.hnsr_body.specs.Fields.{stepped, fetched}
 use Rattle.hnsr_body.specs.Laws.Fields.{number_step, number_value}

@@ -1,6 +1,5 @@
 -- `utf8::after_ascii` meets its contract. The invariant is the contract at the present place: one ASCII byte more is
 -- skipped each turn.
-use Prim.Native.Nat.{◌-◌}
 use native.Mathlib.Omega.{arith}
 use Rattle.hnsr_body.specs.Laws.Utf8Form.{skip_ascii}
 use Rattle.hnsr_body.proofs.utf8.after_ascii.Goals as goal

@@ -1,9 +1,7 @@
 -- `utf8::is_utf8` meets its contract. The invariant: the whole text is UTF-8 just where what is left is; the measure is
 -- what is left.
-use Prim.Native.Nat.{◌-◌, ◌+◌}
 use native.Mathlib.Omega.{arith}
 use mathlib.Core.Path.{◌∙◌, sym}
-use Rattle.hnsr_body.specs.Utf8Form.{Skipped}
 use Rattle.hnsr_body.specs.Laws.Utf8Form.{no_char, skip_char, skip_on, skip_all}
 use Rattle.hnsr_body.proofs.utf8.is_utf8.Goals as goal
 

@@ -1,5 +1,4 @@
 -- `is_zero` meets its contract: what is left from `i` on decides.
-use Prim.Native.Nat.{◌-◌}
 use mathlib.Core.Path.{◌∙◌}
 use Rattle.hns_encoding.specs.Laws.Bytes.{zero-step, zero-not, zero-done}
 use borrow.Author.Rules.{rules}
@@ -12,10 +11,10 @@ returns-then-value-i-ne0 c =
 
 pub loop-i-preserved : goal.loop-i-preserved
 loop-i-preserved c = (
-      search rules,
-      zero-step c.args.value.now c.loop-i.i c.loop-i-test.true c.if-value-i-ne0.false
-          ∙ c.loop-i.invariant.1,
-    )
+  search rules,
+  zero-step c.args.value.now c.loop-i.i c.loop-i-test.true c.if-value-i-ne0.false
+      ∙ c.loop-i.invariant.1,
+)
 
 pub returns : goal.returns
 returns c =

@@ -1,6 +1,6 @@
 -- `bytes_differ` meets its contract: whether one differs so far, or one of those that are left, is whether the names
 -- do.
-use Prim.Native.Nat.{◌-◌, ◌+◌}
+use Prim.Native.Nat.{◌+◌}
 use mathlib.Core.Path.{refl, ap, ◌∙◌}
 use mathlib.Core.Bool.{Bool, not, ◌||◌}
 use lib.ListN.{drop}

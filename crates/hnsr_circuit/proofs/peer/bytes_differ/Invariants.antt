@@ -14,7 +14,8 @@ invariant-loop-i l =
     × Full l.a
     × Full l.b
     × (l.n ≤ maximum_peer)
-    × ((l.differ || not (same_bytes (drop l.i (peer_bytes (name_in l.n l.a))) (drop l.i (peer_bytes (name_in l.n l.b)))))
+    × ((l.differ
+    || not (same_bytes (drop l.i (peer_bytes (name_in l.n l.a))) (drop l.i (peer_bytes (name_in l.n l.b)))))
     ≡ not (same_peer (name_in l.n l.a) (name_in l.n l.b)))
 
 abbrev pub decreases-loop-i : goal.decreases-loop-i

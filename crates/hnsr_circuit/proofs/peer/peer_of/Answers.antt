@@ -1,5 +1,5 @@
 -- `peer_of` meets its contract: the first `i` bytes of the name are written over zeros.
-use Prim.Native.Nat.{◌-◌, min}
+use Prim.Native.Nat.{min}
 use mathlib.Core.Path.{◌≡◌, sym, ◌∙◌}
 use native.Mathlib.Nat.{zero-add}
 use lib.ListN.{length, take, replicate, get_or, length-take, length-set}

@@ -1,5 +1,4 @@
 -- Lengths tell the names apart, or one of four bytes does, or all bytes say.
-use lib.ListN.{length}
 use mathlib.Core.Path.{sym, ap, ◌∙◌}
 use mathlib.Core.Bool.{not, not-not}
 use Rattle.hnsr_circuit.specs.Peer.{same_peer}

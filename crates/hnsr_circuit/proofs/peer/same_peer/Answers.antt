@@ -1,9 +1,8 @@
 -- `same_peer` meets its contract: the names from `i` on are the same exactly where the whole names are.
-use Prim.Native.Nat.{◌-◌}
 use mathlib.Core.Path.{refl, sym, ◌∙◌}
 use borrow.Author.Tests.{eq-eqb, ne_eqb}
 use Rattle.hnsr_circuit.specs.Laws.Names.{whole, lengths_differ, names-agree, names-differ, names_end}
-use Rattle.hnsr_circuit.specs.Peer.{peer_length, same_peer}
+use Rattle.hnsr_circuit.specs.Peer.{same_peer}
 use borrow.Author.Rules.{rules}
 use native.Mathlib.Omega.{arith}
 use Rattle.hnsr_circuit.proofs.peer.same_peer.Goals as goal

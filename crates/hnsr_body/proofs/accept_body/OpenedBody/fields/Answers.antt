@@ -9,5 +9,9 @@ unfolding laid_out opened_fields
 returns c =
     let input = c.args.input.now in (
       cc (through-walked input opened_widths),
-      cc (through-field input opened_widths 0, through-field input opened_widths 1, through-field input opened_widths 2),
+      cc (
+        through-field input opened_widths 0,
+        through-field input opened_widths 1,
+        through-field input opened_widths 2,
+      ),
     )

@@ -30,7 +30,8 @@ returns c =
             (c.next_array_16-reservation.ensures.1 ∙ ap (fetched 16 input) s1 ∙ through-field input open_widths 1)) i;
         endpoint_key =
             (c.next_array_33-key.ensures.1 ∙ ap (fetched 33 input) s2 ∙ through-field input open_widths 2) i;
-        profile = (c.next_u16-profile.ensures.1 ∙ ap le (ap (fetched 2 input) s3 ∙ through-field input open_widths 3)) i;
+        profile =
+            (c.next_u16-profile.ensures.1 ∙ ap le (ap (fetched 2 input) s3 ∙ through-field input open_widths 3)) i;
         requester_nonce =
             (c.next_array_16-nonce.ensures.1 ∙ ap (fetched 16 input) s4 ∙ through-field input open_widths 4) i;
         initial_window =

@@ -17,7 +17,8 @@ returns c =
     let s = c in
     let a = s.args in
     let n = s.requires in
-    let l : (length a.self.ticket_id ≡ 32) × (length a.self.endpoint_key ≡ 33) × (length a.self.requester_nonce ≡ 16) = (search rules, search rules, search rules) in
+    let l : (length a.self.ticket_id ≡ 32) × (length a.self.endpoint_key ≡ 33) × (length a.self.requester_nonce ≡ 16) =
+    (search rules, search rules, search rules) in
     let w1 = wrote_next c.put_bytes_at.new.out a.self.ticket_id 32 (wrote_none a.out.now) l.0
     (omega arith) c.put_bytes_at.ensures in
     let w2 = wrote_next c.put_u64_be_at.new.out (be_bytes 8 a.self.reservation_id.high) 8 w1

@@ -10,7 +10,8 @@ use Rattle.hnsr_circuit.specs.Laws.HandleCall.{other-incoming, other-opened, lef
 use Rattle.hnsr_circuit.specs.Code.Held.{world_given, held_pending, held_circuits, held_ledger, held_actions}
 use Rattle.hnsr_circuit.specs.Laws.HeldTables.{places-kept}
 use Rattle.hnsr_circuit.proofs.calls.handle.dispatch.Goals as goal
-use Rattle.hnsr_circuit.proofs.calls.handle.dispatch.Goals.{in-14-1, in_default+then-opcode-lt13, in_default+else-opcode-lt13+else-opcode-lt21}
+use Rattle.hnsr_circuit.proofs.calls.handle.dispatch.Goals.{in-14-1, in_default+then-opcode-lt13}
+use Rattle.hnsr_circuit.proofs.calls.handle.dispatch.Goals.{in_default+else-opcode-lt13+else-opcode-lt21}
 
 pub returns-in-13 : goal.returns-in-13
 unfolding handling_of dispatch
@@ -81,7 +82,7 @@ returns-in-0-to-12 c =
     (held_ledger r.places a.ledger.now) (held_actions r.places a.inflight.now) c.unexpected.result n
     q a.out.now c.unexpected.ensures.0
     (elim c.in-0-to-12-1.branch [
-      in-14-1 w ↦ ⊎_elim (other-incoming n) (other-opened n) w.in-14-1.keys5
-    | in_default+then-opcode-lt13 w ↦ other-below n w.if-opcode-lt13-1.true
-    | in_default+else-opcode-lt13+else-opcode-lt21 w ↦ other-above n w.if-opcode-lt21-1.false
+      | in-14-1 w ↦ ⊎_elim (other-incoming n) (other-opened n) w.in-14-1.keys5
+      | in_default+then-opcode-lt13 w ↦ other-below n w.if-opcode-lt13-1.true
+      | in_default+else-opcode-lt13+else-opcode-lt21 w ↦ other-above n w.if-opcode-lt21-1.false
     ])

@@ -14,7 +14,6 @@ use Rattle.hnsr_circuit.specs.World.{world_of}
 use Rattle.hnsr_circuit.specs.Code.Revoking.{close_out, first_out}
 use Rattle.hnsr_circuit.specs.Laws.Revocation.{pending-revoked}
 use Rattle.hnsr_circuit.specs.Laws.Held.{stored-seen}
-use Rattle.hns_encoding.specs.Sums.{one}
 use Rattle.hnsr_circuit.specs.Code.Held.{held_pending, held_circuits, held_ledger, held_actions}
 use Rattle.hnsr_circuit.specs.declared.tables.places.Places.{Places}
 use Rattle.hnsr_circuit.proofs.calls.revocation.revoke_pending.Goals as goal

@@ -8,7 +8,7 @@ use Rattle.hnsr_circuit.specs.Circuits.{circuit_id, clear_circuit}
 use Rattle.hnsr_circuit.specs.Code.Progress.{Progress, advance}
 use Rattle.hnsr_circuit.specs.Revocation.{revoke_circuit_there, walk_from, walk, circuit_table}
 use Rattle.hnsr_circuit.specs.Code.Revoking.{revoked_circuit}
-use Rattle.hnsr_circuit.specs.Table.{not_yet, next}
+use Rattle.hnsr_circuit.specs.Table.{not_yet}
 use Rattle.hnsr_circuit.specs.Laws.Revocation.{not-true, not-false, walk_turn}
 use Rattle.hnsr_circuit.specs.Laws.Revocation.{walk_stops, walk-over, walk_on, walk-on}
 use borrow.Author.Rules.{rules}

@@ -9,7 +9,6 @@ use Rattle.hnsr_circuit.specs.Circuits.{circuit_id}
 use Rattle.hnsr_circuit.specs.Code.Question.{circuit_has}
 use Rattle.hnsr_circuit.specs.Code.Progress.{advance}
 use Rattle.hnsr_circuit.specs.Revocation.{revoke_circuit_there, walk, circuit_table}
-use Rattle.hnsr_circuit.specs.Table.{next}
 use Rattle.hnsr_circuit.specs.Laws.Revocation.{walk_on}
 use Rattle.hnsr_circuit.specs.Code.Held.{underway_seen}
 use Rattle.hnsr_circuit.proofs.calls.revocation.walk_circuits.Given as goal
@@ -22,8 +21,8 @@ invariant-loop-turn l =
     × (length l.inflight ≡ length l.initial.inflight)
     × (length l.out ≡ length l.initial.out)
     × ((p : List RelayPending) (us : List ReservationUsage)
-    → advance (walk_on circuit_id circuit_table (circuit_has l.question l.peer) (revoke_circuit_there l.notice) (l.most - l.turn) l.next)
-    (underway_seen l.told p l.circuits us l.inflight l.out)
+    → advance (walk_on circuit_id circuit_table (circuit_has l.question l.peer) (revoke_circuit_there l.notice)
+    (l.most - l.turn) l.next) (underway_seen l.told p l.circuits us l.inflight l.out)
     ≡ advance (walk circuit_id circuit_table (circuit_has l.question l.peer) (revoke_circuit_there l.notice))
     (underway_seen l.initial.told p l.initial.circuits us l.initial.inflight l.initial.out))
 

@@ -8,7 +8,7 @@ use Rattle.hnsr_circuit.specs.Pending.{pending_id, clear_pending}
 use Rattle.hnsr_circuit.specs.Code.Progress.{Progress, advance}
 use Rattle.hnsr_circuit.specs.Revocation.{walk_from, walk, pending_table}
 use Rattle.hnsr_circuit.specs.Code.Revoking.{ending_pending, revoked_pending}
-use Rattle.hnsr_circuit.specs.Table.{not_yet, next}
+use Rattle.hnsr_circuit.specs.Table.{not_yet}
 use Rattle.hnsr_circuit.specs.Laws.Revocation.{not-true, not-false, walk_turn}
 use Rattle.hnsr_circuit.specs.Laws.Revocation.{walk_stops, walk-over, walk_on, walk-on}
 use borrow.Author.Rules.{rules}

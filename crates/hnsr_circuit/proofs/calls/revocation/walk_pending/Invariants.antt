@@ -10,7 +10,6 @@ use Rattle.hnsr_circuit.specs.Code.Question.{pending_has}
 use Rattle.hnsr_circuit.specs.Code.Progress.{advance}
 use Rattle.hnsr_circuit.specs.Revocation.{walk, pending_table}
 use Rattle.hnsr_circuit.specs.Code.Revoking.{ending_pending}
-use Rattle.hnsr_circuit.specs.Table.{next}
 use Rattle.hnsr_circuit.specs.Laws.Revocation.{walk_on}
 use Rattle.hnsr_circuit.specs.Code.Held.{underway_seen}
 use Rattle.hnsr_circuit.proofs.calls.revocation.walk_pending.Given as goal
@@ -23,8 +22,8 @@ invariant-loop-turn l =
     × (length l.inflight ≡ length l.initial.inflight)
     × (length l.out ≡ length l.initial.out)
     × ((cs : List RelayCircuit) (us : List ReservationUsage)
-    → advance (walk_on pending_id pending_table (pending_has l.question l.peer) (ending_pending l.revoking) (l.most - l.turn) l.next)
-    (underway_seen l.told l.pending cs us l.inflight l.out)
+    → advance (walk_on pending_id pending_table (pending_has l.question l.peer) (ending_pending l.revoking)
+    (l.most - l.turn) l.next) (underway_seen l.told l.pending cs us l.inflight l.out)
     ≡ advance (walk pending_id pending_table (pending_has l.question l.peer) (ending_pending l.revoking))
     (underway_seen l.initial.told l.initial.pending cs us l.initial.inflight l.initial.out))
 

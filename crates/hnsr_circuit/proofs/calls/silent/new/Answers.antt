@@ -58,7 +58,10 @@ returns c =
     let a = s.args in
     let e = c.refused.ensures in
     let k = e.1 ∙ c.every_place-every.ensures in
-    let b : (length c.args.pending.now < 18446744073709551616) × (length c.args.circuits.now < 18446744073709551616) × (length c.args.ledger.now < 18446744073709551616) × (length c.args.inflight.now < 18446744073709551616) = (search rules, search rules, search rules, search rules) in
+    let b : (length c.args.pending.now < 18446744073709551616)
+    × (length c.args.circuits.now < 18446744073709551616)
+    × (length c.args.ledger.now < 18446744073709551616)
+    × (length c.args.inflight.now < 18446744073709551616) = (search rules, search rules, search rules, search rules) in
     refuses-new h (new_runtime a.session a.generation a.config a.time) a.pending.now _ a.circuits.now
     _ a.ledger.now _ a.inflight.now _ c.refused.result c.new_answer-answer.result _
     (c.new_answer-answer.ensures

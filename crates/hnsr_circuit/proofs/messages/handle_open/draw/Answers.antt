@@ -1,5 +1,4 @@
 -- What is left to draw, after the drawing so far, gives what all draws give.
-use Prim.Native.Nat.{◌-◌}
 use native.Mathlib.Omega.{arith}
 use borrow.Author.Rules.{rules}
 use Rattle.hnsr_circuit.specs.Code.Held.{held_pending, held_circuits}

@@ -12,8 +12,10 @@ abbrev pub invariant-loop-place : goal.invariant-loop-place
 invariant-loop-place l =
     (l.place ≤ length l.random)
     × DrawSmall l.drawing
-    × (draw_all (is_taken (held_pending l.places l.pending) (held_circuits l.places l.circuits)) l.drawing (draws (drop l.place l.random))
-    ≡ draw_all (is_taken (held_pending l.places l.pending) (held_circuits l.places l.circuits)) undrawn (draws l.random))
+    × (draw_all (is_taken (held_pending l.places l.pending) (held_circuits l.places l.circuits)) l.drawing
+    (draws (drop l.place l.random))
+    ≡ draw_all (is_taken (held_pending l.places l.pending) (held_circuits l.places l.circuits)) undrawn
+    (draws l.random))
 
 abbrev pub decreases-loop-place : goal.decreases-loop-place
 decreases-loop-place l = length l.random - l.place

@@ -23,9 +23,9 @@ returns-then-is_taken c =
     ∙ ap (λ (o : Outcome). ending a.out.now o)
     (booked-ends a.runtime (held_pending n a.pending.now) (held_circuits n cs₀) (held_ledger n l₀)
     (held_actions n a.inflight.now) a.plan a.usage c.usage_answer-answer.result c.pending_for-row.result _
-    c.opened-counted.result c.incoming_out-message.result c.incoming_for-incoming.result c.to_bytes-bytes.result found free
-    c.usage_answer-answer.ensures go c.pending_for-row.ensures c.put_pending-number.ensures c.opened-counted.ensures
-    c.incoming_out-message.ensures c.incoming_for-incoming.ensures c.to_bytes-bytes.ensures)
+    c.opened-counted.result c.incoming_out-message.result c.incoming_for-incoming.result c.to_bytes-bytes.result found
+    free c.usage_answer-answer.ensures go c.pending_for-row.ensures c.put_pending-number.ensures
+    c.opened-counted.ensures c.incoming_out-message.ensures c.incoming_for-incoming.ensures c.to_bytes-bytes.ensures)
 
 pub returns : goal.returns
 returns c =

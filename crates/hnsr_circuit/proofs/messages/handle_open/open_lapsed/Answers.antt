@@ -3,7 +3,6 @@ use mathlib.Core.Path.{sym, ◌∙◌}
 use Rattle.hnsr_circuit.specs.Code.Held.{held_pending, held_circuits, held_ledger, held_actions}
 use Rattle.hnsr_circuit.specs.Laws.HeldTables.{places-kept}
 use Rattle.hnsr_circuit.specs.Laws.Opening.{placed_refused}
-use Rattle.hnsr_circuit.specs.Code.Opening.{is_taken}
 use Rattle.hnsr_circuit.proofs.messages.handle_open.open_lapsed.Goals as goal
 
 pub returns : goal.returns

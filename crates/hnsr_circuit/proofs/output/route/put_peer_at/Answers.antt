@@ -1,6 +1,5 @@
 -- The words are those of the name alone: what stands behind it is not read.
 -- a name is no longer than its place
-use lib.ListN.{length}
 use Prim.Native.Nat.{ℕ}
 use mathlib.Core.Path.{ap, ◌∙◌}
 use lib.ListN.{take}

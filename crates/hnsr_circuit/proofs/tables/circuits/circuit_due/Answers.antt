@@ -2,9 +2,9 @@
 -- nothing is due.
 use mathlib.Core.Path.{ap, ◌∙◌}
 use mathlib.Core.List.{List}
-use Prim.Native.Nat.{ℕ, ◌-◌}
+use Prim.Native.Nat.{ℕ}
 use native.Mathlib.Omega.{arith}
-use Rattle.hnsr_circuit.specs.Circuits.{is_circuit, no_circuit, clear_circuit}
+use Rattle.hnsr_circuit.specs.Circuits.{is_circuit, clear_circuit}
 use Rattle.hnsr_circuit.specs.NextDue.{due_turn, expiry_of, circuit_due}
 use Rattle.hnsr_circuit.specs.Code.Held.{held}
 use Rattle.hnsr_circuit.specs.Laws.HeldTables.{circuit-due-idle}

@@ -3,7 +3,7 @@
 use Rattle.std.proofs.lemmas.List.{get_or_default}
 use mathlib.Core.Path.{◌≡◌, ap, ◌∙◌}
 use mathlib.Core.List.{List}
-use Prim.Native.Nat.{ℕ, ◌-◌}
+use Prim.Native.Nat.{ℕ}
 use native.Mathlib.Omega.{arith}
 use lib.ListN.{get_or}
 use Rattle.hns_encoding.specs.Loops.{fold_from}
@@ -37,8 +37,8 @@ loop-i-preserved c =
     let n = c.min_usize-end.result in
     let l = c.loop-i in
     let e : c.circuit_totalled-totals.result ≡ totalled l.totals (get_or t l.i no_circuit) l.i =
-        c.circuit_totalled-totals.ensures
-        ∙ ap (λ (x : RelayCircuit). totalled l.totals x l.i) (get_or_default t l.i _ no_circuit (omega arith)) in (
+    c.circuit_totalled-totals.ensures
+    ∙ ap (λ (x : RelayCircuit). totalled l.totals x l.i) (get_or_default t l.i _ no_circuit (omega arith)) in (
       omega arith,
       l.invariant.1,
       rw e (omega (arith, cond-le (is_circuit (get_or t l.i no_circuit)))),

@@ -2,11 +2,11 @@
 -- number there is none.
 use mathlib.Core.Path.{ap, ◌∙◌}
 use mathlib.Core.List.{List}
-use Prim.Native.Nat.{ℕ, ◌-◌}
+use Prim.Native.Nat.{ℕ}
 use native.Mathlib.Omega.{arith}
 use lib.ListN.{get_or}
 use Rattle.hns_encoding.specs.Loops.{fold_from}
-use Rattle.hnsr_circuit.specs.Circuits.{no_circuit, clear_circuit}
+use Rattle.hnsr_circuit.specs.Circuits.{clear_circuit}
 use Rattle.hnsr_circuit.specs.Code.Question.{circuit_work}
 use Rattle.hnsr_circuit.specs.Code.Held.{held}
 use Rattle.hnsr_circuit.specs.declared.tables.scan.Work.{Work}

@@ -1,10 +1,10 @@
 -- `find_circuit_id` meets its contract: the first `i` records have another id, and past the number no record is marked.
 use mathlib.Core.Path.{refl, sym, ap, ◌∙◌}
 use mathlib.Core.Bool.{false}
-use Prim.Native.Nat.{ℕ, ◌-◌}
+use Prim.Native.Nat.{ℕ}
 use native.Mathlib.Omega.{arith}
 use Rattle.hnsr_circuit.specs.Table.{place_of}
-use Rattle.hnsr_circuit.specs.Circuits.{no_circuit, clear_circuit, circuit_at}
+use Rattle.hnsr_circuit.specs.Circuits.{clear_circuit, circuit_at}
 use Rattle.hnsr_circuit.specs.Code.Held.{held}
 use Rattle.hnsr_circuit.specs.Laws.Held.{held-min, find_rest, held_find_next, held_find_here}
 use Rattle.hnsr_circuit.proofs.tables.circuits.find_circuit_id.Goals as goal

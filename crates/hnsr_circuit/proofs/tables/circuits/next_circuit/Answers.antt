@@ -2,11 +2,11 @@
 -- no record is offered.
 use mathlib.Core.Path.{ap, ◌∙◌}
 use mathlib.Core.List.{List}
-use Prim.Native.Nat.{ℕ, ◌-◌}
+use Prim.Native.Nat.{ℕ}
 use native.Mathlib.Omega.{arith}
 use Rattle.hns_encoding.specs.Loops.{fold_from}
 use Rattle.hnsr_circuit.specs.Table.{next_turn, next}
-use Rattle.hnsr_circuit.specs.Circuits.{no_circuit, clear_circuit, circuit_id}
+use Rattle.hnsr_circuit.specs.Circuits.{clear_circuit, circuit_id}
 use Rattle.hnsr_circuit.specs.Code.Question.{circuit_has}
 use Rattle.hnsr_circuit.specs.Code.Held.{held}
 use Rattle.hnsr_circuit.specs.declared.tables.scan.Walked.{Walked}

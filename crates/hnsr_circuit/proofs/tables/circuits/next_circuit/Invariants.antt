@@ -14,7 +14,8 @@ abbrev pub invariant-loop-i : goal.invariant-loop-i
 invariant-loop-i l =
     (l.i ≤ l.initial.end)
     × (l.initial.end ≤ length l.circuits)
-    × (fold_from (next_turn circuit_id (circuit_has l.question l.peer) l.cursor) (drop l.i (held clear_circuit l.initial.end l.circuits)) l.i l.best
+    × (fold_from (next_turn circuit_id (circuit_has l.question l.peer) l.cursor)
+    (drop l.i (held clear_circuit l.initial.end l.circuits)) l.i l.best
     ≡ (next circuit_id (circuit_has l.question l.peer) l.cursor (held clear_circuit l.initial.end l.circuits)))
 
 abbrev pub decreases-loop-i : goal.decreases-loop-i

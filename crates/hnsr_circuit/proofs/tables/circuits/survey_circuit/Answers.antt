@@ -1,6 +1,6 @@
 -- `survey_circuit` meets its contract: what is left of the count and of the turn, with what is found so far, gives the
 -- whole; past the number no record is marked.
-use Prim.Native.Nat.{ℕ, ◌+◌, ◌-◌}
+use Prim.Native.Nat.{ℕ, ◌+◌}
 use native.Mathlib.Nat.{zero-add}
 use mathlib.Core.Path.{refl, ap, ◌∙◌}
 use mathlib.Core.Bool.{Bool, cond}
@@ -9,7 +9,7 @@ use Rattle.hns_encoding.specs.Sums.{count}
 use Rattle.hns_encoding.specs.Laws.Tests.{cond-le}
 use Rattle.hnsr_circuit.specs.declared.tables.scan.Walked.{Walked}
 use Rattle.hnsr_circuit.specs.Table.{next_turn, next}
-use Rattle.hnsr_circuit.specs.Circuits.{is_circuit, circuit_id, no_circuit, clear_circuit}
+use Rattle.hnsr_circuit.specs.Circuits.{is_circuit, circuit_id, clear_circuit}
 use Rattle.hnsr_circuit.specs.Code.Question.{circuit_has}
 use Rattle.hnsr_circuit.specs.Code.Held.{held}
 use Rattle.hnsr_circuit.specs.Laws.HeldTables.{circuit-unmarked}

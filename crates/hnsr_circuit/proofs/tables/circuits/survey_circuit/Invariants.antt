@@ -18,8 +18,8 @@ invariant-loop-i l =
     × (l.used ≤ l.i)
     × (l.used + count is_circuit (drop l.i (held clear_circuit l.initial.end l.circuits))
     ≡ count is_circuit (held clear_circuit l.initial.end l.circuits))
-    × (fold_from (next_turn circuit_id (circuit_has l.question l.peer) l.initial.start) (drop l.i (held clear_circuit l.initial.end l.circuits))
-    l.i l.first
+    × (fold_from (next_turn circuit_id (circuit_has l.question l.peer) l.initial.start)
+    (drop l.i (held clear_circuit l.initial.end l.circuits)) l.i l.first
     ≡ next circuit_id (circuit_has l.question l.peer) l.initial.start (held clear_circuit l.initial.end l.circuits))
 
 abbrev pub decreases-loop-i : goal.decreases-loop-i

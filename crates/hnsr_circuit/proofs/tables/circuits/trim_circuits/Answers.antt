@@ -2,7 +2,7 @@
 use mathlib.Core.Path.{sym, ap, ◌∙◌}
 use Prim.Native.Nat.{ℕ}
 use native.Mathlib.Omega.{arith}
-use Rattle.hnsr_circuit.specs.Circuits.{is_circuit, no_circuit, clear_circuit}
+use Rattle.hnsr_circuit.specs.Circuits.{is_circuit, clear_circuit}
 use Rattle.hnsr_circuit.specs.Code.Held.{held}
 use Rattle.hnsr_circuit.specs.Laws.HeldTables.{circuit-still}
 use Rattle.hnsr_circuit.specs.Laws.Held.{held-min, lower-step}

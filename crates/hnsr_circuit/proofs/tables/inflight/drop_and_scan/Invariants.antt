@@ -13,11 +13,15 @@ use Rattle.hnsr_circuit.proofs.tables.inflight.drop_and_scan.Given as goal
 
 abbrev pub invariant-loop-i : goal.invariant-loop-i
 invariant-loop-i l =
-    (l.i ≤ l.initial.end) × (l.initial.end ≤ length l.initial.inflight) × (length l.inflight ≡ length l.initial.inflight) × (TallyAtMost l.i l.scan.tally)
+    (l.i ≤ l.initial.end)
+    × (l.initial.end ≤ length l.initial.inflight)
+    × (length l.inflight ≡ length l.initial.inflight)
+    × (TallyAtMost l.i l.scan.tally)
     × (take l.i (held clear_action l.initial.end l.inflight)
     ++ clear clear_action (action_under l.id) (drop l.i (held clear_action l.initial.end l.inflight))
     ≡ dropped (action_under l.id) (held clear_action l.initial.end l.initial.inflight))
-    × (fold_from (scanned l.question) (drop l.i (dropped (action_under l.id) (held clear_action l.initial.end l.initial.inflight))) l.i l.scan
+    × (fold_from (scanned l.question)
+    (drop l.i (dropped (action_under l.id) (held clear_action l.initial.end l.initial.inflight))) l.i l.scan
     ≡ actions_scanned l.question (dropped (action_under l.id) (held clear_action l.initial.end l.initial.inflight)))
 
 abbrev pub decreases-loop-i : goal.decreases-loop-i

@@ -2,10 +2,10 @@
 -- is marked.
 use mathlib.Core.Path.{refl, sym, ap, ◌∙◌}
 use mathlib.Core.Bool.{false}
-use Prim.Native.Nat.{ℕ, ◌-◌}
+use Prim.Native.Nat.{ℕ}
 use native.Mathlib.Omega.{arith}
 use Rattle.hnsr_circuit.specs.Table.{place_of}
-use Rattle.hnsr_circuit.specs.Inflight.{no_action, clear_action, action_at}
+use Rattle.hnsr_circuit.specs.Inflight.{clear_action, action_at}
 use Rattle.hnsr_circuit.specs.Code.Held.{held}
 use Rattle.hnsr_circuit.specs.Laws.Held.{held-min, find_rest, held_find_next, held_find_here}
 use Rattle.hnsr_circuit.proofs.tables.inflight.find_action.Goals as goal

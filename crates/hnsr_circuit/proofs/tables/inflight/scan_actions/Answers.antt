@@ -1,11 +1,11 @@
 -- `scan_actions` meets its contract: what is left of the scan, from what is found so far, is the whole scan; past the
 -- number there is a spare place.
 use mathlib.Core.Path.{sym, ap, ◌∙◌}
-use Prim.Native.Nat.{ℕ, ◌-◌}
+use Prim.Native.Nat.{ℕ}
 use native.Mathlib.Omega.{arith}
 use lib.ListN.{get_or}
 use Rattle.hns_encoding.specs.Loops.{fold_from}
-use Rattle.hnsr_circuit.specs.Inflight.{no_action, clear_action}
+use Rattle.hnsr_circuit.specs.Inflight.{clear_action}
 use Rattle.hnsr_circuit.specs.Code.Turns.{actions_scanned, no_scan, scanned}
 use Rattle.hnsr_circuit.specs.Code.Held.{held}
 use Rattle.hnsr_circuit.specs.declared.tables.scan.ActionScan.{ActionScan}

@@ -2,7 +2,7 @@
 use mathlib.Core.Path.{sym, ap, ◌∙◌}
 use Prim.Native.Nat.{ℕ}
 use native.Mathlib.Omega.{arith}
-use Rattle.hnsr_circuit.specs.Inflight.{is_action, no_action, clear_action}
+use Rattle.hnsr_circuit.specs.Inflight.{is_action, clear_action}
 use Rattle.hnsr_circuit.specs.Code.Held.{held}
 use Rattle.hnsr_circuit.specs.Laws.HeldTables.{action-still}
 use Rattle.hnsr_circuit.specs.Laws.Held.{held-min, lower-step}

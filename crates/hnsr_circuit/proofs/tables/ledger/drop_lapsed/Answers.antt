@@ -1,10 +1,10 @@
 -- `drop_lapsed` meets its contract: what is done, with what is left cleared, is the whole table cleared;
 -- past the number there is no mark.
 use mathlib.Core.Path.{refl, sym, ap, ◌∙◌}
-use Prim.Native.Nat.{ℕ, ◌-◌, min}
+use Prim.Native.Nat.{ℕ, min}
 use native.Mathlib.Omega.{arith}
 use Rattle.hnsr_circuit.specs.Table.{clear}
-use Rattle.hnsr_circuit.specs.Ledger.{no_usage, clear_usage, usage_over, lapsed}
+use Rattle.hnsr_circuit.specs.Ledger.{clear_usage, usage_over, lapsed}
 use Rattle.hnsr_circuit.specs.Code.Held.{held}
 use Rattle.hnsr_circuit.specs.Laws.Held.{held-min, clear-rest, held-clear-step}
 use Rattle.hnsr_circuit.proofs.tables.ledger.drop_lapsed.Goals as goal

@@ -1,7 +1,7 @@
 -- `find_usage` meets its contract: the first `i` records have another id, and past the number no record is marked.
 use mathlib.Core.Path.{refl, sym, ap, ◌∙◌}
 use mathlib.Core.Bool.{false}
-use Prim.Native.Nat.{ℕ, ◌-◌}
+use Prim.Native.Nat.{ℕ}
 use native.Mathlib.Omega.{arith}
 use Rattle.hnsr_circuit.specs.Table.{place_of}
 use Rattle.hnsr_circuit.specs.Ledger.{no_usage, clear_usage, usage_at}

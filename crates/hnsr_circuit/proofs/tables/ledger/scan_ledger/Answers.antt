@@ -1,7 +1,7 @@
 -- `scan_ledger` meets its contract: what is left of the scan, from what is found so far, is the whole scan; past the
 -- number there is a spare place.
 use mathlib.Core.Path.{sym, ap, ◌∙◌}
-use Prim.Native.Nat.{ℕ, ◌-◌}
+use Prim.Native.Nat.{ℕ}
 use native.Mathlib.Omega.{arith}
 use lib.ListN.{get_or}
 use Rattle.hns_encoding.specs.Loops.{fold_from}

@@ -2,7 +2,7 @@
 -- nothing is due.
 use mathlib.Core.Path.{ap, ◌∙◌}
 use mathlib.Core.List.{List}
-use Prim.Native.Nat.{ℕ, ◌-◌}
+use Prim.Native.Nat.{ℕ}
 use native.Mathlib.Omega.{arith}
 use Rattle.hnsr_circuit.specs.Ledger.{is_usage, no_usage, clear_usage}
 use Rattle.hnsr_circuit.specs.NextDue.{due_turn, usage_expiry_of, usage_due}

@@ -1,10 +1,10 @@
 -- `find_named` meets its contract: the first `i` records are not so named, and past the number no record is marked.
 use mathlib.Core.Path.{refl, sym, ap, ◌∙◌}
 use mathlib.Core.Bool.{false}
-use Prim.Native.Nat.{ℕ, ◌-◌}
+use Prim.Native.Nat.{ℕ}
 use native.Mathlib.Omega.{arith}
 use Rattle.hnsr_circuit.specs.Table.{place_of}
-use Rattle.hnsr_circuit.specs.Pending.{no_pending, clear_pending, named_by}
+use Rattle.hnsr_circuit.specs.Pending.{clear_pending, named_by}
 use Rattle.hnsr_circuit.specs.Code.Held.{held}
 use Rattle.hnsr_circuit.specs.Laws.Held.{held-min, find_rest, held_find_next, held_find_here}
 use Rattle.hnsr_circuit.proofs.tables.pending.find_named.Goals as goal

@@ -14,7 +14,8 @@ abbrev pub invariant-loop-i : goal.invariant-loop-i
 invariant-loop-i l =
     (l.i ≤ l.initial.end)
     × (l.initial.end ≤ length l.pending)
-    × (fold_from (next_turn pending_id (pending_has l.question l.peer) l.cursor) (drop l.i (held clear_pending l.initial.end l.pending)) l.i l.best
+    × (fold_from (next_turn pending_id (pending_has l.question l.peer) l.cursor)
+    (drop l.i (held clear_pending l.initial.end l.pending)) l.i l.best
     ≡ (next pending_id (pending_has l.question l.peer) l.cursor (held clear_pending l.initial.end l.pending)))
 
 abbrev pub decreases-loop-i : goal.decreases-loop-i

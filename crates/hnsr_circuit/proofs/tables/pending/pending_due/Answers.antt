@@ -2,9 +2,9 @@
 -- nothing is due.
 use mathlib.Core.Path.{ap, ◌∙◌}
 use mathlib.Core.List.{List}
-use Prim.Native.Nat.{ℕ, ◌-◌}
+use Prim.Native.Nat.{ℕ}
 use native.Mathlib.Omega.{arith}
-use Rattle.hnsr_circuit.specs.Pending.{is_pending, no_pending, clear_pending}
+use Rattle.hnsr_circuit.specs.Pending.{is_pending, clear_pending}
 use Rattle.hnsr_circuit.specs.NextDue.{due_turn, deadline_of, pending_due}
 use Rattle.hnsr_circuit.specs.Code.Held.{held}
 use Rattle.hnsr_circuit.specs.Laws.HeldTables.{pending-due-idle}

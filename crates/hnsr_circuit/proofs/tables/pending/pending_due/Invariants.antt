@@ -13,7 +13,8 @@ abbrev pub invariant-loop-i : goal.invariant-loop-i
 invariant-loop-i l =
     (l.i ≤ l.initial.end)
     × (l.initial.end ≤ length l.pending)
-    × (fold_from (due_turn is_pending deadline_of) (drop l.i (held clear_pending l.initial.end l.pending)) l.i l.earliest
+    × (fold_from (due_turn is_pending deadline_of) (drop l.i (held clear_pending l.initial.end l.pending))
+    l.i l.earliest
     ≡ (pending_due (held clear_pending l.initial.end l.pending) l.initial.earliest))
 
 abbrev pub decreases-loop-i : goal.decreases-loop-i

@@ -1,11 +1,11 @@
 -- `spare_pending` meets its contract: the first `i` records are used, and past the number none is.
 use mathlib.Core.Path.{refl, sym, ap, ◌∙◌}
 use mathlib.Core.Bool.{not, true}
-use Prim.Native.Nat.{ℕ, ◌-◌}
+use Prim.Native.Nat.{ℕ}
 use native.Mathlib.Omega.{arith}
 use Rattle.hns_encoding.specs.Sums.{non}
 use Rattle.hnsr_circuit.specs.Table.{place_of}
-use Rattle.hnsr_circuit.specs.Pending.{no_pending, clear_pending, is_pending}
+use Rattle.hnsr_circuit.specs.Pending.{clear_pending, is_pending}
 use Rattle.hnsr_circuit.specs.Code.Held.{held}
 use Rattle.hnsr_circuit.specs.Laws.Held.{held-min, find_rest, held_find_next, held_find_here}
 use Rattle.hnsr_circuit.proofs.tables.pending.spare_pending.Goals as goal

@@ -18,7 +18,8 @@ invariant-loop-i l =
     × (l.used ≤ l.i)
     × (l.used + count is_pending (drop l.i (held clear_pending l.initial.end l.pending))
     ≡ count is_pending (held clear_pending l.initial.end l.pending))
-    × (fold_from (next_turn pending_id (pending_has l.question l.peer) l.initial.start) (drop l.i (held clear_pending l.initial.end l.pending)) l.i l.first
+    × (fold_from (next_turn pending_id (pending_has l.question l.peer) l.initial.start)
+    (drop l.i (held clear_pending l.initial.end l.pending)) l.i l.first
     ≡ next pending_id (pending_has l.question l.peer) l.initial.start (held clear_pending l.initial.end l.pending))
 
 abbrev pub decreases-loop-i : goal.decreases-loop-i

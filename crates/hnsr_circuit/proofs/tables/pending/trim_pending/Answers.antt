@@ -2,7 +2,7 @@
 use mathlib.Core.Path.{sym, ap, ◌∙◌}
 use Prim.Native.Nat.{ℕ}
 use native.Mathlib.Omega.{arith}
-use Rattle.hnsr_circuit.specs.Pending.{is_pending, no_pending, clear_pending}
+use Rattle.hnsr_circuit.specs.Pending.{is_pending, clear_pending}
 use Rattle.hnsr_circuit.specs.Code.Held.{held}
 use Rattle.hnsr_circuit.specs.Laws.HeldTables.{pending-still}
 use Rattle.hnsr_circuit.specs.Laws.Held.{held-min, lower-step}

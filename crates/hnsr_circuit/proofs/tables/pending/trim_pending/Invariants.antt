@@ -7,7 +7,8 @@ use Rattle.hnsr_circuit.specs.Code.Held.{held}
 use Rattle.hnsr_circuit.proofs.tables.pending.trim_pending.Given as goal
 
 abbrev pub invariant-loop-n : goal.invariant-loop-n
-invariant-loop-n l = (l.n ≤ length l.pending) × (held clear_pending l.n l.pending ≡ held clear_pending l.initial.n l.pending)
+invariant-loop-n l =
+    (l.n ≤ length l.pending) × (held clear_pending l.n l.pending ≡ held clear_pending l.initial.n l.pending)
 
 abbrev pub decreases-loop-n : goal.decreases-loop-n
 decreases-loop-n l = l.n

@@ -6,18 +6,22 @@
     --check                        exit status 1 if there is one
 
 A name is used if it stands anywhere outside the `use` lines and the comments: alone, before a `.` or a `::`, in an
-`unfolding` line, in a pattern; an operator `◌≡◌`, also by its parts. A `pub use` and a `use M.*` are kept. This is a
-reader's guess: prove again after --write. (`rt tidy` drops those of .antt files, by what the check says, in a crate
-that is proved; this asks .rt files and crates that are not.)
+`unfolding` line, in a pattern; an operator `◌≡◌`, also by its parts; a trait of `std::io` by its methods. A `pub use`
+and a `use M.*` are kept. This is a reader's guess: prove again after --write. (`rt tidy` drops those of .antt files, by
+what the check says, in a crate that is proved; this asks .rt files and crates that are not.)
 """
 import os, re, sys
 
 USE = re.compile(r'^(?:ghost )?use (?P<path>[^\s{;]+?)(?:(?:\.|::)\{(?P<names>[^}]*)\})?'
                  r'(?: as (?P<alias>[^\s;]+))?;?\n', re.M)
 
+# a trait's import is used where one of its methods is called
+METHODS = {'Read': {'read', 'read_exact', 'read_to_end'}, 'Write': {'write', 'write_all', 'flush'}}
+
 def stands(name, used):
-    """a name, or every part of an operator"""
-    return name in used or '◌' in name and all(p in used for p in name.split('◌') if p)
+    """a name, a method of a trait, or every part of an operator"""
+    return (name in used or name in METHODS and not METHODS[name].isdisjoint(used)
+            or '◌' in name and all(p in used for p in name.split('◌') if p))
 
 def seen(text, rust):
     """every name that stands in the text"""

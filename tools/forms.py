@@ -1,11 +1,11 @@
 #!/usr/bin/env python3
 """Counts the places in src/ that are written in an older form than the language has today.
 
-    forms.py [--list N] [CRATE]...    a row for each point, a column for each crate; --list N lists the places of point N
+    forms.py [--list N] [CRATE]...    a row for each point, a column for each crate; --list N: the places of point N
 
 What counts, by point (docs/DESIGN-PASS.md says what became of each):
-1  an enum of two variants of which one holds nothing or an error; a struct, not of the C interface, with a `bool` or an
-   answer beside other fields; a function that turns an enum into a number or a number into an enum by three arms or more
+1  an enum of two variants of which one holds something; a struct, not of the C interface, with a `bool` or an answer
+   beside other fields; a function that turns an enum into a number or a number into an enum by three arms or more
 2  functions of one shape (names, types and numbers left out) of 25 tokens or more; structs and enums of one shape
 3  `while`, `loop`
 4  functions by whose names equality, order, conversion, a default or a method of the library is written by hand
@@ -22,8 +22,8 @@ import re
 import sys
 
 CRATES = ["hns_encoding", "hnsr_body", "hnsr_circuit", "lekchnam", "peer_work", "hnsr_run", "cases", "round_trip"]
-KEYWORDS = set("fn pub crate mut let if else return match while for in struct enum impl trait const self Self true false "
-               "as mod use extern loop".split())
+KEYWORDS = set("fn pub crate mut let if else return match while for in struct enum impl trait const self Self true "
+               "false as mod use extern loop".split())
 TOKEN = re.compile(r"[A-Za-z_]\w*|\d\w*|'[a-z]+\b|[^\s\w]")
 BY_HAND = re.compile(r"^(both|either|no|either_is|same_\w+|no_\w+|min_\w+|saturating_\w+|default|undrawn|"
                      r"\w*number|kind_of|\w*_cause|cause|to_bytes|from_high_low|reservation_of|be_bytes|word_of|"
@@ -58,8 +58,8 @@ class Function:
         self.path, self.line, self.name = path, text.count("\n", 0, start) + 1, name
         head = text.index("(", start)
         end = closing(text, head, "()")
-        self.params = [re.sub(r"\s+", " ", p.strip()) for p in re.split(r",(?![^<(\[]*[>)\]])", text[head + 1:end - 1])]
-        self.params = [p for p in self.params if p]
+        given = re.split(r",(?![^<(\[]*[>)\]])", text[head + 1:end - 1])
+        self.params = [p for p in (re.sub(r"\s+", " ", p.strip()) for p in given) if p]
         at = end
         self.clauses = []
         while True:
@@ -113,8 +113,8 @@ def count(crate):
             if kind == "struct" and not in_c and len(fields) > 1 and any(
                     re.search(r":\s*(bool|Checked|HnsrAnswer|Step)$", f) for f in fields):
                 points[1].append(f"{place}: a flag or an answer beside a value")
-            kinds[kind, re.sub(r"\w+", lambda w: "0" if w.group()[0].isdigit() else "x",
-                               re.sub(r"\[u8; [\w:]+\]|\bu8\b|\bu16\b|\bu32\b|\bu64\b|\busize\b", "N", body))].append(place)
+            plain = re.sub(r"\[u8; [\w:]+\]|\b(u8|u16|u32|u64|usize)\b", "N", body)
+            kinds[kind, re.sub(r"\w+", lambda w: "0" if w.group()[0].isdigit() else "x", plain)].append(place)
             if kind == "struct" and re.search(r"\[u8;|\[u32;", body) and re.search(r"\b(len|length): ", body):
                 points[6].append(f"{place}: an array and its length")
         for f in functions(path, text):
@@ -122,7 +122,8 @@ def count(crate):
             size, shape = f.shape()
             if size >= 25:
                 shapes[shape].append(f.place())
-            arms = len(re.findall(r"=> \d[\w_]*,", f.body)) + len(re.findall(r"if \w+ == \d+ \{\s*return \w+::", f.body))
+            arms = len(re.findall(r"=> \d[\w_]*,", f.body))
+            arms += len(re.findall(r"if \w+ == \d+ \{\s*return \w+::", f.body))
             arms += len(re.findall(r"\d => \w+::\w+,", f.body)) + len(re.findall(r"kind: \d", f.body))
             if arms >= 3:
                 points[1].append(f"{f.place()}: numbers for kinds")

@@ -106,7 +106,7 @@ def status_row(st):
     return st[:12] + due + [st[13]]
 
 HELP = '''-- What a theorem of a trace says of a call. Made by tools/trace2antt.py.
-use Rattle.std.specs.Prelude.{ℕ, zero, suc, ◌+◌, ◌*◌, ◌/◌, ◌%◌, Bool, true, false, cond, eqb}
+use Rattle.std.specs.Prelude.{ℕ, zero, suc, ◌+◌, ◌*◌, ◌/◌, ◌%◌, Bool, true, false, cond, eqb, Option, None, Some, Ok}
 use Rattle.std.specs.Prelude.{List, [], ◌∷◌, ◌++◌, length, get_or}
 use Rattle.hns_encoding.specs.Bytes.{be_bytes, be_from}
 use Rattle.hnsr_body.specs.declared.values.ReservationId.{ReservationId}
@@ -117,11 +117,8 @@ use Rattle.hnsr_circuit.specs.declared.records.RelayCircuit.{RelayCircuit}
 use Rattle.hnsr_circuit.specs.declared.records.ReservationUsage.{ReservationUsage}
 use Rattle.hnsr_circuit.specs.declared.records.InflightAction.{InflightAction}
 use Rattle.hnsr_circuit.specs.declared.tables.scan.Walked.{Walked}
-use Rattle.hnsr_circuit.specs.declared.runtime.NextDue.{NextDue}
-use Rattle.hnsr_circuit.specs.declared.runtime.NextDue.TheVariants.{Never, At}
 use Rattle.hnsr_circuit.specs.declared.config.OpaqueRelayConfig.{OpaqueRelayConfig}
 use Rattle.hnsr_circuit.specs.declared.runtime.HnsrRuntimeStatus.{HnsrRuntimeStatus}
-use Rattle.hnsr_circuit.specs.declared.answer.HnsrAnswer.TheVariants.{Taken}
 use Rattle.hnsr_circuit.specs.Table.{not_yet, next}
 use Rattle.hns_encoding.specs.Sums.{count}
 use Rattle.hnsr_circuit.specs.Peer.{peer_bytes}
@@ -239,9 +236,9 @@ status_row s =
     ∷ s.queued_actions ∷ s.trusted_time_high_water ∷ s.admitted_opens ∷ s.opened_circuits
     ∷ s.bytes_sent ∷ s.bytes_received ∷ s.revoked_work ∷ []
 
-unfoldable pub due_row : NextDue → List ℕ
-due_row Never = 0 ∷ 0 ∷ []
-due_row (At n) = 1 ∷ n ∷ []
+unfoldable pub due_row : Option ℕ → List ℕ
+due_row None = 0 ∷ 0 ∷ []
+due_row (Some n) = 1 ∷ n ∷ []
 
 unfoldable pub told_row : Told → List ℕ
 unfolding status_row due_row
@@ -322,7 +319,7 @@ unfolding machine
 moved w (begin s) = start w s
 moved w (item c) = step w c
 moved w (poke n) =
-    record { world = with_runtime w (with_sequence w.runtime n); answer = Taken; routes = []; told = silent }
+    record { world = with_runtime w (with_sequence w.runtime n); answer = Ok tt; routes = []; told = silent }
 
 unfoldable pub seen_of : Outcome → Bool → Bool → List (List ℕ)
 unfolding answer_row world_row state_rows machine

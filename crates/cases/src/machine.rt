@@ -13,7 +13,7 @@ use hnsr_circuit::runtime::{RelayPacket, Relayed};
 use std::io;
 
 fn put_head(body: &mut [u8], head: [u8; 5]) {
-    Encoder { position: 0 }.put_bytes(body, &head);
+    let _ = Encoder { position: 0 }.put_bytes(body, &head);
 }
 
 fn say(rt: &impl Print, case: u8, answer: u64) -> io::Result<()> {

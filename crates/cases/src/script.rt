@@ -2,7 +2,7 @@
 use hnsr_body::accept_body::AcceptBody;
 use hnsr_body::open_body::OpenBody;
 use hnsr_body::values::ReservationId;
-use hnsr_circuit::answer::HnsrAnswer;
+use hnsr_circuit::answer::{HnsrAnswer, number};
 use hnsr_circuit::config::OpaqueRelayConfig;
 use hnsr_circuit::peer::{HnsrPeerId, MAXIMUM_PEER};
 use hnsr_circuit::records::{
@@ -264,7 +264,7 @@ pub(crate) fn head_of(case: u8) -> [u8; 5] {
 // ---- the number of an answer (ANS.5)
 
 pub(crate) fn answer_number(answer: HnsrAnswer) -> u64 {
-    answer.number() as u64
+    number(answer) as u64
 }
 
 // ---- bodies
@@ -279,8 +279,7 @@ pub(crate) fn open_body() -> [u8; 103] {
         requester_nonce: [3u8; 16],
         initial_window: 32768,
     };
-    let written = open.encode(true);
-    written.bytes
+    open.to_bytes()
 }
 
 pub(crate) fn accept_body() -> [u8; 20] {
@@ -288,6 +287,5 @@ pub(crate) fn accept_body() -> [u8; 20] {
         accepted_window: 32768,
         endpoint_nonce: [4u8; 16],
     };
-    let written = accept.encode();
-    written.bytes
+    accept.to_bytes()
 }

@@ -5,3 +5,4 @@ pub mod Bytes
 pub mod Words
 pub mod Cursor
 pub mod RoundTrip
+pub mod Library

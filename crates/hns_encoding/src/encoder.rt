@@ -4,61 +4,21 @@
 ghost use Rattle.std.specs.Prelude.{◌≡◌, [], ◌∷◌};
 ghost use Rattle.hns_encoding.specs.Bytes.{be_bytes, le_bytes};
 ghost use Rattle.hns_encoding.specs.Words.{high_low, words, words_of};
-ghost use Rattle.hns_encoding.specs.Cursor.{Puts, no_room};
+ghost use Rattle.hns_encoding.specs.Cursor.{Puts, put};
 
-use crate::bytes::{copy_at, put_le_at};
 use crate::room::{fits, missing};
-use crate::words::{put_words_at, set_word, word_count};
+use crate::words::{put_words, word_count, write_at};
 
 #[derive(Clone, Copy)]
 pub struct Encoder {
     pub position: usize,
 }
 
-#[derive(Clone, Copy)]
-pub enum Put {
-    Ok(Encoder),
-    // A field at `offset` finds `needed` elements too few.
-    NoRoom { offset: usize, needed: usize },
-}
-
-fn no_room(size: usize, position: usize, width: usize) -> Put
-    ensures { result ≡ no_room size position width }
-{
-    Put::NoRoom {
-        offset: position,
-        needed: missing(size, position, width),
-    }
-}
-
-// A number as `width` bytes, the lowest first.
-fn put_le(out: &mut [u8], at: usize, width: usize, value: u64) -> Put
-    ensures { Puts result out.old out.new at (le_bytes width value) }
-{
-    if fits(out.len(), at, width) {
-        put_le_at(out, at, width, value);
-        Put::Ok(Encoder {
-            position: at + width,
-        })
-    } else {
-        no_room(out.len(), at, width)
-    }
-}
-
-// Eight bytes of a number, the first weighing most.
-fn be_bytes(value: u64) -> [u8; 8]
-    ensures { result ≡ be_bytes 8 value }
-{
-    [
-        (value / 0x100_0000_0000_0000 % 256) as u8,
-        (value / 0x1_0000_0000_0000 % 256) as u8,
-        (value / 0x100_0000_0000 % 256) as u8,
-        (value / 0x1_0000_0000 % 256) as u8,
-        (value / 0x100_0000 % 256) as u8,
-        (value / 0x1_0000 % 256) as u8,
-        (value / 0x100 % 256) as u8,
-        (value % 256) as u8,
-    ]
+// A field at `offset` finds `needed` elements too few.
+#[derive(Clone, Copy, Debug, PartialEq, Eq)]
+pub struct NoRoom {
+    pub offset: usize,
+    pub needed: usize,
 }
 
 impl Encoder {
@@ -68,108 +28,112 @@ impl Encoder {
         Self { position: 0 }
     }
 
-    pub fn put_u8(self, out: &mut [u8], value: u8) -> Put
+    // The cursor behind the next `width` of `size` elements.
+    fn step(self, size: usize, width: usize) -> Result<Encoder, NoRoom>
+        ensures { result ≡ put size self.position width }
+    {
+        if fits(size, self.position, width) {
+            Ok(Encoder {
+                position: self.position + width,
+            })
+        } else {
+            Err(NoRoom {
+                offset: self.position,
+                needed: missing(size, self.position, width),
+            })
+        }
+    }
+
+    // Elements of any type, as they stand.
+    fn put<T: Copy>(self, out: &mut [T], elements: &[T]) -> Result<Encoder, NoRoom>
+        ensures { Puts result out.old out.new self.position elements.now }
+    {
+        let next = self.step(out.len(), elements.len())?;
+        write_at(out, self.position, elements);
+        Ok(next)
+    }
+
+    #[tactic(auto, unfolding(crate::specs::Bytes::le_bytes))]
+    pub fn put_u8(self, out: &mut [u8], value: u8) -> Result<Encoder, NoRoom>
         ensures { Puts result out.old out.new self.position (le_bytes 1 value) }
     {
-        put_le(out, self.position, 1, value as u64)
+        self.put_bytes(out, &[value])
     }
 
-    pub fn put_u16_le(self, out: &mut [u8], value: u16) -> Put
+    pub fn put_u16_le(self, out: &mut [u8], value: u16) -> Result<Encoder, NoRoom>
         ensures { Puts result out.old out.new self.position (le_bytes 2 value) }
     {
-        put_le(out, self.position, 2, value as u64)
+        self.put_bytes(out, &value.to_le_bytes())
     }
 
-    pub fn put_u32_le(self, out: &mut [u8], value: u32) -> Put
+    pub fn put_u32_le(self, out: &mut [u8], value: u32) -> Result<Encoder, NoRoom>
         ensures { Puts result out.old out.new self.position (le_bytes 4 value) }
     {
-        put_le(out, self.position, 4, value as u64)
+        self.put_bytes(out, &value.to_le_bytes())
     }
 
-    pub fn put_u64_le(self, out: &mut [u8], value: u64) -> Put
+    pub fn put_u64_le(self, out: &mut [u8], value: u64) -> Result<Encoder, NoRoom>
         ensures { Puts result out.old out.new self.position (le_bytes 8 value) }
     {
-        put_le(out, self.position, 8, value)
+        self.put_bytes(out, &value.to_le_bytes())
     }
 
     // An id: eight bytes, the first weighing most.
-    pub fn put_u64_be(self, out: &mut [u8], value: u64) -> Put
+    pub fn put_u64_be(self, out: &mut [u8], value: u64) -> Result<Encoder, NoRoom>
         ensures { Puts result out.old out.new self.position (be_bytes 8 value) }
     {
-        let bytes = be_bytes(value);
-        self.put_bytes(out, &bytes)
+        self.put_bytes(out, &value.to_be_bytes())
     }
 
-    pub fn put_bytes(self, out: &mut [u8], bytes: &[u8]) -> Put
+    pub fn put_bytes(self, out: &mut [u8], bytes: &[u8]) -> Result<Encoder, NoRoom>
         ensures { Puts result out.old out.new self.position bytes.now }
     {
-        let at = self.position;
-        let width = bytes.len();
-        if fits(out.len(), at, width) {
-            copy_at(out, at, bytes, 0, width);
-            Put::Ok(Encoder {
-                position: at + width,
-            })
-        } else {
-            no_room(out.len(), at, width)
-        }
+        self.put(out, bytes)
     }
 
     // ---- over words
 
-    pub fn put_word(self, out: &mut [u32], value: u32) -> Put
+    pub fn put_word(self, out: &mut [u32], value: u32) -> Result<Encoder, NoRoom>
         ensures { Puts result out.old out.new self.position (value ∷ []) }
     {
-        let at = self.position;
-        if fits(out.len(), at, 1) {
-            set_word(out, at, value);
-            Put::Ok(Encoder { position: at + 1 })
-        } else {
-            no_room(out.len(), at, 1)
-        }
+        self.put(out, &[value])
     }
 
     // A number in two words, high word first.
-    pub fn put_u64_as_words(self, out: &mut [u32], value: u64) -> Put
+    pub fn put_u64_as_words(self, out: &mut [u32], value: u64) -> Result<Encoder, NoRoom>
         ensures { Puts result out.old out.new self.position (high_low value) }
     {
-        let at = self.position;
-        if fits(out.len(), at, 2) {
-            set_word(out, at, (value / 0x1_0000_0000) as u32);
-            set_word(out, at + 1, (value % 0x1_0000_0000) as u32);
-            Put::Ok(Encoder { position: at + 2 })
-        } else {
-            no_room(out.len(), at, 2)
-        }
+        let high = (value / 0x1_0000_0000) as u32;
+        let low = (value % 0x1_0000_0000) as u32;
+        self.put(out, &[high, low])
     }
 
     // Bytes as exactly `count` words, four to a word, the first lowest, zero padded. Bytes past them are left off.
-    pub fn put_padded_as_words(self, out: &mut [u32], bytes: &[u8], count: usize) -> Put
+    #[tactic(auto, using(crate::specs::Laws::Words::words_of_length))]
+    pub fn put_padded_as_words(
+        self,
+        out: &mut [u32],
+        bytes: &[u8],
+        count: usize,
+    ) -> Result<Encoder, NoRoom>
         ensures { Puts result out.old out.new self.position (words_of count bytes.now) }
     {
-        let at = self.position;
-        if fits(out.len(), at, count) {
-            put_words_at(out, at, bytes, count);
-            Put::Ok(Encoder {
-                position: at + count,
-            })
-        } else {
-            no_room(out.len(), at, count)
-        }
+        let next = self.step(out.len(), count)?;
+        put_words(&mut out[self.position..next.position], bytes);
+        Ok(next)
     }
 
     // Bytes as the words that they fill.
-    pub fn put_bytes_as_words(self, out: &mut [u32], bytes: &[u8]) -> Put
+    pub fn put_bytes_as_words(self, out: &mut [u32], bytes: &[u8]) -> Result<Encoder, NoRoom>
         ensures { Puts result out.old out.new self.position (words bytes.now) }
     {
         self.put_padded_as_words(out, bytes, word_count(bytes.len()))
     }
 
     // An id as two words: its eight bytes, the first weighing most, four to a word.
-    pub fn put_u64_be_as_words(self, out: &mut [u32], value: u64) -> Put
+    pub fn put_u64_be_as_words(self, out: &mut [u32], value: u64) -> Result<Encoder, NoRoom>
         ensures { Puts result out.old out.new self.position (words (be_bytes 8 value)) }
     {
-        let bytes = be_bytes(value);
-        self.put_padded_as_words(out, &bytes, 2)
+        self.put_padded_as_words(out, &value.to_be_bytes(), 2)
     }
 }

@@ -2,7 +2,6 @@
 // joined. The lowest crate: it knows no message. Port of hns-encoding's lib.rs as far as the relay needs it.
 #![tactic(auto)]
 
-mod bytes;
 pub mod decoder;
 pub mod encoder;
 pub mod logic;
@@ -11,4 +10,4 @@ pub mod room;
 pub mod words;
 
 pub use decoder::{DecodeError, Decoder};
-pub use encoder::Encoder;
+pub use encoder::{Encoder, NoRoom};

@@ -7,35 +7,31 @@ ghost use Rattle.hns_encoding.specs.Numbers.{saturating_add};
 pub fn saturating_add_u64(a: u64, b: u64) -> u64
     ensures { result ≡ saturating_add 64 a b }
 {
-    if a <= u64::MAX - b { a + b } else { u64::MAX }
+    a.saturating_add(b)
 }
 
 // The sum, or the largest usize where it would pass it.
 pub fn saturating_add_usize(a: usize, b: usize) -> usize
     ensures { result ≡ saturating_add 64 a b }
 {
-    if a <= usize::MAX - b {
-        a + b
-    } else {
-        usize::MAX
-    }
+    a.saturating_add(b)
 }
 
 // The difference, or 0 where b is the larger.
 pub fn saturating_sub_usize(a: usize, b: usize) -> usize
     ensures { result ≡ a - b }
 {
-    if b <= a { a - b } else { 0 }
+    a.saturating_sub(b)
 }
 
 pub fn min_u64(a: u64, b: u64) -> u64
     ensures { result ≡ min a b }
 {
-    if a <= b { a } else { b }
+    a.min(b)
 }
 
 pub fn min_usize(a: usize, b: usize) -> usize
     ensures { result ≡ min a b }
 {
-    if a <= b { a } else { b }
+    a.min(b)
 }

@@ -3,17 +3,11 @@
 ghost use Rattle.std.specs.Prelude.{◌≡◌};
 ghost use Rattle.hns_encoding.specs.Cursor.{within, lacking};
 
-use crate::numbers::{saturating_add_usize, saturating_sub_usize};
-
 // Whether `width` elements from `position` on lie within `size` of them.
 pub fn fits(size: usize, position: usize, width: usize) -> bool
     ensures { result ≡ within size position width }
 {
-    if position <= size {
-        width <= size - position
-    } else {
-        false
-    }
+    position <= size && width <= size - position
 }
 
 // How many elements more that would take, at most the largest usize.
@@ -21,8 +15,8 @@ pub fn missing(size: usize, position: usize, width: usize) -> usize
     ensures { result ≡ lacking size position width }
 {
     if position <= size {
-        saturating_sub_usize(width, size - position)
+        width.saturating_sub(size - position)
     } else {
-        saturating_add_usize(position - size, width)
+        (position - size).saturating_add(width)
     }
 }

@@ -1,11 +1,8 @@
 -- A table that antt computes to be the list of a function's values has the function's value at each place, by induction
 -- on the place.
 
-use mathlib.Core.Path.{◌≡◌, ◌∙◌, ap, sym}
-use mathlib.Core.List.{List, [], ◌∷◌}
-use Prim.Native.Nat.{ℕ, zero, suc, ◌+◌, ◌<◌}
-use native.Mathlib.Nat.{add-zero, zero-add, add-suc, suc-add, le_of_suc-le-suc, not-suc-le-zero}
-use lib.ListN.{get_or}
+use Rattle.std.proofs.Common.{◌≡◌, ◌∙◌, ap, sym, List, [], ◌∷◌, ℕ, zero, suc, ◌+◌, ◌<◌, add-zero}
+use Rattle.std.proofs.Common.{zero-add, add-suc, suc-add, le_of_suc-le-suc, not-suc-le-zero, get_or}
 
 -- f i, f (suc i), .., as many as the first number says
 abbrev pub values_from : ℕ → (ℕ → ℕ) → ℕ → List ℕ

@@ -1,16 +1,12 @@
 -- ACCEPT, 20 bytes (BODY.8), and OPENED, 28 bytes (BODY.9).
-use Rattle.std.specs.Prelude.{ℕ, Bool, cond, ◌&&◌, List, [], ◌∷◌, ◌++◌, replicate}
+use Rattle.std.specs.Prelude.{ℕ, Bool, ◌&&◌, List, [], ◌∷◌, ◌++◌, Result, Ok}
 use Rattle.hns_encoding.specs.Bytes.{le, le_bytes, be, be_bytes}
 use Rattle.hnsr_body.specs.declared.accept_body.AcceptBody.{AcceptBody}
 use Rattle.hnsr_body.specs.declared.accept_body.OpenedBody.{OpenedBody}
 use Rattle.hnsr_body.specs.declared.error.HnsrInvalid.TheVariants.{AcceptResponse, CircuitZero}
-use Rattle.hnsr_body.specs.declared.accept_body.AcceptRead.{AcceptRead}
-use Rattle.hnsr_body.specs.declared.accept_body.AcceptWritten.{AcceptWritten}
-use Rattle.hnsr_body.specs.declared.accept_body.OpenedRead.{OpenedRead}
-use Rattle.hnsr_body.specs.declared.accept_body.OpenedWritten.{OpenedWritten}
-use Rattle.hnsr_body.specs.declared.error.Checked.{Checked}
-use Rattle.hnsr_body.specs.declared.error.Checked.TheVariants.{Ok}
-use Rattle.hnsr_body.specs.Causes.{answer}
+use Rattle.hnsr_body.specs.declared.error.HnsrProtocolError.{HnsrProtocolError}
+use Rattle.hnsr_body.specs.declared.layout.Read.{Read}
+use Rattle.hnsr_body.specs.Causes.{answer, given}
 use Rattle.hnsr_body.specs.Values.{nonzero, some_byte, window_good}
 use Rattle.hnsr_body.specs.Layout.{laid_out, field_of}
 
@@ -28,7 +24,7 @@ accept_fields body =
 unfoldable pub accept_good : AcceptBody → Bool
 accept_good b = window_good b.accepted_window && some_byte b.endpoint_nonce
 
-unfoldable pub decode_accept : List ℕ → AcceptRead
+unfoldable pub decode_accept : List ℕ → Read AcceptBody
 decode_accept body = record {
   result = answer (laid_out accept_widths body) (accept_good (accept_fields body)) AcceptResponse;
   body = accept_fields body;
@@ -37,11 +33,8 @@ decode_accept body = record {
 unfoldable pub accept_bytes : AcceptBody → List ℕ
 accept_bytes b = le_bytes 4 b.accepted_window ++ b.endpoint_nonce
 
-unfoldable pub encode_accept : AcceptBody → AcceptWritten
-encode_accept b = record {
-  result = answer Ok (accept_good b) AcceptResponse;
-  bytes = cond (accept_good b) (accept_bytes b) (replicate accept_size 0);
-}
+unfoldable pub encode_accept : AcceptBody → Result (List ℕ) HnsrProtocolError
+encode_accept b = given (answer (Ok tt) (accept_good b) AcceptResponse) (accept_bytes b)
 
 -- ---- OPENED: the circuit id is tested first, with a text of its own
 abbrev pub opened_widths : List ℕ
@@ -62,20 +55,19 @@ abbrev pub opened_rest : OpenedBody → AcceptBody
 opened_rest b = record { accepted_window = b.accepted_window; endpoint_nonce = b.endpoint_nonce }
 
 -- what its values answer
-abbrev pub opened_answer : Checked → OpenedBody → Checked
+abbrev pub opened_answer : Result Unit HnsrProtocolError → OpenedBody → Result Unit HnsrProtocolError
 opened_answer layout b =
     answer (answer layout (nonzero b.circuit_id) CircuitZero) (accept_good (opened_rest b)) AcceptResponse
 
 unfoldable pub opened_good : OpenedBody → Bool
 opened_good b = nonzero b.circuit_id && accept_good (opened_rest b)
 
-unfoldable pub decode_opened : List ℕ → OpenedRead
+unfoldable pub decode_opened : List ℕ → Read OpenedBody
 decode_opened body =
     record { result = opened_answer (laid_out opened_widths body) (opened_fields body); body = opened_fields body }
 
 unfoldable pub opened_bytes : OpenedBody → List ℕ
 opened_bytes b = be_bytes 8 b.circuit_id ++ accept_bytes (opened_rest b)
 
-unfoldable pub encode_opened : OpenedBody → OpenedWritten
-encode_opened b =
-    record { result = opened_answer Ok b; bytes = cond (opened_good b) (opened_bytes b) (replicate opened_size 0) }
+unfoldable pub encode_opened : OpenedBody → Result (List ℕ) HnsrProtocolError
+encode_opened b = given (opened_answer (Ok tt) b) (opened_bytes b)

@@ -1,6 +1,7 @@
 -- The number and the values of each cause of a 1 (ANS.6, ANS.7). A host gets a cause as these three numbers; 0 is no
 -- cause.
-use Rattle.std.specs.Prelude.{ℕ, Bool, true, false}
+use Rattle.std.specs.Prelude.{ℕ, Bool, true, false, Result, Ok, Err}
+use Rattle.hns_encoding.specs.declared.decoder.DecodeError.{DecodeError}
 use Rattle.hns_encoding.specs.declared.decoder.DecodeError.TheVariants.{UnexpectedEnd, TrailingBytes}
 use Rattle.hnsr_body.specs.declared.error.HnsrInvalid.{HnsrInvalid}
 use Rattle.hnsr_body.specs.declared.error.HnsrInvalid.TheVariants.{ContextZero, OpenParameters}
@@ -10,8 +11,6 @@ use Rattle.hnsr_body.specs.declared.error.HnsrInvalid.TheVariants.{DiagnosticDet
 use Rattle.hnsr_body.specs.declared.error.HnsrProtocolError.{HnsrProtocolError}
 use Rattle.hnsr_body.specs.declared.error.HnsrProtocolError.TheVariants.{Decode, Invalid, TooLarge, Admission}
 use Rattle.hnsr_body.specs.declared.error.Cause.{Cause}
-use Rattle.hnsr_body.specs.declared.error.Checked.{Checked}
-use Rattle.hnsr_body.specs.declared.error.Checked.TheVariants.{Ok, Err}
 
 -- which text
 abbrev pub text_number : HnsrInvalid → ℕ
@@ -25,36 +24,29 @@ text_number WindowCredit = 7
 text_number DiagnosticDetail = 8
 text_number NotUtf8 = 9
 
--- what kind of cause
-abbrev pub cause_kind : HnsrProtocolError → ℕ
-cause_kind (Decode (UnexpectedEnd offset needed)) = 1
-cause_kind (Decode (TrailingBytes remaining)) = 2
-cause_kind (Invalid text) = 3
-cause_kind (TooLarge actual maximum) = 4
-cause_kind Admission = 5
+-- a cause as a host gets it: its kind and its values
+abbrev pub decode_cause : DecodeError → Cause
+decode_cause (UnexpectedEnd offset needed) = record { kind = 1; first = offset; second = needed }
+decode_cause (TrailingBytes remaining) = record { kind = 2; first = remaining; second = 0 }
 
--- its values
-abbrev pub cause_first : HnsrProtocolError → ℕ
-cause_first (Decode (UnexpectedEnd offset needed)) = offset
-cause_first (Decode (TrailingBytes remaining)) = remaining
-cause_first (Invalid text) = text_number text
-cause_first (TooLarge actual maximum) = actual
-cause_first Admission = 0
+abbrev pub error_cause : HnsrProtocolError → Cause
+error_cause (Decode error) = decode_cause error
+error_cause (Invalid text) = record { kind = 3; first = text_number text; second = 0 }
+error_cause (TooLarge actual maximum) = record { kind = 4; first = actual; second = maximum }
+error_cause Admission = record { kind = 5; first = 0; second = 0 }
 
-abbrev pub cause_second : HnsrProtocolError → ℕ
-cause_second (Decode (UnexpectedEnd offset needed)) = needed
-cause_second (Decode (TrailingBytes remaining)) = 0
-cause_second (Invalid text) = 0
-cause_second (TooLarge actual maximum) = maximum
-cause_second Admission = 0
-
--- as a host gets it
-abbrev pub cause_numbers : Checked → Cause
-cause_numbers Ok = record { kind = 0; first = 0; second = 0 }
-cause_numbers (Err cause) = record { kind = cause_kind cause; first = cause_first cause; second = cause_second cause }
+-- and whether there is one
+abbrev pub cause_numbers : {A : Type 0} → Result A HnsrProtocolError → Cause
+cause_numbers (Ok given) = record { kind = 0; first = 0; second = 0 }
+cause_numbers (Err error) = error_cause error
 
 -- what a reader answers: the layout's refusal first, then that of the values
-abbrev pub answer : Checked → Bool → HnsrInvalid → Checked
-answer (Err cause) valid text = Err cause
-answer Ok true text = Ok
-answer Ok false text = Err (Invalid text)
+abbrev pub answer : Result Unit HnsrProtocolError → Bool → HnsrInvalid → Result Unit HnsrProtocolError
+answer (Err error) valid text = Err error
+answer (Ok done) true text = Ok tt
+answer (Ok done) false text = Err (Invalid text)
+
+-- what a writer hands out: where nothing is refused, what it wrote
+abbrev pub given : {A : Type 0} → Result Unit HnsrProtocolError → A → Result A HnsrProtocolError
+given (Ok done) a = Ok a
+given (Err error) a = Err error

@@ -1,17 +1,18 @@
 -- CLOSE and ERROR (BODY.12, BODY.13): the length says how many bytes follow, so that none is ever left over. Every
 -- reason is accepted, in ERROR too (BODY.14).
-use Rattle.std.specs.Prelude.{ℕ, ◌+◌, ◌-◌, Bool, cond, ◌&&◌, List, [], ◌∷◌, ◌++◌, eqb, leb, length, drop, replicate}
-use Rattle.hns_encoding.specs.declared.decoder.Step.{Step}
-use Rattle.hns_encoding.specs.Bytes.{le, le_bytes, padded}
+use Rattle.std.specs.Prelude.{ℕ, ◌+◌, ◌-◌, Bool, cond, ◌&&◌, List, [], ◌∷◌}
+use Rattle.std.specs.Prelude.{◌++◌, eqb, leb, length, drop, replicate, Result, Ok, Err}
+use Rattle.hns_encoding.specs.declared.decoder.Decoder.{Decoder}
+use Rattle.hns_encoding.specs.declared.decoder.DecodeError.{DecodeError}
+use Rattle.hns_encoding.specs.Bytes.{le, le_bytes}
 use Rattle.hnsr_body.specs.declared.detail_body.ReasonDetail.{ReasonDetail}
 use Rattle.hnsr_body.specs.declared.error.HnsrInvalid.TheVariants.{DiagnosticDetail, NotUtf8}
 use Rattle.hnsr_body.specs.declared.error.HnsrProtocolError.TheVariants.{Decode, TooLarge}
-use Rattle.hnsr_body.specs.declared.detail_body.DetailRead.{DetailRead}
-use Rattle.hnsr_body.specs.declared.detail_body.DetailWritten.{DetailWritten}
-use Rattle.hnsr_body.specs.declared.error.Checked.{Checked}
-use Rattle.hnsr_body.specs.declared.error.Checked.TheVariants.{Ok, Err}
-use Rattle.hnsr_body.specs.Causes.{answer}
-use Rattle.hnsr_body.specs.Layout.{walked, field_of}
+use Rattle.hnsr_body.specs.declared.error.HnsrProtocolError.{HnsrProtocolError}
+use Rattle.hnsr_body.specs.declared.layout.Read.{Read}
+use Rattle.hnsr_body.specs.Causes.{answer, given}
+use Rattle.hnsr_body.specs.declared.layout.Padded.{Padded}
+use Rattle.hnsr_body.specs.Layout.{walked, field_of, padded_in}
 use Rattle.hnsr_body.specs.Utf8.{utf8}
 
 abbrev pub most_detail : ℕ
@@ -47,11 +48,11 @@ unfoldable pub reason_detail : List ℕ → ReasonDetail
 reason_detail body = record { reason = reason_of body; detail_length = length_of body }
 
 -- the two fields in front are there, whatever follows them
-abbrev pub headed : Step → Checked
-headed (Step.Ok d) = Ok
-headed (Step.Err e) = Err (Decode e)
+abbrev pub headed : Result Decoder DecodeError → Result Unit HnsrProtocolError
+headed (Ok d) = Ok tt
+headed (Err e) = Err (Decode e)
 
-unfoldable pub decode_detail : List ℕ → DetailRead
+unfoldable pub decode_detail : List ℕ → Read ReasonDetail
 decode_detail body = record {
   result =
       answer (answer (headed (walked detail_widths body (record { position = 0 }))) (length_good body) DiagnosticDetail)
@@ -63,16 +64,17 @@ unfoldable pub detail_bytes : ℕ → List ℕ → List ℕ
 detail_bytes reason detail = le_bytes 2 reason ++ (length detail ∷ detail)
 
 -- a detail that the reader would refuse is not written
-abbrev pub short : List ℕ → Checked
-short detail = cond (leb (length detail) most_detail) Ok (Err (TooLarge (length detail) most_detail))
+abbrev pub short : List ℕ → Result Unit HnsrProtocolError
+short detail = cond (leb (length detail) most_detail) (Ok tt) (Err (TooLarge (length detail) most_detail))
 
 abbrev pub detail_good : List ℕ → Bool
 detail_good detail = leb (length detail) most_detail && utf8 detail
 
 -- the bytes stand in front of zeros; `length` says how many they are
-unfoldable pub encode_detail : ℕ → List ℕ → DetailWritten
-encode_detail reason detail = record {
-  result = answer (short detail) (utf8 detail) NotUtf8;
-  length = cond (detail_good detail) (head_size + length detail) 0;
-  bytes = cond (detail_good detail) (padded detail_size (detail_bytes reason detail)) (replicate detail_size 0);
-}
+unfoldable pub encode_detail : ℕ → List ℕ → Result (Padded detail_size) HnsrProtocolError
+encode_detail reason detail =
+    given (answer (short detail) (utf8 detail) NotUtf8) (padded_in detail_size (detail_bytes reason detail))
+
+-- no bytes: what a host gets of one that is refused
+abbrev pub no_detail : Padded detail_size
+no_detail = record { length = 0; bytes = replicate detail_size 0 }

@@ -1,13 +1,12 @@
 -- Worked examples of the bodies, by computation (BODY, PACKET).
-use Rattle.std.specs.Prelude.{ℕ, ◌≡◌, refl, Bool, true, false, List, [], ◌∷◌, ◌++◌, replicate}
+use Rattle.std.specs.Prelude.{ℕ, ◌≡◌, refl, Bool, true, false, List, [], ◌∷◌, ◌++◌, replicate, Result, Ok, Err}
 use Rattle.hns_encoding.specs.Bytes.{le, be_from, all_zero}
 use Rattle.hns_encoding.specs.declared.decoder.DecodeError.TheVariants.{UnexpectedEnd, TrailingBytes}
 use Rattle.hnsr_body.specs.declared.error.HnsrInvalid.TheVariants.{ContextZero, OpenParameters}
 use Rattle.hnsr_body.specs.declared.error.HnsrInvalid.TheVariants.{AcceptResponse, CircuitZero, DataSize}
 use Rattle.hnsr_body.specs.declared.error.HnsrInvalid.TheVariants.{WindowCredit, DiagnosticDetail, NotUtf8}
 use Rattle.hnsr_body.specs.declared.error.HnsrProtocolError.TheVariants.{Decode, Invalid, TooLarge}
-use Rattle.hnsr_body.specs.declared.error.Checked.{Checked}
-use Rattle.hnsr_body.specs.declared.error.Checked.TheVariants.{Ok, Err}
+use Rattle.hnsr_body.specs.declared.error.HnsrProtocolError.{HnsrProtocolError}
 use Rattle.hnsr_body.specs.Utf8.{utf8, utf8_1, utf8_2, utf8_3, utf8_4}
 use Rattle.hnsr_body.specs.Layout.{walked, laid_out}
 use Rattle.hnsr_body.specs.Open.{open_fields, open_good, decode_open}
@@ -17,19 +16,19 @@ use Rattle.hnsr_body.specs.Detail.{reason_detail, decode_detail}
 use Rattle.hnsr_body.specs.Packet.{packet_checked}
 
 -- the answers, with every definition open
-unfoldable pub open_answer : Bool → List ℕ → Checked
+unfoldable pub open_answer : Bool → List ℕ → Result Unit HnsrProtocolError
 unfolding walked laid_out open_fields open_good decode_open all_zero le be_from
 open_answer key body = (decode_open key body).result
 
-unfoldable pub opened_answer : List ℕ → Checked
+unfoldable pub opened_answer : List ℕ → Result Unit HnsrProtocolError
 unfolding walked laid_out opened_fields accept_good decode_opened all_zero le be_from
 opened_answer body = (decode_opened body).result
 
-unfoldable pub window_answer : List ℕ → Checked
+unfoldable pub window_answer : List ℕ → Result Unit HnsrProtocolError
 unfolding walked laid_out window_fields decode_window le
 window_answer body = (decode_window body).result
 
-unfoldable pub detail_answer : List ℕ → Checked
+unfoldable pub detail_answer : List ℕ → Result Unit HnsrProtocolError
 unfolding walked reason_detail decode_detail le utf8 utf8_1 utf8_2 utf8_3 utf8_4
 detail_answer body = (decode_detail body).result
 
@@ -56,7 +55,7 @@ pub open_window : open_answer true (replicate 103 1) ≡ Err (Invalid OpenParame
 unfolding open_answer
 open_window = refl
 
-pub open_good_lem : open_answer true (replicate 99 1 ++ (0 ∷ 64 ∷ 0 ∷ 0 ∷ [])) ≡ Ok
+pub open_good_lem : open_answer true (replicate 99 1 ++ (0 ∷ 64 ∷ 0 ∷ 0 ∷ [])) ≡ Ok tt
 unfolding open_answer
 open_good_lem = refl
 
@@ -74,7 +73,7 @@ unfolding opened_answer
 opened-window = refl
 
 -- ---- WINDOW: 1 to 1,048,576
-pub window-most : window_answer (0 ∷ 0 ∷ 16 ∷ 0 ∷ []) ≡ Ok
+pub window-most : window_answer (0 ∷ 0 ∷ 16 ∷ 0 ∷ []) ≡ Ok tt
 unfolding window_answer
 window-most = refl
 
@@ -83,7 +82,7 @@ unfolding window_answer
 window-over = refl
 
 -- ---- ERROR: any reason (BODY.14); the length is asked before the text (BODY.13)
-pub error-any-reason : detail_answer (0xFF ∷ 0xFF ∷ 0 ∷ []) ≡ Ok
+pub error-any-reason : detail_answer (0xFF ∷ 0xFF ∷ 0 ∷ []) ≡ Ok tt
 unfolding detail_answer
 error-any-reason = refl
 
@@ -116,6 +115,6 @@ pub packet-zero : packet_checked 17 0 65523 ≡ Err (Invalid ContextZero)
 unfolding packet_checked
 packet-zero = refl
 
-pub packet_sample_lem : packet_checked 6 0 65523 ≡ Ok
+pub packet_sample_lem : packet_checked 6 0 65523 ≡ Ok tt
 unfolding packet_checked
 packet_sample_lem = refl

@@ -1,12 +1,11 @@
 -- INCOMING, 62 bytes (BODY.7).
-use Rattle.std.specs.Prelude.{ℕ, Bool, cond, ◌&&◌, List, [], ◌∷◌, ◌++◌, replicate}
+use Rattle.std.specs.Prelude.{ℕ, Bool, ◌&&◌, List, [], ◌∷◌, ◌++◌, Result, Ok}
 use Rattle.hns_encoding.specs.Bytes.{le, le_bytes, be, be_bytes}
 use Rattle.hnsr_body.specs.declared.incoming_body.IncomingBody.{IncomingBody}
 use Rattle.hnsr_body.specs.declared.error.HnsrInvalid.TheVariants.{IncomingParameters}
-use Rattle.hnsr_body.specs.declared.incoming_body.IncomingRead.{IncomingRead}
-use Rattle.hnsr_body.specs.declared.incoming_body.IncomingWritten.{IncomingWritten}
-use Rattle.hnsr_body.specs.declared.error.Checked.TheVariants.{Ok}
-use Rattle.hnsr_body.specs.Causes.{answer}
+use Rattle.hnsr_body.specs.declared.error.HnsrProtocolError.{HnsrProtocolError}
+use Rattle.hnsr_body.specs.declared.layout.Read.{Read}
+use Rattle.hnsr_body.specs.Causes.{answer, given}
 use Rattle.hnsr_body.specs.Values.{nonzero, some_byte, window_good}
 use Rattle.hnsr_body.specs.Layout.{laid_out, field_of}
 
@@ -31,7 +30,7 @@ incoming_good b =
     && some_byte b.requester_nonce
     && window_good b.initial_window
 
-unfoldable pub decode_incoming : List ℕ → IncomingRead
+unfoldable pub decode_incoming : List ℕ → Read IncomingBody
 decode_incoming body = record {
   result = answer (laid_out incoming_widths body) (incoming_good (incoming_fields body)) IncomingParameters;
   body = incoming_fields body;
@@ -42,8 +41,5 @@ incoming_bytes b =
     b.ticket_id ++ be_bytes 8 b.open_request_id ++ le_bytes 2 b.profile ++ b.requester_nonce
     ++ le_bytes 4 b.initial_window
 
-unfoldable pub encode_incoming : IncomingBody → IncomingWritten
-encode_incoming b = record {
-  result = answer Ok (incoming_good b) IncomingParameters;
-  bytes = cond (incoming_good b) (incoming_bytes b) (replicate incoming_size 0);
-}
+unfoldable pub encode_incoming : IncomingBody → Result (List ℕ) HnsrProtocolError
+encode_incoming b = given (answer (Ok tt) (incoming_good b) IncomingParameters) (incoming_bytes b)

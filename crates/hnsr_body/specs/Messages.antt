@@ -6,7 +6,8 @@ use Rattle.hnsr_body.specs.declared.messages.Notice.TheVariants.{PeerDisconnecte
 use Rattle.hnsr_body.specs.declared.messages.Notice.TheVariants.{AcceptanceExpired, TicketExpired, RelayDisabled}
 use Rattle.hnsr_body.specs.declared.messages.Notice.TheVariants.{EndpointWriteFailed, OuterWriteFailed}
 use Rattle.hnsr_body.specs.declared.messages.Message.{Message}
-use Rattle.hnsr_body.specs.declared.messages.NoticeWritten.{NoticeWritten}
+use Rattle.hnsr_body.specs.declared.layout.Padded.{Padded}
+use Rattle.hnsr_body.specs.Layout.{padded_in}
 use Rattle.hnsr_body.specs.Detail.{detail_bytes}
 
 abbrev pub reason : Notice → ℕ
@@ -61,5 +62,5 @@ notice_body n = detail_bytes (reason n) (detail n)
 abbrev pub notice_size : ℕ
 notice_size = 30
 
-unfoldable pub notice_written : Notice → NoticeWritten
-notice_written n = record { length = length (notice_body n); bytes = padded notice_size (notice_body n) }
+unfoldable pub notice_written : Notice → Padded notice_size
+notice_written n = padded_in notice_size (notice_body n)

@@ -1,12 +1,11 @@
 -- OPEN, 103 bytes (BODY.6).
-use Rattle.std.specs.Prelude.{ℕ, Bool, cond, ◌&&◌, List, [], ◌∷◌, ◌++◌, replicate}
+use Rattle.std.specs.Prelude.{ℕ, Bool, ◌&&◌, List, [], ◌∷◌, ◌++◌, Result, Ok}
 use Rattle.hns_encoding.specs.Bytes.{le, le_bytes}
 use Rattle.hnsr_body.specs.declared.open_body.OpenBody.{OpenBody}
 use Rattle.hnsr_body.specs.declared.error.HnsrInvalid.TheVariants.{OpenParameters}
-use Rattle.hnsr_body.specs.declared.open_body.OpenRead.{OpenRead}
-use Rattle.hnsr_body.specs.declared.open_body.OpenWritten.{OpenWritten}
-use Rattle.hnsr_body.specs.declared.error.Checked.TheVariants.{Ok}
-use Rattle.hnsr_body.specs.Causes.{answer}
+use Rattle.hnsr_body.specs.declared.error.HnsrProtocolError.{HnsrProtocolError}
+use Rattle.hnsr_body.specs.declared.layout.Read.{Read}
+use Rattle.hnsr_body.specs.Causes.{answer, given}
 use Rattle.hnsr_body.specs.Values.{nonzero, some_byte, window_good, reservation_good}
 use Rattle.hnsr_body.specs.Values.{reservation_of, reservation_bytes}
 use Rattle.hnsr_body.specs.Layout.{laid_out, field_of}
@@ -34,7 +33,7 @@ open_good key_valid b =
     && some_byte b.requester_nonce
     && window_good b.initial_window
 
-unfoldable pub decode_open : Bool → List ℕ → OpenRead
+unfoldable pub decode_open : Bool → List ℕ → Read OpenBody
 decode_open key_valid body = record {
   result = answer (laid_out open_widths body) (open_good key_valid (open_fields body)) OpenParameters;
   body = open_fields body;
@@ -47,8 +46,5 @@ open_bytes b =
     ++ le_bytes 4 b.initial_window
 
 -- a body with bad values is not written
-unfoldable pub encode_open : Bool → OpenBody → OpenWritten
-encode_open key_valid b = record {
-  result = answer Ok (open_good key_valid b) OpenParameters;
-  bytes = cond (open_good key_valid b) (open_bytes b) (replicate open_size 0);
-}
+unfoldable pub encode_open : Bool → OpenBody → Result (List ℕ) HnsrProtocolError
+encode_open key_valid b = given (answer (Ok tt) (open_good key_valid b) OpenParameters) (open_bytes b)

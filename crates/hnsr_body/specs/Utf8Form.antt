@@ -1,7 +1,9 @@
 -- The form of RFC 3629's ABNF that the code follows: the lead byte tells the length, and the range of the second byte.
 
-use Rattle.std.specs.Prelude.{ℕ, ◌≤◌, ◌≡◌, Bool, cond, ◌&&◌, ◌||◌, List, eqb, leb, length, get_or, drop}
-use Rattle.hnsr_body.specs.Utf8.{between, tail, utf8}
+use Rattle.std.specs.Prelude.{ℕ, ◌<◌, ◌≡◌, Bool, cond, ◌&&◌, ◌||◌, List, eqb}
+use Rattle.std.specs.Prelude.{leb, length, get_or, drop, Option, MatchOption}
+use denote.Ref.{Bor}
+use Rattle.hnsr_body.specs.Utf8.{between, tail}
 
 -- how many bytes the character has that this byte begins; 0 of a byte that begins none
 unfoldable pub lead_length : ℕ → ℕ
@@ -33,8 +35,8 @@ char_length text =
     let n : ℕ = lead_length (get_or text 0 0) in
     cond (leb n (length text) && goes_on n text) n 0
 
--- the text behind `at` is UTF-8 just where the text behind `end` is, which comes no earlier
-pub record Skipped (text : List ℕ) (at end : ℕ) : Type 0 where
-  pub ahead : at ≤ end
-  pub inside : end ≤ length text
-  pub alike : utf8 (drop at text) ≡ utf8 (drop end text)
+-- what stands behind the character that a text begins with; none where it begins with none
+abbrev pub BehindChar : List ℕ → Option (Bor (List ℕ)) → Type 0
+BehindChar text r =
+    MatchOption r (char_length text ≡ 0)
+    (λ rest. (0 < char_length text) × (rest.now ≡ drop (char_length text) text))

@@ -4,9 +4,9 @@ ghost use Rattle.hnsr_body.specs.Data.{data_checked, data_good, decode_window, d
 ghost use Rattle.hnsr_body.specs.Data.{window_bytes, window_fields, window_size, window_widths};
 ghost use Rattle.hnsr_body.specs.Layout.{laid_out};
 
-use crate::error::{Checked, HnsrInvalid};
+use crate::error::{HnsrInvalid, HnsrProtocolError};
 use crate::fields::{next_u32, put_u32_at, start};
-use crate::layout::{answered, finish};
+use crate::layout::{Read, answered, finish};
 use crate::values::MAX_WINDOW;
 
 #[derive(Clone, Copy)]
@@ -18,20 +18,6 @@ pub struct DataBody {
 #[derive(Clone, Copy)]
 pub struct WindowBody {
     pub credit_delta: u32,
-}
-
-// A delta that the input ends before reads as 0; the result then says so.
-#[derive(Clone, Copy)]
-pub struct WindowRead {
-    pub result: Checked,
-    pub body: WindowBody,
-}
-
-// Zeros where the result is a refusal.
-#[derive(Clone, Copy)]
-pub struct WindowWritten {
-    pub result: Checked,
-    pub bytes: [u8; WindowBody::SIZE],
 }
 
 impl DataBody {
@@ -46,13 +32,14 @@ impl DataBody {
     }
 
     // Whether so many bytes are a DATA; reading and writing are this one check.
-    pub fn check(size: usize) -> Checked
+    #[tactic(auto, unfolding(crate::specs::Data::data_checked))]
+    pub fn check(size: usize) -> Result<(), HnsrProtocolError>
         ensures { result ≡ data_checked size }
     {
-        answered(Checked::Ok, Self::is_size(size), HnsrInvalid::DataSize)
+        answered(Ok(()), Self::is_size(size), HnsrInvalid::DataSize)
     }
 
-    pub fn decode(input: &[u8]) -> Checked
+    pub fn decode(input: &[u8]) -> Result<(), HnsrProtocolError>
         ensures { result ≡ data_checked (length input.now) }
     {
         Self::check(input.len())
@@ -69,16 +56,13 @@ impl WindowBody {
     pub const MAX_DELTA: u32 = MAX_WINDOW;
 
     // Its one field; the result is the layout's.
-    fn fields(input: &[u8]) -> WindowRead
+    fn fields(input: &[u8]) -> Read<Self>
         ensures { (result.result ≡ laid_out window_widths input.now) × (result.body ≡ window_fields input.now) }
     {
-        let delta = next_u32(start(), input);
-        let step = delta.step;
-        WindowRead {
+        let (credit_delta, step) = next_u32(start(), input);
+        Read {
             result: finish(step, input),
-            body: Self {
-                credit_delta: delta.value,
-            },
+            body: Self { credit_delta },
         }
     }
 
@@ -88,17 +72,12 @@ impl WindowBody {
         Self::MIN_DELTA <= self.credit_delta && self.credit_delta <= Self::MAX_DELTA
     }
 
-    pub fn decode(input: &[u8]) -> WindowRead
+    #[tactic(auto, unfolding(crate::specs::Data::decode_window))]
+    pub fn decode(input: &[u8]) -> Read<Self>
         ensures { result ≡ decode_window input.now }
     {
         let read = Self::fields(input);
-        let layout = read.result;
-        let body = read.body;
-        let valid = body.is_valid();
-        WindowRead {
-            result: answered(layout, valid, HnsrInvalid::WindowCredit),
-            body,
-        }
+        read.answered(read.body.is_valid(), HnsrInvalid::WindowCredit)
     }
 
     fn put(self, out: &mut [u8])
@@ -108,17 +87,20 @@ impl WindowBody {
         put_u32_at(out, Self::CREDIT_DELTA, self.credit_delta);
     }
 
-    pub fn encode(self) -> WindowWritten
-        ensures { result ≡ encode_window self }
+    // The bytes of a body whose values stand checked.
+    pub fn to_bytes(self) -> [u8; Self::SIZE]
+        ensures { result ≡ window_bytes self }
     {
         let mut bytes = [0u8; Self::SIZE];
-        let valid = self.is_valid();
-        let result = answered(Checked::Ok, valid, HnsrInvalid::WindowCredit);
-        if valid {
-            self.put(&mut bytes);
-            WindowWritten { result, bytes }
-        } else {
-            WindowWritten { result, bytes }
-        }
+        self.put(&mut bytes);
+        bytes
+    }
+
+    #[tactic(auto, unfolding(crate::specs::Data::encode_window))]
+    pub fn encode(self) -> Result<[u8; Self::SIZE], HnsrProtocolError>
+        ensures { result ≡ encode_window self }
+    {
+        answered(Ok(()), self.is_valid(), HnsrInvalid::WindowCredit)?;
+        Ok(self.to_bytes())
     }
 }

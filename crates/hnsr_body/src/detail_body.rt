@@ -5,11 +5,10 @@ ghost use Rattle.hnsr_body.specs.Detail.{decode_detail, detail_bytes, detail_siz
 ghost use Rattle.hnsr_body.specs.Detail.{encode_detail, head_size, headed, most_detail, reason_detail};
 ghost use Rattle.hnsr_body.specs.Layout.{walked};
 
-use crate::error::{Checked, HnsrInvalid, HnsrProtocolError};
-use crate::fields::{next_u8, next_u16, put_bytes_at, put_u8_at, put_u16_at, rest, start};
-use crate::layout::answered;
+use crate::error::{HnsrInvalid, HnsrProtocolError};
+use crate::fields::{Step, next_u8, next_u16, put_bytes_at, put_u8_at, put_u16_at, rest, start};
+use crate::layout::{Padded, Read, answered};
 use crate::utf8::is_utf8;
-use hns_encoding::decoder::Step;
 
 // The reason, and how long the detail is, which stands in the body from its fourth byte on.
 #[repr(C)]
@@ -17,28 +16,6 @@ use hns_encoding::decoder::Step;
 pub struct ReasonDetail {
     pub reason: u16,
     pub detail_length: usize,
-}
-
-// A field that the input ends before reads as 0; the result then says so.
-#[derive(Clone, Copy)]
-pub struct DetailRead {
-    pub result: Checked,
-    pub body: ReasonDetail,
-}
-
-// The two fields in front of the detail, and the step behind them.
-#[derive(Clone, Copy)]
-struct DetailHead {
-    pub step: Step,
-    pub body: ReasonDetail,
-}
-
-// `length` bytes, with zeros behind them; none where the result is a refusal.
-#[derive(Clone, Copy)]
-pub struct DetailWritten {
-    pub result: Checked,
-    pub length: usize,
-    pub bytes: [u8; ReasonDetail::MAX_SIZE],
 }
 
 impl ReasonDetail {
@@ -53,32 +30,30 @@ impl ReasonDetail {
 
     pub const MAX_SIZE: usize = Self::DETAIL + Self::MAX_DETAIL;
 
-    // Each field from the step that the one before handed back.
-    fn head(input: &[u8]) -> DetailHead
-        ensures { (result.step ≡ walked detail_widths input.now (record { position = 0 }))
-            × (result.body ≡ reason_detail input.now) }
+    // The two fields in front of the detail, each from the step that the one before handed back, and the step behind
+    // them.
+    fn head(input: &[u8]) -> (Self, Step)
+        ensures { (result.0 ≡ reason_detail input.now)
+            × (result.1 ≡ walked detail_widths input.now (record { position = 0 })) }
     {
-        let reason = next_u16(start(), input);
-        let step = reason.step;
-        let size = next_u8(step, input);
-        let step = size.step;
-        DetailHead {
-            step,
-            body: Self {
-                reason: reason.value,
-                detail_length: size.value as usize,
+        let (reason, step) = next_u16(start(), input);
+        let (length, step) = next_u8(step, input);
+        let detail_length = length as usize;
+        (
+            Self {
+                reason,
+                detail_length,
             },
-        }
+            step,
+        )
     }
 
     // Whether the two fields are there.
-    fn headed(step: Step) -> Checked
+    fn headed(step: Step) -> Result<(), HnsrProtocolError>
         ensures { result ≡ headed step }
     {
-        match step {
-            Step::Ok(_) => Checked::Ok,
-            Step::Err(error) => Checked::Err(HnsrProtocolError::Decode(error)),
-        }
+        step?;
+        Ok(())
     }
 
     // BODY.13: the length is not too large, and is that of what follows.
@@ -92,24 +67,21 @@ impl ReasonDetail {
     pub fn detail(input: &[u8]) -> &[u8]
         ensures { result.now ≡ drop head_size input.now }
     {
-        let head = Self::head(input);
-        let step = head.step;
+        let (_, step) = Self::head(input);
         rest(step, input)
     }
 
-    pub fn decode(input: &[u8]) -> DetailRead
+    pub fn decode(input: &[u8]) -> Read<Self>
         ensures { result ≡ decode_detail input.now }
     {
-        let head = Self::head(input);
-        let step = head.step;
-        let body = head.body;
+        let (body, step) = Self::head(input);
         let detail = rest(step, input);
         let sized = answered(
             Self::headed(step),
             body.is_length(detail.len()),
             HnsrInvalid::DiagnosticDetail,
         );
-        DetailRead {
+        Read {
             result: answered(sized, is_utf8(detail), HnsrInvalid::NotUtf8),
             body,
         }
@@ -125,34 +97,27 @@ impl ReasonDetail {
     }
 
     // A detail that the reader would refuse is not written.
-    pub fn encode(reason: u16, detail: &[u8]) -> DetailWritten
+    #[tactic(auto, unfolding(crate::specs::Detail::encode_detail))]
+    pub fn encode(
+        reason: u16,
+        detail: &[u8],
+    ) -> Result<Padded<{ Self::MAX_SIZE }>, HnsrProtocolError>
         ensures { result ≡ encode_detail reason detail.now }
     {
-        let mut bytes = [0u8; Self::MAX_SIZE];
-        let size = detail.len();
-        if Self::MAX_DETAIL < size {
-            return DetailWritten {
-                result: Checked::Err(HnsrProtocolError::TooLarge {
-                    actual: size,
-                    maximum: Self::MAX_DETAIL,
-                }),
-                length: 0,
-                bytes,
-            };
+        if Self::MAX_DETAIL < detail.len() {
+            return Err(HnsrProtocolError::TooLarge {
+                actual: detail.len(),
+                maximum: Self::MAX_DETAIL,
+            });
         }
-        if is_utf8(detail) {
-            Self::put(&mut bytes, reason, detail);
-            DetailWritten {
-                result: Checked::Ok,
-                length: Self::DETAIL + size,
-                bytes,
-            }
-        } else {
-            DetailWritten {
-                result: Checked::Err(HnsrProtocolError::Invalid(HnsrInvalid::NotUtf8)),
-                length: 0,
-                bytes,
-            }
+        if !is_utf8(detail) {
+            return Err(HnsrInvalid::NotUtf8.into());
         }
+        let mut bytes = [0; Self::MAX_SIZE];
+        Self::put(&mut bytes, reason, detail);
+        Ok(Padded {
+            length: Self::DETAIL + detail.len(),
+            bytes,
+        })
     }
 }

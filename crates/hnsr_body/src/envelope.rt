@@ -2,8 +2,7 @@
 ghost use Rattle.std.specs.Prelude.{◌≡◌};
 ghost use Rattle.hnsr_body.specs.Packet.{packet_checked};
 
-use crate::error::{Checked, HnsrInvalid, HnsrProtocolError};
-use hns_encoding::numbers::saturating_add_usize;
+use crate::error::{HnsrInvalid, HnsrProtocolError};
 
 // A packet: its opcode, context and how long its body is, which stands beside it.
 #[derive(Clone, Copy)]
@@ -20,22 +19,20 @@ impl HnsrPacket {
 
     pub const SAMPLE_ROUTES: u8 = 6;
 
-    pub fn validate(self) -> Checked
+    #[tactic(auto, unfolding(crate::specs::Packet::packet_checked))]
+    pub fn validate(self) -> Result<(), HnsrProtocolError>
         ensures { result ≡ packet_checked self.opcode self.context_id self.body_length }
     {
-        let total = saturating_add_usize(Self::HEADER_SIZE, self.body_length);
+        let total = Self::HEADER_SIZE.saturating_add(self.body_length);
         if Self::MAX_SIZE < total {
-            return Checked::Err(HnsrProtocolError::TooLarge {
+            return Err(HnsrProtocolError::TooLarge {
                 actual: total,
                 maximum: Self::MAX_SIZE,
             });
         }
-        if self.context_id != 0 {
-            return Checked::Ok;
+        if self.context_id == 0 && self.opcode != Self::SAMPLE_ROUTES {
+            return Err(HnsrInvalid::ContextZero.into());
         }
-        if self.opcode == Self::SAMPLE_ROUTES {
-            return Checked::Ok;
-        }
-        Checked::Err(HnsrProtocolError::Invalid(HnsrInvalid::ContextZero))
+        Ok(())
     }
 }

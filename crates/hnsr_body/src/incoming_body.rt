@@ -4,14 +4,13 @@ ghost use Rattle.hnsr_body.specs.Incoming.{decode_incoming, encode_incoming, inc
 ghost use Rattle.hnsr_body.specs.Incoming.{incoming_fields, incoming_good, incoming_size, incoming_widths};
 ghost use Rattle.hnsr_body.specs.Layout.{laid_out};
 
-use crate::error::{Checked, HnsrInvalid};
+use crate::error::{HnsrInvalid, HnsrProtocolError};
 use crate::fields::{
-    next_array_16, next_array_32, next_u16, next_u32, next_u64_be, put_bytes_at, put_u16_at,
-    put_u32_at, put_u64_be_at, start,
+    next_array, next_u16, next_u32, next_u64_be, put_bytes_at, put_u16_at, put_u32_at,
+    put_u64_be_at, start,
 };
-use crate::layout::{answered, finish};
-use crate::values::{is_nonzero, is_some, is_window};
-use hns_encoding::logic::both;
+use crate::layout::{Read, answered, finish};
+use crate::values::{is_some, is_window};
 
 #[repr(C)]
 #[derive(Clone, Copy)]
@@ -21,20 +20,6 @@ pub struct IncomingBody {
     pub profile: u16,
     pub requester_nonce: [u8; 16],
     pub initial_window: u32,
-}
-
-// A field that the input ends before reads as zeros; the result then says so.
-#[derive(Clone, Copy)]
-pub struct IncomingRead {
-    pub result: Checked,
-    pub body: IncomingBody,
-}
-
-// Zeros where the result is a refusal.
-#[derive(Clone, Copy)]
-pub struct IncomingWritten {
-    pub result: Checked,
-    pub bytes: [u8; IncomingBody::SIZE],
 }
 
 impl IncomingBody {
@@ -52,67 +37,54 @@ impl IncomingBody {
     pub const SIZE: usize = Self::INITIAL_WINDOW + 4;
 
     // Field after field, each from the step that the one before handed back; the result is the layout's.
-    fn fields(input: &[u8]) -> IncomingRead
+    fn fields(input: &[u8]) -> Read<Self>
         ensures { (result.result ≡ laid_out incoming_widths input.now)
             × (result.body ≡ incoming_fields input.now) }
     {
-        let ticket = next_array_32(start(), input);
-        let step = ticket.step;
-        let request = next_u64_be(step, input);
-        let step = request.step;
-        let profile = next_u16(step, input);
-        let step = profile.step;
-        let nonce = next_array_16(step, input);
-        let step = nonce.step;
-        let window = next_u32(step, input);
-        let step = window.step;
-        let ticket_id = ticket.bytes;
-        let requester_nonce = nonce.bytes;
-        IncomingRead {
+        let (ticket_id, step) = next_array(start(), input);
+        let (open_request_id, step) = next_u64_be(step, input);
+        let (profile, step) = next_u16(step, input);
+        let (requester_nonce, step) = next_array(step, input);
+        let (initial_window, step) = next_u32(step, input);
+        Read {
             result: finish(step, input),
             body: Self {
                 ticket_id,
-                open_request_id: request.value,
-                profile: profile.value,
+                open_request_id,
+                profile,
                 requester_nonce,
-                initial_window: window.value,
+                initial_window,
             },
         }
     }
 
+    #[tactic(auto, unfolding(crate::specs::Incoming::incoming_good))]
     fn is_valid(self) -> bool
         ensures { result ≡ incoming_good self }
     {
-        let ticket = self.ticket_id;
-        let nonce = self.requester_nonce;
-        let ids = both(is_some(&ticket), is_nonzero(self.open_request_id));
-        let named = both(ids, is_nonzero(self.profile as u64));
-        both(both(named, is_some(&nonce)), is_window(self.initial_window))
+        is_some(&self.ticket_id)
+            && self.open_request_id != 0
+            && self.profile != 0
+            && is_some(&self.requester_nonce)
+            && is_window(self.initial_window)
     }
 
-    pub fn decode(input: &[u8]) -> IncomingRead
+    #[tactic(auto, unfolding(crate::specs::Incoming::decode_incoming))]
+    pub fn decode(input: &[u8]) -> Read<Self>
         ensures { result ≡ decode_incoming input.now }
     {
         let read = Self::fields(input);
-        let layout = read.result;
-        let body = read.body;
-        let valid = body.is_valid();
-        IncomingRead {
-            result: answered(layout, valid, HnsrInvalid::IncomingParameters),
-            body,
-        }
+        read.answered(read.body.is_valid(), HnsrInvalid::IncomingParameters)
     }
 
     fn put(self, out: &mut [u8])
         requires { length out.old ≡ incoming_size }
         ensures { out.new ≡ incoming_bytes self }
     {
-        let ticket = self.ticket_id;
-        let nonce = self.requester_nonce;
-        put_bytes_at(out, Self::TICKET_ID, &ticket);
+        put_bytes_at(out, Self::TICKET_ID, &self.ticket_id);
         put_u64_be_at(out, Self::OPEN_REQUEST_ID, self.open_request_id);
         put_u16_at(out, Self::PROFILE, self.profile);
-        put_bytes_at(out, Self::REQUESTER_NONCE, &nonce);
+        put_bytes_at(out, Self::REQUESTER_NONCE, &self.requester_nonce);
         put_u32_at(out, Self::INITIAL_WINDOW, self.initial_window);
     }
 
@@ -125,17 +97,11 @@ impl IncomingBody {
         bytes
     }
 
-    pub fn encode(self) -> IncomingWritten
+    #[tactic(auto, unfolding(crate::specs::Incoming::encode_incoming))]
+    pub fn encode(self) -> Result<[u8; Self::SIZE], HnsrProtocolError>
         ensures { result ≡ encode_incoming self }
     {
-        let mut bytes = [0u8; Self::SIZE];
-        let valid = self.is_valid();
-        let result = answered(Checked::Ok, valid, HnsrInvalid::IncomingParameters);
-        if valid {
-            self.put(&mut bytes);
-            IncomingWritten { result, bytes }
-        } else {
-            IncomingWritten { result, bytes }
-        }
+        answered(Ok(()), self.is_valid(), HnsrInvalid::IncomingParameters)?;
+        Ok(self.to_bytes())
     }
 }

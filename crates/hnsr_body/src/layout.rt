@@ -1,39 +1,55 @@
-// How a reader answers: an early end, then bytes left over, then the values.
+// A body that was read, and how a reader answers: an early end, then bytes left over, then the values.
 ghost use Rattle.std.specs.Prelude.{◌≡◌};
 ghost use Rattle.hnsr_body.specs.Causes.{answer};
 ghost use Rattle.hnsr_body.specs.Layout.{finished};
 
-use crate::error::{Checked, HnsrInvalid, HnsrProtocolError};
-use hns_encoding::decoder::{Finish, Step};
+use crate::error::{HnsrInvalid, HnsrProtocolError};
+use crate::fields::Step;
 
-// What a reader answers: the layout's refusal first, then that of the values.
-pub(crate) fn answered(layout: Checked, valid: bool, text: HnsrInvalid) -> Checked
-    ensures { result ≡ answer layout valid text }
-{
-    match layout {
-        Checked::Err(error) => Checked::Err(error),
-        Checked::Ok => {
-            if valid {
-                Checked::Ok
-            } else {
-                Checked::Err(HnsrProtocolError::Invalid(text))
-            }
+// The fields stand beside the answer, not in its `Ok`: the C interface hands them out with a refusal too. A field that
+// the input ends before reads as zeros.
+#[derive(Clone, Copy)]
+pub struct Read<B> {
+    pub result: Result<(), HnsrProtocolError>,
+    pub body: B,
+}
+
+impl<B> Read<B> {
+    // The same body, with the answer of its values behind the layout's.
+    pub(crate) fn answered(self, valid: bool, text: HnsrInvalid) -> Self
+        ensures { (result.result ≡ answer self.result valid text) × (result.body ≡ self.body) }
+    {
+        Self {
+            result: answered(self.result, valid, text),
+            body: self.body,
         }
     }
 }
 
+// A text or a message in a buffer of the most that it may take: `length` bytes, with zeros behind them.
+#[derive(Clone, Copy)]
+pub struct Padded<const SIZE: usize> {
+    pub length: usize,
+    pub bytes: [u8; SIZE],
+}
+
+// What a reader answers: the layout's refusal first, then that of the values. Each body has its own `decode` and
+// `encode`, of two lines: no trait writes `encode` once, since a generic body cannot name `[u8; Self::SIZE]`.
+pub(crate) fn answered(
+    layout: Result<(), HnsrProtocolError>,
+    valid: bool,
+    text: HnsrInvalid,
+) -> Result<(), HnsrProtocolError>
+    ensures { result ≡ answer layout valid text }
+{
+    layout?;
+    if valid { Ok(()) } else { Err(text.into()) }
+}
+
 // The layout's answer, from the step behind the last field: nothing may be left.
-pub(crate) fn finish(step: Step, input: &[u8]) -> Checked
+pub(crate) fn finish(step: Step, input: &[u8]) -> Result<(), HnsrProtocolError>
     ensures { result ≡ finished input.now step }
 {
-    match step {
-        Step::Err(error) => Checked::Err(HnsrProtocolError::Decode(error)),
-        Step::Ok(cursor) => {
-            let end = cursor.finish(input);
-            match end {
-                Finish::Ok => Checked::Ok,
-                Finish::Err(error) => Checked::Err(HnsrProtocolError::Decode(error)),
-            }
-        }
-    }
+    step?.finish(input)?;
+    Ok(())
 }

@@ -9,7 +9,7 @@ pub mod envelope;
 pub mod error;
 mod fields;
 pub mod incoming_body;
-mod layout;
+pub mod layout;
 pub mod messages;
 pub mod open_body;
 pub mod utf8;

@@ -4,8 +4,9 @@ ghost use Rattle.hnsr_body.specs.Messages.{message_of, notice_written};
 
 use crate::detail_body::ReasonDetail;
 use crate::fields::{put_bytes_at, put_u8_at, put_u16_at};
+use crate::layout::Padded;
 
-#[derive(Clone, Copy)]
+#[derive(Clone, Copy, Debug, PartialEq, Eq)]
 pub enum Notice {
     PeerDisconnected,
     ReservationRevoked,
@@ -31,13 +32,7 @@ impl Message {
     pub const MAX_SIZE: usize = ReasonDetail::DETAIL + Self::MAX_DETAIL;
 }
 
-// The body of the CLOSE or ERROR that carries it: `length` bytes, with zeros behind them.
-#[derive(Clone, Copy)]
-pub struct NoticeWritten {
-    pub length: usize,
-    pub bytes: [u8; Message::MAX_SIZE],
-}
-
+// In the order of the notices.
 const MESSAGES: [Message; 7] = [
     Message {
         reason: 11,
@@ -80,27 +75,19 @@ impl Notice {
     pub fn message(self) -> Message
         ensures { result ≡ message_of self }
     {
-        match self {
-            Notice::PeerDisconnected => MESSAGES[0],
-            Notice::ReservationRevoked => MESSAGES[1],
-            Notice::AcceptanceExpired => MESSAGES[2],
-            Notice::TicketExpired => MESSAGES[3],
-            Notice::RelayDisabled => MESSAGES[4],
-            Notice::EndpointWriteFailed => MESSAGES[5],
-            Notice::OuterWriteFailed => MESSAGES[6],
-        }
+        MESSAGES[self as usize]
     }
 
-    pub fn encode(self) -> NoticeWritten
+    // The body of the CLOSE or ERROR that carries it.
+    pub fn encode(self) -> Padded<{ Message::MAX_SIZE }>
         ensures { result ≡ notice_written self }
     {
-        let mut bytes = [0u8; Message::MAX_SIZE];
+        let mut bytes = [0; Message::MAX_SIZE];
         let message = self.message();
-        let detail = message.detail;
         put_u16_at(&mut bytes, ReasonDetail::REASON, message.reason);
         put_u8_at(&mut bytes, ReasonDetail::LENGTH, message.length);
-        put_bytes_at(&mut bytes, ReasonDetail::DETAIL, &detail);
-        NoticeWritten {
+        put_bytes_at(&mut bytes, ReasonDetail::DETAIL, &message.detail);
+        Padded {
             length: ReasonDetail::DETAIL + message.length as usize,
             bytes,
         }

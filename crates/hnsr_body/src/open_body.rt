@@ -4,14 +4,12 @@ ghost use Rattle.hnsr_body.specs.Open.{decode_open, encode_open, open_bytes};
 ghost use Rattle.hnsr_body.specs.Open.{open_fields, open_good, open_size, open_widths};
 ghost use Rattle.hnsr_body.specs.Layout.{laid_out};
 
-use crate::error::{Checked, HnsrInvalid};
+use crate::error::{HnsrInvalid, HnsrProtocolError};
 use crate::fields::{
-    next_array_16, next_array_32, next_array_33, next_u16, next_u32, put_bytes_at, put_u16_at,
-    put_u32_at, put_u64_be_at, start,
+    next_array, next_u16, next_u32, put_bytes_at, put_u16_at, put_u32_at, put_u64_be_at, start,
 };
-use crate::layout::{answered, finish};
-use crate::values::{ReservationId, is_nonzero, is_some, is_window, reservation_of};
-use hns_encoding::logic::both;
+use crate::layout::{Read, answered, finish};
+use crate::values::{ReservationId, is_some, is_window};
 
 #[repr(C)]
 #[derive(Clone, Copy)]
@@ -22,20 +20,6 @@ pub struct OpenBody {
     pub profile: u16,
     pub requester_nonce: [u8; 16],
     pub initial_window: u32,
-}
-
-// A field that the input ends before reads as zeros; the result then says so.
-#[derive(Clone, Copy)]
-pub struct OpenRead {
-    pub result: Checked,
-    pub body: OpenBody,
-}
-
-// Zeros where the result is a refusal.
-#[derive(Clone, Copy)]
-pub struct OpenWritten {
-    pub result: Checked,
-    pub bytes: [u8; OpenBody::SIZE],
 }
 
 impl OpenBody {
@@ -55,91 +39,80 @@ impl OpenBody {
     pub const SIZE: usize = Self::INITIAL_WINDOW + 4;
 
     // Field after field, each from the step that the one before handed back; the result is the layout's.
-    fn fields(input: &[u8]) -> OpenRead
+    fn fields(input: &[u8]) -> Read<Self>
         ensures { (result.result ≡ laid_out open_widths input.now) × (result.body ≡ open_fields input.now) }
     {
-        let ticket = next_array_32(start(), input);
-        let step = ticket.step;
-        let reservation = next_array_16(step, input);
-        let step = reservation.step;
-        let key = next_array_33(step, input);
-        let step = key.step;
-        let profile = next_u16(step, input);
-        let step = profile.step;
-        let nonce = next_array_16(step, input);
-        let step = nonce.step;
-        let window = next_u32(step, input);
-        let step = window.step;
-        let ticket_id = ticket.bytes;
-        let reservation = reservation.bytes;
-        let endpoint_key = key.bytes;
-        let requester_nonce = nonce.bytes;
-        OpenRead {
+        let (ticket_id, step) = next_array(start(), input);
+        let (reservation, step) = next_array(step, input);
+        let (endpoint_key, step) = next_array(step, input);
+        let (profile, step) = next_u16(step, input);
+        let (requester_nonce, step) = next_array(step, input);
+        let (initial_window, step) = next_u32(step, input);
+        Read {
             result: finish(step, input),
             body: Self {
                 ticket_id,
-                reservation_id: reservation_of(reservation),
+                reservation_id: ReservationId::from(reservation),
                 endpoint_key,
-                profile: profile.value,
+                profile,
                 requester_nonce,
-                initial_window: window.value,
+                initial_window,
             },
         }
     }
 
+    #[tactic(auto, unfolding(crate::specs::Open::open_good))]
     fn is_valid(self, key_valid: bool) -> bool
         ensures { result ≡ open_good key_valid self }
     {
-        let ticket = self.ticket_id;
-        let reservation = self.reservation_id;
-        let nonce = self.requester_nonce;
-        let ids = both(is_some(&ticket), reservation.is_some());
-        let named = both(both(ids, key_valid), is_nonzero(self.profile as u64));
-        both(both(named, is_some(&nonce)), is_window(self.initial_window))
+        is_some(&self.ticket_id)
+            && self.reservation_id.is_some()
+            && key_valid
+            && self.profile != 0
+            && is_some(&self.requester_nonce)
+            && is_window(self.initial_window)
     }
 
     // The host says whether the endpoint's key is valid.
-    pub fn decode(input: &[u8], key_valid: bool) -> OpenRead
+    #[tactic(auto, unfolding(crate::specs::Open::decode_open))]
+    pub fn decode(input: &[u8], key_valid: bool) -> Read<Self>
         ensures { result ≡ decode_open key_valid input.now }
     {
         let read = Self::fields(input);
-        let layout = read.result;
-        let body = read.body;
-        let valid = body.is_valid(key_valid);
-        OpenRead {
-            result: answered(layout, valid, HnsrInvalid::OpenParameters),
-            body,
-        }
+        read.answered(read.body.is_valid(key_valid), HnsrInvalid::OpenParameters)
     }
 
     fn put(self, out: &mut [u8])
         requires { length out.old ≡ open_size }
         ensures { out.new ≡ open_bytes self }
     {
-        let ticket = self.ticket_id;
-        let reservation = self.reservation_id;
-        let key = self.endpoint_key;
-        let nonce = self.requester_nonce;
-        put_bytes_at(out, Self::TICKET_ID, &ticket);
-        put_u64_be_at(out, Self::RESERVATION_ID, reservation.high);
-        put_u64_be_at(out, Self::RESERVATION_ID + 8, reservation.low);
-        put_bytes_at(out, Self::ENDPOINT_KEY, &key);
+        put_bytes_at(out, Self::TICKET_ID, &self.ticket_id);
+        put_u64_be_at(out, Self::RESERVATION_ID, self.reservation_id.high);
+        put_u64_be_at(out, Self::RESERVATION_ID + 8, self.reservation_id.low);
+        put_bytes_at(out, Self::ENDPOINT_KEY, &self.endpoint_key);
         put_u16_at(out, Self::PROFILE, self.profile);
-        put_bytes_at(out, Self::REQUESTER_NONCE, &nonce);
+        put_bytes_at(out, Self::REQUESTER_NONCE, &self.requester_nonce);
         put_u32_at(out, Self::INITIAL_WINDOW, self.initial_window);
     }
 
-    pub fn encode(self, key_valid: bool) -> OpenWritten
-        ensures { result ≡ encode_open key_valid self }
+    // The bytes of a body whose values stand checked.
+    pub fn to_bytes(self) -> [u8; Self::SIZE]
+        ensures { result ≡ open_bytes self }
     {
         let mut bytes = [0u8; Self::SIZE];
-        let valid = self.is_valid(key_valid);
-        let result = answered(Checked::Ok, valid, HnsrInvalid::OpenParameters);
-        if valid {
-            self.put(&mut bytes);
-            OpenWritten { result, bytes }
-        } else {
-            OpenWritten { result, bytes }
-        }
+        self.put(&mut bytes);
+        bytes
+    }
+
+    #[tactic(auto, unfolding(crate::specs::Open::encode_open))]
+    pub fn encode(self, key_valid: bool) -> Result<[u8; Self::SIZE], HnsrProtocolError>
+        ensures { result ≡ encode_open key_valid self }
+    {
+        answered(
+            Ok(()),
+            self.is_valid(key_valid),
+            HnsrInvalid::OpenParameters,
+        )?;
+        Ok(self.to_bytes())
     }
 }

@@ -1,7 +1,7 @@
 // Values that the bodies share: ids and nonces that are not zero, windows, and reservation ids.
 ghost use Rattle.std.specs.Prelude.{◌≡◌};
 ghost use Rattle.hns_encoding.specs.Bytes.{all_zero};
-ghost use Rattle.hnsr_body.specs.Values.{nonzero, reservation_good, reservation_of, some_byte, window_good};
+ghost use Rattle.hnsr_body.specs.Values.{reservation_good, reservation_of, some_byte, window_good};
 
 use crate::fields::{next_u64_be, start};
 
@@ -11,7 +11,7 @@ pub const MAX_WINDOW: u32 = 1_048_576;
 
 // A reservation id: the first eight bytes on the wire, then the other eight; the first byte of each weighs most.
 #[repr(C)]
-#[derive(Clone, Copy)]
+#[derive(Clone, Copy, Debug, PartialEq, Eq)]
 pub struct ReservationId {
     pub high: u64,
     pub low: u64,
@@ -26,18 +26,21 @@ impl ReservationId {
     }
 }
 
+impl From<[u8; 16]> for ReservationId {
+    ghost from_gives = { λ bytes id. id ≡ reservation_of bytes };
+
+    fn from(bytes: [u8; 16]) -> Self {
+        let (high, step) = next_u64_be(start(), &bytes);
+        let (low, _) = next_u64_be(step, &bytes);
+        Self { high, low }
+    }
+}
+
 // Whether every byte is zero.
 pub fn is_zero(value: &[u8]) -> bool
     ensures { result ≡ all_zero value.now }
 {
-    let mut i = 0;
-    while i < value.len() {
-        if value[i] != 0 {
-            return false;
-        }
-        i += 1;
-    }
-    true
+    value.iter().all(|byte| *byte == 0)
 }
 
 pub fn is_window(window: u32) -> bool
@@ -51,23 +54,4 @@ pub fn is_some(value: &[u8]) -> bool
     ensures { result ≡ some_byte value.now }
 {
     !is_zero(value)
-}
-
-pub(crate) fn is_nonzero(n: u64) -> bool
-    ensures { result ≡ nonzero n }
-{
-    n != 0
-}
-
-// A reservation id from its sixteen bytes.
-pub(crate) fn reservation_of(bytes: [u8; 16]) -> ReservationId
-    ensures { result ≡ reservation_of bytes }
-{
-    let high = next_u64_be(start(), &bytes);
-    let step = high.step;
-    let low = next_u64_be(step, &bytes);
-    ReservationId {
-        high: high.value,
-        low: low.value,
-    }
 }

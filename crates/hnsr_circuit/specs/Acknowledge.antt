@@ -4,10 +4,9 @@ use Rattle.hnsr_body.specs.declared.messages.Notice.TheVariants.{EndpointWriteFa
 use Rattle.hnsr_circuit.specs.declared.records.RelayPending.{RelayPending}
 use Rattle.hnsr_circuit.specs.declared.records.RelayCircuit.{RelayCircuit}
 use Rattle.hnsr_circuit.specs.declared.records.InflightAction.{InflightAction}
-use Rattle.hnsr_circuit.specs.declared.answer.HnsrAnswer.{HnsrAnswer}
 use Rattle.hnsr_circuit.specs.declared.answer.HnsrRuntimeError.TheVariants.{StaleGeneration, UnknownAction}
 use Rattle.hnsr_circuit.specs.Table.{any, pick, edit}
-use Rattle.hnsr_circuit.specs.Answers.{check, ◌then◌}
+use Rattle.hnsr_circuit.specs.Answers.{HnsrAnswer, check, ◌then◌}
 use Rattle.hnsr_circuit.specs.Pending.{pending_at}
 use Rattle.hnsr_circuit.specs.Circuits.{circuit_at, lowered}
 use Rattle.hnsr_circuit.specs.declared.records.InflightKind.{InflightKind}

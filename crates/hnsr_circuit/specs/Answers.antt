@@ -1,9 +1,9 @@
 -- What a call answers, and the number of each answer (ANS.5). 19 and 21 are the requester's and the snapshot's: no call
 -- here gives them.
-use Rattle.std.specs.Prelude.{ℕ, Bool, true, false}
+use Rattle.std.specs.Prelude.{ℕ, Bool, true, false, Result, Ok, Err, is_ok}
+use Rattle.std.specs.Result.{result_and}
 use Rattle.hnsr_body.specs.declared.error.Cause.{Cause}
-use Rattle.hnsr_body.specs.declared.error.Checked.{Checked}
-use Rattle.hnsr_body.specs.declared.error.Checked.TheVariants.{Ok, Err}
+use Rattle.hnsr_body.specs.declared.error.HnsrProtocolError.{HnsrProtocolError}
 use Rattle.hnsr_body.specs.Causes.{cause_numbers}
 use Rattle.hnsr_circuit.specs.declared.answer.HnsrRuntimeError.{HnsrRuntimeError}
 use Rattle.hnsr_circuit.specs.declared.answer.HnsrRuntimeError.TheVariants.{Protocol, InvalidConfig}
@@ -16,8 +16,10 @@ use Rattle.hnsr_circuit.specs.declared.answer.HnsrRuntimeError.TheVariants.{Wron
 use Rattle.hnsr_circuit.specs.declared.answer.HnsrRuntimeError.TheVariants.{FlowControl, ByteLimit, NoQueuedData}
 use Rattle.hnsr_circuit.specs.declared.answer.HnsrRuntimeError.TheVariants.{UnknownAction, CorruptSnapshot}
 use Rattle.hnsr_circuit.specs.declared.answer.HnsrRuntimeError.TheVariants.{Short, LedgerFull}
-use Rattle.hnsr_circuit.specs.declared.answer.HnsrAnswer.{HnsrAnswer}
-use Rattle.hnsr_circuit.specs.declared.answer.HnsrAnswer.TheVariants.{Taken, Refused}
+
+-- `Ok` is taken, `Err` refused
+abbrev pub HnsrAnswer : Type 0
+HnsrAnswer = Result Unit HnsrRuntimeError
 
 abbrev pub error_number : HnsrRuntimeError → ℕ
 error_number (Protocol cause) = 1
@@ -46,57 +48,34 @@ error_number LedgerFull = 23
 
 -- 0 is taken
 abbrev pub number : HnsrAnswer → ℕ
-number Taken = 0
-number (Refused e) = error_number e
+number (Ok _) = 0
+number (Err e) = error_number e
 
 -- ---- the cause that a 1 carries, as three numbers: its kind (0 where there is none) and its values
 abbrev pub no_cause : Cause
-no_cause = cause_numbers Ok
+no_cause = cause_numbers {A = Unit} (Ok tt)
 
 abbrev pub error_cause : HnsrRuntimeError → Cause
-error_cause (Protocol cause) = cause_numbers (Err cause)
-error_cause InvalidConfig = no_cause
-error_cause InvalidSession = no_cause
-error_cause InvalidPeer = no_cause
-error_cause StaleGeneration = no_cause
-error_cause GenerationExhausted = no_cause
-error_cause ClockRollback = no_cause
-error_cause Randomness = no_cause
-error_cause Disabled = no_cause
-error_cause Capacity = no_cause
-error_cause InvalidAdmission = no_cause
-error_cause Deadline = no_cause
-error_cause UnknownRequest = no_cause
-error_cause UnknownCircuit = no_cause
-error_cause WrongPeer = no_cause
-error_cause UnexpectedOpcode = no_cause
-error_cause FlowControl = no_cause
-error_cause ByteLimit = no_cause
-error_cause NoQueuedData = no_cause
-error_cause UnknownAction = no_cause
-error_cause CorruptSnapshot = no_cause
-error_cause Short = no_cause
-error_cause LedgerFull = no_cause
+error_cause (Protocol cause) = cause_numbers {A = Unit} (Err cause)
+error_cause e = no_cause
 
 abbrev pub cause_of : HnsrAnswer → Cause
-cause_of Taken = no_cause
-cause_of (Refused e) = error_cause e
+cause_of (Ok _) = no_cause
+cause_of (Err e) = error_cause e
 
 -- ---- rows (ANS.2): a test and its refusal; a body and its cause; rows in order, of which the first refusal is the
 -- answer
 abbrev pub check : Bool → HnsrRuntimeError → HnsrAnswer
-check true e = Refused e
-check false e = Taken
+check true e = Err e
+check false e = Ok tt
 
-abbrev pub body_answer : Checked → HnsrAnswer
-body_answer Ok = Taken
-body_answer (Err cause) = Refused (Protocol cause)
+abbrev pub body_answer : Result Unit HnsrProtocolError → HnsrAnswer
+body_answer (Ok done) = Ok tt
+body_answer (Err cause) = Err (Protocol cause)
 
 infixr 20 ◌then◌
 abbrev pub ◌then◌ : HnsrAnswer → HnsrAnswer → HnsrAnswer
-Taken then b = b
-Refused e then b = Refused e
+a then b = result_and a b
 
 abbrev pub taken : HnsrAnswer → Bool
-taken Taken = true
-taken (Refused e) = false
+taken a = is_ok a

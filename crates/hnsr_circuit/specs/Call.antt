@@ -1,9 +1,8 @@
 -- The calls, each with all its inputs, the room of the lent output included; one step; a run (RUN.1).
-use Rattle.std.specs.Prelude.{ℕ, Bool, List, [], ◌∷◌}
+use Rattle.std.specs.Prelude.{ℕ, Bool, List, [], ◌∷◌, Ok, Err}
 use Rattle.hnsr_body.specs.declared.values.ReservationId.{ReservationId}
 use Rattle.hnsr_circuit.specs.declared.config.OpaqueRelayConfig.{OpaqueRelayConfig}
-use Rattle.hnsr_circuit.specs.declared.answer.HnsrAnswer.{HnsrAnswer}
-use Rattle.hnsr_circuit.specs.declared.answer.HnsrAnswer.TheVariants.{Taken, Refused}
+use Rattle.hnsr_circuit.specs.Answers.{HnsrAnswer}
 use Rattle.hnsr_circuit.specs.World.{World, Outcome}
 use Rattle.hnsr_circuit.specs.Packet.{Packet}
 use Rattle.hnsr_circuit.specs.Handle.{handle}
@@ -72,8 +71,8 @@ steps w (c ∷ cs) = let o = step w c in o ∷ steps o.world cs
 
 -- RUN.1: a run
 unfoldable pub run_after : HnsrAnswer → World → List Call → List Outcome
-run_after Taken w calls = steps w calls
-run_after (Refused e) w calls = []
+run_after (Ok _) w calls = steps w calls
+run_after (Err e) w calls = []
 
 unfoldable pub run : World → Start → List Call → List Outcome
 run w s calls = let o = start w s in o ∷ run_after o.answer o.world calls

@@ -1,14 +1,12 @@
 -- CLOSE and ERROR (CLOSE.1 to CLOSE.12). A refusal behind the end leaves it ended.
-use Rattle.std.specs.Prelude.{ℕ, cond, leb}
+use Rattle.std.specs.Prelude.{ℕ, cond, leb, Ok}
 use Rattle.hnsr_body.specs.Detail.{decode_detail}
 use Rattle.hnsr_circuit.specs.declared.records.RelayPending.{RelayPending}
 use Rattle.hnsr_circuit.specs.declared.records.RelayCircuit.{RelayCircuit}
-use Rattle.hnsr_circuit.specs.declared.answer.HnsrAnswer.{HnsrAnswer}
-use Rattle.hnsr_circuit.specs.declared.answer.HnsrAnswer.TheVariants.{Taken}
 use Rattle.hnsr_circuit.specs.declared.answer.HnsrRuntimeError.TheVariants.{InvalidAdmission}
 use Rattle.hns_encoding.specs.Sums.{count}
 use Rattle.hnsr_circuit.specs.Table.{any, pick}
-use Rattle.hnsr_circuit.specs.Answers.{check, body_answer, ◌then◌}
+use Rattle.hnsr_circuit.specs.Answers.{HnsrAnswer, check, body_answer, ◌then◌}
 use Rattle.hnsr_circuit.specs.Peer.{same_peer}
 use Rattle.hnsr_circuit.specs.Pending.{no_pending, named_by}
 use Rattle.hnsr_circuit.specs.declared.records.InflightKind.TheVariants.{Close}
@@ -24,7 +22,7 @@ detail_answer q = body_answer (decode_detail q.body).result
 
 -- 11 (CLOSE.2). What is pending and named comes before a circuit (CLOSE.10); else 14, 15 (CLOSE.3, CLOSE.4)
 unfoldable pub close_answer : (matches : ℕ) → (circuit : HnsrAnswer) → HnsrAnswer
-close_answer matches circuit = check (leb 2 matches) InvalidAdmission then cond (leb 1 matches) Taken circuit
+close_answer matches circuit = check (leb 2 matches) InvalidAdmission then cond (leb 1 matches) (Ok tt) circuit
 
 -- ---- CLOSE.11: each side hears the number that it knows
 unfoldable pub translated : Packet → RelayPending → Message

@@ -1,5 +1,4 @@
 -- A name as the code is lent it, what a scan asks, and what a lookup finds
-pub mod Names
 pub mod Question
 pub mod Lookup
 pub mod Turns
@@ -11,7 +10,6 @@ pub mod Queueing
 pub mod Message
 pub mod Plans
 pub mod Opening
-pub mod Settling
 pub mod Revoking
 -- What `status`, `next_due` and `new` hand back
 pub mod Told

@@ -1,9 +1,8 @@
 -- The configuration (CFG): defaults, bounds, and what `validate` refuses.
 use Rattle.std.specs.Prelude.{ℕ, Bool, not, ◌&&◌, leb}
 use Rattle.hnsr_circuit.specs.declared.config.OpaqueRelayConfig.{OpaqueRelayConfig}
-use Rattle.hnsr_circuit.specs.declared.answer.HnsrAnswer.{HnsrAnswer}
 use Rattle.hnsr_circuit.specs.declared.answer.HnsrRuntimeError.TheVariants.{InvalidConfig}
-use Rattle.hnsr_circuit.specs.Answers.{check}
+use Rattle.hnsr_circuit.specs.Answers.{HnsrAnswer, check}
 
 abbrev pub max_runtime_pending : ℕ
 max_runtime_pending = 65536

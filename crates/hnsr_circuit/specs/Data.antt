@@ -8,11 +8,10 @@ use Rattle.hnsr_circuit.specs.declared.config.OpaqueRelayConfig.{OpaqueRelayConf
 use Rattle.hnsr_circuit.specs.declared.records.RelayCircuit.{RelayCircuit}
 use Rattle.hnsr_circuit.specs.declared.records.RelaySide.{RelaySide}
 use Rattle.hnsr_circuit.specs.declared.records.ReservationUsage.{ReservationUsage}
-use Rattle.hnsr_circuit.specs.declared.answer.HnsrAnswer.{HnsrAnswer}
 use Rattle.hnsr_circuit.specs.declared.answer.HnsrRuntimeError.TheVariants.{InvalidAdmission}
 use Rattle.hnsr_circuit.specs.declared.answer.HnsrRuntimeError.TheVariants.{FlowControl, ByteLimit}
 use Rattle.hnsr_circuit.specs.Table.{edit}
-use Rattle.hnsr_circuit.specs.Answers.{check, body_answer, ◌then◌}
+use Rattle.hnsr_circuit.specs.Answers.{HnsrAnswer, check, body_answer, ◌then◌}
 use Rattle.hnsr_circuit.specs.Circuits.{circuit_at, side_of, other_side, credit_of, queued_to, charged}
 use Rattle.hnsr_circuit.specs.Ledger.{usage_at, has_usage, usage_of, spent}
 use Rattle.hnsr_circuit.specs.declared.records.InflightKind.TheVariants.{Data}

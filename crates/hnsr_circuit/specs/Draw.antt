@@ -3,10 +3,9 @@ use Rattle.std.specs.Prelude.{ℕ, zero, suc, ◌+◌, ◌/◌, Bool, true, fals
 use Rattle.std.specs.Prelude.{◌||◌, List, [], ◌∷◌, eqb, leb, length, take, drop}
 use Rattle.hns_encoding.specs.Bytes.{be}
 use Rattle.hnsr_circuit.specs.declared.messages.draw.Drawing.{Drawing}
-use Rattle.hnsr_circuit.specs.declared.answer.HnsrAnswer.{HnsrAnswer}
 use Rattle.hnsr_circuit.specs.declared.answer.HnsrRuntimeError.TheVariants.{Randomness}
 use Rattle.hnsr_circuit.specs.Table.{any}
-use Rattle.hnsr_circuit.specs.Answers.{check}
+use Rattle.hnsr_circuit.specs.Answers.{HnsrAnswer, check}
 use Rattle.hnsr_circuit.specs.Pending.{pending_at}
 use Rattle.hnsr_circuit.specs.Circuits.{circuit_at}
 use Rattle.hnsr_circuit.specs.World.{World}

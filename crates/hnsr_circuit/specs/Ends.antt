@@ -1,7 +1,5 @@
 -- The ends of used records, in the words of the theorems about next due and `expire`.
-use Rattle.std.specs.Prelude.{ℕ, ◌≡◌, Bool, true, false, ◌&&◌, ◌||◌, leb, ltb, eqb}
-use Rattle.hnsr_circuit.specs.declared.runtime.NextDue.{NextDue}
-use Rattle.hnsr_circuit.specs.declared.runtime.NextDue.TheVariants.{Never, At}
+use Rattle.std.specs.Prelude.{ℕ, ◌≡◌, Bool, true, false, ◌&&◌, ◌||◌, leb, ltb, eqb, Option, None, Some}
 use Rattle.hnsr_circuit.specs.Table.{any}
 use Rattle.hnsr_circuit.specs.Pending.{is_pending}
 use Rattle.hnsr_circuit.specs.Circuits.{is_circuit}
@@ -10,9 +8,9 @@ use Rattle.hnsr_circuit.specs.World.{World}
 use Rattle.hnsr_circuit.specs.NextDue.{deadline_of, expiry_of, usage_expiry_of}
 
 -- later than now; never is
-abbrev pub later : (now : ℕ) → NextDue → Bool
-later now Never = true
-later now (At n) = ltb now n
+abbrev pub later : (now : ℕ) → Option ℕ → Bool
+later now None = true
+later now (Some n) = ltb now n
 
 -- a used record that ends at n; one that ends not after now
 module _ {A : Type 0} (used : A → Bool) (time : A → ℕ) where

@@ -4,9 +4,8 @@ use Rattle.hnsr_body.specs.Messages.{notice_size}
 use Rattle.hnsr_body.specs.Packet.{packet_checked}
 use Rattle.hnsr_body.specs.Data.{most_data}
 use Rattle.hnsr_circuit.specs.declared.config.OpaqueRelayConfig.{OpaqueRelayConfig}
-use Rattle.hnsr_circuit.specs.declared.answer.HnsrAnswer.{HnsrAnswer}
 use Rattle.hnsr_circuit.specs.declared.answer.HnsrRuntimeError.TheVariants.{InvalidPeer, ClockRollback, Short}
-use Rattle.hnsr_circuit.specs.Answers.{check, body_answer}
+use Rattle.hnsr_circuit.specs.Answers.{HnsrAnswer, check, body_answer}
 use Rattle.hnsr_circuit.specs.Peer.{peer_good}
 use Rattle.hns_encoding.specs.Words.{word_count}
 use Rattle.hnsr_circuit.specs.Route.{head_words}

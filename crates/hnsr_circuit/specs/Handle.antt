@@ -1,8 +1,7 @@
 -- `handle`: entry, clock, gate, and then the message that the opcode names (HANDLE.1 to HANDLE.5).
 use Rattle.std.specs.Prelude.{ℕ, Bool, cond, not, eqb, length}
-use Rattle.hnsr_circuit.specs.declared.answer.HnsrAnswer.{HnsrAnswer}
 use Rattle.hnsr_circuit.specs.declared.answer.HnsrRuntimeError.TheVariants.{Disabled, UnexpectedOpcode}
-use Rattle.hnsr_circuit.specs.Answers.{check, ◌then◌}
+use Rattle.hnsr_circuit.specs.Answers.{HnsrAnswer, check, ◌then◌}
 use Rattle.hnsr_circuit.specs.World.{World, Outcome, refuse, proceed, at_time}
 use Rattle.hnsr_circuit.specs.Opcode.{op_open, op_accept, op_data, op_window, op_close, op_error}
 use Rattle.hnsr_circuit.specs.Entry.{handle_words, room_answer, peer_answer, packet_answer, clock_answer}

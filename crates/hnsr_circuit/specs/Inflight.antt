@@ -8,11 +8,10 @@ use Rattle.hnsr_circuit.specs.declared.records.InflightKind.{InflightKind}
 use Rattle.hnsr_circuit.specs.declared.records.InflightKind.TheVariants.{Incoming, Opened, Data, Control, Close}
 use Rattle.hnsr_circuit.specs.declared.records.RelaySide.{RelaySide}
 use Rattle.hnsr_circuit.specs.declared.records.RelaySide.TheVariants.{Requester, Endpoint}
-use Rattle.hnsr_circuit.specs.declared.answer.HnsrAnswer.{HnsrAnswer}
 use Rattle.hnsr_circuit.specs.declared.answer.HnsrRuntimeError.TheVariants.{Capacity}
 use Rattle.hns_encoding.specs.Sums.{count}
 use Rattle.hnsr_circuit.specs.Table.{also, clear}
-use Rattle.hnsr_circuit.specs.Answers.{check}
+use Rattle.hnsr_circuit.specs.Answers.{HnsrAnswer, check}
 use Rattle.hnsr_circuit.specs.Peer.{no_peer, same_peer}
 
 -- a record in use; its mark replaced

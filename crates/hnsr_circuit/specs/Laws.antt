@@ -16,7 +16,6 @@ pub mod Peer
 pub mod Inflight
 pub mod Keys
 pub mod Route
-pub mod Names
 pub mod Scans
 pub mod Turns
 pub mod Held

@@ -6,10 +6,9 @@ use Rattle.hnsr_body.specs.declared.values.ReservationId.{ReservationId}
 use Rattle.hnsr_body.specs.Values.{same_reservation}
 use Rattle.hnsr_circuit.specs.declared.records.RelayTicket.{RelayTicket}
 use Rattle.hnsr_circuit.specs.declared.records.ReservationUsage.{ReservationUsage}
-use Rattle.hnsr_circuit.specs.declared.answer.HnsrAnswer.{HnsrAnswer}
 use Rattle.hnsr_circuit.specs.declared.answer.HnsrRuntimeError.TheVariants.{ByteLimit, LedgerFull}
 use Rattle.hnsr_circuit.specs.Table.{any, pick, put, clear}
-use Rattle.hnsr_circuit.specs.Answers.{check}
+use Rattle.hnsr_circuit.specs.Answers.{HnsrAnswer, check}
 use Rattle.hnsr_circuit.specs.Pending.{no_reservation}
 
 -- a record in use of which nothing is spent; its mark and its bytes replaced

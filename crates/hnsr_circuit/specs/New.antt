@@ -3,10 +3,9 @@ use Rattle.std.specs.Prelude.{ℕ, ◌||◌, List, [], eqb, length}
 use Rattle.hns_encoding.specs.Bytes.{all_zero}
 use Rattle.hnsr_circuit.specs.declared.config.OpaqueRelayConfig.{OpaqueRelayConfig}
 use Rattle.hnsr_circuit.specs.declared.runtime.OpaqueRelayRuntime.{OpaqueRelayRuntime}
-use Rattle.hnsr_circuit.specs.declared.answer.HnsrAnswer.{HnsrAnswer}
 use Rattle.hnsr_circuit.specs.declared.answer.HnsrRuntimeError.TheVariants.{InvalidSession, Short}
 use Rattle.hnsr_circuit.specs.Table.{clear}
-use Rattle.hnsr_circuit.specs.Answers.{check, ◌then◌}
+use Rattle.hnsr_circuit.specs.Answers.{HnsrAnswer, check, ◌then◌}
 use Rattle.hnsr_circuit.specs.Config.{validate_config}
 use Rattle.hnsr_circuit.specs.Pending.{is_pending, clear_pending}
 use Rattle.hnsr_circuit.specs.Circuits.{is_circuit, clear_circuit}

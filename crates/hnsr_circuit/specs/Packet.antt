@@ -3,10 +3,9 @@ use Rattle.std.specs.Prelude.{ℕ, Bool, not, List}
 use Rattle.hnsr_circuit.specs.declared.peer.HnsrPeerId.{HnsrPeerId}
 use Rattle.hnsr_circuit.specs.declared.records.RelayTicket.{RelayTicket}
 use Rattle.hnsr_circuit.specs.declared.records.RelayCircuit.{RelayCircuit}
-use Rattle.hnsr_circuit.specs.declared.answer.HnsrAnswer.{HnsrAnswer}
 use Rattle.hnsr_circuit.specs.declared.answer.HnsrRuntimeError.TheVariants.{UnknownCircuit, WrongPeer}
 use Rattle.hnsr_circuit.specs.Table.{any, pick}
-use Rattle.hnsr_circuit.specs.Answers.{check, ◌then◌}
+use Rattle.hnsr_circuit.specs.Answers.{HnsrAnswer, check, ◌then◌}
 use Rattle.hnsr_circuit.specs.Peer.{peer_of}
 use Rattle.hnsr_circuit.specs.Circuits.{no_circuit, circuit_at, is_side, side_of, other_side, peer_at}
 use Rattle.hnsr_circuit.specs.declared.records.InflightKind.{InflightKind}

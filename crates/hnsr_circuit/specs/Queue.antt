@@ -1,7 +1,7 @@
 -- Queueing (QUEUE.1, QUEUE.3, QUEUE.6 to QUEUE.8; Inflight has the others): a message becomes a route and an
 -- outstanding action.
 -- The last step of a call sends, and can be refused; a revocation tells, and leaves out what cannot be sent.
-use Rattle.std.specs.Prelude.{ℕ, ◌+◌, Bool, true, false, List, [], ◌∷◌, ◌++◌, eqb}
+use Rattle.std.specs.Prelude.{ℕ, ◌+◌, Bool, true, false, List, [], ◌∷◌, ◌++◌, eqb, Ok, Err}
 use Rattle.hns_encoding.specs.Numbers.{top}
 use Rattle.hnsr_body.specs.declared.error.HnsrInvalid.TheVariants.{ContextZero}
 use Rattle.hnsr_body.specs.declared.error.HnsrProtocolError.TheVariants.{Invalid}
@@ -9,11 +9,9 @@ use Rattle.hnsr_circuit.specs.declared.peer.HnsrPeerId.{HnsrPeerId}
 use Rattle.hnsr_circuit.specs.declared.config.OpaqueRelayConfig.{OpaqueRelayConfig}
 use Rattle.hnsr_circuit.specs.declared.records.InflightAction.{InflightAction}
 use Rattle.hnsr_circuit.specs.declared.tables.scan.InflightTally.{InflightTally}
-use Rattle.hnsr_circuit.specs.declared.answer.HnsrAnswer.{HnsrAnswer}
-use Rattle.hnsr_circuit.specs.declared.answer.HnsrAnswer.TheVariants.{Taken, Refused}
 use Rattle.hnsr_circuit.specs.declared.answer.HnsrRuntimeError.TheVariants.{Protocol, GenerationExhausted}
 use Rattle.hnsr_circuit.specs.Table.{put}
-use Rattle.hnsr_circuit.specs.Answers.{check, ◌then◌}
+use Rattle.hnsr_circuit.specs.Answers.{HnsrAnswer, check, ◌then◌}
 use Rattle.hnsr_circuit.specs.declared.records.InflightKind.{InflightKind}
 use Rattle.hnsr_circuit.specs.Inflight.{action_record, kind_number, is_action, action_at, tallied, capacity_answer}
 use Rattle.hnsr_circuit.specs.Route.{Route}
@@ -114,8 +112,8 @@ finished s = done s.world s.routes
 
 -- QUEUE.8: what cannot be queued is left out
 unfoldable pub tell_if : HnsrAnswer → Message → World → Sent
-tell_if Taken m w = record { world = queued m w; routes = routed m w ∷ [] }
-tell_if (Refused e) m w = silently w
+tell_if (Ok _) m w = record { world = queued m w; routes = routed m w ∷ [] }
+tell_if (Err e) m w = silently w
 
 unfoldable pub tell : Message → World → Sent
 tell m w = tell_if (can_queue m w) m w

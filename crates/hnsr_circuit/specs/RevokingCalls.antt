@@ -7,10 +7,9 @@ use Rattle.hnsr_body.specs.declared.messages.Notice.TheVariants.{PeerDisconnecte
 use Rattle.hnsr_body.specs.declared.messages.Notice.TheVariants.{AcceptanceExpired, TicketExpired, RelayDisabled}
 use Rattle.hnsr_circuit.specs.declared.peer.HnsrPeerId.{HnsrPeerId}
 use Rattle.hnsr_circuit.specs.declared.records.RelayPending.{RelayPending}
-use Rattle.hnsr_circuit.specs.declared.answer.HnsrAnswer.{HnsrAnswer}
 use Rattle.hnsr_circuit.specs.declared.answer.HnsrRuntimeError.TheVariants.{GenerationExhausted}
 use Rattle.hnsr_circuit.specs.Table.{edit}
-use Rattle.hnsr_circuit.specs.Answers.{check, ◌then◌}
+use Rattle.hnsr_circuit.specs.Answers.{HnsrAnswer, check, ◌then◌}
 use Rattle.hnsr_circuit.specs.Peer.{peer_of, same_peer}
 use Rattle.hnsr_circuit.specs.Pending.{is_pending, pending_of, pending_under, pending_over}
 use Rattle.hnsr_circuit.specs.Circuits.{is_circuit, circuit_of, circuit_under, circuit_over}

@@ -4,10 +4,9 @@ use Rattle.hnsr_body.specs.Data.{decode_window, window_fields}
 use Rattle.hnsr_body.specs.Values.{most_window}
 use Rattle.hnsr_circuit.specs.declared.records.RelayCircuit.{RelayCircuit}
 use Rattle.hnsr_circuit.specs.declared.records.RelaySide.{RelaySide}
-use Rattle.hnsr_circuit.specs.declared.answer.HnsrAnswer.{HnsrAnswer}
 use Rattle.hnsr_circuit.specs.declared.answer.HnsrRuntimeError.TheVariants.{FlowControl}
 use Rattle.hnsr_circuit.specs.Table.{edit}
-use Rattle.hnsr_circuit.specs.Answers.{check, body_answer, ◌then◌}
+use Rattle.hnsr_circuit.specs.Answers.{HnsrAnswer, check, body_answer, ◌then◌}
 use Rattle.hnsr_circuit.specs.Circuits.{circuit_at, side_of, other_side, credit_of, raised}
 use Rattle.hnsr_circuit.specs.declared.records.InflightKind.TheVariants.{Control}
 use Rattle.hnsr_circuit.specs.Inflight.{tallied, capacity_answer}

@@ -1,17 +1,15 @@
 -- The world that a call is given and leaves: the runtime by value and the four lent tables; and what a call gives back.
-use Rattle.std.specs.Prelude.{ℕ, List, []}
+use Rattle.std.specs.Prelude.{ℕ, List, [], Option, Ok, Err}
 use Rattle.hnsr_circuit.specs.declared.config.OpaqueRelayConfig.{OpaqueRelayConfig}
 use Rattle.hnsr_circuit.specs.declared.records.RelayPending.{RelayPending}
 use Rattle.hnsr_circuit.specs.declared.records.RelayCircuit.{RelayCircuit}
 use Rattle.hnsr_circuit.specs.declared.records.ReservationUsage.{ReservationUsage}
 use Rattle.hnsr_circuit.specs.declared.records.InflightAction.{InflightAction}
-use Rattle.hnsr_circuit.specs.declared.runtime.NextDue.{NextDue}
 use Rattle.hnsr_circuit.specs.declared.runtime.OpaqueRelayRuntime.{OpaqueRelayRuntime}
 use Rattle.hnsr_circuit.specs.declared.runtime.RuntimeCounters.{RuntimeCounters}
 use Rattle.hnsr_circuit.specs.declared.runtime.HnsrRuntimeStatus.{HnsrRuntimeStatus}
 use Rattle.hnsr_circuit.specs.declared.answer.HnsrRuntimeError.{HnsrRuntimeError}
-use Rattle.hnsr_circuit.specs.declared.answer.HnsrAnswer.{HnsrAnswer}
-use Rattle.hnsr_circuit.specs.declared.answer.HnsrAnswer.TheVariants.{Taken, Refused}
+use Rattle.hnsr_circuit.specs.Answers.{HnsrAnswer}
 use Rattle.hnsr_circuit.specs.Route.{Route}
 use Rattle.hnsr_circuit.specs.Runtime.{with_clock, with_counters}
 
@@ -34,7 +32,7 @@ config_of w = w.runtime.config
 pub data Told : Type 0 where
   silent : Told
   status_is : HnsrRuntimeStatus → (capacity : ℕ) → Told
-  due_is : NextDue → Told
+  due_is : Option ℕ → Told
 
 pub record Outcome : Type 0 where
   pub world : World
@@ -43,19 +41,19 @@ pub record Outcome : Type 0 where
   pub told : Told
 
 abbrev pub refuse : World → HnsrRuntimeError → Outcome
-refuse w e = record { world = w; answer = Refused e; routes = []; told = silent }
+refuse w e = record { world = w; answer = Err e; routes = []; told = silent }
 
 abbrev pub done : World → List Route → Outcome
-done w routes = record { world = w; answer = Taken; routes = routes; told = silent }
+done w routes = record { world = w; answer = Ok tt; routes = routes; told = silent }
 
 abbrev pub telling : World → Told → Outcome
-telling w t = record { world = w; answer = Taken; routes = []; told = t }
+telling w t = record { world = w; answer = Ok tt; routes = []; told = t }
 
 -- the answer of a row, and what follows if it passes; a refusal leaves the world that it is given, so what stays after
 -- a refusal is always the world named in front of its row
 unfoldable pub proceed : World → HnsrAnswer → Outcome → Outcome
-proceed w Taken o = o
-proceed w (Refused e) o = refuse w e
+proceed w (Ok _) o = o
+proceed w (Err e) o = refuse w e
 
 -- ---- the world with one part replaced
 abbrev pub with_runtime : World → OpaqueRelayRuntime → World

@@ -1,9 +1,8 @@
 // The limits of a relay, each with its default and its bounds (CFG).
-ghost use Rattle.std.specs.Prelude.{◌≡◌, leb};
+ghost use Rattle.std.specs.Prelude.{◌≡◌};
 ghost use Rattle.hnsr_circuit.specs.Config.{within_limits, config_good, default_config, validate_config};
 
-use crate::answer::{HnsrAnswer, HnsrRuntimeError};
-use hns_encoding::logic::both;
+use crate::answer::{HnsrAnswer, HnsrRuntimeError, check};
 
 #[repr(C)]
 #[derive(Clone, Copy)]
@@ -20,22 +19,27 @@ pub struct OpaqueRelayConfig {
 }
 
 // Whether a number stands between two others, ends included.
+#[tactic(auto, unfolding(crate::specs::Config::within_limits))]
 fn within(low: u64, n: u64, high: u64) -> bool
     ensures { result ≡ within_limits low n high }
 {
-    if n < low {
-        return false;
-    }
-    n <= high
-}
-
-fn some(n: u64) -> bool
-    ensures { result ≡ leb 1 n }
-{
-    1 <= n
+    low <= n && n <= high
 }
 
 impl OpaqueRelayConfig {
+    // Not a configuration: what a refused `new` hands back.
+    pub(crate) const ZERO: Self = Self {
+        maximum_pending: 0,
+        maximum_circuits: 0,
+        maximum_circuits_per_peer: 0,
+        maximum_queue_bytes: 0,
+        maximum_inflight_actions: 0,
+        maximum_inflight_actions_per_circuit: 0,
+        maximum_inflight_actions_per_peer: 0,
+        maximum_bytes_per_circuit: 0,
+        accept_timeout_seconds: 0,
+    };
+
     pub const DEFAULT_PENDING: usize = 1_024;
 
     pub const DEFAULT_CIRCUITS: usize = 4_096;
@@ -62,66 +66,59 @@ impl OpaqueRelayConfig {
 
     pub const MAX_OPEN_DEADLINE_SECONDS: u64 = 10;
 
-    pub fn default() -> Self
-        ensures { result ≡ default_config }
-    {
-        Self {
-            maximum_pending: Self::DEFAULT_PENDING,
-            maximum_circuits: Self::DEFAULT_CIRCUITS,
-            maximum_circuits_per_peer: Self::MAX_CIRCUITS,
-            maximum_queue_bytes: Self::MAX_CIRCUIT_QUEUE,
-            maximum_inflight_actions: Self::DEFAULT_INFLIGHT_ACTIONS,
-            maximum_inflight_actions_per_circuit: Self::DEFAULT_INFLIGHT_ACTIONS_PER_CIRCUIT,
-            maximum_inflight_actions_per_peer: Self::DEFAULT_INFLIGHT_ACTIONS_PER_PEER,
-            maximum_bytes_per_circuit: Self::DEFAULT_BYTES_PER_CIRCUIT,
-            accept_timeout_seconds: Self::MAX_OPEN_DEADLINE_SECONDS,
-        }
-    }
-
     // What `validate` asks, limit by limit.
+    #[tactic(auto, unfolding(crate::specs::Config::config_good))]
     fn good(self) -> bool
         ensures { result ≡ config_good self }
     {
         let most = self.maximum_inflight_actions as u64;
         let per_circuit = self.maximum_inflight_actions_per_circuit as u64;
-        let pending = within(1, self.maximum_pending as u64, Self::MAX_RUNTIME_PENDING);
-        let circuits = within(1, self.maximum_circuits as u64, Self::MAX_RUNTIME_CIRCUITS);
-        let per_peer = within(
-            1,
-            self.maximum_circuits_per_peer as u64,
-            Self::MAX_CIRCUITS as u64,
-        );
-        let queue = within(
-            1,
-            self.maximum_queue_bytes as u64,
-            Self::MAX_CIRCUIT_QUEUE as u64,
-        );
-        let actions = within(1, most, Self::MAX_RUNTIME_INFLIGHT_ACTIONS);
-        let under = within(Self::LEAST_INFLIGHT_ACTIONS_PER_CIRCUIT, per_circuit, most);
-        let toward = within(
-            per_circuit,
-            self.maximum_inflight_actions_per_peer as u64,
-            most,
-        );
-        let bytes = some(self.maximum_bytes_per_circuit);
-        let timeout = within(
-            1,
-            self.accept_timeout_seconds,
-            Self::MAX_OPEN_DEADLINE_SECONDS,
-        );
-        let sizes = both(both(both(pending, circuits), per_peer), queue);
-        both(
-            both(both(both(both(sizes, actions), under), toward), bytes),
-            timeout,
-        )
+        let per_peer = self.maximum_inflight_actions_per_peer as u64;
+        within(1, self.maximum_pending as u64, Self::MAX_RUNTIME_PENDING)
+            && within(1, self.maximum_circuits as u64, Self::MAX_RUNTIME_CIRCUITS)
+            && within(
+                1,
+                self.maximum_circuits_per_peer as u64,
+                Self::MAX_CIRCUITS as u64,
+            )
+            && within(
+                1,
+                self.maximum_queue_bytes as u64,
+                Self::MAX_CIRCUIT_QUEUE as u64,
+            )
+            && within(1, most, Self::MAX_RUNTIME_INFLIGHT_ACTIONS)
+            && within(Self::LEAST_INFLIGHT_ACTIONS_PER_CIRCUIT, per_circuit, most)
+            && within(per_circuit, per_peer, most)
+            && 1 <= self.maximum_bytes_per_circuit
+            && within(
+                1,
+                self.accept_timeout_seconds,
+                Self::MAX_OPEN_DEADLINE_SECONDS,
+            )
     }
 
+    #[tactic(auto, unfolding(crate::specs::Config::validate_config))]
     pub fn validate(self) -> HnsrAnswer
         ensures { result ≡ validate_config self }
     {
-        if self.good() {
-            return HnsrAnswer::Taken;
+        check(!self.good(), HnsrRuntimeError::InvalidConfig)
+    }
+}
+
+impl Default for OpaqueRelayConfig {
+    ghost is_default = { λ config. config ≡ default_config };
+
+    fn default() -> Self {
+        OpaqueRelayConfig {
+            maximum_pending: OpaqueRelayConfig::DEFAULT_PENDING,
+            maximum_circuits: OpaqueRelayConfig::DEFAULT_CIRCUITS,
+            maximum_circuits_per_peer: OpaqueRelayConfig::MAX_CIRCUITS,
+            maximum_queue_bytes: OpaqueRelayConfig::MAX_CIRCUIT_QUEUE,
+            maximum_inflight_actions: OpaqueRelayConfig::DEFAULT_INFLIGHT_ACTIONS,
+            maximum_inflight_actions_per_circuit: OpaqueRelayConfig::DEFAULT_INFLIGHT_ACTIONS_PER_CIRCUIT,
+            maximum_inflight_actions_per_peer: OpaqueRelayConfig::DEFAULT_INFLIGHT_ACTIONS_PER_PEER,
+            maximum_bytes_per_circuit: OpaqueRelayConfig::DEFAULT_BYTES_PER_CIRCUIT,
+            accept_timeout_seconds: OpaqueRelayConfig::MAX_OPEN_DEADLINE_SECONDS,
         }
-        HnsrAnswer::Refused(HnsrRuntimeError::InvalidConfig)
     }
 }

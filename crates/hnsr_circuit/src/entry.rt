@@ -6,9 +6,9 @@ ghost use Rattle.hnsr_circuit.specs.Acknowledge.{generation_answer};
 use crate::answer::{HnsrAnswer, HnsrRuntimeError, check};
 use crate::config::OpaqueRelayConfig;
 use crate::peer::MAXIMUM_PEER;
-use hns_encoding::logic::{both, either, no};
 
 // 22 by tables (ENTRY.1); the ledger has no maximum (ENTRY.6).
+#[tactic(auto, unfolding(crate::specs::Entry::too_few))]
 pub(crate) fn too_few(
     config: OpaqueRelayConfig,
     pending: usize,
@@ -17,22 +17,22 @@ pub(crate) fn too_few(
 ) -> bool
     ensures { result ≡ too_few config pending circuits inflight }
 {
-    let records = either(
-        pending < config.maximum_pending,
-        circuits < config.maximum_circuits,
-    );
-    either(records, inflight < config.maximum_inflight_actions)
+    pending < config.maximum_pending
+        || circuits < config.maximum_circuits
+        || inflight < config.maximum_inflight_actions
 }
 
 // 4 (ENTRY.2): a name too short or too long
+#[tactic(auto, unfolding(crate::specs::Entry::peer_answer))]
 pub(crate) fn peer_answer(size: usize) -> HnsrAnswer
     ensures { result ≡ peer_answer size }
 {
-    let good = both(1 <= size, size <= MAXIMUM_PEER);
-    check(no(good), HnsrRuntimeError::InvalidPeer)
+    let good = 1 <= size && size <= MAXIMUM_PEER;
+    check(!good, HnsrRuntimeError::InvalidPeer)
 }
 
 // 7 (ENTRY.4): the time goes back
+#[tactic(auto, unfolding(crate::specs::Entry::clock_answer))]
 pub(crate) fn clock_answer(high: u64, now: u64) -> HnsrAnswer
     ensures { result ≡ clock_answer high now }
 {
@@ -40,8 +40,9 @@ pub(crate) fn clock_answer(high: u64, now: u64) -> HnsrAnswer
 }
 
 // 5 (ACK.1, SWITCH.1): another generation is current
+#[tactic(auto, unfolding(crate::specs::Acknowledge::generation_answer))]
 pub(crate) fn generation_answer(current: u64, given: u64) -> HnsrAnswer
     ensures { result ≡ generation_answer current given }
 {
-    check(no(given == current), HnsrRuntimeError::StaleGeneration)
+    check(given != current, HnsrRuntimeError::StaleGeneration)
 }

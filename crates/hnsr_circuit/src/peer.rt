@@ -1,10 +1,8 @@
 // A peer's name: 1 to MAXIMUM_PEER bytes, zero padded when the relay stores it.
-ghost use Rattle.std.specs.Prelude.{◌≡◌, true, false, not, ◌&&◌, ◌||◌, ◌≤◌, ltb, eqb};
-ghost use Rattle.hnsr_circuit.specs.Peer.{maximum_peer, no_peer, peer_length, peer_of, same_peer};
-ghost use Rattle.hnsr_circuit.specs.Code.Names.{Full, name_in};
-
-use hns_encoding::logic::{either, no};
-use hns_encoding::numbers::min_usize;
+ghost use Rattle.std.specs.Prelude.{◌≡◌, ◌≤◌, ◌||◌, true, false, length};
+ghost use Rattle.hns_encoding.specs.Cursor.{written_at};
+ghost use Rattle.hnsr_circuit.specs.Peer.{no_peer, peer_length, peer_bytes, peer_of, same_bytes, same_peer};
+ghost use Rattle.hnsr_circuit.specs.Laws.Peer.{same_equivalence, same_partial};
 
 // The one limit: the words of a peer, of a route and the outputs that the calls need follow from it.
 pub const MAXIMUM_PEER: usize = 128;
@@ -16,154 +14,143 @@ pub struct HnsrPeerId {
     pub bytes: [u8; MAXIMUM_PEER],
 }
 
+// What stands behind a name is never read: two are equal where their names are.
+impl PartialEq for HnsrPeerId {
+    ghost eq = { same_peer };
+
+    ghost laws = { same_partial };
+
+    fn eq(&self, other: &Self) -> bool {
+        same_names(self.name(), other.name())
+    }
+}
+
+impl Eq for HnsrPeerId {
+    ghost laws = { same_equivalence };
+}
+
+impl HnsrPeerId {
+    pub(crate) const NOBODY: Self = Self {
+        len: 0,
+        bytes: [0; MAXIMUM_PEER],
+    };
+
+    // The stored form of a name that the host gives.
+    pub(crate) fn new(name: &[u8]) -> Self
+        ensures { result ≡ peer_of name.now }
+    {
+        let mut bytes = [0; MAXIMUM_PEER];
+        let most = name.len().min(MAXIMUM_PEER);
+        put_front(&mut bytes, &name[..most]);
+        Self {
+            len: name.len(),
+            bytes,
+        }
+    }
+
+    // A length over the most reads as the most.
+    pub(crate) fn length(&self) -> usize
+        ensures { result ≡ peer_length self.now }
+    {
+        self.len.min(MAXIMUM_PEER)
+    }
+
+    pub(crate) fn name(&self) -> &[u8]
+        ensures { result.now ≡ peer_bytes self.now }
+    {
+        &self.bytes[..self.length()]
+    }
+}
+
+// A name over the front of as many bytes or more.
+fn put_front(bytes: &mut [u8], name: &[u8])
+    requires { length name.now ≤ length bytes.old }
+    ensures { bytes.new ≡ written_at bytes.old 0 name.now }
+{
+    bytes[..name.len()].copy_from_slice(name);
+}
+
+// Whether a byte within two names of one length tells them apart.
+fn differ_at(a: &[u8], b: &[u8], k: usize) -> bool
+    requires { length a.now ≡ length b.now }
+    ensures { result ≡ true → same_bytes a.now b.now ≡ false }
+{
+    k < a.len() && a[k] != b[k]
+}
+
+// Whether one of four bytes does: names that are numbered have their number behind.
+fn soon_differ(a: &[u8], b: &[u8]) -> bool
+    requires { length a.now ≡ length b.now }
+    ensures { result ≡ true → same_bytes a.now b.now ≡ false }
+{
+    differ_at(a, b, 15) || differ_at(a, b, 11) || differ_at(a, b, 7) || differ_at(a, b, 0)
+}
+
+// Whether all bytes of two names of one length are the same. All are read, so that many can be compared at a time.
+fn all_same(a: &[u8], b: &[u8]) -> bool
+    requires { length a.now ≡ length b.now }
+    ensures { result ≡ same_bytes a.now b.now }
+{
+    let mut same = true;
+    for (i, x) in a.iter().enumerate() {
+        if *x != b[i] {
+            same = false;
+        }
+    }
+    same
+}
+
+// Two names where they stand.
+fn same_names(a: &[u8], b: &[u8]) -> bool
+    ensures { result ≡ same_bytes a.now b.now }
+{
+    if a.len() != b.len() {
+        return false;
+    }
+    !soon_differ(a, b) && all_same(a, b)
+}
+
+// ---- the same by older names
+
 pub(crate) fn no_peer() -> HnsrPeerId
     ensures { result ≡ no_peer }
 {
-    HnsrPeerId {
-        len: 0,
-        bytes: [0u8; MAXIMUM_PEER],
-    }
+    HnsrPeerId::NOBODY
 }
 
-// A length over the most reads as the most.
 pub(crate) fn peer_length(peer: HnsrPeerId) -> usize
     ensures { result ≡ peer_length peer }
 {
-    min_usize(peer.len, MAXIMUM_PEER)
+    peer.length()
 }
 
-// The stored form of a name that the host gives.
 pub(crate) fn peer_of(name: &[u8]) -> HnsrPeerId
     ensures { result ≡ peer_of name.now }
 {
-    let mut bytes = [0u8; MAXIMUM_PEER];
-    let most = min_usize(name.len(), MAXIMUM_PEER);
-    let mut i: usize = 0;
-    while i < most {
-        bytes[i] = name[i];
-        i += 1;
-    }
-    HnsrPeerId {
-        len: name.len(),
-        bytes,
-    }
+    HnsrPeerId::new(name)
 }
-
-// ---- whether two names are equal; what stands behind a name is never read
 
 pub(crate) fn same_peer(a: HnsrPeerId, b: HnsrPeerId) -> bool
     ensures { result ≡ same_peer a b }
 {
-    let n = peer_length(a);
-    if n != peer_length(b) {
-        return false;
-    }
-    let mut i: usize = 0;
-    while i < n {
-        if a.bytes[i] != b.bytes[i] {
-            return false;
-        }
-        i += 1;
-    }
-    true
+    a == b
 }
 
-// Whether one of two names is the peer's.
 pub fn either_is(a: HnsrPeerId, b: HnsrPeerId, peer: HnsrPeerId) -> bool
     ensures { result ≡ (same_peer a peer || same_peer b peer) }
 {
-    if same_peer(a, peer) {
-        return true;
-    }
-    same_peer(b, peer)
-}
-
-// ---- the same of names that stand in records: none is copied
-
-// Whether the byte at a place within the names differs.
-fn differs(k: usize, n: usize, x: u8, y: u8) -> bool
-    ensures { result ≡ (ltb k n && not (eqb x y)) }
-{
-    if k < n {
-        return x != y;
-    }
-    false
-}
-
-// Whether one of four bytes tells two names of n bytes apart; names that are numbered have their number behind.
-fn soon_differ(a: &[u8; MAXIMUM_PEER], b: &[u8; MAXIMUM_PEER], n: usize) -> bool
-    requires { n ≤ maximum_peer }
-    ensures { result ≡ true → same_peer (name_in n a.now) (name_in n b.now) ≡ false }
-{
-    if differs(15, n, a[15], b[15]) {
-        return true;
-    }
-    if differs(11, n, a[11], b[11]) {
-        return true;
-    }
-    if differs(7, n, a[7], b[7]) {
-        return true;
-    }
-    differs(0, n, a[0], b[0])
-}
-
-// Whether any of the n bytes does. All are read, so that many can be compared at a time.
-fn bytes_differ(a: &[u8; MAXIMUM_PEER], b: &[u8; MAXIMUM_PEER], n: usize) -> bool
-    requires { Full a.now × Full b.now × (n ≤ maximum_peer) }
-    ensures { result ≡ not (same_peer (name_in n a.now) (name_in n b.now)) }
-{
-    let mut differ = false;
-    let mut i: usize = 0;
-    while i < n {
-        differ = either(differ, a[i] != b[i]);
-        i += 1;
-    }
-    differ
-}
-
-// Two names where they stand, by their bytes and their lengths.
-fn same_names(a: &[u8; MAXIMUM_PEER], n: usize, b: &[u8; MAXIMUM_PEER], m: usize) -> bool
-    requires { Full a.now × Full b.now }
-    ensures { result ≡ same_peer (name_in n a.now) (name_in m b.now) }
-{
-    let length = min_usize(n, MAXIMUM_PEER);
-    if length != min_usize(m, MAXIMUM_PEER) {
-        return false;
-    }
-    if soon_differ(a, b, length) {
-        return false;
-    }
-    no(bytes_differ(a, b, length))
-}
-
-pub(crate) fn length_in_name(p: &HnsrPeerId) -> usize
-    ensures { (result ≡ p.now.len) × Full p.now.bytes }
-{
-    p.len
-}
-
-pub(crate) fn bytes_in_name<'a>(p: &'a HnsrPeerId) -> &'a [u8; MAXIMUM_PEER]
-    ensures { result.now ≡ p.now.bytes }
-{
-    &p.bytes
+    a == peer || b == peer
 }
 
 pub fn same_in_place(a: &HnsrPeerId, b: &HnsrPeerId) -> bool
     ensures { result ≡ same_peer a.now b.now }
 {
-    let n = length_in_name(a);
-    let m = length_in_name(b);
-    let x = bytes_in_name(a);
-    let y = bytes_in_name(b);
-    same_names(x, n, y, m)
+    a == b
 }
 
 pub(crate) fn either_in_place(a: &HnsrPeerId, b: &HnsrPeerId, peer: &HnsrPeerId) -> bool
     ensures { result
         ≡ (same_peer a.now peer.now || same_peer b.now peer.now) }
 {
-    if same_in_place(a, peer) {
-        return true;
-    }
-    same_in_place(b, peer)
+    a == peer || b == peer
 }

@@ -1,19 +1,11 @@
 // What a host keeps beside the tables, by value, what it hands over with a packet, and what calls hand back.
-ghost use Rattle.std.specs.Prelude.{◌≡◌};
-ghost use Rattle.hnsr_circuit.specs.declared.answer.HnsrAnswer.TheVariants.{Taken};
+ghost use Rattle.std.specs.Prelude.{◌≡◌, Ok};
 
 use crate::answer::HnsrAnswer;
 use crate::config::OpaqueRelayConfig;
 use crate::peer::HnsrPeerId;
 use crate::records::RelayTicket;
 use crate::tables::places::Places;
-
-// The earliest time, if there is one.
-#[derive(Clone, Copy)]
-pub enum NextDue {
-    Never,
-    At(u64),
-}
 
 // A packet but for its body, the clock, and what the host says of an OPEN: whether the key is valid, whether it is
 // admitted, and its grant.
@@ -51,7 +43,7 @@ pub struct OpaqueRelayRuntime {
 }
 
 #[repr(C)]
-#[derive(Clone, Copy)]
+#[derive(Clone, Copy, Default)]
 pub struct HnsrRuntimeStatus {
     pub generation: u64,
     pub enabled: bool,
@@ -78,7 +70,7 @@ pub struct Request {
 }
 
 // What a call hands back: the answer, how many output words it wrote, and for the host to keep the runtime and the
-// places in use.
+// places in use. These come with a refusal too (the clock may have moved), so that the answer is a field.
 #[derive(Clone, Copy)]
 pub struct Relayed {
     pub runtime: OpaqueRelayRuntime,
@@ -95,19 +87,12 @@ pub struct Sending {
     pub places: Places,
 }
 
-// What `status` and `next_due` hand back: the answer, and what they tell where it is taken. Beside the Rust's fields
-// `status` tells how many further actions fit for the peer and the circuit that it was asked for.
+// What `status` tells. Beside the Rust's fields: how many further actions fit for the peer and the circuit that it was
+// asked for.
 #[derive(Clone, Copy)]
 pub struct StatusTold {
-    pub answer: HnsrAnswer,
     pub status: HnsrRuntimeStatus,
     pub action_capacity: usize,
-}
-
-#[derive(Clone, Copy)]
-pub struct DueTold {
-    pub answer: HnsrAnswer,
-    pub due: NextDue,
 }
 
 pub(crate) fn refused(runtime: OpaqueRelayRuntime, places: Places, answer: HnsrAnswer) -> Relayed
@@ -122,11 +107,11 @@ pub(crate) fn refused(runtime: OpaqueRelayRuntime, places: Places, answer: HnsrA
 }
 
 pub(crate) fn taken_with(runtime: OpaqueRelayRuntime, places: Places) -> Relayed
-    ensures { ((result.runtime ≡ runtime) × (result.answer ≡ Taken) × (result.words ≡ 0)) × (result.places ≡ places) }
+    ensures { ((result.runtime ≡ runtime) × (result.answer ≡ Ok tt) × (result.words ≡ 0)) × (result.places ≡ places) }
 {
     Relayed {
         runtime,
-        answer: HnsrAnswer::Taken,
+        answer: Ok(()),
         words: 0,
         places,
     }

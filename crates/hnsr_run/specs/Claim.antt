@@ -1,13 +1,12 @@
 -- The run theorem (RUN.10): one claim about any list of calls from a taken `new`, refused ones included, over a
 -- machine: its `new` and its step.
-use Rattle.std.specs.Prelude.{ℕ, ◌≤◌, ◌<◌, ◌≡◌, ◌↔◌, Bool, true, not, ◌&&◌, ◌||◌}
+use Rattle.std.specs.Prelude.{ℕ, ◌≤◌, ◌<◌, ◌≡◌, ◌↔◌, Bool, true, not, ◌&&◌, ◌||◌, Ok}
 use Rattle.std.specs.Prelude.{List, [], ◌∷◌, map, ltb, eqb, length, replicate}
 use Rattle.hns_encoding.specs.Numbers.{top}
 use Rattle.hns_encoding.specs.Sums.{total}
 use Rattle.hnsr_body.specs.Data.{most_data}
 use Rattle.hnsr_circuit.specs.declared.runtime.HnsrRuntimeStatus.{HnsrRuntimeStatus}
 use Rattle.hnsr_circuit.specs.declared.records.RelaySide.{RelaySide}
-use Rattle.hnsr_circuit.specs.declared.answer.HnsrAnswer.TheVariants.{Taken}
 use Rattle.hnsr_circuit.specs.World.{World, Outcome, status_is}
 use Rattle.hnsr_circuit.specs.Peer.{peer_good, peer_of, same_peer}
 use Rattle.hnsr_circuit.specs.Circuits.{other_side, queued_to}
@@ -54,7 +53,7 @@ pub record Sends (h : Past) (j : ℕ) (side : RelaySide) (q : Packet) (room : �
 
 -- it passes unchanged (RUN.9)
 pub record Passes (o : Outcome) (h : Past) (j : ℕ) (side : RelaySide) (q : Packet) : Type 0 where
-  pub taken : o.answer ≡ Taken
+  pub taken : o.answer ≡ Ok tt
   pub route : Route
   pub one : o.routes ≡ route ∷ []
   pub to : route.destination ≡ peer_on (other_side side) (h.known j)
@@ -87,7 +86,7 @@ module _ (step : World → Call → Outcome) where
     pub status : (peer : List ℕ) (circuit : ℕ) → peer_good (length peer) ≡ true
         → (s : HnsrRuntimeStatus)
         × (capacity : ℕ)
-        × ((step w (call_status peer circuit)).answer ≡ Taken)
+        × ((step w (call_status peer circuit)).answer ≡ Ok tt)
         × ((step w (call_status peer circuit)).told ≡ status_is s capacity)
         × (s.queued_actions ≡ length h.out)
         × (capacity ≡ capacity_left h.head.config (tally circuit (peer_of peer) h.out))
@@ -99,7 +98,7 @@ module _ (step : World → Call → Outcome) where
     -- and reservation have left
     pub acknowledged : (order : List Action) → Reordered order h.out → (rooms : Action → ℕ)
         → ((a : Action) → acknowledge_words ≤ rooms a)
-        → (map (λ e. e.answer) (events w (map (delivered rooms) order)) ≡ replicate (length order) Taken)
+        → (map (λ e. e.answer) (events w (map (delivered rooms) order)) ≡ replicate (length order) (Ok tt))
         × ((j : ℕ) → h.active j ≡ true → (side : RelaySide) (q : Packet) (room : ℕ) → Sends h j side q room
         → Passes (step (left_by w (map (delivered rooms) order)) (call_handle q room)) h j side q
         ↔ ((length q.body ≤ credit side (h.known j))
@@ -110,7 +109,7 @@ module _ (step : World → Call → Outcome) where
 pub record Run (m : Machine) : Type 0 where
   pub lent : World
   pub began : Start
-  pub new-taken : (m.new lent began).answer ≡ Taken
+  pub new-taken : (m.new lent began).answer ≡ Ok tt
   pub limit : began.config.maximum_bytes_per_circuit < top 64
   pub calls : List Call
   pub bounded : below (begin began) (events m.step (m.new lent began).world calls) ≡ true

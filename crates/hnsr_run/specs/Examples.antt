@@ -1,14 +1,12 @@
 -- History, worked out where a refused call leaves something behind, or where one number means two things. Of each run
 -- the machine's answers stand beside what the events tell; an answer that no run within the claim's bounds gives is
 -- handed to `after` by itself. At the end what next due tells.
-use Rattle.std.specs.Prelude.{ℕ, ◌≡◌, refl, Bool, true, false, List, [], ◌∷◌, ◌++◌, map}
+use Rattle.std.specs.Prelude.{ℕ, ◌≡◌, refl, Bool, true, false, List, [], ◌∷◌, ◌++◌, map, Err, None, Some}
 use Rattle.hnsr_body.specs.declared.messages.Notice.TheVariants.{PeerDisconnected}
 use Rattle.hnsr_body.specs.Messages.{notice_body}
-use Rattle.hnsr_circuit.specs.declared.answer.HnsrAnswer.TheVariants.{Refused}
 use Rattle.hnsr_circuit.specs.declared.answer.HnsrRuntimeError.TheVariants.{GenerationExhausted}
 use Rattle.hnsr_circuit.specs.declared.answer.HnsrRuntimeError.TheVariants.{ClockRollback, StaleGeneration}
 use Rattle.hnsr_circuit.specs.declared.records.RelayTicket.{RelayTicket}
-use Rattle.hnsr_circuit.specs.declared.runtime.NextDue.TheVariants.{Never, At}
 use Rattle.hnsr_circuit.specs.World.{Told, due_is}
 use Rattle.hnsr_circuit.specs.Route.{Route}
 use Rattle.hnsr_circuit.specs.Opcode.{op_error, op_close}
@@ -44,7 +42,7 @@ abbrev numbers : Past → List ℕ
 numbers h = map (λ a. a.sequence) h.out
 
 -- ---- ACCEPT refused with all written: the circuit is active, and INCOMING is dropped. In a run only 6 could do it
-pub accept_written : let h = after (past_after asked) (accepts 2 7 100) (Refused GenerationExhausted) [] in
+pub accept_written : let h = after (past_after asked) (accepts 2 7 100) (Err GenerationExhausted) [] in
     (circuits h ≡ true ∷ false ∷ []) × (pendings h ≡ false ∷ false ∷ []) × (numbers h ≡ [])
 unfolding machine lent not_admitted
 accept_written = (refl, refl, refl)
@@ -114,12 +112,12 @@ pub error-full : let calls = other_full ++ (fails 1 7 100 ∷ []) in
 unfolding machine lent not_admitted
 error-full = (refl, refl)
 
-pub close_exhausted : circuits (after (past_after standing) (closes 1 7 100) (Refused GenerationExhausted) [])
+pub close_exhausted : circuits (after (past_after standing) (closes 1 7 100) (Err GenerationExhausted) [])
     ≡ false ∷ false ∷ []
 unfolding machine lent not_admitted
 close_exhausted = refl
 
-pub error-exhausted : circuits (after (past_after standing) (fails 1 7 100) (Refused GenerationExhausted) [])
+pub error-exhausted : circuits (after (past_after standing) (fails 1 7 100) (Err GenerationExhausted) [])
     ≡ false ∷ false ∷ []
 unfolding machine lent not_admitted
 error-exhausted = refl
@@ -184,11 +182,11 @@ unfolding machine lent not_admitted
 open_meant_lem = (refl, refl, refl)
 
 -- ---- expire and replace_enabled refused: nothing changes
-pub expire_refused : after (past_after standing) (call_expire 99 ample) (Refused ClockRollback) [] ≡ past_after standing
+pub expire_refused : after (past_after standing) (call_expire 99 ample) (Err ClockRollback) [] ≡ past_after standing
 unfolding machine lent not_admitted
 expire_refused = refl
 
-pub replace_refused : after (past_after standing) (call_replace_enabled 2 false ample) (Refused StaleGeneration) []
+pub replace_refused : after (past_after standing) (call_replace_enabled 2 false ample) (Err StaleGeneration) []
     ≡ past_after standing
 unfolding machine lent not_admitted
 replace_refused = refl
@@ -199,7 +197,7 @@ unfolding machine lent not_admitted
 refused_answers = refl
 
 -- ---- DATA refused with 6, which the claim's bounds exclude: nothing is reckoned
-pub data_exhausted : after (past_after standing) (sends 1 7 40 100) (Refused GenerationExhausted) []
+pub data_exhausted : after (past_after standing) (sends 1 7 40 100) (Err GenerationExhausted) []
     ≡ past_after standing
 unfolding machine lent not_admitted
 data_exhausted = refl
@@ -262,9 +260,9 @@ waiting = standing ++ (opens 1 2 3 (8 ∷ []) (grant 5 4000) 100 ∷ [])
 abbrev woken : List Call
 woken = waiting ++ (expires 110 ∷ closes 1 7 110 ∷ [])
 
-pub wakes-twice : (due_after waiting ≡ due_is (At 110))
-    × (due_after (waiting ++ (expires 110 ∷ [])) ≡ due_is (At 1000))
-    × (due_after woken ≡ due_is (At 1000))
-    × (due_after (woken ++ (expires 1000 ∷ [])) ≡ due_is Never)
+pub wakes-twice : (due_after waiting ≡ due_is (Some 110))
+    × (due_after (waiting ++ (expires 110 ∷ [])) ≡ due_is (Some 1000))
+    × (due_after woken ≡ due_is (Some 1000))
+    × (due_after (woken ++ (expires 1000 ∷ [])) ≡ due_is None)
 unfolding machine lent not_admitted
 wakes-twice = (refl, refl, refl, refl)

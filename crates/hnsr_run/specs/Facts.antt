@@ -1,14 +1,13 @@
 -- What is known of the world that a run leaves, for work that builds on runs: first what is of the world alone, then
 -- how it agrees with history. Each is a theorem by itself, and its proof is in Run/. The list of calls is any, so these
 -- hold at every moment of a run.
-use Rattle.std.specs.Prelude.{ℕ, ◌+◌, ◌≤◌, ◌<◌, ◌≡◌, refl, true, false, not, List, ltb, eqb, length, replicate}
+use Rattle.std.specs.Prelude.{ℕ, ◌+◌, ◌≤◌, ◌<◌, ◌≡◌, refl, true, false, not, List, ltb, eqb, length, replicate, Ok, Err}
 use Rattle.std.proofs.Common.{arith, sym, ◌∙◌, subst}
 use Rattle.hns_encoding.specs.Numbers.{top}
 use Rattle.hns_encoding.specs.Sums.{only, total, count}
 use Rattle.hnsr_body.specs.declared.values.ReservationId.{ReservationId}
 use Rattle.hnsr_circuit.specs.declared.peer.HnsrPeerId.{HnsrPeerId}
 use Rattle.hnsr_circuit.specs.declared.records.RelaySide.{RelaySide}
-use Rattle.hnsr_circuit.specs.declared.answer.HnsrAnswer.TheVariants.{Taken, Refused}
 use Rattle.hnsr_circuit.specs.declared.answer.HnsrRuntimeError.TheVariants.{Capacity}
 use Rattle.hnsr_circuit.specs.Peer.{same_peer}
 use Rattle.hnsr_circuit.specs.Circuits.{credit_of, queued_to}
@@ -181,7 +180,7 @@ module _ (r : Run relay) where
       → told.head.next + length ms ≤ top 64
       → length ms ≡ capacity_left told.head.config (tally circuit peer told.out)
       → (m : Message) → Toward peer circuit m
-      → (answers_to left ms ≡ replicate (length ms) Taken) × ((send (sent_all left ms) m).answer ≡ Refused Capacity)
+      → (answers_to left ms ≡ replicate (length ms) (Ok tt)) × ((send (sent_all left ms) m).answer ≡ Err Capacity)
   fits_exactly peer circuit ms aimed low exact m last =
       exactly left ready peer circuit ms aimed (omega (arith, next-is)) (exact ∙ sym (capacity_is peer circuit)) m last
 

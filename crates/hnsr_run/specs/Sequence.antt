@@ -4,8 +4,7 @@ use Rattle.std.proofs.Common.{arith, sym, ap, eq-eqb, ne_eqb}
 use Rattle.std.specs.Bool.{beq}
 use Rattle.hns_encoding.specs.Laws.Tests.{choose}
 use Rattle.hnsr_circuit.specs.declared.config.OpaqueRelayConfig.{OpaqueRelayConfig}
-use Rattle.hnsr_circuit.specs.declared.answer.HnsrAnswer.{HnsrAnswer}
-use Rattle.hnsr_circuit.specs.Answers.{number}
+use Rattle.hnsr_circuit.specs.Answers.{HnsrAnswer, number}
 use Rattle.hnsr_circuit.specs.Table.{pick}
 use Rattle.hnsr_circuit.specs.declared.records.InflightKind.TheVariants.{Incoming, Close}
 use Rattle.hnsr_circuit.specs.Inflight.{kind_number}

@@ -15,7 +15,6 @@ use Rattle.hnsr_circuit.specs.Entry.{tables_answer, peer_answer}
 use Rattle.hnsr_circuit.specs.Packet.{Packet, circuit_in}
 use Rattle.hnsr_circuit.specs.Data.{handle_data}
 use Rattle.hnsr_circuit.specs.Status.{status_of, action_capacity, status}
-use Rattle.hnsr_circuit.specs.Worked.Cases.{lent}
 use Rattle.hnsr_circuit.specs.Call.{start, call_status, step}
 use Rattle.hnsr_circuit.specs.Pending.{pending_at}
 use Rattle.hnsr_circuit.specs.Circuits.{circuit_at, other_side, peer_at, credit_of}

@@ -1,9 +1,6 @@
 -- Beside the claim: two about a host that waits for next due before it calls `expire` (RUN.16, RUN.17).
-use Rattle.std.specs.Prelude.{ℕ, ◌+◌, ◌*◌, ◌≤◌, ◌<◌, ◌≡◌, ◌⊎◌, true, false, List, []}
+use Rattle.std.specs.Prelude.{ℕ, ◌+◌, ◌*◌, ◌≤◌, ◌<◌, ◌≡◌, ◌⊎◌, true, false, List, [], Option, None, Some, Ok}
 use Rattle.hnsr_body.specs.declared.values.ReservationId.{ReservationId}
-use Rattle.hnsr_circuit.specs.declared.runtime.NextDue.{NextDue}
-use Rattle.hnsr_circuit.specs.declared.runtime.NextDue.TheVariants.{Never, At}
-use Rattle.hnsr_circuit.specs.declared.answer.HnsrAnswer.TheVariants.{Taken}
 use Rattle.hnsr_circuit.specs.World.{World, Outcome, due_is, done, telling, at_time}
 use Rattle.hnsr_circuit.specs.Entry.{closing_words, revoking_words}
 use Rattle.hnsr_circuit.specs.Ends.{later, NoneUsed, OneEndsAt, NoneEndsBy}
@@ -15,27 +12,27 @@ use Rattle.hnsr_run.specs.Claim.{Machine, left_by, Run, world_at, past_at}
 module _ (step : World → Call → Outcome) where
   pub record Wakes (w : World) : Type 0 where
     -- next due is told, and telling it changes nothing
-    pub due : NextDue
+    pub due : Option ℕ
     pub told : step w call_next_due ≡ telling w (due_is due)
     -- it is none only where no record is used, else the end of a used one
-    pub none : due ≡ Never → NoneUsed w
-    pub one : (t : ℕ) → due ≡ At t → OneEndsAt w t
+    pub none : due ≡ None → NoneUsed w
+    pub one : (t : ℕ) → due ≡ Some t → OneEndsAt w t
     -- before it `expire`, with output long enough, is taken, sends nothing and changes nothing but the clock
     pub before : (now room : ℕ) → w.runtime.trusted_time_high_water ≤ now → later now due ≡ true
         → revoking_words w ≤ room
         → step w (call_expire now room) ≡ done (at_time w now) []
     -- after a taken `expire` it is none or later
-    pub after : (now room : ℕ) → (step w (call_expire now room)).answer ≡ Taken
-        → (d : NextDue)
+    pub after : (now room : ℕ) → (step w (call_expire now room)).answer ≡ Ok tt
+        → (d : Option ℕ)
         × ((step (step w (call_expire now room)).world call_next_due).told ≡ due_is d)
         × (later now d ≡ true)
     -- and no used record ends by then
-    pub ended : (now room : ℕ) → (step w (call_expire now room)).answer ≡ Taken
+    pub ended : (now room : ℕ) → (step w (call_expire now room)).answer ≡ Ok tt
         → NoneEndsBy (step w (call_expire now room)).world now
 
 -- any run from a taken `new`
 abbrev pub Waking : Machine → Type 0
-Waking m = (lent : World) (s : Start) → (m.new lent s).answer ≡ Taken → (calls : List Call)
+Waking m = (lent : World) (s : Start) → (m.new lent s).answer ≡ Ok tt → (calls : List Call)
     → Wakes m.step (left_by m.step (m.new lent s).world calls)
 
 -- ---- next due, `expire` and history
@@ -48,16 +45,16 @@ KnownEnd h t =
 
 module _ (step : World → Call → Outcome) where
   pub record Awaits (w : World) (h : Past) : Type 0 where
-    pub due : NextDue
+    pub due : Option ℕ
     pub told : (step w call_next_due).told ≡ due_is due
     -- it is not later than any end that history knows
     pub in_time : (t : ℕ) → KnownEnd h t → later t due ≡ false
     -- and one of them, as long as it is later than the clock
-    pub is_one : (t : ℕ) → due ≡ At t → h.head.clock < t → KnownEnd h t
+    pub is_one : (t : ℕ) → due ≡ Some t → h.head.clock < t → KnownEnd h t
     -- `expire`, not behind the clock and with output for as many records as there may be, is taken
     pub taken : (now room : ℕ) → h.head.clock ≤ now
         → closing_words * (h.head.config.maximum_pending + h.head.config.maximum_circuits) ≤ room
-        → (step w (call_expire now room)).answer ≡ Taken
+        → (step w (call_expire now room)).answer ≡ Ok tt
 
 -- a run within the bounds of RUN.11, as all that history tells
 abbrev pub Awaiting : Machine → Type 0

@@ -1,5 +1,6 @@
 -- The two claims about a host that waits for next due hold of the definition.
 use Rattle.std.specs.Prelude.{ℕ, ◌+◌, ◌*◌, ◌≤◌, ◌<◌, ◌≡◌, refl, ◌⊎◌, Bool, true, false, ◌||◌, List, leb, ltb, eqb}
+use Rattle.std.specs.Prelude.{Some, Ok}
 use Rattle.std.proofs.Common.{arith, ◌∙◌, subst}
 use Rattle.std.proofs.Math.Path.{sym, ap}
 use Rattle.std.proofs.Math.Logic.{inl, inr}
@@ -9,8 +10,6 @@ use Rattle.hns_encoding.specs.Sums.{count}
 use Rattle.hnsr_body.specs.declared.values.ReservationId.{ReservationId}
 use Rattle.hnsr_body.specs.Values.{same_reservation}
 use Rattle.hnsr_circuit.specs.declared.config.OpaqueRelayConfig.{OpaqueRelayConfig}
-use Rattle.hnsr_circuit.specs.declared.runtime.NextDue.TheVariants.{At}
-use Rattle.hnsr_circuit.specs.declared.answer.HnsrAnswer.TheVariants.{Taken}
 use Rattle.hnsr_circuit.specs.Table.{any, pick, also}
 use Rattle.hnsr_circuit.specs.Pending.{no_pending, is_pending, pending_at}
 use Rattle.hnsr_circuit.specs.Circuits.{no_circuit, is_circuit, circuit_at}
@@ -144,7 +143,7 @@ module _ (r : Run relay) where
       let alive = ledger-lives r i f.0 (ap (ltb clock) f.1 ∙ lt-ltb clock t l) in
       inr (inr (i, alive, sym (ledger-due r i alive) ∙ f.1))
 
-  is_one : (t : ℕ) → due_of w ≡ At t → (told r).head.clock < t → KnownEnd (told r) t
+  is_one : (t : ℕ) → due_of w ≡ Some t → (told r).head.clock < t → KnownEnd (told r) t
   is_one t e l =
       third (either (p || c) (any (ends_at is_usage usage_expiry_of t) w.ledger) (due-is-one w t e))
     where
@@ -165,7 +164,7 @@ module _ (r : Run relay) where
   -- as many records as there may be
   expire-is-taken : (now room : ℕ) → (told r).head.clock ≤ now
       → closing_words * ((told r).head.config.maximum_pending + (told r).head.config.maximum_circuits) ≤ room
-      → (step w (call_expire now room)).answer ≡ Taken
+      → (step w (call_expire now room)).answer ≡ Ok tt
   unfolding expire_at revoke_all pending_count circuit_count
   expire-is-taken now room l m =
       let S = run_shape r in

@@ -1,20 +1,20 @@
 -- What the C functions hand back: the outcome of a call with its answer in numbers.
-use Rattle.std.specs.Prelude.{ℕ, ◌≡◌, Bool, true, false, cond, List}
+use Rattle.std.specs.Prelude.{ℕ, ◌≡◌, false, cond, List, Option, None, Some, is_some, Ok, Err}
+use Rattle.std.specs.Prelude.{Result}
 use Rattle.hnsr_body.specs.declared.error.Cause.{Cause}
 use Rattle.hnsr_circuit.specs.declared.records.RelayPending.{RelayPending}
 use Rattle.hnsr_circuit.specs.declared.records.RelayCircuit.{RelayCircuit}
 use Rattle.hnsr_circuit.specs.declared.records.ReservationUsage.{ReservationUsage}
 use Rattle.hnsr_circuit.specs.declared.records.InflightAction.{InflightAction}
-use Rattle.hnsr_circuit.specs.declared.runtime.NextDue.{NextDue}
-use Rattle.hnsr_circuit.specs.declared.runtime.NextDue.TheVariants.{Never, At}
 use Rattle.hnsr_circuit.specs.declared.runtime.Relayed.{Relayed}
 use Rattle.hnsr_circuit.specs.declared.runtime.StatusTold.{StatusTold}
-use Rattle.hnsr_circuit.specs.declared.runtime.DueTold.{DueTold}
-use Rattle.hnsr_circuit.specs.Answers.{number, cause_of, taken}
+use Rattle.hnsr_circuit.specs.declared.answer.HnsrRuntimeError.{HnsrRuntimeError}
+use Rattle.hnsr_circuit.specs.Answers.{number, error_number, cause_of, taken}
+use Rattle.hnsr_circuit.specs.Code.Told.{no_status}
 use Rattle.hnsr_circuit.specs.Runtime.{no_runtime}
 use Rattle.hnsr_circuit.specs.World.{World, Outcome, world_of}
 use Rattle.hnsr_circuit.specs.Code.Held.{no_place, every_place, world_seen}
-use Rattle.hnsr_circuit.specs.Code.Progress.{Result}
+use Rattle.hnsr_circuit.specs.Code.Progress.{Result as Ended}
 use Rattle.lekchnam.specs.declared.relay.RelayReply.{RelayReply}
 use Rattle.lekchnam.specs.declared.relay.StatusReply.{StatusReply}
 use Rattle.lekchnam.specs.declared.relay.DueReply.{DueReply}
@@ -49,7 +49,7 @@ replied r p c l i out = record {
 }
 
 -- a call's result with its answer in numbers
-abbrev pub numbered : Result → Replied
+abbrev pub numbered : Ended → Replied
 numbered r = record {
   world = r.world;
   answer = number r.answer;
@@ -69,17 +69,16 @@ pub record MadeReply (r : RelayReply) (p : List RelayPending) (c : List RelayCir
   pub places : r.places ≡ cond (taken o.answer) no_place every_place
   pub words : r.words ≡ 0
 
-abbrev pub status_numbered : StatusTold → StatusReply
-status_numbered t =
-    record { answer = number t.answer; status = t.status; action_capacity = t.action_capacity }
+-- a refusal tells zeros
+abbrev pub status_numbered : Result StatusTold HnsrRuntimeError → StatusReply
+status_numbered (Ok t) = record { answer = 0; status = t.status; action_capacity = t.action_capacity }
+status_numbered (Err e) = record { answer = error_number e; status = no_status; action_capacity = 0 }
 
-abbrev pub due_some : NextDue → Bool
-due_some Never = false
-due_some (At time) = true
+abbrev pub due_time : Option ℕ → ℕ
+due_time None = 0
+due_time (Some time) = time
 
-abbrev pub due_time : NextDue → ℕ
-due_time Never = 0
-due_time (At time) = time
-
-abbrev pub due_numbered : DueTold → DueReply
-due_numbered t = record { answer = number t.answer; some = due_some t.due; due = due_time t.due }
+-- a refusal tells that nothing is due
+abbrev pub due_numbered : Result (Option ℕ) HnsrRuntimeError → DueReply
+due_numbered (Ok d) = record { answer = 0; some = is_some d; due = due_time d }
+due_numbered (Err e) = record { answer = error_number e; some = false; due = 0 }

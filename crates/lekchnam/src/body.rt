@@ -2,13 +2,15 @@
 // numbers. An answer has the cause in numbers, its kind 0 where the body is accepted. With it a reader hands back the
 // fields; a field that the input ends before is zero. A writer hands back the bytes, zeros where it refuses. DATA has
 // no writer: its body is the bytes as they are, and `hnsr_body_decode_data` is the check of both ways.
-ghost use Rattle.std.specs.Prelude.{◌≡◌, length};
+ghost use Rattle.std.specs.Prelude.{◌≡◌, length, replicate};
+ghost use Rattle.std.specs.Result.{result_unwrap_or};
 ghost use Rattle.hnsr_body.specs.Causes.{cause_numbers};
-ghost use Rattle.hnsr_body.specs.Open.{decode_open, encode_open};
-ghost use Rattle.hnsr_body.specs.Incoming.{decode_incoming, encode_incoming};
-ghost use Rattle.hnsr_body.specs.Accept.{decode_accept, decode_opened, encode_accept, encode_opened};
-ghost use Rattle.hnsr_body.specs.Data.{data_checked, decode_window, encode_window};
-ghost use Rattle.hnsr_body.specs.Detail.{decode_detail, encode_detail};
+ghost use Rattle.hnsr_body.specs.Open.{decode_open, encode_open, open_size};
+ghost use Rattle.hnsr_body.specs.Incoming.{decode_incoming, encode_incoming, incoming_size};
+ghost use Rattle.hnsr_body.specs.Accept.{accept_size, decode_accept, decode_opened};
+ghost use Rattle.hnsr_body.specs.Accept.{encode_accept, encode_opened, opened_size};
+ghost use Rattle.hnsr_body.specs.Data.{data_checked, decode_window, encode_window, window_size};
+ghost use Rattle.hnsr_body.specs.Detail.{decode_detail, encode_detail, no_detail};
 ghost use Rattle.hnsr_body.specs.Packet.{packet_checked};
 ghost use Rattle.hnsr_body.specs.Utf8.{utf8};
 
@@ -18,9 +20,11 @@ use hnsr_body::detail_body::ReasonDetail;
 use hnsr_body::envelope::HnsrPacket;
 use hnsr_body::error::Cause;
 use hnsr_body::incoming_body::IncomingBody;
+use hnsr_body::layout::Padded;
 use hnsr_body::open_body::OpenBody;
 use hnsr_body::utf8::is_utf8;
 
+// A struct for each body, since an exported C function may return no generic one.
 #[repr(C)]
 #[derive(Clone, Copy)]
 pub struct OpenAnswer {
@@ -122,10 +126,9 @@ pub extern "C" fn hnsr_body_decode_open(input: &[u8], key_valid: bool) -> OpenAn
         × (result.body ≡ (decode_open key_valid input.now).body) }
 {
     let read = OpenBody::decode(input, key_valid);
-    let result = read.result;
     let body = read.body;
     OpenAnswer {
-        cause: result.cause(),
+        cause: read.result.into(),
         body,
     }
 }
@@ -136,10 +139,9 @@ pub extern "C" fn hnsr_body_decode_incoming(input: &[u8]) -> IncomingAnswer
         × (result.body ≡ (decode_incoming input.now).body) }
 {
     let read = IncomingBody::decode(input);
-    let result = read.result;
     let body = read.body;
     IncomingAnswer {
-        cause: result.cause(),
+        cause: read.result.into(),
         body,
     }
 }
@@ -150,10 +152,9 @@ pub extern "C" fn hnsr_body_decode_accept(input: &[u8]) -> AcceptAnswer
         × (result.body ≡ (decode_accept input.now).body) }
 {
     let read = AcceptBody::decode(input);
-    let result = read.result;
     let body = read.body;
     AcceptAnswer {
-        cause: result.cause(),
+        cause: read.result.into(),
         body,
     }
 }
@@ -164,10 +165,9 @@ pub extern "C" fn hnsr_body_decode_opened(input: &[u8]) -> OpenedAnswer
         × (result.body ≡ (decode_opened input.now).body) }
 {
     let read = OpenedBody::decode(input);
-    let result = read.result;
     let body = read.body;
     OpenedAnswer {
-        cause: result.cause(),
+        cause: read.result.into(),
         body,
     }
 }
@@ -178,10 +178,9 @@ pub extern "C" fn hnsr_body_decode_window(input: &[u8]) -> WindowAnswer
         × (result.body ≡ (decode_window input.now).body) }
 {
     let read = WindowBody::decode(input);
-    let result = read.result;
     let body = read.body;
     WindowAnswer {
-        cause: result.cause(),
+        cause: read.result.into(),
         body,
     }
 }
@@ -190,7 +189,7 @@ pub extern "C" fn hnsr_body_decode_window(input: &[u8]) -> WindowAnswer
 pub extern "C" fn hnsr_body_decode_data(input: &[u8]) -> Cause
     ensures { result ≡ cause_numbers (data_checked (length input.now)) }
 {
-    DataBody::decode(input).cause()
+    DataBody::decode(input).into()
 }
 
 fn detail_answer(input: &[u8]) -> DetailAnswer
@@ -198,10 +197,9 @@ fn detail_answer(input: &[u8]) -> DetailAnswer
         × (result.body ≡ (decode_detail input.now).body) }
 {
     let read = ReasonDetail::decode(input);
-    let result = read.result;
     let body = read.body;
     DetailAnswer {
-        cause: result.cause(),
+        cause: read.result.into(),
         body,
     }
 }
@@ -226,100 +224,102 @@ pub extern "C" fn hnsr_body_decode_error(input: &[u8]) -> DetailAnswer
 
 #[unsafe(no_mangle)]
 pub extern "C" fn hnsr_body_encode_open(body: OpenBody, key_valid: bool) -> OpenBytes
-    ensures { (result.cause ≡ cause_numbers (encode_open key_valid body).result)
-        × (result.bytes ≡ (encode_open key_valid body).bytes) }
+    ensures { (result.cause ≡ cause_numbers (encode_open key_valid body))
+        × (result.bytes ≡ result_unwrap_or (encode_open key_valid body) (replicate open_size 0)) }
 {
     let written = body.encode(key_valid);
-    let result = written.result;
-    let bytes = written.bytes;
+    let bytes = written.unwrap_or([0; OpenBody::SIZE]);
     OpenBytes {
-        cause: result.cause(),
+        cause: written.into(),
         bytes,
     }
 }
 
 #[unsafe(no_mangle)]
 pub extern "C" fn hnsr_body_encode_incoming(body: IncomingBody) -> IncomingBytes
-    ensures { (result.cause ≡ cause_numbers (encode_incoming body).result)
-        × (result.bytes ≡ (encode_incoming body).bytes) }
+    ensures { (result.cause ≡ cause_numbers (encode_incoming body))
+        × (result.bytes ≡ result_unwrap_or (encode_incoming body) (replicate incoming_size 0)) }
 {
     let written = body.encode();
-    let result = written.result;
-    let bytes = written.bytes;
+    let bytes = written.unwrap_or([0; IncomingBody::SIZE]);
     IncomingBytes {
-        cause: result.cause(),
+        cause: written.into(),
         bytes,
     }
 }
 
 #[unsafe(no_mangle)]
 pub extern "C" fn hnsr_body_encode_accept(body: AcceptBody) -> AcceptBytes
-    ensures { (result.cause ≡ cause_numbers (encode_accept body).result) × (result.bytes ≡ (encode_accept body).bytes) }
+    ensures { (result.cause ≡ cause_numbers (encode_accept body))
+        × (result.bytes ≡ result_unwrap_or (encode_accept body) (replicate accept_size 0)) }
 {
     let written = body.encode();
-    let result = written.result;
-    let bytes = written.bytes;
+    let bytes = written.unwrap_or([0; AcceptBody::SIZE]);
     AcceptBytes {
-        cause: result.cause(),
+        cause: written.into(),
         bytes,
     }
 }
 
 #[unsafe(no_mangle)]
 pub extern "C" fn hnsr_body_encode_opened(body: OpenedBody) -> OpenedBytes
-    ensures { (result.cause ≡ cause_numbers (encode_opened body).result) × (result.bytes ≡ (encode_opened body).bytes) }
+    ensures { (result.cause ≡ cause_numbers (encode_opened body))
+        × (result.bytes ≡ result_unwrap_or (encode_opened body) (replicate opened_size 0)) }
 {
     let written = body.encode();
-    let result = written.result;
-    let bytes = written.bytes;
+    let bytes = written.unwrap_or([0; OpenedBody::SIZE]);
     OpenedBytes {
-        cause: result.cause(),
+        cause: written.into(),
         bytes,
     }
 }
 
 #[unsafe(no_mangle)]
 pub extern "C" fn hnsr_body_encode_window(body: WindowBody) -> WindowBytes
-    ensures { (result.cause ≡ cause_numbers (encode_window body).result) × (result.bytes ≡ (encode_window body).bytes) }
+    ensures { (result.cause ≡ cause_numbers (encode_window body))
+        × (result.bytes ≡ result_unwrap_or (encode_window body) (replicate window_size 0)) }
 {
     let written = body.encode();
-    let result = written.result;
-    let bytes = written.bytes;
+    let bytes = written.unwrap_or([0; WindowBody::SIZE]);
     WindowBytes {
-        cause: result.cause(),
+        cause: written.into(),
         bytes,
     }
 }
 
 fn detail_bytes(reason: u16, detail: &[u8]) -> DetailBytes
-    ensures { (result.cause ≡ cause_numbers (encode_detail reason detail.now).result)
-        × (result.length ≡ (encode_detail reason detail.now).length)
-        × (result.bytes ≡ (encode_detail reason detail.now).bytes) }
+    ensures { (result.cause ≡ cause_numbers (encode_detail reason detail.now))
+        × (result.length ≡ (result_unwrap_or (encode_detail reason detail.now) no_detail).length)
+        × (result.bytes ≡ (result_unwrap_or (encode_detail reason detail.now) no_detail).bytes) }
 {
     let written = ReasonDetail::encode(reason, detail);
-    let result = written.result;
-    let bytes = written.bytes;
+    let none = [0; ReasonDetail::MAX_SIZE];
+    let given = written.unwrap_or(Padded {
+        length: 0,
+        bytes: none,
+    });
+    let bytes = given.bytes;
     DetailBytes {
-        cause: result.cause(),
-        length: written.length,
+        cause: written.into(),
+        length: given.length,
         bytes,
     }
 }
 
 #[unsafe(no_mangle)]
 pub extern "C" fn hnsr_body_encode_close(reason: u16, detail: &[u8]) -> DetailBytes
-    ensures { (result.cause ≡ cause_numbers (encode_detail reason detail.now).result)
-        × (result.length ≡ (encode_detail reason detail.now).length)
-        × (result.bytes ≡ (encode_detail reason detail.now).bytes) }
+    ensures { (result.cause ≡ cause_numbers (encode_detail reason detail.now))
+        × (result.length ≡ (result_unwrap_or (encode_detail reason detail.now) no_detail).length)
+        × (result.bytes ≡ (result_unwrap_or (encode_detail reason detail.now) no_detail).bytes) }
 {
     detail_bytes(reason, detail)
 }
 
 #[unsafe(no_mangle)]
 pub extern "C" fn hnsr_body_encode_error(reason: u16, detail: &[u8]) -> DetailBytes
-    ensures { (result.cause ≡ cause_numbers (encode_detail reason detail.now).result)
-        × (result.length ≡ (encode_detail reason detail.now).length)
-        × (result.bytes ≡ (encode_detail reason detail.now).bytes) }
+    ensures { (result.cause ≡ cause_numbers (encode_detail reason detail.now))
+        × (result.length ≡ (result_unwrap_or (encode_detail reason detail.now) no_detail).length)
+        × (result.bytes ≡ (result_unwrap_or (encode_detail reason detail.now) no_detail).bytes) }
 {
     detail_bytes(reason, detail)
 }
@@ -340,5 +340,5 @@ pub extern "C" fn hnsr_body_validate_packet(
         body_length,
     }
     .validate()
-    .cause()
+    .into()
 }

@@ -17,10 +17,11 @@ ghost use Rattle.hnsr_circuit.specs.Call.{start, step, call_handle, call_acknowl
 ghost use Rattle.hnsr_circuit.specs.Call.{call_revoke_reservation, call_expire, call_replace_enabled};
 ghost use Rattle.hnsr_circuit.specs.Call.{call_observe_time, call_status, call_next_due};
 ghost use Rattle.lekchnam.specs.Replies.{reply_of, replied, numbered, MadeReply};
-ghost use Rattle.lekchnam.specs.Replies.{status_numbered, due_some, due_time, due_numbered};
+ghost use Rattle.lekchnam.specs.Replies.{status_numbered, due_numbered};
 
 use hnsr_body::error::Cause;
 use hnsr_body::values::ReservationId;
+use hnsr_circuit::answer::{HnsrRuntimeError, cause_of, number};
 use hnsr_circuit::calls::acknowledge::acknowledge;
 use hnsr_circuit::calls::handle::handle;
 use hnsr_circuit::calls::revoking::{disconnect, expire, replace_enabled, revoke_reservation};
@@ -28,7 +29,7 @@ use hnsr_circuit::calls::silent::{new, next_due, observe_time, status};
 use hnsr_circuit::config::OpaqueRelayConfig;
 use hnsr_circuit::records::{InflightAction, RelayCircuit, RelayPending, ReservationUsage};
 use hnsr_circuit::runtime::{
-    DueTold, HnsrRuntimeStatus, NextDue, OpaqueRelayRuntime, RelayPacket, Relayed, StatusTold,
+    HnsrRuntimeStatus, OpaqueRelayRuntime, RelayPacket, Relayed, StatusTold,
 };
 use hnsr_circuit::tables::places::Places;
 
@@ -70,55 +71,46 @@ fn reply(relayed: Relayed) -> RelayReply
     let answer = relayed.answer;
     let runtime = relayed.runtime;
     let places = relayed.places;
-    let cause = answer.cause();
     RelayReply {
-        answer: answer.number(),
-        cause,
+        answer: number(answer),
+        cause: cause_of(answer),
         words: relayed.words,
         runtime,
         places,
     }
 }
 
-fn status_reply(told: StatusTold) -> StatusReply
+fn status_reply(told: Result<StatusTold, HnsrRuntimeError>) -> StatusReply
     ensures { result ≡ status_numbered told }
 {
-    let answer = told.answer;
-    let status = told.status;
-    StatusReply {
-        answer: answer.number(),
-        status,
-        action_capacity: told.action_capacity,
+    match told {
+        Ok(told) => StatusReply {
+            answer: 0,
+            status: told.status,
+            action_capacity: told.action_capacity,
+        },
+        Err(error) => StatusReply {
+            answer: u32::from(error),
+            status: HnsrRuntimeStatus::default(),
+            action_capacity: 0,
+        },
     }
 }
 
-fn due_some(due: NextDue) -> bool
-    ensures { result ≡ due_some due }
-{
-    match due {
-        NextDue::Never => false,
-        NextDue::At(_) => true,
-    }
-}
-
-fn due_time(due: NextDue) -> u64
-    ensures { result ≡ due_time due }
-{
-    match due {
-        NextDue::Never => 0,
-        NextDue::At(time) => time,
-    }
-}
-
-fn due_reply(told: DueTold) -> DueReply
+fn due_reply(told: Result<Option<u64>, HnsrRuntimeError>) -> DueReply
     ensures { result ≡ due_numbered told }
 {
-    let answer = told.answer;
-    let due = told.due;
-    DueReply {
-        answer: answer.number(),
-        some: due_some(due),
-        due: due_time(due),
+    match told {
+        Ok(due) => DueReply {
+            answer: 0,
+            some: due.is_some(),
+            due: due.unwrap_or(0),
+        },
+        Err(error) => DueReply {
+            answer: u32::from(error),
+            some: false,
+            due: 0,
+        },
     }
 }
 
@@ -135,7 +127,7 @@ pub extern "C" fn opaque_relay_default_config() -> OpaqueRelayConfig
 pub extern "C" fn opaque_relay_validate_config(config: OpaqueRelayConfig) -> u32
     ensures { result ≡ number (validate_config config) }
 {
-    config.validate().number()
+    number(config.validate())
 }
 
 // ---- the calls

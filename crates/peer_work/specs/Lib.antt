@@ -1,2 +1,1 @@
 pub mod Work
-pub mod Laws

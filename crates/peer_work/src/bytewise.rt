@@ -1,63 +1,44 @@
 // As it was before: each record is copied, and its names are compared by value, byte by byte up to the first that
 // differs. The relay compares the names of a record so that was found.
-ghost use Rattle.std.specs.Prelude.{◌≡◌};
-ghost use Rattle.hns_encoding.specs.Sums.{count};
-ghost use Rattle.hnsr_circuit.specs.Circuits.{circuit_of};
-ghost use Rattle.hnsr_circuit.specs.Pending.{pending_of};
+ghost use Rattle.std.specs.Prelude.{◌≡◌, ◌||◌};
+ghost use Rattle.hnsr_circuit.specs.Peer.{same_bytes, same_peer};
 ghost use Rattle.peer_work.specs.Work.{work_of};
 
-use crate::turn::one_more;
-use hns_encoding::numbers::saturating_add_usize;
-use hnsr_circuit::peer::{HnsrPeerId, either_is};
+use hnsr_circuit::peer::{HnsrPeerId, MAXIMUM_PEER};
 use hnsr_circuit::records::{RelayCircuit, RelayPending};
 
-fn pending_is_of(p: RelayPending, peer: HnsrPeerId) -> bool
-    ensures { result ≡ pending_of peer p }
+fn same_names(a: &[u8], b: &[u8]) -> bool
+    ensures { result ≡ same_bytes a.now b.now }
 {
-    if p.used {
-        return either_is(p.requester, p.endpoint, peer);
+    if a.len() != b.len() {
+        return false;
     }
-    false
+    for (i, x) in a.iter().enumerate() {
+        if *x != b[i] {
+            return false;
+        }
+    }
+    true
 }
 
-fn circuit_is_of(c: RelayCircuit, peer: HnsrPeerId) -> bool
-    ensures { result ≡ circuit_of peer c }
+#[tactic(auto, unfolding(hnsr_circuit::specs::Peer::same_peer, hnsr_circuit::specs::Peer::peer_bytes))]
+fn same_bytewise(a: HnsrPeerId, b: HnsrPeerId) -> bool
+    ensures { result ≡ same_peer a b }
 {
-    if c.used {
-        return either_is(c.requester, c.endpoint, peer);
-    }
-    false
+    same_names(
+        &a.bytes[..a.len.min(MAXIMUM_PEER)],
+        &b.bytes[..b.len.min(MAXIMUM_PEER)],
+    )
 }
 
-pub(crate) fn count_pending(pending: &[RelayPending], peer: HnsrPeerId) -> usize
-    ensures { result ≡ count (pending_of peer) pending.now }
+fn either_bytewise(a: HnsrPeerId, b: HnsrPeerId, peer: HnsrPeerId) -> bool
+    ensures { result ≡ (same_peer a peer || same_peer b peer) }
 {
-    let mut counted: usize = 0;
-    let mut i: usize = 0;
-    while i < pending.len() {
-        let row = pending[i];
-        let has = pending_is_of(row, peer);
-        counted = one_more(counted, has);
-        i += 1;
-    }
-    counted
-}
-
-pub(crate) fn count_circuits(circuits: &[RelayCircuit], peer: HnsrPeerId) -> usize
-    ensures { result ≡ count (circuit_of peer) circuits.now }
-{
-    let mut counted: usize = 0;
-    let mut i: usize = 0;
-    while i < circuits.len() {
-        let row = circuits[i];
-        let has = circuit_is_of(row, peer);
-        counted = one_more(counted, has);
-        i += 1;
-    }
-    counted
+    same_bytewise(a, peer) || same_bytewise(b, peer)
 }
 
 #[unsafe(no_mangle)]
+#[tactic(auto, unfolding(hnsr_circuit::specs::Pending::pending_of, hnsr_circuit::specs::Circuits::circuit_of))]
 pub extern "C" fn peer_work_bytewise(
     pending: &[RelayPending],
     circuits: &[RelayCircuit],
@@ -65,7 +46,15 @@ pub extern "C" fn peer_work_bytewise(
 ) -> usize
     ensures { result ≡ work_of peer pending.now circuits.now }
 {
-    let waiting = count_pending(pending, peer);
-    let running = count_circuits(circuits, peer);
-    saturating_add_usize(waiting, running)
+    let waiting = pending
+        .iter()
+        .copied()
+        .filter(|p| p.used && either_bytewise(p.requester, p.endpoint, peer))
+        .count();
+    let running = circuits
+        .iter()
+        .copied()
+        .filter(|c| c.used && either_bytewise(c.requester, c.endpoint, peer))
+        .count();
+    waiting.saturating_add(running)
 }

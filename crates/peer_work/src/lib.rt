@@ -5,4 +5,3 @@
 pub mod bytewise;
 pub mod copying;
 pub mod in_place;
-mod turn;

@@ -1,18 +1,14 @@
 -- What a method of the cursor answers, over the width and the answer's type: the field and the cursor behind it where
 -- the test passed, the early end where it did not. `b` is what the code's test gave.
-use Rattle.std.specs.Prelude.{ℕ, ◌+◌, ◌-◌, ◌≤◌, ◌≡◌, refl, Bool, true, false, List}
-use Rattle.std.specs.Prelude.{[], ◌++◌, length, take, drop, replicate, eqb, ltb}
+use Rattle.std.specs.Prelude.{ℕ, ◌+◌, ◌≤◌, ◌≡◌, refl, Bool, true, false, List}
+use Rattle.std.specs.Prelude.{[], ◌++◌, length, replicate, eqb, ltb, Ok, Err}
 use Rattle.std.proofs.Common.{arith, sym, ◌∙◌, ap, length-append, leb-true, le-leb, eqb-true}
 use Rattle.std.proofs.lemmas.List.{length-replicate}
-use Rattle.hns_encoding.specs.Words.{word_count, bytes_of}
 use Rattle.hns_encoding.specs.declared.decoder.Decoder.{Decoder}
 use Rattle.hns_encoding.specs.declared.decoder.DecodeError.{DecodeError}
-use Rattle.hns_encoding.specs.Cursor.{within, field, written_at, unexpected_end, has, behind, reads}
-use Rattle.hns_encoding.specs.Cursor.{written, finishes, array_read, part, bytes_read, no_room, Puts}
-use Rattle.hns_encoding.specs.declared.decoder.DecodeError.TheVariants.{TrailingBytes}
-use Rattle.hns_encoding.specs.declared.decoder.Finish.TheVariants as Finish
-use Rattle.hns_encoding.specs.declared.encoder.Put.{Put}
-use Rattle.hns_encoding.specs.declared.encoder.Put.TheVariants.{Ok}
+use Rattle.hns_encoding.specs.Cursor.{within, field, written_at, unexpected_end, has, behind, reads, reads_bytes}
+use Rattle.hns_encoding.specs.Cursor.{written, finishes, array_read, no_room, Puts}
+use Rattle.hns_encoding.specs.declared.encoder.NoRoom.{NoRoom}
 use Rattle.hns_encoding.specs.Laws.Tests.{on-true, on-false, split}
 use Rattle.hns_encoding.specs.Laws.Lists.{field-length, written-whole, written-length, written_behind}
 
@@ -20,19 +16,31 @@ use Rattle.hns_encoding.specs.Laws.Lists.{field-length, written-whole, written-l
 pub there : (size position width : ℕ) (b : Bool) → b ≡ within size position width → b ≡ true → position + width ≤ size
 there size position width b e t = leb-true (position + width) size (sym e ∙ t)
 
-module _ {R : Type 0} (ok : List ℕ → Decoder → R) (err : DecodeError → R) (width : ℕ) (xs : List ℕ) (d : Decoder)
-    (b : Bool) (e : b ≡ has width xs d) where
-  pub read_ok : b ≡ true → ok (field xs d.position width) (behind width d) ≡ reads ok err width xs d
-  read_ok t =
-      sym (on-true _ (ok (field xs d.position width) (behind width d))
-      (err (unexpected_end (length xs) d.position width)) (sym e ∙ t))
+-- a step, a field read: where the test passed, and where it did not
+module _ {A : Type 0} (value : List ℕ → A) (width : ℕ) (xs : List ℕ) (d : Decoder) (b : Bool)
+    (e : b ≡ has width xs d) where
+  pub read_ok : b ≡ true → Ok (value (field xs d.position width), behind width d) ≡ reads value width xs d
+  read_ok t = rw (sym e ∙ t)
 
   pub read_err : (error : DecodeError) → b ≡ false → error ≡ unexpected_end (length xs) d.position width
-      → err error ≡ reads ok err width xs d
-  read_err error f h =
-      ap err h
-      ∙ sym (on-false _ (ok (field xs d.position width) (behind width d))
-      (err (unexpected_end (length xs) d.position width)) (sym e ∙ f))
+      → Err error ≡ reads value width xs d
+  read_err error f h = rw (sym e ∙ f, h)
+
+-- what a read field is made into
+pub read_into : {A : Type 0} (value : List ℕ → A) (width : ℕ) (xs : List ℕ) (d : Decoder) (bytes : List ℕ)
+    (next : Decoder) (v : A) → Ok (bytes, next) ≡ reads_bytes width xs d → (length bytes ≡ width → v ≡ value bytes)
+    → Ok (v, next) ≡ reads value width xs d
+read_into value width xs d bytes next v h k =
+    split (has width xs d)
+    (λ t.
+    let r = rw t at h in
+    let both : (bytes, next) ≡ (field xs d.position width, behind width d) = cc in
+    let same : bytes ≡ field xs d.position width = ap (λ (p : List ℕ × Decoder). p.0) both in
+    let moved : next ≡ behind width d = ap (λ (p : List ℕ × Decoder). p.1) both in
+    let e : v ≡ value bytes =
+    k (ap length same ∙ field-length xs d.position width (leb-true (d.position + width) (length xs) t)) in
+    rw t (cc))
+    (λ f. absurd (let r = rw f at h in let y : ◌≡◌ {A = ℕ} 0 1 = cc in omega arith))
 
 -- the array beside the answer: what a copy over zeros leaves, or the zeros
 module _ (width : ℕ) (xs : List ℕ) (d : Decoder) (b : Bool) (e : b ≡ has width xs d) where
@@ -45,25 +53,6 @@ module _ (width : ℕ) (xs : List ℕ) (d : Decoder) (b : Bool) (e : b ≡ has w
       ∙ sym (field-length xs d.position width (there (length xs) d.position width b e t)))
       ∙ sym (on-true _ (field xs d.position width) (replicate width 0) (sym e ∙ t))
 
-  pub array_err : b ≡ false → replicate width 0 ≡ array_read width xs d
-  array_err f = sym (on-false _ (field xs d.position width) (replicate width 0) (sym e ∙ f))
-
-  -- the part of the input
-  pub part_ok : b ≡ true → field xs d.position width ≡ part width xs d
-  part_ok t = sym (on-true _ (field xs d.position width) [] (sym e ∙ t))
-
-  pub part_err : b ≡ false → [] ≡ part width xs d
-  part_err f = sym (on-false _ (field xs d.position width) [] (sym e ∙ f))
-
--- bytes filled from words
-module _ (out xs : List ℕ) (d : Decoder) (b : Bool) (e : b ≡ has (word_count (length out)) xs d) where
-  pub filled_ok : (last : List ℕ) → b ≡ true → last ≡ take (length out) (bytes_of (drop d.position xs))
-      → last ≡ bytes_read out xs d
-  filled_ok last t h = h ∙ sym (on-true _ (take (length out) (bytes_of (drop d.position xs))) out (sym e ∙ t))
-
-  pub filled_err : b ≡ false → out ≡ bytes_read out xs d
-  filled_err f = sym (on-false _ (take (length out) (bytes_of (drop d.position xs))) out (sym e ∙ f))
-
 -- ---- what a write answers and leaves, over what is written
 module _ (before : List ℕ) (at : ℕ) (ys : List ℕ) (width : ℕ) (w : width ≡ length ys) (b : Bool)
     (e : b ≡ within (length before) at width) where
@@ -75,44 +64,33 @@ module _ (before : List ℕ) (at : ℕ) (ys : List ℕ) (width : ℕ) (w : width
         answer =
             ap (λ (n : ℕ). Ok (record { position = at + n })) w
             ∙ sym
-            (on-true _ (Ok (record { position = at + length ys })) (no_room (length before) at (length ys)) passed);
+            (on-true _ (Ok (record { position = at + length ys }))
+            (Err (no_room (length before) at (length ys))) passed);
         leaves = h ∙ sym (on-true _ (written_at before at ys) before passed);
       }
 
-  pub puts_err : (r : Put) → b ≡ false → r ≡ no_room (length before) at width → Puts r before before at ys
-  puts_err r f h =
+  pub puts_err : (error : NoRoom) → b ≡ false → error ≡ no_room (length before) at width
+      → Puts (Err error) before before at ys
+  puts_err error f h =
       let failed : within (length before) at (length ys) ≡ false =
       ap (λ (n : ℕ). within (length before) at n) (sym w) ∙ sym e ∙ f in record {
         answer =
-            h
-            ∙ ap (λ (n : ℕ). no_room (length before) at n) w
+            ap Err (h ∙ ap (λ (n : ℕ). no_room (length before) at n) w)
             ∙ sym
-            (on-false _ (Ok (record { position = at + length ys })) (no_room (length before) at (length ys)) failed);
+            (on-false _ (Ok (record { position = at + length ys }))
+            (Err (no_room (length before) at (length ys))) failed);
         leaves = sym (on-false _ (written_at before at ys) before failed);
       }
 
--- ---- an end taken apart: what was answered tells what any other reading of the same end gives
-module _ (xs : List ℕ) (d : Decoder) {R : Type 0} (ok : R) (err : DecodeError → R) where
-  pub finish_ok : finishes Finish.Ok Finish.Err xs d ≡ Finish.Ok
-      → (d.position ≡ length xs) × (finishes ok err xs d ≡ ok)
-  finish_ok h =
-      split (eqb d.position (length xs))
-      (λ t. (eqb-true d.position (length xs) t, rw t))
-      (λ f. absurd (let k = rw f at h in
-      split (ltb d.position (length xs))
-      (λ t. let z = rw t at k in let y : ◌≡◌ {A = ℕ} 0 1 = cc in omega arith)
-      (λ g. let z = rw g at k in let y : ◌≡◌ {A = ℕ} 0 1 = cc in omega arith)))
-
-  pub finish_err : (error : DecodeError) → finishes Finish.Ok Finish.Err xs d ≡ Finish.Err error
-      → finishes ok err xs d ≡ err error
-  finish_err error h =
-      split (eqb d.position (length xs))
-      (λ t. let k = rw t at h in let z : ◌≡◌ {A = ℕ} 0 1 = cc in absurd (omega arith))
-      (λ f. let k = rw f at h in
-      split (ltb d.position (length xs))
-      (λ t. let z = rw t at k in let e : TrailingBytes (length xs - d.position) ≡ error = cc in rw (f, t) (ap err e))
-      (λ g.
-      let z = rw g at k in let e : unexpected_end (length xs) d.position 0 ≡ error = cc in rw (f, g) (ap err e)))
+-- an input read whole
+pub finish_ok : (xs : List ℕ) (d : Decoder) → finishes xs d ≡ Ok tt → d.position ≡ length xs
+finish_ok xs d h =
+    split (eqb d.position (length xs))
+    (λ t. eqb-true d.position (length xs) t)
+    (λ f. absurd (let k = rw f at h in
+    split (ltb d.position (length xs))
+    (λ t. let z = rw t at k in let y : ◌≡◌ {A = ℕ} 0 1 = cc in omega arith)
+    (λ g. let z = rw g at k in let y : ◌≡◌ {A = ℕ} 0 1 = cc in omega arith)))
 
 -- ---- a run of writes from the front of `xs`: `now` has `done` in front, which is n elements; none yet, one field
 -- more, all

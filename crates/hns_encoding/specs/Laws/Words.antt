@@ -2,20 +2,22 @@
 -- reading and writing undo one another.
 use Rattle.std.specs.Prelude.{ℕ, zero, suc, ◌+◌, ◌*◌, ◌/◌, ◌%◌, ◌^◌, ◌-◌, ◌<◌, ◌≤◌, ◌≡◌}
 use Rattle.std.specs.Prelude.{refl, List, [], ◌∷◌, ◌++◌, ltb, length, get_or, take, drop}
-use Rattle.std.proofs.Common.{le_of_suc-le-suc, not-suc-le-zero, zero-add, suc-add, arith, ◌∙◌, ap, ap₂}
+use Rattle.std.proofs.Common.{le_of_suc-le-suc, not-suc-le-zero, zero-add, suc-add, arith}
+use Rattle.std.proofs.Common.{◌∙◌, ap, ap₂, sym, add-one, append-nil, append_assoc}
 use Rattle.std.proofs.Common.{length-append, drop-drop, length-take-le, get_or-take, ext_get_or, ltb-true, ltb-false}
 use Rattle.std.proofs.Math.ListN.{get_or-append}
+use Rattle.std.proofs.lemmas.List.{take-append-le}
 use Rattle.hns_encoding.specs.Bytes.{Below, le, le_bytes}
 use Rattle.hns_encoding.specs.Words.{word_count, words_of, words, bytes_of, high_low, from_high_low}
-use Rattle.hns_encoding.specs.Cursor.{field}
+use Rattle.hns_encoding.specs.Cursor.{field, written_at}
 use Rattle.hns_encoding.specs.Laws.Tests.{split}
-use Rattle.hns_encoding.specs.Laws.Lists.{field_at, below-take, below-drop}
+use Rattle.hns_encoding.specs.Laws.Lists.{field_at, below-take, below-drop, written_behind, written-whole}
 use Rattle.hns_encoding.specs.Laws.Bytes.{le_bytes-length, byte_at, le-byte, le-again}
 
-pub words_of-length : (count : ℕ) (bs : List ℕ) → length (words_of count bs) ≡ count
+pub words_of_length : (count : ℕ) (bs : List ℕ) → length (words_of count bs) ≡ count
 unfolding words_of
-words_of-length zero bs = refl
-words_of-length (suc count) bs = ap suc (words_of-length count (drop 4 bs))
+words_of_length zero bs = refl
+words_of_length (suc count) bs = ap suc (words_of_length count (drop 4 bs))
 
 pub words_of-at : (count : ℕ) (bs : List ℕ) (i : ℕ) → i < count
     → get_or (words_of count bs) i 0 ≡ le (field bs (4 * i) 4)
@@ -27,15 +29,27 @@ words_of-at (suc count) bs (suc i) l =
     words_of-at count (drop 4 bs) i (le_of_suc-le-suc l)
     ∙ ap (λ (rest : List ℕ). le (take 4 rest)) (drop-drop (4 * i) 4 bs ∙ ap (λ (k : ℕ). drop k bs) e)
 
+-- words that are each what the bytes at their place are
+pub words_of_each : (ws bs : List ℕ) → ((k : ℕ) → k < length ws → get_or ws k 0 ≡ le (field bs (4 * k) 4))
+    → ws ≡ words_of (length ws) bs
+words_of_each ws bs h =
+    ext_get_or 0 ws (words_of (length ws) bs) (sym (words_of_length (length ws) bs))
+    (λ k l. h k l ∙ sym (words_of-at (length ws) bs k l))
+
 -- the first words, and the rest from the bytes behind them
-pub words_of-add : (first count : ℕ) (bs : List ℕ)
+pub words_of_add : (first count : ℕ) (bs : List ℕ)
     → words_of first bs ++ words_of count (drop (4 * first) bs) ≡ words_of (first + count) bs
 unfolding words_of
-words_of-add zero count bs = rw zero-add
-words_of-add (suc first) count bs =
+words_of_add zero count bs = rw zero-add
+words_of_add (suc first) count bs =
     let e : 4 * suc first ≡ 4 + 4 * first = omega arith in
     rw (suc-add, e, ← (drop-drop (4 * first) 4 bs))
-    (ap (λ (rest : List ℕ). le (take 4 bs) ∷ rest) (words_of-add first count (drop 4 bs)))
+    (ap (λ (rest : List ℕ). le (take 4 bs) ∷ rest) (words_of_add first count (drop 4 bs)))
+
+pub words_of_both : (ws vs bs rest : List ℕ) (m k n : ℕ) → ws ≡ words_of m bs → vs ≡ words_of k rest
+    → rest ≡ drop (4 * m) bs → m + k ≡ n → ws ++ vs ≡ words_of n bs
+words_of_both ws vs bs rest m k n e f g h =
+    ap₂ ◌++◌ e (f ∙ ap (words_of k) g) ∙ words_of_add m k bs ∙ ap (λ (i : ℕ). words_of i bs) h
 
 -- ---- bytes of words
 pub bytes_of-length : (ws : List ℕ) → length (bytes_of ws) ≡ 4 * length ws
@@ -72,6 +86,81 @@ bytes_of-at (w ∷ ws) i l =
         let r : i % 4 ≡ (i - 4) % 4 = omega arith in
         rw (q, r) (ap (λ (k : ℕ). get_or (le_bytes 4 w ++ bytes_of ws) k 0) e ∙ bytes_of-behind w ws (i - 4) ∙ ih)
 
+-- the bytes of one word more, of the first words, and of the first words and a part of the next
+pub bytes_of_next : (ws : List ℕ) (i : ℕ) → i < length ws
+    → bytes_of (take (i + 1) ws) ≡ bytes_of (take i ws) ++ le_bytes 4 (get_or ws i 0)
+unfolding bytes_of
+bytes_of_next [] i l = absurd (not-suc-le-zero l)
+bytes_of_next (w ∷ ws) zero l = rw append-nil
+bytes_of_next (w ∷ ws) (suc i) l =
+    rw (add-one, append_assoc)
+    (ap (λ (rest : List ℕ). le_bytes 4 w ++ rest)
+    (rw add-one at (bytes_of_next ws i (le_of_suc-le-suc l))))
+
+pub first_words : (ws : List ℕ) (i : ℕ) → i ≤ length ws → take (4 * i) (bytes_of ws) ≡ bytes_of (take i ws)
+unfolding bytes_of le_bytes
+first_words ws zero l = refl
+first_words [] (suc i) l = absurd (not-suc-le-zero l)
+first_words (w ∷ ws) (suc i) l =
+    let e : 4 * suc i ≡ suc (suc (suc (suc (4 * i)))) = omega arith in
+    rw e (ap (λ (rest : List ℕ). le_bytes 4 w ++ rest) (first_words ws i (le_of_suc-le-suc l)))
+
+pub first_bytes : (ws : List ℕ) (i r : ℕ) → i < length ws → r ≤ 4
+    → take (4 * i + r) (bytes_of ws) ≡ bytes_of (take i ws) ++ take r (le_bytes 4 (get_or ws i 0))
+unfolding bytes_of le_bytes
+first_bytes [] i r l h = absurd (not-suc-le-zero l)
+first_bytes (w ∷ ws) zero r l h =
+    let e : 4 * 0 + r ≡ r = omega arith in
+    let k : r ≤ length (le_bytes 4 w) = h in
+    rw e (take-append-le r (le_bytes 4 w) (bytes_of ws) k)
+first_bytes (w ∷ ws) (suc i) r l h =
+    let e : 4 * suc i + r ≡ suc (suc (suc (suc (4 * i + r)))) = omega arith in
+    rw e (ap (λ (rest : List ℕ). le_bytes 4 w ++ rest) (first_bytes ws i r (le_of_suc-le-suc l) h))
+
+-- ---- bytes written from words, a word a turn: none yet, one more, all, and all with a part of one more
+pub copied_none : (xs ws : List ℕ) → xs ≡ written_at xs 0 (bytes_of (take 0 ws))
+unfolding bytes_of
+copied_none xs ws = refl
+
+module _ (xs ws : List ℕ) (i : ℕ) (now after : List ℕ) (e : now ≡ written_at xs 0 (bytes_of (take i ws))) where
+  copied-length : i ≤ length ws → length (bytes_of (take i ws)) ≡ 4 * i
+  copied-length l = omega (arith, bytes_of-length (take i ws), length-take-le i ws l)
+
+  copied_more : (zs : List ℕ) → i ≤ length ws → 4 * i ≤ length xs → after ≡ written_at now (4 * i) zs
+      → after ≡ written_at xs 0 (bytes_of (take i ws) ++ zs)
+  copied_more zs l k f =
+      f
+      ∙ ap (λ (ys : List ℕ). written_at ys (4 * i) zs) e
+      ∙ written_behind xs 0 (bytes_of (take i ws)) zs (4 * i) (omega (arith, copied-length l))
+      (omega (arith, copied-length l))
+
+  pub copied_next : i < length ws → 4 * i ≤ length xs
+      → after ≡ written_at now (4 * i) (le_bytes 4 (get_or ws i 0))
+      → after ≡ written_at xs 0 (bytes_of (take (i + 1) ws))
+  copied_next l k f =
+      copied_more (le_bytes 4 (get_or ws i 0)) (omega arith) k f
+      ∙ ap (λ (ys : List ℕ). written_at xs 0 ys) (sym (bytes_of_next ws i l))
+
+  pub copied_all : i ≤ length ws → length xs ≡ 4 * i → now ≡ take (length xs) (bytes_of ws)
+  copied_all l k =
+      e
+      ∙ written-whole xs (bytes_of (take i ws)) (omega (arith, copied-length l))
+      ∙ sym (first_words ws i l)
+      ∙ ap (λ (n : ℕ). take n (bytes_of ws)) (sym k)
+
+  pub copied_part : (r : ℕ) → i < length ws → r ≤ 4 → length xs ≡ 4 * i + r
+      → after ≡ written_at now (4 * i) (take r (le_bytes 4 (get_or ws i 0)))
+      → after ≡ take (length xs) (bytes_of ws)
+  copied_part r l h k f =
+      let ys = bytes_of (take i ws) in
+      let zs = take r (le_bytes 4 (get_or ws i 0)) in
+      let n : length zs ≡ r =
+      length-take-le r (le_bytes 4 (get_or ws i 0)) (omega (arith, le_bytes-length 4 (get_or ws i 0))) in
+      copied_more zs (omega arith) (omega arith) f
+      ∙ written-whole xs (ys ++ zs) (omega (arith, copied-length (omega arith), length-append ys zs))
+      ∙ sym (first_bytes ws i r l h)
+      ∙ ap (λ (m : ℕ). take m (bytes_of ws)) (sym k)
+
 -- ---- read after write, and write after read
 pub bytes-again : (count : ℕ) (bs : List ℕ) → Below 256 bs → length bs ≤ 4 * count
     → take (length bs) (bytes_of (words_of count bs)) ≡ bs
@@ -80,7 +169,7 @@ bytes-again count bs h l = ext_get_or 0 (take (length bs) (bytes_of (words_of co
     long : length (take (length bs) (bytes_of (words_of count bs))) ≡ length bs
     long =
         length-take-le (length bs) (bytes_of (words_of count bs))
-        (omega (arith, bytes_of-length (words_of count bs), words_of-length count bs))
+        (omega (arith, bytes_of-length (words_of count bs), words_of_length count bs))
 
     each : (i : ℕ) → i < length (take (length bs) (bytes_of (words_of count bs)))
         → get_or (take (length bs) (bytes_of (words_of count bs))) i 0 ≡ get_or bs i 0
@@ -88,7 +177,7 @@ bytes-again count bs h l = ext_get_or 0 (take (length bs) (bytes_of (words_of co
         let within : i < length bs = omega (arith, long) in
         let e : 4 * (i / 4) + i % 4 ≡ i = omega arith in
         get_or-take (length bs) (bytes_of (words_of count bs)) i 0 within
-        ∙ bytes_of-at (words_of count bs) i (omega (arith, words_of-length count bs))
+        ∙ bytes_of-at (words_of count bs) i (omega (arith, words_of_length count bs))
         ∙ ap (λ (w : ℕ). w / 256 ^ (i % 4) % 256) (words_of-at count bs (i / 4) (omega arith))
         ∙ le-byte (field bs (4 * (i / 4)) 4)
         (below-take 256 (drop (4 * (i / 4)) bs) 4 (below-drop 256 bs (4 * (i / 4)) h)) (i % 4)

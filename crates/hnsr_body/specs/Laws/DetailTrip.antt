@@ -1,23 +1,20 @@
 -- Round trips of CLOSE and ERROR: the reason, the length of the detail and the detail are the fields of a body, whose
 -- last width is what is left.
 use Rattle.std.specs.Prelude.{ℕ, ◌+◌, ◌-◌, ◌%◌, ◌<◌, ◌≤◌, ◌^◌, ◌≡◌, refl}
-use Rattle.std.specs.Prelude.{List, [], ◌∷◌, map, eqb, take, drop, replicate}
-use Rattle.std.proofs.Common.{arith, sym, ◌∙◌, append-nil, drop-drop}
-use Rattle.std.proofs.Math.Path.{ap}
-use Rattle.std.proofs.Math.Bool.{true}
-use Rattle.std.proofs.Math.Dec.{leb}
-use Rattle.std.proofs.Math.ListN.{length, length-drop}
-use borrow.Author.Tests.{leb-true, le-leb, eqb-true, eq-eqb}
-use Rattle.hns_encoding.specs.declared.decoder.Step.{Step}
-use Rattle.hns_encoding.specs.Bytes.{Below, le, le_bytes, padded}
+use Rattle.std.specs.Prelude.{List, [], ◌∷◌, map, eqb, take, drop, Result, Ok, Err}
+use Rattle.std.proofs.Common.{arith, sym, ◌∙◌, append-nil, drop-drop, ap, true, leb}
+use Rattle.std.proofs.Common.{length, length-drop, leb-true, le-leb, eqb-true, eq-eqb}
+use Rattle.hns_encoding.specs.declared.decoder.Decoder.{Decoder}
+use Rattle.hns_encoding.specs.declared.decoder.DecodeError.{DecodeError}
+use Rattle.hnsr_body.specs.declared.error.HnsrProtocolError.{HnsrProtocolError}
+use Rattle.hns_encoding.specs.Bytes.{Below, le, le_bytes}
 use Rattle.hns_encoding.specs.Laws.Tests.{on-true, join, both}
 use Rattle.hns_encoding.specs.Laws.Lists.{field-rest}
 use Rattle.hns_encoding.specs.Laws.Bytes.{le_bytes-length, le-again}
 use Rattle.hnsr_body.specs.declared.error.HnsrInvalid.TheVariants.{DiagnosticDetail, NotUtf8}
 use Rattle.hnsr_body.specs.declared.error.HnsrProtocolError.TheVariants.{TooLarge}
-use Rattle.hnsr_body.specs.declared.error.Checked.TheVariants.{Ok, Err}
-use Rattle.hnsr_body.specs.Causes.{answer}
-use Rattle.hnsr_body.specs.Layout.{walked}
+use Rattle.hnsr_body.specs.Causes.{answer, given}
+use Rattle.hnsr_body.specs.Layout.{walked, padded_in}
 use Rattle.hnsr_body.specs.Utf8.{utf8}
 use Rattle.hnsr_body.specs.Detail.{most_detail, detail_widths, head_size, detail_size, reason_of}
 use Rattle.hnsr_body.specs.Detail.{length_of, detail_of, length_good, reason_detail, headed}
@@ -50,13 +47,13 @@ pub detail-again : (reason : ℕ) (detail : List ℕ) → detail_of (detail_byte
 unfolding detail_bytes le_bytes
 detail-again reason detail = refl
 
-detail-size : (reason : ℕ) (detail : List ℕ) → length (detail_bytes reason detail) ≡ head_size + length detail
+pub detail-size : (reason : ℕ) (detail : List ℕ) → length (detail_bytes reason detail) ≡ head_size + length detail
 unfolding detail_bytes le_bytes
 detail-size reason detail = omega arith
 
 pub detail-read : (reason : ℕ) (detail : List ℕ) → reason < 2 ^ 16 → detail_good detail ≡ true
     → decode_detail (detail_bytes reason detail)
-    ≡ record { result = Ok; body = record { reason = reason; detail_length = length detail } }
+    ≡ record { result = Ok tt; body = record { reason = reason; detail_length = length detail } }
 unfolding decode_detail reason_detail
 detail-read reason detail f g =
     let xs = detail_bytes reason detail in
@@ -66,7 +63,7 @@ detail-read reason detail f g =
     let size = detail-size reason detail in
     let good = both (leb (length detail) most_detail) (utf8 detail) g in
     let long : length_of xs ≡ length detail = ap le (P.part 1) ∙ le-one (length detail) in
-    let head : headed (walked detail_widths xs (record { position = 0 })) ≡ Ok =
+    let head : headed (walked detail_widths xs (record { position = 0 })) ≡ Ok tt =
     ap headed (walk_through detail_widths xs 0 (omega arith)) in
     let right : length_good xs ≡ true = join _ _ (ap (λ (n : ℕ). leb n most_detail) long ∙ good.0)
     (eq-eqb (length xs - head_size) (length_of xs) (omega arith)) in
@@ -77,10 +74,11 @@ detail-read reason detail f g =
     }
 
 -- ---- what was read is written
-head-there : (xs : List ℕ) (s : Step) → walked detail_widths xs (record { position = 0 }) ≡ s → headed s ≡ Ok
+head-there : (xs : List ℕ) (s : Result Decoder DecodeError) → walked detail_widths xs (record { position = 0 }) ≡ s
+    → headed s ≡ Ok tt
     → head_size ≤ length xs
-head-there xs (Step.Err error) w h = let z : ◌≡◌ {A = ℕ} 0 1 = cc in absurd (omega arith)
-head-there xs (Step.Ok d) w h = omega (arith, walk-there detail_widths xs 0 d (omega arith) w)
+head-there xs (Err error) w h = let z : ◌≡◌ {A = ℕ} 0 1 = cc in absurd (omega arith)
+head-there xs (Ok d) w h = omega (arith, walk-there detail_widths xs 0 d (omega arith) w)
 
 -- what the reader found out of a body that it accepts
 record Taken (xs : List ℕ) : Type 0 where
@@ -89,7 +87,7 @@ record Taken (xs : List ℕ) : Type 0 where
   left : length (detail_of xs) ≡ length_of xs
   text : utf8 (detail_of xs) ≡ true
 
-taken : (xs : List ℕ) → (decode_detail xs).result ≡ Ok → Taken xs
+taken : (xs : List ℕ) → (decode_detail xs).result ≡ Ok tt → Taken xs
 unfolding decode_detail
 taken xs h =
     let w = walked detail_widths xs (record { position = 0 }) in
@@ -103,7 +101,7 @@ taken xs h =
       text = outer.1;
     }
 
-module _ (xs : List ℕ) (bytes : Below 256 xs) (h : (decode_detail xs).result ≡ Ok) where
+module _ (xs : List ℕ) (bytes : Below 256 xs) (h : (decode_detail xs).result ≡ Ok tt) where
   pub detail-written : detail_bytes (reason_of xs) (detail_of xs) ≡ xs
   detail-written =
       let T = taken xs h in
@@ -117,19 +115,13 @@ module _ (xs : List ℕ) (bytes : Below 256 xs) (h : (decode_detail xs).result �
       λ i. le-part widths xs bytes laid 0 i ∷ (number ∙ le-part widths xs bytes laid 1) i ∷ rest i ∷ [] in
       sym (detail-joined (reason_of xs) (detail_of xs)) ∙ ap joined same ∙ (read_parts widths xs laid).whole
 
-  pub detail-taken : encode_detail (reason_of xs) (detail_of xs)
-      ≡ record { result = Ok; length = length xs; bytes = padded detail_size xs }
+  pub detail-taken : encode_detail (reason_of xs) (detail_of xs) ≡ Ok (padded_in detail_size xs)
   unfolding encode_detail
   detail-taken =
       let T = taken xs h in
       let n = length (detail_of xs) in
       let small : leb n most_detail ≡ true = le-leb n most_detail (omega (arith, T.left, T.most)) in
-      let good = join _ _ small T.text in
-      let size : head_size + n ≡ length xs = omega (arith, length-drop head_size xs, T.there) in
-      λ i. record {
-        result = answered NotUtf8 (on-true _ Ok (Err (TooLarge n most_detail)) small) T.text i;
-        length = (on-true _ (head_size + n) 0 good ∙ size) i;
-        bytes =
-            (on-true _ (padded detail_size (detail_bytes (reason_of xs) (detail_of xs))) (replicate detail_size 0) good
-            ∙ ap (padded detail_size) detail-written) i;
-      }
+      ap (λ (r : Result Unit HnsrProtocolError).
+      given r (padded_in detail_size (detail_bytes (reason_of xs) (detail_of xs))))
+      (answered NotUtf8 (on-true _ (Ok tt) (Err (TooLarge n most_detail)) small) T.text)
+      ∙ ap (λ (bytes : List ℕ). Ok (padded_in detail_size bytes)) detail-written

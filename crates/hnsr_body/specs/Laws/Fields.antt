@@ -1,48 +1,50 @@
--- A number read from a step: the answer's number, or 0, is the number of its bytes, or of zeros; and its step is that
--- of the field.
-use Rattle.std.specs.Prelude.{ℕ, ◌+◌, ◌-◌, ◌≤◌, ◌≡◌, List, [], length, drop, replicate}
-use Rattle.std.proofs.Common.{arith, ◌∙◌, drop_of_length-le, leb-true, leb-false}
-use Rattle.std.proofs.Math.Path.{sym, ap, ap₂}
-use Rattle.std.proofs.Math.Bool.{cond}
+-- A field read from a step: what the read gave is the step behind the field, and its bytes or zeros.
+use Rattle.std.specs.Prelude.{ℕ, ◌+◌, ◌-◌, ◌≤◌, ◌≡◌, refl, List, [], length, drop, replicate, Result, Ok, Err}
+use Rattle.std.proofs.Common.{arith, ◌∙◌, sym, ap, drop_of_length-le, leb-true, leb-false}
 use Rattle.std.proofs.lemmas.List.{length-replicate}
 use Rattle.hns_encoding.specs.declared.decoder.Decoder.{Decoder}
 use Rattle.hns_encoding.specs.declared.decoder.DecodeError.{DecodeError}
-use Rattle.hns_encoding.specs.declared.decoder.Step.{Step}
-use Rattle.hns_encoding.specs.Cursor.{has, behind, field, unexpected_end, reads, part}
-use Rattle.hns_encoding.specs.Laws.Tests.{cond_map, on-true, on-false, split}
+use Rattle.hns_encoding.specs.Cursor.{has, behind, field, part}
+use Rattle.hns_encoding.specs.Laws.Tests.{on-true, on-false, split}
 use Rattle.hns_encoding.specs.Laws.Lists.{field-length, field-rest}
 use Rattle.hnsr_body.specs.Layout.{bytes_at}
-use Rattle.hnsr_body.specs.Fields.{stepped, fetched}
+use Rattle.hnsr_body.specs.Fields.{read_on, stepped, fetched}
 
--- `value` takes the number out of an answer, `step` the step, and `number` is how bytes are read
-module _ {R : Type 0} (value : R → ℕ) (step : R → Step) (ok : ℕ → Decoder → R) (err : DecodeError → R)
-    (number : List ℕ → ℕ) (width : ℕ) (input : List ℕ) {s : Step} {d : Decoder} {r : R} (at : s ≡ Step.Ok d)
-    (read : r ≡ reads (λ bytes next. ok (number bytes) next) err width input d) where
-  pub number_step : ((n : ℕ) (next : Decoder) → step (ok n next) ≡ Step.Ok next)
-      → ((error : DecodeError) → step (err error) ≡ Step.Err error) → step r ≡ stepped width input s
-  unfolding stepped
-  number_step good bad =
-      let b = has width input d in
-      let bytes = field input d.position width in
-      let error = unexpected_end (length input) d.position width in
-      ap step read
-      ∙ cond_map step b (ok (number bytes) (behind width d)) (err error)
-      ∙ ap₂ (λ (x y : Step). cond b x y) (good (number bytes) (behind width d)) (bad error)
-      ∙ ap (stepped width input) (sym at)
+-- a field read at an offset is as long as it should be, also where the input ends early
+pub bytes-length : (width : ℕ) (input : List ℕ) (at : ℕ) → length (bytes_at width input at) ≡ width
+bytes-length width input at =
+    let d : Decoder = record { position = at } in
+    split (has width input d)
+    (λ t. rw t (field-length input at width (leb-true (at + width) (length input) t)))
+    (λ f. rw f (length-replicate width 0))
 
-  pub number_value : ((n : ℕ) (next : Decoder) → value (ok n next) ≡ n)
-      → ((error : DecodeError) → value (err error) ≡ 0) → number (replicate width 0) ≡ 0
-      → value r ≡ number (fetched width input s)
+module _ (width : ℕ) (input : List ℕ) where
+  pub on_ok : (s : Result Decoder DecodeError) (bytes : List ℕ) (next : Decoder)
+      → Ok (bytes, next) ≡ read_on width input s
+      → (bytes ≡ fetched width input s) × (Ok next ≡ stepped width input s)
+  unfolding stepped fetched
+  on_ok (Ok d) bytes next h =
+      split (has width input d)
+      (λ t.
+      let r = rw t at h in
+      let p : (bytes, next) ≡ (field input d.position width, behind width d) = cc in
+      rw t (ap (λ (q : List ℕ × Decoder). q.0) p, ap (λ (q : List ℕ × Decoder). Ok q.1) p))
+      (λ f. let r = rw f at h in let z : ◌≡◌ {A = ℕ} 0 1 = cc in absurd (omega arith))
+  on_ok (Err e) bytes next h = let z : ◌≡◌ {A = ℕ} 0 1 = cc in absurd (omega arith)
+
+  pub on_err : (s : Result Decoder DecodeError) (error : DecodeError) → Err error ≡ read_on width input s
+      → (replicate width 0 ≡ fetched width input s) × (Err error ≡ stepped width input s)
+  unfolding stepped fetched
+  on_err (Ok d) error h =
+      split (has width input d)
+      (λ t. let r = rw t at h in let z : ◌≡◌ {A = ℕ} 0 1 = cc in absurd (omega arith))
+      (λ f. let r = rw f at h in rw f (refl, cc))
+  on_err (Err e) error h = let k : error ≡ e = cc in (refl, ap Err k)
+
+  pub fetched-length : (s : Result Decoder DecodeError) → length (fetched width input s) ≡ width
   unfolding fetched
-  number_value good bad zero =
-      let b = has width input d in
-      let bytes = field input d.position width in
-      let error = unexpected_end (length input) d.position width in
-      ap value read
-      ∙ cond_map value b (ok (number bytes) (behind width d)) (err error)
-      ∙ ap₂ (λ (x y : ℕ). cond b x y) (good (number bytes) (behind width d)) (bad error ∙ sym zero)
-      ∙ sym (cond_map number b bytes (replicate width 0))
-      ∙ ap (λ (t : Step). number (fetched width input t)) (sym at)
+  fetched-length (Ok d) = bytes-length width input d.position
+  fetched-length (Err e) = length-replicate width 0
 
 -- as many bytes as remain are what stands behind the cursor
 pub part-rest : (input : List ℕ) (d : Decoder) → part (length input - d.position) input d ≡ drop d.position input
@@ -53,11 +55,3 @@ part-rest input d =
     (λ t. on-true _ bytes [] t ∙ field-rest input d.position)
     (λ f. let l : length input ≤ d.position = omega (arith, leb-false (d.position + n) (length input) f) in
     on-false _ bytes [] f ∙ sym (drop_of_length-le input l))
-
--- a field read at an offset is as long as it should be, also where the input ends early
-pub bytes-length : (width : ℕ) (input : List ℕ) (at : ℕ) → length (bytes_at width input at) ≡ width
-bytes-length width input at =
-    let d : Decoder = record { position = at } in
-    split (has width input d)
-    (λ t. rw t (field-length input at width (leb-true (at + width) (length input) t)))
-    (λ f. rw f (length-replicate width 0))

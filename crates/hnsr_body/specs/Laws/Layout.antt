@@ -1,16 +1,11 @@
 -- Fields one after the other, each read from the step that the one before handed back, over the list of widths: the
 -- last step is that of the walk, each field that of the definition, and what is left stands behind them.
-use Prim.Native.Nat.{ℕ, zero, suc, ◌+◌, ◌≤◌}
-use Rattle.std.proofs.Common.{add-zero, arith, ◌∙◌, drop_of_length-le}
-use Rattle.std.proofs.Math.Path.{◌≡◌, refl, sym, ap}
-use mathlib.Core.List.{List, [], ◌∷◌}
-use Rattle.std.specs.Prelude.{leb, take, replicate}
-use Rattle.std.proofs.Math.ListN.{length, get_or, drop}
-use borrow.Author.Tests.{leb-true, leb-false, lt-leb}
+use Rattle.std.proofs.Common.{ℕ, zero, suc, ◌+◌, ◌≤◌, add-zero, arith, ◌∙◌, drop_of_length-le, ◌≡◌}
+use Rattle.std.proofs.Common.{refl, sym, ap, List, [], ◌∷◌, length, get_or, drop, leb-true, leb-false}
+use borrow.Author.Tests.{lt-leb}
+use Rattle.std.specs.Prelude.{leb, take, replicate, Result, Ok, Err}
 use Rattle.hns_encoding.specs.declared.decoder.Decoder.{Decoder}
 use Rattle.hns_encoding.specs.declared.decoder.DecodeError.{DecodeError}
-use Rattle.hns_encoding.specs.declared.decoder.Step.{Step}
-use Rattle.hns_encoding.specs.declared.decoder.Step.TheVariants.{Ok, Err}
 use Rattle.hns_encoding.specs.Cursor.{has, behind, field, unexpected_end}
 use Rattle.hns_encoding.specs.Laws.Tests.{on-true, on-false, split}
 use Rattle.hnsr_body.specs.Layout.{bytes_at, walked, offset, field_of}
@@ -18,7 +13,7 @@ use Rattle.hnsr_body.specs.Fields.{start, stepped, fetched, left}
 use Rattle.hnsr_body.specs.Laws.Parts.{span, walk-there, walk_through}
 
 -- the step behind fields of these widths
-abbrev pub through : List ℕ → List ℕ → Step → Step
+abbrev pub through : List ℕ → List ℕ → Result Decoder DecodeError → Result Decoder DecodeError
 through [] input s = s
 through (width ∷ widths) input s = through widths input (stepped width input s)
 
@@ -46,9 +41,9 @@ module _ (input : List ℕ) where
   field-from (w ∷ ws) (suc i) p =
       let v = get_or ws i 0 in
       let b = has w input (record { position = p }) in
-      let there = Ok (record { position = p + w }) in
-      let ended = Err (unexpected_end (length input) p w) in
-      let then : Step → List ℕ = λ s. fetched v input (through (take i ws) input s) in
+      let there : Result Decoder DecodeError = Ok (record { position = p + w }) in
+      let ended : Result Decoder DecodeError = Err (unexpected_end (length input) p w) in
+      let then : Result Decoder DecodeError → List ℕ = λ s. fetched v input (through (take i ws) input s) in
       split b
       (λ t. ap then (on-true b there ended t) ∙ field-from ws i (p + w) ∙ ap (bytes_at v input) (omega arith))
       (λ f.
@@ -71,7 +66,8 @@ module _ (input : List ℕ) where
   unfolding left
   walked-left widths = go (walked widths input (record { position = 0 })) refl
     where
-      go : (s : Step) → walked widths input (record { position = 0 }) ≡ s → left input s ≡ drop (span widths) input
+      go : (s : Result Decoder DecodeError) → walked widths input (record { position = 0 }) ≡ s
+          → left input s ≡ drop (span widths) input
       go (Ok d) w =
           let e : d.position ≡ span widths = omega (arith, walk-there widths input 0 d (omega arith) w) in
           ap (λ (k : ℕ). drop k input) e

@@ -1,11 +1,11 @@
 -- Fields put together: a body is laid out just where it has the size of its fields, and then it is its fields, one
 -- after the other.
 use Rattle.std.specs.Prelude.{ℕ, zero, suc, ◌+◌, ◌≤◌, ◌≡◌, refl, Bool, true, false, List, [], ◌∷◌}
-use Rattle.std.specs.Prelude.{◌++◌, map, leb, eqb, ltb, length, get_or, take, drop, replicate}
+use Rattle.std.specs.Prelude.{◌++◌, map, leb, eqb, ltb, length, get_or, take, drop, replicate, Result, Ok, Err}
 use Rattle.std.proofs.Common.{arith, sym, ◌∙◌, ap, length-append, length-drop, take-append-drop}
 use Rattle.std.proofs.Common.{drop-drop, take_at, drop_at, leb-true, le-leb, eqb-true, eq-eqb}
 use Rattle.hns_encoding.specs.declared.decoder.Decoder.{Decoder}
-use Rattle.hns_encoding.specs.declared.decoder.Step.{Step}
+use Rattle.hns_encoding.specs.declared.decoder.DecodeError.{DecodeError}
 use Rattle.hns_encoding.specs.Bytes.{Below, le, le_bytes, be, be_bytes}
 use Rattle.hns_encoding.specs.Cursor.{field, unexpected_end}
 use Rattle.hns_encoding.specs.Sums.{total}
@@ -13,21 +13,22 @@ use Rattle.hns_encoding.specs.Laws.Tests.{split, on-true}
 use Rattle.hns_encoding.specs.Laws.Lists.{field-length, below-take, below-drop}
 use Rattle.hns_encoding.specs.Laws.Bytes.{le_bytes-le, be_bytes-be}
 use Rattle.hnsr_body.specs.declared.error.HnsrInvalid.{HnsrInvalid}
-use Rattle.hnsr_body.specs.declared.error.Checked.{Checked}
-use Rattle.hnsr_body.specs.declared.error.Checked.TheVariants.{Ok, Err}
+use Rattle.hnsr_body.specs.declared.error.HnsrProtocolError.{HnsrProtocolError}
 use Rattle.hnsr_body.specs.Causes.{answer}
 use Rattle.hnsr_body.specs.Layout.{walked, finished, laid_out, offset, field_of}
 
 -- ---- answers: taken where the layout and the values are good, and only there
-pub answered : {layout : Checked} {good : Bool} (text : HnsrInvalid) → layout ≡ Ok → good ≡ true
-    → answer layout good text ≡ Ok
+pub answered : {layout : Result Unit HnsrProtocolError} {good : Bool} (text : HnsrInvalid) → layout ≡ Ok tt
+    → good ≡ true
+    → answer layout good text ≡ Ok tt
 answered text l g = rw (l, g)
 
-pub answer-good : (layout : Checked) (good : Bool) (text : HnsrInvalid) → answer layout good text ≡ Ok
-    → (layout ≡ Ok) × (good ≡ true)
+pub answer-good : (layout : Result Unit HnsrProtocolError) (good : Bool) (text : HnsrInvalid)
+    → answer layout good text ≡ Ok tt
+    → (layout ≡ Ok tt) × (good ≡ true)
 answer-good (Err cause) good text h = let z : ◌≡◌ {A = ℕ} 0 1 = cc in absurd (omega arith)
-answer-good Ok true text h = (refl, refl)
-answer-good Ok false text h = let z : ◌≡◌ {A = ℕ} 0 1 = cc in absurd (omega arith)
+answer-good (Ok done) true text h = (refl, refl)
+answer-good (Ok done) false text h = let z : ◌≡◌ {A = ℕ} 0 1 = cc in absurd (omega arith)
 
 -- ---- the size of fields of these widths, and a body cut into them
 abbrev pub span : List ℕ → ℕ
@@ -59,17 +60,17 @@ joined-cut (w ∷ ws) xs e =
 
 -- ---- the walk over fields that are there, and that they are there where it came through
 pub walk_through : (widths xs : List ℕ) (p : ℕ) → p + span widths ≤ length xs
-    → walked widths xs (record { position = p }) ≡ Step.Ok (record { position = p + span widths })
+    → walked widths xs (record { position = p }) ≡ Ok (record { position = p + span widths })
 unfolding walked
-walk_through [] xs p l = ap (λ (k : ℕ). Step.Ok (record { position = k })) (omega arith)
+walk_through [] xs p l = ap (λ (k : ℕ). Ok (record { position = k })) (omega arith)
 walk_through (w ∷ ws) xs p l =
-    on-true _ (walked ws xs (record { position = p + w })) (Step.Err (unexpected_end (length xs) p w))
+    on-true _ (walked ws xs (record { position = p + w })) (Err (unexpected_end (length xs) p w))
     (le-leb (p + w) (length xs) (omega arith))
     ∙ walk_through ws xs (p + w) (omega arith)
-    ∙ ap (λ (k : ℕ). Step.Ok (record { position = k })) (omega arith)
+    ∙ ap (λ (k : ℕ). Ok (record { position = k })) (omega arith)
 
 pub walk-there : (widths xs : List ℕ) (p : ℕ) (d : Decoder) → p ≤ length xs
-    → walked widths xs (record { position = p }) ≡ Step.Ok d
+    → walked widths xs (record { position = p }) ≡ Ok d
     → (d.position ≡ p + span widths) × (p + span widths ≤ length xs)
 unfolding walked
 walk-there [] xs p d l h =
@@ -81,18 +82,19 @@ walk-there (w ∷ ws) xs p d l h =
     (λ f. let k = rw f at h in let z : ◌≡◌ {A = ℕ} 0 1 = cc in absurd (omega arith))
 
 -- a body is laid out where it has the size of its fields, and only there
-pub laid-whole : (widths xs : List ℕ) → length xs ≡ span widths → laid_out widths xs ≡ Ok
+pub laid-whole : (widths xs : List ℕ) → length xs ≡ span widths → laid_out widths xs ≡ Ok tt
 unfolding laid_out
 laid-whole widths xs e =
     ap (finished xs) (walk_through widths xs 0 (omega arith)) ∙ rw (eq-eqb (0 + span widths) (length xs) (omega arith))
 
-pub laid-size : (widths xs : List ℕ) → laid_out widths xs ≡ Ok → length xs ≡ span widths
+pub laid-size : (widths xs : List ℕ) → laid_out widths xs ≡ Ok tt → length xs ≡ span widths
 unfolding laid_out
 laid-size widths xs h = go (walked widths xs (record { position = 0 })) refl h
   where
-    go : (s : Step) → walked widths xs (record { position = 0 }) ≡ s → finished xs s ≡ Ok → length xs ≡ span widths
-    go (Step.Err error) w h = let z : ◌≡◌ {A = ℕ} 0 1 = cc in absurd (omega arith)
-    go (Step.Ok d) w h =
+    go : (s : Result Decoder DecodeError) → walked widths xs (record { position = 0 }) ≡ s → finished xs s ≡ Ok tt
+        → length xs ≡ span widths
+    go (Err error) w h = let z : ◌≡◌ {A = ℕ} 0 1 = cc in absurd (omega arith)
+    go (Ok d) w h =
         split (eqb d.position (length xs))
         (λ t. omega (arith, walk-there widths xs 0 d (omega arith) w, eqb-true d.position (length xs) t))
         (λ f. let k = rw f at h in
@@ -113,7 +115,7 @@ field_cut (w ∷ ws) xs (suc i) = rw (← (drop-drop (offset ws i) w xs)) (field
 
 -- `ps` are the fields of a body: it is laid out, each field reads as one of them, and together they are the body
 pub record Parts (widths xs : List ℕ) (ps : List (List ℕ)) : Type 0 where
-  pub laid : laid_out widths xs ≡ Ok
+  pub laid : laid_out widths xs ≡ Ok tt
   pub part : (i : ℕ) → field_of widths i xs ≡ get_or ps i []
   pub whole : joined ps ≡ xs
 
@@ -133,11 +135,11 @@ pub written_parts : (widths xs : List ℕ) (ps : List (List ℕ)) → map length
 written_parts widths xs ps e j =
     rw (← e, ← j) (rw (cut-joined ps) at (cut_parts (map length ps) (joined ps) (joined_length ps)))
 
-pub read_parts : (widths xs : List ℕ) → laid_out widths xs ≡ Ok → Parts widths xs (cut widths xs)
+pub read_parts : (widths xs : List ℕ) → laid_out widths xs ≡ Ok tt → Parts widths xs (cut widths xs)
 read_parts widths xs h = cut_parts widths xs (laid-size widths xs h)
 
 -- a field that is read as a value and written again gives its bytes again, if the value of so many bytes does
-module _ (widths xs : List ℕ) (bytes : Below 256 xs) (laid : laid_out widths xs ≡ Ok) (i : ℕ) where
+module _ (widths xs : List ℕ) (bytes : Below 256 xs) (laid : laid_out widths xs ≡ Ok tt) (i : ℕ) where
   pub value_part : {A : Type 0} (read : List ℕ → A) (write : A → List ℕ)
       → ((bs : List ℕ) → Below 256 bs → length bs ≡ get_or widths i 0 → write (read bs) ≡ bs)
       → write (read (field_of widths i xs)) ≡ get_or (cut widths xs) i []

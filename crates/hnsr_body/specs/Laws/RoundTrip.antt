@@ -3,36 +3,39 @@
 --                  good
 --     X-written    writing what was read gives the bytes back
 --     X-taken      and the writer takes what was read: its whole answer
-use Rattle.std.specs.Prelude.{ℕ, ◌<◌, ◌^◌, ◌≡◌, Bool, true, length, replicate}
-use Rattle.std.proofs.Math.Path.{refl, sym, ap}
-use Rattle.std.proofs.Common.{◌∙◌, length-append}
-use mathlib.Core.List.{List, [], ◌∷◌, ◌++◌, map, append-nil, append_assoc}
+use Rattle.std.specs.Prelude.{ℕ, ◌<◌, ◌^◌, ◌≡◌, Bool, true, length, Result, Ok}
+use Rattle.std.proofs.Common.{refl, sym, ap, ◌∙◌, length-append, List, [], ◌∷◌, ◌++◌, map, append-nil, append_assoc}
 use Rattle.hns_encoding.specs.Bytes.{Below, le, le_bytes, be, be_bytes}
-use Rattle.hns_encoding.specs.Laws.Tests.{on-true, join, both}
+use Rattle.hns_encoding.specs.Laws.Tests.{both}
 use Rattle.hns_encoding.specs.Laws.Bytes.{le_bytes-length, le-again, be_bytes-length, be-again}
 use Rattle.hnsr_body.specs.declared.data_body.WindowBody.{WindowBody}
 use Rattle.hnsr_body.specs.declared.accept_body.AcceptBody.{AcceptBody}
 use Rattle.hnsr_body.specs.declared.accept_body.OpenedBody.{OpenedBody}
 use Rattle.hnsr_body.specs.declared.incoming_body.IncomingBody.{IncomingBody}
 use Rattle.hnsr_body.specs.declared.open_body.OpenBody.{OpenBody}
+use Rattle.hnsr_body.specs.declared.error.HnsrProtocolError.{HnsrProtocolError}
 use Rattle.hnsr_body.specs.declared.error.HnsrInvalid.TheVariants.{WindowCredit, AcceptResponse, CircuitZero}
 use Rattle.hnsr_body.specs.declared.error.HnsrInvalid.TheVariants.{IncomingParameters, OpenParameters}
-use Rattle.hnsr_body.specs.declared.error.Checked.TheVariants.{Ok}
-use Rattle.hnsr_body.specs.Causes.{answer}
+use Rattle.hnsr_body.specs.Causes.{answer, given}
 use Rattle.hnsr_body.specs.Values.{nonzero, reservation_of, reservation_bytes}
 use Rattle.hnsr_body.specs.Layout.{laid_out}
-use Rattle.hnsr_body.specs.Data.{window_widths, window_size, window_fields}
+use Rattle.hnsr_body.specs.Data.{window_widths, window_fields}
 use Rattle.hnsr_body.specs.Data.{window_bytes, delta_good, decode_window, encode_window}
-use Rattle.hnsr_body.specs.Accept.{accept_widths, accept_size, accept_fields, accept_bytes}
+use Rattle.hnsr_body.specs.Accept.{accept_widths, accept_fields, accept_bytes}
 use Rattle.hnsr_body.specs.Accept.{accept_good, decode_accept, encode_accept}
-use Rattle.hnsr_body.specs.Accept.{opened_widths, opened_size, opened_fields, opened_bytes}
+use Rattle.hnsr_body.specs.Accept.{opened_widths, opened_fields, opened_bytes}
 use Rattle.hnsr_body.specs.Accept.{opened_rest, opened_good, decode_opened, encode_opened}
-use Rattle.hnsr_body.specs.Incoming.{incoming_widths, incoming_size, incoming_fields, incoming_bytes}
+use Rattle.hnsr_body.specs.Incoming.{incoming_widths, incoming_fields, incoming_bytes}
 use Rattle.hnsr_body.specs.Incoming.{incoming_good, decode_incoming, encode_incoming}
-use Rattle.hnsr_body.specs.Open.{open_widths, open_size, open_fields, open_bytes, open_good, decode_open, encode_open}
+use Rattle.hnsr_body.specs.Open.{open_widths, open_fields, open_bytes, open_good, decode_open, encode_open}
 use Rattle.hnsr_body.specs.Laws.Parts.{answered, answer-good, cut, joined, written_parts}
 use Rattle.hnsr_body.specs.Laws.Parts.{read_parts, value_part, le-part, be-part}
 use Rattle.hnsr_body.specs.Laws.Values.{reservation-read, reservation-written}
+
+-- nothing is refused, and these are the bytes
+taken : {checked : Result Unit HnsrProtocolError} {bytes xs : List ℕ} → checked ≡ Ok tt → bytes ≡ xs
+    → given checked bytes ≡ Ok xs
+taken good same = rw (good, same)
 
 -- ---- WINDOW
 pub record WindowFits (b : WindowBody) : Type 0 where
@@ -46,7 +49,7 @@ unfolding window_bytes
 window-joined b = rw append-nil
 
 pub window-read : (b : WindowBody) → WindowFits b → delta_good b.credit_delta ≡ true
-    → decode_window (window_bytes b) ≡ record { result = Ok; body = b }
+    → decode_window (window_bytes b) ≡ record { result = Ok tt; body = b }
 unfolding decode_window window_fields
 window-read b f g =
     let sizes : map length (window_parts b) ≡ window_widths = rw le_bytes-length in
@@ -58,7 +61,7 @@ window-read b f g =
       body = same i;
     }
 
-module _ (xs : List ℕ) (bytes : Below 256 xs) (h : (decode_window xs).result ≡ Ok) where
+module _ (xs : List ℕ) (bytes : Below 256 xs) (h : (decode_window xs).result ≡ Ok tt) where
   pub window-written : window_bytes (decode_window xs).body ≡ xs
   unfolding decode_window window_fields
   window-written =
@@ -68,15 +71,12 @@ module _ (xs : List ℕ) (bytes : Below 256 xs) (h : (decode_window xs).result �
       λ i. le-part window_widths xs bytes laid 0 i ∷ [] in
       sym (window-joined (window_fields xs)) ∙ ap joined same ∙ (read_parts window_widths xs laid).whole
 
-  pub window-taken : encode_window (decode_window xs).body ≡ record { result = Ok; bytes = xs }
+  pub window-taken : encode_window (decode_window xs).body ≡ Ok xs
   unfolding decode_window encode_window
   window-taken =
       let good =
       (answer-good (laid_out window_widths xs) (delta_good (window_fields xs).credit_delta) WindowCredit h).1 in
-      λ i. record {
-        result = answered {layout = Ok} WindowCredit refl good i;
-        bytes = (on-true _ (window_bytes (window_fields xs)) (replicate window_size 0) good ∙ window-written) i;
-      }
+      taken (answered {layout = Ok tt} WindowCredit refl good) window-written
 
 -- ---- ACCEPT
 pub record AcceptFits (b : AcceptBody) : Type 0 where
@@ -91,7 +91,7 @@ unfolding accept_bytes
 accept_joined b = rw append-nil
 
 pub accept_read : (b : AcceptBody) → AcceptFits b → accept_good b ≡ true
-    → decode_accept (accept_bytes b) ≡ record { result = Ok; body = b }
+    → decode_accept (accept_bytes b) ≡ record { result = Ok tt; body = b }
 unfolding decode_accept accept_fields
 accept_read b f g =
     let sizes : map length (accept_parts b) ≡ accept_widths = rw (le_bytes-length, f.nonce) in
@@ -102,7 +102,7 @@ accept_read b f g =
     } in
     λ i. record { result = answered AcceptResponse P.laid (ap accept_good same ∙ g) i; body = same i }
 
-module _ (xs : List ℕ) (bytes : Below 256 xs) (h : (decode_accept xs).result ≡ Ok) where
+module _ (xs : List ℕ) (bytes : Below 256 xs) (h : (decode_accept xs).result ≡ Ok tt) where
   pub accept_written : accept_bytes (decode_accept xs).body ≡ xs
   unfolding decode_accept accept_fields
   accept_written =
@@ -112,14 +112,11 @@ module _ (xs : List ℕ) (bytes : Below 256 xs) (h : (decode_accept xs).result �
       λ i. le-part accept_widths xs bytes laid 0 i ∷ P.part 1 i ∷ [] in
       sym (accept_joined (accept_fields xs)) ∙ ap joined same ∙ P.whole
 
-  pub accept_taken_lem : encode_accept (decode_accept xs).body ≡ record { result = Ok; bytes = xs }
+  pub accept_taken_lem : encode_accept (decode_accept xs).body ≡ Ok xs
   unfolding decode_accept encode_accept
   accept_taken_lem =
       let good = (answer-good (laid_out accept_widths xs) (accept_good (accept_fields xs)) AcceptResponse h).1 in
-      λ i. record {
-        result = answered {layout = Ok} AcceptResponse refl good i;
-        bytes = (on-true _ (accept_bytes (accept_fields xs)) (replicate accept_size 0) good ∙ accept_written) i;
-      }
+      taken (answered {layout = Ok tt} AcceptResponse refl good) accept_written
 
 -- ---- OPENED
 pub record OpenedFits (b : OpenedBody) : Type 0 where
@@ -134,7 +131,7 @@ unfolding opened_bytes
 opened-joined b = ap (λ (rest : List ℕ). be_bytes 8 b.circuit_id ++ rest) (accept_joined (opened_rest b))
 
 pub opened-read : (b : OpenedBody) → OpenedFits b → opened_good b ≡ true
-    → decode_opened (opened_bytes b) ≡ record { result = Ok; body = b }
+    → decode_opened (opened_bytes b) ≡ record { result = Ok tt; body = b }
 unfolding decode_opened opened_fields opened_good
 opened-read b f g =
     let sizes : map length (opened_parts b) ≡ opened_widths = rw (be_bytes-length, le_bytes-length, f.rest.nonce) in
@@ -151,8 +148,8 @@ opened-read b f g =
       body = same i;
     }
 
-module _ (xs : List ℕ) (bytes : Below 256 xs) (h : (decode_opened xs).result ≡ Ok) where
-  opened-good : (laid_out opened_widths xs ≡ Ok)
+module _ (xs : List ℕ) (bytes : Below 256 xs) (h : (decode_opened xs).result ≡ Ok tt) where
+  opened-good : (laid_out opened_widths xs ≡ Ok tt)
       × (nonzero (opened_fields xs).circuit_id ≡ true)
       × (accept_good (opened_rest (opened_fields xs)) ≡ true)
   unfolding decode_opened
@@ -172,16 +169,11 @@ module _ (xs : List ℕ) (bytes : Below 256 xs) (h : (decode_opened xs).result �
       λ i. be-part opened_widths xs bytes laid 0 i ∷ le-part opened_widths xs bytes laid 1 i ∷ P.part 2 i ∷ [] in
       sym (opened-joined (opened_fields xs)) ∙ ap joined same ∙ P.whole
 
-  pub opened-taken : encode_opened (decode_opened xs).body ≡ record { result = Ok; bytes = xs }
+  pub opened-taken : encode_opened (decode_opened xs).body ≡ Ok xs
   unfolding decode_opened encode_opened opened_good
   opened-taken =
-      λ i. record {
-        result = answered AcceptResponse (answered {layout = Ok} CircuitZero refl opened-good.1) opened-good.2 i;
-        bytes =
-            (on-true _ (opened_bytes (opened_fields xs)) (replicate opened_size 0)
-            (join _ _ opened-good.1 opened-good.2)
-            ∙ opened-written) i;
-      }
+      taken (answered AcceptResponse (answered {layout = Ok tt} CircuitZero refl opened-good.1) opened-good.2)
+      opened-written
 
 -- ---- INCOMING
 pub record IncomingFits (b : IncomingBody) : Type 0 where
@@ -201,7 +193,7 @@ unfolding incoming_bytes
 incoming-joined b = simp (incoming_bytes, append-nil, append_assoc)
 
 pub incoming-read : (b : IncomingBody) → IncomingFits b → incoming_good b ≡ true
-    → decode_incoming (incoming_bytes b) ≡ record { result = Ok; body = b }
+    → decode_incoming (incoming_bytes b) ≡ record { result = Ok tt; body = b }
 unfolding decode_incoming incoming_fields
 incoming-read b f g =
     let sizes : map length (incoming_parts b) ≡ incoming_widths =
@@ -216,7 +208,7 @@ incoming-read b f g =
     } in
     λ i. record { result = answered IncomingParameters P.laid (ap incoming_good same ∙ g) i; body = same i }
 
-module _ (xs : List ℕ) (bytes : Below 256 xs) (h : (decode_incoming xs).result ≡ Ok) where
+module _ (xs : List ℕ) (bytes : Below 256 xs) (h : (decode_incoming xs).result ≡ Ok tt) where
   pub incoming-written : incoming_bytes (decode_incoming xs).body ≡ xs
   unfolding decode_incoming incoming_fields
   incoming-written =
@@ -228,15 +220,12 @@ module _ (xs : List ℕ) (bytes : Below 256 xs) (h : (decode_incoming xs).result
       ∷ P.part 3 i ∷ le-part incoming_widths xs bytes laid 4 i ∷ [] in
       sym (incoming-joined (incoming_fields xs)) ∙ ap joined same ∙ P.whole
 
-  pub incoming-taken : encode_incoming (decode_incoming xs).body ≡ record { result = Ok; bytes = xs }
+  pub incoming-taken : encode_incoming (decode_incoming xs).body ≡ Ok xs
   unfolding decode_incoming encode_incoming
   incoming-taken =
       let good =
       (answer-good (laid_out incoming_widths xs) (incoming_good (incoming_fields xs)) IncomingParameters h).1 in
-      λ i. record {
-        result = answered {layout = Ok} IncomingParameters refl good i;
-        bytes = (on-true _ (incoming_bytes (incoming_fields xs)) (replicate incoming_size 0) good ∙ incoming-written) i;
-      }
+      taken (answered {layout = Ok tt} IncomingParameters refl good) incoming-written
 
 -- ---- OPEN
 pub record OpenFits (b : OpenBody) : Type 0 where
@@ -258,7 +247,7 @@ unfolding open_bytes
 open_joined b = simp (open_bytes, append-nil, append_assoc)
 
 pub open_read : (key_valid : Bool) (b : OpenBody) → OpenFits b → open_good key_valid b ≡ true
-    → decode_open key_valid (open_bytes b) ≡ record { result = Ok; body = b }
+    → decode_open key_valid (open_bytes b) ≡ record { result = Ok tt; body = b }
 unfolding decode_open open_fields
 open_read key_valid b f g =
     let sizes : map length (open_parts b) ≡ open_widths =
@@ -276,7 +265,7 @@ open_read key_valid b f g =
     } in
     λ i. record { result = answered OpenParameters P.laid (ap (open_good key_valid) same ∙ g) i; body = same i }
 
-module _ (key_valid : Bool) (xs : List ℕ) (bytes : Below 256 xs) (h : (decode_open key_valid xs).result ≡ Ok) where
+module _ (key_valid : Bool) (xs : List ℕ) (bytes : Below 256 xs) (h : (decode_open key_valid xs).result ≡ Ok tt) where
   pub open_written : open_bytes (decode_open key_valid xs).body ≡ xs
   unfolding decode_open open_fields
   open_written =
@@ -289,11 +278,8 @@ module _ (key_valid : Bool) (xs : List ℕ) (bytes : Below 256 xs) (h : (decode_
       ∷ le-part open_widths xs bytes laid 5 i ∷ [] in
       sym (open_joined (open_fields xs)) ∙ ap joined same ∙ P.whole
 
-  pub open_taken : encode_open key_valid (decode_open key_valid xs).body ≡ record { result = Ok; bytes = xs }
+  pub open_taken : encode_open key_valid (decode_open key_valid xs).body ≡ Ok xs
   unfolding decode_open encode_open
   open_taken =
       let good = (answer-good (laid_out open_widths xs) (open_good key_valid (open_fields xs)) OpenParameters h).1 in
-      λ i. record {
-        result = answered {layout = Ok} OpenParameters refl good i;
-        bytes = (on-true _ (open_bytes (open_fields xs)) (replicate open_size 0) good ∙ open_written) i;
-      }
+      taken (answered {layout = Ok tt} OpenParameters refl good) open_written

@@ -1,15 +1,15 @@
 -- The code's form is the ABNF: a lead byte's length decides which line can hold, and so how far the first character of
 -- a text goes.
 
-use Rattle.std.specs.Prelude.{ℕ, suc, ◌+◌, ◌-◌, ◌≤◌, ◌<◌, ◌≡◌, refl, Bool, true, false, cond, ◌&&◌}
-use Rattle.std.specs.Prelude.{◌||◌, List, [], ◌∷◌, ◌↔◌, leb, ltb, eqb, length, take, drop, get_or}
-use Rattle.std.proofs.Common.{sym, ap, ◌∙◌, inl, inr, ⊎_elim, not-suc-le-zero, le_of_eq, arith}
-use Rattle.std.proofs.Common.{leb-true, leb-false, le-leb, lt-ltb, eqb-true, eq-eqb, length-drop}
-use Rattle.std.proofs.Common.{drop_of_length-le, drop-cons, drop-drop, take_all, add-one}
+use Rattle.std.specs.Prelude.{ℕ, ◌≤◌, ◌<◌, ◌≡◌, refl, Bool, true, false, cond, ◌&&◌}
+use Rattle.std.specs.Prelude.{◌||◌, List, [], ◌∷◌, ◌↔◌, leb, ltb, eqb, length, drop, get_or}
+use Rattle.std.proofs.Common.{sym, ap, ◌∙◌, inl, inr, ⊎_elim, not-suc-le-zero, arith}
+use Rattle.std.proofs.Common.{leb-true, leb-false, le-leb, lt-ltb, eqb-true, eq-eqb}
 use Rattle.std.proofs.Math.Bool.{or-false}
 use Rattle.std.proofs.lemmas.Bool.{false≢true, eqb-false}
+use Rattle.std.proofs.Common.{◌+◌, suc, drop-cons, add-one}
 use Rattle.hnsr_body.specs.Utf8.{between, tail, utf8_1, utf8_2, utf8_3, utf8_4, utf8}
-use Rattle.hnsr_body.specs.Utf8Form.{lead_length, second, goes_on, char_length, Skipped}
+use Rattle.hnsr_body.specs.Utf8Form.{lead_length, second, goes_on, char_length}
 use Rattle.hns_encoding.specs.Laws.Tests.{both, join, same}
 use Rattle.hnsr_body.specs.Laws.Utf8Tests.{order, Range, in_range, is-between, one-fits, one_test, two_fits}
 use Rattle.hnsr_body.specs.Laws.Utf8Tests.{two_test, three-fits, three_test, four-fits, four_test, Three, Four}
@@ -291,58 +291,25 @@ pub utf8_ascii : (a : ℕ) (text : List ℕ) → a ≤ 0x7F → utf8 (a ∷ text
 utf8_ascii a text h =
     utf8-by-length (a ∷ text) (omega arith) ∙ ap (λ (k : ℕ). rest_of k (a ∷ text)) (ascii_length a text h)
 
-pub skip_none : (text : List ℕ) (at : ℕ) → at ≤ length text → Skipped text at at
-skip_none text at h = record { ahead = omega arith; inside = h; alike = refl }
+-- wherever it stands, what is behind it decides
+pub utf8_past_ascii : (text : List ℕ) (at : ℕ) → at < length text → get_or text at 0 ≤ 0x7F
+    → utf8 (drop (at + 1) text) ≡ utf8 (drop at text)
+utf8_past_ascii text at some h =
+    sym (ap utf8 (drop-cons text at 0 some)
+    ∙ utf8_ascii (get_or text at 0) (drop (suc at) text) h
+    ∙ ap (λ (k : ℕ). utf8 (drop k text)) (sym (add-one at)))
 
-pub skip_ascii : (text : List ℕ) (at end : ℕ) → Skipped text at end → end < length text → get_or text end 0 ≤ 0x7F
-    → Skipped text at (end + 1)
-skip_ascii text at end s h a =
-    record {
-      ahead = omega arith;
-      inside = omega arith;
-      alike =
-          s.alike ∙ ap utf8 (drop-cons text end 0 h) ∙ utf8_ascii (get_or text end 0) (drop (suc end) text) a
-          ∙ ap (λ (k : ℕ). utf8 (drop k text)) (sym (add-one end));
-    }
+-- what stands behind the character that a text begins with decides; a text that begins with none is no UTF-8
+module _ (text : List ℕ) (some : 0 < length text) where
+  pub utf8_behind : 0 < char_length text → utf8 (drop (char_length text) text) ≡ utf8 text
+  utf8_behind n =
+      sym (utf8-by-length text some
+      ∙ ap (λ (t : Bool). t && utf8 (drop (char_length text) text)) (lt-ltb 0 (char_length text) n))
 
-pub skip_on : {text : List ℕ} {at mid end : ℕ} → Skipped text at mid → Skipped text mid end → Skipped text at end
-skip_on s t = record { ahead = omega arith; inside = t.inside; alike = s.alike ∙ t.alike }
+  pub no_char : char_length text ≡ 0 → utf8 text ≡ false
+  no_char z = utf8-by-length text some ∙ ap (λ (k : ℕ). rest_of k text) z
 
--- the part of a text behind a place, as the code lends it
-abbrev pub behind : List ℕ → ℕ → List ℕ
-behind text at = take (length text - at) (drop at text)
-
-behind-drop : (text : List ℕ) (at : ℕ) → behind text at ≡ drop at text
-behind-drop text at = take_all (length text - at) (drop at text) (le_of_eq (length-drop at text))
-
-module _ (text : List ℕ) (at : ℕ) (h : at < length text) where
-  some_left : 0 < length (drop at text)
-  some_left = omega (arith, length-drop at text)
-
-  pub some-behind : 0 < length (behind text at)
-  some-behind = rw (behind-drop text at) some_left
-
-  -- no character begins there
-  pub no_char : {n : ℕ} → n ≡ char_length (behind text at) → n ≡ 0 → utf8 (drop at text) ≡ false
-  no_char e z =
-      utf8-by-length (drop at text) some_left
-      ∙ ap (λ (k : ℕ). rest_of k (drop at text)) (sym (e ∙ ap char_length (behind-drop text at)) ∙ z)
-
-  -- a character of n bytes does
-  pub skip_char : {n : ℕ} → n ≡ char_length (behind text at) → (n ≡ 0 → ⊥) → Skipped text at (at + n)
-  skip_char {n} e z =
-      let k : n ≡ char_length (drop at text) = e ∙ ap char_length (behind-drop text at) in
-      let fits : n ≤ length text - at = omega (arith, k, char_length-fits (drop at text), length-drop at text) in
-      record {
-        ahead = omega arith;
-        inside = omega arith;
-        alike =
-            utf8-by-length (drop at text) some_left ∙ ap (λ (j : ℕ). rest_of j (drop at text)) (sym k)
-            ∙ ap (λ (t : Bool). t && utf8 (drop n (drop at text))) (lt-ltb 0 n (omega arith))
-            ∙ ap utf8 (drop-drop n at text);
-      }
-
--- nothing is left
-pub skip_all : {text : List ℕ} {at end : ℕ} → Skipped text at end → length text ≤ end → utf8 (drop at text) ≡ true
+pub utf8_none : (text : List ℕ) → length text ≡ 0 → utf8 text ≡ true
 unfolding utf8
-skip_all {text} {at} {end} s h = s.alike ∙ ap utf8 (drop_of_length-le text h)
+utf8_none [] e = refl
+utf8_none (a ∷ text) e = absurd (omega arith)

@@ -1,8 +1,8 @@
 -- Tests that passed, as facts: `&&`, `||`, ranges of bytes, and the lines of the ABNF, by cases on the tests' values.
 
 use Rattle.std.specs.Prelude.{ℕ, ◌≤◌, ◌<◌, ◌≡◌, refl, Bool, true, false, ◌&&◌, ◌||◌, ◌⊎◌, leb}
-use Rattle.std.proofs.lemmas.Bool.{false≢true}
 use Rattle.std.proofs.Common.{inl, inr, arith, leb-true, leb-false, le-leb}
+use Rattle.std.proofs.lemmas.Bool.{false≢true}
 use Rattle.std.proofs.Math.Logic.{⊎_map}
 use Rattle.hns_encoding.specs.Laws.Tests.{both, join}
 use Rattle.hnsr_body.specs.Utf8.{between, tail, utf8_1, utf8_2, utf8_3, utf8_4}

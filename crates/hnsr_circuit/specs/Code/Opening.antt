@@ -1,8 +1,9 @@
 -- What the code of ACCEPT and OPEN asks, gathers and decides before it writes.
 use Rattle.std.specs.Prelude.{ℕ, ◌+◌, Bool, true, false, cond, ◌||◌, List, ltb, leb, length, take}
 use Rattle.hns_encoding.specs.Bytes.{be}
-use Rattle.hnsr_body.specs.declared.accept_body.AcceptRead.{AcceptRead}
-use Rattle.hnsr_body.specs.declared.open_body.OpenRead.{OpenRead}
+use Rattle.hnsr_body.specs.declared.layout.Read.{Read}
+use Rattle.hnsr_body.specs.declared.accept_body.AcceptBody.{AcceptBody}
+use Rattle.hnsr_body.specs.declared.open_body.OpenBody.{OpenBody}
 use Rattle.hnsr_body.specs.Open.{decode_open}
 use Rattle.hnsr_circuit.specs.declared.messages.accept.AcceptPlan.{AcceptPlan}
 use Rattle.hnsr_circuit.specs.declared.messages.open.OpenGathered.{OpenGathered}
@@ -23,9 +24,8 @@ use Rattle.hnsr_circuit.specs.declared.tables.scan.ActionQuestion.{ActionQuestio
 use Rattle.hnsr_circuit.specs.declared.records.InflightKind.TheVariants.{Opened, Incoming}
 use Rattle.hnsr_circuit.specs.declared.runtime.RelayPacket.{RelayPacket}
 use Rattle.hnsr_circuit.specs.declared.runtime.OpaqueRelayRuntime.{OpaqueRelayRuntime}
-use Rattle.hnsr_circuit.specs.declared.answer.HnsrAnswer.{HnsrAnswer}
 use Rattle.hnsr_circuit.specs.Table.{any}
-use Rattle.hnsr_circuit.specs.Answers.{body_answer, taken, ◌then◌}
+use Rattle.hnsr_circuit.specs.Answers.{HnsrAnswer, body_answer, ◌then◌}
 use Rattle.hnsr_circuit.specs.Peer.{peer_of, same_peer}
 use Rattle.hnsr_circuit.specs.Pending.{pending_at}
 use Rattle.hnsr_circuit.specs.Ledger.{ledger_answer}
@@ -45,7 +45,7 @@ abbrev pub put_place : (place places spare : ℕ) → ℕ
 put_place place places spare = cond (ltb place places) place spare
 
 -- ---- ACCEPT
-abbrev pub accept_rows : OpaqueRelayConfig → PendingFound → HnsrPeerId → (now : ℕ) → AcceptRead
+abbrev pub accept_rows : OpaqueRelayConfig → PendingFound → HnsrPeerId → (now : ℕ) → Read AcceptBody
     → (waiting running : Work) → InflightTally → HnsrAnswer
 accept_rows c f peer now read waiting running t =
     request_answer f.found f.pending peer now
@@ -66,12 +66,11 @@ abbrev pub replacing : PendingFound → (id : ℕ) → ActionQuestion
 replacing f id =
     record { replacing = true; circuit_id = id; peer = f.pending.requester; generation = 0; sequence = 0 }
 
-abbrev pub accept_plan : HnsrAnswer → OpaqueRelayRuntime → PendingFound → AcceptRead → AcceptPlan
-accept_plan a h f read = record {
-  go = taken a;
+abbrev pub accept_plan : OpaqueRelayRuntime → PendingFound → Read AcceptBody → AcceptPlan
+accept_plan h f read = record {
   place = f.place;
   id = f.pending.circuit_id;
-  runtime = cond (taken a) (with_counters h (count_accept h.counters)) h;
+  runtime = with_counters h (count_accept h.counters);
   message = record {
     destination = f.pending.requester;
     circuit_id = f.pending.circuit_id;
@@ -93,7 +92,7 @@ abbrev pub first_draw : List ℕ → ℕ
 first_draw xs = cond (leb 8 (length xs)) (be (take 8 xs)) 0
 
 -- ---- OPEN: what is gathered
-abbrev pub open_work : RelayPacket → (requester endpoint : HnsrPeerId) → OpenRead → (id : ℕ) → WorkQuestion
+abbrev pub open_work : RelayPacket → (requester endpoint : HnsrPeerId) → Read OpenBody → (id : ℕ) → WorkQuestion
 open_work q requester endpoint read id = record {
   peer = requester;
   other = endpoint;
@@ -102,7 +101,7 @@ open_work q requester endpoint read id = record {
   id = id;
 }
 
-abbrev pub open_gathering : RelayPacket → (requester endpoint : HnsrPeerId) → (size : ℕ) → OpenRead
+abbrev pub open_gathering : RelayPacket → (requester endpoint : HnsrPeerId) → (size : ℕ) → Read OpenBody
     → (waiting running : Work) → OpenGathered
 open_gathering q requester endpoint size read waiting running = record {
   packet = q;

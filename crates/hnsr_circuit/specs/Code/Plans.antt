@@ -1,7 +1,9 @@
 -- What the code decides before it writes: of each call one value, from what the lookups and the scan found.
-use Rattle.std.specs.Prelude.{ℕ, cond, not, ◌&&◌, List}
-use Rattle.hnsr_body.specs.declared.data_body.WindowRead.{WindowRead}
-use Rattle.hnsr_body.specs.declared.detail_body.DetailRead.{DetailRead}
+use Rattle.std.specs.Prelude.{ℕ, cond, List, Result, Ok}
+use Rattle.std.specs.Result.{result_and}
+use Rattle.hnsr_body.specs.declared.layout.Read.{Read}
+use Rattle.hnsr_body.specs.declared.data_body.WindowBody.{WindowBody}
+use Rattle.hnsr_body.specs.declared.detail_body.ReasonDetail.{ReasonDetail}
 use Rattle.hnsr_body.specs.Data.{data_checked, decode_window}
 use Rattle.hnsr_body.specs.Detail.{decode_detail}
 use Rattle.hns_encoding.specs.Sums.{count}
@@ -23,8 +25,8 @@ use Rattle.hnsr_circuit.specs.declared.records.InflightKind.TheVariants.{Control
 use Rattle.hnsr_circuit.specs.declared.messages.data.DataPlan.{DataPlan}
 use Rattle.hnsr_circuit.specs.declared.messages.window.WindowPlan.{WindowPlan}
 use Rattle.hnsr_circuit.specs.declared.messages.close.ClosePlan.{ClosePlan}
-use Rattle.hnsr_circuit.specs.declared.answer.HnsrAnswer.{HnsrAnswer}
-use Rattle.hnsr_circuit.specs.Answers.{body_answer, taken, ◌then◌}
+use Rattle.hnsr_circuit.specs.declared.answer.HnsrRuntimeError.{HnsrRuntimeError}
+use Rattle.hnsr_circuit.specs.Answers.{HnsrAnswer, body_answer, ◌then◌}
 use Rattle.hnsr_circuit.specs.Pending.{named_by}
 use Rattle.hnsr_circuit.specs.Circuits.{side_of, circuit_at}
 use Rattle.hnsr_circuit.specs.Ledger.{usage_at}
@@ -49,63 +51,59 @@ data_rows k f u t peer n =
     then flow_answer k f.circuit (side_of peer f.circuit) n
 
 abbrev pub data_plan : OpaqueRelayRuntime → CircuitFound → UsageFound → ActionScan → HnsrPeerId → Outgoing
-    → (n : ℕ) → DataPlan
-data_plan h f u s peer m n = let a = data_rows h.config f u s.tally peer n in record {
-  answer = a;
-  go = taken a;
+    → (n : ℕ) → Result DataPlan HnsrRuntimeError
+data_plan h f u s peer m n = result_and (data_rows h.config f u s.tally peer n) (Ok (record {
   place = f.place;
   side = side_of peer f.circuit;
   usage_place = u.place;
-  runtime = cond (taken a) (with_counters h (count_bytes n h.counters)) h;
+  runtime = with_counters h (count_bytes n h.counters);
   message = m;
   scan = s;
-}
+}))
 
 -- on a circuit, from the tables: its reservation's ledger record, the actions
 abbrev pub data_planned_on : OpaqueRelayRuntime → CircuitFound → List ReservationUsage → List InflightAction
-    → RelayPacket
-    → HnsrPeerId → (n : ℕ) → DataPlan
+    → RelayPacket → HnsrPeerId → (n : ℕ) → Result DataPlan HnsrRuntimeError
 data_planned_on h f l i q peer n =
     let m = data_on q f.circuit peer n in
     data_plan h f (usage_found (usage_at f.circuit.reservation_id) l) (actions_scanned (asking h m) i) peer m n
 
 -- on the one that the packet names
 abbrev pub data_planned : OpaqueRelayRuntime → List RelayCircuit → List ReservationUsage → List InflightAction
-    → RelayPacket → HnsrPeerId → (n : ℕ) → DataPlan
+    → RelayPacket → HnsrPeerId → (n : ℕ) → Result DataPlan HnsrRuntimeError
 data_planned h c l i q peer n = data_planned_on h (circuit_found (circuit_at q.context_id) c) l i q peer n
 
 -- ---- WINDOW
-abbrev pub window_rows : OpaqueRelayConfig → WindowRead → CircuitFound → InflightTally → HnsrPeerId → HnsrAnswer
+abbrev pub window_rows : OpaqueRelayConfig → Read WindowBody → CircuitFound → InflightTally → HnsrPeerId → HnsrAnswer
 window_rows k read f t peer =
     body_answer read.result
     then circuit_answer f.found f.circuit peer
     then capacity_answer k t
     then credit_answer f.circuit (side_of peer f.circuit) read.body.credit_delta
 
-abbrev pub window_plan : OpaqueRelayConfig → WindowRead → CircuitFound → ActionScan → HnsrPeerId → Outgoing → WindowPlan
-window_plan k read f s peer m = let a = window_rows k read f s.tally peer in record {
-  answer = a;
-  go = taken a;
+abbrev pub window_plan : OpaqueRelayConfig → Read WindowBody → CircuitFound → ActionScan → HnsrPeerId → Outgoing
+    → Result WindowPlan HnsrRuntimeError
+window_plan k read f s peer m = result_and (window_rows k read f s.tally peer) (Ok (record {
   place = f.place;
   side = side_of peer f.circuit;
   delta = read.body.credit_delta;
   message = m;
   scan = s;
-}
+}))
 
-abbrev pub window_planned_on : OpaqueRelayRuntime → WindowRead → CircuitFound → List InflightAction → RelayPacket
-    → HnsrPeerId → WindowPlan
+abbrev pub window_planned_on : OpaqueRelayRuntime → Read WindowBody → CircuitFound → List InflightAction → RelayPacket
+    → HnsrPeerId → Result WindowPlan HnsrRuntimeError
 window_planned_on h read f i q peer =
     let m = passed_on q f.circuit peer Control in
     window_plan h.config read f (actions_scanned (asking h m) i) peer m
 
 abbrev pub window_planned : OpaqueRelayRuntime → List RelayCircuit → List InflightAction → RelayPacket → HnsrPeerId
-    → (body : List ℕ) → WindowPlan
+    → (body : List ℕ) → Result WindowPlan HnsrRuntimeError
 window_planned h c i q peer body =
     window_planned_on h (decode_window body) (circuit_found (circuit_at q.context_id) c) i q peer
 
 -- ---- CLOSE and ERROR
-abbrev pub close_rows : DetailRead → (matches : ℕ) → CircuitFound → HnsrPeerId → HnsrAnswer
+abbrev pub close_rows : Read ReasonDetail → (matches : ℕ) → CircuitFound → HnsrPeerId → HnsrAnswer
 close_rows read matches f peer =
     body_answer read.result then close_answer matches (circuit_answer f.found f.circuit peer)
 
@@ -116,26 +114,25 @@ close_id q w = cond w.found w.pending.circuit_id q.context_id
 abbrev pub close_message : RelayPacket → PendingFound → CircuitFound → HnsrPeerId → Outgoing
 close_message q w f peer = cond w.found (translated_on q w.pending peer) (passed_on q f.circuit peer Close)
 
-abbrev pub close_plan : OpaqueRelayRuntime → RelayPacket → DetailRead → (matches : ℕ) → PendingFound → CircuitFound
-    → HnsrPeerId → ClosePlan
-close_plan h q read matches w f peer = let a = close_rows read matches f peer in record {
-  answer = a;
-  go = taken a;
-  ends_pending = taken a && w.found;
-  ends_circuit = taken a && not w.found;
+abbrev pub close_plan : OpaqueRelayRuntime → RelayPacket → Read ReasonDetail → (matches : ℕ) → PendingFound
+    → CircuitFound
+    → HnsrPeerId → Result ClosePlan HnsrRuntimeError
+close_plan h q read matches w f peer = result_and (close_rows read matches f peer) (Ok (record {
+  ends_pending = w.found;
   pending_place = w.place;
   circuit_place = f.place;
   id = close_id q w;
-  runtime = cond (taken a) (with_counters h (count_revoked h.counters)) h;
+  runtime = with_counters h (count_revoked h.counters);
   message = close_message q w f peer;
-}
+}))
 
-abbrev pub close_planned_on : OpaqueRelayRuntime → List RelayPending → List RelayCircuit → RelayPacket → DetailRead
-    → HnsrPeerId → ClosePlan
+abbrev pub close_planned_on : OpaqueRelayRuntime → List RelayPending → List RelayCircuit → RelayPacket
+    → Read ReasonDetail
+    → HnsrPeerId → Result ClosePlan HnsrRuntimeError
 close_planned_on h p c q read peer =
     let naming = named_by peer q.context_id in
     close_plan h q read (count naming p) (pending_found naming p) (circuit_found (circuit_at q.context_id) c) peer
 
 abbrev pub close_planned : OpaqueRelayRuntime → List RelayPending → List RelayCircuit → RelayPacket → HnsrPeerId
-    → (body : List ℕ) → ClosePlan
+    → (body : List ℕ) → Result ClosePlan HnsrRuntimeError
 close_planned h p c q peer body = close_planned_on h p c q (decode_detail body) peer

@@ -1,22 +1,23 @@
 -- What the code decides of a message that is to be queued after an answer.
-use Rattle.std.specs.Prelude.{◌+◌, ◌≡◌, true, false, []}
+use Rattle.std.specs.Prelude.{◌+◌, [], Result, Ok}
+use Rattle.std.specs.Result.{result_and}
 use Rattle.hnsr_circuit.specs.declared.output.queue.Outgoing.{Outgoing}
 use Rattle.hnsr_circuit.specs.declared.tables.scan.ActionScan.{ActionScan}
 use Rattle.hnsr_circuit.specs.declared.output.queue.Queued.{Queued}
 use Rattle.hnsr_circuit.specs.declared.runtime.OpaqueRelayRuntime.{OpaqueRelayRuntime}
-use Rattle.hnsr_circuit.specs.declared.answer.HnsrAnswer.{HnsrAnswer}
-use Rattle.hnsr_circuit.specs.Answers.{taken, ◌then◌}
+use Rattle.hnsr_circuit.specs.declared.answer.HnsrRuntimeError.{HnsrRuntimeError}
+use Rattle.hnsr_circuit.specs.Answers.{HnsrAnswer, ◌then◌}
 use Rattle.hnsr_circuit.specs.Runtime.{with_sequence}
 use Rattle.hnsr_circuit.specs.Queue.{queue_answer, action_for}
 use Rattle.hnsr_circuit.specs.Code.Progress.{message_of, scan_place}
 
-pub record Queueing (before : HnsrAnswer) (h : OpaqueRelayRuntime) (m : Outgoing) (s : ActionScan)
-    (r : Queued) : Type 0 where
-  pub answer : r.answer ≡ (before
-      then queue_answer h.config s.tally h.next_action_sequence m.context_id)
-  pub go : r.go ≡ taken r.answer
-  -- the sequence moved on
-  pub moves : r.go ≡ true → r.runtime ≡ with_sequence h (h.next_action_sequence + 1)
-  pub stays : r.go ≡ false → r.runtime ≡ h
-  pub place : r.place ≡ scan_place s
-  pub action : r.action ≡ action_for (message_of m []) h.generation h.next_action_sequence
+-- what was answered before, or refuses the message, is the answer; else the sequence is moved on, and the action stands
+-- at its place
+abbrev pub queueing : (before : HnsrAnswer) → OpaqueRelayRuntime → Outgoing → ActionScan
+    → Result Queued HnsrRuntimeError
+queueing before h m s =
+    result_and (before then queue_answer h.config s.tally h.next_action_sequence m.context_id) (Ok (record {
+      runtime = with_sequence h (h.next_action_sequence + 1);
+      place = scan_place s;
+      action = action_for (message_of m []) h.generation h.next_action_sequence;
+    }))

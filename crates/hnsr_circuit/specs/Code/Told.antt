@@ -1,21 +1,20 @@
 -- What `status`, `next_due` and `new` hand back, as the code does: the answer, and what is told or made.
-use Rattle.std.specs.Prelude.{ℕ, ◌≡◌, false, cond, List}
+use Rattle.std.specs.Prelude.{ℕ, ◌≡◌, false, cond, List, Option, None, Result, Ok}
+use Rattle.std.specs.Result.{result_and}
 use Rattle.hnsr_circuit.specs.declared.records.RelayPending.{RelayPending}
 use Rattle.hnsr_circuit.specs.declared.records.RelayCircuit.{RelayCircuit}
 use Rattle.hnsr_circuit.specs.declared.records.ReservationUsage.{ReservationUsage}
 use Rattle.hnsr_circuit.specs.declared.records.InflightAction.{InflightAction}
-use Rattle.hnsr_circuit.specs.declared.runtime.NextDue.{NextDue}
-use Rattle.hnsr_circuit.specs.declared.runtime.NextDue.TheVariants.{Never}
 use Rattle.hnsr_circuit.specs.declared.runtime.HnsrRuntimeStatus.{HnsrRuntimeStatus}
 use Rattle.hnsr_circuit.specs.declared.runtime.StatusTold.{StatusTold}
-use Rattle.hnsr_circuit.specs.declared.runtime.DueTold.{DueTold}
+use Rattle.hnsr_circuit.specs.declared.answer.HnsrRuntimeError.{HnsrRuntimeError}
 use Rattle.hnsr_circuit.specs.declared.runtime.Relayed.{Relayed}
 use Rattle.hnsr_circuit.specs.Answers.{taken}
 use Rattle.hnsr_circuit.specs.Runtime.{no_runtime}
 use Rattle.hnsr_circuit.specs.Code.Held.{no_place, every_place}
 use Rattle.hnsr_circuit.specs.World.{Told, silent, status_is, due_is, Outcome, world_of}
 
--- a refusal tells nothing: zeros, and never
+-- what is told where it is not the status: zeros
 abbrev pub no_status : HnsrRuntimeStatus
 no_status = record {
   generation = 0;
@@ -42,17 +41,17 @@ capacity_in silent = 0
 capacity_in (status_is s capacity) = capacity
 capacity_in (due_is d) = 0
 
-abbrev pub due_in : Told → NextDue
-due_in silent = Never
-due_in (status_is s capacity) = Never
+abbrev pub due_in : Told → Option ℕ
+due_in silent = None
+due_in (status_is s capacity) = None
 due_in (due_is d) = d
 
-abbrev pub status_told : Outcome → StatusTold
+abbrev pub status_told : Outcome → Result StatusTold HnsrRuntimeError
 status_told o =
-    record { answer = o.answer; status = status_in o.told; action_capacity = capacity_in o.told }
+    result_and o.answer (Ok (record { status = status_in o.told; action_capacity = capacity_in o.told }))
 
-abbrev pub due_told : Outcome → DueTold
-due_told o = record { answer = o.answer; due = due_in o.told }
+abbrev pub due_told : Outcome → Result (Option ℕ) HnsrRuntimeError
+due_told o = result_and o.answer (Ok (due_in o.told))
 
 -- what `new` hands back: its answer; the tables as they are seen; the runtime that it makes with no place in use, or,
 -- where it is refused, zeros and off, with the marks alone to decide

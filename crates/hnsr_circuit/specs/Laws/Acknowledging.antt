@@ -1,10 +1,10 @@
 -- What the code does with an acknowledged action is the definition's: removed, its queue lowered, and, undelivered,
 -- what it was for ended.
-use Rattle.std.specs.Prelude.{ℕ, ◌≡◌, Bool, cond, not, ◌&&◌, List, []}
-use Rattle.std.proofs.Math.Path.{refl, sym, ap}
-use Rattle.std.proofs.Common.{◌∙◌, true≢false}
+use Rattle.std.specs.Prelude.{ℕ, ◌≡◌, ◌⊎◌, Bool, List, [], Ok}
+use Rattle.std.proofs.Math.Path.{sym, ap}
+use Rattle.std.proofs.Math.Logic.{inl, inr}
+use Rattle.std.proofs.Common.{◌∙◌}
 use Rattle.std.proofs.Math.Bool.{true, false}
-use Rattle.std.proofs.lemmas.Bool.{false≢true}
 use Rattle.std.proofs.Math.ListN.{set}
 use Rattle.hnsr_body.specs.declared.messages.Notice.TheVariants.{EndpointWriteFailed, OuterWriteFailed}
 use Rattle.hnsr_body.specs.Messages.{notice_body}
@@ -14,15 +14,13 @@ use Rattle.hnsr_circuit.specs.declared.records.RelayCircuit.{RelayCircuit}
 use Rattle.hnsr_circuit.specs.declared.records.ReservationUsage.{ReservationUsage}
 use Rattle.hnsr_circuit.specs.declared.records.InflightAction.{InflightAction}
 use Rattle.hnsr_circuit.specs.declared.records.InflightKind.{InflightKind}
-use Rattle.hnsr_circuit.specs.declared.records.InflightKind.TheVariants.{Incoming, Opened, Data, Control, Close}
+use Rattle.hnsr_circuit.specs.declared.records.InflightKind.TheVariants.{Opened, Data, Control}
 use Rattle.hnsr_circuit.specs.declared.output.queue.Outgoing.{Outgoing}
 use Rattle.hnsr_circuit.specs.declared.runtime.OpaqueRelayRuntime.{OpaqueRelayRuntime}
 use Rattle.hnsr_circuit.specs.declared.runtime.Relayed.{Relayed}
-use Rattle.hnsr_circuit.specs.declared.answer.HnsrAnswer.TheVariants.{Taken}
-use Rattle.hnsr_circuit.specs.Table.{any, pick, place_of, edit}
+use Rattle.hnsr_circuit.specs.Table.{any, pick, place_of}
 use Rattle.hnsr_circuit.specs.Pending.{no_pending, pending_at, clear_pending}
-use Rattle.hnsr_circuit.specs.Circuits.{circuit_at, lowered}
-use Rattle.hnsr_circuit.specs.Inflight.{no_action, action_at, clear_action, kind_of, toward_side}
+use Rattle.hnsr_circuit.specs.Inflight.{no_action, action_at, clear_action, kind_of}
 use Rattle.hnsr_circuit.specs.World.{World, Outcome, done, world_of}
 use Rattle.hnsr_circuit.specs.Queue.{finished, send}
 use Rattle.hnsr_circuit.specs.Code.Progress.{message_of, filled_to, placed, result, handed_back, ending}
@@ -30,14 +28,13 @@ use Rattle.hnsr_circuit.specs.Revocation.{without_pending, error_to_requester, r
 use Rattle.hnsr_circuit.specs.Acknowledge.{lower_for, released, fail_pending, fail_incoming}
 use Rattle.hnsr_circuit.specs.Acknowledge.{undelivered, settled, acknowledge_action}
 use Rattle.hnsr_circuit.specs.Code.Revoking.{error_out, revoked_if}
-use Rattle.hnsr_circuit.specs.Code.Settling.{settlement_for}
 use Rattle.hnsr_circuit.specs.Laws.Lookups.{pick_at}
 use Rattle.hnsr_circuit.specs.Laws.Edits.{edit-set}
 
 -- ---- a call that is taken and sends nothing
 pub taken-is-done : (r : Relayed) (h : OpaqueRelayRuntime) (p : List RelayPending) (c : List RelayCircuit)
     (l : List ReservationUsage) (i : List InflightAction) (out : List ℕ)
-    → (r.runtime ≡ h) × (r.answer ≡ Taken) × (r.words ≡ 0)
+    → (r.runtime ≡ h) × (r.answer ≡ Ok tt) × (r.words ≡ 0)
     → handed_back r p c l i out ≡ ending out (done (world_of h p c l i) [])
 unfolding filled_to placed
 taken-is-done r h p c l i out e = λ x. result (world_of (e.0 x) p c l i) (e.1 x) (e.2 x) out
@@ -62,7 +59,7 @@ module _ (h : OpaqueRelayRuntime) (p : List RelayPending) (c : List RelayCircuit
       ∙ sym (on-true _ (fail_pending (world_of h p c l i) id k) (done (world_of h p c l i) []) t)
 
   pub none_failed : (r : Relayed) (out : List ℕ) → any (pending_at id) p ≡ false
-      → (r.runtime ≡ h) × (r.answer ≡ Taken) × (r.words ≡ 0)
+      → (r.runtime ≡ h) × (r.answer ≡ Ok tt) × (r.words ≡ 0)
       → handed_back r p c l i out ≡ ending out (fail_incoming (world_of h p c l i) id)
   unfolding fail_incoming
   none_failed r out f e =
@@ -72,66 +69,28 @@ module _ (h : OpaqueRelayRuntime) (p : List RelayPending) (c : List RelayCircuit
       (done (world_of h p c l i) []) f))
 
 -- ---- by kind
-module _ (w : World) (a : InflightAction) where
-  fail-by : (k : InflightKind) (d : Bool) → kind_of a.kind ≡ k → (not d && (settlement_for k).fails) ≡ true
-      → fail_incoming w a.circuit_id ≡ settled w a d
-  unfolding settled undelivered
-  fail-by k true e t = absurd (false≢true t)
-  fail-by Incoming false e t = ap (λ (x : InflightKind). undelivered x w a.circuit_id) (sym e)
-  fail-by Opened false e t = absurd (false≢true t)
-  fail-by Data false e t = absurd (false≢true t)
-  fail-by Control false e t = absurd (false≢true t)
-  fail-by Close false e t = absurd (false≢true t)
+module _ (w : World) (a : InflightAction) (d : Bool) where
+  pub settled-delivered : d ≡ true → done w [] ≡ settled w a d
+  unfolding settled
+  settled-delivered t = rw t
 
-  revoke-by : (k : InflightKind) (d : Bool) → kind_of a.kind ≡ k → (not d && (settlement_for k).revokes) ≡ true
-      → finished (revoke_circuit OuterWriteFailed w a.circuit_id) ≡ settled w a d
-  unfolding settled undelivered
-  revoke-by k true e t = absurd (false≢true t)
-  revoke-by Incoming false e t = absurd (false≢true t)
-  revoke-by Opened false e t = ap (λ (x : InflightKind). undelivered x w a.circuit_id) (sym e)
-  revoke-by Data false e t = ap (λ (x : InflightKind). undelivered x w a.circuit_id) (sym e)
-  revoke-by Control false e t = ap (λ (x : InflightKind). undelivered x w a.circuit_id) (sym e)
-  revoke-by Close false e t = absurd (false≢true t)
+  pub settled-by : (k : InflightKind) → kind_of a.kind ≡ k → d ≡ false → undelivered k w a.circuit_id ≡ settled w a d
+  unfolding settled
+  settled-by k e f = rw (f, e)
 
-  done-by : (k : InflightKind) (d : Bool) → kind_of a.kind ≡ k → (not d && (settlement_for k).fails) ≡ false
-      → (not d && (settlement_for k).revokes) ≡ false → done w [] ≡ settled w a d
-  unfolding settled undelivered
-  done-by k true e f g = refl
-  done-by Incoming false e f g = absurd (true≢false f)
-  done-by Opened false e f g = absurd (true≢false g)
-  done-by Data false e f g = absurd (true≢false g)
-  done-by Control false e f g = absurd (true≢false g)
-  done-by Close false e f g = ap (λ (x : InflightKind). undelivered x w a.circuit_id) (sym e)
-
-  pub settled_failed : (d : Bool) → (not d && (settlement_for (kind_of a.kind)).fails) ≡ true
-      → fail_incoming w a.circuit_id ≡ settled w a d
-  settled_failed d t = fail-by (kind_of a.kind) d refl t
-
-  pub settled-revoked : (d : Bool) → (not d && (settlement_for (kind_of a.kind)).revokes) ≡ true
-      → finished (revoke_circuit OuterWriteFailed w a.circuit_id) ≡ settled w a d
-  settled-revoked d t = revoke-by (kind_of a.kind) d refl t
-
-  pub settled-done : (d : Bool) → (not d && (settlement_for (kind_of a.kind)).fails) ≡ false
-      → (not d && (settlement_for (kind_of a.kind)).revokes) ≡ false → done w [] ≡ settled w a d
-  settled-done d f g = done-by (kind_of a.kind) d refl f g
+  pub settled-revoked : (k : InflightKind) → kind_of a.kind ≡ k → (k ≡ Opened) ⊎ (k ≡ Data) ⊎ (k ≡ Control)
+      → d ≡ false → finished (revoke_circuit OuterWriteFailed w a.circuit_id) ≡ settled w a d
+  unfolding undelivered
+  settled-revoked k e (inl h) f = settled-by Opened (e ∙ h) f
+  settled-revoked k e (inr (inl h)) f = settled-by Data (e ∙ h) f
+  settled-revoked k e (inr (inr h)) f = settled-by Control (e ∙ h) f
 
 -- ---- the action removed, its queue lowered
-lowers_by : (k : InflightKind) (a : InflightAction) (c : List RelayCircuit)
-    → cond (settlement_for k).lowers (edit (circuit_at a.circuit_id) (lowered (toward_side a) a.bytes) c) c
-    ≡ lower_for k a c
-unfolding lower_for
-lowers_by Incoming a c = refl
-lowers_by Opened a c = refl
-lowers_by Data a c = refl
-lowers_by Control a c = refl
-lowers_by Close a c = refl
-
 pub action-settled : (h : OpaqueRelayRuntime) (p : List RelayPending) (c : List RelayCircuit)
     (l : List ReservationUsage) (i : List InflightAction) (generation sequence : ℕ) (d : Bool) (c' : List RelayCircuit)
     (i' : List InflightAction) (a : InflightAction) → a ≡ pick (action_at generation sequence) no_action i
     → i' ≡ set i (place_of (action_at generation sequence) i) (clear_action a)
-    → c' ≡ cond (settlement_for (kind_of a.kind)).lowers
-    (edit (circuit_at a.circuit_id) (lowered (toward_side a) a.bytes) c) c
+    → c' ≡ lower_for (kind_of a.kind) a c
     → settled (world_of h p c' l i') a d ≡ acknowledge_action (world_of h p c l i) generation sequence d a
 unfolding acknowledge_action released
 action-settled h p c l i generation sequence d c' i' a ea ei ec =
@@ -139,5 +98,4 @@ action-settled h p c l i generation sequence d c' i' a ea ei ec =
     let gone = ei
     ∙ ap (λ (x : InflightAction). set i (place_of q i) (clear_action x)) (ea ∙ sym (pick_at q no_action i))
     ∙ sym (edit-set q clear_action no_action i) in
-    let low = ec ∙ lowers_by (kind_of a.kind) a c in
-    λ x. settled (world_of h p (low x) l (gone x)) a d
+    λ x. settled (world_of h p (ec x) l (gone x)) a d

@@ -1,6 +1,6 @@
 -- Laws of answers: rows in order are taken exactly where each is, a check exactly where its test is false, and which
 -- numbers a list of rows never gives.
-use Rattle.std.specs.Prelude.{ℕ, ◌≡◌, refl, Bool, true, false, eqb}
+use Rattle.std.specs.Prelude.{ℕ, ◌≡◌, refl, Bool, true, false, eqb, Ok, Err}
 use Rattle.std.proofs.Common.{true≢false}
 use Rattle.std.proofs.lemmas.Bool.{eqb-false}
 use Rattle.hnsr_circuit.specs.declared.answer.HnsrRuntimeError.{HnsrRuntimeError}
@@ -14,36 +14,34 @@ use Rattle.hnsr_circuit.specs.declared.answer.HnsrRuntimeError.TheVariants.{Wron
 use Rattle.hnsr_circuit.specs.declared.answer.HnsrRuntimeError.TheVariants.{FlowControl, ByteLimit, NoQueuedData}
 use Rattle.hnsr_circuit.specs.declared.answer.HnsrRuntimeError.TheVariants.{UnknownAction, CorruptSnapshot}
 use Rattle.hnsr_circuit.specs.declared.answer.HnsrRuntimeError.TheVariants.{Short, LedgerFull}
-use Rattle.hnsr_circuit.specs.declared.answer.HnsrAnswer.{HnsrAnswer}
-use Rattle.hnsr_circuit.specs.declared.answer.HnsrAnswer.TheVariants.{Taken, Refused}
-use Rattle.hnsr_circuit.specs.Answers.{error_number, number, check, ◌then◌, taken}
+use Rattle.hnsr_circuit.specs.Answers.{HnsrAnswer, error_number, number, check, ◌then◌, taken}
 
-pub check-taken : (b : Bool) (e : HnsrRuntimeError) → check b e ≡ Taken → b ≡ false
+pub check-taken : (b : Bool) (e : HnsrRuntimeError) → check b e ≡ Ok tt → b ≡ false
 check-taken true e h = cc
 check-taken false e h = refl
 
-pub taken-check : (b : Bool) (e : HnsrRuntimeError) → b ≡ false → check b e ≡ Taken
+pub taken-check : (b : Bool) (e : HnsrRuntimeError) → b ≡ false → check b e ≡ Ok tt
 taken-check b e h = rw h
 
-pub then_taken : (a b : HnsrAnswer) → (a then b) ≡ Taken → (a ≡ Taken) × (b ≡ Taken)
-then_taken Taken b h = (refl, h)
-then_taken (Refused e) b h = (h, cc)
+pub then_taken : (a b : HnsrAnswer) → (a then b) ≡ Ok tt → (a ≡ Ok tt) × (b ≡ Ok tt)
+then_taken (Ok _) b h = (refl, h)
+then_taken (Err e) b h = (h, cc)
 
-pub taken_then : (a b : HnsrAnswer) → a ≡ Taken → b ≡ Taken → (a then b) ≡ Taken
+pub taken_then : (a b : HnsrAnswer) → a ≡ Ok tt → b ≡ Ok tt → (a then b) ≡ Ok tt
 taken_then a b h k = rw (h, k)
 
 -- ---- the first refusal is the answer, whatever rows come behind
 pub stop : (a x : HnsrAnswer) → taken a ≡ false → a ≡ (a then x)
-stop Taken x t = absurd (true≢false t)
-stop (Refused e) x t = refl
+stop (Ok _) x t = absurd (true≢false t)
+stop (Err e) x t = refl
 
 pub stop-two : (a b x : HnsrAnswer) → taken (a then b) ≡ false → (a then b) ≡ (a then b then x)
-stop-two Taken b x t = stop b x t
-stop-two (Refused e) b x t = refl
+stop-two (Ok _) b x t = stop b x t
+stop-two (Err e) b x t = refl
 
 pub stop-three : (a b c x : HnsrAnswer) → taken (a then b then c) ≡ false → (a then b then c) ≡ (a then b then c then x)
-stop-three Taken b c x t = stop-two b c x t
-stop-three (Refused e) b c x t = refl
+stop-three (Ok _) b c x t = stop-two b c x t
+stop-three (Err e) b c x t = refl
 
 -- ---- numbers that are never given
 pub check-never : (m : ℕ) (b : Bool) (e : HnsrRuntimeError) → eqb 0 m ≡ false → eqb (error_number e) m ≡ false
@@ -53,8 +51,8 @@ check-never m false e z h = z
 
 pub then_never : (m : ℕ) (a b : HnsrAnswer) → eqb (number a) m ≡ false → eqb (number b) m ≡ false
     → eqb (number (a then b)) m ≡ false
-then_never m Taken b h k = k
-then_never m (Refused e) b h k = h
+then_never m (Ok _) b h k = k
+then_never m (Err e) b h k = h
 
 -- ---- 0 is taken, and nothing else is
 error-some : (e : HnsrRuntimeError) → eqb (error_number e) 0 ≡ false
@@ -82,6 +80,6 @@ error-some CorruptSnapshot = refl
 error-some Short = refl
 error-some LedgerFull = refl
 
-pub number-zero : (a : HnsrAnswer) → number a ≡ 0 → a ≡ Taken
-number-zero Taken h = refl
-number-zero (Refused e) h = absurd (eqb-false (error_number e) 0 (error-some e) h)
+pub number-zero : (a : HnsrAnswer) → number a ≡ 0 → a ≡ Ok tt
+number-zero (Ok _) h = refl
+number-zero (Err e) h = absurd (eqb-false (error_number e) 0 (error-some e) h)

@@ -1,11 +1,11 @@
 -- How long the bodies are that the relay sends on or makes: none is longer than the longest DATA.
-use Rattle.std.specs.Prelude.{ℕ, ◌-◌, ◌≤◌, ◌≡◌, refl, List, eqb, leb, length}
+use Rattle.std.specs.Prelude.{ℕ, ◌-◌, ◌≤◌, ◌≡◌, refl, List, eqb, leb, length, Ok}
 use Rattle.std.proofs.Common.{arith, length-append, leb-true, eqb-true}
 use Rattle.hns_encoding.specs.Laws.Bytes.{le_bytes-length, be_bytes-length}
 use Rattle.hns_encoding.specs.Laws.Tests.{both}
 use Rattle.hnsr_body.specs.declared.error.HnsrInvalid.TheVariants.{DiagnosticDetail}
-use Rattle.hnsr_body.specs.declared.error.Checked.{Checked}
-use Rattle.hnsr_body.specs.declared.error.Checked.TheVariants.{Ok, Err}
+use Rattle.hnsr_body.specs.declared.error.HnsrProtocolError.{HnsrProtocolError}
+use Rattle.std.specs.Prelude.{Result, Err}
 use Rattle.hnsr_body.specs.declared.incoming_body.IncomingBody.{IncomingBody}
 use Rattle.hnsr_body.specs.declared.accept_body.OpenedBody.{OpenedBody}
 use Rattle.hnsr_body.specs.Utf8.{utf8}
@@ -18,29 +18,28 @@ use Rattle.hnsr_body.specs.Data.{most_data, data_good, data_checked, window_widt
 use Rattle.hnsr_body.specs.Detail.{detail_widths, headed, length_of, length_good, detail_of, decode_detail}
 use Rattle.hnsr_body.specs.Laws.Parts.{answer-good, laid-size}
 use Rattle.hnsr_body.specs.Laws.Fields.{bytes-length}
-use Rattle.hnsr_circuit.specs.declared.answer.HnsrAnswer.TheVariants.{Taken}
 use Rattle.hnsr_circuit.specs.Answers.{body_answer}
 
 -- ---- a body that is taken: its layout is right and its values are good
-taken_ok : (c : Checked) → body_answer c ≡ Taken → c ≡ Ok
-taken_ok Ok h = refl
+taken_ok : (c : Result Unit HnsrProtocolError) → body_answer c ≡ Ok tt → c ≡ Ok tt
+taken_ok (Ok done) h = refl
 taken_ok (Err cause) h = cc
 
 -- ---- DATA
-pub data_size : (body : List ℕ) → body_answer (data_checked (length body)) ≡ Taken → length body ≤ most_data
+pub data_size : (body : List ℕ) → body_answer (data_checked (length body)) ≡ Ok tt → length body ≤ most_data
 unfolding data_checked
 data_size body h =
-    let k = (answer-good Ok (data_good (length body)) _ (taken_ok _ h)).1 in
+    let k = (answer-good (Ok tt) (data_good (length body)) _ (taken_ok _ h)).1 in
     leb-true (length body) most_data (both (leb 1 (length body)) (leb (length body) most_data) k).1
 
 -- ---- WINDOW
-pub window-size : (body : List ℕ) → body_answer (decode_window body).result ≡ Taken → length body ≤ most_data
+pub window-size : (body : List ℕ) → body_answer (decode_window body).result ≡ Ok tt → length body ≤ most_data
 unfolding decode_window
 window-size body h =
     omega (arith, laid-size window_widths body (answer-good (laid_out window_widths body) _ _ (taken_ok _ h)).0)
 
 -- ---- CLOSE and ERROR
-pub detail-size : (body : List ℕ) → body_answer (decode_detail body).result ≡ Taken → length body ≤ most_data
+pub detail-size : (body : List ℕ) → body_answer (decode_detail body).result ≡ Ok tt → length body ≤ most_data
 unfolding decode_detail
 detail-size body h =
     let sized = (answer-good

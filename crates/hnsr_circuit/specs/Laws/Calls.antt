@@ -1,6 +1,6 @@
 -- How a call of the code ends as the definition's does: turned away by its answer, or gone on; and, where it sends,
 -- finished.
-use Rattle.std.specs.Prelude.{ℕ, ◌+◌, ◌*◌, ◌/◌, ◌≤◌, min, ◌≡◌, true, false, List, ltb, length}
+use Rattle.std.specs.Prelude.{ℕ, ◌+◌, ◌*◌, ◌/◌, ◌≤◌, min, ◌≡◌, true, false, List, ltb, length, Ok, Err}
 use Rattle.std.proofs.Common.{arith, sym, ap, ◌∙◌, true≢false, ltb-true, ltb-false, lt-ltb, le-ltb}
 use Rattle.std.proofs.Math.Path.{refl}
 use Rattle.std.proofs.lemmas.Bool.{false≢true}
@@ -13,9 +13,7 @@ use Rattle.hnsr_circuit.specs.declared.records.InflightAction.{InflightAction}
 use Rattle.hnsr_circuit.specs.declared.runtime.OpaqueRelayRuntime.{OpaqueRelayRuntime}
 use Rattle.hnsr_circuit.specs.declared.runtime.Relayed.{Relayed}
 use Rattle.hnsr_circuit.specs.declared.runtime.Sending.{Sending}
-use Rattle.hnsr_circuit.specs.declared.answer.HnsrAnswer.{HnsrAnswer}
-use Rattle.hnsr_circuit.specs.declared.answer.HnsrAnswer.TheVariants.{Taken, Refused}
-use Rattle.hnsr_circuit.specs.Answers.{taken}
+use Rattle.hnsr_circuit.specs.Answers.{HnsrAnswer, taken}
 use Rattle.hnsr_circuit.specs.World.{World, Outcome, proceed, world_of}
 use Rattle.hnsr_circuit.specs.Code.Progress.{filled_to, placed, Progress, progress}
 use Rattle.hnsr_circuit.specs.Code.Progress.{underway, result, handed_back, ending, outcome}
@@ -29,8 +27,8 @@ module _ (h : OpaqueRelayRuntime) (p : List RelayPending) (c : List RelayCircuit
   refuses : (a : HnsrAnswer) (o : Outcome) → taken a ≡ false
       → result (world_of h p c l i) a 0 out ≡ ending out (proceed (world_of h p c l i) a o)
   unfolding proceed filled_to placed
-  refuses Taken o f = absurd (true≢false f)
-  refuses (Refused e) o f = refl
+  refuses (Ok _) o f = absurd (true≢false f)
+  refuses (Err e) o f = refl
 
   -- a refusal hands back what it was given
   pub turned_away : (r : Relayed) (a b : HnsrAnswer) (o : Outcome) → (r.runtime ≡ h) × (r.answer ≡ a) × (r.words ≡ 0)
@@ -49,8 +47,8 @@ module _ (h : OpaqueRelayRuntime) (p : List RelayPending) (c : List RelayCircuit
 -- what is not refused goes on
 goes : (w : World) (a : HnsrAnswer) (o : Outcome) → taken a ≡ true → proceed w a o ≡ o
 unfolding proceed
-goes w Taken o t = refl
-goes w (Refused e) o t = absurd (false≢true t)
+goes w (Ok _) o t = refl
+goes w (Err e) o t = absurd (false≢true t)
 
 pub gone-on : (w : World) (a b : HnsrAnswer) (o : Outcome) → taken a ≡ true → a ≡ b → proceed w b o ≡ o
 gone-on w a b o t e = goes w b o (ap taken (sym e) ∙ t)
@@ -58,11 +56,11 @@ gone-on w a b o t e = goes w b o (ap taken (sym e) ∙ t)
 -- a call that has sent all is taken
 pub over : (r : Relayed) (s : Sending) (p : List RelayPending) (c : List RelayCircuit) (l : List ReservationUsage)
     (i : List InflightAction) (out : List ℕ) (t : Progress)
-    → (r.runtime ≡ s.runtime) × (r.answer ≡ Taken) × (r.words ≡ s.position) → underway s p c l i out ≡ t
-    → handed_back r p c l i out ≡ result t.world Taken t.position t.output
+    → (r.runtime ≡ s.runtime) × (r.answer ≡ Ok tt) × (r.words ≡ s.position) → underway s p c l i out ≡ t
+    → handed_back r p c l i out ≡ result t.world (Ok tt) t.position t.output
 over r s p c l i out t e h =
     (λ x. result (world_of (e.0 x) p c l i) (e.1 x) (e.2 x) out)
-    ∙ ap (λ (u : Progress). result u.world Taken u.position u.output) h
+    ∙ ap (λ (u : Progress). result u.world (Ok tt) u.position u.output) h
 
 -- what a call leaves in the output is the routes' words and then the old tail
 pub whole : (out : List ℕ) (w : World) (c : Call) → room_of c ≤ length out → length out ≤ top 64

@@ -1,6 +1,6 @@
 -- Who asks for the action capacity: what is sent, what is told, DATA, WINDOW, ACCEPT and OPEN. Where the rows in front
 -- pass, each finds none exactly where nothing is left: then the answer is a 10, or a revocation leaves its message out.
-use Rattle.std.specs.Prelude.{ℕ, ◌+◌, ◌<◌, ◌≡◌, Bool, ◌&&◌, ◌||◌, [], ◌∷◌, ◌↔◌, leb, ltb}
+use Rattle.std.specs.Prelude.{ℕ, ◌+◌, ◌<◌, ◌≡◌, Bool, ◌&&◌, ◌||◌, [], ◌∷◌, ◌↔◌, leb, ltb, Ok, Err}
 use Rattle.std.proofs.Common.{arith, ◌∙◌, true≢false}
 use Rattle.std.proofs.Math.Path.{refl, sym, ap, subst}
 use Rattle.std.proofs.Math.Bool.{true, false, not}
@@ -22,8 +22,6 @@ use Rattle.hnsr_circuit.specs.declared.records.RelaySide.{RelaySide}
 use Rattle.hnsr_circuit.specs.declared.records.RelayTicket.{RelayTicket}
 use Rattle.hnsr_circuit.specs.declared.records.ReservationUsage.{ReservationUsage}
 use Rattle.hnsr_circuit.specs.declared.tables.scan.InflightTally.{InflightTally}
-use Rattle.hnsr_circuit.specs.declared.answer.HnsrAnswer.{HnsrAnswer}
-use Rattle.hnsr_circuit.specs.declared.answer.HnsrAnswer.TheVariants.{Taken, Refused}
 use Rattle.hnsr_circuit.specs.declared.answer.HnsrRuntimeError.TheVariants.{Protocol, Capacity}
 use Rattle.hnsr_circuit.specs.declared.answer.HnsrRuntimeError.TheVariants.{GenerationExhausted}
 use Rattle.hnsr_circuit.specs.declared.answer.HnsrRuntimeError.TheVariants.{UnknownRequest, InvalidAdmission}
@@ -31,7 +29,7 @@ use Rattle.hnsr_circuit.specs.declared.answer.HnsrRuntimeError.TheVariants.{Dead
 use Rattle.hnsr_circuit.specs.declared.answer.HnsrRuntimeError.TheVariants.{FlowControl, LedgerFull}
 use Rattle.hns_encoding.specs.Sums.{count}
 use Rattle.hnsr_circuit.specs.declared.records.InflightKind.TheVariants.{Control}
-use Rattle.hnsr_circuit.specs.Answers.{number, check, body_answer, ◌then◌}
+use Rattle.hnsr_circuit.specs.Answers.{HnsrAnswer, number, check, body_answer, ◌then◌}
 use Rattle.hnsr_circuit.specs.Table.{any, pick}
 use Rattle.hnsr_circuit.specs.Peer.{same_peer}
 use Rattle.hnsr_circuit.specs.Pending.{no_pending, pending_at}
@@ -63,7 +61,7 @@ use Rattle.hnsr_circuit.specs.Laws.Inflight.{replacing-tally}
 abbrev Other : HnsrAnswer → Type 0
 Other a = eqb (number a) 10 ≡ false
 
-no_ten : {P : Type 0} (a : HnsrAnswer) → Other a → a ≡ Refused Capacity → P
+no_ten : {P : Type 0} (a : HnsrAnswer) → Other a → a ≡ Err Capacity → P
 no_ten a o e = absurd (true≢false (sym (ap (λ (x : HnsrAnswer). eqb (number x) 10) e) ∙ o))
 
 then_other : (a b : HnsrAnswer) → Other a → Other b → Other (a then b)
@@ -71,7 +69,7 @@ then_other a b = then_never 10 a b
 
 -- ---- the row, in front of whatever else
 asked : (n : ℕ) (rest : HnsrAnswer) → (eqb n 0 ≡ false → Other rest)
-    → ((check (eqb n 0) Capacity then rest) ≡ Refused Capacity) ↔ (n ≡ 0)
+    → ((check (eqb n 0) Capacity then rest) ≡ Err Capacity) ↔ (n ≡ 0)
 asked n rest other = (
   λ h. split (eqb n 0) (λ e. eqb-true n 0 e) (λ e. no_ten rest (other e) (rw e at h)),
   λ e. rw (eq-eqb n 0 e),
@@ -79,7 +77,7 @@ asked n rest other = (
 
 -- the same of an answer that is that row and the rest
 asked_by : (a : HnsrAnswer) (n : ℕ) (rest : HnsrAnswer) → a ≡ (check (eqb n 0) Capacity then rest)
-    → (eqb n 0 ≡ false → Other rest) → (a ≡ Refused Capacity) ↔ (n ≡ 0)
+    → (eqb n 0 ≡ false → Other rest) → (a ≡ Err Capacity) ↔ (n ≡ 0)
 asked_by a n rest e other =
     let k = asked n rest other in
     (λ h. k.0 (sym e ∙ h), λ z. e ∙ k.1 z)
@@ -87,16 +85,16 @@ asked_by a n rest e other =
 -- ---- a step's answer is that of its rows
 proceed-answer : (w : World) (a : HnsrAnswer) (o : Outcome) → (proceed w a o).answer ≡ (a then o.answer)
 unfolding proceed
-proceed-answer w Taken o = refl
-proceed-answer w (Refused e) o = refl
+proceed-answer w (Ok _) o = refl
+proceed-answer w (Err e) o = refl
 
 row_first : (n : ℕ) (b c : HnsrAnswer)
     → ((check (eqb n 0) Capacity then b) then c) ≡ (check (eqb n 0) Capacity then b then c)
 row_first n b c = split (eqb n 0) (λ e. rw e) (λ e. rw e)
 
-then_nothing : (a : HnsrAnswer) → (a then Taken) ≡ a
-then_nothing Taken = refl
-then_nothing (Refused e) = refl
+then_nothing : (a : HnsrAnswer) → (a then Ok tt) ≡ a
+then_nothing (Ok _) = refl
+then_nothing (Err e) = refl
 
 send-answer : (w : World) (m : Message) → (send w m).answer ≡ can_queue m w
 unfolding send
@@ -104,13 +102,13 @@ send-answer w m = proceed-answer w (can_queue m w) _ ∙ then_nothing (can_queue
 
 -- ---- capacity is taken exactly where something is left
 pub capacity_exactly : (c : OpaqueRelayConfig) (t : InflightTally)
-    → (capacity_answer c t ≡ Refused Capacity) ↔ (capacity_left c t ≡ 0)
+    → (capacity_answer c t ≡ Err Capacity) ↔ (capacity_left c t ≡ 0)
 unfolding capacity_answer
 capacity_exactly c t =
-    asked_by (check (eqb (capacity_left c t) 0) Capacity) (capacity_left c t) Taken (sym (then_nothing _)) (λ e. refl)
+    asked_by (check (eqb (capacity_left c t) 0) Capacity) (capacity_left c t) (Ok tt) (sym (then_nothing _)) (λ e. refl)
 
 pub capacity_passes : (c : OpaqueRelayConfig) (t : InflightTally)
-    → (capacity_answer c t ≡ Taken) ↔ (0 < capacity_left c t)
+    → (capacity_answer c t ≡ Ok tt) ↔ (0 < capacity_left c t)
 unfolding capacity_answer
 capacity_passes c t = let n = capacity_left c t in (
   λ h. omega (arith, eqb-false n 0 (check-taken (eqb n 0) Capacity h)),
@@ -134,18 +132,18 @@ send-other w m e = subst Other (sym (send-answer w m)) (queue-other (config_of w
 
 -- ---- a message can be queued, and then it is sent
 pub can-queue : (m : Message) (w : World) → eqb m.context 0 ≡ false → sequence_of w < top 64
-    → capacity_answer (config_of w) (tallied false m.circuit m.destination w.inflight) ≡ Taken
-    → can_queue m w ≡ Taken
+    → capacity_answer (config_of w) (tallied false m.circuit m.destination w.inflight) ≡ Ok tt
+    → can_queue m w ≡ Ok tt
 unfolding can_queue queue_answer
 can-queue m w e l c = rw (e, c, ne_eqb (sequence_of w) (top 64) (λ q. omega arith))
 
-pub send-taken : (w : World) (m : Message) → can_queue m w ≡ Taken → send w m ≡ done (queued m w) (routed m w ∷ [])
+pub send-taken : (w : World) (m : Message) → can_queue m w ≡ Ok tt → send w m ≡ done (queued m w) (routed m w ∷ [])
 unfolding send proceed
 send-taken w m h = rw h
 
 -- ---- what is sent, and what is told
 pub send_asks : (w : World) (m : Message) → eqb m.context 0 ≡ false
-    → ((send w m).answer ≡ Refused Capacity) ↔ (action_capacity w m.destination m.circuit ≡ 0)
+    → ((send w m).answer ≡ Err Capacity) ↔ (action_capacity w m.destination m.circuit ≡ 0)
 unfolding action_capacity can_queue queue_answer capacity_answer
 send_asks w m formed =
     asked_by (send w m).answer (action_capacity w m.destination m.circuit)
@@ -212,9 +210,9 @@ module _ (w : World) (q : Packet) where
   unfolding action_capacity with_data data_message
   passed-other n e = send-other _ _ e
 
-  pub data_asks : body_answer (data_checked (length q.body)) ≡ Taken
-      → circuit_answer (has_circuit w q.context) circuit (sender q) ≡ Taken
-      → ((handle_data w q).answer ≡ Refused Capacity) ↔ (action_capacity w (receiver circuit (sender q)) q.context ≡ 0)
+  pub data_asks : body_answer (data_checked (length q.body)) ≡ Ok tt
+      → circuit_answer (has_circuit w q.context) circuit (sender q) ≡ Ok tt
+      → ((handle_data w q).answer ≡ Err Capacity) ↔ (action_capacity w (receiver circuit (sender q)) q.context ≡ 0)
   unfolding handle_data data_with data_taken action_capacity capacity_answer
   data_asks sized named =
       let n = length q.body in
@@ -235,9 +233,9 @@ module _ (w : World) (q : Packet) where
   unfolding action_capacity with_window
   granted-other delta e = send-other _ _ e
 
-  pub window_asks : body_answer (decode_window q.body).result ≡ Taken
-      → circuit_answer (has_circuit w q.context) circuit (sender q) ≡ Taken
-      → ((handle_window w q).answer ≡ Refused Capacity)
+  pub window_asks : body_answer (decode_window q.body).result ≡ Ok tt
+      → circuit_answer (has_circuit w q.context) circuit (sender q) ≡ Ok tt
+      → ((handle_window w q).answer ≡ Err Capacity)
       ↔ (action_capacity w (receiver circuit (sender q)) q.context ≡ 0)
   unfolding handle_window window_with window_taken action_capacity capacity_answer
   window_asks read named =
@@ -257,7 +255,7 @@ module _ (w : World) (q : Packet) where
   abbrev body : AcceptBody
   body = accept_fields q.body
 
-  waiting-id : request_answer (any (pending_at q.context) w.pending) waiting (sender q) q.now ≡ Taken
+  waiting-id : request_answer (any (pending_at q.context) w.pending) waiting (sender q) q.now ≡ Ok tt
       → waiting.circuit_id ≡ q.context
   unfolding request_answer pending_at
   waiting-id h =
@@ -282,11 +280,11 @@ module _ (w : World) (q : Packet) where
       (sym (replacing-tally q.context waiting.requester w.inflight))
       ∙ e)
 
-  pub accept_asks : request_answer (any (pending_at q.context) w.pending) waiting (sender q) q.now ≡ Taken
-      → body_answer (decode_accept q.body).result ≡ Taken
+  pub accept_asks : request_answer (any (pending_at q.context) w.pending) waiting (sender q) q.now ≡ Ok tt
+      → body_answer (decode_accept q.body).result ≡ Ok tt
       → accept_answer (config_of w) waiting body (circuit_count w) (reservation_work w waiting.ticket.reservation_id)
-      ≡ Taken
-      → ((handle_accept w q).answer ≡ Refused Capacity)
+      ≡ Ok tt
+      → ((handle_accept w q).answer ≡ Err Capacity)
       ↔ (capacity_left (config_of w) (tallied true q.context waiting.requester w.inflight) ≡ 0)
   unfolding handle_accept accept_with accept_taken capacity_answer
   accept_asks there read fits =
@@ -322,11 +320,11 @@ module _ (w : World) (q : Packet) where
       (then_other row o.answer
       (usage_other asking.ticket (usage_of asking.ticket.reservation_id booking.ledger)) (incoming-other e))
 
-  pub open_asks : open_admitted w q ≡ Taken → peer_answer (length q.admission.endpoint) ≡ Taken
+  pub open_asks : open_admitted w q ≡ Ok tt → peer_answer (length q.admission.endpoint) ≡ Ok tt
       → endpoint_answer (config_of w) asking.ticket (same_peer asking.endpoint asking.requester)
-      (peer_work begun asking.endpoint) (reservation_work begun asking.body.reservation_id) ≡ Taken
-      → draw_answer (drawn begun q.random) ≡ Taken
-      → ((handle_open w q).answer ≡ Refused Capacity) ↔ (action_capacity w asking.endpoint asking.id ≡ 0)
+      (peer_work begun asking.endpoint) (reservation_work begun asking.body.reservation_id) ≡ Ok tt
+      → draw_answer (drawn begun q.random) ≡ Ok tt
+      → ((handle_open w q).answer ≡ Err Capacity) ↔ (action_capacity w asking.endpoint asking.id ≡ 0)
   unfolding handle_open open_lapsed open_granted open_placed action_capacity capacity_answer
   open_asks admitted named placed drew =
       let late = deadline_answer (config_of begun) q.now in

@@ -2,6 +2,7 @@
 -- queued one after the other, and the next finds a 10. `one_less` and `one_more`: how the number moves when an action
 -- is queued or removed, for its own peer and circuit and for any others; `dropped_more`: when actions are dropped.
 use Rattle.std.specs.Prelude.{ℕ, suc, ◌+◌, ◌-◌, min, ◌≤◌, ◌<◌, ◌≡◌, Bool, true, cond, List, [], ◌∷◌, length, replicate}
+use Rattle.std.specs.Prelude.{Ok, Err}
 use native.Mathlib.Omega.{arith}
 use Rattle.std.proofs.Math.Path.{refl}
 use Rattle.std.proofs.Common.{sym, ap, ◌∙◌, subst, eq-eqb, ne_eqb}
@@ -12,8 +13,7 @@ use Rattle.hns_encoding.specs.Sums.{only, non, total}
 use Rattle.hns_encoding.specs.Laws.Tests.{both, cond-le}
 use Rattle.hnsr_circuit.specs.declared.peer.HnsrPeerId.{HnsrPeerId}
 use Rattle.hnsr_circuit.specs.declared.records.InflightAction.{InflightAction}
-use Rattle.hnsr_circuit.specs.declared.answer.HnsrAnswer.{HnsrAnswer}
-use Rattle.hnsr_circuit.specs.declared.answer.HnsrAnswer.TheVariants.{Taken, Refused}
+use Rattle.hnsr_circuit.specs.Answers.{HnsrAnswer}
 use Rattle.hnsr_circuit.specs.declared.answer.HnsrRuntimeError.TheVariants.{Capacity}
 use Rattle.hnsr_circuit.specs.Table.{any, pick}
 use Rattle.hnsr_circuit.specs.Peer.{same_peer}
@@ -220,7 +220,7 @@ module _ (w : World) (generation sequence : ℕ) (there : any (action_at generat
 -- what the first is answered and the world that it leaves, and the rest: all are taken, and so many fewer are left
 pub record Taking (peer : HnsrPeerId) (circuit : ℕ) (before : ℕ) (answers : List HnsrAnswer) (after : World) (n : ℕ)
     : Type 0 where
-  pub taken : answers ≡ replicate n Taken
+  pub taken : answers ≡ replicate n (Ok tt)
   pub ready : Ready after
   pub left : action_capacity after peer circuit ≡ before - n
 
@@ -262,7 +262,7 @@ fits peer circuit (m ∷ ms) w R aimed low enough =
     Taking peer circuit n (o.answer ∷ answers_to o.world ms) (sent_all o.world ms) (suc (length ms)))
     (sym (first w R peer circuit m aimed.0 (omega arith) some))
     (record {
-      taken = ap {B = List HnsrAnswer} (λ l. Taken ∷ l) rest.taken;
+      taken = ap {B = List HnsrAnswer} (λ l. Ok tt ∷ l) rest.taken;
       ready = rest.ready;
       left = omega (arith, rest.left, fewer);
     })
@@ -271,7 +271,7 @@ fits peer circuit (m ∷ ms) w R aimed low enough =
 pub fits_exactly : (w : World) → Ready w → (peer : HnsrPeerId) (circuit : ℕ) (ms : List Message)
     → AllToward peer circuit ms → sequence_of w + length ms ≤ top 64 → length ms ≡ action_capacity w peer circuit
     → (m : Message) → Toward peer circuit m
-    → (answers_to w ms ≡ replicate (length ms) Taken) × ((send (sent_all w ms) m).answer ≡ Refused Capacity)
+    → (answers_to w ms ≡ replicate (length ms) (Ok tt)) × ((send (sent_all w ms) m).answer ≡ Err Capacity)
 fits_exactly w R peer circuit ms aimed low exact m last =
     let k = fits peer circuit ms w R aimed low (omega arith) in
     let v = sent_all w ms in (

@@ -1,14 +1,14 @@
 -- What the code does for a packet is the definition's: which handling an opcode picks; and a packet that the entry
 -- takes has a short body.
-use Rattle.std.specs.Prelude.{ℕ, ◌+◌, ◌≤◌, ◌<◌, ◌≡◌, Bool, true, cond, not, ◌&&◌, ◌||◌, List, eqb, ltb, length}
+use Rattle.std.specs.Prelude.{ℕ, ◌+◌, ◌≤◌, ◌<◌, ◌≡◌, Bool, true, cond, not, ◌&&◌, ◌||◌, List, eqb, ltb, length, Ok, Err}
 use Rattle.std.proofs.Common.{arith, ◌∙◌, ltb-false, eqb-true, ne_eqb}
 use Rattle.std.proofs.Math.Path.{sym, ap}
 use Rattle.std.proofs.lemmas.Bool.{eqb-false}
 use Rattle.hns_encoding.specs.Laws.Tests.{split, on-true, clash}
 use Rattle.hnsr_body.specs.declared.error.HnsrInvalid.TheVariants.{ContextZero}
 use Rattle.hnsr_body.specs.declared.error.HnsrProtocolError.TheVariants.{Invalid, TooLarge}
-use Rattle.hnsr_body.specs.declared.error.Checked.{Checked}
-use Rattle.hnsr_body.specs.declared.error.Checked.TheVariants.{Ok, Err}
+use Rattle.hnsr_body.specs.declared.error.HnsrProtocolError.{HnsrProtocolError}
+use Rattle.std.specs.Prelude.{Result}
 use Rattle.hnsr_body.specs.Packet.{most_packet, sample_routes, packet_size, packet_checked}
 use Rattle.hnsr_circuit.specs.declared.records.RelayPending.{RelayPending}
 use Rattle.hnsr_circuit.specs.declared.records.RelayCircuit.{RelayCircuit}
@@ -16,10 +16,8 @@ use Rattle.hnsr_circuit.specs.declared.records.ReservationUsage.{ReservationUsag
 use Rattle.hnsr_circuit.specs.declared.records.InflightAction.{InflightAction}
 use Rattle.hnsr_circuit.specs.declared.runtime.OpaqueRelayRuntime.{OpaqueRelayRuntime}
 use Rattle.hnsr_circuit.specs.declared.runtime.Relayed.{Relayed}
-use Rattle.hnsr_circuit.specs.declared.answer.HnsrAnswer.{HnsrAnswer}
-use Rattle.hnsr_circuit.specs.declared.answer.HnsrAnswer.TheVariants.{Taken, Refused}
 use Rattle.hnsr_circuit.specs.declared.answer.HnsrRuntimeError.TheVariants.{UnexpectedOpcode, Short}
-use Rattle.hnsr_circuit.specs.Answers.{check, body_answer, taken, ◌then◌}
+use Rattle.hnsr_circuit.specs.Answers.{HnsrAnswer, check, body_answer, taken, ◌then◌}
 use Rattle.hnsr_circuit.specs.Runtime.{with_clock}
 use Rattle.hnsr_circuit.specs.World.{World, at_time, world_of}
 use Rattle.hnsr_circuit.specs.Packet.{Packet}
@@ -96,21 +94,22 @@ other-opened n h =
     (λ e. omega arith)
 
 -- ---- a packet that is taken is at most 65,535 bytes, its header included
-packet-short : (opcode context n : ℕ) → packet_answer opcode context n ≡ Taken → n < 65536
+packet-short : (opcode context n : ℕ) → packet_answer opcode context n ≡ Ok tt → n < 65536
 unfolding packet_answer packet_checked
 packet-short opcode context n h =
     let large = Err (TooLarge (packet_size n) most_packet) in
-    let small = cond (eqb context 0 && not (eqb opcode sample_routes)) (Err (Invalid ContextZero)) Ok in
+    let small = cond (eqb context 0 && not (eqb opcode sample_routes)) (Err (Invalid ContextZero)) (Ok tt) in
     split (ltb most_packet (packet_size n))
     (λ t. clash (ap taken h)
-    (ap (λ (x : Checked). taken (body_answer x)) (on-true (ltb most_packet (packet_size n)) large small t)))
+    (ap (λ (x : Result Unit HnsrProtocolError). taken (body_answer x))
+    (on-true (ltb most_packet (packet_size n)) large small t)))
     (λ f. let k = ltb-false most_packet (packet_size n) f in omega arith)
 
 module _ (h : OpaqueRelayRuntime) (p : List RelayPending) (c : List RelayCircuit) (l : List ReservationUsage)
     (i : List InflightAction) where
   -- an opcode that no handling takes leaves all as it was
   pub left_alone : (r : Relayed) (n : ℕ) (q : Packet) (out : List ℕ)
-      → (r.runtime ≡ h) × (r.answer ≡ Refused UnexpectedOpcode) × (r.words ≡ 0)
+      → (r.runtime ≡ h) × (r.answer ≡ Err UnexpectedOpcode) × (r.words ≡ 0)
       → handling_of n ≡ other → handed_back r p c l i out ≡ ending out (dispatch (handling_of n) (world_of h p c l i) q)
   unfolding dispatch filled_to placed
   left_alone r n q out e o =

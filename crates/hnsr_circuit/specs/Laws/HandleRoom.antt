@@ -1,10 +1,9 @@
 -- What `handle` writes fits the words that it asks for: one route, of a body no longer than the longest DATA.
-use Rattle.std.specs.Prelude.{ℕ, ◌+◌, ◌≤◌, ◌≡◌, refl, Bool, true, false, cond, [], length}
+use Rattle.std.specs.Prelude.{ℕ, ◌+◌, ◌≤◌, ◌≡◌, refl, Bool, true, false, cond, [], length, Ok, Err}
 use Rattle.std.proofs.Common.{arith, ap}
 use Rattle.hnsr_body.specs.Data.{most_data}
 use Rattle.hnsr_circuit.specs.declared.records.RelayPending.{RelayPending}
-use Rattle.hnsr_circuit.specs.declared.answer.HnsrAnswer.{HnsrAnswer}
-use Rattle.hnsr_circuit.specs.declared.answer.HnsrAnswer.TheVariants.{Taken, Refused}
+use Rattle.hnsr_circuit.specs.Answers.{HnsrAnswer}
 use Rattle.hnsr_circuit.specs.Table.{any, pick}
 use Rattle.hnsr_circuit.specs.Laws.Answers.{then_taken}
 use Rattle.hnsr_circuit.specs.Peer.{same_peer}
@@ -28,11 +27,11 @@ use Rattle.hnsr_circuit.specs.Laws.BodySizes.{open_nonce, accept_nonce, incoming
 use Rattle.hnsr_circuit.specs.Laws.Room.{filled, filled-one}
 
 -- ---- ways to make an outcome
-pub proceed-fits : (w : World) (a : HnsrAnswer) (o : Outcome) (n : ℕ) → (a ≡ Taken → filled o.routes ≤ n)
+pub proceed-fits : (w : World) (a : HnsrAnswer) (o : Outcome) (n : ℕ) → (a ≡ Ok tt → filled o.routes ≤ n)
     → filled (proceed w a o).routes ≤ n
 unfolding proceed out_words
-proceed-fits w Taken o n h = h refl
-proceed-fits w (Refused e) o n h = omega arith
+proceed-fits w (Ok _) o n h = h refl
+proceed-fits w (Err e) o n h = omega arith
 
 pub cond-fits : (b : Bool) (x y : Outcome) (n : ℕ) → filled x.routes ≤ n → filled y.routes ≤ n
     → filled (cond b x y).routes ≤ n
@@ -70,7 +69,7 @@ window-fits : (w : World) (q : Packet) → filled (handle_window w q).routes ≤
 unfolding handle_window window_with window_taken
 window-fits w q = proceed-fits _ _ _ _ (λ a. send-fits _ _ most_data (window-size q.body (then_taken _ _ a).0))
 
-detail-fits : (q : Packet) → detail_answer q ≡ Taken → length q.body ≤ most_data
+detail-fits : (q : Packet) → detail_answer q ≡ Ok tt → length q.body ≤ most_data
 unfolding detail_answer
 detail-fits q h = detail-size q.body h
 

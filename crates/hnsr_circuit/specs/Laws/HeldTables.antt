@@ -1,6 +1,6 @@
 -- Laws of the four tables as they are seen: an unused record is its own clearing, what no unmarked record has, turns
 -- that do nothing at them, the end of the scan of the actions, and what is handed back with the numbers that came in.
-use Rattle.std.specs.Prelude.{ℕ, suc, ◌+◌, ◌≤◌, ◌<◌, min, ◌≡◌, Bool, cond, ◌||◌, ltb, length, drop}
+use Rattle.std.specs.Prelude.{ℕ, suc, ◌+◌, ◌≤◌, ◌<◌, min, ◌≡◌, Bool, cond, ◌||◌, ltb, length, drop, Option}
 use Rattle.std.proofs.Math.Nat.{add-zero}
 use Rattle.std.proofs.Common.{arith, sym, ◌∙◌, length-drop, lt-ltb, le-ltb}
 use Rattle.std.proofs.Math.Path.{refl, ap}
@@ -24,7 +24,6 @@ use Rattle.hnsr_circuit.specs.declared.tables.scan.LedgerScan.{LedgerScan}
 use Rattle.hnsr_circuit.specs.declared.tables.scan.Work.{Work}
 use Rattle.hnsr_circuit.specs.declared.tables.scan.WorkQuestion.{WorkQuestion}
 use Rattle.hnsr_circuit.specs.declared.tables.scan.CircuitTotals.{CircuitTotals}
-use Rattle.hnsr_circuit.specs.declared.runtime.NextDue.{NextDue}
 use Rattle.hnsr_circuit.specs.NextDue.{due_turn, deadline_of, expiry_of, usage_expiry_of}
 use Rattle.hnsr_circuit.specs.declared.tables.places.Places.{Places}
 use Rattle.hnsr_circuit.specs.declared.runtime.Relayed.{Relayed}
@@ -93,17 +92,17 @@ module _ (q : WorkQuestion) where
   unfolding is_circuit
   circuit-idle w c i = refl
 
-pub pending-due-idle : (d : NextDue) (p : RelayPending) (i : ℕ)
+pub pending-due-idle : (d : Option ℕ) (p : RelayPending) (i : ℕ)
     → due_turn is_pending deadline_of d (clear_pending p) i ≡ d
 unfolding due_turn is_pending
 pending-due-idle d p i = refl
 
-pub circuit-due-idle : (d : NextDue) (c : RelayCircuit) (i : ℕ)
+pub circuit-due-idle : (d : Option ℕ) (c : RelayCircuit) (i : ℕ)
     → due_turn is_circuit expiry_of d (clear_circuit c) i ≡ d
 unfolding due_turn is_circuit
 circuit-due-idle d c i = refl
 
-pub usage_due_idle : (d : NextDue) (u : ReservationUsage) (i : ℕ)
+pub usage_due_idle : (d : Option ℕ) (u : ReservationUsage) (i : ℕ)
     → due_turn is_usage usage_expiry_of d (clear_usage u) i ≡ d
 unfolding due_turn is_usage
 usage_due_idle d u i = refl

@@ -1,6 +1,6 @@
 -- What the code of ACCEPT and OPEN writes where it goes on is the definition's world, while a refusal leaves everything
 -- as it was.
-use Rattle.std.specs.Prelude.{ℕ, suc, ◌+◌, ◌-◌, ◌/◌, ◌≤◌, ◌<◌, ◌≡◌, Bool, true, false, cond}
+use Rattle.std.specs.Prelude.{ℕ, suc, ◌+◌, ◌-◌, ◌/◌, ◌≤◌, ◌<◌, ◌≡◌, Bool, true, false, cond, Ok, Err}
 use Rattle.std.specs.Prelude.{not, ◌&&◌, ◌||◌, eqb, ltb, leb, length, take, drop, set}
 use Rattle.std.proofs.Common.{arith, ◌∙◌, true≢false, drop-drop, eqb-true, lt-ltb}
 use Rattle.std.proofs.Common.{le-ltb, le-leb, ltb-true, ltb-false, leb-true, leb-false}
@@ -12,7 +12,7 @@ use Rattle.hns_encoding.specs.Numbers.{top, saturating_add}
 use Rattle.hns_encoding.specs.Bytes.{be}
 use Rattle.hns_encoding.specs.Sums.{non, count}
 use Rattle.hns_encoding.specs.Laws.Tests.{split, both, on-true, cond_map}
-use Rattle.hnsr_body.specs.declared.accept_body.AcceptRead.{AcceptRead}
+use Rattle.hnsr_body.specs.declared.layout.Read.{Read}
 use Rattle.hnsr_body.specs.declared.accept_body.AcceptBody.{AcceptBody}
 use Rattle.hnsr_body.specs.Accept.{decode_accept, accept_fields, opened_bytes}
 use Rattle.hnsr_body.specs.declared.incoming_body.IncomingBody.{IncomingBody}
@@ -39,12 +39,10 @@ use Rattle.hnsr_circuit.specs.declared.output.queue.Outgoing.{Outgoing}
 use Rattle.hnsr_circuit.specs.declared.tables.scan.ActionQuestion.{ActionQuestion}
 use Rattle.hnsr_circuit.specs.declared.runtime.RelayPacket.{RelayPacket}
 use Rattle.hnsr_circuit.specs.declared.runtime.OpaqueRelayRuntime.{OpaqueRelayRuntime}
-use Rattle.hnsr_circuit.specs.declared.answer.HnsrAnswer.{HnsrAnswer}
-use Rattle.hnsr_circuit.specs.declared.answer.HnsrAnswer.TheVariants.{Taken, Refused}
 use Rattle.hnsr_circuit.specs.declared.answer.HnsrRuntimeError.TheVariants.{UnknownRequest}
 use Rattle.hnsr_circuit.specs.declared.answer.HnsrRuntimeError.TheVariants.{Randomness, LedgerFull}
 use Rattle.hnsr_circuit.specs.Table.{any, pick, place_of, put, edit}
-use Rattle.hnsr_circuit.specs.Answers.{check, body_answer, taken, ◌then◌}
+use Rattle.hnsr_circuit.specs.Answers.{HnsrAnswer, check, body_answer, taken, ◌then◌}
 use Rattle.hnsr_circuit.specs.Peer.{peer_of, same_peer}
 use Rattle.hnsr_circuit.specs.Pending.{no_pending, is_pending, pending_at, clear_pending}
 use Rattle.hnsr_circuit.specs.Ledger.{no_usage, is_usage, usage_at, clear_usage, fresh_usage}
@@ -94,8 +92,8 @@ put-place p u t = ap (λ (b : Bool). cond b (place_of p t) (place_of u t)) (plac
 proceed-on : (a : HnsrAnswer) (w x : World) (f : World → Outcome)
     → proceed (cond (taken a) x w) a (f (cond (taken a) x w)) ≡ proceed w a (f x)
 unfolding proceed
-proceed-on Taken w x f = refl
-proceed-on (Refused e) w x f = refl
+proceed-on (Ok _) w x f = refl
+proceed-on (Err e) w x f = refl
 
 -- ---- ACCEPT
 -- the rows over the tables are the definition's
@@ -110,7 +108,7 @@ unfolding accept_taken pending_work circuit_work circuit_count reservation_work 
 accept_taken_lem h p c l i q source body e rs = refl
 
 -- a taken ACCEPT found its pending record
-accept_found : (w : World) (q : Packet) (p : RelayPending) (b : AcceptBody) → accept_taken w q p b ≡ Taken
+accept_found : (w : World) (q : Packet) (p : RelayPending) (b : AcceptBody) → accept_taken w q p b ≡ Ok tt
     → any (pending_at q.context) w.pending ≡ true
 unfolding accept_taken request_answer
 accept_found w q p b h =
@@ -135,57 +133,51 @@ unmarked id t h =
 
 module _ (h : OpaqueRelayRuntime) (p : List RelayPending) (c : List RelayCircuit) (l : List ReservationUsage)
     (i : List InflightAction) (q : RelayPacket) (source body e rs : List ℕ) where
-  -- what ACCEPT leaves where it goes on is the definition's world
-  accept_world : (a : HnsrAnswer)
-      → (let f = pending_found (pending_at q.context_id) p in
-      let g = accept_plan a h f (decode_accept body) in
+  -- what a taken ACCEPT leaves is the definition's world
+  accept_world : (let f = pending_found (pending_at q.context_id) p in
+      let g = accept_plan h f (decode_accept body) in
       let w = world_of h p c l i in
-      a ≡ accept_taken w (packet_of q source body e rs) f.pending (accept_fields body)
-      → world_of g.runtime (cond g.go (set p g.place (clear_pending f.pending)) p)
-      (cond g.go (put is_circuit (circuit_at g.id) (circuit_for h.config f.pending (accept_fields body)) c) c) l
-      (cond g.go (dropped (action_under g.id) i) i)
-      ≡ cond (taken a) (with_accept w f.pending (accept_fields body)) w)
+      accept_taken w (packet_of q source body e rs) f.pending (accept_fields body) ≡ Ok tt
+      → world_of g.runtime (set p g.place (clear_pending f.pending))
+      (put is_circuit (circuit_at g.id) (circuit_for h.config f.pending (accept_fields body)) c) l
+      (dropped (action_under g.id) i)
+      ≡ with_accept w f.pending (accept_fields body))
   unfolding with_accept
-  accept_world Taken ea =
+  accept_world ea =
       let f = pending_found (pending_at q.context_id) p in
-      let g = accept_plan Taken h f (decode_accept body) in
+      let g = accept_plan h f (decode_accept body) in
       let found =
-      accept_found (world_of h p c l i) (packet_of q source body e rs) f.pending (accept_fields body) (sym ea) in
+      accept_found (world_of h p c l i) (packet_of q source body e rs) f.pending (accept_fields body) ea in
       ap (λ (t : List RelayPending). world_of g.runtime t
       (put is_circuit (circuit_at g.id) (circuit_for h.config f.pending (accept_fields body)) c) l
       (dropped (action_under g.id) i)) (unmarked q.context_id p found)
-  accept_world (Refused er) ea = refl
 
-  pub accept_ends : (f : PendingFound) (read : AcceptRead) (a : HnsrAnswer) (g : AcceptPlan) (row : RelayPending)
+  pub accept_ends : (f : PendingFound) (read : Read AcceptBody) (a : HnsrAnswer) (g : AcceptPlan) (row : RelayPending)
       (circuit : RelayCircuit) (p' : List RelayPending) (c' : List RelayCircuit) (i' : List InflightAction)
       → f ≡ pending_found (pending_at q.context_id) p → read ≡ decode_accept body
       → a ≡ accept_rows h.config f (peer_of source) q.now read (pending_work (accept_work f) p)
       (circuit_work (accept_work f) c) (tallied true q.context_id f.pending.requester i)
-      → g ≡ accept_plan a h f read → row ≡ clear_pending f.pending
+      → taken a ≡ true → g ≡ accept_plan h f read → row ≡ clear_pending f.pending
       → circuit ≡ circuit_for h.config f.pending read.body
-      → p' ≡ cond g.go (set p g.place row) p
-      → c' ≡ cond g.go (put is_circuit (circuit_at g.id) circuit c) c
-      → i' ≡ cond g.go (dropped (action_under g.id) i) i
-      → (let w = world_of g.runtime p' c' l i' in
-      proceed w a (send w (message_of g.message (opened_bytes g.opened))))
+      → p' ≡ set p g.place row → c' ≡ put is_circuit (circuit_at g.id) circuit c
+      → i' ≡ dropped (action_under g.id) i
+      → send (world_of g.runtime p' c' l i') (message_of g.message (opened_bytes g.opened))
       ≡ handle_accept (world_of h p c l i) (packet_of q source body e rs)
-  unfolding handle_accept accept_with opened_message decode_accept
-  accept_ends f read a g row circuit p' c' i' ef er ea eg eo ec ep es ei =
+  unfolding handle_accept accept_with opened_message decode_accept proceed
+  accept_ends f read a g row circuit p' c' i' ef er ea t eg eo ec ep es ei =
       let ft = pending_found (pending_at q.context_id) p in
-      let rt = decode_accept body in
       let w = world_of h p c l i in
       let m = opened_message ft.pending (accept_fields body) in
-      let at' : a ≡ accept_taken w (packet_of q source body e rs) ft.pending (accept_fields body) =
-      ea ∙ rw (ef, er) (accept_taken_lem h p c l i q source body e rs) in
+      let at : accept_taken w (packet_of q source body e rs) ft.pending (accept_fields body) ≡ Ok tt =
+      sym (ea ∙ rw (ef, er) (accept_taken_lem h p c l i q source body e rs)) ∙ taken_is a t in
       rw (ep, es, ei, eg, eo, ec, ef, er)
-      (ap (λ (x : World). proceed x a (send x m)) (accept_world a at')
-      ∙ proceed-on a w (with_accept w ft.pending (accept_fields body)) (λ x. send x m)
-      ∙ ap (λ (k : HnsrAnswer). proceed w k (send (with_accept w ft.pending (accept_fields body)) m)) at')
+      (ap (λ (x : World). send x m) (accept_world at)
+      ∙ ap (λ (k : HnsrAnswer). proceed w k (send (with_accept w ft.pending (accept_fields body)) m)) (sym at))
 
 -- refused by the packet and its pending record, or by the rows as a whole
 pub accept_entered : (h : OpaqueRelayRuntime) (p : List RelayPending) (c : List RelayCircuit)
     (l : List ReservationUsage) (i : List InflightAction) (q : RelayPacket) (source body e rs out : List ℕ)
-    (f : PendingFound) (read : AcceptRead) (a : HnsrAnswer) (r : Relayed)
+    (f : PendingFound) (read : Read AcceptBody) (a : HnsrAnswer) (r : Relayed)
     → f ≡ pending_found (pending_at q.context_id) p → read ≡ decode_accept body
     → a ≡ (request_answer f.found f.pending (peer_of source) q.now then body_answer read.result)
     → taken a ≡ false
@@ -202,7 +194,7 @@ accept_entered h p c l i q source body e rs out f read a r ef er ea t k =
 
 pub accept_refused : (h : OpaqueRelayRuntime) (p : List RelayPending) (c : List RelayCircuit)
     (l : List ReservationUsage) (i : List InflightAction) (q : RelayPacket) (source body e rs out : List ℕ)
-    (f : PendingFound) (read : AcceptRead) (a : HnsrAnswer) (r : Relayed)
+    (f : PendingFound) (read : Read AcceptBody) (a : HnsrAnswer) (r : Relayed)
     → f ≡ pending_found (pending_at q.context_id) p → read ≡ decode_accept body
     → a ≡ accept_rows h.config f (peer_of source) q.now read (pending_work (accept_work f) p)
     (circuit_work (accept_work f) c) (tallied true q.context_id f.pending.requester i)
@@ -263,7 +255,7 @@ all-free t s [] h = h
 all-free t s (id ∷ ids) h = all-free t (draw_turn s id (t id)) ids (turn-free t s id h)
 
 draw_free : (p : List RelayPending) (c : List RelayCircuit) (d : Drawing) (ids : List ℕ)
-    → d ≡ draw_all (is_taken p c) undrawn ids → draw_answer d ≡ Taken
+    → d ≡ draw_all (is_taken p c) undrawn ids → draw_answer d ≡ Ok tt
     → any (pending_at d.id) p ≡ false
 unfolding draw_answer
 draw_free p c d ids e h =
@@ -338,7 +330,7 @@ fresh_at t = reservation-refl t.reservation_id
 
 -- where it is there or has a place, it is what a lookup then finds
 booked-found : (t : RelayTicket) (l : List ReservationUsage)
-    → ledger_answer (any (usage_at t.reservation_id) l) (count is_usage l) (length l) ≡ Taken
+    → ledger_answer (any (usage_at t.reservation_id) l) (count is_usage l) (length l) ≡ Ok tt
     → usage_of t.reservation_id (booked t l) ≡ pick (usage_at t.reservation_id) (fresh_usage t) l
 unfolding booked ledger_answer
 booked-found t l h =
@@ -354,7 +346,7 @@ booked-found t l h =
 -- the rows as a whole are taken: each is
 module _ (c : OpaqueRelayConfig) (g : OpenGathered) (d : Drawing) (o : OpenPlan) (s : ActionScan) (r : LedgerScan)
     (a : HnsrAnswer) (ea : a ≡ placed_rows c g o d s r) (t : taken a ≡ true) where
-  rows_taken : (draw_answer d ≡ Taken) × (ledger_answer r.found r.used r.places ≡ Taken)
+  rows_taken : (draw_answer d ≡ Ok tt) × (ledger_answer r.found r.used r.places ≡ Ok tt)
   rows_taken =
       let named = peer_answer g.size in
       let ends = endpoint_answer c o.ticket (same_peer o.endpoint o.requester)
@@ -374,7 +366,7 @@ module _ (c : OpaqueRelayConfig) (g : OpenGathered) (d : Drawing) (o : OpenPlan)
       → row ≡ usage_of o.ticket.reservation_id (booked o.ticket l)
   booked_usage row l er e =
       let id = o.ticket.reservation_id in
-      let k : ledger_answer (any (usage_at id) l) (count is_usage l) (length l) ≡ Taken =
+      let k : ledger_answer (any (usage_at id) l) (count is_usage l) (length l) ≡ Ok tt =
       ap (λ (x : LedgerScan). ledger_answer x.found x.used x.places) (sym er) ∙ rows_taken.1 in
       e
       ∙ ap (λ (x : LedgerScan). cond x.found x.usage (fresh_usage o.ticket)) er

@@ -1,7 +1,7 @@
 -- No call moves the number of places of a table, whatever the world: each change is a `put`, an `edit`, a `set` or a
 -- `clear`.
 use Prim.Native.Nat.{ℕ, zero, suc}
-use Rattle.std.specs.Prelude.{◌≡◌, refl, Bool, true, false, List, length}
+use Rattle.std.specs.Prelude.{◌≡◌, refl, Bool, true, false, List, length, Ok, Err}
 use Rattle.std.proofs.Common.{◌∙◌, length-set}
 use Rattle.std.proofs.lemmas.List.{length-map}
 use Rattle.hnsr_circuit.specs.declared.peer.HnsrPeerId.{HnsrPeerId}
@@ -11,8 +11,7 @@ use Rattle.hnsr_circuit.specs.declared.records.ReservationUsage.{ReservationUsag
 use Rattle.hnsr_circuit.specs.declared.records.InflightAction.{InflightAction}
 use Rattle.hnsr_circuit.specs.declared.tables.scan.Walked.{Walked}
 use Rattle.hnsr_circuit.specs.declared.runtime.OpaqueRelayRuntime.{OpaqueRelayRuntime}
-use Rattle.hnsr_circuit.specs.declared.answer.HnsrAnswer.{HnsrAnswer}
-use Rattle.hnsr_circuit.specs.declared.answer.HnsrAnswer.TheVariants.{Taken, Refused}
+use Rattle.hnsr_circuit.specs.Answers.{HnsrAnswer}
 use Rattle.hnsr_circuit.specs.Table.{not_yet}
 use Rattle.hnsr_circuit.specs.Laws.Edits.{length-edit}
 use Rattle.hnsr_body.specs.declared.messages.Notice.{Notice}
@@ -106,8 +105,8 @@ queued-kept m w = runtime-kept (inflight-kept (as_many w) _ (simp length-set)) _
 
 tell-if-kept : (a : HnsrAnswer) (m : Message) (w : World) → AsMany w (tell_if a m w).world
 unfolding tell_if
-tell-if-kept Taken m w = queued-kept m w
-tell-if-kept (Refused e) m w = as_many w
+tell-if-kept (Ok _) m w = queued-kept m w
+tell-if-kept (Err e) m w = as_many w
 
 pub tell-kept : (m : Message) (w : World) → AsMany w (tell m w).world
 unfolding tell

@@ -1,5 +1,5 @@
 -- The calls that send nothing: what the code hands back is what the definition tells, or makes.
-use Rattle.std.specs.Prelude.{ℕ, ◌≡◌, Bool, true, false, cond, List, []}
+use Rattle.std.specs.Prelude.{ℕ, ◌≡◌, true, false, List, [], Option, Ok, Err}
 use Rattle.std.proofs.Math.Path.{refl, subst}
 use Rattle.std.proofs.Common.{sym, ap, ◌∙◌, true≢false}
 use Rattle.std.proofs.lemmas.Bool.{false≢true}
@@ -7,15 +7,11 @@ use Rattle.hnsr_circuit.specs.declared.records.RelayPending.{RelayPending}
 use Rattle.hnsr_circuit.specs.declared.records.RelayCircuit.{RelayCircuit}
 use Rattle.hnsr_circuit.specs.declared.records.ReservationUsage.{ReservationUsage}
 use Rattle.hnsr_circuit.specs.declared.records.InflightAction.{InflightAction}
-use Rattle.hnsr_circuit.specs.declared.runtime.NextDue.{NextDue}
-use Rattle.hnsr_circuit.specs.declared.runtime.NextDue.TheVariants.{Never}
 use Rattle.hnsr_circuit.specs.declared.runtime.OpaqueRelayRuntime.{OpaqueRelayRuntime}
 use Rattle.hnsr_circuit.specs.declared.runtime.HnsrRuntimeStatus.{HnsrRuntimeStatus}
 use Rattle.hnsr_circuit.specs.declared.runtime.Relayed.{Relayed}
-use Rattle.hnsr_circuit.specs.declared.answer.HnsrAnswer.{HnsrAnswer}
-use Rattle.hnsr_circuit.specs.declared.answer.HnsrAnswer.TheVariants.{Taken, Refused}
-use Rattle.hnsr_circuit.specs.declared.answer.HnsrRuntimeError.TheVariants.{Short}
-use Rattle.hnsr_circuit.specs.Answers.{check, taken}
+use Rattle.hnsr_circuit.specs.declared.answer.HnsrRuntimeError.{HnsrRuntimeError}
+use Rattle.hnsr_circuit.specs.Answers.{HnsrAnswer, taken}
 use Rattle.hnsr_circuit.specs.Table.{clear}
 use Rattle.hnsr_circuit.specs.Pending.{is_pending, clear_pending}
 use Rattle.hnsr_circuit.specs.Circuits.{is_circuit, clear_circuit}
@@ -27,31 +23,31 @@ use Rattle.hnsr_circuit.specs.Route.{out_words, output}
 use Rattle.hnsr_circuit.specs.World.{World, status_is, due_is, done, proceed, telling, at_time, world_of}
 use Rattle.hnsr_circuit.specs.New.{emptied}
 use Rattle.hnsr_circuit.specs.Code.Progress.{result, handed_back, outcome}
-use Rattle.hnsr_circuit.specs.Code.Told.{no_status, status_told, due_told, Made}
+use Rattle.hnsr_circuit.specs.Code.Told.{status_told, due_told, Made}
 use Rattle.hnsr_circuit.specs.Laws.Queueing.{taken_is}
 
 -- ---- what is told
 module _ (s : HnsrRuntimeStatus) (capacity : ℕ) (w : World) where
-  pub tells-status : (a : HnsrAnswer) → taken a ≡ true
-      → record { answer = Taken; status = s; action_capacity = capacity }
+  pub tells-status : (a : HnsrAnswer) → a ≡ Ok tt
+      → Ok (record { status = s; action_capacity = capacity })
       ≡ status_told (proceed w a (telling w (status_is s capacity)))
   unfolding proceed
-  tells-status Taken t = refl
-  tells-status (Refused e) t = absurd (false≢true t)
+  tells-status a t = rw t
 
-  pub tells-nothing : (a : HnsrAnswer) → taken a ≡ false
-      → record { answer = a; status = no_status; action_capacity = 0 }
-      ≡ status_told (proceed w a (telling w (status_is s capacity)))
+  pub tells-nothing : (a : HnsrAnswer) (e : HnsrRuntimeError) → a ≡ Err e
+      → Err e ≡ status_told (proceed w a (telling w (status_is s capacity)))
   unfolding proceed
-  tells-nothing Taken t = absurd (true≢false t)
-  tells-nothing (Refused e) t = refl
+  tells-nothing a e t = rw t
 
-pub tells-due : (few : Bool) (d : NextDue) (w : World)
-    → record { answer = check few Short; due = cond few Never d }
-    ≡ due_told (proceed w (check few Short) (telling w (due_is d)))
-unfolding proceed
-tells-due true d w = refl
-tells-due false d w = refl
+module _ (d : Option ℕ) (w : World) where
+  pub tells-due : (a : HnsrAnswer) → a ≡ Ok tt → Ok d ≡ due_told (proceed w a (telling w (due_is d)))
+  unfolding proceed
+  tells-due a t = rw t
+
+  pub tells-no-due : (a : HnsrAnswer) (e : HnsrRuntimeError) → a ≡ Err e
+      → Err e ≡ due_told (proceed w a (telling w (due_is d)))
+  unfolding proceed
+  tells-no-due a e t = rw t
 
 -- ---- the clock observed
 module _ (p : List RelayPending) (c : List RelayCircuit) (l : List ReservationUsage) (i : List InflightAction)
@@ -60,15 +56,15 @@ module _ (p : List RelayPending) (c : List RelayCircuit) (l : List ReservationUs
       → result (world_of (with_clock h time) p c l i) a 0 out
       ≡ outcome out (proceed (world_of h p c l i) a (done (at_time (world_of h p c l i) time) []))
   unfolding proceed out_words output
-  moved Taken t = refl
-  moved (Refused e) t = absurd (false≢true t)
+  moved (Ok _) t = refl
+  moved (Err e) t = absurd (false≢true t)
 
   stays : (a : HnsrAnswer) → taken a ≡ false
       → result (world_of h p c l i) a 0 out
       ≡ outcome out (proceed (world_of h p c l i) a (done (at_time (world_of h p c l i) time) []))
   unfolding proceed out_words output
-  stays Taken f = absurd (true≢false f)
-  stays (Refused e) f = refl
+  stays (Ok _) f = absurd (true≢false f)
+  stays (Err e) f = refl
 
   pub observed : (r : Relayed) (a b : HnsrAnswer) → taken a ≡ true → a ≡ b
       → (r.runtime ≡ with_clock h time) × (r.answer ≡ a) × (r.words ≡ 0)
@@ -114,8 +110,8 @@ module _ (h n : OpaqueRelayRuntime) (p p' : List RelayPending) (c c' : List Rela
     keeps : (z : HnsrAnswer) → r.answer ≡ z → taken z ≡ false
         → Made r p' c' l' i' (proceed (world_of h p c l i) z (done (emptied (world_of h p c l i) n) []))
     unfolding proceed
-    keeps Taken ea t = absurd (true≢false t)
-    keeps (Refused x) ea t = record {
+    keeps (Ok _) ea t = absurd (true≢false t)
+    keeps (Err x) ea t = record {
       answer = ea;
       tables = λ y. world_of h (ep y) (ec y) (el y) (ei y);
       runtime = f.0;

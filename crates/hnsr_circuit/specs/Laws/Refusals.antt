@@ -1,10 +1,9 @@
 -- No refusal touches the output (ANS.3): whatever the world, a call that is refused has no route.
 -- An outcome is silent where this holds of it; every way to make one keeps it.
-use Rattle.std.specs.Prelude.{ℕ, ◌≡◌, refl, Bool, true, false, cond, List, []}
+use Rattle.std.specs.Prelude.{ℕ, ◌≡◌, refl, Bool, true, false, cond, List, [], Ok, Err}
 use Rattle.hnsr_circuit.specs.declared.records.InflightAction.{InflightAction}
 use Rattle.hnsr_circuit.specs.declared.answer.HnsrRuntimeError.{HnsrRuntimeError}
-use Rattle.hnsr_circuit.specs.declared.answer.HnsrAnswer.{HnsrAnswer}
-use Rattle.hnsr_circuit.specs.declared.answer.HnsrAnswer.TheVariants.{Taken, Refused}
+use Rattle.hnsr_circuit.specs.Answers.{HnsrAnswer}
 use Rattle.hnsr_circuit.specs.Table.{any, pick}
 use Rattle.hnsr_circuit.specs.Pending.{no_pending, named_by}
 use Rattle.hnsr_circuit.specs.declared.records.InflightKind.{InflightKind}
@@ -33,7 +32,7 @@ use Rattle.hnsr_circuit.specs.Call.{call_replace_enabled, call_handle, call_ackn
 use Rattle.hnsr_circuit.specs.Call.{call_disconnect, call_revoke_reservation, call_expire, step}
 
 pub record Silent (o : Outcome) : Type 0 where
-  pub none : (e : HnsrRuntimeError) → o.answer ≡ Refused e → o.routes ≡ []
+  pub none : (e : HnsrRuntimeError) → o.answer ≡ Err e → o.routes ≡ []
 
 -- ---- ways to make an outcome
 silent-done : (w : World) (rs : List Route) → Silent (done w rs)
@@ -47,8 +46,8 @@ silent-refuse w r = record { none = λ e h. refl }
 
 silent-proceed : (w : World) (a : HnsrAnswer) (o : Outcome) → Silent o → Silent (proceed w a o)
 unfolding proceed
-silent-proceed w Taken o s = s
-silent-proceed w (Refused r) o s = silent-refuse w r
+silent-proceed w (Ok _) o s = s
+silent-proceed w (Err r) o s = silent-refuse w r
 
 silent-cond : (b : Bool) (x y : Outcome) → Silent x → Silent y → Silent (cond b x y)
 silent-cond true x y s t = s
@@ -122,7 +121,7 @@ step-silent w (call_revoke_reservation id room) = silent-proceed _ _ _ (silent-d
 step-silent w (call_expire now room) = silent-proceed _ _ _ (silent-done _ _)
 
 -- so the lent output is as it was
-pub refusal_leaves_output : (w : World) (c : Call) (e : HnsrRuntimeError) (old : List ℕ) → (step w c).answer ≡ Refused e
+pub refusal_leaves_output : (w : World) (c : Call) (e : HnsrRuntimeError) (old : List ℕ) → (step w c).answer ≡ Err e
     → output old (step w c).routes ≡ old
 unfolding output out_words
 refusal_leaves_output w c e old h = rw ((step-silent w c).none e h)

@@ -35,13 +35,12 @@ use Rattle.hnsr_circuit.specs.Laws.Progress.{advance_then}
 
 -- ---- the messages, once the record is ended: two, or one alone
 two-tells : (w v : World) (m n : Message) (at : ℕ) (out : List ℕ)
-    → advance (when true (tell n)) (advance (when true (tell m)) (progress v at out))
+    → advance (tell n) (advance (tell m) (progress v at out))
     ≡ advanced (progress w at out) (and_then (tell m v) (tell n))
-unfolding when
 two-tells w v m n at out = sym (advance_then (progress w at out) (tell m v) (tell n))
 
 two-or-one : (d : Bool) (w v : World) (o m n : Message) (at : ℕ) (out : List ℕ)
-    → advance (when (not d) (tell n)) (advance (when true (tell (cond d o m))) (progress v at out))
+    → advance (when (not d) (tell n)) (advance (tell (cond d o m)) (progress v at out))
     ≡ advanced (progress w at out) (cond d (tell o v) (and_then (tell m v) (tell n)))
 unfolding when filled_to placed
 two-or-one true w v o m n at out = refl
@@ -59,12 +58,11 @@ module _ (n : Notice) (place : ℕ) (h : OpaqueRelayRuntime) (p : List RelayPend
       → second ≡ message_of (close_side circuit circuit.endpoint) (notice_body n)
       → c' ≡ set c place (clear_circuit circuit) → i' ≡ dropped (action_under circuit.circuit_id) i
       → h' ≡ revoked_if true h
-      → advance (when true (tell second)) (advance (when true (tell first)) (progress (world_of h' p c' l i') at out))
+      → advance (tell second) (advance (tell first) (progress (world_of h' p c' l i') at out))
       ≡ advance (λ w. revoke_circuit_there n w place) (progress (world_of h p c l i) at out)
   unfolding revoke_circuit_there end_circuit_there without_actions close_to
   circuit-revoked at out first second c' i' h' e1 e2 ec ei eh =
-      (λ x. advance (when true (tell (e2 x)))
-      (advance (when true (tell (e1 x))) (progress (world_of (eh x) p (ec x) l (ei x)) at out)))
+      (λ x. advance (tell (e2 x)) (advance (tell (e1 x)) (progress (world_of (eh x) p (ec x) l (ei x)) at out)))
       ∙ two-tells (world_of h p c l i) (end_circuit_there (world_of h p c l i) place) _ _ at out
 
 -- ---- a pending record
@@ -99,7 +97,7 @@ module _ (v : Revoking) (place : ℕ) (h : OpaqueRelayRuntime) (p : List RelayPe
       → second ≡ message_of (close_out record_there) (notice_body (cond v.disconnecting PeerDisconnected v.notice))
       → p' ≡ set p place (clear_pending record_there) → i' ≡ dropped (action_under record_there.circuit_id) i
       → h' ≡ revoked_if true h
-      → advance (when also (tell second)) (advance (when true (tell first)) (progress (world_of h' p' c l i') at out))
+      → advance (when also (tell second)) (advance (tell first) (progress (world_of h' p' c l i') at out))
       ≡ advance (λ w. ending_pending v w place) (progress (world_of h p c l i) at out)
   unfolding ending_pending revoke_pending disconnect_pending close_to_other end_pending_there without_actions
   pending-revoked at out also first second p' i' h' ea e1 e2 ep ei eh =
@@ -111,8 +109,8 @@ module _ (v : Revoking) (place : ℕ) (h : OpaqueRelayRuntime) (p : List RelayPe
       let w = world_of h p c l i in
       let first-eq = e1 ∙ first-is d s k in
       (λ x. advance (when (ea x) (tell (e2 x)))
-      (advance (when true (tell (first-eq x))) (progress (world_of (eh x) (ep x) c l (ei x)) at out)))
-      ∙ second_is d k (advance (when true (tell (cond d o m))) (progress (end_pending_there w place) at out))
+      (advance (tell (first-eq x)) (progress (world_of (eh x) (ep x) c l (ei x)) at out)))
+      ∙ second_is d k (advance (tell (cond d o m)) (progress (end_pending_there w place) at out))
       ∙ two-or-one d w (end_pending_there w place) o m (close_to_endpoint v.notice k) at out
 
 -- ---- by id

@@ -1,5 +1,5 @@
 -- What the code does for a revoking call that is not refused is the definition's.
-use Rattle.std.specs.Prelude.{ℕ, ◌≤◌, ◌<◌, ◌≡◌, Bool, true, false, ◌&&◌, List, [], length}
+use Rattle.std.specs.Prelude.{ℕ, ◌≤◌, ◌<◌, ◌≡◌, Bool, true, false, ◌&&◌, List, [], length, Ok}
 use native.Mathlib.Omega.{arith}
 use Rattle.std.proofs.Math.Path.{sym, ap}
 use Rattle.std.proofs.Common.{◌∙◌}
@@ -14,8 +14,7 @@ use Rattle.hnsr_circuit.specs.declared.tables.question.RecordQuestion.TheVariant
 use Rattle.hnsr_circuit.specs.declared.tables.question.ActionsDropped.TheVariants.{Every, Toward}
 use Rattle.hnsr_circuit.specs.declared.calls.revocation.Revoking.{Revoking}
 use Rattle.hnsr_circuit.specs.declared.runtime.OpaqueRelayRuntime.{OpaqueRelayRuntime}
-use Rattle.hnsr_circuit.specs.declared.answer.HnsrAnswer.{HnsrAnswer}
-use Rattle.hnsr_circuit.specs.Answers.{taken, ◌then◌}
+use Rattle.hnsr_circuit.specs.Answers.{HnsrAnswer, taken, ◌then◌}
 use Rattle.hnsr_circuit.specs.Table.{clear, edit}
 use Rattle.hnsr_circuit.specs.Peer.{peer_of}
 use Rattle.hnsr_circuit.specs.Inflight.{is_action, clear_action, dropped}
@@ -27,7 +26,6 @@ use Rattle.hnsr_circuit.specs.RevokingCalls.{disconnect, disconnect_peer, revoke
 use Rattle.hnsr_circuit.specs.RevokingCalls.{expire, expire_at, change_answer, switch_to, replace_enabled}
 use Rattle.hnsr_circuit.specs.Code.Revoking.{ending_pending, revoking_all, disconnecting_all, revokes}
 use Rattle.hnsr_circuit.specs.declared.runtime.Relayed.{Relayed}
-use Rattle.hnsr_circuit.specs.declared.answer.HnsrAnswer.TheVariants.{Taken}
 use Rattle.hnsr_circuit.specs.declared.answer.HnsrRuntimeError.TheVariants.{GenerationExhausted}
 use Rattle.hnsr_body.specs.declared.values.ReservationId.{ReservationId}
 use Rattle.hnsr_body.specs.declared.messages.Notice.TheVariants.{ReservationRevoked, AcceptanceExpired}
@@ -87,7 +85,7 @@ module _ (h : OpaqueRelayRuntime) (p : List RelayPending) (c : List RelayCircuit
     drops = ei
 
     pub switched-on : (r : Relayed) (out : List ℕ) → on ≡ true
-        → (r.runtime ≡ h') × (r.answer ≡ Taken) × (r.words ≡ 0)
+        → (r.runtime ≡ h') × (r.answer ≡ Ok tt) × (r.words ≡ 0)
         → handed_back r p c l i' out ≡ ending out (switch_to (world_of h p c l i) on)
     unfolding switch_to filled_to placed
     switched-on r out t e =
@@ -116,7 +114,7 @@ module _ (h : OpaqueRelayRuntime) (p : List RelayPending) (c : List RelayCircuit
         (cond (not (beq h.enabled on)) (switch_to (world_of h p c l i) on) (done (world_of h p c l i) [])) t ea)
 
     pub same_state : (r : Relayed) (out : List ℕ) → taken a ≡ true → not (beq h.enabled on) ≡ false
-        → (r.runtime ≡ h) × (r.answer ≡ Taken) × (r.words ≡ 0)
+        → (r.runtime ≡ h) × (r.answer ≡ Ok tt) × (r.words ≡ 0)
         → handed_back r p c l i out ≡ ending out (replace_enabled (world_of h p c l i) expected on room)
     unfolding replace_enabled filled_to placed
     same_state r out t f e =

@@ -4,13 +4,12 @@
 --
 use Prim.Native.Nat.{ℕ, zero, suc, ◌+◌, ◌*◌, ◌≤◌, ◌<◌}
 use native.Mathlib.Omega.{arith}
-use Rattle.std.specs.Prelude.{◌≡◌, refl, Bool, true, false, cond, List, [], ◌∷◌, ◌++◌, length, get_or, set}
+use Rattle.std.specs.Prelude.{◌≡◌, refl, Bool, true, false, cond, List, [], ◌∷◌, ◌++◌, length, get_or, set, Ok, Err}
 use Rattle.std.proofs.Common.{ap, length-append}
 use Rattle.hnsr_body.specs.declared.messages.Notice.{Notice}
 use Rattle.hnsr_body.specs.Messages.{notice_body, notice_size}
 use Rattle.hnsr_circuit.specs.declared.tables.scan.Walked.{Walked}
-use Rattle.hnsr_circuit.specs.declared.answer.HnsrAnswer.{HnsrAnswer}
-use Rattle.hnsr_circuit.specs.declared.answer.HnsrAnswer.TheVariants.{Taken, Refused}
+use Rattle.hnsr_circuit.specs.Answers.{HnsrAnswer}
 use Rattle.hns_encoding.specs.Sums.{one, count}
 use Rattle.hnsr_circuit.specs.Table.{not_yet, next}
 use Rattle.hns_encoding.specs.Laws.Sums.{total-set}
@@ -40,8 +39,8 @@ filled-one r = simp length-append (omega (arith, route-words r, length-words r.b
 tell-if-fits : (a : HnsrAnswer) (m : Message) (w : World) (k : ℕ) → length m.body ≤ k
     → filled (tell_if a m w).routes ≤ head_words + word_count k
 unfolding tell_if out_words
-tell-if-fits Taken m w k h = omega (arith, filled-one (routed m w))
-tell-if-fits (Refused e) m w k h = omega arith
+tell-if-fits (Ok _) m w k h = omega (arith, filled-one (routed m w))
+tell-if-fits (Err e) m w k h = omega arith
 
 pub tell-fits : (m : Message) (w : World) (k : ℕ) → length m.body ≤ k
     → filled (tell m w).routes ≤ head_words + word_count k

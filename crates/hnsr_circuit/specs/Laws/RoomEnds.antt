@@ -4,7 +4,7 @@
 --
 use Prim.Native.Nat.{ℕ, zero, suc, ◌+◌, ◌*◌, ◌≤◌, ◌<◌}
 use Rattle.std.proofs.Common.{arith, ap, ◌∙◌}
-use Rattle.std.specs.Prelude.{◌≡◌, Bool, true, false, cond, List, length}
+use Rattle.std.specs.Prelude.{◌≡◌, Bool, true, false, cond, List, length, Ok, Err}
 use Rattle.std.proofs.Math.Path.{refl}
 use Rattle.hnsr_body.specs.declared.messages.Notice.{Notice}
 use Rattle.hnsr_body.specs.declared.messages.Notice.TheVariants.{PeerDisconnected}
@@ -13,8 +13,7 @@ use Rattle.hnsr_circuit.specs.declared.peer.HnsrPeerId.{HnsrPeerId}
 use Rattle.hnsr_circuit.specs.declared.records.RelayPending.{RelayPending}
 use Rattle.hnsr_circuit.specs.declared.records.RelayCircuit.{RelayCircuit}
 use Rattle.hnsr_circuit.specs.declared.tables.scan.Walked.{Walked}
-use Rattle.hnsr_circuit.specs.declared.answer.HnsrAnswer.{HnsrAnswer}
-use Rattle.hnsr_circuit.specs.declared.answer.HnsrAnswer.TheVariants.{Taken, Refused}
+use Rattle.hnsr_circuit.specs.Answers.{HnsrAnswer}
 use Rattle.hns_encoding.specs.Sums.{count}
 use Rattle.hnsr_circuit.specs.Table.{not_yet}
 use Rattle.hnsr_circuit.specs.Peer.{same_peer}
@@ -36,13 +35,13 @@ use Rattle.hnsr_circuit.specs.Laws.Room.{two-told, when-fits, one_fewer, walk-fi
 -- ---- telling leaves both tables alone
 tell-if-pending : (a : HnsrAnswer) (m : Message) (w : World) → (tell_if a m w).world.pending ≡ w.pending
 unfolding tell_if queued
-tell-if-pending Taken m w = refl
-tell-if-pending (Refused e) m w = refl
+tell-if-pending (Ok _) m w = refl
+tell-if-pending (Err e) m w = refl
 
 tell-if-circuits : (a : HnsrAnswer) (m : Message) (w : World) → (tell_if a m w).world.circuits ≡ w.circuits
 unfolding tell_if queued
-tell-if-circuits Taken m w = refl
-tell-if-circuits (Refused e) m w = refl
+tell-if-circuits (Ok _) m w = refl
+tell-if-circuits (Err e) m w = refl
 
 tell-pending : (m : Message) (w : World) → (tell m w).world.pending ≡ w.pending
 unfolding tell

@@ -8,10 +8,10 @@ use Rattle.hns_encoding.specs.Laws.Lists.{written_behind, written-length}
 use Rattle.hns_encoding.specs.Bytes.{be_bytes, le_bytes, padded}
 use Rattle.hns_encoding.specs.Words.{words}
 use Rattle.hns_encoding.specs.Laws.Bytes.{be_bytes-length}
-use Rattle.hns_encoding.specs.Laws.Words.{words_of-length}
+use Rattle.hns_encoding.specs.Laws.Words.{words_of_length}
 use Rattle.hnsr_body.specs.Detail.{detail_bytes}
 use Rattle.hnsr_body.specs.declared.messages.Notice.{Notice}
-use Rattle.hnsr_body.specs.declared.messages.NoticeWritten.{NoticeWritten}
+use Rattle.hnsr_body.specs.declared.layout.Padded.{Padded}
 use Rattle.hnsr_body.specs.declared.messages.Notice.TheVariants.{PeerDisconnected, ReservationRevoked}
 use Rattle.hnsr_body.specs.declared.messages.Notice.TheVariants.{AcceptanceExpired, TicketExpired, RelayDisabled}
 use Rattle.hnsr_body.specs.declared.messages.Notice.TheVariants.{EndpointWriteFailed, OuterWriteFailed}
@@ -46,25 +46,25 @@ notice_fits EndpointWriteFailed = omega arith
 notice_fits OuterWriteFailed = omega arith
 
 -- what is written of a notice: its body, in front of the array
-pub notice_length : (w : NoticeWritten) (n : Notice) → w ≡ notice_written n
+pub notice_length : (w : Padded notice_size) (n : Notice) → w ≡ notice_written n
     → (w.length ≤ length w.bytes) × (w.length < 65536)
 unfolding notice_written padded
 notice_length w n e =
     let long = notice_fits n in
-    let a = ap (λ (v : NoticeWritten). v.length) e in
-    let b = ap (λ (v : NoticeWritten). length v.bytes) e
+    let a = ap (λ (v : Padded notice_size). v.length) e in
+    let b = ap (λ (v : Padded notice_size). length v.bytes) e
     ∙ length-append (notice_body n) (replicate (notice_size - length (notice_body n)) 0) in
     (omega arith, omega arith)
 
-pub notice_bytes : (w : NoticeWritten) (n : Notice) → w ≡ notice_written n → take w.length w.bytes ≡ notice_body n
+pub notice_bytes : (w : Padded notice_size) (n : Notice) → w ≡ notice_written n → take w.length w.bytes ≡ notice_body n
 unfolding notice_written padded
 notice_bytes w n e =
-    ap (λ (v : NoticeWritten). take v.length v.bytes) e
+    ap (λ (v : Padded notice_size). take v.length v.bytes) e
     ∙ take_at (notice_body n) (replicate (notice_size - length (notice_body n)) 0) (length (notice_body n)) refl
 
 -- ---- bytes four to a word
 pub length-words : (bs : List ℕ) → length (words bs) ≡ word_count (length bs)
-length-words bs = words_of-length (word_count (length bs)) bs
+length-words bs = words_of_length (word_count (length bs)) bs
 
 -- ---- a route: its head, then its body
 pub route-words : (r : Route) → length (route_words r) ≡ head_words + length (words r.body)
@@ -73,14 +73,14 @@ route-words r =
     simp length-append
     (omega (
       arith,
-      words_of-length name_words (peer_bytes r.destination),
+      words_of_length name_words (peer_bytes r.destination),
       length-words (be_bytes 8 r.context),
       be_bytes-length 8 r.context,
     ))
 
 pub peer-words : (r : Route) → length (peer_words r) ≡ address_words
 unfolding peer_words
-peer-words r = simp length-append (omega (arith, words_of-length name_words (peer_bytes r.destination)))
+peer-words r = simp length-append (omega (arith, words_of_length name_words (peer_bytes r.destination)))
 
 pub packet-words : (r : Route) → length (packet_words r) ≡ 3 + length (words r.body)
 unfolding packet_words

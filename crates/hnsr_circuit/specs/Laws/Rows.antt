@@ -1,11 +1,10 @@
 -- Rows where another row stands in front, over any world: an OPEN or ACCEPT without a context is a 1 and nothing has
 -- moved (OPEN.18, ACCEPT.13); an opcode from 21 on is a 16 and the clock has moved (HANDLE.3).
-use Rattle.std.specs.Prelude.{ℕ, ◌≤◌, ◌≡◌, refl, true, false, eqb, ltb, length}
+use Rattle.std.specs.Prelude.{ℕ, ◌≤◌, ◌≡◌, refl, true, false, eqb, ltb, length, Ok}
 use Rattle.std.proofs.Common.{arith, ap, le-ltb, ne_eqb}
 use Rattle.hnsr_body.specs.declared.error.HnsrInvalid.TheVariants.{ContextZero}
 use Rattle.hnsr_body.specs.declared.error.HnsrProtocolError.TheVariants.{Invalid}
 use Rattle.hnsr_body.specs.Packet.{most_packet, packet_size, sample_routes, packet_checked}
-use Rattle.hnsr_circuit.specs.declared.answer.HnsrAnswer.TheVariants.{Taken}
 use Rattle.hnsr_circuit.specs.declared.answer.HnsrRuntimeError.{HnsrRuntimeError}
 use Rattle.hnsr_circuit.specs.declared.answer.HnsrRuntimeError.TheVariants.{Protocol, UnexpectedOpcode}
 use Rattle.hnsr_circuit.specs.Answers.{error_number, check, body_answer}
@@ -29,8 +28,8 @@ packet-zero : (opcode context n : ℕ) → ltb most_packet (packet_size n) ≡ f
 unfolding packet_answer packet_checked body_answer
 packet-zero opcode context n small other zero = rw (small, other, zero)
 
-pub zero-context : (w : World) (q : Packet) (room : ℕ) → room_answer w room handle_words ≡ Taken
-    → peer_answer (length q.source) ≡ Taken
+pub zero-context : (w : World) (q : Packet) (room : ℕ) → room_answer w room handle_words ≡ Ok tt
+    → peer_answer (length q.source) ≡ Ok tt
     → ltb most_packet (packet_size (length q.body)) ≡ false → eqb q.opcode sample_routes ≡ false → q.context ≡ 0
     → TurnedAway (step w (call_handle q room)) 1 w
 unfolding step handle entry_answer proceed
@@ -41,22 +40,22 @@ zero-context w q room enough named small other zero = record {
 }
 
 -- so an OPEN (13) and an ACCEPT (15)
-pub open_without_context : (w : World) (q : Packet) (room : ℕ) → room_answer w room handle_words ≡ Taken
-    → peer_answer (length q.source) ≡ Taken
+pub open_without_context : (w : World) (q : Packet) (room : ℕ) → room_answer w room handle_words ≡ Ok tt
+    → peer_answer (length q.source) ≡ Ok tt
     → ltb most_packet (packet_size (length q.body)) ≡ false → q.opcode ≡ op_open → q.context ≡ 0
     → TurnedAway (step w (call_handle q room)) 1 w
 open_without_context w q room enough named small is zero =
     zero-context w q room enough named small (ap (λ n. eqb n sample_routes) is) zero
 
-pub accept_without_context : (w : World) (q : Packet) (room : ℕ) → room_answer w room handle_words ≡ Taken
-    → peer_answer (length q.source) ≡ Taken
+pub accept_without_context : (w : World) (q : Packet) (room : ℕ) → room_answer w room handle_words ≡ Ok tt
+    → peer_answer (length q.source) ≡ Ok tt
     → ltb most_packet (packet_size (length q.body)) ≡ false → q.opcode ≡ op_accept → q.context ≡ 0
     → TurnedAway (step w (call_handle q room)) 1 w
 accept_without_context w q room enough named small is zero =
     zero-context w q room enough named small (ap (λ n. eqb n sample_routes) is) zero
 
 -- ---- an opcode from 21 on: 16, behind entry, clock and gate; the clock has moved
-pub opcode_from_21 : (w : World) (q : Packet) (room : ℕ) → entry_answer w q room ≡ Taken
+pub opcode_from_21 : (w : World) (q : Packet) (room : ℕ) → entry_answer w q room ≡ Ok tt
     → w.runtime.trusted_time_high_water ≤ q.now → w.runtime.enabled ≡ true
     → 21 ≤ q.opcode → TurnedAway (step w (call_handle q room)) 16 (at_time w q.now)
 unfolding step handle handle_gate gate_answer clock_answer handling_of dispatch proceed

@@ -1,13 +1,12 @@
 -- Every call keeps the number of places of every table, taken or refused: so a table that was long enough for `new`
 -- stays so.
-use Rattle.std.specs.Prelude.{ℕ, ◌≡◌, refl, Bool, true, false, cond, List, [], length}
+use Rattle.std.specs.Prelude.{ℕ, ◌≡◌, refl, Bool, true, false, cond, List, [], length, Ok, Err}
 use Rattle.std.proofs.Common.{length-set}
 use Rattle.std.proofs.lemmas.List.{length-map}
 use Rattle.hnsr_circuit.specs.declared.records.RelayTicket.{RelayTicket}
 use Rattle.hnsr_circuit.specs.declared.records.RelayCircuit.{RelayCircuit}
 use Rattle.hnsr_circuit.specs.declared.records.InflightAction.{InflightAction}
-use Rattle.hnsr_circuit.specs.declared.answer.HnsrAnswer.{HnsrAnswer}
-use Rattle.hnsr_circuit.specs.declared.answer.HnsrAnswer.TheVariants.{Taken, Refused}
+use Rattle.hnsr_circuit.specs.Answers.{HnsrAnswer}
 use Rattle.hnsr_circuit.specs.Table.{any, pick}
 use Rattle.hnsr_circuit.specs.Laws.Edits.{length-edit}
 use Rattle.hnsr_circuit.specs.Pending.{no_pending, pending_at, named_by, clear_pending}
@@ -46,8 +45,8 @@ use Rattle.hnsr_circuit.specs.Laws.Places.{revoke-circuit-kept, disconnect-pendi
 proceed-kept : {v : World} (w : World) (a : HnsrAnswer) (o : Outcome) → AsMany v w → AsMany v o.world
     → AsMany v (proceed w a o).world
 unfolding proceed
-proceed-kept w Taken o s t = t
-proceed-kept w (Refused e) o s t = s
+proceed-kept w (Ok _) o s t = t
+proceed-kept w (Err e) o s t = s
 
 cond-kept : {v : World} (b : Bool) (x y : Outcome) → AsMany v x.world → AsMany v y.world
     → AsMany v (cond b x y).world

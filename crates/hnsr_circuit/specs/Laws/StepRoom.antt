@@ -1,13 +1,12 @@
 -- What a call writes fits the room that it was given, whatever the world (OUT.9): so code that has passed the entry's
 -- 22 may write every route.
-use Rattle.std.specs.Prelude.{ℕ, ◌≤◌, ◌≡◌, Bool, true, false, ◌||◌, [], leb, ltb}
+use Rattle.std.specs.Prelude.{ℕ, ◌≤◌, ◌≡◌, Bool, true, false, ◌||◌, [], leb, ltb, Ok}
 use Rattle.std.proofs.Common.{arith, ltb-false}
 use Rattle.hnsr_body.specs.declared.messages.Notice.TheVariants.{EndpointWriteFailed}
 use Rattle.hnsr_body.specs.Values.{same_reservation}
 use Rattle.hnsr_body.specs.declared.values.ReservationId.{ReservationId}
 use Rattle.hnsr_circuit.specs.declared.peer.HnsrPeerId.{HnsrPeerId}
 use Rattle.hnsr_circuit.specs.declared.records.InflightAction.{InflightAction}
-use Rattle.hnsr_circuit.specs.declared.answer.HnsrAnswer.TheVariants.{Taken}
 use Rattle.hnsr_circuit.specs.declared.answer.HnsrRuntimeError.TheVariants.{Short}
 use Rattle.hns_encoding.specs.Laws.Tests.{both, neither}
 use Rattle.hnsr_circuit.specs.Table.{pick}
@@ -111,7 +110,7 @@ room_of (call_disconnect peer room) = room
 room_of (call_revoke_reservation id room) = room
 room_of (call_expire now room) = room
 
-room-has : (w : World) (room needed : ℕ) → room_answer w room needed ≡ Taken → needed ≤ room
+room-has : (w : World) (room needed : ℕ) → room_answer w room needed ≡ Ok tt → needed ≤ room
 unfolding room_answer
 room-has w room needed h =
     let k = check-taken (ltb room needed || tables_short (config_of w) w) Short h in

@@ -1,8 +1,7 @@
 -- Tables as a host may lend them (TAB): examples that no trace of the Rust reaches, by computation. Here 22, 23, equal
 -- ids and records that replace; the rest is in LentMore. Above each stands the rule that it reads.
-use Rattle.std.specs.Prelude.{ℕ, suc, ◌-◌, ◌≡◌, refl, true, false, [], ◌∷◌, replicate}
-use Rattle.hnsr_circuit.specs.declared.answer.HnsrAnswer.{HnsrAnswer}
-use Rattle.hnsr_circuit.specs.declared.answer.HnsrAnswer.TheVariants.{Taken, Refused}
+use Rattle.std.specs.Prelude.{ℕ, suc, ◌-◌, ◌≡◌, refl, true, false, [], ◌∷◌, replicate, Ok, Err, None, Some}
+use Rattle.hnsr_circuit.specs.Answers.{HnsrAnswer}
 use Rattle.hnsr_circuit.specs.declared.answer.HnsrRuntimeError.TheVariants.{InvalidAdmission, UnknownAction}
 use Rattle.hnsr_circuit.specs.declared.answer.HnsrRuntimeError.TheVariants.{InvalidPeer, Short, LedgerFull}
 use Rattle.hnsr_circuit.specs.Peer.{maximum_peer}
@@ -11,7 +10,6 @@ use Rattle.hnsr_circuit.specs.Circuits.{no_circuit}
 use Rattle.hnsr_circuit.specs.Ledger.{no_usage, usage_for}
 use Rattle.hnsr_circuit.specs.declared.records.InflightKind.TheVariants.{Close}
 use Rattle.hnsr_circuit.specs.Inflight.{kind_number, clear_action}
-use Rattle.hnsr_circuit.specs.declared.runtime.NextDue.TheVariants.{Never, At}
 use Rattle.hnsr_circuit.specs.World.{World, due_is}
 use Rattle.hnsr_circuit.specs.Opcode.{op_close, op_error}
 use Rattle.hnsr_circuit.specs.Call.{call_status, call_next_due, call_observe_time}
@@ -38,32 +36,32 @@ unfolding found free
 few_actions = found (replicate 2 no_pending) (replicate 2 no_circuit) (no_usage ∷ []) (free 7)
 
 -- OUT.8: 96 words
-pub acknowledge_wants_96 : answer_of quiet (call_acknowledge 1 9 true 95) ≡ Refused Short
+pub acknowledge_wants_96 : answer_of quiet (call_acknowledge 1 9 true 95) ≡ Err Short
 unfolding answer_of quiet
 acknowledge_wants_96 = refl
 
-pub acknowledge_has_96 : answer_of quiet (call_acknowledge 1 9 true 96) ≡ Refused UnknownAction
+pub acknowledge_has_96 : answer_of quiet (call_acknowledge 1 9 true 96) ≡ Err UnknownAction
 unfolding answer_of quiet
 acknowledge_has_96 = refl
 
-pub status_wants_its_tables : answer_of few_pending (call_status (1 ∷ []) 7) ≡ Refused Short
+pub status_wants_its_tables : answer_of few_pending (call_status (1 ∷ []) 7) ≡ Err Short
 unfolding answer_of few_pending
 status_wants_its_tables = refl
 
 -- STATUS.5: then a name, of 1 to 128 bytes
-pub status-tables-first : answer_of few_pending (call_status [] 7) ≡ Refused Short
+pub status-tables-first : answer_of few_pending (call_status [] 7) ≡ Err Short
 unfolding answer_of few_pending
 status-tables-first = refl
 
-pub status_wants_a_name : answer_of quiet (call_status [] 7) ≡ Refused InvalidPeer
+pub status_wants_a_name : answer_of quiet (call_status [] 7) ≡ Err InvalidPeer
 unfolding answer_of quiet
 status_wants_a_name = refl
 
-pub status_of_the_longest : answer_of quiet (call_status (replicate maximum_peer 9) 7) ≡ Taken
+pub status_of_the_longest : answer_of quiet (call_status (replicate maximum_peer 9) 7) ≡ Ok tt
 unfolding answer_of quiet
 status_of_the_longest = refl
 
-pub status_wants_no_longer : answer_of quiet (call_status (replicate (suc maximum_peer) 9) 7) ≡ Refused InvalidPeer
+pub status_wants_no_longer : answer_of quiet (call_status (replicate (suc maximum_peer) 9) 7) ≡ Err InvalidPeer
 unfolding answer_of quiet
 status_wants_no_longer = refl
 
@@ -115,17 +113,17 @@ pub over_the_limit : capacity_of (busy 2 1 1) 2 7 ≡ 0
 unfolding capacity_of busy
 over_the_limit = refl
 
-pub due_wants_its_tables : answer_of few_actions call_next_due ≡ Refused Short
+pub due_wants_its_tables : answer_of few_actions call_next_due ≡ Err Short
 unfolding answer_of few_actions
 due_wants_its_tables = refl
 
 -- observe_time is lent neither
-pub observe_wants_none : answer_of few_pending (call_observe_time 100) ≡ Taken
+pub observe_wants_none : answer_of few_pending (call_observe_time 100) ≡ Ok tt
 unfolding answer_of few_pending
 observe_wants_none = refl
 
 -- ENTRY.1 before ENTRY.2: the peer has no byte
-pub short-before-peer : answer_of few_actions (call_disconnect [] 0) ≡ Refused Short
+pub short-before-peer : answer_of few_actions (call_disconnect [] 0) ≡ Err Short
 unfolding answer_of few_actions
 short-before-peer = refl
 
@@ -134,11 +132,11 @@ unfoldable pub new_answer_on : World → HnsrAnswer
 unfolding machine new_at
 new_answer_on w = (start w (new_at 65536)).answer
 
-pub new_wants_a_ledger : new_answer_on (lent 2 2 8 0) ≡ Refused Short
+pub new_wants_a_ledger : new_answer_on (lent 2 2 8 0) ≡ Err Short
 unfolding new_answer_on lent
 new_wants_a_ledger = refl
 
-pub new-has-a-ledger : new_answer_on (lent 2 2 8 1) ≡ Taken
+pub new-has-a-ledger : new_answer_on (lent 2 2 8 1) ≡ Ok tt
 unfolding new_answer_on lent
 new-has-a-ledger = refl
 
@@ -149,16 +147,16 @@ one-of-each =
     found (no_pending ∷ pending_on 7 9 ∷ []) (circuit_on 8 (peer 1) (peer 3) 0 0 ∷ no_circuit ∷ [])
     (usage_on 5 0 ∷ []) (free 8)
 
-pub revoking_wants_192 : answer_of one-of-each (call_expire 100 191) ≡ Refused Short
+pub revoking_wants_192 : answer_of one-of-each (call_expire 100 191) ≡ Err Short
 unfolding answer_of one-of-each
 revoking_wants_192 = refl
 
-pub revoking_has_192 : answer_of one-of-each (call_expire 100 192) ≡ Taken
+pub revoking_has_192 : answer_of one-of-each (call_expire 100 192) ≡ Ok tt
 unfolding answer_of one-of-each
 revoking_has_192 = refl
 
 -- DUE.5: what ends first, of the three tables
-pub due-of-each : told_of one-of-each call_next_due ≡ due_is (At 110)
+pub due-of-each : told_of one-of-each call_next_due ≡ due_is (Some 110)
 unfolding told_of one-of-each
 due-of-each = refl
 
@@ -167,7 +165,7 @@ unfoldable pub ledger_alone : World
 unfolding found usage_on free
 ledger_alone = found (replicate 2 no_pending) (replicate 2 no_circuit) (no_usage ∷ usage_on 5 40 ∷ []) (free 8)
 
-pub due_of_the_ledger : told_of ledger_alone call_next_due ≡ due_is (At 1000)
+pub due_of_the_ledger : told_of ledger_alone call_next_due ≡ due_is (Some 1000)
 unfolding told_of ledger_alone
 due_of_the_ledger = refl
 
@@ -178,7 +176,7 @@ action_alone =
     found (replicate 2 no_pending) (replicate 2 no_circuit) (no_usage ∷ [])
     (action_on 3 7 (kind_number Close) 0 ∷ free 7)
 
-pub nothing-is-due : told_of action_alone call_next_due ≡ due_is Never
+pub nothing-is-due : told_of action_alone call_next_due ≡ due_is None
 unfolding told_of action_alone
 nothing-is-due = refl
 
@@ -188,11 +186,11 @@ unfolding found free
 ledger_lapsed =
     found (replicate 2 no_pending) (replicate 2 no_circuit) (usage_for (record { high = 0; low = 5 }) 90 ∷ []) (free 8)
 
-pub lapsed-is-due : told_of ledger_lapsed call_next_due ≡ due_is (At 90)
+pub lapsed-is-due : told_of ledger_lapsed call_next_due ≡ due_is (Some 90)
 unfolding told_of ledger_lapsed
 lapsed-is-due = refl
 
-pub lapsed-is-dropped : due_after ledger_lapsed (call_expire 100 0) ≡ due_is Never
+pub lapsed-is-dropped : due_after ledger_lapsed (call_expire 100 0) ≡ due_is None
 unfolding due_after ledger_lapsed
 lapsed-is-dropped = refl
 
@@ -205,11 +203,11 @@ unfoldable pub same_ledger : World
 unfolding found usage_on free
 same_ledger = found (replicate 2 no_pending) (replicate 2 no_circuit) (usage_on 5 29999 ∷ []) (free 8)
 
-pub ledger-full : answer_of other_ledger open_call ≡ Refused LedgerFull
+pub ledger-full : answer_of other_ledger open_call ≡ Err LedgerFull
 unfolding answer_of other_ledger open_call
 ledger-full = refl
 
-pub ledger_has_it : answer_of same_ledger open_call ≡ Taken
+pub ledger_has_it : answer_of same_ledger open_call ≡ Ok tt
 unfolding answer_of same_ledger open_call
 ledger_has_it = refl
 
@@ -236,7 +234,7 @@ expire_clears_both = refl
 
 -- CLOSE.2: the endpoint names both by circuit id
 pub close_names_two : answer_of twins (packet_call endpoint_peer op_close 7 (0 ∷ 0 ∷ 0 ∷ []) 100)
-    ≡ Refused InvalidAdmission
+    ≡ Err InvalidAdmission
 unfolding answer_of twins packet_call endpoint_peer
 close_names_two = refl
 
@@ -272,7 +270,7 @@ pub expire_ends_its_own : pending_after one_over (call_expire 110 192) ≡ true 
 unfolding pending_after one_over
 expire_ends_its_own = refl
 
-pub due_lies_ahead : due_after one_over (call_expire 110 192) ≡ due_is (At 200)
+pub due_lies_ahead : due_after one_over (call_expire 110 192) ≡ due_is (Some 200)
 unfolding due_after one_over
 due_lies_ahead = refl
 

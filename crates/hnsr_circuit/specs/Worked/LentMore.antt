@@ -1,12 +1,11 @@
 -- Tables as a host may lend them, further examples: long and dirty names, a stored zero context, marks and counts that
 -- do not fit, kinds above 4, numbers and sums at their tops, and the tail of the output. Above each stands the rule
 -- that it reads.
-use Rattle.std.specs.Prelude.{ℕ, ◌+◌, ◌-◌, ◌≡◌, refl, true, false, List, [], ◌∷◌, replicate, get_or, drop}
+use Rattle.std.specs.Prelude.{ℕ, ◌+◌, ◌-◌, ◌≡◌, refl, true, false, List, [], ◌∷◌, replicate, get_or, drop, Ok, Err}
 use Rattle.hns_encoding.specs.Numbers.{top}
 use Rattle.hnsr_body.specs.declared.error.HnsrInvalid.TheVariants.{ContextZero}
 use Rattle.hnsr_body.specs.declared.error.HnsrProtocolError.TheVariants.{Invalid}
 use Rattle.hnsr_circuit.specs.declared.peer.HnsrPeerId.{HnsrPeerId}
-use Rattle.hnsr_circuit.specs.declared.answer.HnsrAnswer.TheVariants.{Taken, Refused}
 use Rattle.hnsr_circuit.specs.declared.answer.HnsrRuntimeError.TheVariants.{Protocol, GenerationExhausted}
 use Rattle.hnsr_circuit.specs.declared.answer.HnsrRuntimeError.TheVariants.{Capacity}
 use Rattle.hnsr_circuit.specs.Peer.{maximum_peer}
@@ -42,7 +41,7 @@ pub long_name_hears : first_word (words_of long_names (data_call requester_peer 
 unfolding first_word words_of long_names data_call requester_peer
 long_name_hears = refl
 
-pub long-name-sends : answer_of long_names (data_call (replicate maximum_peer 5) 1 100) ≡ Taken
+pub long-name-sends : answer_of long_names (data_call (replicate maximum_peer 5) 1 100) ≡ Ok tt
 unfolding answer_of long_names data_call
 long-name-sends = refl
 
@@ -57,7 +56,7 @@ unfoldable pub zero_context : World
 unfolding found pending_on usage_on free
 zero_context = found (pending_on 7 0 ∷ no_pending ∷ []) (replicate 2 no_circuit) (usage_on 5 0 ∷ []) (free 8)
 
-pub opened_refused : answer_of zero_context (accept_call 100) ≡ Refused (Protocol (Invalid ContextZero))
+pub opened_refused : answer_of zero_context (accept_call 100) ≡ Err (Protocol (Invalid ContextZero))
 unfolding answer_of zero_context accept_call
 opened_refused = refl
 
@@ -76,7 +75,7 @@ crowded =
     found (pending_on 7 9 ∷ pending_on 8 10 ∷ pending_on 9 11 ∷ []) (replicate 2 no_circuit)
     (usage_on 5 0 ∷ []) (free 8)
 
-pub crowded-is-full : answer_of crowded open_call ≡ Refused Capacity
+pub crowded-is-full : answer_of crowded open_call ≡ Err Capacity
 unfolding answer_of crowded open_call
 crowded-is-full = refl
 
@@ -88,7 +87,7 @@ brim =
     (circuit_on 7 (peer 1) (peer 2) (top 64) 3 ∷ circuit_on 8 (peer 1) (peer 2) 0 (top 64) ∷ [])
     (usage_on 5 (top 64) ∷ []) (action_on 1 7 2 10 ∷ action_on 2 8 77 0 ∷ free 6)
 
-pub data_taken_at_brim : answer_of brim (data_call requester_peer 2 100) ≡ Taken
+pub data_taken_at_brim : answer_of brim (data_call requester_peer 2 100) ≡ Ok tt
 unfolding answer_of brim data_call requester_peer
 data_taken_at_brim = refl
 
@@ -121,7 +120,7 @@ sending =
     last_sequence
     (found (replicate 2 no_pending) (circuit_on 7 (peer 1) (peer 2) 0 0 ∷ no_circuit ∷ []) (usage_on 5 0 ∷ []) (free 8))
 
-pub data_refused_at_top : answer_of sending (data_call requester_peer 2 100) ≡ Refused GenerationExhausted
+pub data_refused_at_top : answer_of sending (data_call requester_peer 2 100) ≡ Err GenerationExhausted
 unfolding answer_of sending data_call requester_peer
 data_refused_at_top = refl
 
@@ -142,11 +141,11 @@ unfoldable pub oldest : World
 unfolding last_generation quiet
 oldest = last_generation quiet
 
-pub disabling_refused : answer_of oldest (call_replace_enabled (top 64) false 0) ≡ Refused GenerationExhausted
+pub disabling_refused : answer_of oldest (call_replace_enabled (top 64) false 0) ≡ Err GenerationExhausted
 unfolding answer_of oldest
 disabling_refused = refl
 
-pub same_state_taken : answer_of oldest (call_replace_enabled (top 64) true 0) ≡ Taken
+pub same_state_taken : answer_of oldest (call_replace_enabled (top 64) true 0) ≡ Ok tt
 unfolding answer_of oldest
 same_state_taken = refl
 

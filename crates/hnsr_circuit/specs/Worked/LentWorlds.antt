@@ -10,7 +10,7 @@ use Rattle.hnsr_circuit.specs.declared.records.ReservationUsage.{ReservationUsag
 use Rattle.hnsr_circuit.specs.declared.records.InflightAction.{InflightAction}
 use Rattle.hnsr_circuit.specs.declared.config.OpaqueRelayConfig.{OpaqueRelayConfig}
 use Rattle.hnsr_circuit.specs.declared.runtime.OpaqueRelayRuntime.{OpaqueRelayRuntime}
-use Rattle.hnsr_circuit.specs.declared.answer.HnsrAnswer.{HnsrAnswer}
+use Rattle.hnsr_circuit.specs.Answers.{HnsrAnswer}
 use Rattle.hnsr_circuit.specs.Peer.{maximum_peer}
 use Rattle.hnsr_circuit.specs.Circuits.{no_circuit}
 use Rattle.hnsr_circuit.specs.Pending.{pending_record}

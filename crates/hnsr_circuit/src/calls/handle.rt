@@ -1,8 +1,7 @@
 // `handle`: entry, clock, gate, and then the message that the opcode names (HANDLE).
-ghost use Rattle.std.specs.Prelude.{◌≡◌, ◌||◌, ◌<◌, ltb, length, List, ℕ};
+ghost use Rattle.std.specs.Prelude.{◌≡◌, ◌||◌, ◌<◌, ltb, length, List, ℕ, Err};
 ghost use Rattle.hnsr_circuit.specs.Peer.{peer_of};
 ghost use Rattle.hnsr_circuit.specs.Code.Held.{world_seen, world_given, handed_seen};
-ghost use Rattle.hnsr_circuit.specs.declared.answer.HnsrAnswer.TheVariants.{Refused};
 ghost use Rattle.hnsr_circuit.specs.declared.answer.HnsrRuntimeError.TheVariants.{Short, UnexpectedOpcode};
 ghost use Rattle.hnsr_circuit.specs.Answers.{check, ◌then◌};
 ghost use Rattle.hnsr_circuit.specs.Entry.{handle_words, peer_answer, packet_answer, clock_answer};
@@ -10,7 +9,7 @@ ghost use Rattle.hnsr_circuit.specs.Handle.{handling_of, dispatch, gate_answer, 
 ghost use Rattle.hnsr_circuit.specs.Call.{step, call_handle};
 ghost use Rattle.hnsr_circuit.specs.Code.Progress.{packet_of, ending, outcome};
 
-use crate::answer::{HnsrAnswer, HnsrRuntimeError, body_answer, check, first_refusal, is_taken};
+use crate::answer::{HnsrAnswer, HnsrRuntimeError, body_answer, check};
 use crate::entry::{clock_answer, peer_answer, too_few};
 use crate::messages::handle_accept::handle_accept;
 use crate::messages::handle_close::handle_close;
@@ -19,12 +18,10 @@ use crate::messages::handle_open::handle_open;
 use crate::messages::handle_window::handle_window;
 use crate::output::route::HANDLE_WORDS;
 use crate::peer::peer_of;
-use crate::records::runtime::with_clock;
 use crate::records::{InflightAction, RelayCircuit, RelayPending, ReservationUsage};
 use crate::runtime::{OpaqueRelayRuntime, RelayPacket, Relayed, Request, refused};
 use crate::tables::lookup::trim;
 use crate::tables::places::Places;
-use hns_encoding::logic::{either, no};
 use hnsr_body::envelope::HnsrPacket;
 
 // ---- entry
@@ -33,11 +30,11 @@ use hnsr_body::envelope::HnsrPacket;
 fn room_answer(room: usize, few: bool) -> HnsrAnswer
     ensures { result ≡ check (ltb room handle_words || few) Short }
 {
-    let short = either(room < HANDLE_WORDS, few);
-    check(short, HnsrRuntimeError::Short)
+    check(room < HANDLE_WORDS || few, HnsrRuntimeError::Short)
 }
 
 // 1 (ENTRY.3): what the packet rule refuses
+#[tactic(auto, unfolding(crate::specs::Entry::packet_answer))]
 fn packet_answer(packet: RelayPacket, body_size: usize) -> HnsrAnswer
     ensures { result ≡ packet_answer packet.opcode packet.context_id body_size }
 {
@@ -46,8 +43,7 @@ fn packet_answer(packet: RelayPacket, body_size: usize) -> HnsrAnswer
         context_id: packet.context_id,
         body_length: body_size,
     };
-    let checked = envelope.validate();
-    body_answer(checked)
+    body_answer(envelope.validate())
 }
 
 // 4, 1 and 7, in this order, behind 22.
@@ -61,29 +57,28 @@ fn entry_answer(
     ensures { result ≡ ((lent then peer_answer source then packet_answer packet.opcode packet.context_id body)
         then clock_answer runtime.trusted_time_high_water packet.now) }
 {
-    let named = peer_answer(source);
-    let enveloped = packet_answer(packet, body);
-    let rest = first_refusal(named, enveloped);
-    let entered = first_refusal(lent, rest);
-    let clock = clock_answer(runtime.trusted_time_high_water, packet.now);
-    first_refusal(entered, clock)
+    lent?;
+    peer_answer(source)?;
+    packet_answer(packet, body)?;
+    clock_answer(runtime.trusted_time_high_water, packet.now)
 }
 
 // 9 (HANDLE.2): the relay is off
+#[tactic(auto, unfolding(crate::specs::Handle::gate_answer))]
 pub(crate) fn gate_answer(enabled: bool) -> HnsrAnswer
     ensures { result ≡ gate_answer enabled }
 {
-    check(no(enabled), HnsrRuntimeError::Disabled)
+    check(!enabled, HnsrRuntimeError::Disabled)
 }
 
 // ---- by opcode
 
 // 16 (HANDLE.3): an opcode that a relay does not take
 fn unexpected(request: Request) -> Relayed
-    ensures { ((result.runtime ≡ request.runtime) × (result.answer ≡ Refused UnexpectedOpcode) × (result.words ≡ 0))
+    ensures { ((result.runtime ≡ request.runtime) × (result.answer ≡ Err UnexpectedOpcode) × (result.words ≡ 0))
         × (result.places ≡ request.places) }
 {
-    let answer = HnsrAnswer::Refused(HnsrRuntimeError::UnexpectedOpcode);
+    let answer = Err(HnsrRuntimeError::UnexpectedOpcode);
     refused(request.runtime, request.places, answer)
 }
 
@@ -146,7 +141,7 @@ pub(crate) fn handle_gate(
         (packet_of packet source.now body.now endpoint.now random.now)) }
 {
     let answer = gate_answer(runtime.enabled);
-    if is_taken(answer) {
+    if answer.is_ok() {
         let peer = peer_of(source);
         let request = Request {
             runtime,
@@ -188,8 +183,8 @@ pub fn handle(
     let few = too_few(config, pending.len(), circuits.len(), inflight.len());
     let lent = room_answer(out.len(), few);
     let answer = entry_answer(lent, runtime, packet, source.len(), body.len());
-    if is_taken(answer) {
-        let moved = with_clock(runtime, packet.now);
+    if answer.is_ok() {
+        let moved = runtime.with_clock(packet.now);
         let fewer = trim(pending, circuits, ledger, inflight, places);
         return handle_gate(
             pending, circuits, ledger, inflight, out, moved, fewer, packet, source, body, endpoint,

@@ -1,6 +1,6 @@
 // The end of a record, and revocation (REVOKE); a walk revokes what has a property, by ascending id, each record at its
 // place (TAB.8).
-ghost use Rattle.std.specs.Prelude.{◌≡◌, cond, true, not, List};
+ghost use Rattle.std.specs.Prelude.{◌≡◌, cond, true, List, Ok};
 ghost use Rattle.hnsr_circuit.specs.Code.Held.{held_pending, held_circuits, world_seen, handed_seen, underway_seen};
 ghost use Rattle.hnsr_circuit.specs.declared.records.RelayPending.{RelayPending};
 ghost use Rattle.hnsr_circuit.specs.declared.records.RelayCircuit.{RelayCircuit};
@@ -10,21 +10,18 @@ ghost use Rattle.hnsr_circuit.specs.Pending.{pending_id};
 ghost use Rattle.hnsr_circuit.specs.Circuits.{circuit_id};
 ghost use Rattle.hnsr_circuit.specs.Table.{not_yet, next};
 ghost use Rattle.hnsr_circuit.specs.Queue.{finished};
-ghost use Rattle.hnsr_circuit.specs.declared.answer.HnsrAnswer.TheVariants.{Taken};
 ghost use Rattle.hnsr_circuit.specs.Code.Progress.{advance, ending};
 ghost use Rattle.hnsr_circuit.specs.Revocation.{revoke_circuit_there, revoke_circuit};
 ghost use Rattle.hnsr_circuit.specs.Revocation.{walk, pending_table, circuit_table};
-ghost use Rattle.hnsr_circuit.specs.Code.Revoking.{close_side, error_out, close_out, other_out, first_out, revoked_if};
+ghost use Rattle.hnsr_circuit.specs.Code.Revoking.{error_out, close_out, other_out, first_out, revoked_if};
 ghost use Rattle.hnsr_circuit.specs.Code.Revoking.{ending_pending, revoked_pending, revoked_circuit, revoking_all};
 
-use crate::answer::HnsrAnswer;
 use crate::messages::message::closing;
 use crate::messages::opcode::{CLOSE, ERROR};
 use crate::output::queue::{Outgoing, drop_and_tell, tell_notice};
 use crate::peer::{HnsrPeerId, same_peer};
 use crate::records::circuits::circuit_unmarked;
 use crate::records::pending::pending_unmarked;
-use crate::records::runtime::revoked;
 use crate::records::{InflightAction, RelayCircuit, RelayPending};
 use crate::runtime::{OpaqueRelayRuntime, Relayed, Sending};
 use crate::tables::circuits::{circuit_at, find_circuit_id, next_circuit, set_circuit};
@@ -32,7 +29,6 @@ use crate::tables::pending::{next_pending, pending_at, set_pending};
 use crate::tables::places::Places;
 use crate::tables::question::RecordQuestion;
 use crate::tables::scan::Walked;
-use hns_encoding::logic::no;
 use hnsr_body::messages::Notice;
 
 // What a revoking call hands its walks: which records, and by what message; the peer is nobody where none is asked for.
@@ -51,16 +47,6 @@ pub struct Revoking {
 pub struct Firsts {
     pub pending: Walked,
     pub circuits: Walked,
-}
-
-// How a record ends: its id, the runtime that has counted it, and the messages.
-#[derive(Clone, Copy)]
-pub struct EndPlan {
-    pub id: u64,
-    pub sending: Sending,
-    pub first: Outgoing,
-    pub also: bool,
-    pub second: Outgoing,
 }
 
 // ---- messages
@@ -124,30 +110,8 @@ fn counted(sending: Sending) -> Sending
 {
     let runtime = sending.runtime;
     Sending {
-        runtime: revoked(true, runtime),
+        runtime: runtime.revoked(),
         ..sending
-    }
-}
-
-fn plan_pending(pending: RelayPending, sending: Sending, revoking: Revoking) -> EndPlan
-    ensures { (result.id ≡ pending.circuit_id)
-        × (result.sending.runtime ≡ revoked_if true sending.runtime)
-        × (result.sending.position ≡ sending.position)
-        × (result.first ≡ first_out revoking pending)
-        × (result.also ≡ not revoking.disconnecting)
-        × (result.second ≡ close_out pending)
-        × (result.sending.places ≡ sending.places) }
-{
-    let first = first_message(revoking, pending);
-    let second = close_to_endpoint(pending);
-    let also = no(revoking.disconnecting);
-    let after = counted(sending);
-    EndPlan {
-        id: pending.circuit_id,
-        sending: after,
-        first,
-        also,
-        second,
     }
 }
 
@@ -179,37 +143,15 @@ pub(crate) fn revoke_pending(
     let notice = pending_notice(revoking);
     let row = pending_at(pending, places, place);
     let gone = pending_unmarked(row);
-    let plan = plan_pending(row, sending, revoking);
-    let after = plan.sending;
-    let first = plan.first;
-    let second = plan.second;
-    set_pending(pending, true, place, gone);
-    let told = drop_and_tell(inflight, out, after, plan.id, first, notice);
-    tell_notice(inflight, out, plan.also, told, second, notice)
-}
-
-fn plan_circuit(circuit: RelayCircuit, sending: Sending) -> EndPlan
-    ensures { (result.id ≡ circuit.circuit_id)
-        × (result.sending.runtime ≡ revoked_if true sending.runtime)
-        × (result.sending.position ≡ sending.position)
-        × (result.first ≡ close_side circuit circuit.requester)
-        × (result.also ≡ true)
-        × (result.second ≡ close_side circuit circuit.endpoint)
-        × (result.sending.places ≡ sending.places) }
-{
-    let id = circuit.circuit_id;
-    let requester = circuit.requester;
-    let endpoint = circuit.endpoint;
-    let first = closing(requester, id, CLOSE, id);
-    let second = closing(endpoint, id, CLOSE, id);
+    let first = first_message(revoking, row);
+    let second = close_to_endpoint(row);
     let after = counted(sending);
-    EndPlan {
-        id,
-        sending: after,
-        first,
-        also: true,
-        second,
+    set_pending(pending, true, place, gone);
+    let told = drop_and_tell(inflight, out, after, row.circuit_id, first, notice);
+    if revoking.disconnecting {
+        return told;
     }
+    tell_notice(inflight, out, told, second, notice)
 }
 
 // The circuit at a place, ended and told: REVOKE.2.
@@ -229,13 +171,13 @@ pub(crate) fn revoke_circuit(
     let places = sending.places;
     let row = circuit_at(circuits, places, place);
     let gone = circuit_unmarked(row);
-    let plan = plan_circuit(row, sending);
-    let after = plan.sending;
-    let first = plan.first;
-    let second = plan.second;
+    let id = row.circuit_id;
+    let first = closing(row.requester, id, CLOSE, id);
+    let second = closing(row.endpoint, id, CLOSE, id);
+    let after = counted(sending);
     set_circuit(circuits, true, place, gone);
-    let told = drop_and_tell(inflight, out, after, plan.id, first, notice);
-    tell_notice(inflight, out, plan.also, told, second, notice)
+    let told = drop_and_tell(inflight, out, after, id, first, notice);
+    tell_notice(inflight, out, told, second, notice)
 }
 
 // ---- walks: again and again the least id and place above the last that has the property, whose record is ended; it
@@ -263,7 +205,7 @@ pub(crate) fn walk_pending(
     let mut next = first;
     let mut turn: usize = 0;
     while turn < most {
-        if no(next.taken) {
+        if !next.taken {
             return told;
         }
         told = revoke_pending(pending, inflight, out, told, revoking, next.place);
@@ -297,7 +239,7 @@ pub(crate) fn walk_circuits(
     let mut next = first;
     let mut turn: usize = 0;
     while turn < most {
-        if no(next.taken) {
+        if !next.taken {
             return told;
         }
         told = revoke_circuit(circuits, inflight, out, told, notice, next.place);
@@ -320,14 +262,14 @@ fn started(runtime: OpaqueRelayRuntime, places: Places) -> Sending
 }
 
 pub(crate) fn finished(sending: Sending) -> Relayed
-    ensures { ((result.runtime ≡ sending.runtime) × (result.answer ≡ Taken) × (result.words ≡ sending.position))
+    ensures { ((result.runtime ≡ sending.runtime) × (result.answer ≡ Ok tt) × (result.words ≡ sending.position))
         × (result.places ≡ sending.places) }
 {
     let runtime = sending.runtime;
     let places = sending.places;
     Relayed {
         runtime,
-        answer: HnsrAnswer::Taken,
+        answer: Ok(()),
         words: sending.position,
         places,
     }

@@ -18,13 +18,12 @@ ghost use Rattle.hnsr_circuit.specs.Code.Progress.{outcome, ending};
 ghost use Rattle.hnsr_circuit.specs.RevokingCalls.{change_answer, switch_to};
 ghost use Rattle.hnsr_circuit.specs.Code.Revoking.{revoked_pending, revoked_circuit, disconnecting_all, revokes};
 
-use crate::answer::{HnsrAnswer, HnsrRuntimeError, check, first_refusal, is_taken};
+use crate::answer::{HnsrAnswer, HnsrRuntimeError, check};
 use crate::calls::revocation::{Firsts, Revoking, revoke_all};
 use crate::config::OpaqueRelayConfig;
 use crate::entry::{clock_answer, generation_answer, peer_answer, too_few};
 use crate::output::route::CLOSING_WORDS;
 use crate::peer::{HnsrPeerId, no_peer, peer_of};
-use crate::records::runtime::{with_clock, with_enabled};
 use crate::records::{InflightAction, RelayCircuit, RelayPending, ReservationUsage};
 use crate::runtime::{OpaqueRelayRuntime, Relayed, refused, taken_with};
 use crate::tables::circuits::survey_circuit;
@@ -35,17 +34,18 @@ use crate::tables::places::Places;
 use crate::tables::question::{ActionsDropped, RecordQuestion};
 use crate::tables::scan::Survey;
 use crate::tables::stores::drop_usage;
-use hns_encoding::logic::{both, either, no};
-use hns_encoding::numbers::saturating_add_usize;
 use hnsr_body::messages::Notice;
 use hnsr_body::values::ReservationId;
 
 // 6 (SWITCH.2): a switch without a generation left
+#[tactic(auto, unfolding(crate::specs::RevokingCalls::change_answer))]
 pub(crate) fn change_answer(generation: u64, changes: bool) -> HnsrAnswer
     ensures { result ≡ change_answer generation changes }
 {
-    let refused = both(changes, generation == u64::MAX);
-    check(refused, HnsrRuntimeError::GenerationExhausted)
+    check(
+        changes && generation == u64::MAX,
+        HnsrRuntimeError::GenerationExhausted,
+    )
 }
 
 // ---- entry
@@ -54,8 +54,7 @@ pub(crate) fn change_answer(generation: u64, changes: bool) -> HnsrAnswer
 fn room_short(room: usize, pending: usize, circuits: usize) -> bool
     ensures { result ≡ ltb room (closing_words * (pending + circuits)) }
 {
-    let records = saturating_add_usize(pending, circuits);
-    room / CLOSING_WORDS < records
+    room / CLOSING_WORDS < pending.saturating_add(circuits)
 }
 
 fn room_answer(
@@ -68,8 +67,7 @@ fn room_answer(
     ensures { result ≡ check (short || too_few config pending circuits inflight) Short }
 {
     let few = too_few(config, pending, circuits, inflight);
-    let refused = either(short, few);
-    check(refused, HnsrRuntimeError::Short)
+    check(short || few, HnsrRuntimeError::Short)
 }
 
 // What a revoking call finds at entry: its answer, and the first record that each walk takes.
@@ -178,8 +176,8 @@ pub fn disconnect(
     let lent = entry.answer;
     let first = entry.first;
     let named = peer_answer(peer.len());
-    let answer = first_refusal(lent, named);
-    if is_taken(answer) {
+    let answer = lent.and(named);
+    if answer.is_ok() {
         clear_action(inflight, places, ActionsDropped::Toward, name);
         return revoke_all(
             pending, circuits, inflight, out, runtime, places, all, first,
@@ -222,7 +220,7 @@ pub fn revoke_reservation(
     );
     let answer = entry.answer;
     let first = entry.first;
-    if is_taken(answer) {
+    if answer.is_ok() {
         drop_usage(ledger, places, id);
         return revoke_all(
             pending, circuits, inflight, out, runtime, places, all, first,
@@ -266,9 +264,9 @@ pub fn expire(
     let lent = entry.answer;
     let first = entry.first;
     let clock = clock_answer(runtime.trusted_time_high_water, time);
-    let answer = first_refusal(lent, clock);
-    if is_taken(answer) {
-        let moved = with_clock(runtime, time);
+    let answer = lent.and(clock);
+    if answer.is_ok() {
+        let moved = runtime.with_clock(time);
         drop_lapsed(ledger, places, time);
         return revoke_all(pending, circuits, inflight, out, moved, places, all, first);
     }
@@ -279,10 +277,7 @@ pub fn expire(
 fn changed(before: bool, enabled: bool) -> bool
     ensures { result ≡ not (beq before enabled) }
 {
-    if before {
-        return no(enabled);
-    }
-    enabled
+    before != enabled
 }
 
 // SWITCH.4 to SWITCH.6: the state does change.
@@ -307,7 +302,7 @@ pub(crate) fn switch_to(
         (switch_to (world_seen runtime places pending.old circuits.old l inflight.old)
         enabled) }
 {
-    let switched = with_enabled(runtime, enabled);
+    let switched = runtime.with_enabled(enabled);
     let nobody = no_peer();
     clear_action(inflight, places, ActionsDropped::Every, nobody);
     if enabled {
@@ -355,9 +350,9 @@ pub fn replace_enabled(
     let current = generation_answer(runtime.generation, expected_generation);
     let changes = changed(runtime.enabled, enabled);
     let exhausted = change_answer(runtime.generation, changes);
-    let rest = first_refusal(current, exhausted);
-    let answer = first_refusal(lent, rest);
-    if is_taken(answer) {
+    let rest = current.and(exhausted);
+    let answer = lent.and(rest);
+    if answer.is_ok() {
         if changes {
             return switch_to(
                 pending, circuits, inflight, out, runtime, places, enabled, all, first,

@@ -1,5 +1,5 @@
 // The calls that send nothing: new, status, next_due, observe_time.
-ghost use Rattle.std.specs.Prelude.{◌≡◌, cond, ◌||◌, List, ℕ, eqb};
+ghost use Rattle.std.specs.Prelude.{◌≡◌, ◌||◌, List, ℕ, eqb};
 ghost use Rattle.hnsr_circuit.specs.Code.Held.{held_pending, held_circuits, held_ledger};
 ghost use Rattle.hnsr_circuit.specs.Code.Held.{held_actions, world_seen, handed_seen};
 ghost use Rattle.hnsr_circuit.specs.declared.records.RelayPending.{RelayPending};
@@ -7,7 +7,6 @@ ghost use Rattle.hnsr_circuit.specs.declared.records.RelayCircuit.{RelayCircuit}
 ghost use Rattle.hnsr_circuit.specs.declared.records.ReservationUsage.{ReservationUsage};
 ghost use Rattle.hnsr_circuit.specs.declared.records.InflightAction.{InflightAction};
 ghost use Rattle.hnsr_circuit.specs.declared.runtime.OpaqueRelayRuntime.{OpaqueRelayRuntime};
-ghost use Rattle.hnsr_circuit.specs.declared.answer.HnsrAnswer.TheVariants.{Taken};
 ghost use Rattle.hnsr_circuit.specs.declared.answer.HnsrRuntimeError.TheVariants.{Short};
 ghost use Rattle.hnsr_circuit.specs.Answers.{check, ◌then◌};
 ghost use Rattle.hnsr_circuit.specs.Config.{validate_config};
@@ -15,23 +14,20 @@ ghost use Rattle.hnsr_circuit.specs.Entry.{peer_answer};
 ghost use Rattle.hnsr_circuit.specs.Inflight.{capacity_left};
 ghost use Rattle.hnsr_circuit.specs.Code.Question.{capacity_question};
 ghost use Rattle.hnsr_circuit.specs.New.{session_answer};
-ghost use Rattle.hnsr_circuit.specs.Code.Told.{no_status, status_told, due_told, Made};
+ghost use Rattle.hnsr_circuit.specs.Code.Told.{status_told, due_told, Made};
 ghost use Rattle.hnsr_circuit.specs.Status.{status_from};
-ghost use Rattle.hnsr_circuit.specs.declared.runtime.NextDue.TheVariants.{Never};
 ghost use Rattle.hnsr_circuit.specs.Code.Progress.{outcome};
 ghost use Rattle.hnsr_circuit.specs.World.{world_of};
 ghost use Rattle.hnsr_circuit.specs.Call.{start, step, call_status, call_next_due, call_observe_time};
 
-use crate::answer::{HnsrAnswer, HnsrRuntimeError, check, first_refusal, is_taken};
+use crate::answer::{HnsrAnswer, HnsrRuntimeError, check};
 use crate::config::OpaqueRelayConfig;
 use crate::entry::{clock_answer, peer_answer, too_few};
 use crate::peer::{HnsrPeerId, peer_of};
 use crate::records::inflight::capacity_left;
-use crate::records::runtime::{new_runtime, no_runtime, with_clock};
 use crate::records::{InflightAction, RelayCircuit, RelayPending, ReservationUsage};
 use crate::runtime::{
-    DueTold, HnsrRuntimeStatus, NextDue, OpaqueRelayRuntime, Relayed, StatusTold, refused,
-    taken_with,
+    HnsrRuntimeStatus, OpaqueRelayRuntime, Relayed, StatusTold, refused, taken_with,
 };
 use crate::tables::circuits::{circuit_due, circuit_totals};
 use crate::tables::inflight::scan_actions;
@@ -39,18 +35,19 @@ use crate::tables::ledger::usage_due;
 use crate::tables::pending::{count_pending, pending_due};
 use crate::tables::places::{Places, every_place, no_place};
 use crate::tables::scan::{ActionQuestion, CircuitTotals, InflightTally};
-use hns_encoding::logic::either;
 use hnsr_body::values::is_zero;
 
 // ---- new
 
 // 3 (NEW.1): a session of zeros, or no generation
+#[tactic(auto, unfolding(crate::specs::New::session_answer))]
 fn session_answer(session: [u8; 16], generation: u64) -> HnsrAnswer
     ensures { result ≡ session_answer session generation }
 {
-    let zero = is_zero(&session);
-    let refused = either(zero, generation == 0);
-    check(refused, HnsrRuntimeError::InvalidSession)
+    check(
+        is_zero(&session) || generation == 0,
+        HnsrRuntimeError::InvalidSession,
+    )
 }
 
 // 3, 2, 22, in this order (NEW.1 to NEW.3)
@@ -65,12 +62,9 @@ fn new_answer(
         then validate_config config
         then check (few || eqb ledger 0) Short) }
 {
-    let named = session_answer(session, generation);
-    let valid = config.validate();
-    let short = either(few, ledger == 0);
-    let lent = check(short, HnsrRuntimeError::Short);
-    let rest = first_refusal(valid, lent);
-    first_refusal(named, rest)
+    session_answer(session, generation)?;
+    config.validate()?;
+    check(few || ledger == 0, HnsrRuntimeError::Short)
 }
 
 // NEW.4: taken, no place is in use, whatever the tables hold. NEW.7: refused, zeros, off, the largest numbers. No
@@ -93,36 +87,16 @@ pub fn new(
 {
     let few = too_few(config, pending.len(), circuits.len(), inflight.len());
     let answer = new_answer(session, generation, config, few, ledger.len());
-    let runtime = new_runtime(session, generation, config, time);
-    if is_taken(answer) {
+    if answer.is_ok() {
+        let runtime = OpaqueRelayRuntime::new(session, generation, config, time);
         let none = no_place();
         return taken_with(runtime, none);
     }
-    let off = no_runtime();
     let every = every_place();
-    refused(off, every, answer)
+    refused(OpaqueRelayRuntime::OFF, every, answer)
 }
 
 // ---- status
-
-fn no_status() -> HnsrRuntimeStatus
-    ensures { result ≡ no_status }
-{
-    HnsrRuntimeStatus {
-        generation: 0,
-        enabled: false,
-        pending_circuits: 0,
-        active_circuits: 0,
-        queued_bytes: 0,
-        queued_actions: 0,
-        trusted_time_high_water: 0,
-        admitted_opens: 0,
-        opened_circuits: 0,
-        bytes_sent: 0,
-        bytes_received: 0,
-        revoked_work: 0,
-    }
-}
 
 fn status_of(
     runtime: OpaqueRelayRuntime,
@@ -153,9 +127,8 @@ fn status_of(
 fn status_answer(few: bool, size: usize) -> HnsrAnswer
     ensures { result ≡ (check few Short then peer_answer size) }
 {
-    let lent = check(few, HnsrRuntimeError::Short);
-    let named = peer_answer(size);
-    first_refusal(lent, named)
+    check(few, HnsrRuntimeError::Short)?;
+    peer_answer(size)
 }
 
 // What is asked of the actions: the three counts that the action capacity goes by. The place of a number is not asked.
@@ -171,35 +144,21 @@ fn capacity_question(circuit_id: u64, peer: HnsrPeerId) -> ActionQuestion
     }
 }
 
-// Taken: the twelve fields, and how many further actions fit (STATUS.2, STATUS.6).
+// The twelve fields, and how many further actions fit (STATUS.2, STATUS.6).
 fn status_told(
     runtime: OpaqueRelayRuntime,
     waiting: usize,
     totals: CircuitTotals,
     tally: InflightTally,
 ) -> StatusTold
-    ensures { (result.answer ≡ Taken)
-        × (result.status ≡ status_from runtime waiting totals tally.total)
+    ensures { (result.status ≡ status_from runtime waiting totals tally.total)
         × (result.action_capacity ≡ capacity_left runtime.config tally) }
 {
     let status = status_of(runtime, waiting, totals, tally.total);
     let action_capacity = capacity_left(runtime.config, tally);
     StatusTold {
-        answer: HnsrAnswer::Taken,
         status,
         action_capacity,
-    }
-}
-
-// STATUS.7: a refusal tells zeros.
-fn status_refused(answer: HnsrAnswer) -> StatusTold
-    ensures { (result.answer ≡ answer) × (result.status ≡ no_status) × (result.action_capacity ≡ 0) }
-{
-    let status = no_status();
-    StatusTold {
-        answer,
-        status,
-        action_capacity: 0,
     }
 }
 
@@ -211,7 +170,7 @@ pub fn status(
     places: Places,
     peer: &[u8],
     circuit_id: u64,
-) -> StatusTold
+) -> Result<StatusTold, HnsrRuntimeError>
     ensures { (l : List ReservationUsage)
         → result ≡ status_told
         (step (world_seen runtime places pending.now circuits.now l inflight.now)
@@ -223,32 +182,16 @@ pub fn status(
         circuits.len(),
         inflight.len(),
     );
-    let answer = status_answer(few, peer.len());
-    if is_taken(answer) {
-        let name = peer_of(peer);
-        let question = capacity_question(circuit_id, name);
-        let waiting = count_pending(pending, places);
-        let totals = circuit_totals(circuits, places);
-        let scan = scan_actions(inflight, places, question);
-        return status_told(runtime, waiting, totals, scan.tally);
-    }
-    status_refused(answer)
+    status_answer(few, peer.len())?;
+    let name = peer_of(peer);
+    let question = capacity_question(circuit_id, name);
+    let waiting = count_pending(pending, places);
+    let totals = circuit_totals(circuits, places);
+    let scan = scan_actions(inflight, places, question);
+    Ok(status_told(runtime, waiting, totals, scan.tally))
 }
 
 // ---- next due
-
-fn due_told(few: bool, due: NextDue) -> DueTold
-    ensures { (result.answer ≡ check few Short) × (result.due ≡ cond few Never due) }
-{
-    let answer = check(few, HnsrRuntimeError::Short);
-    if few {
-        return DueTold {
-            answer,
-            due: NextDue::Never,
-        };
-    }
-    DueTold { answer, due }
-}
 
 // DUE.5: what ends first.
 pub fn next_due(
@@ -258,19 +201,23 @@ pub fn next_due(
     inflight: &[InflightAction],
     runtime: OpaqueRelayRuntime,
     places: Places,
-) -> DueTold
+) -> Result<Option<u64>, HnsrRuntimeError>
     ensures { result ≡ due_told
         (step
         (world_seen runtime places pending.now circuits.now ledger.now
         inflight.now)
         call_next_due) }
 {
-    let config = runtime.config;
-    let first = pending_due(pending, places, NextDue::Never);
+    let few = too_few(
+        runtime.config,
+        pending.len(),
+        circuits.len(),
+        inflight.len(),
+    );
+    check(few, HnsrRuntimeError::Short)?;
+    let first = pending_due(pending, places, None);
     let second = circuit_due(circuits, places, first);
-    let third = usage_due(ledger, places, second);
-    let few = too_few(config, pending.len(), circuits.len(), inflight.len());
-    due_told(few, third)
+    Ok(usage_due(ledger, places, second))
 }
 
 // ---- observe_time: it is lent no table, and asks no 22
@@ -282,8 +229,8 @@ pub fn observe_time(runtime: OpaqueRelayRuntime, places: Places, time: u64) -> R
         ≡ outcome out (step (world_seen runtime places p c l i) (call_observe_time time)) }
 {
     let answer = clock_answer(runtime.trusted_time_high_water, time);
-    let moved = with_clock(runtime, time);
-    if is_taken(answer) {
+    let moved = runtime.with_clock(time);
+    if answer.is_ok() {
         return taken_with(moved, places);
     }
     refused(runtime, places, answer)

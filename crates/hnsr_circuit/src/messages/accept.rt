@@ -4,23 +4,22 @@ ghost use Rattle.hnsr_circuit.specs.Answers.{body_answer, ◌then◌};
 ghost use Rattle.hnsr_circuit.specs.Accept.{request_answer, accept_answer, circuit_for};
 ghost use Rattle.hnsr_circuit.specs.Code.Opening.{accept_rows, accept_work, replacing, accept_plan};
 
-use crate::answer::{HnsrAnswer, HnsrRuntimeError, body_answer, check, first_refusal, is_taken};
+use crate::answer::{HnsrAnswer, HnsrRuntimeError, body_answer, check};
 use crate::config::OpaqueRelayConfig;
 use crate::messages::opcode::OPENED;
 use crate::output::queue::Outgoing;
 use crate::peer::{HnsrPeerId, same_peer};
 use crate::records::inflight::capacity_answer;
 use crate::records::pending::overdue;
-use crate::records::runtime::accepted;
 use crate::records::{InflightKind, RelayCircuit, RelayPending};
 use crate::runtime::OpaqueRelayRuntime;
 use crate::tables::lookup::PendingFound;
 use crate::tables::scan::{ActionQuestion, InflightTally, Work, WorkQuestion, reservation_work};
-use hns_encoding::logic::{either, no};
-use hns_encoding::numbers::min_u64;
-use hnsr_body::accept_body::{AcceptBody, AcceptRead, OpenedBody};
+use hnsr_body::accept_body::{AcceptBody, OpenedBody};
+use hnsr_body::layout::Read;
 
 // 10 (ACCEPT.5); the pending record is among the reservation's work (ACCEPT.12)
+#[tactic(auto, unfolding(crate::specs::Accept::accept_answer))]
 pub(crate) fn accept_answer(
     config: OpaqueRelayConfig,
     pending: RelayPending,
@@ -30,16 +29,16 @@ pub(crate) fn accept_answer(
 ) -> HnsrAnswer
     ensures { result ≡ accept_answer config pending body circuits under }
 {
-    let active = pending.ticket.max_active_circuits as usize;
-    let full = either(
-        pending.initial_window < body.accepted_window,
-        config.maximum_circuits <= circuits,
-    );
-    let refused = either(full, active < under);
-    check(refused, HnsrRuntimeError::Capacity)
+    check(
+        pending.initial_window < body.accepted_window
+            || config.maximum_circuits <= circuits
+            || (pending.ticket.max_active_circuits as usize) < under,
+        HnsrRuntimeError::Capacity,
+    )
 }
 
 // 13, 15, 11 (ACCEPT.1 to ACCEPT.3): nothing such is pending, or not for this peer, or no longer
+#[tactic(auto, unfolding(crate::specs::Accept::request_answer))]
 pub(crate) fn request_answer(
     found: bool,
     pending: RelayPending,
@@ -48,13 +47,12 @@ pub(crate) fn request_answer(
 ) -> HnsrAnswer
     ensures { result ≡ request_answer found pending peer now }
 {
-    let unknown = check(no(found), HnsrRuntimeError::UnknownRequest);
-    let same = same_peer(pending.endpoint, peer);
-    let wrong = check(no(same), HnsrRuntimeError::WrongPeer);
-    let late = overdue(now, pending);
-    let invalid = check(late, HnsrRuntimeError::InvalidAdmission);
-    let rest = first_refusal(wrong, invalid);
-    first_refusal(unknown, rest)
+    check(!found, HnsrRuntimeError::UnknownRequest)?;
+    check(
+        !same_peer(pending.endpoint, peer),
+        HnsrRuntimeError::WrongPeer,
+    )?;
+    check(overdue(now, pending), HnsrRuntimeError::InvalidAdmission)
 }
 
 // The reservation's count is that of its pending records and that of its circuits.
@@ -77,15 +75,12 @@ pub(crate) fn accept_entry(
     found: PendingFound,
     peer: HnsrPeerId,
     now: u64,
-    read: AcceptRead,
+    read: Read<AcceptBody>,
 ) -> HnsrAnswer
     ensures { result ≡ (request_answer found.found found.pending peer now then body_answer read.result) }
 {
-    let pending = found.pending;
-    let result = read.result;
-    let request = request_answer(found.found, pending, peer, now);
-    let shaped = body_answer(result);
-    first_refusal(request, shaped)
+    request_answer(found.found, found.pending, peer, now)?;
+    body_answer(read.result)
 }
 
 // All rows of ACCEPT, in order.
@@ -94,7 +89,7 @@ pub(crate) fn accept_rows(
     found: PendingFound,
     peer: HnsrPeerId,
     now: u64,
-    read: AcceptRead,
+    read: Read<AcceptBody>,
     waiting: Work,
     running: Work,
     tally: InflightTally,
@@ -103,21 +98,17 @@ pub(crate) fn accept_rows(
 {
     let pending = found.pending;
     let body = read.body;
-    let result = read.result;
-    let request = request_answer(found.found, pending, peer, now);
-    let shaped = body_answer(result);
-    let limit = accept_limit(
+    request_answer(found.found, pending, peer, now)?;
+    body_answer(read.result)?;
+    accept_limit(
         config,
         pending,
         body,
         running.used,
         waiting.under,
         running.under,
-    );
-    let capacity = capacity_answer(config, tally);
-    let last = first_refusal(limit, capacity);
-    let rest = first_refusal(shaped, last);
-    first_refusal(request, rest)
+    )?;
+    capacity_answer(config, tally)
 }
 
 // What ACCEPT asks of all records: the work of the ticket's reservation.
@@ -156,7 +147,7 @@ pub(crate) fn replacing(found: PendingFound, id: u64) -> ActionQuestion
 pub(crate) fn circuit_for(
     config: OpaqueRelayConfig,
     found: PendingFound,
-    read: AcceptRead,
+    read: Read<AcceptBody>,
 ) -> RelayCircuit
     ensures { result ≡ circuit_for config found.pending read.body }
 {
@@ -166,10 +157,6 @@ pub(crate) fn circuit_for(
     let requester = pending.requester;
     let endpoint = pending.endpoint;
     let reservation_id = ticket.reservation_id;
-    let most = min_u64(
-        ticket.max_bytes_per_circuit,
-        config.maximum_bytes_per_circuit,
-    );
     RelayCircuit {
         used: true,
         circuit_id: pending.circuit_id,
@@ -177,7 +164,9 @@ pub(crate) fn circuit_for(
         endpoint,
         reservation_id,
         expires_at: ticket.expires_at,
-        maximum_bytes: most,
+        maximum_bytes: ticket
+            .max_bytes_per_circuit
+            .min(config.maximum_bytes_per_circuit),
         maximum_total_bytes: ticket.max_total_bytes,
         requester_credit: body.accepted_window,
         endpoint_credit: body.accepted_window,
@@ -187,10 +176,9 @@ pub(crate) fn circuit_for(
     }
 }
 
-// What ACCEPT does: whether, where the pending record stands, the circuit's id, the runtime after it, and OPENED.
+// What a taken ACCEPT does: where the pending record stands, the circuit's id, the runtime after it, and OPENED.
 #[derive(Clone, Copy)]
 pub struct AcceptPlan {
-    pub go: bool,
     pub place: usize,
     pub id: u64,
     pub runtime: OpaqueRelayRuntime,
@@ -199,18 +187,16 @@ pub struct AcceptPlan {
 }
 
 pub(crate) fn accept_plan(
-    answer: HnsrAnswer,
     runtime: OpaqueRelayRuntime,
     found: PendingFound,
-    read: AcceptRead,
+    read: Read<AcceptBody>,
 ) -> AcceptPlan
-    ensures { result ≡ accept_plan answer runtime found read }
+    ensures { result ≡ accept_plan runtime found read }
 {
     let pending = found.pending;
     let body = read.body;
     let id = pending.circuit_id;
-    let go = is_taken(answer);
-    let counted = accepted(go, runtime);
+    let counted = runtime.accepted();
     let destination = pending.requester;
     let nonce = body.endpoint_nonce;
     let opened = OpenedBody {
@@ -228,7 +214,6 @@ pub(crate) fn accept_plan(
         bytes: 0,
     };
     AcceptPlan {
-        go,
         place: found.place,
         id,
         runtime: counted,

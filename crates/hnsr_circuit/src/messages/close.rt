@@ -1,54 +1,43 @@
 // CLOSE and ERROR: their rows, and the message that they become, over tests and records by value.
-ghost use Rattle.std.specs.Prelude.{◌≡◌, cond};
-ghost use Rattle.hnsr_circuit.specs.declared.answer.HnsrAnswer.TheVariants.{Taken};
+ghost use Rattle.std.specs.Prelude.{◌≡◌};
 ghost use Rattle.hnsr_circuit.specs.Close.{close_answer};
 ghost use Rattle.hnsr_circuit.specs.Code.Message.{translated_on};
 ghost use Rattle.hnsr_circuit.specs.Code.Plans.{close_rows, close_id, close_message, close_plan};
 
-use crate::answer::{HnsrAnswer, HnsrRuntimeError, body_answer, check, first_refusal, is_taken};
+use crate::answer::{HnsrAnswer, HnsrRuntimeError, body_answer, check};
 use crate::messages::message::{circuit_answer, closing, passed_on};
 use crate::output::queue::Outgoing;
 use crate::peer::{HnsrPeerId, same_peer};
-use crate::records::runtime::revoked;
 use crate::records::{InflightKind, RelayPending};
 use crate::runtime::{OpaqueRelayRuntime, RelayPacket};
 use crate::tables::lookup::{CircuitFound, PendingFound};
-use hns_encoding::logic::{both, no};
-use hnsr_body::detail_body::DetailRead;
+use hnsr_body::detail_body::ReasonDetail;
+use hnsr_body::layout::Read;
 
-fn unless_pending(pending: bool, circuit: HnsrAnswer) -> HnsrAnswer
-    ensures { result ≡ cond pending Taken circuit }
+// 11 (CLOSE.2); what is pending comes before a circuit (CLOSE.10), whose 14 and 15 come else
+#[tactic(auto, unfolding(crate::specs::Close::close_answer))]
+pub(crate) fn close_answer(matches: usize, circuit: HnsrAnswer) -> HnsrAnswer
+    ensures { result ≡ close_answer matches circuit }
 {
-    if pending {
-        return HnsrAnswer::Taken;
+    check(2 <= matches, HnsrRuntimeError::InvalidAdmission)?;
+    if 1 <= matches {
+        return Ok(());
     }
     circuit
 }
 
-// 11 (CLOSE.2); what is pending comes before a circuit (CLOSE.10), whose 14 and 15 come else
-pub(crate) fn close_answer(matches: usize, circuit: HnsrAnswer) -> HnsrAnswer
-    ensures { result ≡ close_answer matches circuit }
-{
-    let twice = check(2 <= matches, HnsrRuntimeError::InvalidAdmission);
-    let own = unless_pending(1 <= matches, circuit);
-    first_refusal(twice, own)
-}
-
 // The rows in order.
 pub(crate) fn close_rows(
-    read: DetailRead,
+    read: Read<ReasonDetail>,
     matches: usize,
     named: CircuitFound,
     peer: HnsrPeerId,
 ) -> HnsrAnswer
     ensures { result ≡ close_rows read matches named peer }
 {
-    let circuit = named.circuit;
-    let checked = read.result;
-    let body = body_answer(checked);
-    let own = circuit_answer(named.found, circuit, peer);
-    let rest = close_answer(matches, own);
-    first_refusal(body, rest)
+    body_answer(read.result)?;
+    let own = circuit_answer(named.found, named.circuit, peer);
+    close_answer(matches, own)
 }
 
 // CLOSE.11: each side hears the number that it knows.
@@ -106,14 +95,11 @@ fn close_message(
     forwarded
 }
 
-// What CLOSE or ERROR does: whether it goes on; which record it ends, by table and place, and under which id its
-// actions are dropped; the runtime with the end counted; and the message.
+// What a taken CLOSE or ERROR does: whether it ends a pending record, else a circuit, and the place of each; under
+// which id actions are dropped; the runtime with the end counted; and the message.
 #[derive(Clone, Copy)]
 pub struct ClosePlan {
-    pub answer: HnsrAnswer,
-    pub go: bool,
     pub ends_pending: bool,
-    pub ends_circuit: bool,
     pub pending_place: usize,
     pub circuit_place: usize,
     pub id: u64,
@@ -124,31 +110,24 @@ pub struct ClosePlan {
 pub(crate) fn close_plan(
     runtime: OpaqueRelayRuntime,
     packet: RelayPacket,
-    read: DetailRead,
+    read: Read<ReasonDetail>,
     matches: usize,
     waiting: PendingFound,
     named: CircuitFound,
     peer: HnsrPeerId,
-) -> ClosePlan
+) -> Result<ClosePlan, HnsrRuntimeError>
     ensures { result ≡ close_plan runtime packet read matches waiting named peer }
 {
-    let answer = close_rows(read, matches, named, peer);
-    let go = is_taken(answer);
-    let counted = revoked(go, runtime);
-    let alone = no(waiting.found);
-    let ends_pending = both(go, waiting.found);
-    let ends_circuit = both(go, alone);
+    close_rows(read, matches, named, peer)?;
+    let counted = runtime.revoked();
     let id = close_id(packet, waiting);
     let message = close_message(packet, waiting, named, peer);
-    ClosePlan {
-        answer,
-        go,
-        ends_pending,
-        ends_circuit,
+    Ok(ClosePlan {
+        ends_pending: waiting.found,
         pending_place: waiting.place,
         circuit_place: named.place,
         id,
         runtime: counted,
         message,
-    }
+    })
 }

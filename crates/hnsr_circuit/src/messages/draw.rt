@@ -5,8 +5,7 @@ ghost use Rattle.hnsr_circuit.specs.Draw.{undrawn, draw_turn, draw_answer};
 ghost use Rattle.hnsr_circuit.specs.Code.Opening.{first_draw};
 
 use crate::answer::{HnsrAnswer, HnsrRuntimeError, check};
-use hns_encoding::decoder::{Decoder, ReadU64};
-use hns_encoding::logic::{either, no};
+use hns_encoding::Decoder;
 
 // How far the drawing of a circuit id has come: zeros in a row, candidates that were taken, whether it ended, and with
 // which id.
@@ -21,10 +20,11 @@ pub struct Drawing {
 }
 
 // 8 (OPEN.6): no id was drawn
+#[tactic(auto, unfolding(crate::specs::Draw::draw_answer))]
 pub(crate) fn draw_answer(drawing: Drawing) -> HnsrAnswer
     ensures { result ≡ draw_answer drawing }
 {
-    check(no(drawing.found), HnsrRuntimeError::Randomness)
+    check(!drawing.found, HnsrRuntimeError::Randomness)
 }
 
 pub(crate) fn undrawn() -> Drawing
@@ -79,10 +79,9 @@ pub(crate) fn draw_at(random: &[u8], at: usize) -> u64
     requires { at + 8 ≤ length random.now }
     ensures { result ≡ be (take 8 (drop at random.now)) }
 {
-    let read = Decoder { position: at }.read_u64_be(random);
-    match read {
-        ReadU64::Ok(value, _) => value,
-        ReadU64::Err(_) => 0,
+    match (Decoder { position: at }).read_u64_be(random) {
+        Ok((value, _)) => value,
+        Err(_) => 0,
     }
 }
 
@@ -100,5 +99,5 @@ pub(crate) fn first_draw(random: &[u8]) -> u64
 pub(crate) fn either_found(place: usize, places: usize, other: usize, others: usize) -> bool
     ensures { result ≡ (ltb place places || ltb other others) }
 {
-    either(place < places, other < others)
+    place < places || other < others
 }

@@ -1,5 +1,5 @@
 // ACCEPT: an endpoint takes a pending circuit.
-ghost use Rattle.std.specs.Prelude.{◌≡◌, cond, true, List, ℕ, set};
+ghost use Rattle.std.specs.Prelude.{◌≡◌, true, List, ℕ, set};
 ghost use Rattle.hnsr_body.specs.Accept.{decode_accept};
 ghost use Rattle.hnsr_circuit.specs.Code.Lookup.{pending_found};
 ghost use Rattle.hnsr_circuit.specs.Code.Held.{held, held_pending, held_circuits};
@@ -15,7 +15,7 @@ ghost use Rattle.hnsr_circuit.specs.Accept.{handle_accept};
 ghost use Rattle.hnsr_circuit.specs.Code.Opening.{accept_rows, accept_work};
 ghost use Rattle.hnsr_circuit.specs.declared.records.ReservationUsage.{ReservationUsage};
 
-use crate::answer::{HnsrAnswer, is_taken};
+use crate::answer::HnsrAnswer;
 use crate::messages::accept::{
     AcceptPlan, accept_entry, accept_plan, accept_rows, accept_work, circuit_for, replacing,
 };
@@ -28,7 +28,8 @@ use crate::tables::lookup::{PendingFound, found_unmarked, pending_by_id};
 use crate::tables::pending::{pending_work, set_pending};
 use crate::tables::places::{Places, with_circuits};
 use crate::tables::stores::put_circuit;
-use hnsr_body::accept_body::{AcceptBody, AcceptRead};
+use hnsr_body::accept_body::AcceptBody;
+use hnsr_body::layout::Read;
 
 // The rows, over the tables as lent.
 pub(crate) fn accept_answered(
@@ -37,7 +38,7 @@ pub(crate) fn accept_answered(
     inflight: &[InflightAction],
     request: Request,
     found: PendingFound,
-    read: AcceptRead,
+    read: Read<AcceptBody>,
 ) -> HnsrAnswer
     ensures { result ≡ accept_rows request.runtime.config found request.peer request.packet.now read
         (pending_work (accept_work found) (held_pending request.places pending.now))
@@ -74,14 +75,12 @@ pub(crate) fn accept_written(
 ) -> usize
     requires { clear_pending unmarked ≡ unmarked }
     ensures { (held_pending places pending.new
-        ≡ cond plan.go (set (held_pending places pending.old) plan.place unmarked)
-        (held_pending places pending.old))
+        ≡ set (held_pending places pending.old) plan.place unmarked)
         × (held clear_circuit result circuits.new
-        ≡ cond plan.go (put is_circuit (circuit_at plan.id) circuit (held_circuits places circuits.old))
-        (held_circuits places circuits.old)) }
+        ≡ put is_circuit (circuit_at plan.id) circuit (held_circuits places circuits.old)) }
 {
-    set_pending(pending, plan.go, plan.place, unmarked);
-    put_circuit(circuits, places, plan.go, plan.id, circuit)
+    set_pending(pending, true, plan.place, unmarked);
+    put_circuit(circuits, places, true, plan.id, circuit)
 }
 
 // An ACCEPT of a pending record, whose body is read: one pass over the actions for its rows, and one that drops the
@@ -93,7 +92,7 @@ pub(crate) fn accept_found(
     out: &mut [u32],
     request: Request,
     found: PendingFound,
-    read: AcceptRead,
+    read: Read<AcceptBody>,
 ) -> Relayed
     ensures { (l : List ReservationUsage) (source body e rs : List ℕ) → request.peer ≡ peer_of source
         → found ≡ pending_found (pending_at request.packet.context_id)
@@ -106,8 +105,8 @@ pub(crate) fn accept_found(
 {
     let places = request.places;
     let answer = accept_answered(pending, circuits, inflight, request, found, read);
-    if is_taken(answer) {
-        let plan = accept_plan(answer, request.runtime, found, read);
+    if answer.is_ok() {
+        let plan = accept_plan(request.runtime, found, read);
         let row = found_unmarked(found);
         let circuit = circuit_for(request.runtime.config, found, read);
         let counted = plan.runtime;
@@ -118,7 +117,7 @@ pub(crate) fn accept_found(
         let after = with_circuits(places, number);
         let scan = drop_and_scan(inflight, places, plan.id, asked);
         let bytes = opened.to_bytes();
-        return send(inflight, out, answer, counted, after, message, scan, &bytes);
+        return send(inflight, out, Ok(()), counted, after, message, scan, &bytes);
     }
     refused(request.runtime, places, answer)
 }
@@ -140,7 +139,7 @@ pub(crate) fn handle_accept(
     let found = pending_by_id(pending, request.places, request.packet.context_id);
     let read = AcceptBody::decode(body);
     let entered = accept_entry(found, request.peer, request.packet.now, read);
-    if is_taken(entered) {
+    if entered.is_ok() {
         return accept_found(pending, circuits, inflight, out, request, found, read);
     }
     refused(request.runtime, request.places, entered)

@@ -8,7 +8,7 @@ ghost use Rattle.hnsr_circuit.specs.Close.{handle_close};
 ghost use Rattle.hnsr_circuit.specs.Peer.{peer_of};
 ghost use Rattle.hnsr_circuit.specs.Code.Progress.{packet_of, ending};
 
-use crate::answer::{body_answer, is_taken};
+use crate::answer::{HnsrRuntimeError, body_answer};
 use crate::messages::close::{ClosePlan, close_plan};
 use crate::output::queue::{asking, send};
 use crate::records::{InflightAction, RelayCircuit, RelayPending};
@@ -17,15 +17,16 @@ use crate::tables::inflight::drop_and_scan;
 use crate::tables::lookup::{circuit_by_id, look_up_named};
 use crate::tables::pending::count_named;
 use crate::tables::stores::{unmark_circuit, unmark_pending};
-use hnsr_body::detail_body::{DetailRead, ReasonDetail};
+use hnsr_body::detail_body::ReasonDetail;
+use hnsr_body::layout::Read;
 
 // What a CLOSE or ERROR does.
 pub(crate) fn plan_close(
     pending: &[RelayPending],
     circuits: &[RelayCircuit],
     request: Request,
-    read: DetailRead,
-) -> ClosePlan
+    read: Read<ReasonDetail>,
+) -> Result<ClosePlan, HnsrRuntimeError>
     ensures { result ≡ close_planned_on request.runtime (held_pending request.places pending.now)
         (held_circuits request.places circuits.now) request.packet read request.peer }
 {
@@ -60,7 +61,7 @@ pub(crate) fn close_read(
     inflight: &mut [InflightAction],
     out: &mut [u32],
     request: Request,
-    read: DetailRead,
+    read: Read<ReasonDetail>,
     body: &[u8],
 ) -> Relayed
     requires { (read ≡ decode_detail body.now) × (length body.now < 65536) }
@@ -71,18 +72,25 @@ pub(crate) fn close_read(
         (packet_of request.packet source body.now e rs)) }
 {
     let places = request.places;
-    let plan = plan_close(pending, circuits, request, read);
-    let answer = plan.answer;
-    let counted = plan.runtime;
-    let message = plan.message;
-    if plan.go {
-        let asked = asking(counted, message);
-        unmark_pending(pending, places, plan.ends_pending, plan.pending_place);
-        unmark_circuit(circuits, places, plan.ends_circuit, plan.circuit_place);
-        let scan = drop_and_scan(inflight, places, plan.id, asked);
-        return send(inflight, out, answer, counted, places, message, scan, body);
+    match plan_close(pending, circuits, request, read) {
+        Ok(plan) => {
+            let asked = asking(plan.runtime, plan.message);
+            unmark_pending(pending, places, plan.ends_pending, plan.pending_place);
+            unmark_circuit(circuits, places, !plan.ends_pending, plan.circuit_place);
+            let scan = drop_and_scan(inflight, places, plan.id, asked);
+            send(
+                inflight,
+                out,
+                Ok(()),
+                plan.runtime,
+                places,
+                plan.message,
+                scan,
+                body,
+            )
+        }
+        Err(error) => refused(request.runtime, places, Err(error)),
     }
-    refused(request.runtime, places, answer)
 }
 
 pub(crate) fn handle_close(
@@ -103,7 +111,7 @@ pub(crate) fn handle_close(
     let read = ReasonDetail::decode(body);
     let checked = read.result;
     let entered = body_answer(checked);
-    if is_taken(entered) {
+    if entered.is_ok() {
         return close_read(pending, circuits, inflight, out, request, read, body);
     }
     refused(request.runtime, request.places, entered)

@@ -9,7 +9,7 @@ ghost use Rattle.hnsr_circuit.specs.Data.{handle_data};
 ghost use Rattle.hnsr_circuit.specs.Peer.{peer_of};
 ghost use Rattle.hnsr_circuit.specs.Code.Progress.{packet_of, ending};
 
-use crate::answer::is_taken;
+use crate::answer::HnsrRuntimeError;
 use crate::messages::data::{DataPlan, data_entry, data_plan};
 use crate::messages::message::{data_on, reservation_of};
 use crate::output::queue::{asking, send};
@@ -27,7 +27,7 @@ pub(crate) fn plan_data(
     request: Request,
     named: CircuitFound,
     n: usize,
-) -> DataPlan
+) -> Result<DataPlan, HnsrRuntimeError>
     ensures { result ≡ data_planned_on request.runtime named (held_ledger request.places ledger.now)
         (held_actions request.places inflight.now) request.packet request.peer n }
 {
@@ -67,25 +67,23 @@ pub(crate) fn pass_data(
         (packet_of request.packet source body.now e rs)) }
 {
     let n = body.len();
-    let bytes = n as u64;
-    let plan = plan_data(ledger, inflight, request, named, n);
-    let answer = plan.answer;
-    let side = plan.side;
-    let counted = plan.runtime;
-    let message = plan.message;
-    let scan = plan.scan;
-    charge_circuit(circuits, plan.go, plan.place, side, n);
-    spend(ledger, request.places, plan.go, plan.usage_place, bytes);
-    send(
-        inflight,
-        out,
-        answer,
-        counted,
-        request.places,
-        message,
-        scan,
-        body,
-    )
+    match plan_data(ledger, inflight, request, named, n) {
+        Ok(plan) => {
+            charge_circuit(circuits, true, plan.place, plan.side, n);
+            spend(ledger, request.places, true, plan.usage_place, n as u64);
+            send(
+                inflight,
+                out,
+                Ok(()),
+                plan.runtime,
+                request.places,
+                plan.message,
+                plan.scan,
+                body,
+            )
+        }
+        Err(error) => refused(request.runtime, request.places, Err(error)),
+    }
 }
 
 // Its circuit decides first: what that refuses costs no pass over the actions.
@@ -106,7 +104,7 @@ pub(crate) fn handle_data(
 {
     let named = circuit_by_id(circuits, request.places, request.packet.context_id);
     let entered = data_entry(named, request.peer, body.len());
-    if is_taken(entered) {
+    if entered.is_ok() {
         return pass_data(circuits, ledger, inflight, out, request, named, body);
     }
     refused(request.runtime, request.places, entered)

@@ -17,7 +17,6 @@ ghost use Rattle.hnsr_circuit.specs.declared.records.RelayCircuit.{RelayCircuit}
 ghost use Rattle.hnsr_circuit.specs.declared.runtime.RelayPacket.{RelayPacket};
 ghost use Rattle.hnsr_circuit.specs.declared.records.ReservationUsage.{ReservationUsage};
 
-use crate::answer::is_taken;
 use crate::messages::draw::{Drawing, draw_at, draw_turn, either_found, first_draw, undrawn};
 use crate::messages::open::{
     OpenGathered, OpenPlan, booked_place, booked_usage, incoming_for, incoming_out, known_taken,
@@ -26,7 +25,6 @@ use crate::messages::open::{
 use crate::output::queue::{asking, send};
 use crate::peer::peer_of;
 use crate::records::ledger::usage_answer;
-use crate::records::runtime::opened;
 use crate::records::{InflightAction, RelayCircuit, RelayPending, ReservationUsage};
 use crate::runtime::{OpaqueRelayRuntime, Relayed, Request, refused};
 use crate::tables::circuits::{circuit_work, find_circuit_id};
@@ -137,11 +135,11 @@ pub(crate) fn open_booked(
 {
     let ticket = plan.ticket;
     let answer = usage_answer(ticket, usage);
-    if is_taken(answer) {
+    if answer.is_ok() {
         let row = pending_for(plan);
         let number = put_pending(pending, places, row);
         let after = with_pending(places, number);
-        let counted = opened(true, runtime);
+        let counted = runtime.opened();
         let message = incoming_out(plan);
         let incoming = incoming_for(plan);
         let bytes = incoming.to_bytes();
@@ -183,7 +181,7 @@ pub(crate) fn open_placed(
     let scan = scan_actions(inflight, places, question);
     let booked = scan_ledger(ledger, places, id);
     let answer = placed_rows(config, gathered, plan, drawing, scan, booked);
-    if is_taken(answer) {
+    if answer.is_ok() {
         let row = booked_usage(booked, ticket);
         let place = booked_place(booked);
         set_usage(ledger, true, place, row);
@@ -223,7 +221,7 @@ pub(crate) fn open_lapsed(
     let drawing = draw(pending, circuits, places, random, first, known);
     let plan = open_plan(config, gathered, drawing);
     let entered = placed_entry(config, gathered, plan, drawing);
-    if is_taken(entered) {
+    if entered.is_ok() {
         return open_placed(
             pending, ledger, inflight, out, runtime, places, gathered, drawing, plan,
         );
@@ -255,7 +253,7 @@ pub(crate) fn handle_open(
     let places = request.places;
     let gathered = gather(pending, circuits, request, body, endpoint, random);
     let answer = open_rows(runtime.config, gathered);
-    if is_taken(answer) {
+    if answer.is_ok() {
         drop_lapsed(ledger, places, request.packet.now);
         return open_lapsed(
             pending, circuits, ledger, inflight, out, runtime, places, gathered, random,

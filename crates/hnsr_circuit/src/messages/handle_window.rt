@@ -11,7 +11,7 @@ ghost use Rattle.hnsr_circuit.specs.Window.{handle_window};
 ghost use Rattle.hnsr_circuit.specs.Peer.{peer_of};
 ghost use Rattle.hnsr_circuit.specs.Code.Progress.{packet_of, ending};
 
-use crate::answer::is_taken;
+use crate::answer::HnsrRuntimeError;
 use crate::messages::message::passed_on;
 use crate::messages::window::{WindowPlan, window_entry, window_plan};
 use crate::output::queue::{asking, send};
@@ -20,15 +20,16 @@ use crate::runtime::{Relayed, Request, refused};
 use crate::tables::inflight::scan_actions;
 use crate::tables::lookup::{CircuitFound, circuit_by_id};
 use crate::tables::stores::raise_circuit;
-use hnsr_body::data_body::{WindowBody, WindowRead};
+use hnsr_body::data_body::WindowBody;
+use hnsr_body::layout::Read;
 
 // What a WINDOW does, on the circuit that it names: one pass over the actions.
 pub(crate) fn plan_window(
     inflight: &[InflightAction],
     request: Request,
-    read: WindowRead,
+    read: Read<WindowBody>,
     named: CircuitFound,
-) -> WindowPlan
+) -> Result<WindowPlan, HnsrRuntimeError>
     ensures { result ≡ window_planned_on request.runtime read named (held_actions request.places inflight.now)
         request.packet request.peer }
 {
@@ -52,7 +53,7 @@ pub(crate) fn pass_window(
     inflight: &mut [InflightAction],
     out: &mut [u32],
     request: Request,
-    read: WindowRead,
+    read: Read<WindowBody>,
     named: CircuitFound,
     body: &[u8],
 ) -> Relayed
@@ -66,29 +67,29 @@ pub(crate) fn pass_window(
         (handle_window (world_given request p circuits.old l inflight.old)
         (packet_of request.packet source body.now e rs)) }
 {
-    let plan = plan_window(inflight, request, read, named);
-    let answer = plan.answer;
-    let side = plan.side;
-    let message = plan.message;
-    let scan = plan.scan;
-    raise_circuit(
-        circuits,
-        request.places,
-        plan.go,
-        plan.place,
-        side,
-        plan.delta,
-    );
-    send(
-        inflight,
-        out,
-        answer,
-        request.runtime,
-        request.places,
-        message,
-        scan,
-        body,
-    )
+    match plan_window(inflight, request, read, named) {
+        Ok(plan) => {
+            raise_circuit(
+                circuits,
+                request.places,
+                true,
+                plan.place,
+                plan.side,
+                plan.delta,
+            );
+            send(
+                inflight,
+                out,
+                Ok(()),
+                request.runtime,
+                request.places,
+                plan.message,
+                plan.scan,
+                body,
+            )
+        }
+        Err(error) => refused(request.runtime, request.places, Err(error)),
+    }
 }
 
 // Its body and its circuit decide first: what they refuse costs no pass over the actions.
@@ -109,7 +110,7 @@ pub(crate) fn handle_window(
     let read = WindowBody::decode(body);
     let named = circuit_by_id(circuits, request.places, request.packet.context_id);
     let entered = window_entry(read, named, request.peer);
-    if is_taken(entered) {
+    if entered.is_ok() {
         return pass_window(circuits, inflight, out, request, read, named, body);
     }
     refused(request.runtime, request.places, entered)

@@ -3,7 +3,7 @@ ghost use Rattle.std.specs.Prelude.{◌≡◌};
 ghost use Rattle.hnsr_circuit.specs.Packet.{circuit_answer};
 ghost use Rattle.hnsr_circuit.specs.Code.Message.{passed_on, data_on, close_on};
 
-use crate::answer::{HnsrAnswer, HnsrRuntimeError, check, first_refusal};
+use crate::answer::{HnsrAnswer, HnsrRuntimeError, check};
 use crate::output::queue::Outgoing;
 use crate::peer::HnsrPeerId;
 use crate::records::circuits::{is_side, other_side, receiver, side_of};
@@ -11,19 +11,15 @@ use crate::records::inflight::to_endpoint;
 use crate::records::{InflightKind, RelayCircuit};
 use crate::runtime::RelayPacket;
 use crate::tables::lookup::CircuitFound;
-use hns_encoding::logic::no;
 use hnsr_body::values::ReservationId;
 
 // 14, 15 (DATA.2, DATA.3 and their like): no such circuit, or the sender is no side of it
+#[tactic(auto, unfolding(crate::specs::Packet::circuit_answer))]
 pub(crate) fn circuit_answer(found: bool, circuit: RelayCircuit, peer: HnsrPeerId) -> HnsrAnswer
     ensures { result ≡ circuit_answer found circuit peer }
 {
-    let side = is_side(peer, circuit);
-    let missing = no(found);
-    let stranger = no(side);
-    let unknown = check(missing, HnsrRuntimeError::UnknownCircuit);
-    let wrong = check(stranger, HnsrRuntimeError::WrongPeer);
-    first_refusal(unknown, wrong)
+    check(!found, HnsrRuntimeError::UnknownCircuit)?;
+    check(!is_side(peer, circuit), HnsrRuntimeError::WrongPeer)
 }
 
 // The packet itself, on to the other side: same opcode and context.

@@ -6,7 +6,7 @@ ghost use Rattle.hnsr_circuit.specs.Open.{deadline_answer, deadline_for, pending
 ghost use Rattle.hnsr_circuit.specs.Code.Opening.{open_work, open_gathering, open_rows, open_plan};
 ghost use Rattle.hnsr_circuit.specs.Code.Opening.{opening_of, incoming_out, placed_rows, placed_entry};
 
-use crate::answer::{HnsrAnswer, HnsrRuntimeError, body_answer, check, first_refusal};
+use crate::answer::{HnsrAnswer, HnsrRuntimeError, body_answer, check};
 use crate::config::OpaqueRelayConfig;
 use crate::entry::peer_answer;
 use crate::messages::draw::{Drawing, draw_answer};
@@ -18,13 +18,13 @@ use crate::records::ledger::{fresh_usage, ledger_answer};
 use crate::records::{InflightKind, RelayPending, RelayTicket, ReservationUsage};
 use crate::runtime::RelayPacket;
 use crate::tables::scan::{ActionScan, LedgerScan, Work, WorkQuestion, reservation_work};
-use hns_encoding::logic::{either, no};
-use hns_encoding::numbers::{min_u64, saturating_add_u64, saturating_add_usize};
 use hnsr_body::error::HnsrProtocolError;
 use hnsr_body::incoming_body::IncomingBody;
-use hnsr_body::open_body::{OpenBody, OpenRead};
+use hnsr_body::layout::Read;
+use hnsr_body::open_body::OpenBody;
 
 // 10 (OPEN.1): no more fit for the relay or for the requester, or it is pending already
+#[tactic(auto, unfolding(crate::specs::Open::open_answer))]
 pub(crate) fn open_answer(
     config: OpaqueRelayConfig,
     pending: usize,
@@ -35,27 +35,28 @@ pub(crate) fn open_answer(
     ensures { result ≡ open_answer config pending circuits work repeated }
 {
     let most = config.maximum_circuits_per_peer as usize;
-    let full = either(
-        config.maximum_pending <= pending,
-        config.maximum_circuits <= circuits,
-    );
-    let busy = either(full, most <= work);
-    let refused = either(busy, repeated);
-    check(refused, HnsrRuntimeError::Capacity)
+    check(
+        config.maximum_pending <= pending
+            || config.maximum_circuits <= circuits
+            || most <= work
+            || repeated,
+        HnsrRuntimeError::Capacity,
+    )
 }
 
 // 1 (OPEN.3): the host does not admit it, or what it granted is over
+#[tactic(auto, unfolding(crate::specs::Open::admission_answer))]
 pub(crate) fn admission_answer(admitted: bool, expiry: u64, now: u64) -> HnsrAnswer
     ensures { result ≡ admission_answer admitted expiry now }
 {
-    let refused = either(no(admitted), expiry <= now);
     check(
-        refused,
+        !admitted || expiry <= now,
         HnsrRuntimeError::Protocol(HnsrProtocolError::Admission),
     )
 }
 
 // 10 (OPEN.5): it asks for its own peer, or endpoint or reservation take no more
+#[tactic(auto, unfolding(crate::specs::Open::endpoint_answer))]
 pub(crate) fn endpoint_answer(
     config: OpaqueRelayConfig,
     ticket: RelayTicket,
@@ -67,12 +68,14 @@ pub(crate) fn endpoint_answer(
 {
     let most = config.maximum_circuits_per_peer as usize;
     let active = ticket.max_active_circuits as usize;
-    let busy = either(same, most <= work);
-    let refused = either(busy, active <= under);
-    check(refused, HnsrRuntimeError::Capacity)
+    check(
+        same || most <= work || active <= under,
+        HnsrRuntimeError::Capacity,
+    )
 }
 
 // 12 (OPEN.8): the deadline does not fit 64 bits
+#[tactic(auto, unfolding(crate::specs::Open::deadline_answer))]
 pub(crate) fn deadline_answer(config: OpaqueRelayConfig, now: u64) -> HnsrAnswer
     ensures { result ≡ deadline_answer config now }
 {
@@ -87,8 +90,8 @@ pub(crate) fn deadline_answer(config: OpaqueRelayConfig, now: u64) -> HnsrAnswer
 pub(crate) fn deadline_for(config: OpaqueRelayConfig, ticket: RelayTicket, now: u64) -> u64
     ensures { result ≡ deadline_for config ticket now }
 {
-    let late = saturating_add_u64(now, config.accept_timeout_seconds);
-    min_u64(late, ticket.expires_at)
+    now.saturating_add(config.accept_timeout_seconds)
+        .min(ticket.expires_at)
 }
 
 // What OPEN asks of all records: the work of both its peers and of its reservation, whether it repeats one, and whether
@@ -97,7 +100,7 @@ pub(crate) fn open_work(
     packet: RelayPacket,
     requester: HnsrPeerId,
     endpoint: HnsrPeerId,
-    read: OpenRead,
+    read: Read<OpenBody>,
     id: u64,
 ) -> WorkQuestion
     ensures { result ≡ open_work packet requester endpoint read id }
@@ -120,7 +123,7 @@ pub struct OpenGathered {
     pub requester: HnsrPeerId,
     pub endpoint: HnsrPeerId,
     pub size: usize,
-    pub read: OpenRead,
+    pub read: Read<OpenBody>,
     pub waiting: Work,
     pub running: Work,
 }
@@ -130,7 +133,7 @@ pub(crate) fn open_gathering(
     requester: HnsrPeerId,
     endpoint: HnsrPeerId,
     size: usize,
-    read: OpenRead,
+    read: Read<OpenBody>,
     waiting: Work,
     running: Work,
 ) -> OpenGathered
@@ -151,9 +154,7 @@ pub(crate) fn open_gathering(
 pub(crate) fn known_taken(gathered: OpenGathered) -> bool
     ensures { result ≡ (gathered.waiting.holds || gathered.running.holds) }
 {
-    let waiting = gathered.waiting;
-    let running = gathered.running;
-    either(waiting.holds, running.holds)
+    gathered.waiting.holds || gathered.running.holds
 }
 
 // The requester's work is its pending records and its circuits.
@@ -161,7 +162,7 @@ pub(crate) fn open_limit(config: OpaqueRelayConfig, waiting: Work, running: Work
     ensures { result ≡ open_answer config waiting.used running.used (waiting.of_peer + running.of_peer)
         waiting.repeated }
 {
-    let work = saturating_add_usize(waiting.of_peer, running.of_peer);
+    let work = waiting.of_peer.saturating_add(running.of_peer);
     open_answer(config, waiting.used, running.used, work, waiting.repeated)
 }
 
@@ -176,7 +177,7 @@ pub(crate) fn endpoint_limit(
     ensures { result ≡ endpoint_answer config ticket same (waiting.of_other + running.of_other)
         (waiting.under + running.under) }
 {
-    let work = saturating_add_usize(waiting.of_other, running.of_other);
+    let work = waiting.of_other.saturating_add(running.of_other);
     let under = reservation_work(waiting.under, running.under);
     endpoint_answer(config, ticket, same, work, under)
 }
@@ -186,16 +187,9 @@ pub(crate) fn open_rows(config: OpaqueRelayConfig, gathered: OpenGathered) -> Hn
     ensures { result ≡ open_rows config gathered }
 {
     let packet = gathered.packet;
-    let read = gathered.read;
-    let waiting = gathered.waiting;
-    let running = gathered.running;
-    let ticket = packet.ticket;
-    let result = read.result;
-    let limit = open_limit(config, waiting, running);
-    let shaped = body_answer(result);
-    let admission = admission_answer(packet.admitted, ticket.expires_at, packet.now);
-    let rest = first_refusal(shaped, admission);
-    first_refusal(limit, rest)
+    open_limit(config, gathered.waiting, gathered.running)?;
+    body_answer(gathered.read.result)?;
+    admission_answer(packet.admitted, packet.ticket.expires_at, packet.now)
 }
 
 // What an OPEN writes and sends, once its grant is good.
@@ -294,15 +288,16 @@ pub(crate) fn placed_entry(
 ) -> HnsrAnswer
     ensures { result ≡ placed_entry config gathered plan drawing }
 {
-    let waiting = gathered.waiting;
-    let running = gathered.running;
-    let ticket = plan.ticket;
+    peer_answer(gathered.size)?;
     let same = same_peer(plan.endpoint, plan.requester);
-    let named = peer_answer(gathered.size);
-    let endpoint = endpoint_limit(config, ticket, same, waiting, running);
-    let drawn = draw_answer(drawing);
-    let rest = first_refusal(endpoint, drawn);
-    first_refusal(named, rest)
+    endpoint_limit(
+        config,
+        plan.ticket,
+        same,
+        gathered.waiting,
+        gathered.running,
+    )?;
+    draw_answer(drawing)
 }
 
 // The rows of OPEN once ledger records past their expiry are dropped, in order.
@@ -316,23 +311,19 @@ pub(crate) fn placed_rows(
 ) -> HnsrAnswer
     ensures { result ≡ placed_rows config gathered plan drawing scan booked }
 {
-    let packet = gathered.packet;
-    let waiting = gathered.waiting;
-    let running = gathered.running;
-    let ticket = plan.ticket;
-    let tally = scan.tally;
+    peer_answer(gathered.size)?;
     let same = same_peer(plan.endpoint, plan.requester);
-    let named = peer_answer(gathered.size);
-    let endpoint = endpoint_limit(config, ticket, same, waiting, running);
-    let drawn = draw_answer(drawing);
-    let capacity = capacity_answer(config, tally);
-    let deadline = deadline_answer(config, packet.now);
-    let held = ledger_answer(booked.found, booked.used, booked.places);
-    let fifth = first_refusal(deadline, held);
-    let fourth = first_refusal(capacity, fifth);
-    let third = first_refusal(drawn, fourth);
-    let second = first_refusal(endpoint, third);
-    first_refusal(named, second)
+    endpoint_limit(
+        config,
+        plan.ticket,
+        same,
+        gathered.waiting,
+        gathered.running,
+    )?;
+    draw_answer(drawing)?;
+    capacity_answer(config, scan.tally)?;
+    deadline_answer(config, gathered.packet.now)?;
+    ledger_answer(booked.found, booked.used, booked.places)
 }
 
 // The ledger record of a grant: the one that is found, else a fresh one.

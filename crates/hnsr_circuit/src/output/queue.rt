@@ -1,16 +1,15 @@
 // Queueing (QUEUE): a message becomes a route and an outstanding action.
-ghost use Rattle.std.specs.Prelude.{◌≡◌, cond, true, List, [], ◌+◌, ◌<◌, length};
+ghost use Rattle.std.specs.Prelude.{◌≡◌, List, [], ◌+◌, ◌<◌, length};
 ghost use Rattle.hnsr_body.specs.Messages.{notice_body};
 ghost use Rattle.hnsr_circuit.specs.Inflight.{action_under, dropped};
 ghost use Rattle.hnsr_circuit.specs.Code.Held.{held_actions, world_seen, handed_seen, underway_seen};
 ghost use Rattle.hnsr_circuit.specs.Code.Held.{held_pending, held_circuits, held_ledger};
-ghost use Rattle.hnsr_circuit.specs.Answers.{taken};
-ghost use Rattle.hnsr_circuit.specs.Queue.{queue_answer, action_for, route_for, send, tell, when};
+ghost use Rattle.hnsr_circuit.specs.Queue.{queue_answer, action_for, send, tell};
 ghost use Rattle.hnsr_circuit.specs.Code.Turns.{actions_scanned};
 ghost use Rattle.hnsr_circuit.specs.World.{proceed};
 ghost use Rattle.hnsr_circuit.specs.Code.Progress.{message_of, ending, advance, asking, scan_place, underway};
-ghost use Rattle.hnsr_circuit.specs.Code.Queueing.{Queueing};
-ghost use Rattle.hnsr_circuit.specs.Route.{head_words, route_words};
+ghost use Rattle.hnsr_circuit.specs.Code.Queueing.{queueing};
+ghost use Rattle.hnsr_circuit.specs.Route.{head_words};
 ghost use Rattle.hns_encoding.specs.Numbers.{saturating_add};
 ghost use Rattle.hns_encoding.specs.Words.{word_count};
 ghost use Rattle.hns_encoding.specs.Cursor.{written};
@@ -18,18 +17,16 @@ ghost use Rattle.hnsr_circuit.specs.declared.records.RelayPending.{RelayPending}
 ghost use Rattle.hnsr_circuit.specs.declared.records.RelayCircuit.{RelayCircuit};
 ghost use Rattle.hnsr_circuit.specs.declared.records.ReservationUsage.{ReservationUsage};
 
-use crate::answer::{HnsrAnswer, HnsrRuntimeError, check, first_refusal, is_taken};
+use crate::answer::{HnsrAnswer, HnsrRuntimeError, check};
 use crate::config::OpaqueRelayConfig;
 use crate::output::route::{put_route, route_size};
 use crate::peer::HnsrPeerId;
 use crate::records::inflight::{capacity_answer, kind_number};
-use crate::records::runtime::with_sequence;
 use crate::records::{InflightAction, InflightKind};
-use crate::runtime::{OpaqueRelayRuntime, Relayed, Sending};
+use crate::runtime::{OpaqueRelayRuntime, Relayed, Sending, refused};
 use crate::tables::inflight::{drop_and_scan, scan_actions, set_action};
 use crate::tables::places::{Places, raised, with_actions};
 use crate::tables::scan::{ActionQuestion, ActionScan, InflightTally};
-use hns_encoding::numbers::{saturating_add_u64, saturating_add_usize};
 use hnsr_body::error::{HnsrInvalid, HnsrProtocolError};
 use hnsr_body::messages::Notice;
 
@@ -47,6 +44,7 @@ pub struct Outgoing {
 }
 
 // 1, 10, 6 (QUEUE.6): no context, no room, no number.
+#[tactic(auto, unfolding(crate::specs::Queue::queue_answer))]
 pub(crate) fn queue_answer(
     config: OpaqueRelayConfig,
     tally: InflightTally,
@@ -56,11 +54,9 @@ pub(crate) fn queue_answer(
     ensures { result ≡ queue_answer config tally sequence context }
 {
     let zero = HnsrRuntimeError::Protocol(HnsrProtocolError::Invalid(HnsrInvalid::ContextZero));
-    let context_answer = check(context == 0, zero);
-    let capacity = capacity_answer(config, tally);
-    let exhausted = check(sequence == u64::MAX, HnsrRuntimeError::GenerationExhausted);
-    let rest = first_refusal(capacity, exhausted);
-    first_refusal(context_answer, rest)
+    check(context == 0, zero)?;
+    capacity_answer(config, tally)?;
+    check(sequence == u64::MAX, HnsrRuntimeError::GenerationExhausted)
 }
 
 // The action that a message leaves outstanding.
@@ -106,11 +102,9 @@ pub(crate) fn scan_place(scan: ActionScan) -> usize
     scan.spare_place
 }
 
-// Whether a message is queued: the answer, the runtime with the sequence moved on, and the action with its place.
+// How a message is queued: the runtime with the sequence moved on, and the action with its place.
 #[derive(Clone, Copy)]
 pub struct Queued {
-    pub answer: HnsrAnswer,
-    pub go: bool,
     pub runtime: OpaqueRelayRuntime,
     pub place: usize,
     pub action: InflightAction,
@@ -122,129 +116,28 @@ pub(crate) fn queue(
     runtime: OpaqueRelayRuntime,
     message: Outgoing,
     scan: ActionScan,
-) -> Queued
-    ensures { Queueing before runtime message scan result }
+) -> Result<Queued, HnsrRuntimeError>
+    ensures { result ≡ queueing before runtime message scan }
 {
     let sequence = runtime.next_action_sequence;
-    let config = runtime.config;
-    let tally = scan.tally;
-    let own = queue_answer(config, tally, sequence, message.context_id);
-    let answer = first_refusal(before, own);
+    before?;
+    queue_answer(runtime.config, scan.tally, sequence, message.context_id)?;
+    let moved = runtime.with_sequence(sequence.saturating_add(1));
     let place = scan_place(scan);
     let action = action_for(message, runtime.generation, sequence);
-    let next = saturating_add_u64(sequence, 1);
-    let moved = with_sequence(runtime, next);
-    if is_taken(answer) {
-        return Queued {
-            answer,
-            go: true,
-            runtime: moved,
-            place,
-            action,
-        };
-    }
-    Queued {
-        answer,
-        go: false,
-        runtime,
+    Ok(Queued {
+        runtime: moved,
         place,
         action,
-    }
-}
-
-fn queued_go(queued: Queued) -> bool
-    ensures { result ≡ queued.go }
-{
-    queued.go
-}
-
-fn queued_place(queued: Queued) -> usize
-    ensures { result ≡ queued.place }
-{
-    queued.place
-}
-
-fn relayed(queued: Queued, words: usize, places: Places) -> Relayed
-    ensures { ((result.runtime ≡ queued.runtime) × (result.answer ≡ queued.answer) × (result.words ≡ words))
-        × (result.places ≡ places) }
-{
-    let runtime = queued.runtime;
-    let answer = queued.answer;
-    Relayed {
-        runtime,
-        answer,
-        words,
-        places,
-    }
-}
-
-fn sending_on(queued: Queued, position: usize, places: Places) -> Sending
-    ensures { ((result.runtime ≡ queued.runtime) × (result.position ≡ position)) × (result.places ≡ places) }
-{
-    let runtime = queued.runtime;
-    Sending {
-        runtime,
-        position,
-        places,
-    }
-}
-
-// Nothing before a part that is to be done, a refusal before one that is not.
-fn going(go: bool) -> HnsrAnswer
-    ensures { taken result ≡ go }
-{
-    if go {
-        return HnsrAnswer::Taken;
-    }
-    HnsrAnswer::Refused(HnsrRuntimeError::Capacity)
-}
-
-fn queued_action(queued: Queued) -> InflightAction
-    ensures { result ≡ queued.action }
-{
-    queued.action
-}
-
-// The words of the route, where the message is queued.
-fn put_queued(
-    out: &mut [u32],
-    go: bool,
-    at: usize,
-    message: Outgoing,
-    runtime: OpaqueRelayRuntime,
-    body: &[u8],
-)
-    requires { length body.now < 65536 }
-    ensures { out.new
-        ≡ cond go
-        (written out.old at
-        (route_words
-        (route_for (message_of message body.now) runtime.generation runtime.next_action_sequence)))
-        out.old }
-{
-    if go {
-        put_route(
-            out,
-            at,
-            message,
-            runtime.generation,
-            runtime.next_action_sequence,
-            body,
-        );
-    }
+    })
 }
 
 // The output word that is next.
-fn position_after(go: bool, at: usize, body_size: usize) -> usize
+fn position_after(at: usize, body_size: usize) -> usize
     requires { body_size < 65536 }
-    ensures { result ≡ cond go (saturating_add 64 at (head_words + word_count body_size)) at }
+    ensures { result ≡ saturating_add 64 at (head_words + word_count body_size) }
 {
-    let size = route_size(body_size);
-    let after = saturating_add_usize(at, size);
-    if go {
-        return after;
-    }
-    at
+    at.saturating_add(route_size(body_size))
 }
 
 // The last step of a call.
@@ -266,24 +159,35 @@ pub(crate) fn send(
         (let w = world_seen runtime places p c l inflight.old in
         proceed w before (send w (message_of message body.now))) }
 {
-    let size = inflight.len();
-    let queued = queue(before, runtime, message, scan);
-    let action = queued_action(queued);
-    let go = queued_go(queued);
-    let place = queued_place(queued);
-    let number = raised(places.actions, go, place, size);
-    let after = with_actions(places, number);
-    set_action(inflight, go, place, action);
-    put_queued(out, go, 0, message, runtime, body);
-    let words = position_after(go, 0, body.len());
-    relayed(queued, words, after)
+    match queue(before, runtime, message, scan) {
+        Ok(queued) => {
+            let number = raised(places.actions, true, queued.place, inflight.len());
+            let after = with_actions(places, number);
+            set_action(inflight, true, queued.place, queued.action);
+            put_route(
+                out,
+                0,
+                message,
+                runtime.generation,
+                runtime.next_action_sequence,
+                body,
+            );
+            let words = position_after(0, body.len());
+            Relayed {
+                runtime: queued.runtime,
+                answer: Ok(()),
+                words,
+                places: after,
+            }
+        }
+        Err(error) => refused(runtime, places, Err(error)),
+    }
 }
 
 // A part of a call that cannot be refused: what cannot be queued is left out (QUEUE.8).
 pub(crate) fn tell_scanned(
     inflight: &mut [InflightAction],
     out: &mut [u32],
-    go: bool,
     sending: Sending,
     message: Outgoing,
     scan: ActionScan,
@@ -293,24 +197,33 @@ pub(crate) fn tell_scanned(
         × (length body.now < 65536) }
     ensures { (p : List RelayPending) (c : List RelayCircuit) (l : List ReservationUsage)
         → underway_seen result p c l inflight.new out.new
-        ≡ advance (when go (tell (message_of message body.now)))
+        ≡ advance (tell (message_of message body.now))
         (underway_seen sending p c l inflight.old out.old) }
 {
     let runtime = sending.runtime;
-    let at = sending.position;
     let places = sending.places;
-    let size = inflight.len();
-    let before = going(go);
-    let queued = queue(before, runtime, message, scan);
-    let action = queued_action(queued);
-    let now = queued_go(queued);
-    let place = queued_place(queued);
-    let number = raised(places.actions, now, place, size);
-    let after = with_actions(places, number);
-    set_action(inflight, now, place, action);
-    put_queued(out, now, at, message, runtime, body);
-    let position = position_after(now, at, body.len());
-    sending_on(queued, position, after)
+    match queue(Ok(()), runtime, message, scan) {
+        Ok(queued) => {
+            let number = raised(places.actions, true, queued.place, inflight.len());
+            let after = with_actions(places, number);
+            set_action(inflight, true, queued.place, queued.action);
+            put_route(
+                out,
+                sending.position,
+                message,
+                runtime.generation,
+                runtime.next_action_sequence,
+                body,
+            );
+            let position = position_after(sending.position, body.len());
+            Sending {
+                runtime: queued.runtime,
+                position,
+                places: after,
+            }
+        }
+        Err(_) => sending,
+    }
 }
 
 // A message of the relay's own, the actions of its record dropped before it, in the same pass.
@@ -324,7 +237,7 @@ pub(crate) fn drop_and_tell(
 ) -> Sending
     ensures { (p : List RelayPending) (c : List RelayCircuit) (l : List ReservationUsage)
         → underway_seen result p c l inflight.new out.new
-        ≡ advance (when true (tell (message_of message (notice_body notice))))
+        ≡ advance (tell (message_of message (notice_body notice)))
         (underway sending (held_pending sending.places p) (held_circuits sending.places c)
         (held_ledger sending.places l)
         (dropped (action_under id) (held_actions sending.places inflight.old)) out.old) }
@@ -336,29 +249,20 @@ pub(crate) fn drop_and_tell(
     let written = notice.encode();
     let bytes = written.bytes;
     let length = written.length;
-    tell_scanned(
-        inflight,
-        out,
-        true,
-        sending,
-        message,
-        scan,
-        &bytes[..length],
-    )
+    tell_scanned(inflight, out, sending, message, scan, &bytes[..length])
 }
 
 // A message of the relay's own.
 pub(crate) fn tell_notice(
     inflight: &mut [InflightAction],
     out: &mut [u32],
-    go: bool,
     sending: Sending,
     message: Outgoing,
     notice: Notice,
 ) -> Sending
     ensures { (p : List RelayPending) (c : List RelayCircuit) (l : List ReservationUsage)
         → underway_seen result p c l inflight.new out.new
-        ≡ advance (when go (tell (message_of message (notice_body notice))))
+        ≡ advance (tell (message_of message (notice_body notice)))
         (underway_seen sending p c l inflight.old out.old) }
 {
     let runtime = sending.runtime;
@@ -368,5 +272,5 @@ pub(crate) fn tell_notice(
     let written = notice.encode();
     let bytes = written.bytes;
     let length = written.length;
-    tell_scanned(inflight, out, go, sending, message, scan, &bytes[..length])
+    tell_scanned(inflight, out, sending, message, scan, &bytes[..length])
 }

@@ -51,25 +51,25 @@ fn packet_word(opcode: u8, size: usize) -> u32
 fn put_word_at(out: &mut [u32], at: usize, word: u32)
     ensures { out.new ≡ written out.old at (word ∷ []) }
 {
-    Encoder { position: at }.put_word(out, word);
+    let _ = Encoder { position: at }.put_word(out, word);
 }
 
 fn put_number_at(out: &mut [u32], at: usize, number: u64)
     ensures { out.new ≡ written out.old at (high_low number) }
 {
-    Encoder { position: at }.put_u64_as_words(out, number);
+    let _ = Encoder { position: at }.put_u64_as_words(out, number);
 }
 
 fn put_body_at(out: &mut [u32], at: usize, body: &[u8])
     ensures { out.new ≡ written out.old at (words body.now) }
 {
-    Encoder { position: at }.put_bytes_as_words(out, body);
+    let _ = Encoder { position: at }.put_bytes_as_words(out, body);
 }
 
 fn put_context_at(out: &mut [u32], at: usize, context: u64)
     ensures { out.new ≡ written out.old at (words (be_bytes 8 context)) }
 {
-    Encoder { position: at }.put_u64_be_as_words(out, context);
+    let _ = Encoder { position: at }.put_u64_be_as_words(out, context);
 }
 
 // A peer's name, zero padded.
@@ -78,7 +78,7 @@ fn put_peer_at(out: &mut [u32], at: usize, peer: HnsrPeerId)
 {
     let bytes = peer.bytes;
     let length = peer_length(peer);
-    Encoder { position: at }.put_padded_as_words(out, &bytes[..length], PEER_WORDS);
+    let _ = Encoder { position: at }.put_padded_as_words(out, &bytes[..length], PEER_WORDS);
 }
 
 // ---- a route

@@ -12,7 +12,6 @@ ghost use Rattle.hnsr_circuit.specs.Status.{circuit_totals};
 use crate::peer::HnsrPeerId;
 use crate::records::circuits::{circuit_charged, circuit_is, is_circuit, no_circuit};
 use crate::records::{RelayCircuit, RelaySide};
-use crate::runtime::NextDue;
 use crate::tables::places::{Places, held_circuit};
 use crate::tables::question::RecordQuestion;
 use crate::tables::scan::{
@@ -140,7 +139,11 @@ pub(crate) fn circuit_work(
     work
 }
 
-pub(crate) fn circuit_due(circuits: &[RelayCircuit], places: Places, due: NextDue) -> NextDue
+pub(crate) fn circuit_due(
+    circuits: &[RelayCircuit],
+    places: Places,
+    due: Option<u64>,
+) -> Option<u64>
     ensures { result ≡ circuit_due (held_circuits places circuits.now) due }
 {
     let size = circuits.len();

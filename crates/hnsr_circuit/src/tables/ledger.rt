@@ -9,7 +9,6 @@ ghost use Rattle.hnsr_circuit.specs.Code.Turns.{ledger_asked};
 
 use crate::records::ReservationUsage;
 use crate::records::ledger::{is_usage, no_usage, usage_is, usage_over, usage_unmarked};
-use crate::runtime::NextDue;
 use crate::tables::places::{Places, held_usage, ledger_spared};
 use crate::tables::scan::{LedgerScan, no_ledger_scan, usage_due_turn, usage_scanned, within};
 use hns_encoding::numbers::min_usize;
@@ -52,7 +51,11 @@ pub(crate) fn scan_ledger(
     ledger_spared(scan, i, size)
 }
 
-pub(crate) fn usage_due(ledger: &[ReservationUsage], places: Places, due: NextDue) -> NextDue
+pub(crate) fn usage_due(
+    ledger: &[ReservationUsage],
+    places: Places,
+    due: Option<u64>,
+) -> Option<u64>
     ensures { result ≡ usage_due (held_ledger places ledger.now) due }
 {
     let size = ledger.len();

@@ -11,7 +11,6 @@ ghost use Rattle.hnsr_circuit.specs.NextDue.{pending_due};
 use crate::peer::HnsrPeerId;
 use crate::records::RelayPending;
 use crate::records::pending::{is_pending, named_by, no_pending, pending_is};
-use crate::runtime::NextDue;
 use crate::tables::places::{Places, held_pending};
 use crate::tables::question::RecordQuestion;
 use crate::tables::scan::{
@@ -192,7 +191,7 @@ pub(crate) fn pending_work(pending: &[RelayPending], places: Places, question: W
     work
 }
 
-pub(crate) fn pending_due(pending: &[RelayPending], places: Places, due: NextDue) -> NextDue
+pub(crate) fn pending_due(pending: &[RelayPending], places: Places, due: Option<u64>) -> Option<u64>
     ensures { result ≡ pending_due (held_pending places pending.now) due }
 {
     let size = pending.len();

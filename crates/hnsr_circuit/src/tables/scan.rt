@@ -23,7 +23,6 @@ use crate::records::pending::{
     id_in_pending, is_pending, pending_is, pending_of, pending_under, requested_by,
 };
 use crate::records::{InflightAction, RelayCircuit, RelayPending, ReservationUsage};
-use crate::runtime::NextDue;
 use crate::tables::question::{RecordQuestion, circuit_has, pending_has};
 use hns_encoding::logic::{both, either, no};
 use hns_encoding::numbers::{min_u64, saturating_add_usize};
@@ -342,16 +341,16 @@ pub(crate) fn reservation_work(waiting: usize, running: usize) -> usize
 
 // ---- the earliest time
 
-fn earlier(due: NextDue, time: u64) -> NextDue
+fn earlier(due: Option<u64>, time: u64) -> Option<u64>
     ensures { result ≡ earlier due time }
 {
     match due {
-        NextDue::Never => NextDue::At(time),
-        NextDue::At(before) => NextDue::At(min_u64(before, time)),
+        None => Some(time),
+        Some(before) => Some(min_u64(before, time)),
     }
 }
 
-pub(crate) fn pending_due_turn(due: NextDue, row: RelayPending) -> NextDue
+pub(crate) fn pending_due_turn(due: Option<u64>, row: RelayPending) -> Option<u64>
     ensures { result ≡ due_turn is_pending deadline_of due row 0 }
 {
     if row.used {
@@ -360,7 +359,7 @@ pub(crate) fn pending_due_turn(due: NextDue, row: RelayPending) -> NextDue
     due
 }
 
-pub(crate) fn circuit_due_turn(due: NextDue, row: RelayCircuit) -> NextDue
+pub(crate) fn circuit_due_turn(due: Option<u64>, row: RelayCircuit) -> Option<u64>
     ensures { result ≡ due_turn is_circuit expiry_of due row 0 }
 {
     if row.used {
@@ -369,7 +368,7 @@ pub(crate) fn circuit_due_turn(due: NextDue, row: RelayCircuit) -> NextDue
     due
 }
 
-pub(crate) fn usage_due_turn(due: NextDue, row: ReservationUsage) -> NextDue
+pub(crate) fn usage_due_turn(due: Option<u64>, row: ReservationUsage) -> Option<u64>
     ensures { result ≡ due_turn is_usage usage_expiry_of due row 0 }
 {
     if row.used {

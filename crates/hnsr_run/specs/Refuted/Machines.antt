@@ -1,13 +1,11 @@
 -- What the wrong machines are made of: the relay with one call replaced; and the runs that refute them.
-use Rattle.std.specs.Prelude.{ℕ, ◌<◌, ◌≡◌, refl, Bool, true, ◌&&◌, List, [], ◌∷◌, ◌++◌, eqb, leb, ltb, length}
+use Rattle.std.specs.Prelude.{ℕ, ◌<◌, ◌≡◌, refl, Bool, true, ◌&&◌, List, [], ◌∷◌, ◌++◌, eqb, leb, ltb, length, Ok}
 use Rattle.std.proofs.Common.{arith, ap, ◌∙◌, eqb-true, leb-true, ltb-true}
 use Rattle.hns_encoding.specs.Numbers.{top}
 use Rattle.hns_encoding.specs.Laws.Tests.{both}
 use Rattle.hnsr_body.specs.Data.{most_data}
-use Rattle.hnsr_circuit.specs.declared.answer.HnsrAnswer.{HnsrAnswer}
-use Rattle.hnsr_circuit.specs.declared.answer.HnsrAnswer.TheVariants.{Taken}
 use Rattle.hnsr_circuit.specs.declared.records.RelaySide.{RelaySide}
-use Rattle.hnsr_circuit.specs.Answers.{◌then◌}
+use Rattle.hnsr_circuit.specs.Answers.{HnsrAnswer, ◌then◌}
 use Rattle.hnsr_circuit.specs.Peer.{peer_good, peer_of, same_peer}
 use Rattle.hnsr_circuit.specs.Inflight.{capacity_left}
 use Rattle.hnsr_circuit.specs.World.{World, Outcome, Told, silent, status_is, due_is}
@@ -81,13 +79,13 @@ opened = opens 1 2 9 (7 ∷ []) (grant 5 100) 100 ∷ accepts 2 7 100 ∷ []
 abbrev pub talk : List Call
 talk = opened ++ (sends 1 7 40 100 ∷ [])
 
-abbrev pub run-from : (s : Start) (m : Machine) → (m.new tables s).answer ≡ Taken
+abbrev pub run-from : (s : Start) (m : Machine) → (m.new tables s).answer ≡ Ok tt
     → s.config.maximum_bytes_per_circuit < top 64 → (calls : List Call)
     → below (begin s) (events m.step (m.new tables s).world calls) ≡ true → Run m
 run-from s m new-taken limit calls bounded =
     record { lent = tables; began = s; new-taken = new-taken; limit = limit; calls = calls; bounded = bounded }
 
-abbrev pub run_of : (m : Machine) → (m.new tables fresh).answer ≡ Taken → (calls : List Call)
+abbrev pub run_of : (m : Machine) → (m.new tables fresh).answer ≡ Ok tt → (calls : List Call)
     → below (begin fresh) (events m.step (m.new tables fresh).world calls) ≡ true
     → Run m
 run_of m new-taken calls bounded = run-from fresh m new-taken (omega arith) calls bounded

@@ -3,13 +3,12 @@ use Rattle.std.specs.Prelude.{ℕ, ◌+◌, ◌-◌, ◌≡◌, refl, false, con
 use Rattle.std.specs.Prelude.{List, [], ◌∷◌, ◌++◌, eqb, length, replicate}
 use Rattle.std.proofs.Common.{arith, ap}
 use Rattle.hnsr_body.specs.Data.{data_checked}
-use Rattle.hnsr_circuit.specs.declared.answer.HnsrAnswer.{HnsrAnswer}
 use Rattle.hnsr_circuit.specs.declared.answer.HnsrRuntimeError.TheVariants.{UnknownCircuit}
 use Rattle.hnsr_circuit.specs.declared.records.RelayCircuit.{RelayCircuit}
 use Rattle.hnsr_circuit.specs.declared.records.ReservationUsage.{ReservationUsage}
 use Rattle.hnsr_circuit.specs.declared.records.RelaySide.{RelaySide}
 use Rattle.hnsr_circuit.specs.declared.records.RelaySide.TheVariants.{Requester, Endpoint}
-use Rattle.hnsr_circuit.specs.Answers.{number, check, body_answer, ◌then◌}
+use Rattle.hnsr_circuit.specs.Answers.{HnsrAnswer, number, check, body_answer, ◌then◌}
 use Rattle.hnsr_circuit.specs.Table.{edit}
 use Rattle.hnsr_circuit.specs.Circuits.{circuit_at, side_of, moved, charged}
 use Rattle.hnsr_circuit.specs.Ledger.{usage_with, usage_at, has_usage, usage_of, spent}

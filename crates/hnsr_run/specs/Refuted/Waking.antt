@@ -1,13 +1,11 @@
 -- Machines whose next due a host cannot wait for: an end is missed, a time is told that is no end, `expire` ends too
 -- early or nothing, or the same end is due again and again.
 use Rattle.std.specs.Prelude.{ℕ, ◌+◌, max, ◌≡◌, refl, Bool, true, false, cond, ◌&&◌, List, [], ◌∷◌, ◌++◌, ltb, length}
+use Rattle.std.specs.Prelude.{Option, None, Some, Ok}
 use Rattle.std.proofs.Common.{arith, sym, ap, ◌∙◌, inl, inr, true≢false}
 use Rattle.std.proofs.lemmas.Bool.{false≢true}
 use Rattle.hns_encoding.specs.Loops.{fold_from}
 use Rattle.hnsr_circuit.specs.declared.records.ReservationUsage.{ReservationUsage}
-use Rattle.hnsr_circuit.specs.declared.runtime.NextDue.{NextDue}
-use Rattle.hnsr_circuit.specs.declared.runtime.NextDue.TheVariants.{Never, At}
-use Rattle.hnsr_circuit.specs.declared.answer.HnsrAnswer.TheVariants.{Taken}
 use Rattle.hnsr_circuit.specs.declared.answer.HnsrRuntimeError.TheVariants.{Capacity, Short}
 use Rattle.hnsr_circuit.specs.Table.{any}
 use Rattle.hnsr_circuit.specs.Pending.{is_pending}
@@ -46,10 +44,10 @@ replacing due expires w (call_revoke_reservation id room) = step w (call_revoke_
 abbrev expired : World → (now room : ℕ) → Outcome
 expired w now room = step w (call_expire now room)
 
-abbrev tells : (World → NextDue) → World → Outcome
+abbrev tells : (World → Option ℕ) → World → Outcome
 tells f w = telling w (due_is (f w))
 
-abbrev telling-due : (World → NextDue) → Machine
+abbrev telling-due : (World → Option ℕ) → Machine
 telling-due f = record { new = start; step = replacing (tells f) expired }
 
 abbrev expiring : (World → (now room : ℕ) → Outcome) → Machine
@@ -62,9 +60,9 @@ told_in_time m C r t e = ap (λ x. later t (due_told x)) (C r).told ∙ (C r).in
 
 -- what is told after a taken `expire`
 later-after : (m : Machine) → Waking m → (calls : List Call)
-    → (taken : (m.new tables fresh).answer ≡ Taken) (now : ℕ)
+    → (taken : (m.new tables fresh).answer ≡ Ok tt) (now : ℕ)
     → let w = left_by m.step (m.new tables fresh).world calls in
-    (m.step w (call_expire now ample)).answer ≡ Taken
+    (m.step w (call_expire now ample)).answer ≡ Ok tt
     → later now (due_told (m.step (m.step w (call_expire now ample)).world call_next_due).told) ≡ true
 later-after m C calls taken now t =
     let k = (C tables fresh taken calls).after now ample t in ap (λ x. later now (due_told x)) k.1 ∙ k.2
@@ -84,7 +82,7 @@ mute_refuted C = refused_differs (ap (λ (o : Outcome). o.answer) (C tables fres
 -- ---- none, before, in time: the ledger is left out. Nothing is due while a record is used and the reservation lives,
 -- and `expire` drops the record
 abbrev pub ledgerless : Machine
-ledgerless = telling-due (λ w. circuit_due w.circuits (pending_due w.pending Never))
+ledgerless = telling-due (λ w. circuit_due w.circuits (pending_due w.pending None))
 
 pub ledgerless-none : Waking ledgerless → ⊥
 unfolding machine lent not_admitted
@@ -108,7 +106,7 @@ ledgerless_refuted C =
 
 -- ---- one, is one: a time where nothing is due
 abbrev pub alarmed : Machine
-alarmed = telling-due (λ w. At 150)
+alarmed = telling-due (λ w. Some 150)
 
 pub alarmed-one : Waking alarmed → ⊥
 unfolding machine lent not_admitted
@@ -146,7 +144,7 @@ any_of a = true
 
 abbrev pub unused : Machine
 unused = telling-due (λ w. due_in any_of usage_expiry_of w.ledger
-    (due_in any_of expiry_of w.circuits (due_in any_of deadline_of w.pending Never)))
+    (due_in any_of expiry_of w.circuits (due_in any_of deadline_of w.pending None)))
 
 pub unused_refuted : Waking unused → ⊥
 unfolding machine lent not_admitted
@@ -155,7 +153,7 @@ unused_refuted C = false≢true (later-after unused C [] refl 100 refl)
 -- ---- after: a ledger record's bytes for its expiry
 abbrev pub weighed : Machine
 weighed = telling-due (λ w. due_in is_usage (λ u. u.bytes) w.ledger
-    (circuit_due w.circuits (pending_due w.pending Never)))
+    (circuit_due w.circuits (pending_due w.pending None)))
 
 pub weighed_refuted : Waking weighed → ⊥
 unfolding machine lent not_admitted
@@ -182,7 +180,7 @@ hiding = record {
   new = start;
   step = replacing
       (tells (λ w. due_in (unlapsed w.runtime.trusted_time_high_water) usage_expiry_of w.ledger
-      (circuit_due w.circuits (pending_due w.pending Never))))
+      (circuit_due w.circuits (pending_due w.pending None))))
       (λ w now room. relisted w (expired w now room));
 }
 
@@ -191,16 +189,16 @@ unfolding machine lent not_admitted
 hiding_refuted C = true≢false ((C tables fresh refl closed).ended 1000 ample refl).2
 
 -- ---- in time: the latest for the earliest. The OPEN's deadline 110 is missed for the reservation's 1,000
-abbrev later_of : NextDue → ℕ → NextDue
-later_of Never n = At n
-later_of (At m) n = At (max m n)
+abbrev later_of : Option ℕ → ℕ → Option ℕ
+later_of None n = Some n
+later_of (Some m) n = Some (max m n)
 
-abbrev latest_in : {A : Type 0} → (used : A → Bool) → (time : A → ℕ) → List A → NextDue → NextDue
+abbrev latest_in : {A : Type 0} → (used : A → Bool) → (time : A → ℕ) → List A → Option ℕ → Option ℕ
 latest_in used time t d = fold_from (λ e r place. cond (used r) (later_of e (time r)) e) t 0 d
 
 abbrev pub latest : Machine
 latest = telling-due (λ w. latest_in is_usage usage_expiry_of w.ledger
-    (latest_in is_circuit expiry_of w.circuits (latest_in is_pending deadline_of w.pending Never)))
+    (latest_in is_circuit expiry_of w.circuits (latest_in is_pending deadline_of w.pending None)))
 
 pub latest_refuted : Awaiting latest → ⊥
 unfolding machine lent not_admitted
@@ -210,7 +208,7 @@ latest_refuted C =
 
 -- ---- in time: never due, and `expire` ends nothing
 abbrev pub asleep : Machine
-asleep = record { new = start; step = replacing (tells (λ w. Never)) (λ w now room. done (at_time w now) []) }
+asleep = record { new = start; step = replacing (tells (λ w. None)) (λ w now room. done (at_time w now) []) }
 
 pub asleep_refuted : Awaiting asleep → ⊥
 unfolding machine lent not_admitted

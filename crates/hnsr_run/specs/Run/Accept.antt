@@ -1,7 +1,7 @@
 -- ACCEPT keeps the invariant: the OPEN ends with its actions, the circuit starts, and OPENED is queued.
 use Prim.Native.Nat.{ℕ, ◌<◌, min}
 use Rattle.std.proofs.Common.{arith, ◌∙◌}
-use Rattle.std.specs.Prelude.{◌≡◌, ◌||◌, [], ◌∷◌, leb}
+use Rattle.std.specs.Prelude.{◌≡◌, ◌||◌, [], ◌∷◌, leb, Ok, Err}
 use Rattle.std.proofs.Math.Path.{refl, sym, ap, subst}
 use Rattle.std.proofs.Math.Bool.{true, false, cond}
 use Rattle.std.proofs.lemmas.Bool.{false≢true}
@@ -9,7 +9,7 @@ use Rattle.std.proofs.Math.Dec.{ltb, eqb}
 use borrow.Author.Tests.{eqb-true, eq-eqb, leb-false, lt-ltb}
 use Rattle.hns_encoding.specs.Numbers.{top}
 use Rattle.hns_encoding.specs.Laws.Tests.{split, clash, neither}
-use Rattle.hns_encoding.specs.Sums.{total, non}
+use Rattle.hns_encoding.specs.Sums.{non}
 use Rattle.hnsr_body.specs.declared.accept_body.AcceptBody.{AcceptBody}
 use Rattle.hnsr_body.specs.Accept.{accept_fields}
 use Rattle.hnsr_circuit.specs.declared.records.RelayTicket.{RelayTicket}
@@ -18,9 +18,7 @@ use Rattle.hnsr_circuit.specs.declared.records.RelayCircuit.{RelayCircuit}
 use Rattle.hnsr_circuit.specs.declared.records.RelaySide.{RelaySide}
 use Rattle.hnsr_circuit.specs.declared.records.RelaySide.TheVariants.{Requester, Endpoint}
 use Rattle.hnsr_circuit.specs.declared.tables.scan.InflightTally.{InflightTally}
-use Rattle.hnsr_circuit.specs.declared.answer.HnsrAnswer.{HnsrAnswer}
-use Rattle.hnsr_circuit.specs.declared.answer.HnsrAnswer.TheVariants.{Taken, Refused}
-use Rattle.hnsr_circuit.specs.Answers.{error_number, number}
+use Rattle.hnsr_circuit.specs.Answers.{HnsrAnswer, error_number, number}
 use Rattle.hnsr_circuit.specs.Table.{any, pick, put, edit, keep}
 use Rattle.hnsr_circuit.specs.Pending.{pending_at, clear_pending}
 use Rattle.hnsr_circuit.specs.Circuits.{no_circuit, is_circuit, circuit_at, clear_circuit, queued_to}
@@ -176,13 +174,13 @@ module _ {w : World} {h : Past} (R : Rel w h) (H : Places w) (low : sequence_of 
   some = ap (λ x. eqb x 0) A.context ∙ A.some
 
   has_room : capacity_answer (config_of (with_accept w p body))
-      (tallied false message.circuit message.destination (with_accept w p body).inflight) ≡ Taken
+      (tallied false message.circuit message.destination (with_accept w p body).inflight) ≡ Ok tt
   unfolding with_accept message opened_message
   has_room =
       subst (λ i.
-      capacity_answer (config_of w) (tallied false i p.requester (dropped (action_under i) w.inflight)) ≡ Taken)
+      capacity_answer (config_of w) (tallied false i p.requester (dropped (action_under i) w.inflight)) ≡ Ok tt)
       (sym own)
-      (subst (λ (t : InflightTally). capacity_answer (config_of w) t ≡ Taken)
+      (subst (λ (t : InflightTally). capacity_answer (config_of w) t ≡ Ok tt)
       (replacing-tally j p.requester w.inflight) D.room)
 
   same-sequence : sequence_of (with_accept w p body) ≡ sequence_of w
@@ -246,7 +244,7 @@ unfolding handle_accept accept_with message started
 accept_keeps {w} {h} R H low q clock =
     proceed-cases P w (accept_taken w q x b) (send (with_accept w x b) (opened_message x b))
     (λ e. let D = accept_rows_lem w q x b e in subst P (sym (can R H low q clock D)) (rel R H low q clock D))
-    (λ e f. if-not (λ (g : Past). Rel w g) (written (Refused e)) _ h
+    (λ e f. if-not (λ (g : Past). Rel w g) (written (Err e)) _ h
     (ap (λ c. c || eqb (error_number e) 6) (not_taken e)
     ∙ ap (λ (a : HnsrAnswer). eqb (number a) 6) (sym f)
     ∙ never_six w q x b) R)

@@ -1,14 +1,13 @@
 -- ACCEPT's rows one by one; none answers 6.
-use Rattle.std.specs.Prelude.{◌<◌, ◌≡◌, refl, Bool, true, false, not, ◌||◌, leb, ltb, eqb}
+use Rattle.std.specs.Prelude.{◌<◌, ◌≡◌, refl, Bool, true, false, not, ◌||◌, leb, ltb, eqb, Ok}
 use Rattle.std.proofs.Common.{leb-false}
 use Rattle.std.proofs.lemmas.Bool.{not-false}
 use Rattle.hns_encoding.specs.Laws.Tests.{neither}
-use Rattle.hnsr_body.specs.declared.error.Checked.{Checked}
-use Rattle.hnsr_body.specs.declared.error.Checked.TheVariants.{Ok, Err}
+use Rattle.hnsr_body.specs.declared.error.HnsrProtocolError.{HnsrProtocolError}
+use Rattle.std.specs.Prelude.{Result, Err}
 use Rattle.hnsr_body.specs.declared.accept_body.AcceptBody.{AcceptBody}
 use Rattle.hnsr_body.specs.Accept.{decode_accept}
 use Rattle.hnsr_circuit.specs.declared.records.RelayPending.{RelayPending}
-use Rattle.hnsr_circuit.specs.declared.answer.HnsrAnswer.TheVariants.{Taken}
 use Rattle.hnsr_circuit.specs.declared.answer.HnsrRuntimeError.TheVariants.{Capacity, InvalidAdmission}
 use Rattle.hnsr_circuit.specs.declared.answer.HnsrRuntimeError.TheVariants.{UnknownRequest, WrongPeer}
 use Rattle.hnsr_circuit.specs.Answers.{number, check, body_answer, ◌then◌}
@@ -21,16 +20,15 @@ use Rattle.hnsr_circuit.specs.Counts.{circuit_count, reservation_work}
 use Rattle.hnsr_circuit.specs.Packet.{Packet, sender}
 use Rattle.hnsr_circuit.specs.Accept.{request_answer, accept_answer, accept_taken}
 use Rattle.hnsr_circuit.specs.Laws.Answers.{then_taken, check-taken}
-use Rattle.hnsr_circuit.specs.Laws.Marks.{room}
 
 -- ---- the rows
 pub record AcceptRows (w : World) (q : Packet) (p : RelayPending) : Type 0 where
   pub found : any (pending_at q.context) w.pending ≡ true
   pub fresh : overdue q.now p ≡ false
   pub circuits : circuit_count w < (config_of w).maximum_circuits
-  pub room : capacity_answer (config_of w) (tallied true q.context p.requester w.inflight) ≡ Taken
+  pub room : capacity_answer (config_of w) (tallied true q.context p.requester w.inflight) ≡ Ok tt
 
-pub accept_rows_lem : (w : World) (q : Packet) (p : RelayPending) (b : AcceptBody) → accept_taken w q p b ≡ Taken
+pub accept_rows_lem : (w : World) (q : Packet) (p : RelayPending) (b : AcceptBody) → accept_taken w q p b ≡ Ok tt
     → AcceptRows w q p
 unfolding accept_taken request_answer accept_answer
 accept_rows_lem w q p b e =
@@ -59,7 +57,7 @@ accept_rows_lem w q p b e =
       room = d.1;
     }
 
-six_rows : (x y z u v : Bool) (b : Checked)
+six_rows : (x y z u v : Bool) (b : Result Unit HnsrProtocolError)
     → eqb (number ((check x UnknownRequest then check y WrongPeer then check z InvalidAdmission)
     then body_answer b
     then check u Capacity
@@ -68,9 +66,9 @@ six_rows true y z u v b = refl
 six_rows false true z u v b = refl
 six_rows false false true u v b = refl
 six_rows false false false u v (Err c) = refl
-six_rows false false false true v Ok = refl
-six_rows false false false false true Ok = refl
-six_rows false false false false false Ok = refl
+six_rows false false false true v (Ok done) = refl
+six_rows false false false false true (Ok done) = refl
+six_rows false false false false false (Ok done) = refl
 
 pub never_six : (w : World) (q : Packet) (p : RelayPending) (b : AcceptBody)
     → eqb (number (accept_taken w q p b)) 6 ≡ false

@@ -1,6 +1,6 @@
 -- The table of actions holds what is outstanding: for every f the total over the used places is the total over the
 -- list. What queueing, dropping and removing one do to that.
-use Rattle.std.specs.Prelude.{ℕ, ◌+◌, ◌≤◌, ◌<◌, ◌≡◌, refl, Bool, true, false}
+use Rattle.std.specs.Prelude.{ℕ, ◌+◌, ◌≤◌, ◌<◌, ◌≡◌, refl, Bool, true, false, Ok}
 use Rattle.std.specs.Prelude.{cond, not, ◌&&◌, List, [], ◌∷◌, ◌++◌, length}
 use native.Mathlib.Omega.{arith}
 use Rattle.std.proofs.Math.Path.{sym}
@@ -13,7 +13,6 @@ use Rattle.hns_encoding.specs.Laws.Sums.{total_ext, total-le, total-append}
 use Rattle.hnsr_circuit.specs.declared.peer.HnsrPeerId.{HnsrPeerId}
 use Rattle.hnsr_circuit.specs.declared.config.OpaqueRelayConfig.{OpaqueRelayConfig}
 use Rattle.hnsr_circuit.specs.declared.records.InflightAction.{InflightAction}
-use Rattle.hnsr_circuit.specs.declared.answer.HnsrAnswer.TheVariants.{Taken}
 use Rattle.hnsr_circuit.specs.declared.answer.HnsrRuntimeError.TheVariants.{Capacity}
 use Rattle.hnsr_circuit.specs.Table.{also, any, pick, put, edit, clear, keep}
 use Rattle.hnsr_circuit.specs.Inflight.{no_action, is_action, action_at, action_under, action_toward}
@@ -176,7 +175,7 @@ module _ {c : OpaqueRelayConfig} {g next : ℕ} {t : List InflightAction} {out :
 
 -- ---- room
 pub room_of_lem : (c : OpaqueRelayConfig) (circuit : ℕ) (peer : HnsrPeerId) (t : List InflightAction)
-    → capacity_answer c (tallied false circuit peer t) ≡ Taken
+    → capacity_answer c (tallied false circuit peer t) ≡ Ok tt
     → count in_use t < c.maximum_inflight_actions
 unfolding capacity_answer capacity_left tallied is_action
 room_of_lem c circuit peer t h =

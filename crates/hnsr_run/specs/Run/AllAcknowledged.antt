@@ -1,13 +1,11 @@
 -- Every order of the outstanding actions: acknowledging each once as delivered is taken each time, and leaves nothing
 -- outstanding.
-use Rattle.std.specs.Prelude.{ℕ, ◌≤◌, ◌<◌, ◌≡◌, refl, Bool, true, false, cond, not}
+use Rattle.std.specs.Prelude.{ℕ, ◌≤◌, ◌<◌, ◌≡◌, refl, Bool, true, false, cond, not, Ok}
 use Rattle.std.specs.Prelude.{◌&&◌, List, [], ◌∷◌, map, eqb, length, replicate}
 use Rattle.std.proofs.Common.{arith, sym, ap, ◌∙◌, subst, eqb-true, eq-eqb, le-ltb}
 use Rattle.hns_encoding.specs.Numbers.{top}
 use Rattle.hns_encoding.specs.Sums.{only, one, non, total, count}
-use Rattle.hnsr_circuit.specs.declared.answer.HnsrAnswer.{HnsrAnswer}
-use Rattle.hnsr_circuit.specs.declared.answer.HnsrAnswer.TheVariants.{Taken}
-use Rattle.hnsr_circuit.specs.Answers.{check, ◌then◌}
+use Rattle.hnsr_circuit.specs.Answers.{HnsrAnswer, check, ◌then◌}
 use Rattle.hnsr_circuit.specs.declared.answer.HnsrRuntimeError.TheVariants.{Short, StaleGeneration, UnknownAction}
 use Rattle.hnsr_circuit.specs.Table.{any, pick, keep}
 use Rattle.hnsr_circuit.specs.Inflight.{no_action, action_at}
@@ -67,7 +65,7 @@ nothing_left (x ∷ xs) h = absurd (omega arith)
 -- ---- one acknowledged
 ack_taken : (w : World) → Places w → (g s room : ℕ) → g ≡ generation_of w → any (action_at g s) w.inflight ≡ true
     → acknowledge_words ≤ room
-    → acknowledge_taken w g s room ≡ Taken
+    → acknowledge_taken w g s room ≡ Ok tt
 unfolding acknowledge_taken generation_answer action_answer
 ack_taken w H g s room e f l =
     ap (λ (a : HnsrAnswer). a
@@ -81,7 +79,7 @@ ack_taken w H g s room e f l =
 abbrev next : World → ℕ → ℕ → World
 next w g s = released (without_action w g s) (pick (action_at g s) no_action w.inflight)
 
-ack_step : (w : World) (g s room : ℕ) → acknowledge_taken w g s room ≡ Taken
+ack_step : (w : World) (g s room : ℕ) → acknowledge_taken w g s room ≡ Ok tt
     → step w (call_acknowledge g s true room) ≡ done (next w g s) []
 unfolding step acknowledge acknowledge_action settled proceed
 ack_step w g s room e = rw e
@@ -92,7 +90,8 @@ next-sequence w g s = refl
 
 -- ---- all of them
 pub record AllAcknowledged (rooms : Action → ℕ) (order : List Action) (w : World) (h : Past) : Type 0 where
-  pub answers : map (λ e. e.answer) (events step w (map (delivered step rooms) order)) ≡ replicate (length order) Taken
+  pub answers : map (λ e. e.answer) (events step w (map (delivered step rooms) order))
+      ≡ replicate (length order) (Ok tt)
   pub rel : Rel (left_by step w (map (delivered step rooms) order)) (with_out h [])
   pub places : Places (left_by step w (map (delivered step rooms) order))
   pub low : sequence_of (left_by step w (map (delivered step rooms) order)) < top 64
@@ -104,7 +103,7 @@ acknowledge-one rooms a rest w v h p st D = record {
   answers =
       subst
       (λ (o : Outcome). (o.answer ∷ map (λ e. e.answer) (events step o.world (map (delivered step rooms) rest)))
-      ≡ replicate (length (a ∷ rest)) Taken) (sym st) (ap {B = List HnsrAnswer} (λ l. Taken ∷ l) D.answers);
+      ≡ replicate (length (a ∷ rest)) (Ok tt)) (sym st) (ap {B = List HnsrAnswer} (λ l. Ok tt ∷ l) D.answers);
   rel =
       subst (λ (o : Outcome). Rel (left_by step o.world (map (delivered step rooms) rest)) (with_out h []))
       (sym st) D.rel;

@@ -20,7 +20,7 @@ use Rattle.hnsr_circuit.specs.Queue.{Message, sequence_of, send}
 use Rattle.hnsr_circuit.specs.Revocation.{pending_in}
 use Rattle.hnsr_circuit.specs.Laws.Lookups.{pick-has, any-count, any-pick, any_imp}
 use Rattle.hnsr_circuit.specs.Laws.Keyed.{seen, shown, seen-two}
-use Rattle.hnsr_run.specs.Past.{Action, Past, at, fewer, emit, open_ended, circuit_ended}
+use Rattle.hnsr_run.specs.Past.{Action, Past, fewer, emit, open_ended, circuit_ended}
 use Rattle.hnsr_run.specs.History.{ends, by_context, by_id, end_in, ended_by}
 use Rattle.hnsr_circuit.specs.Route.{Route}
 use Rattle.hnsr_run.specs.Run.Circuits.{none}

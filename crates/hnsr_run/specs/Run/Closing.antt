@@ -1,5 +1,5 @@
 -- CLOSE and ERROR, the call: its rows, the OPEN or the circuit ended, the message passed on.
-use Rattle.std.specs.Prelude.{ℕ, ◌<◌, ◌≡◌, Bool, true, cond, not, [], leb}
+use Rattle.std.specs.Prelude.{ℕ, ◌<◌, ◌≡◌, Bool, true, cond, not, [], leb, Ok}
 use Rattle.std.proofs.Common.{arith, ◌∙◌}
 use Rattle.std.proofs.Math.Path.{refl, sym, ap, subst}
 use Rattle.std.proofs.Math.Bool.{false}
@@ -8,12 +8,11 @@ use Rattle.std.proofs.lemmas.Bool.{lt-leb}
 use Rattle.hns_encoding.specs.Numbers.{top}
 use Rattle.hns_encoding.specs.Laws.Tests.{choose}
 use Rattle.hns_encoding.specs.Sums.{count}
-use Rattle.hnsr_body.specs.declared.error.Checked.{Checked}
-use Rattle.hnsr_body.specs.declared.error.Checked.TheVariants.{Ok, Err}
+use Rattle.hnsr_body.specs.declared.error.HnsrProtocolError.{HnsrProtocolError}
+use Rattle.std.specs.Prelude.{Result, Err}
 use Rattle.hnsr_body.specs.Detail.{decode_detail}
 use Rattle.hnsr_circuit.specs.declared.peer.HnsrPeerId.{HnsrPeerId}
 use Rattle.hnsr_circuit.specs.declared.records.RelayPending.{RelayPending}
-use Rattle.hnsr_circuit.specs.declared.answer.HnsrAnswer.TheVariants.{Taken}
 use Rattle.hnsr_circuit.specs.declared.answer.HnsrRuntimeError.TheVariants.{InvalidAdmission}
 use Rattle.hnsr_circuit.specs.declared.answer.HnsrRuntimeError.TheVariants.{UnknownCircuit, WrongPeer}
 use Rattle.hnsr_circuit.specs.Answers.{number, check, body_answer, ◌then◌}
@@ -46,17 +45,19 @@ use Rattle.hnsr_run.specs.Run.Close.{ends-circuit, ended_open, ended-circuit}
 use Rattle.hnsr_run.specs.Run.Rel.{Rel, proceed-cases}
 
 -- ---- the rows
-close_rows_lem : (m : ℕ) (b : Checked) (x y u v : Bool) → eqb 0 m ≡ false → eqb 1 m ≡ false → eqb 11 m ≡ false
+close_rows_lem : (m : ℕ) (b : Result Unit HnsrProtocolError) (x y u v : Bool) → eqb 0 m ≡ false → eqb 1 m ≡ false
+    → eqb 11 m ≡ false
     → eqb 14 m ≡ false → eqb 15 m ≡ false
     → eqb (number
-    (body_answer b then (check x InvalidAdmission then cond y Taken (check u UnknownCircuit then check v WrongPeer)))) m
+    (body_answer b then (check x InvalidAdmission then cond y (Ok tt) (check u UnknownCircuit then check v WrongPeer))))
+    m
     ≡ false
 close_rows_lem m (Err c) x y u v z a d e f = a
-close_rows_lem m Ok true y u v z a d e f = d
-close_rows_lem m Ok false true u v z a d e f = z
-close_rows_lem m Ok false false true v z a d e f = e
-close_rows_lem m Ok false false false true z a d e f = f
-close_rows_lem m Ok false false false false z a d e f = z
+close_rows_lem m (Ok done) true y u v z a d e f = d
+close_rows_lem m (Ok done) false true u v z a d e f = z
+close_rows_lem m (Ok done) false false true v z a d e f = e
+close_rows_lem m (Ok done) false false false true z a d e f = f
+close_rows_lem m (Ok done) false false false false z a d e f = z
 
 never-closed : (w : World) (q : Packet) (m : ℕ) → eqb 0 m ≡ false → eqb 1 m ≡ false → eqb 11 m ≡ false
     → eqb 14 m ≡ false → eqb 15 m ≡ false
@@ -67,28 +68,28 @@ never-closed w q m z a b c d =
     (leb 1 (count (named_by (sender q) q.context) w.pending)) (not (has_circuit w q.context))
     (not (is_side (sender q) (named_circuit w q))) z a b c d
 
-one_only : (w : World) (q : Packet) → close_taken w q ≡ Taken
+one_only : (w : World) (q : Packet) → close_taken w q ≡ Ok tt
     → leb 2 (count (named_by (sender q) q.context) w.pending) ≡ false
 unfolding close_taken close_answer
 one_only w q e =
     let n = count (named_by (sender q) q.context) w.pending in
-    let rest = cond (leb 1 n) Taken (circuit_answer (has_circuit w q.context) (named_circuit w q) (sender q)) in
+    let rest = cond (leb 1 n) (Ok tt) (circuit_answer (has_circuit w q.context) (named_circuit w q) (sender q)) in
     check-taken (leb 2 n) InvalidAdmission
     (then_taken (check (leb 2 n) InvalidAdmission) rest
     (then_taken (detail_answer q) (check (leb 2 n) InvalidAdmission then rest) e).1).0
 
-then_circuit : (w : World) (q : Packet) → close_taken w q ≡ Taken
+then_circuit : (w : World) (q : Packet) → close_taken w q ≡ Ok tt
     → any (named_by (sender q) q.context) w.pending ≡ false
-    → circuit_answer (has_circuit w q.context) (named_circuit w q) (sender q) ≡ Taken
+    → circuit_answer (has_circuit w q.context) (named_circuit w q) (sender q) ≡ Ok tt
 unfolding close_taken close_answer
 then_circuit w q e f =
     let n = count (named_by (sender q) q.context) w.pending in
     let c = circuit_answer (has_circuit w q.context) (named_circuit w q) (sender q) in
-    let rest = cond (leb 1 n) Taken c in
+    let rest = cond (leb 1 n) (Ok tt) c in
     let k = (then_taken (check (leb 2 n) InvalidAdmission) rest
     (then_taken (detail_answer q) (check (leb 2 n) InvalidAdmission then rest) e).1).1 in
     sym
-    (ap (λ b. cond b Taken c) (lt-leb 1 n (omega (arith, none-count (named_by (sender q) q.context) w.pending f))))
+    (ap (λ b. cond b (Ok tt) c) (lt-leb 1 n (omega (arith, none-count (named_by (sender q) q.context) w.pending f))))
     ∙ k
 
 -- ---- the message

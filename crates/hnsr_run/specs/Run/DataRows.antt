@@ -1,5 +1,5 @@
 -- DATA's rows one by one, the action that it queues by the side that sends, and a circuit of which more is known.
-use Rattle.std.specs.Prelude.{ℕ, ◌+◌, ◌≤◌, ◌≡◌, true, false, cond, not, ◌||◌, List, ltb, eqb, length}
+use Rattle.std.specs.Prelude.{ℕ, ◌+◌, ◌≤◌, ◌≡◌, true, false, cond, not, ◌||◌, List, ltb, eqb, length, Ok}
 use Rattle.std.proofs.Common.{arith, sym, ap, ◌∙◌, eqb-true}
 use Rattle.std.proofs.lemmas.Bool.{not-false}
 use Rattle.hns_encoding.specs.Numbers.{top, saturating_add}
@@ -9,7 +9,6 @@ use Rattle.hnsr_body.specs.Data.{data_checked}
 use Rattle.hnsr_circuit.specs.declared.records.RelayCircuit.{RelayCircuit}
 use Rattle.hnsr_circuit.specs.declared.records.RelaySide.{RelaySide}
 use Rattle.hnsr_circuit.specs.declared.records.RelaySide.TheVariants.{Requester, Endpoint}
-use Rattle.hnsr_circuit.specs.declared.answer.HnsrAnswer.TheVariants.{Taken}
 use Rattle.hnsr_circuit.specs.declared.answer.HnsrRuntimeError.TheVariants.{InvalidAdmission, ByteLimit}
 use Rattle.hnsr_circuit.specs.declared.answer.HnsrRuntimeError.TheVariants.{FlowControl, UnknownCircuit, WrongPeer}
 use Rattle.hnsr_circuit.specs.Answers.{check, body_answer, ◌then◌}
@@ -70,7 +69,7 @@ known-rel {w} {h} R v j k sp out F B er ee H = record {
 
 -- ---- the circuit that a packet names
 pub named-active : {w : World} {h : Past} → Rel w h → (q : Packet) → (c : RelayCircuit)
-    → circuit_answer (has_circuit w q.context) c (sender q) ≡ Taken
+    → circuit_answer (has_circuit w q.context) c (sender q) ≡ Ok tt
     → h.active q.context ≡ true
 unfolding circuit_answer
 named-active {w} {h} R q c e = sym (circuit-there w h R.base.full q.context)
@@ -85,7 +84,7 @@ side_same q A = ap (λ p. cond {A = RelaySide} (same_peer p (sender q)) Requeste
 
 -- and the sender is a side of it
 pub named-side : (w : World) (q : Packet) {c : RelayCircuit} {k : Known} → Agrees c k
-    → circuit_answer (has_circuit w q.context) c (sender q) ≡ Taken
+    → circuit_answer (has_circuit w q.context) c (sender q) ≡ Ok tt
     → known_side (sender q) k ≡ true
 unfolding circuit_answer
 named-side w q {c} {k} A e = sym (λ i. same_peer (A.requester i) (sender q) || same_peer (A.endpoint i) (sender q))
@@ -96,9 +95,9 @@ named-side w q {c} {k} A e = sym (λ i. same_peer (A.requester i) (sender q) || 
 
 -- ---- DATA: what its rows say
 pub record DataRows (w : World) (q : Packet) (c : RelayCircuit) (side : RelaySide) (n : ℕ) : Type 0 where
-  pub size : body_answer (data_checked (length q.body)) ≡ Taken
-  pub circuit : circuit_answer (has_circuit w q.context) c (sender q) ≡ Taken
-  pub room : capacity_answer (config_of w) (tallied false q.context (receiver c (sender q)) w.inflight) ≡ Taken
+  pub size : body_answer (data_checked (length q.body)) ≡ Ok tt
+  pub circuit : circuit_answer (has_circuit w q.context) c (sender q) ≡ Ok tt
+  pub room : capacity_answer (config_of w) (tallied false q.context (receiver c (sender q)) w.inflight) ≡ Ok tt
   pub ledger : has_usage c.reservation_id w.ledger ≡ true
   pub circuit_bytes : ltb c.maximum_bytes (saturating_add 64 c.forwarded_bytes n) ≡ false
   pub total_bytes : ltb c.maximum_total_bytes
@@ -107,7 +106,7 @@ pub record DataRows (w : World) (q : Packet) (c : RelayCircuit) (side : RelaySid
   pub queue : ltb (config_of w).maximum_queue_bytes (saturating_add 64 (queued_to (other_side side) c) n) ≡ false
 
 pub data_rows_lem : (w : World) (q : Packet) (c : RelayCircuit) (side : RelaySide) (n : ℕ)
-    → data_taken w q c side n ≡ Taken
+    → data_taken w q c side n ≡ Ok tt
     → DataRows w q c side n
 unfolding data_taken bytes_answer flow_answer
 data_rows_lem w q c side n e =

@@ -2,6 +2,7 @@
 use Prim.Native.Nat.{ℕ, ◌+◌, ◌≤◌, ◌<◌}
 use Rattle.std.proofs.Common.{arith, sym, ap, ◌∙◌, inl, inr, ltb-false, le-ltb, eq-eqb}
 use Rattle.std.specs.Prelude.{◌≡◌, false, cond, not, ◌&&◌, ◌||◌, List, [], ◌∷◌, ◌++◌, map, ◌⊎◌, ltb, eqb, length}
+use Rattle.std.specs.Prelude.{Ok, Err}
 use Rattle.std.proofs.Math.Path.{refl, subst}
 use Rattle.std.proofs.Math.Bool.{Bool, true, and-false}
 use Rattle.std.proofs.Math.ListN.{length-append}
@@ -13,8 +14,7 @@ use Rattle.hnsr_circuit.specs.declared.records.RelaySide.{RelaySide}
 use Rattle.hnsr_circuit.specs.declared.records.RelaySide.TheVariants.{Requester, Endpoint}
 use Rattle.hnsr_circuit.specs.declared.records.RelayPending.{RelayPending}
 use Rattle.hnsr_circuit.specs.declared.records.RelayCircuit.{RelayCircuit}
-use Rattle.hnsr_circuit.specs.declared.answer.HnsrAnswer.{HnsrAnswer}
-use Rattle.hnsr_circuit.specs.declared.answer.HnsrAnswer.TheVariants.{Taken, Refused}
+use Rattle.hnsr_circuit.specs.Answers.{HnsrAnswer}
 use Rattle.hnsr_circuit.specs.Table.{any, place_of}
 use Rattle.hnsr_circuit.specs.Peer.{same_peer}
 use Rattle.hnsr_circuit.specs.Pending.{pending_id, pending_at, pending_of}
@@ -413,7 +413,7 @@ module _ (p : HnsrPeerId) where
   tell-shared h m v d a s k = by (can_queue (close_to PeerDisconnected d m) v)
     where
       by : (z : HnsrAnswer) → All (Shared h) (tell_if z (close_to PeerDisconnected d m) v).routes
-      by Taken = (
+      by (Ok _) = (
         (
           refl,
           join (h.active m) (known_side p (h.known m) && known_side d (h.known m)) a
@@ -421,7 +421,7 @@ module _ (p : HnsrPeerId) where
         ),
         tt,
       )
-      by (Refused e) = tt
+      by (Err e) = tt
 
   more_shared : {S : ℕ → Bool} (w : World) (h : Past) (m : ℕ) (rs : List Route) → Full S w h → h.active m ≡ true
       → known_side p (h.known m) ≡ true

@@ -1,12 +1,12 @@
 -- DATA where nothing is outstanding: the side that sends, the room, and that entry, clock and gate are passed.
-use Rattle.std.specs.Prelude.{ℕ, ◌≤◌, ◌≡◌, Bool, true, false, cond, ◌&&◌, ◌||◌, [], ltb, eqb, length}
+use Rattle.std.specs.Prelude.{ℕ, ◌≤◌, ◌≡◌, Bool, true, false, cond, ◌&&◌, ◌||◌, [], ltb, eqb, length, Ok}
 use Rattle.std.proofs.Common.{arith, sym, ◌∙◌, le-ltb, ne_eqb}
 use Rattle.std.proofs.Math.Path.{ap}
 use Rattle.std.proofs.Math.Bool.{not, or-true}
 use Rattle.hns_encoding.specs.Laws.Tests.{split, clash}
 use Rattle.hns_encoding.specs.Sums.{one, total, count}
 use Rattle.hns_encoding.specs.Laws.Sums.{total-le}
-use Rattle.hnsr_body.specs.declared.error.Checked.TheVariants.{Ok, Err}
+use Rattle.std.specs.Prelude.{Err}
 use Rattle.hnsr_body.specs.declared.error.HnsrInvalid.TheVariants.{ContextZero}
 use Rattle.hnsr_body.specs.declared.error.HnsrProtocolError.TheVariants.{Invalid, TooLarge}
 use Rattle.hnsr_body.specs.Packet.{packet_checked, packet_size, most_packet, sample_routes}
@@ -15,11 +15,9 @@ use Rattle.hnsr_circuit.specs.declared.config.OpaqueRelayConfig.{OpaqueRelayConf
 use Rattle.hnsr_circuit.specs.declared.records.RelayCircuit.{RelayCircuit}
 use Rattle.hnsr_circuit.specs.declared.records.RelaySide.{RelaySide}
 use Rattle.hnsr_circuit.specs.declared.records.RelaySide.TheVariants.{Requester, Endpoint}
-use Rattle.hnsr_circuit.specs.declared.answer.HnsrAnswer.{HnsrAnswer}
-use Rattle.hnsr_circuit.specs.declared.answer.HnsrAnswer.TheVariants.{Taken}
 use Rattle.hnsr_circuit.specs.declared.answer.HnsrRuntimeError.TheVariants.{Short, InvalidPeer, ClockRollback}
 use Rattle.hnsr_circuit.specs.declared.answer.HnsrRuntimeError.TheVariants.{Disabled, Capacity}
-use Rattle.hnsr_circuit.specs.Answers.{check, body_answer, ◌then◌}
+use Rattle.hnsr_circuit.specs.Answers.{HnsrAnswer, check, body_answer, ◌then◌}
 use Rattle.hnsr_circuit.specs.Table.{also}
 use Rattle.hnsr_circuit.specs.Peer.{same_peer}
 use Rattle.hnsr_circuit.specs.Circuits.{is_side, side_of, peer_at, credit_of}
@@ -67,7 +65,7 @@ peer-is Endpoint A = A.endpoint
 
 -- ---- room, where nothing is outstanding
 pub has_room : {w : World} {h : Past} → Rel w h → h.out ≡ [] → (j : ℕ) (p : HnsrPeerId)
-    → capacity_answer (config_of w) (tallied false j p w.inflight) ≡ Taken
+    → capacity_answer (config_of w) (tallied false j p w.inflight) ≡ Ok tt
 unfolding capacity_answer capacity_left tallied action_under action_toward
 has_room {w} {h} R e j p =
     let H = R.base.full.acts.held in
@@ -110,16 +108,16 @@ module _ {w : World} {h : Past} (R : Rel w h) (H : Places w) (q : Packet) (room 
   some-context : eqb q.context 0 ≡ false
   some-context = ap (λ x. eqb x 0) s.context ∙ R.base.full.real j active
 
-  packet-taken : packet_answer q.opcode q.context (length q.body) ≡ Taken
+  packet-taken : packet_answer q.opcode q.context (length q.body) ≡ Ok tt
   unfolding packet_answer packet_checked
   packet-taken =
       ap (λ b. body_answer (cond b (Err (TooLarge (packet_size (length q.body)) most_packet))
-      (cond (eqb q.context 0 && not (eqb q.opcode sample_routes)) (Err (Invalid ContextZero)) Ok)))
+      (cond (eqb q.context 0 && not (eqb q.opcode sample_routes)) (Err (Invalid ContextZero)) (Ok tt))))
       (le-ltb most_packet (packet_size (length q.body)) (omega (arith, s.fits)))
-      ∙ ap (λ b. body_answer (cond (b && not (eqb q.opcode sample_routes)) (Err (Invalid ContextZero)) Ok))
+      ∙ ap (λ b. body_answer (cond (b && not (eqb q.opcode sample_routes)) (Err (Invalid ContextZero)) (Ok tt)))
       some-context
 
-  entry-taken : (entry_answer w q room then clock_answer w.runtime.trusted_time_high_water q.now) ≡ Taken
+  entry-taken : (entry_answer w q room then clock_answer w.runtime.trusted_time_high_water q.now) ≡ Ok tt
   unfolding entry_answer peer_answer clock_answer
   entry-taken = taken_then (entry_answer w q room) (clock_answer w.runtime.trusted_time_high_water q.now)
       (taken_then (room_answer w room handle_words)

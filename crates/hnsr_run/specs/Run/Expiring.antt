@@ -1,6 +1,6 @@
 -- `expire` and next due, on any world: what a taken `expire` leaves behind is not over. And on one that has `Shape`:
 -- before next due nothing is over, so `expire` moves the clock and does nothing else.
-use Rattle.std.specs.Prelude.{ℕ, ◌≤◌, ◌≡◌, Bool, false, ◌&&◌, ◌||◌, ltb, set}
+use Rattle.std.specs.Prelude.{ℕ, ◌≤◌, ◌≡◌, Bool, false, ◌&&◌, ◌||◌, ltb, set, Ok}
 use Rattle.std.proofs.Common.{arith, ◌∙◌, leb-true, le-leb, le-ltb}
 use Rattle.std.proofs.Math.Path.{refl, ap}
 use Rattle.std.proofs.Math.Bool.{true}
@@ -12,10 +12,8 @@ use Rattle.hnsr_body.specs.declared.messages.Notice.TheVariants.{AcceptanceExpir
 use Rattle.hnsr_circuit.specs.declared.records.RelayPending.{RelayPending}
 use Rattle.hnsr_circuit.specs.declared.records.RelayCircuit.{RelayCircuit}
 use Rattle.hnsr_circuit.specs.declared.records.ReservationUsage.{ReservationUsage}
-use Rattle.hnsr_circuit.specs.declared.answer.HnsrAnswer.{HnsrAnswer}
-use Rattle.hnsr_circuit.specs.declared.answer.HnsrAnswer.TheVariants.{Taken}
 use Rattle.hnsr_circuit.specs.declared.answer.HnsrRuntimeError.TheVariants.{Short, ClockRollback}
-use Rattle.hnsr_circuit.specs.Answers.{check, ◌then◌}
+use Rattle.hnsr_circuit.specs.Answers.{HnsrAnswer, check, ◌then◌}
 use Rattle.hnsr_circuit.specs.Table.{any, pick, also}
 use Rattle.hnsr_circuit.specs.Pending.{no_pending, pending_id, is_pending, overdue, pending_over, clear_pending}
 use Rattle.hnsr_circuit.specs.Circuits.{no_circuit, circuit_id, is_circuit, circuit_over, clear_circuit}
@@ -133,10 +131,10 @@ module _ (now : ℕ) where
             (λ a e. e),
       )
 
-  taken-none-over : (w : World) (room : ℕ) → (step w (call_expire now room)).answer ≡ Taken
+  taken-none-over : (w : World) (room : ℕ) → (step w (call_expire now room)).answer ≡ Ok tt
       → NoneEndsBy (step w (call_expire now room)).world now
   unfolding step expire
-  taken-none-over w room = proceed-cases (λ (o : Outcome). o.answer ≡ Taken → NoneEndsBy o.world now) w
+  taken-none-over w room = proceed-cases (λ (o : Outcome). o.answer ≡ Ok tt → NoneEndsBy o.world now) w
       (room_answer w room (revoking_words w) then clock_answer w.runtime.trusted_time_high_water now)
       (expire_at w now) (λ e x. left-none-over w) (λ e f x. refused_differs x)
 

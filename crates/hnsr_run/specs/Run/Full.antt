@@ -1,5 +1,6 @@
 -- Actions, circuits, queues and pending records together, and what a message told does to them.
 use Rattle.std.specs.Prelude.{ℕ, ◌<◌, ◌≡◌, refl, Bool, true, false, cond, not, ◌&&◌, List, [], ◌∷◌, ◌++◌, map, eqb}
+use Rattle.std.specs.Prelude.{Ok, Err}
 use Rattle.std.proofs.Common.{arith, sym, ap, ◌∙◌, subst, append-nil, append_assoc, eqb-true, eq-eqb}
 use Rattle.hns_encoding.specs.Numbers.{top}
 use Rattle.hns_encoding.specs.Sums.{one, non, count}
@@ -9,12 +10,10 @@ use Rattle.hnsr_circuit.specs.declared.records.RelayPending.{RelayPending}
 use Rattle.hnsr_circuit.specs.declared.records.RelayCircuit.{RelayCircuit}
 use Rattle.hnsr_circuit.specs.declared.records.RelaySide.{RelaySide}
 use Rattle.hnsr_circuit.specs.declared.records.InflightAction.{InflightAction}
-use Rattle.hnsr_circuit.specs.declared.answer.HnsrAnswer.{HnsrAnswer}
-use Rattle.hnsr_circuit.specs.declared.answer.HnsrAnswer.TheVariants.{Taken, Refused}
 use Rattle.hnsr_circuit.specs.declared.answer.HnsrRuntimeError.TheVariants.{Protocol, GenerationExhausted}
 use Rattle.hnsr_body.specs.declared.error.HnsrInvalid.TheVariants.{ContextZero}
 use Rattle.hnsr_body.specs.declared.error.HnsrProtocolError.TheVariants.{Invalid}
-use Rattle.hnsr_circuit.specs.Answers.{check, ◌then◌}
+use Rattle.hnsr_circuit.specs.Answers.{HnsrAnswer, check, ◌then◌}
 use Rattle.hnsr_circuit.specs.Peer.{same_peer}
 use Rattle.hnsr_circuit.specs.Pending.{no_pending, pending_id, clear_pending}
 use Rattle.hnsr_circuit.specs.declared.records.InflightKind.TheVariants.{Data}
@@ -92,7 +91,7 @@ pub record Quiet (f : Route → Action) (m : Message) : Type 0 where
   pub plain : eqb (kind_number m.kind) (kind_number Data) ≡ false
   pub same : (g n : ℕ) → f (route_for m g n) ≡ view (action_for m g n)
 
-pub can-room : (m : Message) (w : World) → can_queue m w ≡ Taken
+pub can-room : (m : Message) (w : World) → can_queue m w ≡ Ok tt
     → count in_use w.inflight < (config_of w).maximum_inflight_actions
 unfolding can_queue queue_answer
 can-room m w h =
@@ -166,12 +165,12 @@ queue-full {S} w h m F Q l =
     })
 
 tell-if : {S : ℕ → Bool} {f : Route → Action} {u : World} (a : HnsrAnswer) (m : Message) (w : World) (h : Past)
-    → (a ≡ Taken → count in_use w.inflight < (config_of w).maximum_inflight_actions) → Keeps S u w h → Quiet f m
+    → (a ≡ Ok tt → count in_use w.inflight < (config_of w).maximum_inflight_actions) → Keeps S u w h → Quiet f m
     → Keeps S u (tell_if a m w).world (emit h f (tell_if a m w).routes)
 unfolding tell_if
-tell-if Taken m w h l K Q =
+tell-if (Ok _) m w h l K Q =
     record { full = queue-full w h m K.full Q (l refl); rest = rest_then K.rest (queued-rest m w) }
-tell-if {S} (Refused e) m w h l K Q = record { full = reout (sym (append-nil h.out)) K.full; rest = K.rest }
+tell-if {S} (Err e) m w h l K Q = record { full = reout (sym (append-nil h.out)) K.full; rest = K.rest }
 
 pub tell-keeps : {S : ℕ → Bool} {f : Route → Action} {u : World} (m : Message) (w : World) (h : Past) → Keeps S u w h
     → Quiet f m
@@ -197,8 +196,8 @@ tell-if-on : {f : Route → Action} (a : HnsrAnswer) (m : Message) (w : World) (
     → eqb m.circuit j ≡ true
     → count (non (on_circuit j)) (map f (tell_if a m w).routes) ≡ 0
 unfolding tell_if
-tell-if-on {f} Taken m w j Q e = rw (Q.same (generation_of w) (sequence_of w), e)
-tell-if-on (Refused x) m w j Q e = refl
+tell-if-on {f} (Ok _) m w j Q e = rw (Q.same (generation_of w) (sequence_of w), e)
+tell-if-on (Err x) m w j Q e = refl
 
 pub tell-on : {f : Route → Action} (m : Message) (w : World) (j : ℕ) → Quiet f m → eqb m.circuit j ≡ true
     → count (non (on_circuit j)) (map f (tell m w).routes) ≡ 0
@@ -222,8 +221,8 @@ pub record SameTables (w v : World) : Type 0 where
 
 tell-if-tables : (a : HnsrAnswer) (m : Message) (w : World) → SameTables w (tell_if a m w).world
 unfolding tell_if queued
-tell-if-tables Taken m w = record { pending = refl; circuits = refl; ledger = refl }
-tell-if-tables (Refused e) m w = record { pending = refl; circuits = refl; ledger = refl }
+tell-if-tables (Ok _) m w = record { pending = refl; circuits = refl; ledger = refl }
+tell-if-tables (Err e) m w = record { pending = refl; circuits = refl; ledger = refl }
 
 pub tell-tables : (m : Message) (w : World) → SameTables w (tell m w).world
 unfolding tell

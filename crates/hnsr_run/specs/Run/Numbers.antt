@@ -2,7 +2,7 @@
 -- at 1 again.
 use Prim.Native.Nat.{ℕ, zero, suc, ◌+◌}
 use Rattle.std.proofs.Common.{arith, sym, ap, ◌∙◌, length-append, eq-eqb, ne_eqb}
-use Rattle.std.specs.Prelude.{◌≡◌, refl, Bool, true, false, cond, List, [], ◌∷◌, ◌++◌, eqb, length}
+use Rattle.std.specs.Prelude.{◌≡◌, refl, Bool, true, false, cond, List, [], ◌∷◌, ◌++◌, eqb, length, Ok, Err}
 use Rattle.hns_encoding.specs.Laws.Tests.{choose}
 use Rattle.hnsr_body.specs.declared.messages.Notice.{Notice}
 use Rattle.hnsr_circuit.specs.declared.peer.HnsrPeerId.{HnsrPeerId}
@@ -10,8 +10,6 @@ use Rattle.hnsr_circuit.specs.declared.records.RelayPending.{RelayPending}
 use Rattle.hnsr_circuit.specs.declared.records.RelayCircuit.{RelayCircuit}
 use Rattle.hnsr_circuit.specs.declared.records.InflightAction.{InflightAction}
 use Rattle.hnsr_circuit.specs.declared.tables.scan.Walked.{Walked}
-use Rattle.hnsr_circuit.specs.declared.answer.HnsrAnswer.{HnsrAnswer}
-use Rattle.hnsr_circuit.specs.declared.answer.HnsrAnswer.TheVariants.{Taken, Refused}
 use Rattle.hnsr_circuit.specs.Table.{any, pick, not_yet, next}
 use Rattle.hnsr_circuit.specs.Pending.{no_pending, pending_id, named_by}
 use Rattle.hnsr_circuit.specs.Circuits.{circuit_id, circuit_at}
@@ -21,7 +19,7 @@ use Rattle.hnsr_circuit.specs.Route.{Route}
 use Rattle.hnsr_circuit.specs.World.{World, Outcome, done, proceed}
 use Rattle.hnsr_circuit.specs.Queue.{Message, generation_of, sequence_of, queued, routed}
 use Rattle.hnsr_circuit.specs.Queue.{can_queue, send, Sent, and_then, tell_if, tell}
-use Rattle.hnsr_circuit.specs.Answers.{◌then◌}
+use Rattle.hnsr_circuit.specs.Answers.{HnsrAnswer, ◌then◌}
 use Rattle.hnsr_circuit.specs.Entry.{room_answer, revoking_words}
 use Rattle.hnsr_circuit.specs.Packet.{Packet, sender, named_circuit}
 use Rattle.hnsr_circuit.specs.Open.{with_open, open_booked, open_granted, open_lapsed, handle_open}
@@ -83,8 +81,8 @@ CountedPart w s = Counts w s.world s.routes
 
 proceed-counts : (u w : World) (a : HnsrAnswer) (o : Outcome) → Counts u w [] → Counted u o → Counted u (proceed w a o)
 unfolding proceed
-proceed-counts u w Taken o s t = t
-proceed-counts u w (Refused e) o s t = s
+proceed-counts u w (Ok _) o s t = t
+proceed-counts u w (Err e) o s t = s
 
 send-counts : (w : World) (m : Message) → Counted w (send w m)
 unfolding send
@@ -92,8 +90,8 @@ send-counts w m = proceed-counts w w (can_queue m w) _ (stay w) (queued-counts m
 
 tell-if-counts : (a : HnsrAnswer) (m : Message) (w : World) → CountedPart w (tell_if a m w)
 unfolding tell_if
-tell-if-counts Taken m w = queued-counts m w (routed m w)
-tell-if-counts (Refused e) m w = stay w
+tell-if-counts (Ok _) m w = queued-counts m w (routed m w)
+tell-if-counts (Err e) m w = stay w
 
 tell-counts : (m : Message) (w : World) → CountedPart w (tell m w)
 unfolding tell
@@ -257,8 +255,8 @@ replace_numbered w expected on room =
         (λ e. same-generation w (done w []) (stay w))
 
     pass : (a : HnsrAnswer) → Numbered w (proceed w a (cond (changes w on) (switch_to w on) (done w [])))
-    pass Taken = rest
-    pass (Refused e) = same-generation w (done w []) (stay w)
+    pass (Ok _) = rest
+    pass (Err e) = same-generation w (done w []) (stay w)
 
 pub step-numbered : (w : World) (c : Call) → Numbered w (step w c)
 unfolding step status next_due observe_time handle handle_gate acknowledge acknowledge_action released disconnect

@@ -1,6 +1,6 @@
 -- OPEN keeps the invariant: refused, it may have dropped or made a ledger record; taken, an OPEN stands and INCOMING is
 -- queued.
-use Rattle.std.specs.Prelude.{ℕ, ◌+◌, ◌<◌, ◌≡◌, refl, Bool, true, false, cond}
+use Rattle.std.specs.Prelude.{ℕ, ◌+◌, ◌<◌, ◌≡◌, refl, Bool, true, false, cond, Ok, Err}
 use Rattle.std.specs.Prelude.{not, ◌&&◌, ◌||◌, [], leb, ltb, eqb, length}
 use Rattle.std.proofs.Common.{sym, ap, ◌∙◌, leb-false}
 use Rattle.std.proofs.lemmas.Bool.{not-false}
@@ -9,17 +9,15 @@ use Rattle.hns_encoding.specs.Laws.Tests.{split, choose, clash, neither}
 use Rattle.hns_encoding.specs.Sums.{count, non}
 use Rattle.hnsr_body.specs.declared.values.ReservationId.{ReservationId}
 use Rattle.hnsr_body.specs.Values.{same_reservation}
-use Rattle.hnsr_body.specs.declared.error.Checked.{Checked}
-use Rattle.hnsr_body.specs.declared.error.Checked.TheVariants.{Ok, Err}
+use Rattle.hnsr_body.specs.declared.error.HnsrProtocolError.{HnsrProtocolError}
+use Rattle.std.specs.Prelude.{Result}
 use Rattle.hnsr_body.specs.declared.error.HnsrProtocolError.TheVariants.{Admission}
 use Rattle.hnsr_body.specs.Open.{decode_open}
 use Rattle.hnsr_circuit.specs.declared.records.RelayTicket.{RelayTicket}
-use Rattle.hnsr_circuit.specs.declared.answer.HnsrAnswer.{HnsrAnswer}
-use Rattle.hnsr_circuit.specs.declared.answer.HnsrAnswer.TheVariants.{Taken, Refused}
 use Rattle.hnsr_circuit.specs.declared.answer.HnsrRuntimeError.{HnsrRuntimeError}
 use Rattle.hnsr_circuit.specs.declared.answer.HnsrRuntimeError.TheVariants.{Protocol, Capacity, Deadline}
 use Rattle.hnsr_circuit.specs.declared.answer.HnsrRuntimeError.TheVariants.{InvalidPeer, Randomness, LedgerFull}
-use Rattle.hnsr_circuit.specs.Answers.{error_number, number, check, body_answer, ◌then◌}
+use Rattle.hnsr_circuit.specs.Answers.{HnsrAnswer, error_number, number, check, body_answer, ◌then◌}
 use Rattle.hnsr_circuit.specs.Table.{any}
 use Rattle.hnsr_circuit.specs.Peer.{peer_good, same_peer}
 use Rattle.hnsr_circuit.specs.Pending.{requested_by}
@@ -48,7 +46,7 @@ pub record Admitted (w : World) (q : Packet) : Type 0 where
   pub granted : q.admission.admitted ≡ true
   pub unexpired : q.now < q.admission.ticket.expires_at
 
-pub admitted-rows : (w : World) (q : Packet) → open_admitted w q ≡ Taken → Admitted w q
+pub admitted-rows : (w : World) (q : Packet) → open_admitted w q ≡ Ok tt → Admitted w q
 unfolding open_admitted open_answer admission_answer
 admitted-rows w q e =
     let a = leb (config_of w).maximum_pending (pending_count w) in
@@ -75,11 +73,11 @@ admitted-rows w q e =
 pub record Placed (w : World) (q : Packet) (o : Opening) : Type 0 where
   pub apart : same_peer o.endpoint o.requester ≡ false
   pub drawn : (drawn w q.random).found ≡ true
-  pub room : capacity_answer (config_of w) (tallied false o.id o.endpoint w.inflight) ≡ Taken
+  pub room : capacity_answer (config_of w) (tallied false o.id o.endpoint w.inflight) ≡ Ok tt
   pub ledger : (not (has_usage o.ticket.reservation_id w.ledger)
       && leb (length w.ledger) (count is_usage w.ledger)) ≡ false
 
-pub placed-rows : (w : World) (q : Packet) (o : Opening) → open_placed w q o ≡ Taken → Placed w q o
+pub placed-rows : (w : World) (q : Packet) (o : Opening) → open_placed w q o ≡ Ok tt → Placed w q o
 unfolding open_placed endpoint_answer draw_answer ledger_answer
 placed-rows w q o e =
     let peer = peer_answer (length q.admission.endpoint) in
@@ -106,12 +104,12 @@ placed-rows w q o e =
     }
 
 -- neither row answers 18
-admitted-never : (x z : Bool) (b : Checked)
+admitted-never : (x z : Bool) (b : Result Unit HnsrProtocolError)
     → eqb (number (check x Capacity then body_answer b then check z (Protocol Admission))) 18 ≡ false
 admitted-never true z b = refl
 admitted-never false z (Err c) = refl
-admitted-never false true Ok = refl
-admitted-never false false Ok = refl
+admitted-never false true (Ok done) = refl
+admitted-never false false (Ok done) = refl
 
 pub never-admitted : (w : World) (q : Packet) → eqb (number (open_admitted w q)) 18 ≡ false
 unfolding open_admitted open_answer admission_answer
@@ -149,11 +147,11 @@ never_placed w q o = placed-never (not (peer_good (length q.admission.endpoint))
     (not (has_usage o.ticket.reservation_id w.ledger) && leb (length w.ledger) (count is_usage w.ledger))
 
 -- a refusal that is neither: the past stays
-pub stays : (w : World) (q : Packet) (h : Past) (a : HnsrAnswer) (e : HnsrRuntimeError) → a ≡ Refused e
+pub stays : (w : World) (q : Packet) (h : Past) (a : HnsrAnswer) (e : HnsrRuntimeError) → a ≡ Err e
     → eqb (number a) 18 ≡ false → Rel w h
-    → Rel w (open_in q (Refused e) [] h)
+    → Rel w (open_in q (Err e) [] h)
 stays w q h a e f n R =
-    if-not (λ (g : Past). Rel w g) (taken (Refused e)) _ _ (not_taken e)
+    if-not (λ (g : Past). Rel w g) (taken (Err e)) _ _ (not_taken e)
     (if-not (λ (g : Past). Rel w g) (eqb (error_number e) 18) _ h
     (ap (λ (x : HnsrAnswer). eqb (number x) 18) (sym f) ∙ n) R)
 

@@ -1,5 +1,6 @@
 -- OPEN keeps the invariant: its rows in order, what each refusal leaves, and the rest.
 use Rattle.std.specs.Prelude.{ℕ, ◌<◌, ◌≡◌, refl, Bool, true, false, cond, not, ◌||◌, List, [], ◌∷◌, leb, ltb, eqb}
+use Rattle.std.specs.Prelude.{Ok, Err}
 use Rattle.std.proofs.Common.{arith, sym, ap, ◌∙◌, true≢false, eqb-true, eq-eqb, lt-ltb}
 use Rattle.std.proofs.Math.Path.{subst}
 use Rattle.std.proofs.lemmas.Bool.{false≢true, not-false}
@@ -9,10 +10,9 @@ use Rattle.hns_encoding.specs.Sums.{count}
 use Rattle.hnsr_circuit.specs.declared.config.OpaqueRelayConfig.{OpaqueRelayConfig}
 use Rattle.hnsr_circuit.specs.declared.records.RelayTicket.{RelayTicket}
 use Rattle.hnsr_circuit.specs.declared.records.ReservationUsage.{ReservationUsage}
-use Rattle.hnsr_circuit.specs.declared.answer.HnsrAnswer.TheVariants.{Taken, Refused}
 use Rattle.hnsr_circuit.specs.declared.answer.HnsrRuntimeError.{HnsrRuntimeError}
 use Rattle.hnsr_circuit.specs.declared.answer.HnsrRuntimeError.TheVariants.{ByteLimit}
-use Rattle.hnsr_circuit.specs.Answers.{error_number, number, check}
+use Rattle.hnsr_circuit.specs.Answers.{HnsrAnswer, error_number, number, check}
 use Rattle.hnsr_circuit.specs.Table.{any}
 use Rattle.hnsr_circuit.specs.Peer.{peer_of}
 use Rattle.hnsr_circuit.specs.Pending.{is_pending, pending_at}
@@ -38,24 +38,24 @@ use Rattle.hnsr_run.specs.Run.Booking.{lives-remade, Free, draw_free}
 use Rattle.hnsr_run.specs.Run.Open.{Admitted, admitted-rows, Placed, placed-rows}
 use Rattle.hnsr_run.specs.Run.Open.{never-admitted, never_placed, stays, booked-rel}
 use Rattle.hnsr_run.specs.Run.Rel.{Live, Rel, Places, proceed-cases, if-not, not_taken, reledger}
-use Rattle.hnsr_run.specs.Run.Opening.{j, message, can, rel}
+use Rattle.hnsr_run.specs.Run.Opening.{message, can, rel}
 
 -- ---- the call
-check-number : (b : Bool) (x e : HnsrRuntimeError) → check b x ≡ Refused e
+check-number : (b : Bool) (x e : HnsrRuntimeError) → check b x ≡ Err e
     → eqb (error_number e) (error_number x) ≡ true
 check-number true x e f = eq-eqb (error_number e) (error_number x) (sym (ap number f))
 check-number false x e f = eq-eqb (error_number e) (error_number x) (absurd (true≢false (unlike f)))
   where
-    unlike : Taken ≡ Refused e → true ≡ false
+    unlike : ◌≡◌ {A = HnsrAnswer} (Ok tt) (Err e) → true ≡ false
     unlike h = cc
 
-usage_number : (t : RelayTicket) (u : ReservationUsage) (e : HnsrRuntimeError) → usage_answer t u ≡ Refused e
+usage_number : (t : RelayTicket) (u : ReservationUsage) (e : HnsrRuntimeError) → usage_answer t u ≡ Err e
     → eqb (error_number e) 18 ≡ true
 unfolding usage_answer
 usage_number t u e f =
     check-number (not (eqb u.expires_at t.expires_at) || leb t.max_total_bytes u.bytes) ByteLimit e f
 
-usage_expiry : (t : RelayTicket) (u : ReservationUsage) → usage_answer t u ≡ Taken → u.expires_at ≡ t.expires_at
+usage_expiry : (t : RelayTicket) (u : ReservationUsage) → usage_answer t u ≡ Ok tt → u.expires_at ≡ t.expires_at
 unfolding usage_answer
 usage_expiry t u e =
     eqb-true u.expires_at t.expires_at
@@ -137,7 +137,7 @@ module _ {w : World} {h : Past} (R : Rel w h) (H : Places w) (low : sequence_of 
       totalled = tot D.granted;
     }
 
-    finish : usage_answer ticket (usage_of ticket.reservation_id w₂.ledger) ≡ Taken
+    finish : usage_answer ticket (usage_of ticket.reservation_id w₂.ledger) ≡ Ok tt
         → let o = send (with_open w₂ o₁) (incoming_message o₁) in Rel o.world (open_in q o.answer o.routes h)
     unfolding message
     finish y =
@@ -186,9 +186,9 @@ module _ {w : World} {h : Past} (R : Rel w h) (H : Places w) (low : sequence_of 
             (routed (incoming_message o₁) (with_open w₂ o₁) ∷ []))) later r)
 
     booked_refused : (e : HnsrRuntimeError)
-        → usage_answer ticket (usage_of ticket.reservation_id w₂.ledger) ≡ Refused e
-        → Rel w₂ (open_in q (Refused e) [] h)
-    booked_refused e f = if-not (λ (g : Past). Rel w₂ g) (taken (Refused e)) _ _ (not_taken e)
+        → usage_answer ticket (usage_of ticket.reservation_id w₂.ledger) ≡ Err e
+        → Rel w₂ (open_in q (Err e) [] h)
+    booked_refused e f = if-not (λ (g : Past). Rel w₂ g) (taken (Err e)) _ _ (not_taken e)
         (subst (λ b. Rel w₂ (cond b (with_book h (remade q.now h.book ticket)) h))
         (sym (usage_number ticket (usage_of ticket.reservation_id w₂.ledger) e f))
         (subst (λ b. Rel w₂ (with_book h b)) later R₂))

@@ -1,5 +1,5 @@
 -- OPEN once its rows have passed: the pending record is written under a fresh id, and INCOMING queued.
-use Rattle.std.specs.Prelude.{ℕ, ◌<◌, ◌≡◌, false, ◌&&◌, ◌||◌, [], ◌∷◌}
+use Rattle.std.specs.Prelude.{ℕ, ◌<◌, ◌≡◌, false, ◌&&◌, ◌||◌, [], ◌∷◌, Ok}
 use Rattle.std.proofs.Common.{arith, ◌∙◌, true≢false}
 use Rattle.std.proofs.Math.Path.{refl, sym, ap, subst}
 use Rattle.std.proofs.Math.Bool.{true, cond, or-true}
@@ -9,7 +9,6 @@ use Rattle.hns_encoding.specs.Numbers.{top}
 use Rattle.hns_encoding.specs.Laws.Tests.{split, choose, clash, both, join}
 use Rattle.hns_encoding.specs.Sums.{count, non}
 use Rattle.hnsr_circuit.specs.declared.peer.HnsrPeerId.{HnsrPeerId}
-use Rattle.hnsr_circuit.specs.declared.answer.HnsrAnswer.TheVariants.{Taken}
 use Rattle.hnsr_circuit.specs.Table.{any, pick, put}
 use Rattle.hnsr_circuit.specs.Peer.{peer_bytes, same_peer}
 use Rattle.hnsr_circuit.specs.Pending.{no_pending, is_pending, pending_at, clear_pending, requester_names, requested_by}
@@ -33,7 +32,7 @@ module _ {w : World} {h : Past} (R : Rel w h) (H : Places w) (low : sequence_of 
     (unpending : any (pending_at o.id) w.pending ≡ false) (inactive : h.active o.id ≡ false)
     (some : eqb o.id 0 ≡ false) (few : count is_pending w.pending < (config_of w).maximum_pending)
     (new : any (requested_by o.requester o.context) w.pending ≡ false)
-    (has_room : capacity_answer (config_of w) (tallied false o.id o.endpoint w.inflight) ≡ Taken)
+    (has_room : capacity_answer (config_of w) (tallied false o.id o.endpoint w.inflight) ≡ Ok tt)
     (live : Live h.head.clock h.book k.ticket.reservation_id k.ticket.expires_at) where
   abbrev pub j : ℕ
   j = o.id
@@ -104,7 +103,7 @@ module _ {w : World} {h : Past} (R : Rel w h) (H : Places w) (low : sequence_of 
   some-context = some
 
   can-room : capacity_answer (config_of (with_open w o))
-      (tallied false message.circuit message.destination (with_open w o).inflight) ≡ Taken
+      (tallied false message.circuit message.destination (with_open w o).inflight) ≡ Ok tt
   unfolding with_open message incoming_message
   can-room = has_room
 

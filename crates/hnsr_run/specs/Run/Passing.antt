@@ -1,6 +1,6 @@
 -- DATA once nothing is outstanding passes unchanged if and only if it is within credit and within what circuit and
 -- reservation have left.
-use Rattle.std.specs.Prelude.{ℕ, ◌≤◌, ◌<◌, ◌≡◌, Bool, true, not, ◌||◌, [], ◌∷◌, leb, length}
+use Rattle.std.specs.Prelude.{ℕ, ◌≤◌, ◌<◌, ◌≡◌, Bool, true, not, ◌||◌, [], ◌∷◌, leb, length, Ok, Err}
 use native.Mathlib.Omega.{arith}
 use Rattle.std.proofs.Math.Path.{refl, sym, ap, subst}
 use Rattle.std.proofs.Common.{◌∙◌, le-leb, le-ltb, lt-ltb, ltb-false}
@@ -8,20 +8,17 @@ use Rattle.std.proofs.Math.Bool.{false}
 use Rattle.std.proofs.Math.Dec.{ltb, eqb}
 use Rattle.hns_encoding.specs.Numbers.{top, saturating_add}
 use Rattle.hns_encoding.specs.Laws.Tests.{join}
-use Rattle.hns_encoding.specs.Sums.{one, total}
-use Rattle.hnsr_body.specs.declared.error.Checked.TheVariants.{Ok}
+use Rattle.hns_encoding.specs.Sums.{total}
 use Rattle.hnsr_body.specs.declared.error.HnsrInvalid.TheVariants.{DataSize}
 use Rattle.hnsr_body.specs.Causes.{answer}
 use Rattle.hnsr_body.specs.Data.{most_data, data_checked}
 use Rattle.hnsr_circuit.specs.declared.config.OpaqueRelayConfig.{OpaqueRelayConfig}
 use Rattle.hnsr_circuit.specs.declared.records.RelayCircuit.{RelayCircuit}
 use Rattle.hnsr_circuit.specs.declared.records.RelaySide.{RelaySide}
-use Rattle.hnsr_circuit.specs.declared.answer.HnsrAnswer.{HnsrAnswer}
-use Rattle.hnsr_circuit.specs.declared.answer.HnsrAnswer.TheVariants.{Taken, Refused}
 use Rattle.hnsr_circuit.specs.declared.answer.HnsrRuntimeError.{HnsrRuntimeError}
 use Rattle.hnsr_circuit.specs.declared.answer.HnsrRuntimeError.TheVariants.{UnknownCircuit, WrongPeer}
 use Rattle.hnsr_circuit.specs.declared.answer.HnsrRuntimeError.TheVariants.{InvalidAdmission, ByteLimit, FlowControl}
-use Rattle.hnsr_circuit.specs.Answers.{check, body_answer, ◌then◌}
+use Rattle.hnsr_circuit.specs.Answers.{HnsrAnswer, check, body_answer, ◌then◌}
 use Rattle.hnsr_circuit.specs.Circuits.{is_side, side_of, other_side, peer_at, credit_of, queued_to}
 use Rattle.hnsr_circuit.specs.Ledger.{has_usage, usage_of}
 use Rattle.hnsr_circuit.specs.Inflight.{tallied, capacity_answer}
@@ -90,16 +87,16 @@ module _ {w : World} {h : Past} (R : Rel w h) (empty : h.out ≡ []) (low : sequ
         omega (arith, spent-is, A.total, s.some),
       )
 
-  answer-taken : (handle_data w q).answer ≡ Taken → data_taken w q c (side_of (sender q) c) n ≡ Taken
+  answer-taken : (handle_data w q).answer ≡ Ok tt → data_taken w q c (side_of (sender q) c) n ≡ Ok tt
   unfolding handle_data data_with c proceed
   answer-taken e =
       from (data_taken w q (named_circuit w q) (side_of (sender q) (named_circuit w q)) n)
       (send (with_data w q.context (named_circuit w q).reservation_id (side_of (sender q) (named_circuit w q)) n)
       (data_message q (named_circuit w q) (side_of (sender q) (named_circuit w q)) n)) e
     where
-      from : (a : HnsrAnswer) (o : Outcome) → (proceed w a o).answer ≡ Taken → a ≡ Taken
-      from Taken o h = refl
-      from (Refused x) o h = refused_differs h
+      from : (a : HnsrAnswer) (o : Outcome) → (proceed w a o).answer ≡ Ok tt → a ≡ Ok tt
+      from (Ok _) o h = refl
+      from (Err x) o h = refused_differs h
 
   pub only_if : Passes (handle_data w q) h j side q
       → (n ≤ credit side (h.known j)) × (n ≤ circuit_left (h.known j)) × (n ≤ total_left h.book (h.known j))
@@ -111,20 +108,20 @@ module _ {w : World} {h : Past} (R : Rel w h) (empty : h.out ≡ []) (low : sequ
   unfolding c
   queue_empty d = sym (R.base.full.queue.queued q.context refl here d) ∙ ap (total (weight q.context d)) empty
 
-  size-taken : body_answer (data_checked n) ≡ Taken
+  size-taken : body_answer (data_checked n) ≡ Ok tt
   unfolding data_checked
   size-taken =
-      ap (λ b. body_answer (answer Ok b DataSize))
+      ap (λ b. body_answer (answer (Ok tt) b DataSize))
       (join (leb 1 n) (leb n most_data) (le-leb 1 n s.some) (le-leb n most_data s.fits))
 
-  circuit-taken : circuit_answer (has_circuit w q.context) c (sender q) ≡ Taken
+  circuit-taken : circuit_answer (has_circuit w q.context) c (sender q) ≡ Ok tt
   unfolding circuit_answer
   circuit-taken =
       ap (λ b. check (not b) UnknownCircuit then check (not (is_side (sender q) c)) WrongPeer)
       (circuit-there w h R.base.full q.context ∙ here)
       ∙ ap (λ b. check (not b) WrongPeer) sides.1
 
-  two-tests : (a b : Bool) (e : HnsrRuntimeError) → a ≡ false → b ≡ false → check (a || b) e ≡ Taken
+  two-tests : (a b : Bool) (e : HnsrRuntimeError) → a ≡ false → b ≡ false → check (a || b) e ≡ Ok tt
   two-tests a b e x y = rw (x, y)
 
   module _
@@ -132,7 +129,7 @@ module _ {w : World} {h : Past} (R : Rel w h) (empty : h.out ≡ []) (low : sequ
       × (n ≤ circuit_left (h.known j))
       × (n ≤ total_left h.book (h.known j))) where
     bytes-taken : bytes_answer (has_usage c.reservation_id w.ledger) (usage_of c.reservation_id w.ledger)
-        c n ≡ Taken
+        c n ≡ Ok tt
     unfolding bytes_answer
     bytes-taken =
         ap (λ b. check (not b) InvalidAdmission
@@ -149,7 +146,7 @@ module _ {w : World} {h : Past} (R : Rel w h) (empty : h.out ≡ []) (low : sequ
         (top_within c.maximum_total_bytes (usage_of c.reservation_id w.ledger).bytes n
         (omega (arith, W.2, spent-is, A.total, s.some))))
 
-    flow_taken : (d : RelaySide) → d ≡ side → flow_answer (config_of w) c d n ≡ Taken
+    flow_taken : (d : RelaySide) → d ≡ side → flow_answer (config_of w) c d n ≡ Ok tt
     unfolding flow_answer
     flow_taken d e =
         two-tests (ltb (credit_of d c) n)
@@ -166,7 +163,7 @@ module _ {w : World} {h : Past} (R : Rel w h) (empty : h.out ≡ []) (low : sequ
               (λ (k : OpaqueRelayConfig). k.maximum_queue_bytes) R.base.heads.config,
         ))))
 
-    data_taken_lem : data_taken w q c (side_of (sender q) c) n ≡ Taken
+    data_taken_lem : data_taken w q c (side_of (sender q) c) n ≡ Ok tt
     unfolding data_taken
     data_taken_lem =
         let d = side_of (sender q) c in

@@ -1,6 +1,6 @@
 -- The whole invariant between a world and what the events tell, and the changes that most calls are made of: the clock,
 -- a refusal, records ended.
-use Rattle.std.specs.Prelude.{ℕ, ◌≤◌, ◌<◌, ◌≡◌, refl, Bool, true, false, cond}
+use Rattle.std.specs.Prelude.{ℕ, ◌≤◌, ◌<◌, ◌≡◌, refl, Bool, true, false, cond, Ok, Err}
 use Rattle.std.specs.Prelude.{List, [], ◌∷◌, ◌++◌, ◌⊎◌, ltb, eqb, length}
 use Rattle.std.proofs.Common.{arith, sym, ap, ◌∙◌, subst, true≢false, append-nil}
 use Rattle.std.proofs.Common.{inl, inr, eqb-true, ltb-true, lt-ltb, ne_eqb}
@@ -12,11 +12,9 @@ use Rattle.hnsr_body.specs.declared.error.HnsrProtocolError.TheVariants.{Invalid
 use Rattle.hnsr_circuit.specs.declared.peer.HnsrPeerId.{HnsrPeerId}
 use Rattle.hnsr_circuit.specs.declared.config.OpaqueRelayConfig.{OpaqueRelayConfig}
 use Rattle.hnsr_circuit.specs.declared.records.ReservationUsage.{ReservationUsage}
-use Rattle.hnsr_circuit.specs.declared.answer.HnsrAnswer.{HnsrAnswer}
-use Rattle.hnsr_circuit.specs.declared.answer.HnsrAnswer.TheVariants.{Taken, Refused}
 use Rattle.hnsr_circuit.specs.declared.answer.HnsrRuntimeError.{HnsrRuntimeError}
 use Rattle.hnsr_circuit.specs.declared.answer.HnsrRuntimeError.TheVariants.{Protocol, Capacity, GenerationExhausted}
-use Rattle.hnsr_circuit.specs.Answers.{error_number, check, ◌then◌}
+use Rattle.hnsr_circuit.specs.Answers.{HnsrAnswer, error_number, check, ◌then◌}
 use Rattle.hnsr_circuit.specs.Table.{any}
 use Rattle.hnsr_circuit.specs.Config.{config_good}
 use Rattle.hnsr_circuit.specs.Peer.{same_peer}
@@ -81,58 +79,58 @@ pub record Places (w : World) : Type 0 where
   pub inflight : (config_of w).maximum_inflight_actions ≤ length w.inflight
 
 -- ---- answers
-pub proceed-cases : (P : Outcome → Type 0) (w : World) (a : HnsrAnswer) (o : Outcome) → (a ≡ Taken → P o)
-    → ((e : HnsrRuntimeError) → a ≡ Refused e → P (refuse w e)) → P (proceed w a o)
+pub proceed-cases : (P : Outcome → Type 0) (w : World) (a : HnsrAnswer) (o : Outcome) → (a ≡ Ok tt → P o)
+    → ((e : HnsrRuntimeError) → a ≡ Err e → P (refuse w e)) → P (proceed w a o)
 unfolding proceed
-proceed-cases P w Taken o t f = t refl
-proceed-cases P w (Refused e) o t f = f e refl
+proceed-cases P w (Ok _) o t f = t refl
+proceed-cases P w (Err e) o t f = f e refl
 
-refused_not : {e : HnsrRuntimeError} → Refused e ≡ Taken → true ≡ false
+refused_not : {e : HnsrRuntimeError} → ◌≡◌ {A = HnsrAnswer} (Err e) (Ok tt) → true ≡ false
 refused_not h = cc
 
-pub refused_differs : {A : Type 0} {e : HnsrRuntimeError} → Refused e ≡ Taken → A
+pub refused_differs : {A : Type 0} {e : HnsrRuntimeError} → ◌≡◌ {A = HnsrAnswer} (Err e) (Ok tt) → A
 refused_differs h = absurd (true≢false (refused_not h))
 
 pub not_taken : (e : HnsrRuntimeError) → eqb (error_number e) 0 ≡ false
 not_taken e =
     split (eqb (error_number e) 0)
-    (λ t. refused_differs (number-zero (Refused e) (eqb-true (error_number e) 0 t)))
+    (λ t. refused_differs (number-zero (Err e) (eqb-true (error_number e) 0 t)))
     (λ t. t)
 
 pub if-not : {A : Type 0} (P : A → Type 0) (b : Bool) (x y : A) → b ≡ false → P y → P (cond b x y)
 if-not P b x y e p = subst (λ b. P (cond b x y)) (sym e) p
 
 -- a refused call that leaves the past alone
-pub if-taken : {A : Type 0} (P : A → Type 0) (e : HnsrRuntimeError) (x y : A) → P y → P (cond (taken (Refused e)) x y)
+pub if-taken : {A : Type 0} (P : A → Type 0) (e : HnsrRuntimeError) (x y : A) → P y → P (cond (taken (Err e)) x y)
 if-taken P e x y p = subst (λ b. P (cond b x y)) (sym (not_taken e)) p
 
 -- ---- queueing: 10 alone refuses, where the context is not zero and the sequence is below its top
 queue-cases : (b : Bool) (n : ℕ) (x : Bool) → b ≡ false → eqb n (top 64) ≡ false
     → ((check b (Protocol (Invalid ContextZero)) then check x Capacity then check (eqb n (top 64)) GenerationExhausted)
-    ≡ Taken)
+    ≡ Ok tt)
     ⊎ ((check b (Protocol (Invalid ContextZero)) then check x Capacity then check (eqb n (top 64)) GenerationExhausted)
-    ≡ Refused Capacity)
+    ≡ Err Capacity)
 queue-cases b n true e f = rw e (inr refl)
 queue-cases b n false e f = rw (e, f) (inl refl)
 
 pub can-or-full : (m : Message) (w : World) → eqb m.context 0 ≡ false → sequence_of w < top 64
-    → (can_queue m w ≡ Taken) ⊎ (can_queue m w ≡ Refused Capacity)
+    → (can_queue m w ≡ Ok tt) ⊎ (can_queue m w ≡ Err Capacity)
 unfolding can_queue queue_answer capacity_answer
 can-or-full m w e l =
     queue-cases (eqb m.context 0) (sequence_of w)
     (eqb (capacity_left (config_of w) (tallied false m.circuit m.destination w.inflight)) 0) e
     (ne_eqb (sequence_of w) (top 64) (λ q. omega arith))
 
-send-full : (w : World) (m : Message) → can_queue m w ≡ Refused Capacity → send w m ≡ refuse w Capacity
+send-full : (w : World) (m : Message) → can_queue m w ≡ Err Capacity → send w m ≡ refuse w Capacity
 unfolding send proceed
 send-full w m h = rw h
 
 -- sent, or refused with 10
 pub send-cases : (P : Outcome → Type 0) (w : World) (m : Message) → eqb m.context 0 ≡ false → sequence_of w < top 64
-    → (can_queue m w ≡ Taken → P (done (queued m w) (routed m w ∷ []))) → P (refuse w Capacity) → P (send w m)
+    → (can_queue m w ≡ Ok tt → P (done (queued m w) (routed m w ∷ []))) → P (refuse w Capacity) → P (send w m)
 send-cases P w m e l t f = pick-one (can-or-full m w e l)
   where
-    pick-one : (can_queue m w ≡ Taken) ⊎ (can_queue m w ≡ Refused Capacity) → P (send w m)
+    pick-one : (can_queue m w ≡ Ok tt) ⊎ (can_queue m w ≡ Err Capacity) → P (send w m)
     pick-one (inl h) = subst P (sym (send-taken w m h)) (t h)
     pick-one (inr h) = subst P (sym (send-full w m h)) f
 

@@ -1,5 +1,5 @@
 -- Disconnect, revoke_reservation and expire keep the invariant.
-use Rattle.std.specs.Prelude.{ℕ, ◌+◌, ◌≤◌, ◌<◌, ◌≡◌, refl, Bool, true, false}
+use Rattle.std.specs.Prelude.{ℕ, ◌+◌, ◌≤◌, ◌<◌, ◌≡◌, refl, Bool, true, false, Ok}
 use Rattle.std.specs.Prelude.{cond, not, ◌&&◌, ◌||◌, List, [], leb, ltb, length}
 use Rattle.std.proofs.Common.{arith, sym, ap, ◌∙◌, subst, true≢false, eqb-true, ltb-false}
 use Rattle.std.proofs.lemmas.Bool.{false≢true, not-true}
@@ -15,7 +15,6 @@ use Rattle.hnsr_body.specs.declared.messages.Notice.TheVariants.{AcceptanceExpir
 use Rattle.hnsr_circuit.specs.declared.peer.HnsrPeerId.{HnsrPeerId}
 use Rattle.hnsr_circuit.specs.declared.records.RelaySide.{RelaySide}
 use Rattle.hnsr_circuit.specs.declared.records.RelaySide.TheVariants.{Requester, Endpoint}
-use Rattle.hnsr_circuit.specs.declared.answer.HnsrAnswer.TheVariants.{Taken}
 use Rattle.hnsr_circuit.specs.declared.answer.HnsrRuntimeError.TheVariants.{ClockRollback}
 use Rattle.hnsr_circuit.specs.Answers.{◌then◌}
 use Rattle.hnsr_circuit.specs.Peer.{peer_of, same_peer}
@@ -36,7 +35,7 @@ use Rattle.hnsr_circuit.specs.Laws.Peer.{same_names, names_same}
 use Rattle.hnsr_circuit.specs.Laws.Answers.{then_taken, check-taken}
 use Rattle.hnsr_circuit.specs.Laws.Keyed.{same_comm}
 use Rattle.hnsr_run.specs.Past.{Known, Book, Action, Past, peer_on, is_data, on_circuit, toward}
-use Rattle.hnsr_run.specs.Past.{toward_side, weight, without, with_book, moved_to, lives, unmade}
+use Rattle.hnsr_run.specs.Past.{toward_side, weight, without, with_book, moved_to, unmade}
 use Rattle.hnsr_run.specs.History.{asked_side, known_side, revoked, about, heard_on_leaving}
 use Rattle.hnsr_run.specs.History.{asked_under, known_under, asked_over, known_over, after}
 use Rattle.hnsr_run.specs.Run.Actions.{drop-acts}
@@ -186,7 +185,7 @@ revoke-keeps {w} {h} R id room =
     (λ e f. if-taken (λ (g : Past). Rel w g) e _ h R)
 
 -- ---- expire
-pub clock-taken : (high now : ℕ) → clock_answer high now ≡ Taken → high ≤ now
+pub clock-taken : (high now : ℕ) → clock_answer high now ≡ Ok tt → high ≤ now
 unfolding clock_answer
 clock-taken high now e = ltb-false now high (check-taken (ltb now high) ClockRollback e)
 

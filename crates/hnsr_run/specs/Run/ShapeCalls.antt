@@ -1,12 +1,13 @@
 -- `handle` keeps the invariant of the world alone, whatever it answers: OPEN, ACCEPT, DATA, WINDOW, CLOSE and ERROR.
 use Rattle.std.specs.Prelude.{ℕ, ◌+◌, ◌≤◌, ◌<◌, ◌≡◌, refl, Bool, true, false, cond, not, ◌&&◌, List, leb, ltb, length}
+use Rattle.std.specs.Prelude.{Ok}
 use Rattle.std.proofs.Common.{arith, sym, ap, subst, length-set, leb-true, ltb-false, eqb-true}
 use Rattle.std.proofs.lemmas.Bool.{false≢true, not-false}
 use Rattle.hns_encoding.specs.Laws.Tests.{split, choose, both, neither, cond-le}
 use Rattle.hns_encoding.specs.Sums.{one, count}
 use Rattle.hnsr_body.specs.declared.values.ReservationId.{ReservationId}
-use Rattle.hnsr_body.specs.declared.error.Checked.{Checked}
-use Rattle.hnsr_body.specs.declared.error.Checked.TheVariants.{Ok, Err}
+use Rattle.hnsr_body.specs.declared.error.HnsrProtocolError.{HnsrProtocolError}
+use Rattle.std.specs.Prelude.{Result, Err}
 use Rattle.hnsr_body.specs.declared.error.HnsrInvalid.{HnsrInvalid}
 use Rattle.hnsr_body.specs.declared.error.HnsrInvalid.TheVariants.{AcceptResponse}
 use Rattle.hnsr_body.specs.declared.accept_body.AcceptBody.{AcceptBody}
@@ -21,7 +22,6 @@ use Rattle.hnsr_circuit.specs.declared.records.RelayCircuit.{RelayCircuit}
 use Rattle.hnsr_circuit.specs.declared.records.RelaySide.{RelaySide}
 use Rattle.hnsr_circuit.specs.declared.records.RelaySide.TheVariants.{Requester, Endpoint}
 use Rattle.hnsr_circuit.specs.declared.records.ReservationUsage.{ReservationUsage}
-use Rattle.hnsr_circuit.specs.declared.answer.HnsrAnswer.TheVariants.{Taken}
 use Rattle.hnsr_circuit.specs.declared.answer.HnsrRuntimeError.TheVariants.{FlowControl, InvalidPeer}
 use Rattle.hnsr_circuit.specs.Answers.{body_answer}
 use Rattle.hnsr_circuit.specs.Table.{any, pick, put, edit}
@@ -62,7 +62,7 @@ use Rattle.hnsr_run.specs.Run.ShapeParts.{Recounted, recounted_shape, ledger_sha
 use Rattle.hnsr_run.specs.Run.ShapeParts.{send_shape, pending-unmarked, end_pending_shape, end_circuit_shape}
 
 -- ---- names that were tested
-good-name : (n : ℕ) → peer_answer n ≡ Taken → peer_good n ≡ true
+good-name : (n : ℕ) → peer_answer n ≡ Ok tt → peer_good n ≡ true
 unfolding peer_answer
 good-name n e = not-false (peer_good n) (check-taken (not (peer_good n)) InvalidPeer e)
 
@@ -135,7 +135,7 @@ open_id : (id : ℕ) (o : Opening) → pending_at id (pending_for o) ≡ true �
 unfolding pending_at
 open_id id o e = eqb-true o.id id e
 
-endpoint-good : (w : World) (q : Packet) (o : Opening) → open_placed w q o ≡ Taken
+endpoint-good : (w : World) (q : Packet) (o : Opening) → open_placed w q o ≡ Ok tt
     → peer_good (length q.admission.endpoint) ≡ true
 unfolding open_placed
 endpoint-good w q o e = good-name (length q.admission.endpoint)
@@ -194,14 +194,15 @@ open_shape w q good S =
     (named-by q.admission.endpoint (endpoint-good v q o b)) (omega arith)))))
 
 -- ---- ACCEPT
-body-good : (laid : Checked) (good : Bool) (text : HnsrInvalid) → body_answer (answer laid good text) ≡ Taken
+body-good : (laid : Result Unit HnsrProtocolError) (good : Bool) (text : HnsrInvalid)
+    → body_answer (answer laid good text) ≡ Ok tt
     → good ≡ true
 body-good (Err cause) good text h = cc
-body-good Ok true text h = refl
-body-good Ok false text h = cc
+body-good (Ok done) true text h = refl
+body-good (Ok done) false text h = cc
 
 -- the window that is accepted is a window (BODY.5)
-accepted_most : (w : World) (q : Packet) (p : RelayPending) → accept_taken w q p (accept_fields q.body) ≡ Taken
+accepted_most : (w : World) (q : Packet) (p : RelayPending) → accept_taken w q p (accept_fields q.body) ≡ Ok tt
     → (accept_fields q.body).accepted_window ≤ most_window
 unfolding accept_taken decode_accept accept_good
 accepted_most w q p e =
@@ -326,7 +327,7 @@ raised-credit Endpoint Requester n most c new old = new
 raised-credit Endpoint Endpoint n most c new old = old
 
 credit-most : (w : World) (q : Packet) (c : RelayCircuit) (from : RelaySide) (delta : ℕ)
-    → window_taken w q c from delta ≡ Taken → credit_of (other_side from) c + delta ≤ most_window
+    → window_taken w q c from delta ≡ Ok tt → credit_of (other_side from) c + delta ≤ most_window
 unfolding window_taken credit_answer
 credit-most w q c from delta e =
     let body = body_answer (decode_window q.body).result in
@@ -364,7 +365,7 @@ dispatch_shape CLOSE w q good S = close_shape w q S
 dispatch_shape ERROR w q good S = close_shape w q S
 dispatch_shape other w q good S = S
 
-entry-good : (w : World) (q : Packet) (room : ℕ) → entry_answer w q room ≡ Taken → peer_good (length q.source) ≡ true
+entry-good : (w : World) (q : Packet) (room : ℕ) → entry_answer w q room ≡ Ok tt → peer_good (length q.source) ≡ true
 unfolding entry_answer
 entry-good w q room e =
     good-name (length q.source) (then_taken (peer_answer (length q.source)) _

@@ -2,7 +2,7 @@
 -- revocations, walks.
 use Prim.Native.Nat.{ℕ, zero, suc, ◌≤◌}
 use Rattle.std.proofs.Common.{arith, sym, ap, ◌∙◌, subst, length-set}
-use Rattle.std.specs.Prelude.{◌≡◌, refl, Bool, true, false, ◌&&◌, List, eqb, length}
+use Rattle.std.specs.Prelude.{◌≡◌, refl, Bool, true, false, ◌&&◌, List, eqb, length, Ok, Err}
 use Rattle.hns_encoding.specs.Sums.{count}
 use Rattle.hnsr_body.specs.declared.values.ReservationId.{ReservationId}
 use Rattle.hnsr_body.specs.declared.messages.Notice.{Notice}
@@ -14,8 +14,7 @@ use Rattle.hnsr_circuit.specs.declared.records.RelayCircuit.{RelayCircuit}
 use Rattle.hnsr_circuit.specs.declared.records.RelaySide.{RelaySide}
 use Rattle.hnsr_circuit.specs.declared.records.ReservationUsage.{ReservationUsage}
 use Rattle.hnsr_circuit.specs.declared.tables.scan.Walked.{Walked}
-use Rattle.hnsr_circuit.specs.declared.answer.HnsrAnswer.{HnsrAnswer}
-use Rattle.hnsr_circuit.specs.declared.answer.HnsrAnswer.TheVariants.{Taken, Refused}
+use Rattle.hnsr_circuit.specs.Answers.{HnsrAnswer}
 use Rattle.hnsr_circuit.specs.Table.{pick, edit, not_yet, next}
 use Rattle.hnsr_circuit.specs.Pending.{no_pending, pending_id, is_pending, pending_at, clear_pending}
 use Rattle.hnsr_circuit.specs.Circuits.{no_circuit, circuit_id, is_circuit, circuit_at, credit_of, clear_circuit}
@@ -137,11 +136,11 @@ recounted_shape w p g S moves credits =
         }
 
 -- ---- answers and messages
-pub proceed_shape : (w : World) (a : HnsrAnswer) (o : Outcome) → Shape w → (a ≡ Taken → Shape o.world)
+pub proceed_shape : (w : World) (a : HnsrAnswer) (o : Outcome) → Shape w → (a ≡ Ok tt → Shape o.world)
     → Shape (proceed w a o).world
 unfolding proceed
-proceed_shape w Taken o S t = t refl
-proceed_shape w (Refused e) o S t = S
+proceed_shape w (Ok _) o S t = t refl
+proceed_shape w (Err e) o S t = S
 
 queued_shape : (m : Message) (w : World) → Shape w → Shape (queued m w)
 unfolding queued
@@ -153,8 +152,8 @@ send_shape w m S = proceed_shape w _ _ S (λ e. queued_shape m w S)
 
 tell_if_shape : (a : HnsrAnswer) (m : Message) (w : World) → Shape w → Shape (tell_if a m w).world
 unfolding tell_if
-tell_if_shape Taken m w S = queued_shape m w S
-tell_if_shape (Refused e) m w S = S
+tell_if_shape (Ok _) m w S = queued_shape m w S
+tell_if_shape (Err e) m w S = S
 
 tell_shape : (m : Message) (w : World) → Shape w → Shape (tell m w).world
 unfolding tell

@@ -1,6 +1,6 @@
 -- Every call keeps the invariant of the world alone, whatever it answers, 6 included; a taken `new` starts it; so the
 -- world that any list of calls leaves has it.
-use Rattle.std.specs.Prelude.{ℕ, zero, suc, ◌≤◌, ◌<◌, ◌≡◌, refl, Bool, true, false}
+use Rattle.std.specs.Prelude.{ℕ, zero, suc, ◌≤◌, ◌<◌, ◌≡◌, refl, Bool, true, false, Ok, Err}
 use Rattle.std.specs.Prelude.{not, ◌||◌, List, [], ◌∷◌, ltb, eqb, length, get_or}
 use Rattle.std.proofs.Common.{arith, sym, subst, ltb-false}
 use Rattle.std.proofs.lemmas.Bool.{eqb-false, not-false}
@@ -12,10 +12,8 @@ use Rattle.hnsr_circuit.specs.declared.records.RelaySide.TheVariants.{Requester,
 use Rattle.hnsr_circuit.specs.declared.records.InflightAction.{InflightAction}
 use Rattle.hnsr_circuit.specs.declared.records.InflightKind.{InflightKind}
 use Rattle.hnsr_circuit.specs.declared.records.InflightKind.TheVariants.{Incoming, Opened, Data, Control, Close}
-use Rattle.hnsr_circuit.specs.declared.answer.HnsrAnswer.{HnsrAnswer}
-use Rattle.hnsr_circuit.specs.declared.answer.HnsrAnswer.TheVariants.{Taken, Refused}
 use Rattle.hnsr_circuit.specs.declared.answer.HnsrRuntimeError.TheVariants.{InvalidSession, InvalidConfig, Short}
-use Rattle.hnsr_circuit.specs.Answers.{check, ◌then◌}
+use Rattle.hnsr_circuit.specs.Answers.{HnsrAnswer, check, ◌then◌}
 use Rattle.hnsr_circuit.specs.Table.{pick, clear}
 use Rattle.hnsr_circuit.specs.Config.{config_good, validate_config}
 use Rattle.hnsr_circuit.specs.Runtime.{new_runtime}
@@ -141,19 +139,19 @@ step_shape w (call_expire now room) S = proceed_shape w _ _ S (λ e.
     revoke_all_shape _ _ _ _ _ (revoke_pending_shape _) (revoke_there_shape _) (lapsed_shape (at_time w now) now S))
 
 -- ---- `new`: its rows, and tables in which no place is used
-proceed-taken : (w : World) (a : HnsrAnswer) (o : Outcome) → (proceed w a o).answer ≡ Taken → a ≡ Taken
+proceed-taken : (w : World) (a : HnsrAnswer) (o : Outcome) → (proceed w a o).answer ≡ Ok tt → a ≡ Ok tt
 unfolding proceed
-proceed-taken w Taken o h = refl
-proceed-taken w (Refused x) o h = h
+proceed-taken w (Ok _) o h = refl
+proceed-taken w (Err x) o h = h
 
-new-taken : (w : World) (s : Start) → (start w s).answer ≡ Taken
-    → new_answer w s.session s.generation s.config ≡ Taken
+new-taken : (w : World) (s : Start) → (start w s).answer ≡ Ok tt
+    → new_answer w s.session s.generation s.config ≡ Ok tt
 unfolding start new_relay
 new-taken w s e =
     proceed-taken w (new_answer w s.session s.generation s.config)
     (done (emptied w (new_runtime s.session s.generation s.config s.now)) []) e
 
-new-world : (w : World) (s : Start) → new_answer w s.session s.generation s.config ≡ Taken
+new-world : (w : World) (s : Start) → new_answer w s.session s.generation s.config ≡ Ok tt
     → (start w s).world ≡ emptied w (new_runtime s.session s.generation s.config s.now)
 unfolding start new_relay proceed
 new-world w s e = rw e
@@ -167,7 +165,7 @@ record NewRows (w : World) (s : Start) : Type 0 where
   inflight : s.config.maximum_inflight_actions ≤ length w.inflight
   ledger : 0 < length w.ledger
 
-new-rows : (w : World) (s : Start) → new_answer w s.session s.generation s.config ≡ Taken → NewRows w s
+new-rows : (w : World) (s : Start) → new_answer w s.session s.generation s.config ≡ Ok tt → NewRows w s
 unfolding new_answer session_answer validate_config tables_short too_few
 new-rows w s e =
     let c = s.config in
@@ -235,7 +233,7 @@ empty_shape w s D = record {
   actions = omega (arith, D.inflight, length-dropped is_action w.inflight);
 }
 
-pub start_shape : (w : World) (s : Start) → (start w s).answer ≡ Taken → Shape (start w s).world
+pub start_shape : (w : World) (s : Start) → (start w s).answer ≡ Ok tt → Shape (start w s).world
 start_shape w s e = let t = new-taken w s e in subst Shape (sym (new-world w s t)) (empty_shape w s (new-rows w s t))
 
 -- ---- a run
@@ -244,7 +242,7 @@ unfolding left_by
 calls_shape [] w S = S
 calls_shape (c ∷ cs) w S = calls_shape cs (step w c).world (step_shape w c S)
 
-pub run_shape : (w : World) (s : Start) (cs : List Call) → (start w s).answer ≡ Taken
+pub run_shape : (w : World) (s : Start) (cs : List Call) → (start w s).answer ≡ Ok tt
     → Shape (left_by (start w s).world cs)
 run_shape w s cs e = calls_shape cs (start w s).world (start_shape w s e)
 

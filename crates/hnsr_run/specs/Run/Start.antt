@@ -1,5 +1,5 @@
 -- A taken `new` starts the invariant; and over a run the tables stay as long as they were.
-use Rattle.std.specs.Prelude.{ℕ, ◌≤◌, ◌<◌, ◌≡◌, Bool, not, ◌&&◌, ◌||◌, List, [], ltb, eqb, length}
+use Rattle.std.specs.Prelude.{ℕ, ◌≤◌, ◌<◌, ◌≡◌, Bool, not, ◌&&◌, ◌||◌, List, [], ltb, eqb, length, Ok, Err}
 use native.Mathlib.Omega.{arith}
 use Rattle.std.proofs.Math.Path.{refl}
 use Rattle.std.proofs.Common.{sym, ap, ◌∙◌, subst, true≢false, ltb-false}
@@ -10,10 +10,8 @@ use Rattle.hns_encoding.specs.Laws.Tests.{choose, neither}
 use Rattle.hns_encoding.specs.Sums.{one, count}
 use Rattle.hns_encoding.specs.Laws.Sums.{total-map, total-zero}
 use Rattle.hnsr_circuit.specs.declared.config.OpaqueRelayConfig.{OpaqueRelayConfig}
-use Rattle.hnsr_circuit.specs.declared.answer.HnsrAnswer.{HnsrAnswer}
-use Rattle.hnsr_circuit.specs.declared.answer.HnsrAnswer.TheVariants.{Taken, Refused}
 use Rattle.hnsr_circuit.specs.declared.answer.HnsrRuntimeError.TheVariants.{Short, InvalidConfig}
-use Rattle.hnsr_circuit.specs.Answers.{check, ◌then◌}
+use Rattle.hnsr_circuit.specs.Answers.{HnsrAnswer, check, ◌then◌}
 use Rattle.hnsr_circuit.specs.Table.{any, clear, cleared}
 use Rattle.hnsr_circuit.specs.Config.{config_good, validate_config}
 use Rattle.hnsr_circuit.specs.Pending.{is_pending, pending_at, clear_pending}
@@ -30,7 +28,6 @@ use Rattle.hnsr_circuit.specs.Laws.Answers.{then_taken, check-taken}
 use Rattle.hnsr_circuit.specs.Laws.Lookups.{count_none}
 use Rattle.hnsr_circuit.specs.Laws.Marks.{clear-total, clear-length}
 use Rattle.hnsr_run.specs.History.{begin}
-use Rattle.hnsr_run.specs.Claim.{below}
 use Rattle.hnsr_run.specs.Run.Actions.{view}
 use Rattle.hnsr_run.specs.Run.Rel.{Rel, Places, refused_differs}
 
@@ -51,18 +48,18 @@ module _ {A : Type 0} (used : A → Bool) (unmark : A → A) (off : (a : A) → 
 unused : (u b : Bool) → u ≡ false → (u && b) ≡ false
 unused u b e = ap (λ x. x && b) e
 
-new-taken : (w : World) (s : Start) → (start w s).answer ≡ Taken
-    → new_answer w s.session s.generation s.config ≡ Taken
+new-taken : (w : World) (s : Start) → (start w s).answer ≡ Ok tt
+    → new_answer w s.session s.generation s.config ≡ Ok tt
 unfolding start new_relay proceed
 new-taken w s e = from (new_answer w s.session s.generation s.config) e
   where
     from : (a : HnsrAnswer)
         → (proceed w a (done (emptied w (new_runtime s.session s.generation s.config s.now)) [])).answer
-        ≡ Taken → a ≡ Taken
-    from Taken h = refl
-    from (Refused x) h = refused_differs h
+        ≡ Ok tt → a ≡ Ok tt
+    from (Ok _) h = refl
+    from (Err x) h = refused_differs h
 
-new-world : (w : World) (s : Start) → new_answer w s.session s.generation s.config ≡ Taken
+new-world : (w : World) (s : Start) → new_answer w s.session s.generation s.config ≡ Ok tt
     → (start w s).world ≡ emptied w (new_runtime s.session s.generation s.config s.now)
 unfolding start new_relay proceed
 new-world w s e = rw e
@@ -71,7 +68,7 @@ record NewRows (w : World) (c : OpaqueRelayConfig) : Type 0 where
   good : config_good c ≡ true
   short : tables_short c w ≡ false
 
-new-rows : (w : World) (s : Start) → new_answer w s.session s.generation s.config ≡ Taken
+new-rows : (w : World) (s : Start) → new_answer w s.session s.generation s.config ≡ Ok tt
     → NewRows w s.config
 unfolding new_answer validate_config
 new-rows w s e =
@@ -196,7 +193,7 @@ empty_sequence : (w : World) (s : Start)
 unfolding emptied
 empty_sequence w s = refl
 
-pub start-rel : (w : World) (s : Start) → (start w s).answer ≡ Taken → s.config.maximum_bytes_per_circuit < top 64
+pub start-rel : (w : World) (s : Start) → (start w s).answer ≡ Ok tt → s.config.maximum_bytes_per_circuit < top 64
     → Rel (start w s).world (begin s) × Places (start w s).world × (sequence_of (start w s).world ≡ 1)
 start-rel w s e low =
     let t = new-taken w s e in

@@ -1,19 +1,17 @@
 -- Every call keeps the invariant, taken or refused: entry, clock and gate of `handle`, the opcode's handling, and the
 -- other calls.
-use Rattle.std.specs.Prelude.{ℕ, ◌+◌, ◌<◌, ◌≡◌, Bool, true, false, cond, not, ◌&&◌, ◌||◌, [], ltb, eqb, length}
+use Rattle.std.specs.Prelude.{ℕ, ◌+◌, ◌<◌, ◌≡◌, Bool, true, false, cond, not, ◌&&◌, ◌||◌, [], ltb, eqb, length, Ok, Err}
 use Rattle.std.proofs.Common.{arith, ap, ◌∙◌}
 use Rattle.std.proofs.Math.Path.{refl, sym, subst}
 use borrow.Author.Tests.{eqb-true, le-ltb, ltb-true, not-false, not-true}
 use Rattle.hns_encoding.specs.Numbers.{top}
 use Rattle.hns_encoding.specs.Laws.Tests.{choose, or-none}
-use Rattle.hnsr_body.specs.declared.error.Checked.TheVariants.{Ok, Err}
 use Rattle.hnsr_body.specs.declared.error.HnsrInvalid.TheVariants.{ContextZero}
 use Rattle.hnsr_body.specs.declared.error.HnsrProtocolError.TheVariants.{Invalid, TooLarge}
 use Rattle.hnsr_body.specs.Packet.{packet_checked, packet_size, most_packet, sample_routes}
-use Rattle.hnsr_circuit.specs.declared.answer.HnsrAnswer.TheVariants.{Taken, Refused}
 use Rattle.hnsr_circuit.specs.declared.answer.HnsrRuntimeError.{HnsrRuntimeError}
 use Rattle.hnsr_circuit.specs.declared.answer.HnsrRuntimeError.TheVariants.{Short, Disabled}
-use Rattle.hnsr_circuit.specs.Answers.{check, body_answer, ◌then◌}
+use Rattle.hnsr_circuit.specs.Answers.{HnsrAnswer, check, body_answer, ◌then◌}
 use Rattle.hnsr_circuit.specs.World.{World, Outcome, status_is, due_is, config_of, done, telling, at_time}
 use Rattle.hnsr_circuit.specs.Queue.{sequence_of}
 use Rattle.hnsr_circuit.specs.Opcode.{op_open, op_accept, op_data, op_window, op_close, op_error}
@@ -75,17 +73,18 @@ entry-same {w} {h} R H q room =
     then clock_answer (R.base.heads.clock i) q.now
 
 -- an OPEN that passes the entry has a context
-packet-context : (opcode context n : ℕ) → opcode ≡ op_open → packet_answer opcode context n ≡ Taken
+packet-context : (opcode context n : ℕ) → opcode ≡ op_open → packet_answer opcode context n ≡ Ok tt
     → eqb context 0 ≡ false
 unfolding packet_answer packet_checked
 packet-context opcode context n e h =
     from (ltb most_packet (packet_size n)) (eqb context 0)
     (subst (λ x. body_answer (cond (ltb most_packet (packet_size n)) (Err (TooLarge (packet_size n) most_packet))
-    (cond (eqb context 0 && not (eqb x sample_routes)) (Err (Invalid ContextZero)) Ok)) ≡ Taken) e h)
+    (cond (eqb context 0 && not (eqb x sample_routes)) (Err (Invalid ContextZero)) (Ok tt))) ≡ Ok tt) e h)
   where
     from : (a b : Bool)
         → body_answer
-        (cond a (Err (TooLarge (packet_size n) most_packet)) (cond (b && true) (Err (Invalid ContextZero)) Ok)) ≡ Taken
+        (cond a (Err (TooLarge (packet_size n) most_packet)) (cond (b && true) (Err (Invalid ContextZero)) (Ok tt)))
+        ≡ Ok tt
         → b ≡ false
     from true b k = refused_differs k
     from false true k = refused_differs k
@@ -112,11 +111,11 @@ handling_data n e =
     (cond (eqb m op_data) DATA
     (cond (eqb m op_window) WINDOW (cond (eqb m op_close) CLOSE (cond (eqb m op_error) ERROR other)))))) e
 
-check_refused : (b : Bool) (x e : HnsrRuntimeError) → check b x ≡ Refused e → b ≡ true
+check_refused : (b : Bool) (x e : HnsrRuntimeError) → check b x ≡ Err e → b ≡ true
 check_refused true x e h = refl
 check_refused false x e h = sym (unlike h)
   where
-    unlike : Taken ≡ Refused e → true ≡ false
+    unlike : ◌≡◌ {A = HnsrAnswer} (Ok tt) (Err e) → true ≡ false
     unlike k = cc
 
 module _ {w : World} {h : Past} (R : Rel w h) (H : Places w) (low : sequence_of w < top 64) (q : Packet)

@@ -1,5 +1,5 @@
 -- replace_enabled keeps the invariant: switched on nothing was active, switched off everything ends.
-use Rattle.std.specs.Prelude.{ℕ, ◌+◌, ◌≡◌, refl, Bool, true, false, cond, not, List, [], map}
+use Rattle.std.specs.Prelude.{ℕ, ◌+◌, ◌≡◌, refl, Bool, true, false, cond, not, List, [], map, Ok}
 use Rattle.std.proofs.Common.{arith, sym, ap, ◌∙◌, subst, true≢false}
 use Rattle.std.specs.Bool.{beq}
 use Rattle.std.proofs.Math.Bool.{and-false, and-true}
@@ -9,7 +9,6 @@ use Rattle.hns_encoding.specs.Laws.Sums.{total-zero}
 use Rattle.hnsr_body.specs.declared.messages.Notice.TheVariants.{RelayDisabled}
 use Rattle.hnsr_circuit.specs.declared.config.OpaqueRelayConfig.{OpaqueRelayConfig}
 use Rattle.hnsr_circuit.specs.declared.records.InflightAction.{InflightAction}
-use Rattle.hnsr_circuit.specs.declared.answer.HnsrAnswer.TheVariants.{Taken}
 use Rattle.hnsr_circuit.specs.Answers.{◌then◌}
 use Rattle.hnsr_circuit.specs.Pending.{is_pending}
 use Rattle.hnsr_circuit.specs.Circuits.{is_circuit}
@@ -127,7 +126,7 @@ beq_false true e = absurd (true≢false e)
 beq_false false e = refl
 
 switch_keeps : {w : World} {h : Past} → Rel w h → (on : Bool) → beq h.head.enabled on ≡ false
-    → let o = switch_to w on in Rel o.world (enable_in on o.routes h) × (o.answer ≡ Taken)
+    → let o = switch_to w on in Rel o.world (enable_in on o.routes h) × (o.answer ≡ Ok tt)
 unfolding switch_to revoke_all
 switch_keeps {w} {h} R true e = (
   subst (λ b. Rel (switched w true) (cond b h (switched_to h true))) (sym e)

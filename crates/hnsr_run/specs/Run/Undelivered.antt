@@ -1,5 +1,5 @@
 -- Acknowledge, delivered or not, keeps the invariant.
-use Rattle.std.specs.Prelude.{ℕ, ◌<◌, ◌≡◌, Bool, true, cond, not, ◌||◌, [], leb, ltb, eqb}
+use Rattle.std.specs.Prelude.{ℕ, ◌<◌, ◌≡◌, Bool, true, cond, not, ◌||◌, [], leb, ltb, eqb, Ok, Err}
 use Rattle.std.proofs.Math.Path.{refl, subst}
 use Rattle.std.proofs.Common.{sym, ap, ◌∙◌}
 use Rattle.std.proofs.Math.Bool.{false}
@@ -10,11 +10,9 @@ use Rattle.hnsr_body.specs.declared.messages.Notice.{Notice}
 use Rattle.hnsr_circuit.specs.declared.peer.HnsrPeerId.{HnsrPeerId}
 use Rattle.hnsr_body.specs.declared.messages.Notice.TheVariants.{EndpointWriteFailed, OuterWriteFailed}
 use Rattle.hnsr_circuit.specs.declared.records.InflightAction.{InflightAction}
-use Rattle.hnsr_circuit.specs.declared.answer.HnsrAnswer.{HnsrAnswer}
-use Rattle.hnsr_circuit.specs.declared.answer.HnsrAnswer.TheVariants.{Taken, Refused}
 use Rattle.hnsr_circuit.specs.declared.answer.HnsrRuntimeError.{HnsrRuntimeError}
 use Rattle.hnsr_circuit.specs.declared.answer.HnsrRuntimeError.TheVariants.{Short, StaleGeneration, UnknownAction}
-use Rattle.hnsr_circuit.specs.Answers.{error_number, number, check, ◌then◌}
+use Rattle.hnsr_circuit.specs.Answers.{HnsrAnswer, error_number, number, check, ◌then◌}
 use Rattle.hnsr_circuit.specs.Table.{any, pick}
 use Rattle.hnsr_circuit.specs.Pending.{pending_at}
 use Rattle.hnsr_circuit.specs.Circuits.{circuit_at}
@@ -197,8 +195,8 @@ never_ends w g s room m t a b c =
     (not (any (action_at g s) w.inflight)) t a b c
 
 -- refused with neither 10 nor 6: nothing ended
-pub refused_ends : (a : HnsrAnswer) (e : HnsrRuntimeError) → a ≡ Refused e → eqb (number a) 10 ≡ false
-    → eqb (number a) 6 ≡ false → ends (Refused e) ≡ false
+pub refused_ends : (a : HnsrAnswer) (e : HnsrRuntimeError) → a ≡ Err e → eqb (number a) 10 ≡ false
+    → eqb (number a) 6 ≡ false → ends (Err e) ≡ false
 refused_ends a e f x y =
     let x' = ap (λ b. eqb (number b) 10) (sym f) ∙ x in let y' = ap (λ b. eqb (number b) 6) (sym f) ∙ y in
     ap (λ b. b || (eqb (error_number e) 10 || eqb (error_number e) 6)) (not_taken e)
@@ -225,7 +223,7 @@ pub action-found : (w : World) (h : Past) → Full none w h → (g s : ℕ)
 unfolding action_at
 action-found w h F g s = held_any actions F.acts.held (numbered g s)
 
-taken-found : (w : World) (g s room : ℕ) → acknowledge_taken w g s room ≡ Taken → any (action_at g s) w.inflight ≡ true
+taken-found : (w : World) (g s room : ℕ) → acknowledge_taken w g s room ≡ Ok tt → any (action_at g s) w.inflight ≡ true
 unfolding acknowledge_taken generation_answer action_answer
 taken-found w g s room e =
     let third = action_answer (any (action_at g s) w.inflight) in

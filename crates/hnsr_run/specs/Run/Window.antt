@@ -1,5 +1,5 @@
 -- WINDOW keeps the invariant: the other side's credit is raised, and a Control queued.
-use Rattle.std.specs.Prelude.{ℕ, ◌<◌, ◌≡◌, true, false, cond, [], ◌∷◌, eqb}
+use Rattle.std.specs.Prelude.{ℕ, ◌<◌, ◌≡◌, true, false, cond, [], ◌∷◌, eqb, Ok}
 use Rattle.std.proofs.Math.Path.{refl, sym}
 use Rattle.std.proofs.Common.{ap, ◌∙◌, subst, eq-eqb}
 use Rattle.hns_encoding.specs.Numbers.{top}
@@ -7,7 +7,6 @@ use Rattle.hnsr_body.specs.Data.{decode_window, window_fields}
 use Rattle.hnsr_circuit.specs.declared.records.RelayCircuit.{RelayCircuit}
 use Rattle.hnsr_circuit.specs.declared.records.RelaySide.{RelaySide}
 use Rattle.hnsr_circuit.specs.declared.records.RelaySide.TheVariants.{Requester, Endpoint}
-use Rattle.hnsr_circuit.specs.declared.answer.HnsrAnswer.TheVariants.{Taken}
 use Rattle.hnsr_circuit.specs.Answers.{body_answer, ◌then◌}
 use Rattle.hnsr_circuit.specs.Circuits.{side_of, queued_to, raised}
 use Rattle.hnsr_circuit.specs.declared.records.InflightKind.{InflightKind}
@@ -48,7 +47,7 @@ raised-queue Endpoint Endpoint n c = refl
 module _ {w : World} {h : Past} (R : Rel w h) (q : Packet) (op : q.opcode ≡ op_window) (low : sequence_of w < top 64)
     (side : RelaySide) (n : ℕ) (active : h.active q.context ≡ true)
     (room : capacity_answer (config_of w)
-    (tallied false q.context (receiver (named_circuit w q) (sender q)) w.inflight) ≡ Taken) where
+    (tallied false q.context (receiver (named_circuit w q) (sender q)) w.inflight) ≡ Ok tt) where
   abbrev passed : Message
   passed = forwarded q (named_circuit w q) Control
 

@@ -1,45 +1,12 @@
--- `next_u8` meets its contract: the answer's step and number are those of the field, or the early end is handed on.
-use Prim.Native.Nat.{ℕ}
-use mathlib.Core.Path.{refl, sym, ◌∙◌, ap}
-use Rattle.hns_encoding.specs.declared.decoder.ReadU8.{ReadU8}
-use Rattle.hns_encoding.specs.declared.decoder.ReadU8.TheVariants.{Ok, Err}
-use Rattle.hns_encoding.specs.declared.decoder.Step.{Step}
+-- `next_u8` meets its contract: the library's number of an array is ours.
+use Rattle.std.proofs.Common.{lit<, ◌∙◌, ap, length, w8}
 use Rattle.hns_encoding.specs.Bytes.{le}
-use Rattle.hnsr_body.specs.Fields.{stepped, fetched}
-use Rattle.hnsr_body.specs.Laws.Fields.{number_step, number_value}
+use Rattle.hns_encoding.specs.Laws.Library.{from_le}
+use Rattle.hnsr_body.specs.Laws.Fields.{fetched-length}
 use Rattle.hnsr_body.proofs.fields.next_u8.Goals as goal
 
-abbrev value : ReadU8 → ℕ
-value (Ok n next) = n
-value (Err error) = 0
-
-abbrev step : ReadU8 → Step
-step (Ok n next) = Step.Ok next
-step (Err error) = Step.Err error
-
-pub returns-in-Err : goal.returns-in-Err
-unfolding stepped fetched le
-returns-in-Err c =
-    let input = c.args.input.now in
-    let s = c.in-Err.is in
-    (s ∙ ap (stepped 1 input) (sym s), ap (λ (t : Step). le (fetched 1 input t)) (sym s))
-
-pub returns-in-Ok-read : goal.returns-in-Ok-read
-unfolding le
-returns-in-Ok-read c =
-    let input = c.args.input.now in
-    let s = c.in-Ok.is in
-    let r = sym c.in-Ok-read.is ∙ c.read_u8-read.ensures in (
-      number_step value step Ok Err le 1 input s r (λ n next. refl) (λ error. refl),
-      number_value value step Ok Err le 1 input s r (λ n next. refl) (λ error. refl) refl,
-    )
-
-pub returns-in-Err-read : goal.returns-in-Err-read
-unfolding le
-returns-in-Err-read c =
-    let input = c.args.input.now in
-    let s = c.in-Ok.is in
-    let r = sym c.in-Err-read.is ∙ c.read_u8-read.ensures in (
-      number_step value step Ok Err le 1 input s r (λ n next. refl) (λ error. refl),
-      number_value value step Ok Err le 1 input s r (λ n next. refl) (λ error. refl) refl,
-    )
+pub returns : goal.returns
+returns c =
+    let bytes = c.next_array-next.ensures.0 in
+    let long = ap length bytes ∙ fetched-length 1 c.args.input.now c.args.step in
+    (c.from_le_bytes.ensures ∙ from_le w8 _ long (lit< tt) ∙ ap le bytes, c.next_array-next.ensures.1)

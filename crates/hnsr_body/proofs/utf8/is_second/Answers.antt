@@ -1,29 +1,24 @@
--- `utf8::is_second` meets its contract: at each of the four lead bytes the test is that byte's, and after any other it
--- is the tail's.
-use mathlib.Core.Path.{◌∙◌}
-use borrow.Author.Tests.{ne_eqb}
+-- `is_second` meets its contract: at each of the four lead bytes the test is that byte's, and after any other it is
+-- the tail's.
+use Rattle.std.proofs.Common.{◌∙◌, rules, ne_eqb}
 use Rattle.hnsr_body.specs.Utf8Form.{second}
 use Rattle.hnsr_body.proofs.utf8.is_second.Goals as goal
 
 pub returns-in-224 : goal.returns-in-224
 unfolding second
-returns-in-224 c =
-    c.is_between.ensures ∙ simp c.in-224.is
+returns-in-224 c = simp c.in-224.is (search rules)
 
 pub returns-in-237 : goal.returns-in-237
 unfolding second
-returns-in-237 c =
-    c.is_between-in-237.ensures ∙ simp c.in-237.is
+returns-in-237 c = simp c.in-237.is (search rules)
 
 pub returns-in-240 : goal.returns-in-240
 unfolding second
-returns-in-240 c =
-    c.is_between-in-240.ensures ∙ simp c.in-240.is
+returns-in-240 c = simp c.in-240.is (search rules)
 
 pub returns-in-244 : goal.returns-in-244
 unfolding second
-returns-in-244 c =
-    c.is_between-in-244.ensures ∙ simp c.in-244.is
+returns-in-244 c = simp c.in-244.is (search rules)
 
 pub returns-in_default : goal.returns-in_default
 unfolding second

@@ -1,27 +1,22 @@
--- `utf8::is_utf8` meets its contract. The invariant: the whole text is UTF-8 just where what is left is; the measure is
--- what is left.
-use native.Mathlib.Omega.{arith}
-use mathlib.Core.Path.{◌∙◌, sym}
-use Rattle.hnsr_body.specs.Laws.Utf8Form.{no_char, skip_char, skip_on, skip_all}
+-- `is_utf8` meets its contract: what is left is UTF-8 just where the text is.
+use Rattle.std.proofs.Common.{◌<◌, sym, ◌∙◌, ap, length, rules}
+use Rattle.hnsr_body.specs.Utf8.{utf8}
+use Rattle.hnsr_body.specs.Laws.Utf8Form.{utf8_behind, utf8_none, no_char}
 use Rattle.hnsr_body.proofs.utf8.is_utf8.Goals as goal
 
-pub returns-then-n-eq0 : goal.returns-then-n-eq0
-returns-then-n-eq0 c =
-    sym (c.loop-at.invariant.alike ∙ no_char _ _ c.loop-at-test.true c.char_length-n.ensures c.if-n-eq0.true)
+pub returns-in_default : goal.returns-in_default
+returns-in_default c =
+    let some : 0 < length c.loop-rest.rest.now = search rules in
+    sym (sym c.loop-rest.invariant ∙ no_char _ some c.in_default.ensures)
 
-pub overflow_add-at : goal.overflow_add-at
-overflow_add-at c =
-    let over = skip_char _ _ c.loop-at-test.true c.char_length-n.ensures c.if-n-eq0.false in omega (arith, over)
-
-pub after_ascii-at-requires-in-loop-at : goal.after_ascii-at-requires-in-loop-at
-after_ascii-at-requires-in-loop-at c =
-    let over = skip_char _ _ c.loop-at-test.true c.char_length-n.ensures c.if-n-eq0.false in over.inside
-
-pub loop-at-preserved : goal.loop-at-preserved
-loop-at-preserved c =
-    skip_on c.loop-at.invariant
-    (skip_on (skip_char _ _ c.loop-at-test.true c.char_length-n.ensures c.if-n-eq0.false)
-    c.after_ascii-at-in-loop-at.ensures)
+pub loop-rest-preserved : goal.loop-rest-preserved
+loop-rest-preserved c =
+    let some : 0 < length c.loop-rest.rest.now = search rules in
+    let behind = c.in-Some.ensures in
+    c.behind_ascii-rest-in-loop-rest.ensures.0
+    ∙ ap utf8 behind.1
+    ∙ utf8_behind _ some behind.0
+    ∙ c.loop-rest.invariant
 
 pub returns : goal.returns
-returns c = sym (skip_all c.loop-at.invariant c.loop-at-test.false)
+returns c = sym (sym c.loop-rest.invariant ∙ utf8_none _ (search rules))

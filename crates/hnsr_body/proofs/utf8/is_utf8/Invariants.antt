@@ -1,12 +1,10 @@
--- `utf8::is_utf8` meets its contract. The invariant: the whole text is UTF-8 just where what is left is; the measure is
--- what is left.
-use Prim.Native.Nat.{◌-◌}
-use lib.ListN.{length}
-use Rattle.hnsr_body.specs.Utf8Form.{Skipped}
+-- `is_utf8` meets its contract: what is left is UTF-8 just where the text is.
+use Rattle.std.proofs.Common.{◌≡◌, length}
+use Rattle.hnsr_body.specs.Utf8.{utf8}
 use Rattle.hnsr_body.proofs.utf8.is_utf8.Given as goal
 
-abbrev pub invariant-loop-at : goal.invariant-loop-at
-invariant-loop-at l = Skipped l.text 0 l.at
+abbrev pub invariant-loop-rest : goal.invariant-loop-rest
+invariant-loop-rest l = utf8 l.rest ≡ utf8 l.text
 
-abbrev pub decreases-loop-at : goal.decreases-loop-at
-decreases-loop-at l = length l.text - l.at
+abbrev pub decreases-loop-rest : goal.decreases-loop-rest
+decreases-loop-rest l = length l.rest

@@ -1,20 +1,15 @@
 -- `AcceptBody::put` meets its contract: the fields one after the other fill the body.
-use mathlib.Core.Path.{◌≡◌}
-use lib.ListN.{length}
+use Rattle.std.proofs.Common.{◌≡◌, length, rules, arith}
 use Rattle.hns_encoding.specs.Bytes.{le_bytes}
 use Rattle.hns_encoding.specs.Laws.Bytes.{le_bytes-length}
 use Rattle.hns_encoding.specs.Laws.Cursor.{wrote_none, wrote_next, wrote_all}
 use Rattle.hnsr_body.specs.Accept.{accept_bytes}
-use borrow.Author.Rules.{rules}
-use native.Mathlib.Omega.{arith}
 use Rattle.hnsr_body.proofs.accept_body.AcceptBody.put.Goals as goal
 
 pub returns : goal.returns
 unfolding accept_bytes
 returns c =
-    let s = c in
-    let a = s.args in
-    let n = s.requires in
+    let a = c.args in
     let l : (length a.self.endpoint_nonce ≡ 16) = search rules in
     let w1 = wrote_next c.put_u32_at.new.out (le_bytes 4 a.self.accepted_window) 4
     (wrote_none a.out.now) (le_bytes-length 4 a.self.accepted_window) (omega arith)

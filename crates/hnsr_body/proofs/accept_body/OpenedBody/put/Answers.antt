@@ -1,21 +1,15 @@
 -- `OpenedBody::put` meets its contract: the fields one after the other fill the body.
-use mathlib.Core.Path.{◌≡◌, ◌∙◌}
-use mathlib.Core.List.{append_assoc}
-use lib.ListN.{length}
+use Rattle.std.proofs.Common.{◌≡◌, ◌∙◌, append_assoc, length, rules, arith}
 use Rattle.hns_encoding.specs.Bytes.{le_bytes, be_bytes}
 use Rattle.hns_encoding.specs.Laws.Bytes.{le_bytes-length, be_bytes-length}
 use Rattle.hns_encoding.specs.Laws.Cursor.{wrote_none, wrote_next, wrote_all}
 use Rattle.hnsr_body.specs.Accept.{accept_bytes, opened_bytes}
-use borrow.Author.Rules.{rules}
-use native.Mathlib.Omega.{arith}
 use Rattle.hnsr_body.proofs.accept_body.OpenedBody.put.Goals as goal
 
 pub returns : goal.returns
 unfolding opened_bytes accept_bytes
 returns c =
-    let s = c in
-    let a = s.args in
-    let n = s.requires in
+    let a = c.args in
     let l : (length a.self.endpoint_nonce ≡ 16) = search rules in
     let w1 = wrote_next c.put_u64_be_at.new.out (be_bytes 8 a.self.circuit_id) 8 (wrote_none a.out.now)
     (be_bytes-length 8 a.self.circuit_id) (omega arith) c.put_u64_be_at.ensures in

@@ -1,11 +1,7 @@
 -- `ReasonDetail::decode` meets its contract: head, length and text are those of the definition.
-use Prim.Native.Nat.{ℕ}
-use mathlib.Core.Path.{◌∙◌, ap, ap₂}
-use mathlib.Core.Bool.{Bool, ◌&&◌}
-use lib.Dec.{eqb, leb}
-use lib.ListN.{length, length-drop}
+use Rattle.std.proofs.Common.{ℕ, Bool, ◌&&◌, ◌∙◌, ap, eqb, leb, length, length-drop, Result, ap₂}
 use Rattle.hnsr_body.specs.declared.detail_body.ReasonDetail.{ReasonDetail}
-use Rattle.hnsr_body.specs.declared.error.Checked.{Checked}
+use Rattle.hnsr_body.specs.declared.error.HnsrProtocolError.{HnsrProtocolError}
 use Rattle.hnsr_body.specs.declared.error.HnsrInvalid.TheVariants.{DiagnosticDetail, NotUtf8}
 use Rattle.hnsr_body.specs.Causes.{answer}
 use Rattle.hnsr_body.specs.Detail.{decode_detail, reason_detail, detail_widths, head_size, headed, most_detail}
@@ -18,15 +14,18 @@ pub returns : goal.returns
 unfolding decode_detail reason_detail
 returns c =
     let input = c.args.input.now in
-    let h = c.head-head.ensures in
-    let text = c.rest-detail.ensures ∙ ap (left input) h.0 ∙ walked-left input detail_widths in
-    let there = c.headed.ensures ∙ ap headed h.0 in
-    let n = ap (λ (b : ReasonDetail). b.detail_length) h.1 in
+    let h = c.head-step.ensures in
+    let text = c.rest-detail.ensures ∙ ap (left input) h.1 ∙ walked-left input detail_widths in
+    let there = c.headed.ensures ∙ ap headed h.1 in
+    let n = ap (λ (b : ReasonDetail). b.detail_length) h.0 in
     let size = ap length text ∙ length-drop head_size input in
     let fits = c.is_length.ensures ∙ ap₂ (λ (n k : ℕ). leb n most_detail && eqb k n) n size in
-    let sized = c.answered-sized.ensures ∙ ap₂ (λ (l : Checked) (v : Bool). answer l v DiagnosticDetail) there fits in
+    let sized = c.answered-sized.ensures
+    ∙ ap₂ (λ (l : Result Unit HnsrProtocolError) (v : Bool). answer l v DiagnosticDetail) there fits in
     let good = c.is_utf8.ensures ∙ ap utf8 text in
     λ i. record {
-      result = (c.answered.ensures ∙ ap₂ (λ (l : Checked) (v : Bool). answer l v NotUtf8) sized good) i;
-      body = h.1 i;
+      result =
+          (c.answered.ensures
+          ∙ ap₂ (λ (l : Result Unit HnsrProtocolError) (v : Bool). answer l v NotUtf8) sized good) i;
+      body = h.0 i;
     }

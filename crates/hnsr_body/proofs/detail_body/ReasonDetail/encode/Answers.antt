@@ -1,31 +1,16 @@
--- `ReasonDetail::encode` meets its contract: too large, then no UTF-8, then the bytes.
-use Prim.Native.Nat.{◌+◌}
-use mathlib.Core.Path.{sym, ◌∙◌}
-use lib.ListN.{length}
-use borrow.Author.Tests.{le-leb, lt-leb}
+-- `ReasonDetail::encode` meets its contract: the bytes of a detail that is short and UTF-8 stand in front of zeros.
+use Rattle.std.proofs.Common.{sym, ◌∙◌, length, le-leb, Ok}
 use Rattle.hns_encoding.specs.Laws.Lists.{written_zeros}
-use Rattle.hnsr_body.specs.declared.error.Checked.TheVariants.{Ok}
-use Rattle.hnsr_body.specs.Detail.{encode_detail, detail_bytes}
+use Rattle.hnsr_body.specs.Detail.{encode_detail, detail_bytes, detail_size}
+use Rattle.hnsr_body.specs.Laws.DetailTrip.{detail-size}
 use Rattle.hnsr_body.proofs.detail_body.ReasonDetail.encode.Goals as goal
 
-pub returns-then-size-gt-MAX_DETAIL : goal.returns-then-size-gt-MAX_DETAIL
+pub returns : goal.returns
 unfolding encode_detail
-returns-then-size-gt-MAX_DETAIL c =
-    let n = length c.args.detail.now in rw (lt-leb n 128 c.if-size-gt-MAX_DETAIL.true)
-
-pub returns-then-is_utf8 : goal.returns-then-is_utf8
-unfolding encode_detail
-returns-then-is_utf8 c =
+returns c =
     let a = c.args in
-    let n = length a.detail.now in
-    let text = sym c.is_utf8.ensures ∙ c.if-is_utf8.true in
-    let bytes = c.put.ensures ∙ written_zeros 131 (detail_bytes a.reason a.detail.now) in
-    rw (le-leb n 128 c.if-size-gt-MAX_DETAIL.false, text) (λ i. record { result = Ok; length = 3 + n; bytes = bytes i })
-
-pub returns-else-is_utf8 : goal.returns-else-is_utf8
-unfolding encode_detail
-returns-else-is_utf8 c =
-    let a = c.args in
-    let n = length a.detail.now in
-    let text = sym c.is_utf8.ensures ∙ c.if-is_utf8.false in
-    rw (le-leb n 128 c.if-size-gt-MAX_DETAIL.false, text)
+    let text = sym c.is_utf8.ensures ∙ c.if-not-is_utf8.false in
+    let bytes = c.put.ensures ∙ written_zeros detail_size (detail_bytes a.reason a.detail.now) in
+    let size = sym (detail-size a.reason a.detail.now) in
+    rw (le-leb (length a.detail.now) 128 c.if-detail-gt-MAX_DETAIL.false, text)
+    (λ i. Ok (record { length = size i; bytes = bytes i }))

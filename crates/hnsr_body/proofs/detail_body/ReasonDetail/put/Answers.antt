@@ -1,15 +1,11 @@
 -- `put` meets its contract: reason, length and text one after the other.
-use Prim.Native.Nat.{ℕ, ◌%◌}
-use mathlib.Core.Path.{◌≡◌, refl, ◌∙◌, ap}
-use mathlib.Core.List.{List, [], ◌∷◌, ◌++◌}
-use lib.ListN.{length}
+use Rattle.std.proofs.Common.{ℕ, ◌%◌, ◌≡◌, refl, ◌∙◌, ap, List, [], ◌∷◌, ◌++◌, length, arith}
 use lib.Seq.{append_snoc}
 use Rattle.hns_encoding.specs.Bytes.{le_bytes}
 use Rattle.hns_encoding.specs.Cursor.{written_at}
 use Rattle.hns_encoding.specs.Laws.Bytes.{le_bytes-length}
 use Rattle.hns_encoding.specs.Laws.Cursor.{wrote_none, wrote_next}
 use Rattle.hnsr_body.specs.Detail.{detail_bytes}
-use native.Mathlib.Omega.{arith}
 use Rattle.hnsr_body.proofs.detail_body.ReasonDetail.put.Goals as goal
 
 pub returns : goal.returns

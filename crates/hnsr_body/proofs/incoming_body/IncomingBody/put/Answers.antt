@@ -1,20 +1,15 @@
 -- `IncomingBody::put` meets its contract: the fields one after the other fill the body.
-use mathlib.Core.Path.{◌≡◌}
-use lib.ListN.{length}
+use Rattle.std.proofs.Common.{◌≡◌, length, rules, arith}
 use Rattle.hns_encoding.specs.Bytes.{le_bytes, be_bytes}
 use Rattle.hns_encoding.specs.Laws.Bytes.{le_bytes-length, be_bytes-length}
 use Rattle.hns_encoding.specs.Laws.Cursor.{wrote_none, wrote_next, wrote_all}
 use Rattle.hnsr_body.specs.Incoming.{incoming_bytes}
-use borrow.Author.Rules.{rules}
-use native.Mathlib.Omega.{arith}
 use Rattle.hnsr_body.proofs.incoming_body.IncomingBody.put.Goals as goal
 
 pub returns : goal.returns
 unfolding incoming_bytes
 returns c =
-    let s = c in
-    let a = s.args in
-    let n = s.requires in
+    let a = c.args in
     let l : (length a.self.ticket_id ≡ 32) × (length a.self.requester_nonce ≡ 16) = (search rules, search rules) in
     let w1 = wrote_next c.put_bytes_at.new.out a.self.ticket_id 32 (wrote_none a.out.now) l.0
     (omega arith) c.put_bytes_at.ensures in

@@ -1,14 +1,10 @@
 -- `Notice::encode` meets its contract: the parts of the row, one after the other, are the body.
-use Prim.Native.Nat.{◌+◌}
-use mathlib.Core.Path.{◌≡◌, refl, ◌∙◌, ap}
-use mathlib.Core.List.{◌++◌}
-use lib.ListN.{length, replicate}
+use Rattle.std.proofs.Common.{◌+◌, ◌≡◌, refl, ◌∙◌, ap, ◌++◌, length, replicate, arith}
 use Rattle.hns_encoding.specs.Bytes.{le_bytes}
 use Rattle.hns_encoding.specs.Laws.Bytes.{le_bytes-length}
 use Rattle.hns_encoding.specs.Laws.Cursor.{wrote_none, wrote_next, wrote_all}
 use Rattle.hnsr_body.specs.declared.messages.Message.{Message}
 use Rattle.hnsr_body.specs.Laws.Messages.{assembled-body, row-length, body-length}
-use native.Mathlib.Omega.{arith}
 use Rattle.hnsr_body.proofs.messages.Notice.encode.Goals as goal
 
 pub returns : goal.returns

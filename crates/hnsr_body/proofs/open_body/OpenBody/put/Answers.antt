@@ -1,22 +1,15 @@
 -- `OpenBody::put` meets its contract: the fields one after the other fill the body.
-use Prim.Native.Nat.{ℕ}
-use mathlib.Core.Path.{◌≡◌, ◌∙◌, ap}
-use mathlib.Core.List.{List, ◌++◌, append_assoc}
-use lib.ListN.{length}
+use Rattle.std.proofs.Common.{ℕ, ◌≡◌, ◌∙◌, ap, List, ◌++◌, append_assoc, length, rules, arith}
 use Rattle.hns_encoding.specs.Bytes.{le_bytes, be_bytes}
 use Rattle.hns_encoding.specs.Laws.Bytes.{le_bytes-length, be_bytes-length}
 use Rattle.hns_encoding.specs.Laws.Cursor.{wrote_none, wrote_next, wrote_all}
 use Rattle.hnsr_body.specs.Open.{open_bytes}
-use borrow.Author.Rules.{rules}
-use native.Mathlib.Omega.{arith}
 use Rattle.hnsr_body.proofs.open_body.OpenBody.put.Goals as goal
 
 pub returns : goal.returns
 unfolding open_bytes
 returns c =
-    let s = c in
-    let a = s.args in
-    let n = s.requires in
+    let a = c.args in
     let l : (length a.self.ticket_id ≡ 32) × (length a.self.endpoint_key ≡ 33) × (length a.self.requester_nonce ≡ 16) =
     (search rules, search rules, search rules) in
     let w1 = wrote_next c.put_bytes_at.new.out a.self.ticket_id 32 (wrote_none a.out.now) l.0

@@ -23,9 +23,9 @@ use Rattle.hnsr_circuit.specs.Code.Held.{held_pending, held_circuits, held_ledge
 use Rattle.hnsr_circuit.specs.Laws.HeldTables.{places-kept, few-held}
 use Rattle.hnsr_circuit.proofs.calls.acknowledge.acknowledge.Goals as goal
 
-pub returns-then-is_taken : goal.returns-then-is_taken
+pub returns-then-is_ok : goal.returns-then-is_ok
 unfolding step acknowledge acknowledge_taken room_answer tables_short
-returns-then-is_taken c =
+returns-then-is_ok c =
     λ l₀.
     let s = c in
     let a = s.args in
@@ -49,7 +49,7 @@ returns-then-is_taken c =
     ∙ sym (gone-on w c.acknowledge_answer-answer.result _
     (acknowledge_action w a.generation a.sequence a.delivered
     (pick (action_at a.generation a.sequence) no_action (held_actions a.places a.inflight.now)))
-    (sym c.is_taken.ensures ∙ c.if-is_taken.true) answer))
+    (sym c.is_ok.ensures.value ∙ c.if-is_ok.true) answer))
     ∙ whole a.out.now w call (omega arith) (omega arith)
 
 pub returns : goal.returns
@@ -78,5 +78,5 @@ returns c =
     c.acknowledge_answer-answer.result _
     (acknowledge_action w a.generation a.sequence a.delivered
     (pick (action_at a.generation a.sequence) no_action (held_actions a.places a.inflight.now)))
-    c.refused.ensures.0 (sym c.is_taken.ensures ∙ c.if-is_taken.false) answer
+    c.refused.ensures.0 (sym c.is_ok.ensures.value ∙ c.if-is_ok.false) answer
     ∙ whole a.out.now w call (omega arith) (omega arith)

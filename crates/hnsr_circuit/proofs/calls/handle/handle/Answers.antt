@@ -25,11 +25,11 @@ handle_gate-requires c =
     (held_ledger a.places a.ledger.now) (held_actions a.places a.inflight.now) q (length a.out.now)
     few.result lent.result answer.result
     (few.ensures ∙ few-held a.runtime.config a.places a.pending.now a.circuits.now a.inflight.now)
-    lent.ensures answer.ensures (sym c.is_taken.ensures ∙ c.if-is_taken.true)
+    lent.ensures answer.ensures (sym c.is_ok.ensures.value ∙ c.if-is_ok.true)
 
-pub returns-then-is_taken : goal.returns-then-is_taken
+pub returns-then-is_ok : goal.returns-then-is_ok
 unfolding step
-returns-then-is_taken c =
+returns-then-is_ok c =
     let s = c in
     let a = s.args in
     let w = world_of a.runtime (held_pending a.places a.pending.now)
@@ -49,7 +49,7 @@ returns-then-is_taken c =
     (held_ledger a.places a.ledger.now) (held_actions a.places a.inflight.now) q (length a.out.now)
     few.result lent.result answer.result
     (few.ensures ∙ few-held a.runtime.config a.places a.pending.now a.circuits.now a.inflight.now)
-    lent.ensures answer.ensures c.with_clock-moved.result (sym c.is_taken.ensures ∙ c.if-is_taken.true)
+    lent.ensures answer.ensures c.with_clock-moved.result (sym c.is_ok.ensures.value ∙ c.if-is_ok.true)
     c.with_clock-moved.ensures)
     ∙ whole a.out.now w call (omega arith) (omega arith)
 
@@ -72,7 +72,7 @@ returns c =
     ∙ turned_away a.runtime (held_pending a.places a.pending.now) (held_circuits a.places a.circuits.now)
     (held_ledger a.places a.ledger.now) (held_actions a.places a.inflight.now) a.out.now
     c.refused.result answer.result _ (handle_gate (at_time w a.packet.now) q) c.refused.ensures.0
-    (sym c.is_taken.ensures ∙ c.if-is_taken.false)
+    (sym c.is_ok.ensures.value ∙ c.if-is_ok.false)
     (rows a.runtime (held_pending a.places a.pending.now) (held_circuits a.places a.circuits.now)
     (held_ledger a.places a.ledger.now) (held_actions a.places a.inflight.now) q (length a.out.now)
     few.result lent.result answer.result

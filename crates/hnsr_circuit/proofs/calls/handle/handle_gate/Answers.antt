@@ -8,9 +8,9 @@ use Rattle.hnsr_circuit.specs.Code.Held.{held_pending, held_circuits, held_ledge
 use Rattle.hnsr_circuit.specs.Laws.HeldTables.{places-kept}
 use Rattle.hnsr_circuit.proofs.calls.handle.handle_gate.Goals as goal
 
-pub returns-then-is_taken : goal.returns-then-is_taken
+pub returns-then-is_ok : goal.returns-then-is_ok
 unfolding handle_gate
-returns-then-is_taken c =
+returns-then-is_ok c =
     let a = c.args in
     let w = world_of a.runtime (held_pending a.places a.pending.now)
     (held_circuits a.places a.circuits.now) (held_ledger a.places a.ledger.now)
@@ -20,7 +20,7 @@ returns-then-is_taken c =
     c.dispatch.ensures a.source.now c.peer_of-peer.ensures
     ∙ ap (λ (o : Outcome). ending a.out.now o)
     (sym (gone-on w answer.result (gate_answer a.runtime.enabled) (dispatch (handling_of q.opcode) w q)
-    (sym c.is_taken.ensures ∙ c.if-is_taken.true) answer.ensures))
+    (sym c.is_ok.ensures.value ∙ c.if-is_ok.true) answer.ensures))
 
 pub returns : goal.returns
 unfolding handle_gate
@@ -36,4 +36,4 @@ returns c =
     ∙ turned_away a.runtime (held_pending a.places a.pending.now) (held_circuits a.places a.circuits.now)
     (held_ledger a.places a.ledger.now) (held_actions a.places a.inflight.now) a.out.now
     c.refused.result answer.result (gate_answer a.runtime.enabled) (dispatch (handling_of q.opcode) w q)
-    c.refused.ensures.0 (sym c.is_taken.ensures ∙ c.if-is_taken.false) answer.ensures
+    c.refused.ensures.0 (sym c.is_ok.ensures.value ∙ c.if-is_ok.false) answer.ensures

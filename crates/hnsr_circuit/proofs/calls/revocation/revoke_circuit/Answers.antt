@@ -1,14 +1,13 @@
 -- The circuit at the place is unmarked, its actions dropped, its end counted; then both sides are told.
 use mathlib.Core.Path.{sym, ap, ◌∙◌}
 use mathlib.Core.Bool.{true}
-use Prim.Native.Nat.{ℕ}
 use lib.ListN.{set}
 use Rattle.hnsr_body.specs.Messages.{notice_body}
 use Rattle.hnsr_circuit.specs.declared.records.RelayCircuit.{RelayCircuit}
 use Rattle.hnsr_circuit.specs.declared.output.queue.Outgoing.{Outgoing}
 use Rattle.hnsr_circuit.specs.Circuits.{clear_circuit}
 use Rattle.hnsr_circuit.specs.Inflight.{action_under, dropped}
-use Rattle.hnsr_circuit.specs.Queue.{when, tell}
+use Rattle.hnsr_circuit.specs.Queue.{tell}
 use Rattle.hnsr_circuit.specs.Code.Progress.{message_of, Progress, progress, advance, underway}
 use Rattle.hnsr_circuit.specs.World.{world_of}
 use Rattle.hnsr_circuit.specs.Code.Revoking.{close_side}
@@ -28,30 +27,32 @@ returns c =
     let i = held_actions a.sending.places a.inflight.now in
     let nb = notice_body a.notice in
     let row = c.circuit_at-row.ensures in
-    let P = c.plan_circuit-plan.result in
-    let e = c.plan_circuit-plan.ensures in
-    let id = e.0 ∙ ap (λ (k : RelayCircuit). k.circuit_id) row in
+    let k = c.circuit_at-row.result in
+    let e = c.counted-after.ensures in
+    let h = c.counted-after.result in
+    let one = message_of c.closing-first.result nb in
+    let two = message_of c.closing-second.result nb in
     let first =
-    ap (λ (m : Outgoing). message_of m nb) (e.3 ∙ ap (λ (k : RelayCircuit). close_side k k.requester) row) in
+    ap (λ (m : Outgoing). message_of m nb)
+    (c.closing-first.ensures ∙ ap (λ (k : RelayCircuit). close_side k k.requester) row) in
     let second =
-    ap (λ (m : Outgoing). message_of m nb) (e.5 ∙ ap (λ (k : RelayCircuit). close_side k k.endpoint) row) in
+    ap (λ (m : Outgoing). message_of m nb)
+    (c.closing-second.ensures ∙ ap (λ (k : RelayCircuit). close_side k k.endpoint) row) in
     let r = c.circuit_unmarked-gone.ensures in
     let after =
     stored-seen clear_circuit a.sending.places.circuits a.circuits.now _ true a.place
     c.circuit_unmarked-gone.result (λ h. ap clear_circuit r ∙ sym r) c.set_circuit.ensures
     ∙ ap (λ (k : RelayCircuit). set cs a.place k) (r ∙ ap clear_circuit row) in
-    let dropping = ap (λ (k : ℕ). dropped (action_under k) i) id in
+    let dropping = ap (λ (k : RelayCircuit). dropped (action_under k.circuit_id) i) row in
     let c0 = c.set_circuit.new.circuits in
     let c1 = held_circuits a.sending.places c0 in
-    let i1 = dropped (action_under P.id) i in
+    let i1 = dropped (action_under k.circuit_id) i in
     c.tell_notice.ensures p₀ c0 l₀
-    ∙ ap (λ (s : Progress). advance (when P.also (tell (message_of P.second nb))) s)
+    ∙ ap (λ (s : Progress). advance (tell two) s)
     (c.drop_and_tell-told.ensures p₀ c0 l₀
-    ∙ ap (λ (m : Places). advance (when true (tell (message_of P.first nb)))
-    (underway P.sending (held_pending m p₀) (held_circuits m c0) (held_ledger m l₀)
-    (dropped (action_under P.id) (held_actions m a.inflight.now)) a.out.now)) e.6)
-    ∙ (λ x. advance (when (e.4 x) (tell (message_of P.second nb)))
-    (advance (when true (tell (message_of P.first nb)))
-    (progress (world_of P.sending.runtime p c1 l i1) (e.2 x) a.out.now)))
+    ∙ ap (λ (m : Places). advance (tell one)
+    (underway h (held_pending m p₀) (held_circuits m c0) (held_ledger m l₀)
+    (dropped (action_under k.circuit_id) (held_actions m a.inflight.now)) a.out.now)) e.2)
+    ∙ (λ x. advance (tell two) (advance (tell one) (progress (world_of h.runtime p c1 l i1) (e.1 x) a.out.now)))
     ∙ circuit-revoked a.notice a.place a.sending.runtime p cs l i a.sending.position a.out.now
-    (message_of P.first nb) (message_of P.second nb) c1 i1 P.sending.runtime first second after dropping e.1
+    one two c1 i1 h.runtime first second after dropping e.0

@@ -38,15 +38,15 @@ loop-turn-init c =
           ∙ sym (length-held clear_circuit a.sending.places.circuits a.circuits.now)),
     )
 
-pub returns-then-no : goal.returns-then-no
-returns-then-no c =
+pub returns-then-not-next : goal.returns-then-not-next
+returns-then-not-next c =
     λ p l.
     let a = c.args in
     let n = c.loop-turn.next in
     let k = length a.circuits.now - (c.loop-turn.turn + 1) in
     let less = c.loop-turn-test.true in
     let left : suc k ≡ length a.circuits.now - c.loop-turn.turn = omega arith in
-    let stopped = not-true n.taken (sym c.no.ensures ∙ c.if-no.true) in
+    let stopped = not-true n.taken (c.if-not-next.true) in
     sym (walk_stops circuit_id circuit_table (revoked_circuit a.revoking)
     (revoke_circuit_there a.revoking.circuit_notice)
     (underway_seen c.loop-turn.told p c.loop-turn.circuits l c.loop-turn.inflight c.loop-turn.out) k n stopped)
@@ -62,7 +62,7 @@ loop-turn-preserved c =
     let k = length a.circuits.now - (c.loop-turn.turn + 1) in
     let less = c.loop-turn-test.true in
     let left : suc k ≡ length a.circuits.now - c.loop-turn.turn = omega arith in
-    let goes = not-false n.taken (sym c.no.ensures ∙ c.if-no.false) in (
+    let goes = not-false n.taken (c.if-not-next.false) in (
       search rules,
       search rules,
       search rules,

@@ -37,15 +37,15 @@ loop-turn-init c =
           ∙ sym (length-held clear_pending a.sending.places.pending a.pending.now)),
     )
 
-pub returns-then-no : goal.returns-then-no
-returns-then-no c =
+pub returns-then-not-next : goal.returns-then-not-next
+returns-then-not-next c =
     λ cs l.
     let a = c.args in
     let n = c.loop-turn.next in
     let k = length a.pending.now - (c.loop-turn.turn + 1) in
     let less = c.loop-turn-test.true in
     let left : suc k ≡ length a.pending.now - c.loop-turn.turn = omega arith in
-    let stopped = not-true n.taken (sym c.no.ensures ∙ c.if-no.true) in
+    let stopped = not-true n.taken (c.if-not-next.true) in
     sym (walk_stops pending_id pending_table (revoked_pending a.revoking) (ending_pending a.revoking)
     (underway_seen c.loop-turn.told c.loop-turn.pending cs l c.loop-turn.inflight c.loop-turn.out) k n stopped)
     ∙ ap
@@ -60,7 +60,7 @@ loop-turn-preserved c =
     let k = length a.pending.now - (c.loop-turn.turn + 1) in
     let less = c.loop-turn-test.true in
     let left : suc k ≡ length a.pending.now - c.loop-turn.turn = omega arith in
-    let goes = not-false n.taken (sym c.no.ensures ∙ c.if-no.false) in (
+    let goes = not-false n.taken (c.if-not-next.false) in (
       search rules,
       search rules,
       search rules,

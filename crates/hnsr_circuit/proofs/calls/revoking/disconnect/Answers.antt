@@ -24,9 +24,9 @@ use Rattle.hnsr_circuit.specs.Laws.HeldTables.{places-kept, entry-held}
 use Rattle.hnsr_circuit.specs.Code.Held.{held_pending, held_circuits, held_ledger, held_actions}
 use Rattle.hnsr_circuit.proofs.calls.revoking.disconnect.Goals as goal
 
-pub returns-then-is_taken : goal.returns-then-is_taken
+pub returns-then-is_ok : goal.returns-then-is_ok
 unfolding room_answer tables_short pending_count circuit_count step
-returns-then-is_taken c =
+returns-then-is_ok c =
     λ l₀.
     let s = c in
     let a = s.args in
@@ -34,7 +34,7 @@ returns-then-is_taken c =
     let w = world_of a.runtime (held_pending a.places a.pending.now)
     (held_circuits a.places a.circuits.now) l (held_actions a.places a.inflight.now) in
     let call = call_disconnect a.peer.now (length a.out.now) in
-    let answer = c.first_refusal-answer.ensures
+    let answer = c.and-answer.ensures
     ∙ (λ x. (c.entry_answer-entry.ensures.0
     ∙ entry-held (ltb (length a.out.now)
     (closing_words
@@ -47,9 +47,9 @@ returns-then-is_taken c =
     c.revoke_all.ensures l₀
     ∙ ap (λ (o : Outcome). ending a.out.now o)
     (disconnected a.runtime (held_pending a.places a.pending.now) (held_circuits a.places a.circuits.now)
-    l (held_actions a.places a.inflight.now) a.peer.now (length a.out.now) c.first_refusal-answer.result
+    l (held_actions a.places a.inflight.now) a.peer.now (length a.out.now) c.and-answer.result
     c.peer_of-name.result c.disconnecting-all.result (held_actions a.places c.clear_action.new.inflight)
-    (sym c.is_taken.ensures ∙ c.if-is_taken.true) answer c.peer_of-name.ensures c.disconnecting-all.ensures
+    (sym c.is_ok.ensures.value ∙ c.if-is_ok.true) answer c.peer_of-name.ensures c.disconnecting-all.ensures
     c.clear_action.ensures)
     ∙ whole a.out.now w call (omega arith) (omega arith)
 
@@ -63,7 +63,7 @@ returns c =
     let w = world_of a.runtime (held_pending a.places a.pending.now)
     (held_circuits a.places a.circuits.now) l (held_actions a.places a.inflight.now) in
     let call = call_disconnect a.peer.now (length a.out.now) in
-    let answer = c.first_refusal-answer.ensures
+    let answer = c.and-answer.ensures
     ∙ (λ x. (c.entry_answer-entry.ensures.0
     ∙ entry-held (ltb (length a.out.now)
     (closing_words
@@ -76,7 +76,7 @@ returns c =
     places-kept c.refused.result a.pending.now a.circuits.now l₀ a.inflight.now a.out.now
     a.places c.refused.ensures.1
     ∙ turned_away a.runtime (held_pending a.places a.pending.now) (held_circuits a.places a.circuits.now)
-    l (held_actions a.places a.inflight.now) a.out.now c.refused.result c.first_refusal-answer.result _
+    l (held_actions a.places a.inflight.now) a.out.now c.refused.result c.and-answer.result _
     (disconnect_peer w (peer_of a.peer.now)) c.refused.ensures.0
-    (sym c.is_taken.ensures ∙ c.if-is_taken.false) answer
+    (sym c.is_ok.ensures.value ∙ c.if-is_ok.false) answer
     ∙ whole a.out.now w call (omega arith) (omega arith)

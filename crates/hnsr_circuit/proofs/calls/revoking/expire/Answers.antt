@@ -23,16 +23,16 @@ use Rattle.hnsr_circuit.specs.Laws.HeldTables.{places-kept, entry-held}
 use Rattle.hnsr_circuit.specs.Code.Held.{held_pending, held_circuits, held_ledger, held_actions}
 use Rattle.hnsr_circuit.proofs.calls.revoking.expire.Goals as goal
 
-pub returns-then-is_taken : goal.returns-then-is_taken
+pub returns-then-is_ok : goal.returns-then-is_ok
 unfolding room_answer tables_short pending_count circuit_count step
-returns-then-is_taken c =
+returns-then-is_ok c =
     let s = c in
     let a = s.args in
     let w = world_of a.runtime (held_pending a.places a.pending.now)
     (held_circuits a.places a.circuits.now) (held_ledger a.places a.ledger.now)
     (held_actions a.places a.inflight.now) in
     let call = call_expire a.time (length a.out.now) in
-    let answer = c.first_refusal-answer.ensures
+    let answer = c.and-answer.ensures
     ∙ (λ x. (c.entry_answer-entry.ensures.0
     ∙ entry-held (ltb (length a.out.now)
     (closing_words
@@ -46,8 +46,8 @@ returns-then-is_taken c =
     ∙ ap (λ (o : Outcome). ending a.out.now o)
     (expired a.runtime (held_pending a.places a.pending.now) (held_circuits a.places a.circuits.now)
     (held_ledger a.places a.ledger.now) (held_actions a.places a.inflight.now) a.time
-    (length a.out.now) c.first_refusal-answer.result c.revoking-all.result c.with_clock-moved.result
-    (held_ledger a.places c.drop_lapsed.new.ledger) (sym c.is_taken.ensures ∙ c.if-is_taken.true) answer
+    (length a.out.now) c.and-answer.result c.revoking-all.result c.with_clock-moved.result
+    (held_ledger a.places c.drop_lapsed.new.ledger) (sym c.is_ok.ensures.value ∙ c.if-is_ok.true) answer
     c.revoking-all.ensures c.with_clock-moved.ensures c.drop_lapsed.ensures)
     ∙ whole a.out.now w call (omega arith) (omega arith)
 
@@ -60,7 +60,7 @@ returns c =
     (held_circuits a.places a.circuits.now) (held_ledger a.places a.ledger.now)
     (held_actions a.places a.inflight.now) in
     let call = call_expire a.time (length a.out.now) in
-    let answer = c.first_refusal-answer.ensures
+    let answer = c.and-answer.ensures
     ∙ (λ x. (c.entry_answer-entry.ensures.0
     ∙ entry-held (ltb (length a.out.now)
     (closing_words
@@ -74,6 +74,6 @@ returns c =
     a.out.now a.places c.refused.ensures.1
     ∙ turned_away a.runtime (held_pending a.places a.pending.now) (held_circuits a.places a.circuits.now)
     (held_ledger a.places a.ledger.now) (held_actions a.places a.inflight.now) a.out.now
-    c.refused.result c.first_refusal-answer.result _ (expire_at w a.time) c.refused.ensures.0
-    (sym c.is_taken.ensures ∙ c.if-is_taken.false) answer
+    c.refused.result c.and-answer.result _ (expire_at w a.time) c.refused.ensures.0
+    (sym c.is_ok.ensures.value ∙ c.if-is_ok.false) answer
     ∙ whole a.out.now w call (omega arith) (omega arith)

@@ -30,7 +30,7 @@ unfolding room_answer tables_short pending_count circuit_count
 switch_to-requires c =
     let s = c in
     let a = s.args in
-    let answer = c.first_refusal-answer.ensures
+    let answer = c.and-answer.ensures
     ∙ (λ x. (c.entry_answer-entry.ensures.0
     ∙ entry-held (ltb (length a.out.now)
     (closing_words
@@ -38,14 +38,14 @@ switch_to-requires c =
     + count is_circuit (held_circuits a.places a.circuits.now)))) Short a.runtime.config
     (length (held_pending a.places a.pending.now)) (length (held_circuits a.places a.circuits.now))
     a.places a.inflight.now) x
-    then (c.first_refusal-rest.ensures
+    then (c.and-rest.ensures
     ∙ (λ y. c.generation_answer-current.ensures y
     then (c.change_answer-exhausted.ensures
     ∙ ap (λ (b : Bool). change_answer a.runtime.generation b) c.changed-changes.ensures) y)) x) in
     let g : a.runtime.generation < 18446744073709551616 = search rules in (
       below_top a.runtime (held_pending a.places a.pending.now) (held_circuits a.places a.circuits.now)
           [] (held_actions a.places a.inflight.now) a.expected_generation (length a.out.now) a.enabled
-          c.first_refusal-answer.result answer (omega arith) (sym c.is_taken.ensures ∙ c.if-is_taken.true)
+          c.and-answer.result answer (omega arith) (sym c.is_ok.ensures.value ∙ c.if-is_ok.true)
           (sym c.changed-changes.ensures ∙ c.if-changes.true),
       c.revoking-all.ensures,
       c.entry_answer-entry.ensures.1,
@@ -62,7 +62,7 @@ returns-then-changes c =
     let w = world_of a.runtime (held_pending a.places a.pending.now)
     (held_circuits a.places a.circuits.now) l (held_actions a.places a.inflight.now) in
     let call = call_replace_enabled a.expected_generation a.enabled (length a.out.now) in
-    let answer = c.first_refusal-answer.ensures
+    let answer = c.and-answer.ensures
     ∙ (λ x. (c.entry_answer-entry.ensures.0
     ∙ entry-held (ltb (length a.out.now)
     (closing_words
@@ -70,7 +70,7 @@ returns-then-changes c =
     + count is_circuit (held_circuits a.places a.circuits.now)))) Short a.runtime.config
     (length (held_pending a.places a.pending.now)) (length (held_circuits a.places a.circuits.now))
     a.places a.inflight.now) x
-    then (c.first_refusal-rest.ensures
+    then (c.and-rest.ensures
     ∙ (λ y. c.generation_answer-current.ensures y
     then (c.change_answer-exhausted.ensures
     ∙ ap (λ (b : Bool). change_answer a.runtime.generation b) c.changed-changes.ensures) y)) x) in
@@ -79,13 +79,13 @@ returns-then-changes c =
     ∙ ap (λ (o : Outcome). ending a.out.now o)
     (changed_state a.runtime (held_pending a.places a.pending.now)
     (held_circuits a.places a.circuits.now) l (held_actions a.places a.inflight.now)
-    a.expected_generation (length a.out.now) a.enabled c.first_refusal-answer.result answer
-    (sym c.is_taken.ensures ∙ c.if-is_taken.true) (sym c.changed-changes.ensures ∙ c.if-changes.true))
+    a.expected_generation (length a.out.now) a.enabled c.and-answer.result answer
+    (sym c.is_ok.ensures.value ∙ c.if-is_ok.true) (sym c.changed-changes.ensures ∙ c.if-changes.true))
     ∙ whole a.out.now w call (omega arith) (omega arith)
 
-pub returns-then-is_taken : goal.returns-then-is_taken
+pub returns-then-is_ok : goal.returns-then-is_ok
 unfolding room_answer tables_short pending_count circuit_count step
-returns-then-is_taken c =
+returns-then-is_ok c =
     λ l₀.
     let s = c in
     let a = s.args in
@@ -93,7 +93,7 @@ returns-then-is_taken c =
     let w = world_of a.runtime (held_pending a.places a.pending.now)
     (held_circuits a.places a.circuits.now) l (held_actions a.places a.inflight.now) in
     let call = call_replace_enabled a.expected_generation a.enabled (length a.out.now) in
-    let answer = c.first_refusal-answer.ensures
+    let answer = c.and-answer.ensures
     ∙ (λ x. (c.entry_answer-entry.ensures.0
     ∙ entry-held (ltb (length a.out.now)
     (closing_words
@@ -101,7 +101,7 @@ returns-then-is_taken c =
     + count is_circuit (held_circuits a.places a.circuits.now)))) Short a.runtime.config
     (length (held_pending a.places a.pending.now)) (length (held_circuits a.places a.circuits.now))
     a.places a.inflight.now) x
-    then (c.first_refusal-rest.ensures
+    then (c.and-rest.ensures
     ∙ (λ y. c.generation_answer-current.ensures y
     then (c.change_answer-exhausted.ensures
     ∙ ap (λ (b : Bool). change_answer a.runtime.generation b) c.changed-changes.ensures) y)) x) in
@@ -110,8 +110,8 @@ returns-then-is_taken c =
     a.places c.taken_with.ensures.1
     ∙ same_state a.runtime (held_pending a.places a.pending.now) (held_circuits a.places a.circuits.now)
     l (held_actions a.places a.inflight.now) a.expected_generation (length a.out.now) a.enabled
-    c.first_refusal-answer.result answer c.taken_with.result a.out.now
-    (sym c.is_taken.ensures ∙ c.if-is_taken.true) (sym c.changed-changes.ensures ∙ c.if-changes.false)
+    c.and-answer.result answer c.taken_with.result a.out.now
+    (sym c.is_ok.ensures.value ∙ c.if-is_ok.true) (sym c.changed-changes.ensures ∙ c.if-changes.false)
     c.taken_with.ensures.0
     ∙ whole a.out.now w call (omega arith) (omega arith)
 
@@ -125,7 +125,7 @@ returns c =
     let w = world_of a.runtime (held_pending a.places a.pending.now)
     (held_circuits a.places a.circuits.now) l (held_actions a.places a.inflight.now) in
     let call = call_replace_enabled a.expected_generation a.enabled (length a.out.now) in
-    let answer = c.first_refusal-answer.ensures
+    let answer = c.and-answer.ensures
     ∙ (λ x. (c.entry_answer-entry.ensures.0
     ∙ entry-held (ltb (length a.out.now)
     (closing_words
@@ -133,7 +133,7 @@ returns c =
     + count is_circuit (held_circuits a.places a.circuits.now)))) Short a.runtime.config
     (length (held_pending a.places a.pending.now)) (length (held_circuits a.places a.circuits.now))
     a.places a.inflight.now) x
-    then (c.first_refusal-rest.ensures
+    then (c.and-rest.ensures
     ∙ (λ y. c.generation_answer-current.ensures y
     then (c.change_answer-exhausted.ensures
     ∙ ap (λ (b : Bool). change_answer a.runtime.generation b) c.changed-changes.ensures) y)) x) in
@@ -141,6 +141,6 @@ returns c =
     places-kept c.refused.result a.pending.now a.circuits.now l₀ a.inflight.now a.out.now
     a.places c.refused.ensures.1
     ∙ turned_away a.runtime (held_pending a.places a.pending.now) (held_circuits a.places a.circuits.now)
-    l (held_actions a.places a.inflight.now) a.out.now c.refused.result c.first_refusal-answer.result
-    _ _ c.refused.ensures.0 (sym c.is_taken.ensures ∙ c.if-is_taken.false) answer
+    l (held_actions a.places a.inflight.now) a.out.now c.refused.result c.and-answer.result
+    _ _ c.refused.ensures.0 (sym c.is_ok.ensures.value ∙ c.if-is_ok.false) answer
     ∙ whole a.out.now w call (omega arith) (omega arith)

@@ -22,9 +22,9 @@ use Rattle.hnsr_circuit.specs.Laws.HeldTables.{places-kept, entry-held}
 use Rattle.hnsr_circuit.specs.Code.Held.{held_pending, held_circuits, held_ledger, held_actions}
 use Rattle.hnsr_circuit.proofs.calls.revoking.revoke_reservation.Goals as goal
 
-pub returns-then-is_taken : goal.returns-then-is_taken
+pub returns-then-is_ok : goal.returns-then-is_ok
 unfolding room_answer tables_short pending_count circuit_count step
-returns-then-is_taken c =
+returns-then-is_ok c =
     let s = c in
     let a = s.args in
     let w = world_of a.runtime (held_pending a.places a.pending.now)
@@ -38,7 +38,7 @@ returns-then-is_taken c =
     (held_circuits a.places a.circuits.now) (held_ledger a.places a.ledger.now)
     (held_actions a.places a.inflight.now) a.id (length a.out.now) c.entry_answer-entry.result.answer
     c.revoking-all.result (held_ledger a.places c.drop_usage.new.ledger)
-    (sym c.is_taken.ensures ∙ c.if-is_taken.true)
+    (sym c.is_ok.ensures.value ∙ c.if-is_ok.true)
     (c.entry_answer-entry.ensures.0
     ∙ entry-held (ltb (length a.out.now)
     (closing_words
@@ -63,7 +63,7 @@ returns c =
     ∙ turned_away a.runtime (held_pending a.places a.pending.now) (held_circuits a.places a.circuits.now)
     (held_ledger a.places a.ledger.now) (held_actions a.places a.inflight.now) a.out.now
     c.refused.result c.entry_answer-entry.result.answer _ (revoke_under w a.id) c.refused.ensures.0
-    (sym c.is_taken.ensures ∙ c.if-is_taken.false)
+    (sym c.is_ok.ensures.value ∙ c.if-is_ok.false)
     (c.entry_answer-entry.ensures.0
     ∙ entry-held (ltb (length a.out.now)
     (closing_words

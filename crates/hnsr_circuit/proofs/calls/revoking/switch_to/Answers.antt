@@ -18,7 +18,7 @@ returns-then-enabled c =
     ∙ switched-on a.runtime (held_pending a.places a.pending.now) (held_circuits a.places a.circuits.now)
     l (held_actions a.places a.inflight.now) c.with_enabled-switched.result
     (held_actions a.places c.clear_action.new.inflight) c.no_peer-nobody.result a.enabled
-    (c.with_enabled-switched.ensures s.requires.0) c.clear_action.ensures c.taken_with.result a.out.now
+    c.with_enabled-switched.ensures c.clear_action.ensures c.taken_with.result a.out.now
     c.if-enabled.true c.taken_with.ensures.0
 
 pub returns : goal.returns
@@ -32,4 +32,4 @@ returns c =
     (switched-off a.runtime (held_pending a.places a.pending.now) (held_circuits a.places a.circuits.now)
     l (held_actions a.places a.inflight.now) c.with_enabled-switched.result
     (held_actions a.places c.clear_action.new.inflight) c.no_peer-nobody.result a.enabled
-    (c.with_enabled-switched.ensures s.requires.0) c.clear_action.ensures a.all c.if-enabled.false s.requires.1)
+    c.with_enabled-switched.ensures c.clear_action.ensures a.all c.if-enabled.false s.requires.1)

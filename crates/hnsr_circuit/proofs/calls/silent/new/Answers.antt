@@ -26,21 +26,21 @@ use Rattle.hnsr_circuit.specs.declared.tables.places.Places.{Places}
 use Rattle.hnsr_circuit.specs.Runtime.{new_runtime}
 use Rattle.hnsr_circuit.proofs.calls.silent.new.Goals as goal
 
-pub returns-then-is_taken : goal.returns-then-is_taken
+pub returns-then-is_ok : goal.returns-then-is_ok
 unfolding start new_relay new_answer tables_short
-returns-then-is_taken c =
+returns-then-is_ok c =
     λ h.
     let a = c.args in
     let e = c.taken_with.ensures in
     let k = e.1 ∙ c.no_place-none.ensures in
-    let t = sym c.is_taken.ensures ∙ c.if-is_taken.true in
+    let t = sym c.is_ok.ensures.value ∙ c.if-is_ok.true in
     empties h _ a.pending.now _ a.circuits.now _ a.ledger.now _ a.inflight.now _
     c.taken_with.result c.new_answer-answer.result _
     (c.new_answer-answer.ensures
     ∙ ap (λ (b : Bool). session_answer a.session a.generation
     then validate_config a.config
     then check (b || eqb (length a.ledger.now) 0) Short) c.too_few-few.ensures)
-    (e.0.0 ∙ c.new_runtime-runtime.ensures, e.0.1 ∙ sym (taken_is c.new_answer-answer.result t), e.0.2) k
+    (e.0.0 ∙ c.new-runtime.ensures, e.0.1 ∙ sym (taken_is c.new_answer-answer.result t), e.0.2) k
     (ap (λ (n : Places). held_pending n a.pending.now) k
     ∙ held-cleared clear_pending is_pending pending-still a.pending.now)
     (ap (λ (n : Places). held_circuits n a.circuits.now) k
@@ -68,7 +68,7 @@ returns c =
     ∙ ap (λ (b : Bool). session_answer a.session a.generation
     then validate_config a.config
     then check (b || eqb (length a.ledger.now) 0) Short) c.too_few-few.ensures)
-    (e.0.0 ∙ c.no_runtime-off.ensures, e.0.1, e.0.2) k
+    (e.0.0, e.0.1, e.0.2) k
     (ap (λ (n : Places). held_pending n a.pending.now) k
     ∙ held_all clear_pending 18446744073709551615 a.pending.now (omega (arith, b.0)))
     (ap (λ (n : Places). held_circuits n a.circuits.now) k
@@ -77,4 +77,4 @@ returns c =
     ∙ held_all clear_usage 18446744073709551615 a.ledger.now (omega (arith, b.2)))
     (ap (λ (n : Places). held_actions n a.inflight.now) k
     ∙ held_all clear_action 18446744073709551615 a.inflight.now (omega (arith, b.3)))
-    (sym c.is_taken.ensures ∙ c.if-is_taken.false)
+    (sym c.is_ok.ensures.value ∙ c.if-is_ok.false)

@@ -1,12 +1,13 @@
 -- The counts are the definition's, and a refusal tells nothing.
 use mathlib.Core.Path.{◌≡◌, sym, ap, ◌∙◌}
 use mathlib.Core.Bool.{Bool, false}
+use Rattle.std.proofs.Common.{Ok, Err}
+use Rattle.std.proofs.lemmas.Result.{err_from_is_err_and}
 use lib.ListN.{length}
-use Rattle.hnsr_circuit.specs.declared.answer.HnsrAnswer.TheVariants.{Taken}
 use Rattle.hnsr_circuit.specs.declared.answer.HnsrRuntimeError.TheVariants.{Short}
 use Rattle.hnsr_circuit.specs.declared.tables.scan.ActionQuestion.{ActionQuestion}
 use Rattle.hnsr_circuit.specs.declared.tables.scan.InflightTally.{InflightTally}
-use Rattle.hnsr_circuit.specs.Answers.{check, ◌then◌, taken}
+use Rattle.hnsr_circuit.specs.Answers.{check, ◌then◌}
 use Rattle.hnsr_circuit.specs.Peer.{peer_of}
 use Rattle.hnsr_circuit.specs.Inflight.{tallied, capacity_left}
 use Rattle.hnsr_circuit.specs.Entry.{tables_answer, tables_short, peer_answer}
@@ -22,9 +23,26 @@ use Rattle.hnsr_circuit.specs.Laws.QuietCalls.{tells-status, tells-nothing}
 use Rattle.hnsr_circuit.specs.Laws.HeldTables.{few-held}
 use Rattle.hnsr_circuit.proofs.calls.silent.status.Goals as goal
 
-pub returns-then-is_taken : goal.returns-then-is_taken
+pub returns-in_err-status_answer : goal.returns-in_err-status_answer
+unfolding step status tables_answer tables_short
+returns-in_err-status_answer c =
+    λ l₀.
+    let a = c.args in
+    let w = world_of a.runtime (held_pending a.places a.pending.now)
+    (held_circuits a.places a.circuits.now) (held_ledger a.places l₀)
+    (held_actions a.places a.inflight.now) in
+    let row = c.status_answer.ensures
+    ∙ ap (λ (b : Bool). check b Short then peer_answer (length a.peer.now)) (c.too_few-few.ensures
+    ∙ few-held a.runtime.config a.places a.pending.now a.circuits.now a.inflight.now) in
+    let p = err_from_is_err_and c.from_residual.result c.from_residual.ensures.1 in
+    p.1
+    ∙ tells-nothing (status_of w) (action_capacity w (peer_of a.peer.now) a.circuit_id) w
+    (tables_answer w then peer_answer (length a.peer.now)) p.0
+    (sym row ∙ c.in_err-status_answer.was ∙ ap Err (sym p.2))
+
+pub returns : goal.returns
 unfolding step status tables_answer tables_short status_of pending_count action_capacity actions_scanned tallied
-returns-then-is_taken c =
+returns c =
     λ l₀.
     let a = c.args in
     let i = held_actions a.places a.inflight.now in
@@ -38,32 +56,14 @@ returns-then-is_taken c =
     ∙ ap (λ (q : ActionQuestion). tallied q.replacing q.circuit_id q.peer i) question in
     let all = ap (λ (x : InflightTally). x.total) tally ∙ all-counted a.circuit_id i in
     let e = c.status_told.ensures in
-    let row = c.status_answer-answer.ensures
+    let row = c.status_answer.ensures
     ∙ ap (λ (b : Bool). check b Short then peer_answer (length a.peer.now)) (c.too_few-few.ensures
     ∙ few-held a.runtime.config a.places a.pending.now a.circuits.now a.inflight.now) in
-    (λ x. record { answer = e.0 x; status = e.1 x; action_capacity = e.2 x })
-    ∙ (λ x. record {
-      answer = Taken;
+    (λ x. Ok (record { status = e.0 x; action_capacity = e.1 x }))
+    ∙ (λ x. Ok (record {
       status = status_from a.runtime (n x) (t x) (all x);
       action_capacity = capacity_left a.runtime.config (tally x);
-    })
+    }))
     ∙ tells-status (status_of w) (action_capacity w (peer_of a.peer.now) a.circuit_id) w
     (tables_answer w then peer_answer (length a.peer.now))
-    (ap taken (sym row) ∙ sym c.is_taken.ensures ∙ c.if-is_taken.true)
-
-pub returns : goal.returns
-unfolding step status tables_answer tables_short
-returns c =
-    λ l₀.
-    let a = c.args in
-    let w = world_of a.runtime (held_pending a.places a.pending.now)
-    (held_circuits a.places a.circuits.now) (held_ledger a.places l₀)
-    (held_actions a.places a.inflight.now) in
-    let e = c.status_refused.ensures in
-    let row = c.status_answer-answer.ensures
-    ∙ ap (λ (b : Bool). check b Short then peer_answer (length a.peer.now)) (c.too_few-few.ensures
-    ∙ few-held a.runtime.config a.places a.pending.now a.circuits.now a.inflight.now) in
-    (λ x. record { answer = (e.0 ∙ row) x; status = e.1 x; action_capacity = e.2 x })
-    ∙ tells-nothing (status_of w) (action_capacity w (peer_of a.peer.now) a.circuit_id) w
-    (tables_answer w then peer_answer (length a.peer.now))
-    (ap taken (sym row) ∙ sym c.is_taken.ensures ∙ c.if-is_taken.false)
+    (sym row ∙ c.in_ok-status_answer.was)

@@ -1,16 +1,14 @@
 -- What the rows refuse is refused; else the tables are the definition's, and OPENED is sent.
-use mathlib.Core.Path.{ap, ◌∙◌, ◌≡◌, sym}
+use mathlib.Core.Path.{ap, ◌∙◌, sym}
 use Rattle.hnsr_circuit.specs.World.{Outcome, proceed, world_of}
 use Rattle.hnsr_circuit.specs.Code.Progress.{ending, message_of}
 use Rattle.hnsr_circuit.specs.Laws.Opening.{accept_ends, accept_refused}
-use Rattle.hnsr_circuit.specs.declared.messages.accept.AcceptPlan.{AcceptPlan}
 use Rattle.hnsr_circuit.specs.Queue.{send}
 use mathlib.Core.Bool.{true}
 use mathlib.Core.List.{List}
 use Prim.Native.Nat.{ℕ}
-use Rattle.hns_encoding.specs.Laws.Tests.{on-true}
 use Rattle.hnsr_circuit.specs.Circuits.{clear_circuit}
-use Rattle.hnsr_circuit.specs.Inflight.{action_under, dropped, tallied}
+use Rattle.hnsr_circuit.specs.Inflight.{tallied}
 use Rattle.hnsr_circuit.specs.Code.Held.{held, held_pending, held_circuits, held_ledger, held_actions, world_seen}
 use Rattle.hnsr_circuit.specs.Laws.HeldTables.{places-kept}
 use Rattle.hnsr_circuit.specs.declared.tables.places.Places.{Places}
@@ -18,8 +16,9 @@ use Rattle.hnsr_circuit.specs.Code.Question.{pending_work, circuit_work}
 use Rattle.hnsr_circuit.specs.Code.Opening.{accept_rows, accept_work}
 use Rattle.hnsr_circuit.proofs.messages.handle_accept.accept_found.Goals as goal
 
-pub returns-then-is_taken : goal.returns-then-is_taken
-returns-then-is_taken c =
+pub returns-then-is_ok : goal.returns-then-is_ok
+unfolding proceed
+returns-then-is_ok c =
     λ l₀ source body e rs en ef er.
     let a = c.args in
     let r = a.request in
@@ -34,25 +33,20 @@ returns-then-is_taken c =
     (circuit_work k cs) (tallied true r.packet.context_id a.found.pending.requester i)) in
     let wrote = c.accept_written-number.ensures in
     let plan = c.accept_plan-plan.result in
-    let t = sym c.is_taken.ensures ∙ c.if-is_taken.true in
-    let go : plan.go ≡ true = ap (λ (x : AcceptPlan). x.go) c.accept_plan-plan.ensures ∙ t in
-    let dropping =
-    c.drop_and_scan-scan.ensures.0 ∙ sym (on-true plan.go (dropped (action_under plan.id) i) i go) in
+    let t = sym c.is_ok.ensures.value ∙ c.if-is_ok.true in
     c.send.ensures c.accept_written-number.new.pending c.accept_written-number.new.circuits l₀
     ∙ ap (λ (m : Places). ending a.out.now
-    (let w = world_seen plan.runtime m c.accept_written-number.new.pending c.accept_written-number.new.circuits l₀
-    c.drop_and_scan-scan.new.inflight in
-    proceed w c.accept_answered-answer.result (send w (message_of plan.message c.to_bytes-bytes.result))))
+    (send (world_seen plan.runtime m c.accept_written-number.new.pending c.accept_written-number.new.circuits l₀
+    c.drop_and_scan-scan.new.inflight) (message_of plan.message c.to_bytes-bytes.result)))
     c.with_circuits-after.ensures
     ∙ ap (λ (b : List ℕ). ending a.out.now
-    (let w = world_of plan.runtime (held_pending n c.accept_written-number.new.pending)
+    (send (world_of plan.runtime (held_pending n c.accept_written-number.new.pending)
     (held clear_circuit c.accept_written-number.result c.accept_written-number.new.circuits) l
-    (held_actions n c.drop_and_scan-scan.new.inflight) in
-    proceed w c.accept_answered-answer.result (send w (message_of plan.message b)))) c.to_bytes-bytes.ensures
+    (held_actions n c.drop_and_scan-scan.new.inflight)) (message_of plan.message b))) c.to_bytes-bytes.ensures
     ∙ ap (λ (o : Outcome). ending a.out.now o)
     (accept_ends r.runtime p cs l i r.packet source body e rs a.found a.read c.accept_answered-answer.result
-    plan c.found_unmarked-row.result c.circuit_for-circuit.result _ _ _ ef er ea c.accept_plan-plan.ensures
-    c.found_unmarked-row.ensures c.circuit_for-circuit.ensures wrote.0 wrote.1 dropping)
+    plan c.found_unmarked-row.result c.circuit_for-circuit.result _ _ _ ef er ea t c.accept_plan-plan.ensures
+    c.found_unmarked-row.ensures c.circuit_for-circuit.ensures wrote.0 wrote.1 c.drop_and_scan-scan.ensures.0)
 
 pub returns : goal.returns
 returns c =
@@ -71,4 +65,4 @@ returns c =
     c.refused.ensures.1
     ∙ accept_refused r.runtime p cs (held_ledger n l₀) i r.packet source body e rs a.out.now a.found
     a.read c.accept_answered-answer.result c.refused.result ef er ea
-    (sym c.is_taken.ensures ∙ c.if-is_taken.false) c.refused.ensures.0
+    (sym c.is_ok.ensures.value ∙ c.if-is_ok.false) c.refused.ensures.0

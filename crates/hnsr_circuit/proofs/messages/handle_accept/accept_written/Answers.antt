@@ -1,4 +1,5 @@
 -- One store or drop for each table.
+use mathlib.Core.Bool.{true}
 use Rattle.hnsr_circuit.specs.Pending.{clear_pending}
 use Rattle.hnsr_circuit.specs.Laws.Held.{stored-seen}
 use Rattle.hnsr_circuit.proofs.messages.handle_accept.accept_written.Goals as goal
@@ -7,7 +8,7 @@ pub returns : goal.returns
 returns c =
     let s = c in
     let a = s.args in (
-      stored-seen clear_pending a.places.pending a.pending.now _ a.plan.go a.plan.place a.unmarked
+      stored-seen clear_pending a.places.pending a.pending.now _ true a.plan.place a.unmarked
           (λ h. s.requires) c.set_pending.ensures,
       c.put_circuit.ensures,
     )

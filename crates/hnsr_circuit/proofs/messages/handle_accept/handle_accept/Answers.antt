@@ -22,5 +22,5 @@ returns c =
     ∙ accept_entered a.request.runtime (held_pending n a.pending.now) (held_circuits n a.circuits.now)
     (held_ledger n l₀) (held_actions n a.inflight.now) a.request.packet source a.body.now e rs a.out.now
     c.pending_by_id-found.result c.decode-read.result c.accept_entry-entered.result c.refused.result
-    c.pending_by_id-found.ensures c.decode-read.ensures entered (sym c.is_taken.ensures ∙ c.if-is_taken.false)
+    c.pending_by_id-found.ensures c.decode-read.ensures entered (sym c.is_ok.ensures.value ∙ c.if-is_ok.false)
     c.refused.ensures.0

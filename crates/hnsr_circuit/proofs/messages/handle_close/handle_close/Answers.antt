@@ -15,4 +15,4 @@ returns c =
     ∙ detail_refused a.request.runtime (held_pending n a.pending.now) (held_circuits n a.circuits.now)
     (held_ledger n l₀) (held_actions n a.inflight.now) a.request.packet source a.body.now e rs a.out.now
     c.decode-read.result c.body_answer-entered.result c.refused.result c.decode-read.ensures
-    c.body_answer-entered.ensures (sym c.is_taken.ensures ∙ c.if-is_taken.false) c.refused.ensures.0
+    c.body_answer-entered.ensures (sym c.is_ok.ensures.value ∙ c.if-is_ok.false) c.refused.ensures.0

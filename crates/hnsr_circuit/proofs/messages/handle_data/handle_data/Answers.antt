@@ -23,4 +23,4 @@ returns c =
     ∙ data_refused a.request.runtime (held_pending n p₀) (held_circuits n a.circuits.now)
     (held_ledger n a.ledger.now) (held_actions n a.inflight.now) a.request.packet source a.body.now e rs
     a.out.now c.circuit_by_id-named.result c.data_entry-entered.result c.refused.result
-    c.circuit_by_id-named.ensures entered (sym c.is_taken.ensures ∙ c.if-is_taken.false) c.refused.ensures.0
+    c.circuit_by_id-named.ensures entered (sym c.is_ok.ensures.value ∙ c.if-is_ok.false) c.refused.ensures.0

@@ -18,8 +18,8 @@ unfolding pending_work circuit_work
 open_lapsed-requires c =
     ap (λ (g : OpenGathered). g.waiting.holds || g.running.holds) c.gather-gathered.ensures
 
-pub returns-then-is_taken : goal.returns-then-is_taken
-returns-then-is_taken c =
+pub returns-then-is_ok : goal.returns-then-is_ok
+returns-then-is_ok c =
     λ source en.
     let a = c.args in
     let r = a.request in
@@ -27,7 +27,7 @@ returns-then-is_taken c =
     let g = c.gather-gathered.ensures
     ∙ (λ x. gathering r.packet (en x) a.body.now a.endpoint.now a.random.now
     (held_pending n a.pending.now) (held_circuits n a.circuits.now)) in
-    let t = sym c.is_taken.ensures ∙ c.if-is_taken.true in
+    let t = sym c.is_ok.ensures.value ∙ c.if-is_ok.true in
     let q = packet_of r.packet source a.body.now a.endpoint.now a.random.now in
     let w =
     world_seen r.runtime n a.pending.now a.circuits.now c.drop_lapsed.new.ledger a.inflight.now in
@@ -53,5 +53,5 @@ returns c =
     ∙ open_refused r.runtime (held_pending n a.pending.now) (held_circuits n a.circuits.now)
     (held_ledger n a.ledger.now) (held_actions n a.inflight.now) r.packet source a.body.now
     a.endpoint.now a.random.now c.gather-gathered.result c.open_rows-answer.result c.refused.result
-    a.out.now g c.open_rows-answer.ensures (sym c.is_taken.ensures ∙ c.if-is_taken.false)
+    a.out.now g c.open_rows-answer.ensures (sym c.is_ok.ensures.value ∙ c.if-is_ok.false)
     c.refused.ensures.0

@@ -9,12 +9,12 @@ use Rattle.hnsr_circuit.specs.Code.Progress.{ending, message_of}
 use Rattle.hnsr_circuit.specs.Laws.Opening.{booked-ends, booked_refused}
 use Rattle.hnsr_circuit.proofs.messages.handle_open.open_booked.Goals as goal
 
-pub returns-then-is_taken : goal.returns-then-is_taken
-returns-then-is_taken c =
+pub returns-then-is_ok : goal.returns-then-is_ok
+returns-then-is_ok c =
     λ cs₀ l₀ found free.
     let a = c.args in
     let n = a.places in
-    let go = sym c.is_taken.ensures ∙ c.if-is_taken.true in
+    let go = sym c.is_ok.ensures.value ∙ c.if-is_ok.true in
     c.send.ensures c.put_pending-number.new.pending cs₀ l₀
     ∙ ap (λ (m : Places). ending a.out.now
     (let w = world_seen c.opened-counted.result m c.put_pending-number.new.pending cs₀ l₀ a.inflight.now in
@@ -36,5 +36,5 @@ returns c =
     c.refused.ensures.1
     ∙ booked_refused a.runtime (held_pending n a.pending.now) (held_circuits n cs₀) (held_ledger n l₀)
     (held_actions n a.inflight.now) a.plan a.usage c.usage_answer-answer.result c.refused.result
-    a.out.now found c.usage_answer-answer.ensures (sym c.is_taken.ensures ∙ c.if-is_taken.false)
+    a.out.now found c.usage_answer-answer.ensures (sym c.is_ok.ensures.value ∙ c.if-is_ok.false)
     c.refused.ensures.0

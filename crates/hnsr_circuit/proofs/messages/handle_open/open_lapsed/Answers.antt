@@ -16,4 +16,4 @@ returns c =
     (held_ledger n a.ledger.now) (held_actions n a.inflight.now) q source body endpoint a.random.now
     a.gathered c.draw-drawing.result c.open_plan-plan.result c.placed_entry-entered.result c.refused.result
     a.out.now given c.draw-drawing.ensures c.open_plan-plan.ensures c.placed_entry-entered.ensures
-    (sym c.is_taken.ensures ∙ c.if-is_taken.false) c.refused.ensures.0
+    (sym c.is_ok.ensures.value ∙ c.if-is_ok.false) c.refused.ensures.0

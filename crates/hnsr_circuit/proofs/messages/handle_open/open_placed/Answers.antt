@@ -18,16 +18,16 @@ use Rattle.hnsr_circuit.specs.Open.{open_booked}
 use Rattle.hnsr_circuit.specs.Draw.{draws}
 use Rattle.hnsr_circuit.proofs.messages.handle_open.open_placed.Goals as goal
 
-pub returns-then-is_taken : goal.returns-then-is_taken
+pub returns-then-is_ok : goal.returns-then-is_ok
 unfolding usage_at is_usage
-returns-then-is_taken c =
+returns-then-is_ok c =
     λ c₀ q source body endpoint rs eg ed eo.
     let a = c.args in
     let n = a.places in
     let r = a.ledger.now in
     let t = held_ledger n r in
     let id = a.plan.ticket.reservation_id in
-    let go = sym c.is_taken.ensures ∙ c.if-is_taken.true in
+    let go = sym c.is_ok.ensures.value ∙ c.if-is_ok.true in
     let room = c.scan_ledger-booked.ensures in
     let row =
     c.booked_usage-row.ensures ∙ (λ x. cond (room x).found (room x).usage (fresh_usage a.plan.ticket)) in
@@ -70,4 +70,4 @@ returns c =
     c.incoming_out-message.result c.asking-question.result c.scan_actions-scan.result c.scan_ledger-booked.result
     c.placed_rows-answer.result eg ed eo c.incoming_out-message.ensures c.asking-question.ensures
     c.scan_actions-scan.ensures c.scan_ledger-booked.ensures c.placed_rows-answer.ensures c.refused.result
-    a.out.now (sym c.is_taken.ensures ∙ c.if-is_taken.false) c.refused.ensures.0
+    a.out.now (sym c.is_ok.ensures.value ∙ c.if-is_ok.false) c.refused.ensures.0

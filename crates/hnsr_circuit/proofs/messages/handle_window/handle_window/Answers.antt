@@ -21,5 +21,5 @@ returns c =
     ∙ window_refused a.request.runtime (held_pending n p₀) (held_circuits n a.circuits.now) (held_ledger n l₀)
     (held_actions n a.inflight.now) a.request.packet source a.body.now e rs a.out.now
     c.decode-read.result c.circuit_by_id-named.result c.window_entry-entered.result c.refused.result
-    c.decode-read.ensures c.circuit_by_id-named.ensures entered (sym c.is_taken.ensures ∙ c.if-is_taken.false)
+    c.decode-read.ensures c.circuit_by_id-named.ensures entered (sym c.is_ok.ensures.value ∙ c.if-is_ok.false)
     c.refused.ensures.0

@@ -12,7 +12,7 @@ returns c =
     rw (
       c.endpoint_answer.ensures,
       c.reservation_work-under.ensures,
-      c.saturating_add_usize-work.ensures,
+      c.saturating_add-work.ensures,
       leb_sum s.args.config.maximum_circuits_per_peer s.args.waiting.of_other
           s.args.running.of_other (search rules),
       leb_sum s.args.ticket.max_active_circuits s.args.waiting.under s.args.running.under

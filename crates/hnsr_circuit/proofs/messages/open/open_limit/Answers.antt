@@ -11,7 +11,7 @@ returns c =
     let s = c in
     rw (
       c.open_answer.ensures,
-      c.saturating_add_usize-work.ensures,
+      c.saturating_add-work.ensures,
       leb_sum s.args.config.maximum_circuits_per_peer s.args.waiting.of_peer
           s.args.running.of_peer (search rules),
     )

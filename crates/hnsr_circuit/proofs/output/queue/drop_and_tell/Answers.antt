@@ -2,11 +2,10 @@
 use mathlib.Core.Path.{sym, ap, ◌∙◌}
 use mathlib.Core.List.{List}
 use Prim.Native.Nat.{ℕ}
-use Rattle.hnsr_circuit.specs.Queue.{when, tell}
+use Rattle.hnsr_circuit.specs.Queue.{tell}
 use Rattle.hnsr_circuit.specs.Code.Progress.{message_of, underway, advance}
 use Rattle.hnsr_circuit.specs.Laws.Route.{notice_length, notice_bytes}
 use lib.Seq.{length-take-le}
-use mathlib.Core.Bool.{true}
 use lib.ListN.{take}
 use Rattle.hnsr_circuit.specs.Inflight.{action_under, dropped}
 use Rattle.hnsr_circuit.specs.Code.Held.{held_pending, held_circuits, held_ledger, held_actions}
@@ -30,9 +29,9 @@ returns c =
     let u = dropped (action_under a.id) (held_actions n a.inflight.now) in
     c.tell_scanned.ensures p₀ cs₀ l₀
     ∙ ap (λ (i : List InflightAction). advance
-    (when true (tell (message_of a.message (take c.encode-written.result.length c.encode-written.result.bytes))))
+    (tell (message_of a.message (take c.encode-written.result.length c.encode-written.result.bytes)))
     (underway a.sending (held_pending n p₀) (held_circuits n cs₀) (held_ledger n l₀) i a.out.now))
     c.drop_and_scan-scan.ensures.0
-    ∙ ap (λ (b : List ℕ). advance (when true (tell (message_of a.message b)))
+    ∙ ap (λ (b : List ℕ). advance (tell (message_of a.message b))
     (underway a.sending (held_pending n p₀) (held_circuits n cs₀) (held_ledger n l₀) u a.out.now))
     (notice_bytes c.encode-written.result a.notice c.encode-written.ensures)

@@ -2,7 +2,7 @@
 use mathlib.Core.Path.{sym, ap, ◌∙◌}
 use mathlib.Core.List.{List}
 use Prim.Native.Nat.{ℕ}
-use Rattle.hnsr_circuit.specs.Queue.{when, tell}
+use Rattle.hnsr_circuit.specs.Queue.{tell}
 use Rattle.hnsr_circuit.specs.Code.Progress.{message_of, advance}
 use Rattle.hnsr_circuit.specs.Laws.Route.{notice_length, notice_bytes}
 use lib.Seq.{length-take-le}
@@ -23,6 +23,6 @@ returns c =
     λ p₀ cs₀ l₀.
     let a = c.args in
     c.tell_scanned.ensures p₀ cs₀ l₀
-    ∙ ap (λ (b : List ℕ). advance (when a.go (tell (message_of a.message b)))
+    ∙ ap (λ (b : List ℕ). advance (tell (message_of a.message b))
     (underway_seen a.sending p₀ cs₀ l₀ a.inflight.now a.out.now))
     (notice_bytes c.encode-written.result a.notice c.encode-written.ensures)

@@ -4,7 +4,7 @@ use native.Mathlib.Omega.{arith}
 use mathlib.Core.Path.{refl, ap, ◌∙◌}
 use mathlib.Core.List.{[], ◌∷◌, ◌++◌}
 use Rattle.hns_encoding.specs.Words.{words_of, high_low}
-use Rattle.hns_encoding.specs.Laws.Words.{words_of-length}
+use Rattle.hns_encoding.specs.Laws.Words.{words_of_length}
 use Rattle.hns_encoding.specs.Cursor.{written}
 use Rattle.hnsr_circuit.specs.Peer.{peer_bytes}
 use Rattle.hnsr_circuit.specs.Route.{name_words, kind_word, peer_words}
@@ -26,7 +26,7 @@ returns c =
     let w3 = wrote_next c.put_number_at-2.new.out (high_low a.sequence) 2 w2 refl (omega arith)
     c.put_number_at-2.ensures in
     let w4 = wrote_next c.put_peer_at.new.out (words_of name_words (peer_bytes d)) name_words w3
-    (words_of-length name_words (peer_bytes d)) (omega arith) c.put_peer_at.ensures in
+    (words_of_length name_words (peer_bytes d)) (omega arith) c.put_peer_at.ensures in
     wrote_all w4 (omega arith)
     ∙ ap (λ (x : ℕ). written a.out.now a.at
     (x ∷ (high_low a.generation ++ high_low a.sequence ++ words_of name_words (peer_bytes d)))) word

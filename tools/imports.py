@@ -6,7 +6,7 @@
     --check                        exit status 1 if there is one
 
 A name is used if it stands anywhere outside the `use` lines and the comments: alone, before a `.` or a `::`, in an
-`unfolding` line, in a pattern; an operator `◌≡◌`, also by its parts; a trait of `std::io` by its methods. A `pub use`
+`unfolding` line, in a pattern; an operator `◌≡◌`, also by its parts; a trait by its methods. A `pub use`
 and a `use M.*` are kept. This is a reader's guess: prove again after --write. (`rt tidy` drops those of .antt files, by
 what the check says, in a crate that is proved; this asks .rt files and crates that are not.)
 """
@@ -16,7 +16,9 @@ USE = re.compile(r'^(?:ghost )?use (?P<path>[^\s{;]+?)(?:(?:\.|::)\{(?P<names>[^
                  r'(?: as (?P<alias>[^\s;]+))?;?\n', re.M)
 
 # a trait's import is used where one of its methods is called
-METHODS = {'Read': {'read', 'read_exact', 'read_to_end'}, 'Write': {'write', 'write_all', 'flush'}}
+METHODS = {'Read': {'read', 'read_exact', 'read_to_end'}, 'Write': {'write', 'write_all', 'flush'},
+           'TableRecord': {'is_used', 'unmarked', 'none'}, 'Question': {'holds'}, 'Numbered': {'id'},
+           'Timed': {'due_at'}}
 
 def stands(name, used):
     """a name, a method of a trait, or every part of an operator"""

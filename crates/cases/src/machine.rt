@@ -1,262 +1,259 @@
-// The cases over lent tables.
-use crate::script::{
-    ACCEPT, ENDPOINT, REQUESTER, Script, accept_body, answer_number, configured, head_of,
-    open_body, open_packet, packet, script_of,
-};
-use hns_encoding::encoder::Encoder;
-use hns_encoding::numbers::min_usize;
+// A relay over lent tables, and the calls of the cases.
+use crate::script::{Case, Opcode, Peer, Step};
+use hnsr_body::accept_body::AcceptBody;
+use hnsr_body::data_body::DataBody;
+use hnsr_body::open_body::OpenBody;
+use hnsr_body::values::ReservationId;
+use hnsr_circuit::answer::HnsrAnswer;
 use hnsr_circuit::calls::acknowledge::acknowledge;
 use hnsr_circuit::calls::handle::handle;
 use hnsr_circuit::calls::silent::new;
-use hnsr_circuit::records::{InflightAction, RelayCircuit, RelayPending, ReservationUsage};
+use hnsr_circuit::config::OpaqueRelayConfig;
+use hnsr_circuit::peer::{HnsrPeerId, MAXIMUM_PEER};
+use hnsr_circuit::records::{
+    InflightAction, RelayCircuit, RelayPending, RelayTicket, ReservationUsage,
+};
 use hnsr_circuit::runtime::{RelayPacket, Relayed};
-use std::io;
 
-fn put_head(body: &mut [u8], head: [u8; 5]) {
-    let _ = Encoder { position: 0 }.put_bytes(body, &head);
+// ---- what is lent
+
+const NOBODY: HnsrPeerId = HnsrPeerId {
+    len: 0,
+    bytes: [0; MAXIMUM_PEER],
+};
+
+const NO_RESERVATION: ReservationId = ReservationId { high: 0, low: 0 };
+
+const NO_TICKET: RelayTicket = RelayTicket {
+    reservation_id: NO_RESERVATION,
+    expires_at: 0,
+    max_active_circuits: 0,
+    max_bytes_per_circuit: 0,
+    max_total_bytes: 0,
+};
+
+const NO_PENDING: RelayPending = RelayPending {
+    used: false,
+    circuit_id: 0,
+    requester: NOBODY,
+    endpoint: NOBODY,
+    requester_context: 0,
+    ticket: NO_TICKET,
+    initial_window: 0,
+    deadline: 0,
+};
+
+const NO_CIRCUIT: RelayCircuit = RelayCircuit {
+    used: false,
+    circuit_id: 0,
+    requester: NOBODY,
+    endpoint: NOBODY,
+    reservation_id: NO_RESERVATION,
+    expires_at: 0,
+    maximum_bytes: 0,
+    maximum_total_bytes: 0,
+    requester_credit: 0,
+    endpoint_credit: 0,
+    forwarded_bytes: 0,
+    queued_to_requester: 0,
+    queued_to_endpoint: 0,
+};
+
+const NO_USAGE: ReservationUsage = ReservationUsage {
+    used: false,
+    reservation_id: NO_RESERVATION,
+    bytes: 0,
+    expires_at: 0,
+};
+
+const NO_ACTION: InflightAction = InflightAction {
+    used: false,
+    generation: 0,
+    sequence: 0,
+    circuit_id: 0,
+    destination: NOBODY,
+    kind: 0,
+    to_endpoint: false,
+    bytes: 0,
+};
+
+// The tables and the output.
+#[derive(Drop)]
+pub(crate) struct Lent {
+    pending: [RelayPending; 2],
+    circuits: [RelayCircuit; 2],
+    ledger: [ReservationUsage; 1],
+    inflight: [InflightAction; 8],
+    out: [u32; 4136],
 }
 
-fn say(rt: &impl Print, case: u8, answer: u64) -> io::Result<()> {
-    println!(rt; "{case} {answer}")
+impl Lent {
+    // Before the first `new` (NEW.4).
+    pub(crate) const EMPTY: Self = Self {
+        pending: [NO_PENDING; 2],
+        circuits: [NO_CIRCUIT; 2],
+        ledger: [NO_USAGE; 1],
+        inflight: [NO_ACTION; 8],
+        out: [0; 4136],
+    };
 }
 
-// A packet on the circuit, from one peer.
-pub(crate) fn deliver(
-    pending: &mut [RelayPending],
-    circuits: &mut [RelayCircuit],
-    ledger: &mut [ReservationUsage],
-    inflight: &mut [InflightAction],
-    out: &mut [u32],
-    kept: Relayed,
-    sent: RelayPacket,
-    peer: u8,
-    body: &[u8],
-) -> Relayed {
-    let source = [peer];
-    let none = [0u8; 1];
-    let runtime = kept.runtime;
-    let places = kept.places;
-    handle(
-        pending, circuits, ledger, inflight, out, runtime, places, sent, &source, body, &none,
-        &none,
-    )
-}
+// ---- what the calls are given
 
-// A new relay.
-pub(crate) fn begin(
-    pending: &[RelayPending],
-    circuits: &[RelayCircuit],
-    ledger: &[ReservationUsage],
-    inflight: &[InflightAction],
-    queue: usize,
-) -> Relayed {
-    let config = configured(queue);
-    let session = [1u8; 16];
-    new(pending, circuits, ledger, inflight, session, 1, config, 100)
-}
+const RESERVATION: ReservationId = ReservationId { high: 0, low: 5 };
 
-pub(crate) fn open_circuit(
-    pending: &mut [RelayPending],
-    circuits: &mut [RelayCircuit],
-    ledger: &mut [ReservationUsage],
-    inflight: &mut [InflightAction],
-    out: &mut [u32],
-    kept: Relayed,
-) -> Relayed {
-    let sent = open_packet();
-    let body = open_body();
-    let source = [REQUESTER];
-    let endpoint = [ENDPOINT];
-    let random = [0, 0, 0, 0, 0, 0, 0, 7u8];
-    let runtime = kept.runtime;
-    let places = kept.places;
-    handle(
-        pending, circuits, ledger, inflight, out, runtime, places, sent, &source, &body, &endpoint,
-        &random,
-    )
-}
+// The grant of the OPEN.
+const TICKET: RelayTicket = RelayTicket {
+    reservation_id: RESERVATION,
+    expires_at: 1000,
+    max_active_circuits: 1,
+    max_bytes_per_circuit: 20000,
+    max_total_bytes: 30000,
+};
 
-pub(crate) fn accept_circuit(
-    pending: &mut [RelayPending],
-    circuits: &mut [RelayCircuit],
-    ledger: &mut [ReservationUsage],
-    inflight: &mut [InflightAction],
-    out: &mut [u32],
-    kept: Relayed,
-    time: u64,
-) -> Relayed {
-    let sent = packet(ACCEPT, time);
-    let body = accept_body();
-    deliver(
-        pending, circuits, ledger, inflight, out, kept, sent, ENDPOINT, &body,
-    )
-}
+const OPEN_PACKET: RelayPacket = RelayPacket {
+    opcode: Opcode::Open as u8,
+    context_id: 9,
+    now: 100,
+    key_valid: true,
+    admitted: true,
+    ticket: TICKET,
+};
 
-// The OPEN, and then ACCEPT: the circuit is active if it is in time.
-pub(crate) fn open_and_accept(
-    pending: &mut [RelayPending],
-    circuits: &mut [RelayCircuit],
-    ledger: &mut [ReservationUsage],
-    inflight: &mut [InflightAction],
-    out: &mut [u32],
-    kept: Relayed,
-    accept_at: u64,
-) -> Relayed {
-    let opened = open_circuit(pending, circuits, ledger, inflight, out, kept);
-    accept_circuit(pending, circuits, ledger, inflight, out, opened, accept_at)
-}
+const OPEN: OpenBody = OpenBody {
+    ticket_id: [1; 32],
+    reservation_id: RESERVATION,
+    endpoint_key: [2; 33],
+    profile: 1,
+    requester_nonce: [3; 16],
+    initial_window: 32768,
+};
 
-pub(crate) fn prepare(
-    pending: &mut [RelayPending],
-    circuits: &mut [RelayCircuit],
-    ledger: &mut [ReservationUsage],
-    inflight: &mut [InflightAction],
-    out: &mut [u32],
-    script: Script,
-) -> Relayed {
-    let started = begin(pending, circuits, ledger, inflight, script.queue);
-    open_and_accept(
-        pending,
-        circuits,
-        ledger,
-        inflight,
-        out,
-        started,
-        script.accept_at,
-    )
-}
+const ACCEPT: AcceptBody = AcceptBody {
+    accepted_window: 32768,
+    endpoint_nonce: [4; 16],
+};
 
-// The packets of a case, on the active circuit.
-pub(crate) fn send_packets(
-    pending: &mut [RelayPending],
-    circuits: &mut [RelayCircuit],
-    ledger: &mut [ReservationUsage],
-    inflight: &mut [InflightAction],
-    out: &mut [u32],
-    kept: Relayed,
-    first: &[u8],
-    second: &[u8],
-    script: Script,
-) -> u64 {
-    let sent = packet(script.opcode, script.time);
-    let once = deliver(
-        pending,
-        circuits,
-        ledger,
-        inflight,
-        out,
-        kept,
-        sent,
-        script.peer,
-        first,
-    );
-    let answered = once.answer;
-    if script.packets == 1 {
-        return answer_number(answered);
+// One byte more than a DATA may have.
+const DATA: [u8; DataBody::MAX_SIZE + 1] = [65; DataBody::MAX_SIZE + 1];
+
+fn config(maximum_queue_bytes: usize) -> OpaqueRelayConfig {
+    OpaqueRelayConfig {
+        maximum_pending: 2,
+        maximum_circuits: 2,
+        maximum_queue_bytes,
+        maximum_inflight_actions: 8,
+        maximum_inflight_actions_per_circuit: 8,
+        maximum_inflight_actions_per_peer: 8,
+        ..OpaqueRelayConfig::default()
     }
-    again(
-        pending,
-        circuits,
-        ledger,
-        inflight,
-        out,
-        once,
-        sent,
-        second,
-        script.delivered,
-    )
 }
 
-pub(crate) fn run_case(
-    pending: &mut [RelayPending],
-    circuits: &mut [RelayCircuit],
-    ledger: &mut [ReservationUsage],
-    inflight: &mut [InflightAction],
-    out: &mut [u32],
-    body: &[u8],
-    script: Script,
-) -> u64 {
-    let ready = prepare(pending, circuits, ledger, inflight, out, script);
-    let accepted = ready.answer;
-    let size = min_usize(script.size, body.len());
-    let second = min_usize(script.second, body.len());
-    if script.packets == 0 {
-        return answer_number(accepted);
+// ---- the calls, each given what the call before it handed back
+
+impl Lent {
+    // A new relay, whatever the tables hold.
+    fn begin(&self, queue: usize) -> Relayed {
+        new(
+            &self.pending,
+            &self.circuits,
+            &self.ledger,
+            &self.inflight,
+            [1; 16],
+            1,
+            config(queue),
+            100,
+        )
     }
-    send_packets(
-        pending,
-        circuits,
-        ledger,
-        inflight,
-        out,
-        ready,
-        &body[..size],
-        &body[..second],
-        script,
-    )
-}
 
-// The second DATA, the first perhaps delivered: its route has sequence 3, INCOMING was 1 and OPENED 2.
-pub(crate) fn again(
-    pending: &mut [RelayPending],
-    circuits: &mut [RelayCircuit],
-    ledger: &mut [ReservationUsage],
-    inflight: &mut [InflightAction],
-    out: &mut [u32],
-    kept: Relayed,
-    sent: RelayPacket,
-    body: &[u8],
-    delivered: bool,
-) -> u64 {
-    if delivered {
-        let runtime = kept.runtime;
-        let places = kept.places;
-        let after = acknowledge(
-            pending, circuits, inflight, out, runtime, places, 1, 3, true,
-        );
-        let last = deliver(
-            pending, circuits, ledger, inflight, out, after, sent, REQUESTER, body,
-        );
-        let answer = last.answer;
-        return answer_number(answer);
+    fn open(&mut self, kept: Relayed) -> Relayed {
+        handle(
+            &mut self.pending,
+            &mut self.circuits,
+            &mut self.ledger,
+            &mut self.inflight,
+            &mut self.out,
+            kept.runtime,
+            kept.places,
+            OPEN_PACKET,
+            &[Peer::Requester as u8],
+            &OPEN.to_bytes(),
+            &[Peer::Endpoint as u8],
+            &[0, 0, 0, 0, 0, 0, 0, 7],
+        )
     }
-    let last = deliver(
-        pending, circuits, ledger, inflight, out, kept, sent, REQUESTER, body,
-    );
-    let answer = last.answer;
-    answer_number(answer)
-}
 
-pub(crate) fn one_case(
-    rt: &impl Print,
-    pending: &mut [RelayPending],
-    circuits: &mut [RelayCircuit],
-    ledger: &mut [ReservationUsage],
-    inflight: &mut [InflightAction],
-    out: &mut [u32],
-    body: &mut [u8],
-    case: u8,
-) -> io::Result<()> {
-    let script = script_of(case);
-    let head = head_of(case);
-    put_head(body, head);
-    let answer = run_case(pending, circuits, ledger, inflight, out, body, script);
-    say(rt, case, answer)
-}
-
-pub(crate) fn run_all(
-    rt: &impl Print,
-    pending: &mut [RelayPending],
-    circuits: &mut [RelayCircuit],
-    ledger: &mut [ReservationUsage],
-    inflight: &mut [InflightAction],
-    out: &mut [u32],
-    body: &mut [u8],
-) -> io::Result<()> {
-    let mut case: u8 = 1;
-    while case < 17 {
-        one_case(rt, pending, circuits, ledger, inflight, out, body, case)?;
-        case += 1;
+    // Any other packet, on the circuit.
+    fn deliver(
+        &mut self,
+        kept: Relayed,
+        opcode: Opcode,
+        peer: Peer,
+        now: u64,
+        body: &[u8],
+    ) -> Relayed {
+        let packet = RelayPacket {
+            opcode: opcode as u8,
+            context_id: 7,
+            now,
+            admitted: false,
+            ticket: NO_TICKET,
+            ..OPEN_PACKET
+        };
+        handle(
+            &mut self.pending,
+            &mut self.circuits,
+            &mut self.ledger,
+            &mut self.inflight,
+            &mut self.out,
+            kept.runtime,
+            kept.places,
+            packet,
+            &[peer as u8],
+            body,
+            &[0],
+            &[0],
+        )
     }
-    Ok(())
+
+    fn delivered(&mut self, kept: Relayed, sequence: u64) -> Relayed {
+        acknowledge(
+            &mut self.pending,
+            &mut self.circuits,
+            &mut self.inflight,
+            &mut self.out,
+            kept.runtime,
+            kept.places,
+            1,
+            sequence,
+            true,
+        )
+    }
+
+    fn step(&mut self, kept: Relayed, step: Step) -> Relayed {
+        match step {
+            Step::Accept(now) => {
+                let body = ACCEPT.to_bytes();
+                self.deliver(kept, Opcode::Accept, Peer::Endpoint, now, &body)
+            }
+            Step::Data(peer, now, size) => {
+                let size = size.min(DATA.len());
+                self.deliver(kept, Opcode::Data, peer, now, &DATA[..size])
+            }
+            Step::Packet(opcode, peer, body) => self.deliver(kept, opcode, peer, 100, body),
+            // INCOMING was 1, OPENED 2.
+            Step::Delivered => self.delivered(kept, 3),
+        }
+    }
+
+    // The answer of the last call (CASE.2).
+    pub(crate) fn run(&mut self, case: Case) -> HnsrAnswer {
+        let Case(queue, steps) = case;
+        let made = self.begin(queue);
+        let mut kept = self.open(made);
+        for step in steps {
+            kept = self.step(kept, *step);
+        }
+        kept.answer
+    }
 }

@@ -7,27 +7,17 @@ mod machine;
 mod samples;
 mod script;
 
-use crate::machine::run_all;
+use crate::machine::Lent;
 use crate::samples::run_samples;
-use crate::script::{empty_action, empty_circuit, empty_pending, empty_usage};
+use crate::script::CASES;
+use hnsr_circuit::answer::number as answer_number;
 use std::io;
 
 fn main(rt: HostRuntime) -> io::Result<()> {
-    let mut pending = [empty_pending(); 2];
-    let mut circuits = [empty_circuit(); 2];
-    let mut ledger = [empty_usage(); 1];
-    let mut inflight = [empty_action(); 8];
-    let mut out = [0u32; 4136];
-    let mut body = [65u8; 16385];
+    let mut lent = Lent::EMPTY;
     println!(rt; "case answer")?;
-    run_all(
-        &rt,
-        &mut pending,
-        &mut circuits,
-        &mut ledger,
-        &mut inflight,
-        &mut out,
-        &mut body,
-    )?;
+    for (number, case) in (1..=16).zip(CASES) {
+        println!(rt; "{number} {}", answer_number(lent.run(case)))?;
+    }
     run_samples(&rt)
 }

@@ -1,7 +1,8 @@
 // A cursor over a slice, by value: each method takes the cursor and the slice, and hands back the field with the cursor
 // behind it, or where and by how much the slice ends early. It counts elements, so that one type goes over bytes and
 // over 32-bit words.
-ghost use Rattle.std.specs.Prelude.{◌≡◌, ◌-◌, length};
+ghost use Rattle.std.specs.Prelude.{◌≡◌, ◌-◌, length, Some};
+ghost use Rattle.hns_encoding.specs.Texts.{error_text};
 ghost use Rattle.hns_encoding.specs.Words.{word_count};
 ghost use Rattle.hns_encoding.specs.Cursor.{bytes_read, finishes, part, reads_be};
 ghost use Rattle.hns_encoding.specs.Cursor.{reads_bytes, reads_high_low, reads_le};
@@ -10,6 +11,8 @@ ghost use Rattle.hns_encoding.specs.Cursor.{reads_word, steps, steps_in, unexpec
 use crate::room::{fits, missing};
 use crate::words::{copy_bytes, word_count};
 use std::cmp::Ordering;
+use std::error::Error;
+use std::fmt;
 
 #[derive(Clone, Copy, Debug, PartialEq, Eq)]
 pub enum DecodeError {
@@ -18,6 +21,21 @@ pub enum DecodeError {
     // Bytes behind the last field.
     TrailingBytes { remaining: usize },
 }
+
+impl fmt::Display for DecodeError {
+    ghost output = { λ error. Some (error_text error) };
+
+    fn fmt<W: fmt::Write>(&self, f: &mut fmt::Formatter<W>) -> fmt::Result {
+        match *self {
+            DecodeError::UnexpectedEnd { offset, needed } => {
+                write!(f, "ends early at {offset}\nmissing {needed}")
+            }
+            DecodeError::TrailingBytes { remaining } => write!(f, "trailing {remaining}"),
+        }
+    }
+}
+
+impl Error for DecodeError {}
 
 #[derive(Clone, Copy)]
 pub struct Decoder {
@@ -48,7 +66,8 @@ impl Decoder {
         input.len().saturating_sub(self.position)
     }
 
-    // The cursor behind the next `width` of `size` elements.
+    // The cursor behind the next `width` of `size` elements. The encoder's step has its own type and its own refusal:
+    // one function over both would be handed the two, and be no shorter.
     fn step(self, size: usize, width: usize) -> Result<Decoder, DecodeError>
         ensures { result ≡ steps_in width size self }
     {

@@ -1,13 +1,16 @@
 // A cursor over a lent slice that is written, by value: each method writes a field at the cursor and hands back the
 // cursor behind it. Where the field does not fit nothing is written, and the answer says by how much. It counts
 // elements: bytes or 32-bit words.
-ghost use Rattle.std.specs.Prelude.{◌≡◌, [], ◌∷◌};
+ghost use Rattle.std.specs.Prelude.{◌≡◌, [], ◌∷◌, Some};
 ghost use Rattle.hns_encoding.specs.Bytes.{be_bytes, le_bytes};
 ghost use Rattle.hns_encoding.specs.Words.{high_low, words, words_of};
 ghost use Rattle.hns_encoding.specs.Cursor.{Puts, put};
+ghost use Rattle.hns_encoding.specs.Texts.{no_room_text};
 
 use crate::room::{fits, missing};
 use crate::words::{put_words, word_count, write_at};
+use std::error::Error;
+use std::fmt;
 
 #[derive(Clone, Copy)]
 pub struct Encoder {
@@ -20,6 +23,17 @@ pub struct NoRoom {
     pub offset: usize,
     pub needed: usize,
 }
+
+impl fmt::Display for NoRoom {
+    ghost output = { λ refusal. Some (no_room_text refusal) };
+
+    fn fmt<W: fmt::Write>(&self, f: &mut fmt::Formatter<W>) -> fmt::Result {
+        let NoRoom { offset, needed } = *self;
+        write!(f, "no room at {offset}\nmissing {needed}")
+    }
+}
+
+impl Error for NoRoom {}
 
 impl Encoder {
     pub fn new() -> Self

@@ -1,11 +1,9 @@
-// Little-endian fields, a cursor that hands itself back, bytes as 32-bit words, sums that stop at their top, tests
-// joined. The lowest crate: it knows no message. Port of hns-encoding's lib.rs as far as the relay needs it.
+// Little-endian fields, a cursor that hands itself back, bytes as 32-bit words. The lowest crate: it knows no message.
+// Port of hns-encoding's lib.rs as far as the relay needs it.
 #![tactic(auto)]
 
 pub mod decoder;
 pub mod encoder;
-pub mod logic;
-pub mod numbers;
 pub mod room;
 pub mod words;
 

@@ -42,7 +42,8 @@ fn full_word_at(bytes: &[u8], at: usize) -> u32
     u32::from_le_bytes([bytes[at], bytes[at + 1], bytes[at + 2], bytes[at + 3]])
 }
 
-// The bytes as exactly the words of `out`, which they fill.
+// The bytes as exactly the words of `out`, which they fill. By the place: what `zip` leaves of a slice that its pairs
+// write did not prove, since an invariant cannot name that slice.
 #[tactic(auto, using(crate::specs::Laws::Words::words_of_each))]
 fn put_full_words(out: &mut [u32], bytes: &[u8])
     requires { 4 * length out.old ≤ length bytes.now }
@@ -63,7 +64,7 @@ fn put_short_words(out: &mut [u32], bytes: &[u8])
     }
 }
 
-// The same, the full words first: without their loop, which has no test, it takes a hundred times as long.
+// The same, the full words first: their loop has no test of an end, and compiles to a copy.
 pub(crate) fn put_words(out: &mut [u32], bytes: &[u8])
     ensures { out.new ≡ words_of (length out.old) bytes.now }
 {
@@ -81,7 +82,8 @@ pub(crate) fn write_at<T: Copy>(out: &mut [T], at: usize, elements: &[T])
     out[at..at + elements.len()].copy_from_slice(elements);
 }
 
-// As many bytes as `out` holds, from the words.
+// As many bytes as `out` holds, from the words. By the place: std says nothing of what a slice ends as that
+// `chunks_exact_mut` or `as_chunks_mut` lends.
 pub(crate) fn copy_bytes(out: &mut [u8], words: &[u32])
     requires { word_count (length out.old) ≤ length words.now }
     ensures { out.new ≡ take (length out.old) (bytes_of words.now) }

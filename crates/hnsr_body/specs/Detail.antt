@@ -2,17 +2,15 @@
 -- reason is accepted, in ERROR too (BODY.14).
 use Rattle.std.specs.Prelude.{ℕ, ◌+◌, ◌-◌, Bool, cond, ◌&&◌, List, [], ◌∷◌}
 use Rattle.std.specs.Prelude.{◌++◌, eqb, leb, length, drop, replicate, Result, Ok, Err}
-use Rattle.hns_encoding.specs.declared.decoder.Decoder.{Decoder}
-use Rattle.hns_encoding.specs.declared.decoder.DecodeError.{DecodeError}
 use Rattle.hns_encoding.specs.Bytes.{le, le_bytes}
 use Rattle.hnsr_body.specs.declared.detail_body.ReasonDetail.{ReasonDetail}
 use Rattle.hnsr_body.specs.declared.error.HnsrInvalid.TheVariants.{DiagnosticDetail, NotUtf8}
-use Rattle.hnsr_body.specs.declared.error.HnsrProtocolError.TheVariants.{Decode, TooLarge}
+use Rattle.hnsr_body.specs.declared.error.HnsrProtocolError.TheVariants.{TooLarge}
 use Rattle.hnsr_body.specs.declared.error.HnsrProtocolError.{HnsrProtocolError}
 use Rattle.hnsr_body.specs.declared.layout.Read.{Read}
 use Rattle.hnsr_body.specs.Causes.{answer, given}
 use Rattle.hnsr_body.specs.declared.layout.Padded.{Padded}
-use Rattle.hnsr_body.specs.Layout.{walked, field_of, padded_in}
+use Rattle.hnsr_body.specs.Layout.{walked, handed_on, field_of, padded_in}
 use Rattle.hnsr_body.specs.Utf8.{utf8}
 
 abbrev pub most_detail : ℕ
@@ -47,15 +45,12 @@ length_good body = length_is body (length_of body)
 unfoldable pub reason_detail : List ℕ → ReasonDetail
 reason_detail body = record { reason = reason_of body; detail_length = length_of body }
 
--- the two fields in front are there, whatever follows them
-abbrev pub headed : Result Decoder DecodeError → Result Unit HnsrProtocolError
-headed (Ok d) = Ok tt
-headed (Err e) = Err (Decode e)
-
+-- the two fields in front are there, whatever follows them; then the length and the text are right
 unfoldable pub decode_detail : List ℕ → Read ReasonDetail
 decode_detail body = record {
   result =
-      answer (answer (headed (walked detail_widths body (record { position = 0 }))) (length_good body) DiagnosticDetail)
+      answer
+      (answer (handed_on (walked detail_widths body (record { position = 0 }))) (length_good body) DiagnosticDetail)
       (utf8 (detail_of body)) NotUtf8;
   body = reason_detail body;
 }

@@ -1,9 +1,9 @@
 -- A body of fixed size is fields of given widths, one after the other (BODY.3, BODY.4).
-use Rattle.std.specs.Prelude.{ℕ, zero, suc, ◌+◌, cond, List, [], ◌∷◌, length, get_or, Result, Ok, Err}
+use Rattle.std.specs.Prelude.{ℕ, zero, suc, ◌+◌, List, [], ◌∷◌, length, get_or, Result, Ok, Err}
 use Rattle.hns_encoding.specs.declared.decoder.Decoder.{Decoder}
 use Rattle.hns_encoding.specs.declared.decoder.DecodeError.{DecodeError}
 use Rattle.hns_encoding.specs.Bytes.{padded}
-use Rattle.hns_encoding.specs.Cursor.{array_read, has, behind, unexpected_end, finishes}
+use Rattle.hns_encoding.specs.Cursor.{array_read, steps, finishes}
 use Rattle.hnsr_body.specs.declared.error.HnsrProtocolError.{HnsrProtocolError}
 use Rattle.hnsr_body.specs.declared.error.HnsrProtocolError.TheVariants.{Decode}
 use Rattle.hnsr_body.specs.declared.layout.Padded.{Padded}
@@ -12,22 +12,25 @@ use Rattle.hnsr_body.specs.declared.layout.Padded.{Padded}
 abbrev pub bytes_at : ℕ → List ℕ → ℕ → List ℕ
 bytes_at width body at = array_read width body (record { position = at })
 
+-- what comes behind a step: it goes on from the cursor, and an early end is handed on
+abbrev pub behind_step : {A : Type 0} → (Decoder → Result A DecodeError) → Result Decoder DecodeError
+    → Result A DecodeError
+behind_step go (Ok d) = go d
+behind_step go (Err e) = Err e
+
 -- the cursor behind fields of these widths, or the first that ends early
 unfoldable pub walked : List ℕ → List ℕ → Decoder → Result Decoder DecodeError
 walked [] input d = Ok d
-walked (width ∷ widths) input d =
-    cond (has width input d)
-    (walked widths input (behind width d))
-    (Err (unexpected_end (length input) d.position width))
+walked (width ∷ widths) input d = behind_step (walked widths input) (steps width input d)
 
--- what the cursor answers, as a reader hands it on
-abbrev pub handed : Result Unit DecodeError → Result Unit HnsrProtocolError
-handed (Ok done) = Ok tt
-handed (Err e) = Err (Decode e)
+-- what the cursor answers, as a reader hands it on: its refusal, and nothing of what it read
+abbrev pub handed_on : {A : Type 0} → Result A DecodeError → Result Unit HnsrProtocolError
+handed_on (Ok read) = Ok tt
+handed_on (Err e) = Err (Decode e)
 
 -- and then nothing is left
 abbrev pub finished : List ℕ → Result Decoder DecodeError → Result Unit HnsrProtocolError
-finished input (Ok d) = handed (finishes input d)
+finished input (Ok d) = handed_on (finishes input d)
 finished input (Err e) = Err (Decode e)
 
 unfoldable pub laid_out : List ℕ → List ℕ → Result Unit HnsrProtocolError

@@ -1,7 +1,8 @@
 -- The form of RFC 3629's ABNF that the code follows: the lead byte tells the length, and the range of the second byte.
 
 use Rattle.std.specs.Prelude.{ℕ, ◌<◌, ◌≡◌, Bool, cond, ◌&&◌, ◌||◌, List, eqb}
-use Rattle.std.specs.Prelude.{leb, length, get_or, drop, Option, MatchOption}
+use Rattle.std.specs.Prelude.{leb, ltb, length, get_or, drop, Option, MatchOption}
+use Rattle.std.specs.List.{position_from}
 use denote.Ref.{Bor}
 use Rattle.hnsr_body.specs.Utf8.{between, tail}
 
@@ -34,6 +35,10 @@ unfoldable pub char_length : List ℕ → ℕ
 char_length text =
     let n : ℕ = lead_length (get_or text 0 0) in
     cond (leb n (length text) && goes_on n text) n 0
+
+-- where the first byte is that is no ASCII
+abbrev pub past_ascii : List ℕ → Option ℕ
+past_ascii text = position_from (λ b. ltb 0x7F b) 0 text
 
 -- what stands behind the character that a text begins with; none where it begins with none
 abbrev pub BehindChar : List ℕ → Option (Bor (List ℕ)) → Type 0

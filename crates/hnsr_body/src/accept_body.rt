@@ -74,7 +74,7 @@ impl AcceptBody {
         put_bytes_at(out, Self::ENDPOINT_NONCE, &self.endpoint_nonce);
     }
 
-    // The bytes of a body whose values stand checked.
+    // The bytes of any body: it is `encode` that looks at the values.
     pub fn to_bytes(self) -> [u8; Self::SIZE]
         ensures { result ≡ accept_bytes self }
     {
@@ -87,7 +87,9 @@ impl AcceptBody {
     pub fn encode(self) -> Result<[u8; Self::SIZE], HnsrProtocolError>
         ensures { result ≡ encode_accept self }
     {
-        answered(Ok(()), self.is_valid(), HnsrInvalid::AcceptResponse)?;
+        if !self.is_valid() {
+            return Err(HnsrInvalid::AcceptResponse.into());
+        }
         Ok(self.to_bytes())
     }
 }
@@ -165,7 +167,7 @@ impl OpenedBody {
         put_bytes_at(out, Self::ENDPOINT_NONCE, &self.endpoint_nonce);
     }
 
-    // The bytes of a body whose values stand checked.
+    // The bytes of any body: it is `encode` that looks at the values.
     pub fn to_bytes(self) -> [u8; Self::SIZE]
         ensures { result ≡ opened_bytes self }
     {

@@ -6,7 +6,7 @@ ghost use Rattle.hnsr_body.specs.Layout.{laid_out};
 
 use crate::error::{HnsrInvalid, HnsrProtocolError};
 use crate::fields::{next_u32, put_u32_at, start};
-use crate::layout::{Read, answered, finish};
+use crate::layout::{Read, finish};
 use crate::values::MAX_WINDOW;
 
 #[derive(Clone, Copy)]
@@ -28,7 +28,7 @@ impl DataBody {
     fn is_size(size: usize) -> bool
         ensures { result ≡ data_good size }
     {
-        Self::MIN_SIZE <= size && size <= Self::MAX_SIZE
+        (Self::MIN_SIZE..=Self::MAX_SIZE).contains(&size)
     }
 
     // Whether so many bytes are a DATA; reading and writing are this one check.
@@ -36,7 +36,10 @@ impl DataBody {
     pub fn check(size: usize) -> Result<(), HnsrProtocolError>
         ensures { result ≡ data_checked size }
     {
-        answered(Ok(()), Self::is_size(size), HnsrInvalid::DataSize)
+        if !Self::is_size(size) {
+            return Err(HnsrInvalid::DataSize.into());
+        }
+        Ok(())
     }
 
     pub fn decode(input: &[u8]) -> Result<(), HnsrProtocolError>
@@ -69,7 +72,7 @@ impl WindowBody {
     fn is_valid(self) -> bool
         ensures { result ≡ delta_good self.credit_delta }
     {
-        Self::MIN_DELTA <= self.credit_delta && self.credit_delta <= Self::MAX_DELTA
+        (Self::MIN_DELTA..=Self::MAX_DELTA).contains(&self.credit_delta)
     }
 
     #[tactic(auto, unfolding(crate::specs::Data::decode_window))]
@@ -87,7 +90,7 @@ impl WindowBody {
         put_u32_at(out, Self::CREDIT_DELTA, self.credit_delta);
     }
 
-    // The bytes of a body whose values stand checked.
+    // The bytes of any body: it is `encode` that looks at the values.
     pub fn to_bytes(self) -> [u8; Self::SIZE]
         ensures { result ≡ window_bytes self }
     {
@@ -100,7 +103,9 @@ impl WindowBody {
     pub fn encode(self) -> Result<[u8; Self::SIZE], HnsrProtocolError>
         ensures { result ≡ encode_window self }
     {
-        answered(Ok(()), self.is_valid(), HnsrInvalid::WindowCredit)?;
+        if !self.is_valid() {
+            return Err(HnsrInvalid::WindowCredit.into());
+        }
         Ok(self.to_bytes())
     }
 }

@@ -2,12 +2,12 @@
 ghost use Rattle.std.specs.Prelude.{◌≡◌, ◌≤◌, ◌&&◌, eqb, leb, drop, length};
 ghost use Rattle.hns_encoding.specs.Cursor.{written_at};
 ghost use Rattle.hnsr_body.specs.Detail.{decode_detail, detail_bytes, detail_size, detail_widths};
-ghost use Rattle.hnsr_body.specs.Detail.{encode_detail, head_size, headed, most_detail, reason_detail};
+ghost use Rattle.hnsr_body.specs.Detail.{encode_detail, head_size, most_detail, reason_detail};
 ghost use Rattle.hnsr_body.specs.Layout.{walked};
 
 use crate::error::{HnsrInvalid, HnsrProtocolError};
 use crate::fields::{Step, next_u8, next_u16, put_bytes_at, put_u8_at, put_u16_at, rest, start};
-use crate::layout::{Padded, Read, answered};
+use crate::layout::{Padded, Read, answered, handed_on};
 use crate::utf8::is_utf8;
 
 // The reason, and how long the detail is, which stands in the body from its fourth byte on.
@@ -48,14 +48,6 @@ impl ReasonDetail {
         )
     }
 
-    // Whether the two fields are there.
-    fn headed(step: Step) -> Result<(), HnsrProtocolError>
-        ensures { result ≡ headed step }
-    {
-        step?;
-        Ok(())
-    }
-
     // BODY.13: the length is not too large, and is that of what follows.
     fn is_length(self, left: usize) -> bool
         ensures { result ≡ (leb self.detail_length most_detail && eqb left self.detail_length) }
@@ -77,7 +69,7 @@ impl ReasonDetail {
         let (body, step) = Self::head(input);
         let detail = rest(step, input);
         let sized = answered(
-            Self::headed(step),
+            handed_on(step),
             body.is_length(detail.len()),
             HnsrInvalid::DiagnosticDetail,
         );

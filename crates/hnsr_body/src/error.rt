@@ -28,7 +28,7 @@ pub enum HnsrInvalid {
     NotUtf8 = 9,
 }
 
-#[derive(Clone, Copy, PartialEq, Eq)]
+#[derive(Clone, Copy, Debug, PartialEq, Eq)]
 pub enum HnsrProtocolError {
     Decode(DecodeError),
     Invalid(HnsrInvalid),

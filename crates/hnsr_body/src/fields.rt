@@ -24,7 +24,8 @@ fn read_on<const N: usize>(step: Step, input: &[u8]) -> Result<([u8; N], Decoder
     step?.read_array(input)
 }
 
-// The next `N` bytes, and the step behind them.
+// The next `N` bytes, and the step behind them. By names: the borrow checker covers no array in a tuple or a pattern
+// that is not a variable first.
 pub(crate) fn next_array<const N: usize>(step: Step, input: &[u8]) -> ([u8; N], Step)
     ensures { (result.0 ≡ fetched N input.now step) × (result.1 ≡ stepped N input.now step) }
 {
@@ -80,6 +81,8 @@ pub(crate) fn rest(step: Step, input: &[u8]) -> &[u8]
     }
 }
 
+// Fields are written at their offsets: in a chain of the encoder with `?`, each field would have a refusal that must be
+// proved away, since a body's array has room for all of them.
 pub(crate) fn put_bytes_at(out: &mut [u8], at: usize, bytes: &[u8])
     ensures { out.new ≡ written out.old at bytes.now }
 {

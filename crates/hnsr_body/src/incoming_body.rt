@@ -9,7 +9,7 @@ use crate::fields::{
     next_array, next_u16, next_u32, next_u64_be, put_bytes_at, put_u16_at, put_u32_at,
     put_u64_be_at, start,
 };
-use crate::layout::{Read, answered, finish};
+use crate::layout::{Read, finish};
 use crate::values::{is_some, is_window};
 
 #[repr(C)]
@@ -88,7 +88,7 @@ impl IncomingBody {
         put_u32_at(out, Self::INITIAL_WINDOW, self.initial_window);
     }
 
-    // The bytes of a body whose values stand checked.
+    // The bytes of any body: it is `encode` that looks at the values.
     pub fn to_bytes(self) -> [u8; Self::SIZE]
         ensures { result ≡ incoming_bytes self }
     {
@@ -101,7 +101,9 @@ impl IncomingBody {
     pub fn encode(self) -> Result<[u8; Self::SIZE], HnsrProtocolError>
         ensures { result ≡ encode_incoming self }
     {
-        answered(Ok(()), self.is_valid(), HnsrInvalid::IncomingParameters)?;
+        if !self.is_valid() {
+            return Err(HnsrInvalid::IncomingParameters.into());
+        }
         Ok(self.to_bytes())
     }
 }

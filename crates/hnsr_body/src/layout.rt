@@ -1,7 +1,7 @@
 // A body that was read, and how a reader answers: an early end, then bytes left over, then the values.
 ghost use Rattle.std.specs.Prelude.{◌≡◌};
 ghost use Rattle.hnsr_body.specs.Causes.{answer};
-ghost use Rattle.hnsr_body.specs.Layout.{finished};
+ghost use Rattle.hnsr_body.specs.Layout.{finished, handed_on};
 
 use crate::error::{HnsrInvalid, HnsrProtocolError};
 use crate::fields::Step;
@@ -26,15 +26,17 @@ impl<B> Read<B> {
     }
 }
 
-// A text or a message in a buffer of the most that it may take: `length` bytes, with zeros behind them.
+// A text or a message in a buffer of the most that it may take: `length` bytes, with zeros behind them. No heap, and
+// the C interface hands the whole buffer out.
 #[derive(Clone, Copy)]
 pub struct Padded<const SIZE: usize> {
     pub length: usize,
     pub bytes: [u8; SIZE],
 }
 
-// What a reader answers: the layout's refusal first, then that of the values. Each body has its own `decode` and
-// `encode`, of two lines: no trait writes `encode` once, since a generic body cannot name `[u8; Self::SIZE]`.
+// What a reader answers: the layout's refusal first, then that of the values. Each body has its own `fields`, `put`,
+// `to_bytes`, `decode` and `encode`: a trait could not write the last four once, since a generic body cannot name
+// `[u8; Self::SIZE]`, and OPEN is handed a key's validity and OPENED tests two texts.
 pub(crate) fn answered(
     layout: Result<(), HnsrProtocolError>,
     valid: bool,
@@ -44,6 +46,14 @@ pub(crate) fn answered(
 {
     layout?;
     if valid { Ok(()) } else { Err(text.into()) }
+}
+
+// What a step answers, as a reader hands it on.
+pub(crate) fn handed_on(step: Step) -> Result<(), HnsrProtocolError>
+    ensures { result ≡ handed_on step }
+{
+    step?;
+    Ok(())
 }
 
 // The layout's answer, from the step behind the last field: nothing may be left.

@@ -17,7 +17,7 @@ pub enum Notice {
     OuterWriteFailed,
 }
 
-// The detail is `length` bytes, with zeros behind them.
+// The detail is `length` bytes, with zeros behind them: no heap, and the seven stand in a constant table.
 #[derive(Clone, Copy)]
 pub struct Message {
     pub reason: u16,

@@ -8,7 +8,7 @@ use crate::error::{HnsrInvalid, HnsrProtocolError};
 use crate::fields::{
     next_array, next_u16, next_u32, put_bytes_at, put_u16_at, put_u32_at, put_u64_be_at, start,
 };
-use crate::layout::{Read, answered, finish};
+use crate::layout::{Read, finish};
 use crate::values::{ReservationId, is_some, is_window};
 
 #[repr(C)]
@@ -95,7 +95,7 @@ impl OpenBody {
         put_u32_at(out, Self::INITIAL_WINDOW, self.initial_window);
     }
 
-    // The bytes of a body whose values stand checked.
+    // The bytes of any body: it is `encode` that looks at the values.
     pub fn to_bytes(self) -> [u8; Self::SIZE]
         ensures { result ≡ open_bytes self }
     {
@@ -108,11 +108,9 @@ impl OpenBody {
     pub fn encode(self, key_valid: bool) -> Result<[u8; Self::SIZE], HnsrProtocolError>
         ensures { result ≡ encode_open key_valid self }
     {
-        answered(
-            Ok(()),
-            self.is_valid(key_valid),
-            HnsrInvalid::OpenParameters,
-        )?;
+        if !self.is_valid(key_valid) {
+            return Err(HnsrInvalid::OpenParameters.into());
+        }
         Ok(self.to_bytes())
     }
 }

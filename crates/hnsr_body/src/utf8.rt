@@ -2,7 +2,7 @@
 // which are those that encode Unicode scalar values (specs/Utf8CodePoints.antt), and no byte is read past a text's end.
 ghost use Rattle.std.specs.Prelude.{◌≡◌, ◌<◌, ◌≤◌, length};
 ghost use Rattle.hnsr_body.specs.Utf8.{utf8, tail};
-ghost use Rattle.hnsr_body.specs.Utf8Form.{lead_length, second, goes_on, BehindChar};
+ghost use Rattle.hnsr_body.specs.Utf8Form.{lead_length, second, goes_on, BehindChar, past_ascii};
 
 // How many bytes the character has that a byte begins; 0 of a byte that begins none.
 fn lead_length(lead: u8) -> u8
@@ -53,28 +53,23 @@ fn behind_char(text: &[u8]) -> Option<&[u8]>
     }
 }
 
-// The text behind the ASCII bytes that it begins with. By an index: a slice that shrinks takes twice the time here.
-fn behind_ascii(text: &[u8]) -> &[u8]
-    ensures { (utf8 result.now ≡ utf8 text.now) × (length result.now ≤ length text.now) }
+// Where the first byte is that is no ASCII.
+fn past_ascii(text: &[u8]) -> Option<usize>
+    ensures { result ≡ past_ascii text.now }
 {
-    for end in 0..text.len() {
-        if text[end] > 0x7F {
-            return &text[end..];
-        }
-    }
-    &text[..0]
+    text.iter().position(|byte| *byte > 0x7F)
 }
 
-// Whether `text` is UTF-8 (TEXT.1).
+// Whether `text` is UTF-8 (TEXT.1). A `while`, since it goes by characters, and by runs of ASCII.
 pub fn is_utf8(text: &[u8]) -> bool
     ensures { result ≡ utf8 text.now }
 {
-    let mut rest = behind_ascii(text);
-    while !rest.is_empty() {
-        let Some(behind) = behind_char(rest) else {
+    let mut rest = text;
+    while let Some(run) = past_ascii(rest) {
+        let Some(behind) = behind_char(&rest[run..]) else {
             return false;
         };
-        rest = behind_ascii(behind);
+        rest = behind;
     }
     true
 }

@@ -46,7 +46,7 @@ pub fn is_zero(value: &[u8]) -> bool
 pub fn is_window(window: u32) -> bool
     ensures { result ≡ window_good window }
 {
-    MIN_WINDOW <= window && window <= MAX_WINDOW
+    (MIN_WINDOW..=MAX_WINDOW).contains(&window)
 }
 
 // Whether some byte is not zero.

@@ -1,4 +1,4 @@
--- A name as the code is lent it, what a scan asks, and what a lookup finds
+-- What a scan asks, what a lookup finds, and a scan turn by turn
 pub mod Question
 pub mod Lookup
 pub mod Turns

@@ -1,8 +1,7 @@
 -- Random bytes, and the circuit id that is drawn from them (DRAW.1 to DRAW.5).
-use Rattle.std.specs.Prelude.{ℕ, zero, suc, ◌+◌, ◌/◌, Bool, true, false, cond, not}
-use Rattle.std.specs.Prelude.{◌||◌, List, [], ◌∷◌, eqb, leb, length, take, drop}
+use Rattle.std.specs.Prelude.{ℕ, zero, suc, ◌+◌, ◌/◌, Bool, cond, ◌||◌, Option, Some, None, is_none}
+use Rattle.std.specs.Prelude.{List, [], ◌∷◌, eqb, leb, length, take, drop}
 use Rattle.hns_encoding.specs.Bytes.{be}
-use Rattle.hnsr_circuit.specs.declared.messages.draw.Drawing.{Drawing}
 use Rattle.hnsr_circuit.specs.declared.answer.HnsrRuntimeError.TheVariants.{Randomness}
 use Rattle.hnsr_circuit.specs.Table.{any}
 use Rattle.hnsr_circuit.specs.Answers.{HnsrAnswer, check}
@@ -25,47 +24,21 @@ draws_from (suc many) random = be (take draw_bytes random) ∷ draws_from many (
 unfoldable pub draws : List ℕ → List ℕ
 draws random = draws_from (length random / draw_bytes) random
 
--- ---- one draw
-abbrev pub undrawn : Drawing
-undrawn = record { zeros = 0; candidates = 0; ended = false; found = false; id = 0 }
-
--- DRAW.2: a zero
-abbrev pub zero_drawn : Drawing → Drawing
-zero_drawn s = record {
-  zeros = s.zeros + 1;
-  candidates = s.candidates;
-  ended = leb most_draws (s.zeros + 1);
-  found = false;
-  id = 0;
-}
-
--- DRAW.3: the id of another record
-abbrev pub taken_drawn : Drawing → Drawing
-taken_drawn s = record {
-  zeros = 0;
-  candidates = s.candidates + 1;
-  ended = leb most_draws (s.candidates + 1);
-  found = false;
-  id = 0;
-}
-
-abbrev pub fresh_drawn : Drawing → (id : ℕ) → Drawing
-fresh_drawn s id = record { zeros = s.zeros; candidates = s.candidates; ended = true; found = true; id = id }
-
-unfoldable pub draw_turn : Drawing → (id : ℕ) → (taken : Bool) → Drawing
-draw_turn s id taken = cond s.ended s (cond (eqb id 0) (zero_drawn s) (cond taken (taken_drawn s) (fresh_drawn s id)))
-
--- ---- all draws: running out refuses
-unfoldable pub draw_all : (taken : ℕ → Bool) → Drawing → List ℕ → Drawing
-draw_all taken s [] = s
-draw_all taken s (id ∷ ids) = draw_all taken (draw_turn s id (taken id)) ids
+-- ---- all draws, after so many zeros in a row and so many candidates that were taken. A zero is passed over (DRAW.2),
+-- and so is the id of another record (DRAW.3), but for the eighth; what is neither is the id (DRAW.4). Running out
+-- leaves none
+unfoldable pub draw_all : (taken : ℕ → Bool) → (row candidates : ℕ) → List ℕ → Option ℕ
+draw_all taken row candidates [] = None
+draw_all taken row candidates (id ∷ ids) =
+    cond (eqb id 0) (cond (leb most_draws (row + 1)) None (draw_all taken (row + 1) candidates ids))
+    (cond (taken id) (cond (leb most_draws (candidates + 1)) None (draw_all taken 0 (candidates + 1) ids)) (Some id))
 
 unfoldable pub id_taken : World → (id : ℕ) → Bool
 id_taken w id = any (pending_at id) w.pending || any (circuit_at id) w.circuits
 
-unfoldable pub drawn : World → List ℕ → Drawing
-drawn w random = draw_all (id_taken w) undrawn (draws random)
+unfoldable pub drawn : World → List ℕ → Option ℕ
+drawn w random = draw_all (id_taken w) 0 0 (draws random)
 
 -- 8 (OPEN.6): no id was drawn
-unfoldable pub draw_answer : Drawing → HnsrAnswer
-draw_answer s = check (not s.found) Randomness
+unfoldable pub draw_answer : Option ℕ → HnsrAnswer
+draw_answer d = check (is_none d) Randomness

@@ -1,7 +1,7 @@
 -- OPEN (OPEN.1 to OPEN.18). Three worlds, three answers: as lent; ledger records past their expiry dropped (OPEN.12);
 -- the missing ledger record made (OPEN.16). Then all is written and INCOMING is queued.
 -- A packet without a context does not get here (OPEN.18).
-use Rattle.std.specs.Prelude.{ℕ, ◌+◌, min, Bool, false, not, ◌||◌, ltb, leb, length}
+use Rattle.std.specs.Prelude.{ℕ, ◌+◌, min, Bool, false, not, ◌||◌, unwrap_or, ltb, leb, length}
 use Rattle.hns_encoding.specs.Numbers.{top}
 use Rattle.hnsr_body.specs.declared.open_body.OpenBody.{OpenBody}
 use Rattle.hnsr_body.specs.declared.incoming_body.IncomingBody.{IncomingBody}
@@ -100,7 +100,7 @@ opening w q = record {
   body = open_body q;
   endpoint = peer_of q.admission.endpoint;
   ticket = q.admission.ticket;
-  id = (drawn w q.random).id;
+  id = unwrap_or (drawn w q.random) 0;
   deadline = deadline_for (config_of w) q.admission.ticket q.now;
 }
 

@@ -1,11 +1,11 @@
 // What a call answers (ANS.1), in the order of the numbers (ANS.5), which specs/Answers.antt has.
 ghost use Rattle.std.specs.Prelude.{◌≡◌};
-ghost use Rattle.hnsr_circuit.specs.Answers.{number, error_number, cause_of, no_cause};
+ghost use Rattle.hnsr_circuit.specs.Answers.{number, error_number, cause_of};
 ghost use Rattle.hnsr_circuit.specs.Answers.{error_cause, check, body_answer};
 
 use hnsr_body::error::{Cause, HnsrProtocolError};
 
-#[derive(Clone, Copy)]
+#[derive(Clone, Copy, PartialEq, Eq)]
 pub enum HnsrRuntimeError {
     Protocol(HnsrProtocolError),
     InvalidConfig,
@@ -71,12 +71,6 @@ impl From<HnsrRuntimeError> for u32 {
     }
 }
 
-fn no_cause() -> Cause
-    ensures { result ≡ no_cause }
-{
-    Cause::NONE
-}
-
 impl HnsrRuntimeError {
     // Only a packet or a body that is refused has one.
     pub fn cause(self) -> Cause
@@ -84,7 +78,7 @@ impl HnsrRuntimeError {
     {
         match self {
             HnsrRuntimeError::Protocol(cause) => Cause::from(cause),
-            _ => no_cause(),
+            _ => Cause::NONE,
         }
     }
 }
@@ -104,7 +98,7 @@ pub fn cause_of(answer: HnsrAnswer) -> Cause
     ensures { result ≡ cause_of answer }
 {
     match answer {
-        Ok(()) => no_cause(),
+        Ok(()) => Cause::NONE,
         Err(error) => error.cause(),
     }
 }

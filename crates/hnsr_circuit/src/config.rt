@@ -23,7 +23,7 @@ pub struct OpaqueRelayConfig {
 fn within(low: u64, n: u64, high: u64) -> bool
     ensures { result ≡ within_limits low n high }
 {
-    low <= n && n <= high
+    (low..=high).contains(&n)
 }
 
 impl OpaqueRelayConfig {
@@ -78,8 +78,8 @@ impl OpaqueRelayConfig {
             && within(1, self.maximum_circuits as u64, Self::MAX_RUNTIME_CIRCUITS)
             && within(
                 1,
-                self.maximum_circuits_per_peer as u64,
-                Self::MAX_CIRCUITS as u64,
+                u64::from(self.maximum_circuits_per_peer),
+                u64::from(Self::MAX_CIRCUITS),
             )
             && within(
                 1,

@@ -27,8 +27,10 @@ pub(crate) fn too_few(
 pub(crate) fn peer_answer(size: usize) -> HnsrAnswer
     ensures { result ≡ peer_answer size }
 {
-    let good = 1 <= size && size <= MAXIMUM_PEER;
-    check(!good, HnsrRuntimeError::InvalidPeer)
+    check(
+        !(1..=MAXIMUM_PEER).contains(&size),
+        HnsrRuntimeError::InvalidPeer,
+    )
 }
 
 // 7 (ENTRY.4): the time goes back

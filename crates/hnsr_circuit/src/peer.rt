@@ -1,7 +1,7 @@
 // A peer's name: 1 to MAXIMUM_PEER bytes, zero padded when the relay stores it.
-ghost use Rattle.std.specs.Prelude.{◌≡◌, ◌≤◌, ◌||◌, true, false, length};
+ghost use Rattle.std.specs.Prelude.{◌≡◌, ◌≤◌, true, false, length};
 ghost use Rattle.hns_encoding.specs.Cursor.{written_at};
-ghost use Rattle.hnsr_circuit.specs.Peer.{no_peer, peer_length, peer_bytes, peer_of, same_bytes, same_peer};
+ghost use Rattle.hnsr_circuit.specs.Peer.{peer_length, peer_bytes, peer_of, same_bytes, same_peer};
 ghost use Rattle.hnsr_circuit.specs.Laws.Peer.{same_equivalence, same_partial};
 
 // The one limit: the words of a peer, of a route and the outputs that the calls need follow from it.
@@ -108,49 +108,4 @@ fn same_names(a: &[u8], b: &[u8]) -> bool
         return false;
     }
     !soon_differ(a, b) && all_same(a, b)
-}
-
-// ---- the same by older names
-
-pub(crate) fn no_peer() -> HnsrPeerId
-    ensures { result ≡ no_peer }
-{
-    HnsrPeerId::NOBODY
-}
-
-pub(crate) fn peer_length(peer: HnsrPeerId) -> usize
-    ensures { result ≡ peer_length peer }
-{
-    peer.length()
-}
-
-pub(crate) fn peer_of(name: &[u8]) -> HnsrPeerId
-    ensures { result ≡ peer_of name.now }
-{
-    HnsrPeerId::new(name)
-}
-
-pub(crate) fn same_peer(a: HnsrPeerId, b: HnsrPeerId) -> bool
-    ensures { result ≡ same_peer a b }
-{
-    a == b
-}
-
-pub fn either_is(a: HnsrPeerId, b: HnsrPeerId, peer: HnsrPeerId) -> bool
-    ensures { result ≡ (same_peer a peer || same_peer b peer) }
-{
-    a == peer || b == peer
-}
-
-pub fn same_in_place(a: &HnsrPeerId, b: &HnsrPeerId) -> bool
-    ensures { result ≡ same_peer a.now b.now }
-{
-    a == b
-}
-
-pub(crate) fn either_in_place(a: &HnsrPeerId, b: &HnsrPeerId, peer: &HnsrPeerId) -> bool
-    ensures { result
-        ≡ (same_peer a.now peer.now || same_peer b.now peer.now) }
-{
-    a == peer || b == peer
 }

@@ -1,7 +1,7 @@
 // What a host keeps beside the tables, by value, what it hands over with a packet, and what calls hand back.
-ghost use Rattle.std.specs.Prelude.{◌≡◌, Ok};
+ghost use Rattle.std.specs.Prelude.{◌≡◌, Ok, Err};
 
-use crate::answer::HnsrAnswer;
+use crate::answer::{HnsrAnswer, HnsrRuntimeError};
 use crate::config::OpaqueRelayConfig;
 use crate::peer::HnsrPeerId;
 use crate::records::RelayTicket;
@@ -95,24 +95,33 @@ pub struct StatusTold {
     pub action_capacity: usize,
 }
 
-pub(crate) fn refused(runtime: OpaqueRelayRuntime, places: Places, answer: HnsrAnswer) -> Relayed
-    ensures { ((result.runtime ≡ runtime) × (result.answer ≡ answer) × (result.words ≡ 0)) × (result.places ≡ places) }
-{
-    Relayed {
-        runtime,
-        answer,
-        words: 0,
-        places,
+// A call that writes nothing.
+impl Relayed {
+    pub(crate) fn refused(
+        runtime: OpaqueRelayRuntime,
+        places: Places,
+        error: HnsrRuntimeError,
+    ) -> Relayed
+        ensures { ((result.runtime ≡ runtime) × (result.answer ≡ Err error) × (result.words ≡ 0))
+            × (result.places ≡ places) }
+    {
+        Relayed {
+            runtime,
+            answer: Err(error),
+            words: 0,
+            places,
+        }
     }
-}
 
-pub(crate) fn taken_with(runtime: OpaqueRelayRuntime, places: Places) -> Relayed
-    ensures { ((result.runtime ≡ runtime) × (result.answer ≡ Ok tt) × (result.words ≡ 0)) × (result.places ≡ places) }
-{
-    Relayed {
-        runtime,
-        answer: Ok(()),
-        words: 0,
-        places,
+    pub(crate) fn taken(runtime: OpaqueRelayRuntime, places: Places) -> Relayed
+        ensures { ((result.runtime ≡ runtime) × (result.answer ≡ Ok tt) × (result.words ≡ 0))
+            × (result.places ≡ places) }
+    {
+        Relayed {
+            runtime,
+            answer: Ok(()),
+            words: 0,
+            places,
+        }
     }
 }

@@ -1,7 +1,7 @@
 -- What each event changes (RUN.3 to RUN.8), and what the whole list of events tells. What a call ends or drops is its
 -- rule applied to what is known; what a refused call left behind shows in its number; what a route is about follows
 -- from the call and the route's words (`Words.words-alone`).
-use Rattle.std.specs.Prelude.{ℕ, ◌+◌, min, Bool, true, false, cond, not, ◌&&◌, ◌||◌}
+use Rattle.std.specs.Prelude.{ℕ, ◌+◌, min, Bool, true, false, cond, not, ◌&&◌, ◌||◌, unwrap_or}
 use Rattle.std.specs.Prelude.{List, [], ◌∷◌, ◌++◌, map, leb, ltb, eqb, length}
 use Rattle.std.specs.Bool.{beq}
 use Rattle.hns_encoding.specs.Sums.{non}
@@ -25,7 +25,7 @@ use Rattle.hnsr_circuit.specs.Route.{Route}
 use Rattle.hnsr_circuit.specs.Opcode.{op_error}
 use Rattle.hnsr_circuit.specs.Entry.{handle_words, peer_answer, packet_answer, clock_answer}
 use Rattle.hnsr_circuit.specs.Packet.{Packet, sender}
-use Rattle.hnsr_circuit.specs.Draw.{undrawn, draws, draw_all}
+use Rattle.hnsr_circuit.specs.Draw.{draws, draw_all}
 use Rattle.hnsr_circuit.specs.Open.{deadline_for}
 use Rattle.hnsr_circuit.specs.Handle.{Handling, OPEN, ACCEPT, DATA, WINDOW, CLOSE, ERROR, other, handling_of}
 use Rattle.hnsr_circuit.specs.Call.{Start, Call, call_status, call_next_due, call_observe_time, call_replace_enabled}
@@ -82,7 +82,7 @@ side_in p k = cond (same_peer k.requester p) Requester Endpoint
 -- ---- OPEN: the id is the one that is drawn of those that neither stand nor are active, and a refusal with 18 has made
 -- the missing ledger record (RUN.14)
 abbrev pub drawn_in : Past → Packet → ℕ
-drawn_in h q = (draw_all (λ j. h.opens.standing j || h.active j) undrawn (draws q.random)).id
+drawn_in h q = unwrap_or (draw_all (λ j. h.opens.standing j || h.active j) 0 0 (draws q.random)) 0
 
 abbrev pub asked_for : OpaqueRelayConfig → Packet → Asked
 asked_for c q = record {

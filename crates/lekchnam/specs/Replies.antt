@@ -1,5 +1,5 @@
 -- What the C functions hand back: the outcome of a call with its answer in numbers.
-use Rattle.std.specs.Prelude.{ℕ, ◌≡◌, false, cond, List, Option, None, Some, is_some, Ok, Err}
+use Rattle.std.specs.Prelude.{ℕ, ◌≡◌, false, cond, List, Option, is_some, unwrap_or, Ok, Err}
 use Rattle.std.specs.Prelude.{Result}
 use Rattle.hnsr_body.specs.declared.error.Cause.{Cause}
 use Rattle.hnsr_circuit.specs.declared.records.RelayPending.{RelayPending}
@@ -14,7 +14,7 @@ use Rattle.hnsr_circuit.specs.Code.Told.{no_status}
 use Rattle.hnsr_circuit.specs.Runtime.{no_runtime}
 use Rattle.hnsr_circuit.specs.World.{World, Outcome, world_of}
 use Rattle.hnsr_circuit.specs.Code.Held.{no_place, every_place, world_seen}
-use Rattle.hnsr_circuit.specs.Code.Progress.{Result as Ended}
+use Rattle.hnsr_circuit.specs.Code.Progress.{Ended}
 use Rattle.lekchnam.specs.declared.relay.RelayReply.{RelayReply}
 use Rattle.lekchnam.specs.declared.relay.StatusReply.{StatusReply}
 use Rattle.lekchnam.specs.declared.relay.DueReply.{DueReply}
@@ -74,11 +74,7 @@ abbrev pub status_numbered : Result StatusTold HnsrRuntimeError → StatusReply
 status_numbered (Ok t) = record { answer = 0; status = t.status; action_capacity = t.action_capacity }
 status_numbered (Err e) = record { answer = error_number e; status = no_status; action_capacity = 0 }
 
-abbrev pub due_time : Option ℕ → ℕ
-due_time None = 0
-due_time (Some time) = time
-
 -- a refusal tells that nothing is due
 abbrev pub due_numbered : Result (Option ℕ) HnsrRuntimeError → DueReply
-due_numbered (Ok d) = record { answer = 0; some = is_some d; due = due_time d }
+due_numbered (Ok d) = record { answer = 0; some = is_some d; due = unwrap_or d 0 }
 due_numbered (Err e) = record { answer = error_number e; some = false; due = 0 }

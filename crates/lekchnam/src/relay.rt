@@ -1,6 +1,6 @@
 // The calls of the relay. Tables, output and bytes are lent; the runtime and the places in use go in and come back by
 // value. An answer is the number that the rules (docs/RULES.md) have, 0 where the call is taken, and the cause of a 1.
-// No call asks anything of what it is lent.
+// No call asks anything of what it is lent. Each table and the output is a parameter of its own, as in C.
 ghost use Rattle.std.specs.Prelude.{◌≡◌, List, ℕ, length};
 ghost use Rattle.hnsr_circuit.specs.declared.records.RelayPending.{RelayPending};
 ghost use Rattle.hnsr_circuit.specs.declared.records.RelayCircuit.{RelayCircuit};
@@ -54,7 +54,7 @@ pub struct StatusReply {
     pub action_capacity: usize,
 }
 
-// Whether something is due, and when; a refused one tells that nothing is.
+// Whether something is due, and when; a refused one tells that nothing is. A mark beside the time: C has no Option.
 #[repr(C)]
 #[derive(Clone, Copy)]
 pub struct DueReply {
@@ -65,52 +65,55 @@ pub struct DueReply {
 
 // ---- answers in numbers
 
-fn reply(relayed: Relayed) -> RelayReply
-    ensures { result ≡ reply_of relayed }
-{
-    let answer = relayed.answer;
-    let runtime = relayed.runtime;
-    let places = relayed.places;
-    RelayReply {
-        answer: number(answer),
-        cause: cause_of(answer),
-        words: relayed.words,
-        runtime,
-        places,
+impl From<Relayed> for RelayReply {
+    ghost from_gives = { λ relayed reply. reply ≡ reply_of relayed };
+
+    fn from(relayed: Relayed) -> Self {
+        Self {
+            answer: number(relayed.answer),
+            cause: cause_of(relayed.answer),
+            words: relayed.words,
+            runtime: relayed.runtime,
+            places: relayed.places,
+        }
     }
 }
 
-fn status_reply(told: Result<StatusTold, HnsrRuntimeError>) -> StatusReply
-    ensures { result ≡ status_numbered told }
-{
-    match told {
-        Ok(told) => StatusReply {
-            answer: 0,
-            status: told.status,
-            action_capacity: told.action_capacity,
-        },
-        Err(error) => StatusReply {
-            answer: u32::from(error),
-            status: HnsrRuntimeStatus::default(),
-            action_capacity: 0,
-        },
+impl From<Result<StatusTold, HnsrRuntimeError>> for StatusReply {
+    ghost from_gives = { λ told reply. reply ≡ status_numbered told };
+
+    fn from(told: Result<StatusTold, HnsrRuntimeError>) -> Self {
+        match told {
+            Ok(told) => Self {
+                answer: 0,
+                status: told.status,
+                action_capacity: told.action_capacity,
+            },
+            Err(error) => Self {
+                answer: error.into(),
+                status: HnsrRuntimeStatus::default(),
+                action_capacity: 0,
+            },
+        }
     }
 }
 
-fn due_reply(told: Result<Option<u64>, HnsrRuntimeError>) -> DueReply
-    ensures { result ≡ due_numbered told }
-{
-    match told {
-        Ok(due) => DueReply {
-            answer: 0,
-            some: due.is_some(),
-            due: due.unwrap_or(0),
-        },
-        Err(error) => DueReply {
-            answer: u32::from(error),
-            some: false,
-            due: 0,
-        },
+impl From<Result<Option<u64>, HnsrRuntimeError>> for DueReply {
+    ghost from_gives = { λ told reply. reply ≡ due_numbered told };
+
+    fn from(told: Result<Option<u64>, HnsrRuntimeError>) -> Self {
+        match told {
+            Ok(due) => Self {
+                answer: 0,
+                some: due.is_some(),
+                due: due.unwrap_or(0),
+            },
+            Err(error) => Self {
+                answer: error.into(),
+                some: false,
+                due: 0,
+            },
+        }
     }
 }
 
@@ -150,11 +153,10 @@ pub extern "C" fn opaque_relay_new(
         (start (world_of h pending.now circuits.now ledger.now inflight.now)
         (record { session = session.now; generation = generation; config = config; now = time })) }
 {
-    let name = *session;
-    let made = new(
-        pending, circuits, ledger, inflight, name, generation, config, time,
-    );
-    reply(made)
+    new(
+        pending, circuits, ledger, inflight, *session, generation, config, time,
+    )
+    .into()
 }
 
 #[unsafe(no_mangle)]
@@ -181,11 +183,11 @@ pub extern "C" fn opaque_relay_handle(
         (packet_of packet source.now body.now endpoint.now random.now)
         (length out.old)))) }
 {
-    let relayed = handle(
+    handle(
         pending, circuits, ledger, inflight, out, runtime, places, packet, source, body, endpoint,
         random,
-    );
-    reply(relayed)
+    )
+    .into()
 }
 
 #[unsafe(no_mangle)]
@@ -206,10 +208,10 @@ pub extern "C" fn opaque_relay_acknowledge(
         (step (world_seen runtime places pending.old circuits.old l inflight.old)
         (call_acknowledge generation sequence delivered (length out.old)))) }
 {
-    let relayed = acknowledge(
+    acknowledge(
         pending, circuits, inflight, out, runtime, places, generation, sequence, delivered,
-    );
-    reply(relayed)
+    )
+    .into()
 }
 
 #[unsafe(no_mangle)]
@@ -228,8 +230,7 @@ pub extern "C" fn opaque_relay_disconnect(
         (step (world_seen runtime places pending.old circuits.old l inflight.old)
         (call_disconnect peer.now (length out.old)))) }
 {
-    let relayed = disconnect(pending, circuits, inflight, out, runtime, places, peer);
-    reply(relayed)
+    disconnect(pending, circuits, inflight, out, runtime, places, peer).into()
 }
 
 #[unsafe(no_mangle)]
@@ -249,10 +250,10 @@ pub extern "C" fn opaque_relay_revoke_reservation(
         (step (world_seen runtime places pending.old circuits.old ledger.old
         inflight.old) (call_revoke_reservation id (length out.old)))) }
 {
-    let relayed = revoke_reservation(
+    revoke_reservation(
         pending, circuits, ledger, inflight, out, runtime, places, id,
-    );
-    reply(relayed)
+    )
+    .into()
 }
 
 #[unsafe(no_mangle)]
@@ -272,10 +273,10 @@ pub extern "C" fn opaque_relay_expire(
         (step (world_seen runtime places pending.old circuits.old ledger.old
         inflight.old) (call_expire time (length out.old)))) }
 {
-    let relayed = expire(
+    expire(
         pending, circuits, ledger, inflight, out, runtime, places, time,
-    );
-    reply(relayed)
+    )
+    .into()
 }
 
 #[unsafe(no_mangle)]
@@ -295,7 +296,7 @@ pub extern "C" fn opaque_relay_replace_enabled(
         (step (world_seen runtime places pending.old circuits.old l inflight.old)
         (call_replace_enabled expected_generation enabled (length out.old)))) }
 {
-    let relayed = replace_enabled(
+    replace_enabled(
         pending,
         circuits,
         inflight,
@@ -304,8 +305,8 @@ pub extern "C" fn opaque_relay_replace_enabled(
         places,
         expected_generation,
         enabled,
-    );
-    reply(relayed)
+    )
+    .into()
 }
 
 #[unsafe(no_mangle)]
@@ -319,8 +320,7 @@ pub extern "C" fn opaque_relay_observe_time(
         → replied result p c l i out
         ≡ numbered (outcome out (step (world_seen runtime places p c l i) (call_observe_time time))) }
 {
-    let relayed = observe_time(runtime, places, time);
-    reply(relayed)
+    observe_time(runtime, places, time).into()
 }
 
 #[unsafe(no_mangle)]
@@ -338,10 +338,10 @@ pub extern "C" fn opaque_relay_status(
         (step (world_seen runtime places pending.now circuits.now l inflight.now)
         (call_status peer.now circuit_id))) }
 {
-    let told = status(
+    status(
         pending, circuits, inflight, runtime, places, peer, circuit_id,
-    );
-    status_reply(told)
+    )
+    .into()
 }
 
 #[unsafe(no_mangle)]
@@ -359,6 +359,5 @@ pub extern "C" fn opaque_relay_next_due(
         inflight.now)
         call_next_due)) }
 {
-    let told = next_due(pending, circuits, ledger, inflight, runtime, places);
-    due_reply(told)
+    next_due(pending, circuits, ledger, inflight, runtime, places).into()
 }

@@ -1,5 +1,5 @@
 // As it was before: each record is copied, and its names are compared by value, byte by byte up to the first that
-// differs. The relay compares the names of a record so that was found.
+// differs.
 ghost use Rattle.std.specs.Prelude.{◌≡◌, ◌||◌};
 ghost use Rattle.hnsr_circuit.specs.Peer.{same_bytes, same_peer};
 ghost use Rattle.peer_work.specs.Work.{work_of};
@@ -48,13 +48,17 @@ pub extern "C" fn peer_work_bytewise(
 {
     let waiting = pending
         .iter()
-        .copied()
-        .filter(|p| p.used && either_bytewise(p.requester, p.endpoint, peer))
+        .filter(|row| {
+            let p = **row;
+            p.used && either_bytewise(p.requester, p.endpoint, peer)
+        })
         .count();
     let running = circuits
         .iter()
-        .copied()
-        .filter(|c| c.used && either_bytewise(c.requester, c.endpoint, peer))
+        .filter(|row| {
+            let c = **row;
+            c.used && either_bytewise(c.requester, c.endpoint, peer)
+        })
         .count();
     waiting.saturating_add(running)
 }

@@ -23,13 +23,17 @@ pub extern "C" fn peer_work_copying(
 {
     let waiting = pending
         .iter()
-        .copied()
-        .filter(|p| p.used && either_copied(p.requester, p.endpoint, peer))
+        .filter(|row| {
+            let p = **row;
+            p.used && either_copied(p.requester, p.endpoint, peer)
+        })
         .count();
     let running = circuits
         .iter()
-        .copied()
-        .filter(|c| c.used && either_copied(c.requester, c.endpoint, peer))
+        .filter(|row| {
+            let c = **row;
+            c.used && either_copied(c.requester, c.endpoint, peer)
+        })
         .count();
     waiting.saturating_add(running)
 }

@@ -3,36 +3,14 @@
 #![tactic(auto)]
 
 use hns_encoding::{DecodeError, Decoder, Encoder, NoRoom};
-use std::fmt::Display;
+use std::fmt::{Display, Radix};
 use std::io;
 
-// The cursor behind a field, or where it stood if there was no room.
-fn behind(put: Result<Encoder, NoRoom>) -> Encoder {
-    put.unwrap_or_else(|no_room| Encoder {
-        position: no_room.offset,
-    })
-}
-
-fn say_error(rt: &impl Print, error: DecodeError) -> io::Result<()> {
-    match error {
-        DecodeError::UnexpectedEnd { offset, needed } => {
-            println!(rt; "ends early at {offset}")?;
-            println!(rt; "missing {needed}")
-        }
-        DecodeError::TrailingBytes { remaining } => println!(rt; "trailing {remaining}"),
-    }
-}
-
-fn print_bytes(rt: &impl Print, bytes: &[u8]) -> io::Result<()> {
-    for byte in bytes {
-        print!(rt; "{byte:02x} ")?;
-    }
-    println!(rt;)
-}
-
-fn print_words(rt: &impl Print, words: &[u32]) -> io::Result<()> {
-    for word in words {
-        print!(rt; "{word:08x} ")?;
+// Numbers in hexadecimal, each of `width` digits.
+fn print_hex<T: Copy + Radix>(rt: &impl Print, width: usize, numbers: &[T]) -> io::Result<()> {
+    for number in numbers {
+        let number = *number;
+        print!(rt; "{number:0width$x} ")?;
     }
     println!(rt;)
 }
@@ -50,7 +28,7 @@ fn say_field<T: Display + Drop>(
             Ok(next)
         }
         Err(error) => {
-            say_error(rt, error)?;
+            println!(rt; "{error}")?;
             Ok(d)
         }
     }
@@ -59,7 +37,7 @@ fn say_field<T: Display + Drop>(
 fn finish(rt: &impl Print, d: Decoder, input: &[u8]) -> io::Result<()> {
     match d.finish(input) {
         Ok(()) => println!(rt; "read whole"),
-        Err(error) => say_error(rt, error),
+        Err(error) => println!(rt; "{error}"),
     }
 }
 
@@ -71,11 +49,22 @@ fn write_fields(bytes: &mut [u8]) -> Result<Encoder, NoRoom> {
         .put_u64_le(bytes, 0x0123_4567_89ab_cdef)
 }
 
-fn print_both(rt: &impl Print, bytes: &[u8; 16]) -> io::Result<()> {
-    print_bytes(rt, bytes)?;
+fn say_written(rt: &impl Print, written: Result<Encoder, NoRoom>) -> io::Result<()> {
+    match written {
+        Ok(behind) => {
+            let position = behind.position;
+            println!(rt; "written up to {position}")
+        }
+        Err(refusal) => println!(rt; "{refusal}"),
+    }
+}
+
+fn print_as_words(rt: &impl Print, bytes: &[u8; 16]) -> io::Result<()> {
     let mut words = [0u32; 4];
-    behind(Encoder::new().put_bytes_as_words(&mut words, bytes));
-    print_words(rt, &words)
+    match Encoder::new().put_bytes_as_words(&mut words, bytes) {
+        Ok(_) => print_hex(rt, 8, &words),
+        Err(refusal) => println!(rt; "{refusal}"),
+    }
 }
 
 fn read_fields(rt: &impl Print, bytes: &[u8; 16]) -> io::Result<()> {
@@ -95,8 +84,9 @@ fn read_fields(rt: &impl Print, bytes: &[u8; 16]) -> io::Result<()> {
 
 fn main(rt: HostRuntime) -> io::Result<()> {
     let mut bytes = [0u8; 16];
-    let written = behind(write_fields(&mut bytes)).position;
-    println!(rt; "written up to {written}")?;
-    print_both(&rt, &bytes)?;
+    let written = write_fields(&mut bytes);
+    say_written(&rt, written)?;
+    print_hex(&rt, 2, &bytes)?;
+    print_as_words(&rt, &bytes)?;
     read_fields(&rt, &bytes)
 }

@@ -11,7 +11,7 @@ use Rattle.std.proofs.Math.Seq.{take-nil}
 use Rattle.std.proofs.Math.Arith.{mod-mul, digits_lt, digits_div}
 use Rattle.hns_encoding.specs.Bytes.{Below, le, le_bytes, be, be_from, be_bytes, all_zero}
 use Rattle.hns_encoding.specs.Cursor.{field}
-use Rattle.hns_encoding.specs.Laws.Lists.{field_step}
+use Rattle.hns_encoding.specs.Laws.Lists.{field_step, field_past}
 
 -- ---- a field as a number, by its first byte and the field behind it; past the end there are zeros
 le_next : (xs : List ℕ) (p w : ℕ) → le (field xs p (suc w)) ≡ get_or xs p 0 + 256 * le (field xs (suc p) w)
@@ -33,6 +33,10 @@ be-step n xs p q w v l e f = rw (e, f, add-one, add-one, field_step xs p w l)
 pub le-none : (xs : List ℕ) (p w : ℕ) → w ≡ 0 → 0 ≡ le (field xs p w)
 unfolding le
 le-none xs p w e = rw e
+
+pub le-past : (xs : List ℕ) (p w : ℕ) → length xs ≤ p → 0 ≡ le (field xs p w)
+unfolding le
+le-past xs p w l = ap le (sym (field_past xs p w l))
 
 -- one byte as a number
 pub le_one : (bs : List ℕ) → length bs ≡ 1 → get_or bs 0 0 ≡ le bs

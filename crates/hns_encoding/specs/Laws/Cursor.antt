@@ -1,13 +1,15 @@
--- What a method of the cursor answers, over the width and the answer's type: the field and the cursor behind it where
--- the test passed, the early end where it did not. `b` is what the code's test gave.
-use Rattle.std.specs.Prelude.{ℕ, ◌+◌, ◌≤◌, ◌≡◌, refl, Bool, true, false, List}
-use Rattle.std.specs.Prelude.{[], ◌++◌, length, replicate, eqb, ltb, Ok, Err}
+-- What a method of the cursor answers, over the width and what a field is made into: the field and the cursor behind it
+-- where the test passed, the early end where it did not. `b` is what a test gave.
+use Rattle.std.specs.Prelude.{ℕ, ◌+◌, ◌-◌, ◌≤◌, ◌≡◌, refl, Bool, true, false, cond, List}
+use Rattle.std.specs.Prelude.{[], ◌++◌, length, take, drop, replicate, eqb, ltb, Ok, Err}
 use Rattle.std.proofs.Common.{arith, sym, ◌∙◌, ap, length-append, leb-true, le-leb, eqb-true}
 use Rattle.std.proofs.lemmas.List.{length-replicate}
 use Rattle.hns_encoding.specs.declared.decoder.Decoder.{Decoder}
 use Rattle.hns_encoding.specs.declared.decoder.DecodeError.{DecodeError}
 use Rattle.hns_encoding.specs.Cursor.{within, field, written_at, unexpected_end, has, behind, reads, reads_bytes}
-use Rattle.hns_encoding.specs.Cursor.{written, finishes, array_read, no_room, Puts}
+use Rattle.hns_encoding.specs.Cursor.{written, finishes, array_read, part, bytes_read, no_room, Puts}
+use Rattle.hns_encoding.specs.Words.{word_count, bytes_of}
+use Rattle.hns_encoding.specs.declared.decoder.DecodeError.TheVariants.{TrailingBytes}
 use Rattle.hns_encoding.specs.declared.encoder.NoRoom.{NoRoom}
 use Rattle.hns_encoding.specs.Laws.Tests.{on-true, on-false, split}
 use Rattle.hns_encoding.specs.Laws.Lists.{field-length, written-whole, written-length, written_behind}
@@ -42,7 +44,7 @@ read_into value width xs d bytes next v h k =
     rw t (cc))
     (λ f. absurd (let r = rw f at h in let y : ◌≡◌ {A = ℕ} 0 1 = cc in omega arith))
 
--- the array beside the answer: what a copy over zeros leaves, or the zeros
+-- a field as an array: what a copy over zeros leaves, or the zeros; and as a part of the input, or no bytes
 module _ (width : ℕ) (xs : List ℕ) (d : Decoder) (b : Bool) (e : b ≡ has width xs d) where
   pub array_ok : (last : List ℕ) → b ≡ true → last ≡ written_at (replicate width 0) 0 (field xs d.position width)
       → last ≡ array_read width xs d
@@ -52,6 +54,24 @@ module _ (width : ℕ) (xs : List ℕ) (d : Decoder) (b : Bool) (e : b ≡ has w
       (length-replicate width 0
       ∙ sym (field-length xs d.position width (there (length xs) d.position width b e t)))
       ∙ sym (on-true _ (field xs d.position width) (replicate width 0) (sym e ∙ t))
+
+  pub array_err : b ≡ false → replicate width 0 ≡ array_read width xs d
+  array_err f = rw (sym e ∙ f)
+
+  pub part_ok : b ≡ true → field xs d.position width ≡ part width xs d
+  part_ok t = rw (sym e ∙ t)
+
+  pub part_err : b ≡ false → [] ≡ part width xs d
+  part_err f = rw (sym e ∙ f)
+
+-- bytes filled from words
+module _ (out xs : List ℕ) (d : Decoder) (b : Bool) (e : b ≡ has (word_count (length out)) xs d) where
+  pub filled_ok : (last : List ℕ) → b ≡ true → last ≡ take (length out) (bytes_of (drop d.position xs))
+      → last ≡ bytes_read out xs d
+  filled_ok last t h = rw (sym e ∙ t, h)
+
+  pub filled_err : b ≡ false → out ≡ bytes_read out xs d
+  filled_err f = rw (sym e ∙ f)
 
 -- ---- what a write answers and leaves, over what is written
 module _ (before : List ℕ) (at : ℕ) (ys : List ℕ) (width : ℕ) (w : width ≡ length ys) (b : Bool)
@@ -91,6 +111,19 @@ finish_ok xs d h =
     split (ltb d.position (length xs))
     (λ t. let z = rw t at k in let y : ◌≡◌ {A = ℕ} 0 1 = cc in omega arith)
     (λ g. let z = rw g at k in let y : ◌≡◌ {A = ℕ} 0 1 = cc in omega arith)))
+
+-- an input not read whole: bytes left over, or a cursor past the end
+pub finish_err : (xs : List ℕ) (d : Decoder) (error : DecodeError) → finishes xs d ≡ Err error
+    → error
+    ≡ cond (ltb d.position (length xs)) (TrailingBytes (length xs - d.position))
+    (unexpected_end (length xs) d.position 0)
+finish_err xs d error h =
+    split (eqb d.position (length xs))
+    (λ t. let k = rw t at h in let y : ◌≡◌ {A = ℕ} 0 1 = cc in absurd (omega arith))
+    (λ f. let k = rw f at h in
+    split (ltb d.position (length xs))
+    (λ t. let z = rw t at k in rw t (cc))
+    (λ g. let z = rw g at k in rw g (cc)))
 
 -- ---- a run of writes from the front of `xs`: `now` has `done` in front, which is n elements; none yet, one field
 -- more, all

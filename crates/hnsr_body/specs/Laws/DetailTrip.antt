@@ -14,10 +14,10 @@ use Rattle.hns_encoding.specs.Laws.Bytes.{le_bytes-length, le-again}
 use Rattle.hnsr_body.specs.declared.error.HnsrInvalid.TheVariants.{DiagnosticDetail, NotUtf8}
 use Rattle.hnsr_body.specs.declared.error.HnsrProtocolError.TheVariants.{TooLarge}
 use Rattle.hnsr_body.specs.Causes.{answer, given}
-use Rattle.hnsr_body.specs.Layout.{walked, padded_in}
+use Rattle.hnsr_body.specs.Layout.{walked, handed_on, padded_in}
 use Rattle.hnsr_body.specs.Utf8.{utf8}
 use Rattle.hnsr_body.specs.Detail.{most_detail, detail_widths, head_size, detail_size, reason_of}
-use Rattle.hnsr_body.specs.Detail.{length_of, detail_of, length_good, reason_detail, headed}
+use Rattle.hnsr_body.specs.Detail.{length_of, detail_of, length_good, reason_detail}
 use Rattle.hnsr_body.specs.Detail.{decode_detail, detail_bytes, detail_good, encode_detail}
 use Rattle.hnsr_body.specs.Laws.Parts.{answered, answer-good, cut, joined, written_parts}
 use Rattle.hnsr_body.specs.Laws.Parts.{read_parts, laid-whole, walk_through, walk-there, le-part}
@@ -63,8 +63,8 @@ detail-read reason detail f g =
     let size = detail-size reason detail in
     let good = both (leb (length detail) most_detail) (utf8 detail) g in
     let long : length_of xs ≡ length detail = ap le (P.part 1) ∙ le-one (length detail) in
-    let head : headed (walked detail_widths xs (record { position = 0 })) ≡ Ok tt =
-    ap headed (walk_through detail_widths xs 0 (omega arith)) in
+    let head : handed_on (walked detail_widths xs (record { position = 0 })) ≡ Ok tt =
+    ap handed_on (walk_through detail_widths xs 0 (omega arith)) in
     let right : length_good xs ≡ true = join _ _ (ap (λ (n : ℕ). leb n most_detail) long ∙ good.0)
     (eq-eqb (length xs - head_size) (length_of xs) (omega arith)) in
     λ i. record {
@@ -75,7 +75,7 @@ detail-read reason detail f g =
 
 -- ---- what was read is written
 head-there : (xs : List ℕ) (s : Result Decoder DecodeError) → walked detail_widths xs (record { position = 0 }) ≡ s
-    → headed s ≡ Ok tt
+    → handed_on s ≡ Ok tt
     → head_size ≤ length xs
 head-there xs (Err error) w h = let z : ◌≡◌ {A = ℕ} 0 1 = cc in absurd (omega arith)
 head-there xs (Ok d) w h = omega (arith, walk-there detail_widths xs 0 d (omega arith) w)
@@ -91,8 +91,8 @@ taken : (xs : List ℕ) → (decode_detail xs).result ≡ Ok tt → Taken xs
 unfolding decode_detail
 taken xs h =
     let w = walked detail_widths xs (record { position = 0 }) in
-    let outer = answer-good (answer (headed w) (length_good xs) DiagnosticDetail) (utf8 (detail_of xs)) NotUtf8 h in
-    let inner = answer-good (headed w) (length_good xs) DiagnosticDetail outer.0 in
+    let outer = answer-good (answer (handed_on w) (length_good xs) DiagnosticDetail) (utf8 (detail_of xs)) NotUtf8 h in
+    let inner = answer-good (handed_on w) (length_good xs) DiagnosticDetail outer.0 in
     let good = both (leb (length_of xs) most_detail) (eqb (length xs - head_size) (length_of xs)) inner.1 in
     record {
       there = head-there xs w refl inner.0;

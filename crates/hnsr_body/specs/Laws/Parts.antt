@@ -15,7 +15,7 @@ use Rattle.hns_encoding.specs.Laws.Bytes.{le_bytes-le, be_bytes-be}
 use Rattle.hnsr_body.specs.declared.error.HnsrInvalid.{HnsrInvalid}
 use Rattle.hnsr_body.specs.declared.error.HnsrProtocolError.{HnsrProtocolError}
 use Rattle.hnsr_body.specs.Causes.{answer}
-use Rattle.hnsr_body.specs.Layout.{walked, finished, laid_out, offset, field_of}
+use Rattle.hnsr_body.specs.Layout.{behind_step, walked, finished, laid_out, offset, field_of}
 
 -- ---- answers: taken where the layout and the values are good, and only there
 pub answered : {layout : Result Unit HnsrProtocolError} {good : Bool} (text : HnsrInvalid) → layout ≡ Ok tt
@@ -64,8 +64,9 @@ pub walk_through : (widths xs : List ℕ) (p : ℕ) → p + span widths ≤ leng
 unfolding walked
 walk_through [] xs p l = ap (λ (k : ℕ). Ok (record { position = k })) (omega arith)
 walk_through (w ∷ ws) xs p l =
-    on-true _ (walked ws xs (record { position = p + w })) (Err (unexpected_end (length xs) p w))
-    (le-leb (p + w) (length xs) (omega arith))
+    ap (behind_step (walked ws xs))
+    (on-true _ (Ok (record { position = p + w })) (Err (unexpected_end (length xs) p w))
+    (le-leb (p + w) (length xs) (omega arith)))
     ∙ walk_through ws xs (p + w) (omega arith)
     ∙ ap (λ (k : ℕ). Ok (record { position = k })) (omega arith)
 

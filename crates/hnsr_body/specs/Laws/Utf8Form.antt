@@ -1,16 +1,17 @@
 -- The code's form is the ABNF: a lead byte's length decides which line can hold, and so how far the first character of
 -- a text goes.
 
-use Rattle.std.specs.Prelude.{ℕ, ◌≤◌, ◌<◌, ◌≡◌, refl, Bool, true, false, cond, ◌&&◌}
+use Rattle.std.specs.List.{position_from}
+use Rattle.std.specs.Prelude.{ℕ, ◌-◌, Some, None, ◌≤◌, ◌<◌, ◌≡◌, refl, Bool, true, false, cond, ◌&&◌}
 use Rattle.std.specs.Prelude.{◌||◌, List, [], ◌∷◌, ◌↔◌, leb, ltb, eqb, length, drop, get_or}
 use Rattle.std.proofs.Common.{sym, ap, ◌∙◌, inl, inr, ⊎_elim, not-suc-le-zero, arith}
 use Rattle.std.proofs.Common.{leb-true, leb-false, le-leb, lt-ltb, eqb-true, eq-eqb}
 use Rattle.std.proofs.Math.Bool.{or-false}
 use Rattle.std.proofs.lemmas.Bool.{false≢true, eqb-false}
-use Rattle.std.proofs.Common.{◌+◌, suc, drop-cons, add-one}
+use Rattle.std.proofs.Common.{◌+◌, suc, ltb-false, drop-cons, add-one}
 use Rattle.hnsr_body.specs.Utf8.{between, tail, utf8_1, utf8_2, utf8_3, utf8_4, utf8}
-use Rattle.hnsr_body.specs.Utf8Form.{lead_length, second, goes_on, char_length}
-use Rattle.hns_encoding.specs.Laws.Tests.{both, join, same}
+use Rattle.hnsr_body.specs.Utf8Form.{lead_length, second, goes_on, char_length, past_ascii}
+use Rattle.hns_encoding.specs.Laws.Tests.{both, join, same, split}
 use Rattle.hnsr_body.specs.Laws.Utf8Tests.{order, Range, in_range, is-between, one-fits, one_test, two_fits}
 use Rattle.hnsr_body.specs.Laws.Utf8Tests.{two_test, three-fits, three_test, four-fits, four_test, Three, Four}
 
@@ -313,3 +314,32 @@ pub utf8_none : (text : List ℕ) → length text ≡ 0 → utf8 text ≡ true
 unfolding utf8
 utf8_none [] e = refl
 utf8_none (a ∷ text) e = absurd (omega arith)
+
+-- so do all that stand in front of the first byte that is no ASCII: what stands from there on decides, and a text of
+-- ASCII is UTF-8
+run-from : (text : List ℕ) (i n : ℕ) → position_from (λ b. ltb 0x7F b) i text ≡ Some n
+    → (i ≤ n) × (n - i < length text) × (utf8 (drop (n - i) text) ≡ utf8 text)
+run-from [] i n h = absurd (let z : ◌≡◌ {A = ℕ} 0 1 = cc in omega arith)
+run-from (b ∷ bs) i n h =
+    split (ltb 0x7F b)
+    (λ t.
+    let k = rw t at h in let e : i ≡ n = cc in let z : n - i ≡ 0 = omega arith in rw z (omega arith, omega arith, refl))
+    (λ f. let k = run-from bs (i + 1) n (rw f at h) in
+    let z : n - i ≡ suc (n - (i + 1)) = omega (arith, k.0) in
+    rw z (omega (arith, k.0), omega (arith, k.1), k.2 ∙ sym (utf8_ascii b bs (ltb-false 0x7F b f))))
+
+all-ascii : (text : List ℕ) (i : ℕ) → position_from (λ b. ltb 0x7F b) i text ≡ None → utf8 text ≡ true
+all-ascii [] i h = utf8_none [] refl
+all-ascii (b ∷ bs) i h =
+    split (ltb 0x7F b)
+    (λ t. absurd (let k = rw t at h in let z : ◌≡◌ {A = ℕ} 0 1 = cc in omega arith))
+    (λ f. utf8_ascii b bs (ltb-false 0x7F b f) ∙ all-ascii bs (i + 1) (rw f at h))
+
+pub utf8_run : (text : List ℕ) (n : ℕ) → past_ascii text ≡ Some n
+    → (n < length text) × (utf8 (drop n text) ≡ utf8 text)
+utf8_run text n h =
+    let r = run-from text 0 n h in
+    let e : n ≡ n - 0 = omega arith in (omega (arith, r.1), ap (λ (k : ℕ). utf8 (drop k text)) e ∙ r.2)
+
+pub utf8_ascii_only : (text : List ℕ) → past_ascii text ≡ None → utf8 text ≡ true
+utf8_ascii_only text h = all-ascii text 0 h

@@ -16,7 +16,7 @@ use Rattle.hnsr_circuit.specs.Circuits.{clear_circuit}
 use Rattle.hnsr_circuit.specs.Ledger.{clear_usage}
 use Rattle.hnsr_circuit.specs.Inflight.{clear_action}
 use Rattle.hnsr_circuit.specs.World.{World, world_of}
-use Rattle.hnsr_circuit.specs.Code.Progress.{Progress, Result, underway, handed_back}
+use Rattle.hnsr_circuit.specs.Code.Progress.{Progress, Ended, underway, handed_back}
 
 -- ---- a table as it is seen
 module _ {A : Type 0} (unmark : A → A) where
@@ -53,7 +53,7 @@ underway_seen s p c l i out =
     (held_actions s.places i) out
 
 abbrev pub handed_seen : Relayed → List RelayPending → List RelayCircuit → List ReservationUsage → List InflightAction
-    → (out : List ℕ) → Result
+    → (out : List ℕ) → Ended
 handed_seen r p c l i out =
     handed_back r (held_pending r.places p) (held_circuits r.places c) (held_ledger r.places l)
     (held_actions r.places i) out

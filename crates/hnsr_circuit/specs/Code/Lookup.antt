@@ -5,24 +5,24 @@ use Rattle.hnsr_circuit.specs.declared.records.RelayPending.{RelayPending}
 use Rattle.hnsr_circuit.specs.declared.records.RelayCircuit.{RelayCircuit}
 use Rattle.hnsr_circuit.specs.declared.records.ReservationUsage.{ReservationUsage}
 use Rattle.hnsr_circuit.specs.declared.records.InflightAction.{InflightAction}
-use Rattle.hnsr_circuit.specs.declared.tables.lookup.PendingFound.{PendingFound}
-use Rattle.hnsr_circuit.specs.declared.tables.lookup.CircuitFound.{CircuitFound}
-use Rattle.hnsr_circuit.specs.declared.tables.lookup.UsageFound.{UsageFound}
-use Rattle.hnsr_circuit.specs.declared.tables.lookup.ActionFound.{ActionFound}
+use Rattle.hnsr_circuit.specs.declared.tables.lookup.Found.{Found}
 use Rattle.hnsr_circuit.specs.Table.{any, pick, place_of}
 use Rattle.hnsr_circuit.specs.Pending.{no_pending}
 use Rattle.hnsr_circuit.specs.Circuits.{no_circuit}
 use Rattle.hnsr_circuit.specs.Ledger.{no_usage}
 use Rattle.hnsr_circuit.specs.Inflight.{no_action}
 
-abbrev pub pending_found : (RelayPending → Bool) → List RelayPending → PendingFound
-pending_found p t = record { found = any p t; place = place_of p t; pending = pick p no_pending t }
+abbrev pub looked_up : {A : Type 0} → (none : A) → (A → Bool) → List A → Found A
+looked_up none p t = record { found = any p t; place = place_of p t; row = pick p none t }
 
-abbrev pub circuit_found : (RelayCircuit → Bool) → List RelayCircuit → CircuitFound
-circuit_found p t = record { found = any p t; place = place_of p t; circuit = pick p no_circuit t }
+abbrev pub pending_found : (RelayPending → Bool) → List RelayPending → Found RelayPending
+pending_found p t = looked_up no_pending p t
 
-abbrev pub usage_found : (ReservationUsage → Bool) → List ReservationUsage → UsageFound
-usage_found p t = record { found = any p t; place = place_of p t; usage = pick p no_usage t }
+abbrev pub circuit_found : (RelayCircuit → Bool) → List RelayCircuit → Found RelayCircuit
+circuit_found p t = looked_up no_circuit p t
 
-abbrev pub action_found : (InflightAction → Bool) → List InflightAction → ActionFound
-action_found p t = record { found = any p t; place = place_of p t; action = pick p no_action t }
+abbrev pub usage_found : (ReservationUsage → Bool) → List ReservationUsage → Found ReservationUsage
+usage_found p t = looked_up no_usage p t
+
+abbrev pub action_found : (InflightAction → Bool) → List InflightAction → Found InflightAction
+action_found p t = looked_up no_action p t

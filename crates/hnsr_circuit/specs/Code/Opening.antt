@@ -1,5 +1,5 @@
 -- What the code of ACCEPT and OPEN asks, gathers and decides before it writes.
-use Rattle.std.specs.Prelude.{ℕ, ◌+◌, Bool, true, false, cond, ◌||◌, List, ltb, leb, length, take}
+use Rattle.std.specs.Prelude.{ℕ, ◌+◌, Bool, true, false, cond, ◌||◌, Option, unwrap_or, List, ltb, leb, length, take}
 use Rattle.hns_encoding.specs.Bytes.{be}
 use Rattle.hnsr_body.specs.declared.layout.Read.{Read}
 use Rattle.hnsr_body.specs.declared.accept_body.AcceptBody.{AcceptBody}
@@ -13,10 +13,9 @@ use Rattle.hnsr_circuit.specs.declared.peer.HnsrPeerId.{HnsrPeerId}
 use Rattle.hnsr_circuit.specs.declared.records.RelayPending.{RelayPending}
 use Rattle.hnsr_circuit.specs.declared.records.RelayCircuit.{RelayCircuit}
 use Rattle.hnsr_circuit.specs.declared.tables.scan.InflightTally.{InflightTally}
-use Rattle.hnsr_circuit.specs.declared.tables.lookup.PendingFound.{PendingFound}
+use Rattle.hnsr_circuit.specs.declared.tables.lookup.Found.{Found}
 use Rattle.hnsr_circuit.specs.declared.tables.scan.LedgerScan.{LedgerScan}
 use Rattle.hnsr_circuit.specs.declared.tables.scan.ActionScan.{ActionScan}
-use Rattle.hnsr_circuit.specs.declared.messages.draw.Drawing.{Drawing}
 use Rattle.hnsr_circuit.specs.declared.output.queue.Outgoing.{Outgoing}
 use Rattle.hnsr_circuit.specs.declared.tables.scan.Work.{Work}
 use Rattle.hnsr_circuit.specs.declared.tables.scan.WorkQuestion.{WorkQuestion}
@@ -45,42 +44,42 @@ abbrev pub put_place : (place places spare : ℕ) → ℕ
 put_place place places spare = cond (ltb place places) place spare
 
 -- ---- ACCEPT
-abbrev pub accept_rows : OpaqueRelayConfig → PendingFound → HnsrPeerId → (now : ℕ) → Read AcceptBody
+abbrev pub accept_rows : OpaqueRelayConfig → Found RelayPending → HnsrPeerId → (now : ℕ) → Read AcceptBody
     → (waiting running : Work) → InflightTally → HnsrAnswer
 accept_rows c f peer now read waiting running t =
-    request_answer f.found f.pending peer now
+    request_answer f.found f.row peer now
     then body_answer read.result
-    then accept_answer c f.pending read.body running.used (waiting.under + running.under)
+    then accept_answer c f.row read.body running.used (waiting.under + running.under)
     then capacity_answer c t
 
-abbrev pub accept_work : PendingFound → WorkQuestion
+abbrev pub accept_work : Found RelayPending → WorkQuestion
 accept_work f = record {
-  peer = f.pending.requester;
-  other = f.pending.requester;
-  reservation = f.pending.ticket.reservation_id;
+  peer = f.row.requester;
+  other = f.row.requester;
+  reservation = f.row.ticket.reservation_id;
   context = 0;
-  id = f.pending.circuit_id;
+  id = f.row.circuit_id;
 }
 
-abbrev pub replacing : PendingFound → (id : ℕ) → ActionQuestion
+abbrev pub replacing : Found RelayPending → (id : ℕ) → ActionQuestion
 replacing f id =
-    record { replacing = true; circuit_id = id; peer = f.pending.requester; generation = 0; sequence = 0 }
+    record { replacing = true; circuit_id = id; peer = f.row.requester; generation = 0; sequence = 0 }
 
-abbrev pub accept_plan : OpaqueRelayRuntime → PendingFound → Read AcceptBody → AcceptPlan
+abbrev pub accept_plan : OpaqueRelayRuntime → Found RelayPending → Read AcceptBody → AcceptPlan
 accept_plan h f read = record {
   place = f.place;
-  id = f.pending.circuit_id;
+  id = f.row.circuit_id;
   runtime = with_counters h (count_accept h.counters);
   message = record {
-    destination = f.pending.requester;
-    circuit_id = f.pending.circuit_id;
+    destination = f.row.requester;
+    circuit_id = f.row.circuit_id;
     opcode = op_opened;
-    context_id = f.pending.requester_context;
+    context_id = f.row.requester_context;
     kind = Opened;
     to_endpoint = false;
     bytes = 0;
   };
-  opened = opened_for f.pending read.body;
+  opened = opened_for f.row read.body;
 }
 
 -- ---- OPEN: the drawing
@@ -129,32 +128,29 @@ open_rows c g =
     then admission_answer g.packet.admitted g.packet.ticket.expires_at g.packet.now
 
 -- those that ask nothing of actions and ledger
-abbrev pub placed_entry : OpaqueRelayConfig → OpenGathered → OpenPlan → Drawing → HnsrAnswer
+abbrev pub placed_entry : OpaqueRelayConfig → OpenGathered → OpenPlan → Option ℕ → HnsrAnswer
 placed_entry c g o d =
     peer_answer g.size
     then endpoint_answer c o.ticket (same_peer o.endpoint o.requester)
     (g.waiting.of_other + g.running.of_other) (g.waiting.under + g.running.under)
     then draw_answer d
 
-abbrev pub placed_rows : OpaqueRelayConfig → OpenGathered → OpenPlan → Drawing → ActionScan → LedgerScan → HnsrAnswer
+abbrev pub placed_rows : OpaqueRelayConfig → OpenGathered → OpenPlan → Option ℕ → ActionScan → LedgerScan → HnsrAnswer
 placed_rows c g o d s r =
-    peer_answer g.size
-    then endpoint_answer c o.ticket (same_peer o.endpoint o.requester)
-    (g.waiting.of_other + g.running.of_other) (g.waiting.under + g.running.under)
-    then draw_answer d
+    placed_entry c g o d
     then capacity_answer c s.tally
     then deadline_answer c g.packet.now
     then ledger_answer r.found r.used r.places
 
 -- ---- OPEN: what is written and sent
-abbrev pub open_plan : OpaqueRelayConfig → OpenGathered → Drawing → OpenPlan
+abbrev pub open_plan : OpaqueRelayConfig → OpenGathered → Option ℕ → OpenPlan
 open_plan c g d = record {
   requester = g.requester;
   context = g.packet.context_id;
   body = g.read.body;
   endpoint = g.endpoint;
   ticket = g.packet.ticket;
-  id = d.id;
+  id = unwrap_or d 0;
   deadline = deadline_for c g.packet.ticket g.packet.now;
 }
 

@@ -16,9 +16,7 @@ use Rattle.hnsr_circuit.specs.declared.records.ReservationUsage.{ReservationUsag
 use Rattle.hnsr_circuit.specs.declared.records.InflightAction.{InflightAction}
 use Rattle.hnsr_circuit.specs.declared.tables.scan.InflightTally.{InflightTally}
 use Rattle.hnsr_circuit.specs.declared.tables.scan.ActionScan.{ActionScan}
-use Rattle.hnsr_circuit.specs.declared.tables.lookup.PendingFound.{PendingFound}
-use Rattle.hnsr_circuit.specs.declared.tables.lookup.CircuitFound.{CircuitFound}
-use Rattle.hnsr_circuit.specs.declared.tables.lookup.UsageFound.{UsageFound}
+use Rattle.hnsr_circuit.specs.declared.tables.lookup.Found.{Found}
 use Rattle.hnsr_circuit.specs.declared.output.queue.Outgoing.{Outgoing}
 use Rattle.hnsr_circuit.specs.declared.runtime.RelayPacket.{RelayPacket}
 use Rattle.hnsr_circuit.specs.declared.records.InflightKind.TheVariants.{Control, Close}
@@ -42,19 +40,20 @@ use Rattle.hnsr_circuit.specs.Window.{credit_answer}
 use Rattle.hnsr_circuit.specs.Close.{close_answer}
 
 -- ---- DATA
-abbrev pub data_rows : OpaqueRelayConfig → CircuitFound → UsageFound → InflightTally → HnsrPeerId → (n : ℕ) → HnsrAnswer
+abbrev pub data_rows : OpaqueRelayConfig → Found RelayCircuit → Found ReservationUsage → InflightTally → HnsrPeerId
+    → (n : ℕ) → HnsrAnswer
 data_rows k f u t peer n =
     body_answer (data_checked n)
-    then circuit_answer f.found f.circuit peer
+    then circuit_answer f.found f.row peer
     then capacity_answer k t
-    then bytes_answer u.found u.usage f.circuit n
-    then flow_answer k f.circuit (side_of peer f.circuit) n
+    then bytes_answer u.found u.row f.row n
+    then flow_answer k f.row (side_of peer f.row) n
 
-abbrev pub data_plan : OpaqueRelayRuntime → CircuitFound → UsageFound → ActionScan → HnsrPeerId → Outgoing
-    → (n : ℕ) → Result DataPlan HnsrRuntimeError
+abbrev pub data_plan : OpaqueRelayRuntime → Found RelayCircuit → Found ReservationUsage → ActionScan
+    → HnsrPeerId → Outgoing → (n : ℕ) → Result DataPlan HnsrRuntimeError
 data_plan h f u s peer m n = result_and (data_rows h.config f u s.tally peer n) (Ok (record {
   place = f.place;
-  side = side_of peer f.circuit;
+  side = side_of peer f.row;
   usage_place = u.place;
   runtime = with_counters h (count_bytes n h.counters);
   message = m;
@@ -62,11 +61,11 @@ data_plan h f u s peer m n = result_and (data_rows h.config f u s.tally peer n) 
 }))
 
 -- on a circuit, from the tables: its reservation's ledger record, the actions
-abbrev pub data_planned_on : OpaqueRelayRuntime → CircuitFound → List ReservationUsage → List InflightAction
+abbrev pub data_planned_on : OpaqueRelayRuntime → Found RelayCircuit → List ReservationUsage → List InflightAction
     → RelayPacket → HnsrPeerId → (n : ℕ) → Result DataPlan HnsrRuntimeError
 data_planned_on h f l i q peer n =
-    let m = data_on q f.circuit peer n in
-    data_plan h f (usage_found (usage_at f.circuit.reservation_id) l) (actions_scanned (asking h m) i) peer m n
+    let m = data_on q f.row peer n in
+    data_plan h f (usage_found (usage_at f.row.reservation_id) l) (actions_scanned (asking h m) i) peer m n
 
 -- on the one that the packet names
 abbrev pub data_planned : OpaqueRelayRuntime → List RelayCircuit → List ReservationUsage → List InflightAction
@@ -74,27 +73,28 @@ abbrev pub data_planned : OpaqueRelayRuntime → List RelayCircuit → List Rese
 data_planned h c l i q peer n = data_planned_on h (circuit_found (circuit_at q.context_id) c) l i q peer n
 
 -- ---- WINDOW
-abbrev pub window_rows : OpaqueRelayConfig → Read WindowBody → CircuitFound → InflightTally → HnsrPeerId → HnsrAnswer
+abbrev pub window_rows : OpaqueRelayConfig → Read WindowBody → Found RelayCircuit → InflightTally
+    → HnsrPeerId → HnsrAnswer
 window_rows k read f t peer =
     body_answer read.result
-    then circuit_answer f.found f.circuit peer
+    then circuit_answer f.found f.row peer
     then capacity_answer k t
-    then credit_answer f.circuit (side_of peer f.circuit) read.body.credit_delta
+    then credit_answer f.row (side_of peer f.row) read.body.credit_delta
 
-abbrev pub window_plan : OpaqueRelayConfig → Read WindowBody → CircuitFound → ActionScan → HnsrPeerId → Outgoing
+abbrev pub window_plan : OpaqueRelayConfig → Read WindowBody → Found RelayCircuit → ActionScan → HnsrPeerId → Outgoing
     → Result WindowPlan HnsrRuntimeError
 window_plan k read f s peer m = result_and (window_rows k read f s.tally peer) (Ok (record {
   place = f.place;
-  side = side_of peer f.circuit;
+  side = side_of peer f.row;
   delta = read.body.credit_delta;
   message = m;
   scan = s;
 }))
 
-abbrev pub window_planned_on : OpaqueRelayRuntime → Read WindowBody → CircuitFound → List InflightAction → RelayPacket
-    → HnsrPeerId → Result WindowPlan HnsrRuntimeError
+abbrev pub window_planned_on : OpaqueRelayRuntime → Read WindowBody → Found RelayCircuit → List InflightAction
+    → RelayPacket → HnsrPeerId → Result WindowPlan HnsrRuntimeError
 window_planned_on h read f i q peer =
-    let m = passed_on q f.circuit peer Control in
+    let m = passed_on q f.row peer Control in
     window_plan h.config read f (actions_scanned (asking h m) i) peer m
 
 abbrev pub window_planned : OpaqueRelayRuntime → List RelayCircuit → List InflightAction → RelayPacket → HnsrPeerId
@@ -103,19 +103,19 @@ window_planned h c i q peer body =
     window_planned_on h (decode_window body) (circuit_found (circuit_at q.context_id) c) i q peer
 
 -- ---- CLOSE and ERROR
-abbrev pub close_rows : Read ReasonDetail → (matches : ℕ) → CircuitFound → HnsrPeerId → HnsrAnswer
+abbrev pub close_rows : Read ReasonDetail → (matches : ℕ) → Found RelayCircuit → HnsrPeerId → HnsrAnswer
 close_rows read matches f peer =
-    body_answer read.result then close_answer matches (circuit_answer f.found f.circuit peer)
+    body_answer read.result then close_answer matches (circuit_answer f.found f.row peer)
 
 -- of the pending record where there is one, else of the circuit
-abbrev pub close_id : RelayPacket → PendingFound → ℕ
-close_id q w = cond w.found w.pending.circuit_id q.context_id
+abbrev pub close_id : RelayPacket → Found RelayPending → ℕ
+close_id q w = cond w.found w.row.circuit_id q.context_id
 
-abbrev pub close_message : RelayPacket → PendingFound → CircuitFound → HnsrPeerId → Outgoing
-close_message q w f peer = cond w.found (translated_on q w.pending peer) (passed_on q f.circuit peer Close)
+abbrev pub close_message : RelayPacket → Found RelayPending → Found RelayCircuit → HnsrPeerId → Outgoing
+close_message q w f peer = cond w.found (translated_on q w.row peer) (passed_on q f.row peer Close)
 
-abbrev pub close_plan : OpaqueRelayRuntime → RelayPacket → Read ReasonDetail → (matches : ℕ) → PendingFound
-    → CircuitFound
+abbrev pub close_plan : OpaqueRelayRuntime → RelayPacket → Read ReasonDetail → (matches : ℕ) → Found RelayPending
+    → Found RelayCircuit
     → HnsrPeerId → Result ClosePlan HnsrRuntimeError
 close_plan h q read matches w f peer = result_and (close_rows read matches f peer) (Ok (record {
   ends_pending = w.found;

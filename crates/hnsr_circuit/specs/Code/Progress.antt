@@ -92,24 +92,24 @@ abbrev pub advance : (World → Sent) → Progress → Progress
 advance f s = advanced s (f s.world)
 
 -- ---- a call that is over
-pub record Result : Type 0 where
+pub record Ended : Type 0 where
   pub world : World
   pub answer : HnsrAnswer
   pub words : ℕ
   pub output : List ℕ
 
-abbrev pub result : World → HnsrAnswer → (words : ℕ) → (output : List ℕ) → Result
+abbrev pub result : World → HnsrAnswer → (words : ℕ) → (output : List ℕ) → Ended
 result w a words out = record { world = w; answer = a; words = words; output = out }
 
 abbrev pub handed_back : Relayed → List RelayPending → List RelayCircuit → List ReservationUsage → List InflightAction
-    → (out : List ℕ) → Result
+    → (out : List ℕ) → Ended
 handed_back r p c l i out = result (world_of r.runtime p c l i) r.answer r.words out
 
 -- what a part of the code that ends a call leaves
-abbrev pub ending : (out : List ℕ) → Outcome → Result
+abbrev pub ending : (out : List ℕ) → Outcome → Ended
 ending out o = result o.world o.answer (filled_to 0 o.routes) (placed out 0 o.routes)
 
 -- the whole outcome of a call: the world, the answer, how many words, and the output as the routes' words and then the
 -- old tail
-abbrev pub outcome : (out : List ℕ) → Outcome → Result
+abbrev pub outcome : (out : List ℕ) → Outcome → Ended
 outcome out o = result o.world o.answer (length (out_words o.routes)) (output out o.routes)

@@ -1,5 +1,16 @@
 -- What a revoking call hands its walks, and the messages by which the code ends a record.
-use Rattle.std.specs.Prelude.{ℕ, Bool, true, false, cond}
+use Rattle.std.specs.Prelude.{ℕ, ◌+◌, ◌*◌, Bool, true, false, cond, ◌||◌, List, length, ltb, Result, Ok}
+use Rattle.std.specs.Result.{result_and}
+use Rattle.hns_encoding.specs.Sums.{count}
+use Rattle.hnsr_circuit.specs.declared.config.OpaqueRelayConfig.{OpaqueRelayConfig}
+use Rattle.hnsr_circuit.specs.declared.answer.HnsrRuntimeError.{HnsrRuntimeError}
+use Rattle.hnsr_circuit.specs.declared.answer.HnsrRuntimeError.TheVariants.{Short}
+use Rattle.hnsr_circuit.specs.declared.calls.revocation.Firsts.{Firsts}
+use Rattle.hnsr_circuit.specs.Answers.{HnsrAnswer, check, ◌then◌}
+use Rattle.hnsr_circuit.specs.Table.{not_yet, next}
+use Rattle.hnsr_circuit.specs.Pending.{is_pending, pending_id}
+use Rattle.hnsr_circuit.specs.Circuits.{is_circuit, circuit_id}
+use Rattle.hnsr_circuit.specs.Entry.{closing_words, too_few}
 use Rattle.hnsr_body.specs.declared.messages.Notice.{Notice}
 use Rattle.hnsr_body.specs.declared.messages.Notice.TheVariants.{PeerDisconnected}
 use Rattle.hnsr_circuit.specs.declared.peer.HnsrPeerId.{HnsrPeerId}
@@ -59,6 +70,22 @@ revoked_circuit v = circuit_has v.question v.peer
 abbrev pub revoking_all : Revoking → World → Outcome
 revoking_all v w =
     revoke_all (ending_pending v) (revoked_pending v) (revoke_circuit_there v.circuit_notice) (revoked_circuit v) w
+
+-- ---- the entry of a revoking call: 22, and then its own rows; taken, the first record that each walk takes
+abbrev pub firsts_of : Revoking → List RelayPending → List RelayCircuit → Firsts
+firsts_of v p c = record {
+  pending = next pending_id (revoked_pending v) not_yet p;
+  circuits = next circuit_id (revoked_circuit v) not_yet c;
+}
+
+abbrev pub lent_answer : OpaqueRelayConfig → List RelayPending → List RelayCircuit → (inflight room : ℕ) → HnsrAnswer
+lent_answer k p c n room =
+    check (ltb room (closing_words * (count is_pending p + count is_circuit c)) || too_few k (length p) (length c) n)
+    Short
+
+abbrev pub entered : Revoking → OpaqueRelayConfig → List RelayPending → List RelayCircuit → (inflight room : ℕ)
+    → (rows : HnsrAnswer) → Result Firsts HnsrRuntimeError
+entered v k p c n room rows = result_and (lent_answer k p c n room then rows) (Ok (firsts_of v p c))
 
 -- ---- what each call revokes
 abbrev pub disconnecting_all : HnsrPeerId → Revoking

@@ -30,6 +30,12 @@ then_taken (Err e) b h = (h, cc)
 pub taken_then : (a b : HnsrAnswer) → a ≡ Ok tt → b ≡ Ok tt → (a then b) ≡ Ok tt
 taken_then a b h k = rw (h, k)
 
+-- three rows as one, and what comes behind
+pub then_three : (a b c d : HnsrAnswer) → ((a then b then c) then d) ≡ (a then b then c then d)
+then_three (Ok _) (Ok _) c d = refl
+then_three (Ok _) (Err e) c d = refl
+then_three (Err e) b c d = refl
+
 -- ---- the first refusal is the answer, whatever rows come behind
 pub stop : (a x : HnsrAnswer) → taken a ≡ false → a ≡ (a then x)
 stop (Ok _) x t = absurd (true≢false t)

@@ -10,12 +10,12 @@ use Rattle.hnsr_body.specs.declared.incoming_body.IncomingBody.{IncomingBody}
 use Rattle.hnsr_body.specs.declared.accept_body.OpenedBody.{OpenedBody}
 use Rattle.hnsr_body.specs.Utf8.{utf8}
 use Rattle.hnsr_body.specs.Causes.{answer}
-use Rattle.hnsr_body.specs.Layout.{laid_out, walked}
+use Rattle.hnsr_body.specs.Layout.{laid_out, walked, handed_on}
 use Rattle.hnsr_body.specs.Open.{open_fields}
 use Rattle.hnsr_body.specs.Incoming.{incoming_bytes}
 use Rattle.hnsr_body.specs.Accept.{accept_fields, accept_bytes, opened_bytes}
 use Rattle.hnsr_body.specs.Data.{most_data, data_good, data_checked, window_widths, decode_window}
-use Rattle.hnsr_body.specs.Detail.{detail_widths, headed, length_of, length_good, detail_of, decode_detail}
+use Rattle.hnsr_body.specs.Detail.{detail_widths, length_of, length_good, detail_of, decode_detail}
 use Rattle.hnsr_body.specs.Laws.Parts.{answer-good, laid-size}
 use Rattle.hnsr_body.specs.Laws.Fields.{bytes-length}
 use Rattle.hnsr_circuit.specs.Answers.{body_answer}
@@ -43,9 +43,9 @@ pub detail-size : (body : List ℕ) → body_answer (decode_detail body).result 
 unfolding decode_detail
 detail-size body h =
     let sized = (answer-good
-    (answer (headed (walked detail_widths body (record { position = 0 }))) (length_good body) DiagnosticDetail)
+    (answer (handed_on (walked detail_widths body (record { position = 0 }))) (length_good body) DiagnosticDetail)
     (utf8 (detail_of body)) _ (taken_ok _ h)).0 in
-    let k = (answer-good (headed (walked detail_widths body (record { position = 0 }))) (length_good body)
+    let k = (answer-good (handed_on (walked detail_widths body (record { position = 0 }))) (length_good body)
     DiagnosticDetail sized).1 in
     let parts = both (leb (length_of body) 128) (eqb (length body - 3) (length_of body)) k in
     omega (arith, leb-true (length_of body) 128 parts.0, eqb-true (length body - 3) (length_of body) parts.1)

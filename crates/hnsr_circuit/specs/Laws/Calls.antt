@@ -13,6 +13,7 @@ use Rattle.hnsr_circuit.specs.declared.records.InflightAction.{InflightAction}
 use Rattle.hnsr_circuit.specs.declared.runtime.OpaqueRelayRuntime.{OpaqueRelayRuntime}
 use Rattle.hnsr_circuit.specs.declared.runtime.Relayed.{Relayed}
 use Rattle.hnsr_circuit.specs.declared.runtime.Sending.{Sending}
+use Rattle.hnsr_circuit.specs.declared.answer.HnsrRuntimeError.{HnsrRuntimeError}
 use Rattle.hnsr_circuit.specs.Answers.{HnsrAnswer, taken}
 use Rattle.hnsr_circuit.specs.World.{World, Outcome, proceed, world_of}
 use Rattle.hnsr_circuit.specs.Code.Progress.{filled_to, placed, Progress, progress}
@@ -21,6 +22,11 @@ use Rattle.hnsr_circuit.specs.Entry.{closing_words}
 use Rattle.hnsr_circuit.specs.Call.{Call, step}
 use Rattle.hnsr_circuit.specs.Laws.StepRoom.{room_of, routes-fit}
 use Rattle.hnsr_circuit.specs.Laws.Progress.{fits}
+
+-- what is refused for an error is answered by the row that refuses
+pub answered : {x h : OpaqueRelayRuntime} {b a : HnsrAnswer} {e : HnsrRuntimeError} {n m : ℕ}
+    → (x ≡ h) × (b ≡ Err e) × (n ≡ m) → a ≡ Err e → (x ≡ h) × (b ≡ a) × (n ≡ m)
+answered f e = (f.0, f.1 ∙ sym e, f.2)
 
 module _ (h : OpaqueRelayRuntime) (p : List RelayPending) (c : List RelayCircuit) (l : List ReservationUsage)
     (i : List InflightAction) (out : List ℕ) where

@@ -22,7 +22,7 @@ use Rattle.hnsr_circuit.specs.declared.records.RelayCircuit.{RelayCircuit}
 use Rattle.hnsr_circuit.specs.declared.records.ReservationUsage.{ReservationUsage}
 use Rattle.hnsr_circuit.specs.declared.records.InflightAction.{InflightAction}
 use Rattle.hnsr_circuit.specs.declared.tables.scan.InflightTally.{InflightTally}
-use Rattle.hnsr_circuit.specs.declared.tables.lookup.CircuitFound.{CircuitFound}
+use Rattle.hnsr_circuit.specs.declared.tables.lookup.Found.{Found}
 use Rattle.hnsr_circuit.specs.declared.records.InflightKind.TheVariants.{Control, Close}
 use Rattle.hnsr_circuit.specs.declared.output.queue.Outgoing.{Outgoing}
 use Rattle.hnsr_circuit.specs.declared.runtime.RelayPacket.{RelayPacket}
@@ -47,7 +47,7 @@ use Rattle.hnsr_circuit.specs.World.{proceed, world_of}
 use Rattle.hnsr_circuit.specs.Queue.{Message, send}
 use Rattle.hnsr_circuit.specs.Code.Turns.{actions_scanned}
 use Rattle.hnsr_circuit.specs.Packet.{sender, circuit_answer, forwarded}
-use Rattle.hnsr_circuit.specs.Code.Progress.{Result, message_of, packet_of, asking, ending, handed_back}
+use Rattle.hnsr_circuit.specs.Code.Progress.{Ended, message_of, packet_of, asking, ending, handed_back}
 use Rattle.hnsr_circuit.specs.Data.{with_data, data_message, data_taken, data_with, handle_data}
 use Rattle.hnsr_circuit.specs.Window.{credit_answer, with_window, window_taken, window_with, handle_window}
 use Rattle.hnsr_circuit.specs.Revocation.{without_actions, without_pending, end_pending, end_circuit}
@@ -65,12 +65,12 @@ use Rattle.hnsr_circuit.specs.Laws.Queueing.{taken_is, and-ok, and-err, ok-same}
 module _ (h : OpaqueRelayRuntime) (c : List RelayCircuit) (l : List ReservationUsage) (i : List InflightAction)
     (q : RelayPacket) (source body : List ℕ) where
   abbrev data_message_on : Outgoing
-  data_message_on = data_on q (circuit_found (circuit_at q.context_id) c).circuit (peer_of source) (length body)
+  data_message_on = data_on q (circuit_found (circuit_at q.context_id) c).row (peer_of source) (length body)
 
   -- the rows of the code are the definition's
   data_rows-are : (p : List RelayPending) (e rs : List ℕ)
       → (let f = circuit_found (circuit_at q.context_id) c in
-      data_rows h.config f (usage_found (usage_at f.circuit.reservation_id) l)
+      data_rows h.config f (usage_found (usage_at f.row.reservation_id) l)
       (actions_scanned (asking h data_message_on) i).tally (peer_of source) (length body))
       ≡ data_taken (world_of h p c l i) (packet_of q source body e rs) (pick (circuit_at q.context_id) no_circuit c)
       (side_of (peer_of source) (pick (circuit_at q.context_id) no_circuit c)) (length body)
@@ -88,8 +88,8 @@ module _ (h : OpaqueRelayRuntime) (c : List RelayCircuit) (l : List ReservationU
   module _ (plan : DataPlan) (ep : data_planned h c l i q (peer_of source) (length body) ≡ Ok plan) where
     data_plan-is : (let f = circuit_found (circuit_at q.context_id) c in record {
       place = f.place;
-      side = side_of (peer_of source) f.circuit;
-      usage_place = (usage_found (usage_at f.circuit.reservation_id) l).place;
+      side = side_of (peer_of source) f.row;
+      usage_place = (usage_found (usage_at f.row.reservation_id) l).place;
       runtime = with_counters h (count_bytes (length body) h.counters);
       message = data_message_on;
       scan = actions_scanned (asking h data_message_on) i;
@@ -103,7 +103,7 @@ module _ (h : OpaqueRelayRuntime) (c : List RelayCircuit) (l : List ReservationU
     pub data_scanned : plan.scan ≡ actions_scanned (asking plan.runtime plan.message) i
     data_scanned = rw (← data_plan-is)
 
-    pub data_handled : (out : List ℕ) (p : List RelayPending) (e rs : List ℕ) (r : Result) (c' : List RelayCircuit)
+    pub data_handled : (out : List ℕ) (p : List RelayPending) (e rs : List ℕ) (r : Ended) (c' : List RelayCircuit)
         (l' : List ReservationUsage)
         → c' ≡ set c plan.place (charged plan.side (length body) (get_or c plan.place no_circuit))
         → l' ≡ set l plan.usage_place (spent (length body) (get_or l plan.usage_place no_usage))
@@ -129,9 +129,9 @@ module _ (h : OpaqueRelayRuntime) (c : List RelayCircuit) (l : List ReservationU
 
 -- refused by its body or its circuit
 pub data_refused : (h : OpaqueRelayRuntime) (p : List RelayPending) (c : List RelayCircuit) (l : List ReservationUsage)
-    (i : List InflightAction) (q : RelayPacket) (source body e rs out : List ℕ) (f : CircuitFound) (a : HnsrAnswer)
-    (r : Relayed) → f ≡ circuit_found (circuit_at q.context_id) c
-    → a ≡ (body_answer (data_checked (length body)) then circuit_answer f.found f.circuit (peer_of source))
+    (i : List InflightAction) (q : RelayPacket) (source body e rs out : List ℕ) (f : Found RelayCircuit)
+    (a : HnsrAnswer) (r : Relayed) → f ≡ circuit_found (circuit_at q.context_id) c
+    → a ≡ (body_answer (data_checked (length body)) then circuit_answer f.found f.row (peer_of source))
     → taken a ≡ false
     → (r.runtime ≡ h) × (r.answer ≡ a) × (r.words ≡ 0)
     → handed_back r p c l i out ≡ ending out (handle_data (world_of h p c l i) (packet_of q source body e rs))
@@ -141,18 +141,18 @@ data_refused h p c l i q source body e rs out f a r ef ea t k =
     let y = circuit_answer (any (circuit_at q.context_id) c) (pick (circuit_at q.context_id) no_circuit c)
     (peer_of source) in
     let b : a ≡ (x then y) =
-    ea ∙ ap (λ (g : CircuitFound). x then circuit_answer g.found g.circuit (peer_of source)) ef in
+    ea ∙ ap (λ (g : Found RelayCircuit). x then circuit_answer g.found g.row (peer_of source)) ef in
     turned_away h p c l i out r a _ _ k t (b ∙ stop-two x y _ (ap taken (sym b) ∙ t))
 
 -- ---- WINDOW
 -- where the rows pass, the credit stays within the most
-rows-credit : (k : OpaqueRelayConfig) (read : Read WindowBody) (f : CircuitFound) (t : InflightTally)
+rows-credit : (k : OpaqueRelayConfig) (read : Read WindowBody) (f : Found RelayCircuit) (t : InflightTally)
     (peer : HnsrPeerId)
     → taken (window_rows k read f t peer) ≡ true
-    → credit_of (other_side (side_of peer f.circuit)) f.circuit + read.body.credit_delta ≤ most_window
+    → credit_of (other_side (side_of peer f.row)) f.row + read.body.credit_delta ≤ most_window
 unfolding credit_answer
 rows-credit k read f t peer g =
-    let c = f.circuit in
+    let c = f.row in
     let after = credit_of (other_side (side_of peer c)) c + read.body.credit_delta in
     let credit = credit_answer c (side_of peer c) read.body.credit_delta in
     let later = capacity_answer k t then credit in
@@ -165,12 +165,12 @@ rows-credit k read f t peer g =
 module _ (h : OpaqueRelayRuntime) (c : List RelayCircuit) (i : List InflightAction) (q : RelayPacket)
     (peer : HnsrPeerId) (body : List ℕ) where
   abbrev window_message_on : Outgoing
-  window_message_on = passed_on q (circuit_found (circuit_at q.context_id) c).circuit peer Control
+  window_message_on = passed_on q (circuit_found (circuit_at q.context_id) c).row peer Control
 
   module _ (plan : WindowPlan) (ep : window_planned h c i q peer body ≡ Ok plan) where
     window_plan-is : (let f = circuit_found (circuit_at q.context_id) c in record {
       place = f.place;
-      side = side_of peer f.circuit;
+      side = side_of peer f.row;
       delta = (decode_window body).body.credit_delta;
       message = window_message_on;
       scan = actions_scanned (asking h window_message_on) i;
@@ -185,11 +185,11 @@ module _ (h : OpaqueRelayRuntime) (c : List RelayCircuit) (i : List InflightActi
         let id = q.context_id in
         let f = circuit_found (circuit_at id) c in
         let d = (decode_window body).body.credit_delta in
-        let side = side_of peer f.circuit in
-        let there : credit_of (other_side side) f.circuit + d ≤ most_window =
+        let side = side_of peer f.row in
+        let there : credit_of (other_side side) f.row + d ≤ most_window =
         rows-credit h.config (decode_window body) f (actions_scanned (asking h window_message_on) i).tally peer
         (ap taken (and-ok _ _ plan ep).0) in
-        let small : credit_of (other_side side) f.circuit + d < 4294967296 = omega (arith, there) in
+        let small : credit_of (other_side side) f.row + d < 4294967296 = omega (arith, there) in
         subst (λ (x : WindowPlan). credit_of (other_side x.side) (get_or c x.place no_circuit) + x.delta < 4294967296)
         window_plan-is
         (subst (λ (x : RelayCircuit). credit_of (other_side side) x + d < 4294967296)
@@ -217,7 +217,7 @@ module _ (h : OpaqueRelayRuntime) (c : List RelayCircuit) (i : List InflightActi
       turned_away h p c l i out r (Err x) _ _ k refl (sym (and-err _ _ x ep) ∙ window_rows-are p l e rs)
 
   pub window-handled : (plan : WindowPlan) → window_planned h c i q (peer_of source) body ≡ Ok plan
-      → (out : List ℕ) (p : List RelayPending) (l : List ReservationUsage) (e rs : List ℕ) (r : Result)
+      → (out : List ℕ) (p : List RelayPending) (l : List ReservationUsage) (e rs : List ℕ) (r : Ended)
       (c' : List RelayCircuit)
       → c' ≡ set c plan.place (raised plan.side plan.delta (get_or c plan.place no_circuit))
       → r ≡ ending out (send (world_of h p c' l i) (message_of plan.message body))
@@ -242,9 +242,9 @@ module _ (h : OpaqueRelayRuntime) (c : List RelayCircuit) (i : List InflightActi
 
 pub window_refused : (h : OpaqueRelayRuntime) (p : List RelayPending) (c : List RelayCircuit)
     (l : List ReservationUsage) (i : List InflightAction) (q : RelayPacket) (source body e rs out : List ℕ)
-    (read : Read WindowBody) (f : CircuitFound) (a : HnsrAnswer) (r : Relayed)
+    (read : Read WindowBody) (f : Found RelayCircuit) (a : HnsrAnswer) (r : Relayed)
     → read ≡ decode_window body → f ≡ circuit_found (circuit_at q.context_id) c
-    → a ≡ (body_answer read.result then circuit_answer f.found f.circuit (peer_of source)) → taken a ≡ false
+    → a ≡ (body_answer read.result then circuit_answer f.found f.row (peer_of source)) → taken a ≡ false
     → (r.runtime ≡ h) × (r.answer ≡ a) × (r.words ≡ 0)
     → handed_back r p c l i out ≡ ending out (handle_window (world_of h p c l i) (packet_of q source body e rs))
 unfolding handle_window window_with window_taken sender
@@ -253,7 +253,7 @@ window_refused h p c l i q source body e rs out read f a r er ef ea t k =
     let y = circuit_answer (any (circuit_at q.context_id) c) (pick (circuit_at q.context_id) no_circuit c)
     (peer_of source) in
     let b : a ≡ (x then y) =
-    ea ∙ (λ j. body_answer (er j).result then circuit_answer (ef j).found (ef j).circuit (peer_of source)) in
+    ea ∙ (λ j. body_answer (er j).result then circuit_answer (ef j).found (ef j).row (peer_of source)) in
     turned_away h p c l i out r a _ _ k t (b ∙ stop-two x y _ (ap taken (sym b) ∙ t))
 
 -- ---- CLOSE and ERROR
@@ -286,7 +286,7 @@ module _ (h : OpaqueRelayRuntime) (p : List RelayPending) (c : List RelayCircuit
       turned_away h p c l i out r (Err x) _ _ k refl (sym (and-err _ _ x ep) ∙ close_rows-are l e rs)
 
   pub close_handled : (plan : ClosePlan) → close_planned h p c q (peer_of source) body ≡ Ok plan
-      → (out : List ℕ) (l : List ReservationUsage) (e rs : List ℕ) (r : Result) (p' : List RelayPending)
+      → (out : List ℕ) (l : List ReservationUsage) (e rs : List ℕ) (r : Ended) (p' : List RelayPending)
       (c' : List RelayCircuit) (i₁ : List InflightAction)
       → p' ≡ cond plan.ends_pending
       (set p plan.pending_place (clear_pending (get_or p plan.pending_place no_pending))) p

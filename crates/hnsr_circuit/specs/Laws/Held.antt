@@ -2,17 +2,23 @@
 -- and the number itself raised by a store and lowered past unused places.
 use Prim.Native.Nat.{ℕ, zero, suc, ◌+◌, ◌-◌, ◌≤◌, ◌<◌, min}
 use Rattle.std.proofs.Common.{not-suc-le-zero, le_of_suc-le-suc, add-one, arith, sym, ◌∙◌, ltb-true}
-use Rattle.std.proofs.Common.{ltb-false, leb-true, leb-false, length-drop, take-append-drop}
+use Rattle.std.proofs.Common.{ltb-false, leb-true, leb-false}
 use Rattle.std.specs.Prelude.{◌≡◌, Bool, true, false, cond, ◌||◌, leb, ltb, length, take, drop, get_or, set}
 use Rattle.std.proofs.Math.Path.{refl, ap}
 use mathlib.Core.List.{List, [], ◌∷◌, ◌++◌, map}
+use Rattle.std.specs.Option.{MatchOption, unwrap_or}
+use Rattle.std.specs.Prelude.{Option, None, Some}
+use Rattle.std.specs.List.{AllWithin, HoldsAt, filter}
+use Rattle.std.proofs.lemmas.Iterator.{index_from_first}
+use Rattle.std.proofs.lemmas.List.{take_min}
+use Rattle.std.proofs.Common.{drop_of_length-le}
 use Rattle.hns_encoding.specs.Laws.Tests.{split}
-use Rattle.hns_encoding.specs.Loops.{fold_from, fold_step}
+use Rattle.hns_encoding.specs.Loops.{fold_from, fold_done}
 use Rattle.hns_encoding.specs.Sums.{one, non, total, count}
 use Rattle.hnsr_circuit.specs.Table.{any, place_of, pick, cleared, clear, next_turn}
 use Rattle.hnsr_circuit.specs.declared.tables.scan.Walked.{Walked}
 use Rattle.hnsr_circuit.specs.Code.Held.{held, raised_to}
-use Rattle.hnsr_circuit.specs.Laws.Scans.{set_past, find_next, find_here, count_next, clear_step}
+use Rattle.hnsr_circuit.specs.Laws.Scans.{set_past}
 
 module _ {A : Type 0} (unmark : A → A) where
   -- ---- what stands where
@@ -50,39 +56,6 @@ module _ {A : Type 0} (unmark : A → A) where
   take-held (suc n) [] = refl
   take-held (suc n) (x ∷ xs) = ap {B = List A} (λ (r : List A). x ∷ r) (take-held n xs)
 
-  pub drop-held : (n : ℕ) (t : List A) (i : ℕ) → n ≤ i → drop i (held unmark n t) ≡ map unmark (drop i t)
-  drop-held n [] zero l = refl
-  drop-held n [] (suc i) l = refl
-  drop-held zero (x ∷ xs) zero l = held_none (x ∷ xs)
-  drop-held zero (x ∷ xs) (suc i) l = drop-held zero xs i (omega arith)
-  drop-held (suc n) (x ∷ xs) zero l = absurd (not-suc-le-zero l)
-  drop-held (suc n) (x ∷ xs) (suc i) l = drop-held n xs i (le_of_suc-le-suc l)
-
-  -- past the number, or past the end: what is left has no mark
-  pub rest-held : (n : ℕ) (t : List A) (i : ℕ) → (i < n → length t ≤ i)
-      → drop i (held unmark n t) ≡ map unmark (drop i t)
-  rest-held n [] zero l = refl
-  rest-held n [] (suc i) l = refl
-  rest-held zero (x ∷ xs) i l = drop-held zero (x ∷ xs) i (omega arith)
-  rest-held (suc n) (x ∷ xs) zero l = absurd (not-suc-le-zero (l (omega arith)))
-  rest-held (suc n) (x ∷ xs) (suc i) l = rest-held n xs i (λ h. le_of_suc-le-suc (l (omega arith)))
-
-  -- ---- a question that every unmarked record answers alike
-  module _ (p : A → Bool) (b : Bool) (alike : (a : A) → p (unmark a) ≡ b) where
-    place-unmarked : (t : List A) → place_of p (map unmark t) ≡ cond b 0 (length t)
-    place-unmarked [] = split b (λ e. rw e) (λ e. rw e)
-    place-unmarked (x ∷ xs) = split b (λ e. rw (alike x, e)) (λ e. rw (alike x, e) (ap suc (place-unmarked xs ∙ rw e)))
-
-    -- the end of a lookup
-    pub find_rest : (n : ℕ) (t : List A) (i r : ℕ) → (i < n → length t ≤ i) → i ≤ length t
-        → i + place_of p (drop i (held unmark n t)) ≡ r
-        → cond b i (length t) ≡ r
-    find_rest n t i r l m h =
-        let k = rw (rest-held n t i l, place-unmarked (drop i t)) at h in
-        split b
-        (λ e. rw e (let z = rw e at k in omega arith))
-        (λ e. rw e (let z = rw e at k in omega (arith, length-drop i t)))
-
   -- a used record's question finds only below the number, a question of unused ones at the number at most
   pub place-below : (p : A → Bool) → ((a : A) → p (unmark a) ≡ false) → (n : ℕ) (t : List A)
       → place_of p (held unmark n t) < length t → place_of p (held unmark n t) < n
@@ -109,6 +82,56 @@ module _ {A : Type 0} (unmark : A → A) where
       (λ f. rw f (λ l. let z = place-below p off n t l in omega arith))
       (λ f. rw f (λ l. place_upto (non used) on n t))
 
+  -- ---- a lookup among the first places, by what `position` says of them
+  place-taken : (p : A → Bool) (n : ℕ) (t : List A) → place_of p (take n t) < length (take n t)
+      → place_of p (held unmark n t) ≡ place_of p (take n t)
+  place-taken p zero t l = absurd (not-suc-le-zero l)
+  place-taken p (suc n) [] l = absurd (not-suc-le-zero l)
+  place-taken p (suc n) (x ∷ xs) l =
+      split (p x) (λ e. rw e) (λ e. let k = rw e at l in rw e (ap suc (place-taken p n xs (le_of_suc-le-suc k))))
+
+  place-past : (p : A → Bool) → ((a : A) → p (unmark a) ≡ false) → (n : ℕ) (t : List A)
+      → place_of p (take n t) ≡ length (take n t) → place_of p (held unmark n t) ≡ length t
+  place-past p off zero [] h = refl
+  place-past p off (suc n) [] h = refl
+  place-past p off zero (x ∷ xs) h = rw (off x) (ap suc (place-past p off zero xs refl))
+  place-past p off (suc n) (x ∷ xs) h = split (p x)
+      (λ e. let k = rw e at h in omega arith)
+      (λ e. let k = rw e at h in rw e (ap suc (place-past p off n xs (omega arith))))
+
+  place_first : (p : A → Bool) (xs : List A) (r : Option ℕ)
+      → MatchOption r (AllWithin (λ x. p x ≡ false) xs 0 (length xs))
+      (λ i. (i < length xs) × HoldsAt (λ x. p x ≡ true) xs i × AllWithin (λ x. p x ≡ false) xs 0 i)
+      → place_of p xs ≡ unwrap_or r (length xs)
+  place_first p xs r h =
+      index_from_first (place_of p) (λ x. p x ≡ true) (λ x. p x ≡ false) refl (λ x ys e. rw e)
+      (λ x ys e. rw (e, add-one)) xs r h
+
+  pub found_held : (p : A → Bool) → ((a : A) → p (unmark a) ≡ false) → (n : ℕ) (t : List A) (r : Option ℕ)
+      → MatchOption r (AllWithin (λ x. p x ≡ false) (take n t) 0 (length (take n t)))
+      (λ i. (i < length (take n t)) × HoldsAt (λ x. p x ≡ true) (take n t) i
+      × AllWithin (λ x. p x ≡ false) (take n t) 0 i)
+      → unwrap_or r (length t) ≡ place_of p (held unmark n t)
+  found_held p off n t None h = sym (place-past p off n t (place_first p (take n t) None h))
+  found_held p off n t (Some i) h =
+      let e = place_first p (take n t) (Some i) h in
+      sym (place-taken p n t (rw e h.0) ∙ e)
+
+  -- a question of unused records stops at the number at most
+  place-on : (p : A → Bool) → ((a : A) → p (unmark a) ≡ true) → (n : ℕ) (t : List A)
+      → place_of p (take n t) ≡ place_of p (held unmark n t)
+  place-on p on zero [] = refl
+  place-on p on (suc n) [] = refl
+  place-on p on zero (x ∷ xs) = rw (on x)
+  place-on p on (suc n) (x ∷ xs) = ap (λ (m : ℕ). cond (p x) 0 (suc m)) (place-on p on n xs)
+
+  pub spare_held : (p : A → Bool) → ((a : A) → p (unmark a) ≡ true) → (n : ℕ) (t : List A) (r : Option ℕ)
+      → MatchOption r (AllWithin (λ x. p x ≡ false) (take n t) 0 (length (take n t)))
+      (λ i. (i < length (take n t)) × HoldsAt (λ x. p x ≡ true) (take n t) i
+      × AllWithin (λ x. p x ≡ false) (take n t) 0 i)
+      → unwrap_or r (length (take n t)) ≡ place_of p (held unmark n t)
+  spare_held p on n t r h = sym (place_first p (take n t) r h) ∙ place-on p on n t
+
   -- ---- a scan whose turn does nothing at an unmarked record
   module _ {B : Type 0} (f : B → A → ℕ → B) (idle : (b : B) (a : A) (i : ℕ) → f b (unmark a) i ≡ b) where
     pub fold_unmarked : (t : List A) (i : ℕ) (b : B) → fold_from f (map unmark t) i b ≡ b
@@ -124,10 +147,13 @@ module _ {A : Type 0} (unmark : A → A) where
     fold_held (suc n) [] i b = refl
     fold_held (suc n) (x ∷ xs) i b = fold_held n xs (suc i) (f b x i)
 
-    -- the end of such a scan
-    pub fold_rest : (n : ℕ) (t : List A) (i : ℕ) (b r : B) → (i < n → length t ≤ i)
-        → fold_from f (drop i (held unmark n t)) i b ≡ r → b ≡ r
-    fold_rest n t i b r l h = sym (fold_unmarked (drop i t) i b) ∙ (rw (rest-held n t i l) at h)
+    -- the end of such a scan over the first places
+    pub fold_seen : (n : ℕ) (t seen : List A) (i : ℕ) (b b₀ : B) → seen ≡ take n t → length seen ≤ i
+        → fold_from f (drop i seen) i b ≡ fold_from f seen 0 b₀ → b ≡ fold_from f (held unmark n t) 0 b₀
+    fold_seen n t seen i b b₀ e l h =
+        fold_done f seen i b (fold_from f seen 0 b₀) l h
+        ∙ ap (λ (s : List A). fold_from f s 0 b₀) e
+        ∙ sym (fold_held n t 0 b₀)
 
   -- a walk takes no unmarked record
   pub next-idle : (id_of : A → ℕ) (p : A → Bool) → ((a : A) → p (unmark a) ≡ false) → (c best : Walked) (a : A) (i : ℕ)
@@ -145,13 +171,22 @@ module _ {A : Type 0} (unmark : A → A) where
   total-held f z (suc n) [] = refl
   total-held f z (suc n) (x ∷ xs) = omega (arith, total-held f z n xs)
 
-  -- the end of a count
-  pub count-rest : (p : A → Bool) → ((a : A) → p (unmark a) ≡ false) → (n : ℕ) (t : List A) (i m r : ℕ)
-      → (i < n → length t ≤ i)
-      → m + count p (drop i (held unmark n t)) ≡ r → m ≡ r
-  count-rest p off n t i m r l h =
-      let z = total-unmarked (one p) (λ a. rw (off a)) (drop i t) in
-      let k = rw (rest-held n t i l) at h in omega arith
+  pub count_held : (p : A → Bool) → ((a : A) → p (unmark a) ≡ false) → (n : ℕ) (t : List A)
+      → length (filter p (take n t)) ≡ count p (held unmark n t)
+  count_held p off n t = many (take n t) ∙ sym (total-held (one p) (λ a. rw (off a)) n t)
+    where
+      many : (xs : List A) → length (filter p xs) ≡ count p xs
+      many [] = refl
+      many (x ∷ xs) = split (p x) (λ e. rw e (omega (arith, many xs))) (λ e. rw e (omega (arith, many xs)))
+
+  -- the end of a count over the first places
+  pub count_seen : (p : A → Bool) → ((a : A) → p (unmark a) ≡ false) → (n : ℕ) (t seen : List A) (i m : ℕ)
+      → seen ≡ take n t → length seen ≤ i → m + count p (drop i seen) ≡ count p seen
+      → m ≡ count p (held unmark n t)
+  count_seen p off n t seen i m e l h =
+      let k = rw (drop_of_length-le seen l) at h in
+      let z : m ≡ count p seen = omega arith in
+      z ∙ ap (count p) e ∙ sym (total-held (one p) (λ a. rw (off a)) n t)
 
   -- ---- lookups over the first places alone
   pub any-unmarked : (p : A → Bool) → ((a : A) → p (unmark a) ≡ false) → (t : List A) → any p (map unmark t) ≡ false
@@ -217,6 +252,14 @@ module _ {A : Type 0} (unmark : A → A) where
   stored-seen n t t' go i x s e = split go
       (λ g. rw g (rw g at (ap (held unmark n) e) ∙ seen-set n t i x s))
       (λ g. rw g (rw g at (ap (held unmark n) e)))
+
+  -- a record's mark cleared where it stands
+  pub unmarked_held : ((a : A) → unmark (unmark a) ≡ unmark a) → (n : ℕ) (t t' : List A) (go : Bool) (i : ℕ) (d x y : A)
+      → x ≡ get_or (held unmark n t) i d → y ≡ unmark x → t' ≡ cond go (set t i y) t
+      → held unmark n t' ≡ cond go (set (held unmark n t) i (unmark (get_or (held unmark n t) i d))) (held unmark n t)
+  unmarked_held twice n t t' go i d x y e f h =
+      stored-seen n t t' go i y (λ l. ap unmark f ∙ twice x ∙ sym f) h
+      ∙ ap (λ (z : A). cond go (set (held unmark n t) i z) (held unmark n t)) (f ∙ ap unmark e)
 
   -- at or past the number no record is used
   pub held_spare : (used : A → Bool) → ((a : A) → used (unmark a) ≡ false) → (n : ℕ) (t : List A) (i : ℕ) (d : A)
@@ -288,48 +331,62 @@ module _ {A : Type 0} (unmark : A → A) where
       one-unmarked : cleared unmark p (unmark x) ≡ unmark x
       one-unmarked = split (p (unmark x)) (λ e. rw e (twice x)) (λ e. rw e)
 
-  pub clear-rest : (p : A → Bool) → ((a : A) → unmark (unmark a) ≡ unmark a) → (n : ℕ) (t : List A) (i : ℕ) (r : List A)
-      → (i < n → length t ≤ i)
-      → take i (held unmark n t) ++ clear unmark p (drop i (held unmark n t)) ≡ r → held unmark n t ≡ r
-  clear-rest p twice n t i r l h =
-      sym (take-append-drop i (held unmark n t))
-      ∙ ap (λ (s : List A). take i (held unmark n t) ++ s)
-      (rest-held n t i l ∙ sym (clear-unmarked p twice (drop i t)) ∙ ap (clear unmark p) (sym (rest-held n t i l)))
-      ∙ h
+  clear_held : (p : A → Bool) → ((a : A) → unmark (unmark a) ≡ unmark a) → (n : ℕ) (t : List A)
+      → held unmark n (clear unmark p (take n t) ++ drop n t) ≡ clear unmark p (held unmark n t)
+  clear_held p twice zero t =
+      held_none t ∙ sym (clear-unmarked p twice t) ∙ ap (clear unmark p) (sym (held_none t))
+  clear_held p twice (suc n) [] = refl
+  clear_held p twice (suc n) (x ∷ xs) =
+      ap {B = List A} (λ (r : List A). cleared unmark p x ∷ r) (clear_held p twice n xs)
 
-  -- ---- a turn below the number: the laws of `Scans` and `Loops`, of the table as it is seen
-  module _ (n : ℕ) (t : List A) (d : A) (i : ℕ) (b : i < n) (l : i < length t) where
-    within : i < length (held unmark n t)
-    within = rw (length-held n t) l
+  past_min : (n : ℕ) (t : List A) → drop (min n (length t)) t ≡ drop n t
+  past_min n t = split (leb n (length t))
+      (λ e. let k = leb-true n (length t) e in let z : min n (length t) ≡ n = omega arith in rw z)
+      (λ e. let k = leb-false n (length t) e in
+      let z : min n (length t) ≡ length t = omega arith in
+      rw z (drop_of_length-le t (omega arith) ∙ sym (drop_of_length-le t (omega arith))))
 
-    pub held_find_next : (p : A → Bool) (r : ℕ) → p (get_or t i d) ≡ false
-        → i + place_of p (drop i (held unmark n t)) ≡ r
-        → i + 1 + place_of p (drop (i + 1) (held unmark n t)) ≡ r
-    held_find_next p r e h = find_next p (held unmark n t) d i r within (ap p (held_at n t i d b) ∙ e) h
+  pub cleared_held : (p : A → Bool) → ((a : A) → unmark (unmark a) ≡ unmark a) → (n m : ℕ) (t : List A)
+      → m ≡ min n (length t)
+      → held unmark n (clear unmark p (take m t) ++ drop m t) ≡ clear unmark p (held unmark n t)
+  cleared_held p twice n m t e =
+      rw e ((λ j. held unmark n (clear unmark p (take_min n t j) ++ past_min n t j)) ∙ clear_held p twice n t)
 
-    pub held_find_here : (p : A → Bool) (r : ℕ) → p (get_or t i d) ≡ true
-        → i + place_of p (drop i (held unmark n t)) ≡ r → i ≡ r
-    held_find_here p r e h = find_here p (held unmark n t) d i r within (ap p (held_at n t i d b) ∙ e) h
+  -- a table cleared as it is seen, or seen as it is cleared
+  pub held-clear : (p : A → Bool) → ((a : A) → unmark (unmark a) ≡ unmark a) → (n : ℕ) (t : List A)
+      → held unmark n (clear unmark p t) ≡ clear unmark p (held unmark n t)
+  held-clear p twice n [] = refl
+  held-clear p twice zero (x ∷ xs) = λ j. same j ∷ held-clear p twice zero xs j
+    where
+      same : unmark (cleared unmark p x) ≡ cleared unmark p (unmark x)
+      same = split (p x)
+          (λ e. split (p (unmark x)) (λ f. rw (e, f)) (λ f. rw (e, f) (twice x)))
+          (λ e. split (p (unmark x)) (λ f. rw (e, f) (sym (twice x))) (λ f. rw (e, f)))
+  held-clear p twice (suc n) (x ∷ xs) =
+      ap {B = List A} (λ (r : List A). cleared unmark p x ∷ r) (held-clear p twice n xs)
 
-    pub held-count-next : (p : A → Bool) (r c m : ℕ) → m ≡ c + one p (get_or t i d)
-        → c + count p (drop i (held unmark n t)) ≡ r → m + count p (drop (i + 1) (held unmark n t)) ≡ r
-    held-count-next p r c m e h =
-        count_next p (held unmark n t) d i r c m within (e ∙ ap (λ (a : A). c + one p a) (sym (held_at n t i d b))) h
+  -- ---- a scan of the first places, and what it makes of the rest: a scan of the table as it is seen
+  module _ {B : Type 0} (f : B → A → ℕ → B) (ended : B → ℕ → ℕ → B)
+      (unmarked : (t : List A) (i : ℕ) (b : B) (e : ℕ) → e ≡ i + length t
+      → fold_from f (map unmark t) i b ≡ ended b i e) where
+    scan_held : (n : ℕ) (t : List A) (i : ℕ) (b : B) (e m : ℕ) → e ≡ i + length t → m ≡ i + length (take n t)
+        → ended (fold_from f (take n t) i b) m e ≡ fold_from f (held unmark n t) i b
+    unfolding fold_from
+    scan_held zero t i b e m l k =
+        let z : m ≡ i = omega arith in
+        ap (λ (j : ℕ). ended b j e) z
+        ∙ sym (ap (λ (s : List A). fold_from f s i b) (held_none t) ∙ unmarked t i b e l)
+    scan_held (suc n) [] i b e m l k =
+        let z : m ≡ i = omega arith in ap (λ (j : ℕ). ended b j e) z ∙ sym (unmarked [] i b e l)
+    scan_held (suc n) (x ∷ xs) i b e m l k = scan_held n xs (suc i) (f b x i) e m (omega arith) (omega arith)
 
-    pub held_fold_step : {B : Type 0} (f : B → A → ℕ → B) (x y r : B) → y ≡ f x (get_or t i d) i
-        → fold_from f (drop i (held unmark n t)) i x ≡ r
-        → fold_from f (drop (i + 1) (held unmark n t)) (i + 1) y ≡ r
-    held_fold_step f x y r e h =
-        fold_step f (held unmark n t) d i x y r within (e ∙ ap (λ (a : A). f x a i) (sym (held_at n t i d b))) h
-
-    pub held-clear-step : (p : A → Bool) (has : Bool) (t' r : List A) → has ≡ p (get_or t i d)
-        → t' ≡ cond has (set t i (unmark (get_or t i d))) t
-        → take i (held unmark n t) ++ clear unmark p (drop i (held unmark n t)) ≡ r
-        → take (i + 1) (held unmark n t') ++ clear unmark p (drop (i + 1) (held unmark n t')) ≡ r
-    held-clear-step p has t' r e k h =
-        let z = sym (held_at n t i d b) in
-        clear_step unmark p (held unmark n t) d i has (unmark (get_or t i d)) (held unmark n t') r within (e ∙ ap p z)
-        (ap unmark z) (stored-held n t t' has i (unmark (get_or t i d)) (λ m. b) k) h
+    pub scan_seen : (n : ℕ) (t seen : List A) (i : ℕ) (b b₀ : B) → seen ≡ take n t → length seen ≤ i
+        → fold_from f (drop i seen) i b ≡ fold_from f seen 0 b₀
+        → ended b (length seen) (length t) ≡ fold_from f (held unmark n t) 0 b₀
+    scan_seen n t seen i b b₀ e l h =
+        ap (λ (c : B). ended c (length seen) (length t)) (fold_done f seen i b (fold_from f seen 0 b₀) l h)
+        ∙ ap (λ (s : List A). ended (fold_from f s 0 b₀) (length s) (length t)) e
+        ∙ scan_held n t 0 b₀ (length t) (length (take n t)) (omega arith) (omega arith)
 
   -- ---- the number lowered past an unused place, or one past the end
   module _ (used : A → Bool) (still : (a : A) → used a ≡ false → unmark a ≡ a) where

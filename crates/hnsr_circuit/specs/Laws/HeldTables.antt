@@ -1,13 +1,15 @@
 -- Laws of the four tables as they are seen: an unused record is its own clearing, what no unmarked record has, turns
 -- that do nothing at them, the end of the scan of the actions, and what is handed back with the numbers that came in.
-use Rattle.std.specs.Prelude.{ℕ, suc, ◌+◌, ◌≤◌, ◌<◌, min, ◌≡◌, Bool, cond, ◌||◌, ltb, length, drop, Option}
+use Rattle.std.specs.Prelude.{ℕ, zero, suc, ◌+◌, ◌≤◌, ◌<◌, min, ◌≡◌, Bool, cond, ◌||◌, ltb, length, take, drop, Option}
 use Rattle.std.proofs.Math.Nat.{add-zero}
-use Rattle.std.proofs.Common.{arith, sym, ◌∙◌, length-drop, lt-ltb, le-ltb}
+use Rattle.std.proofs.Common.{arith, sym, ◌∙◌, lt-ltb, le-ltb}
 use Rattle.std.proofs.Math.Path.{refl, ap}
 use Rattle.std.proofs.Math.Bool.{true, false, or-true, or-false}
 use mathlib.Core.List.{List, [], ◌∷◌, map}
-use Rattle.hns_encoding.specs.Laws.Tests.{split}
-use Rattle.hns_encoding.specs.Loops.{fold_from}
+use Rattle.std.proofs.lemmas.List.{length-take, take_min, take-map}
+use lib.ListN.{length-map}
+use Rattle.hns_encoding.specs.Laws.Tests.{split, cond-le}
+use Rattle.hns_encoding.specs.Loops.{fold_from, fold_done}
 use Rattle.hns_encoding.specs.Sums.{non}
 use Rattle.hns_encoding.specs.Numbers.{top}
 use Rattle.hnsr_body.specs.declared.values.ReservationId.{ReservationId}
@@ -24,7 +26,7 @@ use Rattle.hnsr_circuit.specs.declared.tables.scan.LedgerScan.{LedgerScan}
 use Rattle.hnsr_circuit.specs.declared.tables.scan.Work.{Work}
 use Rattle.hnsr_circuit.specs.declared.tables.scan.WorkQuestion.{WorkQuestion}
 use Rattle.hnsr_circuit.specs.declared.tables.scan.CircuitTotals.{CircuitTotals}
-use Rattle.hnsr_circuit.specs.NextDue.{due_turn, deadline_of, expiry_of, usage_expiry_of}
+use Rattle.hnsr_circuit.specs.NextDue.{due_turn}
 use Rattle.hnsr_circuit.specs.declared.tables.places.Places.{Places}
 use Rattle.hnsr_circuit.specs.declared.runtime.Relayed.{Relayed}
 use Rattle.hnsr_circuit.specs.declared.runtime.Sending.{Sending}
@@ -32,38 +34,23 @@ use Rattle.hnsr_circuit.specs.declared.config.OpaqueRelayConfig.{OpaqueRelayConf
 use Rattle.hnsr_circuit.specs.declared.answer.HnsrRuntimeError.{HnsrRuntimeError}
 use Rattle.hnsr_circuit.specs.Answers.{check}
 use Rattle.hnsr_circuit.specs.Entry.{too_few}
-use Rattle.hnsr_circuit.specs.Table.{any}
+use Rattle.hnsr_circuit.specs.Table.{any, cleared, clear}
 use Rattle.hnsr_circuit.specs.Pending.{is_pending, pending_of, pending_under}
-use Rattle.hnsr_circuit.specs.Pending.{pending_over, pending_marked, clear_pending}
+use Rattle.hnsr_circuit.specs.Pending.{pending_over, clear_pending}
 use Rattle.hnsr_circuit.specs.Circuits.{is_circuit, circuit_of, circuit_under, circuit_over}
-use Rattle.hnsr_circuit.specs.Circuits.{queued_in, circuit_marked, clear_circuit}
-use Rattle.hnsr_circuit.specs.Ledger.{is_usage, usage_at, usage_marked, clear_usage}
-use Rattle.hnsr_circuit.specs.Inflight.{is_action, action_at, action_marked, clear_action}
-use Rattle.hnsr_circuit.specs.Code.Question.{pending_has, circuit_has}
-use Rattle.hnsr_circuit.specs.Code.Turns.{actions_scanned, first_place, scanned, pending_worked}
+use Rattle.hnsr_circuit.specs.Circuits.{queued_in, clear_circuit}
+use Rattle.hnsr_circuit.specs.Ledger.{is_usage, usage_at, clear_usage}
+use Rattle.hnsr_circuit.specs.Inflight.{is_action, action_at, action_toward, clear_action}
+use Rattle.hnsr_circuit.specs.Code.Question.{pending_has, circuit_has, action_has}
+use Rattle.hnsr_circuit.specs.declared.tables.question.ActionsDropped.{ActionsDropped}
+use Rattle.hnsr_circuit.specs.declared.tables.question.ActionsDropped.TheVariants.{Every, Toward}
+use Rattle.hnsr_circuit.specs.Code.Turns.{actions_scanned, no_scan, first_place, scanned, pending_worked}
 use Rattle.hnsr_circuit.specs.Code.Turns.{circuit_worked, totalled, usage_scanned, scan_spared, ledger_spared}
 use Rattle.hnsr_circuit.specs.Code.Progress.{scan_place, handed_back, underway}
 use Rattle.hnsr_circuit.specs.Code.Held.{held, held_pending, held_circuits, held_ledger}
 use Rattle.hnsr_circuit.specs.Code.Held.{held_actions, handed_seen, underway_seen}
-use Rattle.hnsr_circuit.specs.Laws.Held.{length-held, rest-held, place-below, place_upto}
-use Rattle.hnsr_circuit.specs.Laws.Turns.{scan_unused}
-
--- ---- an unused record is its own clearing
-pub pending-still : (p : RelayPending) → is_pending p ≡ false → clear_pending p ≡ p
-unfolding is_pending
-pending-still p e = λ j. pending_marked (sym e j) p
-
-pub circuit-still : (c : RelayCircuit) → is_circuit c ≡ false → clear_circuit c ≡ c
-unfolding is_circuit
-circuit-still c e = λ j. circuit_marked (sym e j) c
-
-pub usage_still : (u : ReservationUsage) → is_usage u ≡ false → clear_usage u ≡ u
-unfolding is_usage
-usage_still u e = λ j. usage_marked (sym e j) u
-
-pub action-still : (a : InflightAction) → is_action a ≡ false → clear_action a ≡ a
-unfolding is_action
-action-still a e = λ j. action_marked (sym e j) a
+use Rattle.hnsr_circuit.specs.Laws.Held.{length-held, held_none, held-clear, scan_seen, place-below, place_upto}
+use Rattle.hnsr_circuit.specs.Laws.Turns.{scan_unused, scan_fold}
 
 -- ---- no unmarked record has what a walk asks
 pub pending-unmarked : (q : RecordQuestion) (peer : HnsrPeerId) (p : RelayPending)
@@ -82,6 +69,12 @@ circuit-unmarked OfPeer peer c = refl
 circuit-unmarked (Under id) peer c = refl
 circuit-unmarked (Over now) peer c = refl
 
+pub action_unmarked : (d : ActionsDropped) (peer : HnsrPeerId) (a : InflightAction)
+    → action_has d peer (clear_action a) ≡ false
+unfolding action_has is_action action_toward
+action_unmarked Every peer a = refl
+action_unmarked Toward peer a = refl
+
 -- ---- turns that do nothing at an unmarked record
 module _ (q : WorkQuestion) where
   pub pending-idle : (w : Work) (p : RelayPending) (i : ℕ) → pending_worked q w (clear_pending p) i ≡ w
@@ -92,20 +85,11 @@ module _ (q : WorkQuestion) where
   unfolding is_circuit
   circuit-idle w c i = refl
 
-pub pending-due-idle : (d : Option ℕ) (p : RelayPending) (i : ℕ)
-    → due_turn is_pending deadline_of d (clear_pending p) i ≡ d
-unfolding due_turn is_pending
-pending-due-idle d p i = refl
-
-pub circuit-due-idle : (d : Option ℕ) (c : RelayCircuit) (i : ℕ)
-    → due_turn is_circuit expiry_of d (clear_circuit c) i ≡ d
-unfolding due_turn is_circuit
-circuit-due-idle d c i = refl
-
-pub usage_due_idle : (d : Option ℕ) (u : ReservationUsage) (i : ℕ)
-    → due_turn is_usage usage_expiry_of d (clear_usage u) i ≡ d
-unfolding due_turn is_usage
-usage_due_idle d u i = refl
+-- nothing is due at an unmarked record
+pub due_idle : {A : Type 0} (unmark : A → A) (used : A → Bool) (time : A → ℕ)
+    → ((a : A) → used (unmark a) ≡ false) → (d : Option ℕ) (a : A) (i : ℕ) → due_turn used time d (unmark a) i ≡ d
+unfolding due_turn
+due_idle unmark used time off d a i = rw (off a)
 
 -- a sum that has not gone past its top
 totals_idle : (t : CircuitTotals) (c : RelayCircuit) (i : ℕ) → t.queued_bytes ≤ top 64
@@ -125,10 +109,25 @@ totals_unmarked (x ∷ xs) i b l =
     ap (λ (c : CircuitTotals). fold_from totalled (map clear_circuit xs) (suc i) c) (totals_idle b x i l)
     ∙ totals_unmarked xs (suc i) b l
 
-pub totals_rest : (n : ℕ) (t : List RelayCircuit) (i : ℕ) (b r : CircuitTotals) → b.queued_bytes ≤ top 64
-    → (i < n → length t ≤ i)
-    → fold_from totalled (drop i (held clear_circuit n t)) i b ≡ r → b ≡ r
-totals_rest n t i b r m l h = sym (totals_unmarked (drop i t) i b m) ∙ (rw (rest-held clear_circuit n t i l) at h)
+pub totals_most : (n : ℕ) (t : CircuitTotals) (c : RelayCircuit) → t.used ≤ n → (totalled t c 0).used ≤ n + 1
+totals_most n t c l = omega (arith, cond-le (is_circuit c))
+
+totals_held : (n : ℕ) (t : List RelayCircuit) (i : ℕ) (b : CircuitTotals) → b.queued_bytes ≤ top 64
+    → fold_from totalled (held clear_circuit n t) i b ≡ fold_from totalled (take n t) i b
+unfolding fold_from
+totals_held zero t i b l =
+    ap (λ (s : List RelayCircuit). fold_from totalled s i b) (held_none clear_circuit t) ∙ totals_unmarked t i b l
+totals_held (suc n) [] i b l = refl
+totals_held (suc n) (x ∷ xs) i b l = totals_held n xs (suc i) (totalled b x i) (omega arith)
+
+-- the end of the totals over the first places
+pub totals_seen : (n : ℕ) (t seen : List RelayCircuit) (i : ℕ) (b b₀ : CircuitTotals) → b₀.queued_bytes ≤ top 64
+    → seen ≡ take n t → length seen ≤ i → fold_from totalled (drop i seen) i b ≡ fold_from totalled seen 0 b₀
+    → b ≡ fold_from totalled (held clear_circuit n t) 0 b₀
+totals_seen n t seen i b b₀ m e l h =
+    fold_done totalled seen i b (fold_from totalled seen 0 b₀) l h
+    ∙ ap (λ (s : List RelayCircuit). fold_from totalled s 0 b₀) e
+    ∙ sym (totals_held n t 0 b₀ m)
 
 -- ---- the end of the scan: the first place that is left, if there is one, is a spare one
 stays : (s : ActionScan) (place : ℕ) (b : Bool) → b ≡ false → s ≡ record {
@@ -175,7 +174,7 @@ takes s place b e = λ j. record {
 }
 
 module _ (q : ActionQuestion) where
-  scan_unmarked : (t : List InflightAction) (i : ℕ) (s : ActionScan) (e : ℕ) → e ≡ i + length t
+  pub scan_unmarked : (t : List InflightAction) (i : ℕ) (s : ActionScan) (e : ℕ) → e ≡ i + length t
       → fold_from (scanned q) (map clear_action t) i s ≡ scan_spared s i e
   unfolding fold_from
   scan_unmarked [] i s e h = stays s i (ltb i e) (le-ltb i e (omega arith))
@@ -184,12 +183,6 @@ module _ (q : ActionQuestion) where
       (sym (scan_unused q s (clear_action x) i refl (first_place s.spare true i s.spare_place) refl))
       ∙ scan_unmarked xs (suc i) (spared s i) e (omega arith)
       ∙ takes s i (ltb i e) (lt-ltb i e (omega arith))
-
-  pub scan_rest : (n : ℕ) (t : List InflightAction) (i : ℕ) (s r : ActionScan) → (i < n → length t ≤ i) → i ≤ length t
-      → fold_from (scanned q) (drop i (held clear_action n t)) i s ≡ r → scan_spared s i (length t) ≡ r
-  scan_rest n t i s r l m h =
-      sym (scan_unmarked (drop i t) i s (length t) (let k = length-drop i t in omega arith))
-      ∙ (rw (rest-held clear_action n t i l) at h)
 
   -- where an action goes: at the number at most
   pub scan_upto : (n : Places) (t : List InflightAction) (s : ActionScan) → s ≡ actions_scanned q (held_actions n t)
@@ -208,6 +201,30 @@ module _ (q : ActionQuestion) where
 
       not_is : (a : InflightAction) → non is_action (clear_action a) ≡ true
       not_is a = refl
+
+-- the actions dropped and scanned in one pass over the first places
+module _ (q : ActionQuestion) (p : InflightAction → Bool) where
+  pub dropped_scanned : (n m : ℕ) (t : List InflightAction) (i : ℕ) (s : ActionScan) → m ≡ min n (length t)
+      → length (take m t) ≤ i
+      → fold_from (scanned q) (drop i (clear clear_action p (take m t))) i s
+      ≡ fold_from (scanned q) (clear clear_action p (take m t)) 0 (no_scan (length t))
+      → scan_spared s m (length t) ≡ actions_scanned q (clear clear_action p (held clear_action n t))
+  dropped_scanned n m t i s e l h =
+      let mark = cleared clear_action p in
+      let u = map mark t in
+      let seen = map mark (take m t) in
+      let long : length u ≡ length t = length-map t mark in
+      let many : length seen ≡ length (take m t) = length-map (take m t) mark in
+      let end : length (take m t) ≡ m = omega (arith, length-take m t) in
+      let first : seen ≡ take n u =
+      ap (map mark) (ap (λ (k : ℕ). take k t) e ∙ take_min n t) ∙ sym (take-map mark n t) in
+      let kept : length t ≡ length (map mark (held clear_action n t)) =
+      sym (length-map (held clear_action n t) mark ∙ length-held clear_action n t) in
+      (λ j. scan_spared s (sym (many ∙ end) j) (sym long j))
+      ∙ scan_seen clear_action (scanned q) scan_spared (scan_unmarked q) n u seen i s (no_scan (length t)) first
+      (omega (arith, many)) h
+      ∙ (λ j. fold_from (scanned q) (held-clear clear_action p (λ x. refl) n t j) 0 (no_scan (kept j)))
+      ∙ scan_fold q (map mark (held clear_action n t))
 
 -- ---- the same of the ledger's
 kept : {A : Type 0} (b : Bool) (x : A) → cond b x x ≡ x
@@ -250,6 +267,10 @@ ledger_taken r place = record {
 }
 
 module _ (id : ReservationId) where
+  pub ledger_most : (n : ℕ) (r : LedgerScan) (u : ReservationUsage) (place : ℕ) → r.used ≤ n
+      → (usage_scanned id r u place).used ≤ n + 1
+  ledger_most n r u place l = omega (arith, cond-le (is_usage u))
+
   ledger_skips : (r : LedgerScan) (u : ReservationUsage) (i : ℕ)
       → usage_scanned id r (clear_usage u) i ≡ ledger_taken r i
   unfolding usage_at is_usage
@@ -263,7 +284,7 @@ module _ (id : ReservationId) where
     places = r.places;
   }
 
-  ledger-unmarked : (t : List ReservationUsage) (i : ℕ) (r : LedgerScan) (e : ℕ) → e ≡ i + length t
+  pub ledger-unmarked : (t : List ReservationUsage) (i : ℕ) (r : LedgerScan) (e : ℕ) → e ≡ i + length t
       → fold_from (usage_scanned id) (map clear_usage t) i r ≡ ledger_spared r i e
   unfolding fold_from
   ledger-unmarked [] i r e h =
@@ -274,13 +295,6 @@ module _ (id : ReservationId) where
       ∙ ledger-unmarked xs (suc i) (ledger_taken r i) e (omega arith)
       ∙ ledger-by r i true (first_place r.spare true i r.spare_place) true (sym (or-true r.spare)) refl e
       (sym (lt-ltb i e (omega arith)))
-
-  pub ledger-rest : (n : ℕ) (t : List ReservationUsage) (i : ℕ) (s r : LedgerScan) → (i < n → length t ≤ i)
-      → i ≤ length t
-      → fold_from (usage_scanned id) (drop i (held clear_usage n t)) i s ≡ r → ledger_spared s i (length t) ≡ r
-  ledger-rest n t i s r l m h =
-      sym (ledger-unmarked (drop i t) i s (length t) (let k = length-drop i t in omega arith))
-      ∙ (rw (rest-held clear_usage n t i l) at h)
 
 -- ---- what is handed back with the numbers that came in
 pub places-kept : (r : Relayed) (p : List RelayPending) (c : List RelayCircuit) (l : List ReservationUsage)

@@ -1,17 +1,19 @@
 -- What the code of ACCEPT and OPEN writes where it goes on is the definition's world, while a refusal leaves everything
 -- as it was.
 use Rattle.std.specs.Prelude.{ℕ, suc, ◌+◌, ◌-◌, ◌/◌, ◌≤◌, ◌<◌, ◌≡◌, Bool, true, false, cond, Ok, Err}
-use Rattle.std.specs.Prelude.{not, ◌&&◌, ◌||◌, eqb, ltb, leb, length, take, drop, set}
-use Rattle.std.proofs.Common.{arith, ◌∙◌, true≢false, drop-drop, eqb-true, lt-ltb}
+use Rattle.std.specs.Prelude.{not, ◌&&◌, Option, Some, None, is_none, unwrap_or, ◌≢◌}
+use Rattle.std.specs.Prelude.{eqb, ltb, leb, length, take, drop, set}
+use Rattle.std.proofs.Common.{arith, ◌∙◌, true≢false, eqb-true, eq-eqb, ne_eqb, lt-ltb}
 use Rattle.std.proofs.Common.{le-ltb, le-leb, ltb-true, ltb-false, leb-true, leb-false}
 use Rattle.std.proofs.Math.Path.{refl, sym, ap}
-use Rattle.std.proofs.lemmas.Bool.{false≢true, lt-leb}
+use Rattle.std.proofs.lemmas.Bool.{lt-leb}
 use mathlib.Core.List.{List, [], ◌∷◌}
 use Rattle.std.proofs.Math.ListN.{length-drop}
 use Rattle.hns_encoding.specs.Numbers.{top, saturating_add}
-use Rattle.hns_encoding.specs.Bytes.{be}
+use Rattle.hns_encoding.specs.Bytes.{be, be_from}
+use Rattle.std.specs.Int.{w64, from_be_bytes}
 use Rattle.hns_encoding.specs.Sums.{non, count}
-use Rattle.hns_encoding.specs.Laws.Tests.{split, both, on-true, cond_map}
+use Rattle.hns_encoding.specs.Laws.Tests.{split, choose, both, neither, cond_map}
 use Rattle.hnsr_body.specs.declared.layout.Read.{Read}
 use Rattle.hnsr_body.specs.declared.accept_body.AcceptBody.{AcceptBody}
 use Rattle.hnsr_body.specs.Accept.{decode_accept, accept_fields, opened_bytes}
@@ -31,10 +33,9 @@ use Rattle.hnsr_circuit.specs.declared.records.RelayPending.{RelayPending}
 use Rattle.hnsr_circuit.specs.declared.records.RelayCircuit.{RelayCircuit}
 use Rattle.hnsr_circuit.specs.declared.records.ReservationUsage.{ReservationUsage}
 use Rattle.hnsr_circuit.specs.declared.records.InflightAction.{InflightAction}
-use Rattle.hnsr_circuit.specs.declared.tables.lookup.PendingFound.{PendingFound}
+use Rattle.hnsr_circuit.specs.declared.tables.lookup.Found.{Found}
 use Rattle.hnsr_circuit.specs.declared.tables.scan.LedgerScan.{LedgerScan}
 use Rattle.hnsr_circuit.specs.declared.tables.scan.ActionScan.{ActionScan}
-use Rattle.hnsr_circuit.specs.declared.messages.draw.Drawing.{Drawing}
 use Rattle.hnsr_circuit.specs.declared.output.queue.Outgoing.{Outgoing}
 use Rattle.hnsr_circuit.specs.declared.tables.scan.ActionQuestion.{ActionQuestion}
 use Rattle.hnsr_circuit.specs.declared.runtime.RelayPacket.{RelayPacket}
@@ -57,7 +58,7 @@ use Rattle.hnsr_circuit.specs.Counts.{pending_count, circuit_count, peer_work, r
 use Rattle.hnsr_circuit.specs.Code.Question.{pending_work, circuit_work}
 use Rattle.hnsr_circuit.specs.Code.Lookup.{pending_found}
 use Rattle.hnsr_circuit.specs.Entry.{peer_answer}
-use Rattle.hnsr_circuit.specs.Draw.{undrawn, draws_from, draws, draw_turn, draw_all, id_taken, drawn, draw_answer}
+use Rattle.hnsr_circuit.specs.Draw.{draws_from, draws, draw_all, id_taken, drawn, draw_answer}
 use Rattle.hnsr_circuit.specs.Packet.{Packet, sender}
 use Rattle.hnsr_circuit.specs.Accept.{request_answer, circuit_for, with_accept, opened_message}
 use Rattle.hnsr_circuit.specs.Accept.{accept_taken, accept_with, handle_accept}
@@ -65,7 +66,7 @@ use Rattle.hnsr_circuit.specs.Open.{Opening, opening, endpoint_answer, deadline_
 use Rattle.hnsr_circuit.specs.Open.{incoming_for, incoming_message, with_open, open_admitted}
 use Rattle.hnsr_circuit.specs.Open.{open_placed, open_booked, open_granted, open_lapsed, handle_open}
 use Rattle.hnsr_circuit.specs.Code.Progress.{message_of, packet_of, asking, handed_back, ending}
-use Rattle.hnsr_circuit.specs.Laws.Answers.{check-taken, then_taken, stop-two, stop-three}
+use Rattle.hnsr_circuit.specs.Laws.Answers.{check-taken, then_taken, then_three, stop-two, stop-three}
 use Rattle.hnsr_circuit.specs.Laws.Lookups.{pick_at, pick-has, pick-none, place-any}
 use Rattle.hnsr_circuit.specs.Laws.Marks.{room, put-new-same, put-old-same}
 use Rattle.hnsr_circuit.specs.Laws.Keys.{reservation-refl}
@@ -101,7 +102,7 @@ pub accept_taken_lem : (h : OpaqueRelayRuntime) (p : List RelayPending) (c : Lis
     (l : List ReservationUsage) (i : List InflightAction) (q : RelayPacket) (source body e rs : List ℕ)
     → (let f = pending_found (pending_at q.context_id) p in
     accept_rows h.config f (peer_of source) q.now (decode_accept body) (pending_work (accept_work f) p)
-    (circuit_work (accept_work f) c) (tallied true q.context_id f.pending.requester i))
+    (circuit_work (accept_work f) c) (tallied true q.context_id f.row.requester i))
     ≡ accept_taken (world_of h p c l i) (packet_of q source body e rs) (pick (pending_at q.context_id) no_pending p)
     (accept_fields body)
 unfolding accept_taken pending_work circuit_work circuit_count reservation_work sender decode_accept
@@ -137,28 +138,29 @@ module _ (h : OpaqueRelayRuntime) (p : List RelayPending) (c : List RelayCircuit
   accept_world : (let f = pending_found (pending_at q.context_id) p in
       let g = accept_plan h f (decode_accept body) in
       let w = world_of h p c l i in
-      accept_taken w (packet_of q source body e rs) f.pending (accept_fields body) ≡ Ok tt
-      → world_of g.runtime (set p g.place (clear_pending f.pending))
-      (put is_circuit (circuit_at g.id) (circuit_for h.config f.pending (accept_fields body)) c) l
+      accept_taken w (packet_of q source body e rs) f.row (accept_fields body) ≡ Ok tt
+      → world_of g.runtime (set p g.place (clear_pending f.row))
+      (put is_circuit (circuit_at g.id) (circuit_for h.config f.row (accept_fields body)) c) l
       (dropped (action_under g.id) i)
-      ≡ with_accept w f.pending (accept_fields body))
+      ≡ with_accept w f.row (accept_fields body))
   unfolding with_accept
   accept_world ea =
       let f = pending_found (pending_at q.context_id) p in
       let g = accept_plan h f (decode_accept body) in
       let found =
-      accept_found (world_of h p c l i) (packet_of q source body e rs) f.pending (accept_fields body) ea in
+      accept_found (world_of h p c l i) (packet_of q source body e rs) f.row (accept_fields body) ea in
       ap (λ (t : List RelayPending). world_of g.runtime t
-      (put is_circuit (circuit_at g.id) (circuit_for h.config f.pending (accept_fields body)) c) l
+      (put is_circuit (circuit_at g.id) (circuit_for h.config f.row (accept_fields body)) c) l
       (dropped (action_under g.id) i)) (unmarked q.context_id p found)
 
-  pub accept_ends : (f : PendingFound) (read : Read AcceptBody) (a : HnsrAnswer) (g : AcceptPlan) (row : RelayPending)
-      (circuit : RelayCircuit) (p' : List RelayPending) (c' : List RelayCircuit) (i' : List InflightAction)
+  pub accept_ends : (f : Found RelayPending) (read : Read AcceptBody) (a : HnsrAnswer) (g : AcceptPlan)
+      (row : RelayPending) (circuit : RelayCircuit) (p' : List RelayPending) (c' : List RelayCircuit)
+      (i' : List InflightAction)
       → f ≡ pending_found (pending_at q.context_id) p → read ≡ decode_accept body
       → a ≡ accept_rows h.config f (peer_of source) q.now read (pending_work (accept_work f) p)
-      (circuit_work (accept_work f) c) (tallied true q.context_id f.pending.requester i)
-      → taken a ≡ true → g ≡ accept_plan h f read → row ≡ clear_pending f.pending
-      → circuit ≡ circuit_for h.config f.pending read.body
+      (circuit_work (accept_work f) c) (tallied true q.context_id f.row.requester i)
+      → taken a ≡ true → g ≡ accept_plan h f read → row ≡ clear_pending f.row
+      → circuit ≡ circuit_for h.config f.row read.body
       → p' ≡ set p g.place row → c' ≡ put is_circuit (circuit_at g.id) circuit c
       → i' ≡ dropped (action_under g.id) i
       → send (world_of g.runtime p' c' l i') (message_of g.message (opened_bytes g.opened))
@@ -167,19 +169,19 @@ module _ (h : OpaqueRelayRuntime) (p : List RelayPending) (c : List RelayCircuit
   accept_ends f read a g row circuit p' c' i' ef er ea t eg eo ec ep es ei =
       let ft = pending_found (pending_at q.context_id) p in
       let w = world_of h p c l i in
-      let m = opened_message ft.pending (accept_fields body) in
-      let at : accept_taken w (packet_of q source body e rs) ft.pending (accept_fields body) ≡ Ok tt =
+      let m = opened_message ft.row (accept_fields body) in
+      let at : accept_taken w (packet_of q source body e rs) ft.row (accept_fields body) ≡ Ok tt =
       sym (ea ∙ rw (ef, er) (accept_taken_lem h p c l i q source body e rs)) ∙ taken_is a t in
       rw (ep, es, ei, eg, eo, ec, ef, er)
       (ap (λ (x : World). send x m) (accept_world at)
-      ∙ ap (λ (k : HnsrAnswer). proceed w k (send (with_accept w ft.pending (accept_fields body)) m)) (sym at))
+      ∙ ap (λ (k : HnsrAnswer). proceed w k (send (with_accept w ft.row (accept_fields body)) m)) (sym at))
 
 -- refused by the packet and its pending record, or by the rows as a whole
 pub accept_entered : (h : OpaqueRelayRuntime) (p : List RelayPending) (c : List RelayCircuit)
     (l : List ReservationUsage) (i : List InflightAction) (q : RelayPacket) (source body e rs out : List ℕ)
-    (f : PendingFound) (read : Read AcceptBody) (a : HnsrAnswer) (r : Relayed)
+    (f : Found RelayPending) (read : Read AcceptBody) (a : HnsrAnswer) (r : Relayed)
     → f ≡ pending_found (pending_at q.context_id) p → read ≡ decode_accept body
-    → a ≡ (request_answer f.found f.pending (peer_of source) q.now then body_answer read.result)
+    → a ≡ (request_answer f.found f.row (peer_of source) q.now then body_answer read.result)
     → taken a ≡ false
     → (r.runtime ≡ h) × (r.answer ≡ a) × (r.words ≡ 0)
     → handed_back r p c l i out ≡ ending out (handle_accept (world_of h p c l i) (packet_of q source body e rs))
@@ -189,15 +191,15 @@ accept_entered h p c l i q source body e rs out f read a r ef er ea t k =
     (peer_of source) q.now in
     let y = body_answer (decode_accept body).result in
     let b : a ≡ (x then y) =
-    ea ∙ (λ j. request_answer (ef j).found (ef j).pending (peer_of source) q.now then body_answer (er j).result) in
+    ea ∙ (λ j. request_answer (ef j).found (ef j).row (peer_of source) q.now then body_answer (er j).result) in
     turned_away h p c l i out r a _ _ k t (b ∙ stop-two x y _ (ap taken (sym b) ∙ t))
 
 pub accept_refused : (h : OpaqueRelayRuntime) (p : List RelayPending) (c : List RelayCircuit)
     (l : List ReservationUsage) (i : List InflightAction) (q : RelayPacket) (source body e rs out : List ℕ)
-    (f : PendingFound) (read : Read AcceptBody) (a : HnsrAnswer) (r : Relayed)
+    (f : Found RelayPending) (read : Read AcceptBody) (a : HnsrAnswer) (r : Relayed)
     → f ≡ pending_found (pending_at q.context_id) p → read ≡ decode_accept body
     → a ≡ accept_rows h.config f (peer_of source) q.now read (pending_work (accept_work f) p)
-    (circuit_work (accept_work f) c) (tallied true q.context_id f.pending.requester i)
+    (circuit_work (accept_work f) c) (tallied true q.context_id f.row.requester i)
     → taken a ≡ false → (r.runtime ≡ h) × (r.answer ≡ a) × (r.words ≡ 0)
     → handed_back r p c l i out ≡ ending out (handle_accept (world_of h p c l i) (packet_of q source body e rs))
 unfolding handle_accept accept_with
@@ -205,7 +207,7 @@ accept_refused h p c l i q source body e rs out f read a r ef er ea t k =
     turned_away h p c l i out r a _ _ k t
     (ea
     ∙ (λ j. accept_rows h.config (ef j) (peer_of source) q.now (er j) (pending_work (accept_work (ef j)) p)
-    (circuit_work (accept_work (ef j)) c) (tallied true q.context_id (ef j).pending.requester i))
+    (circuit_work (accept_work (ef j)) c) (tallied true q.context_id (ef j).row.requester i))
     ∙ accept_taken_lem h p c l i q source body e rs)
 
 -- ---- OPEN: numbers
@@ -228,88 +230,76 @@ draws-short xs h =
     let e : length xs / 8 ≡ 0 = omega arith in
     ap (λ (n : ℕ). draws_from n xs) e
 
--- a drawing that ended stays
-pub draw_ended : (taken : ℕ → Bool) (s : Drawing) (ids : List ℕ) → s.ended ≡ true → draw_all taken s ids ≡ s
-unfolding draw_all draw_turn
-draw_ended taken s [] h = refl
-draw_ended taken s (id ∷ ids) h =
-    ap (λ (y : Drawing). draw_all taken y ids) (on-true s.ended s _ h) ∙ draw_ended taken s ids h
+-- eight bytes as the library reads them
+pub be_eight : (xs : List ℕ) → length xs ≡ 8 → from_be_bytes w64 xs ≡ be xs
+unfolding be_from
+be_eight [] l = omega arith
+be_eight (a ∷ []) l = omega arith
+be_eight (a ∷ b ∷ []) l = omega arith
+be_eight (a ∷ b ∷ c ∷ []) l = omega arith
+be_eight (a ∷ b ∷ c ∷ d ∷ []) l = omega arith
+be_eight (a ∷ b ∷ c ∷ d ∷ e ∷ []) l = omega arith
+be_eight (a ∷ b ∷ c ∷ d ∷ e ∷ f ∷ []) l = omega arith
+be_eight (a ∷ b ∷ c ∷ d ∷ e ∷ f ∷ g ∷ []) l = omega arith
+be_eight (a ∷ b ∷ c ∷ d ∷ e ∷ f ∷ g ∷ h ∷ []) l = omega arith
+be_eight (a ∷ b ∷ c ∷ d ∷ e ∷ f ∷ g ∷ h ∷ i ∷ js) l = omega arith
 
 -- what is drawn is no id yet
-abbrev DrawFree : (ℕ → Bool) → Drawing → Type 0
-DrawFree t s = (s.ended ≡ false → s.found ≡ false) × (s.found ≡ true → t s.id ≡ false)
+abbrev DrawFree : (ℕ → Bool) → Option ℕ → Type 0
+DrawFree t d = is_none d ≡ false → t (unwrap_or d 0) ≡ false
 
-turn-free : (t : ℕ → Bool) (s : Drawing) (id : ℕ) → DrawFree t s → DrawFree t (draw_turn s id (t id))
-unfolding draw_turn
-turn-free t s id h = split s.ended
-    (λ e. rw e ((λ g. absurd (true≢false g)), h.1))
-    (λ e. rw e (split (eqb id 0)
-    (λ z. rw z ((λ g. refl), (λ g. absurd (false≢true g))))
-    (λ z. rw z (split (t id)
-    (λ k. rw k ((λ g. refl), (λ g. absurd (false≢true g))))
-    (λ k. rw k ((λ g. absurd (true≢false g)), (λ g. k)))))))
-
-all-free : (t : ℕ → Bool) (s : Drawing) (ids : List ℕ) → DrawFree t s → DrawFree t (draw_all t s ids)
+drawn-free : (t : ℕ → Bool) (n m : ℕ) (ids : List ℕ) → DrawFree t (draw_all t n m ids)
 unfolding draw_all
-all-free t s [] h = h
-all-free t s (id ∷ ids) h = all-free t (draw_turn s id (t id)) ids (turn-free t s id h)
+drawn-free t n m [] = λ e. absurd (true≢false e)
+drawn-free t n m (id ∷ ids) =
+    choose (DrawFree t) (eqb id 0) _ _
+    (λ z. choose (DrawFree t) (leb 8 (n + 1)) None (draw_all t (n + 1) m ids) (λ l e. absurd (true≢false e))
+    (λ l. drawn-free t (n + 1) m ids))
+    (λ z. choose (DrawFree t) (t id) _ (Some id)
+    (λ y. choose (DrawFree t) (leb 8 (m + 1)) None (draw_all t 0 (m + 1) ids) (λ l e. absurd (true≢false e))
+    (λ l. drawn-free t 0 (m + 1) ids))
+    (λ y e. y))
 
-draw_free : (p : List RelayPending) (c : List RelayCircuit) (d : Drawing) (ids : List ℕ)
-    → d ≡ draw_all (is_taken p c) undrawn ids → draw_answer d ≡ Ok tt
-    → any (pending_at d.id) p ≡ false
+draw_free : (p : List RelayPending) (c : List RelayCircuit) (d : Option ℕ) (ids : List ℕ)
+    → d ≡ draw_all (is_taken p c) 0 0 ids → draw_answer d ≡ Ok tt
+    → any (pending_at (unwrap_or d 0)) p ≡ false
 unfolding draw_answer
 draw_free p c d ids e h =
-    let k = check-taken (not d.found) Randomness h in
-    let found : d.found ≡ true = split d.found (λ y. y) (λ n. absurd (true≢false (rw n at k))) in
-    let free = (rw (← e) at (all-free (is_taken p c) undrawn ids ((λ g. refl), (λ g. absurd (false≢true g))))).1 in
-    none_or (any (pending_at d.id) p) (any (circuit_at d.id) c) (free found)
-  where
-    none_or : (a b : Bool) → (a || b) ≡ false → a ≡ false
-    none_or true b x = x
-    none_or false b x = refl
+    let k = check-taken (is_none d) Randomness h in
+    let free = rw (← e) at (drawn-free (is_taken p c) 0 0 ids (rw e at k)) in
+    (neither (any (pending_at (unwrap_or d 0)) p) (any (circuit_at (unwrap_or d 0)) c) free).0
 
--- one that goes on has both counts below their most
-abbrev pub DrawSmall : Drawing → Type 0
-DrawSmall s = s.ended ≡ false → (s.zeros < 8) × (s.candidates < 8)
-
-pub draw_small : (s : Drawing) (id : ℕ) (t : Bool) → DrawSmall s → s.ended ≡ false → DrawSmall (draw_turn s id t)
-unfolding draw_turn
-draw_small s id t h g =
-    let k = h g in
-    rw g
-    (split (eqb id 0)
-    (λ z. rw z (λ e. let l = leb-false 8 (s.zeros + 1) e in (omega arith, k.1)))
-    (λ z. rw z (split t
-    (λ y. rw y (λ e. let l = leb-false 8 (s.candidates + 1) e in (omega arith, omega arith)))
-    (λ y. rw y (λ e. absurd (true≢false e))))))
-
--- a drawing under way: what is left to draw gives what all draws give
-pub draw_start : (s : Drawing) → s ≡ undrawn → DrawSmall s
-draw_start s e = rw e (λ g. (omega arith, omega arith))
-
-pub draw_on : (s s' : Drawing) (id : ℕ) (t : Bool) → DrawSmall s → s.ended ≡ false → s' ≡ draw_turn s id t
-    → DrawSmall s'
-draw_on s s' id t h g e = rw e (draw_small s id t h g)
-
-module _ (t : ℕ → Bool) (xs : List ℕ) (at : ℕ) (s r : Drawing) (h : draw_all t s (draws (drop at xs)) ≡ r) where
-  pub draw_next : (s' : Drawing) (id : ℕ) (k : Bool) → at + 8 ≤ length xs → id ≡ be (take 8 (drop at xs)) → k ≡ t id
-      → s' ≡ draw_turn s id k
-      → draw_all t s' (draws (drop (at + 8) xs)) ≡ r
+-- what is left to draw gives what all draws give
+module _ (t : ℕ → Bool) (n m : ℕ) (xs : List ℕ) {r : Option ℕ} (h : draw_all t n m (draws xs) ≡ r) where
+  pub draw_over : length xs < 8 → None ≡ r
   unfolding draw_all
-  draw_next s' id k l ei ek es =
-      let n = length-drop at xs in
-      let one = draws-step (drop at xs) (omega arith)
-      ∙ ap (λ (ys : List ℕ). be (take 8 (drop at xs)) ∷ draws ys) (drop-drop 8 at xs) in
-      rw (es, ek, ei) (sym (ap (λ (ids : List ℕ). draw_all t s ids) one) ∙ h)
+  draw_over l = sym (ap (λ (ids : List ℕ). draw_all t n m ids) (draws-short xs l)) ∙ h
 
-  pub draw_stop : s.ended ≡ true → s ≡ r
-  draw_stop g = sym (draw_ended t s (draws (drop at xs)) g) ∙ h
+  module _ {id : ℕ} {left : List ℕ} (ei : id ≡ be (take 8 xs)) (el : left ≡ drop 8 xs) (l : 8 ≤ length xs) where
+    step : draw_all t n m (id ∷ draws left) ≡ r
+    step =
+        (λ k. draw_all t n m (ei k ∷ draws (el k))) ∙ sym (ap (λ (ids : List ℕ). draw_all t n m ids) (draws-step xs l))
+        ∙ h
 
-  pub draw_over : length xs - at < 8 → s ≡ r
-  unfolding draw_all
-  draw_over l =
-      let n = length-drop at xs in
-      sym (ap (λ (ids : List ℕ). draw_all t s ids) (draws-short (drop at xs) (omega arith))) ∙ h
+    pub zero_ends : id ≡ 0 → 8 ≤ n + 1 → None ≡ r
+    unfolding draw_all
+    zero_ends z k = rw (eq-eqb id 0 z, le-leb 8 (n + 1) k) at step
+
+    pub zero_passed : id ≡ 0 → n + 1 < 8 → draw_all t (n + 1) m (draws left) ≡ r
+    unfolding draw_all
+    zero_passed z k = rw (eq-eqb id 0 z, lt-leb 8 (n + 1) k) at step
+
+    pub taken_ends : id ≢ 0 → t id ≡ true → 8 ≤ m + 1 → None ≡ r
+    unfolding draw_all
+    taken_ends z y k = rw (ne_eqb id 0 z, y, le-leb 8 (m + 1) k) at step
+
+    pub taken_passed : id ≢ 0 → t id ≡ true → m + 1 < 8 → draw_all t 0 (m + 1) (draws left) ≡ r
+    unfolding draw_all
+    taken_passed z y k = rw (ne_eqb id 0 z, y, lt-leb 8 (m + 1) k) at step
+
+    pub fresh_drawn : id ≢ 0 → t id ≡ false → Some id ≡ r
+    unfolding draw_all
+    fresh_drawn z y = rw (ne_eqb id 0 z, y) at step
 
 -- ---- OPEN: what the code gathers and decides
 -- ---- OPEN: the ledger record
@@ -344,7 +334,7 @@ booked-found t l h =
     (ap p (pick-none p (fresh_usage t) l f) ∙ fresh_at t)).1)
 
 -- the rows as a whole are taken: each is
-module _ (c : OpaqueRelayConfig) (g : OpenGathered) (d : Drawing) (o : OpenPlan) (s : ActionScan) (r : LedgerScan)
+module _ (c : OpaqueRelayConfig) (g : OpenGathered) (d : Option ℕ) (o : OpenPlan) (s : ActionScan) (r : LedgerScan)
     (a : HnsrAnswer) (ea : a ≡ placed_rows c g o d s r) (t : taken a ≡ true) where
   rows_taken : (draw_answer d ≡ Ok tt) × (ledger_answer r.found r.used r.places ≡ Ok tt)
   rows_taken =
@@ -354,11 +344,9 @@ module _ (c : OpaqueRelayConfig) (g : OpenGathered) (d : Drawing) (o : OpenPlan)
       let most = capacity_answer c s.tally in
       let late = deadline_answer c g.packet.now in
       let last = ledger_answer r.found r.used r.places in
-      let k0 = (then_taken named (ends then draw_answer d then most then late then last) (sym ea ∙ taken_is a t)).1 in
-      let k1 = (then_taken ends (draw_answer d then most then late then last) k0).1 in
-      let k2 = then_taken (draw_answer d) (most then late then last) k1 in
-      let k3 = (then_taken most (late then last) k2.1).1 in
-      (k2.0, (then_taken late last k3).1)
+      let k = then_taken (placed_entry c g o d) (most then late then last) (sym ea ∙ taken_is a t) in
+      let drew = (then_taken ends (draw_answer d) (then_taken named (ends then draw_answer d) k.0).1).1 in
+      (drew, (then_taken late last (then_taken most (late then last) k.1).1).1)
 
   pub booked_usage : (row : ReservationUsage) (l : List ReservationUsage)
       → r ≡ ledger_asked o.ticket.reservation_id l
@@ -374,7 +362,7 @@ module _ (c : OpaqueRelayConfig) (g : OpenGathered) (d : Drawing) (o : OpenPlan)
       ∙ sym (booked-found o.ticket l k)
 
   pub booked-free : (p : List RelayPending) (q : List RelayCircuit) (ids : List ℕ)
-      → d ≡ draw_all (is_taken p q) undrawn ids → o ≡ open_plan c g d
+      → d ≡ draw_all (is_taken p q) 0 0 ids → o ≡ open_plan c g d
       → any (pending_at o.id) p ≡ false
   booked-free p q ids ed eo =
       ap (λ (x : OpenPlan). any (pending_at x.id) p) eo ∙ draw_free p q d ids ed rows_taken.0
@@ -394,7 +382,7 @@ module _ (h : OpaqueRelayRuntime) (p : List RelayPending) (c : List RelayCircuit
       → row ≡ pending_for (opening_of o) → p' ≡ set p (place_of (non is_pending) p) row
       → h' ≡ with_counters h (count_open h.counters) → m ≡ incoming_out o → n ≡ incoming_for (opening_of o)
       → bytes ≡ incoming_bytes n
-      → (let w = world_of h' p' c l i in proceed w a (send w (message_of m bytes)))
+      → send (world_of h' p' c l i) (message_of m bytes)
       ≡ open_booked (world_of h p c l i) (opening_of o)
   unfolding open_booked incoming_message with_open
   booked-ends o u a row p' h' m n bytes eu f ea t er ep eh em en eb =
@@ -403,9 +391,8 @@ module _ (h : OpaqueRelayRuntime) (p : List RelayPending) (c : List RelayCircuit
       let k = incoming_message (opening_of o) in
       rw (ep, eh, er, eb, en, em)
       (ap (λ (y : List RelayPending).
-      let v = world_of (with_counters h (count_open h.counters)) y c l i in proceed v a (send v k))
+      send (world_of (with_counters h (count_open h.counters)) y c l i) k)
       (put-free o.id (pending_for (opening_of o)) f)
-      ∙ gone-on x a a (send x k) t refl
       ∙ sym (gone-on w a (usage_answer o.ticket (usage_of o.ticket.reservation_id l)) (send x k) t
       (ea ∙ ap (usage_answer o.ticket) eu)))
 
@@ -424,8 +411,8 @@ module _ (h : OpaqueRelayRuntime) (p : List RelayPending) (c : List RelayCircuit
   unfolding open_admitted pending_count circuit_count peer_work pending_work circuit_work sender
   open_admitted_lem = refl
 
-  abbrev drawing : Drawing
-  drawing = draw_all (is_taken p c) undrawn (draws rs)
+  abbrev drawing : Option ℕ
+  drawing = draw_all (is_taken p c) 0 0 (draws rs)
 
   abbrev plan : OpenPlan
   plan = open_plan h.config (gathering q (peer_of source) body endpoint rs p c) drawing
@@ -439,11 +426,20 @@ module _ (h : OpaqueRelayRuntime) (p : List RelayPending) (c : List RelayCircuit
       ≡ open_placed (world_of h p c l i) (packet_of q source body endpoint rs) (opening_of plan)
   unfolding open_placed peer_work reservation_work pending_work circuit_work drawn id_taken decode_open
       actions_scanned sender
-  open_placed_lem = refl
+  open_placed_lem =
+      let w = world_of h p c l i in
+      let r = ledger_asked q.ticket.reservation_id l in
+      then_three (peer_answer (length endpoint))
+      (endpoint_answer h.config q.ticket (same_peer (peer_of endpoint) (peer_of source))
+      (peer_work w (peer_of endpoint)) (reservation_work w (open_fields body).reservation_id))
+      (draw_answer drawing)
+      (capacity_answer h.config (actions_scanned (asking h (incoming_out plan)) i).tally
+      then deadline_answer h.config q.now
+      then ledger_answer r.found r.used r.places)
 
-  module _ (g : OpenGathered) (d : Drawing) (o : OpenPlan) (m : Outgoing) (k : ActionQuestion) (s : ActionScan)
+  module _ (g : OpenGathered) (d : Option ℕ) (o : OpenPlan) (m : Outgoing) (k : ActionQuestion) (s : ActionScan)
       (r : LedgerScan) (a : HnsrAnswer) (eg : g ≡ gathering q (peer_of source) body endpoint rs p c)
-      (ed : d ≡ draw_all (is_taken p c) undrawn (draws rs)) (eo : o ≡ open_plan h.config g d) (em : m ≡ incoming_out o)
+      (ed : d ≡ draw_all (is_taken p c) 0 0 (draws rs)) (eo : o ≡ open_plan h.config g d) (em : m ≡ incoming_out o)
       (ek : k ≡ asking h m) (es : s ≡ actions_scanned k i) (er : r ≡ ledger_asked o.ticket.reservation_id l)
       (ea : a ≡ placed_rows h.config g o d s r) where
     rows-placed : a ≡ open_placed (world_of h p c l i) (packet_of q source body endpoint rs) (opening_of plan)
@@ -507,9 +503,9 @@ module _ (h : OpaqueRelayRuntime) (p : List RelayPending) (c : List RelayCircuit
   unfolding peer_work reservation_work pending_work circuit_work drawn id_taken decode_open
   placed_first = refl
 
-  pub placed_refused : (g : OpenGathered) (d : Drawing) (o : OpenPlan) (a : HnsrAnswer) (r : Relayed) (out : List ℕ)
+  pub placed_refused : (g : OpenGathered) (d : Option ℕ) (o : OpenPlan) (a : HnsrAnswer) (r : Relayed) (out : List ℕ)
       → g ≡ gathering q (peer_of source) body endpoint rs p c
-      → d ≡ draw_all (is_taken p c) undrawn (draws rs) → o ≡ open_plan h.config g d → a ≡ placed_entry h.config g o d
+      → d ≡ draw_all (is_taken p c) 0 0 (draws rs) → o ≡ open_plan h.config g d → a ≡ placed_entry h.config g o d
       → taken a ≡ false → (r.runtime ≡ h) × (r.answer ≡ a) × (r.words ≡ 0)
       → handed_back r p c l i out ≡ ending out (open_lapsed (world_of h p c l i) (packet_of q source body endpoint rs))
   unfolding open_lapsed open_granted open_placed sender

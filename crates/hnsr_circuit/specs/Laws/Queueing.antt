@@ -1,5 +1,5 @@
 -- A message queued by the code is the definition's: the action put where `put` puts it, the route written, the sequence
--- moved on; and what was answered before it, or refuses it, leaves everything as it was.
+-- moved on; and what refuses it leaves everything as it was.
 use Rattle.std.specs.Prelude.{ℕ, ◌+◌, ◌≡◌, List, [], ◌∷◌, eqb, length, set, Result, Ok, Err}
 use Rattle.std.specs.Result.{result_and}
 use Rattle.std.proofs.Math.Path.{refl, ap}
@@ -44,15 +44,13 @@ taken_is (Ok _) h = refl
 taken_is (Err e) h = absurd (false≢true h)
 
 -- a queued message found a sequence number
-pub queue-sequence : (before : HnsrAnswer) (c : OpaqueRelayConfig) (t : InflightTally) (sequence context : ℕ)
-    → taken (before then queue_answer c t sequence context) ≡ true → eqb sequence (top 64) ≡ false
+pub queue-sequence : (c : OpaqueRelayConfig) (t : InflightTally) (sequence context : ℕ)
+    → queue_answer c t sequence context ≡ Ok tt → eqb sequence (top 64) ≡ false
 unfolding queue_answer
-queue-sequence before c t sequence context h =
+queue-sequence c t sequence context h =
     let last = check (eqb sequence (top 64)) GenerationExhausted in
     let rest = capacity_answer c t then last in
-    let all = check (eqb context 0) (Protocol (Invalid ContextZero)) then rest in
-    let a = (then_taken before all (taken_is (before then all) h)).1 in
-    let b = (then_taken (check (eqb context 0) (Protocol (Invalid ContextZero))) rest a).1 in
+    let b = (then_taken (check (eqb context 0) (Protocol (Invalid ContextZero))) rest h).1 in
     check-taken (eqb sequence (top 64)) GenerationExhausted (then_taken (capacity_answer c t) last b).1
 
 -- rows that are taken go on, and a refusal stays
@@ -70,31 +68,31 @@ pub ok-same : {X : Type 0} (x y : X) → ◌≡◌ {A = Result X HnsrRuntimeErro
 ok-same x y h = cc
 
 -- a row of the code that is taken makes what is queued
-pub queueing-ok : (before : HnsrAnswer) (h : OpaqueRelayRuntime) (m : Outgoing) (s : ActionScan)
-    → (before then queue_answer h.config s.tally h.next_action_sequence m.context_id) ≡ Ok tt
+pub queueing-ok : (h : OpaqueRelayRuntime) (m : Outgoing) (s : ActionScan)
+    → queue_answer h.config s.tally h.next_action_sequence m.context_id ≡ Ok tt
     → Ok (record {
       runtime = with_sequence h (h.next_action_sequence + 1);
       place = scan_place s;
       action = action_for (message_of m []) h.generation h.next_action_sequence;
-    }) ≡ queueing before h m s
-queueing-ok before h m s e = rw e
+    }) ≡ queueing h m s
+queueing-ok h m s e = rw e
 
 module _ (h : OpaqueRelayRuntime) (p : List RelayPending) (c : List RelayCircuit) (l : List ReservationUsage)
-    (i : List InflightAction) (out : List ℕ) (before : HnsrAnswer) (m : Outgoing) (body : List ℕ)
+    (i : List InflightAction) (out : List ℕ) (m : Outgoing) (body : List ℕ)
     (scan : ActionScan) (es : scan ≡ actions_scanned (asking h m) i) where
   -- what the code decided is what the definition answers
-  decided : (before then queue_answer h.config scan.tally h.next_action_sequence m.context_id)
-      ≡ (before then can_queue (message_of m body) (world_of h p c l i))
+  decided : queue_answer h.config scan.tally h.next_action_sequence m.context_id
+      ≡ can_queue (message_of m body) (world_of h p c l i)
   unfolding can_queue actions_scanned
   decided =
-      ap (λ (s : ActionScan). before then queue_answer h.config s.tally h.next_action_sequence m.context_id) es
+      ap (λ (s : ActionScan). queue_answer h.config s.tally h.next_action_sequence m.context_id) es
 
-  refuses : (e : HnsrRuntimeError) → queueing before h m scan ≡ Err e
-      → (before then can_queue (message_of m body) (world_of h p c l i)) ≡ Err e
+  refuses : (e : HnsrRuntimeError) → queueing h m scan ≡ Err e
+      → can_queue (message_of m body) (world_of h p c l i) ≡ Err e
   refuses e h = sym decided ∙ and-err _ _ e h
 
-  module _ (q : Queued) (eq : queueing before h m scan ≡ Ok q) where
-    takes : (before then can_queue (message_of m body) (world_of h p c l i)) ≡ Ok tt
+  module _ (q : Queued) (eq : queueing h m scan ≡ Ok q) where
+    takes : can_queue (message_of m body) (world_of h p c l i) ≡ Ok tt
     takes = sym decided ∙ (and-ok _ _ q eq).0
 
     queued_is : record {
@@ -124,58 +122,55 @@ module _ (h : OpaqueRelayRuntime) (p : List RelayPending) (c : List RelayCircuit
       ∙ sym (route-words (routed (message_of m body) (world_of h p c l i)))
 
   -- ---- at the end of a call
-  ends-refused : (b k : HnsrAnswer) (e : HnsrRuntimeError) → (b then k) ≡ Err e → (o : Outcome)
-      → result (world_of h p c l i) (Err e) 0 out
-      ≡ ending out (proceed (world_of h p c l i) b (proceed (world_of h p c l i) k o))
+  ends-refused : (k : HnsrAnswer) (e : HnsrRuntimeError) → k ≡ Err e → (o : Outcome)
+      → result (world_of h p c l i) (Err e) 0 out ≡ ending out (proceed (world_of h p c l i) k o)
   unfolding proceed filled_to placed
-  ends-refused (Err d) k e f o = ap (λ (a : HnsrAnswer). result (world_of h p c l i) a 0 out) (sym f)
-  ends-refused (Ok _) (Err d) e f o = ap (λ (a : HnsrAnswer). result (world_of h p c l i) a 0 out) (sym f)
-  ends-refused (Ok _) (Ok _) e f o = cc
+  ends-refused (Err d) e f o = ap (λ (a : HnsrAnswer). result (world_of h p c l i) a 0 out) (sym f)
+  ends-refused (Ok _) e f o = cc
 
-  ends-queued : (b k : HnsrAnswer) → (b then k) ≡ Ok tt → (w : World) (r : Route)
+  ends-queued : (k : HnsrAnswer) → k ≡ Ok tt → (w : World) (r : Route)
       → result w (Ok tt) (saturating_add 64 0 (length (route_words r))) (written out 0 (route_words r))
-      ≡ ending out (proceed (world_of h p c l i) b (proceed (world_of h p c l i) k (done w (r ∷ []))))
+      ≡ ending out (proceed (world_of h p c l i) k (done w (r ∷ [])))
   unfolding proceed filled_to placed
-  ends-queued (Err d) k f w r = cc
-  ends-queued (Ok _) (Err d) f w r = cc
-  ends-queued (Ok _) (Ok _) f w r = refl
+  ends-queued (Err d) f w r = cc
+  ends-queued (Ok _) f w r = refl
 
-  pub send-refused : (r : Relayed) (e : HnsrRuntimeError) → queueing before h m scan ≡ Err e
+  pub send-refused : (r : Relayed) (e : HnsrRuntimeError) → queueing h m scan ≡ Err e
       → (r.runtime ≡ h) × (r.answer ≡ Err e) × (r.words ≡ 0)
       → handed_back r p c l i out
-      ≡ ending out (proceed (world_of h p c l i) before (send (world_of h p c l i) (message_of m body)))
+      ≡ ending out (send (world_of h p c l i) (message_of m body))
   unfolding send
   send-refused r e eq er =
       (λ x. result (world_of (er.0 x) p c l i) (er.1 x) (er.2 x) out)
-      ∙ ends-refused before (can_queue (message_of m body) (world_of h p c l i)) e (refuses e eq) _
+      ∙ ends-refused (can_queue (message_of m body) (world_of h p c l i)) e (refuses e eq) _
 
-  pub send-queued : (r : Relayed) (q : Queued) → queueing before h m scan ≡ Ok q
+  pub send-queued : (r : Relayed) (q : Queued) → queueing h m scan ≡ Ok q
       → (i' : List InflightAction) → i' ≡ set i q.place q.action
       → (out' : List ℕ)
       → out' ≡ written out 0 (route_words (route_for (message_of m body) h.generation h.next_action_sequence))
       → r.runtime ≡ q.runtime → r.answer ≡ Ok tt
       → r.words ≡ saturating_add 64 0 (head_words + word_count (length body))
       → handed_back r p c l i' out'
-      ≡ ending out (proceed (world_of h p c l i) before (send (world_of h p c l i) (message_of m body)))
+      ≡ ending out (send (world_of h p c l i) (message_of m body))
   unfolding send queued
   send-queued r q eq i' ei out' eo er ea ew =
       let at = stands q eq i' ei in
       let run = er ∙ moved q eq in
       let words = ew ∙ ap (λ (n : ℕ). saturating_add 64 0 n) long in
       (λ x. result (world_of (run x) p c l (at x)) (ea x) (words x) (eo x))
-      ∙ ends-queued before (can_queue (message_of m body) (world_of h p c l i)) (takes q eq)
+      ∙ ends-queued (can_queue (message_of m body) (world_of h p c l i)) (takes q eq)
       (queued (message_of m body) (world_of h p c l i)) (routed (message_of m body) (world_of h p c l i))
 
 -- ---- while a call goes on
 module _ (h : OpaqueRelayRuntime) (p : List RelayPending) (c : List RelayCircuit) (l : List ReservationUsage)
     (i : List InflightAction) (out : List ℕ) (m : Outgoing) (body : List ℕ) (scan : ActionScan)
     (es : scan ≡ actions_scanned (asking h m) i) where
-  pub told-refused : (r : Sending) (e : HnsrRuntimeError) → queueing (Ok tt) h m scan ≡ Err e → r.runtime ≡ h
+  pub told-refused : (r : Sending) (e : HnsrRuntimeError) → queueing h m scan ≡ Err e → r.runtime ≡ h
       → underway r p c l i out ≡ advance (tell (message_of m body)) (progress (world_of h p c l i) r.position out)
   unfolding tell tell_if filled_to placed
-  told-refused r e eq er = rw (er, refuses h p c l i out (Ok tt) m body scan es e eq)
+  told-refused r e eq er = rw (er, refuses h p c l i out m body scan es e eq)
 
-  pub told-queued : (r : Sending) (at : ℕ) (q : Queued) → queueing (Ok tt) h m scan ≡ Ok q
+  pub told-queued : (r : Sending) (at : ℕ) (q : Queued) → queueing h m scan ≡ Ok q
       → (i' : List InflightAction) → i' ≡ set i q.place q.action
       → (out' : List ℕ)
       → out' ≡ written out at (route_words (route_for (message_of m body) h.generation h.next_action_sequence))
@@ -183,8 +178,8 @@ module _ (h : OpaqueRelayRuntime) (p : List RelayPending) (c : List RelayCircuit
       → underway r p c l i' out' ≡ advance (tell (message_of m body)) (progress (world_of h p c l i) at out)
   unfolding tell tell_if filled_to placed queued
   told-queued r at q eq i' ei out' eo er ep =
-      let there = stands h p c l i out (Ok tt) m body scan es q eq i' ei in
-      let run = er ∙ moved h p c l i out (Ok tt) m body scan es q eq in
-      let position = ep ∙ ap (λ (n : ℕ). saturating_add 64 at n) (long h p c l i out (Ok tt) m body scan es) in
-      rw (takes h p c l i out (Ok tt) m body scan es q eq)
+      let there = stands h p c l i out m body scan es q eq i' ei in
+      let run = er ∙ moved h p c l i out m body scan es q eq in
+      let position = ep ∙ ap (λ (n : ℕ). saturating_add 64 at n) (long h p c l i out m body scan es) in
+      rw (takes h p c l i out m body scan es q eq)
       (λ x. progress (world_of (run x) p c l (there x)) (position x) (eo x))

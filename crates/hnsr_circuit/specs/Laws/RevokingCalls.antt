@@ -1,7 +1,10 @@
 -- What the code does for a revoking call that is not refused is the definition's.
-use Rattle.std.specs.Prelude.{ℕ, ◌≤◌, ◌<◌, ◌≡◌, Bool, true, false, ◌&&◌, List, [], length, Ok}
+use Rattle.std.specs.Prelude.{ℕ, ◌≤◌, ◌<◌, ◌≡◌, Bool, true, false, ◌&&◌, List, [], length, Result, Ok, Err}
+use Rattle.std.specs.Result.{result_and}
+use Rattle.hnsr_circuit.specs.declared.calls.revocation.Firsts.{Firsts}
+use Rattle.hnsr_circuit.specs.declared.answer.HnsrRuntimeError.{HnsrRuntimeError}
 use native.Mathlib.Omega.{arith}
-use Rattle.std.proofs.Math.Path.{sym, ap}
+use Rattle.std.proofs.Math.Path.{refl, sym, ap}
 use Rattle.std.proofs.Common.{◌∙◌}
 use Rattle.std.proofs.Math.Bool.{cond, not}
 use Rattle.std.specs.Bool.{beq}
@@ -38,8 +41,24 @@ use Rattle.hnsr_circuit.specs.Runtime.{with_clock, with_enabled}
 use Rattle.hnsr_circuit.specs.Ledger.{usage_at, clear_usage, lapsed}
 use Rattle.hnsr_circuit.specs.Acknowledge.{generation_answer}
 use Rattle.hnsr_circuit.specs.Laws.Answers.{check-taken, then_taken}
-use Rattle.hnsr_circuit.specs.Laws.Queueing.{taken_is}
+use Rattle.hnsr_circuit.specs.Laws.Queueing.{taken_is, and-ok, and-err, ok-same}
 use Rattle.hnsr_circuit.specs.Laws.Calls.{gone-on}
+
+-- what the entry of a revoking call lets pass, and what it refuses
+pub entry-passed : (a : HnsrAnswer) (x y : Firsts) (s : Result Firsts HnsrRuntimeError)
+    → s ≡ result_and a (Ok x) → s ≡ Ok y → (a ≡ Ok tt) × ((y.pending ≡ x.pending) × (y.circuits ≡ x.circuits))
+entry-passed a x y s es e =
+    let k = and-ok a (Ok x) y (sym es ∙ e) in
+    let f = sym (ok-same x y k.1) in
+    (k.0, (ap (λ (z : Firsts). z.pending) f, ap (λ (z : Firsts). z.circuits) f))
+
+pub entry-refused : (a : HnsrAnswer) (x : Firsts) (e : HnsrRuntimeError) (s : Result Firsts HnsrRuntimeError)
+    → s ≡ result_and a (Ok x) → s ≡ Err e → a ≡ Err e
+entry-refused a x e s es f = and-err a x e (sym es ∙ f)
+
+pub then_nothing : (a : HnsrAnswer) → (a then Ok tt) ≡ a
+then_nothing (Ok _) = refl
+then_nothing (Err e) = refl
 
 module _ (h : OpaqueRelayRuntime) (p : List RelayPending) (c : List RelayCircuit) (l : List ReservationUsage)
     (i : List InflightAction) where

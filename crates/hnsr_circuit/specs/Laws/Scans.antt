@@ -1,26 +1,18 @@
--- The loops over a table, over any record type: the step of a lookup and of a count, a store within and past the end,
--- and the parts of what a scan folds. The step and the end of a fold are `Loops`'.
+-- The loops over a table, over any record type: the step of a count and of a clearing, a store past the end, and
+-- the parts of what a scan folds. The step and the end of a fold are `Loops`'.
 use Rattle.std.specs.Prelude.{ℕ, zero, suc, ◌+◌, ◌≤◌, ◌<◌, ◌≡◌, Bool, true, false}
-use Rattle.std.specs.Prelude.{cond, ◌&&◌, ltb, length, take, drop, get_or, set}
+use Rattle.std.specs.Prelude.{cond, length, take, drop, get_or, set}
 use Rattle.std.proofs.Common.{not-suc-le-zero, le_of_suc-le-suc, add-one, arith, sym}
-use Rattle.std.proofs.Common.{◌∙◌, drop-cons, get_or-set_same, ltb-true, ltb-false}
+use Rattle.std.proofs.Common.{◌∙◌, drop-cons}
 use Rattle.std.proofs.Math.Path.{refl, ap}
 use mathlib.Core.List.{List, [], ◌∷◌, ◌++◌, map}
 use Rattle.std.proofs.lemmas.List.{set-get_or}
-use Rattle.hns_encoding.specs.Laws.Tests.{split, both}
-use Rattle.hns_encoding.specs.Loops.{fold_from, map-step}
+use Rattle.hns_encoding.specs.Loops.{fold_from, fold_step, map-step}
 use Rattle.hns_encoding.specs.Sums.{one, count}
-use Rattle.hnsr_circuit.specs.Table.{any, place_of, cleared, clear}
+use Rattle.hnsr_circuit.specs.Table.{any, cleared, clear}
 
--- ---- lookups and counts: what is left of the table says the rest
+-- ---- counts: what is left of the table says the rest
 module _ {A : Type 0} (p : A → Bool) (t : List A) (d : A) (i r : ℕ) where
-  pub find_next : i < length t → p (get_or t i d) ≡ false → i + place_of p (drop i t) ≡ r
-      → i + 1 + place_of p (drop (i + 1) t) ≡ r
-  find_next l e h = let k = rw (drop-cons t i d l, e) at h in rw (add-one i) (omega arith)
-
-  pub find_here : i < length t → p (get_or t i d) ≡ true → i + place_of p (drop i t) ≡ r → i ≡ r
-  find_here l e h = let k = rw (drop-cons t i d l, e) at h in omega arith
-
   pub count_next : (n m : ℕ) → i < length t → m ≡ n + one p (get_or t i d) → n + count p (drop i t) ≡ r
       → m + count p (drop (i + 1) t) ≡ r
   count_next n m l e h = let k = rw (drop-cons t i d l) at h in rw (add-one i) (omega arith)
@@ -30,22 +22,6 @@ pub set_past : {A : Type 0} (t : List A) (i : ℕ) (x : A) → length t ≤ i �
 set_past [] i x l = refl
 set_past (y ∷ ys) zero x l = absurd (not-suc-le-zero l)
 set_past {A} (y ∷ ys) (suc i) x l = ap {B = List A} (λ (l : List A). y ∷ l) (set_past ys i x (le_of_suc-le-suc l))
-
-module _ {A : Type 0} (t : List A) (go does : Bool) (i : ℕ) (e : does ≡ (go && ltb i (length t))) where
-  pub stores_inside : does ≡ true → i < length t
-  stores_inside h = ltb-true i (length t) (both go (ltb i (length t)) (sym e ∙ h)).1
-
-  pub stored : (after : List A) → does ≡ true → after ≡ cond go after t
-  stored after h = rw (both go (ltb i (length t)) (sym e ∙ h)).0
-
-  pub unstored : (x : A) → does ≡ false → t ≡ cond go (set t i x) t
-  unstored x h = split go (λ g. rw g (sym (set_past t i x (ltb-false i (length t) (sym (rw g at e) ∙ h))))) (λ g. rw g)
-
--- what stands there afterwards
-pub stored_there : {A : Type 0} (go : Bool) (t : List A) (i : ℕ) (x d : A) → i < length t
-    → get_or (cond go (set t i x) t) i d ≡ cond go x (get_or t i d)
-stored_there true t i x d l = get_or-set_same t i x d l
-stored_there false t i x d l = refl
 
 -- ---- a turn that clears the mark of a record, if it has what is asked, and else stores nothing
 module _ {A : Type 0} (unmark : A → A) (p : A → Bool) (t : List A) (d : A) (i : ℕ) where
@@ -70,6 +46,16 @@ module _ {A B C : Type 0} (f : B → A → ℕ → B) where
   fold_part g k e [] i b = refl
   fold_part g k e (x ∷ xs) i b =
       fold_part g k e xs (suc i) (f b x i) ∙ ap (λ (c : C). fold_from k xs (suc i) c) (e b x i)
+
+-- ---- a turn of a `for` over the table
+module _ {A : Type 0} (t : List A) (i : ℕ) (x : A) (l : i < length t) (e : x ≡ get_or t i x) where
+  pub fold_turn : {B : Type 0} (f : B → A → ℕ → B) (b b' r : B) → b' ≡ f b x i
+      → fold_from f (drop i t) i b ≡ r → fold_from f (drop (i + 1) t) (i + 1) b' ≡ r
+  fold_turn f b b' r h k = fold_step f t x i b b' r l (h ∙ ap (λ (y : A). f b y i) e) k
+
+  pub count_turn : (p : A → Bool) (r n m : ℕ) → m ≡ n + one p x
+      → n + count p (drop i t) ≡ r → m + count p (drop (i + 1) t) ≡ r
+  count_turn p r n m h k = count_next p t x i r n m l (h ∙ ap (λ (y : A). n + one p y) e) k
 
 -- a test that none passes
 pub any-never : {A : Type 0} (t : List A) → any (λ (x : A). false) t ≡ false

@@ -22,14 +22,15 @@ use crate::calls::revocation::{error_to_requester, revoke_one};
 use crate::entry::{generation_answer, too_few};
 use crate::output::queue::{Outgoing, asking, send};
 use crate::output::route::CLOSING_WORDS;
-use crate::records::inflight::{action_unmarked, kind_of, toward_side};
 use crate::records::{InflightAction, InflightKind, RelayCircuit, RelayPending};
-use crate::runtime::{OpaqueRelayRuntime, Relayed, refused, taken_with};
-use crate::tables::inflight::{scan_actions, set_action};
-use crate::tables::lookup::{ActionFound, found_unmarked, look_up_action, pending_by_id};
-use crate::tables::pending::set_pending;
+use crate::runtime::{OpaqueRelayRuntime, Relayed};
+use crate::tables::inflight::scan_actions;
+use crate::tables::lookup::{Found, look_up};
 use crate::tables::places::Places;
+use crate::tables::question::{ById, ByNumber};
+use crate::tables::record::TableRecord;
 use crate::tables::stores::lower_circuit;
+use crate::tables::table::set;
 use hnsr_body::messages::Notice;
 
 // 20 (ACK.2): no such action
@@ -45,7 +46,7 @@ fn acknowledge_answer(
     few: bool,
     room: usize,
     generation: u64,
-    found: ActionFound,
+    found: Found<InflightAction>,
 ) -> HnsrAnswer
     ensures { result ≡ (check (ltb room acknowledge_words || few) Short
         then generation_answer runtime.generation generation
@@ -62,13 +63,13 @@ fn lower_for(circuits: &mut [RelayCircuit], places: Places, action: InflightActi
     ensures { held_circuits places circuits.new
         ≡ lower_for (kind_of action.kind) action (held_circuits places circuits.old) }
 {
-    match kind_of(action.kind) {
+    match InflightKind::from(action.kind) {
         InflightKind::Data => lower_circuit(
             circuits,
             places,
             true,
             action.circuit_id,
-            toward_side(action),
+            action.toward_side(),
             action.bytes,
         ),
         InflightKind::Incoming
@@ -102,7 +103,6 @@ pub(crate) fn send_notice(
     send(
         inflight,
         out,
-        Ok(()),
         runtime,
         places,
         message,
@@ -125,14 +125,14 @@ pub(crate) fn fail_incoming(
         ≡ ending out.old
         (fail_incoming (world_seen runtime places pending.old c l inflight.old) id) }
 {
-    let found = pending_by_id(pending, places, id);
+    let found = look_up(pending, places.pending, &ById { id });
     if !found.found {
-        return taken_with(runtime, places);
+        return Relayed::taken(runtime, places);
     }
-    let gone = found_unmarked(found);
-    set_pending(pending, true, found.place, gone);
+    let gone = found.row.unmarked();
+    set(pending, true, found.place, gone);
     let after = runtime.revoked();
-    let message = error_to_requester(found.pending);
+    let message = error_to_requester(found.row);
     send_notice(
         inflight,
         out,
@@ -161,9 +161,9 @@ pub(crate) fn settle(
         action delivered) }
 {
     if delivered {
-        return taken_with(runtime, places);
+        return Relayed::taken(runtime, places);
     }
-    match kind_of(action.kind) {
+    match InflightKind::from(action.kind) {
         InflightKind::Incoming => fail_incoming(
             pending,
             inflight,
@@ -181,7 +181,7 @@ pub(crate) fn settle(
             Notice::OuterWriteFailed,
             action.circuit_id,
         ),
-        InflightKind::Close => taken_with(runtime, places),
+        InflightKind::Close => Relayed::taken(runtime, places),
     }
 }
 
@@ -192,7 +192,7 @@ pub(crate) fn acknowledge_action(
     out: &mut [u32],
     runtime: OpaqueRelayRuntime,
     places: Places,
-    found: ActionFound,
+    found: Found<InflightAction>,
     delivered: bool,
 ) -> Relayed
     ensures { (l : List ReservationUsage) (generation sequence : ℕ)
@@ -201,11 +201,11 @@ pub(crate) fn acknowledge_action(
         ≡ ending out.old
         (acknowledge_action
         (world_seen runtime places pending.old circuits.old l inflight.old) generation
-        sequence delivered found.action) }
+        sequence delivered found.row) }
 {
-    let action = found.action;
-    let gone = action_unmarked(action);
-    set_action(inflight, true, found.place, gone);
+    let action = found.row;
+    let gone = action.unmarked();
+    set(inflight, true, found.place, gone);
     lower_for(circuits, places, action);
     settle(
         pending, circuits, inflight, out, runtime, places, action, delivered,
@@ -230,13 +230,16 @@ pub fn acknowledge(
         (call_acknowledge generation sequence delivered (length out.old))) }
 {
     let config = runtime.config;
-    let found = look_up_action(inflight, places, generation, sequence);
+    let number = ByNumber {
+        generation,
+        sequence,
+    };
+    let found = look_up(inflight, places.actions, &number);
     let few = too_few(config, pending.len(), circuits.len(), inflight.len());
-    let answer = acknowledge_answer(runtime, few, out.len(), generation, found);
-    if answer.is_ok() {
-        return acknowledge_action(
+    match acknowledge_answer(runtime, few, out.len(), generation, found) {
+        Ok(()) => acknowledge_action(
             pending, circuits, inflight, out, runtime, places, found, delivered,
-        );
+        ),
+        Err(error) => Relayed::refused(runtime, places, error),
     }
-    refused(runtime, places, answer)
 }

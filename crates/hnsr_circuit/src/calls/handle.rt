@@ -1,8 +1,8 @@
 // `handle`: entry, clock, gate, and then the message that the opcode names (HANDLE).
-ghost use Rattle.std.specs.Prelude.{◌≡◌, ◌||◌, ◌<◌, ltb, length, List, ℕ, Err};
+ghost use Rattle.std.specs.Prelude.{◌≡◌, ◌||◌, ◌<◌, ltb, length, List, ℕ};
 ghost use Rattle.hnsr_circuit.specs.Peer.{peer_of};
 ghost use Rattle.hnsr_circuit.specs.Code.Held.{world_seen, world_given, handed_seen};
-ghost use Rattle.hnsr_circuit.specs.declared.answer.HnsrRuntimeError.TheVariants.{Short, UnexpectedOpcode};
+ghost use Rattle.hnsr_circuit.specs.declared.answer.HnsrRuntimeError.TheVariants.{Short};
 ghost use Rattle.hnsr_circuit.specs.Answers.{check, ◌then◌};
 ghost use Rattle.hnsr_circuit.specs.Entry.{handle_words, peer_answer, packet_answer, clock_answer};
 ghost use Rattle.hnsr_circuit.specs.Handle.{handling_of, dispatch, gate_answer, handle_gate};
@@ -17,9 +17,9 @@ use crate::messages::handle_data::handle_data;
 use crate::messages::handle_open::handle_open;
 use crate::messages::handle_window::handle_window;
 use crate::output::route::HANDLE_WORDS;
-use crate::peer::peer_of;
+use crate::peer::HnsrPeerId;
 use crate::records::{InflightAction, RelayCircuit, RelayPending, ReservationUsage};
-use crate::runtime::{OpaqueRelayRuntime, RelayPacket, Relayed, Request, refused};
+use crate::runtime::{OpaqueRelayRuntime, RelayPacket, Relayed, Request};
 use crate::tables::lookup::trim;
 use crate::tables::places::Places;
 use hnsr_body::envelope::HnsrPacket;
@@ -73,16 +73,7 @@ pub(crate) fn gate_answer(enabled: bool) -> HnsrAnswer
 
 // ---- by opcode
 
-// 16 (HANDLE.3): an opcode that a relay does not take
-fn unexpected(request: Request) -> Relayed
-    ensures { ((result.runtime ≡ request.runtime) × (result.answer ≡ Err UnexpectedOpcode) × (result.words ≡ 0))
-        × (result.places ≡ request.places) }
-{
-    let answer = Err(HnsrRuntimeError::UnexpectedOpcode);
-    refused(request.runtime, request.places, answer)
-}
-
-// HANDLE.4: six opcodes, and the rest
+// HANDLE.4: six opcodes; the rest a relay does not take (HANDLE.3). By the number, in ranges: document 01.
 pub(crate) fn dispatch(
     pending: &mut [RelayPending],
     circuits: &mut [RelayCircuit],
@@ -113,7 +104,11 @@ pub(crate) fn dispatch(
         17 => handle_data(circuits, ledger, inflight, out, request, body),
         18 => handle_window(circuits, inflight, out, request, body),
         19..=20 => handle_close(pending, circuits, inflight, out, request, body),
-        0..=12 | 14 | 16 | 21..=255 => unexpected(request),
+        0..=12 | 14 | 16 | 21..=255 => Relayed::refused(
+            request.runtime,
+            request.places,
+            HnsrRuntimeError::UnexpectedOpcode,
+        ),
     }
 }
 
@@ -140,20 +135,21 @@ pub(crate) fn handle_gate(
         inflight.old)
         (packet_of packet source.now body.now endpoint.now random.now)) }
 {
-    let answer = gate_answer(runtime.enabled);
-    if answer.is_ok() {
-        let peer = peer_of(source);
-        let request = Request {
-            runtime,
-            places,
-            packet,
-            peer,
-        };
-        return dispatch(
-            pending, circuits, ledger, inflight, out, request, body, endpoint, random,
-        );
+    match gate_answer(runtime.enabled) {
+        Ok(()) => {
+            let peer = HnsrPeerId::new(source);
+            let request = Request {
+                runtime,
+                places,
+                packet,
+                peer,
+            };
+            dispatch(
+                pending, circuits, ledger, inflight, out, request, body, endpoint, random,
+            )
+        }
+        Err(error) => Relayed::refused(runtime, places, error),
     }
-    refused(runtime, places, answer)
 }
 
 pub fn handle(
@@ -182,14 +178,15 @@ pub fn handle(
     let config = runtime.config;
     let few = too_few(config, pending.len(), circuits.len(), inflight.len());
     let lent = room_answer(out.len(), few);
-    let answer = entry_answer(lent, runtime, packet, source.len(), body.len());
-    if answer.is_ok() {
-        let moved = runtime.with_clock(packet.now);
-        let fewer = trim(pending, circuits, ledger, inflight, places);
-        return handle_gate(
-            pending, circuits, ledger, inflight, out, moved, fewer, packet, source, body, endpoint,
-            random,
-        );
+    match entry_answer(lent, runtime, packet, source.len(), body.len()) {
+        Ok(()) => {
+            let moved = runtime.with_clock(packet.now);
+            let fewer = trim(pending, circuits, ledger, inflight, places);
+            handle_gate(
+                pending, circuits, ledger, inflight, out, moved, fewer, packet, source, body,
+                endpoint, random,
+            )
+        }
+        Err(error) => Relayed::refused(runtime, places, error),
     }
-    refused(runtime, places, answer)
 }

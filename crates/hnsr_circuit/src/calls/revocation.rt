@@ -19,16 +19,15 @@ ghost use Rattle.hnsr_circuit.specs.Code.Revoking.{ending_pending, revoked_pendi
 use crate::messages::message::closing;
 use crate::messages::opcode::{CLOSE, ERROR};
 use crate::output::queue::{Outgoing, drop_and_tell, tell_notice};
-use crate::peer::{HnsrPeerId, same_peer};
-use crate::records::circuits::circuit_unmarked;
-use crate::records::pending::pending_unmarked;
+use crate::peer::HnsrPeerId;
 use crate::records::{InflightAction, RelayCircuit, RelayPending};
 use crate::runtime::{OpaqueRelayRuntime, Relayed, Sending};
-use crate::tables::circuits::{circuit_at, find_circuit_id, next_circuit, set_circuit};
-use crate::tables::pending::{next_pending, pending_at, set_pending};
 use crate::tables::places::Places;
-use crate::tables::question::RecordQuestion;
+use crate::tables::question::{Asked, ById, RecordQuestion};
+use crate::tables::record::TableRecord;
 use crate::tables::scan::Walked;
+use crate::tables::table;
+use crate::tables::table::{at, find, set};
 use hnsr_body::messages::Notice;
 
 // What a revoking call hands its walks: which records, and by what message; the peer is nobody where none is asked for.
@@ -55,9 +54,8 @@ pub struct Firsts {
 pub(crate) fn error_to_requester(pending: RelayPending) -> Outgoing
     ensures { result ≡ error_out pending }
 {
-    let requester = pending.requester;
     closing(
-        requester,
+        pending.requester,
         pending.circuit_id,
         ERROR,
         pending.requester_context,
@@ -67,38 +65,37 @@ pub(crate) fn error_to_requester(pending: RelayPending) -> Outgoing
 fn close_to_endpoint(pending: RelayPending) -> Outgoing
     ensures { result ≡ close_out pending }
 {
-    let endpoint = pending.endpoint;
-    closing(endpoint, pending.circuit_id, CLOSE, pending.circuit_id)
+    closing(
+        pending.endpoint,
+        pending.circuit_id,
+        CLOSE,
+        pending.circuit_id,
+    )
 }
 
 fn close_to_other(peer: HnsrPeerId, pending: RelayPending) -> Outgoing
     ensures { result ≡ other_out peer pending }
 {
-    let requester = pending.requester;
-    let same = same_peer(requester, peer);
-    let there = close_to_endpoint(pending);
-    let back = closing(
-        requester,
-        pending.circuit_id,
-        CLOSE,
-        pending.requester_context,
-    );
-    if same {
-        return there;
+    if pending.requester == peer {
+        close_to_endpoint(pending)
+    } else {
+        closing(
+            pending.requester,
+            pending.circuit_id,
+            CLOSE,
+            pending.requester_context,
+        )
     }
-    back
 }
 
 fn first_message(revoking: Revoking, pending: RelayPending) -> Outgoing
     ensures { result ≡ first_out revoking pending }
 {
-    let peer = revoking.peer;
-    let other = close_to_other(peer, pending);
-    let error = error_to_requester(pending);
     if revoking.disconnecting {
-        return other;
+        close_to_other(revoking.peer, pending)
+    } else {
+        error_to_requester(pending)
     }
-    error
 }
 
 // ---- one record
@@ -108,9 +105,8 @@ fn counted(sending: Sending) -> Sending
         × (result.position ≡ sending.position)
         × (result.places ≡ sending.places) }
 {
-    let runtime = sending.runtime;
     Sending {
-        runtime: runtime.revoked(),
+        runtime: sending.runtime.revoked(),
         ..sending
     }
 }
@@ -118,11 +114,11 @@ fn counted(sending: Sending) -> Sending
 fn pending_notice(revoking: Revoking) -> Notice
     ensures { result ≡ cond revoking.disconnecting PeerDisconnected revoking.notice }
 {
-    let notice = revoking.notice;
     if revoking.disconnecting {
-        return Notice::PeerDisconnected;
+        Notice::PeerDisconnected
+    } else {
+        revoking.notice
     }
-    notice
 }
 
 // The pending record at a place, ended and told: REVOKE.3, or DISC.4.
@@ -141,12 +137,12 @@ pub(crate) fn revoke_pending(
 {
     let places = sending.places;
     let notice = pending_notice(revoking);
-    let row = pending_at(pending, places, place);
-    let gone = pending_unmarked(row);
+    let row = at(pending, places.pending, place);
+    let gone = row.unmarked();
     let first = first_message(revoking, row);
     let second = close_to_endpoint(row);
     let after = counted(sending);
-    set_pending(pending, true, place, gone);
+    set(pending, true, place, gone);
     let told = drop_and_tell(inflight, out, after, row.circuit_id, first, notice);
     if revoking.disconnecting {
         return told;
@@ -169,13 +165,13 @@ pub(crate) fn revoke_circuit(
         (underway_seen sending p circuits.old l inflight.old out.old) }
 {
     let places = sending.places;
-    let row = circuit_at(circuits, places, place);
-    let gone = circuit_unmarked(row);
+    let row = at(circuits, places.circuits, place);
+    let gone = row.unmarked();
     let id = row.circuit_id;
     let first = closing(row.requester, id, CLOSE, id);
     let second = closing(row.endpoint, id, CLOSE, id);
     let after = counted(sending);
-    set_circuit(circuits, true, place, gone);
+    set(circuits, true, place, gone);
     let told = drop_and_tell(inflight, out, after, id, first, notice);
     tell_notice(inflight, out, told, second, notice)
 }
@@ -198,8 +194,10 @@ pub(crate) fn walk_pending(
         ≡ advance (walk pending_id pending_table (revoked_pending revoking) (ending_pending revoking))
         (underway_seen sending pending.old c l inflight.old out.old) }
 {
-    let question = revoking.question;
-    let peer = revoking.peer;
+    let asked = Asked {
+        question: revoking.question,
+        peer: revoking.peer,
+    };
     let most = pending.len();
     let mut told = sending;
     let mut next = first;
@@ -209,7 +207,8 @@ pub(crate) fn walk_pending(
             return told;
         }
         told = revoke_pending(pending, inflight, out, told, revoking, next.place);
-        next = next_pending(pending, told.places, question, peer, next);
+        let number = told.places.pending;
+        next = table::next(pending, number, &asked, next);
         turn += 1;
     }
     told
@@ -231,8 +230,10 @@ pub(crate) fn walk_circuits(
         (walk circuit_id circuit_table (revoked_circuit revoking) (revoke_circuit_there revoking.circuit_notice))
         (underway_seen sending p circuits.old l inflight.old out.old) }
 {
-    let question = revoking.question;
-    let peer = revoking.peer;
+    let asked = Asked {
+        question: revoking.question,
+        peer: revoking.peer,
+    };
     let notice = revoking.circuit_notice;
     let most = circuits.len();
     let mut told = sending;
@@ -243,7 +244,8 @@ pub(crate) fn walk_circuits(
             return told;
         }
         told = revoke_circuit(circuits, inflight, out, told, notice, next.place);
-        next = next_circuit(circuits, told.places, question, peer, next);
+        let number = told.places.circuits;
+        next = table::next(circuits, number, &asked, next);
         turn += 1;
     }
     told
@@ -265,13 +267,11 @@ pub(crate) fn finished(sending: Sending) -> Relayed
     ensures { ((result.runtime ≡ sending.runtime) × (result.answer ≡ Ok tt) × (result.words ≡ sending.position))
         × (result.places ≡ sending.places) }
 {
-    let runtime = sending.runtime;
-    let places = sending.places;
     Relayed {
-        runtime,
+        runtime: sending.runtime,
         answer: Ok(()),
         words: sending.position,
-        places,
+        places: sending.places,
     }
 }
 
@@ -318,7 +318,7 @@ pub(crate) fn revoke_one(
         (revoke_circuit notice (world_seen runtime places p circuits.old l inflight.old) id)) }
 {
     let start = started(runtime, places);
-    let place = find_circuit_id(circuits, places, id);
+    let place = find(circuits, places.circuits, &ById { id });
     if place < circuits.len() {
         let told = revoke_circuit(circuits, inflight, out, start, notice, place);
         return finished(told);

@@ -1,7 +1,5 @@
 // The revoking calls: disconnect (DISC), revoke_reservation (RES), expire (EXPIRE), replace_enabled (SWITCH).
-ghost use Rattle.std.specs.Prelude.{◌≡◌, not, ◌||◌, List, ◌+◌, ◌*◌, ◌<◌, ltb, length};
-ghost use Rattle.std.specs.Bool.{beq};
-ghost use Rattle.hns_encoding.specs.Sums.{count};
+ghost use Rattle.std.specs.Prelude.{◌≡◌, ◌||◌, List, ◌+◌, ◌*◌, ◌<◌, ltb, length};
 ghost use Rattle.hnsr_circuit.specs.Code.Held.{held_pending, held_circuits, world_seen, handed_seen};
 ghost use Rattle.hnsr_circuit.specs.declared.answer.HnsrRuntimeError.TheVariants.{Short};
 ghost use Rattle.hnsr_circuit.specs.declared.records.ReservationUsage.{ReservationUsage};
@@ -9,31 +7,29 @@ ghost use Rattle.hnsr_circuit.specs.Answers.{check};
 ghost use Rattle.hnsr_circuit.specs.Table.{not_yet, next};
 ghost use Rattle.hnsr_body.specs.declared.messages.Notice.TheVariants.{RelayDisabled};
 ghost use Rattle.hnsr_circuit.specs.declared.tables.question.RecordQuestion.TheVariants.{Used};
-ghost use Rattle.hnsr_circuit.specs.Pending.{is_pending, pending_id};
-ghost use Rattle.hnsr_circuit.specs.Circuits.{is_circuit, circuit_id};
+ghost use Rattle.hnsr_circuit.specs.Pending.{pending_id};
+ghost use Rattle.hnsr_circuit.specs.Circuits.{circuit_id};
 ghost use Rattle.hnsr_circuit.specs.Entry.{closing_words, too_few};
 ghost use Rattle.hnsr_circuit.specs.Call.{step, call_disconnect, call_revoke_reservation};
 ghost use Rattle.hnsr_circuit.specs.Call.{call_expire, call_replace_enabled};
 ghost use Rattle.hnsr_circuit.specs.Code.Progress.{outcome, ending};
 ghost use Rattle.hnsr_circuit.specs.RevokingCalls.{change_answer, switch_to};
-ghost use Rattle.hnsr_circuit.specs.Code.Revoking.{revoked_pending, revoked_circuit, disconnecting_all, revokes};
+ghost use Rattle.hnsr_circuit.specs.Code.Revoking.{revoked_pending, revoked_circuit};
+ghost use Rattle.hnsr_circuit.specs.Code.Revoking.{disconnecting_all, revokes, entered};
 
 use crate::answer::{HnsrAnswer, HnsrRuntimeError, check};
 use crate::calls::revocation::{Firsts, Revoking, revoke_all};
 use crate::config::OpaqueRelayConfig;
 use crate::entry::{clock_answer, generation_answer, peer_answer, too_few};
 use crate::output::route::CLOSING_WORDS;
-use crate::peer::{HnsrPeerId, no_peer, peer_of};
+use crate::peer::HnsrPeerId;
 use crate::records::{InflightAction, RelayCircuit, RelayPending, ReservationUsage};
-use crate::runtime::{OpaqueRelayRuntime, Relayed, refused, taken_with};
-use crate::tables::circuits::survey_circuit;
-use crate::tables::inflight::clear_action;
+use crate::runtime::{OpaqueRelayRuntime, Relayed};
 use crate::tables::ledger::drop_lapsed;
-use crate::tables::pending::survey_pending;
 use crate::tables::places::Places;
-use crate::tables::question::{ActionsDropped, RecordQuestion};
-use crate::tables::scan::Survey;
+use crate::tables::question::{ActionsDropped, Asked, Dropped, RecordQuestion};
 use crate::tables::stores::drop_usage;
+use crate::tables::table::{clear, survey};
 use hnsr_body::messages::Notice;
 use hnsr_body::values::ReservationId;
 
@@ -70,26 +66,8 @@ fn room_answer(
     check(short || few, HnsrRuntimeError::Short)
 }
 
-// What a revoking call finds at entry: its answer, and the first record that each walk takes.
-#[derive(Clone, Copy)]
-pub struct Entered {
-    pub answer: HnsrAnswer,
-    pub first: Firsts,
-}
-
-fn entry_found(answer: HnsrAnswer, waiting: Survey, active: Survey) -> Entered
-    ensures { (result.answer ≡ answer)
-        × (result.first.pending ≡ waiting.first)
-        × (result.first.circuits ≡ active.first) }
-{
-    let pending = waiting.first;
-    let circuits = active.first;
-    let first = Firsts { pending, circuits };
-    Entered { answer, first }
-}
-
-// 22 (ENTRY.1). One pass over each table.
-pub(crate) fn entry_answer(
+// 22 (ENTRY.1), and then the call's own rows; taken, the first record that each walk takes. One pass over each table.
+pub(crate) fn entered(
     pending: &[RelayPending],
     circuits: &[RelayCircuit],
     places: Places,
@@ -97,24 +75,25 @@ pub(crate) fn entry_answer(
     room: usize,
     config: OpaqueRelayConfig,
     all: Revoking,
-) -> Entered
-    ensures { (result.answer ≡ check (
-        ltb room (closing_words * (
-        count is_pending (held_pending places pending.now)
-        + count is_circuit (held_circuits places circuits.now)))
-        || too_few config (length (held_pending places pending.now))
-        (length (held_circuits places circuits.now)) inflight) Short)
-        × (result.first.pending ≡ next pending_id (revoked_pending all) not_yet (held_pending places pending.now))
-        × (result.first.circuits
-        ≡ next circuit_id (revoked_circuit all) not_yet (held_circuits places circuits.now)) }
+    rows: HnsrAnswer,
+) -> Result<Firsts, HnsrRuntimeError>
+    ensures { result ≡ entered all config (held_pending places pending.now) (held_circuits places circuits.now)
+        inflight room rows }
 {
-    let question = all.question;
-    let peer = all.peer;
-    let waiting = survey_pending(pending, places, question, peer);
-    let active = survey_circuit(circuits, places, question, peer);
+    let asked = Asked {
+        question: all.question,
+        peer: all.peer,
+    };
+    let waiting = survey(pending, places.pending, &asked);
+    let active = survey(circuits, places.circuits, &asked);
     let short = room_short(room, waiting.used, active.used);
-    let answer = room_answer(config, pending.len(), circuits.len(), inflight, short);
-    entry_found(answer, waiting, active)
+    let lent = room_answer(config, pending.len(), circuits.len(), inflight, short);
+    let first = Firsts {
+        pending: waiting.first,
+        circuits: active.first,
+    };
+    let answer = lent.and(rows);
+    answer.and(Ok(first))
 }
 
 // ---- what each revokes
@@ -136,7 +115,7 @@ fn revoking(question: RecordQuestion, notice: Notice, circuit_notice: Notice) ->
 {
     Revoking {
         question,
-        peer: no_peer(),
+        peer: HnsrPeerId::NOBODY,
         notice,
         circuit_notice,
         disconnecting: false,
@@ -161,29 +140,32 @@ pub fn disconnect(
         (step (world_seen runtime places pending.old circuits.old l inflight.old)
         (call_disconnect peer.now (length out.old))) }
 {
-    let config = runtime.config;
-    let name = peer_of(peer);
+    let name = HnsrPeerId::new(peer);
     let all = disconnecting(name);
-    let entry = entry_answer(
+    let named = peer_answer(peer.len());
+    let firsts = entered(
         pending,
         circuits,
         places,
         inflight.len(),
         out.len(),
-        config,
+        runtime.config,
         all,
+        named,
     );
-    let lent = entry.answer;
-    let first = entry.first;
-    let named = peer_answer(peer.len());
-    let answer = lent.and(named);
-    if answer.is_ok() {
-        clear_action(inflight, places, ActionsDropped::Toward, name);
-        return revoke_all(
-            pending, circuits, inflight, out, runtime, places, all, first,
-        );
+    match firsts {
+        Ok(first) => {
+            let dropped = Dropped {
+                dropped: ActionsDropped::Toward,
+                peer: name,
+            };
+            clear(inflight, places.actions, &dropped);
+            revoke_all(
+                pending, circuits, inflight, out, runtime, places, all, first,
+            )
+        }
+        Err(error) => Relayed::refused(runtime, places, error),
     }
-    refused(runtime, places, answer)
 }
 
 // The ledger record goes, and the records under the id end (RES.2, RES.3).
@@ -203,30 +185,30 @@ pub fn revoke_reservation(
         (step (world_seen runtime places pending.old circuits.old ledger.old
         inflight.old) (call_revoke_reservation id (length out.old))) }
 {
-    let config = runtime.config;
     let all = revoking(
         RecordQuestion::Under(id),
         Notice::ReservationRevoked,
         Notice::ReservationRevoked,
     );
-    let entry = entry_answer(
+    let firsts = entered(
         pending,
         circuits,
         places,
         inflight.len(),
         out.len(),
-        config,
+        runtime.config,
         all,
+        Ok(()),
     );
-    let answer = entry.answer;
-    let first = entry.first;
-    if answer.is_ok() {
-        drop_usage(ledger, places, id);
-        return revoke_all(
-            pending, circuits, inflight, out, runtime, places, all, first,
-        );
+    match firsts {
+        Ok(first) => {
+            drop_usage(ledger, places, id);
+            revoke_all(
+                pending, circuits, inflight, out, runtime, places, all, first,
+            )
+        }
+        Err(error) => Relayed::refused(runtime, places, error),
     }
-    refused(runtime, places, answer)
 }
 
 // What is over ends, in ledger, pending records and circuits (EXPIRE.3, EXPIRE.4).
@@ -246,38 +228,30 @@ pub fn expire(
         (step (world_seen runtime places pending.old circuits.old ledger.old
         inflight.old) (call_expire time (length out.old))) }
 {
-    let config = runtime.config;
     let all = revoking(
         RecordQuestion::Over(time),
         Notice::AcceptanceExpired,
         Notice::TicketExpired,
     );
-    let entry = entry_answer(
+    let clock = clock_answer(runtime.trusted_time_high_water, time);
+    let firsts = entered(
         pending,
         circuits,
         places,
         inflight.len(),
         out.len(),
-        config,
+        runtime.config,
         all,
+        clock,
     );
-    let lent = entry.answer;
-    let first = entry.first;
-    let clock = clock_answer(runtime.trusted_time_high_water, time);
-    let answer = lent.and(clock);
-    if answer.is_ok() {
-        let moved = runtime.with_clock(time);
-        drop_lapsed(ledger, places, time);
-        return revoke_all(pending, circuits, inflight, out, moved, places, all, first);
+    match firsts {
+        Ok(first) => {
+            let moved = runtime.with_clock(time);
+            drop_lapsed(ledger, places, time);
+            revoke_all(pending, circuits, inflight, out, moved, places, all, first)
+        }
+        Err(error) => Relayed::refused(runtime, places, error),
     }
-    refused(runtime, places, answer)
-}
-
-// Whether the state would change.
-fn changed(before: bool, enabled: bool) -> bool
-    ensures { result ≡ not (beq before enabled) }
-{
-    before != enabled
 }
 
 // SWITCH.4 to SWITCH.6: the state does change.
@@ -303,10 +277,13 @@ pub(crate) fn switch_to(
         enabled) }
 {
     let switched = runtime.with_enabled(enabled);
-    let nobody = no_peer();
-    clear_action(inflight, places, ActionsDropped::Every, nobody);
+    let dropped = Dropped {
+        dropped: ActionsDropped::Every,
+        peer: HnsrPeerId::NOBODY,
+    };
+    clear(inflight, places.actions, &dropped);
     if enabled {
-        return taken_with(switched, places);
+        return Relayed::taken(switched, places);
     }
     revoke_all(
         pending, circuits, inflight, out, switched, places, all, first,
@@ -330,35 +307,35 @@ pub fn replace_enabled(
         (step (world_seen runtime places pending.old circuits.old l inflight.old)
         (call_replace_enabled expected_generation enabled (length out.old))) }
 {
-    let config = runtime.config;
     let all = revoking(
         RecordQuestion::Used,
         Notice::RelayDisabled,
         Notice::RelayDisabled,
     );
-    let entry = entry_answer(
+    let current = generation_answer(runtime.generation, expected_generation);
+    let changes = runtime.enabled != enabled;
+    let exhausted = change_answer(runtime.generation, changes);
+    let rows = current.and(exhausted);
+    let firsts = entered(
         pending,
         circuits,
         places,
         inflight.len(),
         out.len(),
-        config,
+        runtime.config,
         all,
+        rows,
     );
-    let lent = entry.answer;
-    let first = entry.first;
-    let current = generation_answer(runtime.generation, expected_generation);
-    let changes = changed(runtime.enabled, enabled);
-    let exhausted = change_answer(runtime.generation, changes);
-    let rest = current.and(exhausted);
-    let answer = lent.and(rest);
-    if answer.is_ok() {
-        if changes {
-            return switch_to(
-                pending, circuits, inflight, out, runtime, places, enabled, all, first,
-            );
+    match firsts {
+        Ok(first) => {
+            if changes {
+                switch_to(
+                    pending, circuits, inflight, out, runtime, places, enabled, all, first,
+                )
+            } else {
+                Relayed::taken(runtime, places)
+            }
         }
-        return taken_with(runtime, places);
+        Err(error) => Relayed::refused(runtime, places, error),
     }
-    refused(runtime, places, answer)
 }

@@ -23,18 +23,16 @@ ghost use Rattle.hnsr_circuit.specs.Call.{start, step, call_status, call_next_du
 use crate::answer::{HnsrAnswer, HnsrRuntimeError, check};
 use crate::config::OpaqueRelayConfig;
 use crate::entry::{clock_answer, peer_answer, too_few};
-use crate::peer::{HnsrPeerId, peer_of};
+use crate::peer::HnsrPeerId;
 use crate::records::inflight::capacity_left;
 use crate::records::{InflightAction, RelayCircuit, RelayPending, ReservationUsage};
-use crate::runtime::{
-    HnsrRuntimeStatus, OpaqueRelayRuntime, Relayed, StatusTold, refused, taken_with,
-};
-use crate::tables::circuits::{circuit_due, circuit_totals};
+use crate::runtime::{HnsrRuntimeStatus, OpaqueRelayRuntime, Relayed, StatusTold};
+use crate::tables::circuits::circuit_totals;
 use crate::tables::inflight::scan_actions;
-use crate::tables::ledger::usage_due;
-use crate::tables::pending::{count_pending, pending_due};
 use crate::tables::places::{Places, every_place, no_place};
+use crate::tables::question::InUse;
 use crate::tables::scan::{ActionQuestion, CircuitTotals, InflightTally};
+use crate::tables::table::{count, due};
 use hnsr_body::values::is_zero;
 
 // ---- new
@@ -86,14 +84,13 @@ pub fn new(
         (record { session = session; generation = generation; config = config; now = time })) }
 {
     let few = too_few(config, pending.len(), circuits.len(), inflight.len());
-    let answer = new_answer(session, generation, config, few, ledger.len());
-    if answer.is_ok() {
-        let runtime = OpaqueRelayRuntime::new(session, generation, config, time);
-        let none = no_place();
-        return taken_with(runtime, none);
+    match new_answer(session, generation, config, few, ledger.len()) {
+        Ok(()) => {
+            let runtime = OpaqueRelayRuntime::new(session, generation, config, time);
+            Relayed::taken(runtime, no_place())
+        }
+        Err(error) => Relayed::refused(OpaqueRelayRuntime::OFF, every_place(), error),
     }
-    let every = every_place();
-    refused(OpaqueRelayRuntime::OFF, every, answer)
 }
 
 // ---- status
@@ -183,9 +180,9 @@ pub fn status(
         inflight.len(),
     );
     status_answer(few, peer.len())?;
-    let name = peer_of(peer);
+    let name = HnsrPeerId::new(peer);
     let question = capacity_question(circuit_id, name);
-    let waiting = count_pending(pending, places);
+    let waiting = count(pending, places.pending, &InUse);
     let totals = circuit_totals(circuits, places);
     let scan = scan_actions(inflight, places, question);
     Ok(status_told(runtime, waiting, totals, scan.tally))
@@ -215,9 +212,9 @@ pub fn next_due(
         inflight.len(),
     );
     check(few, HnsrRuntimeError::Short)?;
-    let first = pending_due(pending, places, None);
-    let second = circuit_due(circuits, places, first);
-    Ok(usage_due(ledger, places, second))
+    let first = due(pending, places.pending, None);
+    let second = due(circuits, places.circuits, first);
+    Ok(due(ledger, places.ledger, second))
 }
 
 // ---- observe_time: it is lent no table, and asks no 22
@@ -228,10 +225,8 @@ pub fn observe_time(runtime: OpaqueRelayRuntime, places: Places, time: u64) -> R
         → handed_seen result p c l i out
         ≡ outcome out (step (world_seen runtime places p c l i) (call_observe_time time)) }
 {
-    let answer = clock_answer(runtime.trusted_time_high_water, time);
-    let moved = runtime.with_clock(time);
-    if answer.is_ok() {
-        return taken_with(moved, places);
+    match clock_answer(runtime.trusted_time_high_water, time) {
+        Ok(()) => Relayed::taken(runtime.with_clock(time), places),
+        Err(error) => Relayed::refused(runtime, places, error),
     }
-    refused(runtime, places, answer)
 }

@@ -8,12 +8,12 @@ use crate::answer::{HnsrAnswer, HnsrRuntimeError, body_answer, check};
 use crate::config::OpaqueRelayConfig;
 use crate::messages::opcode::OPENED;
 use crate::output::queue::Outgoing;
-use crate::peer::{HnsrPeerId, same_peer};
+use crate::peer::HnsrPeerId;
 use crate::records::inflight::capacity_answer;
 use crate::records::pending::overdue;
 use crate::records::{InflightKind, RelayCircuit, RelayPending};
 use crate::runtime::OpaqueRelayRuntime;
-use crate::tables::lookup::PendingFound;
+use crate::tables::lookup::Found;
 use crate::tables::scan::{ActionQuestion, InflightTally, Work, WorkQuestion, reservation_work};
 use hnsr_body::accept_body::{AcceptBody, OpenedBody};
 use hnsr_body::layout::Read;
@@ -48,10 +48,7 @@ pub(crate) fn request_answer(
     ensures { result ≡ request_answer found pending peer now }
 {
     check(!found, HnsrRuntimeError::UnknownRequest)?;
-    check(
-        !same_peer(pending.endpoint, peer),
-        HnsrRuntimeError::WrongPeer,
-    )?;
+    check(pending.endpoint != peer, HnsrRuntimeError::WrongPeer)?;
     check(overdue(now, pending), HnsrRuntimeError::InvalidAdmission)
 }
 
@@ -72,21 +69,21 @@ pub(crate) fn accept_limit(
 
 // The rows that go by the packet and its pending record alone: 13, 15, 11 and 1.
 pub(crate) fn accept_entry(
-    found: PendingFound,
+    found: Found<RelayPending>,
     peer: HnsrPeerId,
     now: u64,
     read: Read<AcceptBody>,
 ) -> HnsrAnswer
-    ensures { result ≡ (request_answer found.found found.pending peer now then body_answer read.result) }
+    ensures { result ≡ (request_answer found.found found.row peer now then body_answer read.result) }
 {
-    request_answer(found.found, found.pending, peer, now)?;
+    request_answer(found.found, found.row, peer, now)?;
     body_answer(read.result)
 }
 
 // All rows of ACCEPT, in order.
 pub(crate) fn accept_rows(
     config: OpaqueRelayConfig,
-    found: PendingFound,
+    found: Found<RelayPending>,
     peer: HnsrPeerId,
     now: u64,
     read: Read<AcceptBody>,
@@ -96,7 +93,7 @@ pub(crate) fn accept_rows(
 ) -> HnsrAnswer
     ensures { result ≡ accept_rows config found peer now read waiting running tally }
 {
-    let pending = found.pending;
+    let pending = found.row;
     let body = read.body;
     request_answer(found.found, pending, peer, now)?;
     body_answer(read.result)?;
@@ -112,32 +109,27 @@ pub(crate) fn accept_rows(
 }
 
 // What ACCEPT asks of all records: the work of the ticket's reservation.
-pub(crate) fn accept_work(found: PendingFound) -> WorkQuestion
+pub(crate) fn accept_work(found: Found<RelayPending>) -> WorkQuestion
     ensures { result ≡ accept_work found }
 {
-    let pending = found.pending;
-    let peer = pending.requester;
-    let ticket = pending.ticket;
-    let reservation = ticket.reservation_id;
+    let pending = found.row;
     WorkQuestion {
-        peer,
-        other: peer,
-        reservation,
+        peer: pending.requester,
+        other: pending.requester,
+        reservation: pending.ticket.reservation_id,
         context: 0,
         id: pending.circuit_id,
     }
 }
 
 // What ACCEPT asks of the actions before it drops its own.
-pub(crate) fn replacing(found: PendingFound, id: u64) -> ActionQuestion
+pub(crate) fn replacing(found: Found<RelayPending>, id: u64) -> ActionQuestion
     ensures { result ≡ replacing found id }
 {
-    let pending = found.pending;
-    let peer = pending.requester;
     ActionQuestion {
         replacing: true,
         circuit_id: id,
-        peer,
+        peer: found.row.requester,
         generation: 0,
         sequence: 0,
     }
@@ -146,23 +138,20 @@ pub(crate) fn replacing(found: PendingFound, id: u64) -> ActionQuestion
 // The circuit as it begins (ACCEPT.10).
 pub(crate) fn circuit_for(
     config: OpaqueRelayConfig,
-    found: PendingFound,
+    found: Found<RelayPending>,
     read: Read<AcceptBody>,
 ) -> RelayCircuit
-    ensures { result ≡ circuit_for config found.pending read.body }
+    ensures { result ≡ circuit_for config found.row read.body }
 {
-    let pending = found.pending;
+    let pending = found.row;
     let body = read.body;
     let ticket = pending.ticket;
-    let requester = pending.requester;
-    let endpoint = pending.endpoint;
-    let reservation_id = ticket.reservation_id;
     RelayCircuit {
         used: true,
         circuit_id: pending.circuit_id,
-        requester,
-        endpoint,
-        reservation_id,
+        requester: pending.requester,
+        endpoint: pending.endpoint,
+        reservation_id: ticket.reservation_id,
         expires_at: ticket.expires_at,
         maximum_bytes: ticket
             .max_bytes_per_circuit
@@ -188,24 +177,23 @@ pub struct AcceptPlan {
 
 pub(crate) fn accept_plan(
     runtime: OpaqueRelayRuntime,
-    found: PendingFound,
+    found: Found<RelayPending>,
     read: Read<AcceptBody>,
 ) -> AcceptPlan
     ensures { result ≡ accept_plan runtime found read }
 {
-    let pending = found.pending;
+    let pending = found.row;
     let body = read.body;
     let id = pending.circuit_id;
-    let counted = runtime.accepted();
-    let destination = pending.requester;
-    let nonce = body.endpoint_nonce;
+    // an array is copied to a variable before a literal holds it
+    let endpoint_nonce = body.endpoint_nonce;
     let opened = OpenedBody {
         circuit_id: id,
         accepted_window: body.accepted_window,
-        endpoint_nonce: nonce,
+        endpoint_nonce,
     };
     let message = Outgoing {
-        destination,
+        destination: pending.requester,
         circuit_id: id,
         opcode: OPENED,
         context_id: pending.requester_context,
@@ -216,7 +204,7 @@ pub(crate) fn accept_plan(
     AcceptPlan {
         place: found.place,
         id,
-        runtime: counted,
+        runtime: runtime.accepted(),
         message,
         opened,
     }

@@ -7,10 +7,10 @@ ghost use Rattle.hnsr_circuit.specs.Code.Plans.{close_rows, close_id, close_mess
 use crate::answer::{HnsrAnswer, HnsrRuntimeError, body_answer, check};
 use crate::messages::message::{circuit_answer, closing, passed_on};
 use crate::output::queue::Outgoing;
-use crate::peer::{HnsrPeerId, same_peer};
-use crate::records::{InflightKind, RelayPending};
+use crate::peer::HnsrPeerId;
+use crate::records::{InflightKind, RelayCircuit, RelayPending};
 use crate::runtime::{OpaqueRelayRuntime, RelayPacket};
-use crate::tables::lookup::{CircuitFound, PendingFound};
+use crate::tables::lookup::Found;
 use hnsr_body::detail_body::ReasonDetail;
 use hnsr_body::layout::Read;
 
@@ -30,13 +30,13 @@ pub(crate) fn close_answer(matches: usize, circuit: HnsrAnswer) -> HnsrAnswer
 pub(crate) fn close_rows(
     read: Read<ReasonDetail>,
     matches: usize,
-    named: CircuitFound,
+    named: Found<RelayCircuit>,
     peer: HnsrPeerId,
 ) -> HnsrAnswer
     ensures { result ≡ close_rows read matches named peer }
 {
     body_answer(read.result)?;
-    let own = circuit_answer(named.found, named.circuit, peer);
+    let own = circuit_answer(named.found, named.row, peer);
     close_answer(matches, own)
 }
 
@@ -48,51 +48,48 @@ pub(crate) fn translated_on(
 ) -> Outgoing
     ensures { result ≡ translated_on packet pending peer }
 {
-    let requester = pending.requester;
-    let endpoint = pending.endpoint;
-    if same_peer(requester, peer) {
-        return closing(
-            endpoint,
+    if pending.requester == peer {
+        closing(
+            pending.endpoint,
             pending.circuit_id,
             packet.opcode,
             pending.circuit_id,
-        );
+        )
+    } else {
+        closing(
+            pending.requester,
+            pending.circuit_id,
+            packet.opcode,
+            pending.requester_context,
+        )
     }
-    closing(
-        requester,
-        pending.circuit_id,
-        packet.opcode,
-        pending.requester_context,
-    )
 }
 
 // ---- of the pending record where there is one, else of the circuit
 
-fn close_id(packet: RelayPacket, waiting: PendingFound) -> u64
+fn close_id(packet: RelayPacket, waiting: Found<RelayPending>) -> u64
     ensures { result ≡ close_id packet waiting }
 {
-    let pending = waiting.pending;
     if waiting.found {
-        return pending.circuit_id;
+        waiting.row.circuit_id
+    } else {
+        packet.context_id
     }
-    packet.context_id
 }
 
 fn close_message(
     packet: RelayPacket,
-    waiting: PendingFound,
-    named: CircuitFound,
+    waiting: Found<RelayPending>,
+    named: Found<RelayCircuit>,
     peer: HnsrPeerId,
 ) -> Outgoing
     ensures { result ≡ close_message packet waiting named peer }
 {
-    let pending = waiting.pending;
-    let translated = translated_on(packet, pending, peer);
-    let forwarded = passed_on(packet, named, peer, InflightKind::Close);
     if waiting.found {
-        return translated;
+        translated_on(packet, waiting.row, peer)
+    } else {
+        passed_on(packet, named, peer, InflightKind::Close)
     }
-    forwarded
 }
 
 // What a taken CLOSE or ERROR does: whether it ends a pending record, else a circuit, and the place of each; under
@@ -112,22 +109,19 @@ pub(crate) fn close_plan(
     packet: RelayPacket,
     read: Read<ReasonDetail>,
     matches: usize,
-    waiting: PendingFound,
-    named: CircuitFound,
+    waiting: Found<RelayPending>,
+    named: Found<RelayCircuit>,
     peer: HnsrPeerId,
 ) -> Result<ClosePlan, HnsrRuntimeError>
     ensures { result ≡ close_plan runtime packet read matches waiting named peer }
 {
     close_rows(read, matches, named, peer)?;
-    let counted = runtime.revoked();
-    let id = close_id(packet, waiting);
-    let message = close_message(packet, waiting, named, peer);
     Ok(ClosePlan {
         ends_pending: waiting.found,
         pending_place: waiting.place,
         circuit_place: named.place,
-        id,
-        runtime: counted,
-        message,
+        id: close_id(packet, waiting),
+        runtime: runtime.revoked(),
+        message: close_message(packet, waiting, named, peer),
     })
 }

@@ -11,11 +11,11 @@ use crate::config::OpaqueRelayConfig;
 use crate::messages::message::circuit_answer;
 use crate::output::queue::Outgoing;
 use crate::peer::HnsrPeerId;
-use crate::records::circuits::{credit_of, other_side, queued_to, side_of};
+use crate::records::circuits::{credit_of, queued_to, side_of};
 use crate::records::inflight::capacity_answer;
 use crate::records::{RelayCircuit, RelaySide, ReservationUsage};
 use crate::runtime::OpaqueRelayRuntime;
-use crate::tables::lookup::{CircuitFound, UsageFound};
+use crate::tables::lookup::Found;
 use crate::tables::scan::{ActionScan, InflightTally};
 use hnsr_body::data_body::DataBody;
 
@@ -48,7 +48,7 @@ pub(crate) fn flow_answer(
     ensures { result ≡ flow_answer config circuit side n }
 {
     let credit = credit_of(side, circuit) as usize;
-    let queued = queued_to(other_side(side), circuit);
+    let queued = queued_to(side.other(), circuit);
     check(
         credit < n || config.maximum_queue_bytes < queued.saturating_add(n),
         HnsrRuntimeError::FlowControl,
@@ -56,29 +56,29 @@ pub(crate) fn flow_answer(
 }
 
 // The rows that go by the packet and its circuit alone: 1, 14 and 15.
-pub(crate) fn data_entry(named: CircuitFound, peer: HnsrPeerId, n: usize) -> HnsrAnswer
-    ensures { result ≡ (body_answer (data_checked n) then circuit_answer named.found named.circuit peer) }
+pub(crate) fn data_entry(named: Found<RelayCircuit>, peer: HnsrPeerId, n: usize) -> HnsrAnswer
+    ensures { result ≡ (body_answer (data_checked n) then circuit_answer named.found named.row peer) }
 {
     body_answer(DataBody::check(n))?;
-    circuit_answer(named.found, named.circuit, peer)
+    circuit_answer(named.found, named.row, peer)
 }
 
 // The rows in order.
 pub(crate) fn data_rows(
     config: OpaqueRelayConfig,
-    named: CircuitFound,
-    booked: UsageFound,
+    named: Found<RelayCircuit>,
+    booked: Found<ReservationUsage>,
     tally: InflightTally,
     peer: HnsrPeerId,
     n: usize,
 ) -> HnsrAnswer
     ensures { result ≡ data_rows config named booked tally peer n }
 {
-    let circuit = named.circuit;
+    let circuit = named.row;
     body_answer(DataBody::check(n))?;
     circuit_answer(named.found, circuit, peer)?;
     capacity_answer(config, tally)?;
-    bytes_answer(booked.found, booked.usage, circuit, n as u64)?;
+    bytes_answer(booked.found, booked.row, circuit, n as u64)?;
     flow_answer(config, circuit, side_of(peer, circuit), n)
 }
 
@@ -96,8 +96,8 @@ pub struct DataPlan {
 
 pub(crate) fn data_plan(
     runtime: OpaqueRelayRuntime,
-    named: CircuitFound,
-    booked: UsageFound,
+    named: Found<RelayCircuit>,
+    booked: Found<ReservationUsage>,
     scan: ActionScan,
     peer: HnsrPeerId,
     message: Outgoing,
@@ -106,7 +106,7 @@ pub(crate) fn data_plan(
     ensures { result ≡ data_plan runtime named booked scan peer message n }
 {
     data_rows(runtime.config, named, booked, scan.tally, peer, n)?;
-    let side = side_of(peer, named.circuit);
+    let side = side_of(peer, named.row);
     let counted = runtime.transferred(n as u64);
     Ok(DataPlan {
         place: named.place,

@@ -21,13 +21,14 @@ use crate::messages::accept::{
 };
 use crate::output::queue::{asking, send};
 use crate::records::{InflightAction, RelayCircuit, RelayPending};
-use crate::runtime::{Relayed, Request, refused};
-use crate::tables::circuits::circuit_work;
+use crate::runtime::{Relayed, Request};
 use crate::tables::inflight::{drop_and_scan, scan_actions};
-use crate::tables::lookup::{PendingFound, found_unmarked, pending_by_id};
-use crate::tables::pending::{pending_work, set_pending};
+use crate::tables::lookup::{Found, look_up};
 use crate::tables::places::{Places, with_circuits};
+use crate::tables::question::ById;
+use crate::tables::record::TableRecord;
 use crate::tables::stores::put_circuit;
+use crate::tables::table::{set, work};
 use hnsr_body::accept_body::AcceptBody;
 use hnsr_body::layout::Read;
 
@@ -37,18 +38,18 @@ pub(crate) fn accept_answered(
     circuits: &[RelayCircuit],
     inflight: &[InflightAction],
     request: Request,
-    found: PendingFound,
+    found: Found<RelayPending>,
     read: Read<AcceptBody>,
 ) -> HnsrAnswer
     ensures { result ≡ accept_rows request.runtime.config found request.peer request.packet.now read
         (pending_work (accept_work found) (held_pending request.places pending.now))
         (circuit_work (accept_work found) (held_circuits request.places circuits.now))
-        (tallied true request.packet.context_id found.pending.requester
+        (tallied true request.packet.context_id found.row.requester
         (held_actions request.places inflight.now)) }
 {
     let question = accept_work(found);
-    let waiting = pending_work(pending, request.places, question);
-    let running = circuit_work(circuits, request.places, question);
+    let waiting = work(pending, request.places.pending, &question);
+    let running = work(circuits, request.places.circuits, &question);
     let asked = replacing(found, request.packet.context_id);
     let scan = scan_actions(inflight, request.places, asked);
     let tally = scan.tally;
@@ -79,7 +80,7 @@ pub(crate) fn accept_written(
         × (held clear_circuit result circuits.new
         ≡ put is_circuit (circuit_at plan.id) circuit (held_circuits places circuits.old)) }
 {
-    set_pending(pending, true, plan.place, unmarked);
+    set(pending, true, plan.place, unmarked);
     put_circuit(circuits, places, true, plan.id, circuit)
 }
 
@@ -91,7 +92,7 @@ pub(crate) fn accept_found(
     inflight: &mut [InflightAction],
     out: &mut [u32],
     request: Request,
-    found: PendingFound,
+    found: Found<RelayPending>,
     read: Read<AcceptBody>,
 ) -> Relayed
     ensures { (l : List ReservationUsage) (source body e rs : List ℕ) → request.peer ≡ peer_of source
@@ -104,22 +105,23 @@ pub(crate) fn accept_found(
         (packet_of request.packet source body e rs)) }
 {
     let places = request.places;
-    let answer = accept_answered(pending, circuits, inflight, request, found, read);
-    if answer.is_ok() {
-        let plan = accept_plan(request.runtime, found, read);
-        let row = found_unmarked(found);
-        let circuit = circuit_for(request.runtime.config, found, read);
-        let counted = plan.runtime;
-        let message = plan.message;
-        let opened = plan.opened;
-        let asked = asking(counted, message);
-        let number = accept_written(pending, circuits, places, plan, row, circuit);
-        let after = with_circuits(places, number);
-        let scan = drop_and_scan(inflight, places, plan.id, asked);
-        let bytes = opened.to_bytes();
-        return send(inflight, out, Ok(()), counted, after, message, scan, &bytes);
+    match accept_answered(pending, circuits, inflight, request, found, read) {
+        Ok(()) => {
+            let plan = accept_plan(request.runtime, found, read);
+            let row = found.row.unmarked();
+            let circuit = circuit_for(request.runtime.config, found, read);
+            let counted = plan.runtime;
+            let message = plan.message;
+            let opened = plan.opened;
+            let asked = asking(counted, message);
+            let number = accept_written(pending, circuits, places, plan, row, circuit);
+            let after = with_circuits(places, number);
+            let scan = drop_and_scan(inflight, places, plan.id, asked);
+            let bytes = opened.to_bytes();
+            send(inflight, out, counted, after, message, scan, &bytes)
+        }
+        Err(error) => Relayed::refused(request.runtime, places, error),
     }
-    refused(request.runtime, places, answer)
 }
 
 pub(crate) fn handle_accept(
@@ -136,11 +138,11 @@ pub(crate) fn handle_accept(
         (handle_accept (world_given request pending.old circuits.old l inflight.old)
         (packet_of request.packet source body.now e rs)) }
 {
-    let found = pending_by_id(pending, request.places, request.packet.context_id);
+    let id = request.packet.context_id;
+    let found = look_up(pending, request.places.pending, &ById { id });
     let read = AcceptBody::decode(body);
-    let entered = accept_entry(found, request.peer, request.packet.now, read);
-    if entered.is_ok() {
-        return accept_found(pending, circuits, inflight, out, request, found, read);
+    match accept_entry(found, request.peer, request.packet.now, read) {
+        Ok(()) => accept_found(pending, circuits, inflight, out, request, found, read),
+        Err(error) => Relayed::refused(request.runtime, request.places, error),
     }
-    refused(request.runtime, request.places, entered)
 }

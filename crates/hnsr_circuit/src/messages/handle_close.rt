@@ -12,11 +12,11 @@ use crate::answer::{HnsrRuntimeError, body_answer};
 use crate::messages::close::{ClosePlan, close_plan};
 use crate::output::queue::{asking, send};
 use crate::records::{InflightAction, RelayCircuit, RelayPending};
-use crate::runtime::{Relayed, Request, refused};
+use crate::runtime::{Relayed, Request};
 use crate::tables::inflight::drop_and_scan;
-use crate::tables::lookup::{circuit_by_id, look_up_named};
-use crate::tables::pending::count_named;
-use crate::tables::stores::{unmark_circuit, unmark_pending};
+use crate::tables::lookup::look_up;
+use crate::tables::question::{ById, NamedBy};
+use crate::tables::table::{count, unmark};
 use hnsr_body::detail_body::ReasonDetail;
 use hnsr_body::layout::Read;
 
@@ -30,19 +30,15 @@ pub(crate) fn plan_close(
     ensures { result ≡ close_planned_on request.runtime (held_pending request.places pending.now)
         (held_circuits request.places circuits.now) request.packet read request.peer }
 {
-    let matches = count_named(
-        pending,
-        request.places,
-        request.peer,
-        request.packet.context_id,
-    );
-    let waiting = look_up_named(
-        pending,
-        request.places,
-        request.peer,
-        request.packet.context_id,
-    );
-    let circuit = circuit_by_id(circuits, request.places, request.packet.context_id);
+    let places = request.places;
+    let id = request.packet.context_id;
+    let named = NamedBy {
+        peer: request.peer,
+        context: id,
+    };
+    let matches = count(pending, places.pending, &named);
+    let waiting = look_up(pending, places.pending, &named);
+    let circuit = look_up(circuits, places.circuits, &ById { id });
     close_plan(
         request.runtime,
         request.packet,
@@ -75,13 +71,22 @@ pub(crate) fn close_read(
     match plan_close(pending, circuits, request, read) {
         Ok(plan) => {
             let asked = asking(plan.runtime, plan.message);
-            unmark_pending(pending, places, plan.ends_pending, plan.pending_place);
-            unmark_circuit(circuits, places, !plan.ends_pending, plan.circuit_place);
+            unmark(
+                pending,
+                places.pending,
+                plan.ends_pending,
+                plan.pending_place,
+            );
+            unmark(
+                circuits,
+                places.circuits,
+                !plan.ends_pending,
+                plan.circuit_place,
+            );
             let scan = drop_and_scan(inflight, places, plan.id, asked);
             send(
                 inflight,
                 out,
-                Ok(()),
                 plan.runtime,
                 places,
                 plan.message,
@@ -89,7 +94,7 @@ pub(crate) fn close_read(
                 body,
             )
         }
-        Err(error) => refused(request.runtime, places, Err(error)),
+        Err(error) => Relayed::refused(request.runtime, places, error),
     }
 }
 
@@ -110,9 +115,8 @@ pub(crate) fn handle_close(
 {
     let read = ReasonDetail::decode(body);
     let checked = read.result;
-    let entered = body_answer(checked);
-    if entered.is_ok() {
-        return close_read(pending, circuits, inflight, out, request, read, body);
+    match body_answer(checked) {
+        Ok(()) => close_read(pending, circuits, inflight, out, request, read, body),
+        Err(error) => Relayed::refused(request.runtime, request.places, error),
     }
-    refused(request.runtime, request.places, entered)
 }

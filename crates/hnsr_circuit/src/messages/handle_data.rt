@@ -14,10 +14,11 @@ use crate::messages::data::{DataPlan, data_entry, data_plan};
 use crate::messages::message::{data_on, reservation_of};
 use crate::output::queue::{asking, send};
 use crate::records::{InflightAction, RelayCircuit, ReservationUsage};
-use crate::runtime::{Relayed, Request, refused};
+use crate::runtime::{Relayed, Request};
 use crate::tables::circuits::charge_circuit;
 use crate::tables::inflight::scan_actions;
-use crate::tables::lookup::{CircuitFound, circuit_by_id, look_up_usage};
+use crate::tables::lookup::{Found, look_up};
+use crate::tables::question::{ById, ByReservation};
 use crate::tables::stores::spend;
 
 // What a DATA of n bytes does, on the circuit that it names: one pass over each table.
@@ -25,7 +26,7 @@ pub(crate) fn plan_data(
     ledger: &[ReservationUsage],
     inflight: &[InflightAction],
     request: Request,
-    named: CircuitFound,
+    named: Found<RelayCircuit>,
     n: usize,
 ) -> Result<DataPlan, HnsrRuntimeError>
     ensures { result ≡ data_planned_on request.runtime named (held_ledger request.places ledger.now)
@@ -35,7 +36,11 @@ pub(crate) fn plan_data(
     let asked = asking(request.runtime, message);
     let scan = scan_actions(inflight, request.places, asked);
     let reservation = reservation_of(named);
-    let booked = look_up_usage(ledger, request.places, reservation);
+    let booked = look_up(
+        ledger,
+        request.places.ledger,
+        &ByReservation { id: reservation },
+    );
     data_plan(
         request.runtime,
         named,
@@ -54,7 +59,7 @@ pub(crate) fn pass_data(
     inflight: &mut [InflightAction],
     out: &mut [u32],
     request: Request,
-    named: CircuitFound,
+    named: Found<RelayCircuit>,
     body: &[u8],
 ) -> Relayed
     requires { (named ≡ circuit_found (circuit_at request.packet.context_id)
@@ -74,7 +79,6 @@ pub(crate) fn pass_data(
             send(
                 inflight,
                 out,
-                Ok(()),
                 plan.runtime,
                 request.places,
                 plan.message,
@@ -82,7 +86,7 @@ pub(crate) fn pass_data(
                 body,
             )
         }
-        Err(error) => refused(request.runtime, request.places, Err(error)),
+        Err(error) => Relayed::refused(request.runtime, request.places, error),
     }
 }
 
@@ -102,10 +106,10 @@ pub(crate) fn handle_data(
         (handle_data (world_given request p circuits.old ledger.old inflight.old)
         (packet_of request.packet source body.now e rs)) }
 {
-    let named = circuit_by_id(circuits, request.places, request.packet.context_id);
-    let entered = data_entry(named, request.peer, body.len());
-    if entered.is_ok() {
-        return pass_data(circuits, ledger, inflight, out, request, named, body);
+    let id = request.packet.context_id;
+    let named = look_up(circuits, request.places.circuits, &ById { id });
+    match data_entry(named, request.peer, body.len()) {
+        Ok(()) => pass_data(circuits, ledger, inflight, out, request, named, body),
+        Err(error) => Relayed::refused(request.runtime, request.places, error),
     }
-    refused(request.runtime, request.places, entered)
 }

@@ -7,7 +7,7 @@ ghost use Rattle.hnsr_circuit.specs.Ledger.{usage_of};
 ghost use Rattle.hnsr_circuit.specs.Code.Held.{held_pending, held_circuits, held_ledger};
 ghost use Rattle.hnsr_circuit.specs.Code.Held.{held_actions, world_seen, world_given, handed_seen};
 ghost use Rattle.hnsr_circuit.specs.Code.Turns.{actions_scanned};
-ghost use Rattle.hnsr_circuit.specs.Draw.{undrawn, draws, draw_all};
+ghost use Rattle.hnsr_circuit.specs.Draw.{draws, draw_all};
 ghost use Rattle.hnsr_circuit.specs.Peer.{peer_of};
 ghost use Rattle.hnsr_circuit.specs.Code.Progress.{packet_of, asking, ending};
 ghost use Rattle.hnsr_circuit.specs.Open.{open_booked, open_lapsed, handle_open};
@@ -17,23 +17,22 @@ ghost use Rattle.hnsr_circuit.specs.declared.records.RelayCircuit.{RelayCircuit}
 ghost use Rattle.hnsr_circuit.specs.declared.runtime.RelayPacket.{RelayPacket};
 ghost use Rattle.hnsr_circuit.specs.declared.records.ReservationUsage.{ReservationUsage};
 
-use crate::messages::draw::{Drawing, draw_at, draw_turn, either_found, first_draw, undrawn};
+use crate::messages::draw::{DRAW_BYTES, MOST_DRAWS, draw_number, first_draw};
 use crate::messages::open::{
-    OpenGathered, OpenPlan, booked_place, booked_usage, incoming_for, incoming_out, known_taken,
-    open_gathering, open_plan, open_rows, open_work, pending_for, placed_entry, placed_rows,
+    OpenGathered, OpenPlan, booked_place, booked_usage, open_rows, placed_entry, placed_rows,
 };
 use crate::output::queue::{asking, send};
-use crate::peer::peer_of;
+use crate::peer::HnsrPeerId;
 use crate::records::ledger::usage_answer;
 use crate::records::{InflightAction, RelayCircuit, RelayPending, ReservationUsage};
-use crate::runtime::{OpaqueRelayRuntime, Relayed, Request, refused};
-use crate::tables::circuits::{circuit_work, find_circuit_id};
+use crate::runtime::{OpaqueRelayRuntime, Relayed, Request};
 use crate::tables::inflight::scan_actions;
-use crate::tables::ledger::{drop_lapsed, scan_ledger, set_usage};
-use crate::tables::pending::{find_pending_id, pending_work};
+use crate::tables::ledger::{drop_lapsed, scan_ledger};
 use crate::tables::places::{Places, raised, with_ledger, with_pending};
-use crate::tables::scan::ActionScan;
+use crate::tables::question::ById;
+use crate::tables::scan::{ActionScan, WorkQuestion};
 use crate::tables::stores::put_pending;
+use crate::tables::table::{find, set, work};
 use hnsr_body::open_body::OpenBody;
 
 // Whether an id is a pending record's or a circuit's; of one id it is known.
@@ -51,12 +50,12 @@ pub(crate) fn id_taken(
     if id == first {
         return known;
     }
-    let waiting = find_pending_id(pending, places, id);
-    let running = find_circuit_id(circuits, places, id);
-    either_found(waiting, pending.len(), running, circuits.len())
+    let waiting = find(pending, places.pending, &ById { id });
+    let running = find(circuits, places.circuits, &ById { id });
+    waiting < pending.len() || running < circuits.len()
 }
 
-// The draws in order, until one ends the drawing (DRAW.1 to DRAW.5).
+// The draws in order, by eight bytes while so many are left, until one ends the drawing (DRAW.1 to DRAW.5).
 pub(crate) fn draw(
     pending: &[RelayPending],
     circuits: &[RelayCircuit],
@@ -64,23 +63,33 @@ pub(crate) fn draw(
     random: &[u8],
     first: u64,
     known: bool,
-) -> Drawing
+) -> Option<u64>
     requires { known ≡ is_taken (held_pending places pending.now) (held_circuits places circuits.now) first }
     ensures { result ≡ draw_all (is_taken (held_pending places pending.now) (held_circuits places circuits.now))
-        undrawn (draws random.now) }
+        0 0 (draws random.now) }
 {
-    let mut drawing = undrawn();
-    let mut place: usize = 0;
-    while 8 <= random.len() - place {
-        if drawing.ended {
-            return drawing;
+    let mut zeros: u8 = 0;
+    let mut candidates: u8 = 0;
+    let mut rest = random;
+    'draws: while let Some((bytes, left)) = rest.split_first_chunk::<DRAW_BYTES>() {
+        let id = draw_number(*bytes);
+        if id == 0 {
+            zeros += 1;
+            if MOST_DRAWS <= zeros {
+                return None;
+            }
+        } else if id_taken(pending, circuits, places, first, known, id) {
+            zeros = 0;
+            candidates += 1;
+            if MOST_DRAWS <= candidates {
+                return None;
+            }
+        } else {
+            return Some(id);
         }
-        let id = draw_at(random, place);
-        let taken = id_taken(pending, circuits, places, first, known, id);
-        drawing = draw_turn(drawing, id, taken);
-        place += 8;
+        rest = left;
     }
-    drawing
+    None
 }
 
 // What an OPEN comes with.
@@ -96,21 +105,25 @@ pub(crate) fn gather(
         random.now (held_pending request.places pending.now)
         (held_circuits request.places circuits.now) }
 {
-    let other = peer_of(endpoint);
+    let other = HnsrPeerId::new(endpoint);
     let read = OpenBody::decode(body, request.packet.key_valid);
-    let first = first_draw(random);
-    let question = open_work(request.packet, request.peer, other, read, first);
-    let waiting = pending_work(pending, request.places, question);
-    let running = circuit_work(circuits, request.places, question);
-    open_gathering(
-        request.packet,
-        request.peer,
+    // the work of both peers and of the reservation, whether it repeats one, and whether its first draw is an id
+    let question = WorkQuestion {
+        peer: request.peer,
         other,
-        endpoint.len(),
+        reservation: read.body.reservation_id,
+        context: request.packet.context_id,
+        id: first_draw(random),
+    };
+    OpenGathered {
+        packet: request.packet,
+        requester: request.peer,
+        endpoint: other,
+        size: endpoint.len(),
         read,
-        waiting,
-        running,
-    )
+        waiting: work(pending, request.places.pending, &question),
+        running: work(circuits, request.places.circuits, &question),
+    }
 }
 
 // The last stage: the ledger record stands; the pending record is written, under an id that no record has, and INCOMING
@@ -134,18 +147,19 @@ pub(crate) fn open_booked(
         (open_booked (world_seen runtime places pending.old c l inflight.old) (opening_of plan)) }
 {
     let ticket = plan.ticket;
-    let answer = usage_answer(ticket, usage);
-    if answer.is_ok() {
-        let row = pending_for(plan);
-        let number = put_pending(pending, places, row);
-        let after = with_pending(places, number);
-        let counted = runtime.opened();
-        let message = incoming_out(plan);
-        let incoming = incoming_for(plan);
-        let bytes = incoming.to_bytes();
-        return send(inflight, out, answer, counted, after, message, scan, &bytes);
+    match usage_answer(ticket, usage) {
+        Ok(()) => {
+            let row = plan.pending_for();
+            let number = put_pending(pending, places, row);
+            let after = with_pending(places, number);
+            let counted = runtime.opened();
+            let message = plan.incoming_out();
+            let incoming = plan.incoming_for();
+            let bytes = incoming.to_bytes();
+            send(inflight, out, counted, after, message, scan, &bytes)
+        }
+        Err(error) => Relayed::refused(runtime, places, error),
     }
-    refused(runtime, places, answer)
 }
 
 // The second stage, past the rows that ask nothing of actions and ledger: the ledger record that is found stays as it
@@ -158,15 +172,15 @@ pub(crate) fn open_placed(
     runtime: OpaqueRelayRuntime,
     places: Places,
     gathered: OpenGathered,
-    drawing: Drawing,
+    drawn: Option<u64>,
     plan: OpenPlan,
 ) -> Relayed
     ensures { (c : List RelayCircuit) (q : RelayPacket) (source body endpoint rs : List ℕ)
         → gathered ≡ gathering q (peer_of source) body endpoint rs (held_pending places pending.old)
         (held_circuits places c)
-        → drawing ≡ draw_all (is_taken (held_pending places pending.old) (held_circuits places c))
-        undrawn (draws rs)
-        → plan ≡ open_plan runtime.config gathered drawing
+        → drawn ≡ draw_all (is_taken (held_pending places pending.old) (held_circuits places c))
+        0 0 (draws rs)
+        → plan ≡ open_plan runtime.config gathered drawn
         → handed_seen result pending.new c ledger.new inflight.new out.new
         ≡ ending out.old
         (open_lapsed (world_seen runtime places pending.old c ledger.old inflight.old)
@@ -176,20 +190,21 @@ pub(crate) fn open_placed(
     let config = runtime.config;
     let ticket = plan.ticket;
     let id = ticket.reservation_id;
-    let message = incoming_out(plan);
+    let message = plan.incoming_out();
     let question = asking(runtime, message);
     let scan = scan_actions(inflight, places, question);
     let booked = scan_ledger(ledger, places, id);
-    let answer = placed_rows(config, gathered, plan, drawing, scan, booked);
-    if answer.is_ok() {
-        let row = booked_usage(booked, ticket);
-        let place = booked_place(booked);
-        set_usage(ledger, true, place, row);
-        let number = raised(places.ledger, true, place, size);
-        let after = with_ledger(places, number);
-        return open_booked(pending, inflight, out, runtime, after, plan, row, scan);
+    match placed_rows(config, gathered, plan, drawn, scan, booked) {
+        Ok(()) => {
+            let row = booked_usage(booked, ticket);
+            let place = booked_place(booked);
+            set(ledger, true, place, row);
+            let number = raised(places.ledger, true, place, size);
+            let after = with_ledger(places, number);
+            open_booked(pending, inflight, out, runtime, after, plan, row, scan)
+        }
+        Err(error) => Relayed::refused(runtime, places, error),
     }
-    refused(runtime, places, answer)
 }
 
 // The second stage: ledger records past their expiry are dropped.
@@ -217,16 +232,15 @@ pub(crate) fn open_lapsed(
 {
     let config = runtime.config;
     let first = first_draw(random);
-    let known = known_taken(gathered);
-    let drawing = draw(pending, circuits, places, random, first, known);
-    let plan = open_plan(config, gathered, drawing);
-    let entered = placed_entry(config, gathered, plan, drawing);
-    if entered.is_ok() {
-        return open_placed(
-            pending, ledger, inflight, out, runtime, places, gathered, drawing, plan,
-        );
+    let known = gathered.known_taken();
+    let drawn = draw(pending, circuits, places, random, first, known);
+    let plan = gathered.open_plan(config, drawn);
+    match placed_entry(config, gathered, plan, drawn) {
+        Ok(()) => open_placed(
+            pending, ledger, inflight, out, runtime, places, gathered, drawn, plan,
+        ),
+        Err(error) => Relayed::refused(runtime, places, error),
     }
-    refused(runtime, places, entered)
 }
 
 // What the tables as lent refuse costs no pass over ledger and actions.
@@ -252,12 +266,13 @@ pub(crate) fn handle_open(
     let runtime = request.runtime;
     let places = request.places;
     let gathered = gather(pending, circuits, request, body, endpoint, random);
-    let answer = open_rows(runtime.config, gathered);
-    if answer.is_ok() {
-        drop_lapsed(ledger, places, request.packet.now);
-        return open_lapsed(
-            pending, circuits, ledger, inflight, out, runtime, places, gathered, random,
-        );
+    match open_rows(runtime.config, gathered) {
+        Ok(()) => {
+            drop_lapsed(ledger, places, request.packet.now);
+            open_lapsed(
+                pending, circuits, ledger, inflight, out, runtime, places, gathered, random,
+            )
+        }
+        Err(error) => Relayed::refused(runtime, places, error),
     }
-    refused(runtime, places, answer)
 }

@@ -16,9 +16,10 @@ use crate::messages::message::passed_on;
 use crate::messages::window::{WindowPlan, window_entry, window_plan};
 use crate::output::queue::{asking, send};
 use crate::records::{InflightAction, InflightKind, RelayCircuit};
-use crate::runtime::{Relayed, Request, refused};
+use crate::runtime::{Relayed, Request};
 use crate::tables::inflight::scan_actions;
-use crate::tables::lookup::{CircuitFound, circuit_by_id};
+use crate::tables::lookup::{Found, look_up};
+use crate::tables::question::ById;
 use crate::tables::stores::raise_circuit;
 use hnsr_body::data_body::WindowBody;
 use hnsr_body::layout::Read;
@@ -28,7 +29,7 @@ pub(crate) fn plan_window(
     inflight: &[InflightAction],
     request: Request,
     read: Read<WindowBody>,
-    named: CircuitFound,
+    named: Found<RelayCircuit>,
 ) -> Result<WindowPlan, HnsrRuntimeError>
     ensures { result ≡ window_planned_on request.runtime read named (held_actions request.places inflight.now)
         request.packet request.peer }
@@ -54,7 +55,7 @@ pub(crate) fn pass_window(
     out: &mut [u32],
     request: Request,
     read: Read<WindowBody>,
-    named: CircuitFound,
+    named: Found<RelayCircuit>,
     body: &[u8],
 ) -> Relayed
     requires { (named ≡ circuit_found (circuit_at request.packet.context_id)
@@ -80,7 +81,6 @@ pub(crate) fn pass_window(
             send(
                 inflight,
                 out,
-                Ok(()),
                 request.runtime,
                 request.places,
                 plan.message,
@@ -88,7 +88,7 @@ pub(crate) fn pass_window(
                 body,
             )
         }
-        Err(error) => refused(request.runtime, request.places, Err(error)),
+        Err(error) => Relayed::refused(request.runtime, request.places, error),
     }
 }
 
@@ -108,10 +108,10 @@ pub(crate) fn handle_window(
         (packet_of request.packet source body.now e rs)) }
 {
     let read = WindowBody::decode(body);
-    let named = circuit_by_id(circuits, request.places, request.packet.context_id);
-    let entered = window_entry(read, named, request.peer);
-    if entered.is_ok() {
-        return pass_window(circuits, inflight, out, request, read, named, body);
+    let id = request.packet.context_id;
+    let named = look_up(circuits, request.places.circuits, &ById { id });
+    match window_entry(read, named, request.peer) {
+        Ok(()) => pass_window(circuits, inflight, out, request, read, named, body),
+        Err(error) => Relayed::refused(request.runtime, request.places, error),
     }
-    refused(request.runtime, request.places, entered)
 }

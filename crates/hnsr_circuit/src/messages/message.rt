@@ -6,11 +6,10 @@ ghost use Rattle.hnsr_circuit.specs.Code.Message.{passed_on, data_on, close_on};
 use crate::answer::{HnsrAnswer, HnsrRuntimeError, check};
 use crate::output::queue::Outgoing;
 use crate::peer::HnsrPeerId;
-use crate::records::circuits::{is_side, other_side, receiver, side_of};
-use crate::records::inflight::to_endpoint;
+use crate::records::circuits::{is_side, receiver, side_of};
 use crate::records::{InflightKind, RelayCircuit};
 use crate::runtime::RelayPacket;
-use crate::tables::lookup::CircuitFound;
+use crate::tables::lookup::Found;
 use hnsr_body::values::ReservationId;
 
 // 14, 15 (DATA.2, DATA.3 and their like): no such circuit, or the sender is no side of it
@@ -25,16 +24,14 @@ pub(crate) fn circuit_answer(found: bool, circuit: RelayCircuit, peer: HnsrPeerI
 // The packet itself, on to the other side: same opcode and context.
 pub(crate) fn passed_on(
     packet: RelayPacket,
-    named: CircuitFound,
+    named: Found<RelayCircuit>,
     peer: HnsrPeerId,
     kind: InflightKind,
 ) -> Outgoing
-    ensures { result ≡ passed_on packet named.circuit peer kind }
+    ensures { result ≡ passed_on packet named.row peer kind }
 {
-    let circuit = named.circuit;
-    let destination = receiver(circuit, peer);
     Outgoing {
-        destination,
+        destination: receiver(named.row, peer),
         circuit_id: packet.context_id,
         opcode: packet.opcode,
         context_id: packet.context_id,
@@ -67,17 +64,17 @@ pub(crate) fn closing(
 // DATA, with the side that it goes to and its bytes.
 pub(crate) fn data_on(
     packet: RelayPacket,
-    named: CircuitFound,
+    named: Found<RelayCircuit>,
     peer: HnsrPeerId,
     n: usize,
 ) -> Outgoing
-    ensures { result ≡ data_on packet named.circuit peer n }
+    ensures { result ≡ data_on packet named.row peer n }
 {
-    let circuit = named.circuit;
+    let circuit = named.row;
     let destination = receiver(circuit, peer);
     let side = side_of(peer, circuit);
-    let other = other_side(side);
-    let toward = to_endpoint(other);
+    let other = side.other();
+    let toward = other.to_endpoint();
     Outgoing {
         destination,
         circuit_id: packet.context_id,
@@ -90,9 +87,9 @@ pub(crate) fn data_on(
 }
 
 // The reservation of the circuit that a lookup found.
-pub(crate) fn reservation_of(named: CircuitFound) -> ReservationId
-    ensures { result ≡ named.circuit.reservation_id }
+pub(crate) fn reservation_of(named: Found<RelayCircuit>) -> ReservationId
+    ensures { result ≡ named.row.reservation_id }
 {
-    let circuit = named.circuit;
+    let circuit = named.row;
     circuit.reservation_id
 }

@@ -3,21 +3,21 @@ ghost use Rattle.std.specs.Prelude.{◌≡◌, cond, ◌||◌, ◌+◌};
 ghost use Rattle.hnsr_circuit.specs.Ledger.{fresh_usage};
 ghost use Rattle.hnsr_circuit.specs.Open.{open_answer, admission_answer, endpoint_answer};
 ghost use Rattle.hnsr_circuit.specs.Open.{deadline_answer, deadline_for, pending_for, incoming_for};
-ghost use Rattle.hnsr_circuit.specs.Code.Opening.{open_work, open_gathering, open_rows, open_plan};
+ghost use Rattle.hnsr_circuit.specs.Code.Opening.{open_rows, open_plan};
 ghost use Rattle.hnsr_circuit.specs.Code.Opening.{opening_of, incoming_out, placed_rows, placed_entry};
 
 use crate::answer::{HnsrAnswer, HnsrRuntimeError, body_answer, check};
 use crate::config::OpaqueRelayConfig;
 use crate::entry::peer_answer;
-use crate::messages::draw::{Drawing, draw_answer};
+use crate::messages::draw::draw_answer;
 use crate::messages::opcode::INCOMING;
 use crate::output::queue::Outgoing;
-use crate::peer::{HnsrPeerId, same_peer};
+use crate::peer::HnsrPeerId;
 use crate::records::inflight::capacity_answer;
 use crate::records::ledger::{fresh_usage, ledger_answer};
 use crate::records::{InflightKind, RelayPending, RelayTicket, ReservationUsage};
 use crate::runtime::RelayPacket;
-use crate::tables::scan::{ActionScan, LedgerScan, Work, WorkQuestion, reservation_work};
+use crate::tables::scan::{ActionScan, LedgerScan, Work};
 use hnsr_body::error::HnsrProtocolError;
 use hnsr_body::incoming_body::IncomingBody;
 use hnsr_body::layout::Read;
@@ -34,7 +34,7 @@ pub(crate) fn open_answer(
 ) -> HnsrAnswer
     ensures { result ≡ open_answer config pending circuits work repeated }
 {
-    let most = config.maximum_circuits_per_peer as usize;
+    let most = usize::from(config.maximum_circuits_per_peer);
     check(
         config.maximum_pending <= pending
             || config.maximum_circuits <= circuits
@@ -66,8 +66,8 @@ pub(crate) fn endpoint_answer(
 ) -> HnsrAnswer
     ensures { result ≡ endpoint_answer config ticket same work under }
 {
-    let most = config.maximum_circuits_per_peer as usize;
-    let active = ticket.max_active_circuits as usize;
+    let most = usize::from(config.maximum_circuits_per_peer);
+    let active = usize::from(ticket.max_active_circuits);
     check(
         same || most <= work || active <= under,
         HnsrRuntimeError::Capacity,
@@ -94,28 +94,6 @@ pub(crate) fn deadline_for(config: OpaqueRelayConfig, ticket: RelayTicket, now: 
         .min(ticket.expires_at)
 }
 
-// What OPEN asks of all records: the work of both its peers and of its reservation, whether it repeats one, and whether
-// its first draw is an id already.
-pub(crate) fn open_work(
-    packet: RelayPacket,
-    requester: HnsrPeerId,
-    endpoint: HnsrPeerId,
-    read: Read<OpenBody>,
-    id: u64,
-) -> WorkQuestion
-    ensures { result ≡ open_work packet requester endpoint read id }
-{
-    let body = read.body;
-    let reservation = body.reservation_id;
-    WorkQuestion {
-        peer: requester,
-        other: endpoint,
-        reservation,
-        context: packet.context_id,
-        id,
-    }
-}
-
 // What an OPEN comes with: the packet, both peers, the endpoint's length, the body, and the work that there is.
 #[derive(Clone, Copy)]
 pub struct OpenGathered {
@@ -128,36 +106,31 @@ pub struct OpenGathered {
     pub running: Work,
 }
 
-pub(crate) fn open_gathering(
-    packet: RelayPacket,
-    requester: HnsrPeerId,
-    endpoint: HnsrPeerId,
-    size: usize,
-    read: Read<OpenBody>,
-    waiting: Work,
-    running: Work,
-) -> OpenGathered
-    ensures { result ≡ open_gathering packet requester endpoint size read waiting running }
-{
-    OpenGathered {
-        packet,
-        requester,
-        endpoint,
-        size,
-        read,
-        waiting,
-        running,
+impl OpenGathered {
+    // Whether the first draw is a pending record's id or a circuit's.
+    pub(crate) fn known_taken(self) -> bool
+        ensures { result ≡ (self.waiting.holds || self.running.holds) }
+    {
+        self.waiting.holds || self.running.holds
+    }
+
+    pub(crate) fn open_plan(self, config: OpaqueRelayConfig, drawn: Option<u64>) -> OpenPlan
+        ensures { result ≡ open_plan config self drawn }
+    {
+        OpenPlan {
+            requester: self.requester,
+            context: self.packet.context_id,
+            body: self.read.body,
+            endpoint: self.endpoint,
+            ticket: self.packet.ticket,
+            id: drawn.unwrap_or(0),
+            deadline: deadline_for(config, self.packet.ticket, self.packet.now),
+        }
     }
 }
 
-// Whether the first draw is a pending record's id or a circuit's.
-pub(crate) fn known_taken(gathered: OpenGathered) -> bool
-    ensures { result ≡ (gathered.waiting.holds || gathered.running.holds) }
-{
-    gathered.waiting.holds || gathered.running.holds
-}
-
 // The requester's work is its pending records and its circuits.
+#[tactic(auto, using(crate::specs::Laws::Opening::leb_sum), unfolding(crate::specs::Open::open_answer))]
 pub(crate) fn open_limit(config: OpaqueRelayConfig, waiting: Work, running: Work) -> HnsrAnswer
     ensures { result ≡ open_answer config waiting.used running.used (waiting.of_peer + running.of_peer)
         waiting.repeated }
@@ -167,6 +140,7 @@ pub(crate) fn open_limit(config: OpaqueRelayConfig, waiting: Work, running: Work
 }
 
 // The endpoint's work and the reservation's are their pending records and their circuits.
+#[tactic(auto, using(crate::specs::Laws::Opening::leb_sum), unfolding(crate::specs::Open::endpoint_answer))]
 pub(crate) fn endpoint_limit(
     config: OpaqueRelayConfig,
     ticket: RelayTicket,
@@ -178,7 +152,7 @@ pub(crate) fn endpoint_limit(
         (waiting.under + running.under) }
 {
     let work = waiting.of_other.saturating_add(running.of_other);
-    let under = reservation_work(waiting.under, running.under);
+    let under = waiting.under.saturating_add(running.under);
     endpoint_answer(config, ticket, same, work, under)
 }
 
@@ -204,78 +178,50 @@ pub struct OpenPlan {
     pub deadline: u64,
 }
 
-pub(crate) fn open_plan(
-    config: OpaqueRelayConfig,
-    gathered: OpenGathered,
-    drawing: Drawing,
-) -> OpenPlan
-    ensures { result ≡ open_plan config gathered drawing }
-{
-    let packet = gathered.packet;
-    let read = gathered.read;
-    let requester = gathered.requester;
-    let endpoint = gathered.endpoint;
-    let ticket = packet.ticket;
-    let body = read.body;
-    let deadline = deadline_for(config, ticket, packet.now);
-    OpenPlan {
-        requester,
-        context: packet.context_id,
-        body,
-        endpoint,
-        ticket,
-        id: drawing.id,
-        deadline,
+impl OpenPlan {
+    pub(crate) fn pending_for(self) -> RelayPending
+        ensures { result ≡ pending_for (opening_of self) }
+    {
+        RelayPending {
+            used: true,
+            circuit_id: self.id,
+            requester: self.requester,
+            endpoint: self.endpoint,
+            requester_context: self.context,
+            ticket: self.ticket,
+            initial_window: self.body.initial_window,
+            deadline: self.deadline,
+        }
     }
-}
 
-pub(crate) fn pending_for(plan: OpenPlan) -> RelayPending
-    ensures { result ≡ pending_for (opening_of plan) }
-{
-    let requester = plan.requester;
-    let endpoint = plan.endpoint;
-    let ticket = plan.ticket;
-    let body = plan.body;
-    RelayPending {
-        used: true,
-        circuit_id: plan.id,
-        requester,
-        endpoint,
-        requester_context: plan.context,
-        ticket,
-        initial_window: body.initial_window,
-        deadline: plan.deadline,
+    // INCOMING: ticket, profile, nonce and window are the OPEN's.
+    pub(crate) fn incoming_for(self) -> IncomingBody
+        ensures { result ≡ incoming_for (opening_of self) }
+    {
+        // an array is copied to a variable before a literal holds it
+        let ticket_id = self.body.ticket_id;
+        let requester_nonce = self.body.requester_nonce;
+        IncomingBody {
+            ticket_id,
+            open_request_id: self.context,
+            profile: self.body.profile,
+            requester_nonce,
+            initial_window: self.body.initial_window,
+        }
     }
-}
 
-// INCOMING: ticket, profile, nonce and window are the OPEN's.
-pub(crate) fn incoming_for(plan: OpenPlan) -> IncomingBody
-    ensures { result ≡ incoming_for (opening_of plan) }
-{
-    let body = plan.body;
-    let ticket_id = body.ticket_id;
-    let requester_nonce = body.requester_nonce;
-    IncomingBody {
-        ticket_id,
-        open_request_id: plan.context,
-        profile: body.profile,
-        requester_nonce,
-        initial_window: body.initial_window,
-    }
-}
-
-pub(crate) fn incoming_out(plan: OpenPlan) -> Outgoing
-    ensures { result ≡ incoming_out plan }
-{
-    let destination = plan.endpoint;
-    Outgoing {
-        destination,
-        circuit_id: plan.id,
-        opcode: INCOMING,
-        context_id: plan.id,
-        kind: InflightKind::Incoming,
-        to_endpoint: false,
-        bytes: 0,
+    pub(crate) fn incoming_out(self) -> Outgoing
+        ensures { result ≡ incoming_out self }
+    {
+        Outgoing {
+            destination: self.endpoint,
+            circuit_id: self.id,
+            opcode: INCOMING,
+            context_id: self.id,
+            kind: InflightKind::Incoming,
+            to_endpoint: false,
+            bytes: 0,
+        }
     }
 }
 
@@ -284,12 +230,12 @@ pub(crate) fn placed_entry(
     config: OpaqueRelayConfig,
     gathered: OpenGathered,
     plan: OpenPlan,
-    drawing: Drawing,
+    drawn: Option<u64>,
 ) -> HnsrAnswer
-    ensures { result ≡ placed_entry config gathered plan drawing }
+    ensures { result ≡ placed_entry config gathered plan drawn }
 {
     peer_answer(gathered.size)?;
-    let same = same_peer(plan.endpoint, plan.requester);
+    let same = plan.endpoint == plan.requester;
     endpoint_limit(
         config,
         plan.ticket,
@@ -297,7 +243,7 @@ pub(crate) fn placed_entry(
         gathered.waiting,
         gathered.running,
     )?;
-    draw_answer(drawing)
+    draw_answer(drawn)
 }
 
 // The rows of OPEN once ledger records past their expiry are dropped, in order.
@@ -305,22 +251,13 @@ pub(crate) fn placed_rows(
     config: OpaqueRelayConfig,
     gathered: OpenGathered,
     plan: OpenPlan,
-    drawing: Drawing,
+    drawn: Option<u64>,
     scan: ActionScan,
     booked: LedgerScan,
 ) -> HnsrAnswer
-    ensures { result ≡ placed_rows config gathered plan drawing scan booked }
+    ensures { result ≡ placed_rows config gathered plan drawn scan booked }
 {
-    peer_answer(gathered.size)?;
-    let same = same_peer(plan.endpoint, plan.requester);
-    endpoint_limit(
-        config,
-        plan.ticket,
-        same,
-        gathered.waiting,
-        gathered.running,
-    )?;
-    draw_answer(drawing)?;
+    placed_entry(config, gathered, plan, drawn)?;
     capacity_answer(config, scan.tally)?;
     deadline_answer(config, gathered.packet.now)?;
     ledger_answer(booked.found, booked.used, booked.places)
@@ -330,18 +267,19 @@ pub(crate) fn placed_rows(
 pub(crate) fn booked_usage(booked: LedgerScan, ticket: RelayTicket) -> ReservationUsage
     ensures { result ≡ cond booked.found booked.usage (fresh_usage ticket) }
 {
-    let fresh = fresh_usage(ticket);
     if booked.found {
-        return booked.usage;
+        booked.usage
+    } else {
+        fresh_usage(ticket)
     }
-    fresh
 }
 
 pub(crate) fn booked_place(booked: LedgerScan) -> usize
     ensures { result ≡ cond booked.found booked.place booked.spare_place }
 {
     if booked.found {
-        return booked.place;
+        booked.place
+    } else {
+        booked.spare_place
     }
-    booked.spare_place
 }

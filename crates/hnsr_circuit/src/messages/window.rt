@@ -10,10 +10,10 @@ use crate::config::OpaqueRelayConfig;
 use crate::messages::message::circuit_answer;
 use crate::output::queue::Outgoing;
 use crate::peer::HnsrPeerId;
-use crate::records::circuits::{credit_of, other_side, side_of};
+use crate::records::circuits::{credit_of, side_of};
 use crate::records::inflight::capacity_answer;
 use crate::records::{RelayCircuit, RelaySide};
-use crate::tables::lookup::CircuitFound;
+use crate::tables::lookup::Found;
 use crate::tables::scan::{ActionScan, InflightTally};
 use hnsr_body::data_body::WindowBody;
 use hnsr_body::layout::Read;
@@ -24,7 +24,7 @@ use hnsr_body::values::MAX_WINDOW;
 pub(crate) fn credit_answer(circuit: RelayCircuit, side: RelaySide, delta: u32) -> HnsrAnswer
     ensures { result ≡ credit_answer circuit side delta }
 {
-    let other = other_side(side);
+    let other = side.other();
     let credit = credit_of(other, circuit) as u64;
     let after = credit + delta as u64;
     check((MAX_WINDOW as u64) < after, HnsrRuntimeError::FlowControl)
@@ -33,26 +33,26 @@ pub(crate) fn credit_answer(circuit: RelayCircuit, side: RelaySide, delta: u32) 
 // The rows that go by the packet and its circuit alone: 1, 14 and 15.
 pub(crate) fn window_entry(
     read: Read<WindowBody>,
-    named: CircuitFound,
+    named: Found<RelayCircuit>,
     peer: HnsrPeerId,
 ) -> HnsrAnswer
-    ensures { result ≡ (body_answer read.result then circuit_answer named.found named.circuit peer) }
+    ensures { result ≡ (body_answer read.result then circuit_answer named.found named.row peer) }
 {
     body_answer(read.result)?;
-    circuit_answer(named.found, named.circuit, peer)
+    circuit_answer(named.found, named.row, peer)
 }
 
 // The rows in order.
 pub(crate) fn window_rows(
     config: OpaqueRelayConfig,
     read: Read<WindowBody>,
-    named: CircuitFound,
+    named: Found<RelayCircuit>,
     tally: InflightTally,
     peer: HnsrPeerId,
 ) -> HnsrAnswer
     ensures { result ≡ window_rows config read named tally peer }
 {
-    let circuit = named.circuit;
+    let circuit = named.row;
     body_answer(read.result)?;
     circuit_answer(named.found, circuit, peer)?;
     capacity_answer(config, tally)?;
@@ -73,7 +73,7 @@ pub struct WindowPlan {
 pub(crate) fn window_plan(
     config: OpaqueRelayConfig,
     read: Read<WindowBody>,
-    named: CircuitFound,
+    named: Found<RelayCircuit>,
     scan: ActionScan,
     peer: HnsrPeerId,
     message: Outgoing,
@@ -81,7 +81,7 @@ pub(crate) fn window_plan(
     ensures { result ≡ window_plan config read named scan peer message }
 {
     window_rows(config, read, named, scan.tally, peer)?;
-    let side = side_of(peer, named.circuit);
+    let side = side_of(peer, named.row);
     Ok(WindowPlan {
         place: named.place,
         side,

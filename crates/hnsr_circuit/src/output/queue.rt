@@ -6,13 +6,11 @@ ghost use Rattle.hnsr_circuit.specs.Code.Held.{held_actions, world_seen, handed_
 ghost use Rattle.hnsr_circuit.specs.Code.Held.{held_pending, held_circuits, held_ledger};
 ghost use Rattle.hnsr_circuit.specs.Queue.{queue_answer, action_for, send, tell};
 ghost use Rattle.hnsr_circuit.specs.Code.Turns.{actions_scanned};
-ghost use Rattle.hnsr_circuit.specs.World.{proceed};
 ghost use Rattle.hnsr_circuit.specs.Code.Progress.{message_of, ending, advance, asking, scan_place, underway};
 ghost use Rattle.hnsr_circuit.specs.Code.Queueing.{queueing};
 ghost use Rattle.hnsr_circuit.specs.Route.{head_words};
 ghost use Rattle.hns_encoding.specs.Numbers.{saturating_add};
 ghost use Rattle.hns_encoding.specs.Words.{word_count};
-ghost use Rattle.hns_encoding.specs.Cursor.{written};
 ghost use Rattle.hnsr_circuit.specs.declared.records.RelayPending.{RelayPending};
 ghost use Rattle.hnsr_circuit.specs.declared.records.RelayCircuit.{RelayCircuit};
 ghost use Rattle.hnsr_circuit.specs.declared.records.ReservationUsage.{ReservationUsage};
@@ -21,17 +19,18 @@ use crate::answer::{HnsrAnswer, HnsrRuntimeError, check};
 use crate::config::OpaqueRelayConfig;
 use crate::output::route::{put_route, route_size};
 use crate::peer::HnsrPeerId;
-use crate::records::inflight::{capacity_answer, kind_number};
+use crate::records::inflight::capacity_answer;
 use crate::records::{InflightAction, InflightKind};
-use crate::runtime::{OpaqueRelayRuntime, Relayed, Sending, refused};
-use crate::tables::inflight::{drop_and_scan, scan_actions, set_action};
+use crate::runtime::{OpaqueRelayRuntime, Relayed, Sending};
+use crate::tables::inflight::{drop_and_scan, scan_actions};
 use crate::tables::places::{Places, raised, with_actions};
 use crate::tables::scan::{ActionQuestion, ActionScan, InflightTally};
+use crate::tables::table::set;
 use hnsr_body::error::{HnsrInvalid, HnsrProtocolError};
 use hnsr_body::messages::Notice;
 
 // A message but for its body: where it goes, the circuit that it is about, opcode and context, and what its action
-// holds.
+// holds. `to_endpoint` and `bytes` are of Data alone: the stored action, whose layout is C's, has them for every kind.
 #[derive(Clone, Copy)]
 pub struct Outgoing {
     pub destination: HnsrPeerId,
@@ -63,16 +62,13 @@ pub(crate) fn queue_answer(
 pub(crate) fn action_for(message: Outgoing, generation: u64, sequence: u64) -> InflightAction
     ensures { result ≡ action_for (message_of message []) generation sequence }
 {
-    let message_kind = message.kind;
-    let kind = kind_number(message_kind);
-    let destination = message.destination;
     InflightAction {
         used: true,
         generation,
         sequence,
         circuit_id: message.circuit_id,
-        destination,
-        kind,
+        destination: message.destination,
+        kind: u8::from(message.kind),
         to_endpoint: message.to_endpoint,
         bytes: message.bytes,
     }
@@ -82,11 +78,10 @@ pub(crate) fn action_for(message: Outgoing, generation: u64, sequence: u64) -> I
 pub(crate) fn asking(runtime: OpaqueRelayRuntime, message: Outgoing) -> ActionQuestion
     ensures { result ≡ asking runtime message }
 {
-    let peer = message.destination;
     ActionQuestion {
         replacing: false,
         circuit_id: message.circuit_id,
-        peer,
+        peer: message.destination,
         generation: runtime.generation,
         sequence: runtime.next_action_sequence,
     }
@@ -110,17 +105,15 @@ pub struct Queued {
     pub action: InflightAction,
 }
 
-// What was answered before stays the answer; else the message is queued, or refused.
+// The message is queued, or refused.
 pub(crate) fn queue(
-    before: HnsrAnswer,
     runtime: OpaqueRelayRuntime,
     message: Outgoing,
     scan: ActionScan,
 ) -> Result<Queued, HnsrRuntimeError>
-    ensures { result ≡ queueing before runtime message scan }
+    ensures { result ≡ queueing runtime message scan }
 {
     let sequence = runtime.next_action_sequence;
-    before?;
     queue_answer(runtime.config, scan.tally, sequence, message.context_id)?;
     let moved = runtime.with_sequence(sequence.saturating_add(1));
     let place = scan_place(scan);
@@ -144,7 +137,6 @@ fn position_after(at: usize, body_size: usize) -> usize
 pub(crate) fn send(
     inflight: &mut [InflightAction],
     out: &mut [u32],
-    before: HnsrAnswer,
     runtime: OpaqueRelayRuntime,
     places: Places,
     message: Outgoing,
@@ -156,14 +148,13 @@ pub(crate) fn send(
     ensures { (p : List RelayPending) (c : List RelayCircuit) (l : List ReservationUsage)
         → handed_seen result p c l inflight.new out.new
         ≡ ending out.old
-        (let w = world_seen runtime places p c l inflight.old in
-        proceed w before (send w (message_of message body.now))) }
+        (send (world_seen runtime places p c l inflight.old) (message_of message body.now)) }
 {
-    match queue(before, runtime, message, scan) {
+    match queue(runtime, message, scan) {
         Ok(queued) => {
             let number = raised(places.actions, true, queued.place, inflight.len());
             let after = with_actions(places, number);
-            set_action(inflight, true, queued.place, queued.action);
+            set(inflight, true, queued.place, queued.action);
             put_route(
                 out,
                 0,
@@ -180,7 +171,7 @@ pub(crate) fn send(
                 places: after,
             }
         }
-        Err(error) => refused(runtime, places, Err(error)),
+        Err(error) => Relayed::refused(runtime, places, error),
     }
 }
 
@@ -202,11 +193,11 @@ pub(crate) fn tell_scanned(
 {
     let runtime = sending.runtime;
     let places = sending.places;
-    match queue(Ok(()), runtime, message, scan) {
+    match queue(runtime, message, scan) {
         Ok(queued) => {
             let number = raised(places.actions, true, queued.place, inflight.len());
             let after = with_actions(places, number);
-            set_action(inflight, true, queued.place, queued.action);
+            set(inflight, true, queued.place, queued.action);
             put_route(
                 out,
                 sending.position,

@@ -10,7 +10,7 @@ ghost use Rattle.hnsr_circuit.specs.Queue.{route_for};
 ghost use Rattle.hnsr_circuit.specs.Code.Progress.{message_of};
 
 use crate::output::queue::Outgoing;
-use crate::peer::{HnsrPeerId, MAXIMUM_PEER, peer_length};
+use crate::peer::{HnsrPeerId, MAXIMUM_PEER};
 use hns_encoding::encoder::Encoder;
 use hns_encoding::room::fits;
 use hns_encoding::words::word_count;
@@ -76,9 +76,7 @@ fn put_context_at(out: &mut [u32], at: usize, context: u64)
 fn put_peer_at(out: &mut [u32], at: usize, peer: HnsrPeerId)
     ensures { out.new ≡ written out.old at (words_of name_words (peer_bytes peer)) }
 {
-    let bytes = peer.bytes;
-    let length = peer_length(peer);
-    let _ = Encoder { position: at }.put_padded_as_words(out, &bytes[..length], PEER_WORDS);
+    let _ = Encoder { position: at }.put_padded_as_words(out, peer.name(), PEER_WORDS);
 }
 
 // ---- a route
@@ -89,7 +87,7 @@ fn put_peer_words(out: &mut [u32], at: usize, message: Outgoing, generation: u64
         ≡ written out.old at (peer_words (route_for (message_of message []) generation sequence)) }
 {
     let peer = message.destination;
-    let length = peer_length(peer);
+    let length = peer.length();
     let word = peer_word(length);
     put_word_at(out, at, word);
     put_number_at(out, at + 1, generation);

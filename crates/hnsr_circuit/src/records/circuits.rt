@@ -1,115 +1,139 @@
-// Circuits: what is asked of one where it stands, what is asked of one by side, and what becomes of one.
-ghost use Rattle.std.specs.Prelude.{◌≡◌, ◌+◌, ◌-◌, ◌<◌};
+// Circuits: a table's records, what is asked of one where it stands, what is asked of one by side, and what becomes of
+// one.
+ghost use Rattle.std.specs.Prelude.{refl, ◌≡◌, ◌+◌, ◌-◌, ◌<◌};
 ghost use Rattle.hnsr_circuit.specs.Circuits.{no_circuit, clear_circuit, charged, raised, lowered, is_circuit};
-ghost use Rattle.hnsr_circuit.specs.Circuits.{circuit_at, is_side, circuit_of, circuit_under, circuit_over};
+ghost use Rattle.hnsr_circuit.specs.Circuits.{circuit_id, circuit_at, is_side, circuit_of, circuit_under, circuit_over};
 ghost use Rattle.hnsr_circuit.specs.Circuits.{side_of, other_side, peer_at, credit_of, queued_to, queued_in};
 ghost use Rattle.hnsr_circuit.specs.Packet.{receiver};
+ghost use Rattle.hnsr_circuit.specs.NextDue.{expiry_of};
+ghost use Rattle.hnsr_circuit.specs.Laws.Records.{circuit_unused, circuit_still};
+ghost use Rattle.hnsr_circuit.specs.Code.Question.{circuit_work};
+ghost use Rattle.hnsr_circuit.specs.Code.Turns.{circuit_worked};
+ghost use Rattle.hnsr_circuit.specs.Laws.Turns.{circuit-most, circuit_work_lem};
+ghost use Rattle.hnsr_circuit.specs.Laws.HeldTables.{circuit-idle};
 
-use crate::peer::{HnsrPeerId, either_in_place, either_is, no_peer, same_peer};
-use crate::records::ledger::same_reservation;
+use crate::peer::HnsrPeerId;
 use crate::records::{RelayCircuit, RelaySide};
-use hns_encoding::logic::both;
-use hns_encoding::numbers::{saturating_add_u64, saturating_add_usize, saturating_sub_usize};
+use crate::tables::record::{Numbered, TableRecord, Timed, Worked};
+use crate::tables::scan::{Work, WorkQuestion, work_on};
 use hnsr_body::values::ReservationId;
 
-pub(crate) fn no_circuit() -> RelayCircuit
-    ensures { result ≡ no_circuit }
-{
-    let nobody = no_peer();
-    RelayCircuit {
-        used: false,
-        circuit_id: 0,
-        requester: nobody,
-        endpoint: nobody,
-        reservation_id: ReservationId { high: 0, low: 0 },
-        expires_at: 0,
-        maximum_bytes: 0,
-        maximum_total_bytes: 0,
-        requester_credit: 0,
-        endpoint_credit: 0,
-        forwarded_bytes: 0,
-        queued_to_requester: 0,
-        queued_to_endpoint: 0,
+impl TableRecord for RelayCircuit {
+    ghost is_used = { is_circuit };
+
+    ghost unmarked = { clear_circuit };
+
+    ghost none = { no_circuit };
+
+    ghost unused = { circuit_unused };
+
+    ghost still = { circuit_still };
+
+    #[tactic(auto, unfolding(crate::specs::Circuits::is_circuit))]
+    fn is_used(&self) -> bool {
+        self.used
+    }
+
+    fn unmarked(self) -> RelayCircuit {
+        RelayCircuit {
+            used: false,
+            ..self
+        }
+    }
+
+    fn none() -> RelayCircuit {
+        RelayCircuit {
+            used: false,
+            circuit_id: 0,
+            requester: HnsrPeerId::NOBODY,
+            endpoint: HnsrPeerId::NOBODY,
+            reservation_id: ReservationId { high: 0, low: 0 },
+            expires_at: 0,
+            maximum_bytes: 0,
+            maximum_total_bytes: 0,
+            requester_credit: 0,
+            endpoint_credit: 0,
+            forwarded_bytes: 0,
+            queued_to_requester: 0,
+            queued_to_endpoint: 0,
+        }
     }
 }
 
-// ---- fields of a record, read or lent where it stands
+impl Numbered for RelayCircuit {
+    ghost id = { circuit_id };
 
-pub(crate) fn is_circuit(c: &RelayCircuit) -> bool
-    ensures { result ≡ is_circuit c.now }
-{
-    c.used
+    fn id(&self) -> u64 {
+        self.circuit_id
+    }
 }
 
-pub(crate) fn id_in_circuit(c: &RelayCircuit) -> u64
-    ensures { result ≡ c.now.circuit_id }
-{
-    c.circuit_id
+impl Timed for RelayCircuit {
+    ghost due_at = { expiry_of };
+
+    fn due_at(&self) -> u64 {
+        self.expires_at
+    }
 }
 
-pub(crate) fn requester_in_circuit<'a>(c: &'a RelayCircuit) -> &'a HnsrPeerId
-    ensures { result.now ≡ c.now.requester }
-{
-    &c.requester
-}
+// A circuit repeats no OPEN.
+impl Worked for RelayCircuit {
+    ghost work = { circuit_work };
 
-pub(crate) fn endpoint_in_circuit<'a>(c: &'a RelayCircuit) -> &'a HnsrPeerId
-    ensures { result.now ≡ c.now.endpoint }
-{
-    &c.endpoint
-}
+    ghost worked = { circuit_worked };
 
-pub(crate) fn reservation_in_circuit(c: &RelayCircuit) -> ReservationId
-    ensures { result ≡ c.now.reservation_id }
-{
-    c.reservation_id
-}
+    ghost anywhere = { λ question w row place. refl };
 
-pub(crate) fn expiry_in_circuit(c: &RelayCircuit) -> u64
-    ensures { result ≡ c.now.expires_at }
-{
-    c.expires_at
+    ghost folds = { circuit_work_lem };
+
+    ghost most = { circuit-most };
+
+    ghost idle = { circuit-idle };
+
+    #[tactic(auto, unfolding(crate::specs::Circuits::is_circuit))]
+    fn worked(&self, so_far: Work, question: &WorkQuestion) -> Work {
+        if self.used {
+            let peer = circuit_of(self, &question.peer);
+            let other = circuit_of(self, &question.other);
+            let under = circuit_under(self, question.reservation);
+            let is = circuit_is(self, question.id);
+            return work_on(so_far, peer, other, under, false, is);
+        }
+        so_far
+    }
 }
 
 // ---- questions
 
+#[tactic(auto, unfolding(crate::specs::Circuits::circuit_at))]
 pub(crate) fn circuit_is(c: &RelayCircuit, id: u64) -> bool
     ensures { result ≡ circuit_at id c.now }
 {
-    let used = is_circuit(c);
-    let stored = id_in_circuit(c);
-    both(used, stored == id)
+    c.used && c.circuit_id == id
 }
 
 // The peer is a side of it.
+#[tactic(auto, unfolding(crate::specs::Circuits::circuit_of))]
 pub fn circuit_of(c: &RelayCircuit, peer: &HnsrPeerId) -> bool
     ensures { result ≡ circuit_of peer.now c.now }
 {
-    if is_circuit(c) {
-        let requester = requester_in_circuit(c);
-        let endpoint = endpoint_in_circuit(c);
-        return either_in_place(requester, endpoint, peer);
-    }
-    false
+    c.used && (c.requester == *peer || c.endpoint == *peer)
 }
 
 // It stores the reservation's id.
+#[tactic(auto, unfolding(crate::specs::Circuits::circuit_under))]
 pub(crate) fn circuit_under(c: &RelayCircuit, id: ReservationId) -> bool
     ensures { result ≡ circuit_under id c.now }
 {
-    let used = is_circuit(c);
-    let stored = reservation_in_circuit(c);
-    let same = same_reservation(stored, id);
-    both(used, same)
+    c.used && c.reservation_id == id
 }
 
 // Expiry not after the time.
+#[tactic(auto, unfolding(crate::specs::Circuits::circuit_over))]
 pub(crate) fn circuit_over(c: &RelayCircuit, time: u64) -> bool
     ensures { result ≡ circuit_over time c.now }
 {
-    let used = is_circuit(c);
-    let expiry = expiry_in_circuit(c);
-    both(used, expiry <= time)
+    c.used && c.expires_at <= time
 }
 
 // ---- sides, of a circuit that was found
@@ -117,25 +141,28 @@ pub(crate) fn circuit_over(c: &RelayCircuit, time: u64) -> bool
 pub(crate) fn is_side(peer: HnsrPeerId, c: RelayCircuit) -> bool
     ensures { result ≡ is_side peer c }
 {
-    either_is(c.requester, c.endpoint, peer)
+    c.requester == peer || c.endpoint == peer
 }
 
 // A peer that is both is the requester.
+#[tactic(auto, unfolding(crate::specs::Circuits::side_of))]
 pub(crate) fn side_of(peer: HnsrPeerId, c: RelayCircuit) -> RelaySide
     ensures { result ≡ side_of peer c }
 {
-    if same_peer(c.requester, peer) {
+    if c.requester == peer {
         return RelaySide::Requester;
     }
     RelaySide::Endpoint
 }
 
-pub(crate) fn other_side(side: RelaySide) -> RelaySide
-    ensures { result ≡ other_side side }
-{
-    match side {
-        RelaySide::Requester => RelaySide::Endpoint,
-        RelaySide::Endpoint => RelaySide::Requester,
+impl RelaySide {
+    pub(crate) fn other(self) -> RelaySide
+        ensures { result ≡ other_side self }
+    {
+        match self {
+            RelaySide::Requester => RelaySide::Endpoint,
+            RelaySide::Endpoint => RelaySide::Requester,
+        }
     }
 }
 
@@ -153,7 +180,7 @@ pub(crate) fn receiver(c: RelayCircuit, peer: HnsrPeerId) -> HnsrPeerId
     ensures { result ≡ receiver c peer }
 {
     let side = side_of(peer, c);
-    let other = other_side(side);
+    let other = side.other();
     peer_at(other, c)
 }
 
@@ -177,28 +204,22 @@ pub(crate) fn queued_to(side: RelaySide, circuit: RelayCircuit) -> usize
 }
 
 // Both queues of a used circuit, 0 of an unused one.
-pub(crate) fn queued_in(c: RelayCircuit) -> usize
-    ensures { result ≡ queued_in c }
+#[tactic(auto, unfolding(crate::specs::Circuits::queued_in))]
+pub(crate) fn queued_in(c: &RelayCircuit) -> usize
+    ensures { result ≡ queued_in c.now }
 {
     if c.used {
-        return saturating_add_usize(c.queued_to_requester, c.queued_to_endpoint);
+        return c.queued_to_requester.saturating_add(c.queued_to_endpoint);
     }
     0
 }
 
 // ---- changes
 
-// The mark cleared, and nothing else.
-pub(crate) fn circuit_unmarked(c: RelayCircuit) -> RelayCircuit
-    ensures { result ≡ clear_circuit c }
-{
-    RelayCircuit { used: false, ..c }
-}
-
 fn less_credit(credit: u32, n: usize) -> u32
     ensures { result ≡ credit - n }
 {
-    let left = saturating_sub_usize(credit as usize, n);
+    let left = (credit as usize).saturating_sub(n);
     left as u32
 }
 
@@ -206,17 +227,17 @@ fn less_credit(credit: u32, n: usize) -> u32
 pub(crate) fn circuit_charged(c: RelayCircuit, side: RelaySide, n: usize) -> RelayCircuit
     ensures { result ≡ charged side n c }
 {
-    let forwarded_bytes = saturating_add_u64(c.forwarded_bytes, n as u64);
+    let forwarded_bytes = c.forwarded_bytes.saturating_add(n as u64);
     match side {
         RelaySide::Requester => RelayCircuit {
             requester_credit: less_credit(c.requester_credit, n),
-            queued_to_endpoint: saturating_add_usize(c.queued_to_endpoint, n),
+            queued_to_endpoint: c.queued_to_endpoint.saturating_add(n),
             forwarded_bytes,
             ..c
         },
         RelaySide::Endpoint => RelayCircuit {
             endpoint_credit: less_credit(c.endpoint_credit, n),
-            queued_to_requester: saturating_add_usize(c.queued_to_requester, n),
+            queued_to_requester: c.queued_to_requester.saturating_add(n),
             forwarded_bytes,
             ..c
         },
@@ -256,11 +277,11 @@ pub(crate) fn circuit_lowered(c: RelayCircuit, side: RelaySide, n: usize) -> Rel
 {
     match side {
         RelaySide::Requester => RelayCircuit {
-            queued_to_requester: saturating_sub_usize(c.queued_to_requester, n),
+            queued_to_requester: c.queued_to_requester.saturating_sub(n),
             ..c
         },
         RelaySide::Endpoint => RelayCircuit {
-            queued_to_endpoint: saturating_sub_usize(c.queued_to_endpoint, n),
+            queued_to_endpoint: c.queued_to_endpoint.saturating_sub(n),
             ..c
         },
     }

@@ -1,153 +1,135 @@
-// Outstanding actions: the kinds, what is asked of one where it stands, the mark cleared, and the action capacity.
+// Outstanding actions: a table's records, the kinds, what is asked of one where it stands, and the action capacity.
 ghost use Rattle.std.specs.Prelude.{◌≡◌};
 ghost use Rattle.hnsr_circuit.specs.Inflight.{no_action, kind_number, kind_of, to_endpoint, toward_side};
 ghost use Rattle.hnsr_circuit.specs.Inflight.{is_action, action_at, action_under, action_toward};
 ghost use Rattle.hnsr_circuit.specs.Inflight.{clear_action, capacity_left, capacity_answer};
+ghost use Rattle.hnsr_circuit.specs.Laws.Records.{action_unused, action_still};
 
 use crate::answer::{HnsrAnswer, HnsrRuntimeError, check};
 use crate::config::OpaqueRelayConfig;
-use crate::peer::{HnsrPeerId, no_peer, same_in_place};
+use crate::peer::HnsrPeerId;
 use crate::records::{InflightAction, InflightKind, RelaySide};
+use crate::tables::record::TableRecord;
 use crate::tables::scan::InflightTally;
-use hns_encoding::logic::both;
-use hns_encoding::numbers::{min_usize, saturating_sub_usize};
 
-pub(crate) fn no_action() -> InflightAction
-    ensures { result ≡ no_action }
-{
-    InflightAction {
-        used: false,
-        generation: 0,
-        sequence: 0,
-        circuit_id: 0,
-        destination: no_peer(),
-        kind: 0,
-        to_endpoint: false,
-        bytes: 0,
+impl TableRecord for InflightAction {
+    ghost is_used = { is_action };
+
+    ghost unmarked = { clear_action };
+
+    ghost none = { no_action };
+
+    ghost unused = { action_unused };
+
+    ghost still = { action_still };
+
+    #[tactic(auto, unfolding(crate::specs::Inflight::is_action))]
+    fn is_used(&self) -> bool {
+        self.used
+    }
+
+    fn unmarked(self) -> InflightAction {
+        InflightAction {
+            used: false,
+            ..self
+        }
+    }
+
+    fn none() -> InflightAction {
+        InflightAction {
+            used: false,
+            generation: 0,
+            sequence: 0,
+            circuit_id: 0,
+            destination: HnsrPeerId::NOBODY,
+            kind: 0,
+            to_endpoint: false,
+            bytes: 0,
+        }
     }
 }
 
 // ---- kinds: a stored kind is a number
 
-pub(crate) fn kind_number(kind: InflightKind) -> u8
-    ensures { result ≡ kind_number kind }
-{
-    match kind {
-        InflightKind::Incoming => 0,
-        InflightKind::Opened => 1,
-        InflightKind::Data => 2,
-        InflightKind::Control => 3,
-        InflightKind::Close => 4,
+impl From<InflightKind> for u8 {
+    ghost from_gives = { λ kind number. number ≡ kind_number kind };
+
+    fn from(kind: InflightKind) -> u8 {
+        match kind {
+            InflightKind::Incoming => 0,
+            InflightKind::Opened => 1,
+            InflightKind::Data => 2,
+            InflightKind::Control => 3,
+            InflightKind::Close => 4,
+        }
     }
 }
 
 // Anything above 3 reads as Close.
-pub(crate) fn kind_of(number: u8) -> InflightKind
-    ensures { result ≡ kind_of number }
-{
-    if number == 0 {
-        return InflightKind::Incoming;
+impl From<u8> for InflightKind {
+    ghost from_gives = { λ number kind. kind ≡ kind_of number };
+
+    #[tactic(auto, unfolding(crate::specs::Inflight::kind_of))]
+    fn from(number: u8) -> InflightKind {
+        match number {
+            0 => InflightKind::Incoming,
+            1 => InflightKind::Opened,
+            2 => InflightKind::Data,
+            3 => InflightKind::Control,
+            _ => InflightKind::Close,
+        }
     }
-    if number == 1 {
-        return InflightKind::Opened;
-    }
-    if number == 2 {
-        return InflightKind::Data;
-    }
-    if number == 3 {
-        return InflightKind::Control;
-    }
-    InflightKind::Close
 }
 
 // ---- the side that a Data goes to
 
-pub(crate) fn to_endpoint(side: RelaySide) -> bool
-    ensures { result ≡ to_endpoint side }
-{
-    match side {
-        RelaySide::Requester => false,
-        RelaySide::Endpoint => true,
+impl RelaySide {
+    pub(crate) fn to_endpoint(self) -> bool
+        ensures { result ≡ to_endpoint self }
+    {
+        match self {
+            RelaySide::Requester => false,
+            RelaySide::Endpoint => true,
+        }
     }
 }
 
-pub(crate) fn toward_side(a: InflightAction) -> RelaySide
-    ensures { result ≡ toward_side a }
-{
-    if a.to_endpoint {
-        return RelaySide::Endpoint;
+impl InflightAction {
+    pub(crate) fn toward_side(self) -> RelaySide
+        ensures { result ≡ toward_side self }
+    {
+        if self.to_endpoint {
+            RelaySide::Endpoint
+        } else {
+            RelaySide::Requester
+        }
     }
-    RelaySide::Requester
-}
-
-// ---- fields of a record, read or lent where it stands
-
-pub(crate) fn is_action(a: &InflightAction) -> bool
-    ensures { result ≡ is_action a.now }
-{
-    a.used
-}
-
-pub(crate) fn generation_in_action(a: &InflightAction) -> u64
-    ensures { result ≡ a.now.generation }
-{
-    a.generation
-}
-
-pub(crate) fn sequence_in_action(a: &InflightAction) -> u64
-    ensures { result ≡ a.now.sequence }
-{
-    a.sequence
-}
-
-pub(crate) fn circuit_in_action(a: &InflightAction) -> u64
-    ensures { result ≡ a.now.circuit_id }
-{
-    a.circuit_id
-}
-
-pub(crate) fn destination_in_action<'a>(a: &'a InflightAction) -> &'a HnsrPeerId
-    ensures { result.now ≡ a.now.destination }
-{
-    &a.destination
 }
 
 // ---- questions
 
+// All three are read first: a lookup then has one branch for each record.
+#[tactic(auto, unfolding(crate::specs::Inflight::action_at))]
 pub(crate) fn action_is(a: &InflightAction, generation: u64, sequence: u64) -> bool
     ensures { result ≡ action_at generation sequence a.now }
 {
-    let used = is_action(a);
-    let made = generation_in_action(a);
-    let number = sequence_in_action(a);
-    let same = both(made == generation, number == sequence);
-    both(used, same)
+    let made = a.generation;
+    let number = a.sequence;
+    a.used && (made == generation && number == sequence)
 }
 
+#[tactic(auto, unfolding(crate::specs::Inflight::action_under))]
 pub(crate) fn action_under(a: &InflightAction, id: u64) -> bool
     ensures { result ≡ action_under id a.now }
 {
-    let used = is_action(a);
-    let stored = circuit_in_action(a);
-    both(used, stored == id)
+    a.used && a.circuit_id == id
 }
 
+#[tactic(auto, unfolding(crate::specs::Inflight::action_toward))]
 pub(crate) fn action_toward(a: &InflightAction, peer: &HnsrPeerId) -> bool
     ensures { result ≡ action_toward peer.now a.now }
 {
-    if is_action(a) {
-        let destination = destination_in_action(a);
-        return same_in_place(destination, peer);
-    }
-    false
-}
-
-// ---- the mark cleared, and nothing else
-
-pub(crate) fn action_unmarked(a: InflightAction) -> InflightAction
-    ensures { result ≡ clear_action a }
-{
-    InflightAction { used: false, ..a }
+    a.used && a.destination == *peer
 }
 
 // ---- capacity
@@ -156,14 +138,15 @@ pub(crate) fn action_unmarked(a: InflightAction) -> InflightAction
 pub(crate) fn capacity_left(config: OpaqueRelayConfig, tally: InflightTally) -> usize
     ensures { result ≡ capacity_left config tally }
 {
-    let all = saturating_sub_usize(config.maximum_inflight_actions, tally.total);
-    let under = saturating_sub_usize(
-        config.maximum_inflight_actions_per_circuit,
-        tally.for_circuit,
-    );
-    let toward = saturating_sub_usize(config.maximum_inflight_actions_per_peer, tally.for_peer);
-    let least = min_usize(under, toward);
-    min_usize(all, least)
+    let all = config.maximum_inflight_actions.saturating_sub(tally.total);
+    let under = config
+        .maximum_inflight_actions_per_circuit
+        .saturating_sub(tally.for_circuit);
+    let toward = config
+        .maximum_inflight_actions_per_peer
+        .saturating_sub(tally.for_peer);
+    let least = under.min(toward);
+    all.min(least)
 }
 
 // 10 (QUEUE.5): one of three counts has reached its limit

@@ -1,195 +1,172 @@
-// Pending records: what is asked of one where it stands, and the mark cleared. An unused record answers no question but
-// that it is unused.
-ghost use Rattle.std.specs.Prelude.{◌≡◌};
-ghost use Rattle.hnsr_circuit.specs.Pending.{no_pending, clear_pending, is_pending, pending_at};
+// Pending records: a table's records, and what is asked of one where it stands. An unused record answers no question
+// but that it is unused.
+ghost use Rattle.std.specs.Prelude.{refl, ◌≡◌};
+ghost use Rattle.hnsr_circuit.specs.Pending.{no_pending, clear_pending, is_pending, pending_id, pending_at};
+ghost use Rattle.hnsr_circuit.specs.NextDue.{deadline_of};
+ghost use Rattle.hnsr_circuit.specs.Laws.Records.{pending_unused, pending_still};
 ghost use Rattle.hnsr_circuit.specs.Pending.{pending_of, pending_under, requester_names, endpoint_names};
 ghost use Rattle.hnsr_circuit.specs.Pending.{requested_by, named_by, overdue, pending_over};
+ghost use Rattle.hnsr_circuit.specs.Code.Question.{pending_work};
+ghost use Rattle.hnsr_circuit.specs.Code.Turns.{pending_worked};
+ghost use Rattle.hnsr_circuit.specs.Laws.Turns.{pending-most, pending_work_lem};
+ghost use Rattle.hnsr_circuit.specs.Laws.HeldTables.{pending-idle};
 
-use crate::peer::{HnsrPeerId, either_in_place, no_peer, same_in_place};
-use crate::records::ledger::same_reservation;
+use crate::peer::HnsrPeerId;
 use crate::records::{RelayPending, RelayTicket};
-use hns_encoding::logic::{both, either};
+use crate::tables::record::{Numbered, TableRecord, Timed, Worked};
+use crate::tables::scan::{Work, WorkQuestion, work_on};
 use hnsr_body::values::ReservationId;
 
-pub(crate) fn no_pending() -> RelayPending
-    ensures { result ≡ no_pending }
-{
-    let nobody = no_peer();
-    let ticket = RelayTicket {
-        reservation_id: ReservationId { high: 0, low: 0 },
-        expires_at: 0,
-        max_active_circuits: 0,
-        max_bytes_per_circuit: 0,
-        max_total_bytes: 0,
-    };
-    RelayPending {
-        used: false,
-        circuit_id: 0,
-        requester: nobody,
-        endpoint: nobody,
-        requester_context: 0,
-        ticket,
-        initial_window: 0,
-        deadline: 0,
+impl TableRecord for RelayPending {
+    ghost is_used = { is_pending };
+
+    ghost unmarked = { clear_pending };
+
+    ghost none = { no_pending };
+
+    ghost unused = { pending_unused };
+
+    ghost still = { pending_still };
+
+    #[tactic(auto, unfolding(crate::specs::Pending::is_pending))]
+    fn is_used(&self) -> bool {
+        self.used
+    }
+
+    fn unmarked(self) -> RelayPending {
+        RelayPending {
+            used: false,
+            ..self
+        }
+    }
+
+    fn none() -> RelayPending {
+        let ticket = RelayTicket {
+            reservation_id: ReservationId { high: 0, low: 0 },
+            expires_at: 0,
+            max_active_circuits: 0,
+            max_bytes_per_circuit: 0,
+            max_total_bytes: 0,
+        };
+        RelayPending {
+            used: false,
+            circuit_id: 0,
+            requester: HnsrPeerId::NOBODY,
+            endpoint: HnsrPeerId::NOBODY,
+            requester_context: 0,
+            ticket,
+            initial_window: 0,
+            deadline: 0,
+        }
     }
 }
 
-// The mark cleared, and nothing else.
-pub(crate) fn pending_unmarked(p: RelayPending) -> RelayPending
-    ensures { result ≡ clear_pending p }
-{
-    RelayPending { used: false, ..p }
+impl Numbered for RelayPending {
+    ghost id = { pending_id };
+
+    fn id(&self) -> u64 {
+        self.circuit_id
+    }
 }
 
-// ---- fields of a record, read or lent where it stands
+impl Timed for RelayPending {
+    ghost due_at = { deadline_of };
 
-pub(crate) fn is_pending(p: &RelayPending) -> bool
-    ensures { result ≡ is_pending p.now }
-{
-    p.used
+    fn due_at(&self) -> u64 {
+        self.deadline
+    }
 }
 
-pub(crate) fn id_in_pending(p: &RelayPending) -> u64
-    ensures { result ≡ p.now.circuit_id }
-{
-    p.circuit_id
-}
+impl Worked for RelayPending {
+    ghost work = { pending_work };
 
-pub(crate) fn requester_in_pending<'a>(p: &'a RelayPending) -> &'a HnsrPeerId
-    ensures { result.now ≡ p.now.requester }
-{
-    &p.requester
-}
+    ghost worked = { pending_worked };
 
-pub(crate) fn endpoint_in_pending<'a>(p: &'a RelayPending) -> &'a HnsrPeerId
-    ensures { result.now ≡ p.now.endpoint }
-{
-    &p.endpoint
-}
+    ghost anywhere = { λ question w row place. refl };
 
-pub(crate) fn context_in_pending(p: &RelayPending) -> u64
-    ensures { result ≡ p.now.requester_context }
-{
-    p.requester_context
-}
+    ghost folds = { pending_work_lem };
 
-pub(crate) fn ticket_in_pending<'a>(p: &'a RelayPending) -> &'a RelayTicket
-    ensures { result.now ≡ p.now.ticket }
-{
-    &p.ticket
-}
+    ghost most = { pending-most };
 
-pub(crate) fn deadline_in_pending(p: &RelayPending) -> u64
-    ensures { result ≡ p.now.deadline }
-{
-    p.deadline
-}
+    ghost idle = { pending-idle };
 
-pub(crate) fn reservation_in_ticket(t: &RelayTicket) -> ReservationId
-    ensures { result ≡ t.now.reservation_id }
-{
-    t.reservation_id
-}
-
-pub(crate) fn expiry_in_ticket(t: &RelayTicket) -> u64
-    ensures { result ≡ t.now.expires_at }
-{
-    t.expires_at
+    #[tactic(auto, unfolding(crate::specs::Pending::is_pending))]
+    fn worked(&self, so_far: Work, question: &WorkQuestion) -> Work {
+        if self.used {
+            let peer = pending_of(self, &question.peer);
+            let other = pending_of(self, &question.other);
+            let under = pending_under(self, question.reservation);
+            let again = requested_by(self, &question.peer, question.context);
+            let is = pending_is(self, question.id);
+            return work_on(so_far, peer, other, under, again, is);
+        }
+        so_far
+    }
 }
 
 // ---- questions
 
+#[tactic(auto, unfolding(crate::specs::Pending::pending_at))]
 pub(crate) fn pending_is(p: &RelayPending, id: u64) -> bool
     ensures { result ≡ pending_at id p.now }
 {
-    let used = is_pending(p);
-    let stored = id_in_pending(p);
-    both(used, stored == id)
+    p.used && p.circuit_id == id
 }
 
 // The peer is a side of it.
+#[tactic(auto, unfolding(crate::specs::Pending::pending_of))]
 pub fn pending_of(p: &RelayPending, peer: &HnsrPeerId) -> bool
     ensures { result ≡ pending_of peer.now p.now }
 {
-    if is_pending(p) {
-        let requester = requester_in_pending(p);
-        let endpoint = endpoint_in_pending(p);
-        return either_in_place(requester, endpoint, peer);
-    }
-    false
+    p.used && (p.requester == *peer || p.endpoint == *peer)
 }
 
 // It stores the reservation's id.
+#[tactic(auto, unfolding(crate::specs::Pending::pending_under))]
 pub(crate) fn pending_under(p: &RelayPending, id: ReservationId) -> bool
     ensures { result ≡ pending_under id p.now }
 {
-    let used = is_pending(p);
-    let ticket = ticket_in_pending(p);
-    let stored = reservation_in_ticket(ticket);
-    let same = same_reservation(stored, id);
-    both(used, same)
+    p.used && p.ticket.reservation_id == id
 }
 
 pub(crate) fn requester_names(p: &RelayPending, peer: &HnsrPeerId, context: u64) -> bool
     ensures { result ≡ requester_names peer.now context p.now }
 {
-    let stored = context_in_pending(p);
-    if stored == context {
-        let requester = requester_in_pending(p);
-        return same_in_place(requester, peer);
-    }
-    false
+    p.requester_context == context && p.requester == *peer
 }
 
 pub(crate) fn endpoint_names(p: &RelayPending, peer: &HnsrPeerId, context: u64) -> bool
     ensures { result ≡ endpoint_names peer.now context p.now }
 {
-    let stored = id_in_pending(p);
-    if stored == context {
-        let endpoint = endpoint_in_pending(p);
-        return same_in_place(endpoint, peer);
-    }
-    false
+    p.circuit_id == context && p.endpoint == *peer
 }
 
 // The same requester and context.
+#[tactic(auto, unfolding(crate::specs::Pending::requested_by))]
 pub(crate) fn requested_by(p: &RelayPending, peer: &HnsrPeerId, context: u64) -> bool
     ensures { result ≡ requested_by peer.now context p.now }
 {
-    if is_pending(p) {
-        return requester_names(p, peer, context);
-    }
-    false
+    p.used && requester_names(p, peer, context)
 }
 
 // CLOSE.9: by what number each side names it.
+#[tactic(auto, unfolding(crate::specs::Pending::named_by))]
 pub(crate) fn named_by(p: &RelayPending, peer: &HnsrPeerId, context: u64) -> bool
     ensures { result ≡ named_by peer.now context p.now }
 {
-    if is_pending(p) {
-        if requester_names(p, peer, context) {
-            return true;
-        }
-        return endpoint_names(p, peer, context);
-    }
-    false
+    p.used && (requester_names(p, peer, context) || endpoint_names(p, peer, context))
 }
 
 // ACCEPT.3, EXPIRE.4: it is too late for it.
 pub(crate) fn overdue(now: u64, p: RelayPending) -> bool
     ensures { result ≡ overdue now p }
 {
-    let ticket = p.ticket;
-    either(p.deadline <= now, ticket.expires_at <= now)
+    p.deadline <= now || p.ticket.expires_at <= now
 }
 
+#[tactic(auto, unfolding(crate::specs::Pending::pending_over))]
 pub(crate) fn pending_over(p: &RelayPending, time: u64) -> bool
     ensures { result ≡ pending_over time p.now }
 {
-    let used = is_pending(p);
-    let deadline = deadline_in_pending(p);
-    let ticket = ticket_in_pending(p);
-    let expiry = expiry_in_ticket(ticket);
-    let late = either(deadline <= time, expiry <= time);
-    both(used, late)
+    p.used && (p.deadline <= time || p.ticket.expires_at <= time)
 }

@@ -1,21 +1,11 @@
 // How many places of each lent table are in use, by value. A place is used exactly if its record's mark is set and it
 // lies below its table's number.
-ghost use Rattle.std.specs.Prelude.{◌≡◌, cond};
-ghost use Rattle.hnsr_circuit.specs.Pending.{clear_pending};
-ghost use Rattle.hnsr_circuit.specs.Circuits.{clear_circuit};
-ghost use Rattle.hnsr_circuit.specs.Ledger.{clear_usage};
-ghost use Rattle.hnsr_circuit.specs.Inflight.{clear_action};
+ghost use Rattle.std.specs.Prelude.{◌≡◌};
 ghost use Rattle.hnsr_circuit.specs.Code.Held.{no_place, every_place, with_pending, with_circuits};
 ghost use Rattle.hnsr_circuit.specs.Code.Held.{with_ledger, with_actions, raised_to};
 ghost use Rattle.hnsr_circuit.specs.Code.Turns.{scan_spared, ledger_spared};
 
-use crate::records::circuits::circuit_unmarked;
-use crate::records::inflight::action_unmarked;
-use crate::records::ledger::usage_unmarked;
-use crate::records::pending::pending_unmarked;
-use crate::records::{InflightAction, RelayCircuit, RelayPending, ReservationUsage};
 use crate::tables::scan::{ActionScan, LedgerScan, first_place, within};
-use hns_encoding::logic::{both, either};
 
 #[repr(C)]
 #[derive(Clone, Copy)]
@@ -105,7 +95,7 @@ pub(crate) fn raised(number: usize, go: bool, place: usize, size: usize) -> usiz
     ensures { result ≡ raised_to go number place size }
 {
     let stored = within(go, place, size);
-    if both(stored, number <= place) {
+    if stored && number <= place {
         return place + 1;
     }
     number
@@ -121,7 +111,7 @@ pub(crate) fn spared(scan: ActionScan, place: usize, places: usize) -> ActionSca
         tally,
         found: scan.found,
         place: scan.place,
-        spare: either(scan.spare, here),
+        spare: scan.spare || here,
         spare_place: first_place(scan.spare, here, place, scan.spare_place),
     }
 }
@@ -136,46 +126,8 @@ pub(crate) fn ledger_spared(scan: LedgerScan, place: usize, places: usize) -> Le
         place: scan.place,
         usage,
         used: scan.used,
-        spare: either(scan.spare, here),
+        spare: scan.spare || here,
         spare_place: first_place(scan.spare, here, place, scan.spare_place),
         places: scan.places,
     }
-}
-
-// ---- a record as it is seen, below its table's number or not
-
-pub(crate) fn held_pending(row: RelayPending, inside: bool) -> RelayPending
-    ensures { result ≡ cond inside row (clear_pending row) }
-{
-    if inside {
-        return row;
-    }
-    pending_unmarked(row)
-}
-
-pub(crate) fn held_circuit(row: RelayCircuit, inside: bool) -> RelayCircuit
-    ensures { result ≡ cond inside row (clear_circuit row) }
-{
-    if inside {
-        return row;
-    }
-    circuit_unmarked(row)
-}
-
-pub(crate) fn held_usage(row: ReservationUsage, inside: bool) -> ReservationUsage
-    ensures { result ≡ cond inside row (clear_usage row) }
-{
-    if inside {
-        return row;
-    }
-    usage_unmarked(row)
-}
-
-pub(crate) fn held_action(row: InflightAction, inside: bool) -> InflightAction
-    ensures { result ≡ cond inside row (clear_action row) }
-{
-    if inside {
-        return row;
-    }
-    action_unmarked(row)
 }

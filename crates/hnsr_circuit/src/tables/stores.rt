@@ -2,21 +2,20 @@
 ghost use Rattle.std.specs.Prelude.{◌≡◌, cond, true, set, get_or, ◌<◌, ◌+◌};
 ghost use Rattle.hns_encoding.specs.Sums.{non};
 ghost use Rattle.hnsr_circuit.specs.Table.{place_of, put, edit};
-ghost use Rattle.hnsr_circuit.specs.Pending.{is_pending, clear_pending, no_pending};
+ghost use Rattle.hnsr_circuit.specs.Pending.{is_pending, clear_pending};
 ghost use Rattle.hnsr_circuit.specs.Ledger.{no_usage, usage_at, clear_usage, spent};
 ghost use Rattle.hnsr_circuit.specs.Code.Held.{held, held_pending, held_circuits, held_ledger};
 ghost use Rattle.hnsr_circuit.specs.Code.Opening.{put_place};
 ghost use Rattle.hnsr_circuit.specs.Circuits.{no_circuit, clear_circuit, credit_of, other_side};
 ghost use Rattle.hnsr_circuit.specs.Circuits.{raised, is_circuit, circuit_at, lowered};
 
-use crate::records::circuits::{circuit_lowered, circuit_raised, circuit_unmarked};
-use crate::records::ledger::{usage_spent, usage_unmarked};
-use crate::records::pending::pending_unmarked;
+use crate::records::circuits::{circuit_lowered, circuit_raised};
+use crate::records::ledger::usage_spent;
 use crate::records::{RelayCircuit, RelayPending, RelaySide, ReservationUsage};
-use crate::tables::circuits::{circuit_at, find_circuit_id, set_circuit, spare_circuit};
-use crate::tables::ledger::{find_usage, set_usage, usage_at};
-use crate::tables::pending::{pending_at, set_pending, spare_pending};
 use crate::tables::places::{Places, raised};
+use crate::tables::question::{ById, ByReservation};
+use crate::tables::record::TableRecord;
+use crate::tables::table::{at, find, set, spare};
 use hnsr_body::values::ReservationId;
 
 // A pending record at the lowest unused place.
@@ -26,34 +25,9 @@ pub(crate) fn put_pending(pending: &mut [RelayPending], places: Places, row: Rel
         (place_of (non is_pending) (held_pending places pending.old)) row }
 {
     let size = pending.len();
-    let place = spare_pending(pending, places);
-    set_pending(pending, true, place, row);
+    let place = spare(pending, places.pending);
+    set(pending, true, place, row);
     raised(places.pending, true, place, size)
-}
-
-// The mark cleared of the record at a place.
-pub(crate) fn unmark_pending(pending: &mut [RelayPending], places: Places, go: bool, place: usize)
-    ensures { held_pending places pending.new
-        ≡ cond go
-        (set (held_pending places pending.old) place
-        (clear_pending (get_or (held_pending places pending.old) place no_pending)))
-        (held_pending places pending.old) }
-{
-    let before = pending_at(pending, places, place);
-    let after = pending_unmarked(before);
-    set_pending(pending, go, place, after);
-}
-
-pub(crate) fn unmark_circuit(circuits: &mut [RelayCircuit], places: Places, go: bool, place: usize)
-    ensures { held_circuits places circuits.new
-        ≡ cond go
-        (set (held_circuits places circuits.old) place
-        (clear_circuit (get_or (held_circuits places circuits.old) place no_circuit)))
-        (held_circuits places circuits.old) }
-{
-    let before = circuit_at(circuits, places, place);
-    let after = circuit_unmarked(before);
-    set_circuit(circuits, go, place, after);
 }
 
 // WINDOW.7, in the circuit at a place.
@@ -74,9 +48,9 @@ pub(crate) fn raise_circuit(
         (raised side delta (get_or (held_circuits places circuits.old) place no_circuit)))
         (held_circuits places circuits.old) }
 {
-    let before = circuit_at(circuits, places, place);
+    let before = at(circuits, places.circuits, place);
     let after = circuit_raised(before, side, delta);
-    set_circuit(circuits, go, place, after);
+    set(circuits, go, place, after);
 }
 
 // The place that a lookup found, else the lowest unused one.
@@ -102,10 +76,10 @@ pub(crate) fn put_circuit(
         (held_circuits places circuits.old) }
 {
     let size = circuits.len();
-    let old = find_circuit_id(circuits, places, id);
-    let spare = spare_circuit(circuits, places);
+    let old = find(circuits, places.circuits, &ById { id });
+    let spare = spare(circuits, places.circuits);
     let place = put_place(old, size, spare);
-    set_circuit(circuits, go, place, row);
+    set(circuits, go, place, row);
     raised(places.circuits, go, place, size)
 }
 
@@ -117,9 +91,9 @@ pub(crate) fn spend(ledger: &mut [ReservationUsage], places: Places, go: bool, p
         (spent n (get_or (held_ledger places ledger.old) place no_usage)))
         (held_ledger places ledger.old) }
 {
-    let usage = usage_at(ledger, places, place);
+    let usage = at(ledger, places.ledger, place);
     let after = usage_spent(usage, n);
-    set_usage(ledger, go, place, after);
+    set(ledger, go, place, after);
 }
 
 // The ledger record of a reservation, dropped.
@@ -127,10 +101,10 @@ pub(crate) fn drop_usage(ledger: &mut [ReservationUsage], places: Places, id: Re
     ensures { held_ledger places ledger.new
         ≡ edit (usage_at id) clear_usage (held_ledger places ledger.old) }
 {
-    let place = find_usage(ledger, places, id);
-    let usage = usage_at(ledger, places, place);
-    let gone = usage_unmarked(usage);
-    set_usage(ledger, true, place, gone);
+    let place = find(ledger, places.ledger, &ByReservation { id });
+    let usage = at(ledger, places.ledger, place);
+    let gone = usage.unmarked();
+    set(ledger, true, place, gone);
 }
 
 // The queue toward a side, lowered.
@@ -146,8 +120,8 @@ pub(crate) fn lower_circuit(
         ≡ cond go (edit (circuit_at id) (lowered side n) (held_circuits places circuits.old))
         (held_circuits places circuits.old) }
 {
-    let place = find_circuit_id(circuits, places, id);
-    let circuit = circuit_at(circuits, places, place);
+    let place = find(circuits, places.circuits, &ById { id });
+    let circuit = at(circuits, places.circuits, place);
     let after = circuit_lowered(circuit, side, n);
-    set_circuit(circuits, go, place, after);
+    set(circuits, go, place, after);
 }

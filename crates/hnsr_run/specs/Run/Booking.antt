@@ -1,5 +1,6 @@
 -- OPEN's ledger record: found, it stays; missing, it is made. And a draw that is found is neither taken nor zero.
-use Rattle.std.specs.Prelude.{ℕ, ◌≡◌, Bool, false, ◌&&◌, List, [], ◌∷◌, eqb}
+use Rattle.std.specs.Prelude.{ℕ, ◌+◌, ◌≡◌, Bool, false, ◌&&◌, List, [], ◌∷◌, eqb, leb}
+use Rattle.std.specs.Prelude.{Option, Some, None, is_none, unwrap_or}
 use Rattle.std.proofs.Math.Path.{refl, sym, ap, subst}
 use Rattle.std.proofs.Common.{◌∙◌}
 use Rattle.std.proofs.Math.Bool.{true, cond}
@@ -10,10 +11,9 @@ use Rattle.hns_encoding.specs.Sums.{non}
 use Rattle.hnsr_body.specs.declared.values.ReservationId.{ReservationId}
 use Rattle.hnsr_circuit.specs.declared.records.RelayTicket.{RelayTicket}
 use Rattle.hnsr_circuit.specs.declared.records.ReservationUsage.{ReservationUsage}
-use Rattle.hnsr_circuit.specs.declared.messages.draw.Drawing.{Drawing}
 use Rattle.hnsr_circuit.specs.Table.{any, pick, put}
 use Rattle.hnsr_circuit.specs.Ledger.{no_usage, is_usage, usage_at, fresh_usage, booked, usage_of}
-use Rattle.hnsr_circuit.specs.Draw.{zero_drawn, taken_drawn, fresh_drawn, draw_turn, draw_all}
+use Rattle.hnsr_circuit.specs.Draw.{draw_all}
 use Rattle.hnsr_circuit.specs.Laws.Lookups.{pick-has, pick-none}
 use Rattle.hnsr_circuit.specs.Laws.Keys.{reservation-refl}
 use Rattle.hnsr_run.specs.Past.{Book, lives, anew, remade}
@@ -81,16 +81,17 @@ pub record Free (used : ℕ → Bool) (id : ℕ) : Type 0 where
   pub untaken : used id ≡ false
   pub some : eqb id 0 ≡ false
 
-pub draw_free : (used : ℕ → Bool) (s : Drawing) (ids : List ℕ) → (s.found ≡ true → Free used s.id)
-    → (draw_all used s ids).found ≡ true
-    → Free used (draw_all used s ids).id
-unfolding draw_all draw_turn
-draw_free used s [] g h = g h
-draw_free used s (id ∷ ids) g h = draw_free used (draw_turn s id (used id)) ids
-    (choose (λ (x : Drawing). x.found ≡ true → Free used x.id) s.ended s _
-    (λ e. g)
-    (λ e. choose (λ (x : Drawing). x.found ≡ true → Free used x.id) (eqb id 0) (zero_drawn s) _
-    (λ z y. absurd (false≢true y))
-    (λ z. choose (λ (x : Drawing). x.found ≡ true → Free used x.id) (used id) (taken_drawn s) (fresh_drawn s id)
-    (λ u y. absurd (false≢true y))
-    (λ u y. record { untaken = u; some = z })))) h
+abbrev Drawn : (ℕ → Bool) → Option ℕ → Type 0
+Drawn used d = is_none d ≡ false → Free used (unwrap_or d 0)
+
+pub draw_free : (used : ℕ → Bool) (n m : ℕ) (ids : List ℕ) → Drawn used (draw_all used n m ids)
+unfolding draw_all
+draw_free used n m [] = λ e. absurd (false≢true (sym e))
+draw_free used n m (id ∷ ids) =
+    choose (Drawn used) (eqb id 0) _ _
+    (λ z. choose (Drawn used) (leb 8 (n + 1)) None (draw_all used (n + 1) m ids) (λ l e. absurd (false≢true (sym e)))
+    (λ l. draw_free used (n + 1) m ids))
+    (λ z. choose (Drawn used) (used id) _ (Some id)
+    (λ u. choose (Drawn used) (leb 8 (m + 1)) None (draw_all used 0 (m + 1) ids) (λ l e. absurd (false≢true (sym e)))
+    (λ l. draw_free used 0 (m + 1) ids))
+    (λ u e. record { untaken = u; some = z }))

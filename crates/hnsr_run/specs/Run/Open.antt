@@ -1,7 +1,7 @@
 -- OPEN keeps the invariant: refused, it may have dropped or made a ledger record; taken, an OPEN stands and INCOMING is
 -- queued.
 use Rattle.std.specs.Prelude.{ℕ, ◌+◌, ◌<◌, ◌≡◌, refl, Bool, true, false, cond, Ok, Err}
-use Rattle.std.specs.Prelude.{not, ◌&&◌, ◌||◌, [], leb, ltb, eqb, length}
+use Rattle.std.specs.Prelude.{not, ◌&&◌, ◌||◌, is_none, [], leb, ltb, eqb, length}
 use Rattle.std.proofs.Common.{sym, ap, ◌∙◌, leb-false}
 use Rattle.std.proofs.lemmas.Bool.{not-false}
 use Rattle.hns_encoding.specs.Numbers.{top}
@@ -72,7 +72,7 @@ admitted-rows w q e =
 
 pub record Placed (w : World) (q : Packet) (o : Opening) : Type 0 where
   pub apart : same_peer o.endpoint o.requester ≡ false
-  pub drawn : (drawn w q.random).found ≡ true
+  pub drawn : is_none (drawn w q.random) ≡ false
   pub room : capacity_answer (config_of w) (tallied false o.id o.endpoint w.inflight) ≡ Ok tt
   pub ledger : (not (has_usage o.ticket.reservation_id w.ledger)
       && leb (length w.ledger) (count is_usage w.ledger)) ≡ false
@@ -85,8 +85,8 @@ placed-rows w q o e =
     let t = leb (config_of w).maximum_circuits_per_peer (peer_work w o.endpoint) in
     let u = leb o.ticket.max_active_circuits (reservation_work w o.body.reservation_id) in
     let ends = check (s || t || u) Capacity in
-    let f = (drawn w q.random).found in
-    let draw = check (not f) Randomness in
+    let f = is_none (drawn w q.random) in
+    let draw = check f Randomness in
     let cap = capacity_answer (config_of w) (tallied false o.id o.endpoint w.inflight) in
     let late = deadline_answer (config_of w) q.now in
     let l =
@@ -98,7 +98,7 @@ placed-rows w q o e =
     let d = then_taken cap (late then full) c.1 in
     let g = then_taken late full d.1 in record {
       apart = (neither s t (neither (s || t) u (check-taken (s || t || u) Capacity b.0)).0).0;
-      drawn = not-false f (check-taken (not f) Randomness c.0);
+      drawn = check-taken f Randomness c.0;
       room = d.0;
       ledger = check-taken l LedgerFull g.1;
     }
@@ -141,7 +141,7 @@ unfolding open_placed peer_answer endpoint_answer draw_answer capacity_answer de
 never_placed w q o = placed-never (not (peer_good (length q.admission.endpoint)))
     (same_peer o.endpoint o.requester || leb (config_of w).maximum_circuits_per_peer (peer_work w o.endpoint)
     || leb o.ticket.max_active_circuits (reservation_work w o.body.reservation_id))
-    (not (drawn w q.random).found)
+    (is_none (drawn w q.random))
     (eqb (capacity_left (config_of w) (tallied false o.id o.endpoint w.inflight)) 0)
     (ltb (top 64) (q.now + (config_of w).accept_timeout_seconds))
     (not (has_usage o.ticket.reservation_id w.ledger) && leb (length w.ledger) (count is_usage w.ledger))

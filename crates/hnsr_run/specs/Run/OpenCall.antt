@@ -1,9 +1,9 @@
 -- OPEN keeps the invariant: its rows in order, what each refusal leaves, and the rest.
 use Rattle.std.specs.Prelude.{ℕ, ◌<◌, ◌≡◌, refl, Bool, true, false, cond, not, ◌||◌, List, [], ◌∷◌, leb, ltb, eqb}
-use Rattle.std.specs.Prelude.{Ok, Err}
+use Rattle.std.specs.Prelude.{Ok, Err, Option, is_none, unwrap_or}
 use Rattle.std.proofs.Common.{arith, sym, ap, ◌∙◌, true≢false, eqb-true, eq-eqb, lt-ltb}
 use Rattle.std.proofs.Math.Path.{subst}
-use Rattle.std.proofs.lemmas.Bool.{false≢true, not-false}
+use Rattle.std.proofs.lemmas.Bool.{not-false}
 use Rattle.hns_encoding.specs.Numbers.{top}
 use Rattle.hns_encoding.specs.Laws.Tests.{neither}
 use Rattle.hns_encoding.specs.Sums.{count}
@@ -22,8 +22,7 @@ use Rattle.hnsr_circuit.specs.World.{World, Outcome, config_of, with_ledger}
 use Rattle.hnsr_circuit.specs.Queue.{sequence_of, queued, routed, send}
 use Rattle.hnsr_circuit.specs.Counts.{pending_count}
 use Rattle.hnsr_circuit.specs.Packet.{Packet, sender}
-use Rattle.hnsr_circuit.specs.Draw.{undrawn, draws, id_taken, draw_all, drawn}
-use Rattle.hnsr_circuit.specs.declared.messages.draw.Drawing.{Drawing}
+use Rattle.hnsr_circuit.specs.Draw.{draws, id_taken, draw_all, drawn}
 use Rattle.hnsr_circuit.specs.Open.{deadline_for, Opening, pending_for, incoming_message, with_open, opening}
 use Rattle.hnsr_circuit.specs.Open.{open_admitted, open_placed, open_booked, open_granted, open_lapsed, handle_open}
 use Rattle.hnsr_circuit.specs.Laws.Answers.{check-taken}
@@ -65,13 +64,14 @@ usage_expiry t u e =
     ByteLimit e)).0)
 
 same_draw : (w : World) (h : Past) → Full none w h → (random : List ℕ)
-    → drawn w random ≡ draw_all (λ j. h.opens.standing j || h.active j) undrawn (draws random)
+    → drawn w random ≡ draw_all (λ j. h.opens.standing j || h.active j) 0 0 (draws random)
 unfolding drawn id_taken
-same_draw w h F random = λ i. draw_all (λ j. pending-there w h F j i || circuit-there w h F j i) undrawn (draws random)
+same_draw w h F random = λ i. draw_all (λ j. pending-there w h F j i || circuit-there w h F j i) 0 0 (draws random)
 
-drawn-free : (w : World) (random : List ℕ) → (drawn w random).found ≡ true → Free (id_taken w) (drawn w random).id
+drawn-free : (w : World) (random : List ℕ) → is_none (drawn w random) ≡ false
+    → Free (id_taken w) (unwrap_or (drawn w random) 0)
 unfolding drawn
-drawn-free w random e = draw_free (id_taken w) undrawn (draws random) (λ x. absurd (false≢true x)) e
+drawn-free w random e = draw_free (id_taken w) 0 0 (draws random) e
 
 untaken : (w : World) (id : ℕ) → id_taken w id ≡ false
     → (any (pending_at id) w.pending ≡ false) × (any (circuit_at id) w.circuits ≡ false)
@@ -169,7 +169,7 @@ module _ {w : World} {h : Past} (R : Rel w h) (H : Places w) (low : sequence_of 
         }
 
         same_id_lem : o₁.id ≡ drawn_in h q
-        same_id_lem = ap (λ (d : Drawing). d.id) (same_draw w₁ h R₁.base.full q.random)
+        same_id_lem = ap (λ (d : Option ℕ). unwrap_or d 0) (same_draw w₁ h R₁.base.full q.random)
 
         into-past : Rel (queued (incoming_message o₁) (with_open w₂ o₁))
             (emit (stood (with_book h book₂) o₁.id k) (heard (λ r. o₁.id))

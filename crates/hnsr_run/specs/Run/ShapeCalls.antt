@@ -1,8 +1,8 @@
 -- `handle` keeps the invariant of the world alone, whatever it answers: OPEN, ACCEPT, DATA, WINDOW, CLOSE and ERROR.
 use Rattle.std.specs.Prelude.{ℕ, ◌+◌, ◌≤◌, ◌<◌, ◌≡◌, refl, Bool, true, false, cond, not, ◌&&◌, List, leb, ltb, length}
-use Rattle.std.specs.Prelude.{Ok}
+use Rattle.std.specs.Prelude.{Ok, is_none, unwrap_or}
 use Rattle.std.proofs.Common.{arith, sym, ap, subst, length-set, leb-true, ltb-false, eqb-true}
-use Rattle.std.proofs.lemmas.Bool.{false≢true, not-false}
+use Rattle.std.proofs.lemmas.Bool.{not-false}
 use Rattle.hns_encoding.specs.Laws.Tests.{split, choose, both, neither, cond-le}
 use Rattle.hns_encoding.specs.Sums.{one, count}
 use Rattle.hnsr_body.specs.declared.values.ReservationId.{ReservationId}
@@ -35,7 +35,7 @@ use Rattle.hnsr_circuit.specs.World.{World, Outcome, config_of, with_ledger, at_
 use Rattle.hnsr_circuit.specs.Counts.{pending_count, circuit_count}
 use Rattle.hnsr_circuit.specs.Entry.{handle_words, room_answer, peer_answer}
 use Rattle.hnsr_circuit.specs.Packet.{Packet, sender, has_circuit, named_circuit, circuit_answer, receiver}
-use Rattle.hnsr_circuit.specs.Draw.{draws, undrawn, id_taken, drawn}
+use Rattle.hnsr_circuit.specs.Draw.{draws, id_taken, drawn}
 use Rattle.hnsr_circuit.specs.Open.{Opening, pending_for, with_open, opening, open_placed}
 use Rattle.hnsr_circuit.specs.Open.{open_booked, open_granted, open_lapsed, handle_open}
 use Rattle.hnsr_circuit.specs.Accept.{request_answer, circuit_for, with_accept}
@@ -121,9 +121,10 @@ booked_shape w t S = ledger_shape S (record {
 })
 
 -- ---- OPEN
-drawn-free : (w : World) (random : List ℕ) → (drawn w random).found ≡ true → Free (id_taken w) (drawn w random).id
+drawn-free : (w : World) (random : List ℕ) → is_none (drawn w random) ≡ false
+    → Free (id_taken w) (unwrap_or (drawn w random) 0)
 unfolding drawn
-drawn-free w random e = draw_free (id_taken w) undrawn (draws random) (λ x. absurd (false≢true x)) e
+drawn-free w random e = draw_free (id_taken w) 0 0 (draws random) e
 
 none-taken : (w : World) (id : ℕ) → id_taken w id ≡ false
     → (count (pending_at id) w.pending ≡ 0) × (count (circuit_at id) w.circuits ≡ 0)

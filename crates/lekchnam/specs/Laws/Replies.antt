@@ -10,13 +10,13 @@ use Rattle.hnsr_circuit.specs.Answers.{number, cause_of}
 use Rattle.hnsr_circuit.specs.World.{Outcome}
 use Rattle.hnsr_circuit.specs.Code.Held.{held_pending, held_circuits, held_ledger}
 use Rattle.hnsr_circuit.specs.Code.Held.{held_actions, world_seen, handed_seen}
-use Rattle.hnsr_circuit.specs.Code.Progress.{Result}
+use Rattle.hnsr_circuit.specs.Code.Progress.{Ended}
 use Rattle.hnsr_circuit.specs.Code.Told.{Made}
 use Rattle.lekchnam.specs.declared.relay.RelayReply.{RelayReply}
 use Rattle.lekchnam.specs.Replies.{reply_of, replied, numbered, MadeReply}
 
 pub in_numbers : {r : RelayReply} {d : Relayed} (p : List RelayPending) (c : List RelayCircuit)
-    (l : List ReservationUsage) (i : List InflightAction) (out : List ℕ) {R : Result}
+    (l : List ReservationUsage) (i : List InflightAction) (out : List ℕ) {R : Ended}
     → r ≡ reply_of d → handed_seen d p c l i out ≡ R → replied r p c l i out ≡ numbered R
 in_numbers p c l i out e h = ap (λ (q : RelayReply). replied q p c l i out) e ∙ ap numbered h
 

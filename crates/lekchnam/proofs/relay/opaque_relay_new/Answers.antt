@@ -5,5 +5,5 @@ use Rattle.lekchnam.proofs.relay.opaque_relay_new.Goals as goal
 pub returns : goal.returns
 returns c h =
     let a = c.args in
-    made_in_numbers a.pending.now a.circuits.now a.ledger.now a.inflight.now _ c.reply.ensures
-    (c.new-made.ensures h)
+    made_in_numbers a.pending.now a.circuits.now a.ledger.now a.inflight.now _ c.into.ensures
+    (c.new.ensures h)

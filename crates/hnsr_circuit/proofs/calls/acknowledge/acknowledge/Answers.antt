@@ -1,4 +1,6 @@
 -- Turned away by its rows, or gone on with the action that is found.
+use Rattle.hnsr_circuit.specs.Answers.{taken}
+use Rattle.hnsr_circuit.specs.Laws.Calls.{answered}
 use borrow.Author.Rules.{rules}
 use Prim.Native.Nat.{◌<◌}
 use mathlib.Core.Path.{sym, ap, ◌∙◌}
@@ -6,7 +8,7 @@ use mathlib.Core.Bool.{◌||◌}
 use lib.ListN.{length}
 use lib.Dec.{ltb}
 use Rattle.hnsr_circuit.specs.declared.answer.HnsrRuntimeError.TheVariants.{Short}
-use Rattle.hnsr_circuit.specs.declared.tables.lookup.ActionFound.{ActionFound}
+use Rattle.hnsr_circuit.specs.declared.tables.lookup.Found.{Found}
 use Rattle.hnsr_circuit.specs.declared.records.InflightAction.{InflightAction}
 use Rattle.hnsr_circuit.specs.Answers.{check, ◌then◌}
 use Rattle.hnsr_circuit.specs.World.{Outcome, world_of}
@@ -23,9 +25,9 @@ use Rattle.hnsr_circuit.specs.Code.Held.{held_pending, held_circuits, held_ledge
 use Rattle.hnsr_circuit.specs.Laws.HeldTables.{places-kept, few-held}
 use Rattle.hnsr_circuit.proofs.calls.acknowledge.acknowledge.Goals as goal
 
-pub returns-then-is_ok : goal.returns-then-is_ok
+pub returns-in-Ok : goal.returns-in-Ok
 unfolding step acknowledge acknowledge_taken room_answer tables_short
-returns-then-is_ok c =
+returns-in-Ok c =
     λ l₀.
     let s = c in
     let a = s.args in
@@ -33,10 +35,10 @@ returns-then-is_ok c =
     let w = world_of a.runtime (held_pending a.places a.pending.now)
     (held_circuits a.places a.circuits.now) l (held_actions a.places a.inflight.now) in
     let call = call_acknowledge a.generation a.sequence a.delivered (length a.out.now) in
-    let ef = c.look_up_action-found.ensures in
-    let found = ap (λ (f : ActionFound). f.found) ef in
-    let action = ap (λ (f : ActionFound). f.action) ef in
-    let answer = c.acknowledge_answer-answer.ensures
+    let ef = c.look_up-found.ensures in
+    let found = ap (λ (f : Found InflightAction). f.found) ef in
+    let action = ap (λ (f : Found InflightAction). f.row) ef in
+    let answer = c.acknowledge_answer.ensures
     ∙ (λ x. check (ltb (length a.out.now) acknowledge_words
     || (c.too_few-few.ensures
     ∙ few-held a.runtime.config a.places a.pending.now a.circuits.now a.inflight.now) x) Short
@@ -46,15 +48,15 @@ returns-then-is_ok c =
     c.acknowledge_action.ensures l₀ a.generation a.sequence ef
     ∙ ap (λ (o : Outcome). ending a.out.now o)
     (ap (λ (x : InflightAction). acknowledge_action w a.generation a.sequence a.delivered x) action
-    ∙ sym (gone-on w c.acknowledge_answer-answer.result _
+    ∙ sym (gone-on w c.acknowledge_answer.result _
     (acknowledge_action w a.generation a.sequence a.delivered
     (pick (action_at a.generation a.sequence) no_action (held_actions a.places a.inflight.now)))
-    (sym c.is_ok.ensures.value ∙ c.if-is_ok.true) answer))
+    (ap taken c.in-Ok.is) answer))
     ∙ whole a.out.now w call (omega arith) (omega arith)
 
-pub returns : goal.returns
+pub returns-in-Err : goal.returns-in-Err
 unfolding step acknowledge acknowledge_taken room_answer tables_short
-returns c =
+returns-in-Err c =
     λ l₀.
     let s = c in
     let a = s.args in
@@ -62,9 +64,9 @@ returns c =
     let w = world_of a.runtime (held_pending a.places a.pending.now)
     (held_circuits a.places a.circuits.now) l (held_actions a.places a.inflight.now) in
     let call = call_acknowledge a.generation a.sequence a.delivered (length a.out.now) in
-    let ef = c.look_up_action-found.ensures in
-    let found = ap (λ (f : ActionFound). f.found) ef in
-    let answer = c.acknowledge_answer-answer.ensures
+    let ef = c.look_up-found.ensures in
+    let found = ap (λ (f : Found InflightAction). f.found) ef in
+    let answer = c.acknowledge_answer.ensures
     ∙ (λ x. check (ltb (length a.out.now) acknowledge_words
     || (c.too_few-few.ensures
     ∙ few-held a.runtime.config a.places a.pending.now a.circuits.now a.inflight.now) x) Short
@@ -75,8 +77,8 @@ returns c =
     a.places c.refused.ensures.1
     ∙ turned_away a.runtime (held_pending a.places a.pending.now) (held_circuits a.places a.circuits.now)
     l (held_actions a.places a.inflight.now) a.out.now c.refused.result
-    c.acknowledge_answer-answer.result _
+    c.acknowledge_answer.result _
     (acknowledge_action w a.generation a.sequence a.delivered
     (pick (action_at a.generation a.sequence) no_action (held_actions a.places a.inflight.now)))
-    c.refused.ensures.0 (sym c.is_ok.ensures.value ∙ c.if-is_ok.false) answer
+    (answered c.refused.ensures.0 c.in-Err.is) (ap taken c.in-Err.is) answer
     ∙ whole a.out.now w call (omega arith) (omega arith)

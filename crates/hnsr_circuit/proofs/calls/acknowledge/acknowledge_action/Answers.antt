@@ -3,7 +3,8 @@ use mathlib.Core.Path.{sym, ap, ◌∙◌}
 use mathlib.Core.Bool.{true}
 use lib.ListN.{set}
 use Rattle.hnsr_circuit.specs.Inflight.{clear_action}
-use Rattle.hnsr_circuit.specs.declared.tables.lookup.ActionFound.{ActionFound}
+use Rattle.hnsr_circuit.specs.declared.records.InflightAction.{InflightAction}
+use Rattle.hnsr_circuit.specs.declared.tables.lookup.Found.{Found}
 use Rattle.hnsr_circuit.specs.World.{Outcome}
 use Rattle.hnsr_circuit.specs.Code.Progress.{ending}
 use Rattle.hnsr_circuit.specs.Laws.Acknowledging.{action-settled}
@@ -15,15 +16,15 @@ pub returns : goal.returns
 returns c =
     λ l₀ g n ef.
     let a = c.args in
-    let k = a.found.action in
+    let k = a.found.row in
     let i = held_actions a.places a.inflight.now in
-    let r = c.action_unmarked-gone.ensures in
+    let r = c.unmarked-gone.ensures in
     let after = stored-seen clear_action a.places.actions a.inflight.now _ true a.found.place
-    c.action_unmarked-gone.result (λ h. ap clear_action r ∙ sym r) c.set_action.ensures
-    ∙ (λ x. set i (ap (λ (f : ActionFound). f.place) ef x) (r x)) in
+    c.unmarked-gone.result (λ h. ap clear_action r ∙ sym r) c.set.ensures
+    ∙ (λ x. set i (ap (λ (f : Found InflightAction). f.place) ef x) (r x)) in
     c.settle.ensures l₀
     ∙ ap (λ (o : Outcome). ending a.out.now o)
     (action-settled a.runtime (held_pending a.places a.pending.now) (held_circuits a.places a.circuits.now)
     (held_ledger a.places l₀) i g n a.delivered (held_circuits a.places c.lower_for.new.circuits)
-    (held_actions a.places c.set_action.new.inflight) k (ap (λ (f : ActionFound). f.action) ef) after
+    (held_actions a.places c.set.new.rows) k (ap (λ (f : Found InflightAction). f.row) ef) after
     c.lower_for.ensures)

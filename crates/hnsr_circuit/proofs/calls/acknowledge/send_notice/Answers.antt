@@ -4,7 +4,7 @@ use mathlib.Core.Path.{sym, ap, ◌∙◌}
 use mathlib.Core.List.{List}
 use lib.Seq.{length-take-le}
 use Rattle.hnsr_circuit.specs.Queue.{send}
-use Rattle.hnsr_circuit.specs.World.{proceed, world_of}
+use Rattle.hnsr_circuit.specs.World.{world_of}
 use Rattle.hnsr_circuit.specs.Code.Progress.{message_of, ending}
 use Rattle.hnsr_circuit.specs.Laws.Route.{notice_length, notice_bytes}
 use Rattle.hnsr_circuit.specs.Code.Held.{held_pending, held_circuits, held_ledger, held_actions}
@@ -20,7 +20,6 @@ slice_bounds-send-end c =
     sym (length-take-le w.length w.bytes (notice_length w c.args.notice c.encode-written.ensures).0)
 
 pub returns : goal.returns
-unfolding proceed
 returns c =
     λ p₀ cs₀ l₀.
     let a = c.args in

@@ -17,9 +17,9 @@ returns-then-delivered c =
     let cs = held_circuits a.places a.circuits.now in
     let l = held_ledger a.places l₀ in
     let i = held_actions a.places a.inflight.now in
-    places-kept c.taken_with.result a.pending.now a.circuits.now l₀ a.inflight.now a.out.now
-    a.places c.taken_with.ensures.1
-    ∙ taken-is-done c.taken_with.result a.runtime p cs l i a.out.now c.taken_with.ensures.0
+    places-kept c.taken.result a.pending.now a.circuits.now l₀ a.inflight.now a.out.now
+    a.places c.taken.ensures.1
+    ∙ taken-is-done c.taken.result a.runtime p cs l i a.out.now c.taken.ensures.0
     ∙ ap (λ (o : Outcome). ending a.out.now o)
     (settled-delivered (world_of a.runtime p cs l i) a.action a.delivered c.if-delivered.true)
 
@@ -32,7 +32,7 @@ returns-in-Incoming c =
     (held_circuits a.places a.circuits.now) (held_ledger a.places l₀) (held_actions a.places a.inflight.now) in
     c.fail_incoming.ensures a.circuits.now l₀
     ∙ ap (λ (o : Outcome). ending a.out.now o)
-    (settled-by w a.action a.delivered Incoming (sym c.kind_of.ensures ∙ c.in-Incoming.is) c.if-delivered.false)
+    (settled-by w a.action a.delivered Incoming (sym c.from.ensures ∙ c.in-Incoming.is) c.if-delivered.false)
 
 pub returns-in-Opened : goal.returns-in-Opened
 returns-in-Opened c =
@@ -42,7 +42,7 @@ returns-in-Opened c =
     (held_circuits a.places a.circuits.now) (held_ledger a.places l₀) (held_actions a.places a.inflight.now) in
     c.revoke_one.ensures a.pending.now l₀
     ∙ ap (λ (o : Outcome). ending a.out.now o)
-    (settled-revoked w a.action a.delivered c.kind_of.result (sym c.kind_of.ensures) c.in-Opened.is
+    (settled-revoked w a.action a.delivered c.from.result (sym c.from.ensures) c.in-Opened.is
     c.if-delivered.false)
 
 pub returns-in-Close : goal.returns-in-Close
@@ -54,9 +54,9 @@ returns-in-Close c =
     let cs = held_circuits a.places a.circuits.now in
     let l = held_ledger a.places l₀ in
     let i = held_actions a.places a.inflight.now in
-    places-kept c.taken_with-in-Close.result a.pending.now a.circuits.now l₀ a.inflight.now a.out.now
-    a.places c.taken_with-in-Close.ensures.1
-    ∙ taken-is-done c.taken_with-in-Close.result a.runtime p cs l i a.out.now c.taken_with-in-Close.ensures.0
+    places-kept c.taken-in-Close.result a.pending.now a.circuits.now l₀ a.inflight.now a.out.now
+    a.places c.taken-in-Close.ensures.1
+    ∙ taken-is-done c.taken-in-Close.result a.runtime p cs l i a.out.now c.taken-in-Close.ensures.0
     ∙ ap (λ (o : Outcome). ending a.out.now o)
-    (settled-by (world_of a.runtime p cs l i) a.action a.delivered Close (sym c.kind_of.ensures ∙ c.in-Close.is)
+    (settled-by (world_of a.runtime p cs l i) a.action a.delivered Close (sym c.from.ensures ∙ c.in-Close.is)
     c.if-delivered.false)

@@ -76,11 +76,11 @@ returns-in-0-to-12 c =
     let r = a.request in
     let n = r.packet.opcode in
     let q = packet_of r.packet source a.body.now a.endpoint.now a.random.now in
-    places-kept c.unexpected.result a.pending.now a.circuits.now a.ledger.now a.inflight.now
-    a.out.now r.places c.unexpected.ensures.1
+    places-kept c.refused.result a.pending.now a.circuits.now a.ledger.now a.inflight.now
+    a.out.now r.places c.refused.ensures.1
     ∙ left_alone r.runtime (held_pending r.places a.pending.now) (held_circuits r.places a.circuits.now)
-    (held_ledger r.places a.ledger.now) (held_actions r.places a.inflight.now) c.unexpected.result n
-    q a.out.now c.unexpected.ensures.0
+    (held_ledger r.places a.ledger.now) (held_actions r.places a.inflight.now) c.refused.result n
+    q a.out.now c.refused.ensures.0
     (elim c.in-0-to-12-1.branch [
       | in-14-1 w ↦ ⊎_elim (other-incoming n) (other-opened n) w.in-14-1.keys5
       | in_default+then-opcode-lt13 w ↦ other-below n w.if-opcode-lt13-1.true

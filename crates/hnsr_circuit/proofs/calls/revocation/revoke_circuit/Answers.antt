@@ -26,8 +26,8 @@ returns c =
     let cs = held_circuits a.sending.places a.circuits.now in
     let i = held_actions a.sending.places a.inflight.now in
     let nb = notice_body a.notice in
-    let row = c.circuit_at-row.ensures in
-    let k = c.circuit_at-row.result in
+    let row = c.at-row.ensures in
+    let k = c.at-row.result in
     let e = c.counted-after.ensures in
     let h = c.counted-after.result in
     let one = message_of c.closing-first.result nb in
@@ -38,13 +38,13 @@ returns c =
     let second =
     ap (λ (m : Outgoing). message_of m nb)
     (c.closing-second.ensures ∙ ap (λ (k : RelayCircuit). close_side k k.endpoint) row) in
-    let r = c.circuit_unmarked-gone.ensures in
+    let r = c.unmarked-gone.ensures in
     let after =
     stored-seen clear_circuit a.sending.places.circuits a.circuits.now _ true a.place
-    c.circuit_unmarked-gone.result (λ h. ap clear_circuit r ∙ sym r) c.set_circuit.ensures
+    c.unmarked-gone.result (λ h. ap clear_circuit r ∙ sym r) c.set.ensures
     ∙ ap (λ (k : RelayCircuit). set cs a.place k) (r ∙ ap clear_circuit row) in
     let dropping = ap (λ (k : RelayCircuit). dropped (action_under k.circuit_id) i) row in
-    let c0 = c.set_circuit.new.circuits in
+    let c0 = c.set.new.rows in
     let c1 = held_circuits a.sending.places c0 in
     let i1 = dropped (action_under k.circuit_id) i in
     c.tell_notice.ensures p₀ c0 l₀

@@ -31,7 +31,7 @@ returns-then-place-circuits c =
     c.started-start.ensures.1
     ∙ begun a.runtime p cs l (held_actions a.places a.inflight.now) a.out.now c.started-start.result
     c.started-start.ensures.0 in
-    let place = c.find_circuit_id-place.ensures in
+    let place = c.find-place.ensures in
     let long = length-held clear_circuit a.places.circuits a.circuits.now in
     let less = c.if-place-circuits.true in
     let found : any (circuit_at a.id) cs ≡ true =
@@ -41,7 +41,7 @@ returns-then-place-circuits c =
     ∙ over c.finished.result c.revoke_circuit-told.result _ _ _ _ _
     (advanced (progress w 0 a.out.now) (revoke_circuit a.notice w a.id)) c.finished.ensures.0
     (c.revoke_circuit-told.ensures p₀ l₀
-    ∙ ap (λ (s : Progress). advance (λ x. revoke_circuit_there a.notice x c.find_circuit_id-place.result) s) start
+    ∙ ap (λ (s : Progress). advance (λ x. revoke_circuit_there a.notice x c.find-place.result) s) start
     ∙ ap (λ (k : ℕ). advanced (progress w 0 a.out.now) (revoke_circuit_there a.notice w k)) place
     ∙ ap (advanced (progress w 0 a.out.now)) (sym (revoked-found a.notice w a.id found)))
 
@@ -59,7 +59,7 @@ returns c =
     c.started-start.ensures.1
     ∙ begun a.runtime p cs l (held_actions a.places a.inflight.now) a.out.now c.started-start.result
     c.started-start.ensures.0 in
-    let place = c.find_circuit_id-place.ensures in
+    let place = c.find-place.ensures in
     let long = length-held clear_circuit a.places.circuits a.circuits.now in
     let over-all = c.if-place-circuits.false in
     let none : any (circuit_at a.id) cs ≡ false =

@@ -29,8 +29,8 @@ returns-then-revoking c =
     let p = held_pending a.sending.places a.pending.now in
     let i = held_actions a.sending.places a.inflight.now in
     let n = notice_body c.pending_notice-notice.result in
-    let row = c.pending_at-row.ensures in
-    let k = c.pending_at-row.result in
+    let row = c.at-row.ensures in
+    let k = c.at-row.result in
     let e = c.counted-after.ensures in
     let h = c.counted-after.result in
     let one = message_of c.first_message-first.result n in
@@ -38,13 +38,13 @@ returns-then-revoking c =
     let first = c.first_message-first.ensures ∙ ap (λ (k : RelayPending). first_out v k) row in
     let second = c.close_to_endpoint-second.ensures ∙ ap (λ (k : RelayPending). close_out k) row in
     let notice = c.pending_notice-notice.ensures in
-    let r = c.pending_unmarked-gone.ensures in
+    let r = c.unmarked-gone.ensures in
     let after =
     stored-seen clear_pending a.sending.places.pending a.pending.now _ true a.place
-    c.pending_unmarked-gone.result (λ h. ap clear_pending r ∙ sym r) c.set_pending.ensures
+    c.unmarked-gone.result (λ h. ap clear_pending r ∙ sym r) c.set.ensures
     ∙ ap (λ (k : RelayPending). set p a.place k) (r ∙ ap clear_pending row) in
     let dropping = ap (λ (k : RelayPending). dropped (action_under k.circuit_id) i) row in
-    let p0 = c.set_pending.new.pending in
+    let p0 = c.set.new.rows in
     let p1 = held_pending a.sending.places p0 in
     let i1 = dropped (action_under k.circuit_id) i in
     let told = c.drop_and_tell-told.ensures p0 cs₀ l₀
@@ -69,8 +69,8 @@ returns c =
     let p = held_pending a.sending.places a.pending.now in
     let i = held_actions a.sending.places a.inflight.now in
     let n = notice_body c.pending_notice-notice.result in
-    let row = c.pending_at-row.ensures in
-    let k = c.pending_at-row.result in
+    let row = c.at-row.ensures in
+    let k = c.at-row.result in
     let e = c.counted-after.ensures in
     let h = c.counted-after.result in
     let one = message_of c.first_message-first.result n in
@@ -78,13 +78,13 @@ returns c =
     let first = c.first_message-first.ensures ∙ ap (λ (k : RelayPending). first_out v k) row in
     let second = c.close_to_endpoint-second.ensures ∙ ap (λ (k : RelayPending). close_out k) row in
     let notice = c.pending_notice-notice.ensures in
-    let r = c.pending_unmarked-gone.ensures in
+    let r = c.unmarked-gone.ensures in
     let after =
     stored-seen clear_pending a.sending.places.pending a.pending.now _ true a.place
-    c.pending_unmarked-gone.result (λ h. ap clear_pending r ∙ sym r) c.set_pending.ensures
+    c.unmarked-gone.result (λ h. ap clear_pending r ∙ sym r) c.set.ensures
     ∙ ap (λ (k : RelayPending). set p a.place k) (r ∙ ap clear_pending row) in
     let dropping = ap (λ (k : RelayPending). dropped (action_under k.circuit_id) i) row in
-    let p0 = c.set_pending.new.pending in
+    let p0 = c.set.new.rows in
     let p1 = held_pending a.sending.places p0 in
     let i1 = dropped (action_under k.circuit_id) i in
     let told = c.drop_and_tell-told.ensures p0 cs₀ l₀

@@ -72,8 +72,8 @@ loop-turn-preserved c =
           walk-on circuit_id circuit_table (revoked_circuit a.revoking)
           (revoke_circuit_there a.revoking.circuit_notice)
           (underway_seen c.revoke_circuit-told.result p c.revoke_circuit-told.new.circuits l
-          c.revoke_circuit-told.new.inflight c.revoke_circuit-told.new.out) k n c.next_circuit-next.result
-          c.next_circuit-next.ensures
+          c.revoke_circuit-told.new.inflight c.revoke_circuit-told.new.out) k n c.next-next.result
+          c.next-next.ensures
           ∙ ap (λ (s : Progress). advance (walk_from circuit_id circuit_table (revoked_circuit a.revoking)
           (revoke_circuit_there a.revoking.circuit_notice) k n) s) (c.revoke_circuit-told.ensures p l)
           ∙ sym (walk_turn circuit_id circuit_table (revoked_circuit a.revoking)

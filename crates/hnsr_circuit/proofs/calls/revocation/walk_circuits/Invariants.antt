@@ -21,9 +21,10 @@ invariant-loop-turn l =
     × (length l.inflight ≡ length l.initial.inflight)
     × (length l.out ≡ length l.initial.out)
     × ((p : List RelayPending) (us : List ReservationUsage)
-    → advance (walk_on circuit_id circuit_table (circuit_has l.question l.peer) (revoke_circuit_there l.notice)
-    (l.most - l.turn) l.next) (underway_seen l.told p l.circuits us l.inflight l.out)
-    ≡ advance (walk circuit_id circuit_table (circuit_has l.question l.peer) (revoke_circuit_there l.notice))
+    → advance (walk_on circuit_id circuit_table (circuit_has l.asked.question l.asked.peer)
+    (revoke_circuit_there l.notice) (l.most - l.turn) l.next) (underway_seen l.told p l.circuits us l.inflight l.out)
+    ≡ advance
+    (walk circuit_id circuit_table (circuit_has l.asked.question l.asked.peer) (revoke_circuit_there l.notice))
     (underway_seen l.initial.told p l.initial.circuits us l.initial.inflight l.initial.out))
 
 abbrev pub decreases-loop-turn : goal.decreases-loop-turn

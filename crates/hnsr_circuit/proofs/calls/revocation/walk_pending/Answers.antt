@@ -69,8 +69,8 @@ loop-turn-preserved c =
       λ cs l.
           walk-on pending_id pending_table (revoked_pending a.revoking) (ending_pending a.revoking)
           (underway_seen c.revoke_pending-told.result c.revoke_pending-told.new.pending cs l
-          c.revoke_pending-told.new.inflight c.revoke_pending-told.new.out) k n c.next_pending-next.result
-          c.next_pending-next.ensures
+          c.revoke_pending-told.new.inflight c.revoke_pending-told.new.out) k n c.next-next.result
+          c.next-next.ensures
           ∙ ap (λ (s : Progress).
           advance (walk_from pending_id pending_table (revoked_pending a.revoking) (ending_pending a.revoking) k n) s)
           (c.revoke_pending-told.ensures cs l)

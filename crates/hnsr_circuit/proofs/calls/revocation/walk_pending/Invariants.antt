@@ -22,9 +22,9 @@ invariant-loop-turn l =
     × (length l.inflight ≡ length l.initial.inflight)
     × (length l.out ≡ length l.initial.out)
     × ((cs : List RelayCircuit) (us : List ReservationUsage)
-    → advance (walk_on pending_id pending_table (pending_has l.question l.peer) (ending_pending l.revoking)
+    → advance (walk_on pending_id pending_table (pending_has l.asked.question l.asked.peer) (ending_pending l.revoking)
     (l.most - l.turn) l.next) (underway_seen l.told l.pending cs us l.inflight l.out)
-    ≡ advance (walk pending_id pending_table (pending_has l.question l.peer) (ending_pending l.revoking))
+    ≡ advance (walk pending_id pending_table (pending_has l.asked.question l.asked.peer) (ending_pending l.revoking))
     (underway_seen l.initial.told l.initial.pending cs us l.initial.inflight l.initial.out))
 
 abbrev pub decreases-loop-turn : goal.decreases-loop-turn

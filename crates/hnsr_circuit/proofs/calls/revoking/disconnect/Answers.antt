@@ -1,8 +1,10 @@
 -- Turned away by its rows, or gone on: the actions toward the peer dropped, then its records revoked.
+use Rattle.std.proofs.Common.{Ok, Err}
+use mathlib.Core.Path.{refl, sym, ap, ◌∙◌}
+use Rattle.hnsr_circuit.specs.Laws.RevokingCalls.{entry-passed, entry-refused}
 use borrow.Author.Rules.{rules}
 use Prim.Native.Nat.{◌<◌}
 use Prim.Native.Nat.{◌*◌, ◌+◌}
-use mathlib.Core.Path.{sym, ap, ◌∙◌}
 use lib.ListN.{length}
 use lib.Dec.{ltb}
 use Rattle.hns_encoding.specs.Sums.{count}
@@ -24,9 +26,12 @@ use Rattle.hnsr_circuit.specs.Laws.HeldTables.{places-kept, entry-held}
 use Rattle.hnsr_circuit.specs.Code.Held.{held_pending, held_circuits, held_ledger, held_actions}
 use Rattle.hnsr_circuit.proofs.calls.revoking.disconnect.Goals as goal
 
-pub returns-then-is_ok : goal.returns-then-is_ok
+pub revoke_all-requires : goal.revoke_all-requires
+revoke_all-requires c = (entry-passed _ _ _ _ c.entered-firsts.ensures c.in-Ok.is).1
+
+pub returns-in-Ok : goal.returns-in-Ok
 unfolding room_answer tables_short pending_count circuit_count step
-returns-then-is_ok c =
+returns-in-Ok c =
     λ l₀.
     let s = c in
     let a = s.args in
@@ -34,9 +39,8 @@ returns-then-is_ok c =
     let w = world_of a.runtime (held_pending a.places a.pending.now)
     (held_circuits a.places a.circuits.now) l (held_actions a.places a.inflight.now) in
     let call = call_disconnect a.peer.now (length a.out.now) in
-    let answer = c.and-answer.ensures
-    ∙ (λ x. (c.entry_answer-entry.ensures.0
-    ∙ entry-held (ltb (length a.out.now)
+    let answer = sym (entry-passed _ _ _ _ c.entered-firsts.ensures c.in-Ok.is).0
+    ∙ (λ x. (entry-held (ltb (length a.out.now)
     (closing_words
     * (count is_pending (held_pending a.places a.pending.now)
     + count is_circuit (held_circuits a.places a.circuits.now)))) Short a.runtime.config
@@ -47,15 +51,15 @@ returns-then-is_ok c =
     c.revoke_all.ensures l₀
     ∙ ap (λ (o : Outcome). ending a.out.now o)
     (disconnected a.runtime (held_pending a.places a.pending.now) (held_circuits a.places a.circuits.now)
-    l (held_actions a.places a.inflight.now) a.peer.now (length a.out.now) c.and-answer.result
-    c.peer_of-name.result c.disconnecting-all.result (held_actions a.places c.clear_action.new.inflight)
-    (sym c.is_ok.ensures.value ∙ c.if-is_ok.true) answer c.peer_of-name.ensures c.disconnecting-all.ensures
-    c.clear_action.ensures)
+    l (held_actions a.places a.inflight.now) a.peer.now (length a.out.now) (Ok tt)
+    c.new-name.result c.disconnecting-all.result (held_actions a.places c.clear.new.rows)
+    refl answer c.new-name.ensures c.disconnecting-all.ensures
+    c.clear.ensures)
     ∙ whole a.out.now w call (omega arith) (omega arith)
 
-pub returns : goal.returns
+pub returns-in-Err : goal.returns-in-Err
 unfolding room_answer tables_short pending_count circuit_count step disconnect
-returns c =
+returns-in-Err c =
     λ l₀.
     let s = c in
     let a = s.args in
@@ -63,9 +67,8 @@ returns c =
     let w = world_of a.runtime (held_pending a.places a.pending.now)
     (held_circuits a.places a.circuits.now) l (held_actions a.places a.inflight.now) in
     let call = call_disconnect a.peer.now (length a.out.now) in
-    let answer = c.and-answer.ensures
-    ∙ (λ x. (c.entry_answer-entry.ensures.0
-    ∙ entry-held (ltb (length a.out.now)
+    let answer = sym (entry-refused _ _ _ _ c.entered-firsts.ensures c.in-Err.is)
+    ∙ (λ x. (entry-held (ltb (length a.out.now)
     (closing_words
     * (count is_pending (held_pending a.places a.pending.now)
     + count is_circuit (held_circuits a.places a.circuits.now)))) Short a.runtime.config
@@ -76,7 +79,7 @@ returns c =
     places-kept c.refused.result a.pending.now a.circuits.now l₀ a.inflight.now a.out.now
     a.places c.refused.ensures.1
     ∙ turned_away a.runtime (held_pending a.places a.pending.now) (held_circuits a.places a.circuits.now)
-    l (held_actions a.places a.inflight.now) a.out.now c.refused.result c.and-answer.result _
+    l (held_actions a.places a.inflight.now) a.out.now c.refused.result (Err c.in-Err.error) _
     (disconnect_peer w (peer_of a.peer.now)) c.refused.ensures.0
-    (sym c.is_ok.ensures.value ∙ c.if-is_ok.false) answer
+    refl answer
     ∙ whole a.out.now w call (omega arith) (omega arith)

@@ -1,8 +1,10 @@
 -- Turned away by its rows, or gone on: the clock moved, ledger records dropped, then what is over revoked.
+use Rattle.std.proofs.Common.{Ok, Err}
+use mathlib.Core.Path.{refl, sym, ap, ◌∙◌}
+use Rattle.hnsr_circuit.specs.Laws.RevokingCalls.{entry-passed, entry-refused}
 use borrow.Author.Rules.{rules}
 use Prim.Native.Nat.{◌<◌}
 use Prim.Native.Nat.{◌*◌, ◌+◌}
-use mathlib.Core.Path.{sym, ap, ◌∙◌}
 use lib.ListN.{length}
 use lib.Dec.{ltb}
 use Rattle.hns_encoding.specs.Sums.{count}
@@ -23,18 +25,20 @@ use Rattle.hnsr_circuit.specs.Laws.HeldTables.{places-kept, entry-held}
 use Rattle.hnsr_circuit.specs.Code.Held.{held_pending, held_circuits, held_ledger, held_actions}
 use Rattle.hnsr_circuit.proofs.calls.revoking.expire.Goals as goal
 
-pub returns-then-is_ok : goal.returns-then-is_ok
+pub revoke_all-requires : goal.revoke_all-requires
+revoke_all-requires c = (entry-passed _ _ _ _ c.entered-firsts.ensures c.in-Ok.is).1
+
+pub returns-in-Ok : goal.returns-in-Ok
 unfolding room_answer tables_short pending_count circuit_count step
-returns-then-is_ok c =
+returns-in-Ok c =
     let s = c in
     let a = s.args in
     let w = world_of a.runtime (held_pending a.places a.pending.now)
     (held_circuits a.places a.circuits.now) (held_ledger a.places a.ledger.now)
     (held_actions a.places a.inflight.now) in
     let call = call_expire a.time (length a.out.now) in
-    let answer = c.and-answer.ensures
-    ∙ (λ x. (c.entry_answer-entry.ensures.0
-    ∙ entry-held (ltb (length a.out.now)
+    let answer = sym (entry-passed _ _ _ _ c.entered-firsts.ensures c.in-Ok.is).0
+    ∙ (λ x. (entry-held (ltb (length a.out.now)
     (closing_words
     * (count is_pending (held_pending a.places a.pending.now)
     + count is_circuit (held_circuits a.places a.circuits.now)))) Short a.runtime.config
@@ -46,23 +50,22 @@ returns-then-is_ok c =
     ∙ ap (λ (o : Outcome). ending a.out.now o)
     (expired a.runtime (held_pending a.places a.pending.now) (held_circuits a.places a.circuits.now)
     (held_ledger a.places a.ledger.now) (held_actions a.places a.inflight.now) a.time
-    (length a.out.now) c.and-answer.result c.revoking-all.result c.with_clock-moved.result
-    (held_ledger a.places c.drop_lapsed.new.ledger) (sym c.is_ok.ensures.value ∙ c.if-is_ok.true) answer
+    (length a.out.now) (Ok tt) c.revoking-all.result c.with_clock-moved.result
+    (held_ledger a.places c.drop_lapsed.new.ledger) refl answer
     c.revoking-all.ensures c.with_clock-moved.ensures c.drop_lapsed.ensures)
     ∙ whole a.out.now w call (omega arith) (omega arith)
 
-pub returns : goal.returns
+pub returns-in-Err : goal.returns-in-Err
 unfolding room_answer tables_short pending_count circuit_count step expire
-returns c =
+returns-in-Err c =
     let s = c in
     let a = s.args in
     let w = world_of a.runtime (held_pending a.places a.pending.now)
     (held_circuits a.places a.circuits.now) (held_ledger a.places a.ledger.now)
     (held_actions a.places a.inflight.now) in
     let call = call_expire a.time (length a.out.now) in
-    let answer = c.and-answer.ensures
-    ∙ (λ x. (c.entry_answer-entry.ensures.0
-    ∙ entry-held (ltb (length a.out.now)
+    let answer = sym (entry-refused _ _ _ _ c.entered-firsts.ensures c.in-Err.is)
+    ∙ (λ x. (entry-held (ltb (length a.out.now)
     (closing_words
     * (count is_pending (held_pending a.places a.pending.now)
     + count is_circuit (held_circuits a.places a.circuits.now)))) Short a.runtime.config
@@ -74,6 +77,6 @@ returns c =
     a.out.now a.places c.refused.ensures.1
     ∙ turned_away a.runtime (held_pending a.places a.pending.now) (held_circuits a.places a.circuits.now)
     (held_ledger a.places a.ledger.now) (held_actions a.places a.inflight.now) a.out.now
-    c.refused.result c.and-answer.result _ (expire_at w a.time) c.refused.ensures.0
-    (sym c.is_ok.ensures.value ∙ c.if-is_ok.false) answer
+    c.refused.result (Err c.in-Err.error) _ (expire_at w a.time) c.refused.ensures.0
+    refl answer
     ∙ whole a.out.now w call (omega arith) (omega arith)

@@ -1,9 +1,10 @@
 -- Turned away by its rows; or the state changes; or it is the same, and nothing does.
+use Rattle.std.proofs.Common.{Ok, Err}
+use mathlib.Core.Path.{refl, sym, ap, ◌∙◌}
+use Rattle.hnsr_circuit.specs.Laws.RevokingCalls.{entry-passed, entry-refused}
 use borrow.Author.Rules.{rules}
 use Prim.Native.Nat.{◌<◌}
 use Prim.Native.Nat.{◌*◌, ◌+◌}
-use mathlib.Core.Path.{sym, ap, ◌∙◌}
-use mathlib.Core.Bool.{Bool}
 use mathlib.Core.List.{[]}
 use lib.ListN.{length}
 use lib.Dec.{ltb}
@@ -19,7 +20,7 @@ use Rattle.hnsr_circuit.specs.Code.Progress.{ending}
 use Rattle.hnsr_circuit.specs.Laws.Calls.{turned_away, whole}
 use native.Mathlib.Omega.{arith}
 use Rattle.hnsr_circuit.specs.Call.{step, call_replace_enabled}
-use Rattle.hnsr_circuit.specs.RevokingCalls.{change_answer, replace_enabled}
+use Rattle.hnsr_circuit.specs.RevokingCalls.{replace_enabled}
 use Rattle.hnsr_circuit.specs.Laws.RevokingCalls.{changed_state, same_state, below_top}
 use Rattle.hnsr_circuit.specs.Laws.HeldTables.{places-kept, entry-held}
 use Rattle.hnsr_circuit.specs.Code.Held.{held_pending, held_circuits, held_ledger, held_actions}
@@ -30,26 +31,24 @@ unfolding room_answer tables_short pending_count circuit_count
 switch_to-requires c =
     let s = c in
     let a = s.args in
-    let answer = c.and-answer.ensures
-    ∙ (λ x. (c.entry_answer-entry.ensures.0
-    ∙ entry-held (ltb (length a.out.now)
+    let answer = sym (entry-passed _ _ _ _ c.entered-firsts.ensures c.in-Ok.is).0
+    ∙ (λ x. (entry-held (ltb (length a.out.now)
     (closing_words
     * (count is_pending (held_pending a.places a.pending.now)
     + count is_circuit (held_circuits a.places a.circuits.now)))) Short a.runtime.config
     (length (held_pending a.places a.pending.now)) (length (held_circuits a.places a.circuits.now))
     a.places a.inflight.now) x
-    then (c.and-rest.ensures
+    then (c.and-rows.ensures
     ∙ (λ y. c.generation_answer-current.ensures y
-    then (c.change_answer-exhausted.ensures
-    ∙ ap (λ (b : Bool). change_answer a.runtime.generation b) c.changed-changes.ensures) y)) x) in
+    then c.change_answer-exhausted.ensures y)) x) in
     let g : a.runtime.generation < 18446744073709551616 = search rules in (
       below_top a.runtime (held_pending a.places a.pending.now) (held_circuits a.places a.circuits.now)
           [] (held_actions a.places a.inflight.now) a.expected_generation (length a.out.now) a.enabled
-          c.and-answer.result answer (omega arith) (sym c.is_ok.ensures.value ∙ c.if-is_ok.true)
-          (sym c.changed-changes.ensures ∙ c.if-changes.true),
+          (Ok tt) answer (omega arith) refl
+          c.if-changes.true,
       c.revoking-all.ensures,
-      c.entry_answer-entry.ensures.1,
-      c.entry_answer-entry.ensures.2,
+      (entry-passed _ _ _ _ c.entered-firsts.ensures c.in-Ok.is).1.0,
+      (entry-passed _ _ _ _ c.entered-firsts.ensures c.in-Ok.is).1.1,
     )
 
 pub returns-then-changes : goal.returns-then-changes
@@ -62,30 +61,28 @@ returns-then-changes c =
     let w = world_of a.runtime (held_pending a.places a.pending.now)
     (held_circuits a.places a.circuits.now) l (held_actions a.places a.inflight.now) in
     let call = call_replace_enabled a.expected_generation a.enabled (length a.out.now) in
-    let answer = c.and-answer.ensures
-    ∙ (λ x. (c.entry_answer-entry.ensures.0
-    ∙ entry-held (ltb (length a.out.now)
+    let answer = sym (entry-passed _ _ _ _ c.entered-firsts.ensures c.in-Ok.is).0
+    ∙ (λ x. (entry-held (ltb (length a.out.now)
     (closing_words
     * (count is_pending (held_pending a.places a.pending.now)
     + count is_circuit (held_circuits a.places a.circuits.now)))) Short a.runtime.config
     (length (held_pending a.places a.pending.now)) (length (held_circuits a.places a.circuits.now))
     a.places a.inflight.now) x
-    then (c.and-rest.ensures
+    then (c.and-rows.ensures
     ∙ (λ y. c.generation_answer-current.ensures y
-    then (c.change_answer-exhausted.ensures
-    ∙ ap (λ (b : Bool). change_answer a.runtime.generation b) c.changed-changes.ensures) y)) x) in
+    then c.change_answer-exhausted.ensures y)) x) in
     let small : length c.args.out.now < 18446744073709551616 = search rules in
     c.switch_to.ensures l₀
     ∙ ap (λ (o : Outcome). ending a.out.now o)
     (changed_state a.runtime (held_pending a.places a.pending.now)
     (held_circuits a.places a.circuits.now) l (held_actions a.places a.inflight.now)
-    a.expected_generation (length a.out.now) a.enabled c.and-answer.result answer
-    (sym c.is_ok.ensures.value ∙ c.if-is_ok.true) (sym c.changed-changes.ensures ∙ c.if-changes.true))
+    a.expected_generation (length a.out.now) a.enabled (Ok tt) answer
+    refl c.if-changes.true)
     ∙ whole a.out.now w call (omega arith) (omega arith)
 
-pub returns-then-is_ok : goal.returns-then-is_ok
+pub returns-else-changes : goal.returns-else-changes
 unfolding room_answer tables_short pending_count circuit_count step
-returns-then-is_ok c =
+returns-else-changes c =
     λ l₀.
     let s = c in
     let a = s.args in
@@ -93,31 +90,29 @@ returns-then-is_ok c =
     let w = world_of a.runtime (held_pending a.places a.pending.now)
     (held_circuits a.places a.circuits.now) l (held_actions a.places a.inflight.now) in
     let call = call_replace_enabled a.expected_generation a.enabled (length a.out.now) in
-    let answer = c.and-answer.ensures
-    ∙ (λ x. (c.entry_answer-entry.ensures.0
-    ∙ entry-held (ltb (length a.out.now)
+    let answer = sym (entry-passed _ _ _ _ c.entered-firsts.ensures c.in-Ok.is).0
+    ∙ (λ x. (entry-held (ltb (length a.out.now)
     (closing_words
     * (count is_pending (held_pending a.places a.pending.now)
     + count is_circuit (held_circuits a.places a.circuits.now)))) Short a.runtime.config
     (length (held_pending a.places a.pending.now)) (length (held_circuits a.places a.circuits.now))
     a.places a.inflight.now) x
-    then (c.and-rest.ensures
+    then (c.and-rows.ensures
     ∙ (λ y. c.generation_answer-current.ensures y
-    then (c.change_answer-exhausted.ensures
-    ∙ ap (λ (b : Bool). change_answer a.runtime.generation b) c.changed-changes.ensures) y)) x) in
+    then c.change_answer-exhausted.ensures y)) x) in
     let small : length c.args.out.now < 18446744073709551616 = search rules in
-    places-kept c.taken_with.result a.pending.now a.circuits.now l₀ a.inflight.now a.out.now
-    a.places c.taken_with.ensures.1
+    places-kept c.taken.result a.pending.now a.circuits.now l₀ a.inflight.now a.out.now
+    a.places c.taken.ensures.1
     ∙ same_state a.runtime (held_pending a.places a.pending.now) (held_circuits a.places a.circuits.now)
     l (held_actions a.places a.inflight.now) a.expected_generation (length a.out.now) a.enabled
-    c.and-answer.result answer c.taken_with.result a.out.now
-    (sym c.is_ok.ensures.value ∙ c.if-is_ok.true) (sym c.changed-changes.ensures ∙ c.if-changes.false)
-    c.taken_with.ensures.0
+    (Ok tt) answer c.taken.result a.out.now
+    refl c.if-changes.false
+    c.taken.ensures.0
     ∙ whole a.out.now w call (omega arith) (omega arith)
 
-pub returns : goal.returns
+pub returns-in-Err : goal.returns-in-Err
 unfolding room_answer tables_short pending_count circuit_count step replace_enabled
-returns c =
+returns-in-Err c =
     λ l₀.
     let s = c in
     let a = s.args in
@@ -125,22 +120,20 @@ returns c =
     let w = world_of a.runtime (held_pending a.places a.pending.now)
     (held_circuits a.places a.circuits.now) l (held_actions a.places a.inflight.now) in
     let call = call_replace_enabled a.expected_generation a.enabled (length a.out.now) in
-    let answer = c.and-answer.ensures
-    ∙ (λ x. (c.entry_answer-entry.ensures.0
-    ∙ entry-held (ltb (length a.out.now)
+    let answer = sym (entry-refused _ _ _ _ c.entered-firsts.ensures c.in-Err.is)
+    ∙ (λ x. (entry-held (ltb (length a.out.now)
     (closing_words
     * (count is_pending (held_pending a.places a.pending.now)
     + count is_circuit (held_circuits a.places a.circuits.now)))) Short a.runtime.config
     (length (held_pending a.places a.pending.now)) (length (held_circuits a.places a.circuits.now))
     a.places a.inflight.now) x
-    then (c.and-rest.ensures
+    then (c.and-rows.ensures
     ∙ (λ y. c.generation_answer-current.ensures y
-    then (c.change_answer-exhausted.ensures
-    ∙ ap (λ (b : Bool). change_answer a.runtime.generation b) c.changed-changes.ensures) y)) x) in
+    then c.change_answer-exhausted.ensures y)) x) in
     let small : length c.args.out.now < 18446744073709551616 = search rules in
     places-kept c.refused.result a.pending.now a.circuits.now l₀ a.inflight.now a.out.now
     a.places c.refused.ensures.1
     ∙ turned_away a.runtime (held_pending a.places a.pending.now) (held_circuits a.places a.circuits.now)
-    l (held_actions a.places a.inflight.now) a.out.now c.refused.result c.and-answer.result
-    _ _ c.refused.ensures.0 (sym c.is_ok.ensures.value ∙ c.if-is_ok.false) answer
+    l (held_actions a.places a.inflight.now) a.out.now c.refused.result (Err c.in-Err.error)
+    _ _ c.refused.ensures.0 refl answer
     ∙ whole a.out.now w call (omega arith) (omega arith)

@@ -1,8 +1,10 @@
 -- Turned away by its row, or gone on: the ledger record dropped, then the records under it revoked.
+use Rattle.std.proofs.Common.{Ok, Err}
+use mathlib.Core.Path.{refl, sym, ap, ◌∙◌}
+use Rattle.hnsr_circuit.specs.Laws.RevokingCalls.{entry-passed, entry-refused, then_nothing}
 use borrow.Author.Rules.{rules}
 use Prim.Native.Nat.{◌<◌}
 use Prim.Native.Nat.{◌*◌, ◌+◌}
-use mathlib.Core.Path.{sym, ap, ◌∙◌}
 use lib.ListN.{length}
 use lib.Dec.{ltb}
 use Rattle.hns_encoding.specs.Sums.{count}
@@ -22,9 +24,12 @@ use Rattle.hnsr_circuit.specs.Laws.HeldTables.{places-kept, entry-held}
 use Rattle.hnsr_circuit.specs.Code.Held.{held_pending, held_circuits, held_ledger, held_actions}
 use Rattle.hnsr_circuit.proofs.calls.revoking.revoke_reservation.Goals as goal
 
-pub returns-then-is_ok : goal.returns-then-is_ok
+pub revoke_all-requires : goal.revoke_all-requires
+revoke_all-requires c = (entry-passed _ _ _ _ c.entered-firsts.ensures c.in-Ok.is).1
+
+pub returns-in-Ok : goal.returns-in-Ok
 unfolding room_answer tables_short pending_count circuit_count step
-returns-then-is_ok c =
+returns-in-Ok c =
     let s = c in
     let a = s.args in
     let w = world_of a.runtime (held_pending a.places a.pending.now)
@@ -36,10 +41,11 @@ returns-then-is_ok c =
     ∙ ap (λ (o : Outcome). ending a.out.now o)
     (revoked-under a.runtime (held_pending a.places a.pending.now)
     (held_circuits a.places a.circuits.now) (held_ledger a.places a.ledger.now)
-    (held_actions a.places a.inflight.now) a.id (length a.out.now) c.entry_answer-entry.result.answer
+    (held_actions a.places a.inflight.now) a.id (length a.out.now) (Ok tt)
     c.revoking-all.result (held_ledger a.places c.drop_usage.new.ledger)
-    (sym c.is_ok.ensures.value ∙ c.if-is_ok.true)
-    (c.entry_answer-entry.ensures.0
+    refl
+    (sym (entry-passed _ _ _ _ c.entered-firsts.ensures c.in-Ok.is).0
+    ∙ then_nothing _
     ∙ entry-held (ltb (length a.out.now)
     (closing_words
     * (count is_pending (held_pending a.places a.pending.now)
@@ -48,9 +54,9 @@ returns-then-is_ok c =
     a.places a.inflight.now) c.revoking-all.ensures c.drop_usage.ensures)
     ∙ whole a.out.now w call (omega arith) (omega arith)
 
-pub returns : goal.returns
+pub returns-in-Err : goal.returns-in-Err
 unfolding room_answer tables_short pending_count circuit_count step revoke_reservation
-returns c =
+returns-in-Err c =
     let s = c in
     let a = s.args in
     let w = world_of a.runtime (held_pending a.places a.pending.now)
@@ -62,9 +68,10 @@ returns c =
     a.out.now a.places c.refused.ensures.1
     ∙ turned_away a.runtime (held_pending a.places a.pending.now) (held_circuits a.places a.circuits.now)
     (held_ledger a.places a.ledger.now) (held_actions a.places a.inflight.now) a.out.now
-    c.refused.result c.entry_answer-entry.result.answer _ (revoke_under w a.id) c.refused.ensures.0
-    (sym c.is_ok.ensures.value ∙ c.if-is_ok.false)
-    (c.entry_answer-entry.ensures.0
+    c.refused.result (Err c.in-Err.error) _ (revoke_under w a.id)
+    c.refused.ensures.0 refl
+    (sym (entry-refused _ _ _ _ c.entered-firsts.ensures c.in-Err.is)
+    ∙ then_nothing _
     ∙ entry-held (ltb (length a.out.now)
     (closing_words
     * (count is_pending (held_pending a.places a.pending.now)

@@ -1,5 +1,6 @@
 -- Every action dropped and the generation raised; if off, every record revoked.
 use mathlib.Core.Path.{ap, ◌∙◌}
+use Rattle.hnsr_circuit.specs.Peer.{no_peer}
 use Rattle.hnsr_circuit.specs.World.{Outcome}
 use Rattle.hnsr_circuit.specs.Code.Progress.{ending}
 use Rattle.hnsr_circuit.specs.Laws.RevokingCalls.{switched-on, switched-off}
@@ -13,13 +14,13 @@ returns-then-enabled c =
     let s = c in
     let a = s.args in
     let l = held_ledger a.places l₀ in
-    places-kept c.taken_with.result a.pending.now a.circuits.now l₀ c.clear_action.new.inflight
-    a.out.now a.places c.taken_with.ensures.1
+    places-kept c.taken.result a.pending.now a.circuits.now l₀ c.clear.new.rows
+    a.out.now a.places c.taken.ensures.1
     ∙ switched-on a.runtime (held_pending a.places a.pending.now) (held_circuits a.places a.circuits.now)
     l (held_actions a.places a.inflight.now) c.with_enabled-switched.result
-    (held_actions a.places c.clear_action.new.inflight) c.no_peer-nobody.result a.enabled
-    c.with_enabled-switched.ensures c.clear_action.ensures c.taken_with.result a.out.now
-    c.if-enabled.true c.taken_with.ensures.0
+    (held_actions a.places c.clear.new.rows) no_peer a.enabled
+    c.with_enabled-switched.ensures c.clear.ensures c.taken.result a.out.now
+    c.if-enabled.true c.taken.ensures.0
 
 pub returns : goal.returns
 returns c =
@@ -31,5 +32,5 @@ returns c =
     ∙ ap (λ (o : Outcome). ending a.out.now o)
     (switched-off a.runtime (held_pending a.places a.pending.now) (held_circuits a.places a.circuits.now)
     l (held_actions a.places a.inflight.now) c.with_enabled-switched.result
-    (held_actions a.places c.clear_action.new.inflight) c.no_peer-nobody.result a.enabled
-    c.with_enabled-switched.ensures c.clear_action.ensures a.all c.if-enabled.false s.requires.1)
+    (held_actions a.places c.clear.new.rows) no_peer a.enabled
+    c.with_enabled-switched.ensures c.clear.ensures a.all c.if-enabled.false s.requires.1)

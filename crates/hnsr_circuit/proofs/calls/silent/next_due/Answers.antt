@@ -38,7 +38,7 @@ returns c =
     let row = c.check.ensures
     ∙ ap (λ (b : Bool). check b Short) (c.too_few-few.ensures
     ∙ few-held a.runtime.config a.places a.pending.now a.circuits.now a.inflight.now) in
-    let all = c.usage_due.ensures
+    let all = c.due.ensures
     ∙ ap (λ (d : Option ℕ). usage_due ls d)
-    (c.circuit_due-second.ensures ∙ ap (λ (d : Option ℕ). circuit_due cs d) c.pending_due-first.ensures) in
+    (c.due-second.ensures ∙ ap (λ (d : Option ℕ). circuit_due cs d) c.due-first.ensures) in
     ap Ok all ∙ tells-due (due_of w) w (tables_answer w) (sym row ∙ c.in_ok-check.was)

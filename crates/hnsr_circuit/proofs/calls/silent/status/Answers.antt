@@ -48,9 +48,9 @@ returns c =
     let i = held_actions a.places a.inflight.now in
     let w = world_of a.runtime (held_pending a.places a.pending.now)
     (held_circuits a.places a.circuits.now) (held_ledger a.places l₀) i in
-    let n = c.count_pending-waiting.ensures in
+    let n = c.count-waiting.ensures in
     let t = c.circuit_totals-totals.ensures in
-    let question = c.capacity_question-question.ensures ∙ ap (capacity_question a.circuit_id) c.peer_of-name.ensures in
+    let question = c.capacity_question-question.ensures ∙ ap (capacity_question a.circuit_id) c.new-name.ensures in
     let tally : c.scan_actions-scan.result.tally ≡ tallied false a.circuit_id (peer_of a.peer.now) i
     = ap (λ s. s.tally) c.scan_actions-scan.ensures
     ∙ ap (λ (q : ActionQuestion). tallied q.replacing q.circuit_id q.peer i) question in

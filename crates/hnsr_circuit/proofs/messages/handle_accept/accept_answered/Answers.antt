@@ -14,9 +14,9 @@ returns c =
     let a = c.args in
     let r = a.request in
     let question = c.accept_work-question.ensures in
-    let waiting = c.pending_work-waiting.ensures
+    let waiting = c.work-waiting.ensures
     ∙ ap (λ (q : WorkQuestion). pending_work q (held_pending r.places a.pending.now)) question in
-    let running = c.circuit_work-running.ensures
+    let running = c.work-running.ensures
     ∙ ap (λ (q : WorkQuestion). circuit_work q (held_circuits r.places a.circuits.now)) question in
     let scan = c.scan_actions-scan.ensures
     ∙ ap (λ (q : ActionQuestion). actions_scanned q (held_actions r.places a.inflight.now))

@@ -1,6 +1,8 @@
 -- What the rows refuse is refused; else the tables are the definition's, and OPENED is sent.
-use mathlib.Core.Path.{ap, ◌∙◌, sym}
-use Rattle.hnsr_circuit.specs.World.{Outcome, proceed, world_of}
+use Rattle.hnsr_circuit.specs.Answers.{taken}
+use Rattle.hnsr_circuit.specs.Laws.Calls.{answered}
+use mathlib.Core.Path.{ap, ◌∙◌}
+use Rattle.hnsr_circuit.specs.World.{Outcome, world_of}
 use Rattle.hnsr_circuit.specs.Code.Progress.{ending, message_of}
 use Rattle.hnsr_circuit.specs.Laws.Opening.{accept_ends, accept_refused}
 use Rattle.hnsr_circuit.specs.Queue.{send}
@@ -16,9 +18,8 @@ use Rattle.hnsr_circuit.specs.Code.Question.{pending_work, circuit_work}
 use Rattle.hnsr_circuit.specs.Code.Opening.{accept_rows, accept_work}
 use Rattle.hnsr_circuit.proofs.messages.handle_accept.accept_found.Goals as goal
 
-pub returns-then-is_ok : goal.returns-then-is_ok
-unfolding proceed
-returns-then-is_ok c =
+pub returns-in-Ok : goal.returns-in-Ok
+returns-in-Ok c =
     λ l₀ source body e rs en ef er.
     let a = c.args in
     let r = a.request in
@@ -28,12 +29,12 @@ returns-then-is_ok c =
     let l = held_ledger n l₀ in
     let i = held_actions n a.inflight.now in
     let k = accept_work a.found in
-    let ea = c.accept_answered-answer.ensures
+    let ea = c.accept_answered.ensures
     ∙ (λ x. accept_rows r.runtime.config a.found (en x) r.packet.now a.read (pending_work k p)
-    (circuit_work k cs) (tallied true r.packet.context_id a.found.pending.requester i)) in
+    (circuit_work k cs) (tallied true r.packet.context_id a.found.row.requester i)) in
     let wrote = c.accept_written-number.ensures in
     let plan = c.accept_plan-plan.result in
-    let t = sym c.is_ok.ensures.value ∙ c.if-is_ok.true in
+    let t = ap taken c.in-Ok.is in
     c.send.ensures c.accept_written-number.new.pending c.accept_written-number.new.circuits l₀
     ∙ ap (λ (m : Places). ending a.out.now
     (send (world_seen plan.runtime m c.accept_written-number.new.pending c.accept_written-number.new.circuits l₀
@@ -44,12 +45,12 @@ returns-then-is_ok c =
     (held clear_circuit c.accept_written-number.result c.accept_written-number.new.circuits) l
     (held_actions n c.drop_and_scan-scan.new.inflight)) (message_of plan.message b))) c.to_bytes-bytes.ensures
     ∙ ap (λ (o : Outcome). ending a.out.now o)
-    (accept_ends r.runtime p cs l i r.packet source body e rs a.found a.read c.accept_answered-answer.result
-    plan c.found_unmarked-row.result c.circuit_for-circuit.result _ _ _ ef er ea t c.accept_plan-plan.ensures
-    c.found_unmarked-row.ensures c.circuit_for-circuit.ensures wrote.0 wrote.1 c.drop_and_scan-scan.ensures.0)
+    (accept_ends r.runtime p cs l i r.packet source body e rs a.found a.read c.accept_answered.result
+    plan c.unmarked-row.result c.circuit_for-circuit.result _ _ _ ef er ea t c.accept_plan-plan.ensures
+    c.unmarked-row.ensures c.circuit_for-circuit.ensures wrote.0 wrote.1 c.drop_and_scan-scan.ensures.0)
 
-pub returns : goal.returns
-returns c =
+pub returns-in-Err : goal.returns-in-Err
+returns-in-Err c =
     λ l₀ source body e rs en ef er.
     let a = c.args in
     let r = a.request in
@@ -58,11 +59,11 @@ returns c =
     let cs = held_circuits n a.circuits.now in
     let i = held_actions n a.inflight.now in
     let k = accept_work a.found in
-    let ea = c.accept_answered-answer.ensures
+    let ea = c.accept_answered.ensures
     ∙ (λ x. accept_rows r.runtime.config a.found (en x) r.packet.now a.read (pending_work k p)
-    (circuit_work k cs) (tallied true r.packet.context_id a.found.pending.requester i)) in
+    (circuit_work k cs) (tallied true r.packet.context_id a.found.row.requester i)) in
     places-kept c.refused.result a.pending.now a.circuits.now l₀ a.inflight.now a.out.now n
     c.refused.ensures.1
     ∙ accept_refused r.runtime p cs (held_ledger n l₀) i r.packet source body e rs a.out.now a.found
-    a.read c.accept_answered-answer.result c.refused.result ef er ea
-    (sym c.is_ok.ensures.value ∙ c.if-is_ok.false) c.refused.ensures.0
+    a.read c.accept_answered.result c.refused.result ef er ea
+    (ap taken c.in-Err.is) (answered c.refused.ensures.0 c.in-Err.is)

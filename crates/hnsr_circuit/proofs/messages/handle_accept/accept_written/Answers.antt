@@ -9,6 +9,6 @@ returns c =
     let s = c in
     let a = s.args in (
       stored-seen clear_pending a.places.pending a.pending.now _ true a.plan.place a.unmarked
-          (λ h. s.requires) c.set_pending.ensures,
+          (λ h. s.requires) c.set.ensures,
       c.put_circuit.ensures,
     )

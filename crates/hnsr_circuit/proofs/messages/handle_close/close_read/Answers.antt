@@ -1,6 +1,5 @@
 -- What the rows refuse is refused; else one record ends, its actions are dropped, and the other side is told.
 use mathlib.Core.Path.{◌∙◌, sym}
-use Rattle.hnsr_circuit.specs.World.{proceed}
 use Rattle.hnsr_circuit.specs.Laws.Handlers.{close_handled, close_turned}
 use Rattle.hnsr_circuit.specs.Code.Plans.{close_planned_on}
 use Rattle.hnsr_circuit.specs.Code.Held.{held_pending, held_circuits, held_ledger, held_actions}
@@ -8,7 +7,6 @@ use Rattle.hnsr_circuit.specs.Laws.HeldTables.{places-kept}
 use Rattle.hnsr_circuit.proofs.messages.handle_close.close_read.Goals as goal
 
 pub returns-in-Ok : goal.returns-in-Ok
-unfolding proceed
 returns-in-Ok c =
     λ l₀ source e rs en.
     let a = c.args in
@@ -19,8 +17,8 @@ returns-in-Ok c =
     let ep = sym (c.plan_close.ensures ∙ (λ x. close_planned_on q.runtime p cs q.packet (c.requires.0 x) (en x)))
     ∙ c.in-Ok.is in
     close_handled q.runtime p cs (held_actions n a.inflight.now) q.packet source a.body.now c.in-Ok.plan ep a.out.now
-    (held_ledger n l₀) e rs _ _ _ _ c.unmark_pending.ensures c.unmark_circuit.ensures c.drop_and_scan-scan.ensures.0
-    (c.send.ensures c.unmark_pending.new.pending c.unmark_circuit.new.circuits l₀)
+    (held_ledger n l₀) e rs _ _ _ _ c.unmark.ensures c.unmark-in-Ok.ensures c.drop_and_scan-scan.ensures.0
+    (c.send.ensures c.unmark.new.rows c.unmark-in-Ok.new.rows l₀)
 
 pub returns-in-Err : goal.returns-in-Err
 returns-in-Err c =

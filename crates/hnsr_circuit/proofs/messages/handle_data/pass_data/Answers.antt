@@ -5,14 +5,13 @@ use Rattle.hnsr_circuit.specs.Code.Plans.{data_planned_on}
 use mathlib.Core.Bool.{true}
 use mathlib.Core.Path.{refl, sym, ◌∙◌}
 use lib.ListN.{length}
-use Rattle.hnsr_circuit.specs.World.{proceed}
 use Rattle.hnsr_circuit.specs.Code.Held.{held_pending, held_circuits, held_ledger, held_actions}
 use Rattle.hnsr_circuit.specs.Laws.Held.{edited_held, place-below}
 use Rattle.hnsr_circuit.specs.Laws.HeldTables.{places-kept}
 use Rattle.hnsr_circuit.proofs.messages.handle_data.pass_data.Goals as goal
 
 pub returns-in-Ok : goal.returns-in-Ok
-unfolding circuit_at proceed
+unfolding circuit_at
 returns-in-Ok c =
     λ p₀ source e rs en.
     let a = c.args in

@@ -1,4 +1,6 @@
 -- Three stages, each from the one before; what the tables as lent refuse is refused.
+use Rattle.hnsr_circuit.specs.Answers.{taken}
+use Rattle.hnsr_circuit.specs.Laws.Calls.{answered}
 use mathlib.Core.Path.{refl, sym, ap, ◌∙◌}
 use mathlib.Core.Bool.{true, ◌||◌}
 use Rattle.hnsr_circuit.specs.Code.Question.{pending_work, circuit_work}
@@ -18,8 +20,8 @@ unfolding pending_work circuit_work
 open_lapsed-requires c =
     ap (λ (g : OpenGathered). g.waiting.holds || g.running.holds) c.gather-gathered.ensures
 
-pub returns-then-is_ok : goal.returns-then-is_ok
-returns-then-is_ok c =
+pub returns-in-Ok : goal.returns-in-Ok
+returns-in-Ok c =
     λ source en.
     let a = c.args in
     let r = a.request in
@@ -27,20 +29,20 @@ returns-then-is_ok c =
     let g = c.gather-gathered.ensures
     ∙ (λ x. gathering r.packet (en x) a.body.now a.endpoint.now a.random.now
     (held_pending n a.pending.now) (held_circuits n a.circuits.now)) in
-    let t = sym c.is_ok.ensures.value ∙ c.if-is_ok.true in
+    let t = ap taken c.in-Ok.is in
     let q = packet_of r.packet source a.body.now a.endpoint.now a.random.now in
     let w =
     world_seen r.runtime n a.pending.now a.circuits.now c.drop_lapsed.new.ledger a.inflight.now in
     c.open_lapsed.ensures r.packet source a.body.now a.endpoint.now g
     ∙ ap (λ (o : Outcome). ending a.out.now o)
-    (sym (gone-on w c.open_rows-answer.result c.open_rows-answer.result (open_lapsed w q) t refl)
+    (sym (gone-on w c.open_rows.result c.open_rows.result (open_lapsed w q) t refl)
     ∙ open_ends r.runtime (held_pending n a.pending.now) (held_circuits n a.circuits.now)
     (held_ledger n a.ledger.now) (held_actions n a.inflight.now) r.packet source a.body.now
-    a.endpoint.now a.random.now c.gather-gathered.result c.open_rows-answer.result true _ g
-    c.open_rows-answer.ensures (sym t) c.drop_lapsed.ensures)
+    a.endpoint.now a.random.now c.gather-gathered.result c.open_rows.result true _ g
+    c.open_rows.ensures (sym t) c.drop_lapsed.ensures)
 
-pub returns : goal.returns
-returns c =
+pub returns-in-Err : goal.returns-in-Err
+returns-in-Err c =
     λ source en.
     let a = c.args in
     let r = a.request in
@@ -52,6 +54,6 @@ returns c =
     a.out.now n c.refused.ensures.1
     ∙ open_refused r.runtime (held_pending n a.pending.now) (held_circuits n a.circuits.now)
     (held_ledger n a.ledger.now) (held_actions n a.inflight.now) r.packet source a.body.now
-    a.endpoint.now a.random.now c.gather-gathered.result c.open_rows-answer.result c.refused.result
-    a.out.now g c.open_rows-answer.ensures (sym c.is_ok.ensures.value ∙ c.if-is_ok.false)
-    c.refused.ensures.0
+    a.endpoint.now a.random.now c.gather-gathered.result c.open_rows.result c.refused.result
+    a.out.now g c.open_rows.ensures (ap taken c.in-Err.is)
+    (answered c.refused.ensures.0 c.in-Err.is)

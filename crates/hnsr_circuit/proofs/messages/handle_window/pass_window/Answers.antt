@@ -2,7 +2,6 @@
 use Rattle.hnsr_circuit.specs.Laws.Handlers.{window-fits, window-handled, window_turned}
 use Rattle.hnsr_circuit.specs.Code.Plans.{window_planned_on}
 use mathlib.Core.Path.{sym, ◌∙◌}
-use Rattle.hnsr_circuit.specs.World.{proceed}
 use Rattle.hnsr_circuit.specs.Code.Held.{held_pending, held_circuits, held_ledger, held_actions}
 use Rattle.hnsr_circuit.specs.Laws.HeldTables.{places-kept}
 use Rattle.hnsr_circuit.proofs.messages.handle_window.pass_window.Goals as goal
@@ -17,7 +16,6 @@ raise_circuit-requires c =
     λ t. window-fits q.runtime (held_circuits q.places a.circuits.now) i q.packet q.peer a.body.now c.in-Ok.plan ep
 
 pub returns-in-Ok : goal.returns-in-Ok
-unfolding proceed
 returns-in-Ok c =
     λ p₀ l₀ source e rs en.
     let a = c.args in

@@ -6,9 +6,7 @@ use borrow.Author.Tests.{eqb-false}
 use mathlib.Core.Path.{◌≡◌, sym, ap, ◌∙◌}
 use Rattle.std.proofs.Common.{Ok}
 use Rattle.hns_encoding.specs.Numbers.{top, saturating_add}
-use Rattle.hnsr_circuit.specs.Answers.{taken}
 use Rattle.hnsr_circuit.specs.Runtime.{with_sequence}
-use Rattle.hnsr_circuit.specs.Laws.Answers.{taken_then}
 use Rattle.hnsr_circuit.specs.Laws.Queueing.{queue-sequence, queueing-ok}
 use Rattle.hnsr_circuit.proofs.output.queue.queue.Goals as goal
 
@@ -16,8 +14,8 @@ pub returns : goal.returns
 returns c =
     let s = c.args in
     let sequence = s.runtime.next_action_sequence in
-    let rows = taken_then _ _ c.in_ok-before.was (sym c.queue_answer.ensures ∙ c.in_ok-queue_answer.was) in
-    let below = queue-sequence s.before s.runtime.config s.scan.tally sequence s.message.context_id (ap taken rows) in
+    let rows = sym c.queue_answer.ensures ∙ c.in_ok-queue_answer.was in
+    let below = queue-sequence s.runtime.config s.scan.tally sequence s.message.context_id rows in
     let top-not = eqb-false sequence (top 64) below in
     let next : saturating_add 64 sequence 1 ≡ sequence + 1 = omega arith in
     let moved = c.with_sequence-moved.ensures
@@ -27,4 +25,4 @@ returns c =
       place = c.scan_place-place.ensures x;
       action = c.action_for-action.ensures x;
     }))
-    ∙ queueing-ok s.before s.runtime s.message s.scan rows
+    ∙ queueing-ok s.runtime s.message s.scan rows

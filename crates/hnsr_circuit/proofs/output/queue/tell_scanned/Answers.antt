@@ -1,7 +1,6 @@
 -- The message is queued by what the scan and the rows say, or skipped; the number of places in use rises with it.
 use mathlib.Core.Path.{refl, sym, ◌∙◌}
 use mathlib.Core.Bool.{true}
-use Rattle.std.proofs.Common.{Ok}
 use Rattle.hnsr_circuit.specs.declared.runtime.Sending.{Sending}
 use Rattle.hnsr_circuit.specs.Inflight.{clear_action}
 use Rattle.hnsr_circuit.specs.Code.Progress.{asking}
@@ -24,16 +23,16 @@ returns-in-Ok c =
     let i = held_actions n t in
     let q = c.in-Ok.queued in
     let eq = sym c.queue.ensures ∙ c.in-Ok.is in
-    let z = sym (place_is h p cs l i a.out.now (Ok tt) a.message a.body.now a.scan c.requires.0 q eq) in
+    let z = sym (place_is h p cs l i a.out.now a.message a.body.now a.scan c.requires.0 q eq) in
     let up = put-held clear_action n.actions t _ true q.place q.action c.raised-number.result
     (λ b. rw z (scan_upto (asking h a.message) n t a.scan c.requires.0 (rw z at b)))
-    c.set_action.ensures c.raised-number.ensures in
+    c.set.ensures c.raised-number.ensures in
     let r : Sending = record {
       runtime = q.runtime;
       position = c.position_after-position.result;
       places = c.with_actions-after.result;
     } in
-    sending-kept r p₀ cs₀ l₀ c.set_action.new.inflight c.put_route.new.out
+    sending-kept r p₀ cs₀ l₀ c.set.new.rows c.put_route.new.out
     (with_actions c.raised-number.result n) c.with_actions-after.ensures
     ∙ told-queued h p cs l i a.out.now a.message a.body.now a.scan c.requires.0 r a.sending.position q eq
     _ up _ c.put_route.ensures refl c.position_after-position.ensures

@@ -18,7 +18,7 @@ returns c =
     let a = s.args in
     let d = a.message.destination in
     let n = s.requires in
-    let word = c.peer_word-word.ensures ∙ ap (kind_word 1) c.peer_length-length.ensures in
+    let word = c.peer_word-word.ensures ∙ ap (kind_word 1) c.length-length.ensures in
     let w1 = wrote_first {xs = a.out.now} c.put_word_at.new.out (c.peer_word-word.result ∷ []) a.at 1 refl
     (omega arith) c.put_word_at.ensures in
     let w2 = wrote_next c.put_number_at.new.out (high_low a.generation) 2 w1 refl (omega arith)

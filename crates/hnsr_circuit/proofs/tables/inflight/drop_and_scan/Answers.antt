@@ -1,111 +1,64 @@
--- `drop_and_scan` meets its contract: what is passed is dropped, and what is left of the scan goes over the table as it
--- will be.
-use mathlib.Core.Path.{◌≡◌, refl, sym, ap, ◌∙◌}
-use mathlib.Core.Bool.{Bool, cond}
-use mathlib.Core.List.{List}
-use Prim.Native.Nat.{ℕ, ◌<◌, min}
-use native.Mathlib.Omega.{arith}
+-- What is passed is dropped, and what is left of the scan goes over the table as it will be.
+use Rattle.std.proofs.Common.{arith, ap, refl, sym, ◌∙◌, ◌≡◌, ◌<◌, get_or, length, take, drop, List, ◌++◌}
 use Rattle.std.proofs.lemmas.List.{get_or_default}
-use lib.ListN.{length, get_or, drop, length-map}
-use Rattle.hns_encoding.specs.Loops.{fold_from, fold_step}
-use Rattle.hnsr_circuit.specs.Table.{cleared}
+use lib.ListN.{length-map}
+use Rattle.hns_encoding.specs.Loops.{fold_from, fold_step, map-step, map-done}
+use Rattle.hnsr_circuit.specs.Table.{cleared, clear}
 use Rattle.hnsr_circuit.specs.Inflight.{no_action, clear_action, action_under, dropped}
-use Rattle.hnsr_circuit.specs.Code.Turns.{actions_scanned, no_scan, scanned, scan_spared}
 use Rattle.hnsr_circuit.specs.Code.Held.{held}
+use Rattle.hnsr_circuit.specs.Code.Turns.{scanned}
 use Rattle.hnsr_circuit.specs.declared.tables.scan.ActionScan.{ActionScan}
-use Rattle.hnsr_circuit.specs.Laws.Turns.{tally-none, tally-most, scan_fold}
-use Rattle.hnsr_circuit.specs.Laws.HeldTables.{scan_rest}
-use Rattle.hnsr_circuit.specs.Laws.Held.{length-held, held-min, held_at, clear-rest, held-clear-step}
-use Rattle.hnsr_circuit.specs.Laws.Scans.{map-here, stored_there}
 use Rattle.hnsr_circuit.specs.declared.records.InflightAction.{InflightAction}
+use Rattle.hnsr_circuit.specs.Laws.Turns.{tally-none, tally-most}
+use Rattle.hnsr_circuit.specs.Laws.HeldTables.{dropped_scanned}
+use Rattle.hnsr_circuit.specs.Laws.Held.{cleared_held}
+use Rattle.hnsr_circuit.specs.Laws.Scans.{map-here}
 use Rattle.hnsr_circuit.proofs.tables.inflight.drop_and_scan.Goals as goal
 
-pub loop-i-init : goal.loop-i-init
-unfolding dropped
-loop-i-init c =
-    let a = c.args in
-    let n = c.min_usize-end.result in
-    let t = held clear_action n a.inflight.now in
-    let u = dropped (action_under a.id) t in (
-      omega arith,
-      omega arith,
+pub loop-place-init : goal.loop-place-init
+loop-place-init c =
+    let left = clear clear_action (action_under c.args.id) (take c.min-end.result c.args.inflight.now) in (
+      rw c.no_scan-scan.ensures tally-none,
       refl,
-      rw c.no_scan-scan.ensures (tally-none),
-      refl,
-      ap (λ (b : ActionScan). fold_from (scanned a.question) u 0 b)
-          (c.no_scan-scan.ensures
-          ∙ ap no_scan
-          (sym
-          (length-map t (cleared clear_action (action_under a.id)) ∙ length-held clear_action n a.inflight.now)))
-          ∙ scan_fold a.question u,
+      ap (λ (b : ActionScan). fold_from (scanned c.args.question) left 0 b) c.no_scan-scan.ensures,
     )
 
-pub loop-i-preserved : goal.loop-i-preserved
-unfolding dropped
-loop-i-preserved c =
-    let a = c.args in
-    let q = a.question in
-    let n = c.min_usize-end.result in
-    let l = c.loop-i in
-    let less = c.loop-i-test.true in
-    let most = c.loop-i.invariant.1 in
-    let d = action_under a.id in
-    let t = l.inflight in
-    let u = dropped d (held clear_action n a.inflight.now) in
-    let row = get_or t l.i no_action in
-    let s = c.unmark_action in
-    let k = s.auto.inflight in
-    let has = c.action_under-gone.ensures ∙ ap d (get_or_default t l.i _ no_action (omega arith)) in
-    let inside : l.i < length (held clear_action n t) = rw (length-held clear_action n t) (omega arith) in
-    let there = get_or s.new.inflight l.i no_action in
-    let left : there ≡ get_or u l.i no_action =
-    ap (λ (x : List InflightAction). get_or x l.i no_action) s.ensures
-    ∙ stored_there c.action_under-gone.result t l.i (clear_action row) no_action (omega arith)
-    ∙ ap (λ (b : Bool). cond b (clear_action row) row) has
-    ∙ ap (cleared clear_action d) (sym (held_at clear_action n t l.i no_action (omega arith)))
-    ∙ sym (map-here (cleared clear_action d) (held clear_action n t) no_action l.i inside)
-    ∙ ap (λ (x : List InflightAction). get_or x l.i no_action) l.invariant.4 in
-    let seen = c.action_scanned-scan.ensures
-    ∙ ap (λ (x : InflightAction). scanned q l.scan x l.i)
-    (get_or_default s.new.inflight l.i _ no_action (omega (arith, k))) in
-    let after = seen ∙ ap (λ (x : InflightAction). scanned q l.scan x l.i) left in
-    let long : l.i < length u = rw (
-      length-map (held clear_action n a.inflight.now) (cleared clear_action d),
-      length-held clear_action n a.inflight.now,
-    ) (omega arith) in (
-      omega arith,
-      l.invariant.1,
-      k ∙ l.invariant.2,
-      rw seen
-          (tally-most q l.i l.scan.tally there l.i l.invariant.3),
-      held-clear-step clear_action n t no_action l.i (omega arith) (omega arith) d c.action_under-gone.result
-          s.new.inflight u has s.ensures l.invariant.4,
-      fold_step (scanned q) u no_action l.i l.scan c.action_scanned-scan.result (actions_scanned q u) long
-          after l.invariant.5,
+pub loop-place-preserved : goal.loop-place-preserved
+loop-place-preserved c =
+    let q = c.args.question in
+    let g = cleared clear_action (action_under c.args.id) in
+    let l = c.loop-place in
+    let first = take c.min-end.result c.args.inflight.now in
+    let left = clear clear_action (action_under c.args.id) first in
+    let row = c.drop_under.new.row in
+    let inside : l.place < length l.row-items = omega (arith, l.auto.row-items, c.loop-place-test.true) in
+    let long : l.place < length left = rw (length-map first g) c.loop-place-test.true in
+    let here : row ≡ g (get_or l.row-items l.place no_action) =
+    c.drop_under.ensures ∙ ap g (get_or_default l.row-items l.place _ no_action inside) in
+    let there : row ≡ get_or left l.place no_action = here
+    ∙ sym (map-here g l.row-items no_action l.place inside)
+    ∙ ap (λ (x : List InflightAction). get_or x l.place no_action) l.invariant.1 in (
+      rw c.action_scanned-scan.ensures (tally-most q l.place l.scan.tally row l.place l.invariant.0),
+      map-step g l.row-items no_action l.place row left inside here l.invariant.1,
+      fold_step (scanned q) left no_action l.place l.scan c.action_scanned-scan.result _ long
+          (c.action_scanned-scan.ensures ∙ ap (λ (x : InflightAction). scanned q l.scan x l.place) there)
+          l.invariant.2,
     )
 
 pub returns : goal.returns
 unfolding dropped
 returns c =
     let a = c.args in
-    let q = a.question in
-    let n = c.min_usize-end.result in
-    let l = c.loop-i in
-    let d = action_under a.id in
-    let r = a.inflight.now in
-    let t = l.inflight in
-    let u = dropped d (held clear_action n r) in
-    let seen =
-    ap (λ (m : ℕ). held clear_action m r) c.min_usize-end.ensures ∙ held-min clear_action a.places.actions r in
-    let kept =
-    ap (λ (m : ℕ). held clear_action m t) (c.min_usize-end.ensures ∙ ap (min a.places.actions) (sym l.invariant.2))
-    ∙ held-min clear_action a.places.actions t in
-    let done = clear-rest clear_action d (λ x. refl) n t l.i u (λ h. omega arith) l.invariant.4 in
-    let same = ap (dropped d) seen in (
-      sym kept ∙ done ∙ same,
+    let p = action_under a.id in
+    let t = a.inflight.now in
+    let n = a.places.actions in
+    let l = c.loop-place in
+    let end = c.min-end.result in
+    let first = take end t in
+    let done = map-done (cleared clear_action p) l.row-items l.place (clear clear_action p first)
+    (omega (arith, l.auto.row-items, c.loop-place-test.false)) l.invariant.1 in (
+      ap (λ (x : List InflightAction). held clear_action n (x ++ drop end t)) done
+          ∙ cleared_held clear_action p (λ x. refl) n end t c.min-end.ensures,
       c.spared.ensures
-          ∙ ap (λ (m : ℕ). scan_spared l.scan l.i m) (sym l.invariant.2)
-          ∙ scan_rest q n t l.i l.scan (actions_scanned q u) (λ h. omega arith) (omega arith)
-          (ap (λ (x : List InflightAction). fold_from (scanned q) (drop l.i x) l.i l.scan) done ∙ l.invariant.5)
-          ∙ ap (actions_scanned q) same,
+          ∙ dropped_scanned a.question p n end t l.place l.scan c.min-end.ensures c.loop-place-test.false l.invariant.2,
     )

@@ -1,55 +1,42 @@
--- `scan_ledger` meets its contract: what is left of the scan, from what is found so far, is the whole scan; past the
--- number there is a spare place.
-use mathlib.Core.Path.{sym, ap, ◌∙◌}
-use Prim.Native.Nat.{ℕ}
-use native.Mathlib.Omega.{arith}
-use lib.ListN.{get_or}
-use Rattle.hns_encoding.specs.Loops.{fold_from}
-use Rattle.hns_encoding.specs.Laws.Tests.{cond-le}
-use Rattle.hnsr_circuit.specs.Ledger.{is_usage, no_usage, clear_usage}
-use Rattle.hnsr_circuit.specs.Code.Held.{held}
-use Rattle.hnsr_circuit.specs.Laws.Turns.{ledger_fold}
-use Rattle.hnsr_circuit.specs.Code.Turns.{no_ledger_scan, usage_scanned, ledger_asked}
-use Rattle.hnsr_circuit.specs.Laws.HeldTables.{ledger-rest}
-use Rattle.hnsr_circuit.specs.Laws.Held.{length-held, held-min, held_fold_step}
+-- What is left of the scan, from what is found so far, is the whole scan; past the number there is a spare place.
+use Rattle.std.proofs.Common.{arith, ap, sym, ◌∙◌, get_or, length, ℕ}
+use Rattle.hns_encoding.specs.Loops.{fold_from, fold_step}
+use Rattle.hnsr_circuit.specs.Ledger.{clear_usage}
+use Rattle.hnsr_circuit.specs.Code.Held.{held_ledger}
+use Rattle.hnsr_circuit.specs.Code.Turns.{no_ledger_scan, usage_scanned, ledger_spared}
 use Rattle.hnsr_circuit.specs.declared.tables.scan.LedgerScan.{LedgerScan}
+use Rattle.hnsr_circuit.specs.Laws.Turns.{ledger_fold}
+use Rattle.hnsr_circuit.specs.Laws.HeldTables.{ledger_most, ledger-unmarked}
+use Rattle.hnsr_circuit.specs.Laws.Held.{length-held, scan_seen}
 use Rattle.hnsr_circuit.proofs.tables.ledger.scan_ledger.Goals as goal
 
-pub loop-i-init : goal.loop-i-init
-loop-i-init c =
-    let a = c.args in
-    let t = held clear_usage c.min_usize-end.result a.ledger.now in (
-      omega arith,
-      omega arith,
-      rw c.no_ledger_scan-scan.ensures (omega arith),
-      ap (λ (b : LedgerScan). fold_from (usage_scanned a.id) t 0 b)
-          (c.no_ledger_scan-scan.ensures
-          ∙ ap no_ledger_scan (sym (length-held clear_usage c.min_usize-end.result a.ledger.now)))
-          ∙ ledger_fold a.id t,
-    )
+pub loop-place-init : goal.loop-place-init
+loop-place-init c = (
+  rw c.no_ledger_scan-scan.ensures (omega arith),
+  ap (λ (b : LedgerScan). fold_from (usage_scanned c.args.id) c.in_use-seen.result.now 0 b)
+      c.no_ledger_scan-scan.ensures,
+)
 
-pub loop-i-preserved : goal.loop-i-preserved
-loop-i-preserved c =
-    let a = c.args in
-    let t = a.ledger.now in
-    let n = c.min_usize-end.result in
-    let l = c.loop-i in (
-      omega arith,
-      l.invariant.1,
-      rw c.usage_scanned-scan.ensures (omega (arith, cond-le (is_usage (get_or t l.i no_usage)))),
-      held_fold_step clear_usage n t no_usage l.i (omega arith) (omega arith) (usage_scanned a.id) l.scan
-          c.usage_scanned-scan.result (ledger_asked a.id (held clear_usage n t))
-          c.usage_scanned-scan.ensures l.invariant.3,
+pub loop-place-preserved : goal.loop-place-preserved
+loop-place-preserved c =
+    let id = c.args.id in
+    let l = c.loop-place in
+    let seen = c.in_use-seen.result.now in (
+      rw c.usage_scanned-scan.ensures
+          (ledger_most id l.place l.scan (get_or seen l.place _) l.place l.invariant.0),
+      fold_step (usage_scanned id) seen _ l.place l.scan c.usage_scanned-scan.result _ c.loop-place-test.true
+          c.usage_scanned-scan.ensures l.invariant.1,
     )
 
 pub returns : goal.returns
 returns c =
     let a = c.args in
+    let n = a.places.ledger in
     let t = a.ledger.now in
-    let n = c.min_usize-end.result in
-    let l = c.loop-i in
+    let l = c.loop-place in
     c.ledger_spared.ensures
-    ∙ ledger-rest a.id n t l.i l.scan (ledger_asked a.id (held clear_usage n t)) (λ h. omega arith)
-    (omega arith) l.invariant.3
-    ∙ ap (ledger_asked a.id)
-    (ap (λ (m : ℕ). held clear_usage m t) c.min_usize-end.ensures ∙ held-min clear_usage a.places.ledger t)
+    ∙ scan_seen clear_usage (usage_scanned a.id) ledger_spared (ledger-unmarked a.id) n t c.in_use-seen.result.now
+    l.place l.scan (no_ledger_scan (length t)) c.in_use-seen.ensures c.loop-place-test.false l.invariant.1
+    ∙ ap (λ (m : ℕ). fold_from (usage_scanned a.id) (held_ledger a.places t) 0 (no_ledger_scan m))
+    (sym (length-held clear_usage n t))
+    ∙ ledger_fold a.id (held_ledger a.places t)

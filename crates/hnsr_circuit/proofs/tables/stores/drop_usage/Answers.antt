@@ -14,9 +14,9 @@ returns c =
     let a = c.args in
     let r = a.ledger.now in
     let t = held_ledger a.places r in
-    let place = c.find_usage-place.ensures in
-    let e = c.usage_unmarked-gone.ensures in
-    let gone = e ∙ ap clear_usage (c.usage_at-usage.ensures ∙ ap (λ (n : ℕ). get_or t n no_usage) place) in
-    stored-seen clear_usage a.places.ledger r _ true c.find_usage-place.result c.usage_unmarked-gone.result
-    (λ h. ap clear_usage e ∙ sym e) c.set_usage.ensures
+    let place = c.find-place.ensures in
+    let e = c.unmarked-gone.ensures in
+    let gone = e ∙ ap clear_usage (c.at-usage.ensures ∙ ap (λ (n : ℕ). get_or t n no_usage) place) in
+    stored-seen clear_usage a.places.ledger r _ true c.find-place.result c.unmarked-gone.result
+    (λ h. ap clear_usage e ∙ sym e) c.set.ensures
     ∙ (λ x. set t (place x) (gone x)) ∙ sym (edit-set (usage_at a.id) clear_usage no_usage t)

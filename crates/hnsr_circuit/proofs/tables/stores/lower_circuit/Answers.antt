@@ -18,12 +18,12 @@ returns c =
     let n = a.places.circuits in
     let r = a.circuits.now in
     let t = held_circuits a.places r in
-    let place = c.find_circuit_id-place.ensures in
+    let place = c.find-place.ensures in
     let after = c.circuit_lowered-after.ensures
-    ∙ ap (lowered a.side a.n) (c.circuit_at-circuit.ensures ∙ ap (λ (m : ℕ). get_or t m no_circuit) place) in
-    stored-held clear_circuit n r _ a.go c.find_circuit_id-place.result c.circuit_lowered-after.result
+    ∙ ap (lowered a.side a.n) (c.at-circuit.ensures ∙ ap (λ (m : ℕ). get_or t m no_circuit) place) in
+    stored-held clear_circuit n r _ a.go c.find-place.result c.circuit_lowered-after.result
     (λ h. rw place (place-below clear_circuit (circuit_at a.id) (λ x. refl) n r (rw place at h)))
-    c.set_circuit.ensures
+    c.set.ensures
     ∙ (λ x. cond a.go (set t (place x) (after x)) t)
     ∙ ap (λ (u : List RelayCircuit). cond a.go u t)
     (sym (edit-set (circuit_at a.id) (lowered a.side a.n) no_circuit t))

@@ -18,13 +18,13 @@ returns c =
     let n = a.places.circuits in
     let r = a.circuits.now in
     let t = held_circuits a.places r in
-    let old = c.find_circuit_id-old.ensures in
-    let spare = c.spare_circuit-spare.ensures in
+    let old = c.find-old.ensures in
+    let spare = c.spare-spare.ensures in
     let long = sym (length-held clear_circuit n r) in
     let place = c.put_place-place.ensures
     ∙ (λ x. put_place (old x) (long x) (spare x))
     ∙ put-place (circuit_at a.id) (non is_circuit) t in
     let most = put_upto clear_circuit is_circuit (circuit_at a.id) (λ x. refl) (λ x. refl) n r in
     put-held clear_circuit n r _ a.go c.put_place-place.result a.row c.raised.result
-    (λ h. rw place (most (rw place at h))) c.set_circuit.ensures c.raised.ensures
+    (λ h. rw place (most (rw place at h))) c.set.ensures c.raised.ensures
     ∙ ap (λ (m : ℕ). cond a.go (set t m a.row) t) place

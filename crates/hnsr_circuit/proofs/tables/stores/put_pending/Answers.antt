@@ -16,8 +16,8 @@ returns c =
     let n = a.places.pending in
     let r = a.pending.now in
     let t = held_pending a.places r in
-    let place = c.spare_pending-place.ensures in
-    put-held clear_pending n r _ true c.spare_pending-place.result a.row c.raised.result
-    (λ h. rw place (place_upto clear_pending (non is_pending) (λ x. refl) n r)) c.set_pending.ensures
+    let place = c.spare-place.ensures in
+    put-held clear_pending n r _ true c.spare-place.result a.row c.raised.result
+    (λ h. rw place (place_upto clear_pending (non is_pending) (λ x. refl) n r)) c.set.ensures
     c.raised.ensures
     ∙ ap (λ (m : ℕ). set t m a.row) place

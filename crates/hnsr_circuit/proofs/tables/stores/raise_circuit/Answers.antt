@@ -10,7 +10,7 @@ use Rattle.hnsr_circuit.specs.declared.records.RelaySide.TheVariants.{Requester,
 use mathlib.Core.Bool.{cond}
 use Prim.Native.Nat.{ℕ}
 use Rattle.hnsr_circuit.specs.Code.Held.{held, held_circuits}
-use Rattle.hnsr_circuit.specs.Laws.HeldTables.{circuit-still}
+use Rattle.hnsr_circuit.specs.Laws.Records.{circuit_still}
 use Rattle.hnsr_circuit.specs.Laws.Held.{held_spare, stored-seen}
 use Rattle.hnsr_circuit.proofs.tables.stores.raise_circuit.Goals as goal
 
@@ -27,14 +27,14 @@ returns c =
     let n = a.places.circuits in
     let r = a.circuits.now in
     let t = held_circuits a.places r in
-    let there = c.circuit_at-before.ensures in
+    let there = c.at-before.ensures in
     split a.go
     (λ g. let e = c.circuit_raised-after.ensures (rw there (s.requires g)) ∙ ap (raised a.side a.delta) there in
     stored-seen clear_circuit n r _ a.go a.place c.circuit_raised-after.result
-    (λ h. circuit-still c.circuit_raised-after.result
+    (λ h. circuit_still c.circuit_raised-after.result
     (ap is_circuit e
     ∙ marks a.side a.delta (get_or t a.place no_circuit)
-    ∙ held_spare clear_circuit is_circuit (λ u. refl) n r a.place no_circuit refl h)) c.set_circuit.ensures
+    ∙ held_spare clear_circuit is_circuit (λ u. refl) n r a.place no_circuit refl h)) c.set.ensures
     ∙ ap (λ (x : RelayCircuit). cond a.go (set t a.place x) t) e)
-    (λ g. ap (held clear_circuit n) (c.set_circuit.ensures ∙ on-false a.go _ r g)
+    (λ g. ap (held clear_circuit n) (c.set.ensures ∙ on-false a.go _ r g)
     ∙ sym (on-false a.go (set t a.place (raised a.side a.delta (get_or t a.place no_circuit))) t g))

@@ -73,7 +73,7 @@ pub(crate) fn gate_answer(enabled: bool) -> HnsrAnswer
 
 // ---- by opcode
 
-// HANDLE.4: six opcodes; the rest a relay does not take (HANDLE.3). By the number, in ranges: document 01.
+// HANDLE.4: six opcodes; the rest a relay does not take (HANDLE.3). By the number, in ranges: every byte has an arm.
 pub(crate) fn dispatch(
     pending: &mut [RelayPending],
     circuits: &mut [RelayCircuit],

@@ -490,7 +490,8 @@ def wrapped(text, rust):
 # ================================================================ the commands
 def hand_written(paths):
     for path in paths:
-        inside = [os.path.join(d, f) for d, _, fs in os.walk(path) for f in fs] if os.path.isdir(path) else [path]
+        inside = [os.path.join(d, f) for d, _, fs in os.walk(path) for f in fs if '/out/' not in f'{d}/']
+        inside = inside if os.path.isdir(path) else [path]  # without what rt made, in out/
         yield from sorted(f for f in inside if f.endswith(('.antt', '.rt')) and not GENERATED.search(f))
 
 def laid_out(texts):

@@ -111,7 +111,7 @@ def count(crate):
             if kind == "enum" and len(fields) == 2 and (any("(" in f or "{" in f for f in fields)):
                 points[1].append(f"{place}: an enum of two")
             if kind == "struct" and not in_c and len(fields) > 1 and any(
-                    re.search(r":\s*(bool|Checked|HnsrAnswer|Step)$", f) for f in fields):
+                    re.search(r":\s*(bool|Checked|HnsrAnswer|Step|Result<\(\), \w+>)$", f) for f in fields):
                 points[1].append(f"{place}: a flag or an answer beside a value")
             plain = re.sub(r"\[u8; [\w:]+\]|\b(u8|u16|u32|u64|usize)\b", "N", body)
             kinds[kind, re.sub(r"\w+", lambda w: "0" if w.group()[0].isdigit() else "x", plain)].append(place)

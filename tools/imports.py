@@ -72,6 +72,7 @@ def main():
     n = 0
     for crate in words[1:] or sorted(os.listdir(f'{words[0]}/crates')):
         for d, _, fs in sorted(os.walk(f'{words[0]}/crates/{crate}')):
+            if '/out' in d: continue  # what rt made
             for f in sorted(fs):
                 p = f'{d}/{f}'
                 if not f.endswith(('.antt', '.rt')) or '/proofs/By' in p or 'GENERATED' in open(p).read(200): continue

@@ -129,19 +129,23 @@ def without_unfolding(block):
 
 # ---- promises and types: Rattle
 SEEN = r"(?:(?:pub(?:\(\w+\))?|extern \"C\"|const(?= fn)) )*"
-DECLARED = re.compile(rf"^( *){SEEN}(fn|struct|enum|const|impl) (\w+)", re.M)
+PARAMETERS = r"(?:<(?:[^<>\n]|<[^<>\n]*>)*>)?"
+DECLARED = re.compile(rf"^( *){SEEN}(fn|struct|enum|const|trait|type|ghost|impl{PARAMETERS}) (\w+)"
+                      rf"(?:{PARAMETERS} for (\w+))?", re.M)
 BRACE_OR_END = re.compile(r"\{|;$", re.M)
 
 
 def of_source(text):
-    """Kind, name, tokens and text of what a source declares. What an impl has bears the type's name in front."""
+    """Kind, name, tokens and text of what a source declares. What an impl has bears the type's name in front, and what
+    it has of a trait both names; a trait's own declarations bear the trait's. A ghost member counts as a type."""
     text = "\n".join(line for line in re.sub(r"//.*", "", text).split("\n") if line.strip())
     owner = ""
     for found in DECLARED.finditer(text):
-        indent, keyword, name = found.groups()
+        indent, keyword, name, of = found.groups()
+        keyword = keyword.split("<")[0]
         if not indent:
-            owner = f"{name}::" if keyword == "impl" else ""
-        if keyword != "impl":
+            owner = f"{of} as {name}::" if of else f"{name}::" if keyword in ("impl", "trait") else ""
+        if keyword in ("fn", "struct", "enum", "const", "type") or keyword == "ghost" and indent and owner:
             part = text[found.start(2):end_of(text, found.start(2), keyword)].rstrip()
             # a comma in front of a bracket is layout
             compared = re.findall(r"\w+|[^\s\w]", re.sub(r",(\s*[)\]}])", r"\1", part))
@@ -149,21 +153,23 @@ def of_source(text):
 
 
 def end_of(text, at, keyword):
-    """Where a declaration ends; a function at its body's brace, behind `requires {..}` and `ensures {..}`."""
+    """Where a declaration ends; a function at its body's brace, behind `requires {..}` and `ensures {..}`, and a brace
+    in a type's argument is neither."""
     while True:
         brace = BRACE_OR_END.search(text, at)
-        clause = re.search(r"^\s*\w+\*?(?: \w+)?\s*\Z", text[text.rfind("\n", 0, brace.start()) + 1:brace.start()])
+        before = text[text.rfind("\n", 0, brace.start()) + 1:brace.start()]
+        argument = before.rstrip().endswith("<")
+        clause = argument or re.search(r"^\s*\w+\*?(?: \w+)?\s*\Z", before)
         if brace.group() == ";" or (keyword == "fn" and not clause):
             return brace.start()
         at, depth = brace.end(), 1
         while depth:
             depth += {"{": 1, "}": -1}.get(text[at], 0)
             at += 1
-        if keyword != "fn":
+        if keyword != "fn" and not argument:
             return at
 
 
-# ---- two commits beside each other
 def fates(old, new):
     """What became of each item: (fate, old item or none, new item or none)."""
     def in_file(item): return item.kind, item.crate, item.name, item.file

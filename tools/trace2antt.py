@@ -261,12 +261,14 @@ peer_number p = be_from 1 (peer_bytes p)
 unfoldable pub wide : ReservationId → ℕ
 wide r = r.high * 18446744073709551616 + r.low
 
-unfoldable pub rows_from : {A : Type 0} → (A → ℕ) → (A → Bool) → A → (A → List ℕ) → List A → ℕ → Walked
-    → List (List ℕ)
+unfoldable pub rows_from : {A : Type 0} → (A → ℕ) → (A → Bool) → A → (A → List ℕ) → List A → ℕ
+    → Option Walked → List (List ℕ)
 rows_from key used none row t zero c = []
 rows_from key used none row t (suc n) c =
-    let k = next key used c t in
-    elim k.taken [ true ↦ row (get_or t k.place none) ∷ rows_from key used none row t n k | false ↦ [] ]
+    elim (next key used c t) [
+      Some k ↦ row (get_or t k.place none) ∷ rows_from key used none row t n (Some k)
+    | None ↦ []
+    ]
 
 unfoldable pub pending_row : RelayPending → List ℕ
 unfolding peer_number wide

@@ -13,7 +13,7 @@ use hnsr_circuit::peer::{HnsrPeerId, MAXIMUM_PEER};
 use hnsr_circuit::records::{
     InflightAction, RelayCircuit, RelayPending, RelayTicket, ReservationUsage,
 };
-use hnsr_circuit::runtime::{RelayPacket, Relayed};
+use hnsr_circuit::runtime::{RelayPacket, RelayState, Relayed};
 
 // ---- what is lent
 
@@ -166,15 +166,14 @@ impl Lent {
         )
     }
 
-    fn open(&mut self, kept: Relayed) -> Relayed {
+    fn open(&mut self, state: RelayState) -> Relayed {
         handle(
             &mut self.pending,
             &mut self.circuits,
             &mut self.ledger,
             &mut self.inflight,
             &mut self.out,
-            kept.runtime,
-            kept.places,
+            state,
             OPEN_PACKET,
             &[Peer::Requester as u8],
             &OPEN.to_bytes(),
@@ -186,7 +185,7 @@ impl Lent {
     // Any other packet, on the circuit.
     fn deliver(
         &mut self,
-        kept: Relayed,
+        state: RelayState,
         opcode: Opcode,
         peer: Peer,
         now: u64,
@@ -206,8 +205,7 @@ impl Lent {
             &mut self.ledger,
             &mut self.inflight,
             &mut self.out,
-            kept.runtime,
-            kept.places,
+            state,
             packet,
             &[peer as u8],
             body,
@@ -216,33 +214,32 @@ impl Lent {
         )
     }
 
-    fn delivered(&mut self, kept: Relayed, sequence: u64) -> Relayed {
+    fn delivered(&mut self, state: RelayState, sequence: u64) -> Relayed {
         acknowledge(
             &mut self.pending,
             &mut self.circuits,
             &mut self.inflight,
             &mut self.out,
-            kept.runtime,
-            kept.places,
+            state,
             1,
             sequence,
             true,
         )
     }
 
-    fn step(&mut self, kept: Relayed, step: Step) -> Relayed {
+    fn step(&mut self, state: RelayState, step: Step) -> Relayed {
         match step {
             Step::Accept(now) => {
                 let body = ACCEPT.to_bytes();
-                self.deliver(kept, Opcode::Accept, Peer::Endpoint, now, &body)
+                self.deliver(state, Opcode::Accept, Peer::Endpoint, now, &body)
             }
             Step::Data(peer, now, size) => {
                 let size = size.min(DATA.len());
-                self.deliver(kept, Opcode::Data, peer, now, &DATA[..size])
+                self.deliver(state, Opcode::Data, peer, now, &DATA[..size])
             }
-            Step::Packet(opcode, peer, body) => self.deliver(kept, opcode, peer, 100, body),
+            Step::Packet(opcode, peer, body) => self.deliver(state, opcode, peer, 100, body),
             // INCOMING was 1, OPENED 2.
-            Step::Delivered => self.delivered(kept, 3),
+            Step::Delivered => self.delivered(state, 3),
         }
     }
 
@@ -250,9 +247,9 @@ impl Lent {
     pub(crate) fn run(&mut self, case: Case) -> HnsrAnswer {
         let Case(queue, steps) = case;
         let made = self.begin(queue);
-        let mut kept = self.open(made);
+        let mut kept = self.open(made.state);
         for step in steps {
-            kept = self.step(kept, *step);
+            kept = self.step(kept.state, *step);
         }
         kept.answer
     }

@@ -10,10 +10,10 @@ ghost use Rattle.hns_encoding.specs.Cursor.{reads_word, steps, steps_in, unexpec
 
 use crate::room::{fits, missing};
 use crate::words::{copy_bytes, word_count};
-use std::cmp::Ordering;
 use std::error::Error;
 use std::fmt;
 
+// Two cases that both hold numbers: an enum of errors, with no shape of Option's or Result's.
 #[derive(Clone, Copy, Debug, PartialEq, Eq)]
 pub enum DecodeError {
     // A field that starts at `offset` lacks `needed` bytes.
@@ -109,6 +109,8 @@ impl Decoder {
         Ok((bytes, next))
     }
 
+    // The numbers, by the names that the Rust has: each one line over `read_array` and the library's bytes of a number.
+    #[tactic(auto, using(crate::specs::Laws::Bytes::le_one))]
     pub fn read_u8(self, input: &[u8]) -> Result<(u8, Decoder), DecodeError>
         ensures { result ≡ reads_le 1 input.now self }
     {
@@ -116,6 +118,7 @@ impl Decoder {
         Ok((bytes[0], next))
     }
 
+    #[tactic(auto, using(crate::specs::Laws::Library::le_two))]
     pub fn read_u16_le(self, input: &[u8]) -> Result<(u16, Decoder), DecodeError>
         ensures { result ≡ reads_le 2 input.now self }
     {
@@ -123,6 +126,7 @@ impl Decoder {
         Ok((u16::from_le_bytes(bytes), next))
     }
 
+    #[tactic(auto, using(crate::specs::Laws::Bytes::le_four))]
     pub fn read_u32_le(self, input: &[u8]) -> Result<(u32, Decoder), DecodeError>
         ensures { result ≡ reads_le 4 input.now self }
     {
@@ -130,6 +134,7 @@ impl Decoder {
         Ok((u32::from_le_bytes(bytes), next))
     }
 
+    #[tactic(auto, using(crate::specs::Laws::Library::le_eight))]
     pub fn read_u64_le(self, input: &[u8]) -> Result<(u64, Decoder), DecodeError>
         ensures { result ≡ reads_le 8 input.now self }
     {
@@ -138,6 +143,7 @@ impl Decoder {
     }
 
     // Eight bytes as a number whose highest byte is the first: an id, so that ids go up as their bytes do.
+    #[tactic(auto, using(crate::specs::Laws::Library::be_eight))]
     pub fn read_u64_be(self, input: &[u8]) -> Result<(u64, Decoder), DecodeError>
         ensures { result ≡ reads_be 8 input.now self }
     {
@@ -145,17 +151,15 @@ impl Decoder {
         Ok((u64::from_be_bytes(bytes), next))
     }
 
-    // Whether the input is read whole; a position past its end is no whole reading.
+    // Whether the input is read whole; a position past its end is no whole reading. Of the three cases two have an
+    // error of their own, so that none is a call that another could stand for.
     pub fn finish(self, input: &[u8]) -> Result<(), DecodeError>
         ensures { result ≡ finishes input.now self }
     {
-        let size = input.len();
-        match self.position.cmp(&size) {
-            Ordering::Equal => Ok(()),
-            Ordering::Less => Err(DecodeError::TrailingBytes {
-                remaining: size - self.position,
-            }),
-            Ordering::Greater => Err(unexpected_end(size, self.position, 0)),
+        match input.len().checked_sub(self.position) {
+            Some(0) => Ok(()),
+            Some(remaining) => Err(DecodeError::TrailingBytes { remaining }),
+            None => Err(unexpected_end(input.len(), self.position, 0)),
         }
     }
 

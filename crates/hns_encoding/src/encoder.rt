@@ -67,6 +67,7 @@ impl Encoder {
         Ok(next)
     }
 
+    // The numbers, by the names that the Rust has: each one line over `put`.
     #[tactic(auto, unfolding(crate::specs::Bytes::le_bytes))]
     pub fn put_u8(self, out: &mut [u8], value: u8) -> Result<Encoder, NoRoom>
         ensures { Puts result out.old out.new self.position (le_bytes 1 value) }
@@ -74,18 +75,21 @@ impl Encoder {
         self.put_bytes(out, &[value])
     }
 
+    #[tactic(auto, unfolding(crate::specs::Bytes::le_bytes))]
     pub fn put_u16_le(self, out: &mut [u8], value: u16) -> Result<Encoder, NoRoom>
         ensures { Puts result out.old out.new self.position (le_bytes 2 value) }
     {
         self.put_bytes(out, &value.to_le_bytes())
     }
 
+    #[tactic(auto, unfolding(crate::specs::Bytes::le_bytes))]
     pub fn put_u32_le(self, out: &mut [u8], value: u32) -> Result<Encoder, NoRoom>
         ensures { Puts result out.old out.new self.position (le_bytes 4 value) }
     {
         self.put_bytes(out, &value.to_le_bytes())
     }
 
+    #[tactic(auto, unfolding(crate::specs::Bytes::le_bytes))]
     pub fn put_u64_le(self, out: &mut [u8], value: u64) -> Result<Encoder, NoRoom>
         ensures { Puts result out.old out.new self.position (le_bytes 8 value) }
     {
@@ -93,6 +97,7 @@ impl Encoder {
     }
 
     // An id: eight bytes, the first weighing most.
+    #[tactic(auto, unfolding(crate::specs::Bytes::be_bytes))]
     pub fn put_u64_be(self, out: &mut [u8], value: u64) -> Result<Encoder, NoRoom>
         ensures { Puts result out.old out.new self.position (be_bytes 8 value) }
     {
@@ -107,6 +112,7 @@ impl Encoder {
 
     // ---- over words
 
+    // As above, the Rust's name for one line over `put`.
     pub fn put_word(self, out: &mut [u32], value: u32) -> Result<Encoder, NoRoom>
         ensures { Puts result out.old out.new self.position (value ∷ []) }
     {
@@ -145,6 +151,7 @@ impl Encoder {
     }
 
     // An id as two words: its eight bytes, the first weighing most, four to a word.
+    #[tactic(auto, unfolding(crate::specs::Bytes::be_bytes))]
     pub fn put_u64_be_as_words(self, out: &mut [u32], value: u64) -> Result<Encoder, NoRoom>
         ensures { Puts result out.old out.new self.position (words (be_bytes 8 value)) }
     {

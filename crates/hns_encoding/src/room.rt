@@ -1,5 +1,6 @@
 // Whether a field lies within a slice, and what is missing where it does not. A position past the end is answered like
-// any other.
+// any other. Size, position and width stay three numbers: a step has the size of its slice, the position of its cursor
+// and the width of its field, and no value holds all three.
 ghost use Rattle.std.specs.Prelude.{◌≡◌};
 ghost use Rattle.hns_encoding.specs.Cursor.{within, lacking};
 

@@ -1,9 +1,9 @@
 // Bytes as 32-bit words and words as bytes: four bytes to a word, the first lowest. The methods of the encoder and the
 // decoder over words go by these.
-ghost use Rattle.std.specs.Prelude.{◌≡◌, ◌+◌, ◌*◌, ◌<◌, ◌≤◌, ◌^◌, length, get_or, take};
+ghost use Rattle.std.specs.Prelude.{◌≡◌, ◌+◌, ◌≤◌, length, map, get_or, take};
 ghost use Rattle.hns_encoding.specs.Bytes.{le};
 ghost use Rattle.hns_encoding.specs.Words.{bytes_of, word_count, words_of};
-ghost use Rattle.hns_encoding.specs.Cursor.{field, written_at};
+ghost use Rattle.hns_encoding.specs.Cursor.{written_at};
 
 // How many words so many bytes fill.
 pub fn word_count(bytes: usize) -> usize
@@ -19,59 +19,46 @@ fn byte_at(bytes: &[u8], at: usize) -> u8
     bytes.get(at).copied().unwrap_or(0)
 }
 
-// The word that the bytes from a place on are, at most four; zeros above them.
+// A word of at most four bytes, with zeros above them.
 #[tactic(auto, using(crate::specs::Laws::Bytes::le_four))]
-fn word_at(bytes: &[u8], at: usize) -> u32
-    requires { at + 4 < 2 ^ 64 }
-    ensures { result ≡ le (field bytes.now at 4) }
+fn short_word(bytes: &[u8]) -> u32
+    requires { length bytes.now ≤ 4 }
+    ensures { result ≡ le bytes.now }
 {
     u32::from_le_bytes([
-        byte_at(bytes, at),
-        byte_at(bytes, at + 1),
-        byte_at(bytes, at + 2),
-        byte_at(bytes, at + 3),
+        byte_at(bytes, 0),
+        byte_at(bytes, 1),
+        byte_at(bytes, 2),
+        byte_at(bytes, 3),
     ])
 }
 
-// The same of bytes that fill it.
-#[tactic(auto, using(crate::specs::Laws::Bytes::le_four))]
-fn full_word_at(bytes: &[u8], at: usize) -> u32
-    requires { at + 4 ≤ length bytes.now }
-    ensures { result ≡ le (field bytes.now at 4) }
-{
-    u32::from_le_bytes([bytes[at], bytes[at + 1], bytes[at + 2], bytes[at + 3]])
-}
-
-// The bytes as exactly the words of `out`, which they fill. By the place: what `zip` leaves of a slice that its pairs
-// write did not prove, since an invariant cannot name that slice.
-#[tactic(auto, using(crate::specs::Laws::Words::words_of_each))]
-fn put_full_words(out: &mut [u32], bytes: &[u8])
-    requires { 4 * length out.old ≤ length bytes.now }
-    ensures { out.new ≡ words_of (length out.old) bytes.now }
+// The chunks as words. By the place: what `zip` leaves of a slice that its pairs write did not prove, since an
+// invariant cannot name that slice.
+#[tactic(auto, using(crate::specs::Laws::Words::chunk_steps))]
+fn put_full_words(out: &mut [u32], chunks: &[[u8; 4]])
+    requires { length out.old ≡ length chunks.now }
+    ensures { out.new ≡ map le chunks.now }
 {
     for (i, word) in out.iter_mut().enumerate() {
-        *word = full_word_at(bytes, 4 * i);
+        *word = u32::from_le_bytes(chunks[i]);
     }
 }
 
-// The bytes as exactly the words of `out`, zero padded.
-#[tactic(auto, using(crate::specs::Laws::Words::words_of_each))]
-fn put_short_words(out: &mut [u32], bytes: &[u8])
-    ensures { out.new ≡ words_of (length out.old) bytes.now }
-{
-    for (i, word) in out.iter_mut().enumerate() {
-        *word = word_at(bytes, 4 * i);
-    }
-}
-
-// The same, the full words first: their loop has no test of an end, and compiles to a copy.
+// The bytes as exactly the words of `out`, zero padded: the full words, whose loop has no test of an end and compiles
+// to a copy, then the one that is not full, then zeros.
+#[tactic(auto, using(crate::specs::Laws::Words::words_put, crate::specs::Laws::Words::words_none))]
 pub(crate) fn put_words(out: &mut [u32], bytes: &[u8])
     ensures { out.new ≡ words_of (length out.old) bytes.now }
 {
-    let full = out.len().min(bytes.len() / 4);
+    let (chunks, tail) = bytes.as_chunks();
+    let full = out.len().min(chunks.len());
     let (whole, rest) = out.split_at_mut(full);
-    put_full_words(whole, bytes);
-    put_short_words(rest, &bytes[4 * full..]);
+    put_full_words(whole, &chunks[..full]);
+    rest.fill(0);
+    if !rest.is_empty() {
+        rest[0] = short_word(tail);
+    }
 }
 
 // Elements into a slice at a place.
@@ -84,6 +71,7 @@ pub(crate) fn write_at<T: Copy>(out: &mut [T], at: usize, elements: &[T])
 
 // As many bytes as `out` holds, from the words. By the place: std says nothing of what a slice ends as that
 // `chunks_exact_mut` or `as_chunks_mut` lends.
+#[tactic(auto, unfolding(crate::specs::Bytes::le_bytes), using(crate::specs::Laws::Words::copied))]
 pub(crate) fn copy_bytes(out: &mut [u8], words: &[u32])
     requires { word_count (length out.old) ≤ length words.now }
     ensures { out.new ≡ take (length out.old) (bytes_of words.now) }

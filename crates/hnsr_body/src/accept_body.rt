@@ -1,17 +1,15 @@
 // ACCEPT: an endpoint takes a circuit. OPENED: the relay tells the requester; it is a circuit id and then ACCEPT.
-ghost use Rattle.std.specs.Prelude.{◌≡◌, length};
-ghost use Rattle.hnsr_body.specs.Accept.{accept_bytes, accept_fields, accept_good, accept_size};
+ghost use Rattle.std.specs.Prelude.{◌≡◌};
+ghost use Rattle.hnsr_body.specs.Accept.{accept_bytes, accept_fields, accept_good};
 ghost use Rattle.hnsr_body.specs.Accept.{accept_widths, decode_accept, decode_opened, encode_accept};
 ghost use Rattle.hnsr_body.specs.Accept.{encode_opened, opened_answer, opened_bytes, opened_fields};
-ghost use Rattle.hnsr_body.specs.Accept.{opened_rest, opened_size, opened_widths};
+ghost use Rattle.hnsr_body.specs.Accept.{opened_rest, opened_widths};
 ghost use Rattle.hnsr_body.specs.Layout.{laid_out};
 
 use crate::error::{HnsrInvalid, HnsrProtocolError};
-use crate::fields::{
-    next_array, next_u32, next_u64_be, put_bytes_at, put_u32_at, put_u64_be_at, start,
-};
+use crate::fields::{next_array, put_bytes_at, start};
 use crate::layout::{Read, answered, finish};
-use crate::values::{is_some, is_window};
+use crate::values::{is_window, is_zero};
 
 #[repr(C)]
 #[derive(Clone, Copy)]
@@ -40,12 +38,12 @@ impl AcceptBody {
     fn fields(input: &[u8]) -> Read<Self>
         ensures { (result.result ≡ laid_out accept_widths input.now) × (result.body ≡ accept_fields input.now) }
     {
-        let (accepted_window, step) = next_u32(start(), input);
+        let (accepted_window, step) = next_array(start(), input);
         let (endpoint_nonce, step) = next_array(step, input);
         Read {
             result: finish(step, input),
             body: Self {
-                accepted_window,
+                accepted_window: u32::from_le_bytes(accepted_window),
                 endpoint_nonce,
             },
         }
@@ -55,9 +53,10 @@ impl AcceptBody {
     fn is_valid(self) -> bool
         ensures { result ≡ accept_good self }
     {
-        is_window(self.accepted_window) && is_some(&self.endpoint_nonce)
+        is_window(self.accepted_window) && !is_zero(&self.endpoint_nonce)
     }
 
+    // Two lines, and no trait for them: `layout::answered` says why.
     #[tactic(auto, unfolding(crate::specs::Accept::decode_accept))]
     pub fn decode(input: &[u8]) -> Read<Self>
         ensures { result ≡ decode_accept input.now }
@@ -66,20 +65,18 @@ impl AcceptBody {
         read.answered(read.body.is_valid(), HnsrInvalid::AcceptResponse)
     }
 
-    fn put(self, out: &mut [u8])
-        requires { length out.old ≡ accept_size }
-        ensures { out.new ≡ accept_bytes self }
-    {
-        put_u32_at(out, Self::ACCEPTED_WINDOW, self.accepted_window);
-        put_bytes_at(out, Self::ENDPOINT_NONCE, &self.endpoint_nonce);
-    }
-
-    // The bytes of any body: it is `encode` that looks at the values.
+    // The bytes of any body, by the name that numbers have for theirs: it is `encode` that looks at the values.
+    #[tactic(auto, unfolding(crate::specs::Accept::accept_bytes, hns_encoding::specs::Bytes::le_bytes))]
     pub fn to_bytes(self) -> [u8; Self::SIZE]
         ensures { result ≡ accept_bytes self }
     {
         let mut bytes = [0u8; Self::SIZE];
-        self.put(&mut bytes);
+        put_bytes_at(
+            &mut bytes,
+            Self::ACCEPTED_WINDOW,
+            &self.accepted_window.to_le_bytes(),
+        );
+        put_bytes_at(&mut bytes, Self::ENDPOINT_NONCE, &self.endpoint_nonce);
         bytes
     }
 
@@ -108,14 +105,14 @@ impl OpenedBody {
     fn fields(input: &[u8]) -> Read<Self>
         ensures { (result.result ≡ laid_out opened_widths input.now) × (result.body ≡ opened_fields input.now) }
     {
-        let (circuit_id, step) = next_u64_be(start(), input);
-        let (accepted_window, step) = next_u32(step, input);
+        let (circuit_id, step) = next_array(start(), input);
+        let (accepted_window, step) = next_array(step, input);
         let (endpoint_nonce, step) = next_array(step, input);
         Read {
             result: finish(step, input),
             body: Self {
-                circuit_id,
-                accepted_window,
+                circuit_id: u64::from_be_bytes(circuit_id),
+                accepted_window: u32::from_le_bytes(accepted_window),
                 endpoint_nonce,
             },
         }
@@ -158,21 +155,18 @@ impl OpenedBody {
         }
     }
 
-    fn put(self, out: &mut [u8])
-        requires { length out.old ≡ opened_size }
-        ensures { out.new ≡ opened_bytes self }
-    {
-        put_u64_be_at(out, Self::CIRCUIT_ID, self.circuit_id);
-        put_u32_at(out, Self::ACCEPTED_WINDOW, self.accepted_window);
-        put_bytes_at(out, Self::ENDPOINT_NONCE, &self.endpoint_nonce);
-    }
-
-    // The bytes of any body: it is `encode` that looks at the values.
+    // The bytes of any body, by the name that numbers have for theirs: it is `encode` that looks at the values.
     pub fn to_bytes(self) -> [u8; Self::SIZE]
         ensures { result ≡ opened_bytes self }
     {
         let mut bytes = [0u8; Self::SIZE];
-        self.put(&mut bytes);
+        put_bytes_at(&mut bytes, Self::CIRCUIT_ID, &self.circuit_id.to_be_bytes());
+        put_bytes_at(
+            &mut bytes,
+            Self::ACCEPTED_WINDOW,
+            &self.accepted_window.to_le_bytes(),
+        );
+        put_bytes_at(&mut bytes, Self::ENDPOINT_NONCE, &self.endpoint_nonce);
         bytes
     }
 

@@ -1,18 +1,16 @@
 // DATA: bytes that are passed on as they are. WINDOW: credit for the other side.
 ghost use Rattle.std.specs.Prelude.{◌≡◌, length};
 ghost use Rattle.hnsr_body.specs.Data.{data_checked, data_good, decode_window, delta_good, encode_window};
-ghost use Rattle.hnsr_body.specs.Data.{window_bytes, window_fields, window_size, window_widths};
+ghost use Rattle.hnsr_body.specs.Data.{window_bytes, window_fields, window_widths};
 ghost use Rattle.hnsr_body.specs.Layout.{laid_out};
 
 use crate::error::{HnsrInvalid, HnsrProtocolError};
-use crate::fields::{next_u32, put_u32_at, start};
+use crate::fields::{next_array, put_bytes_at, start};
 use crate::layout::{Read, finish};
 use crate::values::MAX_WINDOW;
 
-#[derive(Clone, Copy)]
-pub struct DataBody {
-    pub length: usize,
-}
+// Its bytes are its body: it has sizes and a check, and no fields.
+pub struct DataBody;
 
 #[repr(C)]
 #[derive(Clone, Copy)]
@@ -62,10 +60,12 @@ impl WindowBody {
     fn fields(input: &[u8]) -> Read<Self>
         ensures { (result.result ≡ laid_out window_widths input.now) × (result.body ≡ window_fields input.now) }
     {
-        let (credit_delta, step) = next_u32(start(), input);
+        let (credit_delta, step) = next_array(start(), input);
         Read {
             result: finish(step, input),
-            body: Self { credit_delta },
+            body: Self {
+                credit_delta: u32::from_le_bytes(credit_delta),
+            },
         }
     }
 
@@ -75,6 +75,7 @@ impl WindowBody {
         (Self::MIN_DELTA..=Self::MAX_DELTA).contains(&self.credit_delta)
     }
 
+    // Two lines, and no trait for them: `layout::answered` says why.
     #[tactic(auto, unfolding(crate::specs::Data::decode_window))]
     pub fn decode(input: &[u8]) -> Read<Self>
         ensures { result ≡ decode_window input.now }
@@ -83,19 +84,17 @@ impl WindowBody {
         read.answered(read.body.is_valid(), HnsrInvalid::WindowCredit)
     }
 
-    fn put(self, out: &mut [u8])
-        requires { length out.old ≡ window_size }
-        ensures { out.new ≡ window_bytes self }
-    {
-        put_u32_at(out, Self::CREDIT_DELTA, self.credit_delta);
-    }
-
-    // The bytes of any body: it is `encode` that looks at the values.
+    // The bytes of any body, by the name that numbers have for theirs: it is `encode` that looks at the values.
+    #[tactic(auto, unfolding(crate::specs::Data::window_bytes, hns_encoding::specs::Bytes::le_bytes))]
     pub fn to_bytes(self) -> [u8; Self::SIZE]
         ensures { result ≡ window_bytes self }
     {
         let mut bytes = [0u8; Self::SIZE];
-        self.put(&mut bytes);
+        put_bytes_at(
+            &mut bytes,
+            Self::CREDIT_DELTA,
+            &self.credit_delta.to_le_bytes(),
+        );
         bytes
     }
 

@@ -1,12 +1,11 @@
 // CLOSE and ERROR: a reason and a text of at most 128 bytes. Both have one form, and every reason is accepted in both.
-ghost use Rattle.std.specs.Prelude.{◌≡◌, ◌≤◌, ◌&&◌, eqb, leb, drop, length};
-ghost use Rattle.hns_encoding.specs.Cursor.{written_at};
-ghost use Rattle.hnsr_body.specs.Detail.{decode_detail, detail_bytes, detail_size, detail_widths};
+ghost use Rattle.std.specs.Prelude.{◌≡◌, ◌&&◌, eqb, leb, drop, length};
+ghost use Rattle.hnsr_body.specs.Detail.{decode_detail, detail_widths};
 ghost use Rattle.hnsr_body.specs.Detail.{encode_detail, head_size, most_detail, reason_detail};
 ghost use Rattle.hnsr_body.specs.Layout.{walked};
 
 use crate::error::{HnsrInvalid, HnsrProtocolError};
-use crate::fields::{Step, next_u8, next_u16, put_bytes_at, put_u8_at, put_u16_at, rest, start};
+use crate::fields::{Step, next_array, put_bytes_at, rest, start};
 use crate::layout::{Padded, Read, answered, handed_on};
 use crate::utf8::is_utf8;
 
@@ -36,13 +35,12 @@ impl ReasonDetail {
         ensures { (result.0 ≡ reason_detail input.now)
             × (result.1 ≡ walked detail_widths input.now (record { position = 0 })) }
     {
-        let (reason, step) = next_u16(start(), input);
-        let (length, step) = next_u8(step, input);
-        let detail_length = length as usize;
+        let (reason, step) = next_array(start(), input);
+        let (length, step) = next_array(step, input);
         (
             Self {
-                reason,
-                detail_length,
+                reason: u16::from_le_bytes(reason),
+                detail_length: u8::from_le_bytes(length) as usize,
             },
             step,
         )
@@ -56,6 +54,7 @@ impl ReasonDetail {
     }
 
     // The text: what stands behind the two fields.
+    #[tactic(auto, using(crate::specs::Laws::Layout::behind_walk))]
     pub fn detail(input: &[u8]) -> &[u8]
         ensures { result.now ≡ drop head_size input.now }
     {
@@ -79,15 +78,6 @@ impl ReasonDetail {
         }
     }
 
-    fn put(out: &mut [u8], reason: u16, detail: &[u8])
-        requires { (length out.old ≡ detail_size) × (length detail.now ≤ most_detail) }
-        ensures { out.new ≡ written_at out.old 0 (detail_bytes reason detail.now) }
-    {
-        put_u16_at(out, Self::REASON, reason);
-        put_u8_at(out, Self::LENGTH, detail.len() as u8);
-        put_bytes_at(out, Self::DETAIL, detail);
-    }
-
     // A detail that the reader would refuse is not written.
     #[tactic(auto, unfolding(crate::specs::Detail::encode_detail))]
     pub fn encode(
@@ -106,7 +96,9 @@ impl ReasonDetail {
             return Err(HnsrInvalid::NotUtf8.into());
         }
         let mut bytes = [0; Self::MAX_SIZE];
-        Self::put(&mut bytes, reason, detail);
+        put_bytes_at(&mut bytes, Self::REASON, &reason.to_le_bytes());
+        put_bytes_at(&mut bytes, Self::LENGTH, &[detail.len() as u8]);
+        put_bytes_at(&mut bytes, Self::DETAIL, detail);
         Ok(Padded {
             length: Self::DETAIL + detail.len(),
             bytes,

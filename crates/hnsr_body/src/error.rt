@@ -89,6 +89,7 @@ impl From<DecodeError> for Cause {
     }
 }
 
+// Kinds as numbers, since a host gets numbers.
 impl From<HnsrProtocolError> for Cause {
     ghost from_gives = { λ error cause. cause ≡ error_cause error };
 

@@ -2,7 +2,6 @@
 // is handed on, and what stands behind it reads as zeros. Writing goes to an offset, and nothing is written where there
 // is no room.
 ghost use Rattle.std.specs.Prelude.{◌≡◌};
-ghost use Rattle.hns_encoding.specs.Bytes.{be, be_bytes, le, le_bytes};
 ghost use Rattle.hns_encoding.specs.Cursor.{written};
 ghost use Rattle.hnsr_body.specs.Fields.{fetched, left, read_on, start, stepped};
 
@@ -26,6 +25,7 @@ fn read_on<const N: usize>(step: Step, input: &[u8]) -> Result<([u8; N], Decoder
 
 // The next `N` bytes, and the step behind them. By names: the borrow checker covers no array in a tuple or a pattern
 // that is not a variable first.
+#[tactic(auto, using(crate::specs::Laws::Fields::on_ok, crate::specs::Laws::Fields::on_err))]
 pub(crate) fn next_array<const N: usize>(step: Step, input: &[u8]) -> ([u8; N], Step)
     ensures { (result.0 ≡ fetched N input.now step) × (result.1 ≡ stepped N input.now step) }
 {
@@ -39,35 +39,6 @@ pub(crate) fn next_array<const N: usize>(step: Step, input: &[u8]) -> ([u8; N], 
             (zeros, Err(error))
         }
     }
-}
-
-pub(crate) fn next_u8(step: Step, input: &[u8]) -> (u8, Step)
-    ensures { (result.0 ≡ le (fetched 1 input.now step)) × (result.1 ≡ stepped 1 input.now step) }
-{
-    let (bytes, next) = next_array(step, input);
-    (u8::from_le_bytes(bytes), next)
-}
-
-pub(crate) fn next_u16(step: Step, input: &[u8]) -> (u16, Step)
-    ensures { (result.0 ≡ le (fetched 2 input.now step)) × (result.1 ≡ stepped 2 input.now step) }
-{
-    let (bytes, next) = next_array(step, input);
-    (u16::from_le_bytes(bytes), next)
-}
-
-pub(crate) fn next_u32(step: Step, input: &[u8]) -> (u32, Step)
-    ensures { (result.0 ≡ le (fetched 4 input.now step)) × (result.1 ≡ stepped 4 input.now step) }
-{
-    let (bytes, next) = next_array(step, input);
-    (u32::from_le_bytes(bytes), next)
-}
-
-// An id: eight bytes, the first weighing most.
-pub(crate) fn next_u64_be(step: Step, input: &[u8]) -> (u64, Step)
-    ensures { (result.0 ≡ be (fetched 8 input.now step)) × (result.1 ≡ stepped 8 input.now step) }
-{
-    let (bytes, next) = next_array(step, input);
-    (u64::from_be_bytes(bytes), next)
 }
 
 // What stands behind the last field.
@@ -87,28 +58,4 @@ pub(crate) fn put_bytes_at(out: &mut [u8], at: usize, bytes: &[u8])
     ensures { out.new ≡ written out.old at bytes.now }
 {
     let _ = Encoder { position: at }.put_bytes(out, bytes);
-}
-
-pub(crate) fn put_u8_at(out: &mut [u8], at: usize, value: u8)
-    ensures { out.new ≡ written out.old at (le_bytes 1 value) }
-{
-    let _ = Encoder { position: at }.put_u8(out, value);
-}
-
-pub(crate) fn put_u16_at(out: &mut [u8], at: usize, value: u16)
-    ensures { out.new ≡ written out.old at (le_bytes 2 value) }
-{
-    let _ = Encoder { position: at }.put_u16_le(out, value);
-}
-
-pub(crate) fn put_u32_at(out: &mut [u8], at: usize, value: u32)
-    ensures { out.new ≡ written out.old at (le_bytes 4 value) }
-{
-    let _ = Encoder { position: at }.put_u32_le(out, value);
-}
-
-pub(crate) fn put_u64_be_at(out: &mut [u8], at: usize, value: u64)
-    ensures { out.new ≡ written out.old at (be_bytes 8 value) }
-{
-    let _ = Encoder { position: at }.put_u64_be(out, value);
 }

@@ -1,16 +1,13 @@
 // INCOMING: the relay tells an endpoint of an OPEN.
-ghost use Rattle.std.specs.Prelude.{◌≡◌, length};
+ghost use Rattle.std.specs.Prelude.{◌≡◌};
 ghost use Rattle.hnsr_body.specs.Incoming.{decode_incoming, encode_incoming, incoming_bytes};
-ghost use Rattle.hnsr_body.specs.Incoming.{incoming_fields, incoming_good, incoming_size, incoming_widths};
+ghost use Rattle.hnsr_body.specs.Incoming.{incoming_fields, incoming_good, incoming_widths};
 ghost use Rattle.hnsr_body.specs.Layout.{laid_out};
 
 use crate::error::{HnsrInvalid, HnsrProtocolError};
-use crate::fields::{
-    next_array, next_u16, next_u32, next_u64_be, put_bytes_at, put_u16_at, put_u32_at,
-    put_u64_be_at, start,
-};
+use crate::fields::{next_array, put_bytes_at, start};
 use crate::layout::{Read, finish};
-use crate::values::{is_some, is_window};
+use crate::values::{is_window, is_zero};
 
 #[repr(C)]
 #[derive(Clone, Copy)]
@@ -42,18 +39,18 @@ impl IncomingBody {
             × (result.body ≡ incoming_fields input.now) }
     {
         let (ticket_id, step) = next_array(start(), input);
-        let (open_request_id, step) = next_u64_be(step, input);
-        let (profile, step) = next_u16(step, input);
+        let (open_request_id, step) = next_array(step, input);
+        let (profile, step) = next_array(step, input);
         let (requester_nonce, step) = next_array(step, input);
-        let (initial_window, step) = next_u32(step, input);
+        let (initial_window, step) = next_array(step, input);
         Read {
             result: finish(step, input),
             body: Self {
                 ticket_id,
-                open_request_id,
-                profile,
+                open_request_id: u64::from_be_bytes(open_request_id),
+                profile: u16::from_le_bytes(profile),
                 requester_nonce,
-                initial_window,
+                initial_window: u32::from_le_bytes(initial_window),
             },
         }
     }
@@ -62,13 +59,14 @@ impl IncomingBody {
     fn is_valid(self) -> bool
         ensures { result ≡ incoming_good self }
     {
-        is_some(&self.ticket_id)
+        !is_zero(&self.ticket_id)
             && self.open_request_id != 0
             && self.profile != 0
-            && is_some(&self.requester_nonce)
+            && !is_zero(&self.requester_nonce)
             && is_window(self.initial_window)
     }
 
+    // Two lines, and no trait for them: `layout::answered` says why.
     #[tactic(auto, unfolding(crate::specs::Incoming::decode_incoming))]
     pub fn decode(input: &[u8]) -> Read<Self>
         ensures { result ≡ decode_incoming input.now }
@@ -77,23 +75,24 @@ impl IncomingBody {
         read.answered(read.body.is_valid(), HnsrInvalid::IncomingParameters)
     }
 
-    fn put(self, out: &mut [u8])
-        requires { length out.old ≡ incoming_size }
-        ensures { out.new ≡ incoming_bytes self }
-    {
-        put_bytes_at(out, Self::TICKET_ID, &self.ticket_id);
-        put_u64_be_at(out, Self::OPEN_REQUEST_ID, self.open_request_id);
-        put_u16_at(out, Self::PROFILE, self.profile);
-        put_bytes_at(out, Self::REQUESTER_NONCE, &self.requester_nonce);
-        put_u32_at(out, Self::INITIAL_WINDOW, self.initial_window);
-    }
-
-    // The bytes of any body: it is `encode` that looks at the values.
+    // The bytes of any body, by the name that numbers have for theirs: it is `encode` that looks at the values.
     pub fn to_bytes(self) -> [u8; Self::SIZE]
         ensures { result ≡ incoming_bytes self }
     {
         let mut bytes = [0u8; Self::SIZE];
-        self.put(&mut bytes);
+        put_bytes_at(&mut bytes, Self::TICKET_ID, &self.ticket_id);
+        put_bytes_at(
+            &mut bytes,
+            Self::OPEN_REQUEST_ID,
+            &self.open_request_id.to_be_bytes(),
+        );
+        put_bytes_at(&mut bytes, Self::PROFILE, &self.profile.to_le_bytes());
+        put_bytes_at(&mut bytes, Self::REQUESTER_NONCE, &self.requester_nonce);
+        put_bytes_at(
+            &mut bytes,
+            Self::INITIAL_WINDOW,
+            &self.initial_window.to_le_bytes(),
+        );
         bytes
     }
 

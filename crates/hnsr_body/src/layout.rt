@@ -1,5 +1,5 @@
 // A body that was read, and how a reader answers: an early end, then bytes left over, then the values.
-ghost use Rattle.std.specs.Prelude.{◌≡◌};
+ghost use Rattle.std.specs.Prelude.{◌≡◌, take};
 ghost use Rattle.hnsr_body.specs.Causes.{answer};
 ghost use Rattle.hnsr_body.specs.Layout.{finished, handed_on};
 
@@ -34,9 +34,18 @@ pub struct Padded<const SIZE: usize> {
     pub bytes: [u8; SIZE],
 }
 
-// What a reader answers: the layout's refusal first, then that of the values. Each body has its own `fields`, `put`,
-// `to_bytes`, `decode` and `encode`: a trait could not write the last four once, since a generic body cannot name
-// `[u8; Self::SIZE]`, and OPEN is handed a key's validity and OPENED tests two texts.
+impl<const SIZE: usize> Padded<SIZE> {
+    // The text or the message, without what stands behind it.
+    pub fn as_slice(&self) -> &[u8]
+        ensures { result.now ≡ take self.now.length self.now.bytes }
+    {
+        &self.bytes[..self.length.min(SIZE)]
+    }
+}
+
+// What a reader answers: the layout's refusal first, then that of the values. Each body has its own `decode` and
+// `encode`, two lines over this. A trait with both would not do for OPEN, which is handed a key's validity, and OPENED,
+// which tests two texts; and each caller would have to import it.
 pub(crate) fn answered(
     layout: Result<(), HnsrProtocolError>,
     valid: bool,

@@ -3,7 +3,7 @@ ghost use Rattle.std.specs.Prelude.{◌≡◌};
 ghost use Rattle.hnsr_body.specs.Messages.{message_of, notice_written};
 
 use crate::detail_body::ReasonDetail;
-use crate::fields::{put_bytes_at, put_u8_at, put_u16_at};
+use crate::fields::put_bytes_at;
 use crate::layout::Padded;
 
 #[derive(Clone, Copy, Debug, PartialEq, Eq)]
@@ -72,6 +72,7 @@ const MESSAGES: [Message; 7] = [
 ];
 
 impl Notice {
+    #[tactic(auto, unfolding(crate::specs::Messages::message_of, hns_encoding::specs::Bytes::padded))]
     pub fn message(self) -> Message
         ensures { result ≡ message_of self }
     {
@@ -84,8 +85,12 @@ impl Notice {
     {
         let mut bytes = [0; Message::MAX_SIZE];
         let message = self.message();
-        put_u16_at(&mut bytes, ReasonDetail::REASON, message.reason);
-        put_u8_at(&mut bytes, ReasonDetail::LENGTH, message.length);
+        put_bytes_at(
+            &mut bytes,
+            ReasonDetail::REASON,
+            &message.reason.to_le_bytes(),
+        );
+        put_bytes_at(&mut bytes, ReasonDetail::LENGTH, &[message.length]);
         put_bytes_at(&mut bytes, ReasonDetail::DETAIL, &message.detail);
         Padded {
             length: ReasonDetail::DETAIL + message.length as usize,

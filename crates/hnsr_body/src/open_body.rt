@@ -1,15 +1,13 @@
 // OPEN: a requester asks for a circuit under a reservation.
-ghost use Rattle.std.specs.Prelude.{◌≡◌, length};
+ghost use Rattle.std.specs.Prelude.{◌≡◌};
 ghost use Rattle.hnsr_body.specs.Open.{decode_open, encode_open, open_bytes};
-ghost use Rattle.hnsr_body.specs.Open.{open_fields, open_good, open_size, open_widths};
+ghost use Rattle.hnsr_body.specs.Open.{open_fields, open_good, open_widths};
 ghost use Rattle.hnsr_body.specs.Layout.{laid_out};
 
 use crate::error::{HnsrInvalid, HnsrProtocolError};
-use crate::fields::{
-    next_array, next_u16, next_u32, put_bytes_at, put_u16_at, put_u32_at, put_u64_be_at, start,
-};
+use crate::fields::{next_array, put_bytes_at, start};
 use crate::layout::{Read, finish};
-use crate::values::{ReservationId, is_some, is_window};
+use crate::values::{ReservationId, is_window, is_zero};
 
 #[repr(C)]
 #[derive(Clone, Copy)]
@@ -45,18 +43,18 @@ impl OpenBody {
         let (ticket_id, step) = next_array(start(), input);
         let (reservation, step) = next_array(step, input);
         let (endpoint_key, step) = next_array(step, input);
-        let (profile, step) = next_u16(step, input);
+        let (profile, step) = next_array(step, input);
         let (requester_nonce, step) = next_array(step, input);
-        let (initial_window, step) = next_u32(step, input);
+        let (initial_window, step) = next_array(step, input);
         Read {
             result: finish(step, input),
             body: Self {
                 ticket_id,
                 reservation_id: ReservationId::from(reservation),
                 endpoint_key,
-                profile,
+                profile: u16::from_le_bytes(profile),
                 requester_nonce,
-                initial_window,
+                initial_window: u32::from_le_bytes(initial_window),
             },
         }
     }
@@ -65,11 +63,11 @@ impl OpenBody {
     fn is_valid(self, key_valid: bool) -> bool
         ensures { result ≡ open_good key_valid self }
     {
-        is_some(&self.ticket_id)
-            && self.reservation_id.is_some()
+        !is_zero(&self.ticket_id)
+            && self.reservation_id != ReservationId::NONE
             && key_valid
             && self.profile != 0
-            && is_some(&self.requester_nonce)
+            && !is_zero(&self.requester_nonce)
             && is_window(self.initial_window)
     }
 
@@ -82,25 +80,30 @@ impl OpenBody {
         read.answered(read.body.is_valid(key_valid), HnsrInvalid::OpenParameters)
     }
 
-    fn put(self, out: &mut [u8])
-        requires { length out.old ≡ open_size }
-        ensures { out.new ≡ open_bytes self }
-    {
-        put_bytes_at(out, Self::TICKET_ID, &self.ticket_id);
-        put_u64_be_at(out, Self::RESERVATION_ID, self.reservation_id.high);
-        put_u64_be_at(out, Self::RESERVATION_ID + 8, self.reservation_id.low);
-        put_bytes_at(out, Self::ENDPOINT_KEY, &self.endpoint_key);
-        put_u16_at(out, Self::PROFILE, self.profile);
-        put_bytes_at(out, Self::REQUESTER_NONCE, &self.requester_nonce);
-        put_u32_at(out, Self::INITIAL_WINDOW, self.initial_window);
-    }
-
-    // The bytes of any body: it is `encode` that looks at the values.
+    // The bytes of any body, by the name that numbers have for theirs: it is `encode` that looks at the values.
     pub fn to_bytes(self) -> [u8; Self::SIZE]
         ensures { result ≡ open_bytes self }
     {
         let mut bytes = [0u8; Self::SIZE];
-        self.put(&mut bytes);
+        put_bytes_at(&mut bytes, Self::TICKET_ID, &self.ticket_id);
+        put_bytes_at(
+            &mut bytes,
+            Self::RESERVATION_ID,
+            &self.reservation_id.high.to_be_bytes(),
+        );
+        put_bytes_at(
+            &mut bytes,
+            Self::RESERVATION_ID + 8,
+            &self.reservation_id.low.to_be_bytes(),
+        );
+        put_bytes_at(&mut bytes, Self::ENDPOINT_KEY, &self.endpoint_key);
+        put_bytes_at(&mut bytes, Self::PROFILE, &self.profile.to_le_bytes());
+        put_bytes_at(&mut bytes, Self::REQUESTER_NONCE, &self.requester_nonce);
+        put_bytes_at(
+            &mut bytes,
+            Self::INITIAL_WINDOW,
+            &self.initial_window.to_le_bytes(),
+        );
         bytes
     }
 

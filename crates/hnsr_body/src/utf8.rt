@@ -18,6 +18,7 @@ fn is_tail(byte: u8) -> bool
 }
 
 // Whether a byte may come second, after this lead byte.
+#[tactic(auto, unfolding(crate::specs::Utf8Form::second))]
 fn is_second(lead: u8, byte: u8) -> bool
     ensures { result ≡ second lead byte }
 {
@@ -31,6 +32,7 @@ fn is_second(lead: u8, byte: u8) -> bool
 }
 
 // Whether the bytes after the lead, of `n` bytes in all, may follow it.
+#[tactic(auto, unfolding(crate::specs::Utf8Form::goes_on))]
 fn goes_on(text: &[u8], n: usize) -> bool
     requires { (0 < n) × (n ≤ length text.now) }
     ensures { result ≡ goes_on n text.now }
@@ -41,6 +43,7 @@ fn goes_on(text: &[u8], n: usize) -> bool
 }
 
 // The text behind the character that it begins with; none where it begins with none.
+#[tactic(auto, unfolding(crate::specs::Utf8Form::char_length))]
 fn behind_char(text: &[u8]) -> Option<&[u8]>
     requires { 0 < length text.now }
     ensures { BehindChar text.now result }

@@ -1,9 +1,7 @@
 // Values that the bodies share: ids and nonces that are not zero, windows, and reservation ids.
 ghost use Rattle.std.specs.Prelude.{◌≡◌};
 ghost use Rattle.hns_encoding.specs.Bytes.{all_zero};
-ghost use Rattle.hnsr_body.specs.Values.{reservation_good, reservation_of, some_byte, window_good};
-
-use crate::fields::{next_u64_be, start};
+ghost use Rattle.hnsr_body.specs.Values.{reservation_of, window_good};
 
 pub const MIN_WINDOW: u32 = 16_384;
 
@@ -18,25 +16,24 @@ pub struct ReservationId {
 }
 
 impl ReservationId {
-    // Whether some byte is not zero.
-    pub fn is_some(self) -> bool
-        ensures { result ≡ reservation_good self }
-    {
-        self.high != 0 || self.low != 0
-    }
+    // No reservation's: sixteen bytes of zero.
+    pub const NONE: Self = Self { high: 0, low: 0 };
 }
 
 impl From<[u8; 16]> for ReservationId {
     ghost from_gives = { λ bytes id. id ≡ reservation_of bytes };
 
+    #[tactic(auto, using(hns_encoding::specs::Laws::Library::be_eight))]
     fn from(bytes: [u8; 16]) -> Self {
-        let (high, step) = next_u64_be(start(), &bytes);
-        let (low, _) = next_u64_be(step, &bytes);
-        Self { high, low }
+        let (halves, _) = bytes.as_chunks();
+        Self {
+            high: u64::from_be_bytes(halves[0]),
+            low: u64::from_be_bytes(halves[1]),
+        }
     }
 }
 
-// Whether every byte is zero.
+// Whether every byte is zero. One call of the library, with a name: the contracts of two crates say `all_zero`.
 pub fn is_zero(value: &[u8]) -> bool
     ensures { result ≡ all_zero value.now }
 {
@@ -47,11 +44,4 @@ pub fn is_window(window: u32) -> bool
     ensures { result ≡ window_good window }
 {
     (MIN_WINDOW..=MAX_WINDOW).contains(&window)
-}
-
-// Whether some byte is not zero.
-pub fn is_some(value: &[u8]) -> bool
-    ensures { result ≡ some_byte value.now }
-{
-    !is_zero(value)
 }

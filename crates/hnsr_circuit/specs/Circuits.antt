@@ -61,6 +61,11 @@ abbrev pub other_side : RelaySide → RelaySide
 other_side Requester = Endpoint
 other_side Endpoint = Requester
 
+-- a side's part of what both sides have
+abbrev pub part_of : {A : Type 0} → RelaySide → (requester endpoint : A) → A
+part_of Requester requester endpoint = requester
+part_of Endpoint requester endpoint = endpoint
+
 abbrev pub peer_at : RelaySide → RelayCircuit → HnsrPeerId
 peer_at Requester c = c.requester
 peer_at Endpoint c = c.endpoint

@@ -41,6 +41,7 @@ pub mod RoomEnds
 pub mod HandleRoom
 pub mod StepRoom
 -- ---- what the code does, call by call
+pub mod Seen
 pub mod Calls
 pub mod RevokingCalls
 pub mod QuietCalls

@@ -1,6 +1,6 @@
 -- The end of a record, and revocation (REVOKE.1 to REVOKE.7).
 -- A walk revokes what has a property, by ascending id, each record at its place (TAB.8).
-use Rattle.std.specs.Prelude.{ℕ, zero, suc, Bool, List, length, get_or, set}
+use Rattle.std.specs.Prelude.{ℕ, zero, suc, Bool, Option, None, Some, List, length, get_or, set}
 use Rattle.hnsr_body.specs.declared.messages.Notice.{Notice}
 use Rattle.hnsr_body.specs.Messages.{notice_body}
 use Rattle.hnsr_circuit.specs.declared.peer.HnsrPeerId.{HnsrPeerId}
@@ -92,14 +92,18 @@ pending_in w id = pick (pending_at id) no_pending w.pending
 unfoldable pub revoke_circuit : Notice → World → (id : ℕ) → Sent
 revoke_circuit n w id = when (has_circuit w id) (λ v. revoke_circuit_there n v (place_of (circuit_at id) v.circuits)) w
 
+-- a turn of a walk: the record that it reached is ended, and then the rest; where it reached none it is over
+unfoldable pub where_reached : (end : World → (place : ℕ) → Sent) → (rest : Option Walked → World → Sent)
+    → Option Walked → World → Sent
+where_reached end rest None w = silently w
+where_reached end rest (Some n) w = and_then (end w n.place) (rest (Some n))
+
 -- ---- a walk: again and again the least (id, place) above the last that has the property; the record at that place is
 -- ended. It takes at most as many turns as there are places
 module _ {A : Type 0} (id_of : A → ℕ) (table : World → List A) (p : A → Bool) (end : World → (place : ℕ) → Sent) where
-  unfoldable pub walk_from : (turns : ℕ) → Walked → World → Sent
+  unfoldable pub walk_from : (turns : ℕ) → Option Walked → World → Sent
   walk_from zero c w = silently w
-  walk_from (suc turns) c w =
-      let n = next id_of p c (table w) in
-      when n.taken (λ v. and_then (end v n.place) (walk_from turns n)) w
+  walk_from (suc turns) c w = where_reached end (walk_from turns) (next id_of p c (table w)) w
 
   unfoldable pub walk : World → Sent
   walk w = walk_from (length (table w)) not_yet w

@@ -3,13 +3,14 @@
 -- changed by these alone, and their laws are proved once (Totals, Lookups, Marks, Walks; Folds joins them to the loops
 -- of code):
 --     any p, pick p d    whether a record has p; the record at the lowest place that has it, else d (TAB.4)
---     place_of p          that lowest place, else the number of places
+--     place_of p          that lowest place, else the number of places; place_in p: the same, or none
 --     count p, total f   how many records have p; the sum of f (TAB.5)
 --     put used p r       r in the place that a lookup of p finds, or else in the first that is free (TAB.6)
 --     edit p g           the record that the lookup of p finds, changed by g
 --     clear unmark p     the mark cleared of every record that has p, and nothing else (TAB.7)
 --     next id p c        of the records with p above the cursor c the one with the least (id, place) (TAB.8)
-use Rattle.std.specs.Prelude.{ℕ, suc, Bool, true, false, cond, not, ◌&&◌, ◌||◌, List, [], ◌∷◌, map, leb, ltb, eqb, set}
+use Rattle.std.specs.Prelude.{ℕ, suc, Bool, true, false, cond, ◌&&◌, ◌||◌, Option, None, Some, List, [], ◌∷◌, map}
+use Rattle.std.specs.Prelude.{leb, ltb, eqb, set}
 use Rattle.hnsr_circuit.specs.declared.tables.scan.Walked.{Walked}
 use Rattle.hns_encoding.specs.Sums.{non}
 use Rattle.hns_encoding.specs.Loops.{fold_from}
@@ -30,6 +31,9 @@ module _ {A : Type 0} where
   abbrev pub any : (A → Bool) → List A → Bool
   any p [] = false
   any p (x ∷ xs) = p x || any p xs
+
+  abbrev pub place_in : (A → Bool) → List A → Option ℕ
+  place_in p t = cond (any p t) (Some (place_of p t)) None
 
   abbrev pub pick : (A → Bool) → A → List A → A
   pick p d [] = d
@@ -61,25 +65,27 @@ module _ {A : Type 0} where
 
 -- ---- walks, by ascending id; equal ids by place
 -- how far a walk has come is the id and place of the last record that it took, if it took one
-abbrev pub not_yet : Walked
-not_yet = record { taken = false; id = 0; place = 0 }
+abbrev pub not_yet : Option Walked
+not_yet = None
 
-abbrev pub reached : (id place : ℕ) → Walked
-reached id place = record { taken = true; id = id; place = place }
+abbrev pub reached : (id place : ℕ) → Option Walked
+reached id place = Some (record { id = id; place = place })
 
-abbrev pub above : Walked → (id place : ℕ) → Bool
-above c id place = not c.taken || ltb c.id id || (eqb c.id id && ltb c.place place)
+abbrev pub above : Option Walked → (id place : ℕ) → Bool
+above None id place = true
+above (Some c) id place = ltb c.id id || (eqb c.id id && ltb c.place place)
 
 -- whether a record of this id, at a place above those seen before, is better than the best of them
-abbrev pub better : Walked → (id : ℕ) → Bool
-better best id = not best.taken || ltb id best.id
+abbrev pub better : Option Walked → (id : ℕ) → Bool
+better None id = true
+better (Some best) id = ltb id best.id
 
 module _ {A : Type 0} (id_of : A → ℕ) where
-  abbrev pub offered : (A → Bool) → Walked → Walked → A → ℕ → Bool
+  abbrev pub offered : (A → Bool) → Option Walked → Option Walked → A → ℕ → Bool
   offered p c best r place = p r && above c (id_of r) place && better best (id_of r)
 
-  abbrev pub next_turn : (A → Bool) → Walked → Walked → A → ℕ → Walked
+  abbrev pub next_turn : (A → Bool) → Option Walked → Option Walked → A → ℕ → Option Walked
   next_turn p c best r place = cond (offered p c best r place) (reached (id_of r) place) best
 
-  unfoldable pub next : (A → Bool) → Walked → List A → Walked
+  unfoldable pub next : (A → Bool) → Option Walked → List A → Option Walked
   next p c t = fold_from (next_turn p c) t 0 not_yet

@@ -1,7 +1,8 @@
 // What a call answers (ANS.1), in the order of the numbers (ANS.5), which specs/Answers.antt has.
 ghost use Rattle.std.specs.Prelude.{◌≡◌};
 ghost use Rattle.hnsr_circuit.specs.Answers.{number, error_number, cause_of};
-ghost use Rattle.hnsr_circuit.specs.Answers.{error_cause, check, body_answer};
+ghost use Rattle.hnsr_circuit.specs.Answers.{error_cause, check};
+ghost use Rattle.hnsr_circuit.specs.declared.answer.HnsrRuntimeError.TheVariants.{Protocol};
 
 use hnsr_body::error::{Cause, HnsrProtocolError};
 
@@ -34,10 +35,19 @@ pub enum HnsrRuntimeError {
     LedgerFull,
 }
 
+// What refuses a packet or a body refuses the call.
+impl From<HnsrProtocolError> for HnsrRuntimeError {
+    ghost from_gives = { λ cause error. error ≡ Protocol cause };
+
+    fn from(cause: HnsrProtocolError) -> Self {
+        HnsrRuntimeError::Protocol(cause)
+    }
+}
+
 // What a call answers: `Ok` is taken, `Err` refused. `Result::and` gives the first refusal of two rows.
 pub type HnsrAnswer = Result<(), HnsrRuntimeError>;
 
-// ---- an answer in numbers, for a host
+// ---- an answer in numbers, for a host: C has no enum that holds a value
 
 impl From<HnsrRuntimeError> for u32 {
     ghost from_gives = { λ error n. n ≡ error_number error };
@@ -72,7 +82,7 @@ impl From<HnsrRuntimeError> for u32 {
 }
 
 impl HnsrRuntimeError {
-    // Only a packet or a body that is refused has one.
+    // Only a packet or a body that is refused has one: most answers do not become a cause, so it is no `From`.
     pub fn cause(self) -> Cause
         ensures { result ≡ error_cause self }
     {
@@ -83,7 +93,7 @@ impl HnsrRuntimeError {
     }
 }
 
-// ANS.5; 0 is taken.
+// ANS.5; 0 is taken. Not `From`, nor is `cause_of`: a `Result` and what it becomes are other crates' types.
 pub fn number(answer: HnsrAnswer) -> u32
     ensures { result ≡ number answer }
 {
@@ -113,14 +123,4 @@ pub(crate) fn check(refuse: bool, error: HnsrRuntimeError) -> HnsrAnswer
         return Err(error);
     }
     Ok(())
-}
-
-// A body's check as a row.
-pub(crate) fn body_answer(checked: Result<(), HnsrProtocolError>) -> HnsrAnswer
-    ensures { result ≡ body_answer checked }
-{
-    match checked {
-        Ok(()) => Ok(()),
-        Err(cause) => Err(HnsrRuntimeError::Protocol(cause)),
-    }
 }

@@ -105,6 +105,7 @@ impl OpaqueRelayConfig {
     }
 }
 
+// By hand: a derive would give zeros.
 impl Default for OpaqueRelayConfig {
     ghost is_default = { λ config. config ≡ default_config };
 

@@ -7,7 +7,7 @@ use crate::answer::{HnsrAnswer, HnsrRuntimeError, check};
 use crate::config::OpaqueRelayConfig;
 use crate::peer::MAXIMUM_PEER;
 
-// 22 by tables (ENTRY.1); the ledger has no maximum (ENTRY.6).
+// 22 by tables (ENTRY.1), of which only the lengths are asked; the ledger has no maximum (ENTRY.6).
 #[tactic(auto, unfolding(crate::specs::Entry::too_few))]
 pub(crate) fn too_few(
     config: OpaqueRelayConfig,

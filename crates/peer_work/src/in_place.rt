@@ -7,6 +7,7 @@ use hnsr_circuit::records::circuits::circuit_of;
 use hnsr_circuit::records::pending::pending_of;
 use hnsr_circuit::records::{RelayCircuit, RelayPending};
 
+// The parameters of the C interface.
 #[unsafe(no_mangle)]
 pub extern "C" fn peer_work_in_place(
     pending: &[RelayPending],

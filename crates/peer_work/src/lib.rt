@@ -3,5 +3,6 @@
 #![tactic(auto)]
 
 pub mod bytewise;
+mod copied;
 pub mod copying;
 pub mod in_place;

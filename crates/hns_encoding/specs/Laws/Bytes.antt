@@ -45,19 +45,16 @@ le_one [] e = absurd (omega arith)
 le_one (b ∷ []) e = omega arith
 le_one (b ∷ c ∷ bs) e = absurd (omega arith)
 
--- four bytes at a place as a number
-pub le_four : (xs : List ℕ) (p : ℕ)
-    → le (field xs p 4)
-    ≡ get_or xs p 0 + 256 * (get_or xs (p + 1) 0 + 256 * (get_or xs (p + 2) 0 + 256 * get_or xs (p + 3) 0))
-le_four xs p =
-    omega (
-      arith,
-      le_step xs p (p + 1) 3 4 refl refl,
-      le_step xs (p + 1) (p + 2) 2 3 (omega arith) refl,
-      le_step xs (p + 2) (p + 3) 1 2 (omega arith) refl,
-      le_step xs (p + 3) (p + 4) 0 1 (omega arith) refl,
-      le-none xs (p + 4) 0 refl,
-    )
+-- at most four bytes as a number
+pub le_four : (bs : List ℕ) → length bs ≤ 4
+    → le bs ≡ get_or bs 0 0 + 256 * (get_or bs 1 0 + 256 * (get_or bs 2 0 + 256 * get_or bs 3 0))
+unfolding le
+le_four [] l = omega arith
+le_four (a ∷ []) l = omega arith
+le_four (a ∷ b ∷ []) l = omega arith
+le_four (a ∷ b ∷ c ∷ []) l = omega arith
+le_four (a ∷ b ∷ c ∷ d ∷ []) l = omega arith
+le_four (a ∷ b ∷ c ∷ d ∷ e ∷ bs) l = absurd (omega arith)
 
 -- ---- each byte of a number
 pub le_bytes-length : (w n : ℕ) → length (le_bytes w n) ≡ w

@@ -1,14 +1,17 @@
 -- The library's words for the bytes of a number and for the number that bytes are say what `Bytes` says, over the
 -- width: what `to_le_bytes`, `from_be_bytes` and the like give is what the cursor's contracts name.
-use Rattle.std.specs.Prelude.{ℕ, zero, suc, ◌+◌, ◌-◌, ◌*◌, ◌/◌, ◌%◌, ◌^◌, ◌<◌, ◌≡◌, refl}
-use Rattle.std.specs.Prelude.{List, [], ◌∷◌, length, get_or}
+use Rattle.std.specs.Prelude.{ℕ, zero, suc, ◌+◌, ◌-◌, ◌*◌, ◌/◌, ◌%◌, ◌^◌, ◌<◌, ◌≤◌, ◌≡◌, refl}
+use Rattle.std.specs.Prelude.{List, [], ◌∷◌, ◌++◌, length, get_or}
 use Rattle.std.specs.Int.{Width, byte_len, byte_worth, sum_through, bytes_low_first, bytes_high_first}
 use Rattle.std.specs.Int.{to_le_bytes, to_be_bytes, from_le_bytes, from_be_bytes}
 use Rattle.std.specs.Int.{byte_at}
 use Rattle.std.proofs.Common.{arith, sym, ◌∙◌, ap, ap₂, add-one, div-one, pow-suc, mul_comm, mul_assoc, zero-add}
+use Rattle.std.proofs.Common.{lit<, w16, w64}
 use Rattle.std.proofs.Math.Nat.{pow-zero, suc-sub-suc, sub-zero}
 use Rattle.hns_encoding.specs.Bytes.{le, le_bytes, be, be_from, be_bytes}
-use Rattle.hns_encoding.specs.Laws.Bytes.{byte_next, be-split}
+use Rattle.hns_encoding.specs.Laws.Bytes.{byte_next, be-split, le_bytes-length, be_bytes-length}
+use Rattle.hns_encoding.specs.Cursor.{written}
+use Rattle.hns_encoding.specs.Laws.Cursor.{Wrote, wrote_next}
 
 -- ---- a number as bytes
 one_byte : (i n : ℕ) → byte_at i n ≡ n / 256 ^ i % 256
@@ -85,3 +88,28 @@ from-be (suc w) (b ∷ bs) e =
 
 pub from_be : (w : Width) (bs : List ℕ) → length bs ≡ byte_len w → 0 < byte_len w → from_be_bytes w bs ≡ be bs
 from_be w bs e l = from-be (byte_len w - 1) bs (omega arith)
+
+-- ---- numbers of the widths that there are, as the library reads them
+pub le_two : (bs : List ℕ) → length bs ≡ 2 → le bs ≡ from_le_bytes w16 bs
+le_two bs e = sym (from_le w16 bs e (lit< tt))
+
+pub le_eight : (bs : List ℕ) → length bs ≡ 8 → le bs ≡ from_le_bytes w64 bs
+le_eight bs e = sym (from_le w64 bs e (lit< tt))
+
+pub be_eight : (bs : List ℕ) → length bs ≡ 8 → be bs ≡ from_be_bytes w64 bs
+be_eight bs e = sym (from_be w64 bs e (lit< tt))
+
+-- ---- a number written behind what is written already, as the library's bytes of it
+module _ {xs before done : List ℕ} {n : ℕ} (w : Width) (v : ℕ) (after bytes : List ℕ) (r : Wrote xs before done n)
+    (l : n + byte_len w ≤ length xs) where
+  pub wrote_le : bytes ≡ to_le_bytes w v → after ≡ written before n bytes
+      → Wrote xs after (done ++ le_bytes (byte_len w) v) (n + byte_len w)
+  wrote_le e h =
+      wrote_next after (le_bytes (byte_len w) v) (byte_len w) r (le_bytes-length (byte_len w) v) l
+      (h ∙ ap (λ (ys : List ℕ). written before n ys) (e ∙ to_le w v))
+
+  pub wrote_be : bytes ≡ to_be_bytes w v → after ≡ written before n bytes
+      → Wrote xs after (done ++ be_bytes (byte_len w) v) (n + byte_len w)
+  wrote_be e h =
+      wrote_next after (be_bytes (byte_len w) v) (byte_len w) r (be_bytes-length (byte_len w) v) l
+      (h ∙ ap (λ (ys : List ℕ). written before n ys) (e ∙ to_be w v))

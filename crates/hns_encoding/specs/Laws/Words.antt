@@ -1,18 +1,23 @@
 -- Words, over their number: how many there are, each of them, the first ones and the rest; each byte of words; and that
 -- reading and writing undo one another.
 use Rattle.std.specs.Prelude.{ℕ, zero, suc, ◌+◌, ◌*◌, ◌/◌, ◌%◌, ◌^◌, ◌-◌, ◌<◌, ◌≤◌, ◌≡◌}
-use Rattle.std.specs.Prelude.{refl, List, [], ◌∷◌, ◌++◌, ltb, length, get_or, take, drop}
+use Rattle.std.specs.Prelude.{refl, List, [], ◌∷◌, ◌++◌, ltb, length, map, get_or, set, replicate, take, drop, min}
+use Rattle.std.specs.Simd.{first_chunks}
+use Rattle.std.specs.Int.{to_le_bytes}
+use Rattle.hns_encoding.specs.Laws.Library.{to_le}
 use Rattle.std.proofs.Common.{le_of_suc-le-suc, not-suc-le-zero, zero-add, suc-add, arith}
-use Rattle.std.proofs.Common.{◌∙◌, ap, ap₂, sym, add-one, append-nil, append_assoc}
-use Rattle.std.proofs.Common.{length-append, drop-drop, length-take-le, get_or-take, ext_get_or, ltb-true, ltb-false}
+use Rattle.std.proofs.Common.{◌∙◌, ap, ap₂, sym, add-one, append-nil, append_assoc, w32}
+use Rattle.std.proofs.Common.{length-append, length-drop, drop-drop, drop_of_length-le, take_all}
+use Rattle.std.proofs.Common.{length-take-le, get_or-take, ext_get_or, ltb-true, ltb-false}
 use Rattle.std.proofs.Math.ListN.{get_or-append}
-use Rattle.std.proofs.lemmas.List.{take-append-le}
+use Rattle.std.proofs.lemmas.List.{take-append-le, map-append}
+use Rattle.std.proofs.lemmas.Grind.{take-set_at, take_at_read}
 use Rattle.hns_encoding.specs.Bytes.{Below, le, le_bytes}
 use Rattle.hns_encoding.specs.Words.{word_count, words_of, words, bytes_of, high_low, from_high_low}
 use Rattle.hns_encoding.specs.Cursor.{field, written_at}
 use Rattle.hns_encoding.specs.Laws.Tests.{split}
 use Rattle.hns_encoding.specs.Laws.Lists.{field_at, below-take, below-drop, written_behind, written-whole}
-use Rattle.hns_encoding.specs.Laws.Bytes.{le_bytes-length, byte_at, le-byte, le-again}
+use Rattle.hns_encoding.specs.Laws.Bytes.{le_bytes-length, byte_at, le-byte, le-again, le_four}
 
 pub words_of_length : (count : ℕ) (bs : List ℕ) → length (words_of count bs) ≡ count
 unfolding words_of
@@ -29,12 +34,29 @@ words_of-at (suc count) bs (suc i) l =
     words_of-at count (drop 4 bs) i (le_of_suc-le-suc l)
     ∙ ap (λ (rest : List ℕ). le (take 4 rest)) (drop-drop (4 * i) 4 bs ∙ ap (λ (k : ℕ). drop k bs) e)
 
--- words that are each what the bytes at their place are
-pub words_of_each : (ws bs : List ℕ) → ((k : ℕ) → k < length ws → get_or ws k 0 ≡ le (field bs (4 * k) 4))
-    → ws ≡ words_of (length ws) bs
-words_of_each ws bs h =
-    ext_get_or 0 ws (words_of (length ws) bs) (sym (words_of_length (length ws) bs))
-    (λ k l. h k l ∙ sym (words_of-at (length ws) bs k l))
+-- what the loop over chunks goes by
+pub ruleset chunk_steps = (take-set_at, take_at_read, map-append, take_all, le_four)
+
+-- the first words are chunks of four bytes; then there is one word that is not full, and zeros
+pub words_full : (count all : ℕ) (bs : List ℕ) → count ≤ all
+    → map le (take count (first_chunks 4 all bs)) ≡ words_of count bs
+unfolding words_of
+words_full zero all bs l = refl
+words_full (suc count) zero bs l = absurd (not-suc-le-zero l)
+words_full (suc count) (suc all) bs l =
+    ap (λ (rest : List ℕ). le (take 4 bs) ∷ rest) (words_full count all (drop 4 bs) (le_of_suc-le-suc l))
+
+no_words : (count : ℕ) → replicate count 0 ≡ words_of count []
+unfolding words_of le
+no_words zero = refl
+no_words (suc count) = ap (λ (rest : List ℕ). 0 ∷ rest) (no_words count)
+
+words_short : (count : ℕ) (bs : List ℕ) → length bs ≤ 4 → set (replicate count 0) 0 (le bs) ≡ words_of count bs
+unfolding words_of
+words_short zero bs h = refl
+words_short (suc count) bs h =
+    ap₂ (λ (w rest : List ℕ). le w ∷ rest) (sym (take_all 4 bs h))
+    (no_words count ∙ ap (words_of count) (sym (drop_of_length-le bs h)))
 
 -- the first words, and the rest from the bytes behind them
 pub words_of_add : (first count : ℕ) (bs : List ℕ)
@@ -46,10 +68,26 @@ words_of_add (suc first) count bs =
     rw (suc-add, e, ← (drop-drop (4 * first) 4 bs))
     (ap (λ (rest : List ℕ). le (take 4 bs) ∷ rest) (words_of_add first count (drop 4 bs)))
 
-pub words_of_both : (ws vs bs rest : List ℕ) (m k n : ℕ) → ws ≡ words_of m bs → vs ≡ words_of k rest
-    → rest ≡ drop (4 * m) bs → m + k ≡ n → ws ++ vs ≡ words_of n bs
-words_of_both ws vs bs rest m k n e f g h =
-    ap₂ ◌++◌ e (f ∙ ap (words_of k) g) ∙ words_of_add m k bs ∙ ap (λ (i : ℕ). words_of i bs) h
+-- what is written for a whole: the full words, the one that is not and zeros; and the full words alone
+pub words_put : (bs : List ℕ) (full all rest size : ℕ) → all ≡ length bs / 4 → full ≡ min size all → rest + full ≡ size
+    → map le (take full (first_chunks 4 all bs)) ++ set (replicate rest 0) 0 (le (drop (all * 4) bs)) ≡ words_of size bs
+unfolding words_of
+words_put bs full all rest size e m h =
+    ap₂ ◌++◌ (words_full full all bs (omega arith))
+    (words_short rest (drop (all * 4) bs) (omega (arith, length-drop (all * 4) bs)) ∙ behind)
+    ∙ words_of_add full rest bs
+    ∙ ap (λ (n : ℕ). words_of n bs) (omega arith)
+  where
+    behind : words_of rest (drop (all * 4) bs) ≡ words_of rest (drop (4 * full) bs)
+    behind =
+        split (ltb all size)
+        (λ u. let q : all * 4 ≡ 4 * full = omega (arith, ltb-true all size u) in
+        ap (λ (n : ℕ). words_of rest (drop n bs)) q)
+        (λ u. let z : rest ≡ 0 = omega (arith, ltb-false all size u) in rw z)
+
+pub words_none : (bs : List ℕ) (full all rest size : ℕ) → all ≡ length bs / 4 → full ≡ min size all → rest + full ≡ size
+    → rest ≡ 0 → map le (take full (first_chunks 4 all bs)) ++ replicate rest 0 ≡ words_of size bs
+words_none bs full all rest size e m h z = rw z (rw z at (words_put bs full all rest size e m h))
 
 -- ---- bytes of words
 pub bytes_of-length : (ws : List ℕ) → length (bytes_of ws) ≡ 4 * length ws
@@ -122,44 +160,48 @@ pub copied_none : (xs ws : List ℕ) → xs ≡ written_at xs 0 (bytes_of (take 
 unfolding bytes_of
 copied_none xs ws = refl
 
-module _ (xs ws : List ℕ) (i : ℕ) (now after : List ℕ) (e : now ≡ written_at xs 0 (bytes_of (take i ws))) where
-  copied-length : i ≤ length ws → length (bytes_of (take i ws)) ≡ 4 * i
-  copied-length l = omega (arith, bytes_of-length (take i ws), length-take-le i ws l)
+copied-length : (ws : List ℕ) (i : ℕ) → i ≤ length ws → length (bytes_of (take i ws)) ≡ 4 * i
+copied-length ws i l = omega (arith, bytes_of-length (take i ws), length-take-le i ws l)
 
-  copied_more : (zs : List ℕ) → i ≤ length ws → 4 * i ≤ length xs → after ≡ written_at now (4 * i) zs
+pub copied_all : (xs ws : List ℕ) (i : ℕ) → i ≤ length ws → length xs ≡ 4 * i
+    → written_at xs 0 (bytes_of (take i ws)) ≡ take (length xs) (bytes_of ws)
+copied_all xs ws i l k =
+    written-whole xs (bytes_of (take i ws)) (omega (arith, copied-length ws i l))
+    ∙ sym (first_words ws i l)
+    ∙ ap (λ (n : ℕ). take n (bytes_of ws)) (sym k)
+
+module _ (xs ws : List ℕ) (i : ℕ) (now : List ℕ) (e : now ≡ written_at xs 0 (bytes_of (take i ws))) where
+  copied_more : (after zs : List ℕ) → i ≤ length ws → 4 * i ≤ length xs → after ≡ written_at now (4 * i) zs
       → after ≡ written_at xs 0 (bytes_of (take i ws) ++ zs)
-  copied_more zs l k f =
+  copied_more after zs l k f =
       f
       ∙ ap (λ (ys : List ℕ). written_at ys (4 * i) zs) e
-      ∙ written_behind xs 0 (bytes_of (take i ws)) zs (4 * i) (omega (arith, copied-length l))
-      (omega (arith, copied-length l))
+      ∙ written_behind xs 0 (bytes_of (take i ws)) zs (4 * i) (omega (arith, copied-length ws i l))
+      (omega (arith, copied-length ws i l))
 
-  pub copied_next : i < length ws → 4 * i ≤ length xs
+  pub copied_next : (after : List ℕ) → i < length ws → 4 * i ≤ length xs
       → after ≡ written_at now (4 * i) (le_bytes 4 (get_or ws i 0))
       → after ≡ written_at xs 0 (bytes_of (take (i + 1) ws))
-  copied_next l k f =
-      copied_more (le_bytes 4 (get_or ws i 0)) (omega arith) k f
+  copied_next after l k f =
+      copied_more after (le_bytes 4 (get_or ws i 0)) (omega arith) k f
       ∙ ap (λ (ys : List ℕ). written_at xs 0 ys) (sym (bytes_of_next ws i l))
 
-  pub copied_all : i ≤ length ws → length xs ≡ 4 * i → now ≡ take (length xs) (bytes_of ws)
-  copied_all l k =
-      e
-      ∙ written-whole xs (bytes_of (take i ws)) (omega (arith, copied-length l))
-      ∙ sym (first_words ws i l)
-      ∙ ap (λ (n : ℕ). take n (bytes_of ws)) (sym k)
-
-  pub copied_part : (r : ℕ) → i < length ws → r ≤ 4 → length xs ≡ 4 * i + r
-      → after ≡ written_at now (4 * i) (take r (le_bytes 4 (get_or ws i 0)))
-      → after ≡ take (length xs) (bytes_of ws)
-  copied_part r l h k f =
+  pub copied_part : (j r : ℕ) → i ≡ j → j < length ws → r ≤ 4 → length xs ≡ 4 * j + r
+      → written_at now (4 * j) (take r (to_le_bytes w32 (get_or ws j 0))) ≡ take (length xs) (bytes_of ws)
+  copied_part j r q l h k =
       let ys = bytes_of (take i ws) in
       let zs = take r (le_bytes 4 (get_or ws i 0)) in
       let n : length zs ≡ r =
       length-take-le r (le_bytes 4 (get_or ws i 0)) (omega (arith, le_bytes-length 4 (get_or ws i 0))) in
-      copied_more zs (omega arith) (omega arith) f
-      ∙ written-whole xs (ys ++ zs) (omega (arith, copied-length (omega arith), length-append ys zs))
-      ∙ sym (first_bytes ws i r l h)
-      ∙ ap (λ (m : ℕ). take m (bytes_of ws)) (sym k)
+      ap₂ (λ (k : ℕ) (zs : List ℕ). written_at now (4 * k) zs) (sym q)
+      (ap (take r) (to_le w32 (get_or ws j 0) ∙ ap (λ (k : ℕ). le_bytes 4 (get_or ws k 0)) (sym q)))
+      ∙ copied_more (written_at now (4 * i) zs) zs (omega arith) (omega arith) refl
+      ∙ written-whole xs (ys ++ zs) (omega (arith, copied-length ws i (omega arith), length-append ys zs))
+      ∙ sym (first_bytes ws i r (omega arith) h)
+      ∙ ap (λ (m : ℕ). take m (bytes_of ws)) (omega arith)
+
+-- what the loop over words goes by
+pub ruleset copied = (copied_none, copied_next, copied_all, copied_part)
 
 -- ---- read after write, and write after read
 pub bytes-again : (count : ℕ) (bs : List ℕ) → Below 256 bs → length bs ≤ 4 * count

@@ -1,7 +1,10 @@
 -- A field read from a step: what the read gave is the step behind the field, and its bytes or zeros.
-use Rattle.std.specs.Prelude.{ℕ, ◌+◌, ◌-◌, ◌≤◌, ◌≡◌, refl, List, [], length, drop, replicate, Result, Ok, Err}
+use Rattle.std.specs.Prelude.{ℕ, ◌+◌, ◌-◌, ◌<◌, ◌≤◌, ◌≡◌, refl, List, [], length, drop, replicate, Result, Ok, Err}
 use Rattle.std.proofs.Common.{arith, ◌∙◌, sym, ap, drop_of_length-le, leb-true, leb-false}
 use Rattle.std.proofs.lemmas.List.{length-replicate}
+use Rattle.std.specs.Int.{Width, byte_len, from_le_bytes, from_be_bytes}
+use Rattle.hns_encoding.specs.Bytes.{le, be}
+use Rattle.hns_encoding.specs.Laws.Library.{from_le, from_be}
 use Rattle.hns_encoding.specs.declared.decoder.Decoder.{Decoder}
 use Rattle.hns_encoding.specs.declared.decoder.DecodeError.{DecodeError}
 use Rattle.hns_encoding.specs.Cursor.{has, behind, field, part}
@@ -55,3 +58,11 @@ part-rest input d =
     (λ t. on-true _ bytes [] t ∙ field-rest input d.position)
     (λ f. let l : length input ≤ d.position = omega (arith, leb-false (d.position + n) (length input) f) in
     on-false _ bytes [] f ∙ sym (drop_of_length-le input l))
+
+-- a field that is a number, as the library reads it
+module _ (w : Width) (input : List ℕ) (at : ℕ) (l : 0 < byte_len w) where
+  pub field_le : from_le_bytes w (bytes_at (byte_len w) input at) ≡ le (bytes_at (byte_len w) input at)
+  field_le = from_le w _ (bytes-length (byte_len w) input at) l
+
+  pub field_be : from_be_bytes w (bytes_at (byte_len w) input at) ≡ be (bytes_at (byte_len w) input at)
+  field_be = from_be w _ (bytes-length (byte_len w) input at) l

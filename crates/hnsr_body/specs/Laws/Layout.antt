@@ -77,3 +77,5 @@ module _ (input : List ℕ) where
           let z : ◌≡◌ {A = ℕ} 0 1 = cc in absurd (omega arith))
           (λ f. let h : length input ≤ span widths = omega (arith, leb-false (span widths) (length input) f) in
           sym (drop_of_length-le input h))
+
+pub ruleset behind_walk = (walked-left)

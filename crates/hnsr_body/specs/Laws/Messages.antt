@@ -1,6 +1,6 @@
 -- The seven messages: the bytes of a row are the body that carries it; each detail is UTF-8 and within 128 bytes. By
 -- computation, row by row.
-use Rattle.std.specs.Prelude.{ℕ, ◌+◌, ◌≡◌, refl, true, List, ◌++◌, leb, length}
+use Rattle.std.specs.Prelude.{ℕ, ◌+◌, ◌≡◌, refl, true, List, [], ◌∷◌, ◌++◌, leb, length}
 use Rattle.hns_encoding.specs.Bytes.{le_bytes, padded}
 use Rattle.hnsr_body.specs.declared.messages.Notice.{Notice}
 use Rattle.hnsr_body.specs.declared.messages.Notice.TheVariants.{PeerDisconnected, ReservationRevoked}
@@ -12,7 +12,7 @@ use Rattle.hnsr_body.specs.Messages.{detail, message_of, notice_body, notice_wri
 
 -- what the code puts together from a row
 abbrev pub assembled : Notice → List ℕ
-assembled n = le_bytes 2 (message_of n).reason ++ le_bytes 1 (message_of n).length ++ (message_of n).detail
+assembled n = le_bytes 2 (message_of n).reason ++ ((message_of n).length ∷ []) ++ (message_of n).detail
 
 pub assembled-body : (n : Notice) → assembled n ≡ (notice_written n).bytes
 unfolding le_bytes padded detail_bytes message_of notice_body notice_written

@@ -1,13 +1,14 @@
 -- The places in use: a number by value beside each lent table. A place is used exactly if its record's mark is set and
 -- it lies below that number; so a table is seen with the marks of the places at and above the number cleared, and what
 -- else stands there as it is. The machine's definition speaks of tables as they are seen.
-use Rattle.std.specs.Prelude.{ℕ, zero, suc, ◌+◌, Bool, cond, ◌&&◌, List, [], ◌∷◌, leb, ltb}
+use Rattle.std.specs.Prelude.{ℕ, zero, suc, ◌+◌, cond, ◌&&◌, List, [], ◌∷◌, leb, ltb}
 use Rattle.hnsr_circuit.specs.declared.records.RelayPending.{RelayPending}
 use Rattle.hnsr_circuit.specs.declared.records.RelayCircuit.{RelayCircuit}
 use Rattle.hnsr_circuit.specs.declared.records.ReservationUsage.{ReservationUsage}
 use Rattle.hnsr_circuit.specs.declared.records.InflightAction.{InflightAction}
 use Rattle.hnsr_circuit.specs.declared.tables.places.Places.{Places}
 use Rattle.hnsr_circuit.specs.declared.runtime.OpaqueRelayRuntime.{OpaqueRelayRuntime}
+use Rattle.hnsr_circuit.specs.declared.runtime.RelayState.{RelayState}
 use Rattle.hnsr_circuit.specs.declared.runtime.Relayed.{Relayed}
 use Rattle.hnsr_circuit.specs.declared.runtime.Request.{Request}
 use Rattle.hnsr_circuit.specs.declared.runtime.Sending.{Sending}
@@ -42,21 +43,32 @@ abbrev pub world_seen : OpaqueRelayRuntime → Places → List RelayPending → 
     → List InflightAction → World
 world_seen h n p c l i = world_of h (held_pending n p) (held_circuits n c) (held_ledger n l) (held_actions n i)
 
+abbrev pub state_seen : RelayState → List RelayPending → List RelayCircuit → List ReservationUsage
+    → List InflightAction → World
+state_seen s p c l i = world_seen s.runtime s.places p c l i
+
 abbrev pub world_given : Request → List RelayPending → List RelayCircuit → List ReservationUsage
     → List InflightAction → World
-world_given r p c l i = world_seen r.runtime r.places p c l i
+world_given r p c l i = state_seen r.state p c l i
 
 abbrev pub underway_seen : Sending → List RelayPending → List RelayCircuit → List ReservationUsage → List InflightAction
     → (out : List ℕ) → Progress
 underway_seen s p c l i out =
-    underway s (held_pending s.places p) (held_circuits s.places c) (held_ledger s.places l)
-    (held_actions s.places i) out
+    underway s (held_pending s.state.places p) (held_circuits s.state.places c) (held_ledger s.state.places l)
+    (held_actions s.state.places i) out
 
 abbrev pub handed_seen : Relayed → List RelayPending → List RelayCircuit → List ReservationUsage → List InflightAction
     → (out : List ℕ) → Ended
 handed_seen r p c l i out =
-    handed_back r (held_pending r.places p) (held_circuits r.places c) (held_ledger r.places l)
-    (held_actions r.places i) out
+    handed_back r (held_pending r.state.places p) (held_circuits r.state.places c) (held_ledger r.state.places l)
+    (held_actions r.state.places i) out
+
+-- the tables as lent, and the actions as they are seen
+abbrev pub lent_seen : OpaqueRelayRuntime → Places → World → List InflightAction → World
+lent_seen h n w i = world_of h (held_pending n w.pending) (held_circuits n w.circuits) (held_ledger n w.ledger) i
+
+abbrev pub sending_seen : Sending → World → List InflightAction → (out : List ℕ) → Progress
+sending_seen s w i out = underway_seen s w.pending w.circuits w.ledger i out
 
 -- ---- numbers
 -- none is in use
@@ -72,18 +84,6 @@ every_place = record {
   actions = 18446744073709551615;
 }
 
-abbrev pub with_pending : (number : ℕ) → Places → Places
-with_pending number n = record { pending = number; circuits = n.circuits; ledger = n.ledger; actions = n.actions }
-
-abbrev pub with_circuits : (number : ℕ) → Places → Places
-with_circuits number n = record { pending = n.pending; circuits = number; ledger = n.ledger; actions = n.actions }
-
-abbrev pub with_ledger : (number : ℕ) → Places → Places
-with_ledger number n = record { pending = n.pending; circuits = n.circuits; ledger = number; actions = n.actions }
-
-abbrev pub with_actions : (number : ℕ) → Places → Places
-with_actions number n = record { pending = n.pending; circuits = n.circuits; ledger = n.ledger; actions = number }
-
 -- a store raises the number where it is done at or above it
-abbrev pub raised_to : (go : Bool) → (n place size : ℕ) → ℕ
-raised_to go n place size = cond (go && ltb place size && leb n place) (place + 1) n
+abbrev pub raised_to : (n place size : ℕ) → ℕ
+raised_to n place size = cond (ltb place size && leb n place) (place + 1) n

@@ -1,5 +1,10 @@
 -- The message that takes a circuit's packet on to the other side, as the code holds it: all but its body.
-use Rattle.std.specs.Prelude.{ℕ, false, cond}
+use Rattle.std.specs.Prelude.{ℕ, false, cond, not, Option, None, Some, Result, Ok, Err}
+use Rattle.std.specs.Result.{result_and}
+use Rattle.hnsr_circuit.specs.declared.tables.lookup.Found.{Found}
+use Rattle.hnsr_circuit.specs.declared.answer.HnsrRuntimeError.{HnsrRuntimeError}
+use Rattle.hnsr_circuit.specs.declared.answer.HnsrRuntimeError.TheVariants.{UnknownCircuit, WrongPeer}
+use Rattle.hnsr_circuit.specs.Answers.{check}
 use Rattle.hnsr_circuit.specs.declared.peer.HnsrPeerId.{HnsrPeerId}
 use Rattle.hnsr_circuit.specs.declared.records.InflightKind.{InflightKind}
 use Rattle.hnsr_circuit.specs.declared.records.InflightKind.TheVariants.{Data, Close}
@@ -8,9 +13,14 @@ use Rattle.hnsr_circuit.specs.declared.records.RelayCircuit.{RelayCircuit}
 use Rattle.hnsr_circuit.specs.declared.runtime.RelayPacket.{RelayPacket}
 use Rattle.hnsr_circuit.specs.declared.records.RelayPending.{RelayPending}
 use Rattle.hnsr_circuit.specs.Peer.{same_peer}
-use Rattle.hnsr_circuit.specs.Circuits.{side_of, other_side}
+use Rattle.hnsr_circuit.specs.Circuits.{is_side, side_of, other_side}
 use Rattle.hnsr_circuit.specs.Inflight.{to_endpoint}
 use Rattle.hnsr_circuit.specs.Packet.{receiver}
+
+-- the circuit that a packet names, of which the peer is a side
+abbrev pub own_circuit : Option (Found RelayCircuit) → HnsrPeerId → Result (Found RelayCircuit) HnsrRuntimeError
+own_circuit None peer = Err UnknownCircuit
+own_circuit (Some f) peer = result_and (check (not (is_side peer f.row)) WrongPeer) (Ok f)
 
 abbrev pub passed_on : RelayPacket → RelayCircuit → HnsrPeerId → InflightKind → Outgoing
 passed_on q c peer kind = record {
@@ -46,8 +56,8 @@ close_on destination circuit opcode context = record {
   bytes = 0;
 }
 
-abbrev pub translated_on : RelayPacket → RelayPending → HnsrPeerId → Outgoing
-translated_on q p peer =
+abbrev pub translated_on : (opcode : ℕ) → RelayPending → HnsrPeerId → Outgoing
+translated_on opcode p peer =
     cond (same_peer p.requester peer)
-    (close_on p.endpoint p.circuit_id q.opcode p.circuit_id)
-    (close_on p.requester p.circuit_id q.opcode p.requester_context)
+    (close_on p.endpoint p.circuit_id opcode p.circuit_id)
+    (close_on p.requester p.circuit_id opcode p.requester_context)

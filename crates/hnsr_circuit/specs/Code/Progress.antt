@@ -2,7 +2,7 @@
 -- takes one such state to the next. A route that finds no room is not written and counts all the same, so that every
 -- state has a next one; where all routes fit, which `routes-fit` proves of every call, the output is the definition's
 -- (`Laws.Progress`).
-use Rattle.std.specs.Prelude.{ℕ, false, cond, List, [], ◌∷◌, length}
+use Rattle.std.specs.Prelude.{ℕ, false, List, [], ◌∷◌, length}
 use Rattle.hns_encoding.specs.Numbers.{saturating_add}
 use Rattle.hns_encoding.specs.Cursor.{written}
 use Rattle.hnsr_circuit.specs.declared.records.RelayPending.{RelayPending}
@@ -11,7 +11,6 @@ use Rattle.hnsr_circuit.specs.declared.records.ReservationUsage.{ReservationUsag
 use Rattle.hnsr_circuit.specs.declared.records.InflightAction.{InflightAction}
 use Rattle.hnsr_circuit.specs.declared.output.queue.Outgoing.{Outgoing}
 use Rattle.hnsr_circuit.specs.declared.tables.scan.ActionQuestion.{ActionQuestion}
-use Rattle.hnsr_circuit.specs.declared.tables.scan.ActionScan.{ActionScan}
 use Rattle.hnsr_circuit.specs.declared.runtime.OpaqueRelayRuntime.{OpaqueRelayRuntime}
 use Rattle.hnsr_circuit.specs.declared.runtime.Relayed.{Relayed}
 use Rattle.hnsr_circuit.specs.declared.runtime.Sending.{Sending}
@@ -48,7 +47,7 @@ packet_of q source body endpoint random = record {
   random = random;
 }
 
--- what a message asks of the actions, and where its own goes
+-- what a message asks of the actions
 abbrev pub asking : OpaqueRelayRuntime → Outgoing → ActionQuestion
 asking h m = record {
   replacing = false;
@@ -57,9 +56,6 @@ asking h m = record {
   generation = h.generation;
   sequence = h.next_action_sequence;
 }
-
-abbrev pub scan_place : ActionScan → ℕ
-scan_place s = cond s.found s.place s.spare_place
 
 -- ---- routes into the output, one after the other
 unfoldable pub filled_to : (position : ℕ) → List Route → ℕ
@@ -82,7 +78,7 @@ progress w at out = record { world = w; position = at; output = out }
 -- what the code holds, with the tables that it was lent
 abbrev pub underway : Sending → List RelayPending → List RelayCircuit → List ReservationUsage → List InflightAction
     → (out : List ℕ) → Progress
-underway s p c l i out = progress (world_of s.runtime p c l i) s.position out
+underway s p c l i out = progress (world_of s.state.runtime p c l i) s.position out
 
 abbrev pub advanced : Progress → Sent → Progress
 advanced s r = progress r.world (filled_to s.position r.routes) (placed s.output s.position r.routes)
@@ -103,7 +99,7 @@ result w a words out = record { world = w; answer = a; words = words; output = o
 
 abbrev pub handed_back : Relayed → List RelayPending → List RelayCircuit → List ReservationUsage → List InflightAction
     → (out : List ℕ) → Ended
-handed_back r p c l i out = result (world_of r.runtime p c l i) r.answer r.words out
+handed_back r p c l i out = result (world_of r.state.runtime p c l i) r.answer r.words out
 
 -- what a part of the code that ends a call leaves
 abbrev pub ending : (out : List ℕ) → Outcome → Ended

@@ -1,14 +1,12 @@
--- What a walk asks of each pending record and circuit, and which actions a call drops, as the code hands it over: the
--- peer that is asked for stands beside it. What `status` asks of all actions, and OPEN and ACCEPT of all records.
+-- What a revoking call asks of each pending record and circuit; what `status` asks of all actions, and OPEN and ACCEPT
+-- of all records.
 use Rattle.std.specs.Prelude.{ℕ, Bool, false, List}
 use Rattle.hnsr_circuit.specs.declared.peer.HnsrPeerId.{HnsrPeerId}
 use Rattle.hnsr_circuit.specs.declared.records.RelayPending.{RelayPending}
 use Rattle.hnsr_circuit.specs.declared.records.RelayCircuit.{RelayCircuit}
-use Rattle.hnsr_circuit.specs.declared.records.InflightAction.{InflightAction}
-use Rattle.hnsr_circuit.specs.declared.tables.question.RecordQuestion.{RecordQuestion}
-use Rattle.hnsr_circuit.specs.declared.tables.question.RecordQuestion.TheVariants.{Used, OfPeer, Under, Over}
-use Rattle.hnsr_circuit.specs.declared.tables.question.ActionsDropped.{ActionsDropped}
-use Rattle.hnsr_circuit.specs.declared.tables.question.ActionsDropped.TheVariants.{Every, Toward}
+use Rattle.hnsr_circuit.specs.declared.tables.question.Revoking.{Revoking}
+use Rattle.hnsr_circuit.specs.declared.tables.question.Revoking.TheVariants.{Disabled, Disconnected, Reservation}
+use Rattle.hnsr_circuit.specs.declared.tables.question.Revoking.TheVariants.{Expired}
 use Rattle.hnsr_circuit.specs.declared.tables.scan.ActionQuestion.{ActionQuestion}
 use Rattle.hnsr_circuit.specs.declared.tables.scan.Work.{Work}
 use Rattle.hnsr_circuit.specs.declared.tables.scan.WorkQuestion.{WorkQuestion}
@@ -16,25 +14,19 @@ use Rattle.hns_encoding.specs.Sums.{count}
 use Rattle.hnsr_circuit.specs.Table.{any}
 use Rattle.hnsr_circuit.specs.Pending.{is_pending, pending_at, pending_of, pending_under, requested_by, pending_over}
 use Rattle.hnsr_circuit.specs.Circuits.{is_circuit, circuit_at, circuit_of, circuit_under, circuit_over}
-use Rattle.hnsr_circuit.specs.Inflight.{is_action, action_toward}
 
--- ---- what a walk asks
-unfoldable pub pending_has : RecordQuestion → HnsrPeerId → RelayPending → Bool
-pending_has Used peer p = is_pending p
-pending_has OfPeer peer p = pending_of peer p
-pending_has (Under id) peer p = pending_under id p
-pending_has (Over now) peer p = pending_over now p
+-- ---- what a revoking call ends
+unfoldable pub pending_revoked : Revoking → RelayPending → Bool
+pending_revoked Disabled p = is_pending p
+pending_revoked (Disconnected peer) p = pending_of peer p
+pending_revoked (Reservation id) p = pending_under id p
+pending_revoked (Expired now) p = pending_over now p
 
-unfoldable pub circuit_has : RecordQuestion → HnsrPeerId → RelayCircuit → Bool
-circuit_has Used peer c = is_circuit c
-circuit_has OfPeer peer c = circuit_of peer c
-circuit_has (Under id) peer c = circuit_under id c
-circuit_has (Over now) peer c = circuit_over now c
-
--- ---- which actions are dropped
-unfoldable pub action_has : ActionsDropped → HnsrPeerId → InflightAction → Bool
-action_has Every peer a = is_action a
-action_has Toward peer a = action_toward peer a
+unfoldable pub circuit_revoked : Revoking → RelayCircuit → Bool
+circuit_revoked Disabled c = is_circuit c
+circuit_revoked (Disconnected peer) c = circuit_of peer c
+circuit_revoked (Reservation id) c = circuit_under id c
+circuit_revoked (Expired now) c = circuit_over now c
 
 -- ---- the three counts of the action capacity: what `status` asks of all actions
 abbrev pub capacity_question : (circuit : ℕ) → HnsrPeerId → ActionQuestion

@@ -1,35 +1,34 @@
--- What a revoking call hands its walks, and the messages by which the code ends a record.
-use Rattle.std.specs.Prelude.{ℕ, ◌+◌, ◌*◌, Bool, true, false, cond, ◌||◌, List, length, ltb, Result, Ok}
+-- What a revoking call hands its walks, and what is told of a record's end.
+use Rattle.std.specs.Prelude.{ℕ, cond, Option, None, Some, List, get_or, Result, Ok}
 use Rattle.std.specs.Result.{result_and}
-use Rattle.hns_encoding.specs.Sums.{count}
-use Rattle.hnsr_circuit.specs.declared.config.OpaqueRelayConfig.{OpaqueRelayConfig}
-use Rattle.hnsr_circuit.specs.declared.answer.HnsrRuntimeError.{HnsrRuntimeError}
-use Rattle.hnsr_circuit.specs.declared.answer.HnsrRuntimeError.TheVariants.{Short}
-use Rattle.hnsr_circuit.specs.declared.calls.revocation.Firsts.{Firsts}
-use Rattle.hnsr_circuit.specs.Answers.{HnsrAnswer, check, ◌then◌}
-use Rattle.hnsr_circuit.specs.Table.{not_yet, next}
-use Rattle.hnsr_circuit.specs.Pending.{is_pending, pending_id}
-use Rattle.hnsr_circuit.specs.Circuits.{is_circuit, circuit_id}
-use Rattle.hnsr_circuit.specs.Entry.{closing_words, too_few}
 use Rattle.hnsr_body.specs.declared.messages.Notice.{Notice}
-use Rattle.hnsr_body.specs.declared.messages.Notice.TheVariants.{PeerDisconnected}
+use Rattle.hnsr_body.specs.declared.messages.Notice.TheVariants.{RelayDisabled, PeerDisconnected, ReservationRevoked}
+use Rattle.hnsr_body.specs.declared.messages.Notice.TheVariants.{AcceptanceExpired, TicketExpired}
+use Rattle.hnsr_body.specs.Messages.{notice_body}
+use Rattle.hnsr_circuit.specs.declared.answer.HnsrRuntimeError.{HnsrRuntimeError}
+use Rattle.hnsr_circuit.specs.declared.calls.revocation.Closings.{Closings}
+use Rattle.hnsr_circuit.specs.declared.calls.revocation.Walks.{Walks}
+use Rattle.hnsr_circuit.specs.declared.output.queue.Outgoing.{Outgoing}
 use Rattle.hnsr_circuit.specs.declared.peer.HnsrPeerId.{HnsrPeerId}
 use Rattle.hnsr_circuit.specs.declared.records.RelayPending.{RelayPending}
 use Rattle.hnsr_circuit.specs.declared.records.RelayCircuit.{RelayCircuit}
-use Rattle.hnsr_circuit.specs.declared.output.queue.Outgoing.{Outgoing}
-use Rattle.hnsr_circuit.specs.Code.Message.{close_on}
-use Rattle.hnsr_circuit.specs.declared.calls.revocation.Revoking.{Revoking}
-use Rattle.hnsr_circuit.specs.declared.runtime.OpaqueRelayRuntime.{OpaqueRelayRuntime}
-use Rattle.hnsr_circuit.specs.declared.tables.question.RecordQuestion.{RecordQuestion}
-use Rattle.hnsr_circuit.specs.declared.tables.question.RecordQuestion.TheVariants.{OfPeer}
-use Rattle.hnsr_circuit.specs.Peer.{same_peer, no_peer}
-use Rattle.hnsr_circuit.specs.Runtime.{count_revoked, with_counters}
+use Rattle.hnsr_circuit.specs.declared.tables.question.Revoking.{Revoking}
+use Rattle.hnsr_circuit.specs.declared.tables.question.Revoking.TheVariants.{Disabled, Disconnected, Reservation}
+use Rattle.hnsr_circuit.specs.declared.tables.question.Revoking.TheVariants.{Expired}
+use Rattle.hnsr_circuit.specs.Answers.{HnsrAnswer, ◌then◌}
+use Rattle.hnsr_circuit.specs.Table.{not_yet, next}
+use Rattle.hnsr_circuit.specs.Peer.{same_peer}
+use Rattle.hnsr_circuit.specs.Pending.{pending_id}
+use Rattle.hnsr_circuit.specs.Circuits.{circuit_id}
 use Rattle.hnsr_circuit.specs.World.{World, Outcome}
-use Rattle.hnsr_circuit.specs.Queue.{Sent}
+use Rattle.hnsr_circuit.specs.Queue.{Sent, and_then, tell}
 use Rattle.hnsr_circuit.specs.Opcode.{op_close, op_error}
-use Rattle.hnsr_circuit.specs.Code.Question.{pending_has, circuit_has}
+use Rattle.hnsr_circuit.specs.Entry.{room_answer, revoking_words}
 use Rattle.hnsr_circuit.specs.Revocation.{revoke_pending, revoke_circuit_there, revoke_all}
 use Rattle.hnsr_circuit.specs.RevokingCalls.{disconnect_pending}
+use Rattle.hnsr_circuit.specs.Code.Message.{close_on}
+use Rattle.hnsr_circuit.specs.Code.Progress.{message_of}
+use Rattle.hnsr_circuit.specs.Code.Question.{pending_revoked, circuit_revoked}
 
 -- ---- a CLOSE or ERROR of the relay's own, but for its body
 abbrev pub error_out : RelayPending → Outgoing
@@ -38,65 +37,77 @@ error_out p = close_on p.requester p.circuit_id op_error p.requester_context
 abbrev pub close_out : RelayPending → Outgoing
 close_out p = close_on p.endpoint p.circuit_id op_close p.circuit_id
 
--- to a side of a circuit
+-- ---- what is told of a record's end
+-- the notice, given the one for a record that is over
+abbrev pub notice_of : (over : Notice) → Revoking → Notice
+notice_of over Disabled = RelayDisabled
+notice_of over (Disconnected peer) = PeerDisconnected
+notice_of over (Reservation id) = ReservationRevoked
+notice_of over (Expired now) = over
+
+-- of a pending record: to both sides, or to the peer that is left (DISC.4)
+abbrev pub tell_both : (notice : Notice) → RelayPending → Closings
+tell_both n p = record { notice = n; first = error_out p; second = Some (close_out p) }
+
+abbrev pub tell_other : HnsrPeerId → RelayPending → Closings
+tell_other peer p = record {
+  notice = PeerDisconnected;
+  first = cond (same_peer p.requester peer) (close_out p)
+      (close_on p.requester p.circuit_id op_close p.requester_context);
+  second = None;
+}
+
+unfoldable pub pending_closings : Revoking → RelayPending → Closings
+pending_closings Disabled p = tell_both RelayDisabled p
+pending_closings (Disconnected peer) p = tell_other peer p
+pending_closings (Reservation id) p = tell_both ReservationRevoked p
+pending_closings (Expired now) p = tell_both AcceptanceExpired p
+
+-- of a circuit: to both sides
 abbrev pub close_side : RelayCircuit → HnsrPeerId → Outgoing
 close_side c side = close_on side c.circuit_id op_close c.circuit_id
 
--- DISC.4: of a pending record, the peer that is left
-abbrev pub other_out : HnsrPeerId → RelayPending → Outgoing
-other_out peer p =
-    cond (same_peer p.requester peer) (close_out p)
-    (close_on p.requester p.circuit_id op_close p.requester_context)
+abbrev pub close_both : (notice : Notice) → RelayCircuit → Closings
+close_both n c = record { notice = n; first = close_side c c.requester; second = Some (close_side c c.endpoint) }
 
-abbrev pub first_out : Revoking → RelayPending → Outgoing
-first_out v p = cond v.disconnecting (other_out v.peer p) (error_out p)
+abbrev pub circuit_notice : Revoking → Notice
+circuit_notice = notice_of TicketExpired
 
--- ---- counted as revoked, where that is so
-abbrev pub revoked_if : Bool → OpaqueRelayRuntime → OpaqueRelayRuntime
-revoked_if go h = cond go (with_counters h (count_revoked h.counters)) h
+unfoldable pub circuit_closings : Revoking → RelayCircuit → Closings
+circuit_closings v c = close_both (circuit_notice v) c
 
--- ---- the end of a pending record in a walk
+-- ---- one message, or two
+abbrev pub told_too : Notice → Option Outgoing → Sent → Sent
+told_too n None s = s
+told_too n (Some m) s = and_then s (tell (message_of m (notice_body n)))
+
+abbrev pub told : Closings → World → Sent
+told c w = told_too c.notice c.second (tell (message_of c.first (notice_body c.notice)) w)
+
+-- the record at a place
+module _ {A : Type 0} (table : World → List A) (none : A) (closings : A → Closings) (without : World → ℕ → World) where
+  abbrev pub ended : World → (place : ℕ) → Sent
+  ended w place = told (closings (get_or (table w) place none)) (without w place)
+
+-- ---- what the walks of a revoking call do
 unfoldable pub ending_pending : Revoking → World → (place : ℕ) → Sent
-ending_pending v w place =
-    cond v.disconnecting (disconnect_pending v.peer w place) (revoke_pending v.notice w place)
-
--- ---- what the walks of a revoking call ask, and what they do
-abbrev pub revoked_pending : Revoking → RelayPending → Bool
-revoked_pending v = pending_has v.question v.peer
-
-abbrev pub revoked_circuit : Revoking → RelayCircuit → Bool
-revoked_circuit v = circuit_has v.question v.peer
+ending_pending Disabled w place = revoke_pending RelayDisabled w place
+ending_pending (Disconnected peer) w place = disconnect_pending peer w place
+ending_pending (Reservation id) w place = revoke_pending ReservationRevoked w place
+ending_pending (Expired now) w place = revoke_pending AcceptanceExpired w place
 
 abbrev pub revoking_all : Revoking → World → Outcome
 revoking_all v w =
-    revoke_all (ending_pending v) (revoked_pending v) (revoke_circuit_there v.circuit_notice) (revoked_circuit v) w
+    revoke_all (ending_pending v) (pending_revoked v) (revoke_circuit_there (circuit_notice v)) (circuit_revoked v) w
 
 -- ---- the entry of a revoking call: 22, and then its own rows; taken, the first record that each walk takes
-abbrev pub firsts_of : Revoking → List RelayPending → List RelayCircuit → Firsts
-firsts_of v p c = record {
-  pending = next pending_id (revoked_pending v) not_yet p;
-  circuits = next circuit_id (revoked_circuit v) not_yet c;
+abbrev pub walks_of : Revoking → List RelayPending → List RelayCircuit → Walks
+walks_of v p c = record {
+  revoking = v;
+  pending = next pending_id (pending_revoked v) not_yet p;
+  circuits = next circuit_id (circuit_revoked v) not_yet c;
 }
 
-abbrev pub lent_answer : OpaqueRelayConfig → List RelayPending → List RelayCircuit → (inflight room : ℕ) → HnsrAnswer
-lent_answer k p c n room =
-    check (ltb room (closing_words * (count is_pending p + count is_circuit c)) || too_few k (length p) (length c) n)
-    Short
-
-abbrev pub entered : Revoking → OpaqueRelayConfig → List RelayPending → List RelayCircuit → (inflight room : ℕ)
-    → (rows : HnsrAnswer) → Result Firsts HnsrRuntimeError
-entered v k p c n room rows = result_and (lent_answer k p c n room then rows) (Ok (firsts_of v p c))
-
--- ---- what each call revokes
-abbrev pub disconnecting_all : HnsrPeerId → Revoking
-disconnecting_all peer = record {
-  question = OfPeer;
-  peer = peer;
-  notice = PeerDisconnected;
-  circuit_notice = PeerDisconnected;
-  disconnecting = true;
-}
-
-abbrev pub revokes : RecordQuestion → (notice circuit : Notice) → Revoking
-revokes q notice circuit = record
-    { question = q; peer = no_peer; notice = notice; circuit_notice = circuit; disconnecting = false }
+abbrev pub entered : Revoking → World → (room : ℕ) → (rows : HnsrAnswer) → Result Walks HnsrRuntimeError
+entered v w room rows =
+    result_and (room_answer w room (revoking_words w) then rows) (Ok (walks_of v w.pending w.circuits))

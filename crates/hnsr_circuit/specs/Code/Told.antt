@@ -59,6 +59,6 @@ pub record Made (r : Relayed) (p : List RelayPending) (c : List RelayCircuit) (l
     (i : List InflightAction) (o : Outcome) : Type 0 where
   pub answer : r.answer ≡ o.answer
   pub tables : world_of o.world.runtime p c l i ≡ o.world
-  pub runtime : r.runtime ≡ cond (taken o.answer) o.world.runtime no_runtime
-  pub places : r.places ≡ cond (taken o.answer) no_place every_place
+  pub runtime : r.state.runtime ≡ cond (taken o.answer) o.world.runtime no_runtime
+  pub places : r.state.places ≡ cond (taken o.answer) no_place every_place
   pub words : r.words ≡ 0

@@ -1,5 +1,6 @@
 -- One turn of each scan of a table, as the code makes it, and what it begins with.
-use Rattle.std.specs.Prelude.{ℕ, ◌+◌, ◌≤◌, Bool, false, cond, ◌&&◌, ◌||◌, List, eqb, ltb, length}
+use Rattle.std.specs.Prelude.{ℕ, ◌+◌, ◌≤◌, Bool, false, cond, ◌&&◌, ◌||◌, Option, None, Some, List, eqb, ltb, length}
+use Rattle.std.specs.Option.{option_or}
 use Rattle.hnsr_body.specs.declared.values.ReservationId.{ReservationId}
 use Rattle.hnsr_circuit.specs.declared.records.RelayPending.{RelayPending}
 use Rattle.hnsr_circuit.specs.declared.records.RelayCircuit.{RelayCircuit}
@@ -14,10 +15,11 @@ use Rattle.hnsr_circuit.specs.declared.tables.scan.LedgerScan.{LedgerScan}
 use Rattle.hnsr_circuit.specs.declared.records.ReservationUsage.{ReservationUsage}
 use Rattle.hns_encoding.specs.Numbers.{saturating_add}
 use Rattle.hns_encoding.specs.Sums.{non, one, count}
-use Rattle.hnsr_circuit.specs.Table.{also, any, pick, place_of}
+use Rattle.hnsr_circuit.specs.Table.{also, place_in}
+use Rattle.hnsr_circuit.specs.Code.Lookup.{usage_found}
 use Rattle.hnsr_circuit.specs.Pending.{is_pending, pending_at, pending_of, pending_under, requested_by}
 use Rattle.hnsr_circuit.specs.Circuits.{is_circuit, circuit_at, circuit_of, circuit_under, queued_in}
-use Rattle.hnsr_circuit.specs.Ledger.{no_usage, is_usage, usage_at}
+use Rattle.hnsr_circuit.specs.Ledger.{is_usage, usage_at}
 use Rattle.hnsr_circuit.specs.Inflight.{is_action, action_at, action_under, action_toward, retained, tallied}
 use Rattle.hnsr_circuit.specs.declared.peer.HnsrPeerId.{HnsrPeerId}
 
@@ -42,6 +44,13 @@ pub record WorkAtMost (n : ℕ) (w : Work) : Type 0 where
   pub peer : w.of_peer ≤ n
   pub other : w.of_other ≤ n
   pub under : w.under ≤ n
+
+-- of one record more
+pub record WorkMore (v w : Work) : Type 0 where
+  pub used : w.used ≤ v.used + 1
+  pub peer : w.of_peer ≤ v.of_peer + 1
+  pub other : w.of_other ≤ v.of_other + 1
+  pub under : w.under ≤ v.under + 1
 
 module _ {A : Type 0} (used peer other under again is : A → Bool) where
   abbrev pub work_turn : Work → A → (place : ℕ) → Work
@@ -75,10 +84,8 @@ totalled t c place =
 unfoldable pub actions_scanned : ActionQuestion → List InflightAction → ActionScan
 actions_scanned q t = record {
   tally = tallied q.replacing q.circuit_id q.peer t;
-  found = any (action_at q.generation q.sequence) t;
-  place = place_of (action_at q.generation q.sequence) t;
-  spare = any (non is_action) t;
-  spare_place = place_of (non is_action) t;
+  found = place_in (action_at q.generation q.sequence) t;
+  spare = place_in (non is_action) t;
 }
 
 abbrev pub no_tally : InflightTally
@@ -97,13 +104,18 @@ pub record TallyAtMost (n : ℕ) (t : InflightTally) : Type 0 where
   pub circuit : t.for_circuit ≤ n
   pub peer : t.for_peer ≤ n
 
--- nothing found yet stands at the number of places
-abbrev pub no_scan : (places : ℕ) → ActionScan
-no_scan places = record { tally = no_tally; found = false; place = places; spare = false; spare_place = places }
+-- of one record more
+pub record TallyMore (t u : InflightTally) : Type 0 where
+  pub all : u.total ≤ t.total + 1
+  pub circuit : u.for_circuit ≤ t.for_circuit + 1
+  pub peer : u.for_peer ≤ t.for_peer + 1
 
--- the place that stays once something is found
-abbrev pub first_place : (found here : Bool) → (place kept : ℕ) → ℕ
-first_place found here place kept = cond found kept (cond here place kept)
+abbrev pub no_scan : ActionScan
+no_scan = record { tally = no_tally; found = None; spare = None }
+
+-- the first place that has what is asked
+abbrev pub first_place : (found : Option ℕ) → (here : Bool) → (place : ℕ) → Option ℕ
+first_place found here place = option_or found (cond here (Some place) None)
 
 module _ (q : ActionQuestion) where
   abbrev pub tally_on : InflightTally → InflightAction → (place : ℕ) → InflightTally
@@ -115,10 +127,8 @@ module _ (q : ActionQuestion) where
   abbrev pub scanned : ActionScan → InflightAction → (place : ℕ) → ActionScan
   scanned s a place = record {
     tally = tally_on s.tally a place;
-    found = s.found || numbered a;
-    place = first_place s.found (numbered a) place s.place;
-    spare = s.spare || non is_action a;
-    spare_place = first_place s.spare (non is_action a) place s.spare_place;
+    found = first_place s.found (numbered a) place;
+    spare = first_place s.spare (non is_action a) place;
   }
 
   -- as the code counts: nothing of an unused action, nothing of one that is replaced
@@ -126,57 +136,31 @@ module _ (q : ActionQuestion) where
   replaced a = q.replacing && eqb a.circuit_id q.circuit_id
 
 -- the end of the scan: the first place that is left, if there is one, is a spare one
-abbrev pub scan_spared : ActionScan → (place places : ℕ) → ActionScan
-scan_spared s place places = record {
-  tally = s.tally;
-  found = s.found;
-  place = s.place;
-  spare = s.spare || ltb place places;
-  spare_place = first_place s.spare (ltb place places) place s.spare_place;
-}
+abbrev pub scan_ended : ActionScan → (place places : ℕ) → ActionScan
+scan_ended s place places =
+    record { tally = s.tally; found = s.found; spare = first_place s.spare (ltb place places) place }
 
 -- ---- what OPEN asks of the ledger
 abbrev pub ledger_asked : ReservationId → List ReservationUsage → LedgerScan
 ledger_asked id l = record {
-  found = any (usage_at id) l;
-  place = place_of (usage_at id) l;
-  usage = pick (usage_at id) no_usage l;
+  found = usage_found (usage_at id) l;
   used = count is_usage l;
-  spare = any (non is_usage) l;
-  spare_place = place_of (non is_usage) l;
+  spare = place_in (non is_usage) l;
   places = length l;
 }
 
 abbrev pub no_ledger_scan : (places : ℕ) → LedgerScan
-no_ledger_scan places = record {
-  found = false;
-  place = places;
-  usage = no_usage;
-  used = 0;
-  spare = false;
-  spare_place = places;
-  places = places;
-}
+no_ledger_scan places = record { found = None; used = 0; spare = None; places = places }
 
 module _ (id : ReservationId) where
   abbrev pub usage_scanned : LedgerScan → ReservationUsage → (place : ℕ) → LedgerScan
   usage_scanned r u place = record {
-    found = r.found || usage_at id u;
-    place = first_place r.found (usage_at id u) place r.place;
-    usage = cond r.found r.usage (cond (usage_at id u) u r.usage);
+    found = option_or r.found (cond (usage_at id u) (Some (record { place = place; row = u })) None);
     used = r.used + one is_usage u;
-    spare = r.spare || non is_usage u;
-    spare_place = first_place r.spare (non is_usage u) place r.spare_place;
+    spare = first_place r.spare (non is_usage u) place;
     places = r.places;
   }
 
-abbrev pub ledger_spared : LedgerScan → (place places : ℕ) → LedgerScan
-ledger_spared r place places = record {
-  found = r.found;
-  place = r.place;
-  usage = r.usage;
-  used = r.used;
-  spare = r.spare || ltb place places;
-  spare_place = first_place r.spare (ltb place places) place r.spare_place;
-  places = r.places;
-}
+abbrev pub ledger_ended : LedgerScan → (place : ℕ) → LedgerScan
+ledger_ended r place =
+    record { found = r.found; used = r.used; spare = first_place r.spare (ltb place r.places) place; places = r.places }

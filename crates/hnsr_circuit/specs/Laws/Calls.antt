@@ -37,7 +37,8 @@ module _ (h : OpaqueRelayRuntime) (p : List RelayPending) (c : List RelayCircuit
   refuses (Err e) o f = refl
 
   -- a refusal hands back what it was given
-  pub turned_away : (r : Relayed) (a b : HnsrAnswer) (o : Outcome) → (r.runtime ≡ h) × (r.answer ≡ a) × (r.words ≡ 0)
+  pub turned_away : (r : Relayed) (a b : HnsrAnswer) (o : Outcome)
+      → (r.state.runtime ≡ h) × (r.answer ≡ a) × (r.words ≡ 0)
       → taken a ≡ false → a ≡ b
       → handed_back r p c l i out ≡ ending out (proceed (world_of h p c l i) b o)
   turned_away r a b o e f ab =
@@ -46,7 +47,7 @@ module _ (h : OpaqueRelayRuntime) (p : List RelayPending) (c : List RelayCircuit
       ∙ ap (λ (z : HnsrAnswer). ending out (proceed (world_of h p c l i) z o)) ab
 
   -- a call begins at the output's first word
-  pub begun : (s : Sending) → (s.runtime ≡ h) × (s.position ≡ 0)
+  pub begun : (s : Sending) → (s.state.runtime ≡ h) × (s.position ≡ 0)
       → underway s p c l i out ≡ progress (world_of h p c l i) 0 out
   begun s e = λ x. progress (world_of (e.0 x) p c l i) (e.1 x) out
 
@@ -62,7 +63,7 @@ gone-on w a b o t e = goes w b o (ap taken (sym e) ∙ t)
 -- a call that has sent all is taken
 pub over : (r : Relayed) (s : Sending) (p : List RelayPending) (c : List RelayCircuit) (l : List ReservationUsage)
     (i : List InflightAction) (out : List ℕ) (t : Progress)
-    → (r.runtime ≡ s.runtime) × (r.answer ≡ Ok tt) × (r.words ≡ s.position) → underway s p c l i out ≡ t
+    → (r.state.runtime ≡ s.state.runtime) × (r.answer ≡ Ok tt) × (r.words ≡ s.position) → underway s p c l i out ≡ t
     → handed_back r p c l i out ≡ result t.world (Ok tt) t.position t.output
 over r s p c l i out t e h =
     (λ x. result (world_of (e.0 x) p c l i) (e.1 x) (e.2 x) out)

@@ -1,11 +1,12 @@
 -- Laws of `edit`, the change of the one record that a lookup finds: it is one store at the place found, it is `put` of
 -- the changed record, and where at most one record has p, clearing that one is clearing all.
-use Rattle.std.specs.Prelude.{ℕ, suc, ◌+◌, ◌≤◌, ◌≡◌, refl, Bool, true, false, List, [], ◌∷◌, length, get_or, set}
+use Rattle.std.specs.Prelude.{ℕ, suc, ◌+◌, ◌≤◌, ◌≡◌, refl, Bool, true, false, None, List, [], ◌∷◌, length}
+use Rattle.std.specs.Prelude.{get_or, set}
 use Rattle.std.proofs.Common.{arith, sym, ap, ◌∙◌, true≢false}
 use Rattle.hns_encoding.specs.Laws.Tests.{split}
 use Rattle.hns_encoding.specs.Sums.{total, count}
-use Rattle.hnsr_circuit.specs.Table.{place_of, any, pick, put, edit, clear}
-use Rattle.hnsr_circuit.specs.Laws.Lookups.{place_found, pick_at, count_none}
+use Rattle.hnsr_circuit.specs.Table.{place_of, place_in, any, pick, put, edit, clear}
+use Rattle.hnsr_circuit.specs.Laws.Lookups.{place_found, place_misses, pick_at, count_none}
 use Rattle.hns_encoding.specs.Laws.Sums.{total-set}
 use Rattle.hnsr_circuit.specs.Laws.Marks.{put-old-same, put-old-other}
 
@@ -21,6 +22,10 @@ module _ {A : Type 0} (p : A → Bool) (g : A → A) where
       split (p x)
       (λ e. absurd (true≢false (rw e at h)))
       (λ e. rw e (ap {B = List A} (λ l. x ∷ l) (edit-none xs (rw e at h))))
+
+  -- where a lookup finds nothing, nothing is changed
+  pub edit_missed : (t : List A) → place_in p t ≡ None → t ≡ edit p g t
+  edit_missed t h = sym (edit-none t (place_misses p t h))
 
   -- what is found, changed and put back: so the laws of `put` where its lookup finds are those of `edit`
   pub edit-put : (used : A → Bool) (d : A) (t : List A) → any p t ≡ true → edit p g t ≡ put used p (g (pick p d t)) t

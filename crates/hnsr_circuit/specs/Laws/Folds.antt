@@ -1,18 +1,23 @@
 -- The operations on tables as loops: what a scan `acc = f(acc, t[i], i)` computes, told by how one turn moves a part of
 -- the accumulator.
--- So one loop answers many questions: each part g of the accumulator that moves like a sum, a test, a place or a record
--- is that sum, test, place or record. `put` and `edit` are one store at a place, `clear` is a `map`, `next` is a fold
+-- So one loop answers many questions: each part g of the accumulator that moves like a sum, a test or a first record
+-- found is that sum, test or record. `put` and `edit` are one store at a place, `clear` is a `map`, `next` is a fold
 -- by definition.
-use Rattle.std.specs.Prelude.{ℕ, suc, ◌+◌, ◌≤◌, min, ◌≡◌, Bool, cond, ◌||◌}
+use Rattle.std.specs.Prelude.{ℕ, suc, ◌+◌, ◌≤◌, min, ◌≡◌, Bool, cond, ◌||◌, Option, None, Some}
+use Rattle.std.specs.Option.{option_or}
 use native.Mathlib.Omega.{arith}
 use Rattle.std.proofs.Math.Path.{refl, ap}
-use Rattle.std.proofs.Common.{◌∙◌}
+use Rattle.std.proofs.Common.{◌∙◌, sym}
 use mathlib.Core.List.{List, [], ◌∷◌}
 use Rattle.hns_encoding.specs.Numbers.{top, saturating_add}
 use Rattle.hns_encoding.specs.Laws.Tests.{split, or_assoc, or-none}
 use Rattle.hns_encoding.specs.Loops.{fold_from}
 use Rattle.hns_encoding.specs.Sums.{one, total, count}
 use Rattle.hnsr_circuit.specs.Table.{any, pick, place_of}
+
+pub or_nothing : {C : Type 0} (o : Option C) → option_or o None ≡ o
+or_nothing None = refl
+or_nothing (Some c) = refl
 
 module _ {A B : Type 0} (f : B → A → ℕ → B) where
   -- ---- a number that each turn raises by h is raised by the total of h
@@ -54,33 +59,24 @@ module _ {A B : Type 0} (f : B → A → ℕ → B) where
   fold_any g p e (x ∷ xs) i b =
       fold_any g p e xs (suc i) (f b x i) ∙ ap (λ c. c || any p xs) (e b x i) ∙ or_assoc (g b) (p x) (any p xs)
 
-  -- ---- a place and a record that stay once the test is on, and are set where a record with p turns it on
-  pub fold_place : (g : B → Bool) (k : B → ℕ) (p : A → Bool) → ((b : B) (x : A) (i : ℕ) → g (f b x i) ≡ (g b || p x))
-      → ((b : B) (x : A) (i : ℕ) → k (f b x i) ≡ cond (g b) (k b) (cond (p x) i (k b))) → (t : List A) (i : ℕ) (b : B)
-      → k (fold_from f t i b) ≡ cond (g b) (k b) (cond (any p t) (i + place_of p t) (k b))
+  -- ---- what a record with p sets where nothing is set yet: what v makes of the first one and of its place
+  pub fold_first : {C : Type 0} (g : B → Option C) (p : A → Bool) (v : A → ℕ → C)
+      → ((b : B) (x : A) (i : ℕ) → g (f b x i) ≡ option_or (g b) (cond (p x) (Some (v x i)) None)) → (d : A)
+      → (t : List A) (i : ℕ) (b : B)
+      → g (fold_from f t i b) ≡ option_or (g b) (cond (any p t) (Some (v (pick p d t) (i + place_of p t))) None)
   unfolding fold_from
-  fold_place g k p e h [] i b = split (g b) (λ q. rw q) (λ q. rw q)
-  fold_place g k p e h (x ∷ xs) i b =
-      let r = fold_place g k p e h xs (suc i) (f b x i) in
-      let u = e b x i in
-      let v = h b x i in
-      split (g b)
-      (λ q. rw q (r ∙ rw (u, q) (v ∙ rw q)))
-      (λ q. split (p x)
-      (λ s. rw (q, s) (r ∙ rw (u, q, s) (v ∙ rw (q, s) (omega arith))))
-      (λ s. rw (q, s) (r ∙ rw (u, q, s) (split (any p xs) (λ n. rw n (omega arith)) (λ n. rw n (v ∙ rw (q, s)))))))
+  fold_first g p v e d [] i b = sym (or_nothing (g b))
+  fold_first {C} g p v e d (x ∷ xs) i b =
+      fold_first g p v e d xs (suc i) (f b x i) ∙ ap (λ (o : Option C). option_or o rest) (e b x i) ∙ joined (g b)
+    where
+      rest : Option C
+      rest = cond (any p xs) (Some (v (pick p d xs) (suc i + place_of p xs))) None
 
-  pub fold_pick : (g : B → Bool) (v : B → A) (p : A → Bool) → ((b : B) (x : A) (i : ℕ) → g (f b x i) ≡ (g b || p x))
-      → ((b : B) (x : A) (i : ℕ) → v (f b x i) ≡ cond (g b) (v b) (cond (p x) x (v b))) → (t : List A) (i : ℕ) (b : B)
-      → v (fold_from f t i b) ≡ cond (g b) (v b) (pick p (v b) t)
-  unfolding fold_from
-  fold_pick g v p e h [] i b = split (g b) (λ q. rw q) (λ q. rw q)
-  fold_pick g v p e h (x ∷ xs) i b =
-      let r = fold_pick g v p e h xs (suc i) (f b x i) in
-      let u = e b x i in
-      let w = h b x i in
-      split (g b)
-      (λ q. rw q (r ∙ rw (u, q) (w ∙ rw q)))
-      (λ q. split (p x)
-      (λ s. rw (q, s) (r ∙ rw (u, q, s) (w ∙ rw (q, s))))
-      (λ s. rw (q, s) (r ∙ rw (u, q, s) (ap (λ d. pick p d xs) (w ∙ rw (q, s))))))
+      joined : (o : Option C)
+          → option_or (option_or o (cond (p x) (Some (v x i)) None)) rest
+          ≡ option_or o (cond (any p (x ∷ xs)) (Some (v (pick p d (x ∷ xs)) (i + place_of p (x ∷ xs)))) None)
+      joined (Some c) = refl
+      joined None = split (p x)
+          (λ q. let z : i ≡ i + 0 = omega arith in rw q (ap (λ (n : ℕ). Some (v x n)) z))
+          (λ q. let z : suc i + place_of p xs ≡ i + suc (place_of p xs) = omega arith in
+          rw q (ap (λ (n : ℕ). cond (any p xs) (Some (v (pick p d xs) n)) None) z))

@@ -15,8 +15,7 @@ use Rattle.hnsr_circuit.specs.declared.records.RelayCircuit.{RelayCircuit}
 use Rattle.hnsr_circuit.specs.declared.records.ReservationUsage.{ReservationUsage}
 use Rattle.hnsr_circuit.specs.declared.records.InflightAction.{InflightAction}
 use Rattle.hnsr_circuit.specs.declared.runtime.OpaqueRelayRuntime.{OpaqueRelayRuntime}
-use Rattle.hnsr_circuit.specs.declared.runtime.Relayed.{Relayed}
-use Rattle.hnsr_circuit.specs.declared.answer.HnsrRuntimeError.TheVariants.{UnexpectedOpcode, Short}
+use Rattle.hnsr_circuit.specs.declared.answer.HnsrRuntimeError.TheVariants.{Short}
 use Rattle.hnsr_circuit.specs.Answers.{HnsrAnswer, check, body_answer, taken, ◌then◌}
 use Rattle.hnsr_circuit.specs.Runtime.{with_clock}
 use Rattle.hnsr_circuit.specs.World.{World, at_time, world_of}
@@ -24,8 +23,7 @@ use Rattle.hnsr_circuit.specs.Packet.{Packet}
 use Rattle.hnsr_circuit.specs.Entry.{handle_words, too_few, tables_short, room_answer}
 use Rattle.hnsr_circuit.specs.Entry.{peer_answer, packet_answer, clock_answer}
 use Rattle.hnsr_circuit.specs.Close.{handle_close}
-use Rattle.hnsr_circuit.specs.Handle.{Handling, other, handling_of, dispatch, entry_answer, handle_gate, handle}
-use Rattle.hnsr_circuit.specs.Code.Progress.{filled_to, placed, result, handed_back, ending}
+use Rattle.hnsr_circuit.specs.Handle.{other, handling_of, dispatch, entry_answer, handle_gate, handle}
 use Rattle.hnsr_circuit.specs.Laws.Answers.{then_taken}
 use Rattle.hnsr_circuit.specs.Laws.Queueing.{taken_is}
 use Rattle.hnsr_circuit.specs.Laws.Calls.{gone-on}
@@ -107,15 +105,6 @@ packet-short opcode context n h =
 
 module _ (h : OpaqueRelayRuntime) (p : List RelayPending) (c : List RelayCircuit) (l : List ReservationUsage)
     (i : List InflightAction) where
-  -- an opcode that no handling takes leaves all as it was
-  pub left_alone : (r : Relayed) (n : ℕ) (q : Packet) (out : List ℕ)
-      → (r.runtime ≡ h) × (r.answer ≡ Err UnexpectedOpcode) × (r.words ≡ 0)
-      → handling_of n ≡ other → handed_back r p c l i out ≡ ending out (dispatch (handling_of n) (world_of h p c l i) q)
-  unfolding dispatch filled_to placed
-  left_alone r n q out e o =
-      (λ x. result (world_of (e.0 x) p c l i) (e.1 x) (e.2 x) out)
-      ∙ ap (λ (k : Handling). ending out (dispatch k (world_of h p c l i) q)) (sym o)
-
   -- ---- entry and clock
   module _ (q : Packet) (room : ℕ) (few : Bool) (first a : HnsrAnswer)
       (ef : few ≡ too_few h.config (length p) (length c) (length i))

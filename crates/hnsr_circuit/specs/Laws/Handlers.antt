@@ -1,352 +1,588 @@
--- What a handler of the code leaves is the definition's: where its rows pass the changed parts, and where one refuses
--- the world as it was.
-use Rattle.std.specs.Prelude.{ℕ, ◌+◌, ◌≤◌, ◌<◌, ◌≡◌, refl, Bool, true, false, not, ltb, get_or, set, Ok, Err}
-use Rattle.std.proofs.Common.{arith, sym, ◌∙◌, subst, ltb-false}
-use Rattle.std.proofs.Math.Path.{ap}
-use Rattle.std.proofs.Math.Bool.{cond}
-use mathlib.Core.List.{List}
-use Rattle.std.proofs.Math.ListN.{length}
-use Rattle.hns_encoding.specs.Laws.Tests.{cond_map}
-use Rattle.hnsr_body.specs.declared.layout.Read.{Read}
-use Rattle.hnsr_body.specs.declared.data_body.WindowBody.{WindowBody}
-use Rattle.hnsr_body.specs.declared.detail_body.ReasonDetail.{ReasonDetail}
+-- What a handler of DATA, WINDOW, CLOSE or ERROR leaves is the definition's: where its rows pass the changed parts, and
+-- where one refuses the world as it was.
+use Rattle.std.specs.Prelude.{ℕ, ◌+◌, ◌≤◌, ◌<◌, ◌≡◌, refl, Bool, true, false, cond, not, None, Some}
+use Rattle.std.specs.Prelude.{List, leb, ltb, length, get_or, set, Result, Ok, Err}
+use Rattle.std.specs.Result.{result_and}
+use Rattle.std.proofs.Common.{arith, sym, ap, ◌∙◌, le-leb, ltb-false}
+use Rattle.std.proofs.lemmas.Option.{none-some, cond_some}
+use Rattle.hns_encoding.specs.Laws.Tests.{split}
+use Rattle.hns_encoding.specs.Sums.{count}
 use Rattle.hnsr_body.specs.Data.{decode_window, data_checked}
 use Rattle.hnsr_body.specs.Detail.{decode_detail}
 use Rattle.hnsr_body.specs.Values.{most_window}
-use Rattle.hnsr_circuit.specs.declared.runtime.Relayed.{Relayed}
-use Rattle.hnsr_circuit.specs.Laws.Calls.{turned_away}
 use Rattle.hnsr_circuit.specs.declared.peer.HnsrPeerId.{HnsrPeerId}
-use Rattle.hnsr_circuit.specs.declared.config.OpaqueRelayConfig.{OpaqueRelayConfig}
 use Rattle.hnsr_circuit.specs.declared.records.RelayPending.{RelayPending}
 use Rattle.hnsr_circuit.specs.declared.records.RelayCircuit.{RelayCircuit}
 use Rattle.hnsr_circuit.specs.declared.records.ReservationUsage.{ReservationUsage}
 use Rattle.hnsr_circuit.specs.declared.records.InflightAction.{InflightAction}
-use Rattle.hnsr_circuit.specs.declared.tables.scan.InflightTally.{InflightTally}
-use Rattle.hnsr_circuit.specs.declared.tables.lookup.Found.{Found}
+use Rattle.hnsr_circuit.specs.declared.records.RelaySide.{RelaySide}
 use Rattle.hnsr_circuit.specs.declared.records.InflightKind.TheVariants.{Control, Close}
+use Rattle.hnsr_circuit.specs.declared.tables.lookup.Found.{Found}
 use Rattle.hnsr_circuit.specs.declared.output.queue.Outgoing.{Outgoing}
 use Rattle.hnsr_circuit.specs.declared.runtime.RelayPacket.{RelayPacket}
+use Rattle.hnsr_circuit.specs.declared.runtime.OpaqueRelayRuntime.{OpaqueRelayRuntime}
+use Rattle.hnsr_circuit.specs.declared.runtime.RuntimeCounters.{RuntimeCounters}
+use Rattle.hnsr_circuit.specs.declared.tables.places.Places.{Places}
+use Rattle.hnsr_circuit.specs.declared.runtime.RelayState.{RelayState}
+use Rattle.hnsr_circuit.specs.declared.runtime.Request.{Request}
+use Rattle.hnsr_circuit.specs.declared.runtime.Relayed.{Relayed}
+use Rattle.hnsr_circuit.specs.Code.Held.{held_pending, held_circuits, held_ledger, held_actions}
+use Rattle.hnsr_circuit.specs.Code.Held.{world_seen, state_seen, world_given, handed_seen}
 use Rattle.hnsr_circuit.specs.declared.messages.data.DataPlan.{DataPlan}
 use Rattle.hnsr_circuit.specs.declared.messages.window.WindowPlan.{WindowPlan}
-use Rattle.hnsr_circuit.specs.declared.messages.close.ClosePlan.{ClosePlan}
-use Rattle.hnsr_circuit.specs.declared.runtime.OpaqueRelayRuntime.{OpaqueRelayRuntime}
 use Rattle.hnsr_circuit.specs.declared.answer.HnsrRuntimeError.{HnsrRuntimeError}
-use Rattle.hnsr_circuit.specs.declared.answer.HnsrRuntimeError.TheVariants.{FlowControl}
-use Rattle.hns_encoding.specs.Sums.{count}
-use Rattle.hnsr_circuit.specs.Table.{place_of, any, pick, edit}
-use Rattle.hnsr_circuit.specs.Answers.{HnsrAnswer, body_answer, taken, ◌then◌}
+use Rattle.hnsr_circuit.specs.declared.answer.HnsrRuntimeError.TheVariants.{InvalidAdmission, WrongPeer, FlowControl}
+use Rattle.hnsr_circuit.specs.Table.{place_of, any, pick}
+use Rattle.hnsr_circuit.specs.Answers.{HnsrAnswer, check, body_answer, taken, ◌then◌}
 use Rattle.hnsr_circuit.specs.Peer.{same_peer, peer_of}
 use Rattle.hnsr_circuit.specs.Pending.{no_pending, named_by, clear_pending}
-use Rattle.hnsr_circuit.specs.Circuits.{no_circuit, circuit_at, side_of, other_side}
+use Rattle.hnsr_circuit.specs.Circuits.{no_circuit, circuit_at, is_side, side_of, other_side}
 use Rattle.hnsr_circuit.specs.Circuits.{credit_of, charged, raised, clear_circuit}
 use Rattle.hnsr_circuit.specs.Ledger.{no_usage, usage_at, spent}
 use Rattle.hnsr_circuit.specs.Inflight.{action_under, dropped, capacity_answer}
-use Rattle.hnsr_circuit.specs.Code.Lookup.{circuit_found, usage_found}
 use Rattle.hnsr_circuit.specs.Runtime.{with_counters, count_bytes, count_revoked}
-use Rattle.hnsr_circuit.specs.World.{proceed, world_of}
-use Rattle.hnsr_circuit.specs.Queue.{Message, send}
-use Rattle.hnsr_circuit.specs.Code.Turns.{actions_scanned}
-use Rattle.hnsr_circuit.specs.Packet.{sender, circuit_answer, forwarded}
-use Rattle.hnsr_circuit.specs.Code.Progress.{Ended, message_of, packet_of, asking, ending, handed_back}
-use Rattle.hnsr_circuit.specs.Data.{with_data, data_message, data_taken, data_with, handle_data}
+use Rattle.hnsr_circuit.specs.World.{refuse, world_of}
+use Rattle.hnsr_circuit.specs.Queue.{send}
+use Rattle.hnsr_circuit.specs.Packet.{sender, circuit_answer}
+use Rattle.hnsr_circuit.specs.Data.{bytes_answer, flow_answer, with_data}
+use Rattle.hnsr_circuit.specs.Data.{data_message, data_taken, data_with, handle_data}
 use Rattle.hnsr_circuit.specs.Window.{credit_answer, with_window, window_taken, window_with, handle_window}
 use Rattle.hnsr_circuit.specs.Revocation.{without_actions, without_pending, end_pending, end_circuit}
-use Rattle.hnsr_circuit.specs.Close.{detail_answer, translated, close_taken}
+use Rattle.hnsr_circuit.specs.Close.{detail_answer, close_answer, translated, close_taken}
 use Rattle.hnsr_circuit.specs.Close.{close_pending, close_circuit, handle_close}
-use Rattle.hnsr_circuit.specs.Code.Message.{passed_on, data_on, close_on}
-use Rattle.hnsr_circuit.specs.Code.Plans.{close_rows}
-use Rattle.hnsr_circuit.specs.Code.Plans.{data_planned, data_rows, window_rows, window_planned, close_planned}
-use Rattle.hnsr_circuit.specs.Laws.Answers.{check-taken, then_taken, stop, stop-two}
-use Rattle.hnsr_circuit.specs.Laws.Lookups.{pick_at}
-use Rattle.hnsr_circuit.specs.Laws.Edits.{edit-set}
-use Rattle.hnsr_circuit.specs.Laws.Queueing.{taken_is, and-ok, and-err, ok-same}
+use Rattle.hnsr_circuit.specs.Code.Lookup.{looked_up, pending_found, circuit_found}
+use Rattle.hnsr_circuit.specs.Code.Turns.{actions_scanned}
+use Rattle.hnsr_circuit.specs.Code.Progress.{message_of, packet_of, asking, ending}
+use Rattle.hnsr_circuit.specs.Code.Message.{own_circuit, passed_on, data_on, translated_on}
+use Rattle.hnsr_circuit.specs.Code.Plans.{found_then, booked_for, data_planned_on, data_planned}
+use Rattle.hnsr_circuit.specs.Code.Plans.{window_planned_on, window_planned, closing_message, close_planned}
+use Rattle.hnsr_circuit.specs.Code.Plans.{pending_closed, circuits_closed}
+use Rattle.hnsr_circuit.specs.Laws.Answers.{check-taken, then_taken}
+use Rattle.hnsr_circuit.specs.Laws.Lookups.{pick_at, any-count, none-count}
+use Rattle.hnsr_circuit.specs.Laws.Edits.{edit-set, edit-none}
+use Rattle.hnsr_circuit.specs.Laws.Queueing.{and-ok, and-err, ok-same}
+use Rattle.hnsr_circuit.specs.Laws.Seen.{passed, turned, refused-seen}
+
+-- ---- rows in order
+rows-two : {A : Type 0} (a b : HnsrAnswer) (s : Result A HnsrRuntimeError)
+    → result_and a (result_and b s) ≡ result_and (a then b) s
+rows-two (Ok _) b s = refl
+rows-two (Err e) b s = refl
+
+rows-four : {A : Type 0} (a b c d : HnsrAnswer) (s : Result A HnsrRuntimeError)
+    → result_and a (result_and b (result_and c (result_and d s))) ≡ result_and (a then b then c then d) s
+rows-four (Ok _) (Ok _) c d s = rows-two c d s
+rows-four (Ok _) (Err e) c d s = refl
+rows-four (Err e) b c d s = refl
+
+rows-five : {A : Type 0} (a b c d f : HnsrAnswer) (s : Result A HnsrRuntimeError)
+    → result_and a (result_and b (result_and c (result_and d (result_and f s))))
+    ≡ result_and (a then b then c then d then f) s
+rows-five (Ok _) b c d f s = rows-four b c d f s
+rows-five (Err e) b c d f s = refl
+
+-- the last of four that are taken
+last-taken : (a b c d : HnsrAnswer) → (a then b then c then d) ≡ Ok tt → d ≡ Ok tt
+last-taken (Ok _) (Ok _) c d h = (then_taken c d h).1
+last-taken (Ok _) (Err e) c d h = cc
+last-taken (Err e) b c d h = cc
+
+-- ---- rows that find something
+kept : {A B : Type 0} (a : HnsrAnswer) (x : A) (k : A → Result B HnsrRuntimeError)
+    → found_then (result_and a (Ok x)) k ≡ result_and a (k x)
+kept (Ok _) x k = refl
+kept (Err e) x k = refl
+
+own-at : {B : Type 0} (b : Bool) (f : Found RelayCircuit) (peer : HnsrPeerId)
+    (k : Found RelayCircuit → Result B HnsrRuntimeError)
+    → found_then (own_circuit (cond b (Some f) None) peer) k ≡ result_and (circuit_answer b f.row peer) (k f)
+unfolding circuit_answer
+own-at true f peer k = kept (check (not (is_side peer f.row)) WrongPeer) f k
+own-at false f peer k = refl
+
+booked-at : {B : Type 0} (b : Bool) (f : Found ReservationUsage) (c : RelayCircuit) (n : ℕ)
+    (k : Found ReservationUsage → Result B HnsrRuntimeError)
+    → found_then (booked_for (cond b (Some f) None) c n) k ≡ result_and (bytes_answer b f.row c n) (k f)
+unfolding bytes_answer
+booked-at true f c n k = kept (bytes_answer true f.row c n) f k
+booked-at false f c n k = refl
 
 -- ---- DATA
 module _ (h : OpaqueRelayRuntime) (c : List RelayCircuit) (l : List ReservationUsage) (i : List InflightAction)
-    (q : RelayPacket) (source body : List ℕ) where
+    (q : RelayPacket) (peer : HnsrPeerId) (n : ℕ) where
+  -- the circuit that the packet names, the side that sent it, and the ledger record
+  abbrev data_circuit : RelayCircuit
+  data_circuit = pick (circuit_at q.context_id) no_circuit c
+
+  abbrev data_usage : Found ReservationUsage
+  data_usage = record {
+    place = place_of (usage_at data_circuit.reservation_id) l;
+    row = pick (usage_at data_circuit.reservation_id) no_usage l;
+  }
+
+  abbrev data_side : RelaySide
+  data_side = side_of peer data_circuit
+
   abbrev data_message_on : Outgoing
-  data_message_on = data_on q (circuit_found (circuit_at q.context_id) c).row (peer_of source) (length body)
+  data_message_on = data_on q data_circuit peer n
 
+  abbrev data_does : DataPlan
+  data_does = record {
+    place = place_of (circuit_at q.context_id) c;
+    side = data_side;
+    usage_place = data_usage.place;
+    message = data_message_on;
+    scan = actions_scanned (asking h data_message_on) i;
+  }
+
+  abbrev data_rows : HnsrAnswer
+  data_rows =
+      body_answer (data_checked n)
+      then circuit_answer (any (circuit_at q.context_id) c) data_circuit peer
+      then capacity_answer h.config (actions_scanned (asking h data_message_on) i).tally
+      then bytes_answer (any (usage_at data_circuit.reservation_id) l) data_usage.row data_circuit n
+      then flow_answer h.config data_circuit data_side n
+
+  data_planned-is : data_planned h c l i q peer n ≡ result_and data_rows (Ok data_does)
+  unfolding data_planned
+  data_planned-is =
+      let at = circuit_at q.context_id in
+      let sized = body_answer (data_checked n) in
+      let own = circuit_answer (any at c) data_circuit peer in
+      let room = capacity_answer h.config (actions_scanned (asking h data_message_on) i).tally in
+      let reserved = any (usage_at data_circuit.reservation_id) l in
+      ap (result_and sized)
+      (own-at (any at c) (record { place = place_of at c; row = data_circuit }) peer (data_planned_on h l i q peer n))
+      ∙ ap (λ (r : Result DataPlan HnsrRuntimeError). result_and sized (result_and own (result_and room r)))
+      (booked-at reserved data_usage data_circuit n _)
+      ∙ rows-five sized own room (bytes_answer reserved data_usage.row data_circuit n)
+      (flow_answer h.config data_circuit data_side n) (Ok data_does)
+
+  module _ (plan : DataPlan) (ep : data_planned h c l i q peer n ≡ Ok plan) where
+    data_rows-taken : data_rows ≡ Ok tt
+    data_rows-taken = (and-ok _ _ plan (sym data_planned-is ∙ ep)).0
+
+    data_plan-is : data_does ≡ plan
+    data_plan-is = ok-same _ plan (and-ok _ _ plan (sym data_planned-is ∙ ep)).1
+
+    -- the actions were asked what the message asks, whatever was counted
+    data_scanned : (k : RuntimeCounters) → plan.scan ≡ actions_scanned (asking (with_counters h k) plan.message) i
+    data_scanned k = rw (← data_plan-is)
+
+module _ (h : OpaqueRelayRuntime) (p : List RelayPending) (c : List RelayCircuit) (l : List ReservationUsage)
+    (i : List InflightAction) (q : RelayPacket) (source body e rs : List ℕ) where
   -- the rows of the code are the definition's
-  data_rows-are : (p : List RelayPending) (e rs : List ℕ)
-      → (let f = circuit_found (circuit_at q.context_id) c in
-      data_rows h.config f (usage_found (usage_at f.row.reservation_id) l)
-      (actions_scanned (asking h data_message_on) i).tally (peer_of source) (length body))
-      ≡ data_taken (world_of h p c l i) (packet_of q source body e rs) (pick (circuit_at q.context_id) no_circuit c)
-      (side_of (peer_of source) (pick (circuit_at q.context_id) no_circuit c)) (length body)
+  data_rows-are : (let k = data_circuit h c l i q (peer_of source) (length body) in
+      data_rows h c l i q (peer_of source) (length body)
+      ≡ data_taken (world_of h p c l i) (packet_of q source body e rs) k (side_of (peer_of source) k) (length body))
   unfolding data_taken sender actions_scanned
-  data_rows-are p e rs = refl
+  data_rows-are = refl
 
-  pub data_turned : (p : List RelayPending) (e rs out : List ℕ) (r : Relayed) (x : HnsrRuntimeError)
-      → data_planned h c l i q (peer_of source) (length body) ≡ Err x
-      → (r.runtime ≡ h) × (r.answer ≡ Err x) × (r.words ≡ 0)
-      → handed_back r p c l i out ≡ ending out (handle_data (world_of h p c l i) (packet_of q source body e rs))
+  data_turned : (x : HnsrRuntimeError) → data_planned h c l i q (peer_of source) (length body) ≡ Err x
+      → refuse (world_of h p c l i) x ≡ handle_data (world_of h p c l i) (packet_of q source body e rs)
   unfolding handle_data data_with sender
-  data_turned p e rs out r x ep k =
-      turned_away h p c l i out r (Err x) _ _ k refl (sym (and-err _ _ x ep) ∙ data_rows-are p e rs)
+  data_turned x ep =
+      turned _ _ _ x
+      (sym data_rows-are ∙ and-err _ _ x (sym (data_planned-is h c l i q (peer_of source) (length body)) ∙ ep))
 
-  module _ (plan : DataPlan) (ep : data_planned h c l i q (peer_of source) (length body) ≡ Ok plan) where
-    data_plan-is : (let f = circuit_found (circuit_at q.context_id) c in record {
-      place = f.place;
-      side = side_of (peer_of source) f.row;
-      usage_place = (usage_found (usage_at f.row.reservation_id) l).place;
-      runtime = with_counters h (count_bytes (length body) h.counters);
-      message = data_message_on;
-      scan = actions_scanned (asking h data_message_on) i;
-    }) ≡ plan
-    data_plan-is = ok-same _ plan (and-ok _ _ plan ep).1
+  data_handled : (plan : DataPlan) → data_planned h c l i q (peer_of source) (length body) ≡ Ok plan
+      → send (world_of (with_counters h (count_bytes (length body) h.counters)) p
+      (set c plan.place (charged plan.side (length body) (get_or c plan.place no_circuit)))
+      (set l plan.usage_place (spent (length body) (get_or l plan.usage_place no_usage))) i)
+      (message_of plan.message body)
+      ≡ handle_data (world_of h p c l i) (packet_of q source body e rs)
+  unfolding handle_data data_with with_data data_message sender
+  data_handled plan ep =
+      let n = length body in
+      let k = data_circuit h c l i q (peer_of source) n in
+      let side = side_of (peer_of source) k in
+      rw (
+        ← (data_plan-is h c l i q (peer_of source) n plan ep),
+        ← (edit-set (circuit_at q.context_id) (charged side n) no_circuit c),
+        ← (edit-set (usage_at k.reservation_id) (spent n) no_usage l),
+      )
+      (passed _ _ _ (sym data_rows-are ∙ data_rows-taken h c l i q (peer_of source) n plan ep))
 
-    pub data_place : place_of (circuit_at q.context_id) c ≡ plan.place
-    data_place = ap (λ (x : DataPlan). x.place) data_plan-is
+-- the same of what the code's steps left
+module _ (a : Request) (c : List RelayCircuit) (l : List ReservationUsage) (i : List InflightAction) (n : ℕ)
+    (planned : Result DataPlan HnsrRuntimeError)
+    (rows : planned ≡ data_planned a.state.runtime (held_circuits a.state.places c) (held_ledger a.state.places l)
+    (held_actions a.state.places i) a.packet a.peer n) where
+  pub data_refused : (p : List RelayPending) (source body e rs out : List ℕ) (r : Relayed) (x : HnsrRuntimeError)
+      → a.peer ≡ peer_of source → n ≡ length body → planned ≡ Err x
+      → (r.state ≡ a.state) × (r.answer ≡ Err x) × (r.words ≡ 0)
+      → handed_seen r p c l i out
+      ≡ ending out (handle_data (world_given a p c l i) (packet_of a.packet source body e rs))
+  data_refused p source body e rs out r x sent size refused k =
+      let s = a.state in
+      let cs = held_circuits s.places c in
+      let ls = held_ledger s.places l in
+      let is = held_actions s.places i in
+      refused-seen s p c l i out r x k
+      ∙ ap (ending out)
+      (data_turned s.runtime (held_pending s.places p) cs ls is a.packet source body e rs x
+      (sym (rows ∙ (λ j. data_planned s.runtime cs ls is a.packet (sent j) (size j))) ∙ refused))
 
-    -- the actions were asked what the message asks once the bytes are counted
-    pub data_scanned : plan.scan ≡ actions_scanned (asking plan.runtime plan.message) i
-    data_scanned = rw (← data_plan-is)
+  module _ (plan : DataPlan) (h : OpaqueRelayRuntime) (t : RelayState) (k : ℕ) (taken : planned ≡ Ok plan)
+      (bytes : h ≡ with_counters a.state.runtime (count_bytes k a.state.runtime.counters))
+      (counted : (t.runtime ≡ h) × (t.places ≡ a.state.places)) where
+    pub data_asked : plan.scan ≡ actions_scanned (asking t.runtime plan.message) (held_actions t.places i)
+    data_asked =
+        let s = a.state in
+        data_scanned s.runtime (held_circuits s.places c) (held_ledger s.places l) (held_actions s.places i) a.packet
+        a.peer n plan (sym rows ∙ taken) (count_bytes k s.runtime.counters)
+        ∙ (λ j. actions_scanned (asking (sym (counted.0 ∙ bytes) j) plan.message)
+        (held_actions (sym counted.1 j) i))
 
-    pub data_handled : (out : List ℕ) (p : List RelayPending) (e rs : List ℕ) (r : Ended) (c' : List RelayCircuit)
-        (l' : List ReservationUsage)
-        → c' ≡ set c plan.place (charged plan.side (length body) (get_or c plan.place no_circuit))
-        → l' ≡ set l plan.usage_place (spent (length body) (get_or l plan.usage_place no_usage))
-        → r ≡ ending out (send (world_of plan.runtime p c' l' i) (message_of plan.message body))
-        → r ≡ ending out (handle_data (world_of h p c l i) (packet_of q source body e rs))
-    unfolding handle_data data_with with_data data_message sender proceed
-    data_handled out p e rs r c' l' ec el es =
-        let n = length body in
-        let id = q.context_id in
-        let k = pick (circuit_at id) no_circuit c in
-        let side = side_of (peer_of source) k in
-        let w = world_of h p c l i in
-        let packet = packet_of q source body e rs in
-        let circuits : c' ≡ edit (circuit_at id) (charged side n) c =
-        ec ∙ rw (← data_plan-is) (sym (edit-set (circuit_at id) (charged side n) no_circuit c)) in
-        let ledger : l' ≡ edit (usage_at k.reservation_id) (spent n) l =
-        el ∙ rw (← data_plan-is) (sym (edit-set (usage_at k.reservation_id) (spent n) no_usage l)) in
-        let rows : data_taken w packet k side n ≡ Ok tt = sym (data_rows-are p e rs) ∙ (and-ok _ _ plan ep).0 in
-        es
-        ∙ rw (circuits, ledger, ← data_plan-is)
-        (ap (λ (a : HnsrAnswer). ending out
-        (proceed w a (send (with_data w id k.reservation_id side n) (data_message packet k side n)))) (sym rows))
-
--- refused by its body or its circuit
-pub data_refused : (h : OpaqueRelayRuntime) (p : List RelayPending) (c : List RelayCircuit) (l : List ReservationUsage)
-    (i : List InflightAction) (q : RelayPacket) (source body e rs out : List ℕ) (f : Found RelayCircuit)
-    (a : HnsrAnswer) (r : Relayed) → f ≡ circuit_found (circuit_at q.context_id) c
-    → a ≡ (body_answer (data_checked (length body)) then circuit_answer f.found f.row (peer_of source))
-    → taken a ≡ false
-    → (r.runtime ≡ h) × (r.answer ≡ a) × (r.words ≡ 0)
-    → handed_back r p c l i out ≡ ending out (handle_data (world_of h p c l i) (packet_of q source body e rs))
-unfolding handle_data data_with data_taken sender
-data_refused h p c l i q source body e rs out f a r ef ea t k =
-    let x = body_answer (data_checked (length body)) in
-    let y = circuit_answer (any (circuit_at q.context_id) c) (pick (circuit_at q.context_id) no_circuit c)
-    (peer_of source) in
-    let b : a ≡ (x then y) =
-    ea ∙ ap (λ (g : Found RelayCircuit). x then circuit_answer g.found g.row (peer_of source)) ef in
-    turned_away h p c l i out r a _ _ k t (b ∙ stop-two x y _ (ap taken (sym b) ∙ t))
+    pub data_sent : (p : List RelayPending) (c' : List RelayCircuit) (l' : List ReservationUsage)
+        (i' : List InflightAction) (source body e rs out out' : List ℕ) (r : Relayed) (m : ℕ)
+        → a.peer ≡ peer_of source → n ≡ length body → m ≡ n → k ≡ n
+        → ((places : Places) → held_circuits places c' ≡ set (held_circuits places c) plan.place
+        (charged plan.side m (get_or (held_circuits places c) plan.place no_circuit)))
+        → ((places : Places) → held_ledger places l' ≡ set (held_ledger places l) plan.usage_place
+        (spent k (get_or (held_ledger places l) plan.usage_place no_usage)))
+        → ((p : List RelayPending) (c : List RelayCircuit) (l : List ReservationUsage)
+        → handed_seen r p c l i' out' ≡ ending out (send (state_seen t p c l i) (message_of plan.message body)))
+        → handed_seen r p c' l' i' out'
+        ≡ ending out (handle_data (world_given a p c l i) (packet_of a.packet source body e rs))
+    data_sent p c' l' i' source body e rs out out' r m sent size charge spend circuits ledger over =
+        let s = a.state in
+        let cs = held_circuits s.places c in
+        let ls = held_ledger s.places l in
+        let is = held_actions s.places i in
+        let charged_by = charge ∙ size in
+        let spent_by = spend ∙ size in
+        over p c' l'
+        ∙ (λ j. ending out (send (world_seen ((counted.0 ∙ bytes) j) (counted.1 j) p c' l' i)
+        (message_of plan.message body)))
+        ∙ (λ j. ending out (send (world_of (with_counters s.runtime (count_bytes (spent_by j) s.runtime.counters))
+        (held_pending s.places p) (circuits s.places j) (ledger s.places j) is) (message_of plan.message body)))
+        ∙ (λ j. ending out (send (world_of (with_counters s.runtime (count_bytes (length body) s.runtime.counters))
+        (held_pending s.places p)
+        (set cs plan.place (charged plan.side (charged_by j) (get_or cs plan.place no_circuit)))
+        (set ls plan.usage_place (spent (spent_by j) (get_or ls plan.usage_place no_usage))) is)
+        (message_of plan.message body)))
+        ∙ ap (ending out)
+        (data_handled s.runtime (held_pending s.places p) cs ls is a.packet source body e rs plan
+        (sym (rows ∙ (λ j. data_planned s.runtime cs ls is a.packet (sent j) (size j))) ∙ taken))
 
 -- ---- WINDOW
--- where the rows pass, the credit stays within the most
-rows-credit : (k : OpaqueRelayConfig) (read : Read WindowBody) (f : Found RelayCircuit) (t : InflightTally)
-    (peer : HnsrPeerId)
-    → taken (window_rows k read f t peer) ≡ true
-    → credit_of (other_side (side_of peer f.row)) f.row + read.body.credit_delta ≤ most_window
-unfolding credit_answer
-rows-credit k read f t peer g =
-    let c = f.row in
-    let after = credit_of (other_side (side_of peer c)) c + read.body.credit_delta in
-    let credit = credit_answer c (side_of peer c) read.body.credit_delta in
-    let later = capacity_answer k t then credit in
-    let rest = circuit_answer f.found c peer then later in
-    let one = (then_taken (body_answer read.result) rest (taken_is (body_answer read.result then rest) g)).1 in
-    let two = (then_taken (circuit_answer f.found c peer) later one).1 in
-    ltb-false most_window after
-    (check-taken (ltb most_window after) FlowControl (then_taken (capacity_answer k t) credit two).1)
-
 module _ (h : OpaqueRelayRuntime) (c : List RelayCircuit) (i : List InflightAction) (q : RelayPacket)
     (peer : HnsrPeerId) (body : List ℕ) where
+  abbrev window_circuit : RelayCircuit
+  window_circuit = pick (circuit_at q.context_id) no_circuit c
+
+  abbrev window_side : RelaySide
+  window_side = side_of peer window_circuit
+
+  abbrev window_delta : ℕ
+  window_delta = (decode_window body).body.credit_delta
+
   abbrev window_message_on : Outgoing
-  window_message_on = passed_on q (circuit_found (circuit_at q.context_id) c).row peer Control
+  window_message_on = passed_on q window_circuit peer Control
+
+  abbrev window_does : WindowPlan
+  window_does = record {
+    place = place_of (circuit_at q.context_id) c;
+    side = window_side;
+    delta = window_delta;
+    message = window_message_on;
+    scan = actions_scanned (asking h window_message_on) i;
+  }
+
+  abbrev window_rows : HnsrAnswer
+  window_rows =
+      body_answer (decode_window body).result
+      then circuit_answer (any (circuit_at q.context_id) c) window_circuit peer
+      then capacity_answer h.config (actions_scanned (asking h window_message_on) i).tally
+      then credit_answer window_circuit window_side window_delta
+
+  window_planned-is : window_planned h c i q peer body ≡ result_and window_rows (Ok window_does)
+  unfolding window_planned
+  window_planned-is =
+      let at = circuit_at q.context_id in
+      let sized = body_answer (decode_window body).result in
+      ap (result_and sized)
+      (own-at (any at c) (record { place = place_of at c; row = window_circuit }) peer
+      (window_planned_on h i q peer window_delta))
+      ∙ rows-four sized (circuit_answer (any at c) window_circuit peer)
+      (capacity_answer h.config (actions_scanned (asking h window_message_on) i).tally)
+      (credit_answer window_circuit window_side window_delta) (Ok window_does)
+
+  -- where the rows pass, the credit stays within the most
+  rows-credit : window_rows ≡ Ok tt → credit_of (other_side window_side) window_circuit + window_delta ≤ most_window
+  unfolding credit_answer
+  rows-credit g =
+      let after = credit_of (other_side window_side) window_circuit + window_delta in
+      ltb-false most_window after
+      (check-taken (ltb most_window after) FlowControl
+      (last-taken (body_answer (decode_window body).result)
+      (circuit_answer (any (circuit_at q.context_id) c) window_circuit peer)
+      (capacity_answer h.config (actions_scanned (asking h window_message_on) i).tally)
+      (credit_answer window_circuit window_side window_delta) g))
 
   module _ (plan : WindowPlan) (ep : window_planned h c i q peer body ≡ Ok plan) where
-    window_plan-is : (let f = circuit_found (circuit_at q.context_id) c in record {
-      place = f.place;
-      side = side_of peer f.row;
-      delta = (decode_window body).body.credit_delta;
-      message = window_message_on;
-      scan = actions_scanned (asking h window_message_on) i;
-    }) ≡ plan
-    window_plan-is = ok-same _ plan (and-ok _ _ plan ep).1
+    window_rows-taken : window_rows ≡ Ok tt
+    window_rows-taken = (and-ok _ _ plan (sym window_planned-is ∙ ep)).0
 
-    pub window-scanned : plan.scan ≡ actions_scanned (asking h plan.message) i
-    window-scanned = rw (← window_plan-is)
+    window_plan-is : window_does ≡ plan
+    window_plan-is = ok-same _ plan (and-ok _ _ plan (sym window_planned-is ∙ ep)).1
 
-    pub window-fits : credit_of (other_side plan.side) (get_or c plan.place no_circuit) + plan.delta < 4294967296
-    window-fits =
-        let id = q.context_id in
-        let f = circuit_found (circuit_at id) c in
-        let d = (decode_window body).body.credit_delta in
-        let side = side_of peer f.row in
-        let there : credit_of (other_side side) f.row + d ≤ most_window =
-        rows-credit h.config (decode_window body) f (actions_scanned (asking h window_message_on) i).tally peer
-        (ap taken (and-ok _ _ plan ep).0) in
-        let small : credit_of (other_side side) f.row + d < 4294967296 = omega (arith, there) in
-        subst (λ (x : WindowPlan). credit_of (other_side x.side) (get_or c x.place no_circuit) + x.delta < 4294967296)
-        window_plan-is
-        (subst (λ (x : RelayCircuit). credit_of (other_side side) x + d < 4294967296)
-        (sym (pick_at (circuit_at id) no_circuit c)) small)
+    -- the actions were asked what the message asks
+    window_scanned : plan.scan ≡ actions_scanned (asking h plan.message) i
+    window_scanned = rw (← window_plan-is)
 
-module _ (h : OpaqueRelayRuntime) (c : List RelayCircuit) (i : List InflightAction) (q : RelayPacket)
-    (source body : List ℕ) where
+    window_fits : credit_of (other_side plan.side) (get_or c plan.place no_circuit) + plan.delta < 4294967296
+    window_fits =
+        let there = rows-credit window_rows-taken in
+        rw (← window_plan-is, pick_at (circuit_at q.context_id) no_circuit c) (omega (arith, there))
+
+module _ (h : OpaqueRelayRuntime) (p : List RelayPending) (c : List RelayCircuit) (l : List ReservationUsage)
+    (i : List InflightAction) (q : RelayPacket) (source body e rs : List ℕ) where
   -- the rows of the code are the definition's
-  window_rows-are : (p : List RelayPending) (l : List ReservationUsage) (e rs : List ℕ)
-      → (let f = circuit_found (circuit_at q.context_id) c in
-      window_rows h.config (decode_window body) f
-      (actions_scanned (asking h (window_message_on h c i q (peer_of source) body)) i).tally (peer_of source))
-      ≡ (let k = pick (circuit_at q.context_id) no_circuit c in
-      window_taken (world_of h p c l i) (packet_of q source body e rs) k (side_of (peer_of source) k)
+  window_rows-are : (let k = window_circuit h c i q (peer_of source) body in
+      window_rows h c i q (peer_of source) body
+      ≡ window_taken (world_of h p c l i) (packet_of q source body e rs) k (side_of (peer_of source) k)
       (decode_window body).body.credit_delta)
   unfolding window_taken sender actions_scanned
-  window_rows-are p l e rs = refl
+  window_rows-are = refl
 
-  pub window_turned : (p : List RelayPending) (l : List ReservationUsage) (e rs out : List ℕ) (r : Relayed)
-      (x : HnsrRuntimeError) → window_planned h c i q (peer_of source) body ≡ Err x
-      → (r.runtime ≡ h) × (r.answer ≡ Err x) × (r.words ≡ 0)
-      → handed_back r p c l i out ≡ ending out (handle_window (world_of h p c l i) (packet_of q source body e rs))
+  window_turned : (x : HnsrRuntimeError) → window_planned h c i q (peer_of source) body ≡ Err x
+      → refuse (world_of h p c l i) x ≡ handle_window (world_of h p c l i) (packet_of q source body e rs)
   unfolding handle_window window_with sender decode_window
-  window_turned p l e rs out r x ep k =
-      turned_away h p c l i out r (Err x) _ _ k refl (sym (and-err _ _ x ep) ∙ window_rows-are p l e rs)
+  window_turned x ep =
+      turned _ _ _ x
+      (sym window_rows-are ∙ and-err _ _ x (sym (window_planned-is h c i q (peer_of source) body) ∙ ep))
 
-  pub window-handled : (plan : WindowPlan) → window_planned h c i q (peer_of source) body ≡ Ok plan
-      → (out : List ℕ) (p : List RelayPending) (l : List ReservationUsage) (e rs : List ℕ) (r : Ended)
-      (c' : List RelayCircuit)
-      → c' ≡ set c plan.place (raised plan.side plan.delta (get_or c plan.place no_circuit))
-      → r ≡ ending out (send (world_of h p c' l i) (message_of plan.message body))
-      → r ≡ ending out (handle_window (world_of h p c l i) (packet_of q source body e rs))
-  unfolding handle_window window_with with_window sender proceed decode_window
-  window-handled plan ep out p l e rs r c' ec es =
-      let id = q.context_id in
-      let k = pick (circuit_at id) no_circuit c in
+  window_handled : (plan : WindowPlan) → window_planned h c i q (peer_of source) body ≡ Ok plan
+      → send (world_of h p (set c plan.place (raised plan.side plan.delta (get_or c plan.place no_circuit))) l i)
+      (message_of plan.message body)
+      ≡ handle_window (world_of h p c l i) (packet_of q source body e rs)
+  unfolding handle_window window_with with_window sender decode_window
+  window_handled plan ep =
+      let k = window_circuit h c i q (peer_of source) body in
       let side = side_of (peer_of source) k in
-      let d = (decode_window body).body.credit_delta in
-      let w = world_of h p c l i in
-      let packet = packet_of q source body e rs in
-      let is = window_plan-is h c i q (peer_of source) body plan ep in
-      let circuits : c' ≡ edit (circuit_at id) (raised side d) c =
-      ec ∙ rw (← is) (sym (edit-set (circuit_at id) (raised side d) no_circuit c)) in
-      let rows : window_taken w packet k side d ≡ Ok tt =
-      sym (window_rows-are p l e rs) ∙ (and-ok _ _ plan ep).0 in
-      es
-      ∙ rw (circuits, ← is)
-      (ap (λ (a : HnsrAnswer). ending out
-      (proceed w a (send (with_window w id side d) (forwarded packet k Control)))) (sym rows))
+      let delta = (decode_window body).body.credit_delta in
+      rw (
+        ← (window_plan-is h c i q (peer_of source) body plan ep),
+        ← (edit-set (circuit_at q.context_id) (raised side delta) no_circuit c),
+      )
+      (passed _ _ _ (sym window_rows-are ∙ window_rows-taken h c i q (peer_of source) body plan ep))
 
-pub window_refused : (h : OpaqueRelayRuntime) (p : List RelayPending) (c : List RelayCircuit)
-    (l : List ReservationUsage) (i : List InflightAction) (q : RelayPacket) (source body e rs out : List ℕ)
-    (read : Read WindowBody) (f : Found RelayCircuit) (a : HnsrAnswer) (r : Relayed)
-    → read ≡ decode_window body → f ≡ circuit_found (circuit_at q.context_id) c
-    → a ≡ (body_answer read.result then circuit_answer f.found f.row (peer_of source)) → taken a ≡ false
-    → (r.runtime ≡ h) × (r.answer ≡ a) × (r.words ≡ 0)
-    → handed_back r p c l i out ≡ ending out (handle_window (world_of h p c l i) (packet_of q source body e rs))
-unfolding handle_window window_with window_taken sender
-window_refused h p c l i q source body e rs out read f a r er ef ea t k =
-    let x = body_answer (decode_window body).result in
-    let y = circuit_answer (any (circuit_at q.context_id) c) (pick (circuit_at q.context_id) no_circuit c)
-    (peer_of source) in
-    let b : a ≡ (x then y) =
-    ea ∙ (λ j. body_answer (er j).result then circuit_answer (ef j).found (ef j).row (peer_of source)) in
-    turned_away h p c l i out r a _ _ k t (b ∙ stop-two x y _ (ap taken (sym b) ∙ t))
+-- the same of what the code's steps left
+module _ (a : Request) (c : List RelayCircuit) (i : List InflightAction) (body : List ℕ)
+    (planned : Result WindowPlan HnsrRuntimeError)
+    (rows : planned ≡ window_planned a.state.runtime (held_circuits a.state.places c) (held_actions a.state.places i)
+    a.packet a.peer body) where
+  pub window_refused : (p : List RelayPending) (l : List ReservationUsage) (source e rs out : List ℕ) (r : Relayed)
+      (x : HnsrRuntimeError) → a.peer ≡ peer_of source → planned ≡ Err x
+      → (r.state ≡ a.state) × (r.answer ≡ Err x) × (r.words ≡ 0)
+      → handed_seen r p c l i out
+      ≡ ending out (handle_window (world_given a p c l i) (packet_of a.packet source body e rs))
+  window_refused p l source e rs out r x sent refused k =
+      let s = a.state in
+      let cs = held_circuits s.places c in
+      let is = held_actions s.places i in
+      refused-seen s p c l i out r x k
+      ∙ ap (ending out)
+      (window_turned s.runtime (held_pending s.places p) cs (held_ledger s.places l) is a.packet source body e rs x
+      (sym (rows ∙ (λ j. window_planned s.runtime cs is a.packet (sent j) body)) ∙ refused))
+
+  module _ (plan : WindowPlan) (taken : planned ≡ Ok plan) where
+    pub window_asked : plan.scan ≡ actions_scanned (asking a.state.runtime plan.message) (held_actions a.state.places i)
+    window_asked =
+        window_scanned a.state.runtime (held_circuits a.state.places c) (held_actions a.state.places i) a.packet a.peer
+        body plan (sym rows ∙ taken)
+
+    pub window_sent : (p : List RelayPending) (l : List ReservationUsage) (c' : List RelayCircuit)
+        (i' : List InflightAction) (source e rs out out' : List ℕ) (r : Relayed) → a.peer ≡ peer_of source
+        → ((places : Places)
+        → credit_of (other_side plan.side) (get_or (held_circuits places c) plan.place no_circuit) + plan.delta
+        < 4294967296
+        → held_circuits places c' ≡ set (held_circuits places c) plan.place
+        (raised plan.side plan.delta (get_or (held_circuits places c) plan.place no_circuit)))
+        → ((p : List RelayPending) (c : List RelayCircuit) (l : List ReservationUsage)
+        → handed_seen r p c l i' out' ≡ ending out (send (state_seen a.state p c l i) (message_of plan.message body)))
+        → handed_seen r p c' l i' out'
+        ≡ ending out (handle_window (world_given a p c l i) (packet_of a.packet source body e rs))
+    window_sent p l c' i' source e rs out out' r sent circuits over =
+        let s = a.state in
+        let cs = held_circuits s.places c in
+        let is = held_actions s.places i in
+        let fits = window_fits s.runtime cs is a.packet a.peer body plan (sym rows ∙ taken) in
+        over p c' l
+        ∙ (λ j. ending out (send (world_of s.runtime (held_pending s.places p) (circuits s.places fits j)
+        (held_ledger s.places l) is) (message_of plan.message body)))
+        ∙ ap (ending out)
+        (window_handled s.runtime (held_pending s.places p) cs (held_ledger s.places l) is a.packet source body e rs
+        plan (sym (rows ∙ (λ j. window_planned s.runtime cs is a.packet (sent j) body)) ∙ taken))
 
 -- ---- CLOSE and ERROR
--- one record ends: the pending record where there is one, else the circuit
-one_ends : (h : OpaqueRelayRuntime) (p p1 : List RelayPending) (c c1 : List RelayCircuit)
-    (l : List ReservationUsage) (i : List InflightAction) (idp idc : ℕ) (mp mc : Outgoing) (body : List ℕ) (b : Bool)
-    → send (world_of h (cond b p1 p) (cond (not b) c1 c) l (dropped (action_under (cond b idp idc)) i))
-    (message_of (cond b mp mc) body)
-    ≡ cond b (send (world_of h p1 c l (dropped (action_under idp) i)) (message_of mp body))
-    (send (world_of h p c1 l (dropped (action_under idc) i)) (message_of mc body))
-one_ends h p p1 c c1 l i idp idc mp mc body true = refl
-one_ends h p p1 c c1 l i idp idc mp mc body false = refl
+-- where a lookup finds a record, or none, and whose circuit it is
+found-is : {A : Type 0} (none : A) (p : A → Bool) (t : List A) (f : Found A) → looked_up none p t ≡ Some f
+    → (any p t ≡ true) × (place_of p t ≡ f.place)
+found-is none p t f e =
+    let k = cond_some (any p t) (record { place = place_of p t; row = pick p none t }) f e in
+    (k.0, ap (λ (x : Found _). x.place) k.1)
 
-module _ (h : OpaqueRelayRuntime) (p : List RelayPending) (c : List RelayCircuit) (i : List InflightAction)
-    (q : RelayPacket) (source body : List ℕ) where
+none-is : {A : Type 0} (b : Bool) (x : A) → cond b (Some x) None ≡ None → b ≡ false
+none-is true x e = absurd (none-some x (sym e))
+none-is false x e = refl
+
+own-place : (b : Bool) (x f : Found RelayCircuit) (peer : HnsrPeerId) → own_circuit (cond b (Some x) None) peer ≡ Ok f
+    → x.place ≡ f.place
+own-place true x f peer e = ap (λ (y : Found RelayCircuit). y.place) (ok-same x f (and-ok _ _ f e).1)
+own-place false x f peer e = cc
+
+-- what `close` leaves
+module _ (p : List RelayPending) (c : List RelayCircuit) (q : RelayPacket) (peer : HnsrPeerId) (body : List ℕ)
+    (detail : (decode_detail body).result ≡ Ok tt)
+    (few : check (leb 2 (count (named_by peer q.context_id) p)) InvalidAdmission ≡ Ok tt) where
+  abbrev Closed : Outgoing → List RelayPending → List RelayCircuit → Type 0
+  Closed m p' c' =
+      (Ok m ≡ close_planned p c q peer body)
+      × (p' ≡ pending_closed (Ok m) q peer p)
+      × (c' ≡ circuits_closed (Ok m) q peer p c)
+
+  pub pending_ended : (f : Found RelayPending) → pending_found (named_by peer q.context_id) p ≡ Some f
+      → Closed (translated_on q.opcode f.row peer)
+      (set p f.place (clear_pending (get_or p f.place no_pending))) c
+  unfolding close_planned
+  pending_ended f e =
+      let naming = named_by peer q.context_id in
+      let is = found-is no_pending naming p f e in (
+        rw (detail, few, e),
+        rw (← is.1) (sym (edit-set naming clear_pending no_pending p)),
+        rw is.0,
+      )
+
+  pub circuit_ended : (f : Found RelayCircuit) → pending_found (named_by peer q.context_id) p ≡ None
+      → own_circuit (circuit_found (circuit_at q.context_id) c) peer ≡ Ok f
+      → Closed (passed_on q f.row peer Close) p (set c f.place (clear_circuit (get_or c f.place no_circuit)))
+  unfolding close_planned
+  circuit_ended f e k =
+      let naming = named_by peer q.context_id in
+      let at = circuit_at q.context_id in
+      let none = none-is (any naming p) (record { place = place_of naming p; row = pick naming no_pending p }) e in
+      let place = own-place (any at c) (record { place = place_of at c; row = pick at no_circuit c }) f peer k in (
+        rw (detail, few, e, k),
+        sym (edit-none naming clear_pending p none),
+        rw (none, ← place) (sym (edit-set at clear_circuit no_circuit c)),
+      )
+
+module _ (p : List RelayPending) (c : List RelayCircuit) (q : RelayPacket) (source body : List ℕ) where
+  abbrev naming : RelayPending → Bool
+  naming = named_by (peer_of source) q.context_id
+
+  abbrev pending_message : Outgoing
+  pending_message = translated_on q.opcode (pick naming no_pending p) (peer_of source)
+
+  abbrev circuit_message : Outgoing
+  circuit_message = passed_on q (pick (circuit_at q.context_id) no_circuit c) (peer_of source) Close
+
   -- the rows of the code are the definition's
-  close_rows-are : (l : List ReservationUsage) (e rs : List ℕ)
-      → close_rows (decode_detail body) (count (named_by (peer_of source) q.context_id) p)
-      (circuit_found (circuit_at q.context_id) c) (peer_of source)
-      ≡ close_taken (world_of h p c l i) (packet_of q source body e rs)
-  unfolding close_taken detail_answer sender
-  close_rows-are l e rs = refl
+  close_rows-are : result_and (check (leb 2 (count naming p)) InvalidAdmission)
+      (closing_message q (peer_of source) (pending_found naming p) (circuit_found (circuit_at q.context_id) c))
+      ≡ result_and (close_answer (count naming p) (circuit_answer (any (circuit_at q.context_id) c)
+      (pick (circuit_at q.context_id) no_circuit c) (peer_of source)))
+      (Ok (cond (any naming p) pending_message circuit_message))
+  unfolding close_answer
+  close_rows-are =
+      let at = circuit_at q.context_id in
+      let many = check (leb 2 (count naming p)) InvalidAdmission in
+      split (any naming p)
+      (λ e. let some = le-leb 1 (count naming p) (any-count naming p e) in
+      rw (e, some) (rows-two many (Ok tt) (Ok pending_message)))
+      (λ e. let none = none-count naming p e in
+      rw (e, none)
+      (own-at (any at c) (record { place = place_of at c; row = pick at no_circuit c }) (peer_of source)
+      (λ f. Ok (passed_on q f.row (peer_of source) Close))))
 
-  pub close_turned : (l : List ReservationUsage) (e rs out : List ℕ) (r : Relayed) (x : HnsrRuntimeError)
-      → close_planned h p c q (peer_of source) body ≡ Err x
-      → (r.runtime ≡ h) × (r.answer ≡ Err x) × (r.words ≡ 0)
-      → handed_back r p c l i out ≡ ending out (handle_close (world_of h p c l i) (packet_of q source body e rs))
-  unfolding handle_close
-  close_turned l e rs out r x ep k =
-      turned_away h p c l i out r (Err x) _ _ k refl (sym (and-err _ _ x ep) ∙ close_rows-are l e rs)
+  close_planned-is : (h : OpaqueRelayRuntime) (l : List ReservationUsage) (i : List InflightAction) (e rs : List ℕ)
+      → close_planned p c q (peer_of source) body
+      ≡ result_and (close_taken (world_of h p c l i) (packet_of q source body e rs))
+      (Ok (cond (any naming p) pending_message circuit_message))
+  unfolding close_planned close_taken detail_answer sender
+  close_planned-is h l i e rs =
+      ap (result_and (body_answer (decode_detail body).result)) close_rows-are
+      ∙ rows-two (body_answer (decode_detail body).result)
+      (close_answer (count naming p) (circuit_answer (any (circuit_at q.context_id) c)
+      (pick (circuit_at q.context_id) no_circuit c) (peer_of source)))
+      (Ok (cond (any naming p) pending_message circuit_message))
 
-  pub close_handled : (plan : ClosePlan) → close_planned h p c q (peer_of source) body ≡ Ok plan
-      → (out : List ℕ) (l : List ReservationUsage) (e rs : List ℕ) (r : Ended) (p' : List RelayPending)
-      (c' : List RelayCircuit) (i₁ : List InflightAction)
-      → p' ≡ cond plan.ends_pending
-      (set p plan.pending_place (clear_pending (get_or p plan.pending_place no_pending))) p
-      → c' ≡ cond (not plan.ends_pending)
-      (set c plan.circuit_place (clear_circuit (get_or c plan.circuit_place no_circuit))) c
-      → i₁ ≡ dropped (action_under plan.id) i
-      → r ≡ ending out (send (world_of plan.runtime p' c' l i₁) (message_of plan.message body))
-      → r ≡ ending out (handle_close (world_of h p c l i) (packet_of q source body e rs))
-  unfolding handle_close close_pending close_circuit translated end_pending end_circuit without_actions
-      without_pending sender proceed
-  close_handled plan ep out l e rs r p' c' i₁ eq ec ei es =
-      let id = q.context_id in
-      let peer = peer_of source in
-      let h₁ = with_counters h (count_revoked h.counters) in
-      let n = named_by peer id in
-      let ended = pick n no_pending p in
-      let left = edit n clear_pending p in
-      let closed = edit (circuit_at id) clear_circuit c in
-      let to_endpoint = close_on ended.endpoint ended.circuit_id q.opcode ended.circuit_id in
-      let to_requester = close_on ended.requester ended.circuit_id q.opcode ended.requester_context in
-      let first = cond (same_peer ended.requester peer) to_endpoint to_requester in
-      let other = passed_on q (pick (circuit_at id) no_circuit c) peer Close in
-      let w = world_of h p c l i in
-      let packet = packet_of q source body e rs in
-      let is : record {
-        ends_pending = any n p;
-        pending_place = place_of n p;
-        circuit_place = place_of (circuit_at id) c;
-        id = cond (any n p) ended.circuit_id id;
-        runtime = h₁;
-        message = cond (any n p) first other;
-      } ≡ plan = ok-same _ plan (and-ok _ _ plan ep).1 in
-      let rows : close_taken w packet ≡ Ok tt = sym (close_rows-are l e rs) ∙ (and-ok _ _ plan ep).0 in
-      let pending : p' ≡ cond (any n p) left p =
-      eq ∙ rw (← is)
-      (ap (λ (t : List RelayPending). cond (any n p) t p) (sym (edit-set n clear_pending no_pending p))) in
-      let circuits : c' ≡ cond (not (any n p)) closed c =
-      ec ∙ rw (← is)
-      (ap (λ (t : List RelayCircuit). cond (not (any n p)) t c)
-      (sym (edit-set (circuit_at id) clear_circuit no_circuit c))) in
-      let actions : i₁ ≡ dropped (action_under (cond (any n p) ended.circuit_id id)) i = ei ∙ rw (← is) in
-      es
-      ∙ rw (pending, circuits, actions, ← is)
-      (ap (ending out) (one_ends h₁ p left c closed l i ended.circuit_id id first other body (any n p))
-      ∙ ap (λ (m : Message). ending out
-      (cond (any n p) (send (world_of h₁ left c l (dropped (action_under ended.circuit_id) i)) m)
-      (send (world_of h₁ p closed l (dropped (action_under id) i)) (message_of other body))))
-      (cond_map (λ (m : Outgoing). message_of m body) (same_peer ended.requester peer) to_endpoint to_requester)
-      ∙ ap (λ (a : HnsrAnswer). ending out (proceed w a
-      (cond (any n p) (close_pending w packet ended) (close_circuit w packet (pick (circuit_at id) no_circuit c)))))
-      (sym rows))
+  module _ (h : OpaqueRelayRuntime) (l : List ReservationUsage) (i : List InflightAction) (e rs : List ℕ) where
+    close_turned : (x : HnsrRuntimeError) → close_planned p c q (peer_of source) body ≡ Err x
+        → refuse (world_of h p c l i) x ≡ handle_close (world_of h p c l i) (packet_of q source body e rs)
+    unfolding handle_close
+    close_turned x ep = turned _ _ _ x (and-err _ _ x (sym (close_planned-is h l i e rs) ∙ ep))
 
--- refused by its body, or by its rows
-pub detail_refused : (h : OpaqueRelayRuntime) (p : List RelayPending) (c : List RelayCircuit)
-    (l : List ReservationUsage) (i : List InflightAction) (q : RelayPacket) (source body e rs out : List ℕ)
-    (read : Read ReasonDetail) (a : HnsrAnswer) (r : Relayed)
-    → read ≡ decode_detail body → a ≡ body_answer read.result → taken a ≡ false
-    → (r.runtime ≡ h) × (r.answer ≡ a) × (r.words ≡ 0)
-    → handed_back r p c l i out ≡ ending out (handle_close (world_of h p c l i) (packet_of q source body e rs))
-unfolding handle_close close_taken detail_answer
-detail_refused h p c l i q source body e rs out read a r er ea t k =
-    let b = ea ∙ ap (λ (x : Read ReasonDetail). body_answer x.result) er in
-    turned_away h p c l i out r a _ _ k t (b ∙ stop (body_answer (decode_detail body).result) _ (ap taken (sym b) ∙ t))
+    close_handled : (m : Outgoing) → close_planned p c q (peer_of source) body ≡ Ok m
+        → send (world_of (with_counters h (count_revoked h.counters)) (pending_closed (Ok m) q (peer_of source) p)
+        (circuits_closed (Ok m) q (peer_of source) p c) l (dropped (action_under m.circuit_id) i)) (message_of m body)
+        ≡ handle_close (world_of h p c l i) (packet_of q source body e rs)
+    unfolding handle_close close_pending close_circuit translated end_pending end_circuit without_actions
+        without_pending sender
+    close_handled m ep =
+        let rows = (and-ok _ _ m (sym (close_planned-is h l i e rs) ∙ ep)).0 in
+        let is : cond (any naming p) pending_message circuit_message ≡ m =
+        ok-same _ m (and-ok _ _ m (sym (close_planned-is h l i e rs) ∙ ep)).1 in
+        rw (← is)
+        (split (any naming p)
+        (λ f. rw f
+        (split (same_peer (pick naming no_pending p).requester (peer_of source))
+        (λ g. rw g (passed _ _ _ rows))
+        (λ g. rw g (passed _ _ _ rows))))
+        (λ f. rw (f, edit-none naming clear_pending p f) (passed _ _ _ rows)))
+
+-- the same of what the code's steps left
+module _ (a : Request) (p p' : List RelayPending) (c c' : List RelayCircuit) (body : List ℕ)
+    (closed : Result Outgoing HnsrRuntimeError)
+    (left : (closed ≡ close_planned (held_pending a.state.places p) (held_circuits a.state.places c) a.packet
+    a.peer body)
+    × (held_pending a.state.places p' ≡ pending_closed closed a.packet a.peer (held_pending a.state.places p))
+    × (held_circuits a.state.places c'
+    ≡ circuits_closed closed a.packet a.peer (held_pending a.state.places p) (held_circuits a.state.places c))) where
+  pub close_refused : (l : List ReservationUsage) (i : List InflightAction) (source e rs out : List ℕ) (r : Relayed)
+      (x : HnsrRuntimeError) → a.peer ≡ peer_of source → closed ≡ Err x
+      → (r.state ≡ a.state) × (r.answer ≡ Err x) × (r.words ≡ 0)
+      → handed_seen r p' c' l i out
+      ≡ ending out (handle_close (world_given a p c l i) (packet_of a.packet source body e rs))
+  close_refused l i source e rs out r x sent refused k =
+      let s = a.state in
+      let ps = held_pending s.places p in
+      let cs = held_circuits s.places c in
+      let ls = held_ledger s.places l in
+      let is = held_actions s.places i in
+      let pending = left.1 ∙ (λ j. pending_closed (refused j) a.packet a.peer ps) in
+      let circuits = left.2 ∙ (λ j. circuits_closed (refused j) a.packet a.peer ps cs) in
+      refused-seen s p' c' l i out r x k
+      ∙ (λ j. ending out (refuse (world_of s.runtime (pending j) (circuits j) ls is) x))
+      ∙ ap (ending out)
+      (close_turned ps cs a.packet source body s.runtime ls is e rs x
+      (sym (left.0 ∙ (λ j. close_planned ps cs a.packet (sent j) body)) ∙ refused))
+
+  pub close_sent : (l : List ReservationUsage) (i i₁ i' : List InflightAction) (source e rs out out' : List ℕ)
+      (r : Relayed) (m : Outgoing) (h : OpaqueRelayRuntime) (t : RelayState)
+      → a.peer ≡ peer_of source → closed ≡ Ok m
+      → h ≡ with_counters a.state.runtime (count_revoked a.state.runtime.counters)
+      → (t.runtime ≡ h) × (t.places ≡ a.state.places)
+      → held_actions a.state.places i₁ ≡ dropped (action_under m.circuit_id) (held_actions a.state.places i)
+      → ((p : List RelayPending) (c : List RelayCircuit) (l : List ReservationUsage)
+      → handed_seen r p c l i' out' ≡ ending out (send (state_seen t p c l i₁) (message_of m body)))
+      → handed_seen r p' c' l i' out'
+      ≡ ending out (handle_close (world_given a p c l i) (packet_of a.packet source body e rs))
+  close_sent l i i₁ i' source e rs out out' r m h t sent taken revoked counted actions over =
+      let s = a.state in
+      let ps = held_pending s.places p in
+      let cs = held_circuits s.places c in
+      let ls = held_ledger s.places l in
+      let is = held_actions s.places i in
+      let pending = left.1 ∙ (λ j. pending_closed (taken j) a.packet (sent j) ps) in
+      let circuits = left.2 ∙ (λ j. circuits_closed (taken j) a.packet (sent j) ps cs) in
+      over p' c' l
+      ∙ (λ j. ending out (send (world_seen ((counted.0 ∙ revoked) j) (counted.1 j) p' c' l i₁) (message_of m body)))
+      ∙ (λ j. ending out (send (world_of (with_counters s.runtime (count_revoked s.runtime.counters)) (pending j)
+      (circuits j) ls (actions j)) (message_of m body)))
+      ∙ ap (ending out)
+      (close_handled ps cs a.packet source body s.runtime ls is e rs m
+      (sym (left.0 ∙ (λ j. close_planned ps cs a.packet (sent j) body)) ∙ taken))

@@ -5,20 +5,22 @@ use Rattle.std.proofs.Common.{not-suc-le-zero, le_of_suc-le-suc, add-one, arith,
 use Rattle.std.proofs.Common.{ltb-false, leb-true, leb-false}
 use Rattle.std.specs.Prelude.{◌≡◌, Bool, true, false, cond, ◌||◌, leb, ltb, length, take, drop, get_or, set}
 use Rattle.std.proofs.Math.Path.{refl, ap}
-use mathlib.Core.List.{List, [], ◌∷◌, ◌++◌, map}
-use Rattle.std.specs.Option.{MatchOption, unwrap_or}
+use mathlib.Core.List.{List, [], ◌∷◌, ◌++◌, map, reverse}
+use Rattle.std.specs.Option.{MatchOption, IfSome, option_or, unwrap_or}
 use Rattle.std.specs.Prelude.{Option, None, Some}
 use Rattle.std.specs.List.{AllWithin, HoldsAt, filter}
 use Rattle.std.proofs.lemmas.Iterator.{index_from_first}
-use Rattle.std.proofs.lemmas.List.{take_min}
+use Rattle.std.proofs.lemmas.List.{take_min, get_or_past, set_past, get_or-reverse, get_or-take, length-take}
+use Rattle.std.proofs.lemmas.List.{length-reverse}
 use Rattle.std.proofs.Common.{drop_of_length-le}
 use Rattle.hns_encoding.specs.Laws.Tests.{split}
-use Rattle.hns_encoding.specs.Loops.{fold_from, fold_done}
-use Rattle.hns_encoding.specs.Sums.{one, non, total, count}
-use Rattle.hnsr_circuit.specs.Table.{any, place_of, pick, cleared, clear, next_turn}
+use Rattle.hns_encoding.specs.Loops.{fold_from, fold_done, map-done, in_range}
+use Rattle.hns_encoding.specs.Sums.{one, total, count}
+use Rattle.hnsr_circuit.specs.Table.{any, place_of, place_in, pick, cleared, clear, next_turn}
 use Rattle.hnsr_circuit.specs.declared.tables.scan.Walked.{Walked}
 use Rattle.hnsr_circuit.specs.Code.Held.{held, raised_to}
-use Rattle.hnsr_circuit.specs.Laws.Scans.{set_past}
+use Rattle.hnsr_circuit.specs.Laws.Scans.{fold_turn}
+use Rattle.hnsr_circuit.specs.Laws.Lookups.{place_found, pick_at, any-below, any-past}
 
 module _ {A : Type 0} (unmark : A → A) where
   -- ---- what stands where
@@ -73,16 +75,17 @@ module _ {A : Type 0} (unmark : A → A) where
   place_upto p on (suc n) (x ∷ xs) =
       split (p x) (λ e. rw e (omega arith)) (λ e. rw e (let z = place_upto p on n xs in omega arith))
 
-  -- so a record is put at the number at most
-  pub put_upto : (used p : A → Bool) → ((a : A) → p (unmark a) ≡ false) → ((a : A) → non used (unmark a) ≡ true)
-      → (n : ℕ) (t : List A)
-      → cond (any p (held unmark n t)) (place_of p (held unmark n t)) (place_of (non used) (held unmark n t)) < length t
-      → cond (any p (held unmark n t)) (place_of p (held unmark n t)) (place_of (non used) (held unmark n t)) ≤ n
-  put_upto used p off on n t = split (any p (held unmark n t))
-      (λ f. rw f (λ l. let z = place-below p off n t l in omega arith))
-      (λ f. rw f (λ l. place_upto (non used) on n t))
-
   -- ---- a lookup among the first places, by what `position` says of them
+  pub any-unmarked : (p : A → Bool) → ((a : A) → p (unmark a) ≡ false) → (t : List A) → any p (map unmark t) ≡ false
+  any-unmarked p off [] = refl
+  any-unmarked p off (x ∷ xs) = rw (off x) (any-unmarked p off xs)
+
+  pub any_held : (p : A → Bool) → ((a : A) → p (unmark a) ≡ false) → (n : ℕ) (t : List A)
+      → any p (held unmark n t) ≡ any p (take n t)
+  any_held p off zero t = ap (any p) (held_none t) ∙ any-unmarked p off t
+  any_held p off (suc n) [] = refl
+  any_held p off (suc n) (x ∷ xs) = ap (λ (b : Bool). p x || b) (any_held p off n xs)
+
   place-taken : (p : A → Bool) (n : ℕ) (t : List A) → place_of p (take n t) < length (take n t)
       → place_of p (held unmark n t) ≡ place_of p (take n t)
   place-taken p zero t l = absurd (not-suc-le-zero l)
@@ -107,15 +110,60 @@ module _ {A : Type 0} (unmark : A → A) where
       index_from_first (place_of p) (λ x. p x ≡ true) (λ x. p x ≡ false) refl (λ x ys e. rw e)
       (λ x ys e. rw (e, add-one)) xs r h
 
+  place-in : (p : A → Bool) → ((a : A) → p (unmark a) ≡ false) → (n : ℕ) (t : List A)
+      → place_in p (take n t) ≡ place_in p (held unmark n t)
+  place-in p off n t = split (any p (take n t))
+      (λ e. rw (any_held p off n t, e, place-taken p n t (place_found p (take n t) e)))
+      (λ e. rw (any_held p off n t, e))
+
+  pub found_below : (p : A → Bool) → ((a : A) → p (unmark a) ≡ false) → (n : ℕ) (t : List A)
+      → any p (held unmark n t) ≡ true → place_of p (held unmark n t) < n
+  found_below p off n t h = place-below p off n t (rw (length-held n t) at (place_found p (held unmark n t) h))
+
+  -- so a record is put at the number at most: at the place that a lookup of p finds, else at the first with u
+  pub put_upto : (p u : A → Bool) → ((a : A) → p (unmark a) ≡ false) → ((a : A) → u (unmark a) ≡ true)
+      → (n : ℕ) (t : List A)
+      → IfSome (option_or (place_in p (held unmark n t)) (place_in u (held unmark n t))) (λ place. place ≤ n)
+  put_upto p u off on n t = split (any p (held unmark n t))
+      (λ f. rw f (let z = found_below p off n t f in omega arith))
+      (λ f. rw f (split (any u (held unmark n t)) (λ g. rw g (place_upto u on n t)) (λ g. rw g tt)))
+
+  -- what is found stands below the number, so that it is what the table holds
+  pub found_row : (p : A → Bool) (d : A) → ((a : A) → p (unmark a) ≡ false) → (n : ℕ) (t : List A) (x : A)
+      → any p (held unmark n t) ≡ true → x ≡ get_or t (place_of p (held unmark n t)) x
+      → pick p d (held unmark n t) ≡ x
+  found_row p d off n t x h e =
+      let u = held unmark n t in
+      let i = place_of p u in
+      let l : i < length t = rw (length-held n t) at (place_found p u h) in
+      sym (pick_at p d u) ∙ held_at n t i d (found_below p off n t h) ∙ in_range t i d x l ∙ sym e
+
+  pub found_within : (p : A → Bool) → ((a : A) → p (unmark a) ≡ false) → (n : ℕ) (t : List A) (r : Option ℕ)
+      → r ≡ place_in p (held unmark n t) → IfSome r (λ place. (place < n) × (place < length t))
+  found_within p off n t r e =
+      rw e
+      (split (any p (held unmark n t))
+      (λ f. rw f (found_below p off n t f, rw (length-held n t) at (place_found p (held unmark n t) f)))
+      (λ f. rw f tt))
+
   pub found_held : (p : A → Bool) → ((a : A) → p (unmark a) ≡ false) → (n : ℕ) (t : List A) (r : Option ℕ)
       → MatchOption r (AllWithin (λ x. p x ≡ false) (take n t) 0 (length (take n t)))
       (λ i. (i < length (take n t)) × HoldsAt (λ x. p x ≡ true) (take n t) i
       × AllWithin (λ x. p x ≡ false) (take n t) 0 i)
-      → unwrap_or r (length t) ≡ place_of p (held unmark n t)
-  found_held p off n t None h = sym (place-past p off n t (place_first p (take n t) None h))
-  found_held p off n t (Some i) h =
-      let e = place_first p (take n t) (Some i) h in
-      sym (place-taken p n t (rw e h.0) ∙ e)
+      → r ≡ place_in p (held unmark n t)
+  found_held p off n t r h = in_first r h ∙ place-in p off n t
+    where
+      in_first : (r : Option ℕ)
+          → MatchOption r (AllWithin (λ x. p x ≡ false) (take n t) 0 (length (take n t)))
+          (λ i. (i < length (take n t)) × HoldsAt (λ x. p x ≡ true) (take n t) i
+          × AllWithin (λ x. p x ≡ false) (take n t) 0 i)
+          → r ≡ place_in p (take n t)
+      in_first None h =
+          let e = place_first p (take n t) None h in
+          rw (any-past p (take n t) e)
+      in_first (Some i) h =
+          let e = place_first p (take n t) (Some i) h in
+          rw (any-below p (take n t) (rw e h.0), e)
 
   -- a question of unused records stops at the number at most
   place-on : (p : A → Bool) → ((a : A) → p (unmark a) ≡ true) → (n : ℕ) (t : List A)
@@ -156,7 +204,8 @@ module _ {A : Type 0} (unmark : A → A) where
         ∙ sym (fold_held n t 0 b₀)
 
   -- a walk takes no unmarked record
-  pub next-idle : (id_of : A → ℕ) (p : A → Bool) → ((a : A) → p (unmark a) ≡ false) → (c best : Walked) (a : A) (i : ℕ)
+  pub next-idle : (id_of : A → ℕ) (p : A → Bool) → ((a : A) → p (unmark a) ≡ false)
+      → (c best : Option Walked) (a : A) (i : ℕ)
       → next_turn id_of p c best (unmark a) i ≡ best
   next-idle id_of p off c best a i = rw (off a)
 
@@ -189,16 +238,6 @@ module _ {A : Type 0} (unmark : A → A) where
       z ∙ ap (count p) e ∙ sym (total-held (one p) (λ a. rw (off a)) n t)
 
   -- ---- lookups over the first places alone
-  pub any-unmarked : (p : A → Bool) → ((a : A) → p (unmark a) ≡ false) → (t : List A) → any p (map unmark t) ≡ false
-  any-unmarked p off [] = refl
-  any-unmarked p off (x ∷ xs) = rw (off x) (any-unmarked p off xs)
-
-  pub any_held : (p : A → Bool) → ((a : A) → p (unmark a) ≡ false) → (n : ℕ) (t : List A)
-      → any p (held unmark n t) ≡ any p (take n t)
-  any_held p off zero t = ap (any p) (held_none t) ∙ any-unmarked p off t
-  any_held p off (suc n) [] = refl
-  any_held p off (suc n) (x ∷ xs) = ap (λ (b : Bool). p x || b) (any_held p off n xs)
-
   pub pick-held : (p : A → Bool) (d : A) → ((a : A) → p (unmark a) ≡ false) → (n : ℕ) (t : List A)
       → pick p d (held unmark n t) ≡ pick p d (take n t)
   pick-held p d off n [] = split-nil n
@@ -224,84 +263,48 @@ module _ {A : Type 0} (unmark : A → A) where
   held_next zero (y ∷ ys) x = refl
   held_next (suc n) (y ∷ ys) x = ap {B = List A} (λ (r : List A). y ∷ r) (held_next n ys x)
 
-  -- a store that is to be done, below the number or past the end
-  pub stored-held : (n : ℕ) (t t' : List A) (go : Bool) (i : ℕ) (x : A) → (i < length t → i < n)
-      → t' ≡ cond go (set t i x) t
-      → held unmark n t' ≡ cond go (set (held unmark n t) i x) (held unmark n t)
-  stored-held n t t' go i x l e = split go
-      (λ g. rw g (rw g at (ap (held unmark n) e) ∙ split (ltb i (length t))
-      (λ h. held-set n t i x (l (ltb-true i (length t) h)))
-      (λ h. let k = ltb-false i (length t) h in
-      ap (held unmark n) (set_past t i x k) ∙ sym (set_past (held unmark n t) i x (rw (length-held n t) k)))))
-      (λ g. rw g (rw g at (ap (held unmark n) e)))
-
   -- a store of a record that is its own clearing, where it is done at or past the number
-  pub seen-set : (n : ℕ) (t : List A) (i : ℕ) (x : A) → (n ≤ i → unmark x ≡ x)
+  pub seen_set : (n : ℕ) (t : List A) (i : ℕ) (x : A) → (n ≤ i → unmark x ≡ x)
       → held unmark n (set t i x) ≡ set (held unmark n t) i x
-  seen-set n [] i x s = refl
-  seen-set zero (y ∷ ys) zero x s = ap {B = List A} (λ (a : A). a ∷ held unmark zero ys) (s (omega arith))
-  seen-set zero (y ∷ ys) (suc i) x s =
-      ap {B = List A} (λ (r : List A). unmark y ∷ r) (seen-set zero ys i x (λ h. s (omega arith)))
-  seen-set (suc n) (y ∷ ys) zero x s = refl
-  seen-set (suc n) (y ∷ ys) (suc i) x s =
-      ap {B = List A} (λ (r : List A). y ∷ r) (seen-set n ys i x (λ h. s (omega arith)))
-
-  pub stored-seen : (n : ℕ) (t t' : List A) (go : Bool) (i : ℕ) (x : A) → (n ≤ i → unmark x ≡ x)
-      → t' ≡ cond go (set t i x) t
-      → held unmark n t' ≡ cond go (set (held unmark n t) i x) (held unmark n t)
-  stored-seen n t t' go i x s e = split go
-      (λ g. rw g (rw g at (ap (held unmark n) e) ∙ seen-set n t i x s))
-      (λ g. rw g (rw g at (ap (held unmark n) e)))
+  seen_set n [] i x s = refl
+  seen_set zero (y ∷ ys) zero x s = ap {B = List A} (λ (a : A). a ∷ held unmark zero ys) (s (omega arith))
+  seen_set zero (y ∷ ys) (suc i) x s =
+      ap {B = List A} (λ (r : List A). unmark y ∷ r) (seen_set zero ys i x (λ h. s (omega arith)))
+  seen_set (suc n) (y ∷ ys) zero x s = refl
+  seen_set (suc n) (y ∷ ys) (suc i) x s =
+      ap {B = List A} (λ (r : List A). y ∷ r) (seen_set n ys i x (λ h. s (omega arith)))
 
   -- a record's mark cleared where it stands
-  pub unmarked_held : ((a : A) → unmark (unmark a) ≡ unmark a) → (n : ℕ) (t t' : List A) (go : Bool) (i : ℕ) (d x y : A)
-      → x ≡ get_or (held unmark n t) i d → y ≡ unmark x → t' ≡ cond go (set t i y) t
-      → held unmark n t' ≡ cond go (set (held unmark n t) i (unmark (get_or (held unmark n t) i d))) (held unmark n t)
-  unmarked_held twice n t t' go i d x y e f h =
-      stored-seen n t t' go i y (λ l. ap unmark f ∙ twice x ∙ sym f) h
-      ∙ ap (λ (z : A). cond go (set (held unmark n t) i z) (held unmark n t)) (f ∙ ap unmark e)
+  pub unmarked_held : ((a : A) → unmark (unmark a) ≡ unmark a) → (n : ℕ) (t : List A) (i : ℕ) (d : A)
+      → held unmark n (set t i (unmark (get_or (held unmark n t) i d)))
+      ≡ set (held unmark n t) i (unmark (get_or (held unmark n t) i d))
+  unmarked_held twice n t i d = seen_set n t i (unmark (get_or (held unmark n t) i d)) (λ l. twice _)
 
-  -- at or past the number no record is used
-  pub held_spare : (used : A → Bool) → ((a : A) → used (unmark a) ≡ false) → (n : ℕ) (t : List A) (i : ℕ) (d : A)
-      → used d ≡ false → n ≤ i
-      → used (get_or (held unmark n t) i d) ≡ false
-  held_spare used off n [] i d e l = e
-  held_spare used off zero (x ∷ xs) zero d e l = off x
-  held_spare used off zero (x ∷ xs) (suc i) d e l = held_spare used off zero xs i d e (omega arith)
-  held_spare used off (suc n) (x ∷ xs) zero d e l = absurd (not-suc-le-zero l)
-  held_spare used off (suc n) (x ∷ xs) (suc i) d e l = held_spare used off n xs i d e (le_of_suc-le-suc l)
+  -- past the end
+  pub set_beyond : (n : ℕ) (t : List A) (i : ℕ) (x : A) → length t ≤ i → set (held unmark n t) i x ≡ held unmark n t
+  set_beyond n t i x l = set_past (held unmark n t) i x (rw length-held l)
 
-  -- a record changed in place, below the number or past the end
-  pub edited_held : (n : ℕ) (t t' : List A) (go : Bool) (i : ℕ) (d : A) (f : A → A) → (i < length t → i < n)
-      → t' ≡ cond go (set t i (f (get_or t i d))) t
-      → held unmark n t' ≡ cond go (set (held unmark n t) i (f (get_or (held unmark n t) i d))) (held unmark n t)
-  edited_held n t t' go i d f l e =
-      stored-held n t t' go i (f (get_or t i d)) l e ∙ ap (λ (u : List A). cond go u (held unmark n t)) same
-    where
-      same : set (held unmark n t) i (f (get_or t i d)) ≡ set (held unmark n t) i (f (get_or (held unmark n t) i d))
-      same = split (ltb i (length t))
-          (λ h. ap (λ (a : A). set (held unmark n t) i (f a)) (sym (held_at n t i d (l (ltb-true i (length t) h)))))
-          (λ h. let k : length (held unmark n t) ≤ i = rw (length-held n t) (ltb-false i (length t) h) in
-          set_past (held unmark n t) i (f (get_or t i d)) k
-          ∙ sym (set_past (held unmark n t) i (f (get_or (held unmark n t) i d)) k))
+  -- a record changed in place, by what has no regard to its mark
+  pub changed_held : (f : A → A) → ((a : A) → unmark (f a) ≡ f (unmark a)) → (n : ℕ) (t : List A) (i : ℕ) (d : A)
+      → held unmark n (set t i (f (get_or t i d))) ≡ set (held unmark n t) i (f (get_or (held unmark n t) i d))
+  changed_held f same n [] i d = refl
+  changed_held f same zero (x ∷ xs) zero d = ap {B = List A} (λ (a : A). a ∷ held unmark zero xs) (same x)
+  changed_held f same zero (x ∷ xs) (suc i) d =
+      ap {B = List A} (λ (r : List A). unmark x ∷ r) (changed_held f same zero xs i d)
+  changed_held f same (suc n) (x ∷ xs) zero d = refl
+  changed_held f same (suc n) (x ∷ xs) (suc i) d =
+      ap {B = List A} (λ (r : List A). x ∷ r) (changed_held f same n xs i d)
 
   -- one at the number at most, which raises it
-  pub put-held : (n : ℕ) (t t' : List A) (go : Bool) (i : ℕ) (x : A) (n' : ℕ) → (i < length t → i ≤ n)
-      → t' ≡ cond go (set t i x) t
-      → n' ≡ raised_to go n i (length t) → held unmark n' t' ≡ cond go (set (held unmark n t) i x) (held unmark n t)
-  put-held n t t' go i x n' l e f = (λ j. held unmark (f j) (e j)) ∙ cases go
-    where
-      cases : (go : Bool)
-          → held unmark (raised_to go n i (length t)) (cond go (set t i x) t)
-          ≡ cond go (set (held unmark n t) i x) (held unmark n t)
-      cases false = refl
-      cases true = split (ltb i (length t))
-          (λ h. split (leb n i)
-          (λ k. rw (h, k) (let z : n ≡ i = omega (arith, l (ltb-true i (length t) h), leb-true n i k) in
-          rw (← z, add-one) (held_next n t x)))
-          (λ k. rw (h, k) (held-set n t i x (leb-false n i k))))
-          (λ h. let k = ltb-false i (length t) h in
-          rw h (ap (held unmark n) (set_past t i x k) ∙ sym (set_past (held unmark n t) i x (rw (length-held n t) k))))
+  pub put_held : (n : ℕ) (t : List A) (i : ℕ) (x : A) → (i < length t → i ≤ n)
+      → held unmark (raised_to n i (length t)) (set t i x) ≡ set (held unmark n t) i x
+  put_held n t i x l = split (ltb i (length t))
+      (λ h. split (leb n i)
+      (λ k. rw (h, k) (let z : n ≡ i = omega (arith, l (ltb-true i (length t) h), leb-true n i k) in
+      rw (← z, add-one) (held_next n t x)))
+      (λ k. rw (h, k) (held-set n t i x (leb-false n i k))))
+      (λ h. let k = ltb-false i (length t) h in
+      rw h (ap (held unmark n) (set_past t i x k) ∙ sym (set_past (held unmark n t) i x (rw (length-held n t) k))))
 
   -- the number may as well stop at the end
   pub held-min : (n : ℕ) (t : List A) → held unmark (min n (length t)) t ≡ held unmark n t
@@ -310,17 +313,6 @@ module _ {A : Type 0} (unmark : A → A) where
       (λ e. let k = leb-false n (length t) e in
       let z : min n (length t) ≡ length t = omega arith in
       rw z (held_all (length t) t (omega arith) ∙ sym (held_all n t (omega arith))))
-
-  -- of a record's cleared mark, at or past the number: nothing is seen
-  pub held_unset : (n : ℕ) (t : List A) (i : ℕ) (d : A) → ((a : A) → unmark (unmark a) ≡ unmark a) → n ≤ i
-      → held unmark n (set t i (unmark (get_or t i d))) ≡ held unmark n t
-  held_unset n [] i d twice l = refl
-  held_unset zero (y ∷ ys) zero d twice l = ap {B = List A} (λ (a : A). a ∷ held unmark zero ys) (twice y)
-  held_unset zero (y ∷ ys) (suc i) d twice l =
-      ap {B = List A} (λ (r : List A). unmark y ∷ r) (held_unset zero ys i d twice (omega arith))
-  held_unset (suc n) (y ∷ ys) zero d twice l = absurd (not-suc-le-zero l)
-  held_unset (suc n) (y ∷ ys) (suc i) d twice l =
-      ap {B = List A} (λ (r : List A). y ∷ r) (held_unset n ys i d twice (le_of_suc-le-suc l))
 
   -- ---- the end of a clearing: what is left has no mark to clear
   clear-unmarked : (p : A → Bool) → ((a : A) → unmark (unmark a) ≡ unmark a) → (t : List A)
@@ -388,21 +380,50 @@ module _ {A : Type 0} (unmark : A → A) where
         ∙ ap (λ (s : List A). ended (fold_from f s 0 b₀) (length s) (length t)) e
         ∙ scan_held n t 0 b₀ (length t) (length (take n t)) (omega arith) (omega arith)
 
-  -- ---- the number lowered past an unused place, or one past the end
+  -- ---- the number lowered past unused places, or places past the end
   module _ (used : A → Bool) (still : (a : A) → used a ≡ false → unmark a ≡ a) where
-    pub held-lower : (n : ℕ) (t : List A) (d : A) → (n < length t → used (get_or t n d) ≡ false)
-        → held unmark n t ≡ held unmark (suc n) t
-    held-lower n [] d h = refl
-    held-lower zero (x ∷ xs) d h = λ j. still x (h (omega arith)) j ∷ held unmark zero xs
-    held-lower (suc n) (x ∷ xs) d h = ap {B = List A} (λ (r : List A). x ∷ r) (held-lower n xs d (λ l. h (omega arith)))
+    lower-past : (m n : ℕ) (t : List A) → m ≤ n
+        → ((j : ℕ) (d : A) → m ≤ j → j < n → j < length t → used (get_or t j d) ≡ false)
+        → held unmark m t ≡ held unmark n t
+    lower-past m n [] l h = refl
+    lower-past zero zero (x ∷ xs) l h = refl
+    lower-past zero (suc n) (x ∷ xs) l h =
+        λ i. still x (h 0 x (omega arith) (omega arith) (omega arith)) i
+        ∷ lower-past zero n xs (omega arith) (λ j d a b c. h (suc j) d (omega arith) (omega arith) (omega arith)) i
+    lower-past (suc m) zero (x ∷ xs) l h = absurd (not-suc-le-zero l)
+    lower-past (suc m) (suc n) (x ∷ xs) l h =
+        ap {B = List A} (λ (r : List A). x ∷ r)
+        (lower-past m n xs (le_of_suc-le-suc l)
+        (λ j d a b c. h (suc j) d (omega arith) (omega arith) (omega arith)))
 
-    -- one turn of the lowering
-    pub lower-step : (n : ℕ) (t : List A) (d : A) (r : List A) → 0 < n → used (get_or t (n - 1) d) ≡ false
-        → held unmark n t ≡ r → held unmark (n - 1) t ≡ r
-    lower-step zero t d r l u h = absurd (not-suc-le-zero l)
-    lower-step (suc n) t d r l u h =
-        let z : suc n - 1 ≡ n = omega arith in
-        rw z (held-lower n t d (λ k. rw z at u) ∙ h)
+    -- as many as `position` finds from the end on
+    pub lowered : (n : ℕ) (t : List A) (r : Option ℕ)
+        → MatchOption r (AllWithin (λ x. used x ≡ false) (reverse (take n t)) 0 (length (reverse (take n t))))
+        (λ i. (i < length (reverse (take n t))) × HoldsAt (λ x. used x ≡ true) (reverse (take n t)) i
+        × AllWithin (λ x. used x ≡ false) (reverse (take n t)) 0 i)
+        → held unmark (length (take n t) - unwrap_or r (length (take n t))) t ≡ held unmark n t
+    lowered n t r h =
+        let s = take n t in
+        let k = unwrap_or r (length s) in
+        let last = unused r h in
+        lower-past (length s - k) n t (omega (arith, length-take n t)) (λ j d a b c.
+        let l : j < length s = omega (arith, length-take n t) in
+        let back : length s - 1 - j < length s = omega arith in
+        let same : length s - 1 - (length s - 1 - j) ≡ j = omega arith in
+        let there = last (length s - 1 - j) d (omega arith) (omega arith) in
+        let at : get_or (reverse s) (length s - 1 - j) d ≡ get_or t j d =
+        get_or-reverse s (length s - 1 - j) d back
+        ∙ ap (λ (i : ℕ). get_or s i d) same
+        ∙ get_or-take n t j d b in
+        ap used (sym at) ∙ there)
+      where
+        unused : (r : Option ℕ)
+            → MatchOption r (AllWithin (λ x. used x ≡ false) (reverse (take n t)) 0 (length (reverse (take n t))))
+            (λ i. (i < length (reverse (take n t))) × HoldsAt (λ x. used x ≡ true) (reverse (take n t)) i
+            × AllWithin (λ x. used x ≡ false) (reverse (take n t)) 0 i)
+            → AllWithin (λ x. used x ≡ false) (reverse (take n t)) 0 (unwrap_or r (length (take n t)))
+        unused None h = rw length-reverse at h
+        unused (Some i) h = h.2
 
     -- all marks cleared, as `new` does
     pub held-cleared : (t : List A) → held unmark 0 t ≡ clear unmark used t
@@ -411,3 +432,11 @@ module _ {A : Type 0} (unmark : A → A) where
       where
         one-cleared : unmark x ≡ cleared unmark used x
         one-cleared = split (used x) (λ e. rw e) (λ e. rw e (still x e))
+
+-- what stands where, for a tactic
+pub ruleset held_laws = (length-held, held_at, held-past, held-min, get_or_past)
+
+-- the end of a clearing; a turn of a scan, and its end
+pub ruleset clear_laws = (map-done, cleared_held)
+
+pub ruleset scan_laws = (fold_turn, fold_seen)

@@ -1,13 +1,15 @@
 -- Laws of lookups, over any record type: what is found and where, what a lookup says of a count, lookups after `set`
 -- and `map`, two tests at once.
 use Rattle.std.specs.Prelude.{ℕ, zero, suc, ◌≤◌, ◌<◌, ◌≡◌, refl, Bool, true}
-use Rattle.std.specs.Prelude.{false, List, [], ◌∷◌, map, ltb, length, get_or, set}
+use Rattle.std.specs.Prelude.{Option, None, Some, false, List, [], ◌∷◌, map, ltb, length, get_or, set}
 use Rattle.std.proofs.Common.{not-suc-le-zero, le_of_suc-le-suc, arith, sym, ap, ◌∙◌, true≢false, lt-ltb, le-ltb}
 use Rattle.std.proofs.lemmas.Bool.{false≢true}
 use Rattle.std.proofs.Math.Bool.{or-true}
 use Rattle.hns_encoding.specs.Laws.Tests.{split, clash}
 use Rattle.hns_encoding.specs.Sums.{only, one, total, count}
-use Rattle.hnsr_circuit.specs.Table.{also, place_of, any, pick}
+use Rattle.hnsr_circuit.specs.Table.{also, place_of, place_in, any, pick}
+use Rattle.hnsr_circuit.specs.declared.tables.lookup.Found.{Found}
+use Rattle.hnsr_circuit.specs.Code.Lookup.{looked_up}
 use Rattle.hnsr_circuit.specs.Laws.Totals.{total-none, total-also}
 
 module _ {A : Type 0} where
@@ -27,9 +29,38 @@ module _ {A : Type 0} where
       (λ e. lt-ltb (place_of p t) (length t) (place_found p t e) ∙ sym e)
       (λ e. le-ltb (place_of p t) (length t) (let k = place_none p t e in omega arith) ∙ sym e)
 
+  pub any-below : (p : A → Bool) (t : List A) → place_of p t < length t → any p t ≡ true
+  any-below p t l = sym (place-any p t) ∙ lt-ltb (place_of p t) (length t) l
+
+  pub any-past : (p : A → Bool) (t : List A) → place_of p t ≡ length t → any p t ≡ false
+  any-past p t e = sym (place-any p t) ∙ le-ltb (place_of p t) (length t) (omega arith)
+
+  -- the place that a lookup finds
+  pub place_is : (p : A → Bool) (t : List A) (i : ℕ) → place_in p t ≡ Some i → (any p t ≡ true) × (place_of p t ≡ i)
+  place_is p t i h = split (any p t)
+      (λ e. let k = rw e at h in (e, cc))
+      (λ e. let k = rw e at h in cc)
+
+  pub place_misses : (p : A → Bool) (t : List A) → place_in p t ≡ None → any p t ≡ false
+  place_misses p t h = split (any p t) (λ e. let k = rw e at h in cc) (λ e. e)
+
   pub pick_at : (p : A → Bool) (d : A) (t : List A) → get_or t (place_of p t) d ≡ pick p d t
   pick_at p d [] = refl
   pick_at p d (x ∷ xs) = split (p x) (λ e. rw e) (λ e. rw e (pick_at p d xs))
+
+  -- what a lookup gives
+  pub found_is : (p : A → Bool) (d : A) (t : List A) (f : Found A) → looked_up d p t ≡ Some f
+      → (any p t ≡ true) × (f.place ≡ place_of p t) × (f.row ≡ pick p d t)
+  found_is p d t f h = split (any p t)
+      (λ e. let k : Some (record { place = place_of p t; row = pick p d t }) ≡ Some f = rw e at h in (e, cc, cc))
+      (λ e. let k : ◌≡◌ {A = Option (Found A)} None (Some f) = rw e at h in cc)
+
+  pub not_found : (p : A → Bool) (d : A) (t : List A) → looked_up d p t ≡ None → any p t ≡ false
+  not_found p d t h = split (any p t)
+      (λ e. let k : ◌≡◌ {A = Option (Found A)} (Some (record { place = place_of p t; row = pick p d t })) None =
+      rw e at h in
+      cc)
+      (λ e. e)
 
   pub pick-has : (p : A → Bool) (d : A) (t : List A) → any p t ≡ true → p (pick p d t) ≡ true
   pick-has p d [] h = absurd (false≢true h)

@@ -1,77 +1,85 @@
 -- What the code of ACCEPT and OPEN writes where it goes on is the definition's world, while a refusal leaves everything
 -- as it was.
-use Rattle.std.specs.Prelude.{ℕ, suc, ◌+◌, ◌-◌, ◌/◌, ◌≤◌, ◌<◌, ◌≡◌, Bool, true, false, cond, Ok, Err}
+use Rattle.std.specs.Prelude.{ℕ, zero, suc, ◌+◌, ◌*◌, ◌/◌, ◌≤◌, ◌<◌, ◌≡◌, Bool, true, false, cond, Result, Ok, Err}
 use Rattle.std.specs.Prelude.{not, ◌&&◌, Option, Some, None, is_none, unwrap_or, ◌≢◌}
-use Rattle.std.specs.Prelude.{eqb, ltb, leb, length, take, drop, set}
+use Rattle.std.specs.Option.{ok_or, option_map}
+use Rattle.std.specs.Result.{result_and}
+use Rattle.std.specs.Prelude.{eqb, ltb, leb, length, take, drop, set, get_or}
 use Rattle.std.proofs.Common.{arith, ◌∙◌, true≢false, eqb-true, eq-eqb, ne_eqb, lt-ltb}
-use Rattle.std.proofs.Common.{le-ltb, le-leb, ltb-true, ltb-false, leb-true, leb-false}
+use Rattle.std.proofs.Common.{drop_of_length-le, le-ltb, le-leb, ltb-true, ltb-false, leb-true, leb-false}
 use Rattle.std.proofs.Math.Path.{refl, sym, ap}
 use Rattle.std.proofs.lemmas.Bool.{lt-leb}
-use mathlib.Core.List.{List, [], ◌∷◌}
-use Rattle.std.proofs.Math.ListN.{length-drop}
-use Rattle.hns_encoding.specs.Numbers.{top, saturating_add}
+use mathlib.Core.List.{List, [], ◌∷◌, map}
+use Rattle.std.specs.Simd.{first_chunks}
+use Rattle.std.proofs.lemmas.List.{at_drop_more}
+use Rattle.std.proofs.Math.ListN.{length-take, length-drop}
+use Rattle.hns_encoding.specs.Numbers.{saturating_add}
 use Rattle.hns_encoding.specs.Bytes.{be, be_from}
 use Rattle.std.specs.Int.{w64, from_be_bytes}
 use Rattle.hns_encoding.specs.Sums.{non, count}
-use Rattle.hns_encoding.specs.Laws.Tests.{split, choose, both, neither, cond_map}
-use Rattle.hnsr_body.specs.declared.layout.Read.{Read}
+use Rattle.hns_encoding.specs.Laws.Tests.{split, choose, both, neither}
 use Rattle.hnsr_body.specs.declared.accept_body.AcceptBody.{AcceptBody}
-use Rattle.hnsr_body.specs.Accept.{decode_accept, accept_fields, opened_bytes}
-use Rattle.hnsr_body.specs.declared.incoming_body.IncomingBody.{IncomingBody}
+use Rattle.hnsr_body.specs.declared.layout.Read.{Read}
+use Rattle.hnsr_body.specs.Accept.{decode_accept, opened_bytes}
 use Rattle.hnsr_body.specs.Open.{decode_open, open_fields}
 use Rattle.hnsr_body.specs.Incoming.{incoming_bytes}
+use Rattle.hnsr_circuit.specs.declared.runtime.RelayPacket.{RelayPacket}
+use Rattle.hnsr_circuit.specs.declared.runtime.Request.{Request}
 use Rattle.hnsr_circuit.specs.declared.runtime.Relayed.{Relayed}
-use Rattle.hnsr_circuit.specs.Code.Opening.{put_place, accept_rows, accept_work, accept_plan, is_taken, gathering}
-use Rattle.hnsr_circuit.specs.Code.Opening.{open_rows, open_plan, opening_of, incoming_out, placed_entry, placed_rows}
-use Rattle.hnsr_circuit.specs.Laws.Calls.{turned_away, gone-on}
-use Rattle.hnsr_circuit.specs.declared.messages.accept.AcceptPlan.{AcceptPlan}
+use Rattle.hnsr_circuit.specs.declared.runtime.RelayState.{RelayState}
+use Rattle.hnsr_circuit.specs.declared.runtime.OpaqueRelayRuntime.{OpaqueRelayRuntime}
+use Rattle.hnsr_circuit.specs.declared.answer.HnsrRuntimeError.{HnsrRuntimeError}
+use Rattle.hnsr_circuit.specs.declared.answer.HnsrRuntimeError.TheVariants.{UnknownRequest, Randomness, LedgerFull}
 use Rattle.hnsr_circuit.specs.declared.messages.open.OpenGathered.{OpenGathered}
 use Rattle.hnsr_circuit.specs.declared.messages.open.OpenPlan.{OpenPlan}
-use Rattle.hnsr_circuit.specs.declared.config.OpaqueRelayConfig.{OpaqueRelayConfig}
+use Rattle.hnsr_circuit.specs.declared.peer.HnsrPeerId.{HnsrPeerId}
 use Rattle.hnsr_circuit.specs.declared.records.RelayTicket.{RelayTicket}
 use Rattle.hnsr_circuit.specs.declared.records.RelayPending.{RelayPending}
 use Rattle.hnsr_circuit.specs.declared.records.RelayCircuit.{RelayCircuit}
 use Rattle.hnsr_circuit.specs.declared.records.ReservationUsage.{ReservationUsage}
 use Rattle.hnsr_circuit.specs.declared.records.InflightAction.{InflightAction}
-use Rattle.hnsr_circuit.specs.declared.tables.lookup.Found.{Found}
-use Rattle.hnsr_circuit.specs.declared.tables.scan.LedgerScan.{LedgerScan}
-use Rattle.hnsr_circuit.specs.declared.tables.scan.ActionScan.{ActionScan}
 use Rattle.hnsr_circuit.specs.declared.output.queue.Outgoing.{Outgoing}
+use Rattle.hnsr_circuit.specs.declared.tables.lookup.Found.{Found}
 use Rattle.hnsr_circuit.specs.declared.tables.scan.ActionQuestion.{ActionQuestion}
-use Rattle.hnsr_circuit.specs.declared.runtime.RelayPacket.{RelayPacket}
-use Rattle.hnsr_circuit.specs.declared.runtime.OpaqueRelayRuntime.{OpaqueRelayRuntime}
-use Rattle.hnsr_circuit.specs.declared.answer.HnsrRuntimeError.TheVariants.{UnknownRequest}
-use Rattle.hnsr_circuit.specs.declared.answer.HnsrRuntimeError.TheVariants.{Randomness, LedgerFull}
-use Rattle.hnsr_circuit.specs.Table.{any, pick, place_of, put, edit}
-use Rattle.hnsr_circuit.specs.Answers.{HnsrAnswer, check, body_answer, taken, ◌then◌}
+use Rattle.hnsr_circuit.specs.declared.tables.scan.ActionScan.{ActionScan}
+use Rattle.hnsr_circuit.specs.declared.tables.scan.LedgerScan.{LedgerScan}
+use Rattle.hnsr_circuit.specs.Table.{any, pick, place_of, place_in, put, edit}
+use Rattle.hnsr_circuit.specs.Answers.{HnsrAnswer, body_answer, ◌then◌}
 use Rattle.hnsr_circuit.specs.Peer.{peer_of, same_peer}
 use Rattle.hnsr_circuit.specs.Pending.{no_pending, is_pending, pending_at, clear_pending}
 use Rattle.hnsr_circuit.specs.Ledger.{no_usage, is_usage, usage_at, clear_usage, fresh_usage}
-use Rattle.hnsr_circuit.specs.Ledger.{lapsed, usage_of, booked, ledger_answer, usage_answer}
+use Rattle.hnsr_circuit.specs.Ledger.{has_usage, usage_of, lapsed, booked, ledger_answer, usage_answer}
 use Rattle.hnsr_circuit.specs.Circuits.{is_circuit, circuit_at}
 use Rattle.hnsr_circuit.specs.Inflight.{action_under, dropped, tallied, capacity_answer}
-use Rattle.hnsr_circuit.specs.Runtime.{with_counters, count_open}
-use Rattle.hnsr_circuit.specs.World.{World, Outcome, proceed, world_of}
+use Rattle.hnsr_circuit.specs.Runtime.{with_counters, count_open, count_accept}
+use Rattle.hnsr_circuit.specs.World.{World, Outcome, refuse, world_of}
 use Rattle.hnsr_circuit.specs.Queue.{send}
-use Rattle.hnsr_circuit.specs.Code.Turns.{actions_scanned, ledger_asked}
 use Rattle.hnsr_circuit.specs.Counts.{pending_count, circuit_count, peer_work, reservation_work}
-use Rattle.hnsr_circuit.specs.Code.Question.{pending_work, circuit_work}
-use Rattle.hnsr_circuit.specs.Code.Lookup.{pending_found}
 use Rattle.hnsr_circuit.specs.Entry.{peer_answer}
 use Rattle.hnsr_circuit.specs.Draw.{draws_from, draws, draw_all, id_taken, drawn, draw_answer}
 use Rattle.hnsr_circuit.specs.Packet.{Packet, sender}
-use Rattle.hnsr_circuit.specs.Accept.{request_answer, circuit_for, with_accept, opened_message}
+use Rattle.hnsr_circuit.specs.Accept.{request_answer, circuit_for, opened_for, with_accept, opened_message}
 use Rattle.hnsr_circuit.specs.Accept.{accept_taken, accept_with, handle_accept}
-use Rattle.hnsr_circuit.specs.Open.{Opening, opening, endpoint_answer, deadline_answer, pending_for}
+use Rattle.hnsr_circuit.specs.Open.{endpoint_answer, deadline_answer, pending_for}
 use Rattle.hnsr_circuit.specs.Open.{incoming_for, incoming_message, with_open, open_admitted}
 use Rattle.hnsr_circuit.specs.Open.{open_placed, open_booked, open_granted, open_lapsed, handle_open}
-use Rattle.hnsr_circuit.specs.Code.Progress.{message_of, packet_of, asking, handed_back, ending}
-use Rattle.hnsr_circuit.specs.Laws.Answers.{check-taken, then_taken, then_three, stop-two, stop-three}
-use Rattle.hnsr_circuit.specs.Laws.Lookups.{pick_at, pick-has, pick-none, place-any}
+use Rattle.hnsr_circuit.specs.Code.Held.{held, held_pending, held_circuits, held_ledger, held_actions}
+use Rattle.hnsr_circuit.specs.Code.Held.{state_seen, world_given, handed_seen}
+use Rattle.hnsr_circuit.specs.Code.Lookup.{pending_found}
+use Rattle.hnsr_circuit.specs.Code.Opening.{accept_entry, accept_rows, accept_work, opened_out, accept_named}
+use Rattle.hnsr_circuit.specs.Code.Opening.{is_taken, first_draw, gathering, open_rows}
+use Rattle.hnsr_circuit.specs.Code.Opening.{open_plan, placed_plan, placed_rows}
+use Rattle.hnsr_circuit.specs.Code.Opening.{opening_of, incoming_out, booked_in, open_drawn}
+use Rattle.hnsr_circuit.specs.Code.Progress.{message_of, packet_of, asking, ending}
+use Rattle.hnsr_circuit.specs.Code.Question.{pending_work, circuit_work}
+use Rattle.hnsr_circuit.specs.Code.Turns.{actions_scanned, ledger_asked}
+use Rattle.hnsr_circuit.specs.Laws.Answers.{check-taken, then_taken}
+use Rattle.hnsr_circuit.specs.Laws.Held.{found_below, place_upto}
+use Rattle.hnsr_circuit.specs.Laws.Lookups.{found_is, place_none, pick-has, pick-none}
 use Rattle.hnsr_circuit.specs.Laws.Marks.{room, put-new-same, put-old-same}
 use Rattle.hnsr_circuit.specs.Laws.Keys.{reservation-refl}
-use Rattle.hnsr_circuit.specs.Laws.Queueing.{taken_is}
 use Rattle.hnsr_circuit.specs.Laws.Edits.{edit-set}
+use Rattle.hnsr_circuit.specs.Laws.Seen.{passed, turned, refused-seen}
 
 -- ---- a sum that stops at its top, against a number of 16 bits
 pub ltb_sum : (n a b : ℕ) → n < 65536 → ltb n (saturating_add 64 a b) ≡ ltb n (a + b)
@@ -84,152 +92,102 @@ leb_sum n a b h = split (leb n (a + b))
     (λ e. le-leb n (saturating_add 64 a b) (omega (arith, leb-true n (a + b) e)) ∙ sym e)
     (λ e. lt-leb n (saturating_add 64 a b) (omega (arith, leb-false n (a + b) e)) ∙ sym e)
 
--- ---- a place for a record: what is found, else the lowest unused
-pub put-place : {A : Type 0} (p u : A → Bool) (t : List A)
-    → put_place (place_of p t) (length t) (place_of u t) ≡ cond (any p t) (place_of p t) (place_of u t)
-put-place p u t = ap (λ (b : Bool). cond b (place_of p t) (place_of u t)) (place-any p t)
+-- ---- rows in front of others
+-- two answers that give a value are taken, and a refusal of theirs is that of all behind them
+both-passed : {T : Type 0} (a b : HnsrAnswer) (x y : T) → result_and (a then b) (Ok x) ≡ Ok y
+    → ((z : HnsrAnswer) → (a then b then z) ≡ z) × (x ≡ y)
+both-passed (Ok _) (Ok _) x y h = (λ z. refl, cc)
+both-passed (Ok _) (Err e) x y h = cc
+both-passed (Err e) b x y h = cc
 
--- ---- what was answered before stays the answer: the world moves on only where the answer is taken
-proceed-on : (a : HnsrAnswer) (w x : World) (f : World → Outcome)
-    → proceed (cond (taken a) x w) a (f (cond (taken a) x w)) ≡ proceed w a (f x)
-unfolding proceed
-proceed-on (Ok _) w x f = refl
-proceed-on (Err e) w x f = refl
+both-stopped : {T : Type 0} (a b : HnsrAnswer) (x : T) (e : HnsrRuntimeError) → result_and (a then b) (Ok x) ≡ Err e
+    → (z : HnsrAnswer) → (a then b then z) ≡ Err e
+both-stopped (Ok _) (Ok _) x e h z = cc
+both-stopped (Ok _) (Err d) x e h z = cc
+both-stopped (Err d) b x e h z = cc
 
 -- ---- ACCEPT
--- the rows over the tables are the definition's
-pub accept_taken_lem : (h : OpaqueRelayRuntime) (p : List RelayPending) (c : List RelayCircuit)
-    (l : List ReservationUsage) (i : List InflightAction) (q : RelayPacket) (source body e rs : List ℕ)
-    → (let f = pending_found (pending_at q.context_id) p in
-    accept_rows h.config f (peer_of source) q.now (decode_accept body) (pending_work (accept_work f) p)
-    (circuit_work (accept_work f) c) (tallied true q.context_id f.row.requester i))
-    ≡ accept_taken (world_of h p c l i) (packet_of q source body e rs) (pick (pending_at q.context_id) no_pending p)
-    (accept_fields body)
-unfolding accept_taken pending_work circuit_work circuit_count reservation_work sender decode_accept
-accept_taken_lem h p c l i q source body e rs = refl
+unnamed : (row : RelayPending) (peer : HnsrPeerId) (now : ℕ) (e : HnsrRuntimeError)
+    → ◌≡◌ {A = Result (Found RelayPending) HnsrRuntimeError} (Err UnknownRequest) (Err e)
+    → (z : HnsrAnswer) → (request_answer false row peer now then z) ≡ Err e
+unfolding request_answer
+unnamed row peer now e h z = cc
 
--- a taken ACCEPT found its pending record
-accept_found : (w : World) (q : Packet) (p : RelayPending) (b : AcceptBody) → accept_taken w q p b ≡ Ok tt
-    → any (pending_at q.context) w.pending ≡ true
-unfolding accept_taken request_answer
-accept_found w q p b h =
-    let found = any (pending_at q.context) w.pending in
-    let a = (then_taken (request_answer found p (sender q) q.now) _ h).0 in
-    let k = (then_taken (check (not found) UnknownRequest) _ a).0 in
-    split found (λ t. t) (λ n. absurd (true≢false (rw n at (check-taken (not found) UnknownRequest k))))
-
--- the pending record, its mark cleared at the place where it was found
-unmarked : (id : ℕ) (t : List RelayPending) → any (pending_at id) t ≡ true
-    → set t (place_of (pending_at id) t) (clear_pending (pick (pending_at id) no_pending t))
-    ≡ edit (pending_at (pick (pending_at id) no_pending t).circuit_id) clear_pending t
-unfolding pending_at
-unmarked id t h =
-    let p = pick (pending_at id) no_pending t in
-    let k = eqb-true p.circuit_id id
-    (both p.used (eqb p.circuit_id id) (pick-has (pending_at id) no_pending t h)).1 in
-    sym (ap (λ (n : ℕ). edit (pending_at n) clear_pending t) k
-    ∙ edit-set (pending_at id) clear_pending no_pending t
-    ∙ ap (λ (x : RelayPending). set t (place_of (pending_at id) t) (clear_pending x))
-    (pick_at (pending_at id) no_pending t))
-
+-- the rows that go by the packet and its pending record alone: what is found is accepted, or refused
 module _ (h : OpaqueRelayRuntime) (p : List RelayPending) (c : List RelayCircuit) (l : List ReservationUsage)
     (i : List InflightAction) (q : RelayPacket) (source body e rs : List ℕ) where
+  abbrev accepting : Result (Found RelayPending) HnsrRuntimeError
+  accepting = accept_entry (pending_found (pending_at q.context_id) p) (peer_of source) q.now (decode_accept body)
+
+  abbrev accepted : Outcome
+  accepted = handle_accept (world_of h p c l i) (packet_of q source body e rs)
+
+  pub entry-found : (f : Found RelayPending) → accepting ≡ Ok f
+      → (pending_found (pending_at q.context_id) p ≡ Some f)
+      × (accept_named (world_of h p c l i) q.context_id f.row (decode_accept body).body ≡ accepted)
+  unfolding handle_accept accept_with accept_taken accept_named sender decode_accept
+  entry-found f k =
+      let row = pick (pending_at q.context_id) no_pending p in
+      split (any (pending_at q.context_id) p)
+      (λ e.
+      let j = both-passed (request_answer true row (peer_of source) q.now) (body_answer (decode_accept body).result) _ f
+      (rw e at k) in
+      (rw e (ap Some j.1), rw (← j.1, e, j.0 _)))
+      (λ e. let n = rw e at k in cc)
+
+  entry-turned : (x : HnsrRuntimeError) → accepting ≡ Err x → refuse (world_of h p c l i) x ≡ accepted
+  unfolding handle_accept accept_with accept_taken sender decode_accept
+  entry-turned x k =
+      let row = pick (pending_at q.context_id) no_pending p in
+      turned (world_of h p c l i) _ _ x
+      (split (any (pending_at q.context_id) p)
+      (λ e.
+      rw e
+      (both-stopped (request_answer true row (peer_of source) q.now) (body_answer (decode_accept body).result) _ x
+      (rw e at k) _))
+      (λ e. rw e (unnamed row (peer_of source) q.now x (rw e at k) _)))
+
+-- the pending record, its mark cleared at the place where it was found
+unmarked : (id : ℕ) (p : List RelayPending) (f : Found RelayPending) → pending_found (pending_at id) p ≡ Some f
+    → edit (pending_at f.row.circuit_id) clear_pending p
+    ≡ set p f.place (clear_pending (get_or p f.place no_pending))
+unfolding pending_at
+unmarked id p f k =
+    let j = found_is (pending_at id) no_pending p f k in
+    let own = eqb-true f.row.circuit_id id
+    (both f.row.used (eqb f.row.circuit_id id)
+    (rw (j.2) (pick-has (pending_at id) no_pending p j.0))).1 in
+    rw (own, j.1) (edit-set (pending_at id) clear_pending no_pending p)
+
+module _ (h : OpaqueRelayRuntime) (p : List RelayPending) (c : List RelayCircuit) (l : List ReservationUsage)
+    (i : List InflightAction) (id : ℕ) (f : Found RelayPending) (b : AcceptBody) where
+  -- the rows over the tables are the definition's
+  abbrev accept_left : HnsrAnswer
+  accept_left =
+      accept_rows h.config f.row b (pending_work (accept_work f.row) p) (circuit_work (accept_work f.row) c)
+      (tallied true id f.row.requester i)
+
   -- what a taken ACCEPT leaves is the definition's world
-  accept_world : (let f = pending_found (pending_at q.context_id) p in
-      let g = accept_plan h f (decode_accept body) in
+  pub named-goes : (p' : List RelayPending) (c' : List RelayCircuit) (i' : List InflightAction)
+      → pending_found (pending_at id) p ≡ Some f → accept_left ≡ Ok tt
+      → p' ≡ set p f.place (clear_pending (get_or p f.place no_pending))
+      → c' ≡ put is_circuit (circuit_at f.row.circuit_id) (circuit_for h.config f.row b) c
+      → i' ≡ dropped (action_under f.row.circuit_id) i
+      → send (world_of (with_counters h (count_accept h.counters)) p' c' l i')
+      (message_of (opened_out f.row) (opened_bytes (opened_for f.row b)))
+      ≡ accept_named (world_of h p c l i) id f.row b
+  unfolding accept_named with_accept opened_message pending_work circuit_work circuit_count reservation_work
+  named-goes p' c' i' k t ep ec ei =
       let w = world_of h p c l i in
-      accept_taken w (packet_of q source body e rs) f.row (accept_fields body) ≡ Ok tt
-      → world_of g.runtime (set p g.place (clear_pending f.row))
-      (put is_circuit (circuit_at g.id) (circuit_for h.config f.row (accept_fields body)) c) l
-      (dropped (action_under g.id) i)
-      ≡ with_accept w f.row (accept_fields body))
-  unfolding with_accept
-  accept_world ea =
-      let f = pending_found (pending_at q.context_id) p in
-      let g = accept_plan h f (decode_accept body) in
-      let found =
-      accept_found (world_of h p c l i) (packet_of q source body e rs) f.row (accept_fields body) ea in
-      ap (λ (t : List RelayPending). world_of g.runtime t
-      (put is_circuit (circuit_at g.id) (circuit_for h.config f.row (accept_fields body)) c) l
-      (dropped (action_under g.id) i)) (unmarked q.context_id p found)
+      let m = opened_message f.row b in
+      rw (ec, ei, ep, ← unmarked id p f k) (passed w accept_left (send (with_accept w f.row b) m) t)
 
-  pub accept_ends : (f : Found RelayPending) (read : Read AcceptBody) (a : HnsrAnswer) (g : AcceptPlan)
-      (row : RelayPending) (circuit : RelayCircuit) (p' : List RelayPending) (c' : List RelayCircuit)
-      (i' : List InflightAction)
-      → f ≡ pending_found (pending_at q.context_id) p → read ≡ decode_accept body
-      → a ≡ accept_rows h.config f (peer_of source) q.now read (pending_work (accept_work f) p)
-      (circuit_work (accept_work f) c) (tallied true q.context_id f.row.requester i)
-      → taken a ≡ true → g ≡ accept_plan h f read → row ≡ clear_pending f.row
-      → circuit ≡ circuit_for h.config f.row read.body
-      → p' ≡ set p g.place row → c' ≡ put is_circuit (circuit_at g.id) circuit c
-      → i' ≡ dropped (action_under g.id) i
-      → send (world_of g.runtime p' c' l i') (message_of g.message (opened_bytes g.opened))
-      ≡ handle_accept (world_of h p c l i) (packet_of q source body e rs)
-  unfolding handle_accept accept_with opened_message decode_accept proceed
-  accept_ends f read a g row circuit p' c' i' ef er ea t eg eo ec ep es ei =
-      let ft = pending_found (pending_at q.context_id) p in
-      let w = world_of h p c l i in
-      let m = opened_message ft.row (accept_fields body) in
-      let at : accept_taken w (packet_of q source body e rs) ft.row (accept_fields body) ≡ Ok tt =
-      sym (ea ∙ rw (ef, er) (accept_taken_lem h p c l i q source body e rs)) ∙ taken_is a t in
-      rw (ep, es, ei, eg, eo, ec, ef, er)
-      (ap (λ (x : World). send x m) (accept_world at)
-      ∙ ap (λ (k : HnsrAnswer). proceed w k (send (with_accept w ft.row (accept_fields body)) m)) (sym at))
-
--- refused by the packet and its pending record, or by the rows as a whole
-pub accept_entered : (h : OpaqueRelayRuntime) (p : List RelayPending) (c : List RelayCircuit)
-    (l : List ReservationUsage) (i : List InflightAction) (q : RelayPacket) (source body e rs out : List ℕ)
-    (f : Found RelayPending) (read : Read AcceptBody) (a : HnsrAnswer) (r : Relayed)
-    → f ≡ pending_found (pending_at q.context_id) p → read ≡ decode_accept body
-    → a ≡ (request_answer f.found f.row (peer_of source) q.now then body_answer read.result)
-    → taken a ≡ false
-    → (r.runtime ≡ h) × (r.answer ≡ a) × (r.words ≡ 0)
-    → handed_back r p c l i out ≡ ending out (handle_accept (world_of h p c l i) (packet_of q source body e rs))
-unfolding handle_accept accept_with accept_taken sender
-accept_entered h p c l i q source body e rs out f read a r ef er ea t k =
-    let x = request_answer (any (pending_at q.context_id) p) (pick (pending_at q.context_id) no_pending p)
-    (peer_of source) q.now in
-    let y = body_answer (decode_accept body).result in
-    let b : a ≡ (x then y) =
-    ea ∙ (λ j. request_answer (ef j).found (ef j).row (peer_of source) q.now then body_answer (er j).result) in
-    turned_away h p c l i out r a _ _ k t (b ∙ stop-two x y _ (ap taken (sym b) ∙ t))
-
-pub accept_refused : (h : OpaqueRelayRuntime) (p : List RelayPending) (c : List RelayCircuit)
-    (l : List ReservationUsage) (i : List InflightAction) (q : RelayPacket) (source body e rs out : List ℕ)
-    (f : Found RelayPending) (read : Read AcceptBody) (a : HnsrAnswer) (r : Relayed)
-    → f ≡ pending_found (pending_at q.context_id) p → read ≡ decode_accept body
-    → a ≡ accept_rows h.config f (peer_of source) q.now read (pending_work (accept_work f) p)
-    (circuit_work (accept_work f) c) (tallied true q.context_id f.row.requester i)
-    → taken a ≡ false → (r.runtime ≡ h) × (r.answer ≡ a) × (r.words ≡ 0)
-    → handed_back r p c l i out ≡ ending out (handle_accept (world_of h p c l i) (packet_of q source body e rs))
-unfolding handle_accept accept_with
-accept_refused h p c l i q source body e rs out f read a r ef er ea t k =
-    turned_away h p c l i out r a _ _ k t
-    (ea
-    ∙ (λ j. accept_rows h.config (ef j) (peer_of source) q.now (er j) (pending_work (accept_work (ef j)) p)
-    (circuit_work (accept_work (ef j)) c) (tallied true q.context_id (ef j).row.requester i))
-    ∙ accept_taken_lem h p c l i q source body e rs)
-
--- ---- OPEN: numbers
-pub ltb_less : (now n : ℕ) → now < 18446744073709551616 → ltb (top 64 - now) n ≡ ltb (top 64) (now + n)
-ltb_less now n h = split (ltb (top 64) (now + n))
-    (λ e. lt-ltb (top 64 - now) n (omega (arith, ltb-true (top 64) (now + n) e)) ∙ sym e)
-    (λ e. le-ltb (top 64 - now) n (omega (arith, ltb-false (top 64) (now + n) e)) ∙ sym e)
+  named-turned : (e : HnsrRuntimeError) → accept_left ≡ Err e
+      → refuse (world_of h p c l i) e ≡ accept_named (world_of h p c l i) id f.row b
+  unfolding accept_named pending_work circuit_work circuit_count reservation_work
+  named-turned e t = turned _ _ _ e t
 
 -- ---- OPEN: the drawing
-pub draws-step : (xs : List ℕ) → 8 ≤ length xs → draws xs ≡ be (take 8 xs) ∷ draws (drop 8 xs)
-unfolding draws draws_from
-draws-step xs h =
-    let k = length-drop 8 xs in
-    let e : length xs / 8 ≡ suc (length (drop 8 xs) / 8) = omega arith in
-    ap (λ (n : ℕ). draws_from n xs) e
-
-pub draws-short : (xs : List ℕ) → length xs < 8 → draws xs ≡ []
-unfolding draws draws_from
-draws-short xs h =
-    let e : length xs / 8 ≡ 0 = omega arith in
-    ap (λ (n : ℕ). draws_from n xs) e
-
 -- eight bytes as the library reads them
 pub be_eight : (xs : List ℕ) → length xs ≡ 8 → from_be_bytes w64 xs ≡ be xs
 unfolding be_from
@@ -243,6 +201,20 @@ be_eight (a ∷ b ∷ c ∷ d ∷ e ∷ f ∷ []) l = omega arith
 be_eight (a ∷ b ∷ c ∷ d ∷ e ∷ f ∷ g ∷ []) l = omega arith
 be_eight (a ∷ b ∷ c ∷ d ∷ e ∷ f ∷ g ∷ h ∷ []) l = omega arith
 be_eight (a ∷ b ∷ c ∷ d ∷ e ∷ f ∷ g ∷ h ∷ i ∷ js) l = omega arith
+
+-- the draws are the chunks of eight bytes
+chunks-drawn : (many : ℕ) (xs : List ℕ) → many * 8 ≤ length xs
+    → draws_from many xs ≡ map (from_be_bytes w64) (first_chunks 8 many xs)
+unfolding draws_from
+chunks-drawn zero xs l = refl
+chunks-drawn (suc many) xs l =
+    let first : length (take 8 xs) ≡ 8 = omega (arith, length-take 8 xs) in
+    let rest : many * 8 ≤ length (drop 8 xs) = omega (arith, length-drop 8 xs) in
+    λ k. sym (be_eight (take 8 xs) first) k ∷ chunks-drawn many (drop 8 xs) rest k
+
+pub draws_are : (xs : List ℕ) → draws xs ≡ map (from_be_bytes w64) (first_chunks 8 (length xs / 8) xs)
+unfolding draws
+draws_are xs = chunks-drawn (length xs / 8) xs (omega arith)
 
 -- what is drawn is no id yet
 abbrev DrawFree : (ℕ → Bool) → Option ℕ → Type 0
@@ -260,32 +232,25 @@ drawn-free t n m (id ∷ ids) =
     (λ l. drawn-free t 0 (m + 1) ids))
     (λ y e. y))
 
-draw_free : (p : List RelayPending) (c : List RelayCircuit) (d : Option ℕ) (ids : List ℕ)
-    → d ≡ draw_all (is_taken p c) 0 0 ids → draw_answer d ≡ Ok tt
-    → any (pending_at (unwrap_or d 0)) p ≡ false
-unfolding draw_answer
-draw_free p c d ids e h =
-    let k = check-taken (is_none d) Randomness h in
-    let free = rw (← e) at (drawn-free (is_taken p c) 0 0 ids (rw e at k)) in
-    (neither (any (pending_at (unwrap_or d 0)) p) (any (circuit_at (unwrap_or d 0)) c) free).0
-
 -- what is left to draw gives what all draws give
-module _ (t : ℕ → Bool) (n m : ℕ) (xs : List ℕ) {r : Option ℕ} (h : draw_all t n m (draws xs) ≡ r) where
-  pub draw_over : length xs < 8 → None ≡ r
+module _ (t : ℕ → Bool) (n m : ℕ) (chunks : List (List ℕ)) (i : ℕ) {r : Option ℕ}
+    (h : draw_all t n m (map (from_be_bytes w64) (drop i chunks)) ≡ r) where
+  pub draw_over : length chunks ≤ i → None ≡ r
   unfolding draw_all
-  draw_over l = sym (ap (λ (ids : List ℕ). draw_all t n m ids) (draws-short xs l)) ∙ h
+  draw_over l = rw (drop_of_length-le chunks l) at h
 
-  module _ {id : ℕ} {left : List ℕ} (ei : id ≡ be (take 8 xs)) (el : left ≡ drop 8 xs) (l : 8 ≤ length xs) where
-    step : draw_all t n m (id ∷ draws left) ≡ r
+  module _ {id : ℕ} (e : id ≡ from_be_bytes w64 (get_or chunks i [])) (l : i < length chunks) where
+    step : draw_all t n m (id ∷ map (from_be_bytes w64) (drop (i + 1) chunks)) ≡ r
     step =
-        (λ k. draw_all t n m (ei k ∷ draws (el k))) ∙ sym (ap (λ (ids : List ℕ). draw_all t n m ids) (draws-step xs l))
+        ap (λ (k : ℕ). draw_all t n m (k ∷ map (from_be_bytes w64) (drop (i + 1) chunks))) e
+        ∙ sym (at_drop_more (λ (xs : List (List ℕ)). draw_all t n m (map (from_be_bytes w64) xs)) chunks i [] l)
         ∙ h
 
     pub zero_ends : id ≡ 0 → 8 ≤ n + 1 → None ≡ r
     unfolding draw_all
     zero_ends z k = rw (eq-eqb id 0 z, le-leb 8 (n + 1) k) at step
 
-    pub zero_passed : id ≡ 0 → n + 1 < 8 → draw_all t (n + 1) m (draws left) ≡ r
+    pub zero_passed : id ≡ 0 → n + 1 < 8 → draw_all t (n + 1) m (map (from_be_bytes w64) (drop (i + 1) chunks)) ≡ r
     unfolding draw_all
     zero_passed z k = rw (eq-eqb id 0 z, lt-leb 8 (n + 1) k) at step
 
@@ -293,7 +258,8 @@ module _ (t : ℕ → Bool) (n m : ℕ) (xs : List ℕ) {r : Option ℕ} (h : dr
     unfolding draw_all
     taken_ends z y k = rw (ne_eqb id 0 z, y, le-leb 8 (m + 1) k) at step
 
-    pub taken_passed : id ≢ 0 → t id ≡ true → m + 1 < 8 → draw_all t 0 (m + 1) (draws left) ≡ r
+    pub taken_passed : id ≢ 0 → t id ≡ true → m + 1 < 8
+        → draw_all t 0 (m + 1) (map (from_be_bytes w64) (drop (i + 1) chunks)) ≡ r
     unfolding draw_all
     taken_passed z y k = rw (ne_eqb id 0 z, y, lt-leb 8 (m + 1) k) at step
 
@@ -301,219 +267,291 @@ module _ (t : ℕ → Bool) (n m : ℕ) (xs : List ℕ) {r : Option ℕ} (h : dr
     unfolding draw_all
     fresh_drawn z y = rw (ne_eqb id 0 z, y) at step
 
--- ---- OPEN: what the code gathers and decides
+-- what is drawn is no id yet
+drawn_free : (p : List RelayPending) (c : List RelayCircuit) (ids : List ℕ) (id : ℕ)
+    → draw_all (is_taken p c) 0 0 ids ≡ Some id → any (pending_at id) p ≡ false
+drawn_free p c ids id e =
+    let free = rw e at (drawn-free (is_taken p c) 0 0 ids) in
+    (neither (any (pending_at id) p) (any (circuit_at id) c) (free refl)).0
+
 -- ---- OPEN: the ledger record
 pick_else : {A : Type 0} (p : A → Bool) (d e : A) (t : List A) → cond (any p t) (pick p e t) d ≡ pick p d t
 pick_else p d e [] = refl
 pick_else p d e (x ∷ xs) = split (p x) (λ k. rw k) (λ k. rw k (pick_else p d e xs))
 
-pub booked-set : (t : RelayTicket) (l : List ReservationUsage) → (let r = ledger_asked t.reservation_id l in
-    set l (cond r.found r.place r.spare_place) (cond r.found r.usage (fresh_usage t)) ≡ booked t l)
-unfolding booked
-booked-set t l = let p = usage_at t.reservation_id in
-    ap (λ (u : ReservationUsage). set l (cond (any p l) (place_of p l) (place_of (non is_usage) l)) u)
-    (pick_else p (fresh_usage t) no_usage l)
-
 fresh_at : (t : RelayTicket) → usage_at t.reservation_id (fresh_usage t) ≡ true
 unfolding usage_at
 fresh_at t = reservation-refl t.reservation_id
 
--- where it is there or has a place, it is what a lookup then finds
-booked-found : (t : RelayTicket) (l : List ReservationUsage)
-    → ledger_answer (any (usage_at t.reservation_id) l) (count is_usage l) (length l) ≡ Ok tt
-    → usage_of t.reservation_id (booked t l) ≡ pick (usage_at t.reservation_id) (fresh_usage t) l
-unfolding booked ledger_answer
-booked-found t l h =
-    let p = usage_at t.reservation_id in
-    let row = pick p (fresh_usage t) l in
-    let full = check-taken (not (any p l) && leb (length l) (count is_usage l)) LedgerFull h in
-    split (any p l)
-    (λ f. (put-old-same is_usage clear_usage p row l f no_usage (pick-has p (fresh_usage t) l f)).1)
-    (λ f. (put-new-same is_usage clear_usage p row l f
-    (room is_usage clear_usage l (leb-false (length l) (count is_usage l) (rw f at full))) no_usage
-    (ap p (pick-none p (fresh_usage t) l f) ∙ fresh_at t)).1)
+module _ (t : RelayTicket) (l : List ReservationUsage) where
+  abbrev booking : Found ReservationUsage
+  booking = booked_in (ledger_asked t.reservation_id l) t
 
--- the rows as a whole are taken: each is
-module _ (c : OpaqueRelayConfig) (g : OpenGathered) (d : Option ℕ) (o : OpenPlan) (s : ActionScan) (r : LedgerScan)
-    (a : HnsrAnswer) (ea : a ≡ placed_rows c g o d s r) (t : taken a ≡ true) where
-  rows_taken : (draw_answer d ≡ Ok tt) × (ledger_answer r.found r.used r.places ≡ Ok tt)
-  rows_taken =
-      let named = peer_answer g.size in
-      let ends = endpoint_answer c o.ticket (same_peer o.endpoint o.requester)
-      (g.waiting.of_other + g.running.of_other) (g.waiting.under + g.running.under) in
-      let most = capacity_answer c s.tally in
-      let late = deadline_answer c g.packet.now in
-      let last = ledger_answer r.found r.used r.places in
-      let k = then_taken (placed_entry c g o d) (most then late then last) (sym ea ∙ taken_is a t) in
-      let drew = (then_taken ends (draw_answer d) (then_taken named (ends then draw_answer d) k.0).1).1 in
-      (drew, (then_taken late last (then_taken most (late then last) k.1).1).1)
+  booked-is : (booking.place
+      ≡ cond (has_usage t.reservation_id l) (place_of (usage_at t.reservation_id) l) (place_of (non is_usage) l))
+      × (booking.row ≡ pick (usage_at t.reservation_id) (fresh_usage t) l)
+  booked-is = let p = usage_at t.reservation_id in split (any p l)
+      (λ e. rw e (refl, rw e at (pick_else p (fresh_usage t) no_usage l)))
+      (λ e. rw e (lowest, sym (pick-none p (fresh_usage t) l e)))
+    where
+      lowest : unwrap_or (place_in (non is_usage) l) (length l) ≡ place_of (non is_usage) l
+      lowest = split (any (non is_usage) l) (λ e. rw e) (λ e. rw e (sym (place_none (non is_usage) l e)))
 
-  pub booked_usage : (row : ReservationUsage) (l : List ReservationUsage)
-      → r ≡ ledger_asked o.ticket.reservation_id l
-      → row ≡ cond r.found r.usage (fresh_usage o.ticket)
-      → row ≡ usage_of o.ticket.reservation_id (booked o.ticket l)
-  booked_usage row l er e =
-      let id = o.ticket.reservation_id in
-      let k : ledger_answer (any (usage_at id) l) (count is_usage l) (length l) ≡ Ok tt =
-      ap (λ (x : LedgerScan). ledger_answer x.found x.used x.places) (sym er) ∙ rows_taken.1 in
-      e
-      ∙ ap (λ (x : LedgerScan). cond x.found x.usage (fresh_usage o.ticket)) er
-      ∙ pick_else (usage_at id) (fresh_usage o.ticket) no_usage l
-      ∙ sym (booked-found o.ticket l k)
+  -- the record is put where the definition puts it
+  pub booked-set : set l booking.place booking.row ≡ booked t l
+  unfolding booked
+  booked-set = rw (booked-is.0, booked-is.1)
 
-  pub booked-free : (p : List RelayPending) (q : List RelayCircuit) (ids : List ℕ)
-      → d ≡ draw_all (is_taken p q) 0 0 ids → o ≡ open_plan c g d
-      → any (pending_at o.id) p ≡ false
-  booked-free p q ids ed eo =
-      ap (λ (x : OpenPlan). any (pending_at x.id) p) eo ∙ draw_free p q d ids ed rows_taken.0
+  -- where it is there or has a place, it is what a lookup then finds
+  pub booked-found : ledger_answer (has_usage t.reservation_id l) (count is_usage l) (length l) ≡ Ok tt
+      → booking.row ≡ usage_of t.reservation_id (booked t l)
+  unfolding booked ledger_answer
+  booked-found h =
+      let p = usage_at t.reservation_id in
+      let row = pick p (fresh_usage t) l in
+      let full = check-taken (not (any p l) && leb (length l) (count is_usage l)) LedgerFull h in
+      booked-is.1
+      ∙ sym (split (any p l)
+      (λ f. (put-old-same is_usage clear_usage p row l f no_usage (pick-has p (fresh_usage t) l f)).1)
+      (λ f. (put-new-same is_usage clear_usage p row l f
+      (room is_usage clear_usage l (leb-false (length l) (count is_usage l) (rw f at full))) no_usage
+      (ap p (pick-none p (fresh_usage t) l f) ∙ fresh_at t)).1))
+
+-- at the number at most
+pub booked_upto : (n : ℕ) (t : RelayTicket) (l : List ReservationUsage) (k : LedgerScan) (f : Found ReservationUsage)
+    → f ≡ booked_in k t → k ≡ ledger_asked t.reservation_id (held clear_usage n l)
+    → f.place < length l → f.place ≤ n
+unfolding usage_at is_usage
+booked_upto n t l k f ef ek =
+    rw (ef, ek, (booked-is t (held clear_usage n l)).0)
+    (split (has_usage t.reservation_id (held clear_usage n l))
+    (λ e. rw e (let z = found_below clear_usage (usage_at t.reservation_id) (λ x. refl) n l e in λ h. omega arith))
+    (λ e. rw e (λ h. place_upto clear_usage (non is_usage) (λ x. refl) n l)))
 
 -- ---- OPEN: the stages
 module _ (h : OpaqueRelayRuntime) (p : List RelayPending) (c : List RelayCircuit) (l : List ReservationUsage)
-    (i : List InflightAction) where
-  -- under an id that no record has, the lowest unused place is where the definition puts the record
-  put-free : (id : ℕ) (row : RelayPending) → any (pending_at id) p ≡ false
-      → set p (place_of (non is_pending) p) row ≡ put is_pending (pending_at id) row p
-  put-free id row f = rw f
+    (i : List InflightAction) (o : OpenPlan) where
+  -- the last stage, under an id that no record has
+  module _ (u : ReservationUsage) (eu : u ≡ usage_of o.ticket.reservation_id l) where
+    pub booked-goes : (p' : List RelayPending) → any (pending_at o.id) p ≡ false → usage_answer o.ticket u ≡ Ok tt
+        → p' ≡ set p (place_of (non is_pending) p) (pending_for (opening_of o))
+        → send (world_of (with_counters h (count_open h.counters)) p' c l i)
+        (message_of (incoming_out o) (incoming_bytes (incoming_for (opening_of o))))
+        ≡ open_booked (world_of h p c l i) (opening_of o)
+    unfolding open_booked incoming_message with_open
+    booked-goes p' f t ep = rw (ep, f) (passed _ _ _ (rw eu at t))
 
-  pub booked-ends : (o : OpenPlan) (u : ReservationUsage) (a : HnsrAnswer) (row : RelayPending) (p' : List RelayPending)
-      (h' : OpaqueRelayRuntime) (m : Outgoing) (n : IncomingBody) (bytes : List ℕ)
-      → u ≡ usage_of o.ticket.reservation_id l → any (pending_at o.id) p ≡ false → a ≡ usage_answer o.ticket u
-      → taken a ≡ true
-      → row ≡ pending_for (opening_of o) → p' ≡ set p (place_of (non is_pending) p) row
-      → h' ≡ with_counters h (count_open h.counters) → m ≡ incoming_out o → n ≡ incoming_for (opening_of o)
-      → bytes ≡ incoming_bytes n
-      → send (world_of h' p' c l i) (message_of m bytes)
-      ≡ open_booked (world_of h p c l i) (opening_of o)
-  unfolding open_booked incoming_message with_open
-  booked-ends o u a row p' h' m n bytes eu f ea t er ep eh em en eb =
-      let w = world_of h p c l i in
-      let x = with_open w (opening_of o) in
-      let k = incoming_message (opening_of o) in
-      rw (ep, eh, er, eb, en, em)
-      (ap (λ (y : List RelayPending).
-      send (world_of (with_counters h (count_open h.counters)) y c l i) k)
-      (put-free o.id (pending_for (opening_of o)) f)
-      ∙ sym (gone-on w a (usage_answer o.ticket (usage_of o.ticket.reservation_id l)) (send x k) t
-      (ea ∙ ap (usage_answer o.ticket) eu)))
+    booked-turned : (e : HnsrRuntimeError) → usage_answer o.ticket u ≡ Err e
+        → refuse (world_of h p c l i) e ≡ open_booked (world_of h p c l i) (opening_of o)
+    unfolding open_booked
+    booked-turned e t = turned _ _ _ e (rw eu at t)
 
-  pub booked_refused : (o : OpenPlan) (u : ReservationUsage) (a : HnsrAnswer) (r : Relayed) (out : List ℕ)
-      → u ≡ usage_of o.ticket.reservation_id l → a ≡ usage_answer o.ticket u → taken a ≡ false
-      → (r.runtime ≡ h) × (r.answer ≡ a) × (r.words ≡ 0)
-      → handed_back r p c l i out ≡ ending out (open_booked (world_of h p c l i) (opening_of o))
-  unfolding open_booked
-  booked_refused o u a r out eu ea t k = turned_away h p c l i out r a _ _ k t (ea ∙ ap (usage_answer o.ticket) eu)
+  -- the second stage, past the rows that ask nothing of actions and ledger
+  module _ (now : ℕ) where
+    abbrev rows : HnsrAnswer
+    rows =
+        placed_rows h.config now (actions_scanned (asking h (incoming_out o)) i).tally
+        (ledger_asked o.ticket.reservation_id l)
 
-module _ (h : OpaqueRelayRuntime) (p : List RelayPending) (c : List RelayCircuit) (l : List ReservationUsage)
-    (i : List InflightAction) (q : RelayPacket) (source body endpoint rs : List ℕ) where
-  -- the rows are the definition's
-  open_admitted_lem : open_rows h.config (gathering q (peer_of source) body endpoint rs p c)
-      ≡ open_admitted (world_of h p c l i) (packet_of q source body endpoint rs)
-  unfolding open_admitted pending_count circuit_count peer_work pending_work circuit_work sender
-  open_admitted_lem = refl
+    abbrev rows_of : Bool → HnsrAnswer
+    rows_of found =
+        capacity_answer h.config (tallied false o.id o.endpoint i)
+        then deadline_answer h.config now
+        then ledger_answer found (count is_usage l) (length l)
+
+    rows-are : rows ≡ rows_of (has_usage o.ticket.reservation_id l)
+    unfolding actions_scanned
+    rows-are = split (has_usage o.ticket.reservation_id l) (λ e. rw e) (λ e. rw e)
+
+    pub drawn-goes : (l' : List ReservationUsage) → rows ≡ Ok tt
+        → l' ≡ set l (booking o.ticket l).place (booking o.ticket l).row
+        → ((booking o.ticket l).row ≡ usage_of o.ticket.reservation_id l')
+        × (open_booked (world_of h p c l' i) (opening_of o) ≡ open_drawn (world_of h p c l i) now (opening_of o))
+    unfolding open_drawn
+    drawn-goes l' t el =
+        let k = sym rows-are ∙ t in
+        let b = el ∙ booked-set o.ticket l in
+        let most = capacity_answer h.config (tallied false o.id o.endpoint i) in
+        let late = deadline_answer h.config now in
+        let last = ledger_answer (has_usage o.ticket.reservation_id l) (count is_usage l) (length l) in
+        let j = (then_taken late last (then_taken most (late then last) k).1).1 in
+        (rw b (booked-found o.ticket l j), rw b (passed _ _ _ k))
+
+    drawn-turned : (e : HnsrRuntimeError) → rows ≡ Err e
+        → refuse (world_of h p c l i) e ≡ open_drawn (world_of h p c l i) now (opening_of o)
+    unfolding open_drawn
+    drawn-turned e t = turned _ _ _ e (sym rows-are ∙ t)
+
+-- the first draw that is known to be no record's id
+pub first_free : (r : Request) (p : List RelayPending) (c : List RelayCircuit) (body endpoint rs : List ℕ) (id : ℕ)
+    → (gathering r body endpoint rs p c).free ≡ Some id → is_taken p c id ≡ false
+unfolding pending_work circuit_work
+first_free r p c body endpoint rs id h = split (is_taken p c (first_draw rs))
+    (λ e. let k = rw e at h in cc)
+    (λ e. let k = rw e at h in let s : first_draw rs ≡ id = cc in rw (← s) e)
+
+-- two answers and a draw, and what is behind them
+drawn-passed : (a b : HnsrAnswer) (d : Option ℕ) (f : ℕ → OpenPlan) (o : OpenPlan)
+    → result_and (a then b) (ok_or (option_map f d) Randomness) ≡ Ok o
+    → ((z : HnsrAnswer) → (a then b then draw_answer d then z) ≡ z)
+    × (d ≡ Some (unwrap_or d 0))
+    × (f (unwrap_or d 0) ≡ o)
+unfolding draw_answer
+drawn-passed (Ok _) (Ok _) (Some id) f o h = (λ z. refl, refl, cc)
+drawn-passed (Ok _) (Ok _) None f o h = cc
+drawn-passed (Ok _) (Err e) d f o h = cc
+drawn-passed (Err e) b d f o h = cc
+
+drawn-stopped : (a b : HnsrAnswer) (d : Option ℕ) (f : ℕ → OpenPlan) (e : HnsrRuntimeError)
+    → result_and (a then b) (ok_or (option_map f d) Randomness) ≡ Err e
+    → (z : HnsrAnswer) → (a then b then draw_answer d then z) ≡ Err e
+unfolding draw_answer
+drawn-stopped (Ok _) (Ok _) (Some id) f e h z = cc
+drawn-stopped (Ok _) (Ok _) None f e h z = cc
+drawn-stopped (Ok _) (Err x) d f e h z = cc
+drawn-stopped (Err x) b d f e h z = cc
+
+module _ (r : Request) (p : List RelayPending) (c : List RelayCircuit) (l : List ReservationUsage)
+    (i : List InflightAction) (source body endpoint rs : List ℕ) (er : r.peer ≡ peer_of source) where
+  abbrev gathered : OpenGathered
+  gathered = gathering r body endpoint rs p c
 
   abbrev drawing : Option ℕ
   drawing = draw_all (is_taken p c) 0 0 (draws rs)
 
-  abbrev plan : OpenPlan
-  plan = open_plan h.config (gathering q (peer_of source) body endpoint rs p c) drawing
+  abbrev given : World
+  given = world_of r.state.runtime p c l i
 
-  open_opening : opening_of plan ≡ opening (world_of h p c l i) (packet_of q source body endpoint rs)
-  unfolding drawn id_taken decode_open sender
-  open_opening = refl
+  abbrev asks : Packet
+  asks = packet_of r.packet source body endpoint rs
 
-  open_placed_lem : placed_rows h.config (gathering q (peer_of source) body endpoint rs p c) plan drawing
-      (actions_scanned (asking h (incoming_out plan)) i) (ledger_asked q.ticket.reservation_id l)
-      ≡ open_placed (world_of h p c l i) (packet_of q source body endpoint rs) (opening_of plan)
-  unfolding open_placed peer_work reservation_work pending_work circuit_work drawn id_taken decode_open
-      actions_scanned sender
-  open_placed_lem =
-      let w = world_of h p c l i in
-      let r = ledger_asked q.ticket.reservation_id l in
-      then_three (peer_answer (length endpoint))
-      (endpoint_answer h.config q.ticket (same_peer (peer_of endpoint) (peer_of source))
-      (peer_work w (peer_of endpoint)) (reservation_work w (open_fields body).reservation_id))
-      (draw_answer drawing)
-      (capacity_answer h.config (actions_scanned (asking h (incoming_out plan)) i).tally
-      then deadline_answer h.config q.now
-      then ledger_answer r.found r.used r.places)
+  -- the rows of a placed OPEN that ask nothing of actions and ledger
+  abbrev placing : HnsrAnswer
+  placing =
+      endpoint_answer r.state.runtime.config r.packet.ticket (same_peer (peer_of endpoint) r.peer)
+      (peer_work given (peer_of endpoint)) (reservation_work given (open_fields body).reservation_id)
 
-  module _ (g : OpenGathered) (d : Option ℕ) (o : OpenPlan) (m : Outgoing) (k : ActionQuestion) (s : ActionScan)
-      (r : LedgerScan) (a : HnsrAnswer) (eg : g ≡ gathering q (peer_of source) body endpoint rs p c)
-      (ed : d ≡ draw_all (is_taken p c) 0 0 (draws rs)) (eo : o ≡ open_plan h.config g d) (em : m ≡ incoming_out o)
-      (ek : k ≡ asking h m) (es : s ≡ actions_scanned k i) (er : r ≡ ledger_asked o.ticket.reservation_id l)
-      (ea : a ≡ placed_rows h.config g o d s r) where
-    rows-placed : a ≡ open_placed (world_of h p c l i) (packet_of q source body endpoint rs) (opening_of plan)
-    rows-placed = ea ∙ rw (er, es, ek, em, eo, ed, eg) open_placed_lem
+  -- the second stage: ledger records past their expiry are gone
+  pub placed-goes : (o : OpenPlan) → placed_plan gathered drawing ≡ Ok o
+      → (any (pending_at o.id) p ≡ false)
+      × (open_drawn given r.packet.now (opening_of o) ≡ open_lapsed given asks)
+  unfolding open_drawn open_lapsed open_granted open_placed peer_of peer_work reservation_work pending_work circuit_work
+      drawn id_taken decode_open sender
+  placed-goes o k =
+      let j = drawn-passed (peer_answer (length endpoint)) placing drawing (open_plan gathered) o k in
+      (rw (← j.2) (drawn_free p c (draws rs) (unwrap_or drawing 0) j.1), rw (← j.2, ← er, j.0 _))
 
-    pub lapsed-ends : (l' : List ReservationUsage) → taken a ≡ true → l' ≡ booked o.ticket l
-        → open_booked (world_of h p c l' i) (opening_of o)
-        ≡ open_lapsed (world_of h p c l i) (packet_of q source body endpoint rs)
-    unfolding open_lapsed open_granted
-    lapsed-ends l' t el =
-        let w = world_of h p c l i in
-        let v = packet_of q source body endpoint rs in
-        rw (el, eo, eg, ed)
-        (sym (gone-on w a (open_placed w v (opening_of plan))
-        (open_booked (world_of h p c (booked q.ticket l) i) (opening_of plan)) t rows-placed)
-        ∙ ap (λ (y : Opening). open_granted w v y) open_opening)
+  placed-turned : (e : HnsrRuntimeError) → placed_plan gathered drawing ≡ Err e
+      → refuse given e ≡ open_lapsed given asks
+  unfolding open_lapsed open_granted open_placed peer_of peer_work reservation_work pending_work circuit_work drawn
+      id_taken decode_open sender
+  placed-turned e k =
+      rw (← er)
+      (turned _ _ _ e (drawn-stopped (peer_answer (length endpoint)) placing drawing (open_plan gathered) e k _))
 
-    pub lapsed_refused : (y : Relayed) (out : List ℕ) → taken a ≡ false
-        → (y.runtime ≡ h) × (y.answer ≡ a) × (y.words ≡ 0)
-        → handed_back y p c l i out
-        ≡ ending out (open_lapsed (world_of h p c l i) (packet_of q source body endpoint rs))
-    unfolding open_lapsed open_granted
-    lapsed_refused y out t e =
-        let w = world_of h p c l i in
-        let v = packet_of q source body endpoint rs in
-        turned_away h p c l i out y a _ _ e t (rows-placed ∙ ap (λ (z : Opening). open_placed w v z) open_opening)
+  -- the first stage
+  pub open-goes : open_rows gathered ≡ Ok tt
+      → open_lapsed (world_of r.state.runtime p c (lapsed r.packet.now l) i) asks ≡ handle_open given asks
+  unfolding handle_open open_admitted pending_count circuit_count peer_work pending_work circuit_work sender
+  open-goes t = rw (← er) (passed _ _ _ t)
 
-  pub open_ends : (g : OpenGathered) (a : HnsrAnswer) (go : Bool) (l' : List ReservationUsage)
-      → g ≡ gathering q (peer_of source) body endpoint rs p c → a ≡ open_rows h.config g → go ≡ taken a
-      → l' ≡ cond go (lapsed q.now l) l
-      → (let w = world_of h p c l' i in proceed w a (open_lapsed w (packet_of q source body endpoint rs)))
-      ≡ handle_open (world_of h p c l i) (packet_of q source body endpoint rs)
-  unfolding handle_open
-  open_ends g a go l' eg ea ego el =
-      let w = world_of h p c l i in
-      let v = packet_of q source body endpoint rs in
-      let x = world_of h p c (lapsed q.now l) i in
-      let a' : a ≡ open_admitted w v = ea ∙ ap (λ (y : OpenGathered). open_rows h.config y) eg ∙ open_admitted_lem in
-      rw (el, ego)
-      (ap (λ (y : World). proceed y a (open_lapsed y v))
-      (cond_map (λ (z : List ReservationUsage). world_of h p c z i) (taken a) (lapsed q.now l) l)
-      ∙ proceed-on a w x (λ y. open_lapsed y v)
-      ∙ ap (λ (b : HnsrAnswer). proceed w b (open_lapsed x v)) a')
+  open-turned : (e : HnsrRuntimeError) → open_rows gathered ≡ Err e → refuse given e ≡ handle_open given asks
+  unfolding handle_open open_admitted pending_count circuit_count peer_work pending_work circuit_work sender
+  open-turned e t = rw (← er) (turned _ _ _ e t)
 
-  -- refused as lent, or once ledger records are dropped
-  pub open_refused : (g : OpenGathered) (a : HnsrAnswer) (r : Relayed) (out : List ℕ)
-      → g ≡ gathering q (peer_of source) body endpoint rs p c → a ≡ open_rows h.config g
-      → taken a ≡ false → (r.runtime ≡ h) × (r.answer ≡ a) × (r.words ≡ 0)
-      → handed_back r p c l i out ≡ ending out (handle_open (world_of h p c l i) (packet_of q source body endpoint rs))
-  unfolding handle_open
-  open_refused g a r out eg ea t k =
-      turned_away h p c l i out r a _ _ k t
-      (ea ∙ ap (λ (y : OpenGathered). open_rows h.config y) eg ∙ open_admitted_lem)
+-- ---- what the code's steps refuse
+module _ (s : RelayState) (p : List RelayPending) (c : List RelayCircuit) (l : List ReservationUsage)
+    (i : List InflightAction) (out : List ℕ) (o : OpenPlan) (a : HnsrAnswer) (r : Relayed) (x : HnsrRuntimeError) where
+  pub booked_refused : (u : ReservationUsage) → a ≡ usage_answer o.ticket u
+      → u ≡ usage_of o.ticket.reservation_id (held_ledger s.places l) → a ≡ Err x
+      → (r.state ≡ s) × (r.answer ≡ Err x) × (r.words ≡ 0)
+      → handed_seen r p c l i out ≡ ending out (open_booked (state_seen s p c l i) (opening_of o))
+  booked_refused u ea eu ex k =
+      refused-seen s p c l i out r x k
+      ∙ ap (ending out)
+      (booked-turned s.runtime (held_pending s.places p) (held_circuits s.places c) (held_ledger s.places l)
+      (held_actions s.places i) o u eu x (sym ea ∙ ex))
 
-  placed_first : placed_entry h.config (gathering q (peer_of source) body endpoint rs p c) plan drawing
-      ≡ (peer_answer (length endpoint)
-      then endpoint_answer h.config q.ticket (same_peer (peer_of endpoint) (peer_of source))
-      (peer_work (world_of h p c l i) (peer_of endpoint))
-      (reservation_work (world_of h p c l i) (open_fields body).reservation_id)
-      then draw_answer (drawn (world_of h p c l i) rs))
-  unfolding peer_work reservation_work pending_work circuit_work drawn id_taken decode_open
-  placed_first = refl
+  pub placed_refused : (now : ℕ) (m : Outgoing) (q : ActionQuestion) (t : ActionScan) (k : LedgerScan)
+      → m ≡ incoming_out o → q ≡ asking s.runtime m → t ≡ actions_scanned q (held_actions s.places i)
+      → k ≡ ledger_asked o.ticket.reservation_id (held_ledger s.places l)
+      → a ≡ placed_rows s.runtime.config now t.tally k → a ≡ Err x
+      → (r.state ≡ s) × (r.answer ≡ Err x) × (r.words ≡ 0)
+      → handed_seen r p c l i out ≡ ending out (open_drawn (state_seen s p c l i) now (opening_of o))
+  placed_refused now m q t k em eq et ek ea ex er =
+      refused-seen s p c l i out r x er
+      ∙ ap (ending out)
+      (drawn-turned s.runtime (held_pending s.places p) (held_circuits s.places c) (held_ledger s.places l)
+      (held_actions s.places i) o now x
+      (sym (λ j. placed_rows s.runtime.config now (scanned j).tally (ek j)) ∙ sym ea ∙ ex))
+    where
+      scanned : t ≡ actions_scanned (asking s.runtime (incoming_out o)) (held_actions s.places i)
+      scanned =
+          et
+          ∙ ap (λ (y : ActionQuestion). actions_scanned y (held_actions s.places i))
+          (eq ∙ ap (λ (z : Outgoing). asking s.runtime z) em)
 
-  pub placed_refused : (g : OpenGathered) (d : Option ℕ) (o : OpenPlan) (a : HnsrAnswer) (r : Relayed) (out : List ℕ)
-      → g ≡ gathering q (peer_of source) body endpoint rs p c
-      → d ≡ draw_all (is_taken p c) 0 0 (draws rs) → o ≡ open_plan h.config g d → a ≡ placed_entry h.config g o d
-      → taken a ≡ false → (r.runtime ≡ h) × (r.answer ≡ a) × (r.words ≡ 0)
-      → handed_back r p c l i out ≡ ending out (open_lapsed (world_of h p c l i) (packet_of q source body endpoint rs))
-  unfolding open_lapsed open_granted open_placed sender
-  placed_refused g d o a r out eg ed eo ea t k =
-      let x = peer_answer (length endpoint) in
-      let y = endpoint_answer h.config q.ticket (same_peer (peer_of endpoint) (peer_of source))
-      (peer_work (world_of h p c l i) (peer_of endpoint))
-      (reservation_work (world_of h p c l i) (open_fields body).reservation_id) in
-      let z = draw_answer (drawn (world_of h p c l i) rs) in
-      let b : a ≡ (x then y then z) = ea ∙ rw (eo, ed, eg) placed_first in
-      turned_away h p c l i out r a _ _ k t (b ∙ stop-three x y z _ (ap taken (sym b) ∙ t))
+module _ (g : OpenGathered) (p : List RelayPending) (c : List RelayCircuit) (l : List ReservationUsage)
+    (i : List InflightAction) (source body endpoint rs out : List ℕ) (r : Relayed) (x : HnsrRuntimeError) where
+  pub lapsed_refused : (d : Option ℕ) (a : Result OpenPlan HnsrRuntimeError)
+      → g.request.peer ≡ peer_of source
+      → g ≡ gathering g.request body endpoint rs (held_pending g.request.state.places p)
+      (held_circuits g.request.state.places c)
+      → d ≡ draw_all (is_taken (held_pending g.request.state.places p) (held_circuits g.request.state.places c)) 0 0
+      (draws rs)
+      → a ≡ placed_plan g d → a ≡ Err x
+      → (r.state ≡ g.request.state) × (r.answer ≡ Err x) × (r.words ≡ 0)
+      → handed_seen r p c l i out
+      ≡ ending out (open_lapsed (world_given g.request p c l i) (packet_of g.request.packet source body endpoint rs))
+  lapsed_refused d a er eg ed ea ex k =
+      let s = g.request.state in
+      refused-seen s p c l i out r x k
+      ∙ ap (ending out)
+      (placed-turned g.request (held_pending s.places p) (held_circuits s.places c) (held_ledger s.places l)
+      (held_actions s.places i) source body endpoint rs er x
+      (sym (λ j. placed_plan (eg j) (ed j)) ∙ sym ea ∙ ex))
+
+module _ (q : Request) (p : List RelayPending) (c : List RelayCircuit) (l : List ReservationUsage)
+    (i : List InflightAction) (source body endpoint rs out : List ℕ) (r : Relayed) (x : HnsrRuntimeError) where
+  pub open_refused : (g : OpenGathered) (a : HnsrAnswer) → q.peer ≡ peer_of source
+      → g ≡ gathering q body endpoint rs (held_pending q.state.places p) (held_circuits q.state.places c)
+      → a ≡ open_rows g → a ≡ Err x → (r.state ≡ q.state) × (r.answer ≡ Err x) × (r.words ≡ 0)
+      → handed_seen r p c l i out
+      ≡ ending out (handle_open (world_given q p c l i) (packet_of q.packet source body endpoint rs))
+  open_refused g a er eg ea ex k =
+      let s = q.state in
+      refused-seen s p c l i out r x k
+      ∙ ap (ending out)
+      (open-turned q (held_pending s.places p) (held_circuits s.places c) (held_ledger s.places l)
+      (held_actions s.places i) source body endpoint rs er x
+      (sym (ap (λ (y : OpenGathered). open_rows y) eg) ∙ sym ea ∙ ex))
+
+  pub found_refused : (f : Found RelayPending) (b : AcceptBody) (a : HnsrAnswer)
+      → a ≡ accept_rows q.state.runtime.config f.row b
+      (pending_work (accept_work f.row) (held_pending q.state.places p))
+      (circuit_work (accept_work f.row) (held_circuits q.state.places c))
+      (tallied true q.packet.context_id f.row.requester (held_actions q.state.places i))
+      → a ≡ Err x → (r.state ≡ q.state) × (r.answer ≡ Err x) × (r.words ≡ 0)
+      → handed_seen r p c l i out
+      ≡ ending out (accept_named (world_given q p c l i) q.packet.context_id f.row b)
+  found_refused f b a ea ex k =
+      let s = q.state in
+      refused-seen s p c l i out r x k
+      ∙ ap (ending out)
+      (named-turned s.runtime (held_pending s.places p) (held_circuits s.places c) (held_ledger s.places l)
+      (held_actions s.places i) q.packet.context_id f b x (sym ea ∙ ex))
+
+  pub accept_refused : (n : Option (Found RelayPending)) (read : Read AcceptBody)
+      (a : Result (Found RelayPending) HnsrRuntimeError) → q.peer ≡ peer_of source
+      → n ≡ pending_found (pending_at q.packet.context_id) (held_pending q.state.places p) → read ≡ decode_accept body
+      → a ≡ accept_entry n q.peer q.packet.now read → a ≡ Err x
+      → (r.state ≡ q.state) × (r.answer ≡ Err x) × (r.words ≡ 0)
+      → handed_seen r p c l i out
+      ≡ ending out (handle_accept (world_given q p c l i) (packet_of q.packet source body endpoint rs))
+  accept_refused n read a eq en ed ea ex k =
+      let s = q.state in
+      refused-seen s p c l i out r x k
+      ∙ ap (ending out)
+      (entry-turned s.runtime (held_pending s.places p) (held_circuits s.places c) (held_ledger s.places l)
+      (held_actions s.places i) q.packet source body endpoint rs x
+      (sym (λ j. accept_entry (en j) (eq j) q.packet.now (ed j)) ∙ sym ea ∙ ex))

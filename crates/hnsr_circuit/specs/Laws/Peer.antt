@@ -1,11 +1,16 @@
 -- Laws of names: two peers are the same exactly where their names are equal, so sameness goes both ways and on.
-use Rattle.std.specs.Prelude.{ℕ, ◌+◌, ◌≤◌, ◌<◌, ◌≡◌, refl, true, ◌&&◌, List, [], ◌∷◌, eqb, length, drop, get_or}
-use Rattle.std.proofs.Common.{sym, ◌∙◌, add-one, eqb-true, eq-eqb, drop_of_length-le, drop-cons}
+use Rattle.std.specs.Prelude.{ℕ, ◌+◌, ◌≤◌, ◌<◌, ◌≡◌, ◌≢◌, refl, true, false, ◌&&◌, min, List, [], ◌∷◌}
+use Rattle.std.specs.Prelude.{eqb, length, take, drop, get_or, replicate}
+use Rattle.std.proofs.Common.{sym, ap, ◌∙◌, add-one, eqb-true, eq-eqb, drop_of_length-le, drop-cons}
 use Rattle.std.proofs.lemmas.Bool.{false≢true}
 use Rattle.std.specs.Cmp.{IsPartialEquivalence, IsEquivalence, equiv}
 use Rattle.hnsr_circuit.specs.declared.peer.HnsrPeerId.{HnsrPeerId}
+use Rattle.std.proofs.lemmas.List.{take_min}
+use Rattle.hns_encoding.specs.Bytes.{padded}
+use Rattle.hns_encoding.specs.Cursor.{written_at}
 use Rattle.hns_encoding.specs.Laws.Tests.{split, both, clash}
-use Rattle.hnsr_circuit.specs.Peer.{peer_bytes, same_bytes, same_peer}
+use Rattle.hns_encoding.specs.Laws.Lists.{written_zeros}
+use Rattle.hnsr_circuit.specs.Peer.{maximum_peer, peer_bytes, same_bytes, same_peer}
 
 bytes-refl : (xs : List ℕ) → same_bytes xs xs ≡ true
 unfolding same_bytes
@@ -21,6 +26,9 @@ bytes_eq (x ∷ xs) (y ∷ ys) h =
     let k = both (eqb x y) (same_bytes xs ys) h in
     rw (eqb-true x y k.0, bytes_eq xs ys k.1)
 
+pub bytes_other : (xs ys : List ℕ) → xs ≢ ys → same_bytes xs ys ≡ false
+bytes_other xs ys h = split (same_bytes xs ys) (λ e. absurd (h (bytes_eq xs ys e))) (λ e. e)
+
 -- byte by byte, as a loop compares them
 pub bytes-step : (xs ys : List ℕ) (i : ℕ) → i < length xs → i < length ys
     → same_bytes (drop i xs) (drop i ys)
@@ -32,6 +40,16 @@ pub bytes_end : (xs ys : List ℕ) (i : ℕ) → length xs ≤ i → length ys �
     → same_bytes (drop i xs) (drop i ys) ≡ true
 unfolding same_bytes
 bytes_end xs ys i k l = rw (drop_of_length-le xs k, drop_of_length-le ys l)
+
+pub ruleset bytewise = (bytes-step, bytes_end)
+
+-- the stored form of a name of which as much is written as there is room for
+pub stored_name : (name : List ℕ) (most : ℕ) → most ≡ min maximum_peer (length name)
+    → written_at (replicate maximum_peer 0) 0 (take most name) ≡ padded maximum_peer (take maximum_peer name)
+stored_name name most e =
+    ap (λ (ys : List ℕ). written_at (replicate maximum_peer 0) 0 ys)
+    (ap (λ (n : ℕ). take n name) e ∙ take_min maximum_peer name)
+    ∙ written_zeros maximum_peer (take maximum_peer name)
 
 pub same_refl : (p : HnsrPeerId) → same_peer p p ≡ true
 unfolding same_peer

@@ -1,7 +1,7 @@
 -- No call moves the number of places of a table, whatever the world: each change is a `put`, an `edit`, a `set` or a
 -- `clear`.
 use Prim.Native.Nat.{ℕ, zero, suc}
-use Rattle.std.specs.Prelude.{◌≡◌, refl, Bool, true, false, List, length, Ok, Err}
+use Rattle.std.specs.Prelude.{◌≡◌, refl, Bool, true, false, List, length, Ok, Err, Option, Some}
 use Rattle.std.proofs.Common.{◌∙◌, length-set}
 use Rattle.std.proofs.lemmas.List.{length-map}
 use Rattle.hnsr_circuit.specs.declared.peer.HnsrPeerId.{HnsrPeerId}
@@ -12,8 +12,9 @@ use Rattle.hnsr_circuit.specs.declared.records.InflightAction.{InflightAction}
 use Rattle.hnsr_circuit.specs.declared.tables.scan.Walked.{Walked}
 use Rattle.hnsr_circuit.specs.declared.runtime.OpaqueRelayRuntime.{OpaqueRelayRuntime}
 use Rattle.hnsr_circuit.specs.Answers.{HnsrAnswer}
-use Rattle.hnsr_circuit.specs.Table.{not_yet}
+use Rattle.hnsr_circuit.specs.Table.{not_yet, next}
 use Rattle.hnsr_circuit.specs.Laws.Edits.{length-edit}
+use Rattle.hnsr_circuit.specs.Laws.Walks.{where-cases}
 use Rattle.hnsr_body.specs.declared.messages.Notice.{Notice}
 use Rattle.hnsr_circuit.specs.Pending.{pending_id, clear_pending}
 use Rattle.hnsr_circuit.specs.Circuits.{circuit_id, circuit_at, clear_circuit}
@@ -23,7 +24,8 @@ use Rattle.hnsr_circuit.specs.Queue.{Message, queued, can_queue, Sent, when, tel
 use Rattle.hnsr_circuit.specs.RevokingCalls.{disconnect_pending}
 use Rattle.hnsr_circuit.specs.Revocation.{without_actions, pending_table, circuit_table, without_pending, end_pending}
 use Rattle.hnsr_circuit.specs.Revocation.{end_circuit, end_pending_there, end_circuit_there, revoke_pending}
-use Rattle.hnsr_circuit.specs.Revocation.{revoke_circuit_there, revoke_circuit, walk_from, walk, revoke_all}
+use Rattle.hnsr_circuit.specs.Revocation.{revoke_circuit_there, revoke_circuit}
+use Rattle.hnsr_circuit.specs.Revocation.{walk_from, walk, revoke_all}
 
 -- w has as many places of each table as v
 pub record AsMany (v w : World) : Type 0 where
@@ -137,10 +139,12 @@ revoke-circuit-kept n w id = when-kept w _ _ w (as_many w) (revoke-there-kept n 
 
 module _ {A : Type 0} (id_of : A → ℕ) (table : World → List A) (p : A → Bool) (end : World → ℕ → Sent)
     (kept : (w : World) (place : ℕ) → AsMany w (end w place).world) where
-  walk-from-kept : (turns : ℕ) (c : Walked) (w : World) → AsMany w (walk_from id_of table p end turns c w).world
+  walk-from-kept : (turns : ℕ) (c : Option Walked) (w : World) → AsMany w (walk_from id_of table p end turns c w).world
   unfolding walk_from
   walk-from-kept zero c w = as_many w
-  walk-from-kept (suc turns) c w = when-kept w _ _ w (as_many w) (onward (kept w _) (walk-from-kept turns _ _))
+  walk-from-kept (suc turns) c w =
+      where-cases (λ (s : Sent). AsMany w s.world) end (walk_from id_of table p end turns) (next id_of p c (table w)) w
+      (λ r e. onward (kept w r.place) (walk-from-kept turns (Some r) (end w r.place).world)) (λ e. as_many w)
 
   pub walk_kept : (w : World) → AsMany w (walk id_of table p end w).world
   unfolding walk

@@ -1,8 +1,7 @@
 -- The calls that send nothing: what the code hands back is what the definition tells, or makes.
 use Rattle.std.specs.Prelude.{ℕ, ◌≡◌, true, false, List, [], Option, Ok, Err}
-use Rattle.std.proofs.Math.Path.{refl, subst}
+use Rattle.std.proofs.Math.Path.{subst}
 use Rattle.std.proofs.Common.{sym, ap, ◌∙◌, true≢false}
-use Rattle.std.proofs.lemmas.Bool.{false≢true}
 use Rattle.hnsr_circuit.specs.declared.records.RelayPending.{RelayPending}
 use Rattle.hnsr_circuit.specs.declared.records.RelayCircuit.{RelayCircuit}
 use Rattle.hnsr_circuit.specs.declared.records.ReservationUsage.{ReservationUsage}
@@ -17,12 +16,10 @@ use Rattle.hnsr_circuit.specs.Pending.{is_pending, clear_pending}
 use Rattle.hnsr_circuit.specs.Circuits.{is_circuit, clear_circuit}
 use Rattle.hnsr_circuit.specs.Ledger.{is_usage, clear_usage}
 use Rattle.hnsr_circuit.specs.Inflight.{is_action, clear_action, dropped}
-use Rattle.hnsr_circuit.specs.Runtime.{with_clock, no_runtime}
+use Rattle.hnsr_circuit.specs.Runtime.{no_runtime}
 use Rattle.hnsr_circuit.specs.Code.Held.{no_place, every_place}
-use Rattle.hnsr_circuit.specs.Route.{out_words, output}
-use Rattle.hnsr_circuit.specs.World.{World, status_is, due_is, done, proceed, telling, at_time, world_of}
+use Rattle.hnsr_circuit.specs.World.{World, status_is, due_is, done, proceed, telling, world_of}
 use Rattle.hnsr_circuit.specs.New.{emptied}
-use Rattle.hnsr_circuit.specs.Code.Progress.{result, handed_back, outcome}
 use Rattle.hnsr_circuit.specs.Code.Told.{status_told, due_told, Made}
 use Rattle.hnsr_circuit.specs.Laws.Queueing.{taken_is}
 
@@ -49,45 +46,10 @@ module _ (d : Option ℕ) (w : World) where
   unfolding proceed
   tells-no-due a e t = rw t
 
--- ---- the clock observed
-module _ (p : List RelayPending) (c : List RelayCircuit) (l : List ReservationUsage) (i : List InflightAction)
-    (out : List ℕ) (h : OpaqueRelayRuntime) (time : ℕ) where
-  moved : (a : HnsrAnswer) → taken a ≡ true
-      → result (world_of (with_clock h time) p c l i) a 0 out
-      ≡ outcome out (proceed (world_of h p c l i) a (done (at_time (world_of h p c l i) time) []))
-  unfolding proceed out_words output
-  moved (Ok _) t = refl
-  moved (Err e) t = absurd (false≢true t)
-
-  stays : (a : HnsrAnswer) → taken a ≡ false
-      → result (world_of h p c l i) a 0 out
-      ≡ outcome out (proceed (world_of h p c l i) a (done (at_time (world_of h p c l i) time) []))
-  unfolding proceed out_words output
-  stays (Ok _) f = absurd (true≢false f)
-  stays (Err e) f = refl
-
-  pub observed : (r : Relayed) (a b : HnsrAnswer) → taken a ≡ true → a ≡ b
-      → (r.runtime ≡ with_clock h time) × (r.answer ≡ a) × (r.words ≡ 0)
-      → handed_back r p c l i out
-      ≡ outcome out (proceed (world_of h p c l i) b (done (at_time (world_of h p c l i) time) []))
-  observed r a b t e f =
-      (λ x. result (world_of (f.0 x) p c l i) (f.1 x) (f.2 x) out) ∙ moved a t
-      ∙ ap
-      (λ (z : HnsrAnswer). outcome out (proceed (world_of h p c l i) z (done (at_time (world_of h p c l i) time) []))) e
-
-  pub unobserved : (r : Relayed) (a b : HnsrAnswer) → taken a ≡ false → a ≡ b
-      → (r.runtime ≡ h) × (r.answer ≡ a) × (r.words ≡ 0)
-      → handed_back r p c l i out
-      ≡ outcome out (proceed (world_of h p c l i) b (done (at_time (world_of h p c l i) time) []))
-  unobserved r a b t e f =
-      (λ x. result (world_of (f.0 x) p c l i) (f.1 x) (f.2 x) out) ∙ stays a t
-      ∙ ap
-      (λ (z : HnsrAnswer). outcome out (proceed (world_of h p c l i) z (done (at_time (world_of h p c l i) time) []))) e
-
 -- ---- new
 module _ (h n : OpaqueRelayRuntime) (p p' : List RelayPending) (c c' : List RelayCircuit) (l l' : List ReservationUsage)
     (i i' : List InflightAction) (r : Relayed) (a b : HnsrAnswer) (e : a ≡ b) where
-  pub empties : (r.runtime ≡ n) × (r.answer ≡ a) × (r.words ≡ 0) → r.places ≡ no_place
+  pub empties : (r.state.runtime ≡ n) × (r.answer ≡ a) × (r.words ≡ 0) → r.state.places ≡ no_place
       → p' ≡ clear clear_pending is_pending p → c' ≡ clear clear_circuit is_circuit c
       → l' ≡ clear clear_usage is_usage l → i' ≡ clear clear_action is_action i → taken a ≡ true
       → Made r p' c' l' i' (proceed (world_of h p c l i) b (done (emptied (world_of h p c l i) n) []))
@@ -105,8 +67,8 @@ module _ (h n : OpaqueRelayRuntime) (p p' : List RelayPending) (c c' : List Rela
         words = f.2;
       })
 
-  module _ (f : (r.runtime ≡ no_runtime) × (r.answer ≡ a) × (r.words ≡ 0)) (k : r.places ≡ every_place) (ep : p' ≡ p)
-      (ec : c' ≡ c) (el : l' ≡ l) (ei : i' ≡ i) where
+  module _ (f : (r.state.runtime ≡ no_runtime) × (r.answer ≡ a) × (r.words ≡ 0)) (k : r.state.places ≡ every_place)
+      (ep : p' ≡ p) (ec : c' ≡ c) (el : l' ≡ l) (ei : i' ≡ i) where
     keeps : (z : HnsrAnswer) → r.answer ≡ z → taken z ≡ false
         → Made r p' c' l' i' (proceed (world_of h p c l i) z (done (emptied (world_of h p c l i) n) []))
     unfolding proceed

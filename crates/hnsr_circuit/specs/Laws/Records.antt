@@ -8,8 +8,14 @@ use Rattle.hnsr_circuit.specs.declared.records.RelayPending.{RelayPending}
 use Rattle.hnsr_circuit.specs.declared.records.RelayCircuit.{RelayCircuit}
 use Rattle.hnsr_circuit.specs.declared.records.ReservationUsage.{ReservationUsage}
 use Rattle.hnsr_circuit.specs.declared.records.InflightAction.{InflightAction}
-use Rattle.hnsr_circuit.specs.Pending.{is_pending, pending_at, named_by, pending_marked, clear_pending}
-use Rattle.hnsr_circuit.specs.Circuits.{is_circuit, circuit_at, circuit_marked, clear_circuit}
+use Rattle.hnsr_circuit.specs.declared.tables.question.Revoking.{Revoking}
+use Rattle.hnsr_circuit.specs.declared.tables.question.Revoking.TheVariants.{Disabled, Disconnected, Reservation}
+use Rattle.hnsr_circuit.specs.declared.tables.question.Revoking.TheVariants.{Expired}
+use Rattle.hnsr_circuit.specs.Pending.{is_pending, pending_at, pending_of, pending_under, pending_over}
+use Rattle.hnsr_circuit.specs.Pending.{named_by, pending_marked, clear_pending}
+use Rattle.hnsr_circuit.specs.Circuits.{is_circuit, circuit_at, circuit_of, circuit_under, circuit_over}
+use Rattle.hnsr_circuit.specs.Circuits.{circuit_marked, clear_circuit}
+use Rattle.hnsr_circuit.specs.Code.Question.{pending_revoked, circuit_revoked}
 use Rattle.hnsr_circuit.specs.Ledger.{is_usage, usage_at, usage_over, usage_marked, clear_usage}
 use Rattle.hnsr_circuit.specs.Inflight.{is_action, action_at, action_toward, action_marked, clear_action}
 
@@ -78,3 +84,18 @@ action_at_used generation sequence a = refl
 pub action_toward_used : (peer : HnsrPeerId) (a : InflightAction) → action_toward peer (clear_action a) ≡ false
 unfolding action_toward
 action_toward_used peer a = refl
+
+-- ---- what a revoking call asks
+pub pending_revoked_used : (v : Revoking) (p : RelayPending) → pending_revoked v (clear_pending p) ≡ false
+unfolding pending_revoked is_pending pending_of pending_under pending_over
+pending_revoked_used Disabled p = refl
+pending_revoked_used (Disconnected peer) p = refl
+pending_revoked_used (Reservation id) p = refl
+pending_revoked_used (Expired now) p = refl
+
+pub circuit_revoked_used : (v : Revoking) (c : RelayCircuit) → circuit_revoked v (clear_circuit c) ≡ false
+unfolding circuit_revoked is_circuit circuit_of circuit_under circuit_over
+circuit_revoked_used Disabled c = refl
+circuit_revoked_used (Disconnected peer) c = refl
+circuit_revoked_used (Reservation id) c = refl
+circuit_revoked_used (Expired now) c = refl

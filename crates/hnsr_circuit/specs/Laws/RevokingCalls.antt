@@ -1,158 +1,132 @@
 -- What the code does for a revoking call that is not refused is the definition's.
-use Rattle.std.specs.Prelude.{ℕ, ◌≤◌, ◌<◌, ◌≡◌, Bool, true, false, ◌&&◌, List, [], length, Result, Ok, Err}
+use Rattle.std.specs.Prelude.{ℕ, ◌≤◌, ◌<◌, ◌≡◌, refl, Bool, true, false, ◌&&◌, List, [], length, eqb}
+use Rattle.std.specs.Prelude.{Result, Ok, Err}
 use Rattle.std.specs.Result.{result_and}
-use Rattle.hnsr_circuit.specs.declared.calls.revocation.Firsts.{Firsts}
-use Rattle.hnsr_circuit.specs.declared.answer.HnsrRuntimeError.{HnsrRuntimeError}
-use native.Mathlib.Omega.{arith}
-use Rattle.std.proofs.Math.Path.{refl, sym, ap}
-use Rattle.std.proofs.Common.{◌∙◌}
-use Rattle.std.proofs.Math.Bool.{cond, not}
-use Rattle.std.specs.Bool.{beq}
-use Rattle.hnsr_circuit.specs.declared.peer.HnsrPeerId.{HnsrPeerId}
-use Rattle.hnsr_circuit.specs.declared.records.RelayPending.{RelayPending}
-use Rattle.hnsr_circuit.specs.declared.records.RelayCircuit.{RelayCircuit}
-use Rattle.hnsr_circuit.specs.declared.records.ReservationUsage.{ReservationUsage}
-use Rattle.hnsr_circuit.specs.declared.records.InflightAction.{InflightAction}
-use Rattle.hnsr_circuit.specs.declared.tables.question.RecordQuestion.TheVariants.{Used, Under, Over}
-use Rattle.hnsr_circuit.specs.declared.tables.question.ActionsDropped.TheVariants.{Every, Toward}
-use Rattle.hnsr_circuit.specs.declared.calls.revocation.Revoking.{Revoking}
-use Rattle.hnsr_circuit.specs.declared.runtime.OpaqueRelayRuntime.{OpaqueRelayRuntime}
-use Rattle.hnsr_circuit.specs.Answers.{HnsrAnswer, taken, ◌then◌}
-use Rattle.hnsr_circuit.specs.Table.{clear, edit}
-use Rattle.hnsr_circuit.specs.Peer.{peer_of}
-use Rattle.hnsr_circuit.specs.Inflight.{is_action, clear_action, dropped}
-use Rattle.hnsr_circuit.specs.World.{Outcome, done, world_of}
-use Rattle.hnsr_circuit.specs.Entry.{room_answer, revoking_words, peer_answer, clock_answer}
-use Rattle.hnsr_circuit.specs.Code.Question.{pending_has, circuit_has, action_has}
-use Rattle.hnsr_circuit.specs.Code.Progress.{filled_to, placed, result, handed_back, ending}
-use Rattle.hnsr_circuit.specs.RevokingCalls.{disconnect, disconnect_peer, revoke_reservation, revoke_under}
-use Rattle.hnsr_circuit.specs.RevokingCalls.{expire, expire_at, change_answer, switch_to, replace_enabled}
-use Rattle.hnsr_circuit.specs.Code.Revoking.{ending_pending, revoking_all, disconnecting_all, revokes}
-use Rattle.hnsr_circuit.specs.declared.runtime.Relayed.{Relayed}
-use Rattle.hnsr_circuit.specs.declared.answer.HnsrRuntimeError.TheVariants.{GenerationExhausted}
-use Rattle.hnsr_body.specs.declared.values.ReservationId.{ReservationId}
-use Rattle.hnsr_body.specs.declared.messages.Notice.TheVariants.{ReservationRevoked, AcceptanceExpired}
-use Rattle.hnsr_body.specs.declared.messages.Notice.TheVariants.{TicketExpired, RelayDisabled}
+use Rattle.std.proofs.Common.{arith, sym, ap, ◌∙◌}
+use borrow.Author.Tests.{eqb-false}
 use Rattle.hns_encoding.specs.Numbers.{top}
 use Rattle.hns_encoding.specs.Laws.Tests.{on-true, on-false}
-use Rattle.std.proofs.Math.Dec.{eqb}
-use borrow.Author.Tests.{eqb-false}
-use Rattle.hnsr_circuit.specs.Runtime.{with_clock, with_enabled}
+use Rattle.hnsr_body.specs.declared.values.ReservationId.{ReservationId}
+use Rattle.hnsr_circuit.specs.declared.answer.HnsrRuntimeError.{HnsrRuntimeError}
+use Rattle.hnsr_circuit.specs.declared.answer.HnsrRuntimeError.TheVariants.{GenerationExhausted}
+use Rattle.hnsr_circuit.specs.declared.calls.revocation.Walks.{Walks}
+use Rattle.hnsr_circuit.specs.declared.tables.question.Revoking.{Revoking}
+use Rattle.hnsr_circuit.specs.declared.tables.question.Revoking.TheVariants.{Disabled, Disconnected, Reservation}
+use Rattle.hnsr_circuit.specs.declared.tables.question.Revoking.TheVariants.{Expired}
+use Rattle.hnsr_circuit.specs.Answers.{HnsrAnswer, ◌then◌}
+use Rattle.hnsr_circuit.specs.Table.{clear, edit}
+use Rattle.hnsr_circuit.specs.Peer.{peer_of}
 use Rattle.hnsr_circuit.specs.Ledger.{usage_at, clear_usage, lapsed}
+use Rattle.hnsr_circuit.specs.Inflight.{is_action, action_toward, clear_action, dropped}
+use Rattle.hnsr_circuit.specs.Runtime.{with_enabled}
+use Rattle.hnsr_circuit.specs.World.{World, done, with_runtime, with_ledger, with_inflight}
+use Rattle.hnsr_circuit.specs.World.{at_time}
+use Rattle.hnsr_circuit.specs.Queue.{generation_of}
+use Rattle.hnsr_circuit.specs.Entry.{room_answer, revoking_words, peer_answer, clock_answer}
 use Rattle.hnsr_circuit.specs.Acknowledge.{generation_answer}
+use Rattle.hnsr_circuit.specs.RevokingCalls.{disconnect, disconnect_peer, revoke_reservation, revoke_under}
+use Rattle.hnsr_circuit.specs.RevokingCalls.{expire, expire_at, changes, change_answer, switch_to, replace_enabled}
+use Rattle.hnsr_circuit.specs.Code.Question.{pending_revoked, circuit_revoked}
+use Rattle.hnsr_circuit.specs.Code.Revoking.{ending_pending, revoking_all, walks_of, entered}
 use Rattle.hnsr_circuit.specs.Laws.Answers.{check-taken, then_taken}
-use Rattle.hnsr_circuit.specs.Laws.Queueing.{taken_is, and-ok, and-err, ok-same}
-use Rattle.hnsr_circuit.specs.Laws.Calls.{gone-on}
+use Rattle.hnsr_circuit.specs.Laws.Seen.{passed}
 
--- what the entry of a revoking call lets pass, and what it refuses
-pub entry-passed : (a : HnsrAnswer) (x y : Firsts) (s : Result Firsts HnsrRuntimeError)
-    → s ≡ result_and a (Ok x) → s ≡ Ok y → (a ≡ Ok tt) × ((y.pending ≡ x.pending) × (y.circuits ≡ x.circuits))
-entry-passed a x y s es e =
-    let k = and-ok a (Ok x) y (sym es ∙ e) in
-    let f = sym (ok-same x y k.1) in
-    (k.0, (ap (λ (z : Firsts). z.pending) f, ap (λ (z : Firsts). z.circuits) f))
+-- ---- the entry: what it lets pass, and what it refuses
+ok_and : {X : Type 0} (a : HnsrAnswer) (x y : X) → result_and {U = X} a (Ok x) ≡ Ok y → (a ≡ Ok tt) × (y ≡ x)
+ok_and (Ok _) x y h = (refl, cc)
+ok_and (Err e) x y h = cc
 
-pub entry-refused : (a : HnsrAnswer) (x : Firsts) (e : HnsrRuntimeError) (s : Result Firsts HnsrRuntimeError)
-    → s ≡ result_and a (Ok x) → s ≡ Err e → a ≡ Err e
-entry-refused a x e s es f = and-err a x e (sym es ∙ f)
+err_and : {X : Type 0} (a : HnsrAnswer) (x : X) (e : HnsrRuntimeError) → result_and {U = X} a (Ok x) ≡ Err e
+    → a ≡ Err e
+err_and (Ok _) x e h = cc
+err_and (Err d) x e h = cc
+
+module _ (v : Revoking) (w : World) (room : ℕ) {own rows : HnsrAnswer} (same : own ≡ rows)
+    {s : Result Walks HnsrRuntimeError} (is : s ≡ entered v w room own) where
+  -- the walks that it begins
+  pub entry_walks : (k : Walks) → s ≡ Ok k → k ≡ walks_of v w.pending w.circuits
+  entry_walks k e = (ok_and _ (walks_of v w.pending w.circuits) k (sym is ∙ e)).1
+
+  pub entry_own : (k : Walks) → s ≡ Ok k → k ≡ walks_of k.revoking w.pending w.circuits
+  entry_own k e =
+      entry_walks k e ∙ ap (λ (x : Walks). walks_of x.revoking w.pending w.circuits) (sym (entry_walks k e))
+
+  pub entry_passed : (k : Walks) → s ≡ Ok k → (room_answer w room (revoking_words w) then rows) ≡ Ok tt
+  entry_passed k e =
+      ap (λ (r : HnsrAnswer). room_answer w room (revoking_words w) then r) (sym same)
+      ∙ (ok_and _ (walks_of v w.pending w.circuits) k (sym is ∙ e)).0
+
+  pub entry_refused : (e : HnsrRuntimeError) → s ≡ Err e
+      → (room_answer w room (revoking_words w) then rows) ≡ Err e
+  entry_refused e h =
+      ap (λ (r : HnsrAnswer). room_answer w room (revoking_words w) then r) (sym same)
+      ∙ err_and _ (walks_of v w.pending w.circuits) e (sym is ∙ h)
 
 pub then_nothing : (a : HnsrAnswer) → (a then Ok tt) ≡ a
 then_nothing (Ok _) = refl
 then_nothing (Err e) = refl
 
-module _ (h : OpaqueRelayRuntime) (p : List RelayPending) (c : List RelayCircuit) (l : List ReservationUsage)
-    (i : List InflightAction) where
-  pub disconnected : (peer : List ℕ) (room : ℕ) (a : HnsrAnswer) (name : HnsrPeerId) (v : Revoking)
-      (i' : List InflightAction)
-      → taken a ≡ true
-      → a ≡ (room_answer (world_of h p c l i) room (revoking_words (world_of h p c l i)) then peer_answer (length peer))
-      → name ≡ peer_of peer → v ≡ disconnecting_all name → i' ≡ clear clear_action (action_has Toward name) i
-      → revoking_all v (world_of h p c l i') ≡ disconnect (world_of h p c l i) peer room
-  unfolding disconnect disconnect_peer ending_pending pending_has circuit_has action_has dropped
-  disconnected peer room a name v i' t ea en ev ei =
-      let all = ev ∙ ap disconnecting_all en in
-      let left = ei ∙ ap (λ (x : HnsrPeerId). clear clear_action (action_has Toward x) i) en in
-      (λ x. revoking_all (all x) (world_of h p c l (left x)))
-      ∙ sym (gone-on (world_of h p c l i) a _ (disconnect_peer (world_of h p c l i) (peer_of peer)) t ea)
+-- ---- a changed state
+module _ (w : World) where
+  pub switched_on : (on : Bool) → on ≡ true
+      → done (with_inflight (with_runtime w (with_enabled w.runtime on)) (clear clear_action is_action w.inflight)) []
+      ≡ switch_to w on
+  unfolding switch_to dropped
+  switched_on true e = refl
+  switched_on false e = cc
 
-  -- ---- the other three
-  pub revoked-under : (id : ReservationId) (room : ℕ) (a : HnsrAnswer) (v : Revoking) (l' : List ReservationUsage)
-      → taken a ≡ true → a ≡ room_answer (world_of h p c l i) room (revoking_words (world_of h p c l i))
-      → v ≡ revokes (Under id) ReservationRevoked ReservationRevoked → l' ≡ edit (usage_at id) clear_usage l
-      → revoking_all v (world_of h p c l' i) ≡ revoke_reservation (world_of h p c l i) id room
-  unfolding revoke_reservation revoke_under ending_pending pending_has circuit_has
-  revoked-under id room a v l' t ea ev el =
-      (λ x. revoking_all (ev x) (world_of h p c (el x) i))
-      ∙ sym (gone-on (world_of h p c l i) a _ (revoke_under (world_of h p c l i) id) t ea)
+  pub switched_off : (on : Bool) → on ≡ false
+      → revoking_all Disabled
+      (with_inflight (with_runtime w (with_enabled w.runtime on)) (clear clear_action is_action w.inflight))
+      ≡ switch_to w on
+  unfolding switch_to dropped ending_pending pending_revoked circuit_revoked
+  switched_off true e = cc
+  switched_off false e = refl
 
-  pub expired : (time room : ℕ) (a : HnsrAnswer) (v : Revoking) (h' : OpaqueRelayRuntime) (l' : List ReservationUsage)
-      → taken a ≡ true
-      → a ≡ (room_answer (world_of h p c l i) room (revoking_words (world_of h p c l i))
-      then clock_answer h.trusted_time_high_water time)
-      → v ≡ revokes (Over time) AcceptanceExpired TicketExpired → h' ≡ with_clock h time → l' ≡ lapsed time l
-      → revoking_all v (world_of h' p c l' i) ≡ expire (world_of h p c l i) time room
-  unfolding expire expire_at ending_pending pending_has circuit_has
-  expired time room a v h' l' t ea ev eh el =
-      (λ x. revoking_all (ev x) (world_of (eh x) p c (el x) i))
-      ∙ sym (gone-on (world_of h p c l i) a _ (expire_at (world_of h p c l i) time) t ea)
+-- ---- each call, where its entry lets it pass
+module _ (w : World) (room : ℕ) where
+  abbrev room_row : HnsrAnswer
+  room_row = room_answer w room (revoking_words w)
 
-  -- ---- a changed state
-  module _ (h' : OpaqueRelayRuntime) (i' : List InflightAction) (nobody : HnsrPeerId) (on : Bool)
-      (eh : h' ≡ with_enabled h on) (ei : i' ≡ clear clear_action (action_has Every nobody) i) where
-    drops : i' ≡ dropped is_action i
-    unfolding action_has dropped
-    drops = ei
+  pub disconnected : (peer : List ℕ) → (room_row then peer_answer (length peer)) ≡ Ok tt
+      → revoking_all (Disconnected (peer_of peer))
+      (with_inflight w (clear clear_action (action_toward (peer_of peer)) w.inflight))
+      ≡ disconnect w peer room
+  unfolding disconnect disconnect_peer dropped ending_pending pending_revoked circuit_revoked
+  disconnected peer e = passed w _ (disconnect_peer w (peer_of peer)) e
 
-    pub switched-on : (r : Relayed) (out : List ℕ) → on ≡ true
-        → (r.runtime ≡ h') × (r.answer ≡ Ok tt) × (r.words ≡ 0)
-        → handed_back r p c l i' out ≡ ending out (switch_to (world_of h p c l i) on)
-    unfolding switch_to filled_to placed
-    switched-on r out t e =
-        let runtime = e.0 ∙ eh ∙ ap (with_enabled h) t in
-        (λ x. result (world_of (runtime x) p c l (drops x)) (e.1 x) (e.2 x) out)
-        ∙ ap (λ (b : Bool). ending out (switch_to (world_of h p c l i) b)) (sym t)
+  pub revoked_under : (id : ReservationId) → room_row ≡ Ok tt
+      → revoking_all (Reservation id) (with_ledger w (edit (usage_at id) clear_usage w.ledger))
+      ≡ revoke_reservation w id room
+  unfolding revoke_reservation revoke_under ending_pending pending_revoked circuit_revoked
+  revoked_under id e = passed w _ (revoke_under w id) e
 
-    pub switched-off : (v : Revoking) → on ≡ false → v ≡ revokes Used RelayDisabled RelayDisabled
-        → revoking_all v (world_of h' p c l i') ≡ switch_to (world_of h p c l i) on
-    unfolding switch_to ending_pending pending_has circuit_has
-    switched-off v f ev =
-        let runtime = eh ∙ ap (with_enabled h) f in
-        (λ x. revoking_all (ev x) (world_of (runtime x) p c l (drops x)))
-        ∙ ap (λ (b : Bool). switch_to (world_of h p c l i) b) (sym f)
+  pub expired : (time : ℕ) → (room_row then clock_answer w.runtime.trusted_time_high_water time) ≡ Ok tt
+      → revoking_all (Expired time) (with_ledger (at_time w time) (lapsed time w.ledger)) ≡ expire w time room
+  unfolding expire expire_at ending_pending pending_revoked circuit_revoked
+  expired time e = passed w _ (expire_at w time) e
 
-  module _ (expected room : ℕ) (on : Bool) (a : HnsrAnswer)
-      (ea : a ≡ (room_answer (world_of h p c l i) room (revoking_words (world_of h p c l i))
-      then generation_answer h.generation expected
-      then change_answer h.generation (not (beq h.enabled on)))) where
-    pub changed_state : taken a ≡ true → not (beq h.enabled on) ≡ true
-        → switch_to (world_of h p c l i) on ≡ replace_enabled (world_of h p c l i) expected on room
+  module _ (expected : ℕ) (on : Bool)
+      (e : (room_row
+      then generation_answer (generation_of w) expected
+      then change_answer (generation_of w) (changes w on)) ≡ Ok tt) where
+    pub changed_state : changes w on ≡ true → switch_to w on ≡ replace_enabled w expected on room
     unfolding replace_enabled
-    changed_state t e =
-        sym (on-true _ (switch_to (world_of h p c l i) on) (done (world_of h p c l i) []) e)
-        ∙ sym (gone-on (world_of h p c l i) a _
-        (cond (not (beq h.enabled on)) (switch_to (world_of h p c l i) on) (done (world_of h p c l i) [])) t ea)
+    changed_state t = sym (on-true _ (switch_to w on) (done w []) t) ∙ passed w _ _ e
 
-    pub same_state : (r : Relayed) (out : List ℕ) → taken a ≡ true → not (beq h.enabled on) ≡ false
-        → (r.runtime ≡ h) × (r.answer ≡ Ok tt) × (r.words ≡ 0)
-        → handed_back r p c l i out ≡ ending out (replace_enabled (world_of h p c l i) expected on room)
-    unfolding replace_enabled filled_to placed
-    same_state r out t f e =
-        let o = cond (not (beq h.enabled on)) (switch_to (world_of h p c l i) on) (done (world_of h p c l i) []) in
-        (λ x. result (world_of (e.0 x) p c l i) (e.1 x) (e.2 x) out)
-        ∙ ap (λ (z : Outcome). ending out z)
-        (sym (on-false _ (switch_to (world_of h p c l i) on) (done (world_of h p c l i) []) f)
-        ∙ sym (gone-on (world_of h p c l i) a _ o t ea))
+    pub same_state : changes w on ≡ false → done w [] ≡ replace_enabled w expected on room
+    unfolding replace_enabled
+    same_state t = sym (on-false _ (switch_to w on) (done w []) t) ∙ passed w _ _ e
 
     -- a state that changes has a generation to go to
-    pub below_top : h.generation ≤ top 64 → taken a ≡ true → not (beq h.enabled on) ≡ true
-        → h.generation < top 64
+    pub below_top : generation_of w ≤ top 64 → changes w on ≡ true → generation_of w < top 64
     unfolding change_answer
-    below_top k t e =
-        let b = not (beq h.enabled on) in
-        let rest = generation_answer h.generation expected then change_answer h.generation b in
-        let all = (then_taken (room_answer (world_of h p c l i) room (revoking_words (world_of h p c l i))) rest
-        (taken_is _ (ap taken (sym ea) ∙ t))).1 in
-        let last = (then_taken (generation_answer h.generation expected) (change_answer h.generation b) all).1 in
-        let no_top = check-taken (b && eqb h.generation (top 64)) GenerationExhausted last in
-        let differs = eqb-false h.generation (top 64) (rw e at no_top) in
+    below_top k t =
+        let b = changes w on in
+        let rest = (then_taken room_row (generation_answer (generation_of w) expected
+        then change_answer (generation_of w) b) e).1 in
+        let last =
+        (then_taken (generation_answer (generation_of w) expected) (change_answer (generation_of w) b) rest).1 in
+        let no_top = check-taken (b && eqb (generation_of w) (top 64)) GenerationExhausted last in
+        let differs = eqb-false (generation_of w) (top 64) (rw t at no_top) in
         omega arith

@@ -5,6 +5,7 @@
 use Prim.Native.Nat.{ℕ, zero, suc, ◌+◌, ◌*◌, ◌≤◌, ◌<◌}
 use native.Mathlib.Omega.{arith}
 use Rattle.std.specs.Prelude.{◌≡◌, refl, Bool, true, false, cond, List, [], ◌∷◌, ◌++◌, length, get_or, set, Ok, Err}
+use Rattle.std.specs.Prelude.{Option, Some}
 use Rattle.std.proofs.Common.{ap, length-append}
 use Rattle.hnsr_body.specs.declared.messages.Notice.{Notice}
 use Rattle.hnsr_body.specs.Messages.{notice_body, notice_size}
@@ -13,7 +14,7 @@ use Rattle.hnsr_circuit.specs.Answers.{HnsrAnswer}
 use Rattle.hns_encoding.specs.Sums.{one, count}
 use Rattle.hnsr_circuit.specs.Table.{not_yet, next}
 use Rattle.hns_encoding.specs.Laws.Sums.{total-set}
-use Rattle.hnsr_circuit.specs.Laws.Walks.{Stands, next-stands}
+use Rattle.hnsr_circuit.specs.Laws.Walks.{where-cases, Stands, next-stands}
 use Rattle.hns_encoding.specs.Words.{word_count}
 use Rattle.hnsr_circuit.specs.Route.{Route, head_words, out_words}
 use Rattle.hnsr_circuit.specs.Laws.Route.{notice_fits, length-words, route-words}
@@ -85,31 +86,29 @@ module _ {A : Type 0} (id_of : A → ℕ) (table : World → List A) (p : A → 
     (each : (w : World) (place : ℕ) → filled (end w place).routes ≤ closing_words)
     (fewer : (w : World) (place : ℕ) → place < length (table w) → used (get_or (table w) place d) ≡ true
     → count used (table (end w place).world) + 1 ≡ count used (table w)) where
-  walk-from-fits : (turns : ℕ) (c : Walked) (w : World)
+  walk-from-fits : (turns : ℕ) (c : Option Walked) (w : World)
       → filled (walk_from id_of table p end turns c w).routes ≤ closing_words * count used (table w)
   unfolding walk_from out_words
   walk-from-fits zero c w = omega arith
   walk-from-fits (suc turns) c w =
-      when-fits _ _ w _
-      (λ e. turn (next-stands id_of p c (table w) d e)
-      (walk-from-fits turns (next id_of p c (table w)) (end w (next id_of p c (table w)).place).world))
+      where-cases (λ (s : Sent). filled s.routes ≤ closing_words * count used (table w)) end
+      (walk_from id_of table p end turns) (next id_of p c (table w)) w
+      (λ r e. turn r (next-stands id_of p c (table w) d r e) (walk-from-fits turns (Some r) (end w r.place).world))
+      (λ e. omega arith)
     where
-      turn : Stands id_of p c (table w) d (next id_of p c (table w))
-          → filled (walk_from id_of table p end turns (next id_of p c (table w))
-          (end w (next id_of p c (table w)).place).world).routes
-          ≤ closing_words * count used (table (end w (next id_of p c (table w)).place).world)
-          → filled (and_then (end w (next id_of p c (table w)).place)
-          (walk_from id_of table p end turns (next id_of p c (table w)))).routes
+      turn : (r : Walked) → Stands id_of p c (table w) d r
+          → filled (walk_from id_of table p end turns (Some r) (end w r.place).world).routes
+          ≤ closing_words * count used (table (end w r.place).world)
+          → filled (and_then (end w r.place) (walk_from id_of table p end turns (Some r))).routes
           ≤ closing_words * count used (table w)
-      turn s r =
-          let n = next id_of p c (table w) in
+      turn r s k =
           omega (
             arith,
-            fewer w n.place s.within (marked (get_or (table w) n.place d) s.has),
-            each w n.place,
-            r,
-            filled-append (end w n.place).routes
-                (walk_from id_of table p end turns n (end w n.place).world).routes,
+            fewer w r.place s.within (marked (get_or (table w) r.place d) s.has),
+            each w r.place,
+            k,
+            filled-append (end w r.place).routes
+                (walk_from id_of table p end turns (Some r) (end w r.place).world).routes,
           )
 
   pub walk-fits : (w : World) → filled (walk id_of table p end w).routes ≤ closing_words * count used (table w)

@@ -4,10 +4,11 @@
 --
 use Prim.Native.Nat.{ℕ, zero, suc, ◌+◌, ◌*◌, ◌≤◌, ◌<◌}
 use Rattle.std.proofs.Common.{arith, ap, ◌∙◌}
-use Rattle.std.specs.Prelude.{◌≡◌, Bool, true, false, cond, List, length, Ok, Err}
+use Rattle.std.specs.Prelude.{◌≡◌, Bool, true, false, cond, List, length, Ok, Err, Option, Some}
 use Rattle.std.proofs.Math.Path.{refl}
 use Rattle.hnsr_body.specs.declared.messages.Notice.{Notice}
-use Rattle.hnsr_body.specs.declared.messages.Notice.TheVariants.{PeerDisconnected}
+use Rattle.hnsr_body.specs.declared.messages.Notice.TheVariants.{RelayDisabled, PeerDisconnected, ReservationRevoked}
+use Rattle.hnsr_body.specs.declared.messages.Notice.TheVariants.{AcceptanceExpired}
 use Rattle.hnsr_body.specs.Messages.{notice_body}
 use Rattle.hnsr_circuit.specs.declared.peer.HnsrPeerId.{HnsrPeerId}
 use Rattle.hnsr_circuit.specs.declared.records.RelayPending.{RelayPending}
@@ -15,20 +16,23 @@ use Rattle.hnsr_circuit.specs.declared.records.RelayCircuit.{RelayCircuit}
 use Rattle.hnsr_circuit.specs.declared.tables.scan.Walked.{Walked}
 use Rattle.hnsr_circuit.specs.Answers.{HnsrAnswer}
 use Rattle.hns_encoding.specs.Sums.{count}
-use Rattle.hnsr_circuit.specs.Table.{not_yet}
+use Rattle.hnsr_circuit.specs.Table.{not_yet, next}
 use Rattle.hnsr_circuit.specs.Peer.{same_peer}
 use Rattle.hnsr_circuit.specs.Pending.{no_pending, pending_id, is_pending, clear_pending}
 use Rattle.hnsr_circuit.specs.Circuits.{no_circuit, circuit_id, is_circuit, clear_circuit}
 use Rattle.hnsr_circuit.specs.World.{World}
-use Rattle.hnsr_circuit.specs.Queue.{Message, queued, can_queue, Sent, when, tell_if, tell}
+use Rattle.hnsr_circuit.specs.Queue.{Message, queued, can_queue, Sent, tell_if, tell}
 use Rattle.hnsr_circuit.specs.Entry.{closing_words}
 use Rattle.hnsr_circuit.specs.Revocation.{without_actions, pending_there, circuit_there, end_pending_there}
 use Rattle.hnsr_circuit.specs.Revocation.{end_circuit_there, error_to_requester, close_to_requester, close_to_endpoint}
-use Rattle.hnsr_circuit.specs.Revocation.{close_to, revoke_pending, revoke_circuit_there, revoke_circuit, walk_from}
-use Rattle.hnsr_circuit.specs.Revocation.{walk, pending_table, circuit_table, revoke_all}
+use Rattle.hnsr_circuit.specs.Revocation.{close_to, revoke_pending, revoke_circuit_there, revoke_circuit}
+use Rattle.hnsr_circuit.specs.Revocation.{walk_from, walk, pending_table, circuit_table, revoke_all}
 use Rattle.hnsr_circuit.specs.RevokingCalls.{close_to_other, disconnect_pending}
-use Rattle.hnsr_circuit.specs.declared.calls.revocation.Revoking.{Revoking}
+use Rattle.hnsr_circuit.specs.declared.tables.question.Revoking.{Revoking}
+use Rattle.hnsr_circuit.specs.declared.tables.question.Revoking.TheVariants.{Disabled, Disconnected, Reservation}
+use Rattle.hnsr_circuit.specs.declared.tables.question.Revoking.TheVariants.{Expired}
 use Rattle.hnsr_circuit.specs.Code.Revoking.{ending_pending}
+use Rattle.hnsr_circuit.specs.Laws.Walks.{where-cases}
 use Rattle.hnsr_circuit.specs.Laws.Room.{filled, filled-append, notice_told}
 use Rattle.hnsr_circuit.specs.Laws.Room.{two-told, when-fits, one_fewer, walk-fits}
 
@@ -50,12 +54,6 @@ tell-pending m w = tell-if-pending (can_queue m w) m w
 tell-circuits : (m : Message) (w : World) → (tell m w).world.circuits ≡ w.circuits
 unfolding tell
 tell-circuits m w = tell-if-circuits (can_queue m w) m w
-
-when-circuits : (b : Bool) (part : World → Sent) (w : World) → (part w).world.circuits ≡ w.circuits
-    → (when b part w).world.circuits ≡ w.circuits
-unfolding when
-when-circuits true part w h = h
-when-circuits false part w h = refl
 
 pending-fewer : (w : World) (place : ℕ) → place < length w.pending → (pending_there w place).used ≡ true
     → count is_pending (end_pending_there w place).pending + 1 ≡ count is_pending w.pending
@@ -147,11 +145,14 @@ revoke-there-fewer n w place l h =
 -- ---- the walk over pending records leaves the circuits alone
 module _ {A : Type 0} (id_of : A → ℕ) (table : World → List A) (p : A → Bool) (end : World → ℕ → Sent)
     (keep : (w : World) (place : ℕ) → (end w place).world.circuits ≡ w.circuits) where
-  walk-from-circuits : (turns : ℕ) (c : Walked) (w : World)
+  walk-from-circuits : (turns : ℕ) (c : Option Walked) (w : World)
       → (walk_from id_of table p end turns c w).world.circuits ≡ w.circuits
   unfolding walk_from
   walk-from-circuits zero c w = refl
-  walk-from-circuits (suc turns) c w = when-circuits _ _ w (walk-from-circuits turns _ _ ∙ keep w _)
+  walk-from-circuits (suc turns) c w =
+      where-cases (λ (s : Sent). s.world.circuits ≡ w.circuits) end (walk_from id_of table p end turns)
+      (next id_of p c (table w)) w (λ r e. walk-from-circuits turns (Some r) (end w r.place).world ∙ keep w r.place)
+      (λ e. refl)
 
   walk-circuits : (w : World) → (walk id_of table p end w).world.circuits ≡ w.circuits
   unfolding walk
@@ -160,14 +161,13 @@ module _ {A : Type 0} (id_of : A → ℕ) (table : World → List A) (p : A → 
 pub walk-pending-circuits : (v : Revoking) (p : RelayPending → Bool) (w : World)
     → (walk pending_id pending_table p (ending_pending v) w).world.circuits ≡ w.circuits
 unfolding ending_pending
-walk-pending-circuits v p w =
-    walk-circuits pending_id pending_table p (ending_pending v) (λ x place. either_way v.disconnecting x place) w
+walk-pending-circuits v p w = walk-circuits pending_id pending_table p (ending_pending v) (either_way v) w
   where
-    either_way : (d : Bool) (w : World) (place : ℕ)
-        → (cond d (disconnect_pending v.peer w place) (revoke_pending v.notice w place)).world.circuits
-        ≡ w.circuits
-    either_way true w place = disconnect-pending-circuits v.peer w place
-    either_way false w place = revoke-pending-circuits v.notice w place
+    either_way : (v : Revoking) (w : World) (place : ℕ) → (ending_pending v w place).world.circuits ≡ w.circuits
+    either_way Disabled w place = revoke-pending-circuits RelayDisabled w place
+    either_way (Disconnected peer) w place = disconnect-pending-circuits peer w place
+    either_way (Reservation id) w place = revoke-pending-circuits ReservationRevoked w place
+    either_way (Expired now) w place = revoke-pending-circuits AcceptanceExpired w place
 
 -- ---- all that have a property
 pub revoke-all-fits : (end_p : World → ℕ → Sent) (p : RelayPending → Bool) (n : Notice)

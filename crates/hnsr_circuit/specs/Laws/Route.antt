@@ -1,9 +1,9 @@
 -- How many words: a route is its head and its body's (OUT.4), the head is 40 for peers of 128 bytes, and what the calls
 -- ask for follows from that (OUT.8). No notice of the relay's own is longer than was reckoned with.
-use Rattle.std.specs.Prelude.{ℕ, ◌+◌, ◌-◌, ◌≤◌, ◌<◌, ◌≡◌, refl, true, false, List, ◌++◌, length, take, replicate}
+use Rattle.std.specs.Prelude.{ℕ, ◌+◌, ◌-◌, ◌≤◌, ◌<◌, ◌≡◌, refl, true, List, ◌++◌, length, take, replicate}
 use Rattle.std.proofs.Common.{arith, le-leb, sym, ap, ◌∙◌, take_at, length-append, length-drop}
 use Rattle.hns_encoding.specs.Cursor.{within, written, written_at}
-use Rattle.hns_encoding.specs.Laws.Tests.{on-true, on-false}
+use Rattle.hns_encoding.specs.Laws.Tests.{on-true}
 use Rattle.hns_encoding.specs.Laws.Lists.{written_behind, written-length}
 use Rattle.hns_encoding.specs.Bytes.{be_bytes, le_bytes, padded}
 use Rattle.hns_encoding.specs.Words.{words}
@@ -46,21 +46,14 @@ notice_fits EndpointWriteFailed = omega arith
 notice_fits OuterWriteFailed = omega arith
 
 -- what is written of a notice: its body, in front of the array
-pub notice_length : (w : Padded notice_size) (n : Notice) → w ≡ notice_written n
-    → (w.length ≤ length w.bytes) × (w.length < 65536)
+pub notice_slice : (w : Padded notice_size) (n : Notice) → w ≡ notice_written n → take w.length w.bytes ≡ notice_body n
 unfolding notice_written padded
-notice_length w n e =
-    let long = notice_fits n in
-    let a = ap (λ (v : Padded notice_size). v.length) e in
-    let b = ap (λ (v : Padded notice_size). length v.bytes) e
-    ∙ length-append (notice_body n) (replicate (notice_size - length (notice_body n)) 0) in
-    (omega arith, omega arith)
-
-pub notice_bytes : (w : Padded notice_size) (n : Notice) → w ≡ notice_written n → take w.length w.bytes ≡ notice_body n
-unfolding notice_written padded
-notice_bytes w n e =
+notice_slice w n e =
     ap (λ (v : Padded notice_size). take v.length v.bytes) e
     ∙ take_at (notice_body n) (replicate (notice_size - length (notice_body n)) 0) (length (notice_body n)) refl
+
+pub notice_short : (n : Notice) → length (notice_body n) < 65536
+notice_short n = omega (arith, notice_fits n)
 
 -- ---- bytes four to a word
 pub length-words : (bs : List ℕ) → length (words bs) ≡ word_count (length bs)
@@ -128,6 +121,5 @@ wrote_all {xs} {now} {done} {at} {n} w l =
     let size = w.size in
     w.same ∙ sym (on-true _ (written_at xs at done) xs (le-leb (at + length done) (length xs) (omega arith)))
 
--- what does not fit is not written
-pub wrote_none : (xs ys : List ℕ) (at : ℕ) → within (length xs) at (length ys) ≡ false → xs ≡ written xs at ys
-wrote_none xs ys at h = sym (on-false _ (written_at xs at ys) xs h)
+-- how long a route and its parts are, for a tactic
+pub ruleset route_laws = (length-words, route-words, peer-words, packet-words, written-length)

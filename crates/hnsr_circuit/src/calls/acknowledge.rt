@@ -1,15 +1,17 @@
 // `acknowledge` (ACK): an action goes, and with it what it held; what was not delivered ends its record.
-ghost use Rattle.std.specs.Prelude.{◌≡◌, ◌||◌, List, ℕ, ltb, length};
+ghost use Rattle.std.specs.Prelude.{◌≡◌, ◌||◌, Some, List, ℕ, ltb, length};
 ghost use Rattle.hnsr_body.specs.Messages.{notice_body};
-ghost use Rattle.hnsr_circuit.specs.Code.Held.{held_circuits, held_actions, world_seen, handed_seen};
-ghost use Rattle.hnsr_circuit.specs.declared.answer.HnsrRuntimeError.TheVariants.{Short};
+ghost use Rattle.hnsr_circuit.specs.Code.Held.{held_circuits, held_actions, state_seen, handed_seen};
+ghost use Rattle.std.specs.Option.{ok_or};
+ghost use Rattle.std.specs.Result.{result_and};
+ghost use Rattle.hnsr_circuit.specs.declared.answer.HnsrRuntimeError.TheVariants.{Short, UnknownAction};
 ghost use Rattle.hnsr_circuit.specs.declared.records.RelayPending.{RelayPending};
 ghost use Rattle.hnsr_circuit.specs.declared.records.RelayCircuit.{RelayCircuit};
 ghost use Rattle.hnsr_circuit.specs.declared.records.ReservationUsage.{ReservationUsage};
-ghost use Rattle.hnsr_circuit.specs.Answers.{check, ◌then◌};
+ghost use Rattle.hnsr_circuit.specs.Answers.{check};
 ghost use Rattle.hnsr_circuit.specs.Inflight.{action_at, kind_of};
 ghost use Rattle.hnsr_circuit.specs.Entry.{acknowledge_words};
-ghost use Rattle.hnsr_circuit.specs.Acknowledge.{generation_answer, action_answer};
+ghost use Rattle.hnsr_circuit.specs.Acknowledge.{generation_answer};
 ghost use Rattle.hnsr_circuit.specs.Acknowledge.{lower_for, fail_incoming, acknowledge_action, settled};
 ghost use Rattle.hnsr_circuit.specs.Queue.{send};
 ghost use Rattle.hnsr_circuit.specs.Code.Progress.{message_of, ending, outcome};
@@ -17,44 +19,36 @@ ghost use Rattle.hnsr_circuit.specs.Code.Lookup.{action_found};
 ghost use Rattle.hnsr_circuit.specs.declared.records.InflightAction.{InflightAction};
 ghost use Rattle.hnsr_circuit.specs.Call.{step, call_acknowledge};
 
-use crate::answer::{HnsrAnswer, HnsrRuntimeError, check};
+use crate::answer::{HnsrRuntimeError, check};
 use crate::calls::revocation::{error_to_requester, revoke_one};
 use crate::entry::{generation_answer, too_few};
 use crate::output::queue::{Outgoing, asking, send};
-use crate::output::route::CLOSING_WORDS;
+use crate::output::route::{CLOSING_WORDS, PacketBody};
 use crate::records::{InflightAction, InflightKind, RelayCircuit, RelayPending};
-use crate::runtime::{OpaqueRelayRuntime, Relayed};
+use crate::runtime::{RelayState, Relayed};
 use crate::tables::inflight::scan_actions;
 use crate::tables::lookup::{Found, look_up};
 use crate::tables::places::Places;
 use crate::tables::question::{ById, ByNumber};
-use crate::tables::record::TableRecord;
 use crate::tables::stores::lower_circuit;
-use crate::tables::table::set;
+use crate::tables::table::unmark;
 use hnsr_body::messages::Notice;
 
-// 20 (ACK.2): no such action
-#[tactic(auto, unfolding(crate::specs::Acknowledge::action_answer))]
-pub(crate) fn action_answer(found: bool) -> HnsrAnswer
-    ensures { result ≡ action_answer found }
-{
-    check(!found, HnsrRuntimeError::UnknownAction)
-}
-
-fn acknowledge_answer(
-    runtime: OpaqueRelayRuntime,
+// The action that is acknowledged. 22, 5, 20 (ACK.1, ACK.2), in this order: too short, another generation, no such
+// action
+fn outstanding(
+    current: u64,
     few: bool,
     room: usize,
     generation: u64,
-    found: Found<InflightAction>,
-) -> HnsrAnswer
-    ensures { result ≡ (check (ltb room acknowledge_words || few) Short
-        then generation_answer runtime.generation generation
-        then action_answer found.found) }
+    numbered: Option<Found<InflightAction>>,
+) -> Result<Found<InflightAction>, HnsrRuntimeError>
+    ensures { result ≡ result_and (check (ltb room acknowledge_words || few) Short)
+        (result_and (generation_answer current generation) (ok_or numbered UnknownAction)) }
 {
     check(room < CLOSING_WORDS || few, HnsrRuntimeError::Short)?;
-    generation_answer(runtime.generation, generation)?;
-    action_answer(found.found)
+    generation_answer(current, generation)?;
+    numbered.ok_or(HnsrRuntimeError::UnknownAction)
 }
 
 // ACK.4: a Data's bytes leave the queue.
@@ -67,7 +61,6 @@ fn lower_for(circuits: &mut [RelayCircuit], places: Places, action: InflightActi
         InflightKind::Data => lower_circuit(
             circuits,
             places,
-            true,
             action.circuit_id,
             action.toward_side(),
             action.bytes,
@@ -82,33 +75,25 @@ fn lower_for(circuits: &mut [RelayCircuit], places: Places, action: InflightActi
 // ---- undelivered
 
 // A message of the relay's own, as the last step of a call.
+#[tactic(auto, using(crate::specs::Laws::Route::notice_slice, crate::specs::Laws::Route::notice_short))]
 pub(crate) fn send_notice(
     inflight: &mut [InflightAction],
     out: &mut [u32],
-    runtime: OpaqueRelayRuntime,
-    places: Places,
+    state: RelayState,
     message: Outgoing,
     notice: Notice,
 ) -> Relayed
     ensures { (p : List RelayPending) (c : List RelayCircuit) (l : List ReservationUsage)
         → handed_seen result p c l inflight.new out.new
         ≡ ending out.old
-        (send (world_seen runtime places p c l inflight.old) (message_of message (notice_body notice))) }
+        (send (state_seen state p c l inflight.old) (message_of message (notice_body notice))) }
 {
-    let question = asking(runtime, message);
-    let scan = scan_actions(inflight, places, question);
+    let scan = scan_actions(inflight, state.places, asking(state.runtime, message));
     let written = notice.encode();
-    let bytes = written.bytes;
-    let length = written.length;
-    send(
-        inflight,
-        out,
-        runtime,
-        places,
-        message,
-        scan,
-        &bytes[..length],
-    )
+    let body = PacketBody {
+        bytes: written.as_slice(),
+    };
+    send(inflight, out, state, message, scan, body)
 }
 
 // ACK.6: a lost Incoming ends its pending record and no other action.
@@ -116,31 +101,23 @@ pub(crate) fn fail_incoming(
     pending: &mut [RelayPending],
     inflight: &mut [InflightAction],
     out: &mut [u32],
-    runtime: OpaqueRelayRuntime,
-    places: Places,
+    state: RelayState,
     id: u64,
 ) -> Relayed
     ensures { (c : List RelayCircuit) (l : List ReservationUsage)
         → handed_seen result pending.new c l inflight.new out.new
         ≡ ending out.old
-        (fail_incoming (world_seen runtime places pending.old c l inflight.old) id) }
+        (fail_incoming (state_seen state pending.old c l inflight.old) id) }
 {
-    let found = look_up(pending, places.pending, &ById { id });
-    if !found.found {
-        return Relayed::taken(runtime, places);
+    match look_up(pending, state.places.pending, &ById { id }) {
+        Some(found) => {
+            unmark(pending, state.places.pending, found.place);
+            let after = state.with_runtime(state.runtime.revoked());
+            let message = error_to_requester(found.row);
+            send_notice(inflight, out, after, message, Notice::EndpointWriteFailed)
+        }
+        None => Relayed::taken(state),
     }
-    let gone = found.row.unmarked();
-    set(pending, true, found.place, gone);
-    let after = runtime.revoked();
-    let message = error_to_requester(found.row);
-    send_notice(
-        inflight,
-        out,
-        after,
-        places,
-        message,
-        Notice::EndpointWriteFailed,
-    )
 }
 
 // ACK.6 to ACK.9: by kind, and by what is still there.
@@ -149,39 +126,30 @@ pub(crate) fn settle(
     circuits: &mut [RelayCircuit],
     inflight: &mut [InflightAction],
     out: &mut [u32],
-    runtime: OpaqueRelayRuntime,
-    places: Places,
+    state: RelayState,
     action: InflightAction,
     delivered: bool,
 ) -> Relayed
     ensures { (l : List ReservationUsage)
         → handed_seen result pending.new circuits.new l inflight.new out.new
         ≡ ending out.old
-        (settled (world_seen runtime places pending.old circuits.old l inflight.old)
+        (settled (state_seen state pending.old circuits.old l inflight.old)
         action delivered) }
 {
     if delivered {
-        return Relayed::taken(runtime, places);
+        return Relayed::taken(state);
     }
     match InflightKind::from(action.kind) {
-        InflightKind::Incoming => fail_incoming(
-            pending,
-            inflight,
-            out,
-            runtime,
-            places,
-            action.circuit_id,
-        ),
+        InflightKind::Incoming => fail_incoming(pending, inflight, out, state, action.circuit_id),
         InflightKind::Opened | InflightKind::Data | InflightKind::Control => revoke_one(
             circuits,
             inflight,
             out,
-            runtime,
-            places,
+            state,
             Notice::OuterWriteFailed,
             action.circuit_id,
         ),
-        InflightKind::Close => Relayed::taken(runtime, places),
+        InflightKind::Close => Relayed::taken(state),
     }
 }
 
@@ -190,25 +158,22 @@ pub(crate) fn acknowledge_action(
     circuits: &mut [RelayCircuit],
     inflight: &mut [InflightAction],
     out: &mut [u32],
-    runtime: OpaqueRelayRuntime,
-    places: Places,
+    state: RelayState,
     found: Found<InflightAction>,
     delivered: bool,
 ) -> Relayed
     ensures { (l : List ReservationUsage) (generation sequence : ℕ)
-        → found ≡ action_found (action_at generation sequence) (held_actions places inflight.old)
+        → action_found (action_at generation sequence) (held_actions state.places inflight.old) ≡ Some found
         → handed_seen result pending.new circuits.new l inflight.new out.new
         ≡ ending out.old
         (acknowledge_action
-        (world_seen runtime places pending.old circuits.old l inflight.old) generation
+        (state_seen state pending.old circuits.old l inflight.old) generation
         sequence delivered found.row) }
 {
-    let action = found.row;
-    let gone = action.unmarked();
-    set(inflight, true, found.place, gone);
-    lower_for(circuits, places, action);
+    unmark(inflight, state.places.actions, found.place);
+    lower_for(circuits, state.places, found.row);
     settle(
-        pending, circuits, inflight, out, runtime, places, action, delivered,
+        pending, circuits, inflight, out, state, found.row, delivered,
     )
 }
 
@@ -217,8 +182,7 @@ pub fn acknowledge(
     circuits: &mut [RelayCircuit],
     inflight: &mut [InflightAction],
     out: &mut [u32],
-    runtime: OpaqueRelayRuntime,
-    places: Places,
+    state: RelayState,
     generation: u64,
     sequence: u64,
     delivered: bool,
@@ -226,20 +190,24 @@ pub fn acknowledge(
     ensures { (l : List ReservationUsage)
         → handed_seen result pending.new circuits.new l inflight.new out.new
         ≡ outcome out.old
-        (step (world_seen runtime places pending.old circuits.old l inflight.old)
+        (step (state_seen state pending.old circuits.old l inflight.old)
         (call_acknowledge generation sequence delivered (length out.old))) }
 {
-    let config = runtime.config;
+    let config = state.runtime.config;
     let number = ByNumber {
         generation,
         sequence,
     };
-    let found = look_up(inflight, places.actions, &number);
+    let numbered = look_up(inflight, state.places.actions, &number);
     let few = too_few(config, pending.len(), circuits.len(), inflight.len());
-    match acknowledge_answer(runtime, few, out.len(), generation, found) {
-        Ok(()) => acknowledge_action(
-            pending, circuits, inflight, out, runtime, places, found, delivered,
-        ),
-        Err(error) => Relayed::refused(runtime, places, error),
+    match outstanding(
+        state.runtime.generation,
+        few,
+        out.len(),
+        generation,
+        numbered,
+    ) {
+        Ok(found) => acknowledge_action(pending, circuits, inflight, out, state, found, delivered),
+        Err(error) => Relayed::refused(state, error),
     }
 }

@@ -1,7 +1,7 @@
 // `handle`: entry, clock, gate, and then the message that the opcode names (HANDLE).
 ghost use Rattle.std.specs.Prelude.{◌≡◌, ◌||◌, ◌<◌, ltb, length, List, ℕ};
 ghost use Rattle.hnsr_circuit.specs.Peer.{peer_of};
-ghost use Rattle.hnsr_circuit.specs.Code.Held.{world_seen, world_given, handed_seen};
+ghost use Rattle.hnsr_circuit.specs.Code.Held.{state_seen, world_given, handed_seen};
 ghost use Rattle.hnsr_circuit.specs.declared.answer.HnsrRuntimeError.TheVariants.{Short};
 ghost use Rattle.hnsr_circuit.specs.Answers.{check, ◌then◌};
 ghost use Rattle.hnsr_circuit.specs.Entry.{handle_words, peer_answer, packet_answer, clock_answer};
@@ -9,19 +9,18 @@ ghost use Rattle.hnsr_circuit.specs.Handle.{handling_of, dispatch, gate_answer, 
 ghost use Rattle.hnsr_circuit.specs.Call.{step, call_handle};
 ghost use Rattle.hnsr_circuit.specs.Code.Progress.{packet_of, ending, outcome};
 
-use crate::answer::{HnsrAnswer, HnsrRuntimeError, body_answer, check};
+use crate::answer::{HnsrAnswer, HnsrRuntimeError, check};
 use crate::entry::{clock_answer, peer_answer, too_few};
 use crate::messages::handle_accept::handle_accept;
 use crate::messages::handle_close::handle_close;
 use crate::messages::handle_data::handle_data;
 use crate::messages::handle_open::handle_open;
 use crate::messages::handle_window::handle_window;
-use crate::output::route::HANDLE_WORDS;
+use crate::output::route::{HANDLE_WORDS, PacketBody};
 use crate::peer::HnsrPeerId;
 use crate::records::{InflightAction, RelayCircuit, RelayPending, ReservationUsage};
-use crate::runtime::{OpaqueRelayRuntime, RelayPacket, Relayed, Request};
+use crate::runtime::{OpaqueRelayRuntime, RelayPacket, RelayState, Relayed, Request};
 use crate::tables::lookup::trim;
-use crate::tables::places::Places;
 use hnsr_body::envelope::HnsrPacket;
 
 // ---- entry
@@ -43,7 +42,7 @@ fn packet_answer(packet: RelayPacket, body_size: usize) -> HnsrAnswer
         context_id: packet.context_id,
         body_length: body_size,
     };
-    body_answer(envelope.validate())
+    Ok(envelope.validate()?)
 }
 
 // 4, 1 and 7, in this order, behind 22.
@@ -81,11 +80,10 @@ pub(crate) fn dispatch(
     inflight: &mut [InflightAction],
     out: &mut [u32],
     request: Request,
-    body: &[u8],
+    body: PacketBody,
     endpoint: &[u8],
     random: &[u8],
 ) -> Relayed
-    requires { length body.now < 65536 }
     ensures { (source : List ℕ) → request.peer ≡ peer_of source
         → handed_seen result pending.new circuits.new ledger.new inflight.new
         out.new
@@ -93,22 +91,20 @@ pub(crate) fn dispatch(
         (dispatch (handling_of request.packet.opcode)
         (world_given request pending.old circuits.old ledger.old
         inflight.old)
-        (packet_of request.packet source body.now endpoint.now random.now)) }
+        (packet_of request.packet source body.entry.bytes.now endpoint.now random.now)) }
 {
     let opcode = request.packet.opcode;
     match opcode {
         13 => handle_open(
-            pending, circuits, ledger, inflight, out, request, body, endpoint, random,
+            pending, circuits, ledger, inflight, out, request, body.bytes, endpoint, random,
         ),
-        15 => handle_accept(pending, circuits, inflight, out, request, body),
+        15 => handle_accept(pending, circuits, inflight, out, request, body.bytes),
         17 => handle_data(circuits, ledger, inflight, out, request, body),
         18 => handle_window(circuits, inflight, out, request, body),
         19..=20 => handle_close(pending, circuits, inflight, out, request, body),
-        0..=12 | 14 | 16 | 21..=255 => Relayed::refused(
-            request.runtime,
-            request.places,
-            HnsrRuntimeError::UnexpectedOpcode,
-        ),
+        0..=12 | 14 | 16 | 21..=255 => {
+            Relayed::refused(request.state, HnsrRuntimeError::UnexpectedOpcode)
+        }
     }
 }
 
@@ -119,28 +115,25 @@ pub(crate) fn handle_gate(
     ledger: &mut [ReservationUsage],
     inflight: &mut [InflightAction],
     out: &mut [u32],
-    runtime: OpaqueRelayRuntime,
-    places: Places,
+    state: RelayState,
     packet: RelayPacket,
     source: &[u8],
-    body: &[u8],
+    body: PacketBody,
     endpoint: &[u8],
     random: &[u8],
 ) -> Relayed
-    requires { length body.now < 65536 }
     ensures { handed_seen result pending.new circuits.new ledger.new inflight.new
         out.new
         ≡ ending out.old
-        (handle_gate (world_seen runtime places pending.old circuits.old ledger.old
+        (handle_gate (state_seen state pending.old circuits.old ledger.old
         inflight.old)
-        (packet_of packet source.now body.now endpoint.now random.now)) }
+        (packet_of packet source.now body.entry.bytes.now endpoint.now random.now)) }
 {
-    match gate_answer(runtime.enabled) {
+    match gate_answer(state.runtime.enabled) {
         Ok(()) => {
             let peer = HnsrPeerId::new(source);
             let request = Request {
-                runtime,
-                places,
+                state,
                 packet,
                 peer,
             };
@@ -148,7 +141,7 @@ pub(crate) fn handle_gate(
                 pending, circuits, ledger, inflight, out, request, body, endpoint, random,
             )
         }
-        Err(error) => Relayed::refused(runtime, places, error),
+        Err(error) => Relayed::refused(state, error),
     }
 }
 
@@ -158,8 +151,7 @@ pub fn handle(
     ledger: &mut [ReservationUsage],
     inflight: &mut [InflightAction],
     out: &mut [u32],
-    runtime: OpaqueRelayRuntime,
-    places: Places,
+    state: RelayState,
     packet: RelayPacket,
     source: &[u8],
     body: &[u8],
@@ -169,24 +161,35 @@ pub fn handle(
     ensures { handed_seen result pending.new circuits.new ledger.new inflight.new
         out.new
         ≡ outcome out.old
-        (step (world_seen runtime places pending.old circuits.old ledger.old
+        (step (state_seen state pending.old circuits.old ledger.old
         inflight.old)
         (call_handle
         (packet_of packet source.now body.now endpoint.now random.now)
         (length out.old))) }
 {
-    let config = runtime.config;
+    let config = state.runtime.config;
     let few = too_few(config, pending.len(), circuits.len(), inflight.len());
     let lent = room_answer(out.len(), few);
-    match entry_answer(lent, runtime, packet, source.len(), body.len()) {
+    match entry_answer(lent, state.runtime, packet, source.len(), body.len()) {
         Ok(()) => {
-            let moved = runtime.with_clock(packet.now);
-            let fewer = trim(pending, circuits, ledger, inflight, places);
+            let moved = RelayState {
+                runtime: state.runtime.with_clock(packet.now),
+                places: trim(pending, circuits, ledger, inflight, state.places),
+            };
             handle_gate(
-                pending, circuits, ledger, inflight, out, moved, fewer, packet, source, body,
-                endpoint, random,
+                pending,
+                circuits,
+                ledger,
+                inflight,
+                out,
+                moved,
+                packet,
+                source,
+                PacketBody { bytes: body },
+                endpoint,
+                random,
             )
         }
-        Err(error) => Relayed::refused(runtime, places, error),
+        Err(error) => Relayed::refused(state, error),
     }
 }

@@ -1,56 +1,128 @@
 // The end of a record, and revocation (REVOKE); a walk revokes what has a property, by ascending id, each record at its
 // place (TAB.8).
-ghost use Rattle.std.specs.Prelude.{◌≡◌, cond, true, List, Ok};
-ghost use Rattle.hnsr_circuit.specs.Code.Held.{held_pending, held_circuits, world_seen, handed_seen, underway_seen};
+ghost use Rattle.std.specs.Prelude.{◌≡◌, ℕ, Bool, false, List, refl, get_or, set};
+ghost use Rattle.hnsr_circuit.specs.declared.calls.revocation.Closings.{Closings};
 ghost use Rattle.hnsr_circuit.specs.declared.records.RelayPending.{RelayPending};
 ghost use Rattle.hnsr_circuit.specs.declared.records.RelayCircuit.{RelayCircuit};
 ghost use Rattle.hnsr_circuit.specs.declared.records.ReservationUsage.{ReservationUsage};
-ghost use Rattle.hnsr_body.specs.declared.messages.Notice.TheVariants.{PeerDisconnected};
-ghost use Rattle.hnsr_circuit.specs.Pending.{pending_id};
-ghost use Rattle.hnsr_circuit.specs.Circuits.{circuit_id};
+ghost use Rattle.hnsr_circuit.specs.declared.records.InflightAction.{InflightAction};
+ghost use Rattle.hnsr_circuit.specs.declared.runtime.OpaqueRelayRuntime.{OpaqueRelayRuntime};
+ghost use Rattle.hnsr_circuit.specs.declared.tables.places.Places.{Places};
+ghost use Rattle.hnsr_circuit.specs.declared.tables.question.Revoking.{Revoking};
+ghost use Rattle.hnsr_circuit.specs.Inflight.{action_under, dropped};
+ghost use Rattle.hnsr_circuit.specs.Runtime.{count_revoked, with_counters};
 ghost use Rattle.hnsr_circuit.specs.Table.{not_yet, next};
+ghost use Rattle.hnsr_circuit.specs.World.{World, with_pending, with_circuits};
 ghost use Rattle.hnsr_circuit.specs.Queue.{finished};
+ghost use Rattle.hnsr_circuit.specs.Revocation.{walk, pending_table, circuit_table, revoke_circuit};
+ghost use Rattle.hnsr_circuit.specs.Revocation.{end_pending_there, end_circuit_there};
+ghost use Rattle.hnsr_circuit.specs.Code.Held.{held, held_pending, held_circuits, state_seen, handed_seen};
+ghost use Rattle.hnsr_circuit.specs.Code.Held.{lent_seen, sending_seen};
 ghost use Rattle.hnsr_circuit.specs.Code.Progress.{advance, ending};
-ghost use Rattle.hnsr_circuit.specs.Revocation.{revoke_circuit_there, revoke_circuit};
-ghost use Rattle.hnsr_circuit.specs.Revocation.{walk, pending_table, circuit_table};
-ghost use Rattle.hnsr_circuit.specs.Code.Revoking.{error_out, close_out, other_out, first_out, revoked_if};
-ghost use Rattle.hnsr_circuit.specs.Code.Revoking.{ending_pending, revoked_pending, revoked_circuit, revoking_all};
+ghost use Rattle.hnsr_circuit.specs.Code.Revoking.{notice_of, error_out, close_both, told, ended};
+ghost use Rattle.hnsr_circuit.specs.Code.Revoking.{pending_closings, circuit_closings, walks_of, revoking_all};
+ghost use Rattle.hnsr_circuit.specs.Code.Question.{pending_revoked, circuit_revoked};
+ghost use Rattle.hnsr_circuit.specs.Laws.Records.{pending_revoked_used, circuit_revoked_used};
+ghost use Rattle.hnsr_circuit.specs.Laws.Revocation.{pending_ends, circuit_ends};
 
 use crate::messages::message::closing;
 use crate::messages::opcode::{CLOSE, ERROR};
 use crate::output::queue::{Outgoing, drop_and_tell, tell_notice};
-use crate::peer::HnsrPeerId;
+use crate::records::circuits::{circuit_of, circuit_under};
+use crate::records::pending::{pending_of, pending_under};
 use crate::records::{InflightAction, RelayCircuit, RelayPending};
-use crate::runtime::{OpaqueRelayRuntime, Relayed, Sending};
+use crate::runtime::{RelayState, Relayed, Sending};
+use crate::tables::lookup::look_up;
 use crate::tables::places::Places;
-use crate::tables::question::{Asked, ById, RecordQuestion};
-use crate::tables::record::TableRecord;
+use crate::tables::question::{ById, Revoking};
+use crate::tables::record::{Numbered, Question, TableRecord};
 use crate::tables::scan::Walked;
 use crate::tables::table;
-use crate::tables::table::{at, find, set};
+use crate::tables::table::{at, unmark};
 use hnsr_body::messages::Notice;
 
-// What a revoking call hands its walks: which records, and by what message; the peer is nobody where none is asked for.
-// DISC.4: of a pending record the peer that is gone hears nothing.
+// The walks of a revoking call: why records end, and the first that each walk takes, which the pass at entry finds.
 #[derive(Clone, Copy)]
-pub struct Revoking {
-    pub question: RecordQuestion,
-    pub peer: HnsrPeerId,
+pub struct Walks {
+    pub revoking: Revoking,
+    pub pending: Option<Walked>,
+    pub circuits: Option<Walked>,
+}
+
+// What is told of a record's end: to one peer, or to two, by one notice.
+#[derive(Clone, Copy)]
+pub struct Closings {
     pub notice: Notice,
-    pub circuit_notice: Notice,
-    pub disconnecting: bool,
+    pub first: Outgoing,
+    pub second: Option<Outgoing>,
 }
 
-// The first record that each walk takes: the pass at entry finds it.
-#[derive(Clone, Copy)]
-pub struct Firsts {
-    pub pending: Walked,
-    pub circuits: Walked,
+// ---- what a revocation asks of a record
+
+// A record of a table of the world that ends before its time.
+pub trait Revocable: Numbered {
+    ghost table: { World → List Self };
+
+    ghost with_table: { World → List Self → World };
+
+    ghost in_use: { Places → ℕ };
+
+    ghost is_revoked: { Revoking → Self → Bool };
+
+    ghost closings: { Revoking → Self → Closings };
+
+    ghost without: { World → ℕ → World };
+
+    // How many places of its table are in use.
+    fn in_use(places: Places) -> usize
+        ensures { result ≡ in_use places };
+
+    fn is_revoked(&self, revoking: &Revoking) -> bool
+        ensures { result ≡ is_revoked revoking.now self.now };
+
+    fn closings(self, revoking: Revoking) -> Closings
+        ensures { result ≡ closings revoking self };
+
+    ghost of_used: { (v : Revoking) (row : Self) → is_revoked v (Self.unmarked row) ≡ false };
+
+    ghost stands: { (h : OpaqueRelayRuntime) (n : Places) (w : World) (t : List Self) (i : List InflightAction)
+        → table (lent_seen h n (with_table w t) i) ≡ held Self.unmarked (in_use n) t };
+
+    ghost ends: { (h : OpaqueRelayRuntime) (n : Places) (w : World) (t t' : List Self) (i : List InflightAction)
+        (place : ℕ)
+        → held Self.unmarked (in_use n) t'
+        ≡ set (held Self.unmarked (in_use n) t) place
+        (Self.unmarked (get_or (held Self.unmarked (in_use n) t) place Self.none))
+        → without (lent_seen h n (with_table w t) i) place
+        ≡ lent_seen (with_counters h (count_revoked h.counters)) n (with_table w t')
+        (dropped (action_under (Self.id (get_or (held Self.unmarked (in_use n) t) place Self.none))) i) };
 }
 
-// ---- messages
+impl<R: Revocable> Question<R> for Revoking {
+    ghost holds = { R.is_revoked };
 
-// To the requester of a pending record under its own context, to the endpoint under the circuit id.
+    ghost of_used = { R.of_used };
+
+    fn holds(&self, row: &R) -> bool {
+        row.is_revoked(self)
+    }
+}
+
+impl Revoking {
+    // The notice by which a record ends, given the one for a record that is over.
+    fn notice(self, over: Notice) -> Notice
+        ensures { result ≡ notice_of over self }
+    {
+        match self {
+            Revoking::Disabled => Notice::RelayDisabled,
+            Revoking::Disconnected(_) => Notice::PeerDisconnected,
+            Revoking::Reservation(_) => Notice::ReservationRevoked,
+            Revoking::Expired(_) => over,
+        }
+    }
+}
+
+// To the requester of a pending record under its own context.
 pub(crate) fn error_to_requester(pending: RelayPending) -> Outgoing
     ensures { result ≡ error_out pending }
 {
@@ -62,243 +134,213 @@ pub(crate) fn error_to_requester(pending: RelayPending) -> Outgoing
     )
 }
 
-fn close_to_endpoint(pending: RelayPending) -> Outgoing
-    ensures { result ≡ close_out pending }
-{
-    closing(
-        pending.endpoint,
-        pending.circuit_id,
-        CLOSE,
-        pending.circuit_id,
-    )
-}
+impl Revocable for RelayPending {
+    ghost table = { pending_table };
 
-fn close_to_other(peer: HnsrPeerId, pending: RelayPending) -> Outgoing
-    ensures { result ≡ other_out peer pending }
-{
-    if pending.requester == peer {
-        close_to_endpoint(pending)
-    } else {
-        closing(
-            pending.requester,
-            pending.circuit_id,
-            CLOSE,
-            pending.requester_context,
-        )
+    ghost with_table = { with_pending };
+
+    ghost in_use = { λ n. n.pending };
+
+    ghost is_revoked = { pending_revoked };
+
+    ghost closings = { pending_closings };
+
+    ghost without = { end_pending_there };
+
+    ghost of_used = { pending_revoked_used };
+
+    ghost stands = { λ h n w t i. refl };
+
+    ghost ends = { pending_ends };
+
+    fn in_use(places: Places) -> usize {
+        places.pending
+    }
+
+    #[tactic(auto, unfolding(crate::specs::Code::Question::pending_revoked, crate::specs::Pending::pending_over))]
+    fn is_revoked(&self, revoking: &Revoking) -> bool {
+        match revoking {
+            Revoking::Disabled => self.is_used(),
+            Revoking::Disconnected(peer) => pending_of(self, peer),
+            Revoking::Reservation(id) => pending_under(self, *id),
+            Revoking::Expired(time) => {
+                self.used && (self.deadline <= *time || self.ticket.expires_at <= *time)
+            }
+        }
+    }
+
+    // ERROR to the requester and CLOSE to the endpoint (REVOKE.3); where one is gone, CLOSE to the other (DISC.4).
+    #[tactic(auto, unfolding(crate::specs::Code::Revoking::pending_closings))]
+    fn closings(self, revoking: Revoking) -> Closings {
+        let id = self.circuit_id;
+        let notice = revoking.notice(Notice::AcceptanceExpired);
+        let endpoint = closing(self.endpoint, id, CLOSE, id);
+        let Revoking::Disconnected(peer) = revoking else {
+            return Closings {
+                notice,
+                first: error_to_requester(self),
+                second: Some(endpoint),
+            };
+        };
+        let requester = closing(self.requester, id, CLOSE, self.requester_context);
+        let left = if self.requester == peer {
+            endpoint
+        } else {
+            requester
+        };
+        Closings {
+            notice,
+            first: left,
+            second: None,
+        }
     }
 }
 
-fn first_message(revoking: Revoking, pending: RelayPending) -> Outgoing
-    ensures { result ≡ first_out revoking pending }
+// CLOSE to both sides of a circuit (REVOKE.2).
+fn close_both(circuit: RelayCircuit, notice: Notice) -> Closings
+    ensures { result ≡ close_both notice circuit }
 {
-    if revoking.disconnecting {
-        close_to_other(revoking.peer, pending)
-    } else {
-        error_to_requester(pending)
+    let id = circuit.circuit_id;
+    Closings {
+        notice,
+        first: closing(circuit.requester, id, CLOSE, id),
+        second: Some(closing(circuit.endpoint, id, CLOSE, id)),
+    }
+}
+
+impl Revocable for RelayCircuit {
+    ghost table = { circuit_table };
+
+    ghost with_table = { with_circuits };
+
+    ghost in_use = { λ n. n.circuits };
+
+    ghost is_revoked = { circuit_revoked };
+
+    ghost closings = { circuit_closings };
+
+    ghost without = { end_circuit_there };
+
+    ghost of_used = { circuit_revoked_used };
+
+    ghost stands = { λ h n w t i. refl };
+
+    ghost ends = { circuit_ends };
+
+    fn in_use(places: Places) -> usize {
+        places.circuits
+    }
+
+    #[tactic(auto, unfolding(crate::specs::Code::Question::circuit_revoked, crate::specs::Circuits::circuit_over))]
+    fn is_revoked(&self, revoking: &Revoking) -> bool {
+        match revoking {
+            Revoking::Disabled => self.is_used(),
+            Revoking::Disconnected(peer) => circuit_of(self, peer),
+            Revoking::Reservation(id) => circuit_under(self, *id),
+            Revoking::Expired(time) => self.used && self.expires_at <= *time,
+        }
+    }
+
+    #[tactic(auto, unfolding(crate::specs::Code::Revoking::circuit_closings))]
+    fn closings(self, revoking: Revoking) -> Closings {
+        close_both(self, revoking.notice(Notice::TicketExpired))
     }
 }
 
 // ---- one record
 
-fn counted(sending: Sending) -> Sending
-    ensures { (result.runtime ≡ revoked_if true sending.runtime)
-        × (result.position ≡ sending.position)
-        × (result.places ≡ sending.places) }
+// The record at a place ended: its mark cleared, the actions under its id dropped, its end counted and told.
+pub(crate) fn end<R: Revocable>(
+    rows: &mut [R],
+    inflight: &mut [InflightAction],
+    out: &mut [u32],
+    sending: Sending,
+    place: usize,
+    closings: Closings,
+) -> Sending
+    ensures { (w : World)
+        → sending_seen result (R.with_table w rows.new) inflight.new out.new
+        ≡ advance (λ v. told closings (R.without v place))
+        (sending_seen sending (R.with_table w rows.old) inflight.old out.old) }
 {
-    Sending {
-        runtime: sending.runtime.revoked(),
+    let state = sending.state;
+    let number = R::in_use(state.places);
+    let id = at(rows, number, place).id();
+    let after = Sending {
+        state: state.with_runtime(state.runtime.revoked()),
         ..sending
+    };
+    unmark(rows, number, place);
+    let first = drop_and_tell(inflight, out, after, id, closings.first, closings.notice);
+    match closings.second {
+        Some(second) => tell_notice(inflight, out, first, second, closings.notice),
+        None => first,
     }
 }
 
-fn pending_notice(revoking: Revoking) -> Notice
-    ensures { result ≡ cond revoking.disconnecting PeerDisconnected revoking.notice }
-{
-    if revoking.disconnecting {
-        Notice::PeerDisconnected
-    } else {
-        revoking.notice
-    }
-}
+// ---- walks
 
-// The pending record at a place, ended and told: REVOKE.3, or DISC.4.
-pub(crate) fn revoke_pending(
-    pending: &mut [RelayPending],
+// Again and again the least id and place above the last that has the property, whose record is ended; at most as many
+// turns as there are places.
+pub(crate) fn walk<R: Revocable>(
+    rows: &mut [R],
     inflight: &mut [InflightAction],
     out: &mut [u32],
     sending: Sending,
     revoking: Revoking,
-    place: usize,
-) -> Sending
-    ensures { (c : List RelayCircuit) (l : List ReservationUsage)
-        → underway_seen result pending.new c l inflight.new out.new
-        ≡ advance (λ w. ending_pending revoking w place)
-        (underway_seen sending pending.old c l inflight.old out.old) }
-{
-    let places = sending.places;
-    let notice = pending_notice(revoking);
-    let row = at(pending, places.pending, place);
-    let gone = row.unmarked();
-    let first = first_message(revoking, row);
-    let second = close_to_endpoint(row);
-    let after = counted(sending);
-    set(pending, true, place, gone);
-    let told = drop_and_tell(inflight, out, after, row.circuit_id, first, notice);
-    if revoking.disconnecting {
-        return told;
-    }
-    tell_notice(inflight, out, told, second, notice)
-}
-
-// The circuit at a place, ended and told: REVOKE.2.
-pub(crate) fn revoke_circuit(
-    circuits: &mut [RelayCircuit],
-    inflight: &mut [InflightAction],
-    out: &mut [u32],
-    sending: Sending,
-    notice: Notice,
-    place: usize,
-) -> Sending
-    ensures { (p : List RelayPending) (l : List ReservationUsage)
-        → underway_seen result p circuits.new l inflight.new out.new
-        ≡ advance (λ w. revoke_circuit_there notice w place)
-        (underway_seen sending p circuits.old l inflight.old out.old) }
-{
-    let places = sending.places;
-    let row = at(circuits, places.circuits, place);
-    let gone = row.unmarked();
-    let id = row.circuit_id;
-    let first = closing(row.requester, id, CLOSE, id);
-    let second = closing(row.endpoint, id, CLOSE, id);
-    let after = counted(sending);
-    set(circuits, true, place, gone);
-    let told = drop_and_tell(inflight, out, after, id, first, notice);
-    tell_notice(inflight, out, told, second, notice)
-}
-
-// ---- walks: again and again the least id and place above the last that has the property, whose record is ended; it
-// takes at most as many turns as there are places
-
-pub(crate) fn walk_pending(
-    pending: &mut [RelayPending],
-    inflight: &mut [InflightAction],
-    out: &mut [u32],
-    sending: Sending,
-    revoking: Revoking,
-    first: Walked,
+    first: Option<Walked>,
 ) -> Sending
     requires { first
-        ≡ next pending_id (revoked_pending revoking) not_yet (held_pending sending.places pending.old) }
-    ensures { (c : List RelayCircuit) (l : List ReservationUsage)
-        → underway_seen result pending.new c l inflight.new out.new
-        ≡ advance (walk pending_id pending_table (revoked_pending revoking) (ending_pending revoking))
-        (underway_seen sending pending.old c l inflight.old out.old) }
+        ≡ next R.id (R.is_revoked revoking) not_yet
+        (held R.unmarked (R.in_use sending.state.places) rows.old) }
+    ensures { (w : World)
+        → sending_seen result (R.with_table w rows.new) inflight.new out.new
+        ≡ advance (walk R.id R.table (R.is_revoked revoking)
+        (ended R.table R.none (R.closings revoking) R.without))
+        (sending_seen sending (R.with_table w rows.old) inflight.old out.old) }
 {
-    let asked = Asked {
-        question: revoking.question,
-        peer: revoking.peer,
-    };
-    let most = pending.len();
-    let mut told = sending;
+    let mut sent = sending;
     let mut next = first;
-    let mut turn: usize = 0;
-    while turn < most {
-        if !next.taken {
-            return told;
-        }
-        told = revoke_pending(pending, inflight, out, told, revoking, next.place);
-        let number = told.places.pending;
-        next = table::next(pending, number, &asked, next);
-        turn += 1;
+    for _ in 0..rows.len() {
+        let Some(here) = next else {
+            return sent;
+        };
+        let row = at(rows, R::in_use(sent.state.places), here.place);
+        sent = end(
+            rows,
+            inflight,
+            out,
+            sent,
+            here.place,
+            row.closings(revoking),
+        );
+        next = table::next(rows, R::in_use(sent.state.places), &revoking, next);
     }
-    told
-}
-
-pub(crate) fn walk_circuits(
-    circuits: &mut [RelayCircuit],
-    inflight: &mut [InflightAction],
-    out: &mut [u32],
-    sending: Sending,
-    revoking: Revoking,
-    first: Walked,
-) -> Sending
-    requires { first
-        ≡ next circuit_id (revoked_circuit revoking) not_yet (held_circuits sending.places circuits.old) }
-    ensures { (p : List RelayPending) (l : List ReservationUsage)
-        → underway_seen result p circuits.new l inflight.new out.new
-        ≡ advance
-        (walk circuit_id circuit_table (revoked_circuit revoking) (revoke_circuit_there revoking.circuit_notice))
-        (underway_seen sending p circuits.old l inflight.old out.old) }
-{
-    let asked = Asked {
-        question: revoking.question,
-        peer: revoking.peer,
-    };
-    let notice = revoking.circuit_notice;
-    let most = circuits.len();
-    let mut told = sending;
-    let mut next = first;
-    let mut turn: usize = 0;
-    while turn < most {
-        if !next.taken {
-            return told;
-        }
-        told = revoke_circuit(circuits, inflight, out, told, notice, next.place);
-        let number = told.places.circuits;
-        next = table::next(circuits, number, &asked, next);
-        turn += 1;
-    }
-    told
+    sent
 }
 
 // ---- all that has the property (REVOKE.5)
-
-fn started(runtime: OpaqueRelayRuntime, places: Places) -> Sending
-    ensures { ((result.runtime ≡ runtime) × (result.position ≡ 0)) × (result.places ≡ places) }
-{
-    Sending {
-        runtime,
-        position: 0,
-        places,
-    }
-}
-
-pub(crate) fn finished(sending: Sending) -> Relayed
-    ensures { ((result.runtime ≡ sending.runtime) × (result.answer ≡ Ok tt) × (result.words ≡ sending.position))
-        × (result.places ≡ sending.places) }
-{
-    Relayed {
-        runtime: sending.runtime,
-        answer: Ok(()),
-        words: sending.position,
-        places: sending.places,
-    }
-}
 
 pub(crate) fn revoke_all(
     pending: &mut [RelayPending],
     circuits: &mut [RelayCircuit],
     inflight: &mut [InflightAction],
     out: &mut [u32],
-    runtime: OpaqueRelayRuntime,
-    places: Places,
-    revoking: Revoking,
-    first: Firsts,
+    state: RelayState,
+    walks: Walks,
 ) -> Relayed
-    requires { (first.pending ≡ next pending_id (revoked_pending revoking) not_yet (held_pending places pending.old))
-        × (first.circuits ≡ next circuit_id (revoked_circuit revoking) not_yet (held_circuits places circuits.old)) }
+    requires { walks
+        ≡ walks_of walks.revoking (held_pending state.places pending.old) (held_circuits state.places circuits.old) }
     ensures { (l : List ReservationUsage)
         → handed_seen result pending.new circuits.new l inflight.new out.new
         ≡ ending out.old
-        (revoking_all revoking
-        (world_seen runtime places pending.old circuits.old l inflight.old)) }
+        (revoking_all walks.revoking
+        (state_seen state pending.old circuits.old l inflight.old)) }
 {
-    let start = started(runtime, places);
-    let waiting = first.pending;
-    let active = first.circuits;
-    let told = walk_pending(pending, inflight, out, start, revoking, waiting);
-    let last = walk_circuits(circuits, inflight, out, told, revoking, active);
-    finished(last)
+    let start = state.start();
+    let revoking = walks.revoking;
+    let sent = walk(pending, inflight, out, start, revoking, walks.pending);
+    walk(circuits, inflight, out, sent, revoking, walks.circuits).finish()
 }
 
 // The circuit of an id alone, at the end of a call: none where there is none.
@@ -306,8 +348,7 @@ pub(crate) fn revoke_one(
     circuits: &mut [RelayCircuit],
     inflight: &mut [InflightAction],
     out: &mut [u32],
-    runtime: OpaqueRelayRuntime,
-    places: Places,
+    state: RelayState,
     notice: Notice,
     id: u64,
 ) -> Relayed
@@ -315,13 +356,14 @@ pub(crate) fn revoke_one(
         → handed_seen result p circuits.new l inflight.new out.new
         ≡ ending out.old
         (finished
-        (revoke_circuit notice (world_seen runtime places p circuits.old l inflight.old) id)) }
+        (revoke_circuit notice (state_seen state p circuits.old l inflight.old) id)) }
 {
-    let start = started(runtime, places);
-    let place = find(circuits, places.circuits, &ById { id });
-    if place < circuits.len() {
-        let told = revoke_circuit(circuits, inflight, out, start, notice, place);
-        return finished(told);
+    let start = state.start();
+    match look_up(circuits, state.places.circuits, &ById { id }) {
+        Some(found) => {
+            let closings = close_both(found.row, notice);
+            end(circuits, inflight, out, start, found.place, closings).finish()
+        }
+        None => start.finish(),
     }
-    finished(start)
 }

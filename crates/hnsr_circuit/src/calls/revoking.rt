@@ -1,36 +1,26 @@
 // The revoking calls: disconnect (DISC), revoke_reservation (RES), expire (EXPIRE), replace_enabled (SWITCH).
-ghost use Rattle.std.specs.Prelude.{◌≡◌, ◌||◌, List, ◌+◌, ◌*◌, ◌<◌, ltb, length};
-ghost use Rattle.hnsr_circuit.specs.Code.Held.{held_pending, held_circuits, world_seen, handed_seen};
-ghost use Rattle.hnsr_circuit.specs.declared.answer.HnsrRuntimeError.TheVariants.{Short};
+ghost use Rattle.std.specs.Prelude.{◌≡◌, List, ◌+◌, ◌*◌, ◌<◌, ltb, length};
+ghost use Rattle.hnsr_circuit.specs.Code.Held.{held_pending, held_circuits, state_seen, handed_seen};
 ghost use Rattle.hnsr_circuit.specs.declared.records.ReservationUsage.{ReservationUsage};
-ghost use Rattle.hnsr_circuit.specs.Answers.{check};
-ghost use Rattle.hnsr_circuit.specs.Table.{not_yet, next};
-ghost use Rattle.hnsr_body.specs.declared.messages.Notice.TheVariants.{RelayDisabled};
-ghost use Rattle.hnsr_circuit.specs.declared.tables.question.RecordQuestion.TheVariants.{Used};
-ghost use Rattle.hnsr_circuit.specs.Pending.{pending_id};
-ghost use Rattle.hnsr_circuit.specs.Circuits.{circuit_id};
-ghost use Rattle.hnsr_circuit.specs.Entry.{closing_words, too_few};
+ghost use Rattle.hnsr_circuit.specs.declared.tables.question.Revoking.TheVariants.{Disabled};
+ghost use Rattle.hnsr_circuit.specs.Entry.{closing_words};
 ghost use Rattle.hnsr_circuit.specs.Call.{step, call_disconnect, call_revoke_reservation};
 ghost use Rattle.hnsr_circuit.specs.Call.{call_expire, call_replace_enabled};
 ghost use Rattle.hnsr_circuit.specs.Code.Progress.{outcome, ending};
 ghost use Rattle.hnsr_circuit.specs.RevokingCalls.{change_answer, switch_to};
-ghost use Rattle.hnsr_circuit.specs.Code.Revoking.{revoked_pending, revoked_circuit};
-ghost use Rattle.hnsr_circuit.specs.Code.Revoking.{disconnecting_all, revokes, entered};
+ghost use Rattle.hnsr_circuit.specs.Code.Revoking.{walks_of, entered};
 
 use crate::answer::{HnsrAnswer, HnsrRuntimeError, check};
-use crate::calls::revocation::{Firsts, Revoking, revoke_all};
-use crate::config::OpaqueRelayConfig;
+use crate::calls::revocation::{Walks, revoke_all};
 use crate::entry::{clock_answer, generation_answer, peer_answer, too_few};
 use crate::output::route::CLOSING_WORDS;
 use crate::peer::HnsrPeerId;
 use crate::records::{InflightAction, RelayCircuit, RelayPending, ReservationUsage};
-use crate::runtime::{OpaqueRelayRuntime, Relayed};
+use crate::runtime::{RelayState, Relayed};
 use crate::tables::ledger::drop_lapsed;
-use crate::tables::places::Places;
-use crate::tables::question::{ActionsDropped, Asked, Dropped, RecordQuestion};
+use crate::tables::question::{InUse, Revoking, Toward};
 use crate::tables::stores::drop_usage;
 use crate::tables::table::{clear, survey};
-use hnsr_body::messages::Notice;
 use hnsr_body::values::ReservationId;
 
 // 6 (SWITCH.2): a switch without a generation left
@@ -53,73 +43,35 @@ fn room_short(room: usize, pending: usize, circuits: usize) -> bool
     room / CLOSING_WORDS < pending.saturating_add(circuits)
 }
 
-fn room_answer(
-    config: OpaqueRelayConfig,
-    pending: usize,
-    circuits: usize,
-    inflight: usize,
-    short: bool,
-) -> HnsrAnswer
-    ensures { result ≡ check (short || too_few config pending circuits inflight) Short }
-{
-    let few = too_few(config, pending, circuits, inflight);
-    check(short || few, HnsrRuntimeError::Short)
-}
-
-// 22 (ENTRY.1), and then the call's own rows; taken, the first record that each walk takes. One pass over each table.
+// 22 (ENTRY.1), and then the call's own rows; taken, the walks that it begins. One pass over each table.
 pub(crate) fn entered(
     pending: &[RelayPending],
     circuits: &[RelayCircuit],
-    places: Places,
-    inflight: usize,
+    inflight: &[InflightAction],
     room: usize,
-    config: OpaqueRelayConfig,
-    all: Revoking,
+    state: RelayState,
+    revoking: Revoking,
     rows: HnsrAnswer,
-) -> Result<Firsts, HnsrRuntimeError>
-    ensures { result ≡ entered all config (held_pending places pending.now) (held_circuits places circuits.now)
-        inflight room rows }
+) -> Result<Walks, HnsrRuntimeError>
+    ensures { (l : List ReservationUsage)
+        → result ≡ entered revoking (state_seen state pending.now circuits.now l inflight.now) room rows }
 {
-    let asked = Asked {
-        question: all.question,
-        peer: all.peer,
-    };
-    let waiting = survey(pending, places.pending, &asked);
-    let active = survey(circuits, places.circuits, &asked);
+    let waiting = survey(pending, state.places.pending, &revoking);
+    let active = survey(circuits, state.places.circuits, &revoking);
     let short = room_short(room, waiting.used, active.used);
-    let lent = room_answer(config, pending.len(), circuits.len(), inflight, short);
-    let first = Firsts {
+    let few = too_few(
+        state.runtime.config,
+        pending.len(),
+        circuits.len(),
+        inflight.len(),
+    );
+    let walks = Walks {
+        revoking,
         pending: waiting.first,
         circuits: active.first,
     };
-    let answer = lent.and(rows);
-    answer.and(Ok(first))
-}
-
-// ---- what each revokes
-
-fn disconnecting(peer: HnsrPeerId) -> Revoking
-    ensures { result ≡ disconnecting_all peer }
-{
-    Revoking {
-        question: RecordQuestion::OfPeer,
-        peer,
-        notice: Notice::PeerDisconnected,
-        circuit_notice: Notice::PeerDisconnected,
-        disconnecting: true,
-    }
-}
-
-fn revoking(question: RecordQuestion, notice: Notice, circuit_notice: Notice) -> Revoking
-    ensures { result ≡ revokes question notice circuit_notice }
-{
-    Revoking {
-        question,
-        peer: HnsrPeerId::NOBODY,
-        notice,
-        circuit_notice,
-        disconnecting: false,
-    }
+    let lent = check(short | few, HnsrRuntimeError::Short);
+    lent.and(rows).and(Ok(walks))
 }
 
 // ---- the calls
@@ -130,41 +82,32 @@ pub fn disconnect(
     circuits: &mut [RelayCircuit],
     inflight: &mut [InflightAction],
     out: &mut [u32],
-    runtime: OpaqueRelayRuntime,
-    places: Places,
+    state: RelayState,
     peer: &[u8],
 ) -> Relayed
     ensures { (l : List ReservationUsage)
         → handed_seen result pending.new circuits.new l inflight.new out.new
         ≡ outcome out.old
-        (step (world_seen runtime places pending.old circuits.old l inflight.old)
+        (step (state_seen state pending.old circuits.old l inflight.old)
         (call_disconnect peer.now (length out.old))) }
 {
-    let name = HnsrPeerId::new(peer);
-    let all = disconnecting(name);
+    let peer_id = HnsrPeerId::new(peer);
+    let revoking = Revoking::Disconnected(peer_id);
     let named = peer_answer(peer.len());
-    let firsts = entered(
+    match entered(
         pending,
         circuits,
-        places,
-        inflight.len(),
+        inflight,
         out.len(),
-        runtime.config,
-        all,
+        state,
+        revoking,
         named,
-    );
-    match firsts {
-        Ok(first) => {
-            let dropped = Dropped {
-                dropped: ActionsDropped::Toward,
-                peer: name,
-            };
-            clear(inflight, places.actions, &dropped);
-            revoke_all(
-                pending, circuits, inflight, out, runtime, places, all, first,
-            )
+    ) {
+        Ok(walks) => {
+            clear(inflight, state.places.actions, &Toward { peer: peer_id });
+            revoke_all(pending, circuits, inflight, out, state, walks)
         }
-        Err(error) => Relayed::refused(runtime, places, error),
+        Err(error) => Relayed::refused(state, error),
     }
 }
 
@@ -175,39 +118,30 @@ pub fn revoke_reservation(
     ledger: &mut [ReservationUsage],
     inflight: &mut [InflightAction],
     out: &mut [u32],
-    runtime: OpaqueRelayRuntime,
-    places: Places,
+    state: RelayState,
     id: ReservationId,
 ) -> Relayed
     ensures { handed_seen result pending.new circuits.new ledger.new inflight.new
         out.new
         ≡ outcome out.old
-        (step (world_seen runtime places pending.old circuits.old ledger.old
+        (step (state_seen state pending.old circuits.old ledger.old
         inflight.old) (call_revoke_reservation id (length out.old))) }
 {
-    let all = revoking(
-        RecordQuestion::Under(id),
-        Notice::ReservationRevoked,
-        Notice::ReservationRevoked,
-    );
-    let firsts = entered(
+    let revoking = Revoking::Reservation(id);
+    match entered(
         pending,
         circuits,
-        places,
-        inflight.len(),
+        inflight,
         out.len(),
-        runtime.config,
-        all,
+        state,
+        revoking,
         Ok(()),
-    );
-    match firsts {
-        Ok(first) => {
-            drop_usage(ledger, places, id);
-            revoke_all(
-                pending, circuits, inflight, out, runtime, places, all, first,
-            )
+    ) {
+        Ok(walks) => {
+            drop_usage(ledger, state.places, id);
+            revoke_all(pending, circuits, inflight, out, state, walks)
         }
-        Err(error) => Relayed::refused(runtime, places, error),
+        Err(error) => Relayed::refused(state, error),
     }
 }
 
@@ -218,39 +152,32 @@ pub fn expire(
     ledger: &mut [ReservationUsage],
     inflight: &mut [InflightAction],
     out: &mut [u32],
-    runtime: OpaqueRelayRuntime,
-    places: Places,
+    state: RelayState,
     time: u64,
 ) -> Relayed
     ensures { handed_seen result pending.new circuits.new ledger.new inflight.new
         out.new
         ≡ outcome out.old
-        (step (world_seen runtime places pending.old circuits.old ledger.old
+        (step (state_seen state pending.old circuits.old ledger.old
         inflight.old) (call_expire time (length out.old))) }
 {
-    let all = revoking(
-        RecordQuestion::Over(time),
-        Notice::AcceptanceExpired,
-        Notice::TicketExpired,
-    );
-    let clock = clock_answer(runtime.trusted_time_high_water, time);
-    let firsts = entered(
+    let revoking = Revoking::Expired(time);
+    let clock = clock_answer(state.runtime.trusted_time_high_water, time);
+    match entered(
         pending,
         circuits,
-        places,
-        inflight.len(),
+        inflight,
         out.len(),
-        runtime.config,
-        all,
+        state,
+        revoking,
         clock,
-    );
-    match firsts {
-        Ok(first) => {
-            let moved = runtime.with_clock(time);
-            drop_lapsed(ledger, places, time);
-            revoke_all(pending, circuits, inflight, out, moved, places, all, first)
+    ) {
+        Ok(walks) => {
+            let moved = state.with_runtime(state.runtime.with_clock(time));
+            drop_lapsed(ledger, state.places, time);
+            revoke_all(pending, circuits, inflight, out, moved, walks)
         }
-        Err(error) => Relayed::refused(runtime, places, error),
+        Err(error) => Relayed::refused(state, error),
     }
 }
 
@@ -260,34 +187,25 @@ pub(crate) fn switch_to(
     circuits: &mut [RelayCircuit],
     inflight: &mut [InflightAction],
     out: &mut [u32],
-    runtime: OpaqueRelayRuntime,
-    places: Places,
+    state: RelayState,
     enabled: bool,
-    all: Revoking,
-    first: Firsts,
+    walks: Walks,
 ) -> Relayed
-    requires { (runtime.generation < 18446744073709551615)
-        × (all ≡ revokes Used RelayDisabled RelayDisabled)
-        × (first.pending ≡ next pending_id (revoked_pending all) not_yet (held_pending places pending.old))
-        × (first.circuits ≡ next circuit_id (revoked_circuit all) not_yet (held_circuits places circuits.old)) }
+    requires { (state.runtime.generation < 18446744073709551615)
+        × (walks
+        ≡ walks_of Disabled (held_pending state.places pending.old) (held_circuits state.places circuits.old)) }
     ensures { (l : List ReservationUsage)
         → handed_seen result pending.new circuits.new l inflight.new out.new
         ≡ ending out.old
-        (switch_to (world_seen runtime places pending.old circuits.old l inflight.old)
+        (switch_to (state_seen state pending.old circuits.old l inflight.old)
         enabled) }
 {
-    let switched = runtime.with_enabled(enabled);
-    let dropped = Dropped {
-        dropped: ActionsDropped::Every,
-        peer: HnsrPeerId::NOBODY,
-    };
-    clear(inflight, places.actions, &dropped);
+    let switched = state.with_runtime(state.runtime.with_enabled(enabled));
+    clear(inflight, state.places.actions, &InUse);
     if enabled {
-        return Relayed::taken(switched, places);
+        return Relayed::taken(switched);
     }
-    revoke_all(
-        pending, circuits, inflight, out, switched, places, all, first,
-    )
+    revoke_all(pending, circuits, inflight, out, switched, walks)
 }
 
 // SWITCH.3 where the state is the one that it has.
@@ -296,46 +214,36 @@ pub fn replace_enabled(
     circuits: &mut [RelayCircuit],
     inflight: &mut [InflightAction],
     out: &mut [u32],
-    runtime: OpaqueRelayRuntime,
-    places: Places,
+    state: RelayState,
     expected_generation: u64,
     enabled: bool,
 ) -> Relayed
     ensures { (l : List ReservationUsage)
         → handed_seen result pending.new circuits.new l inflight.new out.new
         ≡ outcome out.old
-        (step (world_seen runtime places pending.old circuits.old l inflight.old)
+        (step (state_seen state pending.old circuits.old l inflight.old)
         (call_replace_enabled expected_generation enabled (length out.old))) }
 {
-    let all = revoking(
-        RecordQuestion::Used,
-        Notice::RelayDisabled,
-        Notice::RelayDisabled,
-    );
-    let current = generation_answer(runtime.generation, expected_generation);
-    let changes = runtime.enabled != enabled;
-    let exhausted = change_answer(runtime.generation, changes);
-    let rows = current.and(exhausted);
-    let firsts = entered(
+    let revoking = Revoking::Disabled;
+    let current = generation_answer(state.runtime.generation, expected_generation);
+    let changes = state.runtime.enabled != enabled;
+    let rows = current.and(change_answer(state.runtime.generation, changes));
+    match entered(
         pending,
         circuits,
-        places,
-        inflight.len(),
+        inflight,
         out.len(),
-        runtime.config,
-        all,
+        state,
+        revoking,
         rows,
-    );
-    match firsts {
-        Ok(first) => {
+    ) {
+        Ok(walks) => {
             if changes {
-                switch_to(
-                    pending, circuits, inflight, out, runtime, places, enabled, all, first,
-                )
+                switch_to(pending, circuits, inflight, out, state, enabled, walks)
             } else {
-                Relayed::taken(runtime, places)
+                Relayed::taken(state)
             }
         }
-        Err(error) => Relayed::refused(runtime, places, error),
+        Err(error) => Relayed::refused(state, error),
     }
 }

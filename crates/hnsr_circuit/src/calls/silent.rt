@@ -1,7 +1,7 @@
 // The calls that send nothing: new, status, next_due, observe_time.
 ghost use Rattle.std.specs.Prelude.{◌≡◌, ◌||◌, List, ℕ, eqb};
 ghost use Rattle.hnsr_circuit.specs.Code.Held.{held_pending, held_circuits, held_ledger};
-ghost use Rattle.hnsr_circuit.specs.Code.Held.{held_actions, world_seen, handed_seen};
+ghost use Rattle.hnsr_circuit.specs.Code.Held.{held_actions, state_seen, handed_seen};
 ghost use Rattle.hnsr_circuit.specs.declared.records.RelayPending.{RelayPending};
 ghost use Rattle.hnsr_circuit.specs.declared.records.RelayCircuit.{RelayCircuit};
 ghost use Rattle.hnsr_circuit.specs.declared.records.ReservationUsage.{ReservationUsage};
@@ -26,10 +26,10 @@ use crate::entry::{clock_answer, peer_answer, too_few};
 use crate::peer::HnsrPeerId;
 use crate::records::inflight::capacity_left;
 use crate::records::{InflightAction, RelayCircuit, RelayPending, ReservationUsage};
-use crate::runtime::{HnsrRuntimeStatus, OpaqueRelayRuntime, Relayed, StatusTold};
+use crate::runtime::{HnsrRuntimeStatus, OpaqueRelayRuntime, RelayState, Relayed, StatusTold};
 use crate::tables::circuits::circuit_totals;
 use crate::tables::inflight::scan_actions;
-use crate::tables::places::{Places, every_place, no_place};
+use crate::tables::places::Places;
 use crate::tables::question::InUse;
 use crate::tables::scan::{ActionQuestion, CircuitTotals, InflightTally};
 use crate::tables::table::{count, due};
@@ -78,8 +78,8 @@ pub fn new(
     time: u64,
 ) -> Relayed
     ensures { (h : OpaqueRelayRuntime)
-        → Made result (held_pending result.places pending.now) (held_circuits result.places circuits.now)
-        (held_ledger result.places ledger.now) (held_actions result.places inflight.now)
+        → Made result (held_pending result.state.places pending.now) (held_circuits result.state.places circuits.now)
+        (held_ledger result.state.places ledger.now) (held_actions result.state.places inflight.now)
         (start (world_of h pending.now circuits.now ledger.now inflight.now)
         (record { session = session; generation = generation; config = config; now = time })) }
 {
@@ -87,9 +87,18 @@ pub fn new(
     match new_answer(session, generation, config, few, ledger.len()) {
         Ok(()) => {
             let runtime = OpaqueRelayRuntime::new(session, generation, config, time);
-            Relayed::taken(runtime, no_place())
+            Relayed::taken(RelayState {
+                runtime,
+                places: Places::NONE,
+            })
         }
-        Err(error) => Relayed::refused(OpaqueRelayRuntime::OFF, every_place(), error),
+        Err(error) => {
+            let off = RelayState {
+                runtime: OpaqueRelayRuntime::OFF,
+                places: Places::EVERY,
+            };
+            Relayed::refused(off, error)
+        }
     }
 }
 
@@ -163,18 +172,17 @@ pub fn status(
     pending: &[RelayPending],
     circuits: &[RelayCircuit],
     inflight: &[InflightAction],
-    runtime: OpaqueRelayRuntime,
-    places: Places,
+    state: RelayState,
     peer: &[u8],
     circuit_id: u64,
 ) -> Result<StatusTold, HnsrRuntimeError>
     ensures { (l : List ReservationUsage)
         → result ≡ status_told
-        (step (world_seen runtime places pending.now circuits.now l inflight.now)
+        (step (state_seen state pending.now circuits.now l inflight.now)
         (call_status peer.now circuit_id)) }
 {
     let few = too_few(
-        runtime.config,
+        state.runtime.config,
         pending.len(),
         circuits.len(),
         inflight.len(),
@@ -182,10 +190,10 @@ pub fn status(
     status_answer(few, peer.len())?;
     let name = HnsrPeerId::new(peer);
     let question = capacity_question(circuit_id, name);
-    let waiting = count(pending, places.pending, &InUse);
-    let totals = circuit_totals(circuits, places);
-    let scan = scan_actions(inflight, places, question);
-    Ok(status_told(runtime, waiting, totals, scan.tally))
+    let waiting = count(pending, state.places.pending, &InUse);
+    let totals = circuit_totals(circuits, state.places);
+    let scan = scan_actions(inflight, state.places, question);
+    Ok(status_told(state.runtime, waiting, totals, scan.tally))
 }
 
 // ---- next due
@@ -196,37 +204,36 @@ pub fn next_due(
     circuits: &[RelayCircuit],
     ledger: &[ReservationUsage],
     inflight: &[InflightAction],
-    runtime: OpaqueRelayRuntime,
-    places: Places,
+    state: RelayState,
 ) -> Result<Option<u64>, HnsrRuntimeError>
     ensures { result ≡ due_told
         (step
-        (world_seen runtime places pending.now circuits.now ledger.now
+        (state_seen state pending.now circuits.now ledger.now
         inflight.now)
         call_next_due) }
 {
     let few = too_few(
-        runtime.config,
+        state.runtime.config,
         pending.len(),
         circuits.len(),
         inflight.len(),
     );
     check(few, HnsrRuntimeError::Short)?;
-    let first = due(pending, places.pending, None);
-    let second = due(circuits, places.circuits, first);
-    Ok(due(ledger, places.ledger, second))
+    let first = due(pending, state.places.pending, None);
+    let second = due(circuits, state.places.circuits, first);
+    Ok(due(ledger, state.places.ledger, second))
 }
 
 // ---- observe_time: it is lent no table, and asks no 22
 
-pub fn observe_time(runtime: OpaqueRelayRuntime, places: Places, time: u64) -> Relayed
+pub fn observe_time(state: RelayState, time: u64) -> Relayed
     ensures { (p : List RelayPending) (c : List RelayCircuit) (l : List ReservationUsage) (i : List InflightAction)
         (out : List ℕ)
         → handed_seen result p c l i out
-        ≡ outcome out (step (world_seen runtime places p c l i) (call_observe_time time)) }
+        ≡ outcome out (step (state_seen state p c l i) (call_observe_time time)) }
 {
-    match clock_answer(runtime.trusted_time_high_water, time) {
-        Ok(()) => Relayed::taken(runtime.with_clock(time), places),
-        Err(error) => Relayed::refused(runtime, places, error),
+    match clock_answer(state.runtime.trusted_time_high_water, time) {
+        Ok(()) => Relayed::taken(state.with_runtime(state.runtime.with_clock(time))),
+        Err(error) => Relayed::refused(state, error),
     }
 }

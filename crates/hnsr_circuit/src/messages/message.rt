@@ -1,37 +1,38 @@
 // A packet of a circuit: its row, and the message that takes it on to the other side.
 ghost use Rattle.std.specs.Prelude.{◌≡◌};
-ghost use Rattle.hnsr_circuit.specs.Packet.{circuit_answer};
-ghost use Rattle.hnsr_circuit.specs.Code.Message.{passed_on, data_on, close_on};
+ghost use Rattle.hnsr_circuit.specs.Code.Message.{own_circuit, passed_on, data_on, close_on, translated_on};
 
-use crate::answer::{HnsrAnswer, HnsrRuntimeError, check};
+use crate::answer::{HnsrRuntimeError, check};
 use crate::output::queue::Outgoing;
 use crate::peer::HnsrPeerId;
 use crate::records::circuits::{is_side, receiver, side_of};
-use crate::records::{InflightKind, RelayCircuit};
+use crate::records::{InflightKind, RelayCircuit, RelayPending};
 use crate::runtime::RelayPacket;
 use crate::tables::lookup::Found;
-use hnsr_body::values::ReservationId;
 
-// 14, 15 (DATA.2, DATA.3 and their like): no such circuit, or the sender is no side of it
-#[tactic(auto, unfolding(crate::specs::Packet::circuit_answer))]
-pub(crate) fn circuit_answer(found: bool, circuit: RelayCircuit, peer: HnsrPeerId) -> HnsrAnswer
-    ensures { result ≡ circuit_answer found circuit peer }
+// The circuit that a packet names. 14, 15 (DATA.2, DATA.3 and their like): there is none, or the peer is no side
+pub(crate) fn own_circuit(
+    named: Option<Found<RelayCircuit>>,
+    peer: HnsrPeerId,
+) -> Result<Found<RelayCircuit>, HnsrRuntimeError>
+    ensures { result ≡ own_circuit named peer }
 {
-    check(!found, HnsrRuntimeError::UnknownCircuit)?;
-    check(!is_side(peer, circuit), HnsrRuntimeError::WrongPeer)
+    let found = named.ok_or(HnsrRuntimeError::UnknownCircuit)?;
+    check(!is_side(peer, found.row), HnsrRuntimeError::WrongPeer)?;
+    Ok(found)
 }
 
 // The packet itself, on to the other side: same opcode and context.
 pub(crate) fn passed_on(
     packet: RelayPacket,
-    named: Found<RelayCircuit>,
+    circuit: RelayCircuit,
     peer: HnsrPeerId,
     kind: InflightKind,
 ) -> Outgoing
-    ensures { result ≡ passed_on packet named.row peer kind }
+    ensures { result ≡ passed_on packet circuit peer kind }
 {
     Outgoing {
-        destination: receiver(named.row, peer),
+        destination: receiver(circuit, peer),
         circuit_id: packet.context_id,
         opcode: packet.opcode,
         context_id: packet.context_id,
@@ -61,35 +62,30 @@ pub(crate) fn closing(
     }
 }
 
-// DATA, with the side that it goes to and its bytes.
-pub(crate) fn data_on(
-    packet: RelayPacket,
-    named: Found<RelayCircuit>,
-    peer: HnsrPeerId,
-    n: usize,
-) -> Outgoing
-    ensures { result ≡ data_on packet named.row peer n }
+// A CLOSE or ERROR to the other side of a pending record. CLOSE.11: each side hears the number that it knows.
+pub(crate) fn translated_on(opcode: u8, pending: RelayPending, peer: HnsrPeerId) -> Outgoing
+    ensures { result ≡ translated_on opcode pending peer }
 {
-    let circuit = named.row;
-    let destination = receiver(circuit, peer);
-    let side = side_of(peer, circuit);
-    let other = side.other();
-    let toward = other.to_endpoint();
-    Outgoing {
-        destination,
-        circuit_id: packet.context_id,
-        opcode: packet.opcode,
-        context_id: packet.context_id,
-        kind: InflightKind::Data,
-        to_endpoint: toward,
-        bytes: n,
+    let id = pending.circuit_id;
+    if pending.requester == peer {
+        closing(pending.endpoint, id, opcode, id)
+    } else {
+        closing(pending.requester, id, opcode, pending.requester_context)
     }
 }
 
-// The reservation of the circuit that a lookup found.
-pub(crate) fn reservation_of(named: Found<RelayCircuit>) -> ReservationId
-    ensures { result ≡ named.row.reservation_id }
+// DATA, with the side that it goes to and its bytes.
+pub(crate) fn data_on(
+    packet: RelayPacket,
+    circuit: RelayCircuit,
+    peer: HnsrPeerId,
+    n: usize,
+) -> Outgoing
+    ensures { result ≡ data_on packet circuit peer n }
 {
-    let circuit = named.row;
-    circuit.reservation_id
+    Outgoing {
+        to_endpoint: side_of(peer, circuit).other().to_endpoint(),
+        bytes: n,
+        ..passed_on(packet, circuit, peer, InflightKind::Data)
+    }
 }

@@ -1,23 +1,22 @@
 // OPEN: its rows, and what it writes, over numbers, tests and records by value.
-ghost use Rattle.std.specs.Prelude.{◌≡◌, cond, ◌||◌, ◌+◌};
-ghost use Rattle.hnsr_circuit.specs.Ledger.{fresh_usage};
+ghost use Rattle.std.specs.Prelude.{◌≡◌};
 ghost use Rattle.hnsr_circuit.specs.Open.{open_answer, admission_answer, endpoint_answer};
 ghost use Rattle.hnsr_circuit.specs.Open.{deadline_answer, deadline_for, pending_for, incoming_for};
-ghost use Rattle.hnsr_circuit.specs.Code.Opening.{open_rows, open_plan};
-ghost use Rattle.hnsr_circuit.specs.Code.Opening.{opening_of, incoming_out, placed_rows, placed_entry};
+ghost use Rattle.hnsr_circuit.specs.Code.Opening.{open_rows, open_plan, placed_plan, placed_rows};
+ghost use Rattle.hnsr_circuit.specs.Code.Opening.{opening_of, incoming_out, booked_in};
 
-use crate::answer::{HnsrAnswer, HnsrRuntimeError, body_answer, check};
+use crate::answer::{HnsrAnswer, HnsrRuntimeError, check};
 use crate::config::OpaqueRelayConfig;
 use crate::entry::peer_answer;
-use crate::messages::draw::draw_answer;
 use crate::messages::opcode::INCOMING;
 use crate::output::queue::Outgoing;
 use crate::peer::HnsrPeerId;
 use crate::records::inflight::capacity_answer;
 use crate::records::ledger::{fresh_usage, ledger_answer};
 use crate::records::{InflightKind, RelayPending, RelayTicket, ReservationUsage};
-use crate::runtime::RelayPacket;
-use crate::tables::scan::{ActionScan, LedgerScan, Work};
+use crate::runtime::{RelayPacket, Request};
+use crate::tables::lookup::Found;
+use crate::tables::scan::{InflightTally, LedgerScan, Work};
 use hnsr_body::error::HnsrProtocolError;
 use hnsr_body::incoming_body::IncomingBody;
 use hnsr_body::layout::Read;
@@ -79,9 +78,8 @@ pub(crate) fn endpoint_answer(
 pub(crate) fn deadline_answer(config: OpaqueRelayConfig, now: u64) -> HnsrAnswer
     ensures { result ≡ deadline_answer config now }
 {
-    let most = u64::MAX - now;
     check(
-        most < config.accept_timeout_seconds,
+        now.checked_add(config.accept_timeout_seconds).is_none(),
         HnsrRuntimeError::Deadline,
     )
 }
@@ -94,76 +92,73 @@ pub(crate) fn deadline_for(config: OpaqueRelayConfig, ticket: RelayTicket, now: 
         .min(ticket.expires_at)
 }
 
-// What an OPEN comes with: the packet, both peers, the endpoint's length, the body, and the work that there is.
+// What an OPEN comes with: the packet and its peer, the endpoint, the body, the work that there is, and the first draw,
+// if it is no record's id.
 #[derive(Clone, Copy)]
 pub struct OpenGathered {
-    pub packet: RelayPacket,
-    pub requester: HnsrPeerId,
+    pub request: Request,
     pub endpoint: HnsrPeerId,
-    pub size: usize,
     pub read: Read<OpenBody>,
     pub waiting: Work,
     pub running: Work,
+    pub free: Option<u64>,
 }
 
 impl OpenGathered {
-    // Whether the first draw is a pending record's id or a circuit's.
-    pub(crate) fn known_taken(self) -> bool
-        ensures { result ≡ (self.waiting.holds || self.running.holds) }
+    // The rows of OPEN before the ledger is touched, in order. The requester's work is its pending records and its
+    // circuits.
+    #[tactic(auto, using(crate::specs::Laws::Opening::leb_sum), unfolding(crate::specs::Open::open_answer))]
+    pub(crate) fn open_rows(self) -> HnsrAnswer
+        ensures { result ≡ open_rows self }
     {
-        self.waiting.holds || self.running.holds
+        let packet = self.request.packet;
+        let work = self.waiting.of_peer.saturating_add(self.running.of_peer);
+        open_answer(
+            self.request.state.runtime.config,
+            self.waiting.used,
+            self.running.used,
+            work,
+            self.waiting.repeated,
+        )?;
+        self.read.result?;
+        admission_answer(packet.admitted, packet.ticket.expires_at, packet.now)
     }
 
-    pub(crate) fn open_plan(self, config: OpaqueRelayConfig, drawn: Option<u64>) -> OpenPlan
-        ensures { result ≡ open_plan config self drawn }
+    fn open_plan(self, id: u64) -> OpenPlan
+        ensures { result ≡ open_plan self id }
     {
+        let RelayPacket {
+            context_id,
+            ticket,
+            now,
+            ..
+        } = self.request.packet;
         OpenPlan {
-            requester: self.requester,
-            context: self.packet.context_id,
+            requester: self.request.peer,
+            context: context_id,
             body: self.read.body,
             endpoint: self.endpoint,
-            ticket: self.packet.ticket,
-            id: drawn.unwrap_or(0),
-            deadline: deadline_for(config, self.packet.ticket, self.packet.now),
+            ticket,
+            id,
+            deadline: deadline_for(self.request.state.runtime.config, ticket, now),
         }
     }
-}
 
-// The requester's work is its pending records and its circuits.
-#[tactic(auto, using(crate::specs::Laws::Opening::leb_sum), unfolding(crate::specs::Open::open_answer))]
-pub(crate) fn open_limit(config: OpaqueRelayConfig, waiting: Work, running: Work) -> HnsrAnswer
-    ensures { result ≡ open_answer config waiting.used running.used (waiting.of_peer + running.of_peer)
-        waiting.repeated }
-{
-    let work = waiting.of_peer.saturating_add(running.of_peer);
-    open_answer(config, waiting.used, running.used, work, waiting.repeated)
-}
-
-// The endpoint's work and the reservation's are their pending records and their circuits.
-#[tactic(auto, using(crate::specs::Laws::Opening::leb_sum), unfolding(crate::specs::Open::endpoint_answer))]
-pub(crate) fn endpoint_limit(
-    config: OpaqueRelayConfig,
-    ticket: RelayTicket,
-    same: bool,
-    waiting: Work,
-    running: Work,
-) -> HnsrAnswer
-    ensures { result ≡ endpoint_answer config ticket same (waiting.of_other + running.of_other)
-        (waiting.under + running.under) }
-{
-    let work = waiting.of_other.saturating_add(running.of_other);
-    let under = waiting.under.saturating_add(running.under);
-    endpoint_answer(config, ticket, same, work, under)
-}
-
-// The rows of OPEN before the ledger is touched, in order.
-pub(crate) fn open_rows(config: OpaqueRelayConfig, gathered: OpenGathered) -> HnsrAnswer
-    ensures { result ≡ open_rows config gathered }
-{
-    let packet = gathered.packet;
-    open_limit(config, gathered.waiting, gathered.running)?;
-    body_answer(gathered.read.result)?;
-    admission_answer(packet.admitted, packet.ticket.expires_at, packet.now)
+    // What is written and sent under the id that is drawn. 4, 10 and 8: the rows that ask nothing of actions and
+    // ledger. The endpoint's work and the reservation's are their pending records and their circuits.
+    #[tactic(auto, using(crate::specs::Laws::Opening::leb_sum), unfolding(crate::specs::Open::endpoint_answer))]
+    pub(crate) fn placed_plan(self, drawn: Option<u64>) -> Result<OpenPlan, HnsrRuntimeError>
+        ensures { result ≡ placed_plan self drawn }
+    {
+        peer_answer(self.endpoint.len)?;
+        let config = self.request.state.runtime.config;
+        let same = self.endpoint == self.request.peer;
+        let work = self.waiting.of_other.saturating_add(self.running.of_other);
+        let under = self.waiting.under.saturating_add(self.running.under);
+        endpoint_answer(config, self.request.packet.ticket, same, work, under)?;
+        let id = drawn.ok_or(HnsrRuntimeError::Randomness)?;
+        Ok(self.open_plan(id))
+    }
 }
 
 // What an OPEN writes and sends, once its grant is good.
@@ -225,61 +220,27 @@ impl OpenPlan {
     }
 }
 
-// The rows of a placed OPEN that ask nothing of actions and ledger: 4, 10 and 8.
-pub(crate) fn placed_entry(
-    config: OpaqueRelayConfig,
-    gathered: OpenGathered,
-    plan: OpenPlan,
-    drawn: Option<u64>,
-) -> HnsrAnswer
-    ensures { result ≡ placed_entry config gathered plan drawn }
-{
-    peer_answer(gathered.size)?;
-    let same = plan.endpoint == plan.requester;
-    endpoint_limit(
-        config,
-        plan.ticket,
-        same,
-        gathered.waiting,
-        gathered.running,
-    )?;
-    draw_answer(drawn)
-}
-
-// The rows of OPEN once ledger records past their expiry are dropped, in order.
+// The rows of a placed OPEN, in order.
 pub(crate) fn placed_rows(
     config: OpaqueRelayConfig,
-    gathered: OpenGathered,
-    plan: OpenPlan,
-    drawn: Option<u64>,
-    scan: ActionScan,
-    booked: LedgerScan,
+    now: u64,
+    tally: InflightTally,
+    ledger: LedgerScan,
 ) -> HnsrAnswer
-    ensures { result ≡ placed_rows config gathered plan drawn scan booked }
+    ensures { result ≡ placed_rows config now tally ledger }
 {
-    placed_entry(config, gathered, plan, drawn)?;
-    capacity_answer(config, scan.tally)?;
-    deadline_answer(config, gathered.packet.now)?;
-    ledger_answer(booked.found, booked.used, booked.places)
+    capacity_answer(config, tally)?;
+    deadline_answer(config, now)?;
+    ledger_answer(ledger.found.is_some(), ledger.used, ledger.places)
 }
 
-// The ledger record of a grant: the one that is found, else a fresh one.
-pub(crate) fn booked_usage(booked: LedgerScan, ticket: RelayTicket) -> ReservationUsage
-    ensures { result ≡ cond booked.found booked.usage (fresh_usage ticket) }
+// The ledger record of a grant, and where it stands: the one that is found, else a fresh one at the lowest unused
+// place.
+pub(crate) fn booked(ledger: LedgerScan, ticket: RelayTicket) -> Found<ReservationUsage>
+    ensures { result ≡ booked_in ledger ticket }
 {
-    if booked.found {
-        booked.usage
-    } else {
-        fresh_usage(ticket)
-    }
-}
-
-pub(crate) fn booked_place(booked: LedgerScan) -> usize
-    ensures { result ≡ cond booked.found booked.place booked.spare_place }
-{
-    if booked.found {
-        booked.place
-    } else {
-        booked.spare_place
-    }
+    ledger.found.unwrap_or(Found {
+        place: ledger.spare.unwrap_or(ledger.places),
+        row: fresh_usage(ticket),
+    })
 }

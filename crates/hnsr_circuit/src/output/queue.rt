@@ -1,36 +1,34 @@
 // Queueing (QUEUE): a message becomes a route and an outstanding action.
-ghost use Rattle.std.specs.Prelude.{◌≡◌, List, [], ◌+◌, ◌<◌, length};
+ghost use Rattle.std.specs.Prelude.{◌≡◌, List, [], ◌<◌, ◌≤◌, length, unwrap_or, IfOk};
 ghost use Rattle.hnsr_body.specs.Messages.{notice_body};
 ghost use Rattle.hnsr_circuit.specs.Inflight.{action_under, dropped};
-ghost use Rattle.hnsr_circuit.specs.Code.Held.{held_actions, world_seen, handed_seen, underway_seen};
+ghost use Rattle.hnsr_circuit.specs.Code.Held.{held_actions, state_seen, handed_seen, underway_seen};
 ghost use Rattle.hnsr_circuit.specs.Code.Held.{held_pending, held_circuits, held_ledger};
 ghost use Rattle.hnsr_circuit.specs.Queue.{queue_answer, action_for, send, tell};
 ghost use Rattle.hnsr_circuit.specs.Code.Turns.{actions_scanned};
-ghost use Rattle.hnsr_circuit.specs.Code.Progress.{message_of, ending, advance, asking, scan_place, underway};
-ghost use Rattle.hnsr_circuit.specs.Code.Queueing.{queueing};
-ghost use Rattle.hnsr_circuit.specs.Route.{head_words};
-ghost use Rattle.hns_encoding.specs.Numbers.{saturating_add};
-ghost use Rattle.hns_encoding.specs.Words.{word_count};
+ghost use Rattle.hnsr_circuit.specs.Code.Progress.{message_of, ending, advance, asking, underway};
+ghost use Rattle.hnsr_circuit.specs.Code.Queueing.{queueing, Written};
 ghost use Rattle.hnsr_circuit.specs.declared.records.RelayPending.{RelayPending};
 ghost use Rattle.hnsr_circuit.specs.declared.records.RelayCircuit.{RelayCircuit};
 ghost use Rattle.hnsr_circuit.specs.declared.records.ReservationUsage.{ReservationUsage};
 
 use crate::answer::{HnsrAnswer, HnsrRuntimeError, check};
 use crate::config::OpaqueRelayConfig;
-use crate::output::route::{put_route, route_size};
+use crate::output::route::{PacketBody, put_route, route_size};
 use crate::peer::HnsrPeerId;
 use crate::records::inflight::capacity_answer;
 use crate::records::{InflightAction, InflightKind};
-use crate::runtime::{OpaqueRelayRuntime, Relayed, Sending};
+use crate::runtime::{OpaqueRelayRuntime, RelayState, Relayed, Sending};
 use crate::tables::inflight::{drop_and_scan, scan_actions};
-use crate::tables::places::{Places, raised, with_actions};
+use crate::tables::places::Places;
 use crate::tables::scan::{ActionQuestion, ActionScan, InflightTally};
-use crate::tables::table::set;
+use crate::tables::table::put;
 use hnsr_body::error::{HnsrInvalid, HnsrProtocolError};
 use hnsr_body::messages::Notice;
 
 // A message but for its body: where it goes, the circuit that it is about, opcode and context, and what its action
-// holds. `to_endpoint` and `bytes` are of Data alone: the stored action, whose layout is C's, has them for every kind.
+// holds. `to_endpoint` and `bytes` are of Data alone: they stand here for every kind, as in the definition's message
+// and in the stored action, which lies as in C.
 #[derive(Clone, Copy)]
 pub struct Outgoing {
     pub destination: HnsrPeerId,
@@ -50,7 +48,8 @@ pub(crate) fn queue_answer(
     sequence: u64,
     context: u64,
 ) -> HnsrAnswer
-    ensures { result ≡ queue_answer config tally sequence context }
+    ensures answer { result ≡ queue_answer config tally sequence context }
+    ensures below { IfOk result (λ _. sequence < 18446744073709551615) }
 {
     let zero = HnsrRuntimeError::Protocol(HnsrProtocolError::Invalid(HnsrInvalid::ContextZero));
     check(context == 0, zero)?;
@@ -87,21 +86,12 @@ pub(crate) fn asking(runtime: OpaqueRelayRuntime, message: Outgoing) -> ActionQu
     }
 }
 
-// Where an action goes: what its number finds, else the lowest unused place.
-pub(crate) fn scan_place(scan: ActionScan) -> usize
-    ensures { result ≡ scan_place scan }
-{
-    if scan.found {
-        return scan.place;
-    }
-    scan.spare_place
-}
-
-// How a message is queued: the runtime with the sequence moved on, and the action with its place.
+// How a message is queued: the runtime with the sequence moved on, and the action with its place: the one that its
+// number finds, else the lowest unused one, if there is one.
 #[derive(Clone, Copy)]
 pub struct Queued {
     pub runtime: OpaqueRelayRuntime,
-    pub place: usize,
+    pub place: Option<usize>,
     pub action: InflightAction,
 }
 
@@ -115,109 +105,95 @@ pub(crate) fn queue(
 {
     let sequence = runtime.next_action_sequence;
     queue_answer(runtime.config, scan.tally, sequence, message.context_id)?;
-    let moved = runtime.with_sequence(sequence.saturating_add(1));
-    let place = scan_place(scan);
-    let action = action_for(message, runtime.generation, sequence);
     Ok(Queued {
-        runtime: moved,
-        place,
-        action,
+        runtime: runtime.with_sequence(sequence + 1),
+        place: scan.found.or(scan.spare),
+        action: action_for(message, runtime.generation, sequence),
     })
 }
 
-// The output word that is next.
-fn position_after(at: usize, body_size: usize) -> usize
-    requires { body_size < 65536 }
-    ensures { result ≡ saturating_add 64 at (head_words + word_count body_size) }
+// A queued message: its action stored, and its route behind what the call has written.
+fn write(
+    inflight: &mut [InflightAction],
+    out: &mut [u32],
+    sending: Sending,
+    message: Outgoing,
+    queued: Queued,
+    body: PacketBody,
+) -> Sending
+    requires { unwrap_or queued.place (length inflight.old) < length inflight.old
+        → unwrap_or queued.place (length inflight.old) ≤ sending.state.places.actions }
+    ensures { Written message body.entry.bytes.now queued sending.state sending.position inflight.old out.old result
+        inflight.new out.new }
 {
-    at.saturating_add(route_size(body_size))
+    let runtime = sending.state.runtime;
+    let places = sending.state.places;
+    let place = queued.place.unwrap_or(inflight.len());
+    let actions = put(inflight, places.actions, place, queued.action);
+    put_route(
+        out,
+        sending.position,
+        message,
+        runtime.generation,
+        runtime.next_action_sequence,
+        body,
+    );
+    Sending {
+        state: RelayState {
+            runtime: queued.runtime,
+            places: Places { actions, ..places },
+        },
+        position: sending.position.saturating_add(route_size(body)),
+    }
 }
 
 // The last step of a call.
+#[tactic(auto, using(crate::specs::Laws::Queueing::queued_upto, crate::specs::Laws::Queueing::send_refused))]
 pub(crate) fn send(
     inflight: &mut [InflightAction],
     out: &mut [u32],
-    runtime: OpaqueRelayRuntime,
-    places: Places,
+    state: RelayState,
     message: Outgoing,
     scan: ActionScan,
-    body: &[u8],
+    body: PacketBody,
 ) -> Relayed
-    requires { (scan ≡ actions_scanned (asking runtime message) (held_actions places inflight.old))
-        × (length body.now < 65536) }
+    requires { scan ≡ actions_scanned (asking state.runtime message) (held_actions state.places inflight.old) }
     ensures { (p : List RelayPending) (c : List RelayCircuit) (l : List ReservationUsage)
         → handed_seen result p c l inflight.new out.new
         ≡ ending out.old
-        (send (world_seen runtime places p c l inflight.old) (message_of message body.now)) }
+        (send (state_seen state p c l inflight.old) (message_of message body.entry.bytes.now)) }
 {
-    match queue(runtime, message, scan) {
-        Ok(queued) => {
-            let number = raised(places.actions, true, queued.place, inflight.len());
-            let after = with_actions(places, number);
-            set(inflight, true, queued.place, queued.action);
-            put_route(
-                out,
-                0,
-                message,
-                runtime.generation,
-                runtime.next_action_sequence,
-                body,
-            );
-            let words = position_after(0, body.len());
-            Relayed {
-                runtime: queued.runtime,
-                answer: Ok(()),
-                words,
-                places: after,
-            }
-        }
-        Err(error) => Relayed::refused(runtime, places, error),
+    match queue(state.runtime, message, scan) {
+        Ok(queued) => write(inflight, out, state.start(), message, queued, body).finish(),
+        Err(error) => Relayed::refused(state, error),
     }
 }
 
 // A part of a call that cannot be refused: what cannot be queued is left out (QUEUE.8).
-pub(crate) fn tell_scanned(
+#[tactic(auto, using(crate::specs::Laws::Queueing::queued_upto, crate::specs::Laws::Queueing::tell_refused))]
+pub(crate) fn tell(
     inflight: &mut [InflightAction],
     out: &mut [u32],
     sending: Sending,
     message: Outgoing,
     scan: ActionScan,
-    body: &[u8],
+    body: PacketBody,
 ) -> Sending
-    requires { (scan ≡ actions_scanned (asking sending.runtime message) (held_actions sending.places inflight.old))
-        × (length body.now < 65536) }
+    requires { scan
+        ≡ actions_scanned (asking sending.state.runtime message) (held_actions sending.state.places inflight.old) }
     ensures { (p : List RelayPending) (c : List RelayCircuit) (l : List ReservationUsage)
         → underway_seen result p c l inflight.new out.new
-        ≡ advance (tell (message_of message body.now))
+        ≡ advance (tell (message_of message body.entry.bytes.now))
         (underway_seen sending p c l inflight.old out.old) }
 {
-    let runtime = sending.runtime;
-    let places = sending.places;
-    match queue(runtime, message, scan) {
-        Ok(queued) => {
-            let number = raised(places.actions, true, queued.place, inflight.len());
-            let after = with_actions(places, number);
-            set(inflight, true, queued.place, queued.action);
-            put_route(
-                out,
-                sending.position,
-                message,
-                runtime.generation,
-                runtime.next_action_sequence,
-                body,
-            );
-            let position = position_after(sending.position, body.len());
-            Sending {
-                runtime: queued.runtime,
-                position,
-                places: after,
-            }
-        }
+    match queue(sending.state.runtime, message, scan) {
+        Ok(queued) => write(inflight, out, sending, message, queued, body),
         Err(_) => sending,
     }
 }
 
 // A message of the relay's own, the actions of its record dropped before it, in the same pass.
+#[tactic(auto, using(crate::specs::Laws::Route::notice_slice, crate::specs::Laws::Route::notice_short))]
 pub(crate) fn drop_and_tell(
     inflight: &mut [InflightAction],
     out: &mut [u32],
@@ -229,21 +205,21 @@ pub(crate) fn drop_and_tell(
     ensures { (p : List RelayPending) (c : List RelayCircuit) (l : List ReservationUsage)
         → underway_seen result p c l inflight.new out.new
         ≡ advance (tell (message_of message (notice_body notice)))
-        (underway sending (held_pending sending.places p) (held_circuits sending.places c)
-        (held_ledger sending.places l)
-        (dropped (action_under id) (held_actions sending.places inflight.old)) out.old) }
+        (underway sending (held_pending sending.state.places p) (held_circuits sending.state.places c)
+        (held_ledger sending.state.places l)
+        (dropped (action_under id) (held_actions sending.state.places inflight.old)) out.old) }
 {
-    let runtime = sending.runtime;
-    let places = sending.places;
-    let question = asking(runtime, message);
-    let scan = drop_and_scan(inflight, places, id, question);
+    let state = sending.state;
+    let scan = drop_and_scan(inflight, state.places, id, asking(state.runtime, message));
     let written = notice.encode();
-    let bytes = written.bytes;
-    let length = written.length;
-    tell_scanned(inflight, out, sending, message, scan, &bytes[..length])
+    let body = PacketBody {
+        bytes: written.as_slice(),
+    };
+    tell(inflight, out, sending, message, scan, body)
 }
 
 // A message of the relay's own.
+#[tactic(auto, using(crate::specs::Laws::Route::notice_slice, crate::specs::Laws::Route::notice_short))]
 pub(crate) fn tell_notice(
     inflight: &mut [InflightAction],
     out: &mut [u32],
@@ -256,12 +232,11 @@ pub(crate) fn tell_notice(
         ≡ advance (tell (message_of message (notice_body notice)))
         (underway_seen sending p c l inflight.old out.old) }
 {
-    let runtime = sending.runtime;
-    let places = sending.places;
-    let question = asking(runtime, message);
-    let scan = scan_actions(inflight, places, question);
+    let state = sending.state;
+    let scan = scan_actions(inflight, state.places, asking(state.runtime, message));
     let written = notice.encode();
-    let bytes = written.bytes;
-    let length = written.length;
-    tell_scanned(inflight, out, sending, message, scan, &bytes[..length])
+    let body = PacketBody {
+        bytes: written.as_slice(),
+    };
+    tell(inflight, out, sending, message, scan, body)
 }

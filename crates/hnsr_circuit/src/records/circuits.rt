@@ -2,14 +2,14 @@
 // one.
 ghost use Rattle.std.specs.Prelude.{refl, ◌≡◌, ◌+◌, ◌-◌, ◌<◌};
 ghost use Rattle.hnsr_circuit.specs.Circuits.{no_circuit, clear_circuit, charged, raised, lowered, is_circuit};
-ghost use Rattle.hnsr_circuit.specs.Circuits.{circuit_id, circuit_at, is_side, circuit_of, circuit_under, circuit_over};
-ghost use Rattle.hnsr_circuit.specs.Circuits.{side_of, other_side, peer_at, credit_of, queued_to, queued_in};
+ghost use Rattle.hnsr_circuit.specs.Circuits.{circuit_id, is_side, circuit_of, circuit_under};
+ghost use Rattle.hnsr_circuit.specs.Circuits.{side_of, other_side, part_of, peer_at, credit_of, queued_to, queued_in};
 ghost use Rattle.hnsr_circuit.specs.Packet.{receiver};
 ghost use Rattle.hnsr_circuit.specs.NextDue.{expiry_of};
 ghost use Rattle.hnsr_circuit.specs.Laws.Records.{circuit_unused, circuit_still};
 ghost use Rattle.hnsr_circuit.specs.Code.Question.{circuit_work};
 ghost use Rattle.hnsr_circuit.specs.Code.Turns.{circuit_worked};
-ghost use Rattle.hnsr_circuit.specs.Laws.Turns.{circuit-most, circuit_work_lem};
+ghost use Rattle.hnsr_circuit.specs.Laws.Turns.{circuit_work_lem};
 ghost use Rattle.hnsr_circuit.specs.Laws.HeldTables.{circuit-idle};
 
 use crate::peer::HnsrPeerId;
@@ -86,31 +86,22 @@ impl Worked for RelayCircuit {
 
     ghost folds = { circuit_work_lem };
 
-    ghost most = { circuit-most };
-
     ghost idle = { circuit-idle };
 
-    #[tactic(auto, unfolding(crate::specs::Circuits::is_circuit))]
+    #[tactic(auto, unfolding(crate::specs::Circuits::is_circuit, crate::specs::Circuits::circuit_at))]
     fn worked(&self, so_far: Work, question: &WorkQuestion) -> Work {
         if self.used {
             let peer = circuit_of(self, &question.peer);
             let other = circuit_of(self, &question.other);
             let under = circuit_under(self, question.reservation);
-            let is = circuit_is(self, question.id);
+            let is = self.circuit_id == question.id;
             return work_on(so_far, peer, other, under, false, is);
         }
         so_far
     }
 }
 
-// ---- questions
-
-#[tactic(auto, unfolding(crate::specs::Circuits::circuit_at))]
-pub(crate) fn circuit_is(c: &RelayCircuit, id: u64) -> bool
-    ensures { result ≡ circuit_at id c.now }
-{
-    c.used && c.circuit_id == id
-}
+// ---- questions: a line each over the record's own fields, which a trait of the four records would not make shorter
 
 // The peer is a side of it.
 #[tactic(auto, unfolding(crate::specs::Circuits::circuit_of))]
@@ -126,14 +117,6 @@ pub(crate) fn circuit_under(c: &RelayCircuit, id: ReservationId) -> bool
     ensures { result ≡ circuit_under id c.now }
 {
     c.used && c.reservation_id == id
-}
-
-// Expiry not after the time.
-#[tactic(auto, unfolding(crate::specs::Circuits::circuit_over))]
-pub(crate) fn circuit_over(c: &RelayCircuit, time: u64) -> bool
-    ensures { result ≡ circuit_over time c.now }
-{
-    c.used && c.expires_at <= time
 }
 
 // ---- sides, of a circuit that was found
@@ -164,15 +147,22 @@ impl RelaySide {
             RelaySide::Endpoint => RelaySide::Requester,
         }
     }
+
+    // The side's part of what both sides have: a peer, a credit, a queue.
+    fn part<T: Copy>(self, requester: T, endpoint: T) -> T
+        ensures { result ≡ part_of self requester endpoint }
+    {
+        match self {
+            RelaySide::Requester => requester,
+            RelaySide::Endpoint => endpoint,
+        }
+    }
 }
 
 pub(crate) fn peer_at(side: RelaySide, c: RelayCircuit) -> HnsrPeerId
     ensures { result ≡ peer_at side c }
 {
-    match side {
-        RelaySide::Requester => c.requester,
-        RelaySide::Endpoint => c.endpoint,
-    }
+    *side.part(&c.requester, &c.endpoint)
 }
 
 // The peer that a circuit's packet goes on to.
@@ -187,20 +177,14 @@ pub(crate) fn receiver(c: RelayCircuit, peer: HnsrPeerId) -> HnsrPeerId
 pub(crate) fn credit_of(side: RelaySide, circuit: RelayCircuit) -> u32
     ensures { result ≡ credit_of side circuit }
 {
-    match side {
-        RelaySide::Requester => circuit.requester_credit,
-        RelaySide::Endpoint => circuit.endpoint_credit,
-    }
+    side.part(circuit.requester_credit, circuit.endpoint_credit)
 }
 
 // The queue toward a side.
 pub(crate) fn queued_to(side: RelaySide, circuit: RelayCircuit) -> usize
     ensures { result ≡ queued_to side circuit }
 {
-    match side {
-        RelaySide::Requester => circuit.queued_to_requester,
-        RelaySide::Endpoint => circuit.queued_to_endpoint,
-    }
+    side.part(circuit.queued_to_requester, circuit.queued_to_endpoint)
 }
 
 // Both queues of a used circuit, 0 of an unused one.
@@ -214,7 +198,7 @@ pub(crate) fn queued_in(c: &RelayCircuit) -> usize
     0
 }
 
-// ---- changes
+// ---- changes: each moves fields of its own, and WINDOW those of the other side
 
 fn less_credit(credit: u32, n: usize) -> u32
     ensures { result ≡ credit - n }
@@ -223,66 +207,49 @@ fn less_credit(credit: u32, n: usize) -> u32
     left as u32
 }
 
-// DATA of n bytes from a side, as far as the circuit is charged (DATA.9).
-pub(crate) fn circuit_charged(c: RelayCircuit, side: RelaySide, n: usize) -> RelayCircuit
-    ensures { result ≡ charged side n c }
-{
-    let forwarded_bytes = c.forwarded_bytes.saturating_add(n as u64);
-    match side {
-        RelaySide::Requester => RelayCircuit {
-            requester_credit: less_credit(c.requester_credit, n),
-            queued_to_endpoint: c.queued_to_endpoint.saturating_add(n),
-            forwarded_bytes,
-            ..c
-        },
-        RelaySide::Endpoint => RelayCircuit {
-            endpoint_credit: less_credit(c.endpoint_credit, n),
-            queued_to_requester: c.queued_to_requester.saturating_add(n),
-            forwarded_bytes,
-            ..c
-        },
+impl RelayCircuit {
+    // DATA of n bytes from a side, as far as the circuit is charged (DATA.9).
+    pub(crate) fn charge(&mut self, side: RelaySide, n: usize)
+        ensures { self.new ≡ charged side n self.old }
+    {
+        self.forwarded_bytes = self.forwarded_bytes.saturating_add(n as u64);
+        match side {
+            RelaySide::Requester => {
+                self.requester_credit = less_credit(self.requester_credit, n);
+                self.queued_to_endpoint = self.queued_to_endpoint.saturating_add(n);
+            }
+            RelaySide::Endpoint => {
+                self.endpoint_credit = less_credit(self.endpoint_credit, n);
+                self.queued_to_requester = self.queued_to_requester.saturating_add(n);
+            }
+        }
     }
-}
 
-// A sum that would not fit stops at its top.
-fn more_credit(credit: u32, n: u32) -> u32
-    ensures { credit + n < 4294967296 → result ≡ credit + n }
-{
-    if credit <= u32::MAX - n {
-        credit + n
-    } else {
-        u32::MAX
+    // WINDOW.7: the side that did not send gets more. A sum that would not fit stops at its top.
+    pub(crate) fn raise(&mut self, side: RelaySide, delta: u32)
+        ensures { credit_of (other_side side) self.old + delta < 4294967296 → self.new ≡ raised side delta self.old }
+    {
+        match side {
+            RelaySide::Requester => {
+                self.endpoint_credit = self.endpoint_credit.saturating_add(delta);
+            }
+            RelaySide::Endpoint => {
+                self.requester_credit = self.requester_credit.saturating_add(delta);
+            }
+        }
     }
-}
 
-// WINDOW.7: the side that did not send gets more.
-pub(crate) fn circuit_raised(c: RelayCircuit, side: RelaySide, delta: u32) -> RelayCircuit
-    ensures { credit_of (other_side side) c + delta < 4294967296 → result ≡ raised side delta c }
-{
-    match side {
-        RelaySide::Requester => RelayCircuit {
-            endpoint_credit: more_credit(c.endpoint_credit, delta),
-            ..c
-        },
-        RelaySide::Endpoint => RelayCircuit {
-            requester_credit: more_credit(c.requester_credit, delta),
-            ..c
-        },
-    }
-}
-
-// An acknowledged Data lowers the queue that it stood in, toward the side that it went to.
-pub(crate) fn circuit_lowered(c: RelayCircuit, side: RelaySide, n: usize) -> RelayCircuit
-    ensures { result ≡ lowered side n c }
-{
-    match side {
-        RelaySide::Requester => RelayCircuit {
-            queued_to_requester: c.queued_to_requester.saturating_sub(n),
-            ..c
-        },
-        RelaySide::Endpoint => RelayCircuit {
-            queued_to_endpoint: c.queued_to_endpoint.saturating_sub(n),
-            ..c
-        },
+    // An acknowledged Data lowers the queue that it stood in, toward the side that it went to.
+    pub(crate) fn lower(&mut self, side: RelaySide, n: usize)
+        ensures { self.new ≡ lowered side n self.old }
+    {
+        match side {
+            RelaySide::Requester => {
+                self.queued_to_requester = self.queued_to_requester.saturating_sub(n);
+            }
+            RelaySide::Endpoint => {
+                self.queued_to_endpoint = self.queued_to_endpoint.saturating_sub(n);
+            }
+        }
     }
 }

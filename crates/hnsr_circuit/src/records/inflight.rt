@@ -49,19 +49,13 @@ impl TableRecord for InflightAction {
     }
 }
 
-// ---- kinds: a stored kind is a number
+// ---- kinds: a record holds a number, since it lies as in C and any number may stand in it
 
 impl From<InflightKind> for u8 {
     ghost from_gives = { λ kind number. number ≡ kind_number kind };
 
     fn from(kind: InflightKind) -> u8 {
-        match kind {
-            InflightKind::Incoming => 0,
-            InflightKind::Opened => 1,
-            InflightKind::Data => 2,
-            InflightKind::Control => 3,
-            InflightKind::Close => 4,
-        }
+        kind as u8
     }
 }
 
@@ -81,16 +75,13 @@ impl From<u8> for InflightKind {
     }
 }
 
-// ---- the side that a Data goes to
+// ---- the side that a Data goes to: a record holds a `bool`, as in C. `From` would not say which side is `true`.
 
 impl RelaySide {
     pub(crate) fn to_endpoint(self) -> bool
         ensures { result ≡ to_endpoint self }
     {
-        match self {
-            RelaySide::Requester => false,
-            RelaySide::Endpoint => true,
-        }
+        matches!(self, RelaySide::Endpoint)
     }
 }
 
@@ -106,16 +97,14 @@ impl InflightAction {
     }
 }
 
-// ---- questions
+// ---- questions: a line each over the record's own fields
 
-// All three are read first: a lookup then has one branch for each record.
+// The number first: a lookup then reads one field of most records.
 #[tactic(auto, unfolding(crate::specs::Inflight::action_at))]
 pub(crate) fn action_is(a: &InflightAction, generation: u64, sequence: u64) -> bool
     ensures { result ≡ action_at generation sequence a.now }
 {
-    let made = a.generation;
-    let number = a.sequence;
-    a.used && (made == generation && number == sequence)
+    a.sequence == sequence && a.generation == generation && a.used
 }
 
 #[tactic(auto, unfolding(crate::specs::Inflight::action_under))]
@@ -135,6 +124,7 @@ pub(crate) fn action_toward(a: &InflightAction, peer: &HnsrPeerId) -> bool
 // ---- capacity
 
 // How many further actions fit: the smallest of the three distances.
+#[tactic(auto, unfolding(crate::specs::Inflight::capacity_left))]
 pub(crate) fn capacity_left(config: OpaqueRelayConfig, tally: InflightTally) -> usize
     ensures { result ≡ capacity_left config tally }
 {
@@ -150,6 +140,7 @@ pub(crate) fn capacity_left(config: OpaqueRelayConfig, tally: InflightTally) -> 
 }
 
 // 10 (QUEUE.5): one of three counts has reached its limit
+#[tactic(auto, unfolding(crate::specs::Inflight::capacity_answer))]
 pub(crate) fn capacity_answer(config: OpaqueRelayConfig, tally: InflightTally) -> HnsrAnswer
     ensures { result ≡ capacity_answer config tally }
 {

@@ -1,6 +1,6 @@
 // The ledger: a table's records, what is asked of one, what becomes of one, and the rows of OPEN that go by it.
 ghost use Rattle.std.specs.Prelude.{◌≡◌};
-ghost use Rattle.hnsr_circuit.specs.Ledger.{no_usage, is_usage, usage_at, usage_over, clear_usage};
+ghost use Rattle.hnsr_circuit.specs.Ledger.{no_usage, is_usage, usage_at, clear_usage};
 ghost use Rattle.hnsr_circuit.specs.Ledger.{fresh_usage, spent, ledger_answer, usage_answer};
 ghost use Rattle.hnsr_circuit.specs.NextDue.{usage_expiry_of};
 ghost use Rattle.hnsr_circuit.specs.Laws.Records.{usage_unused, usage_still};
@@ -51,21 +51,13 @@ impl Timed for ReservationUsage {
     }
 }
 
-// ---- questions
+// ---- questions: a line each over the record's own fields
 
 #[tactic(auto, unfolding(crate::specs::Ledger::usage_at))]
 pub(crate) fn usage_is(u: &ReservationUsage, id: ReservationId) -> bool
     ensures { result ≡ usage_at id u.now }
 {
     u.used && u.reservation_id == id
-}
-
-// Expiry not after now.
-#[tactic(auto, unfolding(crate::specs::Ledger::usage_over))]
-pub(crate) fn usage_over(u: &ReservationUsage, now: u64) -> bool
-    ensures { result ≡ usage_over now u.now }
-{
-    u.used && u.expires_at <= now
 }
 
 // ---- changes
@@ -82,13 +74,12 @@ pub(crate) fn fresh_usage(ticket: RelayTicket) -> ReservationUsage
     }
 }
 
-// DATA of n bytes.
-pub(crate) fn usage_spent(u: ReservationUsage, n: u64) -> ReservationUsage
-    ensures { result ≡ spent n u }
-{
-    ReservationUsage {
-        bytes: u.bytes.saturating_add(n),
-        ..u
+impl ReservationUsage {
+    // DATA of n bytes.
+    pub(crate) fn spend(&mut self, n: u64)
+        ensures { self.new ≡ spent n self.old }
+    {
+        self.bytes = self.bytes.saturating_add(n);
     }
 }
 

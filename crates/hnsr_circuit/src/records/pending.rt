@@ -1,14 +1,13 @@
 // Pending records: a table's records, and what is asked of one where it stands. An unused record answers no question
 // but that it is unused.
 ghost use Rattle.std.specs.Prelude.{refl, ◌≡◌};
-ghost use Rattle.hnsr_circuit.specs.Pending.{no_pending, clear_pending, is_pending, pending_id, pending_at};
+ghost use Rattle.hnsr_circuit.specs.Pending.{no_pending, clear_pending, is_pending, pending_id};
 ghost use Rattle.hnsr_circuit.specs.NextDue.{deadline_of};
 ghost use Rattle.hnsr_circuit.specs.Laws.Records.{pending_unused, pending_still};
-ghost use Rattle.hnsr_circuit.specs.Pending.{pending_of, pending_under, requester_names, endpoint_names};
-ghost use Rattle.hnsr_circuit.specs.Pending.{requested_by, named_by, overdue, pending_over};
+ghost use Rattle.hnsr_circuit.specs.Pending.{pending_of, pending_under, requested_by, overdue};
 ghost use Rattle.hnsr_circuit.specs.Code.Question.{pending_work};
 ghost use Rattle.hnsr_circuit.specs.Code.Turns.{pending_worked};
-ghost use Rattle.hnsr_circuit.specs.Laws.Turns.{pending-most, pending_work_lem};
+ghost use Rattle.hnsr_circuit.specs.Laws.Turns.{pending_work_lem};
 ghost use Rattle.hnsr_circuit.specs.Laws.HeldTables.{pending-idle};
 
 use crate::peer::HnsrPeerId;
@@ -86,32 +85,23 @@ impl Worked for RelayPending {
 
     ghost folds = { pending_work_lem };
 
-    ghost most = { pending-most };
-
     ghost idle = { pending-idle };
 
-    #[tactic(auto, unfolding(crate::specs::Pending::is_pending))]
+    #[tactic(auto, unfolding(crate::specs::Pending::is_pending, crate::specs::Pending::pending_at))]
     fn worked(&self, so_far: Work, question: &WorkQuestion) -> Work {
         if self.used {
             let peer = pending_of(self, &question.peer);
             let other = pending_of(self, &question.other);
             let under = pending_under(self, question.reservation);
             let again = requested_by(self, &question.peer, question.context);
-            let is = pending_is(self, question.id);
+            let is = self.circuit_id == question.id;
             return work_on(so_far, peer, other, under, again, is);
         }
         so_far
     }
 }
 
-// ---- questions
-
-#[tactic(auto, unfolding(crate::specs::Pending::pending_at))]
-pub(crate) fn pending_is(p: &RelayPending, id: u64) -> bool
-    ensures { result ≡ pending_at id p.now }
-{
-    p.used && p.circuit_id == id
-}
+// ---- questions: a line each over the record's own fields, as of a circuit
 
 // The peer is a side of it.
 #[tactic(auto, unfolding(crate::specs::Pending::pending_of))]
@@ -129,32 +119,12 @@ pub(crate) fn pending_under(p: &RelayPending, id: ReservationId) -> bool
     p.used && p.ticket.reservation_id == id
 }
 
-pub(crate) fn requester_names(p: &RelayPending, peer: &HnsrPeerId, context: u64) -> bool
-    ensures { result ≡ requester_names peer.now context p.now }
-{
-    p.requester_context == context && p.requester == *peer
-}
-
-pub(crate) fn endpoint_names(p: &RelayPending, peer: &HnsrPeerId, context: u64) -> bool
-    ensures { result ≡ endpoint_names peer.now context p.now }
-{
-    p.circuit_id == context && p.endpoint == *peer
-}
-
 // The same requester and context.
 #[tactic(auto, unfolding(crate::specs::Pending::requested_by))]
-pub(crate) fn requested_by(p: &RelayPending, peer: &HnsrPeerId, context: u64) -> bool
+fn requested_by(p: &RelayPending, peer: &HnsrPeerId, context: u64) -> bool
     ensures { result ≡ requested_by peer.now context p.now }
 {
-    p.used && requester_names(p, peer, context)
-}
-
-// CLOSE.9: by what number each side names it.
-#[tactic(auto, unfolding(crate::specs::Pending::named_by))]
-pub(crate) fn named_by(p: &RelayPending, peer: &HnsrPeerId, context: u64) -> bool
-    ensures { result ≡ named_by peer.now context p.now }
-{
-    p.used && (requester_names(p, peer, context) || endpoint_names(p, peer, context))
+    p.used && p.requester_context == context && p.requester == *peer
 }
 
 // ACCEPT.3, EXPIRE.4: it is too late for it.
@@ -162,11 +132,4 @@ pub(crate) fn overdue(now: u64, p: RelayPending) -> bool
     ensures { result ≡ overdue now p }
 {
     p.deadline <= now || p.ticket.expires_at <= now
-}
-
-#[tactic(auto, unfolding(crate::specs::Pending::pending_over))]
-pub(crate) fn pending_over(p: &RelayPending, time: u64) -> bool
-    ensures { result ≡ pending_over time p.now }
-{
-    p.used && (p.deadline <= time || p.ticket.expires_at <= time)
 }

@@ -15,43 +15,6 @@ impl RuntimeCounters {
         bytes_received: 0,
         revoked_work: 0,
     };
-
-    fn count_open(self) -> Self
-        ensures { result ≡ count_open self }
-    {
-        Self {
-            admitted_opens: self.admitted_opens.saturating_add(1),
-            ..self
-        }
-    }
-
-    fn count_accept(self) -> Self
-        ensures { result ≡ count_accept self }
-    {
-        Self {
-            opened_circuits: self.opened_circuits.saturating_add(1),
-            ..self
-        }
-    }
-
-    fn count_bytes(self, n: u64) -> Self
-        ensures { result ≡ count_bytes n self }
-    {
-        Self {
-            bytes_sent: self.bytes_sent.saturating_add(n),
-            bytes_received: self.bytes_received.saturating_add(n),
-            ..self
-        }
-    }
-
-    fn count_revoked(self) -> Self
-        ensures { result ≡ count_revoked self }
-    {
-        Self {
-            revoked_work: self.revoked_work.saturating_add(1),
-            ..self
-        }
-    }
 }
 
 impl OpaqueRelayRuntime {
@@ -66,6 +29,7 @@ impl OpaqueRelayRuntime {
         counters: RuntimeCounters::ZERO,
     };
 
+    // What the host hands `new`.
     pub(crate) fn new(
         session: [u8; 16],
         generation: u64,
@@ -105,52 +69,44 @@ impl OpaqueRelayRuntime {
 
     // SWITCH.4: a new generation, numbered from 1.
     pub(crate) fn with_enabled(self, on: bool) -> Self
-        requires { self.generation < 18446744073709551615 }
-        ensures { result ≡ with_enabled self on }
+        ensures { self.generation < 18446744073709551615 → result ≡ with_enabled self on }
     {
         Self {
-            generation: self.generation + 1,
+            generation: self.generation.saturating_add(1),
             enabled: on,
             next_action_sequence: 1,
             ..self
         }
     }
 
-    // ---- counted, where a call goes on
+    // ---- counted, where a call goes on: each in its own field
 
-    pub(crate) fn opened(self) -> Self
+    pub(crate) fn opened(mut self) -> Self
         ensures { result ≡ with_counters self (count_open self.counters) }
     {
-        Self {
-            counters: self.counters.count_open(),
-            ..self
-        }
+        self.counters.admitted_opens = self.counters.admitted_opens.saturating_add(1);
+        self
     }
 
-    pub(crate) fn accepted(self) -> Self
+    pub(crate) fn accepted(mut self) -> Self
         ensures { result ≡ with_counters self (count_accept self.counters) }
     {
-        Self {
-            counters: self.counters.count_accept(),
-            ..self
-        }
+        self.counters.opened_circuits = self.counters.opened_circuits.saturating_add(1);
+        self
     }
 
-    pub(crate) fn transferred(self, n: u64) -> Self
+    pub(crate) fn transferred(mut self, n: u64) -> Self
         ensures { result ≡ with_counters self (count_bytes n self.counters) }
     {
-        Self {
-            counters: self.counters.count_bytes(n),
-            ..self
-        }
+        self.counters.bytes_sent = self.counters.bytes_sent.saturating_add(n);
+        self.counters.bytes_received = self.counters.bytes_received.saturating_add(n);
+        self
     }
 
-    pub(crate) fn revoked(self) -> Self
+    pub(crate) fn revoked(mut self) -> Self
         ensures { result ≡ with_counters self (count_revoked self.counters) }
     {
-        Self {
-            counters: self.counters.count_revoked(),
-            ..self
-        }
+        self.counters.revoked_work = self.counters.revoked_work.saturating_add(1);
+        self
     }
 }

@@ -7,12 +7,13 @@ ghost use Rattle.hnsr_circuit.specs.Code.Turns.{actions_scanned};
 
 use crate::records::InflightAction;
 use crate::records::inflight::action_under;
-use crate::tables::places::{Places, spared};
+use crate::tables::places::Places;
 use crate::tables::record::TableRecord;
-use crate::tables::scan::{ActionQuestion, ActionScan, action_scanned, no_scan, toward_asked};
+use crate::tables::scan::{ActionQuestion, ActionScan, action_scanned, toward_asked};
 use crate::tables::table::in_use;
 
 // All that a message asks of the table, in one pass.
+#[tactic(auto, using(hns_encoding::specs::Loops::fold_step, crate::specs::Laws::HeldTables::actions_seen))]
 pub(crate) fn scan_actions(
     inflight: &[InflightAction],
     places: Places,
@@ -20,14 +21,13 @@ pub(crate) fn scan_actions(
 ) -> ActionScan
     ensures { result ≡ actions_scanned question (held_actions places inflight.now) }
 {
-    let size = inflight.len();
     let seen = in_use(inflight, places.actions);
-    let mut scan = no_scan(size);
+    let mut scan = ActionScan::default();
     for (place, row) in seen.iter().enumerate() {
         let toward = toward_asked(row, &question);
         scan = action_scanned(scan, row, &question, toward, place);
     }
-    spared(scan, seen.len(), size)
+    scan.ended(seen.len(), inflight.len())
 }
 
 fn drop_under(row: &mut InflightAction, id: u64)
@@ -51,11 +51,11 @@ pub(crate) fn drop_and_scan(
 {
     let size = inflight.len();
     let end = places.actions.min(size);
-    let mut scan = no_scan(size);
+    let mut scan = ActionScan::default();
     for (place, row) in inflight[..end].iter_mut().enumerate() {
         drop_under(row, id);
         let toward = toward_asked(row, &question);
         scan = action_scanned(scan, row, &question, toward, place);
     }
-    spared(scan, end, size)
+    scan.ended(end, size)
 }

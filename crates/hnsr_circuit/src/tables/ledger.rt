@@ -5,13 +5,14 @@ ghost use Rattle.hnsr_circuit.specs.Ledger.{lapsed};
 ghost use Rattle.hnsr_circuit.specs.Code.Turns.{ledger_asked};
 
 use crate::records::ReservationUsage;
-use crate::tables::places::{Places, ledger_spared};
+use crate::tables::places::Places;
 use crate::tables::question::Lapsed;
-use crate::tables::scan::{LedgerScan, no_ledger_scan, usage_scanned};
+use crate::tables::scan::{LedgerScan, usage_scanned};
 use crate::tables::table::{clear, in_use};
 use hnsr_body::values::ReservationId;
 
 // All that OPEN asks of the table, in one pass.
+#[tactic(auto, using(hns_encoding::specs::Loops::fold_step, crate::specs::Laws::HeldTables::ledger_seen))]
 pub(crate) fn scan_ledger(
     ledger: &[ReservationUsage],
     places: Places,
@@ -19,13 +20,12 @@ pub(crate) fn scan_ledger(
 ) -> LedgerScan
     ensures { result ≡ ledger_asked id (held_ledger places ledger.now) }
 {
-    let size = ledger.len();
     let seen = in_use(ledger, places.ledger);
-    let mut scan = no_ledger_scan(size);
+    let mut scan = LedgerScan::nothing(ledger.len());
     for (place, row) in seen.iter().enumerate() {
         scan = usage_scanned(scan, row, id, place);
     }
-    ledger_spared(scan, seen.len(), size)
+    scan.ended(seen.len())
 }
 
 // OPEN.12: lapsed ledger records lose their marks; no other record changes.

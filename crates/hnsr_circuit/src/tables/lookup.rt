@@ -4,32 +4,31 @@ ghost use Rattle.hnsr_circuit.specs.Code.Held.{held, held_pending, held_circuits
 ghost use Rattle.hnsr_circuit.specs.Code.Lookup.{looked_up};
 
 use crate::records::{InflightAction, RelayCircuit, RelayPending, ReservationUsage};
-use crate::tables::places::{Places, places_of};
+use crate::tables::places::Places;
 use crate::tables::record::{Question, TableRecord};
 use crate::tables::table;
-use crate::tables::table::{at, find};
+use crate::tables::table::find;
 
-// What a lookup finds: whether there is such a record, its place and itself.
+// A record that was found, and its place.
 #[derive(Clone, Copy)]
 pub struct Found<R> {
-    pub found: bool,
     pub place: usize,
     pub row: R,
 }
 
+#[tactic(auto, using(crate::specs::Laws::Held::found_row))]
 pub(crate) fn look_up<R: TableRecord, Q: Question<R>>(
     rows: &[R],
     number: usize,
     question: &Q,
-) -> Found<R>
+) -> Option<Found<R>>
     ensures { result ≡ looked_up R.none (Q.holds question.now) (held R.unmarked number rows.now) }
 {
-    let place = find(rows, number, question);
-    Found {
-        found: place < rows.len(),
+    let place = find(rows, number, question)?;
+    Some(Found {
         place,
-        row: at(rows, number, place),
-    }
+        row: rows[place],
+    })
 }
 
 // The numbers lowered past unused places: every table is seen as before.
@@ -45,10 +44,10 @@ pub(crate) fn trim(
         × (held_ledger result ledger.now ≡ held_ledger places ledger.now)
         × (held_actions result inflight.now ≡ held_actions places inflight.now) }
 {
-    places_of(
-        table::trim(pending, places.pending),
-        table::trim(circuits, places.circuits),
-        table::trim(ledger, places.ledger),
-        table::trim(inflight, places.actions),
-    )
+    Places {
+        pending: table::trim(pending, places.pending),
+        circuits: table::trim(circuits, places.circuits),
+        ledger: table::trim(ledger, places.ledger),
+        actions: table::trim(inflight, places.actions),
+    }
 }

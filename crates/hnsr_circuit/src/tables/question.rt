@@ -2,17 +2,13 @@
 ghost use Rattle.hnsr_circuit.specs.Pending.{pending_at, named_by};
 ghost use Rattle.hnsr_circuit.specs.Circuits.{circuit_at};
 ghost use Rattle.hnsr_circuit.specs.Ledger.{usage_at, usage_over};
-ghost use Rattle.hnsr_circuit.specs.Inflight.{action_at};
-ghost use Rattle.hnsr_circuit.specs.Code.Question.{pending_has, circuit_has, action_has};
+ghost use Rattle.hnsr_circuit.specs.Inflight.{action_at, action_toward};
 ghost use Rattle.hnsr_circuit.specs.Laws.Records.{pending_at_used, named_by_used, circuit_at_used};
-ghost use Rattle.hnsr_circuit.specs.Laws.Records.{usage_at_used, usage_over_used, action_at_used};
-ghost use Rattle.hnsr_circuit.specs.Laws.HeldTables.{pending-unmarked, circuit-unmarked, action_unmarked};
+ghost use Rattle.hnsr_circuit.specs.Laws.Records.{usage_at_used, usage_over_used, action_at_used, action_toward_used};
 
 use crate::peer::HnsrPeerId;
-use crate::records::circuits::{circuit_is, circuit_of, circuit_over, circuit_under};
 use crate::records::inflight::{action_is, action_toward};
-use crate::records::ledger::{usage_is, usage_over};
-use crate::records::pending::{named_by, pending_is, pending_of, pending_over, pending_under};
+use crate::records::ledger::usage_is;
 use crate::records::{InflightAction, RelayCircuit, RelayPending, ReservationUsage};
 use crate::tables::record::{Question, TableRecord};
 use hnsr_body::values::ReservationId;
@@ -31,7 +27,8 @@ impl<R: TableRecord> Question<R> for InUse {
     }
 }
 
-// By id: a lookup reads ids and marks alone.
+// By id: a lookup reads ids and marks alone. One `impl` over `Numbered` would have a definition that is neither
+// record's: theorems speak of `pending_at` and `circuit_at`.
 #[derive(Clone, Copy)]
 pub struct ById {
     pub id: u64,
@@ -42,8 +39,9 @@ impl Question<RelayPending> for ById {
 
     ghost of_used = { λ question row. pending_at_used question.id row };
 
+    #[tactic(auto, unfolding(crate::specs::Pending::pending_at))]
     fn holds(&self, row: &RelayPending) -> bool {
-        pending_is(row, self.id)
+        row.used && row.circuit_id == self.id
     }
 }
 
@@ -52,12 +50,14 @@ impl Question<RelayCircuit> for ById {
 
     ghost of_used = { λ question row. circuit_at_used question.id row };
 
+    #[tactic(auto, unfolding(crate::specs::Circuits::circuit_at))]
     fn holds(&self, row: &RelayCircuit) -> bool {
-        circuit_is(row, self.id)
+        row.used && row.circuit_id == self.id
     }
 }
 
-// Whether the peer names the pending record by the context.
+// CLOSE.9: whether the peer names the pending record by the context. The requester's is its own, the endpoint's the
+// circuit's id.
 #[derive(Clone, Copy)]
 pub struct NamedBy {
     pub peer: HnsrPeerId,
@@ -69,8 +69,11 @@ impl Question<RelayPending> for NamedBy {
 
     ghost of_used = { λ question row. named_by_used question.peer question.context row };
 
+    #[tactic(auto, unfolding(crate::specs::Pending::named_by))]
     fn holds(&self, row: &RelayPending) -> bool {
-        named_by(row, &self.peer, self.context)
+        row.used
+            && ((row.requester_context == self.context && row.requester == self.peer)
+                || (row.circuit_id == self.context && row.endpoint == self.peer))
     }
 }
 
@@ -101,8 +104,9 @@ impl Question<ReservationUsage> for Lapsed {
 
     ghost of_used = { λ question row. usage_over_used question.time row };
 
+    #[tactic(auto, unfolding(crate::specs::Ledger::usage_over))]
     fn holds(&self, row: &ReservationUsage) -> bool {
-        usage_over(row, self.time)
+        row.used && row.expires_at <= self.time
     }
 }
 
@@ -123,82 +127,28 @@ impl Question<InflightAction> for ByNumber {
     }
 }
 
-// ---- what a walk asks of each pending record and circuit
-
-// Every used record, or those with the peer for a side, those that store a reservation's id, those over at a time.
+// Whether the action goes to the peer.
 #[derive(Clone, Copy)]
-pub enum RecordQuestion {
-    Used,
-    OfPeer,
-    Under(ReservationId),
-    Over(u64),
-}
-
-// The question, and the peer that is asked for. The kinds of question are a closed set: a match is plainer than four
-// types.
-#[derive(Clone, Copy)]
-pub struct Asked {
-    pub question: RecordQuestion,
+pub struct Toward {
     pub peer: HnsrPeerId,
 }
 
-impl Question<RelayPending> for Asked {
-    ghost holds = { λ asked row. pending_has asked.question asked.peer row };
+impl Question<InflightAction> for Toward {
+    ghost holds = { λ question row. action_toward question.peer row };
 
-    ghost of_used = { λ asked row. pending-unmarked asked.question asked.peer row };
+    ghost of_used = { λ question row. action_toward_used question.peer row };
 
-    #[tactic(auto, unfolding(crate::specs::Code::Question::pending_has, crate::specs::Pending::is_pending))]
-    fn holds(&self, row: &RelayPending) -> bool {
-        match self.question {
-            RecordQuestion::Used => row.used,
-            RecordQuestion::OfPeer => pending_of(row, &self.peer),
-            RecordQuestion::Under(id) => pending_under(row, id),
-            RecordQuestion::Over(time) => pending_over(row, time),
-        }
-    }
-}
-
-impl Question<RelayCircuit> for Asked {
-    ghost holds = { λ asked row. circuit_has asked.question asked.peer row };
-
-    ghost of_used = { λ asked row. circuit-unmarked asked.question asked.peer row };
-
-    #[tactic(auto, unfolding(crate::specs::Code::Question::circuit_has, crate::specs::Circuits::is_circuit))]
-    fn holds(&self, row: &RelayCircuit) -> bool {
-        match self.question {
-            RecordQuestion::Used => row.used,
-            RecordQuestion::OfPeer => circuit_of(row, &self.peer),
-            RecordQuestion::Under(id) => circuit_under(row, id),
-            RecordQuestion::Over(time) => circuit_over(row, time),
-        }
-    }
-}
-
-// ---- which actions a call drops
-
-// Every action, or those that go to the peer.
-#[derive(Clone, Copy)]
-pub enum ActionsDropped {
-    Every,
-    Toward,
-}
-
-#[derive(Clone, Copy)]
-pub struct Dropped {
-    pub dropped: ActionsDropped,
-    pub peer: HnsrPeerId,
-}
-
-impl Question<InflightAction> for Dropped {
-    ghost holds = { λ question row. action_has question.dropped question.peer row };
-
-    ghost of_used = { λ question row. action_unmarked question.dropped question.peer row };
-
-    #[tactic(auto, unfolding(crate::specs::Code::Question::action_has, crate::specs::Inflight::is_action))]
     fn holds(&self, row: &InflightAction) -> bool {
-        match self.dropped {
-            ActionsDropped::Every => row.used,
-            ActionsDropped::Toward => action_toward(row, &self.peer),
-        }
+        action_toward(row, &self.peer)
     }
+}
+
+// What a revoking call asks of each pending record and circuit, by why it revokes: whether the record is used, has the
+// peer for a side, stores the reservation's id, is over at the time.
+#[derive(Clone, Copy)]
+pub enum Revoking {
+    Disabled,
+    Disconnected(HnsrPeerId),
+    Reservation(ReservationId),
+    Expired(u64),
 }

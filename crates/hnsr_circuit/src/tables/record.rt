@@ -1,9 +1,9 @@
 // What the four tables ask of their records, and what a question on one is. An unused record answers no question.
-ghost use Rattle.std.specs.Prelude.{◌≡◌, ◌+◌, ℕ, Bool, List, false};
+ghost use Rattle.std.specs.Prelude.{◌≡◌, ℕ, Bool, List, false};
 ghost use Rattle.hns_encoding.specs.Loops.{fold_from};
 ghost use Rattle.hnsr_circuit.specs.declared.tables.scan.Work.{Work};
 ghost use Rattle.hnsr_circuit.specs.declared.tables.scan.WorkQuestion.{WorkQuestion};
-ghost use Rattle.hnsr_circuit.specs.Code.Turns.{no_work, WorkAtMost};
+ghost use Rattle.hnsr_circuit.specs.Code.Turns.{no_work, WorkAtMost, WorkMore};
 
 use crate::tables::scan::{Work, WorkQuestion};
 
@@ -65,16 +65,14 @@ pub trait Worked: TableRecord {
     // The work that was counted so far, and this record's.
     fn worked(&self, so_far: Work, question: &WorkQuestion) -> Work
         requires { WorkAtMost 18446744073709551614 so_far }
-        ensures { result ≡ worked question.now so_far self.now 0 };
+        ensures counted { result ≡ worked question.now so_far self.now 0 }
+        ensures more { WorkMore so_far result };
 
     ghost anywhere: { (question : WorkQuestion) (w : Work) (row : Self) (place : ℕ)
         → worked question w row 0 ≡ worked question w row place };
 
     ghost folds: { (question : WorkQuestion) (rows : List Self)
         → fold_from (worked question) rows 0 no_work ≡ work question rows };
-
-    ghost most: { (question : WorkQuestion) (n : ℕ) (w : Work) (row : Self) (place : ℕ)
-        → WorkAtMost n w → WorkAtMost (n + 1) (worked question w row place) };
 
     ghost idle: { (question : WorkQuestion) (w : Work) (row : Self) (place : ℕ)
         → worked question w (Self.unmarked row) place ≡ w };

@@ -1,46 +1,43 @@
 // What scans of a table find, and one turn of each: what it makes of what was found so far and of one more record. A
 // record that is compared by its names is read where it stands.
-ghost use Rattle.std.specs.Prelude.{◌≡◌, cond, true, ◌&&◌, ◌+◌, ◌<◌, ltb};
-ghost use Rattle.hns_encoding.specs.Numbers.{saturating_add};
-ghost use Rattle.hnsr_circuit.specs.Table.{not_yet, next_turn};
+ghost use Rattle.std.specs.Prelude.{◌≡◌, cond, true, ◌+◌, ◌<◌, ◌≤◌};
+ghost use Rattle.hnsr_circuit.specs.Table.{next_turn};
 ghost use Rattle.hnsr_circuit.specs.Inflight.{action_toward};
 ghost use Rattle.hnsr_circuit.specs.NextDue.{earlier, due_turn};
-ghost use Rattle.hnsr_circuit.specs.Code.Turns.{no_work, work_on, WorkAtMost};
-ghost use Rattle.hnsr_circuit.specs.Code.Turns.{no_totals, totalled, TallyAtMost, no_scan, first_place};
-ghost use Rattle.hnsr_circuit.specs.Code.Turns.{tally_on, scanned, no_ledger_scan, usage_scanned};
+ghost use Rattle.hnsr_circuit.specs.Code.Turns.{work_on, WorkAtMost, WorkMore};
+ghost use Rattle.hnsr_circuit.specs.Code.Turns.{totalled, TallyAtMost, TallyMore, first_place, tally_on};
+ghost use Rattle.hnsr_circuit.specs.Code.Turns.{scanned, scan_ended, no_ledger_scan, usage_scanned, ledger_ended};
 
 use crate::peer::HnsrPeerId;
 use crate::records::circuits::queued_in;
 use crate::records::inflight::{action_is, action_toward};
 use crate::records::ledger::usage_is;
 use crate::records::{InflightAction, RelayCircuit, ReservationUsage};
-use crate::tables::record::{Numbered, Question, TableRecord, Timed};
+use crate::tables::lookup::Found;
+use crate::tables::record::{Numbered, Question, Timed};
 use hnsr_body::values::ReservationId;
 
 // How many actions stand in the way of a further one: all, those under its circuit, those toward its peer.
 #[repr(C)]
-#[derive(Clone, Copy)]
+#[derive(Clone, Copy, Default)]
 pub struct InflightTally {
     pub total: usize,
     pub for_circuit: usize,
     pub for_peer: usize,
 }
 
-// How far a walk has come: whether it took a record, and that record's id and place.
-#[repr(C)]
+// How far a walk has come: the id and place of the last record that it took.
 #[derive(Clone, Copy)]
 pub struct Walked {
-    pub taken: bool,
     pub id: u64,
     pub place: usize,
 }
 
 // What a revoking call asks of a table, in one pass: how many records are used, and the first that its walk takes.
-#[repr(C)]
 #[derive(Clone, Copy)]
 pub struct Survey {
     pub used: usize,
-    pub first: Walked,
+    pub first: Option<Walked>,
 }
 
 // What OPEN and ACCEPT ask of all records of a table: how many are used, are the work of two peers and of a
@@ -54,7 +51,8 @@ pub struct WorkQuestion {
     pub id: u64,
 }
 
-#[derive(Clone, Copy)]
+// Two tests beside four counts: no value hangs on either.
+#[derive(Clone, Copy, Default)]
 pub struct Work {
     pub used: usize,
     pub of_peer: usize,
@@ -65,7 +63,7 @@ pub struct Work {
 }
 
 // What a message asks of all actions: the tally, whether its number stands there already and where, and the lowest
-// unused place.
+// unused place. Who stores no action by it, as a status, gives zeros for the number and reads no place.
 #[derive(Clone, Copy)]
 pub struct ActionQuestion {
     pub replacing: bool,
@@ -75,30 +73,25 @@ pub struct ActionQuestion {
     pub sequence: u64,
 }
 
-#[derive(Clone, Copy)]
+#[derive(Clone, Copy, Default)]
 pub struct ActionScan {
     pub tally: InflightTally,
-    pub found: bool,
-    pub place: usize,
-    pub spare: bool,
-    pub spare_place: usize,
+    pub found: Option<usize>,
+    pub spare: Option<usize>,
 }
 
-// What OPEN asks of all ledger records: whether its record is there, where, and itself; how many are used, the lowest
-// unused place, and of how many places.
+// What OPEN asks of all ledger records: its own, if it is there; how many are used, the lowest unused place, and of how
+// many places.
 #[derive(Clone, Copy)]
 pub struct LedgerScan {
-    pub found: bool,
-    pub place: usize,
-    pub usage: ReservationUsage,
+    pub found: Option<Found<ReservationUsage>>,
     pub used: usize,
-    pub spare: bool,
-    pub spare_place: usize,
+    pub spare: Option<usize>,
     pub places: usize,
 }
 
 // What `status` asks of all circuits: how many are used, and the bytes of their queues.
-#[derive(Clone, Copy)]
+#[derive(Clone, Copy, Default)]
 pub struct CircuitTotals {
     pub used: usize,
     pub queued_bytes: usize,
@@ -114,62 +107,34 @@ pub(crate) fn one_more(counted: usize, has: bool) -> usize
     counted
 }
 
-// Whether a store is to be done, and has a place.
-pub(crate) fn within(go: bool, place: usize, size: usize) -> bool
-    ensures { result ≡ (go && ltb place size) }
-{
-    go && place < size
-}
-
 // ---- walks
-
-pub(crate) fn not_yet() -> Walked
-    ensures { result ≡ not_yet }
-{
-    Walked {
-        taken: false,
-        id: 0,
-        place: 0,
-    }
-}
 
 // A record that has what is asked is taken where it is above the cursor and better than the best before it.
 pub(crate) fn next_turn<R: Numbered, Q: Question<R>>(
     question: &Q,
-    cursor: Walked,
-    best: Walked,
+    cursor: Option<Walked>,
+    best: Option<Walked>,
     row: &R,
     place: usize,
-) -> Walked
+) -> Option<Walked>
     ensures { result ≡ next_turn R.id (Q.holds question.now) cursor best row.now place }
 {
     let id = row.id();
-    let above = !cursor.taken || cursor.id < id || (cursor.id == id && cursor.place < place);
-    let better = !best.taken || id < best.id;
+    let above = match cursor {
+        None => true,
+        Some(last) => last.id < id || (last.id == id && last.place < place),
+    };
+    let better = match best {
+        None => true,
+        Some(best) => id < best.id,
+    };
     if question.holds(row) && above && better {
-        return Walked {
-            taken: true,
-            id,
-            place,
-        };
+        return Some(Walked { id, place });
     }
     best
 }
 
 // ---- how much work there is
-
-pub(crate) fn no_work() -> Work
-    ensures { result ≡ no_work }
-{
-    Work {
-        used: 0,
-        of_peer: 0,
-        of_other: 0,
-        under: 0,
-        repeated: false,
-        holds: false,
-    }
-}
 
 pub(crate) fn work_on(
     work: Work,
@@ -180,7 +145,8 @@ pub(crate) fn work_on(
     is: bool,
 ) -> Work
     requires { WorkAtMost 18446744073709551614 work }
-    ensures { result ≡ work_on work peer other under again is }
+    ensures counted { result ≡ work_on work peer other under again is }
+    ensures more { WorkMore work result }
 {
     Work {
         used: work.used + 1,
@@ -190,13 +156,6 @@ pub(crate) fn work_on(
         repeated: work.repeated || again,
         holds: work.holds || is,
     }
-}
-
-// A reservation's work is its pending records and its circuits.
-pub(crate) fn reservation_work(waiting: usize, running: usize) -> usize
-    ensures { result ≡ saturating_add 64 waiting running }
-{
-    waiting.saturating_add(running)
 }
 
 // ---- the earliest time
@@ -222,16 +181,8 @@ pub(crate) fn due_turn<R: Timed>(due: Option<u64>, row: &R) -> Option<u64>
 
 // ---- what `status` asks of the circuits
 
-pub(crate) fn no_totals() -> CircuitTotals
-    ensures { result ≡ no_totals }
-{
-    CircuitTotals {
-        used: 0,
-        queued_bytes: 0,
-    }
-}
-
 // The bytes are a sum that stops at its top.
+#[tactic(auto, unfolding(crate::specs::Circuits::is_circuit))]
 pub(crate) fn circuit_totalled(totals: CircuitTotals, row: &RelayCircuit) -> CircuitTotals
     requires { totals.used < 18446744073709551615 }
     ensures { result ≡ totalled totals row.now 0 }
@@ -245,34 +196,23 @@ pub(crate) fn circuit_totalled(totals: CircuitTotals, row: &RelayCircuit) -> Cir
 
 // ---- what a message asks of all actions
 
-// Nothing found yet stands at the number of places.
-pub(crate) fn no_scan(places: usize) -> ActionScan
-    ensures { result ≡ no_scan places }
-{
-    ActionScan {
-        tally: InflightTally {
-            total: 0,
-            for_circuit: 0,
-            for_peer: 0,
-        },
-        found: false,
-        place: places,
-        spare: false,
-        spare_place: places,
+impl ActionScan {
+    // The scan ended at a place: if that is one, it is unused.
+    pub(crate) fn ended(self, place: usize, places: usize) -> Self
+        ensures { result ≡ scan_ended self place places }
+    {
+        Self {
+            spare: first_place(self.spare, place < places, place),
+            ..self
+        }
     }
 }
 
-// The place that stays once something is found.
-pub(crate) fn first_place(found: bool, here: bool, place: usize, kept: usize) -> usize
-    ensures { result ≡ first_place found here place kept }
+// The first place that has what is asked.
+fn first_place(found: Option<usize>, here: bool, place: usize) -> Option<usize>
+    ensures { result ≡ first_place found here place }
 {
-    if found {
-        return kept;
-    }
-    if here {
-        return place;
-    }
-    kept
+    found.or(here.then_some(place))
 }
 
 // Whether an action goes to the peer that is asked for. A function of its own: with it a turn would be too large to be
@@ -284,6 +224,7 @@ pub(crate) fn toward_asked(row: &InflightAction, question: &ActionQuestion) -> b
 }
 
 // A used action in the tally; one that is replaced is counted nowhere.
+#[tactic(auto, unfolding(crate::specs::Code::Turns::tally_turn, crate::specs::Inflight::action_under))]
 pub(crate) fn tally_on(
     tally: InflightTally,
     row: &InflightAction,
@@ -291,7 +232,8 @@ pub(crate) fn tally_on(
     toward: bool,
 ) -> InflightTally
     requires { TallyAtMost 18446744073709551614 tally × (toward ≡ action_toward question.now.peer row.now) }
-    ensures { row.now.used ≡ true → result ≡ tally_on question.now tally row.now 0 }
+    ensures counted { row.now.used ≡ true → result ≡ tally_on question.now tally row.now 0 }
+    ensures more { TallyMore tally result }
 {
     let mine = row.circuit_id == question.circuit_id;
     if question.replacing && mine {
@@ -304,6 +246,7 @@ pub(crate) fn tally_on(
     }
 }
 
+#[tactic(auto, using(crate::specs::Laws::Turns::action_laws))]
 pub(crate) fn action_scanned(
     scan: ActionScan,
     row: &InflightAction,
@@ -313,63 +256,47 @@ pub(crate) fn action_scanned(
 ) -> ActionScan
     requires { TallyAtMost 18446744073709551614 scan.tally
         × (toward ≡ action_toward question.now.peer row.now) }
-    ensures { result ≡ scanned question.now scan row.now place }
+    ensures scanned { result ≡ scanned question.now scan row.now place }
+    ensures more { TallyMore scan.tally result.tally }
 {
     if row.used {
-        let tally = tally_on(scan.tally, row, question, toward);
-        let is = action_is(row, question.generation, question.sequence);
-        let found = scan.found || is;
-        return ActionScan {
-            tally,
-            found,
-            place: first_place(scan.found, is, place, scan.place),
-            spare: scan.spare,
-            spare_place: scan.spare_place,
-        };
-    }
-    let tally = scan.tally;
-    ActionScan {
-        tally,
-        found: scan.found,
-        place: scan.place,
-        spare: true,
-        spare_place: first_place(scan.spare, true, place, scan.spare_place),
+        let numbered = action_is(row, question.generation, question.sequence);
+        ActionScan {
+            tally: tally_on(scan.tally, row, question, toward),
+            found: first_place(scan.found, numbered, place),
+            ..scan
+        }
+    } else {
+        ActionScan {
+            spare: first_place(scan.spare, true, place),
+            ..scan
+        }
     }
 }
 
 // ---- what OPEN asks of the ledger
 
-// Nothing found yet stands at the number of places.
-pub(crate) fn no_ledger_scan(places: usize) -> LedgerScan
-    ensures { result ≡ no_ledger_scan places }
-{
-    LedgerScan {
-        found: false,
-        place: places,
-        usage: ReservationUsage::none(),
-        used: 0,
-        spare: false,
-        spare_place: places,
-        places,
+impl LedgerScan {
+    pub(crate) fn nothing(places: usize) -> Self
+        ensures { result ≡ no_ledger_scan places }
+    {
+        Self {
+            found: None,
+            used: 0,
+            spare: None,
+            places,
+        }
     }
-}
 
-// The record that stays once it is found.
-fn first_usage(
-    found: bool,
-    here: bool,
-    row: &ReservationUsage,
-    kept: ReservationUsage,
-) -> ReservationUsage
-    ensures { result ≡ cond found kept (cond here row.now kept) }
-{
-    if found {
-        return kept;
+    // The scan ended at a place: if that is one, it is unused.
+    pub(crate) fn ended(self, place: usize) -> Self
+        ensures { result ≡ ledger_ended self place }
+    {
+        Self {
+            spare: first_place(self.spare, place < self.places, place),
+            ..self
+        }
     }
-    if here {
-        return *row;
-    }
-    kept
 }
 
 #[tactic(auto, unfolding(crate::specs::Ledger::is_usage))]
@@ -380,18 +307,14 @@ pub(crate) fn usage_scanned(
     place: usize,
 ) -> LedgerScan
     requires { scan.used < 18446744073709551615 }
-    ensures { result ≡ usage_scanned id scan row.now place }
+    ensures scanned { result ≡ usage_scanned id scan row.now place }
+    ensures more { result.used ≤ scan.used + 1 }
 {
-    let is = usage_is(row, id);
-    let free = !row.used;
-    let usage = first_usage(scan.found, is, row, scan.usage);
+    let here = Found { place, row: *row };
     LedgerScan {
-        found: scan.found || is,
-        place: first_place(scan.found, is, place, scan.place),
-        usage,
+        found: scan.found.or(usage_is(row, id).then_some(here)),
         used: one_more(scan.used, row.used),
-        spare: scan.spare || free,
-        spare_place: first_place(scan.spare, free, place, scan.spare_place),
+        spare: first_place(scan.spare, !row.used, place),
         places: scan.places,
     }
 }

@@ -3,7 +3,9 @@
 use Prim.Native.Nat.{ℕ, zero, suc, ◌+◌}
 use Rattle.std.proofs.Common.{arith, sym, ap, ◌∙◌, length-append, eq-eqb, ne_eqb}
 use Rattle.std.specs.Prelude.{◌≡◌, refl, Bool, true, false, cond, List, [], ◌∷◌, ◌++◌, eqb, length, Ok, Err}
+use Rattle.std.specs.Prelude.{Option, Some}
 use Rattle.hns_encoding.specs.Laws.Tests.{choose}
+use Rattle.hnsr_circuit.specs.Laws.Walks.{where-cases}
 use Rattle.hnsr_body.specs.declared.messages.Notice.{Notice}
 use Rattle.hnsr_circuit.specs.declared.peer.HnsrPeerId.{HnsrPeerId}
 use Rattle.hnsr_circuit.specs.declared.records.RelayPending.{RelayPending}
@@ -142,13 +144,12 @@ revoke-circuit-counts n w id =
 
 module _ {A : Type 0} (id_of : A → ℕ) (table : World → List A) (p : A → Bool) (end : World → ℕ → Sent)
     (each : (w : World) (place : ℕ) → CountedPart w (end w place)) where
-  walk-from-counts : (turns : ℕ) (c : Walked) (w : World) → CountedPart w (walk_from id_of table p end turns c w)
+  walk-from-counts : (turns : ℕ) (c : Option Walked) (w : World) → CountedPart w (walk_from id_of table p end turns c w)
   unfolding walk_from
   walk-from-counts zero c w = stay w
-  walk-from-counts (suc turns) c w = let n = next id_of p c (table w) in
-      when-cases (CountedPart w) n.taken _ w
-      (λ e. onward (each w n.place) (walk-from-counts turns n (end w n.place).world))
-      (λ e. stay w)
+  walk-from-counts (suc turns) c w =
+      where-cases (CountedPart w) end (walk_from id_of table p end turns) (next id_of p c (table w)) w
+      (λ n e. onward (each w n.place) (walk-from-counts turns (Some n) (end w n.place).world)) (λ e. stay w)
 
   walk-counts : (w : World) → CountedPart w (walk id_of table p end w)
   unfolding walk

@@ -3,6 +3,7 @@
 use Prim.Native.Nat.{ℕ, zero, suc, ◌≤◌}
 use Rattle.std.proofs.Common.{arith, sym, ap, ◌∙◌, subst, length-set}
 use Rattle.std.specs.Prelude.{◌≡◌, refl, Bool, true, false, ◌&&◌, List, eqb, length, Ok, Err}
+use Rattle.std.specs.Prelude.{Option, Some}
 use Rattle.hns_encoding.specs.Sums.{count}
 use Rattle.hnsr_body.specs.declared.values.ReservationId.{ReservationId}
 use Rattle.hnsr_body.specs.declared.messages.Notice.{Notice}
@@ -28,6 +29,7 @@ use Rattle.hnsr_circuit.specs.Revocation.{revoke_pending, revoke_circuit_there, 
 use Rattle.hnsr_circuit.specs.Revocation.{walk, pending_table, circuit_table, revoke_all}
 use Rattle.hnsr_circuit.specs.RevokingCalls.{disconnect_pending}
 use Rattle.hnsr_circuit.specs.Laws.Places.{length-dropped}
+use Rattle.hnsr_circuit.specs.Laws.Walks.{where-cases}
 use Rattle.hnsr_run.specs.Run.Walks.{when-cases}
 use Rattle.hnsr_run.specs.Run.ShapeTables.{count-edit, Less, less-set, less-edit, less-fits, edit-fits, pick-fits}
 use Rattle.hnsr_run.specs.Run.Shape.{Named, CircuitShape, CircuitsShape, LedgerShape, ShapeOf, Shape}
@@ -220,12 +222,13 @@ revoke_circuit_shape n w id S = when-cases (λ (s : Sent). Shape s.world) (has_c
 
 module _ {A : Type 0} (id_of : A → ℕ) (table : World → List A) (p : A → Bool) (end : World → ℕ → Sent)
     (keeps : (w : World) (place : ℕ) → Shape w → Shape (end w place).world) where
-  walk_from_shape : (turns : ℕ) (c : Walked) (w : World) → Shape w → Shape (walk_from id_of table p end turns c w).world
+  walk_from_shape : (turns : ℕ) (c : Option Walked) (w : World) → Shape w
+      → Shape (walk_from id_of table p end turns c w).world
   unfolding walk_from
   walk_from_shape zero c w S = S
-  walk_from_shape (suc turns) c w S = let n = next id_of p c (table w) in
-      when-cases (λ (s : Sent). Shape s.world) n.taken _ w
-      (λ e. walk_from_shape turns n (end w n.place).world (keeps w n.place S)) (λ e. S)
+  walk_from_shape (suc turns) c w S =
+      where-cases (λ (s : Sent). Shape s.world) end (walk_from id_of table p end turns) (next id_of p c (table w)) w
+      (λ n e. walk_from_shape turns (Some n) (end w n.place).world (keeps w n.place S)) (λ e. S)
 
   walk_shape : (w : World) → Shape w → Shape (walk id_of table p end w).world
   unfolding walk

@@ -3,7 +3,7 @@
 -- two used records share an id, so the record at the walk's place is the one of its id.
 use Prim.Native.Nat.{ℕ, zero, suc, ◌≤◌, ◌<◌}
 use Rattle.std.proofs.Common.{arith, sym, ap, ◌∙◌, leb-true, lt-ltb, ltb-false}
-use Rattle.std.specs.Prelude.{◌≡◌, Bool, cond, ◌&&◌, ◌||◌, ltb, eqb, length}
+use Rattle.std.specs.Prelude.{◌≡◌, Bool, cond, ◌&&◌, ◌||◌, ltb, eqb, length, Option, Some}
 use Rattle.std.proofs.Math.Path.{refl, subst}
 use Rattle.std.proofs.Math.Bool.{true, false}
 use Rattle.std.proofs.lemmas.Bool.{false≢true, eqb-false}
@@ -20,8 +20,8 @@ use Rattle.hnsr_circuit.specs.Queue.{Sent, silently, and_then, when}
 use Rattle.hnsr_circuit.specs.Revocation.{walk_from, walk}
 use Rattle.hnsr_circuit.specs.Laws.Lookups.{pick-has, count_none, any_imp}
 use Rattle.hnsr_circuit.specs.Laws.Lowest.{lowest-least}
-use Rattle.hnsr_circuit.specs.Laws.Walks.{next-found}
-use Rattle.hnsr_circuit.specs.Laws.WalkOrder.{behind, next-lowest}
+use Rattle.hnsr_circuit.specs.Laws.Walks.{where-cases, next-found}
+use Rattle.hnsr_circuit.specs.Laws.WalkOrder.{behind, lowest-taken, lowest-none}
 use Rattle.hnsr_circuit.specs.Laws.Keyed.{Keys, Tells, keyed, look, seen, shown, key_of}
 use Rattle.hnsr_circuit.specs.Laws.Sweep.{having, least, least_at, least-stands, least-has, none_has, fewer}
 use Rattle.hnsr_run.specs.Past.{Past}
@@ -38,9 +38,9 @@ module _ {A K : Type 0} (X : Keys A ℕ K) (by : (i j : ℕ) → eqb i j ≡ X.s
   passed : {t t' : List A} {st st' : ℕ → Bool} {kn : ℕ → K} → Tells X t st kn → Tells X t' st' kn → (m : ℕ)
       → m ≡ least X by Q t
       → ((i : ℕ) → st' i ≡ cond (eqb m i) false (st i)) → (c : Walked) → c.id ≡ m
-      → any (behind X.key (having X by Q) c) t' ≡ false
+      → any (behind X.key (having X by Q) (Some c)) t' ≡ false
   passed {t} {t'} {st} {st'} {kn} T T' m e es c ec =
-      split (any (behind X.key (having X by Q) c) t') (λ h. absurd (no h)) (λ h. h)
+      split (any (behind X.key (having X by Q) (Some c)) t') (λ h. absurd (no h)) (λ h. h)
     where
       g : A → Bool
       g a = Q a && leb (X.key a) c.id
@@ -48,25 +48,24 @@ module _ {A K : Type 0} (X : Keys A ℕ K) (by : (i j : ℕ) → eqb i j ≡ X.s
       low : A → Bool
       low a = Q a && ltb (X.key a) m
 
-      no : any (behind X.key (having X by Q) c) t' ≡ true → ⊥
+      no : any (behind X.key (having X by Q) (Some c)) t' ≡ true → ⊥
       no h =
           clash
           (any_imp (λ a. X.used a && low a) (λ a. having X by Q a && ltb (X.key a) (least X by Q t)) t under there)
           (count_none (λ a. having X by Q a && ltb (X.key a) (least X by Q t)) t
           (lowest-least (having X by Q) X.key t))
         where
-          into : (a : A) → behind X.key (having X by Q) c a ≡ true → (X.used a && g a) ≡ true
+          into : (a : A) → behind X.key (having X by Q) (Some c) a ≡ true → (X.used a && g a) ≡ true
           into a k =
-              let x = both (having X by Q a) (c.taken && leb (X.key a) c.id) k in
+              let x = both (having X by Q a) (leb (X.key a) c.id) k in
               let y = both (X.used a) (Q a) x.0 in
-              join (X.used a) (g a) y.0
-              (join (Q a) (leb (X.key a) c.id) y.1 (both c.taken (leb (X.key a) c.id) x.1).1)
+              join (X.used a) (g a) y.0 (join (Q a) (leb (X.key a) c.id) y.1 x.1)
 
           i : ℕ
           i = key_of X T' g
 
           s : (st' i ≡ true) × (g (look X t' i) ≡ true)
-          s = seen X T' g (any_imp (behind X.key (having X by Q) c) (λ a. X.used a && g a) t' into h)
+          s = seen X T' g (any_imp (behind X.key (having X by Q) (Some c)) (λ a. X.used a && g a) t' into h)
 
           own : (t : List A) → any (keyed X i) t ≡ true → X.key (look X t i) ≡ i
           own t f =
@@ -164,7 +163,7 @@ module _ {A K : Type 0} (X : Keys A ℕ K) (by : (i j : ℕ) → eqb i j ≡ X.s
       (J-more : (w : World) (h : Past) (m : ℕ) (rs : List Route) → I w h → st h m ≡ true → q (kn h m) ≡ true
       → ((i : ℕ) → st h i ≡ true → q (kn h i) ≡ true → m ≤ i) → J (end w m).world (fin h m (end w m).routes) rs
       → J w h ((end w m).routes ++ rs)) where
-    abbrev goes : ℕ → Walked → World → Sent
+    abbrev goes : ℕ → Option Walked → World → Sent
     goes turns c w = walk_from X.key table (having X by Q) there turns c w
 
     stop : (w : World) (h : Past) → I w h → any (having X by Q) (table w) ≡ false → I w (swept h []) × J w h []
@@ -174,56 +173,56 @@ module _ {A K : Type 0} (X : Keys A ℕ K) (by : (i j : ℕ) → eqb i j ≡ X.s
 
     abbrev Goes : ℕ → Type 0
     Goes turns =
-        (c : Walked) (w : World) (h : Past) → I w h → count (having X by Q) (table w) ≤ turns
+        (c : Option Walked) (w : World) (h : Past) → I w h → count (having X by Q) (table w) ≤ turns
         → any (behind X.key (having X by Q) c) (table w) ≡ false
         → I (goes turns c w).world (swept h (goes turns c w).routes) × J w h (goes turns c w).routes
 
-    walk_from_lem : (turns : ℕ) (c : Walked) (w : World) (h : Past) → I w h → count (having X by Q) (table w) ≤ turns
+    walk_from_lem : (turns : ℕ) (c : Option Walked) (w : World) (h : Past) → I w h
+        → count (having X by Q) (table w) ≤ turns
         → any (behind X.key (having X by Q) c) (table w) ≡ false
         → I (goes turns c w).world (swept h (goes turns c w).routes) × J w h (goes turns c w).routes
     unfolding walk_from
     walk_from_lem zero c w h R l b = stop w h R (count_none (having X by Q) (table w) (omega arith))
     walk_from_lem (suc turns) c w h R l b =
-        when-cases (λ (s : Sent). I s.world (swept h s.routes) × J w h s.routes) N.taken
-        (λ v. and_then (there v N.place) (goes turns N)) w
-        (λ e. subst Turned (sym (same e)) (one-turn e (walk_from_lem turns)))
-        (λ e. stop w h R (sym nl.0 ∙ e))
+        where-cases (λ (s : Sent). I s.world (swept h s.routes) × J w h s.routes) there (goes turns)
+        (next X.key (having X by Q) c (table w)) w
+        (λ n e. subst (Turned n) (sym (same n e)) (one-turn n e (walk_from_lem turns)))
+        (λ e. stop w h R (lowest-none X.key (having X by Q) c (table w) b e))
       where
-        N : Walked
-        N = next X.key (having X by Q) c (table w)
+        Taken : Walked → Type 0
+        Taken n = next X.key (having X by Q) c (table w) ≡ Some n
 
-        nl : (N.taken ≡ any (having X by Q) (table w))
-            × (any (having X by Q) (table w) ≡ true → N.id ≡ lowest (having X by Q) X.key (table w))
-        nl = next-lowest X.key (having X by Q) c (table w) b
+        nl : (n : Walked) → Taken n
+            → (any (having X by Q) (table w) ≡ true) × (n.id ≡ lowest (having X by Q) X.key (table w))
+        nl n e = lowest-taken X.key (having X by Q) c (table w) b n e
 
-        Turned : Sent → Type 0
-        Turned s = let r = and_then s (goes turns N) in I r.world (swept h r.routes) × J w h r.routes
+        Turned : Walked → Sent → Type 0
+        Turned n s = let r = and_then s (goes turns (Some n)) in I r.world (swept h r.routes) × J w h r.routes
 
         -- what stands at the walk's place is the record of its id
         named : (a : A) → having X by Q a ≡ true → keyed X (X.key a) a ≡ true
         named a k =
             join (X.used a) (X.same (X.key a) (X.key a)) (both (X.used a) (Q a) k).0 (X.same_refl (X.key a))
 
-        stands : N.taken ≡ true → st h N.id ≡ true
-        stands e =
-            let some = sym nl.0 ∙ e in ap (st h) (nl.1 some) ∙ least-stands X by Q q same-q (tells w h R) some
+        stands : (n : Walked) → Taken n → st h n.id ≡ true
+        stands n e = ap (st h) (nl n e).1 ∙ least-stands X by Q q same-q (tells w h R) (nl n e).0
 
-        same : N.taken ≡ true → there w N.place ≡ end w N.id
-        same e =
+        same : (n : Walked) → Taken n → there w n.place ≡ end w n.id
+        same n e =
             ap (there w)
-            (sym (next-found X.key (having X by Q) c (keyed X) named (table w) X.nobody (tells w h R).once e))
-            ∙ same_end w h N.id R (stands e)
+            (sym (next-found X.key (having X by Q) c (keyed X) named (table w) X.nobody (tells w h R).once n e))
+            ∙ same_end w h n.id R (stands n e)
 
-        one-turn : N.taken ≡ true → Goes turns
-            → I (goes turns N (end w N.id).world).world
-            (swept h ((end w N.id).routes ++ (goes turns N (end w N.id).world).routes))
-            × J w h ((end w N.id).routes ++ (goes turns N (end w N.id).world).routes)
-        one-turn e ih =
-            let some = sym nl.0 ∙ e in
-            let m = N.id in
-            let lo : m ≡ least X by Q (table w) = nl.1 some in
+        one-turn : (n : Walked) → Taken n → Goes turns
+            → I (goes turns (Some n) (end w n.id).world).world
+            (swept h ((end w n.id).routes ++ (goes turns (Some n) (end w n.id).world).routes))
+            × J w h ((end w n.id).routes ++ (goes turns (Some n) (end w n.id).world).routes)
+        one-turn n e ih =
+            let some = (nl n e).0 in
+            let m = n.id in
+            let lo : m ≡ least X by Q (table w) = (nl n e).1 in
             let T = tells w h R in
-            let a : st h m ≡ true = stands e in
+            let a : st h m ≡ true = stands n e in
             let s : q (kn h m) ≡ true = ap (λ i. q (kn h i)) lo ∙ least-has X by Q q same-q T some in
             let R₁ = turn w h m R a s in
             let rs = (end w m).routes in
@@ -238,11 +237,11 @@ module _ {A K : Type 0} (X : Keys A ℕ K) (by : (i j : ℕ) → eqb i j ≡ X.s
               fewer X by Q (table w) (least X by Q
                   (table w)) f,
             ))) in
-            let b₁ = passed T T₁ m lo (fin-st h m rs) N refl in
-            let r = ih N (end w m).world (fin h m rs) R₁ l₁ b₁ in (
-              subst (λ g. I (goes turns N (end w m).world).world g)
-                  (more w h m (goes turns N (end w m).world).routes R a s) r.0,
-              J-more w h m (goes turns N
+            let b₁ = passed T T₁ m lo (fin-st h m rs) n refl in
+            let r = ih (Some n) (end w m).world (fin h m rs) R₁ l₁ b₁ in (
+              subst (λ g. I (goes turns (Some n) (end w m).world).world g)
+                  (more w h m (goes turns (Some n) (end w m).world).routes R a s) r.0,
+              J-more w h m (goes turns (Some n)
                   (end w m).world).routes R a s (least-of T m lo) r.1,
             )
 
@@ -263,6 +262,6 @@ module _ {A K : Type 0} (X : Keys A ℕ K) (by : (i j : ℕ) → eqb i j ≡ X.s
         nothing-behind (x ∷ xs) =
             off (having X by Q x) (any (behind X.key (having X by Q) not_yet) xs) ∙ nothing-behind xs
           where
-            off : (u r : Bool) → ((u && (false && leb (X.key x) 0)) || r) ≡ r
+            off : (u r : Bool) → ((u && false) || r) ≡ r
             off true r = refl
             off false r = refl

@@ -22,8 +22,8 @@ in_numbers p c l i out e h = ap (λ (q : RelayReply). replied q p c l i out) e �
 
 pub made_in_numbers : {r : RelayReply} {d : Relayed} (p : List RelayPending) (c : List RelayCircuit)
     (l : List ReservationUsage) (i : List InflightAction) (o : Outcome) → r ≡ reply_of d
-    → Made d (held_pending d.places p) (held_circuits d.places c) (held_ledger d.places l)
-    (held_actions d.places i) o
+    → Made d (held_pending d.state.places p) (held_circuits d.state.places c) (held_ledger d.state.places l)
+    (held_actions d.state.places i) o
     → MadeReply r (held_pending r.places p) (held_circuits r.places c) (held_ledger r.places l)
     (held_actions r.places i) o
 made_in_numbers p c l i o e m = record {

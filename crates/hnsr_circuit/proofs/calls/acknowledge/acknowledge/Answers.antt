@@ -1,84 +1,67 @@
 -- Turned away by its rows, or gone on with the action that is found.
-use Rattle.hnsr_circuit.specs.Answers.{taken}
-use Rattle.hnsr_circuit.specs.Laws.Calls.{answered}
-use borrow.Author.Rules.{rules}
-use Prim.Native.Nat.{◌<◌}
-use mathlib.Core.Path.{sym, ap, ◌∙◌}
-use mathlib.Core.Bool.{◌||◌}
-use lib.ListN.{length}
-use lib.Dec.{ltb}
-use Rattle.hnsr_circuit.specs.declared.answer.HnsrRuntimeError.TheVariants.{Short}
-use Rattle.hnsr_circuit.specs.declared.tables.lookup.Found.{Found}
+use Rattle.std.proofs.Common.{Bool, rules, arith, sym, ap, ◌∙◌, ◌||◌, ◌<◌, ltb, length}
+use Rattle.std.specs.Option.{ok_or}
+use Rattle.std.specs.Result.{result_and}
+use Rattle.hnsr_circuit.specs.declared.answer.HnsrRuntimeError.TheVariants.{Short, UnknownAction}
 use Rattle.hnsr_circuit.specs.declared.records.InflightAction.{InflightAction}
-use Rattle.hnsr_circuit.specs.Answers.{check, ◌then◌}
-use Rattle.hnsr_circuit.specs.World.{Outcome, world_of}
+use Rattle.hnsr_circuit.specs.Answers.{HnsrAnswer, check}
 use Rattle.hnsr_circuit.specs.Table.{pick}
 use Rattle.hnsr_circuit.specs.Inflight.{no_action, action_at}
 use Rattle.hnsr_circuit.specs.Entry.{acknowledge_words, room_answer, tables_short}
 use Rattle.hnsr_circuit.specs.Code.Progress.{ending}
-use Rattle.hnsr_circuit.specs.Acknowledge.{generation_answer, action_answer, acknowledge_taken}
-use Rattle.hnsr_circuit.specs.Acknowledge.{acknowledge_action, acknowledge}
+use Rattle.hnsr_circuit.specs.Code.Held.{state_seen, held_actions}
+use Rattle.hnsr_circuit.specs.Acknowledge.{generation_answer, acknowledge_taken, acknowledge_action, acknowledge}
 use Rattle.hnsr_circuit.specs.Call.{step, call_acknowledge}
-use Rattle.hnsr_circuit.specs.Laws.Calls.{turned_away, gone-on, whole}
-use native.Mathlib.Omega.{arith}
-use Rattle.hnsr_circuit.specs.Code.Held.{held_pending, held_circuits, held_ledger, held_actions}
-use Rattle.hnsr_circuit.specs.Laws.HeldTables.{places-kept, few-held}
+use Rattle.hnsr_circuit.specs.Laws.Calls.{whole}
+use Rattle.hnsr_circuit.specs.Laws.Seen.{turned-seen, passed}
+use Rattle.hnsr_circuit.specs.Laws.Lookups.{found_is}
+use Rattle.hnsr_circuit.specs.Laws.Acknowledging.{action-numbered, action_missing}
+use Rattle.hnsr_circuit.specs.Laws.HeldTables.{few-held}
 use Rattle.hnsr_circuit.proofs.calls.acknowledge.acknowledge.Goals as goal
 
 pub returns-in-Ok : goal.returns-in-Ok
 unfolding step acknowledge acknowledge_taken room_answer tables_short
 returns-in-Ok c =
     λ l₀.
-    let s = c in
-    let a = s.args in
-    let l = held_ledger a.places l₀ in
-    let w = world_of a.runtime (held_pending a.places a.pending.now)
-    (held_circuits a.places a.circuits.now) l (held_actions a.places a.inflight.now) in
-    let call = call_acknowledge a.generation a.sequence a.delivered (length a.out.now) in
-    let ef = c.look_up-found.ensures in
-    let found = ap (λ (f : Found InflightAction). f.found) ef in
-    let action = ap (λ (f : Found InflightAction). f.row) ef in
-    let answer = c.acknowledge_answer.ensures
-    ∙ (λ x. check (ltb (length a.out.now) acknowledge_words
-    || (c.too_few-few.ensures
-    ∙ few-held a.runtime.config a.places a.pending.now a.circuits.now a.inflight.now) x) Short
-    then generation_answer a.runtime.generation a.generation
-    then action_answer (found x)) in
+    let a = c.args in
+    let s = a.state in
+    let w = state_seen s a.pending.now a.circuits.now l₀ a.inflight.now in
+    let p = action_at a.generation a.sequence in
+    let t = held_actions s.places a.inflight.now in
+    let few = c.too_few-few.ensures ∙ few-held s.runtime.config s.places a.pending.now a.circuits.now a.inflight.now in
+    let short : Bool → HnsrAnswer = λ b. check (ltb (length a.out.now) acknowledge_words || b) Short in
+    let current = generation_answer s.runtime.generation a.generation in
+    let k = action-numbered (short _) current p t c.in-Ok.found
+    (sym (c.outstanding.ensures
+    ∙ (λ x. result_and (short (few x)) (result_and current (ok_or (c.look_up-numbered.ensures x) UnknownAction))))
+    ∙ c.in-Ok.is) in
+    let row = (found_is p no_action t c.in-Ok.found k.1).2 in
     let small : length c.args.out.now < 18446744073709551616 = search rules in
-    c.acknowledge_action.ensures l₀ a.generation a.sequence ef
-    ∙ ap (λ (o : Outcome). ending a.out.now o)
-    (ap (λ (x : InflightAction). acknowledge_action w a.generation a.sequence a.delivered x) action
-    ∙ sym (gone-on w c.acknowledge_answer.result _
-    (acknowledge_action w a.generation a.sequence a.delivered
-    (pick (action_at a.generation a.sequence) no_action (held_actions a.places a.inflight.now)))
-    (ap taken c.in-Ok.is) answer))
-    ∙ whole a.out.now w call (omega arith) (omega arith)
+    c.acknowledge_action.ensures l₀ a.generation a.sequence k.1
+    ∙ ap (ending a.out.now)
+    (ap (λ (x : InflightAction). acknowledge_action w a.generation a.sequence a.delivered x) row
+    ∙ passed w _ (acknowledge_action w a.generation a.sequence a.delivered (pick p no_action t)) k.0)
+    ∙ whole a.out.now w (call_acknowledge a.generation a.sequence a.delivered (length a.out.now)) (omega arith)
+    (omega arith)
 
 pub returns-in-Err : goal.returns-in-Err
 unfolding step acknowledge acknowledge_taken room_answer tables_short
 returns-in-Err c =
     λ l₀.
-    let s = c in
-    let a = s.args in
-    let l = held_ledger a.places l₀ in
-    let w = world_of a.runtime (held_pending a.places a.pending.now)
-    (held_circuits a.places a.circuits.now) l (held_actions a.places a.inflight.now) in
-    let call = call_acknowledge a.generation a.sequence a.delivered (length a.out.now) in
-    let ef = c.look_up-found.ensures in
-    let found = ap (λ (f : Found InflightAction). f.found) ef in
-    let answer = c.acknowledge_answer.ensures
-    ∙ (λ x. check (ltb (length a.out.now) acknowledge_words
-    || (c.too_few-few.ensures
-    ∙ few-held a.runtime.config a.places a.pending.now a.circuits.now a.inflight.now) x) Short
-    then generation_answer a.runtime.generation a.generation
-    then action_answer (found x)) in
+    let a = c.args in
+    let s = a.state in
+    let w = state_seen s a.pending.now a.circuits.now l₀ a.inflight.now in
+    let p = action_at a.generation a.sequence in
+    let t = held_actions s.places a.inflight.now in
+    let few = c.too_few-few.ensures ∙ few-held s.runtime.config s.places a.pending.now a.circuits.now a.inflight.now in
+    let short : Bool → HnsrAnswer = λ b. check (ltb (length a.out.now) acknowledge_words || b) Short in
+    let current = generation_answer s.runtime.generation a.generation in
+    let k = action_missing (short _) current p t c.in-Err.error
+    (sym (c.outstanding.ensures
+    ∙ (λ x. result_and (short (few x)) (result_and current (ok_or (c.look_up-numbered.ensures x) UnknownAction))))
+    ∙ c.in-Err.is) in
     let small : length c.args.out.now < 18446744073709551616 = search rules in
-    places-kept c.refused.result a.pending.now a.circuits.now l₀ a.inflight.now a.out.now
-    a.places c.refused.ensures.1
-    ∙ turned_away a.runtime (held_pending a.places a.pending.now) (held_circuits a.places a.circuits.now)
-    l (held_actions a.places a.inflight.now) a.out.now c.refused.result
-    c.acknowledge_answer.result _
-    (acknowledge_action w a.generation a.sequence a.delivered
-    (pick (action_at a.generation a.sequence) no_action (held_actions a.places a.inflight.now)))
-    (answered c.refused.ensures.0 c.in-Err.is) (ap taken c.in-Err.is) answer
-    ∙ whole a.out.now w call (omega arith) (omega arith)
+    turned-seen s a.pending.now a.circuits.now l₀ a.inflight.now a.out.now c.refused.result c.in-Err.error _
+    (acknowledge_action w a.generation a.sequence a.delivered (pick p no_action t)) c.refused.ensures k
+    ∙ whole a.out.now w (call_acknowledge a.generation a.sequence a.delivered (length a.out.now)) (omega arith)
+    (omega arith)

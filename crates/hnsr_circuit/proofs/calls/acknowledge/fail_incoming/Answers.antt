@@ -1,49 +1,42 @@
 -- The pending record that is found ends and ERROR is sent; where there is none, nothing is done.
-use mathlib.Core.Path.{sym, ap, ◌∙◌}
-use mathlib.Core.Bool.{true}
-use lib.ListN.{set}
-use Rattle.std.proofs.lemmas.Bool.{not-true, not-false}
-use Rattle.hnsr_circuit.specs.declared.tables.lookup.Found.{Found}
-use Rattle.hnsr_circuit.specs.declared.records.RelayPending.{RelayPending}
-use Rattle.hnsr_circuit.specs.World.{Outcome}
-use Rattle.hnsr_circuit.specs.Pending.{clear_pending}
-use Rattle.hnsr_circuit.specs.Code.Progress.{ending}
-use Rattle.hnsr_circuit.specs.Code.Revoking.{error_out}
+use Rattle.std.proofs.Common.{sym, ap, ◌∙◌}
+use Rattle.hnsr_circuit.specs.Pending.{no_pending, pending_at}
+use Rattle.hnsr_body.specs.declared.messages.Notice.TheVariants.{EndpointWriteFailed}
+use Rattle.hnsr_body.specs.Messages.{notice_body}
+use Rattle.hnsr_circuit.specs.World.{World}
+use Rattle.hnsr_circuit.specs.Queue.{send}
+use Rattle.hnsr_circuit.specs.Code.Progress.{message_of, ending}
 use Rattle.hnsr_circuit.specs.Laws.Acknowledging.{incoming_failed, none_failed}
+use Rattle.hnsr_circuit.specs.Laws.Lookups.{not_found}
+use Rattle.hnsr_circuit.specs.Laws.Seen.{taken-seen, moved-seen}
 use Rattle.hnsr_circuit.specs.Code.Held.{held_pending, held_circuits, held_ledger, held_actions}
-use Rattle.hnsr_circuit.specs.Laws.HeldTables.{places-kept}
-use Rattle.hnsr_circuit.specs.Laws.Held.{stored-seen}
 use Rattle.hnsr_circuit.proofs.calls.acknowledge.fail_incoming.Goals as goal
 
-pub returns-then-not-found : goal.returns-then-not-found
-returns-then-not-found c =
+pub returns-in-Some : goal.returns-in-Some
+returns-in-Some c =
     λ cs₀ l₀.
     let a = c.args in
-    let ef = c.look_up-found.ensures in
-    let none = sym (ap (λ (f : Found RelayPending). f.found) ef) ∙ not-true _ c.if-not-found.true in
-    places-kept c.taken.result a.pending.now cs₀ l₀ a.inflight.now a.out.now a.places
-    c.taken.ensures.1
-    ∙ none_failed a.runtime (held_pending a.places a.pending.now) (held_circuits a.places cs₀)
-    (held_ledger a.places l₀) (held_actions a.places a.inflight.now) a.id c.taken.result a.out.now none
-    c.taken.ensures.0
+    let s = a.state in
+    let rows = c.unmark.new.rows in
+    let moved = moved-seen s c.with_runtime-after.result c.revoked.result rows cs₀ l₀ a.inflight.now
+    c.with_runtime-after.ensures in
+    c.send_notice.ensures rows cs₀ l₀
+    ∙ ap (λ (v : World). ending a.out.now
+    (send v (message_of c.error_to_requester-message.result (notice_body EndpointWriteFailed)))) moved
+    ∙ ap (ending a.out.now)
+    (incoming_failed s.runtime (held_pending s.places a.pending.now) (held_circuits s.places cs₀)
+    (held_ledger s.places l₀) (held_actions s.places a.inflight.now) a.id c.in-Some.found c.revoked.result
+    (held_pending s.places rows) c.error_to_requester-message.result (sym c.look_up.ensures ∙ c.in-Some.is)
+    c.revoked.ensures c.unmark.ensures c.error_to_requester-message.ensures)
 
-pub returns : goal.returns
-returns c =
+pub returns-in-None : goal.returns-in-None
+returns-in-None c =
     λ cs₀ l₀.
     let a = c.args in
-    let p = held_pending a.places a.pending.now in
-    let ef = c.look_up-found.ensures in
-    let found = sym (ap (λ (f : Found RelayPending). f.found) ef) ∙ not-false _ c.if-not-found.false in
-    let r = c.unmarked-gone.ensures in
-    let gone = r ∙ ap (λ (f : Found RelayPending). clear_pending f.row) ef in
-    let message = c.error_to_requester-message.ensures ∙ ap (λ (f : Found RelayPending). error_out f.row) ef in
-    let after =
-    stored-seen clear_pending a.places.pending a.pending.now _ true c.look_up-found.result.place
-    c.unmarked-gone.result (λ h. ap clear_pending r ∙ sym r) c.set.ensures
-    ∙ (λ x. set p (ap (λ (f : Found RelayPending). f.place) ef x) (gone x)) in
-    c.send_notice.ensures c.set.new.rows cs₀ l₀
-    ∙ ap (λ (o : Outcome). ending a.out.now o)
-    (incoming_failed a.runtime p (held_circuits a.places cs₀) (held_ledger a.places l₀)
-    (held_actions a.places a.inflight.now) a.id c.revoked-after.result
-    (held_pending a.places c.set.new.rows) c.error_to_requester-message.result found
-    c.revoked-after.ensures after message)
+    let s = a.state in
+    taken-seen s a.pending.now cs₀ l₀ a.inflight.now a.out.now c.taken.result c.taken.ensures
+    ∙ ap (ending a.out.now)
+    (none_failed s.runtime (held_pending s.places a.pending.now) (held_circuits s.places cs₀) (held_ledger s.places l₀)
+    (held_actions s.places a.inflight.now) a.id
+    (not_found (pending_at a.id) no_pending (held_pending s.places a.pending.now)
+    (sym c.look_up.ensures ∙ c.in-None.is)))

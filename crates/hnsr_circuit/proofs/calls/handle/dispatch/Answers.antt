@@ -3,12 +3,13 @@ use Prim.Native.Nat.{ℕ}
 use mathlib.Core.Path.{sym, ap, ◌∙◌}
 use mathlib.Core.Logic.{inl, inr, ⊎_elim}
 use Rattle.hnsr_circuit.specs.World.{Outcome}
-use Rattle.hnsr_circuit.specs.Handle.{handling_of, dispatch}
+use Rattle.hnsr_circuit.specs.declared.answer.HnsrRuntimeError.TheVariants.{UnexpectedOpcode}
+use Rattle.hnsr_circuit.specs.Handle.{Handling, handling_of, dispatch}
 use Rattle.hnsr_circuit.specs.Code.Progress.{packet_of, ending}
 use Rattle.hnsr_circuit.specs.Laws.HandleCall.{closes, at_nineteen, other-below, other-above}
-use Rattle.hnsr_circuit.specs.Laws.HandleCall.{other-incoming, other-opened, left_alone}
-use Rattle.hnsr_circuit.specs.Code.Held.{world_given, held_pending, held_circuits, held_ledger, held_actions}
-use Rattle.hnsr_circuit.specs.Laws.HeldTables.{places-kept}
+use Rattle.hnsr_circuit.specs.Laws.HandleCall.{other-incoming, other-opened}
+use Rattle.hnsr_circuit.specs.Laws.Seen.{refused-seen}
+use Rattle.hnsr_circuit.specs.Code.Held.{world_given}
 use Rattle.hnsr_circuit.proofs.calls.handle.dispatch.Goals as goal
 use Rattle.hnsr_circuit.proofs.calls.handle.dispatch.Goals.{in-14-1, in_default+then-opcode-lt13}
 use Rattle.hnsr_circuit.proofs.calls.handle.dispatch.Goals.{in_default+else-opcode-lt13+else-opcode-lt21}
@@ -19,7 +20,7 @@ returns-in-13 c =
     λ source en.
     let a = c.args in
     let w = world_given a.request a.pending.now a.circuits.now a.ledger.now a.inflight.now in
-    let q = packet_of a.request.packet source a.body.now a.endpoint.now a.random.now in
+    let q = packet_of a.request.packet source a.body.bytes.now a.endpoint.now a.random.now in
     c.handle_open.ensures source en
     ∙ ap (λ (n : ℕ). ending a.out.now (dispatch (handling_of n) w q)) (sym c.in-13.is)
 
@@ -29,7 +30,7 @@ returns-in-15 c =
     λ source en.
     let a = c.args in
     let w = world_given a.request a.pending.now a.circuits.now a.ledger.now a.inflight.now in
-    let q = packet_of a.request.packet source a.body.now a.endpoint.now a.random.now in
+    let q = packet_of a.request.packet source a.body.bytes.now a.endpoint.now a.random.now in
     c.handle_accept.ensures a.ledger.now source a.endpoint.now a.random.now en
     ∙ ap (λ (n : ℕ). ending a.out.now (dispatch (handling_of n) w q)) (sym c.in-15.is)
 
@@ -39,7 +40,7 @@ returns-in-17 c =
     λ source en.
     let a = c.args in
     let w = world_given a.request a.pending.now a.circuits.now a.ledger.now a.inflight.now in
-    let q = packet_of a.request.packet source a.body.now a.endpoint.now a.random.now in
+    let q = packet_of a.request.packet source a.body.bytes.now a.endpoint.now a.random.now in
     c.handle_data.ensures a.pending.now source a.endpoint.now a.random.now en
     ∙ ap (λ (n : ℕ). ending a.out.now (dispatch (handling_of n) w q)) (sym c.in-17.is)
 
@@ -49,7 +50,7 @@ returns-in-18 c =
     λ source en.
     let a = c.args in
     let w = world_given a.request a.pending.now a.circuits.now a.ledger.now a.inflight.now in
-    let q = packet_of a.request.packet source a.body.now a.endpoint.now a.random.now in
+    let q = packet_of a.request.packet source a.body.bytes.now a.endpoint.now a.random.now in
     c.handle_window.ensures a.pending.now a.ledger.now source a.endpoint.now a.random.now en
     ∙ ap (λ (n : ℕ). ending a.out.now (dispatch (handling_of n) w q)) (sym c.in-18.is)
 
@@ -58,7 +59,7 @@ returns-in-19-to-20 c =
     λ source en.
     let a = c.args in
     let w = world_given a.request a.pending.now a.circuits.now a.ledger.now a.inflight.now in
-    let q = packet_of a.request.packet source a.body.now a.endpoint.now a.random.now in
+    let q = packet_of a.request.packet source a.body.bytes.now a.endpoint.now a.random.now in
     let rest = c.in-19-to-20.in_default-own.rest in
     let low = c.in-19-to-20.if-opcode-lt13-own.false in
     let high = c.in-19-to-20.if-opcode-lt21-own.true in
@@ -70,19 +71,19 @@ returns-in-19-to-20 c =
     rest.0.0.1 rest.0.1) high)
 
 pub returns-in-0-to-12 : goal.returns-in-0-to-12
+unfolding dispatch
 returns-in-0-to-12 c =
     λ source en.
     let a = c.args in
     let r = a.request in
     let n = r.packet.opcode in
-    let q = packet_of r.packet source a.body.now a.endpoint.now a.random.now in
-    places-kept c.refused.result a.pending.now a.circuits.now a.ledger.now a.inflight.now
-    a.out.now r.places c.refused.ensures.1
-    ∙ left_alone r.runtime (held_pending r.places a.pending.now) (held_circuits r.places a.circuits.now)
-    (held_ledger r.places a.ledger.now) (held_actions r.places a.inflight.now) c.refused.result n
-    q a.out.now c.refused.ensures.0
+    let w = world_given r a.pending.now a.circuits.now a.ledger.now a.inflight.now in
+    let q = packet_of r.packet source a.body.bytes.now a.endpoint.now a.random.now in
+    refused-seen r.state a.pending.now a.circuits.now a.ledger.now a.inflight.now a.out.now c.refused.result
+    UnexpectedOpcode c.refused.ensures
+    ∙ ap (λ (k : Handling). ending a.out.now (dispatch k w q)) (sym
     (elim c.in-0-to-12-1.branch [
       | in-14-1 w ↦ ⊎_elim (other-incoming n) (other-opened n) w.in-14-1.keys5
       | in_default+then-opcode-lt13 w ↦ other-below n w.if-opcode-lt13-1.true
       | in_default+else-opcode-lt13+else-opcode-lt21 w ↦ other-above n w.if-opcode-lt21-1.false
-    ])
+    ]))

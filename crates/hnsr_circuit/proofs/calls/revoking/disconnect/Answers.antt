@@ -1,85 +1,54 @@
 -- Turned away by its rows, or gone on: the actions toward the peer dropped, then its records revoked.
-use Rattle.std.proofs.Common.{Ok, Err}
-use mathlib.Core.Path.{refl, sym, ap, ◌∙◌}
-use Rattle.hnsr_circuit.specs.Laws.RevokingCalls.{entry-passed, entry-refused}
-use borrow.Author.Rules.{rules}
-use Prim.Native.Nat.{◌<◌}
-use Prim.Native.Nat.{◌*◌, ◌+◌}
-use lib.ListN.{length}
-use lib.Dec.{ltb}
-use Rattle.hns_encoding.specs.Sums.{count}
-use Rattle.hnsr_circuit.specs.Pending.{is_pending}
-use Rattle.hnsr_circuit.specs.Circuits.{is_circuit}
-use Rattle.hnsr_circuit.specs.declared.answer.HnsrRuntimeError.TheVariants.{Short}
-use Rattle.hnsr_circuit.specs.Answers.{◌then◌}
-use Rattle.hnsr_circuit.specs.World.{Outcome, world_of}
-use Rattle.hnsr_circuit.specs.Counts.{pending_count, circuit_count}
-use Rattle.hnsr_circuit.specs.Entry.{room_answer, tables_short, closing_words}
-use Rattle.hnsr_circuit.specs.Code.Progress.{ending}
+use Rattle.std.proofs.Common.{rules, arith, ◌<◌, [], length, ap, ◌∙◌}
+use Rattle.hnsr_circuit.specs.Table.{clear}
 use Rattle.hnsr_circuit.specs.Peer.{peer_of}
+use Rattle.hnsr_circuit.specs.Inflight.{action_toward, clear_action}
+use Rattle.hnsr_circuit.specs.declared.peer.HnsrPeerId.{HnsrPeerId}
+use Rattle.hnsr_circuit.specs.declared.tables.question.Revoking.TheVariants.{Disconnected}
 use Rattle.hnsr_circuit.specs.Call.{step, call_disconnect}
+use Rattle.hnsr_circuit.specs.World.{with_inflight}
 use Rattle.hnsr_circuit.specs.RevokingCalls.{disconnect, disconnect_peer}
-use Rattle.hnsr_circuit.specs.Laws.Calls.{turned_away, whole}
-use Rattle.hnsr_circuit.specs.Laws.RevokingCalls.{disconnected}
-use native.Mathlib.Omega.{arith}
-use Rattle.hnsr_circuit.specs.Laws.HeldTables.{places-kept, entry-held}
-use Rattle.hnsr_circuit.specs.Code.Held.{held_pending, held_circuits, held_ledger, held_actions}
+use Rattle.hnsr_circuit.specs.Code.Held.{held_actions, state_seen}
+use Rattle.hnsr_circuit.specs.Code.Progress.{ending}
+use Rattle.hnsr_circuit.specs.Code.Revoking.{revoking_all}
+use Rattle.hnsr_circuit.specs.Laws.Calls.{whole}
+use Rattle.hnsr_circuit.specs.Laws.Seen.{turned-seen}
+use Rattle.hnsr_circuit.specs.Laws.RevokingCalls.{entry_walks, entry_own, entry_passed, entry_refused, disconnected}
 use Rattle.hnsr_circuit.proofs.calls.revoking.disconnect.Goals as goal
 
 pub revoke_all-requires : goal.revoke_all-requires
-revoke_all-requires c = (entry-passed _ _ _ _ c.entered-firsts.ensures c.in-Ok.is).1
+revoke_all-requires c = let a = c.args in
+    entry_own (Disconnected c.new-peer_id.result)
+    (state_seen a.state a.pending.now a.circuits.now [] a.inflight.now) (length a.out.now) c.peer_answer-named.ensures
+    (c.entered.ensures []) c.in-Ok.walks c.in-Ok.is
 
 pub returns-in-Ok : goal.returns-in-Ok
-unfolding room_answer tables_short pending_count circuit_count step
-returns-in-Ok c =
-    λ l₀.
-    let s = c in
-    let a = s.args in
-    let l = held_ledger a.places l₀ in
-    let w = world_of a.runtime (held_pending a.places a.pending.now)
-    (held_circuits a.places a.circuits.now) l (held_actions a.places a.inflight.now) in
-    let call = call_disconnect a.peer.now (length a.out.now) in
-    let answer = sym (entry-passed _ _ _ _ c.entered-firsts.ensures c.in-Ok.is).0
-    ∙ (λ x. (entry-held (ltb (length a.out.now)
-    (closing_words
-    * (count is_pending (held_pending a.places a.pending.now)
-    + count is_circuit (held_circuits a.places a.circuits.now)))) Short a.runtime.config
-    (length (held_pending a.places a.pending.now)) (length (held_circuits a.places a.circuits.now))
-    a.places a.inflight.now) x
-    then c.peer_answer-named.ensures x) in
-    let small : length c.args.out.now < 18446744073709551616 = search rules in
-    c.revoke_all.ensures l₀
-    ∙ ap (λ (o : Outcome). ending a.out.now o)
-    (disconnected a.runtime (held_pending a.places a.pending.now) (held_circuits a.places a.circuits.now)
-    l (held_actions a.places a.inflight.now) a.peer.now (length a.out.now) (Ok tt)
-    c.new-name.result c.disconnecting-all.result (held_actions a.places c.clear.new.rows)
-    refl answer c.new-name.ensures c.disconnecting-all.ensures
-    c.clear.ensures)
-    ∙ whole a.out.now w call (omega arith) (omega arith)
+unfolding step
+returns-in-Ok c = λ l.
+    let a = c.args in
+    let w = state_seen a.state a.pending.now a.circuits.now l a.inflight.now in
+    let room = length a.out.now in
+    let v = Disconnected c.new-peer_id.result in
+    let walks = entry_walks v w room c.peer_answer-named.ensures (c.entered.ensures l) c.in-Ok.walks c.in-Ok.is in
+    let answer = entry_passed v w room c.peer_answer-named.ensures (c.entered.ensures l) c.in-Ok.walks c.in-Ok.is in
+    let peer = c.new-peer_id.ensures in
+    let small : room < 18446744073709551616 = search rules in
+    c.revoke_all.ensures l
+    ∙ (λ x. ending a.out.now (revoking_all (walks x).revoking (with_inflight w (c.clear.ensures x))))
+    ∙ ap (λ (p : HnsrPeerId). ending a.out.now (revoking_all (Disconnected p)
+    (with_inflight w (clear clear_action (action_toward p) (held_actions a.state.places a.inflight.now))))) peer
+    ∙ ap (ending a.out.now) (disconnected w room a.peer.now answer)
+    ∙ whole a.out.now w (call_disconnect a.peer.now room) (omega arith) (omega arith)
 
 pub returns-in-Err : goal.returns-in-Err
-unfolding room_answer tables_short pending_count circuit_count step disconnect
-returns-in-Err c =
-    λ l₀.
-    let s = c in
-    let a = s.args in
-    let l = held_ledger a.places l₀ in
-    let w = world_of a.runtime (held_pending a.places a.pending.now)
-    (held_circuits a.places a.circuits.now) l (held_actions a.places a.inflight.now) in
-    let call = call_disconnect a.peer.now (length a.out.now) in
-    let answer = sym (entry-refused _ _ _ _ c.entered-firsts.ensures c.in-Err.is)
-    ∙ (λ x. (entry-held (ltb (length a.out.now)
-    (closing_words
-    * (count is_pending (held_pending a.places a.pending.now)
-    + count is_circuit (held_circuits a.places a.circuits.now)))) Short a.runtime.config
-    (length (held_pending a.places a.pending.now)) (length (held_circuits a.places a.circuits.now))
-    a.places a.inflight.now) x
-    then c.peer_answer-named.ensures x) in
-    let small : length c.args.out.now < 18446744073709551616 = search rules in
-    places-kept c.refused.result a.pending.now a.circuits.now l₀ a.inflight.now a.out.now
-    a.places c.refused.ensures.1
-    ∙ turned_away a.runtime (held_pending a.places a.pending.now) (held_circuits a.places a.circuits.now)
-    l (held_actions a.places a.inflight.now) a.out.now c.refused.result (Err c.in-Err.error) _
-    (disconnect_peer w (peer_of a.peer.now)) c.refused.ensures.0
-    refl answer
-    ∙ whole a.out.now w call (omega arith) (omega arith)
+unfolding step disconnect
+returns-in-Err c = λ l.
+    let a = c.args in
+    let w = state_seen a.state a.pending.now a.circuits.now l a.inflight.now in
+    let room = length a.out.now in
+    let answer = entry_refused (Disconnected c.new-peer_id.result) w room c.peer_answer-named.ensures
+    (c.entered.ensures l) c.in-Err.error c.in-Err.is in
+    let small : room < 18446744073709551616 = search rules in
+    turned-seen a.state a.pending.now a.circuits.now l a.inflight.now a.out.now c.refused.result c.in-Err.error _
+    (disconnect_peer w (peer_of a.peer.now)) c.refused.ensures answer
+    ∙ whole a.out.now w (call_disconnect a.peer.now room) (omega arith) (omega arith)

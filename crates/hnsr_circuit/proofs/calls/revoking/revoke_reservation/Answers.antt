@@ -1,81 +1,50 @@
--- Turned away by its row, or gone on: the ledger record dropped, then the records under it revoked.
-use Rattle.std.proofs.Common.{Ok, Err}
-use mathlib.Core.Path.{refl, sym, ap, ◌∙◌}
-use Rattle.hnsr_circuit.specs.Laws.RevokingCalls.{entry-passed, entry-refused, then_nothing}
-use borrow.Author.Rules.{rules}
-use Prim.Native.Nat.{◌<◌}
-use Prim.Native.Nat.{◌*◌, ◌+◌}
-use lib.ListN.{length}
-use lib.Dec.{ltb}
-use Rattle.hns_encoding.specs.Sums.{count}
-use Rattle.hnsr_circuit.specs.Pending.{is_pending}
-use Rattle.hnsr_circuit.specs.Circuits.{is_circuit}
-use Rattle.hnsr_circuit.specs.declared.answer.HnsrRuntimeError.TheVariants.{Short}
-use Rattle.hnsr_circuit.specs.World.{Outcome, world_of}
-use Rattle.hnsr_circuit.specs.Counts.{pending_count, circuit_count}
-use Rattle.hnsr_circuit.specs.Entry.{room_answer, tables_short, closing_words}
-use Rattle.hnsr_circuit.specs.Code.Progress.{ending}
-use Rattle.hnsr_circuit.specs.Laws.Calls.{turned_away, whole}
+-- Turned away by its room, or gone on: the ledger record dropped, then what is under the id revoked.
+use Rattle.std.proofs.Common.{rules, arith, ◌<◌, Ok, length, sym, ◌∙◌, ap}
+use Rattle.hnsr_circuit.specs.declared.tables.question.Revoking.TheVariants.{Reservation}
+use Rattle.hnsr_circuit.specs.Entry.{room_answer, revoking_words}
 use Rattle.hnsr_circuit.specs.Call.{step, call_revoke_reservation}
+use Rattle.hnsr_circuit.specs.World.{with_ledger}
 use Rattle.hnsr_circuit.specs.RevokingCalls.{revoke_reservation, revoke_under}
-use Rattle.hnsr_circuit.specs.Laws.RevokingCalls.{revoked-under}
-use native.Mathlib.Omega.{arith}
-use Rattle.hnsr_circuit.specs.Laws.HeldTables.{places-kept, entry-held}
-use Rattle.hnsr_circuit.specs.Code.Held.{held_pending, held_circuits, held_ledger, held_actions}
+use Rattle.hnsr_circuit.specs.Code.Held.{state_seen}
+use Rattle.hnsr_circuit.specs.Code.Progress.{ending}
+use Rattle.hnsr_circuit.specs.Code.Revoking.{revoking_all}
+use Rattle.hnsr_circuit.specs.Laws.Calls.{whole}
+use Rattle.hnsr_circuit.specs.Laws.Seen.{turned-seen}
+use Rattle.hnsr_circuit.specs.Laws.RevokingCalls.{entry_walks, entry_own, entry_passed, entry_refused, then_nothing}
+use Rattle.hnsr_circuit.specs.Laws.RevokingCalls.{revoked_under}
 use Rattle.hnsr_circuit.proofs.calls.revoking.revoke_reservation.Goals as goal
 
 pub revoke_all-requires : goal.revoke_all-requires
-revoke_all-requires c = (entry-passed _ _ _ _ c.entered-firsts.ensures c.in-Ok.is).1
+revoke_all-requires c = let a = c.args in
+    entry_own (Reservation a.id) (state_seen a.state a.pending.now a.circuits.now a.ledger.now a.inflight.now)
+    (length a.out.now) (λ x. Ok tt) (c.entered.ensures a.ledger.now) c.in-Ok.walks c.in-Ok.is
 
 pub returns-in-Ok : goal.returns-in-Ok
-unfolding room_answer tables_short pending_count circuit_count step
+unfolding step
 returns-in-Ok c =
-    let s = c in
-    let a = s.args in
-    let w = world_of a.runtime (held_pending a.places a.pending.now)
-    (held_circuits a.places a.circuits.now) (held_ledger a.places a.ledger.now)
-    (held_actions a.places a.inflight.now) in
-    let call = call_revoke_reservation a.id (length a.out.now) in
-    let small : length c.args.out.now < 18446744073709551616 = search rules in
+    let a = c.args in
+    let w = state_seen a.state a.pending.now a.circuits.now a.ledger.now a.inflight.now in
+    let room = length a.out.now in
+    let v = Reservation a.id in
+    let walks = entry_walks v w room (λ x. Ok tt) (c.entered.ensures a.ledger.now) c.in-Ok.walks c.in-Ok.is in
+    let answer = sym (then_nothing (room_answer w room (revoking_words w)))
+    ∙ entry_passed v w room (λ x. Ok tt) (c.entered.ensures a.ledger.now) c.in-Ok.walks c.in-Ok.is in
+    let small : room < 18446744073709551616 = search rules in
     c.revoke_all.ensures c.drop_usage.new.ledger
-    ∙ ap (λ (o : Outcome). ending a.out.now o)
-    (revoked-under a.runtime (held_pending a.places a.pending.now)
-    (held_circuits a.places a.circuits.now) (held_ledger a.places a.ledger.now)
-    (held_actions a.places a.inflight.now) a.id (length a.out.now) (Ok tt)
-    c.revoking-all.result (held_ledger a.places c.drop_usage.new.ledger)
-    refl
-    (sym (entry-passed _ _ _ _ c.entered-firsts.ensures c.in-Ok.is).0
-    ∙ then_nothing _
-    ∙ entry-held (ltb (length a.out.now)
-    (closing_words
-    * (count is_pending (held_pending a.places a.pending.now)
-    + count is_circuit (held_circuits a.places a.circuits.now)))) Short a.runtime.config
-    (length (held_pending a.places a.pending.now)) (length (held_circuits a.places a.circuits.now))
-    a.places a.inflight.now) c.revoking-all.ensures c.drop_usage.ensures)
-    ∙ whole a.out.now w call (omega arith) (omega arith)
+    ∙ (λ x. ending a.out.now (revoking_all (walks x).revoking (with_ledger w (c.drop_usage.ensures x))))
+    ∙ ap (ending a.out.now) (revoked_under w room a.id answer)
+    ∙ whole a.out.now w (call_revoke_reservation a.id room) (omega arith) (omega arith)
 
 pub returns-in-Err : goal.returns-in-Err
-unfolding room_answer tables_short pending_count circuit_count step revoke_reservation
+unfolding step revoke_reservation
 returns-in-Err c =
-    let s = c in
-    let a = s.args in
-    let w = world_of a.runtime (held_pending a.places a.pending.now)
-    (held_circuits a.places a.circuits.now) (held_ledger a.places a.ledger.now)
-    (held_actions a.places a.inflight.now) in
-    let call = call_revoke_reservation a.id (length a.out.now) in
-    let small : length c.args.out.now < 18446744073709551616 = search rules in
-    places-kept c.refused.result a.pending.now a.circuits.now a.ledger.now a.inflight.now
-    a.out.now a.places c.refused.ensures.1
-    ∙ turned_away a.runtime (held_pending a.places a.pending.now) (held_circuits a.places a.circuits.now)
-    (held_ledger a.places a.ledger.now) (held_actions a.places a.inflight.now) a.out.now
-    c.refused.result (Err c.in-Err.error) _ (revoke_under w a.id)
-    c.refused.ensures.0 refl
-    (sym (entry-refused _ _ _ _ c.entered-firsts.ensures c.in-Err.is)
-    ∙ then_nothing _
-    ∙ entry-held (ltb (length a.out.now)
-    (closing_words
-    * (count is_pending (held_pending a.places a.pending.now)
-    + count is_circuit (held_circuits a.places a.circuits.now)))) Short a.runtime.config
-    (length (held_pending a.places a.pending.now)) (length (held_circuits a.places a.circuits.now))
-    a.places a.inflight.now)
-    ∙ whole a.out.now w call (omega arith) (omega arith)
+    let a = c.args in
+    let w = state_seen a.state a.pending.now a.circuits.now a.ledger.now a.inflight.now in
+    let room = length a.out.now in
+    let answer = sym (then_nothing (room_answer w room (revoking_words w)))
+    ∙ entry_refused (Reservation a.id) w room (λ x. Ok tt) (c.entered.ensures a.ledger.now) c.in-Err.error
+    c.in-Err.is in
+    let small : room < 18446744073709551616 = search rules in
+    turned-seen a.state a.pending.now a.circuits.now a.ledger.now a.inflight.now a.out.now c.refused.result
+    c.in-Err.error _ (revoke_under w a.id) c.refused.ensures answer
+    ∙ whole a.out.now w (call_revoke_reservation a.id room) (omega arith) (omega arith)

@@ -24,6 +24,7 @@ use Rattle.hnsr_circuit.specs.Ledger.{is_usage, clear_usage}
 use Rattle.hnsr_circuit.specs.Code.Held.{held_pending, held_circuits, held_ledger, held_actions}
 use Rattle.hnsr_circuit.specs.Laws.Records.{pending_still, circuit_still, usage_still, action_still}
 use Rattle.hnsr_circuit.specs.declared.tables.places.Places.{Places}
+use Rattle.hnsr_circuit.specs.declared.runtime.RelayState.{RelayState}
 use Rattle.hnsr_circuit.specs.Runtime.{new_runtime}
 use Rattle.hnsr_circuit.proofs.calls.silent.new.Goals as goal
 
@@ -33,7 +34,7 @@ returns-in-Ok c =
     λ h.
     let a = c.args in
     let e = c.taken.ensures in
-    let k = e.1 ∙ c.no_place.ensures in
+    let k = ap (λ (s : RelayState). s.places) e.0 in
     let t = ap taken c.in-Ok.is in
     empties h _ a.pending.now _ a.circuits.now _ a.ledger.now _ a.inflight.now _
     c.taken.result c.new_answer.result _
@@ -41,7 +42,7 @@ returns-in-Ok c =
     ∙ ap (λ (b : Bool). session_answer a.session a.generation
     then validate_config a.config
     then check (b || eqb (length a.ledger.now) 0) Short) c.too_few-few.ensures)
-    (e.0.0 ∙ c.new-runtime.ensures, e.0.1 ∙ sym (taken_is c.new_answer.result t), e.0.2) k
+    (ap (λ (s : RelayState). s.runtime) e.0 ∙ c.new-runtime.ensures, e.1 ∙ sym (taken_is c.new_answer.result t), e.2) k
     (ap (λ (n : Places). held_pending n a.pending.now) k
     ∙ held-cleared clear_pending is_pending pending_still a.pending.now)
     (ap (λ (n : Places). held_circuits n a.circuits.now) k
@@ -58,7 +59,7 @@ returns-in-Err c =
     let s = c in
     let a = s.args in
     let e = c.refused.ensures in
-    let k = e.1 ∙ c.every_place.ensures in
+    let k = ap (λ (s : RelayState). s.places) e.0 in
     let b : (length c.args.pending.now < 18446744073709551616)
     × (length c.args.circuits.now < 18446744073709551616)
     × (length c.args.ledger.now < 18446744073709551616)
@@ -69,7 +70,7 @@ returns-in-Err c =
     ∙ ap (λ (b : Bool). session_answer a.session a.generation
     then validate_config a.config
     then check (b || eqb (length a.ledger.now) 0) Short) c.too_few-few.ensures)
-    (e.0.0, e.0.1 ∙ sym c.in-Err.is, e.0.2) k
+    (ap (λ (s : RelayState). s.runtime) e.0, e.1 ∙ sym c.in-Err.is, e.2) k
     (ap (λ (n : Places). held_pending n a.pending.now) k
     ∙ held_all clear_pending 18446744073709551615 a.pending.now (omega (arith, b.0)))
     (ap (λ (n : Places). held_circuits n a.circuits.now) k

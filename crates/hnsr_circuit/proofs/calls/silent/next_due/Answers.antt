@@ -19,11 +19,12 @@ pub returns-in_err-check : goal.returns-in_err-check
 unfolding step next_due tables_answer tables_short
 returns-in_err-check c =
     let a = c.args in
-    let w = world_of a.runtime (held_pending a.places a.pending.now) (held_circuits a.places a.circuits.now)
-    (held_ledger a.places a.ledger.now) (held_actions a.places a.inflight.now) in
+    let w = world_of a.state.runtime (held_pending a.state.places a.pending.now)
+    (held_circuits a.state.places a.circuits.now) (held_ledger a.state.places a.ledger.now)
+    (held_actions a.state.places a.inflight.now) in
     let row = c.check.ensures
     ∙ ap (λ (b : Bool). check b Short) (c.too_few-few.ensures
-    ∙ few-held a.runtime.config a.places a.pending.now a.circuits.now a.inflight.now) in
+    ∙ few-held a.state.runtime.config a.state.places a.pending.now a.circuits.now a.inflight.now) in
     let p = err_from_is_err_and c.from_residual.result c.from_residual.ensures.1 in
     p.1 ∙ tells-no-due (due_of w) w (tables_answer w) p.0 (sym row ∙ c.in_err-check.was ∙ ap Err (sym p.2))
 
@@ -31,13 +32,13 @@ pub returns : goal.returns
 unfolding step next_due tables_answer tables_short due_of
 returns c =
     let a = c.args in
-    let cs = held_circuits a.places a.circuits.now in
-    let ls = held_ledger a.places a.ledger.now in
-    let w = world_of a.runtime (held_pending a.places a.pending.now) cs ls
-    (held_actions a.places a.inflight.now) in
+    let cs = held_circuits a.state.places a.circuits.now in
+    let ls = held_ledger a.state.places a.ledger.now in
+    let w = world_of a.state.runtime (held_pending a.state.places a.pending.now) cs ls
+    (held_actions a.state.places a.inflight.now) in
     let row = c.check.ensures
     ∙ ap (λ (b : Bool). check b Short) (c.too_few-few.ensures
-    ∙ few-held a.runtime.config a.places a.pending.now a.circuits.now a.inflight.now) in
+    ∙ few-held a.state.runtime.config a.state.places a.pending.now a.circuits.now a.inflight.now) in
     let all = c.due.ensures
     ∙ ap (λ (d : Option ℕ). usage_due ls d)
     (c.due-second.ensures ∙ ap (λ (d : Option ℕ). circuit_due cs d) c.due-first.ensures) in

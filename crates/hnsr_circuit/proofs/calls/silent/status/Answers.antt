@@ -28,12 +28,12 @@ unfolding step status tables_answer tables_short
 returns-in_err-status_answer c =
     λ l₀.
     let a = c.args in
-    let w = world_of a.runtime (held_pending a.places a.pending.now)
-    (held_circuits a.places a.circuits.now) (held_ledger a.places l₀)
-    (held_actions a.places a.inflight.now) in
+    let w = world_of a.state.runtime (held_pending a.state.places a.pending.now)
+    (held_circuits a.state.places a.circuits.now) (held_ledger a.state.places l₀)
+    (held_actions a.state.places a.inflight.now) in
     let row = c.status_answer.ensures
     ∙ ap (λ (b : Bool). check b Short then peer_answer (length a.peer.now)) (c.too_few-few.ensures
-    ∙ few-held a.runtime.config a.places a.pending.now a.circuits.now a.inflight.now) in
+    ∙ few-held a.state.runtime.config a.state.places a.pending.now a.circuits.now a.inflight.now) in
     let p = err_from_is_err_and c.from_residual.result c.from_residual.ensures.1 in
     p.1
     ∙ tells-nothing (status_of w) (action_capacity w (peer_of a.peer.now) a.circuit_id) w
@@ -45,9 +45,9 @@ unfolding step status tables_answer tables_short status_of pending_count action_
 returns c =
     λ l₀.
     let a = c.args in
-    let i = held_actions a.places a.inflight.now in
-    let w = world_of a.runtime (held_pending a.places a.pending.now)
-    (held_circuits a.places a.circuits.now) (held_ledger a.places l₀) i in
+    let i = held_actions a.state.places a.inflight.now in
+    let w = world_of a.state.runtime (held_pending a.state.places a.pending.now)
+    (held_circuits a.state.places a.circuits.now) (held_ledger a.state.places l₀) i in
     let n = c.count-waiting.ensures in
     let t = c.circuit_totals-totals.ensures in
     let question = c.capacity_question-question.ensures ∙ ap (capacity_question a.circuit_id) c.new-name.ensures in
@@ -58,11 +58,11 @@ returns c =
     let e = c.status_told.ensures in
     let row = c.status_answer.ensures
     ∙ ap (λ (b : Bool). check b Short then peer_answer (length a.peer.now)) (c.too_few-few.ensures
-    ∙ few-held a.runtime.config a.places a.pending.now a.circuits.now a.inflight.now) in
+    ∙ few-held a.state.runtime.config a.state.places a.pending.now a.circuits.now a.inflight.now) in
     (λ x. Ok (record { status = e.0 x; action_capacity = e.1 x }))
     ∙ (λ x. Ok (record {
-      status = status_from a.runtime (n x) (t x) (all x);
-      action_capacity = capacity_left a.runtime.config (tally x);
+      status = status_from a.state.runtime (n x) (t x) (all x);
+      action_capacity = capacity_left a.state.runtime.config (tally x);
     }))
     ∙ tells-status (status_of w) (action_capacity w (peer_of a.peer.now) a.circuit_id) w
     (tables_answer w then peer_answer (length a.peer.now))

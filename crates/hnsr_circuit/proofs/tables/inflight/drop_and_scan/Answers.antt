@@ -2,26 +2,16 @@
 use Rattle.std.proofs.Common.{arith, ap, refl, sym, ◌∙◌, ◌≡◌, ◌<◌, get_or, length, take, drop, List, ◌++◌}
 use Rattle.std.proofs.lemmas.List.{get_or_default}
 use lib.ListN.{length-map}
-use Rattle.hns_encoding.specs.Loops.{fold_from, fold_step, map-step, map-done}
+use Rattle.hns_encoding.specs.Loops.{fold_step, map-step, map-done}
 use Rattle.hnsr_circuit.specs.Table.{cleared, clear}
 use Rattle.hnsr_circuit.specs.Inflight.{no_action, clear_action, action_under, dropped}
 use Rattle.hnsr_circuit.specs.Code.Held.{held}
 use Rattle.hnsr_circuit.specs.Code.Turns.{scanned}
-use Rattle.hnsr_circuit.specs.declared.tables.scan.ActionScan.{ActionScan}
 use Rattle.hnsr_circuit.specs.declared.records.InflightAction.{InflightAction}
-use Rattle.hnsr_circuit.specs.Laws.Turns.{tally-none, tally-most}
 use Rattle.hnsr_circuit.specs.Laws.HeldTables.{dropped_scanned}
 use Rattle.hnsr_circuit.specs.Laws.Held.{cleared_held}
 use Rattle.hnsr_circuit.specs.Laws.Scans.{map-here}
 use Rattle.hnsr_circuit.proofs.tables.inflight.drop_and_scan.Goals as goal
-
-pub loop-place-init : goal.loop-place-init
-loop-place-init c =
-    let left = clear clear_action (action_under c.args.id) (take c.min-end.result c.args.inflight.now) in (
-      rw c.no_scan-scan.ensures tally-none,
-      refl,
-      ap (λ (b : ActionScan). fold_from (scanned c.args.question) left 0 b) c.no_scan-scan.ensures,
-    )
 
 pub loop-place-preserved : goal.loop-place-preserved
 loop-place-preserved c =
@@ -38,10 +28,10 @@ loop-place-preserved c =
     let there : row ≡ get_or left l.place no_action = here
     ∙ sym (map-here g l.row-items no_action l.place inside)
     ∙ ap (λ (x : List InflightAction). get_or x l.place no_action) l.invariant.1 in (
-      rw c.action_scanned-scan.ensures (tally-most q l.place l.scan.tally row l.place l.invariant.0),
+      record { all = omega arith; circuit = omega arith; peer = omega arith },
       map-step g l.row-items no_action l.place row left inside here l.invariant.1,
       fold_step (scanned q) left no_action l.place l.scan c.action_scanned-scan.result _ long
-          (c.action_scanned-scan.ensures ∙ ap (λ (x : InflightAction). scanned q l.scan x l.place) there)
+          (c.action_scanned-scan.ensures.scanned ∙ ap (λ (x : InflightAction). scanned q l.scan x l.place) there)
           l.invariant.2,
     )
 
@@ -59,6 +49,6 @@ returns c =
     (omega (arith, l.auto.row-items, c.loop-place-test.false)) l.invariant.1 in (
       ap (λ (x : List InflightAction). held clear_action n (x ++ drop end t)) done
           ∙ cleared_held clear_action p (λ x. refl) n end t c.min-end.ensures,
-      c.spared.ensures
+      c.ended.ensures
           ∙ dropped_scanned a.question p n end t l.place l.scan c.min-end.ensures c.loop-place-test.false l.invariant.2,
     )

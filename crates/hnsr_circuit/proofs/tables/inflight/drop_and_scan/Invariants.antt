@@ -12,4 +12,4 @@ invariant-loop-place l =
     let left = clear clear_action p l.initial.row-items in
     TallyAtMost l.place l.scan.tally
     × (take l.place l.row-items ++ clear clear_action p (drop l.place l.row-items) ≡ left)
-    × (fold_from turn (drop l.place left) l.place l.scan ≡ fold_from turn left 0 (no_scan l.size))
+    × (fold_from turn (drop l.place left) l.place l.scan ≡ fold_from turn left 0 no_scan)

@@ -7,4 +7,4 @@ abbrev pub invariant-loop-place : goal.invariant-loop-place
 invariant-loop-place l =
     let turn = scanned l.question in
     TallyAtMost l.place l.scan.tally
-    × (fold_from turn (drop l.place l.seen) l.place l.scan ≡ fold_from turn l.seen 0 (no_scan l.size))
+    × (fold_from turn (drop l.place l.seen) l.place l.scan ≡ fold_from turn l.seen 0 no_scan)

@@ -1,3 +1,4 @@
+-- `filter` and `count` are told by std's lemmas for them.
 use Rattle.std.proofs.Common.{rules, ◌∙◌, take}
 use Rattle.std.proofs.lemmas.Iterator.{YieldsList-from_slice}
 use Rattle.std.proofs.lemmas.Iterator.Consumers.{YieldsList-from_filter, count_from_yields_List}

@@ -1,3 +1,4 @@
+-- `position` is told by std's lemma for it, as the check does not follow a trait's test to an equation.
 use Rattle.std.proofs.Common.{rules, ap, ◌∙◌, ◌≡◌, take, length, true, false, not, List}
 use Rattle.std.specs.Option.{unwrap_or}
 use Rattle.std.proofs.lemmas.Iterator.{IsFirst-from_position, YieldsList-from_slice}

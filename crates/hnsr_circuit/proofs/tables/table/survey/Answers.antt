@@ -1,11 +1,8 @@
 use Rattle.std.proofs.Common.{arith, ap, Bool, cond, ◌+◌, ◌∙◌}
-use Rattle.hns_encoding.specs.Loops.{fold_from}
 use Rattle.hns_encoding.specs.Laws.Tests.{cond-le}
-use Rattle.hnsr_circuit.specs.Table.{next_turn, next}
+use Rattle.hnsr_circuit.specs.Table.{not_yet, next_turn, next}
 use Rattle.hnsr_circuit.specs.Laws.Held.{fold_seen, count_seen, next-idle}
 use Rattle.hnsr_circuit.specs.Laws.Scans.{count_turn, fold_turn}
-use Rattle.hnsr_circuit.specs.declared.tables.scan.Walked.{Walked}
-use Rattle.hnsr_circuit.specs.Code.Held.{held}
 use Rattle.hnsr_circuit.proofs.tables.table.survey.Goals as goal
 
 pub loop-place-preserved : goal.loop-place-preserved
@@ -14,13 +11,12 @@ loop-place-preserved g c =
     let r = g.R.TableRecord in
     let l = c.loop-place in
     let row = c.index-seen-place in
-    let seen = c.in_use-seen.result.now in
-    let start = c.not_yet-start.result in (
+    let seen = c.in_use-seen.result.now in (
       omega (arith, cond-le c.is_used.result),
       count_turn seen l.place row.result c.loop-place-test.true row.is r.is_used _ l.used _
           (c.one_more-used.ensures ∙ ap (λ (b : Bool). l.used + cond b 1 0) c.is_used.ensures) l.invariant.1,
       fold_turn seen l.place row.result c.loop-place-test.true row.is
-          (next_turn g.R.Numbered.id (g.Q.Question.holds a.question.now) start) l.first c.next_turn-first.result _
+          (next_turn g.R.Numbered.id (g.Q.Question.holds a.question.now) not_yet) l.first c.next_turn-first.result _
           c.next_turn-first.ensures l.invariant.2,
     )
 
@@ -31,13 +27,10 @@ returns g c =
     let l = c.loop-place in
     let r = g.R.TableRecord in
     let p = g.Q.Question.holds a.question.now in
-    let seen = c.in_use-seen.result.now in
-    let start = c.not_yet-start.result in
-    let t = held r.unmarked a.number a.rows.now in (
+    let seen = c.in_use-seen.result.now in (
       count_seen r.unmarked r.is_used g.met.R.TableRecord.unused a.number a.rows.now seen l.place l.used
           c.in_use-seen.ensures c.loop-place-test.false l.invariant.1,
-      fold_seen r.unmarked (next_turn g.R.Numbered.id p start)
-          (next-idle r.unmarked g.R.Numbered.id p (g.met.Q.Question.of_used a.question.now) start)
-          a.number a.rows.now seen l.place l.first _ c.in_use-seen.ensures c.loop-place-test.false l.invariant.2
-          ∙ ap (λ (w : Walked). fold_from (next_turn g.R.Numbered.id p w) t 0 w) c.not_yet-start.ensures,
+      fold_seen r.unmarked (next_turn g.R.Numbered.id p not_yet)
+          (next-idle r.unmarked g.R.Numbered.id p (g.met.Q.Question.of_used a.question.now) not_yet)
+          a.number a.rows.now seen l.place l.first _ c.in_use-seen.ensures c.loop-place-test.false l.invariant.2,
     )

@@ -1,31 +1,21 @@
-use Rattle.std.proofs.Common.{arith, rules, ap, ◌∙◌, ◌≡◌, ℕ, false, sym}
+-- `position` from the end on is told by std's lemma for it.
+use Rattle.std.proofs.Common.{rules, ◌∙◌, ◌≡◌, ◌-◌, take, length, true, false}
+use Rattle.std.specs.Option.{unwrap_or}
+use Rattle.std.proofs.lemmas.Iterator.{IsFirst-from_position}
+use Rattle.std.proofs.lemmas.Iterator.Adapters.{YieldsList-from_rev_slice}
 use Rattle.hnsr_circuit.specs.Code.Held.{held}
-use Rattle.hnsr_circuit.specs.Laws.Held.{held-min, lower-step}
+use Rattle.hnsr_circuit.specs.Laws.Held.{lowered}
 use Rattle.hnsr_circuit.proofs.tables.table.trim.Goals as goal
 
-pub loop-n-preserved : goal.loop-n-preserved
-loop-n-preserved g c =
+pub returns : goal.returns
+returns g c =
     let r = g.R.TableRecord in
     let t = c.args.rows.now in
-    let l = c.loop-n in
-    let unused : c.is_used.result ≡ false = search rules in (
-      omega arith,
-      lower-step r.unmarked r.is_used g.met.R.TableRecord.still l.n t _ (held r.unmarked c.min-n.result t)
-          (omega arith) (sym (ap r.is_used c.index-rows-n.is) ∙ sym c.is_used.ensures ∙ unused) l.invariant.1,
-    )
-
-pub returns-else-not-is_used : goal.returns-else-not-is_used
-returns-else-not-is_used g c =
-    let unmark = g.R.TableRecord.unmarked in
-    let t = c.args.rows.now in
-    c.loop-n.invariant.1
-    ∙ ap (λ (m : ℕ). held unmark m t) c.min-n.ensures
-    ∙ held-min unmark c.args.number t
-
-pub returns-after-loop-n : goal.returns-after-loop-n
-returns-after-loop-n g c =
-    let unmark = g.R.TableRecord.unmarked in
-    let t = c.args.rows.now in
-    c.loop-n.invariant.1
-    ∙ ap (λ (m : ℕ). held unmark m t) c.min-n.ensures
-    ∙ held-min unmark c.args.number t
+    let p = r.is_used in
+    let seen = c.in_use-seen.ensures in
+    let unused = c.position-unused.result in
+    (λ i. held r.unmarked (length (seen i) - c.unwrap_or.ensures i) t)
+    ∙ (λ i. held r.unmarked (length (take c.args.number t) - unwrap_or unused (length (seen i))) t)
+    ∙ lowered r.unmarked p g.met.R.TableRecord.still c.args.number t unused
+    (IsFirst-from_position _ _ _ (λ x. p x ≡ true) (λ x. p x ≡ false) c.position-unused.ensures.ran
+    (YieldsList-from_rev_slice (take c.args.number t) cc) (λ x q k. search rules) (λ x q k. search rules))

@@ -109,7 +109,7 @@ impl Decoder {
         Ok((bytes, next))
     }
 
-    // The numbers, by the names that the Rust has: each one line over `read_array` and the library's bytes of a number.
+    // The numbers, by the names that the Rust has: each over `read_array` and the library's bytes of a number.
     #[tactic(auto, using(crate::specs::Laws::Bytes::le_one))]
     pub fn read_u8(self, input: &[u8]) -> Result<(u8, Decoder), DecodeError>
         ensures { result ≡ reads_le 1 input.now self }
@@ -151,8 +151,7 @@ impl Decoder {
         Ok((u64::from_be_bytes(bytes), next))
     }
 
-    // Whether the input is read whole; a position past its end is no whole reading. Of the three cases two have an
-    // error of their own, so that none is a call that another could stand for.
+    // Whether the input is read whole; a position past its end is no whole reading. Three outcomes of one subtraction.
     pub fn finish(self, input: &[u8]) -> Result<(), DecodeError>
         ensures { result ≡ finishes input.now self }
     {

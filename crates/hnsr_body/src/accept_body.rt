@@ -84,9 +84,7 @@ impl AcceptBody {
     pub fn encode(self) -> Result<[u8; Self::SIZE], HnsrProtocolError>
         ensures { result ≡ encode_accept self }
     {
-        if !self.is_valid() {
-            return Err(HnsrInvalid::AcceptResponse.into());
-        }
+        answered(Ok(()), self.is_valid(), HnsrInvalid::AcceptResponse)?;
         Ok(self.to_bytes())
     }
 }

@@ -6,7 +6,7 @@ ghost use Rattle.hnsr_body.specs.Layout.{laid_out};
 
 use crate::error::{HnsrInvalid, HnsrProtocolError};
 use crate::fields::{next_array, put_bytes_at, start};
-use crate::layout::{Read, finish};
+use crate::layout::{Read, answered, finish};
 use crate::values::MAX_WINDOW;
 
 // Its bytes are its body: it has sizes and a check, and no fields.
@@ -34,10 +34,7 @@ impl DataBody {
     pub fn check(size: usize) -> Result<(), HnsrProtocolError>
         ensures { result ≡ data_checked size }
     {
-        if !Self::is_size(size) {
-            return Err(HnsrInvalid::DataSize.into());
-        }
-        Ok(())
+        answered(Ok(()), Self::is_size(size), HnsrInvalid::DataSize)
     }
 
     pub fn decode(input: &[u8]) -> Result<(), HnsrProtocolError>
@@ -102,9 +99,7 @@ impl WindowBody {
     pub fn encode(self) -> Result<[u8; Self::SIZE], HnsrProtocolError>
         ensures { result ≡ encode_window self }
     {
-        if !self.is_valid() {
-            return Err(HnsrInvalid::WindowCredit.into());
-        }
+        answered(Ok(()), self.is_valid(), HnsrInvalid::WindowCredit)?;
         Ok(self.to_bytes())
     }
 }

@@ -6,7 +6,7 @@ ghost use Rattle.hnsr_body.specs.Layout.{laid_out};
 
 use crate::error::{HnsrInvalid, HnsrProtocolError};
 use crate::fields::{next_array, put_bytes_at, start};
-use crate::layout::{Read, finish};
+use crate::layout::{Read, answered, finish};
 use crate::values::{is_window, is_zero};
 
 #[repr(C)]
@@ -100,9 +100,7 @@ impl IncomingBody {
     pub fn encode(self) -> Result<[u8; Self::SIZE], HnsrProtocolError>
         ensures { result ≡ encode_incoming self }
     {
-        if !self.is_valid() {
-            return Err(HnsrInvalid::IncomingParameters.into());
-        }
+        answered(Ok(()), self.is_valid(), HnsrInvalid::IncomingParameters)?;
         Ok(self.to_bytes())
     }
 }

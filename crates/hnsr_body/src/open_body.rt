@@ -6,7 +6,7 @@ ghost use Rattle.hnsr_body.specs.Layout.{laid_out};
 
 use crate::error::{HnsrInvalid, HnsrProtocolError};
 use crate::fields::{next_array, put_bytes_at, start};
-use crate::layout::{Read, finish};
+use crate::layout::{Read, answered, finish};
 use crate::values::{ReservationId, is_window, is_zero};
 
 #[repr(C)]
@@ -111,9 +111,11 @@ impl OpenBody {
     pub fn encode(self, key_valid: bool) -> Result<[u8; Self::SIZE], HnsrProtocolError>
         ensures { result ≡ encode_open key_valid self }
     {
-        if !self.is_valid(key_valid) {
-            return Err(HnsrInvalid::OpenParameters.into());
-        }
+        answered(
+            Ok(()),
+            self.is_valid(key_valid),
+            HnsrInvalid::OpenParameters,
+        )?;
         Ok(self.to_bytes())
     }
 }

@@ -27,7 +27,7 @@ fn within(low: u64, n: u64, high: u64) -> bool
 }
 
 impl OpaqueRelayConfig {
-    // Not a configuration: what a refused `new` hands back.
+    // Not a configuration: what a refused `new` hands back. Zeros as a constant, since `default` is another.
     pub(crate) const ZERO: Self = Self {
         maximum_pending: 0,
         maximum_circuits: 0,

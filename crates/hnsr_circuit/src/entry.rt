@@ -1,25 +1,26 @@
 // Rows that stand in front of calls: 22, 4, 7 (ENTRY), and 5.
-ghost use Rattle.std.specs.Prelude.{◌≡◌};
+ghost use Rattle.std.specs.Prelude.{◌≡◌, length};
 ghost use Rattle.hnsr_circuit.specs.Entry.{too_few, peer_answer, clock_answer};
 ghost use Rattle.hnsr_circuit.specs.Acknowledge.{generation_answer};
 
 use crate::answer::{HnsrAnswer, HnsrRuntimeError, check};
 use crate::config::OpaqueRelayConfig;
 use crate::peer::MAXIMUM_PEER;
+use crate::records::{InflightAction, RelayCircuit, RelayPending};
 
 // 22 by tables (ENTRY.1), of which only the lengths are asked; the ledger has no maximum (ENTRY.6).
 #[tactic(auto, unfolding(crate::specs::Entry::too_few))]
 pub(crate) fn too_few(
     config: OpaqueRelayConfig,
-    pending: usize,
-    circuits: usize,
-    inflight: usize,
+    pending: &[RelayPending],
+    circuits: &[RelayCircuit],
+    inflight: &[InflightAction],
 ) -> bool
-    ensures { result ≡ too_few config pending circuits inflight }
+    ensures { result ≡ too_few config (length pending.now) (length circuits.now) (length inflight.now) }
 {
-    pending < config.maximum_pending
-        || circuits < config.maximum_circuits
-        || inflight < config.maximum_inflight_actions
+    pending.len() < config.maximum_pending
+        || circuits.len() < config.maximum_circuits
+        || inflight.len() < config.maximum_inflight_actions
 }
 
 // 4 (ENTRY.2): a name too short or too long

@@ -105,7 +105,8 @@ fn all_same(a: &[u8], b: &[u8]) -> bool
     same
 }
 
-// Two names where they stand. The slices' `==` is slower: it takes twice the time with names of 16 bytes, and of 128.
+// Two names where they stand. The slices' `==` is slower: it took 1.5 times as long with names of 8 bytes, 2.7 to 3.1
+// with 16, 2.1 to 2.4 with 128.
 #[tactic(auto, using(crate::specs::Laws::Peer::bytes_other))]
 fn same_names(a: &[u8], b: &[u8]) -> bool
     ensures { result ≡ same_bytes a.now b.now }

@@ -1,4 +1,5 @@
 // The records of the four lent tables, by value; what is asked of each and what becomes of one has a file of its own.
+// They lie as in C, in memory that is lent, so that a mark says whether a place is used: there is no heap for a map.
 pub mod circuits;
 pub(crate) mod inflight;
 pub(crate) mod ledger;

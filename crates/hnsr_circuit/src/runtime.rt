@@ -74,8 +74,8 @@ pub struct Request {
     pub peer: HnsrPeerId,
 }
 
-// What a call hands back: the state for the host to keep, the answer, and how many output words it wrote. The state
-// comes with a refusal too (the clock may have moved), so that the answer is a field.
+// What a call hands back: the state for the host to keep, the answer, and how many output words it wrote, none where it
+// is refused. The state comes with a refusal too (the clock may have moved), so that the answer is a field.
 #[derive(Clone, Copy)]
 pub struct Relayed {
     pub state: RelayState,
@@ -103,12 +103,6 @@ impl RelayState {
         ensures { (result.runtime ≡ runtime) × (result.places ≡ self.places) }
     {
         Self { runtime, ..self }
-    }
-
-    pub(crate) fn with_places(self, places: Places) -> Self
-        ensures { (result.runtime ≡ self.runtime) × (result.places ≡ places) }
-    {
-        Self { places, ..self }
     }
 
     // A call begins.

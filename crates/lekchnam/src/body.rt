@@ -102,7 +102,7 @@ pub struct WindowBytes {
     pub bytes: [u8; WindowBody::SIZE],
 }
 
-// The first `length` bytes are the body.
+// The first `length` bytes are the body: an array and its length, as C has them.
 #[repr(C)]
 #[derive(Clone, Copy)]
 pub struct DetailBytes {

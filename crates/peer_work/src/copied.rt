@@ -12,7 +12,7 @@ pub(crate) trait Comparison {
         ensures { result ≡ same_peer a b };
 }
 
-// Whether one of two names, each a copy, is the peer's.
+// Whether one of two names, each a copy, is the peer's: by the comparison that is timed, where `==` would stand.
 fn either<C: Comparison>(a: HnsrPeerId, b: HnsrPeerId, peer: HnsrPeerId) -> bool
     ensures { result ≡ (same_peer a peer || same_peer b peer) }
 {

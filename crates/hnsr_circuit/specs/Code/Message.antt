@@ -22,16 +22,20 @@ abbrev pub own_circuit : Option (Found RelayCircuit) → HnsrPeerId → Result (
 own_circuit None peer = Err UnknownCircuit
 own_circuit (Some f) peer = result_and (check (not (is_side peer f.row)) WrongPeer) (Ok f)
 
-abbrev pub passed_on : RelayPacket → RelayCircuit → HnsrPeerId → InflightKind → Outgoing
-passed_on q c peer kind = record {
-  destination = receiver c peer;
-  circuit_id = q.context_id;
-  opcode = q.opcode;
-  context_id = q.context_id;
+-- any but a DATA
+abbrev pub outgoing : HnsrPeerId → (circuit opcode context : ℕ) → InflightKind → Outgoing
+outgoing destination circuit opcode context kind = record {
+  destination = destination;
+  circuit_id = circuit;
+  opcode = opcode;
+  context_id = context;
   kind = kind;
   to_endpoint = false;
   bytes = 0;
 }
+
+abbrev pub passed_on : RelayPacket → RelayCircuit → HnsrPeerId → InflightKind → Outgoing
+passed_on q c peer kind = outgoing (receiver c peer) q.context_id q.opcode q.context_id kind
 
 abbrev pub data_on : RelayPacket → RelayCircuit → HnsrPeerId → (n : ℕ) → Outgoing
 data_on q c peer n = record {
@@ -46,15 +50,7 @@ data_on q c peer n = record {
 
 -- a CLOSE or ERROR about a circuit or pending record; to the other side of a pending record
 abbrev pub close_on : HnsrPeerId → (circuit opcode context : ℕ) → Outgoing
-close_on destination circuit opcode context = record {
-  destination = destination;
-  circuit_id = circuit;
-  opcode = opcode;
-  context_id = context;
-  kind = Close;
-  to_endpoint = false;
-  bytes = 0;
-}
+close_on destination circuit opcode context = outgoing destination circuit opcode context Close
 
 abbrev pub translated_on : (opcode : ℕ) → RelayPending → HnsrPeerId → Outgoing
 translated_on opcode p peer =

@@ -38,6 +38,7 @@ use Rattle.hnsr_circuit.specs.Inflight.{tallied, capacity_answer}
 use Rattle.hnsr_circuit.specs.World.{World, Outcome, config_of, proceed, with_ledger}
 use Rattle.hnsr_circuit.specs.Queue.{send}
 use Rattle.hnsr_circuit.specs.Opcode.{op_opened, op_incoming}
+use Rattle.hnsr_circuit.specs.Code.Message.{outgoing}
 use Rattle.hnsr_circuit.specs.Counts.{circuit_count, reservation_work}
 use Rattle.hnsr_circuit.specs.Code.Question.{pending_work, circuit_work}
 use Rattle.hnsr_circuit.specs.Entry.{peer_answer}
@@ -73,15 +74,7 @@ replacing p id =
     record { replacing = true; circuit_id = id; peer = p.requester; generation = 0; sequence = 0 }
 
 abbrev pub opened_out : RelayPending → Outgoing
-opened_out p = record {
-  destination = p.requester;
-  circuit_id = p.circuit_id;
-  opcode = op_opened;
-  context_id = p.requester_context;
-  kind = Opened;
-  to_endpoint = false;
-  bytes = 0;
-}
+opened_out p = outgoing p.requester p.circuit_id op_opened p.requester_context Opened
 
 -- an ACCEPT past the rows that go by the packet and its pending record alone
 unfoldable pub accept_named : World → (context : ℕ) → RelayPending → AcceptBody → Outcome
@@ -174,15 +167,7 @@ opening_of o = record {
 }
 
 abbrev pub incoming_out : OpenPlan → Outgoing
-incoming_out o = record {
-  destination = o.endpoint;
-  circuit_id = o.id;
-  opcode = op_incoming;
-  context_id = o.id;
-  kind = Incoming;
-  to_endpoint = false;
-  bytes = 0;
-}
+incoming_out o = outgoing o.endpoint o.id op_incoming o.id Incoming
 
 -- the ledger record of a grant, and where it stands: what is found, else a fresh one at the lowest unused place
 abbrev pub booked_in : LedgerScan → RelayTicket → Found ReservationUsage

@@ -17,7 +17,10 @@ use Rattle.hnsr_circuit.specs.declared.tables.question.Revoking.{Revoking}
 use Rattle.hnsr_circuit.specs.declared.tables.question.Revoking.TheVariants.{Disabled, Disconnected, Reservation}
 use Rattle.hnsr_circuit.specs.declared.tables.question.Revoking.TheVariants.{Expired}
 use Rattle.hnsr_circuit.specs.declared.tables.scan.Walked.{Walked}
+use Rattle.hnsr_circuit.specs.declared.records.ReservationUsage.{ReservationUsage}
 use Rattle.hnsr_circuit.specs.declared.runtime.OpaqueRelayRuntime.{OpaqueRelayRuntime}
+use Rattle.hnsr_circuit.specs.declared.runtime.RelayState.{RelayState}
+use Rattle.hnsr_circuit.specs.declared.runtime.Sending.{Sending}
 use Rattle.hnsr_circuit.specs.Table.{any, place_of, not_yet, next}
 use Rattle.hnsr_circuit.specs.Peer.{same_peer}
 use Rattle.hnsr_circuit.specs.Pending.{no_pending, pending_id, clear_pending}
@@ -25,14 +28,15 @@ use Rattle.hnsr_circuit.specs.Circuits.{no_circuit, circuit_id, circuit_at, clea
 use Rattle.hnsr_circuit.specs.Inflight.{action_under, dropped}
 use Rattle.hnsr_circuit.specs.Runtime.{count_revoked, with_counters}
 use Rattle.hnsr_circuit.specs.World.{World, world_of, with_pending, with_circuits}
-use Rattle.hnsr_circuit.specs.Queue.{Sent, silently, and_then, when, finished, tell}
+use Rattle.hnsr_circuit.specs.Queue.{Message, Sent, silently, and_then, when, finished, tell}
 use Rattle.hnsr_circuit.specs.Revocation.{without_actions, pending_there, circuit_there}
 use Rattle.hnsr_circuit.specs.Revocation.{end_pending_there, end_circuit_there, error_to_requester}
 use Rattle.hnsr_circuit.specs.Revocation.{close_to_requester, close_to_endpoint, close_to, revoke_pending}
 use Rattle.hnsr_circuit.specs.Revocation.{revoke_circuit_there, revoke_circuit, where_reached, walk_from, walk}
 use Rattle.hnsr_circuit.specs.Revocation.{pending_table, circuit_table, revoke_all}
 use Rattle.hnsr_circuit.specs.RevokingCalls.{close_to_other, disconnect_pending}
-use Rattle.hnsr_circuit.specs.Code.Held.{held_pending, held_circuits, held_ledger, lent_seen}
+use Rattle.hnsr_circuit.specs.Code.Held.{held, held_pending, held_circuits, held_ledger, held_actions, lent_seen}
+use Rattle.hnsr_circuit.specs.Code.Held.{underway_seen, sending_seen}
 use Rattle.hnsr_circuit.specs.Code.Progress.{message_of, filled_to, placed, Progress, progress, advanced, advance}
 use Rattle.hnsr_circuit.specs.Code.Revoking.{close_both, pending_closings, circuit_closings, circuit_notice}
 use Rattle.hnsr_circuit.specs.Code.Revoking.{told_too, told, ended, ending_pending, revoking_all}
@@ -128,6 +132,41 @@ module _ (w u : World) (at : ℕ) (out : List ℕ) (n : Notice) (m : Outgoing) (
       ∙ ap
       (λ (k : Option Outgoing). advanced (progress w at out) (told_too n k (tell (message_of m (notice_body n)) u)))
       (sym e)
+
+-- the record at a place unmarked, its actions dropped, its end counted, and the first message told
+module _ {A : Type 0} (unmark : A → A) (none : A) (id : A → ℕ) (in_use : Places → ℕ)
+    (with_table : World → List A → World) (without : World → ℕ → World)
+    (ends : (h : OpaqueRelayRuntime) (n : Places) (w : World) (t t' : List A) (i : List InflightAction) (place : ℕ)
+    → held unmark (in_use n) t'
+    ≡ set (held unmark (in_use n) t) place (unmark (get_or (held unmark (in_use n) t) place none))
+    → without (lent_seen h n (with_table w t) i) place
+    ≡ lent_seen (with_counters h (count_revoked h.counters)) n (with_table w t')
+    (dropped (action_under (id (get_or (held unmark (in_use n) t) place none))) i)) where
+  pub first_told : (s : Sending) (w : World) (t t' : List A) (i : List InflightAction) (out : List ℕ) (place : ℕ)
+      (m : Message) (number k : ℕ) (r : RelayState) (f : Sending) (i' : List InflightAction) (out' : List ℕ)
+      → number ≡ in_use s.state.places
+      → held unmark number t' ≡ set (held unmark number t) place (unmark (get_or (held unmark number t) place none))
+      → k ≡ id (get_or (held unmark number t) place none)
+      → (r.runtime ≡ with_counters s.state.runtime (count_revoked s.state.runtime.counters))
+      × (r.places ≡ s.state.places)
+      → ((p : List RelayPending) (c : List RelayCircuit) (l : List ReservationUsage)
+      → underway_seen f p c l i' out'
+      ≡ advance (tell m) (progress (world_of r.runtime (held_pending r.places p) (held_circuits r.places c)
+      (held_ledger r.places l) (dropped (action_under k) (held_actions r.places i))) s.position out))
+      → sending_seen f (with_table w t') i' out'
+      ≡ advance (tell m) (progress
+      (without (lent_seen s.state.runtime s.state.places (with_table w t) (held_actions s.state.places i)) place)
+      s.position out)
+  first_told s w t t' i out place m number k r f i' out' en eu ek er ef =
+      let n = s.state.places in
+      let acts = held_actions n i in
+      let w' = with_table w t' in
+      ef w'.pending w'.circuits w'.ledger
+      ∙ (λ x. advance (tell m) (progress (lent_seen (er.0 x) (er.1 x) w' (dropped
+      (action_under ((ek ∙ (λ y. id (get_or (held unmark (en y) t) place none))) x)) (held_actions (er.1 x) i)))
+      s.position out))
+      ∙ ap (λ (u : World). advance (tell m) (progress u s.position out))
+      (sym (ends s.state.runtime n w t t' acts place (rw en at eu)))
 
 -- ---- by id
 module _ (n : Notice) (w : World) (id : ℕ) where

@@ -199,7 +199,7 @@ pub fn acknowledge(
         sequence,
     };
     let numbered = look_up(inflight, state.places.actions, &number);
-    let few = too_few(config, pending.len(), circuits.len(), inflight.len());
+    let few = too_few(config, pending, circuits, inflight);
     match outstanding(
         state.runtime.generation,
         few,

@@ -168,7 +168,7 @@ pub fn handle(
         (length out.old))) }
 {
     let config = state.runtime.config;
-    let few = too_few(config, pending.len(), circuits.len(), inflight.len());
+    let few = too_few(config, pending, circuits, inflight);
     let lent = room_answer(out.len(), few);
     match entry_answer(lent, state.runtime, packet, source.len(), body.len()) {
         Ok(()) => {

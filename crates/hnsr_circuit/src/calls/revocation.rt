@@ -25,7 +25,7 @@ ghost use Rattle.hnsr_circuit.specs.Code.Question.{pending_revoked, circuit_revo
 ghost use Rattle.hnsr_circuit.specs.Laws.Records.{pending_revoked_used, circuit_revoked_used};
 ghost use Rattle.hnsr_circuit.specs.Laws.Revocation.{pending_ends, circuit_ends};
 
-use crate::messages::message::closing;
+use crate::messages::message::{closing, translated_on};
 use crate::messages::opcode::{CLOSE, ERROR};
 use crate::output::queue::{Outgoing, drop_and_tell, tell_notice};
 use crate::records::circuits::{circuit_of, circuit_under};
@@ -182,15 +182,9 @@ impl Revocable for RelayPending {
                 second: Some(endpoint),
             };
         };
-        let requester = closing(self.requester, id, CLOSE, self.requester_context);
-        let left = if self.requester == peer {
-            endpoint
-        } else {
-            requester
-        };
         Closings {
             notice,
-            first: left,
+            first: translated_on(CLOSE, self, peer),
             second: None,
         }
     }

@@ -59,12 +59,7 @@ pub(crate) fn entered(
     let waiting = survey(pending, state.places.pending, &revoking);
     let active = survey(circuits, state.places.circuits, &revoking);
     let short = room_short(room, waiting.used, active.used);
-    let few = too_few(
-        state.runtime.config,
-        pending.len(),
-        circuits.len(),
-        inflight.len(),
-    );
+    let few = too_few(state.runtime.config, pending, circuits, inflight);
     let walks = Walks {
         revoking,
         pending: waiting.first,

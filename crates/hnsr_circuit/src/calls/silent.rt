@@ -83,7 +83,7 @@ pub fn new(
         (start (world_of h pending.now circuits.now ledger.now inflight.now)
         (record { session = session; generation = generation; config = config; now = time })) }
 {
-    let few = too_few(config, pending.len(), circuits.len(), inflight.len());
+    let few = too_few(config, pending, circuits, inflight);
     match new_answer(session, generation, config, few, ledger.len()) {
         Ok(()) => {
             let runtime = OpaqueRelayRuntime::new(session, generation, config, time);
@@ -137,7 +137,8 @@ fn status_answer(few: bool, size: usize) -> HnsrAnswer
     peer_answer(size)
 }
 
-// What is asked of the actions: the three counts that the action capacity goes by. The place of a number is not asked.
+// What is asked of the actions: the three counts that the action capacity goes by. The place of a number is not asked:
+// the zeros stand for none.
 fn capacity_question(circuit_id: u64, peer: HnsrPeerId) -> ActionQuestion
     ensures { result ≡ capacity_question circuit_id peer }
 {
@@ -181,12 +182,7 @@ pub fn status(
         (step (state_seen state pending.now circuits.now l inflight.now)
         (call_status peer.now circuit_id)) }
 {
-    let few = too_few(
-        state.runtime.config,
-        pending.len(),
-        circuits.len(),
-        inflight.len(),
-    );
+    let few = too_few(state.runtime.config, pending, circuits, inflight);
     status_answer(few, peer.len())?;
     let name = HnsrPeerId::new(peer);
     let question = capacity_question(circuit_id, name);
@@ -212,12 +208,7 @@ pub fn next_due(
         inflight.now)
         call_next_due) }
 {
-    let few = too_few(
-        state.runtime.config,
-        pending.len(),
-        circuits.len(),
-        inflight.len(),
-    );
+    let few = too_few(state.runtime.config, pending, circuits, inflight);
     check(few, HnsrRuntimeError::Short)?;
     let first = due(pending, state.places.pending, None);
     let second = due(circuits, state.places.circuits, first);

@@ -138,14 +138,18 @@ impl Acceptance {
     pub(crate) fn opened_out(self) -> Outgoing
         ensures { result ≡ opened_out self.pending }
     {
-        Outgoing {
-            destination: self.pending.requester,
-            circuit_id: self.pending.circuit_id,
-            opcode: OPENED,
-            context_id: self.pending.requester_context,
-            kind: InflightKind::Opened,
-            to_endpoint: false,
-            bytes: 0,
-        }
+        let RelayPending {
+            circuit_id,
+            requester,
+            requester_context,
+            ..
+        } = self.pending;
+        Outgoing::new(
+            requester,
+            circuit_id,
+            OPENED,
+            requester_context,
+            InflightKind::Opened,
+        )
     }
 }

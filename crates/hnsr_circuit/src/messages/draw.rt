@@ -8,7 +8,7 @@ pub(crate) const DRAW_BYTES: usize = 8;
 // Draws and candidates in a row that refuse.
 pub(crate) const MOST_DRAWS: u8 = 8;
 
-// The first draw, where there is one: a number, the first byte weighing most.
+// The first draw, the first byte weighing most; 0, which is no id, where there is none: the plan is refused then.
 #[tactic(auto, using(crate::specs::Laws::Opening::be_eight))]
 pub(crate) fn first_draw(random: &[u8]) -> u64
     ensures { result ≡ first_draw random.now }

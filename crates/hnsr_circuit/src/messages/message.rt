@@ -18,7 +18,7 @@ pub(crate) fn own_circuit(
     ensures { result ≡ own_circuit named peer }
 {
     let found = named.ok_or(HnsrRuntimeError::UnknownCircuit)?;
-    check(!is_side(peer, found.row), HnsrRuntimeError::WrongPeer)?;
+    check(!is_side(&peer, &found.row), HnsrRuntimeError::WrongPeer)?;
     Ok(found)
 }
 
@@ -31,15 +31,8 @@ pub(crate) fn passed_on(
 ) -> Outgoing
     ensures { result ≡ passed_on packet circuit peer kind }
 {
-    Outgoing {
-        destination: receiver(circuit, peer),
-        circuit_id: packet.context_id,
-        opcode: packet.opcode,
-        context_id: packet.context_id,
-        kind,
-        to_endpoint: false,
-        bytes: 0,
-    }
+    let id = packet.context_id;
+    Outgoing::new(receiver(circuit, peer), id, packet.opcode, id, kind)
 }
 
 // A CLOSE or ERROR about a circuit or pending record: stored as Close under the circuit id.
@@ -51,15 +44,13 @@ pub(crate) fn closing(
 ) -> Outgoing
     ensures { result ≡ close_on destination circuit_id opcode context_id }
 {
-    Outgoing {
+    Outgoing::new(
         destination,
         circuit_id,
         opcode,
         context_id,
-        kind: InflightKind::Close,
-        to_endpoint: false,
-        bytes: 0,
-    }
+        InflightKind::Close,
+    )
 }
 
 // A CLOSE or ERROR to the other side of a pending record. CLOSE.11: each side hears the number that it knows.

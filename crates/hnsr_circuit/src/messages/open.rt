@@ -124,8 +124,8 @@ impl OpenGathered {
         admission_answer(packet.admitted, packet.ticket.expires_at, packet.now)
     }
 
-    fn open_plan(self, id: u64) -> OpenPlan
-        ensures { result ≡ open_plan self id }
+    fn open_plan(&self, id: u64) -> OpenPlan
+        ensures { result ≡ open_plan self.now id }
     {
         let RelayPacket {
             context_id,
@@ -174,8 +174,8 @@ pub struct OpenPlan {
 }
 
 impl OpenPlan {
-    pub(crate) fn pending_for(self) -> RelayPending
-        ensures { result ≡ pending_for (opening_of self) }
+    pub(crate) fn pending_for(&self) -> RelayPending
+        ensures { result ≡ pending_for (opening_of self.now) }
     {
         RelayPending {
             used: true,
@@ -190,8 +190,8 @@ impl OpenPlan {
     }
 
     // INCOMING: ticket, profile, nonce and window are the OPEN's.
-    pub(crate) fn incoming_for(self) -> IncomingBody
-        ensures { result ≡ incoming_for (opening_of self) }
+    pub(crate) fn incoming_for(&self) -> IncomingBody
+        ensures { result ≡ incoming_for (opening_of self.now) }
     {
         // an array is copied to a variable before a literal holds it
         let ticket_id = self.body.ticket_id;
@@ -205,18 +205,16 @@ impl OpenPlan {
         }
     }
 
-    pub(crate) fn incoming_out(self) -> Outgoing
-        ensures { result ≡ incoming_out self }
+    pub(crate) fn incoming_out(&self) -> Outgoing
+        ensures { result ≡ incoming_out self.now }
     {
-        Outgoing {
-            destination: self.endpoint,
-            circuit_id: self.id,
-            opcode: INCOMING,
-            context_id: self.id,
-            kind: InflightKind::Incoming,
-            to_endpoint: false,
-            bytes: 0,
-        }
+        Outgoing::new(
+            self.endpoint,
+            self.id,
+            INCOMING,
+            self.id,
+            InflightKind::Incoming,
+        )
     }
 }
 
@@ -231,7 +229,7 @@ pub(crate) fn placed_rows(
 {
     capacity_answer(config, tally)?;
     deadline_answer(config, now)?;
-    ledger_answer(ledger.found.is_some(), ledger.used, ledger.places)
+    ledger_answer(ledger)
 }
 
 // The ledger record of a grant, and where it stands: the one that is found, else a fresh one at the lowest unused

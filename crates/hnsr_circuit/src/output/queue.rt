@@ -7,6 +7,7 @@ ghost use Rattle.hnsr_circuit.specs.Code.Held.{held_pending, held_circuits, held
 ghost use Rattle.hnsr_circuit.specs.Queue.{queue_answer, action_for, send, tell};
 ghost use Rattle.hnsr_circuit.specs.Code.Turns.{actions_scanned};
 ghost use Rattle.hnsr_circuit.specs.Code.Progress.{message_of, ending, advance, asking, underway};
+ghost use Rattle.hnsr_circuit.specs.Code.Message.{outgoing};
 ghost use Rattle.hnsr_circuit.specs.Code.Queueing.{queueing, Written};
 ghost use Rattle.hnsr_circuit.specs.declared.records.RelayPending.{RelayPending};
 ghost use Rattle.hnsr_circuit.specs.declared.records.RelayCircuit.{RelayCircuit};
@@ -38,6 +39,29 @@ pub struct Outgoing {
     pub kind: InflightKind,
     pub to_endpoint: bool,
     pub bytes: usize,
+}
+
+impl Outgoing {
+    // Any but a Data.
+    pub(crate) fn new(
+        destination: HnsrPeerId,
+        circuit_id: u64,
+        opcode: u8,
+        context_id: u64,
+        kind: InflightKind,
+    ) -> Self
+        ensures { result ≡ outgoing destination circuit_id opcode context_id kind }
+    {
+        Self {
+            destination,
+            circuit_id,
+            opcode,
+            context_id,
+            kind,
+            to_endpoint: false,
+            bytes: 0,
+        }
+    }
 }
 
 // 1, 10, 6 (QUEUE.6): no context, no room, no number.
@@ -192,7 +216,8 @@ pub(crate) fn tell(
     }
 }
 
-// A message of the relay's own, the actions of its record dropped before it, in the same pass.
+// A message of the relay's own, the actions of its record dropped before it, in the same pass. Beside `tell_notice`,
+// since the two passes differ in what they borrow and in what they leave.
 #[tactic(auto, using(crate::specs::Laws::Route::notice_slice, crate::specs::Laws::Route::notice_short))]
 pub(crate) fn drop_and_tell(
     inflight: &mut [InflightAction],

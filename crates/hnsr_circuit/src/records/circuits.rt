@@ -47,7 +47,7 @@ impl TableRecord for RelayCircuit {
             circuit_id: 0,
             requester: HnsrPeerId::NOBODY,
             endpoint: HnsrPeerId::NOBODY,
-            reservation_id: ReservationId { high: 0, low: 0 },
+            reservation_id: ReservationId::NONE,
             expires_at: 0,
             maximum_bytes: 0,
             maximum_total_bytes: 0,
@@ -108,7 +108,7 @@ impl Worked for RelayCircuit {
 pub fn circuit_of(c: &RelayCircuit, peer: &HnsrPeerId) -> bool
     ensures { result ≡ circuit_of peer.now c.now }
 {
-    c.used && (c.requester == *peer || c.endpoint == *peer)
+    c.used && is_side(peer, c)
 }
 
 // It stores the reservation's id.
@@ -121,10 +121,10 @@ pub(crate) fn circuit_under(c: &RelayCircuit, id: ReservationId) -> bool
 
 // ---- sides, of a circuit that was found
 
-pub(crate) fn is_side(peer: HnsrPeerId, c: RelayCircuit) -> bool
-    ensures { result ≡ is_side peer c }
+pub(crate) fn is_side(peer: &HnsrPeerId, c: &RelayCircuit) -> bool
+    ensures { result ≡ is_side peer.now c.now }
 {
-    c.requester == peer || c.endpoint == peer
+    c.requester == *peer || c.endpoint == *peer
 }
 
 // A peer that is both is the requester.
@@ -174,6 +174,7 @@ pub(crate) fn receiver(c: RelayCircuit, peer: HnsrPeerId) -> HnsrPeerId
     peer_at(other, c)
 }
 
+// A side's credit, and below what is queued to it: a name for each, over fields of its own.
 pub(crate) fn credit_of(side: RelaySide, circuit: RelayCircuit) -> u32
     ensures { result ≡ credit_of side circuit }
 {

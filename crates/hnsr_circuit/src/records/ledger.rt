@@ -1,5 +1,5 @@
 // The ledger: a table's records, what is asked of one, what becomes of one, and the rows of OPEN that go by it.
-ghost use Rattle.std.specs.Prelude.{◌≡◌};
+ghost use Rattle.std.specs.Prelude.{◌≡◌, is_some};
 ghost use Rattle.hnsr_circuit.specs.Ledger.{no_usage, is_usage, usage_at, clear_usage};
 ghost use Rattle.hnsr_circuit.specs.Ledger.{fresh_usage, spent, ledger_answer, usage_answer};
 ghost use Rattle.hnsr_circuit.specs.NextDue.{usage_expiry_of};
@@ -8,6 +8,7 @@ ghost use Rattle.hnsr_circuit.specs.Laws.Records.{usage_unused, usage_still};
 use crate::answer::{HnsrAnswer, HnsrRuntimeError, check};
 use crate::records::{RelayTicket, ReservationUsage};
 use crate::tables::record::{TableRecord, Timed};
+use crate::tables::scan::LedgerScan;
 use hnsr_body::values::ReservationId;
 
 impl TableRecord for ReservationUsage {
@@ -36,7 +37,7 @@ impl TableRecord for ReservationUsage {
     fn none() -> ReservationUsage {
         ReservationUsage {
             used: false,
-            reservation_id: ReservationId { high: 0, low: 0 },
+            reservation_id: ReservationId::NONE,
             bytes: 0,
             expires_at: 0,
         }
@@ -87,10 +88,13 @@ impl ReservationUsage {
 
 // 23 (OPEN.9): no place for a new reservation
 #[tactic(auto, unfolding(crate::specs::Ledger::ledger_answer))]
-pub(crate) fn ledger_answer(found: bool, used: usize, places: usize) -> HnsrAnswer
-    ensures { result ≡ ledger_answer found used places }
+pub(crate) fn ledger_answer(ledger: LedgerScan) -> HnsrAnswer
+    ensures { result ≡ ledger_answer (is_some ledger.found) ledger.used ledger.places }
 {
-    check(!found && places <= used, HnsrRuntimeError::LedgerFull)
+    check(
+        ledger.found.is_none() && ledger.places <= ledger.used,
+        HnsrRuntimeError::LedgerFull,
+    )
 }
 
 // 18 (OPEN.10): the reservation has another end, or no bytes left

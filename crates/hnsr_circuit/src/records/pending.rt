@@ -41,7 +41,7 @@ impl TableRecord for RelayPending {
 
     fn none() -> RelayPending {
         let ticket = RelayTicket {
-            reservation_id: ReservationId { high: 0, low: 0 },
+            reservation_id: ReservationId::NONE,
             expires_at: 0,
             max_active_circuits: 0,
             max_bytes_per_circuit: 0,

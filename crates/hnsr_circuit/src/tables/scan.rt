@@ -51,7 +51,7 @@ pub struct WorkQuestion {
     pub id: u64,
 }
 
-// Two tests beside four counts: no value hangs on either.
+// Counts and tests of all records of a table, each read by a row of its own.
 #[derive(Clone, Copy, Default)]
 pub struct Work {
     pub used: usize,
@@ -163,10 +163,7 @@ pub(crate) fn work_on(
 fn earlier(due: Option<u64>, time: u64) -> Option<u64>
     ensures { result ≡ earlier due time }
 {
-    match due {
-        None => Some(time),
-        Some(before) => Some(before.min(time)),
-    }
+    Some(due.map_or(time, |before| before.min(time)))
 }
 
 #[tactic(auto, unfolding(crate::specs::NextDue::due_turn))]

@@ -68,6 +68,7 @@ pub(crate) fn at<R: TableRecord>(rows: &[R], number: usize, place: usize) -> R
     }
 }
 
+// By index: what `get_mut` says of the slice behind it the check does not find by itself.
 pub(crate) fn set<R: Copy>(rows: &mut [R], place: usize, row: R)
     ensures { rows.new ≡ set rows.old place row }
 {

@@ -307,9 +307,13 @@ pub(crate) fn usage_scanned(
     ensures scanned { result ≡ usage_scanned id scan row.now place }
     ensures more { result.used ≤ scan.used + 1 }
 {
-    let here = Found { place, row: *row };
+    let first = scan.found.is_none() && usage_is(row, id);
     LedgerScan {
-        found: scan.found.or(usage_is(row, id).then_some(here)),
+        found: if first {
+            Some(Found { place, row: *row })
+        } else {
+            scan.found
+        },
         used: one_more(scan.used, row.used),
         spare: first_place(scan.spare, !row.used, place),
         places: scan.places,

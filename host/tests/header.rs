@@ -142,6 +142,15 @@ fn the_sixteen_cases_by_c() {
     println!("compared: the sixteen cases by C with those of crates/cases");
 }
 
+/// Whole, and with two functions of C's library alone: a third would be missing.
+#[test]
+fn the_archive_needs_memcpy_and_memset_alone() {
+    let mut command = c();
+    command.args(["-ffreestanding", "-fno-builtin", "-nostdlib", "-static"]);
+    command.args(["-Wl,--entry=outside", "-Wl,--whole-archive"]);
+    compile(command, &here("tests/c/outside.c"), Some(&made("outside")));
+}
+
 /// A struct as src/ffi/layout.rs has it, which the crate's own tests hold to Rust's.
 struct Struct {
     name: String,

@@ -5,4 +5,5 @@ pub mod Bytes
 pub mod Words
 pub mod Cursor
 pub mod RoundTrip
+pub mod Answers
 pub mod Library

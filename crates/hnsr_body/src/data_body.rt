@@ -9,8 +9,11 @@ use crate::fields::{next_array, put_bytes_at, start};
 use crate::layout::{Read, answered, finish};
 use crate::values::MAX_WINDOW;
 
-// Its bytes are its body: it has sizes and a check, and no fields.
-pub struct DataBody;
+// Its bytes are its body, of which a value holds the length.
+#[derive(Clone, Copy)]
+pub struct DataBody {
+    pub length: usize,
+}
 
 #[repr(C)]
 #[derive(Clone, Copy)]

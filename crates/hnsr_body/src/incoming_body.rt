@@ -55,6 +55,8 @@ impl IncomingBody {
         }
     }
 
+    // Compiled into `decode` and `encode`: as a call it took a copy of the body.
+    #[inline(always)]
     #[tactic(auto, unfolding(crate::specs::Incoming::incoming_good))]
     fn is_valid(self) -> bool
         ensures { result ≡ incoming_good self }

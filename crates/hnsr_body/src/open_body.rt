@@ -59,6 +59,8 @@ impl OpenBody {
         }
     }
 
+    // Compiled into `decode` and `encode`: as a call it took a copy of the body.
+    #[inline(always)]
     #[tactic(auto, unfolding(crate::specs::Open::open_good))]
     fn is_valid(self, key_valid: bool) -> bool
         ensures { result ≡ open_good key_valid self }

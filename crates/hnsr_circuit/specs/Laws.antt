@@ -13,6 +13,7 @@ pub mod Sweep
 -- ---- answers and records
 pub mod Answers
 pub mod Peer
+pub mod Names
 pub mod Records
 pub mod Inflight
 pub mod Keys

@@ -83,7 +83,7 @@ impl From<HnsrRuntimeError> for u32 {
 
 impl HnsrRuntimeError {
     // Only a packet or a body that is refused has one: most answers do not become a cause, so it is no `From`.
-    pub fn cause(self) -> Cause
+    fn cause(self) -> Cause
         ensures { result ≡ error_cause self }
     {
         match self {

@@ -2,16 +2,24 @@
 -- so many bytes is, and that reading and writing undo one another.
 use Rattle.std.specs.Prelude.{ℕ, zero, suc, ◌+◌, ◌*◌, ◌/◌, ◌%◌, ◌^◌, ◌<◌, ◌≤◌, ◌≡◌}
 use Rattle.std.specs.Prelude.{refl, true, false, List, [], ◌∷◌, length, get_or, drop}
-use Rattle.std.proofs.Common.{pow-suc, mul_comm, mul_assoc, add-mul, mul-add, zero-mul}
-use Rattle.std.proofs.Common.{div-one, mod-eq_of_lt, le_of_suc-le-suc, not-suc-le-zero, add-one}
+use Rattle.std.proofs.Common.{pow-suc, mul-le-mul_right, mul_comm, mul_assoc, add-mul, mul-add, zero-mul}
+use Rattle.std.proofs.Common.{div-one, mod-eq_of_lt, lt_of_lt_of_le, le_of_suc-le-suc, not-suc-le-zero, add-one}
 use Rattle.std.proofs.Common.{arith, sym, ◌∙◌, ap, ap₂, eq-eqb, ne_eqb, lit<, drop_of_length-le, drop-cons}
-use Rattle.std.proofs.Math.Nat.{pow-succ', pow-zero, one-le-pow}
+use Rattle.std.proofs.Math.Nat.{pow-succ', pow-zero, pow-le-pow_right, one-le-pow}
 use Rattle.std.proofs.Math.Nat.{div-div-eq-div-mul, zero-div, mod-one}
 use Rattle.std.proofs.Math.Seq.{take-nil}
 use Rattle.std.proofs.Math.Arith.{mod-mul, digits_lt, digits_div}
 use Rattle.hns_encoding.specs.Bytes.{Below, le, le_bytes, be, be_from, be_bytes, all_zero}
 use Rattle.hns_encoding.specs.Cursor.{field}
 use Rattle.hns_encoding.specs.Laws.Lists.{field_step, field_past}
+
+-- ---- how large: a further digit, and what fits below another
+pub digit_below : (n m k : ℕ) → n < 256 ^ k → m < (n + 1) * 256 → m < 256 ^ (k + 1)
+digit_below n m k l h =
+    rw (add-one k, pow-suc) (lt_of_lt_of_le h (mul-le-mul_right 256 (omega arith)))
+
+pub below_more_digits : (n k j : ℕ) → n < 256 ^ k → k ≤ j → n < 256 ^ j
+below_more_digits n k j l h = lt_of_lt_of_le l (pow-le-pow_right (lit< tt) h)
 
 -- ---- a field as a number, by its first byte and the field behind it; past the end there are zeros
 le_next : (xs : List ℕ) (p w : ℕ) → le (field xs p (suc w)) ≡ get_or xs p 0 + 256 * le (field xs (suc p) w)
@@ -55,6 +63,24 @@ le_four (a ∷ b ∷ []) l = omega arith
 le_four (a ∷ b ∷ c ∷ []) l = omega arith
 le_four (a ∷ b ∷ c ∷ d ∷ []) l = omega arith
 le_four (a ∷ b ∷ c ∷ d ∷ e ∷ bs) l = absurd (omega arith)
+
+-- four bytes at a place as a number
+pub le_four_at : (xs : List ℕ) (p : ℕ)
+    → le (field xs p 4)
+    ≡ get_or xs p 0 + 256 * (get_or xs (p + 1) 0 + 256 * (get_or xs (p + 2) 0 + 256 * get_or xs (p + 3) 0))
+le_four_at xs p =
+    omega (
+      arith,
+      le_step xs p (p + 1) 3 4 refl refl,
+      le_step xs (p + 1) (p + 2) 2 3 (omega arith) refl,
+      le_step xs (p + 2) (p + 3) 1 2 (omega arith) refl,
+      le_step xs (p + 3) (p + 4) 0 1 (omega arith) refl,
+      le-none xs (p + 4) 0 refl,
+    )
+
+pub be-none : (n : ℕ) (xs : List ℕ) (p w : ℕ) → w ≡ 0 → be_from n (field xs p w) ≡ n
+unfolding be_from
+be-none n xs p w e = rw e
 
 -- ---- each byte of a number
 pub le_bytes-length : (w n : ℕ) → length (le_bytes w n) ≡ w

@@ -5,13 +5,16 @@ use Rattle.std.proofs.Common.{le_refl, zero-add, add-one, arith, sym, ◌∙◌,
 use Rattle.std.proofs.Common.{length-append, length-drop, drop_of_length-le, drop-cons, get_or-take, get_or-drop}
 use Rattle.std.proofs.Common.{take_all, length-take-le, take_at, drop_at, drop-drop, leb-true, leb-false}
 use Rattle.std.proofs.Math.Nat.{sub-zero, zero-sub, suc-sub-suc}
-use Rattle.std.proofs.Math.Seq.{take-nil, take-length, drop-append-add, paste, paste-suc}
+use Rattle.std.proofs.Math.Seq.{take-nil, take-length, drop-append-add, paste, paste-suc, paste-zero}
 use Rattle.std.proofs.lemmas.List.Edits.{length-paste, sets-eq}
 use Rattle.hns_encoding.specs.Bytes.{Below, padded}
 use Rattle.hns_encoding.specs.Cursor.{field, written_at}
 use Rattle.hns_encoding.specs.Laws.Tests.{split}
 
--- ---- a field, over its width: its first element and the field behind it; its length; its elements
+-- ---- a field, over its width: the same field; its first element and the field behind it; its length; its elements
+pub field-same : (xs : List ℕ) (p q v w : ℕ) → p ≡ q → v ≡ w → field xs p v ≡ field xs q w
+field-same xs p q v w e f = rw (e, f)
+
 pub field_step : (xs : List ℕ) (p w : ℕ) → p < length xs → field xs p (suc w) ≡ get_or xs p 0 ∷ field xs (suc p) w
 field_step xs p w l = rw (drop-cons xs p 0 l)
 
@@ -53,8 +56,11 @@ pub below-append : (n : ℕ) (xs ys : List ℕ) → Below n xs → Below n ys �
 below-append n [] ys h k = k
 below-append n (x ∷ xs) ys h k = (h.0, below-append n xs ys h.1 k)
 
--- ---- `ys` written into `xs` from a place on, one element a turn: one more, all
+-- ---- `ys` written into `xs` from a place on, one element a turn: nothing yet, one more, all
 module _ (xs : List ℕ) (at : ℕ) (ys : List ℕ) where
+  pub write_start : xs ≡ paste xs at ys 0
+  write_start = paste-zero xs at ys
+
   pub write_step : (now : List ℕ) (i v : ℕ) → at + i < length xs → i < length ys → v ≡ get_or ys i 0
       → now ≡ paste xs at ys i
       → set now (at + i) v ≡ paste xs at ys (i + 1)

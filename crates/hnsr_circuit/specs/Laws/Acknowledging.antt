@@ -24,7 +24,7 @@ use Rattle.hnsr_circuit.specs.declared.answer.HnsrRuntimeError.{HnsrRuntimeError
 use Rattle.hnsr_circuit.specs.declared.answer.HnsrRuntimeError.TheVariants.{UnknownAction}
 use Rattle.hnsr_circuit.specs.Answers.{HnsrAnswer, ◌then◌}
 use Rattle.hnsr_circuit.specs.Runtime.{with_counters, count_revoked}
-use Rattle.hnsr_circuit.specs.Table.{any, pick, edit}
+use Rattle.hnsr_circuit.specs.Table.{any, pick, place_of, edit}
 use Rattle.hnsr_circuit.specs.Pending.{no_pending, pending_at, clear_pending}
 use Rattle.hnsr_circuit.specs.Inflight.{no_action, action_at, clear_action, kind_of}
 use Rattle.hnsr_circuit.specs.World.{World, done, world_of}
@@ -35,7 +35,7 @@ use Rattle.hnsr_circuit.specs.Revocation.{without_pending, error_to_requester, r
 use Rattle.hnsr_circuit.specs.Acknowledge.{action_answer, lower_for, released, fail_pending, fail_incoming}
 use Rattle.hnsr_circuit.specs.Acknowledge.{undelivered, settled, acknowledge_action}
 use Rattle.hnsr_circuit.specs.Code.Revoking.{error_out}
-use Rattle.hnsr_circuit.specs.Laws.Lookups.{found_is}
+use Rattle.hnsr_circuit.specs.Laws.Lookups.{found_is, pick_at}
 use Rattle.hnsr_circuit.specs.Laws.Edits.{edit-set}
 
 -- ---- the rows, with the action that its number finds
@@ -124,3 +124,18 @@ action-settled h p c l i generation sequence d c' i' f ef ei ec =
     ∙ ap (λ (n : ℕ). set i n (clear_action (get_or i n no_action))) (found_is q no_action i f ef).1
     ∙ sym (edit-set q clear_action no_action i) in
     λ x. settled (world_of h p (ec x) l (gone x)) f.row d
+
+-- the same of what a lookup gives, an action or none
+pub action-settled-any : (h : OpaqueRelayRuntime) (p : List RelayPending) (c : List RelayCircuit)
+    (l : List ReservationUsage) (i : List InflightAction) (generation sequence : ℕ) (d : Bool) (c' : List RelayCircuit)
+    (i' : List InflightAction) (a : InflightAction) → a ≡ pick (action_at generation sequence) no_action i
+    → i' ≡ set i (place_of (action_at generation sequence) i) (clear_action a)
+    → c' ≡ lower_for (kind_of a.kind) a c
+    → settled (world_of h p c' l i') a d ≡ acknowledge_action (world_of h p c l i) generation sequence d a
+unfolding acknowledge_action released
+action-settled-any h p c l i generation sequence d c' i' a ea ei ec =
+    let q = action_at generation sequence in
+    let gone = ei
+    ∙ ap (λ (x : InflightAction). set i (place_of q i) (clear_action x)) (ea ∙ sym (pick_at q no_action i))
+    ∙ sym (edit-set q clear_action no_action i) in
+    λ x. settled (world_of h p (ec x) l (gone x)) a d

@@ -41,7 +41,7 @@ use Rattle.hnsr_circuit.specs.Circuits.{credit_of, charged, raised, clear_circui
 use Rattle.hnsr_circuit.specs.Ledger.{no_usage, usage_at, spent}
 use Rattle.hnsr_circuit.specs.Inflight.{action_under, dropped, capacity_answer}
 use Rattle.hnsr_circuit.specs.Runtime.{with_counters, count_bytes, count_revoked}
-use Rattle.hnsr_circuit.specs.World.{refuse, world_of}
+use Rattle.hnsr_circuit.specs.World.{Outcome, refuse, world_of}
 use Rattle.hnsr_circuit.specs.Queue.{send}
 use Rattle.hnsr_circuit.specs.Packet.{sender, circuit_answer}
 use Rattle.hnsr_circuit.specs.Data.{bytes_answer, flow_answer, with_data}
@@ -52,12 +52,13 @@ use Rattle.hnsr_circuit.specs.Close.{detail_answer, close_answer, translated, cl
 use Rattle.hnsr_circuit.specs.Close.{close_pending, close_circuit, handle_close}
 use Rattle.hnsr_circuit.specs.Code.Lookup.{looked_up, pending_found, circuit_found}
 use Rattle.hnsr_circuit.specs.Code.Turns.{actions_scanned}
-use Rattle.hnsr_circuit.specs.Code.Progress.{message_of, packet_of, asking, ending}
+use Rattle.hnsr_circuit.specs.Code.Progress.{message_of, packet_of, asking, handed_back, ending}
 use Rattle.hnsr_circuit.specs.Code.Message.{own_circuit, passed_on, data_on, translated_on}
 use Rattle.hnsr_circuit.specs.Code.Plans.{found_then, booked_for, data_planned_on, data_planned}
 use Rattle.hnsr_circuit.specs.Code.Plans.{window_planned_on, window_planned, closing_message, close_planned}
 use Rattle.hnsr_circuit.specs.Code.Plans.{pending_closed, circuits_closed}
-use Rattle.hnsr_circuit.specs.Laws.Answers.{check-taken, then_taken}
+use Rattle.hnsr_circuit.specs.Laws.Answers.{check-taken, then_taken, stop, stop-two}
+use Rattle.hnsr_circuit.specs.Laws.Calls.{turned_away}
 use Rattle.hnsr_circuit.specs.Laws.Lookups.{pick_at, any-count, none-count}
 use Rattle.hnsr_circuit.specs.Laws.Edits.{edit-set, edit-none}
 use Rattle.hnsr_circuit.specs.Laws.Queueing.{and-ok, and-err, ok-same}
@@ -87,25 +88,46 @@ last-taken (Ok _) (Ok _) c d h = (then_taken c d h).1
 last-taken (Ok _) (Err e) c d h = cc
 last-taken (Err e) b c d h = cc
 
+-- two rows that refuse are the answer, whatever is behind them
+rows-stop : (a b z : HnsrAnswer) (e : HnsrRuntimeError) → (a then b) ≡ Err e → (a then b then z) ≡ Err e
+rows-stop (Ok _) (Ok _) z e h = cc
+rows-stop (Ok _) (Err d) z e h = h
+rows-stop (Err d) b z e h = h
+
 -- ---- rows that find something
 kept : {A B : Type 0} (a : HnsrAnswer) (x : A) (k : A → Result B HnsrRuntimeError)
     → found_then (result_and a (Ok x)) k ≡ result_and a (k x)
 kept (Ok _) x k = refl
 kept (Err e) x k = refl
 
-own-at : {B : Type 0} (b : Bool) (f : Found RelayCircuit) (peer : HnsrPeerId)
+pub own-at : {B : Type 0} (b : Bool) (f : Found RelayCircuit) (peer : HnsrPeerId)
     (k : Found RelayCircuit → Result B HnsrRuntimeError)
     → found_then (own_circuit (cond b (Some f) None) peer) k ≡ result_and (circuit_answer b f.row peer) (k f)
 unfolding circuit_answer
 own-at true f peer k = kept (check (not (is_side peer f.row)) WrongPeer) f k
 own-at false f peer k = refl
 
-booked-at : {B : Type 0} (b : Bool) (f : Found ReservationUsage) (c : RelayCircuit) (n : ℕ)
+pub booked-at : {B : Type 0} (b : Bool) (f : Found ReservationUsage) (c : RelayCircuit) (n : ℕ)
     (k : Found ReservationUsage → Result B HnsrRuntimeError)
     → found_then (booked_for (cond b (Some f) None) c n) k ≡ result_and (bytes_answer b f.row c n) (k f)
 unfolding bytes_answer
 booked-at true f c n k = kept (bytes_answer true f.row c n) f k
 booked-at false f c n k = refl
+
+-- the code's row of the circuit, behind another one, refuses as the definition's does
+own-stops : (a : HnsrAnswer) (b : Bool) (f : Found RelayCircuit) (peer : HnsrPeerId) (x : HnsrRuntimeError)
+    → result_and a (own_circuit (cond b (Some f) None) peer) ≡ Err x → (a then circuit_answer b f.row peer) ≡ Err x
+unfolding circuit_answer
+own-stops (Ok _) true f peer x h = and-err (check (not (is_side peer f.row)) WrongPeer) f x h
+own-stops (Ok _) false f peer x h = cc
+own-stops (Err e) b f peer x h = cc
+
+pub own_refused : (id : ℕ) (c : List RelayCircuit) (peer : HnsrPeerId) (a : HnsrAnswer) (x : HnsrRuntimeError)
+    → result_and a (own_circuit (circuit_found (circuit_at id) c) peer) ≡ Err x
+    → (a then circuit_answer (any (circuit_at id) c) (pick (circuit_at id) no_circuit c) peer) ≡ Err x
+own_refused id c peer a x h =
+    let at = circuit_at id in
+    own-stops a (any at c) (record { place = place_of at c; row = pick at no_circuit c }) peer x h
 
 -- ---- DATA
 module _ (h : OpaqueRelayRuntime) (c : List RelayCircuit) (l : List ReservationUsage) (i : List InflightAction)
@@ -143,7 +165,7 @@ module _ (h : OpaqueRelayRuntime) (c : List RelayCircuit) (l : List ReservationU
       then bytes_answer (any (usage_at data_circuit.reservation_id) l) data_usage.row data_circuit n
       then flow_answer h.config data_circuit data_side n
 
-  data_planned-is : data_planned h c l i q peer n ≡ result_and data_rows (Ok data_does)
+  pub data_planned-is : data_planned h c l i q peer n ≡ result_and data_rows (Ok data_does)
   unfolding data_planned
   data_planned-is =
       let at = circuit_at q.context_id in
@@ -158,6 +180,16 @@ module _ (h : OpaqueRelayRuntime) (c : List RelayCircuit) (l : List ReservationU
       ∙ rows-five sized own room (bytes_answer reserved data_usage.row data_circuit n)
       (flow_answer h.config data_circuit data_side n) (Ok data_does)
 
+  -- refused by the body or the circuit: ledger and actions are not read, whatever they hold
+  pub data_unread : (x : HnsrRuntimeError)
+      → (body_answer (data_checked n) then circuit_answer (any (circuit_at q.context_id) c)
+      (pick (circuit_at q.context_id) no_circuit c) peer) ≡ Err x
+      → data_planned h c l i q peer n ≡ Err x
+  data_unread x t =
+      let own = circuit_answer (any (circuit_at q.context_id) c) data_circuit peer in
+      let stopped : data_rows ≡ Err x = rows-stop (body_answer (data_checked n)) own _ x t in
+      data_planned-is ∙ ap (λ (a : HnsrAnswer). result_and a (Ok data_does)) stopped
+
   module _ (plan : DataPlan) (ep : data_planned h c l i q peer n ≡ Ok plan) where
     data_rows-taken : data_rows ≡ Ok tt
     data_rows-taken = (and-ok _ _ plan (sym data_planned-is ∙ ep)).0
@@ -166,26 +198,26 @@ module _ (h : OpaqueRelayRuntime) (c : List RelayCircuit) (l : List ReservationU
     data_plan-is = ok-same _ plan (and-ok _ _ plan (sym data_planned-is ∙ ep)).1
 
     -- the actions were asked what the message asks, whatever was counted
-    data_scanned : (k : RuntimeCounters) → plan.scan ≡ actions_scanned (asking (with_counters h k) plan.message) i
+    pub data_scanned : (k : RuntimeCounters) → plan.scan ≡ actions_scanned (asking (with_counters h k) plan.message) i
     data_scanned k = rw (← data_plan-is)
 
 module _ (h : OpaqueRelayRuntime) (p : List RelayPending) (c : List RelayCircuit) (l : List ReservationUsage)
     (i : List InflightAction) (q : RelayPacket) (source body e rs : List ℕ) where
   -- the rows of the code are the definition's
-  data_rows-are : (let k = data_circuit h c l i q (peer_of source) (length body) in
+  pub data_rows-are : (let k = data_circuit h c l i q (peer_of source) (length body) in
       data_rows h c l i q (peer_of source) (length body)
       ≡ data_taken (world_of h p c l i) (packet_of q source body e rs) k (side_of (peer_of source) k) (length body))
   unfolding data_taken sender actions_scanned
   data_rows-are = refl
 
-  data_turned : (x : HnsrRuntimeError) → data_planned h c l i q (peer_of source) (length body) ≡ Err x
+  pub data_turned : (x : HnsrRuntimeError) → data_planned h c l i q (peer_of source) (length body) ≡ Err x
       → refuse (world_of h p c l i) x ≡ handle_data (world_of h p c l i) (packet_of q source body e rs)
   unfolding handle_data data_with sender
   data_turned x ep =
       turned _ _ _ x
       (sym data_rows-are ∙ and-err _ _ x (sym (data_planned-is h c l i q (peer_of source) (length body)) ∙ ep))
 
-  data_handled : (plan : DataPlan) → data_planned h c l i q (peer_of source) (length body) ≡ Ok plan
+  pub data_handled : (plan : DataPlan) → data_planned h c l i q (peer_of source) (length body) ≡ Ok plan
       → send (world_of (with_counters h (count_bytes (length body) h.counters)) p
       (set c plan.place (charged plan.side (length body) (get_or c plan.place no_circuit)))
       (set l plan.usage_place (spent (length body) (get_or l plan.usage_place no_usage))) i)
@@ -202,6 +234,34 @@ module _ (h : OpaqueRelayRuntime) (p : List RelayPending) (c : List RelayCircuit
         ← (edit-set (usage_at k.reservation_id) (spent n) no_usage l),
       )
       (passed _ _ _ (sym data_rows-are ∙ data_rows-taken h c l i q (peer_of source) n plan ep))
+
+  -- what a plan leaves, or its refusal
+  abbrev pub data_left : Result DataPlan HnsrRuntimeError → Outcome
+  data_left (Ok plan) =
+      send (world_of (with_counters h (count_bytes (length body) h.counters)) p
+      (set c plan.place (charged plan.side (length body) (get_or c plan.place no_circuit)))
+      (set l plan.usage_place (spent (length body) (get_or l plan.usage_place no_usage))) i)
+      (message_of plan.message body)
+  data_left (Err x) = refuse (world_of h p c l i) x
+
+  pub data_ends : (planned : Result DataPlan HnsrRuntimeError)
+      → data_planned h c l i q (peer_of source) (length body) ≡ planned
+      → data_left planned ≡ handle_data (world_of h p c l i) (packet_of q source body e rs)
+  data_ends (Ok plan) ep = data_handled plan ep
+  data_ends (Err x) ep = data_turned x ep
+
+  -- refused by its body or its circuit, whatever ledger and actions hold: all is as it was
+  pub data_unread_refused : (out : List ℕ) (a : HnsrAnswer) (r : Relayed)
+      → a ≡ (body_answer (data_checked (length body)) then circuit_answer (any (circuit_at q.context_id) c)
+      (pick (circuit_at q.context_id) no_circuit c) (peer_of source))
+      → taken a ≡ false → (r.state.runtime ≡ h) × (r.answer ≡ a) × (r.words ≡ 0)
+      → handed_back r p c l i out ≡ ending out (handle_data (world_of h p c l i) (packet_of q source body e rs))
+  unfolding handle_data data_with data_taken sender
+  data_unread_refused out a r ea t k =
+      let x = body_answer (data_checked (length body)) in
+      let y = circuit_answer (any (circuit_at q.context_id) c) (pick (circuit_at q.context_id) no_circuit c)
+      (peer_of source) in
+      turned_away h p c l i out r a _ _ k t (ea ∙ stop-two x y _ (ap taken (sym ea) ∙ t))
 
 -- the same of what the code's steps left
 module _ (a : Request) (c : List RelayCircuit) (l : List ReservationUsage) (i : List InflightAction) (n : ℕ)
@@ -297,7 +357,7 @@ module _ (h : OpaqueRelayRuntime) (c : List RelayCircuit) (i : List InflightActi
       then capacity_answer h.config (actions_scanned (asking h window_message_on) i).tally
       then credit_answer window_circuit window_side window_delta
 
-  window_planned-is : window_planned h c i q peer body ≡ result_and window_rows (Ok window_does)
+  pub window_planned-is : window_planned h c i q peer body ≡ result_and window_rows (Ok window_does)
   unfolding window_planned
   window_planned-is =
       let at = circuit_at q.context_id in
@@ -308,6 +368,16 @@ module _ (h : OpaqueRelayRuntime) (c : List RelayCircuit) (i : List InflightActi
       ∙ rows-four sized (circuit_answer (any at c) window_circuit peer)
       (capacity_answer h.config (actions_scanned (asking h window_message_on) i).tally)
       (credit_answer window_circuit window_side window_delta) (Ok window_does)
+
+  -- refused by the body or the circuit: the actions are not read, whatever they hold
+  pub window_unread : (x : HnsrRuntimeError)
+      → (body_answer (decode_window body).result then circuit_answer (any (circuit_at q.context_id) c)
+      (pick (circuit_at q.context_id) no_circuit c) peer) ≡ Err x
+      → window_planned h c i q peer body ≡ Err x
+  window_unread x t =
+      let own = circuit_answer (any (circuit_at q.context_id) c) window_circuit peer in
+      let stopped : window_rows ≡ Err x = rows-stop (body_answer (decode_window body).result) own _ x t in
+      window_planned-is ∙ ap (λ (a : HnsrAnswer). result_and a (Ok window_does)) stopped
 
   -- where the rows pass, the credit stays within the most
   rows-credit : window_rows ≡ Ok tt → credit_of (other_side window_side) window_circuit + window_delta ≤ most_window
@@ -329,10 +399,10 @@ module _ (h : OpaqueRelayRuntime) (c : List RelayCircuit) (i : List InflightActi
     window_plan-is = ok-same _ plan (and-ok _ _ plan (sym window_planned-is ∙ ep)).1
 
     -- the actions were asked what the message asks
-    window_scanned : plan.scan ≡ actions_scanned (asking h plan.message) i
+    pub window_scanned : plan.scan ≡ actions_scanned (asking h plan.message) i
     window_scanned = rw (← window_plan-is)
 
-    window_fits : credit_of (other_side plan.side) (get_or c plan.place no_circuit) + plan.delta < 4294967296
+    pub window_fits : credit_of (other_side plan.side) (get_or c plan.place no_circuit) + plan.delta < 4294967296
     window_fits =
         let there = rows-credit window_rows-taken in
         rw (← window_plan-is, pick_at (circuit_at q.context_id) no_circuit c) (omega (arith, there))
@@ -340,21 +410,21 @@ module _ (h : OpaqueRelayRuntime) (c : List RelayCircuit) (i : List InflightActi
 module _ (h : OpaqueRelayRuntime) (p : List RelayPending) (c : List RelayCircuit) (l : List ReservationUsage)
     (i : List InflightAction) (q : RelayPacket) (source body e rs : List ℕ) where
   -- the rows of the code are the definition's
-  window_rows-are : (let k = window_circuit h c i q (peer_of source) body in
+  pub window_rows-are : (let k = window_circuit h c i q (peer_of source) body in
       window_rows h c i q (peer_of source) body
       ≡ window_taken (world_of h p c l i) (packet_of q source body e rs) k (side_of (peer_of source) k)
       (decode_window body).body.credit_delta)
   unfolding window_taken sender actions_scanned
   window_rows-are = refl
 
-  window_turned : (x : HnsrRuntimeError) → window_planned h c i q (peer_of source) body ≡ Err x
+  pub window_turned : (x : HnsrRuntimeError) → window_planned h c i q (peer_of source) body ≡ Err x
       → refuse (world_of h p c l i) x ≡ handle_window (world_of h p c l i) (packet_of q source body e rs)
   unfolding handle_window window_with sender decode_window
   window_turned x ep =
       turned _ _ _ x
       (sym window_rows-are ∙ and-err _ _ x (sym (window_planned-is h c i q (peer_of source) body) ∙ ep))
 
-  window_handled : (plan : WindowPlan) → window_planned h c i q (peer_of source) body ≡ Ok plan
+  pub window_handled : (plan : WindowPlan) → window_planned h c i q (peer_of source) body ≡ Ok plan
       → send (world_of h p (set c plan.place (raised plan.side plan.delta (get_or c plan.place no_circuit))) l i)
       (message_of plan.message body)
       ≡ handle_window (world_of h p c l i) (packet_of q source body e rs)
@@ -368,6 +438,32 @@ module _ (h : OpaqueRelayRuntime) (p : List RelayPending) (c : List RelayCircuit
         ← (edit-set (circuit_at q.context_id) (raised side delta) no_circuit c),
       )
       (passed _ _ _ (sym window_rows-are ∙ window_rows-taken h c i q (peer_of source) body plan ep))
+
+  -- what a plan leaves, or its refusal
+  abbrev pub window_left : Result WindowPlan HnsrRuntimeError → Outcome
+  window_left (Ok plan) =
+      send (world_of h p (set c plan.place (raised plan.side plan.delta (get_or c plan.place no_circuit))) l i)
+      (message_of plan.message body)
+  window_left (Err x) = refuse (world_of h p c l i) x
+
+  pub window_ends : (planned : Result WindowPlan HnsrRuntimeError)
+      → window_planned h c i q (peer_of source) body ≡ planned
+      → window_left planned ≡ handle_window (world_of h p c l i) (packet_of q source body e rs)
+  window_ends (Ok plan) ep = window_handled plan ep
+  window_ends (Err x) ep = window_turned x ep
+
+  -- refused by its body or its circuit, whatever the actions hold: all is as it was
+  pub window_unread_refused : (out : List ℕ) (a : HnsrAnswer) (r : Relayed)
+      → a ≡ (body_answer (decode_window body).result then circuit_answer (any (circuit_at q.context_id) c)
+      (pick (circuit_at q.context_id) no_circuit c) (peer_of source))
+      → taken a ≡ false → (r.state.runtime ≡ h) × (r.answer ≡ a) × (r.words ≡ 0)
+      → handed_back r p c l i out ≡ ending out (handle_window (world_of h p c l i) (packet_of q source body e rs))
+  unfolding handle_window window_with window_taken sender
+  window_unread_refused out a r ea t k =
+      let x = body_answer (decode_window body).result in
+      let y = circuit_answer (any (circuit_at q.context_id) c) (pick (circuit_at q.context_id) no_circuit c)
+      (peer_of source) in
+      turned_away h p c l i out r a _ _ k t (ea ∙ stop-two x y _ (ap taken (sym ea) ∙ t))
 
 -- the same of what the code's steps left
 module _ (a : Request) (c : List RelayCircuit) (i : List InflightAction) (body : List ℕ)
@@ -481,7 +577,7 @@ module _ (p : List RelayPending) (c : List RelayCircuit) (q : RelayPacket) (sour
   circuit_message = passed_on q (pick (circuit_at q.context_id) no_circuit c) (peer_of source) Close
 
   -- the rows of the code are the definition's
-  close_rows-are : result_and (check (leb 2 (count naming p)) InvalidAdmission)
+  pub close_rows-are : result_and (check (leb 2 (count naming p)) InvalidAdmission)
       (closing_message q (peer_of source) (pending_found naming p) (circuit_found (circuit_at q.context_id) c))
       ≡ result_and (close_answer (count naming p) (circuit_answer (any (circuit_at q.context_id) c)
       (pick (circuit_at q.context_id) no_circuit c) (peer_of source)))
@@ -498,7 +594,7 @@ module _ (p : List RelayPending) (c : List RelayCircuit) (q : RelayPacket) (sour
       (own-at (any at c) (record { place = place_of at c; row = pick at no_circuit c }) (peer_of source)
       (λ f. Ok (passed_on q f.row (peer_of source) Close))))
 
-  close_planned-is : (h : OpaqueRelayRuntime) (l : List ReservationUsage) (i : List InflightAction) (e rs : List ℕ)
+  pub close_planned-is : (h : OpaqueRelayRuntime) (l : List ReservationUsage) (i : List InflightAction) (e rs : List ℕ)
       → close_planned p c q (peer_of source) body
       ≡ result_and (close_taken (world_of h p c l i) (packet_of q source body e rs))
       (Ok (cond (any naming p) pending_message circuit_message))
@@ -511,12 +607,12 @@ module _ (p : List RelayPending) (c : List RelayCircuit) (q : RelayPacket) (sour
       (Ok (cond (any naming p) pending_message circuit_message))
 
   module _ (h : OpaqueRelayRuntime) (l : List ReservationUsage) (i : List InflightAction) (e rs : List ℕ) where
-    close_turned : (x : HnsrRuntimeError) → close_planned p c q (peer_of source) body ≡ Err x
+    pub close_turned : (x : HnsrRuntimeError) → close_planned p c q (peer_of source) body ≡ Err x
         → refuse (world_of h p c l i) x ≡ handle_close (world_of h p c l i) (packet_of q source body e rs)
     unfolding handle_close
     close_turned x ep = turned _ _ _ x (and-err _ _ x (sym (close_planned-is h l i e rs) ∙ ep))
 
-    close_handled : (m : Outgoing) → close_planned p c q (peer_of source) body ≡ Ok m
+    pub close_handled : (m : Outgoing) → close_planned p c q (peer_of source) body ≡ Ok m
         → send (world_of (with_counters h (count_revoked h.counters)) (pending_closed (Ok m) q (peer_of source) p)
         (circuits_closed (Ok m) q (peer_of source) p c) l (dropped (action_under m.circuit_id) i)) (message_of m body)
         ≡ handle_close (world_of h p c l i) (packet_of q source body e rs)
@@ -533,6 +629,27 @@ module _ (p : List RelayPending) (c : List RelayCircuit) (q : RelayPacket) (sour
         (λ g. rw g (passed _ _ _ rows))
         (λ g. rw g (passed _ _ _ rows))))
         (λ f. rw (f, edit-none naming clear_pending p f) (passed _ _ _ rows)))
+
+    -- what a message leaves, or its refusal
+    abbrev pub close_left : Result Outgoing HnsrRuntimeError → Outcome
+    close_left (Ok m) =
+        send (world_of (with_counters h (count_revoked h.counters)) (pending_closed (Ok m) q (peer_of source) p)
+        (circuits_closed (Ok m) q (peer_of source) p c) l (dropped (action_under m.circuit_id) i)) (message_of m body)
+    close_left (Err x) = refuse (world_of h p c l i) x
+
+    pub close_ends : (closed : Result Outgoing HnsrRuntimeError) → close_planned p c q (peer_of source) body ≡ closed
+        → close_left closed ≡ handle_close (world_of h p c l i) (packet_of q source body e rs)
+    close_ends (Ok m) ep = close_handled m ep
+    close_ends (Err x) ep = close_turned x ep
+
+    -- refused by its body, whatever the records: all is as it was
+    pub detail_refused : (out : List ℕ) (a : HnsrAnswer) (r : Relayed) → a ≡ body_answer (decode_detail body).result
+        → taken a ≡ false → (r.state.runtime ≡ h) × (r.answer ≡ a) × (r.words ≡ 0)
+        → handed_back r p c l i out ≡ ending out (handle_close (world_of h p c l i) (packet_of q source body e rs))
+    unfolding handle_close close_taken detail_answer
+    detail_refused out a r ea t k =
+        turned_away h p c l i out r a _ _ k t
+        (ea ∙ stop (body_answer (decode_detail body).result) _ (ap taken (sym ea) ∙ t))
 
 -- the same of what the code's steps left
 module _ (a : Request) (p p' : List RelayPending) (c c' : List RelayCircuit) (body : List ℕ)

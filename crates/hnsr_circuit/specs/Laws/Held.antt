@@ -11,7 +11,7 @@ use Rattle.std.specs.Prelude.{Option, None, Some}
 use Rattle.std.specs.List.{AllWithin, HoldsAt, filter}
 use Rattle.std.proofs.lemmas.Iterator.{index_from_first}
 use Rattle.std.proofs.lemmas.List.{take_min, get_or_past, set_past, get_or-reverse, get_or-take, length-take}
-use Rattle.std.proofs.lemmas.List.{length-reverse}
+use Rattle.std.proofs.lemmas.List.{length-reverse, get_or_default}
 use Rattle.std.proofs.Common.{drop_of_length-le}
 use Rattle.hns_encoding.specs.Laws.Tests.{split}
 use Rattle.hns_encoding.specs.Loops.{fold_from, fold_done, map-done, in_range}
@@ -93,7 +93,7 @@ module _ {A : Type 0} (unmark : A → A) where
   place-taken p (suc n) (x ∷ xs) l =
       split (p x) (λ e. rw e) (λ e. let k = rw e at l in rw e (ap suc (place-taken p n xs (le_of_suc-le-suc k))))
 
-  place-past : (p : A → Bool) → ((a : A) → p (unmark a) ≡ false) → (n : ℕ) (t : List A)
+  pub place-past : (p : A → Bool) → ((a : A) → p (unmark a) ≡ false) → (n : ℕ) (t : List A)
       → place_of p (take n t) ≡ length (take n t) → place_of p (held unmark n t) ≡ length t
   place-past p off zero [] h = refl
   place-past p off (suc n) [] h = refl
@@ -166,7 +166,7 @@ module _ {A : Type 0} (unmark : A → A) where
           rw (any-below p (take n t) (rw e h.0), e)
 
   -- a question of unused records stops at the number at most
-  place-on : (p : A → Bool) → ((a : A) → p (unmark a) ≡ true) → (n : ℕ) (t : List A)
+  pub place-on : (p : A → Bool) → ((a : A) → p (unmark a) ≡ true) → (n : ℕ) (t : List A)
       → place_of p (take n t) ≡ place_of p (held unmark n t)
   place-on p on zero [] = refl
   place-on p on (suc n) [] = refl
@@ -323,7 +323,7 @@ module _ {A : Type 0} (unmark : A → A) where
       one-unmarked : cleared unmark p (unmark x) ≡ unmark x
       one-unmarked = split (p (unmark x)) (λ e. rw e (twice x)) (λ e. rw e)
 
-  clear_held : (p : A → Bool) → ((a : A) → unmark (unmark a) ≡ unmark a) → (n : ℕ) (t : List A)
+  pub clear_held : (p : A → Bool) → ((a : A) → unmark (unmark a) ≡ unmark a) → (n : ℕ) (t : List A)
       → held unmark n (clear unmark p (take n t) ++ drop n t) ≡ clear unmark p (held unmark n t)
   clear_held p twice zero t =
       held_none t ∙ sym (clear-unmarked p twice t) ∙ ap (clear unmark p) (sym (held_none t))
@@ -382,7 +382,7 @@ module _ {A : Type 0} (unmark : A → A) where
 
   -- ---- the number lowered past unused places, or places past the end
   module _ (used : A → Bool) (still : (a : A) → used a ≡ false → unmark a ≡ a) where
-    lower-past : (m n : ℕ) (t : List A) → m ≤ n
+    pub lower-past : (m n : ℕ) (t : List A) → m ≤ n
         → ((j : ℕ) (d : A) → m ≤ j → j < n → j < length t → used (get_or t j d) ≡ false)
         → held unmark m t ≡ held unmark n t
     lower-past m n [] l h = refl
@@ -395,6 +395,15 @@ module _ {A : Type 0} (unmark : A → A) where
         ap {B = List A} (λ (r : List A). x ∷ r)
         (lower-past m n xs (le_of_suc-le-suc l)
         (λ j d a b c. h (suc j) d (omega arith) (omega arith) (omega arith)))
+
+    -- past one
+    pub lower-step : (n : ℕ) (t : List A) (d : A) (r : List A) → 0 < n → used (get_or t (n - 1) d) ≡ false
+        → held unmark n t ≡ r → held unmark (n - 1) t ≡ r
+    lower-step n t d r l u h =
+        lower-past (n - 1) n t (omega arith)
+        (λ j e a b c. let same : j ≡ n - 1 = omega arith in
+        ap used (get_or_default t j e d c ∙ ap (λ (i : ℕ). get_or t i d) same) ∙ u)
+        ∙ h
 
     -- as many as `position` finds from the end on
     pub lowered : (n : ℕ) (t : List A) (r : Option ℕ)

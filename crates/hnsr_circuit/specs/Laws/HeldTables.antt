@@ -41,6 +41,7 @@ use Rattle.hnsr_circuit.specs.Inflight.{is_action, action_at, clear_action}
 use Rattle.hnsr_circuit.specs.Code.Turns.{actions_scanned, no_scan, first_place, numbered, scanned, pending_worked}
 use Rattle.hnsr_circuit.specs.Code.Turns.{circuit_worked, totalled, usage_scanned, scan_ended, ledger_ended}
 use Rattle.hnsr_circuit.specs.Code.Turns.{no_totals, ledger_asked, no_ledger_scan}
+use Rattle.hnsr_circuit.specs.NextDue.{due_turn, deadline_of, expiry_of, usage_expiry_of}
 use Rattle.hnsr_circuit.specs.Status.{circuit_totals}
 use Rattle.hnsr_circuit.specs.Code.Held.{held, held_pending, held_circuits}
 use Rattle.hnsr_circuit.specs.Code.Held.{held_actions}
@@ -128,6 +129,21 @@ module _ (q : WorkQuestion) where
   pub circuit-idle : (w : Work) (c : RelayCircuit) (i : ℕ) → circuit_worked q w (clear_circuit c) i ≡ w
   unfolding is_circuit
   circuit-idle w c i = refl
+
+pub pending-due-idle : (d : Option ℕ) (p : RelayPending) (i : ℕ)
+    → due_turn is_pending deadline_of d (clear_pending p) i ≡ d
+unfolding due_turn is_pending
+pending-due-idle d p i = refl
+
+pub circuit-due-idle : (d : Option ℕ) (c : RelayCircuit) (i : ℕ)
+    → due_turn is_circuit expiry_of d (clear_circuit c) i ≡ d
+unfolding due_turn is_circuit
+circuit-due-idle d c i = refl
+
+pub usage_due_idle : (d : Option ℕ) (u : ReservationUsage) (i : ℕ)
+    → due_turn is_usage usage_expiry_of d (clear_usage u) i ≡ d
+unfolding due_turn is_usage
+usage_due_idle d u i = refl
 
 -- a sum that has not gone past its top
 totals_idle : (t : CircuitTotals) (c : RelayCircuit) (i : ℕ) → t.queued_bytes ≤ top 64

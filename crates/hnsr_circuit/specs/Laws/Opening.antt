@@ -1,6 +1,6 @@
 -- What the code of ACCEPT and OPEN writes where it goes on is the definition's world, while a refusal leaves everything
 -- as it was.
-use Rattle.std.specs.Prelude.{ℕ, zero, suc, ◌+◌, ◌*◌, ◌/◌, ◌≤◌, ◌<◌, ◌≡◌, Bool, true, false, cond, Result, Ok, Err}
+use Rattle.std.specs.Prelude.{ℕ, zero, suc, ◌+◌, ◌*◌, ◌-◌, ◌/◌, ◌≤◌, ◌<◌, ◌≡◌, Bool, true, false, cond, Result, Ok, Err}
 use Rattle.std.specs.Prelude.{not, ◌&&◌, Option, Some, None, is_none, unwrap_or, ◌≢◌}
 use Rattle.std.specs.Option.{ok_or, option_map}
 use Rattle.std.specs.Result.{result_and}
@@ -13,14 +13,14 @@ use mathlib.Core.List.{List, [], ◌∷◌, map}
 use Rattle.std.specs.Simd.{first_chunks}
 use Rattle.std.proofs.lemmas.List.{at_drop_more}
 use Rattle.std.proofs.Math.ListN.{length-take, length-drop}
-use Rattle.hns_encoding.specs.Numbers.{saturating_add}
+use Rattle.hns_encoding.specs.Numbers.{top, saturating_add}
 use Rattle.hns_encoding.specs.Bytes.{be, be_from}
 use Rattle.std.specs.Int.{w64, from_be_bytes}
 use Rattle.hns_encoding.specs.Sums.{non, count}
 use Rattle.hns_encoding.specs.Laws.Tests.{split, choose, both, neither}
 use Rattle.hnsr_body.specs.declared.accept_body.AcceptBody.{AcceptBody}
 use Rattle.hnsr_body.specs.declared.layout.Read.{Read}
-use Rattle.hnsr_body.specs.Accept.{decode_accept, opened_bytes}
+use Rattle.hnsr_body.specs.Accept.{decode_accept, accept_fields, opened_bytes}
 use Rattle.hnsr_body.specs.Open.{decode_open, open_fields}
 use Rattle.hnsr_body.specs.Incoming.{incoming_bytes}
 use Rattle.hnsr_circuit.specs.declared.runtime.RelayPacket.{RelayPacket}
@@ -44,7 +44,7 @@ use Rattle.hnsr_circuit.specs.declared.tables.scan.ActionQuestion.{ActionQuestio
 use Rattle.hnsr_circuit.specs.declared.tables.scan.ActionScan.{ActionScan}
 use Rattle.hnsr_circuit.specs.declared.tables.scan.LedgerScan.{LedgerScan}
 use Rattle.hnsr_circuit.specs.Table.{any, pick, place_of, place_in, put, edit}
-use Rattle.hnsr_circuit.specs.Answers.{HnsrAnswer, body_answer, ◌then◌}
+use Rattle.hnsr_circuit.specs.Answers.{HnsrAnswer, body_answer, taken, ◌then◌}
 use Rattle.hnsr_circuit.specs.Peer.{peer_of, same_peer}
 use Rattle.hnsr_circuit.specs.Pending.{no_pending, is_pending, pending_at, clear_pending}
 use Rattle.hnsr_circuit.specs.Ledger.{no_usage, is_usage, usage_at, clear_usage, fresh_usage}
@@ -52,7 +52,7 @@ use Rattle.hnsr_circuit.specs.Ledger.{has_usage, usage_of, lapsed, booked, ledge
 use Rattle.hnsr_circuit.specs.Circuits.{is_circuit, circuit_at}
 use Rattle.hnsr_circuit.specs.Inflight.{action_under, dropped, tallied, capacity_answer}
 use Rattle.hnsr_circuit.specs.Runtime.{with_counters, count_open, count_accept}
-use Rattle.hnsr_circuit.specs.World.{World, Outcome, refuse, world_of}
+use Rattle.hnsr_circuit.specs.World.{World, Outcome, refuse, proceed, world_of}
 use Rattle.hnsr_circuit.specs.Queue.{send}
 use Rattle.hnsr_circuit.specs.Counts.{pending_count, circuit_count, peer_work, reservation_work}
 use Rattle.hnsr_circuit.specs.Entry.{peer_answer}
@@ -70,7 +70,8 @@ use Rattle.hnsr_circuit.specs.Code.Opening.{accept_entry, accept_rows, accept_wo
 use Rattle.hnsr_circuit.specs.Code.Opening.{is_taken, first_draw, gathering, open_rows}
 use Rattle.hnsr_circuit.specs.Code.Opening.{open_plan, placed_plan, placed_rows}
 use Rattle.hnsr_circuit.specs.Code.Opening.{opening_of, incoming_out, booked_in, open_drawn}
-use Rattle.hnsr_circuit.specs.Code.Progress.{message_of, packet_of, asking, ending}
+use Rattle.hnsr_circuit.specs.Code.Plans.{found_then}
+use Rattle.hnsr_circuit.specs.Code.Progress.{message_of, packet_of, asking, handed_back, ending}
 use Rattle.hnsr_circuit.specs.Code.Question.{pending_work, circuit_work}
 use Rattle.hnsr_circuit.specs.Code.Turns.{actions_scanned, ledger_asked}
 use Rattle.hnsr_circuit.specs.Laws.Answers.{check-taken, then_taken}
@@ -79,7 +80,8 @@ use Rattle.hnsr_circuit.specs.Laws.Lookups.{found_is, place_none, pick-has, pick
 use Rattle.hnsr_circuit.specs.Laws.Marks.{room, put-new-same, put-old-same}
 use Rattle.hnsr_circuit.specs.Laws.Keys.{reservation-refl}
 use Rattle.hnsr_circuit.specs.Laws.Edits.{edit-set}
-use Rattle.hnsr_circuit.specs.Laws.Seen.{passed, turned, refused-seen}
+use Rattle.hnsr_circuit.specs.Laws.Calls.{turned_away}
+use Rattle.hnsr_circuit.specs.Laws.Seen.{passed, turned, refused-back, refused-seen}
 
 -- ---- a sum that stops at its top, against a number of 16 bits
 pub ltb_sum : (n a b : ℕ) → n < 65536 → ltb n (saturating_add 64 a b) ≡ ltb n (a + b)
@@ -91,6 +93,12 @@ pub leb_sum : (n a b : ℕ) → n < 65536 → leb n (saturating_add 64 a b) ≡ 
 leb_sum n a b h = split (leb n (a + b))
     (λ e. le-leb n (saturating_add 64 a b) (omega (arith, leb-true n (a + b) e)) ∙ sym e)
     (λ e. lt-leb n (saturating_add 64 a b) (omega (arith, leb-false n (a + b) e)) ∙ sym e)
+
+-- a sum over the top, by what is left below it
+pub ltb_less : (now n : ℕ) → now < 18446744073709551616 → ltb (top 64 - now) n ≡ ltb (top 64) (now + n)
+ltb_less now n h = split (ltb (top 64) (now + n))
+    (λ e. lt-ltb (top 64 - now) n (omega (arith, ltb-true (top 64) (now + n) e)) ∙ sym e)
+    (λ e. le-ltb (top 64 - now) n (omega (arith, ltb-false (top 64) (now + n) e)) ∙ sym e)
 
 -- ---- rows in front of others
 -- two answers that give a value are taken, and a refusal of theirs is that of all behind them
@@ -135,7 +143,7 @@ module _ (h : OpaqueRelayRuntime) (p : List RelayPending) (c : List RelayCircuit
       (rw e (ap Some j.1), rw (← j.1, e, j.0 _)))
       (λ e. let n = rw e at k in cc)
 
-  entry-turned : (x : HnsrRuntimeError) → accepting ≡ Err x → refuse (world_of h p c l i) x ≡ accepted
+  pub entry-turned : (x : HnsrRuntimeError) → accepting ≡ Err x → refuse (world_of h p c l i) x ≡ accepted
   unfolding handle_accept accept_with accept_taken sender decode_accept
   entry-turned x k =
       let row = pick (pending_at q.context_id) no_pending p in
@@ -182,7 +190,7 @@ module _ (h : OpaqueRelayRuntime) (p : List RelayPending) (c : List RelayCircuit
       let m = opened_message f.row b in
       rw (ec, ei, ep, ← unmarked id p f k) (passed w accept_left (send (with_accept w f.row b) m) t)
 
-  named-turned : (e : HnsrRuntimeError) → accept_left ≡ Err e
+  pub named-turned : (e : HnsrRuntimeError) → accept_left ≡ Err e
       → refuse (world_of h p c l i) e ≡ accept_named (world_of h p c l i) id f.row b
   unfolding accept_named pending_work circuit_work circuit_count reservation_work
   named-turned e t = turned _ _ _ e t
@@ -203,7 +211,7 @@ be_eight (a ∷ b ∷ c ∷ d ∷ e ∷ f ∷ g ∷ h ∷ []) l = omega arith
 be_eight (a ∷ b ∷ c ∷ d ∷ e ∷ f ∷ g ∷ h ∷ i ∷ js) l = omega arith
 
 -- the draws are the chunks of eight bytes
-chunks-drawn : (many : ℕ) (xs : List ℕ) → many * 8 ≤ length xs
+pub chunks-drawn : (many : ℕ) (xs : List ℕ) → many * 8 ≤ length xs
     → draws_from many xs ≡ map (from_be_bytes w64) (first_chunks 8 many xs)
 unfolding draws_from
 chunks-drawn zero xs l = refl
@@ -216,11 +224,24 @@ pub draws_are : (xs : List ℕ) → draws xs ≡ map (from_be_bytes w64) (first_
 unfolding draws
 draws_are xs = chunks-drawn (length xs / 8) xs (omega arith)
 
+pub draws-step : (xs : List ℕ) → 8 ≤ length xs → draws xs ≡ be (take 8 xs) ∷ draws (drop 8 xs)
+unfolding draws draws_from
+draws-step xs h =
+    let k = length-drop 8 xs in
+    let e : length xs / 8 ≡ suc (length (drop 8 xs) / 8) = omega arith in
+    ap (λ (n : ℕ). draws_from n xs) e
+
+pub draws-short : (xs : List ℕ) → length xs < 8 → draws xs ≡ []
+unfolding draws draws_from
+draws-short xs h =
+    let e : length xs / 8 ≡ 0 = omega arith in
+    ap (λ (n : ℕ). draws_from n xs) e
+
 -- what is drawn is no id yet
 abbrev DrawFree : (ℕ → Bool) → Option ℕ → Type 0
 DrawFree t d = is_none d ≡ false → t (unwrap_or d 0) ≡ false
 
-drawn-free : (t : ℕ → Bool) (n m : ℕ) (ids : List ℕ) → DrawFree t (draw_all t n m ids)
+pub drawn-free : (t : ℕ → Bool) (n m : ℕ) (ids : List ℕ) → DrawFree t (draw_all t n m ids)
 unfolding draw_all
 drawn-free t n m [] = λ e. absurd (true≢false e)
 drawn-free t n m (id ∷ ids) =
@@ -268,7 +289,7 @@ module _ (t : ℕ → Bool) (n m : ℕ) (chunks : List (List ℕ)) (i : ℕ) {r 
     fresh_drawn z y = rw (ne_eqb id 0 z, y) at step
 
 -- what is drawn is no id yet
-drawn_free : (p : List RelayPending) (c : List RelayCircuit) (ids : List ℕ) (id : ℕ)
+pub drawn_free : (p : List RelayPending) (c : List RelayCircuit) (ids : List ℕ) (id : ℕ)
     → draw_all (is_taken p c) 0 0 ids ≡ Some id → any (pending_at id) p ≡ false
 drawn_free p c ids id e =
     let free = rw e at (drawn-free (is_taken p c) 0 0 ids) in
@@ -287,7 +308,7 @@ module _ (t : RelayTicket) (l : List ReservationUsage) where
   abbrev booking : Found ReservationUsage
   booking = booked_in (ledger_asked t.reservation_id l) t
 
-  booked-is : (booking.place
+  pub booked-is : (booking.place
       ≡ cond (has_usage t.reservation_id l) (place_of (usage_at t.reservation_id) l) (place_of (non is_usage) l))
       × (booking.row ≡ pick (usage_at t.reservation_id) (fresh_usage t) l)
   booked-is = let p = usage_at t.reservation_id in split (any p l)
@@ -341,7 +362,7 @@ module _ (h : OpaqueRelayRuntime) (p : List RelayPending) (c : List RelayCircuit
     unfolding open_booked incoming_message with_open
     booked-goes p' f t ep = rw (ep, f) (passed _ _ _ (rw eu at t))
 
-    booked-turned : (e : HnsrRuntimeError) → usage_answer o.ticket u ≡ Err e
+    pub booked-turned : (e : HnsrRuntimeError) → usage_answer o.ticket u ≡ Err e
         → refuse (world_of h p c l i) e ≡ open_booked (world_of h p c l i) (opening_of o)
     unfolding open_booked
     booked-turned e t = turned _ _ _ e (rw eu at t)
@@ -359,7 +380,7 @@ module _ (h : OpaqueRelayRuntime) (p : List RelayPending) (c : List RelayCircuit
         then deadline_answer h.config now
         then ledger_answer found (count is_usage l) (length l)
 
-    rows-are : rows ≡ rows_of (has_usage o.ticket.reservation_id l)
+    pub rows-are : rows ≡ rows_of (has_usage o.ticket.reservation_id l)
     unfolding actions_scanned
     rows-are = split (has_usage o.ticket.reservation_id l) (λ e. rw e) (λ e. rw e)
 
@@ -377,7 +398,7 @@ module _ (h : OpaqueRelayRuntime) (p : List RelayPending) (c : List RelayCircuit
         let j = (then_taken late last (then_taken most (late then last) k).1).1 in
         (rw b (booked-found o.ticket l j), rw b (passed _ _ _ k))
 
-    drawn-turned : (e : HnsrRuntimeError) → rows ≡ Err e
+    pub drawn-turned : (e : HnsrRuntimeError) → rows ≡ Err e
         → refuse (world_of h p c l i) e ≡ open_drawn (world_of h p c l i) now (opening_of o)
     unfolding open_drawn
     drawn-turned e t = turned _ _ _ e (sym rows-are ∙ t)
@@ -389,6 +410,12 @@ unfolding pending_work circuit_work
 first_free r p c body endpoint rs id h = split (is_taken p c (first_draw rs))
     (λ e. let k = rw e at h in cc)
     (λ e. let k = rw e at h in let s : first_draw rs ≡ id = cc in rw (← s) e)
+
+-- whether the first draw is a record's id
+pub first_known : (r : Request) (p : List RelayPending) (c : List RelayCircuit) (body endpoint rs : List ℕ)
+    → is_none (gathering r body endpoint rs p c).free ≡ is_taken p c (first_draw rs)
+unfolding pending_work circuit_work
+first_known r p c body endpoint rs = split (is_taken p c (first_draw rs)) (λ e. rw e) (λ e. rw e)
 
 -- two answers and a draw, and what is behind them
 drawn-passed : (a b : HnsrAnswer) (d : Option ℕ) (f : ℕ → OpenPlan) (o : OpenPlan)
@@ -441,7 +468,7 @@ module _ (r : Request) (p : List RelayPending) (c : List RelayCircuit) (l : List
       let j = drawn-passed (peer_answer (length endpoint)) placing drawing (open_plan gathered) o k in
       (rw (← j.2) (drawn_free p c (draws rs) (unwrap_or drawing 0) j.1), rw (← j.2, ← er, j.0 _))
 
-  placed-turned : (e : HnsrRuntimeError) → placed_plan gathered drawing ≡ Err e
+  pub placed-turned : (e : HnsrRuntimeError) → placed_plan gathered drawing ≡ Err e
       → refuse given e ≡ open_lapsed given asks
   unfolding open_lapsed open_granted open_placed peer_of peer_work reservation_work pending_work circuit_work drawn
       id_taken decode_open sender
@@ -455,7 +482,7 @@ module _ (r : Request) (p : List RelayPending) (c : List RelayCircuit) (l : List
   unfolding handle_open open_admitted pending_count circuit_count peer_work pending_work circuit_work sender
   open-goes t = rw (← er) (passed _ _ _ t)
 
-  open-turned : (e : HnsrRuntimeError) → open_rows gathered ≡ Err e → refuse given e ≡ handle_open given asks
+  pub open-turned : (e : HnsrRuntimeError) → open_rows gathered ≡ Err e → refuse given e ≡ handle_open given asks
   unfolding handle_open open_admitted pending_count circuit_count peer_work pending_work circuit_work sender
   open-turned e t = rw (← er) (turned _ _ _ e t)
 
@@ -555,3 +582,122 @@ module _ (q : Request) (p : List RelayPending) (c : List RelayCircuit) (l : List
       (entry-turned s.runtime (held_pending s.places p) (held_circuits s.places c) (held_ledger s.places l)
       (held_actions s.places i) q.packet source body endpoint rs x
       (sym (λ j. accept_entry (en j) (eq j) q.packet.now (ed j)) ∙ sym ea ∙ ex))
+
+-- ---- all rows of a call as one: the code asks them in two parts
+-- what is found, and the rows behind it
+found-rows : {T : Type 0} (a b : HnsrAnswer) (x : T) (k : T → HnsrAnswer)
+    → found_then (result_and (a then b) (Ok x)) k ≡ (a then b then k x)
+found-rows (Ok _) (Ok _) x k = refl
+found-rows (Ok _) (Err e) x k = refl
+found-rows (Err e) b x k = refl
+
+none-rows : (row : RelayPending) (peer : HnsrPeerId) (now : ℕ) (z : HnsrAnswer)
+    → ◌≡◌ {A = HnsrAnswer} (Err UnknownRequest) (request_answer false row peer now then z)
+unfolding request_answer
+none-rows row peer now z = refl
+
+-- a refusal is of the first part, or of the second behind what the first gives
+refused-by : {T P : Type 0} (o : Result T HnsrRuntimeError) (k : T → HnsrAnswer) (x : HnsrRuntimeError)
+    → found_then o k ≡ Err x → (o ≡ Err x → P) → ((f : T) → o ≡ Ok f → k f ≡ Err x → P) → P
+refused-by (Ok f) k x h first behind = behind f refl h
+refused-by (Err e) k x h first behind = first cc
+
+-- ---- ACCEPT
+module _ (h : OpaqueRelayRuntime) (p : List RelayPending) (c : List RelayCircuit) (l : List ReservationUsage)
+    (i : List InflightAction) (q : RelayPacket) (source body e rs : List ℕ) where
+  abbrev pub accept_behind : Found RelayPending → HnsrAnswer
+  accept_behind f =
+      accept_rows h.config f.row (decode_accept body).body (pending_work (accept_work f.row) p)
+      (circuit_work (accept_work f.row) c) (tallied true q.context_id f.row.requester i)
+
+  abbrev pub accept_asked : HnsrAnswer
+  accept_asked =
+      found_then (accept_entry (pending_found (pending_at q.context_id) p) (peer_of source) q.now (decode_accept body))
+      accept_behind
+
+  -- they are the definition's
+  pub accept_taken_lem : accept_asked
+      ≡ accept_taken (world_of h p c l i) (packet_of q source body e rs) (pick (pending_at q.context_id) no_pending p)
+      (accept_fields body)
+  unfolding accept_taken pending_work circuit_work circuit_count reservation_work sender decode_accept
+  accept_taken_lem =
+      let at = pending_at q.context_id in
+      let row = pick at no_pending p in
+      split (any at p)
+      (λ f. rw f
+      (found-rows (request_answer true row (peer_of source) q.now) (body_answer (decode_accept body).result)
+      (record { place = place_of at p; row = row }) accept_behind))
+      (λ f. rw f (none-rows row (peer_of source) q.now _))
+
+  -- a refusal by any of them leaves all as it was
+  pub accept_rows_refused : (out : List ℕ) (a : HnsrAnswer) (r : Relayed) → a ≡ accept_asked → taken a ≡ false
+      → (r.state.runtime ≡ h) × (r.answer ≡ a) × (r.words ≡ 0)
+      → handed_back r p c l i out ≡ ending out (handle_accept (world_of h p c l i) (packet_of q source body e rs))
+  unfolding handle_accept accept_with
+  accept_rows_refused out a r ea t k = turned_away h p c l i out r a _ _ k t (ea ∙ accept_taken_lem)
+
+  -- what a taken ACCEPT leaves is the definition's world
+  pub accept_ends : (f : Found RelayPending) (p' : List RelayPending) (c' : List RelayCircuit)
+      (i' : List InflightAction)
+      → accept_entry (pending_found (pending_at q.context_id) p) (peer_of source) q.now (decode_accept body) ≡ Ok f
+      → accept_behind f ≡ Ok tt
+      → p' ≡ set p f.place (clear_pending (get_or p f.place no_pending))
+      → c' ≡ put is_circuit (circuit_at f.row.circuit_id) (circuit_for h.config f.row (decode_accept body).body) c
+      → i' ≡ dropped (action_under f.row.circuit_id) i
+      → send (world_of (with_counters h (count_accept h.counters)) p' c' l i')
+      (message_of (opened_out f.row) (opened_bytes (opened_for f.row (decode_accept body).body)))
+      ≡ handle_accept (world_of h p c l i) (packet_of q source body e rs)
+  accept_ends f p' c' i' k t ep ec ei =
+      let j = entry-found h p c l i q source body e rs f k in
+      named-goes h p c l i q.context_id f (decode_accept body).body p' c' i' j.0 t ep ec ei ∙ j.1
+
+-- ---- a placed OPEN
+module _ (r : Request) (p : List RelayPending) (c : List RelayCircuit) (l : List ReservationUsage)
+    (i : List InflightAction) (source body endpoint rs : List ℕ) (er : r.peer ≡ peer_of source) where
+  abbrev pub placed_behind : OpenPlan → HnsrAnswer
+  placed_behind o =
+      placed_rows r.state.runtime.config r.packet.now
+      (actions_scanned (asking r.state.runtime (incoming_out o)) i).tally (ledger_asked o.ticket.reservation_id l)
+
+  abbrev pub placed_asked : OpenGathered → Option ℕ → HnsrAnswer
+  placed_asked g d = found_then (placed_plan g d) placed_behind
+
+  -- a refusal by any of them leaves all as it was
+  pub lapsed_rows_refused : (g : OpenGathered) (d : Option ℕ) (out : List ℕ) (y : Relayed) (x : HnsrRuntimeError)
+      → g ≡ gathering r body endpoint rs p c → d ≡ draw_all (is_taken p c) 0 0 (draws rs) → placed_asked g d ≡ Err x
+      → (y.state.runtime ≡ r.state.runtime) × (y.answer ≡ Err x) × (y.words ≡ 0)
+      → handed_back y p c l i out
+      ≡ ending out (open_lapsed (world_of r.state.runtime p c l i) (packet_of r.packet source body endpoint rs))
+  lapsed_rows_refused g d out y x eg ed t k =
+      let h = r.state.runtime in
+      let w = world_of h p c l i in
+      let plan = placed_plan (gathering r body endpoint rs p c) (draw_all (is_taken p c) 0 0 (draws rs)) in
+      let same : refuse w x ≡ open_lapsed w (packet_of r.packet source body endpoint rs) =
+      refused-by plan placed_behind x (sym (λ j. placed_asked (eg j) (ed j)) ∙ t)
+      (λ f. placed-turned r p c l i source body endpoint rs er x f)
+      (λ o f s. drawn-turned h p c l i o r.packet.now x s ∙ (placed-goes r p c l i source body endpoint rs er o f).1) in
+      refused-back h p c l i out y x k ∙ ap (ending out) same
+
+  -- one that they take goes on with its ledger record booked
+  pub lapsed-ends : (o : OpenPlan) (l' : List ReservationUsage)
+      → placed_plan (gathering r body endpoint rs p c) (draw_all (is_taken p c) 0 0 (draws rs)) ≡ Ok o
+      → placed_behind o ≡ Ok tt → l' ≡ booked o.ticket l
+      → open_booked (world_of r.state.runtime p c l' i) (opening_of o)
+      ≡ open_lapsed (world_of r.state.runtime p c l i) (packet_of r.packet source body endpoint rs)
+  lapsed-ends o l' f t el =
+      (drawn-goes r.state.runtime p c l i o r.packet.now l' t (el ∙ sym (booked-set o.ticket l))).1
+      ∙ (placed-goes r p c l i source body endpoint rs er o f).1
+
+  -- the first stage: what it takes goes on, what it refuses does not
+  pub open_ends : (g : OpenGathered) (a : HnsrAnswer) (l' : List ReservationUsage)
+      → g ≡ gathering r body endpoint rs p c → a ≡ open_rows g → l' ≡ cond (taken a) (lapsed r.packet.now l) l
+      → (let w = world_of r.state.runtime p c l' i in
+      proceed w a (open_lapsed w (packet_of r.packet source body endpoint rs)))
+      ≡ handle_open (world_of r.state.runtime p c l i) (packet_of r.packet source body endpoint rs)
+  unfolding proceed
+  open_ends g (Ok _) l' eg ea el =
+      (λ j. open_lapsed (world_of r.state.runtime p c (el j) i) (packet_of r.packet source body endpoint rs))
+      ∙ open-goes r p c l i source body endpoint rs er (sym (ea ∙ ap (λ (y : OpenGathered). open_rows y) eg))
+  open_ends g (Err x) l' eg ea el =
+      (λ j. refuse (world_of r.state.runtime p c (el j) i) x)
+      ∙ open-turned r p c l i source body endpoint rs er x (sym (ea ∙ ap (λ (y : OpenGathered). open_rows y) eg))

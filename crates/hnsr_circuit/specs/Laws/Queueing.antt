@@ -1,16 +1,18 @@
 -- A message queued by the code is the definition's: the action put where `put` puts it, the route written, the sequence
 -- moved on; and what refuses it leaves everything as it was.
-use Rattle.std.specs.Prelude.{ℕ, ◌+◌, ◌≤◌, ◌<◌, ◌≡◌, Bool, cond, List, [], ◌∷◌, length, set, Result, Ok, Err}
+use Rattle.std.specs.Prelude.{ℕ, ◌+◌, ◌≤◌, ◌<◌, ◌≡◌, Bool, cond, List, [], ◌∷◌, eqb, length, set, Result, Ok}
+use Rattle.std.specs.Prelude.{Err, Option, None, Some}
 use Rattle.std.specs.Option.{option_or, unwrap_or, IfSome}
-use Rattle.std.specs.Prelude.{Option, None, Some}
 use Rattle.std.specs.Result.{result_and}
 use Rattle.std.proofs.Math.Path.{refl, ap}
 use Rattle.std.proofs.Common.{arith, sym, subst, ◌∙◌}
 use Rattle.hns_encoding.specs.Laws.Tests.{split}
 use Rattle.hns_encoding.specs.Sums.{non}
-use Rattle.std.proofs.Math.Bool.{true}
+use Rattle.std.proofs.Math.Bool.{true, false}
 use Rattle.std.proofs.lemmas.Bool.{false≢true}
-use Rattle.hns_encoding.specs.Numbers.{saturating_add}
+use Rattle.hns_encoding.specs.Numbers.{top, saturating_add}
+use Rattle.hnsr_body.specs.declared.error.HnsrInvalid.TheVariants.{ContextZero}
+use Rattle.hnsr_body.specs.declared.error.HnsrProtocolError.TheVariants.{Invalid}
 use Rattle.hns_encoding.specs.Words.{word_count}
 use Rattle.hns_encoding.specs.Cursor.{written}
 use Rattle.hnsr_circuit.specs.declared.records.RelayPending.{RelayPending}
@@ -25,12 +27,15 @@ use Rattle.hnsr_circuit.specs.declared.runtime.RelayState.{RelayState}
 use Rattle.hnsr_circuit.specs.declared.runtime.Relayed.{Relayed}
 use Rattle.hnsr_circuit.specs.declared.runtime.Sending.{Sending}
 use Rattle.hnsr_circuit.specs.declared.answer.HnsrRuntimeError.{HnsrRuntimeError}
+use Rattle.hnsr_circuit.specs.declared.answer.HnsrRuntimeError.TheVariants.{Protocol, GenerationExhausted}
+use Rattle.hnsr_circuit.specs.declared.config.OpaqueRelayConfig.{OpaqueRelayConfig}
+use Rattle.hnsr_circuit.specs.declared.tables.scan.InflightTally.{InflightTally}
 use Rattle.hnsr_circuit.specs.Pending.{clear_pending}
 use Rattle.hnsr_circuit.specs.Circuits.{clear_circuit}
 use Rattle.hnsr_circuit.specs.Ledger.{clear_usage}
-use Rattle.hnsr_circuit.specs.Inflight.{is_action, clear_action}
+use Rattle.hnsr_circuit.specs.Inflight.{is_action, clear_action, capacity_answer}
 use Rattle.hnsr_circuit.specs.Table.{any, place_of, place_in}
-use Rattle.hnsr_circuit.specs.Answers.{HnsrAnswer, taken}
+use Rattle.hnsr_circuit.specs.Answers.{HnsrAnswer, check, taken, ◌then◌}
 use Rattle.hnsr_circuit.specs.Runtime.{with_sequence}
 use Rattle.hnsr_circuit.specs.Route.{route_words, head_words}
 use Rattle.hnsr_circuit.specs.World.{World, Outcome, proceed, done, world_of}
@@ -41,6 +46,7 @@ use Rattle.hnsr_circuit.specs.Code.Progress.{message_of, asking, filled_to, plac
 use Rattle.hnsr_circuit.specs.Code.Progress.{advance, result, ending}
 use Rattle.hnsr_circuit.specs.Code.Held.{held, held_actions, state_seen, underway_seen, handed_seen}
 use Rattle.hnsr_circuit.specs.Code.Queueing.{queueing, Written}
+use Rattle.hnsr_circuit.specs.Laws.Answers.{check-taken, then_taken}
 use Rattle.hnsr_circuit.specs.Laws.Lookups.{place_none}
 use Rattle.hnsr_circuit.specs.Laws.Held.{length-held}
 use Rattle.hnsr_circuit.specs.Laws.HeldTables.{scan_upto}
@@ -63,6 +69,18 @@ and-err (Err d) x e h = cc
 
 pub ok-same : {X : Type 0} (x y : X) → ◌≡◌ {A = Result X HnsrRuntimeError} (Ok x) (Ok y) → x ≡ y
 ok-same x y h = cc
+
+-- a queued message found a sequence number
+pub queue-sequence : (before : HnsrAnswer) (c : OpaqueRelayConfig) (t : InflightTally) (sequence context : ℕ)
+    → taken (before then queue_answer c t sequence context) ≡ true → eqb sequence (top 64) ≡ false
+unfolding queue_answer
+queue-sequence before c t sequence context h =
+    let last = check (eqb sequence (top 64)) GenerationExhausted in
+    let rest = capacity_answer c t then last in
+    let all = check (eqb context 0) (Protocol (Invalid ContextZero)) then rest in
+    let a = (then_taken before all (taken_is (before then all) h)).1 in
+    let b = (then_taken (check (eqb context 0) (Protocol (Invalid ContextZero))) rest a).1 in
+    check-taken (eqb sequence (top 64)) GenerationExhausted (then_taken (capacity_answer c t) last b).1
 
 -- where the code puts an action is where `put` does: at the place that a lookup finds, else at the first unused one,
 -- and past the end where there is none

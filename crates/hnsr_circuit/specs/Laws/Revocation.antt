@@ -11,6 +11,7 @@ use Rattle.hnsr_circuit.specs.declared.records.RelayPending.{RelayPending}
 use Rattle.hnsr_circuit.specs.declared.records.RelayCircuit.{RelayCircuit}
 use Rattle.hnsr_circuit.specs.declared.records.InflightAction.{InflightAction}
 use Rattle.hnsr_circuit.specs.declared.output.queue.Outgoing.{Outgoing}
+use Rattle.hnsr_circuit.specs.declared.peer.HnsrPeerId.{HnsrPeerId}
 use Rattle.hnsr_circuit.specs.declared.tables.lookup.Found.{Found}
 use Rattle.hnsr_circuit.specs.declared.tables.places.Places.{Places}
 use Rattle.hnsr_circuit.specs.declared.tables.question.Revoking.{Revoking}
@@ -38,7 +39,8 @@ use Rattle.hnsr_circuit.specs.RevokingCalls.{close_to_other, disconnect_pending}
 use Rattle.hnsr_circuit.specs.Code.Held.{held, held_pending, held_circuits, held_ledger, held_actions, lent_seen}
 use Rattle.hnsr_circuit.specs.Code.Held.{underway_seen, sending_seen}
 use Rattle.hnsr_circuit.specs.Code.Progress.{message_of, filled_to, placed, Progress, progress, advanced, advance}
-use Rattle.hnsr_circuit.specs.Code.Revoking.{close_both, pending_closings, circuit_closings, circuit_notice}
+use Rattle.hnsr_circuit.specs.Code.Revoking.{error_out, close_out, close_side, tell_both, tell_other, close_both}
+use Rattle.hnsr_circuit.specs.Code.Revoking.{pending_closings, circuit_closings, circuit_notice}
 use Rattle.hnsr_circuit.specs.Code.Revoking.{told_too, told, ended, ending_pending, revoking_all}
 use Rattle.hnsr_circuit.specs.Code.Question.{pending_revoked, circuit_revoked}
 use Rattle.hnsr_circuit.specs.Code.Lookup.{circuit_found}
@@ -89,6 +91,17 @@ pending_told (Disconnected peer) w place =
 pending_told (Reservation id) w place = refl
 pending_told (Expired now) w place = refl
 
+-- with any notice, or on the disconnect of any peer
+pub both_told : (n : Notice) (w : World) (place : ℕ)
+    → told (tell_both n (pending_there w place)) (end_pending_there w place) ≡ revoke_pending n w place
+unfolding revoke_pending error_to_requester close_to_endpoint
+both_told n w place = refl
+
+pub other_told : (peer : HnsrPeerId) (w : World) (place : ℕ)
+    → told (tell_other peer (pending_there w place)) (end_pending_there w place) ≡ disconnect_pending peer w place
+unfolding pending_closings ending_pending
+other_told peer w place = pending_told (Disconnected peer) w place
+
 pub sides_told : (n : Notice) (w : World) (place : ℕ)
     → told (close_both n (circuit_there w place)) (end_circuit_there w place) ≡ revoke_circuit_there n w place
 unfolding revoke_circuit_there close_to
@@ -132,6 +145,58 @@ module _ (w u : World) (at : ℕ) (out : List ℕ) (n : Notice) (m : Outgoing) (
       ∙ ap
       (λ (k : Option Outgoing). advanced (progress w at out) (told_too n k (tell (message_of m (notice_body n)) u)))
       (sym e)
+
+-- the record at a place ended, and then all that is told of it, with any notice
+module _ (n : Notice) (place : ℕ) (h : OpaqueRelayRuntime) (p : List RelayPending) (c : List RelayCircuit)
+    (l : List ReservationUsage) (i : List InflightAction) (at : ℕ) (out : List ℕ) where
+  pub circuit-revoked : (first second : Message) (c' : List RelayCircuit) (i' : List InflightAction)
+      (h' : OpaqueRelayRuntime) → (let k = get_or c place no_circuit in
+      first ≡ message_of (close_side k k.requester) (notice_body n)
+      → second ≡ message_of (close_side k k.endpoint) (notice_body n)
+      → c' ≡ set c place (clear_circuit k) → i' ≡ dropped (action_under k.circuit_id) i
+      → h' ≡ with_counters h (count_revoked h.counters)
+      → advance (tell second) (advance (tell first) (progress (world_of h' p c' l i') at out))
+      ≡ advance (λ w. revoke_circuit_there n w place) (progress (world_of h p c l i) at out))
+  unfolding revoke_circuit_there end_circuit_there without_actions close_to
+  circuit-revoked first second c' i' h' e1 e2 ec ei eh =
+      let w = world_of h p c l i in
+      let k = get_or c place no_circuit in
+      (λ x. advance (tell (e2 x)) (advance (tell (e1 x)) (progress (world_of (eh x) p (ec x) l (ei x)) at out)))
+      ∙ sym
+      (advance_then (progress w at out) (tell (close_to n k.requester k.circuit_id) (end_circuit_there w place))
+      (tell (close_to n k.endpoint k.circuit_id)))
+
+  pub pending-revoked : (first second : Message) (p' : List RelayPending) (i' : List InflightAction)
+      (h' : OpaqueRelayRuntime) → (let k = get_or p place no_pending in
+      first ≡ message_of (error_out k) (notice_body n) → second ≡ message_of (close_out k) (notice_body n)
+      → p' ≡ set p place (clear_pending k) → i' ≡ dropped (action_under k.circuit_id) i
+      → h' ≡ with_counters h (count_revoked h.counters)
+      → advance (tell second) (advance (tell first) (progress (world_of h' p' c l i') at out))
+      ≡ advance (λ w. revoke_pending n w place) (progress (world_of h p c l i) at out))
+  unfolding revoke_pending end_pending_there without_actions error_to_requester close_to_endpoint
+  pending-revoked first second p' i' h' e1 e2 ep ei eh =
+      let w = world_of h p c l i in
+      let k = get_or p place no_pending in
+      (λ x. advance (tell (e2 x)) (advance (tell (e1 x)) (progress (world_of (eh x) (ep x) c l (ei x)) at out)))
+      ∙ sym
+      (advance_then (progress w at out) (tell (error_to_requester n k) (end_pending_there w place))
+      (tell (close_to_endpoint n k)))
+
+-- on the disconnect of any peer: the one message
+pub pending-disconnected : (peer : HnsrPeerId) (place : ℕ) (h : OpaqueRelayRuntime) (p : List RelayPending)
+    (c : List RelayCircuit) (l : List ReservationUsage) (i : List InflightAction) (at : ℕ) (out : List ℕ)
+    (first : Message) (p' : List RelayPending) (i' : List InflightAction) (h' : OpaqueRelayRuntime)
+    → (let k = get_or p place no_pending in
+    first ≡ message_of (tell_other peer k).first (notice_body PeerDisconnected)
+    → p' ≡ set p place (clear_pending k) → i' ≡ dropped (action_under k.circuit_id) i
+    → h' ≡ with_counters h (count_revoked h.counters)
+    → advance (tell first) (progress (world_of h' p' c l i') at out)
+    ≡ advance (λ w. disconnect_pending peer w place) (progress (world_of h p c l i) at out))
+unfolding end_pending_there without_actions
+pending-disconnected peer place h p c l i at out first p' i' h' e1 ep ei eh =
+    let w = world_of h p c l i in
+    (λ x. advance (tell (e1 x)) (progress (world_of (eh x) (ep x) c l (ei x)) at out))
+    ∙ ap (advanced (progress w at out)) (other_told peer w place)
 
 -- the record at a place unmarked, its actions dropped, its end counted, and the first message told
 module _ {A : Type 0} (unmark : A → A) (none : A) (id : A → ℕ) (in_use : Places → ℕ)
@@ -179,6 +244,10 @@ module _ (n : Notice) (w : World) (id : ℕ) where
       → revoke_circuit n w id ≡ revoke_circuit_there n w (place_of (circuit_at id) w.circuits)
   unfolding when
   revoked-found e = by_test true e
+
+  pub revoked-none : any (circuit_at id) w.circuits ≡ false → revoke_circuit n w id ≡ silently w
+  unfolding when
+  revoked-none e = by_test false e
 
   -- what a lookup finds
   pub found_told : (f : Found RelayCircuit) → circuit_found (circuit_at id) w.circuits ≡ Some f

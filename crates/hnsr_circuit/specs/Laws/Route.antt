@@ -1,9 +1,10 @@
 -- How many words: a route is its head and its body's (OUT.4), the head is 40 for peers of 128 bytes, and what the calls
 -- ask for follows from that (OUT.8). No notice of the relay's own is longer than was reckoned with.
-use Rattle.std.specs.Prelude.{ℕ, ◌+◌, ◌-◌, ◌≤◌, ◌<◌, ◌≡◌, refl, true, List, ◌++◌, length, take, replicate}
+use Rattle.std.specs.Prelude.{ℕ, ◌+◌, ◌-◌, ◌≤◌, ◌<◌, ◌≡◌, refl, true, false, List, ◌++◌, length, take}
+use Rattle.std.specs.Prelude.{replicate}
 use Rattle.std.proofs.Common.{arith, le-leb, sym, ap, ◌∙◌, take_at, length-append, length-drop}
 use Rattle.hns_encoding.specs.Cursor.{within, written, written_at}
-use Rattle.hns_encoding.specs.Laws.Tests.{on-true}
+use Rattle.hns_encoding.specs.Laws.Tests.{on-true, on-false}
 use Rattle.hns_encoding.specs.Laws.Lists.{written_behind, written-length}
 use Rattle.hns_encoding.specs.Bytes.{be_bytes, le_bytes, padded}
 use Rattle.hns_encoding.specs.Words.{words}
@@ -120,6 +121,10 @@ pub wrote_all : {xs now done : List ℕ} {at n : ℕ} → Wrote xs now done at n
 wrote_all {xs} {now} {done} {at} {n} w l =
     let size = w.size in
     w.same ∙ sym (on-true _ (written_at xs at done) xs (le-leb (at + length done) (length xs) (omega arith)))
+
+-- what does not fit is not written
+pub wrote_none : (xs ys : List ℕ) (at : ℕ) → within (length xs) at (length ys) ≡ false → xs ≡ written xs at ys
+wrote_none xs ys at h = sym (on-false _ (written_at xs at ys) xs h)
 
 -- how long a route and its parts are, for a tactic
 pub ruleset route_laws = (length-words, route-words, peer-words, packet-words, written-length)

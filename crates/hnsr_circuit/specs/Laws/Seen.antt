@@ -13,8 +13,9 @@ use Rattle.hnsr_circuit.specs.declared.runtime.Sending.{Sending}
 use Rattle.hnsr_circuit.specs.declared.answer.HnsrRuntimeError.{HnsrRuntimeError}
 use Rattle.hnsr_circuit.specs.Answers.{HnsrAnswer}
 use Rattle.hnsr_circuit.specs.Route.{out_words, output}
-use Rattle.hnsr_circuit.specs.World.{World, Outcome, refuse, done, proceed, with_runtime}
-use Rattle.hnsr_circuit.specs.Code.Progress.{filled_to, placed, Progress, progress, result, ending, outcome}
+use Rattle.hnsr_circuit.specs.World.{World, Outcome, refuse, done, proceed, world_of, with_runtime}
+use Rattle.hnsr_circuit.specs.Code.Progress.{filled_to, placed, Progress, progress, result, handed_back}
+use Rattle.hnsr_circuit.specs.Code.Progress.{ending, outcome}
 use Rattle.hnsr_circuit.specs.Code.Held.{state_seen, handed_seen, underway_seen}
 
 -- ---- a row
@@ -48,6 +49,14 @@ module _ (s : RelayState) (p : List RelayPending) (c : List RelayCircuit) (l : L
   unfolding filled_to placed
   taken-seen h =
       λ x. handed_seen (record { state = h.0 x; answer = h.1 x; words = h.2 x }) p c l i out
+
+-- of any tables that are handed back
+pub refused-back : (h : OpaqueRelayRuntime) (p : List RelayPending) (c : List RelayCircuit) (l : List ReservationUsage)
+    (i : List InflightAction) (out : List ℕ) (r : Relayed) (e : HnsrRuntimeError)
+    → (r.state.runtime ≡ h) × (r.answer ≡ Err e) × (r.words ≡ 0)
+    → handed_back r p c l i out ≡ ending out (refuse (world_of h p c l i) e)
+unfolding filled_to placed
+refused-back h p c l i out r e k = λ x. result (world_of (k.0 x) p c l i) (k.1 x) (k.2 x) out
 
 -- a state with another runtime
 pub moved-seen : (s t : RelayState) (h : OpaqueRelayRuntime) (p : List RelayPending) (c : List RelayCircuit)

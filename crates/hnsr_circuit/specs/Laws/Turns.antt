@@ -1,8 +1,9 @@
 -- What the scans of a table say as a whole, turn by turn.
-use Rattle.std.specs.Prelude.{ℕ, ◌+◌, min, ◌≡◌, refl, Bool, true, cond, ◌||◌, Option, None, Some, List, length}
+use Rattle.std.specs.Prelude.{ℕ, ◌+◌, ◌≤◌, min, ◌≡◌, refl, Bool, true, cond, ◌||◌, Option, None, Some, List, eqb}
+use Rattle.std.specs.Prelude.{length}
 use Rattle.std.proofs.Common.{zero-add, add-zero, arith, sym, ◌∙◌}
 use Rattle.std.proofs.Math.Path.{ap}
-use Rattle.std.proofs.Math.Bool.{false, or-false}
+use Rattle.std.proofs.Math.Bool.{false, and-false, or-false}
 use Rattle.hnsr_body.specs.declared.values.ReservationId.{ReservationId}
 use Rattle.hnsr_circuit.specs.declared.peer.HnsrPeerId.{HnsrPeerId}
 use Rattle.hnsr_circuit.specs.declared.records.RelayPending.{RelayPending}
@@ -15,18 +16,19 @@ use Rattle.hnsr_circuit.specs.declared.tables.scan.ActionQuestion.{ActionQuestio
 use Rattle.hnsr_circuit.specs.declared.tables.scan.ActionScan.{ActionScan}
 use Rattle.hnsr_circuit.specs.declared.records.ReservationUsage.{ReservationUsage}
 use Rattle.hns_encoding.specs.Numbers.{top}
-use Rattle.hns_encoding.specs.Laws.Tests.{split}
+use Rattle.hns_encoding.specs.Laws.Tests.{split, cond-le}
 use Rattle.hns_encoding.specs.Loops.{fold_from}
 use Rattle.hns_encoding.specs.Sums.{non, one, total, count}
-use Rattle.hnsr_circuit.specs.Table.{any, place_of, place_in, pick}
+use Rattle.hnsr_circuit.specs.Table.{also, any, place_of, place_in, pick}
+use Rattle.hnsr_circuit.specs.Peer.{same_peer}
 use Rattle.hnsr_circuit.specs.Pending.{is_pending, pending_at, pending_of, pending_under, requested_by}
 use Rattle.hnsr_circuit.specs.Circuits.{is_circuit, circuit_at, circuit_of, circuit_under, queued_in}
 use Rattle.hnsr_circuit.specs.Ledger.{no_usage, is_usage, usage_at}
-use Rattle.hnsr_circuit.specs.Inflight.{no_action, is_action, action_at}
+use Rattle.hnsr_circuit.specs.Inflight.{no_action, is_action, action_at, action_under, action_toward, retained}
 use Rattle.hnsr_circuit.specs.Code.Question.{pending_work, circuit_work}
-use Rattle.hnsr_circuit.specs.Code.Turns.{no_work, work_turn, never, pending_worked}
-use Rattle.hnsr_circuit.specs.Code.Turns.{circuit_worked, no_totals, totalled, tally_turn}
-use Rattle.hnsr_circuit.specs.Code.Turns.{no_scan, first_place, tally_on, numbered, scanned}
+use Rattle.hnsr_circuit.specs.Code.Turns.{no_work, work_on, WorkAtMost, work_turn, never, pending_worked}
+use Rattle.hnsr_circuit.specs.Code.Turns.{circuit_worked, no_totals, totalled, TallyAtMost, no_tally, tally_turn}
+use Rattle.hnsr_circuit.specs.Code.Turns.{no_scan, first_place, tally_on, numbered, scanned, replaced}
 use Rattle.hnsr_circuit.specs.Code.Turns.{ledger_asked, no_ledger_scan, usage_scanned, actions_scanned}
 use Rattle.hnsr_circuit.specs.Status.{circuit_totals}
 use Rattle.hnsr_circuit.specs.Laws.Folds.{fold_count, fold_stopping, fold_kept, fold_any, fold_first, or_nothing}
@@ -34,7 +36,28 @@ use Rattle.hnsr_circuit.specs.Laws.Inflight.{tally_fold}
 use Rattle.hnsr_circuit.specs.Laws.Scans.{fold_part, any-never}
 
 -- ---- how much work there is
+pub work_more : (m n : ℕ) (w : Work) → m ≤ n → WorkAtMost m w → WorkAtMost n w
+work_more m n w l h = record { used = omega arith; peer = omega arith; other = omega arith; under = omega arith }
+
+pub work_none : WorkAtMost 0 no_work
+work_none = record { used = omega arith; peer = omega arith; other = omega arith; under = omega arith }
+
 module _ {A : Type 0} (used peer other under again is : A → Bool) where
+  pub works : (w : Work) (x : A) (place : ℕ) → used x ≡ true → (a b c d e : Bool) → a ≡ peer x → b ≡ other x
+      → c ≡ under x → d ≡ again x → e ≡ is x
+      → (r : Work) → r ≡ work_on w a b c d e → r ≡ (work_turn used peer other under again is) w x place
+  works w x place u a b c d e ea eb ec ed ee r h = h ∙ rw (u, ea, eb, ec, ed, ee)
+
+  pub work_most : (n : ℕ) (w : Work) (x : A) (place : ℕ) → WorkAtMost n w
+      → WorkAtMost (n + 1) (work_turn used peer other under again is w x place)
+  work_most n w x place h =
+      let a = cond-le (peer x) in
+      let b = cond-le (other x) in
+      let c = cond-le (under x) in
+      split (used x)
+      (λ e. rw e (record { used = omega arith; peer = omega arith; other = omega arith; under = omega arith }))
+      (λ e. rw e (record { used = omega arith; peer = omega arith; other = omega arith; under = omega arith }))
+
   -- an unused record answers none of the questions
   module _ (np : (x : A) → used x ≡ false → peer x ≡ false) (no : (x : A) → used x ≡ false → other x ≡ false)
       (nu : (x : A) → used x ≡ false → under x ≡ false) (na : (x : A) → used x ≡ false → again x ≡ false)
@@ -90,12 +113,24 @@ module _ {A : Type 0} (used peer other under again is : A → Bool) where
     }
 
 module _ (q : WorkQuestion) where
+  pub pending-most : (n : ℕ) (w : Work) (p : RelayPending) (place : ℕ) → WorkAtMost n w
+      → WorkAtMost (n + 1) ((pending_worked q) w p place)
+  pending-most =
+      work_most is_pending (pending_of q.peer) (pending_of q.other) (pending_under q.reservation)
+      (requested_by q.peer q.context) (pending_at q.id)
+
   pub pending_work_lem : (t : List RelayPending) → fold_from (pending_worked q) t 0 no_work ≡ pending_work q t
   unfolding pending_work is_pending pending_of pending_under requested_by pending_at
   pending_work_lem t =
       work_fold is_pending (pending_of q.peer) (pending_of q.other) (pending_under q.reservation)
       (requested_by q.peer q.context) (pending_at q.id) (λ p e. rw e) (λ p e. rw e) (λ p e. rw e) (λ p e. rw e)
       (λ p e. rw e) t
+
+  pub circuit-most : (n : ℕ) (w : Work) (c : RelayCircuit) (place : ℕ) → WorkAtMost n w
+      → WorkAtMost (n + 1) ((circuit_worked q) w c place)
+  circuit-most =
+      work_most is_circuit (circuit_of q.peer) (circuit_of q.other) (circuit_under q.reservation) never
+      (circuit_at q.id)
 
   pub circuit_work_lem : (t : List RelayCircuit) → fold_from (circuit_worked q) t 0 no_work ≡ circuit_work q t
   unfolding circuit_work is_circuit circuit_of circuit_under circuit_at
@@ -114,6 +149,12 @@ totals_fold t = λ j. record {
 }
 
 -- ---- what a message asks of all actions
+pub tally_more : (m n : ℕ) (t : InflightTally) → m ≤ n → TallyAtMost m t → TallyAtMost n t
+tally_more m n t l h = record { all = omega arith; circuit = omega arith; peer = omega arith }
+
+pub tally-none : TallyAtMost 0 no_tally
+tally-none = record { all = omega arith; circuit = omega arith; peer = omega arith }
+
 -- a tally to which nothing is added
 adds_none : (t : InflightTally)
     → t ≡ record { total = t.total + 0; for_circuit = t.for_circuit + 0; for_peer = t.for_peer + 0 }
@@ -123,7 +164,7 @@ adds_none t = λ j. record {
   for_peer = sym (add-zero t.for_peer) j;
 }
 
-in-place : {A : Type 0} (p : A → Bool) (t : List A) → cond (any p t) (Some (0 + place_of p t)) None ≡ place_in p t
+pub in-place : {A : Type 0} (p : A → Bool) (t : List A) → cond (any p t) (Some (0 + place_of p t)) None ≡ place_in p t
 in-place p t = ap (λ (n : ℕ). cond (any p t) (Some n) None) (zero-add (place_of p t))
 
 -- a used action is no unused place
@@ -140,9 +181,48 @@ unfolding tally_turn
 tally_anywhere replacing id peer t a place = refl
 
 module _ (q : ActionQuestion) where
+  pub tally-most : (n : ℕ) (t : InflightTally) (a : InflightAction) (place : ℕ) → TallyAtMost n t
+      → TallyAtMost (n + 1) ((tally_on q) t a place)
+  unfolding tally_turn
+  tally-most n t a place h = record {
+    all = omega (arith, cond-le (retained q.replacing q.circuit_id a));
+    circuit =
+        omega (arith, cond-le (also (retained q.replacing q.circuit_id) (action_under q.circuit_id) a));
+    peer = omega (arith, cond-le (also (retained q.replacing q.circuit_id) (action_toward q.peer) a));
+  }
+
+  pub tally-counts : (t : InflightTally) (a : InflightAction) (place : ℕ) → a.used ≡ true → (replaced q) a ≡ false
+      → record {
+        total = t.total + 1;
+        for_circuit = t.for_circuit + cond (eqb a.circuit_id q.circuit_id) 1 0;
+        for_peer = t.for_peer + cond (same_peer a.destination q.peer) 1 0;
+      }
+      ≡ (tally_on q) t a place
+  unfolding tally_turn action_under action_toward
+  tally-counts t a place u e = rw (u, e)
+
+  pub tally_replaces : (t : InflightTally) (a : InflightAction) (place : ℕ) → (replaced q) a ≡ true
+      → t ≡ (tally_on q) t a place
+  unfolding tally_turn
+  tally_replaces t a place e = rw (e, and-false a.used) (adds_none t)
+
   tally-passes : (t : InflightTally) (a : InflightAction) (place : ℕ) → a.used ≡ false → t ≡ (tally_on q) t a place
   unfolding tally_turn
   tally-passes t a place u = rw u (adds_none t)
+
+  -- a used action is no spare place
+  pub scan_used : (s : ActionScan) (a : InflightAction) (place : ℕ) → a.used ≡ true
+      → scanned q s a place
+      ≡ record {
+        tally = tally_on q s.tally a place;
+        found = first_place s.found (numbered q a) place;
+        spare = s.spare;
+      }
+  scan_used s a place u = λ j. record {
+    tally = tally_on q s.tally a place;
+    found = first_place s.found (numbered q a) place;
+    spare = used_spare s.spare a place u j;
+  }
 
   -- an unused action has no number and is counted nowhere
   pub scan_unused : (s : ActionScan) (a : InflightAction) (place : ℕ) → a.used ≡ false

@@ -16,7 +16,7 @@ least-min m n =
     split (leb m n) (λ e. rw e (omega (arith, leb-true m n e))) (λ e. rw e (omega (arith, leb-false m n e)))
 
 -- of two ids that may be there the lesser
-abbrev least_of : Option ℕ → Option ℕ → Option ℕ
+abbrev pub least_of : Option ℕ → Option ℕ → Option ℕ
 least_of None n = n
 least_of (Some m) None = Some m
 least_of (Some m) (Some n) = Some (lesser m n)
@@ -31,7 +31,7 @@ least-three (Some k) None c = refl
 least-three (Some k) (Some m) None = refl
 least-three (Some k) (Some m) (Some n) = ap (λ (i : ℕ). Some i) (simp least-min (omega arith))
 
-abbrev id_in : Option Walked → Option ℕ
+abbrev pub id_in : Option Walked → Option ℕ
 id_in None = None
 id_in (Some r) = Some r.id
 
@@ -62,13 +62,13 @@ module _ {A : Type 0} (id_of : A → ℕ) (p : A → Bool) (c : Option Walked) w
   ahead x i h n = not-behind c (id_of x) i (sym (ap (λ v. v && up_to c (id_of x)) h) ∙ n)
 
   -- the least id of those that have p, if one has
-  abbrev lowest_in : List A → Option ℕ
+  abbrev pub lowest_in : List A → Option ℕ
   lowest_in t = cond (any p t) (Some (lowest p id_of t)) None
 
   lowest-here : (x : A) (xs : List A) → p x ≡ true → lowest_in (x ∷ xs) ≡ least_of (Some (id_of x)) (lowest_in xs)
   lowest-here x xs h = rw h (split (any p xs) (λ e. rw e) (λ e. rw e))
 
-  lowest-from : (xs : List A) (i : ℕ) (best : Option Walked) → any behind xs ≡ false
+  pub lowest-from : (xs : List A) (i : ℕ) (best : Option Walked) → any behind xs ≡ false
       → id_in (fold_from (next_turn id_of p c) xs i best) ≡ least_of (id_in best) (lowest_in xs)
   unfolding fold_from
   lowest-from [] i best n = least-nothing (id_in best)
@@ -91,7 +91,7 @@ module _ {A : Type 0} (id_of : A → ℕ) (p : A → Bool) (c : Option Walked) w
           → least_of (id_in (next_turn id_of p c best x i)) (lowest_in xs) ≡ least_of (id_in best) (lowest_in (x ∷ xs))
       rest h = rw h
 
-  next-lowest : (t : List A) → any behind t ≡ false → id_in (next id_of p c t) ≡ lowest_in t
+  pub next-lowest : (t : List A) → any behind t ≡ false → id_in (next id_of p c t) ≡ lowest_in t
   unfolding next
   next-lowest t n = lowest-from t 0 not_yet n
 

@@ -1,6 +1,6 @@
 // OPEN: a requester asks for a circuit. Three stages, as in specs/Open.antt: admitted, and ledger records past their
 // expiry dropped; placed, and the missing ledger record made; written, and INCOMING sent.
-ghost use Rattle.std.specs.Prelude.{◌≡◌, false, List, ℕ, Some};
+ghost use Rattle.std.specs.Prelude.{◌≡◌, false, is_none, List, ℕ};
 ghost use Rattle.hnsr_circuit.specs.Table.{any};
 ghost use Rattle.hnsr_circuit.specs.Pending.{pending_at};
 ghost use Rattle.hnsr_circuit.specs.Ledger.{usage_of};
@@ -11,7 +11,8 @@ ghost use Rattle.hnsr_circuit.specs.Draw.{draws, draw_all};
 ghost use Rattle.hnsr_circuit.specs.Peer.{peer_of};
 ghost use Rattle.hnsr_circuit.specs.Code.Progress.{packet_of, asking, ending};
 ghost use Rattle.hnsr_circuit.specs.Open.{open_booked, open_lapsed, handle_open};
-ghost use Rattle.hnsr_circuit.specs.Code.Opening.{is_taken, gathering, opening_of, incoming_out, open_drawn};
+ghost use Rattle.hnsr_circuit.specs.Code.Opening.{is_taken, first_draw, gathering, opening_of};
+ghost use Rattle.hnsr_circuit.specs.Code.Opening.{incoming_out, open_drawn};
 ghost use Rattle.hnsr_circuit.specs.declared.records.RelayCircuit.{RelayCircuit};
 ghost use Rattle.hnsr_circuit.specs.declared.records.ReservationUsage.{ReservationUsage};
 
@@ -31,38 +32,40 @@ use crate::tables::scan::{ActionScan, WorkQuestion};
 use crate::tables::table::{find, put, put_new, work};
 use hnsr_body::open_body::OpenBody;
 
-// Whether an id is a pending record's or a circuit's; of the first draw it may be known that it is none.
+// Whether an id is a pending record's or a circuit's; of the first draw it is known.
 pub(crate) fn id_taken(
     pending: &[RelayPending],
     circuits: &[RelayCircuit],
     places: Places,
-    free: Option<u64>,
+    first: u64,
+    known: bool,
     id: u64,
 ) -> bool
-    requires { (id : ℕ) → free ≡ Some id
-        → is_taken (held_pending places pending.now) (held_circuits places circuits.now) id ≡ false }
+    requires { known ≡ is_taken (held_pending places pending.now) (held_circuits places circuits.now) first }
     ensures { result ≡ is_taken (held_pending places pending.now) (held_circuits places circuits.now) id }
 {
-    if free == Some(id) {
-        return false;
+    if id == first {
+        return known;
     }
     find(pending, places.pending, &ById { id }).is_some()
         || find(circuits, places.circuits, &ById { id }).is_some()
 }
 
-// The draws in order, by eight bytes while so many are left, until one ends the drawing (DRAW.1 to DRAW.5).
+// The draws in order, by eight bytes while so many are left, until one ends the drawing (DRAW.1 to DRAW.5). Whether the
+// first is taken is known, and it is not looked up, however often it is drawn.
 pub(crate) fn draw(
     pending: &[RelayPending],
     circuits: &[RelayCircuit],
     places: Places,
     random: &[u8],
-    free: Option<u64>,
+    known: bool,
 ) -> Option<u64>
-    requires { (id : ℕ) → free ≡ Some id
-        → is_taken (held_pending places pending.now) (held_circuits places circuits.now) id ≡ false }
+    requires { known ≡ is_taken (held_pending places pending.now) (held_circuits places circuits.now)
+        (first_draw random.now) }
     ensures { result ≡ draw_all (is_taken (held_pending places pending.now) (held_circuits places circuits.now))
         0 0 (draws random.now) }
 {
+    let first = first_draw(random);
     let mut zeros: u8 = 0;
     let mut candidates: u8 = 0;
     let (chunks, _) = random.as_chunks::<DRAW_BYTES>();
@@ -73,7 +76,7 @@ pub(crate) fn draw(
             if MOST_DRAWS <= zeros {
                 return None;
             }
-        } else if id_taken(pending, circuits, places, free, id) {
+        } else if id_taken(pending, circuits, places, first, known, id) {
             zeros = 0;
             candidates += 1;
             if MOST_DRAWS <= candidates {
@@ -209,9 +212,9 @@ pub(crate) fn open_lapsed(
     gathered: OpenGathered,
     random: &[u8],
 ) -> Relayed
-    requires { (id : ℕ) → gathered.free ≡ Some id
-        → is_taken (held_pending gathered.request.state.places pending.old)
-        (held_circuits gathered.request.state.places circuits.now) id ≡ false }
+    requires { is_none gathered.free
+        ≡ is_taken (held_pending gathered.request.state.places pending.old)
+        (held_circuits gathered.request.state.places circuits.now) (first_draw random.now) }
     ensures { (source body endpoint : List ℕ) → gathered.request.peer ≡ peer_of source
         → gathered ≡ gathering gathered.request body endpoint random.now
         (held_pending gathered.request.state.places pending.old)
@@ -222,7 +225,8 @@ pub(crate) fn open_lapsed(
         (packet_of gathered.request.packet source body endpoint random.now)) }
 {
     let Request { state, packet, .. } = gathered.request;
-    let drawn = draw(pending, circuits, state.places, random, gathered.free);
+    let known = gathered.free.is_none();
+    let drawn = draw(pending, circuits, state.places, random, known);
     match gathered.placed_plan(drawn) {
         Ok(plan) => open_placed(pending, ledger, inflight, out, state, packet.now, plan),
         Err(error) => Relayed::refused(state, error),
@@ -230,7 +234,6 @@ pub(crate) fn open_lapsed(
 }
 
 // What the tables as lent refuse costs no pass over ledger and actions.
-#[tactic(auto, using(crate::specs::Laws::Opening::first_free))]
 pub(crate) fn handle_open(
     pending: &mut [RelayPending],
     circuits: &mut [RelayCircuit],

@@ -136,7 +136,9 @@ pub(crate) fn queue(
     })
 }
 
-// A queued message: its action stored, and its route behind what the call has written.
+// A queued message: its action stored, and its route behind what the call has written. Compiled into its two callers:
+// from a parameter the action would go into its place by `memmove`, which the archive does not need otherwise.
+#[inline(always)]
 fn write(
     inflight: &mut [InflightAction],
     out: &mut [u32],

@@ -100,7 +100,9 @@ pub(crate) fn put_new<R: TableRecord>(rows: &mut [R], number: usize, row: R) -> 
 // The mark of the record at a place cleared.
 #[tactic(auto, using(crate::specs::Laws::Held::unmarked_held))]
 pub(crate) fn unmark<R: TableRecord>(rows: &mut [R], number: usize, place: usize)
-    ensures { held R.unmarked number rows.new
+    ensures stored { rows.new
+        ≡ set rows.old place (R.unmarked (get_or (held R.unmarked number rows.old) place R.none)) }
+    ensures seen { held R.unmarked number rows.new
         ≡ set (held R.unmarked number rows.old) place
         (R.unmarked (get_or (held R.unmarked number rows.old) place R.none)) }
 {

@@ -13,5 +13,5 @@ returns c =
     c.settle.ensures l₀
     ∙ ap (ending a.out.now)
     (action-settled s.runtime (held_pending s.places a.pending.now) (held_circuits s.places a.circuits.now)
-    (held_ledger s.places l₀) (held_actions s.places a.inflight.now) g n a.delivered _ _ a.found ef c.unmark.ensures
-    c.lower_for.ensures)
+    (held_ledger s.places l₀) (held_actions s.places a.inflight.now) g n a.delivered _ _ a.found ef
+    c.unmark.ensures.seen c.lower_for.ensures)

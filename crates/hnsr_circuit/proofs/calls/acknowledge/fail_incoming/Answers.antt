@@ -27,7 +27,7 @@ returns-in-Some c =
     (incoming_failed s.runtime (held_pending s.places a.pending.now) (held_circuits s.places cs₀)
     (held_ledger s.places l₀) (held_actions s.places a.inflight.now) a.id c.in-Some.found c.revoked.result
     (held_pending s.places rows) c.error_to_requester-message.result (sym c.look_up.ensures ∙ c.in-Some.is)
-    c.revoked.ensures c.unmark.ensures c.error_to_requester-message.ensures)
+    c.revoked.ensures c.unmark.ensures.seen c.error_to_requester-message.ensures)
 
 pub returns-in-None : goal.returns-in-None
 returns-in-None c =

@@ -21,7 +21,7 @@ returns-in-Some g c = λ w.
     (first_told t.unmarked t.none g.R.Numbered.id r.in_use r.with_table r.without g.met.R.Revocable.ends a.sending w
     a.rows.now c.unmark.new.rows a.inflight.now a.out.now a.place (message_of told.first (notice_body told.notice))
     c.in_use-number.result c.id-id.result c.with_runtime.result c.drop_and_tell-first.result _ _ c.in_use-number.ensures
-    c.unmark.ensures (c.id-id.ensures ∙ ap g.R.Numbered.id c.at.ensures)
+    c.unmark.ensures.seen (c.id-id.ensures ∙ ap g.R.Numbered.id c.at.ensures)
     (c.with_runtime.ensures.0 ∙ c.revoked.ensures, c.with_runtime.ensures.1) c.drop_and_tell-first.ensures)
     ∙ two_told v (r.without v a.place) a.sending.position a.out.now told.notice told.first told.second c.in-Some.second
     c.in-Some.is
@@ -37,6 +37,6 @@ returns-in-None g c = λ w.
     first_told t.unmarked t.none g.R.Numbered.id r.in_use r.with_table r.without g.met.R.Revocable.ends a.sending w
     a.rows.now c.unmark.new.rows a.inflight.now a.out.now a.place (message_of told.first (notice_body told.notice))
     c.in_use-number.result c.id-id.result c.with_runtime.result c.drop_and_tell-first.result _ _ c.in_use-number.ensures
-    c.unmark.ensures (c.id-id.ensures ∙ ap g.R.Numbered.id c.at.ensures)
+    c.unmark.ensures.seen (c.id-id.ensures ∙ ap g.R.Numbered.id c.at.ensures)
     (c.with_runtime.ensures.0 ∙ c.revoked.ensures, c.with_runtime.ensures.1) c.drop_and_tell-first.ensures
     ∙ one_told v (r.without v a.place) a.sending.position a.out.now told.notice told.first told.second c.in-None.is

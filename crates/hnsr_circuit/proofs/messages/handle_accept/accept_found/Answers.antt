@@ -17,5 +17,5 @@ returns-in-Ok c =
     (ap (λ (o : Outcome). ending a.out.now o)
     (named-goes r.state.runtime (held_pending n a.pending.now) (held_circuits n a.circuits.now) (held_ledger n l₀)
     (held_actions n a.inflight.now) r.packet.context_id a.found a.body _ _ _ k
-    (sym c.accept_answered.ensures ∙ c.in-Ok.is) c.unmark.ensures
+    (sym c.accept_answered.ensures ∙ c.in-Ok.is) c.unmark.ensures.seen
     (rw c.circuit_for-circuit.ensures at c.put_circuit-number.ensures) c.drop_and_scan-scan.ensures.0))

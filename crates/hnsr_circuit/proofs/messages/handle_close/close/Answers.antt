@@ -19,7 +19,7 @@ returns-in-Some c =
     ∙ c.in_ok-check.was in
     let ended = pending_ended (held_pending s.places a.pending.now) (held_circuits s.places a.circuits.now)
     a.request.packet a.request.peer a.body.now detail few c.in-Some.found (sym c.look_up.ensures ∙ c.in-Some.is) in
-    (ap Ok c.translated_on.ensures ∙ ended.0, c.unmark.ensures ∙ ended.1, ended.2)
+    (ap Ok c.translated_on.ensures ∙ ended.0, c.unmark.ensures.seen ∙ ended.1, ended.2)
 
 pub returns-in_ok-found-in-None : goal.returns-in_ok-found-in-None
 returns-in_ok-found-in-None c =
@@ -33,4 +33,4 @@ returns-in_ok-found-in-None c =
     let ended = circuit_ended (held_pending s.places a.pending.now) (held_circuits s.places a.circuits.now)
     a.request.packet a.request.peer a.body.now detail few c.in_ok-found-in-None.found
     (sym c.look_up.ensures ∙ c.in-None.is) own in
-    (ap Ok c.passed_on.ensures ∙ ended.0, ended.1, c.unmark-in-None.ensures ∙ ended.2)
+    (ap Ok c.passed_on.ensures ∙ ended.0, ended.1, c.unmark-in-None.ensures.seen ∙ ended.2)

@@ -1,4 +1,5 @@
--- What the tables as lent refuse is refused; else lapsed ledger records are dropped, and the second stage follows.
+-- What the tables as lent refuse is refused; else lapsed ledger records are dropped, and the second stage follows, to
+-- which it is known whether the first draw is taken.
 use mathlib.Core.Path.{sym, ap, ◌∙◌}
 use Rattle.hnsr_circuit.specs.declared.messages.open.OpenGathered.{OpenGathered}
 use Rattle.hnsr_circuit.specs.World.{Outcome}
@@ -7,8 +8,16 @@ use Rattle.hnsr_circuit.specs.Open.{open_lapsed}
 use Rattle.hnsr_circuit.specs.Code.Held.{held_pending, held_circuits, held_ledger, held_actions, world_given}
 use Rattle.hnsr_circuit.specs.Code.Opening.{gathering, open_rows}
 use Rattle.hnsr_circuit.specs.Code.Progress.{packet_of, ending}
-use Rattle.hnsr_circuit.specs.Laws.Opening.{open-goes, open_refused}
+use Rattle.hnsr_circuit.specs.Laws.Opening.{first_known, open-goes, open_refused}
 use Rattle.hnsr_circuit.proofs.messages.handle_open.handle_open.Goals as goal
+
+pub open_lapsed-requires : goal.open_lapsed-requires
+open_lapsed-requires c =
+    let a = c.args in
+    let n = a.request.state.places in
+    rw c.gather-gathered.ensures
+    (first_known a.request (held_pending n a.pending.now) (held_circuits n a.circuits.now) a.body.now a.endpoint.now
+    a.random.now)
 
 pub returns-in-Ok : goal.returns-in-Ok
 returns-in-Ok c =

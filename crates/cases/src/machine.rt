@@ -103,7 +103,7 @@ impl Lent {
 const RESERVATION: ReservationId = ReservationId { high: 0, low: 5 };
 
 // The grant of the OPEN.
-const TICKET: RelayTicket = RelayTicket {
+pub(crate) const TICKET: RelayTicket = RelayTicket {
     reservation_id: RESERVATION,
     expires_at: 1000,
     max_active_circuits: 1,
@@ -111,7 +111,7 @@ const TICKET: RelayTicket = RelayTicket {
     max_total_bytes: 30000,
 };
 
-const OPEN_PACKET: RelayPacket = RelayPacket {
+pub(crate) const OPEN_PACKET: RelayPacket = RelayPacket {
     opcode: Opcode::Open as u8,
     context_id: 9,
     now: 100,
@@ -120,7 +120,7 @@ const OPEN_PACKET: RelayPacket = RelayPacket {
     ticket: TICKET,
 };
 
-const OPEN: OpenBody = OpenBody {
+pub(crate) const OPEN: OpenBody = OpenBody {
     ticket_id: [1; 32],
     reservation_id: RESERVATION,
     endpoint_key: [2; 33],
@@ -137,7 +137,7 @@ const ACCEPT: AcceptBody = AcceptBody {
 // One byte more than a DATA may have.
 const DATA: [u8; DataBody::MAX_SIZE + 1] = [65; DataBody::MAX_SIZE + 1];
 
-fn config(maximum_queue_bytes: usize) -> OpaqueRelayConfig {
+pub(crate) fn config(maximum_queue_bytes: usize) -> OpaqueRelayConfig {
     OpaqueRelayConfig {
         maximum_pending: 2,
         maximum_circuits: 2,

@@ -6,6 +6,8 @@
 mod machine;
 mod samples;
 mod script;
+#[cfg(test)]
+mod tests;
 
 use crate::machine::Lent;
 use crate::samples::run_samples;

@@ -6,7 +6,7 @@ pub(crate) mod ledger;
 pub(crate) mod lookup;
 pub mod places;
 pub(crate) mod question;
-pub(crate) mod record;
+pub mod record;
 pub(crate) mod scan;
 pub(crate) mod stores;
 pub(crate) mod table;

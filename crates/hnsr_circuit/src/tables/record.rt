@@ -64,8 +64,7 @@ pub trait Worked: TableRecord {
 
     // The work that was counted so far, and this record's.
     fn worked(&self, so_far: Work, question: &WorkQuestion) -> Work
-        requires { WorkAtMost 18446744073709551614 so_far }
-        ensures counted { result ≡ worked question.now so_far self.now 0 }
+        ensures counted { WorkAtMost 18446744073709551614 so_far → result ≡ worked question.now so_far self.now 0 }
         ensures more { WorkMore so_far result };
 
     ghost anywhere: { (question : WorkQuestion) (w : Work) (row : Self) (place : ℕ)

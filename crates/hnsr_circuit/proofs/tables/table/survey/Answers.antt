@@ -1,5 +1,4 @@
 use Rattle.std.proofs.Common.{arith, ap, Bool, cond, ◌+◌, ◌∙◌}
-use Rattle.hns_encoding.specs.Laws.Tests.{cond-le}
 use Rattle.hnsr_circuit.specs.Table.{not_yet, next_turn, next}
 use Rattle.hnsr_circuit.specs.Laws.Held.{fold_seen, count_seen, next-idle}
 use Rattle.hnsr_circuit.specs.Laws.Scans.{count_turn, fold_turn}
@@ -12,9 +11,11 @@ loop-place-preserved g c =
     let l = c.loop-place in
     let row = c.index-seen-place in
     let seen = c.in_use-seen.result.now in (
-      omega (arith, cond-le c.is_used.result),
+      omega (arith, c.one_more-used.ensures.more),
       count_turn seen l.place row.result c.loop-place-test.true row.is r.is_used _ l.used _
-          (c.one_more-used.ensures ∙ ap (λ (b : Bool). l.used + cond b 1 0) c.is_used.ensures) l.invariant.1,
+          (c.one_more-used.ensures.counted (omega arith)
+          ∙ ap (λ (b : Bool). l.used + cond b 1 0) c.is_used.ensures)
+          l.invariant.1,
       fold_turn seen l.place row.result c.loop-place-test.true row.is
           (next_turn g.R.Numbered.id (g.Q.Question.holds a.question.now) not_yet) l.first c.next_turn-first.result _
           c.next_turn-first.ensures l.invariant.2,

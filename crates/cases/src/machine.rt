@@ -77,6 +77,9 @@ const NO_ACTION: InflightAction = InflightAction {
     bytes: 0,
 };
 
+// As many words as `handle` needs (OUT.8).
+pub(crate) const OUT_WORDS: usize = 4136;
+
 // The tables and the output.
 #[derive(Drop)]
 pub(crate) struct Lent {
@@ -84,7 +87,7 @@ pub(crate) struct Lent {
     circuits: [RelayCircuit; 2],
     ledger: [ReservationUsage; 1],
     inflight: [InflightAction; 8],
-    out: [u32; 4136],
+    out: [u32; OUT_WORDS],
 }
 
 impl Lent {
@@ -94,7 +97,7 @@ impl Lent {
         circuits: [NO_CIRCUIT; 2],
         ledger: [NO_USAGE; 1],
         inflight: [NO_ACTION; 8],
-        out: [0; 4136],
+        out: [0; OUT_WORDS],
     };
 }
 

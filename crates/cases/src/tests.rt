@@ -2,7 +2,7 @@
 ghost use Rattle.std.specs.Prelude.{◌≡◌, ◌&&◌, leb, refl};
 ghost use Rattle.hnsr_circuit.specs.declared.records.RelayCircuit.{RelayCircuit};
 
-use crate::machine::{OPEN, OPEN_PACKET, TICKET, config};
+use crate::machine::{OPEN, OPEN_PACKET, OUT_WORDS, TICKET, config};
 use crate::script::Peer;
 use hnsr_circuit::answer::number;
 use hnsr_circuit::calls::handle::handle;
@@ -30,7 +30,7 @@ impl Question<RelayCircuit> for Passed {
     }
 }
 
-// A used record loses its mark and nothing else.
+// A used record loses its mark; of what stays a field is asked.
 #[test]
 fn marks(rt: HostRuntime) {
     let pending = RelayPending {
@@ -63,7 +63,7 @@ fn marks(rt: HostRuntime) {
     assert_eq!(rt; action.unmarked().circuit_id, 7);
 }
 
-// Past the end nothing is used, has an id or is due.
+// What stands past the end of a table is unused, and its id and its time are 0.
 #[test]
 fn past_the_end(rt: HostRuntime) {
     let (pending, circuit) = (RelayPending::none(), RelayCircuit::none());
@@ -103,7 +103,7 @@ fn ids_and_times(rt: HostRuntime) {
     assert_eq!(rt; usage.due_at(), 900);
 }
 
-// An unused record answers no question.
+// The question of this crate's own holds of no unused circuit.
 #[test]
 fn a_question(rt: HostRuntime) {
     let question = Passed { bytes: 20000 };
@@ -133,7 +133,7 @@ fn work(rt: HostRuntime) {
     let mut circuits = [RelayCircuit::none(); 2];
     let mut ledger = [ReservationUsage::none(); 1];
     let mut inflight = [InflightAction::none(); 8];
-    let mut out = [0; 4136];
+    let mut out = [0; OUT_WORDS];
     let limits = config(OpaqueRelayConfig::MAX_CIRCUIT_QUEUE);
     let made = new(
         &pending, &circuits, &ledger, &inflight, [1; 16], 1, limits, 100,
